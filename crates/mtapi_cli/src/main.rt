@@ -1,0 +1,49 @@
+//! The program: its words, its input and its outputs, given to the command.
+#![tactic(auto)]
+
+use mtapi_top::command;
+use node_core::action_fn::PlainActions;
+use std::alloc::AllocError;
+use std::env;
+use std::process::ExitCode;
+use workload_file::{StdSink, StdSource};
+
+/// The words behind the program's name. Where one isn't UTF-8 there are none, which no command takes.
+fn words_of(rt: &HostRuntime) -> Result<Vec<String>, AllocError> {
+    let mut words = Vec::new(rt.alloc());
+    if let Ok(all) = env::args(rt) {
+        for word in all.skip(1) {
+            words.push(word)?;
+        }
+    }
+    Ok(words)
+}
+
+/// Runs the command over the standard input and outputs.
+fn run(rt: &HostRuntime) -> Result<u8, AllocError> {
+    let alloc = rt.alloc();
+    let owned = words_of(rt)?;
+    let mut words = Vec::new(alloc);
+    for word in &owned {
+        words.push(word.as_str())?;
+    }
+    let mut src = StdSource::new(rt.stdin());
+    let mut out = StdSink::new(rt.stdout());
+    let mut err = StdSink::new(rt.stderr());
+    let outcome = command(
+        alloc,
+        &words,
+        &mut src,
+        &mut out,
+        &mut err,
+        &mut PlainActions,
+    );
+    Ok(outcome.status)
+}
+
+fn main(rt: HostRuntime) -> ExitCode {
+    match run(&rt) {
+        Ok(status) => ExitCode::from(status),
+        Err(_) => ExitCode::from(6),
+    }
+}

@@ -1,0 +1,10 @@
+-- What the search finds has the name, by the rule for a list that has each value.
+use Rattle.mtapi_values.proofs.NameLemmas.{known_by_name, unknown_by_name}
+use Rattle.mtapi_values.proofs.ValueTables.{mrapi_finds_each}
+use Rattle.mtapi_values.proofs.statuses.MrapiStatus.from_name.Goals as goal
+
+pub returns-clause-known : goal.returns-clause-known
+returns-clause-known c = known_by_name mrapi_finds_each _ _ c.value_named.ensures
+
+pub returns-clause-unknown : goal.returns-clause-unknown
+returns-clause-unknown c = unknown_by_name mrapi_finds_each _ _ c.value_named.ensures

@@ -1,0 +1,79 @@
+//! The kinds of action, each with its word.
+
+ghost use Rattle.std.specs.Prelude.{◌≡◌, ◌≢◌, ◌↔◌, Some, IsNone};
+ghost use Rattle.mtapi_values.specs.declared.kinds.Kind.{Kind};
+ghost use Rattle.mtapi_values.specs.Kinds.{kind_word};
+
+use crate::names::{Named, value_named};
+
+/// What an action does. All kinds but `Watch` are pure: their arguments alone settle the answer.
+#[derive(Clone, Copy, Debug, Drop, PartialEq, Eq)]
+pub enum Kind {
+    /// The sum.
+    Add,
+    /// The product.
+    Mul,
+    /// The greatest argument.
+    Max,
+    /// The quotient of two numbers, cut toward zero.
+    Div,
+    /// The greatest common divisor of two numbers.
+    Gcd,
+    /// The arguments as they are.
+    Echo,
+    /// The sum of the numbers from 1 to the argument.
+    Triangle,
+    /// Always fails.
+    Fail,
+    /// Looks again and again whether cancelling was asked for.
+    Watch,
+}
+
+/// Each kind once.
+const ALL_KINDS: [Kind; 9] = [
+    Kind::Add,
+    Kind::Mul,
+    Kind::Max,
+    Kind::Div,
+    Kind::Gcd,
+    Kind::Echo,
+    Kind::Triangle,
+    Kind::Fail,
+    Kind::Watch,
+];
+
+impl Kind {
+    /// The kind's word. No two kinds share one.
+    pub fn word(self) -> &'static str
+        ensures value { result.now ≡ kind_word self }
+        ensures alone { (other : Kind) → kind_word other ≡ result.now → other ≡ self }
+    {
+        match self {
+            Kind::Add => "add",
+            Kind::Mul => "mul",
+            Kind::Max => "max",
+            Kind::Div => "div",
+            Kind::Gcd => "gcd",
+            Kind::Echo => "echo",
+            Kind::Triangle => "triangle",
+            Kind::Fail => "fail",
+            Kind::Watch => "watch",
+        }
+    }
+
+    /// The kind with this word, and None exactly where no kind has it.
+    pub fn from_word(text: &str) -> Option<Kind>
+        ensures known { (kind : Kind) → (result ≡ Some kind) ↔ (text.now ≡ kind_word kind) }
+        ensures unknown { IsNone result ↔ ((kind : Kind) → text.now ≢ kind_word kind) }
+    {
+        value_named(&ALL_KINDS, text)
+    }
+}
+
+impl Named for Kind {
+    ghost named = { kind_word };
+
+    fn name_of(&self) -> &'static str {
+        self.word()
+    }
+}

@@ -1,0 +1,60 @@
+//! Argument lists.
+
+ghost use Rattle.std.specs.Prelude.{◌≡◌, ◌<◌, ◌≤◌, ◌↔◌, [], ◌∷◌, ◌++◌, length, IsTrue};
+ghost use Rattle.std.specs.Bool.{OnTrue, OnFalse};
+
+use arrayvec::ArrayVec;
+use std::marker::Model;
+
+/// A list of at most 16 numbers, held in place: no call takes memory.
+#[derive(Drop)]
+pub struct Args {
+    values: ArrayVec<i64, 16>,
+}
+
+impl Model for Args {
+    ghost use Rattle.std.specs.Prelude.{ℤ, List, ◌≤◌, length};
+
+    ghost Value = { List ℤ };
+
+    ghost view = { λ a. a.values.items };
+
+    ghost invariant = { λ a. length a.values.items ≤ 16 };
+}
+
+impl Args {
+    /// The empty list.
+    pub fn new() -> Args
+        ensures { result ≡ [] }
+    {
+        Args {
+            values: ArrayVec::new(),
+        }
+    }
+
+    /// Appends a number. False exactly where 16 are held, and then nothing changes.
+    pub fn push(&mut self, value: i64) -> bool
+        ensures room { IsTrue result ↔ (length self.old < 16) }
+        ensures pushed { OnTrue result (self.new ≡ self.old ++ value ∷ []) }
+        ensures full { OnFalse result (self.new ≡ self.old) }
+    {
+        self.values.try_push(value).is_ok()
+    }
+
+    /// The numbers in order, at most 16.
+    pub fn as_slice(&self) -> &[i64]
+        ensures value { result.now ≡ self.now }
+        ensures fits { length result.now ≤ 16 }
+    {
+        self.values.as_slice()
+    }
+
+    /// An equal list.
+    pub fn again(&self) -> Args
+        ensures { result ≡ self.now }
+    {
+        let mut values = ArrayVec::new();
+        let _ = values.try_extend_from_slice(self.values.as_slice());
+        Args { values }
+    }
+}

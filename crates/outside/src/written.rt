@@ -1,0 +1,21 @@
+//! A text written whole.
+
+ghost use Rattle.std.specs.Prelude.{◌≤◌, OnOk, OnErr};
+ghost use Rattle.std.specs.Io.KnownBytes.{Appends};
+ghost use Rattle.outside.specs.Causes.{Rose, AppendsFront, HasCause};
+
+use crate::{Failed, Sink};
+
+/// Writes all the bytes, in as many calls as the sink wants.
+pub fn write_all<W: Sink>(out: &mut W, bytes: &[u8]) -> Result<(), Failed>
+    ensures ok { OnOk result (Appends (W.held out.old) (W.held out.new) bytes.now) }
+    ensures err { OnErr result (AppendsFront (W.held out.old) (W.held out.new) bytes.now) }
+    ensures cause { HasCause (W.faults out.old) (W.faults out.new) result }
+{
+    let mut at = 0;
+    'writing: while at < bytes.len() {
+        let count = out.write(&bytes[at..])?;
+        at += count;
+    }
+    Ok(())
+}

@@ -1,0 +1,77 @@
+-- What parse says, and lists of numbers as loops read them.
+use Rattle.std.proofs.Common.{◌≡◌, ℕ, ℤ, ◌+◌, ◌^◌, ◌<◌, ◌≤◌, List, [], ◌∷◌, ◌++◌, Bool, true, false, cond, length, get_or, drop, Option, Some, None, Result, Ok, Err, refl, sym, ap, ◌∙◌, arith, append_assoc, inl, inr, ltb, leb, pos, neg_ℤ, ◌-◌, nat_le, ◌*◌, ◌%◌, lit<, add-one}
+use Rattle.std.specs.List.{list_all}
+use Rattle.std.specs.Char.{is_ascii_digit}
+use Rattle.std.specs.Result.{OkIff, result_ok}
+use Rattle.std.specs.Str.{IsUtf8}
+use Rattle.std.specs.Str.Parse.{digits_value, AllDigits, ParsesUnsigned, ParsesSigned}
+use Rattle.std.proofs.lemmas.Str.Parse.{IsNumeralModel, IsDigitsTest, numerals_by_value, parse_digits, parse_signed_digits, parse_signed_minus}
+use Rattle.std.proofs.lemmas.Str.{IsUtf8-from_ascii}
+use Rattle.std.specs.Prelude.{IsTrue, ◌↔◌}
+use Rattle.std.specs.Bool.{OnTrue}
+use Rattle.std.proofs.lemmas.List.{length_push, append-nil, length-drop, get_or-drop}
+use Rattle.std.proofs.lemmas.Bool.{ltb-true, lt-ltb, leb-true, le-leb, cases_eq}
+use Rattle.std.specs.Int.{w64}
+use Rattle.std.proofs.lemmas.Nat.{one_shl}
+use Rattle.std.proofs.Math.Nat.{pow-le-pow_right}
+use Rattle.std.proofs.lemmas.Fmt.{IsAscii-from_digits}
+use Rattle.std.proofs.Common.{rules}
+use Rattle.workload_file.specs.Cuts.{between}
+use Rattle.workload_file.specs.Values.{◌>>=◌, args_of, whole, wholes}
+
+pub own : IsNumeralModel (λ ds. list_all is_ascii_digit ds ≡ true) (digits_value 10)
+own = numerals_by_value _ (search rules)
+
+pub utf8_digits : (ds : List ℕ) → list_all is_ascii_digit ds ≡ true → IsUtf8 ds
+utf8_digits ds h = IsUtf8-from_ascii ds (IsAscii-from_digits ds (own.to ds h))
+
+pub ok_iff_option : {T E : Type 0} (r : Result T E) (P : Type 0) (v : T) (b : Bool) → OkIff r P v → (b ≡ true → P) → (P → b ≡ true) → result_ok r ≡ cond b (Some v) None
+ok_iff_option (Ok x) P v b h to from = rw (from h.0, h.1) refl
+ok_iff_option (Err e) P v true h to from = absurd (h (to refl))
+ok_iff_option (Err e) P v false h to from = refl
+
+abbrev pub with_front : List ℤ → Option (List ℤ) → Option (List ℤ)
+with_front front rest = rest >>= λ zs. Some (front ++ zs)
+
+step : (front : List ℤ) (z : ℤ) (rest : Option (List ℤ)) → with_front front (rest >>= λ zs. Some (z ∷ zs)) ≡ with_front (front ++ z ∷ []) rest
+step front z None = refl
+step front z (Some zs) = ap Some (simp append_assoc)
+
+pub args_more : (front : List ℤ) (part : List ℕ) (rest : List (List ℕ)) (z : ℤ) (total : Option (List ℤ)) → Some z ≡ whole part → with_front front (wholes (part ∷ rest)) ≡ total → with_front (front ++ z ∷ []) (wholes rest) ≡ total
+unfolding wholes
+args_more front part rest z total e h = sym (step front z (wholes rest)) ∙ (rw (← e) at h)
+
+pub args_end : (front : List ℤ) (part : List ℕ) (rest : List (List ℕ)) (total : Option (List ℤ)) → None ≡ whole part → with_front front (wholes (part ∷ rest)) ≡ total → total ≡ None
+unfolding wholes
+args_end front part rest total e h = sym (rw (← e) at h)
+
+pub args_done : (front : List ℤ) (total : Option (List ℤ)) → with_front front (wholes []) ≡ total → total ≡ Some front
+unfolding wholes
+args_done front total h = sym h ∙ ap Some (append-nil front)
+
+pub parsed_is : {E : Type 0} (bs : List ℕ) (r : Result ℕ E) → ParsesUnsigned 32 10 bs r → list_all is_ascii_digit bs ≡ true → 0 < length bs → result_ok r ≡ cond (ltb (digits_value 10 bs) (2 ^ 32)) (Some (digits_value 10 bs)) None
+parsed_is bs r h digits some = ok_iff_option r _ (digits_value 10 bs) _ (parse_digits own 32 bs r h digits) (λ b. (some, ltb-true _ _ b)) (λ p. lt-ltb _ _ p.1)
+
+pub positive_is : {E : Type 0} (bs : List ℕ) (r : Result ℤ E) → ParsesSigned w64 10 bs r → list_all is_ascii_digit bs ≡ true → 0 < length bs → result_ok r ≡ cond (ltb (digits_value 10 bs) (2 ^ 63)) (Some (pos (digits_value 10 bs))) None
+positive_is bs r h digits some = ok_iff_option r _ (pos (digits_value 10 bs)) _ (parse_signed_digits own w64 bs r h digits) (λ b. (some, ltb-true _ _ b)) (λ p. lt-ltb _ _ p.1)
+
+pub negative_is : {E : Type 0} (bs : List ℕ) (r : Result ℤ E) → ParsesSigned w64 10 bs r → get_or bs 0 0 ≡ 45 → list_all is_ascii_digit (drop 1 bs) ≡ true → 1 < length bs → result_ok r ≡ cond (leb (digits_value 10 (drop 1 bs)) (2 ^ 63)) (Some (neg_ℤ (pos (digits_value 10 (drop 1 bs))))) None
+negative_is bs r h minus digits some = ok_iff_option r _ (neg_ℤ (pos (digits_value 10 (drop 1 bs)))) _ (parse_signed_minus own w64 bs r h minus) (λ b. (digits, omega (arith, length-drop 1 bs), leb-true _ _ b)) (λ p. le-leb _ _ p.2)
+
+pub utf8_minus : (bs : List ℕ) → get_or bs 0 0 ≡ 45 → list_all is_ascii_digit (drop 1 bs) ≡ true → IsUtf8 bs
+utf8_minus bs minus digits = IsUtf8-from_ascii bs (λ i. elim (cases_eq i 0) [ inl e ↦ rw e (omega (arith, minus)) | inr n ↦ let k : i ≡ 1 + (i - 1) = omega arith in rw k (rw get_or-drop at (IsAscii-from_digits (drop 1 bs) (own.to (drop 1 bs) digits) (i - 1))) ])
+
+abbrev no : Option (List ℤ)
+no = None
+
+pub none_is : (text : List ℕ) → wholes (between 44 text) ≡ None → None ≡ args_of text
+unfolding args_of
+none_is text e = rw e (elim (nat_le (length (between 44 text)) 16) as (λ b. no ≡ cond b no no) [ true ↦ refl | false ↦ refl ])
+
+pub some_is : (text : List ℕ) (front : List ℤ) → length (between 44 text) ≤ 16 → wholes (between 44 text) ≡ Some front → Some front ≡ args_of text
+unfolding args_of
+some_is text front le e = rw (le-leb _ _ le, e) refl
+
+pub pushed : (old new : List ℤ) (z : ℤ) (r : Bool) → r ≡ true → OnTrue r (new ≡ old ++ z ∷ []) → (IsTrue r ↔ (length old < 16)) → (length old < 16) × (new ≡ old ++ z ∷ []) × (length new ≡ length old + 1)
+pushed old new z true t h i = (i.0 refl, h, rw h (length_push old z))
+pushed old new z false t h i = absurd cc

@@ -1,0 +1,16 @@
+use Rattle.std.proofs.Common.{◌≡◌, ◌+◌, ◌≤◌, length}
+use Rattle.workload_file.specs.Values.{wholes}
+use Rattle.workload_file.specs.Cuts.{between, pieces_of}
+use Rattle.workload_file.proofs.Pieces.{left_len}
+use Rattle.workload_file.proofs.Parsing.{with_front}
+use Rattle.workload_file.proofs.numbers.args_of.Given as goal
+
+abbrev pub invariant-cutting : goal.invariant-cutting
+invariant-cutting l = record {
+  so_far : with_front l.args (wholes (pieces_of 44 l.left)) ≡ wholes (between 44 l.text);
+  count : length l.args + length (pieces_of 44 l.left) ≡ length (between 44 l.text);
+  within : length l.args ≤ 16;
+}
+
+abbrev pub decreases-cutting : goal.decreases-cutting
+decreases-cutting l = left_len l.left

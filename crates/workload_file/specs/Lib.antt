@@ -1,0 +1,4 @@
+pub mod Cuts
+pub mod Grammar
+pub mod Loading
+pub mod Values
