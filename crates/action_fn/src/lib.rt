@@ -1,0 +1,18 @@
+//! Pure actions: what they answer, functions that are stored beside that fact, and sets of actions.
+#![tactic(auto)]
+
+pub mod actions;
+pub mod finished;
+pub mod laws;
+pub mod sets;
+pub mod stored;
+pub mod table;
+#[cfg(test)]
+mod tests;
+
+pub use actions::{act_add, act_div, act_echo, act_fail, act_gcd, act_max, act_mul, act_triangle};
+pub use finished::{ActEnd, Finished};
+pub use laws::law_gcd;
+pub use sets::{ActionSet, ActionSource};
+pub use stored::StoredFn;
+pub use table::FnTable;

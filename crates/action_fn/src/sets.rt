@@ -1,0 +1,24 @@
+//! Sets of actions, and where workers get theirs from.
+
+ghost use Rattle.std.specs.Prelude.{◌≡◌, true};
+ghost use Rattle.action_fn.specs.Answers.{is_pure};
+
+use crate::finished::Finished;
+use mtapi_values::{Args, Kind};
+
+/// Runs the actions of one worker.
+pub trait ActionSet {
+    /// Answers a pure kind for these arguments. What `Finished` keeps says which answer that is.
+    fn run(&mut self, kind: Kind, args: Args) -> Finished
+        requires { is_pure kind ≡ true }
+        ensures kind { result.kind ≡ kind }
+        ensures args { result.args ≡ args };
+}
+
+/// Gives each worker a set of actions of its own.
+pub trait ActionSource {
+    type Set: ActionSet + Send + Drop;
+
+    /// The set for this worker.
+    fn for_worker(&mut self, worker: u32) -> Self::Set;
+}

@@ -1,0 +1,171 @@
+-- What is asked of a list of issued objects, answered from the slots that stand for it.
+use Rattle.std.proofs.Common.{◌≡◌, ◌↔◌, ℕ, zero, suc, ◌+◌, ◌*◌, ◌^◌, ◌<◌, ◌≤◌, Bool, true, false, ◌&&◌, cond, List, [], ◌∷◌, length, Option, Some, None, count_by, slice_get, refl, sym, ap, ◌∙◌, inl, inr, arith}
+use Rattle.std.specs.Prelude.{◌==◌}
+use Rattle.std.proofs.lemmas.Bool.{cases_Bool}
+use Rattle.std.proofs.lemmas.Bool.Decides.{nat_tests}
+use Rattle.std.proofs.lemmas.List.Sums.{sum_by-cons}
+use Rattle.handle_pool.specs.Slots.{Slot, Slots, slot_of, generation_of, value_at, value_passes, count_in, get, SomeLive, NoneLive}
+use Rattle.handle_pool.specs.Issued.{Listed, how_many, live_of, lookup, at, any, any_live, first_live, count, change, change_all}
+use Rattle.handle_pool.specs.Stands.{Distinct, Stands}
+use Rattle.handle_pool.proofs.LiveLemmas.{passing, any_live-at, first_live-passes, first_live-any, first_live-none, how_many-same}
+use Rattle.handle_pool.proofs.StandsLemmas.{value_at-none}
+
+-- the handle of a generation at a place
+abbrev handle_at : ℕ → ℕ → ℕ
+handle_at generation place = generation * 2 ^ 32 + place
+
+same_test : (g place h : ℕ) → slot_of h ≡ place → (handle_at g place == h) ≡ (g == generation_of h)
+same_test g place h is = grind (arith, nat_tests)
+
+other_slot : (g place h : ℕ) → place < 65536 → (slot_of h ≡ place → ⊥) → (handle_at g place == h) ≡ false
+other_slot g place h small differs = grind (arith, nat_tests)
+
+slot_of-handle_at : (generation place : ℕ) → place < 65536 → slot_of (handle_at generation place) ≡ place
+slot_of-handle_at generation place small = omega arith
+
+module _ {T : Type 0} where
+  -- an object of a live handle that passes is one of the list
+  pub any-live : (p : Slots T) (l : List (Listed T)) (q : T → Bool) (h : ℕ) (v : T) → Stands p l → get p h ≡ Some v → q v ≡ true → any q l ≡ true
+  any-live p l q h v stands found holds = any_live-at q (live_of l) h v (sym (stands.found h) ∙ found) holds
+
+  -- where some object of the list passes, a live handle has it
+  pub any-some : (p : Slots T) (l : List (Listed T)) (q : T → Bool) → Stands p l → any q l ≡ true → SomeLive (get p) (λ v. q v ≡ true)
+  any-some p l q stands some =
+      let one = passing q (live_of l) stands.distinct some in
+      (one.handle, one.value, stands.found one.handle ∙ one.stands, one.passes)
+
+  -- where no live handle has an object that passes, none of the list does
+  pub any-none : (p : Slots T) (l : List (Listed T)) (q : T → Bool) → Stands p l → NoneLive (get p) (λ v. q v ≡ true) → any q l ≡ false
+  any-none p l q stands none =
+      elim (cases_Bool (any q l)) [
+        | inl some ↦ let one = any-some p l q stands some in absurd (none one.0 one.1 one.2 one.3)
+        | inr off ↦ off
+      ]
+
+  -- some object of the list passes exactly where a live handle has one
+  pub any-exactly : (p : Slots T) (l : List (Listed T)) (q : T → Bool) → Stands p l → (any q l ≡ true) ↔ SomeLive (get p) (λ v. q v ≡ true)
+  any-exactly p l q stands = (any-some p l q stands, λ some. any-live p l q some.0 some.1 stands some.2 some.3)
+
+  -- the only live handle with an object that passes is the first
+  pub first_live-only : (p : Slots T) (l : List (Listed T)) (q : T → Bool) (h : ℕ) (v : T) → Stands p l → get p h ≡ Some v → q v ≡ true → ((k : ℕ) (w : T) → get p k ≡ Some w → q w ≡ true → k ≡ h) → first_live q (live_of l) ≡ Some h
+  first_live-only p l q h v stands found holds only =
+      let first = first_live-any q (live_of l) (any-live p l q h v stands found holds) in
+      let passes = first_live-passes q (live_of l) first.0 stands.distinct first.1 in
+      first.1 ∙ ap Some (only first.0 passes.0 (stands.found first.0 ∙ passes.1) passes.2)
+
+  -- the first that passes is live, and passes
+  pub first_live-found : (p : Slots T) (l : List (Listed T)) (q : T → Bool) (h : ℕ) → Stands p l → first_live q (live_of l) ≡ Some h → (v : T) × (get p h ≡ Some v) × (q v ≡ true)
+  first_live-found p l q h stands first =
+      let passes = first_live-passes q (live_of l) h stands.distinct first in
+      (passes.0, stands.found h ∙ passes.1, passes.2)
+
+  pub first_live-absent : (p : Slots T) (l : List (Listed T)) (q : T → Bool) → Stands p l → NoneLive (get p) (λ v. q v ≡ true) → first_live q (live_of l) ≡ None
+  first_live-absent p l q stands none = first_live-none q (live_of l) (any-none p l q stands none)
+
+  -- the objects in the slots from a place on
+
+  abbrev in_front : ℕ → Option T → List (ℕ × T) → List (ℕ × T)
+  in_front h None es = es
+  in_front h (Some v) es = (h, v) ∷ es
+
+  abbrev used_from : ℕ → List (Slot T) → List (ℕ × T)
+  used_from place [] = []
+  used_from place (s ∷ slots) = in_front (handle_at s.generation place) s.value (used_from (place + 1) slots)
+
+  lookup-used_before : (slots : List (Slot T)) (place h : ℕ) → slot_of h < place → place + length slots ≤ 65536 → lookup (used_from place slots) h ≡ None
+  lookup-used_before [] place h below few = refl
+  lookup-used_before (s ∷ slots) place h below few = pick s.value (lookup-used_before slots (place + 1) h (omega arith) (omega arith))
+    where
+      pick : (o : Option T) → lookup (used_from (place + 1) slots) h ≡ None → lookup (in_front (handle_at s.generation place) o (used_from (place + 1) slots)) h ≡ None
+      pick None more = more
+      pick (Some v) more = ap (λ b. cond b (Some v) (lookup (used_from (place + 1) slots) h)) (other_slot s.generation place h (omega arith) (λ is. omega arith)) ∙ more
+
+  lookup-used : (slots : List (Slot T)) (place i h : ℕ) → slot_of h ≡ place + i → place + length slots ≤ 65536 → lookup (used_from place slots) h ≡ value_at (slice_get slots i) (generation_of h)
+  lookup-used [] place i h is few = refl
+  lookup-used (s ∷ slots) place zero h is few = pick s.value refl (lookup-used_before slots (place + 1) h (omega arith) (omega arith))
+    where
+      pick : (o : Option T) → s.value ≡ o → lookup (used_from (place + 1) slots) h ≡ None → lookup (in_front (handle_at s.generation place) o (used_from (place + 1) slots)) h ≡ value_at (Some s) (generation_of h)
+      pick None has more = more ∙ sym (value_at-none s (generation_of h) has)
+      pick (Some v) has more =
+          ap (λ b. cond b (Some v) (lookup (used_from (place + 1) slots) h)) (same_test s.generation place h (omega arith))
+          ∙ ap (λ o. cond (s.generation == generation_of h) (Some v) o) more
+          ∙ ap (λ o. cond (s.generation == generation_of h) o None) (sym has)
+  lookup-used (s ∷ slots) place (suc i) h is few = pick s.value (lookup-used slots (place + 1) i h (omega arith) (omega arith))
+    where
+      pick : (o : Option T) → lookup (used_from (place + 1) slots) h ≡ value_at (slice_get slots i) (generation_of h) → lookup (in_front (handle_at s.generation place) o (used_from (place + 1) slots)) h ≡ value_at (slice_get slots i) (generation_of h)
+      pick None more = more
+      pick (Some v) more = ap (λ b. cond b (Some v) (lookup (used_from (place + 1) slots) h)) (other_slot s.generation place h (omega arith) (λ at. omega arith)) ∙ more
+
+  Distinct-used : (slots : List (Slot T)) (place : ℕ) → place + length slots ≤ 65536 → Distinct (used_from place slots)
+  Distinct-used [] place few = tt
+  Distinct-used (s ∷ slots) place few = pick s.value (Distinct-used slots (place + 1) (omega arith))
+    where
+      pick : (o : Option T) → Distinct (used_from (place + 1) slots) → Distinct (in_front (handle_at s.generation place) o (used_from (place + 1) slots))
+      pick None more = more
+      pick (Some v) more =
+          let own = slot_of-handle_at s.generation place (omega arith) in
+          (lookup-used_before slots (place + 1) (handle_at s.generation place) (omega arith) (omega arith), more)
+
+  how_many-used : (q : T → Bool) (slots : List (Slot T)) (place : ℕ) → how_many (λ e. q e.1) (used_from place slots) ≡ count_by (value_passes q) slots
+  how_many-used q [] place = refl
+  how_many-used q (s ∷ slots) place = pick s.value refl (how_many-used q slots (place + 1)) ∙ sym (sum_by-cons (λ (t : Slot T). cond (value_passes q t) 1 0) s slots)
+    where
+      pick : (o : Option T) → s.value ≡ o → how_many (λ e. q e.1) (used_from (place + 1) slots) ≡ count_by (value_passes q) slots → how_many (λ e. q e.1) (in_front (handle_at s.generation place) o (used_from (place + 1) slots)) ≡ cond (value_passes q s) 1 0 + count_by (value_passes q) slots
+      pick None has more = rw has (omega arith)
+      pick (Some v) has more = rw has (omega arith)
+
+  how_many-live : (q : T → Bool) (l : List (Listed T)) → count q l ≡ how_many (λ e. q e.1) (live_of l)
+  unfolding live_of
+  how_many-live q [] = refl
+  how_many-live q (r ∷ rs) = pick r.live (how_many-live q rs)
+    where
+      pick : (b : Bool) → count q rs ≡ how_many (λ e. q e.1) (live_of rs) → cond (b && q r.fields) 1 0 + count q rs ≡ how_many (λ e. q e.1) (cond b ((r.handle, r.fields) ∷ live_of rs) (live_of rs))
+      pick true more = ap (λ n. cond (q r.fields) 1 0 + n) more
+      pick false more = omega arith
+
+  -- as many live objects pass as slots in use have a value that passes
+  pub count-slots : (p : Slots T) (l : List (Listed T)) (q : T → Bool) → Stands p l → count q l ≡ count_in q p
+  count-slots p l q stands =
+      let few = stands.few in
+      how_many-live q l
+      ∙ how_many-same (λ e. q e.1) (live_of l) (used_from 0 p.slots) stands.distinct (Distinct-used p.slots 0 (omega arith)) (λ h. sym (stands.found h) ∙ sym (lookup-used p.slots 0 (slot_of h) h (omega arith) (omega arith)))
+      ∙ how_many-used q p.slots 0
+
+  -- every object that passes, changed one after another in any order
+
+  -- where none passes, nothing is left to change
+  pub change_all-none : (q : T → Bool) (f : Listed T → Listed T) (l : List (Listed T)) → any q l ≡ false → change_all q f l ≡ l
+  unfolding live_of change_all
+  change_all-none q f [] none = refl
+  change_all-none q f (r ∷ rs) none = pick q f r.handle r.live r.fields (q r.fields) rs refl none (λ more. change_all-none q f rs more)
+    where
+      pick : (q : T → Bool) (f : Listed T → Listed T) (n : ℕ) (live : Bool) (v : T) (b : Bool) (rs : List (Listed T)) → q v ≡ b → any_live q (cond live ((n, v) ∷ live_of rs) (live_of rs)) ≡ false → (any_live q (live_of rs) ≡ false → change_all q f rs ≡ rs) → cond (live && b) (f (record { handle = n; live = live; fields = v })) (record { handle = n; live = live; fields = v }) ∷ change_all q f rs ≡ record { handle = n; live = live; fields = v } ∷ rs
+      pick q f n true v true rs is none more = let some = ap (λ b. cond b true (any_live q (live_of rs))) is in absurd (cc)
+      pick q f n true v false rs is none more = ap (λ l. record { handle = n; live = true; fields = v } ∷ l) (more (sym (ap (λ b. cond b true (any_live q (live_of rs))) is) ∙ none))
+      pick q f n false v b rs is none more = ap (λ l. record { handle = n; live = false; fields = v } ∷ l) (more none)
+
+  -- the change leaves an object that doesn't pass, or isn't live
+  abbrev pub Spends : (T → Bool) → (Listed T → Listed T) → Type 0
+  Spends q f = (r : Listed T) → r.live ≡ true → q r.fields ≡ true → ((f r).live && q (f r).fields) ≡ false
+
+  step_one : (q : T → Bool) (f : Listed T → Listed T) (h n : ℕ) (live : Bool) (w v : T) (b c : Bool) (rs : List (Listed T)) → (n == h) ≡ b → q w ≡ c → Spends q f → q v ≡ true → lookup (cond live ((n, w) ∷ live_of rs) (live_of rs)) h ≡ Some v → (lookup (live_of rs) h ≡ Some v → change_all q f (change h f rs) ≡ change_all q f rs) → change_all q f (cond (live && b) (f (record { handle = n; live = live; fields = w }) ∷ rs) (record { handle = n; live = live; fields = w } ∷ change h f rs)) ≡ cond (live && c) (f (record { handle = n; live = live; fields = w })) (record { handle = n; live = live; fields = w }) ∷ change_all q f rs
+  unfolding change_all
+  step_one q f h n true w v true true rs at is spends holds found more =
+      let r : Listed T = record { handle = n; live = true; fields = w } in
+      ap (λ d. cond d (f (f r)) (f r) ∷ change_all q f rs) (spends r refl is)
+  step_one q f h n true w v true false rs at is spends holds found more =
+      let same = sym (ap (λ d. cond d (Some w) (lookup (live_of rs) h)) at) ∙ found in
+      let value : w ≡ v = cc in
+      let passes = ap q value ∙ holds in
+      absurd (cc)
+  step_one q f h n true w v false c rs at is spends holds found more =
+      let r : Listed T = record { handle = n; live = true; fields = w } in
+      let rest = more (sym (ap (λ d. cond d (Some w) (lookup (live_of rs) h)) at) ∙ found) in
+      ap (λ l. cond (q w) (f r) r ∷ l) rest ∙ ap (λ d. cond d (f r) r ∷ change_all q f rs) is
+  step_one q f h n false w v b c rs at is spends holds found more = ap (λ l. record { handle = n; live = false; fields = w } ∷ l) (more found)
+
+  -- one that passes, changed before the others, changes nothing in the whole
+  pub change_all-step : (q : T → Bool) (f : Listed T → Listed T) (h : ℕ) (v : T) (l : List (Listed T)) → Spends q f → at l h ≡ Some v → q v ≡ true → change_all q f (change h f l) ≡ change_all q f l
+  unfolding live_of change_all change
+  change_all-step q f h v [] spends found holds = absurd (cc)
+  change_all-step q f h v (r ∷ rs) spends found holds = step_one q f h r.handle r.live r.fields v (r.handle == h) (q r.fields) rs refl refl spends holds found (λ more. change_all-step q f h v rs spends more holds)

@@ -1,0 +1,11 @@
+pub mod ListReads
+mod PlaceLemmas
+pub mod LiveLemmas
+pub mod ListedLemmas
+pub mod StandsLemmas
+pub mod CallsLemmas
+pub mod WalkLemmas
+pub mod GetLemmas
+pub mod AnswerLemmas
+pub mod OneEachLemmas
+pub mod CountLemmas

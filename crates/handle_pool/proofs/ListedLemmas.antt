@@ -1,0 +1,169 @@
+-- What each move of the list of issued objects does to the live ones and to the counts.
+use Rattle.std.proofs.Common.{◌≡◌, ℕ, ◌+◌, Bool, true, false, not, ◌&&◌, cond, List, [], ◌∷◌, ◌++◌, length, Option, Some, None, refl, sym, ◌∙◌, ap, arith}
+use Rattle.std.specs.Prelude.{◌==◌}
+use Rattle.std.proofs.lemmas.Bool.{eqb-true}
+use Rattle.handle_pool.specs.Slots.{slot_of, generation_of}
+use Rattle.handle_pool.specs.Issued.{Listed, how_many, live_of, lookup, at, issue, change, with_fields, update, retire, listed, issued_at, retired}
+use Rattle.handle_pool.specs.Stands.{Distinct}
+use Rattle.handle_pool.proofs.LiveLemmas.{pairs_changed, pairs_without, lookup-changed, lookup-without, lookup-append, Distinct-append, Distinct-changed, Distinct-without, length-changed, how_many-without}
+
+some_same : {T : Type 0} (b : Bool) (v w : T) (o : Option T) → b ≡ true → cond b (Some v) o ≡ Some w → v ≡ w
+some_same true v w o e at = cc
+some_same false v w o e at = absurd (cc)
+
+some_later : {T : Type 0} (b : Bool) (v w : T) (o : Option T) → b ≡ false → cond b (Some v) o ≡ Some w → o ≡ Some w
+some_later true v w o e at = absurd (cc)
+some_later false v w o e at = at
+
+-- the handle's slot, as a handle, names itself
+slot_of-slot : (h : ℕ) → slot_of (slot_of h) ≡ slot_of h
+slot_of-slot h = omega arith
+
+pub how_many-push : {X : Type 0} (q : X → Bool) (xs : List X) (x : X) → how_many q (xs ++ x ∷ []) ≡ how_many q xs + cond (q x) 1 0
+how_many-push q [] x = omega arith
+how_many-push q (y ∷ xs) x = omega (arith, how_many-push q xs x)
+
+module _ {T : Type 0} where
+  -- the live objects after each move
+
+  cond_append : (b : Bool) (a : ℕ × T) (xs ys zs : List (ℕ × T)) → xs ≡ ys ++ zs → cond b (a ∷ xs) xs ≡ cond b (a ∷ ys) ys ++ zs
+  cond_append true a xs ys zs e = ap (λ l. a ∷ l) e
+  cond_append false a xs ys zs e = e
+
+  pub live_of-issue : (h : ℕ) (v : T) (l : List (Listed T)) → live_of (issue h v l) ≡ live_of l ++ (h, v) ∷ []
+  unfolding live_of issue
+  live_of-issue h v [] = refl
+  live_of-issue h v (r ∷ rs) = cond_append r.live (r.handle, r.fields) _ (live_of rs) ((h, v) ∷ []) (live_of-issue h v rs)
+
+  abbrev front : Listed T → List (ℕ × T) → List (ℕ × T)
+  front r xs = cond r.live ((r.handle, r.fields) ∷ xs) xs
+
+  update_one : (h : ℕ) (f : T → T) (b : Bool) (n : ℕ) (live : Bool) (v : T) (xs rs : List (Listed T)) → (n == h) ≡ b → live_of xs ≡ pairs_changed h f (live_of rs) → live_of (cond (live && b) (record { handle = n; live = live; fields = f v } ∷ rs) (record { handle = n; live = live; fields = v } ∷ xs)) ≡ pairs_changed h f (front (record { handle = n; live = live; fields = v }) (live_of rs))
+  unfolding live_of
+  update_one h f true n true v xs rs e i = ap (λ c. cond c ((n, f v) ∷ live_of rs) ((n, v) ∷ pairs_changed h f (live_of rs))) (sym e)
+  update_one h f false n true v xs rs e i = ap (λ l. (n, v) ∷ l) i ∙ ap (λ c. cond c ((n, f v) ∷ live_of rs) ((n, v) ∷ pairs_changed h f (live_of rs))) (sym e)
+  update_one h f true n false v xs rs e i = i
+  update_one h f false n false v xs rs e i = i
+
+  pub live_of-update : (h : ℕ) (f : T → T) (l : List (Listed T)) → live_of (update h f l) ≡ pairs_changed h f (live_of l)
+  unfolding live_of change
+  live_of-update h f [] = refl
+  live_of-update h f (r ∷ rs) = update_one h f (r.handle == h) r.handle r.live r.fields (update h f rs) rs refl (live_of-update h f rs)
+
+  retire_one : (h : ℕ) (b : Bool) (n : ℕ) (live : Bool) (v : T) (xs rs : List (Listed T)) → (n == h) ≡ b → live_of xs ≡ pairs_without h (live_of rs) → live_of (cond (live && b) (record { handle = n; live = false; fields = v } ∷ rs) (record { handle = n; live = live; fields = v } ∷ xs)) ≡ pairs_without h (front (record { handle = n; live = live; fields = v }) (live_of rs))
+  unfolding live_of
+  retire_one h true n true v xs rs e i = ap (λ c. cond c (live_of rs) ((n, v) ∷ pairs_without h (live_of rs))) (sym e)
+  retire_one h false n true v xs rs e i = ap (λ l. (n, v) ∷ l) i ∙ ap (λ c. cond c (live_of rs) ((n, v) ∷ pairs_without h (live_of rs))) (sym e)
+  retire_one h true n false v xs rs e i = i
+  retire_one h false n false v xs rs e i = i
+
+  pub live_of-retire : (h : ℕ) (l : List (Listed T)) → live_of (retire h l) ≡ pairs_without h (live_of l)
+  unfolding live_of change
+  live_of-retire h [] = refl
+  live_of-retire h (r ∷ rs) = retire_one h (r.handle == h) r.handle r.live r.fields (retire h rs) rs refl (live_of-retire h rs)
+
+  -- what stands at each handle after each move
+
+  pub at-issue : (h k : ℕ) (v : T) (l : List (Listed T)) → at l h ≡ None → at (issue h v l) k ≡ cond (h == k) (Some v) (at l k)
+  at-issue h k v l off = ap (λ es. lookup es k) (live_of-issue h v l) ∙ lookup-append h k v (live_of l) off
+
+  pub at-update : (h k : ℕ) (f : T → T) (v : T) (l : List (Listed T)) → at l h ≡ Some v → at (update h f l) k ≡ cond (h == k) (Some (f v)) (at l k)
+  at-update h k f v l is = ap (λ es. lookup es k) (live_of-update h f l) ∙ lookup-changed h k f v (live_of l) is
+
+  pub at-retire : (h k : ℕ) (l : List (Listed T)) → Distinct (live_of l) → at (retire h l) k ≡ cond (h == k) None (at l k)
+  at-retire h k l d = ap (λ es. lookup es k) (live_of-retire h l) ∙ lookup-without h k (live_of l) d
+
+  pub Distinct-issue : (h : ℕ) (v : T) (l : List (Listed T)) → Distinct (live_of l) → at l h ≡ None → Distinct (live_of (issue h v l))
+  Distinct-issue h v l d off = rw (live_of-issue h v l) (Distinct-append h v (live_of l) d off)
+
+  pub Distinct-update : (h : ℕ) (f : T → T) (l : List (Listed T)) → Distinct (live_of l) → Distinct (live_of (update h f l))
+  Distinct-update h f l d = rw (live_of-update h f l) (Distinct-changed h f (live_of l) d)
+
+  pub Distinct-retire : (h : ℕ) (l : List (Listed T)) → Distinct (live_of l) → Distinct (live_of (retire h l))
+  Distinct-retire h l d = rw (live_of-retire h l) (Distinct-without h (live_of l) d)
+
+  length_many : (es : List (ℕ × T)) → length es ≡ how_many (λ _. true) es
+  length_many [] = refl
+  length_many (e ∷ es) = omega (arith, length_many es)
+
+  pub length-issue : (h : ℕ) (v : T) (l : List (Listed T)) → length (live_of (issue h v l)) ≡ length (live_of l) + 1
+  length-issue h v l = ap length (live_of-issue h v l) ∙ pushed (live_of l)
+    where
+      pushed : (es : List (ℕ × T)) → length (es ++ (h, v) ∷ []) ≡ length es + 1
+      pushed [] = refl
+      pushed (e ∷ es) = omega (arith, pushed es)
+
+  pub length-update : (h : ℕ) (f : T → T) (l : List (Listed T)) → length (live_of (update h f l)) ≡ length (live_of l)
+  length-update h f l = ap length (live_of-update h f l) ∙ length-changed h f (live_of l)
+
+  pub length-retire : (h : ℕ) (v : T) (l : List (Listed T)) → at l h ≡ Some v → length (live_of l) ≡ length (live_of (retire h l)) + 1
+  length-retire h v l is =
+      let out = how_many-without (λ _. true) h v (live_of l) is in
+      let left = ap length (live_of-retire h l) in
+      omega (arith, length_many (live_of l), length_many (pairs_without h (live_of l)))
+
+  -- counts after each move
+
+  -- a change that keeps a test of each object keeps how many pass
+  pub how_many-change : (q : Listed T → Bool) (h : ℕ) (f : Listed T → Listed T) → ((r : Listed T) → q (f r) ≡ q r) → (l : List (Listed T)) → how_many q (change h f l) ≡ how_many q l
+  unfolding change
+  how_many-change q h f keeps [] = refl
+  how_many-change q h f keeps (r ∷ rs) = pick (r.live && (r.handle == h)) (how_many-change q h f keeps rs)
+    where
+      pick : (b : Bool) → how_many q (change h f rs) ≡ how_many q rs → how_many q (cond b (f r ∷ rs) (r ∷ change h f rs)) ≡ how_many q (r ∷ rs)
+      pick true more = ap (λ b. cond b 1 0 + how_many q rs) (keeps r)
+      pick false more = ap (λ n. cond (q r) 1 0 + n) more
+
+  pub listed-change : (k h : ℕ) (f : Listed T → Listed T) → ((r : Listed T) → (f r).handle ≡ r.handle) → (l : List (Listed T)) → listed k (change h f l) ≡ listed k l
+  unfolding listed
+  listed-change k h f keeps l = how_many-change (λ r. r.handle == k) h f (λ r. ap (λ n. n == k) (keeps r)) l
+
+  pub issued_at-change : (k h : ℕ) (f : Listed T → Listed T) → ((r : Listed T) → (f r).handle ≡ r.handle) → (l : List (Listed T)) → issued_at k (change h f l) ≡ issued_at k l
+  unfolding issued_at
+  issued_at-change k h f keeps l = how_many-change (λ r. slot_of r.handle == slot_of k) h f (λ r. ap (λ n. slot_of n == slot_of k) (keeps r)) l
+
+  pub retired-update : (last h : ℕ) (f : T → T) (l : List (Listed T)) → retired last (update h f l) ≡ retired last l
+  unfolding retired
+  retired-update last h f l = how_many-change (λ r. not r.live && (generation_of r.handle == last)) h (with_fields f) (λ r. refl) l
+
+  pub listed-issue : (k h : ℕ) (v : T) (l : List (Listed T)) → listed k (issue h v l) ≡ listed k l + cond (h == k) 1 0
+  unfolding listed issue
+  listed-issue k h v l = how_many-push (λ r. r.handle == k) l (record { handle = h; live = true; fields = v })
+
+  pub issued_at-issue : (k h : ℕ) (v : T) (l : List (Listed T)) → issued_at k (issue h v l) ≡ issued_at k l + cond (slot_of h == slot_of k) 1 0
+  unfolding issued_at issue
+  issued_at-issue k h v l = how_many-push (λ r. slot_of r.handle == slot_of k) l (record { handle = h; live = true; fields = v })
+
+  pub retired-issue : (last h : ℕ) (v : T) (l : List (Listed T)) → retired last (issue h v l) ≡ retired last l
+  unfolding retired issue
+  retired-issue last h v l = how_many-push (λ r. not r.live && (generation_of r.handle == last)) l (record { handle = h; live = true; fields = v }) ∙ omega arith
+
+  pub issued_at-slot : (h : ℕ) (l : List (Listed T)) → issued_at (slot_of h) l ≡ issued_at h l
+  unfolding issued_at
+  issued_at-slot h l = ap (λ s. how_many (λ r. slot_of r.handle == s) l) (slot_of-slot h)
+
+  retired_one : (last h : ℕ) (b : Bool) (n : ℕ) (live : Bool) (v w : T) (xs rs : List (Listed T)) → (n == h) ≡ b → lookup (front (record { handle = n; live = live; fields = v }) (live_of rs)) h ≡ Some w → (lookup (live_of rs) h ≡ Some w → retired last xs ≡ retired last rs + cond (generation_of h == last) 1 0) → retired last (cond (live && b) (record { handle = n; live = false; fields = v } ∷ rs) (record { handle = n; live = live; fields = v } ∷ xs)) ≡ retired last (record { handle = n; live = live; fields = v } ∷ rs) + cond (generation_of h == last) 1 0
+  unfolding retired
+  retired_one last h true n true v w xs rs e is more =
+      let same : retired last (record { handle = n; live = false; fields = v } ∷ rs) ≡ cond (generation_of h == last) 1 0 + retired last rs = ap (λ k. cond (generation_of k == last) 1 0 + retired last rs) (eqb-true n h e) in
+      omega (arith, same)
+  retired_one last h false n true v w xs rs e is more = let rest = more (some_later (n == h) v w (lookup (live_of rs) h) e is) in omega (arith, rest)
+  retired_one last h true n false v w xs rs e is more = let rest = more is in omega (arith, rest)
+  retired_one last h false n false v w xs rs e is more = let rest = more is in omega (arith, rest)
+
+  pub retired-retire : (last h : ℕ) (v : T) (l : List (Listed T)) → at l h ≡ Some v → retired last (retire h l) ≡ retired last l + cond (generation_of h == last) 1 0
+  unfolding live_of change
+  retired-retire last h v [] is = absurd (cc)
+  retired-retire last h v (r ∷ rs) is = retired_one last h (r.handle == h) r.handle r.live r.fields v (retire h rs) rs refl is (λ more. retired-retire last h v rs more)
+
+  -- a change of a handle that isn't live is none
+  pub change-none : (h : ℕ) (f : Listed T → Listed T) (l : List (Listed T)) → at l h ≡ None → change h f l ≡ l
+  unfolding live_of change
+  change-none h f [] off = refl
+  change-none h f (r ∷ rs) off = none_one h f (r.handle == h) r.handle r.live r.fields rs refl off (λ more. change-none h f rs more)
+    where
+      none_one : (h : ℕ) (f : Listed T → Listed T) (b : Bool) (n : ℕ) (live : Bool) (v : T) (rs : List (Listed T)) → (n == h) ≡ b → lookup (front (record { handle = n; live = live; fields = v }) (live_of rs)) h ≡ None → (lookup (live_of rs) h ≡ None → change h f rs ≡ rs) → cond (live && b) (f (record { handle = n; live = live; fields = v }) ∷ rs) (record { handle = n; live = live; fields = v } ∷ change h f rs) ≡ record { handle = n; live = live; fields = v } ∷ rs
+      none_one h f true n true v rs e off more = let found = ap (λ b. cond b (Some v) (lookup (live_of rs) h)) e in absurd (cc)
+      none_one h f false n true v rs e off more = ap (λ l. record { handle = n; live = true; fields = v } ∷ l) (more (sym (ap (λ b. cond b (Some v) (lookup (live_of rs) h)) e) ∙ off))
+      none_one h f true n false v rs e off more = ap (λ l. record { handle = n; live = false; fields = v } ∷ l) (more off)
+      none_one h f false n false v rs e off more = ap (λ l. record { handle = n; live = false; fields = v } ∷ l) (more off)

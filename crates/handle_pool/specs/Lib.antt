@@ -1,0 +1,6 @@
+pub mod Slots
+pub mod Place
+pub mod Lends
+pub mod Issued
+pub mod Stands
+pub mod Calls

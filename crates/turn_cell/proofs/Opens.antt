@@ -1,0 +1,83 @@
+-- The table at the start, and the seats that it is cut into.
+use Rattle.std.proofs.Common.{◌≡◌, ℕ, zero, suc, ◌+◌, ◌-◌, ◌<◌, ◌≤◌, inl, List, [], ◌∷◌, ◌++◌, sym, refl, ap, ◌∙◌, subst, arith, Some}
+use mathlib.Core.Logic.{dite}
+use native.Mathlib.Decide.{ℕ_discrete}
+use mathlib.Core.Option.{some, some-injective, some-ne-none}
+use lib.ListN.{get_elem?}
+use Rattle.atomic_table.specs.Table.{Me, opening}
+use Rattle.atomic_table.specs.Seated.{TableId}
+use Rattle.history.specs.declared.entries.Entry.{Entry}
+use Rattle.turn_cell.specs.declared.parts.Part.{Part}
+use Rattle.turn_cell.specs.Lists.{total, all_of}
+use Rattle.turn_cell.specs.Seats.{SeatView, fresh_seat, fresh_seats}
+use Rattle.turn_cell.specs.Views.{view_of}
+use Rattle.turn_cell.specs.Turns.{has_number, has_ticket, fresh_part, fresh_parts, first_of, rest_of, Fits, Invariant}
+use Rattle.turn_cell.proofs.Counting.{one_same, one_other}
+
+module _ {T P Q : Type 0} where
+  pub fresh_cut : (t : T) (k m : ℕ) → 0 < m → (first_of (fresh_parts {P = P} {Q = Q} t k m) ≡ fresh_part t k ∷ []) × (rest_of (fresh_parts {P = P} {Q = Q} t k m) ≡ fresh_parts t (k + 1) (m - 1))
+  fresh_cut t k zero h = absurd (omega arith)
+  fresh_cut t k (suc m) h = let a : suc k ≡ k + 1 = omega arith in let b : m ≡ suc m - 1 = omega arith in (refl, λ i. fresh_parts t (a i) (b i))
+
+  pub seats_more : (t : T) (z : TableId) (k n : ℕ) → fresh_seats {P = P} {Q = Q} t z k (n + 1) ≡ fresh_seats t z k n ++ fresh_seat t z (k + n) ∷ []
+  seats_more t z k zero = let a : k ≡ k + 0 = omega arith in ap (λ (j : ℕ). fresh_seat t z j ∷ []) a
+  seats_more t z k (suc n) = let a : suc n + 1 ≡ suc (n + 1) = omega arith in let b : suc k + n ≡ k + suc n = omega arith in
+      ap (λ (j : ℕ). fresh_seats t z k j) a ∙ (ap (λ (l : List (SeatView T P Q)). fresh_seat t z k ∷ l) (seats_more t z (suc k) n) ∙ ap (λ (j : ℕ). fresh_seat t z k ∷ (fresh_seats t z (suc k) n ++ fresh_seat t z j ∷ [])) b)
+
+  -- one seat more
+  pub one_more : {O : Type 0} (d t : T) (z z' : TableId) (k : ℕ) (m : Me O (List (Part T P Q))) (l l' : List (SeatView T P Q)) → m ≡ (fresh_part t k ∷ [], []) → z' ≡ z → l ≡ fresh_seats t z 0 k → l' ≡ l ++ view_of d z' m.0 ∷ [] → l' ≡ fresh_seats t z 0 (k + 1)
+  one_more {O} d t z z' k m l l' is same before after =
+      let view : view_of d z' m.0 ≡ fresh_seat t z k = λ i. view_of d (same i) (is i).0 in
+      let plus : 0 + k ≡ k = omega arith in
+      after ∙ (λ i. before i ++ view i ∷ []) ∙ sym (seats_more t z 0 k ∙ ap (λ (j : ℕ). fresh_seats t z 0 k ++ fresh_seat t z j ∷ []) plus)
+
+  pub first_part : {O : Type 0} (t : T) (k n : ℕ) (m m' : Me O (List (Part T P Q))) → k < n → m ≡ (fresh_parts t k (n - k), []) → m' ≡ (first_of m.0, m.1) → m' ≡ (fresh_part t k ∷ [], [])
+  first_part {O} t k n m m' below is now = let cut = fresh_cut t k (n - k) (omega arith) in now ∙ (ap (λ (m : Me O (List (Part T P Q))). (first_of m.0, m.1)) is ∙ (λ i. (cut.0 i, [])))
+
+  pub other_parts : {O : Type 0} (t : T) (k n : ℕ) (m m' : Me O (List (Part T P Q))) → k < n → m ≡ (fresh_parts t k (n - k), []) → m' ≡ (rest_of m.0, []) → m' ≡ (fresh_parts t (k + 1) (n - (k + 1)), [])
+  other_parts {O} t k n m m' below is now =
+      let cut = fresh_cut t k (n - k) (omega arith) in
+      let left : (n - k) - 1 ≡ n - (k + 1) = omega arith in
+      now ∙ (ap (λ (m : Me O (List (Part T P Q))). (rest_of m.0, [])) is ∙ ((λ i. (cut.1 i, [])) ∙ (λ i. (fresh_parts t (k + 1) (left i), []))))
+
+  pub last_part : {O : Type 0} (t : T) (k n : ℕ) (m : Me O (List (Part T P Q))) → k ≡ n - 1 → 0 < n → m ≡ (fresh_parts t k (n - k), []) → m ≡ (fresh_part t (n - 1) ∷ [], [])
+  last_part {O} t k n m last some_seat is = let one : n - k ≡ 1 = omega arith in is ∙ (λ i. (fresh_parts t (last i) (one i), []))
+
+module _ {T : Type 0} where
+  fresh_below : (P Q : Type 0) (t : T) (j k m : ℕ) → j < k → total (has_number {P = P} {Q = Q} j) (fresh_parts t k m) ≡ 0
+  fresh_below P Q t j k zero h = refl
+  fresh_below P Q t j k (suc m) h = let a = one_other k j (λ e. omega arith) in let b = fresh_below P Q t j (suc k) m (omega arith) in omega arith
+
+  fresh_once : (P Q : Type 0) (t : T) (j k m : ℕ) → total (has_number {P = P} {Q = Q} j) (fresh_parts t k m) ≤ 1
+  fresh_once P Q t j k zero = omega arith
+  fresh_once P Q t j k (suc m) = dite (ℕ_discrete k j) (λ e. let a = one_same k j e in let b = fresh_below P Q t j (suc k) m (omega arith) in omega arith) (λ ne. let a = one_other k j ne in let b = fresh_once P Q t j (suc k) m in omega arith)
+
+  fresh_idle : (P Q : Type 0) (t : T) (j k m : ℕ) → total (has_ticket {P = P} {Q = Q} j) (fresh_parts t k m) ≡ 0
+  fresh_idle P Q t j k zero = refl
+  fresh_idle P Q t j k (suc m) = let b = fresh_idle P Q t j (suc k) m in omega arith
+
+module _ {O T P Q : Type 0} (terms_of : O → T) (seat_count : T → ℕ) (legal : T → List (Entry P Q) → Type 0) (stands : O → List (Entry P Q) → Type 0) where
+  fresh_fits : (t : T) (k m : ℕ) → k + m ≤ seat_count t → all_of (Fits terms_of seat_count legal stands t [] 0) (fresh_parts t k m)
+  fresh_fits t k zero h = tt
+  fresh_fits t k (suc m) h = (record { terms = refl; number = omega arith; seen = ([], refl); mine = refl; seen_mine = refl; shown = omega arith; holds = λ j e. cc }, fresh_fits t (suc k) m (omega arith))
+
+  only : (x : List (Part T P Q)) (i : ℕ) (v : List (Part T P Q)) → get_elem? (x ∷ []) i ≡ some v → x ≡ v
+  only x zero v e = some-injective x v e
+  only x (suc i) v e = absurd (some-ne-none v (sym e))
+
+  pub opens : (t : T) (o : O) → terms_of o ≡ t → stands o [] → legal t [] → Invariant terms_of seat_count legal stands t (opening (0 ∷ 0 ∷ []) (Some o ∷ []) (fresh_parts t 0 (seat_count t)))
+  opens t o is stood lawful =
+      let all : List (Part T P Q) = fresh_parts t 0 (seat_count t) in
+      record {
+        history = [];
+        tickets = 0;
+        words = refl;
+        order = omega arith;
+        most = omega arith;
+        lawful = lawful;
+        place = inl (o, refl, stood, is);
+        each = λ i v e. subst (all_of (Fits terms_of seat_count legal stands t [] 0)) (only all i v e) (fresh_fits t 0 (seat_count t) (omega arith));
+        numbers = λ k. let a = fresh_once P Q t k 0 (seat_count t) in omega arith;
+        turns = λ k. let a = fresh_idle P Q t k 0 (seat_count t) in omega arith;
+        in_line = λ k out. let a = fresh_idle P Q t k 0 (seat_count t) in absurd (omega arith);
+      }

@@ -1,0 +1,151 @@
+//! One turn of the cell: draw a ticket, wait until it is served, call the object, and let the entry into the history.
+ghost use Rattle.std.specs.Prelude.{◌≡◌, ◌≢◌, ℕ, ◌+◌, ◌^◌, ◌<◌, ◌≤◌, true, false, Option, None, List, [], ◌∷◌, ◌++◌, length, IfOk, IfErr, OnOk, OnErr};
+ghost use Rattle.history.specs.Histories.{Extends, entries_of, entry};
+ghost use Rattle.turn_cell.specs.declared.parts.Part.{Part};
+ghost use Rattle.turn_cell.specs.declared.parts.Stage.TheVariants.{Idle, Waits, Holds};
+ghost use Rattle.turn_cell.specs.Turns.{after_draw, after_pass, part_entry, Took};
+
+use crate::cell::TurnCell;
+use crate::parts::{GhostArgument, Part};
+use crate::seats::{Token, TurnSeat};
+use crate::steps::{Draw, Look, Pass};
+use crate::tickets::{LIMIT, Spent};
+use crossbeam_utils::Backoff;
+use history::Object;
+use std::marker::Brand;
+use std::sync::Wait;
+
+impl<O: Object> TurnCell<O> {
+    // Tries until it has a ticket. The first guess is the ticket behind the one that was shown last, which is right where no other seat drew.
+    fn draw<R: Wait>(&self, rt: &R, token: &mut Token<O>, shown: u64) -> Result<u64, u64>
+        requires own { token.old.table_id ≡ self.now.id }
+        requires idle { (p : Part O.Terms O.Op O.Reply) × (token.old.me ≡ (p ∷ [], [])) × (p.stage ≡ Idle) × (p.shown ≡ shown) }
+        ensures own { token.new.table_id ≡ token.old.table_id }
+        ensures drawn { IfOk result (λ k. (k < 2 ^ 62) × ((p : Part O.Terms O.Op O.Reply) → token.old.me ≡ (p ∷ [], []) → token.new.me ≡ (after_draw p k true ∷ [], []))) }
+        ensures spent { IfErr result (λ n. (2 ^ 62 ≤ n) × ((p : Part O.Terms O.Op O.Reply) → token.old.me ≡ (p ∷ [], []) → token.new.me ≡ (after_draw p n false ∷ [], []))) }
+    {
+        let backoff = Backoff::new();
+        let mut shown = shown;
+        let mut guess = shown.saturating_add(1).min(LIMIT - 1);
+        for _ in rt.forever() {
+            if shown >= LIMIT {
+                return Err(shown);
+            }
+            let found = self
+                .table
+                .shared
+                .compare_exchange::<Draw>(token, 1, guess, guess + 1);
+            if found == guess {
+                return Ok(guess);
+            }
+            shown = found;
+            guess = found;
+            backoff.snooze();
+        }
+        unreachable!()
+    }
+
+    // Tries until the ticket is served, and takes the object out of its slot.
+    fn look<R: Wait>(&self, rt: &R, token: &mut Token<O>, ticket: u64) -> O
+        requires own { token.old.table_id ≡ self.now.id }
+        requires waits { (p : Part O.Terms O.Op O.Reply) × (token.old.me ≡ (p ∷ [], [])) × (p.stage ≡ Waits ticket) }
+        ensures own { token.new.table_id ≡ token.old.table_id }
+        ensures took { (p : Part O.Terms O.Op O.Reply) → token.old.me ≡ (p ∷ [], []) → p.stage ≡ Waits ticket → Took O.terms O.seat_count O.legal O.stands p ticket result None token.new.me }
+    {
+        let backoff = Backoff::new();
+        for _ in rt.forever() {
+            if self.table.shared.load::<Look>(token, 0) == ticket {
+                return self.take(token, ticket);
+            }
+            backoff.snooze();
+        }
+        unreachable!()
+    }
+
+    // Takes the object out of the slot, which the look gave to the seat.
+    fn take(&self, token: &mut Token<O>, ticket: u64) -> O
+        requires own { token.old.table_id ≡ self.now.id }
+        requires took { (p : Part O.Terms O.Op O.Reply) × (o : O) × Took O.terms O.seat_count O.legal O.stands p ticket o (Some o) token.old.me }
+        ensures own { token.new.table_id ≡ token.old.table_id }
+        ensures took { (p : Part O.Terms O.Op O.Reply) (o : O) → Took O.terms O.seat_count O.legal O.stands p ticket o (Some o) token.old.me → Took O.terms O.seat_count O.legal O.stands p ticket result None token.new.me }
+    {
+        match self.table.shared.exchange(token, 0, None) {
+            Some(object) => object,
+            None => unreachable!(),
+        }
+    }
+
+    // Puts the object back, and serves the next ticket. This one addition lets the entry into the history.
+    fn pass<B: GhostArgument<O::Op>, C: GhostArgument<O::Reply>>(
+        &self,
+        token: &mut Token<O>,
+        object: O,
+        reply: &O::Reply,
+    )
+        requires own { token.old.table_id ≡ self.now.id }
+        requires holds { (p : Part O.Terms O.Op O.Reply) × (k : ℕ) × (op : O.Op) × (token.old.me ≡ (p ∷ [], (0, None) ∷ [])) × (p.stage ≡ Holds k) × (O.terms object ≡ p.terms) × O.stands object (p.seen ++ part_entry p op reply.now ∷ []) × (B.argument ≡ op ∷ []) × (C.argument ≡ reply.now ∷ []) }
+        ensures own { token.new.table_id ≡ token.old.table_id }
+        ensures passed { (p : Part O.Terms O.Op O.Reply) (op : O.Op) → token.old.me ≡ (p ∷ [], (0, None) ∷ []) → B.argument ≡ op ∷ [] → token.new.me ≡ (after_pass p (part_entry p op reply.now) ∷ [], []) }
+    {
+        let _ = reply;
+        let _none = self.table.shared.exchange(token, 0, Some(object));
+        self.table.shared.fetch_add::<Pass<B, C>>(token, 0, 1);
+    }
+
+    // Calls the object once, and ends the turn.
+    fn turn<B: GhostArgument<O::Op>>(
+        &self,
+        token: &mut Token<O>,
+        number: u32,
+        mut object: O,
+        op: O::Op,
+    ) -> O::Reply
+        requires own { token.old.table_id ≡ self.now.id }
+        requires argument { B.argument ≡ op ∷ [] }
+        requires holds { (p : Part O.Terms O.Op O.Reply) × (k : ℕ) × (token.old.me ≡ (p ∷ [], (0, None) ∷ [])) × (p.stage ≡ Holds k) × (p.number ≡ number) × (O.terms object ≡ p.terms) × O.stands object p.seen × (length p.seen < 2 ^ 62) × (p.number < O.seat_count p.terms) }
+        ensures own { token.new.table_id ≡ token.old.table_id }
+        ensures passed { (p : Part O.Terms O.Op O.Reply) → token.old.me ≡ (p ∷ [], (0, None) ∷ []) → token.new.me ≡ (after_pass p (part_entry p op result) ∷ [], []) }
+        ensures legal { (p : Part O.Terms O.Op O.Reply) → token.old.me ≡ (p ∷ [], (0, None) ∷ []) → O.legal p.terms (p.seen ++ part_entry p op result ∷ []) }
+    {
+        let reply = object.apply(number, op);
+        self.pass::<B, Brand>(token, object, &reply);
+        reply
+    }
+
+    /// One turn: the object is called once by this seat, and the entry comes to the end of the history.
+    ///
+    /// The seat then has seen the history up to its own entry. It takes no memory beyond what the object's `apply` takes, and waits
+    /// until its ticket is served. `Spent` comes exactly where the ticket word that was shown is at least 2^62; nothing else changes then.
+    pub fn call<R: Wait>(
+        &self,
+        rt: &R,
+        seat: &mut TurnSeat<O>,
+        op: O::Op,
+    ) -> Result<O::Reply, Spent>
+        requires { seat.old.cell ≡ self.now.id }
+        ensures cell { seat.new.cell ≡ seat.old.cell }
+        ensures number { seat.new.number ≡ seat.old.number }
+        ensures terms { seat.new.terms ≡ seat.old.terms }
+        ensures legal { O.legal seat.new.terms seat.new.seen }
+        ensures own { entries_of seat.new.number seat.new.seen ≡ seat.new.mine }
+        ensures seen { IfOk result (λ reply. Extends seat.old.seen (entry seat.old.number op reply) seat.new.seen) }
+        ensures mine { IfOk result (λ reply. seat.new.mine ≡ seat.old.mine ++ entry seat.old.number op reply ∷ []) }
+        ensures drew { OnOk result (seat.new.shown < 2 ^ 62) }
+        ensures spent { IfErr result (λ spent. (2 ^ 62 ≤ spent) × (spent ≡ seat.new.shown)) }
+        ensures unchanged { OnErr result ((seat.new.seen ≡ seat.old.seen) × (seat.new.mine ≡ seat.old.mine)) }
+    {
+        let shown = seat.shown;
+        match self.draw(rt, &mut seat.token, shown) {
+            Ok(ticket) => {
+                seat.shown = ticket;
+                let object = self.look(rt, &mut seat.token, ticket);
+                let number = seat.number;
+                Ok(self.turn::<Brand>(&mut seat.token, number, object, op))
+            }
+            Err(drawn) => {
+                seat.shown = drawn;
+                Err(Spent { drawn })
+            }
+        }
+    }
+}
