@@ -1,0 +1,5 @@
+pub mod Sems
+pub mod Rwls
+pub mod Looks
+pub mod SemCalls
+pub mod RwlCalls

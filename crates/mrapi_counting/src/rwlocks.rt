@@ -1,0 +1,135 @@
+//! Reader-writer locks, each under a handle.
+
+ghost use Rattle.std.specs.Prelude.{◌≡◌, ◌≤◌, ◌<◌, false, None, replicate, IfOk, IfErr, OnOk, OnErr};
+ghost use Rattle.std.specs.Result.{result_err};
+ghost use Rattle.mtapi_values.specs.declared.statuses.MrapiStatus.TheVariants.{ErrRwlIdInvalid};
+ghost use Rattle.mtapi_values.specs.Conditions.{first};
+ghost use Rattle.handle_pool.specs.Slots.{get, free_slot, without, changed, Inserts, NoneLive, HasLive, IsFull, OneEach};
+ghost use Rattle.mrapi_counting.specs.Looks.{is_got};
+ghost use Rattle.mrapi_counting.specs.Rwls.{new_rwl, rwl_create_refusals, rwl_delete_refusals, rwl_unlock_refusals};
+ghost use Rattle.mrapi_counting.specs.RwlCalls.{HasId, RwlCreateRefused, rwl_refusal, rwl_look_at, rwl_after_look, rwl_after_unlock};
+
+use crate::rwl_state::RwlState;
+use handle_pool::Pool;
+use mtapi_values::{Look, MrapiStatus, RwlHandle};
+use std::alloc::{AllocError, Global};
+use std::marker::Model;
+
+/// The most readers that a lock may have.
+const MAX_READERS: u32 = 32;
+
+/// Reader-writer locks, each under a handle, and seen as the slots of their pool. Live ones have different ids.
+#[derive(Drop)]
+pub struct Rwls {
+    pool: Pool<RwlState>,
+}
+
+impl Model for Rwls {
+    ghost use Rattle.handle_pool.specs.Slots.{Slots, OneEach};
+    ghost use Rattle.mrapi_counting.specs.Rwls.{Rwl};
+
+    ghost Value = { Slots Rwl };
+
+    ghost view = { λ r. r.pool };
+
+    ghost invariant = { λ r. OneEach (λ x. x.id) r.pool };
+}
+
+impl Rwls {
+    /// Room for `max` reader-writer locks, 1 to 65,536, with all the memory that they will use. A slot retires after `generations`, at least 1.
+    pub fn new(alloc: Global, max: u32, generations: u32) -> Result<Rwls, AllocError>
+        requires some { 1 ≤ max }
+        requires few { max ≤ 65536 }
+        requires once { 1 ≤ generations }
+        ensures generations { IfOk result (λ p. p.generations ≡ generations) }
+        ensures slots { IfOk result (λ p. p.slots ≡ replicate max (free_slot 1)) }
+    {
+        Ok(Rwls {
+            pool: Pool::new(alloc, max, generations)?,
+        })
+    }
+
+    /// Makes a lock for `limit` readers or one writer. Refuses a limit that isn't 1 to 32, then an id that a live lock has, and then
+    /// where every place is in use or has retired.
+    pub fn create(&mut self, id: u32, limit: u32) -> Result<RwlHandle, MrapiStatus>
+        ensures in_range { OnOk result (first (rwl_create_refusals limit) ≡ None) }
+        ensures new_id { OnOk result (NoneLive (get self.old) (HasId id)) }
+        ensures room { OnOk result (IsFull self.old → ⊥) }
+        ensures made { IfOk result (λ r. Inserts self.old self.new r.0 (new_rwl id limit)) }
+        ensures refused { IfErr result (λ c. RwlCreateRefused self.old id limit c) }
+        ensures unchanged { OnErr result (self.new ≡ self.old) }
+    {
+        if limit == 0 || limit > MAX_READERS {
+            return Err(MrapiStatus::ErrParameter);
+        }
+        if self.get(id).is_ok() {
+            return Err(MrapiStatus::ErrRwlExists);
+        }
+        match self.pool.insert(RwlState::new(id, limit)) {
+            Ok(handle) => Ok(RwlHandle(handle)),
+            Err(_) => Err(MrapiStatus::ErrRwlLimit),
+        }
+    }
+
+    /// The live lock of an id, and RWL_ID_INVALID exactly where no live one has it.
+    pub fn get(&self, id: u32) -> Result<RwlHandle, MrapiStatus>
+        ensures found { IfOk result (λ r. HasLive self.now r.0 (HasId id)) }
+        ensures absent { IfErr result (λ c. (c ≡ ErrRwlIdInvalid) × NoneLive (get self.now) (HasId id)) }
+
+        // An id has one live lock at most.
+        ensures only { OneEach (λ x. x.id) self.now }
+    {
+        for place in 0..self.pool.max() {
+            if let Some((handle, rwl)) = self.pool.slot_at(place) {
+                if rwl.id() == id {
+                    return Ok(RwlHandle(handle));
+                }
+            }
+        }
+        Err(MrapiStatus::ErrRwlIdInvalid)
+    }
+
+    /// Gives up a lock that nobody holds.
+    pub fn delete(&mut self, r: RwlHandle) -> Result<(), MrapiStatus>
+        ensures refused { result_err result ≡ rwl_refusal rwl_delete_refusals (get self.old r.0) }
+        ensures removed { OnOk result (self.new ≡ without self.old r.0) }
+        ensures unchanged { OnErr result (self.new ≡ self.old) }
+    {
+        match self.pool.get(r.0) {
+            None => return Err(MrapiStatus::ErrRwlInvalid),
+            Some(rwl) => {
+                if rwl.is_held() {
+                    return Err(MrapiStatus::ErrRwlLocked);
+                }
+            }
+        }
+        let _ = self.pool.remove(r.0);
+        Ok(())
+    }
+
+    /// One look of the seat `who`, which is below 25, as a writer or as a reader: it holds the lock, or others do.
+    pub fn look(&mut self, r: RwlHandle, who: u32, writer: bool) -> Look<()>
+        requires { who < 25 }
+        ensures reply { result ≡ rwl_look_at who writer (get self.old r.0) }
+        ensures new { self.new ≡ changed self.old r.0 (rwl_after_look who writer) }
+        ensures unchanged { is_got result ≡ false → self.new ≡ self.old }
+    {
+        match self.pool.get_mut(r.0) {
+            None => Look::Refused(MrapiStatus::ErrRwlInvalid),
+            Some(rwl) => rwl.look(who, writer),
+        }
+    }
+
+    /// The seat `who`, which is below 25, gives the lock back that it holds in this mode.
+    pub fn unlock(&mut self, r: RwlHandle, who: u32, writer: bool) -> Result<(), MrapiStatus>
+        requires { who < 25 }
+        ensures refused { result_err result ≡ rwl_refusal (rwl_unlock_refusals who writer) (get self.old r.0) }
+        ensures new { self.new ≡ changed self.old r.0 (rwl_after_unlock who writer) }
+        ensures unchanged { OnErr result (self.new ≡ self.old) }
+    {
+        match self.pool.get_mut(r.0) {
+            None => Err(MrapiStatus::ErrRwlInvalid),
+            Some(rwl) => rwl.unlock(who, writer),
+        }
+    }
+}

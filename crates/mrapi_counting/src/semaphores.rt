@@ -1,0 +1,135 @@
+//! Semaphores, each under a handle.
+
+ghost use Rattle.std.specs.Prelude.{◌≡◌, ◌≤◌, ◌<◌, false, None, replicate, IfOk, IfErr, OnOk, OnErr};
+ghost use Rattle.std.specs.Result.{result_err};
+ghost use Rattle.mtapi_values.specs.declared.statuses.MrapiStatus.TheVariants.{ErrSemIdInvalid};
+ghost use Rattle.mtapi_values.specs.Conditions.{first};
+ghost use Rattle.handle_pool.specs.Slots.{get, free_slot, without, changed, Inserts, NoneLive, HasLive, IsFull, OneEach};
+ghost use Rattle.mrapi_counting.specs.Looks.{is_got};
+ghost use Rattle.mrapi_counting.specs.Sems.{new_sem, sem_create_refusals, sem_delete_refusals, sem_unlock_refusals};
+ghost use Rattle.mrapi_counting.specs.SemCalls.{HasId, SemCreateRefused, sem_refusal, sem_look_at, sem_after_look, sem_after_unlock};
+
+use crate::sem_state::SemState;
+use handle_pool::Pool;
+use mtapi_values::{Look, MrapiStatus, SemHandle};
+use std::alloc::{AllocError, Global};
+use std::marker::Model;
+
+/// The most that a semaphore may be held.
+const MAX_LIMIT: u32 = 65535;
+
+/// Semaphores, each under a handle, and seen as the slots of their pool. Live ones have different ids.
+#[derive(Drop)]
+pub struct Sems {
+    pool: Pool<SemState>,
+}
+
+impl Model for Sems {
+    ghost use Rattle.handle_pool.specs.Slots.{Slots, OneEach};
+    ghost use Rattle.mrapi_counting.specs.Sems.{Sem};
+
+    ghost Value = { Slots Sem };
+
+    ghost view = { λ s. s.pool };
+
+    ghost invariant = { λ s. OneEach (λ x. x.id) s.pool };
+}
+
+impl Sems {
+    /// Room for `max` semaphores, 1 to 65,536, with all the memory that they will use. A slot retires after `generations`, at least 1.
+    pub fn new(alloc: Global, max: u32, generations: u32) -> Result<Sems, AllocError>
+        requires some { 1 ≤ max }
+        requires few { max ≤ 65536 }
+        requires once { 1 ≤ generations }
+        ensures generations { IfOk result (λ p. p.generations ≡ generations) }
+        ensures slots { IfOk result (λ p. p.slots ≡ replicate max (free_slot 1)) }
+    {
+        Ok(Sems {
+            pool: Pool::new(alloc, max, generations)?,
+        })
+    }
+
+    /// Makes a semaphore that may be held `limit` times. Refuses a limit that isn't 1 to 65,535, then an id that a live semaphore has,
+    /// and then where every place is in use or has retired.
+    pub fn create(&mut self, id: u32, limit: u32) -> Result<SemHandle, MrapiStatus>
+        ensures in_range { OnOk result (first (sem_create_refusals limit) ≡ None) }
+        ensures new_id { OnOk result (NoneLive (get self.old) (HasId id)) }
+        ensures room { OnOk result (IsFull self.old → ⊥) }
+        ensures made { IfOk result (λ s. Inserts self.old self.new s.0 (new_sem id limit)) }
+        ensures refused { IfErr result (λ c. SemCreateRefused self.old id limit c) }
+        ensures unchanged { OnErr result (self.new ≡ self.old) }
+    {
+        if limit == 0 || limit > MAX_LIMIT {
+            return Err(MrapiStatus::ErrParameter);
+        }
+        if self.get(id).is_ok() {
+            return Err(MrapiStatus::ErrSemExists);
+        }
+        match self.pool.insert(SemState::new(id, limit)) {
+            Ok(handle) => Ok(SemHandle(handle)),
+            Err(_) => Err(MrapiStatus::ErrSemLimit),
+        }
+    }
+
+    /// The live semaphore of an id, and SEM_ID_INVALID exactly where no live one has it.
+    pub fn get(&self, id: u32) -> Result<SemHandle, MrapiStatus>
+        ensures found { IfOk result (λ s. HasLive self.now s.0 (HasId id)) }
+        ensures absent { IfErr result (λ c. (c ≡ ErrSemIdInvalid) × NoneLive (get self.now) (HasId id)) }
+
+        // An id has one live semaphore at most.
+        ensures only { OneEach (λ x. x.id) self.now }
+    {
+        for place in 0..self.pool.max() {
+            if let Some((handle, sem)) = self.pool.slot_at(place) {
+                if sem.id() == id {
+                    return Ok(SemHandle(handle));
+                }
+            }
+        }
+        Err(MrapiStatus::ErrSemIdInvalid)
+    }
+
+    /// Gives up a semaphore that nobody holds.
+    pub fn delete(&mut self, s: SemHandle) -> Result<(), MrapiStatus>
+        ensures refused { result_err result ≡ sem_refusal sem_delete_refusals (get self.old s.0) }
+        ensures removed { OnOk result (self.new ≡ without self.old s.0) }
+        ensures unchanged { OnErr result (self.new ≡ self.old) }
+    {
+        match self.pool.get(s.0) {
+            None => return Err(MrapiStatus::ErrSemInvalid),
+            Some(sem) => {
+                if sem.held() > 0 {
+                    return Err(MrapiStatus::ErrSemLocked);
+                }
+            }
+        }
+        let _ = self.pool.remove(s.0);
+        Ok(())
+    }
+
+    /// One look of the seat `who`, which is below 25: it holds the semaphore once more, or all holds are taken.
+    pub fn look(&mut self, s: SemHandle, who: u32) -> Look<()>
+        requires { who < 25 }
+        ensures reply { result ≡ sem_look_at (get self.old s.0) }
+        ensures new { self.new ≡ changed self.old s.0 (sem_after_look who) }
+        ensures unchanged { is_got result ≡ false → self.new ≡ self.old }
+    {
+        match self.pool.get_mut(s.0) {
+            None => Look::Refused(MrapiStatus::ErrSemInvalid),
+            Some(sem) => sem.look(who),
+        }
+    }
+
+    /// Gives back one hold of the seat `who`, which is below 25.
+    pub fn unlock(&mut self, s: SemHandle, who: u32) -> Result<(), MrapiStatus>
+        requires { who < 25 }
+        ensures refused { result_err result ≡ sem_refusal (sem_unlock_refusals who) (get self.old s.0) }
+        ensures new { self.new ≡ changed self.old s.0 (sem_after_unlock who) }
+        ensures unchanged { OnErr result (self.new ≡ self.old) }
+    {
+        match self.pool.get_mut(s.0) {
+            None => Err(MrapiStatus::ErrSemInvalid),
+            Some(sem) => sem.unlock(who),
+        }
+    }
+}

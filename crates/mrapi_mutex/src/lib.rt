@@ -1,0 +1,131 @@
+//! Mutexes that belong to a seat and may be locked in depth.
+//!
+//! Each mutex has an id that no other live mutex has. A lock gives a key, the depth of the lock, and an unlock gives the last key
+//! back. A call looks once and answers at once: what waits is above this crate.
+#![tactic(auto)]
+
+mod state;
+#[cfg(test)]
+mod tests;
+
+ghost use Rattle.std.specs.Prelude.{◌≡◌, ◌≤◌, false, replicate, IfOk, IfErr, OnOk, OnErr};
+ghost use Rattle.std.specs.Result.{result_err};
+ghost use Rattle.handle_pool.specs.Slots.{get, free_slot, without, changed, Inserts, NoneLive, HasLive, IsFull, OneEach};
+ghost use Rattle.mrapi_mutex.specs.Mutexes.{new_mutex, mutex_delete_refusals, mutex_unlock_refusals};
+ghost use Rattle.mtapi_values.specs.declared.statuses.MrapiStatus.TheVariants.{ErrMutexIdInvalid};
+ghost use Rattle.mrapi_mutex.specs.Calls.{HasId, CreateRefused, refusal, look_at, is_got, after_look, after_unlock};
+
+use handle_pool::Pool;
+use mtapi_values::{Look, MrapiStatus, MutexHandle};
+use state::MutexState;
+use std::alloc::{AllocError, Global};
+use std::marker::Model;
+
+/// Mutexes, each under a handle, and seen as the slots of their pool. Live ones have different ids.
+#[derive(Drop)]
+pub struct Mutexes {
+    pool: Pool<MutexState>,
+}
+
+impl Model for Mutexes {
+    ghost use Rattle.handle_pool.specs.Slots.{Slots, OneEach};
+    ghost use Rattle.mrapi_mutex.specs.Mutexes.{Mutex};
+
+    ghost Value = { Slots Mutex };
+
+    ghost view = { λ m. m.pool };
+
+    ghost invariant = { λ m. OneEach (λ x. x.id) m.pool };
+}
+
+impl Mutexes {
+    /// Room for `max` mutexes, 1 to 65,536, with all the memory that they will use. A slot retires after `generations`, at least 1.
+    pub fn new(alloc: Global, max: u32, generations: u32) -> Result<Mutexes, AllocError>
+        requires some { 1 ≤ max }
+        requires few { max ≤ 65536 }
+        requires once { 1 ≤ generations }
+        ensures generations { IfOk result (λ p. p.generations ≡ generations) }
+        ensures slots { IfOk result (λ p. p.slots ≡ replicate max (free_slot 1)) }
+    {
+        Ok(Mutexes {
+            pool: Pool::new(alloc, max, generations)?,
+        })
+    }
+
+    /// Makes a mutex that nobody owns. Refuses an id that a live mutex has, and then where every place is in use or has retired.
+    pub fn create(&mut self, id: u32, recursive: bool) -> Result<MutexHandle, MrapiStatus>
+        ensures new_id { OnOk result (NoneLive (get self.old) (HasId id)) }
+        ensures room { OnOk result (IsFull self.old → ⊥) }
+        ensures made { IfOk result (λ m. Inserts self.old self.new m.0 (new_mutex id recursive)) }
+        ensures refused { IfErr result (λ c. CreateRefused self.old id c) }
+        ensures unchanged { OnErr result (self.new ≡ self.old) }
+    {
+        if self.get(id).is_ok() {
+            return Err(MrapiStatus::ErrMutexExists);
+        }
+        match self.pool.insert(MutexState::new(id, recursive)) {
+            Ok(handle) => Ok(MutexHandle(handle)),
+            Err(_) => Err(MrapiStatus::ErrMutexLimit),
+        }
+    }
+
+    /// The live mutex of an id, and MUTEX_ID_INVALID exactly where no live one has it.
+    pub fn get(&self, id: u32) -> Result<MutexHandle, MrapiStatus>
+        ensures found { IfOk result (λ m. HasLive self.now m.0 (HasId id)) }
+        ensures absent { IfErr result (λ c. (c ≡ ErrMutexIdInvalid) × NoneLive (get self.now) (HasId id)) }
+
+        // An id has one live mutex at most.
+        ensures only { OneEach (λ x. x.id) self.now }
+    {
+        for place in 0..self.pool.max() {
+            if let Some((handle, mutex)) = self.pool.slot_at(place) {
+                if mutex.id() == id {
+                    return Ok(MutexHandle(handle));
+                }
+            }
+        }
+        Err(MrapiStatus::ErrMutexIdInvalid)
+    }
+
+    /// Gives up a mutex that nobody owns.
+    pub fn delete(&mut self, m: MutexHandle) -> Result<(), MrapiStatus>
+        ensures refused { result_err result ≡ refusal mutex_delete_refusals (get self.old m.0) }
+        ensures removed { OnOk result (self.new ≡ without self.old m.0) }
+        ensures unchanged { OnErr result (self.new ≡ self.old) }
+    {
+        match self.pool.get(m.0) {
+            None => return Err(MrapiStatus::ErrMutexInvalid),
+            Some(mutex) => {
+                if mutex.is_locked() {
+                    return Err(MrapiStatus::ErrMutexLocked);
+                }
+            }
+        }
+        let _ = self.pool.remove(m.0);
+        Ok(())
+    }
+
+    /// One look of the seat `who`: the key where it gets the mutex, and Busy where another seat owns it.
+    pub fn look(&mut self, m: MutexHandle, who: u32) -> Look<u32>
+        ensures reply { result ≡ look_at who (get self.old m.0) }
+        ensures new { self.new ≡ changed self.old m.0 (after_look who) }
+        ensures unchanged { is_got result ≡ false → self.new ≡ self.old }
+    {
+        match self.pool.get_mut(m.0) {
+            None => Look::Refused(MrapiStatus::ErrMutexInvalid),
+            Some(mutex) => mutex.look(who),
+        }
+    }
+
+    /// Takes the last key back from the seat `who`. At depth 0 the mutex is free.
+    pub fn unlock(&mut self, m: MutexHandle, who: u32, key: u32) -> Result<(), MrapiStatus>
+        ensures refused { result_err result ≡ refusal (mutex_unlock_refusals who key) (get self.old m.0) }
+        ensures new { self.new ≡ changed self.old m.0 (after_unlock who key) }
+        ensures unchanged { OnErr result (self.new ≡ self.old) }
+    {
+        match self.pool.get_mut(m.0) {
+            None => Err(MrapiStatus::ErrMutexInvalid),
+            Some(mutex) => mutex.unlock(who, key),
+        }
+    }
+}

@@ -1,0 +1,202 @@
+//! Shared segments: cells of numbers that the seats read and write once they are attached.
+//!
+//! Each segment has an id that no other live segment has. The memory of all segments is taken at the start, and goes from one
+//! segment to a later one, whose cells are all 0 again.
+#![tactic(auto)]
+
+mod room;
+mod state;
+#[cfg(test)]
+mod tests;
+
+ghost use Rattle.std.specs.Prelude.{◌≡◌, ◌+◌, ◌≤◌, ◌<◌, None, replicate, IfOk, IfErr, OnOk, OnErr};
+ghost use Rattle.std.specs.Result.{result_err};
+ghost use Rattle.mtapi_values.specs.declared.statuses.MrapiStatus.TheVariants.{ErrShmIdInvalid};
+ghost use Rattle.mtapi_values.specs.Conditions.{first};
+ghost use Rattle.handle_pool.specs.Slots.{get, free_slot, without, changed, Inserts, NoneLive, HasLive, IsFull, OneEach, live_count, retired_count, max_of};
+ghost use Rattle.mrapi_shmem.specs.Segments.{new_segment, shmem_create_refusals, shmem_delete_refusals, attach_refusals, detach_refusals, cell_refusals};
+ghost use Rattle.mrapi_shmem.specs.Calls.{HasId, CreateRefused, refusal, read_at, after_attach, after_detach, after_write};
+
+use handle_pool::Pool;
+use mtapi_values::{MrapiStatus, ShmemHandle};
+use room::{MAX_CELLS, Room};
+use state::SegmentState;
+use std::alloc::{AllocError, Global};
+use std::marker::Model;
+
+/// Segments, each under a handle, and seen as the slots of their pool. Live ones have different ids.
+#[derive(Drop)]
+pub struct Segments {
+    pool: Pool<SegmentState>,
+    // Memory for each segment that isn't live.
+    spare: Vec<Room>,
+}
+
+impl Model for Segments {
+    ghost use Rattle.std.specs.Prelude.{vec_len, vec_capacity};
+    ghost use Rattle.handle_pool.specs.Slots.{Slots};
+    ghost use Rattle.mrapi_shmem.specs.Segments.{Segment};
+    ghost use Rattle.mrapi_shmem.specs.Calls.{IsStore};
+
+    ghost Value = { Slots Segment };
+
+    ghost view = { λ s. s.pool };
+
+    ghost invariant = { λ s. IsStore s.pool (vec_len s.spare) (vec_capacity s.spare) };
+}
+
+impl Segments {
+    /// Room for `max` segments, 1 to 65,536, of 4,096 cells each, with all the memory that they will use. A slot retires after
+    /// `generations`, at least 1.
+    pub fn new(alloc: Global, max: u32, generations: u32) -> Result<Segments, AllocError>
+        requires some { 1 ≤ max }
+        requires few { max ≤ 65536 }
+        requires once { 1 ≤ generations }
+        ensures generations { IfOk result (λ p. p.generations ≡ generations) }
+        ensures slots { IfOk result (λ p. p.slots ≡ replicate max (free_slot 1)) }
+    {
+        let mut spare = Vec::with_capacity(alloc, max as usize)?;
+        for _place in 0..max {
+            spare.push_reserved(Room::new(alloc)?);
+        }
+        Ok(Segments {
+            pool: Pool::new(alloc, max, generations)?,
+            spare,
+        })
+    }
+
+    /// Makes a segment of so many cells, all of them 0, to which nobody is attached. Refuses a number of cells that isn't 1 to 4,096,
+    /// then an id that a live segment has, and then where every place is in use or has retired.
+    pub fn create(&mut self, id: u32, cells: u32) -> Result<ShmemHandle, MrapiStatus>
+        ensures in_range { OnOk result (first (shmem_create_refusals cells) ≡ None) }
+        ensures new_id { OnOk result (NoneLive (get self.old) (HasId id)) }
+        ensures room { OnOk result (IsFull self.old → ⊥) }
+        ensures made { IfOk result (λ s. Inserts self.old self.new s.0 (new_segment id cells)) }
+        ensures refused { IfErr result (λ c. CreateRefused self.old id cells c) }
+        ensures unchanged { OnErr result (self.new ≡ self.old) }
+    {
+        if cells == 0 || cells > MAX_CELLS {
+            return Err(MrapiStatus::ErrParameter);
+        }
+        if self.get(id).is_ok() {
+            return Err(MrapiStatus::ErrShmExists);
+        }
+        if u64::from(self.pool.live()) + u64::from(self.pool.retired())
+            == u64::from(self.pool.max())
+        {
+            return Err(MrapiStatus::ErrShmLimit);
+        }
+        Ok(ShmemHandle(self.fill(id, cells)))
+    }
+
+    // Puts a new segment into a free place and a piece of spare memory.
+    fn fill(&mut self, id: u32, cells: u32) -> u64
+        requires few { cells ≤ 4096 }
+        requires new_id { NoneLive (get self.old) (HasId id) }
+        requires room { IsFull self.old → ⊥ }
+        requires fits { live_count self.old + retired_count self.old ≤ max_of self.old }
+        ensures { Inserts self.old self.new result (new_segment id cells) }
+    {
+        match self.spare.pop() {
+            Some(room) => match self.pool.insert(SegmentState::new(id, cells, room)) {
+                Ok(handle) => handle,
+                Err(_) => unreachable!(),
+            },
+            None => unreachable!(),
+        }
+    }
+
+    /// The live segment of an id, and SHM_ID_INVALID exactly where no live one has it.
+    pub fn get(&self, id: u32) -> Result<ShmemHandle, MrapiStatus>
+        ensures found { IfOk result (λ s. HasLive self.now s.0 (HasId id)) }
+        ensures absent { IfErr result (λ c. (c ≡ ErrShmIdInvalid) × NoneLive (get self.now) (HasId id)) }
+
+        // An id has one live segment at most.
+        ensures only { OneEach (λ x. x.id) self.now }
+    {
+        for place in 0..self.pool.max() {
+            if let Some((handle, segment)) = self.pool.slot_at(place) {
+                if segment.id() == id {
+                    return Ok(ShmemHandle(handle));
+                }
+            }
+        }
+        Err(MrapiStatus::ErrShmIdInvalid)
+    }
+
+    /// Gives up a segment to which nobody is attached.
+    pub fn delete(&mut self, s: ShmemHandle) -> Result<(), MrapiStatus>
+        ensures refused { result_err result ≡ refusal shmem_delete_refusals (get self.old s.0) }
+        ensures removed { OnOk result (self.new ≡ without self.old s.0) }
+        ensures unchanged { OnErr result (self.new ≡ self.old) }
+    {
+        match self.pool.get(s.0) {
+            None => return Err(MrapiStatus::ErrShmInvalid),
+            Some(segment) => {
+                if segment.is_attached() {
+                    return Err(MrapiStatus::ErrShmAttached);
+                }
+            }
+        }
+        if let Some(segment) = self.pool.remove(s.0) {
+            self.spare.push_reserved(segment.into_room());
+        }
+        Ok(())
+    }
+
+    /// Attaches the seat `who`, which is below 25.
+    pub fn attach(&mut self, s: ShmemHandle, who: u32) -> Result<(), MrapiStatus>
+        requires { who < 25 }
+        ensures refused { result_err result ≡ refusal (attach_refusals who) (get self.old s.0) }
+        ensures new { self.new ≡ changed self.old s.0 (after_attach who) }
+        ensures unchanged { OnErr result (self.new ≡ self.old) }
+    {
+        match self.pool.get_mut(s.0) {
+            None => Err(MrapiStatus::ErrShmInvalid),
+            Some(segment) => segment.attach(who),
+        }
+    }
+
+    /// Detaches the seat `who`, which is below 25.
+    pub fn detach(&mut self, s: ShmemHandle, who: u32) -> Result<(), MrapiStatus>
+        requires { who < 25 }
+        ensures refused { result_err result ≡ refusal (detach_refusals who) (get self.old s.0) }
+        ensures new { self.new ≡ changed self.old s.0 (after_detach who) }
+        ensures unchanged { OnErr result (self.new ≡ self.old) }
+    {
+        match self.pool.get_mut(s.0) {
+            None => Err(MrapiStatus::ErrShmInvalid),
+            Some(segment) => segment.detach(who),
+        }
+    }
+
+    /// The number in a cell, for the seat `who`, which is below 25 and has to be attached. Cells are numbered from 0.
+    pub fn read(&self, s: ShmemHandle, who: u32, cell: u32) -> Result<i64, MrapiStatus>
+        requires { who < 25 }
+        ensures { result ≡ read_at who cell (get self.now s.0) }
+    {
+        match self.pool.get(s.0) {
+            None => Err(MrapiStatus::ErrShmInvalid),
+            Some(segment) => segment.read(who, cell),
+        }
+    }
+
+    /// Puts a number into a cell, for the seat `who`, which is below 25 and has to be attached.
+    pub fn write(
+        &mut self,
+        s: ShmemHandle,
+        who: u32,
+        cell: u32,
+        value: i64,
+    ) -> Result<(), MrapiStatus>
+        requires { who < 25 }
+        ensures refused { result_err result ≡ refusal (cell_refusals who cell) (get self.old s.0) }
+        ensures new { self.new ≡ changed self.old s.0 (after_write who cell value) }
+        ensures unchanged { OnErr result (self.new ≡ self.old) }
+    {
+        match self.pool.get_mut(s.0) {
+            None => Err(MrapiStatus::ErrShmInvalid),
+            Some(segment) => segment.write(who, cell, value),
+        }
+    }
+}
