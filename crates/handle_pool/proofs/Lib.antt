@@ -9,3 +9,4 @@ pub mod GetLemmas
 pub mod AnswerLemmas
 pub mod OneEachLemmas
 pub mod CountLemmas
+pub mod KeyLemmas

@@ -52,7 +52,7 @@ module _ {T : Type 0} where
       by_value : (slot : Slot T) (o : Option T) → slice_get p.slots place ≡ Some slot → slot.value ≡ o → used_at place (Some (record slot { value = o })) ≡ Some (handle, value) → get p handle ≡ Some value
       by_value slot None is has found = absurd (cc)
       by_value slot (Some it) is has found =
-          let pair : (slot.generation * 2 ^ 32 + place, it) ≡ (handle, value) = cc in
+          let pair : ◌≡◌ {A = ℕ × T} (slot.generation * 2 ^ 32 + place, it) (handle, value) = cc in
           let whole : slot.generation * 2 ^ 32 + place ≡ handle = ap (λ (x : ℕ × T). x.0) pair in
           let at : slot_of handle ≡ place = omega arith in
           let turn : generation_of handle ≡ slot.generation = omega arith in

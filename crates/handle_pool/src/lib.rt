@@ -371,18 +371,25 @@ mod tests {
         Ok(())
     }
 
-    // A pool may go to another thread, and be shared, where its values may.
-    fn crosses<S: Send + Sync>(value: S) -> S {
+    // A pool may go to another thread where its values may, and be shared by threads where they may.
+    fn goes<S: Send>(value: S) -> S {
         value
     }
 
-    fn pool_crosses<T: Send + Sync>(pool: Pool<T>) -> Pool<T> {
-        crosses(pool)
+    fn is_shared<S: Sync>(_value: &S) {}
+
+    fn pool_goes<T: Send>(pool: Pool<T>) -> Pool<T> {
+        goes(pool)
+    }
+
+    fn pool_is_shared<T: Sync>(pool: &Pool<T>) {
+        is_shared(pool);
     }
 
     #[test]
     fn a_pool_goes_to_another_thread(rt: HostRuntime) -> Result<(), Fail> {
-        let mut pool = pool_crosses(Pool::new(rt.alloc(), 1, 1)?);
+        let mut pool = pool_goes(Pool::new(rt.alloc(), 1, 1)?);
+        pool_is_shared(&pool);
         assert_eq!(rt; pool.insert(5), Ok(4294967296));
         Ok(())
     }

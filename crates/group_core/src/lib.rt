@@ -1,0 +1,177 @@
+//! Groups of tasks, in the order of their ends.
+#![tactic(auto)]
+
+ghost use Rattle.std.specs.Prelude.{◌≡◌, ◌≤◌, ◌<◌, replicate, IfOk, IfNone, OnOk, OnErr, OnSome, IsSome};
+ghost use Rattle.std.specs.Option.{option_map};
+ghost use Rattle.handle_pool.specs.Slots.{get, slot_of, free_slot, without, changed};
+ghost use Rattle.group_core.specs.Members.{with_member, with_ended, without_first, Creates, delete_reply, NoMemberAt, IsUnendedMember, counts_of, first_ended};
+
+use handle_pool::Pool;
+use linked_places::LinkedLists;
+use mtapi_values::{GroupHandle, MtapiStatus, TaskHandle};
+use std::alloc::{AllocError, Global};
+use std::marker::Model;
+
+/// How many slots a handle can name: a handle is its generation times this, and its slot.
+const SPAN: u64 = 0x1_0000_0000;
+
+/// Groups, each under a handle, with their members.
+#[derive(Drop)]
+pub struct Groups {
+    pool: Pool<()>,
+    // The members of the group of each slot that haven't ended.
+    unended: LinkedLists,
+    // Those that have ended and weren't handed out.
+    ended: LinkedLists,
+}
+
+impl Model for Groups {
+    ghost use Rattle.group_core.specs.Members.{GroupTable, table_of, AreGroups};
+
+    ghost Value = { GroupTable };
+
+    ghost view = { λ g. table_of g.pool g.unended g.ended };
+
+    ghost invariant = { λ g. AreGroups g.pool g.unended g.ended };
+}
+
+// The slot that a handle names.
+fn slot_of(handle: u64) -> u32
+    ensures { result ≡ slot_of handle }
+{
+    (handle % SPAN) as u32
+}
+
+impl Groups {
+    /// Room for 1 to 65,536 groups over 1 to 65,536 slots of tasks, with all the memory that they will use; a place takes `generations`
+    /// handles, one after another.
+    pub fn new(alloc: Global, max: u32, generations: u32, tasks: u32) -> Result<Groups, AllocError>
+        requires some { 1 ≤ max }
+        requires few { max ≤ 65536 }
+        requires once { 1 ≤ generations }
+        requires some_tasks { 1 ≤ tasks }
+        requires few_tasks { tasks ≤ 65536 }
+        ensures generations { IfOk result (λ g. g.pool.generations ≡ generations) }
+        ensures slots { IfOk result (λ g. g.pool.slots ≡ replicate max (free_slot 1)) }
+        ensures tasks { IfOk result (λ g. g.tasks ≡ tasks) }
+    {
+        Ok(Groups {
+            pool: Pool::new(alloc, max, generations)?,
+            unended: LinkedLists::new(alloc, max, tasks)?,
+            ended: LinkedLists::new(alloc, max, tasks)?,
+        })
+    }
+
+    /// Makes a group with no members. `ErrGroupLimit` where there is no room.
+    pub fn create(&mut self) -> Result<GroupHandle, MtapiStatus>
+        ensures { Creates self.old result self.new }
+    {
+        let Ok(handle) = self.pool.insert(()) else {
+            return Err(MtapiStatus::ErrGroupLimit);
+        };
+        Ok(GroupHandle(handle))
+    }
+
+    /// Gives up a group and forgets its members. `ErrGroupInvalid` where it isn't live.
+    pub fn delete(&mut self, g: GroupHandle) -> Result<(), MtapiStatus>
+        ensures reply { result ≡ delete_reply (get self.old.pool g.0) }
+        ensures ok { OnOk result (self.new ≡ record self.old { pool = without self.old.pool g.0 }) }
+        ensures err { OnErr result (self.new ≡ self.old) }
+    {
+        if !self.pool.is_live(g.0) {
+            return Err(MtapiStatus::ErrGroupInvalid);
+        }
+        let slot = slot_of(g.0);
+        let _ = self.pool.remove(g.0);
+        self.unended.clear(slot);
+        self.ended.clear(slot);
+        Ok(())
+    }
+
+    /// Has a task enter a live group. No member of any group may have its slot.
+    pub fn enter(&mut self, g: GroupHandle, t: TaskHandle)
+        requires live { IsSome (get self.old.pool g.0) }
+        requires slot { slot_of t.0 < self.old.tasks }
+        requires alone { NoMemberAt (slot_of t.0) self.old.pool }
+        ensures { self.new ≡ record self.old { pool = changed self.old.pool g.0 (with_member t.0) } }
+    {
+        self.unended.push(slot_of(g.0), t.0);
+    }
+
+    /// Has a member that hasn't ended stand last among those that have.
+    pub fn ended(&mut self, g: GroupHandle, t: TaskHandle)
+        requires { IsUnendedMember t.0 (get self.old.pool g.0) }
+        ensures { self.new ≡ record self.old { pool = changed self.old.pool g.0 (with_ended t.0) } }
+    {
+        let slot = slot_of(g.0);
+        self.unended.remove(slot, t.0);
+        self.ended.push(slot, t.0);
+    }
+
+    /// How many members of a live group weren't handed out, and how many of these have ended.
+    pub fn left(&self, g: GroupHandle) -> Option<(u32, u32)>
+        ensures { result ≡ option_map counts_of (get self.now.pool g.0) }
+    {
+        if !self.pool.is_live(g.0) {
+            return None;
+        }
+        let slot = slot_of(g.0);
+        let ended = self.ended.len(slot);
+        Some((self.unended.len(slot) + ended, ended))
+    }
+
+    /// Hands out the member of a live group that ended first.
+    pub fn take(&mut self, g: GroupHandle) -> Option<TaskHandle>
+        ensures task { option_map (λ (t : TaskHandle). t.0) result ≡ first_ended (get self.old.pool g.0) }
+        ensures some { OnSome result (self.new ≡ record self.old { pool = changed self.old.pool g.0 without_first }) }
+        ensures none { IfNone result (self.new ≡ self.old) }
+    {
+        if !self.pool.is_live(g.0) {
+            return None;
+        }
+        let slot = slot_of(g.0);
+        let Some(first) = self.ended.first(slot) else {
+            return None;
+        };
+        self.ended.remove(slot, first);
+        Some(TaskHandle(first))
+    }
+}
+
+#[cfg(test)]
+mod tests {
+    use super::*;
+    use std::test::Fail;
+
+    const FIRST: TaskHandle = TaskHandle(4294967296);
+
+    const SECOND: TaskHandle = TaskHandle(4294967297);
+
+    #[test]
+    fn a_member_that_ended_is_taken(rt: HostRuntime) -> Result<(), Fail> {
+        let mut groups = Groups::new(rt.alloc(), 1, 5, 2)?;
+        let Ok(g) = groups.create() else {
+            return Err("no group")?;
+        };
+        groups.enter(g, FIRST);
+        groups.enter(g, SECOND);
+        groups.ended(g, SECOND);
+        assert_eq!(rt; groups.left(g), Some((2, 1)));
+        assert_eq!(rt; groups.take(g), Some(SECOND));
+        assert_eq!(rt; groups.take(g), None);
+        Ok(())
+    }
+
+    #[test]
+    fn one_group_at_a_time(rt: HostRuntime) -> Result<(), Fail> {
+        let mut groups = Groups::new(rt.alloc(), 1, 5, 2)?;
+        let g = groups.create().ok().ok_or("no group")?;
+        assert_eq!(rt; groups.create(), Err(MtapiStatus::ErrGroupLimit));
+        assert_eq!(rt; groups.left(g), Some((0, 0)));
+        assert_eq!(rt; groups.delete(g), Ok(()));
+        assert_eq!(rt; groups.delete(g), Err(MtapiStatus::ErrGroupInvalid));
+        assert_eq!(rt; groups.left(g), None);
+        assert_eq!(rt; groups.take(g), None);
+        Ok(())
+    }
+}

@@ -1,0 +1,177 @@
+//! Actions under jobs.
+#![tactic(auto)]
+
+mod action;
+pub mod cover;
+
+ghost use Rattle.std.specs.Prelude.{◌≡◌, ◌+◌, ◌≤◌, ◌<◌, true, false, replicate, IfOk, OnOk, OnErr};
+ghost use Rattle.handle_pool.specs.Slots.{get, free_slot, without, changed};
+ghost use Rattle.job_table.specs.Actions.{with_enabled};
+ghost use Rattle.job_table.specs.Answers.{Creates, Covers, Chooses, job_of};
+ghost use Rattle.job_table.specs.Cover.{CoversBelow};
+
+use action::StoredAction;
+pub use cover::Cover;
+use handle_pool::Pool;
+use mtapi_values::{ActionHandle, Kind, Mask, MtapiStatus};
+use std::alloc::{AllocError, Global};
+use std::marker::Model;
+
+/// Actions, each under a handle. Several may have one job.
+#[derive(Drop)]
+pub struct Actions {
+    pool: Pool<StoredAction>,
+}
+
+impl Model for Actions {
+    ghost use Rattle.handle_pool.specs.Slots.{Slots};
+    ghost use Rattle.job_table.specs.Actions.{Action};
+
+    ghost Value = { Slots Action };
+
+    ghost view = { λ a. a.pool };
+}
+
+impl Actions {
+    /// Room for 1 to 65,536 actions, with all the memory that they will use; a place takes that many handles, one after another.
+    pub fn new(alloc: Global, max: u32, generations: u32) -> Result<Actions, AllocError>
+        requires some { 1 ≤ max }
+        requires few { max ≤ 65536 }
+        requires once { 1 ≤ generations }
+        ensures generations { IfOk result (λ a. a.generations ≡ generations) }
+        ensures slots { IfOk result (λ a. a.slots ≡ replicate max (free_slot 1)) }
+    {
+        Ok(Actions {
+            pool: Pool::new(alloc, max, generations)?,
+        })
+    }
+
+    /// Makes an enabled action. `ErrJobInvalid` where the job isn't 1 to 65,535, then `ErrActionLimit` where there is no room.
+    pub fn create(&mut self, job: u32, kind: Kind, cores: Mask) -> Result<ActionHandle, MtapiStatus>
+        ensures { Creates self.old job kind cores.0 result self.new }
+    {
+        if job == 0 || job > 65535 {
+            return Err(MtapiStatus::ErrJobInvalid);
+        }
+        match self.pool.insert(StoredAction::new(job, kind, cores)) {
+            Ok(handle) => Ok(ActionHandle(handle)),
+            Err(_) => Err(MtapiStatus::ErrActionLimit),
+        }
+    }
+
+    /// Gives up an action, and gives its job. `ErrActionInvalid` where it isn't live.
+    pub fn delete(&mut self, a: ActionHandle) -> Result<u32, MtapiStatus>
+        ensures reply { result ≡ job_of (get self.old a.0) }
+        ensures ok { OnOk result (self.new ≡ without self.old a.0) }
+        ensures err { OnErr result (self.new ≡ self.old) }
+    {
+        match self.pool.remove(a.0) {
+            None => Err(MtapiStatus::ErrActionInvalid),
+            Some(action) => Ok(action.job()),
+        }
+    }
+
+    /// Enables an action, and gives its job. `ErrActionInvalid` where it isn't live.
+    pub fn enable(&mut self, a: ActionHandle) -> Result<u32, MtapiStatus>
+        ensures reply { result ≡ job_of (get self.old a.0) }
+        ensures new { self.new ≡ changed self.old a.0 (with_enabled true) }
+    {
+        self.set_enabled(a, true)
+    }
+
+    /// Disables an action, and gives its job. `ErrActionInvalid` where it isn't live.
+    pub fn disable(&mut self, a: ActionHandle) -> Result<u32, MtapiStatus>
+        ensures reply { result ≡ job_of (get self.old a.0) }
+        ensures new { self.new ≡ changed self.old a.0 (with_enabled false) }
+    {
+        self.set_enabled(a, false)
+    }
+
+    fn set_enabled(&mut self, a: ActionHandle, enabled: bool) -> Result<u32, MtapiStatus>
+        ensures reply { result ≡ job_of (get self.old a.0) }
+        ensures new { self.new ≡ changed self.old a.0 (with_enabled enabled) }
+    {
+        match self.pool.get_mut(a.0) {
+            None => Err(MtapiStatus::ErrActionInvalid),
+            Some(action) => {
+                action.set_enabled(enabled);
+                Ok(action.job())
+            }
+        }
+    }
+
+    /// Which cores the live actions of a job cover.
+    pub fn cover(&self, job: u32) -> Cover
+        ensures { Covers self.now job result }
+    {
+        let mut cover = Cover::NoAction;
+        for place in 0..self.pool.max() {
+            cover = self.cover_at(cover, job, place);
+        }
+        cover
+    }
+
+    // The cover of the actions below a place, with the action at that place.
+    fn cover_at(&self, cover: Cover, job: u32, place: u32) -> Cover
+        requires { CoversBelow self.now place job cover }
+        ensures { CoversBelow self.now (place + 1) job result }
+    {
+        match self.pool.slot_at(place) {
+            Some((_, action)) if action.job() == job => cover.with(action),
+            _ => cover,
+        }
+    }
+
+    /// Some live, enabled action of the job whose mask has the worker, and its kind.
+    pub fn choice(&self, job: u32, worker: u32) -> Option<(ActionHandle, Kind)>
+        requires { worker < 64 }
+        ensures { Chooses self.now job worker result }
+    {
+        for place in 0..self.pool.max() {
+            if let Some((handle, action)) = self.pool.slot_at(place) {
+                if action.runs_job_on(job, worker) {
+                    return Some((ActionHandle(handle), action.kind()));
+                }
+            }
+        }
+        None
+    }
+}
+
+#[cfg(test)]
+mod tests {
+    use super::*;
+    use std::test::Fail;
+
+    #[test]
+    fn one_job_with_two_actions(rt: HostRuntime) -> Result<(), Fail> {
+        let mut actions = Actions::new(rt.alloc(), 2, 1)?;
+        assert_eq!(rt; actions.cover(7), Cover::NoAction);
+        assert_eq!(rt;
+            actions.create(0, Kind::Add, Mask(1)),
+            Err(MtapiStatus::ErrJobInvalid)
+        );
+        let add = actions.create(7, Kind::Add, Mask(1)).ok().ok_or("full")?;
+        let max = actions.create(7, Kind::Max, Mask(6)).ok().ok_or("full")?;
+        assert_eq!(rt;
+            actions.create(7, Kind::Max, Mask(6)),
+            Err(MtapiStatus::ErrActionLimit)
+        );
+        assert_eq!(rt; actions.cover(7), Cover::Cores(Mask(7)));
+        assert_eq!(rt; actions.choice(7, 2), Some((max, Kind::Max)));
+        assert_eq!(rt; actions.choice(7, 3), None);
+        assert_eq!(rt; actions.disable(max), Ok(7));
+        assert_eq!(rt; actions.cover(7), Cover::Cores(Mask(1)));
+        assert_eq!(rt; actions.disable(add), Ok(7));
+        assert_eq!(rt; actions.cover(7), Cover::AllDisabled);
+        assert_eq!(rt; actions.enable(max), Ok(7));
+        assert_eq!(rt; actions.choice(7, 1), Some((max, Kind::Max)));
+        assert_eq!(rt; actions.delete(max), Ok(7));
+        assert_eq!(rt; actions.delete(max), Err(MtapiStatus::ErrActionInvalid));
+        assert_eq!(rt;
+            actions.create(7, Kind::Max, Mask(6)),
+            Err(MtapiStatus::ErrActionLimit)
+        );
+        Ok(())
+    }
+}

@@ -1,0 +1,4 @@
+pub mod HandleLemmas
+pub mod RunLemmas
+pub mod LinkedLemmas
+pub mod BesideLemmas

@@ -1,0 +1,10 @@
+use Rattle.std.proofs.Common.{◌≡◌, ◌≤◌, replicate, vec_len, vec_capacity}
+use Rattle.linked_places.specs.declared.TheConstants.{NO_ENDS}
+use Rattle.linked_places.proofs.no_ends.Given as goal
+
+abbrev pub invariant-loop-list : goal.invariant-loop-list
+invariant-loop-list l = record {
+  len : vec_len l.ends ≡ l.list;
+  room : l.lists ≤ vec_capacity l.ends;
+  items : l.ends.items ≡ replicate l.list NO_ENDS;
+}

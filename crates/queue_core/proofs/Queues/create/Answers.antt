@@ -1,0 +1,23 @@
+use Rattle.std.proofs.Common.{◌≡◌, refl, sym, ap, subst, ◌∙◌}
+use Rattle.handle_pool.specs.Slots.{Slots}
+use Rattle.queue_core.specs.Queues.{Queue}
+use Rattle.queue_core.specs.Held.{QueueTable, table_of}
+use Rattle.std.proofs.lemmas.Bool.{false≢true}
+use Rattle.queue_core.proofs.QueueLemmas.{not_found, full_held, room_held, AreQueues-create, Inserts-held}
+use Rattle.queue_core.proofs.Queues.create.Goals as goal
+
+pub returns-in_default : goal.returns-in_default
+returns-in_default c =
+    let none = not_found c.args.self.now.pool c.args.id c.get.result c.get.ensures (sym c.is_ok.ensures.value ∙ c.if-is_ok.false) in
+    let P : Slots Queue → Type 0 = λ p. table_of p c.self.inside.tasks ≡ c.args.self.now in
+    (none, full_held c.self.inside.pool c.self.inside.tasks c.args.self.now c.self.view_is (c.in_default.ensures.full.0 refl), subst P (sym c.in_default.ensures.unchanged) c.self.view_is)
+
+pub invariant_of-self-2 : goal.invariant_of-self-2
+invariant_of-self-2 c = AreQueues-create c.self.inside.pool c.self.inside.tasks c.insert.new.self c.in-Ok.handle c.new.result c.in-Ok.ensures.inserts c.self.invariant
+
+pub returns : goal.returns
+returns c =
+    let none = not_found c.args.self.now.pool c.args.id c.get.result c.get.ensures (sym c.is_ok.ensures.value ∙ c.if-is_ok.false) in
+    let room = room_held c.self.inside.pool c.self.inside.tasks c.args.self.now c.self.view_is (λ full. false≢true (c.in-Ok.ensures.full.1 full)) in
+    let inserted = Inserts-held c.self.inside.pool c.self.inside.tasks c.args.self.now c.insert.new.self c.in-Ok.handle c.new.result c.self.view_is c.in-Ok.ensures.inserts c.self.invariant in
+    (none, room, rw (← c.new.ensures) inserted, ap (λ (t : QueueTable). t.tasks) c.self.view_is)

@@ -1,0 +1,112 @@
+-- The queues as their calls see them: each with its unended tasks, and what the calls answer and leave.
+use Rattle.std.specs.Prelude.{◌≡◌, ℕ, ◌≤◌, Bool, true, false, ◌==◌, List, [], ◌∷◌, ◌++◌, length, Option, Some, None, Result, Ok, Err, slice_get}
+use Rattle.mtapi_values.specs.Attributes.{QueueAttributes}
+use Rattle.mtapi_values.specs.Conditions.{first}
+use Rattle.mtapi_values.specs.declared.handles.QueueHandle.{QueueHandle}
+use Rattle.mtapi_values.specs.declared.statuses.MtapiStatus.{MtapiStatus}
+use Rattle.mtapi_values.specs.declared.statuses.MtapiStatus.TheVariants.{ErrQueueInvalid, ErrQueueExists, ErrQueueLimit}
+use Rattle.handle_pool.specs.Slots.{Slots, get, IsFull, Inserts, SomeLive, NoneLive}
+use Rattle.linked_places.specs.Lists.{HandleLists, stands_at, has_handle, without_handle}
+use Rattle.linked_places.specs.Beside.{pool_beside, AreBeside}
+use Rattle.queue_core.specs.Queues.{Queue, opened, put_refusals}
+use Rattle.queue_core.specs.declared.facts.QueueFacts.{QueueFacts}
+
+-- a queue, and its unended tasks in the order in which they were put
+pub record HeldQueue : Type 0 where
+  pub queue : Queue
+  pub tasks : List ℕ
+
+-- the slots of the queues, and how many slots of tasks there are
+pub record QueueTable : Type 0 where
+  pub pool : Slots HeldQueue
+  pub tasks : ℕ
+
+-- a new queue is enabled, and has the id, the job and what its attributes say
+abbrev pub new_queue : ℕ → ℕ → QueueAttributes → Queue
+new_queue id job attr = record { id = id; job = job; priority = attr.priority; limit = attr.limit; ordered = attr.ordered; retain = attr.retain; enabled = true }
+
+-- a queue with these tasks
+abbrev pub held : Queue → List ℕ → HeldQueue
+held queue tasks = record { queue = queue; tasks = tasks }
+
+-- the queue has this id
+abbrev pub has_id : ℕ → Queue → Bool
+has_id id q = q.id == id
+
+abbrev pub HasId : ℕ → HeldQueue → Type 0
+HasId id h = has_id id h.queue ≡ true
+
+-- a create: an id that is live first, then no room; else a new queue with no tasks under a handle
+abbrev pub Creates : QueueTable → Queue → Result QueueHandle MtapiStatus → QueueTable → Type 0
+Creates old queue (Ok q) new = NoneLive (get old.pool) (HasId queue.id) × (IsFull old.pool → ⊥) × Inserts old.pool new.pool q.0 (held queue []) × (new.tasks ≡ old.tasks)
+Creates old queue (Err ErrQueueExists) new = SomeLive (get old.pool) (HasId queue.id) × (new ≡ old)
+Creates old queue (Err ErrQueueLimit) new = NoneLive (get old.pool) (HasId queue.id) × IsFull old.pool × (new ≡ old)
+Creates old queue (Err _) new = ⊥
+
+-- a live queue of this id, or none has it
+abbrev pub Finds : Slots HeldQueue → ℕ → Result QueueHandle MtapiStatus → Type 0
+Finds pool id (Ok q) = (h : HeldQueue) × (get pool q.0 ≡ Some h) × HasId id h
+Finds pool id (Err ErrQueueInvalid) = NoneLive (get pool) (HasId id)
+Finds pool id (Err _) = ⊥
+
+-- refused exactly where the queue isn't live
+abbrev pub live_reply : Option HeldQueue → Result Unit MtapiStatus
+live_reply None = Err ErrQueueInvalid
+live_reply (Some h) = Ok tt
+
+-- the queue, enabled or disabled
+abbrev pub with_opened : Bool → HeldQueue → HeldQueue
+with_opened on h = record { queue = opened on h.queue; tasks = h.tasks }
+
+-- a task is put behind the others
+abbrev pub with_task : ℕ → HeldQueue → HeldQueue
+with_task task h = record { queue = h.queue; tasks = h.tasks ++ task ∷ [] }
+
+-- a task has ended
+abbrev pub without_task : ℕ → HeldQueue → HeldQueue
+without_task task h = record { queue = h.queue; tasks = without_handle task h.tasks }
+
+-- what a put answers: what the queue refuses first, then that its unended tasks equal its limit
+abbrev pub put_answer : Option MtapiStatus → Bool → Result Unit MtapiStatus
+put_answer (Some status) full = Err status
+put_answer None true = Err ErrQueueLimit
+put_answer None false = Ok tt
+
+abbrev pub put_reply : Option HeldQueue → Result Unit MtapiStatus
+put_reply None = Err ErrQueueInvalid
+put_reply (Some h) = put_answer (first (put_refusals h.queue)) (length h.tasks == h.queue.limit)
+
+-- no unended task of any live queue has this slot
+abbrev pub NoTaskAt : ℕ → Slots HeldQueue → Type 0
+NoTaskAt slot pool = (q : ℕ) (h : HeldQueue) → get pool q ≡ Some h → stands_at slot h.tasks ≡ false
+
+-- the task is an unended one of the queue
+abbrev pub IsUnendedTask : ℕ → Option HeldQueue → Type 0
+IsUnendedTask task None = ⊥
+IsUnendedTask task (Some h) = has_handle task h.tasks ≡ true
+
+-- the unended task that was put first
+abbrev pub first_task : Option HeldQueue → Option ℕ
+first_task None = None
+first_task (Some h) = slice_get h.tasks 0
+
+-- a queue at a glance, with so many unended tasks
+abbrev pub facts_with : Queue → ℕ → QueueFacts
+facts_with q unended = record { job = q.job; priority = q.priority; enabled = q.enabled; ordered = q.ordered; retain = q.retain; limit = q.limit; unended = unended }
+
+abbrev pub facts_of : HeldQueue → QueueFacts
+facts_of h = facts_with h.queue (length h.tasks)
+
+-- what the slots and the lists are seen as
+abbrev pub table_of : Slots Queue → HandleLists → QueueTable
+table_of pool tasks = record { pool = pool_beside held pool tasks.lists; tasks = tasks.places }
+
+-- what the lists keep of the slots
+pub record AreQueues (pool : Slots Queue) (tasks : HandleLists) : Type 0 where
+  pub beside : AreBeside pool.slots tasks.lists
+  pub few : tasks.places ≤ 65536
+
+-- the queue of an id among the slots without their tasks
+abbrev pub FindsIn : Slots Queue → ℕ → Option ℕ → Type 0
+FindsIn pool id None = NoneLive (get pool) (λ q. has_id id q ≡ true)
+FindsIn pool id (Some handle) = (q : Queue) × (get pool handle ≡ Some q) × (has_id id q ≡ true)

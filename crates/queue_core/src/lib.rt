@@ -1,0 +1,253 @@
+//! Queues of tasks, in the order in which they were put.
+#![tactic(auto)]
+
+pub mod facts;
+mod queue;
+
+ghost use Rattle.std.specs.Prelude.{◌≡◌, ◌≤◌, ◌<◌, true, false, replicate, IfOk, OnOk, OnErr};
+ghost use Rattle.std.specs.Option.{option_map};
+ghost use Rattle.handle_pool.specs.Slots.{get, slot_of, free_slot, without, changed};
+ghost use Rattle.queue_core.specs.Held.{new_queue, Creates, Finds, live_reply, with_opened, with_task, without_task, put_reply, NoTaskAt, IsUnendedTask, first_task, facts_of, FindsIn};
+
+pub use facts::QueueFacts;
+use handle_pool::Pool;
+use linked_places::LinkedLists;
+use mtapi_values::{MtapiStatus, QueueAttr, QueueHandle, TaskHandle};
+use queue::StoredQueue;
+use std::alloc::{AllocError, Global};
+use std::marker::Model;
+
+/// How many slots a handle can name: a handle is its generation times this, and its slot.
+const SPAN: u64 = 0x1_0000_0000;
+
+/// Queues, each under a handle, with their unended tasks.
+#[derive(Drop)]
+pub struct Queues {
+    pool: Pool<StoredQueue>,
+    // The unended tasks of the queue of each slot.
+    tasks: LinkedLists,
+}
+
+impl Model for Queues {
+    ghost use Rattle.queue_core.specs.Held.{QueueTable, table_of, AreQueues};
+
+    ghost Value = { QueueTable };
+
+    ghost view = { λ q. table_of q.pool q.tasks };
+
+    ghost invariant = { λ q. AreQueues q.pool q.tasks };
+}
+
+// The slot that a handle names.
+fn slot_of(handle: u64) -> u32
+    ensures { result ≡ slot_of handle }
+{
+    (handle % SPAN) as u32
+}
+
+impl Queues {
+    /// Room for 1 to 65,536 queues over 1 to 65,536 slots of tasks, with all the memory that they will use; a place takes `generations`
+    /// handles, one after another.
+    pub fn new(alloc: Global, max: u32, generations: u32, tasks: u32) -> Result<Queues, AllocError>
+        requires some { 1 ≤ max }
+        requires few { max ≤ 65536 }
+        requires once { 1 ≤ generations }
+        requires some_tasks { 1 ≤ tasks }
+        requires few_tasks { tasks ≤ 65536 }
+        ensures generations { IfOk result (λ q. q.pool.generations ≡ generations) }
+        ensures slots { IfOk result (λ q. q.pool.slots ≡ replicate max (free_slot 1)) }
+        ensures tasks { IfOk result (λ q. q.tasks ≡ tasks) }
+    {
+        Ok(Queues {
+            pool: Pool::new(alloc, max, generations)?,
+            tasks: LinkedLists::new(alloc, max, tasks)?,
+        })
+    }
+
+    /// Makes an enabled queue with no tasks. `ErrQueueExists` where a live queue has the id, then `ErrQueueLimit` where there is no room.
+    pub fn create(&mut self, id: u32, job: u32, attr: QueueAttr) -> Result<QueueHandle, MtapiStatus>
+        ensures { Creates self.old (new_queue id job attr) result self.new }
+    {
+        if self.get(id).is_ok() {
+            return Err(MtapiStatus::ErrQueueExists);
+        }
+        let Ok(handle) = self.pool.insert(StoredQueue::new(id, job, &attr)) else {
+            return Err(MtapiStatus::ErrQueueLimit);
+        };
+        Ok(QueueHandle(handle))
+    }
+
+    /// The live queue of an id. `ErrQueueInvalid` where there is none.
+    pub fn get(&self, id: u32) -> Result<QueueHandle, MtapiStatus>
+        ensures { Finds self.now.pool id result }
+    {
+        match find(&self.pool, id) {
+            Some(handle) => Ok(QueueHandle(handle)),
+            None => Err(MtapiStatus::ErrQueueInvalid),
+        }
+    }
+
+    /// Has the tasks of a queue begin again. `ErrQueueInvalid` where it isn't live.
+    pub fn enable(&mut self, q: QueueHandle) -> Result<(), MtapiStatus>
+        ensures reply { result ≡ live_reply (get self.old.pool q.0) }
+        ensures new { self.new ≡ record self.old { pool = changed self.old.pool q.0 (with_opened true) } }
+    {
+        self.set_enabled(q, true)
+    }
+
+    /// Has no further task of a queue begin. `ErrQueueInvalid` where it isn't live.
+    pub fn disable(&mut self, q: QueueHandle) -> Result<(), MtapiStatus>
+        ensures reply { result ≡ live_reply (get self.old.pool q.0) }
+        ensures new { self.new ≡ record self.old { pool = changed self.old.pool q.0 (with_opened false) } }
+    {
+        self.set_enabled(q, false)
+    }
+
+    fn set_enabled(&mut self, q: QueueHandle, enabled: bool) -> Result<(), MtapiStatus>
+        ensures reply { result ≡ live_reply (get self.old.pool q.0) }
+        ensures new { self.new ≡ record self.old { pool = changed self.old.pool q.0 (with_opened enabled) } }
+    {
+        let Some(queue) = self.pool.get_mut(q.0) else {
+            return Err(MtapiStatus::ErrQueueInvalid);
+        };
+        queue.set_enabled(enabled);
+        Ok(())
+    }
+
+    /// Gives up a queue and forgets its tasks. `ErrQueueInvalid` where it isn't live.
+    pub fn delete(&mut self, q: QueueHandle) -> Result<(), MtapiStatus>
+        ensures reply { result ≡ live_reply (get self.old.pool q.0) }
+        ensures ok { OnOk result (self.new ≡ record self.old { pool = without self.old.pool q.0 }) }
+        ensures err { OnErr result (self.new ≡ self.old) }
+    {
+        let Some(_) = self.pool.remove(q.0) else {
+            return Err(MtapiStatus::ErrQueueInvalid);
+        };
+        self.tasks.clear(slot_of(q.0));
+        Ok(())
+    }
+
+    /// Puts a task behind the others. `ErrQueueInvalid` where the queue isn't live, then `ErrQueueDisabled` where it is disabled and doesn't
+    /// retain, then `ErrQueueLimit` where its unended tasks equal its limit. No unended task of any live queue may have the task's slot.
+    pub fn put(&mut self, q: QueueHandle, t: TaskHandle) -> Result<(), MtapiStatus>
+        requires slot { slot_of t.0 < self.old.tasks }
+        requires alone { NoTaskAt (slot_of t.0) self.old.pool }
+        ensures reply { result ≡ put_reply (get self.old.pool q.0) }
+        ensures ok { OnOk result (self.new ≡ record self.old { pool = changed self.old.pool q.0 (with_task t.0) }) }
+        ensures err { OnErr result (self.new ≡ self.old) }
+    {
+        let Some(queue) = self.pool.get(q.0) else {
+            return Err(MtapiStatus::ErrQueueInvalid);
+        };
+        if let Some(status) = queue.put_refusal() {
+            return Err(status);
+        }
+        if self.tasks.len(slot_of(q.0)) == queue.limit() {
+            return Err(MtapiStatus::ErrQueueLimit);
+        }
+        self.tasks.push(slot_of(q.0), t.0);
+        Ok(())
+    }
+
+    /// Takes an unended task out of its queue.
+    pub fn ended(&mut self, q: QueueHandle, t: TaskHandle)
+        requires { IsUnendedTask t.0 (get self.old.pool q.0) }
+        ensures { self.new ≡ record self.old { pool = changed self.old.pool q.0 (without_task t.0) } }
+    {
+        self.tasks.remove(slot_of(q.0), t.0);
+    }
+
+    /// The unended task of a live queue that was put first.
+    pub fn head(&self, q: QueueHandle) -> Option<TaskHandle>
+        ensures { option_map (λ (t : TaskHandle). t.0) result ≡ first_task (get self.now.pool q.0) }
+    {
+        let Some(_) = self.pool.get(q.0) else {
+            return None;
+        };
+        match self.tasks.first(slot_of(q.0)) {
+            Some(task) => Some(TaskHandle(task)),
+            None => None,
+        }
+    }
+
+    /// A live queue at a glance.
+    pub fn facts(&self, q: QueueHandle) -> Option<QueueFacts>
+        ensures { result ≡ option_map facts_of (get self.now.pool q.0) }
+    {
+        match self.pool.get(q.0) {
+            Some(queue) => Some(queue.facts(self.tasks.len(slot_of(q.0)))),
+            None => None,
+        }
+    }
+}
+
+// The handle of the live queue of an id.
+fn find(pool: &Pool<StoredQueue>, id: u32) -> Option<u64>
+    ensures { FindsIn pool.now id result }
+{
+    for place in 0..pool.max() {
+        if let Some((handle, queue)) = pool.slot_at(place) {
+            if queue.id() == id {
+                return Some(handle);
+            }
+        }
+    }
+    None
+}
+
+#[cfg(test)]
+mod tests {
+    use super::*;
+    use std::test::Fail;
+
+    const FIRST: TaskHandle = TaskHandle(4294967296);
+
+    const SECOND: TaskHandle = TaskHandle(4294967297);
+
+    const THIRD: TaskHandle = TaskHandle(4294967298);
+
+    #[test]
+    fn a_third_task_is_over_the_limit(rt: HostRuntime) -> Result<(), Fail> {
+        let mut attr = QueueAttr::new();
+        assert_eq!(rt; attr.set(3, 2), Ok(()));
+        let mut queues = Queues::new(rt.alloc(), 1, 5, 3)?;
+        let Ok(q) = queues.create(1, 7, attr) else {
+            return Err("no queue")?;
+        };
+        let Ok(()) = queues.put(q, FIRST) else {
+            return Err("refused")?;
+        };
+        let Ok(()) = queues.put(q, SECOND) else {
+            return Err("refused")?;
+        };
+        assert_eq!(rt; queues.put(q, THIRD), Err(MtapiStatus::ErrQueueLimit));
+        assert_eq!(rt; queues.head(q), Some(FIRST));
+        Ok(())
+    }
+
+    #[test]
+    fn a_queue_without_tasks(rt: HostRuntime) -> Result<(), Fail> {
+        let mut queues = Queues::new(rt.alloc(), 1, 5, 3)?;
+        assert_eq!(rt; queues.get(1), Err(MtapiStatus::ErrQueueInvalid));
+        let q = queues
+            .create(1, 7, QueueAttr::new())
+            .ok()
+            .ok_or("no queue")?;
+        assert_eq!(rt;
+            queues.create(1, 7, QueueAttr::new()),
+            Err(MtapiStatus::ErrQueueExists)
+        );
+        assert_eq!(rt;
+            queues.create(2, 7, QueueAttr::new()),
+            Err(MtapiStatus::ErrQueueLimit)
+        );
+        assert_eq!(rt; queues.get(1), Ok(q));
+        assert_eq!(rt; queues.disable(q), Ok(()));
+        assert_eq!(rt; queues.facts(q).map(|facts| facts.enabled), Some(false));
+        assert_eq!(rt; queues.enable(q), Ok(()));
+        assert_eq!(rt; queues.facts(q).map(|facts| facts.unended), Some(0));
+        assert_eq!(rt; queues.delete(q), Ok(()));
+        assert_eq!(rt; queues.head(q), None);
+        Ok(())
+    }
+}

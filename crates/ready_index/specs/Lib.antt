@@ -1,0 +1,4 @@
+pub mod Bits
+pub mod Marks
+pub mod Levels
+pub mod Index

@@ -1,0 +1,4 @@
+pub mod Tasks
+pub mod Records
+pub mod Answers
+pub mod Table

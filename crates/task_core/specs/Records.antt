@@ -1,0 +1,48 @@
+-- How the code's task records are seen as tasks, and what is read from one.
+use Rattle.std.specs.Prelude.{ℕ, ◌≤◌, List, ℤ, Option, Some, None, unwrap_or}
+use Rattle.std.specs.Option.{option_map}
+use Rattle.mtapi_values.specs.declared.ends.TaskEnd.{TaskEnd}
+use Rattle.mtapi_values.specs.declared.handles.GroupHandle.{GroupHandle}
+use Rattle.mtapi_values.specs.declared.handles.QueueHandle.{QueueHandle}
+use Rattle.task_core.specs.Tasks.{TaskState, Scheduled, Running, Over, NewTask, looks_of}
+use Rattle.task_core.specs.declared.record.Progress.{Progress}
+use Rattle.task_core.specs.declared.record.Progress.TheVariants.{Waiting, Begun, Done}
+use Rattle.task_core.specs.declared.states.TaskState.{TaskState as ShownState}
+use Rattle.task_core.specs.declared.states.TaskState.TheVariants.{Scheduled as ShownScheduled, Running as ShownRunning, Ended as ShownEnded}
+use Rattle.task_core.specs.declared.states.NewTask.{NewTask as AskedTask}
+
+-- the numbers of handles
+abbrev pub group_number : Option GroupHandle → Option ℕ
+group_number g = option_map (λ (h : GroupHandle). h.0) g
+
+abbrev pub queue_number : Option QueueHandle → Option ℕ
+queue_number q = option_map (λ (h : QueueHandle). h.0) q
+
+-- what a start or an enqueue asks for, with plain numbers
+abbrev pub asked_task : AskedTask → NewTask
+asked_task t = record { job = t.job; args = t.args; priority = t.priority; cores = t.cores.0; detached = t.detached; group = group_number t.group; queue = queue_number t.queue }
+
+-- how far the task has come
+abbrev pub state_of : Progress → TaskState
+state_of Waiting = Scheduled
+state_of (Begun worker kind) = Running worker kind
+state_of (Done end number) = Over end number
+
+-- a state without the end
+abbrev pub shown_state : TaskState → ShownState
+shown_state Scheduled = ShownScheduled
+shown_state (Running worker kind) = ShownRunning worker kind
+shown_state (Over end number) = ShownEnded
+
+-- the end, and its number
+abbrev pub end_in : Option (TaskEnd × ℕ) → Option TaskEnd
+end_in None = None
+end_in (Some e) = Some e.0
+
+abbrev pub number_in : Option (TaskEnd × ℕ) → Option ℕ
+number_in None = None
+number_in (Some e) = Some e.1
+
+-- a watch has looked no more often than its arguments say
+abbrev pub LooksWithin : List ℤ → ℕ → Type 0
+LooksWithin args looks = looks ≤ unwrap_or (looks_of args) 0

@@ -1,0 +1,61 @@
+-- All tasks: their slots, and how many were started and have ended.
+use Rattle.std.specs.Prelude.{◌≡◌, ℕ, ◌+◌, ◌≤◌, ◌^◌, Bool, true, false, List, Option, Some, None, is_some, Result, Ok, Err, count_by, if◌then◌else◌}
+use Rattle.mtapi_values.specs.declared.statuses.MtapiStatus.{MtapiStatus}
+use Rattle.mtapi_values.specs.declared.statuses.MtapiStatus.TheVariants.{ErrTaskLimit}
+use Rattle.mtapi_values.specs.declared.handles.TaskHandle.{TaskHandle}
+use Rattle.mtapi_values.specs.declared.ends.TaskEnd.{TaskEnd}
+use Rattle.mtapi_values.specs.Conditions.{first}
+use Rattle.handle_pool.specs.Slots.{Slot, Slots, get, IsFull, Inserts, with_value, without}
+use Rattle.task_core.specs.Tasks.{Task, Over, NewTask, new_task, end_of, is_unended, with_state, with_waiter, task_look_refusals}
+use Rattle.task_core.specs.Answers.{without_group, waiter_after}
+
+-- the slots of the tasks, how many tasks were added, and how many have ended
+pub record TaskTable : Type 0 where
+  pub pool : Slots Task
+  pub starts : ℕ
+  pub ends : ℕ
+
+-- an add: refused exactly where there is no room; else a scheduled task with the next number of a start
+abbrev pub Adds : TaskTable → NewTask → Result TaskHandle MtapiStatus → TaskTable → Type 0
+Adds old task (Ok t) new = (IsFull old.pool → ⊥) × Inserts old.pool new.pool t.0 (new_task task old.starts) × (new.starts ≡ old.starts + 1) × (new.ends ≡ old.ends)
+Adds old task (Err ErrTaskLimit) new = IsFull old.pool × (new ≡ old)
+Adds old task (Err _) new = ⊥
+
+-- a live task that passes
+abbrev pub IsLiveAnd : (Task → Bool) → Option Task → Type 0
+IsLiveAnd p None = ⊥
+IsLiveAnd p (Some t) = p t ≡ true
+
+-- the slots once the task has ended so: a detached one stops being live
+abbrev pub ended_in : Slots Task → ℕ → TaskEnd → ℕ → Option Task → Slots Task
+ended_in p h end number None = p
+ended_in p h end number (Some t) = if t.detached then without p h else with_value p h (with_state (Over end number) t)
+
+-- the slots once the task has left its group: an ended one stops being live
+abbrev pub detached_in : Slots Task → ℕ → Option Task → Slots Task
+detached_in p h None = p
+detached_in p h (Some t) = if is_unended t then with_value p h (without_group t) else without p h
+
+-- the slots after a look: an ended task stops being live, another has its waiter set or taken away, and a refusal changes nothing
+abbrev pub looked_in : Slots Task → ℕ → ℕ → Bool → Option Task → Slots Task
+looked_in p h who last None = p
+looked_in p h who last (Some t) =
+    if is_some (first (task_look_refusals who t)) then p
+    else if is_unended t then with_value p h (with_waiter (waiter_after who last) t) else without p h
+
+-- a slot with a task that hasn't ended
+abbrev pub holds_unended : Slot Task → Bool
+holds_unended slot = unended_in slot.value
+  where
+    unended_in : Option Task → Bool
+    unended_in None = false
+    unended_in (Some t) = is_unended t
+
+-- how many tasks haven't ended
+abbrev pub unended_count : Slots Task → ℕ
+unended_count p = count_by holds_unended p.slots
+
+-- what the numbers of starts and ends keep: each task ends at most once
+pub record AreCounted (p : Slots Task) (starts ends : ℕ) : Type 0 where
+  pub once : ends + unended_count p ≤ starts
+  pub few : starts ≤ 2 ^ 63
