@@ -1,8 +1,12 @@
 //! The program: its words, its input and its outputs, given to the command.
 #![tactic(auto)]
 
+use action_fn::{
+    FnTable, StoredFn, act_add, act_div, act_echo, act_fail, act_gcd, act_max, act_mul,
+    act_triangle,
+};
 use mtapi_top::command;
-use node_core::action_fn::PlainActions;
+use mtapi_values::Kind;
 use std::alloc::AllocError;
 use std::env;
 use std::process::ExitCode;
@@ -19,6 +23,20 @@ fn words_of(rt: &HostRuntime) -> Result<Vec<String>, AllocError> {
     Ok(words)
 }
 
+/// The function of each pure kind.
+fn functions() -> FnTable {
+    FnTable::new(
+        StoredFn::new(Kind::Add, act_add),
+        StoredFn::new(Kind::Mul, act_mul),
+        StoredFn::new(Kind::Max, act_max),
+        StoredFn::new(Kind::Div, act_div),
+        StoredFn::new(Kind::Gcd, act_gcd),
+        StoredFn::new(Kind::Echo, act_echo),
+        StoredFn::new(Kind::Triangle, act_triangle),
+        StoredFn::new(Kind::Fail, act_fail),
+    )
+}
+
 /// Runs the command over the standard input and outputs.
 fn run(rt: &HostRuntime) -> Result<u8, AllocError> {
     let alloc = rt.alloc();
@@ -30,14 +48,8 @@ fn run(rt: &HostRuntime) -> Result<u8, AllocError> {
     let mut src = StdSource::new(rt.stdin());
     let mut out = StdSink::new(rt.stdout());
     let mut err = StdSink::new(rt.stderr());
-    let outcome = command(
-        alloc,
-        &words,
-        &mut src,
-        &mut out,
-        &mut err,
-        &mut PlainActions,
-    );
+    let mut acts = functions();
+    let outcome = command(alloc, &words, &mut src, &mut out, &mut err, &mut acts);
     Ok(outcome.status)
 }
 

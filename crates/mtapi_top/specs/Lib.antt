@@ -1,1 +1,3 @@
+pub mod Built
+pub mod Headline
 pub mod Command

@@ -1,12 +1,15 @@
 //! The command: it reads a workload, makes its run and writes its report.
 #![tactic(auto)]
 
-mod report;
-mod run;
+mod built;
+mod carry;
+mod ends;
+mod pieces;
+mod telling;
 #[cfg(test)]
 mod tests;
-mod top;
 
-pub use report::report_of;
-pub use run::run_inline;
-pub use top::{End, Outcome, command};
+pub use carry::command;
+pub use ends::{End, Outcome};
+pub use run_report::report_of;
+pub use sched_workers::run_inline;

@@ -1,10 +1,17 @@
+//! The command on worked workloads, over sources and sinks in memory.
+
 use crate::command;
-use node_core::action_fn::PlainActions;
+use action_fn::{
+    FnTable, StoredFn, act_add, act_div, act_echo, act_fail, act_gcd, act_max, act_mul,
+    act_triangle,
+};
+use mtapi_values::Kind;
+use std::alloc::Global;
+use std::process::Abort;
 use workload_file::{MemSink, MemSource};
 
-const ROW: &[u8] = b"action a job=1 kind=add\nstart t job=1 args=1,2,3\nwait t timeout=inf\n";
-
-/// A source that fails at this call (0: at none) and a sink that does, and what the command then says.
+/// One run of the command: at most so many bytes a call of the source and of the sink, the call at which each fails (0: at none), and
+/// what the command then says.
 #[derive(Drop)]
 struct Case {
     words: [&'static str; 2],
@@ -23,7 +30,7 @@ fn plain() -> Case {
     Case {
         words: ["run", "x"],
         count: 1,
-        text: ROW,
+        text: b"action a job=1 kind=add\nstart t job=1 args=1,2,3\nwait t timeout=inf\n",
         most: 4096,
         source_fails: 0,
         sink_fails: 0,
@@ -33,10 +40,61 @@ fn plain() -> Case {
     }
 }
 
+/// A workload and its report.
+fn reported(text: &'static [u8], out: &'static [u8]) -> Case {
+    Case {
+        text,
+        out,
+        ..plain()
+    }
+}
+
+/// A workload that is refused, and the message.
+fn refused(text: &'static [u8], err: &'static [u8]) -> Case {
+    Case {
+        text,
+        status: 3,
+        out: b"",
+        err,
+        ..plain()
+    }
+}
+
+fn table() -> FnTable {
+    FnTable::new(
+        StoredFn::new(Kind::Add, act_add),
+        StoredFn::new(Kind::Mul, act_mul),
+        StoredFn::new(Kind::Max, act_max),
+        StoredFn::new(Kind::Div, act_div),
+        StoredFn::new(Kind::Gcd, act_gcd),
+        StoredFn::new(Kind::Echo, act_echo),
+        StoredFn::new(Kind::Triangle, act_triangle),
+        StoredFn::new(Kind::Fail, act_fail),
+    )
+}
+
+/// Runs the command on a case, and compares all that it says.
+fn check<R: Abort>(rt: &R, alloc: Global, case: &Case) {
+    let bytes = case.text.to_vec(alloc).expect(rt, "memory");
+    let source_fails = vec![in alloc; case.source_fails].expect(rt, "memory");
+    let sink_fails = vec![in alloc; case.sink_fails].expect(rt, "memory");
+    let mut src = MemSource::new(bytes, case.most.max(1), source_fails);
+    let mut out = MemSink::new(alloc, 4096, case.most.max(1), sink_fails).expect(rt, "memory");
+    let mut err = MemSink::new(alloc, 4096, 4096, Vec::new(alloc)).expect(rt, "memory");
+    let words = &case.words[..case.count.min(2)];
+    let mut acts = table();
+    let outcome = command(alloc, words, &mut src, &mut out, &mut err, &mut acts);
+    assert_eq!(rt; outcome.status, case.status);
+    assert_eq!(rt; out.bytes(), case.out);
+    assert_eq!(rt; err.bytes(), case.err);
+    assert_eq!(rt;
+        outcome.journal.is_some(),
+        case.status == 0 || case.status == 5
+    );
+}
+
 #[test]
-fn ends_as_it_should(rt: HostRuntime) {
-    let alloc = rt.alloc();
-    let refused = b"mtapi: workload refused\n".as_slice();
+fn words_and_faults(rt: HostRuntime) {
     let none = b"".as_slice();
     for case in [
         plain(),
@@ -53,20 +111,6 @@ fn ends_as_it_should(rt: HostRuntime) {
             status: 2,
             out: none,
             err: b"usage: mtapi run\n",
-            ..plain()
-        },
-        Case {
-            text: b"",
-            status: 3,
-            out: none,
-            err: refused,
-            ..plain()
-        },
-        Case {
-            text: b"foo x\n",
-            status: 3,
-            out: none,
-            err: refused,
             ..plain()
         },
         Case {
@@ -91,43 +135,75 @@ fn ends_as_it_should(rt: HostRuntime) {
             err: b"mtapi: write fault\n",
             ..plain()
         },
-        Case {
-            text: b"action a job=2 kind=add\nstart t job=1 args=1\nwait t timeout=inf\n",
-            out: b"main.t refused MTAPI_ERR_JOB_INVALID\n! main 3 MTAPI_ERR_TASK_INVALID\n",
-            ..plain()
-        },
-        Case {
-            text: b"action a job=1 kind=add\nstart t job=1 args=9223372036854775807,1\nwait t timeout=inf\n",
-            out: b"main.t error MTAPI_ERR_ACTION_FAILED\n",
-            ..plain()
-        },
-        Case {
-            text: b"action a job=1 kind=add\nstart t job=1 args=9223372036854775806,1\nwait t timeout=inf\n",
-            out: b"main.t completed 9223372036854775807\n",
-            ..plain()
-        },
     ] {
-        let bytes = case.text.to_vec(alloc).expect(&rt, "memory");
-        let source_fails = vec![in alloc; case.source_fails].expect(&rt, "memory");
-        let sink_fails = vec![in alloc; case.sink_fails].expect(&rt, "memory");
-        let mut src = MemSource::new(bytes, case.most, source_fails);
-        let mut out = MemSink::new(alloc, 4096, case.most, sink_fails).expect(&rt, "memory");
-        let mut err = MemSink::new(alloc, 4096, 4096, Vec::new(alloc)).expect(&rt, "memory");
-        let words = &case.words[..case.count];
-        let outcome = command(
-            alloc,
-            words,
-            &mut src,
-            &mut out,
-            &mut err,
-            &mut PlainActions,
-        );
-        assert_eq!(&rt; outcome.status, case.status);
-        assert_eq!(&rt; out.bytes(), case.out);
-        assert_eq!(&rt; err.bytes(), case.err);
-        assert_eq!(&rt;
-            outcome.journal.is_some(),
-            case.status == 0 || case.status == 5
-        );
+        check(&rt, rt.alloc(), &case);
+    }
+}
+
+#[test]
+fn refused_texts(rt: HostRuntime) {
+    for case in [
+        refused(b"foo x\n", b"mtapi: line 1: unknown word\n"),
+        refused(
+            b"action a job=1 kind=add\nstart t job=1 args=1,2,3\nwait t",
+            b"mtapi: line 3: option missing\n",
+        ),
+        refused(
+            b"action a job=1 kind=add\nstart t job=1\nstart t job=1\n",
+            b"mtapi: line 3: name taken\n",
+        ),
+        refused(b"caller a", b"mtapi: line 1: not built\n"),
+        refused(b"begin\ngroup g\ncaller a\n", b"mtapi: line 2: not built\n"),
+        refused(
+            b"action a job=1 kind=watch\n",
+            b"mtapi: line 1: not built\n",
+        ),
+    ] {
+        check(&rt, rt.alloc(), &case);
+    }
+}
+
+#[test]
+fn reports(rt: HostRuntime) {
+    for case in [
+        reported(b"", b""),
+        reported(
+            b"action a job=1 kind=add\nstart t job=1 args=1,2,3\nwait t timeout=inf",
+            b"main.t completed 6\n",
+        ),
+        reported(
+            b"start t job=1 args=1\n",
+            b"main.t refused MTAPI_ERR_JOB_INVALID\n",
+        ),
+        reported(
+            b"action a job=1 kind=div\nstart t job=1 args=1,0\nwait t timeout=inf\n",
+            b"main.t error MTAPI_ERR_ACTION_FAILED\n",
+        ),
+        reported(
+            b"action a job=1 kind=mul\nstart t job=1 args=4611686018427387904,4,0\nwait t timeout=inf\n",
+            b"main.t error MTAPI_ERR_ACTION_FAILED\n",
+        ),
+        reported(
+            b"action a job=1 kind=add\nstart t job=1 args=9223372036854775806,1\nwait t timeout=inf\n",
+            b"main.t completed 9223372036854775807\n",
+        ),
+        reported(
+            b"node max_tasks=1\naction a job=1 kind=add\nstart t job=1 args=1\nstart u job=1 args=2\nwait u timeout=inf\nwait t timeout=inf\n",
+            b"main.t completed 1\nmain.u refused MTAPI_ERR_TASK_LIMIT\n! main 5 MTAPI_ERR_TASK_INVALID\n",
+        ),
+        reported(
+            b"node max_tasks=1 generations=1\naction a job=1 kind=add\nstart t job=1 args=1\nwait t timeout=inf\nstart u job=1 args=2\n",
+            b"main.t completed 1\nmain.u refused MTAPI_ERR_TASK_LIMIT\n",
+        ),
+        reported(
+            b"node workers=2\naction a job=1 kind=add cores=0\nstart t job=1 args=1 cores=1\nwait t timeout=nowait\n",
+            b"main.t refused MTAPI_ERR_NO_CORE\n! main 4 MTAPI_ERR_TASK_INVALID\n",
+        ),
+        reported(
+            b"action a job=1 kind=echo\nstart t job=1 args=1,-2\ncancel t\nstart u job=1\nwait u timeout=3\n",
+            b"main.t cancelled\nmain.u completed\n",
+        ),
+    ] {
+        check(&rt, rt.alloc(), &case);
     }
 }

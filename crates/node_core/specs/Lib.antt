@@ -1,0 +1,5 @@
+pub mod Stands
+pub mod Picks
+pub mod Starts
+pub mod Journals
+pub mod Logs

@@ -1,13 +1,23 @@
-//! The node: the machine that carries out the ops of its seats, one after the other.
+//! The node: one value that carries out each op as the one-thread machine says, and a node with a journal of its calls.
 //!
-//! The seats 0 to W-1 are the workers, seat W is main, and the further callers follow.
+//! `specs/Stands.antt` says what it means that a node stands for a history; every op is a step of the machine.
 #![tactic(auto)]
 
-pub mod action_fn;
-mod node;
-mod ops;
+mod action_ops;
+pub mod entries;
+#[cfg(test)]
+mod journal_tests;
+pub mod journaled;
+pub mod node;
+mod object;
+mod phase_ops;
+mod task_ops;
 #[cfg(test)]
 mod tests;
+mod walks;
+mod work_ops;
 
+pub use entries::{EntryList, Journal};
+pub use journaled::{Journaled, JournaledTerms};
+pub use mtapi_machine::{Entry, Op, Phase, Reply, Terms};
 pub use node::Node;
-pub use ops::{Entry, Journal, Op, Reply};

@@ -4,10 +4,10 @@ use Rattle.std.specs.List.{list_all}
 use Rattle.std.specs.Char.{is_ascii_digit}
 use Rattle.std.specs.Result.{OkIff, result_ok}
 use Rattle.std.specs.Str.{IsUtf8}
-use Rattle.std.specs.Str.Parse.{digits_value, AllDigits, ParsesUnsigned, ParsesSigned}
-use Rattle.std.proofs.lemmas.Str.Parse.{IsNumeralModel, IsDigitsTest, numerals_by_value, parse_digits, parse_signed_digits, parse_signed_minus}
+use Rattle.std.specs.Str.Parse.{digits_value, ParsesUnsigned, ParsesSigned}
+use Rattle.std.proofs.lemmas.Str.Parse.{IsNumeralModel, numerals_by_value, parse_digits, parse_signed_digits, parse_signed_minus}
 use Rattle.std.proofs.lemmas.Str.{IsUtf8-from_ascii}
-use Rattle.std.specs.Prelude.{IsTrue, ◌↔◌}
+use Rattle.std.specs.Prelude.{IsTrue}
 use Rattle.std.specs.Bool.{OnTrue}
 use Rattle.std.proofs.lemmas.List.{length_push, append-nil, length-drop, get_or-drop}
 use Rattle.std.proofs.lemmas.Bool.{ltb-true, lt-ltb, leb-true, le-leb, cases_eq}
@@ -16,8 +16,7 @@ use Rattle.std.proofs.lemmas.Nat.{one_shl}
 use Rattle.std.proofs.Math.Nat.{pow-le-pow_right}
 use Rattle.std.proofs.lemmas.Fmt.{IsAscii-from_digits}
 use Rattle.std.proofs.Common.{rules}
-use Rattle.workload_file.specs.Cuts.{between}
-use Rattle.workload_file.specs.Values.{◌>>=◌, args_of, whole, wholes}
+use Rattle.workload_file.specs.Values.{◌>>=◌, between, args_of, whole, wholes, number_within, bits_from}
 
 pub own : IsNumeralModel (λ ds. list_all is_ascii_digit ds ≡ true) (digits_value 10)
 own = numerals_by_value _ (search rules)
@@ -49,6 +48,25 @@ pub args_done : (front : List ℤ) (total : Option (List ℤ)) → with_front fr
 unfolding wholes
 args_done front total h = sym h ∙ ap Some (append-nil front)
 
+abbrev pub add_bits : ℕ → Option ℕ → Option ℕ
+add_bits mask rest = rest >>= λ bits. Some (mask + bits)
+
+add_step : (mask power : ℕ) (rest : Option ℕ) → add_bits mask (rest >>= λ bits. Some (power + bits)) ≡ add_bits (mask + power) rest
+add_step mask power None = refl
+add_step mask power (Some bits) = ap Some (omega arith)
+
+pub cores_more : (mask low core : ℕ) (part : List ℕ) (rest : List (List ℕ)) (total : Option ℕ) → Some core ≡ number_within low 63 part → add_bits mask (bits_from low (part ∷ rest)) ≡ total → add_bits (mask + 2 ^ core) (bits_from (core + 1) rest) ≡ total
+unfolding bits_from
+cores_more mask low core part rest total e h = sym (add_step mask (2 ^ core) (bits_from (core + 1) rest)) ∙ (rw (← e) at h)
+
+pub cores_end : (mask low : ℕ) (part : List ℕ) (rest : List (List ℕ)) (total : Option ℕ) → None ≡ number_within low 63 part → add_bits mask (bits_from low (part ∷ rest)) ≡ total → total ≡ None
+unfolding bits_from
+cores_end mask low part rest total e h = sym (rw (← e) at h)
+
+pub cores_done : (mask low : ℕ) (total : Option ℕ) → add_bits mask (bits_from low []) ≡ total → total ≡ Some mask
+unfolding bits_from
+cores_done mask low total h = sym h ∙ ap Some (omega arith)
+
 pub parsed_is : {E : Type 0} (bs : List ℕ) (r : Result ℕ E) → ParsesUnsigned 32 10 bs r → list_all is_ascii_digit bs ≡ true → 0 < length bs → result_ok r ≡ cond (ltb (digits_value 10 bs) (2 ^ 32)) (Some (digits_value 10 bs)) None
 parsed_is bs r h digits some = ok_iff_option r _ (digits_value 10 bs) _ (parse_digits own 32 bs r h digits) (λ b. (some, ltb-true _ _ b)) (λ p. lt-ltb _ _ p.1)
 
@@ -72,6 +90,15 @@ pub some_is : (text : List ℕ) (front : List ℤ) → length (between 44 text) 
 unfolding args_of
 some_is text front le e = rw (le-leb _ _ le, e) refl
 
-pub pushed : (old new : List ℤ) (z : ℤ) (r : Bool) → r ≡ true → OnTrue r (new ≡ old ++ z ∷ []) → (IsTrue r ↔ (length old < 16)) → (length old < 16) × (new ≡ old ++ z ∷ []) × (length new ≡ length old + 1)
-pushed old new z true t h i = (i.0 refl, h, rw h (length_push old z))
-pushed old new z false t h i = absurd cc
+pub shl_core : (core : ℕ) → core ≤ 63 → 1 * 2 ^ core % 18446744073709551616 ≡ 2 ^ core
+shl_core core le = one_shl core 64 (omega arith)
+
+pub room_more : (mask low core : ℕ) → mask < 2 ^ low → low ≤ core → mask + 2 ^ core < 2 ^ (core + 1)
+room_more mask low core lt le =
+    let p : 2 ^ low ≤ 2 ^ core = pow-le-pow_right (lit< tt) le in
+    let q : 2 ^ (core + 1) ≡ 2 * 2 ^ core = rw add-one (omega arith) in
+    omega (arith, p, q)
+
+pub pushed : (old new : List ℤ) (z : ℤ) (r : Bool) → r ≡ true → (IsTrue r → length old < 16) → OnTrue r (new ≡ old ++ z ∷ []) → (length old < 16) × (new ≡ old ++ z ∷ []) × (length new ≡ length old + 1)
+pushed old new z true t room h = (room refl, h, rw h (length_push old z))
+pushed old new z false t room h = absurd cc

@@ -1,13 +1,15 @@
 -- Texts that are cut at a byte.
-use Rattle.std.proofs.Common.{◌≡◌, ℕ, ◌+◌, ◌-◌, ◌<◌, ◌≤◌, List, [], ◌∷◌, ◌++◌, Bool, true, false, cond, not, ltb, eqb, length, take, drop, Option, Some, None, refl, sym, ap, ◌∙◌, arith, append_assoc, inl, inr}
-use Rattle.std.specs.Prelude.{IfSome, position, filter, nat_lt, map}
-use Rattle.std.specs.List.{before_first, after_first, position_or_len, slice_split, onto_first, prefix_len}
-use Rattle.std.proofs.lemmas.Bool.{ltb-true, ltb-false, cases_Bool, lt-ltb, le-ltb}
+use Rattle.std.proofs.Common.{◌≡◌, ℕ, ◌+◌, ◌<◌, ◌≤◌, List, [], ◌∷◌, ◌++◌, Bool, eqb, length, take, drop, Option, Some, None, refl, sym, ◌∙◌, arith, append_assoc, inl, inr}
+use Rattle.std.specs.Prelude.{IfSome, position, nat_lt}
+use Rattle.std.specs.List.{position_or_len, slice_split}
+use Rattle.std.proofs.lemmas.Bool.{ltb-true, ltb-false, cases_Bool}
 use Rattle.std.proofs.lemmas.List.Splits.{slice_split_first}
-use Rattle.workload_file.specs.Cuts.{between}
+use Rattle.workload_file.specs.Values.{between}
 use denote.Ref.{Bor}
-use Rattle.std.proofs.lemmas.List.{map-append}
-use Rattle.workload_file.specs.Cuts.{texts}
+use Rattle.std.proofs.lemmas.List.{map-append, append-nil}
+use Rattle.std.specs.List.{join_with_byte}
+use Rattle.workload_file.specs.Led.{led}
+use Rattle.workload_file.specs.Texts.{texts}
 
 -- where no element passes, the list is one piece
 split_none : {X : Type 0} (p : X → Bool) (xs : List X) → length xs ≤ position_or_len p xs → slice_split p xs ≡ xs ∷ []
@@ -57,3 +59,12 @@ texts_push words w = map-append (λ w. w.now) words (w ∷ [])
 pub after_len : (after : Option (Bor (List ℕ))) (n : ℕ) → IfSome after (λ r. length r.now < n) → left_len after ≤ n
 after_len None n h = omega arith
 after_len (Some r) n h = omega (arith, h)
+
+-- texts joined by a byte: the first, and the others each behind it
+pub joined : (byte : ℕ) (text : List ℕ) (texts : List (List ℕ)) → join_with_byte byte (text ∷ texts) ≡ text ++ led byte texts
+joined byte text [] = sym (append-nil text)
+joined byte text (next ∷ texts) = rw (joined byte next texts) refl
+
+pub led_append : (byte : ℕ) (xs ys : List (List ℕ)) → led byte (xs ++ ys) ≡ led byte xs ++ led byte ys
+led_append byte [] ys = refl
+led_append byte (x ∷ xs) ys = rw (led_append byte xs ys) (simp append_assoc)

@@ -1,4 +1,14 @@
-pub mod Cuts
-pub mod Grammar
-pub mod Loading
+pub mod Causes
 pub mod Values
+pub mod Table
+pub mod Texts
+pub mod Cuts
+pub mod Options
+pub mod Deeds
+pub mod Names
+pub mod Reading
+pub mod Indexed
+pub mod Loading
+pub mod Formed
+pub mod Written
+pub mod Led

@@ -1,9 +1,14 @@
--- Numbers, lists and names as texts.
-use Rattle.std.specs.Prelude.{ℕ, ℤ, pos, ◌-◌, ◌^◌, ◌==◌, ◌&&◌, ◌||◌, not, nat_lt, nat_le, Bool, true, false, List, [], ◌∷◌, length, drop, slice_index, Option, Some, None, if◌then◌else◌, neg_ℤ, option_and_then}
-use Rattle.std.specs.List.{list_all}
+-- Numbers, lists and words as texts.
+use Rattle.std.specs.Prelude.{ℕ, ℤ, pos, ◌+◌, ◌-◌, ◌^◌, ◌==◌, ◌&&◌, ◌||◌, not, nat_lt, nat_le, Bool, true, false, List, [], ◌∷◌, length, drop, codes, slice_index, Option, Some, None, if◌then◌else◌, neg_ℤ, option_and_then}
+use Rattle.std.specs.List.{slice_split, find, list_all}
+use Rattle.std.specs.Str.{bytes_eq}
 use Rattle.std.specs.Char.{is_ascii_digit}
 use Rattle.std.specs.Str.Parse.{digits_value}
-use Rattle.workload_file.specs.Cuts.{between}
+use Rattle.mtapi_values.specs.declared.kinds.Kind.{Kind}
+use Rattle.mtapi_values.specs.declared.kinds.Kind.TheVariants as kind
+use Rattle.mtapi_values.specs.declared.timeouts.Timeout.{Timeout}
+use Rattle.mtapi_values.specs.declared.timeouts.Timeout.TheVariants as timeout
+use Rattle.mtapi_values.specs.Kinds.{kind_word}
 
 -- decimal digits, one at least, and no zero in front of others
 abbrev pub is_decimal : List ℕ → Bool
@@ -24,11 +29,15 @@ whole text =
     then (if is_decimal (drop 1 text) && not (slice_index text 1 == 48) && nat_le (digits_value 10 (drop 1 text)) (2 ^ 63) then Some (neg_ℤ (pos (digits_value 10 (drop 1 text)))) else None)
     else (if is_decimal text && nat_lt (digits_value 10 text) (2 ^ 63) then Some (pos (digits_value 10 text)) else None)
 
+-- goes on with the value, where there is one
 infixl 10 ◌>>=◌
--- a step that is taken where the one before gave a value
 abbrev pub ◌>>=◌ : {A B : Type 0} → Option A → (A → Option B) → Option B
 None >>= f = None
 (Some x) >>= f = f x
+
+-- the texts between commas
+abbrev pub between : ℕ → List ℕ → List (List ℕ)
+between byte text = slice_split (λ b. b == byte) text
 
 -- each text is a number of i64
 unfoldable pub wholes : List (List ℕ) → Option (List ℤ)
@@ -42,7 +51,42 @@ wholes (text ∷ texts) = do
 unfoldable pub args_of : List ℕ → Option (List ℤ)
 args_of text = if nat_le (length (between 44 text)) 16 then wholes (between 44 text) else None
 
--- a letter from a to z
+-- ascending numbers below 64 and from low on, as bits
+unfoldable pub bits_from : ℕ → List (List ℕ) → Option ℕ
+bits_from low [] = Some 0
+bits_from low (text ∷ texts) = do
+  core ← number_within low 63 text
+  bits ← bits_from (core + 1) texts
+  Some (2 ^ core + bits)
+
+-- all cores, or those that are listed
+unfoldable pub cores_of : List ℕ → Option ℕ
+cores_of text = if bytes_eq text (codes "all") then Some (2 ^ 64 - 1) else bits_from 0 (between 44 text)
+
+-- the kinds of action
+abbrev pub kinds : List Kind
+kinds = kind.Add ∷ kind.Mul ∷ kind.Max ∷ kind.Div ∷ kind.Gcd ∷ kind.Echo ∷ kind.Triangle ∷ kind.Fail ∷ kind.Watch ∷ []
+
+-- the kind that a word names
+unfoldable pub kind_of : List ℕ → Option Kind
+kind_of text = find (λ k. bytes_eq (kind_word k) text) kinds
+
+-- yes or no
+unfoldable pub flag_of : List ℕ → Option Bool
+flag_of text = if bytes_eq text (codes "yes") then Some true else (if bytes_eq text (codes "no") then Some false else None)
+
+-- whether it is the writer
+unfoldable pub mode_of : List ℕ → Option Bool
+mode_of text = if bytes_eq text (codes "writer") then Some true else (if bytes_eq text (codes "reader") then Some false else None)
+
+-- one look, looks after the first, or looks without an end
+unfoldable pub timeout_of : List ℕ → Option Timeout
+timeout_of text =
+    if bytes_eq text (codes "nowait") then Some timeout.NoWait
+    else (if bytes_eq text (codes "inf") then Some timeout.Infinite
+    else (number_within 0 1000000 text >>= λ n. Some (timeout.Looks n)))
+
+-- a letter a to z
 abbrev pub is_letter : ℕ → Bool
 is_letter b = nat_le 97 b && nat_le b 122
 

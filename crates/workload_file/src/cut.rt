@@ -1,7 +1,9 @@
 //! Texts cut at a byte.
-ghost use Rattle.std.specs.Prelude.{◌≡◌, ◌==◌, ◌<◌, ◌∷◌, [], length, position, IfOk, IfSome, IfNone};
-ghost use Rattle.std.specs.List.{before_first, after_first};
-ghost use Rattle.workload_file.specs.Cuts.{between, pieces_of, texts};
+ghost use Rattle.std.specs.Prelude.{◌≡◌, ◌==◌, ◌<◌, ◌++◌, ◌∷◌, [], length, List, ℕ, map, filter, position, not, nat_lt, IfOk, IfSome, IfNone};
+ghost use Rattle.std.specs.List.{before_first, after_first, list_any, slice_split};
+ghost use Rattle.workload_file.specs.Values.{between};
+ghost use Rattle.workload_file.specs.Cuts.{pieces_of, words_of};
+ghost use Rattle.workload_file.specs.Texts.{texts};
 
 use std::alloc::{AllocError, Global};
 
@@ -26,17 +28,19 @@ pub fn cut_at(text: &[u8], byte: u8) -> (&[u8], Option<&[u8]>)
     }
 }
 
-/// All the texts between such bytes.
-#[tactic(auto, using(crate::proofs::Pieces::texts_push))]
-pub fn pieces(alloc: Global, text: &[u8], byte: u8) -> Result<Vec<&[u8]>, AllocError>
-    ensures { IfOk result (λ v. texts v.items ≡ between byte text.now) }
+/// The words of a line.
+#[tactic(auto, unfolding(crate::specs::Cuts::words_of), using(crate::proofs::Pieces::texts_push))]
+pub fn words_of(alloc: Global, line: &[u8]) -> Result<Vec<&[u8]>, AllocError>
+    ensures { IfOk result (λ v. texts v.items ≡ words_of line.now) }
 {
-    let mut all = Vec::new(alloc);
-    let mut left = Some(text);
-    'cutting: while let Some(rest) = left {
-        let (piece, after) = cut_at(rest, byte);
-        all.push(piece)?;
-        left = after;
+    let mut words = Vec::new(alloc);
+    let mut left = Some(line);
+    'cutting: while let Some(text) = left {
+        let (word, rest) = cut_at(text, b' ');
+        if !word.is_empty() {
+            words.push(word)?;
+        }
+        left = rest;
     }
-    Ok(all)
+    Ok(words)
 }

@@ -1,171 +1,160 @@
-//! The three lines of a workload.
-ghost use Rattle.std.specs.Prelude.{◌≡◌, ◌≤◌, IfOk, IfSome, Some, None, option_map};
-ghost use Rattle.workload_file.specs.Cuts.{texts, between};
-ghost use Rattle.workload_file.specs.Values.{number_within};
-ghost use Rattle.workload_file.specs.Grammar.{behind, job_of, list_of, action_of, start_of, is_wait, waited_by, named_well, three_of, lines_give, workload_of};
+//! The grammar: what a line says, or its first fault.
+ghost use Rattle.std.specs.Prelude.{◌≡◌, ◌<◌, ◌≤◌, length, Bool, Ok, Err, Some, None, List, IfOk, IfSome, OnOk, IsSome};
+ghost use Rattle.std.specs.List.{list_any, list_all};
+ghost use Rattle.workload_file.specs.Texts.{texts, result_map};
+ghost use Rattle.workload_file.specs.Reading.{refuse, heading, check_options, check_names, name_text, bound_name, change_of, statement_of, words_give, is_printable, line_gives, is_comment};
+ghost use Rattle.workload_file.specs.Indexed.{IsReader, binds_a_name};
 
-use crate::cut::pieces;
-use crate::names::Name;
-use crate::numbers::{args_of, number_within};
-use mtapi_values::Args;
+use crate::cut::words_of;
+use crate::deeds::{deed_of, settings_in};
+use crate::faults::Cause;
+use crate::name::Name;
+use crate::names::{any_unbound, is_misplaced, is_ninth_caller, is_taken, is_unbound, split_name};
+use crate::options::{all_known, all_valued, has_twice, lacks};
+use crate::reading::{Change, Reader};
+use crate::table::{Field, Naming, Word};
+use crate::text::text_of_name;
+use crate::workload::Statement;
 use std::alloc::{AllocError, Global};
 
-/// An action under a job.
-#[derive(Drop)]
-pub struct ActionLine {
-    /// Its name, which no task of the workload has.
-    pub name: Name,
-    /// The job that it carries out, 1 to 65,535.
-    pub job: u32,
-}
-
-/// A task that is started.
-#[derive(Drop)]
-pub struct StartLine {
-    /// Its name.
-    pub name: Name,
-    /// The job that it is started for, 1 to 65,535.
-    pub job: u32,
-    /// What the action is given.
-    pub args: Args,
-}
-
-/// One action, and one task that is started and waited for.
-#[derive(Drop)]
-pub struct Workload {
-    /// The first line.
-    pub action: ActionLine,
-    /// The second line. The third waits for this task.
-    pub start: StartLine,
-}
-
-/// What follows a front that the text has.
-#[tactic(auto, unfolding(crate::specs::Grammar::behind))]
-fn behind<'a>(front: &[u8], text: &'a [u8]) -> Option<&'a [u8]>
-    ensures { option_map (λ rest. rest.now) result ≡ behind front.now text.now }
+fn refuse(faulty: bool, cause: Cause) -> Result<(), Cause>
+    ensures { result ≡ refuse faulty cause }
 {
-    text.strip_prefix(front)
+    if faulty { Err(cause) } else { Ok(()) }
 }
 
-/// The number behind `job=`.
-#[tactic(auto, unfolding(crate::specs::Grammar::job_of))]
-fn job_of(text: &[u8]) -> Option<u32>
-    ensures { result ≡ job_of text.now }
-{
-    let value = behind(b"job=", text)?;
-    number_within(1, 65_535, value)
-}
-
-/// The list behind `args=`.
-#[tactic(auto, unfolding(crate::specs::Grammar::list_of))]
-fn list_of(text: &[u8]) -> Option<Args>
-    ensures { result ≡ list_of text.now }
-{
-    let value = behind(b"args=", text)?;
-    args_of(value)
-}
-
-/// The action of a line's words.
-#[tactic(auto, unfolding(crate::specs::Grammar::action_of))]
-fn action_of(words: &[&[u8]]) -> Option<ActionLine>
-    ensures { result ≡ action_of (texts words.now) }
-{
-    let [word, name, job, kind] = words else {
-        return None;
-    };
-    if *word != b"action".as_slice() {
-        return None;
-    }
-    let name = Name::new(name)?;
-    if *kind != b"kind=add".as_slice() {
-        return None;
-    }
-    let job = job_of(job)?;
-    Some(ActionLine { name, job })
-}
-
-/// The task of a line's words.
-#[tactic(auto, unfolding(crate::specs::Grammar::start_of))]
-fn start_of(words: &[&[u8]]) -> Option<StartLine>
-    ensures { result ≡ start_of (texts words.now) }
-{
-    let [word, name, job, args] = words else {
-        return None;
-    };
-    if *word != b"start".as_slice() {
-        return None;
-    }
-    let name = Name::new(name)?;
-    let job = job_of(job)?;
-    let args = list_of(args)?;
-    Some(StartLine { name, job, args })
-}
-
-/// Whether a line's first and last word are those of a wait without a bound.
-fn is_wait(word: &[u8], timeout: &[u8]) -> bool
-    ensures { result ≡ is_wait word.now timeout.now }
-{
-    word == b"wait".as_slice() && timeout == b"timeout=inf".as_slice()
-}
-
-/// The name that a line's words wait for.
-#[tactic(auto, unfolding(crate::specs::Grammar::waited_by))]
-fn waited_by<'a>(words: &[&'a [u8]]) -> Option<&'a [u8]>
-    ensures { option_map (λ name. name.now) result ≡ waited_by (texts words.now) }
-{
-    let [word, name, timeout] = words else {
-        return None;
-    };
-    if !is_wait(word, timeout) {
-        return None;
-    }
-    Some(name)
-}
-
-/// Whether the task is no namesake of the action, and the one that is waited for.
-fn named_well(action: &ActionLine, start: &StartLine, waited: &[u8]) -> bool
-    ensures { result ≡ named_well action.now start.now waited.now }
-{
-    start.name.as_slice() != action.name.as_slice() && waited == start.name.as_slice()
-}
-
-/// The workload of three lines.
-#[tactic(auto, unfolding(crate::specs::Grammar::three_of))]
-fn three_of(
-    alloc: Global,
+/// The word of a statement.
+#[tactic(auto, unfolding(crate::specs::Reading::heading))]
+fn heading<'a, 'b>(
+    r: &Reader,
     first: &[u8],
-    second: &[u8],
-    third: &[u8],
-) -> Result<Option<Workload>, AllocError>
-    ensures { IfOk result (λ load. load ≡ three_of first.now second.now third.now) }
+    rest: &'b [&'a [u8]],
+) -> Result<(Word, Option<Name>, &'b [&'a [u8]]), Cause>
+    ensures value { result_map (λ x. (x.0, x.1, texts x.2.now)) result ≡ heading r.now.said first.now (texts rest.now) }
+    ensures few { OnOk result (r.now.said.count < 20000) }
 {
-    let Some(action) = action_of(&pieces(alloc, first, b' ')?) else {
-        return Ok(None);
-    };
-    let Some(start) = start_of(&pieces(alloc, second, b' ')?) else {
-        return Ok(None);
-    };
-    let words = pieces(alloc, third, b' ')?;
-    let Some(waited) = waited_by(&words) else {
-        return Ok(None);
-    };
-    if !named_well(&action, &start, waited) {
-        return Ok(None);
+    let word = Word::from_text(first).ok_or(Cause::UnknownWord)?;
+    refuse(20_000 <= r.said.count, Cause::TooManyStatements)?;
+    refuse(is_ninth_caller(r, word), Cause::TooManyCallers)?;
+    refuse(is_misplaced(r, word), Cause::Misplaced)?;
+    match split_name(word.naming(), rest) {
+        Some((name, options)) => Ok((word, name, options)),
+        None => Err(Cause::BadName),
     }
-    Ok(Some(Workload { action, start }))
 }
 
-/// The workload that a text is; None exactly where it is none.
-#[tactic(auto, unfolding(crate::specs::Grammar::workload_of, crate::specs::Grammar::lines_give))]
-pub fn workload_of(alloc: Global, bytes: &[u8]) -> Result<Option<Workload>, AllocError>
-    ensures { IfOk result (λ load. load ≡ workload_of bytes.now) }
+#[tactic(auto, unfolding(crate::specs::Reading::check_options))]
+fn check_options(fields: &[Field], options: &[&[u8]]) -> Result<(), Cause>
+    ensures { result ≡ check_options fields.now (texts options.now) }
 {
-    let lines = pieces(alloc, bytes, b'\n')?;
-    let [first, second, third, last] = lines.as_slice() else {
-        return Ok(None);
-    };
-    if !last.is_empty() {
-        return Ok(None);
+    refuse(!all_known(fields, options), Cause::UnknownOption)?;
+    refuse(has_twice(options), Cause::OptionTwice)?;
+    refuse(!all_valued(fields, options), Cause::BadValue)?;
+    refuse(lacks(fields, options), Cause::OptionMissing)
+}
+
+#[tactic(auto, unfolding(crate::specs::Reading::check_names))]
+fn check_names(r: &Reader, word: Word, name: &[u8], options: &[&[u8]]) -> Result<(), Cause>
+    requires { IsReader r.now }
+    ensures { result ≡ check_names r.now.said word name.now (texts options.now) }
+{
+    refuse(is_taken(r, word.naming(), name), Cause::NameTaken)?;
+    refuse(is_unbound(r, word.naming(), name), Cause::NameUnknown)?;
+    refuse(any_unbound(r, word.fields(), options), Cause::NameUnknown)
+}
+
+fn binds_name(naming: Naming) -> bool
+    ensures { result ≡ binds_a_name naming }
+{
+    matches!(naming, Naming::Binds(_))
+}
+
+fn bound_name(naming: Naming, name: Option<Name>) -> Option<Name>
+    ensures { result ≡ bound_name naming name }
+{
+    if binds_name(naming) { name } else { None }
+}
+
+#[tactic(auto, unfolding(crate::specs::Reading::change_of))]
+fn change_of(r: &Reader, line: u64, word: Word, name: Option<Name>, options: &[&[u8]]) -> Change
+    requires { IsReader r.now }
+    ensures { result ≡ change_of r.now.said line word name (texts options.now) }
+{
+    match word {
+        Word::Node => Change::Node(settings_in(options)),
+        Word::Caller => match name {
+            Some(name) => Change::Caller(name),
+            None => Change::Node(settings_in(options)),
+        },
+        _ => {
+            let deed = deed_of(r, word, text_of_name(&name), options);
+            let name = bound_name(word.naming(), name);
+            Change::Statement(Statement { line, name, deed })
+        }
     }
-    three_of(alloc, first, second, third)
+}
+
+#[tactic(auto, unfolding(crate::specs::Reading::statement_of))]
+fn statement_of(r: &Reader, line: u64, first: &[u8], rest: &[&[u8]]) -> Result<Change, Cause>
+    requires { IsReader r.now }
+    ensures value { result ≡ statement_of r.now.said line first.now (texts rest.now) }
+    ensures few { OnOk result (r.now.said.count < 20000) }
+{
+    let (word, name, options) = heading(r, first, rest)?;
+    check_options(word.fields(), options)?;
+    check_names(r, word, text_of_name(&name), options)?;
+    Ok(change_of(r, line, word, name, options))
+}
+
+fn words_give(r: &Reader, line: u64, words: &[&[u8]]) -> Result<Option<Change>, Cause>
+    requires { IsReader r.now }
+    ensures value { result ≡ words_give r.now.said line (texts words.now) }
+    ensures few { IfOk result (λ c. IsSome c → r.now.said.count < 20000) }
+{
+    match words {
+        [] => Ok(None),
+        [first, rest @ ..] => {
+            if is_comment(first) {
+                return Ok(None);
+            }
+            Ok(Some(statement_of(r, line, first, rest)?))
+        }
+    }
+}
+
+fn is_comment(first: &[u8]) -> bool
+    ensures { result ≡ is_comment first.now }
+{
+    match first {
+        [b'#', ..] => true,
+        _ => false,
+    }
+}
+
+fn all_printable(text: &[u8]) -> bool
+    ensures { result ≡ list_all is_printable text.now }
+{
+    text.iter().all(|b| 32 <= *b && *b <= 126)
+}
+
+/// What a line says, or its first cause.
+#[tactic(auto, unfolding(crate::specs::Reading::line_gives))]
+pub fn line_gives(
+    alloc: Global,
+    r: &Reader,
+    line: u64,
+    text: &[u8],
+) -> Result<Result<Option<Change>, Cause>, AllocError>
+    requires { IsReader r.now }
+    ensures value { IfOk result (λ found. found ≡ line_gives r.now.said line text.now) }
+    ensures few { IfOk result (λ found. IfOk found (λ c. IsSome c → r.now.said.count < 20000)) }
+{
+    if 512 < text.len() {
+        return Ok(Err(Cause::LineTooLong));
+    }
+    if !all_printable(text) {
+        return Ok(Err(Cause::BadByte));
+    }
+    let words = words_of(alloc, text)?;
+    Ok(words_give(r, line, &words))
 }

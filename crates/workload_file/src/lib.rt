@@ -1,17 +1,32 @@
-//! The workload text: what it says, and how it is read from a source.
+//! Workloads as texts: a text is read as it is written, and a faulty one is refused at its first faulty line with its first cause.
 #![tactic(auto)]
 
+mod changes;
 mod cut;
+mod deeds;
+mod faults;
 mod grammar;
+mod index;
+mod laws;
 mod load;
+mod name;
 mod names;
 mod numbers;
+mod options;
+mod page;
+mod reading;
+mod table;
+mod text;
+mod values;
+mod workload;
+
+pub use faults::{Cause, LoadError};
+pub use laws::{law_again, law_formed};
+pub use load::read_workload;
+pub use name::Name;
+pub use outside::{Failed, MemSink, MemSource, Sink, Source, StdSink, StdSource, write_all};
+pub use page::text_of;
+pub use workload::{Deed, Part, PartList, Statement, StatementList, Workload};
+
 #[cfg(test)]
 mod tests;
-
-pub use grammar::{ActionLine, StartLine, Workload};
-pub use load::{LoadError, read_workload};
-pub use names::Name;
-pub use outside::{
-    Failed, MemSink, MemSource, ReadAllError, Sink, Source, StdSink, StdSource, read_all, write_all,
-};

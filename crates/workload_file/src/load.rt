@@ -1,48 +1,139 @@
 //! A workload from a source.
-ghost use Rattle.std.specs.Prelude.{◌≡◌, ◌≤◌, IfSome, IsErrOf};
+ghost use Rattle.std.specs.Prelude.{◌≡◌, ◌<◌, ◌≤◌, ◌^◌, ◌+◌, length, IfOk, IfSome, IsErrOf, Ok};
+ghost use Rattle.workload_file.specs.Values.{between};
+ghost use Rattle.workload_file.specs.Reading.{line_adds, lines_add, start, workload_of, finished, Gives};
+ghost use Rattle.workload_file.specs.Indexed.{IsReader, said_of};
 ghost use Rattle.workload_file.specs.Loading.{Loads};
+ghost use Rattle.workload_file.specs.Formed.{WellFormed};
 ghost use Rattle.outside.specs.Causes.{Rose};
 
-use crate::grammar::{Workload, workload_of};
+use crate::changes::with_change;
+use crate::cut::cut_at;
+use crate::faults::{Fault, LineError, LoadError};
+use crate::grammar::line_gives;
+use crate::index::NameIndex;
+use crate::name::Name;
+use crate::reading::{Reader, Reading};
+use crate::workload::{Part, PartList, StatementList, Workload};
+use mtapi_values::NodeAttr;
 use outside::{ReadAllError, Source, read_all};
 use std::alloc::Global;
-use thiserror::Error;
 
-/// The most bytes that a workload may have.
-const MOST_BYTES: usize = 1_048_576;
-
-/// Why a source gave no workload.
-#[derive(Debug, Drop, Error)]
-pub enum LoadError {
-    /// There was no memory for it.
-    #[error("out of memory")]
-    Memory,
-    /// A read failed.
-    #[error("read fault")]
-    Read,
-    /// The source has more than 1,048,576 bytes.
-    #[error("workload too long")]
-    TooLong,
-    /// The bytes are no workload.
-    #[error("workload refused")]
-    Refused,
+#[tactic(auto, unfolding(crate::specs::Reading::line_adds, crate::specs::Reading::with_change))]
+fn add_line(alloc: Global, r: Reader, line: u64, text: &[u8]) -> Result<Reader, LineError>
+    requires { IsReader r }
+    ensures value { Gives (said_of result) (line_adds r.said line text.now) }
+    ensures reader { IfOk result (λ s. IsReader s) }
+{
+    match line_gives(alloc, &r, line, text)? {
+        Ok(Some(change)) => Ok(with_change(alloc, r, line, change)?),
+        Ok(None) => Ok(r),
+        Err(cause) => Err(LineError::Refused(Fault { line, cause })),
+    }
 }
 
-/// Reads a workload from a source, to its end or to one byte past the most that a workload may have.
+#[tactic(auto, unfolding(crate::specs::Reading::start, crate::specs::Values::is_name))]
+fn first_reading(alloc: Global) -> Reading
+    ensures { result ≡ start }
+{
+    let name = Name::new(b"main").unwrap();
+    Reading {
+        node_line: 0,
+        settings: NodeAttr::new(),
+        before: PartList::new(alloc),
+        current: Part {
+            line: 0,
+            name,
+            statements: StatementList::new(alloc),
+        },
+        count: 0,
+    }
+}
+
+#[tactic(auto, unfolding(crate::specs::Reading::start))]
+fn first_reader(alloc: Global) -> Reader
+    ensures value { result.said ≡ start }
+    ensures reader { IsReader result }
+{
+    Reader {
+        said: first_reading(alloc),
+        names: NameIndex::new(alloc),
+    }
+}
+
+/// What the lines of a text say.
+fn read_lines(alloc: Global, first: Reader, bytes: &[u8]) -> Result<Reader, LineError>
+    requires reader { IsReader first }
+    requires short { length bytes.now < 2 ^ 63 }
+    ensures { Gives (said_of result) (lines_add first.said 1 (between 10 bytes.now)) }
+{
+    let mut r = first;
+    let mut line = 1u64;
+    let mut left = Some(bytes);
+    'lines: while let Some(rest) = left {
+        let (text, after) = cut_at(rest, b'\n');
+        r = add_line(alloc, r, line, text)?;
+        line += 1;
+        left = after;
+    }
+    Ok(r)
+}
+
+fn finished(said: Reading) -> Result<Workload, LineError>
+    ensures { Gives result (Ok (finished said)) }
+{
+    let mut parts = said.before;
+    parts.push(said.current)?;
+    Ok(Workload {
+        node_line: said.node_line,
+        settings: said.settings,
+        parts,
+    })
+}
+
+/// The workload that a text is.
+#[tactic(auto, unfolding(crate::specs::Reading::workload_of))]
+fn workload_of(alloc: Global, bytes: &[u8]) -> Result<Workload, LineError>
+    requires { length bytes.now < 2 ^ 63 }
+    ensures { Gives result (workload_of bytes.now) }
+{
+    let r = read_lines(alloc, first_reader(alloc), bytes)?;
+    finished(r.said)
+}
+
+/// The workload that a text is, and that it is well formed.
+fn formed_workload_of(alloc: Global, bytes: &[u8]) -> Result<Workload, LineError>
+    requires { length bytes.now < 2 ^ 63 }
+    ensures value { Gives result (workload_of bytes.now) }
+    ensures formed { IfOk result WellFormed }
+{
+    match workload_of(alloc, bytes) {
+        Ok(load) => Ok(load),
+        Err(error) => Err(error),
+    }
+}
+
+/// Reads a workload from a source, to its end or to one byte past 1,048,576 bytes. Ok exactly where the bytes are of the
+/// grammar and memory suffices; Refused at the first faulty line with its first cause; TooLong where the source gave more bytes;
+/// Read only where its count of faults rose.
 pub fn read_workload<S: Source>(alloc: Global, src: &mut S) -> Result<Workload, LoadError>
     ensures exact { IfSome (S.left src.old) (λ bytes. Loads bytes (S.left src.new) result) }
+    ensures formed { IfOk result WellFormed }
     ensures later { S.faults src.old ≤ S.faults src.new }
     ensures read { IsErrOf result LoadError.Read → Rose (S.faults src.old) (S.faults src.new) }
 {
-    let bytes = match read_all(alloc, src, MOST_BYTES) {
+    let bytes = match read_all(alloc, src, 1_048_576) {
         Ok(bytes) => bytes,
         Err(ReadAllError::Memory) => return Err(LoadError::Memory),
         Err(ReadAllError::Read) => return Err(LoadError::Read),
         Err(ReadAllError::TooLong) => return Err(LoadError::TooLong),
     };
-    match workload_of(alloc, &bytes) {
-        Ok(Some(load)) => Ok(load),
-        Ok(None) => Err(LoadError::Refused),
-        Err(_) => Err(LoadError::Memory),
+    match formed_workload_of(alloc, &bytes) {
+        Ok(load) => Ok(load),
+        Err(LineError::Memory) => Err(LoadError::Memory),
+        Err(LineError::Refused(fault)) => Err(LoadError::Refused {
+            line: fault.line,
+            cause: fault.cause,
+        }),
     }
 }

@@ -1,73 +1,172 @@
-//! Names.
-ghost use Rattle.std.specs.Prelude.{◌≡◌, ◌≤◌, length, if◌then◌else◌, Some, None, IsTrue};
-ghost use Rattle.std.specs.List.{list_all};
-ghost use Rattle.workload_file.specs.Values.{is_name, is_name_byte, begins_with_letter};
+//! The names of a part, and what they are bound to.
+ghost use Rattle.std.specs.Prelude.{◌≡◌, ◌<◌, ◌≤◌, Bool, Some, None, IfSome, slice_get};
+ghost use Rattle.std.specs.Option.{option_map};
+ghost use Rattle.std.specs.List.{list_any};
+ghost use Rattle.std.specs.Str.{bytes_eq};
+ghost use Rattle.workload_file.specs.Texts.{texts};
+ghost use Rattle.workload_file.specs.Deeds.{binds, is_begin};
+ghost use Rattle.workload_file.specs.Names.{is_binding, place_of, split_name, is_taken, is_unbound, is_unbound_value, has_unbound, is_misplaced, is_ninth_caller};
+ghost use Rattle.workload_file.specs.Indexed.{IsReader};
 
-use arrayvec::ArrayVec;
-use std::marker::Model;
+use crate::name::Name;
+use crate::options::{field_of, value_of};
+use crate::reading::Reader;
+use crate::table::{Field, Naming, Shape, Sort, Word};
+use crate::workload::{Deed, Part, Statement};
 
-/// A name: a letter from a to z, and up to 15 of letters, digits and `_`. Contracts see its bytes.
-#[derive(Drop)]
-pub struct Name {
-    text: ArrayVec<u8, 16>,
-}
-
-impl Model for Name {
-    ghost use Rattle.std.specs.Prelude.{List, ℕ};
-
-    ghost Value = { List ℕ };
-
-    ghost view = { λ n. n.text.items };
-}
-
-fn is_name_byte(b: u8) -> bool
-    ensures { result ≡ is_name_byte b }
+#[tactic(auto, unfolding(crate::specs::Deeds::binds))]
+fn binds(sort: Sort, deed: &Deed) -> bool
+    ensures { result ≡ binds sort deed.now }
 {
-    b.is_ascii_lowercase() || b.is_ascii_digit() || b == b'_'
+    match sort {
+        Sort::Action => matches!(deed, Deed::Action { .. }),
+        Sort::Task => matches!(deed, Deed::Start { .. } | Deed::Enqueue { .. }),
+        Sort::Group => matches!(deed, Deed::Group),
+        Sort::Queue => matches!(deed, Deed::Queue { .. } | Deed::QueueGet { .. }),
+        Sort::Mutex => matches!(deed, Deed::Mutex { .. } | Deed::MutexGet { .. }),
+        Sort::Sem => matches!(deed, Deed::Sem { .. } | Deed::SemGet { .. }),
+        Sort::Rwl => matches!(deed, Deed::Rwl { .. } | Deed::RwlGet { .. }),
+        Sort::Shmem => matches!(deed, Deed::Shmem { .. } | Deed::ShmemGet { .. }),
+    }
 }
 
-fn all_name_bytes(text: &[u8]) -> bool
-    ensures { result ≡ list_all is_name_byte text.now }
+fn is_binding(sort: Sort, statements: &[Statement], place: u32) -> bool
+    ensures { result ≡ is_binding sort (slice_get statements.now place) }
 {
-    text.iter().all(|b| is_name_byte(*b))
+    match statements.get(place as usize) {
+        None => false,
+        Some(s) => binds(sort, &s.deed),
+    }
 }
 
-fn begins_with_letter(text: &[u8]) -> bool
-    ensures { result ≡ begins_with_letter text.now }
+/// The place of the statement that bound this name to such a thing.
+#[tactic(auto, unfolding(crate::specs::Names::place_of))]
+pub fn place_of(r: &Reader, sort: Sort, name: &[u8]) -> Option<u32>
+    requires { IsReader r.now }
+    ensures { result ≡ place_of sort name.now r.now.said.current.statements }
 {
-    match text {
+    let place = r.names.find(name)?;
+    if is_binding(sort, r.said.current.statements.as_slice(), place) {
+        Some(place)
+    } else {
+        None
+    }
+}
+
+/// The name, where there has to be one, and the words behind it.
+#[tactic(auto, unfolding(crate::specs::Names::split_name))]
+pub fn split_name<'a, 'b>(
+    naming: Naming,
+    words: &'b [&'a [u8]],
+) -> Option<(Option<Name>, &'b [&'a [u8]])>
+    ensures { option_map (λ x. (x.0, texts x.1.now)) result ≡ split_name naming (texts words.now) }
+{
+    match naming {
+        Naming::Bare => Some((None, words)),
+        _ => match words {
+            [] => None,
+            [word, rest @ ..] => match Name::new(word) {
+                Some(name) => Some((Some(name), rest)),
+                None => None,
+            },
+        },
+    }
+}
+
+fn any_part(parts: &[Part], name: &[u8]) -> bool
+    ensures { result ≡ list_any (λ p. bytes_eq p.name name.now) parts.now }
+{
+    parts.iter().any(|p| p.name.as_slice() == name)
+}
+
+fn any_begin(statements: &[Statement]) -> bool
+    ensures { result ≡ list_any (λ s. is_begin s.deed) statements.now }
+{
+    statements.iter().any(|s| is_begin(&s.deed))
+}
+
+#[tactic(auto, unfolding(crate::specs::Names::is_taken))]
+pub fn is_taken(r: &Reader, naming: Naming, name: &[u8]) -> bool
+    requires { IsReader r.now }
+    ensures { result ≡ is_taken r.now.said naming name.now }
+{
+    match naming {
+        Naming::Binds(_) => r.names.find(name).is_some(),
+        Naming::Caller => {
+            r.said.current.name.as_slice() == name || any_part(r.said.before.as_slice(), name)
+        }
+        Naming::Bare | Naming::Uses(_) => false,
+    }
+}
+
+#[tactic(auto, unfolding(crate::specs::Names::is_unbound))]
+pub fn is_unbound(r: &Reader, naming: Naming, name: &[u8]) -> bool
+    requires { IsReader r.now }
+    ensures { result ≡ is_unbound r.now.said naming name.now }
+{
+    match naming {
+        Naming::Uses(sort) => place_of(r, sort, name).is_none(),
+        Naming::Bare | Naming::Caller | Naming::Binds(_) => false,
+    }
+}
+
+#[tactic(auto, unfolding(crate::specs::Names::is_unbound_value))]
+fn is_unbound_value(r: &Reader, shape: Shape, text: &[u8]) -> bool
+    requires { IsReader r.now }
+    ensures { result ≡ is_unbound_value r.now.said shape text.now }
+{
+    match shape {
+        Shape::Named(sort) => place_of(r, sort, text).is_none(),
+        _ => false,
+    }
+}
+
+fn has_unbound(r: &Reader, fields: &[Field], word: &[u8]) -> bool
+    requires { IsReader r.now }
+    ensures { result ≡ has_unbound r.now.said fields.now word.now }
+{
+    match field_of(fields, word) {
+        None => false,
+        Some(field) => is_unbound_value(r, field.shape, value_of(word)),
+    }
+}
+
+pub fn any_unbound(r: &Reader, fields: &[Field], words: &[&[u8]]) -> bool
+    requires { IsReader r.now }
+    ensures { result ≡ list_any (has_unbound r.now.said fields.now) (texts words.now) }
+{
+    match words {
         [] => false,
-        [first, ..] => first.is_ascii_lowercase(),
+        [word, rest @ ..] => has_unbound(r, fields, word) || any_unbound(r, fields, rest),
     }
 }
 
-#[tactic(auto, unfolding(crate::specs::Values::is_name))]
-fn is_name(text: &[u8]) -> bool
-    ensures value { result ≡ is_name text.now }
-    ensures short { IsTrue result → length text.now ≤ 16 }
+#[tactic(auto, unfolding(crate::specs::Deeds::is_begin))]
+fn is_begin(deed: &Deed) -> bool
+    ensures { result ≡ is_begin deed.now }
 {
-    begins_with_letter(text) && text.len() <= 16 && all_name_bytes(text)
+    matches!(deed, Deed::Begin)
 }
 
-impl Name {
-    /// The name of these bytes; None exactly where they are no name. It takes no memory.
-    pub fn new(text: &[u8]) -> Option<Name>
-        ensures { result ≡ (if is_name text.now then Some text.now else None) }
-    {
-        if !is_name(text) {
-            return None;
+#[tactic(auto, unfolding(crate::specs::Names::is_misplaced))]
+pub fn is_misplaced(r: &Reader, word: Word) -> bool
+    ensures { result ≡ is_misplaced r.now.said word }
+{
+    match word {
+        Word::Node => r.said.count != 0,
+        Word::Begin => {
+            !r.said.before.as_slice().is_empty() || any_begin(r.said.current.statements.as_slice())
         }
-        let mut name = ArrayVec::new();
-        for b in text {
-            name.push(*b);
-        }
-        Some(Name { text: name })
+        _ => false,
     }
+}
 
-    /// The bytes of the name.
-    pub fn as_slice(&self) -> &[u8]
-        ensures { result.now ≡ self.now }
-    {
-        self.text.as_slice()
+#[tactic(auto, unfolding(crate::specs::Names::is_ninth_caller))]
+pub fn is_ninth_caller(r: &Reader, word: Word) -> bool
+    ensures { result ≡ is_ninth_caller r.now.said word }
+{
+    match word {
+        Word::Caller => 8 <= r.said.before.as_slice().len(),
+        _ => false,
     }
 }

@@ -1,6 +1,5 @@
-use Rattle.std.proofs.Common.{refl, ap, sym, ◌∙◌, take, ◌∷◌, arith}
+use Rattle.std.proofs.Common.{refl, sym, arith}
 use Rattle.std.proofs.lemmas.List.{take_rest, take_all, drop_all}
-use Rattle.workload_file.specs.Cuts.{between}
 use Rattle.workload_file.proofs.Pieces.{place_some, place_none, between_some, between_none}
 use Rattle.workload_file.proofs.cut.cut_at.Goals as goal
 

@@ -1,8 +1,6 @@
-use Rattle.std.proofs.Common.{◌≡◌, ◌<◌, ◌++◌, ◌∷◌, [], sym, arith, ap, length}
-use Rattle.std.proofs.lemmas.List.{length_push}
+use Rattle.std.proofs.Common.{arith}
 use Rattle.std.proofs.lemmas.Int.{to_z-of_z}
 use Rattle.std.specs.Int.{w64}
-use Rattle.std.proofs.lemmas.Bool.{MatchBool-at_true}
 use Rattle.workload_file.proofs.Parsing.{args_more, args_end, args_done, none_is, some_is, pushed}
 use Rattle.workload_file.proofs.numbers.args_of.Goals as goal
 
@@ -15,7 +13,9 @@ pub cutting-preserved : goal.cutting-preserved
 cutting-preserved c =
     let h = rw (c.in-Some.is, c.cut_at.ensures.parts) at c.cutting.invariant.so_far in
     let k = rw (c.in-Some.is, c.cut_at.ensures.parts) at c.cutting.invariant.count in
-    let p = pushed c.cutting.args c.push.new.self _ _ c.if-not-push.false (rw (to_z-of_z w64 c.in-Some-whole.value c.in-Some-whole.ensures.fits) at c.push.ensures.pushed) c.push.ensures.room in
+    let z = c.in-Some-whole.value in
+    let fits = rw (to_z-of_z w64 z c.in-Some-whole.ensures.fits) at c.push.ensures.pushed in
+    let p = pushed c.cutting.args c.push.new.self z c.push.result c.if-not-push.false c.push.ensures.room.0 fits in
     record {
       so_far = rw p.1 (args_more c.cutting.args _ _ c.in-Some-whole.value _ c.in-Some-whole.ensures.value h);
       count = omega (arith, k, p.2);

@@ -1,6 +1,6 @@
 use Rattle.std.proofs.Common.{◌≡◌, ◌+◌, ◌≤◌, length}
-use Rattle.workload_file.specs.Values.{wholes}
-use Rattle.workload_file.specs.Cuts.{between, pieces_of}
+use Rattle.workload_file.specs.Values.{between, wholes}
+use Rattle.workload_file.specs.Cuts.{pieces_of}
 use Rattle.workload_file.proofs.Pieces.{left_len}
 use Rattle.workload_file.proofs.Parsing.{with_front}
 use Rattle.workload_file.proofs.numbers.args_of.Given as goal

@@ -1,0 +1,174 @@
+-- Every task that was accepted ends once.
+use Rattle.std.proofs.Common.{◌≡◌, ℕ, ◌+◌, ◌≤◌, Bool, true, false, cond, List, [], ◌∷◌, ◌++◌, Option, Some, None, refl, sym, ◌∙◌, ap, subst, arith}
+use Rattle.std.specs.Prelude.{◌==◌, ◌&&◌, not, IsSome}
+use Rattle.std.specs.Bool.{MatchBool}
+use Rattle.std.proofs.lemmas.List.{append-nil}
+use Rattle.std.proofs.lemmas.Bool.{eq-eqb}
+use Rattle.mtapi_values.specs.declared.ends.TaskEnd.{TaskEnd}
+use Rattle.mtapi_values.specs.Seats.{all_marked}
+use Rattle.mtapi_machine.specs.declared.terms.Terms.{Terms}
+use Rattle.mtapi_machine.specs.declared.ops.Op.{Op}
+use Rattle.mtapi_machine.specs.declared.ops.Op.TheVariants as op
+use Rattle.mtapi_machine.specs.declared.replies.Reply.{Reply}
+use Rattle.mtapi_machine.specs.declared.replies.Reply.TheVariants.{Ok, Handle}
+use Rattle.history.specs.Histories.{entry}
+use Rattle.handle_pool.specs.Issued.{Listed, listed, issue}
+use Rattle.task_core.specs.Tasks.{Task}
+use Rattle.mtapi_machine.specs.State.{State, opening, workers, is_late}
+use Rattle.mtapi_machine.specs.Row.{Row, unless, says, gives, never, Allows, after_row, issues}
+use Rattle.mtapi_machine.specs.Rows.{row}
+use Rattle.mtapi_machine.specs.Legal.{NodeEntry, IsNext, next, LegalFrom, Legal, after_from, after}
+use Rattle.mtapi_machine.proofs.Lists.{Legal-front, Legal-rest, after-append}
+use Rattle.mtapi_machine.proofs.Ends.{AllGives, after_grows}
+use Rattle.history_law.specs.Accepted.{accepted_by, accepted, end_at, TasksEndOnce}
+use Rattle.history_law.proofs.Held.{AllEnded, listed_issue, all_first}
+use Rattle.history_law.proofs.Rows.{Stands, on_issues, after_stands}
+use Rattle.history_law.proofs.Marks.{Stopped, after_stopped}
+use Rattle.history_law.proofs.Ends.{grows_listed, all_end, end_later}
+
+-- The entry that accepts a task lists it
+
+abbrev is_handle : Reply → Bool
+is_handle (Handle h) = true
+is_handle _ = false
+
+-- no refusal of the row is a handle
+abbrev RefusesAll : Row → Type 0
+RefusesAll (unless c x w) = (is_handle x ≡ false) × RefusesAll w
+RefusesAll (says x) = is_handle x ≡ false
+RefusesAll (gives x t) = Unit {0}
+RefusesAll never = Unit {0}
+
+no_handle : (h : ℕ) (x : Reply) → is_handle x ≡ false → Handle h ≡ x → ⊥
+no_handle h x n e = true_false (ap is_handle e ∙ n)
+  where
+    true_false : true ≡ false → ⊥
+    true_false k = cc
+
+-- what holds of each state that the row gives holds after a handle
+granted : (P : State → Type 0) (s : State) (w : Row) (h : ℕ) → RefusesAll w → AllGives P w → Allows w (Handle h) → P (after_row s w)
+granted P s (unless true x w) h n g a = absurd (no_handle h x n.0 a)
+granted P s (unless false x w) h n g a = granted P s w h n.1 (g refl) a
+granted P s (says x) h n g a = absurd (no_handle h x n a)
+granted P s (gives x t) h n g a = g
+granted P s never h n g a = absurd a
+
+refuses_issues : (b : Bool) (h : ℕ) (s : State) → RefusesAll (issues b h s)
+refuses_issues true h s = tt
+refuses_issues false h s = tt
+
+issue_lists : (h : ℕ) (t : Task) (l : List (Listed Task)) → 1 ≤ listed h (issue h t l)
+issue_lists h t l = let e : listed h (issue h t l) ≡ listed h l + cond (h == h) 1 0 = listed_issue h h t l in
+    let k : cond {A = ℕ} (h == h) 1 0 ≡ 1 = ap (λ (b : Bool). cond {A = ℕ} b 1 0) (eq-eqb h h refl) in omega arith
+
+abbrev Lists : ℕ → State → Type 0
+Lists h s = 1 ≤ listed h s.tasks
+
+start_lists : (s : State) (who : ℕ) (o : Op) (r : Reply) (h : ℕ) → accepted_by o r ≡ Some h → Allows (row s who o r) r → Lists h (after_row s (row s who o r))
+start_lists s who (op.TaskStart job args priority cores detached group) (Handle k) h e a =
+    let same : k ≡ h = cc in
+    subst (λ (j : ℕ). Lists j (after_row s (row s who (op.TaskStart job args priority cores detached group) (Handle k)))) same
+    (granted (Lists k) s (row s who (op.TaskStart job args priority cores detached group) (Handle k)) k
+    (refl, (refl, (refl, (refl, (refl, (refl, (refl, refuses_issues _ _ _)))))))
+    (λ c0 c1 c2 c3 c4 c5 c6. on_issues (Lists k) _ _ _ (λ m. issue_lists k _ s.tasks)) a)
+start_lists s who _ _ h e a = absurd (cc)
+
+next_lists : (s : State) (e : NodeEntry) (h : ℕ) → IsNext s e → accepted e ≡ Some h → Lists h (next s e)
+next_lists s e h n i = start_lists s e.who e.op e.reply h i n.allowed
+
+-- After the final step every task has ended
+
+abbrev is_ok : Reply → Bool
+is_ok Ok = true
+is_ok _ = false
+
+not_ok : (x : Reply) → is_ok x ≡ false → Ok ≡ x → ⊥
+not_ok x n e = true_false (ap is_ok e ∙ n)
+  where
+    true_false : true ≡ false → ⊥
+    true_false k = cc
+
+final_reads : (a b : Bool) (x y : Reply) (X : Type 0) → is_ok x ≡ false → is_ok y ≡ false → MatchBool (not a) (Ok ≡ x) (MatchBool (not b) (Ok ≡ y) X) → b ≡ true
+final_reads a true x y X n m k = refl
+final_reads true false x y X n m k = absurd (not_ok y m k)
+final_reads false false x y X n m k = absurd (not_ok x n k)
+
+snd_true : (a b : Bool) → (a && b) ≡ true → b ≡ true
+snd_true true b h = h
+snd_true false b h = absurd (cc)
+
+final_marked : (s : State) (main : ℕ) → IsNext s (entry main op.Final Ok) → all_marked (workers s) s.stopped ≡ true
+final_marked s main n = snd_true (is_late s.phase) _ (final_reads _ (is_late s.phase && all_marked (workers s) s.stopped) _ _ _ refl refl n.allowed)
+
+final_stopped : (terms : Terms) (s : State) (main : ℕ) → 1 ≤ terms.settings.workers → s.terms ≡ terms → IsNext s (entry main op.Final Ok) → Stopped s
+final_stopped terms s main w same n =
+    let e : workers s ≡ terms.settings.workers = ap (λ (t : Terms). t.settings.workers) same in
+    all_first (workers s) s.stopped (omega arith) (final_marked s main n)
+
+none_listed : (h : ℕ) → listed {T = Task} h [] ≤ 1
+unfolding listed
+none_listed h = omega arith
+
+opening_stands : (terms : Terms) → Stands terms (opening terms)
+opening_stands terms = (refl, record { dead = tt; stopped = λ f. absurd (cc); once = none_listed })
+
+stands_after : (terms : Terms) (L : List NodeEntry) → LegalFrom (opening terms) L → Stands terms (after terms L)
+stands_after terms L h = after_stands terms (opening terms) L (opening_stands terms) h
+
+all_after : (terms : Terms) (A B : List NodeEntry) (main : ℕ) → Legal terms (A ++ entry main op.Final Ok ∷ B) → AllEnded (after terms (A ++ entry main op.Final Ok ∷ B)).tasks
+unfolding LegalFrom
+all_after terms A B main h =
+    let rest : LegalFrom (after terms A) (entry main op.Final Ok ∷ B) = Legal-rest (opening terms) A (entry main op.Final Ok ∷ B) h.from in
+    let before : Stands terms (after terms A) = stands_after terms A (Legal-front (opening terms) A (entry main op.Final Ok ∷ B) h.from) in
+    let now : Stopped (after terms A) = final_stopped terms (after terms A) main h.fits.settings.workers.0 before.0 rest.0 in
+    let late : Stopped (after terms (A ++ entry main op.Final Ok ∷ B)) = subst Stopped (sym (after-append (opening terms) A (entry main op.Final Ok ∷ B))) (after_stopped (after terms A) (entry main op.Final Ok ∷ B) now rest) in
+    ((stands_after terms (A ++ entry main op.Final Ok ∷ B) h.from).1.stopped late).1
+
+-- The law
+
+listed_after : (terms : Terms) (P Q : List NodeEntry) (e : NodeEntry) (h : ℕ) → LegalFrom (opening terms) (P ++ e ∷ Q) → accepted e ≡ Some h → 1 ≤ listed h (after terms (P ++ e ∷ Q)).tasks
+unfolding LegalFrom after_from
+listed_after terms P Q e h l i =
+    let rest : LegalFrom (after terms P) (e ∷ Q) = Legal-rest (opening terms) P (e ∷ Q) l in
+    let now : 1 ≤ listed h (next (after terms P) e).tasks = next_lists (after terms P) e h rest.0 i in
+    let more : listed h (next (after terms P) e).tasks ≤ listed h (after_from (next (after terms P) e) Q).tasks = grows_listed h _ _ (after_grows (next (after terms P) e) Q rest.1) in
+    subst (λ (t : State). 1 ≤ listed h t.tasks) (sym (after-append (opening terms) P (e ∷ Q))) (omega arith)
+
+shown : {A : Type 0} (o : Option A) → IsSome o → (x : A) × (o ≡ Some x)
+shown (Some x) i = (x, refl)
+shown None i = let n : false ≡ true = i in absurd (cc)
+
+-- a handle is listed at most once
+pub listed_once : (terms : Terms) (es : List NodeEntry) (h : ℕ) → Legal terms es → listed h (after terms es).tasks ≤ 1
+listed_once terms es h legal = (stands_after terms es legal.from).1.once h
+
+-- an end that a front shows stays over every longer front
+pub front_stays : (terms : Terms) (es A M B : List NodeEntry) (h : ℕ) (e : TaskEnd) → Legal terms es → es ≡ A ++ (M ++ B) → end_at (after terms A).tasks h ≡ Some e → end_at (after terms (A ++ M)).tasks h ≡ Some e
+front_stays terms es A M B h e legal is i = end_later (opening terms) A M B h e (subst (λ (L : List NodeEntry). LegalFrom (opening terms) L) is legal.from) i
+
+-- and over the whole list
+front_ends : (terms : Terms) (es A M : List NodeEntry) (h : ℕ) (e : TaskEnd) → Legal terms es → es ≡ A ++ M → end_at (after terms A).tasks h ≡ Some e → end_at (after terms es).tasks h ≡ Some e
+front_ends terms es A M h e legal is i =
+    ap (λ (L : List NodeEntry). end_at (after terms L).tasks h) is ∙ front_stays terms es A M [] h e legal (is ∙ ap (λ (L : List NodeEntry). A ++ L) (sym (append-nil M))) i
+
+-- every task that an entry of a legal list accepted ends once, where the list has the final step
+pub closed_end : (terms : Terms) (es A B : List NodeEntry) (main : ℕ) → Legal terms es → es ≡ A ++ entry main op.Final Ok ∷ B → TasksEndOnce terms es
+closed_end terms es A B main legal last P Q e h cut i =
+    let once : listed h (after terms es).tasks ≤ 1 = listed_once terms es h legal in
+    let some : 1 ≤ listed h (after terms es).tasks = subst (λ (L : List NodeEntry). 1 ≤ listed h (after terms L).tasks) (sym cut) (listed_after terms P Q e h (subst (λ (L : List NodeEntry). LegalFrom (opening terms) L) cut legal.from) i) in
+    let all : AllEnded (after terms es).tasks = subst (λ (L : List NodeEntry). AllEnded (after terms L).tasks) (sym last) (all_after terms A B main (subst (λ (L : List NodeEntry). Legal terms L) last legal)) in
+    let found : (x : TaskEnd) × (end_at (after terms es).tasks h ≡ Some x) = all_end h (after terms es).tasks all some in record {
+      one = omega arith;
+      end = found.0;
+      ended = found.1;
+      stays = λ C M D is seen. stays C M D is seen found.0 found.1;
+    }
+  where
+    stays : (C M D : List NodeEntry) → es ≡ C ++ (M ++ D) → IsSome (end_at (after terms C).tasks h) → (x : TaskEnd) → end_at (after terms es).tasks h ≡ Some x → end_at (after terms (C ++ M)).tasks h ≡ Some x
+    stays C M D is seen x at =
+        let was : (y : TaskEnd) × (end_at (after terms C).tasks h ≡ Some y) = shown (end_at (after terms C).tasks h) seen in
+        front_stays terms es C M D h was.0 legal is was.1 ∙ sym (front_ends terms es C (M ++ D) h was.0 legal is was.1) ∙ at
+
+-- the same where the final step is the last entry
+pub accepted_end : (terms : Terms) (es before : List NodeEntry) (main : ℕ) → Legal terms es → es ≡ before ++ entry main op.Final Ok ∷ [] → TasksEndOnce terms es
+accepted_end terms es before main legal last = closed_end terms es before [] main legal last

@@ -1,0 +1,76 @@
+-- The end of a task, by its handle: it stays, and where all have ended it is there.
+use Rattle.std.proofs.Common.{◌≡◌, ℕ, ◌+◌, ◌≤◌, Bool, true, false, cond, List, [], ◌∷◌, ◌++◌, Option, Some, None, refl, sym, ◌∙◌, ap, subst, arith}
+use Rattle.std.specs.Prelude.{◌==◌, is_none}
+use Rattle.mtapi_values.specs.declared.ends.TaskEnd.{TaskEnd}
+use Rattle.handle_pool.specs.Issued.{Listed, listed}
+use Rattle.task_core.specs.Tasks.{Task, TaskState, Scheduled, Running, Over, end_of}
+use Rattle.mtapi_machine.specs.State.{State}
+use Rattle.mtapi_machine.specs.Laws.{Grows}
+use Rattle.mtapi_machine.specs.Legal.{NodeEntry, LegalFrom, after_from}
+use Rattle.mtapi_machine.proofs.Ends.{after_grows}
+use Rattle.mtapi_machine.proofs.Lists.{Legal-front, Legal-rest, after-append}
+use Rattle.history_law.specs.Accepted.{end_in, end_at}
+use Rattle.history_law.proofs.Held.{HasEnded, AllEnded}
+
+-- an end stays an end
+end_stays : (x y : TaskState) (e : TaskEnd) → ((e : TaskEnd) (n : ℕ) → end_of x ≡ Some (e, n) → end_of y ≡ Some (e, n)) → end_in x ≡ Some e → end_in y ≡ Some e
+end_stays Scheduled y e k i = absurd (cc)
+end_stays (Running w j) y e k i = absurd (cc)
+end_stays (Over z n) y e k i = by_end y (k z n refl)
+  where
+    by_end : (y : TaskState) → end_of y ≡ Some (z, n) → end_in y ≡ Some e
+    by_end Scheduled o = absurd (cc)
+    by_end (Running w j) o = absurd (cc)
+    by_end (Over u m) o = let q : u ≡ z = ap (λ (p : Option (TaskEnd × ℕ)). cond (is_none p) z (first_or p)) o in ap (λ (v : TaskEnd). Some v) q ∙ i
+      where
+        first_or : Option (TaskEnd × ℕ) → TaskEnd
+        first_or None = z
+        first_or (Some p) = p.0
+
+-- in a list that has grown, the end of this handle's task is as it was
+pub grows_end : (h : ℕ) (e : TaskEnd) (l m : List (Listed Task)) → Grows l m → end_at l h ≡ Some e → end_at m h ≡ Some e
+unfolding end_at
+grows_end h e [] m g i = absurd (cc)
+grows_end h e (r ∷ rs) [] g i = absurd g
+grows_end h e (r ∷ rs) (q ∷ qs) g i = by_handle q.handle g.0.handle (r.handle == h) refl (grows_end h e rs qs g.1) i
+  where
+    by_handle : (n : ℕ) → n ≡ r.handle → (b : Bool) → (r.handle == h) ≡ b → (end_at rs h ≡ Some e → end_at qs h ≡ Some e) →
+        cond b (end_in r.fields.state) (end_at rs h) ≡ Some e → cond (n == h) (end_in q.fields.state) (end_at qs h) ≡ Some e
+    by_handle n s true t rest k = ap (λ (x : ℕ). cond (x == h) (end_in q.fields.state) (end_at qs h)) s ∙ ap (λ (b : Bool). cond b (end_in q.fields.state) (end_at qs h)) t ∙ end_stays r.fields.state q.fields.state e g.0.over k
+    by_handle n s false t rest k = ap (λ (x : ℕ). cond (x == h) (end_in q.fields.state) (end_at qs h)) s ∙ ap (λ (b : Bool). cond b (end_in q.fields.state) (end_at qs h)) t ∙ rest k
+
+-- and it is listed at least as often
+pub grows_listed : (h : ℕ) (l m : List (Listed Task)) → Grows l m → listed h l ≤ listed h m
+unfolding listed
+grows_listed h [] m g = omega arith
+grows_listed h (r ∷ rs) [] g = absurd g
+grows_listed h (r ∷ rs) (q ∷ qs) g = by_handle q.handle g.0.handle (grows_listed h rs qs g.1)
+  where
+    by_handle : (n : ℕ) → n ≡ r.handle → listed h rs ≤ listed h qs → cond (r.handle == h) 1 0 + listed h rs ≤ cond (n == h) 1 0 + listed h qs
+    by_handle n s k = let e : cond {A = ℕ} (n == h) 1 0 ≡ cond {A = ℕ} (r.handle == h) 1 0 = ap (λ (x : ℕ). cond {A = ℕ} (x == h) 1 0) s in omega arith
+
+ended_end : (t : Task) → HasEnded t → (e : TaskEnd) × (end_in t.state ≡ Some e)
+ended_end t h = by_state t.state h
+  where
+    by_state : (x : TaskState) → is_none (end_of x) ≡ false → (e : TaskEnd) × (end_in x ≡ Some e)
+    by_state Scheduled k = absurd (cc)
+    by_state (Running w j) k = absurd (cc)
+    by_state (Over e n) k = (e, refl)
+
+-- where every task has ended, a task that is listed has an end
+pub all_end : (h : ℕ) (l : List (Listed Task)) → AllEnded l → 1 ≤ listed h l → (e : TaskEnd) × (end_at l h ≡ Some e)
+unfolding end_at listed
+all_end h [] a i = absurd (omega arith)
+all_end h (r ∷ rs) a i = by_handle (r.handle == h) (all_end h rs a.1) i
+  where
+    by_handle : (b : Bool) → (1 ≤ listed h rs → (e : TaskEnd) × (end_at rs h ≡ Some e)) → 1 ≤ cond b 1 0 + listed h rs → (e : TaskEnd) × (cond b (end_in r.fields.state) (end_at rs h) ≡ Some e)
+    by_handle true rest k = ended_end r.fields a.0
+    by_handle false rest k = rest (omega arith)
+
+-- between two fronts of a legal list the tasks have grown
+pub fronts_grow : (s : State) (P M Q : List NodeEntry) → LegalFrom s (P ++ (M ++ Q)) → Grows (after_from s P).tasks (after_from s (P ++ M)).tasks
+fronts_grow s P M Q h =
+    subst (λ (t : State). Grows (after_from s P).tasks t.tasks) (sym (after-append s P M)) (after_grows (after_from s P) M (Legal-front (after_from s P) M Q (Legal-rest s P (M ++ Q) h)))
+
+pub end_later : (s : State) (P M Q : List NodeEntry) (h : ℕ) (e : TaskEnd) → LegalFrom s (P ++ (M ++ Q)) → end_at (after_from s P).tasks h ≡ Some e → end_at (after_from s (P ++ M)).tasks h ≡ Some e
+end_later s P M Q h e l i = grows_end h e (after_from s P).tasks (after_from s (P ++ M)).tasks (fronts_grow s P M Q l) i

@@ -1,0 +1,211 @@
+-- What holds after every legal list of the tasks, the phase and the marks of stopped workers, and the changes that keep it.
+use Rattle.std.proofs.Common.{◌≡◌, ℕ, zero, suc, ◌+◌, ◌≤◌, Bool, true, false, cond, List, [], ◌∷◌, ◌++◌, Some, refl, ◌∙◌, ap, subst, arith}
+use Rattle.std.specs.Prelude.{◌==◌, ◌&&◌, is_none, slice_set}
+use Rattle.std.proofs.lemmas.Bool.{eqb-true}
+use Rattle.mtapi_values.specs.declared.ends.TaskEnd.{TaskEnd}
+use Rattle.mtapi_values.specs.Seats.{all_marked}
+use Rattle.mtapi_machine.specs.declared.terms.Phase.{Phase}
+use Rattle.mtapi_machine.specs.declared.terms.Phase.TheVariants.{New, Open, Closing, Closed}
+use Rattle.handle_pool.specs.Issued.{Listed, live_of, at, any, any_live, change, issue, listed, with_fields, gone}
+use Rattle.task_core.specs.Tasks.{Task, TaskState, end_of, is_unended, ended, end_each}
+use Rattle.mtapi_machine.specs.State.{is_new, is_open, is_late}
+
+-- the task has ended
+abbrev pub HasEnded : Task → Type 0
+HasEnded t = is_unended t ≡ false
+
+-- each task that isn't live has ended
+abbrev pub DeadEnded : List (Listed Task) → Type 0
+DeadEnded [] = Unit {0}
+DeadEnded (r ∷ rs) = (r.live ≡ false → HasEnded r.fields) × DeadEnded rs
+
+-- each task has ended
+abbrev pub AllEnded : List (Listed Task) → Type 0
+AllEnded [] = Unit {0}
+AllEnded (r ∷ rs) = HasEnded r.fields × AllEnded rs
+
+-- the first worker has stopped
+abbrev pub first_mark : List Bool → Bool
+first_mark [] = false
+first_mark (b ∷ bs) = b
+
+-- once the first worker has stopped the phase is late and every task has ended; no handle is listed twice
+pub record Held (p : Phase) (m : List Bool) (l : List (Listed Task)) : Type 0 where
+  pub dead : DeadEnded l
+  pub stopped : first_mark m ≡ true → (is_late p ≡ true) × AllEnded l
+  pub once : (h : ℕ) → listed h l ≤ 1
+
+-- what a change keeps of a listed task: its handle, that it has ended, and that it has ended where it isn't live
+pub record Keeps (r q : Listed Task) : Type 0 where
+  pub handle : q.handle ≡ r.handle
+  pub over : HasEnded r.fields → HasEnded q.fields
+  pub dead : (r.live ≡ false → HasEnded r.fields) → q.live ≡ false → HasEnded q.fields
+
+abbrev pub KeepsEach : List (Listed Task) → List (Listed Task) → Type 0
+KeepsEach [] [] = Unit {0}
+KeepsEach [] (q ∷ qs) = ⊥
+KeepsEach (r ∷ rs) [] = ⊥
+KeepsEach (r ∷ rs) (q ∷ qs) = Keeps r q × KeepsEach rs qs
+
+-- Changes of one task
+
+pub same : (r : Listed Task) → Keeps r r
+same r = record { handle = refl; over = λ e. e; dead = λ d. d }
+
+pub ends : (e : TaskEnd) (n : ℕ) (r : Listed Task) → Keeps r (ended e n r)
+ends e n r = record { handle = refl; over = λ h. refl; dead = λ d h. refl }
+
+pub alters : (f : Task → Task) (r : Listed Task) → (f r.fields).state ≡ r.fields.state → Keeps r (with_fields f r)
+alters f r e = let k : is_unended (f r.fields) ≡ is_unended r.fields = ap (λ (x : TaskState). is_none (end_of x)) e in
+    record { handle = refl; over = λ h. k ∙ h; dead = λ d h. k ∙ d h }
+
+pub goes : (r : Listed Task) → HasEnded r.fields → Keeps r (gone r)
+goes r e = record { handle = refl; over = λ h. h; dead = λ d h. e }
+
+true_false : {b : Bool} → b ≡ true → b ≡ false → ⊥
+true_false e f = cc
+
+pub begins : (f : Task → Task) (r : Listed Task) → is_unended r.fields ≡ true → Keeps r (with_fields f r)
+begins f r e = record { handle = refl; over = λ h. absurd (true_false e h); dead = λ d h. absurd (true_false e (d h)) }
+
+-- Changes of the list
+
+pub keeps_same : (l : List (Listed Task)) → KeepsEach l l
+keeps_same [] = tt
+keeps_same (r ∷ rs) = (same r, keeps_same rs)
+
+pub keeps_change : (h : ℕ) (f : Listed Task → Listed Task) (l : List (Listed Task)) → ((r : Listed Task) → at l h ≡ Some r.fields → Keeps r (f r)) → KeepsEach l (change h f l)
+unfolding change live_of
+keeps_change h f [] k = tt
+keeps_change h f (r ∷ rs) k = by_live (λ m. keeps_change h f rs m) r.live k
+  where
+    by_handle : (((q : Listed Task) → at rs h ≡ Some q.fields → Keeps q (f q)) → KeepsEach rs (change h f rs)) → (b : Bool) →
+        ((q : Listed Task) → cond b (Some r.fields) (at rs h) ≡ Some q.fields → Keeps q (f q)) →
+        KeepsEach (record { handle = r.handle; live = true; fields = r.fields } ∷ rs) (cond b (f (record { handle = r.handle; live = true; fields = r.fields }) ∷ rs) (record { handle = r.handle; live = true; fields = r.fields } ∷ change h f rs))
+    by_handle rest true m = (m (record { handle = r.handle; live = true; fields = r.fields }) refl, keeps_same rs)
+    by_handle rest false m = (same _, rest m)
+
+    by_live : (((q : Listed Task) → at rs h ≡ Some q.fields → Keeps q (f q)) → KeepsEach rs (change h f rs)) → (a : Bool) →
+        ((q : Listed Task) → at (record { handle = r.handle; live = a; fields = r.fields } ∷ rs) h ≡ Some q.fields → Keeps q (f q)) →
+        KeepsEach (record { handle = r.handle; live = a; fields = r.fields } ∷ rs) (change h f (record { handle = r.handle; live = a; fields = r.fields } ∷ rs))
+    by_live rest true m = by_handle rest (r.handle == h) m
+    by_live rest false m = (same _, rest m)
+
+pub keeps_ends : (p : Task → Bool) (e : TaskEnd) (n : ℕ) (l : List (Listed Task)) → KeepsEach l (end_each p e n l)
+unfolding end_each
+keeps_ends p e n [] = tt
+keeps_ends p e n (r ∷ rs) = by_test (r.live && p r.fields) (keeps_ends p e n rs) (keeps_ends p e (n + 1) rs)
+  where
+    by_test : (b : Bool) → KeepsEach rs (end_each p e n rs) → KeepsEach rs (end_each p e (n + 1) rs) → KeepsEach (r ∷ rs) (cond b (ended e n r ∷ end_each p e (n + 1) rs) (r ∷ end_each p e n rs))
+    by_test true g m = (ends e n r, m)
+    by_test false g m = (same r, g)
+
+-- What such a change keeps
+
+dead_each : (l k : List (Listed Task)) → KeepsEach l k → DeadEnded l → DeadEnded k
+dead_each [] [] g d = tt
+dead_each [] (q ∷ qs) g d = absurd g
+dead_each (r ∷ rs) [] g d = absurd g
+dead_each (r ∷ rs) (q ∷ qs) g d = (g.0.dead d.0, dead_each rs qs g.1 d.1)
+
+ended_each : (l k : List (Listed Task)) → KeepsEach l k → AllEnded l → AllEnded k
+ended_each [] [] g d = tt
+ended_each [] (q ∷ qs) g d = absurd g
+ended_each (r ∷ rs) [] g d = absurd g
+ended_each (r ∷ rs) (q ∷ qs) g d = (g.0.over d.0, ended_each rs qs g.1 d.1)
+
+listed_each : (h : ℕ) (l k : List (Listed Task)) → KeepsEach l k → listed h k ≡ listed h l
+unfolding listed
+listed_each h [] [] g = refl
+listed_each h [] (q ∷ qs) g = absurd g
+listed_each h (r ∷ rs) [] g = absurd g
+listed_each h (r ∷ rs) (q ∷ qs) g = by_head q.handle r.handle g.0.handle (listed_each h rs qs g.1)
+  where
+    by_head : (a b : ℕ) → a ≡ b → listed h qs ≡ listed h rs → cond (a == h) 1 0 + listed h qs ≡ cond (b == h) 1 0 + listed h rs
+    by_head a b e k = cc
+
+once_each : (l k : List (Listed Task)) → KeepsEach l k → ((h : ℕ) → listed h l ≤ 1) → (h : ℕ) → listed h k ≤ 1
+once_each l k g o h = let e = listed_each h l k g in let u : listed h l ≤ 1 = o h in omega arith
+
+-- the phase stays, and the tasks change so
+pub held_keeps : (p : Phase) (m : List Bool) (l k : List (Listed Task)) → Held p m l → KeepsEach l k → Held p m k
+held_keeps p m l k v g = record {
+  dead = dead_each l k g v.dead;
+  stopped = λ f. ((v.stopped f).0, ended_each l k g (v.stopped f).1);
+  once = once_each l k g v.once;
+}
+
+-- the phase is late then
+pub held_late : (p q : Phase) (m : List Bool) (l k : List (Listed Task)) → is_late q ≡ true → Held p m l → KeepsEach l k → Held q m k
+held_late p q m l k t v g = record {
+  dead = dead_each l k g v.dead;
+  stopped = λ f. (t, ended_each l k g (v.stopped f).1);
+  once = once_each l k g v.once;
+}
+
+new_late : (p : Phase) → is_new p ≡ true → is_late p ≡ true → ⊥
+new_late New a b = cc
+new_late Open a b = cc
+new_late Closing a b = cc
+new_late Closed a b = cc
+
+open_late : (p : Phase) → is_open p ≡ true → is_late p ≡ true → ⊥
+open_late New a b = cc
+open_late Open a b = cc
+open_late Closing a b = cc
+open_late Closed a b = cc
+
+-- the node opens
+pub held_open : (p q : Phase) (m : List Bool) (l : List (Listed Task)) → is_new p ≡ true → Held p m l → Held q m l
+held_open p q m l n v = record { dead = v.dead; stopped = λ f. absurd (new_late p n (v.stopped f).0); once = v.once }
+
+-- a new task
+
+dead_issue : (h : ℕ) (t : Task) (l : List (Listed Task)) → DeadEnded l → DeadEnded (l ++ record { handle = h; live = true; fields = t } ∷ [])
+dead_issue h t [] d = ((λ e. absurd (true_false refl e)), tt)
+dead_issue h t (r ∷ rs) d = (d.0, dead_issue h t rs d.1)
+
+pub listed_issue : (j h : ℕ) (t : Task) (l : List (Listed Task)) → listed j (issue h t l) ≡ listed j l + cond (h == j) 1 0
+unfolding listed issue
+listed_issue j h t [] = omega arith
+listed_issue j h t (r ∷ rs) = let k : listed j (issue h t rs) ≡ listed j rs + cond (h == j) 1 0 = listed_issue j h t rs in omega arith
+
+once_issue : (h : ℕ) (t : Task) (l : List (Listed Task)) → listed h l ≡ 0 → ((j : ℕ) → listed j l ≤ 1) → (j : ℕ) → listed j (issue h t l) ≤ 1
+once_issue h t l n o j = let e = listed_issue j h t l in by_same (h == j) refl e
+  where
+    by_same : (b : Bool) → (h == j) ≡ b → listed j (issue h t l) ≡ listed j l + cond b 1 0 → listed j (issue h t l) ≤ 1
+    by_same true s e = let k : h ≡ j = eqb-true h j s in let z : listed j l ≡ 0 = subst (λ (x : ℕ). listed x l ≡ 0) k n in omega arith
+    by_same false s e = let u : listed j l ≤ 1 = o j in omega arith
+
+pub held_issue : (p : Phase) (m : List Bool) (h : ℕ) (t : Task) (l : List (Listed Task)) → is_open p ≡ true → listed h l ≡ 0 → Held p m l → Held p m (issue h t l)
+unfolding issue
+held_issue p m h t l o n v = record {
+  dead = dead_issue h t l v.dead;
+  stopped = λ f. absurd (open_late p o (v.stopped f).0);
+  once = once_issue h t l n v.once;
+}
+
+-- a worker stops
+
+live_ended : (b c : Bool) → cond b true c ≡ false → (b ≡ false) × (c ≡ false)
+live_ended true c e = absurd (cc)
+live_ended false c e = (refl, e)
+
+all_ended : (l : List (Listed Task)) → any is_unended l ≡ false → DeadEnded l → AllEnded l
+unfolding live_of
+all_ended [] e d = tt
+all_ended (r ∷ rs) e d = by_live r.live e d.0 (λ q. all_ended rs q d.1)
+  where
+    by_live : (b : Bool) → any_live is_unended (cond b ((r.handle, r.fields) ∷ live_of rs) (live_of rs)) ≡ false → (b ≡ false → HasEnded r.fields) → (any is_unended rs ≡ false → AllEnded rs) → HasEnded r.fields × AllEnded rs
+    by_live true q k rest = let both : (is_unended r.fields ≡ false) × (any is_unended rs ≡ false) = live_ended (is_unended r.fields) (any is_unended rs) q in (both.0, rest both.1)
+    by_live false q k rest = (k refl, rest q)
+
+pub held_stop : (p : Phase) (m : List Bool) (w : ℕ) (l : List (Listed Task)) → is_late p ≡ true → any is_unended l ≡ false → Held p m l → Held p (slice_set m w true) l
+held_stop p m w l t n v = record { dead = v.dead; stopped = λ f. (t, all_ended l n v.dead); once = v.once }
+
+-- where each worker has stopped, of one or more, the first has
+pub all_first : (w : ℕ) (m : List Bool) → 1 ≤ w → all_marked w m ≡ true → first_mark m ≡ true
+all_first zero m l e = absurd (omega arith)
+all_first (suc n) [] l e = absurd (cc)
+all_first (suc n) (true ∷ bs) l e = refl
+all_first (suc n) (false ∷ bs) l e = absurd (cc)

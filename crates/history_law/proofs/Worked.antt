@@ -1,0 +1,66 @@
+-- The worked history, by the law and by computing.
+use Rattle.std.proofs.Common.{◌≡◌, List, [], ◌∷◌, ◌++◌, Some, refl, sym, ◌∙◌, subst, arith}
+use Rattle.std.specs.Prelude.{pos, false}
+use Rattle.mtapi_values.specs.Attributes.{NodeSettings, AreNodeSettings}
+use Rattle.mtapi_values.specs.declared.kinds.Kind.TheVariants as kind
+use Rattle.mtapi_values.specs.declared.ends.TaskEnd.{TaskEnd}
+use Rattle.mtapi_values.specs.declared.ends.TaskEnd.TheVariants.{Completed}
+use Rattle.mtapi_machine.specs.declared.ops.Op.TheVariants as op
+use Rattle.mtapi_machine.specs.declared.replies.Reply.TheVariants as reply
+use Rattle.handle_pool.specs.Issued.{live_of, issue, change, listed, issued_at, retired, is_full, may_issue}
+use Rattle.job_table.specs.Actions.{has_worker}
+use Rattle.task_core.specs.Tasks.{end_each}
+use Rattle.mtapi_machine.specs.Rows.{is_ready, can_take, has_better}
+use Rattle.mtapi_machine.specs.Legal.{NodeEntry, LegalFrom, Legal, after_from, after}
+use Rattle.mtapi_machine.specs.Worked.{usual, first_handle, main, worker, add_task, picks_first, finishes_first, task, every_core, one_task}
+use Rattle.mtapi_machine.proofs.Worked.{one_task-legal}
+use Rattle.history_law.specs.Accepted.{end_at, EndsOnce}
+use Rattle.history_law.specs.Ends.{terms_of}
+use Rattle.history_law.specs.Worked.{OneTaskEnds}
+use Rattle.history_law.proofs.Accepted.{accepted_end}
+
+-- what comes before the start, what follows it, and what comes before the final step
+opened : List NodeEntry
+opened = main op.Initialize reply.Ok ∷ main op.Release reply.Ok ∷ main (op.ActionCreate 1 kind.Add every_core) (reply.Handle first_handle) ∷ []
+
+start : NodeEntry
+start = main (add_task 0) (reply.Handle first_handle)
+
+run : List NodeEntry
+run = picks_first ∷ finishes_first ∷ main (op.TaskLook (task first_handle) false) (reply.Ended (Completed (pos 5 ∷ []))) ∷ main op.Close reply.Ok ∷ worker op.Pick reply.Stop ∷ []
+
+ends_once : EndsOnce usual one_task first_handle
+unfolding one_task opened start run
+ends_once = accepted_end usual one_task (opened ++ start ∷ run) 1 one_task-legal refl opened (run ++ main op.Final reply.Ok ∷ []) start first_handle refl refl
+
+computed : end_at (after usual one_task).tasks first_handle ≡ Some (Completed (pos 5 ∷ []))
+unfolding one_task end_at after_from live_of issue change listed issued_at retired is_full may_issue has_worker end_each is_ready can_take has_better
+computed = refl
+
+pub one_task_ends : OneTaskEnds
+one_task_ends = (ends_once, same ends_once.end (sym ends_once.ended ∙ computed))
+  where
+    same : (x : TaskEnd) → Some x ≡ Some (Completed (pos 5 ∷ [])) → x ≡ Completed (pos 5 ∷ [])
+    same x e = cc
+
+-- the settings that a node has where none is chosen
+defaults : NodeSettings
+defaults = record { workers = 1; tasks = 1024; actions = 64; groups = 128; queues = 16; objects = 16; priorities = 4; generations = 4294967295 }
+
+defaults_range : AreNodeSettings defaults
+unfolding defaults
+defaults_range = record {
+  workers = (omega arith, omega arith);
+  tasks = (omega arith, omega arith);
+  actions = (omega arith, omega arith);
+  groups = (omega arith, omega arith);
+  queues = (omega arith, omega arith);
+  objects = (omega arith, omega arith);
+  priorities = (omega arith, omega arith);
+  generations = (omega arith, omega arith);
+}
+
+-- the empty list is legal for these and one caller
+pub empty_legal : (s : NodeSettings) → s ≡ record { workers = 1; tasks = 1024; actions = 64; groups = 128; queues = 16; objects = 16; priorities = 4; generations = 4294967295 } → Legal (terms_of s 1) []
+unfolding LegalFrom defaults
+empty_legal s e = record { fits = record { settings = subst AreNodeSettings (sym e) defaults_range; some_caller = omega arith; callers = omega arith }; from = tt }

@@ -1,0 +1,25 @@
+-- The ends of one task.
+use Rattle.std.specs.Prelude.{◌≡◌, ℕ, ◌≤◌, List, ◌∷◌, ◌++◌, Some}
+use Rattle.mtapi_values.specs.declared.ends.TaskEnd.{TaskEnd}
+use Rattle.mtapi_values.specs.Attributes.{NodeSettings}
+use Rattle.mtapi_machine.specs.declared.ops.Op.TheVariants.{Final}
+use Rattle.mtapi_machine.specs.declared.replies.Reply.TheVariants.{Ok}
+use Rattle.mtapi_machine.specs.declared.terms.Terms.{Terms}
+use Rattle.history.specs.Histories.{entry}
+use Rattle.handle_pool.specs.Issued.{listed}
+use Rattle.mtapi_machine.specs.Legal.{NodeEntry, after}
+use Rattle.history_law.specs.Accepted.{accepted, end_at, EndsOnce}
+
+-- the terms of a node with these settings and so many callers
+abbrev pub terms_of : NodeSettings → ℕ → Terms
+terms_of settings callers = record { settings = settings; callers = callers }
+
+-- At most one record is listed under the handle. An end that a prefix shows of it is the end that every longer prefix shows.
+pub record OneEnd (terms : Terms) (es : List NodeEntry) (h : ℕ) : Type 0 where
+  pub one : listed h (after terms es).tasks ≤ 1
+  pub stays : (P M Q : List NodeEntry) (e : TaskEnd) → es ≡ P ++ (M ++ Q) → end_at (after terms P).tasks h ≡ Some e → end_at (after terms (P ++ M)).tasks h ≡ Some e
+
+-- where the list has the final step and accepted the task of this handle, the task ends once
+abbrev pub EndsAfterClose : Terms → List NodeEntry → ℕ → Type 0
+EndsAfterClose terms es h =
+    (A B P Q : List NodeEntry) (e : NodeEntry) (main : ℕ) → es ≡ A ++ entry main Final Ok ∷ B → es ≡ P ++ e ∷ Q → accepted e ≡ Some h → EndsOnce terms es h

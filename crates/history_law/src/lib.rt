@@ -1,0 +1,36 @@
+//! Laws of every legal history. Each function does nothing: its contract is the law.
+#![tactic(auto)]
+
+ghost use Rattle.mtapi_machine.specs.Legal.{Legal};
+ghost use Rattle.history_law.specs.Accepted.{AcceptedTasksEndOnce};
+ghost use Rattle.history_law.specs.Ends.{terms_of, OneEnd, EndsAfterClose};
+ghost use Rattle.history_law.specs.Worked.{OneTaskEnds};
+
+#[cfg(test)]
+mod tests;
+
+use mtapi_machine::Entry;
+use mtapi_values::{NodeAttr, TaskHandle};
+
+/// In a legal history that ends with the final step, every task that was accepted has one record and ends once: it is ended at the end
+/// of the history, and wherever an end of it shows, that is its end.
+pub fn law_accepted()
+    ensures { AcceptedTasksEndOnce }
+{}
+
+/// A task has at most one end: once a prefix of the history leaves it ended, every longer one leaves it ended so.
+pub fn law_one_end(settings: &NodeAttr, callers: u32, entries: &[Entry], t: TaskHandle)
+    requires { Legal (terms_of settings.now callers) entries.now }
+    ensures { OneEnd (terms_of settings.now callers) entries.now t.0 }
+{}
+
+/// Where the history has `final` with Ok, a task that was accepted has exactly one end.
+pub fn law_end_after_close(settings: &NodeAttr, callers: u32, entries: &[Entry], t: TaskHandle)
+    requires { Legal (terms_of settings.now callers) entries.now }
+    ensures { EndsAfterClose (terms_of settings.now callers) entries.now t.0 }
+{}
+
+/// A worked history: its one task ends once, and how.
+pub fn worked_end()
+    ensures { OneTaskEnds }
+{}

@@ -1,0 +1,15 @@
+//! Each law once.
+
+use crate::{law_accepted, law_end_after_close, law_one_end, worked_end};
+use mtapi_machine::Entry;
+use mtapi_values::{NodeAttr, TaskHandle};
+
+#[test]
+fn laws_hold(_rt: HostRuntime) {
+    law_accepted();
+    worked_end();
+    let settings = NodeAttr::new();
+    let entries: [Entry; 0] = [];
+    law_one_end(&settings, 1, &entries, TaskHandle(1));
+    law_end_after_close(&settings, 1, &entries, TaskHandle(1));
+}

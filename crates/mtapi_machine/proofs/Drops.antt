@@ -1,0 +1,209 @@
+-- A legal list without its dropped entries is legal, and leads to the same state.
+use Rattle.std.proofs.Common.{◌≡◌, ℕ, Bool, true, false, cond, List, [], ◌∷◌, Option, Some, None, refl, sym, ◌∙◌, ap, subst, arith}
+use Rattle.std.specs.Prelude.{◌==◌, ◌&&◌}
+use Rattle.std.proofs.lemmas.Bool.Decides.{nat_tests}
+use Rattle.mtapi_values.specs.declared.statuses.MtapiStatus.TheVariants as m
+use Rattle.mtapi_values.specs.declared.handles.TaskHandle.{TaskHandle}
+use Rattle.mtapi_machine.specs.declared.replies.Reply.{Reply}
+use Rattle.mtapi_machine.specs.declared.replies.Reply.TheVariants.{Ok, Handle, Number, Ended, Given, Pending, Picked, Idle, Stop, Asked, Mtapi, Mrapi}
+use Rattle.mtapi_machine.specs.declared.ops.Op.{Op}
+use Rattle.mtapi_machine.specs.declared.ops.Op.TheVariants as op
+use Rattle.handle_pool.specs.Issued.{Listed, live_of, lookup, at, change, update, with_fields}
+use Rattle.mtapi_values.specs.Conditions.{holds}
+use Rattle.mtapi_values.specs.Seats.{is_seat}
+use Rattle.task_core.specs.Tasks.{Task, TaskState, Scheduled, Running, Over, with_waiter, task_look_refusals}
+use Rattle.mtapi_machine.specs.State.{State}
+use Rattle.mtapi_machine.specs.Row.{Row, unless, says, gives, never, Allows, after_row, mtapi_unless, live}
+use Rattle.mtapi_machine.specs.Rows.{row, looks_at}
+use Rattle.history.specs.Histories.{entry}
+use Rattle.mtapi_machine.specs.Legal.{NodeEntry, IsNext, row_of, next, LegalFrom, after_from}
+use Rattle.mtapi_machine.specs.Kept.{pends_alike, drops, is_dropped, kept}
+use Rattle.mtapi_machine.specs.Laws.{DropsRightly}
+use Rattle.mtapi_machine.proofs.Refusals.{entry_stays, idle_stays}
+
+module _ {T : Type 0} where
+  pub some_same : {a b : T} → Some a ≡ Some b → a ≡ b
+  some_same h = cc
+
+  -- a change that changes nothing
+  pub update-same : (h : ℕ) (f : T → T) (v : T) (l : List (Listed T)) → at l h ≡ Some v → f v ≡ v → update h f l ≡ l
+  unfolding live_of change
+  update-same h f v [] e s = refl
+  update-same h f v (r ∷ rs) e s = by_live (λ k. update-same h f v rs k s) r.live refl e
+    where
+      by_handle : (at rs h ≡ Some v → update h f rs ≡ rs) → (b : Bool) → cond b (Some r.fields) (at rs h) ≡ Some v → cond b (with_fields f r ∷ rs) (r ∷ update h f rs) ≡ r ∷ rs
+      by_handle rest true k = ap (λ (x : T). record { handle = r.handle; live = r.live; fields = x } ∷ rs) (ap f (some_same k) ∙ s ∙ sym (some_same k))
+      by_handle rest false k = ap (λ (x : List (Listed T)). r ∷ x) (rest k)
+
+      by_live : (at rs h ≡ Some v → update h f rs ≡ rs) → (a : Bool) → r.live ≡ a → lookup (cond a ((r.handle, r.fields) ∷ live_of rs) (live_of rs)) h ≡ Some v → cond (r.live && (r.handle == h)) (with_fields f r ∷ rs) (r ∷ update h f rs) ≡ r ∷ rs
+      by_live rest true d k = (λ i. cond (d i && (r.handle == h)) (with_fields f r ∷ rs) (r ∷ update h f rs)) ∙ by_handle rest (r.handle == h) k
+      by_live rest false d k = (λ i. cond (d i && (r.handle == h)) (with_fields f r ∷ rs) (r ∷ update h f rs)) ∙ ap (λ (x : List (Listed T)). r ∷ x) (rest k)
+
+  -- a change of a live object is found at its handle
+  pub at-update : (h : ℕ) (f : T → T) (v : T) (l : List (Listed T)) → at l h ≡ Some v → at (update h f l) h ≡ Some (f v)
+  unfolding live_of change
+  at-update h f v [] e = absurd (cc)
+  at-update h f v (r ∷ rs) e = by_live (λ k. at-update h f v rs k) r.live e
+    where
+      lost : (at rs h ≡ Some v → at (update h f rs) h ≡ Some (f v)) → at rs h ≡ Some v → at (update h f rs) h ≡ Some (f v)
+      lost rest k = rest k
+
+      by_handle : (at rs h ≡ Some v → at (update h f rs) h ≡ Some (f v)) → (b : Bool) → (r.handle == h) ≡ b → cond b (Some r.fields) (at rs h) ≡ Some v →
+          at (cond b (record { handle = r.handle; live = true; fields = f r.fields } ∷ rs) (record { handle = r.handle; live = true; fields = r.fields } ∷ update h f rs)) h ≡ Some (f v)
+      by_handle rest true d k = (λ i. cond (d i) (Some (f r.fields)) (at rs h)) ∙ ap (λ x. Some (f x)) (some_same k)
+      by_handle rest false d k = (λ i. cond (d i) (Some r.fields) (at (update h f rs) h)) ∙ rest k
+
+      by_live : (at rs h ≡ Some v → at (update h f rs) h ≡ Some (f v)) → (a : Bool) → at (record { handle = r.handle; live = a; fields = r.fields } ∷ rs) h ≡ Some v →
+          at (update h f (record { handle = r.handle; live = a; fields = r.fields } ∷ rs)) h ≡ Some (f v)
+      by_live rest true k = by_handle rest (r.handle == h) refl k
+      by_live rest false k = rest k
+
+-- where the row gives this reply, the state stays
+abbrev KeepsAt : State → Reply → Row → Type 0
+KeepsAt s r (unless c x w) = KeepsAt s r w
+KeepsAt s r (says x) = Unit {0}
+KeepsAt s r (gives x t) = x ≡ r → t ≡ s
+KeepsAt s r never = Unit {0}
+
+keeps : (s : State) (r : Reply) (w : Row) → KeepsAt s r w → Allows w r → after_row s w ≡ s
+keeps s r (unless true x w) k a = refl
+keeps s r (unless false x w) k a = keeps s r w k a
+keeps s r (says x) k a = refl
+keeps s r (gives x t) k a = k (sym a)
+keeps s r never k a = absurd a
+
+same_seat : (who : ℕ) (w : Option ℕ) → is_seat who w ≡ true → Some who ≡ w
+same_seat who None e = absurd (cc)
+same_seat who (Some other) e = ap Some (eq who other e)
+  where
+    eq : (a b : ℕ) → (b == a) ≡ true → a ≡ b
+    eq a b e = grind (arith, nat_tests)
+
+looks_keep : (s : State) (who h : ℕ) (last : Bool) (x : TaskState) → update h (with_waiter (Some who)) s.tasks ≡ s.tasks → KeepsAt s Pending (looks_at s who h last x)
+looks_keep s who h true Scheduled u = λ e. absurd (cc)
+looks_keep s who h false Scheduled u = λ e i. record s { tasks = u i }
+looks_keep s who h true (Running w k) u = λ e. absurd (cc)
+looks_keep s who h false (Running w k) u = λ e i. record s { tasks = u i }
+looks_keep s who h last (Over x n) u = λ e. absurd (cc)
+
+look_keeps : (s : State) (who : ℕ) (t : TaskHandle) (last : Bool) (o : Option Task) → at s.tasks t.0 ≡ o → holds (λ x. is_seat who x.waiter) o ≡ true →
+    KeepsAt s Pending (live o (Mtapi m.ErrTaskInvalid) (λ x. mtapi_unless (task_look_refusals who x) (looks_at s who t.0 last x.state)))
+look_keeps s who t last None a e = tt
+look_keeps s who t last (Some x) a e =
+    looks_keep s who t.0 last x.state (update-same t.0 (with_waiter (Some who)) x s.tasks a (λ i. record x { waiter = same_seat who x.waiter e i }))
+
+-- a reply Pending that leaves the waiter leaves the state
+pub pending_stays : (s : State) (who : ℕ) (o : Op) → IsNext s (entry who o Pending) → pends_alike s who o ≡ true → next s (entry who o Pending) ≡ s
+pending_stays s who (op.TaskLook t last) h e =
+    keeps s Pending (row s who (op.TaskLook t last) Pending) (look_keeps s who t last (at s.tasks t.0) refl e) h.allowed
+pending_stays s who o h e = entry_stays s (entry who o Pending) h refl
+
+-- where the row gives this reply, the state changes
+abbrev ChangesAt : State → Reply → Row → Type 0
+ChangesAt s r (unless c x w) = (x ≡ r → ⊥) × ChangesAt s r w
+ChangesAt s r (says x) = x ≡ r → ⊥
+ChangesAt s r (gives x t) = x ≡ r → t ≡ s → ⊥
+ChangesAt s r never = Unit {0}
+
+changes : (s : State) (r : Reply) (w : Row) → ChangesAt s r w → Allows w r → after_row s w ≡ s → ⊥
+changes s r (unless true x w) k a e = k.0 (sym a)
+changes s r (unless false x w) k a e = changes s r w k.1 a e
+changes s r (says x) k a e = k (sym a)
+changes s r (gives x t) k a e = k (sym a) e
+changes s r never k a e = a
+
+no_seat : (who : ℕ) (w : Option ℕ) → Some who ≡ w → is_seat who w ≡ false → ⊥
+no_seat who w e n = apart (ap (is_seat who) e ∙ n)
+  where
+    apart : (who == who) ≡ false → ⊥
+    apart d = grind (arith, nat_tests)
+
+looks_change : (s : State) (who h : ℕ) (last : Bool) (x : TaskState) → (update h (with_waiter (Some who)) s.tasks ≡ s.tasks → ⊥) → ChangesAt s Pending (looks_at s who h last x)
+looks_change s who h true Scheduled u = λ e. absurd (cc)
+looks_change s who h false Scheduled u = λ e f. u (ap (λ (y : State). y.tasks) f)
+looks_change s who h true (Running w k) u = λ e. absurd (cc)
+looks_change s who h false (Running w k) u = λ e f. u (ap (λ (y : State). y.tasks) f)
+looks_change s who h last (Over x n) u = λ e. absurd (cc)
+
+look_changes : (s : State) (who : ℕ) (t : TaskHandle) (last : Bool) (o : Option Task) → at s.tasks t.0 ≡ o → holds (λ x. is_seat who x.waiter) o ≡ false →
+    ChangesAt s Pending (live o (Mtapi m.ErrTaskInvalid) (λ x. mtapi_unless (task_look_refusals who x) (looks_at s who t.0 last x.state)))
+look_changes s who t last None a e = λ k. absurd (cc)
+look_changes s who t last (Some x) a e = (
+  λ k. absurd (cc),
+  (
+    λ k. absurd (cc),
+    looks_change s who t.0 last x.state (λ u.
+        no_seat who x.waiter (ap (λ (y : Task). y.waiter) (some_same (sym (at-update t.0 (with_waiter (Some who)) x s.tasks a) ∙ ap (λ l. at l t.0) u ∙ a))) e),
+  ),
+)
+
+-- and one that changes the waiter changes the state: so `pends_alike` says where the state before equals the state after
+pub pending_changes : (s : State) (who : ℕ) (o : Op) → IsNext s (entry who o Pending) → pends_alike s who o ≡ false → next s (entry who o Pending) ≡ s → ⊥
+pending_changes s who (op.TaskLook t last) h e k =
+    changes s Pending (row s who (op.TaskLook t last) Pending) (λ y. absurd (cc), look_changes s who t last (at s.tasks t.0) refl e) h.allowed k
+pending_changes s who o h e k = absurd (cc)
+
+dropped_in : (s : State) (who : ℕ) (o : Op) (r : Reply) → IsNext s (entry who o r) → drops (pends_alike s who o) r ≡ true → next s (entry who o r) ≡ s
+dropped_in s who o Idle h d = idle_stays s who o h
+dropped_in s who o Pending h d = pending_stays s who o h d
+dropped_in s who o Ok h d = absurd (cc)
+dropped_in s who o (Handle x) h d = absurd (cc)
+dropped_in s who o (Number x) h d = absurd (cc)
+dropped_in s who o (Ended x) h d = absurd (cc)
+dropped_in s who o (Given x y) h d = absurd (cc)
+dropped_in s who o (Picked a b c k) h d = absurd (cc)
+dropped_in s who o Stop h d = absurd (cc)
+dropped_in s who o (Asked x) h d = absurd (cc)
+dropped_in s who o (Mtapi x) h d = absurd (cc)
+dropped_in s who o (Mrapi x) h d = absurd (cc)
+
+-- a dropped entry leaves the state as it was
+pub dropped_stays : (s : State) (e : NodeEntry) → IsNext s e → is_dropped s e ≡ true → next s e ≡ s
+dropped_stays s e h d = dropped_in s e.who e.op e.reply h d
+
+legal_step : (s : State) (e : NodeEntry) (b : Bool) (es : List NodeEntry) → is_dropped s e ≡ b → IsNext s e → LegalFrom (next s e) (kept (next s e) es) → LegalFrom s (cond b (kept (next s e) es) (e ∷ kept (next s e) es))
+unfolding LegalFrom
+legal_step s e true es d h l = subst (λ (x : State). LegalFrom x (kept (next s e) es)) (dropped_stays s e h d) l
+legal_step s e false es d h l = (h, l)
+
+after_step : (s : State) (e : NodeEntry) (b : Bool) (es : List NodeEntry) → is_dropped s e ≡ b → IsNext s e → after_from (next s e) (kept (next s e) es) ≡ after_from (next s e) es → after_from s (cond b (kept (next s e) es) (e ∷ kept (next s e) es)) ≡ after_from (next s e) es
+unfolding after_from
+after_step s e true es d h l = ap (λ (x : State). after_from x (kept (next s e) es)) (sym (dropped_stays s e h d)) ∙ l
+after_step s e false es d h l = l
+
+-- the list without its dropped entries
+pub Kept-legal : (s : State) (L : List NodeEntry) → LegalFrom s L → LegalFrom s (kept s L)
+unfolding LegalFrom kept
+Kept-legal s [] h = tt
+Kept-legal s (e ∷ es) h = legal_step s e (is_dropped s e) es refl h.0 (Kept-legal (next s e) es h.1)
+
+pub after-kept : (s : State) (L : List NodeEntry) → LegalFrom s L → after_from s (kept s L) ≡ after_from s L
+unfolding LegalFrom kept after_from
+after-kept s [] h = refl
+after-kept s (e ∷ es) h = after_step s e (is_dropped s e) es refl h.0 (after-kept (next s e) es h.1)
+
+is_drop : (s : State) (who : ℕ) (o : Op) (b : Bool) → IsNext s (entry who o Pending) → next s (entry who o Pending) ≡ s → pends_alike s who o ≡ b → pends_alike s who o ≡ true
+is_drop s who o true h k d = d
+is_drop s who o false h k d = absurd (pending_changes s who o h d k)
+
+pending_drop : (s : State) (who : ℕ) (o : Op) (r : Reply) → r ≡ Pending → IsNext s (entry who o r) → next s (entry who o r) ≡ s → drops (pends_alike s who o) r ≡ true
+pending_drop s who o Pending e h k = is_drop s who o (pends_alike s who o) h k refl
+pending_drop s who o Idle e h k = refl
+pending_drop s who o Ok e h k = absurd (cc)
+pending_drop s who o (Handle x) e h k = absurd (cc)
+pending_drop s who o (Number x) e h k = absurd (cc)
+pending_drop s who o (Ended x) e h k = absurd (cc)
+pending_drop s who o (Given x y) e h k = absurd (cc)
+pending_drop s who o (Picked a b c l) e h k = absurd (cc)
+pending_drop s who o Stop e h k = absurd (cc)
+pending_drop s who o (Asked x) e h k = absurd (cc)
+pending_drop s who o (Mtapi x) e h k = absurd (cc)
+pending_drop s who o (Mrapi x) e h k = absurd (cc)
+
+-- an entry is dropped exactly where it should be
+pub drops_rightly : (s : State) (e : NodeEntry) → IsNext s e → DropsRightly s e
+drops_rightly s e h = record {
+  stays = λ d. dropped_stays s e h d;
+  idle = λ d i. drops (pends_alike s e.who e.op) (d i);
+  pending = λ d k. pending_drop s e.who e.op e.reply d h k;
+}

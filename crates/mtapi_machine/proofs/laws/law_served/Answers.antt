@@ -1,0 +1,7 @@
+use Rattle.mtapi_machine.specs.State.{opening}
+use Rattle.mtapi_machine.specs.Legal.{after}
+use Rattle.mtapi_machine.proofs.Served.{served, after_served}
+use Rattle.mtapi_machine.proofs.laws.law_served.Goals as goal
+
+pub returns : goal.returns
+returns c terms L h = served (after terms L) (after_served (opening terms) L tt h.from)

@@ -1,0 +1,9 @@
+pub mod State
+pub mod Row
+pub mod Rows
+pub mod Legal
+pub mod Kept
+pub mod Shown
+pub mod Replay
+pub mod Laws
+pub mod Worked

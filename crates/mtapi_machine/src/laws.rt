@@ -1,0 +1,50 @@
+//! Laws that follow from the definitions of the machine alone. Each function does nothing: its contract is the law.
+
+ghost use Rattle.mtapi_machine.specs.Laws.{PrefixIsLegal, NextIsLegal, StatusStays, DroppedStays, DroppingIsLegal, TasksStay, TasksAreServed, LegalReplays};
+ghost use Rattle.mtapi_machine.specs.Worked.{WorkedHistories};
+
+/// Every prefix of a legal list is legal.
+pub fn law_prefix()
+    ensures { PrefixIsLegal }
+{}
+
+/// An entry that may come next makes a legal list longer.
+pub fn law_next()
+    ensures { NextIsLegal }
+{}
+
+/// A status leaves the state as it was. The one exception is TIMEOUT of a look at a task, which takes this seat's mark as its
+/// waiter away.
+pub fn law_status()
+    ensures { StatusStays }
+{}
+
+/// An entry is dropped exactly where its reply is Idle, or Pending and the state stayed as it was; a dropped entry leaves the state.
+pub fn law_dropped()
+    ensures { DroppedStays }
+{}
+
+/// A legal list without its dropped entries is legal, and leads to the same state.
+pub fn law_drop()
+    ensures { DroppingIsLegal }
+{}
+
+/// Over any legal list each task stays listed in its place: what isn't live stays so, and an end stays as it is.
+pub fn law_tasks_stay()
+    ensures { TasksStay }
+{}
+
+/// After any legal list some worker has an eligible action for every scheduled task.
+pub fn law_served()
+    ensures { TasksAreServed }
+{}
+
+/// A list is legal exactly where its replay, which computes, is the list itself.
+pub fn law_replay()
+    ensures { LegalReplays }
+{}
+
+/// Worked histories: some that are legal, and some that are not.
+pub fn worked_histories()
+    ensures { WorkedHistories }
+{}

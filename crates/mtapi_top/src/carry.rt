@@ -1,0 +1,102 @@
+//! The command, from words to a status.
+ghost use Rattle.std.specs.Prelude.{◌≡◌, ◌≤◌, ◌⊎◌, ◌↔◌, IfSome, IsSome, IsOk, true, false};
+ghost use Rattle.std.specs.Io.KnownBytes.{Appends};
+ghost use Rattle.outside.specs.Causes.{Rose, AppendsFront};
+ghost use Rattle.mtapi_top.specs.Command.{is_run, texts, Ends, IsTold, IsNone, IsRefused, IsBuilt};
+ghost use Rattle.mtapi_top.specs.Headline.{Ran};
+ghost use Rattle.mtapi_top.specs.declared.ends.End.{End};
+
+use crate::built::unbuilt_line;
+use crate::ends::{End, Outcome};
+use crate::pieces::run_and_report;
+use crate::telling::tell;
+use action_fn::ActionSource;
+use std::alloc::Global;
+use workload_file::{LoadError, Sink, Source, Workload, read_workload, write_all};
+
+/// Whether the words are `run` alone.
+fn is_run(words: &[&str]) -> bool
+    ensures { result ≡ is_run (texts words.now) }
+{
+    match words {
+        [word] => word.as_bytes() == b"run".as_slice(),
+        _ => false,
+    }
+}
+
+/// Reads the input, makes the run and writes the output.
+fn carry_out<S: Source, W: Sink, A: ActionSource>(
+    alloc: Global,
+    words: &[&str],
+    src: &mut S,
+    out: &mut W,
+    acts: &mut A,
+) -> End
+    ensures end { Ends (is_run (texts words.now)) (S.left src.old) (S.faults src.old) (S.faults src.new)
+        (W.held out.old) (W.held out.new) (W.faults out.old) (W.faults out.new) result }
+    ensures later { (S.faults src.old ≤ S.faults src.new) × (W.faults out.old ≤ W.faults out.new) }
+{
+    if !is_run(words) {
+        return End::Usage;
+    }
+    let load = match read_workload(alloc, src) {
+        Ok(load) => load,
+        Err(LoadError::Memory) => return End::Memory,
+        Err(LoadError::Read) => return End::ReadFault,
+        Err(LoadError::TooLong) => return End::TooLong,
+        Err(LoadError::Refused { line, cause }) => return End::Refused(line, cause),
+    };
+    if let Some(line) = unbuilt_line(&load) {
+        return End::NotBuilt(line);
+    }
+    let Ok((journal, text)) = run_and_report(alloc, &load, acts) else {
+        return End::Memory;
+    };
+    match write_all(out, &text) {
+        Ok(()) => End::Done(journal),
+        Err(_) => End::WriteFault(journal),
+    }
+}
+
+/// The command `run`: it reads a workload from `src`, carries it out, and writes its report to `out`.
+/// A refusal or a fault is said on `err`; a fault of `err` changes nothing.
+#[tactic(auto, using(crate::proofs::Refused::refused_has))]
+pub fn command<S: Source, W: Sink, E: Sink, A: ActionSource>(
+    alloc: Global,
+    words: &[&str],
+    src: &mut S,
+    out: &mut W,
+    err: &mut E,
+    acts: &mut A,
+) -> Outcome
+    // The headline. Where a run finished, the bytes read were a workload, the journal is that of a run of it, and what was written is the
+    // report of that journal: all of it with the status 0, and a front of it with 5.
+    ensures headline { result.status ≡ 0 → IfSome (S.left src.old) (λ bytes. IfSome result.journal (λ journal. Ran bytes journal (Appends (W.held out.old) (W.held out.new)))) }
+    ensures headline_cut { result.status ≡ 5 → IfSome (S.left src.old) (λ bytes. IfSome result.journal (λ journal. Ran bytes journal (AppendsFront (W.held out.old) (W.held out.new)))) }
+    ensures journal { IsSome result.journal ↔ ((result.status ≡ 0) ⊎ (result.status ≡ 5)) }
+
+    // Each status has its cause.
+    ensures usage { (result.status ≡ 2) ↔ (is_run (texts words.now) ≡ false) }
+    ensures refused { result.status ≡ 3 → IfSome (S.left src.old) IsRefused }
+    ensures refused_where { is_run (texts words.now) ≡ true → (Rose (S.faults src.old) (S.faults src.new) → ⊥)
+        → IfSome (S.left src.old) (λ bytes. IsRefused bytes → (result.status ≡ 3) ⊎ (result.status ≡ 6)) }
+    ensures read_fault { result.status ≡ 4 → Rose (S.faults src.old) (S.faults src.new) }
+    ensures write_fault { result.status ≡ 5 → Rose (W.faults out.old) (W.faults out.new) }
+
+    // Nothing is written with another status.
+    ensures nothing { (result.status ≡ 0 → ⊥) → (result.status ≡ 5 → ⊥) → W.held out.new ≡ W.held out.old }
+
+    // A workload that is carried out, without a fault, ends with 0 or for want of memory.
+    ensures complete { is_run (texts words.now) ≡ true → (Rose (S.faults src.old) (S.faults src.new) → ⊥) → (Rose (W.faults out.old) (W.faults out.new) → ⊥)
+        → IfSome (S.left src.old) (λ bytes. IsBuilt bytes → (result.status ≡ 0) ⊎ (result.status ≡ 6)) }
+
+    // The outcome and the text on `err` are of the way it ended.
+    ensures ends { (end : End)
+        × Ends (is_run (texts words.now)) (S.left src.old) (S.faults src.old) (S.faults src.new)
+        (W.held out.old) (W.held out.new) (W.faults out.old) (W.faults out.new) end
+        × IsTold end (E.faults err.old) (E.faults err.new) (E.held err.old) (E.held err.new) result }
+    ensures later { (S.faults src.old ≤ S.faults src.new) × (W.faults out.old ≤ W.faults out.new) × (E.faults err.old ≤ E.faults err.new) }
+{
+    let end = carry_out(alloc, words, src, out, acts);
+    tell(alloc, end, err)
+}

@@ -1,0 +1,117 @@
+//! What the command says of its end.
+ghost use Rattle.std.specs.Prelude.{◌≡◌, ◌⊎◌, true, false, IfOk, string_bytes};
+ghost use Rattle.mtapi_top.specs.Command.{Says, status_of, journal_of, message, has_line, IsTold};
+ghost use Rattle.mtapi_top.specs.declared.ends.End.{End};
+
+use crate::ends::{End, Outcome};
+use std::alloc::{AllocError, Global};
+use workload_file::{Cause, Sink, write_all};
+
+/// The message for a faulty line.
+#[tactic(auto, unfolding(crate::specs::Command::message))]
+fn fault_text(alloc: Global, line: u64, cause: Cause) -> Result<String, AllocError>
+    ensures { IfOk result (λ text. string_bytes text ≡ message (End.Refused line cause)) }
+{
+    let cause = cause.text();
+    format!(in alloc; "mtapi: line {line}: {cause}\n")
+}
+
+/// The message for a statement that isn't carried out.
+#[tactic(auto, unfolding(crate::specs::Command::message))]
+fn unbuilt_text(alloc: Global, line: u64) -> Result<String, AllocError>
+    ensures { IfOk result (λ text. string_bytes text ≡ message (End.NotBuilt line)) }
+{
+    format!(in alloc; "mtapi: line {line}: not built\n")
+}
+
+/// Writes a text. A fault of the sink changes nothing else.
+fn say<E: Sink>(err: &mut E, text: &[u8])
+    ensures { Says (E.faults err.old) (E.faults err.new) (E.held err.old) (E.held err.new) text.now }
+{
+    let _ = write_all(err, text);
+}
+
+/// The message of an end that names no line.
+#[tactic(auto, unfolding(crate::specs::Command::message))]
+fn plain_text(end: &End) -> &'static [u8]
+    requires { has_line end.now ≡ false }
+    ensures { result.now ≡ message end.now }
+{
+    match end {
+        End::Done(_) | End::Refused(..) | End::NotBuilt(_) => b"",
+        End::Usage => b"usage: mtapi run\n",
+        End::TooLong => b"mtapi: workload too long\n",
+        End::ReadFault => b"mtapi: read fault\n",
+        End::WriteFault(_) => b"mtapi: write fault\n",
+        End::Memory => b"mtapi: out of memory\n",
+    }
+}
+
+/// The status of an end, and its journal.
+fn outcome_of(end: End) -> Outcome
+    ensures status { result.status ≡ status_of end }
+    ensures journal { result.journal ≡ journal_of end }
+{
+    match end {
+        End::Done(journal) => Outcome {
+            status: 0,
+            journal: Some(journal),
+        },
+        End::WriteFault(journal) => Outcome {
+            status: 5,
+            journal: Some(journal),
+        },
+        End::Usage => without_journal(2),
+        End::Refused(..) | End::TooLong | End::NotBuilt(_) => without_journal(3),
+        End::ReadFault => without_journal(4),
+        End::Memory => without_journal(6),
+    }
+}
+
+fn without_journal(status: u8) -> Outcome
+    ensures { result ≡ record { status = status; journal = None } }
+{
+    Outcome {
+        status,
+        journal: None,
+    }
+}
+
+/// Says a message that was made, or that there was no memory to make it.
+fn tell_text<E: Sink>(end: End, text: Result<String, AllocError>, err: &mut E) -> Outcome
+    requires { IfOk text (λ t. string_bytes t ≡ message end) }
+    ensures { IsTold end (E.faults err.old) (E.faults err.new) (E.held err.old) (E.held err.new) result
+        ⊎ IsTold End.Memory (E.faults err.old) (E.faults err.new) (E.held err.old) (E.held err.new) result }
+{
+    match text {
+        Ok(text) => {
+            say(err, text.as_bytes());
+            outcome_of(end)
+        }
+        Err(_) => {
+            say(err, plain_text(&End::Memory));
+            outcome_of(End::Memory)
+        }
+    }
+}
+
+/// Says on `err` how it ended, and answers the status. Where there is no memory for a message that names a line, that is said instead.
+pub(crate) fn tell<E: Sink>(alloc: Global, end: End, err: &mut E) -> Outcome
+    ensures told { IsTold end (E.faults err.old) (E.faults err.new) (E.held err.old) (E.held err.new) result
+        ⊎ ((has_line end ≡ true) × IsTold End.Memory (E.faults err.old) (E.faults err.new) (E.held err.old) (E.held err.new) result) }
+{
+    match end {
+        End::Refused(line, cause) => {
+            let text = fault_text(alloc, line, cause);
+            tell_text(End::Refused(line, cause), text, err)
+        }
+        End::NotBuilt(line) => {
+            let text = unbuilt_text(alloc, line);
+            tell_text(End::NotBuilt(line), text, err)
+        }
+        other => {
+            say(err, plain_text(&other));
+            outcome_of(other)
+        }
+    }
+}

@@ -1,0 +1,65 @@
+-- What a row gives: a reply that it allows, and the state after it. One word for each part of a row.
+use Rattle.std.proofs.Common.{◌≡◌, ℕ, ◌+◌, ◌≤◌, Bool, true, false, List, [], ◌∷◌, Option, Some, None, refl, sym, ◌∙◌, ap, subst, arith}
+use Rattle.mtapi_values.specs.declared.statuses.MtapiStatus.{MtapiStatus}
+use Rattle.mtapi_values.specs.Conditions.{first}
+use Rattle.handle_pool.specs.Slots.{Slots, get, max_of, live_count, retired_count}
+use Rattle.handle_pool.specs.Issued.{Listed, at, is_full}
+use Rattle.handle_pool.specs.Stands.{Stands}
+use Rattle.handle_pool.proofs.StandsLemmas.{IsFull-limit}
+use Rattle.mtapi_machine.specs.declared.ops.Op.{Op}
+use Rattle.mtapi_machine.specs.declared.replies.Reply.{Reply}
+use Rattle.mtapi_machine.specs.declared.replies.Reply.TheVariants.{Mtapi}
+use Rattle.mtapi_machine.specs.State.{State}
+use Rattle.mtapi_machine.specs.Row.{Row, unless, says, gives, never, Allows, after_row, mtapi_unless, live}
+use Rattle.mtapi_machine.specs.Rows.{row}
+use Rattle.mtapi_machine.specs.Legal.{IsHonest}
+use Rattle.node_core.specs.declared.node.Node.{Node}
+use Rattle.node_core.specs.Stands.{Lists, Pools, Live, Steps, state_of, terms_of}
+
+-- from the state s the row w gives the reply r and leads to t
+pub record Gives (s : State) (w : Row) (r : Reply) (t : State) : Type 0 where
+  pub allowed : Allows w r
+  pub leads : after_row s w ≡ t
+
+pub gives_this : (s t : State) (r : Reply) → Gives s (gives r t) r t
+gives_this s t r = record { allowed = refl; leads = refl }
+
+pub says_this : (s : State) (r : Reply) → Gives s (says r) r s
+says_this s r = record { allowed = refl; leads = refl }
+
+-- a condition that is met, and one that isn't
+pub met : (s : State) (c : Bool) (x : Reply) (w : Row) → c ≡ true → Gives s (unless c x w) x s
+met s true x w e = record { allowed = refl; leads = refl }
+met s false x w e = absurd (cc)
+
+pub past : (s t : State) (c : Bool) (x r : Reply) (w : Row) → c ≡ false → Gives s w r t → Gives s (unless c x w) r t
+past s t false x r w e g = record { allowed = g.allowed; leads = g.leads }
+past s t true x r w e g = absurd (cc)
+
+-- a list of conditions
+pub met_in : (s : State) (cs : List (Bool × MtapiStatus)) (c : MtapiStatus) (w : Row) → first cs ≡ Some c → Gives s (mtapi_unless cs w) (Mtapi c) s
+met_in s [] c w h = absurd (cc)
+met_in s ((true, x) ∷ cs) c w h = record { allowed = cc; leads = refl }
+met_in s ((false, x) ∷ cs) c w h = let g = met_in s cs c w h in record { allowed = g.allowed; leads = g.leads }
+
+pub past_all : (s t : State) (cs : List (Bool × MtapiStatus)) (r : Reply) (w : Row) → first cs ≡ None → Gives s w r t → Gives s (mtapi_unless cs w) r t
+past_all s t [] r w h g = g
+past_all s t ((true, x) ∷ cs) r w h g = absurd (cc)
+past_all s t ((false, x) ∷ cs) r w h g = let k = past_all s t cs r w h g in record { allowed = k.allowed; leads = k.leads }
+
+module _ {T : Type 0} where
+  -- a live object, and none
+  pub at_some : (s t : State) (o : Option T) (x : T) (invalid r : Reply) (f : T → Row) → o ≡ Some x → Gives s (f x) r t → Gives s (live o invalid f) r t
+  at_some s t o x invalid r f e g = subst (λ (p : Option T). Gives s (live p invalid f) r t) (sym e) g
+
+  pub at_none : (s : State) (o : Option T) (invalid : Reply) (f : T → Row) → o ≡ None → Gives s (live o invalid f) invalid s
+  at_none s o invalid f e = subst (λ (p : Option T). Gives s (live p invalid f) invalid s) (sym e) (says_this s invalid)
+
+-- a step of the node from what the row gives
+pub steps : (n m : Node) (l k : Lists) (who : ℕ) (op : Op) (r : Reply) → Gives (state_of n l) (row (state_of n l) who op r) r (state_of m k) → Pools n.core.settings m.actions m.tasks.pool k → terms_of m ≡ terms_of n → m.tasks.starts ≤ n.tasks.starts + 1 → IsHonest op → Steps n l who op r m
+steps n m l k who op r g v t b h =
+    (k, record { allowed = g.allowed; leads = g.leads; live = v; terms = t; starts = b; honest = h })
+
+-- a step that leaves the node as it was
+pub stays : (n : Node) (l : Lists) (who : ℕ) (op : Op) (r : Reply) → Live n l → IsHonest op → Gives (state_of n l) (row (state_of n l) who op r) r (state_of n l) → Steps n l who op r n
+stays n l who op r v h g = (l, record { allowed = g.allowed; leads = g.leads; live = v; terms = refl; starts = omega arith; honest = h })

@@ -1,0 +1,134 @@
+-- The log of a list, with one more entry.
+use Rattle.std.proofs.Common.{◌≡◌, ℕ, ◌+◌, ◌<◌, ◌≤◌, ◌^◌, Bool, true, false, List, [], ◌∷◌, ◌++◌, length, length-append, refl, sym, ◌∙◌, ap, subst, arith}
+use Rattle.std.specs.Prelude.{slice_index, Option, Some, None, Result, Ok, Err, IfOk, IfSome, IsErr, IsNone, ◌↔◌}
+use Rattle.std.specs.declared.alloc.AllocError.{AllocError}
+use Rattle.node_core.specs.declared.entries.Journal.{Journal}
+use Rattle.std.specs.Bool.{MatchBool}
+use Rattle.history.specs.Histories.{entry}
+use Rattle.mtapi_machine.specs.declared.ops.Op.{Op}
+use Rattle.mtapi_machine.specs.declared.replies.Reply.{Reply}
+use Rattle.mtapi_machine.specs.declared.terms.Terms.{Terms}
+use Rattle.mtapi_machine.specs.State.{State, opening}
+use Rattle.mtapi_machine.specs.Legal.{NodeEntry, Legal, after_from, after}
+use Rattle.mtapi_machine.specs.Kept.{pends_alike, drops, is_dropped, is_pending, kept, skipped, counted, counts_after, no_counts}
+use Rattle.mtapi_machine.proofs.Drops.{Kept-legal, after-kept}
+use Rattle.node_core.specs.declared.journaled.Kept.{Kept}
+use Rattle.node_core.specs.declared.journaled.Kept.TheVariants.{Nothing, Lost, Entries}
+use Rattle.node_core.specs.declared.journaled.Log.{Log}
+use Rattle.node_core.specs.declared.journaled.Journaled.{Journaled}
+use Rattle.node_core.specs.declared.node.Node.{Node}
+use Rattle.node_core.specs.Journals.{KeptEntries, kept_of, skipped_of}
+use Rattle.node_core.specs.Stands.{Stands, state_of, terms_of, seat_count}
+use Rattle.node_core.specs.Logs.{keeps, lost, AddsTo, Logs, KeepsOf, LoggedFrom, StandsKept, StandsForFew, HasTerms, KeptAs, IsJournal, copy_for}
+use Rattle.node_core.proofs.KeptLemmas.{kept-append, skipped-append, counts-append, number_le}
+
+-- what is kept of a list is kept of the longer one, with what the entry adds
+added : (s : State) (L : List NodeEntry) (e : NodeEntry) (old new : Kept) (n : ℕ) → KeepsOf s old L → AddsTo old e n new → is_dropped (after_from s L) e ≡ false → n ≡ slice_index (counts_after s no_counts L) e.who → KeepsOf s new (L ++ e ∷ [])
+added s L e old Nothing n k a d m = tt
+added s L e old Lost n k a d m = tt
+added s L e old (Entries x) n k a d m =
+    let before = subst (λ (o : Kept). KeepsOf s o L) a.1 k in (
+      ap (λ (y : KeptEntries). y.entries) a.2 ∙ (ap (λ (l : List NodeEntry). l ++ e ∷ []) before.0 ∙ (ap (λ b. kept s L ++ kept_of b e) (sym d) ∙ sym (kept-append s L e))),
+      ap (λ (y : KeptEntries). y.skipped) a.2
+          ∙ ((λ i. before.1 i ++ m i ∷ []) ∙ (ap (λ b. skipped s no_counts L ++ skipped_of b (slice_index (counts_after s no_counts L) e.who)) (sym d) ∙ sym (skipped-append s no_counts L e))),
+    )
+
+-- an entry that is left out adds nothing
+left_out : (s : State) (L : List NodeEntry) (e : NodeEntry) (k : Kept) → KeepsOf s k L → is_dropped (after_from s L) e ≡ true → KeepsOf s k (L ++ e ∷ [])
+left_out s L e Nothing k d = tt
+left_out s L e Lost k d = tt
+left_out s L e (Entries x) k d = (
+  k.0 ∙ (none (kept s L) ∙ (ap (λ b. kept s L ++ kept_of b e) (sym d) ∙ sym (kept-append s L e))),
+  k.1 ∙ (none (skipped s no_counts L) ∙ (ap (λ b. skipped s no_counts L ++ skipped_of b (slice_index (counts_after s no_counts L) e.who)) (sym d) ∙ sym (skipped-append s no_counts L e))),
+)
+  where
+    none : {A : Type 0} (xs : List A) → xs ≡ xs ++ []
+    none [] = refl
+    none (x ∷ xs) = ap (λ l. x ∷ l) (none xs)
+
+logged : (s : State) (g k : Log) (L : List NodeEntry) (e : NodeEntry) (b : Bool) → LoggedFrom s g L → is_dropped (after_from s L) e ≡ b → Logs g b e k → LoggedFrom s k (L ++ e ∷ [])
+logged s g k L e true old d new = record {
+  kept = left_out s L e k.kept (subst (λ (x : Kept). KeepsOf s x L) (sym new.kept) old.kept) d;
+  counts = new.counts ∙ ((λ i. counted (sym d i) (is_pending e.reply) (old.counts i) e.who) ∙ sym (counts-append s no_counts L e));
+}
+logged s g k L e false old d new = record {
+  kept = added s L e g.kept k.kept (slice_index g.counts e.who) old.kept new.kept d (ap (λ (c : List ℕ). slice_index c e.who) old.counts);
+  counts = new.counts ∙ ((λ i. counted (sym d i) (is_pending e.reply) (old.counts i) e.who) ∙ sym (counts-append s no_counts L e));
+}
+
+-- where nothing is kept, nothing is added
+pub none_added : (k : Kept) (op : Op) (e : NodeEntry) (n : ℕ) → None ≡ copy_for k op → AddsTo k e n k
+none_added Nothing op e n c = refl
+none_added Lost op e n c = refl
+none_added (Entries k) op e n c = absurd (cc)
+
+-- the node goes on with the list, and so does the log
+pub journal_goes_on : (n m : Node) (g k : Log) (L : List NodeEntry) (who : ℕ) (op : Op) (r : Reply) (alike : Bool) (st : Stands n L) → LoggedFrom (opening (terms_of n)) g L → terms_of m ≡ terms_of n → pends_alike (state_of n st.lists) who op ≡ alike → Logs g (drops alike r) (entry who op r) k → LoggedFrom (opening (terms_of m)) k (L ++ entry who op r ∷ [])
+journal_goes_on n m g k L who op r alike st old same is new =
+    subst (λ (t : Terms). LoggedFrom (opening t) k (L ++ entry who op r ∷ [])) (sym same)
+    (logged (opening (terms_of n)) g k L (entry who op r) (drops alike r) old (ap (λ (s : State). drops (pends_alike s who op) r) st.state ∙ ap (λ b. drops b r) is) new)
+
+-- a number fits, and so does a seat
+pub number_fits : (n : Node) (g : Log) (L : List NodeEntry) (who : ℕ) → LoggedFrom (opening (terms_of n)) g L → length L < 2 ^ 62 → slice_index g.counts who < 2 ^ 63
+number_fits n g L who st l =
+    subst (λ (c : List ℕ). slice_index c who < 2 ^ 63) (sym st.counts) (omega (arith, number_le (opening (terms_of n)) L who))
+
+pub seat_fits : (n : Node) (L : List NodeEntry) (who : ℕ) → Stands n L → who < seat_count (terms_of n) → who < 25
+seat_fits n L who st s =
+    let workers = st.legal.fits.settings.workers.1 in
+    let callers = st.legal.fits.callers in
+    omega arith
+
+-- nothing was called yet
+pub logged_none : (s : State) (g : Log) → KeepsOf s g.kept [] → g.counts ≡ no_counts → LoggedFrom s g []
+unfolding counts_after
+logged_none s g a b = record { kept = a; counts = b }
+
+pub kept_none : (s : State) (k : KeptEntries) → k ≡ record { entries = []; skipped = [] } → KeepsOf s (Entries k) []
+unfolding kept skipped
+kept_none s k e = (ap (λ (x : KeptEntries). x.entries) e, ap (λ (x : KeptEntries). x.skipped) e)
+
+-- the kept entries are legal, and lead to the same state
+pub kept_legal : (t : Terms) (L E : List NodeEntry) → Legal t L → E ≡ kept (opening t) L → Legal t E × (after t E ≡ after t L)
+kept_legal t L E l e = (
+  subst (Legal t) (sym e) (record { fits = l.fits; from = Kept-legal (opening t) L l.from }),
+  ap (after_from (opening t)) e ∙ after-kept (opening t) L l.from,
+)
+
+-- the journal that is handed out
+module _ (t : Terms) where
+  pub journal_none : (k : Kept) (r : Result (Option Journal) AllocError) → IsJournal t k r → (r ≡ Ok None) ↔ (keeps k ≡ false)
+  journal_none Nothing r e = (λ x. refl, λ x. e)
+  journal_none Lost r e = rw e (λ x. cc, λ x. cc)
+  journal_none (Entries k) r e = rw e (λ x. cc, λ x. cc)
+
+  pub journal_has : (k : Kept) (r : Result (Option Journal) AllocError) → IsJournal t k r → IfOk r (λ o. IfSome o (HasTerms t))
+  journal_has Nothing r e = rw e tt
+  journal_has Lost r e = rw e tt
+  journal_has (Entries k) r e = rw e (record { settings = refl; callers = refl })
+
+  pub journal_lost : (k : Kept) (r : Result (Option Journal) AllocError) → IsJournal t k r → IsErr r ↔ (lost k ≡ true)
+  journal_lost Nothing r e = rw e (λ x. cc, λ x. cc)
+  journal_lost Lost r e = rw e (λ x. refl, λ x. refl)
+  journal_lost (Entries k) r e = rw e (λ x. cc, λ x. cc)
+
+  pub journal_kept : (k : Kept) (r : Result (Option Journal) AllocError) (L : List NodeEntry) → IsJournal t k r → KeepsOf (opening t) k L → Legal t L → IfOk r (λ o. IfSome o (λ j. KeptAs t j L))
+  journal_kept Nothing r L e h l = rw e tt
+  journal_kept Lost r L e h l = rw e tt
+  journal_kept (Entries k) r L e h l =
+      let good = kept_legal t L k.entries l h.0 in
+      rw e (record { settings = refl; callers = refl; entries = h.0; numbers = h.1; legal = good.0; leads = good.1 })
+
+-- few entries, and one more
+pub few_none : (j : Journaled) → StandsKept j [] → StandsForFew j 0
+few_none j s = record { list = []; stands = s; few = omega arith }
+
+pub few_room : (j : Journaled) (k : ℕ) → StandsForFew j k → k < 2 ^ 62 → (L : List NodeEntry) × StandsKept j L × (length L < 2 ^ 62)
+few_room j k s l = (s.list, s.stands, omega (arith, s.few))
+
+pub few_more : (j m : Journaled) (k who : ℕ) (op : Op) (r : Reply) → StandsForFew j k → ((L : List NodeEntry) → StandsKept j L → StandsKept m (L ++ entry who op r ∷ [])) → StandsForFew m (k + 1)
+few_more j m k who op r s f = record {
+  list = s.list ++ entry who op r ∷ [];
+  stands = f s.list s.stands;
+  few = let one : length (s.list ++ entry who op r ∷ []) ≡ length s.list + 1 = simp length-append refl in omega (arith, s.few);
+}

@@ -1,0 +1,8 @@
+use Rattle.std.proofs.Common.{refl}
+use Rattle.mtapi_machine.specs.State.{opening}
+use Rattle.node_core.specs.Stands.{terms_of}
+use Rattle.node_core.proofs.LogLemmas.{logged_none, kept_none}
+use Rattle.node_core.proofs.journaled.Journaled.with.Goals as goal
+
+pub returns-clause-stands : goal.returns-clause-stands
+returns-clause-stands c st = record { node = st; log = logged_none (opening (terms_of c.args.node)) _ (kept_none (opening (terms_of c.args.node)) c.new.result c.new.ensures) refl }

@@ -1,0 +1,8 @@
+use Rattle.std.proofs.Common.{refl}
+use Rattle.mtapi_machine.specs.State.{opening}
+use Rattle.node_core.specs.Stands.{terms_of}
+use Rattle.node_core.proofs.LogLemmas.{logged_none}
+use Rattle.node_core.proofs.journaled.Journaled.without.Goals as goal
+
+pub returns-clause-stands : goal.returns-clause-stands
+returns-clause-stands c st = record { node = st; log = logged_none (opening (terms_of c.args.node)) _ tt refl }

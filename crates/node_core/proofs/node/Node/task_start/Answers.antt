@@ -1,0 +1,25 @@
+use Rattle.std.proofs.Common.{Ok, Err, sym, subst, ◌∙◌}
+use Rattle.std.specs.Prelude.{Result}
+use Rattle.mtapi_values.specs.declared.handles.TaskHandle.{TaskHandle}
+use Rattle.mtapi_values.specs.declared.statuses.MtapiStatus.{MtapiStatus}
+use Rattle.task_core.specs.Table.{Adds}
+use Rattle.node_core.specs.Starts.{asked_for}
+use Rattle.node_core.proofs.TaskSteps.{start_wrong, start_refused, start_steps}
+use Rattle.node_core.proofs.node.Node.task_start.Goals as goal
+
+pub returns-in-Some : goal.returns-in-Some
+returns-in-Some c l who v =
+    start_refused c.args.self.now l who c.args.job c.args.args c.args.priority c.args.cores c.args.detached c.args.group v (sym c.if-not-is_open.ensures) c.in-Some.status (sym c.if-is_wrong.ensures)
+    (c.start_refusal.ensures l c.args.args c.args.priority c.args.detached v ∙ c.in-Some.is)
+
+pub returns-in-Ok : goal.returns-in-Ok
+returns-in-Ok c l who v =
+    start_steps c.args.self.now l who c.args.job c.args.args c.args.priority c.args.cores c.args.detached c.args.group v (sym c.if-not-is_open.ensures) c.add.new.self (Ok c.in-Ok.task) (sym c.if-is_wrong.ensures)
+    (c.start_refusal.ensures l c.args.args c.args.priority c.args.detached v ∙ c.in_default.is)
+    (subst (λ (x : Result TaskHandle MtapiStatus). Adds c.args.self.now.tasks (asked_for c.args.job c.args.args c.args.priority c.args.cores c.args.detached c.args.group) x c.add.new.self) c.in-Ok.is c.add.ensures)
+
+pub returns-in-Err : goal.returns-in-Err
+returns-in-Err c l who v =
+    start_steps c.args.self.now l who c.args.job c.args.args c.args.priority c.args.cores c.args.detached c.args.group v (sym c.if-not-is_open.ensures) c.add.new.self (Err c.in-Err.status) (sym c.if-is_wrong.ensures)
+    (c.start_refusal.ensures l c.args.args c.args.priority c.args.detached v ∙ c.in_default.is)
+    (subst (λ (x : Result TaskHandle MtapiStatus). Adds c.args.self.now.tasks (asked_for c.args.job c.args.args c.args.priority c.args.cores c.args.detached c.args.group) x c.add.new.self) c.in-Err.is c.add.ensures)

@@ -1,0 +1,90 @@
+-- What it means that a node stands for a history.
+use Rattle.std.specs.Prelude.{◌≡◌, ℕ, ◌+◌, ◌≤◌, ◌<◌, List, [], length}
+use Rattle.mtapi_values.specs.Attributes.{NodeSettings, AreNodeSettings}
+use Rattle.handle_pool.specs.Slots.{Slots, max_of}
+use Rattle.handle_pool.specs.Issued.{Listed}
+use Rattle.handle_pool.specs.Stands.{Stands as SlotsStand}
+use Rattle.job_table.specs.Actions.{Action}
+use Rattle.task_core.specs.Tasks.{Task}
+use Rattle.mtapi_machine.specs.declared.terms.Terms.{Terms}
+use Rattle.mtapi_machine.specs.declared.ops.Op.{Op}
+use Rattle.mtapi_machine.specs.declared.replies.Reply.{Reply}
+use Rattle.mtapi_machine.specs.State.{State}
+use Rattle.mtapi_machine.specs.Row.{Allows, after_row}
+use Rattle.mtapi_machine.specs.Rows.{row}
+use Rattle.mtapi_machine.specs.Legal.{NodeEntry, IsHonest, Legal, Fits, after}
+use Rattle.node_core.specs.declared.node.Core.{Core}
+use Rattle.node_core.specs.declared.node.Node.{Node}
+
+-- the objects that were ever made, of the kinds that a node has so far
+pub record Lists : Type 0 where
+  pub actions : List (Listed Action)
+  pub tasks : List (Listed Task)
+
+-- what no op changes
+abbrev pub terms_of : Node → Terms
+terms_of n = record { settings = n.core.settings; callers = n.core.callers }
+
+-- the state of the machine that has these lists, and all else as the node has it; of the other kinds no object was made
+abbrev pub state_of : Node → Lists → State
+state_of n l = record {
+  terms = record { settings = n.core.settings; callers = n.core.callers };
+  phase = n.core.phase;
+  released = n.core.released;
+  stopped = n.core.stopped;
+  starts = n.tasks.starts;
+  ends = n.tasks.ends;
+  actions = l.actions;
+  tasks = l.tasks;
+  groups = [];
+  queues = [];
+  mutexes = [];
+  sems = [];
+  rwls = [];
+  segments = [];
+}
+
+-- the slots of a pool stand for this list, and are as many and used as often as the settings say
+pub record Holds {T : Type 0} (size turns : ℕ) (p : Slots T) (l : List (Listed T)) : Type 0 where
+  pub stands : SlotsStand p l
+  pub max : max_of p ≡ size
+  pub generations : p.generations ≡ turns
+
+-- the node's pools stand for these lists
+pub record Pools (settings : NodeSettings) (a : Slots Action) (t : Slots Task) (l : Lists) : Type 0 where
+  pub actions : Holds settings.actions settings.generations a l.actions
+  pub tasks : Holds settings.tasks settings.generations t l.tasks
+
+abbrev pub Live : Node → Lists → Type 0
+Live n l = Pools n.core.settings n.actions n.tasks.pool l
+
+-- the step from n to m, with these lists then, is one of the machine's
+pub record StepsTo (n : Node) (l : Lists) (who : ℕ) (op : Op) (r : Reply) (m : Node) (k : Lists) : Type 0 where
+  pub allowed : Allows (row (state_of n l) who op r) r
+  pub leads : after_row (state_of n l) (row (state_of n l) who op r) ≡ state_of m k
+  pub live : Pools n.core.settings m.actions m.tasks.pool k
+  pub terms : terms_of m ≡ terms_of n
+  pub starts : m.tasks.starts ≤ n.tasks.starts + 1
+  pub honest : IsHonest op
+
+abbrev pub Steps : Node → Lists → ℕ → Op → Reply → Node → Type 0
+Steps n l who op r m = (k : Lists) × StepsTo n l who op r m k
+
+-- the node stands for the list: it is legal, and leads to what the node holds
+pub record Stands (n : Node) (L : List NodeEntry) : Type 0 where
+  pub legal : Legal (terms_of n) L
+  pub lists : Lists
+  pub state : after (terms_of n) L ≡ state_of n lists
+  pub live : Live n lists
+  pub starts : n.tasks.starts ≤ length L
+
+-- how many seats these terms give
+abbrev pub seat_count : Terms → ℕ
+seat_count t = t.settings.workers + t.callers
+
+-- terms of a node: the usual settings, and main alone
+abbrev pub some_terms : Terms
+some_terms = record {
+  settings = record { workers = 1; tasks = 1024; actions = 64; groups = 128; queues = 16; objects = 16; priorities = 4; generations = 4294967295 };
+  callers = 1;
+}

@@ -1,0 +1,241 @@
+//! A node with a journal of its calls.
+
+ghost use Rattle.std.specs.Prelude.{◌≡◌, ◌<◌, ◌^◌, ◌+◌, ◌↔◌, [], ◌∷◌, ◌++◌, List, length, true, false, slice_index, Ok, None, IfOk, IfSome, IsErr};
+ghost use Rattle.std.specs.Bool.{OnTrue, OnFalse};
+ghost use Rattle.history.specs.Histories.{entry};
+ghost use Rattle.mtapi_machine.specs.declared.ops.Op.{Op as OpAsked};
+ghost use Rattle.mtapi_machine.specs.Legal.{NodeEntry};
+ghost use Rattle.mtapi_machine.specs.Kept.{pends_alike, drops, is_pending};
+ghost use Rattle.node_core.specs.Stands.{Lists, Live, Stands, state_of, terms_of};
+ghost use Rattle.node_core.specs.Logs.{copy_for, AddsTo, Logs, StandsKept, HasTerms, KeptAs, IsJournal, keeps, journal_terms, is_lost};
+
+use crate::entries::{EntryList, Journal};
+use crate::node::Node;
+use crate::walks::is_seat;
+use history::Object;
+use mtapi_machine::{Entry, Op, Reply, Terms};
+use std::alloc::{AllocError, Global};
+
+// Whether an entry is left out, where the state stays if the reply is Pending.
+fn drops(alike: bool, reply: &Reply) -> bool
+    ensures { result ≡ drops alike reply.now }
+{
+    match reply {
+        Reply::Idle => true,
+        Reply::Pending => alike,
+        _ => false,
+    }
+}
+
+fn is_pending(reply: &Reply) -> bool
+    ensures { result ≡ is_pending reply.now }
+{
+    matches!(reply, Reply::Pending)
+}
+
+impl Node {
+    // Where this op is answered Pending, does the state stay as it was?
+    fn pends_alike(&self, who: u32, op: &Op) -> bool
+        ensures { (l : Lists) → Live self.now l → pends_alike (state_of self.now l) who op.now ≡ result }
+    {
+        match op {
+            Op::TaskLook { task, .. } => match self.live_task(*task) {
+                Some(found) => is_seat(who, found.waiter()),
+                None => false,
+            },
+            _ => true,
+        }
+    }
+}
+
+// What is kept of the calls.
+#[derive(Drop)]
+enum Kept {
+    // No journal is kept.
+    Nothing,
+    // Memory was short, and the entries are lost.
+    Lost,
+    Entries(EntryList),
+}
+
+impl Kept {
+    // The op once more, where entries are kept.
+    fn copy_for(&self, op: &Op) -> Option<Op>
+        ensures { result ≡ copy_for self.now op.now }
+    {
+        match self {
+            Kept::Entries(_) => Some(op.again()),
+            Kept::Nothing | Kept::Lost => None,
+        }
+    }
+}
+
+// Adds an entry and its number where a journal is kept. False where memory was short.
+fn push_to(kept: &mut Kept, entry: Entry, number: u64) -> bool
+    ensures pushed { OnTrue result (AddsTo kept.old entry number kept.new) }
+    ensures short { OnFalse result (keeps kept.old ≡ true) }
+{
+    match kept {
+        Kept::Nothing => true,
+        Kept::Lost => true,
+        Kept::Entries(entries) => entries.push(entry, number).is_ok(),
+    }
+}
+
+// The same; the entries are lost where memory was short.
+fn add_to(kept: &mut Kept, entry: Entry, number: u64)
+    ensures { AddsTo kept.old entry number kept.new }
+{
+    if !push_to(kept, entry, number) {
+        *kept = Kept::Lost;
+    }
+}
+
+// What is kept, and how many entries of each seat were left out since its last kept one.
+#[derive(Drop)]
+struct Log {
+    kept: Kept,
+    counts: [u64; 25],
+}
+
+impl Log {
+    // Takes note of an entry. The op is at hand where entries are kept, and nowhere else.
+    fn add(&mut self, who: u32, copy: Option<Op>, reply: &Reply, alike: bool)
+        requires seat { who < 25 }
+        requires room { slice_index self.old.counts who < 2 ^ 63 }
+        ensures { (op : OpAsked) → copy ≡ copy_for self.old.kept op → Logs self.old (drops alike reply.now) (entry who op reply.now) self.new }
+    {
+        let place = who as usize;
+        let number = self.counts[place];
+        if drops(alike, reply) {
+            if is_pending(reply) {
+                self.counts[place] = number + 1;
+            }
+            return;
+        }
+        self.counts[place] = 0;
+        let Some(op) = copy else {
+            return;
+        };
+        let reply = reply.again();
+        add_to(&mut self.kept, Entry { who, op, reply }, number);
+    }
+}
+
+/// A node and, where it keeps one, the journal of its calls.
+#[derive(Drop)]
+pub struct Journaled {
+    node: Node,
+    log: Log,
+}
+
+/// What no call of a `Journaled` changes.
+#[derive(Clone, Copy, Debug, Drop, PartialEq, Eq)]
+pub struct JournaledTerms {
+    /// The terms of the node.
+    pub node: Terms,
+    /// Whether a journal is kept.
+    pub keeps: bool,
+}
+
+impl Object for Journaled {
+    type Op = Op;
+
+    type Reply = Reply;
+
+    type Terms = JournaledTerms;
+
+    ghost use Rattle.mtapi_machine.proofs.Lists.{Legal-prefix};
+    ghost use Rattle.node_core.specs.Logs.{StandsKept, journal_terms, journal_seats, journal_legal, some_journal_terms};
+
+    ghost blank = { some_journal_terms };
+
+    ghost terms = { journal_terms };
+
+    ghost seat_count = { journal_seats };
+
+    ghost legal = { journal_legal };
+
+    ghost stands = { StandsKept };
+
+    ghost prefix_legal = { λ t. Legal-prefix t.node };
+
+    ghost stands_legal = { λ x l s. s.node.legal };
+
+    fn seats(&self) -> u32 {
+        self.node.seats()
+    }
+
+    fn told_terms(&self) -> JournaledTerms {
+        JournaledTerms {
+            node: self.node.told_terms(),
+            keeps: !matches!(self.log.kept, Kept::Nothing),
+        }
+    }
+
+    fn apply(&mut self, who: u32, op: Op) -> Reply {
+        let alike = self.node.pends_alike(who, &op);
+        let copy = self.log.kept.copy_for(&op);
+        let reply = self.node.step(who, op);
+        self.log.add(who, copy, &reply, alike);
+        reply
+    }
+}
+
+impl Journaled {
+    /// A node that keeps no journal. It takes no memory.
+    pub fn without(node: Node) -> Journaled
+        ensures terms { journal_terms result ≡ record { node = terms_of node; keeps = false } }
+        ensures stands { Stands node [] → StandsKept result [] }
+    {
+        Journaled {
+            node,
+            log: Log {
+                kept: Kept::Nothing,
+                counts: [0; 25],
+            },
+        }
+    }
+
+    /// A node that keeps a journal, which grows with its calls.
+    pub fn with(alloc: Global, node: Node) -> Journaled
+        ensures terms { journal_terms result ≡ record { node = terms_of node; keeps = true } }
+        ensures stands { Stands node [] → StandsKept result [] }
+    {
+        Journaled {
+            node,
+            log: Log {
+                kept: Kept::Entries(EntryList::new(alloc)),
+                counts: [0; 25],
+            },
+        }
+    }
+
+    /// The kept journal: none where none is kept, and an error where it was lost for want of memory.
+    pub fn into_journal(self) -> Result<Option<Journal>, AllocError>
+        ensures none { (result ≡ Ok None) ↔ ((journal_terms self).keeps ≡ false) }
+        ensures lost { IsErr result ↔ (is_lost self ≡ true) }
+        ensures terms { IfOk result (λ o. IfSome o (HasTerms (journal_terms self).node)) }
+        ensures kept { (L : List NodeEntry) → StandsKept self L → IfOk result (λ o. IfSome o (λ j. KeptAs (journal_terms self).node j L)) }
+    {
+        let Journaled { node, log } = self;
+        let Log { kept, counts: _ } = log;
+        let terms = node.told_terms();
+        journal_in(kept, &terms)
+    }
+}
+
+// The journal with what was kept.
+fn journal_in(kept: Kept, terms: &Terms) -> Result<Option<Journal>, AllocError>
+    ensures { IsJournal terms.now kept result }
+{
+    match kept {
+        Kept::Nothing => Ok(None),
+        Kept::Lost => Err(AllocError),
+        Kept::Entries(entries) => Ok(Some(Journal {
+            settings: terms.settings,
+            callers: terms.callers,
+            entries,
+        })),
+    }
+}

@@ -1,0 +1,63 @@
+//! The node as an object whose calls make one history.
+
+ghost use Rattle.std.specs.Prelude.{◌≡◌, ◌+◌, ◌^◌, ◌<◌, List, [], ◌∷◌, ◌++◌, length};
+ghost use Rattle.history.specs.Histories.{entry};
+ghost use Rattle.mtapi_machine.specs.Legal.{NodeEntry};
+ghost use Rattle.node_core.specs.Stands.{Stands, terms_of, seat_count};
+
+use crate::node::Node;
+use history::Object;
+use mtapi_machine::{Op, Reply};
+
+impl Object for Node {
+    type Op = Op;
+
+    type Reply = Reply;
+
+    type Terms = mtapi_machine::Terms;
+
+    ghost use Rattle.mtapi_machine.specs.Legal.{Legal};
+    ghost use Rattle.mtapi_machine.proofs.Lists.{Legal-prefix};
+    ghost use Rattle.node_core.specs.Stands.{Stands, terms_of, seat_count, some_terms};
+
+    ghost blank = { some_terms };
+
+    ghost terms = { terms_of };
+
+    ghost seat_count = { seat_count };
+
+    ghost legal = { Legal };
+
+    ghost stands = { Stands };
+
+    ghost prefix_legal = { Legal-prefix };
+
+    ghost stands_legal = { λ x l s. s.legal };
+
+    fn seats(&self) -> u32 {
+        self.core.settings.workers() + u32::from(self.core.callers)
+    }
+
+    fn told_terms(&self) -> mtapi_machine::Terms {
+        mtapi_machine::Terms {
+            settings: self.core.settings,
+            callers: u32::from(self.core.callers),
+        }
+    }
+
+    fn apply(&mut self, who: u32, op: Op) -> Reply {
+        self.dispatch(who, op)
+    }
+}
+
+impl Node {
+    /// One op by the seat `who`: it does what `apply` does.
+    pub fn step(&mut self, who: u32, op: Op) -> Reply
+        requires seat { who < seat_count (terms_of self.old) }
+        requires room { (L : List NodeEntry) × Stands self.old L × (length L < 2 ^ 62 + 16) }
+        ensures terms { terms_of self.new ≡ terms_of self.old }
+        ensures stands { (L : List NodeEntry) → Stands self.old L → Stands self.new (L ++ entry who op result ∷ []) }
+    {
+        self.dispatch(who, op)
+    }
+}

@@ -1,0 +1,108 @@
+//! The ops of workers.
+
+ghost use Rattle.std.specs.Prelude.{◌≡◌, ℕ};
+ghost use Rattle.mtapi_machine.specs.Rows.{task_end, is_stop};
+ghost use Rattle.mtapi_machine.specs.declared.ops.Op.TheVariants as op;
+ghost use Rattle.node_core.specs.Stands.{Lists, Live, Steps, state_of};
+ghost use Rattle.node_core.specs.Picks.{IsChoice, Takes};
+
+use crate::node::Node;
+use crate::phase_ops::{is_late, is_new};
+use crate::walks::{Choice, runs_so};
+use action_fn::{ActEnd, Finished};
+use mtapi_machine::Reply;
+use mtapi_values::{MtapiStatus, TaskEnd, TaskHandle};
+
+// How a task ends whose action answered so.
+fn task_end(end: &ActEnd) -> TaskEnd
+    ensures { result ≡ task_end end.now }
+{
+    match end {
+        ActEnd::Done(args) => TaskEnd::Completed(args.again()),
+        ActEnd::Fails(status) => TaskEnd::Failed(*status),
+    }
+}
+
+impl Node {
+    // Whether no worker finds a task any more.
+    fn stops(&self) -> bool
+        ensures { (l : Lists) → Live self.now l → is_stop (state_of self.now l) ≡ result }
+    {
+        is_late(self.core.phase) && !self.has_unended()
+    }
+
+    pub(crate) fn pick(&mut self, who: u32) -> Reply
+        ensures { (l : Lists) → Live self.old l → Steps self.old l who op.Pick result self.new }
+    {
+        if who >= self.core.settings.workers() || self.runs_any(who) {
+            return Reply::Mtapi(MtapiStatus::ErrParameter);
+        }
+        if is_new(self.core.phase) {
+            return Reply::Idle;
+        }
+        if self.stops() {
+            self.core.stopped[who as usize] = true;
+            return Reply::Stop;
+        }
+        match self.best(who) {
+            None => Reply::Idle,
+            Some(choice) => self.take(who, choice),
+        }
+    }
+
+    // The worker takes what was chosen.
+    fn take(&mut self, who: u32, choice: Choice) -> Reply
+        requires { IsChoice self.old.actions self.old.tasks.pool who choice }
+        ensures { Takes self.old who choice result self.new }
+    {
+        let args = self.tasks.run_on(choice.task, who, choice.kind);
+        Reply::Picked {
+            task: choice.task,
+            action: choice.action,
+            kind: choice.kind,
+            args,
+        }
+    }
+
+    pub(crate) fn finish(&mut self, who: u32, task: TaskHandle, done: Finished) -> Reply
+        ensures { (l : Lists) → Live self.old l → Steps self.old l who (op.Finish task done) result self.new }
+    {
+        if who >= self.core.settings.workers() {
+            return Reply::Mtapi(MtapiStatus::ErrParameter);
+        }
+        match self.live_task(task) {
+            Some(found) if runs_so(found, who, &done) => {}
+            _ => return Reply::Mtapi(MtapiStatus::ErrTaskInvalid),
+        }
+        self.tasks.end_with(task, task_end(done.end()));
+        Reply::Ok
+    }
+
+    pub(crate) fn asked(&mut self, who: u32, task: TaskHandle) -> Reply
+        ensures { (l : Lists) → Live self.old l → Steps self.old l who (op.Asked task) result self.new }
+    {
+        if who >= self.core.settings.workers() {
+            return Reply::Mtapi(MtapiStatus::ErrParameter);
+        }
+        match self.tasks.asked(task, who) {
+            Ok(requested) => Reply::Asked(requested),
+            Err(status) => Reply::Mtapi(status),
+        }
+    }
+
+    pub(crate) fn watch_end(&mut self, who: u32, task: TaskHandle) -> Reply
+        ensures { (l : Lists) → Live self.old l → Steps self.old l who (op.WatchEnd task) result self.new }
+    {
+        if who >= self.core.settings.workers() {
+            return Reply::Mtapi(MtapiStatus::ErrParameter);
+        }
+        match self.tasks.watch_end(task, who) {
+            Ok(end) => {
+                let answer = end.again();
+                self.tasks.end_with(task, end);
+                Reply::Ended(answer)
+            }
+            Err(status) => Reply::Mtapi(status),
+        }
+    }
+}

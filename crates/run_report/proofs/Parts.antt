@@ -1,0 +1,79 @@
+-- The lines of the parts, one part after another.
+use Rattle.std.proofs.Common.{◌≡◌, ℕ, ◌+◌, ◌-◌, ◌≤◌, List, [], ◌∷◌, ◌++◌, Result, Ok, Err, refl, sym, ◌∙◌, ap, subst, arith, length, get_or, take, drop, append_assoc}
+use Rattle.std.specs.Prelude.{IfOk, Option}
+use Rattle.std.specs.Global.{Vec}
+use Rattle.std.specs.List.{flat_map}
+use Rattle.std.proofs.lemmas.List.{take_all}
+use Rattle.mtapi_values.specs.Attributes.{NodeSettings}
+use Rattle.mtapi_values.specs.declared.ends.TaskEnd.{TaskEnd}
+use Rattle.workload_file.specs.declared.workload.Part.{Part}
+use Rattle.mtapi_machine.specs.Legal.{NodeEntry}
+use Rattle.mtapi_machine.specs.Legal.{Legal, after}
+use Rattle.workload_file.specs.declared.workload.Workload.{Workload}
+use Rattle.run_report.specs.declared.standing.Standing.{Standing}
+use Rattle.run_report.specs.Tasks.{end_at}
+use Rattle.run_report.specs.Calls.{task_lines, call_lines}
+use Rattle.run_report.specs.Standings.{ends_of, end_of_standing, standings_from, no_standing}
+use Rattle.run_report.specs.Report.{terms_of, parts_told, report_by, report}
+use Rattle.run_report.proofs.Records.{end_at-standing}
+use Rattle.run_report.proofs.Steps.{standing_by_entries}
+use Rattle.run_report.specs.Replies.{Told, told, further_told, all_told, calls_before}
+
+abbrev pub rest_of : {X : Type 0} → List X → List X
+rest_of xs = take (length xs - 1) (drop 1 xs)
+
+first_rest : {X : Type 0} (xs : List X) (d : X) → 1 ≤ length xs → xs ≡ get_or xs 0 d ∷ rest_of xs
+first_rest [] d h = absurd (omega arith)
+first_rest (x ∷ xs) d h =
+    let n : length (x ∷ xs) - 1 ≡ length xs = omega arith in
+    let same : take (length xs) xs ≡ xs = take_all (length xs) xs (omega arith) in
+    rw (n, same) refl
+
+first_with : {X : Type 0} (xs : List X) (d : X) → 1 ≤ length xs → d ≡ get_or xs 0 d → xs ≡ d ∷ rest_of xs
+first_with xs d h is = first_rest xs d h ∙ ap (λ x. x ∷ rest_of xs) (sym is)
+
+-- a text with two pieces behind it
+pub two_pieces : (now mid out a b whole : List ℕ) → whole ≡ a ++ b → mid ≡ now ++ a → out ≡ mid ++ b → out ≡ now ++ whole
+two_pieces now mid out a b whole is first second = second ∙ ap (λ x. x ++ b) first ∙ append_assoc now a b ∙ ap (λ x. now ++ x) (sym is)
+
+-- what the parts of further callers show is what the first shows, and then what the others show
+pub further_more : (f : Told → List ℕ) (who : ℕ) (es : List NodeEntry) (p : Part) (ps : List Part) → 1 ≤ length ps → p ≡ get_or ps 0 p
+    → flat_map f (further_told who es ps) ≡ f (told who 1 es p) ++ flat_map f (further_told (who + 1) es (rest_of ps))
+unfolding further_told
+further_more f who es p ps h is = ap (λ l. flat_map f (further_told who es l)) (first_with ps p h is)
+
+pub all_more : (f : Told → List ℕ) (main : ℕ) (es : List NodeEntry) (p : Part) (ps : List Part) (before : ℕ) → 1 ≤ length ps → p ≡ get_or ps 0 p → before ≡ calls_before p.statements
+    → flat_map f (all_told main es ps) ≡ f (told main before es p) ++ flat_map f (further_told (main + 1) es (rest_of ps))
+all_more f main es p ps before h is same =
+    ap (λ l. flat_map f (all_told main es l)) (first_with ps p h is) ∙ (λ j. f (told main (sym same j) es p) ++ flat_map f (further_told (main + 1) es (rest_of ps)))
+
+-- The whole report
+
+pub if_ok : {E : Type 0} (r : Result (Vec ℕ) E) (a b : List ℕ) → a ≡ b → IfOk r (λ v. v.items ≡ a) → IfOk r (λ v. v.items ≡ b)
+if_ok (Ok v) a b e h = h ∙ e
+if_ok (Err x) a b e h = tt
+
+-- the ends by the entries are those in the records of the last state
+ends_same : (load : Workload) (es : List NodeEntry) → Legal (terms_of load) es → (h : ℕ) → ends_of (standings_from no_standing es) h ≡ end_at (after (terms_of load) es).tasks h
+ends_same load es legal h = ap end_of_standing (sym (standing_by_entries (terms_of load) es legal h)) ∙ sym (end_at-standing (after (terms_of load) es).tasks h)
+
+pub text_is : (load : Workload) (es : List NodeEntry) (m : ℕ → Option Standing) (workers : ℕ) (parts : List Part) (no_tasks no_calls tasks calls : List ℕ) → ((h : ℕ) → m h ≡ standings_from no_standing es h)
+    → workers ≡ load.settings.workers → parts ≡ load.parts → no_tasks ≡ [] → no_calls ≡ []
+    → tasks ≡ no_tasks ++ flat_map (task_lines (ends_of m)) (all_told workers es parts) → calls ≡ no_calls ++ flat_map call_lines (all_told workers es parts)
+    → tasks ++ calls ≡ report_by (ends_of (standings_from no_standing es)) (parts_told load es)
+text_is load es m workers parts no_tasks no_calls tasks calls is w p nt nc t c =
+    (λ j. t j ++ c j)
+    ∙ (λ j. (nt j ++ flat_map (task_lines (ends_of m)) (all_told (w j) es (p j))) ++ (nc j ++ flat_map call_lines (all_told (w j) es (p j))))
+    ∙ ap (λ (f : ℕ → Option Standing). report_by (ends_of f) (parts_told load es)) (λ j h. is h j)
+
+pub report_is : (load : Workload) (es : List NodeEntry) → Legal (terms_of load) es → report_by (ends_of (standings_from no_standing es)) (parts_told load es) ≡ report load es
+unfolding report
+report_is load es legal = ap (λ (f : ℕ → Option TaskEnd). report_by f (parts_told load es)) (λ j h. ends_same load es legal h j)
+
+-- a journal with the terms of the workload is legal for these
+pub legal_same : (load : Workload) (settings : NodeSettings) (callers : ℕ) (es fs : List NodeEntry) → settings ≡ load.settings → callers ≡ length load.parts → es ≡ fs
+    → Legal (record { settings = settings; callers = callers }) fs → Legal (terms_of load) es
+legal_same load settings callers es fs s c e legal =
+    let at_settings : Legal (record { settings = load.settings; callers = callers }) fs = subst (λ (x : NodeSettings). Legal (record { settings = x; callers = callers }) fs) s legal in
+    let at_callers : Legal (terms_of load) fs = subst (λ (n : ℕ). Legal (record { settings = load.settings; callers = n }) fs) c at_settings in
+    subst (λ (l : List NodeEntry). Legal (terms_of load) l) (sym e) at_callers

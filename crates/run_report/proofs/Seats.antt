@@ -1,0 +1,29 @@
+-- The replies of a seat, one more entry on.
+use Rattle.std.proofs.Common.{◌≡◌, ℕ, ◌+◌, ◌<◌, Bool, true, false, cond, List, [], ◌∷◌, ◌++◌, refl, sym, ◌∙◌, ap, length, get_or, take}
+use Rattle.std.proofs.lemmas.Grind.{take_at_read}
+use Rattle.mtapi_machine.specs.declared.replies.Reply.{Reply}
+use Rattle.mtapi_machine.specs.Legal.{NodeEntry}
+use Rattle.run_report.specs.Replies.{decides, decided}
+
+pub decided_none : (who : ℕ) → [] ≡ decided who []
+unfolding decided
+decided_none who = refl
+
+decided_more : (who : ℕ) (L : List NodeEntry) (e : NodeEntry) → decided who (L ++ e ∷ []) ≡ decided who L ++ cond (decides who e) (e.reply ∷ []) []
+unfolding decided
+decided_more who [] e = refl
+decided_more who (x ∷ L) e = by (decides who x) (decided_more who L e)
+  where
+    by : (b : Bool) → decided who (L ++ e ∷ []) ≡ decided who L ++ cond (decides who e) (e.reply ∷ []) []
+        → cond b (x.reply ∷ decided who (L ++ e ∷ [])) (decided who (L ++ e ∷ [])) ≡ cond b (x.reply ∷ decided who L) (decided who L) ++ cond (decides who e) (e.reply ∷ []) []
+    by true more = ap (λ l. x.reply ∷ l) more
+    by false more = more
+
+pub decided_next : (who i : ℕ) (L : List NodeEntry) (e : NodeEntry) (old new : List Reply) → i < length L → e ≡ get_or L i e → old ≡ decided who (take i L)
+    → new ≡ old ++ cond (decides who e) (e.reply ∷ []) [] → new ≡ decided who (take (i + 1) L)
+decided_next who i L e old new l at before after =
+    let list : take (i + 1) L ≡ take i L ++ e ∷ [] = (take_at_read L i e l).1 ∙ ap (λ z. take i L ++ z ∷ []) (sym at) in
+    after
+    ∙ ap (λ l. l ++ cond (decides who e) (e.reply ∷ []) []) before
+    ∙ sym (decided_more who (take i L) e)
+    ∙ ap (decided who) (sym list)

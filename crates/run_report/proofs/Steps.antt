@@ -1,0 +1,313 @@
+-- What each entry of a legal history does to how far the task of a handle has come.
+use Rattle.std.proofs.Common.{◌≡◌, ℕ, ◌+◌, ◌<◌, ◌≤◌, length, get_or, take, Bool, true, false, ◌&&◌, cond, List, [], ◌∷◌, ◌++◌, Option, Some, None, refl, sym, ◌∙◌, ap, subst, arith}
+use Rattle.std.specs.Prelude.{◌==◌}
+use Rattle.std.proofs.lemmas.Bool.{eqb-true}
+use Rattle.std.proofs.lemmas.Grind.{take_at_read}
+use Rattle.mtapi_values.specs.declared.ends.TaskEnd.{TaskEnd}
+use Rattle.mtapi_values.specs.declared.ends.TaskEnd.TheVariants.{Cancelled}
+use Rattle.mtapi_values.specs.declared.handles.TaskHandle.{TaskHandle}
+use Rattle.mtapi_values.specs.Conditions.{holds}
+use Rattle.handle_pool.specs.Issued.{Listed, live_of, at, change, update, issue, with_fields, gone, any, listed, may_issue}
+use Rattle.handle_pool.proofs.ListedLemmas.{listed-change, listed-issue}
+use Rattle.job_table.specs.Actions.{Action}
+use Rattle.queue_core.specs.Queues.{Queue, is_shut_in}
+use Rattle.task_core.specs.Tasks.{Task, TaskState, Scheduled, Running, Over, is_unstarted, with_state, with_waiter, cancel_requested, asked_once, ended, end_each, watch_end}
+use Rattle.mtapi_machine.specs.declared.replies.Reply.{Reply}
+use Rattle.mtapi_machine.specs.declared.replies.Reply.TheVariants.{Handle, Picked, Idle}
+use Rattle.mtapi_machine.specs.declared.ops.Op.{Op}
+use Rattle.mtapi_machine.specs.declared.ops.Op.TheVariants as op
+use Rattle.mtapi_machine.specs.declared.terms.Terms.{Terms}
+use Rattle.mtapi_machine.specs.State.{State, opening}
+use Rattle.mtapi_machine.specs.Row.{Row, unless, says, gives, never, Allows, after_row, live, issues}
+use Rattle.mtapi_machine.specs.Rows.{row, can_take, may_take, takes, takes_chosen, picks, is_stop, stops_or, looks_at, cancels, task_end}
+use Rattle.mtapi_machine.specs.Legal.{NodeEntry, IsNext, row_of, next, LegalFrom, Legal, after_from, after}
+use Rattle.mtapi_machine.proofs.Ends.{AllGives, given}
+use Rattle.run_report.specs.declared.standing.Standing.{Standing}
+use Rattle.run_report.specs.declared.standing.Standing.TheVariants as stands
+use Rattle.run_report.specs.declared.standing.Change.TheVariants.{Cancels}
+use Rattle.run_report.specs.Standings.{change_of, moved, with_change, standings_from, no_standing}
+use Rattle.run_report.proofs.Records.{standing_in, standing_at, standing-kept, standing-issued, standing-found, standing-set, same_number}
+
+-- What holds after every legal history: no task's handle is listed twice, and there are no queues, since no op makes one
+
+abbrev pub Sound : State → Type 0
+Sound s = ((k : ℕ) → listed k s.tasks ≤ 1) × (s.queues ≡ [])
+
+-- the tool: P of the state and each reply that the row may give, with the state after it
+abbrev Leads : (Reply → State → Type 0) → State → Row → Type 0
+Leads P s (unless c x w) = P x s × Leads P s w
+Leads P s (says x) = P x s
+Leads P s (gives x t) = P x t
+Leads P s never = Unit {0}
+
+led : (P : Reply → State → Type 0) (s : State) (w : Row) (r : Reply) → Leads P s w → Allows w r → P r (after_row s w)
+led P s (unless true x w) r l a = subst (λ (q : Reply). P q s) (sym a) l.0
+led P s (unless false x w) r l a = led P s w r l.1 a
+led P s (says x) r l a = subst (λ (q : Reply). P q s) (sym a) l
+led P s (gives x t) r l a = subst (λ (q : Reply). P q t) (sym a) l
+led P s never r l a = absurd a
+
+-- a row's parts
+
+gives_live : (P : State → Type 0) {T : Type 0} (x : Option T) (r : Reply) (w : T → Row) → ((t : T) → x ≡ Some t → AllGives P (w t)) → AllGives P (live x r w)
+gives_live P None r w h = tt
+gives_live P (Some t) r w h = h t refl
+
+gives_issues : (P : State → Type 0) (b : Bool) (h : ℕ) (s : State) → (b ≡ true → P s) → AllGives P (issues b h s)
+gives_issues P true h s p = p refl
+gives_issues P false h s p = tt
+
+gives_cond : (P : State → Type 0) (b : Bool) (v w : Row) → AllGives P v → AllGives P w → AllGives P (cond b v w)
+gives_cond P true v w h k = h
+gives_cond P false v w h k = k
+
+leads_live : (P : Reply → State → Type 0) (s : State) {T : Type 0} (x : Option T) (r : Reply) (w : T → Row) → P r s → ((t : T) → x ≡ Some t → Leads P s (w t)) → Leads P s (live x r w)
+leads_live P s None r w p h = p
+leads_live P s (Some t) r w p h = h t refl
+
+leads_issues : (P : Reply → State → Type 0) (s : State) (b : Bool) (h : ℕ) (t : State) → P (Handle h) t → Leads P s (issues b h t)
+leads_issues P s true h t p = p
+leads_issues P s false h t p = tt
+
+leads_cond : (P : Reply → State → Type 0) (s : State) (b : Bool) (v w : Row) → Leads P s v → Leads P s w → Leads P s (cond b v w)
+leads_cond P s true v w h k = h
+leads_cond P s false v w h k = k
+
+-- No queues: closing ends no task
+
+holds_never : {A : Type 0} (o : Option A) → holds (λ x. false) o ≡ false
+holds_never None = refl
+holds_never (Some x) = refl
+
+none_shut : (queues : List (Listed Queue)) (t : Task) → queues ≡ [] → is_shut_in queues t ≡ false
+unfolding live_of
+none_shut queues t none = subst (λ (l : List (Listed Queue)). is_shut_in l t ≡ false) (sym none) (holds_never t.queue)
+
+and_false : (a b : Bool) → b ≡ false → (a && b) ≡ false
+and_false true b e = e
+and_false false b e = refl
+
+ends_none : (p : Task → Bool) (e : TaskEnd) (n : ℕ) (l : List (Listed Task)) → ((t : Task) → p t ≡ false) → end_each p e n l ≡ l
+unfolding end_each
+ends_none p e n [] none = refl
+ends_none p e n (r ∷ rs) none =
+    (λ i. cond (and_false r.live (p r.fields) (none r.fields) i) (ended e n r ∷ end_each p e (n + 1) rs) (r ∷ end_each p e n rs)) ∙ ap (λ l. r ∷ l) (ends_none p e n rs none)
+
+closing_ends_none : (s : State) → Sound s → end_each (λ t. is_unstarted t && is_shut_in s.queues t) Cancelled s.ends s.tasks ≡ s.tasks
+closing_ends_none s i = ends_none (λ t. is_unstarted t && is_shut_in s.queues t) Cancelled s.ends s.tasks (λ t. and_false (is_unstarted t) (is_shut_in s.queues t) (none_shut s.queues t i.1))
+
+-- Sound
+
+abbrev Once : List (Listed Task) → Type 0
+Once l = (k : ℕ) → listed k l ≤ 1
+
+once_change : (h : ℕ) (f : Listed Task → Listed Task) (l : List (Listed Task)) → ((r : Listed Task) → (f r).handle ≡ r.handle) → Once l → Once (change h f l)
+once_change h f l keeps one k = subst (λ (n : ℕ). n ≤ 1) (sym (listed-change k h f keeps l)) (one k)
+
+first_part : (a b c : Bool) → (a && b && c) ≡ true → a ≡ true
+first_part true b c e = refl
+first_part false b c e = absurd (cc)
+
+once_issue : (last h : ℕ) (t : Task) (l : List (Listed Task)) → may_issue last h l ≡ true → Once l → Once (issue h t l)
+unfolding may_issue
+once_issue last h t l may one k = by (h == k) refl
+  where
+    none : listed h l ≡ 0
+    none = eqb-true (listed h l) 0 (first_part (listed h l == 0) _ _ may)
+
+    by : (b : Bool) → (h == k) ≡ b → listed k (issue h t l) ≤ 1
+    by true is =
+        let here : listed k l ≡ 0 = subst (λ (n : ℕ). listed n l ≡ 0) (same_number h k is) none in
+        let more : listed k (issue h t l) ≡ listed k l + 1 = listed-issue k h t l ∙ (λ i. listed k l + cond (is i) 1 0) in
+        omega (arith, here, more)
+    by false is =
+        let more : listed k (issue h t l) ≡ listed k l + 0 = listed-issue k h t l ∙ (λ i. listed k l + cond (is i) 1 0) in
+        omega (arith, one k, more)
+
+sound_update : (s : State) (h : ℕ) (f : Task → Task) → Sound s → Once (update h f s.tasks)
+sound_update s h f i = once_change h (with_fields f) s.tasks (λ r. refl) i.0
+
+sound_end : (s : State) (h : ℕ) (e : TaskEnd) (n : ℕ) → Sound s → Once (change h (ended e n) s.tasks)
+sound_end s h e n i = once_change h (ended e n) s.tasks (λ r. refl) i.0
+
+sound_takes : (b : Bool) (s : State) (w h a : ℕ) (t : Task) (x : Action) → Sound s → AllGives Sound (takes b s w h a t x)
+sound_takes true s w h a t x i = (sound_update s h (with_state (Running w x.kind)) i, i.1)
+sound_takes false s w h a t x i = tt
+
+sound_chosen : (s : State) (w h a : ℕ) (t : Option Task) (x : Option Action) → Sound s → AllGives Sound (takes_chosen s w h a t x)
+sound_chosen s w h a (Some t) (Some x) i = sound_takes (may_take s w t x) s w h a t x i
+sound_chosen s w h a (Some t) None i = tt
+sound_chosen s w h a None x i = tt
+
+sound_picks : (s : State) (w : ℕ) (r : Reply) → Sound s → AllGives Sound (picks s w r)
+sound_picks s w (Picked t a k args) i = sound_chosen s w t.0 a.0 (at s.tasks t.0) (at s.actions a.0) i
+sound_picks s w _ i = gives_cond Sound (any (can_take s w) s.tasks) never (says Idle) tt tt
+
+sound_stops : (b : Bool) (s : State) (w : ℕ) (v : Row) → Sound s → AllGives Sound v → AllGives Sound (stops_or b s w v)
+sound_stops true s w v i h = i
+sound_stops false s w v i h = h
+
+sound_looks : (s : State) (who h : ℕ) (last : Bool) (x : TaskState) → Sound s → AllGives Sound (looks_at s who h last x)
+sound_looks s who h true Scheduled i = (sound_update s h (with_waiter None) i, i.1)
+sound_looks s who h false Scheduled i = (sound_update s h (with_waiter (Some who)) i, i.1)
+sound_looks s who h true (Running w k) i = (sound_update s h (with_waiter None) i, i.1)
+sound_looks s who h false (Running w k) i = (sound_update s h (with_waiter (Some who)) i, i.1)
+sound_looks s who h last (Over e n) i = (once_change h gone s.tasks (λ r. refl) i.0, i.1)
+
+sound_cancels : (s : State) (h : ℕ) (x : TaskState) → Sound s → AllGives Sound (cancels s h x)
+sound_cancels s h Scheduled i = (sound_end s h Cancelled s.ends i, i.1)
+sound_cancels s h (Running w k) i = (sound_update s h cancel_requested i, i.1)
+sound_cancels s h (Over e n) i = tt
+
+sound_row : (s : State) (who : ℕ) (o : Op) (r : Reply) → Sound s → AllGives Sound (row s who o r)
+sound_row s who op.Initialize r i = λ c. i
+sound_row s who op.Release r i = λ c. i
+sound_row s who op.Enter r i = λ c d. tt
+sound_row s who op.Close r i = λ c. (subst Once (sym (closing_ends_none s i)) i.0, i.1)
+sound_row s who op.Final r i = λ c d. i
+sound_row s who (op.JobGet job) r i = λ c d. tt
+sound_row s who (op.ActionCreate job kind cores) r i = λ c0 c1 c2. gives_issues Sound _ _ _ (λ e. i)
+sound_row s who (op.ActionEnable a) r i = λ c. gives_live Sound (at s.actions a.0) _ _ (λ x e. i)
+sound_row s who (op.TaskStart job args priority cores detached group) r i = λ c0 c1 c2 c3 c4 c5 c6. gives_issues Sound _ _ _ (λ e. (once_issue _ _ _ s.tasks e i.0, i.1))
+sound_row s who (op.TaskLook t last) r i = λ c. gives_live Sound (at s.tasks t.0) _ _ (λ x e a b. sound_looks s who t.0 last x.state i)
+sound_row s who (op.TaskCancel t) r i = λ c. gives_live Sound (at s.tasks t.0) _ _ (λ x e. sound_cancels s t.0 x.state i)
+sound_row s who op.Pick r i = λ a b c. sound_stops (is_stop s) s who _ i (sound_picks s who r i)
+sound_row s who (op.Finish t d) r i = λ c. gives_live Sound (at s.tasks t.0) _ _ (λ x e a. (sound_end s t.0 _ s.ends i, i.1))
+sound_row s who (op.Asked t) r i = λ c. gives_live Sound (at s.tasks t.0) _ _ (λ x e a b. (sound_update s t.0 asked_once i, i.1))
+sound_row s who (op.WatchEnd t) r i = λ c. gives_live Sound (at s.tasks t.0) _ _ (λ x e a b. (sound_end s t.0 _ s.ends i, i.1))
+
+sound_next : (s : State) (e : NodeEntry) → IsNext s e → Sound s → Sound (next s e)
+sound_next s e h i = given Sound s (row_of s e) e.reply i (sound_row s e.who e.op e.reply i) h.allowed
+
+-- How far the task of a handle has come
+
+-- after an entry with this op and reply, from the one state to the other
+abbrev Stood : ℕ → Op → State → Reply → State → Type 0
+Stood j o s q t = standing_at t.tasks j ≡ with_change (change_of o q) (standing_at s.tasks) j
+
+stood_set : (j h : ℕ) (f : Listed Task → Listed Task) (x : Option Standing) (t : Task) (s : State) → Sound s → at s.tasks h ≡ Some t → ((r : Listed Task) → (f r).handle ≡ r.handle) → ((r : Listed Task) → standing_in (f r).fields.state ≡ x)
+    → standing_at (change h f s.tasks) j ≡ cond (h == j) x (standing_at s.tasks j)
+stood_set j h f x t s i e keeps brings = standing-set j h f x t keeps brings s.tasks (i.0 h) e
+
+stood_update : (j h : ℕ) (f : Task → Task) (s : State) → ((t : Task) → standing_in (f t).state ≡ standing_in t.state) → standing_at (update h f s.tasks) j ≡ standing_at s.tasks j
+stood_update j h f s stays = standing-kept j h (with_fields f) (λ r. refl) (λ r. stays r.fields) s.tasks
+
+asked_stays : (t : Task) → standing_in (asked_once t).state ≡ standing_in t.state
+asked_stays t = by t.requested
+  where
+    by : (b : Bool) → standing_in (cond b (record t { seen = true }) (record t { looks = t.looks + 1 })).state ≡ standing_in t.state
+    by true = refl
+    by false = refl
+
+stood_takes : (j : ℕ) (b : Bool) (s : State) (w h a : ℕ) (t : Task) (x : Action) → Sound s → at s.tasks h ≡ Some t → Leads (Stood j op.Pick s) s (takes b s w h a t x)
+stood_takes j true s w h a t x i e = stood_set j h (with_fields (with_state (Running w x.kind))) (Some stands.Runs) t s i e (λ r. refl) (λ r. refl)
+stood_takes j false s w h a t x i e = tt
+
+stood_chosen : (j : ℕ) (s : State) (w h a : ℕ) (t : Option Task) (x : Option Action) → Sound s → at s.tasks h ≡ t → Leads (Stood j op.Pick s) s (takes_chosen s w h a t x)
+stood_chosen j s w h a (Some t) (Some x) i e = stood_takes j (may_take s w t x) s w h a t x i e
+stood_chosen j s w h a (Some t) None i e = tt
+stood_chosen j s w h a None x i e = tt
+
+stood_picks : (j : ℕ) (s : State) (w : ℕ) (r : Reply) → Sound s → Leads (Stood j op.Pick s) s (picks s w r)
+stood_picks j s w (Picked t a k args) i = stood_chosen j s w t.0 a.0 (at s.tasks t.0) (at s.actions a.0) i refl
+stood_picks j s w _ i = leads_cond (Stood j op.Pick s) s (any (can_take s w) s.tasks) never (says Idle) tt refl
+
+stood_stops : (j : ℕ) (b : Bool) (s : State) (w : ℕ) (v : Row) → Leads (Stood j op.Pick s) s v → Leads (Stood j op.Pick s) s (stops_or b s w v)
+stood_stops j true s w v h = refl
+stood_stops j false s w v h = h
+
+stood_looks : (j : ℕ) (o : Op) (s : State) (who h : ℕ) (last : Bool) (x : TaskState) → ((q : Reply) → change_of o q ≡ None) → Leads (Stood j o s) s (looks_at s who h last x)
+stood_looks j o s who h last x quiet = by last x
+  where
+    stays : (q : Reply) → standing_at s.tasks j ≡ with_change (change_of o q) (standing_at s.tasks) j
+    stays q = λ i. with_change (sym (quiet q) i) (standing_at s.tasks) j
+
+    by : (last : Bool) (x : TaskState) → Leads (Stood j o s) s (looks_at s who h last x)
+    by true Scheduled = stood_update j h (with_waiter None) s (λ t. refl) ∙ stays _
+    by false Scheduled = stood_update j h (with_waiter (Some who)) s (λ t. refl) ∙ stays _
+    by true (Running w k) = stood_update j h (with_waiter None) s (λ t. refl) ∙ stays _
+    by false (Running w k) = stood_update j h (with_waiter (Some who)) s (λ t. refl) ∙ stays _
+    by last (Over e n) = standing-kept j h gone (λ r. refl) (λ r. refl) s.tasks ∙ stays _
+
+-- a cancel, where this is how far the task of the handle has come
+cancelled_to : (b : Bool) (y z : Option Standing) → (b ≡ true → z ≡ y) → cond b (moved Cancels y) z ≡ cond b (moved Cancels z) z
+cancelled_to true y z e = ap (moved Cancels) (sym (e refl))
+cancelled_to false y z e = refl
+
+cancelled_left : (b : Bool) (y : Standing) (z : Option Standing) → (b ≡ true → z ≡ Some y) → z ≡ cond b (moved Cancels z) z
+cancelled_left true y z e = e refl ∙ ap (moved Cancels) (sym (e refl))
+cancelled_left false y z e = refl
+
+found_here : (j h : ℕ) (t : Task) (s : State) → Sound s → at s.tasks h ≡ Some t → (h == j) ≡ true → standing_at s.tasks j ≡ standing_in t.state
+found_here j h t s i e is = subst (λ (n : ℕ). standing_at s.tasks n ≡ standing_in t.state) (same_number h j is) (standing-found h t s.tasks (i.0 h) e)
+
+stood_cancels : (j : ℕ) (s : State) (k : TaskHandle) (t : Task) (x : TaskState) → Sound s → at s.tasks k.0 ≡ Some t → t.state ≡ x → Leads (Stood j (op.TaskCancel k) s) s (cancels s k.0 x)
+stood_cancels j s k t Scheduled i e d =
+    stood_set j k.0 (ended Cancelled s.ends) (Some (stands.Ended Cancelled)) t s i e (λ r. refl) (λ r. refl)
+    ∙ cancelled_to (k.0 == j) None (standing_at s.tasks j) (λ is. found_here j k.0 t s i e is ∙ ap standing_in d)
+stood_cancels j s k t (Running w kind) i e d =
+    stood_update j k.0 cancel_requested s (λ t. refl)
+    ∙ cancelled_left (k.0 == j) stands.Runs (standing_at s.tasks j) (λ is. found_here j k.0 t s i e is ∙ ap standing_in d)
+stood_cancels j s k t (Over y n) i e d = cancelled_left (k.0 == j) (stands.Ended y) (standing_at s.tasks j) (λ is. found_here j k.0 t s i e is ∙ ap standing_in d)
+
+stood_row : (j : ℕ) (s : State) (who : ℕ) (o : Op) (r : Reply) → Sound s → Leads (Stood j o s) s (row s who o r)
+stood_row j s who op.Initialize r i = (refl, refl)
+stood_row j s who op.Release r i = (refl, refl)
+stood_row j s who op.Enter r i = (refl, (refl, refl))
+stood_row j s who op.Close r i = (refl, ap (λ l. standing_at l j) (closing_ends_none s i))
+stood_row j s who op.Final r i = (refl, (refl, refl))
+stood_row j s who (op.JobGet job) r i = (refl, (refl, refl))
+stood_row j s who (op.ActionCreate job kind cores) r i = (refl, (refl, (refl, leads_issues (Stood j (op.ActionCreate job kind cores) s) s _ _ _ refl)))
+stood_row j s who (op.ActionEnable a) r i = (refl, leads_live (Stood j (op.ActionEnable a) s) s (at s.actions a.0) _ _ refl (λ x e. refl))
+stood_row j s who (op.TaskStart job args priority cores detached group) r i =
+    (refl, (refl, (refl, (refl, (refl, (refl, (refl, leads_issues (Stood j (op.TaskStart job args priority cores detached group) s) s _ _ _ (standing-issued j _ _ s.tasks refl))))))))
+stood_row j s who (op.TaskLook t last) r i =
+    (refl, leads_live (Stood j (op.TaskLook t last) s) s (at s.tasks t.0) _ _ refl (λ x e. (refl, (refl, stood_looks j (op.TaskLook t last) s who t.0 last x.state (λ q. refl)))))
+stood_row j s who (op.TaskCancel t) r i = (refl, leads_live (Stood j (op.TaskCancel t) s) s (at s.tasks t.0) _ _ refl (λ x e. stood_cancels j s t x x.state i e refl))
+stood_row j s who op.Pick r i = (refl, (refl, (refl, stood_stops j (is_stop s) s who _ (stood_picks j s who r i))))
+stood_row j s who (op.Finish t d) r i = (
+  refl,
+  leads_live (Stood j (op.Finish t d) s) s (at s.tasks t.0) _ _ refl
+      (λ x e. (refl, stood_set j t.0 (ended (task_end d.end) s.ends) (Some (stands.Ended (task_end d.end))) x s i e (λ r. refl) (λ r. refl))),
+)
+stood_row j s who (op.Asked t) r i =
+    (refl, leads_live (Stood j (op.Asked t) s) s (at s.tasks t.0) _ _ refl (λ x e. (refl, (refl, stood_update j t.0 asked_once s asked_stays))))
+stood_row j s who (op.WatchEnd t) r i = (
+  refl,
+  leads_live (Stood j (op.WatchEnd t) s) s (at s.tasks t.0) _ _ refl
+      (λ x e. (refl, (refl, stood_set j t.0 (ended (watch_end x) s.ends) (Some (stands.Ended (watch_end x))) x s i e (λ r. refl) (λ r. refl)))),
+)
+
+stood_next : (j : ℕ) (s : State) (e : NodeEntry) → IsNext s e → Sound s → standing_at (next s e).tasks j ≡ with_change (change_of e.op e.reply) (standing_at s.tasks) j
+stood_next j s e h i = led (Stood j e.op s) s (row_of s e) e.reply (stood_row j s e.who e.op e.reply i) h.allowed
+
+stood_from : (j : ℕ) (s : State) (L : List NodeEntry) → LegalFrom s L → Sound s → standing_at (after_from s L).tasks j ≡ standings_from (standing_at s.tasks) L j
+unfolding LegalFrom after_from standings_from
+stood_from j s [] h i = refl
+stood_from j s (e ∷ L) h i =
+    stood_from j (next s e) L h.1 (sound_next s e h.0 i) ∙ ap (λ (f : ℕ → Option Standing). standings_from f L j) (λ k n. stood_next n s e h.0 i k)
+
+-- after a legal history, how far each task has come by its record is how far it has come by the entries
+pub standing_by_entries : (terms : Terms) (L : List NodeEntry) → Legal terms L → (h : ℕ) → standing_at (after terms L).tasks h ≡ standings_from no_standing L h
+unfolding standing_at listed
+standing_by_entries terms L legal h = stood_from h (opening terms) L legal.from ((λ k. omega arith), refl)
+
+standings_more : (f : ℕ → Option Standing) (L : List NodeEntry) (e : NodeEntry) (h : ℕ) → standings_from f (L ++ e ∷ []) h ≡ with_change (change_of e.op e.reply) (standings_from f L) h
+unfolding standings_from
+standings_more f [] e h = refl
+standings_more f (x ∷ L) e h = standings_more (with_change (change_of x.op x.reply) f) L e h
+
+-- before the first entry
+pub standings_none : (h : ℕ) → None ≡ standings_from no_standing [] h
+unfolding standings_from
+standings_none h = refl
+
+-- one more entry of a list
+pub standings_next : (h i : ℕ) (L : List NodeEntry) (e : NodeEntry) (old new : ℕ → Option Standing) → i < length L → e ≡ get_or L i e
+    → ((k : ℕ) → old k ≡ standings_from no_standing (take i L) k) → new h ≡ with_change (change_of e.op e.reply) old h → new h ≡ standings_from no_standing (take (i + 1) L) h
+standings_next h i L e old new l at before after =
+    let list : take (i + 1) L ≡ take i L ++ e ∷ [] = (take_at_read L i e l).1 ∙ ap (λ z. take i L ++ z ∷ []) (sym at) in
+    after
+    ∙ (λ j. with_change (change_of e.op e.reply) (λ k. before k j) h)
+    ∙ sym (standings_more no_standing (take i L) e h)
+    ∙ ap (λ m. standings_from no_standing m h) (sym list)

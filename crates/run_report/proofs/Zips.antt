@@ -1,0 +1,153 @@
+-- Statements with their replies, one after another.
+use Rattle.std.proofs.Common.{zero, suc, Some, None, Result, Ok, Err, ◌≡◌, ℕ, ◌+◌, ◌<◌, ◌≤◌, Bool, true, false, cond, List, [], ◌∷◌, ◌++◌, Option, refl, sym, ◌∙◌, ap, arith, length, get_or, drop, append_assoc, length-drop}
+use Rattle.std.proofs.lemmas.List.{drop_more, append-nil, nil_from_length, drop-drop}
+use Rattle.std.specs.Prelude.{◌==◌, slice_get, OnOk}
+use Rattle.mtapi_values.specs.declared.ends.TaskEnd.{TaskEnd}
+use Rattle.workload_file.specs.declared.workload.Statement.{Statement}
+use Rattle.workload_file.specs.Reading.{name_text}
+use Rattle.mtapi_machine.specs.declared.replies.Reply.{Reply}
+use Rattle.run_report.specs.Places.{first_of_two, place_if, is_found, place_from, name_of, name_at, names_by}
+use Rattle.run_report.specs.Calls.{makes, shown_of, is_task, task_line, task_lines_of, task_name, call_line, call_lines_of}
+
+nothing_left : {A : Type 0} (l : List A) (i : ℕ) → length l ≤ i → drop i l ≡ []
+nothing_left l i past = nil_from_length (drop i l) (omega (arith, length-drop i l))
+
+module _ {A B C : Type 0} where
+  -- a value of what is left of two lists, at its first elements
+  both_more : (F : List A → List B → C) (ss : List A) (rs : List B) (i : ℕ) (s : A) (r : B) → i < length ss → s ≡ get_or ss i s → i < length rs → r ≡ get_or rs i r
+      → F (drop i ss) (drop i rs) ≡ F (s ∷ drop (i + 1) ss) (r ∷ drop (i + 1) rs)
+  both_more F ss rs i s r l at m got =
+      let left : drop i ss ≡ s ∷ drop (i + 1) ss = drop_more ss i s l ∙ ap (λ x. x ∷ drop (i + 1) ss) (sym at) in
+      let right : drop i rs ≡ r ∷ drop (i + 1) rs = drop_more rs i r m ∙ ap (λ x. x ∷ drop (i + 1) rs) (sym got) in
+      λ j. F (left j) (right j)
+
+-- a text that grows by the piece with which what is left begins
+grows : (out new piece rest whole left : List ℕ) → out ++ left ≡ whole → left ≡ piece ++ rest → new ≡ out ++ piece → new ++ rest ≡ whole
+grows out new piece rest whole left so is made = ap (λ x. x ++ rest) made ∙ append_assoc out piece rest ∙ ap (λ x. out ++ x) (sym is) ∙ so
+
+ends : (out whole left : List ℕ) → out ++ left ≡ whole → left ≡ [] → out ≡ whole
+ends out whole left so none = sym (append-nil out) ∙ ap (λ x. out ++ x) (sym none) ∙ so
+
+-- Lines of tasks
+
+no_task_lines : (part : List ℕ) (by : ℕ → Option TaskEnd) (ss : List Statement) → task_lines_of part by ss [] ≡ []
+unfolding task_lines_of
+no_task_lines part by [] = refl
+no_task_lines part by (s ∷ ss) = refl
+
+pub task_lines-next : (part : List ℕ) (by : ℕ → Option TaskEnd) (ss : List Statement) (rs : List Reply) (i : ℕ) (s : Statement) (r : Reply) (out new whole : List ℕ)
+    → i < length ss → s ≡ get_or ss i s → i < length rs → r ≡ get_or rs i r
+    → out ++ task_lines_of part by (drop i ss) (drop i rs) ≡ whole → new ≡ out ++ cond (is_task (shown_of s.deed)) (task_line part by s r) []
+    → new ++ task_lines_of part by (drop (i + 1) ss) (drop (i + 1) rs) ≡ whole
+unfolding task_lines_of
+task_lines-next part by ss rs i s r out new whole l at m got so made =
+    grows out new (cond (is_task (shown_of s.deed)) (task_line part by s r) []) (task_lines_of part by (drop (i + 1) ss) (drop (i + 1) rs)) whole (task_lines_of part by (drop i ss) (drop i rs))
+    so (both_more (task_lines_of part by) ss rs i s r l at m got) made
+
+pub task_lines-past_replies : (part : List ℕ) (by : ℕ → Option TaskEnd) (ss : List Statement) (rs : List Reply) (i : ℕ) (out whole : List ℕ)
+    → length rs ≤ i → out ++ task_lines_of part by (drop i ss) (drop i rs) ≡ whole → out ≡ whole
+task_lines-past_replies part by ss rs i out whole past so = ends out whole _ so (ap (λ l. task_lines_of part by (drop i ss) l) (nothing_left rs i past) ∙ no_task_lines part by (drop i ss))
+
+pub task_lines-past : (part : List ℕ) (by : ℕ → Option TaskEnd) (ss : List Statement) (rs : List Reply) (i : ℕ) (out whole : List ℕ)
+    → length ss ≤ i → out ++ task_lines_of part by (drop i ss) (drop i rs) ≡ whole → out ≡ whole
+unfolding task_lines_of
+task_lines-past part by ss rs i out whole past so = ends out whole _ so (ap (λ l. task_lines_of part by l (drop i rs)) (nothing_left ss i past))
+
+-- Lines of calls
+
+no_call_lines : (part : List ℕ) (name : ℕ → List ℕ) (ss : List Statement) → call_lines_of part name ss [] ≡ []
+unfolding call_lines_of
+no_call_lines part name [] = refl
+no_call_lines part name (s ∷ ss) = refl
+
+pub call_lines-next : (part : List ℕ) (name : ℕ → List ℕ) (ss : List Statement) (rs : List Reply) (i : ℕ) (s : Statement) (r : Reply) (out new whole : List ℕ)
+    → i < length ss → s ≡ get_or ss i s → i < length rs → r ≡ get_or rs i r
+    → out ++ call_lines_of part name (drop i ss) (drop i rs) ≡ whole → new ≡ out ++ call_line part name s.line (shown_of s.deed) r
+    → new ++ call_lines_of part name (drop (i + 1) ss) (drop (i + 1) rs) ≡ whole
+unfolding call_lines_of
+call_lines-next part name ss rs i s r out new whole l at m got so made =
+    grows out new (call_line part name s.line (shown_of s.deed) r) (call_lines_of part name (drop (i + 1) ss) (drop (i + 1) rs)) whole (call_lines_of part name (drop i ss) (drop i rs))
+    so (both_more (call_lines_of part name) ss rs i s r l at m got) made
+
+pub call_lines-past_replies : (part : List ℕ) (name : ℕ → List ℕ) (ss : List Statement) (rs : List Reply) (i : ℕ) (out whole : List ℕ)
+    → length rs ≤ i → out ++ call_lines_of part name (drop i ss) (drop i rs) ≡ whole → out ≡ whole
+call_lines-past_replies part name ss rs i out whole past so = ends out whole _ so (ap (λ l. call_lines_of part name (drop i ss) l) (nothing_left rs i past) ∙ no_call_lines part name (drop i ss))
+
+pub call_lines-past : (part : List ℕ) (name : ℕ → List ℕ) (ss : List Statement) (rs : List Reply) (i : ℕ) (out whole : List ℕ)
+    → length ss ≤ i → out ++ call_lines_of part name (drop i ss) (drop i rs) ≡ whole → out ≡ whole
+unfolding call_lines_of
+call_lines-past part name ss rs i out whole past so = ends out whole _ so (ap (λ l. call_lines_of part name l (drop i rs)) (nothing_left ss i past))
+
+-- The places of tasks
+
+first_none : (x : Option ℕ) → first_of_two x None ≡ x
+first_none None = refl
+first_none (Some k) = refl
+
+no_place : (n : ℕ) (ss : List Statement) (h : ℕ) → place_from n ss [] h ≡ None
+unfolding place_from
+no_place n [] h = refl
+no_place n (s ∷ ss) h = refl
+
+-- where a handle was found, it has its first place
+place_step : (n h : ℕ) (found : Option ℕ) (b : Bool) (old rest : Option ℕ) → b ≡ is_found h found → first_of_two (first_of_two old (place_if n h found)) rest ≡ first_of_two old (cond b (Some n) rest)
+place_step n h found b (Some k) rest is = refl
+place_step n h None b None rest is = λ j. cond (sym is j) (Some n) rest
+place_step n h (Some k) b None rest is = by (k == h) ∙ (λ j. cond (sym is j) (Some n) rest)
+  where
+    by : (d : Bool) → first_of_two (cond d (Some n) None) rest ≡ cond d (Some n) rest
+    by true = refl
+    by false = refl
+
+pub place-next : (ss : List Statement) (rs : List Reply) (h i : ℕ) (s : Statement) (r : Reply) (old new whole found : Option ℕ)
+    → i < length ss → s ≡ get_or ss i s → i < length rs → r ≡ get_or rs i r
+    → first_of_two old (place_from i (drop i ss) (drop i rs) h) ≡ whole → new ≡ first_of_two old (place_if i h found) → makes h s r ≡ is_found h found
+    → first_of_two new (place_from (i + 1) (drop (i + 1) ss) (drop (i + 1) rs) h) ≡ whole
+unfolding place_from
+place-next ss rs h i s r old new whole found l at m got so made is =
+    let rest : Option ℕ = place_from (i + 1) (drop (i + 1) ss) (drop (i + 1) rs) h in
+    ap (λ x. first_of_two x rest) made
+    ∙ place_step i h found (makes h s r) old rest is
+    ∙ ap (first_of_two old) (sym (both_more (λ a b. place_from i a b h) ss rs i s r l at m got))
+    ∙ so
+
+pub place-past_replies : (ss : List Statement) (rs : List Reply) (h i : ℕ) (old whole : Option ℕ) → length rs ≤ i → first_of_two old (place_from i (drop i ss) (drop i rs) h) ≡ whole → old ≡ whole
+place-past_replies ss rs h i old whole past so =
+    sym (first_none old) ∙ ap (first_of_two old) (sym (ap (λ l. place_from i (drop i ss) l h) (nothing_left rs i past) ∙ no_place i (drop i ss) h)) ∙ so
+
+pub place-past : (ss : List Statement) (rs : List Reply) (h i : ℕ) (old whole : Option ℕ) → length ss ≤ i → first_of_two old (place_from i (drop i ss) (drop i rs) h) ≡ whole → old ≡ whole
+unfolding place_from
+place-past ss rs h i old whole past so =
+    sym (first_none old) ∙ ap (first_of_two old) (sym (ap (λ l. place_from i l (drop i rs) h) (nothing_left ss i past))) ∙ so
+
+-- The names of tasks
+
+get_dropped : (all : List Statement) (n : ℕ) (s : Statement) (ss : List Statement) → drop n all ≡ s ∷ ss → slice_get all n ≡ Some s
+get_dropped [] zero s ss e = absurd (cc)
+get_dropped [] (suc n) s ss e = absurd (cc)
+get_dropped (x ∷ xs) zero s ss e = cc
+get_dropped (x ∷ xs) (suc n) s ss e = get_dropped xs n s ss e
+
+drop_next : (all : List Statement) (n : ℕ) (s : Statement) (ss : List Statement) → drop n all ≡ s ∷ ss → drop (n + 1) all ≡ ss
+drop_next all n s ss e = sym (drop-drop 1 n all) ∙ ap (drop 1) e
+
+-- the name at the place of a task is the task's
+named : (all : List Statement) (h n : ℕ) (ss : List Statement) (rs : List Reply) → drop n all ≡ ss → name_at all (place_from n ss rs h) ≡ task_name ss rs h
+unfolding place_from task_name
+named all h n [] rs left = refl
+named all h n (s ∷ ss) [] left = refl
+named all h n (s ∷ ss) (r ∷ rs) left = by (makes h s r) (named all h (n + 1) ss rs (drop_next all n s ss left))
+  where
+    by : (b : Bool) → name_at all (place_from (n + 1) ss rs h) ≡ task_name ss rs h → name_at all (cond b (Some n) (place_from (n + 1) ss rs h)) ≡ cond b (name_text s.name) (task_name ss rs h)
+    by true more = ap name_of (get_dropped all n s ss left)
+    by false more = more
+
+pub on_ok : {T E : Type 0} (r : Result T E) (P Q : Type 0) → (P → Q) → OnOk r P → OnOk r Q
+on_ok (Ok x) P Q f h = f h
+on_ok (Err e) P Q f h = tt
+
+-- the lines of calls, where the names are found by places
+pub call_lines-named : (part : List ℕ) (ss : List Statement) (rs : List Reply) (places : ℕ → Option ℕ) (out new : List ℕ) → ((h : ℕ) → places h ≡ place_from 0 ss rs h)
+    → new ≡ out ++ call_lines_of part (names_by ss places) ss rs → new ≡ out ++ call_lines_of part (task_name ss rs) ss rs
+call_lines-named part ss rs places out new is made =
+    made ∙ ap (λ (f : ℕ → List ℕ). out ++ call_lines_of part f ss rs) (λ j h. (ap (name_at ss) (is h) ∙ named ss h 0 ss rs refl) j)

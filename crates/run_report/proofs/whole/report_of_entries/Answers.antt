@@ -1,0 +1,9 @@
+use Rattle.std.proofs.Common.{arith}
+use Rattle.run_report.proofs.Parts.{if_ok, report_is}
+use Rattle.run_report.proofs.whole.report_of_entries.Goals as goal
+
+pub text_by_entries-requires : goal.text_by_entries-requires
+text_by_entries-requires c = omega (arith, c.requires.fits.settings.workers.1, c.requires.fits.callers)
+
+pub returns : goal.returns
+returns c = if_ok c.text_by_entries.result _ _ (report_is c.args.load.now c.args.entries.now c.requires) c.text_by_entries.ensures

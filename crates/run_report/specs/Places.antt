@@ -1,0 +1,41 @@
+-- The places at which the tasks of a part were made, by their handles.
+use Rattle.std.specs.Prelude.{ℕ, ◌+◌, ◌==◌, List, [], ◌∷◌, Bool, false, Option, Some, None, slice_get, if◌then◌else◌}
+use Rattle.workload_file.specs.declared.workload.Statement.{Statement}
+use Rattle.workload_file.specs.Reading.{name_text}
+use Rattle.mtapi_machine.specs.declared.replies.Reply.{Reply}
+use Rattle.run_report.specs.Calls.{makes}
+
+-- the first value, or else the second
+abbrev pub first_of_two : Option ℕ → Option ℕ → Option ℕ
+first_of_two (Some x) y = Some x
+first_of_two None y = y
+
+-- the place, where this handle was found
+abbrev pub place_if : ℕ → ℕ → Option ℕ → Option ℕ
+place_if place h None = None
+place_if place h (Some k) = if k == h then Some place else None
+
+-- this handle was found
+abbrev pub is_found : ℕ → Option ℕ → Bool
+is_found h None = false
+is_found h (Some k) = k == h
+
+-- the place of the first of these statements that made the task of this handle, where the first of them has this place
+unfoldable pub place_from : ℕ → List Statement → List Reply → ℕ → Option ℕ
+place_from n [] rs h = None
+place_from n (s ∷ ss) [] h = None
+place_from n (s ∷ ss) (r ∷ rs) h = if makes h s r then Some n else place_from (n + 1) ss rs h
+
+-- the name that a statement binds, if there is one
+abbrev pub name_of : Option Statement → List ℕ
+name_of None = []
+name_of (Some s) = name_text s.name
+
+-- the name that the statement at a place binds, if there is one
+abbrev pub name_at : List Statement → Option ℕ → List ℕ
+name_at ss None = []
+name_at ss (Some place) = name_of (slice_get ss place)
+
+-- the name of the task of a handle, by the place at which it was made
+abbrev pub names_by : List Statement → (ℕ → Option ℕ) → ℕ → List ℕ
+names_by ss places h = name_at ss (places h)

@@ -1,0 +1,46 @@
+-- The reply to each statement of a run.
+use Rattle.std.specs.Prelude.{ℕ, ◌+◌, ◌==◌, ◌&&◌, Bool, not, List, [], ◌∷◌, drop, if◌then◌else◌}
+use Rattle.std.specs.List.{list_any}
+use Rattle.workload_file.specs.declared.workload.Statement.{Statement}
+use Rattle.workload_file.specs.declared.workload.Part.{Part}
+use Rattle.workload_file.specs.Deeds.{is_begin}
+use Rattle.mtapi_machine.specs.declared.replies.Reply.{Reply}
+use Rattle.mtapi_machine.specs.Kept.{is_pending}
+use Rattle.mtapi_machine.specs.Legal.{NodeEntry}
+
+-- the entry decides a call of this seat: its reply isn't Pending
+abbrev pub decides : ℕ → NodeEntry → Bool
+decides who e = (e.who == who) && not (is_pending e.reply)
+
+-- the replies that decide the calls of this seat, in order
+unfoldable pub decided : ℕ → List NodeEntry → List Reply
+decided who [] = []
+decided who (e ∷ es) = if decides who e then e.reply ∷ decided who es else decided who es
+
+-- one of the statements is `begin`
+abbrev pub has_begin : List Statement → Bool
+has_begin statements = list_any (λ s. is_begin s.deed) statements
+
+-- how many calls main makes before those of its statements: it initializes, and releases at once where no statement is `begin`
+abbrev pub calls_before : List Statement → ℕ
+calls_before statements = if has_begin statements then 1 else 2
+
+-- a part, and the replies to its statements in order
+pub record Told : Type 0 where
+  pub name : List ℕ
+  pub statements : List Statement
+  pub replies : List Reply
+
+-- a part whose caller has this seat and makes so many calls before those of its statements
+abbrev pub told : ℕ → ℕ → List NodeEntry → Part → Told
+told who before es p = record { name = p.name; statements = p.statements; replies = drop before (decided who es) }
+
+-- the parts of further callers, from this seat on: each caller makes one call before those of its statements, to enter
+unfoldable pub further_told : ℕ → List NodeEntry → List Part → List Told
+further_told who es [] = []
+further_told who es (p ∷ ps) = told who 1 es p ∷ further_told (who + 1) es ps
+
+-- all parts: main's is the first
+abbrev pub all_told : ℕ → List NodeEntry → List Part → List Told
+all_told main es [] = []
+all_told main es (p ∷ ps) = told main (calls_before p.statements) es p ∷ further_told (main + 1) es ps

@@ -1,0 +1,26 @@
+-- The report of a run.
+use Rattle.std.specs.Prelude.{ℕ, List, ◌++◌, length, Option}
+use Rattle.std.specs.List.{flat_map}
+use Rattle.mtapi_values.specs.declared.ends.TaskEnd.{TaskEnd}
+use Rattle.workload_file.specs.declared.workload.Workload.{Workload}
+use Rattle.mtapi_machine.specs.declared.terms.Terms.{Terms}
+use Rattle.mtapi_machine.specs.Legal.{NodeEntry, after}
+use Rattle.run_report.specs.Replies.{Told, all_told}
+use Rattle.run_report.specs.Tasks.{end_at}
+use Rattle.run_report.specs.Calls.{task_lines, call_lines}
+
+-- the terms of a run of a workload: its settings, and one caller for each part
+abbrev pub terms_of : Workload → Terms
+terms_of load = record { settings = load.settings; callers = length load.parts }
+
+-- each part with the replies to its statements
+abbrev pub parts_told : Workload → List NodeEntry → List Told
+parts_told load es = all_told load.settings.workers es load.parts
+
+-- the lines of all tasks, part by part, and then those of all calls
+abbrev pub report_by : (ℕ → Option TaskEnd) → List Told → List ℕ
+report_by ends parts = flat_map (task_lines ends) parts ++ flat_map call_lines parts
+
+-- the report of a run with this journal: a task's end is the one in its record in the journal's last state
+unfoldable pub report : Workload → List NodeEntry → List ℕ
+report load es = report_by (end_at (after (terms_of load) es).tasks) (parts_told load es)

@@ -1,0 +1,140 @@
+//! The lines of the parts of a workload, put together.
+ghost use Rattle.std.specs.Prelude.{◌≡◌, ◌++◌, [], ◌+◌, ◌<◌, ◌^◌, length, OnOk, IfOk};
+ghost use Rattle.std.specs.List.{flat_map};
+ghost use Rattle.run_report.specs.Replies.{told, further_told, all_told};
+ghost use Rattle.run_report.specs.Calls.{task_lines, call_lines};
+ghost use Rattle.std.specs.Ordering.{nat_cmp};
+ghost use Rattle.std.specs.BTreeMap.{get};
+ghost use Rattle.run_report.specs.Standings.{ends_of, standings_from, no_standing};
+ghost use Rattle.run_report.specs.Report.{parts_told, report_by};
+
+use crate::call_lines::push_call_lines;
+use crate::deciding::{behind, calls_before, decided};
+use crate::standing::{Standing, standings_of};
+use crate::task_lines::push_task_lines;
+use mtapi_machine::Entry;
+use std::alloc::{AllocError, Global};
+use std::collections::BTreeMap;
+use workload_file::{Part, Workload};
+
+/// The lines of tasks, and those of calls, which stand behind them.
+#[derive(Drop)]
+struct Page {
+    tasks: Vec<u8>,
+    calls: Vec<u8>,
+}
+
+/// The lines of a part, whose caller has this seat and makes so many calls before those of its statements.
+fn push_part(
+    alloc: Global,
+    page: &mut Page,
+    who: u32,
+    before: usize,
+    part: &Part,
+    entries: &[Entry],
+    standings: &BTreeMap<u64, Standing>,
+) -> Result<(), AllocError>
+    ensures tasks { OnOk result (page.new.tasks.items ≡ page.old.tasks.items ++ task_lines (ends_of (get nat_cmp standings.now)) (told who before entries.now part.now)) }
+    ensures calls { OnOk result (page.new.calls.items ≡ page.old.calls.items ++ call_lines (told who before entries.now part.now)) }
+{
+    let all = decided(alloc, who, entries)?;
+    let replies = behind(&all, before);
+    let name = part.name.as_slice();
+    let statements = part.statements.as_slice();
+    push_task_lines(alloc, &mut page.tasks, name, standings, statements, replies)?;
+    push_call_lines(alloc, &mut page.calls, name, statements, replies)
+}
+
+/// The lines of the parts of further callers, from this seat on.
+#[tactic(auto, unfolding(crate::specs::Replies::further_told))]
+fn push_further(
+    alloc: Global,
+    page: &mut Page,
+    who: u32,
+    parts: &[Part],
+    entries: &[Entry],
+    standings: &BTreeMap<u64, Standing>,
+) -> Result<(), AllocError>
+    requires { who + length parts.now < 2 ^ 32 }
+    ensures tasks { OnOk result (page.new.tasks.items ≡ page.old.tasks.items ++ flat_map (task_lines (ends_of (get nat_cmp standings.now))) (further_told who entries.now parts.now)) }
+    ensures calls { OnOk result (page.new.calls.items ≡ page.old.calls.items ++ flat_map call_lines (further_told who entries.now parts.now)) }
+{
+    match parts {
+        [] => Ok(()),
+        [part, rest @ ..] => {
+            push_part(alloc, page, who, 1, part, entries, standings)?;
+            push_further(alloc, page, who + 1, rest, entries, standings)
+        }
+    }
+}
+
+/// The lines of all parts. Main has this seat.
+fn push_all(
+    alloc: Global,
+    page: &mut Page,
+    main: u32,
+    parts: &[Part],
+    entries: &[Entry],
+    standings: &BTreeMap<u64, Standing>,
+) -> Result<(), AllocError>
+    requires { main + length parts.now < 2 ^ 32 }
+    ensures tasks { OnOk result (page.new.tasks.items ≡ page.old.tasks.items ++ flat_map (task_lines (ends_of (get nat_cmp standings.now))) (all_told main entries.now parts.now)) }
+    ensures calls { OnOk result (page.new.calls.items ≡ page.old.calls.items ++ flat_map call_lines (all_told main entries.now parts.now)) }
+{
+    match parts {
+        [] => Ok(()),
+        [part, further @ ..] => {
+            push_part(
+                alloc,
+                page,
+                main,
+                calls_before(part),
+                part,
+                entries,
+                standings,
+            )?;
+            push_further(alloc, page, main + 1, further, entries, standings)
+        }
+    }
+}
+
+fn empty_page(alloc: Global) -> Page
+    ensures tasks { result.tasks.items ≡ [] }
+    ensures calls { result.calls.items ≡ [] }
+{
+    Page {
+        tasks: Vec::new(alloc),
+        calls: Vec::new(alloc),
+    }
+}
+
+/// The lines of tasks, and those of calls behind them.
+fn joined(page: Page) -> Result<Vec<u8>, AllocError>
+    ensures { IfOk result (λ text. text.items ≡ page.tasks.items ++ page.calls.items) }
+{
+    let Page { mut tasks, calls } = page;
+    tasks.extend_from_slice(&calls)?;
+    Ok(tasks)
+}
+
+/// The text of a workload with these entries, whatever they are.
+pub fn text_by_entries(
+    alloc: Global,
+    load: &Workload,
+    entries: &[Entry],
+) -> Result<Vec<u8>, AllocError>
+    requires { load.now.settings.workers + length load.now.parts < 2 ^ 32 }
+    ensures { IfOk result (λ text. text.items ≡ report_by (ends_of (standings_from no_standing entries.now)) (parts_told load.now entries.now)) }
+{
+    let standings = standings_of(alloc, entries)?;
+    let mut page = empty_page(alloc);
+    push_all(
+        alloc,
+        &mut page,
+        load.settings.workers(),
+        load.parts.as_slice(),
+        entries,
+        &standings,
+    )?;
+    joined(page)
+}

@@ -1,0 +1,76 @@
+//! Where the tasks of a part were made.
+ghost use Rattle.std.specs.Prelude.{◌≡◌, ℕ, OnOk, IfOk};
+ghost use Rattle.std.specs.Ordering.{nat_cmp};
+ghost use Rattle.std.specs.BTreeMap.{get};
+ghost use Rattle.run_report.specs.Calls.{makes};
+ghost use Rattle.run_report.specs.Places.{first_of_two, place_if, is_found, place_from, names_by};
+
+use crate::sorts::{Shown, shown_of};
+use crate::text::name_of;
+use mtapi_machine::Reply;
+use std::alloc::{AllocError, Global};
+use std::collections::BTreeMap;
+use workload_file::Statement;
+
+/// The handle of the task that a statement made.
+fn made(statement: &Statement, reply: &Reply) -> Option<u64>
+    ensures { (h : ℕ) → makes h statement.now reply.now ≡ is_found h result }
+{
+    match (shown_of(&statement.deed), reply) {
+        (Shown::Task, Reply::Handle(handle)) => Some(*handle),
+        _ => None,
+    }
+}
+
+/// A handle keeps its first place.
+fn note(
+    places: &mut BTreeMap<u64, usize>,
+    place: usize,
+    found: Option<u64>,
+) -> Result<(), AllocError>
+    ensures { OnOk result ((h : ℕ) → get nat_cmp places.new h ≡ first_of_two (get nat_cmp places.old h) (place_if place h found)) }
+{
+    let Some(handle) = found else {
+        return Ok(());
+    };
+    if places.contains_key(&handle) {
+        return Ok(());
+    }
+    places.insert(handle, place)?;
+    Ok(())
+}
+
+/// The place of the statement that made each task, by the task's handle.
+pub fn places_of(
+    alloc: Global,
+    statements: &[Statement],
+    replies: &[Reply],
+) -> Result<BTreeMap<u64, usize>, AllocError>
+    ensures { IfOk result (λ places. (h : ℕ) → get nat_cmp places h ≡ place_from 0 statements.now replies.now h) }
+{
+    let mut places = BTreeMap::new(alloc);
+    for (i, statement) in statements.iter().enumerate() {
+        let Some(reply) = replies.get(i) else {
+            return Ok(places);
+        };
+        note(&mut places, i, made(statement, reply))?;
+    }
+    Ok(places)
+}
+
+/// The name of the task of this handle, by the place at which it was made.
+pub fn task_name<'a>(
+    statements: &'a [Statement],
+    places: &BTreeMap<u64, usize>,
+    handle: u64,
+) -> &'a [u8]
+    ensures { result.now ≡ names_by statements.now (get nat_cmp places.now) handle }
+{
+    match places.get(&handle) {
+        Some(place) => match statements.get(*place) {
+            Some(statement) => name_of(statement),
+            None => &[],
+        },
+        None => &[],
+    }
+}

@@ -1,0 +1,92 @@
+//! The lines of the statements of a part.
+ghost use Rattle.std.specs.Prelude.{◌≡◌, ◌++◌, [], OnOk, if◌then◌else◌};
+ghost use Rattle.run_report.specs.Tasks.{task_text};
+ghost use Rattle.run_report.specs.Calls.{shown_of, is_task, task_line, task_lines_of};
+ghost use Rattle.std.specs.Ordering.{nat_cmp};
+ghost use Rattle.std.specs.BTreeMap.{get};
+ghost use Rattle.run_report.specs.Standings.{ends_of};
+
+use crate::sorts::{Shown, shown_of};
+use crate::standing::Standing;
+use crate::text::{name_of, push_end};
+use mtapi_machine::Reply;
+use std::alloc::{AllocError, Global};
+use std::collections::BTreeMap;
+use workload_file::Statement;
+
+/// What became of a task, by the reply to its statement.
+fn push_task(
+    alloc: Global,
+    out: &mut Vec<u8>,
+    standings: &BTreeMap<u64, Standing>,
+    reply: &Reply,
+) -> Result<(), AllocError>
+    ensures { OnOk result (out.new.items ≡ out.old.items ++ task_text (ends_of (get nat_cmp standings.now)) reply.now) }
+{
+    match reply {
+        Reply::Handle(handle) => match standings.get(handle) {
+            Some(Standing::Ended(end)) => push_end(alloc, out, end),
+            _ => Ok(()),
+        },
+        Reply::Mtapi(status) => {
+            out.extend_from_slice(b"refused ")?;
+            out.extend_from_slice(status.name().as_bytes())
+        }
+        _ => Ok(()),
+    }
+}
+
+fn push_task_line(
+    alloc: Global,
+    out: &mut Vec<u8>,
+    part: &[u8],
+    standings: &BTreeMap<u64, Standing>,
+    statement: &Statement,
+    reply: &Reply,
+) -> Result<(), AllocError>
+    ensures { OnOk result (out.new.items ≡ out.old.items ++ task_line part.now (ends_of (get nat_cmp standings.now)) statement.now reply.now) }
+{
+    out.extend_from_slice(part)?;
+    out.push(b'.')?;
+    out.extend_from_slice(name_of(statement))?;
+    out.push(b' ')?;
+    push_task(alloc, out, standings, reply)?;
+    out.push(b'\n')?;
+    Ok(())
+}
+
+fn push_if_task(
+    alloc: Global,
+    out: &mut Vec<u8>,
+    part: &[u8],
+    standings: &BTreeMap<u64, Standing>,
+    statement: &Statement,
+    reply: &Reply,
+) -> Result<(), AllocError>
+    ensures { OnOk result (out.new.items ≡ out.old.items ++ (if is_task (shown_of statement.now.deed) then task_line part.now (ends_of (get nat_cmp standings.now)) statement.now reply.now else [])) }
+{
+    match shown_of(&statement.deed) {
+        Shown::Task => push_task_line(alloc, out, part, standings, statement, reply),
+        _ => Ok(()),
+    }
+}
+
+/// The lines of the tasks among these statements, one for each reply.
+pub fn push_task_lines(
+    alloc: Global,
+    out: &mut Vec<u8>,
+    part: &[u8],
+    standings: &BTreeMap<u64, Standing>,
+    statements: &[Statement],
+    replies: &[Reply],
+) -> Result<(), AllocError>
+    ensures { OnOk result (out.new.items ≡ out.old.items ++ task_lines_of part.now (ends_of (get nat_cmp standings.now)) statements.now replies.now) }
+{
+    for (i, statement) in statements.iter().enumerate() {
+        let Some(reply) = replies.get(i) else {
+            return Ok(());
+        };
+        push_if_task(alloc, out, part, standings, statement, reply)?;
+    }
+    Ok(())
+}

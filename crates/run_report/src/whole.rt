@@ -1,0 +1,33 @@
+//! The report of a run.
+ghost use Rattle.std.specs.Prelude.{◌≡◌, length, IfOk};
+ghost use Rattle.mtapi_machine.specs.Legal.{Legal};
+ghost use Rattle.run_report.specs.Report.{terms_of, report};
+
+use crate::page::text_by_entries;
+use mtapi_machine::Entry;
+use node_core::Journal;
+use std::alloc::{AllocError, Global};
+use workload_file::Workload;
+
+/// The report of a run of this workload, by the entries of its journal: what became of each task, and then what the calls
+/// answered.
+pub fn report_of_entries(
+    alloc: Global,
+    load: &Workload,
+    entries: &[Entry],
+) -> Result<Vec<u8>, AllocError>
+    requires { Legal (terms_of load.now) entries.now }
+    ensures { IfOk result (λ text. text.items ≡ report load.now entries.now) }
+{
+    text_by_entries(alloc, load, entries)
+}
+
+/// The report of a run of this workload that left this journal: what became of each task, and then what the calls answered.
+pub fn report_of(alloc: Global, load: &Workload, journal: &Journal) -> Result<Vec<u8>, AllocError>
+    requires settings { journal.now.settings ≡ load.now.settings }
+    requires callers { journal.now.callers ≡ length load.now.parts }
+    requires legal { Legal (record { settings = journal.now.settings; callers = journal.now.callers }) journal.now.entries.entries }
+    ensures { IfOk result (λ text. text.items ≡ report load.now journal.now.entries.entries) }
+{
+    report_of_entries(alloc, load, journal.entries.as_slice())
+}

@@ -1,0 +1,222 @@
+-- From a run in a whole history to the run in its journal.
+use Rattle.std.proofs.Common.{◌≡◌, ℕ, zero, suc, ◌+◌, ◌<◌, ◌≤◌, Bool, true, false, not, cond, List, [], ◌∷◌, ◌++◌, length, Option, Some, None, refl, sym, ◌∙◌, ap, subst, arith, append_assoc}
+use Rattle.std.specs.Prelude.{◌==◌, ◌&&◌, map}
+use Rattle.std.proofs.lemmas.List.{append-nil}
+use Rattle.history.specs.Histories.{entry, entries_of}
+use Rattle.mtapi_values.specs.declared.timeouts.Timeout.{Timeout}
+use Rattle.mtapi_values.specs.Timeouts.{looks_of}
+use Rattle.workload_file.specs.declared.workload.Statement.{Statement}
+use Rattle.workload_file.specs.declared.workload.Part.{Part}
+use Rattle.workload_file.specs.declared.workload.Workload.{Workload}
+use Rattle.mtapi_machine.specs.declared.ops.Op.{Op}
+use Rattle.mtapi_machine.specs.declared.ops.Op.TheVariants as op
+use Rattle.mtapi_machine.specs.declared.replies.Reply.{Reply}
+use Rattle.mtapi_machine.specs.declared.replies.Reply.TheVariants as reply
+use Rattle.mtapi_machine.specs.declared.terms.Terms.{Terms}
+use Rattle.mtapi_machine.specs.State.{State, opening}
+use Rattle.mtapi_machine.specs.Row.{handle_of}
+use Rattle.mtapi_machine.specs.Legal.{NodeEntry, next, after_from}
+use Rattle.mtapi_machine.specs.Kept.{is_dropped, is_pending, kept, skipped, no_counts}
+use Rattle.sched_workers.specs.Calls.{Call, Once, Looking, Unmade, call_of}
+use Rattle.sched_workers.specs.Lines.{Line, line, lines_of, Within, is_late, before_it, looks_before, Looked, Made, Carried}
+use Rattle.sched_workers.specs.RunOf.{has_begin, head_of, tail_of_main, MainRan, CallerRan, CallersRan, PartsRan, is_work, all_work, WorkerRan, ClosesAtEnd, RunOf}
+use Rattle.sched_workers.specs.Turns.{Turn, stayed, turns_of, lines_left}
+use Rattle.sched_workers.specs.Whole.{none_of, first_alone, pended, Looks, MadeBy, CarriedBy, head_turns, MainBy, CallerBy, CallersBy, PartsBy, all_worked, WorkerBy, RunBy, HasSeats}
+use Rattle.sched_workers.proofs.Left.{journal_lines}
+
+-- Pending looks that no journal keeps are counted
+pended_left : (o : Op) (marks : List Bool) (n : ℕ) (rest : List Turn) → none_of marks ≡ true → lines_left n (pended o marks ++ rest) ≡ lines_left (n + length marks) rest
+unfolding none_of lines_left
+pended_left o [] n rest e = ap (λ k. lines_left k rest) (omega arith)
+pended_left o (true ∷ ms) n rest e = absurd (cc)
+pended_left o (false ∷ ms) n rest e = pended_left o ms (n + 1) rest e ∙ ap (λ k. lines_left k rest) (omega arith)
+
+-- the lines of one call, in front of what follows
+pub record Leaves (c : Call) (r : Reply) (ts rest : List Turn) : Type 0 where
+  pub front : List Line
+  pub is : lines_left 0 (ts ++ rest) ≡ front ++ lines_left 0 rest
+  pub made : Made c front r
+
+-- the facts of a call's looks, at each list of marks
+looks_leave : (waits : Bool) (o : Bool → Op) (timeout : Timeout) (r : Reply) (last : Bool) (marks : List Bool) (rest : List Turn) → first_alone marks ≡ true → (waits ≡ false → none_of marks ≡ true) → is_pending r ≡ false
+    → Within (looks_of timeout) last (length marks + 1) → (is_late r ≡ true → last ≡ true) → Leaves (Looking waits o timeout) r (pended (o false) marks ++ stayed (o last) r ∷ []) rest
+unfolding none_of lines_left
+looks_leave waits o timeout r last [] rest one none decides within late = record {
+  front = line (o last) r 0 ∷ [];
+  is = refl;
+  made = record { first = None; beside = 0; last = last; is = refl; none_kept = λ e. refl; decides = decides; within = within; late = late };
+}
+looks_leave waits o timeout r last (true ∷ ms) rest one none decides within late = record {
+  front = line (o false) reply.Pending 0 ∷ line (o last) r (length ms) ∷ [];
+  is = ap (λ (l : List Turn). line (o false) reply.Pending 0 ∷ lines_left 0 l) (append_assoc (pended (o false) ms) (stayed (o last) r ∷ []) rest)
+      ∙ ap (λ (l : List Line). line (o false) reply.Pending 0 ∷ l) (pended_left (o false) ms 0 (stayed (o last) r ∷ rest) one)
+      ∙ ap (λ k. line (o false) reply.Pending 0 ∷ line (o last) r k ∷ lines_left 0 rest) (omega arith);
+  made = record {
+    first = Some 0;
+    beside = length ms;
+    last = last;
+    is = refl;
+    none_kept = λ e. absurd (let x = none e in cc);
+    decides = decides;
+    within = subst (λ (k : ℕ). Within (looks_of timeout) last k) (omega arith) within;
+    late = late;
+  };
+}
+looks_leave waits o timeout r last (false ∷ ms) rest one none decides within late = record {
+  front = line (o last) r (1 + length ms) ∷ [];
+  is = ap (λ (l : List Turn). lines_left 1 l) (append_assoc (pended (o false) ms) (stayed (o last) r ∷ []) rest) ∙ pended_left (o false) ms 1 (stayed (o last) r ∷ rest) one;
+  made = record {
+    first = None;
+    beside = 1 + length ms;
+    last = last;
+    is = refl;
+    none_kept = λ e. refl;
+    decides = decides;
+    within = subst (λ (k : ℕ). Within (looks_of timeout) last k) (omega arith) within;
+    late = late;
+  };
+}
+
+made_leaves : (c : Call) (ts rest : List Turn) (r : Reply) → MadeBy c ts r → Leaves c r ts rest
+unfolding lines_left
+made_leaves (Once o) ts rest r m = record { front = line o r 0 ∷ []; is = ap (λ (x : List Turn). lines_left 0 (x ++ rest)) m.0; made = (refl, m.1) }
+made_leaves (Looking waits o timeout) ts rest r m =
+    subst (λ (x : List Turn). Leaves (Looking waits o timeout) r x rest) (sym m.is) (looks_leave waits o timeout r m.last m.marks rest m.one_kept m.none_kept m.decides m.within m.late)
+made_leaves Unmade ts rest r m = absurd m
+
+-- the lines of a list of statements, in front of what follows
+pub record CarriedLeaves (bound : List ℕ) (ss : List Statement) (ts rest : List Turn) : Type 0 where
+  pub body : List Line
+  pub is : lines_left 0 (ts ++ rest) ≡ body ++ lines_left 0 rest
+  pub carried : Carried bound ss body
+
+carried_leaves : (bound : List ℕ) (ss : List Statement) (ts rest : List Turn) → CarriedBy bound ss ts → CarriedLeaves bound ss ts rest
+unfolding CarriedBy Carried
+carried_leaves bound [] ts rest c = record { body = []; is = ap (λ (x : List Turn). lines_left 0 (x ++ rest)) c; carried = refl }
+carried_leaves bound (s ∷ ss) ts rest (front, back, r, is, made, more) =
+    let x = made_leaves (call_of bound s.deed) front (back ++ rest) r made in
+    let y = carried_leaves (bound ++ handle_of r ∷ []) ss back rest more in
+    record {
+      body = x.front ++ y.body;
+      is = ap (λ (l : List Turn). lines_left 0 (l ++ rest)) is ∙ ap (λ (l : List Turn). lines_left 0 l) (append_assoc front back rest) ∙ x.is ∙ ap (λ (l : List Line). x.front ++ l) y.is ∙ sym (append_assoc x.front y.body (lines_left 0 rest));
+      carried = (x.front, y.body, r, refl, x.made, y.carried);
+    }
+
+-- callers
+
+head_left : (b : Bool) (rest : List Turn) → lines_left 0 (head_turns b ++ rest) ≡ head_of b ++ lines_left 0 rest
+unfolding lines_left
+head_left true rest = refl
+head_left false rest = refl
+
+main_ran : (ss : List Statement) (ts : List Turn) → MainBy ss ts → MainRan ss (lines_left 0 ts)
+unfolding lines_left
+main_ran ss ts m =
+    let tail = stayed op.Close reply.Ok ∷ stayed op.Final reply.Ok ∷ [] in
+    let x = carried_leaves [] ss m.body tail m.carried in
+    record {
+      body = x.body;
+      is = ap (λ (l : List Turn). lines_left 0 l) m.is ∙ head_left (has_begin ss) (m.body ++ tail) ∙ ap (λ (l : List Line). head_of (has_begin ss) ++ l) x.is;
+      carried = x.carried;
+    }
+
+caller_ran : (ss : List Statement) (ts : List Turn) → CallerBy ss ts → CallerRan ss (lines_left 0 ts)
+unfolding lines_left
+caller_ran ss ts m =
+    let x = carried_leaves [] ss m.body [] m.carried in
+    record {
+      body = x.body;
+      looks = 0 + length m.marks;
+      is = ap (λ (l : List Turn). lines_left 0 l) m.is ∙ pended_left op.Enter m.marks 0 (stayed op.Enter reply.Ok ∷ m.body) m.none_kept
+          ∙ ap (λ (l : List Line). line op.Enter reply.Ok (0 + length m.marks) ∷ l) (ap (λ (l : List Turn). lines_left 0 l) (sym (append-nil m.body)) ∙ x.is ∙ append-nil x.body);
+      carried = x.carried;
+    }
+
+callers_ran : (terms : Terms) (L : List NodeEntry) (who : ℕ) (ps : List Part) → who + length ps ≤ 25 → CallersBy (opening terms) L who ps → CallersRan (kept (opening terms) L) (skipped (opening terms) no_counts L) who ps
+unfolding CallersBy CallersRan
+callers_ran terms L who [] small c = tt
+callers_ran terms L who (p ∷ ps) small (c, cs) = (
+  subst (λ (ls : List Line). CallerRan p.statements ls) (sym (journal_lines terms L who (omega (arith, small)))) (caller_ran p.statements (turns_of who (opening terms) L) c),
+  callers_ran terms L (suc who) ps (omega (arith, small)) cs,
+)
+
+parts_ran : (terms : Terms) (L : List NodeEntry) (main : ℕ) (ps : List Part) → main + length ps ≤ 25 → PartsBy (opening terms) L main ps → PartsRan (kept (opening terms) L) (skipped (opening terms) no_counts L) main ps
+parts_ran terms L main [] small c = c
+parts_ran terms L main (p ∷ ps) small (c, cs) = (
+  subst (λ (ls : List Line). MainRan p.statements ls) (sym (journal_lines terms L main (omega (arith, small)))) (main_ran p.statements (turns_of main (opening terms) L) c),
+  callers_ran terms L (suc main) ps (omega (arith, small)) cs,
+)
+
+-- workers
+
+both_left : (x y : Bool) → (x && y) ≡ true → x ≡ true
+both_left true y e = refl
+both_left false y e = e
+
+both_right : (x y : Bool) → (x && y) ≡ true → y ≡ true
+both_right true y e = e
+both_right false y e = absurd (cc)
+
+both_true : (x y : Bool) → x ≡ true → y ≡ true → (x && y) ≡ true
+both_true x y a b = (λ i. a i && b i)
+
+abbrev stop_turn : List Turn
+stop_turn = stayed op.Pick reply.Stop ∷ []
+
+worker_left : (work : List Turn) (n : ℕ) → all_worked work ≡ true → WorkerRan (lines_left n (work ++ stop_turn))
+unfolding all_worked all_work lines_left
+worker_left [] n e = record { work = []; beside = n; is = refl; works = refl }
+worker_left (t ∷ ts) n e = at t.stays (worker_left ts 0 (both_right (cond t.stays (is_work t.op t.reply) true) _ e)) (worker_left ts (cond (is_pending t.reply) (n + 1) n) (both_right (cond t.stays (is_work t.op t.reply) true) _ e)) (both_left (cond t.stays (is_work t.op t.reply) true) _ e)
+  where
+    at : (b : Bool) → WorkerRan (lines_left 0 (ts ++ stop_turn)) → WorkerRan (lines_left (cond (is_pending t.reply) (n + 1) n) (ts ++ stop_turn)) → cond b (is_work t.op t.reply) true ≡ true
+        → WorkerRan (cond b (line t.op t.reply n ∷ lines_left 0 (ts ++ stop_turn)) (lines_left (cond (is_pending t.reply) (n + 1) n) (ts ++ stop_turn)))
+    at true x y w = record { work = line t.op t.reply n ∷ x.work; beside = x.beside; is = ap (λ (l : List Line). line t.op t.reply n ∷ l) x.is; works = both_true (is_work t.op t.reply) (all_work x.work) w x.works }
+    at false x y w = y
+
+worker_ran : (ts : List Turn) → WorkerBy ts → WorkerRan (lines_left 0 ts)
+worker_ran ts w = subst (λ (x : List Turn). WorkerRan (lines_left 0 x)) (sym w.is) (worker_left w.work 0 w.works)
+
+-- the end
+
+kept_append : (s : State) (L M : List NodeEntry) → kept s (L ++ M) ≡ kept s L ++ kept (after_from s L) M
+unfolding kept after_from
+kept_append s [] M = refl
+kept_append s (e ∷ L) M = both (is_dropped s e) _ _ _ (kept_append (next s e) L M)
+  where
+    both : (b : Bool) (xs ys zs : List NodeEntry) → xs ≡ ys ++ zs → cond b xs (e ∷ xs) ≡ cond b ys (e ∷ ys) ++ zs
+    both true xs ys zs q = q
+    both false xs ys zs q = ap (λ (l : List NodeEntry). e ∷ l) q
+
+none_entered : (who : ℕ) (s : State) (es : List NodeEntry) → entries_of who es ≡ [] → entries_of who (kept s es) ≡ []
+unfolding kept
+none_entered who s [] e = refl
+none_entered who s (x ∷ es) e = at (x.who == who) refl (none_entered who (next s x) es) e
+  where
+    keep : (d : Bool) → (x.who == who) ≡ false → entries_of who (kept (next s x) es) ≡ [] → entries_of who (cond d (kept (next s x) es) (x ∷ kept (next s x) es)) ≡ []
+    keep true q m = m
+    keep false q m = (λ i. cond (q i) (x ∷ entries_of who (kept (next s x) es)) (entries_of who (kept (next s x) es))) ∙ m
+
+    at : (b : Bool) → (x.who == who) ≡ b → (entries_of who es ≡ [] → entries_of who (kept (next s x) es) ≡ []) → cond b (x ∷ entries_of who es) (entries_of who es) ≡ [] → entries_of who (cond (is_dropped s x) (kept (next s x) es) (x ∷ kept (next s x) es)) ≡ []
+    at true q more e = absurd (cc)
+    at false q more e = keep (is_dropped s x) q (more e)
+
+closes_kept : (s : State) (main : ℕ) (L : List NodeEntry) → ClosesAtEnd main L → ClosesAtEnd main (kept s L)
+unfolding kept
+closes_kept s main L c =
+    let close = entry main op.Close reply.Ok in
+    let final = entry main op.Final reply.Ok in
+    let s1 = after_from s c.before in
+    let s2 = next s1 close in
+    record {
+      before = kept s c.before;
+      behind = kept s2 c.behind;
+      closes = ap (λ (l : List NodeEntry). kept s l) c.closes ∙ kept_append s c.before (close ∷ (c.behind ++ final ∷ [])) ∙ ap (λ (l : List NodeEntry). kept s c.before ++ close ∷ l) (kept_append s2 c.behind (final ∷ []));
+      callers_ended = λ who l. none_entered who s2 c.behind (c.callers_ended who l);
+    }
+
+pub journal_is_run : (load : Workload) (terms : Terms) (L : List NodeEntry) → HasSeats load → RunBy load (opening terms) L → RunOf load (kept (opening terms) L) (skipped (opening terms) no_counts L)
+journal_is_run load terms L seats run = record {
+  parts = parts_ran terms L load.settings.workers load.parts (omega (arith, seats.0, seats.1)) run.parts;
+  workers = λ w l. subst (λ (ls : List Line). WorkerRan ls) (sym (journal_lines terms L w (omega (arith, l, seats.0)))) (worker_ran (turns_of w (opening terms) L) (run.workers w l));
+  ends = closes_kept (opening terms) load.settings.workers L run.ends;
+}

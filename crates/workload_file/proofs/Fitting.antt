@@ -1,0 +1,383 @@
+-- The values of a statement without a fault lie in their ranges.
+use Rattle.std.proofs.Common.{◌≡◌, ℕ, ℤ, pos, neg_ℤ, ◌+◌, ◌-◌, ◌*◌, ◌^◌, ◌≤◌, ◌<◌, List, [], ◌∷◌, ◌++◌, length, Bool, true, false, not, cond, ◌&&◌, eqb, Option, Some, None, refl, ap, subst, arith, ◌⊎◌, inl, inr, map, add-one, lit<, get_or, zero, suc, drop}
+use Rattle.std.specs.Prelude.{nat_le, is_some, option_and_then, FitsSigned, slice_get, slice_index, codes}
+use Rattle.std.specs.List.{AllByRecursion, find, list_any, list_all, position_or_len}
+use Rattle.std.specs.Int.{w64}
+use Rattle.std.specs.Str.{bytes_eq}
+use Rattle.std.proofs.lemmas.Bool.{eqb-true, and_parts, or_parts, leb-true, ltb-true, cases_Bool}
+use Rattle.std.proofs.lemmas.List.Sums.{split_at_first, passes_at_first}
+use Rattle.std.proofs.lemmas.List.Splits.{length-slice_split}
+use Rattle.std.specs.Str.Parse.{digits_value}
+use Rattle.std.proofs.Math.Nat.{pow-le-pow_right}
+use Rattle.workload_file.specs.declared.table.Word.{Word}
+use Rattle.workload_file.specs.declared.table.Sort.{Sort}
+use Rattle.workload_file.specs.declared.table.Shape.{Shape}
+use Rattle.workload_file.specs.declared.table.Shape.TheVariants as shape
+use Rattle.workload_file.specs.declared.table.Absent.{Absent}
+use Rattle.workload_file.specs.declared.table.Absent.TheVariants as absent
+use Rattle.workload_file.specs.declared.table.Key.{Key}
+use Rattle.workload_file.specs.declared.table.Field.{Field}
+use Rattle.workload_file.specs.declared.reading.Reading.{Reading}
+use Rattle.workload_file.specs.declared.workload.Statement.{Statement}
+use Rattle.mtapi_values.specs.declared.timeouts.Timeout.{Timeout}
+use Rattle.mtapi_values.specs.declared.timeouts.Timeout.TheVariants as timeout
+use Rattle.workload_file.specs.Table.{fields, key_text}
+use Rattle.workload_file.specs.Values.{number, number_within, whole, wholes, args_of, between, bits_from, cores_of, timeout_of, ◌>>=◌}
+use Rattle.workload_file.specs.Options.{key_of, value_of, field_of, is_known, has_value, is_value, gives, is_missing, is_refused, text_of}
+use Rattle.workload_file.specs.Names.{is_unbound_value, has_unbound, place_of, bound_at, is_binding}
+use Rattle.workload_file.specs.Reading.{number_in, args_in, kind_in, cores_in, timeout_in, flag_in, mode_in, whole_in, place_in}
+use Rattle.workload_file.specs.Formed.{Fits, AllFit, IsBoundAt, IsTimeout}
+use Rattle.workload_file.proofs.Facts.{IsRead}
+use Rattle.workload_file.proofs.Given.{IsField, shaped, value_in, default_of, placed, is_good, fields_found, fields_good}
+use Rattle.workload_file.proofs.Places.{bytes_are}
+
+-- ---- what is found in a list
+
+pub find_passes : {X : Type 0} (p : X → Bool) (xs : List X) (x : X) → find p xs ≡ Some x → p x ≡ true
+find_passes p [] x e = absurd cc
+find_passes p (y ∷ ys) x e =
+    elim (cases_Bool (p y)) [
+      | inl t ↦ let e2 = rw t at e in let same : y ≡ x = cc in rw (← same) t
+      | inr f ↦ find_passes p ys x (rw f at e)
+    ]
+
+pub find_all : {X : Type 0} (p q : X → Bool) (xs : List X) (x : X) → find p xs ≡ Some x → list_all q xs ≡ true → q x ≡ true
+find_all p q [] x e h = absurd cc
+find_all p q (y ∷ ys) x e h =
+    let both = and_parts (q y) (list_all q ys) h in
+    elim (cases_Bool (p y)) [
+      | inl t ↦ let e2 = rw t at e in let same : y ≡ x = cc in rw (← same) both.0
+      | inr f ↦ find_all p q ys x (rw f at e) both.1
+    ]
+
+pub find_none : {X : Type 0} (p q : X → Bool) (xs : List X) (x : X) → find p xs ≡ Some x → list_any q xs ≡ false → q x ≡ false
+find_none p q [] x e h = absurd cc
+find_none p q (y ∷ ys) x e h =
+    let both = or_parts (q y) (list_any q ys) h in
+    elim (cases_Bool (p y)) [
+      | inl t ↦ let e2 = rw t at e in let same : y ≡ x = cc in rw (← same) both.0
+      | inr f ↦ find_none p q ys x (rw f at e) both.1
+    ]
+
+pub find_any : {X : Type 0} (p : X → Bool) (xs : List X) → find p xs ≡ None → list_any p xs ≡ false
+find_any p [] e = refl
+find_any p (y ∷ ys) e =
+    elim (cases_Bool (p y)) [
+      | inl t ↦ absurd (let e2 = rw t at e in cc)
+      | inr f ↦ rw f (find_any p ys (rw f at e))
+    ]
+
+pub any_place : {X : Type 0} (p : X → Bool) (xs : List X) → list_any p xs ≡ true → position_or_len p xs < length xs
+any_place p [] h = absurd cc
+any_place p (x ∷ xs) h =
+    elim (cases_Bool (p x)) [
+      | inl t ↦ let e : position_or_len p (x ∷ xs) ≡ 0 = rw t refl in omega (arith, e)
+      | inr f ↦
+          let e : position_or_len p (x ∷ xs) ≡ 1 + position_or_len p xs = rw f refl in
+          let rest : list_any p xs ≡ true = rw f at h in
+          omega (arith, e, any_place p xs rest)
+    ]
+
+-- a word with = is its key, = and its value
+pub spelled : (word : List ℕ) → list_any (λ b. eqb b 61) word ≡ true → word ≡ key_of word ++ 61 ∷ value_of word
+spelled word h =
+    let lt = any_place (λ b. eqb b 61) word h in
+    let at = passes_at_first (λ b. eqb b 61) word 0 lt in
+    let is : get_or word (position_or_len (λ b. eqb b 61) word) 0 ≡ 61 = eqb-true _ _ at in
+    let all = split_at_first (λ b. eqb b 61) word 0 lt in
+    rw is at all
+
+-- ---- an option of a statement that was read
+
+pub record IsGiven (r : Reading) (options : List (List ℕ)) (k : Key) (s : Shape) : Type 0 where
+  pub text : List ℕ
+  pub word : List ℕ
+  pub first : find (λ w. bytes_eq (key_of w) (key_text k)) options ≡ Some word
+  pub at : text_of k options ≡ Some text
+  pub spelled : word ≡ key_text k ++ 61 ∷ text
+  pub valued : is_value s text ≡ true
+  pub bound : is_unbound_value r s text ≡ false
+
+pub record IsAbsent (options : List (List ℕ)) (k : Key) (a : Absent) : Type 0 where
+  pub at : text_of k options ≡ None
+  pub may : is_refused a ≡ false
+
+abbrev pub OptionOf : Reading → List (List ℕ) → Key → Absent → Shape → Type 0
+OptionOf r options k a s = IsAbsent options k a ⊎ IsGiven r options k s
+
+valued_is : (b : Bool) (f : Field) → is_some (cond b (Some f) None) ≡ true → b ≡ true
+valued_is true f h = refl
+valued_is false f h = absurd cc
+
+may_be : (a g : Bool) → (a && not g) ≡ false → g ≡ false → a ≡ false
+may_be true true h e = absurd cc
+may_be true false h e = absurd cc
+may_be false g h e = refl
+
+option_at : (r : Reading) (fs : List Field) (options : List (List ℕ)) (f : Field) (o : Option (List ℕ)) → IsField fs f → list_all (is_known fs) options ≡ true → list_all (has_value fs) options ≡ true → list_any (is_missing options) fs ≡ false → list_any (has_unbound r fs) options ≡ false → find (λ w. bytes_eq (key_of w) (key_text f.key)) options ≡ o → OptionOf r options f.key f.absent f.shape
+unfolding text_of
+option_at r fs options f None field known valued present bound e =
+    let missing = find_none (λ g. bytes_eq (key_text g.key) (key_text f.key)) (is_missing options) fs f field present in
+    let none : gives f.key options ≡ false = find_any (λ w. bytes_eq (key_of w) (key_text f.key)) options e in
+    inl (record { at = rw e refl; may = may_be (is_refused f.absent) (gives f.key options) missing none })
+option_at r fs options f (Some word) field known valued present bound e =
+    let p = find_passes (λ w. bytes_eq (key_of w) (key_text f.key)) options word e in
+    let key : key_of word ≡ key_text f.key = bytes_are (key_of word) (key_text f.key) p in
+    let here : field_of fs word ≡ Some f = rw key field in
+    let k = and_parts _ _ (find_all (λ w. bytes_eq (key_of w) (key_text f.key)) (is_known fs) options word e known) in
+    let v = rw here at (find_all (λ w. bytes_eq (key_of w) (key_text f.key)) (has_value fs) options word e valued) in
+    let b = rw here at (find_none (λ w. bytes_eq (key_of w) (key_text f.key)) (has_unbound r fs) options word e bound) in
+    inr (record {
+      text = value_of word;
+      word = word;
+      first = e;
+      at = rw e refl;
+      spelled = rw (← key) (spelled word k.0);
+      valued = valued_is _ f v;
+      bound = b;
+    })
+
+pub option_facts : (r : Reading) (first : List ℕ) (rest : List (List ℕ)) (w : Word) (name : Option (List ℕ)) (options : List (List ℕ)) (f : Field) → IsRead r first rest w name options → IsField (fields w) f → OptionOf r options f.key f.absent f.shape
+option_facts r first rest w name options f read field = option_at r (fields w) options f (find (λ w. bytes_eq (key_of w) (key_text f.key)) options) field read.known read.valued read.present read.values_bound refl
+
+-- ---- each shape
+
+abbrev picked : ℕ → ℕ → ℕ → Option ℕ
+picked low high n = cond (nat_le low n && nat_le n high) (Some n) None
+
+number_fits : (low high : ℕ) (o : Option ℕ) → is_some (option_and_then (picked low high) o) ≡ true → (n : ℕ) × (o ≡ Some n) × (low ≤ n) × (n ≤ high)
+number_fits low high None h = absurd cc
+number_fits low high (Some n) h =
+    elim (cases_Bool (nat_le low n && nat_le n high)) [
+      | inl t ↦ let both = and_parts (nat_le low n) (nat_le n high) t in (n, refl, leb-true low n both.0, leb-true n high both.1)
+      | inr f ↦ absurd (let e = rw f at h in cc)
+    ]
+
+pub number_given : (low high : ℕ) (text : List ℕ) → is_value (shape.Number low high) text ≡ true → (n : ℕ) × (number text ≡ Some n) × (low ≤ n) × (n ≤ high)
+unfolding is_value number_within
+number_given low high text h = number_fits low high (number text) h
+
+picked_is : (low high n m : ℕ) → picked low high m ≡ Some n → (o : Option ℕ) → o ≡ Some m → (low ≤ m) × (m ≤ high) → (o ≡ Some n) × (low ≤ n) × (n ≤ high)
+picked_is low high n m e o a h =
+    elim (cases_Bool (nat_le low m && nat_le m high)) [
+      | inl t ↦ let g = rw t at e in let same : m ≡ n = cc in rw (← same) (a, h.0, h.1)
+      | inr f ↦ absurd (let g = rw f at e in cc)
+    ]
+
+pub within_is : (low high n : ℕ) (text : List ℕ) → number_within low high text ≡ Some n → (number text ≡ Some n) × (low ≤ n) × (n ≤ high)
+unfolding number_within
+within_is low high n text e =
+    let h : is_some (option_and_then (picked low high) (number text)) ≡ true = ap is_some e in
+    let f = number_fits low high (number text) h in
+    let g = rw f.1 at e in
+    picked_is low high n f.0 g (number text) f.1 (f.2, f.3)
+
+pub some_value : {A : Type 0} (o : Option A) → is_some o ≡ true → (x : A) × (o ≡ Some x)
+some_value None h = absurd cc
+some_value (Some x) h = (x, refl)
+
+-- ---- steps that gave something
+
+pub bind_some : {A B : Type 0} (o : Option A) (f : A → Option B) (y : B) → (o >>= f) ≡ Some y → (x : A) × (o ≡ Some x) × (f x ≡ Some y)
+bind_some (Some x) f y e = (x, refl, e)
+bind_some None f y e = absurd cc
+
+pub some_cond : {A : Type 0} (b : Bool) (x y : A) → cond b (Some x) None ≡ Some y → (b ≡ true) × (x ≡ y)
+some_cond true x y e = (refl, cc)
+some_cond false x y e = absurd cc
+
+abbrev pub just : {A : Type 0} → A → Option A
+just x = Some x
+
+pub just_is : {A : Type 0} (x y : A) → just x ≡ just y → x ≡ y
+just_is x y e = cc
+
+-- numbers of i64
+neg_fits : (n : ℕ) → n ≤ 2 ^ 63 → FitsSigned w64 (neg_ℤ (pos n))
+neg_fits zero le = record { sfits = omega arith }
+neg_fits (suc n) le = record { sfits = omega arith }
+
+pos_fits : (n : ℕ) → n < 2 ^ 63 → FitsSigned w64 (pos n)
+pos_fits n lt = record { sfits = lt }
+
+whole_fits : (text : List ℕ) (z : ℤ) → whole text ≡ Some z → FitsSigned w64 z
+unfolding whole
+whole_fits text z e =
+    elim (cases_Bool (eqb (slice_index text 0) 45)) [
+      | inl t ↦
+          let g = some_cond _ (neg_ℤ (pos (digits_value 10 (drop 1 text)))) z (rw t at e) in
+          let le = leb-true (digits_value 10 (drop 1 text)) (2 ^ 63) (and_parts _ _ g.0).1 in
+          subst (FitsSigned w64) g.1 (neg_fits _ le)
+      | inr f ↦
+          let g = some_cond _ (pos (digits_value 10 text)) z (rw f at e) in
+          let lt = ltb-true (digits_value 10 text) (2 ^ 63) (and_parts _ _ g.0).1 in
+          subst (FitsSigned w64) g.1 (pos_fits _ lt)
+    ]
+
+wholes_fit : (texts : List (List ℕ)) (zs : List ℤ) → wholes texts ≡ Some zs → (length zs ≡ length texts) × AllByRecursion (FitsSigned w64) zs
+unfolding wholes
+wholes_fit [] zs e = let same : [] ≡ zs = just_is [] zs e in rw (← same) (refl, tt)
+wholes_fit (text ∷ texts) zs e =
+    let a = bind_some (whole text) _ zs e in
+    let b = bind_some (wholes texts) _ zs a.2 in
+    let rest = wholes_fit texts b.0 b.1 in
+    subst (λ (l : List ℤ). (length l ≡ length (text ∷ texts)) × AllByRecursion (FitsSigned w64) l) (just_is (a.0 ∷ b.0) zs b.2) (omega (arith, rest.0), (whole_fits text a.0 a.1, rest.1))
+
+pub args_cond : (b : Bool) (o : Option (List ℤ)) (zs : List ℤ) → cond b o None ≡ Some zs → (b ≡ true) × (o ≡ Some zs)
+args_cond true o zs e = (refl, e)
+args_cond false o zs e = absurd cc
+
+pub args_fit : (text : List ℕ) (zs : List ℤ) → args_of text ≡ Some zs → (length zs ≤ 16) × AllByRecursion (FitsSigned w64) zs
+unfolding args_of
+args_fit text zs e =
+    let g = args_cond _ (wholes (between 44 text)) zs e in
+    let few = leb-true (length (between 44 text)) 16 g.0 in
+    let all = wholes_fit (between 44 text) zs g.1 in
+    (omega (arith, few, all.0), all.1)
+
+pub pow_double : (n : ℕ) → 2 ^ (n + 1) ≡ 2 * 2 ^ n
+pow_double n = rw add-one (omega arith)
+
+bits_fit : (texts : List (List ℕ)) (low bits : ℕ) → bits_from low texts ≡ Some bits → low ≤ 64 → bits + 2 ^ low ≤ 2 ^ 64
+unfolding bits_from
+bits_fit [] low bits e le =
+    let same : 0 ≡ bits = just_is 0 bits e in
+    let p : 2 ^ low ≤ 2 ^ 64 = pow-le-pow_right (lit< tt) le in
+    omega (arith, same, p)
+bits_fit (text ∷ texts) low bits e le =
+    let a = bind_some (number_within low 63 text) _ bits e in
+    let b = bind_some (bits_from (a.0 + 1) texts) _ bits a.2 in
+    let w = within_is low 63 a.0 text a.1 in
+    let rest = bits_fit texts (a.0 + 1) b.0 b.1 (omega (arith, w.2)) in
+    let same : 2 ^ a.0 + b.0 ≡ bits = just_is (2 ^ a.0 + b.0) bits b.2 in
+    let p : 2 ^ low ≤ 2 ^ a.0 = pow-le-pow_right (lit< tt) w.1 in
+    omega (arith, same, p, rest, pow_double a.0)
+
+pub bits_some : (texts : List (List ℕ)) (low bits : ℕ) → 1 ≤ length texts → bits_from low texts ≡ Some bits → 0 < bits
+unfolding bits_from
+bits_some [] low bits h e = absurd (omega arith)
+bits_some (text ∷ texts) low bits h e =
+    let a = bind_some (number_within low 63 text) _ bits e in
+    let b = bind_some (bits_from (a.0 + 1) texts) _ bits a.2 in
+    let same : 2 ^ a.0 + b.0 ≡ bits = just_is (2 ^ a.0 + b.0) bits b.2 in
+    let from : 0 ≤ a.0 = omega arith in
+    let p : 2 ^ 0 ≤ 2 ^ a.0 = pow-le-pow_right (lit< tt) from in
+    omega (arith, same, p)
+
+pub cores_cond : (b : Bool) (m : ℕ) (o : Option ℕ) (bits : ℕ) → cond b (Some m) o ≡ Some bits → (m ≡ bits) ⊎ (o ≡ Some bits)
+cores_cond true m o bits e = inl (just_is m bits e)
+cores_cond false m o bits e = inr e
+
+pub cores_fit : (text : List ℕ) (bits : ℕ) → cores_of text ≡ Some bits → (0 < bits) × (bits < 2 ^ 64)
+unfolding cores_of
+cores_fit text bits e =
+    elim (cores_cond _ (2 ^ 64 - 1) (bits_from 0 (between 44 text)) bits e) [
+      | inl same ↦ (omega (arith, same), omega (arith, same))
+      | inr listed ↦
+          let some : 1 ≤ length (between 44 text) = omega (arith, length-slice_split (λ b. eqb b 44) text) in
+          let a = bits_some (between 44 text) 0 bits some listed in
+          let b = bits_fit (between 44 text) 0 bits listed (omega arith) in
+          (a, omega (arith, b))
+    ]
+
+pub timeout_cond : (b : Bool) (x t : Timeout) (o : Option Timeout) → cond b (Some x) o ≡ Some t → (x ≡ t) ⊎ (o ≡ Some t)
+timeout_cond true x t o e = inl (just_is x t e)
+timeout_cond false x t o e = inr e
+
+abbrev pub looks_of : List ℕ → Option Timeout
+looks_of text = number_within 0 1000000 text >>= λ n. Some (timeout.Looks n)
+
+pub timeout_fits : (text : List ℕ) (t : Timeout) → timeout_of text ≡ Some t → IsTimeout t
+unfolding timeout_of
+timeout_fits text t e =
+    elim (timeout_cond (bytes_eq text (codes "nowait")) timeout.NoWait t (cond (bytes_eq text (codes "inf")) (Some timeout.Infinite) (looks_of text)) e) [
+      | inl same ↦ subst IsTimeout same tt
+      | inr e2 ↦
+          elim (timeout_cond (bytes_eq text (codes "inf")) timeout.Infinite t (looks_of text) e2) [
+            | inl same ↦ subst IsTimeout same tt
+            | inr e3 ↦
+                let a = bind_some (number_within 0 1000000 text) (λ n. Some (timeout.Looks n)) t e3 in
+                subst IsTimeout (just_is (timeout.Looks a.0) t a.2) (within_is 0 1000000 a.0 text a.1).2
+          ]
+    ]
+
+-- ---- names
+
+bound_here : (s : Sort) (sts : List Statement) (i : ℕ) → is_binding s (slice_get sts i) ≡ true → IsBoundAt s sts i
+bound_here s [] i h = absurd cc
+bound_here s (x ∷ xs) zero h = (omega arith, h)
+bound_here s (x ∷ xs) (suc i) h = let rest = bound_here s xs i h in (omega (arith, rest.0), rest.1)
+
+place_cond : (s : Sort) (sts : List Statement) (o : Option ℕ) (i : ℕ) → option_and_then (λ place. cond (is_binding s (slice_get sts place)) (Some place) None) o ≡ Some i → IsBoundAt s sts i × (o ≡ Some i)
+place_cond s sts None i e = absurd cc
+place_cond s sts (Some j) i e =
+    let g = some_cond (is_binding s (slice_get sts j)) j i e in
+    (subst (IsBoundAt s sts) g.1 (bound_here s sts j g.0), ap Some g.1)
+
+pub place_some : (s : Sort) (name : List ℕ) (sts : List Statement) (i : ℕ) → place_of s name sts ≡ Some i → IsBoundAt s sts i × (bound_at name sts ≡ Some i)
+unfolding place_of
+place_some s name sts i e = place_cond s sts (bound_at name sts) i e
+
+pub place_found : {A : Type 0} (o : Option A) → not (is_some o) ≡ false → (x : A) × (o ≡ Some x)
+place_found None h = absurd cc
+place_found (Some x) h = (x, refl)
+
+-- ---- every option
+
+-- what an absent option gives fits as well
+number_default : (low high : ℕ) (a : Absent) → is_good a (shape.Number low high) ≡ true → is_refused a ≡ false → (low ≤ default_of a) × (default_of a ≤ high)
+number_default low high absent.Refused g m = absurd cc
+number_default low high absent.Usual g m = absurd cc
+number_default low high (absent.Number d) g m = let both = and_parts (nat_le low d) (nat_le d high) g in (leb-true low d both.0, leb-true d high both.1)
+
+never : (a : Absent) (s : Shape) → (is_good absent.Usual s ≡ false) → ((d : ℕ) → is_good (absent.Number d) s ≡ false) → is_good a s ≡ true → is_refused a ≡ false → ⊥
+never absent.Refused s u n g m = cc
+never absent.Usual s u n g m = cc (u, g)
+never (absent.Number d) s u n g m = cc (n d, g)
+
+placed_some : (a : Absent) (i : ℕ) (o : Option ℕ) → o ≡ Some i → placed a o ≡ Some i
+placed_some absent.Refused i o e = rw e refl
+placed_some absent.Usual i o e = e
+placed_some (absent.Number d) i o e = e
+
+placed_none : (a : Absent) (o : Option ℕ) → is_refused a ≡ false → o ≡ None → placed a o ≡ None
+placed_none absent.Refused o m e = absurd cc
+placed_none absent.Usual o m e = e
+placed_none (absent.Number d) o m e = e
+
+pub place_given : (r : Reading) (options : List (List ℕ)) (k : Key) (sort : Sort) (g : IsGiven r options k (shape.Named sort)) → (i : ℕ) × (place_in r sort k options ≡ Some i) × IsBoundAt sort r.current.statements i × (bound_at g.text r.current.statements ≡ Some i)
+unfolding is_unbound_value place_in
+place_given r options k sort g =
+    let f = place_found (place_of sort g.text r.current.statements) g.bound in
+    let p = place_some sort g.text r.current.statements f.0 f.1 in
+    (f.0, rw g.at f.1, p.0, p.1)
+
+pub shape_fits : (r : Reading) (options : List (List ℕ)) (k : Key) (a : Absent) (s : Shape) → is_good a s ≡ true → OptionOf r options k a s → Fits r.current.statements s (shaped r options k a s)
+unfolding is_value number_in args_in kind_in cores_in timeout_in flag_in mode_in whole_in place_in
+shape_fits r options k a (shape.Number low high) good (inl n) = rw n.at (number_default low high a good n.may)
+shape_fits r options k a (shape.Number low high) good (inr g) = let v = number_given low high g.text g.valued in rw (g.at, v.1) (v.2, v.3)
+shape_fits r options k a shape.Whole good (inl n) = absurd (never a shape.Whole refl (λ d. refl) good n.may)
+shape_fits r options k a shape.Whole good (inr g) = let v = some_value (whole g.text) g.valued in rw (g.at, v.1) (whole_fits g.text v.0 v.1)
+shape_fits r options k a shape.Args good (inl n) = rw n.at (omega arith, tt)
+shape_fits r options k a shape.Args good (inr g) = let v = some_value (args_of g.text) g.valued in rw (g.at, v.1) (args_fit g.text v.0 v.1)
+shape_fits r options k a shape.Cores good (inl n) = rw n.at (omega arith, omega arith)
+shape_fits r options k a shape.Cores good (inr g) = let v = some_value (cores_of g.text) g.valued in rw (g.at, v.1) (cores_fit g.text v.0 v.1)
+shape_fits r options k a shape.Kind good o = tt
+shape_fits r options k a shape.Flag good o = tt
+shape_fits r options k a shape.Mode good o = tt
+shape_fits r options k a shape.Timeout good (inl n) = absurd (never a shape.Timeout refl (λ d. refl) good n.may)
+shape_fits r options k a shape.Timeout good (inr g) = let v = some_value (timeout_of g.text) g.valued in rw (g.at, v.1) (timeout_fits g.text v.0 v.1)
+shape_fits r options k a (shape.Named sort) good (inl n) =
+    let none : place_in r sort k options ≡ None = rw n.at refl in
+    rw (placed_none a (place_in r sort k options) n.may none) tt
+shape_fits r options k a (shape.Named sort) good (inr g) =
+    let v = place_given r options k sort g in
+    rw (placed_some a v.0 (place_in r sort k options) v.1) v.2
+
+all_fit : (r : Reading) (first : List ℕ) (rest : List (List ℕ)) (w : Word) (name : Option (List ℕ)) (options : List (List ℕ)) (fs : List Field) → IsRead r first rest w name options → AllByRecursion (IsField (fields w)) fs → AllByRecursion (λ f. is_good f.absent f.shape ≡ true) fs → AllFit r.current.statements fs (map (value_in r options) fs)
+all_fit r first rest w name options [] read found good = tt
+all_fit r first rest w name options (f ∷ fs) read found good =
+    (shape_fits r options f.key f.absent f.shape good.0 (option_facts r first rest w name options f read found.0), all_fit r first rest w name options fs read found.1 good.1)
+
+pub options_fit : (r : Reading) (first : List ℕ) (rest : List (List ℕ)) (w : Word) (name : Option (List ℕ)) (options : List (List ℕ)) → IsRead r first rest w name options → AllFit r.current.statements (fields w) (map (value_in r options) (fields w))
+options_fit r first rest w name options read = all_fit r first rest w name options (fields w) read (fields_found w) (fields_good w)

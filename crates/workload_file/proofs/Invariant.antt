@@ -1,0 +1,262 @@
+-- Each line keeps what is read well formed.
+use Rattle.std.proofs.Common.{◌≡◌, ℕ, ◌+◌, ◌≤◌, ◌<◌, List, [], ◌∷◌, ◌++◌, length, Bool, true, false, not, cond, eqb, Option, Some, None, refl, sym, ap, arith, inl, inr, map, append_assoc}
+use Rattle.std.specs.Prelude.{is_some, IfSome}
+use Rattle.std.specs.List.{AllByRecursion, list_any, flat_map, position_or_len}
+use Rattle.std.specs.Str.{bytes_eq}
+use Rattle.std.proofs.lemmas.Bool.{or_parts, or_from, eqb-true, cases_Bool, lt-ltb, le-leb}
+use Rattle.std.proofs.lemmas.List.{append-nil}
+use Rattle.mtapi_values.specs.Attributes.{NodeSettings}
+use Rattle.workload_file.specs.declared.table.Word.{Word}
+use Rattle.workload_file.specs.declared.table.Word.TheVariants as word
+use Rattle.workload_file.specs.declared.table.Key.TheVariants as key
+use Rattle.workload_file.specs.declared.table.Naming.{Naming}
+use Rattle.workload_file.specs.declared.table.Naming.TheVariants as rule
+use Rattle.workload_file.specs.declared.workload.Deed.{Deed}
+use Rattle.workload_file.specs.declared.workload.Deed.TheVariants as deed
+use Rattle.workload_file.specs.declared.workload.Statement.{Statement}
+use Rattle.workload_file.specs.declared.workload.Part.{Part}
+use Rattle.workload_file.specs.declared.reading.Reading.{Reading}
+use Rattle.workload_file.specs.Values.{is_name}
+use Rattle.workload_file.specs.Table.{naming, fields}
+use Rattle.workload_file.specs.Deeds.{word_for, setting_values, is_begin}
+use Rattle.workload_file.specs.Names.{split_name, is_called, bound_at, is_taken, is_unbound, is_misplaced, place_of}
+use Rattle.workload_file.specs.Reading.{number_in, settings_in, with_setting, usual_settings, deed_of, used_place, name_text, bound_name, finished}
+use Rattle.workload_file.specs.Formed.{AllFit, IsBoundAt, has_name, IsNew, IsStatement, AreStatements, begins, IsPart, IsMain, IsFurther, MainFirst, HaveDifferentNames, statement_lines, Rise}
+use Rattle.workload_file.proofs.Facts.{IsRead, some, some_is}
+use Rattle.workload_file.proofs.Given.{value_in, use_of, IsDeed}
+use Rattle.workload_file.proofs.Fitting.{options_fit, place_found, place_some, any_place}
+
+-- ---- lists that end with a part or a statement
+
+pub push_all : {X : Type 0} (P : X → Type 0) (xs : List X) (y : X) → AllByRecursion P xs → P y → AllByRecursion P (xs ++ y ∷ [])
+push_all P [] y h p = (p, tt)
+push_all P (x ∷ xs) y h p = (h.0, push_all P xs y h.1 p)
+
+pub last_all : {X : Type 0} (P : X → Type 0) (xs : List X) (y z : X) → AllByRecursion P (xs ++ y ∷ []) → (P y → P z) → AllByRecursion P (xs ++ z ∷ [])
+last_all P [] y z h p = (p h.0, tt)
+last_all P (x ∷ xs) y z h p = (h.0, last_all P xs y z h.1 p)
+
+pub push_statement : (before xs : List Statement) (s : Statement) → AreStatements before xs → IsStatement (before ++ xs) s → AreStatements before (xs ++ s ∷ [])
+push_statement before [] s h u = (rw append-nil at u, tt)
+push_statement before (x ∷ xs) s h u = (h.0, push_statement (before ++ x ∷ []) xs s h.1 (rw append_assoc u))
+
+pub main_last : (before : List Part) (p q : Part) → MainFirst (before ++ p ∷ []) → (length before ≡ 0 → IsMain p → IsMain q) → (1 ≤ length before → IsFurther p → IsFurther q) → MainFirst (before ++ q ∷ [])
+main_last [] p q h m f = (m refl h.0, tt)
+main_last (b ∷ bs) p q h m f = (h.0, last_all IsFurther bs p q h.1 (f (omega arith)))
+
+pub main_push : (xs : List Part) (p q : Part) → MainFirst (xs ++ p ∷ []) → IsFurther q → MainFirst ((xs ++ p ∷ []) ++ q ∷ [])
+main_push [] p q h f = (h.0, (f, tt))
+main_push (x ∷ xs) p q h f = (h.0, push_all IsFurther (xs ++ p ∷ []) q h.1 f)
+
+pub any_push : {X : Type 0} (t : X → Bool) (xs : List X) (y : X) → list_any t xs ≡ false → t y ≡ false → list_any t (xs ++ y ∷ []) ≡ false
+any_push t [] y h e = or_from (t y) false e refl
+any_push t (x ∷ xs) y h e = let both = or_parts (t x) (list_any t xs) h in or_from (t x) (list_any t (xs ++ y ∷ [])) both.0 (any_push t xs y both.1 e)
+
+any_last : (name : List ℕ) (xs : List Part) (p q : Part) → q.name ≡ p.name → list_any (λ q. bytes_eq name q.name) (xs ++ p ∷ []) ≡ false → list_any (λ q. bytes_eq name q.name) (xs ++ q ∷ []) ≡ false
+any_last name [] p q e h = rw e h
+any_last name (x ∷ xs) p q e h = let both = or_parts (bytes_eq name x.name) (list_any (λ q. bytes_eq name q.name) (xs ++ p ∷ [])) h in or_from (bytes_eq name x.name) (list_any (λ q. bytes_eq name q.name) (xs ++ q ∷ [])) both.0 (any_last name xs p q e both.1)
+
+pub names_last : (xs : List Part) (p q : Part) → q.name ≡ p.name → HaveDifferentNames (xs ++ p ∷ []) → HaveDifferentNames (xs ++ q ∷ [])
+names_last [] p q e h = (refl, tt)
+names_last (x ∷ xs) p q e h = (any_last x.name xs p q e h.0, names_last xs p q e h.1)
+
+pub names_push : (xs : List Part) (q : Part) → HaveDifferentNames xs → list_any (λ p. bytes_eq p.name q.name) xs ≡ false → HaveDifferentNames (xs ++ q ∷ [])
+names_push [] q h e = (refl, tt)
+names_push (x ∷ xs) q h e =
+    let both = or_parts (bytes_eq x.name q.name) (list_any (λ p. bytes_eq p.name q.name) xs) e in
+    (any_push (λ p. bytes_eq x.name p.name) xs q h.0 both.0, names_push xs q h.1 both.1)
+
+pub begins_push : (xs : List Statement) (s : Statement) → begins (xs ++ s ∷ []) ≡ begins xs + cond (is_begin s.deed) 1 0
+begins_push [] s = omega arith
+begins_push (x ∷ xs) s = let e = begins_push xs s in omega (arith, e)
+
+no_begins : (xs : List Statement) → list_any (λ s. is_begin s.deed) xs ≡ false → begins xs ≡ 0
+no_begins [] h = refl
+no_begins (x ∷ xs) h = let both = or_parts (is_begin x.deed) (list_any (λ s. is_begin s.deed) xs) h in let rest = no_begins xs both.1 in rw both.0 (omega (arith, rest))
+
+pub flat_push : (f : Part → List ℕ) (xs : List Part) (p : Part) → flat_map f (xs ++ p ∷ []) ≡ flat_map f xs ++ f p
+flat_push f [] p = append-nil (f p)
+flat_push f (x ∷ xs) p = rw (flat_push f xs p) (sym (append_assoc (f x) (flat_map f xs) (f p)))
+
+-- ---- lines that rise
+
+abbrev pub Below : ℕ → List ℕ → Type 0
+Below line xs = AllByRecursion (λ l. l < line) xs
+
+pub below_more : (line : ℕ) (xs : List ℕ) → Below line xs → Below (line + 1) xs
+below_more line [] h = tt
+below_more line (x ∷ xs) h = let lt : x < line = h.0 in (omega arith, below_more line xs h.1)
+
+pub below_push : (line : ℕ) (xs : List ℕ) → Below line xs → Below (line + 1) (xs ++ line ∷ [])
+below_push line xs h = push_all (λ l. l < line + 1) xs line (below_more line xs h) (omega arith)
+
+pub rise_push : (last line : ℕ) (xs : List ℕ) → last < line → Rise last xs → Below line xs → Rise last (xs ++ line ∷ [])
+rise_push last line [] lt h b = (lt, tt)
+rise_push last line (x ∷ xs) lt h b = (h.0, rise_push x line xs b.0 h.1 b.1)
+
+-- ---- the invariant
+
+-- what the lines before this one say is well formed, and its lines stand before this one
+pub record IsFormed (r : Reading) (line : ℕ) : Type 0 where
+  pub callers : length r.before ≤ 8
+  pub main : MainFirst (r.before ++ r.current ∷ [])
+  pub names : HaveDifferentNames (r.before ++ r.current ∷ [])
+  pub parts : AllByRecursion IsPart (r.before ++ r.current ∷ [])
+  pub count : length (statement_lines (finished r)) ≡ r.count
+  pub few : r.count ≤ 20000
+  pub rise : Rise 0 (statement_lines (finished r))
+  pub below : Below line (statement_lines (finished r))
+  pub usual : r.node_line ≡ 0 → r.settings ≡ usual_settings
+  pub settings : AllFit [] (fields word.Node) (setting_values r.settings)
+
+-- ---- a statement's own points
+
+abbrev pair : Option (List ℕ) → List (List ℕ) → Option (List ℕ) × List (List ℕ)
+pair name options = (name, options)
+
+pair_is : (a b : Option (List ℕ)) (xs ys : List (List ℕ)) → some (pair a xs) ≡ some (pair b ys) → a ≡ b
+pair_is a b xs ys e = ap (λ (x : Option (List ℕ) × List (List ℕ)). x.0) (some_is (pair a xs) (pair b ys) e)
+
+pub is_name_true : (text : List ℕ) (name : Option (List ℕ)) (rest options : List (List ℕ)) → cond (is_name text) (Some (pair (Some text) rest)) None ≡ Some (pair name options) → (is_name text ≡ true) × (name ≡ Some text)
+is_name_true text name rest options e =
+    elim (cases_Bool (is_name text)) [
+      | inl t ↦ (t, sym (pair_is (Some text) name rest options (rw t at e)))
+      | inr f ↦ absurd (let g = rw f at e in cc)
+    ]
+
+-- the name of a statement that has one
+pub named_by : (n : Naming) (rest : List (List ℕ)) (name : Option (List ℕ)) (options : List (List ℕ)) → split_name n rest ≡ Some (name, options) → (n ≡ rule.Bare → ⊥) → (text : List ℕ) × (name ≡ Some text) × (is_name text ≡ true)
+unfolding split_name
+named_by rule.Bare rest name options e h = absurd (h refl)
+named_by rule.Caller [] name options e h = absurd cc
+named_by rule.Caller (x ∷ xs) name options e h = let g = is_name_true x name xs options e in (x, g.1, g.0)
+named_by (rule.Binds s) [] name options e h = absurd cc
+named_by (rule.Binds s) (x ∷ xs) name options e h = let g = is_name_true x name xs options e in (x, g.1, g.0)
+named_by (rule.Uses s) [] name options e h = absurd cc
+named_by (rule.Uses s) (x ∷ xs) name options e h = let g = is_name_true x name xs options e in (x, g.1, g.0)
+
+unbound_any : (name : List ℕ) (xs : List Statement) → is_some (bound_at name xs) ≡ false → list_any (λ s. is_called name s.name) xs ≡ false
+unbound_any name xs h =
+    elim (cases_Bool (list_any (λ s. is_called name s.name) xs)) [
+      | inl t ↦ absurd (
+          let lt = any_place (λ (s : Statement). is_called name s.name) xs t in
+          let e : bound_at name xs ≡ Some (position_or_len (λ s. is_called name s.name) xs) = rw (lt-ltb _ _ lt) refl in
+          let g = rw e at h in cc)
+      | inr f ↦ f
+    ]
+
+bound_named : (r : Reading) (n : Naming) (name : Option (List ℕ)) (rest options : List (List ℕ)) → split_name n rest ≡ Some (name, options) → is_some (bound_name n name) ≡ has_name n
+bound_named r rule.Bare name rest options e = refl
+bound_named r rule.Caller name rest options e = refl
+bound_named r (rule.Uses s) name rest options e = refl
+bound_named r (rule.Binds s) name rest options e = let g = named_by (rule.Binds s) rest name options e (λ (x : rule.Binds s ≡ rule.Bare). cc) in rw g.1 refl
+
+new_name : (r : Reading) (n : Naming) (name : Option (List ℕ)) (rest options : List (List ℕ)) → split_name n rest ≡ Some (name, options) → is_taken r n (name_text name) ≡ false → IfSome (bound_name n name) (IsNew r.current.statements)
+unfolding is_taken
+new_name r rule.Bare name rest options e f = tt
+new_name r rule.Caller name rest options e f = tt
+new_name r (rule.Uses s) name rest options e f = tt
+new_name r (rule.Binds s) name rest options e f =
+    let g = named_by (rule.Binds s) rest name options e (λ (x : rule.Binds s ≡ rule.Bare). cc) in
+    let free = rw g.1 at f in
+    rw g.1 (g.2, unbound_any g.0 r.current.statements free)
+
+used_well : (r : Reading) (n : Naming) (name : List ℕ) → is_unbound r n name ≡ false → IfSome (use_of r n name) (λ u. IsBoundAt u.0 r.current.statements u.1)
+unfolding is_unbound used_place
+used_well r rule.Bare name h = tt
+used_well r rule.Caller name h = tt
+used_well r (rule.Binds s) name h = tt
+used_well r (rule.Uses s) name h =
+    let f = place_found (place_of s name r.current.statements) h in
+    let p = place_some s name r.current.statements f.0 f.1 in
+    rw f.1 p.0
+
+pub statement_formed : (r : Reading) (line : ℕ) (first : List ℕ) (rest : List (List ℕ)) (w : Word) (name : Option (List ℕ)) (options : List (List ℕ)) → IsRead r first rest w name options → IsDeed r line w name options → IsStatement r.current.statements (record { line = line; name = bound_name (naming w) name; deed = deed_of r w (name_text name) options })
+statement_formed r line first rest w name options read d = record {
+  named = rw d.word (bound_named r (naming w) name rest options read.split);
+  name = new_name r (naming w) name rest options read.split read.free;
+  uses = rw d.uses (used_well r (naming w) (name_text name) read.bound);
+  options = rw (d.word, d.values) (options_fit r first rest w name options read);
+}
+
+-- ---- begin
+
+pub begin_word : (d : Deed) → is_begin d ≡ true → word_for d ≡ word.Begin
+unfolding is_begin word_for
+begin_word deed.Begin h = refl
+begin_word _ h = absurd cc
+
+pub not_not : (b : Bool) → not b ≡ false → b ≡ true
+not_not true h = refl
+not_not false h = absurd cc
+
+pub begin_free : (r : Reading) (w : Word) → w ≡ word.Begin → is_misplaced r w ≡ false → (length r.before ≡ 0) × (begins r.current.statements ≡ 0)
+unfolding is_misplaced
+begin_free r w e h =
+    let g = rw e at h in
+    let both = or_parts (not (eqb (length r.before) 0)) (list_any (λ s. is_begin s.deed) r.current.statements) g in
+    (eqb-true (length r.before) 0 (not_not _ both.0), no_begins r.current.statements both.1)
+
+-- ---- node
+
+-- a setting that is in its range is set
+set_workers : (v : ℕ) (s : NodeSettings) → (1 ≤ v) × (v ≤ 16) → with_setting 1 v s ≡ record s { workers = v }
+unfolding with_setting
+set_workers v s h = rw (le-leb 1 v h.0, le-leb v 16 h.1) refl
+
+set_tasks : (v : ℕ) (s : NodeSettings) → (1 ≤ v) × (v ≤ 65536) → with_setting 2 v s ≡ record s { tasks = v }
+unfolding with_setting
+set_tasks v s h = rw (le-leb 1 v h.0, le-leb v 65536 h.1) refl
+
+set_actions : (v : ℕ) (s : NodeSettings) → (1 ≤ v) × (v ≤ 1024) → with_setting 3 v s ≡ record s { actions = v }
+unfolding with_setting
+set_actions v s h = rw (le-leb 1 v h.0, le-leb v 1024 h.1) refl
+
+set_groups : (v : ℕ) (s : NodeSettings) → (1 ≤ v) × (v ≤ 1024) → with_setting 4 v s ≡ record s { groups = v }
+unfolding with_setting
+set_groups v s h = rw (le-leb 1 v h.0, le-leb v 1024 h.1) refl
+
+set_queues : (v : ℕ) (s : NodeSettings) → (1 ≤ v) × (v ≤ 256) → with_setting 5 v s ≡ record s { queues = v }
+unfolding with_setting
+set_queues v s h = rw (le-leb 1 v h.0, le-leb v 256 h.1) refl
+
+set_objects : (v : ℕ) (s : NodeSettings) → (1 ≤ v) × (v ≤ 256) → with_setting 6 v s ≡ record s { objects = v }
+unfolding with_setting
+set_objects v s h = rw (le-leb 1 v h.0, le-leb v 256 h.1) refl
+
+set_priorities : (v : ℕ) (s : NodeSettings) → (1 ≤ v) × (v ≤ 8) → with_setting 7 v s ≡ record s { priorities = v }
+unfolding with_setting
+set_priorities v s h = rw (le-leb 1 v h.0, le-leb v 8 h.1) refl
+
+set_generations : (v : ℕ) (s : NodeSettings) → (1 ≤ v) × (v ≤ 4294967295) → with_setting 8 v s ≡ record s { generations = v }
+unfolding with_setting
+set_generations v s h = rw (le-leb 1 v h.0, le-leb v 4294967295 h.1) refl
+
+pub node_settings : (r : Reading) (options : List (List ℕ)) → AllFit r.current.statements (fields word.Node) (map (value_in r options) (fields word.Node)) → setting_values (settings_in options) ≡ map (value_in r options) (fields word.Node)
+unfolding fields settings_in
+node_settings r options h =
+    let v1 = number_in options key.Workers 1 in
+    let e1 = set_workers v1 usual_settings h.0 in
+    let s1 : NodeSettings = record usual_settings { workers = v1 } in
+    let v2 = number_in options key.MaxTasks 1024 in
+    let e2 = set_tasks v2 s1 h.1.0 in
+    let s2 : NodeSettings = record s1 { tasks = v2 } in
+    let v3 = number_in options key.MaxActions 64 in
+    let e3 = set_actions v3 s2 h.1.1.0 in
+    let s3 : NodeSettings = record s2 { actions = v3 } in
+    let v4 = number_in options key.MaxGroups 128 in
+    let e4 = set_groups v4 s3 h.1.1.1.0 in
+    let s4 : NodeSettings = record s3 { groups = v4 } in
+    let v5 = number_in options key.MaxQueues 16 in
+    let e5 = set_queues v5 s4 h.1.1.1.1.0 in
+    let s5 : NodeSettings = record s4 { queues = v5 } in
+    let v6 = number_in options key.MaxObjects 16 in
+    let e6 = set_objects v6 s5 h.1.1.1.1.1.0 in
+    let s6 : NodeSettings = record s5 { objects = v6 } in
+    let v7 = number_in options key.Priorities 4 in
+    let e7 = set_priorities v7 s6 h.1.1.1.1.1.1.0 in
+    let s7 : NodeSettings = record s6 { priorities = v7 } in
+    let v8 = number_in options key.Generations 4294967295 in
+    let e8 = set_generations v8 s7 h.1.1.1.1.1.1.1.0 in
+    let s8 : NodeSettings = record s7 { generations = v8 } in
+    rw (e1, e2, e3, e4, e5, e6, e7, e8) refl

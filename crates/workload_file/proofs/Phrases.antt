@@ -1,0 +1,234 @@
+-- Words that are joined are cut into the same words, and a line of fewer words is shorter.
+use Rattle.std.proofs.Common.{◌≡◌, ℕ, ◌+◌, ◌≤◌, List, [], ◌∷◌, ◌++◌, length, Bool, true, false, not, cond, ◌&&◌, eqb, Some, refl, ap, ◌∙◌, arith, inl, inr, length-append, All}
+use Rattle.std.specs.Prelude.{nat_lt, filter}
+use Rattle.std.specs.List.{AllByRecursion, list_any, list_all, find, join_with_byte, onto_first}
+use Rattle.std.specs.Str.{bytes_eq}
+use Rattle.std.proofs.lemmas.Bool.{and_parts, and_from, or_parts, cases_Bool, eq-eqb, eqb-true}
+use Rattle.std.proofs.lemmas.List.Elements.{All-from_recursion}
+use Rattle.std.proofs.lemmas.List.Splits.{slice_split_at, slice_split_none, length-slice_split, join_with_byte-slice_split}
+use Rattle.workload_file.specs.declared.table.Key.{Key}
+use Rattle.workload_file.specs.declared.table.Field.{Field}
+use Rattle.workload_file.specs.declared.reading.Reading.{Reading}
+use Rattle.workload_file.specs.Values.{between}
+use Rattle.workload_file.specs.Table.{key_text}
+use Rattle.workload_file.specs.Cuts.{words_of}
+use Rattle.workload_file.specs.Options.{key_of}
+use Rattle.workload_file.specs.Reading.{is_printable}
+use Rattle.workload_file.specs.Written.{line_text}
+use Rattle.workload_file.specs.Led.{led}
+use Rattle.workload_file.proofs.Pieces.{joined}
+use Rattle.workload_file.proofs.Places.{bytes_are}
+use Rattle.workload_file.proofs.Given.{AreApart}
+use Rattle.workload_file.proofs.Picks.{AllPicked}
+use Rattle.workload_file.proofs.Rereading.{picks, picks_none, picks_left, picks_word, apart_sym}
+
+-- ---- what words consist of
+
+-- a printable byte that is no space
+abbrev pub is_inner : ℕ → Bool
+is_inner b = is_printable b && not (eqb b 32)
+
+abbrev pub is_word : List ℕ → Bool
+is_word w = nat_lt 0 (length w) && list_all is_inner w
+
+onto_good : (x : ℕ) (parts : List (List ℕ)) → is_inner x ≡ true → list_all (list_all is_inner) parts ≡ true → list_all (list_all is_inner) (onto_first x parts) ≡ true
+onto_good x [] t h = and_from _ _ (and_from _ _ t refl) refl
+onto_good x (p ∷ ps) t h = let both = and_parts (list_all is_inner p) (list_all (list_all is_inner) ps) h in and_from _ _ (and_from _ _ t both.0) both.1
+
+pieces_good : (text : List ℕ) → list_all is_printable text ≡ true → list_all (list_all is_inner) (between 32 text) ≡ true
+pieces_good [] h = refl
+pieces_good (x ∷ xs) h =
+    let both = and_parts (is_printable x) (list_all is_printable xs) h in
+    elim (cases_Bool (eqb x 32)) [
+      | inl t ↦ rw t (pieces_good xs both.1)
+      | inr f ↦ rw f (onto_good x (between 32 xs) (and_from _ _ both.0 (rw f refl)) (pieces_good xs both.1))
+    ]
+
+filter_good : (xs : List (List ℕ)) → list_all (list_all is_inner) xs ≡ true → list_all is_word (filter (λ w. nat_lt 0 (length w)) xs) ≡ true
+filter_good [] h = refl
+filter_good (x ∷ xs) h =
+    let both = and_parts (list_all is_inner x) (list_all (list_all is_inner) xs) h in
+    elim (cases_Bool (nat_lt 0 (length x))) [
+      | inl t ↦ rw t (and_from _ _ (and_from _ _ t both.0) (filter_good xs both.1))
+      | inr f ↦ rw f (filter_good xs both.1)
+    ]
+
+pub words_good : (text : List ℕ) → list_all is_printable text ≡ true → list_all is_word (words_of text) ≡ true
+unfolding words_of
+words_good text h = filter_good (between 32 text) (pieces_good text h)
+
+-- ---- joined words
+
+pub Lacks : ℕ → List ℕ → Type 0
+Lacks byte text = AllByRecursion (λ b. eqb b byte ≡ false) text
+
+not_true : (b : Bool) → not b ≡ true → b ≡ false
+not_true true h = absurd cc
+not_true false h = refl
+
+inner_lacks : (w : List ℕ) → list_all is_inner w ≡ true → Lacks 32 w
+unfolding Lacks
+inner_lacks [] h = tt
+inner_lacks (b ∷ bs) h =
+    let both = and_parts (is_inner b) (list_all is_inner bs) h in
+    let parts = and_parts (is_printable b) (not (eqb b 32)) both.0 in
+    (not_true (eqb b 32) parts.1, inner_lacks bs both.1)
+
+pub between_joined : (byte : ℕ) (first : List ℕ) (rest : List (List ℕ)) → AllByRecursion (Lacks byte) (first ∷ rest) → between byte (join_with_byte byte (first ∷ rest)) ≡ first ∷ rest
+unfolding Lacks
+between_joined byte first [] h = slice_split_none (λ b. eqb b byte) first (All-from_recursion (λ (b : ℕ). eqb b byte ≡ false) first h.0)
+between_joined byte first (next ∷ rest) h =
+    slice_split_at (λ b. eqb b byte) first byte (join_with_byte byte (next ∷ rest)) (All-from_recursion (λ (b : ℕ). eqb b byte ≡ false) first h.0) (eq-eqb byte byte refl)
+    ∙ ap (λ (x : List (List ℕ)). first ∷ x) (between_joined byte next rest h.1)
+
+words_lack : (ws : List (List ℕ)) → list_all is_word ws ≡ true → AllByRecursion (Lacks 32) ws
+words_lack [] h = tt
+words_lack (w ∷ ws) h =
+    let both = and_parts (is_word w) (list_all is_word ws) h in
+    let parts = and_parts (nat_lt 0 (length w)) (list_all is_inner w) both.0 in
+    (inner_lacks w parts.1, words_lack ws both.1)
+
+filter_words : (ws : List (List ℕ)) → list_all is_word ws ≡ true → filter (λ w. nat_lt 0 (length w)) ws ≡ ws
+filter_words [] h = refl
+filter_words (w ∷ ws) h =
+    let both = and_parts (is_word w) (list_all is_word ws) h in
+    let parts = and_parts (nat_lt 0 (length w)) (list_all is_inner w) both.0 in
+    rw parts.0 (ap (λ (x : List (List ℕ)). w ∷ x) (filter_words ws both.1))
+
+pub words_again : (first : List ℕ) (rest : List (List ℕ)) → list_all is_word (first ∷ rest) ≡ true → words_of (line_text (first ∷ rest)) ≡ first ∷ rest
+unfolding words_of
+words_again first rest h = ap (filter (λ w. nat_lt 0 (length w))) (between_joined 32 first rest (words_lack (first ∷ rest) h)) ∙ filter_words (first ∷ rest) h
+
+-- ---- what joined words consist of
+
+all_append : (q : ℕ → Bool) (xs ys : List ℕ) → list_all q xs ≡ true → list_all q ys ≡ true → list_all q (xs ++ ys) ≡ true
+all_append q [] ys h k = k
+all_append q (x ∷ xs) ys h k = let both = and_parts (q x) (list_all q xs) h in and_from _ _ both.0 (all_append q xs ys both.1 k)
+
+inner_printable : (w : List ℕ) → list_all is_inner w ≡ true → list_all is_printable w ≡ true
+inner_printable [] h = refl
+inner_printable (b ∷ bs) h =
+    let both = and_parts (is_inner b) (list_all is_inner bs) h in
+    let parts = and_parts (is_printable b) (not (eqb b 32)) both.0 in
+    and_from _ _ parts.0 (inner_printable bs both.1)
+
+led_printable : (ws : List (List ℕ)) → list_all is_word ws ≡ true → list_all is_printable (led 32 ws) ≡ true
+led_printable [] h = refl
+led_printable (w ∷ ws) h =
+    let both = and_parts (is_word w) (list_all is_word ws) h in
+    let parts = and_parts (nat_lt 0 (length w)) (list_all is_inner w) both.0 in
+    all_append is_printable w (led 32 ws) (inner_printable w parts.1) (led_printable ws both.1)
+
+pub line_printable : (first : List ℕ) (rest : List (List ℕ)) → list_all is_word (first ∷ rest) ≡ true → list_all is_printable (line_text (first ∷ rest)) ≡ true
+line_printable first rest h =
+    let both = and_parts (is_word first) (list_all is_word rest) h in
+    let parts = and_parts (nat_lt 0 (length first)) (list_all is_inner first) both.0 in
+    rw (joined 32 first rest) (all_append is_printable first (led 32 rest) (inner_printable first parts.1) (led_printable rest both.1))
+
+printable_byte : (b : ℕ) → is_printable b ≡ true → eqb b 10 ≡ false
+printable_byte b h =
+    elim (cases_Bool (eqb b 10)) [
+      | inl t ↦ absurd (let e = eqb-true b 10 t in let g = rw e at h in cc)
+      | inr f ↦ f
+    ]
+
+printable_each : (text : List ℕ) → list_all is_printable text ≡ true → AllByRecursion (λ b. eqb b 10 ≡ false) text
+printable_each [] h = tt
+printable_each (b ∷ bs) h = let both = and_parts (is_printable b) (list_all is_printable bs) h in (printable_byte b both.0, printable_each bs both.1)
+
+pub printable_lacks : (text : List ℕ) → list_all is_printable text ≡ true → All (λ b. eqb b 10 ≡ false) text
+printable_lacks text h = All-from_recursion (λ (b : ℕ). eqb b 10 ≡ false) text (printable_each text h)
+
+-- ---- lengths
+
+pub led_length : (byte : ℕ) (first : List ℕ) (rest : List (List ℕ)) → length (led byte (first ∷ rest)) ≡ length (join_with_byte byte (first ∷ rest)) + 1
+led_length byte first rest = rw (joined byte first rest) (omega arith)
+
+filter_shorter : (p : List ℕ → Bool) (xs : List (List ℕ)) → length (led 32 (filter p xs)) ≤ length (led 32 xs)
+filter_shorter p [] = omega arith
+filter_shorter p (x ∷ xs) =
+    let rest = filter_shorter p xs in
+    let whole : length (led 32 (x ∷ xs)) ≡ length x + length (led 32 xs) + 1 = omega (arith, length-append x (led 32 xs)) in
+    elim (cases_Bool (p x)) [
+      | inl t ↦ rw t (omega (arith, whole, rest, length-append x (led 32 (filter p xs))))
+      | inr f ↦ rw f (omega (arith, whole, rest))
+    ]
+
+between_led : (byte : ℕ) (ws : List (List ℕ)) (text : List ℕ) → 1 ≤ length ws → join_with_byte byte ws ≡ text → length (led byte ws) ≡ length text + 1
+between_led byte [] text h e = absurd (omega arith)
+between_led byte (w ∷ ws) text h e = led_length byte w ws ∙ ap (λ (t : List ℕ). length t + 1) e
+
+pub text_led : (byte : ℕ) (text : List ℕ) → length (led byte (between byte text)) ≡ length text + 1
+text_led byte text = between_led byte (between byte text) text (omega (arith, length-slice_split (λ b. eqb b byte) text)) (join_with_byte-slice_split byte text)
+
+pub words_shorter : (text : List ℕ) → length (led 32 (words_of text)) ≤ length text + 1
+unfolding words_of
+words_shorter text = omega (arith, filter_shorter (λ w. nat_lt 0 (length w)) (between 32 text), text_led 32 text)
+
+-- ---- the options that are written are no longer than those that were read
+
+-- what the words with a key need
+part : Key → List (List ℕ) → ℕ
+part k [] = 0
+part k (w ∷ ws) = cond (bytes_eq (key_of w) (key_text k)) (length w + 1) 0 + part k ws
+
+parts : List Field → List (List ℕ) → ℕ
+unfolding part
+parts [] ws = 0
+parts (f ∷ fs) ws = part f.key ws + parts fs ws
+
+-- what one word counts for
+ones : List Field → List ℕ → ℕ → ℕ
+ones [] w c = 0
+ones (f ∷ fs) w c = cond (bytes_eq (key_of w) (key_text f.key)) c 0 + ones fs w c
+
+found_part : (k : Key) (options : List (List ℕ)) (word : List ℕ) → find (λ w. bytes_eq (key_of w) (key_text k)) options ≡ Some word → length word + 1 ≤ part k options
+unfolding part
+found_part k [] word e = absurd cc
+found_part k (w ∷ ws) word e =
+    elim (cases_Bool (bytes_eq (key_of w) (key_text k))) [
+      | inl t ↦ let g = rw t at e in let same : w ≡ word = cc in rw t (omega (arith, ap (λ (x : List ℕ). length x) same))
+      | inr f ↦ let rest = found_part k ws word (rw f at e) in rw f (omega (arith, rest))
+    ]
+
+picks_parts : (r : Reading) (options : List (List ℕ)) (fs : List Field) → AllPicked r options fs → length (led 32 (picks r options fs)) ≤ parts fs options
+unfolding parts
+picks_parts r options [] p = rw (picks_none r options) (omega arith)
+picks_parts r options (f ∷ fs) (inl l, p) = rw (picks_left r options f fs l) (omega (arith, picks_parts r options fs p))
+picks_parts r options (f ∷ fs) (inr g, p) =
+    rw (picks_word r options f fs g) (omega (arith, picks_parts r options fs p, found_part f.key options g.word g.first, length-append g.word (led 32 (picks r options fs))))
+
+parts_empty : (fs : List Field) → parts fs [] ≡ 0
+unfolding parts part
+parts_empty [] = refl
+parts_empty (f ∷ fs) = omega (arith, parts_empty fs)
+
+parts_word : (fs : List Field) (w : List ℕ) (ws : List (List ℕ)) → parts fs (w ∷ ws) ≡ ones fs w (length w + 1) + parts fs ws
+unfolding parts part ones
+parts_word [] w ws = refl
+parts_word (f ∷ fs) w ws = omega (arith, parts_word fs w ws)
+
+ones_none : (fs : List Field) (k : Key) (w : List ℕ) (c : ℕ) → key_of w ≡ key_text k → list_any (λ g. bytes_eq (key_text g.key) (key_text k)) fs ≡ false → ones fs w c ≡ 0
+unfolding ones
+ones_none [] k w c e h = refl
+ones_none (f ∷ fs) k w c e h =
+    let both = or_parts _ _ h in
+    let other : bytes_eq (key_of w) (key_text f.key) ≡ false = rw e (apart_sym (key_text f.key) (key_text k) both.0) in
+    let rest = ones_none fs k w c e both.1 in
+    rw other (omega (arith, rest))
+
+ones_le : (fs : List Field) (w : List ℕ) (c : ℕ) → AreApart fs → ones fs w c ≤ c
+unfolding ones
+ones_le [] w c a = omega arith
+ones_le (f ∷ fs) w c a =
+    elim (cases_Bool (bytes_eq (key_of w) (key_text f.key))) [
+      | inl t ↦ let none = ones_none fs f.key w c (bytes_are (key_of w) (key_text f.key) t) a.0 in rw t (omega (arith, none))
+      | inr g ↦ let rest = ones_le fs w c a.1 in rw g (omega (arith, rest))
+    ]
+
+parts_le : (fs : List Field) (ws : List (List ℕ)) → AreApart fs → parts fs ws ≤ length (led 32 ws)
+parts_le fs [] a = omega (arith, parts_empty fs)
+parts_le fs (w ∷ ws) a = omega (arith, parts_word fs w ws, ones_le fs w (length w + 1) a, parts_le fs ws a, length-append w (led 32 ws))
+
+pub picks_short : (r : Reading) (options : List (List ℕ)) (fs : List Field) → AreApart fs → AllPicked r options fs → length (led 32 (picks r options fs)) ≤ length (led 32 options)
+picks_short r options fs a p = omega (arith, picks_parts r options fs p, parts_le fs options a)

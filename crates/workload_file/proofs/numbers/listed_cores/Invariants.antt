@@ -1,0 +1,16 @@
+use Rattle.std.proofs.Common.{◌≡◌, ◌<◌, ◌≤◌, ◌^◌}
+use Rattle.workload_file.specs.Values.{between, bits_from}
+use Rattle.workload_file.specs.Cuts.{pieces_of}
+use Rattle.workload_file.proofs.Pieces.{left_len}
+use Rattle.workload_file.proofs.Parsing.{add_bits}
+use Rattle.workload_file.proofs.numbers.listed_cores.Given as goal
+
+abbrev pub invariant-cutting : goal.invariant-cutting
+invariant-cutting l = record {
+  so_far : add_bits l.mask (bits_from l.low (pieces_of 44 l.left)) ≡ bits_from 0 (between 44 l.text);
+  room : l.mask < 2 ^ l.low;
+  within : l.low ≤ 64;
+}
+
+abbrev pub decreases-cutting : goal.decreases-cutting
+decreases-cutting l = left_len l.left

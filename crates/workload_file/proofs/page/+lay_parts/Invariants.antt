@@ -1,0 +1,5 @@
+use Rattle.std.proofs.Common.{length}
+use Rattle.workload_file.proofs.page.+lay_parts.Given as goal
+
+abbrev pub decreases-lay_parts : goal.decreases-lay_parts
+decreases-lay_parts l = length l.parts.now

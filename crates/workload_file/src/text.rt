@@ -1,0 +1,232 @@
+//! The canonical text of a workload: values and options.
+ghost use Rattle.std.specs.Prelude.{◌≡◌, ◌<◌, ◌++◌, ◌∷◌, [], List, ℕ, map, OnOk, length, Option};
+ghost use Rattle.std.specs.Fmt.{decimal, signed_decimal};
+ghost use Rattle.workload_file.specs.Written.{cores_below, listed, timeout_text, name_of, name_at, value_text, is_usual, is_number, is_default, option_words, options_words};
+ghost use Rattle.mtapi_values.specs.Masks.{in_mask};
+ghost use Rattle.workload_file.specs.Led.{led};
+ghost use Rattle.workload_file.specs.Reading.{name_text};
+
+use crate::name::Name;
+use crate::table::{Absent, Field};
+use crate::values::Value;
+use crate::workload::Statement;
+use arrayvec::ArrayVec;
+use mtapi_values::{Mask, Timeout};
+use std::alloc::{AllocError, Global};
+
+fn push_number(alloc: Global, out: &mut Vec<u8>, n: u32) -> Result<(), AllocError>
+    ensures { OnOk result (out.new.items ≡ out.old.items ++ decimal n) }
+{
+    let text = format!(in alloc; "{n}")?;
+    out.extend_from_slice(text.as_bytes())
+}
+
+fn push_whole(alloc: Global, out: &mut Vec<u8>, z: i64) -> Result<(), AllocError>
+    ensures { OnOk result (out.new.items ≡ out.old.items ++ signed_decimal z) }
+{
+    let text = format!(in alloc; "{z}")?;
+    out.extend_from_slice(text.as_bytes())
+}
+
+fn push_more_wholes(alloc: Global, out: &mut Vec<u8>, numbers: &[i64]) -> Result<(), AllocError>
+    ensures { OnOk result (out.new.items ≡ out.old.items ++ led 44 (map signed_decimal numbers.now)) }
+{
+    match numbers {
+        [] => Ok(()),
+        [z, rest @ ..] => {
+            out.push(b',')?;
+            push_whole(alloc, out, *z)?;
+            push_more_wholes(alloc, out, rest)
+        }
+    }
+}
+
+#[tactic(auto, using(crate::proofs::Pieces::joined))]
+fn push_wholes(alloc: Global, out: &mut Vec<u8>, numbers: &[i64]) -> Result<(), AllocError>
+    ensures { OnOk result (out.new.items ≡ out.old.items ++ listed (map signed_decimal numbers.now)) }
+{
+    match numbers {
+        [] => Ok(()),
+        [z, rest @ ..] => {
+            push_whole(alloc, out, *z)?;
+            push_more_wholes(alloc, out, rest)
+        }
+    }
+}
+
+fn push_more_numbers(alloc: Global, out: &mut Vec<u8>, numbers: &[u32]) -> Result<(), AllocError>
+    ensures { OnOk result (out.new.items ≡ out.old.items ++ led 44 (map decimal numbers.now)) }
+{
+    match numbers {
+        [] => Ok(()),
+        [n, rest @ ..] => {
+            out.push(b',')?;
+            push_number(alloc, out, *n)?;
+            push_more_numbers(alloc, out, rest)
+        }
+    }
+}
+
+#[tactic(auto, using(crate::proofs::Pieces::joined))]
+fn push_numbers(alloc: Global, out: &mut Vec<u8>, numbers: &[u32]) -> Result<(), AllocError>
+    ensures { OnOk result (out.new.items ≡ out.old.items ++ listed (map decimal numbers.now)) }
+{
+    match numbers {
+        [] => Ok(()),
+        [n, rest @ ..] => {
+            push_number(alloc, out, *n)?;
+            push_more_numbers(alloc, out, rest)
+        }
+    }
+}
+
+fn has_core(mask: Mask, core: u32) -> bool
+    requires { core < 64 }
+    ensures { result ≡ in_mask core mask.0 }
+{
+    mask.0 >> core & 1 == 1
+}
+
+/// The cores of a mask, ascending.
+fn cores_of(mask: Mask) -> ArrayVec<u32, 64>
+    ensures { result.items ≡ cores_below mask.0 64 }
+{
+    let mut cores = ArrayVec::new();
+    for core in 0..64u32 {
+        if has_core(mask, core) {
+            cores.push(core);
+        }
+    }
+    cores
+}
+
+#[tactic(auto, unfolding(crate::specs::Written::timeout_text))]
+fn push_timeout(alloc: Global, out: &mut Vec<u8>, timeout: Timeout) -> Result<(), AllocError>
+    ensures { OnOk result (out.new.items ≡ out.old.items ++ timeout_text timeout) }
+{
+    match timeout {
+        Timeout::NoWait => out.extend_from_slice(b"nowait"),
+        Timeout::Infinite => out.extend_from_slice(b"inf"),
+        Timeout::Looks(looks) => push_number(alloc, out, looks),
+    }
+}
+
+/// The text of a name that may be absent.
+pub fn text_of_name(name: &Option<Name>) -> &[u8]
+    ensures { result.now ≡ name_text name.now }
+{
+    match name {
+        Some(n) => n.as_slice(),
+        None => &[],
+    }
+}
+
+/// The name that the statement at a place binds.
+pub fn name_at(before: &[Statement], place: u32) -> &[u8]
+    ensures { result.now ≡ name_at before.now (Some place) }
+{
+    match before.get(place as usize) {
+        Some(statement) => text_of_name(&statement.name),
+        None => &[],
+    }
+}
+
+#[tactic(auto, unfolding(crate::specs::Written::value_text))]
+fn push_value(
+    alloc: Global,
+    out: &mut Vec<u8>,
+    before: &[Statement],
+    value: &Value,
+) -> Result<(), AllocError>
+    ensures { OnOk result (out.new.items ≡ out.old.items ++ value_text before.now value.now) }
+{
+    match value {
+        Value::Number(n) => push_number(alloc, out, *n),
+        Value::Whole(z) => push_whole(alloc, out, *z),
+        Value::Args(args) => push_wholes(alloc, out, args.as_slice()),
+        Value::Cores(mask) => push_numbers(alloc, out, cores_of(*mask).as_slice()),
+        Value::Kind(kind) => out.extend_from_slice(kind.word().as_bytes()),
+        Value::Flag(true) => out.extend_from_slice(b"yes"),
+        Value::Flag(false) => out.extend_from_slice(b"no"),
+        Value::Mode(true) => out.extend_from_slice(b"writer"),
+        Value::Mode(false) => out.extend_from_slice(b"reader"),
+        Value::Timeout(timeout) => push_timeout(alloc, out, *timeout),
+        Value::Place(Some(place)) => out.extend_from_slice(name_at(before, *place)),
+        Value::Place(None) => Ok(()),
+    }
+}
+
+fn is_usual(value: &Value) -> bool
+    ensures { result ≡ is_usual value.now }
+{
+    match value {
+        Value::Args(args) => args.as_slice().is_empty(),
+        Value::Cores(mask) => mask.0 == u64::MAX,
+        Value::Flag(b) => !*b,
+        Value::Place(place) => place.is_none(),
+        Value::Number(_) | Value::Whole(_) | Value::Kind(_) | Value::Mode(_) | Value::Timeout(_) =>
+            false,
+    }
+}
+
+fn is_number(n: u32, value: &Value) -> bool
+    ensures { result ≡ is_number n value.now }
+{
+    match value {
+        Value::Number(m) => *m == n,
+        _ => false,
+    }
+}
+
+/// Whether it is the value that the absent option gives.
+#[tactic(auto, unfolding(crate::specs::Written::is_default))]
+fn is_default(absent: Absent, value: &Value) -> bool
+    ensures { result ≡ is_default absent value.now }
+{
+    match absent {
+        Absent::Refused => false,
+        Absent::Usual => is_usual(value),
+        Absent::Number(n) => is_number(n, value),
+    }
+}
+
+fn push_option(
+    alloc: Global,
+    out: &mut Vec<u8>,
+    before: &[Statement],
+    field: Field,
+    value: &Value,
+) -> Result<(), AllocError>
+    ensures { OnOk result (out.new.items ≡ out.old.items ++ led 32 (option_words before.now field value.now)) }
+{
+    if is_default(field.absent, value) {
+        return Ok(());
+    }
+    out.push(b' ')?;
+    out.extend_from_slice(field.key.text())?;
+    out.push(b'=')?;
+    push_value(alloc, out, before, value)
+}
+
+/// The options that don't have their defaults, each behind a space.
+#[tactic(auto, unfolding(crate::specs::Written::options_words), using(crate::proofs::Pieces::led_append))]
+pub fn push_options(
+    alloc: Global,
+    out: &mut Vec<u8>,
+    before: &[Statement],
+    fields: &[Field],
+    values: &[Value],
+) -> Result<(), AllocError>
+    ensures { OnOk result (out.new.items ≡ out.old.items ++ led 32 (options_words before.now fields.now values.now)) }
+{
+    match fields {
+        [] => Ok(()),
+        [field, fields @ ..] => match values {
+            [] => Ok(()),
+            [value, values @ ..] => {
+                push_option(alloc, out, before, *field, value)?;
+                push_options(alloc, out, before, fields, values)
+            }
+        },
+    }
+}
