@@ -23,20 +23,6 @@ fn words_of(rt: &HostRuntime) -> Result<Vec<String>, AllocError> {
     Ok(words)
 }
 
-/// The function of each pure kind.
-fn functions() -> FnTable {
-    FnTable::new(
-        StoredFn::new(Kind::Add, act_add),
-        StoredFn::new(Kind::Mul, act_mul),
-        StoredFn::new(Kind::Max, act_max),
-        StoredFn::new(Kind::Div, act_div),
-        StoredFn::new(Kind::Gcd, act_gcd),
-        StoredFn::new(Kind::Echo, act_echo),
-        StoredFn::new(Kind::Triangle, act_triangle),
-        StoredFn::new(Kind::Fail, act_fail),
-    )
-}
-
 /// Runs the command over the standard input and outputs.
 fn run(rt: &HostRuntime) -> Result<u8, AllocError> {
     let alloc = rt.alloc();
@@ -48,7 +34,17 @@ fn run(rt: &HostRuntime) -> Result<u8, AllocError> {
     let mut src = StdSource::new(rt.stdin());
     let mut out = StdSink::new(rt.stdout());
     let mut err = StdSink::new(rt.stderr());
-    let mut acts = functions();
+    // The function of each pure kind.
+    let mut acts = FnTable::new(
+        StoredFn::new(Kind::Add, act_add),
+        StoredFn::new(Kind::Mul, act_mul),
+        StoredFn::new(Kind::Max, act_max),
+        StoredFn::new(Kind::Div, act_div),
+        StoredFn::new(Kind::Gcd, act_gcd),
+        StoredFn::new(Kind::Echo, act_echo),
+        StoredFn::new(Kind::Triangle, act_triangle),
+        StoredFn::new(Kind::Fail, act_fail),
+    );
     let outcome = command(alloc, &words, &mut src, &mut out, &mut err, &mut acts);
     Ok(outcome.status)
 }

@@ -60,19 +60,6 @@ fn refused(text: &'static [u8], err: &'static [u8]) -> Case {
     }
 }
 
-fn table() -> FnTable {
-    FnTable::new(
-        StoredFn::new(Kind::Add, act_add),
-        StoredFn::new(Kind::Mul, act_mul),
-        StoredFn::new(Kind::Max, act_max),
-        StoredFn::new(Kind::Div, act_div),
-        StoredFn::new(Kind::Gcd, act_gcd),
-        StoredFn::new(Kind::Echo, act_echo),
-        StoredFn::new(Kind::Triangle, act_triangle),
-        StoredFn::new(Kind::Fail, act_fail),
-    )
-}
-
 /// Runs the command on a case, and compares all that it says.
 fn check<R: Abort>(rt: &R, alloc: Global, case: &Case) {
     let bytes = case.text.to_vec(alloc).expect(rt, "memory");
@@ -82,7 +69,16 @@ fn check<R: Abort>(rt: &R, alloc: Global, case: &Case) {
     let mut out = MemSink::new(alloc, 4096, case.most.max(1), sink_fails).expect(rt, "memory");
     let mut err = MemSink::new(alloc, 4096, 4096, Vec::new(alloc)).expect(rt, "memory");
     let words = &case.words[..case.count.min(2)];
-    let mut acts = table();
+    let mut acts = FnTable::new(
+        StoredFn::new(Kind::Add, act_add),
+        StoredFn::new(Kind::Mul, act_mul),
+        StoredFn::new(Kind::Max, act_max),
+        StoredFn::new(Kind::Div, act_div),
+        StoredFn::new(Kind::Gcd, act_gcd),
+        StoredFn::new(Kind::Echo, act_echo),
+        StoredFn::new(Kind::Triangle, act_triangle),
+        StoredFn::new(Kind::Fail, act_fail),
+    );
     let outcome = command(alloc, words, &mut src, &mut out, &mut err, &mut acts);
     assert_eq!(rt; outcome.status, case.status);
     assert_eq!(rt; out.bytes(), case.out);
