@@ -1,5 +1,4 @@
 pub mod Sems
 pub mod Rwls
-pub mod Looks
 pub mod SemCalls
 pub mod RwlCalls

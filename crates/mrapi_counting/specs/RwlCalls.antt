@@ -5,8 +5,8 @@ use Rattle.mtapi_values.specs.declared.looks.Look.TheVariants.{Refused}
 use Rattle.mtapi_values.specs.declared.statuses.MrapiStatus.{MrapiStatus}
 use Rattle.mtapi_values.specs.declared.statuses.MrapiStatus.TheVariants.{ErrRwlInvalid, ErrRwlExists, ErrRwlLimit}
 use Rattle.mtapi_values.specs.Conditions.{first}
+use Rattle.mtapi_values.specs.Looks.{answer, is_got}
 use Rattle.handle_pool.specs.Slots.{Slots, get, IsFull, SomeLive, NoneLive}
-use Rattle.mrapi_counting.specs.Looks.{answer, is_got}
 use Rattle.mrapi_counting.specs.Rwls.{Rwl, rwl_create_refusals, rwl_look_refusals, rwl_busy, rwl_taken, rwl_unlock_refusals, rwl_given}
 
 -- the lock has this id
@@ -26,7 +26,7 @@ rwl_refusal causes (Some r) = first (causes r)
 
 -- the answer of a look at one lock, and at the lock of a handle
 abbrev pub rwl_look_answer : ℕ → Bool → Rwl → Look Unit
-rwl_look_answer who writer r = answer (first (rwl_look_refusals who r)) (rwl_busy writer r)
+rwl_look_answer who writer r = answer (first (rwl_look_refusals who r)) (rwl_busy writer r) tt
 
 abbrev pub rwl_look_at : ℕ → Bool → Option Rwl → Look Unit
 rwl_look_at who writer None = Refused ErrRwlInvalid

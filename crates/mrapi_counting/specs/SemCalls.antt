@@ -5,8 +5,8 @@ use Rattle.mtapi_values.specs.declared.looks.Look.TheVariants.{Refused}
 use Rattle.mtapi_values.specs.declared.statuses.MrapiStatus.{MrapiStatus}
 use Rattle.mtapi_values.specs.declared.statuses.MrapiStatus.TheVariants.{ErrSemInvalid, ErrSemExists, ErrSemLimit}
 use Rattle.mtapi_values.specs.Conditions.{first}
+use Rattle.mtapi_values.specs.Looks.{answer}
 use Rattle.handle_pool.specs.Slots.{Slots, get, IsFull, SomeLive, NoneLive}
-use Rattle.mrapi_counting.specs.Looks.{answer, is_got}
 use Rattle.mrapi_counting.specs.Sems.{Sem, total, sem_create_refusals, sem_busy, sem_taken, sem_unlock_refusals, sem_given}
 
 -- the semaphore has this id
@@ -26,7 +26,7 @@ sem_refusal causes (Some s) = first (causes s)
 
 -- the answer of a look at one semaphore, and at the semaphore of a handle
 abbrev pub sem_look_answer : Sem → Look Unit
-sem_look_answer s = answer None (sem_busy s)
+sem_look_answer s = answer None (sem_busy s) tt
 
 abbrev pub sem_look_at : Option Sem → Look Unit
 sem_look_at None = Refused ErrSemInvalid

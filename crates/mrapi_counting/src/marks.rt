@@ -2,22 +2,6 @@
 
 ghost use Rattle.std.specs.Prelude.{◌≡◌, ◌≤◌, length};
 ghost use Rattle.handle_pool.specs.Issued.{how_many};
-ghost use Rattle.mtapi_values.specs.Seats.{any_mark};
-
-/// How many seats a node may have.
-pub(crate) const SEATS: usize = 25;
-
-/// Whether some seat is marked.
-pub(crate) fn is_any(marks: &[bool]) -> bool
-    ensures { result ≡ any_mark marks.now }
-{
-    for mark in marks {
-        if *mark {
-            return true;
-        }
-    }
-    false
-}
 
 /// How many seats are marked.
 pub(crate) fn count(marks: &[bool]) -> u32

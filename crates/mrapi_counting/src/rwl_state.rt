@@ -6,7 +6,8 @@ ghost use Rattle.mtapi_values.specs.Conditions.{first};
 ghost use Rattle.mrapi_counting.specs.Rwls.{new_rwl, rwl_held, rwl_busy, rwl_unlock_refusals};
 ghost use Rattle.mrapi_counting.specs.RwlCalls.{rwl_look_answer, rwl_after_look, rwl_after_unlock};
 
-use crate::marks::{self, SEATS};
+use crate::marks;
+use mtapi_values::seats::{self, SEATS};
 use mtapi_values::{Look, MrapiStatus};
 use std::marker::Model;
 
@@ -54,7 +55,7 @@ impl RwlState {
     pub(crate) fn is_held(&self) -> bool
         ensures { result ≡ rwl_held self.now }
     {
-        self.writer.is_some() || marks::is_any(&self.readers)
+        self.writer.is_some() || seats::is_any(&self.readers)
     }
 
     /// Whether a look in this mode, by a seat that doesn't hold it, has to come again.

@@ -5,7 +5,7 @@ ghost use Rattle.std.specs.Result.{result_err};
 ghost use Rattle.mtapi_values.specs.declared.statuses.MrapiStatus.TheVariants.{ErrRwlIdInvalid};
 ghost use Rattle.mtapi_values.specs.Conditions.{first};
 ghost use Rattle.handle_pool.specs.Slots.{get, free_slot, without, changed, Inserts, NoneLive, HasLive, IsFull, OneEach};
-ghost use Rattle.mrapi_counting.specs.Looks.{is_got};
+ghost use Rattle.mtapi_values.specs.Looks.{is_got};
 ghost use Rattle.mrapi_counting.specs.Rwls.{new_rwl, rwl_create_refusals, rwl_delete_refusals, rwl_unlock_refusals};
 ghost use Rattle.mrapi_counting.specs.RwlCalls.{HasId, RwlCreateRefused, rwl_refusal, rwl_look_at, rwl_after_look, rwl_after_unlock};
 

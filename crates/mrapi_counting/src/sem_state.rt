@@ -6,7 +6,7 @@ ghost use Rattle.mtapi_values.specs.Conditions.{first};
 ghost use Rattle.mrapi_counting.specs.Sems.{new_sem, total, sem_unlock_refusals};
 ghost use Rattle.mrapi_counting.specs.SemCalls.{sem_look_answer, sem_after_look, sem_after_unlock};
 
-use crate::marks::SEATS;
+use mtapi_values::seats::SEATS;
 use mtapi_values::{Look, MrapiStatus};
 use std::marker::Model;
 

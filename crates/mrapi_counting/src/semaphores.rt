@@ -5,7 +5,7 @@ ghost use Rattle.std.specs.Result.{result_err};
 ghost use Rattle.mtapi_values.specs.declared.statuses.MrapiStatus.TheVariants.{ErrSemIdInvalid};
 ghost use Rattle.mtapi_values.specs.Conditions.{first};
 ghost use Rattle.handle_pool.specs.Slots.{get, free_slot, without, changed, Inserts, NoneLive, HasLive, IsFull, OneEach};
-ghost use Rattle.mrapi_counting.specs.Looks.{is_got};
+ghost use Rattle.mtapi_values.specs.Looks.{is_got};
 ghost use Rattle.mrapi_counting.specs.Sems.{new_sem, sem_create_refusals, sem_delete_refusals, sem_unlock_refusals};
 ghost use Rattle.mrapi_counting.specs.SemCalls.{HasId, SemCreateRefused, sem_refusal, sem_look_at, sem_after_look, sem_after_unlock};
 

@@ -1,10 +1,11 @@
 -- What each call on mutexes answers and leaves, on the slots that hold them.
-use Rattle.std.specs.Prelude.{◌≡◌, ◌⊎◌, ℕ, ◌+◌, ◌≤◌, Bool, true, false, List, Option, Some, None, is_none, if◌then◌else◌}
+use Rattle.std.specs.Prelude.{◌≡◌, ◌⊎◌, ℕ, ◌+◌, ◌≤◌, Bool, List, Option, Some, None, is_none, if◌then◌else◌}
 use Rattle.mtapi_values.specs.declared.looks.Look.{Look}
-use Rattle.mtapi_values.specs.declared.looks.Look.TheVariants.{Got, Busy, Refused}
+use Rattle.mtapi_values.specs.declared.looks.Look.TheVariants.{Refused}
 use Rattle.mtapi_values.specs.declared.statuses.MrapiStatus.{MrapiStatus}
 use Rattle.mtapi_values.specs.declared.statuses.MrapiStatus.TheVariants.{ErrMutexInvalid, ErrMutexExists, ErrMutexLimit}
 use Rattle.mtapi_values.specs.Conditions.{first}
+use Rattle.mtapi_values.specs.Looks.{answer, is_got}
 use Rattle.handle_pool.specs.Slots.{Slots, get, IsFull, SomeLive, NoneLive}
 use Rattle.mrapi_mutex.specs.Mutexes.{Mutex, mutex_delete_refusals, mutex_look_refusals, mutex_busy, locked_by, mutex_unlock_refusals, unlocked}
 
@@ -22,12 +23,6 @@ abbrev pub refusal : (Mutex → List (Bool × MrapiStatus)) → Option Mutex →
 refusal causes None = Some ErrMutexInvalid
 refusal causes (Some m) = first (causes m)
 
--- a refusal, or that another seat has it, or what the look got
-abbrev pub answer : Option MrapiStatus → Bool → ℕ → Look ℕ
-answer (Some c) busy key = Refused c
-answer None true key = Busy
-answer None false key = Got key
-
 -- the answer of a look at one mutex, and at the mutex of a handle
 abbrev pub look_answer : ℕ → Mutex → Look ℕ
 look_answer who m = answer (first (mutex_look_refusals who m)) (mutex_busy who m) (m.depth + 1)
@@ -35,12 +30,6 @@ look_answer who m = answer (first (mutex_look_refusals who m)) (mutex_busy who m
 abbrev pub look_at : ℕ → Option Mutex → Look ℕ
 look_at who None = Refused ErrMutexInvalid
 look_at who (Some m) = look_answer who m
-
--- the look got the mutex
-abbrev pub is_got : Look ℕ → Bool
-is_got (Got key) = true
-is_got Busy = false
-is_got (Refused c) = false
 
 -- the mutex after a look: one level deeper where the look got it
 abbrev pub after_look : ℕ → Mutex → Mutex

@@ -13,7 +13,8 @@ ghost use Rattle.std.specs.Result.{result_err};
 ghost use Rattle.handle_pool.specs.Slots.{get, free_slot, without, changed, Inserts, NoneLive, HasLive, IsFull, OneEach};
 ghost use Rattle.mrapi_mutex.specs.Mutexes.{new_mutex, mutex_delete_refusals, mutex_unlock_refusals};
 ghost use Rattle.mtapi_values.specs.declared.statuses.MrapiStatus.TheVariants.{ErrMutexIdInvalid};
-ghost use Rattle.mrapi_mutex.specs.Calls.{HasId, CreateRefused, refusal, look_at, is_got, after_look, after_unlock};
+ghost use Rattle.mtapi_values.specs.Looks.{is_got};
+ghost use Rattle.mrapi_mutex.specs.Calls.{HasId, CreateRefused, refusal, look_at, after_look, after_unlock};
 
 use handle_pool::Pool;
 use mtapi_values::{Look, MrapiStatus, MutexHandle};

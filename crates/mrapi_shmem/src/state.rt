@@ -9,10 +9,8 @@ ghost use Rattle.mrapi_shmem.specs.Calls.{read_answer, after_attach, after_detac
 
 use crate::room::Room;
 use mtapi_values::MrapiStatus;
+use mtapi_values::seats::{self, SEATS};
 use std::marker::Model;
-
-/// How many seats a node may have.
-const SEATS: usize = 25;
 
 /// One segment: its cells, and the seats that are attached.
 #[derive(Drop)]
@@ -32,18 +30,6 @@ impl Model for SegmentState {
       cells = s.room;
       attached = s.attached;
     } };
-}
-
-// Whether some seat is marked.
-fn is_any(marks: &[bool]) -> bool
-    ensures { result ≡ any_mark marks.now }
-{
-    for mark in marks {
-        if *mark {
-            return true;
-        }
-    }
-    false
 }
 
 impl SegmentState {
@@ -69,7 +55,7 @@ impl SegmentState {
     pub(crate) fn is_attached(&self) -> bool
         ensures { result ≡ any_mark self.now.attached }
     {
-        is_any(&self.attached)
+        seats::is_any(&self.attached)
     }
 
     pub(crate) fn attach(&mut self, who: u32) -> Result<(), MrapiStatus>

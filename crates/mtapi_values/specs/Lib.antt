@@ -2,6 +2,7 @@ pub mod Attributes
 pub mod Conditions
 pub mod Masks
 pub mod Seats
+pub mod Looks
 pub mod Statuses
 pub mod Kinds
 pub mod Timeouts

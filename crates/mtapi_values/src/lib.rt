@@ -9,6 +9,7 @@ pub mod lists;
 pub mod looks;
 pub mod masks;
 mod names;
+pub mod seats;
 pub mod statuses;
 #[cfg(test)]
 mod tests;
