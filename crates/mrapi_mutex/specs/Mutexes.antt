@@ -32,7 +32,7 @@ mutex_busy who m = is_other who m.owner
 abbrev pub locked_by : ℕ → Mutex → Mutex
 locked_by who m = record m { owner = Some who; depth = m.depth + 1 }
 
--- an unlock is refused where this seat isn't the owner, the key isn't from 1 to the depth, or it isn't the last key given
+-- an unlock is refused where this seat isn't the owner, the key isn't from 1 to the depth, or it isn't the last key that is still out
 abbrev pub mutex_unlock_refusals : ℕ → ℕ → Mutex → List (Bool × MrapiStatus)
 mutex_unlock_refusals who key m =
     (not (is_seat who m.owner), ErrMutexNotlocked) ∷ ((key == 0) || nat_lt m.depth key, ErrMutexKey) ∷ (nat_lt key m.depth, ErrMutexLockorder) ∷ []
