@@ -48,8 +48,11 @@ fn readers_and_a_writer_keep_apart(rt: HostRuntime) -> Result<(), Fail> {
     assert_eq!(rt; rwls.unlock(r, 0, false), Ok(()));
     assert_eq!(rt; rwls.look(r, 1, true), Look::Got(()));
     assert_eq!(rt; rwls.look(r, 0, false), Look::Busy);
+    assert_eq!(rt; rwls.look(r, 0, true), Look::Busy);
     assert_eq!(rt; rwls.unlock(r, 0, true), Err(MrapiStatus::ErrRwlNotlocked));
+    assert_eq!(rt; rwls.delete(r), Err(MrapiStatus::ErrRwlLocked));
     assert_eq!(rt; rwls.unlock(r, 1, true), Ok(()));
+    assert_eq!(rt; rwls.delete(r), Ok(()));
     Ok(())
 }
 

@@ -1,5 +1,5 @@
 -- Each call keeps the ids apart, and memory for each segment that may still be made.
-use Rattle.std.proofs.Common.{◌≡◌, ℕ, ◌+◌, ◌≤◌, ◌<◌, Bool, true, false, cond, Option, Some, None, replicate, refl, arith}
+use Rattle.std.proofs.Common.{◌≡◌, ℕ, ◌+◌, ◌≤◌, ◌<◌, Bool, true, false, cond, Some, replicate, refl, arith}
 use Rattle.std.specs.Prelude.{ℤ, is_none}
 use Rattle.mtapi_values.specs.Conditions.{first}
 use Rattle.handle_pool.specs.Slots.{Slots, free_slot, get, live_count, retired_count, max_of, IsFull, Inserts, with_value, without, NoneLive}

@@ -34,6 +34,9 @@ fn one_place_has_one_segment(rt: HostRuntime) -> Result<(), Fail> {
     assert_eq!(rt; segments.detach(s, 24), Err(MrapiStatus::ErrShmNotattached));
     assert_eq!(rt; segments.delete(s), Ok(()));
     assert_eq!(rt; segments.delete(s), Err(MrapiStatus::ErrShmInvalid));
+    let r = segments.create(1, 1).ok().ok_or("refused")?;
+    assert_eq!(rt; segments.delete(r), Ok(()));
+    assert_eq!(rt; segments.create(1, 1), Err(MrapiStatus::ErrShmLimit));
     Ok(())
 }
 

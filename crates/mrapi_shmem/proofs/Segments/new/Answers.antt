@@ -1,4 +1,4 @@
-use Rattle.std.proofs.Common.{arith, vec_len, vec_capacity, ◌≡◌, ◌≤◌}
+use Rattle.std.proofs.Common.{arith, vec_len, vec_capacity}
 use Rattle.mrapi_shmem.proofs.Stores.{IsStore-new}
 use Rattle.mrapi_shmem.proofs.Segments.new.Goals as goal
 
