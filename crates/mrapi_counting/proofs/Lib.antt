@@ -1,3 +1,2 @@
 pub mod Totals
-pub mod MarkSteps
 pub mod Keeps

@@ -1,5 +1,5 @@
 -- The sum of holdings is std's sum.
-use Rattle.std.proofs.Common.{◌≡◌, ℕ, ◌+◌, List, [], ◌∷◌, sum, refl}
+use Rattle.std.proofs.Common.{◌≡◌, ℕ, List, sum, refl}
 use Rattle.std.proofs.lemmas.List.Recursion.{is_sum_by}
 use Rattle.mrapi_counting.specs.Sems.{total}
 

@@ -1,5 +1,5 @@
 -- What each call on semaphores answers and leaves, on the slots that hold them.
-use Rattle.std.specs.Prelude.{◌≡◌, ◌⊎◌, ℕ, ◌≤◌, Bool, List, [], length, Option, Some, None, is_none, if◌then◌else◌}
+use Rattle.std.specs.Prelude.{◌≡◌, ◌⊎◌, ℕ, ◌≤◌, Bool, List, length, Option, Some, None, is_none, if◌then◌else◌}
 use Rattle.mtapi_values.specs.declared.looks.Look.{Look}
 use Rattle.mtapi_values.specs.declared.looks.Look.TheVariants.{Refused}
 use Rattle.mtapi_values.specs.declared.statuses.MrapiStatus.{MrapiStatus}

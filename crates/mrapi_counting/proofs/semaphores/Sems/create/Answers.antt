@@ -1,4 +1,4 @@
-use Rattle.std.proofs.Common.{◌≡◌, Bool, Result, Ok, Err, is_ok, false, ap, sym, ◌∙◌}
+use Rattle.std.proofs.Common.{◌≡◌, Result, Ok, Err, is_ok, false, ap, sym, ◌∙◌}
 use Rattle.std.specs.Result.{IfErr}
 use Rattle.handle_pool.specs.Slots.{get, NoneLive}
 use Rattle.handle_pool.proofs.OneEachLemmas.{OneEach-insert_or_not}
