@@ -266,16 +266,21 @@ fn first_wrong<A: Attributes>(attr: &mut A, rows: &[Row]) -> Option<u32> {
     None
 }
 
+/// A number that is this much above another has the same lower 32 bits.
+const PAST_32_BITS: u64 = 4294967296;
+
 fn goes_by<A: Attributes>(attr: &mut A, number: u32, row: Row) -> bool {
     let begins = attr.get(number) == Ok(row.default);
     let Some((least, greatest)) = row.range else {
         return begins
             && attr.set(number, row.default) == Err(MtapiStatus::ErrAttrReadonly)
+            && attr.set(number, 1) == Err(MtapiStatus::ErrAttrReadonly)
             && attr.get(number) == Ok(row.default);
     };
     begins
         && takes(attr, number, least)
         && keeps(attr, number, greatest.checked_add(1))
+        && keeps(attr, number, greatest.checked_add(PAST_32_BITS))
         && takes(attr, number, greatest)
         && keeps(attr, number, least.checked_sub(1))
 }
@@ -391,6 +396,7 @@ fn masks_hold_the_cores_0_to_63(rt: HostRuntime) {
     assert_eq!(rt; mask, Mask(1));
     assert_eq!(rt; mask.set(64, true), Err(MtapiStatus::ErrCoreNum));
     assert_eq!(rt; mask.get(64), Err(MtapiStatus::ErrCoreNum));
+    assert_eq!(rt; mask.get(u32::MAX), Err(MtapiStatus::ErrCoreNum));
     assert_eq!(rt; mask, Mask(1));
 }
 
