@@ -30,6 +30,14 @@ fn is_number(end: ActEnd, number: i64) -> bool {
     }
 }
 
+/// Whether it answered these numbers.
+fn is_list(end: ActEnd, numbers: &[i64]) -> bool {
+    match end {
+        ActEnd::Done(answered) => answered.as_slice() == numbers,
+        ActEnd::Fails(_) => false,
+    }
+}
+
 /// Whether it failed with this status.
 fn is_status(end: ActEnd, wanted: MtapiStatus) -> bool {
     match end {
@@ -39,10 +47,48 @@ fn is_status(end: ActEnd, wanted: MtapiStatus) -> bool {
 }
 
 #[test]
+fn no_arguments_are_enough_for_four_kinds(rt: HostRuntime) {
+    let none = Args::new();
+    assert!(rt; is_number(act_add(&none), 0));
+    assert!(rt; is_number(act_mul(&none), 1));
+    assert!(rt; is_status(act_max(&none), SIZE));
+    assert!(rt; is_status(act_div(&none), SIZE));
+    assert!(rt; is_status(act_gcd(&none), SIZE));
+    assert!(rt; is_list(act_echo(&none), none.as_slice()));
+    assert!(rt; is_status(act_triangle(&none), SIZE));
+    assert!(rt; is_status(act_fail(&none), FAILED));
+}
+
+#[test]
+fn the_least_number_alone(rt: HostRuntime) {
+    let least = args_of(&[i64::MIN]);
+    assert!(rt; is_number(act_add(&least), i64::MIN));
+    assert!(rt; is_number(act_mul(&least), i64::MIN));
+    assert!(rt; is_number(act_max(&least), i64::MIN));
+    assert!(rt; is_status(act_div(&least), SIZE));
+    assert!(rt; is_status(act_gcd(&least), SIZE));
+    assert!(rt; is_number(act_echo(&least), i64::MIN));
+    assert!(rt; is_status(act_triangle(&least), FAILED));
+    assert!(rt; is_status(act_fail(&least), FAILED));
+}
+
+#[test]
+fn a_seventeenth_argument_is_not_taken(rt: HostRuntime) {
+    let mut full = args_of(&SIXTEEN);
+    assert!(rt; !full.push(17));
+    assert!(rt; is_number(act_add(&full), 136));
+    assert!(rt; is_number(act_mul(&full), 20922789888000));
+    assert!(rt; is_number(act_max(&full), 16));
+    assert!(rt; is_status(act_div(&full), SIZE));
+    assert!(rt; is_status(act_gcd(&full), SIZE));
+    assert!(rt; is_list(act_echo(&full), &SIXTEEN));
+    assert!(rt; is_status(act_triangle(&full), SIZE));
+    assert!(rt; is_status(act_fail(&full), FAILED));
+}
+
+#[test]
 fn sums_are_tested_on_the_way(rt: HostRuntime) {
-    assert!(rt; is_number(act_add(&args_of(&[])), 0));
     assert!(rt; is_number(act_add(&args_of(&[2, 3])), 5));
-    assert!(rt; is_number(act_add(&args_of(&SIXTEEN)), 136));
     assert!(rt; is_number(act_add(&args_of(&[i64::MAX, i64::MIN])), -1));
     assert!(rt; is_status(act_add(&args_of(&[i64::MAX, 1, -1])), FAILED));
     assert!(rt; is_status(act_add(&args_of(&[i64::MIN, -1])), FAILED));
@@ -50,20 +96,16 @@ fn sums_are_tested_on_the_way(rt: HostRuntime) {
 
 #[test]
 fn products_are_tested_on_the_way(rt: HostRuntime) {
-    assert!(rt; is_number(act_mul(&args_of(&[])), 1));
     assert!(rt; is_number(act_mul(&args_of(&[-3, 7])), -21));
-    assert!(rt; is_number(act_mul(&args_of(&SIXTEEN)), 20922789888000));
     assert!(rt; is_number(act_mul(&args_of(&[i64::MIN, 1])), i64::MIN));
     assert!(rt; is_status(act_mul(&args_of(&[4611686018427387904, 4, 0])), FAILED));
     assert!(rt; is_status(act_mul(&args_of(&[i64::MIN, -1])), FAILED));
 }
 
 #[test]
-fn the_greatest_needs_a_number(rt: HostRuntime) {
-    assert!(rt; is_number(act_max(&args_of(&[i64::MIN])), i64::MIN));
+fn the_greatest_stands_anywhere(rt: HostRuntime) {
     assert!(rt; is_number(act_max(&args_of(&[-5, -2, -9])), -2));
-    assert!(rt; is_number(act_max(&args_of(&SIXTEEN)), 16));
-    assert!(rt; is_status(act_max(&args_of(&[])), SIZE));
+    assert!(rt; is_number(act_max(&args_of(&[i64::MIN, i64::MAX, 0])), i64::MAX));
 }
 
 #[test]
@@ -96,7 +138,6 @@ fn triangles_go_to_a_million(rt: HostRuntime) {
     assert!(rt; is_number(act_triangle(&args_of(&[1000000])), 500000500000));
     assert!(rt; is_status(act_triangle(&args_of(&[1000001])), FAILED));
     assert!(rt; is_status(act_triangle(&args_of(&[-1])), FAILED));
-    assert!(rt; is_status(act_triangle(&args_of(&[])), SIZE));
     assert!(rt; is_status(act_triangle(&args_of(&[1, 1])), SIZE));
 }
 
@@ -113,12 +154,27 @@ fn a_table_runs_each_kind(rt: HostRuntime) {
         StoredFn::new(Kind::Fail, act_fail),
     );
     let mut table = source.for_worker(0);
+    for kind in [Kind::Add, Kind::Mul, Kind::Max, Kind::Div, Kind::Gcd] {
+        let numbers = [12, -18];
+        let done = table.run(kind, args_of(&numbers));
+        let wanted = match kind {
+            Kind::Add => -6,
+            Kind::Mul => -216,
+            Kind::Max => 12,
+            Kind::Gcd => 6,
+            _ => 0,
+        };
+        assert!(rt; done.kind() == kind && is_number(done.end().again(), wanted));
+    }
+    let triangle = table.run(Kind::Triangle, args_of(&[4]));
+    assert!(rt; is_number(triangle.end().again(), 10));
     let done = table.run(Kind::Div, args_of(&[-8, 3])).again();
     assert_eq!(rt; done.kind(), Kind::Div);
     assert_eq!(rt; done.args().as_slice(), [-8, 3].as_slice());
     assert!(rt; is_number(done.end().again(), -2));
     let echo = table.run(Kind::Echo, args_of(&SIXTEEN));
     assert_eq!(rt; echo.args().as_slice(), SIXTEEN.as_slice());
+    assert!(rt; is_list(echo.end().again(), &SIXTEEN));
     let fail = table.run(Kind::Fail, args_of(&[]));
     assert!(rt; is_status(fail.end().again(), FAILED));
 }
