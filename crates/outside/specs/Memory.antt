@@ -20,10 +20,6 @@ pub record SinkState : Type 0 where
   pub calls : ℕ
   pub faults : ℕ
 
--- a count that stands still at its type's end
-abbrev pub one_more : ℕ → ℕ
-one_more n = min (n + 1) (2 ^ 64 - 1)
-
 -- the list names this call
 abbrev pub names_call : List ℕ → ℕ → Bool
 names_call fails call = list_any (λ n. n == call) fails

@@ -1,8 +1,8 @@
 //! A source and a sink in memory, which tell their bytes and fail where they are told to.
 
 ghost use Rattle.std.specs.Prelude.{◌≡◌, ◌+◌, ◌-◌, ◌<◌, ◌≤◌, ◌==◌, ◌&&◌, ◌||◌, nat_lt, nat_le, [], ◌++◌, min, length, take, drop, if◌then◌else◌, IfOk, OnErr, Some, Ok, Err};
-ghost use Rattle.outside.specs.Memory.{one_more, names_call, failed};
-ghost use Rattle.outside.specs.Causes.{HasCause, TakesSome};
+ghost use Rattle.outside.specs.Memory.{names_call, failed};
+ghost use Rattle.outside.specs.Causes.{HasCause, TakesSome, one_more, faults_after};
 ghost use Rattle.std.specs.Io.{ReadsAtMost};
 ghost use Rattle.std.specs.Io.KnownBytes.{ReadConsumes, WriteAppends};
 ghost use Rattle.outside.specs.declared.Failed.{Failed};
@@ -79,6 +79,7 @@ impl Source for MemSource {
         ensures bound { ReadsAtMost result buf.new }
         ensures bytes { ReadConsumes (Some self.old.left) (Some self.new.left) result buf.new }
         ensures cause { HasCause self.old.faults self.new.faults result }
+        ensures count { self.new.faults ≡ faults_after self.old.faults result }
         ensures exact { result ≡ (if names_call self.old.fails (one_more self.old.calls) then Err failed
             else Ok (min (min (length buf.old) self.old.most) (length self.old.left))) }
         ensures stays { (self.new.most ≡ self.old.most) × (self.new.fails ≡ self.old.fails) × (self.new.calls ≡ one_more self.old.calls) }
@@ -152,6 +153,7 @@ impl Sink for MemSink {
         ensures bound { TakesSome result piece.now }
         ensures bytes { WriteAppends (Some self.old.bytes) (Some self.new.bytes) result piece.now }
         ensures cause { HasCause self.old.faults self.new.faults result }
+        ensures count { self.new.faults ≡ faults_after self.old.faults result }
         ensures exact { result ≡ (if names_call self.old.fails (one_more self.old.calls)
             || (nat_lt 0 (length piece.now) && nat_le self.old.room (length self.old.bytes)) then Err failed
             else Ok (min (min (length piece.now) self.old.most) (self.old.room - length self.old.bytes))) }
