@@ -1,5 +1,5 @@
 ghost use Rattle.std.specs.Prelude.{◌≡◌, ◌<◌};
-ghost use Rattle.job_table.specs.Actions.{new_action, with_enabled};
+ghost use Rattle.job_table.specs.Actions.{new_action, with_enabled, has_job};
 ghost use Rattle.job_table.specs.Answers.{runs_job_on};
 
 use mtapi_values::{Kind, Mask};
@@ -45,6 +45,12 @@ impl StoredAction {
         self.job
     }
 
+    pub fn has_job(&self, job: u32) -> bool
+        ensures { result ≡ has_job job self.now }
+    {
+        self.job == job
+    }
+
     pub fn kind(&self) -> Kind
         ensures { result ≡ self.now.kind }
     {
@@ -74,6 +80,6 @@ impl StoredAction {
         requires { core < 64 }
         ensures { result ≡ runs_job_on job core self.now }
     {
-        self.enabled && self.job == job && (self.cores.0 >> core) & 1 == 1
+        self.enabled && self.has_job(job) && (self.cores.0 >> core) & 1 == 1
     }
 }

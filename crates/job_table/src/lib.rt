@@ -117,7 +117,7 @@ impl Actions {
         ensures { CoversBelow self.now (place + 1) job result }
     {
         match self.pool.slot_at(place) {
-            Some((_, action)) if action.job() == job => cover.with(action),
+            Some((_, action)) if action.has_job(job) => cover.with(action),
             _ => cover,
         }
     }
