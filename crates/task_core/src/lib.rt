@@ -5,7 +5,7 @@ pub mod record;
 pub mod states;
 
 ghost use Rattle.std.specs.Prelude.{◌≡◌, ◌+◌, ◌≤◌, ◌<◌, ◌^◌, replicate, Some, IsSome, IfSome, IfOk, slice_get, is_some, not};
-ghost use Rattle.std.specs.Option.{option_map};
+ghost use Rattle.std.specs.Option.{option_copied, option_map};
 ghost use Rattle.handle_pool.specs.Slots.{get, free_slot, without, changed, used_at};
 ghost use Rattle.task_core.specs.Tasks.{Task, is_unstarted, is_unended, with_state, Running, runner, end_of, cancel_requested};
 ghost use Rattle.task_core.specs.Records.{asked_task, shown_state, end_in};
@@ -172,6 +172,13 @@ impl Tasks {
             Some(record) => record.into_end(),
             None => unreachable!(),
         }
+    }
+
+    /// The record of a live task. None exactly where it isn't live.
+    pub fn get(&self, t: TaskHandle) -> Option<&TaskRecord>
+        ensures { option_copied result ≡ get self.now.pool t.0 }
+    {
+        self.pool.get(t.0)
     }
 
     /// The handle and the record of the task at a place, if there is one.

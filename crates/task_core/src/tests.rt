@@ -124,6 +124,11 @@ fn a_record_shows_what_was_asked_for(rt: HostRuntime) -> Result<(), Fail> {
     assert_eq!(rt; record.seen(), false);
     assert!(rt; matches!(record.end(), Some(TaskEnd::Failed(_))));
     assert_eq!(rt; record.end_number(), Some(0));
+    assert_eq!(rt;
+        tasks.get(h).and_then(|record| record.end_number()),
+        Some(0)
+    );
+    assert!(rt; tasks.get(TaskHandle(0)).is_none());
     Ok(())
 }
 
