@@ -1,14 +1,13 @@
 -- What each move keeps of the numbers of starts and of ends.
-use Rattle.std.proofs.Common.{◌≡◌, ℕ, ◌+◌, ◌^◌, ◌<◌, ◌≤◌, Bool, true, false, cond, List, length, Option, Some, None, is_none, count_by, slice_get, set, refl, sym, ap, ◌∙◌, arith}
+use Rattle.std.proofs.Common.{◌≡◌, ℕ, ◌+◌, ◌^◌, ◌<◌, Bool, true, false, cond, List, Option, Some, None, is_none, count_by, slice_get, set, refl, arith}
 use Rattle.std.specs.Prelude.{◌==◌, if◌then◌else◌}
 use Rattle.std.proofs.lemmas.Bool.{false≢true}
 use Rattle.std.proofs.lemmas.List.Sums.{sum_by-set}
 use Rattle.std.proofs.lemmas.Option.{slice_get_within, get_or_from_slice_get}
-use Rattle.mtapi_values.specs.declared.kinds.Kind.{Kind}
 use Rattle.mtapi_values.specs.declared.ends.TaskEnd.{TaskEnd}
 use Rattle.handle_pool.specs.Slots.{Slot, Slots, changed, slot_of, generation_of, used_slot, free_slot, slot_after, get, Inserts, with_value, without}
 use Rattle.handle_pool.proofs.StandsLemmas.{used_at_live}
-use Rattle.task_core.specs.Tasks.{Task, TaskState, Scheduled, Running, Over, scheduled, end_of, is_unstarted, is_unended, with_state, asked_refusals, asked_once}
+use Rattle.task_core.specs.Tasks.{Task, TaskState, Scheduled, Running, Over, scheduled, is_unstarted, is_unended, with_state, asked_refusals, asked_once}
 use Rattle.mtapi_values.specs.Conditions.{first}
 use Rattle.task_core.specs.Answers.{without_group, after_asked}
 use Rattle.task_core.specs.Table.{IsLiveAnd, ended_in, detached_in, holds_unended, unended_count, AreCounted}

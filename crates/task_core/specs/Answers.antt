@@ -1,11 +1,11 @@
 -- What the calls on one task answer, and what they leave.
-use Rattle.std.specs.Prelude.{ℕ, Bool, true, false, not, ◌==◌, List, length, ℤ, Option, Some, None, is_some, is_none, Result, Ok, Err, if◌then◌else◌}
+use Rattle.std.specs.Prelude.{ℕ, Bool, true, false, ◌==◌, List, length, ℤ, Option, Some, None, is_none, Result, Ok, Err, if◌then◌else◌}
 use Rattle.mtapi_values.specs.declared.statuses.MtapiStatus.{MtapiStatus}
 use Rattle.mtapi_values.specs.declared.statuses.MtapiStatus.TheVariants.{Timeout, ErrTaskInvalid, ErrArgSize, ErrActionFailed}
 use Rattle.mtapi_values.specs.declared.ends.TaskEnd.{TaskEnd}
 use Rattle.mtapi_values.specs.declared.ends.TaskEnd.TheVariants.{Failed}
 use Rattle.mtapi_values.specs.Conditions.{first}
-use Rattle.task_core.specs.Tasks.{Task, end_of, with_waiter, task_look_refusals, asked_refusals, asked_once, watch_end_refusals, watch_end}
+use Rattle.task_core.specs.Tasks.{Task, end_of, task_look_refusals, asked_refusals, asked_once, watch_end_refusals, watch_end}
 use Rattle.task_core.specs.declared.states.TaskLook.{TaskLook}
 use Rattle.task_core.specs.declared.states.TaskLook.TheVariants.{Ended, Pending, Refused}
 

@@ -1,12 +1,12 @@
 -- All tasks: their slots, and how many were started and have ended.
-use Rattle.std.specs.Prelude.{◌≡◌, ℕ, ◌+◌, ◌≤◌, ◌^◌, Bool, true, false, List, Option, Some, None, is_some, Result, Ok, Err, count_by, if◌then◌else◌}
+use Rattle.std.specs.Prelude.{◌≡◌, ℕ, ◌+◌, ◌≤◌, ◌^◌, Bool, true, false, Option, Some, None, is_some, Result, Ok, Err, count_by, if◌then◌else◌}
 use Rattle.mtapi_values.specs.declared.statuses.MtapiStatus.{MtapiStatus}
 use Rattle.mtapi_values.specs.declared.statuses.MtapiStatus.TheVariants.{ErrTaskLimit}
 use Rattle.mtapi_values.specs.declared.handles.TaskHandle.{TaskHandle}
 use Rattle.mtapi_values.specs.declared.ends.TaskEnd.{TaskEnd}
 use Rattle.mtapi_values.specs.Conditions.{first}
-use Rattle.handle_pool.specs.Slots.{Slot, Slots, get, IsFull, Inserts, with_value, without}
-use Rattle.task_core.specs.Tasks.{Task, Over, NewTask, new_task, end_of, is_unended, with_state, with_waiter, task_look_refusals}
+use Rattle.handle_pool.specs.Slots.{Slot, Slots, IsFull, Inserts, with_value, without}
+use Rattle.task_core.specs.Tasks.{Task, Over, NewTask, new_task, is_unended, with_state, with_waiter, task_look_refusals}
 use Rattle.task_core.specs.Answers.{without_group, waiter_after}
 
 -- the slots of the tasks, how many tasks were added, and how many have ended

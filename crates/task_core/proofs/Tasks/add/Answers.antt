@@ -1,4 +1,4 @@
-use Rattle.std.proofs.Common.{◌≡◌, ◌<◌, ◌^◌, subst, sym, refl, ap, arith}
+use Rattle.std.proofs.Common.{◌<◌, ◌^◌, refl, ap}
 use Rattle.task_core.specs.Table.{TaskTable}
 use Rattle.task_core.proofs.CountLemmas.{AreCounted-add}
 use Rattle.task_core.proofs.Tasks.add.Goals as goal

@@ -1,4 +1,4 @@
-use Rattle.std.proofs.Common.{◌≡◌, ap, ◌∙◌}
+use Rattle.std.proofs.Common.{ap, ◌∙◌}
 use Rattle.handle_pool.specs.Slots.{get}
 use Rattle.task_core.specs.Tasks.{is_unended}
 use Rattle.task_core.specs.Table.{TaskTable}
