@@ -1,6 +1,8 @@
 //! Groups of tasks, in the order of their ends.
 #![tactic(auto)]
 
+mod worked;
+
 ghost use Rattle.std.specs.Prelude.{◌≡◌, ◌≤◌, ◌<◌, replicate, IfOk, IfNone, OnOk, OnErr, OnSome, IsSome};
 ghost use Rattle.std.specs.Option.{option_map};
 ghost use Rattle.handle_pool.specs.Slots.{get, slot_of, free_slot, without, changed};
@@ -11,6 +13,7 @@ use linked_places::LinkedLists;
 use mtapi_values::{GroupHandle, MtapiStatus, TaskHandle};
 use std::alloc::{AllocError, Global};
 use std::marker::Model;
+pub use worked::worked_members;
 
 /// How many slots a handle can name: a handle is its generation times this, and its slot.
 const SPAN: u64 = 0x1_0000_0000;
@@ -146,6 +149,11 @@ mod tests {
     const FIRST: TaskHandle = TaskHandle(4294967296);
 
     const SECOND: TaskHandle = TaskHandle(4294967297);
+
+    #[test]
+    fn worked_rows(_rt: HostRuntime) {
+        worked_members();
+    }
 
     #[test]
     fn a_member_that_ended_is_taken(rt: HostRuntime) -> Result<(), Fail> {

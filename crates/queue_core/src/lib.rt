@@ -3,6 +3,7 @@
 
 pub mod facts;
 mod queue;
+mod worked;
 
 ghost use Rattle.std.specs.Prelude.{◌≡◌, ◌≤◌, ◌<◌, true, false, replicate, IfOk, OnOk, OnErr};
 ghost use Rattle.std.specs.Option.{option_map};
@@ -16,6 +17,7 @@ use mtapi_values::{MtapiStatus, QueueAttr, QueueHandle, TaskHandle};
 use queue::StoredQueue;
 use std::alloc::{AllocError, Global};
 use std::marker::Model;
+pub use worked::worked_puts;
 
 /// How many slots a handle can name: a handle is its generation times this, and its slot.
 const SPAN: u64 = 0x1_0000_0000;
@@ -205,6 +207,11 @@ mod tests {
     const SECOND: TaskHandle = TaskHandle(4294967297);
 
     const THIRD: TaskHandle = TaskHandle(4294967298);
+
+    #[test]
+    fn worked_rows(_rt: HostRuntime) {
+        worked_puts();
+    }
 
     #[test]
     fn a_third_task_is_over_the_limit(rt: HostRuntime) -> Result<(), Fail> {
