@@ -1,5 +1,5 @@
 -- A legal list without its dropped entries is legal, and leads to the same state.
-use Rattle.std.proofs.Common.{◌≡◌, ℕ, Bool, true, false, cond, List, [], ◌∷◌, Option, Some, None, refl, sym, ◌∙◌, ap, subst, arith}
+use Rattle.std.proofs.Common.{◌≡◌, ℕ, Bool, true, false, cond, List, [], ◌∷◌, Option, Some, None, ◌⊎◌, inl, inr, refl, sym, ◌∙◌, ap, subst, arith}
 use Rattle.std.specs.Prelude.{◌==◌, ◌&&◌}
 use Rattle.std.proofs.lemmas.Bool.Decides.{nat_tests}
 use Rattle.mtapi_values.specs.declared.statuses.MtapiStatus.TheVariants as m
@@ -200,9 +200,24 @@ pending_drop s who o (Asked x) e h k = absurd (cc)
 pending_drop s who o (Mtapi x) e h k = absurd (cc)
 pending_drop s who o (Mrapi x) e h k = absurd (cc)
 
+drops_only : (alike : Bool) (r : Reply) → drops alike r ≡ true → (r ≡ Idle) ⊎ (r ≡ Pending)
+drops_only alike Idle d = inl refl
+drops_only alike Pending d = inr refl
+drops_only alike Ok d = absurd (cc)
+drops_only alike (Handle x) d = absurd (cc)
+drops_only alike (Number x) d = absurd (cc)
+drops_only alike (Ended x) d = absurd (cc)
+drops_only alike (Given x y) d = absurd (cc)
+drops_only alike (Picked a b c k) d = absurd (cc)
+drops_only alike Stop d = absurd (cc)
+drops_only alike (Asked x) d = absurd (cc)
+drops_only alike (Mtapi x) d = absurd (cc)
+drops_only alike (Mrapi x) d = absurd (cc)
+
 -- an entry is dropped exactly where it should be
 pub drops_rightly : (s : State) (e : NodeEntry) → IsNext s e → DropsRightly s e
 drops_rightly s e h = record {
+  only = λ d. drops_only (pends_alike s e.who e.op) e.reply d;
   stays = λ d. dropped_stays s e h d;
   idle = λ d i. drops (pends_alike s e.who e.op) (d i);
   pending = λ d k. pending_drop s e.who e.op e.reply d h k;

@@ -13,7 +13,7 @@ use Rattle.mtapi_machine.specs.Rows.{is_ready, can_take, has_better}
 use Rattle.mtapi_machine.specs.Legal.{NodeEntry, Fits, Legal}
 use Rattle.mtapi_machine.specs.Kept.{skipped, no_counts}
 use Rattle.mtapi_machine.specs.Replay.{replay}
-use Rattle.mtapi_machine.specs.Worked.{terms_for, usual, first_handle, nothing_asked, one_task, used_again, place_retires, one_waiter, stopped_watch, urgent_first, limit_too_early, idle_beside_a_task, urgent_left, stops_beside_a_task, looked_twice, issued_twice}
+use Rattle.mtapi_machine.specs.Worked.{terms_for, usual, first_handle, nothing_asked, one_task, used_again, place_retires, one_waiter, stopped_watch, whole_watch, refused_by_phase, refused_starts, urgent_first, released_first, final_too_early, limit_too_early, idle_beside_a_task, urgent_left, stops_beside_a_task, looked_twice, issued_twice}
 use Rattle.mtapi_machine.proofs.Replays.{legal_if, replay_if}
 
 fitting_terms : (tasks generations : ℕ) → 1 ≤ tasks → tasks ≤ 65536 → 1 ≤ generations → generations ≤ 4294967295 → Fits (terms_for tasks generations)
@@ -62,6 +62,18 @@ pub stopped_watch-legal : Legal usual stopped_watch
 unfolding stopped_watch replay live_of issue change listed issued_at retired is_full may_issue fits answer_of has_worker end_each is_ready can_take has_better
 stopped_watch-legal = record { fits = fitting_terms 1024 4294967295 (omega arith) (omega arith) (omega arith) (omega arith); from = legal_if _ _ refl }
 
+pub whole_watch-legal : Legal usual whole_watch
+unfolding whole_watch replay live_of issue change listed issued_at retired is_full may_issue fits answer_of has_worker end_each is_ready can_take has_better
+whole_watch-legal = record { fits = fitting_terms 1024 4294967295 (omega arith) (omega arith) (omega arith) (omega arith); from = legal_if _ _ refl }
+
+pub refused_by_phase-legal : Legal usual refused_by_phase
+unfolding refused_by_phase replay live_of issue change listed issued_at retired is_full may_issue fits answer_of has_worker end_each is_ready can_take has_better
+refused_by_phase-legal = record { fits = fitting_terms 1024 4294967295 (omega arith) (omega arith) (omega arith) (omega arith); from = legal_if _ _ refl }
+
+pub refused_starts-legal : Legal (terms_for 1 4294967295) refused_starts
+unfolding refused_starts replay live_of issue change listed issued_at retired is_full may_issue fits answer_of has_worker end_each is_ready can_take has_better
+refused_starts-legal = record { fits = fitting_terms 1 4294967295 (omega arith) (omega arith) (omega arith) (omega arith); from = legal_if _ _ refl }
+
 pub urgent_first-legal : Legal usual urgent_first
 unfolding urgent_first replay live_of issue change listed issued_at retired is_full may_issue fits answer_of has_worker end_each is_ready can_take has_better
 urgent_first-legal = record { fits = fitting_terms 1024 4294967295 (omega arith) (omega arith) (omega arith) (omega arith); from = legal_if _ _ refl }
@@ -69,6 +81,20 @@ urgent_first-legal = record { fits = fitting_terms 1024 4294967295 (omega arith)
 pub one_waiter-skipped : skipped (opening usual) no_counts one_waiter ≡ (0 ∷ 0 ∷ 0 ∷ 0 ∷ 0 ∷ 1 ∷ 0 ∷ [])
 unfolding one_waiter skipped live_of issue change listed issued_at retired is_full may_issue fits answer_of has_worker end_each is_ready can_take has_better
 one_waiter-skipped = refl
+
+released_first-differs : last_reply (replay (opening usual) released_first) ≡ last_reply released_first → ⊥
+unfolding released_first replay last_reply live_of issue change listed issued_at retired is_full may_issue fits answer_of has_worker end_each is_ready can_take has_better
+released_first-differs h = cc
+
+pub released_first-illegal : Legal usual released_first → ⊥
+released_first-illegal h = released_first-differs (ap last_reply (replay_if _ _ h.from))
+
+final_too_early-differs : last_reply (replay (opening usual) final_too_early) ≡ last_reply final_too_early → ⊥
+unfolding final_too_early replay last_reply live_of issue change listed issued_at retired is_full may_issue fits answer_of has_worker end_each is_ready can_take has_better
+final_too_early-differs h = cc
+
+pub final_too_early-illegal : Legal usual final_too_early → ⊥
+final_too_early-illegal h = final_too_early-differs (ap last_reply (replay_if _ _ h.from))
 
 limit_too_early-differs : last_reply (replay (opening usual) limit_too_early) ≡ last_reply limit_too_early → ⊥
 unfolding limit_too_early replay last_reply live_of issue change listed issued_at retired is_full may_issue fits answer_of has_worker end_each is_ready can_take has_better

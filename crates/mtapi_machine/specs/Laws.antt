@@ -1,5 +1,5 @@
 -- Laws of the machine: what each of these says is proved by the function that names it.
-use Rattle.std.specs.Prelude.{◌≡◌, ℕ, Bool, true, false, ◌==◌, List, [], ◌∷◌, ◌++◌, Option, Some, None, if◌then◌else◌}
+use Rattle.std.specs.Prelude.{◌≡◌, ◌⊎◌, ℕ, Bool, true, false, ◌==◌, List, [], ◌∷◌, ◌++◌, Option, Some, None, if◌then◌else◌}
 use Rattle.mtapi_values.specs.declared.statuses.MtapiStatus.{MtapiStatus}
 use Rattle.mtapi_values.specs.declared.statuses.MtapiStatus.TheVariants.{Timeout}
 use Rattle.mtapi_values.specs.declared.ends.TaskEnd.{TaskEnd}
@@ -47,9 +47,9 @@ comes_with_change o _ = false
 abbrev pub StatusStays : Type 0
 StatusStays = (s : State) (e : NodeEntry) → IsNext s e → is_status e.reply ≡ true → comes_with_change e.op e.reply ≡ false → next s e ≡ s
 
--- an entry is dropped where its reply is Idle, and where its reply is Pending and the state stays: then the state stays, and no other
--- Pending leaves it
+-- an entry is dropped where its reply is Idle, and where its reply is Pending and the state stays; no other entry is dropped
 pub record DropsRightly (s : State) (e : NodeEntry) : Type 0 where
+  pub only : is_dropped s e ≡ true → (e.reply ≡ Idle) ⊎ (e.reply ≡ Pending)
   pub stays : is_dropped s e ≡ true → next s e ≡ s
   pub idle : e.reply ≡ Idle → is_dropped s e ≡ true
   pub pending : e.reply ≡ Pending → next s e ≡ s → is_dropped s e ≡ true

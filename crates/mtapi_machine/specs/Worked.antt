@@ -1,10 +1,12 @@
 -- Worked histories of a node with one worker: lists that are legal, and lists that are not. Each is decided by computing.
-use Rattle.std.specs.Prelude.{◌≡◌, ℕ, ◌+◌, Bool, true, false, List, [], ◌∷◌, None, pos}
+use Rattle.std.specs.Prelude.{◌≡◌, ℕ, ◌+◌, Bool, true, false, List, [], ◌∷◌, Some, None, pos}
 use Rattle.mtapi_values.specs.declared.kinds.Kind.TheVariants as kind
+use Rattle.mtapi_values.specs.declared.statuses.MtapiStatus.{MtapiStatus}
 use Rattle.mtapi_values.specs.declared.statuses.MtapiStatus.TheVariants as status
 use Rattle.mtapi_values.specs.declared.masks.Mask.{Mask}
 use Rattle.mtapi_values.specs.declared.handles.TaskHandle.{TaskHandle}
 use Rattle.mtapi_values.specs.declared.handles.ActionHandle.{ActionHandle}
+use Rattle.mtapi_values.specs.declared.handles.GroupHandle.{GroupHandle}
 use Rattle.mtapi_values.specs.declared.ends.TaskEnd.TheVariants.{Completed, Cancelled}
 use Rattle.action_fn.specs.declared.finished.ActEnd.TheVariants.{Done}
 use Rattle.action_fn.specs.Answers.{Answered}
@@ -66,6 +68,20 @@ picks_first = worker op.Pick (reply.Picked (task first_handle) the_action kind.A
 
 abbrev pub finishes_first : NodeEntry
 finishes_first = worker (op.Finish (task first_handle) (record { kind = kind.Add; args = pos 2 ∷ pos 3 ∷ []; end = Done (pos 5 ∷ []) })) reply.Ok
+
+-- a group that was never made, and the masks of one core
+abbrev pub no_group : GroupHandle
+no_group = record { 0 = first_handle }
+
+abbrev pub first_core : Mask
+first_core = record { 0 = 1 }
+
+abbrev pub second_core : Mask
+second_core = record { 0 = 2 }
+
+-- an entry by main that is refused with this status
+abbrev pub refused : Op → MtapiStatus → NodeEntry
+refused o c = main o (reply.Mtapi c)
 
 -- the last entries of every whole run
 abbrev pub closed : List NodeEntry
@@ -138,6 +154,62 @@ stopped_watch =
     ∷ main (op.TaskLook (task first_handle) false) (reply.Ended Cancelled)
     ∷ []
 
+-- a watch that isn't asked to stop: it looks as often as its argument says
+unfoldable pub whole_watch : List NodeEntry
+whole_watch =
+    main op.Initialize reply.Ok
+    ∷ main (op.ActionCreate 1 kind.Watch every_core) (reply.Handle first_handle)
+    ∷ main (op.TaskStart 1 (pos 2 ∷ []) 0 every_core false None) (reply.Handle first_handle)
+    ∷ worker op.Pick (reply.Picked (task first_handle) the_action kind.Watch (pos 2 ∷ []))
+    ∷ worker (op.Asked (task first_handle)) (reply.Asked false)
+    ∷ worker (op.WatchEnd (task first_handle)) (reply.Mtapi status.ErrParameter)
+    ∷ worker (op.Asked (task first_handle)) (reply.Asked false)
+    ∷ worker (op.Asked (task first_handle)) (reply.Mtapi status.ErrParameter)
+    ∷ worker (op.WatchEnd (task first_handle)) (reply.Ended (Completed (pos 2 ∷ [])))
+    ∷ []
+
+-- what each phase refuses
+unfoldable pub refused_by_phase : List NodeEntry
+refused_by_phase =
+    refused op.Release status.ErrNodeNotinit
+    ∷ refused (add_task 0) status.ErrNodeNotinit
+    ∷ refused op.Final status.ErrNodeNotinit
+    ∷ worker op.Pick reply.Idle
+    ∷ second op.Enter reply.Pending
+    ∷ main op.Initialize reply.Ok
+    ∷ refused op.Initialize status.ErrNodeInitialized
+    ∷ refused op.Final status.ErrNodeInitialized
+    ∷ main op.Close reply.Ok
+    ∷ refused op.Close status.ErrNodeNotinit
+    ∷ refused op.Release status.ErrNodeNotinit
+    ∷ refused (op.ActionCreate 1 kind.Add every_core) status.ErrNodeNotinit
+    ∷ refused (op.TaskLook (task first_handle) true) status.ErrTaskInvalid
+    ∷ second op.Enter (reply.Mtapi status.ErrNodeNotinit)
+    ∷ refused op.Final status.ErrNodeInitialized
+    ∷ worker op.Pick reply.Stop
+    ∷ main op.Final reply.Ok
+    ∷ refused op.Final status.ErrNodeNotinit
+    ∷ refused (op.TaskLook (task first_handle) true) status.ErrNodeNotinit
+    ∷ worker op.Pick reply.Stop
+    ∷ []
+
+-- what a start is refused for, in the order in which it is looked for
+unfoldable pub refused_starts : List NodeEntry
+refused_starts =
+    main op.Initialize reply.Ok
+    ∷ refused (op.TaskStart 1 [] 4 second_core true (Some no_group)) status.ErrParameter
+    ∷ refused (op.TaskStart 1 [] 3 second_core true (Some no_group)) status.ErrParameter
+    ∷ refused (op.TaskStart 1 [] 3 second_core false (Some no_group)) status.ErrJobInvalid
+    ∷ refused (op.ActionCreate 0 kind.Add first_core) status.ErrJobInvalid
+    ∷ main (op.ActionCreate 1 kind.Add first_core) (reply.Handle first_handle)
+    ∷ refused (op.TaskStart 1 [] 3 second_core false (Some no_group)) status.ErrGroupInvalid
+    ∷ refused (op.TaskStart 1 [] 3 second_core true None) status.ErrNoCore
+    ∷ main (op.TaskStart 1 [] 3 first_core true None) (reply.Handle first_handle)
+    ∷ refused (op.TaskStart 1 [] 3 first_core true None) status.ErrTaskLimit
+    ∷ refused (op.TaskLook (task first_handle) false) status.ErrParameter
+    ∷ refused op.Pick status.ErrParameter
+    ∷ []
+
 -- a worker takes the smaller priority first
 unfoldable pub urgent_first : List NodeEntry
 urgent_first =
@@ -147,6 +219,14 @@ urgent_first =
     ∷ main (add_task 1) (reply.Handle first_handle)
     ∷ picks_first
     ∷ []
+
+-- illegal: main releases a node that isn't open
+unfoldable pub released_first : List NodeEntry
+released_first = main op.Release reply.Ok ∷ []
+
+-- illegal: the node is finalized before its worker has stopped
+unfoldable pub final_too_early : List NodeEntry
+final_too_early = main op.Initialize reply.Ok ∷ main op.Close reply.Ok ∷ main op.Final reply.Ok ∷ []
 
 -- illegal: the limit is answered where the job has no action
 unfoldable pub limit_too_early : List NodeEntry
@@ -213,7 +293,12 @@ pub record WorkedHistories : Type 0 where
   -- the second look isn't kept, and stands beside the last one of this seat as a number
   pub one_waiter_skipped : skipped (opening usual) no_counts one_waiter ≡ (0 ∷ 0 ∷ 0 ∷ 0 ∷ 0 ∷ 1 ∷ 0 ∷ [])
   pub stopped_watch_legal : Legal usual stopped_watch
+  pub whole_watch_legal : Legal usual whole_watch
+  pub refused_by_phase_legal : Legal usual refused_by_phase
+  pub refused_starts_legal : Legal (terms_for 1 4294967295) refused_starts
   pub urgent_first_legal : Legal usual urgent_first
+  pub released_first_illegal : Legal usual released_first → ⊥
+  pub final_too_early_illegal : Legal usual final_too_early → ⊥
   pub limit_too_early_illegal : Legal usual limit_too_early → ⊥
   pub idle_beside_a_task_illegal : Legal usual idle_beside_a_task → ⊥
   pub urgent_left_illegal : Legal usual urgent_left → ⊥
