@@ -20,7 +20,8 @@ use Rattle.mtapi_machine.specs.Rows.{row}
 use Rattle.mtapi_machine.specs.Legal.{NodeEntry, IsNext, next, LegalFrom, Legal, after_from, after}
 use Rattle.mtapi_machine.proofs.Lists.{Legal-front, Legal-rest, after-append}
 use Rattle.mtapi_machine.proofs.Ends.{AllGives, after_grows}
-use Rattle.history_law.specs.Accepted.{accepted_by, accepted, end_at, TasksEndOnce}
+use Rattle.mtapi_machine.specs.Ends.{end_at}
+use Rattle.history_law.specs.Accepted.{accepted_by, accepted, TasksEndOnce}
 use Rattle.history_law.proofs.Held.{AllEnded, listed_issue, all_first}
 use Rattle.history_law.proofs.Rows.{Stands, on_issues, after_stands}
 use Rattle.history_law.proofs.Marks.{Stopped, after_stopped}

@@ -9,7 +9,7 @@ use Rattle.mtapi_machine.specs.Laws.{Grows}
 use Rattle.mtapi_machine.specs.Legal.{NodeEntry, LegalFrom, after_from}
 use Rattle.mtapi_machine.proofs.Ends.{after_grows}
 use Rattle.mtapi_machine.proofs.Lists.{Legal-front, Legal-rest, after-append}
-use Rattle.history_law.specs.Accepted.{end_in, end_at}
+use Rattle.mtapi_machine.specs.Ends.{end_in, end_at}
 use Rattle.history_law.proofs.Held.{HasEnded, AllEnded}
 
 -- an end stays an end

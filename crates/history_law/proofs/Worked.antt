@@ -14,7 +14,8 @@ use Rattle.mtapi_machine.specs.Rows.{is_ready, can_take, has_better}
 use Rattle.mtapi_machine.specs.Legal.{NodeEntry, LegalFrom, Legal, after_from, after}
 use Rattle.mtapi_machine.specs.Worked.{usual, first_handle, main, worker, add_task, picks_first, finishes_first, task, every_core, one_task}
 use Rattle.mtapi_machine.proofs.Worked.{one_task-legal}
-use Rattle.history_law.specs.Accepted.{end_at, EndsOnce}
+use Rattle.mtapi_machine.specs.Ends.{end_at}
+use Rattle.history_law.specs.Accepted.{EndsOnce}
 use Rattle.history_law.specs.Ends.{terms_of}
 use Rattle.history_law.specs.Worked.{OneTaskEnds}
 use Rattle.history_law.proofs.Accepted.{accepted_end}

@@ -1,8 +1,7 @@
 -- What becomes of every task that was accepted.
-use Rattle.std.specs.Prelude.{◌≡◌, ℕ, ◌==◌, List, [], ◌∷◌, ◌++◌, Option, Some, None, IsSome, if◌then◌else◌}
+use Rattle.std.specs.Prelude.{◌≡◌, ℕ, List, [], ◌∷◌, ◌++◌, Option, Some, None, IsSome}
 use Rattle.mtapi_values.specs.declared.ends.TaskEnd.{TaskEnd}
-use Rattle.handle_pool.specs.Issued.{Listed, listed}
-use Rattle.task_core.specs.Tasks.{Task, TaskState, Scheduled, Running, Over}
+use Rattle.handle_pool.specs.Issued.{listed}
 use Rattle.mtapi_machine.specs.declared.ops.Op.{Op}
 use Rattle.mtapi_machine.specs.declared.ops.Op.TheVariants.{Final, TaskStart}
 use Rattle.mtapi_machine.specs.declared.replies.Reply.{Reply}
@@ -10,6 +9,7 @@ use Rattle.mtapi_machine.specs.declared.replies.Reply.TheVariants.{Ok, Handle}
 use Rattle.mtapi_machine.specs.declared.terms.Terms.{Terms}
 use Rattle.history.specs.Histories.{entry}
 use Rattle.mtapi_machine.specs.Legal.{NodeEntry, Legal, after}
+use Rattle.mtapi_machine.specs.Ends.{end_at}
 
 -- the handle of the task that an entry accepted: a start that was answered with a handle
 abbrev pub accepted_by : Op → Reply → Option ℕ
@@ -18,17 +18,6 @@ accepted_by _ _ = None
 
 abbrev pub accepted : NodeEntry → Option ℕ
 accepted e = accepted_by e.op e.reply
-
--- the end of a task in this state: completed, cancelled or failed
-abbrev pub end_in : TaskState → Option TaskEnd
-end_in Scheduled = None
-end_in (Running w k) = None
-end_in (Over e n) = Some e
-
--- the end in the record of this handle's task, live or not
-unfoldable pub end_at : List (Listed Task) → ℕ → Option TaskEnd
-end_at [] h = None
-end_at (r ∷ rs) h = if r.handle == h then end_in r.fields.state else end_at rs h
 
 -- The task of this handle has one record, which is ended at the end of the list. A prefix that shows an end of it shows that end, and so
 -- does every longer prefix.

@@ -8,7 +8,8 @@ use Rattle.mtapi_machine.specs.declared.terms.Terms.{Terms}
 use Rattle.history.specs.Histories.{entry}
 use Rattle.handle_pool.specs.Issued.{listed}
 use Rattle.mtapi_machine.specs.Legal.{NodeEntry, after}
-use Rattle.history_law.specs.Accepted.{accepted, end_at, EndsOnce}
+use Rattle.mtapi_machine.specs.Ends.{end_at}
+use Rattle.history_law.specs.Accepted.{accepted, EndsOnce}
 
 -- the terms of a node with these settings and so many callers
 abbrev pub terms_of : NodeSettings → ℕ → Terms

@@ -1,4 +1,5 @@
 pub mod State
+pub mod Ends
 pub mod Row
 pub mod Rows
 pub mod Legal

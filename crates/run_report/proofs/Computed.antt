@@ -10,7 +10,8 @@ use Rattle.mtapi_machine.specs.Legal.{after_from}
 use Rattle.mtapi_machine.specs.Worked.{one_task}
 use Rattle.workload_file.specs.Deeds.{is_begin}
 use Rattle.run_report.specs.Replies.{decided, further_told}
-use Rattle.run_report.specs.Tasks.{end_at, numbers_text, end_text}
+use Rattle.mtapi_machine.specs.Ends.{end_at}
+use Rattle.run_report.specs.Tasks.{numbers_text, end_text}
 use Rattle.run_report.specs.Calls.{shown_of, task_lines_of, task_name, call_lines_of}
 use Rattle.run_report.specs.Report.{report}
 use Rattle.run_report.specs.Worked.{WorkedReports}

@@ -11,7 +11,7 @@ use Rattle.mtapi_machine.specs.Legal.{NodeEntry}
 use Rattle.mtapi_machine.specs.Legal.{Legal, after}
 use Rattle.workload_file.specs.declared.workload.Workload.{Workload}
 use Rattle.run_report.specs.declared.standing.Standing.{Standing}
-use Rattle.run_report.specs.Tasks.{end_at}
+use Rattle.mtapi_machine.specs.Ends.{end_at}
 use Rattle.run_report.specs.Calls.{task_lines, call_lines}
 use Rattle.run_report.specs.Standings.{ends_of, end_of_standing, standings_from, no_standing}
 use Rattle.run_report.specs.Report.{terms_of, parts_told, report_by, report}

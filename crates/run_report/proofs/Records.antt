@@ -6,7 +6,7 @@ use Rattle.handle_pool.specs.Issued.{Listed, live_of, lookup, at, issue, change,
 use Rattle.task_core.specs.Tasks.{Task, TaskState, Scheduled, Running, Over}
 use Rattle.run_report.specs.declared.standing.Standing.{Standing}
 use Rattle.run_report.specs.declared.standing.Standing.TheVariants.{Runs, Ended}
-use Rattle.run_report.specs.Tasks.{end_in, end_at}
+use Rattle.mtapi_machine.specs.Ends.{end_in, end_at}
 use Rattle.run_report.specs.Standings.{end_of_standing}
 
 -- how far a task in this state has come; nothing, where it is scheduled

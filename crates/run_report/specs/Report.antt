@@ -4,9 +4,9 @@ use Rattle.std.specs.List.{flat_map}
 use Rattle.mtapi_values.specs.declared.ends.TaskEnd.{TaskEnd}
 use Rattle.workload_file.specs.declared.workload.Workload.{Workload}
 use Rattle.mtapi_machine.specs.declared.terms.Terms.{Terms}
+use Rattle.mtapi_machine.specs.Ends.{end_at}
 use Rattle.mtapi_machine.specs.Legal.{NodeEntry, after}
 use Rattle.run_report.specs.Replies.{Told, all_told}
-use Rattle.run_report.specs.Tasks.{end_at}
 use Rattle.run_report.specs.Calls.{task_lines, call_lines}
 
 -- the terms of a run of a workload: its settings, and one caller for each part

@@ -1,24 +1,11 @@
 -- What the report says of a task.
-use Rattle.std.specs.Prelude.{ℕ, ℤ, ◌==◌, List, [], ◌∷◌, ◌++◌, codes, Option, Some, None, if◌then◌else◌}
+use Rattle.std.specs.Prelude.{ℕ, ℤ, List, [], ◌∷◌, ◌++◌, codes, Option, Some, None}
 use Rattle.std.specs.Fmt.{signed_decimal}
 use Rattle.mtapi_values.specs.Statuses.{mtapi_name}
 use Rattle.mtapi_values.specs.declared.ends.TaskEnd.{TaskEnd}
 use Rattle.mtapi_values.specs.declared.ends.TaskEnd.TheVariants.{Completed, Cancelled, Failed}
-use Rattle.handle_pool.specs.Issued.{Listed}
-use Rattle.task_core.specs.Tasks.{Task, TaskState, Scheduled, Running, Over}
 use Rattle.mtapi_machine.specs.declared.replies.Reply.{Reply}
 use Rattle.mtapi_machine.specs.declared.replies.Reply.TheVariants as reply
-
--- the end of a task in this state
-abbrev pub end_in : TaskState → Option TaskEnd
-end_in Scheduled = None
-end_in (Running w k) = None
-end_in (Over e n) = Some e
-
--- the end in the record of this handle's task, live or not
-unfoldable pub end_at : List (Listed Task) → ℕ → Option TaskEnd
-end_at [] h = None
-end_at (r ∷ rs) h = if r.handle == h then end_in r.fields.state else end_at rs h
 
 -- numbers: this byte before the first, and a comma before each further one
 unfoldable pub numbers_text : ℕ → List ℤ → List ℕ
