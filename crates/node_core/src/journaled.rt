@@ -200,6 +200,7 @@ impl Journaled {
     /// A node that keeps a journal, which grows with its calls.
     pub fn with(alloc: Global, node: Node) -> Journaled
         ensures terms { journal_terms result ≡ record { node = terms_of node; keeps = true } }
+        ensures there { is_lost result ≡ false }
         ensures stands { Stands node [] → StandsKept result [] }
     {
         Journaled {

@@ -5,7 +5,7 @@ ghost use Rattle.node_core.specs.Logs.{StandsForFew};
 
 use crate::journaled::Journaled;
 use crate::node::Node;
-use action_fn::{Finished, act_add};
+use action_fn::{Finished, act_add, act_div};
 use history::Object;
 use mtapi_machine::{Op, Reply};
 use mtapi_values::{ActionHandle, Args, Kind, Mask, MtapiStatus, NodeAttr, TaskEnd, TaskHandle};
@@ -22,13 +22,14 @@ struct Asked {
     asked: u64,
 }
 
-// A new node with room for so many tasks, of so many generations, with one worker and two callers.
+// A new node with so many workers, room for so many tasks, of so many generations, two priorities and two callers.
 fn new_node(alloc: Global, workers: u64, tasks: u64, generations: u64) -> Result<Asked, Fail>
     ensures { IfOk result (λ a. StandsForFew a.node a.asked) }
 {
     let mut attr = NodeAttr::new();
     attr.set(1, workers).ok().ok_or("workers")?;
     attr.set(2, tasks).ok().ok_or("tasks")?;
+    attr.set(7, 2).ok().ok_or("priorities")?;
     attr.set(8, generations).ok().ok_or("generations")?;
     let node = Node::init(alloc, attr, 2)?;
     let node = Journaled::with(alloc, node);
@@ -81,6 +82,14 @@ fn completed(reply: Option<Reply>) -> Option<i64> {
     }
 }
 
+// The status of an end that failed.
+fn failed(reply: Option<Reply>) -> Option<MtapiStatus> {
+    match reply {
+        Some(Reply::Ended(TaskEnd::Failed(status))) => Some(status),
+        _ => None,
+    }
+}
+
 fn is_cancelled(reply: Option<Reply>) -> bool {
     matches!(reply, Some(Reply::Ended(TaskEnd::Cancelled)))
 }
@@ -88,10 +97,14 @@ fn is_cancelled(reply: Option<Reply>) -> bool {
 fn start(number: i64, cores: u64) -> Op {
     let mut args = Args::new();
     let _ = args.push(number);
+    start_with(args, 0, cores)
+}
+
+fn start_with(args: Args, priority: u32, cores: u64) -> Op {
     Op::TaskStart {
         job: 1,
         args,
-        priority: 0,
+        priority,
         cores: Mask(cores),
         detached: false,
         group: None,
@@ -199,6 +212,58 @@ fn refused_starts(rt: HostRuntime) -> Result<(), Fail> {
     assert_eq!(rt; handle(node.ask(2, start(1, 3))), 4294967296);
     assert!(rt; matches!(node.ask(1, Op::Pick), Some(Reply::Idle)));
     assert!(rt; matches!(node.ask(2, Op::JobGet { job: 1 }), Some(Reply::Number(1))));
+    Ok(())
+}
+
+#[test]
+fn the_smaller_priority_first(rt: HostRuntime) -> Result<(), Fail> {
+    let mut node = new_node(rt.alloc(), 1, 4, 1)?;
+    assert!(rt; open(&mut node, 1, Kind::Add, u64::MAX));
+    let mut args = Args::new();
+    assert!(rt; args.push(7));
+    assert_eq!(rt;
+        status(node.ask(1, start_with(args.again(), 2, 1))),
+        Some(MtapiStatus::ErrParameter)
+    );
+    let later = handle(node.ask(1, start_with(args, 1, 1)));
+    let first = handle(node.ask(1, start(8, 1)));
+    assert!(rt; work(&mut node));
+    assert!(rt; is_pending(node.ask(1, look(later, false))));
+    assert_eq!(rt; completed(node.ask(1, look(first, false))), Some(8));
+    assert!(rt; work(&mut node));
+    assert_eq!(rt; completed(node.ask(1, look(later, false))), Some(7));
+    assert!(rt; matches!(node.ask(0, Op::Pick), Some(Reply::Idle)));
+    Ok(())
+}
+
+#[test]
+fn a_task_that_fails(rt: HostRuntime) -> Result<(), Fail> {
+    let mut node = new_node(rt.alloc(), 1, 4, 1)?;
+    assert!(rt; open(&mut node, 1, Kind::Div, u64::MAX));
+    let mut args = Args::new();
+    assert!(rt; args.push(1) && args.push(0));
+    let task = TaskHandle(handle(node.ask(1, start_with(args.again(), 0, 1))));
+    assert!(rt;
+        matches!(
+            node.ask(0, Op::Pick),
+            Some(Reply::Picked {
+                kind: Kind::Div,
+                ..
+            })
+        )
+    );
+    let other = Finished::new(Kind::Add, args.again(), act_add(&args));
+    assert_eq!(rt;
+        status(node.ask(0, Op::Finish { task, done: other })),
+        Some(MtapiStatus::ErrTaskInvalid)
+    );
+    let end = act_div(&args);
+    let done = Finished::new(Kind::Div, args, end);
+    assert!(rt; is_ok(node.ask(0, Op::Finish { task, done })));
+    assert_eq!(rt;
+        failed(node.ask(1, look(task.0, false))),
+        Some(MtapiStatus::ErrActionFailed)
+    );
     Ok(())
 }
 
