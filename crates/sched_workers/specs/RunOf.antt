@@ -2,8 +2,7 @@
 use Rattle.std.specs.Prelude.{◌≡◌, ℕ, suc, ◌+◌, ◌<◌, Bool, true, false, ◌&&◌, List, [], ◌∷◌, ◌++◌}
 use Rattle.std.specs.List.{list_any}
 use Rattle.history.specs.Histories.{entry, entries_of}
-use Rattle.workload_file.specs.declared.workload.Deed.{Deed}
-use Rattle.workload_file.specs.declared.workload.Deed.TheVariants as deed
+use Rattle.workload_file.specs.Deeds.{is_begin}
 use Rattle.workload_file.specs.declared.workload.Statement.{Statement}
 use Rattle.workload_file.specs.declared.workload.Part.{Part}
 use Rattle.workload_file.specs.declared.workload.Workload.{Workload}
@@ -13,11 +12,6 @@ use Rattle.mtapi_machine.specs.declared.replies.Reply.{Reply}
 use Rattle.mtapi_machine.specs.declared.replies.Reply.TheVariants as reply
 use Rattle.mtapi_machine.specs.Legal.{NodeEntry}
 use Rattle.sched_workers.specs.Lines.{Line, line, lines_of, Carried}
-
--- the statement is `begin`
-abbrev pub is_begin : Deed → Bool
-is_begin deed.Begin = true
-is_begin _ = false
 
 -- one of the statements is `begin`
 unfoldable pub has_begin : List Statement → Bool

@@ -10,7 +10,8 @@ ghost use Rattle.mtapi_machine.specs.Row.{handle_of};
 ghost use Rattle.mtapi_machine.specs.Kept.{is_pending};
 ghost use Rattle.mtapi_machine.specs.Legal.{NodeEntry, after};
 ghost use Rattle.sched_workers.specs.Calls.{Once, Looking, call_of, handle_at, group_at};
-ghost use Rattle.sched_workers.specs.RunOf.{is_begin, has_begin};
+ghost use Rattle.workload_file.specs.Deeds.{is_begin};
+ghost use Rattle.sched_workers.specs.RunOf.{has_begin};
 ghost use Rattle.sched_workers.specs.Inline.{Stood, Went, Standing, Going, spent, Turns, Moves, Idles, Stepped, WorkedOrIdle, Swept, either, Settles, Called, CarriedOut, at_bound, IsBuilt, AllBuilt, IsPlainOp, TookAs, Opens, Fresh, Over, ClosesAll, RunsWhole, IsCarried, terms_for, RanInline};
 ghost use Rattle.node_core.specs.Stands.{Stands, terms_of};
 ghost use Rattle.sched_workers.specs.Good.{added};
@@ -102,6 +103,7 @@ fn either(one: bool, other: bool) -> bool
     if one { true } else { other }
 }
 
+#[tactic(auto, unfolding(workload_file::specs::Deeds::is_begin))]
 fn is_begin(deed: &Deed) -> bool
     ensures { result ≡ is_begin deed.now }
 {
