@@ -33,10 +33,10 @@ refused_told run bytes s s' o o' w w' e f f' p p' outcome h (inl t) q = refused_
 refused_told run bytes s s' o o' w w' e f f' p p' outcome h (inr t) q = absurd (let m = sym t.1.status ∙ q in cc)
 
 -- what was run was no refused text
-not_refused : (b : List ℕ) (j : Journal) (P : List ℕ → Type 0) → Ran b j P → IsRefused b → ⊥
-not_refused b j P r (inl (inl long)) = omega (arith, r.fits)
-not_refused b j P r (inl (inr none)) = let both = sym none.2 ∙ r.read in cc
-not_refused b j P r (inr unbuilt) = let same = sym unbuilt.1.2 ∙ r.read in let none = r.built in let some = unbuilt.1.3 in cc
+not_refused : (b : List ℕ) (j : Journal) (P : List ℕ → Type 0) → Ran (Some b) j P → IsRefused b → ⊥
+not_refused b j P r (inl (inl long)) = omega (arith, r.read.0)
+not_refused b j P r (inl (inr none)) = let both = sym none.2 ∙ r.read.1 in cc
+not_refused b j P r (inr unbuilt) = let same = sym unbuilt.1.2 ∙ r.read.1 in let none = r.built in let some = unbuilt.1.3 in cc
 
 refused_status : (run : Bool) (b : List ℕ) (s s' : ℕ) (o o' : Option (List ℕ)) (w w' : ℕ) (e : End) → Ends run (Some b) s s' o o' w w' e → run ≡ true → (Rose s s' → ⊥) → IsRefused b → (status_of e ≡ 3) ⊎ (status_of e ≡ 6)
 refused_status run b s s' o o' w w' (end.Done j) h r n i = absurd (not_refused b j _ h.1 i)

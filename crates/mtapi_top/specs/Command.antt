@@ -46,14 +46,14 @@ IsRefused bytes = IsNone bytes ⊎ ((line : ℕ) × IsUnbuilt bytes line)
 -- what is known at each end: of the words, the bytes of the source, its count of faults before and after, what the output held and holds,
 -- and its count of faults before and after
 abbrev pub Ends : Bool → Option (List ℕ) → ℕ → ℕ → Option (List ℕ) → Option (List ℕ) → ℕ → ℕ → End → Type 0
-Ends run bytes s s' o o' w w' (end.Done journal) = (run ≡ true) × IfSome bytes (λ b. Ran b journal (Appends o o'))
+Ends run bytes s s' o o' w w' (end.Done journal) = (run ≡ true) × Ran bytes journal (Appends o o')
 Ends run bytes s s' o o' w w' end.Usage = (run ≡ false) × (o' ≡ o)
 Ends run bytes s s' o o' w w' (end.Refused line cause) =
     (run ≡ true) × IfSome bytes (λ b. (length b ≤ 1048576) × (workload_of b ≡ Err (record { line = line; cause = cause }))) × (o' ≡ o)
 Ends run bytes s s' o o' w w' end.TooLong = (run ≡ true) × IfSome bytes (λ b. 1048576 < length b) × (o' ≡ o)
 Ends run bytes s s' o o' w w' (end.NotBuilt line) = (run ≡ true) × IfSome bytes (λ b. IsUnbuilt b line) × (o' ≡ o)
 Ends run bytes s s' o o' w w' end.ReadFault = (run ≡ true) × Rose s s' × (o' ≡ o)
-Ends run bytes s s' o o' w w' (end.WriteFault journal) = (run ≡ true) × Rose w w' × IfSome bytes (λ b. Ran b journal (AppendsFront o o'))
+Ends run bytes s s' o o' w w' (end.WriteFault journal) = (run ≡ true) × Rose w w' × Ran bytes journal (AppendsFront o o')
 Ends run bytes s s' o o' w w' end.Memory = (run ≡ true) × (o' ≡ o)
 
 -- a text was written, or a front of it where writing failed

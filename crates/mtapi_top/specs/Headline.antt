@@ -1,5 +1,5 @@
 -- What is promised of a run of a workload.
-use Rattle.std.specs.Prelude.{◌≡◌, ℕ, List, ◌≤◌, length, Ok, None}
+use Rattle.std.specs.Prelude.{◌≡◌, ℕ, List, ◌≤◌, length, Ok, Option, None, IfSome}
 use Rattle.workload_file.specs.declared.workload.Workload.{Workload}
 use Rattle.workload_file.specs.Reading.{workload_of}
 use Rattle.workload_file.specs.Formed.{WellFormed}
@@ -27,11 +27,10 @@ pub record IsRun (load : Workload) (j : Journal) : Type 0 where
   -- every accepted task stands in exactly one of completed, cancelled and error, for good
   pub tasks : TasksEndOnce (told_terms j) j.entries.entries
 
--- The bytes are a workload, the journal is that of a run of it, and P holds of the report of that run.
-pub record Ran (bytes : List ℕ) (j : Journal) (P : List ℕ → Type 0) : Type 0 where
+-- The journal is that of a run of a workload, and P holds of the report of that run. Where the source tells its bytes, they are this workload.
+pub record Ran (bytes : Option (List ℕ)) (j : Journal) (P : List ℕ → Type 0) : Type 0 where
   pub load : Workload
-  pub fits : length bytes ≤ 1048576
-  pub read : workload_of bytes ≡ Ok load
+  pub read : IfSome bytes (λ b. (length b ≤ 1048576) × (workload_of b ≡ Ok load))
   pub formed : WellFormed load
   -- every statement of it is carried out
   pub built : unbuilt_line load ≡ None

@@ -1,3 +1,4 @@
 pub mod Built
 pub mod Headline
 pub mod Command
+pub mod Replies

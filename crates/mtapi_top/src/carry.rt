@@ -69,10 +69,10 @@ pub fn command<S: Source, W: Sink, E: Sink, A: ActionSource>(
     err: &mut E,
     acts: &mut A,
 ) -> Outcome
-    // The headline. Where a run finished, the bytes read were a workload, the journal is that of a run of it, and what was written is the
-    // report of that journal: all of it with the status 0, and a front of it with 5.
-    ensures headline { result.status ≡ 0 → IfSome (S.left src.old) (λ bytes. IfSome result.journal (λ journal. Ran bytes journal (Appends (W.held out.old) (W.held out.new)))) }
-    ensures headline_cut { result.status ≡ 5 → IfSome (S.left src.old) (λ bytes. IfSome result.journal (λ journal. Ran bytes journal (AppendsFront (W.held out.old) (W.held out.new)))) }
+    // The headline. Where a run finished, the journal is that of a run of a workload, the bytes read were this workload, and what was
+    // written is the report of that journal: all of it with the status 0, and a front of it with 5.
+    ensures headline { result.status ≡ 0 → IfSome result.journal (λ journal. Ran (S.left src.old) journal (Appends (W.held out.old) (W.held out.new))) }
+    ensures headline_cut { result.status ≡ 5 → IfSome result.journal (λ journal. Ran (S.left src.old) journal (AppendsFront (W.held out.old) (W.held out.new))) }
     ensures journal { IsSome result.journal ↔ ((result.status ≡ 0) ⊎ (result.status ≡ 5)) }
 
     // Each status has its cause.

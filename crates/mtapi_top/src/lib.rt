@@ -4,6 +4,7 @@
 mod built;
 mod carry;
 mod ends;
+pub mod laws;
 mod pieces;
 mod telling;
 #[cfg(test)]
