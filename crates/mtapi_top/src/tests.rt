@@ -10,7 +10,7 @@ use std::alloc::Global;
 use std::process::Abort;
 use workload_file::{MemSink, MemSource};
 
-/// One run of the command: at most so many bytes a call of the source and of the sink, the call at which each fails (0: at none), and
+/// One run of the command: at most so many bytes a call of the source and of the sinks, the call at which each fails (0: at none), and
 /// what the command then says.
 #[derive(Drop)]
 struct Case {
@@ -20,6 +20,7 @@ struct Case {
     most: usize,
     source_fails: u64,
     sink_fails: u64,
+    err_fails: u64,
     status: u8,
     out: &'static [u8],
     err: &'static [u8],
@@ -34,6 +35,7 @@ fn plain() -> Case {
         most: 4096,
         source_fails: 0,
         sink_fails: 0,
+        err_fails: 0,
         status: 0,
         out: b"main.t completed 6\n",
         err: b"",
@@ -63,11 +65,17 @@ fn refused(text: &'static [u8], err: &'static [u8]) -> Case {
 /// Runs the command on a case, and compares all that it says.
 fn check<R: Abort>(rt: &R, alloc: Global, case: &Case) {
     let bytes = case.text.to_vec(alloc).expect(rt, "memory");
+    check_bytes(rt, alloc, bytes, case);
+}
+
+/// The same on these bytes, and not on the case's own text.
+fn check_bytes<R: Abort>(rt: &R, alloc: Global, bytes: Vec<u8>, case: &Case) {
     let source_fails = vec![in alloc; case.source_fails].expect(rt, "memory");
     let sink_fails = vec![in alloc; case.sink_fails].expect(rt, "memory");
     let mut src = MemSource::new(bytes, case.most.max(1), source_fails);
     let mut out = MemSink::new(alloc, 4096, case.most.max(1), sink_fails).expect(rt, "memory");
-    let mut err = MemSink::new(alloc, 4096, 4096, Vec::new(alloc)).expect(rt, "memory");
+    let err_fails = vec![in alloc; case.err_fails].expect(rt, "memory");
+    let mut err = MemSink::new(alloc, 4096, case.most.max(1), err_fails).expect(rt, "memory");
     let words = &case.words[..case.count.min(2)];
     let mut acts = FnTable::new(
         StoredFn::new(Kind::Add, act_add),
@@ -110,7 +118,31 @@ fn words_and_faults(rt: HostRuntime) {
             ..plain()
         },
         Case {
+            words: ["runs", "x"],
+            status: 2,
+            out: none,
+            err: b"usage: mtapi run\n",
+            ..plain()
+        },
+        Case {
+            count: 2,
+            most: 10,
+            err_fails: 2,
+            status: 2,
+            out: none,
+            err: b"usage: mta",
+            ..plain()
+        },
+        Case {
             source_fails: 1,
+            status: 4,
+            out: none,
+            err: b"mtapi: read fault\n",
+            ..plain()
+        },
+        Case {
+            most: 10,
+            source_fails: 3,
             status: 4,
             out: none,
             err: b"mtapi: read fault\n",
@@ -149,6 +181,7 @@ fn refused_texts(rt: HostRuntime) {
             b"mtapi: line 3: name taken\n",
         ),
         refused(b"caller a", b"mtapi: line 1: not built\n"),
+        refused(MIXED, b"mtapi: line 4: not built\n"),
         refused(b"begin\ngroup g\ncaller a\n", b"mtapi: line 2: not built\n"),
         refused(
             b"action a job=1 kind=watch\n",
@@ -160,6 +193,50 @@ fn refused_texts(rt: HostRuntime) {
 }
 
 #[test]
+fn long_texts(rt: HostRuntime) {
+    let alloc = rt.alloc();
+    let line = vec![in alloc; b'a'; 513].expect(&rt, "memory");
+    let too_long = refused(b"", b"mtapi: line 1: line too long\n");
+    check_bytes(&rt, alloc, line, &too_long);
+    let spaces = vec![in alloc; b' '; 1_048_577].expect(&rt, "memory");
+    let no_workload = refused(b"", b"mtapi: workload too long\n");
+    check_bytes(&rt, alloc, spaces, &no_workload);
+}
+
+/// A node with four workers, ordered work and shared memory, whose first statement that isn't carried out is its queue.
+const MIXED: &[u8] = b"node workers=4\n\
+action sum job=1 kind=add\n\
+action big job=2 kind=max cores=0,1\n\
+queue q id=7 job=1 ordered=yes\n\
+mutex m id=1\n\
+shmem s id=1 cells=4\n\
+begin\n\
+group g\n\
+start a job=2 args=3,9,4 group=g\n\
+start b job=2 args=-5,-2 group=g\n\
+start c job=1 args=10,20,30 group=g priority=1\n\
+start d job=2 args=8 group=g\n\
+wait_all g timeout=inf\n\
+caller feed\n\
+queue_get q id=7\n\
+mutex_get m id=1\n\
+shmem_get s id=1\n\
+attach s\n\
+enqueue x queue=q args=1,2\n\
+enqueue y queue=q args=3,4\n\
+lock m timeout=inf\n\
+write s cell=0 value=5\n\
+read s cell=0\n\
+unlock m key=1\n\
+wait x timeout=inf\n\
+wait y timeout=inf\n\
+detach s\n\
+caller tail\n\
+mutex_get m id=1\n\
+lock m timeout=inf\n\
+unlock m key=1\n";
+
+#[test]
 fn reports(rt: HostRuntime) {
     for case in [
         reported(b"", b""),
@@ -167,6 +244,13 @@ fn reports(rt: HostRuntime) {
             b"action a job=1 kind=add\nstart t job=1 args=1,2,3\nwait t timeout=inf",
             b"main.t completed 6\n",
         ),
+        Case {
+            most: 1,
+            ..reported(
+                b"action a job=1 kind=add\nstart t job=1 args=1,2,3\nwait t timeout=inf",
+                b"main.t completed 6\n",
+            )
+        },
         reported(
             b"start t job=1 args=1\n",
             b"main.t refused MTAPI_ERR_JOB_INVALID\n",
