@@ -16,7 +16,7 @@ use Rattle.mtapi_machine.specs.State.{State}
 use Rattle.mtapi_machine.specs.Row.{Row, unless, says, gives, never, Allows, after_row, mtapi_unless, live}
 use Rattle.mtapi_machine.specs.Rows.{row, looks_at}
 use Rattle.history.specs.Histories.{entry}
-use Rattle.mtapi_machine.specs.Legal.{NodeEntry, IsNext, row_of, next, LegalFrom, after_from}
+use Rattle.mtapi_machine.specs.Legal.{NodeEntry, IsNext, next, LegalFrom, after_from}
 use Rattle.mtapi_machine.specs.Kept.{pends_alike, drops, is_dropped, kept}
 use Rattle.mtapi_machine.specs.Laws.{DropsRightly}
 use Rattle.mtapi_machine.proofs.Refusals.{entry_stays, idle_stays}

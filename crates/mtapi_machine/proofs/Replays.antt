@@ -9,7 +9,6 @@ use Rattle.mtapi_values.specs.declared.handles.TaskHandle.{TaskHandle}
 use Rattle.action_fn.specs.Answers.{Answered}
 use Rattle.mtapi_machine.specs.State.{State, seats}
 use Rattle.mtapi_machine.specs.Row.{Row, unless, says, gives, never, Allows}
-use Rattle.mtapi_machine.specs.Rows.{row}
 use Rattle.history.specs.Histories.{entry}
 use Rattle.mtapi_machine.specs.Legal.{NodeEntry, IsHonest, IsNext, row_of, next, LegalFrom}
 use Rattle.mtapi_machine.specs.Replay.{answer, is_sound, corrected, said_with, retold, put, replay}

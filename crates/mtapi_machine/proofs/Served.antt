@@ -1,7 +1,6 @@
 -- After every legal list each scheduled task has an eligible action on some worker.
 use Rattle.std.proofs.Common.{◌≡◌, ℕ, zero, suc, ◌+◌, Bool, true, false, cond, List, [], ◌∷◌, ◌++◌, Option, Some, None, refl, ap, subst}
 use Rattle.std.specs.Prelude.{◌==◌, ◌&&◌, not}
-use Rattle.mtapi_values.specs.declared.statuses.MtapiStatus.{MtapiStatus}
 use Rattle.mtapi_values.specs.declared.ends.TaskEnd.{TaskEnd}
 use Rattle.mtapi_values.specs.declared.ends.TaskEnd.TheVariants.{Cancelled}
 use Rattle.mtapi_machine.specs.declared.replies.Reply.{Reply}

@@ -1,11 +1,9 @@
 -- The worked histories, computed.
-use Rattle.std.proofs.Common.{◌≡◌, ℕ, zero, suc, ◌+◌, ◌≤◌, true, false, List, [], ◌∷◌, length, refl, sym, ◌∙◌, ap, arith}
+use Rattle.std.proofs.Common.{◌≡◌, ℕ, ◌≤◌, List, [], ◌∷◌, refl, ap, arith}
 use Rattle.action_fn.specs.Answers.{fits, answer_of}
 use Rattle.handle_pool.specs.Issued.{live_of, issue, change, listed, issued_at, retired, is_full, may_issue}
 use Rattle.job_table.specs.Actions.{has_worker}
 use Rattle.task_core.specs.Tasks.{end_each}
-use Rattle.mtapi_values.specs.declared.statuses.MtapiStatus.TheVariants as status
-use Rattle.mtapi_values.specs.declared.ends.TaskEnd.TheVariants.{Cancelled}
 use Rattle.mtapi_machine.specs.declared.replies.Reply.{Reply}
 use Rattle.mtapi_machine.specs.declared.replies.Reply.TheVariants as reply
 use Rattle.mtapi_machine.specs.State.{opening}
@@ -13,7 +11,7 @@ use Rattle.mtapi_machine.specs.Rows.{is_ready, can_take, has_better}
 use Rattle.mtapi_machine.specs.Legal.{NodeEntry, Fits, Legal}
 use Rattle.mtapi_machine.specs.Kept.{skipped, no_counts}
 use Rattle.mtapi_machine.specs.Replay.{replay}
-use Rattle.mtapi_machine.specs.Worked.{terms_for, usual, first_handle, nothing_asked, one_task, used_again, place_retires, one_waiter, stopped_watch, whole_watch, refused_by_phase, refused_starts, urgent_first, released_first, final_too_early, limit_too_early, idle_beside_a_task, urgent_left, stops_beside_a_task, looked_twice, issued_twice}
+use Rattle.mtapi_machine.specs.Worked.{terms_for, usual, nothing_asked, one_task, used_again, place_retires, one_waiter, stopped_watch, whole_watch, refused_by_phase, refused_starts, urgent_first, released_first, final_too_early, limit_too_early, idle_beside_a_task, urgent_left, stops_beside_a_task, looked_twice, issued_twice}
 use Rattle.mtapi_machine.proofs.Replays.{legal_if, replay_if}
 
 fitting_terms : (tasks generations : ℕ) → 1 ≤ tasks → tasks ≤ 65536 → 1 ≤ generations → generations ≤ 4294967295 → Fits (terms_for tasks generations)

@@ -1,5 +1,5 @@
 -- Laws of the machine: what each of these says is proved by the function that names it.
-use Rattle.std.specs.Prelude.{◌≡◌, ◌⊎◌, ℕ, Bool, true, false, ◌==◌, List, [], ◌∷◌, ◌++◌, Option, Some, None, if◌then◌else◌}
+use Rattle.std.specs.Prelude.{◌≡◌, ◌⊎◌, ℕ, Bool, true, false, List, [], ◌∷◌, ◌++◌, Some}
 use Rattle.mtapi_values.specs.declared.statuses.MtapiStatus.{MtapiStatus}
 use Rattle.mtapi_values.specs.declared.statuses.MtapiStatus.TheVariants.{Timeout}
 use Rattle.mtapi_values.specs.declared.ends.TaskEnd.{TaskEnd}
@@ -12,8 +12,8 @@ use Rattle.handle_pool.specs.Issued.{Listed, at, live_of}
 use Rattle.job_table.specs.Actions.{has_worker}
 use Rattle.task_core.specs.Tasks.{Task, is_unstarted, end_of}
 use Rattle.mtapi_machine.specs.State.{State, workers, opening}
-use Rattle.mtapi_machine.specs.Legal.{NodeEntry, IsNext, next, LegalFrom, Legal, after_from, after}
-use Rattle.mtapi_machine.specs.Kept.{is_dropped, kept, is_pending}
+use Rattle.mtapi_machine.specs.Legal.{NodeEntry, IsNext, next, LegalFrom, Legal, after}
+use Rattle.mtapi_machine.specs.Kept.{is_dropped, kept}
 use Rattle.mtapi_machine.specs.Replay.{replay}
 
 -- every prefix of a legal list is legal

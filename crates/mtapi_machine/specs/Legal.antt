@@ -1,5 +1,5 @@
 -- Legal histories.
-use Rattle.std.specs.Prelude.{ℕ, ◌<◌, ◌≤◌, List, [], ◌∷◌}
+use Rattle.std.specs.Prelude.{◌<◌, ◌≤◌, List, [], ◌∷◌}
 use Rattle.history.specs.declared.entries.Entry.{Entry}
 use Rattle.action_fn.specs.Answers.{IsAnswered}
 use Rattle.mtapi_values.specs.Attributes.{AreNodeSettings}

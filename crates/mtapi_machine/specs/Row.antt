@@ -4,8 +4,8 @@ use Rattle.std.specs.Bool.{MatchBool}
 use Rattle.mtapi_values.specs.declared.statuses.MtapiStatus.{MtapiStatus}
 use Rattle.mtapi_values.specs.declared.statuses.MtapiStatus.TheVariants as m
 use Rattle.mtapi_machine.specs.declared.replies.Reply.{Reply}
-use Rattle.mtapi_machine.specs.declared.replies.Reply.TheVariants.{Handle, Pending, Mtapi}
-use Rattle.handle_pool.specs.Issued.{Listed, at, issue, is_full, may_issue}
+use Rattle.mtapi_machine.specs.declared.replies.Reply.TheVariants.{Handle, Mtapi}
+use Rattle.handle_pool.specs.Issued.{at, issue, is_full, may_issue}
 use Rattle.mtapi_machine.specs.State.{State, workers, is_open, is_up, Objects}
 
 -- what an op does in a state

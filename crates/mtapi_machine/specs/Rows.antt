@@ -18,7 +18,7 @@ use Rattle.handle_pool.specs.Issued.{live_of, at, any}
 use Rattle.job_table.specs.Actions.{Action, new_action, action_create_refusals, with_enabled, has_job, has_enabled_job, is_eligible, has_worker}
 use Rattle.task_core.specs.Tasks.{Task, NewTask, new_task, TaskState, Scheduled, Running, Over, is_unstarted, is_unended, runs_on, with_state, cancel_requested, task_look_refusals, with_waiter, finish_refusals, asked_refusals, asked_once, watch_end_refusals, watch_end}
 use Rattle.queue_core.specs.Queues.{lets, is_shut_in}
-use Rattle.mtapi_machine.specs.State.{State, workers, is_new, is_late, Objects, actions, tasks, changed, without, end_task, end_tasks}
+use Rattle.mtapi_machine.specs.State.{State, workers, is_new, is_late, actions, tasks, changed, without, end_task, end_tasks}
 use Rattle.mtapi_machine.specs.Row.{Row, unless, says, gives, never, mtapi_unless, mtapi, mtapi_open, work, on, creates}
 
 -- Starting tasks

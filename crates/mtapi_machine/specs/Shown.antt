@@ -1,5 +1,5 @@
 -- What the pools, the ready index, the groups and the queues of a node must show of a state.
-use Rattle.std.specs.Prelude.{ℕ, zero, suc, ◌+◌, ◌^◌, Bool, not, ◌||◌, ◌==◌, List, [], ◌∷◌, if◌then◌else◌}
+use Rattle.std.specs.Prelude.{ℕ, zero, suc, ◌+◌, ◌^◌, Bool, List, [], ◌∷◌, if◌then◌else◌}
 use Rattle.handle_pool.specs.Issued.{live_of, any_live}
 use Rattle.job_table.specs.Actions.{is_eligible}
 use Rattle.task_core.specs.Tasks.{Task}
