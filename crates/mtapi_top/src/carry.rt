@@ -1,8 +1,8 @@
 //! The command, from words to a status.
 ghost use Rattle.std.specs.Prelude.{◌≡◌, ◌≤◌, ◌⊎◌, ◌↔◌, IfSome, IsSome, IsOk, true, false};
-ghost use Rattle.std.specs.Io.KnownBytes.{Appends};
+ghost use Rattle.std.specs.Io.KnownBytes.{Appends, IsAtEnd};
 ghost use Rattle.outside.specs.Causes.{Rose, AppendsFront};
-ghost use Rattle.mtapi_top.specs.Command.{is_run, texts, Ends, IsTold, IsNone, IsRefused, IsBuilt};
+ghost use Rattle.mtapi_top.specs.Command.{is_run, texts, Ends, IsTold, IsNone, IsRefused, IsBuilt, journal_of};
 ghost use Rattle.mtapi_top.specs.Headline.{Ran};
 ghost use Rattle.mtapi_top.specs.declared.ends.End.{End};
 
@@ -35,6 +35,8 @@ fn carry_out<S: Source, W: Sink, A: ActionSource>(
     ensures end { Ends (is_run (texts words.now)) (S.left src.old) (S.faults src.old) (S.faults src.new)
         (W.held out.old) (W.held out.new) (W.faults out.old) (W.faults out.new) result }
     ensures later { (S.faults src.old ≤ S.faults src.new) × (W.faults out.old ≤ W.faults out.new) }
+    ensures unread { is_run (texts words.now) ≡ false → (S.left src.new ≡ S.left src.old) × (S.faults src.new ≡ S.faults src.old) }
+    ensures whole { IfSome (journal_of result) (λ journal. IfSome (S.left src.old) (λ bytes. IsAtEnd (S.left src.new))) }
 {
     if !is_run(words) {
         return End::Usage;
@@ -82,6 +84,10 @@ pub fn command<S: Source, W: Sink, E: Sink, A: ActionSource>(
         → IfSome (S.left src.old) (λ bytes. IsRefused bytes → (result.status ≡ 3) ⊎ (result.status ≡ 6)) }
     ensures read_fault { result.status ≡ 4 → Rose (S.faults src.old) (S.faults src.new) }
     ensures write_fault { result.status ≡ 5 → Rose (W.faults out.old) (W.faults out.new) }
+
+    // Where the words aren't `run`, nothing is read; where a run finished, the input was read to its end.
+    ensures unread { is_run (texts words.now) ≡ false → (S.left src.new ≡ S.left src.old) × (S.faults src.new ≡ S.faults src.old) }
+    ensures whole { IfSome result.journal (λ journal. IfSome (S.left src.old) (λ bytes. IsAtEnd (S.left src.new))) }
 
     // Nothing is written with another status.
     ensures nothing { (result.status ≡ 0 → ⊥) → (result.status ≡ 5 → ⊥) → W.held out.new ≡ W.held out.old }
