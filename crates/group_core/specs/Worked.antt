@@ -1,5 +1,5 @@
 -- Worked rows of a group's members, each decided by computing.
-use Rattle.std.specs.Prelude.{◌≡◌, ℕ, Option, Some, None}
+use Rattle.std.specs.Prelude.{◌≡◌, ℕ, Some, None}
 use Rattle.group_core.specs.Members.{Members, no_members, with_member, with_ended, without_first, counts_of, first_ended}
 
 -- two tasks, by their handles: the first has the lower slot

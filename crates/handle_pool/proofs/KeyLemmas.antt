@@ -1,5 +1,5 @@
 -- Live values by a key: what a list of issued objects answers for one, from the slots that stand for it.
-use Rattle.std.proofs.Common.{◌≡◌, ℕ, Bool, true, false, List, Option, Some, None, refl, sym, ap, ◌∙◌}
+use Rattle.std.proofs.Common.{◌≡◌, ℕ, true, false, List, Some, None, sym, ◌∙◌}
 use Rattle.std.specs.Prelude.{◌==◌}
 use Rattle.std.proofs.lemmas.Bool.{eqb-true, eq-eqb}
 use Rattle.handle_pool.specs.Slots.{Slots, get, SomeLive, NoneLive, HasLive, OneEach}

@@ -16,11 +16,9 @@ use Rattle.mtapi_machine.specs.declared.ops.Op.TheVariants as op
 use Rattle.mtapi_machine.specs.declared.replies.Reply.TheVariants as reply
 use Rattle.mtapi_machine.specs.Legal.{NodeEntry, Legal}
 use Rattle.node_core.specs.declared.entries.Journal.{Journal}
-use Rattle.sched_workers.specs.RunOf.{RunOf, ClosesAtEnd}
 use Rattle.sched_workers.specs.Inline.{IsBuilt, AllBuilt, IsCarried, RanInline, terms_for}
-use Rattle.history_law.specs.Accepted.{TasksEndOnce}
 use Rattle.history_law.proofs.Accepted.{accepted_end}
-use Rattle.mtapi_top.specs.Built.{is_built, first_unbuilt, first_line, unbuilt_in, unbuilt_line}
+use Rattle.mtapi_top.specs.Built.{is_built, first_unbuilt, unbuilt_in, unbuilt_line}
 use Rattle.mtapi_top.specs.Headline.{IsRun, told_terms}
 
 built_is : (d : Deed) → is_built d ≡ true → IsBuilt d

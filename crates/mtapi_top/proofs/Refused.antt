@@ -1,17 +1,13 @@
 -- A status of 3 is a refusal, and what is refused has it.
-use Rattle.std.proofs.Common.{◌≡◌, ◌⊎◌, ℕ, ◌≤◌, ◌<◌, Bool, true, false, List, Option, Some, None, refl, sym, ◌∙◌, inl, inr, arith}
-use Rattle.std.specs.Prelude.{length, IfSome, Result, Ok, Err}
-use Rattle.std.specs.Io.KnownBytes.{Appends}
-use Rattle.outside.specs.Causes.{Rose, AppendsFront}
-use Rattle.workload_file.specs.declared.workload.Workload.{Workload}
-use Rattle.workload_file.specs.Reading.{workload_of}
+use Rattle.std.proofs.Common.{◌≡◌, ◌⊎◌, ℕ, Bool, true, List, Option, Some, None, refl, sym, ◌∙◌, inl, inr, arith}
+use Rattle.std.specs.Prelude.{IfSome}
+use Rattle.outside.specs.Causes.{Rose}
 use Rattle.node_core.specs.declared.entries.Journal.{Journal}
 use Rattle.mtapi_top.specs.declared.ends.End.{End}
 use Rattle.mtapi_top.specs.declared.ends.End.TheVariants as end
 use Rattle.mtapi_top.specs.declared.ends.Outcome.{Outcome}
-use Rattle.mtapi_top.specs.Built.{unbuilt_line}
 use Rattle.mtapi_top.specs.Headline.{Ran}
-use Rattle.mtapi_top.specs.Command.{Ends, IsRefused, IsNone, IsUnbuilt, status_of, has_line, IsTold}
+use Rattle.mtapi_top.specs.Command.{Ends, IsRefused, status_of, has_line, IsTold}
 
 -- what was told of an end
 abbrev pub Told : End → ℕ → ℕ → Option (List ℕ) → Option (List ℕ) → Outcome → Type 0

@@ -1,9 +1,8 @@
 -- The report of a run reads for each statement the reply to which its own call came.
-use Rattle.std.proofs.Common.{◌≡◌, ℕ, suc, ◌+◌, ◌≤◌, Bool, true, false, not, cond, List, [], ◌∷◌, ◌++◌, length, Option, Some, None, refl, sym, ◌∙◌, ap, subst, arith, drop}
+use Rattle.std.proofs.Common.{◌≡◌, ℕ, suc, ◌+◌, Bool, true, false, not, cond, List, [], ◌∷◌, ◌++◌, length, Option, Some, None, refl, sym, ◌∙◌, ap, subst, arith, drop}
 use Rattle.std.specs.Prelude.{◌==◌, ◌&&◌}
 use Rattle.workload_file.specs.declared.workload.Statement.{Statement}
 use Rattle.workload_file.specs.declared.workload.Part.{Part}
-use Rattle.workload_file.specs.declared.workload.Workload.{Workload}
 use Rattle.mtapi_machine.specs.declared.ops.Op.{Op}
 use Rattle.mtapi_machine.specs.declared.replies.Reply.{Reply}
 use Rattle.mtapi_machine.specs.declared.replies.Reply.TheVariants as reply
@@ -12,7 +11,7 @@ use Rattle.mtapi_machine.specs.Legal.{NodeEntry}
 use Rattle.mtapi_machine.specs.Kept.{is_pending}
 use Rattle.sched_workers.specs.Calls.{Call, Once, Looking, Unmade, call_of}
 use Rattle.sched_workers.specs.Lines.{Line, line, lines_of, before_it, Made, Carried}
-use Rattle.sched_workers.specs.RunOf.{has_begin, head_of, tail_of_main, MainRan, CallerRan, CallersRan, PartsRan, RunOf}
+use Rattle.sched_workers.specs.RunOf.{has_begin, head_of, tail_of_main, MainRan, CallerRan, CallersRan, PartsRan}
 use Rattle.run_report.specs.Replies.{decided, calls_before, further_told, all_told}
 use Rattle.mtapi_top.specs.Replies.{Answered, MainRead, CallerRead, CallersRead, PartsRead, ReadsTheRun}
 

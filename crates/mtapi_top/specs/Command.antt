@@ -7,7 +7,6 @@ use denote.Ref.{Bor}
 use Rattle.outside.specs.Causes.{Rose, AppendsFront}
 use Rattle.workload_file.specs.declared.workload.Workload.{Workload}
 use Rattle.workload_file.specs.declared.faults.Fault.{Fault}
-use Rattle.workload_file.specs.declared.faults.Cause.{Cause}
 use Rattle.workload_file.specs.Causes.{cause_text}
 use Rattle.workload_file.specs.Reading.{workload_of}
 use Rattle.node_core.specs.declared.entries.Journal.{Journal}

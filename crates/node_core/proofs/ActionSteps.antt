@@ -1,6 +1,6 @@
 -- The ops on actions are steps of the machine.
-use Rattle.std.proofs.Common.{◌≡◌, ◌⊎◌, inl, inr, ℕ, ◌+◌, ◌≤◌, Bool, true, false, not, List, Option, Some, None, Result, Ok, Err, refl, sym, ◌∙◌, ap, subst, arith}
-use Rattle.std.specs.Prelude.{◌&&◌, ◌==◌}
+use Rattle.std.proofs.Common.{◌≡◌, ◌⊎◌, inl, inr, ℕ, Bool, true, false, not, List, Option, Some, None, Result, Ok, Err, refl, sym, ◌∙◌, ap, subst, arith}
+use Rattle.std.specs.Prelude.{◌&&◌}
 use Rattle.mtapi_values.specs.declared.kinds.Kind.{Kind}
 use Rattle.mtapi_values.specs.declared.masks.Mask.{Mask}
 use Rattle.mtapi_values.specs.declared.handles.ActionHandle.{ActionHandle}
@@ -20,8 +20,8 @@ use Rattle.mtapi_machine.specs.declared.replies.Reply.TheVariants as reply
 use Rattle.mtapi_machine.specs.State.{State, is_open}
 use Rattle.mtapi_machine.specs.Row.{issues}
 use Rattle.node_core.specs.declared.node.Node.{Node}
-use Rattle.node_core.specs.Stands.{Lists, Holds, Live, Steps, state_of}
-use Rattle.node_core.proofs.Gives.{Gives, gives_this, met, past, met_in, past_all, at_some, at_none, steps, stays}
+use Rattle.node_core.specs.Stands.{Lists, Holds, Live, Steps}
+use Rattle.node_core.proofs.Gives.{Gives, gives_this, met, past, met_in, past_all, at_some, steps, stays}
 use Rattle.node_core.proofs.Moves.{found, full_list, room_in, may_be, holds_insert, holds_changed}
 
 pub not_true : (b : Bool) → b ≡ true → not b ≡ false

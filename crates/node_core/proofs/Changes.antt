@@ -1,9 +1,9 @@
 -- Changes of a list of issued objects that come to the same.
-use Rattle.std.proofs.Common.{◌≡◌, ℕ, ◌+◌, Bool, true, false, not, cond, List, [], ◌∷◌, Option, Some, None, refl, sym, ◌∙◌, ap, add-zero}
+use Rattle.std.proofs.Common.{◌≡◌, ℕ, ◌+◌, Bool, true, false, not, cond, List, [], ◌∷◌, Option, Some, None, refl, sym, ◌∙◌, ap}
 use Rattle.std.specs.Prelude.{◌==◌, ◌&&◌}
 use Rattle.mtapi_values.specs.declared.ends.TaskEnd.{TaskEnd}
 use Rattle.handle_pool.specs.Slots.{Slots, get, with_value, without}
-use Rattle.handle_pool.specs.Issued.{Listed, how_many, live_of, lookup, at, count, change, with_fields, gone, update, retire}
+use Rattle.handle_pool.specs.Issued.{Listed, live_of, lookup, at, count, change, with_fields, gone, update, retire}
 use Rattle.task_core.specs.Tasks.{Task, Over, is_unstarted, with_state, ended, end_each}
 use Rattle.task_core.specs.Table.{ended_in}
 use Rattle.queue_core.specs.Queues.{is_shut_in}

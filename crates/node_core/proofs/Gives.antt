@@ -1,16 +1,12 @@
 -- What a row gives: a reply that it allows, and the state after it. One word for each part of a row.
-use Rattle.std.proofs.Common.{◌≡◌, ℕ, ◌+◌, ◌≤◌, Bool, true, false, List, [], ◌∷◌, Option, Some, None, refl, sym, ◌∙◌, ap, subst, arith}
+use Rattle.std.proofs.Common.{◌≡◌, ℕ, ◌+◌, ◌≤◌, Bool, true, false, List, [], ◌∷◌, Option, Some, None, refl, sym, subst, arith}
 use Rattle.mtapi_values.specs.declared.statuses.MtapiStatus.{MtapiStatus}
 use Rattle.mtapi_values.specs.Conditions.{first}
-use Rattle.handle_pool.specs.Slots.{Slots, get, max_of, live_count, retired_count}
-use Rattle.handle_pool.specs.Issued.{Listed, at, is_full}
-use Rattle.handle_pool.specs.Stands.{Stands}
-use Rattle.handle_pool.proofs.StandsLemmas.{IsFull-limit}
 use Rattle.mtapi_machine.specs.declared.ops.Op.{Op}
 use Rattle.mtapi_machine.specs.declared.replies.Reply.{Reply}
 use Rattle.mtapi_machine.specs.declared.replies.Reply.TheVariants.{Mtapi}
 use Rattle.mtapi_machine.specs.State.{State}
-use Rattle.mtapi_machine.specs.Row.{Row, unless, says, gives, never, Allows, after_row, mtapi_unless, live}
+use Rattle.mtapi_machine.specs.Row.{Row, unless, says, gives, Allows, after_row, mtapi_unless, live}
 use Rattle.mtapi_machine.specs.Rows.{row}
 use Rattle.mtapi_machine.specs.Legal.{IsHonest}
 use Rattle.node_core.specs.declared.node.Node.{Node}

@@ -2,8 +2,7 @@
 use Rattle.std.proofs.Common.{◌≡◌, ℕ, ◌+◌, ◌<◌, ◌≤◌, false, List, [], ◌∷◌, ◌++◌, ◌^◌, length, length-append, replicate, refl, sym, ◌∙◌, ap, subst, arith}
 use Rattle.std.proofs.lemmas.List.{length-replicate}
 use Rattle.mtapi_values.specs.Attributes.{NodeSettings, AreNodeSettings}
-use Rattle.handle_pool.specs.Slots.{Slots, Slot, free_slot, max_of}
-use Rattle.handle_pool.specs.Issued.{Listed}
+use Rattle.handle_pool.specs.Slots.{Slots, free_slot}
 use Rattle.mtapi_values.specs.Seats.{no_marks}
 use Rattle.job_table.specs.Actions.{Action}
 use Rattle.task_core.specs.Table.{TaskTable}
@@ -13,11 +12,11 @@ use Rattle.mtapi_machine.specs.declared.ops.Op.{Op}
 use Rattle.mtapi_machine.specs.declared.replies.Reply.{Reply}
 use Rattle.mtapi_machine.specs.declared.terms.Terms.{Terms}
 use Rattle.mtapi_machine.specs.declared.terms.Phase.TheVariants.{New}
-use Rattle.mtapi_machine.specs.State.{State, opening}
-use Rattle.mtapi_machine.specs.Legal.{NodeEntry, IsNext, next, LegalFrom, Legal, Fits, after_from, after}
+use Rattle.mtapi_machine.specs.State.{State}
+use Rattle.mtapi_machine.specs.Legal.{NodeEntry, IsNext, next, LegalFrom, Legal, after_from, after}
 use Rattle.mtapi_machine.proofs.Lists.{Legal-append, Legal-one, after-one}
 use Rattle.node_core.specs.declared.node.Node.{Node}
-use Rattle.node_core.specs.Stands.{Lists, Holds, Pools, Live, StepsTo, Steps, Stands, state_of, terms_of, seat_count}
+use Rattle.node_core.specs.Stands.{Lists, Holds, Pools, Live, Steps, Stands, state_of, terms_of, seat_count}
 
 -- a new pool holds the empty list
 pub holds_new : {T : Type 0} (size turns : ℕ) (p : Slots T) → 1 ≤ turns → size ≤ 65536 → p.generations ≡ turns → p.slots ≡ replicate size (free_slot 1) → Holds size turns p []

@@ -1,8 +1,8 @@
 -- What a journal keeps of a list with one more entry.
-use Rattle.std.proofs.Common.{◌≡◌, ℕ, zero, suc, ◌+◌, ◌<◌, ◌≤◌, Bool, true, false, cond, List, [], ◌∷◌, ◌++◌, length, get_or, set, replicate, refl, sym, ◌∙◌, ap, subst, arith}
+use Rattle.std.proofs.Common.{◌≡◌, ℕ, zero, suc, ◌+◌, ◌≤◌, Bool, true, false, cond, List, [], ◌∷◌, ◌++◌, length, get_or, set, replicate, refl, ap, arith}
 use Rattle.std.specs.Prelude.{slice_index}
 use Rattle.mtapi_machine.specs.State.{State}
-use Rattle.mtapi_machine.specs.Legal.{NodeEntry, next, LegalFrom, after_from}
+use Rattle.mtapi_machine.specs.Legal.{NodeEntry, next, after_from}
 use Rattle.mtapi_machine.specs.Kept.{is_dropped, is_pending, kept, counted, counts_next, counts_after, skipped, no_counts}
 use Rattle.node_core.specs.Journals.{kept_of, skipped_of}
 

@@ -1,9 +1,8 @@
 -- The log of a list, with one more entry.
-use Rattle.std.proofs.Common.{◌≡◌, ℕ, ◌+◌, ◌<◌, ◌≤◌, ◌^◌, Bool, true, false, List, [], ◌∷◌, ◌++◌, length, length-append, refl, sym, ◌∙◌, ap, subst, arith}
-use Rattle.std.specs.Prelude.{slice_index, Option, Some, None, Result, Ok, Err, IfOk, IfSome, IsErr, IsNone, ◌↔◌}
+use Rattle.std.proofs.Common.{◌≡◌, ℕ, ◌+◌, ◌<◌, ◌^◌, Bool, true, false, List, [], ◌∷◌, ◌++◌, length, length-append, refl, sym, ◌∙◌, ap, subst, arith}
+use Rattle.std.specs.Prelude.{slice_index, Option, None, Result, Ok, IfOk, IfSome, IsErr, ◌↔◌}
 use Rattle.std.specs.declared.alloc.AllocError.{AllocError}
 use Rattle.node_core.specs.declared.entries.Journal.{Journal}
-use Rattle.std.specs.Bool.{MatchBool}
 use Rattle.history.specs.Histories.{entry}
 use Rattle.mtapi_machine.specs.declared.ops.Op.{Op}
 use Rattle.mtapi_machine.specs.declared.replies.Reply.{Reply}

@@ -1,5 +1,5 @@
 -- Each move of a pool is a move of the list that it stands for.
-use Rattle.std.proofs.Common.{◌≡◌, ℕ, Bool, true, false, List, Option, Some, None, length-set, refl, sym, ◌∙◌, ap, subst}
+use Rattle.std.proofs.Common.{◌≡◌, ℕ, true, false, List, Option, Some, None, length-set, refl, sym, ◌∙◌, ap}
 use Rattle.std.specs.Option.{option_map}
 use Rattle.handle_pool.specs.Slots.{Slots, slot_of, generation_of, used_slot, slot_after, get, max_of, IsFull, Inserts, with_value, without, put, changed}
 use Rattle.handle_pool.specs.Issued.{Listed, at, is_full, may_issue, issue, update, retire}

@@ -1,16 +1,16 @@
 -- The ops on phases are steps of the machine.
-use Rattle.std.proofs.Common.{◌≡◌, ℕ, ◌+◌, ◌≤◌, Bool, true, false, List, [], length, refl, sym, ◌∙◌, ap, subst, arith, add-zero}
+use Rattle.std.proofs.Common.{◌≡◌, ℕ, ◌+◌, false, [], refl, ◌∙◌, ap, arith, add-zero}
 use Rattle.mtapi_values.specs.declared.ends.TaskEnd.TheVariants.{Cancelled}
 use Rattle.mtapi_machine.specs.declared.ops.Op.TheVariants as op
 use Rattle.mtapi_machine.specs.declared.replies.Reply.TheVariants as reply
 use Rattle.mtapi_machine.specs.declared.terms.Phase.TheVariants.{Closing}
-use Rattle.mtapi_machine.specs.State.{State, is_late, end_tasks}
+use Rattle.mtapi_machine.specs.State.{is_late, end_tasks}
 use Rattle.handle_pool.specs.Issued.{count}
-use Rattle.task_core.specs.Tasks.{Task, is_unstarted, end_each}
+use Rattle.task_core.specs.Tasks.{is_unstarted}
 use Rattle.queue_core.specs.Queues.{is_shut_in}
 use Rattle.node_core.specs.declared.node.Node.{Node}
 use Rattle.node_core.specs.Stands.{Lists, Live, Steps, state_of}
-use Rattle.node_core.proofs.Gives.{Gives, gives_this, past, steps}
+use Rattle.node_core.proofs.Gives.{past, steps}
 use Rattle.node_core.proofs.Changes.{ends-none, count-none, waits_in-none}
 use Rattle.std.specs.Prelude.{◌&&◌}
 

@@ -1,37 +1,37 @@
 -- A pick is a step of the machine.
-use Rattle.std.proofs.Common.{◌≡◌, ℕ, ◌+◌, ◌<◌, ◌≤◌, Bool, true, false, not, cond, List, [], ◌∷◌, Option, Some, None, refl, sym, ◌∙◌, ap, subst, arith}
+use Rattle.std.proofs.Common.{◌≡◌, ℕ, ◌+◌, ◌<◌, Bool, true, false, not, cond, [], Option, Some, None, refl, sym, ◌∙◌, ap, subst, arith}
 use Rattle.std.specs.Prelude.{◌&&◌, ◌||◌, nat_lt, is_some, is_none}
 use Rattle.std.proofs.lemmas.Bool.Decides.{nat_tests}
 use Rattle.mtapi_values.specs.Conditions.{holds}
 use Rattle.mtapi_values.specs.Masks.{in_mask}
-use Rattle.handle_pool.specs.Slots.{Slots, get, max_of, SomeLive, NoneLive, NoneBelow, changed}
-use Rattle.handle_pool.specs.Issued.{Listed, live_of, at, any, update}
+use Rattle.handle_pool.specs.Slots.{Slots, get, max_of, NoneLive, NoneBelow, changed}
+use Rattle.handle_pool.specs.Issued.{live_of, at, any, update}
 use Rattle.handle_pool.proofs.AnswerLemmas.{any-none, any-live, any-some}
 use Rattle.handle_pool.proofs.WalkLemmas.{NoneBelow-all, NoneBelow-used}
 use Rattle.handle_pool.specs.Slots.{used_at}
 use Rattle.std.specs.Prelude.{slice_get}
 use Rattle.job_table.specs.Actions.{Action, has_enabled_job, is_eligible}
-use Rattle.job_table.specs.Answers.{Chooses, runs_job_on}
+use Rattle.job_table.specs.Answers.{Chooses}
 use Rattle.task_core.specs.Tasks.{Task, Running, is_unstarted, runs_on, with_state}
 use Rattle.queue_core.specs.Queues.{Queue, lets}
 use Rattle.mtapi_machine.specs.declared.ops.Op.TheVariants as op
 use Rattle.mtapi_machine.specs.declared.replies.Reply.{Reply}
 use Rattle.mtapi_machine.specs.declared.replies.Reply.TheVariants as reply
-use Rattle.mtapi_machine.specs.State.{State, is_new, is_late}
+use Rattle.mtapi_machine.specs.State.{State, is_new}
 use Rattle.mtapi_machine.specs.Row.{Row, says, never}
-use Rattle.mtapi_machine.specs.Rows.{row, is_ready, can_take, has_better, may_take, takes, takes_chosen, picks, is_stop, stops_or}
+use Rattle.mtapi_machine.specs.Rows.{is_ready, can_take, has_better, may_take, takes, takes_chosen, picks, is_stop, stops_or}
 use Rattle.mtapi_values.specs.declared.handles.ActionHandle.{ActionHandle}
 use Rattle.mtapi_values.specs.declared.handles.QueueHandle.{QueueHandle}
 use Rattle.task_core.specs.Records.{queue_number}
 use Rattle.mtapi_values.specs.declared.kinds.Kind.{Kind}
 use Rattle.node_core.specs.declared.node.Node.{Node}
 use Rattle.node_core.specs.declared.walks.Choice.{Choice}
-use Rattle.node_core.specs.Stands.{Lists, Holds, Live, Steps, state_of}
+use Rattle.node_core.specs.Stands.{Lists, Live, Steps, state_of}
 use Rattle.node_core.specs.Picks.{RunsBy, Takeable, MayRun, Beats, IsChoice, BestBelow, Takes}
-use Rattle.node_core.proofs.Gives.{Gives, gives_this, says_this, past, steps, stays}
+use Rattle.node_core.proofs.Gives.{Gives, gives_this, says_this, past, stays}
 use Rattle.node_core.proofs.Moves.{found, holds_changed}
-use Rattle.node_core.proofs.StartSteps.{false≢true, and_true, and_left, and_right, eligible_in, runs_in}
-use Rattle.node_core.proofs.TaskSteps.{task_steps, with_pool, told}
+use Rattle.node_core.proofs.StartSteps.{and_true, and_left, and_right, eligible_in, runs_in}
+use Rattle.node_core.proofs.TaskSteps.{task_steps, with_pool}
 use Rattle.node_core.proofs.WorkSteps.{is_worker}
 
 -- Which action runs a task

@@ -1,5 +1,5 @@
 -- Why a new task is refused, from what the actions of its job cover.
-use Rattle.std.proofs.Common.{◌≡◌, ◌⊎◌, inl, inr, ℕ, zero, suc, ◌+◌, ◌<◌, ◌≤◌, Bool, true, false, not, cond, List, [], ◌∷◌, Option, Some, None, refl, sym, ◌∙◌, ap, subst, arith}
+use Rattle.std.proofs.Common.{◌≡◌, ◌⊎◌, inl, inr, ℕ, zero, suc, ◌<◌, Bool, true, false, not, cond, List, [], ◌∷◌, Option, Some, None, refl, sym, ◌∙◌, ap, arith}
 use Rattle.std.specs.Prelude.{◌&&◌, ◌==◌, nat_lt, is_some, is_none, ℤ}
 use Rattle.std.proofs.lemmas.Bool.Decides.{nat_tests}
 use Rattle.mtapi_values.specs.declared.masks.Mask.{Mask}
@@ -8,10 +8,10 @@ use Rattle.mtapi_values.specs.declared.statuses.MtapiStatus.{MtapiStatus}
 use Rattle.mtapi_values.specs.declared.statuses.MtapiStatus.TheVariants as m
 use Rattle.mtapi_values.specs.Conditions.{first, holds}
 use Rattle.mtapi_values.specs.Masks.{in_mask}
-use Rattle.handle_pool.specs.Slots.{Slots, get, SomeLive, NoneLive}
+use Rattle.handle_pool.specs.Slots.{Slots}
 use Rattle.handle_pool.specs.Issued.{Listed, live_of, at, any, any_live}
 use Rattle.handle_pool.proofs.AnswerLemmas.{any-none, any-live}
-use Rattle.job_table.specs.Actions.{Action, has_job, has_enabled_job, is_eligible, some_below, has_worker}
+use Rattle.job_table.specs.Actions.{Action, has_enabled_job, is_eligible, some_below, has_worker}
 use Rattle.job_table.specs.Answers.{Covers, IsUnion, runs_job_on}
 use Rattle.job_table.specs.declared.cover.Cover.{Cover}
 use Rattle.job_table.specs.declared.cover.Cover.TheVariants.{NoAction, AllDisabled, Cores}

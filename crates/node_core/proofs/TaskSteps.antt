@@ -1,6 +1,6 @@
 -- The ops on tasks are steps of the machine.
-use Rattle.std.proofs.Common.{◌≡◌, ℕ, ◌+◌, ◌≤◌, Bool, true, false, not, cond, List, [], ◌∷◌, Option, Some, None, Result, Ok, Err, refl, sym, ◌∙◌, ap, subst, arith}
-use Rattle.std.specs.Prelude.{◌&&◌, ◌||◌, nat_lt, is_some, is_none, ℤ}
+use Rattle.std.proofs.Common.{◌≡◌, ℕ, ◌+◌, ◌≤◌, Bool, true, false, not, cond, List, Option, Some, None, Result, Ok, Err, refl, sym, ◌∙◌, ap, subst, arith}
+use Rattle.std.specs.Prelude.{◌||◌, nat_lt, is_some, is_none, ℤ}
 use Rattle.std.specs.Option.{option_map}
 use Rattle.mtapi_values.specs.declared.kinds.Kind.{Kind}
 use Rattle.mtapi_values.specs.declared.masks.Mask.{Mask}
@@ -10,13 +10,11 @@ use Rattle.mtapi_values.specs.declared.statuses.MtapiStatus.{MtapiStatus}
 use Rattle.mtapi_values.specs.declared.statuses.MtapiStatus.TheVariants as m
 use Rattle.mtapi_values.specs.declared.ends.TaskEnd.{TaskEnd}
 use Rattle.mtapi_values.specs.declared.ends.TaskEnd.TheVariants.{Cancelled}
-use Rattle.mtapi_values.specs.Conditions.{first, holds}
-use Rattle.mtapi_values.specs.Masks.{in_mask}
+use Rattle.mtapi_values.specs.Conditions.{first}
 use Rattle.handle_pool.specs.Slots.{Slots, get, IsFull, Inserts, with_value, without, changed}
-use Rattle.handle_pool.specs.Issued.{Listed, live_of, at, any, any_live, change, issue, update, retire}
-use Rattle.job_table.specs.Actions.{Action, has_job, has_enabled_job, has_worker}
-use Rattle.task_core.specs.Tasks.{Task, TaskState, Scheduled, Running, Over, NewTask, new_task, end_of, runner, is_unstarted, is_unended, ended, cancel_requested, with_waiter, task_look_refusals}
-use Rattle.task_core.specs.Records.{asked_task, shown_state}
+use Rattle.handle_pool.specs.Issued.{Listed, change, issue, update, retire}
+use Rattle.task_core.specs.Tasks.{Task, TaskState, Scheduled, Running, Over, NewTask, new_task, end_of, ended, cancel_requested, with_waiter, task_look_refusals}
+use Rattle.task_core.specs.Records.{shown_state}
 use Rattle.task_core.specs.Answers.{look_reply, look_at_end, look_unless, waiter_after}
 use Rattle.task_core.specs.Table.{TaskTable, Adds, ended_in, looked_in}
 use Rattle.task_core.specs.declared.states.TaskLook.{TaskLook}
@@ -28,13 +26,12 @@ use Rattle.mtapi_machine.specs.declared.ops.Op.TheVariants as op
 use Rattle.mtapi_machine.specs.declared.replies.Reply.{Reply}
 use Rattle.mtapi_machine.specs.declared.replies.Reply.TheVariants as reply
 use Rattle.mtapi_machine.specs.State.{State, is_open, is_up}
-use Rattle.mtapi_machine.specs.Row.{Row}
-use Rattle.mtapi_machine.specs.Rows.{row, start_refusals, number_of, is_detached_member, looks_at, cancels}
+use Rattle.mtapi_machine.specs.Rows.{row, start_refusals, is_detached_member, looks_at, cancels}
 use Rattle.mtapi_machine.specs.Legal.{IsHonest}
 use Rattle.node_core.specs.declared.node.Node.{Node}
 use Rattle.node_core.specs.Stands.{Lists, Holds, Live, Steps, state_of}
 use Rattle.node_core.specs.Starts.{asked_for}
-use Rattle.node_core.proofs.Gives.{Gives, gives_this, says_this, met, past, met_in, past_all, at_some, at_none, steps, stays}
+use Rattle.node_core.proofs.Gives.{Gives, gives_this, met, past, met_in, past_all, at_some, at_none, steps, stays}
 use Rattle.node_core.proofs.Moves.{found, full_list, room_in, may_be, holds_insert, holds_changed, holds_update, holds_remove}
 use Rattle.node_core.proofs.Changes.{holds_ended}
 use Rattle.node_core.proofs.ActionSteps.{not_true, issues_this}

@@ -1,6 +1,6 @@
 -- The ops of workers are steps of the machine.
-use Rattle.std.proofs.Common.{◌≡◌, ℕ, ◌+◌, ◌<◌, ◌≤◌, Bool, true, false, not, cond, List, [], ◌∷◌, Option, Some, None, Result, Ok, Err, refl, sym, ◌∙◌, ap, subst, arith}
-use Rattle.std.specs.Prelude.{◌&&◌, ◌||◌, ◌==◌, nat_lt, is_some, is_none, slice_set}
+use Rattle.std.proofs.Common.{◌≡◌, ℕ, ◌<◌, Bool, true, false, not, cond, List, Option, Some, None, Result, Ok, Err, refl, sym, ◌∙◌, ap, subst, arith}
+use Rattle.std.specs.Prelude.{◌&&◌, nat_lt, is_none}
 use Rattle.std.specs.Ordering.{int_eq}
 use Rattle.std.specs.Cmp.Lexicographic.{pointwise}
 use Rattle.std.proofs.lemmas.Bool.Decides.{nat_tests}
@@ -8,35 +8,24 @@ use Rattle.mtapi_values.specs.declared.handles.TaskHandle.{TaskHandle}
 use Rattle.mtapi_values.specs.declared.statuses.MtapiStatus.{MtapiStatus}
 use Rattle.mtapi_values.specs.declared.statuses.MtapiStatus.TheVariants as m
 use Rattle.mtapi_values.specs.declared.ends.TaskEnd.{TaskEnd}
-use Rattle.mtapi_values.specs.Conditions.{first, holds}
-use Rattle.mtapi_values.specs.Masks.{in_mask}
+use Rattle.mtapi_values.specs.Conditions.{first}
 use Rattle.action_fn.specs.Answers.{Answered, IsAnswered}
-use Rattle.handle_pool.specs.Slots.{Slots, get, max_of, SomeLive, NoneLive, NoneBelow, with_value, put, changed}
-use Rattle.handle_pool.specs.Issued.{Listed, live_of, at, any, change, update}
-use Rattle.handle_pool.proofs.AnswerLemmas.{any-none, any-live, any-some}
-use Rattle.handle_pool.proofs.WalkLemmas.{NoneBelow-all}
-use Rattle.job_table.specs.Actions.{Action, has_enabled_job, is_eligible}
-use Rattle.job_table.specs.Answers.{runs_job_on}
-use Rattle.task_core.specs.Tasks.{Task, TaskState, Scheduled, Running, Over, is_unstarted, is_unended, runs_on, runs_as, runner, finish_refusals, asked_refusals, asked_once, watch_end_refusals, watch_end, with_state, ended}
-use Rattle.task_core.specs.Answers.{asked_of, asked_reply, after_asked, watch_end_of, unless_refused}
+use Rattle.handle_pool.specs.Slots.{get, with_value, put, changed}
+use Rattle.handle_pool.specs.Issued.{Listed, update}
+use Rattle.task_core.specs.Tasks.{Task, runs_as, finish_refusals, asked_refusals, asked_once, watch_end_refusals, watch_end}
+use Rattle.task_core.specs.Answers.{asked_of, after_asked, watch_end_of, unless_refused}
 use Rattle.task_core.specs.Table.{TaskTable}
 use Rattle.mtapi_machine.specs.declared.ops.Op.{Op}
 use Rattle.mtapi_machine.specs.declared.ops.Op.TheVariants as op
 use Rattle.mtapi_machine.specs.declared.replies.Reply.{Reply}
 use Rattle.mtapi_machine.specs.declared.replies.Reply.TheVariants as reply
-use Rattle.mtapi_machine.specs.State.{State, is_new, is_late}
-use Rattle.mtapi_machine.specs.Row.{Row}
-use Rattle.mtapi_machine.specs.Rows.{row, task_end, is_ready, can_take, has_better, may_take, takes, takes_chosen, picks, is_stop, stops_or}
+use Rattle.mtapi_machine.specs.Rows.{task_end}
 use Rattle.std.specs.Option.{option_map}
-use Rattle.queue_core.specs.Queues.{Queue, lets}
 use Rattle.mtapi_machine.proofs.Drops.{update-same}
 use Rattle.node_core.specs.declared.node.Node.{Node}
-use Rattle.node_core.specs.declared.walks.Choice.{Choice}
-use Rattle.node_core.specs.Stands.{Lists, Holds, Live, Steps, state_of}
-use Rattle.node_core.specs.Picks.{RunsBy, Takeable, Beats, IsChoice, BestBelow, Takes}
-use Rattle.node_core.proofs.Gives.{Gives, gives_this, says_this, met, past, met_in, past_all, at_some, at_none, steps, stays}
+use Rattle.node_core.specs.Stands.{Lists, Holds, Live, Steps}
+use Rattle.node_core.proofs.Gives.{gives_this, past, met_in, past_all, at_some, at_none, stays}
 use Rattle.node_core.proofs.Moves.{found, holds_changed}
-use Rattle.node_core.proofs.ActionSteps.{not_true}
 use Rattle.node_core.proofs.TaskSteps.{task_steps, with_pool, told, ended_tasks, end_steps}
 
 -- a worker's seat

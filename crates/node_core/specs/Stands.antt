@@ -1,6 +1,6 @@
 -- What it means that a node stands for a history.
-use Rattle.std.specs.Prelude.{◌≡◌, ℕ, ◌+◌, ◌≤◌, ◌<◌, List, [], length}
-use Rattle.mtapi_values.specs.Attributes.{NodeSettings, AreNodeSettings}
+use Rattle.std.specs.Prelude.{◌≡◌, ℕ, ◌+◌, ◌≤◌, List, [], length}
+use Rattle.mtapi_values.specs.Attributes.{NodeSettings}
 use Rattle.handle_pool.specs.Slots.{Slots, max_of}
 use Rattle.handle_pool.specs.Issued.{Listed}
 use Rattle.handle_pool.specs.Stands.{Stands as SlotsStand}
@@ -12,8 +12,7 @@ use Rattle.mtapi_machine.specs.declared.replies.Reply.{Reply}
 use Rattle.mtapi_machine.specs.State.{State}
 use Rattle.mtapi_machine.specs.Row.{Allows, after_row}
 use Rattle.mtapi_machine.specs.Rows.{row}
-use Rattle.mtapi_machine.specs.Legal.{NodeEntry, IsHonest, Legal, Fits, after}
-use Rattle.node_core.specs.declared.node.Core.{Core}
+use Rattle.mtapi_machine.specs.Legal.{NodeEntry, IsHonest, Legal, after}
 use Rattle.node_core.specs.declared.node.Node.{Node}
 
 -- the objects that were ever made, of the kinds that a node has so far

@@ -102,16 +102,6 @@ pub(crate) struct Choice {
 }
 
 impl Node {
-    // The record of a live task.
-    pub(crate) fn live_task(&self, task: TaskHandle) -> Option<&TaskRecord>
-        ensures { option_copied result ≡ get self.now.tasks.pool task.0 }
-    {
-        match self.tasks.slot_at((task.0 % 0x1_0000_0000) as u32) {
-            Some((handle, found)) if handle.0 == task.0 => Some(found),
-            _ => None,
-        }
-    }
-
     // Whether a live task runs on the worker.
     pub(crate) fn runs_any(&self, worker: u32) -> bool
         ensures { (l : Lists) → Live self.now l → any (runs_on worker) l.tasks ≡ result }

@@ -70,7 +70,7 @@ impl Node {
         if who >= self.core.settings.workers() {
             return Reply::Mtapi(MtapiStatus::ErrParameter);
         }
-        match self.live_task(task) {
+        match self.tasks.get(task) {
             Some(found) if runs_so(found, who, &done) => {}
             _ => return Reply::Mtapi(MtapiStatus::ErrTaskInvalid),
         }

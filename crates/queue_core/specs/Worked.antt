@@ -1,7 +1,7 @@
 -- Worked rows of a queue's tasks, each decided by computing.
 use Rattle.std.specs.Prelude.{◌≡◌, ℕ, Bool, true, false, [], Some, None, Ok, Err}
 use Rattle.mtapi_values.specs.declared.statuses.MtapiStatus.TheVariants.{ErrQueueDisabled, ErrQueueLimit}
-use Rattle.queue_core.specs.Held.{HeldQueue, held, with_opened, with_task, without_task, put_reply, first_task, facts_of}
+use Rattle.queue_core.specs.Held.{HeldQueue, held, with_opened, with_task, without_task, put_reply, first_task}
 
 -- two tasks, by their handles: the one that is put first has the higher slot
 abbrev pub earlier : ℕ

@@ -3,13 +3,12 @@ use Rattle.std.proofs.Common.{◌≡◌, ℕ, zero, suc, ◌+◌, ◌*◌, ◌<�
 use Rattle.std.proofs.lemmas.List.{append-nil}
 use Rattle.workload_file.specs.declared.workload.Statement.{Statement}
 use Rattle.mtapi_machine.specs.declared.terms.Terms.{Terms}
-use Rattle.mtapi_machine.specs.Row.{handle_of}
 use Rattle.mtapi_machine.specs.Legal.{NodeEntry}
 use Rattle.sched_workers.specs.declared.inline.Runner.{Runner}
 use Rattle.sched_workers.specs.Calls.{call_of}
 use Rattle.sched_workers.specs.Turns.{Turn}
 use Rattle.sched_workers.specs.Whole.{CarriedBy}
-use Rattle.sched_workers.specs.Inline.{Went, Going, spent, Moved, Makes, Called, Carries, CarriedOut, IsBuilt, AllBuilt}
+use Rattle.sched_workers.specs.Inline.{Went, Going, spent, Moved, Called, CarriedOut, IsBuilt, AllBuilt}
 use Rattle.sched_workers.proofs.Going.{moves_none, moved_then}
 
 -- main's turns of the statements so far: what is left may follow

@@ -1,9 +1,8 @@
 -- How main closes the node, and each worker stops.
-use Rattle.std.proofs.Common.{◌≡◌, ℕ, zero, suc, ◌+◌, ◌<◌, ◌≤◌, Bool, true, false, cond, List, [], ◌∷◌, ◌++◌, refl, sym, ◌∙◌, ap, subst, arith, append_assoc, inl, inr}
+use Rattle.std.proofs.Common.{◌≡◌, ℕ, suc, ◌+◌, ◌<◌, ◌≤◌, Bool, true, false, cond, List, [], ◌∷◌, ◌++◌, refl, sym, ◌∙◌, ap, subst, arith, append_assoc, inl, inr}
 use Rattle.std.specs.Prelude.{◌==◌, nat_lt}
 use Rattle.std.proofs.lemmas.Bool.Decides.{nat_tests}
 use Rattle.std.proofs.lemmas.Bool.{cases_Bool, ltb-true, ltb-false}
-use Rattle.std.proofs.lemmas.List.{append-nil}
 use Rattle.history.specs.Histories.{entry, entries_of}
 use Rattle.handle_pool.specs.Issued.{any}
 use Rattle.task_core.specs.Tasks.{is_unended}
@@ -12,14 +11,13 @@ use Rattle.mtapi_machine.specs.declared.ops.Op.TheVariants as op
 use Rattle.mtapi_machine.specs.declared.replies.Reply.{Reply}
 use Rattle.mtapi_machine.specs.declared.replies.Reply.TheVariants.{Ok, Stop}
 use Rattle.mtapi_machine.specs.declared.terms.Terms.{Terms}
-use Rattle.mtapi_machine.specs.State.{State, workers, opening}
-use Rattle.mtapi_machine.specs.Legal.{NodeEntry, IsNext, next, after, after_from}
+use Rattle.mtapi_machine.specs.State.{State, workers}
+use Rattle.mtapi_machine.specs.Legal.{NodeEntry, next, after, after_from}
 use Rattle.mtapi_machine.specs.Kept.{pends_alike, drops}
-use Rattle.mtapi_machine.proofs.Lists.{after-append}
 use Rattle.sched_workers.specs.declared.inline.Runner.{Runner}
-use Rattle.sched_workers.specs.Turns.{Turn, stayed, turn_of, turns_of}
+use Rattle.sched_workers.specs.Turns.{stayed, turn_of, turns_of}
 use Rattle.sched_workers.specs.Good.{Shut}
-use Rattle.sched_workers.specs.Inline.{Stood, Standing, Went, Turned, Turns, Closed, ClosesAll, Over}
+use Rattle.sched_workers.specs.Inline.{Stood, Standing, Went, Turned, Turns, ClosesAll, Over}
 use Rattle.sched_workers.proofs.Fair.{self_is}
 use Rattle.sched_workers.proofs.Phases.{closed, stopped, finalized}
 use Rattle.sched_workers.proofs.Going.{turns_append, few_workers}

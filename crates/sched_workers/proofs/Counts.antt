@@ -1,18 +1,17 @@
 -- How many tasks are scheduled, and that none runs, before and after an entry of main; and which actions there are.
-use Rattle.std.proofs.Common.{◌≡◌, ℕ, zero, suc, ◌+◌, ◌<◌, ◌≤◌, Bool, true, false, not, cond, List, [], ◌∷◌, ◌++◌, Option, Some, None, refl, sym, ◌∙◌, ap, subst, arith}
-use Rattle.std.specs.Prelude.{◌==◌, ◌&&◌, is_some}
+use Rattle.std.proofs.Common.{◌≡◌, ℕ, ◌+◌, ◌≤◌, Bool, true, false, cond, List, [], ◌∷◌, Option, Some, None, refl, arith}
+use Rattle.std.specs.Prelude.{◌==◌, ◌&&◌}
 use Rattle.mtapi_values.specs.declared.ends.TaskEnd.{TaskEnd}
 use Rattle.mtapi_values.specs.declared.ends.TaskEnd.TheVariants.{Cancelled}
 use Rattle.action_fn.specs.Answers.{is_pure}
 use Rattle.mtapi_machine.specs.declared.replies.Reply.{Reply}
-use Rattle.mtapi_machine.specs.declared.replies.Reply.TheVariants.{Picked, Idle}
 use Rattle.mtapi_machine.specs.declared.ops.Op.{Op}
 use Rattle.mtapi_machine.specs.declared.ops.Op.TheVariants as op
-use Rattle.handle_pool.specs.Issued.{Listed, live_of, lookup, at, how_many, count, change, update, retire, issue, with_fields, gone, any, any_live}
-use Rattle.job_table.specs.Actions.{Action, new_action, with_enabled}
-use Rattle.task_core.specs.Tasks.{Task, TaskState, Scheduled, Running, Over, is_unstarted, runner, with_state, with_waiter, cancel_requested, asked_once, ended, end_each}
+use Rattle.handle_pool.specs.Issued.{Listed, at, count, change, update, issue, with_fields, gone}
+use Rattle.job_table.specs.Actions.{Action, with_enabled}
+use Rattle.task_core.specs.Tasks.{Task, TaskState, Scheduled, Running, Over, is_unstarted, with_waiter, cancel_requested, ended, end_each}
 use Rattle.mtapi_machine.specs.State.{State}
-use Rattle.mtapi_machine.specs.Row.{Row, says, never, live, issues}
+use Rattle.mtapi_machine.specs.Row.{Row, live, issues}
 use Rattle.mtapi_machine.specs.Rows.{row, looks_at, cancels}
 use Rattle.sched_workers.specs.Good.{EachTask as Each, EachAction, Rests, Resting, Pure, waiting, added, IsOnce, IsPureOp}
 use Rattle.sched_workers.proofs.Rows.{AllGives}

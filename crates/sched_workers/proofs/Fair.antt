@@ -1,8 +1,8 @@
 -- In every legal history a scheduled task has a worker that could take it, and a running one runs on a worker. So where no worker could
 -- take a task and none runs one, every task has ended.
-use Rattle.std.proofs.Common.{◌≡◌, ℕ, zero, suc, ◌+◌, ◌<◌, ◌≤◌, Bool, true, false, not, cond, List, [], ◌∷◌, ◌++◌, Option, Some, None, refl, sym, ◌∙◌, ap, subst, arith, inl, inr}
+use Rattle.std.proofs.Common.{◌≡◌, ℕ, zero, suc, ◌+◌, ◌<◌, Bool, true, false, not, cond, List, [], ◌∷◌, ◌++◌, Option, Some, None, refl, sym, ◌∙◌, ap, subst, arith}
 use Rattle.std.specs.Prelude.{◌==◌, ◌&&◌, ◌||◌, nat_lt, is_none}
-use Rattle.std.proofs.lemmas.Bool.{ltb-true, lt-ltb}
+use Rattle.std.proofs.lemmas.Bool.{ltb-true}
 use Rattle.std.proofs.lemmas.Bool.Decides.{nat_tests}
 use Rattle.mtapi_values.specs.Conditions.{holds}
 use Rattle.mtapi_values.specs.declared.ends.TaskEnd.{TaskEnd}
@@ -11,12 +11,11 @@ use Rattle.mtapi_machine.specs.declared.replies.Reply.{Reply}
 use Rattle.mtapi_machine.specs.declared.replies.Reply.TheVariants.{Picked, Idle}
 use Rattle.mtapi_machine.specs.declared.ops.Op.{Op}
 use Rattle.mtapi_machine.specs.declared.ops.Op.TheVariants as op
-use Rattle.mtapi_machine.specs.declared.terms.Terms.{Terms}
 use Rattle.handle_pool.specs.Issued.{Listed, live_of, lookup, at, change, update, retire, issue, with_fields, gone, any, any_live}
 use Rattle.job_table.specs.Actions.{Action, is_eligible, some_below, has_worker}
-use Rattle.task_core.specs.Tasks.{Task, TaskState, Scheduled, Running, Over, is_unstarted, is_unended, runs_on, scheduled, runner, end_of, with_state, with_waiter, cancel_requested, asked_once, ended, end_each}
+use Rattle.task_core.specs.Tasks.{Task, TaskState, Scheduled, Running, Over, is_unended, runs_on, scheduled, runner, end_of, with_state, with_waiter, cancel_requested, asked_once, ended, end_each}
 use Rattle.queue_core.specs.Queues.{lets}
-use Rattle.mtapi_machine.specs.State.{State, workers, opening}
+use Rattle.mtapi_machine.specs.State.{State, workers}
 use Rattle.mtapi_machine.specs.Row.{Row, says, never, live, issues}
 use Rattle.mtapi_machine.specs.Rows.{row, is_ready, can_take, may_take, takes, takes_chosen, picks, is_stop, stops_or, looks_at, cancels}
 use Rattle.mtapi_machine.specs.Legal.{NodeEntry, row_of, next, LegalFrom, after_from}

@@ -1,5 +1,5 @@
 -- How a run on one thread goes on.
-use Rattle.std.proofs.Common.{◌≡◌, ℕ, zero, suc, ◌+◌, ◌-◌, ◌*◌, ◌^◌, ◌<◌, ◌≤◌, Bool, true, false, not, cond, List, [], ◌∷◌, ◌++◌, length, Option, Some, None, refl, sym, ◌∙◌, ap, subst, arith, append_assoc, ℤ, inl, inr}
+use Rattle.std.proofs.Common.{◌≡◌, ℕ, ◌+◌, ◌-◌, ◌<◌, ◌≤◌, Bool, true, false, not, cond, List, [], ◌∷◌, ◌++◌, length, Option, Some, None, refl, sym, ◌∙◌, ap, subst, arith, append_assoc, ℤ, inl, inr}
 use Rattle.std.specs.Prelude.{◌==◌, ◌&&◌, nat_lt}
 use Rattle.std.proofs.lemmas.Bool.Decides.{nat_tests}
 use Rattle.std.proofs.lemmas.Bool.{cases_Bool, ltb-true, ltb-false}
@@ -28,13 +28,13 @@ use Rattle.sched_workers.specs.declared.inline.Runner.{Runner}
 use Rattle.mtapi_values.specs.declared.timeouts.Timeout.{Timeout}
 use Rattle.mtapi_values.specs.declared.timeouts.Timeout.TheVariants.{NoWait, Looks as LooksMore, Infinite}
 use Rattle.mtapi_values.specs.Timeouts.{looks_of}
-use Rattle.sched_workers.specs.Calls.{Call, Once, Looking}
+use Rattle.sched_workers.specs.Calls.{Once, Looking}
 use Rattle.sched_workers.specs.Lines.{Within as InTime, is_late as out_of_looks}
 use Rattle.sched_workers.specs.Turns.{Turn, stayed, turn_of, turns_of}
 use Rattle.sched_workers.specs.Whole.{all_worked, none_of}
 use Rattle.sched_workers.specs.RunOf.{is_work}
-use Rattle.sched_workers.specs.Good.{Good, waiting, added, IsOnce, IsPureOp}
-use Rattle.sched_workers.specs.Inline.{Stood, Went, Standing, Going, spent, Turned, Turns, Moved, Moves, Quieted, Quiets, Idled, Idles, Stepped, WorkedOrIdle, Swept, Settled, Settles as SettlesAll, at_bound, either, Over, Called, IsPlainOp, TookAs}
+use Rattle.sched_workers.specs.Good.{Good, waiting, added, IsOnce}
+use Rattle.sched_workers.specs.Inline.{Stood, Went, Standing, Going, spent, Turned, Turns, Moved, Moves, Quiets, Idled, Idles, Stepped, WorkedOrIdle, Swept, Settled, Settles as SettlesAll, at_bound, either, Over, Called, IsPlainOp, TookAs}
 use Rattle.sched_workers.proofs.Rows.{once_settles, look_reply}
 use Rattle.sched_workers.proofs.Fair.{self_is, no_both}
 use Rattle.sched_workers.proofs.Counts.{IsMains}

@@ -1,6 +1,6 @@
 -- From a run in a whole history to the run in its journal.
-use Rattle.std.proofs.Common.{◌≡◌, ℕ, zero, suc, ◌+◌, ◌<◌, ◌≤◌, Bool, true, false, not, cond, List, [], ◌∷◌, ◌++◌, length, Option, Some, None, refl, sym, ◌∙◌, ap, subst, arith, append_assoc}
-use Rattle.std.specs.Prelude.{◌==◌, ◌&&◌, map}
+use Rattle.std.proofs.Common.{◌≡◌, ℕ, suc, ◌+◌, ◌≤◌, Bool, true, false, cond, List, [], ◌∷◌, ◌++◌, length, Some, None, refl, sym, ◌∙◌, ap, subst, arith, append_assoc}
+use Rattle.std.specs.Prelude.{◌==◌, ◌&&◌}
 use Rattle.std.proofs.lemmas.List.{append-nil}
 use Rattle.history.specs.Histories.{entry, entries_of}
 use Rattle.mtapi_values.specs.declared.timeouts.Timeout.{Timeout}
@@ -18,10 +18,10 @@ use Rattle.mtapi_machine.specs.Row.{handle_of}
 use Rattle.mtapi_machine.specs.Legal.{NodeEntry, next, after_from}
 use Rattle.mtapi_machine.specs.Kept.{is_dropped, is_pending, kept, skipped, no_counts}
 use Rattle.sched_workers.specs.Calls.{Call, Once, Looking, Unmade, call_of}
-use Rattle.sched_workers.specs.Lines.{Line, line, lines_of, Within, is_late, before_it, looks_before, Looked, Made, Carried}
-use Rattle.sched_workers.specs.RunOf.{has_begin, head_of, tail_of_main, MainRan, CallerRan, CallersRan, PartsRan, is_work, all_work, WorkerRan, ClosesAtEnd, RunOf}
+use Rattle.sched_workers.specs.Lines.{Line, line, Within, is_late, Made, Carried}
+use Rattle.sched_workers.specs.RunOf.{has_begin, head_of, MainRan, CallerRan, CallersRan, PartsRan, is_work, all_work, WorkerRan, ClosesAtEnd, RunOf}
 use Rattle.sched_workers.specs.Turns.{Turn, stayed, turns_of, lines_left}
-use Rattle.sched_workers.specs.Whole.{none_of, first_alone, pended, Looks, MadeBy, CarriedBy, head_turns, MainBy, CallerBy, CallersBy, PartsBy, all_worked, WorkerBy, RunBy, HasSeats}
+use Rattle.sched_workers.specs.Whole.{none_of, first_alone, pended, MadeBy, CarriedBy, head_turns, MainBy, CallerBy, CallersBy, PartsBy, all_worked, WorkerBy, RunBy, HasSeats}
 use Rattle.sched_workers.proofs.Left.{journal_lines}
 
 -- Pending looks that no journal keeps are counted

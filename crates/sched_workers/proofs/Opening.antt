@@ -1,17 +1,13 @@
 -- How main opens the node.
-use Rattle.std.proofs.Common.{◌≡◌, ℕ, ◌+◌, ◌≤◌, Bool, true, false, List, [], ◌∷◌, ◌++◌, refl, sym, ◌∙◌, ap, subst, arith}
+use Rattle.std.proofs.Common.{◌≡◌, true, false, [], ◌∷◌, refl, ◌∙◌, subst, arith}
 use Rattle.history.specs.Histories.{entry}
 use Rattle.mtapi_machine.specs.declared.ops.Op.TheVariants as op
 use Rattle.mtapi_machine.specs.declared.replies.Reply.{Reply}
 use Rattle.mtapi_machine.specs.declared.replies.Reply.TheVariants.{Ok}
-use Rattle.mtapi_machine.specs.declared.terms.Terms.{Terms}
-use Rattle.mtapi_machine.specs.State.{State, opening}
-use Rattle.mtapi_machine.specs.Legal.{NodeEntry, IsNext, next, after, after_from}
+use Rattle.mtapi_machine.specs.Legal.{after, after_from}
 use Rattle.sched_workers.specs.declared.inline.Runner.{Runner}
 use Rattle.sched_workers.specs.Turns.{stayed}
-use Rattle.sched_workers.specs.Whole.{head_turns}
-use Rattle.sched_workers.specs.Good.{waiting}
-use Rattle.sched_workers.specs.Inline.{Stood, Standing, Turned, Turns, Moved, Opens, Fresh}
+use Rattle.sched_workers.specs.Inline.{Standing, Turned, Turns, Opens, Fresh}
 use Rattle.sched_workers.proofs.Phases.{initialized, released, mains}
 use Rattle.sched_workers.proofs.Going.{went_next, main_moved, moved_then}
 

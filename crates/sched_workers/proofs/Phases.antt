@@ -1,33 +1,33 @@
 -- The first and the last entries of a run, and the looks when all tasks have ended.
-use Rattle.std.proofs.Common.{◌≡◌, ℕ, zero, suc, ◌+◌, ◌<◌, ◌≤◌, Bool, true, false, not, cond, List, [], ◌∷◌, ◌++◌, length, set, Option, Some, None, refl, sym, ◌∙◌, ap, subst, arith}
-use Rattle.std.specs.Prelude.{◌==◌, ◌&&◌, nat_lt, is_none, slice_set}
+use Rattle.std.proofs.Common.{◌≡◌, ℕ, zero, suc, ◌+◌, ◌<◌, ◌≤◌, Bool, true, false, not, cond, List, [], ◌∷◌, length, set, Option, Some, None, refl, sym, ◌∙◌, ap, subst, arith}
+use Rattle.std.specs.Prelude.{◌&&◌, is_none, slice_set}
 use Rattle.history.specs.Histories.{entry}
 use Rattle.mtapi_values.specs.Seats.{all_marked}
 use Rattle.mtapi_values.specs.declared.ends.TaskEnd.{TaskEnd}
 use Rattle.mtapi_values.specs.declared.ends.TaskEnd.TheVariants.{Cancelled}
 use Rattle.mtapi_machine.specs.declared.terms.Terms.{Terms}
 use Rattle.mtapi_machine.specs.declared.terms.Phase.{Phase}
-use Rattle.mtapi_machine.specs.declared.terms.Phase.TheVariants.{New, Open, Closing, Closed}
+use Rattle.mtapi_machine.specs.declared.terms.Phase.TheVariants.{Closing, Closed}
 use Rattle.mtapi_machine.specs.declared.replies.Reply.{Reply}
-use Rattle.mtapi_machine.specs.declared.replies.Reply.TheVariants.{Ok, Ended, Pending, Stop, Mtapi}
+use Rattle.mtapi_machine.specs.declared.replies.Reply.TheVariants.{Ok, Stop, Mtapi}
 use Rattle.mtapi_values.specs.declared.statuses.MtapiStatus.{MtapiStatus}
 use Rattle.mtapi_values.specs.declared.statuses.MtapiStatus.TheVariants.{ErrNodeInitialized}
 use Rattle.queue_core.specs.Queues.{is_shut_in}
 use Rattle.mtapi_machine.specs.declared.ops.Op.{Op}
 use Rattle.mtapi_machine.specs.declared.ops.Op.TheVariants as op
-use Rattle.handle_pool.specs.Issued.{Listed, live_of, lookup, at, any, any_live}
+use Rattle.handle_pool.specs.Issued.{Listed, live_of, at, any, any_live}
 use Rattle.task_core.specs.Tasks.{Task, TaskState, Scheduled, Running, Over, is_unended, is_unstarted, end_of, ended, end_each}
 use Rattle.mtapi_machine.specs.State.{State, workers, opening, is_new, is_open, is_up, is_late, tasks, end_tasks}
-use Rattle.mtapi_machine.specs.Row.{Row, unless, says, gives, never, Allows, after_row, live}
-use Rattle.mtapi_machine.specs.Rows.{row, can_take, looks_at, is_stop, stops_or, picks}
-use Rattle.mtapi_machine.specs.Legal.{NodeEntry, IsNext, next}
+use Rattle.mtapi_machine.specs.Row.{Row, unless, gives, Allows, live}
+use Rattle.mtapi_machine.specs.Rows.{row, can_take, looks_at, is_stop, stops_or}
+use Rattle.mtapi_machine.specs.Legal.{IsNext, next}
 use Rattle.mtapi_machine.specs.Kept.{is_pending}
 use Rattle.sched_workers.specs.Good.{EachTask as Each, Rests, Resting, Pure, Good, Shut, waiting, added, IsPureOp}
 use Rattle.sched_workers.specs.Lines.{is_late as out_of_looks}
-use Rattle.sched_workers.proofs.Rows.{AllGives, given, AllSays, said, on_live}
+use Rattle.sched_workers.proofs.Rows.{given, AllSays, said}
 use Rattle.sched_workers.proofs.Fair.{quiet_over, found_over}
 use Rattle.sched_workers.proofs.Counts.{IsMains, Alike, mains_wait, mains_rest, mains_pure, mains_alike, alike}
-use Rattle.sched_workers.proofs.Picks.{Goes, pass, goes_then, fair_next, served_next, none_runs, pick_open}
+use Rattle.sched_workers.proofs.Picks.{Goes, pass, fair_next, served_next, none_runs, pick_open}
 
 -- the first entry
 

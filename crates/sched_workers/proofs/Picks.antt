@@ -1,33 +1,27 @@
 -- What a worker's turns leave of the machine's state, while the node is open.
-use Rattle.std.proofs.Common.{◌≡◌, ℕ, zero, suc, ◌+◌, ◌<◌, ◌≤◌, Bool, true, false, not, cond, List, [], ◌∷◌, ◌++◌, length, Option, Some, None, refl, sym, ◌∙◌, ap, subst, arith, ℤ}
-use Rattle.std.specs.Prelude.{◌==◌, ◌&&◌, nat_lt, is_some, is_none}
-use Rattle.std.specs.Ordering.{int_eq}
-use Rattle.std.specs.Cmp.Lexicographic.{pointwise}
+use Rattle.std.proofs.Common.{◌≡◌, ℕ, ◌+◌, ◌<◌, ◌≤◌, Bool, true, false, not, cond, List, [], ◌∷◌, Option, Some, None, refl, sym, ◌∙◌, ap, subst, arith, ℤ}
+use Rattle.std.specs.Prelude.{◌==◌, ◌&&◌, nat_lt, is_some}
 use Rattle.std.proofs.lemmas.Bool.{lt-ltb}
 use Rattle.history.specs.Histories.{entry}
 use Rattle.mtapi_values.specs.Conditions.{holds}
 use Rattle.mtapi_values.specs.declared.kinds.Kind.{Kind}
-use Rattle.mtapi_values.specs.declared.handles.TaskHandle.{TaskHandle}
-use Rattle.mtapi_values.specs.declared.handles.ActionHandle.{ActionHandle}
-use Rattle.mtapi_values.specs.declared.ends.TaskEnd.{TaskEnd}
-use Rattle.action_fn.specs.Answers.{Answered, is_pure}
+use Rattle.action_fn.specs.Answers.{is_pure}
 use Rattle.mtapi_machine.specs.declared.terms.Phase.{Phase}
-use Rattle.mtapi_machine.specs.declared.terms.Phase.TheVariants.{New, Open, Closing, Closed}
+use Rattle.mtapi_machine.specs.declared.terms.Phase.TheVariants.{Open}
 use Rattle.mtapi_machine.specs.declared.replies.Reply.{Reply}
 use Rattle.mtapi_machine.specs.declared.replies.Reply.TheVariants.{Ok, Handle, Number, Ended, Given, Pending, Picked, Idle, Stop, Asked, Mtapi, Mrapi}
-use Rattle.mtapi_machine.specs.declared.ops.Op.{Op}
 use Rattle.mtapi_machine.specs.declared.ops.Op.TheVariants as op
-use Rattle.handle_pool.specs.Issued.{Listed, live_of, lookup, at, how_many, count, change, update, retire, issue, with_fields, gone, any, any_live}
+use Rattle.handle_pool.specs.Issued.{Listed, live_of, lookup, at, count, change, update, with_fields, any, any_live}
 use Rattle.job_table.specs.Actions.{Action}
-use Rattle.task_core.specs.Tasks.{Task, TaskState, Scheduled, Running, Over, is_unstarted, is_unended, runs_on, runner, with_state, ended}
-use Rattle.mtapi_machine.specs.State.{State, workers, is_new, is_late, tasks, changed, end_task}
-use Rattle.mtapi_machine.specs.Row.{Row, unless, says, gives, never, Allows, after_row}
-use Rattle.mtapi_machine.specs.Rows.{row, is_ready, can_take, may_take, takes, takes_chosen, picks, is_stop, stops_or, task_end}
+use Rattle.task_core.specs.Tasks.{Task, Running, is_unstarted, is_unended, runs_on, runner, with_state}
+use Rattle.mtapi_machine.specs.State.{State, workers, is_new, is_late, tasks, changed}
+use Rattle.mtapi_machine.specs.Row.{Row, unless, says, never, Allows, after_row}
+use Rattle.mtapi_machine.specs.Rows.{row, is_ready, can_take, may_take, takes, takes_chosen, picks, is_stop, stops_or}
 use Rattle.mtapi_machine.specs.Legal.{NodeEntry, IsNext, next, row_of}
 use Rattle.mtapi_machine.proofs.Served.{Each as MachineEach, Served as MachineServed, row_served}
-use Rattle.sched_workers.specs.Good.{EachTask as Each, EachAction, Fair, Served, HasWorker, Rests, Resting, Pure, Good, waiting}
-use Rattle.sched_workers.proofs.Rows.{AllGives, given, unless_else, unless_not}
-use Rattle.sched_workers.proofs.Fair.{row_fair, no_both, self_is, first_fails, both_fail}
+use Rattle.sched_workers.specs.Good.{EachTask as Each, EachAction, Fair, Served, HasWorker, Rests, Resting, Good, waiting}
+use Rattle.sched_workers.proofs.Rows.{given}
+use Rattle.sched_workers.proofs.Fair.{row_fair, both_fail}
 
 pub fair_next : (s : State) (e : NodeEntry) → IsNext s e → Fair s → Fair (next s e)
 fair_next s e h f = given Fair s (row_of s e) e.reply f (row_fair s e.who e.op e.reply f) h.allowed

@@ -1,5 +1,5 @@
 -- The parts of a run on one thread make a whole.
-use Rattle.std.proofs.Common.{◌≡◌, ℕ, ◌+◌, ◌*◌, ◌<◌, ◌≤◌, List, [], ◌∷◌, ◌++◌, length, get_or, Bool, true, false, refl, sym, ◌∙◌, ap, subst, arith, append_assoc}
+use Rattle.std.proofs.Common.{◌≡◌, ℕ, ◌≤◌, List, [], ◌∷◌, ◌++◌, length, get_or, true, false, refl, sym, ◌∙◌, ap, subst, arith, append_assoc}
 use Rattle.std.proofs.lemmas.List.{append-nil}
 use Rattle.history.specs.Histories.{entry}
 use Rattle.workload_file.specs.declared.workload.Statement.{Statement}
@@ -11,7 +11,7 @@ use Rattle.node_core.specs.Logs.{KeptAs, journal_terms}
 use Rattle.mtapi_machine.specs.Kept.{kept as kept_in}
 use Rattle.sched_workers.proofs.Joins.{journal_is_run}
 use Rattle.mtapi_machine.specs.declared.ops.Op.TheVariants as op
-use Rattle.mtapi_machine.specs.declared.replies.Reply.TheVariants.{Ok, Stop}
+use Rattle.mtapi_machine.specs.declared.replies.Reply.TheVariants.{Ok}
 use Rattle.mtapi_machine.specs.declared.terms.Terms.{Terms}
 use Rattle.mtapi_machine.specs.State.{opening}
 use Rattle.mtapi_machine.specs.Legal.{NodeEntry, after, after_from}

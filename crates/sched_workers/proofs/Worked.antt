@@ -1,30 +1,27 @@
 -- What a worker leaves that has taken a task and ended it.
-use Rattle.std.proofs.Common.{◌≡◌, ℕ, zero, suc, ◌+◌, ◌<◌, ◌≤◌, Bool, true, false, not, cond, List, [], ◌∷◌, ◌++◌, length, Option, Some, None, refl, sym, ◌∙◌, ap, subst, arith, ℤ}
+use Rattle.std.proofs.Common.{◌≡◌, ℕ, ◌+◌, ◌<◌, ◌≤◌, Bool, true, false, not, cond, List, [], ◌∷◌, length, Option, Some, None, refl, sym, ◌∙◌, ap, subst, arith, ℤ}
 use Rattle.std.specs.Prelude.{◌==◌, ◌&&◌, nat_lt}
 use Rattle.std.specs.Ordering.{int_eq}
 use Rattle.std.specs.Cmp.Lexicographic.{pointwise}
 use Rattle.std.proofs.lemmas.Bool.Decides.{Decides-int_eq}
 use Rattle.std.proofs.lemmas.Slice.Eq.{slice_eq-Decides}
 use Rattle.history.specs.Histories.{entry}
-use Rattle.mtapi_values.specs.Conditions.{holds}
 use Rattle.mtapi_values.specs.declared.kinds.Kind.{Kind}
-use Rattle.action_fn.specs.Answers.{Answered, is_pure}
+use Rattle.action_fn.specs.Answers.{Answered}
 use Rattle.mtapi_machine.specs.declared.replies.Reply.{Reply}
 use Rattle.mtapi_machine.specs.declared.replies.Reply.TheVariants.{Ok, Picked}
 use Rattle.mtapi_machine.specs.declared.ops.Op.TheVariants as op
-use Rattle.handle_pool.specs.Issued.{Listed, at, count, change, update, with_fields}
+use Rattle.handle_pool.specs.Issued.{Listed, at, change, update, with_fields}
 use Rattle.handle_pool.proofs.ListedLemmas.{at-update}
-use Rattle.task_core.specs.Tasks.{Task, TaskState, Running, Over, is_unstarted, runs_as, kind_number, runner, with_state, ended, finish_refusals}
+use Rattle.task_core.specs.Tasks.{Task, Running, runs_as, kind_number, with_state, ended, finish_refusals}
 use Rattle.mtapi_machine.specs.State.{State, workers, tasks, changed, end_task}
-use Rattle.mtapi_machine.specs.declared.terms.Terms.{Terms}
-use Rattle.mtapi_machine.specs.declared.terms.Phase.{Phase}
-use Rattle.mtapi_machine.specs.Row.{Row, unless, says, gives, never, Allows, after_row, live, mtapi_unless}
+use Rattle.mtapi_machine.specs.Row.{Row, gives, Allows, after_row, live, mtapi_unless}
 use Rattle.mtapi_machine.specs.Rows.{row, task_end}
-use Rattle.mtapi_machine.specs.Legal.{NodeEntry, IsNext, next}
+use Rattle.mtapi_machine.specs.Legal.{IsNext, next}
 use Rattle.sched_workers.specs.Good.{EachTask as Each, Rests, Resting, Pure, Good, waiting}
 use Rattle.sched_workers.proofs.Fair.{self_is}
 use Rattle.sched_workers.proofs.Counts.{ended_waits}
-use Rattle.sched_workers.proofs.Picks.{Takes, Goes, pass, goes_then, picked, small_not, fair_next, served_next}
+use Rattle.sched_workers.proofs.Picks.{Takes, Goes, pass, picked, small_not, fair_next, served_next}
 
 some_is : {A : Type 0} {x y : A} → Some x ≡ Some y → x ≡ y
 some_is e = cc

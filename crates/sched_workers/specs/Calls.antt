@@ -1,5 +1,5 @@
 -- The call that each statement makes.
-use Rattle.std.specs.Prelude.{ℕ, Bool, true, false, List, Option, option_map, slice_index_or}
+use Rattle.std.specs.Prelude.{ℕ, Bool, true, List, option_map, slice_index_or}
 use Rattle.mtapi_values.specs.declared.timeouts.Timeout.{Timeout}
 use Rattle.mtapi_values.specs.declared.handles.GroupHandle.{GroupHandle}
 use Rattle.workload_file.specs.declared.workload.Deed.{Deed}

@@ -1,6 +1,5 @@
 -- What a run on one thread has made so far.
-use Rattle.std.specs.Prelude.{◌≡◌, ℕ, ◌+◌, ◌*◌, ◌^◌, ◌≤◌, ◌<◌, Bool, true, false, ◌==◌, List, [], ◌∷◌, ◌++◌, length, Option, Some, None}
-use Rattle.mtapi_values.specs.Timeouts.{looks_of}
+use Rattle.std.specs.Prelude.{◌≡◌, ℕ, ◌+◌, ◌*◌, ◌≤◌, ◌<◌, Bool, true, false, ◌==◌, List, [], ◌∷◌, ◌++◌, length, Option, Some, None}
 use Rattle.action_fn.specs.Answers.{is_pure}
 use Rattle.workload_file.specs.declared.workload.Deed.{Deed}
 use Rattle.workload_file.specs.declared.workload.Deed.TheVariants as deed
@@ -11,15 +10,14 @@ use Rattle.history.specs.Histories.{entry, entries_of}
 use Rattle.mtapi_values.specs.declared.kinds.Kind.{Kind}
 use Rattle.mtapi_values.specs.declared.lists.Args.{Args}
 use Rattle.mtapi_values.specs.declared.handles.TaskHandle.{TaskHandle}
-use Rattle.handle_pool.specs.Issued.{Listed, any, count}
-use Rattle.job_table.specs.Actions.{Action}
-use Rattle.task_core.specs.Tasks.{Task, is_unstarted, is_unended}
+use Rattle.handle_pool.specs.Issued.{any}
+use Rattle.task_core.specs.Tasks.{is_unended}
 use Rattle.mtapi_machine.specs.declared.ops.Op.{Op}
 use Rattle.mtapi_machine.specs.declared.ops.Op.TheVariants as op
 use Rattle.mtapi_machine.specs.declared.replies.Reply.{Reply}
 use Rattle.mtapi_machine.specs.declared.replies.Reply.TheVariants as reply
 use Rattle.mtapi_machine.specs.declared.terms.Terms.{Terms}
-use Rattle.mtapi_machine.specs.State.{State, opening}
+use Rattle.mtapi_machine.specs.State.{opening}
 use Rattle.mtapi_machine.specs.Row.{handle_of}
 use Rattle.mtapi_machine.specs.Rows.{can_take}
 use Rattle.mtapi_machine.specs.Legal.{NodeEntry, Legal, IsNext, next, after}
@@ -27,10 +25,10 @@ use Rattle.node_core.specs.declared.entries.Journal.{Journal}
 use Rattle.node_core.specs.Logs.{StandsKept, journal_terms}
 use Rattle.sched_workers.specs.declared.inline.Runner.{Runner}
 use Rattle.sched_workers.specs.Calls.{Call}
-use Rattle.sched_workers.specs.RunOf.{has_begin, ClosesAtEnd, RunOf}
+use Rattle.sched_workers.specs.RunOf.{ClosesAtEnd, RunOf}
 use Rattle.sched_workers.specs.Turns.{Turn, stayed, turns_of}
 use Rattle.sched_workers.specs.Whole.{MadeBy, CarriedBy, head_turns, all_worked, MainBy, WorkerBy}
-use Rattle.sched_workers.specs.Good.{Good, Shut, waiting, IsOnce, IsPureOp}
+use Rattle.sched_workers.specs.Good.{Good, waiting, IsOnce, IsPureOp}
 
 -- the run's node stands for this history, with these terms and main alone, and so many turns were taken at most
 pub record Stood (t : Terms) (r : Runner) (L : List NodeEntry) : Type 0 where

@@ -1,5 +1,4 @@
-use Rattle.std.proofs.Common.{◌≡◌, ◌∷◌, [], ℕ, List, Bool, false, true, sym, ◌∙◌, ap, drop, get_or, length, arith, add-one, drop-cons}
-use Rattle.mtapi_values.specs.Seats.{all_marked}
+use Rattle.std.proofs.Common.{sym}
 use Rattle.node_core.proofs.Marks.{marks_false, marks_true, marks_end}
 use Rattle.node_core.proofs.phase_ops.all_marked.Goals as goal
 

@@ -1,4 +1,4 @@
-use Rattle.std.proofs.Common.{sym, ◌∙◌, add-one}
+use Rattle.std.proofs.Common.{sym, add-one}
 use Rattle.node_core.proofs.StartSteps.{below_at, below_next}
 use Rattle.node_core.proofs.task_ops.share_core.Goals as goal
 

@@ -1,4 +1,4 @@
-use Rattle.std.proofs.Common.{◌≡◌, ◌∙◌, refl, sym, ap, subst, arith, List, [], ◌∷◌, Option, true}
+use Rattle.std.proofs.Common.{◌∙◌, refl, ap, subst, arith, List, [], Option, true}
 use Rattle.std.specs.Prelude.{IfSome, Result, Ok}
 use Rattle.std.specs.declared.alloc.AllocError.{AllocError}
 use Rattle.workload_file.specs.declared.workload.Statement.{Statement}

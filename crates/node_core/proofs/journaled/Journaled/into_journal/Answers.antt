@@ -1,4 +1,4 @@
-use Rattle.std.proofs.Common.{ap, subst, ◌∙◌}
+use Rattle.std.proofs.Common.{subst}
 use Rattle.mtapi_machine.specs.declared.terms.Terms.{Terms}
 use Rattle.node_core.specs.Logs.{IsJournal}
 use Rattle.node_core.specs.Stands.{terms_of}

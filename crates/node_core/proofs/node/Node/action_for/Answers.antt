@@ -1,4 +1,4 @@
-use Rattle.std.proofs.Common.{◌≡◌, ℕ, None, sym, ◌∙◌, ap, subst}
+use Rattle.std.proofs.Common.{ℕ, sym, ◌∙◌, ap, subst}
 use Rattle.mtapi_values.specs.Masks.{in_mask}
 use Rattle.job_table.specs.Answers.{Chooses}
 use Rattle.node_core.proofs.PickSteps.{may_run, no_queue}

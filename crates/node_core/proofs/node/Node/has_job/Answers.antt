@@ -1,4 +1,4 @@
-use Rattle.std.proofs.Common.{sym, subst}
+use Rattle.std.proofs.Common.{subst}
 use Rattle.job_table.specs.Answers.{Covers}
 use Rattle.job_table.specs.declared.cover.Cover.{Cover}
 use Rattle.node_core.proofs.ActionSteps.{covers_none, covers_some, some_cover}

@@ -1,4 +1,4 @@
-use Rattle.std.proofs.Common.{ℕ, List, ◌∙◌, ap, replicate, arith}
+use Rattle.std.proofs.Common.{ℕ, ◌∙◌, ap, replicate, arith}
 use Rattle.handle_pool.specs.Slots.{free_slot}
 use Rattle.node_core.proofs.InitSteps.{new_node, holds_new}
 use Rattle.node_core.proofs.node.Node.init.Goals as goal

@@ -1,9 +1,6 @@
-use Rattle.std.proofs.Common.{◌≡◌, false, None, Some, sym, subst, ◌∙◌, arith}
+use Rattle.std.proofs.Common.{sym, subst, ◌∙◌, arith}
 use Rattle.std.specs.Prelude.{Option}
-use Rattle.mtapi_machine.specs.State.{is_new}
-use Rattle.mtapi_machine.specs.Rows.{is_stop}
 use Rattle.node_core.specs.declared.walks.Choice.{Choice}
-use Rattle.node_core.specs.Stands.{state_of}
 use Rattle.node_core.specs.Picks.{BestBelow}
 use Rattle.node_core.proofs.PickSteps.{pick_idle, pick_takes}
 use Rattle.node_core.proofs.node.Node.pick.Goals as goal

@@ -1,4 +1,4 @@
-use Rattle.std.proofs.Common.{sym, arith, subst, ◌≡◌, ℕ, ◌∙◌}
+use Rattle.std.proofs.Common.{sym, arith, subst, ◌≡◌, ℕ}
 use Rattle.handle_pool.specs.Slots.{max_of, NoneBelow}
 use Rattle.handle_pool.proofs.AnswerLemmas.{any-live, any-none}
 use Rattle.handle_pool.proofs.WalkLemmas.{live-used_at, NoneBelow-all}

@@ -1,4 +1,4 @@
-use Rattle.std.proofs.Common.{◌≤◌, length, take}
+use Rattle.std.proofs.Common.{take}
 use Rattle.sched_workers.proofs.Carrying.{SoFar}
 use Rattle.sched_workers.proofs.inline.Runner.statements.Given as goal
 

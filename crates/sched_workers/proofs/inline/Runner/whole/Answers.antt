@@ -1,6 +1,5 @@
-use Rattle.std.proofs.Common.{ℕ, List, [], subst, sym}
+use Rattle.std.proofs.Common.{ℕ, List, subst}
 use Rattle.std.specs.Prelude.{Bool}
-use Rattle.sched_workers.specs.RunOf.{has_begin}
 use Rattle.sched_workers.specs.Inline.{Opens, CarriedOut}
 use Rattle.sched_workers.proofs.Run.{opens_going, carried_going, settled_over, whole_run}
 use Rattle.sched_workers.proofs.inline.Runner.whole.Goals as goal
