@@ -1,6 +1,8 @@
 //! Groups of tasks, in the order of their ends.
 #![tactic(auto)]
 
+#[cfg(test)]
+mod tests;
 mod worked;
 
 ghost use Rattle.std.specs.Prelude.{◌≡◌, ◌≤◌, ◌<◌, replicate, IfOk, IfNone, OnOk, OnErr, OnSome, IsSome};
@@ -138,48 +140,5 @@ impl Groups {
         };
         self.ended.remove(slot, first);
         Some(TaskHandle(first))
-    }
-}
-
-#[cfg(test)]
-mod tests {
-    use super::*;
-    use std::test::Fail;
-
-    const FIRST: TaskHandle = TaskHandle(4294967296);
-
-    const SECOND: TaskHandle = TaskHandle(4294967297);
-
-    #[test]
-    fn worked_rows(_rt: HostRuntime) {
-        worked_members();
-    }
-
-    #[test]
-    fn a_member_that_ended_is_taken(rt: HostRuntime) -> Result<(), Fail> {
-        let mut groups = Groups::new(rt.alloc(), 1, 5, 2)?;
-        let Ok(g) = groups.create() else {
-            return Err("no group")?;
-        };
-        groups.enter(g, FIRST);
-        groups.enter(g, SECOND);
-        groups.ended(g, SECOND);
-        assert_eq!(rt; groups.left(g), Some((2, 1)));
-        assert_eq!(rt; groups.take(g), Some(SECOND));
-        assert_eq!(rt; groups.take(g), None);
-        Ok(())
-    }
-
-    #[test]
-    fn one_group_at_a_time(rt: HostRuntime) -> Result<(), Fail> {
-        let mut groups = Groups::new(rt.alloc(), 1, 5, 2)?;
-        let g = groups.create().ok().ok_or("no group")?;
-        assert_eq!(rt; groups.create(), Err(MtapiStatus::ErrGroupLimit));
-        assert_eq!(rt; groups.left(g), Some((0, 0)));
-        assert_eq!(rt; groups.delete(g), Ok(()));
-        assert_eq!(rt; groups.delete(g), Err(MtapiStatus::ErrGroupInvalid));
-        assert_eq!(rt; groups.left(g), None);
-        assert_eq!(rt; groups.take(g), None);
-        Ok(())
     }
 }

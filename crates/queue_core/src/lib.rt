@@ -3,6 +3,8 @@
 
 pub mod facts;
 mod queue;
+#[cfg(test)]
+mod tests;
 mod worked;
 
 ghost use Rattle.std.specs.Prelude.{◌≡◌, ◌≤◌, ◌<◌, true, false, replicate, IfOk, OnOk, OnErr};
@@ -195,66 +197,4 @@ fn find(pool: &Pool<StoredQueue>, id: u32) -> Option<u64>
         }
     }
     None
-}
-
-#[cfg(test)]
-mod tests {
-    use super::*;
-    use std::test::Fail;
-
-    const FIRST: TaskHandle = TaskHandle(4294967296);
-
-    const SECOND: TaskHandle = TaskHandle(4294967297);
-
-    const THIRD: TaskHandle = TaskHandle(4294967298);
-
-    #[test]
-    fn worked_rows(_rt: HostRuntime) {
-        worked_puts();
-    }
-
-    #[test]
-    fn a_third_task_is_over_the_limit(rt: HostRuntime) -> Result<(), Fail> {
-        let mut attr = QueueAttr::new();
-        assert_eq!(rt; attr.set(3, 2), Ok(()));
-        let mut queues = Queues::new(rt.alloc(), 1, 5, 3)?;
-        let Ok(q) = queues.create(1, 7, attr) else {
-            return Err("no queue")?;
-        };
-        let Ok(()) = queues.put(q, FIRST) else {
-            return Err("refused")?;
-        };
-        let Ok(()) = queues.put(q, SECOND) else {
-            return Err("refused")?;
-        };
-        assert_eq!(rt; queues.put(q, THIRD), Err(MtapiStatus::ErrQueueLimit));
-        assert_eq!(rt; queues.head(q), Some(FIRST));
-        Ok(())
-    }
-
-    #[test]
-    fn a_queue_without_tasks(rt: HostRuntime) -> Result<(), Fail> {
-        let mut queues = Queues::new(rt.alloc(), 1, 5, 3)?;
-        assert_eq!(rt; queues.get(1), Err(MtapiStatus::ErrQueueInvalid));
-        let q = queues
-            .create(1, 7, QueueAttr::new())
-            .ok()
-            .ok_or("no queue")?;
-        assert_eq!(rt;
-            queues.create(1, 7, QueueAttr::new()),
-            Err(MtapiStatus::ErrQueueExists)
-        );
-        assert_eq!(rt;
-            queues.create(2, 7, QueueAttr::new()),
-            Err(MtapiStatus::ErrQueueLimit)
-        );
-        assert_eq!(rt; queues.get(1), Ok(q));
-        assert_eq!(rt; queues.disable(q), Ok(()));
-        assert_eq!(rt; queues.facts(q).map(|facts| facts.enabled), Some(false));
-        assert_eq!(rt; queues.enable(q), Ok(()));
-        assert_eq!(rt; queues.facts(q).map(|facts| facts.unended), Some(0));
-        assert_eq!(rt; queues.delete(q), Ok(()));
-        assert_eq!(rt; queues.head(q), None);
-        Ok(())
-    }
 }
