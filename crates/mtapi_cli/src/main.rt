@@ -5,19 +5,27 @@ use action_fn::{
     FnTable, StoredFn, act_add, act_div, act_echo, act_fail, act_gcd, act_max, act_mul,
     act_triangle,
 };
-use mtapi_top::command;
+use mtapi_top::{End, command, tell};
 use mtapi_values::Kind;
 use std::alloc::AllocError;
 use std::env;
+use std::io::ErrorKind;
 use std::process::ExitCode;
 use workload_file::{StdSink, StdSource};
 
 /// The words behind the program's name. Where one isn't UTF-8 there are none, which no command takes.
 fn words_of(rt: &HostRuntime) -> Result<Vec<String>, AllocError> {
     let mut words = Vec::new(rt.alloc());
-    if let Ok(all) = env::args(rt) {
-        for word in all.skip(1) {
-            words.push(word)?;
+    match env::args(rt) {
+        Ok(all) => {
+            for word in all.skip(1) {
+                words.push(word)?;
+            }
+        }
+        Err(error) => {
+            if error.kind() == ErrorKind::OutOfMemory {
+                return Err(AllocError);
+            }
         }
     }
     Ok(words)
@@ -50,8 +58,10 @@ fn run(rt: &HostRuntime) -> Result<u8, AllocError> {
 }
 
 fn main(rt: HostRuntime) -> ExitCode {
-    match run(&rt) {
-        Ok(status) => ExitCode::from(status),
-        Err(_) => ExitCode::from(6),
-    }
+    let status = match run(&rt) {
+        Ok(status) => status,
+        // There was no memory for the words.
+        Err(_) => tell(rt.alloc(), End::Memory, &mut StdSink::new(rt.stderr())).status,
+    };
+    ExitCode::from(status)
 }

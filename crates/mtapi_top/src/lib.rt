@@ -14,3 +14,4 @@ pub use carry::command;
 pub use ends::{End, Outcome};
 pub use run_report::report_of;
 pub use sched_workers::run_inline;
+pub use telling::tell;

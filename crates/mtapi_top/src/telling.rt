@@ -96,7 +96,7 @@ fn tell_text<E: Sink>(end: End, text: Result<String, AllocError>, err: &mut E) -
 }
 
 /// Says on `err` how it ended, and answers the status. Where there is no memory for a message that names a line, that is said instead.
-pub(crate) fn tell<E: Sink>(alloc: Global, end: End, err: &mut E) -> Outcome
+pub fn tell<E: Sink>(alloc: Global, end: End, err: &mut E) -> Outcome
     ensures told { IsTold end (E.faults err.old) (E.faults err.new) (E.held err.old) (E.held err.new) result
         ⊎ ((has_line end ≡ true) × IsTold End.Memory (E.faults err.old) (E.faults err.new) (E.held err.old) (E.held err.new) result) }
 {
