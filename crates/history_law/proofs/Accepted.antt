@@ -15,16 +15,17 @@ use Rattle.history.specs.Histories.{entry}
 use Rattle.handle_pool.specs.Issued.{Listed, listed, issue}
 use Rattle.task_core.specs.Tasks.{Task}
 use Rattle.mtapi_machine.specs.State.{State, opening, workers, is_late}
-use Rattle.mtapi_machine.specs.Row.{Row, unless, says, gives, never, Allows, after_row, issues}
+use Rattle.mtapi_machine.specs.Moves.{Move, after_moves}
+use Rattle.mtapi_machine.specs.Row.{Row, unless, gives, never, Allows, only, moves_of, after_row}
 use Rattle.mtapi_machine.specs.Rows.{row}
 use Rattle.mtapi_machine.specs.Legal.{NodeEntry, IsNext, next, LegalFrom, Legal, after_from, after}
-use Rattle.mtapi_machine.proofs.Lists.{Legal-front, Legal-rest, after-append}
-use Rattle.mtapi_machine.proofs.Ends.{AllGives, after_grows}
+use Rattle.mtapi_machine.proofs.Lists.{Legal-rest, after-append}
+use Rattle.mtapi_machine.proofs.Made.{AllGives, on_only}
+use Rattle.mtapi_machine.proofs.Ends.{after_grows}
 use Rattle.mtapi_machine.specs.Ends.{end_at}
 use Rattle.history_law.specs.Accepted.{accepted_by, accepted, TasksEndOnce}
 use Rattle.history_law.proofs.Held.{AllEnded, listed_issue, all_first}
-use Rattle.history_law.proofs.Rows.{Stands, on_issues, after_stands}
-use Rattle.history_law.proofs.Marks.{Stopped, after_stopped}
+use Rattle.history_law.proofs.Moves.{Stands, after_stands, Stopped, after_stopped}
 use Rattle.history_law.proofs.Ends.{grows_listed, all_end, end_later}
 
 -- The entry that accepts a task lists it
@@ -36,8 +37,7 @@ is_handle _ = false
 -- no refusal of the row is a handle
 abbrev RefusesAll : Row → Type 0
 RefusesAll (unless c x w) = (is_handle x ≡ false) × RefusesAll w
-RefusesAll (says x) = is_handle x ≡ false
-RefusesAll (gives x t) = Unit {0}
+RefusesAll (gives x ms) = Unit {0}
 RefusesAll never = Unit {0}
 
 no_handle : (h : ℕ) (x : Reply) → is_handle x ≡ false → Handle h ≡ x → ⊥
@@ -46,17 +46,16 @@ no_handle h x n e = true_false (ap is_handle e ∙ n)
     true_false : true ≡ false → ⊥
     true_false k = cc
 
--- what holds of each state that the row gives holds after a handle
-granted : (P : State → Type 0) (s : State) (w : Row) (h : ℕ) → RefusesAll w → AllGives P w → Allows w (Handle h) → P (after_row s w)
-granted P s (unless true x w) h n g a = absurd (no_handle h x n.0 a)
-granted P s (unless false x w) h n g a = granted P s w h n.1 (g refl) a
-granted P s (says x) h n g a = absurd (no_handle h x n a)
-granted P s (gives x t) h n g a = g
-granted P s never h n g a = absurd a
+-- what holds of the moves that the row gives holds after a handle
+granted : (Q : List Move → Type 0) (w : Row) (h : ℕ) → RefusesAll w → AllGives (λ x. Q) w → Allows w (Handle h) → Q (moves_of w)
+granted Q (unless true x w) h n g a = absurd (no_handle h x n.0 a)
+granted Q (unless false x w) h n g a = granted Q w h n.1 (g refl) a
+granted Q (gives x ms) h n g a = g
+granted Q never h n g a = absurd a
 
-refuses_issues : (b : Bool) (h : ℕ) (s : State) → RefusesAll (issues b h s)
-refuses_issues true h s = tt
-refuses_issues false h s = tt
+refuses_only : (b : Bool) (x : Reply) (ms : List Move) → RefusesAll (only b (gives x ms))
+refuses_only true x ms = tt
+refuses_only false x ms = tt
 
 issue_lists : (h : ℕ) (t : Task) (l : List (Listed Task)) → 1 ≤ listed h (issue h t l)
 issue_lists h t l = let e : listed h (issue h t l) ≡ listed h l + cond (h == h) 1 0 = listed_issue h h t l in
@@ -69,9 +68,9 @@ start_lists : (s : State) (who : ℕ) (o : Op) (r : Reply) (h : ℕ) → accepte
 start_lists s who (op.TaskStart job args priority cores detached group) (Handle k) h e a =
     let same : k ≡ h = cc in
     subst (λ (j : ℕ). Lists j (after_row s (row s who (op.TaskStart job args priority cores detached group) (Handle k)))) same
-    (granted (Lists k) s (row s who (op.TaskStart job args priority cores detached group) (Handle k)) k
-    (refl, (refl, (refl, (refl, (refl, (refl, (refl, refuses_issues _ _ _)))))))
-    (λ c0 c1 c2 c3 c4 c5 c6. on_issues (Lists k) _ _ _ (λ m. issue_lists k _ s.tasks)) a)
+    (granted (λ ms. Lists k (after_moves ms s)) (row s who (op.TaskStart job args priority cores detached group) (Handle k)) k
+    (refl, (refl, (refl, (refl, (refl, (refl, (refl, refuses_only _ _ _)))))))
+    (λ c0 c1 c2 c3 c4 c5 c6. on_only (λ x ms. Lists k (after_moves ms s)) _ _ _ (λ m. issue_lists k _ s.tasks)) a)
 start_lists s who _ _ h e a = absurd (cc)
 
 next_lists : (s : State) (e : NodeEntry) (h : ℕ) → IsNext s e → accepted e ≡ Some h → Lists h (next s e)
@@ -113,17 +112,17 @@ none_listed h = omega arith
 opening_stands : (terms : Terms) → Stands terms (opening terms)
 opening_stands terms = (refl, record { dead = tt; stopped = λ f. absurd (cc); once = none_listed })
 
-stands_after : (terms : Terms) (L : List NodeEntry) → LegalFrom (opening terms) L → Stands terms (after terms L)
-stands_after terms L h = after_stands terms (opening terms) L (opening_stands terms) h
+stands_after : (terms : Terms) (L : List NodeEntry) → Stands terms (after terms L)
+stands_after terms L = after_stands terms (opening terms) L (opening_stands terms)
 
 all_after : (terms : Terms) (A B : List NodeEntry) (main : ℕ) → Legal terms (A ++ entry main op.Final Ok ∷ B) → AllEnded (after terms (A ++ entry main op.Final Ok ∷ B)).tasks
 unfolding LegalFrom
 all_after terms A B main h =
     let rest : LegalFrom (after terms A) (entry main op.Final Ok ∷ B) = Legal-rest (opening terms) A (entry main op.Final Ok ∷ B) h.from in
-    let before : Stands terms (after terms A) = stands_after terms A (Legal-front (opening terms) A (entry main op.Final Ok ∷ B) h.from) in
+    let before : Stands terms (after terms A) = stands_after terms A in
     let now : Stopped (after terms A) = final_stopped terms (after terms A) main h.fits.settings.workers.0 before.0 rest.0 in
-    let late : Stopped (after terms (A ++ entry main op.Final Ok ∷ B)) = subst Stopped (sym (after-append (opening terms) A (entry main op.Final Ok ∷ B))) (after_stopped (after terms A) (entry main op.Final Ok ∷ B) now rest) in
-    ((stands_after terms (A ++ entry main op.Final Ok ∷ B) h.from).1.stopped late).1
+    let late : Stopped (after terms (A ++ entry main op.Final Ok ∷ B)) = subst Stopped (sym (after-append (opening terms) A (entry main op.Final Ok ∷ B))) (after_stopped (after terms A) (entry main op.Final Ok ∷ B) now) in
+    ((stands_after terms (A ++ entry main op.Final Ok ∷ B)).1.stopped late).1
 
 -- The law
 
@@ -132,7 +131,7 @@ unfolding LegalFrom after_from
 listed_after terms P Q e h l i =
     let rest : LegalFrom (after terms P) (e ∷ Q) = Legal-rest (opening terms) P (e ∷ Q) l in
     let now : 1 ≤ listed h (next (after terms P) e).tasks = next_lists (after terms P) e h rest.0 i in
-    let more : listed h (next (after terms P) e).tasks ≤ listed h (after_from (next (after terms P) e) Q).tasks = grows_listed h _ _ (after_grows (next (after terms P) e) Q rest.1) in
+    let more : listed h (next (after terms P) e).tasks ≤ listed h (after_from (next (after terms P) e) Q).tasks = grows_listed h _ _ (after_grows (next (after terms P) e) Q) in
     subst (λ (t : State). 1 ≤ listed h t.tasks) (sym (after-append (opening terms) P (e ∷ Q))) (omega arith)
 
 shown : {A : Type 0} (o : Option A) → IsSome o → (x : A) × (o ≡ Some x)
@@ -141,11 +140,11 @@ shown None i = let n : false ≡ true = i in absurd (cc)
 
 -- a handle is listed at most once
 pub listed_once : (terms : Terms) (es : List NodeEntry) (h : ℕ) → Legal terms es → listed h (after terms es).tasks ≤ 1
-listed_once terms es h legal = (stands_after terms es legal.from).1.once h
+listed_once terms es h legal = (stands_after terms es).1.once h
 
 -- an end that a front shows stays over every longer front
 pub front_stays : (terms : Terms) (es A M B : List NodeEntry) (h : ℕ) (e : TaskEnd) → Legal terms es → es ≡ A ++ (M ++ B) → end_at (after terms A).tasks h ≡ Some e → end_at (after terms (A ++ M)).tasks h ≡ Some e
-front_stays terms es A M B h e legal is i = end_later (opening terms) A M B h e (subst (λ (L : List NodeEntry). LegalFrom (opening terms) L) is legal.from) i
+front_stays terms es A M B h e legal is i = end_later (opening terms) A M h e i
 
 -- and over the whole list
 front_ends : (terms : Terms) (es A M : List NodeEntry) (h : ℕ) (e : TaskEnd) → Legal terms es → es ≡ A ++ M → end_at (after terms A).tasks h ≡ Some e → end_at (after terms es).tasks h ≡ Some e

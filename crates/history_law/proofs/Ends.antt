@@ -6,9 +6,9 @@ use Rattle.handle_pool.specs.Issued.{Listed, listed}
 use Rattle.task_core.specs.Tasks.{Task, TaskState, Scheduled, Running, Over, end_of}
 use Rattle.mtapi_machine.specs.State.{State}
 use Rattle.mtapi_machine.specs.Laws.{Grows}
-use Rattle.mtapi_machine.specs.Legal.{NodeEntry, LegalFrom, after_from}
+use Rattle.mtapi_machine.specs.Legal.{NodeEntry, after_from}
 use Rattle.mtapi_machine.proofs.Ends.{after_grows}
-use Rattle.mtapi_machine.proofs.Lists.{Legal-front, Legal-rest, after-append}
+use Rattle.mtapi_machine.proofs.Lists.{after-append}
 use Rattle.mtapi_machine.specs.Ends.{end_in, end_at}
 use Rattle.history_law.proofs.Held.{HasEnded, AllEnded}
 
@@ -67,10 +67,9 @@ all_end h (r ∷ rs) a i = by_handle (r.handle == h) (all_end h rs a.1) i
     by_handle true rest k = ended_end r.fields a.0
     by_handle false rest k = rest (omega arith)
 
--- between two fronts of a legal list the tasks have grown
-pub fronts_grow : (s : State) (P M Q : List NodeEntry) → LegalFrom s (P ++ (M ++ Q)) → Grows (after_from s P).tasks (after_from s (P ++ M)).tasks
-fronts_grow s P M Q h =
-    subst (λ (t : State). Grows (after_from s P).tasks t.tasks) (sym (after-append s P M)) (after_grows (after_from s P) M (Legal-front (after_from s P) M Q (Legal-rest s P (M ++ Q) h)))
+-- between two fronts of a list the tasks have grown
+pub fronts_grow : (s : State) (P M : List NodeEntry) → Grows (after_from s P).tasks (after_from s (P ++ M)).tasks
+fronts_grow s P M = subst (λ (t : State). Grows (after_from s P).tasks t.tasks) (sym (after-append s P M)) (after_grows (after_from s P) M)
 
-pub end_later : (s : State) (P M Q : List NodeEntry) (h : ℕ) (e : TaskEnd) → LegalFrom s (P ++ (M ++ Q)) → end_at (after_from s P).tasks h ≡ Some e → end_at (after_from s (P ++ M)).tasks h ≡ Some e
-end_later s P M Q h e l i = grows_end h e (after_from s P).tasks (after_from s (P ++ M)).tasks (fronts_grow s P M Q l) i
+pub end_later : (s : State) (P M : List NodeEntry) (h : ℕ) (e : TaskEnd) → end_at (after_from s P).tasks h ≡ Some e → end_at (after_from s (P ++ M)).tasks h ≡ Some e
+end_later s P M h e i = grows_end h e (after_from s P).tasks (after_from s (P ++ M)).tasks (fronts_grow s P M) i

@@ -1,6 +1,8 @@
 pub mod Held
-pub mod Rows
-pub mod Marks
+pub mod Moves
 pub mod Ends
 pub mod Accepted
 pub mod Worked
+pub mod SeatMoves
+pub mod Found
+pub mod Others

@@ -4,6 +4,7 @@
 ghost use Rattle.mtapi_machine.specs.Legal.{Legal};
 ghost use Rattle.history_law.specs.Accepted.{AcceptedTasksEndOnce};
 ghost use Rattle.history_law.specs.Ends.{terms_of, OneEnd, EndsAfterClose};
+ghost use Rattle.history_law.specs.Seats.{WaiterStays, WorkStays, NoLateEnd, PhaseStays, ReleaseStays, StoppedStays, UnstartedAreUntouched};
 ghost use Rattle.history_law.specs.Worked.{OneTaskEnds};
 
 #[cfg(test)]
@@ -33,4 +34,36 @@ pub fn law_end_after_close(settings: &NodeAttr, callers: u32, entries: &[Entry],
 /// A worked history: its one task ends once, and how.
 pub fn worked_end()
     ensures { OneTaskEnds }
+{}
+
+/// A seat's mark as the waiter of a task is kept by the entries of other seats.
+pub fn law_waiter_stays()
+    ensures { WaiterStays }
+{}
+
+/// A task that a worker took stays on it, with its kind and its arguments, over the entries of other seats; and a worker that has none
+/// gets none by them.
+pub fn law_work_stays()
+    ensures { WorkStays }
+{}
+
+/// No task ends with the failure TIMEOUT.
+pub fn law_no_late_end()
+    ensures { NoLateEnd }
+{}
+
+/// The phase is moved by its own three ops alone, and the release by its one.
+pub fn law_phase_stays()
+    ensures phase { PhaseStays }
+    ensures release { ReleaseStays }
+{}
+
+/// A task that hasn't begun has neither looked nor been told anything.
+pub fn law_untouched()
+    ensures { UnstartedAreUntouched }
+{}
+
+/// A worker that has stopped stays so.
+pub fn law_stopped_stays()
+    ensures { StoppedStays }
 {}

@@ -4,15 +4,16 @@
 mod action;
 pub mod cover;
 
-ghost use Rattle.std.specs.Prelude.{◌≡◌, ◌+◌, ◌≤◌, ◌<◌, true, false, replicate, IfOk, OnOk, OnErr};
+ghost use Rattle.std.specs.Prelude.{◌≡◌, ◌+◌, ◌≤◌, ◌<◌, ℕ, List, true, false, replicate, Some, slice_get, IsSome, IfSome, IfNone, IfOk, OnOk, OnErr};
 ghost use Rattle.handle_pool.specs.Slots.{get, free_slot, without, changed};
-ghost use Rattle.job_table.specs.Actions.{with_enabled};
-ghost use Rattle.job_table.specs.Answers.{Creates, Covers, Chooses, job_of};
-ghost use Rattle.job_table.specs.Cover.{CoversBelow};
+ghost use Rattle.job_table.specs.Actions.{Action, with_enabled};
+ghost use Rattle.job_table.specs.Answers.{Creates, Covers, Chooses, job_of, runs_job_on};
+ghost use Rattle.job_table.specs.Cover.{CoversBefore};
 
 use action::StoredAction;
 pub use cover::Cover;
 use handle_pool::Pool;
+use linked_places::LinkedLists;
 use mtapi_values::{ActionHandle, Kind, Mask, MtapiStatus};
 use std::alloc::{AllocError, Global};
 use std::marker::Model;
@@ -21,6 +22,8 @@ use std::marker::Model;
 #[derive(Drop)]
 pub struct Actions {
     pool: Pool<StoredAction>,
+    // As many lists as places; that of an action is its job's remainder.
+    jobs: LinkedLists,
 }
 
 impl Model for Actions {
@@ -30,6 +33,10 @@ impl Model for Actions {
     ghost Value = { Slots Action };
 
     ghost view = { λ a. a.pool };
+
+    ghost use Rattle.job_table.specs.Cover.{AreListed};
+
+    ghost invariant = { λ a. AreListed a.pool a.jobs };
 }
 
 impl Actions {
@@ -43,6 +50,7 @@ impl Actions {
     {
         Ok(Actions {
             pool: Pool::new(alloc, max, generations)?,
+            jobs: LinkedLists::new(alloc, max, max)?,
         })
     }
 
@@ -53,8 +61,12 @@ impl Actions {
         if job == 0 || job > 65535 {
             return Err(MtapiStatus::ErrJobInvalid);
         }
+        let lists = self.pool.max();
         match self.pool.insert(StoredAction::new(job, kind, cores)) {
-            Ok(handle) => Ok(ActionHandle(handle)),
+            Ok(handle) => {
+                self.jobs.push(job % lists, handle);
+                Ok(ActionHandle(handle))
+            }
             Err(_) => Err(MtapiStatus::ErrActionLimit),
         }
     }
@@ -65,9 +77,13 @@ impl Actions {
         ensures ok { OnOk result (self.new ≡ without self.old a.0) }
         ensures err { OnErr result (self.new ≡ self.old) }
     {
+        let lists = self.pool.max();
         match self.pool.remove(a.0) {
             None => Err(MtapiStatus::ErrActionInvalid),
-            Some(action) => Ok(action.job()),
+            Some(action) => {
+                self.jobs.remove(action.job() % lists, a.0);
+                Ok(action.job())
+            }
         }
     }
 
@@ -91,35 +107,22 @@ impl Actions {
         ensures reply { result ≡ job_of (get self.old a.0) }
         ensures new { self.new ≡ changed self.old a.0 (with_enabled enabled) }
     {
-        match self.pool.get_mut(a.0) {
-            None => Err(MtapiStatus::ErrActionInvalid),
-            Some(action) => {
-                action.set_enabled(enabled);
-                Ok(action.job())
-            }
-        }
+        set_enabled_in(&mut self.pool, a.0, enabled)
     }
 
     /// Which cores the live actions of a job cover.
     pub fn cover(&self, job: u32) -> Cover
         ensures { Covers self.now job result }
     {
+        let list = job % self.pool.max();
         let mut cover = Cover::NoAction;
-        for place in 0..self.pool.max() {
-            cover = self.cover_at(cover, job, place);
+        let mut next = self.jobs.first(list);
+        for _index in 0..self.jobs.len(list) {
+            let Some(handle) = next else { unreachable!() };
+            cover = cover_at(&self.pool, cover, job, handle);
+            next = self.jobs.next(handle);
         }
         cover
-    }
-
-    // The cover of the actions below a place, with the action at that place.
-    fn cover_at(&self, cover: Cover, job: u32, place: u32) -> Cover
-        requires { CoversBelow self.now place job cover }
-        ensures { CoversBelow self.now (place + 1) job result }
-    {
-        match self.pool.slot_at(place) {
-            Some((_, action)) if action.has_job(job) => cover.with(action),
-            _ => cover,
-        }
     }
 
     /// Some live, enabled action of the job whose mask has the worker, and its kind.
@@ -127,14 +130,58 @@ impl Actions {
         requires { worker < 64 }
         ensures { Chooses self.now job worker result }
     {
-        for place in 0..self.pool.max() {
-            if let Some((handle, action)) = self.pool.slot_at(place) {
-                if action.runs_job_on(job, worker) {
-                    return Some((ActionHandle(handle), action.kind()));
-                }
+        let list = job % self.pool.max();
+        let mut next = self.jobs.first(list);
+        for _index in 0..self.jobs.len(list) {
+            let Some(handle) = next else { unreachable!() };
+            if let Some(kind) = runs_at(&self.pool, job, worker, handle) {
+                return Some((ActionHandle(handle), kind));
             }
+            next = self.jobs.next(handle);
         }
         None
+    }
+}
+
+// Enables or disables an action, and gives its job.
+fn set_enabled_in(
+    pool: &mut Pool<StoredAction>,
+    handle: u64,
+    enabled: bool,
+) -> Result<u32, MtapiStatus>
+    ensures reply { result ≡ job_of (get pool.old handle) }
+    ensures new { pool.new ≡ changed pool.old handle (with_enabled enabled) }
+{
+    match pool.get_mut(handle) {
+        None => Err(MtapiStatus::ErrActionInvalid),
+        Some(action) => {
+            action.set_enabled(enabled);
+            Ok(action.job())
+        }
+    }
+}
+
+// The cover of the actions before a handle of the list, with the action of this handle.
+fn cover_at(pool: &Pool<StoredAction>, cover: Cover, job: u32, handle: u64) -> Cover
+    requires { IsSome (get pool.now handle) }
+    ensures { (hs : List ℕ) (index : ℕ) → slice_get hs index ≡ Some handle → CoversBefore pool.now hs index job cover → CoversBefore pool.now hs (index + 1) job result }
+{
+    match pool.get(handle) {
+        Some(action) if action.has_job(job) => cover.with(action),
+        _ => cover,
+    }
+}
+
+// The kind of the action of this handle, if it is enabled, has this job, and its mask has the worker.
+fn runs_at(pool: &Pool<StoredAction>, job: u32, worker: u32, handle: u64) -> Option<Kind>
+    requires worker { worker < 64 }
+    requires live { IsSome (get pool.now handle) }
+    ensures some { IfSome result (λ kind. (a : Action) × (get pool.now handle ≡ Some a) × (a.kind ≡ kind) × (runs_job_on job worker a ≡ true)) }
+    ensures none { IfNone result ((a : Action) → get pool.now handle ≡ Some a → runs_job_on job worker a ≡ true → ⊥) }
+{
+    match pool.get(handle) {
+        Some(action) if action.runs_job_on(job, worker) => Some(action.kind()),
+        _ => None,
     }
 }
 

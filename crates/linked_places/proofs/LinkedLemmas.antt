@@ -309,7 +309,7 @@ replicate-read zero number x y found = absurd (cc)
 replicate-read (suc count) zero x y found = cc
 replicate-read (suc count) (suc number) x y found = replicate-read count number x y found
 
-list_at-past : (links : List Link) (ends : List Ends) (number : ℕ) → slice_get ends number ≡ None → list_at (map (handles_of links) ends) number ≡ []
+pub list_at-past : (links : List Link) (ends : List Ends) (number : ℕ) → slice_get ends number ≡ None → list_at (map (handles_of links) ends) number ≡ []
 list_at-past links [] number past = refl
 list_at-past links (e ∷ es) zero past = absurd (cc)
 list_at-past links (e ∷ es) (suc number) past = list_at-past links es number past

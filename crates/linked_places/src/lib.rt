@@ -1,7 +1,7 @@
 //! Lists of handles, linked through the places that the handles name.
 #![tactic(auto)]
 
-ghost use Rattle.std.specs.Prelude.{◌≡◌, ◌≤◌, ◌<◌, [], ◌∷◌, ◌++◌, false, true, length, replicate, IfOk, slice_get};
+ghost use Rattle.std.specs.Prelude.{◌≡◌, ◌+◌, ℕ, Some, ◌≤◌, ◌<◌, [], ◌∷◌, ◌++◌, false, true, length, replicate, IfOk, slice_get};
 ghost use Rattle.handle_pool.specs.Slots.{slot_of};
 ghost use Rattle.linked_places.specs.Links.{links_followed, links_following, IsWithin};
 ghost use Rattle.linked_places.specs.Lists.{list_at, stands_at, has_handle, without_handle, NowhereAt, with_list};
@@ -128,6 +128,17 @@ impl LinkedLists {
     {
         match self.ends[list as usize].first {
             Some(place) => Some(self.links[place as usize].handle),
+            None => None,
+        }
+    }
+
+    /// The handle after this one in its list.
+    pub fn next(&self, handle: u64) -> Option<u64>
+        requires { (list : ℕ) × (has_handle handle (list_at self.now.lists list) ≡ true) }
+        ensures { (list i : ℕ) → slice_get (list_at self.now.lists list) i ≡ Some handle → result ≡ slice_get (list_at self.now.lists list) (i + 1) }
+    {
+        match self.links[(handle % SPAN) as usize].next {
+            Some(after) => Some(self.links[after as usize].handle),
             None => None,
         }
     }

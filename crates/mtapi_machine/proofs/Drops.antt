@@ -14,17 +14,16 @@ use Rattle.mtapi_values.specs.Seats.{is_seat}
 use Rattle.task_core.specs.Tasks.{Task, TaskState, Scheduled, Running, Over, with_waiter, task_look_refusals}
 use Rattle.mtapi_machine.specs.State.{State}
 use Rattle.mtapi_machine.specs.Row.{Row, unless, says, gives, never, Allows, after_row, mtapi_unless, live}
+use Rattle.mtapi_machine.specs.Moves.{after_moves}
 use Rattle.mtapi_machine.specs.Rows.{row, looks_at}
 use Rattle.history.specs.Histories.{entry}
 use Rattle.mtapi_machine.specs.Legal.{NodeEntry, IsNext, next, LegalFrom, after_from}
 use Rattle.mtapi_machine.specs.Kept.{pends_alike, drops, is_dropped, kept}
 use Rattle.mtapi_machine.specs.Laws.{DropsRightly}
 use Rattle.mtapi_machine.proofs.Refusals.{entry_stays, idle_stays}
+use Rattle.mtapi_machine.proofs.Made.{some_same}
 
 module _ {T : Type 0} where
-  pub some_same : {a b : T} → Some a ≡ Some b → a ≡ b
-  some_same h = cc
-
   -- a change that changes nothing
   pub update-same : (h : ℕ) (f : T → T) (v : T) (l : List (Listed T)) → at l h ≡ Some v → f v ≡ v → update h f l ≡ l
   unfolding live_of change
@@ -61,15 +60,13 @@ module _ {T : Type 0} where
 -- where the row gives this reply, the state stays
 abbrev KeepsAt : State → Reply → Row → Type 0
 KeepsAt s r (unless c x w) = KeepsAt s r w
-KeepsAt s r (says x) = Unit {0}
-KeepsAt s r (gives x t) = x ≡ r → t ≡ s
+KeepsAt s r (gives x ms) = x ≡ r → after_moves ms s ≡ s
 KeepsAt s r never = Unit {0}
 
 keeps : (s : State) (r : Reply) (w : Row) → KeepsAt s r w → Allows w r → after_row s w ≡ s
 keeps s r (unless true x w) k a = refl
 keeps s r (unless false x w) k a = keeps s r w k a
-keeps s r (says x) k a = refl
-keeps s r (gives x t) k a = k (sym a)
+keeps s r (gives x ms) k a = k (sym a)
 keeps s r never k a = absurd a
 
 same_seat : (who : ℕ) (w : Option ℕ) → is_seat who w ≡ true → Some who ≡ w
@@ -79,7 +76,7 @@ same_seat who (Some other) e = ap Some (eq who other e)
     eq : (a b : ℕ) → (b == a) ≡ true → a ≡ b
     eq a b e = grind (arith, nat_tests)
 
-looks_keep : (s : State) (who h : ℕ) (last : Bool) (x : TaskState) → update h (with_waiter (Some who)) s.tasks ≡ s.tasks → KeepsAt s Pending (looks_at s who h last x)
+looks_keep : (s : State) (who h : ℕ) (last : Bool) (x : TaskState) → update h (with_waiter (Some who)) s.tasks ≡ s.tasks → KeepsAt s Pending (looks_at who h last x)
 looks_keep s who h true Scheduled u = λ e. absurd (cc)
 looks_keep s who h false Scheduled u = λ e i. record s { tasks = u i }
 looks_keep s who h true (Running w k) u = λ e. absurd (cc)
@@ -87,8 +84,8 @@ looks_keep s who h false (Running w k) u = λ e i. record s { tasks = u i }
 looks_keep s who h last (Over x n) u = λ e. absurd (cc)
 
 look_keeps : (s : State) (who : ℕ) (t : TaskHandle) (last : Bool) (o : Option Task) → at s.tasks t.0 ≡ o → holds (λ x. is_seat who x.waiter) o ≡ true →
-    KeepsAt s Pending (live o (Mtapi m.ErrTaskInvalid) (λ x. mtapi_unless (task_look_refusals who x) (looks_at s who t.0 last x.state)))
-look_keeps s who t last None a e = tt
+    KeepsAt s Pending (live o (says (Mtapi m.ErrTaskInvalid)) (λ x. mtapi_unless (task_look_refusals who x) (looks_at who t.0 last x.state)))
+look_keeps s who t last None a e = λ k. refl
 look_keeps s who t last (Some x) a e =
     looks_keep s who t.0 last x.state (update-same t.0 (with_waiter (Some who)) x s.tasks a (λ i. record x { waiter = same_seat who x.waiter e i }))
 
@@ -101,15 +98,13 @@ pending_stays s who o h e = entry_stays s (entry who o Pending) h refl
 -- where the row gives this reply, the state changes
 abbrev ChangesAt : State → Reply → Row → Type 0
 ChangesAt s r (unless c x w) = (x ≡ r → ⊥) × ChangesAt s r w
-ChangesAt s r (says x) = x ≡ r → ⊥
-ChangesAt s r (gives x t) = x ≡ r → t ≡ s → ⊥
+ChangesAt s r (gives x ms) = x ≡ r → after_moves ms s ≡ s → ⊥
 ChangesAt s r never = Unit {0}
 
 changes : (s : State) (r : Reply) (w : Row) → ChangesAt s r w → Allows w r → after_row s w ≡ s → ⊥
 changes s r (unless true x w) k a e = k.0 (sym a)
 changes s r (unless false x w) k a e = changes s r w k.1 a e
-changes s r (says x) k a e = k (sym a)
-changes s r (gives x t) k a e = k (sym a) e
+changes s r (gives x ms) k a e = k (sym a) e
 changes s r never k a e = a
 
 no_seat : (who : ℕ) (w : Option ℕ) → Some who ≡ w → is_seat who w ≡ false → ⊥
@@ -118,7 +113,7 @@ no_seat who w e n = apart (ap (is_seat who) e ∙ n)
     apart : (who == who) ≡ false → ⊥
     apart d = grind (arith, nat_tests)
 
-looks_change : (s : State) (who h : ℕ) (last : Bool) (x : TaskState) → (update h (with_waiter (Some who)) s.tasks ≡ s.tasks → ⊥) → ChangesAt s Pending (looks_at s who h last x)
+looks_change : (s : State) (who h : ℕ) (last : Bool) (x : TaskState) → (update h (with_waiter (Some who)) s.tasks ≡ s.tasks → ⊥) → ChangesAt s Pending (looks_at who h last x)
 looks_change s who h true Scheduled u = λ e. absurd (cc)
 looks_change s who h false Scheduled u = λ e f. u (ap (λ (y : State). y.tasks) f)
 looks_change s who h true (Running w k) u = λ e. absurd (cc)
@@ -126,8 +121,8 @@ looks_change s who h false (Running w k) u = λ e f. u (ap (λ (y : State). y.ta
 looks_change s who h last (Over x n) u = λ e. absurd (cc)
 
 look_changes : (s : State) (who : ℕ) (t : TaskHandle) (last : Bool) (o : Option Task) → at s.tasks t.0 ≡ o → holds (λ x. is_seat who x.waiter) o ≡ false →
-    ChangesAt s Pending (live o (Mtapi m.ErrTaskInvalid) (λ x. mtapi_unless (task_look_refusals who x) (looks_at s who t.0 last x.state)))
-look_changes s who t last None a e = λ k. absurd (cc)
+    ChangesAt s Pending (live o (says (Mtapi m.ErrTaskInvalid)) (λ x. mtapi_unless (task_look_refusals who x) (looks_at who t.0 last x.state)))
+look_changes s who t last None a e = λ k d. absurd (cc)
 look_changes s who t last (Some x) a e = (
   λ k. absurd (cc),
   (

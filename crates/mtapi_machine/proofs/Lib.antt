@@ -1,3 +1,5 @@
+pub mod Made
+pub mod Moves
 pub mod Lists
 pub mod Refusals
 pub mod Drops
@@ -5,3 +7,4 @@ pub mod Ends
 pub mod Served
 pub mod Replays
 pub mod Worked
+pub mod Families

@@ -8,7 +8,7 @@ use Rattle.mtapi_machine.specs.declared.replies.Reply.{Reply}
 use Rattle.mtapi_values.specs.declared.handles.TaskHandle.{TaskHandle}
 use Rattle.action_fn.specs.Answers.{Answered}
 use Rattle.mtapi_machine.specs.State.{State, seats}
-use Rattle.mtapi_machine.specs.Row.{Row, unless, says, gives, never, Allows}
+use Rattle.mtapi_machine.specs.Row.{Row, unless, gives, never, Allows}
 use Rattle.history.specs.Histories.{entry}
 use Rattle.mtapi_machine.specs.Legal.{NodeEntry, IsHonest, IsNext, row_of, next, LegalFrom}
 use Rattle.mtapi_machine.specs.Replay.{answer, is_sound, corrected, said_with, retold, put, replay}
@@ -20,14 +20,12 @@ Allows-answer (unless true x w) r h = sym (some_same h)
     some_same : {A : Type 0} {a b : A} → Some a ≡ Some b → a ≡ b
     some_same h = cc
 Allows-answer (unless false x w) r h = Allows-answer w r h
-Allows-answer (says x) r h = cc
 Allows-answer (gives x s) r h = cc
 Allows-answer never r h = cc
 
 answer-allowed : (w : Row) (r : Reply) → Allows w r → answer w ≡ Some r
 answer-allowed (unless true x w) r h = ap Some (sym h)
 answer-allowed (unless false x w) r h = answer-allowed w r h
-answer-allowed (says x) r h = ap Some (sym h)
 answer-allowed (gives x s) r h = ap Some (sym h)
 answer-allowed never r h = absurd h
 

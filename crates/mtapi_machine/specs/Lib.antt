@@ -1,7 +1,9 @@
 pub mod State
 pub mod Ends
+pub mod Moves
 pub mod Row
 pub mod Rows
+pub mod Families
 pub mod Legal
 pub mod Kept
 pub mod Shown

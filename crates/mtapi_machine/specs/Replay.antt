@@ -6,14 +6,13 @@ use Rattle.mtapi_machine.specs.declared.ops.Op.{Op}
 use Rattle.mtapi_machine.specs.declared.ops.Op.TheVariants.{Finish}
 use Rattle.mtapi_machine.specs.declared.replies.Reply.{Reply}
 use Rattle.mtapi_machine.specs.State.{State, seats}
-use Rattle.mtapi_machine.specs.Row.{Row, unless, says, gives, never}
+use Rattle.mtapi_machine.specs.Row.{Row, unless, gives, never}
 use Rattle.mtapi_machine.specs.Legal.{NodeEntry, row_of, next}
 
 -- the reply that a row gives
 abbrev pub answer : Row → Option Reply
 answer (unless c x row) = if c then Some x else answer row
-answer (says x) = Some x
-answer (gives x s) = Some x
+answer (gives x moves) = Some x
 answer never = None
 
 -- a `finish` is of a pure kind

@@ -10,9 +10,9 @@ use Rattle.mtapi_machine.specs.declared.terms.Phase.TheVariants.{New, Open, Clos
 use Rattle.mtapi_machine.specs.declared.terms.Terms.{Terms}
 use Rattle.mtapi_machine.specs.declared.replies.Reply.{Reply}
 use Rattle.mtapi_machine.specs.declared.replies.Reply.TheVariants.{Mtapi, Mrapi}
-use Rattle.handle_pool.specs.Issued.{Listed, count, change, update, retire}
+use Rattle.handle_pool.specs.Issued.{Listed, any, count, change, update, retire}
 use Rattle.job_table.specs.Actions.{Action}
-use Rattle.task_core.specs.Tasks.{Task, end_each, ended}
+use Rattle.task_core.specs.Tasks.{Task, is_unended, end_each, ended}
 use Rattle.group_core.specs.Groups.{Group}
 use Rattle.queue_core.specs.Queues.{Queue}
 use Rattle.mrapi_mutex.specs.Mutexes.{Mutex}
@@ -83,6 +83,10 @@ is_up p = is_open p
 -- the phase is Closing or Closed
 abbrev pub is_late : Phase → Bool
 is_late p = not (is_new p) && not (is_open p)
+
+-- the phase is Closing or Closed, and no task is scheduled or running
+abbrev pub is_stop : State → Bool
+is_stop s = is_late s.phase && not (any is_unended s.tasks)
 
 -- Objects
 

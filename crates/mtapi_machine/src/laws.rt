@@ -1,7 +1,12 @@
 //! Laws that follow from the definitions of the machine alone. Each function does nothing: its contract is the law.
 
-ghost use Rattle.mtapi_machine.specs.Laws.{PrefixIsLegal, NextIsLegal, StatusStays, DroppedStays, DroppingIsLegal, TasksStay, TasksAreServed, LegalReplays};
+ghost use Rattle.mtapi_machine.specs.Laws.{MovesAreMade, PrefixIsLegal, NextIsLegal, StatusStays, DroppedStays, DroppingIsLegal, TasksStay, TasksAreServed, LegalReplays};
 ghost use Rattle.mtapi_machine.specs.Worked.{WorkedHistories};
+
+/// Every move of a row is made where it may be.
+pub fn law_made()
+    ensures { MovesAreMade }
+{}
 
 /// Every prefix of a legal list is legal.
 pub fn law_prefix()

@@ -17,11 +17,10 @@ use Rattle.job_table.specs.declared.cover.Cover.TheVariants.{NoAction, AllDisabl
 use Rattle.mtapi_machine.specs.declared.ops.Op.TheVariants as op
 use Rattle.mtapi_machine.specs.declared.replies.Reply.{Reply}
 use Rattle.mtapi_machine.specs.declared.replies.Reply.TheVariants as reply
-use Rattle.mtapi_machine.specs.State.{State, is_open}
-use Rattle.mtapi_machine.specs.Row.{issues}
+use Rattle.mtapi_machine.specs.State.{is_open}
 use Rattle.node_core.specs.declared.node.Node.{Node}
 use Rattle.node_core.specs.Stands.{Lists, Holds, Live, Steps}
-use Rattle.node_core.proofs.Gives.{Gives, gives_this, met, past, met_in, past_all, at_some, steps, stays}
+use Rattle.node_core.proofs.Gives.{allows, gives_this, met, past, met_in, past_all, at_some, steps, stays}
 use Rattle.node_core.proofs.Moves.{found, full_list, room_in, may_be, holds_insert, holds_changed}
 
 pub not_true : (b : Bool) → b ≡ true → not b ≡ false
@@ -30,11 +29,6 @@ not_true b e = ap not e
 both : (a b : Bool) → (a && b) ≡ true → b ≡ true
 both true b e = e
 both false b e = absurd (cc)
-
--- an issue, where the handle may be issued
-pub issues_this : (s t : State) (b : Bool) (h : ℕ) → b ≡ true → Gives s (issues b h t) (reply.Handle h) t
-issues_this s t true h e = gives_this s t (reply.Handle h)
-issues_this s t false h e = absurd (cc)
 
 -- which job has an action, by the cores that its actions cover
 pub covers_none : (size turns : ℕ) (p : Slots Action) (l : List (Listed Action)) (job : ℕ) → Holds size turns p l → Covers p job NoAction → any (has_job job) l ≡ false
@@ -60,26 +54,26 @@ create_refused : (n : Node) (l : Lists) (who job : ℕ) (kind : Kind) (cores : M
 create_refused n l who job kind cores c v up f =
     stays n l who (op.ActionCreate job kind cores) (reply.Mtapi c) v tt (past _ _ _ _ _ _ (not_true _ up) (met_in _ (action_create_refusals job) c _ f))
 
-create_full : (n : Node) (l : Lists) (who job : ℕ) (kind : Kind) (cores : Mask) → Live n l → is_open n.core.phase ≡ true → first (action_create_refusals job) ≡ None → IsFull n.actions → Steps n l who (op.ActionCreate job kind cores) (reply.Mtapi m.ErrActionLimit) n
+create_full : (n : Node) (l : Lists) (who job : ℕ) (kind : Kind) (cores : Mask) → Live n l → is_open n.core.phase ≡ true → first (action_create_refusals job) ≡ None → IsFull n.board.actions → Steps n l who (op.ActionCreate job kind cores) (reply.Mtapi m.ErrActionLimit) n
 create_full n l who job kind cores v up f full =
     stays n l who (op.ActionCreate job kind cores) (reply.Mtapi m.ErrActionLimit) v tt
-    (past _ _ _ _ _ _ (not_true _ up) (past_all _ _ (action_create_refusals job) _ _ f (met _ _ _ _ (full_list _ _ n.actions l.actions v.actions full))))
+    (past _ _ _ _ _ _ (not_true _ up) (past_all _ _ (action_create_refusals job) _ _ f (met _ _ _ _ (full_list _ _ n.board.actions l.actions v.actions full))))
 
-create_made : (n : Node) (q : Slots Action) (l : Lists) (who job : ℕ) (kind : Kind) (cores : Mask) (h : ℕ) → Live n l → is_open n.core.phase ≡ true → first (action_create_refusals job) ≡ None → (IsFull n.actions → ⊥) → Inserts n.actions q h (new_action job kind cores.0) → Steps n l who (op.ActionCreate job kind cores) (reply.Handle h) (record n { actions = q })
+create_made : (n : Node) (q : Slots Action) (l : Lists) (who job : ℕ) (kind : Kind) (cores : Mask) (h : ℕ) → Live n l → is_open n.core.phase ≡ true → first (action_create_refusals job) ≡ None → (IsFull n.board.actions → ⊥) → Inserts n.board.actions q h (new_action job kind cores.0) → Steps n l who (op.ActionCreate job kind cores) (reply.Handle h) (record n { board = record n.board { actions = q } })
 create_made n q l who job kind cores h v up f room i =
-    steps n (record n { actions = q }) l (record l { actions = issue h (new_action job kind cores.0) l.actions }) who (op.ActionCreate job kind cores) (reply.Handle h)
-    (past _ _ _ _ _ _ (not_true _ up) (past_all _ _ (action_create_refusals job) _ _ f (past _ _ _ _ _ _ (room_in _ _ n.actions l.actions v.actions room) (issues_this _ _ _ h (may_be _ _ n.actions q l.actions h _ v.actions i)))))
-    (record { actions = holds_insert _ _ n.actions q l.actions h (new_action job kind cores.0) v.actions i; tasks = v.tasks })
+    steps n (record n { board = record n.board { actions = q } }) l (record l { actions = issue h (new_action job kind cores.0) l.actions }) who (op.ActionCreate job kind cores) (reply.Handle h)
+    (past _ _ _ _ _ _ (not_true _ up) (past_all _ _ (action_create_refusals job) _ _ f (past _ _ _ _ _ _ (room_in _ _ n.board.actions l.actions v.actions room) (allows _ _ _ _ _ (may_be _ _ n.board.actions q l.actions h _ v.actions i) (gives_this _ _ _)))))
+    (record { actions = holds_insert _ _ n.board.actions q l.actions h (new_action job kind cores.0) v.actions i; tasks = v.tasks })
     refl (omega arith) tt
 
-as_was : (n : Node) (q : Slots Action) (l : Lists) (who job : ℕ) (kind : Kind) (cores : Mask) (r : Reply) → q ≡ n.actions → Steps n l who (op.ActionCreate job kind cores) r n → Steps n l who (op.ActionCreate job kind cores) r (record n { actions = q })
-as_was n q l who job kind cores r e s = subst (λ (p : Slots Action). Steps n l who (op.ActionCreate job kind cores) r (record n { actions = p })) (sym e) s
+as_was : (n : Node) (q : Slots Action) (l : Lists) (who job : ℕ) (kind : Kind) (cores : Mask) (r : Reply) → q ≡ n.board.actions → Steps n l who (op.ActionCreate job kind cores) r n → Steps n l who (op.ActionCreate job kind cores) r (record n { board = record n.board { actions = q } })
+as_was n q l who job kind cores r e s = subst (λ (p : Slots Action). Steps n l who (op.ActionCreate job kind cores) r (record n { board = record n.board { actions = p } })) (sym e) s
 
-create_failed : (n : Node) (q : Slots Action) (l : Lists) (who job : ℕ) (kind : Kind) (cores : Mask) (c : MtapiStatus) → Live n l → is_open n.core.phase ≡ true → Creates n.actions job kind cores.0 (Err c) q → Steps n l who (op.ActionCreate job kind cores) (reply.Mtapi c) (record n { actions = q })
+create_failed : (n : Node) (q : Slots Action) (l : Lists) (who job : ℕ) (kind : Kind) (cores : Mask) (c : MtapiStatus) → Live n l → is_open n.core.phase ≡ true → Creates n.board.actions job kind cores.0 (Err c) q → Steps n l who (op.ActionCreate job kind cores) (reply.Mtapi c) (record n { board = record n.board { actions = q } })
 create_failed n q l who job kind cores m.ErrActionLimit v up c = as_was n q l who job kind cores _ c.2 (create_full n l who job kind cores v up c.0 c.1)
 create_failed n q l who job kind cores x v up c = as_was n q l who job kind cores _ c.1 (create_refused n l who job kind cores x v up c.0)
 
-pub create_steps : (n : Node) (q : Slots Action) (l : Lists) (who job : ℕ) (kind : Kind) (cores : Mask) (x : Result ActionHandle MtapiStatus) → Live n l → is_open n.core.phase ≡ true → Creates n.actions job kind cores.0 x q → Steps n l who (op.ActionCreate job kind cores) (create_reply x) (record n { actions = q })
+pub create_steps : (n : Node) (q : Slots Action) (l : Lists) (who job : ℕ) (kind : Kind) (cores : Mask) (x : Result ActionHandle MtapiStatus) → Live n l → is_open n.core.phase ≡ true → Creates n.board.actions job kind cores.0 x q → Steps n l who (op.ActionCreate job kind cores) (create_reply x) (record n { board = record n.board { actions = q } })
 create_steps n q l who job kind cores (Ok a) v up c = create_made n q l who job kind cores a.0 v up c.0 c.1 c.2
 create_steps n q l who job kind cores (Err x) v up c = create_failed n q l who job kind cores x v up c
 
@@ -88,13 +82,13 @@ job_found : (o : Option Action) (j : ℕ) → job_of o ≡ Ok j → (x : Action)
 job_found None j e = absurd (cc)
 job_found (Some x) j e = (x, refl)
 
-pub enable_steps : (n : Node) (q : Slots Action) (l : Lists) (who j : ℕ) (a : ActionHandle) → Live n l → is_open n.core.phase ≡ true → job_of (get n.actions a.0) ≡ Ok j → q ≡ changed n.actions a.0 (with_enabled true) → Steps n l who (op.ActionEnable a) reply.Ok (record n { actions = q })
+pub enable_steps : (n : Node) (q : Slots Action) (l : Lists) (who j : ℕ) (a : ActionHandle) → Live n l → is_open n.core.phase ≡ true → job_of (get n.board.actions a.0) ≡ Ok j → q ≡ changed n.board.actions a.0 (with_enabled true) → Steps n l who (op.ActionEnable a) reply.Ok (record n { board = record n.board { actions = q } })
 enable_steps n q l who j a v up e new =
-    let x = job_found (get n.actions a.0) j e in
-    subst (λ (p : Slots Action). Steps n l who (op.ActionEnable a) reply.Ok (record n { actions = p })) (sym new)
-    (steps n (record n { actions = changed n.actions a.0 (with_enabled true) }) l (record l { actions = update a.0 (with_enabled true) l.actions }) who (op.ActionEnable a) reply.Ok
-    (past _ _ _ _ _ _ (not_true _ up) (at_some _ _ _ x.0 _ _ _ (found _ _ n.actions l.actions a.0 (Some x.0) v.actions x.1) (gives_this _ _ _)))
-    (record { actions = holds_changed _ _ n.actions l.actions a.0 (with_enabled true) v.actions; tasks = v.tasks })
+    let x = job_found (get n.board.actions a.0) j e in
+    subst (λ (p : Slots Action). Steps n l who (op.ActionEnable a) reply.Ok (record n { board = record n.board { actions = p } })) (sym new)
+    (steps n (record n { board = record n.board { actions = changed n.board.actions a.0 (with_enabled true) } }) l (record l { actions = update a.0 (with_enabled true) l.actions }) who (op.ActionEnable a) reply.Ok
+    (past _ _ _ _ _ _ (not_true _ up) (at_some _ _ _ x.0 _ _ _ (found _ _ n.board.actions l.actions a.0 (Some x.0) v.actions x.1) (gives_this _ _ _)))
+    (record { actions = holds_changed _ _ n.board.actions l.actions a.0 (with_enabled true) v.actions; tasks = v.tasks })
     refl (omega arith) tt)
 
 -- one of the two other cases

@@ -1,14 +1,19 @@
 -- What a row gives: a reply that it allows, and the state after it. One word for each part of a row.
-use Rattle.std.proofs.Common.{◌≡◌, ℕ, ◌+◌, ◌≤◌, Bool, true, false, List, [], ◌∷◌, Option, Some, None, refl, sym, subst, arith}
+use Rattle.std.proofs.Common.{◌≡◌, ℕ, ◌+◌, ◌≤◌, Bool, true, false, List, [], ◌∷◌, Option, Some, None, refl, sym, ◌∙◌, subst, arith}
 use Rattle.mtapi_values.specs.declared.statuses.MtapiStatus.{MtapiStatus}
 use Rattle.mtapi_values.specs.Conditions.{first}
 use Rattle.mtapi_machine.specs.declared.ops.Op.{Op}
 use Rattle.mtapi_machine.specs.declared.replies.Reply.{Reply}
 use Rattle.mtapi_machine.specs.declared.replies.Reply.TheVariants.{Mtapi}
 use Rattle.mtapi_machine.specs.State.{State}
-use Rattle.mtapi_machine.specs.Row.{Row, unless, says, gives, Allows, after_row, mtapi_unless, live}
+use Rattle.mtapi_machine.specs.Moves.{Move, after_moves}
+use Rattle.mtapi_machine.specs.Row.{Row, unless, says, gives, only, Allows, after_row, mtapi_unless, live}
 use Rattle.mtapi_machine.specs.Rows.{row}
 use Rattle.mtapi_machine.specs.Legal.{IsHonest}
+use Rattle.handle_pool.specs.Slots.{Slots}
+use Rattle.job_table.specs.Actions.{Action}
+use Rattle.task_core.specs.Table.{TaskTable}
+use Rattle.task_board.specs.Board.{BoardTable, Becomes}
 use Rattle.node_core.specs.declared.node.Node.{Node}
 use Rattle.node_core.specs.Stands.{Lists, Pools, Live, Steps, state_of, terms_of}
 
@@ -17,8 +22,8 @@ pub record Gives (s : State) (w : Row) (r : Reply) (t : State) : Type 0 where
   pub allowed : Allows w r
   pub leads : after_row s w ≡ t
 
-pub gives_this : (s t : State) (r : Reply) → Gives s (gives r t) r t
-gives_this s t r = record { allowed = refl; leads = refl }
+pub gives_this : (s : State) (r : Reply) (ms : List Move) → Gives s (gives r ms) r (after_moves ms s)
+gives_this s r ms = record { allowed = refl; leads = refl }
 
 pub says_this : (s : State) (r : Reply) → Gives s (says r) r s
 says_this s r = record { allowed = refl; leads = refl }
@@ -43,19 +48,41 @@ past_all s t [] r w h g = g
 past_all s t ((true, x) ∷ cs) r w h g = absurd (cc)
 past_all s t ((false, x) ∷ cs) r w h g = let k = past_all s t cs r w h g in record { allowed = k.allowed; leads = k.leads }
 
+-- a row that a condition lets through
+pub allows : (b : Bool) (s t : State) (r : Reply) (v : Row) → b ≡ true → Gives s v r t → Gives s (only b v) r t
+allows true s t r v e g = g
+allows false s t r v e g = absurd (cc)
+
 module _ {T : Type 0} where
   -- a live object, and none
-  pub at_some : (s t : State) (o : Option T) (x : T) (invalid r : Reply) (f : T → Row) → o ≡ Some x → Gives s (f x) r t → Gives s (live o invalid f) r t
-  at_some s t o x invalid r f e g = subst (λ (p : Option T). Gives s (live p invalid f) r t) (sym e) g
+  pub at_some : (s t : State) (o : Option T) (x : T) (other : Row) (r : Reply) (f : T → Row) → o ≡ Some x → Gives s (f x) r t → Gives s (live o other f) r t
+  at_some s t o x other r f e g = subst (λ (p : Option T). Gives s (live p other f) r t) (sym e) g
 
-  pub at_none : (s : State) (o : Option T) (invalid : Reply) (f : T → Row) → o ≡ None → Gives s (live o invalid f) invalid s
-  at_none s o invalid f e = subst (λ (p : Option T). Gives s (live p invalid f) invalid s) (sym e) (says_this s invalid)
+  pub at_none : (s : State) (o : Option T) (invalid : Reply) (f : T → Row) → o ≡ None → Gives s (live o (says invalid) f) invalid s
+  at_none s o invalid f e = subst (λ (p : Option T). Gives s (live p (says invalid) f) invalid s) (sym e) (says_this s invalid)
 
 -- a step of the node from what the row gives
-pub steps : (n m : Node) (l k : Lists) (who : ℕ) (op : Op) (r : Reply) → Gives (state_of n l) (row (state_of n l) who op r) r (state_of m k) → Pools n.core.settings m.actions m.tasks.pool k → terms_of m ≡ terms_of n → m.tasks.starts ≤ n.tasks.starts + 1 → IsHonest op → Steps n l who op r m
+pub steps : (n m : Node) (l k : Lists) (who : ℕ) (op : Op) (r : Reply) → Gives (state_of n l) (row (state_of n l) who op r) r (state_of m k) → Pools n.board.settings m.board.actions m.board.tasks.pool k → terms_of m ≡ terms_of n → m.board.tasks.starts ≤ n.board.tasks.starts + 1 → IsHonest op → Steps n l who op r m
 steps n m l k who op r g v t b h =
     (k, record { allowed = g.allowed; leads = g.leads; live = v; terms = t; starts = b; honest = h })
 
 -- a step that leaves the node as it was
 pub stays : (n : Node) (l : Lists) (who : ℕ) (op : Op) (r : Reply) → Live n l → IsHonest op → Gives (state_of n l) (row (state_of n l) who op r) r (state_of n l) → Steps n l who op r n
 stays n l who op r v h g = (l, record { allowed = g.allowed; leads = g.leads; live = v; terms = refl; starts = omega arith; honest = h })
+
+-- the same step, of a board that has become so
+pub lands : (n : Node) (l : Lists) (who : ℕ) (op : Op) (r : Reply) (b : BoardTable) (a : Slots Action) (q : TaskTable) → Becomes n.board b a q → Steps n l who op r (record n { board = record n.board { actions = a; tasks = q } }) → Steps n l who op r (record n { board = b })
+lands n l who op r b a q e s = (
+  s.0,
+  record {
+    allowed = s.1.allowed;
+    leads = s.1.leads ∙ (λ i. state_of (record n { board = path i }) s.0);
+    live = subst (λ (x : BoardTable). Pools n.board.settings x.actions x.tasks.pool s.0) path s.1.live;
+    terms = (λ i. record { settings = e.settings i; callers = n.core.callers });
+    starts = subst (λ (x : TaskTable). x.starts ≤ n.board.tasks.starts + 1) (sym e.tasks_are) s.1.starts;
+    honest = s.1.honest;
+  },
+)
+  where
+    path : record b { settings = n.board.settings; actions = a; tasks = q } ≡ b
+    path i = record b { settings = sym e.settings i; actions = sym e.actions_are i; tasks = sym e.tasks_are i }

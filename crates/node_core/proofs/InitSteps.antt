@@ -4,8 +4,9 @@ use Rattle.std.proofs.lemmas.List.{length-replicate}
 use Rattle.mtapi_values.specs.Attributes.{NodeSettings, AreNodeSettings}
 use Rattle.handle_pool.specs.Slots.{Slots, free_slot}
 use Rattle.mtapi_values.specs.Seats.{no_marks}
-use Rattle.job_table.specs.Actions.{Action}
-use Rattle.task_core.specs.Table.{TaskTable}
+use Rattle.task_board.specs.Board.{BoardTable, IsBoard}
+use Rattle.node_core.specs.Keeps.{Keeps}
+use Rattle.node_core.proofs.KeepLemmas.{keeps-board}
 use Rattle.handle_pool.proofs.StandsLemmas.{Stands-new}
 use Rattle.history.specs.Histories.{entry}
 use Rattle.mtapi_machine.specs.declared.ops.Op.{Op}
@@ -27,31 +28,34 @@ holds_new size turns p once few g s = record {
 }
 
 -- a node as it is made
-abbrev made : NodeSettings → ℕ → Slots Action → TaskTable → Node
-made attr callers a t = record {
-  core = record { settings = attr; callers = callers; phase = New; released = false; stopped = no_marks };
-  actions = a;
-  tasks = t;
-}
+abbrev made : ℕ → BoardTable → Node
+made callers b = record { core = record { callers = callers; phase = New; released = false; stopped = no_marks }; board = b }
 
-pub new_node : (attr : NodeSettings) (callers : ℕ) (a : Slots Action) (t : TaskTable) → AreNodeSettings attr → 1 ≤ callers → callers ≤ 9 → Holds attr.actions attr.generations a [] → Holds attr.tasks attr.generations t.pool [] → t.starts ≡ 0 → t.ends ≡ 0 → Stands (made attr callers a t) []
+pub new_node : (attr : NodeSettings) (callers : ℕ) (b : BoardTable) → AreNodeSettings attr → 1 ≤ callers → callers ≤ 9 → b.settings ≡ attr → Holds attr.actions attr.generations b.actions [] → Holds attr.tasks attr.generations b.tasks.pool [] → b.tasks.starts ≡ 0 → b.tasks.ends ≡ 0 → IsBoard b → Stands (made callers b) []
 unfolding LegalFrom after_from
-new_node attr callers a t s some few x y starts ends = record {
-  legal = record { fits = record { settings = s; some_caller = some; callers = few }; from = tt };
+new_node attr callers b s some few is x y starts ends kept = record {
+  legal = record { fits = record { settings = subst (λ (t : NodeSettings). AreNodeSettings t) (sym is) s; some_caller = some; callers = few }; from = tt };
   lists = record { actions = []; tasks = [] };
-  state = λ i. record (state_of (made attr callers a t) (record { actions = []; tasks = [] })) { starts = sym starts i; ends = sym ends i };
-  live = record { actions = x; tasks = y };
+  state = same;
+  live = live;
   starts = omega arith;
+  keeps = subst (λ (t : State). Keeps t b) (sym same) (keeps-board (made callers b) (record { actions = []; tasks = [] }) live kept);
 }
+  where
+    live : Live (made callers b) (record { actions = []; tasks = [] })
+    live = subst (λ (t : NodeSettings). Pools t b.actions b.tasks.pool (record { actions = []; tasks = [] })) (sym is) (record { actions = x; tasks = y })
+
+    same : after (terms_of (made callers b)) [] ≡ state_of (made callers b) (record { actions = []; tasks = [] })
+    same i = record (state_of (made callers b) (record { actions = []; tasks = [] })) { starts = sym starts i; ends = sym ends i }
 
 one_more : (L : List NodeEntry) (e : NodeEntry) → length (L ++ e ∷ []) ≡ length L + 1
 one_more L e = simp length-append refl
 
 -- one more entry
-pub goes_on : (n m : Node) (L : List NodeEntry) (who : ℕ) (op : Op) (r : Reply) (st : Stands n L) → who < seat_count (terms_of n) → Steps n st.lists who op r m → Stands m (L ++ entry who op r ∷ [])
-goes_on n m L who op r st seat s =
+pub goes_on : (n m : Node) (L : List NodeEntry) (who : ℕ) (op : Op) (r : Reply) (st : Stands n L) → who < seat_count (terms_of n) → Steps n st.lists who op r m → IsBoard m.board → Stands m (L ++ entry who op r ∷ [])
+goes_on n m L who op r st seat s kept =
     subst (λ (t : Terms). Legal t (L ++ e ∷ []) → after t (L ++ e ∷ []) ≡ state_of m s.0 → Stands m (L ++ e ∷ [])) s.1.terms
-    (λ legal leads. record { legal = legal; lists = s.0; state = leads; live = live; starts = starts })
+    (λ legal leads. record { legal = legal; lists = s.0; state = leads; live = live; starts = starts; keeps = subst (λ (x : State). Keeps x m.board) (sym leads) (keeps-board m s.0 live kept) })
     (record { fits = st.legal.fits; from = Legal-append _ L (e ∷ []) st.legal.from (Legal-one (after (terms_of n) L) e may) })
     (after-one _ L e ∙ (ap (λ (x : State). next x e) st.state ∙ s.1.leads))
   where
@@ -62,13 +66,13 @@ goes_on n m L who op r st seat s =
     may = subst (λ (x : State). IsNext x (entry who op r)) (sym st.state) (record { seat = seat; honest = s.1.honest; allowed = s.1.allowed })
 
     live : Live m s.0
-    live = subst (λ (t : Terms). Pools t.settings m.actions m.tasks.pool s.0) (sym s.1.terms) s.1.live
+    live = subst (λ (t : Terms). Pools t.settings m.board.actions m.board.tasks.pool s.0) (sym s.1.terms) s.1.live
 
-    starts : m.tasks.starts ≤ length (L ++ entry who op r ∷ [])
+    starts : m.board.tasks.starts ≤ length (L ++ entry who op r ∷ [])
     starts = omega (arith, one_more L (entry who op r), st.starts, s.1.starts)
 
 -- few tasks were started
-pub few_starts : (n : Node) (L : List NodeEntry) → Stands n L → length L < 2 ^ 62 + 16 → n.tasks.starts < 2 ^ 63
+pub few_starts : (n : Node) (L : List NodeEntry) → Stands n L → length L < 2 ^ 62 + 16 → n.board.tasks.starts < 2 ^ 63
 few_starts n L st l = omega (arith, st.starts)
 
 -- a step keeps the terms

@@ -11,3 +11,6 @@ pub mod PickSteps
 pub mod InitSteps
 pub mod KeptLemmas
 pub mod LogLemmas
+pub mod TwoSeats
+mod KeepLemmas
+pub mod StopSteps

@@ -20,8 +20,8 @@ closing n = record n { core = record n.core { phase = Closing } }
 
 none_ends : (n : Node) (l : Lists) → end_tasks (λ t. is_unstarted t && is_shut_in [] t) Cancelled (record (state_of n l) { phase = Closing }) ≡ state_of (closing n) l
 none_ends n l i = record (state_of (closing n) l) {
-  tasks = ends-none (λ t. is_unstarted t && is_shut_in [] t) Cancelled n.tasks.ends l.tasks waits_in-none i;
-  ends = let same : n.tasks.ends + count (λ t. is_unstarted t && is_shut_in [] t) l.tasks ≡ n.tasks.ends = ap (λ k. n.tasks.ends + k) (count-none (λ t. is_unstarted t && is_shut_in [] t) l.tasks waits_in-none) ∙ add-zero n.tasks.ends in same i;
+  tasks = ends-none (λ t. is_unstarted t && is_shut_in [] t) Cancelled n.board.tasks.ends l.tasks waits_in-none i;
+  ends = let same : n.board.tasks.ends + count (λ t. is_unstarted t && is_shut_in [] t) l.tasks ≡ n.board.tasks.ends = ap (λ k. n.board.tasks.ends + k) (count-none (λ t. is_unstarted t && is_shut_in [] t) l.tasks waits_in-none) ∙ add-zero n.board.tasks.ends in same i;
 }
 
 pub close_steps : (n : Node) (l : Lists) (who : ℕ) → Live n l → is_late n.core.phase ≡ false → Steps n l who op.Close reply.Ok (closing n)

@@ -144,16 +144,16 @@ module _ (n : Node) (l : Lists) (job : ℕ) (args : List ℤ) (priority : ℕ) (
   refusals = first (start_refusals (state_of n l) (asked_for job args priority cores detached group))
 
   abbrev workers : ℕ
-  workers = n.core.settings.workers
+  workers = n.board.settings.workers
 
-  pub refused_job : Covers n.actions job NoAction → refusals ≡ Some m.ErrJobInvalid
-  refused_job c = no_job _ _ _ _ (covers_none _ _ n.actions l.actions job v.actions c)
+  pub refused_job : Covers n.board.actions job NoAction → refusals ≡ Some m.ErrJobInvalid
+  refused_job c = no_job _ _ _ _ (covers_none _ _ n.board.actions l.actions job v.actions c)
 
-  pub refused_group : (c : Cover) → Covers n.actions job c → (c ≡ NoAction → ⊥) → is_some group ≡ true → refusals ≡ Some m.ErrGroupInvalid
-  refused_group c h k g = no_group _ _ _ _ (covers_some _ _ n.actions l.actions job c v.actions h k) (group_is group ∙ g)
+  pub refused_group : (c : Cover) → Covers n.board.actions job c → (c ≡ NoAction → ⊥) → is_some group ≡ true → refusals ≡ Some m.ErrGroupInvalid
+  refused_group c h k g = no_group _ _ _ _ (covers_some _ _ n.board.actions l.actions job c v.actions h k) (group_is group ∙ g)
 
-  pub refused_disabled : Covers n.actions job AllDisabled → is_some group ≡ false → refusals ≡ Some m.ErrActionDisabled
-  refused_disabled h g = none_enabled _ _ _ _ (covers_some _ _ n.actions l.actions job AllDisabled v.actions h apart) (group_is group ∙ g) (enabled_none _ _ n.actions l.actions job v.actions h)
+  pub refused_disabled : Covers n.board.actions job AllDisabled → is_some group ≡ false → refusals ≡ Some m.ErrActionDisabled
+  refused_disabled h g = none_enabled _ _ _ _ (covers_some _ _ n.board.actions l.actions job AllDisabled v.actions h apart) (group_is group ∙ g) (enabled_none _ _ n.board.actions l.actions job v.actions h)
     where
       apart : AllDisabled ≡ NoAction → ⊥
       apart d = cc
@@ -161,15 +161,15 @@ module _ (n : Node) (l : Lists) (job : ℕ) (args : List ℤ) (priority : ℕ) (
   covered : (mask : Mask) → Cores mask ≡ NoAction → ⊥
   covered mask d = cc
 
-  pub refused_core : (mask : Mask) → Covers n.actions job (Cores mask) → is_some group ≡ false → some_below workers (λ w. in_mask w mask.0 && in_mask w cores.0) ≡ false → refusals ≡ Some m.ErrNoCore
+  pub refused_core : (mask : Mask) → Covers n.board.actions job (Cores mask) → is_some group ≡ false → some_below workers (λ w. in_mask w mask.0 && in_mask w cores.0) ≡ false → refusals ≡ Some m.ErrNoCore
   refused_core mask h g w =
-      no_core _ _ _ _ (covers_some _ _ n.actions l.actions job (Cores mask) v.actions h (covered mask)) (group_is group ∙ g) (enabled_some _ _ n.actions l.actions job mask v.actions h)
-      (covered_worker _ _ n.actions l.actions job mask v.actions h.1 workers cores.0 ∙ w)
+      no_core _ _ _ _ (covers_some _ _ n.board.actions l.actions job (Cores mask) v.actions h (covered mask)) (group_is group ∙ g) (enabled_some _ _ n.board.actions l.actions job mask v.actions h)
+      (covered_worker _ _ n.board.actions l.actions job mask v.actions h.1 workers cores.0 ∙ w)
 
-  pub refused_none : (mask : Mask) → Covers n.actions job (Cores mask) → is_some group ≡ false → some_below workers (λ w. in_mask w mask.0 && in_mask w cores.0) ≡ true → refusals ≡ None
+  pub refused_none : (mask : Mask) → Covers n.board.actions job (Cores mask) → is_some group ≡ false → some_below workers (λ w. in_mask w mask.0 && in_mask w cores.0) ≡ true → refusals ≡ None
   refused_none mask h g w =
-      not_refused _ _ _ _ (covers_some _ _ n.actions l.actions job (Cores mask) v.actions h (covered mask)) (group_is group ∙ g) (enabled_some _ _ n.actions l.actions job mask v.actions h)
-      (covered_worker _ _ n.actions l.actions job mask v.actions h.1 workers cores.0 ∙ w)
+      not_refused _ _ _ _ (covers_some _ _ n.board.actions l.actions job (Cores mask) v.actions h (covered mask)) (group_is group ∙ g) (enabled_some _ _ n.board.actions l.actions job mask v.actions h)
+      (covered_worker _ _ n.board.actions l.actions job mask v.actions h.1 workers cores.0 ∙ w)
 
 pub disabled_not_none : AllDisabled ≡ NoAction → ⊥
 disabled_not_none d = cc

@@ -1,5 +1,5 @@
 -- The ops of workers are steps of the machine.
-use Rattle.std.proofs.Common.{◌≡◌, ℕ, ◌<◌, Bool, true, false, not, cond, List, Option, Some, None, Result, Ok, Err, refl, sym, ◌∙◌, ap, subst, arith}
+use Rattle.std.proofs.Common.{◌≡◌, ℕ, ◌<◌, Bool, true, false, not, cond, ◌+◌, List, [], ◌∷◌, Option, Some, None, Result, Ok, Err, refl, sym, ◌∙◌, ap, subst, arith}
 use Rattle.std.specs.Prelude.{◌&&◌, nat_lt, is_none}
 use Rattle.std.specs.Ordering.{int_eq}
 use Rattle.std.specs.Cmp.Lexicographic.{pointwise}
@@ -19,12 +19,14 @@ use Rattle.mtapi_machine.specs.declared.ops.Op.{Op}
 use Rattle.mtapi_machine.specs.declared.ops.Op.TheVariants as op
 use Rattle.mtapi_machine.specs.declared.replies.Reply.{Reply}
 use Rattle.mtapi_machine.specs.declared.replies.Reply.TheVariants as reply
+use Rattle.mtapi_machine.specs.Moves.{noted, notes}
+use Rattle.mtapi_machine.specs.Row.{gives}
 use Rattle.mtapi_machine.specs.Rows.{task_end}
 use Rattle.std.specs.Option.{option_map}
 use Rattle.mtapi_machine.proofs.Drops.{update-same}
 use Rattle.node_core.specs.declared.node.Node.{Node}
-use Rattle.node_core.specs.Stands.{Lists, Holds, Live, Steps}
-use Rattle.node_core.proofs.Gives.{gives_this, past, met_in, past_all, at_some, at_none, stays}
+use Rattle.node_core.specs.Stands.{Lists, Holds, Live, Steps, state_of}
+use Rattle.node_core.proofs.Gives.{Gives, gives_this, past, met_in, past_all, at_some, at_none, stays}
 use Rattle.node_core.proofs.Moves.{found, holds_changed}
 use Rattle.node_core.proofs.TaskSteps.{task_steps, with_pool, told, ended_tasks, end_steps}
 
@@ -32,16 +34,24 @@ use Rattle.node_core.proofs.TaskSteps.{task_steps, with_pool, told, ended_tasks,
 pub is_worker : (who workers : ℕ) → who < workers → not (nat_lt who workers) ≡ false
 is_worker who workers l = grind (arith, nat_tests)
 
+-- an ask changes only what is noted of the task
+asked_noted : (t : Task) → noted asked_once t ≡ asked_once t
+asked_noted t = by_request t.requested
+  where
+    by_request : (b : Bool) → noted (λ u. cond b (record u { seen = true }) (record u { looks = u.looks + 1 })) t ≡ cond b (record t { seen = true }) (record t { looks = t.looks + 1 })
+    by_request true = refl
+    by_request false = refl
+
 -- Finishing
 
 found_task : (o : Option Task) (x : Task) → Some x ≡ o → o ≡ Some x
 found_task o x e = sym e
 
-pub finish_steps : (n : Node) (l : Lists) (who : ℕ) (t : TaskHandle) (done : Answered) (x : Task) (e : TaskEnd) (q : TaskTable) → Live n l → who < n.core.settings.workers → get n.tasks.pool t.0 ≡ Some x → (runs_as who done.kind x && pointwise int_eq x.args done.args) ≡ true → e ≡ task_end done.end → IsAnswered done → q ≡ ended_tasks n t.0 e (get n.tasks.pool t.0) → Steps n l who (op.Finish t done) reply.Ok (record n { tasks = q })
+pub finish_steps : (n : Node) (l : Lists) (who : ℕ) (t : TaskHandle) (done : Answered) (x : Task) (e : TaskEnd) (q : TaskTable) → Live n l → who < n.board.settings.workers → get n.board.tasks.pool t.0 ≡ Some x → (runs_as who done.kind x && pointwise int_eq x.args done.args) ≡ true → e ≡ task_end done.end → IsAnswered done → q ≡ ended_tasks n t.0 e (get n.board.tasks.pool t.0) → Steps n l who (op.Finish t done) reply.Ok (record n { board = record n.board { tasks = q } })
 finish_steps n l who t done x e q v w g r d a new =
     told n l q (ended_tasks n t.0 (task_end done.end) (Some x)) who _ _ (new ∙ (λ i. ended_tasks n t.0 (d i) (g i)))
     (end_steps n l who (op.Finish t done) reply.Ok t.0 (task_end done.end) x v g a
-    (past _ _ _ _ _ _ (is_worker who _ w) (at_some _ _ _ x _ _ _ (found _ _ n.tasks.pool l.tasks t.0 (Some x) v.tasks g) (past_all _ _ (finish_refusals who done.kind done.args x) _ _ runs (gives_this _ _ _)))))
+    (past _ _ _ _ _ _ (is_worker who _ w) (at_some _ _ _ x _ _ _ (found _ _ n.board.tasks.pool l.tasks t.0 (Some x) v.tasks g) (past_all _ _ (finish_refusals who done.kind done.args x) _ _ runs (gives_this _ _ _)))))
   where
     runs : first (finish_refusals who done.kind done.args x) ≡ None
     runs = ap (λ (b : Bool). cond (not b) (Some m.ErrTaskInvalid) None) r
@@ -52,52 +62,55 @@ abbrev pub asked_said : Result Bool MtapiStatus → Reply
 asked_said (Ok b) = reply.Asked b
 asked_said (Err c) = reply.Mtapi c
 
-module _ (n : Node) (l : Lists) (who : ℕ) (t : TaskHandle) (v : Live n l) (w : who < n.core.settings.workers) where
+module _ (n : Node) (l : Lists) (who : ℕ) (t : TaskHandle) (v : Live n l) (w : who < n.board.settings.workers) where
   abbrev asks : Op
   asks = op.Asked t
 
-  asked_none : get n.tasks.pool t.0 ≡ None → Steps n l who asks (reply.Mtapi m.ErrTaskInvalid) n
-  asked_none g = stays n l who asks (reply.Mtapi m.ErrTaskInvalid) v tt (past _ _ _ _ _ _ (is_worker who _ w) (at_none _ _ _ _ (found _ _ n.tasks.pool l.tasks t.0 None v.tasks g)))
+  asked_none : get n.board.tasks.pool t.0 ≡ None → Steps n l who asks (reply.Mtapi m.ErrTaskInvalid) n
+  asked_none g = stays n l who asks (reply.Mtapi m.ErrTaskInvalid) v tt (past _ _ _ _ _ _ (is_worker who _ w) (at_none _ _ _ _ (found _ _ n.board.tasks.pool l.tasks t.0 None v.tasks g)))
 
-  asked_refused : (x : Task) (c : MtapiStatus) → get n.tasks.pool t.0 ≡ Some x → first (asked_refusals who x) ≡ Some c → Steps n l who asks (reply.Mtapi c) n
+  asked_refused : (x : Task) (c : MtapiStatus) → get n.board.tasks.pool t.0 ≡ Some x → first (asked_refusals who x) ≡ Some c → Steps n l who asks (reply.Mtapi c) n
   asked_refused x c g f =
       stays n l who asks (reply.Mtapi c) v tt
-      (past _ _ _ _ _ _ (is_worker who _ w) (at_some _ _ _ x _ _ _ (found _ _ n.tasks.pool l.tasks t.0 (Some x) v.tasks g) (met_in _ (asked_refusals who x) c _ f)))
+      (past _ _ _ _ _ _ (is_worker who _ w) (at_some _ _ _ x _ _ _ (found _ _ n.board.tasks.pool l.tasks t.0 (Some x) v.tasks g) (met_in _ (asked_refusals who x) c _ f)))
 
-  asked_told : (x : Task) → get n.tasks.pool t.0 ≡ Some x → first (asked_refusals who x) ≡ None → Steps n l who asks (reply.Asked x.requested) (record n { tasks = with_pool n (changed n.tasks.pool t.0 asked_once) })
+  asked_told : (x : Task) → get n.board.tasks.pool t.0 ≡ Some x → first (asked_refusals who x) ≡ None → Steps n l who asks (reply.Asked x.requested) (record n { board = record n.board { tasks = with_pool n (changed n.board.tasks.pool t.0 asked_once) } })
   asked_told x g f =
-      task_steps n l (with_pool n (changed n.tasks.pool t.0 asked_once)) (update t.0 asked_once l.tasks) who asks (reply.Asked x.requested) v
-      (past _ _ _ _ _ _ (is_worker who _ w) (at_some _ _ _ x _ _ _ (found _ _ n.tasks.pool l.tasks t.0 (Some x) v.tasks g) (past_all _ _ (asked_refusals who x) _ _ f (gives_this _ _ _))))
-      (holds_changed _ _ n.tasks.pool l.tasks t.0 asked_once v.tasks) (omega arith) tt
+      task_steps n l (with_pool n (changed n.board.tasks.pool t.0 asked_once)) (update t.0 asked_once l.tasks) who asks (reply.Asked x.requested) v
+      (past _ _ _ _ _ _ (is_worker who _ w) (at_some _ _ _ x _ _ _ (found _ _ n.board.tasks.pool l.tasks t.0 (Some x) v.tasks g) (past_all _ _ (asked_refusals who x) _ _ f asks_once)))
+      (holds_changed _ _ n.board.tasks.pool l.tasks t.0 asked_once v.tasks) (omega arith) tt
+    where
+      asks_once : Gives (state_of n l) (gives (reply.Asked x.requested) (notes t.0 asked_once ∷ [])) (reply.Asked x.requested) (record (state_of n l) { tasks = update t.0 asked_once l.tasks })
+      asks_once = record { allowed = refl; leads = λ i. record (state_of n l) { tasks = update t.0 (λ u. asked_noted u i) l.tasks } }
 
-  asked_at : (x : Task) (f : Option MtapiStatus) → get n.tasks.pool t.0 ≡ Some x → first (asked_refusals who x) ≡ f → Steps n l who asks (asked_said (unless_refused f x.requested)) (record n { tasks = with_pool n (changed n.tasks.pool t.0 (after_asked who)) })
+  asked_at : (x : Task) (f : Option MtapiStatus) → get n.board.tasks.pool t.0 ≡ Some x → first (asked_refusals who x) ≡ f → Steps n l who asks (asked_said (unless_refused f x.requested)) (record n { board = record n.board { tasks = with_pool n (changed n.board.tasks.pool t.0 (after_asked who)) } })
   asked_at x (Some c) g f =
-      task_steps n l (with_pool n (changed n.tasks.pool t.0 (after_asked who))) l.tasks who asks (reply.Mtapi c) v
-      (past _ _ _ _ _ _ (is_worker who _ w) (at_some _ _ _ x _ _ _ (found _ _ n.tasks.pool l.tasks t.0 (Some x) v.tasks g) (met_in _ (asked_refusals who x) c _ f)))
-      (subst (λ (k : List (Listed Task)). Holds n.core.settings.tasks n.core.settings.generations (changed n.tasks.pool t.0 (after_asked who)) k) (update-same t.0 (after_asked who) x l.tasks (found _ _ n.tasks.pool l.tasks t.0 (Some x) v.tasks g) same) (holds_changed _ _ n.tasks.pool l.tasks t.0 (after_asked who) v.tasks))
+      task_steps n l (with_pool n (changed n.board.tasks.pool t.0 (after_asked who))) l.tasks who asks (reply.Mtapi c) v
+      (past _ _ _ _ _ _ (is_worker who _ w) (at_some _ _ _ x _ _ _ (found _ _ n.board.tasks.pool l.tasks t.0 (Some x) v.tasks g) (met_in _ (asked_refusals who x) c _ f)))
+      (subst (λ (k : List (Listed Task)). Holds n.board.settings.tasks n.board.settings.generations (changed n.board.tasks.pool t.0 (after_asked who)) k) (update-same t.0 (after_asked who) x l.tasks (found _ _ n.board.tasks.pool l.tasks t.0 (Some x) v.tasks g) same) (holds_changed _ _ n.board.tasks.pool l.tasks t.0 (after_asked who) v.tasks))
       (omega arith) tt
     where
       same : after_asked who x ≡ x
       same = ap (λ (o : Option MtapiStatus). cond (is_none o) (asked_once x) x) f
-  asked_at x None g f = told n l _ (with_pool n (changed n.tasks.pool t.0 asked_once)) who asks _ (ap (with_pool n) same) (asked_told x g f)
+  asked_at x None g f = told n l _ (with_pool n (changed n.board.tasks.pool t.0 asked_once)) who asks _ (ap (with_pool n) same) (asked_told x g f)
     where
       once : after_asked who x ≡ asked_once x
       once = ap (λ (o : Option MtapiStatus). cond (is_none o) (asked_once x) x) f
 
-      becomes : (h : Task → Task) → changed n.tasks.pool t.0 h ≡ with_value n.tasks.pool t.0 (h x)
-      becomes h = ap (λ (o : Option Task). put n.tasks.pool t.0 (option_map h o)) g
+      becomes : (h : Task → Task) → changed n.board.tasks.pool t.0 h ≡ with_value n.board.tasks.pool t.0 (h x)
+      becomes h = ap (λ (o : Option Task). put n.board.tasks.pool t.0 (option_map h o)) g
 
-      same : changed n.tasks.pool t.0 (after_asked who) ≡ changed n.tasks.pool t.0 asked_once
-      same = becomes (after_asked who) ∙ (ap (with_value n.tasks.pool t.0) once ∙ sym (becomes asked_once))
+      same : changed n.board.tasks.pool t.0 (after_asked who) ≡ changed n.board.tasks.pool t.0 asked_once
+      same = becomes (after_asked who) ∙ (ap (with_value n.board.tasks.pool t.0) once ∙ sym (becomes asked_once))
 
-  asked_steps : (o : Option Task) → get n.tasks.pool t.0 ≡ o → Steps n l who asks (asked_said (asked_of who o)) (record n { tasks = with_pool n (changed n.tasks.pool t.0 (after_asked who)) })
-  asked_steps None g = told n l _ n.tasks who asks _ (ap (λ (o : Option Task). with_pool n (put n.tasks.pool t.0 (option_map (after_asked who) o))) g) (asked_none g)
+  asked_steps : (o : Option Task) → get n.board.tasks.pool t.0 ≡ o → Steps n l who asks (asked_said (asked_of who o)) (record n { board = record n.board { tasks = with_pool n (changed n.board.tasks.pool t.0 (after_asked who)) } })
+  asked_steps None g = told n l _ n.board.tasks who asks _ (ap (λ (o : Option Task). with_pool n (put n.board.tasks.pool t.0 (option_map (after_asked who) o))) g) (asked_none g)
   asked_steps (Some x) g = asked_at x (first (asked_refusals who x)) g refl
 
   -- what the tasks told of an ask
-  pub asked_says : (q : TaskTable) (x : Result Bool MtapiStatus) → x ≡ asked_of who (get n.tasks.pool t.0) → q ≡ with_pool n (changed n.tasks.pool t.0 (after_asked who)) → Steps n l who asks (asked_said x) (record n { tasks = q })
+  pub asked_says : (q : TaskTable) (x : Result Bool MtapiStatus) → x ≡ asked_of who (get n.board.tasks.pool t.0) → q ≡ with_pool n (changed n.board.tasks.pool t.0 (after_asked who)) → Steps n l who asks (asked_said x) (record n { board = record n.board { tasks = q } })
   asked_says q x e d =
-      told n l q _ who asks _ d (subst (λ (y : Result Bool MtapiStatus). Steps n l who asks (asked_said y) (record n { tasks = with_pool n (changed n.tasks.pool t.0 (after_asked who)) })) (sym e) (asked_steps (get n.tasks.pool t.0) refl))
+      told n l q _ who asks _ d (subst (λ (y : Result Bool MtapiStatus). Steps n l who asks (asked_said y) (record n { board = record n.board { tasks = with_pool n (changed n.board.tasks.pool t.0 (after_asked who)) } })) (sym e) (asked_steps (get n.board.tasks.pool t.0) refl))
 
 -- Ending a watch
 
@@ -109,23 +122,23 @@ watch_told : (who : ℕ) (x : Task) (e : TaskEnd) (f : Option MtapiStatus) → f
 watch_told who x e None f k = (f, cc)
 watch_told who x e (Some d) f k = absurd (cc)
 
-module _ (n : Node) (l : Lists) (who : ℕ) (t : TaskHandle) (v : Live n l) (w : who < n.core.settings.workers) where
+module _ (n : Node) (l : Lists) (who : ℕ) (t : TaskHandle) (v : Live n l) (w : who < n.board.settings.workers) where
   abbrev ends : Op
   ends = op.WatchEnd t
 
-  pub watch_failed : (c : MtapiStatus) (o : Option Task) → get n.tasks.pool t.0 ≡ o → watch_end_of who o ≡ Err c → Steps n l who ends (reply.Mtapi c) n
+  pub watch_failed : (c : MtapiStatus) (o : Option Task) → get n.board.tasks.pool t.0 ≡ o → watch_end_of who o ≡ Err c → Steps n l who ends (reply.Mtapi c) n
   watch_failed c None g e =
       subst (λ (s : MtapiStatus). Steps n l who ends (reply.Mtapi s) n) (cc)
-      (stays n l who ends (reply.Mtapi m.ErrTaskInvalid) v tt (past _ _ _ _ _ _ (is_worker who _ w) (at_none _ _ _ _ (found _ _ n.tasks.pool l.tasks t.0 None v.tasks g))))
+      (stays n l who ends (reply.Mtapi m.ErrTaskInvalid) v tt (past _ _ _ _ _ _ (is_worker who _ w) (at_none _ _ _ _ (found _ _ n.board.tasks.pool l.tasks t.0 None v.tasks g))))
   watch_failed c (Some x) g e =
       stays n l who ends (reply.Mtapi c) v tt
-      (past _ _ _ _ _ _ (is_worker who _ w) (at_some _ _ _ x _ _ _ (found _ _ n.tasks.pool l.tasks t.0 (Some x) v.tasks g) (met_in _ (watch_end_refusals who x) c _ (watch_refused who x c (first (watch_end_refusals who x)) refl e))))
+      (past _ _ _ _ _ _ (is_worker who _ w) (at_some _ _ _ x _ _ _ (found _ _ n.board.tasks.pool l.tasks t.0 (Some x) v.tasks g) (met_in _ (watch_end_refusals who x) c _ (watch_refused who x c (first (watch_end_refusals who x)) refl e))))
 
-  pub watch_ended : (e : TaskEnd) (q : TaskTable) (o : Option Task) → get n.tasks.pool t.0 ≡ o → watch_end_of who o ≡ Ok e → q ≡ ended_tasks n t.0 e o → Steps n l who ends (reply.Ended e) (record n { tasks = q })
+  pub watch_ended : (e : TaskEnd) (q : TaskTable) (o : Option Task) → get n.board.tasks.pool t.0 ≡ o → watch_end_of who o ≡ Ok e → q ≡ ended_tasks n t.0 e o → Steps n l who ends (reply.Ended e) (record n { board = record n.board { tasks = q } })
   watch_ended e q None g k d = absurd (cc)
   watch_ended e q (Some x) g k d =
       let s = watch_told who x e (first (watch_end_refusals who x)) refl k in
       told n l q (ended_tasks n t.0 e (Some x)) who ends _ d
-      (subst (λ (y : TaskEnd). Steps n l who ends (reply.Ended y) (record n { tasks = ended_tasks n t.0 y (Some x) })) (sym s.1)
+      (subst (λ (y : TaskEnd). Steps n l who ends (reply.Ended y) (record n { board = record n.board { tasks = ended_tasks n t.0 y (Some x) } })) (sym s.1)
       (end_steps n l who ends (reply.Ended (watch_end x)) t.0 (watch_end x) x v g tt
-      (past _ _ _ _ _ _ (is_worker who _ w) (at_some _ _ _ x _ _ _ (found _ _ n.tasks.pool l.tasks t.0 (Some x) v.tasks g) (past_all _ _ (watch_end_refusals who x) _ _ s.0 (gives_this _ _ _))))))
+      (past _ _ _ _ _ _ (is_worker who _ w) (at_some _ _ _ x _ _ _ (found _ _ n.board.tasks.pool l.tasks t.0 (Some x) v.tasks g) (past_all _ _ (watch_end_refusals who x) _ _ s.0 (gives_this _ _ _))))))

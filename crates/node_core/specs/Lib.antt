@@ -1,3 +1,4 @@
+pub mod Keeps
 pub mod Stands
 pub mod Picks
 pub mod Starts

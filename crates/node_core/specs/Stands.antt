@@ -14,6 +14,7 @@ use Rattle.mtapi_machine.specs.Row.{Allows, after_row}
 use Rattle.mtapi_machine.specs.Rows.{row}
 use Rattle.mtapi_machine.specs.Legal.{NodeEntry, IsHonest, Legal, after}
 use Rattle.node_core.specs.declared.node.Node.{Node}
+use Rattle.node_core.specs.Keeps.{Keeps}
 
 -- the objects that were ever made, of the kinds that a node has so far
 pub record Lists : Type 0 where
@@ -22,17 +23,17 @@ pub record Lists : Type 0 where
 
 -- what no op changes
 abbrev pub terms_of : Node → Terms
-terms_of n = record { settings = n.core.settings; callers = n.core.callers }
+terms_of n = record { settings = n.board.settings; callers = n.core.callers }
 
 -- the state of the machine that has these lists, and all else as the node has it; of the other kinds no object was made
 abbrev pub state_of : Node → Lists → State
 state_of n l = record {
-  terms = record { settings = n.core.settings; callers = n.core.callers };
+  terms = record { settings = n.board.settings; callers = n.core.callers };
   phase = n.core.phase;
   released = n.core.released;
   stopped = n.core.stopped;
-  starts = n.tasks.starts;
-  ends = n.tasks.ends;
+  starts = n.board.tasks.starts;
+  ends = n.board.tasks.ends;
   actions = l.actions;
   tasks = l.tasks;
   groups = [];
@@ -55,15 +56,15 @@ pub record Pools (settings : NodeSettings) (a : Slots Action) (t : Slots Task) (
   pub tasks : Holds settings.tasks settings.generations t l.tasks
 
 abbrev pub Live : Node → Lists → Type 0
-Live n l = Pools n.core.settings n.actions n.tasks.pool l
+Live n l = Pools n.board.settings n.board.actions n.board.tasks.pool l
 
 -- the step from n to m, with these lists then, is one of the machine's
 pub record StepsTo (n : Node) (l : Lists) (who : ℕ) (op : Op) (r : Reply) (m : Node) (k : Lists) : Type 0 where
   pub allowed : Allows (row (state_of n l) who op r) r
   pub leads : after_row (state_of n l) (row (state_of n l) who op r) ≡ state_of m k
-  pub live : Pools n.core.settings m.actions m.tasks.pool k
+  pub live : Pools n.board.settings m.board.actions m.board.tasks.pool k
   pub terms : terms_of m ≡ terms_of n
-  pub starts : m.tasks.starts ≤ n.tasks.starts + 1
+  pub starts : m.board.tasks.starts ≤ n.board.tasks.starts + 1
   pub honest : IsHonest op
 
 abbrev pub Steps : Node → Lists → ℕ → Op → Reply → Node → Type 0
@@ -75,7 +76,8 @@ pub record Stands (n : Node) (L : List NodeEntry) : Type 0 where
   pub lists : Lists
   pub state : after (terms_of n) L ≡ state_of n lists
   pub live : Live n lists
-  pub starts : n.tasks.starts ≤ length L
+  pub starts : n.board.tasks.starts ≤ length L
+  pub keeps : Keeps (after (terms_of n) L) n.board
 
 -- how many seats these terms give
 abbrev pub seat_count : Terms → ℕ

@@ -17,7 +17,7 @@ impl Node {
     fn has_job(&self, job: u32) -> bool
         ensures { (l : Lists) → Live self.now l → any (has_job job) l.actions ≡ result }
     {
-        match self.actions.cover(job) {
+        match self.board.cover(job) {
             Cover::NoAction => false,
             Cover::AllDisabled | Cover::Cores(_) => true,
         }
@@ -41,7 +41,7 @@ impl Node {
         if !is_open(self.core.phase) {
             return Reply::Mtapi(MtapiStatus::ErrNodeNotinit);
         }
-        match self.actions.create(job, kind, cores) {
+        match self.board.create_action(job, kind, cores) {
             Ok(action) => Reply::Handle(action.0),
             Err(status) => Reply::Mtapi(status),
         }
@@ -53,7 +53,7 @@ impl Node {
         if !is_open(self.core.phase) {
             return Reply::Mtapi(MtapiStatus::ErrNodeNotinit);
         }
-        match self.actions.enable(action) {
+        match self.board.enable_action(action) {
             Ok(_) => Reply::Ok,
             Err(status) => Reply::Mtapi(status),
         }

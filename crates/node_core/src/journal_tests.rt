@@ -3,11 +3,13 @@
 use crate::entries::EntryList;
 use crate::journaled::Journaled;
 use crate::node::Node;
+use crate::run_journals::journal_of;
 use history::Object;
 use mtapi_machine::{Entry, Op, Reply};
 use mtapi_values::{Args, Kind, Mask, NodeAttr, TaskEnd, TaskHandle};
 use std::marker::Model;
 use std::test::Fail;
+use turn_cell::TurnCell;
 
 /// A node with a journal, and a bound on how often it was called.
 #[derive(Drop)]
@@ -164,5 +166,34 @@ fn none_is_kept_without(rt: HostRuntime) -> Result<(), Fail> {
     assert!(rt; !node.told_terms().keeps);
     assert!(rt; matches!(node.apply(1, Op::Initialize), Reply::Ok));
     assert!(rt; matches!(node.into_journal(), Ok(None)));
+    Ok(())
+}
+
+#[test]
+fn a_closed_cell_gives_its_journal(rt: HostRuntime) -> Result<(), Fail> {
+    let node = Node::init(rt.alloc(), NodeAttr::new(), 1)?;
+    let object = Journaled::with(rt.alloc(), node);
+    let (cell, mut seats) = TurnCell::new(rt.alloc(), object)?;
+    let Some(mut main) = seats.pop() else {
+        unreachable!()
+    };
+    let Some(mut worker) = seats.pop() else {
+        unreachable!()
+    };
+    let opened = cell.call(&rt, &mut main, Op::Initialize);
+    assert!(rt; matches!(opened, Ok(Reply::Ok)));
+    let idle = cell.call(&rt, &mut worker, Op::Pick);
+    assert!(rt; matches!(idle, Ok(Reply::Idle)));
+    seats.push(worker)?;
+    seats.push(main)?;
+    let run = journal_of(cell.close(seats))?;
+    let journal = run.journal();
+    assert_eq!(rt; (journal.callers, journal.settings), (1, NodeAttr::new()));
+    let entries = journal.entries.as_slice();
+    assert_eq!(rt; entries.len(), 1);
+    for entry in entries {
+        assert_eq!(rt; (entry.who, word(&entry.reply)), (1, "ok"));
+    }
+    assert_eq!(rt; journal.entries.skipped(), [0].as_slice());
     Ok(())
 }

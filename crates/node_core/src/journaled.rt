@@ -39,7 +39,7 @@ impl Node {
         ensures { (l : Lists) → Live self.now l → pends_alike (state_of self.now l) who op.now ≡ result }
     {
         match op {
-            Op::TaskLook { task, .. } => match self.tasks.get(*task) {
+            Op::TaskLook { task, .. } => match self.board.task(*task) {
                 Some(found) => is_seat(who, found.waiter()),
                 None => false,
             },

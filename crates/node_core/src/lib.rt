@@ -11,6 +11,7 @@ pub mod journaled;
 pub mod node;
 mod object;
 mod phase_ops;
+pub mod run_journals;
 mod task_ops;
 #[cfg(test)]
 mod tests;
@@ -21,3 +22,4 @@ pub use entries::{EntryList, Journal};
 pub use journaled::{Journaled, JournaledTerms};
 pub use mtapi_machine::{Entry, Op, Phase, Reply, Terms};
 pub use node::Node;
+pub use run_journals::{RunJournal, journal_of};

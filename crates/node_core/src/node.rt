@@ -4,16 +4,14 @@ ghost use Rattle.std.specs.Prelude.{◌≡◌, ◌^◌, ◌<◌, ◌≤◌, [], 
 ghost use Rattle.mtapi_values.specs.Attributes.{AreNodeSettings};
 ghost use Rattle.node_core.specs.Stands.{Lists, Live, Steps, Stands, terms_of};
 
-use job_table::Actions;
 use mtapi_machine::{Op, Phase, Reply};
 use mtapi_values::NodeAttr;
 use std::alloc::{AllocError, Global};
-use task_core::Tasks;
+use task_board::Board;
 
 /// What a node keeps beside its objects.
 #[derive(Drop)]
 pub(crate) struct Core {
-    pub(crate) settings: NodeAttr,
     // The number of callers, main included.
     pub(crate) callers: u8,
     pub(crate) phase: Phase,
@@ -27,8 +25,7 @@ pub(crate) struct Core {
 #[derive(Drop)]
 pub struct Node {
     pub(crate) core: Core,
-    pub(crate) actions: Actions,
-    pub(crate) tasks: Tasks,
+    pub(crate) board: Board,
 }
 
 // What the readers of the settings promise: each is in its range.
@@ -54,18 +51,16 @@ impl Node {
         ensures stands { IfOk result (λ n. Stands n []) }
     {
         read_ranges(&attr);
-        let actions = Actions::new(alloc, attr.actions(), attr.generations())?;
-        let tasks = Tasks::new(alloc, attr.tasks(), attr.generations())?;
+        let board = Board::new(alloc, attr)?;
+        board.is_kept();
         Ok(Node {
             core: Core {
-                settings: attr,
                 callers: callers as u8,
                 phase: Phase::New,
                 released: false,
                 stopped: [false; 25],
             },
-            actions,
-            tasks,
+            board,
         })
     }
 
@@ -73,12 +68,12 @@ impl Node {
     pub fn settings(&self) -> &NodeAttr
         ensures { result.now ≡ (terms_of self.now).settings }
     {
-        &self.core.settings
+        self.board.settings()
     }
 
     // One op, by its own method.
     pub(crate) fn dispatch(&mut self, who: u32, op: Op) -> Reply
-        requires { self.old.tasks.starts < 2 ^ 63 }
+        requires { self.old.board.tasks.starts < 2 ^ 63 }
         ensures { (l : Lists) → Live self.old l → Steps self.old l who op result self.new }
     {
         match op {

@@ -35,18 +35,20 @@ impl Object for Node {
     ghost stands_legal = { λ x l s. s.legal };
 
     fn seats(&self) -> u32 {
-        self.core.settings.workers() + u32::from(self.core.callers)
+        self.board.workers() + u32::from(self.core.callers)
     }
 
     fn told_terms(&self) -> mtapi_machine::Terms {
         mtapi_machine::Terms {
-            settings: self.core.settings,
+            settings: *self.board.settings(),
             callers: u32::from(self.core.callers),
         }
     }
 
     fn apply(&mut self, who: u32, op: Op) -> Reply {
-        self.dispatch(who, op)
+        let reply = self.dispatch(who, op);
+        self.board.is_kept();
+        reply
     }
 }
 
@@ -58,6 +60,8 @@ impl Node {
         ensures terms { terms_of self.new ≡ terms_of self.old }
         ensures stands { (L : List NodeEntry) → Stands self.old L → Stands self.new (L ++ entry who op result ∷ []) }
     {
-        self.dispatch(who, op)
+        let reply = self.dispatch(who, op);
+        self.board.is_kept();
+        reply
     }
 }

@@ -103,7 +103,7 @@ impl Node {
         if !is_up(self.core.phase) {
             return Reply::Mtapi(MtapiStatus::ErrNodeNotinit);
         }
-        let workers = self.core.settings.workers();
+        let workers = self.board.workers();
         if !is_late(self.core.phase) || !all_marked(workers, &self.core.stopped) {
             return Reply::Mtapi(MtapiStatus::ErrNodeInitialized);
         }

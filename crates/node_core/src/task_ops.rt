@@ -41,9 +41,9 @@ fn share_core(cores: u32, a: Mask, b: Mask) -> bool
 impl Node {
     // Whether the priority isn't one of the node's, or the task is detached and in a group.
     fn is_wrong(&self, priority: u32, detached: bool, group: Option<GroupHandle>) -> bool
-        ensures { result ≡ (not (nat_lt priority self.now.core.settings.priorities) || is_detached_member detached group) }
+        ensures { result ≡ (not (nat_lt priority self.now.board.settings.priorities) || is_detached_member detached group) }
     {
-        priority >= self.core.settings.priorities() || (detached && group.is_some())
+        priority >= self.board.priorities() || (detached && group.is_some())
     }
 
     // Why a new task is refused, but for its priority and for want of room.
@@ -55,7 +55,7 @@ impl Node {
     ) -> Option<MtapiStatus>
         ensures { (l : Lists) (args : List ℤ) (priority : ℕ) (detached : Bool) → Live self.now l → first (start_refusals (state_of self.now l) (asked_for job args priority cores detached group)) ≡ result }
     {
-        match self.actions.cover(job) {
+        match self.board.cover(job) {
             Cover::NoAction => Some(MtapiStatus::ErrJobInvalid),
             // No group was made yet, so none is live.
             Cover::AllDisabled => Some(if group.is_some() {
@@ -66,7 +66,7 @@ impl Node {
             Cover::Cores(mask) => {
                 if group.is_some() {
                     Some(MtapiStatus::ErrGroupInvalid)
-                } else if share_core(self.core.settings.workers(), mask, cores) {
+                } else if share_core(self.board.workers(), mask, cores) {
                     None
                 } else {
                     Some(MtapiStatus::ErrNoCore)
@@ -84,7 +84,7 @@ impl Node {
         detached: bool,
         group: Option<GroupHandle>,
     ) -> Reply
-        requires { self.old.tasks.starts < 2 ^ 63 }
+        requires { self.old.board.tasks.starts < 2 ^ 63 }
         ensures { (l : Lists) (who : ℕ) → Live self.old l → Steps self.old l who (op.TaskStart job args priority cores detached group) result self.new }
     {
         if !is_open(self.core.phase) {
@@ -105,7 +105,7 @@ impl Node {
             group,
             queue: None,
         };
-        match self.tasks.add(task) {
+        match self.board.add(task) {
             Ok(task) => Reply::Handle(task.0),
             Err(status) => Reply::Mtapi(status),
         }
@@ -117,7 +117,7 @@ impl Node {
         if !is_up(self.core.phase) {
             return Reply::Mtapi(MtapiStatus::ErrNodeNotinit);
         }
-        match self.tasks.look(task, who, last) {
+        match self.board.look(task, who, last) {
             TaskLook::Ended(end) => Reply::Ended(end),
             TaskLook::Pending => Reply::Pending,
             TaskLook::Refused(status) => Reply::Mtapi(status),
@@ -130,14 +130,14 @@ impl Node {
         if !is_up(self.core.phase) {
             return Reply::Mtapi(MtapiStatus::ErrNodeNotinit);
         }
-        match self.tasks.state(task) {
+        match self.board.state(task) {
             None => Reply::Mtapi(MtapiStatus::ErrTaskInvalid),
             Some(TaskState::Scheduled) => {
-                self.tasks.end_with(task, TaskEnd::Cancelled);
+                self.board.end_with(task, TaskEnd::Cancelled);
                 Reply::Ok
             }
             Some(TaskState::Running { .. }) => {
-                self.tasks.request(task);
+                self.board.request(task);
                 Reply::Ok
             }
             Some(TaskState::Ended) => Reply::Ok,

@@ -1,17 +1,25 @@
 //! The ops of workers.
 
-ghost use Rattle.std.specs.Prelude.{◌≡◌, ℕ};
-ghost use Rattle.mtapi_machine.specs.Rows.{task_end, is_stop};
+ghost use Rattle.std.specs.Prelude.{◌≡◌, ◌<◌, ℕ};
+ghost use Rattle.std.specs.Bool.{OnFalse};
+ghost use Rattle.handle_pool.specs.Slots.{get, NoneLive};
+ghost use Rattle.handle_pool.specs.Issued.{any};
+ghost use Rattle.job_table.specs.Answers.{Passes};
+ghost use Rattle.task_core.specs.Tasks.{runs_on};
+ghost use Rattle.mtapi_machine.specs.Rows.{task_end};
+ghost use Rattle.mtapi_machine.specs.State.{is_stop};
 ghost use Rattle.mtapi_machine.specs.declared.ops.Op.TheVariants as op;
 ghost use Rattle.node_core.specs.Stands.{Lists, Live, Steps, state_of};
-ghost use Rattle.node_core.specs.Picks.{IsChoice, Takes};
+ghost use Rattle.node_core.specs.Picks.{Takes};
+ghost use Rattle.task_board.specs.Picks.{IsChoice};
 
 use crate::node::Node;
 use crate::phase_ops::{is_late, is_new};
-use crate::walks::{Choice, runs_so};
+use crate::walks::runs_so;
 use action_fn::{ActEnd, Finished};
 use mtapi_machine::Reply;
 use mtapi_values::{MtapiStatus, TaskEnd, TaskHandle};
+use task_board::Choice;
 
 // How a task ends whose action answered so.
 fn task_end(end: &ActEnd) -> TaskEnd
@@ -24,17 +32,26 @@ fn task_end(end: &ActEnd) -> TaskEnd
 }
 
 impl Node {
+    // Whether a live task runs on the worker.
+    fn runs_any(&self, worker: u32) -> bool
+        requires { worker < self.now.board.settings.workers }
+        ensures told { (l : Lists) → Live self.now l → any (runs_on worker) l.tasks ≡ result }
+        ensures none { OnFalse result (NoneLive (get self.now.board.tasks.pool) (Passes (runs_on worker))) }
+    {
+        self.board.is_running(worker)
+    }
+
     // Whether no worker finds a task any more.
     fn stops(&self) -> bool
         ensures { (l : Lists) → Live self.now l → is_stop (state_of self.now l) ≡ result }
     {
-        is_late(self.core.phase) && !self.has_unended()
+        is_late(self.core.phase) && self.board.unended() == 0
     }
 
     pub(crate) fn pick(&mut self, who: u32) -> Reply
         ensures { (l : Lists) → Live self.old l → Steps self.old l who op.Pick result self.new }
     {
-        if who >= self.core.settings.workers() || self.runs_any(who) {
+        if who >= self.board.workers() || self.runs_any(who) {
             return Reply::Mtapi(MtapiStatus::ErrParameter);
         }
         if is_new(self.core.phase) {
@@ -44,7 +61,7 @@ impl Node {
             self.core.stopped[who as usize] = true;
             return Reply::Stop;
         }
-        match self.best(who) {
+        match self.board.best(who) {
             None => Reply::Idle,
             Some(choice) => self.take(who, choice),
         }
@@ -52,10 +69,12 @@ impl Node {
 
     // The worker takes what was chosen.
     fn take(&mut self, who: u32, choice: Choice) -> Reply
-        requires { IsChoice self.old.actions self.old.tasks.pool who choice }
+        requires worker { who < self.old.board.settings.workers }
+        requires free { NoneLive (get self.old.board.tasks.pool) (Passes (runs_on who)) }
+        requires choice { IsChoice self.old.board.actions self.old.board.tasks.pool who choice }
         ensures { Takes self.old who choice result self.new }
     {
-        let args = self.tasks.run_on(choice.task, who, choice.kind);
+        let args = self.board.take(who, choice);
         Reply::Picked {
             task: choice.task,
             action: choice.action,
@@ -67,24 +86,24 @@ impl Node {
     pub(crate) fn finish(&mut self, who: u32, task: TaskHandle, done: Finished) -> Reply
         ensures { (l : Lists) → Live self.old l → Steps self.old l who (op.Finish task done) result self.new }
     {
-        if who >= self.core.settings.workers() {
+        if who >= self.board.workers() {
             return Reply::Mtapi(MtapiStatus::ErrParameter);
         }
-        match self.tasks.get(task) {
+        match self.board.task(task) {
             Some(found) if runs_so(found, who, &done) => {}
             _ => return Reply::Mtapi(MtapiStatus::ErrTaskInvalid),
         }
-        self.tasks.end_with(task, task_end(done.end()));
+        self.board.end_with(task, task_end(done.end()));
         Reply::Ok
     }
 
     pub(crate) fn asked(&mut self, who: u32, task: TaskHandle) -> Reply
         ensures { (l : Lists) → Live self.old l → Steps self.old l who (op.Asked task) result self.new }
     {
-        if who >= self.core.settings.workers() {
+        if who >= self.board.workers() {
             return Reply::Mtapi(MtapiStatus::ErrParameter);
         }
-        match self.tasks.asked(task, who) {
+        match self.board.asked(task, who) {
             Ok(requested) => Reply::Asked(requested),
             Err(status) => Reply::Mtapi(status),
         }
@@ -93,13 +112,13 @@ impl Node {
     pub(crate) fn watch_end(&mut self, who: u32, task: TaskHandle) -> Reply
         ensures { (l : Lists) → Live self.old l → Steps self.old l who (op.WatchEnd task) result self.new }
     {
-        if who >= self.core.settings.workers() {
+        if who >= self.board.workers() {
             return Reply::Mtapi(MtapiStatus::ErrParameter);
         }
-        match self.tasks.watch_end(task, who) {
+        match self.board.watch_end(task, who) {
             Ok(end) => {
                 let answer = end.again();
-                self.tasks.end_with(task, end);
+                self.board.end_with(task, end);
                 Reply::Ended(answer)
             }
             Err(status) => Reply::Mtapi(status),

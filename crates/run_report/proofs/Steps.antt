@@ -1,6 +1,6 @@
 -- What each entry of a legal history does to how far the task of a handle has come.
 use Rattle.std.proofs.Common.{◌≡◌, ℕ, ◌+◌, ◌<◌, ◌≤◌, length, get_or, take, Bool, true, false, ◌&&◌, cond, List, [], ◌∷◌, ◌++◌, Option, Some, None, refl, sym, ◌∙◌, ap, subst, arith}
-use Rattle.std.specs.Prelude.{◌==◌}
+use Rattle.std.specs.Prelude.{◌==◌, not}
 use Rattle.std.proofs.lemmas.Bool.{eqb-true}
 use Rattle.std.proofs.lemmas.Grind.{take_at_read}
 use Rattle.mtapi_values.specs.declared.ends.TaskEnd.{TaskEnd}
@@ -9,19 +9,21 @@ use Rattle.mtapi_values.specs.declared.handles.TaskHandle.{TaskHandle}
 use Rattle.mtapi_values.specs.Conditions.{holds}
 use Rattle.handle_pool.specs.Issued.{Listed, live_of, at, change, update, issue, with_fields, gone, any, listed, may_issue}
 use Rattle.handle_pool.proofs.ListedLemmas.{listed-change, listed-issue}
-use Rattle.job_table.specs.Actions.{Action}
+use Rattle.job_table.specs.Actions.{new_action}
 use Rattle.queue_core.specs.Queues.{Queue, is_shut_in}
 use Rattle.task_core.specs.Tasks.{Task, TaskState, Scheduled, Running, Over, is_unstarted, with_state, with_waiter, cancel_requested, asked_once, ended, end_each, watch_end}
 use Rattle.mtapi_machine.specs.declared.replies.Reply.{Reply}
-use Rattle.mtapi_machine.specs.declared.replies.Reply.TheVariants.{Handle, Picked, Idle}
+use Rattle.mtapi_machine.specs.declared.replies.Reply.TheVariants.{Picked, Idle, Stop}
 use Rattle.mtapi_machine.specs.declared.ops.Op.{Op}
 use Rattle.mtapi_machine.specs.declared.ops.Op.TheVariants as op
 use Rattle.mtapi_machine.specs.declared.terms.Terms.{Terms}
-use Rattle.mtapi_machine.specs.State.{State, opening}
-use Rattle.mtapi_machine.specs.Row.{Row, unless, says, gives, never, Allows, after_row, live, issues}
-use Rattle.mtapi_machine.specs.Rows.{row, can_take, may_take, takes, takes_chosen, picks, is_stop, stops_or, looks_at, cancels, task_end}
+use Rattle.mtapi_machine.specs.State.{State, opening, is_open, is_stop}
+use Rattle.mtapi_machine.specs.Moves.{Move, starts, runs, ends, ends_waiting, notes, noted, leaves, stops, makes_action, withdraws, frees_members, lets_members_go, makes, alters, removes, after_moves}
+use Rattle.mtapi_machine.specs.Row.{Row, unless, gives, never, Allows, after_row, only, live, handle_of}
+use Rattle.mtapi_machine.specs.Rows.{row, asked_for, can_take, may_take, picks, looks_at, cancels, task_end}
 use Rattle.mtapi_machine.specs.Legal.{NodeEntry, IsNext, row_of, next, LegalFrom, Legal, after_from, after}
-use Rattle.mtapi_machine.proofs.Ends.{AllGives, given}
+use Rattle.mtapi_machine.proofs.Made.{fst_true, snd_true}
+use Rattle.mtapi_machine.proofs.Moves.{IsKeptBy, by_moves}
 use Rattle.run_report.specs.declared.standing.Standing.{Standing}
 use Rattle.run_report.specs.declared.standing.Standing.TheVariants as stands
 use Rattle.run_report.specs.declared.standing.Change.TheVariants.{Cancels}
@@ -36,38 +38,24 @@ Sound s = ((k : ℕ) → listed k s.tasks ≤ 1) × (s.queues ≡ [])
 -- the tool: P of the state and each reply that the row may give, with the state after it
 abbrev Leads : (Reply → State → Type 0) → State → Row → Type 0
 Leads P s (unless c x w) = P x s × Leads P s w
-Leads P s (says x) = P x s
-Leads P s (gives x t) = P x t
+Leads P s (gives x ms) = P x (after_moves ms s)
 Leads P s never = Unit {0}
 
 led : (P : Reply → State → Type 0) (s : State) (w : Row) (r : Reply) → Leads P s w → Allows w r → P r (after_row s w)
 led P s (unless true x w) r l a = subst (λ (q : Reply). P q s) (sym a) l.0
 led P s (unless false x w) r l a = led P s w r l.1 a
-led P s (says x) r l a = subst (λ (q : Reply). P q s) (sym a) l
-led P s (gives x t) r l a = subst (λ (q : Reply). P q t) (sym a) l
+led P s (gives x ms) r l a = subst (λ (q : Reply). P q (after_moves ms s)) (sym a) l
 led P s never r l a = absurd a
 
 -- a row's parts
 
-gives_live : (P : State → Type 0) {T : Type 0} (x : Option T) (r : Reply) (w : T → Row) → ((t : T) → x ≡ Some t → AllGives P (w t)) → AllGives P (live x r w)
-gives_live P None r w h = tt
-gives_live P (Some t) r w h = h t refl
+leads_live : (P : Reply → State → Type 0) (s : State) {T : Type 0} (x : Option T) (v : Row) (w : T → Row) → Leads P s v → ((t : T) → x ≡ Some t → Leads P s (w t)) → Leads P s (live x v w)
+leads_live P s None v w p h = p
+leads_live P s (Some t) v w p h = h t refl
 
-gives_issues : (P : State → Type 0) (b : Bool) (h : ℕ) (s : State) → (b ≡ true → P s) → AllGives P (issues b h s)
-gives_issues P true h s p = p refl
-gives_issues P false h s p = tt
-
-gives_cond : (P : State → Type 0) (b : Bool) (v w : Row) → AllGives P v → AllGives P w → AllGives P (cond b v w)
-gives_cond P true v w h k = h
-gives_cond P false v w h k = k
-
-leads_live : (P : Reply → State → Type 0) (s : State) {T : Type 0} (x : Option T) (r : Reply) (w : T → Row) → P r s → ((t : T) → x ≡ Some t → Leads P s (w t)) → Leads P s (live x r w)
-leads_live P s None r w p h = p
-leads_live P s (Some t) r w p h = h t refl
-
-leads_issues : (P : Reply → State → Type 0) (s : State) (b : Bool) (h : ℕ) (t : State) → P (Handle h) t → Leads P s (issues b h t)
-leads_issues P s true h t p = p
-leads_issues P s false h t p = tt
+leads_only : (P : Reply → State → Type 0) (s : State) (b : Bool) (x : Reply) (ms : List Move) → P x (after_moves ms s) → Leads P s (only b (gives x ms))
+leads_only P s true x ms p = p
+leads_only P s false x ms p = tt
 
 leads_cond : (P : Reply → State → Type 0) (s : State) (b : Bool) (v w : Row) → Leads P s v → Leads P s w → Leads P s (cond b v w)
 leads_cond P s true v w h k = h
@@ -124,60 +112,35 @@ once_issue last h t l may one k = by (h == k) refl
         let more : listed k (issue h t l) ≡ listed k l + 0 = listed-issue k h t l ∙ (λ i. listed k l + cond (is i) 1 0) in
         omega (arith, one k, more)
 
-sound_update : (s : State) (h : ℕ) (f : Task → Task) → Sound s → Once (update h f s.tasks)
-sound_update s h f i = once_change h (with_fields f) s.tasks (λ r. refl) i.0
+listed_ends : (k : ℕ) (p : Task → Bool) (e : TaskEnd) (n : ℕ) (l : List (Listed Task)) → listed k (end_each p e n l) ≡ listed k l
+unfolding listed end_each
+listed_ends k p e n [] = refl
+listed_ends k p e n (r ∷ rs) = by (r.live && p r.fields) (listed_ends k p e n rs) (listed_ends k p e (n + 1) rs)
+  where
+    by : (b : Bool) → listed k (end_each p e n rs) ≡ listed k rs → listed k (end_each p e (n + 1) rs) ≡ listed k rs → listed k (cond b (ended e n r ∷ end_each p e (n + 1) rs) (r ∷ end_each p e n rs)) ≡ cond (r.handle == k) 1 0 + listed k rs
+    by true same more = ap (λ m. cond (r.handle == k) 1 0 + m) more
+    by false same more = ap (λ m. cond (r.handle == k) 1 0 + m) same
 
-sound_end : (s : State) (h : ℕ) (e : TaskEnd) (n : ℕ) → Sound s → Once (change h (ended e n) s.tasks)
-sound_end s h e n i = once_change h (ended e n) s.tasks (λ r. refl) i.0
+once_ends : (p : Task → Bool) (e : TaskEnd) (n : ℕ) (l : List (Listed Task)) → Once l → Once (end_each p e n l)
+once_ends p e n l one k = subst (λ (m : ℕ). m ≤ 1) (sym (listed_ends k p e n l)) (one k)
 
-sound_takes : (b : Bool) (s : State) (w h a : ℕ) (t : Task) (x : Action) → Sound s → AllGives Sound (takes b s w h a t x)
-sound_takes true s w h a t x i = (sound_update s h (with_state (Running w x.kind)) i, i.1)
-sound_takes false s w h a t x i = tt
+sound_move : (o : Op) → IsKeptBy o Sound
+sound_move o s (starts h t) e i = (once_issue _ h _ s.tasks (snd_true (is_open s.phase) _ (fst_true _ _ e.may)) i.0, i.1)
+sound_move o s (runs h w k) e i = (once_change h (with_fields (with_state (Running w k))) s.tasks (λ r. refl) i.0, i.1)
+sound_move o s (ends h x) e i = (once_change h (ended x s.ends) s.tasks (λ r. refl) i.0, i.1)
+sound_move o s (ends_waiting p x) e i = (once_ends _ x s.ends s.tasks i.0, i.1)
+sound_move o s (notes h f) e i = (once_change h (with_fields (noted f)) s.tasks (λ r. refl) i.0, i.1)
+sound_move o s (leaves h) e i = (once_change h gone s.tasks (λ r. refl) i.0, i.1)
+sound_move o s (withdraws h f c) e i = absurd e.by
+sound_move o s (frees_members g) e i = absurd e.by
+sound_move o s (lets_members_go g) e i = absurd e.by
+sound_move o s (makes k h x) e i = absurd e.by
+sound_move o s (alters k h f) e i = absurd e.by
+sound_move o s (removes k h) e i = absurd e.by
+sound_move o s _ e i = i
 
-sound_chosen : (s : State) (w h a : ℕ) (t : Option Task) (x : Option Action) → Sound s → AllGives Sound (takes_chosen s w h a t x)
-sound_chosen s w h a (Some t) (Some x) i = sound_takes (may_take s w t x) s w h a t x i
-sound_chosen s w h a (Some t) None i = tt
-sound_chosen s w h a None x i = tt
-
-sound_picks : (s : State) (w : ℕ) (r : Reply) → Sound s → AllGives Sound (picks s w r)
-sound_picks s w (Picked t a k args) i = sound_chosen s w t.0 a.0 (at s.tasks t.0) (at s.actions a.0) i
-sound_picks s w _ i = gives_cond Sound (any (can_take s w) s.tasks) never (says Idle) tt tt
-
-sound_stops : (b : Bool) (s : State) (w : ℕ) (v : Row) → Sound s → AllGives Sound v → AllGives Sound (stops_or b s w v)
-sound_stops true s w v i h = i
-sound_stops false s w v i h = h
-
-sound_looks : (s : State) (who h : ℕ) (last : Bool) (x : TaskState) → Sound s → AllGives Sound (looks_at s who h last x)
-sound_looks s who h true Scheduled i = (sound_update s h (with_waiter None) i, i.1)
-sound_looks s who h false Scheduled i = (sound_update s h (with_waiter (Some who)) i, i.1)
-sound_looks s who h true (Running w k) i = (sound_update s h (with_waiter None) i, i.1)
-sound_looks s who h false (Running w k) i = (sound_update s h (with_waiter (Some who)) i, i.1)
-sound_looks s who h last (Over e n) i = (once_change h gone s.tasks (λ r. refl) i.0, i.1)
-
-sound_cancels : (s : State) (h : ℕ) (x : TaskState) → Sound s → AllGives Sound (cancels s h x)
-sound_cancels s h Scheduled i = (sound_end s h Cancelled s.ends i, i.1)
-sound_cancels s h (Running w k) i = (sound_update s h cancel_requested i, i.1)
-sound_cancels s h (Over e n) i = tt
-
-sound_row : (s : State) (who : ℕ) (o : Op) (r : Reply) → Sound s → AllGives Sound (row s who o r)
-sound_row s who op.Initialize r i = λ c. i
-sound_row s who op.Release r i = λ c. i
-sound_row s who op.Enter r i = λ c d. tt
-sound_row s who op.Close r i = λ c. (subst Once (sym (closing_ends_none s i)) i.0, i.1)
-sound_row s who op.Final r i = λ c d. i
-sound_row s who (op.JobGet job) r i = λ c d. tt
-sound_row s who (op.ActionCreate job kind cores) r i = λ c0 c1 c2. gives_issues Sound _ _ _ (λ e. i)
-sound_row s who (op.ActionEnable a) r i = λ c. gives_live Sound (at s.actions a.0) _ _ (λ x e. i)
-sound_row s who (op.TaskStart job args priority cores detached group) r i = λ c0 c1 c2 c3 c4 c5 c6. gives_issues Sound _ _ _ (λ e. (once_issue _ _ _ s.tasks e i.0, i.1))
-sound_row s who (op.TaskLook t last) r i = λ c. gives_live Sound (at s.tasks t.0) _ _ (λ x e a b. sound_looks s who t.0 last x.state i)
-sound_row s who (op.TaskCancel t) r i = λ c. gives_live Sound (at s.tasks t.0) _ _ (λ x e. sound_cancels s t.0 x.state i)
-sound_row s who op.Pick r i = λ a b c. sound_stops (is_stop s) s who _ i (sound_picks s who r i)
-sound_row s who (op.Finish t d) r i = λ c. gives_live Sound (at s.tasks t.0) _ _ (λ x e a. (sound_end s t.0 _ s.ends i, i.1))
-sound_row s who (op.Asked t) r i = λ c. gives_live Sound (at s.tasks t.0) _ _ (λ x e a b. (sound_update s t.0 asked_once i, i.1))
-sound_row s who (op.WatchEnd t) r i = λ c. gives_live Sound (at s.tasks t.0) _ _ (λ x e a b. (sound_end s t.0 _ s.ends i, i.1))
-
-sound_next : (s : State) (e : NodeEntry) → IsNext s e → Sound s → Sound (next s e)
-sound_next s e h i = given Sound s (row_of s e) e.reply i (sound_row s e.who e.op e.reply i) h.allowed
+sound_next : (s : State) (e : NodeEntry) → Sound s → Sound (next s e)
+sound_next s e i = by_moves Sound s e (sound_move e.op) i
 
 -- How far the task of a handle has come
 
@@ -192,37 +155,23 @@ stood_set j h f x t s i e keeps brings = standing-set j h f x t keeps brings s.t
 stood_update : (j h : ℕ) (f : Task → Task) (s : State) → ((t : Task) → standing_in (f t).state ≡ standing_in t.state) → standing_at (update h f s.tasks) j ≡ standing_at s.tasks j
 stood_update j h f s stays = standing-kept j h (with_fields f) (λ r. refl) (λ r. stays r.fields) s.tasks
 
-asked_stays : (t : Task) → standing_in (asked_once t).state ≡ standing_in t.state
-asked_stays t = by t.requested
-  where
-    by : (b : Bool) → standing_in (cond b (record t { seen = true }) (record t { looks = t.looks + 1 })).state ≡ standing_in t.state
-    by true = refl
-    by false = refl
-
-stood_takes : (j : ℕ) (b : Bool) (s : State) (w h a : ℕ) (t : Task) (x : Action) → Sound s → at s.tasks h ≡ Some t → Leads (Stood j op.Pick s) s (takes b s w h a t x)
-stood_takes j true s w h a t x i e = stood_set j h (with_fields (with_state (Running w x.kind))) (Some stands.Runs) t s i e (λ r. refl) (λ r. refl)
-stood_takes j false s w h a t x i e = tt
-
-stood_chosen : (j : ℕ) (s : State) (w h a : ℕ) (t : Option Task) (x : Option Action) → Sound s → at s.tasks h ≡ t → Leads (Stood j op.Pick s) s (takes_chosen s w h a t x)
-stood_chosen j s w h a (Some t) (Some x) i e = stood_takes j (may_take s w t x) s w h a t x i e
-stood_chosen j s w h a (Some t) None i e = tt
-stood_chosen j s w h a None x i e = tt
-
 stood_picks : (j : ℕ) (s : State) (w : ℕ) (r : Reply) → Sound s → Leads (Stood j op.Pick s) s (picks s w r)
-stood_picks j s w (Picked t a k args) i = stood_chosen j s w t.0 a.0 (at s.tasks t.0) (at s.actions a.0) i refl
-stood_picks j s w _ i = leads_cond (Stood j op.Pick s) s (any (can_take s w) s.tasks) never (says Idle) tt refl
+stood_picks j s w (Picked t a k args) i =
+    leads_live (Stood j op.Pick s) s (at s.tasks t.0) _ _ tt (λ x e. leads_live (Stood j op.Pick s) s (at s.actions a.0) _ _ tt (λ y d.
+    leads_only (Stood j op.Pick s) s (may_take s w x y) _ (runs t.0 w y.kind ∷ []) (stood_set j t.0 (with_fields (with_state (Running w y.kind))) (Some stands.Runs) x s i e (λ r. refl) (λ r. refl))))
+stood_picks j s w _ i = leads_only (Stood j op.Pick s) s (not (any (can_take s w) s.tasks)) Idle [] refl
 
-stood_stops : (j : ℕ) (b : Bool) (s : State) (w : ℕ) (v : Row) → Leads (Stood j op.Pick s) s v → Leads (Stood j op.Pick s) s (stops_or b s w v)
+stood_stops : (j : ℕ) (b : Bool) (s : State) (w : ℕ) (v : Row) → Leads (Stood j op.Pick s) s v → Leads (Stood j op.Pick s) s (cond b (gives Stop (stops w ∷ [])) v)
 stood_stops j true s w v h = refl
 stood_stops j false s w v h = h
 
-stood_looks : (j : ℕ) (o : Op) (s : State) (who h : ℕ) (last : Bool) (x : TaskState) → ((q : Reply) → change_of o q ≡ None) → Leads (Stood j o s) s (looks_at s who h last x)
+stood_looks : (j : ℕ) (o : Op) (s : State) (who h : ℕ) (last : Bool) (x : TaskState) → ((q : Reply) → change_of o q ≡ None) → Leads (Stood j o s) s (looks_at who h last x)
 stood_looks j o s who h last x quiet = by last x
   where
     stays : (q : Reply) → standing_at s.tasks j ≡ with_change (change_of o q) (standing_at s.tasks) j
     stays q = λ i. with_change (sym (quiet q) i) (standing_at s.tasks) j
 
-    by : (last : Bool) (x : TaskState) → Leads (Stood j o s) s (looks_at s who h last x)
+    by : (last : Bool) (x : TaskState) → Leads (Stood j o s) s (looks_at who h last x)
     by true Scheduled = stood_update j h (with_waiter None) s (λ t. refl) ∙ stays _
     by false Scheduled = stood_update j h (with_waiter (Some who)) s (λ t. refl) ∙ stays _
     by true (Running w k) = stood_update j h (with_waiter None) s (λ t. refl) ∙ stays _
@@ -241,7 +190,7 @@ cancelled_left false y z e = refl
 found_here : (j h : ℕ) (t : Task) (s : State) → Sound s → at s.tasks h ≡ Some t → (h == j) ≡ true → standing_at s.tasks j ≡ standing_in t.state
 found_here j h t s i e is = subst (λ (n : ℕ). standing_at s.tasks n ≡ standing_in t.state) (same_number h j is) (standing-found h t s.tasks (i.0 h) e)
 
-stood_cancels : (j : ℕ) (s : State) (k : TaskHandle) (t : Task) (x : TaskState) → Sound s → at s.tasks k.0 ≡ Some t → t.state ≡ x → Leads (Stood j (op.TaskCancel k) s) s (cancels s k.0 x)
+stood_cancels : (j : ℕ) (s : State) (k : TaskHandle) (t : Task) (x : TaskState) → Sound s → at s.tasks k.0 ≡ Some t → t.state ≡ x → Leads (Stood j (op.TaskCancel k) s) s (cancels k.0 x)
 stood_cancels j s k t Scheduled i e d =
     stood_set j k.0 (ended Cancelled s.ends) (Some (stands.Ended Cancelled)) t s i e (λ r. refl) (λ r. refl)
     ∙ cancelled_to (k.0 == j) None (standing_at s.tasks j) (λ is. found_here j k.0 t s i e is ∙ ap standing_in d)
@@ -257,10 +206,10 @@ stood_row j s who op.Enter r i = (refl, (refl, refl))
 stood_row j s who op.Close r i = (refl, ap (λ l. standing_at l j) (closing_ends_none s i))
 stood_row j s who op.Final r i = (refl, (refl, refl))
 stood_row j s who (op.JobGet job) r i = (refl, (refl, refl))
-stood_row j s who (op.ActionCreate job kind cores) r i = (refl, (refl, (refl, leads_issues (Stood j (op.ActionCreate job kind cores) s) s _ _ _ refl)))
+stood_row j s who (op.ActionCreate job kind cores) r i = (refl, (refl, (refl, leads_only (Stood j (op.ActionCreate job kind cores) s) s _ _ (makes_action (handle_of r) (new_action job kind cores.0) ∷ []) refl)))
 stood_row j s who (op.ActionEnable a) r i = (refl, leads_live (Stood j (op.ActionEnable a) s) s (at s.actions a.0) _ _ refl (λ x e. refl))
 stood_row j s who (op.TaskStart job args priority cores detached group) r i =
-    (refl, (refl, (refl, (refl, (refl, (refl, (refl, leads_issues (Stood j (op.TaskStart job args priority cores detached group) s) s _ _ _ (standing-issued j _ _ s.tasks refl))))))))
+    (refl, (refl, (refl, (refl, (refl, (refl, (refl, leads_only (Stood j (op.TaskStart job args priority cores detached group) s) s _ _ (starts (handle_of r) (asked_for job args priority cores detached group) ∷ []) (standing-issued j _ _ s.tasks refl))))))))
 stood_row j s who (op.TaskLook t last) r i =
     (refl, leads_live (Stood j (op.TaskLook t last) s) s (at s.tasks t.0) _ _ refl (λ x e. (refl, (refl, stood_looks j (op.TaskLook t last) s who t.0 last x.state (λ q. refl)))))
 stood_row j s who (op.TaskCancel t) r i = (refl, leads_live (Stood j (op.TaskCancel t) s) s (at s.tasks t.0) _ _ refl (λ x e. stood_cancels j s t x x.state i e refl))
@@ -271,7 +220,7 @@ stood_row j s who (op.Finish t d) r i = (
       (λ x e. (refl, stood_set j t.0 (ended (task_end d.end) s.ends) (Some (stands.Ended (task_end d.end))) x s i e (λ r. refl) (λ r. refl))),
 )
 stood_row j s who (op.Asked t) r i =
-    (refl, leads_live (Stood j (op.Asked t) s) s (at s.tasks t.0) _ _ refl (λ x e. (refl, (refl, stood_update j t.0 asked_once s asked_stays))))
+    (refl, leads_live (Stood j (op.Asked t) s) s (at s.tasks t.0) _ _ refl (λ x e. (refl, (refl, stood_update j t.0 (noted asked_once) s (λ u. refl)))))
 stood_row j s who (op.WatchEnd t) r i = (
   refl,
   leads_live (Stood j (op.WatchEnd t) s) s (at s.tasks t.0) _ _ refl
@@ -285,7 +234,7 @@ stood_from : (j : ℕ) (s : State) (L : List NodeEntry) → LegalFrom s L → So
 unfolding LegalFrom after_from standings_from
 stood_from j s [] h i = refl
 stood_from j s (e ∷ L) h i =
-    stood_from j (next s e) L h.1 (sound_next s e h.0 i) ∙ ap (λ (f : ℕ → Option Standing). standings_from f L j) (λ k n. stood_next n s e h.0 i k)
+    stood_from j (next s e) L h.1 (sound_next s e i) ∙ ap (λ (f : ℕ → Option Standing). standings_from f L j) (λ k n. stood_next n s e h.0 i k)
 
 -- after a legal history, how far each task has come by its record is how far it has come by the entries
 pub standing_by_entries : (terms : Terms) (L : List NodeEntry) → Legal terms L → (h : ℕ) → standing_at (after terms L).tasks h ≡ standings_from no_standing L h

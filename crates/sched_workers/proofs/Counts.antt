@@ -1,20 +1,25 @@
 -- How many tasks are scheduled, and that none runs, before and after an entry of main; and which actions there are.
-use Rattle.std.proofs.Common.{◌≡◌, ℕ, ◌+◌, ◌≤◌, Bool, true, false, cond, List, [], ◌∷◌, Option, Some, None, refl, arith}
+use Rattle.std.proofs.Common.{◌≡◌, ℕ, ◌+◌, ◌≤◌, Bool, true, false, cond, List, [], ◌∷◌, refl, ◌∙◌, ap, arith}
 use Rattle.std.specs.Prelude.{◌==◌, ◌&&◌}
 use Rattle.mtapi_values.specs.declared.ends.TaskEnd.{TaskEnd}
-use Rattle.mtapi_values.specs.declared.ends.TaskEnd.TheVariants.{Cancelled}
 use Rattle.action_fn.specs.Answers.{is_pure}
+use Rattle.history.specs.Histories.{entry}
+use Rattle.mtapi_machine.specs.declared.terms.Phase.{Phase}
+use Rattle.mtapi_machine.specs.declared.terms.Phase.TheVariants.{New, Open, Closing, Closed}
 use Rattle.mtapi_machine.specs.declared.replies.Reply.{Reply}
 use Rattle.mtapi_machine.specs.declared.ops.Op.{Op}
 use Rattle.mtapi_machine.specs.declared.ops.Op.TheVariants as op
-use Rattle.handle_pool.specs.Issued.{Listed, at, count, change, update, issue, with_fields, gone}
+use Rattle.handle_pool.specs.Issued.{Listed, count, change, update, issue, with_fields, gone}
 use Rattle.job_table.specs.Actions.{Action, with_enabled}
-use Rattle.task_core.specs.Tasks.{Task, TaskState, Scheduled, Running, Over, is_unstarted, with_waiter, cancel_requested, ended, end_each}
+use Rattle.task_core.specs.Tasks.{Task, NewTask, Running, is_unstarted, with_state, ended, end_each}
 use Rattle.mtapi_machine.specs.State.{State}
-use Rattle.mtapi_machine.specs.Row.{Row, live, issues}
-use Rattle.mtapi_machine.specs.Rows.{row, looks_at, cancels}
+use Rattle.mtapi_machine.specs.Moves.{phase_is, stops, makes_action, enables, withdraws, starts, runs, ends, ends_waiting, notes, noted, leaves, frees_members, lets_members_go, makes, alters, removes, after_moves}
+use Rattle.mtapi_machine.specs.Rows.{row}
+use Rattle.mtapi_machine.specs.Legal.{next}
+use Rattle.mtapi_machine.specs.Laws.{turns, is_pick, MakesAction, StartsTask}
+use Rattle.mtapi_machine.proofs.Made.{moves_given, on_only}
+use Rattle.mtapi_machine.proofs.Moves.{IsKeptBy, by_moves}
 use Rattle.sched_workers.specs.Good.{EachTask as Each, EachAction, Rests, Resting, Pure, waiting, added, IsOnce, IsPureOp}
-use Rattle.sched_workers.proofs.Rows.{AllGives}
 use Rattle.sched_workers.proofs.Fair.{each_append, each_change}
 
 abbrev test : Listed Task → Bool
@@ -74,13 +79,23 @@ abbrev pub IsMains : Op → Type 0
 IsMains (op.TaskLook t last) = Unit {0}
 IsMains o = IsOnce o
 
-on_live : (P : State → Type 0) {T : Type 0} (x : Option T) (r : Reply) (w : T → Row) → ((t : T) → AllGives P (w t)) → AllGives P (live x r w)
-on_live P None r w h = tt
-on_live P (Some t) r w h = h t
+-- they don't pick, they turn no phase, and only a start adds to the tasks
+mains_pick : (o : Op) → IsMains o → is_pick o ≡ true → ⊥
+mains_pick op.Pick i e = i
+mains_pick _ i e = absurd (cc)
 
-on_issues : (P : State → Type 0) (b : Bool) (h : ℕ) (s : State) → P s → AllGives P (issues b h s)
-on_issues P true h s p = p
-on_issues P false h s p = tt
+mains_turn : (p : Phase) (o : Op) → IsMains o → turns p o ≡ true → ⊥
+mains_turn p op.Initialize i e = i
+mains_turn p op.Close i e = i
+mains_turn p op.Final i e = i
+mains_turn New _ i e = absurd (cc)
+mains_turn Open _ i e = absurd (cc)
+mains_turn Closing _ i e = absurd (cc)
+mains_turn Closed _ i e = absurd (cc)
+
+starts_add : (t : NewTask) (o : Op) → StartsTask t o → added o ≡ 0 → ⊥
+starts_add t (op.TaskStart job args priority cores detached group) e z = cc
+starts_add t _ e z = e
 
 abbrev Few : ℕ → State → Type 0
 Few n t = waiting t ≤ n
@@ -88,75 +103,69 @@ Few n t = waiting t ≤ n
 gone_test : (r : Listed Task) → test (gone r) ≡ true → test r ≡ true
 gone_test r e = no_truth e
 
-looks_wait : (s : State) (who h : ℕ) (last : Bool) (x : TaskState) (n : ℕ) → waiting s ≤ n → AllGives (Few n) (looks_at s who h last x)
-looks_wait s who h true Scheduled n l = omega (arith, l, change_waits h (with_fields (with_waiter None)) s.tasks (λ r e. e))
-looks_wait s who h false Scheduled n l = omega (arith, l, change_waits h (with_fields (with_waiter (Some who))) s.tasks (λ r e. e))
-looks_wait s who h true (Running w k) n l = omega (arith, l, change_waits h (with_fields (with_waiter None)) s.tasks (λ r e. e))
-looks_wait s who h false (Running w k) n l = omega (arith, l, change_waits h (with_fields (with_waiter (Some who))) s.tasks (λ r e. e))
-looks_wait s who h last (Over y k) n l = omega (arith, l, change_waits h gone s.tasks gone_test)
-
-cancels_wait : (s : State) (h : ℕ) (x : TaskState) (n : ℕ) → waiting s ≤ n → AllGives (Few n) (cancels s h x)
-cancels_wait s h Scheduled n l = omega (arith, l, change_waits h (ended Cancelled s.ends) s.tasks (λ r e. no_truth (and_false _ e)))
-cancels_wait s h (Running w k) n l = omega (arith, l, change_waits h (with_fields cancel_requested) s.tasks (λ r e. e))
-cancels_wait s h (Over y k) n l = tt
-
 issue_few : (s : State) (h : ℕ) (t : Task) (n : ℕ) → waiting s + 1 ≤ n → count is_unstarted (issue h t s.tasks) ≤ n
 issue_few s h t n l = omega (arith, l, issue_waits h t s.tasks)
 
-pub mains_wait : (s : State) (who : ℕ) (o : Op) (r : Reply) (n : ℕ) → IsMains o → waiting s + added o ≤ n → AllGives (Few n) (row s who o r)
-mains_wait s who op.Release r n i l = λ c. omega (arith, l)
-mains_wait s who (op.ActionCreate job kind cores) r n i l = λ c0 c1 c2. on_issues (Few n) _ _ _ (omega (arith, l))
-mains_wait s who (op.ActionEnable a) r n i l = λ c. on_live (Few n) (at s.actions a.0) _ _ (λ x. omega (arith, l))
-mains_wait s who (op.TaskStart job args priority cores detached group) r n i l = λ c0 c1 c2 c3 c4 c5 c6. on_issues (Few n) _ _ _ (issue_few s _ _ n l)
-mains_wait s who (op.TaskLook t last) r n i l = λ c. on_live (Few n) (at s.tasks t.0) _ _ (λ x a b. looks_wait s who t.0 last x.state n (omega (arith, l)))
-mains_wait s who (op.TaskCancel t) r n i l = λ c. on_live (Few n) (at s.tasks t.0) _ _ (λ x. cancels_wait s t.0 x.state n (omega (arith, l)))
-mains_wait s who op.Initialize r n i l = absurd i
-mains_wait s who op.Enter r n i l = absurd i
-mains_wait s who op.Close r n i l = absurd i
-mains_wait s who op.Final r n i l = absurd i
-mains_wait s who (op.JobGet job) r n i l = absurd i
-mains_wait s who op.Pick r n i l = absurd i
-mains_wait s who (op.Finish t d) r n i l = absurd i
-mains_wait s who (op.Asked t) r n i l = absurd i
-mains_wait s who (op.WatchEnd t) r n i l = absurd i
+few_move : (n : ℕ) (o : Op) → added o ≡ 0 → IsKeptBy o (Few n)
+few_move n o z s (starts h t) e v = absurd (starts_add t o e.by z)
+few_move n o z s (runs h w k) e v = omega (arith, v, change_waits h (with_fields (with_state (Running w k))) s.tasks (λ r x. no_truth (and_false _ x)))
+few_move n o z s (ends h x) e v = omega (arith, v, ended_waits s h x)
+few_move n o z s (ends_waiting p x) e v = omega (arith, v, ends_wait (λ t. is_unstarted t && p t) x s.ends s.tasks)
+few_move n o z s (notes h f) e v = omega (arith, v, change_waits h (with_fields (noted f)) s.tasks (λ r x. x))
+few_move n o z s (leaves h) e v = omega (arith, v, change_waits h gone s.tasks gone_test)
+few_move n o z s (withdraws h f c) e v = absurd e.by
+few_move n o z s (frees_members g) e v = absurd e.by
+few_move n o z s (lets_members_go g) e v = absurd e.by
+few_move n o z s (makes k h x) e v = absurd e.by
+few_move n o z s (alters k h f) e v = absurd e.by
+few_move n o z s (removes k h) e v = absurd e.by
+few_move n o z s _ e v = v
+
+few_next : (s : State) (who : ℕ) (o : Op) (r : Reply) → added o ≡ 0 → waiting (next s (entry who o r)) ≤ waiting s
+few_next s who o r z = by_moves (Few (waiting s)) s (entry who o r) (few_move (waiting s) o z) (omega arith)
+
+-- an entry adds at most the task that it starts
+pub waits_next : (s : State) (who : ℕ) (o : Op) (r : Reply) → waiting (next s (entry who o r)) ≤ waiting s + added o
+waits_next s who (op.TaskStart job args priority cores detached group) r =
+    moves_given (λ ms. waiting (after_moves ms s) ≤ waiting s + 1) (row s who (op.TaskStart job args priority cores detached group) r) (omega arith)
+    (λ c0 c1 c2 c3 c4 c5 c6. on_only (λ x ms. waiting (after_moves ms s) ≤ waiting s + 1) _ _ _ (λ m. issue_few s _ _ (waiting s + 1) (omega arith)))
+waits_next s who o r = omega (arith, few_next s who o r refl)
 
 -- no task runs
 
 rest_fields : (s : State) (h : ℕ) (f : Task → Task) → ((t : Task) → Rests t → Rests (f t)) → Resting s → Each Rests (update h f s.tasks)
 rest_fields s h f k v = each_change Rests h (with_fields f) s.tasks (λ r d p. k r.fields (p d)) v
 
-rest_looks : (s : State) (who h : ℕ) (last : Bool) (x : TaskState) → Resting s → AllGives Resting (looks_at s who h last x)
-rest_looks s who h true Scheduled v = rest_fields s h (with_waiter None) (λ t p. p) v
-rest_looks s who h false Scheduled v = rest_fields s h (with_waiter (Some who)) (λ t p. p) v
-rest_looks s who h true (Running w k) v = rest_fields s h (with_waiter None) (λ t p. p) v
-rest_looks s who h false (Running w k) v = rest_fields s h (with_waiter (Some who)) (λ t p. p) v
-rest_looks s who h last (Over y k) v = each_change Rests h gone s.tasks (λ r d p. no_truth d) v
-
-rest_cancels : (s : State) (h : ℕ) (x : TaskState) → Resting s → AllGives Resting (cancels s h x)
-rest_cancels s h Scheduled v = each_change Rests h (ended Cancelled s.ends) s.tasks (λ r d p. refl) v
-rest_cancels s h (Running w k) v = rest_fields s h cancel_requested (λ t p. p) v
-rest_cancels s h (Over y k) v = tt
-
 rest_issue : (s : State) (h : ℕ) (t : Task) → Rests t → Resting s → Each Rests (issue h t s.tasks)
 unfolding issue
 rest_issue s h t p v = each_append Rests s.tasks _ v p
 
-pub mains_rest : (s : State) (who : ℕ) (o : Op) (r : Reply) → IsMains o → Resting s → AllGives Resting (row s who o r)
-mains_rest s who op.Release r i v = λ c. v
-mains_rest s who (op.ActionCreate job kind cores) r i v = λ c0 c1 c2. on_issues Resting _ _ _ v
-mains_rest s who (op.ActionEnable a) r i v = λ c. on_live Resting (at s.actions a.0) _ _ (λ x. v)
-mains_rest s who (op.TaskStart job args priority cores detached group) r i v = λ c0 c1 c2 c3 c4 c5 c6. on_issues Resting _ _ _ (rest_issue s _ _ refl v)
-mains_rest s who (op.TaskLook t last) r i v = λ c. on_live Resting (at s.tasks t.0) _ _ (λ x a b. rest_looks s who t.0 last x.state v)
-mains_rest s who (op.TaskCancel t) r i v = λ c. on_live Resting (at s.tasks t.0) _ _ (λ x. rest_cancels s t.0 x.state v)
-mains_rest s who op.Initialize r i v = absurd i
-mains_rest s who op.Enter r i v = absurd i
-mains_rest s who op.Close r i v = absurd i
-mains_rest s who op.Final r i v = absurd i
-mains_rest s who (op.JobGet job) r i v = absurd i
-mains_rest s who op.Pick r i v = absurd i
-mains_rest s who (op.Finish t d) r i v = absurd i
-mains_rest s who (op.Asked t) r i v = absurd i
-mains_rest s who (op.WatchEnd t) r i v = absurd i
+pub rest_ends : (p : Task → Bool) (e : TaskEnd) (k : ℕ) (l : List (Listed Task)) → Each Rests l → Each Rests (end_each p e k l)
+unfolding end_each
+rest_ends p e k [] h = tt
+rest_ends p e k (r ∷ rs) h = by_test (rest_ends p e k rs h.1) (rest_ends p e (k + 1) rs h.1) (r.live && p r.fields)
+  where
+    by_test : Each Rests (end_each p e k rs) → Each Rests (end_each p e (k + 1) rs) → (b : Bool) → Each Rests (cond b (ended e k r ∷ end_each p e (k + 1) rs) (r ∷ end_each p e k rs))
+    by_test f g true = (λ d. refl, g)
+    by_test f g false = (h.0, f)
+
+rest_move : (o : Op) → (is_pick o ≡ true → ⊥) → IsKeptBy o Resting
+rest_move o n s (starts h t) e v = rest_issue s h _ refl v
+rest_move o n s (runs h w k) e v = absurd (n e.by)
+rest_move o n s (ends h x) e v = each_change Rests h (ended x s.ends) s.tasks (λ r d p. refl) v
+rest_move o n s (ends_waiting p x) e v = rest_ends _ x s.ends s.tasks v
+rest_move o n s (notes h f) e v = rest_fields s h (noted f) (λ t p. p) v
+rest_move o n s (leaves h) e v = each_change Rests h gone s.tasks (λ r d p. no_truth d) v
+rest_move o n s (withdraws h f c) e v = absurd e.by
+rest_move o n s (frees_members g) e v = absurd e.by
+rest_move o n s (lets_members_go g) e v = absurd e.by
+rest_move o n s (makes k h x) e v = absurd e.by
+rest_move o n s (alters k h f) e v = absurd e.by
+rest_move o n s (removes k h) e v = absurd e.by
+rest_move o n s _ e v = v
+
+pub rest_next : (s : State) (who : ℕ) (o : Op) (r : Reply) → (is_pick o ≡ true → ⊥) → Resting s → Resting (next s (entry who o r))
+rest_next s who o r n v = by_moves Resting s (entry who o r) (rest_move o n) v
 
 -- each action has a pure kind
 
@@ -174,34 +183,21 @@ pure_enable h (r ∷ rs) v = by_test (r.live && (r.handle == h)) (pure_enable h 
     by_test true m = (v.0, v.1)
     by_test false m = (v.0, m)
 
-pure_looks : (s : State) (who h : ℕ) (last : Bool) (x : TaskState) → Pure s → AllGives Pure (looks_at s who h last x)
-pure_looks s who h true Scheduled v = v
-pure_looks s who h false Scheduled v = v
-pure_looks s who h true (Running w k) v = v
-pure_looks s who h false (Running w k) v = v
-pure_looks s who h last (Over y k) v = v
+makes_pure : (a : Action) (o : Op) → MakesAction a o → IsPureOp o → is_pure a.kind ≡ true
+makes_pure a (op.ActionCreate job kind cores) e p = ap (λ (x : Action). is_pure x.kind) e ∙ p
+makes_pure a _ e p = absurd e
 
-pure_cancels : (s : State) (h : ℕ) (x : TaskState) → Pure s → AllGives Pure (cancels s h x)
-pure_cancels s h Scheduled v = v
-pure_cancels s h (Running w k) v = v
-pure_cancels s h (Over y k) v = tt
+pure_move : (o : Op) → IsPureOp o → IsKeptBy o Pure
+pure_move o p s (makes_action h a) e v = pure_issue h a s.actions (makes_pure a o e.by p) v
+pure_move o p s (enables h) e v = pure_enable h s.actions v
+pure_move o p s (withdraws h f c) e v = absurd e.by
+pure_move o p s (makes k h x) e v = absurd e.by
+pure_move o p s (alters k h f) e v = absurd e.by
+pure_move o p s (removes k h) e v = absurd e.by
+pure_move o p s _ e v = v
 
-pub mains_pure : (s : State) (who : ℕ) (o : Op) (r : Reply) → IsMains o → IsPureOp o → Pure s → AllGives Pure (row s who o r)
-mains_pure s who op.Release r i p v = λ c. v
-mains_pure s who (op.ActionCreate job kind cores) r i p v = λ c0 c1 c2. on_issues Pure _ _ _ (pure_issue _ _ s.actions p v)
-mains_pure s who (op.ActionEnable a) r i p v = λ c. on_live Pure (at s.actions a.0) _ _ (λ x. pure_enable a.0 s.actions v)
-mains_pure s who (op.TaskStart job args priority cores detached group) r i p v = λ c0 c1 c2 c3 c4 c5 c6. on_issues Pure _ _ _ v
-mains_pure s who (op.TaskLook t last) r i p v = λ c. on_live Pure (at s.tasks t.0) _ _ (λ x a b. pure_looks s who t.0 last x.state v)
-mains_pure s who (op.TaskCancel t) r i p v = λ c. on_live Pure (at s.tasks t.0) _ _ (λ x. pure_cancels s t.0 x.state v)
-mains_pure s who op.Initialize r i p v = absurd i
-mains_pure s who op.Enter r i p v = absurd i
-mains_pure s who op.Close r i p v = absurd i
-mains_pure s who op.Final r i p v = absurd i
-mains_pure s who (op.JobGet job) r i p v = absurd i
-mains_pure s who op.Pick r i p v = absurd i
-mains_pure s who (op.Finish t d) r i p v = absurd i
-mains_pure s who (op.Asked t) r i p v = absurd i
-mains_pure s who (op.WatchEnd t) r i p v = absurd i
+pub pure_next : (s : State) (who : ℕ) (o : Op) (r : Reply) → IsPureOp o → Pure s → Pure (next s (entry who o r))
+pure_next s who o r p v = by_moves Pure s (entry who o r) (pure_move o p) v
 
 -- the phase and the terms stay
 
@@ -213,31 +209,16 @@ pub record Alike (s t : State) : Type 0 where
 pub alike : (s : State) → Alike s s
 alike s = record { phase = refl; terms = refl; stopped = refl }
 
-alike_looks : (s : State) (who h : ℕ) (last : Bool) (x : TaskState) → AllGives (Alike s) (looks_at s who h last x)
-alike_looks s who h true Scheduled = record { phase = refl; terms = refl; stopped = refl }
-alike_looks s who h false Scheduled = record { phase = refl; terms = refl; stopped = refl }
-alike_looks s who h true (Running w k) = record { phase = refl; terms = refl; stopped = refl }
-alike_looks s who h false (Running w k) = record { phase = refl; terms = refl; stopped = refl }
-alike_looks s who h last (Over y k) = record { phase = refl; terms = refl; stopped = refl }
+alike_move : (s : State) (o : Op) → IsMains o → IsKeptBy o (Alike s)
+alike_move s o i t (phase_is p) e v = absurd (mains_turn p o i e.by)
+alike_move s o i t (stops w) e v = absurd (mains_pick o i e.by)
+alike_move s o i t (makes k h x) e v = absurd e.by
+alike_move s o i t (alters k h f) e v = absurd e.by
+alike_move s o i t (removes k h) e v = absurd e.by
+alike_move s o i t _ e v = record { phase = v.phase; terms = v.terms; stopped = v.stopped }
 
-alike_cancels : (s : State) (h : ℕ) (x : TaskState) → AllGives (Alike s) (cancels s h x)
-alike_cancels s h Scheduled = record { phase = refl; terms = refl; stopped = refl }
-alike_cancels s h (Running w k) = record { phase = refl; terms = refl; stopped = refl }
-alike_cancels s h (Over y k) = tt
+pub alike_next : (s : State) (who : ℕ) (o : Op) (r : Reply) → IsMains o → Alike s (next s (entry who o r))
+alike_next s who o r i = by_moves (Alike s) s (entry who o r) (alike_move s o i) (alike s)
 
-pub mains_alike : (s : State) (who : ℕ) (o : Op) (r : Reply) → IsMains o → AllGives (Alike s) (row s who o r)
-mains_alike s who op.Release r i = λ c. record { phase = refl; terms = refl; stopped = refl }
-mains_alike s who (op.ActionCreate job kind cores) r i = λ c0 c1 c2. on_issues (Alike s) _ _ _ (record { phase = refl; terms = refl; stopped = refl })
-mains_alike s who (op.ActionEnable a) r i = λ c. on_live (Alike s) (at s.actions a.0) _ _ (λ x. record { phase = refl; terms = refl; stopped = refl })
-mains_alike s who (op.TaskStart job args priority cores detached group) r i = λ c0 c1 c2 c3 c4 c5 c6. on_issues (Alike s) _ _ _ (record { phase = refl; terms = refl; stopped = refl })
-mains_alike s who (op.TaskLook t last) r i = λ c. on_live (Alike s) (at s.tasks t.0) _ _ (λ x a b. alike_looks s who t.0 last x.state)
-mains_alike s who (op.TaskCancel t) r i = λ c. on_live (Alike s) (at s.tasks t.0) _ _ (λ x. alike_cancels s t.0 x.state)
-mains_alike s who op.Initialize r i = absurd i
-mains_alike s who op.Enter r i = absurd i
-mains_alike s who op.Close r i = absurd i
-mains_alike s who op.Final r i = absurd i
-mains_alike s who (op.JobGet job) r i = absurd i
-mains_alike s who op.Pick r i = absurd i
-mains_alike s who (op.Finish t d) r i = absurd i
-mains_alike s who (op.Asked t) r i = absurd i
-mains_alike s who (op.WatchEnd t) r i = absurd i
+pub mains_rest : (s : State) (who : ℕ) (o : Op) (r : Reply) → IsMains o → Resting s → Resting (next s (entry who o r))
+mains_rest s who o r i v = rest_next s who o r (mains_pick o i) v

@@ -1,26 +1,24 @@
 -- In every legal history a scheduled task has a worker that could take it, and a running one runs on a worker. So where no worker could
 -- take a task and none runs one, every task has ended.
-use Rattle.std.proofs.Common.{◌≡◌, ℕ, zero, suc, ◌+◌, ◌<◌, Bool, true, false, not, cond, List, [], ◌∷◌, ◌++◌, Option, Some, None, refl, sym, ◌∙◌, ap, subst, arith}
+use Rattle.std.proofs.Common.{◌≡◌, ℕ, zero, suc, ◌+◌, ◌<◌, Bool, true, false, not, cond, List, [], ◌∷◌, ◌++◌, Some, None, refl, sym, ◌∙◌, ap, subst, arith}
 use Rattle.std.specs.Prelude.{◌==◌, ◌&&◌, ◌||◌, nat_lt, is_none}
 use Rattle.std.proofs.lemmas.Bool.{ltb-true}
 use Rattle.std.proofs.lemmas.Bool.Decides.{nat_tests}
 use Rattle.mtapi_values.specs.Conditions.{holds}
 use Rattle.mtapi_values.specs.declared.ends.TaskEnd.{TaskEnd}
-use Rattle.mtapi_values.specs.declared.ends.TaskEnd.TheVariants.{Cancelled}
-use Rattle.mtapi_machine.specs.declared.replies.Reply.{Reply}
-use Rattle.mtapi_machine.specs.declared.replies.Reply.TheVariants.{Picked, Idle}
 use Rattle.mtapi_machine.specs.declared.ops.Op.{Op}
 use Rattle.mtapi_machine.specs.declared.ops.Op.TheVariants as op
 use Rattle.handle_pool.specs.Issued.{Listed, live_of, lookup, at, change, update, retire, issue, with_fields, gone, any, any_live}
-use Rattle.job_table.specs.Actions.{Action, is_eligible, some_below, has_worker}
-use Rattle.task_core.specs.Tasks.{Task, TaskState, Scheduled, Running, Over, is_unended, runs_on, scheduled, runner, end_of, with_state, with_waiter, cancel_requested, asked_once, ended, end_each}
+use Rattle.job_table.specs.Actions.{is_eligible, some_below, has_worker}
+use Rattle.task_core.specs.Tasks.{Task, NewTask, TaskState, Scheduled, Running, Over, is_unended, runs_on, scheduled, runner, end_of, with_state, ended, end_each}
 use Rattle.queue_core.specs.Queues.{lets}
 use Rattle.mtapi_machine.specs.State.{State, workers}
-use Rattle.mtapi_machine.specs.Row.{Row, says, never, live, issues}
-use Rattle.mtapi_machine.specs.Rows.{row, is_ready, can_take, may_take, takes, takes_chosen, picks, is_stop, stops_or, looks_at, cancels}
-use Rattle.mtapi_machine.specs.Legal.{NodeEntry, row_of, next, LegalFrom, after_from}
+use Rattle.mtapi_machine.specs.Moves.{starts, runs, ends, ends_waiting, notes, noted, leaves, withdraws, frees_members, lets_members_go, makes, alters, removes}
+use Rattle.mtapi_machine.specs.Rows.{is_ready, can_take}
+use Rattle.mtapi_machine.specs.Legal.{NodeEntry, next}
+use Rattle.mtapi_machine.specs.Laws.{StartsTask}
+use Rattle.mtapi_machine.proofs.Moves.{IsKeptBy, by_moves}
 use Rattle.sched_workers.specs.Good.{EachTask as Each, Within, Plain, Fair, Served, HasWorker}
-use Rattle.sched_workers.proofs.Rows.{AllGives, given}
 
 pub each_append : (P : Task → Type 0) (l : List (Listed Task)) (r : Listed Task) → Each P l → P r.fields → Each P (l ++ r ∷ [])
 each_append P [] r h p = (λ e. p, tt)
@@ -55,14 +53,6 @@ each_ends n p e k (r ∷ rs) h = by_test (each_ends n p e k rs h.1) (each_ends n
     by_test g m true = (λ d. ended_plain n e k r d h.0, m)
     by_test g m false = (h.0, g)
 
-on_live : {T : Type 0} (x : Option T) (r : Reply) (w : T → Row) → ((t : T) → AllGives Fair (w t)) → AllGives Fair (live x r w)
-on_live None r w h = tt
-on_live (Some t) r w h = h t
-
-on_issues : (b : Bool) (h : ℕ) (s : State) → Fair s → AllGives Fair (issues b h s)
-on_issues true h s p = p
-on_issues false h s p = tt
-
 no_truth : {A : Type 0} → false ≡ true → A
 no_truth h = absurd (cc)
 
@@ -79,79 +69,32 @@ keeps_start : (s : State) (h : ℕ) (t : Task) → Plain (workers s) t → Fair 
 unfolding issue
 keeps_start s h t p v = each_append _ s.tasks _ v p
 
-pub below : (v n : ℕ) → not (nat_lt v n) ≡ false → v < n
-below v n e = by_test (nat_lt v n) refl e
-  where
-    by_test : (b : Bool) → nat_lt v n ≡ b → not b ≡ false → v < n
-    by_test true d e = ltb-true v n d
-    by_test false d e = absurd (cc)
-
-on_takes : (b : Bool) (s : State) (w h a : ℕ) (t : Task) (x : Action) → w < workers s → Fair s → AllGives Fair (takes b s w h a t x)
-unfolding Within
-on_takes true s w h a t x l v = keeps_fields s h (with_state (Running w x.kind)) (λ y p. record { queue = p.queue; within = l }) v
-on_takes false s w h a t x l v = tt
-
-on_chosen : (s : State) (w h a : ℕ) (t : Option Task) (x : Option Action) → w < workers s → Fair s → AllGives Fair (takes_chosen s w h a t x)
-on_chosen s w h a (Some t) (Some x) l v = on_takes (may_take s w t x) s w h a t x l v
-on_chosen s w h a (Some t) None l v = tt
-on_chosen s w h a None x l v = tt
-
-on_cond : (b : Bool) (v w : Row) → AllGives Fair v → AllGives Fair w → AllGives Fair (cond b v w)
-on_cond true v w h k = h
-on_cond false v w h k = k
-
-on_picks : (s : State) (w : ℕ) (r : Reply) → w < workers s → Fair s → AllGives Fair (picks s w r)
-on_picks s w (Picked t a k args) l v = on_chosen s w t.0 a.0 (at s.tasks t.0) (at s.actions a.0) l v
-on_picks s w _ l v = on_cond (any (can_take s w) s.tasks) never (says Idle) tt tt
-
-on_stops : (b : Bool) (s : State) (w : ℕ) (x : Row) → Fair s → AllGives Fair x → AllGives Fair (stops_or b s w x)
-on_stops true s w x v h = v
-on_stops false s w x v h = h
-
 plain_as : (n : ℕ) (t u : Task) → u.queue ≡ t.queue → u.state ≡ t.state → Plain n t → Plain n u
 plain_as n t u q x p = record { queue = ap is_none q ∙ p.queue; within = subst (λ (y : TaskState). Within n y) (sym x) p.within }
 
-on_looks : (s : State) (who h : ℕ) (last : Bool) (x : TaskState) → Fair s → AllGives Fair (looks_at s who h last x)
-on_looks s who h true Scheduled v = keeps_fields s h (with_waiter None) (λ t. plain_as (workers s) t _ refl refl) v
-on_looks s who h false Scheduled v = keeps_fields s h (with_waiter (Some who)) (λ t. plain_as (workers s) t _ refl refl) v
-on_looks s who h true (Running w k) v = keeps_fields s h (with_waiter None) (λ t. plain_as (workers s) t _ refl refl) v
-on_looks s who h false (Running w k) v = keeps_fields s h (with_waiter (Some who)) (λ t. plain_as (workers s) t _ refl refl) v
-on_looks s who h last (Over x n) v = keeps_gone s h v
+-- a start names no queue
+starts_plain : (t : NewTask) (o : Op) → StartsTask t o → t.queue ≡ None
+starts_plain t (op.TaskStart job args priority cores detached group) e = ap (λ (x : NewTask). x.queue) e
+starts_plain t _ e = absurd e
 
-on_cancels : (s : State) (h : ℕ) (x : TaskState) → Fair s → AllGives Fair (cancels s h x)
-on_cancels s h Scheduled v = keeps_end s h Cancelled v
-on_cancels s h (Running w k) v = keeps_fields s h cancel_requested (λ t. plain_as (workers s) t _ refl refl) v
-on_cancels s h (Over y n) v = tt
-
-asked_plain : (n : ℕ) (t : Task) → Plain n t → Plain n (asked_once t)
-asked_plain n t h = by_request t.requested
-  where
-    by_request : (b : Bool) → Plain n (cond b (record t { seen = true }) (record t { looks = t.looks + 1 }))
-    by_request true = plain_as n t _ refl refl h
-    by_request false = plain_as n t _ refl refl h
-
-pub row_fair : (s : State) (who : ℕ) (o : Op) (r : Reply) → Fair s → AllGives Fair (row s who o r)
+fair_move : (o : Op) → IsKeptBy o Fair
 unfolding Within
-row_fair s who op.Initialize r v = λ c. v
-row_fair s who op.Release r v = λ c. v
-row_fair s who op.Enter r v = λ c d. tt
-row_fair s who op.Close r v = λ c. each_ends (workers s) _ Cancelled s.ends s.tasks v
-row_fair s who op.Final r v = λ c d. v
-row_fair s who (op.JobGet job) r v = λ c d. tt
-row_fair s who (op.ActionCreate job kind cores) r v = λ c0 c1 c2. on_issues _ _ _ v
-row_fair s who (op.ActionEnable a) r v = λ c. on_live (at s.actions a.0) _ _ (λ x. v)
-row_fair s who (op.TaskStart job args priority cores detached group) r v = λ c0 c1 c2 c3 c4 c5 c6. on_issues _ _ _ (keeps_start s _ _ (record { queue = refl; within = tt }) v)
-row_fair s who (op.TaskLook t last) r v = λ c. on_live (at s.tasks t.0) _ _ (λ x a b. on_looks s who t.0 last x.state v)
-row_fair s who (op.TaskCancel t) r v = λ c. on_live (at s.tasks t.0) _ _ (λ x. on_cancels s t.0 x.state v)
-row_fair s who op.Pick r v = λ a b c. on_stops (is_stop s) s who _ v (on_picks s who r (below who (workers s) a) v)
-row_fair s who (op.Finish t d) r v = λ c. on_live (at s.tasks t.0) _ _ (λ x a. keeps_end s t.0 _ v)
-row_fair s who (op.Asked t) r v = λ c. on_live (at s.tasks t.0) _ _ (λ x a b. keeps_fields s t.0 asked_once (asked_plain (workers s)) v)
-row_fair s who (op.WatchEnd t) r v = λ c. on_live (at s.tasks t.0) _ _ (λ x a b. keeps_end s t.0 _ v)
+fair_move o s (starts h t) e v = keeps_start s h _ (record { queue = ap is_none (starts_plain t o e.by); within = tt }) v
+fair_move o s (runs h w k) e v = keeps_fields s h (with_state (Running w k)) (λ t p. record { queue = p.queue; within = ltb-true w (workers s) (left_of _ _ (left_of (nat_lt w (workers s) && not (any (runs_on w) s.tasks)) _ e.may)) }) v
+fair_move o s (ends h x) e v = keeps_end s h x v
+fair_move o s (ends_waiting p x) e v = each_ends (workers s) _ x s.ends s.tasks v
+fair_move o s (notes h f) e v = keeps_fields s h (noted f) (λ t. plain_as (workers s) t _ refl refl) v
+fair_move o s (leaves h) e v = keeps_gone s h v
+fair_move o s (withdraws h f c) e v = absurd e.by
+fair_move o s (frees_members g) e v = absurd e.by
+fair_move o s (lets_members_go g) e v = absurd e.by
+fair_move o s (makes k h x) e v = absurd e.by
+fair_move o s (alters k h f) e v = absurd e.by
+fair_move o s (removes k h) e v = absurd e.by
+fair_move o s _ e v = v
 
-pub after_fair : (s : State) (L : List NodeEntry) → Fair s → LegalFrom s L → Fair (after_from s L)
-unfolding LegalFrom after_from
-after_fair s [] v h = v
-after_fair s (e ∷ es) v h = after_fair (next s e) es (given Fair s (row_of s e) e.reply v (row_fair s e.who e.op e.reply v) h.0.allowed) h.1
+pub fair_next : (s : State) (e : NodeEntry) → Fair s → Fair (next s e)
+fair_next s e v = by_moves Fair s e (fair_move e.op) v
 
 -- where no worker takes or runs a task, it has ended
 

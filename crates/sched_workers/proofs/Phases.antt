@@ -1,6 +1,6 @@
 -- The first and the last entries of a run, and the looks when all tasks have ended.
 use Rattle.std.proofs.Common.{◌≡◌, ℕ, zero, suc, ◌+◌, ◌<◌, ◌≤◌, Bool, true, false, not, cond, List, [], ◌∷◌, length, set, Option, Some, None, refl, sym, ◌∙◌, ap, subst, arith}
-use Rattle.std.specs.Prelude.{◌&&◌, is_none, slice_set}
+use Rattle.std.specs.Prelude.{◌&&◌, is_none}
 use Rattle.history.specs.Histories.{entry}
 use Rattle.mtapi_values.specs.Seats.{all_marked}
 use Rattle.mtapi_values.specs.declared.ends.TaskEnd.{TaskEnd}
@@ -16,18 +16,19 @@ use Rattle.queue_core.specs.Queues.{is_shut_in}
 use Rattle.mtapi_machine.specs.declared.ops.Op.{Op}
 use Rattle.mtapi_machine.specs.declared.ops.Op.TheVariants as op
 use Rattle.handle_pool.specs.Issued.{Listed, live_of, at, any, any_live}
-use Rattle.task_core.specs.Tasks.{Task, TaskState, Scheduled, Running, Over, is_unended, is_unstarted, end_of, ended, end_each}
-use Rattle.mtapi_machine.specs.State.{State, workers, opening, is_new, is_open, is_up, is_late, tasks, end_tasks}
-use Rattle.mtapi_machine.specs.Row.{Row, unless, gives, Allows, live}
-use Rattle.mtapi_machine.specs.Rows.{row, can_take, looks_at, is_stop, stops_or}
+use Rattle.task_core.specs.Tasks.{Task, TaskState, Scheduled, Running, Over, is_unended, is_unstarted, end_of, end_each}
+use Rattle.mtapi_machine.specs.State.{State, workers, opening, is_new, is_open, is_up, is_late, is_stop, tasks}
+use Rattle.mtapi_machine.specs.Row.{Row, unless, says, gives, Allows, live}
+use Rattle.mtapi_machine.specs.Rows.{row, can_take, looks_at}
+use Rattle.mtapi_machine.specs.Moves.{released as releases, phase_is, stops as stops_worker, ends_waiting}
 use Rattle.mtapi_machine.specs.Legal.{IsNext, next}
 use Rattle.mtapi_machine.specs.Kept.{is_pending}
-use Rattle.sched_workers.specs.Good.{EachTask as Each, Rests, Resting, Pure, Good, Shut, waiting, added, IsPureOp}
+use Rattle.sched_workers.specs.Good.{Resting, Good, Shut, waiting, added, IsPureOp}
 use Rattle.sched_workers.specs.Lines.{is_late as out_of_looks}
-use Rattle.sched_workers.proofs.Rows.{given, AllSays, said}
-use Rattle.sched_workers.proofs.Fair.{quiet_over, found_over}
-use Rattle.sched_workers.proofs.Counts.{IsMains, Alike, mains_wait, mains_rest, mains_pure, mains_alike, alike}
-use Rattle.sched_workers.proofs.Picks.{Goes, pass, fair_next, served_next, none_runs, pick_open}
+use Rattle.sched_workers.proofs.Rows.{AllSays, said}
+use Rattle.sched_workers.proofs.Fair.{fair_next, quiet_over, found_over}
+use Rattle.sched_workers.proofs.Counts.{IsMains, alike_next, waits_next, pure_next, mains_rest, rest_ends}
+use Rattle.sched_workers.proofs.Picks.{Goes, pass, served_next, none_runs, pick_open}
 
 -- the first entry
 
@@ -49,23 +50,22 @@ pub record Mains (s t : State) (o : Op) : Type 0 where
 
 pub mains : (s : State) (who : ℕ) (o : Op) (r : Reply) → IsMains o → IsPureOp o → Good s → IsNext s (entry who o r) → Mains s (next s (entry who o r)) o
 mains s who o r i p g n =
-    let w = row s who o r in
-    let same = given (Alike s) s w r (alike s) (mains_alike s who o r i) n.allowed in
+    let same = alike_next s who o r i in
     record {
       good = record {
         open_now = same.phase ∙ g.open_now;
-        fair = fair_next s (entry who o r) n g.fair;
-        served = served_next s (entry who o r) n g.served;
-        pure = given Pure s w r g.pure (mains_pure s who o r i p g.pure) n.allowed;
-        rest = given Resting s w r g.rest (mains_rest s who o r i g.rest) n.allowed;
+        fair = fair_next s (entry who o r) g.fair;
+        served = served_next s (entry who o r) g.served;
+        pure = pure_next s who o r p g.pure;
+        rest = mains_rest s who o r i g.rest;
         stopped = ap length same.stopped ∙ g.stopped;
       };
-      waits = given (λ (t : State). waiting t ≤ waiting s + added o) s w r (omega arith) (mains_wait s who o r (waiting s + added o) i (omega arith)) n.allowed;
+      waits = waits_next s who o r;
       terms = same.terms;
     }
 
 pub released : (s : State) (who : ℕ) (r : Reply) → Good s → Allows (row s who op.Release r) r → r ≡ Ok
-released s who r g a = (pass (not (is_open s.phase)) _ r (gives Ok (record s { released = true })) s (ap (λ (p : Phase). not (is_open p)) g.open_now) a).allowed
+released s who r g a = (pass (not (is_open s.phase)) _ r (gives Ok (releases ∷ [])) s (ap (λ (p : Phase). not (is_open p)) g.open_now) a).allowed
 
 -- when no worker could take a task
 
@@ -80,19 +80,19 @@ pub record Decides (r : Reply) : Type 0 where
 code_decides : (c : MtapiStatus) → out_of_looks (Mtapi c) ≡ false → Decides (Mtapi c)
 code_decides c e = record { decides = refl; in_time = e }
 
-over_says : (s : State) (who h : ℕ) (last : Bool) (x : TaskState) → is_none (end_of x) ≡ false → AllSays Decides (looks_at s who h last x)
-over_says s who h last Scheduled e = absurd (cc)
-over_says s who h last (Running w k) e = absurd (cc)
-over_says s who h last (Over y n) e = record { decides = refl; in_time = refl }
+over_says : (who h : ℕ) (last : Bool) (x : TaskState) → is_none (end_of x) ≡ false → AllSays Decides (looks_at who h last x)
+over_says who h last Scheduled e = absurd (cc)
+over_says who h last (Running w k) e = absurd (cc)
+over_says who h last (Over y n) e = record { decides = refl; in_time = refl }
 
-live_says : (s : State) (who h : ℕ) (last : Bool) (x : Option Task) (F : Task → Row) → ((t : Task) → x ≡ Some t → AllSays Decides (F t)) → AllSays Decides (live x tasks.invalid F)
-live_says s who h last None F f = code_decides _ refl
-live_says s who h last (Some t) F f = f t refl
+live_says : (who h : ℕ) (last : Bool) (x : Option Task) (F : Task → Row) → ((t : Task) → x ≡ Some t → AllSays Decides (F t)) → AllSays Decides (live x (says tasks.invalid) F)
+live_says who h last None F f = code_decides _ refl
+live_says who h last (Some t) F f = f t refl
 
 pub look_decides : (s : State) (who h : ℕ) (last : Bool) (r : Reply) → any is_unended s.tasks ≡ false → Allows (row s who (op.TaskLook (record { 0 = h }) last) r) r → Decides r
 look_decides s who h last r over a =
     said Decides (row s who (op.TaskLook (record { 0 = h }) last) r) r
-    (code_decides _ refl, live_says s who h last (at s.tasks h) _ (λ t e. (code_decides _ refl, (code_decides _ refl, over_says s who h last t.state (found_over s.tasks h t over e))))) a
+    (code_decides _ refl, live_says who h last (at s.tasks h) _ (λ t e. (code_decides _ refl, (code_decides _ refl, over_says who h last t.state (found_over s.tasks h t over e))))) a
 
 -- closing
 
@@ -123,15 +123,6 @@ over_ends p e k (r ∷ rs) h = by_live r.live (over_ends p e k rs) (over_ends p 
     by_live true f g h = by_pass (p r.fields) f g h
     by_live false f g h = f h
 
-rest_ends : (p : Task → Bool) (e : TaskEnd) (k : ℕ) (l : List (Listed Task)) → Each Rests l → Each Rests (end_each p e k l)
-unfolding end_each
-rest_ends p e k [] h = tt
-rest_ends p e k (r ∷ rs) h = by_test (rest_ends p e k rs h.1) (rest_ends p e (k + 1) rs h.1) (r.live && p r.fields)
-  where
-    by_test : Each Rests (end_each p e k rs) → Each Rests (end_each p e (k + 1) rs) → (b : Bool) → Each Rests (cond b (ended e k r ∷ end_each p e (k + 1) rs) (r ∷ end_each p e k rs))
-    by_test f g true = (λ d. refl, g)
-    by_test f g false = (h.0, f)
-
 pub record Closes (s t : State) (r : Reply) : Type 0 where
   pub reply : r ≡ Ok
   pub shut : Shut t 0
@@ -140,7 +131,7 @@ pub record Closes (s t : State) (r : Reply) : Type 0 where
 pub closed : (s : State) (who : ℕ) (r : Reply) → Good s → any is_unended s.tasks ≡ false → IsNext s (entry who op.Close r) → Closes s (next s (entry who op.Close r)) r
 closed s who r g over n =
     let p : Task → Bool = λ t. is_unstarted t && is_shut_in s.queues t in
-    let x = pass (is_late s.phase) _ r (gives Ok (end_tasks p Cancelled (record s { phase = Closing }))) s (ap is_late g.open_now) n.allowed in
+    let x = pass (is_late s.phase) _ r (gives Ok (phase_is Closing ∷ ends_waiting (is_shut_in s.queues) Cancelled ∷ [])) s (ap is_late g.open_now) n.allowed in
     record {
       reply = x.allowed;
       shut = record {
@@ -173,14 +164,14 @@ pub record Stops (s t : State) (n : ℕ) (r : Reply) : Type 0 where
   pub shut : Shut t (suc n)
   pub terms : t.terms ≡ s.terms
 
-stop_goes : (b : Bool) (s : State) (w : ℕ) (x : Row) (r : Reply) → b ≡ true → Allows (stops_or b s w x) r → Goes s (stops_or b s w x) r (gives Stop (record s { stopped = slice_set s.stopped w true }))
-stop_goes true s w x r e a = record { allowed = a; leads = refl }
-stop_goes false s w x r e a = absurd (cc)
+stop_goes : (b : Bool) (s : State) (v x : Row) (r : Reply) → b ≡ true → Allows (cond b v x) r → Goes s (cond b v x) r v
+stop_goes true s v x r e a = record { allowed = a; leads = refl }
+stop_goes false s v x r e a = absurd (cc)
 
 pub stopped : (s : State) (n : ℕ) (r : Reply) → n < workers s → workers s ≤ 16 → Shut s n → IsNext s (entry n op.Pick r) → Stops s (next s (entry n op.Pick r)) n r
 stopped s n r l few h m =
     let x = pick_open s n r l h.rest (ap is_new h.closing) m.allowed in
-    let y = stop_goes (is_stop s) s n _ r (λ i. is_late (h.closing i) && not (h.over i)) x.allowed in
+    let y = stop_goes (is_stop s) s (gives Stop (stops_worker n ∷ [])) _ r (λ i. is_late (h.closing i) && not (h.over i)) x.allowed in
     let is = x.leads ∙ y.leads in
     record {
       reply = y.allowed;
@@ -197,6 +188,6 @@ stopped s n r l few h m =
 pub finalized : (s : State) (who : ℕ) (r : Reply) → Shut s (workers s) → Allows (row s who op.Final r) r → r ≡ Ok
 finalized s who r h a =
     let c = not (is_late s.phase && all_marked (workers s) s.stopped) in
-    let last : Row = gives Ok (record s { phase = Closed }) in
+    let last : Row = gives Ok (phase_is Closed ∷ []) in
     let x = pass (not (is_up s.phase)) _ r (unless c (Mtapi ErrNodeInitialized) last) s (ap (λ (p : Phase). not (is_up p)) h.closing) a in
     (pass c (Mtapi ErrNodeInitialized) r last s (λ i. not (is_late (h.closing i) && h.marked i)) x.allowed).allowed

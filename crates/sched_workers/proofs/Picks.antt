@@ -14,17 +14,15 @@ use Rattle.mtapi_machine.specs.declared.ops.Op.TheVariants as op
 use Rattle.handle_pool.specs.Issued.{Listed, live_of, lookup, at, count, change, update, with_fields, any, any_live}
 use Rattle.job_table.specs.Actions.{Action}
 use Rattle.task_core.specs.Tasks.{Task, Running, is_unstarted, is_unended, runs_on, runner, with_state}
-use Rattle.mtapi_machine.specs.State.{State, workers, is_new, is_late, tasks, changed}
-use Rattle.mtapi_machine.specs.Row.{Row, unless, says, never, Allows, after_row}
-use Rattle.mtapi_machine.specs.Rows.{row, is_ready, can_take, may_take, takes, takes_chosen, picks, is_stop, stops_or}
-use Rattle.mtapi_machine.specs.Legal.{NodeEntry, IsNext, next, row_of}
-use Rattle.mtapi_machine.proofs.Served.{Each as MachineEach, Served as MachineServed, row_served}
-use Rattle.sched_workers.specs.Good.{EachTask as Each, EachAction, Fair, Served, HasWorker, Rests, Resting, Good, waiting}
-use Rattle.sched_workers.proofs.Rows.{given}
-use Rattle.sched_workers.proofs.Fair.{row_fair, both_fail}
-
-pub fair_next : (s : State) (e : NodeEntry) → IsNext s e → Fair s → Fair (next s e)
-fair_next s e h f = given Fair s (row_of s e) e.reply f (row_fair s e.who e.op e.reply f) h.allowed
+use Rattle.mtapi_machine.specs.State.{State, workers, is_new, is_late, is_stop, tasks, changed}
+use Rattle.mtapi_machine.specs.Moves.{Move, runs as runs_task, stops as stops_worker}
+use Rattle.mtapi_machine.specs.Row.{Row, unless, says, gives, never, only, live, Allows, after_row}
+use Rattle.mtapi_machine.specs.Rows.{row, is_ready, can_take, may_take, picks}
+use Rattle.mtapi_values.specs.declared.handles.ActionHandle.{ActionHandle}
+use Rattle.mtapi_machine.specs.Legal.{NodeEntry, IsNext, next}
+use Rattle.mtapi_machine.proofs.Served.{Each as MachineEach, Served as MachineServed, next_served}
+use Rattle.sched_workers.specs.Good.{EachTask as Each, EachAction, Served, HasWorker, Rests, Resting, Good, waiting}
+use Rattle.sched_workers.proofs.Fair.{both_fail}
 
 to_machine : (P : Task → Type 0) (l : List (Listed Task)) → Each P l → MachineEach P l
 to_machine P [] h = tt
@@ -34,10 +32,10 @@ from_machine : (P : Task → Type 0) (l : List (Listed Task)) → MachineEach P 
 from_machine P [] h = tt
 from_machine P (r ∷ rs) h = (h.0, from_machine P rs h.1)
 
-pub served_next : (s : State) (e : NodeEntry) → IsNext s e → Served s → Served (next s e)
-served_next s e h f =
+pub served_next : (s : State) (e : NodeEntry) → Served s → Served (next s e)
+served_next s e f =
     let v : MachineServed s = to_machine (HasWorker s) s.tasks f in
-    from_machine (HasWorker (next s e)) (next s e).tasks (given (λ t. MachineServed t) s (row_of s e) e.reply v (row_served s e.who e.op e.reply v) h.allowed)
+    from_machine (HasWorker (next s e)) (next s e).tasks (next_served s e v)
 
 -- a row's conditions before its effect weren't met
 pub record Goes (s : State) (w : Row) (r : Reply) (v : Row) : Type 0 where
@@ -72,12 +70,12 @@ none_runs w (r ∷ rs) h = by_live r.live refl (none_runs w rs h.1)
     by_live true d m = both_fail (runs_on w r.fields) _ (by_state (runner r.fields.state) (h.0 d)) m
     by_live false d m = m
 
-stops : (b : Bool) (s : State) (w : ℕ) (x : Row) (r : Reply) → (r ≡ Stop → ⊥) → Allows (stops_or b s w x) r → Goes s (stops_or b s w x) r x
-stops true s w x r n a = absurd (n a)
-stops false s w x r n a = record { allowed = a; leads = refl }
+stops : (b : Bool) (s : State) (ms : List Move) (x : Row) (r : Reply) → (r ≡ Stop → ⊥) → Allows (cond b (gives Stop ms) x) r → Goes s (cond b (gives Stop ms) x) r x
+stops true s ms x r n a = absurd (n a)
+stops false s ms x r n a = record { allowed = a; leads = refl }
 
 -- the row of a pick comes down to whether the worker stops, and then to what it takes
-pub pick_open : (s : State) (w : ℕ) (r : Reply) → w < workers s → Resting s → is_new s.phase ≡ false → Allows (row s w op.Pick r) r → Goes s (row s w op.Pick r) r (stops_or (is_stop s) s w (picks s w r))
+pub pick_open : (s : State) (w : ℕ) (r : Reply) → w < workers s → Resting s → is_new s.phase ≡ false → Allows (row s w op.Pick r) r → Goes s (row s w op.Pick r) r (cond (is_stop s) (gives Stop (stops_worker w ∷ [])) (picks s w r))
 pick_open s w r l rest n a =
     let g1 = pass (not (nat_lt w (workers s))) _ r _ s (small_not w (workers s) l) a in
     let g2 = pass (any (runs_on w) s.tasks) _ r _ s (none_runs w s.tasks rest) g1.allowed in
@@ -87,9 +85,9 @@ pick_open s w r l rest n a =
 pick_goes : (s : State) (w : ℕ) (r : Reply) → w < workers s → Good s → (r ≡ Stop → ⊥) → Allows (row s w op.Pick r) r → Goes s (row s w op.Pick r) r (picks s w r)
 pick_goes s w r l g n a =
     let x = pick_open s w r l g.rest (ap is_new g.open_now) a in
-    goes_then s _ _ _ r x (stops (is_stop s) s w _ r n x.allowed)
+    goes_then s _ _ _ r x (stops (is_stop s) s _ _ r n x.allowed)
 
-idle_takes : (b : Bool) → Allows (cond b never (says Idle)) Idle → b ≡ false
+idle_takes : (b : Bool) → Allows (only (not b) (says Idle)) Idle → b ≡ false
 idle_takes true a = absurd a
 idle_takes false a = refl
 
@@ -98,7 +96,7 @@ pub record Idles (s : State) (w : ℕ) (t : State) : Type 0 where
   pub same : t ≡ s
   pub none : any (can_take s w) s.tasks ≡ false
 
-idle_leads : (b : Bool) (s : State) → after_row s (cond b never (says Idle)) ≡ s
+idle_leads : (b : Bool) (s : State) → after_row s (only (not b) (says Idle)) ≡ s
 idle_leads true s = refl
 idle_leads false s = refl
 
@@ -192,32 +190,39 @@ ready_waits s t e = left_true (is_unstarted t) _ e
 may_waits : (s : State) (w : ℕ) (t : Task) (x : Action) → may_take s w t x ≡ true → is_unstarted t ≡ true
 may_waits s w t x e = ready_waits s t (left_true (is_ready s t) _ (left_true _ _ e))
 
-by_choice : (b : Bool) (s : State) (w h a : ℕ) (t : Task) (x : Action) (k : Kind) (args : List ℤ) → Good s → at s.tasks h ≡ Some t → at s.actions a ≡ Some x → may_take s w t x ≡ b
-    → Allows (takes b s w h a t x) (Picked (record { 0 = h }) (record { 0 = a }) k args) → Takes s w h k args (after_row s (takes b s w h a t x))
+by_choice : (b : Bool) (s : State) (w h : ℕ) (a : ActionHandle) (t : Task) (x : Action) (k : Kind) (args : List ℤ) → Good s → at s.tasks h ≡ Some t → at s.actions a.0 ≡ Some x → may_take s w t x ≡ b
+    → Allows (only b (gives (Picked (record { 0 = h }) a x.kind t.args) (runs_task h w x.kind ∷ []))) (Picked (record { 0 = h }) a k args)
+    → Takes s w h k args (after_row s (only b (gives (Picked (record { 0 = h }) a x.kind t.args) (runs_task h w x.kind ∷ []))))
 by_choice true s w h a t x k args g e f m p =
     let same : k ≡ x.kind = ap (λ (r : Reply). kind_in r k) p in
     record {
       task = t;
       is = e;
       args_are = ap (λ (r : Reply). args_in r args) p;
-      pure = subst (λ (y : Kind). is_pure y ≡ true) (sym same) (pure_at s.actions a x g.pure f);
+      pure = subst (λ (y : Kind). is_pure y ≡ true) (sym same) (pure_at s.actions a.0 x g.pure f);
       runs = ap (λ (y : Kind). changed tasks h (with_state (Running w y)) s) (sym same);
       waits = taken_waits h w x.kind t s.tasks e (may_waits s w t x m);
     }
 by_choice false s w h a t x k args g e f m p = absurd p
 
-chosen : (s : State) (w h a : ℕ) (t : Option Task) (x : Option Action) (k : Kind) (args : List ℤ) → Good s → at s.tasks h ≡ t → at s.actions a ≡ x
-    → Allows (takes_chosen s w h a t x) (Picked (record { 0 = h }) (record { 0 = a }) k args) → Takes s w h k args (after_row s (takes_chosen s w h a t x))
-chosen s w h a (Some t) (Some x) k args g e f p = by_choice (may_take s w t x) s w h a t x k args g e f refl p
-chosen s w h a (Some t) None k args g e f p = absurd p
-chosen s w h a None x k args g e f p = absurd p
+by_action : (s : State) (w h : ℕ) (a : ActionHandle) (t : Task) (x : Option Action) (k : Kind) (args : List ℤ) → Good s → at s.tasks h ≡ Some t → at s.actions a.0 ≡ x
+    → Allows (live x never (λ y. only (may_take s w t y) (gives (Picked (record { 0 = h }) a y.kind t.args) (runs_task h w y.kind ∷ [])))) (Picked (record { 0 = h }) a k args)
+    → Takes s w h k args (after_row s (live x never (λ y. only (may_take s w t y) (gives (Picked (record { 0 = h }) a y.kind t.args) (runs_task h w y.kind ∷ [])))))
+by_action s w h a t (Some x) k args g e f p = by_choice (may_take s w t x) s w h a t x k args g e f refl p
+by_action s w h a t None k args g e f p = absurd p
+
+chosen : (s : State) (w h : ℕ) (a : ActionHandle) (t : Option Task) (k : Kind) (args : List ℤ) → Good s → at s.tasks h ≡ t
+    → Allows (live t never (λ x. live (at s.actions a.0) never (λ y. only (may_take s w x y) (gives (Picked (record { 0 = h }) a y.kind x.args) (runs_task h w y.kind ∷ []))))) (Picked (record { 0 = h }) a k args)
+    → Takes s w h k args (after_row s (live t never (λ x. live (at s.actions a.0) never (λ y. only (may_take s w x y) (gives (Picked (record { 0 = h }) a y.kind x.args) (runs_task h w y.kind ∷ []))))))
+chosen s w h a (Some t) k args g e p = by_action s w h a t (at s.actions a.0) k args g e refl p
+chosen s w h a None k args g e p = absurd p
 
 pub picked : (s : State) (w h a : ℕ) (k : Kind) (args : List ℤ) → w < workers s → Good s → Allows (row s w op.Pick (Picked (record { 0 = h }) (record { 0 = a }) k args)) (Picked (record { 0 = h }) (record { 0 = a }) k args)
     → Takes s w h k args (next s (entry w op.Pick (Picked (record { 0 = h }) (record { 0 = a }) k args)))
 picked s w h a k args l g p =
     let r = Picked (record { 0 = h }) (record { 0 = a }) k args in
     let x = pick_goes s w r l g (λ (e : r ≡ Stop). cc) p in
-    subst (λ (t : State). Takes s w h k args t) (sym x.leads) (chosen s w h a (at s.tasks h) (at s.actions a) k args g refl refl x.allowed)
+    subst (λ (t : State). Takes s w h k args t) (sym x.leads) (chosen s w h (record { 0 = a }) (at s.tasks h) k args g refl x.allowed)
 
 -- an open node answers a worker that runs nothing with a task or with Idle
 abbrev pub IsPickReply : Reply → Type 0
@@ -225,7 +230,7 @@ IsPickReply (Picked t a k args) = Unit {0}
 IsPickReply Idle = Unit {0}
 IsPickReply _ = ⊥
 
-chosen_reply : (s : State) (w : ℕ) (b : Bool) (r : Reply) → Allows (cond b never (says Idle)) r → r ≡ Idle
+chosen_reply : (s : State) (w : ℕ) (b : Bool) (r : Reply) → Allows (only (not b) (says Idle)) r → r ≡ Idle
 chosen_reply s w true r a = absurd a
 chosen_reply s w false r a = a
 
@@ -252,6 +257,6 @@ late_not p c e = ap (λ (q : Phase). is_late q && c) e
 pub pick_reply : (s : State) (w : ℕ) (r : Reply) → w < workers s → Good s → Allows (row s w op.Pick r) r → IsPickReply r
 pick_reply s w r l g a = picks_reply s w r (no_stop (is_stop s) (late_not s.phase (not (any is_unended s.tasks)) g.open_now) (pick_open s w r l g.rest (ap is_new g.open_now) a).allowed)
   where
-    no_stop : (b : Bool) → b ≡ false → Allows (stops_or b s w (picks s w r)) r → Allows (picks s w r) r
+    no_stop : (b : Bool) → b ≡ false → Allows (cond b (gives Stop (stops_worker w ∷ [])) (picks s w r)) r → Allows (picks s w r) r
     no_stop true e a = absurd (cc)
     no_stop false e a = a

@@ -1,5 +1,5 @@
 -- Reading the rows of the machine: which reply a row allows, and which state it gives.
-use Rattle.std.proofs.Common.{◌≡◌, ℕ, Bool, true, false, Option, Some, None, refl, sym, subst}
+use Rattle.std.proofs.Common.{◌≡◌, ℕ, Bool, true, false, List, Option, Some, None, refl, sym, subst}
 use Rattle.mtapi_values.specs.declared.statuses.MtapiStatus.{MtapiStatus}
 use Rattle.mtapi_machine.specs.declared.replies.Reply.{Reply}
 use Rattle.mtapi_machine.specs.declared.replies.Reply.TheVariants.{Ok, Handle, Mtapi}
@@ -8,39 +8,23 @@ use Rattle.mtapi_machine.specs.declared.ops.Op.TheVariants as op
 use Rattle.task_core.specs.Tasks.{Task, TaskState, Scheduled, Running, Over}
 use Rattle.handle_pool.specs.Issued.{at}
 use Rattle.mtapi_machine.specs.State.{State}
-use Rattle.mtapi_machine.specs.Row.{Row, unless, says, gives, never, Allows, after_row, live, issues}
+use Rattle.mtapi_machine.specs.Moves.{Move}
+use Rattle.mtapi_machine.specs.Row.{Row, unless, gives, never, Allows, only, live}
 use Rattle.mtapi_machine.specs.Rows.{row, looks_at, cancels}
 use Rattle.mtapi_machine.specs.Kept.{is_pending, drops}
 use Rattle.sched_workers.specs.Lines.{is_late}
 use Rattle.sched_workers.specs.Good.{IsOnce}
 
--- P of every state that the row may give, where the conditions before it aren't met
-abbrev pub AllGives : (State → Type 0) → Row → Type 0
-AllGives P (unless c x w) = c ≡ false → AllGives P w
-AllGives P (says x) = Unit {0}
-AllGives P (gives x t) = P t
-AllGives P never = Unit {0}
-
--- what holds of the state, and of each state that the row gives, holds after the entry
-pub given : (P : State → Type 0) (s : State) (w : Row) (r : Reply) → P s → AllGives P w → Allows w r → P (after_row s w)
-given P s (unless true x w) r p g a = p
-given P s (unless false x w) r p g a = given P s w r p (g refl) a
-given P s (says x) r p g a = p
-given P s (gives x t) r p g a = g
-given P s never r p g a = p
-
 -- P of every reply that the row may allow
 abbrev pub AllSays : (Reply → Type 0) → Row → Type 0
 AllSays P (unless c x w) = P x × AllSays P w
-AllSays P (says x) = P x
-AllSays P (gives x t) = P x
+AllSays P (gives x ms) = P x
 AllSays P never = Unit {0}
 
 pub said : (P : Reply → Type 0) (w : Row) (r : Reply) → AllSays P w → Allows w r → P r
 said P (unless true x w) r p a = subst P (sym a) p.0
 said P (unless false x w) r p a = said P w r p.1 a
-said P (says x) r p a = subst P (sym a) p
-said P (gives x t) r p a = subst P (sym a) p
+said P (gives x ms) r p a = subst P (sym a) p
 said P never r p a = absurd a
 
 -- one condition after the other
@@ -53,13 +37,13 @@ pub unless_not : (c : Bool) (x r : Reply) (w : Row) → c ≡ false → Allows (
 unless_not true x r w e a = absurd (cc)
 unless_not false x r w e a = a
 
-pub on_live : (P : Reply → Type 0) {T : Type 0} (x : Option T) (r : Reply) (w : T → Row) → P r → ((t : T) → AllSays P (w t)) → AllSays P (live x r w)
-on_live P None r w p h = p
-on_live P (Some t) r w p h = h t
+pub on_live : (P : Reply → Type 0) {T : Type 0} (x : Option T) (v : Row) (w : T → Row) → AllSays P v → ((t : T) → AllSays P (w t)) → AllSays P (live x v w)
+on_live P None v w p h = p
+on_live P (Some t) v w p h = h t
 
-pub on_issues : (P : Reply → Type 0) (b : Bool) (h : ℕ) (s : State) → P (Handle h) → AllSays P (issues b h s)
-on_issues P true h s p = p
-on_issues P false h s p = tt
+pub on_only : (P : Reply → Type 0) (b : Bool) (x : Reply) (ms : List Move) → P x → AllSays P (only b (gives x ms))
+on_only P true x ms p = p
+on_only P false x ms p = tt
 
 -- the reply is kept by every journal, and decides
 pub record Settles (r : Reply) : Type 0 where
@@ -75,18 +59,18 @@ settles_ok = record { decides = refl; stays = λ b. refl }
 pub settles_handle : (h : ℕ) → Settles (Handle h)
 settles_handle h = record { decides = refl; stays = λ b. refl }
 
-on_cancels : (s : State) (h : ℕ) (x : TaskState) → AllSays Settles (cancels s h x)
-on_cancels s h Scheduled = settles_ok
-on_cancels s h (Running w k) = settles_ok
-on_cancels s h (Over e n) = settles_ok
+on_cancels : (h : ℕ) (x : TaskState) → AllSays Settles (cancels h x)
+on_cancels h Scheduled = settles_ok
+on_cancels h (Running w k) = settles_ok
+on_cancels h (Over e n) = settles_ok
 
 once_says : (s : State) (who : ℕ) (o : Op) (r : Reply) → IsOnce o → AllSays Settles (row s who o r)
 once_says s who op.Release r i = (settles_mtapi _, settles_ok)
-once_says s who (op.ActionCreate job kind cores) r i = (settles_mtapi _, (settles_mtapi _, (settles_mtapi _, on_issues Settles _ _ _ (settles_handle _))))
+once_says s who (op.ActionCreate job kind cores) r i = (settles_mtapi _, (settles_mtapi _, (settles_mtapi _, on_only Settles _ _ _ (settles_handle _))))
 once_says s who (op.ActionEnable a) r i = (settles_mtapi _, on_live Settles (at s.actions a.0) _ _ (settles_mtapi _) (λ x. settles_ok))
 once_says s who (op.TaskStart job args priority cores detached group) r i =
-    (settles_mtapi _, (settles_mtapi _, (settles_mtapi _, (settles_mtapi _, (settles_mtapi _, (settles_mtapi _, (settles_mtapi _, on_issues Settles _ _ _ (settles_handle _))))))))
-once_says s who (op.TaskCancel t) r i = (settles_mtapi _, on_live Settles (at s.tasks t.0) _ _ (settles_mtapi _) (λ x. on_cancels s t.0 x.state))
+    (settles_mtapi _, (settles_mtapi _, (settles_mtapi _, (settles_mtapi _, (settles_mtapi _, (settles_mtapi _, (settles_mtapi _, on_only Settles _ _ _ (settles_handle _))))))))
+once_says s who (op.TaskCancel t) r i = (settles_mtapi _, on_live Settles (at s.tasks t.0) _ _ (settles_mtapi _) (λ x. on_cancels t.0 x.state))
 once_says s who op.Initialize r i = absurd i
 once_says s who op.Enter r i = absurd i
 once_says s who op.Close r i = absurd i
@@ -112,17 +96,17 @@ pub record Looks (last : Bool) (r : Reply) : Type 0 where
 looks_code : (last : Bool) (c : MtapiStatus) → is_late (Mtapi c) ≡ false → Looks last (Mtapi c)
 looks_code last c n = record { late = λ e. n; pending = λ e. refl; stays = λ e b. refl }
 
-looks_at_says : (s : State) (who h : ℕ) (last : Bool) (x : TaskState) → AllSays (Looks last) (looks_at s who h last x)
-looks_at_says s who h true Scheduled = record { late = λ e. absurd (cc); pending = λ e. refl; stays = λ e b. refl }
-looks_at_says s who h false Scheduled = record { late = λ e. refl; pending = λ e. absurd (cc); stays = λ e b. absurd (cc) }
-looks_at_says s who h true (Running w k) = record { late = λ e. absurd (cc); pending = λ e. refl; stays = λ e b. refl }
-looks_at_says s who h false (Running w k) = record { late = λ e. refl; pending = λ e. absurd (cc); stays = λ e b. absurd (cc) }
-looks_at_says s who h last (Over y n) = record { late = λ e. refl; pending = λ e. refl; stays = λ e b. refl }
+looks_at_says : (who h : ℕ) (last : Bool) (x : TaskState) → AllSays (Looks last) (looks_at who h last x)
+looks_at_says who h true Scheduled = record { late = λ e. absurd (cc); pending = λ e. refl; stays = λ e b. refl }
+looks_at_says who h false Scheduled = record { late = λ e. refl; pending = λ e. absurd (cc); stays = λ e b. absurd (cc) }
+looks_at_says who h true (Running w k) = record { late = λ e. absurd (cc); pending = λ e. refl; stays = λ e b. refl }
+looks_at_says who h false (Running w k) = record { late = λ e. refl; pending = λ e. absurd (cc); stays = λ e b. absurd (cc) }
+looks_at_says who h last (Over y n) = record { late = λ e. refl; pending = λ e. refl; stays = λ e b. refl }
 
-look_says : (s : State) (who h : ℕ) (last : Bool) (x : Task) → AllSays (Looks last) (looks_at s who h last x.state)
-look_says s who h last x = looks_at_says s who h last x.state
+look_says : (who h : ℕ) (last : Bool) (x : Task) → AllSays (Looks last) (looks_at who h last x.state)
+look_says who h last x = looks_at_says who h last x.state
 
 pub look_reply : (s : State) (who h : ℕ) (last : Bool) (r : Reply) → Allows (row s who (op.TaskLook (record { 0 = h }) last) r) r → Looks last r
 look_reply s who h last r a =
     said (Looks last) (row s who (op.TaskLook (record { 0 = h }) last) r) r
-    (looks_code last _ refl, on_live (Looks last) (at s.tasks h) _ _ (looks_code last _ refl) (λ x. (looks_code last _ refl, (looks_code last _ refl, look_says s who h last x)))) a
+    (looks_code last _ refl, on_live (Looks last) (at s.tasks h) _ _ (looks_code last _ refl) (λ x. (looks_code last _ refl, (looks_code last _ refl, look_says who h last x)))) a

@@ -15,18 +15,19 @@ use Rattle.handle_pool.specs.Issued.{Listed, at, change, update, with_fields}
 use Rattle.handle_pool.proofs.ListedLemmas.{at-update}
 use Rattle.task_core.specs.Tasks.{Task, Running, runs_as, kind_number, with_state, ended, finish_refusals}
 use Rattle.mtapi_machine.specs.State.{State, workers, tasks, changed, end_task}
-use Rattle.mtapi_machine.specs.Row.{Row, gives, Allows, after_row, live, mtapi_unless}
+use Rattle.mtapi_machine.specs.Row.{Row, says, gives, Allows, after_row, live, mtapi_unless}
+use Rattle.mtapi_machine.specs.Moves.{ends}
 use Rattle.mtapi_machine.specs.Rows.{row, task_end}
 use Rattle.mtapi_machine.specs.Legal.{IsNext, next}
 use Rattle.sched_workers.specs.Good.{EachTask as Each, Rests, Resting, Pure, Good, waiting}
-use Rattle.sched_workers.proofs.Fair.{self_is}
+use Rattle.sched_workers.proofs.Fair.{self_is, fair_next}
 use Rattle.sched_workers.proofs.Counts.{ended_waits}
-use Rattle.sched_workers.proofs.Picks.{Takes, Goes, pass, picked, small_not, fair_next, served_next}
+use Rattle.sched_workers.proofs.Picks.{Takes, Goes, pass, picked, small_not, served_next}
 
 some_is : {A : Type 0} {x y : A} → Some x ≡ Some y → x ≡ y
 some_is e = cc
 
-pub live_goes : {T : Type 0} (o : Option T) (v : T) (invalid : Reply) (F : T → Row) (r : Reply) (s : State) → o ≡ Some v → Allows (live o invalid F) r → Goes s (live o invalid F) r (F v)
+pub live_goes : {T : Type 0} (o : Option T) (v : T) (invalid : Row) (F : T → Row) (r : Reply) (s : State) → o ≡ Some v → Allows (live o invalid F) r → Goes s (live o invalid F) r (F v)
 live_goes None v invalid F r s e a = absurd (cc)
 live_goes (Some y) v invalid F r s e a = subst (λ (z : _). Goes s (F y) r (F z)) (some_is e) (record { allowed = a; leads = refl })
 
@@ -50,11 +51,11 @@ finishes : (s : State) (w h : ℕ) (k : Kind) (args : List ℤ) (t : Task) (done
 finishes s w h k args t done r l is same kind list a =
     let u : State = changed tasks h (with_state (Running w k)) s in
     let v : Task = with_state (Running w k) t in
-    let F : Task → Row = λ x. mtapi_unless (finish_refusals w done.kind done.args x) (gives Ok (end_task h (task_end done.end) u)) in
+    let F : Task → Row = λ x. mtapi_unless (finish_refusals w done.kind done.args x) (gives Ok (ends h (task_end done.end) ∷ [])) in
     let found : at u.tasks h ≡ Some v = at-update h h (with_state (Running w k)) t s.tasks is ∙ (λ i. cond (self_is h i) (Some v) (at s.tasks h)) in
-    let g1 = pass (not (nat_lt w (workers s))) _ r (live (at u.tasks h) tasks.invalid F) u (small_not w (workers s) l) a in
-    let g2 = live_goes (at u.tasks h) v tasks.invalid F r u found g1.allowed in
-    let g3 = pass (not (runs_as w done.kind v && pointwise int_eq t.args done.args)) _ r (gives Ok (end_task h (task_end done.end) u)) u (not_refused _ _ (same_kind w k done.kind kind) (same_list t.args done.args (list ∙ same))) g2.allowed in
+    let g1 = pass (not (nat_lt w (workers s))) _ r (live (at u.tasks h) (says tasks.invalid) F) u (small_not w (workers s) l) a in
+    let g2 = live_goes (at u.tasks h) v (says tasks.invalid) F r u found g1.allowed in
+    let g3 = pass (not (runs_as w done.kind v && pointwise int_eq t.args done.args)) _ r (gives Ok (ends h (task_end done.end) ∷ [])) u (not_refused _ _ (same_kind w k done.kind kind) (same_list t.args done.args (list ∙ same))) g2.allowed in
     record { reply = g3.allowed; leads = g1.leads ∙ g2.leads ∙ g3.leads }
 
 -- no task runs any more
@@ -100,8 +101,8 @@ worked s w h a k args done r l g kind list n m =
       reply = y.reply;
       good = record {
         open_now = ap (λ (u : State). u.phase) is ∙ g.open_now;
-        fair = fair_next t e2 m (fair_next s e1 n g.fair);
-        served = served_next t e2 m (served_next s e1 n g.served);
+        fair = fair_next t e2 (fair_next s e1 g.fair);
+        served = served_next t e2 (served_next s e1 g.served);
         pure = subst (λ (u : State). Pure u) (sym is) g.pure;
         stopped = ap (λ (u : State). length u.stopped) is ∙ g.stopped;
         rest = subst (λ (u : State). Resting u) (sym is) (rests_again h w k (ended (task_end done.end) s.ends) s.tasks (λ q. refl) g.rest);

@@ -1,5 +1,5 @@
 -- What each move keeps of the numbers of starts and of ends.
-use Rattle.std.proofs.Common.{◌≡◌, ℕ, ◌+◌, ◌^◌, ◌<◌, Bool, true, false, cond, List, Option, Some, None, is_none, count_by, slice_get, set, refl, arith}
+use Rattle.std.proofs.Common.{◌≡◌, ℕ, ◌+◌, ◌^◌, ◌<◌, Bool, true, false, not, cond, List, Option, Some, None, is_none, count_by, slice_get, set, refl, arith}
 use Rattle.std.specs.Prelude.{◌==◌, if◌then◌else◌}
 use Rattle.std.proofs.lemmas.Bool.{false≢true}
 use Rattle.std.proofs.lemmas.List.Sums.{sum_by-set}
@@ -43,10 +43,10 @@ AreCounted-write p h t new starts ends live same counted =
     let even = rw same at moved in
     record { once = omega (arith, counted.once); few = counted.few }
 
-pub AreCounted-give_up : (p : Slots Task) (h : ℕ) (t : Task) (starts ends : ℕ) → get p h ≡ Some t → AreCounted p starts ends → AreCounted (without p h) starts ends
-AreCounted-give_up p h t starts ends live counted =
+pub AreCounted-give_up : (p : Slots Task) (h : ℕ) (t : Task) (starts ends : ℕ) → get p h ≡ Some t → is_unended t ≡ false → AreCounted p starts ends → AreCounted (without p h) starts ends
+AreCounted-give_up p h t starts ends live ended counted =
     let moved = count-slot p h t (slot_after p.generations (generation_of h)) live in
-    let less = rw (holds_unended-after p.generations (generation_of h)) at moved in
+    let less = rw (ended, holds_unended-after p.generations (generation_of h)) at moved in
     record { once = omega (arith, counted.once); few = counted.few }
 
 pub AreCounted-end : (p : Slots Task) (h : ℕ) (t : Task) (end : TaskEnd) (number starts ends : ℕ) → get p h ≡ Some t → is_unended t ≡ true → AreCounted p starts ends → AreCounted (ended_in p h end number (Some t)) starts (ends + 1)
@@ -91,11 +91,18 @@ AreCounted-changed p h f starts ends keeps counted = by_found (get p h) refl
 
 pub AreCounted-detach : (p : Slots Task) (h : ℕ) (o : Option Task) (starts ends : ℕ) → get p h ≡ o → AreCounted p starts ends → AreCounted (detached_in p h o) starts ends
 AreCounted-detach p h None starts ends absent counted = counted
-AreCounted-detach p h (Some t) starts ends live counted = by_end (is_unended t)
+AreCounted-detach p h (Some t) starts ends live counted = by_end (is_unended t) refl
   where
-    by_end : (b : Bool) → AreCounted (if b then with_value p h (without_group t) else without p h) starts ends
-    by_end true = AreCounted-write p h t (without_group t) starts ends live refl counted
-    by_end false = AreCounted-give_up p h t starts ends live counted
+    by_end : (b : Bool) → is_unended t ≡ b → AreCounted (if b then with_value p h (without_group t) else without p h) starts ends
+    by_end true is = AreCounted-write p h t (without_group t) starts ends live refl counted
+    by_end false is = AreCounted-give_up p h t starts ends live is counted
+
+pub is_ended : (t : Task) → not (is_unended t) ≡ true → is_unended t ≡ false
+is_ended t h = by_test (is_unended t) h
+  where
+    by_test : (b : Bool) → not b ≡ true → b ≡ false
+    by_test true e = absurd (false≢true e)
+    by_test false e = refl
 
 pub is_unended-asked : (worker : ℕ) (t : Task) → is_unended (after_asked worker t) ≡ is_unended t
 is_unended-asked worker t = by_refusal (is_none (first (asked_refusals worker t)))

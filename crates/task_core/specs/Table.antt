@@ -1,11 +1,11 @@
 -- All tasks: their slots, and how many were started and have ended.
-use Rattle.std.specs.Prelude.{◌≡◌, ℕ, ◌+◌, ◌≤◌, ◌^◌, Bool, true, false, Option, Some, None, is_some, Result, Ok, Err, count_by, if◌then◌else◌}
+use Rattle.std.specs.Prelude.{◌≡◌, ℕ, ◌+◌, ◌≤◌, ◌^◌, Bool, true, Option, Some, None, is_some, Result, Ok, Err, count_by, if◌then◌else◌}
 use Rattle.mtapi_values.specs.declared.statuses.MtapiStatus.{MtapiStatus}
 use Rattle.mtapi_values.specs.declared.statuses.MtapiStatus.TheVariants.{ErrTaskLimit}
 use Rattle.mtapi_values.specs.declared.handles.TaskHandle.{TaskHandle}
 use Rattle.mtapi_values.specs.declared.ends.TaskEnd.{TaskEnd}
 use Rattle.mtapi_values.specs.Conditions.{first}
-use Rattle.handle_pool.specs.Slots.{Slot, Slots, IsFull, Inserts, with_value, without}
+use Rattle.handle_pool.specs.Slots.{Slot, Slots, IsFull, Inserts, with_value, without, value_passes}
 use Rattle.task_core.specs.Tasks.{Task, Over, NewTask, new_task, is_unended, with_state, with_waiter, task_look_refusals}
 use Rattle.task_core.specs.Answers.{without_group, waiter_after}
 
@@ -45,17 +45,13 @@ looked_in p h who last (Some t) =
 
 -- a slot with a task that hasn't ended
 abbrev pub holds_unended : Slot Task → Bool
-holds_unended slot = unended_in slot.value
-  where
-    unended_in : Option Task → Bool
-    unended_in None = false
-    unended_in (Some t) = is_unended t
+holds_unended slot = value_passes is_unended slot
 
 -- how many tasks haven't ended
 abbrev pub unended_count : Slots Task → ℕ
 unended_count p = count_by holds_unended p.slots
 
--- what the numbers of starts and ends keep: each task ends at most once
+-- what the numbers of starts and ends keep: those that were started are those that have ended and those that haven't
 pub record AreCounted (p : Slots Task) (starts ends : ℕ) : Type 0 where
-  pub once : ends + unended_count p ≤ starts
+  pub once : ends + unended_count p ≡ starts
   pub few : starts ≤ 2 ^ 63

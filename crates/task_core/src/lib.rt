@@ -10,7 +10,7 @@ ghost use Rattle.handle_pool.specs.Slots.{get, free_slot, without, changed, used
 ghost use Rattle.task_core.specs.Tasks.{Task, is_unstarted, is_unended, with_state, Running, runner, end_of, cancel_requested};
 ghost use Rattle.task_core.specs.Records.{asked_task, shown_state, end_in};
 ghost use Rattle.task_core.specs.Answers.{look_reply, asked_of, after_asked, watch_end_of};
-ghost use Rattle.task_core.specs.Table.{Adds, IsLiveAnd, ended_in, detached_in, looked_in};
+ghost use Rattle.task_core.specs.Table.{Adds, IsLiveAnd, unended_count, ended_in, detached_in, looked_in};
 
 use handle_pool::Pool;
 use mtapi_values::{Args, Kind, MtapiStatus, TaskEnd, TaskHandle};
@@ -71,6 +71,13 @@ impl Tasks {
             }
             Err(_) => Err(MtapiStatus::ErrTaskLimit),
         }
+    }
+
+    /// How many tasks haven't ended.
+    pub fn unended(&self) -> u64
+        ensures { result ≡ unended_count self.now.pool }
+    {
+        self.starts - self.ends
     }
 
     /// How far a live task has come.

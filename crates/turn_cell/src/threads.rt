@@ -10,7 +10,7 @@ fn may_be_sent<T: Send>() {}
 fn may_be_shared<T: Sync>() {}
 
 // Threads may share a cell, and each may be sent a seat of it.
-fn cross_threads<O: Object + Send + Sync>()
+fn cross_threads<O: Object + Send>()
 where
     O::Op: Send,
     O::Reply: Send,

@@ -1,6 +1,10 @@
-use Rattle.handle_pool.specs.Slots.{NoneBelow}
+use Rattle.std.proofs.Common.{◌≡◌, slice_get}
+use Rattle.linked_places.specs.Lists.{list_at}
 use Rattle.job_table.specs.Answers.{Passes, runs_job_on}
+use Rattle.job_table.specs.Cover.{NoneBefore}
 use Rattle.job_table.proofs.Actions.choice.Given as goal
 
-abbrev pub invariant-loop-place : goal.invariant-loop-place
-invariant-loop-place l = NoneBelow l.self l.place (Passes (runs_job_on l.job l.worker))
+abbrev pub invariant-loop-index : goal.invariant-loop-index
+invariant-loop-index l =
+    (l.next ≡ slice_get (list_at l.self-inside.jobs.lists l.list) l._index)
+    × NoneBefore l.self-inside.pool (list_at l.self-inside.jobs.lists l.list) l._index (Passes (runs_job_on l.job l.worker))

@@ -1,5 +1,9 @@
-use Rattle.job_table.specs.Cover.{CoversBelow}
+use Rattle.std.proofs.Common.{◌≡◌, slice_get}
+use Rattle.linked_places.specs.Lists.{list_at}
+use Rattle.job_table.specs.Cover.{CoversBefore}
 use Rattle.job_table.proofs.Actions.cover.Given as goal
 
-abbrev pub invariant-loop-place : goal.invariant-loop-place
-invariant-loop-place l = CoversBelow l.self l.place l.job l.cover
+abbrev pub invariant-loop-index : goal.invariant-loop-index
+invariant-loop-index l =
+    (l.next ≡ slice_get (list_at l.self-inside.jobs.lists l.list) l._index)
+    × CoversBefore l.self-inside.pool (list_at l.self-inside.jobs.lists l.list) l._index l.job l.cover

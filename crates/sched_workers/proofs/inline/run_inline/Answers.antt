@@ -10,6 +10,17 @@ use Rattle.sched_workers.specs.Inline.{Stood, RanWhole, terms_for}
 use Rattle.sched_workers.proofs.Run.{single, ran_inline, keeps_one}
 use Rattle.sched_workers.proofs.inline.run_inline.Goals as goal
 
+pub whole-requires-clause-fresh : goal.whole-requires-clause-fresh
+whole-requires-clause-fresh g c =
+    let st : Stood (terms_for c.args.load.now) (record { node = c.with.result; main = c.workers.result; turns = 0; left = 0 }) [] = record {
+      stands = c.with.ensures.stands c.requires.new;
+      terms = c.with.ensures.terms ∙ ap (λ (x : Terms). let y : JournaledTerms = record { node = x; keeps = true } in y) c.requires.terms;
+      few = omega arith;
+      main = c.workers.ensures.value;
+      alone = refl;
+    } in
+    (terms_for c.args.load.now, st)
+
 pub unreachable-requires-in-None : goal.unreachable-requires-in-None
 unreachable-requires-in-None g c =
     let t = terms_for c.args.load.now in

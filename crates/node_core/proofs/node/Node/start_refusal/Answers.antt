@@ -10,26 +10,26 @@ use Rattle.node_core.proofs.node.Node.start_refusal.Goals as goal
 
 pub returns-in-NoAction : goal.returns-in-NoAction
 returns-in-NoAction c l args priority detached v =
-    refused_job c.args.self.now l c.args.job args priority c.args.cores detached c.args.group v (subst (λ (x : Cover). Covers c.args.self.now.actions c.args.job x) c.in-NoAction.is c.cover.ensures)
+    refused_job c.args.self.now l c.args.job args priority c.args.cores detached c.args.group v (subst (λ (x : Cover). Covers c.args.self.now.board.actions c.args.job x) c.in-NoAction.is c.cover.ensures)
 
 pub returns-then-is_some : goal.returns-then-is_some
 returns-then-is_some c l args priority detached v =
-    refused_group c.args.self.now l c.args.job args priority c.args.cores detached c.args.group v AllDisabled (subst (λ (x : Cover). Covers c.args.self.now.actions c.args.job x) c.in-AllDisabled.is c.cover.ensures) disabled_not_none (sym c.if-is_some.ensures)
+    refused_group c.args.self.now l c.args.job args priority c.args.cores detached c.args.group v AllDisabled (subst (λ (x : Cover). Covers c.args.self.now.board.actions c.args.job x) c.in-AllDisabled.is c.cover.ensures) disabled_not_none (sym c.if-is_some.ensures)
 
 pub returns-else-is_some : goal.returns-else-is_some
 returns-else-is_some c l args priority detached v =
-    refused_disabled c.args.self.now l c.args.job args priority c.args.cores detached c.args.group v (subst (λ (x : Cover). Covers c.args.self.now.actions c.args.job x) c.in-AllDisabled.is c.cover.ensures) (sym c.if-is_some.ensures)
+    refused_disabled c.args.self.now l c.args.job args priority c.args.cores detached c.args.group v (subst (λ (x : Cover). Covers c.args.self.now.board.actions c.args.job x) c.in-AllDisabled.is c.cover.ensures) (sym c.if-is_some.ensures)
 
 pub returns-then-is_some-2 : goal.returns-then-is_some-2
 returns-then-is_some-2 c l args priority detached v =
-    refused_group c.args.self.now l c.args.job args priority c.args.cores detached c.args.group v (Cores c.in-Cores.mask) (subst (λ (x : Cover). Covers c.args.self.now.actions c.args.job x) c.in-Cores.is c.cover.ensures) (cores_not_none c.in-Cores.mask) (sym c.if-is_some-2.ensures)
+    refused_group c.args.self.now l c.args.job args priority c.args.cores detached c.args.group v (Cores c.in-Cores.mask) (subst (λ (x : Cover). Covers c.args.self.now.board.actions c.args.job x) c.in-Cores.is c.cover.ensures) (cores_not_none c.in-Cores.mask) (sym c.if-is_some-2.ensures)
 
 pub returns-then-share_core : goal.returns-then-share_core
 returns-then-share_core c l args priority detached v =
-    refused_none c.args.self.now l c.args.job args priority c.args.cores detached c.args.group v c.in-Cores.mask (subst (λ (x : Cover). Covers c.args.self.now.actions c.args.job x) c.in-Cores.is c.cover.ensures) (sym c.if-is_some-2.ensures)
+    refused_none c.args.self.now l c.args.job args priority c.args.cores detached c.args.group v c.in-Cores.mask (subst (λ (x : Cover). Covers c.args.self.now.board.actions c.args.job x) c.in-Cores.is c.cover.ensures) (sym c.if-is_some-2.ensures)
     (ap (λ (w : ℕ). some_below w (λ k. in_mask k c.in-Cores.mask.0 && in_mask k c.args.cores.0)) (sym c.workers.ensures.value) ∙ (c.share_core.ensures ∙ c.if-share_core.true))
 
 pub returns-else-share_core : goal.returns-else-share_core
 returns-else-share_core c l args priority detached v =
-    refused_core c.args.self.now l c.args.job args priority c.args.cores detached c.args.group v c.in-Cores.mask (subst (λ (x : Cover). Covers c.args.self.now.actions c.args.job x) c.in-Cores.is c.cover.ensures) (sym c.if-is_some-2.ensures)
+    refused_core c.args.self.now l c.args.job args priority c.args.cores detached c.args.group v c.in-Cores.mask (subst (λ (x : Cover). Covers c.args.self.now.board.actions c.args.job x) c.in-Cores.is c.cover.ensures) (sym c.if-is_some-2.ensures)
     (ap (λ (w : ℕ). some_below w (λ k. in_mask k c.in-Cores.mask.0 && in_mask k c.args.cores.0)) (sym c.workers.ensures.value) ∙ (c.share_core.ensures ∙ c.if-share_core.false))

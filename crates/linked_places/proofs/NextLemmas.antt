@@ -1,0 +1,104 @@
+-- What follows a handle in its list.
+use Rattle.std.proofs.Common.{◌≡◌, ℕ, zero, suc, ◌+◌, ◌<◌, Bool, true, false, List, [], ◌∷◌, map, Option, Some, None, slice_get, length, refl, sym, ap, ◌∙◌, subst, arith, add-one}
+use Rattle.std.specs.Prelude.{◌==◌, ◌||◌}
+use Rattle.std.proofs.lemmas.Bool.{false≢true}
+use Rattle.std.proofs.lemmas.Bool.Decides.{nat_tests}
+use Rattle.std.proofs.lemmas.Option.{slice_get_within}
+use Rattle.handle_pool.specs.Slots.{slot_of}
+use Rattle.linked_places.specs.declared.Link.{Link}
+use Rattle.linked_places.specs.declared.Ends.{Ends}
+use Rattle.linked_places.specs.Lists.{HandleLists, list_at, has_handle}
+use Rattle.linked_places.specs.Links.{handles_of, first_of, IsRun, IsLinked}
+use Rattle.linked_places.proofs.LinkedLemmas.{list_at-past}
+
+-- the place after a link, if there is one, has the handle that comes next
+abbrev pub NextIs : List Link → Option ℕ → Option ℕ → Type 0
+NextIs links None o = o ≡ None
+NextIs links (Some place) o = (l : Link) × (slice_get links place ≡ Some l) × (o ≡ Some l.handle)
+
+pub record Follows (links : List Link) (h : ℕ) (o : Option ℕ) : Type 0 where
+  pub link : Link
+  pub read : slice_get links (slot_of h) ≡ Some link
+  pub next : NextIs links link.next o
+
+some_same : {A : Type 0} {a b : A} → Some a ≡ Some b → a ≡ b
+some_same h = cc
+
+run-next : (links : List Link) (previous : Option ℕ) (hs : List ℕ) (i h : ℕ) → IsRun links previous hs None → slice_get hs i ≡ Some h → Follows links h (slice_get hs (suc i))
+run-next links previous [] i h run at = absurd (cc)
+run-next links previous (x ∷ hs) zero h run at = subst (λ (k : ℕ). Follows links k (slice_get hs 0)) (some_same at) (record { link = _; read = run.0; next = first hs run.1 })
+  where
+    first : (ys : List ℕ) → IsRun links (Some (slot_of x)) ys None → NextIs links (first_of ys None) (slice_get ys 0)
+    first [] r = refl
+    first (y ∷ ys) r = (_, r.0, refl)
+run-next links previous (x ∷ hs) (suc i) h run at = run-next links (Some (slot_of x)) hs i h run.1 at
+
+-- a handle of a list has a number there
+pub has-index : (h : ℕ) (hs : List ℕ) → has_handle h hs ≡ true → (i : ℕ) × (slice_get hs i ≡ Some h)
+has-index h [] has = absurd (false≢true has)
+has-index h (x ∷ hs) has = by_test (x == h) refl has (has-index h hs)
+  where
+    by_test : (b : Bool) → (x == h) ≡ b → (b || has_handle h hs) ≡ true → (has_handle h hs ≡ true → (i : ℕ) × (slice_get hs i ≡ Some h)) → (i : ℕ) × (slice_get (x ∷ hs) i ≡ Some h)
+    by_test true is has rest = let same : x ≡ h = grind (arith, nat_tests) in (0, ap Some same)
+    by_test false is has rest = let more = rest has in (suc more.0, more.1)
+
+pub index-has : (h i : ℕ) (hs : List ℕ) → slice_get hs i ≡ Some h → has_handle h hs ≡ true
+index-has h i [] at = absurd (cc)
+index-has h zero (x ∷ hs) at = let same : (x == h) ≡ true = let is : x ≡ h = some_same at in grind (arith, nat_tests) in rw same refl
+index-has h (suc i) (x ∷ hs) at = by_test (x == h) (index-has h i hs at)
+  where
+    by_test : (b : Bool) → has_handle h hs ≡ true → (b || has_handle h hs) ≡ true
+    by_test true more = refl
+    by_test false more = more
+
+-- what the links say of a handle of a list
+pub followed : (links : List Link) (ends : List Ends) (old : HandleLists) (h list i : ℕ) → record { places = length links; lists = map (handles_of links) ends } ≡ old → IsLinked links ends (map (handles_of links) ends) → slice_get (list_at old.lists list) i ≡ Some h → Follows links h (slice_get (list_at old.lists list) (i + 1))
+followed links ends old h list i is linked at =
+    let P : HandleLists → Type 0 = λ o. slice_get (list_at o.lists list) i ≡ Some h in
+    let Q : HandleLists → Type 0 = λ o. Follows links h (slice_get (list_at o.lists list) (i + 1)) in
+    subst Q is (by_ends (slice_get ends list) refl (subst P (sym is) at))
+  where
+    lists : List (List ℕ)
+    lists = map (handles_of links) ends
+
+    by_ends : (o : Option Ends) → slice_get ends list ≡ o → slice_get (list_at lists list) i ≡ Some h → Follows links h (slice_get (list_at lists list) (i + 1))
+    by_ends (Some e) found at = rw add-one (run-next links None (list_at lists list) i h (linked.each list e found).run at)
+    by_ends None past at =
+        let none : list_at lists list ≡ [] = list_at-past links ends list past in
+        absurd (empty (subst (λ (hs : List ℕ). slice_get hs i ≡ Some h) none at))
+      where
+        empty : slice_get [] i ≡ Some h → ⊥
+        empty e = cc
+
+-- the same, where the handle is in some list
+pub followed-in : (links : List Link) (ends : List Ends) (old : HandleLists) (h : ℕ) → record { places = length links; lists = map (handles_of links) ends } ≡ old → IsLinked links ends (map (handles_of links) ends) → ((list : ℕ) × (has_handle h (list_at old.lists list) ≡ true)) → (o : Option ℕ) × Follows links h o
+followed-in links ends old h is linked in_list =
+    let at = has-index h (list_at old.lists in_list.0) in_list.1 in
+    (_, followed links ends old h in_list.0 at.0 is linked at.1)
+
+-- as the code reads it
+pub within-link : (links : List Link) (h : ℕ) (o : Option ℕ) → Follows links h o → slot_of h < length links
+within-link links h o f = slice_get_within links (slot_of h) f.link f.read
+
+pub within-next : (links : List Link) (h : ℕ) (o : Option ℕ) (place : ℕ) (f : Follows links h o) → f.link.next ≡ Some place → place < length links
+within-next links h o place f e = by_next f.link.next f.next e
+  where
+    by_next : (n : Option ℕ) → NextIs links n o → n ≡ Some place → place < length links
+    by_next None k e = absurd (cc)
+    by_next (Some p) k e = subst (λ (q : ℕ). q < length links) (some_same e) (slice_get_within links p k.0 k.1)
+
+pub next-none : (links : List Link) (h : ℕ) (o : Option ℕ) (f : Follows links h o) → f.link.next ≡ None → None ≡ o
+next-none links h o f e = by_next f.link.next f.next e
+  where
+    by_next : (n : Option ℕ) → NextIs links n o → n ≡ None → None ≡ o
+    by_next None k e = sym k
+    by_next (Some p) k e = absurd (cc)
+
+pub next-some : (links : List Link) (h : ℕ) (o : Option ℕ) (place : ℕ) (l : Link) (f : Follows links h o) → f.link.next ≡ Some place → slice_get links place ≡ Some l → Some l.handle ≡ o
+next-some links h o place l f e at = by_next f.link.next f.next e
+  where
+    by_next : (n : Option ℕ) → NextIs links n o → n ≡ Some place → Some l.handle ≡ o
+    by_next None k e = absurd (cc)
+    by_next (Some p) k e =
+        let same : k.0 ≡ l = some_same (sym (subst (λ (q : ℕ). slice_get links q ≡ Some k.0) (some_same e) k.1) ∙ at) in
+        ap (λ (x : Link). Some x.handle) (sym same) ∙ sym k.2

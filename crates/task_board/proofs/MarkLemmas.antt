@@ -1,0 +1,171 @@
+-- Marks that are right, and what they tell.
+use Rattle.std.proofs.Common.{◌≡◌, ℕ, zero, suc, ◌<◌, Bool, true, false, bit_and, List, [], ◌∷◌, Option, Some, None, set, slice_get, refl, sym, ◌∙◌, ap, subst, inl, inr, arith}
+use Rattle.std.specs.Prelude.{◌&&◌, ◌==◌, is_none}
+use Rattle.std.proofs.lemmas.Bool.{false≢true, cases_Bool}
+use Rattle.std.proofs.lemmas.Bool.Decides.{nat_tests}
+use Rattle.std.proofs.lemmas.Nat.Bits.{bit_at_and, bit_at-lt}
+use Rattle.mtapi_values.specs.Masks.{in_mask}
+use Rattle.mtapi_values.specs.declared.masks.Mask.{Mask}
+use Rattle.handle_pool.specs.Slots.{Slots, slot_of, get, used_at, SomeLive, NoneLive}
+use Rattle.handle_pool.proofs.WalkLemmas.{used_at-live}
+use Rattle.ready_index.specs.declared.marks.Mark.{Mark}
+use Rattle.ready_index.specs.Marks.{mark_at, is_for, is_for_at, HasNoneFor, IsFirst}
+use Rattle.job_table.specs.Actions.{Action}
+use Rattle.job_table.specs.Answers.{Passes, runs_job_on, Covers, Chooses}
+use Rattle.job_table.specs.declared.cover.Cover.TheVariants.{NoAction, AllDisabled, Cores}
+use Rattle.task_core.specs.Tasks.{Task, is_unstarted}
+use Rattle.task_board.specs.declared.board.Choice.{Choice}
+use Rattle.task_board.specs.Picks.{Takeable, Beats, IsBest}
+use Rattle.task_board.specs.Seen.{seen, seen_in}
+use Rattle.task_board.specs.Board.{IsMarkOf, Marked}
+use Rattle.task_board.proofs.SeenLemmas.{some_same, seen-as, unstarted-seen, seen-live, takes-from, takes-to}
+
+pub and_left : (a b : Bool) → (a && b) ≡ true → a ≡ true
+and_left true b e = refl
+and_left false b e = e
+
+pub and_right : (a b : Bool) → (a && b) ≡ true → b ≡ true
+and_right true b e = e
+and_right false b e = absurd (false≢true e)
+
+pub and_both : (a b : Bool) → a ≡ true → b ≡ true → (a && b) ≡ true
+and_both a b x y = λ i. x i && y i
+
+pub none-is : {A : Type 0} (o : Option A) → is_none o ≡ true → o ≡ None
+none-is None e = refl
+none-is (Some x) e = absurd (false≢true e)
+
+in_mask-both : (w a b : ℕ) → in_mask w a ≡ true → in_mask w b ≡ true → in_mask w (bit_and a b) ≡ true
+in_mask-both w a b x y = grind (arith, nat_tests, bit_at_and a b w, bit_at-lt a w, bit_at-lt b w)
+
+in_mask-left : (w a b : ℕ) → in_mask w (bit_and a b) ≡ true → in_mask w a ≡ true
+in_mask-left w a b x = grind (arith, nat_tests, bit_at_and a b w, bit_at-lt a w, bit_at-lt b w)
+
+in_mask-right : (w a b : ℕ) → in_mask w (bit_and a b) ≡ true → in_mask w b ≡ true
+in_mask-right w a b x = grind (arith, nat_tests, bit_at_and a b w, bit_at-lt a w, bit_at-lt b w)
+
+pub same-number : (a b : ℕ) → (a == b) ≡ true → a ≡ b
+same-number a b e = grind (arith, nat_tests)
+
+pub number-same : (a b : ℕ) → a ≡ b → (a == b) ≡ true
+number-same a b e = grind (arith, nat_tests)
+
+-- nobody may take it: no mark is right
+pub no-mark : (actions : Slots Action) (t : Task) → ((w : ℕ) → Takeable actions w t → ⊥) → IsMarkOf actions (seen (Some t)) None
+no-mark actions t none = record {
+  sound = λ w p e. absurd (false≢true e);
+  whole = λ w s e k. absurd (none w (takes-from actions w t s e k));
+}
+
+-- what is not seen has no mark
+pub no-mark-seen : (actions : Slots Action) → IsMarkOf actions None None
+no-mark-seen actions = record { sound = λ w p e. absurd (false≢true e); whole = λ w s e k. absurd (cc) }
+
+-- the mark of a task that is scheduled and in no queue: its priority, and the cores in its mask that its job's actions cover
+pub mark-right : (actions : Slots Action) (t : Task) (mask : Mask) (m : Mark) → is_unstarted t ≡ true → t.queue ≡ None → Covers actions t.job (Cores mask) → m.priority ≡ t.priority → m.mask.0 ≡ bit_and mask.0 t.cores → IsMarkOf actions (seen (Some t)) (Some m)
+mark-right actions t mask m u q c priority cores = record {
+  sound = λ w p e.
+      let s = unstarted-seen t t.state u in
+      let a = seen-as t t.state s.0 s.1 in
+      let in_m = ap (in_mask w) (sym cores) ∙ and_left (in_mask w m.mask.0) (p == m.priority) e in
+      let at = same-number p m.priority (and_right (in_mask w m.mask.0) (p == m.priority) e) in
+      let run = c.1.covered w (in_mask-left w mask.0 t.cores in_m) in (
+        s.0,
+        s.1,
+        a.priority ∙ sym priority ∙ sym at,
+        record {
+          waits = s.2;
+          queue = a.queue ∙ q;
+          core = ap (in_mask w) a.cores ∙ in_mask-right w mask.0 t.cores in_m;
+          action = (run.0, run.1, run.2, ap (λ (j : ℕ). runs_job_on j w run.1) a.job ∙ run.3);
+        },
+      );
+  whole = λ w s e k.
+      let a = seen-as t t.state s e in
+      let core = ap (in_mask w) (sym a.cores) ∙ k.core in
+      and_both _ _ (ap (in_mask w) cores ∙ in_mask-both w mask.0 t.cores (covers w (k.action.0, k.action.1, k.action.2, ap (λ (j : ℕ). runs_job_on j w k.action.1) (sym a.job) ∙ k.action.3)) core)
+      (number-same s.priority m.priority (a.priority ∙ sym priority));
+}
+  where
+    covers : (w : ℕ) → SomeLive (get actions) (Passes (runs_job_on t.job w)) → in_mask w mask.0 ≡ true
+    covers w some = elim (cases_Bool (in_mask w mask.0)) [
+      | inl on ↦ on
+      | inr off ↦ absurd (c.1.uncovered w off some.0 some.1 some.2 some.3)
+    ]
+
+-- no action may run it
+pub no-action : (actions : Slots Action) (t : Task) → Covers actions t.job NoAction → (w : ℕ) → Takeable actions w t → ⊥
+no-action actions t c w k = c k.0 k.1 k.2 (and_right _ _ (and_left _ _ k.3.action))
+
+pub none-enabled : (actions : Slots Action) (t : Task) → Covers actions t.job AllDisabled → (w : ℕ) → Takeable actions w t → ⊥
+none-enabled actions t c w k = c.1 k.0 k.1 k.2 (and_left _ _ k.3.action)
+
+-- Reading the first mark
+
+for-some : (w p : ℕ) (o : Option Mark) → is_for_at w p o ≡ true → is_for w o ≡ true
+for-some w p None e = e
+for-some w p (Some m) e = and_left _ _ e
+
+module _ (actions : Slots Action) (p : Slots Task) (marks : List (Option Mark)) (m : Marked actions (seen_in p) marks) (w : ℕ) where
+  pub best-none : HasNoneFor w marks → NoneLive (get p) (Takeable actions w)
+  best-none none h t g k =
+      let s = takes-to actions w t k in
+      false≢true (sym (none (slot_of h)) ∙ for-some w s.s.priority _ (m.whole w h s.s (ap seen g ∙ s.is) s.takes))
+
+  none-better : (priority place : ℕ) → IsFirst w priority place marks → NoneLive (get p) (Beats actions w priority)
+  none-better priority place f h t g k =
+      let s = takes-to actions w t k.0 in
+      false≢true (sym (f.least s.s.priority (slot_of h) (subst (λ (q : ℕ). q < priority) (sym s.priority) k.1)) ∙ m.whole w h s.s (ap seen g ∙ s.is) s.takes)
+
+  -- the task at the place of the first mark
+  pub record At (priority place : ℕ) : Type 0 where
+    pub h : ℕ
+    pub t : Task
+    pub live : get p h ≡ Some t
+    pub used : used_at place (slice_get p.slots place) ≡ Some (h, t)
+    pub takes : Takeable actions w t
+    pub priority_is : t.priority ≡ priority
+
+  pub first-at : (priority place : ℕ) → IsFirst w priority place marks → At priority place
+  first-at priority place f =
+      let s = m.sound w priority place f.marked in
+      let t = seen-live p s.0 s.1 s.3 in
+      record {
+        h = s.0;
+        t = t.0;
+        live = t.1;
+        used = subst (λ (q : ℕ). used_at q (slice_get p.slots q) ≡ Some (s.0, t.0)) s.2 (used_at-live p s.0 t.0 t.1);
+        takes = takes-from actions w t.0 s.1 t.2 s.5;
+        priority_is = sym (seen-as t.0 t.0.state s.1 t.2).priority ∙ s.4;
+      }
+
+  -- the choice of this task, by an action that the table of actions chose
+  pub found-best : (priority place h : ℕ) (t : Task) (c : Choice) → IsFirst w priority place marks → used_at place (slice_get p.slots place) ≡ Some (h, t) → c.task.0 ≡ h → c.priority ≡ t.priority → Chooses actions t.job w (Some (c.action, c.kind)) → IsBest actions p w (Some c)
+  found-best priority place h t c f used task prio a =
+      let x = first-at priority place f in
+      let pair : ◌≡◌ {A = ℕ × Task} (x.h, x.t) (h, t) = some_same (sym x.used ∙ used) in
+      let handle : x.h ≡ h = ap (λ (y : ℕ × Task). y.0) pair in
+      let value : x.t ≡ t = ap (λ (y : ℕ × Task). y.1) pair in
+      let takes = subst (λ (y : Task). Takeable actions w y) value x.takes in (
+        record {
+          t = t;
+          a = a.0;
+          task = ap (get p) (task ∙ sym handle) ∙ x.live ∙ ap Some value;
+          action = a.1;
+          kind = a.2;
+          priority = sym prio;
+          runs = record { unstarted = takes.3.unstarted; queue = takes.3.queue; core = takes.3.core; action = a.3 };
+        },
+        subst (λ (q : ℕ). NoneLive (get p) (Beats actions w q)) (sym (prio ∙ (ap (λ (y : Task). y.priority) (sym value) ∙ x.priority_is))) (none-better priority place f),
+      )
+
+-- Lists written at a place
+pub set-set : {X : Type 0} (xs : List X) (i : ℕ) (a b : X) → set (set xs i a) i b ≡ set xs i b
+set-set [] i a b = refl
+set-set (x ∷ xs) zero a b = refl
+set-set (x ∷ xs) (suc i) a b = ap (λ (ys : List _). x ∷ ys) (set-set xs i a b)
+
+pub set-none : (marks : List (Option Mark)) (i : ℕ) → mark_at marks i ≡ None → set marks i None ≡ marks
+set-none [] i e = refl
+set-none (x ∷ xs) zero e = ap (λ (y : Option Mark). y ∷ xs) (sym e)
+set-none (x ∷ xs) (suc i) e = ap (λ (ys : List (Option Mark)). x ∷ ys) (set-none xs i e)

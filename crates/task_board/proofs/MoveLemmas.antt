@@ -1,0 +1,473 @@
+-- What is seen after each move of the tasks, and what the move keeps of a board.
+use Rattle.std.proofs.Common.{◌≡◌, ◌≢◌, ℕ, zero, suc, ◌<◌, ◌≤◌, ◌+◌, Bool, true, false, cond, List, [], ◌∷◌, ◌++◌, length, length-set, Option, Some, None, set, slice_get, refl, sym, ◌∙◌, ap, subst, inl, inr, arith}
+use Rattle.std.specs.Prelude.{◌==◌, ◌||◌, is_some, is_none}
+use Rattle.std.specs.Option.{option_map}
+use Rattle.std.proofs.lemmas.Bool.{false≢true, cases_eq, cases_Bool}
+use Rattle.std.proofs.lemmas.Bool.Decides.{nat_tests}
+use Rattle.std.proofs.lemmas.List.{get_or-set_same, get_or-set_other}
+use Rattle.mtapi_values.specs.declared.ends.TaskEnd.{TaskEnd}
+use Rattle.mtapi_values.specs.declared.handles.TaskHandle.{TaskHandle}
+use Rattle.mtapi_values.specs.Conditions.{first}
+use Rattle.handle_pool.specs.Slots.{Slots, slot_of, generation_of, used_slot, slot_after, get, max_of, Inserts, with_value, without, put, changed}
+use Rattle.handle_pool.proofs.StandsLemmas.{used_at_live, same_handle}
+use Rattle.handle_pool.proofs.GetLemmas.{get-with_value_same, get-with_value_other, get-insert_same, get-insert_other, get-without_same, get-without_other}
+use Rattle.linked_places.specs.Lists.{list_at, has_handle, without_handle, stands_at}
+use Rattle.linked_places.proofs.HandleLemmas.{stands-has}
+use Rattle.linked_places.proofs.NextLemmas.{index-has}
+use Rattle.ready_index.specs.declared.marks.Mark.{Mark}
+use Rattle.ready_index.specs.Marks.{mark_at, is_for_at}
+use Rattle.job_table.specs.Actions.{Action}
+use Rattle.task_core.specs.Tasks.{Task, TaskState, Scheduled, Running, Over, is_unended, with_state, cancel_requested, with_waiter, task_look_refusals, asked_refusals, asked_once}
+use Rattle.task_core.specs.Answers.{after_asked, waiter_after}
+use Rattle.task_core.specs.Table.{TaskTable, ended_in, looked_in}
+use Rattle.task_board.specs.Seen.{Seen, seen_as, seen, seen_in}
+use Rattle.task_board.specs.Board.{BoardTable, IsBoard, IsMarkOf, Marked, InOrder, AreWaiting, AreRunning, AreRanked, AreStarted, running_on}
+use Rattle.task_board.proofs.SeenLemmas.{some_same, seen-live}
+use Rattle.task_board.proofs.MarkLemmas.{same-number}
+
+-- what is seen by one handle has become this, and all else is as it was
+pub record Put (at : ℕ → Option Seen) (h : ℕ) (x : Option Seen) (after : ℕ → Option Seen) : Type 0 where
+  pub here : after h ≡ x
+  pub others : (k : ℕ) → k ≢ h → after k ≡ at k
+
+-- Sizes
+
+max-value : (p : Slots Task) (h : ℕ) (t : Task) → max_of (with_value p h t) ≡ max_of p
+max-value p h t = length-set p.slots (slot_of h) (used_slot (generation_of h) t)
+
+max-without : (p : Slots Task) (h : ℕ) → max_of (without p h) ≡ max_of p
+max-without p h = length-set p.slots (slot_of h) (slot_after p.generations (generation_of h))
+
+pub max-changed : (p : Slots Task) (h : ℕ) (f : Task → Task) → max_of (changed p h f) ≡ max_of p
+max-changed p h f = by_found (option_map f (get p h))
+  where
+    by_found : (o : Option Task) → max_of (put p h o) ≡ max_of p
+    by_found None = refl
+    by_found (Some t) = max-value p h t
+
+pub max-insert : (p q : Slots Task) (h : ℕ) (t : Task) → Inserts p q h t → max_of q ≡ max_of p
+max-insert p q h t i = ap max_of i.now ∙ max-value p h t
+
+pub max-ended : (p : Slots Task) (h : ℕ) (e : TaskEnd) (n : ℕ) (o : Option Task) → max_of (ended_in p h e n o) ≡ max_of p
+max-ended p h e n None = refl
+max-ended p h e n (Some t) = by_test t.detached
+  where
+    by_test : (b : Bool) → max_of (cond b (without p h) (with_value p h (with_state (Over e n) t))) ≡ max_of p
+    by_test true = max-without p h
+    by_test false = max-value p h (with_state (Over e n) t)
+
+pub max-looked : (p : Slots Task) (h who : ℕ) (last : Bool) (o : Option Task) → max_of (looked_in p h who last o) ≡ max_of p
+max-looked p h who last None = refl
+max-looked p h who last (Some t) = by_tests (is_some (first (task_look_refusals who t))) (is_unended t)
+  where
+    by_tests : (a b : Bool) → max_of (cond a p (cond b (with_value p h (with_waiter (waiter_after who last) t)) (without p h))) ≡ max_of p
+    by_tests true b = refl
+    by_tests false true = max-value p h (with_waiter (waiter_after who last) t)
+    by_tests false false = max-without p h
+
+-- What is seen
+
+pub put-value : (p : Slots Task) (h : ℕ) (t u : Task) → get p h ≡ Some t → Put (seen_in p) h (seen (Some u)) (seen_in (with_value p h u))
+put-value p h t u g = record { here = ap seen (get-with_value_same p h t u g); others = λ k d. ap seen (get-with_value_other p h k t u g d) }
+
+pub put-without : (p : Slots Task) (h : ℕ) (t : Task) → get p h ≡ Some t → Put (seen_in p) h None (seen_in (without p h))
+put-without p h t g = record { here = ap seen (get-without_same p h t g); others = λ k d. ap seen (get-without_other p h k t g d) }
+
+pub put-insert : (p q : Slots Task) (h : ℕ) (t : Task) → Inserts p q h t → Put (seen_in p) h (seen (Some t)) (seen_in q)
+put-insert p q h t i = record { here = ap seen (get-insert_same p q h t i); others = λ k d. ap seen (get-insert_other p q h k t i d) }
+
+pub put-ended : (p : Slots Task) (h : ℕ) (e : TaskEnd) (n : ℕ) (t : Task) → get p h ≡ Some t → Put (seen_in p) h None (seen_in (ended_in p h e n (Some t)))
+put-ended p h e n t g = by_test t.detached
+  where
+    by_test : (b : Bool) → Put (seen_in p) h None (seen_in (cond b (without p h) (with_value p h (with_state (Over e n) t))))
+    by_test true = put-without p h t g
+    by_test false = put-value p h t (with_state (Over e n) t) g
+
+pub put-changed : (p : Slots Task) (h : ℕ) (f : Task → Task) (t : Task) → get p h ≡ Some t → Put (seen_in p) h (seen (Some (f t))) (seen_in (changed p h f))
+put-changed p h f t g = subst (λ (o : Option Task). Put (seen_in p) h (seen (Some (f t))) (seen_in (put p h (option_map f o)))) (sym g) (put-value p h t (f t) g)
+
+-- what was seen before is put back
+pub put-same : (at after : ℕ → Option Seen) (h : ℕ) (x : Option Seen) → Put at h x after → x ≡ at h → (k : ℕ) → after k ≡ at k
+put-same at after h x m e k = elim (cases_eq k h) [
+  | inl here ↦ ap after here ∙ m.here ∙ e ∙ ap at (sym here)
+  | inr away ↦ m.others k away
+]
+
+pub seen-changed : (p : Slots Task) (h : ℕ) (f : Task → Task) → ((t : Task) → seen (Some (f t)) ≡ seen (Some t)) → (k : ℕ) → seen_in (changed p h f) k ≡ seen_in p k
+seen-changed p h f same k = by_found (get p h) refl
+  where
+    by_found : (o : Option Task) → get p h ≡ o → seen_in (changed p h f) k ≡ seen_in p k
+    by_found None g = ap (λ (o : Option Task). seen_in (put p h (option_map f o)) k) g
+    by_found (Some t) g = put-same (seen_in p) (seen_in (changed p h f)) h _ (put-changed p h f t g) (same t ∙ ap seen (sym g)) k
+
+requested-same : (t : Task) (x : TaskState) → seen_as (cancel_requested t) x ≡ seen_as t x
+requested-same t Scheduled = refl
+requested-same t (Running w k) = refl
+requested-same t (Over e n) = refl
+
+pub seen-requested : (t : Task) → seen (Some (cancel_requested t)) ≡ seen (Some t)
+seen-requested t = requested-same t t.state
+
+waiter-same : (w : Option ℕ) (t : Task) (x : TaskState) → seen_as (with_waiter w t) x ≡ seen_as t x
+waiter-same w t Scheduled = refl
+waiter-same w t (Running v k) = refl
+waiter-same w t (Over e n) = refl
+
+pub seen-asked : (w : ℕ) (t : Task) → seen (Some (after_asked w t)) ≡ seen (Some t)
+seen-asked w t = by_refusal (is_none (first (asked_refusals w t)))
+  where
+    once : (b : Bool) (x : TaskState) → seen_as (cond b (record t { seen = true }) (record t { looks = t.looks + 1 })) x ≡ seen_as t x
+    once true Scheduled = refl
+    once true (Running v k) = refl
+    once true (Over e n) = refl
+    once false Scheduled = refl
+    once false (Running v k) = refl
+    once false (Over e n) = refl
+
+    state : (b : Bool) → (cond b (record t { seen = true }) (record t { looks = t.looks + 1 })).state ≡ t.state
+    state true = refl
+    state false = refl
+
+    by_refusal : (b : Bool) → seen (Some (cond b (asked_once t) t)) ≡ seen (Some t)
+    by_refusal true = ap (seen_as (asked_once t)) (state t.requested) ∙ once t.requested t.state
+    by_refusal false = refl
+
+over-unseen : (t : Task) (x : TaskState) → t.state ≡ x → is_unended t ≡ false → seen (Some t) ≡ None
+over-unseen t Scheduled e f = absurd (false≢true (sym f ∙ ap (λ (y : TaskState). is_unended (with_state y t)) e))
+over-unseen t (Running w k) e f = absurd (false≢true (sym f ∙ ap (λ (y : TaskState). is_unended (with_state y t)) e))
+over-unseen t (Over y n) e f = ap (seen_as t) e
+
+pub seen-looked : (p : Slots Task) (h who : ℕ) (last : Bool) (o : Option Task) → get p h ≡ o → (k : ℕ) → seen_in (looked_in p h who last o) k ≡ seen_in p k
+seen-looked p h who last None g k = refl
+seen-looked p h who last (Some t) g k = by_tests (is_some (first (task_look_refusals who t))) (is_unended t) refl
+  where
+    by_tests : (a b : Bool) → is_unended t ≡ b → seen_in (cond a p (cond b (with_value p h (with_waiter (waiter_after who last) t)) (without p h))) k ≡ seen_in p k
+    by_tests true b e = refl
+    by_tests false true e = put-same (seen_in p) _ h _ (put-value p h t (with_waiter (waiter_after who last) t) g) (waiter-same (waiter_after who last) t t.state ∙ ap seen (sym g)) k
+    by_tests false false e = put-same (seen_in p) _ h None (put-without p h t g) (sym (over-unseen t t.state refl e) ∙ ap seen (sym g)) k
+
+-- A move that nothing is seen of
+
+pub quiet : (b : BoardTable) (q : TaskTable) → ((k : ℕ) → seen_in q.pool k ≡ seen_in b.tasks.pool k) → max_of q.pool ≡ max_of b.tasks.pool → q.starts ≡ b.tasks.starts → IsBoard b → IsBoard (record b { tasks = q })
+quiet b q same max count k = record {
+  few = k.few;
+  workers = k.workers;
+  priorities = k.priorities;
+  slots = k.slots ∙ sym max;
+  places = k.places ∙ sym max;
+  lists = k.lists;
+  seats = k.seats;
+  marked = subst (λ (f : ℕ → Option Seen). Marked b.actions f b.ready.marks) all k.marked;
+  waiting_are = subst (λ (f : ℕ → Option Seen). AreWaiting f (list_at b.waiting.lists 0)) all k.waiting_are;
+  running_are = subst (λ (f : ℕ → Option Seen). AreRunning f b.running) all k.running_are;
+  ranked = subst (λ (f : ℕ → Option Seen). AreRanked f b.settings.priorities) all k.ranked;
+  started = subst (λ (n : ℕ). AreStarted (seen_in q.pool) n) (sym count) (subst (λ (f : ℕ → Option Seen). AreStarted f b.tasks.starts) all k.started);
+}
+  where
+    all : seen_in b.tasks.pool ≡ seen_in q.pool
+    all = sym (λ i h. same h i)
+
+-- One handle a slot
+
+pub live-alone : (p : Slots Task) (h k : ℕ) (t v : Task) → get p h ≡ Some t → get p k ≡ Some v → slot_of k ≡ slot_of h → k ≡ h
+live-alone p h k t v a b e =
+    let x = used_at_live (slice_get p.slots (slot_of h)) (generation_of h) t a in
+    let y = used_at_live (slice_get p.slots (slot_of k)) (generation_of k) v b in
+    let same : x.0 ≡ y.0 = some_same (sym x.1 ∙ ap (slice_get p.slots) (sym e) ∙ y.1) in
+    same_handle k h e (sym y.2 ∙ ap (λ (z : _). z.generation) (sym same) ∙ x.2)
+
+pub alone : (p : Slots Task) (h k : ℕ) (s u : Seen) → seen_in p h ≡ Some s → seen_in p k ≡ Some u → slot_of k ≡ slot_of h → k ≡ h
+alone p h k s u a b e =
+    let t = seen-live p h s a in
+    let v = seen-live p k u b in
+    live-alone p h k t.0 v.0 t.1 v.1 e
+
+-- after the move no other handle of this slot is seen
+pub Alone : (ℕ → Option Seen) → ℕ → Type 0
+Alone after h = (k : ℕ) (s : Seen) → slot_of k ≡ slot_of h → after k ≡ Some s → k ≡ h
+
+pub alone-old : (p : Slots Task) (h : ℕ) (t : Task) (x : Option Seen) (after : ℕ → Option Seen) → get p h ≡ Some t → Put (seen_in p) h x after → Alone after h
+unfolding Alone
+alone-old p h t x after g m k s e b = elim (cases_eq k h) [
+  | inl here ↦ here
+  | inr away ↦ let v = seen-live p k s (sym (m.others k away) ∙ b) in live-alone p h k t v.0 g v.1 e
+]
+
+pub alone-new : (q : Slots Task) (h : ℕ) (t : Task) → get q h ≡ Some t → Alone (seen_in q) h
+unfolding Alone
+alone-new q h t g k s e b = let v = seen-live q k s b in live-alone q h k t v.0 g v.1 e
+
+-- What a move keeps
+
+mark-here : (marks : List (Option Mark)) (place : ℕ) (m : Option Mark) → place < length marks → mark_at (set marks place m) place ≡ m
+mark-here marks place m less = get_or-set_same marks place m None less
+
+mark-away : (marks : List (Option Mark)) (place other : ℕ) (m : Option Mark) → other ≢ place → mark_at (set marks place m) other ≡ mark_at marks other
+mark-away marks place other m d = get_or-set_other marks place other m None d
+
+pub marked-put : (actions : Slots Action) (at after : ℕ → Option Seen) (h : ℕ) (x : Option Seen) (marks : List (Option Mark)) (m : Option Mark) → Put at h x after → Alone after h → slot_of h < length marks → IsMarkOf actions x m → Marked actions at marks → Marked actions after (set marks (slot_of h) m)
+unfolding Alone
+marked-put actions at after h x marks m move one less right old = record {
+  sound = λ w p place e. elim (cases_eq place (slot_of h)) [
+    | inl here ↦
+        let s = right.sound w p (ap (is_for_at w p) (sym (mark-here marks (slot_of h) m less) ∙ ap (mark_at (set marks (slot_of h) m)) (sym here)) ∙ e) in
+        (h, s.0, sym here, move.here ∙ s.1, s.2, s.3)
+    | inr away ↦
+        let s = old.sound w p place (ap (is_for_at w p) (sym (mark-away marks (slot_of h) place m away)) ∙ e) in
+        (s.0, s.1, s.2, move.others s.0 (λ is. away (sym s.2 ∙ ap slot_of is)) ∙ s.3, s.4, s.5)
+  ];
+  whole = λ w k s e t. elim (cases_eq (slot_of k) (slot_of h)) [
+    | inl here ↦
+        let is = one k s here e in
+        ap (λ (place : ℕ). is_for_at w s.priority (mark_at (set marks (slot_of h) m) place)) here ∙ ap (is_for_at w s.priority) (mark-here marks (slot_of h) m less)
+        ∙ right.whole w s (sym move.here ∙ ap after (sym is) ∙ e) t
+    | inr away ↦
+        ap (is_for_at w s.priority) (mark-away marks (slot_of h) (slot_of k) m away) ∙ old.whole w k s (sym (move.others k (λ is. away (ap slot_of is))) ∙ e) t
+  ];
+}
+
+pub ranked-put : (at after : ℕ → Option Seen) (h : ℕ) (x : Option Seen) (n : ℕ) → Put at h x after → ((s : Seen) → x ≡ Some s → s.priority < n) → AreRanked at n → AreRanked after n
+ranked-put at after h x n move less old = record {
+  known = λ k s e. elim (cases_eq k h) [
+    | inl here ↦ less s (sym move.here ∙ ap after (sym here) ∙ e)
+    | inr away ↦ old.known k s (sym (move.others k away) ∙ e)
+  ];
+}
+
+pub started-put : (at after : ℕ → Option Seen) (h : ℕ) (x : Option Seen) (m n : ℕ) → Put at h x after → ((s : Seen) → x ≡ Some s → s.start < n) → m ≤ n → AreStarted at m → AreStarted after n
+started-put at after h x m n move less grows old = record {
+  before = λ k s e. elim (cases_eq k h) [
+    | inl here ↦ less s (sym move.here ∙ ap after (sym here) ∙ e)
+    | inr away ↦ let was = old.before k s (sym (move.others k away) ∙ e) in omega (arith, was, grows)
+  ];
+}
+
+-- the waiting tasks
+
+has-append : (h : ℕ) (xs ys : List ℕ) → has_handle h (xs ++ ys) ≡ (has_handle h xs || has_handle h ys)
+has-append h [] ys = refl
+has-append h (x ∷ xs) ys = by_test (x == h) (has-append h xs ys)
+  where
+    by_test : (b : Bool) → has_handle h (xs ++ ys) ≡ (has_handle h xs || has_handle h ys) → (b || has_handle h (xs ++ ys)) ≡ ((b || has_handle h xs) || has_handle h ys)
+    by_test true e = refl
+    by_test false e = e
+
+or-left : (a b : Bool) → a ≡ true → (a || b) ≡ true
+or-left true b e = refl
+or-left false b e = absurd (false≢true e)
+
+or-right : (a b : Bool) → b ≡ true → (a || b) ≡ true
+or-right true b e = refl
+or-right false b e = e
+
+or-only : (a b : Bool) → a ≡ false → (a || b) ≡ true → b ≡ true
+or-only false b e f = f
+or-only true b e f = absurd (false≢true (sym e))
+
+or-first : (a b : Bool) → b ≡ false → (a || b) ≡ true → a ≡ true
+or-first true b e f = refl
+or-first false b e f = absurd (false≢true (sym e ∙ f))
+
+eq-self : (h : ℕ) → (h == h) ≡ true
+eq-self h = grind (arith, nat_tests)
+
+eq-other : (h k : ℕ) → k ≢ h → (h == k) ≡ false
+eq-other h k d = grind (arith, nat_tests)
+
+-- lists in order
+
+has-self : (x : ℕ) (xs : List ℕ) → has_handle x (x ∷ xs) ≡ true
+has-self x xs = or-left (x == x) (has_handle x xs) (eq-self x)
+
+order-same : (at after : ℕ → Option Seen) (hs : List ℕ) → ((k : ℕ) → has_handle k hs ≡ true → after k ≡ at k) → InOrder at hs → InOrder after hs
+order-same at after [] agree o = tt
+order-same at after (x ∷ xs) agree o = (
+  λ k s u e f g. o.0 k s u e (sym (agree x (has-self x xs)) ∙ f) (sym (agree k (or-right (x == k) _ e)) ∙ g),
+  order-same at after xs (λ k e. agree k (or-right (x == k) _ e)) o.1,
+)
+
+has-sub : (k h : ℕ) (hs : List ℕ) → has_handle k (without_handle h hs) ≡ true → has_handle k hs ≡ true
+has-sub k h [] e = e
+has-sub k h (x ∷ xs) e = by_test (x == h) e (has-sub k h xs)
+  where
+    by_or : (b : Bool) → (b || has_handle k (without_handle h xs)) ≡ true → (has_handle k (without_handle h xs) ≡ true → has_handle k xs ≡ true) → (b || has_handle k xs) ≡ true
+    by_or true f rest = refl
+    by_or false f rest = rest f
+
+    by_test : (b : Bool) → has_handle k (cond b xs (x ∷ without_handle h xs)) ≡ true → (has_handle k (without_handle h xs) ≡ true → has_handle k xs ≡ true) → ((x == k) || has_handle k xs) ≡ true
+    by_test true f rest = or-right (x == k) _ f
+    by_test false f rest = by_or (x == k) f rest
+
+order-without : (at : ℕ → Option Seen) (h : ℕ) (hs : List ℕ) → InOrder at hs → InOrder at (without_handle h hs)
+order-without at h [] o = tt
+order-without at h (x ∷ xs) o = by_test (x == h) (order-without at h xs o.1)
+  where
+    by_test : (b : Bool) → InOrder at (without_handle h xs) → InOrder at (cond b xs (x ∷ without_handle h xs))
+    by_test true rest = o.1
+    by_test false rest = (λ k s u e f g. o.0 k s u (has-sub k h xs e) f g, rest)
+
+order-push : (at after : ℕ → Option Seen) (h : ℕ) (s : Seen) (hs : List ℕ) → ((k : ℕ) → has_handle k hs ≡ true → after k ≡ at k) → after h ≡ Some s → ((k : ℕ) (u : Seen) → has_handle k hs ≡ true → at k ≡ Some u → u.start < s.start) → InOrder at hs → InOrder after (hs ++ h ∷ [])
+order-push at after h s [] agree here below o = (λ k a u e f g. absurd (false≢true e), tt)
+order-push at after h s (x ∷ xs) agree here below o = (
+  λ k a u e f g. elim (cases_Bool (has_handle k xs)) [
+    | inl on ↦ o.0 k a u on (sym (agree x (has-self x xs)) ∙ f) (sym (agree k (or-right (x == k) _ on)) ∙ g)
+    | inr off ↦
+        let last : (h == k) ≡ true = or-first (h == k) false refl (or-only (has_handle k xs) _ off (sym (has-append k xs (h ∷ [])) ∙ e)) in
+        let same : h ≡ k = same-number h k last in
+        let value : s ≡ u = some_same (sym here ∙ ap after same ∙ g) in
+        subst (λ (z : Seen). a.start < z.start) value (below x a (has-self x xs) (sym (agree x (has-self x xs)) ∙ f))
+  ],
+  order-push at after h s xs (λ k e. agree k (or-right (x == k) _ e)) here (λ k u e f. below k u (or-right (x == k) _ e) f) o.1,
+)
+
+pub waiting-push : (at after : ℕ → Option Seen) (h : ℕ) (s : Seen) (hs : List ℕ) → Put at h (Some s) after → s.on ≡ None → ((k : ℕ) → has_handle k hs ≡ true → k ≢ h) → ((k : ℕ) (u : Seen) → at k ≡ Some u → u.start < s.start) → AreWaiting at hs → AreWaiting after (hs ++ h ∷ [])
+waiting-push at after h s hs move waits apart less old = record {
+  ordered = order-push at after h s hs (λ k e. move.others k (apart k e)) move.here (λ k u e f. less k u f) old.ordered;
+  listed = λ k u e n. elim (cases_eq k h) [
+    | inl here ↦ has-append k hs (h ∷ []) ∙ or-right (has_handle k hs) _ (or-left (h == k) false (ap (λ (z : ℕ). h == z) here ∙ eq-self h))
+    | inr away ↦ has-append k hs (h ∷ []) ∙ or-left (has_handle k hs) _ (old.listed k u (sym (move.others k away) ∙ e) n)
+  ];
+  waits = λ k e. elim (cases_eq k h) [
+    | inl here ↦ (s, ap after here ∙ move.here, waits)
+    | inr away ↦
+        let was = old.waits k (or-first (has_handle k hs) _ (ap (λ (b : Bool). b || false) (eq-other h k away)) (sym (has-append k hs (h ∷ [])) ∙ e)) in
+        (was.0, move.others k away ∙ was.1, was.2)
+  ];
+}
+
+has-without : (h k : ℕ) (hs : List ℕ) → k ≢ h → has_handle k (without_handle h hs) ≡ has_handle k hs
+has-without h k [] d = refl
+has-without h k (x ∷ xs) d = by_test (x == h) refl (has-without h k xs d)
+  where
+    by_test : (b : Bool) → (x == h) ≡ b → has_handle k (without_handle h xs) ≡ has_handle k xs → has_handle k (cond b xs (x ∷ without_handle h xs)) ≡ ((x == k) || has_handle k xs)
+    by_test true is e = let off : (x == k) ≡ false = let same : x ≡ h = grind (arith, nat_tests) in eq-other x k (λ z. d (z ∙ same)) in ap (λ (b : Bool). b || has_handle k xs) (sym off)
+    by_test false is e = ap (λ (b : Bool). (x == k) || b) e
+
+not-stands : (h : ℕ) (hs : List ℕ) → stands_at (slot_of h) hs ≡ false → has_handle h hs ≡ true → ⊥
+not-stands h hs off on = false≢true (sym off ∙ stands-has h hs on)
+
+-- the handle leaves the list
+pub waiting-leave : (at after : ℕ → Option Seen) (h : ℕ) (x : Option Seen) (hs : List ℕ) → Put at h x after → ((s : Seen) → x ≡ Some s → s.on ≡ None → ⊥) → stands_at (slot_of h) (without_handle h hs) ≡ false → AreWaiting at hs → AreWaiting after (without_handle h hs)
+waiting-leave at after h x hs move left off old = record {
+  ordered = order-same at after (without_handle h hs) (λ k e. move.others k (λ is. not-stands h (without_handle h hs) off (ap (λ (z : ℕ). has_handle z (without_handle h hs)) (sym is) ∙ e))) (order-without at h hs old.ordered);
+  listed = λ k u e n. elim (cases_eq k h) [
+    | inl here ↦ absurd (left u (sym move.here ∙ ap after (sym here) ∙ e) n)
+    | inr away ↦ has-without h k hs away ∙ old.listed k u (sym (move.others k away) ∙ e) n
+  ];
+  waits = λ k e. elim (cases_eq k h) [
+    | inl here ↦ absurd (not-stands h (without_handle h hs) off (ap (λ (z : ℕ). has_handle z (without_handle h hs)) (sym here) ∙ e))
+    | inr away ↦ let was = old.waits k (sym (has-without h k hs away) ∙ e) in (was.0, move.others k away ∙ was.1, was.2)
+  ];
+}
+
+-- a handle that wasn't in the list
+pub waiting-same : (at after : ℕ → Option Seen) (h : ℕ) (x : Option Seen) (hs : List ℕ) → Put at h x after → ((s : Seen) → at h ≡ Some s → s.on ≡ None → ⊥) → ((s : Seen) → x ≡ Some s → s.on ≡ None → ⊥) → AreWaiting at hs → AreWaiting after hs
+waiting-same at after h x hs move was is old = record {
+  ordered = order-same at after hs (λ k e. move.others k (λ here. let s = old.waits k e in was s.0 (ap at (sym here) ∙ s.1) s.2)) old.ordered;
+  listed = λ k u e n. elim (cases_eq k h) [
+    | inl here ↦ absurd (is u (sym move.here ∙ ap after (sym here) ∙ e) n)
+    | inr away ↦ old.listed k u (sym (move.others k away) ∙ e) n
+  ];
+  waits = λ k e. elim (cases_eq k h) [
+    | inl here ↦ let s = old.waits k e in absurd (was s.0 (ap at (sym here) ∙ s.1) s.2)
+    | inr away ↦ let s = old.waits k e in (s.0, move.others k away ∙ s.1, s.2)
+  ];
+}
+
+-- the running tasks
+
+seat-here : (r : List (Option TaskHandle)) (w : ℕ) (o : Option TaskHandle) → w < length r → running_on (set r w o) w ≡ o
+seat-here r w o less = get_or-set_same r w o None less
+
+seat-away : (r : List (Option TaskHandle)) (w v : ℕ) (o : Option TaskHandle) → v ≢ w → running_on (set r w o) v ≡ running_on r v
+seat-away r w v o d = get_or-set_other r w v o None d
+
+none-some : {A : Type 0} (o : Option A) (x : A) → is_some o ≡ false → o ≡ Some x → ⊥
+none-some None x e f = cc
+none-some (Some y) x e f = false≢true (sym e)
+
+handle_of : ℕ → TaskHandle
+handle_of h = record { 0 = h }
+
+-- a task begins on a worker that has none
+pub running-begin : (at after : ℕ → Option Seen) (h w : ℕ) (s : Seen) (r : List (Option TaskHandle)) → Put at h (Some s) after → s.on ≡ Some w → is_some (running_on r w) ≡ false → ((u : Seen) → at h ≡ Some u → u.on ≡ None) → w < length r → AreRunning at r → AreRunning after (set r w (Some (record { 0 = h })))
+running-begin at after h w s r move on free waited less old = record {
+  found = λ k v u e n. elim (cases_eq k h) [
+    | inl here ↦
+        let same : s ≡ u = some_same (sym move.here ∙ ap after (sym here) ∙ e) in
+        let seat : v ≡ w = some_same (sym n ∙ ap (λ (z : Seen). z.on) (sym same) ∙ on) in
+        ap (running_on (set r w (Some (record { 0 = h })))) seat ∙ seat-here r w _ less ∙ ap (λ (z : ℕ). Some (record { 0 = z })) (sym here)
+    | inr away ↦
+        let was = old.found k v u (sym (move.others k away) ∙ e) n in
+        seat-away r w v _ (λ is. none-some (running_on r w) _ free (ap (running_on r) (sym is) ∙ was)) ∙ was
+  ];
+  runs = λ v t e. elim (cases_eq v w) [
+    | inl here ↦
+        let same : ◌≡◌ {A = TaskHandle} (record { 0 = h }) t = some_same (sym (seat-here r w _ less) ∙ ap (running_on (set r w _)) (sym here) ∙ e) in
+        (s, ap (λ (z : TaskHandle). after z.0) (sym same) ∙ move.here, on ∙ ap Some (sym here))
+    | inr away ↦
+        let was = old.runs v t (sym (seat-away r w v _ away) ∙ e) in
+        elim (cases_eq t.0 h) [
+          | inl is ↦ absurd (none-is-some _ (waited was.0 (ap at (sym is) ∙ was.1)) was.2)
+          | inr other ↦ (was.0, move.others t.0 other ∙ was.1, was.2)
+        ]
+  ];
+}
+  where
+    none-is-some : {A : Type 0} {x : A} (o : Option A) → o ≡ None → o ≡ Some x → ⊥
+    none-is-some None e f = cc
+    none-is-some (Some y) e f = cc
+
+-- the task that runs on a worker ends
+pub running-end : (at after : ℕ → Option Seen) (h w : ℕ) (s : Seen) (r : List (Option TaskHandle)) → Put at h None after → at h ≡ Some s → s.on ≡ Some w → w < length r → AreRunning at r → AreRunning after (set r w None)
+running-end at after h w s r move was on less old = record {
+  found = λ k v u e n. elim (cases_eq k h) [
+    | inl here ↦ absurd (gone u (sym move.here ∙ ap after (sym here) ∙ e))
+    | inr away ↦
+        let before = old.found k v u (sym (move.others k away) ∙ e) n in
+        seat-away r w v None (λ is. away (ap (λ (z : TaskHandle). z.0) (some_same (sym before ∙ ap (running_on r) is ∙ mine)))) ∙ before
+  ];
+  runs = λ v t e. elim (cases_eq v w) [
+    | inl here ↦ absurd (empty t (sym (seat-here r w None less) ∙ ap (running_on (set r w None)) (sym here) ∙ e))
+    | inr away ↦
+        let before = old.runs v t (sym (seat-away r w v None away) ∙ e) in
+        elim (cases_eq t.0 h) [
+          | inl is ↦
+              let same : before.0 ≡ s = some_same (sym before.1 ∙ ap at is ∙ was) in
+              absurd (away (some_same (sym before.2 ∙ ap (λ (z : Seen). z.on) same ∙ on)))
+          | inr other ↦ (before.0, move.others t.0 other ∙ before.1, before.2)
+        ]
+  ];
+}
+  where
+    gone : (u : Seen) → None ≡ Some u → ⊥
+    gone u e = cc
+
+    empty : (t : TaskHandle) → None ≡ Some t → ⊥
+    empty t e = cc
+
+    mine : running_on r w ≡ Some (record { 0 = h })
+    mine = old.found h w s was on
+
+-- a task that doesn't run
+pub running-same : (at after : ℕ → Option Seen) (h : ℕ) (x : Option Seen) (r : List (Option TaskHandle)) → Put at h x after → ((s : Seen) (w : ℕ) → at h ≡ Some s → s.on ≡ Some w → ⊥) → ((s : Seen) (w : ℕ) → x ≡ Some s → s.on ≡ Some w → ⊥) → AreRunning at r → AreRunning after r
+running-same at after h x r move was is old = record {
+  found = λ k v u e n. elim (cases_eq k h) [
+    | inl here ↦ absurd (is u v (sym move.here ∙ ap after (sym here) ∙ e) n)
+    | inr away ↦ old.found k v u (sym (move.others k away) ∙ e) n
+  ];
+  runs = λ v t e.
+      let before = old.runs v t e in
+      elim (cases_eq t.0 h) [
+        | inl here ↦ absurd (was before.0 v (ap at (sym here) ∙ before.1) before.2)
+        | inr other ↦ (before.0, move.others t.0 other ∙ before.1, before.2)
+      ];
+}
+
+-- of two tasks of a list in order the one in front was started first
+pub order-index : (at : ℕ → Option Seen) (hs : List ℕ) (i j h k : ℕ) (s u : Seen) → InOrder at hs → i < j → slice_get hs i ≡ Some h → slice_get hs j ≡ Some k → at h ≡ Some s → at k ≡ Some u → s.start < u.start
+order-index at [] i j h k s u o less e f a b = absurd (cc)
+order-index at (x ∷ xs) zero zero h k s u o less e f a b = absurd (omega arith)
+order-index at (x ∷ xs) zero (suc j) h k s u o less e f a b = o.0 k s u (index-has k j xs f) (ap at (some_same e) ∙ a) b
+order-index at (x ∷ xs) (suc i) zero h k s u o less e f a b = absurd (omega arith)
+order-index at (x ∷ xs) (suc i) (suc j) h k s u o less e f a b = order-index at xs i j h k s u o.1 (omega arith) e f a b

@@ -1,0 +1,62 @@
+-- The running tasks, as their slots show them.
+use Rattle.std.proofs.Common.{◌≡◌, ℕ, Bool, true, false, Option, Some, None, refl, sym, ◌∙◌, ap, arith}
+use Rattle.std.specs.Prelude.{◌==◌, is_some}
+use Rattle.std.specs.Bool.{OnTrue, OnFalse}
+use Rattle.std.proofs.lemmas.Bool.{false≢true}
+use Rattle.std.proofs.lemmas.Bool.Decides.{nat_tests}
+use Rattle.mtapi_values.specs.declared.handles.TaskHandle.{TaskHandle}
+use Rattle.handle_pool.specs.Slots.{get, SomeLive, NoneLive}
+use Rattle.job_table.specs.Answers.{Passes}
+use Rattle.task_core.specs.Tasks.{Task, TaskState, Scheduled, Running, Over, runs_on, with_state}
+use Rattle.task_board.specs.Seen.{Seen, seen_as, seen}
+use Rattle.task_board.specs.Board.{BoardTable, IsBoard, running_on}
+use Rattle.task_board.proofs.SeenLemmas.{seen-as, seen-live}
+
+pub self : (w : ℕ) → (w == w) ≡ true
+self w = grind (arith, nat_tests)
+
+-- what is seen of a task that runs on the worker
+pub runs-seen : (t : Task) (w : ℕ) (x : TaskState) → t.state ≡ x → runs_on w t ≡ true → (s : Seen) × (seen (Some t) ≡ Some s) × (s.on ≡ Some w)
+runs-seen t w Scheduled e r = absurd (false≢true (ap (λ (y : TaskState). runs_on w (with_state y t)) (sym e) ∙ r))
+runs-seen t w (Running v k) e r =
+    let test : (v == w) ≡ true = ap (λ (y : TaskState). runs_on w (with_state y t)) (sym e) ∙ r in
+    let same : v ≡ w = grind (arith, nat_tests) in
+    (_, ap (seen_as t) e, ap Some same)
+runs-seen t w (Over y n) e r = absurd (false≢true (ap (λ (z : TaskState). runs_on w (with_state z t)) (sym e) ∙ r))
+
+pub some-runs : (b : BoardTable) (w : ℕ) (t : TaskHandle) → IsBoard b → running_on b.running w ≡ Some t → SomeLive (get b.tasks.pool) (Passes (runs_on w))
+some-runs b w t k e =
+    let s = k.running_are.runs w t e in
+    let x = seen-live b.tasks.pool t.0 s.0 s.1 in
+    (t.0, x.0, x.1, (seen-as x.0 x.0.state s.0 x.2).on w s.2 ∙ self w)
+
+pub none-runs : (b : BoardTable) (w : ℕ) → IsBoard b → running_on b.running w ≡ None → NoneLive (get b.tasks.pool) (Passes (runs_on w))
+none-runs b w k e h t g r =
+    let s = runs-seen t w t.state refl r in
+    no (sym e ∙ k.running_are.found h w s.0 (ap seen g ∙ s.1) s.2)
+  where
+    no : {t : TaskHandle} → None ≡ Some t → ⊥
+    no d = cc
+
+pub not-running : (b : BoardTable) (w : ℕ) → IsBoard b → NoneLive (get b.tasks.pool) (Passes (runs_on w)) → is_some (running_on b.running w) ≡ false
+not-running b w k none = by_seat (running_on b.running w) refl
+  where
+    by_seat : (o : Option TaskHandle) → running_on b.running w ≡ o → is_some o ≡ false
+    by_seat None e = refl
+    by_seat (Some t) e = let x = some-runs b w t k e in absurd (none x.0 x.1 x.2 x.3)
+
+pub running-tells : (b : BoardTable) (w : ℕ) (o : Option TaskHandle) → IsBoard b → running_on b.running w ≡ o → is_some o ≡ true → SomeLive (get b.tasks.pool) (Passes (runs_on w))
+running-tells b w None k e s = absurd (false≢true s)
+running-tells b w (Some t) k e s = some-runs b w t k e
+
+pub running-denies : (b : BoardTable) (w : ℕ) (o : Option TaskHandle) → IsBoard b → running_on b.running w ≡ o → is_some o ≡ false → NoneLive (get b.tasks.pool) (Passes (runs_on w))
+running-denies b w None k e s = none-runs b w k e
+running-denies b w (Some t) k e s = absurd (false≢true (sym s))
+
+pub on-true : {P : Type 0} (b : Bool) → (b ≡ true → P) → OnTrue b P
+on-true true f = f refl
+on-true false f = tt
+
+pub on-false : {P : Type 0} (b : Bool) → (b ≡ false → P) → OnFalse b P
+on-false true f = tt
+on-false false f = f refl

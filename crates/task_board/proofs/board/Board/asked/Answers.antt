@@ -1,0 +1,15 @@
+use Rattle.std.proofs.Common.{ap, ◌∙◌}
+use Rattle.handle_pool.specs.Slots.{max_of}
+use Rattle.task_core.specs.Answers.{after_asked}
+use Rattle.task_core.specs.Table.{TaskTable}
+use Rattle.task_board.specs.Seen.{seen_in}
+use Rattle.task_board.proofs.MoveLemmas.{quiet, seen-changed, seen-asked, max-changed}
+use Rattle.task_board.proofs.board.Board.asked.Goals as goal
+
+pub invariant_of-self : goal.invariant_of-self
+invariant_of-self c =
+    let b = c.self.inside in
+    let pool = b.tasks.pool in
+    quiet _ c.asked.new.self
+    (λ k. ap (λ (q : TaskTable). seen_in q.pool k) c.asked.ensures.new ∙ seen-changed pool c.args.t.0 (after_asked c.args.worker) (seen-asked c.args.worker) k)
+    (ap (λ (q : TaskTable). max_of q.pool) c.asked.ensures.new ∙ max-changed pool c.args.t.0 (after_asked c.args.worker)) (ap (λ (q : TaskTable). q.starts) c.asked.ensures.new) c.self.invariant

@@ -1,0 +1,14 @@
+use Rattle.std.proofs.Common.{refl, ap, ◌∙◌}
+use Rattle.handle_pool.specs.Slots.{get, max_of}
+use Rattle.task_core.specs.Table.{TaskTable}
+use Rattle.task_board.specs.Seen.{seen_in}
+use Rattle.task_board.proofs.MoveLemmas.{quiet, seen-looked, max-looked}
+use Rattle.task_board.proofs.board.Board.look.Goals as goal
+
+pub invariant_of-self : goal.invariant_of-self
+invariant_of-self c =
+    let b = c.self.inside in
+    let pool = b.tasks.pool in
+    quiet _ c.look.new.self
+    (λ k. ap (λ (q : TaskTable). seen_in q.pool k) c.look.ensures.new ∙ seen-looked pool c.args.t.0 c.args.who c.args.last (get pool c.args.t.0) refl k)
+    (ap (λ (q : TaskTable). max_of q.pool) c.look.ensures.new ∙ max-looked pool c.args.t.0 c.args.who c.args.last (get pool c.args.t.0)) (ap (λ (q : TaskTable). q.starts) c.look.ensures.new) c.self.invariant

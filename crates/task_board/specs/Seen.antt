@@ -1,0 +1,37 @@
+-- What a board sees of a task.
+use Rattle.std.specs.Prelude.{◌≡◌, ℕ, true, Option, Some, None}
+use Rattle.mtapi_values.specs.Masks.{in_mask}
+use Rattle.handle_pool.specs.Slots.{Slots, get, SomeLive}
+use Rattle.job_table.specs.Actions.{Action}
+use Rattle.job_table.specs.Answers.{Passes, runs_job_on}
+use Rattle.task_core.specs.Tasks.{Task, TaskState, Scheduled, Running, Over}
+
+-- a task that hasn't ended: what decides who may take it, the number of its start, and the worker on which it runs, if it does
+pub record Seen : Type 0 where
+  pub job : ℕ
+  pub priority : ℕ
+  pub cores : ℕ
+  pub queue : Option ℕ
+  pub start : ℕ
+  pub on : Option ℕ
+
+abbrev pub seen_as : Task → TaskState → Option Seen
+seen_as t Scheduled = Some (record { job = t.job; priority = t.priority; cores = t.cores; queue = t.queue; start = t.start; on = None })
+seen_as t (Running w k) = Some (record { job = t.job; priority = t.priority; cores = t.cores; queue = t.queue; start = t.start; on = Some w })
+seen_as t (Over e n) = None
+
+-- an ended task is seen no more
+abbrev pub seen : Option Task → Option Seen
+seen None = None
+seen (Some t) = seen_as t t.state
+
+-- what is seen by each handle
+abbrev pub seen_in : Slots Task → ℕ → Option Seen
+seen_in p h = seen (get p h)
+
+-- the worker may take it
+pub record Takes (actions : Slots Action) (w : ℕ) (s : Seen) : Type 0 where
+  pub waits : s.on ≡ None
+  pub queue : s.queue ≡ None
+  pub core : in_mask w s.cores ≡ true
+  pub action : SomeLive (get actions) (Passes (runs_job_on s.job w))
