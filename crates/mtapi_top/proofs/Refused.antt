@@ -1,7 +1,7 @@
 -- A status of 3 is a refusal, and what is refused has it.
 use Rattle.std.proofs.Common.{◌≡◌, ◌⊎◌, ℕ, Bool, true, List, Option, Some, None, refl, sym, ◌∙◌, inl, inr, arith}
 use Rattle.std.specs.Prelude.{IfSome}
-use Rattle.outside.specs.Causes.{Rose}
+use Rattle.byte_io.specs.Causes.{Rose}
 use Rattle.node_core.specs.declared.entries.Journal.{Journal}
 use Rattle.mtapi_top.specs.declared.ends.End.{End}
 use Rattle.mtapi_top.specs.declared.ends.End.TheVariants as end

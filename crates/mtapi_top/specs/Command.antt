@@ -4,7 +4,7 @@ use Rattle.std.specs.Str.{bytes_eq}
 use Rattle.std.specs.Fmt.{decimal}
 use Rattle.std.specs.Io.KnownBytes.{Appends}
 use denote.Ref.{Bor}
-use Rattle.outside.specs.Causes.{Rose, AppendsFront}
+use Rattle.byte_io.specs.Causes.{Rose, AppendsFront}
 use Rattle.workload_file.specs.declared.workload.Workload.{Workload}
 use Rattle.workload_file.specs.declared.faults.Fault.{Fault}
 use Rattle.workload_file.specs.Causes.{cause_text}

@@ -1,7 +1,7 @@
 //! The command, from words to a status.
 ghost use Rattle.std.specs.Prelude.{◌≡◌, ◌≤◌, ◌⊎◌, ◌↔◌, IfSome, IsSome, IsOk, true, false};
 ghost use Rattle.std.specs.Io.KnownBytes.{Appends, IsAtEnd};
-ghost use Rattle.outside.specs.Causes.{Rose, AppendsFront};
+ghost use Rattle.byte_io.specs.Causes.{Rose, AppendsFront};
 ghost use Rattle.mtapi_top.specs.Command.{is_run, texts, Ends, IsTold, IsNone, IsRefused, IsBuilt, journal_of};
 ghost use Rattle.mtapi_top.specs.Headline.{Ran};
 ghost use Rattle.mtapi_top.specs.declared.ends.End.{End};

@@ -24,7 +24,7 @@ pub use faults::{Cause, LoadError};
 pub use laws::{law_again, law_formed};
 pub use load::read_workload;
 pub use name::Name;
-pub use outside::{Failed, MemSink, MemSource, Sink, Source, StdSink, StdSource, write_all};
+pub use byte_io::{Failed, MemSink, MemSource, Sink, Source, StdSink, StdSource, write_all};
 pub use page::text_of;
 pub use workload::{Deed, Part, PartList, Statement, StatementList, Workload};
 

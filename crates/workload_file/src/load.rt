@@ -5,7 +5,7 @@ ghost use Rattle.workload_file.specs.Reading.{line_adds, lines_add, start, workl
 ghost use Rattle.workload_file.specs.Indexed.{IsReader, said_of};
 ghost use Rattle.workload_file.specs.Loading.{Loads};
 ghost use Rattle.workload_file.specs.Formed.{WellFormed};
-ghost use Rattle.outside.specs.Causes.{Rose};
+ghost use Rattle.byte_io.specs.Causes.{Rose};
 
 use crate::changes::with_change;
 use crate::cut::cut_at;
@@ -16,7 +16,7 @@ use crate::name::Name;
 use crate::reading::{Reader, Reading};
 use crate::workload::{Part, PartList, StatementList, Workload};
 use mtapi_values::NodeAttr;
-use outside::{ReadAllError, Source, read_all};
+use byte_io::{ReadAllError, Source, read_all};
 use std::alloc::Global;
 
 #[tactic(auto, unfolding(crate::specs::Reading::line_adds, crate::specs::Reading::with_change))]

@@ -1,7 +1,7 @@
 -- A source and a sink in memory, as contracts see them.
 use Rattle.std.specs.Prelude.{◌≡◌, ℕ, ◌+◌, ◌-◌, ◌^◌, ◌≤◌, ◌<◌, ◌==◌, min, List, [], ◌++◌, take, drop, length, Result, Ok, Err, if◌then◌else◌, ◌||◌, Bool}
 use Rattle.std.specs.List.{list_any}
-use Rattle.outside.specs.declared.Failed.{Failed}
+use Rattle.byte_io.specs.declared.Failed.{Failed}
 
 -- a source in memory: the bytes left, the most that it gives a call, the calls that fail, the calls and the faults so far
 pub record SourceState : Type 0 where

@@ -1,7 +1,7 @@
 //! A source read whole.
 
 ghost use Rattle.std.specs.Prelude.{◌≡◌, ◌≤◌, ◌<◌, ◌^◌, length, IfOk, IfSome, IsErrOf};
-ghost use Rattle.outside.specs.Causes.{Rose, ReadsWhole};
+ghost use Rattle.byte_io.specs.Causes.{Rose, ReadsWhole};
 
 use crate::{Failed, Source};
 use std::alloc::{AllocError, Global};
@@ -23,7 +23,7 @@ pub enum ReadAllError {
 
 impl From<AllocError> for ReadAllError {
     ghost use Rattle.std.specs.Prelude.{◌≡◌};
-    ghost use Rattle.outside.specs.declared.whole.ReadAllError.TheVariants.{Memory};
+    ghost use Rattle.byte_io.specs.declared.whole.ReadAllError.TheVariants.{Memory};
 
     ghost from_gives = { λ _ e. e ≡ Memory };
 
@@ -34,7 +34,7 @@ impl From<AllocError> for ReadAllError {
 
 impl From<Failed> for ReadAllError {
     ghost use Rattle.std.specs.Prelude.{◌≡◌};
-    ghost use Rattle.outside.specs.declared.whole.ReadAllError.TheVariants.{Read};
+    ghost use Rattle.byte_io.specs.declared.whole.ReadAllError.TheVariants.{Read};
 
     ghost from_gives = { λ _ e. e ≡ Read };
 

@@ -3,7 +3,7 @@
 ghost use Rattle.std.specs.Prelude.{◌≡◌, None};
 ghost use Rattle.std.specs.Io.{ReadsAtMost};
 ghost use Rattle.std.specs.Io.KnownBytes.{ReadConsumes, WriteAppends};
-ghost use Rattle.outside.specs.Causes.{HasCause, TakesSome, faults_after};
+ghost use Rattle.byte_io.specs.Causes.{HasCause, TakesSome, faults_after};
 
 use crate::{Failed, Sink, Source};
 use std::io::{Read, Write};

@@ -1,9 +1,9 @@
-//! The two traits of the outside. Each clause but the ones on bytes holds also where the bytes aren't told.
+//! Sources and sinks of bytes. Each clause but the ones on bytes holds also where the bytes aren't told.
 
 ghost use Rattle.std.specs.Prelude.{Option, List, ℕ};
 ghost use Rattle.std.specs.Io.{ReadsAtMost};
 ghost use Rattle.std.specs.Io.KnownBytes.{ReadConsumes, WriteAppends};
-ghost use Rattle.outside.specs.Causes.{HasCause, TakesSome};
+ghost use Rattle.byte_io.specs.Causes.{HasCause, TakesSome};
 
 use crate::Failed;
 

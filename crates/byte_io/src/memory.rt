@@ -1,11 +1,11 @@
 //! A source and a sink in memory, which tell their bytes and fail where they are told to.
 
 ghost use Rattle.std.specs.Prelude.{◌≡◌, ◌+◌, ◌-◌, ◌<◌, ◌≤◌, ◌==◌, ◌&&◌, ◌||◌, nat_lt, nat_le, [], ◌++◌, min, length, take, drop, if◌then◌else◌, IfOk, OnErr, Some, Ok, Err};
-ghost use Rattle.outside.specs.Memory.{names_call, failed};
-ghost use Rattle.outside.specs.Causes.{HasCause, TakesSome, one_more, faults_after};
+ghost use Rattle.byte_io.specs.Memory.{names_call, failed};
+ghost use Rattle.byte_io.specs.Causes.{HasCause, TakesSome, one_more, faults_after};
 ghost use Rattle.std.specs.Io.{ReadsAtMost};
 ghost use Rattle.std.specs.Io.KnownBytes.{ReadConsumes, WriteAppends};
-ghost use Rattle.outside.specs.declared.Failed.{Failed};
+ghost use Rattle.byte_io.specs.declared.Failed.{Failed};
 
 use crate::{Failed, Sink, Source};
 use std::alloc::{AllocError, Global};
@@ -25,7 +25,7 @@ pub struct MemSource {
 
 impl Model for MemSource {
     ghost use Rattle.std.specs.Prelude.{drop, length, ◌≤◌, ◌<◌};
-    ghost use Rattle.outside.specs.Memory.{SourceState};
+    ghost use Rattle.byte_io.specs.Memory.{SourceState};
 
     ghost Value = { SourceState };
 
@@ -109,7 +109,7 @@ pub struct MemSink {
 
 impl Model for MemSink {
     ghost use Rattle.std.specs.Prelude.{length, vec_capacity, ◌≤◌, ◌<◌};
-    ghost use Rattle.outside.specs.Memory.{SinkState};
+    ghost use Rattle.byte_io.specs.Memory.{SinkState};
 
     ghost Value = { SinkState };
 

@@ -2,7 +2,7 @@
 
 ghost use Rattle.std.specs.Prelude.{◌≤◌, OnOk, OnErr};
 ghost use Rattle.std.specs.Io.KnownBytes.{Appends};
-ghost use Rattle.outside.specs.Causes.{Rose, AppendsFront, HasCause};
+ghost use Rattle.byte_io.specs.Causes.{Rose, AppendsFront, HasCause};
 
 use crate::{Failed, Sink};
 

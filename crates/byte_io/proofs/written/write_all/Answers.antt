@@ -1,8 +1,8 @@
 use Rattle.std.proofs.Common.{arith}
 use Rattle.std.proofs.lemmas.List.{take_rest}
 use Rattle.std.proofs.lemmas.Grind.{common_steps}
-use Rattle.outside.proofs.Pieces.{Appends-then}
-use Rattle.outside.proofs.written.write_all.Goals as goal
+use Rattle.byte_io.proofs.Pieces.{Appends-then}
+use Rattle.byte_io.proofs.written.write_all.Goals as goal
 
 pub writing-preserved : goal.writing-preserved
 writing-preserved g c =
