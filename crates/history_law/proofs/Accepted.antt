@@ -13,7 +13,7 @@ use Rattle.mtapi_machine.specs.declared.replies.Reply.{Reply}
 use Rattle.mtapi_machine.specs.declared.replies.Reply.TheVariants.{Ok, Handle}
 use Rattle.history.specs.Histories.{entry}
 use Rattle.handle_pool.specs.Issued.{Listed, listed, issue}
-use Rattle.task_core.specs.Tasks.{Task}
+use Rattle.mtapi_objects.specs.Tasks.{Task}
 use Rattle.mtapi_machine.specs.State.{State, opening, workers, is_late}
 use Rattle.mtapi_machine.specs.Moves.{Move, after_moves}
 use Rattle.mtapi_machine.specs.Row.{Row, unless, gives, never, Allows, only, moves_of, after_row}

@@ -3,7 +3,7 @@ use Rattle.std.proofs.Common.{◌≡◌, ℕ, ◌+◌, ◌≤◌, Bool, true, fa
 use Rattle.std.specs.Prelude.{◌==◌, is_none}
 use Rattle.mtapi_values.specs.declared.ends.TaskEnd.{TaskEnd}
 use Rattle.handle_pool.specs.Issued.{Listed, listed}
-use Rattle.task_core.specs.Tasks.{Task, TaskState, Scheduled, Running, Over, end_of}
+use Rattle.mtapi_objects.specs.Tasks.{Task, TaskState, Scheduled, Running, Over, end_of}
 use Rattle.mtapi_machine.specs.State.{State}
 use Rattle.mtapi_machine.specs.Laws.{Grows}
 use Rattle.mtapi_machine.specs.Legal.{NodeEntry, after_from}

@@ -7,7 +7,7 @@ use Rattle.mtapi_values.specs.Seats.{all_marked}
 use Rattle.mtapi_machine.specs.declared.terms.Phase.{Phase}
 use Rattle.mtapi_machine.specs.declared.terms.Phase.TheVariants.{New, Open, Closing, Closed}
 use Rattle.handle_pool.specs.Issued.{Listed, live_of, at, any, any_live, change, issue, listed, with_fields, gone}
-use Rattle.task_core.specs.Tasks.{Task, TaskState, end_of, is_unended, ended, end_each}
+use Rattle.mtapi_objects.specs.Tasks.{Task, TaskState, end_of, is_unended, ended, end_each}
 use Rattle.mtapi_machine.specs.State.{is_new, is_open, is_late}
 
 -- the task has ended

@@ -9,7 +9,7 @@ use Rattle.mtapi_values.specs.Conditions.{holds}
 use Rattle.mtapi_machine.specs.declared.ops.Op.{Op}
 use Rattle.mtapi_machine.specs.declared.terms.Terms.{Terms}
 use Rattle.handle_pool.specs.Issued.{Listed, live_of, lookup, at, count, change, issue, with_fields, gone}
-use Rattle.task_core.specs.Tasks.{Task, TaskState, Scheduled, Running, Over, scheduled, end_of, runner, runs_on, is_unstarted, is_unended, with_state, ended, end_each, new_task}
+use Rattle.mtapi_objects.specs.Tasks.{Task, TaskState, Scheduled, Running, Over, scheduled, end_of, runner, runs_on, is_unstarted, is_unended, with_state, ended, end_each, new_task}
 use Rattle.history.specs.Histories.{entries_of}
 use Rattle.mtapi_machine.specs.State.{State, opening}
 use Rattle.mtapi_machine.specs.Legal.{NodeEntry, next, LegalFrom, Legal, after_from, after}

@@ -13,8 +13,8 @@ use Rattle.mtapi_machine.specs.declared.ops.Op.{Op}
 use Rattle.mtapi_machine.specs.declared.ops.Op.TheVariants as op
 use Rattle.handle_pool.specs.Issued.{at, any}
 use Rattle.mtapi_values.specs.Conditions.{holds}
-use Rattle.job_table.specs.Actions.{new_action}
-use Rattle.task_core.specs.Tasks.{Task, TaskState, Scheduled, Running, Over, scheduled, end_of, runner, runs_as, runs_on, kind_number, is_unstarted, is_unended, with_waiter, asked_once, watch_end, looks_of}
+use Rattle.mtapi_objects.specs.Actions.{new_action}
+use Rattle.mtapi_objects.specs.Tasks.{Task, TaskState, Scheduled, Running, Over, scheduled, end_of, runner, runs_as, runs_on, kind_number, is_unstarted, is_unended, with_waiter, asked_once, watch_end, looks_of}
 use Rattle.mtapi_machine.specs.State.{State, is_stop}
 use Rattle.mtapi_machine.specs.Moves.{Move, phase_is, released, stops, makes_action, starts, runs, ends, ends_waiting, withdraws, notes, noted, leaves, frees_members, lets_members_go, apply, after_moves}
 use Rattle.mtapi_machine.specs.Row.{Row, gives, handle_of, moves_of}

@@ -8,8 +8,8 @@ use Rattle.mtapi_values.specs.declared.ends.TaskEnd.TheVariants.{Completed}
 use Rattle.mtapi_machine.specs.declared.ops.Op.TheVariants as op
 use Rattle.mtapi_machine.specs.declared.replies.Reply.TheVariants as reply
 use Rattle.handle_pool.specs.Issued.{live_of, issue, change, listed, issued_at, retired, is_full, may_issue}
-use Rattle.job_table.specs.Actions.{has_worker}
-use Rattle.task_core.specs.Tasks.{end_each}
+use Rattle.mtapi_objects.specs.Actions.{has_worker}
+use Rattle.mtapi_objects.specs.Tasks.{end_each}
 use Rattle.mtapi_machine.specs.Rows.{is_ready, can_take, has_better}
 use Rattle.mtapi_machine.specs.Legal.{NodeEntry, LegalFrom, Legal, after_from, after}
 use Rattle.mtapi_machine.specs.Worked.{usual, first_handle, main, worker, add_task, picks_first, finishes_first, task, every_core, one_task}

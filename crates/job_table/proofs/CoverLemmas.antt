@@ -9,7 +9,7 @@ use Rattle.handle_pool.specs.Slots.{Slots, get, max_of, SomeLive, NoneLive}
 use Rattle.linked_places.specs.Lists.{HandleLists, list_at, has_handle}
 use Rattle.linked_places.proofs.NextLemmas.{has-index}
 use Rattle.mtapi_values.specs.Masks.{in_mask}
-use Rattle.job_table.specs.Actions.{Action, has_job, has_enabled_job}
+use Rattle.mtapi_objects.specs.Actions.{Action, has_job, has_enabled_job}
 use Rattle.job_table.specs.Answers.{Passes, runs_job_on, Covers}
 use Rattle.job_table.specs.Cover.{mask_of, cover_with, NoneBefore, IsUnionBefore, CoversBefore, list_of, AreListed}
 use Rattle.job_table.specs.declared.cover.Cover.{Cover}

@@ -13,7 +13,7 @@ use Rattle.linked_places.specs.Lists.{HandleLists, list_at, has_handle, without_
 use Rattle.linked_places.proofs.HandleLemmas.{list_at-set_same, list_at-set_other, stands-has}
 use Rattle.linked_places.proofs.BesideLemmas.{list_at-none}
 use Rattle.linked_places.proofs.NextLemmas.{index-has}
-use Rattle.job_table.specs.Actions.{Action, with_enabled}
+use Rattle.mtapi_objects.specs.Actions.{Action, with_enabled}
 use Rattle.job_table.specs.Cover.{AreListed, list_of}
 
 pub some_same : {A : Type 0} {a b : A} → Some a ≡ Some b → a ≡ b

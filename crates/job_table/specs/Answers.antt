@@ -7,7 +7,7 @@ use Rattle.mtapi_values.specs.declared.statuses.MtapiStatus.TheVariants.{ErrActi
 use Rattle.mtapi_values.specs.Conditions.{first}
 use Rattle.mtapi_values.specs.Masks.{in_mask}
 use Rattle.handle_pool.specs.Slots.{Slots, get, IsFull, Inserts, SomeLive, NoneLive}
-use Rattle.job_table.specs.Actions.{Action, new_action, action_create_refusals, has_job, has_enabled_job}
+use Rattle.mtapi_objects.specs.Actions.{Action, new_action, action_create_refusals, has_job, has_enabled_job}
 use Rattle.job_table.specs.declared.cover.Cover.{Cover}
 use Rattle.job_table.specs.declared.cover.Cover.TheVariants.{NoAction, AllDisabled, Cores}
 

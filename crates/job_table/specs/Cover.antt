@@ -3,7 +3,7 @@ use Rattle.std.specs.Prelude.{◌≡◌, ℕ, ◌<◌, ◌≤◌, ◌%◌, true,
 use Rattle.handle_pool.specs.Slots.{Slots, get, max_of, SomeLive}
 use Rattle.linked_places.specs.Lists.{HandleLists, list_at, has_handle}
 use Rattle.mtapi_values.specs.Masks.{in_mask}
-use Rattle.job_table.specs.Actions.{Action, has_job, has_enabled_job}
+use Rattle.mtapi_objects.specs.Actions.{Action, has_job, has_enabled_job}
 use Rattle.job_table.specs.Answers.{Passes, runs_job_on}
 use Rattle.job_table.specs.declared.cover.Cover.{Cover}
 use Rattle.job_table.specs.declared.cover.Cover.TheVariants.{NoAction, AllDisabled, Cores}

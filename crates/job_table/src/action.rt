@@ -1,5 +1,5 @@
 ghost use Rattle.std.specs.Prelude.{◌≡◌, ◌<◌};
-ghost use Rattle.job_table.specs.Actions.{new_action, with_enabled, has_job};
+ghost use Rattle.mtapi_objects.specs.Actions.{new_action, with_enabled, has_job};
 ghost use Rattle.job_table.specs.Answers.{runs_job_on};
 
 use mtapi_values::{Kind, Mask};
@@ -15,7 +15,7 @@ pub struct StoredAction {
 }
 
 impl Model for StoredAction {
-    ghost use Rattle.job_table.specs.Actions.{Action};
+    ghost use Rattle.mtapi_objects.specs.Actions.{Action};
 
     ghost Value = { Action };
 

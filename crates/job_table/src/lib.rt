@@ -6,7 +6,7 @@ pub mod cover;
 
 ghost use Rattle.std.specs.Prelude.{◌≡◌, ◌+◌, ◌≤◌, ◌<◌, ℕ, List, true, false, replicate, Some, slice_get, IsSome, IfSome, IfNone, IfOk, OnOk, OnErr};
 ghost use Rattle.handle_pool.specs.Slots.{get, free_slot, without, changed};
-ghost use Rattle.job_table.specs.Actions.{Action, with_enabled};
+ghost use Rattle.mtapi_objects.specs.Actions.{Action, with_enabled};
 ghost use Rattle.job_table.specs.Answers.{Creates, Covers, Chooses, job_of, runs_job_on};
 ghost use Rattle.job_table.specs.Cover.{CoversBefore};
 
@@ -28,7 +28,7 @@ pub struct Actions {
 
 impl Model for Actions {
     ghost use Rattle.handle_pool.specs.Slots.{Slots};
-    ghost use Rattle.job_table.specs.Actions.{Action};
+    ghost use Rattle.mtapi_objects.specs.Actions.{Action};
 
     ghost Value = { Slots Action };
 

@@ -3,8 +3,8 @@ use Rattle.std.proofs.Common.{◌≡◌, ℕ, Bool, true, false, cond, refl}
 use Rattle.std.specs.Prelude.{is_none}
 use Rattle.mtapi_values.specs.Conditions.{first}
 use Rattle.mtapi_values.specs.Looks.{is_got}
-use Rattle.mrapi_counting.specs.Sems.{Sem, sem_busy, sem_taken, sem_unlock_refusals, sem_given}
-use Rattle.mrapi_counting.specs.Rwls.{Rwl, rwl_taken, rwl_unlock_refusals, rwl_given}
+use Rattle.mtapi_objects.specs.Sems.{Sem, sem_busy, sem_taken, sem_unlock_refusals, sem_given}
+use Rattle.mtapi_objects.specs.Rwls.{Rwl, rwl_taken, rwl_unlock_refusals, rwl_given}
 use Rattle.mrapi_counting.specs.SemCalls.{sem_after_look, sem_after_unlock}
 use Rattle.mrapi_counting.specs.RwlCalls.{rwl_look_answer, rwl_after_look, rwl_after_unlock}
 

@@ -1,4 +1,2 @@
-pub mod Sems
-pub mod Rwls
 pub mod SemCalls
 pub mod RwlCalls

@@ -7,7 +7,7 @@ use Rattle.mtapi_values.specs.declared.statuses.MrapiStatus.TheVariants.{ErrRwlI
 use Rattle.mtapi_values.specs.Conditions.{first}
 use Rattle.mtapi_values.specs.Looks.{answer, is_got}
 use Rattle.handle_pool.specs.Slots.{Slots, get, IsFull, SomeLive, NoneLive}
-use Rattle.mrapi_counting.specs.Rwls.{Rwl, rwl_create_refusals, rwl_look_refusals, rwl_busy, rwl_taken, rwl_unlock_refusals, rwl_given}
+use Rattle.mtapi_objects.specs.Rwls.{Rwl, rwl_create_refusals, rwl_look_refusals, rwl_busy, rwl_taken, rwl_unlock_refusals, rwl_given}
 
 -- the lock has this id
 abbrev pub HasId : ℕ → Rwl → Type 0

@@ -7,7 +7,7 @@ use Rattle.mtapi_values.specs.declared.statuses.MrapiStatus.TheVariants.{ErrSemI
 use Rattle.mtapi_values.specs.Conditions.{first}
 use Rattle.mtapi_values.specs.Looks.{answer}
 use Rattle.handle_pool.specs.Slots.{Slots, get, IsFull, SomeLive, NoneLive}
-use Rattle.mrapi_counting.specs.Sems.{Sem, total, sem_create_refusals, sem_busy, sem_taken, sem_unlock_refusals, sem_given}
+use Rattle.mtapi_objects.specs.Sems.{Sem, total, sem_create_refusals, sem_busy, sem_taken, sem_unlock_refusals, sem_given}
 
 -- the semaphore has this id
 abbrev pub HasId : ℕ → Sem → Type 0

@@ -3,7 +3,7 @@
 ghost use Rattle.std.specs.Prelude.{◌≡◌, ◌≤◌, ◌<◌, ◌↔◌, IsTrue};
 ghost use Rattle.std.specs.Result.{result_err};
 ghost use Rattle.mtapi_values.specs.Conditions.{first};
-ghost use Rattle.mrapi_counting.specs.Rwls.{new_rwl, rwl_held, rwl_busy, rwl_unlock_refusals};
+ghost use Rattle.mtapi_objects.specs.Rwls.{new_rwl, rwl_held, rwl_busy, rwl_unlock_refusals};
 ghost use Rattle.mrapi_counting.specs.RwlCalls.{rwl_look_answer, rwl_after_look, rwl_after_unlock};
 
 use crate::marks;
@@ -21,7 +21,7 @@ pub(crate) struct RwlState {
 }
 
 impl Model for RwlState {
-    ghost use Rattle.mrapi_counting.specs.Rwls.{Rwl};
+    ghost use Rattle.mtapi_objects.specs.Rwls.{Rwl};
 
     ghost Value = { Rwl };
 

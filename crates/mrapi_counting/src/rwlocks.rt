@@ -6,7 +6,7 @@ ghost use Rattle.mtapi_values.specs.declared.statuses.MrapiStatus.TheVariants.{E
 ghost use Rattle.mtapi_values.specs.Conditions.{first};
 ghost use Rattle.handle_pool.specs.Slots.{get, free_slot, without, changed, Inserts, NoneLive, HasLive, IsFull, OneEach};
 ghost use Rattle.mtapi_values.specs.Looks.{is_got};
-ghost use Rattle.mrapi_counting.specs.Rwls.{new_rwl, rwl_create_refusals, rwl_delete_refusals, rwl_unlock_refusals};
+ghost use Rattle.mtapi_objects.specs.Rwls.{new_rwl, rwl_create_refusals, rwl_delete_refusals, rwl_unlock_refusals};
 ghost use Rattle.mrapi_counting.specs.RwlCalls.{HasId, RwlCreateRefused, rwl_refusal, rwl_look_at, rwl_after_look, rwl_after_unlock};
 
 use crate::rwl_state::RwlState;
@@ -26,7 +26,7 @@ pub struct Rwls {
 
 impl Model for Rwls {
     ghost use Rattle.handle_pool.specs.Slots.{Slots, OneEach};
-    ghost use Rattle.mrapi_counting.specs.Rwls.{Rwl};
+    ghost use Rattle.mtapi_objects.specs.Rwls.{Rwl};
 
     ghost Value = { Slots Rwl };
 

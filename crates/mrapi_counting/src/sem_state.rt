@@ -3,7 +3,7 @@
 ghost use Rattle.std.specs.Prelude.{◌≡◌, ◌≤◌, ◌<◌, ◌↔◌, IsTrue};
 ghost use Rattle.std.specs.Result.{result_err};
 ghost use Rattle.mtapi_values.specs.Conditions.{first};
-ghost use Rattle.mrapi_counting.specs.Sems.{new_sem, total, sem_unlock_refusals};
+ghost use Rattle.mtapi_objects.specs.Sems.{new_sem, total, sem_unlock_refusals};
 ghost use Rattle.mrapi_counting.specs.SemCalls.{sem_look_answer, sem_after_look, sem_after_unlock};
 
 use mtapi_values::seats::SEATS;
@@ -19,7 +19,7 @@ pub(crate) struct SemState {
 }
 
 impl Model for SemState {
-    ghost use Rattle.mrapi_counting.specs.Sems.{Sem};
+    ghost use Rattle.mtapi_objects.specs.Sems.{Sem};
     ghost use Rattle.mrapi_counting.specs.SemCalls.{IsSem};
 
     ghost Value = { Sem };

@@ -6,7 +6,7 @@ ghost use Rattle.mtapi_values.specs.declared.statuses.MrapiStatus.TheVariants.{E
 ghost use Rattle.mtapi_values.specs.Conditions.{first};
 ghost use Rattle.handle_pool.specs.Slots.{get, free_slot, without, changed, Inserts, NoneLive, HasLive, IsFull, OneEach};
 ghost use Rattle.mtapi_values.specs.Looks.{is_got};
-ghost use Rattle.mrapi_counting.specs.Sems.{new_sem, sem_create_refusals, sem_delete_refusals, sem_unlock_refusals};
+ghost use Rattle.mtapi_objects.specs.Sems.{new_sem, sem_create_refusals, sem_delete_refusals, sem_unlock_refusals};
 ghost use Rattle.mrapi_counting.specs.SemCalls.{HasId, SemCreateRefused, sem_refusal, sem_look_at, sem_after_look, sem_after_unlock};
 
 use crate::sem_state::SemState;
@@ -26,7 +26,7 @@ pub struct Sems {
 
 impl Model for Sems {
     ghost use Rattle.handle_pool.specs.Slots.{Slots, OneEach};
-    ghost use Rattle.mrapi_counting.specs.Sems.{Sem};
+    ghost use Rattle.mtapi_objects.specs.Sems.{Sem};
 
     ghost Value = { Slots Sem };
 

@@ -3,7 +3,7 @@ use Rattle.std.proofs.Common.{◌≡◌, ℕ, Bool, true, false, cond, refl}
 use Rattle.std.specs.Prelude.{is_none}
 use Rattle.mtapi_values.specs.Conditions.{first}
 use Rattle.mtapi_values.specs.Looks.{is_got}
-use Rattle.mrapi_mutex.specs.Mutexes.{Mutex, locked_by, mutex_unlock_refusals, unlocked}
+use Rattle.mtapi_objects.specs.Mutexes.{Mutex, locked_by, mutex_unlock_refusals, unlocked}
 use Rattle.mrapi_mutex.specs.Calls.{look_answer, after_look, after_unlock}
 
 either : (b : Bool) (x y : Mutex) (id : ℕ) → x.id ≡ id → y.id ≡ id → (cond b x y).id ≡ id

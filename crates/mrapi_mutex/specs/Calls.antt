@@ -7,7 +7,7 @@ use Rattle.mtapi_values.specs.declared.statuses.MrapiStatus.TheVariants.{ErrMute
 use Rattle.mtapi_values.specs.Conditions.{first}
 use Rattle.mtapi_values.specs.Looks.{answer, is_got}
 use Rattle.handle_pool.specs.Slots.{Slots, get, IsFull, SomeLive, NoneLive}
-use Rattle.mrapi_mutex.specs.Mutexes.{Mutex, mutex_look_refusals, mutex_busy, locked_by, mutex_unlock_refusals, unlocked}
+use Rattle.mtapi_objects.specs.Mutexes.{Mutex, mutex_look_refusals, mutex_busy, locked_by, mutex_unlock_refusals, unlocked}
 
 -- the mutex has this id
 abbrev pub HasId : ℕ → Mutex → Type 0

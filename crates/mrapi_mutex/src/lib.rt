@@ -11,7 +11,7 @@ mod tests;
 ghost use Rattle.std.specs.Prelude.{◌≡◌, ◌≤◌, false, replicate, IfOk, IfErr, OnOk, OnErr};
 ghost use Rattle.std.specs.Result.{result_err};
 ghost use Rattle.handle_pool.specs.Slots.{get, free_slot, without, changed, Inserts, NoneLive, HasLive, IsFull, OneEach};
-ghost use Rattle.mrapi_mutex.specs.Mutexes.{new_mutex, mutex_delete_refusals, mutex_unlock_refusals};
+ghost use Rattle.mtapi_objects.specs.Mutexes.{new_mutex, mutex_delete_refusals, mutex_unlock_refusals};
 ghost use Rattle.mtapi_values.specs.declared.statuses.MrapiStatus.TheVariants.{ErrMutexIdInvalid};
 ghost use Rattle.mtapi_values.specs.Looks.{is_got};
 ghost use Rattle.mrapi_mutex.specs.Calls.{HasId, CreateRefused, refusal, look_at, after_look, after_unlock};
@@ -30,7 +30,7 @@ pub struct Mutexes {
 
 impl Model for Mutexes {
     ghost use Rattle.handle_pool.specs.Slots.{Slots, OneEach};
-    ghost use Rattle.mrapi_mutex.specs.Mutexes.{Mutex};
+    ghost use Rattle.mtapi_objects.specs.Mutexes.{Mutex};
 
     ghost Value = { Slots Mutex };
 

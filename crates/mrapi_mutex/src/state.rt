@@ -3,7 +3,7 @@
 ghost use Rattle.std.specs.Prelude.{◌≡◌, ◌↔◌, IsTrue, IsSome};
 ghost use Rattle.std.specs.Result.{result_err};
 ghost use Rattle.mtapi_values.specs.Conditions.{first};
-ghost use Rattle.mrapi_mutex.specs.Mutexes.{new_mutex, mutex_unlock_refusals};
+ghost use Rattle.mtapi_objects.specs.Mutexes.{new_mutex, mutex_unlock_refusals};
 ghost use Rattle.mrapi_mutex.specs.Calls.{look_answer, after_look, after_unlock};
 
 use mtapi_values::{Look, MrapiStatus};
@@ -22,7 +22,7 @@ pub(crate) struct MutexState {
 }
 
 impl Model for MutexState {
-    ghost use Rattle.mrapi_mutex.specs.Mutexes.{Mutex};
+    ghost use Rattle.mtapi_objects.specs.Mutexes.{Mutex};
     ghost use Rattle.mrapi_mutex.specs.Calls.{IsMutex};
 
     ghost Value = { Mutex };

@@ -5,7 +5,7 @@ use Rattle.mtapi_values.specs.Conditions.{first}
 use Rattle.handle_pool.specs.Slots.{Slots, free_slot, get, live_count, retired_count, max_of, IsFull, Inserts, with_value, without, NoneLive}
 use Rattle.handle_pool.proofs.OneEachLemmas.{OneEach-new, OneEach-insert, OneEach-with_value, OneEach-without}
 use Rattle.handle_pool.proofs.CountLemmas.{live_count-new, max_of-new, live_count-insert, max_of-insert, live_count-with_value, max_of-with_value, live_count-without, max_of-without}
-use Rattle.mrapi_shmem.specs.Segments.{Segment, with_attached, with_cell, attach_refusals, detach_refusals, cell_refusals}
+use Rattle.mtapi_objects.specs.Segments.{Segment, with_attached, with_cell, attach_refusals, detach_refusals, cell_refusals}
 use Rattle.mrapi_shmem.specs.Calls.{HasId, IsStore, after_attach, after_detach, after_write}
 
 pub IsStore-new : (p : Slots Segment) (max spare room : ℕ) → p.slots ≡ replicate max (free_slot 1) → spare ≡ max → max ≤ room → IsStore p spare room

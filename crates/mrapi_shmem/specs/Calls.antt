@@ -4,7 +4,7 @@ use Rattle.mtapi_values.specs.declared.statuses.MrapiStatus.{MrapiStatus}
 use Rattle.mtapi_values.specs.declared.statuses.MrapiStatus.TheVariants.{ErrShmInvalid, ErrShmExists, ErrShmLimit}
 use Rattle.mtapi_values.specs.Conditions.{first}
 use Rattle.handle_pool.specs.Slots.{Slots, get, live_count, max_of, IsFull, SomeLive, NoneLive, OneEach}
-use Rattle.mrapi_shmem.specs.Segments.{Segment, shmem_create_refusals, attach_refusals, detach_refusals, with_attached, cell_refusals, cell_of, with_cell}
+use Rattle.mtapi_objects.specs.Segments.{Segment, shmem_create_refusals, attach_refusals, detach_refusals, with_attached, cell_refusals, cell_of, with_cell}
 
 -- the segment has this id
 abbrev pub HasId : ℕ → Segment → Type 0

@@ -14,7 +14,7 @@ ghost use Rattle.std.specs.Result.{result_err};
 ghost use Rattle.mtapi_values.specs.declared.statuses.MrapiStatus.TheVariants.{ErrShmIdInvalid};
 ghost use Rattle.mtapi_values.specs.Conditions.{first};
 ghost use Rattle.handle_pool.specs.Slots.{get, free_slot, without, changed, Inserts, NoneLive, HasLive, IsFull, OneEach, live_count, retired_count, max_of};
-ghost use Rattle.mrapi_shmem.specs.Segments.{new_segment, shmem_create_refusals, shmem_delete_refusals, attach_refusals, detach_refusals, cell_refusals};
+ghost use Rattle.mtapi_objects.specs.Segments.{new_segment, shmem_create_refusals, shmem_delete_refusals, attach_refusals, detach_refusals, cell_refusals};
 ghost use Rattle.mrapi_shmem.specs.Calls.{HasId, CreateRefused, refusal, read_at, after_attach, after_detach, after_write};
 
 use handle_pool::Pool;
@@ -35,7 +35,7 @@ pub struct Segments {
 impl Model for Segments {
     ghost use Rattle.std.specs.Prelude.{vec_len, vec_capacity};
     ghost use Rattle.handle_pool.specs.Slots.{Slots};
-    ghost use Rattle.mrapi_shmem.specs.Segments.{Segment};
+    ghost use Rattle.mtapi_objects.specs.Segments.{Segment};
     ghost use Rattle.mrapi_shmem.specs.Calls.{IsStore};
 
     ghost Value = { Slots Segment };

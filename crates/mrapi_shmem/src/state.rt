@@ -4,7 +4,7 @@ ghost use Rattle.std.specs.Prelude.{◌≡◌, ◌≤◌, ◌<◌};
 ghost use Rattle.std.specs.Result.{result_err};
 ghost use Rattle.mtapi_values.specs.Conditions.{first};
 ghost use Rattle.mtapi_values.specs.Seats.{any_mark};
-ghost use Rattle.mrapi_shmem.specs.Segments.{new_segment, attach_refusals, detach_refusals, cell_refusals, cell_of};
+ghost use Rattle.mtapi_objects.specs.Segments.{new_segment, attach_refusals, detach_refusals, cell_refusals, cell_of};
 ghost use Rattle.mrapi_shmem.specs.Calls.{read_answer, after_attach, after_detach, after_write};
 
 use crate::room::Room;
@@ -21,7 +21,7 @@ pub(crate) struct SegmentState {
 }
 
 impl Model for SegmentState {
-    ghost use Rattle.mrapi_shmem.specs.Segments.{Segment};
+    ghost use Rattle.mtapi_objects.specs.Segments.{Segment};
 
     ghost Value = { Segment };
 

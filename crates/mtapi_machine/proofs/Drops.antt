@@ -11,7 +11,7 @@ use Rattle.mtapi_machine.specs.declared.ops.Op.TheVariants as op
 use Rattle.handle_pool.specs.Issued.{Listed, live_of, lookup, at, change, update, with_fields}
 use Rattle.mtapi_values.specs.Conditions.{holds}
 use Rattle.mtapi_values.specs.Seats.{is_seat}
-use Rattle.task_core.specs.Tasks.{Task, TaskState, Scheduled, Running, Over, with_waiter, task_look_refusals}
+use Rattle.mtapi_objects.specs.Tasks.{Task, TaskState, Scheduled, Running, Over, with_waiter, task_look_refusals}
 use Rattle.mtapi_machine.specs.State.{State}
 use Rattle.mtapi_machine.specs.Row.{Row, unless, says, gives, never, Allows, after_row, mtapi_unless, live}
 use Rattle.mtapi_machine.specs.Moves.{after_moves}

@@ -2,7 +2,7 @@
 use Rattle.std.specs.Prelude.{ℕ, ◌==◌, List, [], ◌∷◌, Option, Some, None, if◌then◌else◌}
 use Rattle.mtapi_values.specs.declared.ends.TaskEnd.{TaskEnd}
 use Rattle.handle_pool.specs.Issued.{Listed}
-use Rattle.task_core.specs.Tasks.{Task, TaskState, Scheduled, Running, Over}
+use Rattle.mtapi_objects.specs.Tasks.{Task, TaskState, Scheduled, Running, Over}
 
 -- the end of a task in this state: completed, cancelled or failed
 abbrev pub end_in : TaskState → Option TaskEnd

@@ -1,10 +1,10 @@
 -- What the pools, the ready index, the groups and the queues of a node must show of a state.
 use Rattle.std.specs.Prelude.{ℕ, zero, suc, ◌+◌, ◌^◌, Bool, List, [], ◌∷◌, if◌then◌else◌}
 use Rattle.handle_pool.specs.Issued.{live_of, any_live}
-use Rattle.job_table.specs.Actions.{is_eligible}
-use Rattle.task_core.specs.Tasks.{Task}
-use Rattle.group_core.specs.Groups.{is_unended_member}
-use Rattle.queue_core.specs.Queues.{is_unended_in}
+use Rattle.mtapi_objects.specs.Actions.{is_eligible}
+use Rattle.mtapi_objects.specs.Tasks.{Task}
+use Rattle.mtapi_objects.specs.Groups.{is_unended_member}
+use Rattle.mtapi_objects.specs.Queues.{is_unended_in}
 use Rattle.mtapi_machine.specs.State.{State, workers}
 use Rattle.mtapi_machine.specs.Rows.{is_ready}
 

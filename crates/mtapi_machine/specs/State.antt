@@ -11,14 +11,14 @@ use Rattle.mtapi_machine.specs.declared.terms.Terms.{Terms}
 use Rattle.mtapi_machine.specs.declared.replies.Reply.{Reply}
 use Rattle.mtapi_machine.specs.declared.replies.Reply.TheVariants.{Mtapi, Mrapi}
 use Rattle.handle_pool.specs.Issued.{Listed, any, count, change, update, retire}
-use Rattle.job_table.specs.Actions.{Action}
-use Rattle.task_core.specs.Tasks.{Task, is_unended, end_each, ended}
-use Rattle.group_core.specs.Groups.{Group}
-use Rattle.queue_core.specs.Queues.{Queue}
-use Rattle.mrapi_mutex.specs.Mutexes.{Mutex}
-use Rattle.mrapi_counting.specs.Sems.{Sem}
-use Rattle.mrapi_counting.specs.Rwls.{Rwl}
-use Rattle.mrapi_shmem.specs.Segments.{Segment}
+use Rattle.mtapi_objects.specs.Actions.{Action}
+use Rattle.mtapi_objects.specs.Tasks.{Task, is_unended, end_each, ended}
+use Rattle.mtapi_objects.specs.Groups.{Group}
+use Rattle.mtapi_objects.specs.Queues.{Queue}
+use Rattle.mtapi_objects.specs.Mutexes.{Mutex}
+use Rattle.mtapi_objects.specs.Sems.{Sem}
+use Rattle.mtapi_objects.specs.Rwls.{Rwl}
+use Rattle.mtapi_objects.specs.Segments.{Segment}
 
 -- what no op changes, the phase, whether main has released, which workers have stopped, how many tasks were started and how many
 -- have ended, and of each kind the objects that were ever made

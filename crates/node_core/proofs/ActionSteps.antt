@@ -10,7 +10,7 @@ use Rattle.mtapi_values.specs.Conditions.{first}
 use Rattle.handle_pool.specs.Slots.{Slots, get, IsFull, Inserts, changed}
 use Rattle.handle_pool.specs.Issued.{Listed, any, issue, update}
 use Rattle.handle_pool.proofs.AnswerLemmas.{any-none, any-live}
-use Rattle.job_table.specs.Actions.{Action, new_action, action_create_refusals, has_job, has_enabled_job, with_enabled}
+use Rattle.mtapi_objects.specs.Actions.{Action, new_action, action_create_refusals, has_job, has_enabled_job, with_enabled}
 use Rattle.job_table.specs.Answers.{Creates, Covers, job_of}
 use Rattle.job_table.specs.declared.cover.Cover.{Cover}
 use Rattle.job_table.specs.declared.cover.Cover.TheVariants.{NoAction, AllDisabled, Cores}

@@ -4,9 +4,9 @@ use Rattle.std.specs.Prelude.{◌==◌, ◌&&◌}
 use Rattle.mtapi_values.specs.declared.ends.TaskEnd.{TaskEnd}
 use Rattle.handle_pool.specs.Slots.{Slots, get, with_value, without}
 use Rattle.handle_pool.specs.Issued.{Listed, live_of, lookup, at, count, change, with_fields, gone, update, retire}
-use Rattle.task_core.specs.Tasks.{Task, Over, is_unstarted, with_state, ended, end_each}
+use Rattle.mtapi_objects.specs.Tasks.{Task, Over, is_unstarted, with_state, ended, end_each}
 use Rattle.task_core.specs.Table.{ended_in}
-use Rattle.queue_core.specs.Queues.{is_shut_in}
+use Rattle.mtapi_objects.specs.Queues.{is_shut_in}
 use Rattle.node_core.specs.Stands.{Holds}
 use Rattle.node_core.proofs.Moves.{found, holds_update, holds_change_and_remove}
 

@@ -11,7 +11,7 @@ use Rattle.mtapi_machine.specs.Row.{Row, unless, says, gives, only, Allows, afte
 use Rattle.mtapi_machine.specs.Rows.{row}
 use Rattle.mtapi_machine.specs.Legal.{IsHonest}
 use Rattle.handle_pool.specs.Slots.{Slots}
-use Rattle.job_table.specs.Actions.{Action}
+use Rattle.mtapi_objects.specs.Actions.{Action}
 use Rattle.task_core.specs.Table.{TaskTable}
 use Rattle.task_board.specs.Board.{BoardTable, Becomes}
 use Rattle.node_core.specs.declared.node.Node.{Node}

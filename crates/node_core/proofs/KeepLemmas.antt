@@ -11,7 +11,7 @@ use Rattle.handle_pool.proofs.WalkLemmas.{used_at-live, live-used_at}
 use Rattle.linked_places.specs.Lists.{list_at, has_handle}
 use Rattle.linked_places.proofs.NextLemmas.{index-has}
 use Rattle.ready_index.specs.Marks.{mark_at, is_for_at}
-use Rattle.task_core.specs.Tasks.{Task, is_unstarted, runs_on}
+use Rattle.mtapi_objects.specs.Tasks.{Task, is_unstarted, runs_on}
 use Rattle.task_board.specs.Seen.{Seen, seen, seen_in}
 use Rattle.task_board.specs.Board.{IsBoard, running_on}
 use Rattle.task_board.proofs.SeenLemmas.{some_same, seen-as, unstarted-seen, seen-live, takes-from, takes-to}

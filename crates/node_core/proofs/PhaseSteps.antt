@@ -6,8 +6,8 @@ use Rattle.mtapi_machine.specs.declared.replies.Reply.TheVariants as reply
 use Rattle.mtapi_machine.specs.declared.terms.Phase.TheVariants.{Closing}
 use Rattle.mtapi_machine.specs.State.{is_late, end_tasks}
 use Rattle.handle_pool.specs.Issued.{count}
-use Rattle.task_core.specs.Tasks.{is_unstarted}
-use Rattle.queue_core.specs.Queues.{is_shut_in}
+use Rattle.mtapi_objects.specs.Tasks.{is_unstarted}
+use Rattle.mtapi_objects.specs.Queues.{is_shut_in}
 use Rattle.node_core.specs.declared.node.Node.{Node}
 use Rattle.node_core.specs.Stands.{Lists, Live, Steps, state_of}
 use Rattle.node_core.proofs.Gives.{past, steps}

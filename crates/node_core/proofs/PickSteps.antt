@@ -8,10 +8,10 @@ use Rattle.mtapi_values.specs.Masks.{in_mask}
 use Rattle.handle_pool.specs.Slots.{get, SomeLive, NoneLive, changed}
 use Rattle.handle_pool.specs.Issued.{live_of, at, any, update}
 use Rattle.handle_pool.proofs.AnswerLemmas.{any-none, any-live, any-some}
-use Rattle.job_table.specs.Actions.{Action, has_enabled_job, is_eligible}
+use Rattle.mtapi_objects.specs.Actions.{Action, has_enabled_job, is_eligible}
 use Rattle.job_table.specs.Answers.{Passes}
-use Rattle.task_core.specs.Tasks.{Task, Running, is_unstarted, runs_on, with_state}
-use Rattle.queue_core.specs.Queues.{Queue, lets}
+use Rattle.mtapi_objects.specs.Tasks.{Task, Running, is_unstarted, runs_on, with_state}
+use Rattle.mtapi_objects.specs.Queues.{Queue, lets}
 use Rattle.mtapi_machine.specs.declared.ops.Op.TheVariants as op
 use Rattle.mtapi_machine.specs.declared.replies.Reply.{Reply}
 use Rattle.mtapi_machine.specs.declared.replies.Reply.TheVariants as reply

@@ -11,11 +11,11 @@ use Rattle.mtapi_values.specs.Masks.{in_mask}
 use Rattle.handle_pool.specs.Slots.{Slots}
 use Rattle.handle_pool.specs.Issued.{Listed, live_of, at, any, any_live}
 use Rattle.handle_pool.proofs.AnswerLemmas.{any-none, any-live}
-use Rattle.job_table.specs.Actions.{Action, has_enabled_job, is_eligible, some_below, has_worker}
+use Rattle.mtapi_objects.specs.Actions.{Action, has_enabled_job, is_eligible, some_below, has_worker}
 use Rattle.job_table.specs.Answers.{Covers, IsUnion, runs_job_on}
 use Rattle.job_table.specs.declared.cover.Cover.{Cover}
 use Rattle.job_table.specs.declared.cover.Cover.TheVariants.{NoAction, AllDisabled, Cores}
-use Rattle.group_core.specs.Groups.{Group}
+use Rattle.mtapi_objects.specs.Groups.{Group}
 use Rattle.mtapi_machine.specs.Rows.{start_refusals, number_of}
 use Rattle.node_core.specs.declared.node.Node.{Node}
 use Rattle.node_core.specs.Stands.{Lists, Holds, Live, state_of}

@@ -4,7 +4,7 @@ use Rattle.std.specs.Prelude.{◌&&◌, ◌==◌}
 use Rattle.std.proofs.lemmas.Bool.Decides.{nat_tests}
 use Rattle.handle_pool.specs.Issued.{Listed, live_of, any, any_live, count}
 use Rattle.handle_pool.proofs.AnswerLemmas.{count-slots}
-use Rattle.task_core.specs.Tasks.{is_unended}
+use Rattle.mtapi_objects.specs.Tasks.{is_unended}
 use Rattle.task_core.specs.Table.{unended_count}
 use Rattle.mtapi_machine.specs.State.{is_late}
 use Rattle.mtapi_machine.specs.State.{is_stop}

@@ -13,7 +13,7 @@ use Rattle.mtapi_values.specs.declared.ends.TaskEnd.TheVariants.{Cancelled}
 use Rattle.mtapi_values.specs.Conditions.{first}
 use Rattle.handle_pool.specs.Slots.{Slots, get, IsFull, Inserts, with_value, without, changed}
 use Rattle.handle_pool.specs.Issued.{Listed, change, issue, update, retire}
-use Rattle.task_core.specs.Tasks.{Task, TaskState, Scheduled, Running, Over, NewTask, new_task, end_of, ended, cancel_requested, with_waiter, task_look_refusals}
+use Rattle.mtapi_objects.specs.Tasks.{Task, TaskState, Scheduled, Running, Over, NewTask, new_task, end_of, ended, cancel_requested, with_waiter, task_look_refusals}
 use Rattle.task_core.specs.Records.{shown_state}
 use Rattle.task_core.specs.Answers.{look_reply, look_at_end, look_unless, waiter_after}
 use Rattle.task_core.specs.Table.{TaskTable, Adds, ended_in, looked_in}

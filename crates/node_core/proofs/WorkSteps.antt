@@ -12,7 +12,7 @@ use Rattle.mtapi_values.specs.Conditions.{first}
 use Rattle.action_fn.specs.Answers.{Answered, IsAnswered}
 use Rattle.handle_pool.specs.Slots.{get, with_value, put, changed}
 use Rattle.handle_pool.specs.Issued.{Listed, update}
-use Rattle.task_core.specs.Tasks.{Task, runs_as, finish_refusals, asked_refusals, asked_once, watch_end_refusals, watch_end}
+use Rattle.mtapi_objects.specs.Tasks.{Task, runs_as, finish_refusals, asked_refusals, asked_once, watch_end_refusals, watch_end}
 use Rattle.task_core.specs.Answers.{asked_of, after_asked, watch_end_of, unless_refused}
 use Rattle.task_core.specs.Table.{TaskTable}
 use Rattle.mtapi_machine.specs.declared.ops.Op.{Op}

@@ -6,7 +6,7 @@ use Rattle.handle_pool.specs.Slots.{used_at}
 use Rattle.handle_pool.specs.Issued.{at}
 use Rattle.linked_places.specs.Lists.{list_at, has_handle}
 use Rattle.ready_index.specs.Marks.{mark_at, is_for_at}
-use Rattle.task_core.specs.Tasks.{Task, is_unstarted, runs_on}
+use Rattle.mtapi_objects.specs.Tasks.{Task, is_unstarted, runs_on}
 use Rattle.task_board.specs.Board.{BoardTable, running_on}
 use Rattle.mtapi_machine.specs.State.{State, workers}
 use Rattle.mtapi_machine.specs.Rows.{can_take}

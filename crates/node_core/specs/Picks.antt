@@ -1,7 +1,7 @@
 -- What a worker takes.
 use Rattle.std.specs.Prelude.{◌≡◌, ℕ, Some}
 use Rattle.handle_pool.specs.Slots.{get, changed}
-use Rattle.task_core.specs.Tasks.{Task, Running, with_state}
+use Rattle.mtapi_objects.specs.Tasks.{Task, Running, with_state}
 use Rattle.task_board.specs.declared.board.Choice.{Choice}
 use Rattle.task_board.specs.Board.{Becomes}
 use Rattle.mtapi_machine.specs.declared.replies.Reply.{Reply}

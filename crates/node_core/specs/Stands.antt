@@ -4,8 +4,8 @@ use Rattle.mtapi_values.specs.Attributes.{NodeSettings}
 use Rattle.handle_pool.specs.Slots.{Slots, max_of}
 use Rattle.handle_pool.specs.Issued.{Listed}
 use Rattle.handle_pool.specs.Stands.{Stands as SlotsStand}
-use Rattle.job_table.specs.Actions.{Action}
-use Rattle.task_core.specs.Tasks.{Task}
+use Rattle.mtapi_objects.specs.Actions.{Action}
+use Rattle.mtapi_objects.specs.Tasks.{Task}
 use Rattle.mtapi_machine.specs.declared.terms.Terms.{Terms}
 use Rattle.mtapi_machine.specs.declared.ops.Op.{Op}
 use Rattle.mtapi_machine.specs.declared.replies.Reply.{Reply}

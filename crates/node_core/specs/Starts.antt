@@ -2,7 +2,7 @@
 use Rattle.std.specs.Prelude.{ℕ, ℤ, Bool, List, Option, None}
 use Rattle.mtapi_values.specs.declared.masks.Mask.{Mask}
 use Rattle.mtapi_values.specs.declared.handles.GroupHandle.{GroupHandle}
-use Rattle.task_core.specs.Tasks.{NewTask}
+use Rattle.mtapi_objects.specs.Tasks.{NewTask}
 use Rattle.mtapi_machine.specs.Rows.{number_of}
 
 -- the fields of the op; the task has no queue

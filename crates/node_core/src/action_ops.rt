@@ -2,7 +2,7 @@
 
 ghost use Rattle.std.specs.Prelude.{◌≡◌, ℕ};
 ghost use Rattle.handle_pool.specs.Issued.{any};
-ghost use Rattle.job_table.specs.Actions.{has_job};
+ghost use Rattle.mtapi_objects.specs.Actions.{has_job};
 ghost use Rattle.mtapi_machine.specs.declared.ops.Op.TheVariants as op;
 ghost use Rattle.node_core.specs.Stands.{Lists, Live, Steps};
 

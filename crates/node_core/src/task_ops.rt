@@ -3,7 +3,7 @@
 ghost use Rattle.std.specs.Prelude.{◌≡◌, ◌≤◌, ◌<◌, ◌^◌, ℕ, ℤ, Bool, List, not, nat_lt, ◌&&◌, ◌||◌};
 ghost use Rattle.mtapi_values.specs.Conditions.{first};
 ghost use Rattle.mtapi_values.specs.Masks.{in_mask};
-ghost use Rattle.job_table.specs.Actions.{some_below};
+ghost use Rattle.mtapi_objects.specs.Actions.{some_below};
 ghost use Rattle.mtapi_machine.specs.Rows.{start_refusals, is_detached_member};
 ghost use Rattle.mtapi_machine.specs.declared.ops.Op.TheVariants as op;
 ghost use Rattle.node_core.specs.Stands.{Lists, Live, Steps, state_of};

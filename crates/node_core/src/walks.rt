@@ -3,7 +3,7 @@
 ghost use Rattle.std.specs.Prelude.{◌≡◌, ◌<◌, ◌&&◌};
 ghost use Rattle.std.specs.Ordering.{int_eq};
 ghost use Rattle.std.specs.Cmp.Lexicographic.{pointwise};
-ghost use Rattle.task_core.specs.Tasks.{kind_number, runs_as};
+ghost use Rattle.mtapi_objects.specs.Tasks.{kind_number, runs_as};
 ghost use Rattle.mtapi_values.specs.Masks.{in_mask};
 ghost use Rattle.mtapi_values.specs.Seats.{is_seat};
 

@@ -5,7 +5,7 @@ ghost use Rattle.std.specs.Bool.{OnFalse};
 ghost use Rattle.handle_pool.specs.Slots.{get, NoneLive};
 ghost use Rattle.handle_pool.specs.Issued.{any};
 ghost use Rattle.job_table.specs.Answers.{Passes};
-ghost use Rattle.task_core.specs.Tasks.{runs_on};
+ghost use Rattle.mtapi_objects.specs.Tasks.{runs_on};
 ghost use Rattle.mtapi_machine.specs.Rows.{task_end};
 ghost use Rattle.mtapi_machine.specs.State.{is_stop};
 ghost use Rattle.mtapi_machine.specs.declared.ops.Op.TheVariants as op;

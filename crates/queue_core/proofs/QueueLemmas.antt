@@ -10,7 +10,7 @@ use Rattle.handle_pool.proofs.WalkLemmas.{slot_of-live}
 use Rattle.linked_places.specs.Lists.{HandleLists, list_at, has_handle, NowhereAt, with_list}
 use Rattle.linked_places.specs.Beside.{pool_beside}
 use Rattle.linked_places.proofs.BesideLemmas.{get-beside, list-beside, with_value-beside, without-beside, beside-fresh, IsFull-beside, Inserts-beside, AreBeside-new, AreBeside-insert, AreBeside-value, AreBeside-list, AreBeside-remove, NowhereAt-beside}
-use Rattle.queue_core.specs.Queues.{Queue, put_refusals}
+use Rattle.mtapi_objects.specs.Queues.{Queue, put_refusals}
 use Rattle.queue_core.specs.Held.{HeldQueue, QueueTable, held, has_id, HasId, Finds, FindsIn, put_reply, NoTaskAt, IsUnendedTask, table_of, AreQueues}
 
 -- an unended task is one of a live queue

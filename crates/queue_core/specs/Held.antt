@@ -8,7 +8,7 @@ use Rattle.mtapi_values.specs.declared.statuses.MtapiStatus.TheVariants.{ErrQueu
 use Rattle.handle_pool.specs.Slots.{Slots, get, IsFull, Inserts, SomeLive, NoneLive}
 use Rattle.linked_places.specs.Lists.{HandleLists, stands_at, has_handle, without_handle}
 use Rattle.linked_places.specs.Beside.{pool_beside, AreBeside}
-use Rattle.queue_core.specs.Queues.{Queue, opened, put_refusals}
+use Rattle.mtapi_objects.specs.Queues.{Queue, opened, put_refusals}
 use Rattle.queue_core.specs.declared.facts.QueueFacts.{QueueFacts}
 
 -- a queue, and its unended tasks in the order in which they were put

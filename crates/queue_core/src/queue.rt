@@ -1,6 +1,6 @@
 ghost use Rattle.std.specs.Prelude.{◌≡◌};
 ghost use Rattle.mtapi_values.specs.Conditions.{first};
-ghost use Rattle.queue_core.specs.Queues.{opened, put_refusals};
+ghost use Rattle.mtapi_objects.specs.Queues.{opened, put_refusals};
 ghost use Rattle.queue_core.specs.Held.{new_queue, facts_with};
 
 use crate::facts::QueueFacts;
@@ -20,7 +20,7 @@ pub struct StoredQueue {
 }
 
 impl Model for StoredQueue {
-    ghost use Rattle.queue_core.specs.Queues.{Queue};
+    ghost use Rattle.mtapi_objects.specs.Queues.{Queue};
 
     ghost Value = { Queue };
 

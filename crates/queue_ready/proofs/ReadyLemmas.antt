@@ -3,8 +3,8 @@ use Rattle.std.proofs.Common.{◌≡◌, ℕ, ◌<◌, Bool, true, false, not, c
 use Rattle.std.specs.Prelude.{◌&&◌, ◌||◌, ◌==◌, nat_lt}
 use Rattle.std.proofs.lemmas.Bool.Decides.{nat_tests}
 use Rattle.handle_pool.specs.Issued.{lookup, any_live}
-use Rattle.task_core.specs.Tasks.{Task}
-use Rattle.queue_core.specs.Queues.{is_unended_in, is_head}
+use Rattle.mtapi_objects.specs.Tasks.{Task}
+use Rattle.mtapi_objects.specs.Queues.{is_unended_in, is_head}
 use Rattle.mtapi_machine.specs.Shown.{handles_of}
 use Rattle.queue_ready.specs.Ready.{InOrder, is_first, QueueReady}
 

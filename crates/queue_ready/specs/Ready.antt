@@ -2,8 +2,8 @@
 use Rattle.std.specs.Prelude.{◌≡◌, ℕ, ◌<◌, Bool, true, not, ◌&&◌, ◌||◌, ◌==◌, List, [], ◌∷◌, Some, slice_get}
 use Rattle.mtapi_values.specs.Conditions.{holds}
 use Rattle.handle_pool.specs.Issued.{lookup}
-use Rattle.task_core.specs.Tasks.{Task}
-use Rattle.queue_core.specs.Queues.{Queue, is_unended_in, lets}
+use Rattle.mtapi_objects.specs.Tasks.{Task}
+use Rattle.mtapi_objects.specs.Queues.{Queue, is_unended_in, lets}
 use Rattle.mtapi_machine.specs.Shown.{handles_of}
 
 -- each task was started before those behind it

@@ -3,8 +3,8 @@ use Rattle.std.proofs.Common.{refl}
 use Rattle.std.specs.Fmt.{digits}
 use Rattle.action_fn.specs.Answers.{fits, answer_of}
 use Rattle.handle_pool.specs.Issued.{live_of, issue, change, listed, issued_at, retired, is_full, may_issue}
-use Rattle.job_table.specs.Actions.{has_worker}
-use Rattle.task_core.specs.Tasks.{end_each}
+use Rattle.mtapi_objects.specs.Actions.{has_worker}
+use Rattle.mtapi_objects.specs.Tasks.{end_each}
 use Rattle.mtapi_machine.specs.Rows.{is_ready, can_take, has_better}
 use Rattle.mtapi_machine.specs.Legal.{after_from}
 use Rattle.mtapi_machine.specs.Worked.{one_task}

@@ -3,7 +3,7 @@ use Rattle.std.proofs.Common.{◌≡◌, ℕ, ◌+◌, ◌≤◌, Bool, true, fa
 use Rattle.std.specs.Prelude.{◌==◌}
 use Rattle.std.proofs.lemmas.Bool.Decides.{nat_tests}
 use Rattle.handle_pool.specs.Issued.{Listed, live_of, lookup, at, issue, change, listed}
-use Rattle.task_core.specs.Tasks.{Task, TaskState, Scheduled, Running, Over}
+use Rattle.mtapi_objects.specs.Tasks.{Task, TaskState, Scheduled, Running, Over}
 use Rattle.run_report.specs.declared.standing.Standing.{Standing}
 use Rattle.run_report.specs.declared.standing.Standing.TheVariants.{Runs, Ended}
 use Rattle.mtapi_machine.specs.Ends.{end_in, end_at}

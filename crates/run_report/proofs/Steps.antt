@@ -9,9 +9,9 @@ use Rattle.mtapi_values.specs.declared.handles.TaskHandle.{TaskHandle}
 use Rattle.mtapi_values.specs.Conditions.{holds}
 use Rattle.handle_pool.specs.Issued.{Listed, live_of, at, change, update, issue, with_fields, gone, any, listed, may_issue}
 use Rattle.handle_pool.proofs.ListedLemmas.{listed-change, listed-issue}
-use Rattle.job_table.specs.Actions.{new_action}
-use Rattle.queue_core.specs.Queues.{Queue, is_shut_in}
-use Rattle.task_core.specs.Tasks.{Task, TaskState, Scheduled, Running, Over, is_unstarted, with_state, with_waiter, cancel_requested, asked_once, ended, end_each, watch_end}
+use Rattle.mtapi_objects.specs.Actions.{new_action}
+use Rattle.mtapi_objects.specs.Queues.{Queue, is_shut_in}
+use Rattle.mtapi_objects.specs.Tasks.{Task, TaskState, Scheduled, Running, Over, is_unstarted, with_state, with_waiter, cancel_requested, asked_once, ended, end_each, watch_end}
 use Rattle.mtapi_machine.specs.declared.replies.Reply.{Reply}
 use Rattle.mtapi_machine.specs.declared.replies.Reply.TheVariants.{Picked, Idle, Stop}
 use Rattle.mtapi_machine.specs.declared.ops.Op.{Op}

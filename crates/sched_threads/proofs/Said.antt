@@ -8,7 +8,7 @@ use Rattle.mtapi_machine.specs.declared.ops.Op.TheVariants as op
 use Rattle.mtapi_machine.specs.declared.replies.Reply.{Reply}
 use Rattle.mtapi_machine.specs.declared.replies.Reply.TheVariants as reply
 use Rattle.handle_pool.specs.Issued.{at}
-use Rattle.task_core.specs.Tasks.{TaskState, Scheduled, Running, Over}
+use Rattle.mtapi_objects.specs.Tasks.{TaskState, Scheduled, Running, Over}
 use Rattle.mtapi_machine.specs.State.{State}
 use Rattle.mtapi_machine.specs.Row.{Allows}
 use Rattle.mtapi_machine.specs.Rows.{row, looks_at, cancels}

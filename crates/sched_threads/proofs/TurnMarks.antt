@@ -8,7 +8,7 @@ use Rattle.mtapi_values.specs.Seats.{is_seat, is_other}
 use Rattle.mtapi_values.specs.declared.statuses.MtapiStatus.TheVariants as m
 use Rattle.mtapi_values.specs.declared.handles.TaskHandle.{TaskHandle}
 use Rattle.handle_pool.specs.Issued.{at}
-use Rattle.task_core.specs.Tasks.{Task, TaskState, Scheduled, Running, Over, with_waiter}
+use Rattle.mtapi_objects.specs.Tasks.{Task, TaskState, Scheduled, Running, Over, with_waiter}
 use Rattle.mtapi_machine.specs.declared.ops.Op.TheVariants as op
 use Rattle.mtapi_machine.specs.declared.replies.Reply.{Reply}
 use Rattle.mtapi_machine.specs.declared.replies.Reply.TheVariants.{Pending, Ended, Mtapi}

@@ -16,8 +16,8 @@ use Rattle.mtapi_machine.specs.declared.replies.Reply.{Reply}
 use Rattle.mtapi_machine.specs.declared.replies.Reply.TheVariants.{Ok, Handle, Number, Ended, Given, Pending, Picked, Idle, Stop, Asked, Mtapi, Mrapi}
 use Rattle.mtapi_machine.specs.declared.ops.Op.TheVariants as op
 use Rattle.handle_pool.specs.Issued.{at, count, any, change, with_fields}
-use Rattle.job_table.specs.Actions.{Action}
-use Rattle.task_core.specs.Tasks.{Task, TaskState, Scheduled, Running, Over, scheduled, runner, runs_on, runs_as, kind_number, is_unstarted, with_state, ended, asked_once, asked_refusals, finish_refusals, watch_end, watch_end_refusals, looks_of}
+use Rattle.mtapi_objects.specs.Actions.{Action}
+use Rattle.mtapi_objects.specs.Tasks.{Task, TaskState, Scheduled, Running, Over, scheduled, runner, runs_on, runs_as, kind_number, is_unstarted, with_state, ended, asked_once, asked_refusals, finish_refusals, watch_end, watch_end_refusals, looks_of}
 use Rattle.mtapi_values.specs.declared.handles.ActionHandle.{ActionHandle}
 use Rattle.mtapi_machine.specs.State.{State, workers, is_new, is_stop, tasks, changed}
 use Rattle.mtapi_machine.specs.Moves.{runs as runs_task, stops as stops_worker, ends as ends_task, notes}

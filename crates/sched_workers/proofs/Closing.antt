@@ -5,7 +5,7 @@ use Rattle.std.proofs.lemmas.Bool.Decides.{nat_tests}
 use Rattle.std.proofs.lemmas.Bool.{cases_Bool, ltb-true, ltb-false}
 use Rattle.history.specs.Histories.{entry, entries_of}
 use Rattle.handle_pool.specs.Issued.{any}
-use Rattle.task_core.specs.Tasks.{is_unended}
+use Rattle.mtapi_objects.specs.Tasks.{is_unended}
 use Rattle.mtapi_machine.specs.declared.ops.Op.{Op}
 use Rattle.mtapi_machine.specs.declared.ops.Op.TheVariants as op
 use Rattle.mtapi_machine.specs.declared.replies.Reply.{Reply}

@@ -10,8 +10,8 @@ use Rattle.mtapi_machine.specs.declared.replies.Reply.{Reply}
 use Rattle.mtapi_machine.specs.declared.ops.Op.{Op}
 use Rattle.mtapi_machine.specs.declared.ops.Op.TheVariants as op
 use Rattle.handle_pool.specs.Issued.{Listed, count, change, update, issue, with_fields, gone}
-use Rattle.job_table.specs.Actions.{Action, with_enabled}
-use Rattle.task_core.specs.Tasks.{Task, NewTask, Running, is_unstarted, with_state, ended, end_each}
+use Rattle.mtapi_objects.specs.Actions.{Action, with_enabled}
+use Rattle.mtapi_objects.specs.Tasks.{Task, NewTask, Running, is_unstarted, with_state, ended, end_each}
 use Rattle.mtapi_machine.specs.State.{State}
 use Rattle.mtapi_machine.specs.Moves.{phase_is, stops, makes_action, enables, withdraws, starts, runs, ends, ends_waiting, notes, noted, leaves, frees_members, lets_members_go, makes, alters, removes, after_moves}
 use Rattle.mtapi_machine.specs.Rows.{row}

@@ -9,9 +9,9 @@ use Rattle.mtapi_values.specs.declared.ends.TaskEnd.{TaskEnd}
 use Rattle.mtapi_machine.specs.declared.ops.Op.{Op}
 use Rattle.mtapi_machine.specs.declared.ops.Op.TheVariants as op
 use Rattle.handle_pool.specs.Issued.{Listed, live_of, lookup, at, change, update, retire, issue, with_fields, gone, any, any_live}
-use Rattle.job_table.specs.Actions.{is_eligible, some_below, has_worker}
-use Rattle.task_core.specs.Tasks.{Task, NewTask, TaskState, Scheduled, Running, Over, is_unended, runs_on, scheduled, runner, end_of, with_state, ended, end_each}
-use Rattle.queue_core.specs.Queues.{lets}
+use Rattle.mtapi_objects.specs.Actions.{is_eligible, some_below, has_worker}
+use Rattle.mtapi_objects.specs.Tasks.{Task, NewTask, TaskState, Scheduled, Running, Over, is_unended, runs_on, scheduled, runner, end_of, with_state, ended, end_each}
+use Rattle.mtapi_objects.specs.Queues.{lets}
 use Rattle.mtapi_machine.specs.State.{State, workers}
 use Rattle.mtapi_machine.specs.Moves.{starts, runs, ends, ends_waiting, notes, noted, leaves, withdraws, frees_members, lets_members_go, makes, alters, removes}
 use Rattle.mtapi_machine.specs.Rows.{is_ready, can_take}

@@ -10,7 +10,7 @@ use Rattle.mtapi_values.specs.declared.handles.TaskHandle.{TaskHandle}
 use Rattle.mtapi_values.specs.declared.handles.ActionHandle.{ActionHandle}
 use Rattle.action_fn.specs.Answers.{Answered, is_pure}
 use Rattle.handle_pool.specs.Issued.{any}
-use Rattle.task_core.specs.Tasks.{is_unended}
+use Rattle.mtapi_objects.specs.Tasks.{is_unended}
 use Rattle.mtapi_machine.specs.declared.ops.Op.{Op}
 use Rattle.mtapi_machine.specs.declared.ops.Op.TheVariants as op
 use Rattle.mtapi_machine.specs.declared.replies.Reply.{Reply}

@@ -12,11 +12,11 @@ use Rattle.mtapi_machine.specs.declared.replies.Reply.{Reply}
 use Rattle.mtapi_machine.specs.declared.replies.Reply.TheVariants.{Ok, Stop, Mtapi}
 use Rattle.mtapi_values.specs.declared.statuses.MtapiStatus.{MtapiStatus}
 use Rattle.mtapi_values.specs.declared.statuses.MtapiStatus.TheVariants.{ErrNodeInitialized}
-use Rattle.queue_core.specs.Queues.{is_shut_in}
+use Rattle.mtapi_objects.specs.Queues.{is_shut_in}
 use Rattle.mtapi_machine.specs.declared.ops.Op.{Op}
 use Rattle.mtapi_machine.specs.declared.ops.Op.TheVariants as op
 use Rattle.handle_pool.specs.Issued.{Listed, live_of, at, any, any_live}
-use Rattle.task_core.specs.Tasks.{Task, TaskState, Scheduled, Running, Over, is_unended, is_unstarted, end_of, end_each}
+use Rattle.mtapi_objects.specs.Tasks.{Task, TaskState, Scheduled, Running, Over, is_unended, is_unstarted, end_of, end_each}
 use Rattle.mtapi_machine.specs.State.{State, workers, opening, is_new, is_open, is_up, is_late, is_stop, tasks}
 use Rattle.mtapi_machine.specs.Row.{Row, unless, says, gives, Allows, live}
 use Rattle.mtapi_machine.specs.Rows.{row, can_take, looks_at}

@@ -12,8 +12,8 @@ use Rattle.mtapi_machine.specs.declared.replies.Reply.{Reply}
 use Rattle.mtapi_machine.specs.declared.replies.Reply.TheVariants.{Ok, Handle, Number, Ended, Given, Pending, Picked, Idle, Stop, Asked, Mtapi, Mrapi}
 use Rattle.mtapi_machine.specs.declared.ops.Op.TheVariants as op
 use Rattle.handle_pool.specs.Issued.{Listed, live_of, lookup, at, count, change, update, with_fields, any, any_live}
-use Rattle.job_table.specs.Actions.{Action}
-use Rattle.task_core.specs.Tasks.{Task, Running, is_unstarted, is_unended, runs_on, runner, with_state}
+use Rattle.mtapi_objects.specs.Actions.{Action}
+use Rattle.mtapi_objects.specs.Tasks.{Task, Running, is_unstarted, is_unended, runs_on, runner, with_state}
 use Rattle.mtapi_machine.specs.State.{State, workers, is_new, is_late, is_stop, tasks, changed}
 use Rattle.mtapi_machine.specs.Moves.{Move, runs as runs_task, stops as stops_worker}
 use Rattle.mtapi_machine.specs.Row.{Row, unless, says, gives, never, only, live, Allows, after_row}

@@ -5,7 +5,7 @@ use Rattle.mtapi_machine.specs.declared.replies.Reply.{Reply}
 use Rattle.mtapi_machine.specs.declared.replies.Reply.TheVariants.{Ok, Handle, Mtapi}
 use Rattle.mtapi_machine.specs.declared.ops.Op.{Op}
 use Rattle.mtapi_machine.specs.declared.ops.Op.TheVariants as op
-use Rattle.task_core.specs.Tasks.{Task, TaskState, Scheduled, Running, Over}
+use Rattle.mtapi_objects.specs.Tasks.{Task, TaskState, Scheduled, Running, Over}
 use Rattle.handle_pool.specs.Issued.{at}
 use Rattle.mtapi_machine.specs.State.{State}
 use Rattle.mtapi_machine.specs.Moves.{Move}

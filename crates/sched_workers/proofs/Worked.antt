@@ -13,7 +13,7 @@ use Rattle.mtapi_machine.specs.declared.replies.Reply.TheVariants.{Ok, Picked}
 use Rattle.mtapi_machine.specs.declared.ops.Op.TheVariants as op
 use Rattle.handle_pool.specs.Issued.{Listed, at, change, update, with_fields}
 use Rattle.handle_pool.proofs.ListedLemmas.{at-update}
-use Rattle.task_core.specs.Tasks.{Task, Running, runs_as, kind_number, with_state, ended, finish_refusals}
+use Rattle.mtapi_objects.specs.Tasks.{Task, Running, runs_as, kind_number, with_state, ended, finish_refusals}
 use Rattle.mtapi_machine.specs.State.{State, workers, tasks, changed, end_task}
 use Rattle.mtapi_machine.specs.Row.{Row, says, gives, Allows, after_row, live, mtapi_unless}
 use Rattle.mtapi_machine.specs.Moves.{ends}

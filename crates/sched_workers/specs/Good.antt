@@ -3,8 +3,8 @@ use Rattle.std.specs.Prelude.{◌≡◌, ℕ, ◌<◌, Bool, true, false, List, 
 use Rattle.mtapi_values.specs.Seats.{all_marked}
 use Rattle.action_fn.specs.Answers.{is_pure}
 use Rattle.handle_pool.specs.Issued.{Listed, live_of, any, count}
-use Rattle.job_table.specs.Actions.{Action, has_worker}
-use Rattle.task_core.specs.Tasks.{Task, TaskState, Scheduled, Running, Over, is_unstarted, is_unended, runner}
+use Rattle.mtapi_objects.specs.Actions.{Action, has_worker}
+use Rattle.mtapi_objects.specs.Tasks.{Task, TaskState, Scheduled, Running, Over, is_unstarted, is_unended, runner}
 use Rattle.mtapi_machine.specs.declared.terms.Phase.TheVariants.{Open, Closing}
 use Rattle.mtapi_machine.specs.declared.ops.Op.{Op}
 use Rattle.mtapi_machine.specs.declared.ops.Op.TheVariants as op

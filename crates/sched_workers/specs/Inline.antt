@@ -11,7 +11,7 @@ use Rattle.mtapi_values.specs.declared.kinds.Kind.{Kind}
 use Rattle.mtapi_values.specs.declared.lists.Args.{Args}
 use Rattle.mtapi_values.specs.declared.handles.TaskHandle.{TaskHandle}
 use Rattle.handle_pool.specs.Issued.{any}
-use Rattle.task_core.specs.Tasks.{is_unended}
+use Rattle.mtapi_objects.specs.Tasks.{is_unended}
 use Rattle.mtapi_machine.specs.declared.ops.Op.{Op}
 use Rattle.mtapi_machine.specs.declared.ops.Op.TheVariants as op
 use Rattle.mtapi_machine.specs.declared.replies.Reply.{Reply}

@@ -16,9 +16,9 @@ use Rattle.linked_places.specs.Lists.{HandleLists, list_at, has_handle, without_
 use Rattle.linked_places.proofs.HandleLemmas.{list_at-set_same}
 use Rattle.ready_index.specs.declared.marks.Mark.{Mark}
 use Rattle.ready_index.specs.Marks.{ReadyMarks}
-use Rattle.job_table.specs.Actions.{Action}
+use Rattle.mtapi_objects.specs.Actions.{Action}
 use Rattle.job_table.specs.Answers.{job_of}
-use Rattle.task_core.specs.Tasks.{Task, NewTask, new_task, TaskState, Scheduled, Running, Over, is_unstarted, with_state}
+use Rattle.mtapi_objects.specs.Tasks.{Task, NewTask, new_task, TaskState, Scheduled, Running, Over, is_unstarted, with_state}
 use Rattle.task_core.specs.Records.{shown_state}
 use Rattle.task_core.specs.declared.states.TaskState.TheVariants as shown
 use Rattle.task_core.specs.Table.{TaskTable, ended_in}

@@ -10,10 +10,10 @@ use Rattle.handle_pool.specs.Slots.{Slots, slot_of, get, used_at, SomeLive, None
 use Rattle.handle_pool.proofs.WalkLemmas.{used_at-live}
 use Rattle.ready_index.specs.declared.marks.Mark.{Mark}
 use Rattle.ready_index.specs.Marks.{mark_at, is_for, is_for_at, HasNoneFor, IsFirst}
-use Rattle.job_table.specs.Actions.{Action}
+use Rattle.mtapi_objects.specs.Actions.{Action}
 use Rattle.job_table.specs.Answers.{Passes, runs_job_on, Covers, Chooses}
 use Rattle.job_table.specs.declared.cover.Cover.TheVariants.{NoAction, AllDisabled, Cores}
-use Rattle.task_core.specs.Tasks.{Task, is_unstarted}
+use Rattle.mtapi_objects.specs.Tasks.{Task, is_unstarted}
 use Rattle.task_board.specs.declared.board.Choice.{Choice}
 use Rattle.task_board.specs.Picks.{Takeable, Beats, IsBest}
 use Rattle.task_board.specs.Seen.{seen, seen_in}

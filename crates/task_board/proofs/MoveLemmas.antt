@@ -16,8 +16,8 @@ use Rattle.linked_places.proofs.HandleLemmas.{stands-has}
 use Rattle.linked_places.proofs.NextLemmas.{index-has}
 use Rattle.ready_index.specs.declared.marks.Mark.{Mark}
 use Rattle.ready_index.specs.Marks.{mark_at, is_for_at}
-use Rattle.job_table.specs.Actions.{Action}
-use Rattle.task_core.specs.Tasks.{Task, TaskState, Scheduled, Running, Over, is_unended, with_state, cancel_requested, with_waiter, task_look_refusals, asked_refusals, asked_once}
+use Rattle.mtapi_objects.specs.Actions.{Action}
+use Rattle.mtapi_objects.specs.Tasks.{Task, TaskState, Scheduled, Running, Over, is_unended, with_state, cancel_requested, with_waiter, task_look_refusals, asked_refusals, asked_once}
 use Rattle.task_core.specs.Answers.{after_asked, waiter_after}
 use Rattle.task_core.specs.Table.{TaskTable, ended_in, looked_in}
 use Rattle.task_board.specs.Seen.{Seen, seen_as, seen, seen_in}

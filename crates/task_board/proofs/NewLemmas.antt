@@ -11,7 +11,7 @@ use Rattle.handle_pool.proofs.StandsLemmas.{get-fresh}
 use Rattle.linked_places.specs.Lists.{list_at, has_handle}
 use Rattle.ready_index.specs.declared.marks.Mark.{Mark}
 use Rattle.ready_index.specs.Marks.{ReadyMarks, mark_at, is_for_at}
-use Rattle.task_core.specs.Tasks.{Task}
+use Rattle.mtapi_objects.specs.Tasks.{Task}
 use Rattle.task_board.specs.Seen.{seen, seen_in}
 use Rattle.task_board.specs.Board.{BoardTable, IsBoard, InOrder, running_on}
 

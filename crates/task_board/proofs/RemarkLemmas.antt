@@ -12,9 +12,9 @@ use Rattle.std.specs.Option.{option_map}
 use Rattle.linked_places.proofs.NextLemmas.{has-index, index-has}
 use Rattle.ready_index.specs.declared.marks.Mark.{Mark}
 use Rattle.ready_index.specs.Marks.{ReadyMarks, mark_at, is_for_at}
-use Rattle.job_table.specs.Actions.{Action, has_enabled_job, new_action, with_enabled}
+use Rattle.mtapi_objects.specs.Actions.{Action, has_enabled_job, new_action, with_enabled}
 use Rattle.job_table.specs.Answers.{runs_job_on}
-use Rattle.task_core.specs.Tasks.{Task}
+use Rattle.mtapi_objects.specs.Tasks.{Task}
 use Rattle.task_board.specs.Seen.{Seen, seen_in, Takes}
 use Rattle.task_board.specs.Board.{IsMarkOf, Marked, AreWaiting, IsFresh, IsFreshFor, StandsBefore, Remarked}
 use Rattle.task_board.proofs.SeenLemmas.{some_same, seen-live}

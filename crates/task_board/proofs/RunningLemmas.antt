@@ -7,7 +7,7 @@ use Rattle.std.proofs.lemmas.Bool.Decides.{nat_tests}
 use Rattle.mtapi_values.specs.declared.handles.TaskHandle.{TaskHandle}
 use Rattle.handle_pool.specs.Slots.{get, SomeLive, NoneLive}
 use Rattle.job_table.specs.Answers.{Passes}
-use Rattle.task_core.specs.Tasks.{Task, TaskState, Scheduled, Running, Over, runs_on, with_state}
+use Rattle.mtapi_objects.specs.Tasks.{Task, TaskState, Scheduled, Running, Over, runs_on, with_state}
 use Rattle.task_board.specs.Seen.{Seen, seen_as, seen}
 use Rattle.task_board.specs.Board.{BoardTable, IsBoard, running_on}
 use Rattle.task_board.proofs.SeenLemmas.{seen-as, seen-live}

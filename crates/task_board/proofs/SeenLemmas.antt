@@ -7,9 +7,9 @@ use Rattle.std.specs.Prelude.{◌==◌, ◌<◌, IfSome}
 use Rattle.ready_index.specs.declared.marks.Mark.{Mark}
 use Rattle.task_board.specs.Board.{AreRanked}
 use Rattle.handle_pool.specs.Slots.{Slots, get}
-use Rattle.job_table.specs.Actions.{Action}
+use Rattle.mtapi_objects.specs.Actions.{Action}
 use Rattle.job_table.specs.Answers.{runs_job_on}
-use Rattle.task_core.specs.Tasks.{Task, TaskState, Scheduled, Running, Over, scheduled, runner, is_unstarted}
+use Rattle.mtapi_objects.specs.Tasks.{Task, TaskState, Scheduled, Running, Over, scheduled, runner, is_unstarted}
 use Rattle.task_board.specs.Picks.{Takeable}
 use Rattle.task_board.specs.Seen.{Seen, seen_as, seen, seen_in, Takes}
 

@@ -6,7 +6,7 @@ use Rattle.handle_pool.specs.Slots.{Slots, slot_of, max_of}
 use Rattle.linked_places.specs.Lists.{HandleLists, list_at, has_handle}
 use Rattle.ready_index.specs.declared.marks.Mark.{Mark}
 use Rattle.ready_index.specs.Marks.{ReadyMarks, mark_at, is_for_at}
-use Rattle.job_table.specs.Actions.{Action}
+use Rattle.mtapi_objects.specs.Actions.{Action}
 use Rattle.task_core.specs.Table.{TaskTable}
 use Rattle.task_board.specs.Seen.{Seen, seen_in, Takes}
 

@@ -2,9 +2,9 @@
 use Rattle.std.specs.Prelude.{◌≡◌, ℕ, ◌<◌, true, Option, Some, None}
 use Rattle.mtapi_values.specs.Masks.{in_mask}
 use Rattle.handle_pool.specs.Slots.{Slots, get, SomeLive, NoneLive}
-use Rattle.job_table.specs.Actions.{Action}
+use Rattle.mtapi_objects.specs.Actions.{Action}
 use Rattle.job_table.specs.Answers.{runs_job_on}
-use Rattle.task_core.specs.Tasks.{Task, is_unstarted}
+use Rattle.mtapi_objects.specs.Tasks.{Task, is_unstarted}
 use Rattle.task_board.specs.declared.board.Choice.{Choice}
 
 -- the task is scheduled, in no queue, and may run on the worker by this action

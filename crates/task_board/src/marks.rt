@@ -2,10 +2,10 @@
 
 ghost use Rattle.std.specs.Prelude.{◌≡◌, ◌<◌, ◌↔◌, ℕ, Some, None, IfSome, length, slice_set, true, is_none, ◌&&◌, bit_and};
 ghost use Rattle.handle_pool.specs.Slots.{Slots, slot_of, max_of};
-ghost use Rattle.job_table.specs.Actions.{Action};
+ghost use Rattle.mtapi_objects.specs.Actions.{Action};
 ghost use Rattle.job_table.specs.Answers.{Covers};
 ghost use Rattle.linked_places.specs.Lists.{list_at};
-ghost use Rattle.task_core.specs.Tasks.{is_unstarted};
+ghost use Rattle.mtapi_objects.specs.Tasks.{is_unstarted};
 ghost use Rattle.task_board.specs.Seen.{seen, seen_in};
 ghost use Rattle.task_board.specs.Board.{IsMarkOf, AreRanked, AreWaiting, IsFresh, IsFreshFor, Remarked};
 

@@ -7,7 +7,7 @@ use Rattle.std.proofs.lemmas.Option.{slice_get_within, get_or_from_slice_get}
 use Rattle.mtapi_values.specs.declared.ends.TaskEnd.{TaskEnd}
 use Rattle.handle_pool.specs.Slots.{Slot, Slots, changed, slot_of, generation_of, used_slot, free_slot, slot_after, get, Inserts, with_value, without}
 use Rattle.handle_pool.proofs.StandsLemmas.{used_at_live}
-use Rattle.task_core.specs.Tasks.{Task, TaskState, Scheduled, Running, Over, scheduled, is_unstarted, is_unended, with_state, asked_refusals, asked_once}
+use Rattle.mtapi_objects.specs.Tasks.{Task, TaskState, Scheduled, Running, Over, scheduled, is_unstarted, is_unended, with_state, asked_refusals, asked_once}
 use Rattle.mtapi_values.specs.Conditions.{first}
 use Rattle.task_core.specs.Answers.{without_group, after_asked}
 use Rattle.task_core.specs.Table.{IsLiveAnd, ended_in, detached_in, holds_unended, unended_count, AreCounted}

@@ -5,7 +5,7 @@ use Rattle.mtapi_values.specs.declared.statuses.MtapiStatus.TheVariants.{Timeout
 use Rattle.mtapi_values.specs.declared.ends.TaskEnd.{TaskEnd}
 use Rattle.mtapi_values.specs.declared.ends.TaskEnd.TheVariants.{Failed}
 use Rattle.mtapi_values.specs.Conditions.{first}
-use Rattle.task_core.specs.Tasks.{Task, end_of, task_look_refusals, asked_refusals, asked_once, watch_end_refusals, watch_end}
+use Rattle.mtapi_objects.specs.Tasks.{Task, end_of, task_look_refusals, asked_refusals, asked_once, watch_end_refusals, watch_end}
 use Rattle.task_core.specs.declared.states.TaskLook.{TaskLook}
 use Rattle.task_core.specs.declared.states.TaskLook.TheVariants.{Ended, Pending, Refused}
 

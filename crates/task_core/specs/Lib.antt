@@ -1,4 +1,3 @@
-pub mod Tasks
 pub mod Records
 pub mod Answers
 pub mod Table

@@ -4,7 +4,7 @@ use Rattle.std.specs.Option.{option_map}
 use Rattle.mtapi_values.specs.declared.ends.TaskEnd.{TaskEnd}
 use Rattle.mtapi_values.specs.declared.handles.GroupHandle.{GroupHandle}
 use Rattle.mtapi_values.specs.declared.handles.QueueHandle.{QueueHandle}
-use Rattle.task_core.specs.Tasks.{TaskState, Scheduled, Running, Over, NewTask, looks_of}
+use Rattle.mtapi_objects.specs.Tasks.{TaskState, Scheduled, Running, Over, NewTask, looks_of}
 use Rattle.task_core.specs.declared.record.Progress.{Progress}
 use Rattle.task_core.specs.declared.record.Progress.TheVariants.{Waiting, Begun, Done}
 use Rattle.task_core.specs.declared.states.TaskState.{TaskState as ShownState}

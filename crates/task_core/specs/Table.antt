@@ -6,7 +6,7 @@ use Rattle.mtapi_values.specs.declared.handles.TaskHandle.{TaskHandle}
 use Rattle.mtapi_values.specs.declared.ends.TaskEnd.{TaskEnd}
 use Rattle.mtapi_values.specs.Conditions.{first}
 use Rattle.handle_pool.specs.Slots.{Slot, Slots, IsFull, Inserts, with_value, without, value_passes}
-use Rattle.task_core.specs.Tasks.{Task, Over, NewTask, new_task, is_unended, with_state, with_waiter, task_look_refusals}
+use Rattle.mtapi_objects.specs.Tasks.{Task, Over, NewTask, new_task, is_unended, with_state, with_waiter, task_look_refusals}
 use Rattle.task_core.specs.Answers.{without_group, waiter_after}
 
 -- the slots of the tasks, how many tasks were added, and how many have ended

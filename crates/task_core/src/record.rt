@@ -3,7 +3,7 @@
 ghost use Rattle.std.specs.Prelude.{◌≡◌, false, Some};
 ghost use Rattle.std.specs.Option.{option_copied};
 ghost use Rattle.mtapi_values.specs.Conditions.{first};
-ghost use Rattle.task_core.specs.Tasks.{new_task, end_of, is_unended, with_state, Running, Over, cancel_requested, with_waiter, task_look_refusals, runs_as, looks_of};
+ghost use Rattle.mtapi_objects.specs.Tasks.{new_task, end_of, is_unended, with_state, Running, Over, cancel_requested, with_waiter, task_look_refusals, runs_as, looks_of};
 ghost use Rattle.task_core.specs.Answers.{without_group, unended_look, waiter_after, asked_reply, after_asked, watch_end_reply, args_fault};
 ghost use Rattle.task_core.specs.Records.{asked_task, group_number, queue_number, shown_state, end_in, number_in};
 
@@ -43,7 +43,7 @@ pub struct TaskRecord {
 }
 
 impl Model for TaskRecord {
-    ghost use Rattle.task_core.specs.Tasks.{Task};
+    ghost use Rattle.mtapi_objects.specs.Tasks.{Task};
 
     ghost Value = { Task };
 

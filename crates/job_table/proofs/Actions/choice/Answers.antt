@@ -2,7 +2,7 @@ use Rattle.std.proofs.Common.{◌≡◌, ◌%◌, ℕ, length, sym, subst, ◌�
 use Rattle.handle_pool.specs.Slots.{Slots, get, NoneLive}
 use Rattle.linked_places.specs.Lists.{list_at}
 use Rattle.linked_places.proofs.NextLemmas.{index-has}
-use Rattle.job_table.specs.Actions.{Action}
+use Rattle.mtapi_objects.specs.Actions.{Action}
 use Rattle.job_table.specs.Answers.{Passes, runs_job_on}
 use Rattle.job_table.specs.Cover.{NoneBefore}
 use Rattle.job_table.proofs.CoverLemmas.{NoneBefore-zero, NoneBefore-one, none-of, runs-job}

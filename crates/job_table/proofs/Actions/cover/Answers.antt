@@ -2,7 +2,7 @@ use Rattle.std.proofs.Common.{◌≡◌, ◌%◌, ℕ, length, sym, subst, ◌�
 use Rattle.handle_pool.specs.Slots.{Slots}
 use Rattle.linked_places.specs.Lists.{list_at}
 use Rattle.linked_places.proofs.NextLemmas.{index-has}
-use Rattle.job_table.specs.Actions.{Action}
+use Rattle.mtapi_objects.specs.Actions.{Action}
 use Rattle.job_table.specs.Answers.{Covers}
 use Rattle.job_table.specs.Cover.{CoversBefore}
 use Rattle.job_table.proofs.CoverLemmas.{CoversBefore-zero, Covers-all}

@@ -1,7 +1,7 @@
 use Rattle.std.proofs.Common.{◌≡◌, false}
 use Rattle.std.specs.Prelude.{◌&&◌}
 use Rattle.mtapi_values.specs.Masks.{in_mask}
-use Rattle.job_table.specs.Actions.{some_below}
+use Rattle.mtapi_objects.specs.Actions.{some_below}
 use Rattle.node_core.proofs.task_ops.share_core.Given as goal
 
 abbrev pub invariant-loop-core : goal.invariant-loop-core

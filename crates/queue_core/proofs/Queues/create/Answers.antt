@@ -1,6 +1,6 @@
 use Rattle.std.proofs.Common.{◌≡◌, refl, sym, ap, subst, ◌∙◌}
 use Rattle.handle_pool.specs.Slots.{Slots}
-use Rattle.queue_core.specs.Queues.{Queue}
+use Rattle.mtapi_objects.specs.Queues.{Queue}
 use Rattle.queue_core.specs.Held.{QueueTable, table_of}
 use Rattle.std.proofs.lemmas.Bool.{false≢true}
 use Rattle.queue_core.proofs.QueueLemmas.{not_found, full_held, room_held, AreQueues-create, Inserts-held}

@@ -1,7 +1,7 @@
 use Rattle.std.proofs.Common.{◌≡◌, ◌++◌, ◌∷◌, [], length, None, Some, refl, sym, ◌∙◌}
 use Rattle.handle_pool.specs.Slots.{slot_of, get}
 use Rattle.linked_places.specs.Lists.{list_at, with_list}
-use Rattle.queue_core.specs.Queues.{put_refusals}
+use Rattle.mtapi_objects.specs.Queues.{put_refusals}
 use Rattle.queue_core.specs.Held.{held, with_task}
 use Rattle.mtapi_values.specs.Conditions.{first}
 use Rattle.queue_core.proofs.QueueLemmas.{get-live, get-dead, within, view_changed, list-changed, nowhere, put_refused, put_full, put_ok}

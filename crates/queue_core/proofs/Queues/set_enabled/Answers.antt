@@ -1,6 +1,6 @@
 use Rattle.std.proofs.Common.{refl, sym}
 use Rattle.handle_pool.specs.Slots.{with_value}
-use Rattle.queue_core.specs.Queues.{opened}
+use Rattle.mtapi_objects.specs.Queues.{opened}
 use Rattle.queue_core.specs.Held.{with_opened}
 use Rattle.queue_core.proofs.QueueLemmas.{get-live, get-dead, dead_unchanged, view_changed, value-changed, AreQueues-value}
 use Rattle.queue_core.proofs.Queues.set_enabled.Goals as goal

@@ -1,6 +1,6 @@
 use Rattle.std.proofs.Common.{ap, ◌∙◌}
 use Rattle.handle_pool.specs.Slots.{get}
-use Rattle.task_core.specs.Tasks.{is_unended}
+use Rattle.mtapi_objects.specs.Tasks.{is_unended}
 use Rattle.task_core.specs.Table.{TaskTable}
 use Rattle.task_core.proofs.CountLemmas.{AreCounted-end, live-passes}
 use Rattle.task_core.proofs.Tasks.end_with.Goals as goal

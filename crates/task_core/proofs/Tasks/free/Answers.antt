@@ -1,6 +1,6 @@
 use Rattle.std.proofs.Common.{not, Some, sym, ap, ◌∙◌}
 use Rattle.handle_pool.specs.Slots.{get}
-use Rattle.task_core.specs.Tasks.{is_unended}
+use Rattle.mtapi_objects.specs.Tasks.{is_unended}
 use Rattle.task_core.specs.Table.{TaskTable, IsLiveAnd}
 use Rattle.task_core.proofs.CountLemmas.{AreCounted-give_up, is_ended}
 use Rattle.task_core.proofs.Tasks.free.Goals as goal

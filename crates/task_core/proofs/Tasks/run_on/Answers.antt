@@ -1,6 +1,6 @@
 use Rattle.std.proofs.Common.{◌≡◌, Some, sym, ap, ◌∙◌}
 use Rattle.handle_pool.specs.Slots.{get}
-use Rattle.task_core.specs.Tasks.{is_unstarted}
+use Rattle.mtapi_objects.specs.Tasks.{is_unstarted}
 use Rattle.task_core.specs.Table.{TaskTable, IsLiveAnd}
 use Rattle.task_core.proofs.CountLemmas.{AreCounted-write, unended-unstarted}
 use Rattle.task_core.proofs.Tasks.run_on.Goals as goal

@@ -1,7 +1,7 @@
 use Rattle.std.proofs.Common.{sym, subst, ◌∙◌, ap}
 use Rattle.std.specs.Prelude.{◌&&◌, ℕ}
 use Rattle.mtapi_values.specs.Masks.{in_mask}
-use Rattle.job_table.specs.Actions.{some_below}
+use Rattle.mtapi_objects.specs.Actions.{some_below}
 use Rattle.job_table.specs.Answers.{Covers}
 use Rattle.job_table.specs.declared.cover.Cover.{Cover}
 use Rattle.job_table.specs.declared.cover.Cover.TheVariants.{AllDisabled, Cores}

@@ -1,6 +1,6 @@
 use Rattle.std.proofs.Common.{true, sym, subst, ◌∙◌}
 use Rattle.handle_pool.specs.Slots.{Slots}
-use Rattle.job_table.specs.Actions.{Action, with_enabled}
+use Rattle.mtapi_objects.specs.Actions.{Action, with_enabled}
 use Rattle.task_board.specs.Board.{BoardTable, IsBoard}
 use Rattle.task_board.proofs.RemarkLemmas.{SameBut, same-changed}
 use Rattle.task_board.proofs.BoardLemmas.{remark-board, job-found, unchanged}

@@ -1,6 +1,6 @@
 use Rattle.std.proofs.Common.{◌≡◌, ℕ, Option, Some, None, sym, ap, subst, ◌∙◌}
 use Rattle.std.specs.Prelude.{slice_set}
-use Rattle.task_core.specs.Tasks.{Task, scheduled, TaskState}
+use Rattle.mtapi_objects.specs.Tasks.{Task, scheduled, TaskState}
 use Rattle.task_core.specs.Table.{TaskTable, ended_in}
 use Rattle.task_board.specs.Board.{BoardTable}
 use Rattle.task_board.proofs.BoardLemmas.{waits-in, shown-scheduled, shown-running, seat-below, end-waiting, end-running}

@@ -2,7 +2,7 @@ use Rattle.std.proofs.Common.{refl, sym, subst, ◌∙◌}
 use Rattle.std.specs.Bool.{OnTrue, OnFalse}
 use Rattle.handle_pool.specs.Slots.{get, SomeLive, NoneLive}
 use Rattle.job_table.specs.Answers.{Passes}
-use Rattle.task_core.specs.Tasks.{runs_on}
+use Rattle.mtapi_objects.specs.Tasks.{runs_on}
 use Rattle.task_board.specs.Board.{BoardTable, running_on}
 use Rattle.task_board.proofs.RunningLemmas.{running-tells, running-denies, on-true, on-false}
 use Rattle.task_board.proofs.board.Board.is_running.Goals as goal

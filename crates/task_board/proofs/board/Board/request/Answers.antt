@@ -1,6 +1,6 @@
 use Rattle.std.proofs.Common.{ap, ◌∙◌}
 use Rattle.handle_pool.specs.Slots.{max_of}
-use Rattle.task_core.specs.Tasks.{cancel_requested}
+use Rattle.mtapi_objects.specs.Tasks.{cancel_requested}
 use Rattle.task_core.specs.Table.{TaskTable}
 use Rattle.task_board.specs.Seen.{seen_in}
 use Rattle.task_board.proofs.MoveLemmas.{quiet, seen-changed, seen-requested, max-changed}

@@ -7,7 +7,7 @@ use Rattle.task_board.proofs.BoardLemmas.{waits-in, take-board}
 use Rattle.task_board.proofs.RunningLemmas.{not-running}
 use Rattle.handle_pool.specs.Slots.{get, NoneLive}
 use Rattle.job_table.specs.Answers.{Passes}
-use Rattle.task_core.specs.Tasks.{runs_on}
+use Rattle.mtapi_objects.specs.Tasks.{runs_on}
 use Rattle.task_board.proofs.board.Board.take.Goals as goal
 
 pub remove-requires : goal.remove-requires

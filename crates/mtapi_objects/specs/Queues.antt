@@ -4,7 +4,7 @@ use Rattle.mtapi_values.specs.declared.statuses.MtapiStatus.{MtapiStatus}
 use Rattle.mtapi_values.specs.declared.statuses.MtapiStatus.TheVariants.{ErrQueueDisabled}
 use Rattle.mtapi_values.specs.Conditions.{holds}
 use Rattle.handle_pool.specs.Issued.{Listed, any_live, at}
-use Rattle.task_core.specs.Tasks.{Task, is_unstarted, is_unended}
+use Rattle.mtapi_objects.specs.Tasks.{Task, is_unstarted, is_unended}
 
 -- its id, the job and the priority of its tasks, how many unended tasks it holds at most, whether they run one
 -- after another, whether it takes and keeps tasks while it is disabled, and whether it is enabled

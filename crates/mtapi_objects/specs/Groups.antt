@@ -7,7 +7,7 @@ use Rattle.mtapi_values.specs.declared.ends.TaskEnd.{TaskEnd}
 use Rattle.mtapi_values.specs.declared.ends.TaskEnd.TheVariants.{Completed, Cancelled, Failed}
 use Rattle.mtapi_values.specs.Conditions.{holds}
 use Rattle.handle_pool.specs.Issued.{Listed}
-use Rattle.task_core.specs.Tasks.{Task, end_of, is_unended}
+use Rattle.mtapi_objects.specs.Tasks.{Task, end_of, is_unended}
 
 -- a group has no fields
 pub record Group : Type 0 where
