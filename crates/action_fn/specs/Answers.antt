@@ -1,7 +1,7 @@
 -- What each pure kind of action answers.
 use Rattle.std.specs.Prelude.{◌≡◌, ℕ, zero, suc, ◌+◌, ◌*◌, ◌/◌, ◌%◌, Bool, true, false, ◌&&◌, ◌==◌, nat_le, List, [], ◌∷◌, Option, Some, None, ℤ, pos, negsuc, ◌+ℤ◌, ◌*ℤ◌, nat_abs, int_le, int_div, if◌then◌else◌}
 use Rattle.mtapi_values.specs.declared.kinds.Kind.{Kind}
-use Rattle.mtapi_values.specs.declared.kinds.Kind.TheVariants.{Add, Mul, Max, Div, Gcd, Echo, Triangle, Fail, Watch}
+use Rattle.mtapi_values.specs.declared.kinds.Kind.TheVariants.{Add, Mul, Max, Div, Gcd, Echo, Triangle, Fail, Watch, Tally}
 use Rattle.mtapi_values.specs.declared.statuses.MtapiStatus.TheVariants.{ErrActionFailed, ErrArgSize}
 use Rattle.action_fn.specs.declared.finished.ActEnd.{ActEnd}
 use Rattle.action_fn.specs.declared.finished.ActEnd.TheVariants.{Done, Fails}
@@ -63,10 +63,18 @@ of_one f _ = Fails ErrArgSize
 
 -- the kind's arguments alone settle its answer
 abbrev pub is_pure : Kind → Bool
+is_pure Add = true
+is_pure Mul = true
+is_pure Max = true
+is_pure Div = true
+is_pure Gcd = true
+is_pure Echo = true
+is_pure Triangle = true
+is_pure Fail = true
 is_pure Watch = false
-is_pure _ = true
+is_pure Tally = false
 
--- what each pure kind answers; Watch isn't pure, and what stands there means nothing
+-- what each pure kind answers; Watch and Tally aren't pure, and what stands there means nothing
 unfoldable pub answer_of : Kind → List ℤ → ActEnd
 answer_of Add args = number_end (fold_fitting ◌+ℤ◌ (pos 0) args)
 answer_of Mul args = number_end (fold_fitting ◌*ℤ◌ (pos 1) args)
@@ -77,6 +85,7 @@ answer_of Echo args = Done args
 answer_of Triangle args = of_one triangle args
 answer_of Fail args = Fails ErrActionFailed
 answer_of Watch args = Fails ErrActionFailed
+answer_of Tally args = Fails ErrActionFailed
 
 -- what a `Finished` is seen as
 pub record Answered : Type 0 where

@@ -87,7 +87,7 @@ impl ActionSet for FnTable {
             Kind::Gcd => self.gcd.call(args),
             Kind::Echo => self.echo.call(args),
             Kind::Triangle => self.triangle.call(args),
-            Kind::Fail | Kind::Watch => self.fail.call(args),
+            Kind::Fail | Kind::Watch | Kind::Tally => self.fail.call(args),
         }
     }
 }

@@ -42,6 +42,11 @@ module _ {T : Type 0} where
   first_live p [] = None
   first_live p (e ∷ es) = if p e.1 then Some e.0 else first_live p es
 
+  -- the handles of these objects that pass, in their order
+  abbrev pub handles_of : (T → Bool) → List (ℕ × T) → List ℕ
+  handles_of p [] = []
+  handles_of p (e ∷ es) = if p e.1 then e.0 ∷ handles_of p es else handles_of p es
+
   -- the live objects that pass are so many
   abbrev pub count : (T → Bool) → List (Listed T) → ℕ
   count p l = how_many (λ r. r.live && p r.fields) l

@@ -21,41 +21,7 @@ use Rattle.mtapi_machine.specs.Legal.{NodeEntry, IsNext, next, LegalFrom, after_
 use Rattle.mtapi_machine.specs.Kept.{pends_alike, drops, is_dropped, kept}
 use Rattle.mtapi_machine.specs.Laws.{DropsRightly}
 use Rattle.mtapi_machine.proofs.Refusals.{entry_stays, idle_stays}
-use Rattle.mtapi_machine.proofs.Made.{some_same}
-
-module _ {T : Type 0} where
-  -- a change that changes nothing
-  pub update-same : (h : ℕ) (f : T → T) (v : T) (l : List (Listed T)) → at l h ≡ Some v → f v ≡ v → update h f l ≡ l
-  unfolding live_of change
-  update-same h f v [] e s = refl
-  update-same h f v (r ∷ rs) e s = by_live (λ k. update-same h f v rs k s) r.live refl e
-    where
-      by_handle : (at rs h ≡ Some v → update h f rs ≡ rs) → (b : Bool) → cond b (Some r.fields) (at rs h) ≡ Some v → cond b (with_fields f r ∷ rs) (r ∷ update h f rs) ≡ r ∷ rs
-      by_handle rest true k = ap (λ (x : T). record { handle = r.handle; live = r.live; fields = x } ∷ rs) (ap f (some_same k) ∙ s ∙ sym (some_same k))
-      by_handle rest false k = ap (λ (x : List (Listed T)). r ∷ x) (rest k)
-
-      by_live : (at rs h ≡ Some v → update h f rs ≡ rs) → (a : Bool) → r.live ≡ a → lookup (cond a ((r.handle, r.fields) ∷ live_of rs) (live_of rs)) h ≡ Some v → cond (r.live && (r.handle == h)) (with_fields f r ∷ rs) (r ∷ update h f rs) ≡ r ∷ rs
-      by_live rest true d k = (λ i. cond (d i && (r.handle == h)) (with_fields f r ∷ rs) (r ∷ update h f rs)) ∙ by_handle rest (r.handle == h) k
-      by_live rest false d k = (λ i. cond (d i && (r.handle == h)) (with_fields f r ∷ rs) (r ∷ update h f rs)) ∙ ap (λ (x : List (Listed T)). r ∷ x) (rest k)
-
-  -- a change of a live object is found at its handle
-  pub at-update : (h : ℕ) (f : T → T) (v : T) (l : List (Listed T)) → at l h ≡ Some v → at (update h f l) h ≡ Some (f v)
-  unfolding live_of change
-  at-update h f v [] e = absurd (cc)
-  at-update h f v (r ∷ rs) e = by_live (λ k. at-update h f v rs k) r.live e
-    where
-      lost : (at rs h ≡ Some v → at (update h f rs) h ≡ Some (f v)) → at rs h ≡ Some v → at (update h f rs) h ≡ Some (f v)
-      lost rest k = rest k
-
-      by_handle : (at rs h ≡ Some v → at (update h f rs) h ≡ Some (f v)) → (b : Bool) → (r.handle == h) ≡ b → cond b (Some r.fields) (at rs h) ≡ Some v →
-          at (cond b (record { handle = r.handle; live = true; fields = f r.fields } ∷ rs) (record { handle = r.handle; live = true; fields = r.fields } ∷ update h f rs)) h ≡ Some (f v)
-      by_handle rest true d k = (λ i. cond (d i) (Some (f r.fields)) (at rs h)) ∙ ap (λ x. Some (f x)) (some_same k)
-      by_handle rest false d k = (λ i. cond (d i) (Some r.fields) (at (update h f rs) h)) ∙ rest k
-
-      by_live : (at rs h ≡ Some v → at (update h f rs) h ≡ Some (f v)) → (a : Bool) → at (record { handle = r.handle; live = a; fields = r.fields } ∷ rs) h ≡ Some v →
-          at (update h f (record { handle = r.handle; live = a; fields = r.fields } ∷ rs)) h ≡ Some (f v)
-      by_live rest true k = by_handle rest (r.handle == h) refl k
-      by_live rest false k = rest k
+use Rattle.mtapi_machine.proofs.Changes.{some_same, update-same, at-update}
 
 -- where the row gives this reply, the state stays
 abbrev KeepsAt : State → Reply → Row → Type 0

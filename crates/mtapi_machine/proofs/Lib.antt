@@ -1,3 +1,4 @@
+pub mod Changes
 pub mod Made
 pub mod Moves
 pub mod Lists
@@ -7,4 +8,3 @@ pub mod Ends
 pub mod Served
 pub mod Replays
 pub mod Worked
-pub mod Families

@@ -12,7 +12,7 @@ use Rattle.mtapi_machine.specs.Legal.{NodeEntry, next}
 
 -- where the reply to this op is Pending, the state stays as it was: it is no look at a task that changes the waiter
 abbrev pub pends_alike : State → ℕ → Op → Bool
-pends_alike s who (TaskLook task last) = holds (λ t. is_seat who t.waiter) (at s.tasks task.0)
+pends_alike s who (TaskLook task last) = holds (λ t. is_seat who t.notes.waiter) (at s.tasks task.0)
 pends_alike s who _ = true
 
 -- the reply is Idle, or it is Pending and the state stays

@@ -3,6 +3,8 @@ use Rattle.std.specs.Prelude.{ℕ, ◌+◌, Bool, true, false, not, ◌&&◌, Li
 use Rattle.mtapi_values.specs.declared.statuses.MtapiStatus.TheVariants as m
 use Rattle.mtapi_values.specs.declared.statuses.MrapiStatus.TheVariants as c
 use Rattle.mtapi_values.specs.Attributes.{NodeSettings}
+use Rattle.mtapi_values.specs.declared.handles.ObjectKind.{ObjectKind}
+use Rattle.mtapi_values.specs.declared.handles.ObjectKind.TheVariants as kind
 use Rattle.mtapi_values.specs.Seats.{no_marks}
 use Rattle.mtapi_values.specs.declared.ends.TaskEnd.{TaskEnd}
 use Rattle.mtapi_machine.specs.declared.terms.Phase.{Phase}
@@ -90,9 +92,10 @@ is_stop s = is_late s.phase && not (any is_unended s.tasks)
 
 -- Objects
 
--- a kind of object: its list in a state, the state with another list, how many of them the settings allow, and what it answers
--- where a handle names no live object and where no further object can be made
+-- a kind of object: its name, its list in a state, the state with another list, how many of them the settings allow, and what it
+-- answers where a handle names no live object and where no further object can be made
 pub record Objects (T : Type 0) : Type 0 where
+  pub kind : ObjectKind
   pub list : State → List (Listed T)
   pub with_list : List (Listed T) → State → State
   pub max : NodeSettings → ℕ
@@ -102,6 +105,7 @@ pub record Objects (T : Type 0) : Type 0 where
 -- the eight kinds
 abbrev pub actions : Objects Action
 actions = record {
+  kind = kind.Action;
   list = λ s. s.actions;
   with_list = λ l s. record s { actions = l };
   max = λ a. a.actions;
@@ -111,6 +115,7 @@ actions = record {
 
 abbrev pub tasks : Objects Task
 tasks = record {
+  kind = kind.Task;
   list = λ s. s.tasks;
   with_list = λ l s. record s { tasks = l };
   max = λ a. a.tasks;
@@ -120,6 +125,7 @@ tasks = record {
 
 abbrev pub groups : Objects Group
 groups = record {
+  kind = kind.Group;
   list = λ s. s.groups;
   with_list = λ l s. record s { groups = l };
   max = λ a. a.groups;
@@ -129,6 +135,7 @@ groups = record {
 
 abbrev pub queues : Objects Queue
 queues = record {
+  kind = kind.Queue;
   list = λ s. s.queues;
   with_list = λ l s. record s { queues = l };
   max = λ a. a.queues;
@@ -138,6 +145,7 @@ queues = record {
 
 abbrev pub mutexes : Objects Mutex
 mutexes = record {
+  kind = kind.Mutex;
   list = λ s. s.mutexes;
   with_list = λ l s. record s { mutexes = l };
   max = λ a. a.objects;
@@ -147,6 +155,7 @@ mutexes = record {
 
 abbrev pub sems : Objects Sem
 sems = record {
+  kind = kind.Sem;
   list = λ s. s.sems;
   with_list = λ l s. record s { sems = l };
   max = λ a. a.objects;
@@ -156,6 +165,7 @@ sems = record {
 
 abbrev pub rwls : Objects Rwl
 rwls = record {
+  kind = kind.Rwl;
   list = λ s. s.rwls;
   with_list = λ l s. record s { rwls = l };
   max = λ a. a.objects;
@@ -165,6 +175,7 @@ rwls = record {
 
 abbrev pub segments : Objects Segment
 segments = record {
+  kind = kind.Shmem;
   list = λ s. s.segments;
   with_list = λ l s. record s { segments = l };
   max = λ a. a.objects;

@@ -7,7 +7,7 @@ use Rattle.mtapi_values.specs.declared.ends.TaskEnd.{TaskEnd}
 use Rattle.mtapi_values.specs.declared.ends.TaskEnd.TheVariants.{Completed, Cancelled, Failed}
 use Rattle.mtapi_values.specs.Conditions.{holds}
 use Rattle.handle_pool.specs.Issued.{Listed}
-use Rattle.mtapi_objects.specs.Tasks.{Task, end_of, is_unended}
+use Rattle.mtapi_objects.specs.Tasks.{Task, Notes, with_notes, end_of, is_unended}
 
 -- a group has no fields
 pub record Group : Type 0 where
@@ -18,7 +18,7 @@ new_group = record { nothing = tt }
 
 -- the task names the group
 abbrev pub is_member : ℕ → Task → Bool
-is_member g t = holds (λ h. h == g) t.group
+is_member g t = holds (λ h. h == g) t.notes.group
 
 -- the task names the group and hasn't ended
 abbrev pub is_unended_member : ℕ → Task → Bool
@@ -56,10 +56,14 @@ abbrev pub first_fault : List Ending → Option MtapiStatus
 first_fault [] = None
 first_fault (e ∷ es) = option_or (fault_of e.end) (first_fault es)
 
+-- it is in no group
+abbrev pub in_no_group : Notes → Notes
+in_no_group n = record n { group = None }
+
 -- a member that is freed: it leaves the group and stops being live
 abbrev pub freed : Listed Task → Listed Task
-freed r = record { handle = r.handle; live = false; fields = record r.fields { group = None } }
+freed r = record { handle = r.handle; live = false; fields = with_notes in_no_group r.fields }
 
 -- a member of a deleted group: it leaves it and becomes detached; an ended one stops being live
 abbrev pub let_go : Listed Task → Listed Task
-let_go r = record { handle = r.handle; live = r.live && is_unended r.fields; fields = record r.fields { group = None; detached = true } }
+let_go r = record { handle = r.handle; live = r.live && is_unended r.fields; fields = with_notes (λ n. record n { group = None; detached = true }) r.fields }

@@ -87,7 +87,7 @@ pub mrapi_finds_each : FindsEach mrapi_name mrapi_all
 mrapi_finds_each = record { own = mrapi_own }
 
 abbrev pub kind_all : List Kind
-kind_all = k.Add ∷ k.Mul ∷ k.Max ∷ k.Div ∷ k.Gcd ∷ k.Echo ∷ k.Triangle ∷ k.Fail ∷ k.Watch ∷ []
+kind_all = k.Add ∷ k.Mul ∷ k.Max ∷ k.Div ∷ k.Gcd ∷ k.Echo ∷ k.Triangle ∷ k.Fail ∷ k.Watch ∷ k.Tally ∷ []
 
 kind_own : (x : Kind) → found_by kind_word kind_all (kind_word x) ≡ Some x
 kind_own k.Add = refl
@@ -99,6 +99,7 @@ kind_own k.Echo = refl
 kind_own k.Triangle = refl
 kind_own k.Fail = refl
 kind_own k.Watch = refl
+kind_own k.Tally = refl
 
 pub kind_finds_each : FindsEach kind_word kind_all
 kind_finds_each = record { own = kind_own }

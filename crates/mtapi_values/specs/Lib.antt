@@ -5,5 +5,6 @@ pub mod Seats
 pub mod Looks
 pub mod Statuses
 pub mod Kinds
+pub mod Layouts
 pub mod Timeouts
 pub mod AttributeTables

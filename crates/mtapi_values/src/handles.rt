@@ -1,4 +1,7 @@
-//! Handles: the numbers by which callers name objects.
+//! Handles: the numbers by which callers name objects, and how a handle names the kind of its object.
+
+ghost use Rattle.std.specs.Prelude.{◌≡◌, ◌+◌, ◌*◌, ◌%◌, ◌^◌, ◌<◌, Some};
+ghost use Rattle.mtapi_values.specs.Layouts.{object_number, outer, inner};
 
 /// Names an action. No call issues the number 0.
 #[derive(Clone, Copy, Debug, Drop, PartialEq, Eq)]
@@ -47,4 +50,53 @@ pub enum ObjectKind {
     Sem,
     Rwl,
     Shmem,
+}
+
+impl ObjectKind {
+    /// The number of the kind, 1 to 8.
+    pub fn number(self) -> u32
+        ensures { result ≡ object_number self }
+    {
+        match self {
+            ObjectKind::Action => 1,
+            ObjectKind::Task => 2,
+            ObjectKind::Group => 3,
+            ObjectKind::Queue => 4,
+            ObjectKind::Mutex => 5,
+            ObjectKind::Sem => 6,
+            ObjectKind::Rwl => 7,
+            ObjectKind::Shmem => 8,
+        }
+    }
+}
+
+/// How a handle is made of a generation and a slot.
+#[derive(Clone, Copy, Debug, Drop, PartialEq, Eq)]
+pub enum Layout {
+    /// `generation * 2^32 + slot`, whatever the kind: an action and a task may have the same number.
+    One,
+    /// `generation * 2^32 + kind * 2^24 + slot`: a handle names its kind.
+    Two,
+}
+
+/// A pool's handle as callers see it in layout two: with the number of the kind in its bits 24 to 31.
+///
+/// The slot in the handle's low 32 bits is below 2^24.
+pub fn outer(kind: ObjectKind, handle: u64) -> u64
+    requires slot { handle % 2 ^ 32 < 2 ^ 24 }
+    ensures value { result ≡ outer kind handle }
+    ensures back { inner kind result ≡ Some handle }
+{
+    handle + u64::from(kind.number()) * (1 << 24)
+}
+
+/// A handle of layout two as the pool of this kind has it, and None exactly where the handle names another kind, or none.
+pub fn inner(kind: ObjectKind, handle: u64) -> Option<u64>
+    ensures { result ≡ inner kind handle }
+{
+    if handle >> 24 & 255 == u64::from(kind.number()) {
+        Some(handle - u64::from(kind.number()) * (1 << 24))
+    } else {
+        None
+    }
 }

@@ -6,7 +6,7 @@ ghost use Rattle.mtapi_values.specs.Kinds.{kind_word};
 
 use crate::names::{Named, value_named};
 
-/// What an action does. All kinds but `Watch` are pure: their arguments alone settle the answer.
+/// What an action does. The first eight kinds are pure: their arguments alone settle the answer. `Watch` and `Tally` are not.
 #[derive(Clone, Copy, Debug, Drop, PartialEq, Eq)]
 pub enum Kind {
     /// The sum.
@@ -27,10 +27,12 @@ pub enum Kind {
     Fail,
     /// Looks again and again whether cancelling was asked for.
     Watch,
+    /// Adds a number to a cell of a segment, under a mutex.
+    Tally,
 }
 
 /// Each kind once.
-const ALL_KINDS: [Kind; 9] = [
+const ALL_KINDS: [Kind; 10] = [
     Kind::Add,
     Kind::Mul,
     Kind::Max,
@@ -40,6 +42,7 @@ const ALL_KINDS: [Kind; 9] = [
     Kind::Triangle,
     Kind::Fail,
     Kind::Watch,
+    Kind::Tally,
 ];
 
 impl Kind {
@@ -58,6 +61,7 @@ impl Kind {
             Kind::Triangle => "triangle",
             Kind::Fail => "fail",
             Kind::Watch => "watch",
+            Kind::Tally => "tally",
         }
     }
 

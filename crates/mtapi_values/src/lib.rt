@@ -18,8 +18,8 @@ pub mod timeouts;
 pub use attributes::{ActionAttr, MutexAttr, NodeAttr, QueueAttr, TaskAttr};
 pub use ends::TaskEnd;
 pub use handles::{
-    ActionHandle, GroupHandle, JobHandle, MutexHandle, ObjectKind, QueueHandle, RwlHandle,
-    SemHandle, ShmemHandle, TaskHandle,
+    ActionHandle, GroupHandle, JobHandle, Layout, MutexHandle, ObjectKind, QueueHandle, RwlHandle,
+    SemHandle, ShmemHandle, TaskHandle, inner, outer,
 };
 pub use kinds::Kind;
 pub use lists::Args;

@@ -5,7 +5,7 @@ use Rattle.std.proofs.lemmas.Bool.Decides.{nat_tests}
 use Rattle.handle_pool.specs.Issued.{lookup, any_live}
 use Rattle.mtapi_objects.specs.Tasks.{Task}
 use Rattle.mtapi_objects.specs.Queues.{is_unended_in, is_head}
-use Rattle.mtapi_machine.specs.Shown.{handles_of}
+use Rattle.handle_pool.specs.Issued.{handles_of}
 use Rattle.queue_ready.specs.Ready.{InOrder, is_first, QueueReady}
 
 some_same : {A : Type 0} {a b : A} → Some a ≡ Some b → a ≡ b

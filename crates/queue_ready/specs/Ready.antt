@@ -4,7 +4,7 @@ use Rattle.mtapi_values.specs.Conditions.{holds}
 use Rattle.handle_pool.specs.Issued.{lookup}
 use Rattle.mtapi_objects.specs.Tasks.{Task}
 use Rattle.mtapi_objects.specs.Queues.{Queue, is_unended_in, lets}
-use Rattle.mtapi_machine.specs.Shown.{handles_of}
+use Rattle.handle_pool.specs.Issued.{handles_of}
 
 -- each task was started before those behind it
 unfoldable pub InOrder : List (ℕ × Task) → Type 0
