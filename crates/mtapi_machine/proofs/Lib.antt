@@ -7,4 +7,5 @@ pub mod Drops
 pub mod Ends
 pub mod Served
 pub mod Replays
-pub mod Worked
+pub mod Tables
+pub mod WorkedPhases

@@ -17,3 +17,4 @@ pub mod Kept
 pub mod Replay
 pub mod Laws
 pub mod Worked
+pub mod WorkedPhases

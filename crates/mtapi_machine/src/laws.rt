@@ -1,7 +1,6 @@
 //! Laws that follow from the definitions of the machine alone. Each function does nothing: its contract is the law.
 
 ghost use Rattle.mtapi_machine.specs.Laws.{MovesAreMade, PrefixIsLegal, NextIsLegal, StatusStays, DroppedStays, DroppingIsLegal, TasksStay, TasksAreServed, LegalReplays};
-ghost use Rattle.mtapi_machine.specs.Worked.{WorkedHistories};
 
 /// Every move of a row is made where it may be.
 pub fn law_made()
@@ -47,9 +46,4 @@ pub fn law_served()
 /// A list is legal exactly where its replay, which computes, is the list itself.
 pub fn law_replay()
     ensures { LegalReplays }
-{}
-
-/// Worked histories: some that are legal, and some that are not.
-pub fn worked_histories()
-    ensures { WorkedHistories }
 {}

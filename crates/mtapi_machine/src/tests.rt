@@ -55,5 +55,4 @@ fn laws_hold(_rt: HostRuntime) {
     laws::law_tasks_stay();
     laws::law_served();
     laws::law_replay();
-    laws::worked_histories();
 }
