@@ -9,3 +9,5 @@ pub mod Served
 pub mod Replays
 pub mod Tables
 pub mod WorkedPhases
+pub mod WorkedActions
+pub mod WorkedTasks

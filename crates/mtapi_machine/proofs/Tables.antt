@@ -14,7 +14,8 @@ use Rattle.mtapi_machine.specs.declared.replies.Reply.TheVariants.{Ok, Handle, N
 use Rattle.mtapi_machine.specs.State.{State, opening}
 use Rattle.mtapi_machine.specs.Legal.{NodeEntry, IsNext, Fits, row_of, next, LegalFrom, after_from, Legal}
 use Rattle.mtapi_machine.specs.Replay.{answer, replay}
-use Rattle.mtapi_machine.specs.Worked.{Line, told, NoneIsLegal, WrongIsIllegal, Works, node_of}
+use Rattle.mtapi_machine.specs.Worked.{Line, told, NoneIsLegal, WrongIsIllegal, Works, node_of, small}
+use Rattle.mtapi_machine.specs.WorkedTasks.{one_generation}
 use Rattle.mtapi_machine.proofs.Replays.{answer-allowed, legal_if}
 use Rattle.mtapi_machine.proofs.Lists.{Legal-rest, after-one}
 
@@ -116,6 +117,25 @@ fits_of workers tasks others a b c d e f = record {
     groups = (e, omega arith);
     queues = (e, f);
     objects = (e, f);
+    priorities = (omega arith, omega arith);
+    generations = (omega arith, omega arith);
+  };
+  some_caller = omega arith;
+  callers = omega arith;
+}
+
+pub fits_small : Fits small
+fits_small = fits_of 1 2 2 (omega arith) (omega arith) (omega arith) (omega arith) (omega arith) (omega arith)
+
+pub fits_one_generation : Fits one_generation
+fits_one_generation = record {
+  settings = record {
+    workers = (omega arith, omega arith);
+    tasks = (omega arith, omega arith);
+    actions = (omega arith, omega arith);
+    groups = (omega arith, omega arith);
+    queues = (omega arith, omega arith);
+    objects = (omega arith, omega arith);
     priorities = (omega arith, omega arith);
     generations = (omega arith, omega arith);
   };

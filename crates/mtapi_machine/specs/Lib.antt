@@ -18,3 +18,5 @@ pub mod Replay
 pub mod Laws
 pub mod Worked
 pub mod WorkedPhases
+pub mod WorkedActions
+pub mod WorkedTasks

@@ -2,8 +2,20 @@
 //! nothing: its contract is its family's tables.
 
 ghost use Rattle.mtapi_machine.specs.WorkedPhases.{WorkedPhases};
+ghost use Rattle.mtapi_machine.specs.WorkedActions.{WorkedActions};
+ghost use Rattle.mtapi_machine.specs.WorkedTasks.{WorkedTasks};
 
 /// The phases of a node, and what each op answers where its phase refuses it.
 pub fn worked_phases()
     ensures { WorkedPhases }
+{}
+
+/// Jobs and actions, and the tasks that fail when no worker can take them any more.
+pub fn worked_actions()
+    ensures { WorkedActions }
+{}
+
+/// Starting tasks, looking at them, and cancelling them.
+pub fn worked_tasks()
+    ensures { WorkedTasks }
 {}
