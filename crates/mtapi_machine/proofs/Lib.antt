@@ -11,3 +11,5 @@ pub mod Tables
 pub mod WorkedPhases
 pub mod WorkedActions
 pub mod WorkedTasks
+pub mod WorkedGroups
+pub mod WorkedQueues

@@ -20,3 +20,5 @@ pub mod Worked
 pub mod WorkedPhases
 pub mod WorkedActions
 pub mod WorkedTasks
+pub mod WorkedGroups
+pub mod WorkedQueues

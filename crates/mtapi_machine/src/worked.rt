@@ -4,6 +4,8 @@
 ghost use Rattle.mtapi_machine.specs.WorkedPhases.{WorkedPhases};
 ghost use Rattle.mtapi_machine.specs.WorkedActions.{WorkedActions};
 ghost use Rattle.mtapi_machine.specs.WorkedTasks.{WorkedTasks};
+ghost use Rattle.mtapi_machine.specs.WorkedGroups.{WorkedGroups};
+ghost use Rattle.mtapi_machine.specs.WorkedQueues.{WorkedQueues};
 
 /// The phases of a node, and what each op answers where its phase refuses it.
 pub fn worked_phases()
@@ -18,4 +20,14 @@ pub fn worked_actions()
 /// Starting tasks, looking at them, and cancelling them.
 pub fn worked_tasks()
     ensures { WorkedTasks }
+{}
+
+/// Groups, the order of the ends of their members, and what becomes of the members.
+pub fn worked_groups()
+    ensures { WorkedGroups }
+{}
+
+/// Queues, what an enqueue is refused for, and what becomes of the tasks of a queue.
+pub fn worked_queues()
+    ensures { WorkedQueues }
 {}
