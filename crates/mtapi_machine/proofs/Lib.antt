@@ -13,3 +13,7 @@ pub mod WorkedActions
 pub mod WorkedTasks
 pub mod WorkedGroups
 pub mod WorkedQueues
+pub mod WorkedWork
+pub mod WorkedTallies
+pub mod WorkedResources
+pub mod WorkedLayouts

@@ -16,6 +16,7 @@ use Rattle.mtapi_machine.specs.Legal.{NodeEntry, IsNext, Fits, row_of, next, Leg
 use Rattle.mtapi_machine.specs.Replay.{answer, replay}
 use Rattle.mtapi_machine.specs.Worked.{Line, told, NoneIsLegal, WrongIsIllegal, Works, node_of, small}
 use Rattle.mtapi_machine.specs.WorkedTasks.{one_generation}
+use Rattle.mtapi_machine.specs.WorkedLayouts.{single}
 use Rattle.mtapi_machine.proofs.Replays.{answer-allowed, legal_if}
 use Rattle.mtapi_machine.proofs.Lists.{Legal-rest, after-one}
 
@@ -85,7 +86,7 @@ both_are : (a b : Bool) → (a && b) ≡ true → (a ≡ true) × (b ≡ true)
 both_are true b h = (refl, h)
 both_are false b h = absurd (cc)
 
-last_is_next : (terms : Terms) (before : List NodeEntry) (e : NodeEntry) → Legal terms (before ++ e ∷ []) → IsNext (after_from (opening terms) before) e
+pub last_is_next : (terms : Terms) (before : List NodeEntry) (e : NodeEntry) → Legal terms (before ++ e ∷ []) → IsNext (after_from (opening terms) before) e
 unfolding LegalFrom
 last_is_next terms before e h = (Legal-rest (opening terms) before (e ∷ []) h.from).0
 
@@ -129,6 +130,22 @@ fits_small = fits_of 1 2 2 (omega arith) (omega arith) (omega arith) (omega arit
 
 pub fits_one_generation : Fits one_generation
 fits_one_generation = record {
+  settings = record {
+    workers = (omega arith, omega arith);
+    tasks = (omega arith, omega arith);
+    actions = (omega arith, omega arith);
+    groups = (omega arith, omega arith);
+    queues = (omega arith, omega arith);
+    objects = (omega arith, omega arith);
+    priorities = (omega arith, omega arith);
+    generations = (omega arith, omega arith);
+  };
+  some_caller = omega arith;
+  callers = omega arith;
+}
+
+pub fits_single : Fits single
+fits_single = record {
   settings = record {
     workers = (omega arith, omega arith);
     tasks = (omega arith, omega arith);

@@ -6,6 +6,10 @@ ghost use Rattle.mtapi_machine.specs.WorkedActions.{WorkedActions};
 ghost use Rattle.mtapi_machine.specs.WorkedTasks.{WorkedTasks};
 ghost use Rattle.mtapi_machine.specs.WorkedGroups.{WorkedGroups};
 ghost use Rattle.mtapi_machine.specs.WorkedQueues.{WorkedQueues};
+ghost use Rattle.mtapi_machine.specs.WorkedWork.{WorkedWork};
+ghost use Rattle.mtapi_machine.specs.WorkedTallies.{WorkedTallies};
+ghost use Rattle.mtapi_machine.specs.WorkedResources.{WorkedResources};
+ghost use Rattle.mtapi_machine.specs.WorkedLayouts.{WorkedLayouts};
 
 /// The phases of a node, and what each op answers where its phase refuses it.
 pub fn worked_phases()
@@ -30,4 +34,24 @@ pub fn worked_groups()
 /// Queues, what an enqueue is refused for, and what becomes of the tasks of a queue.
 pub fn worked_queues()
     ensures { WorkedQueues }
+{}
+
+/// The ops by which workers take tasks and end them.
+pub fn worked_work()
+    ensures { WorkedWork }
+{}
+
+/// Tallies, by which workers add numbers to the cells of segments.
+pub fn worked_tallies()
+    ensures { WorkedTallies }
+{}
+
+/// Mutexes, semaphores, reader-writer locks and segments.
+pub fn worked_resources()
+    ensures { WorkedResources }
+{}
+
+/// Layout two, in which a handle names the kind of its object.
+pub fn worked_layouts()
+    ensures { WorkedLayouts }
 {}
