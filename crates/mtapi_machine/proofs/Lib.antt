@@ -17,3 +17,4 @@ pub mod WorkedWork
 pub mod WorkedTallies
 pub mod WorkedResources
 pub mod WorkedLayouts
+pub mod Alone
