@@ -5,7 +5,7 @@ use Rattle.action_fn.specs.Answers.{fits, answer_of}
 use Rattle.handle_pool.specs.Issued.{live_of, issue, change, listed, issued_at, retired, is_full, may_issue}
 use Rattle.mtapi_objects.specs.Actions.{has_worker}
 use Rattle.mtapi_objects.specs.Tasks.{end_each}
-use Rattle.mtapi_machine.specs.Rows.{is_ready, can_take, has_better}
+use Rattle.mtapi_machine.specs.WorkRows.{is_ready, can_take, has_better}
 use Rattle.mtapi_machine.specs.Legal.{after_from}
 use Rattle.mtapi_machine.specs.Worked.{one_task}
 use Rattle.workload_file.specs.Deeds.{is_begin}

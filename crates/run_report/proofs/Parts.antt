@@ -14,7 +14,9 @@ use Rattle.run_report.specs.declared.standing.Standing.{Standing}
 use Rattle.mtapi_machine.specs.Ends.{end_at}
 use Rattle.run_report.specs.Calls.{task_lines, call_lines}
 use Rattle.run_report.specs.Standings.{ends_of, end_of_standing, standings_from, no_standing}
-use Rattle.run_report.specs.Report.{terms_of, parts_told, report_by, report}
+use Rattle.mtapi_values.specs.declared.handles.Layout.{Layout}
+use Rattle.mtapi_machine.specs.State.{terms_of}
+use Rattle.run_report.specs.Report.{run_terms, AllSupported, parts_told, report_by, report}
 use Rattle.run_report.proofs.Records.{end_at-standing}
 use Rattle.run_report.proofs.Steps.{standing_by_entries}
 use Rattle.run_report.specs.Replies.{Told, told, further_told, all_told, calls_before}
@@ -54,8 +56,8 @@ if_ok (Ok v) a b e h = h ∙ e
 if_ok (Err x) a b e h = tt
 
 -- the ends by the entries are those in the records of the last state
-ends_same : (load : Workload) (es : List NodeEntry) → Legal (terms_of load) es → (h : ℕ) → ends_of (standings_from no_standing es) h ≡ end_at (after (terms_of load) es).tasks h
-ends_same load es legal h = ap end_of_standing (sym (standing_by_entries (terms_of load) es legal h)) ∙ sym (end_at-standing (after (terms_of load) es).tasks h)
+ends_same : (layout : Layout) (load : Workload) (es : List NodeEntry) → Legal (run_terms layout load) es → AllSupported es → (h : ℕ) → ends_of (standings_from no_standing es) h ≡ end_at (after (run_terms layout load) es).tasks h
+ends_same layout load es legal plain h = ap end_of_standing (sym (standing_by_entries (run_terms layout load) es legal plain h)) ∙ sym (end_at-standing (after (run_terms layout load) es).tasks h)
 
 pub text_is : (load : Workload) (es : List NodeEntry) (m : ℕ → Option Standing) (workers : ℕ) (parts : List Part) (no_tasks no_calls tasks calls : List ℕ) → ((h : ℕ) → m h ≡ standings_from no_standing es h)
     → workers ≡ load.settings.workers → parts ≡ load.parts → no_tasks ≡ [] → no_calls ≡ []
@@ -66,14 +68,17 @@ text_is load es m workers parts no_tasks no_calls tasks calls is w p nt nc t c =
     ∙ (λ j. (nt j ++ flat_map (task_lines (ends_of m)) (all_told (w j) es (p j))) ++ (nc j ++ flat_map call_lines (all_told (w j) es (p j))))
     ∙ ap (λ (f : ℕ → Option Standing). report_by (ends_of f) (parts_told load es)) (λ j h. is h j)
 
-pub report_is : (load : Workload) (es : List NodeEntry) → Legal (terms_of load) es → report_by (ends_of (standings_from no_standing es)) (parts_told load es) ≡ report load es
+pub report_is : (layout : Layout) (load : Workload) (es : List NodeEntry) → Legal (run_terms layout load) es → AllSupported es → report_by (ends_of (standings_from no_standing es)) (parts_told load es) ≡ report layout load es
 unfolding report
-report_is load es legal = ap (λ (f : ℕ → Option TaskEnd). report_by f (parts_told load es)) (λ j h. ends_same load es legal h j)
+report_is layout load es legal plain = ap (λ (f : ℕ → Option TaskEnd). report_by f (parts_told load es)) (λ j h. ends_same layout load es legal plain h j)
 
 -- a journal with the terms of the workload is legal for these
-pub legal_same : (load : Workload) (settings : NodeSettings) (callers : ℕ) (es fs : List NodeEntry) → settings ≡ load.settings → callers ≡ length load.parts → es ≡ fs
-    → Legal (record { settings = settings; callers = callers }) fs → Legal (terms_of load) es
-legal_same load settings callers es fs s c e legal =
-    let at_settings : Legal (record { settings = load.settings; callers = callers }) fs = subst (λ (x : NodeSettings). Legal (record { settings = x; callers = callers }) fs) s legal in
-    let at_callers : Legal (terms_of load) fs = subst (λ (n : ℕ). Legal (record { settings = load.settings; callers = n }) fs) c at_settings in
-    subst (λ (l : List NodeEntry). Legal (terms_of load) l) (sym e) at_callers
+pub legal_same : (layout : Layout) (load : Workload) (settings : NodeSettings) (callers : ℕ) (es fs : List NodeEntry) → settings ≡ load.settings → callers ≡ length load.parts → es ≡ fs
+    → Legal (terms_of layout settings callers) fs → Legal (run_terms layout load) es
+legal_same layout load settings callers es fs s c e legal =
+    let at_settings : Legal (terms_of layout load.settings callers) fs = subst (λ (x : NodeSettings). Legal (terms_of layout x callers) fs) s legal in
+    let at_callers : Legal (run_terms layout load) fs = subst (λ (n : ℕ). Legal (terms_of layout load.settings n) fs) c at_settings in
+    subst (λ (l : List NodeEntry). Legal (run_terms layout load) l) (sym e) at_callers
+
+pub supported_same : (es fs : List NodeEntry) → es ≡ fs → AllSupported fs → AllSupported es
+supported_same es fs e plain = subst AllSupported (sym e) plain

@@ -11,16 +11,22 @@ use Rattle.handle_pool.specs.Issued.{Listed, live_of, at, change, update, issue,
 use Rattle.handle_pool.proofs.ListedLemmas.{listed-change, listed-issue}
 use Rattle.mtapi_objects.specs.Actions.{new_action}
 use Rattle.mtapi_objects.specs.Queues.{Queue, is_shut_in}
-use Rattle.mtapi_objects.specs.Tasks.{Task, TaskState, Scheduled, Running, Over, is_unstarted, with_state, with_waiter, cancel_requested, asked_once, ended, end_each, watch_end}
+use Rattle.mtapi_objects.specs.Tasks.{Task, TaskState, Scheduled, Running, Over, is_unstarted, with_state, with_notes, with_waiter, cancel_requested, asked_once, ended, end_each, watch_end}
 use Rattle.mtapi_machine.specs.declared.replies.Reply.{Reply}
 use Rattle.mtapi_machine.specs.declared.replies.Reply.TheVariants.{Picked, Idle, Stop}
 use Rattle.mtapi_machine.specs.declared.ops.Op.{Op}
 use Rattle.mtapi_machine.specs.declared.ops.Op.TheVariants as op
 use Rattle.mtapi_machine.specs.declared.terms.Terms.{Terms}
 use Rattle.mtapi_machine.specs.State.{State, opening, is_open, is_stop}
-use Rattle.mtapi_machine.specs.Moves.{Move, starts, runs, ends, ends_waiting, notes, noted, leaves, stops, makes_action, withdraws, frees_members, lets_members_go, makes, alters, removes, after_moves}
+use Rattle.mtapi_machine.specs.Moves.Sort.TheVariants as sort
+use Rattle.mtapi_machine.specs.Moves.{Move, Sort, starts, runs, ends, ends_waiting, notes, leaves, stops, makes_action, withdraws, frees_members, lets_members_go, makes, alters, removes, after_moves}
 use Rattle.mtapi_machine.specs.Row.{Row, unless, gives, never, Allows, after_row, only, live, handle_of}
-use Rattle.mtapi_machine.specs.Rows.{row, asked_for, can_take, may_take, picks, looks_at, cancels, task_end}
+use Rattle.mtapi_machine.specs.TaskRows.{asked_for, looks_at, cancels}
+use Rattle.mtapi_machine.specs.WorkRows.{can_take, may_take, picks, task_end}
+use Rattle.mtapi_machine.specs.Rows.{row}
+use Rattle.mtapi_machine.specs.Laws.{WithdrawsAction, FreesMembers, DeletesGroup, makes_kind, AltersObject, RemovesObject}
+use Rattle.node_core.specs.Supported.{is_supported}
+use Rattle.run_report.specs.Report.{AllSupported}
 use Rattle.mtapi_machine.specs.Legal.{NodeEntry, IsNext, row_of, next, LegalFrom, Legal, after_from, after}
 use Rattle.mtapi_machine.proofs.Made.{fst_true, snd_true}
 use Rattle.mtapi_machine.proofs.Moves.{IsKeptBy, by_moves}
@@ -124,23 +130,81 @@ listed_ends k p e n (r ∷ rs) = by (r.live && p r.fields) (listed_ends k p e n 
 once_ends : (p : Task → Bool) (e : TaskEnd) (n : ℕ) (l : List (Listed Task)) → Once l → Once (end_each p e n l)
 once_ends p e n l one k = subst (λ (m : ℕ). m ≤ 1) (sym (listed_ends k p e n l)) (one k)
 
-sound_move : (o : Op) → IsKeptBy o Sound
-sound_move o s (starts h t) e i = (once_issue _ h _ s.tasks (snd_true (is_open s.phase) _ (fst_true _ _ e.may)) i.0, i.1)
-sound_move o s (runs h w k) e i = (once_change h (with_fields (with_state (Running w k))) s.tasks (λ r. refl) i.0, i.1)
-sound_move o s (ends h x) e i = (once_change h (ended x s.ends) s.tasks (λ r. refl) i.0, i.1)
-sound_move o s (ends_waiting p x) e i = (once_ends _ x s.ends s.tasks i.0, i.1)
-sound_move o s (notes h f) e i = (once_change h (with_fields (noted f)) s.tasks (λ r. refl) i.0, i.1)
-sound_move o s (leaves h) e i = (once_change h gone s.tasks (λ r. refl) i.0, i.1)
-sound_move o s (withdraws h f c) e i = absurd e.by
-sound_move o s (frees_members g) e i = absurd e.by
-sound_move o s (lets_members_go g) e i = absurd e.by
-sound_move o s (makes k h x) e i = absurd e.by
-sound_move o s (alters k h f) e i = absurd e.by
-sound_move o s (removes k h) e i = absurd e.by
-sound_move o s _ e i = i
+-- no op that a node carries out so far withdraws an action, or speaks of groups, queues and resources
 
-sound_next : (s : State) (e : NodeEntry) → Sound s → Sound (next s e)
-sound_next s e i = by_moves Sound s e (sound_move e.op) i
+no_withdraw : (h : ℕ) (o : Op) → is_supported o ≡ true → WithdrawsAction h o → ⊥
+no_withdraw h (op.ActionDelete a) p w = absurd (cc)
+no_withdraw h (op.ActionDisable a) p w = absurd (cc)
+no_withdraw h _ p w = w
+
+no_frees : (h : ℕ) (o : Op) → is_supported o ≡ true → FreesMembers h o → ⊥
+no_frees h (op.AllLook g last) p w = absurd (cc)
+no_frees h _ p w = w
+
+no_group_goes : (h : ℕ) (o : Op) → is_supported o ≡ true → DeletesGroup h o → ⊥
+no_group_goes h (op.GroupDelete g) p w = absurd (cc)
+no_group_goes h _ p w = w
+
+no_makes : (k : Sort) (o : Op) → is_supported o ≡ true → makes_kind k o ≡ true → ⊥
+no_makes k o p m = apart (supported_makes k o p) m
+  where
+    apart : {b : Bool} → b ≡ false → b ≡ true → ⊥
+    apart e f = cc
+
+    supported_makes : (k : Sort) (o : Op) → is_supported o ≡ true → makes_kind k o ≡ false
+    supported_makes sort.Groups op.GroupCreate p = absurd (cc)
+    supported_makes sort.Queues (op.QueueCreate id job priority limit ordered retain) p = absurd (cc)
+    supported_makes sort.Mutexes (op.MutexCreate id recursive) p = absurd (cc)
+    supported_makes sort.Sems (op.SemCreate id limit) p = absurd (cc)
+    supported_makes sort.Rwls (op.RwlCreate id limit) p = absurd (cc)
+    supported_makes sort.Segments (op.ShmemCreate id cells) p = absurd (cc)
+    supported_makes _ _ p = refl
+
+no_alters : (k : Sort) (h : ℕ) (o : Op) → is_supported o ≡ true → AltersObject k h o → ⊥
+no_alters sort.Queues h (op.QueueEnable q) p w = absurd (cc)
+no_alters sort.Queues h (op.QueueDisable q) p w = absurd (cc)
+no_alters sort.Mutexes h (op.MutexLook x last) p w = absurd (cc)
+no_alters sort.Mutexes h (op.MutexUnlock x key) p w = absurd (cc)
+no_alters sort.Mutexes h (op.TallyLock t) p w = absurd (cc)
+no_alters sort.Mutexes h (op.TallyEnd t) p w = absurd (cc)
+no_alters sort.Sems h (op.SemLook x last) p w = absurd (cc)
+no_alters sort.Sems h (op.SemUnlock x) p w = absurd (cc)
+no_alters sort.Rwls h (op.RwlLook x writer last) p w = absurd (cc)
+no_alters sort.Rwls h (op.RwlUnlock x writer) p w = absurd (cc)
+no_alters sort.Segments h (op.ShmemAttach x) p w = absurd (cc)
+no_alters sort.Segments h (op.ShmemDetach x) p w = absurd (cc)
+no_alters sort.Segments h (op.ShmemWrite x cell value) p w = absurd (cc)
+no_alters sort.Segments h (op.TallyLock t) p w = absurd (cc)
+no_alters sort.Segments h (op.TallyWrite t value) p w = absurd (cc)
+no_alters sort.Segments h (op.TallyEnd t) p w = absurd (cc)
+no_alters _ h _ p w = w
+
+no_removes : (k : Sort) (h : ℕ) (o : Op) → is_supported o ≡ true → RemovesObject k h o → ⊥
+no_removes sort.Groups h (op.GroupDelete x) p w = absurd (cc)
+no_removes sort.Queues h (op.QueueDelete x) p w = absurd (cc)
+no_removes sort.Mutexes h (op.MutexDelete x) p w = absurd (cc)
+no_removes sort.Sems h (op.SemDelete x) p w = absurd (cc)
+no_removes sort.Rwls h (op.RwlDelete x) p w = absurd (cc)
+no_removes sort.Segments h (op.ShmemDelete x) p w = absurd (cc)
+no_removes _ h _ p w = w
+
+sound_move : (o : Op) → is_supported o ≡ true → IsKeptBy o Sound
+sound_move o p s (starts h t) e i = (once_issue _ h _ s.tasks (snd_true _ _ (snd_true (is_open s.phase) _ (fst_true _ _ (fst_true _ _ (fst_true _ _ e.may))))) i.0, i.1)
+sound_move o p s (runs h w k) e i = (once_change h (with_fields (with_state (Running w k))) s.tasks (λ r. refl) i.0, i.1)
+sound_move o p s (ends h x) e i = (once_change h (ended x s.ends) s.tasks (λ r. refl) i.0, i.1)
+sound_move o p s (ends_waiting q x) e i = (once_ends _ x s.ends s.tasks i.0, i.1)
+sound_move o p s (notes h f) e i = (once_change h (with_fields (with_notes f)) s.tasks (λ r. refl) i.0, i.1)
+sound_move o p s (leaves h) e i = (once_change h gone s.tasks (λ r. refl) i.0, i.1)
+sound_move o p s (withdraws h f c) e i = absurd (no_withdraw h o p e.by)
+sound_move o p s (frees_members g) e i = absurd (no_frees g o p e.by)
+sound_move o p s (lets_members_go g) e i = absurd (no_group_goes g o p e.by)
+sound_move o p s (makes k h x) e i = absurd (no_makes k o p e.by)
+sound_move o p s (alters k h f) e i = absurd (no_alters k h o p e.by)
+sound_move o p s (removes k h) e i = absurd (no_removes k h o p e.by)
+sound_move o p s _ e i = i
+
+sound_next : (s : State) (e : NodeEntry) → is_supported e.op ≡ true → Sound s → Sound (next s e)
+sound_next s e p i = by_moves Sound s e (sound_move e.op p) i
 
 -- How far the task of a handle has come
 
@@ -172,10 +236,10 @@ stood_looks j o s who h last x quiet = by last x
     stays q = λ i. with_change (sym (quiet q) i) (standing_at s.tasks) j
 
     by : (last : Bool) (x : TaskState) → Leads (Stood j o s) s (looks_at who h last x)
-    by true Scheduled = stood_update j h (with_waiter None) s (λ t. refl) ∙ stays _
-    by false Scheduled = stood_update j h (with_waiter (Some who)) s (λ t. refl) ∙ stays _
-    by true (Running w k) = stood_update j h (with_waiter None) s (λ t. refl) ∙ stays _
-    by false (Running w k) = stood_update j h (with_waiter (Some who)) s (λ t. refl) ∙ stays _
+    by true Scheduled = stood_update j h (with_notes (with_waiter None)) s (λ t. refl) ∙ stays _
+    by false Scheduled = stood_update j h (with_notes (with_waiter (Some who))) s (λ t. refl) ∙ stays _
+    by true (Running w k) = stood_update j h (with_notes (with_waiter None)) s (λ t. refl) ∙ stays _
+    by false (Running w k) = stood_update j h (with_notes (with_waiter (Some who))) s (λ t. refl) ∙ stays _
     by last (Over e n) = standing-kept j h gone (λ r. refl) (λ r. refl) s.tasks ∙ stays _
 
 -- a cancel, where this is how far the task of the handle has come
@@ -195,51 +259,52 @@ stood_cancels j s k t Scheduled i e d =
     stood_set j k.0 (ended Cancelled s.ends) (Some (stands.Ended Cancelled)) t s i e (λ r. refl) (λ r. refl)
     ∙ cancelled_to (k.0 == j) None (standing_at s.tasks j) (λ is. found_here j k.0 t s i e is ∙ ap standing_in d)
 stood_cancels j s k t (Running w kind) i e d =
-    stood_update j k.0 cancel_requested s (λ t. refl)
+    stood_update j k.0 (with_notes cancel_requested) s (λ t. refl)
     ∙ cancelled_left (k.0 == j) stands.Runs (standing_at s.tasks j) (λ is. found_here j k.0 t s i e is ∙ ap standing_in d)
 stood_cancels j s k t (Over y n) i e d = cancelled_left (k.0 == j) (stands.Ended y) (standing_at s.tasks j) (λ is. found_here j k.0 t s i e is ∙ ap standing_in d)
 
-stood_row : (j : ℕ) (s : State) (who : ℕ) (o : Op) (r : Reply) → Sound s → Leads (Stood j o s) s (row s who o r)
-stood_row j s who op.Initialize r i = (refl, refl)
-stood_row j s who op.Release r i = (refl, refl)
-stood_row j s who op.Enter r i = (refl, (refl, refl))
-stood_row j s who op.Close r i = (refl, ap (λ l. standing_at l j) (closing_ends_none s i))
-stood_row j s who op.Final r i = (refl, (refl, refl))
-stood_row j s who (op.JobGet job) r i = (refl, (refl, refl))
-stood_row j s who (op.ActionCreate job kind cores) r i = (refl, (refl, (refl, leads_only (Stood j (op.ActionCreate job kind cores) s) s _ _ (makes_action (handle_of r) (new_action job kind cores.0) ∷ []) refl)))
-stood_row j s who (op.ActionEnable a) r i = (refl, leads_live (Stood j (op.ActionEnable a) s) s (at s.actions a.0) _ _ refl (λ x e. refl))
-stood_row j s who (op.TaskStart job args priority cores detached group) r i =
+stood_row : (j : ℕ) (s : State) (who : ℕ) (o : Op) (r : Reply) → is_supported o ≡ true → Sound s → Leads (Stood j o s) s (row s who o r)
+stood_row j s who op.Initialize r p i = (refl, refl)
+stood_row j s who op.Release r p i = (refl, refl)
+stood_row j s who op.Enter r p i = (refl, (refl, refl))
+stood_row j s who op.Close r p i = (refl, ap (λ l. standing_at l j) (closing_ends_none s i))
+stood_row j s who op.Final r p i = (refl, (refl, refl))
+stood_row j s who (op.JobGet job) r p i = (refl, (refl, refl))
+stood_row j s who (op.ActionCreate job kind cores) r p i = (refl, (refl, (refl, leads_only (Stood j (op.ActionCreate job kind cores) s) s _ _ (makes_action (handle_of r) (new_action job kind cores.0) ∷ []) refl)))
+stood_row j s who (op.ActionEnable a) r p i = (refl, leads_live (Stood j (op.ActionEnable a) s) s (at s.actions a.0) _ _ refl (λ x e. refl))
+stood_row j s who (op.TaskStart job args priority cores detached group) r p i =
     (refl, (refl, (refl, (refl, (refl, (refl, (refl, leads_only (Stood j (op.TaskStart job args priority cores detached group) s) s _ _ (starts (handle_of r) (asked_for job args priority cores detached group) ∷ []) (standing-issued j _ _ s.tasks refl))))))))
-stood_row j s who (op.TaskLook t last) r i =
+stood_row j s who (op.TaskLook t last) r p i =
     (refl, leads_live (Stood j (op.TaskLook t last) s) s (at s.tasks t.0) _ _ refl (λ x e. (refl, (refl, stood_looks j (op.TaskLook t last) s who t.0 last x.state (λ q. refl)))))
-stood_row j s who (op.TaskCancel t) r i = (refl, leads_live (Stood j (op.TaskCancel t) s) s (at s.tasks t.0) _ _ refl (λ x e. stood_cancels j s t x x.state i e refl))
-stood_row j s who op.Pick r i = (refl, (refl, (refl, stood_stops j (is_stop s) s who _ (stood_picks j s who r i))))
-stood_row j s who (op.Finish t d) r i = (
+stood_row j s who (op.TaskCancel t) r p i = (refl, leads_live (Stood j (op.TaskCancel t) s) s (at s.tasks t.0) _ _ refl (λ x e. stood_cancels j s t x x.state i e refl))
+stood_row j s who op.Pick r p i = (refl, (refl, (refl, stood_stops j (is_stop s) s who _ (stood_picks j s who r i))))
+stood_row j s who (op.Finish t d) r p i = (
   refl,
   leads_live (Stood j (op.Finish t d) s) s (at s.tasks t.0) _ _ refl
       (λ x e. (refl, stood_set j t.0 (ended (task_end d.end) s.ends) (Some (stands.Ended (task_end d.end))) x s i e (λ r. refl) (λ r. refl))),
 )
-stood_row j s who (op.Asked t) r i =
-    (refl, leads_live (Stood j (op.Asked t) s) s (at s.tasks t.0) _ _ refl (λ x e. (refl, (refl, stood_update j t.0 (noted asked_once) s (λ u. refl)))))
-stood_row j s who (op.WatchEnd t) r i = (
+stood_row j s who (op.Asked t) r p i =
+    (refl, leads_live (Stood j (op.Asked t) s) s (at s.tasks t.0) _ _ refl (λ x e. (refl, (refl, stood_update j t.0 (with_notes asked_once) s (λ u. refl)))))
+stood_row j s who (op.WatchEnd t) r p i = (
   refl,
   leads_live (Stood j (op.WatchEnd t) s) s (at s.tasks t.0) _ _ refl
       (λ x e. (refl, (refl, stood_set j t.0 (ended (watch_end x) s.ends) (Some (stands.Ended (watch_end x))) x s i e (λ r. refl) (λ r. refl)))),
 )
+stood_row j s who _ r p i = absurd (cc)
 
-stood_next : (j : ℕ) (s : State) (e : NodeEntry) → IsNext s e → Sound s → standing_at (next s e).tasks j ≡ with_change (change_of e.op e.reply) (standing_at s.tasks) j
-stood_next j s e h i = led (Stood j e.op s) s (row_of s e) e.reply (stood_row j s e.who e.op e.reply i) h.allowed
+stood_next : (j : ℕ) (s : State) (e : NodeEntry) → IsNext s e → is_supported e.op ≡ true → Sound s → standing_at (next s e).tasks j ≡ with_change (change_of e.op e.reply) (standing_at s.tasks) j
+stood_next j s e h p i = led (Stood j e.op s) s (row_of s e) e.reply (stood_row j s e.who e.op e.reply p i) h.allowed
 
-stood_from : (j : ℕ) (s : State) (L : List NodeEntry) → LegalFrom s L → Sound s → standing_at (after_from s L).tasks j ≡ standings_from (standing_at s.tasks) L j
-unfolding LegalFrom after_from standings_from
-stood_from j s [] h i = refl
-stood_from j s (e ∷ L) h i =
-    stood_from j (next s e) L h.1 (sound_next s e i) ∙ ap (λ (f : ℕ → Option Standing). standings_from f L j) (λ k n. stood_next n s e h.0 i k)
+stood_from : (j : ℕ) (s : State) (L : List NodeEntry) → LegalFrom s L → AllSupported L → Sound s → standing_at (after_from s L).tasks j ≡ standings_from (standing_at s.tasks) L j
+unfolding LegalFrom after_from standings_from AllSupported
+stood_from j s [] h p i = refl
+stood_from j s (e ∷ L) h p i =
+    stood_from j (next s e) L h.1 p.1 (sound_next s e p.0 i) ∙ ap (λ (f : ℕ → Option Standing). standings_from f L j) (λ k n. stood_next n s e h.0 p.0 i k)
 
 -- after a legal history, how far each task has come by its record is how far it has come by the entries
-pub standing_by_entries : (terms : Terms) (L : List NodeEntry) → Legal terms L → (h : ℕ) → standing_at (after terms L).tasks h ≡ standings_from no_standing L h
+pub standing_by_entries : (terms : Terms) (L : List NodeEntry) → Legal terms L → AllSupported L → (h : ℕ) → standing_at (after terms L).tasks h ≡ standings_from no_standing L h
 unfolding standing_at listed
-standing_by_entries terms L legal h = stood_from h (opening terms) L legal.from ((λ k. omega arith), refl)
+standing_by_entries terms L legal p h = stood_from h (opening terms) L legal.from p ((λ k. omega arith), refl)
 
 standings_more : (f : ℕ → Option Standing) (L : List NodeEntry) (e : NodeEntry) (h : ℕ) → standings_from f (L ++ e ∷ []) h ≡ with_change (change_of e.op e.reply) (standings_from f L) h
 unfolding standings_from

@@ -6,7 +6,7 @@ use Rattle.mtapi_machine.specs.declared.ops.Op.{Op}
 use Rattle.mtapi_machine.specs.declared.ops.Op.TheVariants as op
 use Rattle.mtapi_machine.specs.declared.replies.Reply.{Reply}
 use Rattle.mtapi_machine.specs.declared.replies.Reply.TheVariants as reply
-use Rattle.mtapi_machine.specs.Rows.{task_end}
+use Rattle.mtapi_machine.specs.WorkRows.{task_end}
 use Rattle.mtapi_machine.specs.Legal.{NodeEntry}
 use Rattle.run_report.specs.declared.standing.Standing.{Standing}
 use Rattle.run_report.specs.declared.standing.Standing.TheVariants.{Runs, Ended}

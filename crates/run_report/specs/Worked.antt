@@ -2,6 +2,7 @@
 use Rattle.std.specs.Prelude.{◌≡◌, ℕ, List, [], ◌∷◌, ◌++◌, codes, pos, false, true, Some, None}
 use Rattle.std.specs.List.{flat_map}
 use Rattle.mtapi_values.specs.declared.kinds.Kind.TheVariants as kind
+use Rattle.mtapi_values.specs.declared.handles.Layout.TheVariants.{One}
 use Rattle.mtapi_values.specs.declared.timeouts.Timeout.TheVariants as timeout
 use Rattle.mtapi_values.specs.declared.statuses.MtapiStatus.TheVariants as mtapi
 use Rattle.mtapi_values.specs.declared.statuses.MrapiStatus.TheVariants as mrapi
@@ -120,8 +121,8 @@ handed_out = record {
 }
 
 pub record WorkedReports : Type 0 where
-  pub sum : report sum_load one_task ≡ lines (codes "main.t completed 5" ∷ [])
-  pub full : report full_load full_run ≡ lines (codes "main.t completed 5" ∷ codes "main.u refused MTAPI_ERR_TASK_LIMIT" ∷ codes "! main 4 MTAPI_ERR_TASK_INVALID" ∷ [])
-  pub cancelled : report cancelled_load cancelled_run ≡ lines (codes "main.t cancelled" ∷ [])
+  pub sum : report One sum_load one_task ≡ lines (codes "main.t completed 5" ∷ [])
+  pub full : report One full_load full_run ≡ lines (codes "main.t completed 5" ∷ codes "main.u refused MTAPI_ERR_TASK_LIMIT" ∷ codes "! main 4 MTAPI_ERR_TASK_INVALID" ∷ [])
+  pub cancelled : report One cancelled_load cancelled_run ≡ lines (codes "main.t cancelled" ∷ [])
   pub locks_shown : call_lines locks ≡ lines (codes "= main 2 1" ∷ codes "= main 3 2" ∷ codes "! main 4 MRAPI_ERR_MUTEX_LOCKORDER" ∷ codes "! main 7 MRAPI_ERR_MUTEX_NOTLOCKED" ∷ [])
   pub handed_out_shown : call_lines handed_out ≡ lines (codes "= main 7 y" ∷ codes "= main 8 x" ∷ codes "! main 9 MTAPI_GROUP_COMPLETED" ∷ [])

@@ -2,7 +2,7 @@
 ghost use Rattle.std.specs.Prelude.{◌≡◌, ◌==◌, ℕ, Some, IfOk, OnOk, if◌then◌else◌};
 ghost use Rattle.std.specs.Ordering.{nat_cmp};
 ghost use Rattle.std.specs.BTreeMap.{get};
-ghost use Rattle.mtapi_machine.specs.Rows.{task_end};
+ghost use Rattle.mtapi_machine.specs.WorkRows.{task_end};
 ghost use Rattle.run_report.specs.Standings.{change_of, with_change, standings_from, no_standing};
 
 use action_fn::ActEnd;
