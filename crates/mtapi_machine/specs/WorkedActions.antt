@@ -6,7 +6,7 @@ use Rattle.mtapi_values.specs.declared.ends.TaskEnd.TheVariants.{Completed, Fail
 use Rattle.action_fn.specs.declared.finished.ActEnd.TheVariants.{Done}
 use Rattle.mtapi_machine.specs.declared.ops.Op.TheVariants as op
 use Rattle.mtapi_machine.specs.declared.replies.Reply.TheVariants as reply
-use Rattle.mtapi_machine.specs.Worked.{Line, Works, node_of, small, line, worker, main, worker_not, main_not, refused, h1, h2, h3, again1, again2, action, task, group, queue, every_core, first_core, second_core, action_of, start, start_in, put_in, look, picked, finish}
+use Rattle.mtapi_machine.specs.Tables.{Line, Works, node_of, small, line, worker, main, worker_not, main_not, refused, h1, h2, h3, again1, again2, action, task, group, queue, every_core, first_core, second_core, action_of, start, start_in, put_in, look, picked, finish}
 
 -- what the ops on jobs and actions are refused for, and what they answer
 unfoldable pub actions_made : List Line

@@ -8,7 +8,7 @@ use Rattle.mtapi_values.specs.declared.ends.TaskEnd.TheVariants.{Cancelled}
 use Rattle.mtapi_machine.specs.declared.terms.Terms.{Terms}
 use Rattle.mtapi_machine.specs.declared.ops.Op.TheVariants as op
 use Rattle.mtapi_machine.specs.declared.replies.Reply.TheVariants as reply
-use Rattle.mtapi_machine.specs.Worked.{Line, Works, line, worker, main, main_not, refused, denied, h1, again1, action, task, group, queue, mutex, action_of, start, start_in, look}
+use Rattle.mtapi_machine.specs.Tables.{Line, Works, line, worker, main, main_not, refused, denied, h1, again1, action, task, group, queue, mutex, action_of, start, start_in, look}
 
 -- one worker, two callers, and room for one object of each kind
 abbrev pub single : Terms

@@ -7,7 +7,7 @@ use Rattle.action_fn.specs.declared.finished.ActEnd.TheVariants.{Done}
 use Rattle.mtapi_machine.specs.declared.ops.Op.{Op}
 use Rattle.mtapi_machine.specs.declared.ops.Op.TheVariants as op
 use Rattle.mtapi_machine.specs.declared.replies.Reply.TheVariants as reply
-use Rattle.mtapi_machine.specs.Worked.{Line, Works, small, line, worker, main, second, worker_not, main_not, second_not, refused, denied, each, h1, action, task, group, queue, mutex, sem, rwl, segment, every_core, action_of, start, put_in, look, finish}
+use Rattle.mtapi_machine.specs.Tables.{Line, Works, small, line, worker, main, second, worker_not, main_not, second_not, refused, denied, each, h1, action, task, group, queue, mutex, sem, rwl, segment, every_core, action_of, start, put_in, look, finish}
 
 -- the ops of MTAPI and of MRAPI that are refused in Closing too, and those that aren't
 abbrev pub mtapi_makers : List Op

@@ -9,7 +9,7 @@ use Rattle.mtapi_machine.specs.declared.ops.Op.{Op}
 use Rattle.mtapi_machine.specs.declared.ops.Op.TheVariants as op
 use Rattle.mtapi_machine.specs.declared.replies.Reply.TheVariants as reply
 use Rattle.mtapi_machine.specs.Legal.{Legal}
-use Rattle.mtapi_machine.specs.Worked.{Line, told, Works, node_of, small, line, worker, main, worker_not, main_not, refused, h1, h2, h3, again1, action, task, every_core, first_core, second_core, action_of, start, look, picked, finish}
+use Rattle.mtapi_machine.specs.Tables.{Line, told, Works, node_of, small, line, worker, main, worker_not, main_not, refused, h1, h2, h3, again1, action, task, every_core, first_core, second_core, action_of, start, look, picked, finish}
 
 -- a worker takes a task of the smallest priority; it takes none while it runs one, and stops once no task is left
 unfoldable pub picking : List Line

@@ -14,7 +14,7 @@ use Rattle.mtapi_machine.specs.declared.replies.Reply.TheVariants.{Ok, Handle, N
 use Rattle.mtapi_machine.specs.State.{State, opening}
 use Rattle.mtapi_machine.specs.Legal.{NodeEntry, IsNext, Fits, row_of, next, LegalFrom, after_from, Legal}
 use Rattle.mtapi_machine.specs.Replay.{answer, replay}
-use Rattle.mtapi_machine.specs.Worked.{Line, told, NoneIsLegal, WrongIsIllegal, Works, node_of, small}
+use Rattle.mtapi_machine.specs.Tables.{Line, told, NoneIsLegal, WrongIsIllegal, Works, node_of, small}
 use Rattle.mtapi_machine.specs.WorkedTasks.{one_generation}
 use Rattle.mtapi_machine.specs.WorkedLayouts.{single}
 use Rattle.mtapi_machine.proofs.Replays.{answer-allowed, legal_if}
