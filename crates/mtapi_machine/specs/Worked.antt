@@ -1,14 +1,11 @@
 -- Two whole runs of a node with one worker, from its opening to its end, by which the crates above work their own cases. The tables of
 -- worked histories stand in the other files of this name.
-use Rattle.std.specs.Prelude.{◌≡◌, ℕ, true, false, List, [], ◌∷◌, Some, None, pos}
+use Rattle.std.specs.Prelude.{ℕ, false, List, [], ◌∷◌, None, pos}
 use Rattle.mtapi_values.specs.declared.kinds.Kind.TheVariants as kind
-use Rattle.mtapi_values.specs.declared.statuses.MtapiStatus.{MtapiStatus}
-use Rattle.mtapi_values.specs.declared.statuses.MtapiStatus.TheVariants as status
 use Rattle.mtapi_values.specs.declared.masks.Mask.{Mask}
 use Rattle.mtapi_values.specs.declared.handles.TaskHandle.{TaskHandle}
 use Rattle.mtapi_values.specs.declared.handles.ActionHandle.{ActionHandle}
-use Rattle.mtapi_values.specs.declared.handles.GroupHandle.{GroupHandle}
-use Rattle.mtapi_values.specs.declared.ends.TaskEnd.TheVariants.{Completed, Cancelled}
+use Rattle.mtapi_values.specs.declared.ends.TaskEnd.TheVariants.{Completed}
 use Rattle.action_fn.specs.declared.finished.ActEnd.TheVariants.{Done}
 use Rattle.history.specs.Histories.{entry}
 use Rattle.mtapi_values.specs.declared.handles.Layout.TheVariants.{One}
@@ -17,9 +14,7 @@ use Rattle.mtapi_machine.specs.declared.ops.Op.{Op}
 use Rattle.mtapi_machine.specs.declared.ops.Op.TheVariants as op
 use Rattle.mtapi_machine.specs.declared.replies.Reply.{Reply}
 use Rattle.mtapi_machine.specs.declared.replies.Reply.TheVariants as reply
-use Rattle.mtapi_machine.specs.State.{opening}
 use Rattle.mtapi_machine.specs.Legal.{NodeEntry, Legal}
-use Rattle.mtapi_machine.specs.Kept.{skipped, no_counts}
 
 -- one worker and two callers, and the settings that a node has where none is chosen
 abbrev pub usual : Terms

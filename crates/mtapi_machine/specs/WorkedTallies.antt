@@ -1,5 +1,5 @@
 -- Worked: tallies, by which workers add numbers to the cells of segments.
-use Rattle.std.specs.Prelude.{ℕ, true, false, List, [], ◌∷◌, Some, None, ℤ, pos, negsuc}
+use Rattle.std.specs.Prelude.{ℕ, true, false, List, [], ◌∷◌, ℤ, pos, negsuc}
 use Rattle.mtapi_values.specs.declared.kinds.Kind.TheVariants as kind
 use Rattle.mtapi_values.specs.declared.statuses.MtapiStatus.TheVariants as status
 use Rattle.mtapi_values.specs.declared.statuses.MrapiStatus.TheVariants as code
