@@ -5,4 +5,7 @@ pub mod Accepted
 pub mod Worked
 pub mod SeatMoves
 pub mod Found
+pub mod Handles
+pub mod Every
+pub mod Members
 pub mod Others

@@ -3,15 +3,16 @@
 
 ghost use Rattle.mtapi_machine.specs.Legal.{Legal};
 ghost use Rattle.history_law.specs.Accepted.{AcceptedTasksEndOnce};
-ghost use Rattle.history_law.specs.Ends.{terms_of, OneEnd, EndsAfterClose};
-ghost use Rattle.history_law.specs.Seats.{WaiterStays, WorkStays, NoLateEnd, PhaseStays, ReleaseStays, StoppedStays, UnstartedAreUntouched};
+ghost use Rattle.mtapi_machine.specs.State.{terms_of};
+ghost use Rattle.history_law.specs.Ends.{OneEnd, EndsAfterClose};
+ghost use Rattle.history_law.specs.Seats.{OnceAfter, OnceStays, WaiterStays, WorkStays, NoLateEnd, PhaseStays, ReleaseStays, StoppedStays, UnstartedAreUntouched};
 ghost use Rattle.history_law.specs.Worked.{OneTaskEnds};
 
 #[cfg(test)]
 mod tests;
 
 use mtapi_machine::Entry;
-use mtapi_values::{NodeAttr, TaskHandle};
+use mtapi_values::{Layout, NodeAttr, TaskHandle};
 
 /// In a legal history that ends with the final step, every task that was accepted has one record and ends once: it is ended at the end
 /// of the history, and wherever an end of it shows, that is its end.
@@ -20,15 +21,27 @@ pub fn law_accepted()
 {}
 
 /// A task has at most one end: once a prefix of the history leaves it ended, every longer one leaves it ended so.
-pub fn law_one_end(settings: &NodeAttr, callers: u32, entries: &[Entry], t: TaskHandle)
-    requires { Legal (terms_of settings.now callers) entries.now }
-    ensures { OneEnd (terms_of settings.now callers) entries.now t.0 }
+pub fn law_one_end(
+    layout: Layout,
+    settings: &NodeAttr,
+    callers: u32,
+    entries: &[Entry],
+    t: TaskHandle,
+)
+    requires { Legal (terms_of layout settings.now callers) entries.now }
+    ensures { OneEnd (terms_of layout settings.now callers) entries.now t.0 }
 {}
 
 /// Where the history has `final` with Ok, a task that was accepted has exactly one end.
-pub fn law_end_after_close(settings: &NodeAttr, callers: u32, entries: &[Entry], t: TaskHandle)
-    requires { Legal (terms_of settings.now callers) entries.now }
-    ensures { EndsAfterClose (terms_of settings.now callers) entries.now t.0 }
+pub fn law_end_after_close(
+    layout: Layout,
+    settings: &NodeAttr,
+    callers: u32,
+    entries: &[Entry],
+    t: TaskHandle,
+)
+    requires { Legal (terms_of layout settings.now callers) entries.now }
+    ensures { EndsAfterClose (terms_of layout settings.now callers) entries.now t.0 }
 {}
 
 /// A worked history: its one task ends once, and how.
@@ -36,13 +49,19 @@ pub fn worked_end()
     ensures { OneTaskEnds }
 {}
 
+/// No two tasks are issued under one handle.
+pub fn law_once_listed()
+    ensures after { OnceAfter }
+    ensures stays { OnceStays }
+{}
+
 /// A seat's mark as the waiter of a task is kept by the entries of other seats.
 pub fn law_waiter_stays()
     ensures { WaiterStays }
 {}
 
-/// A task that a worker took stays on it, with its kind and its arguments, over the entries of other seats; and a worker that has none
-/// gets none by them.
+/// A task that a worker took stays on it, with its kind, its arguments and what it has done so far, over the entries of other seats;
+/// and a worker that has none gets none by them.
 pub fn law_work_stays()
     ensures { WorkStays }
 {}
