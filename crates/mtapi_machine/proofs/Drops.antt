@@ -1,6 +1,6 @@
 -- A legal list without its dropped entries is legal, and leads to the same state.
 use Rattle.std.proofs.Common.{◌≡◌, ℕ, Bool, true, false, cond, List, [], ◌∷◌, Option, Some, None, ◌⊎◌, inl, inr, refl, sym, ◌∙◌, ap, subst, arith}
-use Rattle.std.specs.Prelude.{◌==◌, ◌&&◌}
+use Rattle.std.specs.Prelude.{◌==◌}
 use Rattle.std.proofs.lemmas.Bool.Decides.{nat_tests}
 use Rattle.mtapi_values.specs.declared.statuses.MtapiStatus.TheVariants as m
 use Rattle.mtapi_values.specs.declared.handles.TaskHandle.{TaskHandle}
@@ -8,14 +8,15 @@ use Rattle.mtapi_machine.specs.declared.replies.Reply.{Reply}
 use Rattle.mtapi_machine.specs.declared.replies.Reply.TheVariants.{Ok, Handle, Number, Ended, Given, Pending, Picked, Idle, Stop, Asked, Mtapi, Mrapi}
 use Rattle.mtapi_machine.specs.declared.ops.Op.{Op}
 use Rattle.mtapi_machine.specs.declared.ops.Op.TheVariants as op
-use Rattle.handle_pool.specs.Issued.{Listed, live_of, lookup, at, change, update, with_fields}
+use Rattle.handle_pool.specs.Issued.{at, update}
 use Rattle.mtapi_values.specs.Conditions.{holds}
 use Rattle.mtapi_values.specs.Seats.{is_seat}
-use Rattle.mtapi_objects.specs.Tasks.{Task, TaskState, Scheduled, Running, Over, with_waiter, task_look_refusals}
+use Rattle.mtapi_objects.specs.Tasks.{Task, TaskState, Scheduled, Running, Over, with_notes, with_waiter, task_look_refusals}
 use Rattle.mtapi_machine.specs.State.{State}
 use Rattle.mtapi_machine.specs.Row.{Row, unless, says, gives, never, Allows, after_row, mtapi_unless, live}
 use Rattle.mtapi_machine.specs.Moves.{after_moves}
-use Rattle.mtapi_machine.specs.Rows.{row, looks_at}
+use Rattle.mtapi_machine.specs.Rows.{row}
+use Rattle.mtapi_machine.specs.TaskRows.{looks_at}
 use Rattle.history.specs.Histories.{entry}
 use Rattle.mtapi_machine.specs.Legal.{NodeEntry, IsNext, next, LegalFrom, after_from}
 use Rattle.mtapi_machine.specs.Kept.{pends_alike, drops, is_dropped, kept}
@@ -42,18 +43,18 @@ same_seat who (Some other) e = ap Some (eq who other e)
     eq : (a b : ℕ) → (b == a) ≡ true → a ≡ b
     eq a b e = grind (arith, nat_tests)
 
-looks_keep : (s : State) (who h : ℕ) (last : Bool) (x : TaskState) → update h (with_waiter (Some who)) s.tasks ≡ s.tasks → KeepsAt s Pending (looks_at who h last x)
+looks_keep : (s : State) (who h : ℕ) (last : Bool) (x : TaskState) → update h (with_notes (with_waiter (Some who))) s.tasks ≡ s.tasks → KeepsAt s Pending (looks_at who h last x)
 looks_keep s who h true Scheduled u = λ e. absurd (cc)
 looks_keep s who h false Scheduled u = λ e i. record s { tasks = u i }
 looks_keep s who h true (Running w k) u = λ e. absurd (cc)
 looks_keep s who h false (Running w k) u = λ e i. record s { tasks = u i }
 looks_keep s who h last (Over x n) u = λ e. absurd (cc)
 
-look_keeps : (s : State) (who : ℕ) (t : TaskHandle) (last : Bool) (o : Option Task) → at s.tasks t.0 ≡ o → holds (λ x. is_seat who x.waiter) o ≡ true →
+look_keeps : (s : State) (who : ℕ) (t : TaskHandle) (last : Bool) (o : Option Task) → at s.tasks t.0 ≡ o → holds (λ x. is_seat who x.notes.waiter) o ≡ true →
     KeepsAt s Pending (live o (says (Mtapi m.ErrTaskInvalid)) (λ x. mtapi_unless (task_look_refusals who x) (looks_at who t.0 last x.state)))
 look_keeps s who t last None a e = λ k. refl
 look_keeps s who t last (Some x) a e =
-    looks_keep s who t.0 last x.state (update-same t.0 (with_waiter (Some who)) x s.tasks a (λ i. record x { waiter = same_seat who x.waiter e i }))
+    looks_keep s who t.0 last x.state (update-same t.0 (with_notes (with_waiter (Some who))) x s.tasks a (λ i. with_notes (with_waiter (same_seat who x.notes.waiter e i)) x))
 
 -- a reply Pending that leaves the waiter leaves the state
 pub pending_stays : (s : State) (who : ℕ) (o : Op) → IsNext s (entry who o Pending) → pends_alike s who o ≡ true → next s (entry who o Pending) ≡ s
@@ -79,14 +80,14 @@ no_seat who w e n = apart (ap (is_seat who) e ∙ n)
     apart : (who == who) ≡ false → ⊥
     apart d = grind (arith, nat_tests)
 
-looks_change : (s : State) (who h : ℕ) (last : Bool) (x : TaskState) → (update h (with_waiter (Some who)) s.tasks ≡ s.tasks → ⊥) → ChangesAt s Pending (looks_at who h last x)
+looks_change : (s : State) (who h : ℕ) (last : Bool) (x : TaskState) → (update h (with_notes (with_waiter (Some who))) s.tasks ≡ s.tasks → ⊥) → ChangesAt s Pending (looks_at who h last x)
 looks_change s who h true Scheduled u = λ e. absurd (cc)
 looks_change s who h false Scheduled u = λ e f. u (ap (λ (y : State). y.tasks) f)
 looks_change s who h true (Running w k) u = λ e. absurd (cc)
 looks_change s who h false (Running w k) u = λ e f. u (ap (λ (y : State). y.tasks) f)
 looks_change s who h last (Over x n) u = λ e. absurd (cc)
 
-look_changes : (s : State) (who : ℕ) (t : TaskHandle) (last : Bool) (o : Option Task) → at s.tasks t.0 ≡ o → holds (λ x. is_seat who x.waiter) o ≡ false →
+look_changes : (s : State) (who : ℕ) (t : TaskHandle) (last : Bool) (o : Option Task) → at s.tasks t.0 ≡ o → holds (λ x. is_seat who x.notes.waiter) o ≡ false →
     ChangesAt s Pending (live o (says (Mtapi m.ErrTaskInvalid)) (λ x. mtapi_unless (task_look_refusals who x) (looks_at who t.0 last x.state)))
 look_changes s who t last None a e = λ k d. absurd (cc)
 look_changes s who t last (Some x) a e = (
@@ -94,7 +95,7 @@ look_changes s who t last (Some x) a e = (
   (
     λ k. absurd (cc),
     looks_change s who t.0 last x.state (λ u.
-        no_seat who x.waiter (ap (λ (y : Task). y.waiter) (some_same (sym (at-update t.0 (with_waiter (Some who)) x s.tasks a) ∙ ap (λ l. at l t.0) u ∙ a))) e),
+        no_seat who x.notes.waiter (ap (λ (y : Task). y.notes.waiter) (some_same (sym (at-update t.0 (with_notes (with_waiter (Some who))) x s.tasks a) ∙ ap (λ l. at l t.0) u ∙ a))) e),
   ),
 )
 

@@ -7,7 +7,7 @@ use Rattle.mtapi_objects.specs.Tasks.{end_each}
 use Rattle.mtapi_machine.specs.declared.replies.Reply.{Reply}
 use Rattle.mtapi_machine.specs.declared.replies.Reply.TheVariants as reply
 use Rattle.mtapi_machine.specs.State.{opening}
-use Rattle.mtapi_machine.specs.Rows.{is_ready, can_take, has_better}
+use Rattle.mtapi_machine.specs.WorkRows.{is_ready, can_take, has_better}
 use Rattle.mtapi_machine.specs.Legal.{NodeEntry, Fits, Legal}
 use Rattle.mtapi_machine.specs.Kept.{skipped, no_counts}
 use Rattle.mtapi_machine.specs.Replay.{replay}

@@ -5,6 +5,7 @@ use Rattle.mtapi_values.specs.declared.statuses.MrapiStatus.TheVariants as c
 use Rattle.mtapi_values.specs.Attributes.{NodeSettings}
 use Rattle.mtapi_values.specs.declared.handles.ObjectKind.{ObjectKind}
 use Rattle.mtapi_values.specs.declared.handles.ObjectKind.TheVariants as kind
+use Rattle.mtapi_values.specs.declared.handles.Layout.{Layout}
 use Rattle.mtapi_values.specs.Seats.{no_marks}
 use Rattle.mtapi_values.specs.declared.ends.TaskEnd.{TaskEnd}
 use Rattle.mtapi_machine.specs.declared.terms.Phase.{Phase}
@@ -39,6 +40,10 @@ pub record State : Type 0 where
   pub sems : List (Listed Sem)
   pub rwls : List (Listed Rwl)
   pub segments : List (Listed Segment)
+
+-- the terms of a node of this layout, with these settings and so many callers
+abbrev pub terms_of : Layout → NodeSettings → ℕ → Terms
+terms_of layout settings callers = record { layout = layout; settings = settings; callers = callers }
 
 -- the state before the first entry: New, and no object was made
 abbrev pub opening : Terms → State

@@ -10,6 +10,7 @@ use Rattle.mtapi_values.specs.declared.handles.GroupHandle.{GroupHandle}
 use Rattle.mtapi_values.specs.declared.ends.TaskEnd.TheVariants.{Completed, Cancelled}
 use Rattle.action_fn.specs.declared.finished.ActEnd.TheVariants.{Done}
 use Rattle.history.specs.Histories.{entry}
+use Rattle.mtapi_values.specs.declared.handles.Layout.TheVariants.{One}
 use Rattle.mtapi_machine.specs.declared.terms.Terms.{Terms}
 use Rattle.mtapi_machine.specs.declared.ops.Op.{Op}
 use Rattle.mtapi_machine.specs.declared.ops.Op.TheVariants as op
@@ -22,6 +23,7 @@ use Rattle.mtapi_machine.specs.Kept.{skipped, no_counts}
 -- one worker and two callers, with room for so many tasks and with so many generations
 abbrev pub terms_for : ℕ → ℕ → Terms
 terms_for tasks generations = record {
+  layout = One;
   settings = record { workers = 1; tasks = tasks; actions = 64; groups = 128; queues = 16; objects = 16; priorities = 4; generations = generations };
   callers = 2;
 }
