@@ -7,4 +7,14 @@ pub mod Drops
 pub mod Ends
 pub mod Served
 pub mod Replays
-pub mod Worked
+pub mod Tables
+pub mod WorkedPhases
+pub mod WorkedActions
+pub mod WorkedTasks
+pub mod WorkedGroups
+pub mod WorkedQueues
+pub mod WorkedWork
+pub mod WorkedTallies
+pub mod WorkedResources
+pub mod WorkedLayouts
+pub mod Alone

@@ -23,7 +23,7 @@ Allows-answer (unless false x w) r h = Allows-answer w r h
 Allows-answer (gives x s) r h = cc
 Allows-answer never r h = cc
 
-answer-allowed : (w : Row) (r : Reply) → Allows w r → answer w ≡ Some r
+pub answer-allowed : (w : Row) (r : Reply) → Allows w r → answer w ≡ Some r
 answer-allowed (unless true x w) r h = ap Some (sym h)
 answer-allowed (unless false x w) r h = answer-allowed w r h
 answer-allowed (gives x s) r h = ap Some (sym h)

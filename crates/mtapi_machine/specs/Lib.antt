@@ -17,3 +17,12 @@ pub mod Kept
 pub mod Replay
 pub mod Laws
 pub mod Worked
+pub mod WorkedPhases
+pub mod WorkedActions
+pub mod WorkedTasks
+pub mod WorkedGroups
+pub mod WorkedQueues
+pub mod WorkedWork
+pub mod WorkedTallies
+pub mod WorkedResources
+pub mod WorkedLayouts

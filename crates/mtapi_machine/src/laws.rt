@@ -1,7 +1,6 @@
 //! Laws that follow from the definitions of the machine alone. Each function does nothing: its contract is the law.
 
-ghost use Rattle.mtapi_machine.specs.Laws.{MovesAreMade, PrefixIsLegal, NextIsLegal, StatusStays, DroppedStays, DroppingIsLegal, TasksStay, TasksAreServed, LegalReplays};
-ghost use Rattle.mtapi_machine.specs.Worked.{WorkedHistories};
+ghost use Rattle.mtapi_machine.specs.Laws.{MovesAreMade, PrefixIsLegal, NextIsLegal, StatusStays, StatusIsAlone, DroppedStays, DroppingIsLegal, TasksStay, TasksAreServed, LegalReplays};
 
 /// Every move of a row is made where it may be.
 pub fn law_made()
@@ -22,6 +21,11 @@ pub fn law_next()
 /// waiter away.
 pub fn law_status()
     ensures { StatusStays }
+{}
+
+/// Where a status may answer an op, no other reply may: whoever is refused couldn't have been answered anything else.
+pub fn law_status_alone()
+    ensures { StatusIsAlone }
 {}
 
 /// An entry is dropped exactly where its reply is Idle, or Pending and the state stayed as it was; a dropped entry leaves the state.
@@ -47,9 +51,4 @@ pub fn law_served()
 /// A list is legal exactly where its replay, which computes, is the list itself.
 pub fn law_replay()
     ensures { LegalReplays }
-{}
-
-/// Worked histories: some that are legal, and some that are not.
-pub fn worked_histories()
-    ensures { WorkedHistories }
 {}

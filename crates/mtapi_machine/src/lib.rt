@@ -10,6 +10,7 @@ pub mod replies;
 pub mod terms;
 #[cfg(test)]
 mod tests;
+pub mod worked;
 
 pub use ops::Op;
 pub use replies::Reply;

@@ -50,10 +50,10 @@ fn laws_hold(_rt: HostRuntime) {
     laws::law_prefix();
     laws::law_next();
     laws::law_status();
+    laws::law_status_alone();
     laws::law_dropped();
     laws::law_drop();
     laws::law_tasks_stay();
     laws::law_served();
     laws::law_replay();
-    laws::worked_histories();
 }

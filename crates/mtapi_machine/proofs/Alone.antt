@@ -1,0 +1,98 @@
+-- Where a row allows a status, it allows no other reply of the same entry: a reply is read only for what it chooses, and whether a
+-- status answers doesn't hang on that.
+use Rattle.std.proofs.Common.{◌≡◌, ℕ, Bool, true, false, List, [], ◌∷◌, Option, Some, None, refl, sym, ◌∙◌, ap}
+use Rattle.std.specs.Prelude.{if◌then◌else◌}
+use Rattle.mtapi_values.specs.declared.statuses.MtapiStatus.{MtapiStatus}
+use Rattle.mtapi_values.specs.declared.statuses.MrapiStatus.{MrapiStatus}
+use Rattle.handle_pool.specs.Issued.{at}
+use Rattle.mtapi_machine.specs.declared.ops.Op.{Op}
+use Rattle.mtapi_machine.specs.declared.ops.Op.TheVariants.{ActionCreate, TaskStart, TaskEnqueue, GroupCreate, QueueCreate, Pick, MutexCreate, SemCreate, RwlCreate, ShmemCreate}
+use Rattle.mtapi_machine.specs.declared.replies.Reply.{Reply}
+use Rattle.mtapi_machine.specs.declared.replies.Reply.TheVariants.{Handle, Picked, Idle, Stop}
+use Rattle.mtapi_machine.specs.State.{State, Objects, is_stop}
+use Rattle.mtapi_machine.specs.Moves.{Move}
+use Rattle.mtapi_machine.specs.Row.{Row, unless, gives, never, Allows, says, only, live, mtapi_unless}
+use Rattle.mtapi_machine.specs.KeyedRows.{mrapi_unless}
+use Rattle.mtapi_machine.specs.WorkRows.{picks}
+use Rattle.mtapi_machine.specs.Rows.{row}
+use Rattle.mtapi_machine.specs.Laws.{is_status}
+
+-- where the first row allows a status, the second one allows nothing else
+record Alone (v w : Row) (x y : Reply) : Type 0 where
+  pub alone : Allows v x → is_status x ≡ true → Allows w y → y ≡ x
+
+-- the row allows no status
+record Silent (v : Row) (x : Reply) : Type 0 where
+  pub silent : Allows v x → is_status x ≡ true → ⊥
+
+one_reply : (v : Row) (x y : Reply) → Allows v x → Allows v y → y ≡ x
+one_reply (unless true z v) x y a b = b ∙ sym a
+one_reply (unless false z v) x y a b = one_reply v x y a b
+one_reply (gives z ms) x y a b = b ∙ sym a
+one_reply never x y a b = absurd a
+
+same_alone : {v : Row} {x y : Reply} → Alone v v x y
+same_alone {v} {x} {y} = record { alone = λ a s b. one_reply v x y a b }
+
+silent_alone : {v w : Row} {x y : Reply} → Silent v x → Alone v w x y
+silent_alone h = record { alone = λ a s b. absurd (h.silent a s) }
+
+unless_alone : {c : Bool} {z : Reply} {v w : Row} {x y : Reply} → Alone v w x y → Alone (unless c z v) (unless c z w) x y
+unless_alone {c} {z} {v} {w} {x} {y} h = record { alone = by c }
+  where
+    by : (d : Bool) → Allows (unless d z v) x → is_status x ≡ true → Allows (unless d z w) y → y ≡ x
+    by true a s b = b ∙ sym a
+    by false a s b = h.alone a s b
+
+gives_silent : (z : Reply) {ms : List Move} {x : Reply} → is_status z ≡ false → Silent (gives z ms) x
+gives_silent z h = record { silent = λ a s. false_true (sym h ∙ ap is_status (sym a) ∙ s) }
+  where
+    false_true : false ≡ true → ⊥
+    false_true k = cc
+
+only_silent : (c : Bool) {v : Row} {x : Reply} → Silent v x → Silent (only c v) x
+only_silent true h = h
+only_silent false h = record { silent = λ a s. a }
+
+live_silent : {T : Type 0} (o : Option T) (f : T → Row) (x : Reply) → ((t : T) → Silent (f t) x) → Silent (live o never f) x
+live_silent None f x h = record { silent = λ a s. a }
+live_silent (Some t) f x h = h t
+
+live_alone : {T : Type 0} (o : Option T) (n : Row) (f g : T → Row) (x y : Reply) → ((t : T) → Alone (f t) (g t) x y) → Alone (live o n f) (live o n g) x y
+live_alone None n f g x y h = same_alone
+live_alone (Some t) n f g x y h = h t
+
+-- what makes an object gives a handle, where it may be issued
+made_alone : (p q : Bool) (h k : ℕ) (ms ns : List Move) {x y : Reply} → Alone (only p (gives (Handle h) ms)) (only q (gives (Handle k) ns)) x y
+made_alone p q h k ms ns = silent_alone (only_silent p (gives_silent (Handle h) refl))
+
+-- a worker takes a task or is idle
+picks_silent : (s : State) (w : ℕ) (r x : Reply) → Silent (picks s w r) x
+picks_silent s w (Picked t a k args) x =
+    live_silent (at s.tasks t.0) _ x (λ u. live_silent (at s.actions a.0) _ x (λ b. only_silent _ (gives_silent (Picked t a b.kind u.args) refl)))
+picks_silent s w _ x = only_silent _ (gives_silent Idle refl)
+
+picks_alone : (c : Bool) (s : State) (w : ℕ) (v : Row) (q r x y : Reply) → Alone (if c then v else picks s w q) (if c then v else picks s w r) x y
+picks_alone true s w v q r x y = same_alone
+picks_alone false s w v q r x y = silent_alone (picks_silent s w q x)
+
+-- the rows of the ops that make objects, and of pick, read the reply; those of all others don't
+rows_alone : (s : State) (who : ℕ) (op : Op) (x y : Reply) → Alone (row s who op x) (row s who op y) x y
+rows_alone s who (ActionCreate job kind cores) x y = unless_alone (unless_alone (unless_alone (made_alone _ _ _ _ _ _)))
+rows_alone s who (TaskStart job args priority cores detached group) x y =
+    unless_alone (unless_alone (unless_alone (unless_alone (unless_alone (unless_alone (unless_alone (made_alone _ _ _ _ _ _)))))))
+rows_alone s who (TaskEnqueue q args cores detached group) x y =
+    unless_alone (unless_alone (live_alone (at s.queues q.0) _ _ _ x y (λ z.
+    unless_alone (unless_alone (unless_alone (unless_alone (unless_alone (unless_alone (unless_alone (made_alone _ _ _ _ _ _))))))))))
+rows_alone s who GroupCreate x y = unless_alone (unless_alone (made_alone _ _ _ _ _ _))
+rows_alone s who (QueueCreate id job priority limit ordered retain) x y =
+    unless_alone (unless_alone (unless_alone (unless_alone (unless_alone (made_alone _ _ _ _ _ _)))))
+rows_alone s who Pick x y = unless_alone (unless_alone (unless_alone (picks_alone (is_stop s) s who _ x y x y)))
+rows_alone s who (MutexCreate id recursive) x y = unless_alone (unless_alone (unless_alone (unless_alone (made_alone _ _ _ _ _ _))))
+rows_alone s who (SemCreate id limit) x y = unless_alone (unless_alone (unless_alone (unless_alone (unless_alone (made_alone _ _ _ _ _ _)))))
+rows_alone s who (RwlCreate id limit) x y = unless_alone (unless_alone (unless_alone (unless_alone (unless_alone (made_alone _ _ _ _ _ _)))))
+rows_alone s who (ShmemCreate id cells) x y = unless_alone (unless_alone (unless_alone (unless_alone (unless_alone (made_alone _ _ _ _ _ _)))))
+rows_alone s who op x y = same_alone
+
+pub row_alone : (s : State) (who : ℕ) (op : Op) (x y : Reply) → Allows (row s who op x) x → is_status x ≡ true → Allows (row s who op y) y → y ≡ x
+row_alone s who op x y a s' b = (rows_alone s who op x y).alone a s' b

@@ -1,0 +1,40 @@
+use Rattle.std.proofs.Common.{refl, arith}
+use Rattle.action_fn.specs.Answers.{fits, answer_of}
+use Rattle.handle_pool.specs.Issued.{live_of, issue, change, change_all, listed, issued_at, retired, is_full, may_issue}
+use Rattle.mtapi_objects.specs.Actions.{has_worker}
+use Rattle.mtapi_objects.specs.Tasks.{end_each}
+use Rattle.mtapi_objects.specs.Groups.{endings}
+use Rattle.mtapi_machine.specs.WorkRows.{is_ready, can_take, has_better}
+use Rattle.mtapi_machine.specs.Replay.{replay}
+use Rattle.mtapi_machine.specs.Worked.{Works, node_of, small}
+use Rattle.mtapi_machine.specs.WorkedGroups.{groups_made, order_of_ends, whole_group, group_deleted, ordered_members, WorkedGroups}
+use Rattle.mtapi_machine.proofs.Tables.{fits_of, fits_small, works_if, wrong_differ}
+
+groups_made_works : Works small groups_made
+unfolding groups_made replay wrong_differ live_of issue change change_all listed issued_at retired is_full may_issue fits answer_of has_worker end_each endings is_ready can_take has_better
+groups_made_works = works_if small groups_made fits_small refl refl
+
+order_of_ends_works : Works (node_of 1 4 2) order_of_ends
+unfolding order_of_ends replay wrong_differ live_of issue change change_all listed issued_at retired is_full may_issue fits answer_of has_worker end_each endings is_ready can_take has_better
+order_of_ends_works = works_if (node_of 1 4 2) order_of_ends (fits_of 1 4 2 (omega arith) (omega arith) (omega arith) (omega arith) (omega arith) (omega arith)) refl refl
+
+whole_group_works : Works (node_of 1 4 2) whole_group
+unfolding whole_group replay wrong_differ live_of issue change change_all listed issued_at retired is_full may_issue fits answer_of has_worker end_each endings is_ready can_take has_better
+whole_group_works = works_if (node_of 1 4 2) whole_group (fits_of 1 4 2 (omega arith) (omega arith) (omega arith) (omega arith) (omega arith) (omega arith)) refl refl
+
+group_deleted_works : Works (node_of 1 4 2) group_deleted
+unfolding group_deleted replay wrong_differ live_of issue change change_all listed issued_at retired is_full may_issue fits answer_of has_worker end_each endings is_ready can_take has_better
+group_deleted_works = works_if (node_of 1 4 2) group_deleted (fits_of 1 4 2 (omega arith) (omega arith) (omega arith) (omega arith) (omega arith) (omega arith)) refl refl
+
+ordered_members_works : Works (node_of 4 4 2) ordered_members
+unfolding ordered_members replay wrong_differ live_of issue change change_all listed issued_at retired is_full may_issue fits answer_of has_worker end_each endings is_ready can_take has_better
+ordered_members_works = works_if (node_of 4 4 2) ordered_members (fits_of 4 4 2 (omega arith) (omega arith) (omega arith) (omega arith) (omega arith) (omega arith)) refl refl
+
+pub groups : WorkedGroups
+groups = record {
+  made = groups_made_works;
+  ends = order_of_ends_works;
+  whole = whole_group_works;
+  deleted = group_deleted_works;
+  ordered = ordered_members_works;
+}
