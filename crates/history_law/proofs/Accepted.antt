@@ -32,34 +32,34 @@ use Rattle.history_law.proofs.Ends.{grows_listed, all_end, end_later}
 
 -- The entry that accepts a task lists it
 
-abbrev is_handle : Reply → Bool
+abbrev pub is_handle : Reply → Bool
 is_handle (Handle h) = true
 is_handle _ = false
 
 -- no refusal of the row is a handle
-abbrev RefusesAll : Row → Type 0
+abbrev pub RefusesAll : Row → Type 0
 RefusesAll (unless c x w) = (is_handle x ≡ false) × RefusesAll w
 RefusesAll (gives x ms) = Unit {0}
 RefusesAll never = Unit {0}
 
-no_handle : (h : ℕ) (x : Reply) → is_handle x ≡ false → Handle h ≡ x → ⊥
+pub no_handle : (h : ℕ) (x : Reply) → is_handle x ≡ false → Handle h ≡ x → ⊥
 no_handle h x n e = true_false (ap is_handle e ∙ n)
   where
     true_false : true ≡ false → ⊥
     true_false k = cc
 
 -- what holds of the moves that the row gives with a handle holds after one
-granted : (P : List Move → Type 0) (w : Row) (h : ℕ) → RefusesAll w → AllGives (λ x ms. Handle h ≡ x → P ms) w → Allows w (Handle h) → P (moves_of w)
+pub granted : (P : List Move → Type 0) (w : Row) (h : ℕ) → RefusesAll w → AllGives (λ x ms. Handle h ≡ x → P ms) w → Allows w (Handle h) → P (moves_of w)
 granted P (unless true x w) h n g a = absurd (no_handle h x n.0 a)
 granted P (unless false x w) h n g a = granted P w h n.1 (g refl) a
 granted P (gives x ms) h n g a = g a
 granted P never h n g a = absurd a
 
-refuses_live : {T : Type 0} (x : Option T) (v : Row) (w : T → Row) → RefusesAll v → ((t : T) → RefusesAll (w t)) → RefusesAll (live x v w)
+pub refuses_live : {T : Type 0} (x : Option T) (v : Row) (w : T → Row) → RefusesAll v → ((t : T) → RefusesAll (w t)) → RefusesAll (live x v w)
 refuses_live None v w g h = g
 refuses_live (Some t) v w g h = h t
 
-refuses_only : (b : Bool) (x : Reply) (ms : List Move) → RefusesAll (only b (gives x ms))
+pub refuses_only : (b : Bool) (x : Reply) (ms : List Move) → RefusesAll (only b (gives x ms))
 refuses_only true x ms = tt
 refuses_only false x ms = tt
 
@@ -128,7 +128,7 @@ none_listed : (h : ℕ) → listed {T = Task} h [] ≤ 1
 unfolding listed
 none_listed h = omega arith
 
-opening_stands : (terms : Terms) → Stands terms (opening terms)
+pub opening_stands : (terms : Terms) → Stands terms (opening terms)
 opening_stands terms = (refl, record { dead = tt; stopped = λ f. absurd (cc); once = none_listed })
 
 stands_after : (terms : Terms) (L : List NodeEntry) → Stands terms (after terms L)

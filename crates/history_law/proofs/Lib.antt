@@ -9,3 +9,5 @@ pub mod Handles
 pub mod Every
 pub mod Members
 pub mod Others
+pub mod Ages
+pub mod Reuse

@@ -5,6 +5,8 @@ ghost use Rattle.mtapi_machine.specs.Legal.{Legal};
 ghost use Rattle.history_law.specs.Accepted.{AcceptedTasksEndOnce};
 ghost use Rattle.mtapi_machine.specs.State.{terms_of};
 ghost use Rattle.history_law.specs.Ends.{OneEnd, EndsAfterClose};
+ghost use Rattle.mtapi_machine.specs.Laws.{DropsToSame};
+ghost use Rattle.history_law.specs.Reuse.{NeverAgain, NotInBoth};
 ghost use Rattle.history_law.specs.Seats.{OnceAfter, OnceStays, WaiterStays, WorkStays, NoLateEnd, PhaseStays, ReleaseStays, StoppedStays, UnstartedAreUntouched};
 ghost use Rattle.history_law.specs.Worked.{OneTaskEnds};
 
@@ -12,7 +14,7 @@ ghost use Rattle.history_law.specs.Worked.{OneTaskEnds};
 mod tests;
 
 use mtapi_machine::Entry;
-use mtapi_values::{Layout, NodeAttr, TaskHandle};
+use mtapi_values::{Layout, NodeAttr, ObjectKind, TaskHandle};
 
 /// In a legal history that ends with the final step, every task that was accepted has one record and ends once: it is ended at the end
 /// of the history, and wherever an end of it shows, that is its end.
@@ -85,4 +87,22 @@ pub fn law_untouched()
 /// A worker that has stopped stays so.
 pub fn law_stopped_stays()
     ensures { StoppedStays }
+{}
+
+/// The history without its dropped entries is legal, and leads to the same state.
+pub fn law_drop(layout: Layout, settings: &NodeAttr, callers: u32, entries: &[Entry])
+    requires { Legal (terms_of layout settings.now callers) entries.now }
+    ensures { DropsToSame (terms_of layout settings.now callers) entries.now }
+{}
+
+/// A handle that has stopped being live is never issued or live again.
+pub fn law_no_reuse(layout: Layout, settings: &NodeAttr, callers: u32, entries: &[Entry], kind: ObjectKind, h: u64)
+    requires { Legal (terms_of layout settings.now callers) entries.now }
+    ensures { NeverAgain (terms_of layout settings.now callers) entries.now kind h }
+{}
+
+/// In layout two no handle was issued to objects of two kinds.
+pub fn law_kind(layout: Layout, settings: &NodeAttr, callers: u32, entries: &[Entry], a: ObjectKind, b: ObjectKind, h: u64)
+    requires { Legal (terms_of layout settings.now callers) entries.now }
+    ensures { NotInBoth layout (terms_of layout settings.now callers) entries.now a b h }
 {}
