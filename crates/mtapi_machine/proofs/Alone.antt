@@ -1,18 +1,15 @@
 -- Where a row allows a status, it allows no other reply of the same entry: a reply is read only for what it chooses, and whether a
 -- status answers doesn't hang on that.
-use Rattle.std.proofs.Common.{◌≡◌, ℕ, Bool, true, false, List, [], ◌∷◌, Option, Some, None, refl, sym, ◌∙◌, ap}
+use Rattle.std.proofs.Common.{◌≡◌, ℕ, Bool, true, false, List, Option, Some, None, refl, sym, ◌∙◌, ap}
 use Rattle.std.specs.Prelude.{if◌then◌else◌}
-use Rattle.mtapi_values.specs.declared.statuses.MtapiStatus.{MtapiStatus}
-use Rattle.mtapi_values.specs.declared.statuses.MrapiStatus.{MrapiStatus}
 use Rattle.handle_pool.specs.Issued.{at}
 use Rattle.mtapi_machine.specs.declared.ops.Op.{Op}
 use Rattle.mtapi_machine.specs.declared.ops.Op.TheVariants.{ActionCreate, TaskStart, TaskEnqueue, GroupCreate, QueueCreate, Pick, MutexCreate, SemCreate, RwlCreate, ShmemCreate}
 use Rattle.mtapi_machine.specs.declared.replies.Reply.{Reply}
-use Rattle.mtapi_machine.specs.declared.replies.Reply.TheVariants.{Handle, Picked, Idle, Stop}
-use Rattle.mtapi_machine.specs.State.{State, Objects, is_stop}
+use Rattle.mtapi_machine.specs.declared.replies.Reply.TheVariants.{Handle, Picked, Idle}
+use Rattle.mtapi_machine.specs.State.{State, is_stop}
 use Rattle.mtapi_machine.specs.Moves.{Move}
-use Rattle.mtapi_machine.specs.Row.{Row, unless, gives, never, Allows, says, only, live, mtapi_unless}
-use Rattle.mtapi_machine.specs.KeyedRows.{mrapi_unless}
+use Rattle.mtapi_machine.specs.Row.{Row, unless, gives, never, Allows, only, live}
 use Rattle.mtapi_machine.specs.WorkRows.{picks}
 use Rattle.mtapi_machine.specs.Rows.{row}
 use Rattle.mtapi_machine.specs.Laws.{is_status}

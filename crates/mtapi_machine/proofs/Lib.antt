@@ -7,7 +7,8 @@ pub mod Drops
 pub mod Ends
 pub mod Served
 pub mod Replays
-pub mod Tables
+pub mod Lines
+pub mod Worked
 pub mod WorkedPhases
 pub mod WorkedActions
 pub mod WorkedTasks

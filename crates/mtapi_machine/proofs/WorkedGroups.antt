@@ -6,9 +6,9 @@ use Rattle.mtapi_objects.specs.Tasks.{end_each}
 use Rattle.mtapi_objects.specs.Groups.{endings}
 use Rattle.mtapi_machine.specs.WorkRows.{is_ready, can_take, has_better}
 use Rattle.mtapi_machine.specs.Replay.{replay}
-use Rattle.mtapi_machine.specs.Worked.{Works, node_of, small}
+use Rattle.mtapi_machine.specs.Tables.{Works, node_of, small}
 use Rattle.mtapi_machine.specs.WorkedGroups.{groups_made, order_of_ends, whole_group, group_deleted, ordered_members, WorkedGroups}
-use Rattle.mtapi_machine.proofs.Tables.{fits_of, fits_small, works_if, wrong_differ}
+use Rattle.mtapi_machine.proofs.Lines.{fits_of, fits_small, works_if, wrong_differ}
 
 groups_made_works : Works small groups_made
 unfolding groups_made replay wrong_differ live_of issue change change_all listed issued_at retired is_full may_issue fits answer_of has_worker end_each endings is_ready can_take has_better

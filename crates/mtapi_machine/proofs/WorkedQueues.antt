@@ -1,4 +1,4 @@
-use Rattle.std.proofs.Common.{◌≡◌, refl, arith, List, [], ◌∷◌}
+use Rattle.std.proofs.Common.{◌≡◌, refl, arith, [], ◌∷◌}
 use Rattle.action_fn.specs.Answers.{fits, answer_of}
 use Rattle.handle_pool.specs.Issued.{live_of, issue, change, change_all, listed, issued_at, retired, is_full, may_issue}
 use Rattle.mtapi_objects.specs.Actions.{has_worker}
@@ -8,9 +8,9 @@ use Rattle.mtapi_machine.specs.WorkRows.{is_ready, can_take, has_better}
 use Rattle.mtapi_machine.specs.Replay.{replay}
 use Rattle.mtapi_machine.specs.State.{opening}
 use Rattle.mtapi_machine.specs.Kept.{skipped, no_counts}
-use Rattle.mtapi_machine.specs.Worked.{Works, told, node_of, small}
+use Rattle.mtapi_machine.specs.Tables.{Works, told, node_of, small}
 use Rattle.mtapi_machine.specs.WorkedQueues.{queues_made, puts_refused, retained, retained_cancelled, retained_deleted, third_refused, enabled_left, not_retained, queue_deleted, queue_priority, WorkedQueues}
-use Rattle.mtapi_machine.proofs.Tables.{fits_of, fits_small, works_if, wrong_differ}
+use Rattle.mtapi_machine.proofs.Lines.{fits_of, fits_small, works_if, wrong_differ}
 
 queues_made_works : Works small queues_made
 unfolding queues_made replay wrong_differ live_of issue change change_all listed issued_at retired is_full may_issue fits answer_of has_worker end_each endings is_ready can_take has_better

@@ -6,9 +6,9 @@ use Rattle.mtapi_objects.specs.Tasks.{end_each}
 use Rattle.mtapi_objects.specs.Groups.{endings}
 use Rattle.mtapi_machine.specs.WorkRows.{is_ready, can_take, has_better}
 use Rattle.mtapi_machine.specs.Replay.{replay}
-use Rattle.mtapi_machine.specs.Worked.{Works, node_of}
+use Rattle.mtapi_machine.specs.Tables.{Works, node_of}
 use Rattle.mtapi_machine.specs.WorkedTallies.{both_added, no_cell, bad_tallies, too_great, WorkedTallies}
-use Rattle.mtapi_machine.proofs.Tables.{fits_of, works_if, wrong_differ}
+use Rattle.mtapi_machine.proofs.Lines.{fits_of, works_if, wrong_differ}
 
 both_added_works : Works (node_of 2 4 2) both_added
 unfolding both_added replay wrong_differ live_of issue change change_all listed issued_at retired is_full may_issue fits answer_of has_worker end_each endings is_ready can_take has_better

@@ -1,4 +1,4 @@
-use Rattle.std.proofs.Common.{◌≡◌, ◌<◌, refl, arith, List, [], ◌∷◌, ◌++◌, pos}
+use Rattle.std.proofs.Common.{◌≡◌, ◌<◌, refl, arith, [], ◌∷◌, ◌++◌, pos}
 use Rattle.action_fn.specs.Answers.{fits, answer_of}
 use Rattle.handle_pool.specs.Issued.{live_of, issue, change, change_all, listed, issued_at, retired, is_full, may_issue}
 use Rattle.mtapi_objects.specs.Actions.{has_worker}
@@ -12,9 +12,9 @@ use Rattle.history.specs.Histories.{entry}
 use Rattle.mtapi_machine.specs.declared.ops.Op.TheVariants as op
 use Rattle.mtapi_machine.specs.declared.replies.Reply.TheVariants as reply
 use Rattle.mtapi_machine.specs.Legal.{Legal, after_from}
-use Rattle.mtapi_machine.specs.Worked.{Works, told, h1, finish, node_of, small}
+use Rattle.mtapi_machine.specs.Tables.{Works, told, h1, finish, node_of, small}
 use Rattle.mtapi_machine.specs.WorkedWork.{picking, two_workers, finishing, stopped_watch, whole_watch, bad_watches, running, WorkedWork}
-use Rattle.mtapi_machine.proofs.Tables.{fits_of, fits_small, works_if, last_is_next, wrong_differ}
+use Rattle.mtapi_machine.proofs.Lines.{fits_of, fits_small, works_if, last_is_next, wrong_differ}
 
 picking_works : Works (node_of 1 4 2) picking
 unfolding picking replay wrong_differ live_of issue change change_all listed issued_at retired is_full may_issue fits answer_of has_worker end_each endings is_ready can_take has_better

@@ -16,6 +16,7 @@ pub mod Legal
 pub mod Kept
 pub mod Replay
 pub mod Laws
+pub mod Tables
 pub mod Worked
 pub mod WorkedPhases
 pub mod WorkedActions

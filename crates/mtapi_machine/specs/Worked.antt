@@ -1,23 +1,14 @@
--- Worked histories: how the tables of them are written, and what is said of a table. The tables stand in the other files of this name,
--- one a family of ops. Each is a legal history of a small node. Beside a line stand replies that aren't legal in its place.
-use Rattle.std.specs.Prelude.{ℕ, ◌*◌, Bool, true, false, List, [], ◌∷◌, ◌++◌, Option, Some, None, ℤ, pos}
-use Rattle.mtapi_values.specs.declared.kinds.Kind.{Kind}
-use Rattle.mtapi_values.specs.declared.statuses.MtapiStatus.{MtapiStatus}
-use Rattle.mtapi_values.specs.declared.statuses.MrapiStatus.{MrapiStatus}
+-- Two whole runs of a node with one worker, from its opening to its end, by which the crates above work their own cases. The tables of
+-- worked histories stand in the other files of this name.
+use Rattle.std.specs.Prelude.{ℕ, false, List, [], ◌∷◌, None, pos}
+use Rattle.mtapi_values.specs.declared.kinds.Kind.TheVariants as kind
 use Rattle.mtapi_values.specs.declared.masks.Mask.{Mask}
-use Rattle.mtapi_values.specs.declared.ends.TaskEnd.{TaskEnd}
-use Rattle.mtapi_values.specs.declared.handles.Layout.{Layout}
-use Rattle.mtapi_values.specs.declared.handles.Layout.TheVariants.{One}
-use Rattle.mtapi_values.specs.declared.handles.ActionHandle.{ActionHandle}
 use Rattle.mtapi_values.specs.declared.handles.TaskHandle.{TaskHandle}
-use Rattle.mtapi_values.specs.declared.handles.GroupHandle.{GroupHandle}
-use Rattle.mtapi_values.specs.declared.handles.QueueHandle.{QueueHandle}
-use Rattle.mtapi_values.specs.declared.handles.MutexHandle.{MutexHandle}
-use Rattle.mtapi_values.specs.declared.handles.SemHandle.{SemHandle}
-use Rattle.mtapi_values.specs.declared.handles.RwlHandle.{RwlHandle}
-use Rattle.mtapi_values.specs.declared.handles.ShmemHandle.{ShmemHandle}
-use Rattle.action_fn.specs.declared.finished.ActEnd.{ActEnd}
+use Rattle.mtapi_values.specs.declared.handles.ActionHandle.{ActionHandle}
+use Rattle.mtapi_values.specs.declared.ends.TaskEnd.TheVariants.{Completed}
+use Rattle.action_fn.specs.declared.finished.ActEnd.TheVariants.{Done}
 use Rattle.history.specs.Histories.{entry}
+use Rattle.mtapi_values.specs.declared.handles.Layout.TheVariants.{One}
 use Rattle.mtapi_machine.specs.declared.terms.Terms.{Terms}
 use Rattle.mtapi_machine.specs.declared.ops.Op.{Op}
 use Rattle.mtapi_machine.specs.declared.ops.Op.TheVariants as op
@@ -25,164 +16,68 @@ use Rattle.mtapi_machine.specs.declared.replies.Reply.{Reply}
 use Rattle.mtapi_machine.specs.declared.replies.Reply.TheVariants as reply
 use Rattle.mtapi_machine.specs.Legal.{NodeEntry, Legal}
 
--- who asked what, and the reply; and replies that would not be legal in its place
-pub record Line : Type 0 where
-  pub entry : NodeEntry
-  pub wrong : List Reply
-
--- the history that a table tells
-abbrev pub told : List Line → List NodeEntry
-told [] = []
-told (l ∷ ls) = l.entry ∷ told ls
-
--- after these entries, none of these replies may come in the place of this entry's
-abbrev pub NoneIsLegal : Terms → List NodeEntry → NodeEntry → List Reply → Type 0
-NoneIsLegal terms before e [] = Unit {0}
-NoneIsLegal terms before e (x ∷ xs) = (Legal terms (before ++ entry e.who e.op x ∷ []) → ⊥) × NoneIsLegal terms before e xs
-
--- no reply beside a line is legal in its place
-abbrev pub WrongIsIllegal : Terms → List NodeEntry → List Line → Type 0
-WrongIsIllegal terms before [] = Unit {0}
-WrongIsIllegal terms before (l ∷ ls) = NoneIsLegal terms before l.entry l.wrong × WrongIsIllegal terms (before ++ l.entry ∷ []) ls
-
--- the table tells a legal history of a node with these terms
-pub record Works (terms : Terms) (table : List Line) : Type 0 where
-  pub legal : Legal terms (told table)
-  pub wrong : WrongIsIllegal terms [] table
-
--- Terms
-
--- so many workers, two callers, and room for so many tasks and actions, and groups, queues and resources of each kind
-abbrev pub node_of : ℕ → ℕ → ℕ → Terms
-node_of workers tasks others = record {
+-- one worker and two callers, and the settings that a node has where none is chosen
+abbrev pub usual : Terms
+usual = record {
   layout = One;
-  settings = record { workers = workers; tasks = tasks; actions = others; groups = others; queues = others; objects = others; priorities = 4; generations = 4294967295 };
+  settings = record { workers = 1; tasks = 1024; actions = 64; groups = 128; queues = 16; objects = 16; priorities = 4; generations = 4294967295 };
   callers = 2;
 }
 
--- one worker, and room for two tasks and for two objects of each other kind
-abbrev pub small : Terms
-small = node_of 1 2 2
+-- entries of the worker and of main
+abbrev pub worker : Op → Reply → NodeEntry
+worker o r = entry 0 o r
 
--- Lines
+abbrev pub main : Op → Reply → NodeEntry
+main o r = entry 1 o r
 
--- a line with replies that aren't legal in the place of its own
-abbrev pub line : ℕ → Op → Reply → List Reply → Line
-line who o r wrong = record { entry = entry who o r; wrong = wrong }
+-- the handles of the first place and of the next one
+abbrev pub first_handle : ℕ
+first_handle = 4294967296
 
--- lines of the first worker, and of main and the second caller of a node with one worker
-abbrev pub worker : Op → Reply → Line
-worker o r = line 0 o r []
-
-abbrev pub main : Op → Reply → Line
-main o r = line 1 o r []
-
-abbrev pub second : Op → Reply → Line
-second o r = line 2 o r []
-
--- the same, with a reply that isn't legal in the place of its own
-abbrev pub worker_not : Op → Reply → Reply → Line
-worker_not o r x = line 0 o r (x ∷ [])
-
-abbrev pub main_not : Op → Reply → Reply → Line
-main_not o r x = line 1 o r (x ∷ [])
-
-abbrev pub second_not : Op → Reply → Reply → Line
-second_not o r x = line 2 o r (x ∷ [])
-
--- main is refused with this status, and not answered this
-abbrev pub refused : Op → MtapiStatus → Reply → Line
-refused o c x = main_not o (reply.Mtapi c) x
-
-abbrev pub denied : Op → MrapiStatus → Reply → Line
-denied o c x = main_not o (reply.Mrapi c) x
-
--- a seat asks each of these in turn, is answered this, and not that
-abbrev pub each : ℕ → List Op → Reply → Reply → List Line
-each who [] r x = []
-each who (o ∷ os) r x = line who o r (x ∷ []) ∷ each who os r x
-
--- Handles
-
--- in layout one: of the first place, the next and the third one, and of the first and the next place when they are used again
-abbrev pub h1 : ℕ
-h1 = 4294967296
-
-abbrev pub h2 : ℕ
-h2 = 4294967297
-
-abbrev pub h3 : ℕ
-h3 = 4294967298
-
-abbrev pub again1 : ℕ
-again1 = 8589934592
-
-abbrev pub again2 : ℕ
-again2 = 8589934593
-
-abbrev pub action : ℕ → ActionHandle
-action h = record { 0 = h }
+abbrev pub next_handle : ℕ
+next_handle = 4294967297
 
 abbrev pub task : ℕ → TaskHandle
 task h = record { 0 = h }
 
-abbrev pub group : ℕ → GroupHandle
-group h = record { 0 = h }
-
-abbrev pub queue : ℕ → QueueHandle
-queue h = record { 0 = h }
-
-abbrev pub mutex : ℕ → MutexHandle
-mutex h = record { 0 = h }
-
-abbrev pub sem : ℕ → SemHandle
-sem h = record { 0 = h }
-
-abbrev pub rwl : ℕ → RwlHandle
-rwl h = record { 0 = h }
-
-abbrev pub segment : ℕ → ShmemHandle
-segment h = record { 0 = h }
-
--- Masks
+abbrev pub the_action : ActionHandle
+the_action = record { 0 = first_handle }
 
 abbrev pub every_core : Mask
 every_core = record { 0 = 18446744073709551615 }
 
-abbrev pub first_core : Mask
-first_core = record { 0 = 1 }
+-- a task of job 1 with the arguments 2 and 3 and this priority; the worker takes the first task; it says that 2 and 3 make 5
+abbrev pub add_task : ℕ → Op
+add_task priority = op.TaskStart 1 (pos 2 ∷ pos 3 ∷ []) priority every_core false None
 
-abbrev pub second_core : Mask
-second_core = record { 0 = 2 }
+abbrev pub picks_first : NodeEntry
+picks_first = worker op.Pick (reply.Picked (task first_handle) the_action kind.Add (pos 2 ∷ pos 3 ∷ []))
 
--- Ops
+abbrev pub finishes_first : NodeEntry
+finishes_first = worker (op.Finish (task first_handle) (record { kind = kind.Add; args = pos 2 ∷ pos 3 ∷ []; end = Done (pos 5 ∷ []) })) reply.Ok
 
--- an action of job 1 that may run on every core
-abbrev pub action_of : Kind → Op
-action_of k = op.ActionCreate 1 k every_core
+-- the last entries of every whole run
+abbrev pub closed : List NodeEntry
+closed = main op.Close reply.Ok ∷ worker op.Pick reply.Stop ∷ main op.Final reply.Ok ∷ []
 
--- a task of job 1 with these arguments, on every core, of priority 0; and one that is a member of a group
-abbrev pub start : List ℤ → Op
-start args = op.TaskStart 1 args 0 every_core false None
+-- a node that is asked nothing but to open and to close
+unfoldable pub nothing_asked : List NodeEntry
+nothing_asked = main op.Initialize reply.Ok ∷ main op.Release reply.Ok ∷ closed
 
-abbrev pub start_in : ℕ → List ℤ → Op
-start_in g args = op.TaskStart 1 args 0 every_core false (Some (group g))
+-- one task, from its start to its end
+unfoldable pub one_task : List NodeEntry
+one_task =
+    main op.Initialize reply.Ok
+    ∷ main op.Release reply.Ok
+    ∷ main (op.ActionCreate 1 kind.Add every_core) (reply.Handle first_handle)
+    ∷ main (add_task 0) (reply.Handle first_handle)
+    ∷ picks_first
+    ∷ finishes_first
+    ∷ main (op.TaskLook (task first_handle) false) (reply.Ended (Completed (pos 5 ∷ [])))
+    ∷ closed
 
--- a task of this queue with these arguments
-abbrev pub put_in : ℕ → List ℤ → Op
-put_in q args = op.TaskEnqueue (queue q) args every_core false None
-
--- a look that isn't the last one, and a last one
-abbrev pub look : ℕ → Op
-look t = op.TaskLook (task t) false
-
-abbrev pub last_look : ℕ → Op
-last_look t = op.TaskLook (task t) true
-
--- a worker takes this task by the action of the first place
-abbrev pub picked : ℕ → Kind → List ℤ → Reply
-picked t k args = reply.Picked (task t) (action h1) k args
-
--- a worker says that its action of this kind ended so
-abbrev pub finish : ℕ → Kind → List ℤ → ActEnd → Op
-finish t k args e = op.Finish (task t) (record { kind = k; args = args; end = e })
+-- both are legal
+pub record WorkedHistories : Type 0 where
+  pub nothing_asked_legal : Legal usual nothing_asked
+  pub one_task_legal : Legal usual one_task

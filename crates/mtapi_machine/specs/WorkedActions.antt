@@ -1,12 +1,12 @@
 -- Worked: jobs and actions, and the tasks that fail when no worker can take them any more.
-use Rattle.std.specs.Prelude.{ℕ, true, false, List, [], ◌∷◌, None, pos}
+use Rattle.std.specs.Prelude.{true, false, List, [], ◌∷◌, pos}
 use Rattle.mtapi_values.specs.declared.kinds.Kind.TheVariants as kind
 use Rattle.mtapi_values.specs.declared.statuses.MtapiStatus.TheVariants as status
 use Rattle.mtapi_values.specs.declared.ends.TaskEnd.TheVariants.{Completed, Failed}
 use Rattle.action_fn.specs.declared.finished.ActEnd.TheVariants.{Done}
 use Rattle.mtapi_machine.specs.declared.ops.Op.TheVariants as op
 use Rattle.mtapi_machine.specs.declared.replies.Reply.TheVariants as reply
-use Rattle.mtapi_machine.specs.Worked.{Line, Works, node_of, small, line, worker, main, worker_not, main_not, refused, h1, h2, h3, again1, again2, action, task, group, queue, every_core, first_core, second_core, action_of, start, start_in, put_in, look, picked, finish}
+use Rattle.mtapi_machine.specs.Tables.{Line, Works, node_of, small, line, worker, main, main_not, refused, h1, h2, h3, again1, again2, action, task, group, queue, every_core, first_core, second_core, action_of, start, start_in, put_in, look, picked, finish}
 
 -- what the ops on jobs and actions are refused for, and what they answer
 unfoldable pub actions_made : List Line
@@ -66,7 +66,7 @@ action_disabled =
     ∷ main (op.AnyLook (group h1) false) reply.Pending
     ∷ main (op.ActionDisable (action h1)) reply.Ok
     ∷ line 1 (op.AnyLook (group h1) false) (reply.Given (task h2) (Failed status.ErrActionDisabled))
-        (reply.Given (task h1) (Failed status.ErrActionDisabled) ∷ reply.Given (task h2) (Failed status.ErrActionDeleted) ∷ [])
+    (reply.Given (task h1) (Failed status.ErrActionDisabled) ∷ reply.Given (task h2) (Failed status.ErrActionDeleted) ∷ [])
     ∷ main (op.AnyLook (group h1) false) (reply.Given (task h1) (Failed status.ErrActionDisabled))
     ∷ worker (finish h3 kind.Echo (pos 9 ∷ []) (Done (pos 9 ∷ []))) reply.Ok
     ∷ main (look h3) (reply.Ended (Completed (pos 9 ∷ [])))

@@ -1,13 +1,13 @@
 -- Worked: groups, the order of the ends of their members, and what becomes of the members.
-use Rattle.std.specs.Prelude.{ℕ, true, false, List, [], ◌∷◌, Some, None, pos}
+use Rattle.std.specs.Prelude.{ℕ, true, false, List, [], ◌∷◌, Some, pos}
 use Rattle.mtapi_values.specs.declared.kinds.Kind.TheVariants as kind
 use Rattle.mtapi_values.specs.declared.statuses.MtapiStatus.TheVariants as status
-use Rattle.mtapi_values.specs.declared.ends.TaskEnd.TheVariants.{Completed, Cancelled, Failed}
+use Rattle.mtapi_values.specs.declared.ends.TaskEnd.TheVariants.{Completed, Cancelled}
 use Rattle.action_fn.specs.declared.finished.ActEnd.TheVariants.{Done, Fails}
 use Rattle.mtapi_machine.specs.declared.ops.Op.{Op}
 use Rattle.mtapi_machine.specs.declared.ops.Op.TheVariants as op
 use Rattle.mtapi_machine.specs.declared.replies.Reply.TheVariants as reply
-use Rattle.mtapi_machine.specs.Worked.{Line, Works, node_of, small, line, worker, main, second, worker_not, main_not, second_not, refused, h1, h2, h3, again1, action, task, group, queue, every_core, action_of, start, start_in, look, last_look, picked, finish}
+use Rattle.mtapi_machine.specs.Tables.{Line, Works, node_of, small, line, worker, main, main_not, second_not, refused, h1, h2, h3, again1, action, task, group, queue, every_core, action_of, start_in, look, picked, finish}
 
 -- looks at a whole group and at the first of its members
 abbrev pub all : ℕ → Op

@@ -1,5 +1,5 @@
 -- Worked: layout two, in which a handle names the kind of its object.
-use Rattle.std.specs.Prelude.{ℕ, true, false, List, [], ◌∷◌, Some, None, pos}
+use Rattle.std.specs.Prelude.{false, List, [], ◌∷◌, pos}
 use Rattle.mtapi_values.specs.declared.kinds.Kind.TheVariants as kind
 use Rattle.mtapi_values.specs.declared.statuses.MtapiStatus.TheVariants as status
 use Rattle.mtapi_values.specs.declared.statuses.MrapiStatus.TheVariants as code
@@ -8,7 +8,7 @@ use Rattle.mtapi_values.specs.declared.ends.TaskEnd.TheVariants.{Cancelled}
 use Rattle.mtapi_machine.specs.declared.terms.Terms.{Terms}
 use Rattle.mtapi_machine.specs.declared.ops.Op.TheVariants as op
 use Rattle.mtapi_machine.specs.declared.replies.Reply.TheVariants as reply
-use Rattle.mtapi_machine.specs.Worked.{Line, Works, line, worker, main, main_not, refused, denied, h1, again1, action, task, group, queue, mutex, action_of, start, start_in, look}
+use Rattle.mtapi_machine.specs.Tables.{Line, Works, line, main, main_not, refused, denied, h1, again1, action, task, group, queue, mutex, action_of, start, look}
 
 -- one worker, two callers, and room for one object of each kind
 abbrev pub single : Terms

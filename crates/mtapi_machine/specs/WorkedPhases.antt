@@ -1,5 +1,5 @@
 -- Worked: the phases of a node, and what each op answers in a phase in which it is refused. One worker, two callers.
-use Rattle.std.specs.Prelude.{ℕ, true, false, List, [], ◌∷◌, ◌++◌, None, pos}
+use Rattle.std.specs.Prelude.{false, List, [], ◌∷◌, ◌++◌, pos}
 use Rattle.mtapi_values.specs.declared.kinds.Kind.TheVariants as kind
 use Rattle.mtapi_values.specs.declared.statuses.MtapiStatus.TheVariants as status
 use Rattle.mtapi_values.specs.declared.statuses.MrapiStatus.TheVariants as code
@@ -7,7 +7,7 @@ use Rattle.action_fn.specs.declared.finished.ActEnd.TheVariants.{Done}
 use Rattle.mtapi_machine.specs.declared.ops.Op.{Op}
 use Rattle.mtapi_machine.specs.declared.ops.Op.TheVariants as op
 use Rattle.mtapi_machine.specs.declared.replies.Reply.TheVariants as reply
-use Rattle.mtapi_machine.specs.Worked.{Line, Works, small, line, worker, main, second, worker_not, main_not, second_not, refused, denied, each, h1, action, task, group, queue, mutex, sem, rwl, segment, every_core, action_of, start, put_in, look, finish}
+use Rattle.mtapi_machine.specs.Tables.{Line, Works, small, worker, main, worker_not, main_not, second_not, refused, denied, each, h1, action, task, group, queue, mutex, sem, rwl, segment, action_of, start, put_in, look, finish}
 
 -- the ops of MTAPI and of MRAPI that are refused in Closing too, and those that aren't
 abbrev pub mtapi_makers : List Op

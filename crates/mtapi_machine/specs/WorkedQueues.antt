@@ -1,5 +1,5 @@
 -- Worked: queues, what an enqueue is refused for, and what becomes of the tasks of a queue.
-use Rattle.std.specs.Prelude.{◌≡◌, ℕ, true, false, List, [], ◌∷◌, Some, None, pos}
+use Rattle.std.specs.Prelude.{◌≡◌, true, false, List, [], ◌∷◌, Some, None, pos}
 use Rattle.mtapi_values.specs.declared.kinds.Kind.TheVariants as kind
 use Rattle.mtapi_values.specs.declared.statuses.MtapiStatus.TheVariants as status
 use Rattle.mtapi_values.specs.declared.ends.TaskEnd.TheVariants.{Completed, Cancelled, Failed}
@@ -8,7 +8,7 @@ use Rattle.mtapi_machine.specs.declared.ops.Op.TheVariants as op
 use Rattle.mtapi_machine.specs.declared.replies.Reply.TheVariants as reply
 use Rattle.mtapi_machine.specs.State.{opening}
 use Rattle.mtapi_machine.specs.Kept.{skipped, no_counts}
-use Rattle.mtapi_machine.specs.Worked.{Line, told, Works, node_of, small, line, worker, main, worker_not, main_not, refused, h1, h2, h3, again1, action, task, group, queue, every_core, first_core, second_core, action_of, start, start_in, put_in, look, last_look, picked, finish}
+use Rattle.mtapi_machine.specs.Tables.{Line, told, Works, node_of, small, line, worker, main, worker_not, main_not, refused, h1, h2, h3, again1, action, task, group, queue, every_core, first_core, second_core, action_of, start, start_in, put_in, look, last_look, picked, finish}
 
 -- what the ops on queues are refused for; the priorities are 0 to 3
 unfoldable pub queues_made : List Line

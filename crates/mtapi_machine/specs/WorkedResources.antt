@@ -4,7 +4,7 @@ use Rattle.mtapi_values.specs.declared.statuses.MrapiStatus.TheVariants as code
 use Rattle.mtapi_machine.specs.declared.ops.Op.{Op}
 use Rattle.mtapi_machine.specs.declared.ops.Op.TheVariants as op
 use Rattle.mtapi_machine.specs.declared.replies.Reply.TheVariants as reply
-use Rattle.mtapi_machine.specs.Worked.{Line, Works, node_of, small, line, main, second, main_not, second_not, denied, h1, h2, h3, again1, mutex, sem, rwl, segment}
+use Rattle.mtapi_machine.specs.Tables.{Line, Works, node_of, small, line, main, second, main_not, second_not, denied, h1, h2, h3, again1, mutex, sem, rwl, segment}
 
 -- looks that aren't the last ones, and last ones
 

@@ -1,5 +1,5 @@
 -- Worked: tallies, by which workers add numbers to the cells of segments.
-use Rattle.std.specs.Prelude.{ℕ, true, false, List, [], ◌∷◌, Some, None, ℤ, pos, negsuc}
+use Rattle.std.specs.Prelude.{ℕ, true, false, List, [], ◌∷◌, ℤ, pos, negsuc}
 use Rattle.mtapi_values.specs.declared.kinds.Kind.TheVariants as kind
 use Rattle.mtapi_values.specs.declared.statuses.MtapiStatus.TheVariants as status
 use Rattle.mtapi_values.specs.declared.statuses.MrapiStatus.TheVariants as code
@@ -8,7 +8,7 @@ use Rattle.mtapi_machine.specs.declared.ops.Op.{Op}
 use Rattle.mtapi_machine.specs.declared.ops.Op.TheVariants as op
 use Rattle.mtapi_machine.specs.declared.replies.Reply.{Reply}
 use Rattle.mtapi_machine.specs.declared.replies.Reply.TheVariants as reply
-use Rattle.mtapi_machine.specs.Worked.{Line, Works, node_of, line, h1, h2, h3, again1, task, group, mutex, segment, action_of, start, start_in, look, picked}
+use Rattle.mtapi_machine.specs.Tables.{Line, Works, node_of, line, h1, h2, h3, again1, task, group, mutex, segment, action_of, start, start_in, look, picked}
 
 -- lines of main on a node with two workers
 abbrev pub asks : Op → Reply → Line

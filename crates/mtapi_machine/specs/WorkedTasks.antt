@@ -1,14 +1,14 @@
 -- Worked: starting tasks, looking at them, and cancelling them.
-use Rattle.std.specs.Prelude.{ℕ, true, false, List, [], ◌∷◌, Some, None, pos}
+use Rattle.std.specs.Prelude.{true, false, List, [], ◌∷◌, Some, None, pos}
 use Rattle.mtapi_values.specs.declared.kinds.Kind.TheVariants as kind
 use Rattle.mtapi_values.specs.declared.statuses.MtapiStatus.TheVariants as status
-use Rattle.mtapi_values.specs.declared.ends.TaskEnd.TheVariants.{Completed, Cancelled, Failed}
+use Rattle.mtapi_values.specs.declared.ends.TaskEnd.TheVariants.{Completed, Cancelled}
 use Rattle.mtapi_values.specs.declared.handles.Layout.TheVariants.{One}
 use Rattle.action_fn.specs.declared.finished.ActEnd.TheVariants.{Done}
 use Rattle.mtapi_machine.specs.declared.terms.Terms.{Terms}
 use Rattle.mtapi_machine.specs.declared.ops.Op.TheVariants as op
 use Rattle.mtapi_machine.specs.declared.replies.Reply.TheVariants as reply
-use Rattle.mtapi_machine.specs.Worked.{Line, Works, node_of, small, line, worker, main, second, worker_not, main_not, second_not, refused, h1, h2, h3, again1, action, task, group, every_core, first_core, second_core, action_of, start, start_in, look, last_look, picked, finish}
+use Rattle.mtapi_machine.specs.Tables.{Line, Works, node_of, small, line, worker, main, worker_not, main_not, second_not, refused, h1, h2, h3, again1, action, task, group, every_core, first_core, second_core, action_of, start, start_in, look, last_look, picked, finish}
 
 -- what a start is refused for, in the order in which it is looked for; the priorities are 0 to 3
 unfoldable pub starts_refused : List Line

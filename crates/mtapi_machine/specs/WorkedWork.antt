@@ -1,15 +1,14 @@
 -- Worked: the ops by which workers take tasks and end them.
-use Rattle.std.specs.Prelude.{ℕ, true, false, List, [], ◌∷◌, ◌++◌, Some, None, ℤ, pos, negsuc}
+use Rattle.std.specs.Prelude.{true, false, List, [], ◌∷◌, ◌++◌, None, pos, negsuc}
 use Rattle.mtapi_values.specs.declared.kinds.Kind.TheVariants as kind
 use Rattle.mtapi_values.specs.declared.statuses.MtapiStatus.TheVariants as status
 use Rattle.mtapi_values.specs.declared.ends.TaskEnd.TheVariants.{Completed, Cancelled, Failed}
 use Rattle.action_fn.specs.declared.finished.ActEnd.TheVariants.{Done, Fails}
 use Rattle.history.specs.Histories.{entry}
-use Rattle.mtapi_machine.specs.declared.ops.Op.{Op}
 use Rattle.mtapi_machine.specs.declared.ops.Op.TheVariants as op
 use Rattle.mtapi_machine.specs.declared.replies.Reply.TheVariants as reply
 use Rattle.mtapi_machine.specs.Legal.{Legal}
-use Rattle.mtapi_machine.specs.Worked.{Line, told, Works, node_of, small, line, worker, main, worker_not, main_not, refused, h1, h2, h3, again1, action, task, every_core, first_core, second_core, action_of, start, look, picked, finish}
+use Rattle.mtapi_machine.specs.Tables.{Line, told, Works, node_of, small, line, worker, main, worker_not, main_not, refused, h1, h2, h3, again1, action, task, every_core, second_core, action_of, start, look, picked, finish}
 
 -- a worker takes a task of the smallest priority; it takes none while it runs one, and stops once no task is left
 unfoldable pub picking : List Line
@@ -23,7 +22,7 @@ picking =
     ∷ main (op.TaskStart 1 (pos 3 ∷ []) 1 every_core false None) (reply.Handle h3)
     ∷ refused op.Pick status.ErrParameter (picked h2 kind.Add (pos 2 ∷ []))
     ∷ line 0 op.Pick (picked h3 kind.Add (pos 3 ∷ []))
-        (picked h1 kind.Add (pos 1 ∷ []) ∷ reply.Idle ∷ reply.Stop ∷ picked h3 kind.Mul (pos 3 ∷ []) ∷ picked h3 kind.Add [] ∷ picked again1 kind.Add [] ∷ [])
+    (picked h1 kind.Add (pos 1 ∷ []) ∷ reply.Idle ∷ reply.Stop ∷ picked h3 kind.Mul (pos 3 ∷ []) ∷ picked h3 kind.Add [] ∷ picked again1 kind.Add [] ∷ [])
     ∷ line 0 op.Pick (reply.Mtapi status.ErrParameter) (picked h2 kind.Add (pos 2 ∷ []) ∷ reply.Idle ∷ [])
     ∷ worker (finish h3 kind.Add (pos 3 ∷ []) (Done (pos 3 ∷ []))) reply.Ok
     ∷ worker_not op.Pick (picked h2 kind.Add (pos 2 ∷ [])) (picked h3 kind.Add (pos 3 ∷ []))

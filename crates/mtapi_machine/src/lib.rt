@@ -7,10 +7,10 @@
 pub mod laws;
 pub mod ops;
 pub mod replies;
+pub mod tables;
 pub mod terms;
 #[cfg(test)]
 mod tests;
-pub mod worked;
 
 pub use ops::Op;
 pub use replies::Reply;

@@ -1,5 +1,5 @@
 use Rattle.mtapi_machine.proofs.WorkedGroups.{groups}
-use Rattle.mtapi_machine.proofs.worked.worked_groups.Goals as goal
+use Rattle.mtapi_machine.proofs.tables.worked_groups.Goals as goal
 
 pub returns : goal.returns
 returns c = groups

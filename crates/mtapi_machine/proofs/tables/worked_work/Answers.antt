@@ -1,5 +1,5 @@
 use Rattle.mtapi_machine.proofs.WorkedWork.{work}
-use Rattle.mtapi_machine.proofs.worked.worked_work.Goals as goal
+use Rattle.mtapi_machine.proofs.tables.worked_work.Goals as goal
 
 pub returns : goal.returns
 returns c = work

@@ -1,5 +1,5 @@
 use Rattle.mtapi_machine.proofs.WorkedPhases.{phases}
-use Rattle.mtapi_machine.proofs.worked.worked_phases.Goals as goal
+use Rattle.mtapi_machine.proofs.tables.worked_phases.Goals as goal
 
 pub returns : goal.returns
 returns c = phases

@@ -1,6 +1,7 @@
 //! Worked histories: tables of what a node is asked and what it answers, each with replies that it doesn't give. Each function does
 //! nothing: its contract is its family's tables.
 
+ghost use Rattle.mtapi_machine.specs.Worked.{WorkedHistories};
 ghost use Rattle.mtapi_machine.specs.WorkedPhases.{WorkedPhases};
 ghost use Rattle.mtapi_machine.specs.WorkedActions.{WorkedActions};
 ghost use Rattle.mtapi_machine.specs.WorkedTasks.{WorkedTasks};
@@ -10,6 +11,11 @@ ghost use Rattle.mtapi_machine.specs.WorkedWork.{WorkedWork};
 ghost use Rattle.mtapi_machine.specs.WorkedTallies.{WorkedTallies};
 ghost use Rattle.mtapi_machine.specs.WorkedResources.{WorkedResources};
 ghost use Rattle.mtapi_machine.specs.WorkedLayouts.{WorkedLayouts};
+
+/// Two whole runs of a node.
+pub fn worked_histories()
+    ensures { WorkedHistories }
+{}
 
 /// The phases of a node, and what each op answers where its phase refuses it.
 pub fn worked_phases()

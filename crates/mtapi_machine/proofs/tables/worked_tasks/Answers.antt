@@ -1,5 +1,5 @@
 use Rattle.mtapi_machine.proofs.WorkedTasks.{tasks}
-use Rattle.mtapi_machine.proofs.worked.worked_tasks.Goals as goal
+use Rattle.mtapi_machine.proofs.tables.worked_tasks.Goals as goal
 
 pub returns : goal.returns
 returns c = tasks

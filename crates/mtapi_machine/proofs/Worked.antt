@@ -1,0 +1,35 @@
+-- The two whole runs, by computing.
+use Rattle.std.proofs.Common.{refl, arith}
+use Rattle.action_fn.specs.Answers.{fits, answer_of}
+use Rattle.handle_pool.specs.Issued.{live_of, issue, change, listed, issued_at, retired, is_full, may_issue}
+use Rattle.mtapi_objects.specs.Actions.{has_worker}
+use Rattle.mtapi_objects.specs.Tasks.{end_each}
+use Rattle.mtapi_machine.specs.WorkRows.{is_ready, can_take, has_better}
+use Rattle.mtapi_machine.specs.Legal.{Fits, Legal}
+use Rattle.mtapi_machine.specs.Replay.{replay}
+use Rattle.mtapi_machine.specs.Worked.{usual, nothing_asked, one_task}
+use Rattle.mtapi_machine.proofs.Replays.{legal_if}
+
+usual_fits : Fits usual
+usual_fits = record {
+  settings = record {
+    workers = (omega arith, omega arith);
+    tasks = (omega arith, omega arith);
+    actions = (omega arith, omega arith);
+    groups = (omega arith, omega arith);
+    queues = (omega arith, omega arith);
+    objects = (omega arith, omega arith);
+    priorities = (omega arith, omega arith);
+    generations = (omega arith, omega arith);
+  };
+  some_caller = omega arith;
+  callers = omega arith;
+}
+
+pub nothing_asked-legal : Legal usual nothing_asked
+unfolding nothing_asked replay live_of issue change listed issued_at retired is_full may_issue fits answer_of has_worker end_each is_ready can_take has_better
+nothing_asked-legal = record { fits = usual_fits; from = legal_if _ _ refl }
+
+pub one_task-legal : Legal usual one_task
+unfolding one_task replay live_of issue change listed issued_at retired is_full may_issue fits answer_of has_worker end_each is_ready can_take has_better
+one_task-legal = record { fits = usual_fits; from = legal_if _ _ refl }
