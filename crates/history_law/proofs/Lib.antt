@@ -6,3 +6,4 @@ pub mod Worked
 pub mod SeatMoves
 pub mod Found
 pub mod Others
+pub mod Bounds
