@@ -11,3 +11,4 @@ pub mod Members
 pub mod Others
 pub mod Ages
 pub mod Reuse
+pub mod Bounds

@@ -7,7 +7,7 @@ ghost use Rattle.mtapi_machine.specs.State.{terms_of};
 ghost use Rattle.history_law.specs.Ends.{OneEnd, EndsAfterClose};
 ghost use Rattle.mtapi_machine.specs.Laws.{DropsToSame};
 ghost use Rattle.history_law.specs.Reuse.{NeverAgain, NotInBoth};
-ghost use Rattle.history_law.specs.Seats.{OnceAfter, OnceStays, WaiterStays, WorkStays, NoLateEnd, PhaseStays, ReleaseStays, StoppedStays, UnstartedAreUntouched};
+ghost use Rattle.history_law.specs.Seats.{OnceAfter, OnceStays, WaiterStays, WorkStays, NoLateEnd, PhaseStays, ReleaseStays, EarlyStays, StoppedStays, StoppedRoom, UnstartedAreUntouched, EntriesBySeats};
 ghost use Rattle.history_law.specs.Worked.{OneTaskEnds};
 
 #[cfg(test)]
@@ -73,10 +73,11 @@ pub fn law_no_late_end()
     ensures { NoLateEnd }
 {}
 
-/// The phase is moved by its own three ops alone, and the release by its one.
+/// The phase is moved by its own three ops alone, and the release by its one. Before the node is closed, the phase isn't late.
 pub fn law_phase_stays()
     ensures phase { PhaseStays }
     ensures release { ReleaseStays }
+    ensures early { EarlyStays }
 {}
 
 /// A task that hasn't begun has neither looked nor been told anything.
@@ -84,9 +85,15 @@ pub fn law_untouched()
     ensures { UnstartedAreUntouched }
 {}
 
-/// A worker that has stopped stays so.
+/// A worker that has stopped stays so, and there is a mark for each seat.
 pub fn law_stopped_stays()
-    ensures { StoppedStays }
+    ensures stays { StoppedStays }
+    ensures room { StoppedRoom }
+{}
+
+/// Every entry is by a seat.
+pub fn law_seats()
+    ensures { EntriesBySeats }
 {}
 
 /// The history without its dropped entries is legal, and leads to the same state.
