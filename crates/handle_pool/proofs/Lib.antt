@@ -10,3 +10,4 @@ pub mod AnswerLemmas
 pub mod OneEachLemmas
 pub mod CountLemmas
 pub mod KeyLemmas
+pub mod InsideLemmas

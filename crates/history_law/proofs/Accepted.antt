@@ -5,22 +5,24 @@ use Rattle.std.specs.Bool.{MatchBool}
 use Rattle.std.proofs.lemmas.List.{append-nil}
 use Rattle.std.proofs.lemmas.Bool.{eq-eqb}
 use Rattle.mtapi_values.specs.declared.ends.TaskEnd.{TaskEnd}
+use Rattle.mtapi_values.specs.declared.statuses.MtapiStatus.TheVariants as m
 use Rattle.mtapi_values.specs.Seats.{all_marked}
 use Rattle.mtapi_machine.specs.declared.terms.Terms.{Terms}
 use Rattle.mtapi_machine.specs.declared.ops.Op.{Op}
 use Rattle.mtapi_machine.specs.declared.ops.Op.TheVariants as op
 use Rattle.mtapi_machine.specs.declared.replies.Reply.{Reply}
-use Rattle.mtapi_machine.specs.declared.replies.Reply.TheVariants.{Ok, Handle}
+use Rattle.mtapi_machine.specs.declared.replies.Reply.TheVariants.{Ok, Handle, Mtapi}
 use Rattle.history.specs.Histories.{entry}
-use Rattle.handle_pool.specs.Issued.{Listed, listed, issue}
-use Rattle.mtapi_objects.specs.Tasks.{Task}
+use Rattle.handle_pool.specs.Issued.{Listed, at, listed, issue}
+use Rattle.mtapi_objects.specs.Tasks.{Task, NewTask, new_task}
 use Rattle.mtapi_machine.specs.State.{State, opening, workers, is_late}
-use Rattle.mtapi_machine.specs.Moves.{Move, after_moves}
-use Rattle.mtapi_machine.specs.Row.{Row, unless, gives, never, Allows, only, moves_of, after_row}
+use Rattle.mtapi_machine.specs.Moves.{Move, starts, after_moves}
+use Rattle.mtapi_machine.specs.Row.{Row, unless, gives, never, Allows, only, live, moves_of, after_row}
 use Rattle.mtapi_machine.specs.Rows.{row}
+use Rattle.mtapi_machine.specs.TaskRows.{asked_for, asked_of}
 use Rattle.mtapi_machine.specs.Legal.{NodeEntry, IsNext, next, LegalFrom, Legal, after_from, after}
 use Rattle.mtapi_machine.proofs.Lists.{Legal-rest, after-append}
-use Rattle.mtapi_machine.proofs.Made.{AllGives, on_only}
+use Rattle.mtapi_machine.proofs.Made.{AllGives, on_only, on_live}
 use Rattle.mtapi_machine.proofs.Ends.{after_grows}
 use Rattle.mtapi_machine.specs.Ends.{end_at}
 use Rattle.history_law.specs.Accepted.{accepted_by, accepted, TasksEndOnce}
@@ -30,30 +32,34 @@ use Rattle.history_law.proofs.Ends.{grows_listed, all_end, end_later}
 
 -- The entry that accepts a task lists it
 
-abbrev is_handle : Reply → Bool
+abbrev pub is_handle : Reply → Bool
 is_handle (Handle h) = true
 is_handle _ = false
 
 -- no refusal of the row is a handle
-abbrev RefusesAll : Row → Type 0
+abbrev pub RefusesAll : Row → Type 0
 RefusesAll (unless c x w) = (is_handle x ≡ false) × RefusesAll w
 RefusesAll (gives x ms) = Unit {0}
 RefusesAll never = Unit {0}
 
-no_handle : (h : ℕ) (x : Reply) → is_handle x ≡ false → Handle h ≡ x → ⊥
+pub no_handle : (h : ℕ) (x : Reply) → is_handle x ≡ false → Handle h ≡ x → ⊥
 no_handle h x n e = true_false (ap is_handle e ∙ n)
   where
     true_false : true ≡ false → ⊥
     true_false k = cc
 
--- what holds of the moves that the row gives holds after a handle
-granted : (Q : List Move → Type 0) (w : Row) (h : ℕ) → RefusesAll w → AllGives (λ x. Q) w → Allows w (Handle h) → Q (moves_of w)
-granted Q (unless true x w) h n g a = absurd (no_handle h x n.0 a)
-granted Q (unless false x w) h n g a = granted Q w h n.1 (g refl) a
-granted Q (gives x ms) h n g a = g
-granted Q never h n g a = absurd a
+-- what holds of the moves that the row gives with a handle holds after one
+pub granted : (P : List Move → Type 0) (w : Row) (h : ℕ) → RefusesAll w → AllGives (λ x ms. Handle h ≡ x → P ms) w → Allows w (Handle h) → P (moves_of w)
+granted P (unless true x w) h n g a = absurd (no_handle h x n.0 a)
+granted P (unless false x w) h n g a = granted P w h n.1 (g refl) a
+granted P (gives x ms) h n g a = g a
+granted P never h n g a = absurd a
 
-refuses_only : (b : Bool) (x : Reply) (ms : List Move) → RefusesAll (only b (gives x ms))
+pub refuses_live : {T : Type 0} (x : Option T) (v : Row) (w : T → Row) → RefusesAll v → ((t : T) → RefusesAll (w t)) → RefusesAll (live x v w)
+refuses_live None v w g h = g
+refuses_live (Some t) v w g h = h t
+
+pub refuses_only : (b : Bool) (x : Reply) (ms : List Move) → RefusesAll (only b (gives x ms))
 refuses_only true x ms = tt
 refuses_only false x ms = tt
 
@@ -64,13 +70,26 @@ issue_lists h t l = let e : listed h (issue h t l) ≡ listed h l + cond (h == h
 abbrev Lists : ℕ → State → Type 0
 Lists h s = 1 ≤ listed h s.tasks
 
+-- the moves of a row that answers with this handle
+abbrev ListsBy : State → ℕ → Reply → List Move → Type 0
+ListsBy s k x ms = Handle k ≡ x → Lists k (after_moves ms s)
+
+on_create : (s : State) (k : ℕ) (b : Bool) (t : NewTask) → AllGives (ListsBy s k) (only b (gives (Handle k) (starts k t ∷ [])))
+on_create s k b t = on_only (ListsBy s k) b (Handle k) (starts k t ∷ []) (λ m i. issue_lists k (new_task t s.starts) s.tasks)
+
 start_lists : (s : State) (who : ℕ) (o : Op) (r : Reply) (h : ℕ) → accepted_by o r ≡ Some h → Allows (row s who o r) r → Lists h (after_row s (row s who o r))
 start_lists s who (op.TaskStart job args priority cores detached group) (Handle k) h e a =
     let same : k ≡ h = cc in
     subst (λ (j : ℕ). Lists j (after_row s (row s who (op.TaskStart job args priority cores detached group) (Handle k)))) same
     (granted (λ ms. Lists k (after_moves ms s)) (row s who (op.TaskStart job args priority cores detached group) (Handle k)) k
     (refl, (refl, (refl, (refl, (refl, (refl, (refl, refuses_only _ _ _)))))))
-    (λ c0 c1 c2 c3 c4 c5 c6. on_only (λ x ms. Lists k (after_moves ms s)) _ _ _ (λ m. issue_lists k _ s.tasks)) a)
+    (λ c0 c1 c2 c3 c4 c5 c6. on_create s k _ (asked_for job args priority cores detached group)) a)
+start_lists s who (op.TaskEnqueue q args cores detached group) (Handle k) h e a =
+    let same : k ≡ h = cc in
+    subst (λ (j : ℕ). Lists j (after_row s (row s who (op.TaskEnqueue q args cores detached group) (Handle k)))) same
+    (granted (λ ms. Lists k (after_moves ms s)) (row s who (op.TaskEnqueue q args cores detached group) (Handle k)) k
+    (refl, (refl, refuses_live (at s.queues q.0) _ _ tt (λ x. (refl, (refl, (refl, (refl, (refl, (refl, (refl, refuses_only _ _ _))))))))))
+    (λ c d. on_live (ListsBy s k) (at s.queues q.0) _ _ (λ i. absurd (no_handle k (Mtapi m.ErrQueueInvalid) refl i)) (λ x f c0 c1 c2 c3 c4 c5 c6. on_create s k _ (asked_of q.0 x args cores detached group))) a)
 start_lists s who _ _ h e a = absurd (cc)
 
 next_lists : (s : State) (e : NodeEntry) (h : ℕ) → IsNext s e → accepted e ≡ Some h → Lists h (next s e)
@@ -109,7 +128,7 @@ none_listed : (h : ℕ) → listed {T = Task} h [] ≤ 1
 unfolding listed
 none_listed h = omega arith
 
-opening_stands : (terms : Terms) → Stands terms (opening terms)
+pub opening_stands : (terms : Terms) → Stands terms (opening terms)
 opening_stands terms = (refl, record { dead = tt; stopped = λ f. absurd (cc); once = none_listed })
 
 stands_after : (terms : Terms) (L : List NodeEntry) → Stands terms (after terms L)

@@ -5,4 +5,10 @@ pub mod Accepted
 pub mod Worked
 pub mod SeatMoves
 pub mod Found
+pub mod Handles
+pub mod Every
+pub mod Members
 pub mod Others
+pub mod Ages
+pub mod Reuse
+pub mod Bounds

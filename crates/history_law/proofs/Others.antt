@@ -1,24 +1,36 @@
 -- What the entries of other seats leave to a seat.
-use Rattle.std.proofs.Common.{◌≡◌, ◌≢◌, ℕ, zero, suc, ◌+◌, Bool, true, false, cond, List, [], ◌∷◌, Option, Some, None, ◌⊎◌, inl, inr, refl, sym, ◌∙◌, ap, subst, arith}
+use Rattle.std.proofs.Common.{◌≡◌, ◌≢◌, ℕ, zero, suc, Bool, true, false, cond, List, [], ◌∷◌, Option, Some, None, ◌⊎◌, inl, inr, refl, sym, ◌∙◌, ap, subst, arith}
 use Rattle.std.specs.Prelude.{◌==◌, ◌&&◌, not, is_none, slice_set}
 use Rattle.std.proofs.lemmas.Bool.Decides.{nat_tests}
-use Rattle.mtapi_values.specs.declared.kinds.Kind.{Kind}
 use Rattle.mtapi_values.specs.declared.ends.TaskEnd.{TaskEnd}
 use Rattle.mtapi_values.specs.Seats.{is_seat, is_other, marked}
 use Rattle.mtapi_values.specs.Conditions.{holds}
 use Rattle.mtapi_machine.specs.declared.ops.Op.{Op}
+use Rattle.mtapi_machine.specs.declared.ops.Op.TheVariants as op
+use Rattle.mtapi_machine.specs.declared.replies.Reply.{Reply}
+use Rattle.mtapi_values.specs.declared.ends.TaskEnd.TheVariants.{Failed}
 use Rattle.mtapi_machine.specs.declared.terms.Terms.{Terms}
-use Rattle.handle_pool.specs.Issued.{Listed, live_of, lookup, at, count, change, issue, with_fields, gone}
-use Rattle.mtapi_objects.specs.Tasks.{Task, TaskState, Scheduled, Running, Over, scheduled, end_of, runner, runs_on, is_unstarted, is_unended, with_state, ended, end_each, new_task}
+use Rattle.handle_pool.specs.Issued.{Listed, live_of, at, count, change, with_fields, gone}
+use Rattle.mtapi_objects.specs.Groups.{is_member, Ending, endings, in_no_group, freed, let_go}
+use Rattle.mtapi_objects.specs.Tasks.{Task, Notes, with_notes, TaskState, Scheduled, Running, Over, scheduled, end_of, runner, runs_on, is_unstarted, is_unended, with_state, ended, new_task}
 use Rattle.history.specs.Histories.{entries_of}
 use Rattle.mtapi_machine.specs.State.{State, opening}
 use Rattle.mtapi_machine.specs.Legal.{NodeEntry, next, LegalFrom, Legal, after_from, after}
-use Rattle.history_law.specs.Seats.{moves_phase, is_release, is_late_end, IsWaiter, Waits, Work, RunsWith, IsUntouched, Others, WorkerKeeps, NoPhase, NoRelease}
-use Rattle.mtapi_machine.specs.Moves.{Move, phase_is, released, stops, starts, runs, ends, ends_waiting, withdraws, notes, noted, leaves, frees_members, lets_members_go, makes, alters, removes, apply}
-use Rattle.mtapi_machine.proofs.Made.{fst_true}
+use Rattle.history_law.specs.Seats.{moves_phase, is_release, is_late_end, IsWaiter, Waits, OnceListed, Work, RunsWith, IsUntouched, Others, WorkerKeeps, NoPhase, NoRelease}
+use Rattle.mtapi_machine.specs.Moves.{Move, phase_is, released, stops, starts, runs, ends, ends_waiting, withdraws, notes, leaves, frees_members, lets_members_go, makes, alters, removes, apply, after_moves}
+use Rattle.mtapi_machine.specs.Row.{after_row}
+use Rattle.mtapi_machine.specs.Rows.{row}
+use Rattle.mtapi_machine.specs.GroupRows.{gives_end, gives_first}
+use Rattle.mtapi_machine.proofs.Made.{AllGives, moves_given, on_live, fst_true, snd_true, both_true, not_true}
 use Rattle.mtapi_machine.proofs.Moves.{sorts_keep}
-use Rattle.history_law.proofs.SeatMoves.{SameLooks, Notes, May, MayEnd, by_moves}
-use Rattle.history_law.proofs.Found.{FoundAs, found_changed, found_issued, count_changed, count_issued, found_ends, count_ends}
+use Rattle.history_law.proofs.SeatMoves.{SameWork, Noted, May, MayEnd, is_any_look, by_moves}
+use Rattle.history_law.proofs.Moves.{once_along, once_from}
+use Rattle.history_law.proofs.Members.{AllOf, IsEnding, all_endings}
+use Rattle.history_law.proofs.Every.{Every, every_issue, every_change, every_all, every_at, every_ends}
+use Rattle.history_law.proofs.Found.{FoundAs, found_changed, found_issued, count_changed, count_issued, found_ends, count_ends, found_all, count_all}
+
+some_same : {A : Type 0} {x y : A} → Some x ≡ Some y → x ≡ y
+some_same e = cc
 
 true_false : {A : Type 0} {b : Bool} → b ≡ true → b ≡ false → A
 true_false e f = absurd (cc)
@@ -33,12 +45,14 @@ not_detached : (b : Bool) → b ≡ false → (true && not b) ≡ true
 not_detached true e = true_false refl e
 not_detached false e = refl
 
-ended_live : (r : Listed Task) (e : TaskEnd) (n : ℕ) → r.live ≡ true → r.fields.detached ≡ false → (ended e n r).live ≡ true
+ended_live : (r : Listed Task) (e : TaskEnd) (n : ℕ) → r.live ≡ true → r.fields.notes.detached ≡ false → (ended e n r).live ≡ true
 ended_live r e n a d = (λ i. a i && not (d i))
 
 waits_ended : (w : ℕ) (t : Task) (e : TaskEnd) (n : ℕ) (r : Listed Task) → IsWaiter w t → r.live ≡ true → r.fields ≡ t → ((ended e n r).live ≡ true) × IsWaiter w (ended e n r).fields
-waits_ended w t e n r i a s =
-    (ended_live r e n a (ap (λ (u : Task). u.detached) s ∙ i.kept), record { mark = ap (λ (u : Task). is_seat w u.waiter) s ∙ i.mark; kept = ap (λ (u : Task). u.detached) s ∙ i.kept })
+waits_ended w t e n r i a s = (
+  ended_live r e n a (ap (λ (u : Task). u.notes.detached) s ∙ i.kept),
+  record { mark = ap (λ (u : Task). is_seat w u.notes.waiter) s ∙ i.mark; kept = ap (λ (u : Task). u.notes.detached) s ∙ i.kept; alone = ap (λ (u : Task). u.notes.group) s ∙ i.alone },
+)
 
 waits_set : (w : ℕ) (f : Task → Task) (t : Task) (r : Listed Task) → IsWaiter w (f t) → r.live ≡ true → r.fields ≡ t → ((with_fields f r).live ≡ true) × IsWaiter w (with_fields f r).fields
 waits_set w f t r i a s = (a, subst (λ (u : Task). IsWaiter w (f u)) (sym s) i)
@@ -49,35 +63,48 @@ same_found s j h e t u a b = same (sym a ∙ (ap (λ (i : ℕ). at s.tasks i) e 
     same : Some t ≡ Some u → t ≡ u
     same i = cc
 
-same_other : (s : State) (who j h : ℕ) → j ≡ h → (t u : Task) → at s.tasks j ≡ Some t → at s.tasks h ≡ Some u → is_other who t.waiter ≡ false → is_other who u.waiter ≡ false
-same_other s who j h e t u a b n = ap (λ (x : Task). is_other who x.waiter) (sym (same_found s j h e t u a b)) ∙ n
+same_other : (s : State) (who j h : ℕ) → j ≡ h → (t u : Task) → at s.tasks j ≡ Some t → at s.tasks h ≡ Some u → is_other who t.notes.waiter ≡ false → is_other who u.notes.waiter ≡ false
+same_other s who j h e t u a b n = ap (λ (x : Task). is_other who x.notes.waiter) (sym (same_found s j h e t u a b)) ∙ n
 
 -- what another seat notes of a task leaves the waiter's mark
-noted_waits : (w who : ℕ) (f : Task → Task) (t : Task) → who ≢ w → Notes who f t → IsWaiter w t → IsWaiter w (noted f t)
+noted_waits : (w who : ℕ) (f : Notes → Notes) (t : Task) → who ≢ w → Noted who f t → IsWaiter w t → IsWaiter w (with_notes f t)
 noted_waits w who f t n x i = by_waiter x.waiter
   where
-    by_waiter : (is_other who t.waiter ≡ false) ⊎ ((f t).waiter ≡ t.waiter) → IsWaiter w (noted f t)
-    by_waiter (inl a) = absurd (waiter_other w who t.waiter n i.mark a)
-    by_waiter (inr e) = record { mark = ap (is_seat w) e ∙ i.mark; kept = x.detached ∙ i.kept }
+    by_waiter : (is_other who t.notes.waiter ≡ false) ⊎ ((f t.notes).waiter ≡ t.notes.waiter) → IsWaiter w (with_notes f t)
+    by_waiter (inl a) = absurd (waiter_other w who t.notes.waiter n i.mark a)
+    by_waiter (inr e) = record { mark = ap (is_seat w) e ∙ i.mark; kept = x.detached ∙ i.kept; alone = by_group x.group }
+      where
+        by_group : ((f t.notes).group ≡ t.notes.group) ⊎ ((f t.notes).group ≡ None) → (f t.notes).group ≡ None
+        by_group (inl g) = g ∙ i.alone
+        by_group (inr g) = g
 
-waits_move : (w h who : ℕ) (o : Op) → who ≢ w → (s : State) (x : Move) → May s who o x → Waits s w h → Waits (apply x s) w h
-waits_move w h who o n s (starts j t) k v = found_issued (IsWaiter w) j h (new_task t s.starts) s.tasks v.0 v.1 v.2
-waits_move w h who o n s (runs j y z) k v = found_changed (IsWaiter w) j h (with_fields (with_state (Running y z))) (λ r. refl) s.tasks v.0 v.1 v.2 (λ r e a f. waits_set w (with_state (Running y z)) v.0 r (record { mark = v.2.mark; kept = v.2.kept }) a f)
-waits_move w h who o n s (notes j f) k v =
-    found_changed (IsWaiter w) j h (with_fields (noted f)) (λ r. refl) s.tasks v.0 v.1 v.2
-    (λ r e a d. waits_set w (noted f) v.0 r (noted_waits w who f v.0 n (subst (λ (t : Task). Notes who f t) (same_found s j h e k.0 v.0 k.1 v.1) k.2) v.2) a d)
-waits_move w h who o n s (leaves j) k v =
+-- a task in no group is a member of none
+no_member : (g : ℕ) (t : Task) → t.notes.group ≡ None → is_member g t ≡ false
+no_member g t e = ap (holds (λ h. h == g)) e
+
+waits_move : (w h who : ℕ) (o : Op) → who ≢ w → is_any_look o ≡ false → (s : State) (x : Move) → May s who o x → Waits s w h → Waits (apply x s) w h
+waits_move w h who o n b s (starts j t) k v = found_issued (IsWaiter w) j h (new_task t s.starts) s.tasks v.0 v.1 v.2
+waits_move w h who o n b s (runs j y z) k v = found_changed (IsWaiter w) j h (with_fields (with_state (Running y z))) (λ r. refl) s.tasks v.0 v.1 v.2 (λ r e a f. waits_set w (with_state (Running y z)) v.0 r (record { mark = v.2.mark; kept = v.2.kept; alone = v.2.alone }) a f)
+waits_move w h who o n b s (notes j f) k v =
+    found_changed (IsWaiter w) j h (with_fields (with_notes f)) (λ r. refl) s.tasks v.0 v.1 v.2
+    (λ r e a d. waits_set w (with_notes f) v.0 r (noted_waits w who f v.0 n (subst (λ (t : Task). Noted who f t) (same_found s j h e k.0 v.0 k.1 v.1) k.2) v.2) a d)
+waits_move w h who o n b s (leaves j) k v =
     found_changed (IsWaiter w) j h gone (λ r. refl) s.tasks v.0 v.1 v.2
-    (λ r e a f. absurd (waiter_other w who v.0.waiter n v.2.mark (same_other s who j h e k.0 v.0 k.1 v.1 k.3)))
-waits_move w h who o n s (ends j e) k v = found_changed (IsWaiter w) j h (ended e s.ends) (λ r. refl) s.tasks v.0 v.1 v.2 (λ r d a f. waits_ended w v.0 e s.ends r v.2 a f)
-waits_move w h who o n s (ends_waiting p e) k v = found_ends (IsWaiter w) (λ t. is_unstarted t && p t) e s.ends h s.tasks v.0 v.1 v.2 (λ r m a f d. waits_ended w v.0 e m r v.2 a f)
-waits_move w h who o n s (withdraws j f c) k v = absurd k
-waits_move w h who o n s (frees_members g) k v = absurd k
-waits_move w h who o n s (lets_members_go g) k v = absurd k
-waits_move w h who o n s (makes z j x) k v = sorts_keep (λ t. Waits t w h) (λ t g q m c r y p. p) z _ s v
-waits_move w h who o n s (alters z j f) k v = sorts_keep (λ t. Waits t w h) (λ t g q m c r y p. p) z _ s v
-waits_move w h who o n s (removes z j) k v = sorts_keep (λ t. Waits t w h) (λ t g q m c r y p. p) z _ s v
-waits_move w h who o n s _ k v = v
+    (λ r e a f. absurd (by_look e k.3))
+  where
+    by_look : j ≡ h → (is_any_look o ≡ true) ⊎ (is_other who k.0.notes.waiter ≡ false) → ⊥
+    by_look e (inl i) = true_false i b
+    by_look e (inr i) = (waiter_other w who v.0.notes.waiter n v.2.mark (same_other s who j h e k.0 v.0 k.1 v.1 i))
+waits_move w h who o n b s (ends j e) k v = found_changed (IsWaiter w) j h (ended e s.ends) (λ r. refl) s.tasks v.0 v.1 v.2 (λ r d a f. waits_ended w v.0 e s.ends r v.2 a f)
+waits_move w h who o n b s (ends_waiting p e) k v = found_ends (IsWaiter w) (λ t. is_unstarted t && p t) e s.ends h s.tasks v.0 v.1 v.2 (λ r m a f d. waits_ended w v.0 e m r v.2 a f)
+waits_move w h who o n b s (withdraws j f c) k v = found_ends (IsWaiter w) _ (Failed c) s.ends h s.tasks v.0 v.1 v.2 (λ r m a i d. waits_ended w v.0 (Failed c) m r v.2 a i)
+waits_move w h who o n b s (frees_members g) k v =
+    found_all (IsWaiter w) _ freed h (λ r. refl) s.tasks v.0 v.1 v.2 (λ r a i d. true_false (fst_true (is_member g v.0) _ d) (no_member g v.0 v.2.alone))
+waits_move w h who o n b s (lets_members_go g) k v = found_all (IsWaiter w) _ let_go h (λ r. refl) s.tasks v.0 v.1 v.2 (λ r a i d. true_false d (no_member g v.0 v.2.alone))
+waits_move w h who o n b s (makes z j x) k v = sorts_keep (λ t. Waits t w h) (λ t g q m c r y p. p) z _ s v
+waits_move w h who o n b s (alters z j f) k v = sorts_keep (λ t. Waits t w h) (λ t g q m c r y p. p) z _ s v
+waits_move w h who o n b s (removes z j) k v = sorts_keep (λ t. Waits t w h) (λ t g q m c r y p. p) z _ s v
+waits_move w h who o n b s _ k v = v
 
 -- The work of a worker
 
@@ -127,17 +154,30 @@ count_alike w j f l t e g = let n = count_changed (runs_on w) j f (runs_on w t) 
 state_alike : (w : ℕ) (f : Task → Task) → ((t : Task) → (f t).state ≡ t.state) → (t : Task) (r : Listed Task) → r.live ≡ true → r.fields ≡ t → ((with_fields f r).live && runs_on w (with_fields f r).fields) ≡ runs_on w t
 state_alike w f k t r a s = live_same r.live _ a ∙ (ap (λ (x : TaskState). holds (λ y. y.0 == w) (runner x)) (k r.fields) ∙ ap (runs_on w) s)
 
+-- a member that is let go of runs as before
+goes_alike : (w : ℕ) (r : Listed Task) → r.live ≡ true → ((let_go r).live && runs_on w (let_go r).fields) ≡ runs_on w r.fields
+goes_alike w r a = by_live r.live a
+  where
+    by_state : (x : TaskState) → (is_none (end_of x) && holds (λ y. y.0 == w) (runner x)) ≡ holds (λ y. y.0 == w) (runner x)
+    by_state Scheduled = refl
+    by_state (Running v k) = refl
+    by_state (Over e n) = refl
+
+    by_live : (b : Bool) → b ≡ true → ((b && is_unended r.fields) && runs_on w r.fields) ≡ runs_on w r.fields
+    by_live true e = by_state r.fields.state
+    by_live false e = absurd (cc)
+
 work_count : (w who : ℕ) (o : Op) → who ≢ w → (s : State) (x : Move) → May s who o x → count (runs_on w) (apply x s).tasks ≡ count (runs_on w) s.tasks
 work_count w who o n s (starts j t) k = let e = count_issued (runs_on w) j (new_task t s.starts) s.tasks in omega arith
 work_count w who o n s (runs j y z) k =
     count_alike w j (with_fields (with_state (Running y z))) s.tasks k.0 k.1 (λ r a f. live_same r.live _ a ∙ (apart_seats y who w k.3 n ∙ sym (runs_scheduled w k.0 k.2)))
-work_count w who o n s (notes j f) k = count_alike w j (with_fields (noted f)) s.tasks k.0 k.1 (state_alike w (noted f) (λ t. refl) k.0)
+work_count w who o n s (notes j f) k = count_alike w j (with_fields (with_notes f)) s.tasks k.0 k.1 (state_alike w (with_notes f) (λ t. refl) k.0)
 work_count w who o n s (leaves j) k = count_alike w j gone s.tasks k.0 k.1 (λ r a f. sym (runs_over w k.0 k.2))
 work_count w who o n s (ends j e) k = count_alike w j (ended e s.ends) s.tasks k.0 k.1 (λ r a f. never_runs w _ ∙ sym (may_end_apart w who k.0 n k.2))
 work_count w who o n s (ends_waiting p e) k = count_ends (runs_on w) (λ t. is_unstarted t && p t) e s.ends s.tasks (λ r m a f. never_runs w _ ∙ sym (runs_scheduled w r.fields (fst_true _ _ f)))
-work_count w who o n s (withdraws j f c) k = absurd k
-work_count w who o n s (frees_members g) k = absurd k
-work_count w who o n s (lets_members_go g) k = absurd k
+work_count w who o n s (withdraws j f c) k = count_ends (runs_on w) _ (Failed c) s.ends s.tasks (λ r m a i. never_runs w _ ∙ sym (runs_scheduled w r.fields (fst_true _ _ i)))
+work_count w who o n s (frees_members g) k = count_all (runs_on w) _ freed s.tasks (λ r a i. sym (runs_over w r.fields (not_true _ (snd_true (is_member g r.fields) _ i))))
+work_count w who o n s (lets_members_go g) k = count_all (runs_on w) (is_member g) let_go s.tasks (λ r a i. goes_alike w r a)
 work_count w who o n s (makes z j x) k = sorts_keep (λ t. count (runs_on w) t.tasks ≡ count (runs_on w) s.tasks) (λ t g q m c r y p. p) z _ s refl
 work_count w who o n s (alters z j f) k = sorts_keep (λ t. count (runs_on w) t.tasks ≡ count (runs_on w) s.tasks) (λ t g q m c r y p. p) z _ s refl
 work_count w who o n s (removes z j) k = sorts_keep (λ t. count (runs_on w) t.tasks ≡ count (runs_on w) s.tasks) (λ t g q m c r y p. p) z _ s refl
@@ -156,12 +196,18 @@ runs_here w q t i = ap (λ (x : TaskState). holds (λ r. r.0 == w) (runner x)) i
 runs_as_they_are : (s : State) (w j h : ℕ) (q : Work) → j ≡ h → (t u : Task) → at s.tasks j ≡ Some t → at s.tasks h ≡ Some u → RunsWith w q u → runs_on w t ≡ false → ⊥
 runs_as_they_are s w j h q e t u a b i n = true_false (runs_here w q u i) (ap (runs_on w) (sym (same_found s j h e t u a b)) ∙ n)
 
-noted_runs : (w who : ℕ) (q : Work) (f : Task → Task) (t : Task) → who ≢ w → Notes who f t → RunsWith w q t → RunsWith w q (noted f t)
+noted_runs : (w who : ℕ) (q : Work) (f : Notes → Notes) (t : Task) → who ≢ w → Noted who f t → RunsWith w q t → RunsWith w q (with_notes f t)
 noted_runs w who q f t n x i = by_work x.work
   where
-    by_work : (runs_on who t ≡ true) ⊎ SameLooks t (f t) → RunsWith w q (noted f t)
+    by_work : (runs_on who t ≡ true) ⊎ SameWork t.notes (f t.notes) → RunsWith w q (with_notes f t)
     by_work (inl a) = true_false (runs_here w q t i) (runs_apart w who t n a)
-    by_work (inr e) = record { state = i.state; arguments = i.arguments; looked = e.looks ∙ i.looked; told = e.seen ∙ i.told }
+    by_work (inr e) = record { state = i.state; arguments = i.arguments; looked = e.looks ∙ i.looked; told = e.seen ∙ i.told; did = e.tally ∙ i.did }
+
+-- a member that is let go of and runs stays live, and runs on
+goes_on : (w : ℕ) (q : Work) (t : Task) (r : Listed Task) → RunsWith w q t → r.live ≡ true → r.fields ≡ t → ((let_go r).live ≡ true) × RunsWith w q (let_go r).fields
+goes_on w q t r i a s =
+    let j : RunsWith w q r.fields = subst (RunsWith w q) (sym s) i in
+    (both_true r.live (is_unended r.fields) a (ap (λ (x : TaskState). is_none (end_of x)) j.state), record { state = j.state; arguments = j.arguments; looked = j.looked; told = j.told; did = j.did })
 
 runs_move : (w h : ℕ) (q : Work) (who : ℕ) (o : Op) → who ≢ w → (s : State) (x : Move) → May s who o x → FoundAs (RunsWith w q) s.tasks h → FoundAs (RunsWith w q) (apply x s).tasks h
 runs_move w h q who o n s (starts j t) k v = found_issued (RunsWith w q) j h (new_task t s.starts) s.tasks v.0 v.1 v.2
@@ -169,8 +215,8 @@ runs_move w h q who o n s (runs j y z) k v =
     found_changed (RunsWith w q) j h (with_fields (with_state (Running y z))) (λ r. refl) s.tasks v.0 v.1 v.2
     (λ r e a f. absurd (runs_as_they_are s w j h q e k.0 v.0 k.1 v.1 v.2 (runs_scheduled w k.0 k.2)))
 runs_move w h q who o n s (notes j f) k v =
-    found_changed (RunsWith w q) j h (with_fields (noted f)) (λ r. refl) s.tasks v.0 v.1 v.2
-    (λ r e a d. runs_set w q (noted f) v.0 r (noted_runs w who q f v.0 n (subst (λ (t : Task). Notes who f t) (same_found s j h e k.0 v.0 k.1 v.1) k.2) v.2) a d)
+    found_changed (RunsWith w q) j h (with_fields (with_notes f)) (λ r. refl) s.tasks v.0 v.1 v.2
+    (λ r e a d. runs_set w q (with_notes f) v.0 r (noted_runs w who q f v.0 n (subst (λ (t : Task). Noted who f t) (same_found s j h e k.0 v.0 k.1 v.1) k.2) v.2) a d)
 runs_move w h q who o n s (leaves j) k v =
     found_changed (RunsWith w q) j h gone (λ r. refl) s.tasks v.0 v.1 v.2 (λ r e a f. absurd (runs_as_they_are s w j h q e k.0 v.0 k.1 v.1 v.2 (runs_over w k.0 k.2)))
 runs_move w h q who o n s (ends j e) k v =
@@ -178,9 +224,11 @@ runs_move w h q who o n s (ends j e) k v =
     (λ r d a f. absurd (runs_as_they_are s w j h q d k.0 v.0 k.1 v.1 v.2 (may_end_apart w who k.0 n k.2)))
 runs_move w h q who o n s (ends_waiting p e) k v =
     found_ends (RunsWith w q) (λ t. is_unstarted t && p t) e s.ends h s.tasks v.0 v.1 v.2 (λ r m a f d. absurd (true_false (runs_here w q v.0 v.2) (runs_scheduled w v.0 (fst_true _ _ d))))
-runs_move w h q who o n s (withdraws j f c) k v = absurd k
-runs_move w h q who o n s (frees_members g) k v = absurd k
-runs_move w h q who o n s (lets_members_go g) k v = absurd k
+runs_move w h q who o n s (withdraws j f c) k v =
+    found_ends (RunsWith w q) _ (Failed c) s.ends h s.tasks v.0 v.1 v.2 (λ r m a i d. absurd (true_false (runs_here w q v.0 v.2) (runs_scheduled w v.0 (fst_true _ _ d))))
+runs_move w h q who o n s (frees_members g) k v =
+    found_all (RunsWith w q) _ freed h (λ r. refl) s.tasks v.0 v.1 v.2 (λ r a i d. true_false (runs_here w q v.0 v.2) (runs_over w v.0 (not_true _ (snd_true (is_member g v.0) _ d))))
+runs_move w h q who o n s (lets_members_go g) k v = found_all (RunsWith w q) (is_member g) let_go h (λ r. refl) s.tasks v.0 v.1 v.2 (λ r a i d. goes_on w q v.0 r v.2 a i)
 runs_move w h q who o n s (makes z j x) k v = sorts_keep (λ t. FoundAs (RunsWith w q) t.tasks h) (λ t g q m c r y p. p) z _ s v
 runs_move w h q who o n s (alters z j f) k v = sorts_keep (λ t. FoundAs (RunsWith w q) t.tasks h) (λ t g q m c r y p. p) z _ s v
 runs_move w h q who o n s (removes z j) k v = sorts_keep (λ t. FoundAs (RunsWith w q) t.tasks h) (λ t g q m c r y p. p) z _ s v
@@ -198,12 +246,43 @@ other_head w e es = by_seat (e.who == w) refl
     by_seat true d i = absurd (cc)
     by_seat false d i = (apart d, i)
 
-pub waiter_stays : (s : State) (L : List NodeEntry) (w h : ℕ) → LegalFrom s L → Others w L → Waits s w h → Waits (after_from s L) w h
+-- a look at a group gives a member, and no seat waits for one
+any_gives : (w h : ℕ) (s : State) (g j : ℕ) (x : Task) (y : TaskState) → at s.tasks j ≡ Some x → is_member g x ≡ true → Waits s w h → AllGives (λ r ms. Waits (after_moves ms s) w h) (gives_end j y)
+any_gives w h s g j x Scheduled e m v = tt
+any_gives w h s g j x (Running z k) e m v = tt
+any_gives w h s g j x (Over z n) e m v =
+    let u = found_changed (IsWaiter w) j h (with_fields (with_notes in_no_group)) (λ r. refl) s.tasks v.0 v.1 v.2 (λ r i a f. absurd (apart i)) in
+    found_changed (IsWaiter w) j h gone (λ r. refl) _ u.0 u.1 u.2 (λ r i a f. absurd (apart i))
+  where
+    apart : j ≡ h → ⊥
+    apart i = true_false m (no_member g x (ap (λ (t : Task). t.notes.group) (same_found s j h i x v.0 e v.1) ∙ v.2.alone))
+
+any_first : (w h : ℕ) (s : State) (g : ℕ) (last : Bool) (es : List Ending) → AllOf (IsEnding g s.tasks) es → Waits s w h → AllGives (λ r ms. Waits (after_moves ms s) w h) (gives_first s last es)
+any_first w h s g last [] a v = v
+any_first w h s g last (e ∷ es) a v = on_live _ (at s.tasks e.task) _ _ tt (λ x i. any_gives w h s g e.task x x.state i (a.0.member x i) v)
+
+waits_any : (w h : ℕ) (s : State) (who : ℕ) (o : Op) (r : Reply) → is_any_look o ≡ true → OnceListed s → Waits s w h → Waits (after_row s (row s who o r)) w h
+waits_any w h s who (op.AnyLook g last) r b o v =
+    moves_given (λ ms. Waits (after_moves ms s) w h) (row s who (op.AnyLook g last) r) v
+    (λ c. on_live _ (at s.groups g.0) _ _ v (λ x e d. any_first w h s g.0 last (endings g.0 (live_of s.tasks)) (all_endings g.0 s.tasks o) v))
+waits_any w h s who _ r b o v = true_false b refl
+
+pub once_stays : (s : State) (L : List NodeEntry) → OnceListed s → OnceListed (after_from s L)
+once_stays s L o = once_along s L o
+
+pub once_after : (terms : Terms) (L : List NodeEntry) → Legal terms L → OnceListed (after terms L)
+once_after terms L l = once_from terms L
+
+pub waiter_stays : (s : State) (L : List NodeEntry) (w h : ℕ) → OnceListed s → LegalFrom s L → Others w L → Waits s w h → Waits (after_from s L) w h
 unfolding LegalFrom after_from
-waiter_stays s [] w h l o v = v
-waiter_stays s (e ∷ es) w h l o v =
+waiter_stays s [] w h n l o v = v
+waiter_stays s (e ∷ es) w h n l o v =
     let q = other_head w e es o in
-    waiter_stays (next s e) es w h l.1 q.1 (by_moves (λ t. Waits t w h) s e l.0 (λ t x k y. waits_move w h e.who e.op q.0 t x k y) v)
+    waiter_stays (next s e) es w h (once_stays s (e ∷ []) n) l.1 q.1 (by_look q.0 (is_any_look e.op) refl)
+  where
+    by_look : e.who ≢ w → (b : Bool) → is_any_look e.op ≡ b → Waits (next s e) w h
+    by_look a true b = waits_any w h s e.who e.op e.reply b n v
+    by_look a false b = by_moves (λ t. Waits t w h) s e l.0 (λ t x k y. waits_move w h e.who e.op a b t x k y) v
 
 pub count_stays : (s : State) (L : List NodeEntry) (w : ℕ) → LegalFrom s L → Others w L → count (runs_on w) (after_from s L).tasks ≡ count (runs_on w) s.tasks
 unfolding LegalFrom after_from
@@ -231,9 +310,6 @@ work_stays s L w l o = record {
 
 phase_move : (who : ℕ) (o : Op) → moves_phase o ≡ false → (s t : State) (x : Move) → May t who o x → t.phase ≡ s.phase → (apply x t).phase ≡ s.phase
 phase_move who o n s t (phase_is p) k v = true_false k n
-phase_move who o n s t (withdraws j f c) k v = absurd k
-phase_move who o n s t (frees_members g) k v = absurd k
-phase_move who o n s t (lets_members_go g) k v = absurd k
 phase_move who o n s t (makes z j x) k v = sorts_keep (λ u. u.phase ≡ s.phase) (λ t g q m c r y p. p) z _ t v
 phase_move who o n s t (alters z j f) k v = sorts_keep (λ u. u.phase ≡ s.phase) (λ t g q m c r y p. p) z _ t v
 phase_move who o n s t (removes z j) k v = sorts_keep (λ u. u.phase ≡ s.phase) (λ t g q m c r y p. p) z _ t v
@@ -246,9 +322,6 @@ phase_stays s (e ∷ es) l n = phase_stays (next s e) es l.1 n.1 ∙ by_moves (�
 
 release_move : (who : ℕ) (o : Op) → is_release o ≡ false → (s t : State) (x : Move) → May t who o x → t.released ≡ s.released → (apply x t).released ≡ s.released
 release_move who o n s t released k v = true_false k n
-release_move who o n s t (withdraws j f c) k v = absurd k
-release_move who o n s t (frees_members g) k v = absurd k
-release_move who o n s t (lets_members_go g) k v = absurd k
 release_move who o n s t (makes z j x) k v = sorts_keep (λ u. u.released ≡ s.released) (λ t g q m c r y p. p) z _ t v
 release_move who o n s t (alters z j f) k v = sorts_keep (λ u. u.released ≡ s.released) (λ t g q m c r y p. p) z _ t v
 release_move who o n s t (removes z j) k v = sorts_keep (λ u. u.released ≡ s.released) (λ t g q m c r y p. p) z _ t v
@@ -261,185 +334,107 @@ release_stays s (e ∷ es) l n = release_stays (next s e) es l.1 n.1 ∙ by_move
 
 -- No task ends with TIMEOUT
 
--- of each listed task: no end of it is TIMEOUT
-unfoldable InTime : TaskState → Type 0
-InTime x = (e : TaskEnd) (n : ℕ) → end_of x ≡ Some (e, n) → is_late_end e ≡ false
+-- of each listed task: its end isn't TIMEOUT, and neither is how its tally would end
+abbrev in_time : TaskState → Bool
+in_time Scheduled = true
+in_time (Running w k) = true
+in_time (Over e n) = not (is_late_end e)
 
-abbrev AllInTime : List (Listed Task) → Type 0
-AllInTime [] = Unit {0}
-AllInTime (r ∷ rs) = InTime r.fields.state × AllInTime rs
+pub record InTime (t : Task) : Type 0 where
+  pub state : in_time t.state ≡ true
+  pub verdict : is_late_end t.notes.tally.verdict ≡ false
 
-late_of : Option (TaskEnd × ℕ) → Bool
-late_of None = false
-late_of (Some y) = is_late_end y.0
+ended_in_time : (e : TaskEnd) (n : ℕ) (t : Task) → is_late_end e ≡ false → InTime t → InTime (with_state (Over e n) t)
+ended_in_time e n t k i = record { state = ap not k; verdict = i.verdict }
 
-over_in_time : (e : TaskEnd) (n : ℕ) → is_late_end e ≡ false → InTime (Over e n)
-unfolding InTime late_of
-over_in_time e n k x m i = sym (ap late_of i) ∙ k
+noted_in_time : (who : ℕ) (f : Notes → Notes) (t : Task) → Noted who f t → InTime t → InTime (with_notes f t)
+noted_in_time who f t x i = record { state = i.state; verdict = x.verdict i.verdict }
 
-time_change : (j : ℕ) (f : Listed Task → Listed Task) (l : List (Listed Task)) → ((r : Listed Task) → InTime r.fields.state → InTime (f r).fields.state) → AllInTime l → AllInTime (change j f l)
-unfolding change
-time_change j f [] g a = tt
-time_change j f (r ∷ rs) g a = by_test (r.live && (r.handle == j)) (time_change j f rs g a.1)
+time_move : (who : ℕ) (o : Op) (s : State) (x : Move) → May s who o x → Every InTime s.tasks → Every InTime (apply x s).tasks
+time_move who o s (starts j y) k v = every_issue InTime j (new_task y s.starts) s.tasks (record { state = refl; verdict = refl }) v
+time_move who o s (runs j y z) k v = every_change InTime j (with_fields (with_state (Running y z))) s.tasks (λ r e i. record { state = refl; verdict = i.verdict }) v
+time_move who o s (notes j f) k v =
+    every_change InTime j (with_fields (with_notes f)) s.tasks (λ r e i. noted_in_time who f r.fields (subst (λ (t : Task). Noted who f t) (some_same (sym k.1 ∙ e)) k.2) i) v
+time_move who o s (leaves j) k v = every_change InTime j gone s.tasks (λ r e i. i) v
+time_move who o s (ends j e) k v = every_change InTime j (ended e s.ends) s.tasks (λ r d i. ended_in_time e s.ends r.fields (by_end r.fields d i k.3) i) v
   where
-    by_test : (b : Bool) → AllInTime (change j f rs) → AllInTime (cond b (f r ∷ rs) (r ∷ change j f rs))
-    by_test true m = (g r a.0, a.1)
-    by_test false m = (a.0, m)
-
-time_issue : (j : ℕ) (t : Task) (l : List (Listed Task)) → t.state ≡ Scheduled → AllInTime l → AllInTime (issue j t l)
-unfolding issue InTime
-time_issue j t [] k a = ((λ e n i. absurd (none (ap end_of (sym k) ∙ i))), tt)
-  where
-    none : {x : TaskEnd × ℕ} → None ≡ Some x → ⊥
-    none i = cc
-time_issue j t (r ∷ rs) k a = (a.0, time_issue j t rs k a.1)
-
-time_ends : (p : Task → Bool) (e : TaskEnd) (n : ℕ) (l : List (Listed Task)) → is_late_end e ≡ false → AllInTime l → AllInTime (end_each p e n l)
-unfolding end_each
-time_ends p e n [] k a = tt
-time_ends p e n (r ∷ rs) k a = by_test (r.live && p r.fields) (time_ends p e n rs k a.1) (time_ends p e (n + 1) rs k a.1)
-  where
-    by_test : (b : Bool) → AllInTime (end_each p e n rs) → AllInTime (end_each p e (n + 1) rs) → AllInTime (cond b (ended e n r ∷ end_each p e (n + 1) rs) (r ∷ end_each p e n rs))
-    by_test true x y = (over_in_time e n k, y)
-    by_test false x y = (a.0, x)
-
-running_in_time : (w : ℕ) (z : Kind) → InTime (Running w z)
-unfolding InTime
-running_in_time w z e n i = absurd (none i)
-  where
-    none : {x : TaskEnd × ℕ} → None ≡ Some x → ⊥
-    none i = cc
-
-time_move : (who : ℕ) (o : Op) (s : State) (x : Move) → May s who o x → AllInTime s.tasks → AllInTime (apply x s).tasks
-time_move who o s (starts j y) k v = time_issue j (new_task y s.starts) s.tasks refl v
-time_move who o s (runs j y z) k v = time_change j (with_fields (with_state (Running y z))) s.tasks (λ r i. running_in_time y z) v
-time_move who o s (notes j f) k v = time_change j (with_fields (noted f)) s.tasks (λ r i. i) v
-time_move who o s (leaves j) k v = time_change j gone s.tasks (λ r i. i) v
-time_move who o s (ends j e) k v = time_change j (ended e s.ends) s.tasks (λ r i. over_in_time e s.ends k.3) v
-time_move who o s (ends_waiting p e) k v = time_ends (λ t. is_unstarted t && p t) e s.ends s.tasks k v
-time_move who o s (withdraws j f c) k v = absurd k
-time_move who o s (frees_members g) k v = absurd k
-time_move who o s (lets_members_go g) k v = absurd k
-time_move who o s (makes z j x) k v = sorts_keep (λ t. AllInTime t.tasks) (λ t g q m c r y p. p) z _ s v
-time_move who o s (alters z j f) k v = sorts_keep (λ t. AllInTime t.tasks) (λ t g q m c r y p. p) z _ s v
-time_move who o s (removes z j) k v = sorts_keep (λ t. AllInTime t.tasks) (λ t g q m c r y p. p) z _ s v
+    by_end : (t : Task) → at s.tasks j ≡ Some t → InTime t → (is_late_end e ≡ false) ⊎ (e ≡ k.0.notes.tally.verdict) → is_late_end e ≡ false
+    by_end t d i (inl y) = y
+    by_end t d i (inr y) = ap is_late_end (y ∙ ap (λ (u : Task). u.notes.tally.verdict) (some_same (sym k.1 ∙ d))) ∙ i.verdict
+time_move who o s (ends_waiting p e) k v = every_ends InTime (λ t. is_unstarted t && p t) e s.ends s.tasks (λ t n i. ended_in_time e n t k i) v
+time_move who o s (withdraws j f c) k v = every_ends InTime _ (Failed c) s.ends s.tasks (λ t n i. ended_in_time (Failed c) n t k i) v
+time_move who o s (frees_members g) k v = every_all InTime _ freed s.tasks (λ r i. record { state = i.state; verdict = i.verdict }) v
+time_move who o s (lets_members_go g) k v = every_all InTime (is_member g) let_go s.tasks (λ r i. record { state = i.state; verdict = i.verdict }) v
+time_move who o s (makes z j x) k v = sorts_keep (λ t. Every InTime t.tasks) (λ t g q m c r y p. p) z _ s v
+time_move who o s (alters z j f) k v = sorts_keep (λ t. Every InTime t.tasks) (λ t g q m c r y p. p) z _ s v
+time_move who o s (removes z j) k v = sorts_keep (λ t. Every InTime t.tasks) (λ t g q m c r y p. p) z _ s v
 time_move who o s _ k v = v
 
-time_after : (s : State) (L : List NodeEntry) → LegalFrom s L → AllInTime s.tasks → AllInTime (after_from s L).tasks
+time_after : (s : State) (L : List NodeEntry) → LegalFrom s L → Every InTime s.tasks → Every InTime (after_from s L).tasks
 unfolding LegalFrom after_from
 time_after s [] l v = v
-time_after s (e ∷ es) l v = time_after (next s e) es l.1 (by_moves (λ t. AllInTime t.tasks) s e l.0 (time_move e.who e.op) v)
+time_after s (e ∷ es) l v = time_after (next s e) es l.1 (by_moves (λ t. Every InTime t.tasks) s e l.0 (time_move e.who e.op) v)
 
-time_at : (l : List (Listed Task)) (h : ℕ) (t : Task) → AllInTime l → at l h ≡ Some t → InTime t.state
-unfolding live_of
-time_at [] h t a i = absurd (cc)
-time_at (r ∷ rs) h t a i = by_live r.live (time_at rs h t a.1) i
-  where
-    same : {x y : Task} → Some x ≡ Some y → x ≡ y
-    same i = cc
+-- the end that is told
+told_end : TaskEnd → Option (TaskEnd × ℕ) → TaskEnd
+told_end e None = e
+told_end e (Some p) = p.0
 
-    by_hand : (b : Bool) → (at rs h ≡ Some t → InTime t.state) → cond b (Some r.fields) (at rs h) ≡ Some t → InTime t.state
-    by_hand true k i = subst (λ (x : Task). InTime x.state) (same i) a.0
-    by_hand false k i = k i
+same_end : (e y : TaskEnd) (n m : ℕ) → end_of (Over y m) ≡ Some (e, n) → y ≡ e
+unfolding told_end
+same_end e y n m k = ap (told_end e) k
 
-    by_live : (b : Bool) → (at rs h ≡ Some t → InTime t.state) → lookup (cond b ((r.handle, r.fields) ∷ live_of rs) (live_of rs)) h ≡ Some t → InTime t.state
-    by_live true k i = by_hand (r.handle == h) k i
-    by_live false k i = k i
+over_in_time : (x : TaskState) (e : TaskEnd) (n : ℕ) → in_time x ≡ true → end_of x ≡ Some (e, n) → is_late_end e ≡ false
+over_in_time Scheduled e n i k = absurd (cc)
+over_in_time (Running w z) e n i k = absurd (cc)
+over_in_time (Over y m) e n i k = ap is_late_end (sym (same_end e y n m k)) ∙ not_true _ i
 
 pub no_late_end : (terms : Terms) (L : List NodeEntry) (h : ℕ) (t : Task) (n : ℕ) (e : TaskEnd) → Legal terms L → at (after terms L).tasks h ≡ Some t → end_of t.state ≡ Some (e, n) → is_late_end e ≡ false
-unfolding InTime
-no_late_end terms L h t n e l a i = time_at (after terms L).tasks h t (time_after (opening terms) L l.from tt) a e n i
+no_late_end terms L h t n e l a i = over_in_time t.state e n (every_at InTime (after terms L).tasks h t (time_after (opening terms) L l.from tt) a).state i
 
 -- A task that hasn't begun is untouched
 
-abbrev AllUntouched : List (Listed Task) → Type 0
-AllUntouched [] = Unit {0}
-AllUntouched (r ∷ rs) = (is_unstarted r.fields ≡ true → IsUntouched r.fields) × AllUntouched rs
-
-clean_change : (j : ℕ) (f : Listed Task → Listed Task) (l : List (Listed Task)) → ((r : Listed Task) → at l j ≡ Some r.fields → (is_unstarted r.fields ≡ true → IsUntouched r.fields) → is_unstarted (f r).fields ≡ true → IsUntouched (f r).fields) → AllUntouched l → AllUntouched (change j f l)
-unfolding change live_of
-clean_change j f [] g a = tt
-clean_change j f (r ∷ rs) g a = by_live (λ m. clean_change j f rs m a.1) r.live g
-  where
-    by_hand : (((q : Listed Task) → at rs j ≡ Some q.fields → (is_unstarted q.fields ≡ true → IsUntouched q.fields) → is_unstarted (f q).fields ≡ true → IsUntouched (f q).fields) → AllUntouched (change j f rs)) → (b : Bool)
-        → ((q : Listed Task) → cond b (Some r.fields) (at rs j) ≡ Some q.fields → (is_unstarted q.fields ≡ true → IsUntouched q.fields) → is_unstarted (f q).fields ≡ true → IsUntouched (f q).fields)
-        → AllUntouched (cond b (f (record { handle = r.handle; live = true; fields = r.fields }) ∷ rs) (record { handle = r.handle; live = true; fields = r.fields } ∷ change j f rs))
-    by_hand rest true g = (g (record { handle = r.handle; live = true; fields = r.fields }) refl a.0, a.1)
-    by_hand rest false g = (a.0, rest g)
-
-    by_live : (((q : Listed Task) → at rs j ≡ Some q.fields → (is_unstarted q.fields ≡ true → IsUntouched q.fields) → is_unstarted (f q).fields ≡ true → IsUntouched (f q).fields) → AllUntouched (change j f rs)) → (b : Bool)
-        → ((q : Listed Task) → at (record { handle = r.handle; live = b; fields = r.fields } ∷ rs) j ≡ Some q.fields → (is_unstarted q.fields ≡ true → IsUntouched q.fields) → is_unstarted (f q).fields ≡ true → IsUntouched (f q).fields)
-        → AllUntouched (change j f (record { handle = r.handle; live = b; fields = r.fields } ∷ rs))
-    by_live rest true g = by_hand rest (r.handle == j) g
-    by_live rest false g = (a.0, rest g)
-
-clean_issue : (j : ℕ) (t : Task) (l : List (Listed Task)) → IsUntouched t → AllUntouched l → AllUntouched (issue j t l)
-unfolding issue
-clean_issue j t [] k a = ((λ e. k), tt)
-clean_issue j t (r ∷ rs) k a = (a.0, clean_issue j t rs k a.1)
-
-clean_ends : (p : Task → Bool) (e : TaskEnd) (n : ℕ) (l : List (Listed Task)) → AllUntouched l → AllUntouched (end_each p e n l)
-unfolding end_each
-clean_ends p e n [] a = tt
-clean_ends p e n (r ∷ rs) a = by_test (r.live && p r.fields) (clean_ends p e n rs a.1) (clean_ends p e (n + 1) rs a.1)
-  where
-    by_test : (b : Bool) → AllUntouched (end_each p e n rs) → AllUntouched (end_each p e (n + 1) rs) → AllUntouched (cond b (ended e n r ∷ end_each p e (n + 1) rs) (r ∷ end_each p e n rs))
-    by_test true x y = ((λ i. true_false i refl), y)
-    by_test false x y = (a.0, x)
+abbrev Clean : Task → Type 0
+Clean t = is_unstarted t ≡ true → IsUntouched t
 
 -- a task that runs has begun
 runs_begun : (w : ℕ) (t : Task) → runs_on w t ≡ true → is_unstarted t ≡ true → ⊥
 runs_begun w t a b = true_false a (runs_scheduled w t b)
 
-noted_untouched : (who : ℕ) (f : Task → Task) (t : Task) → Notes who f t → is_unstarted t ≡ true → IsUntouched t → IsUntouched (noted f t)
-noted_untouched who f t x u i = by_work x.work
+noted_clean : (who : ℕ) (f : Notes → Notes) (t : Task) → Noted who f t → Clean t → Clean (with_notes f t)
+noted_clean who f t x i u = by_work x.work (i u)
   where
-    by_work : (runs_on who t ≡ true) ⊎ SameLooks t (f t) → IsUntouched (noted f t)
-    by_work (inl a) = absurd (runs_begun who t a u)
-    by_work (inr e) = record { looks = e.looks ∙ i.looks; seen = e.seen ∙ i.seen }
+    by_work : (runs_on who t ≡ true) ⊎ SameWork t.notes (f t.notes) → IsUntouched t → IsUntouched (with_notes f t)
+    by_work (inl a) y = absurd (runs_begun who t a u)
+    by_work (inr e) y = record { looks = e.looks ∙ y.looks; seen = e.seen ∙ y.seen; tally = e.tally ∙ y.tally }
 
-clean_move : (who : ℕ) (o : Op) (s : State) (x : Move) → May s who o x → AllUntouched s.tasks → AllUntouched (apply x s).tasks
-clean_move who o s (starts j y) k v = clean_issue j (new_task y s.starts) s.tasks (record { looks = refl; seen = refl }) v
-clean_move who o s (runs j y z) k v = clean_change j (with_fields (with_state (Running y z))) s.tasks (λ r e i u. true_false u refl) v
+-- other notes of a group, or whether it is detached, leave that
+group_clean : (t : Task) (d : Bool) (g : Option ℕ) → Clean t → Clean (with_notes (λ n. record n { detached = d; group = g }) t)
+group_clean t d g i u = let y = i u in record { looks = y.looks; seen = y.seen; tally = y.tally }
+
+clean_move : (who : ℕ) (o : Op) (s : State) (x : Move) → May s who o x → Every Clean s.tasks → Every Clean (apply x s).tasks
+clean_move who o s (starts j y) k v = every_issue Clean j (new_task y s.starts) s.tasks (λ u. record { looks = refl; seen = refl; tally = refl }) v
+clean_move who o s (runs j y z) k v = every_change Clean j (with_fields (with_state (Running y z))) s.tasks (λ r e i u. true_false u refl) v
 clean_move who o s (notes j f) k v =
-    clean_change j (with_fields (noted f)) s.tasks (λ r e i u. noted_untouched who f r.fields (subst (λ (t : Task). Notes who f t) (same (sym k.1 ∙ e)) k.2) u (i u)) v
-  where
-    same : {x y : Task} → Some x ≡ Some y → x ≡ y
-    same i = cc
-clean_move who o s (leaves j) k v = clean_change j gone s.tasks (λ r e i. i) v
-clean_move who o s (ends j e) k v = clean_change j (ended e s.ends) s.tasks (λ r d i u. true_false u refl) v
-clean_move who o s (ends_waiting p e) k v = clean_ends (λ t. is_unstarted t && p t) e s.ends s.tasks v
-clean_move who o s (withdraws j f c) k v = absurd k
-clean_move who o s (frees_members g) k v = absurd k
-clean_move who o s (lets_members_go g) k v = absurd k
-clean_move who o s (makes z j x) k v = sorts_keep (λ t. AllUntouched t.tasks) (λ t g q m c r y p. p) z _ s v
-clean_move who o s (alters z j f) k v = sorts_keep (λ t. AllUntouched t.tasks) (λ t g q m c r y p. p) z _ s v
-clean_move who o s (removes z j) k v = sorts_keep (λ t. AllUntouched t.tasks) (λ t g q m c r y p. p) z _ s v
+    every_change Clean j (with_fields (with_notes f)) s.tasks (λ r e i. noted_clean who f r.fields (subst (λ (t : Task). Noted who f t) (some_same (sym k.1 ∙ e)) k.2) i) v
+clean_move who o s (leaves j) k v = every_change Clean j gone s.tasks (λ r e i. i) v
+clean_move who o s (ends j e) k v = every_change Clean j (ended e s.ends) s.tasks (λ r d i u. true_false u refl) v
+clean_move who o s (ends_waiting p e) k v = every_ends Clean (λ t. is_unstarted t && p t) e s.ends s.tasks (λ t n i u. true_false u refl) v
+clean_move who o s (withdraws j f c) k v = every_ends Clean _ (Failed c) s.ends s.tasks (λ t n i u. true_false u refl) v
+clean_move who o s (frees_members g) k v = every_all Clean _ freed s.tasks (λ r i. group_clean r.fields r.fields.notes.detached None i) v
+clean_move who o s (lets_members_go g) k v = every_all Clean (is_member g) let_go s.tasks (λ r i. group_clean r.fields true None i) v
+clean_move who o s (makes z j x) k v = sorts_keep (λ t. Every Clean t.tasks) (λ t g q m c r y p. p) z _ s v
+clean_move who o s (alters z j f) k v = sorts_keep (λ t. Every Clean t.tasks) (λ t g q m c r y p. p) z _ s v
+clean_move who o s (removes z j) k v = sorts_keep (λ t. Every Clean t.tasks) (λ t g q m c r y p. p) z _ s v
 clean_move who o s _ k v = v
 
-clean_after : (s : State) (L : List NodeEntry) → LegalFrom s L → AllUntouched s.tasks → AllUntouched (after_from s L).tasks
+clean_after : (s : State) (L : List NodeEntry) → LegalFrom s L → Every Clean s.tasks → Every Clean (after_from s L).tasks
 unfolding LegalFrom after_from
 clean_after s [] l v = v
-clean_after s (e ∷ es) l v = clean_after (next s e) es l.1 (by_moves (λ t. AllUntouched t.tasks) s e l.0 (clean_move e.who e.op) v)
-
-clean_at : (l : List (Listed Task)) (h : ℕ) (t : Task) → AllUntouched l → at l h ≡ Some t → is_unstarted t ≡ true → IsUntouched t
-unfolding live_of
-clean_at [] h t a i = absurd (cc)
-clean_at (r ∷ rs) h t a i = by_live r.live (clean_at rs h t a.1) i
-  where
-    same : {x y : Task} → Some x ≡ Some y → x ≡ y
-    same i = cc
-
-    by_hand : (b : Bool) → (at rs h ≡ Some t → is_unstarted t ≡ true → IsUntouched t) → cond b (Some r.fields) (at rs h) ≡ Some t → is_unstarted t ≡ true → IsUntouched t
-    by_hand true k i = subst (λ (x : Task). is_unstarted x ≡ true → IsUntouched x) (same i) a.0
-    by_hand false k i = k i
-
-    by_live : (b : Bool) → (at rs h ≡ Some t → is_unstarted t ≡ true → IsUntouched t) → lookup (cond b ((r.handle, r.fields) ∷ live_of rs) (live_of rs)) h ≡ Some t → is_unstarted t ≡ true → IsUntouched t
-    by_live true k i = by_hand (r.handle == h) k i
-    by_live false k i = k i
+clean_after s (e ∷ es) l v = clean_after (next s e) es l.1 (by_moves (λ t. Every Clean t.tasks) s e l.0 (clean_move e.who e.op) v)
 
 pub unstarted_untouched : (terms : Terms) (L : List NodeEntry) (h : ℕ) (t : Task) → Legal terms L → at (after terms L).tasks h ≡ Some t → is_unstarted t ≡ true → IsUntouched t
-unstarted_untouched terms L h t l a i = clean_at (after terms L).tasks h t (clean_after (opening terms) L l.from tt) a i
+unstarted_untouched terms L h t l a i = every_at Clean (after terms L).tasks h t (clean_after (opening terms) L l.from tt) a i
 
 -- The terms stay
 

@@ -1,55 +1,78 @@
 -- What the seat and the op of an entry had to know, for each move that they make. A law on what seats leave to one another is shown for each move once.
 use Rattle.std.proofs.Common.{◌≡◌, ℕ, ◌+◌, Bool, true, false, cond, List, [], ◌∷◌, Option, Some, None, ◌⊎◌, inl, inr, refl, ◌∙◌, ap}
-use Rattle.std.specs.Prelude.{◌==◌, ◌&&◌, not, is_none, length}
+use Rattle.std.specs.Prelude.{◌==◌, ◌&&◌, not, nat_lt, is_none, is_some, length, ℤ, pos}
 use Rattle.mtapi_values.specs.declared.kinds.Kind.{Kind}
 use Rattle.mtapi_values.specs.declared.kinds.Kind.TheVariants as kind
+use Rattle.mtapi_values.specs.declared.statuses.MtapiStatus.{MtapiStatus}
 use Rattle.mtapi_values.specs.declared.statuses.MtapiStatus.TheVariants as m
+use Rattle.mtapi_values.specs.declared.statuses.MrapiStatus.{MrapiStatus}
+use Rattle.mtapi_values.specs.declared.statuses.MrapiStatus.TheVariants as c
 use Rattle.mtapi_values.specs.declared.ends.TaskEnd.TheVariants.{Cancelled, Completed, Failed}
+use Rattle.mtapi_values.specs.declared.handles.GroupHandle.{GroupHandle}
 use Rattle.mtapi_values.specs.Seats.{is_other}
 use Rattle.action_fn.specs.Answers.{answer_of, number_end, Answered, IsAnswered}
 use Rattle.mtapi_machine.specs.declared.replies.Reply.{Reply}
-use Rattle.mtapi_machine.specs.declared.replies.Reply.TheVariants.{Picked, Idle, Stop}
+use Rattle.mtapi_machine.specs.declared.replies.Reply.TheVariants.{Ok, Number, Picked, Idle, Stop, Mrapi}
 use Rattle.mtapi_machine.specs.declared.ops.Op.{Op}
 use Rattle.mtapi_machine.specs.declared.ops.Op.TheVariants as op
-use Rattle.handle_pool.specs.Issued.{at, any}
+use Rattle.handle_pool.specs.Issued.{at, any, live_of, first_live}
 use Rattle.mtapi_values.specs.Conditions.{holds}
 use Rattle.mtapi_objects.specs.Actions.{new_action}
-use Rattle.mtapi_objects.specs.Tasks.{Task, TaskState, Scheduled, Running, Over, scheduled, end_of, runner, runs_as, runs_on, kind_number, is_unstarted, is_unended, with_waiter, asked_once, watch_end, looks_of}
+use Rattle.mtapi_objects.specs.Tasks.{Task, Notes, TallyNotes, TaskState, Scheduled, Running, Over, scheduled, end_of, runner, runs_as, runs_on, kind_number, is_unstarted, is_unended, with_notes, with_waiter, asked_once, watch_end, looks_of, Adds, tally_args, cell_in, added, with_tally, tally_failed, tally_has, tally_read, tally_written}
+use Rattle.mtapi_objects.specs.Groups.{new_group, Ending, endings, is_unended_member, in_no_group}
+use Rattle.mtapi_objects.specs.Queues.{opened, is_in}
+use Rattle.mtapi_objects.specs.Mutexes.{mutex_delete_refusals, mutex_look_refusals, mutex_busy, locked_by, mutex_unlock_refusals, unlocked}
+use Rattle.mtapi_objects.specs.Sems.{sem_delete_refusals, sem_busy, sem_taken, sem_unlock_refusals, sem_given}
+use Rattle.mtapi_objects.specs.Rwls.{rwl_delete_refusals, rwl_look_refusals, rwl_busy, rwl_taken, rwl_unlock_refusals, rwl_given}
+use Rattle.mtapi_objects.specs.Segments.{shmem_delete_refusals, attach_refusals, detach_refusals, with_attached, cell_refusals, cell_of, with_cell}
 use Rattle.mtapi_machine.specs.State.{State, is_stop}
-use Rattle.mtapi_machine.specs.Moves.{Move, phase_is, released, stops, makes_action, starts, runs, ends, ends_waiting, withdraws, notes, noted, leaves, frees_members, lets_members_go, apply, after_moves}
-use Rattle.mtapi_machine.specs.Row.{Row, gives, handle_of, moves_of}
-use Rattle.mtapi_machine.specs.Rows.{row, asked_for, is_ready, can_take, may_take, picks, looks_at, cancels, task_end}
+use Rattle.mtapi_machine.specs.Moves.{Move, Sort, Groups, Queues, Mutexes, Sems, Rwls, Segments, Fields, all_of, phase_is, released, stops, makes_action, withdraws, starts, runs, ends, ends_waiting, notes, leaves, makes, alters, apply, after_moves}
+use Rattle.mtapi_machine.specs.Row.{Row, gives, live, handle_of, moves_of, not_yet, mtapi_unless}
+use Rattle.mtapi_machine.specs.Rows.{row}
+use Rattle.mtapi_machine.specs.TaskRows.{asked_for, asked_of, looks_at, cancels}
+use Rattle.mtapi_machine.specs.GroupRows.{gives_end, gives_first}
+use Rattle.mtapi_machine.specs.KeyedRows.{Keyed, keyed_queues, keyed_mutexes, keyed_sems, keyed_rwls, keyed_segments, mrapi_unless, found, creates_keyed, gets, alters_one, looks_one, deletes}
+use Rattle.mtapi_machine.specs.WorkRows.{is_ready, can_take, may_take, picks, task_end}
+use Rattle.mtapi_machine.specs.TallyRows.{gives_up, takes_both, locks}
 use Rattle.mtapi_machine.specs.Legal.{NodeEntry, IsNext, IsHonest, row_of, next}
 use Rattle.mtapi_machine.proofs.Made.{AllGives, moves_given, on_only, on_live, fst_true, not_false}
+use Rattle.mtapi_machine.proofs.Changes.{at-update}
 use Rattle.history_law.specs.Seats.{moves_phase, is_release, is_late_end}
 
 -- a task that the seat may end: it hasn't begun, or runs on this seat
 abbrev pub MayEnd : ℕ → Task → Type 0
 MayEnd who t = (is_unstarted t ≡ true) ⊎ (runs_on who t ≡ true)
 
-pub record SameLooks (t u : Task) : Type 0 where
-  pub looks : u.looks ≡ t.looks
-  pub seen : u.seen ≡ t.seen
+-- what a watch and a tally have noted is the same
+pub record SameWork (n m : Notes) : Type 0 where
+  pub looks : m.looks ≡ n.looks
+  pub seen : m.seen ≡ n.seen
+  pub tally : m.tally ≡ n.tally
 
--- what this seat may note of a task: another waiter only where no other seat waits, and what a watch saw only where it runs on this seat
-pub record Notes (who : ℕ) (f : Task → Task) (t : Task) : Type 0 where
-  pub waiter : (is_other who t.waiter ≡ false) ⊎ ((f t).waiter ≡ t.waiter)
-  pub work : (runs_on who t ≡ true) ⊎ SameLooks t (f t)
-  pub detached : (f t).detached ≡ t.detached
+-- what this seat may note of a task: another waiter only where no other seat waits, and what a watch saw and a tally did only where it
+-- runs on this seat; it may leave its group, and enters none
+pub record Noted (who : ℕ) (f : Notes → Notes) (t : Task) : Type 0 where
+  pub waiter : (is_other who t.notes.waiter ≡ false) ⊎ ((f t.notes).waiter ≡ t.notes.waiter)
+  pub work : (runs_on who t ≡ true) ⊎ SameWork t.notes (f t.notes)
+  pub detached : (f t.notes).detached ≡ t.notes.detached
+  pub group : ((f t.notes).group ≡ t.notes.group) ⊎ ((f t.notes).group ≡ None)
+  pub verdict : is_late_end t.notes.tally.verdict ≡ false → is_late_end (f t.notes).tally.verdict ≡ false
+
+abbrev pub is_any_look : Op → Bool
+is_any_look (op.AnyLook g last) = true
+is_any_look _ = false
 
 -- what is known where the seat `who` makes a move by the op
 abbrev pub May : State → ℕ → Op → Move → Type 0
 May s who o (phase_is p) = moves_phase o ≡ true
 May s who o released = is_release o ≡ true
 May s who o (stops w) = w ≡ who
+May s who o (withdraws h f c) = is_late_end (Failed c) ≡ false
 May s who o (runs h w k) = (t : Task) × (at s.tasks h ≡ Some t) × (is_unstarted t ≡ true) × (w ≡ who) × (any (runs_on who) s.tasks ≡ false)
-May s who o (ends h e) = (t : Task) × (at s.tasks h ≡ Some t) × MayEnd who t × (is_late_end e ≡ false)
+May s who o (ends h e) = (t : Task) × (at s.tasks h ≡ Some t) × MayEnd who t × ((is_late_end e ≡ false) ⊎ (e ≡ t.notes.tally.verdict))
 May s who o (ends_waiting p e) = is_late_end e ≡ false
-May s who o (notes h f) = (t : Task) × (at s.tasks h ≡ Some t) × Notes who f t
-May s who o (leaves h) = (t : Task) × (at s.tasks h ≡ Some t) × (is_unended t ≡ false) × (is_other who t.waiter ≡ false)
-May s who o (withdraws h f c) = ⊥
-May s who o (frees_members g) = ⊥
-May s who o (lets_members_go g) = ⊥
+May s who o (notes h f) = (t : Task) × (at s.tasks h ≡ Some t) × Noted who f t
+May s who o (leaves h) = (t : Task) × (at s.tasks h ≡ Some t) × (is_unended t ≡ false) × ((is_any_look o ≡ true) ⊎ (is_other who t.notes.waiter ≡ false))
 May s who o _ = Unit {0}
 
 abbrev pub AreBy : State → ℕ → Op → List Move → Type 0
@@ -58,6 +81,51 @@ AreBy s who o (m ∷ ms) = May s who o m × AreBy (apply m s) who o ms
 
 abbrev By : State → ℕ → Op → Reply → List Move → Type 0
 By s who o r ms = AreBy s who o ms
+
+module _ (s : State) (who : ℕ) (o : Op) where
+  abbrev All : Row → Type 0
+  All w = AllGives (By s who o) w
+
+  on_mtapi : (cs : List (Bool × MtapiStatus)) (w : Row) → All w → All (mtapi_unless cs w)
+  on_mtapi [] w h = h
+  on_mtapi (x ∷ xs) w h = λ e. on_mtapi xs w h
+
+  on_mrapi : (cs : List (Bool × MrapiStatus)) (w : Row) → All w → All (mrapi_unless cs w)
+  on_mrapi [] w h = h
+  on_mrapi (x ∷ xs) w h = λ e. on_mrapi xs w h
+
+  on_cond : (b : Bool) (v w : Row) → (b ≡ true → All v) → (b ≡ false → All w) → All (cond b v w)
+  on_cond true v w h k = h refl
+  on_cond false v w h k = k refl
+
+  -- an op on the live object of a handle
+  on_one : {T : Type 0} (x : Option T) (r : Reply) (w : T → Row) → ((t : T) → x ≡ Some t → All (w t)) → All (live x (gives r []) w)
+  on_one x r w k = on_live (By s who o) x (gives r []) w tt k
+
+  on_found : (h : Option ℕ) (r : Reply) → All (found h r)
+  on_found None r = tt
+  on_found (Some h) r = tt
+
+  -- the rows of kinds whose objects have ids
+  module _ (k : Sort) where
+    creates_by : (key : Keyed k) (r : Reply) (x : Fields k) → All (creates_keyed key s r x)
+    creates_by key r x = λ c d. on_only (By s who o) _ _ (makes k (handle_of r) x ∷ []) (λ e. (tt, tt))
+
+    gets_by : (key : Keyed k) (id : ℕ) → All (gets key s id)
+    gets_by key id = on_found (first_live (λ y. key.id y == id) (live_of ((all_of k).list s))) key.absent
+
+    alters_by : (h : ℕ) (causes : Fields k → List (Bool × MrapiStatus)) (reply : Fields k → Reply) (f : Fields k → Fields k) → All (alters_one k s h causes reply f)
+    alters_by h causes reply f = on_one (at ((all_of k).list s) h) (all_of k).invalid _ (λ x e. on_mrapi (causes x) _ (tt, tt))
+
+    looks_by : (h : ℕ) (last : Bool) (causes : Fields k → List (Bool × MrapiStatus)) (busy : Fields k → Bool) (reply : Fields k → Reply) (f : Fields k → Fields k) → All (looks_one k s h last causes busy reply f)
+    looks_by h last causes busy reply f =
+        on_one (at ((all_of k).list s) h) (all_of k).invalid _ (λ x e. on_mrapi (causes x) _
+        (on_cond (busy x) (not_yet last (Mrapi c.Timeout)) (gives (reply x) (alters k h f ∷ [])) (λ d. tt) (λ d. (tt, tt))))
+
+    deletes_by : (h : ℕ) (causes : Fields k → List (Bool × MrapiStatus)) → All (deletes k s h causes)
+    deletes_by h causes = on_one (at ((all_of k).list s) h) (all_of k).invalid _ (λ x e. on_mrapi (causes x) _ (tt, tt))
+
+-- Picking
 
 ready_unstarted : (s : State) (t : Task) → is_ready s t ≡ true → is_unstarted t ≡ true
 unfolding is_ready
@@ -78,20 +146,45 @@ on_stops : (b : Bool) (s : State) (w : ℕ) (v : Row) → AllGives (By s w op.Pi
 on_stops true s w v h = (refl, tt)
 on_stops false s w v h = h
 
-waits : (o : Op) (s : State) (who h : ℕ) (w : Option ℕ) (t : Task) → at s.tasks h ≡ Some t → is_other who t.waiter ≡ false → AreBy s who o (notes h (with_waiter w) ∷ [])
-waits o s who h w t e n = ((t, e, record { waiter = inl n; work = inr (record { looks = refl; seen = refl }); detached = refl }), tt)
+-- Looking and cancelling
 
-on_looks : (o : Op) (s : State) (who h : ℕ) (last : Bool) (t : Task) (x : TaskState) → at s.tasks h ≡ Some t → t.state ≡ x → is_other who t.waiter ≡ false → AllGives (By s who o) (looks_at who h last x)
+same_work : (n : Notes) → SameWork n n
+same_work n = record { looks = refl; seen = refl; tally = refl }
+
+waits : (o : Op) (s : State) (who h : ℕ) (w : Option ℕ) (t : Task) → at s.tasks h ≡ Some t → is_other who t.notes.waiter ≡ false → AreBy s who o (notes h (with_waiter w) ∷ [])
+waits o s who h w t e n = ((t, e, record { waiter = inl n; work = inr (record { looks = refl; seen = refl; tally = refl }); detached = refl; group = inl refl; verdict = λ v. v }), tt)
+
+on_looks : (o : Op) (s : State) (who h : ℕ) (last : Bool) (t : Task) (x : TaskState) → at s.tasks h ≡ Some t → t.state ≡ x → is_other who t.notes.waiter ≡ false → AllGives (By s who o) (looks_at who h last x)
 on_looks o s who h true t Scheduled e d n = waits o s who h None t e n
 on_looks o s who h false t Scheduled e d n = waits o s who h (Some who) t e n
 on_looks o s who h true t (Running w k) e d n = waits o s who h None t e n
 on_looks o s who h false t (Running w k) e d n = waits o s who h (Some who) t e n
-on_looks o s who h last t (Over y n) e d j = ((t, e, ap (λ (z : TaskState). is_none (end_of z)) d, j), tt)
+on_looks o s who h last t (Over y n) e d j = ((t, e, ap (λ (z : TaskState). is_none (end_of z)) d, inr j), tt)
 
 on_cancels : (o : Op) (s : State) (who h : ℕ) (t : Task) (x : TaskState) → at s.tasks h ≡ Some t → t.state ≡ x → AllGives (By s who o) (cancels h x)
-on_cancels o s who h t Scheduled e d = ((t, e, inl (ap scheduled d), refl), tt)
-on_cancels o s who h t (Running w k) e d = ((t, e, record { waiter = inr refl; work = inr (record { looks = refl; seen = refl }); detached = refl }), tt)
+on_cancels o s who h t Scheduled e d = ((t, e, inl (ap scheduled d), inl refl), tt)
+on_cancels o s who h t (Running w k) e d =
+    ((t, e, record { waiter = inr refl; work = inr (record { looks = refl; seen = refl; tally = refl }); detached = refl; group = inl refl; verdict = λ v. v }), tt)
 on_cancels o s who h t (Over y n) e d = tt
+
+-- Groups and queues
+
+-- a member that has left its group has still ended
+on_gives : (g : GroupHandle) (last : Bool) (s : State) (who h : ℕ) (t : Task) (x : TaskState) → at s.tasks h ≡ Some t → t.state ≡ x → AllGives (By s who (op.AnyLook g last)) (gives_end h x)
+on_gives g last s who h t Scheduled e d = tt
+on_gives g last s who h t (Running w k) e d = tt
+on_gives g last s who h t (Over y n) e d = (
+  (t, e, record { waiter = inr refl; work = inr (record { looks = refl; seen = refl; tally = refl }); detached = refl; group = inr refl; verdict = λ v. v }),
+  ((with_notes in_no_group t, at-update h (with_notes in_no_group) t s.tasks e, ap (λ (z : TaskState). is_none (end_of z)) d, inl refl), tt),
+)
+
+on_first : (g : GroupHandle) (last : Bool) (s : State) (who : ℕ) (es : List Ending) → AllGives (By s who (op.AnyLook g last)) (gives_first s last es)
+on_first g last s who [] = tt
+on_first g last s who (x ∷ xs) = on_live _ (at s.tasks x.task) _ _ tt (λ t e. on_gives g last s who x.task t t.state e refl)
+
+on_disables : (o : Op) (s : State) (who q : ℕ) (retain : Bool) → By s who o Ok (alters Queues q (opened false) ∷ (cond retain [] (ends_waiting (is_in q) Cancelled ∷ [])))
+on_disables o s who q true = (tt, tt)
+on_disables o s who q false = (tt, (refl, tt))
 
 -- no action and no watch ends a task with TIMEOUT
 
@@ -119,12 +212,13 @@ answer_late kind.Triangle (x ∷ []) = number_late _
 answer_late kind.Triangle (x ∷ y ∷ ys) = refl
 answer_late kind.Fail args = refl
 answer_late kind.Watch args = refl
+answer_late kind.Tally args = refl
 
 done_late : (f : Answered) → IsAnswered f → is_late_end (task_end f.end) ≡ false
 done_late f a = ap (λ e. is_late_end (task_end e)) a.answer ∙ answer_late f.kind f.args
 
 watch_late : (t : Task) → is_late_end (watch_end t) ≡ false
-watch_late t = by_tests (not (length t.args == 1)) (is_none (looks_of t.args)) t.seen
+watch_late t = by_tests (not (length t.args == 1)) (is_none (looks_of t.args)) t.notes.seen
   where
     by_tests : (a b c : Bool) → is_late_end (cond a (Failed m.ErrArgSize) (cond b (Failed m.ErrActionFailed) (cond c Cancelled (Completed t.args)))) ≡ false
     by_tests true b c = refl
@@ -132,24 +226,54 @@ watch_late t = by_tests (not (length t.args == 1)) (is_none (looks_of t.args)) t
     by_tests false false true = refl
     by_tests false false false = refl
 
--- an ask changes only what is noted of the task
-pub asked_noted : (t : Task) → noted asked_once t ≡ asked_once t
-asked_noted t = by_request t.requested
-  where
-    by_request : (b : Bool) → noted (λ u. cond b (record u { seen = true }) (record u { looks = u.looks + 1 })) t ≡ cond b (record t { seen = true }) (record t { looks = t.looks + 1 })
-    by_request true = refl
-    by_request false = refl
+-- Watches and tallies
 
-asked_notes : (who : ℕ) (t : Task) → runs_on who t ≡ true → Notes who asked_once t
-asked_notes who t k = record { waiter = inr (same_waiter t.requested); work = inl k; detached = same_detached t.requested }
+asked_notes : (who : ℕ) (t : Task) → runs_on who t ≡ true → Noted who asked_once t
+asked_notes who t k = record { waiter = inr (by_waiter t.notes.requested); work = inl k; detached = by_detached t.notes.requested; group = inl (by_group t.notes.requested); verdict = λ v. by_tally t.notes.requested ∙ v }
   where
-    same_waiter : (b : Bool) → (cond b (record t { seen = true }) (record t { looks = t.looks + 1 })).waiter ≡ t.waiter
-    same_waiter true = refl
-    same_waiter false = refl
+    by_waiter : (b : Bool) → (cond b (record t.notes { seen = true }) (record t.notes { looks = t.notes.looks + 1 })).waiter ≡ t.notes.waiter
+    by_waiter true = refl
+    by_waiter false = refl
 
-    same_detached : (b : Bool) → (cond b (record t { seen = true }) (record t { looks = t.looks + 1 })).detached ≡ t.detached
-    same_detached true = refl
-    same_detached false = refl
+    by_detached : (b : Bool) → (cond b (record t.notes { seen = true }) (record t.notes { looks = t.notes.looks + 1 })).detached ≡ t.notes.detached
+    by_detached true = refl
+    by_detached false = refl
+
+    by_group : (b : Bool) → (cond b (record t.notes { seen = true }) (record t.notes { looks = t.notes.looks + 1 })).group ≡ t.notes.group
+    by_group true = refl
+    by_group false = refl
+
+    by_tally : (b : Bool) → is_late_end (cond b (record t.notes { seen = true }) (record t.notes { looks = t.notes.looks + 1 })).tally.verdict ≡ is_late_end t.notes.tally.verdict
+    by_tally true = refl
+    by_tally false = refl
+
+-- what a tally does notes nothing else
+does : (who : ℕ) (f : TallyNotes → TallyNotes) (t : Task) → runs_on who t ≡ true → (is_late_end t.notes.tally.verdict ≡ false → is_late_end (f t.notes.tally).verdict ≡ false) → Noted who (with_tally f) t
+does who f t k v = record { waiter = inr refl; work = inl k; detached = refl; group = inl refl; verdict = v }
+
+on_gives_up : (o : Op) (s : State) (who h : ℕ) (t : Task) (status : MtapiStatus) → at s.tasks h ≡ Some t → runs_on who t ≡ true → is_late_end (Failed status) ≡ false → AllGives (By s who o) (gives_up h status)
+on_gives_up o s who h t status e k v = ((t, e, does who (tally_failed status) t k (λ w. v)), tt)
+
+on_takes : (o : Op) (s : State) (who h cell : ℕ) (t : Task) (a b : Option ℕ) → at s.tasks h ≡ Some t → runs_on who t ≡ true → AllGives (By s who o) (takes_both s who h cell a b)
+on_takes o s who h cell t None b e k = on_gives_up o s who h t m.ErrActionFailed e k refl
+on_takes o s who h cell t (Some a) None e k = on_gives_up o s who h t m.ErrActionFailed e k refl
+on_takes o s who h cell t (Some a) (Some b) e k =
+    on_live _ (at s.mutexes a) _ _ (on_gives_up o s who h t m.ErrActionFailed e k refl) (λ y d. on_live _ (at s.segments b) _ _ (on_gives_up o s who h t m.ErrActionFailed e k refl) (λ z f.
+    on_cond s who o (not (nat_lt cell (length z.cells))) _ _ (λ i. on_gives_up o s who h t m.ErrActionFailed e k refl)
+    (λ i. on_cond s who o (is_some y.owner) _ _ (λ j. tt) (λ j. (tt, (tt, ((t, e, does who (tally_has a b) t k (λ w. w)), tt)))))))
+
+size_late : (b : Bool) → is_late_end (Failed (cond b m.ErrActionFailed m.ErrArgSize)) ≡ false
+size_late true = refl
+size_late false = refl
+
+on_locks : (o : Op) (s : State) (who h : ℕ) (t : Task) (args : List ℤ) (a : Option Adds) → at s.tasks h ≡ Some t → runs_on who t ≡ true → AllGives (By s who o) (locks s who h args a)
+on_locks o s who h t args None e k = on_gives_up o s who h t _ e k (size_late (length args == 4))
+on_locks o s who h t args (Some a) e k = on_takes o s who h a.cell t _ _ e k
+
+-- how a tally ends that gives both back
+back_late : (b : Bool) (z : ℤ) → is_late_end (cond b (Failed m.ErrActionFailed) (Completed (z ∷ []))) ≡ false
+back_late true z = refl
+back_late false z = refl
 
 -- the table: a line an op
 row_by : (s : State) (who : ℕ) (o : Op) (r : Reply) → IsHonest o → AllGives (By s who o) (row s who o r)
@@ -161,18 +285,68 @@ row_by s who op.Final r i = λ c d. (refl, tt)
 row_by s who (op.JobGet job) r i = λ c d. tt
 row_by s who (op.ActionCreate job kind cores) r i =
     λ c0 c1 c2. on_only (By s who (op.ActionCreate job kind cores)) _ _ (makes_action (handle_of r) (new_action job kind cores.0) ∷ []) (λ m. (tt, tt))
-row_by s who (op.ActionEnable a) r i = λ c. on_live (By s who (op.ActionEnable a)) (at s.actions a.0) _ _ tt (λ x e. (tt, tt))
+row_by s who (op.ActionDelete a) r i = λ c. on_one s who (op.ActionDelete a) (at s.actions a.0) _ _ (λ x e. (refl, tt))
+row_by s who (op.ActionDisable a) r i = λ c. on_one s who (op.ActionDisable a) (at s.actions a.0) _ _ (λ x e. (refl, tt))
+row_by s who (op.ActionEnable a) r i = λ c. on_one s who (op.ActionEnable a) (at s.actions a.0) _ _ (λ x e. (tt, tt))
 row_by s who (op.TaskStart job args priority cores detached group) r i =
     λ c0 c1 c2 c3 c4 c5 c6. on_only (By s who (op.TaskStart job args priority cores detached group)) _ _ (starts (handle_of r) (asked_for job args priority cores detached group) ∷ []) (λ m. (tt, tt))
-row_by s who (op.TaskLook t last) r i = λ c. on_live (By s who (op.TaskLook t last)) (at s.tasks t.0) _ _ tt (λ x e a b. on_looks (op.TaskLook t last) s who t.0 last x x.state e refl b)
-row_by s who (op.TaskCancel t) r i = λ c. on_live (By s who (op.TaskCancel t)) (at s.tasks t.0) _ _ tt (λ x e. on_cancels (op.TaskCancel t) s who t.0 x x.state e refl)
+row_by s who (op.TaskEnqueue q args cores detached group) r i =
+    λ c d. on_one s who (op.TaskEnqueue q args cores detached group) (at s.queues q.0) _ _ (λ x e c0 c1 c2 c3 c4 c5 c6.
+    on_only (By s who (op.TaskEnqueue q args cores detached group)) _ _ (starts (handle_of r) (asked_of q.0 x args cores detached group) ∷ []) (λ m. (tt, tt)))
+row_by s who (op.TaskLook t last) r i = λ c. on_one s who (op.TaskLook t last) (at s.tasks t.0) _ _ (λ x e a b. on_looks (op.TaskLook t last) s who t.0 last x x.state e refl b)
+row_by s who (op.TaskCancel t) r i = λ c. on_one s who (op.TaskCancel t) (at s.tasks t.0) _ _ (λ x e. on_cancels (op.TaskCancel t) s who t.0 x x.state e refl)
+row_by s who op.GroupCreate r i = λ c d. on_only (By s who op.GroupCreate) _ _ (makes Groups (handle_of r) new_group ∷ []) (λ m. (tt, tt))
+row_by s who (op.GroupDelete g) r i = λ c. on_one s who (op.GroupDelete g) (at s.groups g.0) _ _ (λ x e. (tt, (tt, tt)))
+row_by s who (op.AllLook g last) r i =
+    λ c. on_one s who (op.AllLook g last) (at s.groups g.0) _ _ (λ x e. on_cond s who (op.AllLook g last) (any (is_unended_member g.0) s.tasks) _ _ (λ d. tt) (λ d. (tt, tt)))
+row_by s who (op.AnyLook g last) r i = λ c. on_one s who (op.AnyLook g last) (at s.groups g.0) _ _ (λ x e d. on_first g last s who (endings g.0 (live_of s.tasks)))
+row_by s who (op.QueueCreate id job priority limit ordered retain) r i = λ c d e. creates_by s who (op.QueueCreate id job priority limit ordered retain) Queues keyed_queues r _
+row_by s who (op.QueueGet id) r i = λ c. gets_by s who (op.QueueGet id) Queues keyed_queues id
+row_by s who (op.QueueEnable q) r i = λ c. on_one s who (op.QueueEnable q) (at s.queues q.0) _ _ (λ x e. (tt, tt))
+row_by s who (op.QueueDisable q) r i = λ c. on_one s who (op.QueueDisable q) (at s.queues q.0) _ _ (λ x e. on_disables (op.QueueDisable q) s who q.0 x.retain)
+row_by s who (op.QueueDelete q) r i = λ c. on_one s who (op.QueueDelete q) (at s.queues q.0) _ _ (λ x e. (refl, (tt, tt)))
 row_by s who op.Pick r i = λ a b c. on_stops (is_stop s) s who _ (on_picks s who r b)
 row_by s who (op.Finish t d) r i =
-    λ c. on_live (By s who (op.Finish t d)) (at s.tasks t.0) _ _ tt
-    (λ x e a. ((x, e, inr (as_on who d.kind x.state (fst_true (runs_as who d.kind x) _ (not_false _ a))), done_late d i), tt))
-row_by s who (op.Asked t) r i = λ c. on_live (By s who (op.Asked t)) (at s.tasks t.0) _ _ tt (λ x e a b. ((x, e, asked_notes who x (as_on who kind.Watch x.state (not_false _ a))), tt))
+    λ c. on_one s who (op.Finish t d) (at s.tasks t.0) _ _
+    (λ x e a. ((x, e, inr (as_on who d.kind x.state (fst_true (runs_as who d.kind x) _ (not_false _ a))), inl (done_late d i)), tt))
+row_by s who (op.Asked t) r i = λ c. on_one s who (op.Asked t) (at s.tasks t.0) _ _ (λ x e a b. ((x, e, asked_notes who x (as_on who kind.Watch x.state (not_false _ a))), tt))
 row_by s who (op.WatchEnd t) r i =
-    λ c. on_live (By s who (op.WatchEnd t)) (at s.tasks t.0) _ _ tt (λ x e a b. ((x, e, inr (as_on who kind.Watch x.state (not_false _ a)), watch_late x), tt))
+    λ c. on_one s who (op.WatchEnd t) (at s.tasks t.0) _ _ (λ x e a b. ((x, e, inr (as_on who kind.Watch x.state (not_false _ a)), inl (watch_late x)), tt))
+row_by s who (op.TallyLock t) r i =
+    λ c. on_one s who (op.TallyLock t) (at s.tasks t.0) _ _ (λ x e a b. on_locks (op.TallyLock t) s who t.0 x x.args (tally_args x.args) e (as_on who kind.Tally x.state (not_false _ a)))
+row_by s who (op.TallyRead t) r i =
+    λ c. on_one s who (op.TallyRead t) (at s.tasks t.0) _ _ (λ x e a b. on_live _ (at s.segments x.notes.tally.segment) _ _ tt
+    (λ y d. ((x, e, does who (tally_read (cell_of (cell_in (tally_args x.args)) y)) x (as_on who kind.Tally x.state (not_false _ a)) (λ w. w)), tt)))
+row_by s who (op.TallyWrite t value) r i =
+    λ c. on_one s who (op.TallyWrite t value) (at s.tasks t.0) _ _ (λ x e a b. on_live _ (at s.segments x.notes.tally.segment) _ _ tt
+    (λ y d. (tt, ((x, e, does who tally_written x (as_on who kind.Tally x.state (not_false _ a)) (λ w. w)), tt))))
+row_by s who (op.TallyEnd t) r i =
+    λ c. on_one s who (op.TallyEnd t) (at s.tasks t.0) _ _ (λ x e a b. on_cond s who (op.TallyEnd t) (x.notes.tally.stage == 4) _ _
+    (λ d. ((x, e, inr (as_on who kind.Tally x.state (not_false _ a)), inr refl), tt))
+    (λ d. on_live _ (at s.segments x.notes.tally.segment) _ _ tt (λ y f. on_live _ (at s.mutexes x.notes.tally.mutex) _ _ tt
+    (λ z g. (tt, (tt, ((x, e, inr (as_on who kind.Tally x.state (not_false _ a)), inl (back_late (x.notes.tally.stage == 2) (added x))), tt)))))))
+row_by s who (op.MutexCreate id recursive) r i = λ c d. creates_by s who (op.MutexCreate id recursive) Mutexes keyed_mutexes r _
+row_by s who (op.MutexGet id) r i = λ c d. gets_by s who (op.MutexGet id) Mutexes keyed_mutexes id
+row_by s who (op.MutexDelete x) r i = λ c d. deletes_by s who (op.MutexDelete x) Mutexes x.0 mutex_delete_refusals
+row_by s who (op.MutexLook x last) r i = λ c d. looks_by s who (op.MutexLook x last) Mutexes x.0 last (mutex_look_refusals who) (mutex_busy who) (λ y. Number (pos (y.depth + 1))) (locked_by who)
+row_by s who (op.MutexUnlock x key) r i = λ c d. alters_by s who (op.MutexUnlock x key) Mutexes x.0 (mutex_unlock_refusals who key) (λ y. Ok) unlocked
+row_by s who (op.SemCreate id limit) r i = λ c d e. creates_by s who (op.SemCreate id limit) Sems keyed_sems r _
+row_by s who (op.SemGet id) r i = λ c d. gets_by s who (op.SemGet id) Sems keyed_sems id
+row_by s who (op.SemDelete x) r i = λ c d. deletes_by s who (op.SemDelete x) Sems x.0 sem_delete_refusals
+row_by s who (op.SemLook x last) r i = λ c d. looks_by s who (op.SemLook x last) Sems x.0 last (λ y. []) sem_busy (λ y. Ok) (sem_taken who)
+row_by s who (op.SemUnlock x) r i = λ c d. alters_by s who (op.SemUnlock x) Sems x.0 (sem_unlock_refusals who) (λ y. Ok) (sem_given who)
+row_by s who (op.RwlCreate id limit) r i = λ c d e. creates_by s who (op.RwlCreate id limit) Rwls keyed_rwls r _
+row_by s who (op.RwlGet id) r i = λ c d. gets_by s who (op.RwlGet id) Rwls keyed_rwls id
+row_by s who (op.RwlDelete x) r i = λ c d. deletes_by s who (op.RwlDelete x) Rwls x.0 rwl_delete_refusals
+row_by s who (op.RwlLook x writer last) r i = λ c d. looks_by s who (op.RwlLook x writer last) Rwls x.0 last (rwl_look_refusals who) (rwl_busy writer) (λ y. Ok) (rwl_taken who writer)
+row_by s who (op.RwlUnlock x writer) r i = λ c d. alters_by s who (op.RwlUnlock x writer) Rwls x.0 (rwl_unlock_refusals who writer) (λ y. Ok) (rwl_given who writer)
+row_by s who (op.ShmemCreate id cells) r i = λ c d e. creates_by s who (op.ShmemCreate id cells) Segments keyed_segments r _
+row_by s who (op.ShmemGet id) r i = λ c d. gets_by s who (op.ShmemGet id) Segments keyed_segments id
+row_by s who (op.ShmemDelete x) r i = λ c d. deletes_by s who (op.ShmemDelete x) Segments x.0 shmem_delete_refusals
+row_by s who (op.ShmemAttach x) r i = λ c d. alters_by s who (op.ShmemAttach x) Segments x.0 (attach_refusals who) (λ y. Ok) (with_attached who true)
+row_by s who (op.ShmemDetach x) r i = λ c d. alters_by s who (op.ShmemDetach x) Segments x.0 (detach_refusals who) (λ y. Ok) (with_attached who false)
+row_by s who (op.ShmemRead x cell) r i = λ c d. on_one s who (op.ShmemRead x cell) (at s.segments x.0) _ _ (λ y e a b. tt)
+row_by s who (op.ShmemWrite x cell value) r i = λ c d. alters_by s who (op.ShmemWrite x cell value) Segments x.0 (cell_refusals who cell) (λ y. Ok) (with_cell cell value)
 
 -- the tool: what each move of an entry keeps, the entry keeps
 moves_keep : (who : ℕ) (o : Op) (P : State → Type 0) → ((s : State) (m : Move) → May s who o m → P s → P (apply m s)) → (ms : List Move) (s : State) → AreBy s who o ms → P s → P (after_moves ms s)

@@ -1,7 +1,6 @@
 -- The ends of one task.
 use Rattle.std.specs.Prelude.{◌≡◌, ℕ, ◌≤◌, List, ◌∷◌, ◌++◌, Some}
 use Rattle.mtapi_values.specs.declared.ends.TaskEnd.{TaskEnd}
-use Rattle.mtapi_values.specs.Attributes.{NodeSettings}
 use Rattle.mtapi_machine.specs.declared.ops.Op.TheVariants.{Final}
 use Rattle.mtapi_machine.specs.declared.replies.Reply.TheVariants.{Ok}
 use Rattle.mtapi_machine.specs.declared.terms.Terms.{Terms}
@@ -10,10 +9,6 @@ use Rattle.handle_pool.specs.Issued.{listed}
 use Rattle.mtapi_machine.specs.Legal.{NodeEntry, after}
 use Rattle.mtapi_machine.specs.Ends.{end_at}
 use Rattle.history_law.specs.Accepted.{accepted, EndsOnce}
-
--- the terms of a node with these settings and so many callers
-abbrev pub terms_of : NodeSettings → ℕ → Terms
-terms_of settings callers = record { settings = settings; callers = callers }
 
 -- At most one record is listed under the handle. An end that a prefix shows of it is the end that every longer prefix shows.
 pub record OneEnd (terms : Terms) (es : List NodeEntry) (h : ℕ) : Type 0 where

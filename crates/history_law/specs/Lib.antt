@@ -2,3 +2,5 @@ pub mod Accepted
 pub mod Ends
 pub mod Worked
 pub mod Seats
+pub mod Words
+pub mod Reuse

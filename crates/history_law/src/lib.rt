@@ -3,15 +3,18 @@
 
 ghost use Rattle.mtapi_machine.specs.Legal.{Legal};
 ghost use Rattle.history_law.specs.Accepted.{AcceptedTasksEndOnce};
-ghost use Rattle.history_law.specs.Ends.{terms_of, OneEnd, EndsAfterClose};
-ghost use Rattle.history_law.specs.Seats.{WaiterStays, WorkStays, NoLateEnd, PhaseStays, ReleaseStays, StoppedStays, UnstartedAreUntouched};
+ghost use Rattle.mtapi_machine.specs.State.{terms_of};
+ghost use Rattle.history_law.specs.Ends.{OneEnd, EndsAfterClose};
+ghost use Rattle.mtapi_machine.specs.Laws.{DropsToSame};
+ghost use Rattle.history_law.specs.Reuse.{NeverAgain, NotInBoth};
+ghost use Rattle.history_law.specs.Seats.{OnceAfter, OnceStays, WaiterStays, WorkStays, NoLateEnd, PhaseStays, ReleaseStays, EarlyStays, StoppedStays, StoppedRoom, UnstartedAreUntouched, EntriesBySeats};
 ghost use Rattle.history_law.specs.Worked.{OneTaskEnds};
 
 #[cfg(test)]
 mod tests;
 
 use mtapi_machine::Entry;
-use mtapi_values::{NodeAttr, TaskHandle};
+use mtapi_values::{Layout, NodeAttr, ObjectKind, TaskHandle};
 
 /// In a legal history that ends with the final step, every task that was accepted has one record and ends once: it is ended at the end
 /// of the history, and wherever an end of it shows, that is its end.
@@ -20,15 +23,27 @@ pub fn law_accepted()
 {}
 
 /// A task has at most one end: once a prefix of the history leaves it ended, every longer one leaves it ended so.
-pub fn law_one_end(settings: &NodeAttr, callers: u32, entries: &[Entry], t: TaskHandle)
-    requires { Legal (terms_of settings.now callers) entries.now }
-    ensures { OneEnd (terms_of settings.now callers) entries.now t.0 }
+pub fn law_one_end(
+    layout: Layout,
+    settings: &NodeAttr,
+    callers: u32,
+    entries: &[Entry],
+    t: TaskHandle,
+)
+    requires { Legal (terms_of layout settings.now callers) entries.now }
+    ensures { OneEnd (terms_of layout settings.now callers) entries.now t.0 }
 {}
 
 /// Where the history has `final` with Ok, a task that was accepted has exactly one end.
-pub fn law_end_after_close(settings: &NodeAttr, callers: u32, entries: &[Entry], t: TaskHandle)
-    requires { Legal (terms_of settings.now callers) entries.now }
-    ensures { EndsAfterClose (terms_of settings.now callers) entries.now t.0 }
+pub fn law_end_after_close(
+    layout: Layout,
+    settings: &NodeAttr,
+    callers: u32,
+    entries: &[Entry],
+    t: TaskHandle,
+)
+    requires { Legal (terms_of layout settings.now callers) entries.now }
+    ensures { EndsAfterClose (terms_of layout settings.now callers) entries.now t.0 }
 {}
 
 /// A worked history: its one task ends once, and how.
@@ -36,13 +51,19 @@ pub fn worked_end()
     ensures { OneTaskEnds }
 {}
 
+/// No two tasks are issued under one handle.
+pub fn law_once_listed()
+    ensures after { OnceAfter }
+    ensures stays { OnceStays }
+{}
+
 /// A seat's mark as the waiter of a task is kept by the entries of other seats.
 pub fn law_waiter_stays()
     ensures { WaiterStays }
 {}
 
-/// A task that a worker took stays on it, with its kind and its arguments, over the entries of other seats; and a worker that has none
-/// gets none by them.
+/// A task that a worker took stays on it, with its kind, its arguments and what it has done so far, over the entries of other seats;
+/// and a worker that has none gets none by them.
 pub fn law_work_stays()
     ensures { WorkStays }
 {}
@@ -52,10 +73,11 @@ pub fn law_no_late_end()
     ensures { NoLateEnd }
 {}
 
-/// The phase is moved by its own three ops alone, and the release by its one.
+/// The phase is moved by its own three ops alone, and the release by its one. Before the node is closed, the phase isn't late.
 pub fn law_phase_stays()
     ensures phase { PhaseStays }
     ensures release { ReleaseStays }
+    ensures early { EarlyStays }
 {}
 
 /// A task that hasn't begun has neither looked nor been told anything.
@@ -63,7 +85,31 @@ pub fn law_untouched()
     ensures { UnstartedAreUntouched }
 {}
 
-/// A worker that has stopped stays so.
+/// A worker that has stopped stays so, and there is a mark for each seat.
 pub fn law_stopped_stays()
-    ensures { StoppedStays }
+    ensures stays { StoppedStays }
+    ensures room { StoppedRoom }
+{}
+
+/// Every entry is by a seat.
+pub fn law_seats()
+    ensures { EntriesBySeats }
+{}
+
+/// The history without its dropped entries is legal, and leads to the same state.
+pub fn law_drop(layout: Layout, settings: &NodeAttr, callers: u32, entries: &[Entry])
+    requires { Legal (terms_of layout settings.now callers) entries.now }
+    ensures { DropsToSame (terms_of layout settings.now callers) entries.now }
+{}
+
+/// A handle that has stopped being live is never issued or live again.
+pub fn law_no_reuse(layout: Layout, settings: &NodeAttr, callers: u32, entries: &[Entry], kind: ObjectKind, h: u64)
+    requires { Legal (terms_of layout settings.now callers) entries.now }
+    ensures { NeverAgain (terms_of layout settings.now callers) entries.now kind h }
+{}
+
+/// In layout two no handle was issued to objects of two kinds.
+pub fn law_kind(layout: Layout, settings: &NodeAttr, callers: u32, entries: &[Entry], a: ObjectKind, b: ObjectKind, h: u64)
+    requires { Legal (terms_of layout settings.now callers) entries.now }
+    ensures { NotInBoth layout (terms_of layout settings.now callers) entries.now a b h }
 {}

@@ -1,8 +1,8 @@
 //! Every number and name, and every range at both ends and one past them.
 
 use crate::{
-    ActionAttr, Args, Kind, Look, Mask, MrapiStatus, MtapiStatus, MutexAttr, NodeAttr, QueueAttr,
-    TaskAttr, TaskEnd, Timeout,
+    ActionAttr, Args, Kind, Look, Mask, MrapiStatus, MtapiStatus, MutexAttr, NodeAttr, ObjectKind,
+    QueueAttr, TaskAttr, TaskEnd, Timeout, inner, outer,
 };
 
 /// Whether the status has this number and this name, by which it is found, and which the other table lacks.
@@ -160,13 +160,37 @@ fn kinds_have_their_words(rt: HostRuntime) {
         (Kind::Triangle, "triangle"),
         (Kind::Fail, "fail"),
         (Kind::Watch, "watch"),
+        (Kind::Tally, "tally"),
     ];
     for (kind, word) in kinds {
         assert!(rt; kind.word() == word && Kind::from_word(word) == Some(kind));
     }
-    for text in ["", "Add", "ad", "adds", "tally"] {
+    for text in ["", "Add", "ad", "adds", "tallies"] {
         assert!(rt; Kind::from_word(text).is_none());
     }
+}
+
+#[test]
+fn handles_name_their_kinds(rt: HostRuntime) {
+    // Generation 3, slot 5.
+    let handle = 12_884_901_893;
+    let rows = [
+        (ObjectKind::Action, 1, 12_901_679_109),
+        (ObjectKind::Task, 2, 12_918_456_325),
+        (ObjectKind::Group, 3, 12_935_233_541),
+        (ObjectKind::Queue, 4, 12_952_010_757),
+        (ObjectKind::Mutex, 5, 12_968_787_973),
+        (ObjectKind::Sem, 6, 12_985_565_189),
+        (ObjectKind::Rwl, 7, 13_002_342_405),
+        (ObjectKind::Shmem, 8, 13_019_119_621),
+    ];
+    for (kind, number, seen) in rows {
+        assert_eq!(rt; kind.number(), number);
+        assert_eq!(rt; outer(kind, handle), seen);
+        assert_eq!(rt; inner(kind, seen), Some(handle));
+    }
+    assert_eq!(rt; inner(ObjectKind::Group, 12_918_456_325), None);
+    assert_eq!(rt; inner(ObjectKind::Action, handle), None);
 }
 
 /// What the five attribute types have in common.

@@ -17,7 +17,7 @@ use Rattle.linked_places.proofs.NextLemmas.{index-has}
 use Rattle.ready_index.specs.declared.marks.Mark.{Mark}
 use Rattle.ready_index.specs.Marks.{mark_at, is_for_at}
 use Rattle.mtapi_objects.specs.Actions.{Action}
-use Rattle.mtapi_objects.specs.Tasks.{Task, TaskState, Scheduled, Running, Over, is_unended, with_state, cancel_requested, with_waiter, task_look_refusals, asked_refusals, asked_once}
+use Rattle.mtapi_objects.specs.Tasks.{Task, TaskState, Scheduled, Running, Over, is_unended, Notes, with_state, with_notes, cancel_requested, with_waiter, task_look_refusals, asked_refusals, asked_once}
 use Rattle.task_core.specs.Answers.{after_asked, waiter_after}
 use Rattle.task_core.specs.Table.{TaskTable, ended_in, looked_in}
 use Rattle.task_board.specs.Seen.{Seen, seen_as, seen, seen_in}
@@ -50,7 +50,7 @@ max-insert p q h t i = ap max_of i.now ∙ max-value p h t
 
 pub max-ended : (p : Slots Task) (h : ℕ) (e : TaskEnd) (n : ℕ) (o : Option Task) → max_of (ended_in p h e n o) ≡ max_of p
 max-ended p h e n None = refl
-max-ended p h e n (Some t) = by_test t.detached
+max-ended p h e n (Some t) = by_test t.notes.detached
   where
     by_test : (b : Bool) → max_of (cond b (without p h) (with_value p h (with_state (Over e n) t))) ≡ max_of p
     by_test true = max-without p h
@@ -60,9 +60,9 @@ pub max-looked : (p : Slots Task) (h who : ℕ) (last : Bool) (o : Option Task) 
 max-looked p h who last None = refl
 max-looked p h who last (Some t) = by_tests (is_some (first (task_look_refusals who t))) (is_unended t)
   where
-    by_tests : (a b : Bool) → max_of (cond a p (cond b (with_value p h (with_waiter (waiter_after who last) t)) (without p h))) ≡ max_of p
+    by_tests : (a b : Bool) → max_of (cond a p (cond b (with_value p h (with_notes (with_waiter (waiter_after who last)) t)) (without p h))) ≡ max_of p
     by_tests true b = refl
-    by_tests false true = max-value p h (with_waiter (waiter_after who last) t)
+    by_tests false true = max-value p h (with_notes (with_waiter (waiter_after who last)) t)
     by_tests false false = max-without p h
 
 -- What is seen
@@ -77,7 +77,7 @@ pub put-insert : (p q : Slots Task) (h : ℕ) (t : Task) → Inserts p q h t →
 put-insert p q h t i = record { here = ap seen (get-insert_same p q h t i); others = λ k d. ap seen (get-insert_other p q h k t i d) }
 
 pub put-ended : (p : Slots Task) (h : ℕ) (e : TaskEnd) (n : ℕ) (t : Task) → get p h ≡ Some t → Put (seen_in p) h None (seen_in (ended_in p h e n (Some t)))
-put-ended p h e n t g = by_test t.detached
+put-ended p h e n t g = by_test t.notes.detached
   where
     by_test : (b : Bool) → Put (seen_in p) h None (seen_in (cond b (without p h) (with_value p h (with_state (Over e n) t))))
     by_test true = put-without p h t g
@@ -100,36 +100,20 @@ seen-changed p h f same k = by_found (get p h) refl
     by_found None g = ap (λ (o : Option Task). seen_in (put p h (option_map f o)) k) g
     by_found (Some t) g = put-same (seen_in p) (seen_in (changed p h f)) h _ (put-changed p h f t g) (same t ∙ ap seen (sym g)) k
 
-requested-same : (t : Task) (x : TaskState) → seen_as (cancel_requested t) x ≡ seen_as t x
-requested-same t Scheduled = refl
-requested-same t (Running w k) = refl
-requested-same t (Over e n) = refl
+notes-same : (f : Notes → Notes) (t : Task) (x : TaskState) → seen_as (with_notes f t) x ≡ seen_as t x
+notes-same f t Scheduled = refl
+notes-same f t (Running w k) = refl
+notes-same f t (Over e n) = refl
 
-pub seen-requested : (t : Task) → seen (Some (cancel_requested t)) ≡ seen (Some t)
-seen-requested t = requested-same t t.state
-
-waiter-same : (w : Option ℕ) (t : Task) (x : TaskState) → seen_as (with_waiter w t) x ≡ seen_as t x
-waiter-same w t Scheduled = refl
-waiter-same w t (Running v k) = refl
-waiter-same w t (Over e n) = refl
+-- what is noted of a task isn't seen
+pub seen-noted : (f : Notes → Notes) (t : Task) → seen (Some (with_notes f t)) ≡ seen (Some t)
+seen-noted f t = notes-same f t t.state
 
 pub seen-asked : (w : ℕ) (t : Task) → seen (Some (after_asked w t)) ≡ seen (Some t)
 seen-asked w t = by_refusal (is_none (first (asked_refusals w t)))
   where
-    once : (b : Bool) (x : TaskState) → seen_as (cond b (record t { seen = true }) (record t { looks = t.looks + 1 })) x ≡ seen_as t x
-    once true Scheduled = refl
-    once true (Running v k) = refl
-    once true (Over e n) = refl
-    once false Scheduled = refl
-    once false (Running v k) = refl
-    once false (Over e n) = refl
-
-    state : (b : Bool) → (cond b (record t { seen = true }) (record t { looks = t.looks + 1 })).state ≡ t.state
-    state true = refl
-    state false = refl
-
-    by_refusal : (b : Bool) → seen (Some (cond b (asked_once t) t)) ≡ seen (Some t)
-    by_refusal true = ap (seen_as (asked_once t)) (state t.requested) ∙ once t.requested t.state
+    by_refusal : (b : Bool) → seen (Some (cond b (with_notes asked_once t) t)) ≡ seen (Some t)
+    by_refusal true = seen-noted asked_once t
     by_refusal false = refl
 
 over-unseen : (t : Task) (x : TaskState) → t.state ≡ x → is_unended t ≡ false → seen (Some t) ≡ None
@@ -141,9 +125,9 @@ pub seen-looked : (p : Slots Task) (h who : ℕ) (last : Bool) (o : Option Task)
 seen-looked p h who last None g k = refl
 seen-looked p h who last (Some t) g k = by_tests (is_some (first (task_look_refusals who t))) (is_unended t) refl
   where
-    by_tests : (a b : Bool) → is_unended t ≡ b → seen_in (cond a p (cond b (with_value p h (with_waiter (waiter_after who last) t)) (without p h))) k ≡ seen_in p k
+    by_tests : (a b : Bool) → is_unended t ≡ b → seen_in (cond a p (cond b (with_value p h (with_notes (with_waiter (waiter_after who last)) t)) (without p h))) k ≡ seen_in p k
     by_tests true b e = refl
-    by_tests false true e = put-same (seen_in p) _ h _ (put-value p h t (with_waiter (waiter_after who last) t) g) (waiter-same (waiter_after who last) t t.state ∙ ap seen (sym g)) k
+    by_tests false true e = put-same (seen_in p) _ h _ (put-value p h t (with_notes (with_waiter (waiter_after who last)) t) g) (seen-noted (with_waiter (waiter_after who last)) t ∙ ap seen (sym g)) k
     by_tests false false e = put-same (seen_in p) _ h None (put-without p h t g) (sym (over-unseen t t.state refl e) ∙ ap seen (sym g)) k
 
 -- A move that nothing is seen of

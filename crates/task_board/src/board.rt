@@ -7,7 +7,7 @@ ghost use Rattle.mtapi_values.specs.Attributes.{IsWithin};
 ghost use Rattle.handle_pool.specs.Slots.{Slots, get, free_slot, changed, SomeLive, NoneLive};
 ghost use Rattle.mtapi_objects.specs.Actions.{Action, with_enabled};
 ghost use Rattle.job_table.specs.Answers.{Creates, Covers, Passes, job_of};
-ghost use Rattle.mtapi_objects.specs.Tasks.{Task, is_unstarted, is_unended, runs_on, with_state, Running, runner, cancel_requested};
+ghost use Rattle.mtapi_objects.specs.Tasks.{Task, is_unstarted, is_unended, runs_on, with_state, Running, runner, with_notes, cancel_requested};
 ghost use Rattle.task_core.specs.Records.{asked_task, shown_state};
 ghost use Rattle.task_core.specs.Answers.{look_reply, asked_of, after_asked, watch_end_of};
 ghost use Rattle.task_core.specs.Table.{Adds, IsLiveAnd, ended_in, looked_in, unended_count};
@@ -214,7 +214,7 @@ impl Board {
     /// Asks a running task to cancel.
     pub fn request(&mut self, t: TaskHandle)
         requires { IsLiveAnd (λ task. is_some (runner task.state)) (get self.old.tasks.pool t.0) }
-        ensures { Becomes self.old self.new self.old.actions (record self.old.tasks { pool = changed self.old.tasks.pool t.0 cancel_requested }) }
+        ensures { Becomes self.old self.new self.old.actions (record self.old.tasks { pool = changed self.old.tasks.pool t.0 (with_notes cancel_requested) }) }
     {
         self.tasks.request(t);
     }

@@ -7,7 +7,7 @@ use Rattle.std.proofs.lemmas.Option.{slice_get_within, get_or_from_slice_get}
 use Rattle.mtapi_values.specs.declared.ends.TaskEnd.{TaskEnd}
 use Rattle.handle_pool.specs.Slots.{Slot, Slots, changed, slot_of, generation_of, used_slot, free_slot, slot_after, get, Inserts, with_value, without}
 use Rattle.handle_pool.proofs.StandsLemmas.{used_at_live}
-use Rattle.mtapi_objects.specs.Tasks.{Task, TaskState, Scheduled, Running, Over, scheduled, is_unstarted, is_unended, with_state, asked_refusals, asked_once}
+use Rattle.mtapi_objects.specs.Tasks.{Task, TaskState, Scheduled, Running, Over, scheduled, is_unstarted, is_unended, with_state, with_notes, asked_refusals, asked_once}
 use Rattle.mtapi_values.specs.Conditions.{first}
 use Rattle.task_core.specs.Answers.{without_group, after_asked}
 use Rattle.task_core.specs.Table.{IsLiveAnd, ended_in, detached_in, holds_unended, unended_count, AreCounted}
@@ -50,7 +50,7 @@ AreCounted-give_up p h t starts ends live ended counted =
     record { once = omega (arith, counted.once); few = counted.few }
 
 pub AreCounted-end : (p : Slots Task) (h : ℕ) (t : Task) (end : TaskEnd) (number starts ends : ℕ) → get p h ≡ Some t → is_unended t ≡ true → AreCounted p starts ends → AreCounted (ended_in p h end number (Some t)) starts (ends + 1)
-AreCounted-end p h t end number starts ends live unended counted = by_detached t.detached
+AreCounted-end p h t end number starts ends live unended counted = by_detached t.notes.detached
   where
     ended : AreCounted (with_value p h (with_state (Over end number) t)) starts (ends + 1)
     ended =
@@ -107,12 +107,12 @@ is_ended t h = by_test (is_unended t) h
 pub is_unended-asked : (worker : ℕ) (t : Task) → is_unended (after_asked worker t) ≡ is_unended t
 is_unended-asked worker t = by_refusal (is_none (first (asked_refusals worker t)))
   where
-    by_request : (b : Bool) → is_unended (if b then record t { seen = true } else record t { looks = t.looks + 1 }) ≡ is_unended t
+    by_request : (b : Bool) → is_unended (with_notes (λ n. if b then record n { seen = true } else record n { looks = n.looks + 1 }) t) ≡ is_unended t
     by_request true = refl
     by_request false = refl
 
-    by_refusal : (b : Bool) → is_unended (if b then asked_once t else t) ≡ is_unended t
-    by_refusal true = by_request t.requested
+    by_refusal : (b : Bool) → is_unended (if b then with_notes asked_once t else t) ≡ is_unended t
+    by_refusal true = by_request t.notes.requested
     by_refusal false = refl
 
 -- a live task that passes is there

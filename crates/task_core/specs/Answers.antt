@@ -5,7 +5,7 @@ use Rattle.mtapi_values.specs.declared.statuses.MtapiStatus.TheVariants.{Timeout
 use Rattle.mtapi_values.specs.declared.ends.TaskEnd.{TaskEnd}
 use Rattle.mtapi_values.specs.declared.ends.TaskEnd.TheVariants.{Failed}
 use Rattle.mtapi_values.specs.Conditions.{first}
-use Rattle.mtapi_objects.specs.Tasks.{Task, end_of, task_look_refusals, asked_refusals, asked_once, watch_end_refusals, watch_end}
+use Rattle.mtapi_objects.specs.Tasks.{Task, with_notes, end_of, task_look_refusals, asked_refusals, asked_once, watch_end_refusals, watch_end}
 use Rattle.task_core.specs.declared.states.TaskLook.{TaskLook}
 use Rattle.task_core.specs.declared.states.TaskLook.TheVariants.{Ended, Pending, Refused}
 
@@ -16,7 +16,7 @@ unless_refused (Some status) answer = Err status
 
 -- the task leaves its group, and nobody waits for it any more
 abbrev pub without_group : Task → Task
-without_group t = record t { group = None; detached = true }
+without_group t = with_notes (λ n. record n { group = None; detached = true }) t
 
 -- what a look says of a task that hasn't ended
 abbrev pub unended_look : Bool → TaskLook
@@ -44,7 +44,7 @@ waiter_after who false = Some who
 
 -- the reply to an ask on this worker
 abbrev pub asked_reply : ℕ → Task → Result Bool MtapiStatus
-asked_reply worker t = unless_refused (first (asked_refusals worker t)) t.requested
+asked_reply worker t = unless_refused (first (asked_refusals worker t)) t.notes.requested
 
 abbrev pub asked_of : ℕ → Option Task → Result Bool MtapiStatus
 asked_of worker None = Err ErrTaskInvalid
@@ -52,7 +52,7 @@ asked_of worker (Some t) = asked_reply worker t
 
 -- what an ask leaves
 abbrev pub after_asked : ℕ → Task → Task
-after_asked worker t = if is_none (first (asked_refusals worker t)) then asked_once t else t
+after_asked worker t = if is_none (first (asked_refusals worker t)) then with_notes asked_once t else t
 
 -- the reply to a watch that wants to end on this worker
 abbrev pub watch_end_reply : ℕ → Task → Result TaskEnd MtapiStatus

@@ -7,7 +7,7 @@ pub mod states;
 ghost use Rattle.std.specs.Prelude.{◌≡◌, ◌+◌, ◌≤◌, ◌<◌, ◌^◌, replicate, Some, IsSome, IfSome, IfOk, slice_get, is_some, not};
 ghost use Rattle.std.specs.Option.{option_copied, option_map};
 ghost use Rattle.handle_pool.specs.Slots.{get, free_slot, without, changed, used_at};
-ghost use Rattle.mtapi_objects.specs.Tasks.{Task, is_unstarted, is_unended, with_state, Running, runner, end_of, cancel_requested};
+ghost use Rattle.mtapi_objects.specs.Tasks.{Task, is_unstarted, is_unended, with_state, Running, runner, end_of, with_notes, cancel_requested};
 ghost use Rattle.task_core.specs.Records.{asked_task, shown_state, end_in};
 ghost use Rattle.task_core.specs.Answers.{look_reply, asked_of, after_asked, watch_end_of};
 ghost use Rattle.task_core.specs.Table.{Adds, IsLiveAnd, unended_count, ended_in, detached_in, looked_in};
@@ -105,7 +105,7 @@ impl Tasks {
     /// Asks a running task to cancel.
     pub fn request(&mut self, t: TaskHandle)
         requires { IsLiveAnd (λ task. is_some (runner task.state)) (get self.old.pool t.0) }
-        ensures { self.new ≡ record self.old { pool = changed self.old.pool t.0 cancel_requested } }
+        ensures { self.new ≡ record self.old { pool = changed self.old.pool t.0 (with_notes cancel_requested) } }
     {
         match self.pool.get_mut(t.0) {
             Some(record) => record.request(),

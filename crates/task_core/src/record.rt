@@ -3,7 +3,7 @@
 ghost use Rattle.std.specs.Prelude.{◌≡◌, false, Some};
 ghost use Rattle.std.specs.Option.{option_copied};
 ghost use Rattle.mtapi_values.specs.Conditions.{first};
-ghost use Rattle.mtapi_objects.specs.Tasks.{new_task, end_of, is_unended, with_state, Running, Over, cancel_requested, with_waiter, task_look_refusals, runs_as, looks_of};
+ghost use Rattle.mtapi_objects.specs.Tasks.{new_task, end_of, is_unended, with_state, with_notes, Running, Over, cancel_requested, with_waiter, task_look_refusals, runs_as, looks_of};
 ghost use Rattle.task_core.specs.Answers.{without_group, unended_look, waiter_after, asked_reply, after_asked, watch_end_reply, args_fault};
 ghost use Rattle.task_core.specs.Records.{asked_task, group_number, queue_number, shown_state, end_in, number_in};
 
@@ -24,7 +24,7 @@ enum Progress {
     Done(TaskEnd, u64),
 }
 
-/// One task: what was asked for, how far it has come, and who waits for it.
+/// One task: what was asked for, how far it has come, and who waits for it. What a tally has done is not among it.
 #[derive(Drop)]
 pub struct TaskRecord {
     job: u32,
@@ -43,7 +43,7 @@ pub struct TaskRecord {
 }
 
 impl Model for TaskRecord {
-    ghost use Rattle.mtapi_objects.specs.Tasks.{Task};
+    ghost use Rattle.mtapi_objects.specs.Tasks.{Task, no_tally};
 
     ghost Value = { Task };
 
@@ -54,15 +54,18 @@ impl Model for TaskRecord {
       args = t.args;
       priority = t.priority;
       cores = t.cores.0;
-      detached = t.detached;
-      group = group_number t.group;
       queue = queue_number t.queue;
-      state = state_of t.progress;
       start = t.start;
-      waiter = t.waiter;
-      requested = t.requested;
-      looks = t.looks;
-      seen = t.seen;
+      state = state_of t.progress;
+      notes = record {
+        detached = t.detached;
+        group = group_number t.group;
+        waiter = t.waiter;
+        requested = t.requested;
+        looks = t.looks;
+        seen = t.seen;
+        tally = no_tally;
+      };
     } };
 
     ghost invariant = { λ t. LooksWithin t.args t.looks };
@@ -119,14 +122,14 @@ impl TaskRecord {
 
     /// Whether it stops being live as soon as it ends.
     pub fn detached(&self) -> bool
-        ensures { result ≡ self.now.detached }
+        ensures { result ≡ self.now.notes.detached }
     {
         self.detached
     }
 
     /// The group that it is a member of.
     pub fn group(&self) -> Option<GroupHandle>
-        ensures { group_number result ≡ self.now.group }
+        ensures { group_number result ≡ self.now.notes.group }
     {
         self.group
     }
@@ -161,28 +164,28 @@ impl TaskRecord {
 
     /// The seat that waits for it.
     pub fn waiter(&self) -> Option<u32>
-        ensures { result ≡ self.now.waiter }
+        ensures { result ≡ self.now.notes.waiter }
     {
         self.waiter
     }
 
     /// Whether cancelling was asked for.
     pub fn requested(&self) -> bool
-        ensures { result ≡ self.now.requested }
+        ensures { result ≡ self.now.notes.requested }
     {
         self.requested
     }
 
     /// How often a watch looked and saw no request.
     pub fn looks(&self) -> u32
-        ensures { result ≡ self.now.looks }
+        ensures { result ≡ self.now.notes.looks }
     {
         self.looks
     }
 
     /// Whether a watch saw the request.
     pub fn seen(&self) -> bool
-        ensures { result ≡ self.now.seen }
+        ensures { result ≡ self.now.notes.seen }
     {
         self.seen
     }
@@ -228,7 +231,7 @@ impl TaskRecord {
     }
 
     pub(crate) fn request(&mut self)
-        ensures { self.new ≡ cancel_requested self.old }
+        ensures { self.new ≡ with_notes cancel_requested self.old }
     {
         self.requested = true;
     }
@@ -244,7 +247,7 @@ impl TaskRecord {
     // A look at a task that hasn't ended: the seat waits for it, or with the last look no longer does.
     pub(crate) fn wait(&mut self, who: u32, last: bool) -> TaskLook
         ensures reply { result ≡ unended_look last }
-        ensures new { self.new ≡ with_waiter (waiter_after who last) self.old }
+        ensures new { self.new ≡ with_notes (with_waiter (waiter_after who last)) self.old }
     {
         if last {
             self.waiter = None;

@@ -1,9 +1,9 @@
 use Rattle.std.proofs.Common.{ap, ◌∙◌}
 use Rattle.handle_pool.specs.Slots.{max_of}
-use Rattle.mtapi_objects.specs.Tasks.{cancel_requested}
+use Rattle.mtapi_objects.specs.Tasks.{with_notes, cancel_requested}
 use Rattle.task_core.specs.Table.{TaskTable}
 use Rattle.task_board.specs.Seen.{seen_in}
-use Rattle.task_board.proofs.MoveLemmas.{quiet, seen-changed, seen-requested, max-changed}
+use Rattle.task_board.proofs.MoveLemmas.{quiet, seen-changed, seen-noted, max-changed}
 use Rattle.task_board.proofs.board.Board.request.Goals as goal
 
 pub invariant_of-self : goal.invariant_of-self
@@ -11,5 +11,5 @@ invariant_of-self c =
     let b = c.self.inside in
     let pool = b.tasks.pool in
     quiet _ c.request.new.self
-    (λ k. ap (λ (q : TaskTable). seen_in q.pool k) c.request.ensures ∙ seen-changed pool c.args.t.0 cancel_requested seen-requested k)
-    (ap (λ (q : TaskTable). max_of q.pool) c.request.ensures ∙ max-changed pool c.args.t.0 cancel_requested) (ap (λ (q : TaskTable). q.starts) c.request.ensures) c.self.invariant
+    (λ k. ap (λ (q : TaskTable). seen_in q.pool k) c.request.ensures ∙ seen-changed pool c.args.t.0 (with_notes cancel_requested) (seen-noted cancel_requested) k)
+    (ap (λ (q : TaskTable). max_of q.pool) c.request.ensures ∙ max-changed pool c.args.t.0 (with_notes cancel_requested)) (ap (λ (q : TaskTable). q.starts) c.request.ensures) c.self.invariant

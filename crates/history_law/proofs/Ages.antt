@@ -1,0 +1,232 @@
+-- What each move does to the objects of one kind: they stay listed, none comes back to life, and a new one has a new handle.
+use Rattle.std.proofs.Common.{◌≡◌, ℕ, ◌+◌, ◌≤◌, Bool, true, false, cond, List, [], ◌∷◌, Some, None, refl, sym, ◌∙◌, ap, subst, arith}
+use Rattle.std.specs.Prelude.{◌==◌, ◌&&◌, not, is_some}
+use Rattle.mtapi_values.specs.declared.handles.ObjectKind.{ObjectKind}
+use Rattle.mtapi_values.specs.declared.handles.ObjectKind.TheVariants as kind
+use Rattle.mtapi_values.specs.declared.ends.TaskEnd.{TaskEnd}
+use Rattle.mtapi_values.specs.declared.ends.TaskEnd.TheVariants.{Failed}
+use Rattle.mtapi_machine.specs.declared.ops.Op.{Op}
+use Rattle.mtapi_machine.specs.declared.ops.Op.TheVariants as op
+use Rattle.handle_pool.specs.Issued.{Listed, live_of, lookup, at, listed, change, change_all, issue, with_fields, gone}
+use Rattle.mtapi_objects.specs.Actions.{with_enabled}
+use Rattle.mtapi_objects.specs.Tasks.{Task, Running, is_unended, with_state, with_notes, ended, end_each, new_task}
+use Rattle.mtapi_objects.specs.Groups.{is_member, freed, let_go}
+use Rattle.mtapi_machine.specs.State.{State, is_open}
+use Rattle.mtapi_machine.specs.Moves.{Move, Sort, Groups, Queues, Mutexes, Sems, Rwls, Segments, makes_action, enables, withdraws, starts, runs, ends, ends_waiting, notes, leaves, frees_members, lets_members_go, makes, alters, removes, is_fresh, apply}
+use Rattle.mtapi_machine.specs.Laws.{may, IsMade, WithdrawsAction}
+use Rattle.mtapi_machine.proofs.Made.{snd_true}
+use Rattle.mtapi_machine.proofs.Moves.{sorts_keep}
+use Rattle.history_law.specs.Words.{FieldsOf, objects_of}
+use Rattle.history_law.proofs.Moves.{opens_fresh}
+
+-- the object has its handle, and doesn't come back to life
+pub record Ages {T : Type 0} (r q : Listed T) : Type 0 where
+  pub handle : q.handle ≡ r.handle
+  pub dead : r.live ≡ false → q.live ≡ false
+
+module _ {T : Type 0} where
+  abbrev pub AgesEach : List (Listed T) → List (Listed T) → Type 0
+  AgesEach [] [] = Unit {0}
+  AgesEach [] (q ∷ qs) = ⊥
+  AgesEach (r ∷ rs) [] = ⊥
+  AgesEach (r ∷ rs) (q ∷ qs) = Ages r q × AgesEach rs qs
+
+  ages_same : (r : Listed T) → Ages r r
+  ages_same r = record { handle = refl; dead = λ d. d }
+
+  each_same : (l : List (Listed T)) → AgesEach l l
+  each_same [] = tt
+  each_same (r ∷ rs) = (ages_same r, each_same rs)
+
+  each_change : (h : ℕ) (f : Listed T → Listed T) (l : List (Listed T)) → ((r : Listed T) → Ages r (f r)) → AgesEach l (change h f l)
+  unfolding change
+  each_change h f [] k = tt
+  each_change h f (r ∷ rs) k = by_test (r.live && (r.handle == h)) (each_change h f rs k)
+    where
+      by_test : (b : Bool) → AgesEach rs (change h f rs) → AgesEach (r ∷ rs) (cond b (f r ∷ rs) (r ∷ change h f rs))
+      by_test true m = (k r, each_same rs)
+      by_test false m = (ages_same r, m)
+
+  each_all : (p : T → Bool) (f : Listed T → Listed T) (l : List (Listed T)) → ((r : Listed T) → Ages r (f r)) → AgesEach l (change_all p f l)
+  unfolding change_all
+  each_all p f [] k = tt
+  each_all p f (r ∷ rs) k = (by_test (r.live && p r.fields), each_all p f rs k)
+    where
+      by_test : (b : Bool) → Ages r (cond b (f r) r)
+      by_test true = k r
+      by_test false = ages_same r
+
+  fields_age : (f : T → T) (r : Listed T) → Ages r (with_fields f r)
+  fields_age f r = record { handle = refl; dead = λ d. d }
+
+  gone_ages : (r : Listed T) → Ages r (gone r)
+  gone_ages r = record { handle = refl; dead = λ d. refl }
+
+and_dead : (a b : Bool) → a ≡ false → (a && b) ≡ false
+and_dead a b e = ap (λ c. c && b) e
+
+ended_ages : (e : TaskEnd) (n : ℕ) (r : Listed Task) → Ages r (ended e n r)
+ended_ages e n r = record { handle = refl; dead = and_dead r.live _ }
+
+each_ends : (p : Task → Bool) (e : TaskEnd) (n : ℕ) (l : List (Listed Task)) → AgesEach l (end_each p e n l)
+unfolding end_each
+each_ends p e n [] = tt
+each_ends p e n (r ∷ rs) = by_test (r.live && p r.fields) (each_ends p e n rs) (each_ends p e (n + 1) rs)
+  where
+    by_test : (b : Bool) → AgesEach rs (end_each p e n rs) → AgesEach rs (end_each p e (n + 1) rs) → AgesEach (r ∷ rs) (cond b (ended e n r ∷ end_each p e (n + 1) rs) (r ∷ end_each p e n rs))
+    by_test true g m = (ended_ages e n r, m)
+    by_test false g m = (ages_same r, g)
+
+freed_ages : (r : Listed Task) → Ages r (freed r)
+freed_ages r = record { handle = refl; dead = λ d. refl }
+
+let_go_ages : (r : Listed Task) → Ages r (let_go r)
+let_go_ages r = record { handle = refl; dead = and_dead r.live _ }
+
+withdrawn_ages : (h : ℕ) (f : Listed _ → Listed _) (o : Op) → WithdrawsAction h f o → (r : Listed _) → Ages r (f r)
+withdrawn_ages h f (op.ActionDelete a) w r = subst (λ g. Ages r (g r)) (sym w.1) (gone_ages r)
+withdrawn_ages h f (op.ActionDisable a) w r = subst (λ g. Ages r (g r)) (sym w.1) (fields_age (with_enabled false) r)
+withdrawn_ages h f _ w r = absurd w
+
+-- what a new object and ageing keep, each move keeps
+pub kind_move : (k : ObjectKind) (s : State) (o : Op) (Q : List (Listed (FieldsOf k)) → Type 0)
+    → ((h : ℕ) (x : FieldsOf k) → is_fresh (objects_of k) s h ≡ true → Q ((objects_of k).list s) → Q (issue h x ((objects_of k).list s)))
+    → ((m : List (Listed (FieldsOf k))) → AgesEach ((objects_of k).list s) m → Q ((objects_of k).list s) → Q m)
+    → (m : Move) → IsMade s o m → Q ((objects_of k).list s) → Q ((objects_of k).list (apply m s))
+kind_move kind.Action s o Q new old (makes_action h a) e v = new h a e.may v
+kind_move kind.Action s o Q new old (enables h) e v = old _ (each_change h _ s.actions (fields_age (with_enabled true))) v
+kind_move kind.Action s o Q new old (withdraws h f c) e v = old _ (each_change h f s.actions (withdrawn_ages h f o e.by)) v
+kind_move kind.Action s o Q new old (makes j h x) e v = sorts_keep (λ t. Q t.actions) (λ t g q m c r y p. p) j _ s v
+kind_move kind.Action s o Q new old (alters j h f) e v = sorts_keep (λ t. Q t.actions) (λ t g q m c r y p. p) j _ s v
+kind_move kind.Action s o Q new old (removes j h) e v = sorts_keep (λ t. Q t.actions) (λ t g q m c r y p. p) j _ s v
+kind_move kind.Action s o Q new old _ e v = v
+kind_move kind.Task s o Q new old (starts h t) e v = new h (new_task t s.starts) (snd_true (is_open s.phase) _ (opens_fresh s h t e.may)) v
+kind_move kind.Task s o Q new old (runs h w k) e v = old _ (each_change h _ s.tasks (fields_age (with_state (Running w k)))) v
+kind_move kind.Task s o Q new old (ends h x) e v = old _ (each_change h _ s.tasks (ended_ages x s.ends)) v
+kind_move kind.Task s o Q new old (ends_waiting p x) e v = old _ (each_ends _ x s.ends s.tasks) v
+kind_move kind.Task s o Q new old (withdraws h f c) e v = old _ (each_ends _ (Failed c) s.ends s.tasks) v
+kind_move kind.Task s o Q new old (notes h f) e v = old _ (each_change h _ s.tasks (fields_age (with_notes f))) v
+kind_move kind.Task s o Q new old (leaves h) e v = old _ (each_change h gone s.tasks gone_ages) v
+kind_move kind.Task s o Q new old (frees_members g) e v = old _ (each_all _ freed s.tasks freed_ages) v
+kind_move kind.Task s o Q new old (lets_members_go g) e v = old _ (each_all (is_member g) let_go s.tasks let_go_ages) v
+kind_move kind.Task s o Q new old (makes j h x) e v = sorts_keep (λ t. Q t.tasks) (λ t g q m c r y p. p) j _ s v
+kind_move kind.Task s o Q new old (alters j h f) e v = sorts_keep (λ t. Q t.tasks) (λ t g q m c r y p. p) j _ s v
+kind_move kind.Task s o Q new old (removes j h) e v = sorts_keep (λ t. Q t.tasks) (λ t g q m c r y p. p) j _ s v
+kind_move kind.Task s o Q new old _ e v = v
+kind_move kind.Group s o Q new old (makes Groups h x) e v = new h x e.may v
+kind_move kind.Group s o Q new old (alters Groups h f) e v = old _ (each_change h _ s.groups (fields_age f)) v
+kind_move kind.Group s o Q new old (removes Groups h) e v = old _ (each_change h gone s.groups gone_ages) v
+kind_move kind.Group s o Q new old (makes _ h x) e v = v
+kind_move kind.Group s o Q new old (alters _ h f) e v = v
+kind_move kind.Group s o Q new old (removes _ h) e v = v
+kind_move kind.Group s o Q new old _ e v = v
+kind_move kind.Queue s o Q new old (makes Queues h x) e v = new h x e.may v
+kind_move kind.Queue s o Q new old (alters Queues h f) e v = old _ (each_change h _ s.queues (fields_age f)) v
+kind_move kind.Queue s o Q new old (removes Queues h) e v = old _ (each_change h gone s.queues gone_ages) v
+kind_move kind.Queue s o Q new old (makes _ h x) e v = v
+kind_move kind.Queue s o Q new old (alters _ h f) e v = v
+kind_move kind.Queue s o Q new old (removes _ h) e v = v
+kind_move kind.Queue s o Q new old _ e v = v
+kind_move kind.Mutex s o Q new old (makes Mutexes h x) e v = new h x e.may v
+kind_move kind.Mutex s o Q new old (alters Mutexes h f) e v = old _ (each_change h _ s.mutexes (fields_age f)) v
+kind_move kind.Mutex s o Q new old (removes Mutexes h) e v = old _ (each_change h gone s.mutexes gone_ages) v
+kind_move kind.Mutex s o Q new old (makes _ h x) e v = v
+kind_move kind.Mutex s o Q new old (alters _ h f) e v = v
+kind_move kind.Mutex s o Q new old (removes _ h) e v = v
+kind_move kind.Mutex s o Q new old _ e v = v
+kind_move kind.Sem s o Q new old (makes Sems h x) e v = new h x e.may v
+kind_move kind.Sem s o Q new old (alters Sems h f) e v = old _ (each_change h _ s.sems (fields_age f)) v
+kind_move kind.Sem s o Q new old (removes Sems h) e v = old _ (each_change h gone s.sems gone_ages) v
+kind_move kind.Sem s o Q new old (makes _ h x) e v = v
+kind_move kind.Sem s o Q new old (alters _ h f) e v = v
+kind_move kind.Sem s o Q new old (removes _ h) e v = v
+kind_move kind.Sem s o Q new old _ e v = v
+kind_move kind.Rwl s o Q new old (makes Rwls h x) e v = new h x e.may v
+kind_move kind.Rwl s o Q new old (alters Rwls h f) e v = old _ (each_change h _ s.rwls (fields_age f)) v
+kind_move kind.Rwl s o Q new old (removes Rwls h) e v = old _ (each_change h gone s.rwls gone_ages) v
+kind_move kind.Rwl s o Q new old (makes _ h x) e v = v
+kind_move kind.Rwl s o Q new old (alters _ h f) e v = v
+kind_move kind.Rwl s o Q new old (removes _ h) e v = v
+kind_move kind.Rwl s o Q new old _ e v = v
+kind_move kind.Shmem s o Q new old (makes Segments h x) e v = new h x e.may v
+kind_move kind.Shmem s o Q new old (alters Segments h f) e v = old _ (each_change h _ s.segments (fields_age f)) v
+kind_move kind.Shmem s o Q new old (removes Segments h) e v = old _ (each_change h gone s.segments gone_ages) v
+kind_move kind.Shmem s o Q new old (makes _ h x) e v = v
+kind_move kind.Shmem s o Q new old (alters _ h f) e v = v
+kind_move kind.Shmem s o Q new old (removes _ h) e v = v
+kind_move kind.Shmem s o Q new old _ e v = v
+
+-- How often a handle is listed, and whether it is live
+
+module _ {T : Type 0} where
+  pub listed_ages : (h : ℕ) (l m : List (Listed T)) → AgesEach l m → listed h m ≡ listed h l
+  unfolding listed
+  listed_ages h [] [] a = refl
+  listed_ages h [] (q ∷ qs) a = absurd a
+  listed_ages h (r ∷ rs) [] a = absurd a
+  listed_ages h (r ∷ rs) (q ∷ qs) a =
+      let k : listed h qs ≡ listed h rs = listed_ages h rs qs a.1 in
+      let d : cond {A = ℕ} (q.handle == h) 1 0 ≡ cond {A = ℕ} (r.handle == h) 1 0 = ap (λ (n : ℕ). cond {A = ℕ} (n == h) 1 0) a.0.handle in
+      omega arith
+
+  -- nothing live has this handle
+  abbrev pub Dead : ℕ → List (Listed T) → Type 0
+  Dead h [] = Unit {0}
+  Dead h (r ∷ rs) = ((r.handle == h) ≡ true → r.live ≡ false) × Dead h rs
+
+  pub dead_ages : (h : ℕ) (l m : List (Listed T)) → AgesEach l m → Dead h l → Dead h m
+  dead_ages h [] [] a d = tt
+  dead_ages h [] (q ∷ qs) a d = absurd a
+  dead_ages h (r ∷ rs) [] a d = absurd a
+  dead_ages h (r ∷ rs) (q ∷ qs) a d = ((λ e. a.0.dead (d.0 (ap (λ (n : ℕ). n == h) (sym a.0.handle) ∙ e))), dead_ages h rs qs a.1 d.1)
+
+  pub dead_issue : (h j : ℕ) (x : T) (l : List (Listed T)) → (j == h) ≡ false → Dead h l → Dead h (issue j x l)
+  unfolding issue
+  dead_issue h j x [] n d = ((λ e. absurd (both e n)), tt)
+    where
+      both : {b : Bool} → b ≡ true → b ≡ false → ⊥
+      both e f = cc
+  dead_issue h j x (r ∷ rs) n d = (d.0, dead_issue h j x rs n d.1)
+
+  pub dead_none : (h : ℕ) (l : List (Listed T)) → Dead h l → is_some (at l h) ≡ false
+  unfolding live_of
+  dead_none h [] d = refl
+  dead_none h (r ∷ rs) d = by_live r.live (λ e. d.0 e) (dead_none h rs d.1)
+    where
+      by_hand : (b : Bool) → (b ≡ true → true ≡ false) → is_some (at rs h) ≡ false → is_some (cond b (Some r.fields) (at rs h)) ≡ false
+      by_hand true k m = k refl
+      by_hand false k m = m
+
+      by_live : (a : Bool) → ((r.handle == h) ≡ true → a ≡ false) → is_some (at rs h) ≡ false → is_some (lookup (cond a ((r.handle, r.fields) ∷ live_of rs) (live_of rs)) h) ≡ false
+      by_live true k m = by_hand (r.handle == h) k m
+      by_live false k m = m
+
+  pub none_dead : (h : ℕ) (l : List (Listed T)) → is_some (at l h) ≡ false → Dead h l
+  unfolding live_of
+  none_dead h [] e = tt
+  none_dead h (r ∷ rs) e = by_live r.live refl e (none_dead h rs)
+    where
+      by_hand : (b : Bool) → (r.handle == h) ≡ b → is_some (cond b (Some r.fields) (at rs h)) ≡ false → (is_some (at rs h) ≡ false → Dead h rs) → Dead h (r ∷ rs)
+      by_hand true k m g = absurd (cc)
+      by_hand false k m g = ((λ i. absurd (both i k)), g m)
+        where
+          both : {b : Bool} → b ≡ true → b ≡ false → ⊥
+          both e f = cc
+
+      by_live : (a : Bool) → r.live ≡ a → is_some (lookup (cond a ((r.handle, r.fields) ∷ live_of rs) (live_of rs)) h) ≡ false → (is_some (at rs h) ≡ false → Dead h rs) → Dead h (r ∷ rs)
+      by_live true a m g = by_hand (r.handle == h) refl m g
+      by_live false a m g = ((λ i. a), g m)
+
+  -- what is live is listed
+  pub live_listed : (h : ℕ) (l : List (Listed T)) → is_some (at l h) ≡ true → 1 ≤ listed h l
+  unfolding live_of listed
+  live_listed h [] e = absurd (cc)
+  live_listed h (r ∷ rs) e = by_live r.live e (live_listed h rs)
+    where
+      by_hand : (b : Bool) → is_some (cond b (Some r.fields) (at rs h)) ≡ true → (is_some (at rs h) ≡ true → 1 ≤ listed h rs) → 1 ≤ cond b 1 0 + listed h rs
+      by_hand true m g = omega arith
+      by_hand false m g = let k : 1 ≤ listed h rs = g m in omega arith
+
+      by_live : (a : Bool) → is_some (lookup (cond a ((r.handle, r.fields) ∷ live_of rs) (live_of rs)) h) ≡ true → (is_some (at rs h) ≡ true → 1 ≤ listed h rs) → 1 ≤ cond (r.handle == h) 1 0 + listed h rs
+      by_live true m g = by_hand (r.handle == h) m g
+      by_live false m g = let k : 1 ≤ listed h rs = g m in omega arith

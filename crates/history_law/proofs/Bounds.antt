@@ -1,0 +1,67 @@
+-- What bounds a history: its seats, the marks of stopped workers, and the phase before the node is closed.
+use Rattle.std.proofs.Common.{◌≡◌, ℕ, ◌+◌, ◌<◌, Bool, true, false, not, cond, List, [], ◌∷◌, length, refl, ◌∙◌, ap, subst}
+use Rattle.std.proofs.Math.ListN.{length-set}
+use Rattle.history.specs.Histories.{entry}
+use Rattle.mtapi_machine.specs.declared.ops.Op.{Op}
+use Rattle.mtapi_machine.specs.declared.ops.Op.TheVariants.{Initialize, Close, Final}
+use Rattle.mtapi_machine.specs.declared.replies.Reply.{Reply}
+use Rattle.mtapi_machine.specs.declared.terms.Phase.{Phase}
+use Rattle.mtapi_machine.specs.declared.terms.Phase.TheVariants.{Open}
+use Rattle.mtapi_machine.specs.declared.terms.Terms.{Terms}
+use Rattle.mtapi_machine.specs.State.{State, opening, seats, is_new, is_late}
+use Rattle.mtapi_machine.specs.Moves.{Move, phase_is, stops, makes, alters, removes, apply, after_moves}
+use Rattle.mtapi_machine.specs.Legal.{NodeEntry, IsNext, LegalFrom, Legal, next, after_from, after}
+use Rattle.mtapi_machine.proofs.Moves.{sorts_keep}
+use Rattle.history_law.specs.Seats.{closes, NoClose, BySeats}
+use Rattle.history_law.proofs.SeatMoves.{May, by_moves}
+use Rattle.history_law.proofs.Others.{phase_stays, terms_stay}
+
+-- The marks of stopped workers
+
+room_move : (who : ℕ) (o : Op) (s : State) (x : Move) → May s who o x → length s.stopped ≡ 25 → length (apply x s).stopped ≡ 25
+room_move who o s (stops y) k v = length-set s.stopped y true ∙ v
+room_move who o s (makes z j x) k v = sorts_keep (λ t. length t.stopped ≡ 25) (λ t g q m c r y p. p) z _ s v
+room_move who o s (alters z j f) k v = sorts_keep (λ t. length t.stopped ≡ 25) (λ t g q m c r y p. p) z _ s v
+room_move who o s (removes z j) k v = sorts_keep (λ t. length t.stopped ≡ 25) (λ t g q m c r y p. p) z _ s v
+room_move who o s _ k v = v
+
+room_stays : (s : State) (L : List NodeEntry) → LegalFrom s L → length s.stopped ≡ 25 → length (after_from s L).stopped ≡ 25
+unfolding LegalFrom after_from
+room_stays s [] l v = v
+room_stays s (e ∷ es) l v = room_stays (next s e) es l.1 (by_moves (λ t. length t.stopped ≡ 25) s e l.0 (room_move e.who e.op) v)
+
+pub stopped_room : (terms : Terms) (L : List NodeEntry) → LegalFrom (opening terms) L → length (after terms L).stopped ≡ 25
+stopped_room terms L l = room_stays (opening terms) L l refl
+
+-- The phase
+
+true_false : {A : Type 0} → true ≡ false → A
+true_false e = absurd (cc)
+
+early_next : (s : State) (who : ℕ) (o : Op) (r : Reply) → IsNext s (entry who o r) → closes o ≡ false → is_late s.phase ≡ false → is_late (next s (entry who o r)).phase ≡ false
+unfolding LegalFrom after_from
+early_next s who Initialize r n c l = by_new (not (is_new s.phase))
+  where
+    by_new : (b : Bool) → is_late (after_moves (cond b [] (phase_is Open ∷ [])) s).phase ≡ false
+    by_new true = l
+    by_new false = refl
+early_next s who Close r n c l = true_false c
+early_next s who Final r n c l = true_false c
+early_next s who o r n c l = ap is_late (phase_stays s (entry who o r ∷ []) (n, tt) (refl, tt)) ∙ l
+
+pub early_stays : (s : State) (L : List NodeEntry) → LegalFrom s L → NoClose L → is_late s.phase ≡ false → is_late (after_from s L).phase ≡ false
+unfolding LegalFrom after_from
+early_stays s [] l n v = v
+early_stays s (e ∷ es) l n v = early_stays (next s e) es l.1 n.1 (early_next s e.who e.op e.reply l.0 n.0 v)
+
+-- The seats
+
+one_terms : (s : State) (e : NodeEntry) → IsNext s e → (next s e).terms ≡ s.terms
+unfolding LegalFrom after_from
+one_terms s e n = terms_stay s (e ∷ []) (n, tt)
+
+pub by_seats : (s : State) (L : List NodeEntry) → LegalFrom s L → BySeats (seats s) L
+unfolding LegalFrom
+by_seats s [] l = tt
+by_seats s (e ∷ es) l =
+    (l.0.seat, subst (λ (t : Terms). BySeats (t.settings.workers + t.callers) es) (one_terms s e l.0) (by_seats (next s e) es l.1))

@@ -1,0 +1,58 @@
+-- How often a handle is listed, after a change of the list.
+use Rattle.std.proofs.Common.{◌≡◌, ℕ, ◌+◌, ◌≤◌, Bool, true, false, cond, List, [], ◌∷◌, refl, sym, ap, subst, arith}
+use Rattle.std.specs.Prelude.{◌==◌, ◌&&◌}
+use Rattle.std.proofs.lemmas.Bool.{eqb-true}
+use Rattle.handle_pool.specs.Issued.{Listed, change, change_all, issue, listed}
+use Rattle.mtapi_values.specs.declared.ends.TaskEnd.{TaskEnd}
+use Rattle.mtapi_objects.specs.Tasks.{Task, ended, end_each}
+
+module _ {T : Type 0} where
+  head_listed : (j : ℕ) (q r : Listed T) (qs rs : List (Listed T)) → q.handle ≡ r.handle → listed j qs ≡ listed j rs → listed j (q ∷ qs) ≡ listed j (r ∷ rs)
+  unfolding listed
+  head_listed j q r qs rs e k = let d : cond {A = ℕ} (q.handle == j) 1 0 ≡ cond {A = ℕ} (r.handle == j) 1 0 = ap (λ (n : ℕ). cond {A = ℕ} (n == j) 1 0) e in omega arith
+
+  pub listed_change : (j h : ℕ) (f : Listed T → Listed T) (l : List (Listed T)) → ((r : Listed T) → (f r).handle ≡ r.handle) → listed j (change h f l) ≡ listed j l
+  unfolding change
+  listed_change j h f [] k = refl
+  listed_change j h f (r ∷ rs) k = by_test (r.live && (r.handle == h)) (listed_change j h f rs k)
+    where
+      by_test : (b : Bool) → listed j (change h f rs) ≡ listed j rs → listed j (cond b (f r ∷ rs) (r ∷ change h f rs)) ≡ listed j (r ∷ rs)
+      by_test true e = head_listed j (f r) r rs rs (k r) refl
+      by_test false e = head_listed j r r (change h f rs) rs refl e
+
+  pub listed_all : (j : ℕ) (p : T → Bool) (f : Listed T → Listed T) (l : List (Listed T)) → ((r : Listed T) → (f r).handle ≡ r.handle) → listed j (change_all p f l) ≡ listed j l
+  unfolding change_all
+  listed_all j p f [] k = refl
+  listed_all j p f (r ∷ rs) k = head_listed j (cond (r.live && p r.fields) (f r) r) r (change_all p f rs) rs (by_test (r.live && p r.fields)) (listed_all j p f rs k)
+    where
+      by_test : (b : Bool) → (cond b (f r) r).handle ≡ r.handle
+      by_test true = k r
+      by_test false = refl
+
+  pub listed_more : (j h : ℕ) (v : T) (l : List (Listed T)) → listed j (issue h v l) ≡ listed j l + cond (h == j) 1 0
+  unfolding listed issue
+  listed_more j h v [] = omega arith
+  listed_more j h v (r ∷ rs) = let k : listed j (issue h v rs) ≡ listed j rs + cond (h == j) 1 0 = listed_more j h v rs in omega arith
+
+  -- each handle is listed at most once
+  abbrev pub OnceIn : List (Listed T) → Type 0
+  OnceIn l = (j : ℕ) → listed j l ≤ 1
+
+  pub once_same : (l k : List (Listed T)) → ((j : ℕ) → listed j k ≡ listed j l) → OnceIn l → OnceIn k
+  once_same l k e o j = subst (λ (n : ℕ). n ≤ 1) (sym (e j)) (o j)
+
+  pub once_more : (h : ℕ) (v : T) (l : List (Listed T)) → listed h l ≡ 0 → OnceIn l → OnceIn (issue h v l)
+  once_more h v l n o j = let e = listed_more j h v l in by_same (h == j) refl e
+    where
+      by_same : (b : Bool) → (h == j) ≡ b → listed j (issue h v l) ≡ listed j l + cond b 1 0 → listed j (issue h v l) ≤ 1
+      by_same true s e = let k : h ≡ j = eqb-true h j s in let z : listed j l ≡ 0 = subst (λ (x : ℕ). listed x l ≡ 0) k n in omega arith
+      by_same false s e = let u : listed j l ≤ 1 = o j in omega arith
+
+pub listed_ends : (j : ℕ) (p : Task → Bool) (e : TaskEnd) (n : ℕ) (l : List (Listed Task)) → listed j (end_each p e n l) ≡ listed j l
+unfolding end_each
+listed_ends j p e n [] = refl
+listed_ends j p e n (r ∷ rs) = by_test (r.live && p r.fields) (listed_ends j p e n rs) (listed_ends j p e (n + 1) rs)
+  where
+    by_test : (b : Bool) → listed j (end_each p e n rs) ≡ listed j rs → listed j (end_each p e (n + 1) rs) ≡ listed j rs → listed j (cond b (ended e n r ∷ end_each p e (n + 1) rs) (r ∷ end_each p e n rs)) ≡ listed j (r ∷ rs)
+    by_test true x y = head_listed j (ended e n r) r (end_each p e (n + 1) rs) rs refl y
+    by_test false x y = head_listed j r r (end_each p e n rs) rs refl x

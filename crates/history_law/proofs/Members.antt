@@ -1,0 +1,76 @@
+-- The members of a group that have ended, as the machine finds them.
+use Rattle.std.proofs.Common.{◌≡◌, ℕ, ◌+◌, ◌≤◌, Bool, true, false, cond, List, [], ◌∷◌, Option, Some, None, refl, sym, ◌∙◌, ap, subst, arith}
+use Rattle.std.specs.Prelude.{◌==◌, nat_lt}
+use Rattle.std.proofs.lemmas.Bool.{eq-eqb}
+use Rattle.mtapi_values.specs.declared.ends.TaskEnd.{TaskEnd}
+use Rattle.handle_pool.specs.Issued.{Listed, live_of, at, listed}
+use Rattle.mtapi_objects.specs.Tasks.{Task, end_of}
+use Rattle.mtapi_objects.specs.Groups.{is_member, Ending, insert, insert_ended, endings}
+use Rattle.history_law.proofs.Found.{at_skip, at_here}
+
+-- each of these endings passes
+abbrev pub AllOf : (Ending → Type 0) → List Ending → Type 0
+AllOf P [] = Unit {0}
+AllOf P (e ∷ es) = P e × AllOf P es
+
+all_insert : (P : Ending → Type 0) (e : Ending) (es : List Ending) → P e → AllOf P es → AllOf P (insert e es)
+all_insert P e [] p a = (p, tt)
+all_insert P e (f ∷ fs) p a = by_test (nat_lt e.number f.number) (all_insert P e fs p a.1)
+  where
+    by_test : (b : Bool) → AllOf P (insert e fs) → AllOf P (cond b (e ∷ f ∷ fs) (f ∷ insert e fs))
+    by_test true k = (p, a)
+    by_test false k = (a.0, k)
+
+all_more : (P Q : Ending → Type 0) (es : List Ending) → ((e : Ending) → P e → Q e) → AllOf P es → AllOf Q es
+all_more P Q [] f a = tt
+all_more P Q (e ∷ es) f a = (f e a.0, all_more P Q es f a.1)
+
+-- the task was issued, and where it is live it is a member that ended so
+pub record IsEnding (g : ℕ) (l : List (Listed Task)) (e : Ending) : Type 0 where
+  pub some : 1 ≤ listed e.task l
+  pub member : (x : Task) → at l e.task ≡ Some x → is_member g x ≡ true
+  pub ended : (x : Task) → at l e.task ≡ Some x → end_of x.state ≡ Some (e.end, e.number)
+
+same_some : {a b : Task} → Some a ≡ Some b → a ≡ b
+same_some e = cc
+
+once_rest : (r : Listed Task) (rs : List (Listed Task)) → ((h : ℕ) → listed h (r ∷ rs) ≤ 1) → (h : ℕ) → listed h rs ≤ 1
+unfolding listed
+once_rest r rs o h = let k : cond {A = ℕ} (r.handle == h) 1 0 + listed h rs ≤ 1 = o h in omega arith
+
+-- where no handle is listed twice, each of the endings of a group is so
+pub all_endings : (g : ℕ) (l : List (Listed Task)) → ((h : ℕ) → listed h l ≤ 1) → AllOf (IsEnding g l) (endings g (live_of l))
+unfolding endings live_of listed
+all_endings g [] o = tt
+all_endings g (r ∷ rs) o = by_live r.live refl (all_more (IsEnding g rs) (IsEnding g (r ∷ rs)) (endings g (live_of rs)) later (all_endings g rs (once_rest r rs o)))
+  where
+    later : (e : Ending) → IsEnding g rs e → IsEnding g (r ∷ rs) e
+    later e i = by_handle (r.handle == e.task) refl (o e.task)
+      where
+        by_handle : (b : Bool) → (r.handle == e.task) ≡ b → cond b 1 0 + listed e.task rs ≤ 1 → IsEnding g (r ∷ rs) e
+        by_handle true c k = let s : 1 ≤ listed e.task rs = i.some in absurd (omega arith)
+        by_handle false c k = record {
+          some = let s : 1 ≤ listed e.task rs = i.some in omega arith;
+          member = λ x a. i.member x (sym (at_skip r rs e.task c) ∙ a);
+          ended = λ x a. i.ended x (sym (at_skip r rs e.task c) ∙ a);
+        }
+
+    here : r.live ≡ true → is_member g r.fields ≡ true → (x : Option (TaskEnd × ℕ)) → end_of r.fields.state ≡ x → AllOf (IsEnding g (r ∷ rs)) (endings g (live_of rs)) → AllOf (IsEnding g (r ∷ rs)) (insert_ended r.handle x (endings g (live_of rs)))
+    here a m None e k = k
+    here a m (Some y) e k =
+        let c : (r.handle == r.handle) ≡ true = eq-eqb r.handle r.handle refl in
+        let f : at (r ∷ rs) r.handle ≡ Some r.fields = at_here r rs r.handle a c in
+        all_insert (IsEnding g (r ∷ rs)) (record { task = r.handle; end = y.0; number = y.1 }) (endings g (live_of rs))
+        (record {
+          some = let d : cond {A = ℕ} (r.handle == r.handle) 1 0 ≡ 1 = ap (λ (b : Bool). cond {A = ℕ} b 1 0) c in omega arith;
+          member = λ x i. subst (λ (t : Task). is_member g t ≡ true) (same_some (sym f ∙ i)) m;
+          ended = λ x i. subst (λ (t : Task). end_of t.state ≡ Some (y.0, y.1)) (same_some (sym f ∙ i)) e;
+        }) k
+
+    by_member : r.live ≡ true → (b : Bool) → is_member g r.fields ≡ b → AllOf (IsEnding g (r ∷ rs)) (endings g (live_of rs)) → AllOf (IsEnding g (r ∷ rs)) (cond b (insert_ended r.handle (end_of r.fields.state) (endings g (live_of rs))) (endings g (live_of rs)))
+    by_member a true m k = here a m (end_of r.fields.state) refl k
+    by_member a false m k = k
+
+    by_live : (b : Bool) → r.live ≡ b → AllOf (IsEnding g (r ∷ rs)) (endings g (live_of rs)) → AllOf (IsEnding g (r ∷ rs)) (endings g (cond b ((r.handle, r.fields) ∷ live_of rs) (live_of rs)))
+    by_live true a k = by_member a (is_member g r.fields) refl k
+    by_live false a k = k

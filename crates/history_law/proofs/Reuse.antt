@@ -1,0 +1,217 @@
+-- No handle is used again, and in layout two none names objects of two kinds.
+use Rattle.std.proofs.Common.{◌≡◌, ℕ, ◌+◌, ◌≤◌, Bool, true, false, cond, List, [], ◌∷◌, ◌++◌, Option, Some, None, refl, sym, ◌∙◌, ap, subst, arith}
+use Rattle.std.specs.Prelude.{◌==◌, ◌&&◌, not, is_some}
+use Rattle.std.proofs.lemmas.Bool.{eqb-true, eq-eqb}
+use Rattle.mtapi_values.specs.declared.handles.ObjectKind.{ObjectKind}
+use Rattle.mtapi_values.specs.declared.handles.ObjectKind.TheVariants as kind
+use Rattle.mtapi_values.specs.declared.handles.Layout.{Layout}
+use Rattle.mtapi_values.specs.declared.handles.Layout.TheVariants.{One, Two}
+use Rattle.mtapi_values.specs.declared.statuses.MtapiStatus.TheVariants as m
+use Rattle.mtapi_values.specs.Layouts.{object_number, named_kind, names_kind}
+use Rattle.mtapi_machine.specs.declared.terms.Terms.{Terms}
+use Rattle.mtapi_machine.specs.declared.ops.Op.{Op}
+use Rattle.mtapi_machine.specs.declared.ops.Op.TheVariants as op
+use Rattle.mtapi_machine.specs.declared.replies.Reply.{Reply}
+use Rattle.mtapi_machine.specs.declared.replies.Reply.TheVariants.{Handle, Mtapi}
+use Rattle.handle_pool.specs.Issued.{Listed, at, listed, may_issue, issue}
+use Rattle.mtapi_machine.specs.State.{State, opening}
+use Rattle.mtapi_machine.specs.Moves.{Move, Sort, Groups, Queues, Mutexes, Sems, Rwls, Segments, Fields, all_of, is_fresh, makes, alters, removes, apply}
+use Rattle.mtapi_machine.specs.Row.{Row, gives, Allows, only, handle_of, moves_of, live}
+use Rattle.mtapi_machine.specs.Rows.{row}
+use Rattle.mtapi_machine.specs.KeyedRows.{Keyed, creates_keyed}
+use Rattle.mtapi_machine.specs.Legal.{NodeEntry, IsNext, next, LegalFrom, Legal, after_from, after}
+use Rattle.mtapi_machine.specs.Laws.{IsMade}
+use Rattle.mtapi_machine.proofs.Lists.{Legal-front, Legal-rest, after-append}
+use Rattle.mtapi_machine.proofs.Made.{AllGives, on_only, on_live, fst_true, snd_true}
+use Rattle.mtapi_machine.proofs.Moves.{along, by_moves, sorts_keep}
+use Rattle.history_law.specs.Words.{FieldsOf, objects_of, some_entry, times, is_live, makes as makes_kind, is_handle, issues}
+use Rattle.history_law.specs.Reuse.{StaysGone, NeverAgain, NotInBoth}
+use Rattle.history_law.proofs.Moves.{Stands, after_stands}
+use Rattle.history_law.proofs.Accepted.{RefusesAll, granted, refuses_only, refuses_live, no_handle, opening_stands}
+use Rattle.history_law.proofs.Ages.{AgesEach, kind_move, listed_ages, Dead, dead_ages, dead_issue, dead_none, none_dead, live_listed}
+
+true_false : {A : Type 0} {b : Bool} → b ≡ true → b ≡ false → A
+true_false e f = absurd (cc)
+
+-- A fresh handle is listed nowhere
+
+fresh_unlisted : (k : ObjectKind) (s : State) (h : ℕ) → is_fresh (objects_of k) s h ≡ true → times k h s ≡ 0
+unfolding may_issue
+fresh_unlisted k s h e = eqb-true (times k h s) 0 (fst_true _ _ (fst_true _ _ (snd_true (names_kind s.terms.layout (objects_of k).kind h) _ e)))
+
+fresh_apart : (k : ObjectKind) (s : State) (h j : ℕ) → 1 ≤ times k h s → is_fresh (objects_of k) s j ≡ true → (j == h) ≡ false
+fresh_apart k s h j l e = by_test (j == h) refl
+  where
+    by_test : (b : Bool) → (j == h) ≡ b → b ≡ false
+    by_test false i = refl
+    by_test true i =
+        let same : j ≡ h = eqb-true j h i in
+        let none : times k j s ≡ 0 = fresh_unlisted k s j e in
+        let here : times k h s ≡ 0 = subst (λ (n : ℕ). times k n s ≡ 0) same none in
+        absurd (omega arith)
+
+listed_issue_some : {T : Type 0} (h j : ℕ) (x : T) (l : List (Listed T)) → 1 ≤ listed h l → 1 ≤ listed h (issue j x l)
+unfolding listed issue
+listed_issue_some h j x [] e = absurd (omega arith)
+listed_issue_some h j x (r ∷ rs) e = by_head (r.handle == h) e (listed_issue_some h j x rs)
+  where
+    by_head : (b : Bool) → 1 ≤ cond b 1 0 + listed h rs → (1 ≤ listed h rs → 1 ≤ listed h (issue j x rs)) → 1 ≤ cond b 1 0 + listed h (issue j x rs)
+    by_head true m g = omega arith
+    by_head false m g = let k : 1 ≤ listed h (issue j x rs) = g (omega arith) in omega arith
+
+-- What was issued stays listed, and what isn't live any more stays so
+
+abbrev Listed1 : ObjectKind → ℕ → State → Type 0
+Listed1 k h s = 1 ≤ times k h s
+
+record Gone (k : ObjectKind) (h : ℕ) (l : List (Listed (FieldsOf k))) : Type 0 where
+  some : 1 ≤ listed h l
+  dead : Dead h l
+
+listed_move : (k : ObjectKind) (h : ℕ) (s : State) (o : Op) (m : Move) → IsMade s o m → Listed1 k h s → Listed1 k h (apply m s)
+listed_move k h s o m e v =
+    kind_move k s o (λ l. 1 ≤ listed h l) (λ j x i w. listed_issue_some h j x _ w) (λ l a w. subst (λ (n : ℕ). 1 ≤ n) (sym (listed_ages h _ l a)) w) m e v
+
+gone_move : (k : ObjectKind) (h : ℕ) (s : State) (o : Op) (m : Move) → IsMade s o m → Gone k h ((objects_of k).list s) → Gone k h ((objects_of k).list (apply m s))
+gone_move k h s o m e v =
+    kind_move k s o (Gone k h)
+    (λ j x i w. record { some = listed_issue_some h j x _ w.some; dead = dead_issue h j x _ (fresh_apart k s h j w.some i) w.dead })
+    (λ l a w. record { some = subst (λ (n : ℕ). 1 ≤ n) (sym (listed_ages h _ l a)) w.some; dead = dead_ages h _ l a w.dead }) m e v
+
+-- An entry that issues a handle finds it unlisted
+
+abbrev FreshBy : ObjectKind → State → ℕ → Row → Type 0
+FreshBy k s h w = AllGives (λ x ms. Handle h ≡ x → is_fresh (objects_of k) s h ≡ true) w
+
+fresh_only : (k : ObjectKind) (s : State) (h : ℕ) (ms : _) → FreshBy k s h (only (is_fresh (objects_of k) s h) (gives (Handle h) ms))
+fresh_only k s h ms = on_only (λ x ns. Handle h ≡ x → is_fresh (objects_of k) s h ≡ true) (is_fresh (objects_of k) s h) (Handle h) ms (λ e i. e)
+
+issue_fresh : (k : ObjectKind) (s : State) (who : ℕ) (o : Op) (h : ℕ) → makes_kind k o ≡ true → Allows (row s who o (Handle h)) (Handle h) → is_fresh (objects_of k) s h ≡ true
+issue_fresh kind.Action s who (op.ActionCreate job x cores) h e a =
+    granted (λ ms. is_fresh (objects_of kind.Action) s h ≡ true) (row s who (op.ActionCreate job x cores) (Handle h)) h
+    (refl, (refl, (refl, refuses_only _ _ _))) (λ c0 c1 c2. fresh_only kind.Action s h _) a
+issue_fresh kind.Task s who (op.TaskStart job args priority cores detached group) h e a =
+    granted (λ ms. is_fresh (objects_of kind.Task) s h ≡ true) (row s who (op.TaskStart job args priority cores detached group) (Handle h)) h
+    (refl, (refl, (refl, (refl, (refl, (refl, (refl, refuses_only _ _ _))))))) (λ c0 c1 c2 c3 c4 c5 c6. fresh_only kind.Task s h _) a
+issue_fresh kind.Task s who (op.TaskEnqueue q args cores detached group) h e a =
+    granted (λ ms. is_fresh (objects_of kind.Task) s h ≡ true) (row s who (op.TaskEnqueue q args cores detached group) (Handle h)) h
+    (refl, (refl, refuses_live (at s.queues q.0) _ _ tt (λ x. (refl, (refl, (refl, (refl, (refl, (refl, (refl, refuses_only _ _ _))))))))))
+    (λ c d. on_live (λ x ms. Handle h ≡ x → is_fresh (objects_of kind.Task) s h ≡ true) (at s.queues q.0) _ _ (λ i. absurd (no_handle h (Mtapi m.ErrQueueInvalid) refl i)) (λ x f c0 c1 c2 c3 c4 c5 c6. fresh_only kind.Task s h _)) a
+issue_fresh kind.Group s who op.GroupCreate h e a =
+    granted (λ ms. is_fresh (objects_of kind.Group) s h ≡ true) (row s who op.GroupCreate (Handle h)) h (refl, (refl, refuses_only _ _ _)) (λ c d. fresh_only kind.Group s h _) a
+issue_fresh kind.Queue s who (op.QueueCreate id job priority limit ordered retain) h e a =
+    granted (λ ms. is_fresh (objects_of kind.Queue) s h ≡ true) (row s who (op.QueueCreate id job priority limit ordered retain) (Handle h)) h
+    (refl, (refl, (refl, (refl, (refl, refuses_only _ _ _))))) (λ c0 c1 c2 c3 c4. fresh_only kind.Queue s h _) a
+issue_fresh kind.Mutex s who (op.MutexCreate id recursive) h e a =
+    granted (λ ms. is_fresh (objects_of kind.Mutex) s h ≡ true) (row s who (op.MutexCreate id recursive) (Handle h)) h
+    (refl, (refl, (refl, (refl, refuses_only _ _ _)))) (λ c0 c1 c2 c3. fresh_only kind.Mutex s h _) a
+issue_fresh kind.Sem s who (op.SemCreate id limit) h e a =
+    granted (λ ms. is_fresh (objects_of kind.Sem) s h ≡ true) (row s who (op.SemCreate id limit) (Handle h)) h
+    (refl, (refl, (refl, (refl, (refl, refuses_only _ _ _))))) (λ c0 c1 c2 c3 c4. fresh_only kind.Sem s h _) a
+issue_fresh kind.Rwl s who (op.RwlCreate id limit) h e a =
+    granted (λ ms. is_fresh (objects_of kind.Rwl) s h ≡ true) (row s who (op.RwlCreate id limit) (Handle h)) h
+    (refl, (refl, (refl, (refl, (refl, refuses_only _ _ _))))) (λ c0 c1 c2 c3 c4. fresh_only kind.Rwl s h _) a
+issue_fresh kind.Shmem s who (op.ShmemCreate id cells) h e a =
+    granted (λ ms. is_fresh (objects_of kind.Shmem) s h ≡ true) (row s who (op.ShmemCreate id cells) (Handle h)) h
+    (refl, (refl, (refl, (refl, (refl, refuses_only _ _ _))))) (λ c0 c1 c2 c3 c4. fresh_only kind.Shmem s h _) a
+issue_fresh _ s who _ h e a = true_false e refl
+
+is_this : (h : ℕ) (r : Reply) → is_handle h r ≡ true → r ≡ Handle h
+is_this h (Handle g) e = ap Handle (eqb-true g h e)
+is_this h _ e = true_false e refl
+
+-- the reply names the handle, so the row is that of this reply
+issues_fresh : (k : ObjectKind) (s : State) (e : NodeEntry) (h : ℕ) → IsNext s e → issues k h e ≡ true → is_fresh (objects_of k) s h ≡ true
+issues_fresh k s e h n i =
+    let r : e.reply ≡ Handle h = is_this h e.reply (snd_true (makes_kind k e.op) _ i) in
+    issue_fresh k s e.who e.op h (fst_true (makes_kind k e.op) _ i) (subst (λ (x : Reply). Allows (row s e.who e.op x) x) r n.allowed)
+
+not_issued : (k : ObjectKind) (s : State) (e : NodeEntry) (h : ℕ) → IsNext s e → 1 ≤ times k h s → issues k h e ≡ false
+not_issued k s e h n l = by_test (issues k h e) refl
+  where
+    by_test : (b : Bool) → issues k h e ≡ b → b ≡ false
+    by_test false i = refl
+    by_test true i = let none : times k h s ≡ 0 = fresh_unlisted k s h (issues_fresh k s e h n i) in absurd (omega arith)
+
+-- The law
+
+stays_gone : (k : ObjectKind) (h : ℕ) (s : State) (N : List NodeEntry) → LegalFrom s N → Gone k h ((objects_of k).list s) → Gone k h ((objects_of k).list (after_from s N)) × (some_entry (issues k h) N ≡ false)
+unfolding LegalFrom after_from
+stays_gone k h s [] l v = (v, refl)
+stays_gone k h s (e ∷ es) l v =
+    let rest = stays_gone k h (next s e) es l.1 (by_moves (λ t. Gone k h ((objects_of k).list t)) s e (λ t m y w. gone_move k h t e.op m y w) v) in
+    (rest.0, ap (λ (b : Bool). cond b true (some_entry (issues k h) es)) (not_issued k s e h l.0 v.some) ∙ rest.1)
+
+pub never_again : (terms : Terms) (es : List NodeEntry) (k : ObjectKind) (h : ℕ) → Legal terms es → NeverAgain terms es k h
+never_again terms es k h legal P M N R cut live dead =
+    let whole : LegalFrom (opening terms) ((P ++ M) ++ (N ++ R)) = subst (λ (L : List NodeEntry). LegalFrom (opening terms) L) cut legal.from in
+    let behind : LegalFrom (after terms (P ++ M)) (N ++ R) = Legal-rest (opening terms) (P ++ M) (N ++ R) whole in
+    let old : 1 ≤ times k h (after terms P) = live_listed h _ live in
+    let still : 1 ≤ times k h (after_from (after terms P) M) = along (Listed1 k h) (λ o t m e. listed_move k h t o m e) (after terms P) M old in
+    let some : 1 ≤ times k h (after terms (P ++ M)) = subst (λ (t : State). 1 ≤ times k h t) (sym (after-append (opening terms) P M)) still in
+    let gone = stays_gone k h (after terms (P ++ M)) N (Legal-front _ N R behind) (record { some = some; dead = none_dead h _ dead }) in record {
+      dead = ap (λ (t : State). is_live k h t) (after-append (opening terms) (P ++ M) N) ∙ dead_none h _ gone.0.dead;
+      none = gone.1;
+    }
+
+-- The kinds in layout two
+
+record Named (T : Terms) (k : ObjectKind) (h : ℕ) (s : State) : Type 0 where
+  terms : s.terms ≡ T
+  named : 1 ≤ times k h s → names_kind T.layout (objects_of k).kind h ≡ true
+
+terms_move : (T : Terms) (s : State) (m : Move) → s.terms ≡ T → (apply m s).terms ≡ T
+terms_move T s (makes z j x) v = sorts_keep (λ t. t.terms ≡ T) (λ t g q m c r y p. p) z _ s v
+terms_move T s (alters z j f) v = sorts_keep (λ t. t.terms ≡ T) (λ t g q m c r y p. p) z _ s v
+terms_move T s (removes z j) v = sorts_keep (λ t. t.terms ≡ T) (λ t g q m c r y p. p) z _ s v
+terms_move T s _ v = v
+
+listed_new : {T : Type 0} (h j : ℕ) (x : T) (l : List (Listed T)) → (j == h) ≡ false → listed h (issue j x l) ≡ listed h l
+unfolding listed issue
+listed_new h j x [] e = ap (λ (b : Bool). cond {A = ℕ} b 1 0 + 0) e
+listed_new h j x (r ∷ rs) e = ap (λ (n : ℕ). cond {A = ℕ} (r.handle == h) 1 0 + n) (listed_new h j x rs e)
+
+named_move : (T : Terms) (k : ObjectKind) (h : ℕ) (s : State) (o : Op) (m : Move) → IsMade s o m → Named T k h s → Named T k h (apply m s)
+named_move T k h s o m e v = record {
+  terms = terms_move T s m v.terms;
+  named = kind_move k s o (λ l. 1 ≤ listed h l → names_kind T.layout (objects_of k).kind h ≡ true) (λ j x i w. by_new j x i w (j == h) refl) (λ l a w u. w (subst (λ (n : ℕ). 1 ≤ n) (listed_ages h _ l a) u)) m e v.named;
+}
+  where
+    by_new : (j : ℕ) (x : FieldsOf k) → is_fresh (objects_of k) s j ≡ true → (1 ≤ times k h s → names_kind T.layout (objects_of k).kind h ≡ true) → (b : Bool) → (j == h) ≡ b
+        → 1 ≤ listed h (issue j x ((objects_of k).list s)) → names_kind T.layout (objects_of k).kind h ≡ true
+    by_new j x i w true c u =
+        let n : names_kind s.terms.layout (objects_of k).kind j ≡ true = fst_true _ (may_issue s.terms.settings.generations j ((objects_of k).list s)) i in
+        subst (λ (t : Terms). names_kind t.layout (objects_of k).kind h ≡ true) v.terms (subst (λ (y : ℕ). names_kind s.terms.layout (objects_of k).kind y ≡ true) (eqb-true j h c) n)
+    by_new j x i w false c u = w (subst (λ (n : ℕ). 1 ≤ n) (listed_new h j x _ c) u)
+
+none_times : (k : ObjectKind) (h : ℕ) (terms : Terms) → times k h (opening terms) ≡ 0
+unfolding listed
+none_times kind.Action h terms = refl
+none_times kind.Task h terms = refl
+none_times kind.Group h terms = refl
+none_times kind.Queue h terms = refl
+none_times kind.Mutex h terms = refl
+none_times kind.Sem h terms = refl
+none_times kind.Rwl h terms = refl
+none_times kind.Shmem h terms = refl
+
+own_kind : (k : ObjectKind) → (objects_of k).kind ≡ k
+own_kind kind.Action = refl
+own_kind kind.Task = refl
+own_kind kind.Group = refl
+own_kind kind.Queue = refl
+own_kind kind.Mutex = refl
+own_kind kind.Sem = refl
+own_kind kind.Rwl = refl
+own_kind kind.Shmem = refl
+
+named_after : (terms : Terms) (es : List NodeEntry) (k : ObjectKind) (h : ℕ) → terms.layout ≡ Two → 1 ≤ times k h (after terms es) → named_kind h ≡ object_number k
+named_after terms es k h two l =
+    let start : Named terms k h (opening terms) = record { terms = refl; named = λ u. let z : times k h (opening terms) ≡ 0 = none_times k h terms in absurd (omega arith) } in
+    let end : Named terms k h (after terms es) = along (Named terms k h) (λ o t m e. named_move terms k h t o m e) (opening terms) es start in
+    let n : names_kind Two k h ≡ true = subst (λ (x : ObjectKind). names_kind Two x h ≡ true) (own_kind k) (subst (λ (x : Layout). names_kind x (objects_of k).kind h ≡ true) two (end.named l)) in
+    eqb-true (named_kind h) (object_number k) n
+
+pub not_in_both : (terms : Terms) (es : List NodeEntry) (a b : ObjectKind) (h : ℕ) → NotInBoth terms.layout terms es a b h
+not_in_both terms es a b h two apart la lb =
+    true_false (eq-eqb (object_number a) (object_number b) (sym (named_after terms es a h two la) ∙ named_after terms es b h two lb)) apart

@@ -1,0 +1,81 @@
+-- The words of the laws: what an entry does, and what a list of one kind has.
+use Rattle.std.specs.Prelude.{ℕ, ◌+◌, Bool, true, false, ◌&&◌, ◌==◌, List, [], ◌∷◌, is_some, if◌then◌else◌}
+use Rattle.mtapi_values.specs.declared.handles.ObjectKind.{ObjectKind}
+use Rattle.mtapi_values.specs.declared.handles.ObjectKind.TheVariants as kind
+use Rattle.handle_pool.specs.Issued.{at, listed}
+use Rattle.mtapi_objects.specs.Actions.{Action}
+use Rattle.mtapi_objects.specs.Tasks.{Task}
+use Rattle.mtapi_objects.specs.Groups.{Group}
+use Rattle.mtapi_objects.specs.Queues.{Queue}
+use Rattle.mtapi_objects.specs.Mutexes.{Mutex}
+use Rattle.mtapi_objects.specs.Sems.{Sem}
+use Rattle.mtapi_objects.specs.Rwls.{Rwl}
+use Rattle.mtapi_objects.specs.Segments.{Segment}
+use Rattle.mtapi_machine.specs.declared.ops.Op.{Op}
+use Rattle.mtapi_machine.specs.declared.ops.Op.TheVariants.{ActionCreate, TaskStart, TaskEnqueue, GroupCreate, QueueCreate, MutexCreate, SemCreate, RwlCreate, ShmemCreate}
+use Rattle.mtapi_machine.specs.declared.replies.Reply.{Reply}
+use Rattle.mtapi_machine.specs.declared.replies.Reply.TheVariants.{Handle}
+use Rattle.mtapi_machine.specs.State.{State, Objects, actions, tasks, groups, queues, mutexes, sems, rwls, segments}
+use Rattle.mtapi_machine.specs.Legal.{NodeEntry}
+
+-- some entry of the list passes
+abbrev pub some_entry : (NodeEntry → Bool) → List NodeEntry → Bool
+some_entry p [] = false
+some_entry p (e ∷ es) = if p e then true else some_entry p es
+
+-- how many entries of the list pass
+abbrev pub entries_that : (NodeEntry → Bool) → List NodeEntry → ℕ
+entries_that p [] = 0
+entries_that p (e ∷ es) = (if p e then 1 else 0) + entries_that p es
+
+-- The objects of each kind
+
+abbrev pub FieldsOf : ObjectKind → Type 0
+FieldsOf kind.Action = Action
+FieldsOf kind.Task = Task
+FieldsOf kind.Group = Group
+FieldsOf kind.Queue = Queue
+FieldsOf kind.Mutex = Mutex
+FieldsOf kind.Sem = Sem
+FieldsOf kind.Rwl = Rwl
+FieldsOf kind.Shmem = Segment
+
+abbrev pub objects_of : (k : ObjectKind) → Objects (FieldsOf k)
+objects_of kind.Action = actions
+objects_of kind.Task = tasks
+objects_of kind.Group = groups
+objects_of kind.Queue = queues
+objects_of kind.Mutex = mutexes
+objects_of kind.Sem = sems
+objects_of kind.Rwl = rwls
+objects_of kind.Shmem = segments
+
+-- how many objects of the kind were issued under the handle
+abbrev pub times : ObjectKind → ℕ → State → ℕ
+times k h s = listed h ((objects_of k).list s)
+
+-- the handle is that of a live object of the kind
+abbrev pub is_live : ObjectKind → ℕ → State → Bool
+is_live k h s = is_some (at ((objects_of k).list s) h)
+
+-- the op makes an object of the kind
+abbrev pub makes : ObjectKind → Op → Bool
+makes kind.Action (ActionCreate job kind cores) = true
+makes kind.Task (TaskStart job args priority cores detached group) = true
+makes kind.Task (TaskEnqueue q args cores detached group) = true
+makes kind.Group GroupCreate = true
+makes kind.Queue (QueueCreate id job priority limit ordered retain) = true
+makes kind.Mutex (MutexCreate id recursive) = true
+makes kind.Sem (SemCreate id limit) = true
+makes kind.Rwl (RwlCreate id limit) = true
+makes kind.Shmem (ShmemCreate id cells) = true
+makes _ _ = false
+
+-- the reply is this handle
+abbrev pub is_handle : ℕ → Reply → Bool
+is_handle h (Handle g) = g == h
+is_handle h _ = false
+
+-- the entry issues the handle to an object of the kind
+abbrev pub issues : ObjectKind → ℕ → NodeEntry → Bool
+issues k h e = makes k e.op && is_handle h e.reply
