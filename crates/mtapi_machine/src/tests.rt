@@ -1,6 +1,6 @@
 //! Copies of ops and replies, and each law once.
 
-use crate::{Op, Reply, laws};
+use crate::{Op, Reply, laws, tables};
 use mtapi_values::{Args, Mask, MtapiStatus, TaskEnd, TaskHandle};
 
 #[test]
@@ -47,6 +47,7 @@ fn copies(rt: HostRuntime) {
 
 #[test]
 fn laws_hold(_rt: HostRuntime) {
+    laws::law_made();
     laws::law_prefix();
     laws::law_next();
     laws::law_status();
@@ -56,4 +57,18 @@ fn laws_hold(_rt: HostRuntime) {
     laws::law_tasks_stay();
     laws::law_served();
     laws::law_replay();
+}
+
+#[test]
+fn tables_hold(_rt: HostRuntime) {
+    tables::worked_histories();
+    tables::worked_phases();
+    tables::worked_actions();
+    tables::worked_tasks();
+    tables::worked_groups();
+    tables::worked_queues();
+    tables::worked_work();
+    tables::worked_tallies();
+    tables::worked_resources();
+    tables::worked_layouts();
 }
