@@ -1,5 +1,6 @@
 -- Worked histories: how the tables of them are written, and what is said of a table. The tables stand in the other files of this name,
--- one a family of ops. Each is a legal history of a small node. Beside a line stand replies that aren't legal in its place.
+-- one a family of ops. Each is a legal history of a small node, and so is the table up to each of its lines. Beside a line stand
+-- replies that aren't legal in its place.
 use Rattle.std.specs.Prelude.{ℕ, true, false, List, [], ◌∷◌, ◌++◌, Some, None, ℤ}
 use Rattle.mtapi_values.specs.declared.kinds.Kind.{Kind}
 use Rattle.mtapi_values.specs.declared.statuses.MtapiStatus.{MtapiStatus}

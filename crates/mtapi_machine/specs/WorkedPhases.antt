@@ -90,6 +90,7 @@ in_new =
     ++ refused op.Final status.ErrNodeNotinit (reply.Mtapi status.ErrNodeInitialized)
     ∷ second_not op.Enter reply.Pending (reply.Mtapi status.ErrNodeNotinit)
     ∷ worker_not op.Pick reply.Idle reply.Stop
+    ∷ refused op.Pick status.ErrParameter reply.Idle
     ∷ main op.Initialize reply.Ok
     ∷ []
 
@@ -140,6 +141,7 @@ in_closed =
     ++ each 0 mrapi_others (reply.Mrapi code.ErrNodeNotinit) (reply.Mrapi code.ErrParameter)
     ++ each 0 steps (reply.Mtapi status.ErrTaskInvalid) reply.Ok
     ++ worker_not op.Pick reply.Stop reply.Idle
+    ∷ refused op.Pick status.ErrParameter reply.Stop
     ∷ []
 
 pub record WorkedPhases : Type 0 where

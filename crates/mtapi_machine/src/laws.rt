@@ -17,8 +17,8 @@ pub fn law_next()
     ensures { NextIsLegal }
 {}
 
-/// A status leaves the state as it was. The one exception is TIMEOUT of a look at a task, which takes this seat's mark as its
-/// waiter away.
+/// A status leaves the state as it was. The two exceptions are TIMEOUT of a look at a task, which takes this seat's mark as its
+/// waiter away, and what a look at a whole group tells of a member once all have ended, and are freed.
 pub fn law_status()
     ensures { StatusStays }
 {}

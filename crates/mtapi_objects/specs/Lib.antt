@@ -6,3 +6,4 @@ pub mod Mutexes
 pub mod Sems
 pub mod Rwls
 pub mod Segments
+pub mod Worked

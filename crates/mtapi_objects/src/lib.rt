@@ -4,3 +4,5 @@
 //! The definitions stand in `specs/`, one file a kind, and nothing here runs. The rows of the machine cite them, and so do the crates
 //! that hold such objects in slots.
 #![tactic(auto)]
+
+pub mod worked;

@@ -1,0 +1,8 @@
+//! Worked rows of the objects. The function does nothing: its contract is the rows.
+
+ghost use Rattle.mtapi_objects.specs.Worked.{WorkedObjects};
+
+/// What calls on one object are refused for and what they leave, kind by kind.
+pub fn worked_objects()
+    ensures { WorkedObjects }
+{}
