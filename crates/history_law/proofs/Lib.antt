@@ -11,3 +11,5 @@ pub mod Members
 pub mod Others
 pub mod Ages
 pub mod Reuse
+pub mod Objects
+pub mod Affinity

@@ -4,3 +4,4 @@ pub mod Worked
 pub mod Seats
 pub mod Words
 pub mod Reuse
+pub mod Affinity

@@ -6,6 +6,7 @@ ghost use Rattle.history_law.specs.Accepted.{AcceptedTasksEndOnce};
 ghost use Rattle.mtapi_machine.specs.State.{terms_of};
 ghost use Rattle.history_law.specs.Ends.{OneEnd, EndsAfterClose};
 ghost use Rattle.mtapi_machine.specs.Laws.{DropsToSame};
+ghost use Rattle.history_law.specs.Affinity.{ObeysMasks};
 ghost use Rattle.history_law.specs.Reuse.{NeverAgain, NotInBoth};
 ghost use Rattle.history_law.specs.Seats.{OnceAfter, OnceStays, WaiterStays, WorkStays, NoLateEnd, PhaseStays, ReleaseStays, StoppedStays, UnstartedAreUntouched};
 ghost use Rattle.history_law.specs.Worked.{OneTaskEnds};
@@ -96,13 +97,41 @@ pub fn law_drop(layout: Layout, settings: &NodeAttr, callers: u32, entries: &[En
 {}
 
 /// A handle that has stopped being live is never issued or live again.
-pub fn law_no_reuse(layout: Layout, settings: &NodeAttr, callers: u32, entries: &[Entry], kind: ObjectKind, h: u64)
+pub fn law_no_reuse(
+    layout: Layout,
+    settings: &NodeAttr,
+    callers: u32,
+    entries: &[Entry],
+    kind: ObjectKind,
+    h: u64,
+)
     requires { Legal (terms_of layout settings.now callers) entries.now }
     ensures { NeverAgain (terms_of layout settings.now callers) entries.now kind h }
 {}
 
 /// In layout two no handle was issued to objects of two kinds.
-pub fn law_kind(layout: Layout, settings: &NodeAttr, callers: u32, entries: &[Entry], a: ObjectKind, b: ObjectKind, h: u64)
+pub fn law_kind(
+    layout: Layout,
+    settings: &NodeAttr,
+    callers: u32,
+    entries: &[Entry],
+    a: ObjectKind,
+    b: ObjectKind,
+    h: u64,
+)
     requires { Legal (terms_of layout settings.now callers) entries.now }
     ensures { NotInBoth layout (terms_of layout settings.now callers) entries.now a b h }
+{}
+
+/// A pick at this place, counted from 0, obeys both masks: its worker is in the mask with which the task was started, and in the one
+/// with which the action was made.
+pub fn law_affinity(
+    layout: Layout,
+    settings: &NodeAttr,
+    callers: u32,
+    entries: &[Entry],
+    place: usize,
+)
+    requires { Legal (terms_of layout settings.now callers) entries.now }
+    ensures { ObeysMasks entries.now place }
 {}
