@@ -13,3 +13,5 @@ pub mod Ages
 pub mod Reuse
 pub mod Objects
 pub mod Affinity
+pub mod Numbers
+pub mod Order

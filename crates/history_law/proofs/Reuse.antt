@@ -64,9 +64,9 @@ listed_issue_some h j x (r ∷ rs) e = by_head (r.handle == h) e (listed_issue_s
 abbrev pub Listed1 : ObjectKind → ℕ → State → Type 0
 Listed1 k h s = 1 ≤ times k h s
 
-record Gone (k : ObjectKind) (h : ℕ) (l : List (Listed (FieldsOf k))) : Type 0 where
-  some : 1 ≤ listed h l
-  dead : Dead h l
+pub record Gone (k : ObjectKind) (h : ℕ) (l : List (Listed (FieldsOf k))) : Type 0 where
+  pub some : 1 ≤ listed h l
+  pub dead : Dead h l
 
 pub listed_move : (k : ObjectKind) (h : ℕ) (s : State) (o : Op) (m : Move) → IsMade s o m → Listed1 k h s → Listed1 k h (apply m s)
 listed_move k h s o m e v =
@@ -135,7 +135,7 @@ not_issued k s e h n l = by_test (issues k h e) refl
 
 -- The law
 
-stays_gone : (k : ObjectKind) (h : ℕ) (s : State) (N : List NodeEntry) → LegalFrom s N → Gone k h ((objects_of k).list s) → Gone k h ((objects_of k).list (after_from s N)) × (some_entry (issues k h) N ≡ false)
+pub stays_gone : (k : ObjectKind) (h : ℕ) (s : State) (N : List NodeEntry) → LegalFrom s N → Gone k h ((objects_of k).list s) → Gone k h ((objects_of k).list (after_from s N)) × (some_entry (issues k h) N ≡ false)
 unfolding LegalFrom after_from
 stays_gone k h s [] l v = (v, refl)
 stays_gone k h s (e ∷ es) l v =

@@ -5,3 +5,4 @@ pub mod Seats
 pub mod Words
 pub mod Reuse
 pub mod Affinity
+pub mod Order

@@ -7,6 +7,7 @@ ghost use Rattle.mtapi_machine.specs.State.{terms_of};
 ghost use Rattle.history_law.specs.Ends.{OneEnd, EndsAfterClose};
 ghost use Rattle.mtapi_machine.specs.Laws.{DropsToSame};
 ghost use Rattle.history_law.specs.Affinity.{ObeysMasks};
+ghost use Rattle.history_law.specs.Order.{GivenInOrder};
 ghost use Rattle.history_law.specs.Reuse.{NeverAgain, NotInBoth};
 ghost use Rattle.history_law.specs.Seats.{OnceAfter, OnceStays, WaiterStays, WorkStays, NoLateEnd, PhaseStays, ReleaseStays, StoppedStays, UnstartedAreUntouched};
 ghost use Rattle.history_law.specs.Worked.{OneTaskEnds};
@@ -15,7 +16,7 @@ ghost use Rattle.history_law.specs.Worked.{OneTaskEnds};
 mod tests;
 
 use mtapi_machine::Entry;
-use mtapi_values::{Layout, NodeAttr, ObjectKind, TaskHandle};
+use mtapi_values::{GroupHandle, Layout, NodeAttr, ObjectKind, TaskHandle};
 
 /// In a legal history that ends with the final step, every task that was accepted has one record and ends once: it is ended at the end
 /// of the history, and wherever an end of it shows, that is its end.
@@ -134,4 +135,16 @@ pub fn law_affinity(
 )
     requires { Legal (terms_of layout settings.now callers) entries.now }
     ensures { ObeysMasks entries.now place }
+{}
+
+/// A group gives its members in the order of their ends, each once.
+pub fn law_group_order(
+    layout: Layout,
+    settings: &NodeAttr,
+    callers: u32,
+    entries: &[Entry],
+    g: GroupHandle,
+)
+    requires { Legal (terms_of layout settings.now callers) entries.now }
+    ensures { GivenInOrder (terms_of layout settings.now callers) entries.now g.0 }
 {}
