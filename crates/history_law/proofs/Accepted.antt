@@ -63,7 +63,7 @@ pub refuses_only : (b : Bool) (x : Reply) (ms : List Move) → RefusesAll (only 
 refuses_only true x ms = tt
 refuses_only false x ms = tt
 
-issue_lists : (h : ℕ) (t : Task) (l : List (Listed Task)) → 1 ≤ listed h (issue h t l)
+pub issue_lists : (h : ℕ) (t : Task) (l : List (Listed Task)) → 1 ≤ listed h (issue h t l)
 issue_lists h t l = let e : listed h (issue h t l) ≡ listed h l + cond (h == h) 1 0 = listed_issue h h t l in
     let k : cond {A = ℕ} (h == h) 1 0 ≡ 1 = ap (λ (b : Bool). cond {A = ℕ} b 1 0) (eq-eqb h h refl) in omega arith
 

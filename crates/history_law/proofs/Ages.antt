@@ -8,149 +8,211 @@ use Rattle.mtapi_values.specs.declared.ends.TaskEnd.TheVariants.{Failed}
 use Rattle.mtapi_machine.specs.declared.ops.Op.{Op}
 use Rattle.mtapi_machine.specs.declared.ops.Op.TheVariants as op
 use Rattle.handle_pool.specs.Issued.{Listed, live_of, lookup, at, listed, change, change_all, issue, with_fields, gone}
-use Rattle.mtapi_objects.specs.Actions.{with_enabled}
-use Rattle.mtapi_objects.specs.Tasks.{Task, Running, is_unended, with_state, with_notes, ended, end_each, new_task}
+use Rattle.mtapi_objects.specs.Actions.{Action, with_enabled}
+use Rattle.mtapi_objects.specs.Queues.{Queue, opened}
+use Rattle.mtapi_objects.specs.Tasks.{Task, Notes, TaskState, Over, Running, is_unended, with_state, with_notes, ended, end_each, new_task}
 use Rattle.mtapi_objects.specs.Groups.{is_member, freed, let_go}
 use Rattle.mtapi_machine.specs.State.{State, is_open}
 use Rattle.mtapi_machine.specs.Moves.{Move, Sort, Groups, Queues, Mutexes, Sems, Rwls, Segments, makes_action, enables, withdraws, starts, runs, ends, ends_waiting, notes, leaves, frees_members, lets_members_go, makes, alters, removes, is_fresh, apply}
-use Rattle.mtapi_machine.specs.Laws.{may, IsMade, WithdrawsAction}
+use Rattle.mtapi_machine.specs.Laws.{may, IsMade, WithdrawsAction, AltersObject}
 use Rattle.mtapi_machine.proofs.Made.{snd_true}
 use Rattle.mtapi_machine.proofs.Moves.{sorts_keep}
 use Rattle.history_law.specs.Words.{FieldsOf, objects_of}
 use Rattle.history_law.proofs.Moves.{opens_fresh}
 
--- the object has its handle, and doesn't come back to life
-pub record Ages {T : Type 0} (r q : Listed T) : Type 0 where
+-- What no move changes of an object
+
+pub record SameAction (x y : Action) : Type 0 where
+  pub job : y.job ≡ x.job
+  pub kind : y.kind ≡ x.kind
+  pub cores : y.cores ≡ x.cores
+
+pub record SameTask (x y : Task) : Type 0 where
+  pub job : y.job ≡ x.job
+  pub args : y.args ≡ x.args
+  pub priority : y.priority ≡ x.priority
+  pub cores : y.cores ≡ x.cores
+  pub queue : y.queue ≡ x.queue
+  pub start : y.start ≡ x.start
+
+pub record SameQueue (x y : Queue) : Type 0 where
+  pub job : y.job ≡ x.job
+  pub priority : y.priority ≡ x.priority
+  pub ordered : y.ordered ≡ x.ordered
+
+abbrev pub SameFields : (k : ObjectKind) → FieldsOf k → FieldsOf k → Type 0
+SameFields kind.Action x y = SameAction x y
+SameFields kind.Task x y = SameTask x y
+SameFields kind.Queue x y = SameQueue x y
+SameFields kind.Group x y = Unit {0}
+SameFields kind.Mutex x y = Unit {0}
+SameFields kind.Sem x y = Unit {0}
+SameFields kind.Rwl x y = Unit {0}
+SameFields kind.Shmem x y = Unit {0}
+
+same_action : (x : Action) → SameAction x x
+same_action x = record { job = refl; kind = refl; cores = refl }
+
+same_task : (x : Task) → SameTask x x
+same_task x = record { job = refl; args = refl; priority = refl; cores = refl; queue = refl; start = refl }
+
+same_queue : (x : Queue) → SameQueue x x
+same_queue x = record { job = refl; priority = refl; ordered = refl }
+
+nothing_same : {T : Type 0} (x : T) → Unit {0}
+nothing_same x = tt
+
+-- the object has its handle and what no move changes, and doesn't come back to life
+pub record Ages {T : Type 0} (K : T → T → Type 0) (r q : Listed T) : Type 0 where
   pub handle : q.handle ≡ r.handle
   pub dead : r.live ≡ false → q.live ≡ false
+  pub fields : K r.fields q.fields
 
-module _ {T : Type 0} where
+module _ {T : Type 0} (K : T → T → Type 0) where
   abbrev pub AgesEach : List (Listed T) → List (Listed T) → Type 0
   AgesEach [] [] = Unit {0}
   AgesEach [] (q ∷ qs) = ⊥
   AgesEach (r ∷ rs) [] = ⊥
-  AgesEach (r ∷ rs) (q ∷ qs) = Ages r q × AgesEach rs qs
+  AgesEach (r ∷ rs) (q ∷ qs) = Ages K r q × AgesEach rs qs
 
-  ages_same : (r : Listed T) → Ages r r
-  ages_same r = record { handle = refl; dead = λ d. d }
+  module _ (same : (x : T) → K x x) where
+    ages_same : (r : Listed T) → Ages K r r
+    ages_same r = record { handle = refl; dead = λ d. d; fields = same r.fields }
 
-  each_same : (l : List (Listed T)) → AgesEach l l
-  each_same [] = tt
-  each_same (r ∷ rs) = (ages_same r, each_same rs)
+    each_same : (l : List (Listed T)) → AgesEach l l
+    each_same [] = tt
+    each_same (r ∷ rs) = (ages_same r, each_same rs)
 
-  each_change : (h : ℕ) (f : Listed T → Listed T) (l : List (Listed T)) → ((r : Listed T) → Ages r (f r)) → AgesEach l (change h f l)
-  unfolding change
-  each_change h f [] k = tt
-  each_change h f (r ∷ rs) k = by_test (r.live && (r.handle == h)) (each_change h f rs k)
-    where
-      by_test : (b : Bool) → AgesEach rs (change h f rs) → AgesEach (r ∷ rs) (cond b (f r ∷ rs) (r ∷ change h f rs))
-      by_test true m = (k r, each_same rs)
-      by_test false m = (ages_same r, m)
+    each_change : (h : ℕ) (f : Listed T → Listed T) (l : List (Listed T)) → ((r : Listed T) → Ages K r (f r)) → AgesEach l (change h f l)
+    unfolding change
+    each_change h f [] k = tt
+    each_change h f (r ∷ rs) k = by_test (r.live && (r.handle == h)) (each_change h f rs k)
+      where
+        by_test : (b : Bool) → AgesEach rs (change h f rs) → AgesEach (r ∷ rs) (cond b (f r ∷ rs) (r ∷ change h f rs))
+        by_test true m = (k r, each_same rs)
+        by_test false m = (ages_same r, m)
 
-  each_all : (p : T → Bool) (f : Listed T → Listed T) (l : List (Listed T)) → ((r : Listed T) → Ages r (f r)) → AgesEach l (change_all p f l)
-  unfolding change_all
-  each_all p f [] k = tt
-  each_all p f (r ∷ rs) k = (by_test (r.live && p r.fields), each_all p f rs k)
-    where
-      by_test : (b : Bool) → Ages r (cond b (f r) r)
-      by_test true = k r
-      by_test false = ages_same r
+    each_all : (p : T → Bool) (f : Listed T → Listed T) (l : List (Listed T)) → ((r : Listed T) → Ages K r (f r)) → AgesEach l (change_all p f l)
+    unfolding change_all
+    each_all p f [] k = tt
+    each_all p f (r ∷ rs) k = (by_test (r.live && p r.fields), each_all p f rs k)
+      where
+        by_test : (b : Bool) → Ages K r (cond b (f r) r)
+        by_test true = k r
+        by_test false = ages_same r
 
-  fields_age : (f : T → T) (r : Listed T) → Ages r (with_fields f r)
-  fields_age f r = record { handle = refl; dead = λ d. d }
+    gone_ages : (r : Listed T) → Ages K r (gone r)
+    gone_ages r = record { handle = refl; dead = λ d. refl; fields = same r.fields }
 
-  gone_ages : (r : Listed T) → Ages r (gone r)
-  gone_ages r = record { handle = refl; dead = λ d. refl }
+  fields_age : (f : T → T) → ((x : T) → K x (f x)) → (r : Listed T) → Ages K r (with_fields f r)
+  fields_age f k r = record { handle = refl; dead = λ d. d; fields = k r.fields }
 
 and_dead : (a b : Bool) → a ≡ false → (a && b) ≡ false
 and_dead a b e = ap (λ c. c && b) e
 
-ended_ages : (e : TaskEnd) (n : ℕ) (r : Listed Task) → Ages r (ended e n r)
-ended_ages e n r = record { handle = refl; dead = and_dead r.live _ }
+state_same : (y : TaskState) (x : Task) → SameTask x (with_state y x)
+state_same y x = record { job = refl; args = refl; priority = refl; cores = refl; queue = refl; start = refl }
 
-each_ends : (p : Task → Bool) (e : TaskEnd) (n : ℕ) (l : List (Listed Task)) → AgesEach l (end_each p e n l)
+notes_same : (f : Notes → Notes) (x : Task) → SameTask x (with_notes f x)
+notes_same f x = record { job = refl; args = refl; priority = refl; cores = refl; queue = refl; start = refl }
+
+ended_ages : (e : TaskEnd) (n : ℕ) (r : Listed Task) → Ages SameTask r (ended e n r)
+ended_ages e n r = record { handle = refl; dead = and_dead r.live _; fields = state_same (Over e n) r.fields }
+
+each_ends : (p : Task → Bool) (e : TaskEnd) (n : ℕ) (l : List (Listed Task)) → AgesEach SameTask l (end_each p e n l)
 unfolding end_each
 each_ends p e n [] = tt
 each_ends p e n (r ∷ rs) = by_test (r.live && p r.fields) (each_ends p e n rs) (each_ends p e (n + 1) rs)
   where
-    by_test : (b : Bool) → AgesEach rs (end_each p e n rs) → AgesEach rs (end_each p e (n + 1) rs) → AgesEach (r ∷ rs) (cond b (ended e n r ∷ end_each p e (n + 1) rs) (r ∷ end_each p e n rs))
+    by_test : (b : Bool) → AgesEach SameTask rs (end_each p e n rs) → AgesEach SameTask rs (end_each p e (n + 1) rs) → AgesEach SameTask (r ∷ rs) (cond b (ended e n r ∷ end_each p e (n + 1) rs) (r ∷ end_each p e n rs))
     by_test true g m = (ended_ages e n r, m)
-    by_test false g m = (ages_same r, g)
+    by_test false g m = (ages_same SameTask same_task r, g)
 
-freed_ages : (r : Listed Task) → Ages r (freed r)
-freed_ages r = record { handle = refl; dead = λ d. refl }
+freed_ages : (r : Listed Task) → Ages SameTask r (freed r)
+freed_ages r = record { handle = refl; dead = λ d. refl; fields = record { job = refl; args = refl; priority = refl; cores = refl; queue = refl; start = refl } }
 
-let_go_ages : (r : Listed Task) → Ages r (let_go r)
-let_go_ages r = record { handle = refl; dead = and_dead r.live _ }
+let_go_ages : (r : Listed Task) → Ages SameTask r (let_go r)
+let_go_ages r = record { handle = refl; dead = and_dead r.live _; fields = record { job = refl; args = refl; priority = refl; cores = refl; queue = refl; start = refl } }
 
-withdrawn_ages : (h : ℕ) (f : Listed _ → Listed _) (o : Op) → WithdrawsAction h f o → (r : Listed _) → Ages r (f r)
-withdrawn_ages h f (op.ActionDelete a) w r = subst (λ g. Ages r (g r)) (sym w.1) (gone_ages r)
-withdrawn_ages h f (op.ActionDisable a) w r = subst (λ g. Ages r (g r)) (sym w.1) (fields_age (with_enabled false) r)
+enabled_same : (b : Bool) (x : Action) → SameAction x (with_enabled b x)
+enabled_same b x = record { job = refl; kind = refl; cores = refl }
+
+withdrawn_ages : (h : ℕ) (f : Listed Action → Listed Action) (o : Op) → WithdrawsAction h f o → (r : Listed Action) → Ages SameAction r (f r)
+withdrawn_ages h f (op.ActionDelete a) w r = subst (λ g. Ages SameAction r (g r)) (sym w.1) (gone_ages SameAction same_action r)
+withdrawn_ages h f (op.ActionDisable a) w r = subst (λ g. Ages SameAction r (g r)) (sym w.1) (fields_age SameAction (with_enabled false) (enabled_same false) r)
 withdrawn_ages h f _ w r = absurd w
+
+opened_same : (b : Bool) (x : Queue) → SameQueue x (opened b x)
+opened_same b x = record { job = refl; priority = refl; ordered = refl }
+
+altered_same : (h : ℕ) (f : Queue → Queue) (o : Op) → AltersObject Queues h f o → (x : Queue) → SameQueue x (f x)
+altered_same h f (op.QueueEnable q) w x = subst (λ g. SameQueue x (g x)) (sym w.1) (opened_same true x)
+altered_same h f (op.QueueDisable q) w x = subst (λ g. SameQueue x (g x)) (sym w.1) (opened_same false x)
+altered_same h f _ w x = absurd w
 
 -- what a new object and ageing keep, each move keeps
 pub kind_move : (k : ObjectKind) (s : State) (o : Op) (Q : List (Listed (FieldsOf k)) → Type 0)
     → ((h : ℕ) (x : FieldsOf k) → is_fresh (objects_of k) s h ≡ true → Q ((objects_of k).list s) → Q (issue h x ((objects_of k).list s)))
-    → ((m : List (Listed (FieldsOf k))) → AgesEach ((objects_of k).list s) m → Q ((objects_of k).list s) → Q m)
+    → ((m : List (Listed (FieldsOf k))) → AgesEach (SameFields k) ((objects_of k).list s) m → Q ((objects_of k).list s) → Q m)
     → (m : Move) → IsMade s o m → Q ((objects_of k).list s) → Q ((objects_of k).list (apply m s))
 kind_move kind.Action s o Q new old (makes_action h a) e v = new h a e.may v
-kind_move kind.Action s o Q new old (enables h) e v = old _ (each_change h _ s.actions (fields_age (with_enabled true))) v
-kind_move kind.Action s o Q new old (withdraws h f c) e v = old _ (each_change h f s.actions (withdrawn_ages h f o e.by)) v
+kind_move kind.Action s o Q new old (enables h) e v = old _ (each_change SameAction same_action h _ s.actions (fields_age SameAction (with_enabled true) (enabled_same true))) v
+kind_move kind.Action s o Q new old (withdraws h f c) e v = old _ (each_change SameAction same_action h f s.actions (withdrawn_ages h f o e.by)) v
 kind_move kind.Action s o Q new old (makes j h x) e v = sorts_keep (λ t. Q t.actions) (λ t g q m c r y p. p) j _ s v
 kind_move kind.Action s o Q new old (alters j h f) e v = sorts_keep (λ t. Q t.actions) (λ t g q m c r y p. p) j _ s v
 kind_move kind.Action s o Q new old (removes j h) e v = sorts_keep (λ t. Q t.actions) (λ t g q m c r y p. p) j _ s v
 kind_move kind.Action s o Q new old _ e v = v
 kind_move kind.Task s o Q new old (starts h t) e v = new h (new_task t s.starts) (snd_true (is_open s.phase) _ (opens_fresh s h t e.may)) v
-kind_move kind.Task s o Q new old (runs h w k) e v = old _ (each_change h _ s.tasks (fields_age (with_state (Running w k)))) v
-kind_move kind.Task s o Q new old (ends h x) e v = old _ (each_change h _ s.tasks (ended_ages x s.ends)) v
+kind_move kind.Task s o Q new old (runs h w k) e v = old _ (each_change SameTask same_task h _ s.tasks (fields_age SameTask (with_state (Running w k)) (state_same (Running w k)))) v
+kind_move kind.Task s o Q new old (ends h x) e v = old _ (each_change SameTask same_task h _ s.tasks (ended_ages x s.ends)) v
 kind_move kind.Task s o Q new old (ends_waiting p x) e v = old _ (each_ends _ x s.ends s.tasks) v
 kind_move kind.Task s o Q new old (withdraws h f c) e v = old _ (each_ends _ (Failed c) s.ends s.tasks) v
-kind_move kind.Task s o Q new old (notes h f) e v = old _ (each_change h _ s.tasks (fields_age (with_notes f))) v
-kind_move kind.Task s o Q new old (leaves h) e v = old _ (each_change h gone s.tasks gone_ages) v
-kind_move kind.Task s o Q new old (frees_members g) e v = old _ (each_all _ freed s.tasks freed_ages) v
-kind_move kind.Task s o Q new old (lets_members_go g) e v = old _ (each_all (is_member g) let_go s.tasks let_go_ages) v
+kind_move kind.Task s o Q new old (notes h f) e v = old _ (each_change SameTask same_task h _ s.tasks (fields_age SameTask (with_notes f) (notes_same f))) v
+kind_move kind.Task s o Q new old (leaves h) e v = old _ (each_change SameTask same_task h gone s.tasks (gone_ages SameTask same_task)) v
+kind_move kind.Task s o Q new old (frees_members g) e v = old _ (each_all SameTask same_task _ freed s.tasks freed_ages) v
+kind_move kind.Task s o Q new old (lets_members_go g) e v = old _ (each_all SameTask same_task (is_member g) let_go s.tasks let_go_ages) v
 kind_move kind.Task s o Q new old (makes j h x) e v = sorts_keep (λ t. Q t.tasks) (λ t g q m c r y p. p) j _ s v
 kind_move kind.Task s o Q new old (alters j h f) e v = sorts_keep (λ t. Q t.tasks) (λ t g q m c r y p. p) j _ s v
 kind_move kind.Task s o Q new old (removes j h) e v = sorts_keep (λ t. Q t.tasks) (λ t g q m c r y p. p) j _ s v
 kind_move kind.Task s o Q new old _ e v = v
 kind_move kind.Group s o Q new old (makes Groups h x) e v = new h x e.may v
-kind_move kind.Group s o Q new old (alters Groups h f) e v = old _ (each_change h _ s.groups (fields_age f)) v
-kind_move kind.Group s o Q new old (removes Groups h) e v = old _ (each_change h gone s.groups gone_ages) v
+kind_move kind.Group s o Q new old (alters Groups h f) e v = old _ (each_change (SameFields kind.Group) nothing_same h _ s.groups (fields_age (SameFields kind.Group) f nothing_same)) v
+kind_move kind.Group s o Q new old (removes Groups h) e v = old _ (each_change (SameFields kind.Group) nothing_same h gone s.groups (gone_ages (SameFields kind.Group) nothing_same)) v
 kind_move kind.Group s o Q new old (makes _ h x) e v = v
 kind_move kind.Group s o Q new old (alters _ h f) e v = v
 kind_move kind.Group s o Q new old (removes _ h) e v = v
 kind_move kind.Group s o Q new old _ e v = v
 kind_move kind.Queue s o Q new old (makes Queues h x) e v = new h x e.may v
-kind_move kind.Queue s o Q new old (alters Queues h f) e v = old _ (each_change h _ s.queues (fields_age f)) v
-kind_move kind.Queue s o Q new old (removes Queues h) e v = old _ (each_change h gone s.queues gone_ages) v
+kind_move kind.Queue s o Q new old (alters Queues h f) e v = old _ (each_change SameQueue same_queue h _ s.queues (fields_age SameQueue f (altered_same h f o e.by))) v
+kind_move kind.Queue s o Q new old (removes Queues h) e v = old _ (each_change SameQueue same_queue h gone s.queues (gone_ages SameQueue same_queue)) v
 kind_move kind.Queue s o Q new old (makes _ h x) e v = v
 kind_move kind.Queue s o Q new old (alters _ h f) e v = v
 kind_move kind.Queue s o Q new old (removes _ h) e v = v
 kind_move kind.Queue s o Q new old _ e v = v
 kind_move kind.Mutex s o Q new old (makes Mutexes h x) e v = new h x e.may v
-kind_move kind.Mutex s o Q new old (alters Mutexes h f) e v = old _ (each_change h _ s.mutexes (fields_age f)) v
-kind_move kind.Mutex s o Q new old (removes Mutexes h) e v = old _ (each_change h gone s.mutexes gone_ages) v
+kind_move kind.Mutex s o Q new old (alters Mutexes h f) e v = old _ (each_change (SameFields kind.Mutex) nothing_same h _ s.mutexes (fields_age (SameFields kind.Mutex) f nothing_same)) v
+kind_move kind.Mutex s o Q new old (removes Mutexes h) e v = old _ (each_change (SameFields kind.Mutex) nothing_same h gone s.mutexes (gone_ages (SameFields kind.Mutex) nothing_same)) v
 kind_move kind.Mutex s o Q new old (makes _ h x) e v = v
 kind_move kind.Mutex s o Q new old (alters _ h f) e v = v
 kind_move kind.Mutex s o Q new old (removes _ h) e v = v
 kind_move kind.Mutex s o Q new old _ e v = v
 kind_move kind.Sem s o Q new old (makes Sems h x) e v = new h x e.may v
-kind_move kind.Sem s o Q new old (alters Sems h f) e v = old _ (each_change h _ s.sems (fields_age f)) v
-kind_move kind.Sem s o Q new old (removes Sems h) e v = old _ (each_change h gone s.sems gone_ages) v
+kind_move kind.Sem s o Q new old (alters Sems h f) e v = old _ (each_change (SameFields kind.Sem) nothing_same h _ s.sems (fields_age (SameFields kind.Sem) f nothing_same)) v
+kind_move kind.Sem s o Q new old (removes Sems h) e v = old _ (each_change (SameFields kind.Sem) nothing_same h gone s.sems (gone_ages (SameFields kind.Sem) nothing_same)) v
 kind_move kind.Sem s o Q new old (makes _ h x) e v = v
 kind_move kind.Sem s o Q new old (alters _ h f) e v = v
 kind_move kind.Sem s o Q new old (removes _ h) e v = v
 kind_move kind.Sem s o Q new old _ e v = v
 kind_move kind.Rwl s o Q new old (makes Rwls h x) e v = new h x e.may v
-kind_move kind.Rwl s o Q new old (alters Rwls h f) e v = old _ (each_change h _ s.rwls (fields_age f)) v
-kind_move kind.Rwl s o Q new old (removes Rwls h) e v = old _ (each_change h gone s.rwls gone_ages) v
+kind_move kind.Rwl s o Q new old (alters Rwls h f) e v = old _ (each_change (SameFields kind.Rwl) nothing_same h _ s.rwls (fields_age (SameFields kind.Rwl) f nothing_same)) v
+kind_move kind.Rwl s o Q new old (removes Rwls h) e v = old _ (each_change (SameFields kind.Rwl) nothing_same h gone s.rwls (gone_ages (SameFields kind.Rwl) nothing_same)) v
 kind_move kind.Rwl s o Q new old (makes _ h x) e v = v
 kind_move kind.Rwl s o Q new old (alters _ h f) e v = v
 kind_move kind.Rwl s o Q new old (removes _ h) e v = v
 kind_move kind.Rwl s o Q new old _ e v = v
 kind_move kind.Shmem s o Q new old (makes Segments h x) e v = new h x e.may v
-kind_move kind.Shmem s o Q new old (alters Segments h f) e v = old _ (each_change h _ s.segments (fields_age f)) v
-kind_move kind.Shmem s o Q new old (removes Segments h) e v = old _ (each_change h gone s.segments gone_ages) v
+kind_move kind.Shmem s o Q new old (alters Segments h f) e v = old _ (each_change (SameFields kind.Shmem) nothing_same h _ s.segments (fields_age (SameFields kind.Shmem) f nothing_same)) v
+kind_move kind.Shmem s o Q new old (removes Segments h) e v = old _ (each_change (SameFields kind.Shmem) nothing_same h gone s.segments (gone_ages (SameFields kind.Shmem) nothing_same)) v
 kind_move kind.Shmem s o Q new old (makes _ h x) e v = v
 kind_move kind.Shmem s o Q new old (alters _ h f) e v = v
 kind_move kind.Shmem s o Q new old (removes _ h) e v = v
@@ -159,7 +221,13 @@ kind_move kind.Shmem s o Q new old _ e v = v
 -- How often a handle is listed, and whether it is live
 
 module _ {T : Type 0} where
-  pub listed_ages : (h : ℕ) (l m : List (Listed T)) → AgesEach l m → listed h m ≡ listed h l
+  -- nothing live has this handle
+  abbrev pub Dead : ℕ → List (Listed T) → Type 0
+  Dead h [] = Unit {0}
+  Dead h (r ∷ rs) = ((r.handle == h) ≡ true → r.live ≡ false) × Dead h rs
+
+module _ {T : Type 0} (K : T → T → Type 0) where
+  pub listed_ages : (h : ℕ) (l m : List (Listed T)) → AgesEach K l m → listed h m ≡ listed h l
   unfolding listed
   listed_ages h [] [] a = refl
   listed_ages h [] (q ∷ qs) a = absurd a
@@ -169,17 +237,13 @@ module _ {T : Type 0} where
       let d : cond {A = ℕ} (q.handle == h) 1 0 ≡ cond {A = ℕ} (r.handle == h) 1 0 = ap (λ (n : ℕ). cond {A = ℕ} (n == h) 1 0) a.0.handle in
       omega arith
 
-  -- nothing live has this handle
-  abbrev pub Dead : ℕ → List (Listed T) → Type 0
-  Dead h [] = Unit {0}
-  Dead h (r ∷ rs) = ((r.handle == h) ≡ true → r.live ≡ false) × Dead h rs
-
-  pub dead_ages : (h : ℕ) (l m : List (Listed T)) → AgesEach l m → Dead h l → Dead h m
+  pub dead_ages : (h : ℕ) (l m : List (Listed T)) → AgesEach K l m → Dead h l → Dead h m
   dead_ages h [] [] a d = tt
   dead_ages h [] (q ∷ qs) a d = absurd a
   dead_ages h (r ∷ rs) [] a d = absurd a
   dead_ages h (r ∷ rs) (q ∷ qs) a d = ((λ e. a.0.dead (d.0 (ap (λ (n : ℕ). n == h) (sym a.0.handle) ∙ e))), dead_ages h rs qs a.1 d.1)
 
+module _ {T : Type 0} where
   pub dead_issue : (h j : ℕ) (x : T) (l : List (Listed T)) → (j == h) ≡ false → Dead h l → Dead h (issue j x l)
   unfolding issue
   dead_issue h j x [] n d = ((λ e. absurd (both e n)), tt)
@@ -230,3 +294,49 @@ module _ {T : Type 0} where
       by_live : (a : Bool) → is_some (lookup (cond a ((r.handle, r.fields) ∷ live_of rs) (live_of rs)) h) ≡ true → (is_some (at rs h) ≡ true → 1 ≤ listed h rs) → 1 ≤ cond (r.handle == h) 1 0 + listed h rs
       by_live true m g = by_hand (r.handle == h) m g
       by_live false m g = let k : 1 ≤ listed h rs = g m in omega arith
+
+-- What holds of each object that was issued under a handle
+
+module _ {T : Type 0} where
+  abbrev pub Under : ℕ → (T → Type 0) → List (Listed T) → Type 0
+  Under h F [] = Unit {0}
+  Under h F (r ∷ rs) = ((r.handle == h) ≡ true → F r.fields) × Under h F rs
+
+  pub under_issue : (h : ℕ) (F : T → Type 0) (j : ℕ) (x : T) (l : List (Listed T)) → ((j == h) ≡ true → F x) → Under h F l → Under h F (issue j x l)
+  unfolding issue
+  under_issue h F j x [] f u = (f, tt)
+  under_issue h F j x (r ∷ rs) f u = (u.0, under_issue h F j x rs f u.1)
+
+  pub under_none : (h : ℕ) (F : T → Type 0) (l : List (Listed T)) → listed h l ≡ 0 → Under h F l
+  unfolding listed
+  under_none h F [] e = tt
+  under_none h F (r ∷ rs) e = by_test (r.handle == h) refl e (under_none h F rs)
+    where
+      both : {A : Type 0} {b : Bool} → b ≡ true → b ≡ false → A
+      both e f = absurd (cc)
+
+      by_test : (b : Bool) → (r.handle == h) ≡ b → cond b 1 0 + listed h rs ≡ 0 → (listed h rs ≡ 0 → Under h F rs) → Under h F (r ∷ rs)
+      by_test true i e g = absurd (omega arith)
+      by_test false i e g = ((λ j. both j i), g (omega arith))
+
+  pub under_at : (h : ℕ) (F : T → Type 0) (l : List (Listed T)) (x : T) → Under h F l → at l h ≡ Some x → F x
+  unfolding live_of
+  under_at h F [] x u e = absurd (cc)
+  under_at h F (r ∷ rs) x u e = by_live r.live e (under_at h F rs x u.1)
+    where
+      same : {a b : T} → Some a ≡ Some b → a ≡ b
+      same i = cc
+
+      by_hand : (b : Bool) → (r.handle == h) ≡ b → cond b (Some r.fields) (at rs h) ≡ Some x → (at rs h ≡ Some x → F x) → F x
+      by_hand true i e g = subst F (same e) (u.0 i)
+      by_hand false i e g = g e
+
+      by_live : (a : Bool) → lookup (cond a ((r.handle, r.fields) ∷ live_of rs) (live_of rs)) h ≡ Some x → (at rs h ≡ Some x → F x) → F x
+      by_live true e g = by_hand (r.handle == h) refl e g
+      by_live false e g = g e
+
+  pub under_ages : (K : T → T → Type 0) (h : ℕ) (F : T → Type 0) → ((x y : T) → K x y → F x → F y) → (l m : List (Listed T)) → AgesEach K l m → Under h F l → Under h F m
+  under_ages K h F g [] [] a u = tt
+  under_ages K h F g [] (q ∷ qs) a u = absurd a
+  under_ages K h F g (r ∷ rs) [] a u = absurd a
+  under_ages K h F g (r ∷ rs) (q ∷ qs) a u = ((λ e. g r.fields q.fields a.0.fields (u.0 (ap (λ (n : ℕ). n == h) (sym a.0.handle) ∙ e))), under_ages K h F g rs qs a.1 u.1)

@@ -12,3 +12,7 @@ pub mod Others
 pub mod Ages
 pub mod Reuse
 pub mod Bounds
+pub mod Objects
+pub mod Affinity
+pub mod Numbers
+pub mod Order

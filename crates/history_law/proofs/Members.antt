@@ -13,7 +13,7 @@ abbrev pub AllOf : (Ending → Type 0) → List Ending → Type 0
 AllOf P [] = Unit {0}
 AllOf P (e ∷ es) = P e × AllOf P es
 
-all_insert : (P : Ending → Type 0) (e : Ending) (es : List Ending) → P e → AllOf P es → AllOf P (insert e es)
+pub all_insert : (P : Ending → Type 0) (e : Ending) (es : List Ending) → P e → AllOf P es → AllOf P (insert e es)
 all_insert P e [] p a = (p, tt)
 all_insert P e (f ∷ fs) p a = by_test (nat_lt e.number f.number) (all_insert P e fs p a.1)
   where
@@ -34,7 +34,7 @@ pub record IsEnding (g : ℕ) (l : List (Listed Task)) (e : Ending) : Type 0 whe
 same_some : {a b : Task} → Some a ≡ Some b → a ≡ b
 same_some e = cc
 
-once_rest : (r : Listed Task) (rs : List (Listed Task)) → ((h : ℕ) → listed h (r ∷ rs) ≤ 1) → (h : ℕ) → listed h rs ≤ 1
+pub once_rest : (r : Listed Task) (rs : List (Listed Task)) → ((h : ℕ) → listed h (r ∷ rs) ≤ 1) → (h : ℕ) → listed h rs ≤ 1
 unfolding listed
 once_rest r rs o h = let k : cond {A = ℕ} (r.handle == h) 1 0 + listed h rs ≤ 1 = o h in omega arith
 

@@ -28,18 +28,18 @@ use Rattle.history_law.specs.Words.{FieldsOf, objects_of, some_entry, times, is_
 use Rattle.history_law.specs.Reuse.{StaysGone, NeverAgain, NotInBoth}
 use Rattle.history_law.proofs.Moves.{Stands, after_stands}
 use Rattle.history_law.proofs.Accepted.{RefusesAll, granted, refuses_only, refuses_live, no_handle, opening_stands}
-use Rattle.history_law.proofs.Ages.{AgesEach, kind_move, listed_ages, Dead, dead_ages, dead_issue, dead_none, none_dead, live_listed}
+use Rattle.history_law.proofs.Ages.{AgesEach, SameFields, kind_move, listed_ages, Dead, dead_ages, dead_issue, dead_none, none_dead, live_listed}
 
 true_false : {A : Type 0} {b : Bool} → b ≡ true → b ≡ false → A
 true_false e f = absurd (cc)
 
 -- A fresh handle is listed nowhere
 
-fresh_unlisted : (k : ObjectKind) (s : State) (h : ℕ) → is_fresh (objects_of k) s h ≡ true → times k h s ≡ 0
+pub fresh_unlisted : (k : ObjectKind) (s : State) (h : ℕ) → is_fresh (objects_of k) s h ≡ true → times k h s ≡ 0
 unfolding may_issue
 fresh_unlisted k s h e = eqb-true (times k h s) 0 (fst_true _ _ (fst_true _ _ (snd_true (names_kind s.terms.layout (objects_of k).kind h) _ e)))
 
-fresh_apart : (k : ObjectKind) (s : State) (h j : ℕ) → 1 ≤ times k h s → is_fresh (objects_of k) s j ≡ true → (j == h) ≡ false
+pub fresh_apart : (k : ObjectKind) (s : State) (h j : ℕ) → 1 ≤ times k h s → is_fresh (objects_of k) s j ≡ true → (j == h) ≡ false
 fresh_apart k s h j l e = by_test (j == h) refl
   where
     by_test : (b : Bool) → (j == h) ≡ b → b ≡ false
@@ -50,7 +50,7 @@ fresh_apart k s h j l e = by_test (j == h) refl
         let here : times k h s ≡ 0 = subst (λ (n : ℕ). times k n s ≡ 0) same none in
         absurd (omega arith)
 
-listed_issue_some : {T : Type 0} (h j : ℕ) (x : T) (l : List (Listed T)) → 1 ≤ listed h l → 1 ≤ listed h (issue j x l)
+pub listed_issue_some : {T : Type 0} (h j : ℕ) (x : T) (l : List (Listed T)) → 1 ≤ listed h l → 1 ≤ listed h (issue j x l)
 unfolding listed issue
 listed_issue_some h j x [] e = absurd (omega arith)
 listed_issue_some h j x (r ∷ rs) e = by_head (r.handle == h) e (listed_issue_some h j x rs)
@@ -61,22 +61,22 @@ listed_issue_some h j x (r ∷ rs) e = by_head (r.handle == h) e (listed_issue_s
 
 -- What was issued stays listed, and what isn't live any more stays so
 
-abbrev Listed1 : ObjectKind → ℕ → State → Type 0
+abbrev pub Listed1 : ObjectKind → ℕ → State → Type 0
 Listed1 k h s = 1 ≤ times k h s
 
-record Gone (k : ObjectKind) (h : ℕ) (l : List (Listed (FieldsOf k))) : Type 0 where
-  some : 1 ≤ listed h l
-  dead : Dead h l
+pub record Gone (k : ObjectKind) (h : ℕ) (l : List (Listed (FieldsOf k))) : Type 0 where
+  pub some : 1 ≤ listed h l
+  pub dead : Dead h l
 
-listed_move : (k : ObjectKind) (h : ℕ) (s : State) (o : Op) (m : Move) → IsMade s o m → Listed1 k h s → Listed1 k h (apply m s)
+pub listed_move : (k : ObjectKind) (h : ℕ) (s : State) (o : Op) (m : Move) → IsMade s o m → Listed1 k h s → Listed1 k h (apply m s)
 listed_move k h s o m e v =
-    kind_move k s o (λ l. 1 ≤ listed h l) (λ j x i w. listed_issue_some h j x _ w) (λ l a w. subst (λ (n : ℕ). 1 ≤ n) (sym (listed_ages h _ l a)) w) m e v
+    kind_move k s o (λ l. 1 ≤ listed h l) (λ j x i w. listed_issue_some h j x _ w) (λ l a w. subst (λ (n : ℕ). 1 ≤ n) (sym (listed_ages (SameFields k) h _ l a)) w) m e v
 
 gone_move : (k : ObjectKind) (h : ℕ) (s : State) (o : Op) (m : Move) → IsMade s o m → Gone k h ((objects_of k).list s) → Gone k h ((objects_of k).list (apply m s))
 gone_move k h s o m e v =
     kind_move k s o (Gone k h)
     (λ j x i w. record { some = listed_issue_some h j x _ w.some; dead = dead_issue h j x _ (fresh_apart k s h j w.some i) w.dead })
-    (λ l a w. record { some = subst (λ (n : ℕ). 1 ≤ n) (sym (listed_ages h _ l a)) w.some; dead = dead_ages h _ l a w.dead }) m e v
+    (λ l a w. record { some = subst (λ (n : ℕ). 1 ≤ n) (sym (listed_ages (SameFields k) h _ l a)) w.some; dead = dead_ages (SameFields k) h _ l a w.dead }) m e v
 
 -- An entry that issues a handle finds it unlisted
 
@@ -116,12 +116,12 @@ issue_fresh kind.Shmem s who (op.ShmemCreate id cells) h e a =
     (refl, (refl, (refl, (refl, (refl, refuses_only _ _ _))))) (λ c0 c1 c2 c3 c4. fresh_only kind.Shmem s h _) a
 issue_fresh _ s who _ h e a = true_false e refl
 
-is_this : (h : ℕ) (r : Reply) → is_handle h r ≡ true → r ≡ Handle h
+pub is_this : (h : ℕ) (r : Reply) → is_handle h r ≡ true → r ≡ Handle h
 is_this h (Handle g) e = ap Handle (eqb-true g h e)
 is_this h _ e = true_false e refl
 
 -- the reply names the handle, so the row is that of this reply
-issues_fresh : (k : ObjectKind) (s : State) (e : NodeEntry) (h : ℕ) → IsNext s e → issues k h e ≡ true → is_fresh (objects_of k) s h ≡ true
+pub issues_fresh : (k : ObjectKind) (s : State) (e : NodeEntry) (h : ℕ) → IsNext s e → issues k h e ≡ true → is_fresh (objects_of k) s h ≡ true
 issues_fresh k s e h n i =
     let r : e.reply ≡ Handle h = is_this h e.reply (snd_true (makes_kind k e.op) _ i) in
     issue_fresh k s e.who e.op h (fst_true (makes_kind k e.op) _ i) (subst (λ (x : Reply). Allows (row s e.who e.op x) x) r n.allowed)
@@ -135,7 +135,7 @@ not_issued k s e h n l = by_test (issues k h e) refl
 
 -- The law
 
-stays_gone : (k : ObjectKind) (h : ℕ) (s : State) (N : List NodeEntry) → LegalFrom s N → Gone k h ((objects_of k).list s) → Gone k h ((objects_of k).list (after_from s N)) × (some_entry (issues k h) N ≡ false)
+pub stays_gone : (k : ObjectKind) (h : ℕ) (s : State) (N : List NodeEntry) → LegalFrom s N → Gone k h ((objects_of k).list s) → Gone k h ((objects_of k).list (after_from s N)) × (some_entry (issues k h) N ≡ false)
 unfolding LegalFrom after_from
 stays_gone k h s [] l v = (v, refl)
 stays_gone k h s (e ∷ es) l v =
@@ -174,7 +174,7 @@ listed_new h j x (r ∷ rs) e = ap (λ (n : ℕ). cond {A = ℕ} (r.handle == h)
 named_move : (T : Terms) (k : ObjectKind) (h : ℕ) (s : State) (o : Op) (m : Move) → IsMade s o m → Named T k h s → Named T k h (apply m s)
 named_move T k h s o m e v = record {
   terms = terms_move T s m v.terms;
-  named = kind_move k s o (λ l. 1 ≤ listed h l → names_kind T.layout (objects_of k).kind h ≡ true) (λ j x i w. by_new j x i w (j == h) refl) (λ l a w u. w (subst (λ (n : ℕ). 1 ≤ n) (listed_ages h _ l a) u)) m e v.named;
+  named = kind_move k s o (λ l. 1 ≤ listed h l → names_kind T.layout (objects_of k).kind h ≡ true) (λ j x i w. by_new j x i w (j == h) refl) (λ l a w u. w (subst (λ (n : ℕ). 1 ≤ n) (listed_ages (SameFields k) h _ l a) u)) m e v.named;
 }
   where
     by_new : (j : ℕ) (x : FieldsOf k) → is_fresh (objects_of k) s j ≡ true → (1 ≤ times k h s → names_kind T.layout (objects_of k).kind h ≡ true) → (b : Bool) → (j == h) ≡ b

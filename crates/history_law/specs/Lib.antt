@@ -4,3 +4,5 @@ pub mod Worked
 pub mod Seats
 pub mod Words
 pub mod Reuse
+pub mod Affinity
+pub mod Order

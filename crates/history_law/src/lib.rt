@@ -6,6 +6,8 @@ ghost use Rattle.history_law.specs.Accepted.{AcceptedTasksEndOnce};
 ghost use Rattle.mtapi_machine.specs.State.{terms_of};
 ghost use Rattle.history_law.specs.Ends.{OneEnd, EndsAfterClose};
 ghost use Rattle.mtapi_machine.specs.Laws.{DropsToSame};
+ghost use Rattle.history_law.specs.Affinity.{ObeysMasks};
+ghost use Rattle.history_law.specs.Order.{GivenInOrder};
 ghost use Rattle.history_law.specs.Reuse.{NeverAgain, NotInBoth};
 ghost use Rattle.history_law.specs.Seats.{OnceAfter, OnceStays, WaiterStays, WorkStays, NoLateEnd, PhaseStays, ReleaseStays, EarlyStays, StoppedStays, StoppedRoom, UnstartedAreUntouched, EntriesBySeats};
 ghost use Rattle.history_law.specs.Worked.{OneTaskEnds};
@@ -14,7 +16,7 @@ ghost use Rattle.history_law.specs.Worked.{OneTaskEnds};
 mod tests;
 
 use mtapi_machine::Entry;
-use mtapi_values::{Layout, NodeAttr, ObjectKind, TaskHandle};
+use mtapi_values::{GroupHandle, Layout, NodeAttr, ObjectKind, TaskHandle};
 
 /// In a legal history that ends with the final step, every task that was accepted has one record and ends once: it is ended at the end
 /// of the history, and wherever an end of it shows, that is its end.
@@ -103,13 +105,53 @@ pub fn law_drop(layout: Layout, settings: &NodeAttr, callers: u32, entries: &[En
 {}
 
 /// A handle that has stopped being live is never issued or live again.
-pub fn law_no_reuse(layout: Layout, settings: &NodeAttr, callers: u32, entries: &[Entry], kind: ObjectKind, h: u64)
+pub fn law_no_reuse(
+    layout: Layout,
+    settings: &NodeAttr,
+    callers: u32,
+    entries: &[Entry],
+    kind: ObjectKind,
+    h: u64,
+)
     requires { Legal (terms_of layout settings.now callers) entries.now }
     ensures { NeverAgain (terms_of layout settings.now callers) entries.now kind h }
 {}
 
 /// In layout two no handle was issued to objects of two kinds.
-pub fn law_kind(layout: Layout, settings: &NodeAttr, callers: u32, entries: &[Entry], a: ObjectKind, b: ObjectKind, h: u64)
+pub fn law_kind(
+    layout: Layout,
+    settings: &NodeAttr,
+    callers: u32,
+    entries: &[Entry],
+    a: ObjectKind,
+    b: ObjectKind,
+    h: u64,
+)
     requires { Legal (terms_of layout settings.now callers) entries.now }
     ensures { NotInBoth layout (terms_of layout settings.now callers) entries.now a b h }
+{}
+
+/// A pick at this place, counted from 0, obeys both masks: its worker is in the mask with which the task was started, and in the one
+/// with which the action was made.
+pub fn law_affinity(
+    layout: Layout,
+    settings: &NodeAttr,
+    callers: u32,
+    entries: &[Entry],
+    place: usize,
+)
+    requires { Legal (terms_of layout settings.now callers) entries.now }
+    ensures { ObeysMasks entries.now place }
+{}
+
+/// A group gives its members in the order of their ends, each once.
+pub fn law_group_order(
+    layout: Layout,
+    settings: &NodeAttr,
+    callers: u32,
+    entries: &[Entry],
+    g: GroupHandle,
+)
+    requires { Legal (terms_of layout settings.now callers) entries.now }
+    ensures { GivenInOrder (terms_of layout settings.now callers) entries.now g.0 }
 {}

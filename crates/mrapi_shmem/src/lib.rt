@@ -9,7 +9,8 @@ mod state;
 #[cfg(test)]
 mod tests;
 
-ghost use Rattle.std.specs.Prelude.{◌≡◌, ◌+◌, ◌≤◌, ◌<◌, None, replicate, IfOk, IfErr, OnOk, OnErr};
+ghost use Rattle.std.specs.Prelude.{◌≡◌, ◌+◌, ◌≤◌, ◌<◌, None, length, replicate, IfOk, IfErr, OnOk, OnErr};
+ghost use Rattle.std.specs.Option.{option_map};
 ghost use Rattle.std.specs.Result.{result_err};
 ghost use Rattle.mtapi_values.specs.declared.statuses.MrapiStatus.TheVariants.{ErrShmIdInvalid};
 ghost use Rattle.mtapi_values.specs.Conditions.{first};
@@ -122,6 +123,16 @@ impl Segments {
             }
         }
         Err(MrapiStatus::ErrShmIdInvalid)
+    }
+
+    /// How many cells the segment of a handle has, 1 to 4,096: none exactly where the handle isn't live.
+    pub fn cell_count(&self, s: ShmemHandle) -> Option<usize>
+        ensures { result ≡ option_map (λ x. length x.cells) (get self.now s.0) }
+    {
+        match self.pool.get(s.0) {
+            None => None,
+            Some(segment) => Some(segment.cell_count()),
+        }
     }
 
     /// Gives up a segment to which nobody is attached.

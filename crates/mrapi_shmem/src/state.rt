@@ -1,6 +1,6 @@
 //! One segment.
 
-ghost use Rattle.std.specs.Prelude.{◌≡◌, ◌≤◌, ◌<◌};
+ghost use Rattle.std.specs.Prelude.{◌≡◌, ◌≤◌, ◌<◌, length};
 ghost use Rattle.std.specs.Result.{result_err};
 ghost use Rattle.mtapi_values.specs.Conditions.{first};
 ghost use Rattle.mtapi_values.specs.Seats.{any_mark};
@@ -49,6 +49,13 @@ impl SegmentState {
         ensures { result ≡ self.now.id }
     {
         self.id
+    }
+
+    /// How many cells it has.
+    pub(crate) fn cell_count(&self) -> usize
+        ensures { result ≡ length self.now.cells }
+    {
+        self.room.len()
     }
 
     /// Whether some seat is attached.

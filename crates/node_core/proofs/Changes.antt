@@ -51,19 +51,19 @@ not_live true d e = ap not e
 not_live false d e = refl
 
 -- the end of a task that isn't detached, and of one that is
-ended-kept : (h : ℕ) (e : TaskEnd) (n : ℕ) (t : Task) (l : List (Listed Task)) → at l h ≡ Some t → t.detached ≡ false → change h (ended e n) l ≡ update h (with_state (Over e n)) l
-ended-kept h e n t l a d = change-as h (ended e n) (with_fields (with_state (Over e n))) t l a (λ r live is i. record { handle = r.handle; live = stays_live r.live r.fields.detached (ap (λ (u : Task). u.detached) is ∙ d) i; fields = with_state (Over e n) r.fields })
+ended-kept : (h : ℕ) (e : TaskEnd) (n : ℕ) (t : Task) (l : List (Listed Task)) → at l h ≡ Some t → t.notes.detached ≡ false → change h (ended e n) l ≡ update h (with_state (Over e n)) l
+ended-kept h e n t l a d = change-as h (ended e n) (with_fields (with_state (Over e n))) t l a (λ r live is i. record { handle = r.handle; live = stays_live r.live r.fields.notes.detached (ap (λ (u : Task). u.notes.detached) is ∙ d) i; fields = with_state (Over e n) r.fields })
 
-ended-gone : (h : ℕ) (e : TaskEnd) (n : ℕ) (t : Task) (l : List (Listed Task)) → at l h ≡ Some t → t.detached ≡ true → change h (ended e n) l ≡ retire h (update h (with_state (Over e n)) l)
+ended-gone : (h : ℕ) (e : TaskEnd) (n : ℕ) (t : Task) (l : List (Listed Task)) → at l h ≡ Some t → t.notes.detached ≡ true → change h (ended e n) l ≡ retire h (update h (with_state (Over e n)) l)
 ended-gone h e n t l a d =
-    change-as h (ended e n) (λ r. gone (with_fields (with_state (Over e n)) r)) t l a (λ r live is i. record { handle = r.handle; live = not_live r.live r.fields.detached (ap (λ (u : Task). u.detached) is ∙ d) i; fields = with_state (Over e n) r.fields })
+    change-as h (ended e n) (λ r. gone (with_fields (with_state (Over e n)) r)) t l a (λ r live is i. record { handle = r.handle; live = not_live r.live r.fields.notes.detached (ap (λ (u : Task). u.notes.detached) is ∙ d) i; fields = with_state (Over e n) r.fields })
     ∙ sym (retire-update h (with_state (Over e n)) l)
 
 -- a task that ends in the pool ends in the list
 pub holds_ended : (size turns : ℕ) (p : Slots Task) (l : List (Listed Task)) (h : ℕ) (e : TaskEnd) (n : ℕ) (t : Task) → Holds size turns p l → get p h ≡ Some t → Holds size turns (ended_in p h e n (Some t)) (change h (ended e n) l)
-holds_ended size turns p l h e n t s g = by_detached t.detached refl
+holds_ended size turns p l h e n t s g = by_detached t.notes.detached refl
   where
-    by_detached : (b : Bool) → t.detached ≡ b → Holds size turns (cond b (without p h) (with_value p h (with_state (Over e n) t))) (change h (ended e n) l)
+    by_detached : (b : Bool) → t.notes.detached ≡ b → Holds size turns (cond b (without p h) (with_value p h (with_state (Over e n) t))) (change h (ended e n) l)
     by_detached true d = rw (ended-gone h e n t l (found size turns p l h (Some t) s g) d) (holds_change_and_remove size turns p l h (with_state (Over e n)) t s g)
     by_detached false d = rw (ended-kept h e n t l (found size turns p l h (Some t) s g) d) (holds_update size turns p l h (with_state (Over e n)) t s g)
 

@@ -2,6 +2,7 @@
 use Rattle.std.proofs.Common.{◌≡◌, ℕ, ◌+◌, ◌≤◌, Bool, true, false, List, [], ◌∷◌, Option, Some, None, refl, sym, ◌∙◌, subst, arith}
 use Rattle.mtapi_values.specs.declared.statuses.MtapiStatus.{MtapiStatus}
 use Rattle.mtapi_values.specs.Conditions.{first}
+use Rattle.mtapi_values.specs.declared.handles.Layout.TheVariants.{One}
 use Rattle.mtapi_machine.specs.declared.ops.Op.{Op}
 use Rattle.mtapi_machine.specs.declared.replies.Reply.{Reply}
 use Rattle.mtapi_machine.specs.declared.replies.Reply.TheVariants.{Mtapi}
@@ -78,7 +79,7 @@ lands n l who op r b a q e s = (
     allowed = s.1.allowed;
     leads = s.1.leads ∙ (λ i. state_of (record n { board = path i }) s.0);
     live = subst (λ (x : BoardTable). Pools n.board.settings x.actions x.tasks.pool s.0) path s.1.live;
-    terms = (λ i. record { settings = e.settings i; callers = n.core.callers });
+    terms = (λ i. record { layout = One; settings = e.settings i; callers = n.core.callers });
     starts = subst (λ (x : TaskTable). x.starts ≤ n.board.tasks.starts + 1) (sym e.tasks_are) s.1.starts;
     honest = s.1.honest;
   },

@@ -18,7 +18,7 @@ use Rattle.task_board.proofs.SeenLemmas.{some_same, seen-as, unstarted-seen, see
 use Rattle.task_board.proofs.MarkLemmas.{same-number, number-same}
 use Rattle.task_board.proofs.RunningLemmas.{runs-seen, self}
 use Rattle.task_board.proofs.MoveLemmas.{order-index}
-use Rattle.mtapi_machine.specs.Rows.{can_take}
+use Rattle.mtapi_machine.specs.WorkRows.{can_take}
 use Rattle.node_core.specs.declared.node.Node.{Node}
 use Rattle.node_core.specs.Stands.{Lists, Live, state_of}
 use Rattle.node_core.specs.Keeps.{Keeps}

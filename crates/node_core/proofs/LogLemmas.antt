@@ -104,7 +104,7 @@ module _ (t : Terms) where
   pub journal_has : (k : Kept) (r : Result (Option Journal) AllocError) → IsJournal t k r → IfOk r (λ o. IfSome o (HasTerms t))
   journal_has Nothing r e = rw e tt
   journal_has Lost r e = rw e tt
-  journal_has (Entries k) r e = rw e (record { settings = refl; callers = refl })
+  journal_has (Entries k) r e = rw e (record { layout = refl; settings = refl; callers = refl })
 
   pub journal_lost : (k : Kept) (r : Result (Option Journal) AllocError) → IsJournal t k r → IsErr r ↔ (lost k ≡ true)
   journal_lost Nothing r e = rw e (λ x. cc, λ x. cc)
@@ -116,7 +116,7 @@ module _ (t : Terms) where
   journal_kept Lost r L e h l = rw e tt
   journal_kept (Entries k) r L e h l =
       let good = kept_legal t L k.entries l h.0 in
-      rw e (record { settings = refl; callers = refl; entries = h.0; numbers = h.1; legal = good.0; leads = good.1 })
+      rw e (record { layout = refl; settings = refl; callers = refl; entries = h.0; numbers = h.1; legal = good.0; leads = good.1 })
 
 -- few entries, and one more
 pub few_none : (j : Journaled) → StandsKept j [] → StandsForFew j 0

@@ -18,7 +18,7 @@ use Rattle.mtapi_machine.specs.declared.replies.Reply.TheVariants as reply
 use Rattle.mtapi_machine.specs.State.{State, is_new, is_stop}
 use Rattle.mtapi_machine.specs.Row.{Row, says, gives}
 use Rattle.mtapi_machine.specs.Moves.{runs as runs_task}
-use Rattle.mtapi_machine.specs.Rows.{is_ready, can_take, has_better, may_take, picks}
+use Rattle.mtapi_machine.specs.WorkRows.{is_ready, can_take, has_better, may_take, picks}
 use Rattle.mtapi_values.specs.declared.kinds.Kind.{Kind}
 use Rattle.node_core.specs.declared.node.Node.{Node}
 use Rattle.task_board.specs.declared.board.Choice.{Choice}

@@ -16,10 +16,9 @@ use Rattle.job_table.specs.Answers.{Covers, IsUnion, runs_job_on}
 use Rattle.job_table.specs.declared.cover.Cover.{Cover}
 use Rattle.job_table.specs.declared.cover.Cover.TheVariants.{NoAction, AllDisabled, Cores}
 use Rattle.mtapi_objects.specs.Groups.{Group}
-use Rattle.mtapi_machine.specs.Rows.{start_refusals, number_of}
+use Rattle.mtapi_machine.specs.TaskRows.{asked_for, start_refusals, number_of}
 use Rattle.node_core.specs.declared.node.Node.{Node}
 use Rattle.node_core.specs.Stands.{Lists, Holds, Live, state_of}
-use Rattle.node_core.specs.Starts.{asked_for}
 use Rattle.node_core.proofs.ActionSteps.{covers_none, covers_some, enabled_none, enabled_some}
 
 pub false≢true : {P : Type 0} → false ≡ true → P

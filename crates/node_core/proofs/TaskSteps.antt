@@ -13,7 +13,7 @@ use Rattle.mtapi_values.specs.declared.ends.TaskEnd.TheVariants.{Cancelled}
 use Rattle.mtapi_values.specs.Conditions.{first}
 use Rattle.handle_pool.specs.Slots.{Slots, get, IsFull, Inserts, with_value, without, changed}
 use Rattle.handle_pool.specs.Issued.{Listed, change, issue, update, retire}
-use Rattle.mtapi_objects.specs.Tasks.{Task, TaskState, Scheduled, Running, Over, NewTask, new_task, end_of, ended, cancel_requested, with_waiter, task_look_refusals}
+use Rattle.mtapi_objects.specs.Tasks.{Task, TaskState, Scheduled, Running, Over, NewTask, new_task, end_of, ended, with_notes, cancel_requested, with_waiter, task_look_refusals}
 use Rattle.task_core.specs.Records.{shown_state}
 use Rattle.task_core.specs.Answers.{look_reply, look_at_end, look_unless, waiter_after}
 use Rattle.task_core.specs.Table.{TaskTable, Adds, ended_in, looked_in}
@@ -26,11 +26,11 @@ use Rattle.mtapi_machine.specs.declared.ops.Op.TheVariants as op
 use Rattle.mtapi_machine.specs.declared.replies.Reply.{Reply}
 use Rattle.mtapi_machine.specs.declared.replies.Reply.TheVariants as reply
 use Rattle.mtapi_machine.specs.State.{State, is_open, is_up}
-use Rattle.mtapi_machine.specs.Rows.{row, start_refusals, is_detached_member, looks_at, cancels}
+use Rattle.mtapi_machine.specs.Rows.{row}
+use Rattle.mtapi_machine.specs.TaskRows.{asked_for, start_refusals, is_detached_member, looks_at, cancels}
 use Rattle.mtapi_machine.specs.Legal.{IsHonest}
 use Rattle.node_core.specs.declared.node.Node.{Node}
 use Rattle.node_core.specs.Stands.{Lists, Holds, Live, Steps, state_of}
-use Rattle.node_core.specs.Starts.{asked_for}
 use Rattle.node_core.proofs.Gives.{Gives, gives_this, allows, met, past, met_in, past_all, at_some, at_none, steps, stays}
 use Rattle.node_core.proofs.Moves.{found, full_list, room_in, may_be, holds_insert, holds_changed, holds_update, holds_remove}
 use Rattle.node_core.proofs.Changes.{holds_ended}
@@ -126,22 +126,22 @@ module _ (n : Node) (l : Lists) (who : ℕ) (t : TaskHandle) (last : Bool) (v : 
   look_absent g = stays n l who looks (reply.Mtapi m.ErrTaskInvalid) v tt (past _ _ _ _ _ _ (not_true _ up) (at_none _ _ _ _ (found _ _ n.board.tasks.pool l.tasks t.0 None v.tasks g)))
 
 -- a look at a task that hasn't ended: the last one, and an earlier one
-waited : (n : Node) (l : Lists) (who : ℕ) (t : TaskHandle) (last : Bool) (v : Live n l) (up : is_up n.core.phase ≡ true) (x : Task) (s : TaskState) → get n.board.tasks.pool t.0 ≡ Some x → first (task_look_refusals who x) ≡ None → x.state ≡ s → end_of s ≡ None → Steps n l who (op.TaskLook t last) (look_said (look_at_end None last)) (record n { board = record n.board { tasks = with_pool n (with_value n.board.tasks.pool t.0 (with_waiter (waiter_after who last) x)) } })
-waited n l who t true v up x Scheduled g f e d = looked n l who t true v up x Scheduled _ _ (update t.0 (with_waiter None) l.tasks) g f e (gives_this _ _ _) (holds_update _ _ n.board.tasks.pool l.tasks t.0 (with_waiter None) x v.tasks g)
-waited n l who t false v up x Scheduled g f e d = looked n l who t false v up x Scheduled _ _ (update t.0 (with_waiter (Some who)) l.tasks) g f e (gives_this _ _ _) (holds_update _ _ n.board.tasks.pool l.tasks t.0 (with_waiter (Some who)) x v.tasks g)
-waited n l who t true v up x (Running w k) g f e d = looked n l who t true v up x (Running w k) _ _ (update t.0 (with_waiter None) l.tasks) g f e (gives_this _ _ _) (holds_update _ _ n.board.tasks.pool l.tasks t.0 (with_waiter None) x v.tasks g)
-waited n l who t false v up x (Running w k) g f e d = looked n l who t false v up x (Running w k) _ _ (update t.0 (with_waiter (Some who)) l.tasks) g f e (gives_this _ _ _) (holds_update _ _ n.board.tasks.pool l.tasks t.0 (with_waiter (Some who)) x v.tasks g)
+waited : (n : Node) (l : Lists) (who : ℕ) (t : TaskHandle) (last : Bool) (v : Live n l) (up : is_up n.core.phase ≡ true) (x : Task) (s : TaskState) → get n.board.tasks.pool t.0 ≡ Some x → first (task_look_refusals who x) ≡ None → x.state ≡ s → end_of s ≡ None → Steps n l who (op.TaskLook t last) (look_said (look_at_end None last)) (record n { board = record n.board { tasks = with_pool n (with_value n.board.tasks.pool t.0 (with_notes (with_waiter (waiter_after who last)) x)) } })
+waited n l who t true v up x Scheduled g f e d = looked n l who t true v up x Scheduled _ _ (update t.0 (with_notes (with_waiter None)) l.tasks) g f e (gives_this _ _ _) (holds_update _ _ n.board.tasks.pool l.tasks t.0 (with_notes (with_waiter None)) x v.tasks g)
+waited n l who t false v up x Scheduled g f e d = looked n l who t false v up x Scheduled _ _ (update t.0 (with_notes (with_waiter (Some who))) l.tasks) g f e (gives_this _ _ _) (holds_update _ _ n.board.tasks.pool l.tasks t.0 (with_notes (with_waiter (Some who))) x v.tasks g)
+waited n l who t true v up x (Running w k) g f e d = looked n l who t true v up x (Running w k) _ _ (update t.0 (with_notes (with_waiter None)) l.tasks) g f e (gives_this _ _ _) (holds_update _ _ n.board.tasks.pool l.tasks t.0 (with_notes (with_waiter None)) x v.tasks g)
+waited n l who t false v up x (Running w k) g f e d = looked n l who t false v up x (Running w k) _ _ (update t.0 (with_notes (with_waiter (Some who))) l.tasks) g f e (gives_this _ _ _) (holds_update _ _ n.board.tasks.pool l.tasks t.0 (with_notes (with_waiter (Some who))) x v.tasks g)
 waited n l who t last v up x (Over y k) g f e d = absurd (cc)
 
 look_found : (n : Node) (l : Lists) (who : ℕ) (t : TaskHandle) (last : Bool) (v : Live n l) (up : is_up n.core.phase ≡ true) (x : Task) (s : TaskState) → get n.board.tasks.pool t.0 ≡ Some x → first (task_look_refusals who x) ≡ None → x.state ≡ s →
-    Steps n l who (op.TaskLook t last) (look_said (look_at_end (end_of s) last)) (record n { board = record n.board { tasks = with_pool n (cond (is_none (end_of s)) (with_value n.board.tasks.pool t.0 (with_waiter (waiter_after who last) x)) (without n.board.tasks.pool t.0)) } })
+    Steps n l who (op.TaskLook t last) (look_said (look_at_end (end_of s) last)) (record n { board = record n.board { tasks = with_pool n (cond (is_none (end_of s)) (with_value n.board.tasks.pool t.0 (with_notes (with_waiter (waiter_after who last)) x)) (without n.board.tasks.pool t.0)) } })
 look_found n l who t last v up x Scheduled g f e = waited n l who t last v up x Scheduled g f e refl
 look_found n l who t last v up x (Running w k) g f e = waited n l who t last v up x (Running w k) g f e refl
 look_found n l who t last v up x (Over y k) g f e = looked n l who t last v up x (Over y k) _ _ (retire t.0 l.tasks) g f e (gives_this _ _ _) (holds_remove _ _ n.board.tasks.pool l.tasks t.0 x v.tasks g)
 
 look_live : (n : Node) (l : Lists) (who : ℕ) (t : TaskHandle) (last : Bool) (v : Live n l) (up : is_up n.core.phase ≡ true) (x : Task) (f : Option MtapiStatus) → get n.board.tasks.pool t.0 ≡ Some x → first (task_look_refusals who x) ≡ f →
     Steps n l who (op.TaskLook t last) (look_said (look_unless f (look_at_end (end_of x.state) last)))
-    (record n { board = record n.board { tasks = with_pool n (cond (is_some f) n.board.tasks.pool (cond (is_none (end_of x.state)) (with_value n.board.tasks.pool t.0 (with_waiter (waiter_after who last) x)) (without n.board.tasks.pool t.0))) } })
+    (record n { board = record n.board { tasks = with_pool n (cond (is_some f) n.board.tasks.pool (cond (is_none (end_of x.state)) (with_value n.board.tasks.pool t.0 (with_notes (with_waiter (waiter_after who last)) x)) (without n.board.tasks.pool t.0))) } })
 look_live n l who t last v up x (Some c) g f = look_refused n l who t last v up x c g f
 look_live n l who t last v up x None g f = look_found n l who t last v up x x.state g f refl
 
@@ -192,11 +192,11 @@ cancel_scheduled n l who t q v up e d =
     told n l q (ended_tasks n t.0 Cancelled (Some x.0)) who _ _ (d ∙ ap (λ (o : Option Task). ended_tasks n t.0 Cancelled o) x.1)
     (end_steps n l who (op.TaskCancel t) reply.Ok t.0 Cancelled x.0 v x.1 tt (cancel_at n l who t x.0 Scheduled _ v up x.1 s (gives_this _ _ _)))
 
-pub cancel_running : (n : Node) (l : Lists) (who : ℕ) (t : TaskHandle) (w : ℕ) (k : Kind) (q : TaskTable) → Live n l → is_up n.core.phase ≡ true → Some (shown.Running w k) ≡ option_map (λ (x : Task). shown_state x.state) (get n.board.tasks.pool t.0) → q ≡ with_pool n (changed n.board.tasks.pool t.0 cancel_requested) → Steps n l who (op.TaskCancel t) reply.Ok (record n { board = record n.board { tasks = q } })
+pub cancel_running : (n : Node) (l : Lists) (who : ℕ) (t : TaskHandle) (w : ℕ) (k : Kind) (q : TaskTable) → Live n l → is_up n.core.phase ≡ true → Some (shown.Running w k) ≡ option_map (λ (x : Task). shown_state x.state) (get n.board.tasks.pool t.0) → q ≡ with_pool n (changed n.board.tasks.pool t.0 (with_notes cancel_requested)) → Steps n l who (op.TaskCancel t) reply.Ok (record n { board = record n.board { tasks = q } })
 cancel_running n l who t w k q v up e d =
     let x = state_found (get n.board.tasks.pool t.0) (shown.Running w k) e in
     let s = shown_running x.0.state w k x.2 in
     told n l q _ who _ _ d
-    (task_steps n l (with_pool n (changed n.board.tasks.pool t.0 cancel_requested)) (update t.0 cancel_requested l.tasks) who (op.TaskCancel t) reply.Ok v
+    (task_steps n l (with_pool n (changed n.board.tasks.pool t.0 (with_notes cancel_requested))) (update t.0 (with_notes cancel_requested) l.tasks) who (op.TaskCancel t) reply.Ok v
     (cancel_at n l who t x.0 (Running w k) _ v up x.1 s (gives_this _ _ _))
-    (holds_changed _ _ n.board.tasks.pool l.tasks t.0 cancel_requested v.tasks) (omega arith) tt)
+    (holds_changed _ _ n.board.tasks.pool l.tasks t.0 (with_notes cancel_requested) v.tasks) (omega arith) tt)

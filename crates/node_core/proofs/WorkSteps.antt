@@ -12,18 +12,16 @@ use Rattle.mtapi_values.specs.Conditions.{first}
 use Rattle.action_fn.specs.Answers.{Answered, IsAnswered}
 use Rattle.handle_pool.specs.Slots.{get, with_value, put, changed}
 use Rattle.handle_pool.specs.Issued.{Listed, update}
-use Rattle.mtapi_objects.specs.Tasks.{Task, runs_as, finish_refusals, asked_refusals, asked_once, watch_end_refusals, watch_end}
+use Rattle.mtapi_objects.specs.Tasks.{Task, with_notes, runs_as, finish_refusals, asked_refusals, asked_once, watch_end_refusals, watch_end}
 use Rattle.task_core.specs.Answers.{asked_of, after_asked, watch_end_of, unless_refused}
 use Rattle.task_core.specs.Table.{TaskTable}
 use Rattle.mtapi_machine.specs.declared.ops.Op.{Op}
 use Rattle.mtapi_machine.specs.declared.ops.Op.TheVariants as op
 use Rattle.mtapi_machine.specs.declared.replies.Reply.{Reply}
 use Rattle.mtapi_machine.specs.declared.replies.Reply.TheVariants as reply
-use Rattle.mtapi_machine.specs.Moves.{noted, notes}
-use Rattle.mtapi_machine.specs.Row.{gives}
-use Rattle.mtapi_machine.specs.Rows.{task_end}
+use Rattle.mtapi_machine.specs.WorkRows.{task_end}
 use Rattle.std.specs.Option.{option_map}
-use Rattle.mtapi_machine.proofs.Drops.{update-same}
+use Rattle.mtapi_machine.proofs.Changes.{update-same}
 use Rattle.node_core.specs.declared.node.Node.{Node}
 use Rattle.node_core.specs.Stands.{Lists, Holds, Live, Steps, state_of}
 use Rattle.node_core.proofs.Gives.{Gives, gives_this, past, met_in, past_all, at_some, at_none, stays}
@@ -33,14 +31,6 @@ use Rattle.node_core.proofs.TaskSteps.{task_steps, with_pool, told, ended_tasks,
 -- a worker's seat
 pub is_worker : (who workers : ℕ) → who < workers → not (nat_lt who workers) ≡ false
 is_worker who workers l = grind (arith, nat_tests)
-
--- an ask changes only what is noted of the task
-asked_noted : (t : Task) → noted asked_once t ≡ asked_once t
-asked_noted t = by_request t.requested
-  where
-    by_request : (b : Bool) → noted (λ u. cond b (record u { seen = true }) (record u { looks = u.looks + 1 })) t ≡ cond b (record t { seen = true }) (record t { looks = t.looks + 1 })
-    by_request true = refl
-    by_request false = refl
 
 -- Finishing
 
@@ -74,16 +64,13 @@ module _ (n : Node) (l : Lists) (who : ℕ) (t : TaskHandle) (v : Live n l) (w :
       stays n l who asks (reply.Mtapi c) v tt
       (past _ _ _ _ _ _ (is_worker who _ w) (at_some _ _ _ x _ _ _ (found _ _ n.board.tasks.pool l.tasks t.0 (Some x) v.tasks g) (met_in _ (asked_refusals who x) c _ f)))
 
-  asked_told : (x : Task) → get n.board.tasks.pool t.0 ≡ Some x → first (asked_refusals who x) ≡ None → Steps n l who asks (reply.Asked x.requested) (record n { board = record n.board { tasks = with_pool n (changed n.board.tasks.pool t.0 asked_once) } })
+  asked_told : (x : Task) → get n.board.tasks.pool t.0 ≡ Some x → first (asked_refusals who x) ≡ None → Steps n l who asks (reply.Asked x.notes.requested) (record n { board = record n.board { tasks = with_pool n (changed n.board.tasks.pool t.0 (with_notes asked_once)) } })
   asked_told x g f =
-      task_steps n l (with_pool n (changed n.board.tasks.pool t.0 asked_once)) (update t.0 asked_once l.tasks) who asks (reply.Asked x.requested) v
-      (past _ _ _ _ _ _ (is_worker who _ w) (at_some _ _ _ x _ _ _ (found _ _ n.board.tasks.pool l.tasks t.0 (Some x) v.tasks g) (past_all _ _ (asked_refusals who x) _ _ f asks_once)))
-      (holds_changed _ _ n.board.tasks.pool l.tasks t.0 asked_once v.tasks) (omega arith) tt
-    where
-      asks_once : Gives (state_of n l) (gives (reply.Asked x.requested) (notes t.0 asked_once ∷ [])) (reply.Asked x.requested) (record (state_of n l) { tasks = update t.0 asked_once l.tasks })
-      asks_once = record { allowed = refl; leads = λ i. record (state_of n l) { tasks = update t.0 (λ u. asked_noted u i) l.tasks } }
+      task_steps n l (with_pool n (changed n.board.tasks.pool t.0 (with_notes asked_once))) (update t.0 (with_notes asked_once) l.tasks) who asks (reply.Asked x.notes.requested) v
+      (past _ _ _ _ _ _ (is_worker who _ w) (at_some _ _ _ x _ _ _ (found _ _ n.board.tasks.pool l.tasks t.0 (Some x) v.tasks g) (past_all _ _ (asked_refusals who x) _ _ f (gives_this _ _ _))))
+      (holds_changed _ _ n.board.tasks.pool l.tasks t.0 (with_notes asked_once) v.tasks) (omega arith) tt
 
-  asked_at : (x : Task) (f : Option MtapiStatus) → get n.board.tasks.pool t.0 ≡ Some x → first (asked_refusals who x) ≡ f → Steps n l who asks (asked_said (unless_refused f x.requested)) (record n { board = record n.board { tasks = with_pool n (changed n.board.tasks.pool t.0 (after_asked who)) } })
+  asked_at : (x : Task) (f : Option MtapiStatus) → get n.board.tasks.pool t.0 ≡ Some x → first (asked_refusals who x) ≡ f → Steps n l who asks (asked_said (unless_refused f x.notes.requested)) (record n { board = record n.board { tasks = with_pool n (changed n.board.tasks.pool t.0 (after_asked who)) } })
   asked_at x (Some c) g f =
       task_steps n l (with_pool n (changed n.board.tasks.pool t.0 (after_asked who))) l.tasks who asks (reply.Mtapi c) v
       (past _ _ _ _ _ _ (is_worker who _ w) (at_some _ _ _ x _ _ _ (found _ _ n.board.tasks.pool l.tasks t.0 (Some x) v.tasks g) (met_in _ (asked_refusals who x) c _ f)))
@@ -91,17 +78,17 @@ module _ (n : Node) (l : Lists) (who : ℕ) (t : TaskHandle) (v : Live n l) (w :
       (omega arith) tt
     where
       same : after_asked who x ≡ x
-      same = ap (λ (o : Option MtapiStatus). cond (is_none o) (asked_once x) x) f
-  asked_at x None g f = told n l _ (with_pool n (changed n.board.tasks.pool t.0 asked_once)) who asks _ (ap (with_pool n) same) (asked_told x g f)
+      same = ap (λ (o : Option MtapiStatus). cond (is_none o) (with_notes asked_once x) x) f
+  asked_at x None g f = told n l _ (with_pool n (changed n.board.tasks.pool t.0 (with_notes asked_once))) who asks _ (ap (with_pool n) same) (asked_told x g f)
     where
-      once : after_asked who x ≡ asked_once x
-      once = ap (λ (o : Option MtapiStatus). cond (is_none o) (asked_once x) x) f
+      once : after_asked who x ≡ with_notes asked_once x
+      once = ap (λ (o : Option MtapiStatus). cond (is_none o) (with_notes asked_once x) x) f
 
       becomes : (h : Task → Task) → changed n.board.tasks.pool t.0 h ≡ with_value n.board.tasks.pool t.0 (h x)
       becomes h = ap (λ (o : Option Task). put n.board.tasks.pool t.0 (option_map h o)) g
 
-      same : changed n.board.tasks.pool t.0 (after_asked who) ≡ changed n.board.tasks.pool t.0 asked_once
-      same = becomes (after_asked who) ∙ (ap (with_value n.board.tasks.pool t.0) once ∙ sym (becomes asked_once))
+      same : changed n.board.tasks.pool t.0 (after_asked who) ≡ changed n.board.tasks.pool t.0 (with_notes asked_once)
+      same = becomes (after_asked who) ∙ (ap (with_value n.board.tasks.pool t.0) once ∙ sym (becomes (with_notes asked_once)))
 
   asked_steps : (o : Option Task) → get n.board.tasks.pool t.0 ≡ o → Steps n l who asks (asked_said (asked_of who o)) (record n { board = record n.board { tasks = with_pool n (changed n.board.tasks.pool t.0 (after_asked who)) } })
   asked_steps None g = told n l _ n.board.tasks who asks _ (ap (λ (o : Option Task). with_pool n (put n.board.tasks.pool t.0 (option_map (after_asked who) o))) g) (asked_none g)

@@ -9,7 +9,7 @@ use Rattle.ready_index.specs.Marks.{mark_at, is_for_at}
 use Rattle.mtapi_objects.specs.Tasks.{Task, is_unstarted, runs_on}
 use Rattle.task_board.specs.Board.{BoardTable, running_on}
 use Rattle.mtapi_machine.specs.State.{State, workers}
-use Rattle.mtapi_machine.specs.Rows.{can_take}
+use Rattle.mtapi_machine.specs.WorkRows.{can_take}
 
 pub record Keeps (s : State) (b : BoardTable) : Type 0 where
   -- a slot is marked for a worker, with a priority, exactly where its task is ready, has this priority, and has an eligible action on this worker

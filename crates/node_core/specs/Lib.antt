@@ -1,6 +1,6 @@
 pub mod Keeps
 pub mod Stands
 pub mod Picks
-pub mod Starts
+pub mod Supported
 pub mod Journals
 pub mod Logs

@@ -86,11 +86,13 @@ some_journal_terms = record { node = some_terms; keeps = false }
 
 -- the journal is one of a node with these terms
 pub record HasTerms (t : Terms) (j : Journal) : Type 0 where
+  pub layout : j.layout ≡ t.layout
   pub settings : j.settings ≡ t.settings
   pub callers : j.callers ≡ t.callers
 
 -- the journal of a list: the node's terms, and the kept entries with their numbers, which are legal and lead to the same state
 pub record KeptAs (t : Terms) (j : Journal) (L : List NodeEntry) : Type 0 where
+  pub layout : j.layout ≡ t.layout
   pub settings : j.settings ≡ t.settings
   pub callers : j.callers ≡ t.callers
   pub entries : j.entries.entries ≡ kept (opening t) L
@@ -102,4 +104,4 @@ pub record KeptAs (t : Terms) (j : Journal) (L : List NodeEntry) : Type 0 where
 abbrev pub IsJournal : Terms → Kept → Result (Option Journal) AllocError → Type 0
 IsJournal t Nothing r = r ≡ Ok None
 IsJournal t Lost r = r ≡ Err alloc_error
-IsJournal t (Entries k) r = r ≡ Ok (Some (record { settings = t.settings; callers = t.callers; entries = k }))
+IsJournal t (Entries k) r = r ≡ Ok (Some (record { layout = t.layout; settings = t.settings; callers = t.callers; entries = k }))

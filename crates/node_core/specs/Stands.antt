@@ -6,10 +6,11 @@ use Rattle.handle_pool.specs.Issued.{Listed}
 use Rattle.handle_pool.specs.Stands.{Stands as SlotsStand}
 use Rattle.mtapi_objects.specs.Actions.{Action}
 use Rattle.mtapi_objects.specs.Tasks.{Task}
+use Rattle.mtapi_values.specs.declared.handles.Layout.TheVariants.{One}
 use Rattle.mtapi_machine.specs.declared.terms.Terms.{Terms}
 use Rattle.mtapi_machine.specs.declared.ops.Op.{Op}
 use Rattle.mtapi_machine.specs.declared.replies.Reply.{Reply}
-use Rattle.mtapi_machine.specs.State.{State}
+use Rattle.mtapi_machine.specs.State.{State, terms_of as node_terms}
 use Rattle.mtapi_machine.specs.Row.{Allows, after_row}
 use Rattle.mtapi_machine.specs.Rows.{row}
 use Rattle.mtapi_machine.specs.Legal.{NodeEntry, IsHonest, Legal, after}
@@ -21,14 +22,14 @@ pub record Lists : Type 0 where
   pub actions : List (Listed Action)
   pub tasks : List (Listed Task)
 
--- what no op changes
+-- what no op changes; handles are those of layout one
 abbrev pub terms_of : Node → Terms
-terms_of n = record { settings = n.board.settings; callers = n.core.callers }
+terms_of n = node_terms One n.board.settings n.core.callers
 
 -- the state of the machine that has these lists, and all else as the node has it; of the other kinds no object was made
 abbrev pub state_of : Node → Lists → State
 state_of n l = record {
-  terms = record { settings = n.board.settings; callers = n.core.callers };
+  terms = terms_of n;
   phase = n.core.phase;
   released = n.core.released;
   stopped = n.core.stopped;
@@ -86,6 +87,7 @@ seat_count t = t.settings.workers + t.callers
 -- terms of a node: the usual settings, and main alone
 abbrev pub some_terms : Terms
 some_terms = record {
+  layout = One;
   settings = record { workers = 1; tasks = 1024; actions = 64; groups = 128; queues = 16; objects = 16; priorities = 4; generations = 4294967295 };
   callers = 1;
 }

@@ -3,7 +3,7 @@
 ghost use Rattle.std.specs.Prelude.{◌≡◌, [], ◌∷◌, ◌++◌, length, IfOk, IsErr};
 
 use mtapi_machine::Entry;
-use mtapi_values::NodeAttr;
+use mtapi_values::{Layout, NodeAttr};
 use std::alloc::{AllocError, Global};
 use std::marker::Model;
 
@@ -67,6 +67,8 @@ impl EntryList {
 /// The entries that were kept of a history of a node, and the terms of the node.
 #[derive(Drop)]
 pub struct Journal {
+    /// How a handle is made of a generation and a slot.
+    pub layout: Layout,
     /// The settings of the node.
     pub settings: NodeAttr,
     /// The number of callers, main included.

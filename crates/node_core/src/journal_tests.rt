@@ -3,10 +3,11 @@
 use crate::entries::EntryList;
 use crate::journaled::Journaled;
 use crate::node::Node;
+use crate::node_ops::NodeOp;
 use crate::run_journals::journal_of;
 use history::Object;
 use mtapi_machine::{Entry, Op, Reply};
-use mtapi_values::{Args, Kind, Mask, NodeAttr, TaskEnd, TaskHandle};
+use mtapi_values::{Args, Kind, Layout, Mask, NodeAttr, TaskEnd, TaskHandle};
 use std::marker::Model;
 use std::test::Fail;
 use turn_cell::TurnCell;
@@ -32,7 +33,7 @@ impl Model for Called {
 
 impl Called {
     // One call, in a word. None where the seat isn't one, or after a hundred calls.
-    fn call(&mut self, who: u32, op: Op) -> Option<&'static str> {
+    fn call(&mut self, who: u32, op: NodeOp) -> Option<&'static str> {
         if who >= self.node.seats() || self.calls >= 100 {
             return None;
         }
@@ -54,36 +55,36 @@ fn word(reply: &Reply) -> &'static str {
     }
 }
 
-fn look(last: bool) -> Op {
-    Op::TaskLook {
+fn look(last: bool) -> NodeOp {
+    NodeOp::new(Op::TaskLook {
         task: TaskHandle(4294967296),
         last,
-    }
+    })
 }
 
-fn cancel() -> Op {
-    Op::TaskCancel {
+fn cancel() -> NodeOp {
+    NodeOp::new(Op::TaskCancel {
         task: TaskHandle(4294967296),
-    }
+    })
 }
 
-fn action() -> Op {
-    Op::ActionCreate {
+fn action() -> NodeOp {
+    NodeOp::new(Op::ActionCreate {
         job: 1,
         kind: Kind::Add,
         cores: Mask(1),
-    }
+    })
 }
 
-fn start() -> Op {
-    Op::TaskStart {
+fn start() -> NodeOp {
+    NodeOp::new(Op::TaskStart {
         job: 1,
         args: Args::new(),
         priority: 0,
         cores: Mask(1),
         detached: false,
         group: None,
-    }
+    })
 }
 
 #[test]
@@ -94,24 +95,24 @@ fn pending_looks_are_counted_and_idle_picks_are_left_out(rt: HostRuntime) -> Res
         calls: 0,
     };
     for (who, op, reply) in [
-        (1, Op::Initialize, "ok"),
-        (2, Op::Enter, "pending"),
-        (2, Op::Enter, "pending"),
-        (0, Op::Pick, "idle"),
-        (1, Op::Release, "ok"),
-        (2, Op::Enter, "ok"),
+        (1, NodeOp::new(Op::Initialize), "ok"),
+        (2, NodeOp::new(Op::Enter), "pending"),
+        (2, NodeOp::new(Op::Enter), "pending"),
+        (0, NodeOp::new(Op::Pick), "idle"),
+        (1, NodeOp::new(Op::Release), "ok"),
+        (2, NodeOp::new(Op::Enter), "ok"),
         (1, action(), "handle"),
-        (0, Op::Pick, "idle"),
+        (0, NodeOp::new(Op::Pick), "idle"),
         (1, start(), "handle"),
         (2, look(false), "pending"),
         (2, look(false), "pending"),
         (2, look(false), "pending"),
         (1, cancel(), "ok"),
-        (0, Op::Pick, "idle"),
+        (0, NodeOp::new(Op::Pick), "idle"),
         (2, look(true), "cancelled"),
-        (1, Op::Close, "ok"),
-        (0, Op::Pick, "stop"),
-        (1, Op::Final, "ok"),
+        (1, NodeOp::new(Op::Close), "ok"),
+        (0, NodeOp::new(Op::Pick), "stop"),
+        (1, NodeOp::new(Op::Final), "ok"),
     ] {
         assert_eq!(rt; called.call(who, op), Some(reply));
     }
@@ -164,7 +165,7 @@ fn none_is_kept_without(rt: HostRuntime) -> Result<(), Fail> {
     let node = Node::init(rt.alloc(), NodeAttr::new(), 1)?;
     let mut node = Journaled::without(node);
     assert!(rt; !node.told_terms().keeps);
-    assert!(rt; matches!(node.apply(1, Op::Initialize), Reply::Ok));
+    assert!(rt; matches!(node.apply(1, NodeOp::new(Op::Initialize)), Reply::Ok));
     assert!(rt; matches!(node.into_journal(), Ok(None)));
     Ok(())
 }
@@ -180,15 +181,16 @@ fn a_closed_cell_gives_its_journal(rt: HostRuntime) -> Result<(), Fail> {
     let Some(mut worker) = seats.pop() else {
         unreachable!()
     };
-    let opened = cell.call(&rt, &mut main, Op::Initialize);
+    let opened = cell.call(&rt, &mut main, NodeOp::new(Op::Initialize));
     assert!(rt; matches!(opened, Ok(Reply::Ok)));
-    let idle = cell.call(&rt, &mut worker, Op::Pick);
+    let idle = cell.call(&rt, &mut worker, NodeOp::new(Op::Pick));
     assert!(rt; matches!(idle, Ok(Reply::Idle)));
     seats.push(worker)?;
     seats.push(main)?;
     let run = journal_of(cell.close(seats))?;
     let journal = run.journal();
     assert_eq!(rt; (journal.callers, journal.settings), (1, NodeAttr::new()));
+    assert_eq!(rt; journal.layout, Layout::One);
     let entries = journal.entries.as_slice();
     assert_eq!(rt; entries.len(), 1);
     for entry in entries {

@@ -11,6 +11,7 @@ ghost use Rattle.node_core.specs.Logs.{copy_for, AddsTo, Logs, StandsKept, HasTe
 
 use crate::entries::{EntryList, Journal};
 use crate::node::Node;
+use crate::node_ops::NodeOp;
 use crate::walks::is_seat;
 use history::Object;
 use mtapi_machine::{Entry, Op, Reply, Terms};
@@ -35,10 +36,10 @@ fn is_pending(reply: &Reply) -> bool
 
 impl Node {
     // Where this op is answered Pending, does the state stay as it was?
-    fn pends_alike(&self, who: u32, op: &Op) -> bool
+    fn pends_alike(&self, who: u32, op: &NodeOp) -> bool
         ensures { (l : Lists) → Live self.now l → pends_alike (state_of self.now l) who op.now ≡ result }
     {
-        match op {
+        match op.op() {
             Op::TaskLook { task, .. } => match self.board.task(*task) {
                 Some(found) => is_seat(who, found.waiter()),
                 None => false,
@@ -60,11 +61,11 @@ enum Kept {
 
 impl Kept {
     // The op once more, where entries are kept.
-    fn copy_for(&self, op: &Op) -> Option<Op>
+    fn copy_for(&self, op: &NodeOp) -> Option<Op>
         ensures { result ≡ copy_for self.now op.now }
     {
         match self {
-            Kept::Entries(_) => Some(op.again()),
+            Kept::Entries(_) => Some(op.op().again()),
             Kept::Nothing | Kept::Lost => None,
         }
     }
@@ -139,7 +140,7 @@ pub struct JournaledTerms {
 }
 
 impl Object for Journaled {
-    type Op = Op;
+    type Op = NodeOp;
 
     type Reply = Reply;
 
@@ -173,7 +174,7 @@ impl Object for Journaled {
         }
     }
 
-    fn apply(&mut self, who: u32, op: Op) -> Reply {
+    fn apply(&mut self, who: u32, op: NodeOp) -> Reply {
         let alike = self.node.pends_alike(who, &op);
         let copy = self.log.kept.copy_for(&op);
         let reply = self.node.step(who, op);
@@ -234,6 +235,7 @@ fn journal_in(kept: Kept, terms: &Terms) -> Result<Option<Journal>, AllocError>
         Kept::Nothing => Ok(None),
         Kept::Lost => Err(AllocError),
         Kept::Entries(entries) => Ok(Some(Journal {
+            layout: terms.layout,
             settings: terms.settings,
             callers: terms.callers,
             entries,

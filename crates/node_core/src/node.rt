@@ -2,8 +2,10 @@
 
 ghost use Rattle.std.specs.Prelude.{◌≡◌, ◌^◌, ◌<◌, ◌≤◌, [], IfOk};
 ghost use Rattle.mtapi_values.specs.Attributes.{AreNodeSettings};
+ghost use Rattle.mtapi_values.specs.declared.handles.Layout.TheVariants.{One};
 ghost use Rattle.node_core.specs.Stands.{Lists, Live, Steps, Stands, terms_of};
 
+use crate::node_ops::NodeOp;
 use mtapi_machine::{Op, Phase, Reply};
 use mtapi_values::NodeAttr;
 use std::alloc::{AllocError, Global};
@@ -47,7 +49,7 @@ impl Node {
     pub fn init(alloc: Global, attr: NodeAttr, callers: u32) -> Result<Node, AllocError>
         requires some_caller { 1 ≤ callers }
         requires few_callers { callers ≤ 9 }
-        ensures terms { IfOk result (λ n. terms_of n ≡ record { settings = attr; callers = callers }) }
+        ensures terms { IfOk result (λ n. terms_of n ≡ record { layout = One; settings = attr; callers = callers }) }
         ensures stands { IfOk result (λ n. Stands n []) }
     {
         read_ranges(&attr);
@@ -72,11 +74,11 @@ impl Node {
     }
 
     // One op, by its own method.
-    pub(crate) fn dispatch(&mut self, who: u32, op: Op) -> Reply
+    pub(crate) fn dispatch(&mut self, who: u32, op: NodeOp) -> Reply
         requires { self.old.board.tasks.starts < 2 ^ 63 }
         ensures { (l : Lists) → Live self.old l → Steps self.old l who op result self.new }
     {
-        match op {
+        match op.into_op() {
             Op::Initialize => self.initialize(),
             Op::Release => self.release(),
             Op::Enter => self.enter(),
@@ -99,6 +101,8 @@ impl Node {
             Op::Finish { task, done } => self.finish(who, task, done),
             Op::Asked { task } => self.asked(who, task),
             Op::WatchEnd { task } => self.watch_end(who, task),
+            // No `NodeOp` is another op.
+            _ => unreachable!(),
         }
     }
 }

@@ -6,11 +6,13 @@ ghost use Rattle.mtapi_machine.specs.Legal.{NodeEntry};
 ghost use Rattle.node_core.specs.Stands.{Stands, terms_of, seat_count};
 
 use crate::node::Node;
+use crate::node_ops::NodeOp;
 use history::Object;
-use mtapi_machine::{Op, Reply};
+use mtapi_machine::Reply;
+use mtapi_values::Layout;
 
 impl Object for Node {
-    type Op = Op;
+    type Op = NodeOp;
 
     type Reply = Reply;
 
@@ -40,12 +42,13 @@ impl Object for Node {
 
     fn told_terms(&self) -> mtapi_machine::Terms {
         mtapi_machine::Terms {
+            layout: Layout::One,
             settings: *self.board.settings(),
             callers: u32::from(self.core.callers),
         }
     }
 
-    fn apply(&mut self, who: u32, op: Op) -> Reply {
+    fn apply(&mut self, who: u32, op: NodeOp) -> Reply {
         let reply = self.dispatch(who, op);
         self.board.is_kept();
         reply
@@ -54,7 +57,7 @@ impl Object for Node {
 
 impl Node {
     /// One op by the seat `who`: it does what `apply` does.
-    pub fn step(&mut self, who: u32, op: Op) -> Reply
+    pub fn step(&mut self, who: u32, op: NodeOp) -> Reply
         requires seat { who < seat_count (terms_of self.old) }
         requires room { (L : List NodeEntry) × Stands self.old L × (length L < 2 ^ 62 + 16) }
         ensures terms { terms_of self.new ≡ terms_of self.old }

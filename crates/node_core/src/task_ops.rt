@@ -4,10 +4,9 @@ ghost use Rattle.std.specs.Prelude.{◌≡◌, ◌≤◌, ◌<◌, ◌^◌, ℕ,
 ghost use Rattle.mtapi_values.specs.Conditions.{first};
 ghost use Rattle.mtapi_values.specs.Masks.{in_mask};
 ghost use Rattle.mtapi_objects.specs.Actions.{some_below};
-ghost use Rattle.mtapi_machine.specs.Rows.{start_refusals, is_detached_member};
+ghost use Rattle.mtapi_machine.specs.TaskRows.{asked_for, start_refusals, is_detached_member};
 ghost use Rattle.mtapi_machine.specs.declared.ops.Op.TheVariants as op;
 ghost use Rattle.node_core.specs.Stands.{Lists, Live, Steps, state_of};
-ghost use Rattle.node_core.specs.Starts.{asked_for};
 
 use crate::node::Node;
 use crate::phase_ops::{is_open, is_up};

@@ -1,10 +1,12 @@
 //! Nodes that are asked one op after another, against worked rows.
 
-ghost use Rattle.std.specs.Prelude.{IfOk};
+ghost use Rattle.std.specs.Prelude.{◌≡◌, true, IfOk};
 ghost use Rattle.node_core.specs.Logs.{StandsForFew};
+ghost use Rattle.node_core.specs.Supported.{is_supported};
 
 use crate::journaled::Journaled;
 use crate::node::Node;
+use crate::node_ops::NodeOp;
 use action_fn::{Finished, act_add, act_div};
 use history::Object;
 use mtapi_machine::{Op, Reply};
@@ -39,13 +41,14 @@ fn new_node(alloc: Global, workers: u64, tasks: u64, generations: u64) -> Result
 impl Asked {
     // Asks one op. None where the seat isn't one, or after too many ops.
     fn ask(&mut self, who: u32, op: Op) -> Option<Reply>
-        requires { StandsForFew self.old.node self.old.asked }
+        requires stands { StandsForFew self.old.node self.old.asked }
+        requires supported { is_supported op ≡ true }
         ensures { StandsForFew self.new.node self.new.asked }
     {
         if who >= self.node.seats() || self.asked >= MOST {
             return None;
         }
-        let reply = self.node.apply(who, op);
+        let reply = self.node.apply(who, NodeOp::new(op));
         self.asked += 1;
         Some(reply)
     }
@@ -94,13 +97,17 @@ fn is_cancelled(reply: Option<Reply>) -> bool {
     matches!(reply, Some(Reply::Ended(TaskEnd::Cancelled)))
 }
 
-fn start(number: i64, cores: u64) -> Op {
+fn start(number: i64, cores: u64) -> Op
+    ensures { is_supported result ≡ true }
+{
     let mut args = Args::new();
     let _ = args.push(number);
     start_with(args, 0, cores)
 }
 
-fn start_with(args: Args, priority: u32, cores: u64) -> Op {
+fn start_with(args: Args, priority: u32, cores: u64) -> Op
+    ensures { is_supported result ≡ true }
+{
     Op::TaskStart {
         job: 1,
         args,
@@ -111,7 +118,9 @@ fn start_with(args: Args, priority: u32, cores: u64) -> Op {
     }
 }
 
-fn look(task: u64, last: bool) -> Op {
+fn look(task: u64, last: bool) -> Op
+    ensures { is_supported result ≡ true }
+{
     Op::TaskLook {
         task: TaskHandle(task),
         last,
@@ -325,7 +334,7 @@ fn watches(rt: HostRuntime) -> Result<(), Fail> {
 fn a_node_without_a_journal(rt: HostRuntime) -> Result<(), Fail> {
     let mut node = Node::init(rt.alloc(), NodeAttr::new(), 1)?;
     assert_eq!(rt; node.settings().workers(), 1);
-    assert!(rt; matches!(node.step(1, Op::Initialize), Reply::Ok));
+    assert!(rt; matches!(node.step(1, NodeOp::new(Op::Initialize)), Reply::Ok));
     assert!(rt; matches!(Journaled::without(node).into_journal(), Ok(None)));
     Ok(())
 }

@@ -24,6 +24,7 @@ fn kind_number(kind: Kind) -> u32
         Kind::Triangle => 7,
         Kind::Fail => 8,
         Kind::Watch => 9,
+        Kind::Tally => 10,
     }
 }
 

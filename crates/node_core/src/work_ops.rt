@@ -6,7 +6,7 @@ ghost use Rattle.handle_pool.specs.Slots.{get, NoneLive};
 ghost use Rattle.handle_pool.specs.Issued.{any};
 ghost use Rattle.job_table.specs.Answers.{Passes};
 ghost use Rattle.mtapi_objects.specs.Tasks.{runs_on};
-ghost use Rattle.mtapi_machine.specs.Rows.{task_end};
+ghost use Rattle.mtapi_machine.specs.WorkRows.{task_end};
 ghost use Rattle.mtapi_machine.specs.State.{is_stop};
 ghost use Rattle.mtapi_machine.specs.declared.ops.Op.TheVariants as op;
 ghost use Rattle.node_core.specs.Stands.{Lists, Live, Steps, state_of};

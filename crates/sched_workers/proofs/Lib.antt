@@ -1,13 +1,4 @@
 pub mod Rows
-pub mod Fair
-pub mod Counts
-pub mod Picks
-pub mod Worked
-pub mod Phases
-pub mod Going
-pub mod Carrying
-pub mod Opening
-pub mod Closing
-pub mod Run
+pub mod TurnLists
 pub mod Left
 pub mod Joins

@@ -1,5 +1,7 @@
 -- Reading the rows of the machine: which reply a row allows, and which state it gives.
-use Rattle.std.proofs.Common.{◌≡◌, ℕ, Bool, true, false, List, Option, Some, None, refl, sym, subst}
+use Rattle.std.proofs.Common.{◌≡◌, ℕ, ◌<◌, Bool, true, false, not, List, Option, Some, None, refl, sym, ◌∙◌, ap, subst}
+use Rattle.std.specs.Prelude.{nat_lt}
+use Rattle.std.proofs.lemmas.Bool.{lt-ltb}
 use Rattle.mtapi_values.specs.declared.statuses.MtapiStatus.{MtapiStatus}
 use Rattle.mtapi_machine.specs.declared.replies.Reply.{Reply}
 use Rattle.mtapi_machine.specs.declared.replies.Reply.TheVariants.{Ok, Handle, Mtapi}
@@ -9,11 +11,12 @@ use Rattle.mtapi_objects.specs.Tasks.{Task, TaskState, Scheduled, Running, Over}
 use Rattle.handle_pool.specs.Issued.{at}
 use Rattle.mtapi_machine.specs.State.{State}
 use Rattle.mtapi_machine.specs.Moves.{Move}
-use Rattle.mtapi_machine.specs.Row.{Row, unless, gives, never, Allows, only, live}
-use Rattle.mtapi_machine.specs.Rows.{row, looks_at, cancels}
+use Rattle.mtapi_machine.specs.Row.{Row, unless, gives, never, Allows, after_row, only, live}
+use Rattle.mtapi_machine.specs.TaskRows.{looks_at, cancels}
+use Rattle.mtapi_machine.specs.Rows.{row}
 use Rattle.mtapi_machine.specs.Kept.{is_pending, drops}
 use Rattle.sched_workers.specs.Lines.{is_late}
-use Rattle.sched_workers.specs.Good.{IsOnce}
+use Rattle.sched_workers.specs.Calls.{IsOnce}
 
 -- P of every reply that the row may allow
 abbrev pub AllSays : (Reply → Type 0) → Row → Type 0
@@ -71,16 +74,7 @@ once_says s who (op.ActionEnable a) r i = (settles_mtapi _, on_live Settles (at 
 once_says s who (op.TaskStart job args priority cores detached group) r i =
     (settles_mtapi _, (settles_mtapi _, (settles_mtapi _, (settles_mtapi _, (settles_mtapi _, (settles_mtapi _, (settles_mtapi _, on_only Settles _ _ _ (settles_handle _))))))))
 once_says s who (op.TaskCancel t) r i = (settles_mtapi _, on_live Settles (at s.tasks t.0) _ _ (settles_mtapi _) (λ x. on_cancels t.0 x.state))
-once_says s who op.Initialize r i = absurd i
-once_says s who op.Enter r i = absurd i
-once_says s who op.Close r i = absurd i
-once_says s who op.Final r i = absurd i
-once_says s who (op.JobGet job) r i = absurd i
-once_says s who (op.TaskLook t last) r i = absurd i
-once_says s who op.Pick r i = absurd i
-once_says s who (op.Finish t d) r i = absurd i
-once_says s who (op.Asked t) r i = absurd i
-once_says s who (op.WatchEnd t) r i = absurd i
+once_says s who _ r i = absurd i
 
 pub once_settles : (s : State) (who : ℕ) (o : Op) (r : Reply) → IsOnce o → Allows (row s who o r) r → Settles r
 once_settles s who o r i a = said Settles (row s who o r) r (once_says s who o r i) a
@@ -110,3 +104,25 @@ pub look_reply : (s : State) (who h : ℕ) (last : Bool) (r : Reply) → Allows 
 look_reply s who h last r a =
     said (Looks last) (row s who (op.TaskLook (record { 0 = h }) last) r) r
     (looks_code last _ refl, on_live (Looks last) (at s.tasks h) _ _ (looks_code last _ refl) (λ x. (looks_code last _ refl, (looks_code last _ refl, look_says who h last x)))) a
+
+-- what is left of a row
+
+-- a row's conditions before its effect weren't met
+pub record Goes (s : State) (w : Row) (r : Reply) (v : Row) : Type 0 where
+  pub allowed : Allows v r
+  pub leads : after_row s w ≡ after_row s v
+
+pub skip : (c : Bool) (x r : Reply) (w : Row) (s : State) → (r ≡ x → ⊥) → Allows (unless c x w) r → Goes s (unless c x w) r w
+skip true x r w s n a = absurd (n a)
+skip false x r w s n a = record { allowed = a; leads = refl }
+
+pub goes_then : (s : State) (u v w : Row) (r : Reply) → Goes s u r v → Goes s v r w → Goes s u r w
+goes_then s u v w r g h = record { allowed = h.allowed; leads = g.leads ∙ h.leads }
+
+-- a condition that is known not to be met
+pub pass : (c : Bool) (x r : Reply) (w : Row) (s : State) → c ≡ false → Allows (unless c x w) r → Goes s (unless c x w) r w
+pass true x r w s e a = absurd (cc)
+pass false x r w s e a = record { allowed = a; leads = refl }
+
+pub small_not : (w n : ℕ) → w < n → not (nat_lt w n) ≡ false
+small_not w n l = ap not (lt-ltb w n l)

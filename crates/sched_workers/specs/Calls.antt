@@ -30,3 +30,12 @@ call_of bound (deed.Start job args priority cores detached group) = Once (op.Tas
 call_of bound (deed.Wait place timeout) = Looking true (λ last. op.TaskLook (record { 0 = handle_at bound place }) last) timeout
 call_of bound (deed.Cancel place) = Once (op.TaskCancel (record { 0 = handle_at bound place }))
 call_of bound _ = Unmade
+
+-- the ops that make a call with one entry
+abbrev pub IsOnce : Op → Type 0
+IsOnce op.Release = Unit {0}
+IsOnce (op.ActionCreate job kind cores) = Unit {0}
+IsOnce (op.ActionEnable a) = Unit {0}
+IsOnce (op.TaskStart job args priority cores detached group) = Unit {0}
+IsOnce (op.TaskCancel t) = Unit {0}
+IsOnce _ = ⊥

@@ -1,7 +1,6 @@
-//! Callers and workers: how a workload is carried out on a node, and what a run of it is.
+//! What a run of a workload is: the call that each statement makes, the entries of each seat, and what a journal shows of them.
+//!
+//! The definitions stand in `specs/`. The functions of `laws` have no body: each contract is a law that follows from the definitions.
 #![tactic(auto)]
 
-mod inline;
 pub mod laws;
-
-pub use inline::run_inline;

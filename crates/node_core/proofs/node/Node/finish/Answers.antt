@@ -1,5 +1,5 @@
 use Rattle.std.proofs.Common.{refl, sym, ◌∙◌, ap, arith, rules}
-use Rattle.mtapi_machine.specs.Rows.{task_end}
+use Rattle.mtapi_machine.specs.WorkRows.{task_end}
 use Rattle.action_fn.specs.declared.finished.ActEnd.{ActEnd}
 use Rattle.node_core.proofs.WorkSteps.{finish_steps}
 use Rattle.node_core.proofs.Gives.{lands}

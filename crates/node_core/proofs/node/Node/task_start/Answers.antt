@@ -3,7 +3,7 @@ use Rattle.std.specs.Prelude.{Result}
 use Rattle.mtapi_values.specs.declared.handles.TaskHandle.{TaskHandle}
 use Rattle.mtapi_values.specs.declared.statuses.MtapiStatus.{MtapiStatus}
 use Rattle.task_core.specs.Table.{Adds}
-use Rattle.node_core.specs.Starts.{asked_for}
+use Rattle.mtapi_machine.specs.TaskRows.{asked_for}
 use Rattle.node_core.proofs.TaskSteps.{start_refused, start_steps}
 use Rattle.node_core.proofs.Gives.{lands}
 use Rattle.node_core.proofs.node.Node.task_start.Goals as goal

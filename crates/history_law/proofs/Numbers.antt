@@ -1,0 +1,173 @@
+-- No two ends have one number, and every number is below the next one.
+use Rattle.std.proofs.Common.{◌≡◌, ℕ, ◌+◌, ◌≤◌, ◌<◌, Bool, true, false, cond, List, [], ◌∷◌, Option, Some, None, refl, sym, ◌∙◌, ap, subst, arith}
+use Rattle.std.specs.Prelude.{◌==◌, ◌&&◌, nat_lt}
+use Rattle.std.proofs.lemmas.Bool.{eqb-true, eq-eqb}
+use Rattle.std.proofs.lemmas.Bool.Decides.{nat_tests}
+use Rattle.mtapi_values.specs.declared.ends.TaskEnd.{TaskEnd}
+use Rattle.mtapi_values.specs.declared.ends.TaskEnd.TheVariants.{Failed}
+use Rattle.handle_pool.specs.Issued.{Listed, how_many, change, change_all, issue, count, with_fields, gone}
+use Rattle.mtapi_objects.specs.Tasks.{Task, TaskState, Scheduled, Running, Over, with_state, with_notes, ended, end_each, new_task}
+use Rattle.mtapi_objects.specs.Groups.{is_member, freed, let_go}
+use Rattle.mtapi_machine.specs.declared.terms.Terms.{Terms}
+use Rattle.mtapi_machine.specs.State.{State, opening}
+use Rattle.mtapi_machine.specs.Moves.{Move, starts, runs, ends, ends_waiting, withdraws, notes, leaves, frees_members, lets_members_go, makes, alters, removes, apply}
+use Rattle.mtapi_machine.specs.Legal.{NodeEntry, after_from}
+use Rattle.mtapi_machine.proofs.Moves.{along, sorts_keep}
+
+abbrev pub is_number : ℕ → TaskState → Bool
+is_number n Scheduled = false
+is_number n (Running w k) = false
+is_number n (Over e m) = m == n
+
+abbrev pub bit : Bool → ℕ
+bit b = cond b 1 0
+
+-- how many of these tasks have an end of this number
+abbrev pub has_number : ℕ → List (Listed Task) → ℕ
+has_number n l = how_many (λ r. is_number n r.fields.state) l
+
+change_number : (n d h : ℕ) (f : Listed Task → Listed Task) (l : List (Listed Task)) → ((r : Listed Task) → bit (is_number n (f r).fields.state) ≤ bit (is_number n r.fields.state) + d) → has_number n (change h f l) ≤ has_number n l + d
+unfolding change
+change_number n d h f [] k = omega arith
+change_number n d h f (r ∷ rs) k = by_test (r.live && (r.handle == h)) (change_number n d h f rs k)
+  where
+    by_test : (b : Bool) → has_number n (change h f rs) ≤ has_number n rs + d → has_number n (cond b (f r ∷ rs) (r ∷ change h f rs)) ≤ has_number n (r ∷ rs) + d
+    by_test true e = let m : bit (is_number n (f r).fields.state) ≤ bit (is_number n r.fields.state) + d = k r in omega arith
+    by_test false e = omega arith
+
+all_number : (n : ℕ) (p : Task → Bool) (f : Listed Task → Listed Task) (l : List (Listed Task)) → ((r : Listed Task) → bit (is_number n (f r).fields.state) ≡ bit (is_number n r.fields.state)) → has_number n (change_all p f l) ≤ has_number n l
+unfolding change_all
+all_number n p f [] k = omega arith
+all_number n p f (r ∷ rs) k = by_test (r.live && p r.fields) (all_number n p f rs k)
+  where
+    by_test : (b : Bool) → has_number n (change_all p f rs) ≤ has_number n rs → has_number n (cond b (f r) r ∷ change_all p f rs) ≤ has_number n (r ∷ rs)
+    by_test true e = let m : bit (is_number n (f r).fields.state) ≡ bit (is_number n r.fields.state) = k r in omega arith
+    by_test false e = omega arith
+
+issue_number : (n h : ℕ) (x : Task) (l : List (Listed Task)) → is_number n x.state ≡ false → has_number n (issue h x l) ≡ has_number n l
+unfolding issue
+issue_number n h x [] e = ap (λ (b : Bool). bit b + 0) e
+issue_number n h x (r ∷ rs) e = ap (λ (k : ℕ). bit (is_number n r.fields.state) + k) (issue_number n h x rs e)
+
+other_number : (k n : ℕ) → k < n → (k == n) ≡ false
+other_number k n l = grind (arith, nat_tests)
+
+lower_number : (k n : ℕ) → n < k → (k == n) ≡ false
+lower_number k n l = grind (arith, nat_tests)
+
+at_most_one : (b : Bool) → bit b ≤ 1
+at_most_one true = omega arith
+at_most_one false = omega arith
+
+-- numbers below the first one that is given are given to no further task
+ends_low : (n : ℕ) (p : Task → Bool) (e : TaskEnd) (k : ℕ) (l : List (Listed Task)) → n < k → has_number n (end_each p e k l) ≤ has_number n l
+unfolding end_each
+ends_low n p e k [] i = omega arith
+ends_low n p e k (r ∷ rs) i = by_test (r.live && p r.fields) (ends_low n p e k rs i) (ends_low n p e (k + 1) rs (omega arith))
+  where
+    by_test : (b : Bool) → has_number n (end_each p e k rs) ≤ has_number n rs → has_number n (end_each p e (k + 1) rs) ≤ has_number n rs → has_number n (cond b (ended e k r ∷ end_each p e (k + 1) rs) (r ∷ end_each p e k rs)) ≤ has_number n (r ∷ rs)
+    by_test true x y = let z : bit (k == n) ≡ 0 = ap bit (lower_number k n i) in omega arith
+    by_test false x y = omega arith
+
+-- a number that none had is given at most once
+ends_high : (n : ℕ) (p : Task → Bool) (e : TaskEnd) (k : ℕ) (l : List (Listed Task)) → has_number n l ≡ 0 → has_number n (end_each p e k l) ≤ 1
+unfolding end_each
+ends_high n p e k [] z = omega arith
+ends_high n p e k (r ∷ rs) z = by_test (r.live && p r.fields) (ends_high n p e k rs (omega arith)) (ends_high n p e (k + 1) rs (omega arith)) (λ i. ends_low n p e (k + 1) rs i)
+  where
+    by_test : (b : Bool) → has_number n (end_each p e k rs) ≤ 1 → has_number n (end_each p e (k + 1) rs) ≤ 1 → (n < k + 1 → has_number n (end_each p e (k + 1) rs) ≤ has_number n rs) → has_number n (cond b (ended e k r ∷ end_each p e (k + 1) rs) (r ∷ end_each p e k rs)) ≤ 1
+    by_test true x y low = by_same (k == n) refl
+      where
+        by_same : (c : Bool) → (k == n) ≡ c → bit c + has_number n (end_each p e (k + 1) rs) ≤ 1
+        by_same true i =
+            let same : k ≡ n = eqb-true k n i in
+            let u : has_number n (end_each p e (k + 1) rs) ≤ has_number n rs = low (omega arith) in
+            omega arith
+        by_same false i = omega arith
+    by_test false x y low = omega arith
+
+-- and none from the last one on
+ends_above : (n : ℕ) (p : Task → Bool) (e : TaskEnd) (k : ℕ) (l : List (Listed Task)) → k + count p l ≤ n → has_number n l ≡ 0 → has_number n (end_each p e k l) ≡ 0
+unfolding end_each
+ends_above n p e k [] i z = refl
+ends_above n p e k (r ∷ rs) i z = by_test (r.live && p r.fields) i (λ j. ends_above n p e k rs j (omega arith)) (λ j. ends_above n p e (k + 1) rs j (omega arith))
+  where
+    by_test : (b : Bool) → k + (bit b + count p rs) ≤ n → (k + count p rs ≤ n → has_number n (end_each p e k rs) ≡ 0) → (k + 1 + count p rs ≤ n → has_number n (end_each p e (k + 1) rs) ≡ 0) → has_number n (cond b (ended e k r ∷ end_each p e (k + 1) rs) (r ∷ end_each p e k rs)) ≡ 0
+    by_test true i x y =
+        let c : bit (k == n) ≡ 0 = ap bit (other_number k n (omega arith)) in
+        let u : has_number n (end_each p e (k + 1) rs) ≡ 0 = y (omega arith) in
+        omega arith
+    by_test false i x y = let u : has_number n (end_each p e k rs) ≡ 0 = x (omega arith) in omega arith
+
+-- no two ends have one number, and each number is below the next one
+pub record Numbered (s : State) : Type 0 where
+  pub once : (n : ℕ) → has_number n s.tasks ≤ 1
+  pub above : (n : ℕ) → s.ends ≤ n → has_number n s.tasks ≡ 0
+
+-- where the next number stays
+kept_numbers : (s t : State) → Numbered s → t.ends ≡ s.ends → ((n : ℕ) → has_number n t.tasks ≤ has_number n s.tasks) → Numbered t
+kept_numbers s t v e f = record {
+  once = λ n. let a : has_number n t.tasks ≤ has_number n s.tasks = f n in let b : has_number n s.tasks ≤ 1 = v.once n in omega arith;
+  above = λ n i. let a : has_number n t.tasks ≤ has_number n s.tasks = f n in let b : has_number n s.tasks ≡ 0 = v.above n (omega arith) in omega arith;
+}
+
+many_numbers : (s : State) (l : List (Listed Task)) (p : Task → Bool) (e : TaskEnd) → Numbered s → Numbered (record s { tasks = end_each p e s.ends s.tasks; ends = s.ends + count p s.tasks })
+many_numbers s l p e v = record {
+  once = λ n. by_low n (nat_lt n s.ends) refl;
+  above = λ n i. ends_above n p e s.ends s.tasks i (v.above n (omega arith));
+}
+  where
+    by_low : (n : ℕ) (b : Bool) → nat_lt n s.ends ≡ b → has_number n (end_each p e s.ends s.tasks) ≤ 1
+    by_low n true i =
+        let low : n < s.ends = grind (arith, nat_tests) in
+        let a : has_number n (end_each p e s.ends s.tasks) ≤ has_number n s.tasks = ends_low n p e s.ends s.tasks low in
+        let b : has_number n s.tasks ≤ 1 = v.once n in
+        omega arith
+    by_low n false i = let high : s.ends ≤ n = grind (arith, nat_tests) in ends_high n p e s.ends s.tasks (v.above n high)
+
+one_number : (s : State) (h : ℕ) (e : TaskEnd) → Numbered s → Numbered (record s { tasks = change h (ended e s.ends) s.tasks; ends = s.ends + 1 })
+one_number s h e v = record {
+  once = λ n. by_same n (s.ends == n) refl;
+  above = λ n i.
+      let a : has_number n (change h (ended e s.ends) s.tasks) ≤ has_number n s.tasks + bit (s.ends == n) = changed n in
+      let z : bit (s.ends == n) ≡ 0 = ap bit (other_number s.ends n (omega arith)) in
+      let b : has_number n s.tasks ≡ 0 = v.above n (omega arith) in
+      omega arith;
+}
+  where
+    changed : (n : ℕ) → has_number n (change h (ended e s.ends) s.tasks) ≤ has_number n s.tasks + bit (s.ends == n)
+    changed n = change_number n (bit (s.ends == n)) h (ended e s.ends) s.tasks (λ r. omega arith)
+
+    by_same : (n : ℕ) (b : Bool) → (s.ends == n) ≡ b → has_number n (change h (ended e s.ends) s.tasks) ≤ 1
+    by_same n true i =
+        let a : has_number n (change h (ended e s.ends) s.tasks) ≤ has_number n s.tasks + bit (s.ends == n) = changed n in
+        let same : s.ends ≡ n = eqb-true s.ends n i in
+        let z : has_number n s.tasks ≡ 0 = v.above n (omega arith) in
+        let y : bit (s.ends == n) ≤ 1 = at_most_one (s.ends == n) in
+        omega arith
+    by_same n false i =
+        let a : has_number n (change h (ended e s.ends) s.tasks) ≤ has_number n s.tasks + bit (s.ends == n) = changed n in
+        let z : bit (s.ends == n) ≡ 0 = ap bit i in
+        let y : has_number n s.tasks ≤ 1 = v.once n in
+        omega arith
+
+none_more : (a b : ℕ) → a ≤ b + 0 → a ≤ b
+none_more a b e = omega arith
+
+numbered_move : (s : State) (m : Move) → Numbered s → Numbered (apply m s)
+numbered_move s (starts h t) v = kept_numbers s _ v refl (λ n. let e : has_number n (issue h (new_task t s.starts) s.tasks) ≡ has_number n s.tasks = issue_number n h (new_task t s.starts) s.tasks refl in omega arith)
+numbered_move s (runs h w k) v = kept_numbers s _ v refl (λ n. none_more _ _ (change_number n 0 h (with_fields (with_state (Running w k))) s.tasks (λ r. omega arith)))
+numbered_move s (ends h e) v = one_number s h e v
+numbered_move s (ends_waiting p e) v = many_numbers s s.tasks _ e v
+numbered_move s (withdraws h f c) v = let u = many_numbers s s.tasks _ (Failed c) v in record { once = u.once; above = u.above }
+numbered_move s (notes h f) v = kept_numbers s _ v refl (λ n. none_more _ _ (change_number n 0 h (with_fields (with_notes f)) s.tasks (λ r. omega arith)))
+numbered_move s (leaves h) v = kept_numbers s _ v refl (λ n. none_more _ _ (change_number n 0 h gone s.tasks (λ r. omega arith)))
+numbered_move s (frees_members g) v = kept_numbers s _ v refl (λ n. all_number n _ freed s.tasks (λ r. refl))
+numbered_move s (lets_members_go g) v = kept_numbers s _ v refl (λ n. all_number n (is_member g) let_go s.tasks (λ r. refl))
+numbered_move s (makes k h x) v = sorts_keep Numbered (λ t g q m c r y p. record { once = p.once; above = p.above }) k _ s v
+numbered_move s (alters k h f) v = sorts_keep Numbered (λ t g q m c r y p. record { once = p.once; above = p.above }) k _ s v
+numbered_move s (removes k h) v = sorts_keep Numbered (λ t g q m c r y p. record { once = p.once; above = p.above }) k _ s v
+numbered_move s _ v = record { once = v.once; above = v.above }
+
+pub numbered_after : (terms : Terms) (L : List NodeEntry) → Numbered (after_from (opening terms) L)
+numbered_after terms L = along Numbered (λ o t m e v. numbered_move t m v) (opening terms) L (record { once = λ n. omega arith; above = λ n i. refl })

@@ -1,0 +1,159 @@
+-- What an entry says of a new object, its record keeps.
+use Rattle.std.proofs.Common.{◌≡◌, ℕ, ◌≤◌, Bool, true, false, cond, List, [], ◌∷◌, ◌++◌, Option, Some, None, refl, sym, ◌∙◌, ap, subst, arith}
+use Rattle.std.specs.Prelude.{◌==◌, ◌+◌, ◌&&◌, is_some}
+use Rattle.std.proofs.lemmas.Bool.{eqb-true, eq-eqb}
+use Rattle.mtapi_values.specs.declared.handles.ObjectKind.{ObjectKind}
+use Rattle.mtapi_values.specs.declared.handles.ObjectKind.TheVariants as kind
+use Rattle.mtapi_values.specs.declared.statuses.MtapiStatus.TheVariants as m
+use Rattle.mtapi_machine.specs.declared.ops.Op.{Op}
+use Rattle.mtapi_machine.specs.declared.ops.Op.TheVariants as op
+use Rattle.mtapi_machine.specs.declared.replies.Reply.{Reply}
+use Rattle.mtapi_machine.specs.declared.replies.Reply.TheVariants.{Handle, Mtapi}
+use Rattle.handle_pool.specs.Issued.{Listed, at, listed, issue}
+use Rattle.mtapi_objects.specs.Actions.{Action, new_action}
+use Rattle.mtapi_objects.specs.Tasks.{Task, NewTask, new_task}
+use Rattle.mtapi_objects.specs.Queues.{Queue}
+use Rattle.mtapi_machine.specs.State.{State, opening}
+use Rattle.mtapi_machine.specs.Moves.{Move, Queues, makes_action, starts, makes, is_fresh, apply, after_moves}
+use Rattle.mtapi_machine.specs.Row.{Row, gives, Allows, only, after_row}
+use Rattle.mtapi_machine.specs.Rows.{row}
+use Rattle.mtapi_machine.specs.TaskRows.{asked_for, asked_of}
+use Rattle.mtapi_machine.specs.QueueRows.{new_queue}
+use Rattle.mtapi_machine.specs.Legal.{NodeEntry, IsNext, next, LegalFrom, after_from}
+use Rattle.mtapi_machine.specs.Laws.{IsMade, StartsTask}
+use Rattle.mtapi_machine.proofs.Lists.{Legal-rest, after-append}
+use Rattle.mtapi_machine.proofs.Made.{AllGives, on_only, on_live, fst_true, snd_true}
+use Rattle.mtapi_machine.proofs.Moves.{along}
+use Rattle.history_law.specs.Words.{FieldsOf, objects_of, times, makes as makes_kind, is_handle, issues}
+use Rattle.history_law.proofs.Accepted.{granted, refuses_only, refuses_live, no_handle, issue_lists}
+use Rattle.history_law.proofs.Ages.{AgesEach, SameFields, SameAction, SameTask, SameQueue, kind_move, listed_ages, Under, under_issue, under_none, under_at, under_ages}
+use Rattle.history_law.proofs.Reuse.{fresh_unlisted, fresh_apart, listed_issue_some, is_this}
+
+true_false : {A : Type 0} {b : Bool} → b ≡ true → b ≡ false → A
+true_false e f = absurd (cc)
+
+-- an object was issued under the handle, and F holds of each that was
+pub record Has {T : Type 0} (h : ℕ) (F : T → Type 0) (l : List (Listed T)) : Type 0 where
+  pub some : 1 ≤ listed h l
+  pub under : Under h F l
+
+abbrev pub HasObject : (k : ObjectKind) → ℕ → (FieldsOf k → Type 0) → State → Type 0
+HasObject k h F s = Has h F ((objects_of k).list s)
+
+pub has_move : (k : ObjectKind) (h : ℕ) (F : FieldsOf k → Type 0) → ((x y : FieldsOf k) → SameFields k x y → F x → F y) → (s : State) (o : Op) (m : Move) → IsMade s o m → HasObject k h F s → HasObject k h F (apply m s)
+has_move k h F c s o m e v =
+    kind_move k s o (Has h F)
+    (λ j x i w. record { some = listed_issue_some h j x _ w.some; under = under_issue h F j x _ (λ d. true_false d (fresh_apart k s h j w.some i)) w.under })
+    (λ l a w. record { some = subst (λ (n : ℕ). 1 ≤ n) (sym (listed_ages (SameFields k) h _ l a)) w.some; under = under_ages (SameFields k) h F c _ l a w.under }) m e v
+
+pub has_along : (k : ObjectKind) (h : ℕ) (F : FieldsOf k → Type 0) → ((x y : FieldsOf k) → SameFields k x y → F x → F y) → (s : State) (L : List NodeEntry) → HasObject k h F s → HasObject k h F (after_from s L)
+has_along k h F c s L v = along (HasObject k h F) (λ o t m e. has_move k h F c t o m e) s L v
+
+some_issued : {T : Type 0} (h : ℕ) (x : T) (l : List (Listed T)) → 1 ≤ listed h (issue h x l)
+unfolding listed issue
+some_issued h x [] = by_self (h == h) (self h)
+  where
+    self : (n : ℕ) → (n == n) ≡ true
+    self n = eq-eqb n n refl
+
+    by_self : (b : Bool) → b ≡ true → 1 ≤ cond b 1 0 + 0
+    by_self true e = omega arith
+    by_self false e = absurd (cc)
+some_issued h x (r ∷ rs) = let k : 1 ≤ listed h (issue h x rs) = some_issued h x rs in omega arith
+
+-- a new object, under a handle that was fresh
+pub has_new : {T : Type 0} (h : ℕ) (F : T → Type 0) (x : T) (l : List (Listed T)) → listed h l ≡ 0 → F x → Has h F (issue h x l)
+has_new h F x l n f = record { some = some_issued h x l; under = under_issue h F h x l (λ e. f) (under_none h F l n) }
+
+-- Tasks
+
+pub task_then : (a : Task) (x y : Task) → SameTask x y → SameTask a x → SameTask a y
+task_then a x y s t = record { job = s.job ∙ t.job; args = s.args ∙ t.args; priority = s.priority ∙ t.priority; cores = s.cores ∙ t.cores; queue = s.queue ∙ t.queue; start = s.start ∙ t.start }
+
+itself : (a : Task) → SameTask a a
+itself a = record { job = refl; args = refl; priority = refl; cores = refl; queue = refl; start = refl }
+
+-- a task that an entry started is listed as it was asked for, with the next number of a start
+abbrev pub StartedAs : State → Op → ℕ → State → Type 0
+StartedAs s o h t = (n : NewTask) × StartsTask n o × HasObject kind.Task h (SameTask (new_task n s.starts)) t
+
+on_start : (s : State) (o : Op) (h : ℕ) (n : NewTask) → StartsTask n o → AllGives (λ x ms. Handle h ≡ x → StartedAs s o h (after_moves ms s)) (only (is_fresh (objects_of kind.Task) s h) (gives (Handle h) (starts h n ∷ [])))
+on_start s o h n b =
+    on_only (λ x ms. Handle h ≡ x → StartedAs s o h (after_moves ms s)) (is_fresh (objects_of kind.Task) s h) (Handle h) (starts h n ∷ [])
+    (λ e i. (n, b, has_new h (SameTask (new_task n s.starts)) (new_task n s.starts) s.tasks (fresh_unlisted kind.Task s h e) (itself (new_task n s.starts))))
+
+start_as : (s : State) (who : ℕ) (o : Op) (h : ℕ) → makes_kind kind.Task o ≡ true → Allows (row s who o (Handle h)) (Handle h) → StartedAs s o h (after_row s (row s who o (Handle h)))
+start_as s who (op.TaskStart job args priority cores detached group) h e a =
+    granted (λ ms. StartedAs s (op.TaskStart job args priority cores detached group) h (after_moves ms s)) (row s who (op.TaskStart job args priority cores detached group) (Handle h)) h
+    (refl, (refl, (refl, (refl, (refl, (refl, (refl, refuses_only _ _ _))))))) (λ c0 c1 c2 c3 c4 c5 c6. on_start s (op.TaskStart job args priority cores detached group) h (asked_for job args priority cores detached group) refl) a
+start_as s who (op.TaskEnqueue q args cores detached group) h e a =
+    granted (λ ms. StartedAs s (op.TaskEnqueue q args cores detached group) h (after_moves ms s)) (row s who (op.TaskEnqueue q args cores detached group) (Handle h)) h
+    (refl, (refl, refuses_live (at s.queues q.0) _ _ tt (λ x. (refl, (refl, (refl, (refl, (refl, (refl, (refl, refuses_only _ _ _))))))))))
+    (λ c d. on_live (λ x ms. Handle h ≡ x → StartedAs s (op.TaskEnqueue q args cores detached group) h (after_moves ms s)) (at s.queues q.0) _ _ (λ i. absurd (no_handle h (Mtapi m.ErrQueueInvalid) refl i))
+    (λ x f c0 c1 c2 c3 c4 c5 c6. on_start s (op.TaskEnqueue q args cores detached group) h (asked_of q.0 x args cores detached group) (x, refl))) a
+start_as s who _ h e a = true_false e refl
+
+pub started_as : (s : State) (e : NodeEntry) (h : ℕ) → IsNext s e → issues kind.Task h e ≡ true → StartedAs s e.op h (next s e)
+started_as s e h n i =
+    let r : e.reply ≡ Handle h = is_this h e.reply (snd_true (makes_kind kind.Task e.op) _ i) in
+    subst (λ (x : Reply). StartedAs s e.op h (after_row s (row s e.who e.op x))) (sym r)
+    (start_as s e.who e.op h (fst_true (makes_kind kind.Task e.op) _ i) (subst (λ (x : Reply). Allows (row s e.who e.op x) x) r n.allowed))
+
+-- Actions
+
+pub action_then : (a : Action) (x y : Action) → SameAction x y → SameAction a x → SameAction a y
+action_then a x y s t = record { job = s.job ∙ t.job; kind = s.kind ∙ t.kind; cores = s.cores ∙ t.cores }
+
+abbrev pub MadeAs : Op → ℕ → State → Type 0
+MadeAs (op.ActionCreate job k cores) h t = HasObject kind.Action h (SameAction (new_action job k cores.0)) t
+MadeAs _ h t = ⊥
+
+make_as : (s : State) (who : ℕ) (o : Op) (h : ℕ) → makes_kind kind.Action o ≡ true → Allows (row s who o (Handle h)) (Handle h) → MadeAs o h (after_row s (row s who o (Handle h)))
+make_as s who (op.ActionCreate job k cores) h e a =
+    granted (λ ms. MadeAs (op.ActionCreate job k cores) h (after_moves ms s)) (row s who (op.ActionCreate job k cores) (Handle h)) h
+    (refl, (refl, (refl, refuses_only _ _ _)))
+    (λ c0 c1 c2. on_only (λ x ms. Handle h ≡ x → MadeAs (op.ActionCreate job k cores) h (after_moves ms s)) (is_fresh (objects_of kind.Action) s h) (Handle h) (makes_action h (new_action job k cores.0) ∷ [])
+    (λ e i. has_new h (SameAction (new_action job k cores.0)) (new_action job k cores.0) s.actions (fresh_unlisted kind.Action s h e) (record { job = refl; kind = refl; cores = refl }))) a
+make_as s who _ h e a = true_false e refl
+
+pub made_as : (s : State) (e : NodeEntry) (h : ℕ) → IsNext s e → issues kind.Action h e ≡ true → MadeAs e.op h (next s e)
+made_as s e h n i =
+    let r : e.reply ≡ Handle h = is_this h e.reply (snd_true (makes_kind kind.Action e.op) _ i) in
+    subst (λ (x : Reply). MadeAs e.op h (after_row s (row s e.who e.op x))) (sym r)
+    (make_as s e.who e.op h (fst_true (makes_kind kind.Action e.op) _ i) (subst (λ (x : Reply). Allows (row s e.who e.op x) x) r n.allowed))
+
+-- Queues
+
+pub queue_then : (a : Queue) (x y : Queue) → SameQueue x y → SameQueue a x → SameQueue a y
+queue_then a x y s t = record { job = s.job ∙ t.job; priority = s.priority ∙ t.priority; ordered = s.ordered ∙ t.ordered }
+
+abbrev pub QueueAs : Op → ℕ → State → Type 0
+QueueAs (op.QueueCreate id job priority limit ordered retain) h t = HasObject kind.Queue h (SameQueue (new_queue id job priority limit ordered retain)) t
+QueueAs _ h t = ⊥
+
+queue_as : (s : State) (who : ℕ) (o : Op) (h : ℕ) → makes_kind kind.Queue o ≡ true → Allows (row s who o (Handle h)) (Handle h) → QueueAs o h (after_row s (row s who o (Handle h)))
+queue_as s who (op.QueueCreate id job priority limit ordered retain) h e a =
+    granted (λ ms. QueueAs (op.QueueCreate id job priority limit ordered retain) h (after_moves ms s)) (row s who (op.QueueCreate id job priority limit ordered retain) (Handle h)) h
+    (refl, (refl, (refl, (refl, (refl, refuses_only _ _ _)))))
+    (λ c0 c1 c2 c3 c4. on_only (λ x ms. Handle h ≡ x → QueueAs (op.QueueCreate id job priority limit ordered retain) h (after_moves ms s)) (is_fresh (objects_of kind.Queue) s h) (Handle h) (makes Queues h (new_queue id job priority limit ordered retain) ∷ [])
+    (λ e i. has_new h (SameQueue (new_queue id job priority limit ordered retain)) (new_queue id job priority limit ordered retain) s.queues (fresh_unlisted kind.Queue s h e) (record { job = refl; priority = refl; ordered = refl }))) a
+queue_as s who _ h e a = true_false e refl
+
+pub queued_as : (s : State) (e : NodeEntry) (h : ℕ) → IsNext s e → issues kind.Queue h e ≡ true → QueueAs e.op h (next s e)
+queued_as s e h n i =
+    let r : e.reply ≡ Handle h = is_this h e.reply (snd_true (makes_kind kind.Queue e.op) _ i) in
+    subst (λ (x : Reply). QueueAs e.op h (after_row s (row s e.who e.op x))) (sym r)
+    (queue_as s e.who e.op h (fst_true (makes_kind kind.Queue e.op) _ i) (subst (λ (x : Reply). Allows (row s e.who e.op x) x) r n.allowed))
+
+-- After a front that has the entry
+
+pub cut_from : (s : State) (A B : List NodeEntry) (e : NodeEntry) → LegalFrom s (A ++ e ∷ B) → IsNext (after_from s A) e
+unfolding LegalFrom
+cut_from s A B e l = (Legal-rest s A (e ∷ B) l).0
+
+pub cut_after : (s : State) (A B : List NodeEntry) (e : NodeEntry) → after_from s (A ++ e ∷ B) ≡ after_from (next (after_from s A) e) B
+unfolding after_from
+cut_after s A B e = after-append s A (e ∷ B)
+
+pub has_behind : (k : ObjectKind) (h : ℕ) (F : FieldsOf k → Type 0) → ((x y : FieldsOf k) → SameFields k x y → F x → F y) → (s : State) (A B : List NodeEntry) (e : NodeEntry) → HasObject k h F (next (after_from s A) e) → HasObject k h F (after_from s (A ++ e ∷ B))
+has_behind k h F c s A B e v = subst (HasObject k h F) (sym (cut_after s A B e)) (has_along k h F c (next (after_from s A) e) B v)

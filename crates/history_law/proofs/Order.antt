@@ -1,0 +1,486 @@
+-- A group gives its members in the order of their ends.
+use Rattle.std.proofs.Common.{◌≡◌, ◌≢◌, ℕ, ◌+◌, ◌≤◌, ◌<◌, Bool, true, false, cond, List, [], ◌∷◌, ◌++◌, Option, Some, None, ◌⊎◌, inl, inr, refl, sym, ◌∙◌, ap, subst, arith, append_assoc}
+use Rattle.std.specs.Prelude.{◌==◌, ◌&&◌, not, nat_lt, is_some, is_none}
+use Rattle.std.proofs.lemmas.Bool.{eqb-true, eq-eqb}
+use Rattle.std.proofs.lemmas.Bool.Decides.{nat_tests}
+use Rattle.mtapi_values.specs.Conditions.{holds}
+use Rattle.mtapi_values.specs.declared.ends.TaskEnd.{TaskEnd}
+use Rattle.mtapi_values.specs.declared.ends.TaskEnd.TheVariants.{Failed}
+use Rattle.mtapi_values.specs.declared.statuses.MtapiStatus.TheVariants as m
+use Rattle.mtapi_values.specs.declared.handles.TaskHandle.{TaskHandle}
+use Rattle.mtapi_values.specs.declared.handles.GroupHandle.{GroupHandle}
+use Rattle.mtapi_values.specs.declared.handles.ObjectKind.TheVariants as kind
+use Rattle.handle_pool.specs.Issued.{Listed, live_of, lookup, at, any, listed, change, change_all, issue, with_fields, gone}
+use Rattle.mtapi_objects.specs.Tasks.{Task, Notes, NewTask, TaskState, Scheduled, Running, Over, end_of, is_unended, with_state, with_notes, ended, end_each, new_task}
+use Rattle.mtapi_objects.specs.Groups.{is_member, Ending, insert, insert_ended, endings, in_no_group, freed, let_go}
+use Rattle.mtapi_machine.specs.declared.terms.Terms.{Terms}
+use Rattle.mtapi_machine.specs.declared.ops.Op.{Op}
+use Rattle.mtapi_machine.specs.declared.ops.Op.TheVariants as op
+use Rattle.mtapi_machine.specs.declared.replies.Reply.{Reply}
+use Rattle.mtapi_machine.specs.declared.replies.Reply.TheVariants.{Given, Pending, Mtapi}
+use Rattle.mtapi_machine.specs.State.{State, opening}
+use Rattle.mtapi_machine.specs.Moves.{Move, starts, runs, ends, ends_waiting, withdraws, notes, leaves, frees_members, lets_members_go, makes, alters, removes, apply, after_moves}
+use Rattle.mtapi_machine.specs.Row.{Row, unless, gives, never, Allows, live, moves_of, after_row, not_yet}
+use Rattle.mtapi_machine.specs.Rows.{row}
+use Rattle.mtapi_machine.specs.GroupRows.{gives_end, gives_first}
+use Rattle.mtapi_machine.specs.Legal.{NodeEntry, IsNext, next, LegalFrom, Legal, after_from, after}
+use Rattle.mtapi_machine.specs.Laws.{Grows}
+use Rattle.mtapi_machine.proofs.Lists.{Legal-front, Legal-rest, after-append}
+use Rattle.mtapi_machine.proofs.Made.{AllGives, on_live, fst_true, snd_true}
+use Rattle.mtapi_machine.proofs.Moves.{sorts_keep}
+use Rattle.mtapi_machine.proofs.Ends.{after_grows}
+use Rattle.history_law.specs.Order.{looks_for_any, is_given, gives as gives_task, number_in, number_at, EndedBefore, GivenInOrder}
+use Rattle.history_law.proofs.Moves.{once_from}
+use Rattle.history_law.proofs.Handles.{OnceIn, once_same, listed_change}
+use Rattle.history_law.proofs.Members.{AllOf, IsEnding, all_endings, all_insert, once_rest}
+use Rattle.history_law.proofs.Numbers.{is_number, bit, has_number, Numbered, numbered_after}
+use Rattle.history_law.proofs.SeatMoves.{Noted, May, by_moves}
+use Rattle.history_law.proofs.Ages.{Dead, none_dead, dead_none}
+use Rattle.history_law.proofs.Reuse.{Gone, stays_gone}
+
+true_false : {A : Type 0} {b : Bool} → b ≡ true → b ≡ false → A
+true_false e f = absurd (cc)
+
+some_same : {A : Type 0} {x y : A} → Some x ≡ Some y → x ≡ y
+some_same e = cc
+
+-- Sorted endings
+
+abbrev FromNumber : ℕ → Ending → Type 0
+FromNumber n e = n ≤ e.number
+
+abbrev Sorted : List Ending → Type 0
+Sorted [] = Unit {0}
+Sorted (e ∷ es) = AllOf (FromNumber e.number) es × Sorted es
+
+from_lower : (m n : ℕ) (es : List Ending) → m ≤ n → AllOf (FromNumber n) es → AllOf (FromNumber m) es
+from_lower m n [] l a = tt
+from_lower m n (e ∷ es) l a = (let k : n ≤ e.number = a.0 in omega arith, from_lower m n es l a.1)
+
+sorted_insert : (e : Ending) (es : List Ending) → Sorted es → Sorted (insert e es)
+sorted_insert e [] s = (tt, tt)
+sorted_insert e (f ∷ fs) s = by_test (nat_lt e.number f.number) refl (sorted_insert e fs s.1)
+  where
+    by_test : (b : Bool) → nat_lt e.number f.number ≡ b → Sorted (insert e fs) → Sorted (cond b (e ∷ f ∷ fs) (f ∷ insert e fs))
+    by_test true i k =
+        let less : e.number < f.number = grind (arith, nat_tests) in
+        let l : e.number ≤ f.number = omega arith in
+        ((l, from_lower e.number f.number fs l s.0), s)
+    by_test false i k =
+        let l : f.number ≤ e.number = grind (arith, nat_tests) in
+        (all_insert (FromNumber f.number) e fs l s.0, k)
+
+sorted_endings : (g : ℕ) (l : List (ℕ × Task)) → Sorted (endings g l)
+unfolding endings
+sorted_endings g [] = tt
+sorted_endings g (t ∷ ts) = by_member (is_member g t.1) (end_of t.1.state) (sorted_endings g ts)
+  where
+    by_end : (x : Option (TaskEnd × ℕ)) → Sorted (endings g ts) → Sorted (insert_ended t.0 x (endings g ts))
+    by_end None s = s
+    by_end (Some y) s = sorted_insert (record { task = t.0; end = y.0; number = y.1 }) (endings g ts) s
+
+    by_member : (b : Bool) (x : Option (TaskEnd × ℕ)) → Sorted (endings g ts) → Sorted (cond b (insert_ended t.0 x (endings g ts)) (endings g ts))
+    by_member true x s = by_end x s
+    by_member false x s = s
+
+all_inserted : (P : Ending → Type 0) (e : Ending) (es : List Ending) → AllOf P (insert e es) → P e × AllOf P es
+all_inserted P e [] a = (a.0, tt)
+all_inserted P e (f ∷ fs) a = by_test (nat_lt e.number f.number) a (all_inserted P e fs)
+  where
+    by_test : (b : Bool) → AllOf P (cond b (e ∷ f ∷ fs) (f ∷ insert e fs)) → (AllOf P (insert e fs) → P e × AllOf P fs) → P e × AllOf P (f ∷ fs)
+    by_test true a k = (a.0, a.1)
+    by_test false a k = let r = k a.1 in (r.0, (a.0, r.1))
+
+-- What a Given had to find
+
+-- no refusal of the row is a Given
+abbrev given_any : Reply → Bool
+given_any (Given t e) = true
+given_any _ = false
+
+abbrev NoGiven : Row → Type 0
+NoGiven (unless c x w) = (given_any x ≡ false) × NoGiven w
+NoGiven (gives x ms) = Unit {0}
+NoGiven never = Unit {0}
+
+answered : (P : Reply → List Move → Type 0) (w : Row) (r : Reply) → given_any r ≡ true → NoGiven w → AllGives (λ x ms. given_any x ≡ true → P x ms) w → Allows w r → P r (moves_of w)
+answered P (unless true x w) r i n g a = true_false i (ap given_any a ∙ n.0)
+answered P (unless false x w) r i n g a = answered P w r i n.1 (g refl) a
+answered P (gives x ms) r i n g a = subst (λ (y : Reply). P y ms) (sym a) (g (ap given_any (sym a) ∙ i))
+answered P never r i n g a = absurd a
+
+no_live : {T : Type 0} (x : Option T) (v : Row) (w : T → Row) → NoGiven v → ((t : T) → NoGiven (w t)) → NoGiven (live x v w)
+no_live None v w g h = g
+no_live (Some t) v w g h = h t
+
+-- the task had ended, with the least number among the ended members, and it leaves
+pub record Gave (s : State) (g h : ℕ) (ms : List Move) : Type 0 where
+  pub task : Task
+  pub end : TaskEnd
+  pub number : ℕ
+  pub found : at s.tasks h ≡ Some task
+  pub over : task.state ≡ Over end number
+  pub member : is_member g task ≡ true
+  pub least : AllOf (FromNumber number) (endings g (live_of s.tasks))
+  pub moves : ms ≡ notes h in_no_group ∷ leaves h ∷ []
+
+abbrev GaveTo : State → ℕ → Reply → List Move → Type 0
+GaveTo s g (Given t e) ms = Gave s g t.0 ms
+GaveTo s g _ ms = Unit {0}
+
+end_no : (h : ℕ) (x : TaskState) → NoGiven (gives_end h x)
+end_no h Scheduled = tt
+end_no h (Running w k) = tt
+end_no h (Over e n) = tt
+
+first_no : (s : State) (last : Bool) (es : List Ending) → NoGiven (gives_first s last es)
+first_no s last [] = tt
+first_no s last (e ∷ es) = no_live (at s.tasks e.task) never _ tt (λ x. end_no e.task x.state)
+
+end_gave : (s : State) (g h : ℕ) (x : Task) (y : TaskState) → at s.tasks h ≡ Some x → x.state ≡ y → is_member g x ≡ true → ((e : TaskEnd) (n : ℕ) → y ≡ Over e n → AllOf (FromNumber n) (endings g (live_of s.tasks)))
+    → AllGives (λ r ms. given_any r ≡ true → GaveTo s g r ms) (gives_end h y)
+end_gave s g h x Scheduled f e m l = tt
+end_gave s g h x (Running w k) f e m l = tt
+end_gave s g h x (Over z n) f e m l = λ i. record { task = x; end = z; number = n; found = f; over = e; member = m; least = l z n refl; moves = refl }
+
+number_told : ℕ → Option (TaskEnd × ℕ) → ℕ
+number_told k None = k
+number_told k (Some p) = p.1
+
+same_number : (x : TaskState) (e z : TaskEnd) (k n : ℕ) → end_of x ≡ Some (e, k) → x ≡ Over z n → k ≡ n
+unfolding number_told
+same_number x e z k n i o = ap (number_told k) (sym i ∙ ap end_of o)
+
+not_late : (last : Bool) (c : _) → given_any (cond last (Mtapi c) Pending) ≡ false
+not_late true c = refl
+not_late false c = refl
+
+first_gave : (s : State) (g : ℕ) (last : Bool) (es : List Ending) → es ≡ endings g (live_of s.tasks) → AllOf (IsEnding g s.tasks) es → Sorted es → AllGives (λ r ms. given_any r ≡ true → GaveTo s g r ms) (gives_first s last es)
+first_gave s g last [] q a o = λ i. true_false i (not_late last m.Timeout)
+first_gave s g last (e ∷ es) q a o =
+    on_live (λ r ms. given_any r ≡ true → GaveTo s g r ms) (at s.tasks e.task) never _ tt (λ x f. end_gave s g e.task x x.state f refl (a.0.member x f)
+    (λ z n i.
+    let k : e.number ≡ n = same_number x.state e.end z e.number n (a.0.ended x f) i in
+    let here : e.number ≤ e.number = omega arith in
+    subst (λ (j : ℕ). AllOf (FromNumber j) (endings g (live_of s.tasks))) k (subst (AllOf (FromNumber e.number)) q (here, o.0))))
+
+gave_row : (s : State) (who : ℕ) (g : GroupHandle) (last : Bool) (t : TaskHandle) (e : TaskEnd) → OnceIn s.tasks → Allows (row s who (op.AnyLook g last) (Given t e)) (Given t e) → Gave s g.0 t.0 (moves_of (row s who (op.AnyLook g last) (Given t e)))
+gave_row s who g last t e o a =
+    answered (GaveTo s g.0) (row s who (op.AnyLook g last) (Given t e)) (Given t e) refl
+    (refl, no_live (at s.groups g.0) _ _ tt (λ x. (refl, first_no s last (endings g.0 (live_of s.tasks)))))
+    (λ c. on_live (λ r ms. given_any r ≡ true → GaveTo s g.0 r ms) (at s.groups g.0) _ _ (λ i. true_false i refl) (λ x f d. first_gave s g.0 last (endings g.0 (live_of s.tasks)) refl (all_endings g.0 s.tasks o) (sorted_endings g.0 (live_of s.tasks)))) a
+
+gave_as : (s : State) (who : ℕ) (o : Op) (r : Reply) (g h : ℕ) → looks_for_any g o ≡ true → is_given h r ≡ true → OnceIn s.tasks → Allows (row s who o r) r → Gave s g h (moves_of (row s who o r))
+gave_as s who (op.AnyLook x last) (Given t e) g h i j o a =
+    subst (λ (k : ℕ). Gave s k h (moves_of (row s who (op.AnyLook x last) (Given t e)))) (eqb-true x.0 g i)
+    (subst (λ (k : ℕ). Gave s x.0 k (moves_of (row s who (op.AnyLook x last) (Given t e)))) (eqb-true t.0 h j) (gave_row s who x last t e o a))
+gave_as s who (op.AnyLook x last) _ g h i j o a = true_false j refl
+gave_as s who _ r g h i j o a = true_false i refl
+
+gave : (s : State) (e : NodeEntry) (g h : ℕ) → OnceIn s.tasks → IsNext s e → gives_task g h e ≡ true → Gave s g h (moves_of (row s e.who e.op e.reply))
+gave s e g h o n i = gave_as s e.who e.op e.reply g h (fst_true (looks_for_any g e.op) _ i) (snd_true (looks_for_any g e.op) _ i) o n.allowed
+
+-- The members that are left have numbers from this one on
+
+abbrev From : ℕ → ℕ → Listed Task → Type 0
+From g n r = r.live ≡ true → is_member g r.fields ≡ true → (p : TaskEnd × ℕ) → end_of r.fields.state ≡ Some p → n ≤ p.1
+
+abbrev AllFrom : ℕ → ℕ → List (Listed Task) → Type 0
+AllFrom g n [] = Unit {0}
+AllFrom g n (r ∷ rs) = From g n r × AllFrom g n rs
+
+from_issue : (g n h : ℕ) (x : Task) (l : List (Listed Task)) → end_of x.state ≡ None → AllFrom g n l → AllFrom g n (issue h x l)
+unfolding issue
+from_issue g n h x [] e a = ((λ i j p k. absurd (none (sym e ∙ k))), tt)
+  where
+    none : {A : Type 0} {y : A} → None ≡ Some y → ⊥
+    none i = cc
+from_issue g n h x (r ∷ rs) e a = (a.0, from_issue g n h x rs e a.1)
+
+from_change : (g n h : ℕ) (f : Listed Task → Listed Task) (l : List (Listed Task)) → ((r : Listed Task) → at l h ≡ Some r.fields → From g n r → From g n (f r)) → AllFrom g n l → AllFrom g n (change h f l)
+unfolding change live_of
+from_change g n h f [] k a = tt
+from_change g n h f (r ∷ rs) k a = by_live (λ m. from_change g n h f rs m a.1) r.live a.0 k
+  where
+    by_hand : (((q : Listed Task) → at rs h ≡ Some q.fields → From g n q → From g n (f q)) → AllFrom g n (change h f rs)) → (b : Bool) → From g n (record { handle = r.handle; live = true; fields = r.fields })
+        → ((q : Listed Task) → cond b (Some r.fields) (at rs h) ≡ Some q.fields → From g n q → From g n (f q))
+        → AllFrom g n (cond b (f (record { handle = r.handle; live = true; fields = r.fields }) ∷ rs) (record { handle = r.handle; live = true; fields = r.fields } ∷ change h f rs))
+    by_hand rest true u k = (k (record { handle = r.handle; live = true; fields = r.fields }) refl u, a.1)
+    by_hand rest false u k = (u, rest k)
+
+    by_live : (((q : Listed Task) → at rs h ≡ Some q.fields → From g n q → From g n (f q)) → AllFrom g n (change h f rs)) → (b : Bool) → From g n (record { handle = r.handle; live = b; fields = r.fields })
+        → ((q : Listed Task) → at (record { handle = r.handle; live = b; fields = r.fields } ∷ rs) h ≡ Some q.fields → From g n q → From g n (f q))
+        → AllFrom g n (change h f (record { handle = r.handle; live = b; fields = r.fields } ∷ rs))
+    by_live rest true u k = by_hand rest (r.handle == h) u k
+    by_live rest false u k = (u, rest k)
+
+from_all : (g n : ℕ) (p : Task → Bool) (f : Listed Task → Listed Task) (l : List (Listed Task)) → ((r : Listed Task) → From g n (f r)) → AllFrom g n l → AllFrom g n (change_all p f l)
+unfolding change_all
+from_all g n p f [] k a = tt
+from_all g n p f (r ∷ rs) k a = (by_test (r.live && p r.fields), from_all g n p f rs k a.1)
+  where
+    by_test : (b : Bool) → From g n (cond b (f r) r)
+    by_test true = k r
+    by_test false = a.0
+
+over_from : (g n k : ℕ) (e : TaskEnd) (r : Listed Task) → n ≤ k → From g n (ended e k r)
+unfolding number_told
+over_from g n k e r l = λ i j p q. let s : k ≡ p.1 = ap (number_told k) q in omega arith
+
+from_ends : (g n : ℕ) (p : Task → Bool) (e : TaskEnd) (k : ℕ) (l : List (Listed Task)) → n ≤ k → AllFrom g n l → AllFrom g n (end_each p e k l)
+unfolding end_each
+from_ends g n p e k [] i a = tt
+from_ends g n p e k (r ∷ rs) i a = by_test (r.live && p r.fields) (from_ends g n p e k rs i a.1) (from_ends g n p e (k + 1) rs (omega arith) a.1)
+  where
+    by_test : (b : Bool) → AllFrom g n (end_each p e k rs) → AllFrom g n (end_each p e (k + 1) rs) → AllFrom g n (cond b (ended e k r ∷ end_each p e (k + 1) rs) (r ∷ end_each p e k rs))
+    by_test true x y = (over_from g n k e r i, y)
+    by_test false x y = (a.0, x)
+
+-- the next number, and the members
+record Left (g n : ℕ) (s : State) : Type 0 where
+  next : n ≤ s.ends
+  all : AllFrom g n s.tasks
+
+no_group : (g : ℕ) (t : Task) → t.notes.group ≡ None → is_member g t ≡ false
+no_group g t e = ap (holds (λ h. h == g)) e
+
+noted_from : (g n who : ℕ) (f : Notes → Notes) (r : Listed Task) → Noted who f r.fields → From g n r → From g n (with_fields (with_notes f) r)
+noted_from g n who f r x k = by_group x.group
+  where
+    by_group : ((f r.fields.notes).group ≡ r.fields.notes.group) ⊎ ((f r.fields.notes).group ≡ None) → From g n (with_fields (with_notes f) r)
+    by_group (inl e) = λ i j p q. k i (ap (holds (λ h. h == g)) (sym e) ∙ j) p q
+    by_group (inr e) = λ i j p q. true_false j (ap (holds (λ h. h == g)) e)
+
+left_move : (g n who : ℕ) (o : Op) (s : State) (x : Move) → May s who o x → Left g n s → Left g n (apply x s)
+left_move g n who o s (starts h t) k v = record { next = v.next; all = from_issue g n h (new_task t s.starts) s.tasks refl v.all }
+left_move g n who o s (runs h w z) k v = record { next = v.next; all = from_change g n h (with_fields (with_state (Running w z))) s.tasks (λ r e u i j p q. absurd (none q)) v.all }
+  where
+    none : {A : Type 0} {y : A} → None ≡ Some y → ⊥
+    none i = cc
+left_move g n who o s (ends h e) k v = record { next = let l : n ≤ s.ends = v.next in omega arith; all = from_change g n h (ended e s.ends) s.tasks (λ r f u. over_from g n s.ends e r v.next) v.all }
+left_move g n who o s (ends_waiting p e) k v = record { next = let l : n ≤ s.ends = v.next in omega arith; all = from_ends g n _ e s.ends s.tasks v.next v.all }
+left_move g n who o s (withdraws h f c) k v = record { next = let l : n ≤ s.ends = v.next in omega arith; all = from_ends g n _ (Failed c) s.ends s.tasks v.next v.all }
+left_move g n who o s (notes h f) k v = record {
+  next = v.next;
+  all = from_change g n h (with_fields (with_notes f)) s.tasks (λ r e u. noted_from g n who f r (subst (λ (t : Task). Noted who f t) (some_same (sym k.1 ∙ e)) k.2) u) v.all;
+}
+left_move g n who o s (leaves h) k v = record { next = v.next; all = from_change g n h gone s.tasks (λ r e u i j p q. true_false i refl) v.all }
+left_move g n who o s (frees_members z) k v = record { next = v.next; all = from_all g n _ freed s.tasks (λ r i j p q. true_false i refl) v.all }
+left_move g n who o s (lets_members_go z) k v = record { next = v.next; all = from_all g n (is_member z) let_go s.tasks (λ r i j p q. true_false j refl) v.all }
+left_move g n who o s (makes z j x) k v = sorts_keep (Left g n) (λ t g q m c r y p. record { next = p.next; all = p.all }) z _ s v
+left_move g n who o s (alters z j f) k v = sorts_keep (Left g n) (λ t g q m c r y p. record { next = p.next; all = p.all }) z _ s v
+left_move g n who o s (removes z j) k v = sorts_keep (Left g n) (λ t g q m c r y p. record { next = p.next; all = p.all }) z _ s v
+left_move g n who o s _ k v = record { next = v.next; all = v.all }
+
+left_along : (g n : ℕ) (s : State) (L : List NodeEntry) → LegalFrom s L → Left g n s → Left g n (after_from s L)
+unfolding LegalFrom after_from
+left_along g n s [] l v = v
+left_along g n s (e ∷ es) l v = left_along g n (next s e) es l.1 (by_moves (Left g n) s e l.0 (λ t x k y. left_move g n e.who e.op t x k y) v)
+
+-- the endings of a list, seen at its records
+from_endings : (g n : ℕ) (l : List (Listed Task)) → AllOf (FromNumber n) (endings g (live_of l)) → AllFrom g n l
+unfolding endings live_of
+from_endings g n [] a = tt
+from_endings g n (r ∷ rs) a = by_live r.live refl a (from_endings g n rs)
+  where
+    here : (x : Option (TaskEnd × ℕ)) → end_of r.fields.state ≡ x → AllOf (FromNumber n) (insert_ended r.handle x (endings g (live_of rs))) → (AllOf (FromNumber n) (endings g (live_of rs)) → AllFrom g n rs) → AllFrom g n (r ∷ rs)
+    here None e a k = ((λ i j p q. absurd (none (sym e ∙ q))), k a)
+      where
+        none : {A : Type 0} {y : A} → None ≡ Some y → ⊥
+        none i = cc
+    here (Some y) e a k =
+        let b = all_inserted (FromNumber n) (record { task = r.handle; end = y.0; number = y.1 }) (endings g (live_of rs)) a in
+        ((λ i j p q. subst (λ (z : TaskEnd × ℕ). n ≤ z.1) (some_same (sym e ∙ q)) b.0), k b.1)
+
+    by_member : (b : Bool) → is_member g r.fields ≡ b → AllOf (FromNumber n) (cond b (insert_ended r.handle (end_of r.fields.state) (endings g (live_of rs))) (endings g (live_of rs)))
+        → (AllOf (FromNumber n) (endings g (live_of rs)) → AllFrom g n rs) → AllFrom g n (r ∷ rs)
+    by_member true e a k = here (end_of r.fields.state) refl a k
+    by_member false e a k = ((λ i j p q. true_false j e), k a)
+
+    by_live : (b : Bool) → r.live ≡ b → AllOf (FromNumber n) (endings g (cond b ((r.handle, r.fields) ∷ live_of rs) (live_of rs))) → (AllOf (FromNumber n) (endings g (live_of rs)) → AllFrom g n rs) → AllFrom g n (r ∷ rs)
+    by_live true e a k = by_member (is_member g r.fields) refl a k
+    by_live false e a k = ((λ i j p q. true_false i e), k a)
+
+from_at : (g n : ℕ) (l : List (Listed Task)) (h : ℕ) (t : Task) → AllFrom g n l → at l h ≡ Some t → is_member g t ≡ true → (p : TaskEnd × ℕ) → end_of t.state ≡ Some p → n ≤ p.1
+unfolding live_of
+from_at g n [] h t a e m p q = absurd (cc)
+from_at g n (r ∷ rs) h t a e m p q = by_live r.live refl e (λ i. from_at g n rs h t a.1 i m p q)
+  where
+    by_hand : (b : Bool) → r.live ≡ true → cond b (Some r.fields) (at rs h) ≡ Some t → (at rs h ≡ Some t → n ≤ p.1) → n ≤ p.1
+    by_hand true i e k = let s : r.fields ≡ t = some_same e in a.0 i (ap (is_member g) s ∙ m) p (ap (λ (x : Task). end_of x.state) s ∙ q)
+    by_hand false i e k = k e
+
+    by_live : (b : Bool) → r.live ≡ b → lookup (cond b ((r.handle, r.fields) ∷ live_of rs) (live_of rs)) h ≡ Some t → (at rs h ≡ Some t → n ≤ p.1) → n ≤ p.1
+    by_live true i e k = by_hand (r.handle == h) i e k
+    by_live false i e k = k e
+
+-- The numbers in the records
+
+-- where no handle is listed twice, the record of the live task is its record
+listed_at : (l : List (Listed Task)) (h : ℕ) (t : Task) → at l h ≡ Some t → 1 ≤ listed h l
+unfolding live_of listed
+listed_at [] h t e = absurd (cc)
+listed_at (r ∷ rs) h t e = by_live r.live e (listed_at rs h t)
+  where
+    by_hand : (b : Bool) → cond b (Some r.fields) (at rs h) ≡ Some t → (at rs h ≡ Some t → 1 ≤ listed h rs) → 1 ≤ cond b 1 0 + listed h rs
+    by_hand true m g = omega arith
+    by_hand false m g = let k : 1 ≤ listed h rs = g m in omega arith
+
+    by_live : (a : Bool) → lookup (cond a ((r.handle, r.fields) ∷ live_of rs) (live_of rs)) h ≡ Some t → (at rs h ≡ Some t → 1 ≤ listed h rs) → 1 ≤ cond (r.handle == h) 1 0 + listed h rs
+    by_live true m g = by_hand (r.handle == h) m g
+    by_live false m g = let k : 1 ≤ listed h rs = g m in omega arith
+
+number_found : (l : List (Listed Task)) (h : ℕ) (t : Task) → OnceIn l → at l h ≡ Some t → number_at l h ≡ number_in t.state
+unfolding live_of listed number_at
+number_found [] h t o e = absurd (cc)
+number_found (r ∷ rs) h t o e = by_hand (r.handle == h) refl (o h) (λ i. number_found rs h t (once_rest r rs o) i)
+  where
+    by_live : (a : Bool) → lookup (cond a ((r.handle, r.fields) ∷ live_of rs) (live_of rs)) h ≡ Some t → (r.handle == h) ≡ true → 1 + listed h rs ≤ 1 → r.fields ≡ t
+    by_live true e i k = some_same (sym (ap (λ (c : Bool). cond c (Some r.fields) (lookup (live_of rs) h)) i) ∙ e)
+    by_live false e i k = let z : 1 ≤ listed h rs = listed_at rs h t e in absurd (omega arith)
+
+    past : (a : Bool) → lookup (cond a ((r.handle, r.fields) ∷ live_of rs) (live_of rs)) h ≡ Some t → (r.handle == h) ≡ false → at rs h ≡ Some t
+    past true e i = sym (ap (λ (c : Bool). cond c (Some r.fields) (lookup (live_of rs) h)) i) ∙ e
+    past false e i = e
+
+    by_hand : (b : Bool) → (r.handle == h) ≡ b → cond b 1 0 + listed h rs ≤ 1 → (at rs h ≡ Some t → number_at rs h ≡ number_in t.state) → cond b (number_in r.fields.state) (number_at rs h) ≡ number_in t.state
+    by_hand true i k m = ap (λ (x : Task). number_in x.state) (by_live r.live e i k)
+    by_hand false i k m = m (past r.live e i)
+
+number_stays : (x y : TaskState) (n : ℕ) → ((e : TaskEnd) (k : ℕ) → end_of x ≡ Some (e, k) → end_of y ≡ Some (e, k)) → number_in x ≡ Some n → number_in y ≡ Some n
+unfolding number_told
+number_stays Scheduled y n k i = absurd (cc)
+number_stays (Running w j) y n k i = absurd (cc)
+number_stays (Over z a) y n k i = by_end y (k z a refl)
+  where
+    by_end : (y : TaskState) → end_of y ≡ Some (z, a) → number_in y ≡ Some n
+    by_end Scheduled o = absurd (cc)
+    by_end (Running w j) o = absurd (cc)
+    by_end (Over u b) o = let q : b ≡ a = ap (number_told b) o in ap Some q ∙ i
+
+grows_number : (h n : ℕ) (l k : List (Listed Task)) → Grows l k → number_at l h ≡ Some n → number_at k h ≡ Some n
+unfolding number_at
+grows_number h n [] k g i = absurd (cc)
+grows_number h n (r ∷ rs) [] g i = absurd g
+grows_number h n (r ∷ rs) (q ∷ qs) g i = by_handle q.handle g.0.handle (r.handle == h) refl (grows_number h n rs qs g.1) i
+  where
+    by_handle : (a : ℕ) → a ≡ r.handle → (b : Bool) → (r.handle == h) ≡ b → (number_at rs h ≡ Some n → number_at qs h ≡ Some n) →
+        cond b (number_in r.fields.state) (number_at rs h) ≡ Some n → cond (a == h) (number_in q.fields.state) (number_at qs h) ≡ Some n
+    by_handle a s true t rest k = ap (λ (x : ℕ). cond (x == h) (number_in q.fields.state) (number_at qs h)) s ∙ ap (λ (b : Bool). cond b (number_in q.fields.state) (number_at qs h)) t ∙ number_stays r.fields.state q.fields.state n g.0.over k
+    by_handle a s false t rest k = ap (λ (x : ℕ). cond (x == h) (number_in q.fields.state) (number_at qs h)) s ∙ ap (λ (b : Bool). cond b (number_in q.fields.state) (number_at qs h)) t ∙ rest k
+
+number_counts : (l : List (Listed Task)) (h n : ℕ) → number_at l h ≡ Some n → 1 ≤ has_number n l
+unfolding number_at
+number_counts [] h n e = absurd (cc)
+number_counts (r ∷ rs) h n e = by_hand (r.handle == h) e (number_counts rs h n)
+  where
+    own : (x : TaskState) → number_in x ≡ Some n → bit (is_number n x) ≡ 1
+    own Scheduled i = absurd (cc)
+    own (Running w k) i = absurd (cc)
+    own (Over z a) i = ap bit (eq-eqb a n (some_same i))
+
+    by_hand : (b : Bool) → cond b (number_in r.fields.state) (number_at rs h) ≡ Some n → (number_at rs h ≡ Some n → 1 ≤ has_number n rs) → 1 ≤ has_number n (r ∷ rs)
+    by_hand true i k = let z : bit (is_number n r.fields.state) ≡ 1 = own r.fields.state i in omega arith
+    by_hand false i k = let z : 1 ≤ has_number n rs = k i in omega arith
+
+-- two tasks of one number are one
+same_task : (l : List (Listed Task)) (a b n : ℕ) → has_number n l ≤ 1 → number_at l a ≡ Some n → number_at l b ≡ Some n → a ≡ b
+unfolding number_at
+same_task [] a b n o i j = absurd (cc)
+same_task (r ∷ rs) a b n o i j = by_hand (r.handle == a) refl (r.handle == b) refl i j (λ x y. same_task rs a b n (omega arith) x y)
+  where
+    own : (x : TaskState) → number_in x ≡ Some n → bit (is_number n x) ≡ 1
+    own Scheduled i = absurd (cc)
+    own (Running w k) i = absurd (cc)
+    own (Over z a) i = ap bit (eq-eqb a n (some_same i))
+
+    twice : number_in r.fields.state ≡ Some n → (h : ℕ) → number_at rs h ≡ Some n → ⊥
+    twice i h j = let z : bit (is_number n r.fields.state) ≡ 1 = own r.fields.state i in let y : 1 ≤ has_number n rs = number_counts rs h n j in omega arith
+
+    by_hand : (x : Bool) → (r.handle == a) ≡ x → (y : Bool) → (r.handle == b) ≡ y → cond x (number_in r.fields.state) (number_at rs a) ≡ Some n → cond y (number_in r.fields.state) (number_at rs b) ≡ Some n
+        → (number_at rs a ≡ Some n → number_at rs b ≡ Some n → a ≡ b) → a ≡ b
+    by_hand true p true q i j k = sym (eqb-true r.handle a p) ∙ eqb-true r.handle b q
+    by_hand true p false q i j k = absurd (twice i b j)
+    by_hand false p true q i j k = absurd (twice j a i)
+    by_hand false p false q i j k = k i j
+
+-- The given task isn't live any more
+
+dead_unlisted : (h : ℕ) (l : List (Listed Task)) → listed h l ≡ 0 → Dead h l
+unfolding listed
+dead_unlisted h [] e = tt
+dead_unlisted h (r ∷ rs) e = by_hand (r.handle == h) refl e (dead_unlisted h rs)
+  where
+    by_hand : (b : Bool) → (r.handle == h) ≡ b → cond b 1 0 + listed h rs ≡ 0 → (listed h rs ≡ 0 → Dead h rs) → Dead h (r ∷ rs)
+    by_hand true i e k = absurd (omega arith)
+    by_hand false i e k = ((λ j. true_false j i), k (omega arith))
+
+retired_dead : (h : ℕ) (l : List (Listed Task)) → OnceIn l → Dead h (change h gone l)
+unfolding change listed
+retired_dead h [] o = tt
+retired_dead h (r ∷ rs) o = by_test r.live (r.handle == h) refl refl (o h) (retired_dead h rs (once_rest r rs o))
+  where
+    by_test : (a b : Bool) → r.live ≡ a → (r.handle == h) ≡ b → cond b 1 0 + listed h rs ≤ 1 → Dead h (change h gone rs) → Dead h (cond (a && b) (gone r ∷ rs) (r ∷ change h gone rs))
+    by_test true true i j k m = ((λ e. refl), dead_unlisted h rs (omega arith))
+    by_test true false i j k m = ((λ e. true_false e j), m)
+    by_test false b i j k m = ((λ e. i), m)
+
+-- The law
+
+-- what gave a task left it dead
+gave_gone : (s : State) (g h : ℕ) (ms : List Move) → OnceIn s.tasks → Gave s g h ms → Gone kind.Task h (after_moves ms s).tasks
+gave_gone s g h ms o v =
+    let changed : OnceIn (change h (with_fields (with_notes in_no_group)) s.tasks) = once_same s.tasks _ (λ j. listed_change j h (with_fields (with_notes in_no_group)) s.tasks (λ r. refl)) o in
+    let some : 1 ≤ listed h s.tasks = listed_at s.tasks h v.task v.found in
+    subst (λ (ns : List Move). Gone kind.Task h (after_moves ns s).tasks) (sym v.moves)
+    (record {
+      some = subst (λ (n : ℕ). 1 ≤ n) (sym (listed_change h h gone _ (λ r. refl) ∙ listed_change h h (with_fields (with_notes in_no_group)) s.tasks (λ r. refl))) some;
+      dead = retired_dead h (change h (with_fields (with_notes in_no_group)) s.tasks) changed;
+    })
+
+-- the record's number, at the entry that gives and at the end
+gave_number : (s : State) (g h : ℕ) (ms : List Move) (L : List NodeEntry) → OnceIn s.tasks → (v : Gave s g h ms) → number_at (after_from s L).tasks h ≡ Some v.number
+gave_number s g h ms L o v = grows_number h v.number s.tasks (after_from s L).tasks (after_grows s L) (number_found s.tasks h v.task o v.found ∙ ap number_in v.over)
+
+gave_below : (s : State) (g h : ℕ) (ms : List Move) → OnceIn s.tasks → Numbered s → (v : Gave s g h ms) → v.number ≤ s.ends
+gave_below s g h ms o u v = by_test (nat_lt s.ends v.number) refl
+  where
+    by_test : (b : Bool) → nat_lt s.ends v.number ≡ b → v.number ≤ s.ends
+    by_test false i = grind (arith, nat_tests)
+    by_test true i =
+        let less : s.ends < v.number = grind (arith, nat_tests) in
+        let none : has_number v.number s.tasks ≡ 0 = u.above v.number (omega arith) in
+        let some : 1 ≤ has_number v.number s.tasks = number_counts s.tasks h v.number (number_found s.tasks h v.task o v.found ∙ ap number_in v.over) in
+        absurd (omega arith)
+
+-- a task that is given later ended later
+later : (s u : State) (g a b : ℕ) (ms ns : List Move) → (v : Gave s g a ms) → (w : Gave u g b ns) → Left g v.number u → v.number ≤ w.number
+later s u g a b ms ns v w l = from_at g v.number u.tasks b w.task l.all w.found w.member (w.end, w.number) (ap end_of w.over)
+
+in_order : (s u t : State) (g a b : ℕ) (ms ns : List Move) → (v : Gave s g a ms) → (w : Gave u g b ns) → Left g v.number u → Gone kind.Task a u.tasks → Numbered t → number_at t.tasks a ≡ Some v.number → number_at t.tasks b ≡ Some w.number → EndedBefore t a b
+in_order s u t g a b ms ns v w l d m x y = record { first = v.number; second = w.number; first_end = x; second_end = y; less = by_same (v.number == w.number) refl }
+  where
+    by_same : (c : Bool) → (v.number == w.number) ≡ c → v.number < w.number
+    by_same false i = let k : v.number ≤ w.number = later s u g a b ms ns v w l in grind (arith, nat_tests)
+    by_same true i =
+        let one : a ≡ b = same_task t.tasks a b v.number (m.once v.number) x (y ∙ ap Some (sym (eqb-true v.number w.number i))) in
+        let alive : is_some (at u.tasks a) ≡ true = ap (λ (h : ℕ). is_some (at u.tasks h)) one ∙ ap is_some w.found in
+        true_false alive (dead_none a u.tasks d.dead)
+
+pub given_in_order : (terms : Terms) (es : List NodeEntry) (g : ℕ) → Legal terms es → GivenInOrder terms es g
+unfolding LegalFrom after_from
+given_in_order terms es g legal A B C x y a b cut i j =
+    let whole : LegalFrom (opening terms) (A ++ x ∷ (B ++ y ∷ C)) = subst (λ (L : List NodeEntry). LegalFrom (opening terms) L) cut legal.from in
+    let rest : LegalFrom (after terms A) (x ∷ (B ++ y ∷ C)) = Legal-rest (opening terms) A (x ∷ (B ++ y ∷ C)) whole in
+    let front : LegalFrom (after terms A) (x ∷ B) = Legal-front (after terms A) (x ∷ B) (y ∷ C) rest in
+    let behind : LegalFrom (after_from (after terms A) (x ∷ B)) (y ∷ C) = Legal-rest (after terms A) (x ∷ B) (y ∷ C) rest in
+    let v = gave (after terms A) x g a (once_from terms A) rest.0 i in
+    let once : OnceIn (after_from (after terms A) (x ∷ B)).tasks = subst (λ (t : State). OnceIn t.tasks) (after-append (opening terms) A (x ∷ B)) (once_from terms (A ++ x ∷ B)) in
+    let w = gave (after_from (after terms A) (x ∷ B)) y g b once behind.0 j in
+    let left : Left g v.number (after_from (after terms A) (x ∷ B)) = left_along g v.number (after terms A) (x ∷ B) front (record { next = gave_below _ g a _ (once_from terms A) (numbered_after terms A) v; all = from_endings g v.number (after terms A).tasks v.least }) in
+    let gone : Gone kind.Task a (after_from (after terms A) (x ∷ B)).tasks = (stays_gone kind.Task a (next (after terms A) x) B front.1 (gave_gone (after terms A) g a _ (once_from terms A) v)).0 in
+    let whole_is : after terms es ≡ after_from (after terms A) (x ∷ (B ++ y ∷ C)) = ap (after terms) cut ∙ after-append (opening terms) A (x ∷ (B ++ y ∷ C)) in
+    let rest_is : after_from (after terms A) (x ∷ (B ++ y ∷ C)) ≡ after_from (after_from (after terms A) (x ∷ B)) (y ∷ C) = after-append (after terms A) (x ∷ B) (y ∷ C) in
+    in_order _ _ (after terms es) g a b _ _ v w left gone (numbered_after terms es)
+    (ap (λ (t : State). number_at t.tasks a) whole_is ∙ gave_number (after terms A) g a _ (x ∷ (B ++ y ∷ C)) (once_from terms A) v)
+    (ap (λ (t : State). number_at t.tasks b) (whole_is ∙ rest_is) ∙ gave_number (after_from (after terms A) (x ∷ B)) g b _ (y ∷ C) once w)

@@ -1,0 +1,48 @@
+-- The order in which a group gives its members.
+use Rattle.std.specs.Prelude.{◌≡◌, ℕ, ◌<◌, Bool, true, false, ◌==◌, ◌&&◌, List, [], ◌∷◌, ◌++◌, Option, Some, None, if◌then◌else◌}
+use Rattle.handle_pool.specs.Issued.{Listed}
+use Rattle.mtapi_objects.specs.Tasks.{Task, TaskState, Scheduled, Running, Over}
+use Rattle.mtapi_machine.specs.declared.ops.Op.{Op}
+use Rattle.mtapi_machine.specs.declared.ops.Op.TheVariants.{AnyLook}
+use Rattle.mtapi_machine.specs.declared.replies.Reply.{Reply}
+use Rattle.mtapi_machine.specs.declared.replies.Reply.TheVariants.{Given}
+use Rattle.mtapi_machine.specs.declared.terms.Terms.{Terms}
+use Rattle.mtapi_machine.specs.State.{State}
+use Rattle.mtapi_machine.specs.Legal.{NodeEntry, after}
+
+-- the op looks for any end of this group, and the reply gives this task
+abbrev pub looks_for_any : ℕ → Op → Bool
+looks_for_any g (AnyLook x last) = x.0 == g
+looks_for_any g _ = false
+
+abbrev pub is_given : ℕ → Reply → Bool
+is_given h (Given t e) = t.0 == h
+is_given h _ = false
+
+-- the entry gives this task of this group
+abbrev pub gives : ℕ → ℕ → NodeEntry → Bool
+gives g h e = looks_for_any g e.op && is_given h e.reply
+
+-- the number of the end of a task in this state: ends are numbered in the order in which they come
+abbrev pub number_in : TaskState → Option ℕ
+number_in Scheduled = None
+number_in (Running w k) = None
+number_in (Over e n) = Some n
+
+-- the number of its end in the record of this handle's task, live or not
+unfoldable pub number_at : List (Listed Task) → ℕ → Option ℕ
+number_at [] h = None
+number_at (r ∷ rs) h = if r.handle == h then number_in r.fields.state else number_at rs h
+
+-- both tasks have ended, the first one before the other
+pub record EndedBefore (s : State) (a b : ℕ) : Type 0 where
+  pub first : ℕ
+  pub second : ℕ
+  pub first_end : number_at s.tasks a ≡ Some first
+  pub second_end : number_at s.tasks b ≡ Some second
+  pub less : first < second
+
+-- of two tasks that the group gave, the one given first ended first; so no task is given twice
+abbrev pub GivenInOrder : Terms → List NodeEntry → ℕ → Type 0
+GivenInOrder terms es g =
+    (A B C : List NodeEntry) (x y : NodeEntry) (a b : ℕ) → es ≡ A ++ x ∷ (B ++ y ∷ C) → gives g a x ≡ true → gives g b y ≡ true → EndedBefore (after terms es) a b

@@ -1,0 +1,4 @@
+pub mod HandleLemmas
+pub mod HoldsLemmas
+pub mod RowLemmas
+pub mod KindSteps

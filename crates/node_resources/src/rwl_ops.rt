@@ -1,0 +1,89 @@
+//! The ops on reader-writer locks.
+
+ghost use Rattle.std.specs.Prelude.{◌≡◌, ◌<◌};
+ghost use Rattle.mtapi_values.specs.declared.handles.ObjectKind.TheVariants as object;
+ghost use Rattle.mtapi_machine.specs.declared.ops.Op.TheVariants as op;
+ghost use Rattle.node_resources.specs.Holds.{inward};
+ghost use Rattle.node_resources.specs.Steps.{Steps};
+
+use crate::Resources;
+use crate::gate::Gate;
+use crate::handles::{done, inward, looked, outward};
+use mtapi_machine::Reply;
+use mtapi_values::{ObjectKind, RwlHandle};
+
+// The caller's handle of a reader-writer lock as its pool has it.
+fn inner(rwl: RwlHandle) -> RwlHandle
+    ensures { result.0 ≡ inward object.Rwl rwl.0 }
+{
+    RwlHandle(inward(ObjectKind::Rwl, rwl.0))
+}
+
+impl Resources {
+    /// Makes a lock for at most `limit` readers: PARAMETER where this isn't 1 to 32, RWL_EXISTS where a live one has the id, and
+    /// RWL_LIMIT where there is no room.
+    pub fn rwl_create(&mut self, gate: Gate, who: u32, id: u32, limit: u32) -> Reply
+        ensures { Steps self.old gate who (op.RwlCreate id limit) result self.new }
+    {
+        if let Some(status) = gate.open_refusal(who) {
+            return Reply::Mrapi(status);
+        }
+        match self.rwls.create(id, limit) {
+            Ok(rwl) => outward(ObjectKind::Rwl, rwl.0),
+            Err(status) => Reply::Mrapi(status),
+        }
+    }
+
+    /// The handle of the live lock of an id, and RWL_ID_INVALID where there is none.
+    pub fn rwl_get(&self, gate: Gate, who: u32, id: u32) -> Reply
+        ensures { Steps self.now gate who (op.RwlGet id) result self.now }
+    {
+        if let Some(status) = gate.refusal(who) {
+            return Reply::Mrapi(status);
+        }
+        match self.rwls.get(id) {
+            Ok(rwl) => outward(ObjectKind::Rwl, rwl.0),
+            Err(status) => Reply::Mrapi(status),
+        }
+    }
+
+    /// Gives up a lock: RWL_INVALID where the handle names none, and RWL_LOCKED while a seat holds it.
+    pub fn rwl_delete(&mut self, gate: Gate, who: u32, rwl: RwlHandle) -> Reply
+        ensures { Steps self.old gate who (op.RwlDelete rwl) result self.new }
+    {
+        if let Some(status) = gate.open_refusal(who) {
+            return Reply::Mrapi(status);
+        }
+        done(self.rwls.delete(inner(rwl)))
+    }
+
+    /// One look of a seat, below 25, that wants to hold a lock, as the writer or as a reader: RWL_LOCKED where it holds it already.
+    /// While others hold it so that it can't, the look is to be asked again, and `last` tells that it won't be.
+    pub fn rwl_look(
+        &mut self,
+        gate: Gate,
+        who: u32,
+        rwl: RwlHandle,
+        writer: bool,
+        last: bool,
+    ) -> Reply
+        requires seat { who < 25 }
+        ensures { Steps self.old gate who (op.RwlLook rwl writer last) result self.new }
+    {
+        if let Some(status) = gate.refusal(who) {
+            return Reply::Mrapi(status);
+        }
+        looked(self.rwls.look(inner(rwl), who, writer), last)
+    }
+
+    /// Gives back the hold of a seat, below 25: RWL_NOTLOCKED where it doesn't hold the lock in this mode.
+    pub fn rwl_unlock(&mut self, gate: Gate, who: u32, rwl: RwlHandle, writer: bool) -> Reply
+        requires seat { who < 25 }
+        ensures { Steps self.old gate who (op.RwlUnlock rwl writer) result self.new }
+    {
+        if let Some(status) = gate.refusal(who) {
+            return Reply::Mrapi(status);
+        }
+        done(self.rwls.unlock(inner(rwl), who, writer))
+    }
+}

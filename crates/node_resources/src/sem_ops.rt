@@ -1,0 +1,82 @@
+//! The ops on semaphores.
+
+ghost use Rattle.std.specs.Prelude.{◌≡◌, ◌<◌};
+ghost use Rattle.mtapi_values.specs.declared.handles.ObjectKind.TheVariants as object;
+ghost use Rattle.mtapi_machine.specs.declared.ops.Op.TheVariants as op;
+ghost use Rattle.node_resources.specs.Holds.{inward};
+ghost use Rattle.node_resources.specs.Steps.{Steps};
+
+use crate::Resources;
+use crate::gate::Gate;
+use crate::handles::{done, inward, looked, outward};
+use mtapi_machine::Reply;
+use mtapi_values::{ObjectKind, SemHandle};
+
+// The caller's handle of a semaphore as its pool has it.
+fn inner(sem: SemHandle) -> SemHandle
+    ensures { result.0 ≡ inward object.Sem sem.0 }
+{
+    SemHandle(inward(ObjectKind::Sem, sem.0))
+}
+
+impl Resources {
+    /// Makes a semaphore that may be held `limit` times: PARAMETER where this isn't 1 to 65,535, SEM_EXISTS where a live one has the
+    /// id, and SEM_LIMIT where there is no room.
+    pub fn sem_create(&mut self, gate: Gate, who: u32, id: u32, limit: u32) -> Reply
+        ensures { Steps self.old gate who (op.SemCreate id limit) result self.new }
+    {
+        if let Some(status) = gate.open_refusal(who) {
+            return Reply::Mrapi(status);
+        }
+        match self.sems.create(id, limit) {
+            Ok(sem) => outward(ObjectKind::Sem, sem.0),
+            Err(status) => Reply::Mrapi(status),
+        }
+    }
+
+    /// The handle of the live semaphore of an id, and SEM_ID_INVALID where there is none.
+    pub fn sem_get(&self, gate: Gate, who: u32, id: u32) -> Reply
+        ensures { Steps self.now gate who (op.SemGet id) result self.now }
+    {
+        if let Some(status) = gate.refusal(who) {
+            return Reply::Mrapi(status);
+        }
+        match self.sems.get(id) {
+            Ok(sem) => outward(ObjectKind::Sem, sem.0),
+            Err(status) => Reply::Mrapi(status),
+        }
+    }
+
+    /// Gives up a semaphore: SEM_INVALID where the handle names none, and SEM_LOCKED while a seat holds it.
+    pub fn sem_delete(&mut self, gate: Gate, who: u32, sem: SemHandle) -> Reply
+        ensures { Steps self.old gate who (op.SemDelete sem) result self.new }
+    {
+        if let Some(status) = gate.open_refusal(who) {
+            return Reply::Mrapi(status);
+        }
+        done(self.sems.delete(inner(sem)))
+    }
+
+    /// One look of a seat, below 25, that wants to hold a semaphore once more. While it is held as often as it may be the look is to be
+    /// asked again, and `last` tells that it won't be.
+    pub fn sem_look(&mut self, gate: Gate, who: u32, sem: SemHandle, last: bool) -> Reply
+        requires seat { who < 25 }
+        ensures { Steps self.old gate who (op.SemLook sem last) result self.new }
+    {
+        if let Some(status) = gate.refusal(who) {
+            return Reply::Mrapi(status);
+        }
+        looked(self.sems.look(inner(sem), who), last)
+    }
+
+    /// Gives back one hold of a seat, below 25: SEM_NOTLOCKED where it has none.
+    pub fn sem_unlock(&mut self, gate: Gate, who: u32, sem: SemHandle) -> Reply
+        requires seat { who < 25 }
+        ensures { Steps self.old gate who (op.SemUnlock sem) result self.new }
+    {
+        if let Some(status) = gate.refusal(who) {
+            return Reply::Mrapi(status);
+        }
+        done(self.sems.unlock(inner(sem), who))
+    }
+}
