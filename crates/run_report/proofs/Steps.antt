@@ -9,7 +9,7 @@ use Rattle.mtapi_values.specs.declared.handles.TaskHandle.{TaskHandle}
 use Rattle.mtapi_values.specs.Conditions.{holds}
 use Rattle.handle_pool.specs.Issued.{Listed, live_of, at, change, update, issue, with_fields, gone, any, listed, may_issue}
 use Rattle.handle_pool.proofs.ListedLemmas.{listed-change, listed-issue}
-use Rattle.mtapi_objects.specs.Actions.{new_action}
+use Rattle.mtapi_objects.specs.Actions.{Action, new_action}
 use Rattle.mtapi_objects.specs.Queues.{Queue, is_shut_in}
 use Rattle.mtapi_objects.specs.Tasks.{Task, TaskState, Scheduled, Running, Over, is_unstarted, with_state, with_notes, with_waiter, cancel_requested, asked_once, ended, end_each, watch_end}
 use Rattle.mtapi_machine.specs.declared.replies.Reply.{Reply}
@@ -18,8 +18,7 @@ use Rattle.mtapi_machine.specs.declared.ops.Op.{Op}
 use Rattle.mtapi_machine.specs.declared.ops.Op.TheVariants as op
 use Rattle.mtapi_machine.specs.declared.terms.Terms.{Terms}
 use Rattle.mtapi_machine.specs.State.{State, opening, is_open, is_stop}
-use Rattle.mtapi_machine.specs.Moves.Sort.TheVariants as sort
-use Rattle.mtapi_machine.specs.Moves.{Move, Sort, starts, runs, ends, ends_waiting, notes, leaves, stops, makes_action, withdraws, frees_members, lets_members_go, makes, alters, removes, after_moves}
+use Rattle.mtapi_machine.specs.Moves.{Move, Sort, Fields, Groups, Queues, Mutexes, Sems, Rwls, Segments, starts, runs, ends, ends_waiting, notes, leaves, stops, makes_action, withdraws, frees_members, lets_members_go, makes, alters, removes, after_moves}
 use Rattle.mtapi_machine.specs.Row.{Row, unless, gives, never, Allows, after_row, only, live, handle_of}
 use Rattle.mtapi_machine.specs.TaskRows.{asked_for, looks_at, cancels}
 use Rattle.mtapi_machine.specs.WorkRows.{can_take, may_take, picks, task_end}
@@ -132,10 +131,10 @@ once_ends p e n l one k = subst (λ (m : ℕ). m ≤ 1) (sym (listed_ends k p e 
 
 -- no op that a node carries out so far withdraws an action, or speaks of groups, queues and resources
 
-no_withdraw : (h : ℕ) (o : Op) → is_supported o ≡ true → WithdrawsAction h o → ⊥
-no_withdraw h (op.ActionDelete a) p w = absurd (cc)
-no_withdraw h (op.ActionDisable a) p w = absurd (cc)
-no_withdraw h _ p w = w
+no_withdraw : (h : ℕ) (f : Listed Action → Listed Action) (o : Op) → is_supported o ≡ true → WithdrawsAction h f o → ⊥
+no_withdraw h f (op.ActionDelete a) p w = absurd (cc)
+no_withdraw h f (op.ActionDisable a) p w = absurd (cc)
+no_withdraw h f _ p w = w
 
 no_frees : (h : ℕ) (o : Op) → is_supported o ≡ true → FreesMembers h o → ⊥
 no_frees h (op.AllLook g last) p w = absurd (cc)
@@ -152,40 +151,40 @@ no_makes k o p m = apart (supported_makes k o p) m
     apart e f = cc
 
     supported_makes : (k : Sort) (o : Op) → is_supported o ≡ true → makes_kind k o ≡ false
-    supported_makes sort.Groups op.GroupCreate p = absurd (cc)
-    supported_makes sort.Queues (op.QueueCreate id job priority limit ordered retain) p = absurd (cc)
-    supported_makes sort.Mutexes (op.MutexCreate id recursive) p = absurd (cc)
-    supported_makes sort.Sems (op.SemCreate id limit) p = absurd (cc)
-    supported_makes sort.Rwls (op.RwlCreate id limit) p = absurd (cc)
-    supported_makes sort.Segments (op.ShmemCreate id cells) p = absurd (cc)
+    supported_makes Groups op.GroupCreate p = absurd (cc)
+    supported_makes Queues (op.QueueCreate id job priority limit ordered retain) p = absurd (cc)
+    supported_makes Mutexes (op.MutexCreate id recursive) p = absurd (cc)
+    supported_makes Sems (op.SemCreate id limit) p = absurd (cc)
+    supported_makes Rwls (op.RwlCreate id limit) p = absurd (cc)
+    supported_makes Segments (op.ShmemCreate id cells) p = absurd (cc)
     supported_makes _ _ p = refl
 
-no_alters : (k : Sort) (h : ℕ) (o : Op) → is_supported o ≡ true → AltersObject k h o → ⊥
-no_alters sort.Queues h (op.QueueEnable q) p w = absurd (cc)
-no_alters sort.Queues h (op.QueueDisable q) p w = absurd (cc)
-no_alters sort.Mutexes h (op.MutexLook x last) p w = absurd (cc)
-no_alters sort.Mutexes h (op.MutexUnlock x key) p w = absurd (cc)
-no_alters sort.Mutexes h (op.TallyLock t) p w = absurd (cc)
-no_alters sort.Mutexes h (op.TallyEnd t) p w = absurd (cc)
-no_alters sort.Sems h (op.SemLook x last) p w = absurd (cc)
-no_alters sort.Sems h (op.SemUnlock x) p w = absurd (cc)
-no_alters sort.Rwls h (op.RwlLook x writer last) p w = absurd (cc)
-no_alters sort.Rwls h (op.RwlUnlock x writer) p w = absurd (cc)
-no_alters sort.Segments h (op.ShmemAttach x) p w = absurd (cc)
-no_alters sort.Segments h (op.ShmemDetach x) p w = absurd (cc)
-no_alters sort.Segments h (op.ShmemWrite x cell value) p w = absurd (cc)
-no_alters sort.Segments h (op.TallyLock t) p w = absurd (cc)
-no_alters sort.Segments h (op.TallyWrite t value) p w = absurd (cc)
-no_alters sort.Segments h (op.TallyEnd t) p w = absurd (cc)
-no_alters _ h _ p w = w
+no_alters : (k : Sort) (h : ℕ) (f : Fields k → Fields k) (o : Op) → is_supported o ≡ true → AltersObject k h f o → ⊥
+no_alters Queues h f (op.QueueEnable q) p w = absurd (cc)
+no_alters Queues h f (op.QueueDisable q) p w = absurd (cc)
+no_alters Mutexes h f (op.MutexLook x last) p w = absurd (cc)
+no_alters Mutexes h f (op.MutexUnlock x key) p w = absurd (cc)
+no_alters Mutexes h f (op.TallyLock t) p w = absurd (cc)
+no_alters Mutexes h f (op.TallyEnd t) p w = absurd (cc)
+no_alters Sems h f (op.SemLook x last) p w = absurd (cc)
+no_alters Sems h f (op.SemUnlock x) p w = absurd (cc)
+no_alters Rwls h f (op.RwlLook x writer last) p w = absurd (cc)
+no_alters Rwls h f (op.RwlUnlock x writer) p w = absurd (cc)
+no_alters Segments h f (op.ShmemAttach x) p w = absurd (cc)
+no_alters Segments h f (op.ShmemDetach x) p w = absurd (cc)
+no_alters Segments h f (op.ShmemWrite x cell value) p w = absurd (cc)
+no_alters Segments h f (op.TallyLock t) p w = absurd (cc)
+no_alters Segments h f (op.TallyWrite t value) p w = absurd (cc)
+no_alters Segments h f (op.TallyEnd t) p w = absurd (cc)
+no_alters _ h f _ p w = w
 
 no_removes : (k : Sort) (h : ℕ) (o : Op) → is_supported o ≡ true → RemovesObject k h o → ⊥
-no_removes sort.Groups h (op.GroupDelete x) p w = absurd (cc)
-no_removes sort.Queues h (op.QueueDelete x) p w = absurd (cc)
-no_removes sort.Mutexes h (op.MutexDelete x) p w = absurd (cc)
-no_removes sort.Sems h (op.SemDelete x) p w = absurd (cc)
-no_removes sort.Rwls h (op.RwlDelete x) p w = absurd (cc)
-no_removes sort.Segments h (op.ShmemDelete x) p w = absurd (cc)
+no_removes Groups h (op.GroupDelete x) p w = absurd (cc)
+no_removes Queues h (op.QueueDelete x) p w = absurd (cc)
+no_removes Mutexes h (op.MutexDelete x) p w = absurd (cc)
+no_removes Sems h (op.SemDelete x) p w = absurd (cc)
+no_removes Rwls h (op.RwlDelete x) p w = absurd (cc)
+no_removes Segments h (op.ShmemDelete x) p w = absurd (cc)
 no_removes _ h _ p w = w
 
 sound_move : (o : Op) → is_supported o ≡ true → IsKeptBy o Sound
@@ -195,11 +194,11 @@ sound_move o p s (ends h x) e i = (once_change h (ended x s.ends) s.tasks (λ r.
 sound_move o p s (ends_waiting q x) e i = (once_ends _ x s.ends s.tasks i.0, i.1)
 sound_move o p s (notes h f) e i = (once_change h (with_fields (with_notes f)) s.tasks (λ r. refl) i.0, i.1)
 sound_move o p s (leaves h) e i = (once_change h gone s.tasks (λ r. refl) i.0, i.1)
-sound_move o p s (withdraws h f c) e i = absurd (no_withdraw h o p e.by)
+sound_move o p s (withdraws h f c) e i = absurd (no_withdraw h f o p e.by)
 sound_move o p s (frees_members g) e i = absurd (no_frees g o p e.by)
 sound_move o p s (lets_members_go g) e i = absurd (no_group_goes g o p e.by)
 sound_move o p s (makes k h x) e i = absurd (no_makes k o p e.by)
-sound_move o p s (alters k h f) e i = absurd (no_alters k h o p e.by)
+sound_move o p s (alters k h f) e i = absurd (no_alters k h f o p e.by)
 sound_move o p s (removes k h) e i = absurd (no_removes k h o p e.by)
 sound_move o p s _ e i = i
 
