@@ -1,0 +1,120 @@
+-- What the entrance, the close, a stop and the final call were answered, by the states in which they were made.
+use Rattle.std.proofs.Common.{◌≡◌, ℕ, zero, suc, ◌+◌, ◌<◌, ◌≤◌, Bool, true, false, not, cond, List, [], ◌∷◌, ◌++◌, length, refl, sym, ◌∙◌, ap, subst, arith, append_assoc}
+use Rattle.std.specs.Prelude.{◌&&◌, slice_set}
+use Rattle.std.specs.Bool.{MatchBool}
+use Rattle.mtapi_values.specs.Seats.{marked, all_marked}
+use Rattle.mtapi_values.specs.declared.statuses.MtapiStatus.TheVariants as m
+use Rattle.mtapi_values.specs.declared.ends.TaskEnd.TheVariants.{Cancelled}
+use Rattle.history.specs.Histories.{entry, entries_of}
+use Rattle.handle_pool.specs.Issued.{any}
+use Rattle.task_core.specs.Tasks.{runs_on}
+use Rattle.queue_core.specs.Queues.{is_shut_in}
+use Rattle.mtapi_machine.specs.declared.terms.Terms.{Terms}
+use Rattle.mtapi_machine.specs.declared.terms.Phase.{Phase}
+use Rattle.mtapi_machine.specs.declared.terms.Phase.TheVariants.{New, Open, Closing, Closed}
+use Rattle.mtapi_machine.specs.declared.ops.Op.TheVariants as op
+use Rattle.mtapi_machine.specs.declared.replies.Reply.{Reply}
+use Rattle.mtapi_machine.specs.declared.replies.Reply.TheVariants.{Ok, Pending, Idle, Stop, Mtapi}
+use Rattle.mtapi_machine.specs.State.{State, opening, workers, is_new, is_up, is_late, is_stop}
+use Rattle.mtapi_machine.specs.Moves.{phase_is, stops, ends_waiting, after_moves}
+use Rattle.mtapi_machine.specs.Row.{Row, Allows, unless, gives, says, only, after_row}
+use Rattle.mtapi_machine.specs.Rows.{row, picks, can_take}
+use Rattle.mtapi_machine.specs.Legal.{NodeEntry, IsNext, LegalFrom, next, after_from}
+use Rattle.mtapi_machine.specs.Kept.{is_pending}
+use Rattle.mtapi_machine.proofs.Lists.{Legal-front, Legal-rest, after-append}
+use Rattle.history_law.specs.Seats.{Others}
+use Rattle.history_law.proofs.Others.{phase_stays, stopped_stays, terms_stay}
+use Rattle.history_law.proofs.Bounds.{stopped_room, early_stays}
+use Rattle.sched_workers.proofs.Picks.{Goes, pass, skip}
+use Rattle.sched_threads.proofs.TurnMarks.{Cut, first_own, first_next}
+use Rattle.sched_threads.proofs.OwnParts.{Split, own_split}
+
+-- The entrance
+
+waits_or_ok : (b : Bool) (r : Reply) → is_pending r ≡ false → MatchBool b (r ≡ Pending) (r ≡ Ok) → r ≡ Ok
+waits_or_ok true r d a = absurd (both (ap is_pending (sym a) ∙ d))
+  where
+    both : true ≡ false → ⊥
+    both e = cc
+waits_or_ok false r d a = a
+
+pub enter_reply : (u : State) (w : ℕ) (r : Reply) → is_late u.phase ≡ false → is_pending r ≡ false → Allows (row u w op.Enter r) r → r ≡ Ok
+enter_reply u w r e d a = waits_or_ok (not u.released) r d (pass (is_late u.phase) (Mtapi m.ErrNodeNotinit) r (unless (not u.released) Pending (says Ok)) u e a).allowed
+
+-- The close
+
+pub close_reply : (u : State) (w : ℕ) (r : Reply) → is_late u.phase ≡ false → Allows (row u w op.Close r) r → r ≡ Ok
+close_reply u w r e a = (pass (is_late u.phase) (Mtapi m.ErrNodeNotinit) r (gives Ok (phase_is Closing ∷ ends_waiting (is_shut_in u.queues) Cancelled ∷ [])) u e a).allowed
+
+pub close_phase : (u : State) (w : ℕ) (r : Reply) → is_late u.phase ≡ false → (next u (entry w op.Close r)).phase ≡ Closing
+close_phase u w r e = ap (λ (b : Bool). (after_moves (cond b [] (phase_is Closing ∷ ends_waiting (is_shut_in u.queues) Cancelled ∷ [])) u).phase) e
+
+-- The release, in the state that main's first call left
+
+pub open_phase : (u : State) (w : ℕ) (r : Reply) → u.phase ≡ New → (next u (entry w op.Initialize r)).phase ≡ Open
+open_phase u w r e = ap (λ (p : Phase). (after_moves (cond (not (is_new p)) [] (phase_is Open ∷ [])) u).phase) e
+
+-- A stop marks the worker
+
+set_marks : (l : List Bool) (w : ℕ) → w < length l → marked w (slice_set l w true) ≡ true
+set_marks [] w h = absurd (omega arith)
+set_marks (b ∷ bs) zero h = refl
+set_marks (b ∷ bs) (suc w) h = set_marks bs w (omega arith)
+
+not_status : (c : _) → Stop ≡ Mtapi c → ⊥
+not_status c e = cc
+
+not_idle : Stop ≡ Idle → ⊥
+not_idle e = cc
+
+only_idle : (b : Bool) → Allows (only b (says Idle)) Stop → ⊥
+only_idle true a = not_idle a
+only_idle false a = a
+
+stop_set : (b : Bool) (s : State) (w : ℕ) → w < length s.stopped → Allows (cond b (gives Stop (stops w ∷ [])) (picks s w Stop)) Stop → marked w (after_row s (cond b (gives Stop (stops w ∷ [])) (picks s w Stop))).stopped ≡ true
+stop_set true s w h a = set_marks s.stopped w h
+stop_set false s w h a = absurd (only_idle (not (any (can_take s w) s.tasks)) a)
+
+pub stop_marks : (s : State) (w : ℕ) → w < length s.stopped → IsNext s (entry w op.Pick Stop) → marked w (next s (entry w op.Pick Stop)).stopped ≡ true
+stop_marks s w h n =
+    let inner : Row = cond (is_stop s) (gives Stop (stops w ∷ [])) (picks s w Stop) in
+    let g1 = skip _ (Mtapi m.ErrParameter) Stop (unless (any (runs_on w) s.tasks) (Mtapi m.ErrParameter) (unless (is_new s.phase) Idle inner)) s (not_status m.ErrParameter) n.allowed in
+    let g2 = skip (any (runs_on w) s.tasks) (Mtapi m.ErrParameter) Stop (unless (is_new s.phase) Idle inner) s (not_status m.ErrParameter) g1.allowed in
+    let g3 = skip (is_new s.phase) Idle Stop inner s not_idle g2.allowed in
+    subst (λ (t : State). marked w t.stopped ≡ true) (sym (g1.leads ∙ (g2.leads ∙ g3.leads))) (stop_set (is_stop s) s w h g3.allowed)
+
+after-behind : (s : State) (A : List NodeEntry) (e : NodeEntry) (B : List NodeEntry) → after_from s (A ++ e ∷ B) ≡ after_from (next (after_from s A) e) B
+unfolding after_from
+after-behind s A e B = after-append s A (e ∷ B)
+
+-- a worker whose last entry in a front is a stop is marked from then on
+pub stopped_mark : (terms : Terms) (w : ℕ) (S M xs : List NodeEntry) → w < 25 → LegalFrom (opening terms) (S ++ M) → entries_of w S ≡ xs ++ entry w op.Pick Stop ∷ [] → marked w (after_from (opening terms) (S ++ M)).stopped ≡ true
+stopped_mark terms w S M xs few l k =
+    let e : NodeEntry = entry w op.Pick Stop in
+    let x : Split w S xs (e ∷ []) = own_split w xs S (e ∷ []) k in
+    let c : Cut w x.back e [] = first_own w x.back e [] x.rest in
+    let A = x.front ++ c.before in
+    let B = c.behind ++ M in
+    let is : S ++ M ≡ A ++ e ∷ B =
+    ap (λ (L : List NodeEntry). L ++ M) (x.is ∙ (ap (λ (L : List NodeEntry). x.front ++ L) c.is ∙ sym (append_assoc x.front c.before (e ∷ c.behind))))
+    ∙ append_assoc A (e ∷ c.behind) M in
+    let whole : LegalFrom (opening terms) (A ++ e ∷ B) = subst (λ (L : List NodeEntry). LegalFrom (opening terms) L) is l in
+    let n = first_next (opening terms) A e B whole in
+    let u : State = after_from (opening terms) A in
+    let room : length u.stopped ≡ 25 = stopped_room terms A (Legal-front (opening terms) A (e ∷ B) whole) in
+    let mark = stop_marks u w (omega (arith, room)) n.0 in
+    subst (λ (L : List NodeEntry). marked w (after_from (opening terms) L).stopped ≡ true) (sym is)
+    (subst (λ (s : State). marked w s.stopped ≡ true) (sym (after-behind (opening terms) A e B)) (stopped_stays (next u e) B w n.1 mark))
+
+-- The final call
+
+pub all_marks : (n : ℕ) (l : List Bool) → n ≤ length l → ((k : ℕ) → k < n → marked k l ≡ true) → all_marked n l ≡ true
+all_marks zero l h f = refl
+all_marks (suc n) [] h f = absurd (omega arith)
+all_marks (suc n) (b ∷ bs) h f = (λ i. f 0 (omega arith) i && all_marked n bs) ∙ all_marks n bs (omega arith) (λ k j. f (suc k) (omega arith))
+
+pub final_reply : (u : State) (w : ℕ) (r : Reply) → u.phase ≡ Closing → all_marked (workers u) u.stopped ≡ true → Allows (row u w op.Final r) r → r ≡ Ok
+final_reply u w r e k a =
+    let inner : Row = unless (not (is_late u.phase && all_marked (workers u) u.stopped)) (Mtapi m.ErrNodeInitialized) (gives Ok (phase_is Closed ∷ [])) in
+    let g = pass (not (is_up u.phase)) (Mtapi m.ErrNodeNotinit) r inner u (ap (λ (p : Phase). not (is_up p)) e) a in
+    (pass (not (is_late u.phase && all_marked (workers u) u.stopped)) (Mtapi m.ErrNodeInitialized) r (gives Ok (phase_is Closed ∷ [])) u (λ i. not (is_late (e i) && k i)) g.allowed).allowed

@@ -1,0 +1,161 @@
+-- The seats of a new cell, dealt; and what a whole run begins and ends with.
+use Rattle.std.proofs.Common.{◌≡◌, ℕ, zero, suc, ◌+◌, ◌<◌, ◌≤◌, List, [], ◌∷◌, ◌++◌, length, get_or, take, drop, true, Some, None, Result, refl, sym, ◌∙◌, ap, subst, arith, vec_len, vec_capacity}
+use Rattle.std.specs.Prelude.{◌-◌, All, IfOk, slice_get}
+use Rattle.std.proofs.lemmas.Result.{IfOk-weaker}
+use Rattle.std.specs.List.{AllZip}
+use Rattle.std.proofs.lemmas.List.Elements.{All-nil, All-cons, All-push}
+use Rattle.turn_cell.specs.Lists.{all_of}
+use Rattle.turn_cell.specs.Seats.{fresh_seat, fresh_seats, IsComplete}
+use Rattle.turn_cell.proofs.Complete.{fresh-take, fresh-drop}
+use Rattle.workload_file.specs.declared.workload.Statement.{Statement}
+use Rattle.workload_file.specs.declared.workload.Part.{Part}
+use Rattle.workload_file.specs.declared.workload.Workload.{Workload}
+use Rattle.mtapi_machine.specs.declared.terms.Terms.{Terms}
+use Rattle.mtapi_machine.specs.declared.ops.Op.TheVariants.{Final}
+use Rattle.mtapi_machine.specs.State.{opening}
+use Rattle.mtapi_machine.specs.Legal.{NodeEntry, Legal, after_from}
+use Rattle.mtapi_machine.specs.Kept.{kept, skipped, no_counts}
+use Rattle.node_core.specs.declared.entries.Journal.{Journal}
+use Rattle.node_core.specs.declared.journaled.JournaledTerms.{JournaledTerms}
+use Rattle.node_core.specs.Logs.{KeptAs, journal_seats}
+use Rattle.sched_workers.specs.RunOf.{RunOf}
+use Rattle.sched_workers.proofs.Joins.{journal_is_run}
+use Rattle.sched_threads.specs.declared.crew.back.Crew.{Crew}
+use Rattle.sched_threads.specs.declared.crew.back.AllHands.{AllHands}
+use Rattle.sched_threads.specs.Turns.{Seat}
+use Rattle.sched_threads.specs.declared.run.RunError.{RunError}
+use Rattle.sched_threads.specs.Carries.{AllMade}
+use Rattle.sched_threads.specs.Rounds.{AtRest}
+use Rattle.sched_threads.specs.Crews.{Cell, HasPart, IsIdle, AreReady, AreAllReady, IsOf, IsClean, IsWholeCrewOf, IsEnded, AllDid}
+use Rattle.sched_threads.specs.Runs.{terms_for, IsRunOf, PartsMade, Dealt, JournalOf}
+use Rattle.sched_threads.proofs.Meets.{each_of}
+use Rattle.sched_threads.proofs.Came.{Came, came, came_complete, came_known}
+use Rattle.sched_threads.proofs.WholeRun.{Known, run_by}
+
+-- Dealing
+
+single : (xs : List Seat) (x y : Seat) → xs ++ x ∷ [] ≡ y ∷ [] → x ≡ y
+single [] x y e = cc
+single (w ∷ []) x y e = absurd (cc)
+single (w ∷ v ∷ xs) x y e = absurd (cc)
+
+pub record DealtLists (z : Cell) (w n : ℕ) (main : Seat) (callers workers : List Seat) : Type 0 where
+  pub main_is : main ≡ fresh_seat z.terms z.id w
+  pub callers_are : callers ≡ fresh_seats z.terms z.id (w + 1) (n - w - 1)
+  pub workers_are : workers ≡ fresh_seats z.terms z.id 0 w
+
+pub dealt : (z : Cell) (w n : ℕ) (all workers rest one callers popped : List Seat) (main : Seat) → all ≡ fresh_seats z.terms z.id 0 n → w < n → workers ≡ take w all → rest ≡ drop w all → one ≡ take 1 rest → callers ≡ drop 1 rest → one ≡ popped ++ main ∷ []
+    → DealtLists z w n main callers workers
+dealt z w n all workers rest one callers popped main is l ws rs os cs p =
+    let zero_is : 0 + w ≡ w = omega arith in
+    let rest_is : rest ≡ fresh_seats z.terms z.id w (n - w) = rs ∙ (ap (λ (xs : List Seat). drop w xs) is ∙ (fresh-drop _ _ _ z.terms z.id 0 w n (omega arith) ∙ ap (λ (k : ℕ). fresh_seats z.terms z.id k (n - w)) zero_is)) in
+    let first : one ≡ fresh_seat z.terms z.id w ∷ [] = os ∙ (ap (λ (xs : List Seat). take 1 xs) rest_is ∙ fresh-take _ _ _ z.terms z.id w 1 (n - w) (omega arith)) in
+    record {
+      main_is = single popped main (fresh_seat z.terms z.id w) (sym p ∙ first);
+      callers_are = cs ∙ (ap (λ (xs : List Seat). drop 1 xs) rest_is ∙ fresh-drop _ _ _ z.terms z.id w 1 (n - w) (omega arith));
+      workers_are = ws ∙ (ap (λ (xs : List Seat). take w xs) is ∙ fresh-take _ _ _ z.terms z.id 0 w n (omega arith));
+    }
+
+-- Who has a seat is ready
+
+all_fresh : (z : Cell) (P : Seat → Type 0) (from n : ℕ) → ((k : ℕ) → from ≤ k → k < from + n → P (fresh_seat z.terms z.id k)) → All P (fresh_seats z.terms z.id from n)
+all_fresh z P from zero f = All-nil P
+all_fresh z P from (suc n) f = All-cons P (fresh_seat z.terms z.id from) (fresh_seats z.terms z.id (suc from) n) (f from (omega arith) (omega arith)) (all_fresh z P (suc from) n (λ k low high. f k (omega arith) (omega arith)))
+
+at_rest : (z : Cell) (k : ℕ) → k < z.terms.node.settings.workers → AtRest (fresh_seat z.terms z.id k)
+unfolding after_from
+at_rest z k l = record { worker = l; free = refl }
+
+pub all_ready : (z : Cell) (w m : ℕ) (parts : List Part) (a : AllHands) → Dealt z w m a → length parts ≡ m + 1 → w ≡ z.terms.node.settings.workers → PartsMade parts → AreAllReady z parts a
+all_ready z w m parts a d count few made =
+    let number : a.hands.main.number ≡ w = ap (λ (s : Seat). s.number) d.main in
+    record {
+      hands = record {
+        main = ap (λ (s : Seat). s.cell) d.main;
+        callers =
+            subst (λ (xs : List Seat). All (HasPart z parts a.hands.main.number) xs) (sym d.callers)
+            (all_fresh z (HasPart z parts a.hands.main.number) (w + 1) m (λ k low high. record { cell = refl; behind = omega arith; part = omega arith }));
+        empty = d.empty;
+        room = (let r = d.room in let c = d.callers_len in omega arith);
+        made = made;
+      };
+      workers =
+          subst (λ (xs : List Seat). All (IsIdle z) xs) (sym d.workers)
+          (all_fresh z (IsIdle z) 0 w (λ k low high. record { cell = refl; rest = at_rest z k (omega arith) }));
+      room = (let r = d.room in let c = d.callers_len in let v = d.workers_len in omega arith);
+    }
+
+-- What the crew did, where nobody had to stop
+
+pub crew_came : (z : Cell) (w m : ℕ) (parts : List Part) (ss : List Statement) (a : AllHands) (c c' : Crew) → Dealt z w m a → IsWholeCrewOf z parts ss a c → IsEnded Final c c' → IsClean c' → Came z w m parts ss c'
+crew_came z w m parts ss a c c' d i e clean =
+    let was = i.did (record { started = sym e.refused ∙ clean.started; turned = e.turned clean.turned }) in
+    came z w m parts ss c c'
+    (subst (λ (s : Seat). AllDid parts ss s (fresh_seats z.terms z.id (w + 1) m) (fresh_seats z.terms z.id 0 w) c) d.main
+    (subst (λ (xs : List Seat). AllDid parts ss a.hands.main xs (fresh_seats z.terms z.id 0 w) c) d.callers
+    (subst (λ (xs : List Seat). AllDid parts ss a.hands.main a.hands.callers.items xs c) d.workers was))) e clean
+
+pub crew_complete : (z : Cell) (w m : ℕ) (parts : List Part) (ss : List Statement) (a : AllHands) (c c' : Crew) → Dealt z w m a → IsWholeCrewOf z parts ss a c → IsEnded Final c c' → (t : JournaledTerms) → journal_seats t ≡ w + (m + 1) → IsClean c' → IsComplete (journal_seats t) (c'.others.items ++ c'.main ∷ [])
+crew_complete z w m parts ss a c c' d i e t n clean = came_complete z w m parts ss c' (crew_came z w m parts ss a c c' d i e clean) (journal_seats t) n
+
+-- The journal of a closed cell is a run of the workload
+
+pub run_is : (load : Workload) (z : Cell) (m : ℕ) (p : Part) (ps : List Part) (c : Crew) (j : Journal) → load.parts ≡ p ∷ ps → m ≡ length ps → z.terms.node ≡ terms_for load → Came z load.settings.workers m (p ∷ ps) p.statements c → JournalOf z c j → IsRunOf load j
+run_is load z m p ps c j e n t x k =
+    let parts_count : length load.parts ≡ length (p ∷ ps) = ap (λ (l : List Part). length l) e in
+    let workers_are : z.terms.node.settings.workers ≡ load.settings.workers = ap (λ (u : Terms). u.settings.workers) t in
+    let callers_are : z.terms.node.callers ≡ length load.parts = ap (λ (u : Terms). u.callers) t in
+    let fits = k.legal.fits in
+    let few = fits.settings.workers.1 in
+    let some_callers = fits.callers in
+    let known = came_known z load.settings.workers m (p ∷ ps) p.statements c x k.history k.legal k.seats workers_are (omega arith) (omega arith) in
+    let total : load.settings.workers + (m + 1) ≡ load.settings.workers + length (p ∷ ps) = omega arith in
+    let run = run_by load z.terms.node p ps k.history (subst (λ (i : ℕ). Known z.terms.node load.settings.workers i (p ∷ ps) p.statements k.history) total known) e in
+    let is_run = journal_is_run load z.terms.node k.history (omega arith, omega arith) run in
+    record {
+      settings = k.kept.settings ∙ ap (λ (u : Terms). u.settings) t;
+      callers = k.kept.callers ∙ callers_are;
+      legal = subst (λ (u : Terms). Legal u j.entries.entries) t k.kept.legal;
+      run = subst (λ (es : List NodeEntry). RunOf load es j.entries.skipped) (sym k.kept.entries) (subst (λ (ns : List ℕ). RunOf load (kept (opening z.terms.node) k.history) ns) (sym k.kept.numbers) is_run);
+    }
+
+pub of_cell : (z : Cell) (c : Crew) → IsOf z c → all_of (λ (s : Seat). s.cell ≡ z.id) (c.others.items ++ c.main ∷ [])
+of_cell z c i = each_of (λ (s : Seat). s.cell ≡ z.id) (c.others.items ++ c.main ∷ []) (All-push (λ (s : Seat). s.cell ≡ z.id) c.others.items c.main i.others i.main)
+
+-- How a run begins
+
+fresh-length : (z : Cell) (t : JournaledTerms) (k n : ℕ) → (let l : List Seat = fresh_seats t z.id k n in length l) ≡ n
+fresh-length z t k zero = refl
+fresh-length z t k (suc n) = let r = fresh-length z t (suc k) n in omega arith
+
+pub record Begun (load : Workload) (z : Cell) (items : List Seat) (n : ℕ) : Type 0 where
+  pub terms : z.terms.node ≡ terms_for load
+  pub fresh : items ≡ fresh_seats z.terms z.id 0 n
+  pub count : n ≡ load.settings.workers + length load.parts
+  pub len : length items ≡ n
+
+pub begun : (load : Workload) (z : Cell) (items : List Seat) (t : JournaledTerms) (u : Terms) → z.terms ≡ t → t ≡ record { node = u; keeps = true } → u ≡ terms_for load → items ≡ fresh_seats t z.id 0 (journal_seats t) → Begun load z items (journal_seats t)
+begun load z items t u e f g is = record {
+  terms = ap (λ (x : JournaledTerms). x.node) e ∙ (ap (λ (x : JournaledTerms). x.node) f ∙ g);
+  fresh = is ∙ ap (λ (x : JournaledTerms). fresh_seats x z.id 0 (journal_seats t)) (sym e);
+  count = ap journal_seats f ∙ ap (λ (x : Terms). x.settings.workers + x.callers) g;
+  len = ap (λ (l : List Seat). length l) is ∙ fresh-length z t 0 (journal_seats t);
+}
+
+pub first_part : (ps : List Part) (p : Part) → 1 ≤ length ps → p ≡ get_or ps 0 p → (qs : List Part) × (ps ≡ p ∷ qs)
+first_part [] p l e = absurd (omega arith)
+first_part (q ∷ qs) p l e = (qs, ap (λ (x : Part). x ∷ qs) (sym e))
+
+pub main_made : (ps qs : List Part) (p : Part) → ps ≡ p ∷ qs → PartsMade ps → AllMade p.statements
+main_made ps qs p e made = made 0 p (ap (λ (l : List Part). slice_get l 0) e)
+
+-- and what it gives
+pub ran : (load : Workload) (z : Cell) (w m : ℕ) (parts : List Part) (ss : List Statement) (p : Part) (qs : List Part) (a : AllHands) (c c' : Crew) (r : Result Journal RunError) → w ≡ load.settings.workers → parts ≡ p ∷ qs → load.parts ≡ p ∷ qs → ss ≡ p.statements → m ≡ length qs → z.terms.node ≡ terms_for load
+    → Dealt z w m a → IsWholeCrewOf z parts ss a c → IsEnded Final c c' → IfOk r (JournalOf z c') → IfOk r (IsRunOf load)
+ran load z w m parts ss p qs a c c' r we pe le se me te d i e h = IfOk-weaker r (JournalOf z c') (IsRunOf load) (λ j k. run_is load z m p qs c' j le me te (shown k.clean) k) h
+  where
+    shown : IsClean c' → Came z load.settings.workers m (p ∷ qs) p.statements c'
+    shown clean =
+        subst (λ (n : ℕ). Came z n m (p ∷ qs) p.statements c') we
+        (subst (λ (ps : List Part). Came z w m ps p.statements c') pe
+        (subst (λ (l : List Statement). Came z w m parts l c') se (crew_came z w m parts ss a c c' d i e clean)))

@@ -1,0 +1,58 @@
+-- What a run gives back, and what it begins with.
+use Rattle.std.specs.Prelude.{◌≡◌, ℕ, ◌+◌, ◌≤◌, ◌^◌, Bool, true, List, [], ◌∷◌, ◌++◌, length, vec_len, vec_capacity, Some, slice_get}
+use Rattle.turn_cell.specs.Lists.{all_of}
+use Rattle.turn_cell.specs.Seats.{fresh_seat, fresh_seats, IsSeatOf}
+use Rattle.workload_file.specs.declared.workload.Part.{Part}
+use Rattle.workload_file.specs.declared.workload.Workload.{Workload}
+use Rattle.mtapi_machine.specs.declared.terms.Terms.{Terms}
+use Rattle.mtapi_machine.specs.Legal.{NodeEntry, Legal}
+use Rattle.node_core.specs.declared.entries.Journal.{Journal}
+use Rattle.node_core.specs.declared.journaled.JournaledTerms.{JournaledTerms}
+use Rattle.node_core.specs.Logs.{KeptAs}
+use Rattle.sched_workers.specs.RunOf.{RunOf}
+use Rattle.sched_threads.specs.declared.crew.back.Crew.{Crew}
+use Rattle.sched_threads.specs.declared.crew.back.AllHands.{AllHands}
+use Rattle.sched_threads.specs.declared.run.RunError.{RunError}
+use Rattle.sched_threads.specs.declared.run.RunError.TheVariants as error
+use Rattle.sched_threads.specs.Pairs.{Rose}
+use Rattle.sched_threads.specs.Carries.{AllMade}
+use Rattle.sched_threads.specs.Crews.{Cell, IsClean}
+
+-- the terms of a run: the workload's settings, and one caller for each part
+abbrev pub terms_for : Workload → Terms
+terms_for load = record { settings = load.settings; callers = length load.parts }
+
+-- the journal has these terms, is legal, and is a run of the workload
+pub record IsRunOf (load : Workload) (j : Journal) : Type 0 where
+  pub settings : j.settings ≡ load.settings
+  pub callers : j.callers ≡ length load.parts
+  pub legal : Legal (terms_for load) j.entries.entries
+  pub run : RunOf load j.entries.entries j.entries.skipped
+
+-- an op does what each statement says
+abbrev pub PartsMade : List Part → Type 0
+PartsMade parts = (i : ℕ) (p : Part) → slice_get parts i ≡ Some p → AllMade p.statements
+
+-- where a run was refused, the count of refused threads rose; `Spent` shows a ticket word of at least 2^62
+abbrev pub Causes : ℕ → ℕ → RunError → Type 0
+Causes before after error.Refused = Rose before after
+Causes before after (error.Spent s) = 2 ^ 62 ≤ s
+Causes before after error.Memory = Unit {0}
+
+-- the seats of a new cell: those of w workers, main's, and those of m further callers; and room for all that come back
+pub record Dealt (z : Cell) (w m : ℕ) (a : AllHands) : Type 0 where
+  pub main : a.hands.main ≡ fresh_seat z.terms z.id w
+  pub callers : a.hands.callers.items ≡ fresh_seats z.terms z.id (w + 1) m
+  pub workers : a.workers.items ≡ fresh_seats z.terms z.id 0 w
+  pub callers_len : vec_len a.hands.callers ≡ m
+  pub workers_len : vec_len a.workers ≡ w
+  pub empty : a.hands.room.items ≡ []
+  pub room : w + m + 1 ≤ vec_capacity a.hands.room
+
+-- the crew had no reason to stop, and the journal is that of the history of its cell
+pub record JournalOf (z : Cell) (c : Crew) (j : Journal) : Type 0 where
+  pub clean : IsClean c
+  pub history : List NodeEntry
+  pub legal : Legal z.terms.node history
+  pub seats : all_of (IsSeatOf z.terms history) (c.others.items ++ c.main ∷ [])
+  pub kept : KeptAs z.terms.node j history

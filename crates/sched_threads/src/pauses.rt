@@ -1,0 +1,63 @@
+//! How a thread waits between two looks.
+
+use crossbeam_utils::Backoff;
+use std::sync::Wait;
+use std::sync::atomic::AtomicU64;
+use std::time::Duration;
+
+// So long the longest sleep is, in microseconds.
+const LONGEST: u64 = 1_000;
+
+// So many sleeps a wait with a limit of looks makes at most: two seconds, whatever the limit is.
+const FEW: u64 = 2_000;
+
+/// It spins, then gives its time away, and then sleeps, twice as long each time, up to a millisecond.
+#[derive(Drop)]
+pub(crate) struct Pause {
+    backoff: Backoff,
+    // The length of the next sleep, in microseconds.
+    micros: u64,
+    // How many sleeps are left; without one it gives its time away.
+    left: u64,
+    // Nobody wakes it, so that a sleep ends by its length.
+    asleep: AtomicU64,
+}
+
+impl Pause {
+    /// For looks without a limit.
+    pub(crate) fn new() -> Pause {
+        Pause::with(u64::MAX)
+    }
+
+    /// For looks with a limit, which may be many.
+    pub(crate) fn within_limit() -> Pause {
+        Pause::with(FEW)
+    }
+
+    fn with(left: u64) -> Pause {
+        Pause {
+            backoff: Backoff::new(),
+            micros: 1,
+            left,
+            asleep: AtomicU64::new(0),
+        }
+    }
+
+    /// Begins anew, after there was something to do.
+    pub(crate) fn reset(&mut self) {
+        self.backoff.reset();
+        self.micros = 1;
+    }
+
+    /// Waits once.
+    pub(crate) fn wait<R: Wait>(&mut self, rt: &R) {
+        if !self.backoff.is_completed() || self.left == 0 {
+            self.backoff.snooze();
+            return;
+        }
+        self.left -= 1;
+        self.asleep
+            .park_timeout(rt, 0, Duration::from_micros(self.micros));
+        self.micros = self.micros.saturating_mul(2).min(LONGEST);
+    }
+}
