@@ -1,5 +1,5 @@
 -- A new node stands for the empty list, and each step goes on with the list.
-use Rattle.std.proofs.Common.{◌≡◌, ℕ, ◌+◌, ◌<◌, ◌≤◌, false, List, [], ◌∷◌, ◌++◌, ◌^◌, length, length-append, replicate, refl, sym, ◌∙◌, ap, subst, arith}
+use Rattle.std.proofs.Common.{◌≡◌, ℕ, ◌+◌, ◌<◌, ◌≤◌, false, List, [], ◌∷◌, ◌++◌, ◌^◌, length, length-append, replicate, true, refl, sym, ◌∙◌, ap, subst, arith}
 use Rattle.std.proofs.lemmas.List.{length-replicate}
 use Rattle.mtapi_values.specs.Attributes.{NodeSettings, AreNodeSettings}
 use Rattle.handle_pool.specs.Slots.{Slots, free_slot}
@@ -17,6 +17,8 @@ use Rattle.mtapi_machine.specs.State.{State}
 use Rattle.mtapi_machine.specs.Legal.{NodeEntry, IsNext, next, LegalFrom, Legal, after_from, after}
 use Rattle.mtapi_machine.proofs.Lists.{Legal-append, Legal-one, after-one}
 use Rattle.node_core.specs.declared.node.Node.{Node}
+use Rattle.node_core.specs.Supported.{is_supported}
+use Rattle.node_core.proofs.SupportedLemmas.{supported_none, supported_more}
 use Rattle.node_core.specs.Stands.{Lists, Holds, Pools, Live, Steps, Stands, state_of, terms_of, seat_count}
 
 -- a new pool holds the empty list
@@ -35,6 +37,7 @@ pub new_node : (attr : NodeSettings) (callers : ℕ) (b : BoardTable) → AreNod
 unfolding LegalFrom after_from
 new_node attr callers b s some few is x y starts ends kept = record {
   legal = record { fits = record { settings = subst (λ (t : NodeSettings). AreNodeSettings t) (sym is) s; some_caller = some; callers = few }; from = tt };
+  supported = supported_none;
   lists = record { actions = []; tasks = [] };
   state = same;
   live = live;
@@ -52,10 +55,10 @@ one_more : (L : List NodeEntry) (e : NodeEntry) → length (L ++ e ∷ []) ≡ l
 one_more L e = simp length-append refl
 
 -- one more entry
-pub goes_on : (n m : Node) (L : List NodeEntry) (who : ℕ) (op : Op) (r : Reply) (st : Stands n L) → who < seat_count (terms_of n) → Steps n st.lists who op r m → IsBoard m.board → Stands m (L ++ entry who op r ∷ [])
-goes_on n m L who op r st seat s kept =
+pub goes_on : (n m : Node) (L : List NodeEntry) (who : ℕ) (op : Op) (r : Reply) (st : Stands n L) → who < seat_count (terms_of n) → is_supported op ≡ true → Steps n st.lists who op r m → IsBoard m.board → Stands m (L ++ entry who op r ∷ [])
+goes_on n m L who op r st seat may_ask s kept =
     subst (λ (t : Terms). Legal t (L ++ e ∷ []) → after t (L ++ e ∷ []) ≡ state_of m s.0 → Stands m (L ++ e ∷ [])) s.1.terms
-    (λ legal leads. record { legal = legal; lists = s.0; state = leads; live = live; starts = starts; keeps = subst (λ (x : State). Keeps x m.board) (sym leads) (keeps-board m s.0 live kept) })
+    (λ legal leads. record { legal = legal; supported = supported_more L e st.supported may_ask; lists = s.0; state = leads; live = live; starts = starts; keeps = subst (λ (x : State). Keeps x m.board) (sym leads) (keeps-board m s.0 live kept) })
     (record { fits = st.legal.fits; from = Legal-append _ L (e ∷ []) st.legal.from (Legal-one (after (terms_of n) L) e may) })
     (after-one _ L e ∙ (ap (λ (x : State). next x e) st.state ∙ s.1.leads))
   where

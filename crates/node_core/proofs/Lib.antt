@@ -1,4 +1,5 @@
 pub mod Marks
+pub mod SupportedLemmas
 pub mod Gives
 pub mod Moves
 pub mod Changes

@@ -2,6 +2,8 @@
 use Rattle.std.proofs.Common.{◌≡◌, ℕ, ◌+◌, ◌<◌, ◌^◌, Bool, true, false, List, [], ◌∷◌, ◌++◌, length, length-append, refl, sym, ◌∙◌, ap, subst, arith}
 use Rattle.std.specs.Prelude.{slice_index, Option, None, Result, Ok, IfOk, IfSome, IsErr, ◌↔◌}
 use Rattle.std.specs.declared.alloc.AllocError.{AllocError}
+use Rattle.node_core.specs.Supported.{AllSupported}
+use Rattle.node_core.proofs.SupportedLemmas.{supported_kept}
 use Rattle.node_core.specs.declared.entries.Journal.{Journal}
 use Rattle.history.specs.Histories.{entry}
 use Rattle.mtapi_machine.specs.declared.ops.Op.{Op}
@@ -111,12 +113,12 @@ module _ (t : Terms) where
   journal_lost Lost r e = rw e (λ x. refl, λ x. refl)
   journal_lost (Entries k) r e = rw e (λ x. cc, λ x. cc)
 
-  pub journal_kept : (k : Kept) (r : Result (Option Journal) AllocError) (L : List NodeEntry) → IsJournal t k r → KeepsOf (opening t) k L → Legal t L → IfOk r (λ o. IfSome o (λ j. KeptAs t j L))
-  journal_kept Nothing r L e h l = rw e tt
-  journal_kept Lost r L e h l = rw e tt
-  journal_kept (Entries k) r L e h l =
+  pub journal_kept : (k : Kept) (r : Result (Option Journal) AllocError) (L : List NodeEntry) → IsJournal t k r → KeepsOf (opening t) k L → Legal t L → AllSupported L → IfOk r (λ o. IfSome o (λ j. KeptAs t j L))
+  journal_kept Nothing r L e h l a = rw e tt
+  journal_kept Lost r L e h l a = rw e tt
+  journal_kept (Entries k) r L e h l a =
       let good = kept_legal t L k.entries l h.0 in
-      rw e (record { layout = refl; settings = refl; callers = refl; entries = h.0; numbers = h.1; legal = good.0; leads = good.1 })
+      rw e (record { layout = refl; settings = refl; callers = refl; entries = h.0; numbers = h.1; legal = good.0; supported = subst AllSupported (sym h.0) (supported_kept (opening t) L a); leads = good.1 })
 
 -- few entries, and one more
 pub few_none : (j : Journaled) → StandsKept j [] → StandsForFew j 0

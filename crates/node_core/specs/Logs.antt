@@ -14,6 +14,7 @@ use Rattle.node_core.specs.declared.journaled.Log.{Log}
 use Rattle.node_core.specs.declared.journaled.Journaled.{Journaled}
 use Rattle.node_core.specs.declared.journaled.JournaledTerms.{JournaledTerms}
 use Rattle.node_core.specs.Journals.{KeptEntries}
+use Rattle.node_core.specs.Supported.{AllSupported, IsNodeHistory}
 use Rattle.node_core.specs.Stands.{Stands, terms_of, seat_count, some_terms}
 
 -- a journal is kept, be it lost by now or not
@@ -79,7 +80,7 @@ abbrev pub journal_seats : JournaledTerms → ℕ
 journal_seats t = seat_count t.node
 
 abbrev pub journal_legal : JournaledTerms → List NodeEntry → Type 0
-journal_legal t L = Legal t.node L
+journal_legal t L = IsNodeHistory t.node L
 
 abbrev pub some_journal_terms : JournaledTerms
 some_journal_terms = record { node = some_terms; keeps = false }
@@ -90,7 +91,7 @@ pub record HasTerms (t : Terms) (j : Journal) : Type 0 where
   pub settings : j.settings ≡ t.settings
   pub callers : j.callers ≡ t.callers
 
--- the journal of a list: the node's terms, and the kept entries with their numbers, which are legal and lead to the same state
+-- the journal of a list: the node's terms, and the kept entries with their numbers, which are legal, by ops that a node carries out, and lead to the same state
 pub record KeptAs (t : Terms) (j : Journal) (L : List NodeEntry) : Type 0 where
   pub layout : j.layout ≡ t.layout
   pub settings : j.settings ≡ t.settings
@@ -98,6 +99,7 @@ pub record KeptAs (t : Terms) (j : Journal) (L : List NodeEntry) : Type 0 where
   pub entries : j.entries.entries ≡ kept (opening t) L
   pub numbers : j.entries.skipped ≡ skipped (opening t) no_counts L
   pub legal : Legal t j.entries.entries
+  pub supported : AllSupported j.entries.entries
   pub leads : after t j.entries.entries ≡ after t L
 
 -- the journal with what was kept; an error where it is lost

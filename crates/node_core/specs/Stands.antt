@@ -16,6 +16,7 @@ use Rattle.mtapi_machine.specs.Rows.{row}
 use Rattle.mtapi_machine.specs.Legal.{NodeEntry, IsHonest, Legal, after}
 use Rattle.node_core.specs.declared.node.Node.{Node}
 use Rattle.node_core.specs.Keeps.{Keeps}
+use Rattle.node_core.specs.Supported.{AllSupported, IsNodeHistory}
 
 -- the objects that were ever made, of the kinds that a node has so far
 pub record Lists : Type 0 where
@@ -71,14 +72,19 @@ pub record StepsTo (n : Node) (l : Lists) (who : ℕ) (op : Op) (r : Reply) (m :
 abbrev pub Steps : Node → Lists → ℕ → Op → Reply → Node → Type 0
 Steps n l who op r m = (k : Lists) × StepsTo n l who op r m k
 
--- the node stands for the list: it is legal, and leads to what the node holds
+-- the node stands for the list: it is legal, by ops that a node carries out, and leads to what the node holds
 pub record Stands (n : Node) (L : List NodeEntry) : Type 0 where
   pub legal : Legal (terms_of n) L
+  pub supported : AllSupported L
   pub lists : Lists
   pub state : after (terms_of n) L ≡ state_of n lists
   pub live : Live n lists
   pub starts : n.board.tasks.starts ≤ length L
   pub keeps : Keeps (after (terms_of n) L) n.board
+
+-- a node stands for such histories alone
+abbrev pub history_of : (n : Node) (L : List NodeEntry) → Stands n L → IsNodeHistory (terms_of n) L
+history_of n L s = record { legal = s.legal; supported = s.supported }
 
 -- how many seats these terms give
 abbrev pub seat_count : Terms → ℕ

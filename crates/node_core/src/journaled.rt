@@ -146,7 +146,8 @@ impl Object for Journaled {
 
     type Terms = JournaledTerms;
 
-    ghost use Rattle.mtapi_machine.proofs.Lists.{Legal-prefix};
+    ghost use Rattle.node_core.specs.Supported.{history_prefix};
+    ghost use Rattle.node_core.specs.Stands.{history_of};
     ghost use Rattle.node_core.specs.Logs.{StandsKept, journal_terms, journal_seats, journal_legal, some_journal_terms};
 
     ghost blank = { some_journal_terms };
@@ -159,9 +160,9 @@ impl Object for Journaled {
 
     ghost stands = { StandsKept };
 
-    ghost prefix_legal = { λ t. Legal-prefix t.node };
+    ghost prefix_legal = { λ t. history_prefix t.node };
 
-    ghost stands_legal = { λ x l s. s.node.legal };
+    ghost stands_legal = { λ x l s. history_of x.node l s.node };
 
     fn seats(&self) -> u32 {
         self.node.seats()

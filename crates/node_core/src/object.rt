@@ -18,9 +18,8 @@ impl Object for Node {
 
     type Terms = mtapi_machine::Terms;
 
-    ghost use Rattle.mtapi_machine.specs.Legal.{Legal};
-    ghost use Rattle.mtapi_machine.proofs.Lists.{Legal-prefix};
-    ghost use Rattle.node_core.specs.Stands.{Stands, terms_of, seat_count, some_terms};
+    ghost use Rattle.node_core.specs.Supported.{IsNodeHistory, history_prefix};
+    ghost use Rattle.node_core.specs.Stands.{Stands, terms_of, seat_count, some_terms, history_of};
 
     ghost blank = { some_terms };
 
@@ -28,13 +27,13 @@ impl Object for Node {
 
     ghost seat_count = { seat_count };
 
-    ghost legal = { Legal };
+    ghost legal = { IsNodeHistory };
 
     ghost stands = { Stands };
 
-    ghost prefix_legal = { Legal-prefix };
+    ghost prefix_legal = { history_prefix };
 
-    ghost stands_legal = { λ x l s. s.legal };
+    ghost stands_legal = { history_of };
 
     fn seats(&self) -> u32 {
         self.board.workers() + u32::from(self.core.callers)
@@ -49,6 +48,7 @@ impl Object for Node {
     }
 
     fn apply(&mut self, who: u32, op: NodeOp) -> Reply {
+        let _ = op.op();
         let reply = self.dispatch(who, op);
         self.board.is_kept();
         reply
@@ -63,6 +63,7 @@ impl Node {
         ensures terms { terms_of self.new ≡ terms_of self.old }
         ensures stands { (L : List NodeEntry) → Stands self.old L → Stands self.new (L ++ entry who op result ∷ []) }
     {
+        let _ = op.op();
         let reply = self.dispatch(who, op);
         self.board.is_kept();
         reply

@@ -7,8 +7,8 @@ use Rattle.mtapi_values.specs.declared.statuses.MtapiStatus.TheVariants as m
 use Rattle.mtapi_values.specs.declared.ends.TaskEnd.TheVariants.{Cancelled}
 use Rattle.history.specs.Histories.{entry, entries_of}
 use Rattle.handle_pool.specs.Issued.{any}
-use Rattle.task_core.specs.Tasks.{runs_on}
-use Rattle.queue_core.specs.Queues.{is_shut_in}
+use Rattle.mtapi_objects.specs.Tasks.{runs_on}
+use Rattle.mtapi_objects.specs.Queues.{is_shut_in}
 use Rattle.mtapi_machine.specs.declared.terms.Terms.{Terms}
 use Rattle.mtapi_machine.specs.declared.terms.Phase.{Phase}
 use Rattle.mtapi_machine.specs.declared.terms.Phase.TheVariants.{New, Open, Closing, Closed}
@@ -25,7 +25,7 @@ use Rattle.mtapi_machine.proofs.Lists.{Legal-front, Legal-rest, after-append}
 use Rattle.history_law.specs.Seats.{Others}
 use Rattle.history_law.proofs.Others.{phase_stays, stopped_stays, terms_stay}
 use Rattle.history_law.proofs.Bounds.{stopped_room, early_stays}
-use Rattle.sched_workers.proofs.Picks.{Goes, pass, skip}
+use Rattle.sched_workers.proofs.Rows.{Goes, pass, skip}
 use Rattle.sched_threads.proofs.TurnMarks.{Cut, first_own, first_next}
 use Rattle.sched_threads.proofs.OwnParts.{Split, own_split}
 

@@ -19,7 +19,7 @@ use Rattle.mtapi_machine.specs.Legal.{NodeEntry, LegalFrom, after_from}
 use Rattle.mtapi_machine.proofs.Lists.{Legal-front}
 use Rattle.history_law.specs.Seats.{NoPhase, Others}
 use Rattle.history_law.proofs.Others.{phase_stays}
-use Rattle.sched_workers.proofs.Picks.{pass}
+use Rattle.sched_workers.proofs.Rows.{pass}
 use Rattle.sched_threads.proofs.OwnEntries.{entries-append, self_is}
 use Rattle.sched_threads.proofs.TurnMarks.{Cut, first_own, first_next}
 

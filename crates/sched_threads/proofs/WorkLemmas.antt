@@ -29,7 +29,7 @@ use Rattle.history_law.specs.Seats.{Work, RunsWith, Holds, Free, IsUntouched}
 use Rattle.history_law.proofs.Found.{count_changed, count_none}
 use Rattle.history_law.proofs.SeatMoves.{asked_noted}
 use Rattle.sched_threads.proofs.OwnEntries.{self_is}
-use Rattle.sched_workers.proofs.Picks.{Goes, pass, goes_then, small_not}
+use Rattle.sched_workers.proofs.Rows.{Goes, pass, goes_then, small_not}
 
 -- each task that hasn't begun is untouched
 abbrev pub Untouched : State → Type 0
