@@ -16,7 +16,8 @@ use Rattle.run_report.specs.Calls.{task_lines, call_lines}
 use Rattle.run_report.specs.Standings.{ends_of, end_of_standing, standings_from, no_standing}
 use Rattle.mtapi_values.specs.declared.handles.Layout.{Layout}
 use Rattle.mtapi_machine.specs.State.{terms_of}
-use Rattle.run_report.specs.Report.{run_terms, AllSupported, parts_told, report_by, report}
+use Rattle.node_core.specs.Supported.{AllSupported}
+use Rattle.run_report.specs.Report.{run_terms, parts_told, report_by, report}
 use Rattle.run_report.proofs.Records.{end_at-standing}
 use Rattle.run_report.proofs.Steps.{standing_by_entries}
 use Rattle.run_report.specs.Replies.{Told, told, further_told, all_told, calls_before}

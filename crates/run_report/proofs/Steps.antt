@@ -24,8 +24,7 @@ use Rattle.mtapi_machine.specs.TaskRows.{asked_for, looks_at, cancels}
 use Rattle.mtapi_machine.specs.WorkRows.{can_take, may_take, picks, task_end}
 use Rattle.mtapi_machine.specs.Rows.{row}
 use Rattle.mtapi_machine.specs.Laws.{WithdrawsAction, FreesMembers, DeletesGroup, makes_kind, AltersObject, RemovesObject}
-use Rattle.node_core.specs.Supported.{is_supported}
-use Rattle.run_report.specs.Report.{AllSupported}
+use Rattle.node_core.specs.Supported.{is_supported, AllSupported}
 use Rattle.mtapi_machine.specs.Legal.{NodeEntry, IsNext, row_of, next, LegalFrom, Legal, after_from, after}
 use Rattle.mtapi_machine.proofs.Made.{fst_true, snd_true}
 use Rattle.mtapi_machine.proofs.Moves.{IsKeptBy, by_moves}

@@ -1,5 +1,5 @@
 -- The report of a run.
-use Rattle.std.specs.Prelude.{◌≡◌, ℕ, true, List, [], ◌∷◌, ◌++◌, length, Option}
+use Rattle.std.specs.Prelude.{ℕ, List, ◌++◌, length, Option}
 use Rattle.std.specs.List.{flat_map}
 use Rattle.mtapi_values.specs.declared.ends.TaskEnd.{TaskEnd}
 use Rattle.workload_file.specs.declared.workload.Workload.{Workload}
@@ -8,18 +8,12 @@ use Rattle.mtapi_machine.specs.declared.terms.Terms.{Terms}
 use Rattle.mtapi_machine.specs.State.{terms_of}
 use Rattle.mtapi_machine.specs.Ends.{end_at}
 use Rattle.mtapi_machine.specs.Legal.{NodeEntry, after}
-use Rattle.node_core.specs.Supported.{is_supported}
 use Rattle.run_report.specs.Replies.{Told, all_told}
 use Rattle.run_report.specs.Calls.{task_lines, call_lines}
 
 -- the terms of a run of a workload: its settings, and one caller for each part
 abbrev pub run_terms : Layout → Workload → Terms
 run_terms layout load = terms_of layout load.settings (length load.parts)
-
--- each of these entries is by an op that a node carries out so far
-unfoldable pub AllSupported : List NodeEntry → Type 0
-AllSupported [] = Unit {0}
-AllSupported (e ∷ es) = (is_supported e.op ≡ true) × AllSupported es
 
 -- each part with the replies to its statements
 abbrev pub parts_told : Workload → List NodeEntry → List Told

@@ -2,7 +2,8 @@
 ghost use Rattle.std.specs.Prelude.{◌≡◌, length, IfOk};
 ghost use Rattle.mtapi_machine.specs.Legal.{Legal};
 ghost use Rattle.mtapi_machine.specs.State.{terms_of};
-ghost use Rattle.run_report.specs.Report.{run_terms, AllSupported, report};
+ghost use Rattle.node_core.specs.Supported.{AllSupported};
+ghost use Rattle.run_report.specs.Report.{run_terms, report};
 
 use crate::page::text_by_entries;
 use mtapi_machine::Entry;
