@@ -18,7 +18,8 @@ use Rattle.mtapi_machine.specs.declared.replies.Reply.TheVariants.{Ok, Pending, 
 use Rattle.mtapi_machine.specs.State.{State, opening, workers, is_new, is_up, is_late, is_stop}
 use Rattle.mtapi_machine.specs.Moves.{phase_is, stops, ends_waiting, after_moves}
 use Rattle.mtapi_machine.specs.Row.{Row, Allows, unless, gives, says, only, after_row}
-use Rattle.mtapi_machine.specs.Rows.{row, picks, can_take}
+use Rattle.mtapi_machine.specs.WorkRows.{picks, can_take}
+use Rattle.mtapi_machine.specs.Rows.{row}
 use Rattle.mtapi_machine.specs.Legal.{NodeEntry, IsNext, LegalFrom, next, after_from}
 use Rattle.mtapi_machine.specs.Kept.{is_pending}
 use Rattle.mtapi_machine.proofs.Lists.{Legal-front, Legal-rest, after-append}

@@ -11,7 +11,8 @@ use Rattle.handle_pool.specs.Issued.{at}
 use Rattle.mtapi_objects.specs.Tasks.{TaskState, Scheduled, Running, Over}
 use Rattle.mtapi_machine.specs.State.{State}
 use Rattle.mtapi_machine.specs.Row.{Allows}
-use Rattle.mtapi_machine.specs.Rows.{row, looks_at, cancels}
+use Rattle.mtapi_machine.specs.TaskRows.{looks_at, cancels}
+use Rattle.mtapi_machine.specs.Rows.{row}
 use Rattle.mtapi_machine.specs.Kept.{is_pending}
 use Rattle.sched_workers.proofs.Rows.{AllSays, said, on_live, on_only}
 use Rattle.sched_threads.specs.declared.looks.Wanted.{Wanted}

@@ -8,13 +8,13 @@ use Rattle.mtapi_values.specs.Seats.{is_seat, is_other}
 use Rattle.mtapi_values.specs.declared.statuses.MtapiStatus.TheVariants as m
 use Rattle.mtapi_values.specs.declared.handles.TaskHandle.{TaskHandle}
 use Rattle.handle_pool.specs.Issued.{at}
-use Rattle.mtapi_objects.specs.Tasks.{Task, TaskState, Scheduled, Running, Over, with_waiter}
+use Rattle.mtapi_objects.specs.Tasks.{Task, TaskState, Scheduled, Running, Over, with_notes, with_waiter}
 use Rattle.mtapi_machine.specs.declared.ops.Op.TheVariants as op
 use Rattle.mtapi_machine.specs.declared.replies.Reply.{Reply}
 use Rattle.mtapi_machine.specs.declared.replies.Reply.TheVariants.{Pending, Ended, Mtapi}
 use Rattle.mtapi_machine.specs.State.{State, is_up, tasks, changed}
 use Rattle.mtapi_machine.specs.Row.{Row, unless, says, Allows, after_row, live}
-use Rattle.mtapi_machine.specs.Rows.{looks_at}
+use Rattle.mtapi_machine.specs.TaskRows.{looks_at}
 use Rattle.mtapi_machine.specs.Legal.{NodeEntry, IsNext, LegalFrom, next, after_from}
 use Rattle.mtapi_machine.specs.Kept.{is_dropped, is_pending, pends_alike}
 use Rattle.mtapi_machine.proofs.Lists.{after-one, Legal-front, Legal-rest}
@@ -81,7 +81,7 @@ not_mtapi c e = cc
 not_end : (c : _) → Pending ≡ Ended c → ⊥
 not_end c e = cc
 
-set_waiter : (s : State) (w h : ℕ) (x : Task) (y : TaskState) → Allows (looks_at w h false y) Pending → after_row s (looks_at w h false y) ≡ changed tasks h (with_waiter (Some w)) s
+set_waiter : (s : State) (w h : ℕ) (x : Task) (y : TaskState) → Allows (looks_at w h false y) Pending → after_row s (looks_at w h false y) ≡ changed tasks h (with_notes (with_waiter (Some w))) s
 set_waiter s w h x Scheduled a = refl
 set_waiter s w h x (Running v k) a = refl
 set_waiter s w h x (Over e n) a = absurd (not_end e a)
@@ -90,31 +90,39 @@ first_false : (a b : Bool) → (a || b) ≡ false → a ≡ false
 first_false true b e = absurd (cc)
 first_false false b e = refl
 
+second_false : (a b : Bool) → (a || b) ≡ false → b ≡ false
+second_false true b e = absurd (cc)
+second_false false b e = e
+
+no_some : (o : Option ℕ) → is_some o ≡ false → o ≡ None
+no_some None e = refl
+no_some (Some g) e = absurd (cc)
+
 passed : (c : Bool) (x r : Reply) (v : Row) → (r ≡ x → ⊥) → Allows (unless c x v) r → c ≡ false
 passed true x r v n a = absurd (n a)
 passed false x r v n a = refl
 
 look_at_live : (s : State) (w h : ℕ) (o : Option Task) → at s.tasks h ≡ o
-    → Allows (live o (says (Mtapi m.ErrTaskInvalid)) (λ x. unless (x.detached || is_some x.group) (Mtapi m.ErrParameter) (unless (is_other w x.waiter) (Mtapi m.ErrWaitPending) (looks_at w h false x.state)))) Pending
-    → Waits (after_row s (live o (says (Mtapi m.ErrTaskInvalid)) (λ x. unless (x.detached || is_some x.group) (Mtapi m.ErrParameter) (unless (is_other w x.waiter) (Mtapi m.ErrWaitPending) (looks_at w h false x.state))))) w h
+    → Allows (live o (says (Mtapi m.ErrTaskInvalid)) (λ x. unless (x.notes.detached || is_some x.notes.group) (Mtapi m.ErrParameter) (unless (is_other w x.notes.waiter) (Mtapi m.ErrWaitPending) (looks_at w h false x.state)))) Pending
+    → Waits (after_row s (live o (says (Mtapi m.ErrTaskInvalid)) (λ x. unless (x.notes.detached || is_some x.notes.group) (Mtapi m.ErrParameter) (unless (is_other w x.notes.waiter) (Mtapi m.ErrWaitPending) (looks_at w h false x.state))))) w h
 look_at_live s w h None e a = absurd (not_mtapi m.ErrTaskInvalid a)
 look_at_live s w h (Some x) e a =
-    let v : Row = unless (is_other w x.waiter) (Mtapi m.ErrWaitPending) (looks_at w h false x.state) in
-    let d = passed (x.detached || is_some x.group) (Mtapi m.ErrParameter) Pending v (not_mtapi m.ErrParameter) a in
-    let g1 = skip (x.detached || is_some x.group) (Mtapi m.ErrParameter) Pending v s (not_mtapi m.ErrParameter) a in
-    let g2 = skip (is_other w x.waiter) (Mtapi m.ErrWaitPending) Pending (looks_at w h false x.state) s (not_mtapi m.ErrWaitPending) g1.allowed in
+    let v : Row = unless (is_other w x.notes.waiter) (Mtapi m.ErrWaitPending) (looks_at w h false x.state) in
+    let d = passed (x.notes.detached || is_some x.notes.group) (Mtapi m.ErrParameter) Pending v (not_mtapi m.ErrParameter) a in
+    let g1 = skip (x.notes.detached || is_some x.notes.group) (Mtapi m.ErrParameter) Pending v s (not_mtapi m.ErrParameter) a in
+    let g2 = skip (is_other w x.notes.waiter) (Mtapi m.ErrWaitPending) Pending (looks_at w h false x.state) s (not_mtapi m.ErrWaitPending) g1.allowed in
     subst (λ (t : State). Waits t w h) (sym (g1.leads ∙ (g2.leads ∙ set_waiter s w h x x.state g2.allowed)))
-    (with_waiter (Some w) x, at-update h (with_waiter (Some w)) x s.tasks e, record { mark = self_is w; kept = first_false x.detached _ d })
+    (with_notes (with_waiter (Some w)) x, at-update h (with_notes (with_waiter (Some w))) x s.tasks e, record { mark = self_is w; kept = first_false x.notes.detached _ d; alone = no_some x.notes.group (second_false x.notes.detached _ d) })
 
 pub pend_waits : (s : State) (w : ℕ) (t : TaskHandle) → IsNext s (entry w (op.TaskLook t false) Pending) → Waits (next s (entry w (op.TaskLook t false) Pending)) w t.0
 pend_waits s w t n =
-    let v : Row = live (at s.tasks t.0) (says (Mtapi m.ErrTaskInvalid)) (λ x. unless (x.detached || is_some x.group) (Mtapi m.ErrParameter) (unless (is_other w x.waiter) (Mtapi m.ErrWaitPending) (looks_at w t.0 false x.state))) in
+    let v : Row = live (at s.tasks t.0) (says (Mtapi m.ErrTaskInvalid)) (λ x. unless (x.notes.detached || is_some x.notes.group) (Mtapi m.ErrParameter) (unless (is_other w x.notes.waiter) (Mtapi m.ErrWaitPending) (looks_at w t.0 false x.state))) in
     let g = skip (not (is_up s.phase)) (Mtapi m.ErrNodeNotinit) Pending v s (not_mtapi m.ErrNodeNotinit) n.allowed in
     subst (λ (u : State). Waits u w t.0) (sym g.leads) (look_at_live s w t.0 (at s.tasks t.0) refl g.allowed)
 
 -- a seat that stands as the waiter makes a look that no journal keeps
 pub waiting_drops : (s : State) (w : ℕ) (t : TaskHandle) → Waits s w t.0 → is_dropped s (entry w (op.TaskLook t false) Pending) ≡ true
-waiting_drops s w t v = ap (λ (o : Option Task). holds (λ x. is_seat w x.waiter) o) v.1 ∙ v.2.mark
+waiting_drops s w t v = ap (λ (o : Option Task). holds (λ x. is_seat w x.notes.waiter) o) v.1 ∙ v.2.mark
 
 -- The looks of one wait, in a legal history: of the Pending ones at most the first is kept
 

@@ -22,12 +22,11 @@ use Rattle.mtapi_values.specs.declared.handles.ActionHandle.{ActionHandle}
 use Rattle.mtapi_machine.specs.State.{State, workers, is_new, is_stop, tasks, changed}
 use Rattle.mtapi_machine.specs.Moves.{runs as runs_task, stops as stops_worker, ends as ends_task, notes}
 use Rattle.mtapi_machine.specs.Row.{Row, unless, says, gives, never, only, Allows, after_row, mtapi_unless, live}
-use Rattle.mtapi_machine.specs.Rows.{is_ready, can_take, may_take, picks, task_end}
+use Rattle.mtapi_machine.specs.WorkRows.{is_ready, can_take, may_take, picks, task_end}
 use Rattle.mtapi_machine.specs.Legal.{IsNext, next}
 use Rattle.mtapi_machine.proofs.Drops.{at-update}
 use Rattle.history_law.specs.Seats.{Work, RunsWith, Holds, Free, IsUntouched}
 use Rattle.history_law.proofs.Found.{count_changed, count_none}
-use Rattle.history_law.proofs.SeatMoves.{asked_noted}
 use Rattle.sched_threads.proofs.OwnEntries.{self_is}
 use Rattle.sched_workers.proofs.Rows.{Goes, pass, goes_then, small_not}
 
@@ -216,18 +215,18 @@ pub record AskedAs (r : Reply) (w h : ℕ) (x : Work) (u : State) : Type 0 where
   pub reply : r ≡ Asked requested
   pub holds : Holds u w h (told requested x)
 
-asked_runs : (w : ℕ) (x : Work) (t : Task) (b : Bool) → t.requested ≡ b → RunsWith w x t → RunsWith w (told b x) (asked_once t)
+asked_runs : (w : ℕ) (x : Work) (t : Task) (b : Bool) → t.notes.requested ≡ b → RunsWith w x t → RunsWith w (told b x) (asked_once t)
 asked_runs w x t true e v = subst (λ (u : Task). RunsWith w (told true x) u) (λ i. cond (sym e i) (record t { seen = true }) (record t { looks = t.looks + 1 })) (record { state = v.state; arguments = v.arguments; looked = v.looked; told = refl })
 asked_runs w x t false e v = subst (λ (u : Task). RunsWith w (told false x) u) (λ i. cond (sym e i) (record t { seen = true }) (record t { looks = t.looks + 1 })) (record { state = v.state; arguments = v.arguments; looked = ap (λ (n : ℕ). n + 1) v.looked; told = v.told })
 
 asked_state : (t : Task) → (asked_once t).state ≡ t.state
-asked_state t = by_request t.requested
+asked_state t = by_request t.notes.requested
   where
     by_request : (b : Bool) → (cond b (record t { seen = true }) (record t { looks = t.looks + 1 })).state ≡ t.state
     by_request true = refl
     by_request false = refl
 
-asked_holds : (s : State) (w h : ℕ) (x : Work) (v : Holds s w h x) → Holds (changed tasks h asked_once s) w h (told v.task.requested x)
+asked_holds : (s : State) (w h : ℕ) (x : Work) (v : Holds s w h x) → Holds (changed tasks h asked_once s) w h (told v.task.notes.requested x)
 asked_holds s w h x v =
     let on = runs_on_its w x v.task v.runs in
     let n = count_changed (runs_on w) h (with_fields asked_once) true s.tasks v.task v.found
@@ -236,7 +235,7 @@ asked_holds s w h x v =
     record {
       task = asked_once v.task;
       found = at-update h asked_once v.task s.tasks v.found;
-      runs = asked_runs w x v.task v.task.requested refl v.runs;
+      runs = asked_runs w x v.task v.task.notes.requested refl v.runs;
       alone = omega (arith, n, o, v.alone);
     }
 
@@ -244,18 +243,18 @@ asked_holds s w h x v =
 pub asked_as : (s : State) (w h : ℕ) (x : Work) (v : Holds s w h x) (n : ℕ) (r : Reply) → w < workers s → x.kind ≡ kind.Watch → x.seen ≡ false → looks_of x.args ≡ Some n → (x.looks == n) ≡ false → IsNext s (entry w (op.Asked (record { 0 = h })) r)
     → AskedAs r w h x (next s (entry w (op.Asked (record { 0 = h })) r))
 asked_as s w h x v n r l k e a d i =
-    let f : Task → Row = λ y. mtapi_unless (asked_refusals w y) (gives (Asked y.requested) (notes h asked_once ∷ [])) in
+    let f : Task → Row = λ y. mtapi_unless (asked_refusals w y) (gives (Asked y.notes.requested) (notes h asked_once ∷ [])) in
     let g = own_goes s w h x v r f l i.allowed in
     let runs : runs_as w kind.Watch v.task ≡ true = ap (λ (z : Kind). runs_as w z v.task) (sym k) ∙ runs_as_its w x v.task v.runs in
-    let p = pass (not (runs_as w kind.Watch v.task)) (Mtapi m.ErrTaskInvalid) r (unless (is_none (looks_of v.task.args) || v.task.seen || holds (λ m. v.task.looks == m) (looks_of v.task.args)) (Mtapi m.ErrParameter) (gives (Asked v.task.requested) (notes h asked_once ∷ []))) s (ap not runs) g.allowed in
+    let p = pass (not (runs_as w kind.Watch v.task)) (Mtapi m.ErrTaskInvalid) r (unless (is_none (looks_of v.task.args) || v.task.notes.seen || holds (λ m. v.task.notes.looks == m) (looks_of v.task.args)) (Mtapi m.ErrParameter) (gives (Asked v.task.notes.requested) (notes h asked_once ∷ []))) s (ap not runs) g.allowed in
     let looks : looks_of v.task.args ≡ Some n = ap looks_of v.runs.arguments ∙ a in
-    let c : (is_none (looks_of v.task.args) || v.task.seen || holds (λ m. v.task.looks == m) (looks_of v.task.args)) ≡ false =
+    let c : (is_none (looks_of v.task.args) || v.task.notes.seen || holds (λ m. v.task.notes.looks == m) (looks_of v.task.args)) ≡ false =
     (λ j. is_none (looks j) || (v.runs.told ∙ e) j || holds (λ m. v.runs.looked j == m) (looks j)) ∙ d in
-    let q = pass (is_none (looks_of v.task.args) || v.task.seen || holds (λ m. v.task.looks == m) (looks_of v.task.args)) (Mtapi m.ErrParameter) r (gives (Asked v.task.requested) (notes h asked_once ∷ [])) s c p.allowed in
+    let q = pass (is_none (looks_of v.task.args) || v.task.notes.seen || holds (λ m. v.task.notes.looks == m) (looks_of v.task.args)) (Mtapi m.ErrParameter) r (gives (Asked v.task.notes.requested) (notes h asked_once ∷ [])) s c p.allowed in
     record {
-      requested = v.task.requested;
+      requested = v.task.notes.requested;
       reply = q.allowed;
-      holds = subst (λ (u : State). Holds u w h (told v.task.requested x)) (sym (g.leads ∙ (p.leads ∙ (q.leads ∙ (λ j. changed tasks h (λ u. asked_noted u j) s))))) (asked_holds s w h x v);
+      holds = subst (λ (u : State). Holds u w h (told v.task.notes.requested x)) (sym (g.leads ∙ (p.leads ∙ (q.leads ∙ (λ j. changed tasks h (λ u. asked_noted u j) s))))) (asked_holds s w h x v);
     }
 
 pub record WatchedAs (r : Reply) (w : ℕ) (u : State) : Type 0 where
@@ -271,10 +270,10 @@ watched_as s w h x v r l k d i =
     let g = own_goes s w h x v r f l i.allowed in
     let runs : runs_as w kind.Watch v.task ≡ true = ap (λ (z : Kind). runs_as w z v.task) (sym k) ∙ runs_as_its w x v.task v.runs in
     let last : Row = gives (Ended (watch_end v.task)) (ends_task h (watch_end v.task) ∷ []) in
-    let p = pass (not (runs_as w kind.Watch v.task)) (Mtapi m.ErrTaskInvalid) r (unless (not v.task.seen && holds (λ n. nat_lt v.task.looks n) (looks_of v.task.args)) (Mtapi m.ErrParameter) last) s (ap not runs) g.allowed in
-    let c : (not v.task.seen && holds (λ n. nat_lt v.task.looks n) (looks_of v.task.args)) ≡ false =
+    let p = pass (not (runs_as w kind.Watch v.task)) (Mtapi m.ErrTaskInvalid) r (unless (not v.task.notes.seen && holds (λ n. nat_lt v.task.notes.looks n) (looks_of v.task.args)) (Mtapi m.ErrParameter) last) s (ap not runs) g.allowed in
+    let c : (not v.task.notes.seen && holds (λ n. nat_lt v.task.notes.looks n) (looks_of v.task.args)) ≡ false =
     (λ j. not (v.runs.told j) && holds (λ n. nat_lt (v.runs.looked j) n) (looks_of (v.runs.arguments j))) ∙ d in
-    let q = pass (not v.task.seen && holds (λ n. nat_lt v.task.looks n) (looks_of v.task.args)) (Mtapi m.ErrParameter) r last s c p.allowed in
+    let q = pass (not v.task.notes.seen && holds (λ n. nat_lt v.task.notes.looks n) (looks_of v.task.args)) (Mtapi m.ErrParameter) r last s c p.allowed in
     record {
       end = watch_end v.task;
       reply = q.allowed;

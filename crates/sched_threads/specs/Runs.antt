@@ -4,7 +4,9 @@ use Rattle.turn_cell.specs.Lists.{all_of}
 use Rattle.turn_cell.specs.Seats.{fresh_seat, fresh_seats, IsSeatOf}
 use Rattle.workload_file.specs.declared.workload.Part.{Part}
 use Rattle.workload_file.specs.declared.workload.Workload.{Workload}
+use Rattle.mtapi_values.specs.declared.handles.Layout.TheVariants.{One}
 use Rattle.mtapi_machine.specs.declared.terms.Terms.{Terms}
+use Rattle.mtapi_machine.specs.State.{terms_of}
 use Rattle.mtapi_machine.specs.Legal.{NodeEntry, Legal}
 use Rattle.node_core.specs.declared.entries.Journal.{Journal}
 use Rattle.node_core.specs.declared.journaled.JournaledTerms.{JournaledTerms}
@@ -20,7 +22,7 @@ use Rattle.sched_threads.specs.Crews.{Cell, IsClean}
 
 -- the terms of a run: the workload's settings, and one caller for each part
 abbrev pub terms_for : Workload → Terms
-terms_for load = record { settings = load.settings; callers = length load.parts }
+terms_for load = terms_of One load.settings (length load.parts)
 
 -- the journal has these terms, is legal, and is a run of the workload
 pub record IsRunOf (load : Workload) (j : Journal) : Type 0 where
