@@ -15,3 +15,4 @@ pub mod Objects
 pub mod Affinity
 pub mod Numbers
 pub mod Order
+pub mod Ordered

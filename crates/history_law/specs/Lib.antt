@@ -6,3 +6,4 @@ pub mod Words
 pub mod Reuse
 pub mod Affinity
 pub mod Order
+pub mod Ordered

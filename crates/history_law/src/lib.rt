@@ -8,6 +8,7 @@ ghost use Rattle.history_law.specs.Ends.{OneEnd, EndsAfterClose};
 ghost use Rattle.mtapi_machine.specs.Laws.{DropsToSame};
 ghost use Rattle.history_law.specs.Affinity.{ObeysMasks};
 ghost use Rattle.history_law.specs.Order.{GivenInOrder};
+ghost use Rattle.history_law.specs.Ordered.{RunsInOrder};
 ghost use Rattle.history_law.specs.Reuse.{NeverAgain, NotInBoth};
 ghost use Rattle.history_law.specs.Seats.{OnceAfter, OnceStays, WaiterStays, WorkStays, NoLateEnd, PhaseStays, ReleaseStays, StoppedStays, UnstartedAreUntouched};
 ghost use Rattle.history_law.specs.Worked.{OneTaskEnds};
@@ -16,7 +17,7 @@ ghost use Rattle.history_law.specs.Worked.{OneTaskEnds};
 mod tests;
 
 use mtapi_machine::Entry;
-use mtapi_values::{GroupHandle, Layout, NodeAttr, ObjectKind, TaskHandle};
+use mtapi_values::{GroupHandle, Layout, NodeAttr, ObjectKind, QueueHandle, TaskHandle};
 
 /// In a legal history that ends with the final step, every task that was accepted has one record and ends once: it is ended at the end
 /// of the history, and wherever an end of it shows, that is its end.
@@ -147,4 +148,16 @@ pub fn law_group_order(
 )
     requires { Legal (terms_of layout settings.now callers) entries.now }
     ensures { GivenInOrder (terms_of layout settings.now callers) entries.now g.0 }
+{}
+
+/// The runs of an ordered queue don't overlap, and begin in the order in which its tasks were put.
+pub fn law_ordered(
+    layout: Layout,
+    settings: &NodeAttr,
+    callers: u32,
+    entries: &[Entry],
+    q: QueueHandle,
+)
+    requires { Legal (terms_of layout settings.now callers) entries.now }
+    ensures { RunsInOrder (terms_of layout settings.now callers) entries.now q.0 }
 {}
