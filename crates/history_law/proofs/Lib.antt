@@ -16,3 +16,4 @@ pub mod Affinity
 pub mod Numbers
 pub mod Order
 pub mod Ordered
+pub mod Refused

@@ -7,3 +7,4 @@ pub mod Reuse
 pub mod Affinity
 pub mod Order
 pub mod Ordered
+pub mod Refused

@@ -9,6 +9,7 @@ ghost use Rattle.mtapi_machine.specs.Laws.{DropsToSame};
 ghost use Rattle.history_law.specs.Affinity.{ObeysMasks};
 ghost use Rattle.history_law.specs.Order.{GivenInOrder};
 ghost use Rattle.history_law.specs.Ordered.{RunsInOrder};
+ghost use Rattle.history_law.specs.Refused.{LawsRefuse};
 ghost use Rattle.history_law.specs.Reuse.{NeverAgain, NotInBoth};
 ghost use Rattle.history_law.specs.Seats.{OnceAfter, OnceStays, WaiterStays, WorkStays, NoLateEnd, PhaseStays, ReleaseStays, StoppedStays, UnstartedAreUntouched};
 ghost use Rattle.history_law.specs.Worked.{OneTaskEnds};
@@ -160,4 +161,9 @@ pub fn law_ordered(
 )
     requires { Legal (terms_of layout settings.now callers) entries.now }
     ensures { RunsInOrder (terms_of layout settings.now callers) entries.now q.0 }
+{}
+
+/// For each law a list that isn't legal and that the law refuses, so that none of them says nothing.
+pub fn worked_refusals()
+    ensures { LawsRefuse }
 {}
