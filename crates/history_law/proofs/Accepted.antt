@@ -116,7 +116,7 @@ snd_true : (a b : Bool) → (a && b) ≡ true → b ≡ true
 snd_true true b h = h
 snd_true false b h = absurd (cc)
 
-final_marked : (s : State) (main : ℕ) → IsNext s (entry main op.Final Ok) → all_marked (workers s) s.stopped ≡ true
+pub final_marked : (s : State) (main : ℕ) → IsNext s (entry main op.Final Ok) → all_marked (workers s) s.stopped ≡ true
 final_marked s main n = snd_true (is_late s.phase) _ (final_reads _ (is_late s.phase && all_marked (workers s) s.stopped) _ _ _ refl refl n.allowed)
 
 final_stopped : (terms : Terms) (s : State) (main : ℕ) → 1 ≤ terms.settings.workers → s.terms ≡ terms → IsNext s (entry main op.Final Ok) → Stopped s

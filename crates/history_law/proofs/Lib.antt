@@ -17,3 +17,4 @@ pub mod Numbers
 pub mod Order
 pub mod Ordered
 pub mod Refused
+pub mod Behind

@@ -11,7 +11,7 @@ ghost use Rattle.history_law.specs.Order.{GivenInOrder};
 ghost use Rattle.history_law.specs.Ordered.{RunsInOrder};
 ghost use Rattle.history_law.specs.Refused.{LawsRefuse};
 ghost use Rattle.history_law.specs.Reuse.{NeverAgain, NotInBoth};
-ghost use Rattle.history_law.specs.Seats.{OnceAfter, OnceStays, WaiterStays, WorkStays, NoLateEnd, PhaseStays, ReleaseStays, StoppedStays, UnstartedAreUntouched};
+ghost use Rattle.history_law.specs.Seats.{OnceAfter, OnceStays, WaiterStays, WorkStays, NoLateEnd, PhaseStays, ReleaseStays, EnterBehindRelease, FinalBehindStops, StoppedStays, UnstartedAreUntouched};
 ghost use Rattle.history_law.specs.Worked.{OneTaskEnds};
 
 #[cfg(test)]
@@ -72,7 +72,7 @@ pub fn law_work_stays()
     ensures { WorkStays }
 {}
 
-/// No task ends with the failure TIMEOUT.
+/// No task ends with the failure TIMEOUT or SPENT.
 pub fn law_no_late_end()
     ensures { NoLateEnd }
 {}
@@ -166,4 +166,10 @@ pub fn law_ordered(
 /// For each law a list that isn't legal and that the law refuses, so that none of them says nothing.
 pub fn worked_refusals()
     ensures { LawsRefuse }
+{}
+
+/// An Ok `enter` stands behind an Ok `release`, and an Ok `final` behind a Stop of each worker.
+pub fn law_behind()
+    ensures enter { EnterBehindRelease }
+    ensures final_step { FinalBehindStops }
 {}
