@@ -18,3 +18,4 @@ pub mod Order
 pub mod Ordered
 pub mod Refused
 pub mod Behind
+pub mod Exclusion

@@ -1,5 +1,5 @@
 -- The lists that the laws refuse, by computing.
-use Rattle.std.proofs.Common.{◌≡◌, ℕ, ◌<◌, Bool, true, false, List, [], ◌∷◌, ◌++◌, Option, Some, None, refl, sym, ◌∙◌, ap, subst, arith}
+use Rattle.std.proofs.Common.{◌≡◌, ℕ, ◌<◌, ◌≤◌, Bool, true, false, List, [], ◌∷◌, ◌++◌, Option, Some, None, refl, sym, ◌∙◌, ap, subst, arith}
 use Rattle.std.specs.Prelude.{pos, IsSome}
 use Rattle.mtapi_values.specs.declared.kinds.Kind.TheVariants as kind
 use Rattle.mtapi_values.specs.declared.handles.ObjectKind.TheVariants as object
@@ -21,10 +21,11 @@ use Rattle.mtapi_machine.specs.Worked.{usual, main, worker, first_handle, next_h
 use Rattle.history_law.specs.Words.{is_live}
 use Rattle.history_law.specs.Ends.{EndsAfterClose}
 use Rattle.history_law.specs.Affinity.{ObeysMasks}
+use Rattle.history_law.specs.Exclusion.{SemsKeepTo}
 use Rattle.history_law.specs.Order.{GivenInOrder, EndedBefore}
 use Rattle.history_law.specs.Ordered.{RunsInOrder}
 use Rattle.history_law.specs.Reuse.{NeverAgain, NotInBoth}
-use Rattle.history_law.specs.Refused.{makes_action, too_early, up_to_the_end, leaves, again, one_for_two, on_another_core, given_twice, gives_first, the_queue, puts_one, two_put, picks_second, final_first, LawsRefuse}
+use Rattle.history_law.specs.Refused.{makes_action, too_early, up_to_the_end, leaves, again, one_for_two, on_another_core, given_twice, gives_first, the_queue, puts_one, two_put, picks_second, final_first, makes_sem, both_hold, LawsRefuse}
 
 some_same : {A : Type 0} {x y : A} → Some x ≡ Some y → x ≡ y
 some_same e = cc
@@ -98,6 +99,12 @@ refuses_final f = not_ok f.legal.from.0.allowed
     not_ok : {x : _} → reply.Ok ≡ reply.Mtapi x → ⊥
     not_ok e = cc
 
+refuses_both : SemsKeepTo (makes_sem ∷ both_hold) → ⊥
+refuses_both f =
+    let x = f [] both_hold [] makes_sem first_handle 1 refl refl refl in
+    let most : 2 ≤ 1 = x.most in
+    omega arith
+
 pub laws_refuse : LawsRefuse
 laws_refuse = record {
   end_after_close = refuses_close;
@@ -106,5 +113,6 @@ laws_refuse = record {
   affinity = refuses_core;
   group_order = refuses_twice;
   ordered = refuses_order;
+  sems = refuses_both;
   drop = refuses_final;
 }

@@ -218,7 +218,7 @@ names_two T k h s same two e =
     let m : names_kind Two k h ≡ true = subst (λ (x : ObjectKind). names_kind Two x h ≡ true) (own_kind k) (subst (λ (x : Layout). names_kind x (objects_of k).kind h ≡ true) (ap (λ (t : Terms). t.layout) same ∙ two) n) in
     eqb-true (named_kind h) (object_number k) m
 
-terms_next : (T : Terms) (s : State) (e : NodeEntry) → s.terms ≡ T → (next s e).terms ≡ T
+pub terms_next : (T : Terms) (s : State) (e : NodeEntry) → s.terms ≡ T → (next s e).terms ≡ T
 terms_next T s e v = by_moves (λ t. t.terms ≡ T) s e (λ t m y w. terms_move T t m w) v
 
 -- an entry that issues a handle in layout two issues one that names the kind

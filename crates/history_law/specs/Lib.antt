@@ -8,3 +8,4 @@ pub mod Affinity
 pub mod Order
 pub mod Ordered
 pub mod Refused
+pub mod Exclusion

@@ -12,9 +12,10 @@ use Rattle.mtapi_machine.specs.declared.ops.Op.TheVariants as op
 use Rattle.mtapi_machine.specs.declared.replies.Reply.TheVariants as reply
 use Rattle.mtapi_machine.specs.Legal.{NodeEntry, Legal}
 use Rattle.mtapi_machine.specs.Laws.{DropsToSame}
-use Rattle.mtapi_machine.specs.Worked.{usual, main, worker, first_handle, next_handle, task, the_action, every_core, second_core, add_task}
+use Rattle.mtapi_machine.specs.Worked.{usual, main, second, worker, first_handle, next_handle, task, the_action, every_core, second_core, add_task}
 use Rattle.history_law.specs.Ends.{EndsAfterClose}
 use Rattle.history_law.specs.Affinity.{ObeysMasks}
+use Rattle.history_law.specs.Exclusion.{SemsKeepTo}
 use Rattle.history_law.specs.Order.{GivenInOrder}
 use Rattle.history_law.specs.Ordered.{RunsInOrder}
 use Rattle.history_law.specs.Reuse.{NeverAgain, NotInBoth}
@@ -78,6 +79,16 @@ picks_second = worker op.Pick (reply.Picked (task next_handle) the_action kind.A
 abbrev pub final_first : List NodeEntry
 final_first = main op.Final reply.Ok ∷ []
 
+-- two seats hold a semaphore of limit 1
+abbrev pub makes_sem : NodeEntry
+makes_sem = main (op.SemCreate 1 1) (reply.Handle first_handle)
+
+abbrev pub looks_at_it : Op
+looks_at_it = op.SemLook (record { 0 = first_handle }) false
+
+abbrev pub both_hold : List NodeEntry
+both_hold = main looks_at_it reply.Ok ∷ second looks_at_it reply.Ok ∷ []
+
 -- each law refuses its list
 pub record LawsRefuse : Type 0 where
   pub end_after_close : EndsAfterClose usual too_early first_handle → ⊥
@@ -86,4 +97,5 @@ pub record LawsRefuse : Type 0 where
   pub affinity : ObeysMasks on_another_core 2 → ⊥
   pub group_order : GivenInOrder usual given_twice first_handle → ⊥
   pub ordered : RunsInOrder usual (two_put ++ picks_second) first_handle → ⊥
+  pub sems : SemsKeepTo (makes_sem ∷ both_hold) → ⊥
   pub drop : DropsToSame usual final_first → ⊥

@@ -10,6 +10,7 @@ ghost use Rattle.history_law.specs.Affinity.{ObeysMasks};
 ghost use Rattle.history_law.specs.Order.{GivenInOrder};
 ghost use Rattle.history_law.specs.Ordered.{RunsInOrder};
 ghost use Rattle.history_law.specs.Refused.{LawsRefuse};
+ghost use Rattle.history_law.specs.Exclusion.{SemsKeepTo};
 ghost use Rattle.history_law.specs.Reuse.{NeverAgain, NotInBoth};
 ghost use Rattle.history_law.specs.Seats.{OnceAfter, OnceStays, WaiterStays, WorkStays, NoLateEnd, PhaseStays, ReleaseStays, EnterBehindRelease, FinalBehindStops, StoppedStays, UnstartedAreUntouched};
 ghost use Rattle.history_law.specs.Worked.{OneTaskEnds};
@@ -172,4 +173,11 @@ pub fn worked_refusals()
 pub fn law_behind()
     ensures enter { EnterBehindRelease }
     ensures final_step { FinalBehindStops }
+{}
+
+/// Semaphores are held within their limits, by counts of entries: no seat gives one back more often than its looks got it, and at every
+/// moment those that hold it are at most as many as its limit.
+pub fn law_sems(layout: Layout, settings: &NodeAttr, callers: u32, entries: &[Entry])
+    requires { Legal (terms_of layout settings.now callers) entries.now }
+    ensures { SemsKeepTo entries.now }
 {}

@@ -1,8 +1,9 @@
 //! Each law once.
 
 use crate::{
-    law_accepted, law_affinity, law_behind, law_drop, law_end_after_close, law_group_order, law_kind, law_no_late_end, law_no_reuse,
-    law_once_listed, law_one_end, law_ordered, law_phase_stays, law_stopped_stays, law_untouched, law_waiter_stays, law_work_stays,
+    law_accepted, law_affinity, law_behind, law_drop, law_end_after_close, law_group_order,
+    law_kind, law_no_late_end, law_no_reuse, law_once_listed, law_one_end, law_ordered,
+    law_phase_stays, law_sems, law_stopped_stays, law_untouched, law_waiter_stays, law_work_stays,
     worked_end, worked_refusals,
 };
 use mtapi_machine::Entry;
@@ -30,5 +31,14 @@ fn laws_hold(_rt: HostRuntime) {
     law_no_reuse(Layout::Two, &settings, 1, &entries, ObjectKind::Task, 1);
     law_group_order(Layout::Two, &settings, 1, &entries, GroupHandle(1));
     law_drop(Layout::Two, &settings, 1, &entries);
-    law_kind(Layout::Two, &settings, 1, &entries, ObjectKind::Task, ObjectKind::Queue, 1);
+    law_sems(Layout::Two, &settings, 1, &entries);
+    law_kind(
+        Layout::Two,
+        &settings,
+        1,
+        &entries,
+        ObjectKind::Task,
+        ObjectKind::Queue,
+        1,
+    );
 }
