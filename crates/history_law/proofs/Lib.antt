@@ -19,3 +19,4 @@ pub mod Ordered
 pub mod Refused
 pub mod Behind
 pub mod Exclusion
+pub mod Told

@@ -134,7 +134,7 @@ listed_at (r ∷ rs) h t e = by_live r.live e (listed_at rs h t)
     by_live true m g = by_hand (r.handle == h) m g
     by_live false m g = let k : 1 ≤ listed h rs = g m in omega arith
 
-end_found : (l : List (Listed Task)) (h : ℕ) (t : Task) → OnceIn l → at l h ≡ Some t → end_at l h ≡ end_in t.state
+pub end_found : (l : List (Listed Task)) (h : ℕ) (t : Task) → OnceIn l → at l h ≡ Some t → end_at l h ≡ end_in t.state
 unfolding live_of listed end_at
 end_found [] h t o e = absurd (cc)
 end_found (r ∷ rs) h t o e = by_hand (r.handle == h) refl (o h) (λ i. end_found rs h t (once_rest r rs o) i)

@@ -24,8 +24,10 @@ use Rattle.history_law.specs.Affinity.{ObeysMasks}
 use Rattle.history_law.specs.Exclusion.{SemsKeepTo}
 use Rattle.history_law.specs.Order.{GivenInOrder, EndedBefore}
 use Rattle.history_law.specs.Ordered.{RunsInOrder}
+use Rattle.history_law.specs.Told.{TellsItsEnd}
+use Rattle.mtapi_values.specs.declared.ends.TaskEnd.TheVariants.{Cancelled, Completed}
 use Rattle.history_law.specs.Reuse.{NeverAgain, NotInBoth}
-use Rattle.history_law.specs.Refused.{makes_action, too_early, up_to_the_end, leaves, again, one_for_two, on_another_core, given_twice, gives_first, the_queue, puts_one, two_put, picks_second, final_first, makes_sem, both_hold, LawsRefuse}
+use Rattle.history_law.specs.Refused.{makes_action, too_early, up_to_the_end, leaves, again, one_for_two, on_another_core, given_twice, gives_first, the_queue, puts_one, two_put, picks_second, final_first, cancelled_first, completed_then, two_ends, makes_sem, both_hold, LawsRefuse}
 
 some_same : {A : Type 0} {x y : A} → Some x ≡ Some y → x ≡ y
 some_same e = cc
@@ -105,8 +107,15 @@ refuses_both f =
     let most : 2 ≤ 1 = x.most in
     omega arith
 
+apart : Some Cancelled ≡ Some (Completed []) → ⊥
+apart e = cc
+
+refuses_two : TellsItsEnd usual two_ends first_handle → ⊥
+refuses_two f = apart (sym (f [] (completed_then ∷ []) cancelled_first Cancelled refl refl) ∙ f (cancelled_first ∷ []) [] completed_then (Completed []) refl refl)
+
 pub laws_refuse : LawsRefuse
 laws_refuse = record {
+  one_end = refuses_two;
   end_after_close = refuses_close;
   no_reuse = refuses_reuse;
   kind = refuses_kind;

@@ -9,3 +9,4 @@ pub mod Order
 pub mod Ordered
 pub mod Refused
 pub mod Exclusion
+pub mod Told

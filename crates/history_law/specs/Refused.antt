@@ -5,7 +5,7 @@ use Rattle.mtapi_values.specs.declared.handles.ObjectKind.TheVariants as object
 use Rattle.mtapi_values.specs.declared.handles.Layout.TheVariants.{Two}
 use Rattle.mtapi_values.specs.declared.handles.QueueHandle.{QueueHandle}
 use Rattle.mtapi_values.specs.declared.handles.GroupHandle.{GroupHandle}
-use Rattle.mtapi_values.specs.declared.ends.TaskEnd.TheVariants.{Cancelled}
+use Rattle.mtapi_values.specs.declared.ends.TaskEnd.TheVariants.{Cancelled, Completed}
 use Rattle.mtapi_machine.specs.declared.terms.Terms.{Terms}
 use Rattle.mtapi_machine.specs.declared.ops.Op.{Op}
 use Rattle.mtapi_machine.specs.declared.ops.Op.TheVariants as op
@@ -18,6 +18,7 @@ use Rattle.history_law.specs.Affinity.{ObeysMasks}
 use Rattle.history_law.specs.Exclusion.{SemsKeepTo}
 use Rattle.history_law.specs.Order.{GivenInOrder}
 use Rattle.history_law.specs.Ordered.{RunsInOrder}
+use Rattle.history_law.specs.Told.{TellsItsEnd}
 use Rattle.history_law.specs.Reuse.{NeverAgain, NotInBoth}
 
 abbrev pub makes_action : Op
@@ -48,6 +49,16 @@ on_another_core =
     ∷ main (add_task 0) (reply.Handle first_handle)
     ∷ worker op.Pick (reply.Picked (task first_handle) the_action kind.Add (pos 2 ∷ pos 3 ∷ []))
     ∷ []
+
+-- two looks tell two ends of one task
+abbrev pub cancelled_first : NodeEntry
+cancelled_first = main (op.TaskLook (task first_handle) false) (reply.Ended Cancelled)
+
+abbrev pub completed_then : NodeEntry
+completed_then = main (op.TaskLook (task first_handle) false) (reply.Ended (Completed []))
+
+abbrev pub two_ends : List NodeEntry
+two_ends = cancelled_first ∷ completed_then ∷ []
 
 -- a group gives a task twice
 abbrev pub gives_first : NodeEntry
@@ -91,6 +102,7 @@ both_hold = main looks_at_it reply.Ok ∷ second looks_at_it reply.Ok ∷ []
 
 -- each law refuses its list
 pub record LawsRefuse : Type 0 where
+  pub one_end : TellsItsEnd usual two_ends first_handle → ⊥
   pub end_after_close : EndsAfterClose usual too_early first_handle → ⊥
   pub no_reuse : NeverAgain usual (up_to_the_end ++ (leaves ++ again)) object.Task first_handle → ⊥
   pub kind : (terms : Terms) → NotInBoth Two terms one_for_two object.Action object.Task first_handle → ⊥

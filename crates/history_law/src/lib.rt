@@ -11,6 +11,7 @@ ghost use Rattle.history_law.specs.Order.{GivenInOrder};
 ghost use Rattle.history_law.specs.Ordered.{RunsInOrder};
 ghost use Rattle.history_law.specs.Refused.{LawsRefuse};
 ghost use Rattle.history_law.specs.Exclusion.{SemsKeepTo};
+ghost use Rattle.history_law.specs.Told.{TellsItsEnd};
 ghost use Rattle.history_law.specs.Reuse.{NeverAgain, NotInBoth};
 ghost use Rattle.history_law.specs.Seats.{OnceAfter, OnceStays, WaiterStays, WorkStays, NoLateEnd, PhaseStays, ReleaseStays, EnterBehindRelease, FinalBehindStops, StoppedStays, UnstartedAreUntouched};
 ghost use Rattle.history_law.specs.Worked.{OneTaskEnds};
@@ -27,7 +28,8 @@ pub fn law_accepted()
     ensures { AcceptedTasksEndOnce }
 {}
 
-/// A task has at most one end: once a prefix of the history leaves it ended, every longer one leaves it ended so.
+/// A task has at most one end: once a prefix of the history leaves it ended, every longer one leaves it ended so; and the end that a
+/// look at it tells is that end.
 pub fn law_one_end(
     layout: Layout,
     settings: &NodeAttr,
@@ -36,7 +38,8 @@ pub fn law_one_end(
     t: TaskHandle,
 )
     requires { Legal (terms_of layout settings.now callers) entries.now }
-    ensures { OneEnd (terms_of layout settings.now callers) entries.now t.0 }
+    ensures one { OneEnd (terms_of layout settings.now callers) entries.now t.0 }
+    ensures told { TellsItsEnd (terms_of layout settings.now callers) entries.now t.0 }
 {}
 
 /// Where the history has `final` with Ok, a task that was accepted has exactly one end.
