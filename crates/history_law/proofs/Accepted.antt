@@ -116,7 +116,7 @@ snd_true : (a b : Bool) → (a && b) ≡ true → b ≡ true
 snd_true true b h = h
 snd_true false b h = absurd (cc)
 
-final_marked : (s : State) (main : ℕ) → IsNext s (entry main op.Final Ok) → all_marked (workers s) s.stopped ≡ true
+pub final_marked : (s : State) (main : ℕ) → IsNext s (entry main op.Final Ok) → all_marked (workers s) s.stopped ≡ true
 final_marked s main n = snd_true (is_late s.phase) _ (final_reads _ (is_late s.phase && all_marked (workers s) s.stopped) _ _ _ refl refl n.allowed)
 
 final_stopped : (terms : Terms) (s : State) (main : ℕ) → 1 ≤ terms.settings.workers → s.terms ≡ terms → IsNext s (entry main op.Final Ok) → Stopped s
@@ -131,7 +131,7 @@ none_listed h = omega arith
 pub opening_stands : (terms : Terms) → Stands terms (opening terms)
 opening_stands terms = (refl, record { dead = tt; stopped = λ f. absurd (cc); once = none_listed })
 
-stands_after : (terms : Terms) (L : List NodeEntry) → Stands terms (after terms L)
+pub stands_after : (terms : Terms) (L : List NodeEntry) → Stands terms (after terms L)
 stands_after terms L = after_stands terms (opening terms) L (opening_stands terms)
 
 all_after : (terms : Terms) (A B : List NodeEntry) (main : ℕ) → Legal terms (A ++ entry main op.Final Ok ∷ B) → AllEnded (after terms (A ++ entry main op.Final Ok ∷ B)).tasks
@@ -153,7 +153,7 @@ listed_after terms P Q e h l i =
     let more : listed h (next (after terms P) e).tasks ≤ listed h (after_from (next (after terms P) e) Q).tasks = grows_listed h _ _ (after_grows (next (after terms P) e) Q) in
     subst (λ (t : State). 1 ≤ listed h t.tasks) (sym (after-append (opening terms) P (e ∷ Q))) (omega arith)
 
-shown : {A : Type 0} (o : Option A) → IsSome o → (x : A) × (o ≡ Some x)
+pub shown : {A : Type 0} (o : Option A) → IsSome o → (x : A) × (o ≡ Some x)
 shown (Some x) i = (x, refl)
 shown None i = let n : false ≡ true = i in absurd (cc)
 

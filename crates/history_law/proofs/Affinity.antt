@@ -66,11 +66,11 @@ took s w t a k args (Some u) (Some v) d e f = by_test (may_take s w u v) refl f
     by_test true i g = record { task = u; action = v; task_found = d; action_found = e; may = i }
     by_test false i g = absurd g
 
-pub pick_took : (s : State) (w : ℕ) (t : TaskHandle) (a : ActionHandle) (k : Kind) (args : List ℤ) → IsNext s (entry w op.Pick (Picked t a k args)) → Took s w t.0 a.0
-pick_took s w t a k args n = by_stop (is_stop s) third
+pub row_took : (s : State) (w : ℕ) (t : TaskHandle) (a : ActionHandle) (k : Kind) (args : List ℤ) → Allows (row s w op.Pick (Picked t a k args)) (Picked t a k args) → Took s w t.0 a.0
+row_took s w t a k args n = by_stop (is_stop s) third
   where
     first : Allows (unless (any (runs_on w) s.tasks) (Mtapi m.ErrParameter) (unless (is_new s.phase) Idle (cond (is_stop s) (gives Stop (stops w ∷ [])) (picks s w (Picked t a k args))))) (Picked t a k args)
-    first = through (not (nat_lt w (workers s))) (Mtapi m.ErrParameter) (unless (any (runs_on w) s.tasks) (Mtapi m.ErrParameter) (unless (is_new s.phase) Idle (cond (is_stop s) (gives Stop (stops w ∷ [])) (picks s w (Picked t a k args))))) t a k args refl n.allowed
+    first = through (not (nat_lt w (workers s))) (Mtapi m.ErrParameter) (unless (any (runs_on w) s.tasks) (Mtapi m.ErrParameter) (unless (is_new s.phase) Idle (cond (is_stop s) (gives Stop (stops w ∷ [])) (picks s w (Picked t a k args))))) t a k args refl n
 
     second : Allows (unless (is_new s.phase) Idle (cond (is_stop s) (gives Stop (stops w ∷ [])) (picks s w (Picked t a k args)))) (Picked t a k args)
     second = through (any (runs_on w) s.tasks) (Mtapi m.ErrParameter) (unless (is_new s.phase) Idle (cond (is_stop s) (gives Stop (stops w ∷ [])) (picks s w (Picked t a k args)))) t a k args refl first
@@ -81,6 +81,9 @@ pick_took s w t a k args n = by_stop (is_stop s) third
     by_stop : (b : Bool) → Allows (cond b (gives Stop (stops w ∷ [])) (picks s w (Picked t a k args))) (Picked t a k args) → Took s w t.0 a.0
     by_stop true f = absurd (other_reply t a k args Stop refl f)
     by_stop false f = took s w t a k args (at s.tasks t.0) (at s.actions a.0) refl refl f
+
+pub pick_took : (s : State) (w : ℕ) (t : TaskHandle) (a : ActionHandle) (k : Kind) (args : List ℤ) → IsNext s (entry w op.Pick (Picked t a k args)) → Took s w t.0 a.0
+pick_took s w t a k args n = row_took s w t a k args n.allowed
 
 -- the worker is in both masks of the records
 in_masks : (s : State) (w t a : ℕ) (x : Took s w t a) → (in_mask w x.task.cores ≡ true) × (in_mask w x.action.cores ≡ true)

@@ -16,3 +16,8 @@ pub mod Objects
 pub mod Affinity
 pub mod Numbers
 pub mod Order
+pub mod Ordered
+pub mod Refused
+pub mod Behind
+pub mod Exclusion
+pub mod Told

@@ -65,7 +65,7 @@ some_issued h x (r ∷ rs) = let k : 1 ≤ listed h (issue h x rs) = some_issued
 pub has_new : {T : Type 0} (h : ℕ) (F : T → Type 0) (x : T) (l : List (Listed T)) → listed h l ≡ 0 → F x → Has h F (issue h x l)
 has_new h F x l n f = record { some = some_issued h x l; under = under_issue h F h x l (λ e. f) (under_none h F l n) }
 
--- Tasks
+-- Tasks, and the number of the next start
 
 pub task_then : (a : Task) (x y : Task) → SameTask x y → SameTask a x → SameTask a y
 task_then a x y s t = record { job = s.job ∙ t.job; args = s.args ∙ t.args; priority = s.priority ∙ t.priority; cores = s.cores ∙ t.cores; queue = s.queue ∙ t.queue; start = s.start ∙ t.start }
@@ -75,12 +75,12 @@ itself a = record { job = refl; args = refl; priority = refl; cores = refl; queu
 
 -- a task that an entry started is listed as it was asked for, with the next number of a start
 abbrev pub StartedAs : State → Op → ℕ → State → Type 0
-StartedAs s o h t = (n : NewTask) × StartsTask n o × HasObject kind.Task h (SameTask (new_task n s.starts)) t
+StartedAs s o h t = (n : NewTask) × StartsTask n o × HasObject kind.Task h (SameTask (new_task n s.starts)) t × (t.starts ≡ s.starts + 1)
 
 on_start : (s : State) (o : Op) (h : ℕ) (n : NewTask) → StartsTask n o → AllGives (λ x ms. Handle h ≡ x → StartedAs s o h (after_moves ms s)) (only (is_fresh (objects_of kind.Task) s h) (gives (Handle h) (starts h n ∷ [])))
 on_start s o h n b =
     on_only (λ x ms. Handle h ≡ x → StartedAs s o h (after_moves ms s)) (is_fresh (objects_of kind.Task) s h) (Handle h) (starts h n ∷ [])
-    (λ e i. (n, b, has_new h (SameTask (new_task n s.starts)) (new_task n s.starts) s.tasks (fresh_unlisted kind.Task s h e) (itself (new_task n s.starts))))
+    (λ e i. (n, b, has_new h (SameTask (new_task n s.starts)) (new_task n s.starts) s.tasks (fresh_unlisted kind.Task s h e) (itself (new_task n s.starts)), refl))
 
 start_as : (s : State) (who : ℕ) (o : Op) (h : ℕ) → makes_kind kind.Task o ≡ true → Allows (row s who o (Handle h)) (Handle h) → StartedAs s o h (after_row s (row s who o (Handle h)))
 start_as s who (op.TaskStart job args priority cores detached group) h e a =

@@ -212,6 +212,28 @@ named_after terms es k h two l =
     let n : names_kind Two k h ≡ true = subst (λ (x : ObjectKind). names_kind Two x h ≡ true) (own_kind k) (subst (λ (x : Layout). names_kind x (objects_of k).kind h ≡ true) two (end.named l)) in
     eqb-true (named_kind h) (object_number k) n
 
-pub not_in_both : (terms : Terms) (es : List NodeEntry) (a b : ObjectKind) (h : ℕ) → NotInBoth terms.layout terms es a b h
-not_in_both terms es a b h two apart la lb =
-    true_false (eq-eqb (object_number a) (object_number b) (sym (named_after terms es a h two la) ∙ named_after terms es b h two lb)) apart
+names_two : (T : Terms) (k : ObjectKind) (h : ℕ) (s : State) → s.terms ≡ T → T.layout ≡ Two → is_fresh (objects_of k) s h ≡ true → named_kind h ≡ object_number k
+names_two T k h s same two e =
+    let n : names_kind s.terms.layout (objects_of k).kind h ≡ true = fst_true _ (may_issue s.terms.settings.generations h ((objects_of k).list s)) e in
+    let m : names_kind Two k h ≡ true = subst (λ (x : ObjectKind). names_kind Two x h ≡ true) (own_kind k) (subst (λ (x : Layout). names_kind x (objects_of k).kind h ≡ true) (ap (λ (t : Terms). t.layout) same ∙ two) n) in
+    eqb-true (named_kind h) (object_number k) m
+
+pub terms_next : (T : Terms) (s : State) (e : NodeEntry) → s.terms ≡ T → (next s e).terms ≡ T
+terms_next T s e v = by_moves (λ t. t.terms ≡ T) s e (λ t m y w. terms_move T t m w) v
+
+-- an entry that issues a handle in layout two issues one that names the kind
+issued_names : (T : Terms) (k : ObjectKind) (h : ℕ) (s : State) (L : List NodeEntry) → s.terms ≡ T → T.layout ≡ Two → LegalFrom s L → some_entry (issues k h) L ≡ true → named_kind h ≡ object_number k
+unfolding LegalFrom
+issued_names T k h s [] same two l i = absurd (cc)
+issued_names T k h s (e ∷ es) same two l i = by_test (issues k h e) refl i (λ j. issued_names T k h (next s e) es (terms_next T s e same) two l.1 j)
+  where
+    by_test : (b : Bool) → issues k h e ≡ b → cond b true (some_entry (issues k h) es) ≡ true → (some_entry (issues k h) es ≡ true → named_kind h ≡ object_number k) → named_kind h ≡ object_number k
+    by_test true j c g = names_two T k h s same two (issues_fresh k s e h l.0 j)
+    by_test false j c g = g c
+
+pub not_in_both : (terms : Terms) (es : List NodeEntry) (a b : ObjectKind) (h : ℕ) → Legal terms es → NotInBoth terms.layout terms es a b h
+not_in_both terms es a b h legal two apart = record {
+  lists = λ la lb. true_false (eq-eqb (object_number a) (object_number b) (sym (named_after terms es a h two la) ∙ named_after terms es b h two lb)) apart;
+  entries = λ ia ib.
+      true_false (eq-eqb (object_number a) (object_number b) (sym (issued_names terms a h (opening terms) es refl two legal.from ia) ∙ issued_names terms b h (opening terms) es refl two legal.from ib)) apart;
+}

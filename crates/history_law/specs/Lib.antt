@@ -6,3 +6,7 @@ pub mod Words
 pub mod Reuse
 pub mod Affinity
 pub mod Order
+pub mod Ordered
+pub mod Refused
+pub mod Exclusion
+pub mod Told

@@ -18,6 +18,11 @@ abbrev pub NeverAgain : Terms → List NodeEntry → ObjectKind → ℕ → Type
 NeverAgain terms es k h =
     (P M N R : List NodeEntry) → es ≡ (P ++ M) ++ (N ++ R) → is_live k h (after terms P) ≡ true → is_live k h (after terms (P ++ M)) ≡ false → StaysGone terms (P ++ M) N k h
 
--- in layout two no handle was issued to an object of the one kind and to one of the other
+-- in layout two no handle was issued to an object of the one kind and to one of the other: neither do the lists of the state have it in
+-- both, nor did entries issue it to both
+pub record NamesOneKind (terms : Terms) (es : List NodeEntry) (a b : ObjectKind) (h : ℕ) : Type 0 where
+  pub lists : 1 ≤ times a h (after terms es) → 1 ≤ times b h (after terms es) → ⊥
+  pub entries : some_entry (issues a h) es ≡ true → some_entry (issues b h) es ≡ true → ⊥
+
 abbrev pub NotInBoth : Layout → Terms → List NodeEntry → ObjectKind → ObjectKind → ℕ → Type 0
-NotInBoth layout terms es a b h = layout ≡ Two → (object_number a == object_number b) ≡ false → 1 ≤ times a h (after terms es) → 1 ≤ times b h (after terms es) → ⊥
+NotInBoth layout terms es a b h = layout ≡ Two → (object_number a == object_number b) ≡ false → NamesOneKind terms es a b h

@@ -8,15 +8,19 @@ ghost use Rattle.history_law.specs.Ends.{OneEnd, EndsAfterClose};
 ghost use Rattle.mtapi_machine.specs.Laws.{DropsToSame};
 ghost use Rattle.history_law.specs.Affinity.{ObeysMasks};
 ghost use Rattle.history_law.specs.Order.{GivenInOrder};
+ghost use Rattle.history_law.specs.Ordered.{RunsInOrder};
+ghost use Rattle.history_law.specs.Refused.{LawsRefuse};
+ghost use Rattle.history_law.specs.Exclusion.{SemsKeepTo};
+ghost use Rattle.history_law.specs.Told.{TellsItsEnd};
 ghost use Rattle.history_law.specs.Reuse.{NeverAgain, NotInBoth};
-ghost use Rattle.history_law.specs.Seats.{OnceAfter, OnceStays, WaiterStays, WorkStays, NoLateEnd, PhaseStays, ReleaseStays, EarlyStays, StoppedStays, StoppedRoom, UnstartedAreUntouched, EntriesBySeats};
+ghost use Rattle.history_law.specs.Seats.{OnceAfter, OnceStays, WaiterStays, WorkStays, NoLateEnd, PhaseStays, ReleaseStays, EnterBehindRelease, FinalBehindStops, EarlyStays, StoppedStays, StoppedRoom, UnstartedAreUntouched, EntriesBySeats};
 ghost use Rattle.history_law.specs.Worked.{OneTaskEnds};
 
 #[cfg(test)]
 mod tests;
 
 use mtapi_machine::Entry;
-use mtapi_values::{GroupHandle, Layout, NodeAttr, ObjectKind, TaskHandle};
+use mtapi_values::{GroupHandle, Layout, NodeAttr, ObjectKind, QueueHandle, TaskHandle};
 
 /// In a legal history that ends with the final step, every task that was accepted has one record and ends once: it is ended at the end
 /// of the history, and wherever an end of it shows, that is its end.
@@ -24,7 +28,8 @@ pub fn law_accepted()
     ensures { AcceptedTasksEndOnce }
 {}
 
-/// A task has at most one end: once a prefix of the history leaves it ended, every longer one leaves it ended so.
+/// A task has at most one end: once a prefix of the history leaves it ended, every longer one leaves it ended so; and the end that a
+/// look at it tells is that end.
 pub fn law_one_end(
     layout: Layout,
     settings: &NodeAttr,
@@ -33,7 +38,8 @@ pub fn law_one_end(
     t: TaskHandle,
 )
     requires { Legal (terms_of layout settings.now callers) entries.now }
-    ensures { OneEnd (terms_of layout settings.now callers) entries.now t.0 }
+    ensures one { OneEnd (terms_of layout settings.now callers) entries.now t.0 }
+    ensures told { TellsItsEnd (terms_of layout settings.now callers) entries.now t.0 }
 {}
 
 /// Where the history has `final` with Ok, a task that was accepted has exactly one end.
@@ -70,7 +76,7 @@ pub fn law_work_stays()
     ensures { WorkStays }
 {}
 
-/// No task ends with the failure TIMEOUT.
+/// No task ends with the failure TIMEOUT or SPENT.
 pub fn law_no_late_end()
     ensures { NoLateEnd }
 {}
@@ -154,4 +160,34 @@ pub fn law_group_order(
 )
     requires { Legal (terms_of layout settings.now callers) entries.now }
     ensures { GivenInOrder (terms_of layout settings.now callers) entries.now g.0 }
+{}
+
+/// The runs of an ordered queue don't overlap, and begin in the order in which its tasks were put.
+pub fn law_ordered(
+    layout: Layout,
+    settings: &NodeAttr,
+    callers: u32,
+    entries: &[Entry],
+    q: QueueHandle,
+)
+    requires { Legal (terms_of layout settings.now callers) entries.now }
+    ensures { RunsInOrder (terms_of layout settings.now callers) entries.now q.0 }
+{}
+
+/// For each law a list that isn't legal and that the law refuses, so that none of them says nothing.
+pub fn worked_refusals()
+    ensures { LawsRefuse }
+{}
+
+/// An Ok `enter` stands behind an Ok `release`, and an Ok `final` behind a Stop of each worker.
+pub fn law_behind()
+    ensures enter { EnterBehindRelease }
+    ensures final_step { FinalBehindStops }
+{}
+
+/// Semaphores are held within their limits, by counts of entries: no seat gives one back more often than its looks got it, and at every
+/// moment those that hold it are at most as many as its limit.
+pub fn law_sems(layout: Layout, settings: &NodeAttr, callers: u32, entries: &[Entry])
+    requires { Legal (terms_of layout settings.now callers) entries.now }
+    ensures { SemsKeepTo entries.now }
 {}

@@ -6,3 +6,24 @@ law_one_end-requires c = empty_legal c.new-settings.result c.new-settings.ensure
 
 pub law_end_after_close-requires : goal.law_end_after_close-requires
 law_end_after_close-requires c = empty_legal c.new-settings.result c.new-settings.ensures
+
+pub law_ordered-requires : goal.law_ordered-requires
+law_ordered-requires c = empty_legal c.new-settings.result c.new-settings.ensures
+
+pub law_affinity-requires : goal.law_affinity-requires
+law_affinity-requires c = empty_legal c.new-settings.result c.new-settings.ensures
+
+pub law_no_reuse-requires : goal.law_no_reuse-requires
+law_no_reuse-requires c = empty_legal c.new-settings.result c.new-settings.ensures
+
+pub law_group_order-requires : goal.law_group_order-requires
+law_group_order-requires c = empty_legal c.new-settings.result c.new-settings.ensures
+
+pub law_drop-requires : goal.law_drop-requires
+law_drop-requires c = empty_legal c.new-settings.result c.new-settings.ensures
+
+pub law_kind-requires : goal.law_kind-requires
+law_kind-requires c = empty_legal c.new-settings.result c.new-settings.ensures
+
+pub law_sems-requires : goal.law_sems-requires
+law_sems-requires c = empty_legal c.new-settings.result c.new-settings.ensures

@@ -1,0 +1,174 @@
+-- What an Ok `enter` and an Ok `final` stand behind.
+use Rattle.std.proofs.Common.{◌≡◌, ℕ, zero, suc, ◌+◌, ◌<◌, ◌≤◌, Bool, true, false, cond, List, [], ◌∷◌, ◌++◌, Option, Some, None, refl, sym, ◌∙◌, ap, subst, arith}
+use Rattle.std.specs.Prelude.{◌==◌, ◌&&◌, not, slice_set, replicate}
+use Rattle.std.specs.Bool.{MatchBool}
+use Rattle.std.proofs.lemmas.Bool.{eq-eqb}
+use Rattle.std.proofs.lemmas.Bool.Decides.{nat_tests}
+use Rattle.mtapi_values.specs.Seats.{marked, all_marked, no_marks}
+use Rattle.mtapi_values.specs.declared.statuses.MtapiStatus.TheVariants as m
+use Rattle.history.specs.Histories.{entry}
+use Rattle.mtapi_machine.specs.declared.terms.Terms.{Terms}
+use Rattle.mtapi_machine.specs.declared.ops.Op.{Op}
+use Rattle.mtapi_machine.specs.declared.ops.Op.TheVariants as op
+use Rattle.mtapi_machine.specs.declared.replies.Reply.{Reply}
+use Rattle.mtapi_machine.specs.declared.replies.Reply.TheVariants.{Ok, Stop, Idle, Pending, Picked, Mtapi}
+use Rattle.mtapi_machine.specs.State.{State, opening, workers, is_open, is_late, is_stop}
+use Rattle.mtapi_machine.specs.Moves.{Move, released, stops, runs, makes, alters, removes, apply, after_moves}
+use Rattle.mtapi_machine.specs.Row.{Row, unless, gives, Allows, after_row}
+use Rattle.mtapi_machine.specs.Rows.{row}
+use Rattle.mtapi_machine.specs.WorkRows.{can_take, may_take, picks}
+use Rattle.handle_pool.specs.Issued.{at, any}
+use Rattle.mtapi_machine.specs.Laws.{IsMade, is_pick}
+use Rattle.mtapi_machine.specs.Legal.{NodeEntry, IsNext, next, LegalFrom, Legal, after_from, after}
+use Rattle.mtapi_machine.proofs.Lists.{Legal-front, Legal-rest}
+use Rattle.mtapi_machine.proofs.Made.{AllGives, given, on_live, on_only, fst_true, snd_true}
+use Rattle.mtapi_machine.proofs.Moves.{sorts_keep, by_moves as made_moves}
+use Rattle.history_law.specs.Words.{some_entry}
+use Rattle.history_law.specs.Seats.{is_release, says_ok, says_stop, is_released, is_stop_of}
+use Rattle.history_law.proofs.Accepted.{stands_after, final_marked}
+use Rattle.history_law.proofs.SeatMoves.{May, by_moves}
+use Rattle.history_law.proofs.Objects.{cut_from}
+
+true_false : {A : Type 0} {b : Bool} → b ≡ true → b ≡ false → A
+true_false e f = absurd (cc)
+
+-- Release
+
+enter_reads : (a b : Bool) (X : Type 0) → MatchBool a (Ok ≡ Mtapi m.ErrNodeNotinit) (MatchBool (not b) (Ok ≡ Pending) X) → b ≡ true
+enter_reads false true X k = refl
+enter_reads true b X k = absurd (not_status k)
+  where
+    not_status : Ok ≡ Mtapi m.ErrNodeNotinit → ⊥
+    not_status e = cc
+enter_reads false false X k = absurd (not_pending k)
+  where
+    not_pending : Ok ≡ Pending → ⊥
+    not_pending e = cc
+
+other_release : (o : Op) (s : State) (who : ℕ) (v : Bool) (x : Move) → is_release o ≡ false → May s who o x → s.released ≡ v → (apply x s).released ≡ v
+other_release o s who v released n k e = true_false k n
+other_release o s who v (makes z j x) n k e = sorts_keep (λ t. t.released ≡ v) (λ t g q m c r y p. p) z _ s e
+other_release o s who v (alters z j f) n k e = sorts_keep (λ t. t.released ≡ v) (λ t g q m c r y p. p) z _ s e
+other_release o s who v (removes z j) n k e = sorts_keep (λ t. t.released ≡ v) (λ t g q m c r y p. p) z _ s e
+other_release o s who v _ n k e = e
+
+refused_release : (s : State) (b : Bool) (r : Reply) → says_ok r ≡ false → Allows (unless b (Mtapi m.ErrNodeNotinit) (gives Ok (released ∷ []))) r → (after_row s (unless b (Mtapi m.ErrNodeNotinit) (gives Ok (released ∷ [])))).released ≡ s.released
+refused_release s true r n a = refl
+refused_release s false r n a = true_false (ap says_ok a) n
+
+row_release : (s : State) (who : ℕ) (o : Op) (r : Reply) → is_release o ≡ true → says_ok r ≡ false → Allows (row s who o r) r → (after_row s (row s who o r)).released ≡ s.released
+row_release s who op.Release r i n a = refused_release s (not (is_open s.phase)) r n a
+row_release s who _ r i n a = true_false i refl
+
+next_released : (s : State) (e : NodeEntry) → IsNext s e → is_released e ≡ false → (next s e).released ≡ s.released
+next_released s e n i = by_op (is_release e.op) refl i
+  where
+    by_op : (b : Bool) → is_release e.op ≡ b → (b && says_ok e.reply) ≡ false → (next s e).released ≡ s.released
+    by_op true j k = row_release s e.who e.op e.reply j k n.allowed
+    by_op false j k = by_moves (λ t. t.released ≡ s.released) s e n (λ t x y z. other_release e.op t e.who s.released x j y z) refl
+
+none_first : (a b : Bool) → cond a true b ≡ false → (a ≡ false) × (b ≡ false)
+none_first true b e = absurd (cc)
+none_first false b e = (refl, e)
+
+unreleased : (s : State) (L : List NodeEntry) → LegalFrom s L → some_entry is_released L ≡ false → (after_from s L).released ≡ s.released
+unfolding LegalFrom after_from
+unreleased s [] l n = refl
+unreleased s (e ∷ es) l n =
+    let both = none_first (is_released e) (some_entry is_released es) n in
+    unreleased (next s e) es l.1 both.1 ∙ next_released s e l.0 both.0
+
+pub enter_behind : (terms : Terms) (A B : List NodeEntry) (who : ℕ) → Legal terms (A ++ entry who op.Enter Ok ∷ B) → some_entry is_released A ≡ true
+enter_behind terms A B who l = by_test (some_entry is_released A) refl
+  where
+    by_test : (b : Bool) → some_entry is_released A ≡ b → b ≡ true
+    by_test true i = refl
+    by_test false i =
+        let n : IsNext (after terms A) (entry who op.Enter Ok) = cut_from (opening terms) A B (entry who op.Enter Ok) l.from in
+        let r : (after terms A).released ≡ true = enter_reads (is_late (after terms A).phase) (after terms A).released _ n.allowed in
+        let u : (after terms A).released ≡ false = unreleased (opening terms) A (Legal-front (opening terms) A (entry who op.Enter Ok ∷ B) l.from) i in
+        true_false r u
+
+-- Stops
+
+less_apart : (v w : ℕ) → (suc v == suc w) ≡ false → (v == w) ≡ false
+less_apart v w e = grind (arith, nat_tests)
+
+apart_marks : (l : List Bool) (w v : ℕ) → (v == w) ≡ false → marked w (slice_set l v true) ≡ marked w l
+apart_marks [] w v e = refl
+apart_marks (b ∷ bs) zero zero e = true_false (eq-eqb zero zero refl) e
+apart_marks (b ∷ bs) zero (suc v) e = refl
+apart_marks (b ∷ bs) (suc w) zero e = refl
+apart_marks (b ∷ bs) (suc w) (suc v) e = apart_marks bs w v (less_apart v w e)
+
+other_stops : (o : Op) (s : State) (who w : ℕ) (v : Bool) (x : Move) → (who == w) ≡ false → May s who o x → marked w s.stopped ≡ v → marked w (apply x s).stopped ≡ v
+other_stops o s who w v (stops y) n k e = apart_marks s.stopped w y (ap (λ (i : ℕ). i == w) k ∙ n) ∙ e
+other_stops o s who w v (makes z j x) n k e = sorts_keep (λ t. marked w t.stopped ≡ v) (λ t g q m c r y p. p) z _ s e
+other_stops o s who w v (alters z j f) n k e = sorts_keep (λ t. marked w t.stopped ≡ v) (λ t g q m c r y p. p) z _ s e
+other_stops o s who w v (removes z j) n k e = sorts_keep (λ t. marked w t.stopped ≡ v) (λ t g q m c r y p. p) z _ s e
+other_stops o s who w v _ n k e = e
+
+no_pick : (o : Op) (s : State) (w : ℕ) (v : Bool) (x : Move) → is_pick o ≡ false → IsMade s o x → marked w s.stopped ≡ v → marked w (apply x s).stopped ≡ v
+no_pick o s w v (stops y) n k e = true_false k.by n
+no_pick o s w v (makes z j x) n k e = sorts_keep (λ t. marked w t.stopped ≡ v) (λ t g q m c r y p. p) z _ s e
+no_pick o s w v (alters z j f) n k e = sorts_keep (λ t. marked w t.stopped ≡ v) (λ t g q m c r y p. p) z _ s e
+no_pick o s w v (removes z j) n k e = sorts_keep (λ t. marked w t.stopped ≡ v) (λ t g q m c r y p. p) z _ s e
+no_pick o s w v _ n k e = e
+
+-- a pick with another reply than Stop stops nobody
+abbrev StopsNone : State → ℕ → Reply → List Move → Type 0
+StopsNone s w r ms = says_stop r ≡ false → marked w (after_moves ms s).stopped ≡ marked w s.stopped
+
+picks_none : (s : State) (w who : ℕ) (r : Reply) → AllGives (StopsNone s w) (picks s who r)
+picks_none s w who (Picked t a k args) =
+    on_live _ (at s.tasks t.0) _ _ tt (λ x e. on_live _ (at s.actions a.0) _ _ tt (λ y d. on_only (StopsNone s w) (may_take s who x y) (Picked t a y.kind x.args) (runs t.0 who y.kind ∷ []) (λ m i. refl)))
+picks_none s w who _ = on_only (StopsNone s w) (not (any (can_take s who) s.tasks)) Idle [] (λ m i. refl)
+
+stop_none : (b : Bool) (s : State) (w who : ℕ) (v : Row) → AllGives (StopsNone s w) v → AllGives (StopsNone s w) (cond b (gives Stop (stops who ∷ [])) v)
+stop_none true s w who v h = λ i. true_false refl i
+stop_none false s w who v h = h
+
+row_stops : (s : State) (w who : ℕ) (o : Op) (r : Reply) → is_pick o ≡ true → says_stop r ≡ false → Allows (row s who o r) r → marked w (after_row s (row s who o r)).stopped ≡ marked w s.stopped
+row_stops s w who op.Pick r i n a = given (StopsNone s w) (row s who op.Pick r) r (λ x k. refl) (λ c0 c1 c2. stop_none (is_stop s) s w who (picks s who r) (picks_none s w who r)) a n
+row_stops s w who _ r i n a = true_false i refl
+
+next_stops : (s : State) (e : NodeEntry) (w : ℕ) → IsNext s e → is_stop_of w e ≡ false → marked w (next s e).stopped ≡ marked w s.stopped
+next_stops s e w n i = by_seat (e.who == w) refl i
+  where
+    by_op : (b : Bool) → is_pick e.op ≡ b → says_stop e.reply ≡ false → marked w (next s e).stopped ≡ marked w s.stopped
+    by_op true j k = row_stops s w e.who e.op e.reply j k n.allowed
+    by_op false j k = made_moves (λ t. marked w t.stopped ≡ marked w s.stopped) s e (λ t x y z. no_pick e.op t w (marked w s.stopped) x j y z) refl
+
+    by_seat : (b : Bool) → (e.who == w) ≡ b → (b && says_stop e.reply) ≡ false → marked w (next s e).stopped ≡ marked w s.stopped
+    by_seat true j k = by_op (is_pick e.op) refl k
+    by_seat false j k = by_moves (λ t. marked w t.stopped ≡ marked w s.stopped) s e n (λ t x y z. other_stops e.op t e.who w (marked w s.stopped) x j y z) refl
+
+unstopped : (s : State) (L : List NodeEntry) (w : ℕ) → LegalFrom s L → some_entry (is_stop_of w) L ≡ false → marked w (after_from s L).stopped ≡ marked w s.stopped
+unfolding LegalFrom after_from
+unstopped s [] w l n = refl
+unstopped s (e ∷ es) w l n =
+    let both = none_first (is_stop_of w e) (some_entry (is_stop_of w) es) n in
+    unstopped (next s e) es w l.1 both.1 ∙ next_stops s e w l.0 both.0
+
+each_marked : (n w : ℕ) (l : List Bool) → all_marked n l ≡ true → w < n → marked w l ≡ true
+each_marked zero w l e i = absurd (omega arith)
+each_marked (suc n) w [] e i = absurd (cc)
+each_marked (suc n) zero (b ∷ bs) e i = fst_true b _ e
+each_marked (suc n) (suc w) (b ∷ bs) e i = each_marked n w bs (snd_true b _ e) (omega arith)
+
+none_marked : (n w : ℕ) → marked w (replicate n false) ≡ false
+none_marked zero w = refl
+none_marked (suc n) zero = refl
+none_marked (suc n) (suc w) = none_marked n w
+
+pub final_behind : (terms : Terms) (A B : List NodeEntry) (who w : ℕ) → Legal terms (A ++ entry who op.Final Ok ∷ B) → w < terms.settings.workers → some_entry (is_stop_of w) A ≡ true
+final_behind terms A B who w l less = by_test (some_entry (is_stop_of w) A) refl
+  where
+    by_test : (b : Bool) → some_entry (is_stop_of w) A ≡ b → b ≡ true
+    by_test true i = refl
+    by_test false i =
+        let n : IsNext (after terms A) (entry who op.Final Ok) = cut_from (opening terms) A B (entry who op.Final Ok) l.from in
+        let same : workers (after terms A) ≡ terms.settings.workers = ap (λ (t : Terms). t.settings.workers) (stands_after terms A).0 in
+        let r : marked w (after terms A).stopped ≡ true = each_marked (workers (after terms A)) w (after terms A).stopped (final_marked (after terms A) who n) (omega arith) in
+        let u : marked w (after terms A).stopped ≡ false = unstopped (opening terms) A w (Legal-front (opening terms) A (entry who op.Final Ok ∷ B) l.from) i ∙ none_marked 25 w in
+        true_false r u

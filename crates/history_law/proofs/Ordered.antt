@@ -1,0 +1,313 @@
+-- The runs of an ordered queue.
+use Rattle.std.proofs.Common.{◌≡◌, ℕ, ◌+◌, ◌≤◌, ◌<◌, Bool, true, false, cond, List, [], ◌∷◌, ◌++◌, Option, Some, None, refl, sym, ◌∙◌, ap, subst, arith}
+use Rattle.std.specs.Prelude.{◌==◌, ◌&&◌, ◌||◌, not, nat_lt, is_some, is_none, IsSome}
+use Rattle.std.proofs.lemmas.Bool.{eqb-true, eq-eqb}
+use Rattle.std.proofs.lemmas.Bool.Decides.{nat_tests}
+use Rattle.mtapi_values.specs.Conditions.{holds}
+use Rattle.mtapi_values.specs.declared.ends.TaskEnd.{TaskEnd}
+use Rattle.mtapi_values.specs.declared.handles.ObjectKind.TheVariants as kind
+use Rattle.handle_pool.specs.Issued.{Listed, live_of, lookup, at, any_live, listed}
+use Rattle.mtapi_objects.specs.Tasks.{Task, NewTask, TaskState, Scheduled, Running, Over, scheduled, end_of, is_unstarted, is_unended, new_task}
+use Rattle.mtapi_objects.specs.Queues.{Queue, is_in, is_unended_in, is_head, lets}
+use Rattle.mtapi_machine.specs.declared.terms.Terms.{Terms}
+use Rattle.mtapi_machine.specs.declared.ops.Op.{Op}
+use Rattle.mtapi_machine.specs.declared.ops.Op.TheVariants as op
+use Rattle.mtapi_machine.specs.declared.replies.Reply.{Reply}
+use Rattle.mtapi_machine.specs.declared.replies.Reply.TheVariants.{Picked}
+use Rattle.mtapi_machine.specs.State.{State, opening}
+use Rattle.mtapi_machine.specs.Moves.{Move, starts, makes, alters, removes, apply}
+use Rattle.mtapi_machine.specs.Row.{Allows}
+use Rattle.mtapi_machine.specs.Rows.{row}
+use Rattle.mtapi_machine.specs.QueueRows.{new_queue}
+use Rattle.mtapi_machine.specs.WorkRows.{is_ready, may_take, has_better}
+use Rattle.mtapi_machine.specs.Legal.{NodeEntry, IsNext, next, LegalFrom, Legal, after_from, after}
+use Rattle.mtapi_machine.specs.Laws.{IsMade, StartsTask}
+use Rattle.mtapi_machine.specs.Ends.{end_in, end_at}
+use Rattle.mtapi_machine.proofs.Lists.{Legal-front, Legal-rest, after-append}
+use Rattle.mtapi_machine.proofs.Made.{fst_true, snd_true, not_true}
+use Rattle.mtapi_machine.proofs.Moves.{along, sorts_keep}
+use Rattle.mtapi_machine.proofs.Ends.{after_grows}
+use Rattle.history_law.specs.Words.{some_entry, is_handle, issues, makes as makes_kind}
+use Rattle.history_law.specs.Ordered.{asks_ordered, makes_ordered, puts_into, puts, is_pick, is_picked, picks, HasRun, RunsInOrder}
+use Rattle.history_law.proofs.Held.{DeadEnded, HasEnded}
+use Rattle.history_law.proofs.Moves.{Stands, after_stands, once_along, once_from}
+use Rattle.history_law.proofs.Accepted.{stands_after, shown}
+use Rattle.history_law.proofs.Handles.{OnceIn}
+use Rattle.history_law.proofs.Members.{once_rest}
+use Rattle.history_law.proofs.Ends.{grows_end}
+use Rattle.history_law.proofs.Ages.{SameTask, SameQueue, Under, under_at}
+use Rattle.history_law.proofs.Objects.{Has, HasObject, StartedAs, QueueAs, started_as, queued_as, task_then, queue_then, has_along}
+use Rattle.history_law.proofs.Affinity.{Took, row_took}
+
+true_false : {A : Type 0} {b : Bool} → b ≡ true → b ≡ false → A
+true_false e f = absurd (cc)
+
+some_same : {A : Type 0} {x y : A} → Some x ≡ Some y → x ≡ y
+some_same e = cc
+
+-- The number of the next start doesn't fall
+
+starts_move : (k : ℕ) (s : State) (m : Move) → k ≤ s.starts → k ≤ (apply m s).starts
+starts_move k s (starts h t) v = omega arith
+starts_move k s (makes z j x) v = sorts_keep (λ t. k ≤ t.starts) (λ t g q m c r y p. p) z _ s v
+starts_move k s (alters z j f) v = sorts_keep (λ t. k ≤ t.starts) (λ t g q m c r y p. p) z _ s v
+starts_move k s (removes z j) v = sorts_keep (λ t. k ≤ t.starts) (λ t g q m c r y p. p) z _ s v
+starts_move k s _ v = v
+
+starts_along : (k : ℕ) (s : State) (L : List NodeEntry) → k ≤ s.starts → k ≤ (after_from s L).starts
+starts_along k s L v = along (λ t. k ≤ t.starts) (λ o t m e w. starts_move k t m w) s L v
+
+-- Who picked
+
+took_as : (s : State) (w : ℕ) (o : Op) (r : Reply) (h : ℕ) → is_pick o ≡ true → is_picked h r ≡ true → Allows (row s w o r) r → (a : ℕ) × Took s w h a
+took_as s w op.Pick (Picked t a k args) h i j n = (a.0, subst (λ (x : ℕ). Took s w x a.0) (eqb-true t.0 h j) (row_took s w t a k args n))
+took_as s w op.Pick _ h i j n = true_false j refl
+took_as s w _ r h i j n = true_false i refl
+
+picks_took : (s : State) (e : NodeEntry) (h : ℕ) → IsNext s e → picks h e ≡ true → (a : ℕ) × Took s e.who h a
+picks_took s e h n i = took_as s e.who e.op e.reply h (fst_true (is_pick e.op) _ i) (snd_true (is_pick e.op) _ i) n.allowed
+
+took_ready : (s : State) (w h a : ℕ) (x : Took s w h a) → is_ready s x.task ≡ true
+took_ready s w h a x = fst_true (is_ready s x.task) _ (fst_true _ (not (has_better s w x.task.priority)) x.may)
+
+ready_unstarted : (s : State) (t : Task) → is_ready s t ≡ true → is_unstarted t ≡ true
+unfolding is_ready
+ready_unstarted s t h = fst_true (is_unstarted t) _ h
+
+-- a ready task of a queue is let begin by it
+ready_let : (s : State) (t : Task) (q : ℕ) → t.queue ≡ Some q → is_ready s t ≡ true → holds (lets q t (live_of s.tasks)) (at s.queues q) ≡ true
+unfolding is_ready
+ready_let s t q e h = by_queue t.queue e (snd_true (is_unstarted t) _ h)
+  where
+    by_queue : (o : Option ℕ) → o ≡ Some q → (is_none o || holds (λ h. holds (lets h t (live_of s.tasks)) (at s.queues h)) o) ≡ true → holds (lets q t (live_of s.tasks)) (at s.queues q) ≡ true
+    by_queue None e k = absurd (cc)
+    by_queue (Some j) e k = subst (λ (x : ℕ). holds (lets x t (live_of s.tasks)) (at s.queues x) ≡ true) (some_same e) k
+
+ordered_head : (q : ℕ) (t : Task) (l : List (ℕ × Task)) (o : Option Queue) → ((x : Queue) → o ≡ Some x → x.ordered ≡ true) → holds (lets q t l) o ≡ true → is_head q t l ≡ true
+ordered_head q t l None f h = absurd (cc)
+ordered_head q t l (Some x) f h = by_ordered x.ordered (f x refl) (snd_true x.enabled _ h)
+  where
+    by_ordered : (b : Bool) → b ≡ true → (not b || is_head q t l) ≡ true → is_head q t l ≡ true
+    by_ordered true e k = k
+    by_ordered false e k = absurd (cc)
+
+-- A task that stands before another in its queue, and isn't waited for, has ended
+
+ended_before : (h : ℕ) (F : Task → Type 0) (p : Task → Bool) (l : List (Listed Task)) → ((t : Task) → F t → is_unended t ≡ true → p t ≡ true) → Under h F l → DeadEnded l → any_live p (live_of l) ≡ false → 1 ≤ listed h l → IsSome (end_at l h)
+unfolding live_of listed end_at
+ended_before h F p [] g u d n k = absurd (omega arith)
+ended_before h F p (r ∷ rs) g u d n k = by_hand (r.handle == h) refl k (λ z. ended_before h F p rs g u.1 d.1 (rest r.live n) z)
+  where
+    rest_test : (b : Bool) → cond b true (any_live p (live_of rs)) ≡ false → any_live p (live_of rs) ≡ false
+    rest_test true e = absurd (cc)
+    rest_test false e = e
+
+    rest : (b : Bool) → any_live p (cond b ((r.handle, r.fields) ∷ live_of rs) (live_of rs)) ≡ false → any_live p (live_of rs) ≡ false
+    rest true e = rest_test (p r.fields) e
+    rest false e = e
+
+    here : (b : Bool) → r.live ≡ b → any_live p (cond b ((r.handle, r.fields) ∷ live_of rs) (live_of rs)) ≡ false → p r.fields ≡ true → is_unended r.fields ≡ true → ⊥
+    here true i e q m = true_false (ap (λ (b : Bool). cond b true (any_live p (live_of rs))) q) e
+    here false i e q m = true_false m (d.0 i)
+
+    by_state : (x : TaskState) → r.fields.state ≡ x → F r.fields → IsSome (end_in x)
+    by_state Scheduled i f = let m : is_unended r.fields ≡ true = ap (λ (y : TaskState). is_none (end_of y)) i in absurd (here r.live refl n (g r.fields f m) m)
+    by_state (Running w j) i f = let m : is_unended r.fields ≡ true = ap (λ (y : TaskState). is_none (end_of y)) i in absurd (here r.live refl n (g r.fields f m) m)
+    by_state (Over e j) i f = refl
+
+    by_hand : (b : Bool) → (r.handle == h) ≡ b → 1 ≤ cond b 1 0 + listed h rs → (1 ≤ listed h rs → IsSome (end_at rs h)) → IsSome (cond b (end_in r.fields.state) (end_at rs h))
+    by_hand true i k m = by_state r.fields.state refl (u.0 i)
+    by_hand false i k m = m (omega arith)
+
+-- What has ended isn't picked
+
+listed_at : (l : List (Listed Task)) (h : ℕ) (t : Task) → at l h ≡ Some t → 1 ≤ listed h l
+unfolding live_of listed
+listed_at [] h t e = absurd (cc)
+listed_at (r ∷ rs) h t e = by_live r.live e (listed_at rs h t)
+  where
+    by_hand : (b : Bool) → cond b (Some r.fields) (at rs h) ≡ Some t → (at rs h ≡ Some t → 1 ≤ listed h rs) → 1 ≤ cond b 1 0 + listed h rs
+    by_hand true m g = omega arith
+    by_hand false m g = let k : 1 ≤ listed h rs = g m in omega arith
+
+    by_live : (a : Bool) → lookup (cond a ((r.handle, r.fields) ∷ live_of rs) (live_of rs)) h ≡ Some t → (at rs h ≡ Some t → 1 ≤ listed h rs) → 1 ≤ cond (r.handle == h) 1 0 + listed h rs
+    by_live true m g = by_hand (r.handle == h) m g
+    by_live false m g = let k : 1 ≤ listed h rs = g m in omega arith
+
+pub end_found : (l : List (Listed Task)) (h : ℕ) (t : Task) → OnceIn l → at l h ≡ Some t → end_at l h ≡ end_in t.state
+unfolding live_of listed end_at
+end_found [] h t o e = absurd (cc)
+end_found (r ∷ rs) h t o e = by_hand (r.handle == h) refl (o h) (λ i. end_found rs h t (once_rest r rs o) i)
+  where
+    by_live : (a : Bool) → lookup (cond a ((r.handle, r.fields) ∷ live_of rs) (live_of rs)) h ≡ Some t → (r.handle == h) ≡ true → 1 + listed h rs ≤ 1 → r.fields ≡ t
+    by_live true e i k = some_same (sym (ap (λ (c : Bool). cond c (Some r.fields) (lookup (live_of rs) h)) i) ∙ e)
+    by_live false e i k = let z : 1 ≤ listed h rs = listed_at rs h t e in absurd (omega arith)
+
+    past : (a : Bool) → lookup (cond a ((r.handle, r.fields) ∷ live_of rs) (live_of rs)) h ≡ Some t → (r.handle == h) ≡ false → at rs h ≡ Some t
+    past true e i = sym (ap (λ (c : Bool). cond c (Some r.fields) (lookup (live_of rs) h)) i) ∙ e
+    past false e i = e
+
+    by_hand : (b : Bool) → (r.handle == h) ≡ b → cond b 1 0 + listed h rs ≤ 1 → (at rs h ≡ Some t → end_at rs h ≡ end_in t.state) → cond b (end_in r.fields.state) (end_at rs h) ≡ end_in t.state
+    by_hand true i k m = ap (λ (x : Task). end_in x.state) (by_live r.live e i k)
+    by_hand false i k m = m (past r.live e i)
+
+unstarted_none : (t : Task) → is_unstarted t ≡ true → end_in t.state ≡ None
+unstarted_none t h = by_state t.state h
+  where
+    by_state : (x : TaskState) → scheduled x ≡ true → end_in x ≡ None
+    by_state Scheduled e = refl
+    by_state (Running w k) e = refl
+    by_state (Over e n) d = absurd (cc)
+
+not_picked : (s : State) (z : NodeEntry) (h : ℕ) (e : TaskEnd) → OnceIn s.tasks → end_at s.tasks h ≡ Some e → IsNext s z → picks h z ≡ false
+not_picked s z h e o i n = by_test (picks h z) refl
+  where
+    none : {A : Type 0} {y : A} → None ≡ Some y → ⊥
+    none i = cc
+
+    by_test : (b : Bool) → picks h z ≡ b → b ≡ false
+    by_test false j = refl
+    by_test true j =
+        let t = picks_took s z h n j in
+        let u : is_unstarted t.1.task ≡ true = ready_unstarted s t.1.task (took_ready s z.who h t.0 t.1) in
+        absurd (none (sym (unstarted_none t.1.task u) ∙ (sym (end_found s.tasks h t.1.task o t.1.task_found) ∙ i)))
+
+never_picked : (s : State) (L : List NodeEntry) (h : ℕ) (e : TaskEnd) → LegalFrom s L → OnceIn s.tasks → end_at s.tasks h ≡ Some e → some_entry (picks h) L ≡ false
+unfolding LegalFrom after_from
+never_picked s [] h e l o i = refl
+never_picked s (z ∷ zs) h e l o i =
+    ap (λ (b : Bool). cond b true (some_entry (picks h) zs)) (not_picked s z h e o i l.0)
+    ∙ never_picked (next s z) zs h e l.1 (once_along s (z ∷ []) o) (grows_end h e s.tasks (next s z).tasks (after_grows s (z ∷ [])) i)
+
+-- What was put
+
+put_issues : (q h : ℕ) (o : Op) → puts_into q o ≡ true → makes_kind kind.Task o ≡ true
+put_issues q h (op.TaskEnqueue x args cores detached group) e = refl
+put_issues q h _ e = true_false e refl
+
+puts_issues : (q h : ℕ) (e : NodeEntry) → puts q h e ≡ true → issues kind.Task h e ≡ true
+puts_issues q h e i =
+    let a : makes_kind kind.Task e.op ≡ true = put_issues q h e.op (fst_true (puts_into q e.op) _ i) in
+    ap (λ (b : Bool). b && is_handle h e.reply) a ∙ snd_true (puts_into q e.op) _ i
+
+put_queue : (q : ℕ) (n : NewTask) (o : Op) → puts_into q o ≡ true → StartsTask n o → n.queue ≡ Some q
+put_queue q n (op.TaskEnqueue x args cores detached group) e b = ap (λ (y : NewTask). y.queue) b.1 ∙ ap Some (eqb-true x.0 q e)
+put_queue q n _ e b = true_false e refl
+
+ordered_issues : (q : ℕ) (e : NodeEntry) → makes_ordered q e ≡ true → issues kind.Queue q e ≡ true
+ordered_issues q e i =
+    let a : makes_kind kind.Queue e.op ≡ true = by_op e.op (fst_true (asks_ordered e.op) _ i) in
+    ap (λ (b : Bool). b && is_handle q e.reply) a ∙ snd_true (asks_ordered e.op) _ i
+  where
+    by_op : (o : Op) → asks_ordered o ≡ true → makes_kind kind.Queue o ≡ true
+    by_op (op.QueueCreate id job priority limit ordered retain) e = refl
+    by_op _ e = true_false e refl
+
+-- an ordered queue stays one
+abbrev IsOrdered : Queue → Type 0
+IsOrdered x = x.ordered ≡ true
+
+stays_ordered : (x y : Queue) → SameQueue x y → IsOrdered x → IsOrdered y
+stays_ordered x y s e = s.ordered ∙ e
+
+under_more : (h : ℕ) (F G : Queue → Type 0) (l : List (Listed Queue)) → ((x : Queue) → F x → G x) → Under h F l → Under h G l
+under_more h F G [] f u = tt
+under_more h F G (r ∷ rs) f u = ((λ e. f r.fields (u.0 e)), under_more h F G rs f u.1)
+
+ordered_made : (q : ℕ) (o : Op) (s : State) → asks_ordered o ≡ true → QueueAs o q s → HasObject kind.Queue q IsOrdered s
+ordered_made q (op.QueueCreate id job priority limit ordered retain) s e v = record { some = v.some; under = under_more q _ IsOrdered s.queues (λ x k. k.ordered ∙ e) v.under }
+ordered_made q _ s e v = true_false e refl
+
+-- The law
+
+-- the tasks a and b of the queue, as they stand in a state, with the numbers of their starts
+record Both (q a b : ℕ) (s : State) : Type 0 where
+  i : ℕ
+  j : ℕ
+  n : NewTask
+  k : NewTask
+  less : i < j
+  first_in : n.queue ≡ Some q
+  second_in : k.queue ≡ Some q
+  first : HasObject kind.Task a (SameTask (new_task n i)) s
+  second : HasObject kind.Task b (SameTask (new_task k j)) s
+  queue : HasObject kind.Queue q IsOrdered s
+
+after_both : (q a b : ℕ) (s : State) (C : List NodeEntry) → Both q a b s → Both q a b (after_from s C)
+after_both q a b s C v = record {
+  i = v.i;
+  j = v.j;
+  n = v.n;
+  k = v.k;
+  less = v.less;
+  first_in = v.first_in;
+  second_in = v.second_in;
+  first = has_along kind.Task a _ (task_then (new_task v.n v.i)) s C v.first;
+  second = has_along kind.Task b _ (task_then (new_task v.k v.j)) s C v.second;
+  queue = has_along kind.Queue q IsOrdered stays_ordered s C v.queue;
+}
+
+-- the queue is made, a is put, and b is put
+both_put : (q a b : ℕ) (s : State) (A B C : List NodeEntry) (o x y : NodeEntry) → LegalFrom s (o ∷ (A ++ x ∷ (B ++ y ∷ C))) → makes_ordered q o ≡ true → puts q a x ≡ true → puts q b y ≡ true → Both q a b (after_from s (o ∷ (A ++ x ∷ (B ++ y ∷ C))))
+unfolding LegalFrom after_from
+both_put q a b s A B C o x y l p r t =
+    let s1 : State = next s o in
+    let sx : State = after_from s1 A in
+    let lx : LegalFrom sx (x ∷ (B ++ y ∷ C)) = Legal-rest s1 A (x ∷ (B ++ y ∷ C)) l.1 in
+    let sy : State = after_from (next sx x) B in
+    let ly : LegalFrom sy (y ∷ C) = Legal-rest (next sx x) B (y ∷ C) lx.1 in
+    let queue : HasObject kind.Queue q IsOrdered s1 = ordered_made q o.op s1 (fst_true (asks_ordered o.op) _ p) (queued_as s o q l.0 (ordered_issues q o p)) in
+    let queue_y : HasObject kind.Queue q IsOrdered sy = has_along kind.Queue q IsOrdered stays_ordered (next sx x) B (has_along kind.Queue q IsOrdered stays_ordered sx (x ∷ []) (has_along kind.Queue q IsOrdered stays_ordered s1 A queue)) in
+    let f = started_as sx x a lx.0 (puts_issues q a x r) in
+    let g = started_as sy y b ly.0 (puts_issues q b y t) in
+    let up : sx.starts + 1 ≤ (next sx x).starts = let e : (next sx x).starts ≡ sx.starts + 1 = f.3 in omega arith in
+    let up_y : sx.starts + 1 ≤ sy.starts = starts_along (sx.starts + 1) (next sx x) B up in
+    let here : Both q a b (next sy y) =
+    record {
+      i = sx.starts;
+      j = sy.starts;
+      n = f.0;
+      k = g.0;
+      less = omega arith;
+      first_in = put_queue q f.0 x.op (fst_true (puts_into q x.op) _ r) f.1;
+      second_in = put_queue q g.0 y.op (fst_true (puts_into q y.op) _ t) g.1;
+      first = has_along kind.Task a _ (task_then (new_task f.0 sx.starts)) sy (y ∷ []) (has_along kind.Task a _ (task_then (new_task f.0 sx.starts)) (next sx x) B f.2);
+      second = g.2;
+      queue = has_along kind.Queue q IsOrdered stays_ordered sy (y ∷ []) queue_y;
+    } in
+    let end : Both q a b (after_from (next sy y) C) = after_both q a b (next sy y) C here in
+    subst (Both q a b) (sym (after-append s1 A (x ∷ (B ++ y ∷ C)) ∙ after-append (next sx x) B (y ∷ C))) end
+
+-- where b is picked, a has ended
+first_ended : (terms : Terms) (q a b : ℕ) (s : State) (z : NodeEntry) → Stands terms s → Both q a b s → IsNext s z → picks b z ≡ true → IsSome (end_at s.tasks a)
+first_ended terms q a b s z stands v n p =
+    let t = picks_took s z b n p in
+    let same : SameTask (new_task v.k v.j) t.1.task = under_at b _ s.tasks t.1.task v.second.under t.1.task_found in
+    let let_go : holds (lets q t.1.task (live_of s.tasks)) (at s.queues q) ≡ true = ready_let s t.1.task q (same.queue ∙ v.second_in) (took_ready s z.who b t.0 t.1) in
+    let head : is_head q t.1.task (live_of s.tasks) ≡ true = ordered_head q t.1.task (live_of s.tasks) (at s.queues q) (λ x e. under_at q IsOrdered s.queues x v.queue.under e) let_go in
+    ended_before a (SameTask (new_task v.n v.i)) (λ u. is_unended_in q u && nat_lt u.start t.1.task.start) s.tasks (λ u f m. passes u f m same) v.first.under stands.1.dead (not_true _ head) v.first.some
+  where
+    own : is_in q (new_task v.n v.i) ≡ true
+    own = ap (holds (λ h. h == q)) v.first_in ∙ eq-eqb q q refl
+
+    passes : (u : Task) → SameTask (new_task v.n v.i) u → is_unended u ≡ true → {t : Task} → SameTask (new_task v.k v.j) t → (is_unended_in q u && nat_lt u.start t.start) ≡ true
+    passes u f m {t} g =
+        let c : is_in q u ≡ true = ap (holds (λ h. h == q)) f.queue ∙ own in
+        let l : v.i < v.j = v.less in
+        let d : nat_lt v.i v.j ≡ true = grind (arith, nat_tests) in
+        (λ x. (c x && m x) && nat_lt (f.start x) (g.start x)) ∙ d
+
+next_of : (s : State) (z : NodeEntry) (D : List NodeEntry) → LegalFrom s (z ∷ D) → IsNext s z
+unfolding LegalFrom
+next_of s z D l = l.0
+
+pub runs_in_order : (terms : Terms) (es : List NodeEntry) (q : ℕ) → Legal terms es → RunsInOrder terms es q
+runs_in_order terms es q legal Z A B C D o x y z a b cut p r t u =
+    let whole : LegalFrom (opening terms) ((Z ++ o ∷ (A ++ x ∷ (B ++ y ∷ C))) ++ z ∷ D) = subst (λ (L : List NodeEntry). LegalFrom (opening terms) L) cut legal.from in
+    let front : LegalFrom (opening terms) (Z ++ o ∷ (A ++ x ∷ (B ++ y ∷ C))) = Legal-front (opening terms) (Z ++ o ∷ (A ++ x ∷ (B ++ y ∷ C))) (z ∷ D) whole in
+    let rest : LegalFrom (after terms (Z ++ o ∷ (A ++ x ∷ (B ++ y ∷ C)))) (z ∷ D) = Legal-rest (opening terms) (Z ++ o ∷ (A ++ x ∷ (B ++ y ∷ C))) (z ∷ D) whole in
+    let both : Both q a b (after terms (Z ++ o ∷ (A ++ x ∷ (B ++ y ∷ C)))) =
+    subst (Both q a b) (sym (after-append (opening terms) Z (o ∷ (A ++ x ∷ (B ++ y ∷ C))))) (both_put q a b (after terms Z) A B C o x y (Legal-rest (opening terms) Z (o ∷ (A ++ x ∷ (B ++ y ∷ C))) front) p r t) in
+    let ended : IsSome (end_at (after terms (Z ++ o ∷ (A ++ x ∷ (B ++ y ∷ C)))).tasks a) = first_ended terms q a b _ z (stands_after terms (Z ++ o ∷ (A ++ x ∷ (B ++ y ∷ C)))) both (next_of _ z D rest) u in
+    let e = shown (end_at (after terms (Z ++ o ∷ (A ++ x ∷ (B ++ y ∷ C)))).tasks a) ended in
+    record { ended = ended; never = never_picked _ (z ∷ D) a e.0 rest (once_from terms (Z ++ o ∷ (A ++ x ∷ (B ++ y ∷ C)))) e.1 }

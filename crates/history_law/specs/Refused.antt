@@ -1,0 +1,113 @@
+-- For each law a list that isn't legal, and that what the law says refuses.
+use Rattle.std.specs.Prelude.{◌≡◌, ℕ, true, false, List, [], ◌∷◌, ◌++◌, Some, None, pos}
+use Rattle.mtapi_values.specs.declared.kinds.Kind.TheVariants as kind
+use Rattle.mtapi_values.specs.declared.handles.ObjectKind.TheVariants as object
+use Rattle.mtapi_values.specs.declared.handles.Layout.TheVariants.{Two}
+use Rattle.mtapi_values.specs.declared.handles.QueueHandle.{QueueHandle}
+use Rattle.mtapi_values.specs.declared.handles.GroupHandle.{GroupHandle}
+use Rattle.mtapi_values.specs.declared.ends.TaskEnd.TheVariants.{Cancelled, Completed}
+use Rattle.mtapi_machine.specs.declared.terms.Terms.{Terms}
+use Rattle.mtapi_machine.specs.declared.ops.Op.{Op}
+use Rattle.mtapi_machine.specs.declared.ops.Op.TheVariants as op
+use Rattle.mtapi_machine.specs.declared.replies.Reply.TheVariants as reply
+use Rattle.mtapi_machine.specs.Legal.{NodeEntry, Legal}
+use Rattle.mtapi_machine.specs.Laws.{DropsToSame}
+use Rattle.mtapi_machine.specs.Worked.{usual, main, second, worker, first_handle, next_handle, task, the_action, every_core, second_core, add_task}
+use Rattle.history_law.specs.Ends.{EndsAfterClose}
+use Rattle.history_law.specs.Affinity.{ObeysMasks}
+use Rattle.history_law.specs.Exclusion.{SemsKeepTo}
+use Rattle.history_law.specs.Order.{GivenInOrder}
+use Rattle.history_law.specs.Ordered.{RunsInOrder}
+use Rattle.history_law.specs.Told.{TellsItsEnd}
+use Rattle.history_law.specs.Reuse.{NeverAgain, NotInBoth}
+
+abbrev pub makes_action : Op
+makes_action = op.ActionCreate 1 kind.Add every_core
+
+-- the node is finalized though its task hasn't ended
+unfoldable pub too_early : List NodeEntry
+too_early = main op.Initialize reply.Ok ∷ main makes_action (reply.Handle first_handle) ∷ main (add_task 0) (reply.Handle first_handle) ∷ main op.Final reply.Ok ∷ []
+
+-- the handle of a task that has left is issued again
+unfoldable pub up_to_the_end : List NodeEntry
+up_to_the_end = main op.Initialize reply.Ok ∷ main makes_action (reply.Handle first_handle) ∷ main (add_task 0) (reply.Handle first_handle) ∷ main (op.TaskCancel (task first_handle)) reply.Ok ∷ []
+
+abbrev pub leaves : List NodeEntry
+leaves = main (op.TaskLook (task first_handle) false) (reply.Ended Cancelled) ∷ []
+
+abbrev pub again : List NodeEntry
+again = main (add_task 0) (reply.Handle first_handle) ∷ []
+
+-- an action and a task have one handle, in layout two
+abbrev pub one_for_two : List NodeEntry
+one_for_two = main makes_action (reply.Handle first_handle) ∷ main (add_task 0) (reply.Handle first_handle) ∷ []
+
+-- worker 0 picks by an action that may run on core 1 alone
+abbrev pub on_another_core : List NodeEntry
+on_another_core =
+    main (op.ActionCreate 1 kind.Add second_core) (reply.Handle first_handle)
+    ∷ main (add_task 0) (reply.Handle first_handle)
+    ∷ worker op.Pick (reply.Picked (task first_handle) the_action kind.Add (pos 2 ∷ pos 3 ∷ []))
+    ∷ []
+
+-- two looks tell two ends of one task
+abbrev pub cancelled_first : NodeEntry
+cancelled_first = main (op.TaskLook (task first_handle) false) (reply.Ended Cancelled)
+
+abbrev pub completed_then : NodeEntry
+completed_then = main (op.TaskLook (task first_handle) false) (reply.Ended (Completed []))
+
+abbrev pub two_ends : List NodeEntry
+two_ends = cancelled_first ∷ completed_then ∷ []
+
+-- a group gives a task twice
+abbrev pub gives_first : NodeEntry
+gives_first = main (op.AnyLook (record { 0 = first_handle }) false) (reply.Given (task first_handle) Cancelled)
+
+abbrev pub given_twice : List NodeEntry
+given_twice = gives_first ∷ gives_first ∷ []
+
+-- the second task of an ordered queue is picked while the first hasn't run
+abbrev pub the_queue : QueueHandle
+the_queue = record { 0 = first_handle }
+
+abbrev pub puts_one : Op
+puts_one = op.TaskEnqueue the_queue [] every_core false None
+
+unfoldable pub two_put : List NodeEntry
+two_put =
+    main op.Initialize reply.Ok
+    ∷ main makes_action (reply.Handle first_handle)
+    ∷ main (op.QueueCreate 1 1 0 2 true true) (reply.Handle first_handle)
+    ∷ main puts_one (reply.Handle first_handle)
+    ∷ main puts_one (reply.Handle next_handle)
+    ∷ []
+
+abbrev pub picks_second : List NodeEntry
+picks_second = worker op.Pick (reply.Picked (task next_handle) the_action kind.Add []) ∷ []
+
+-- the node is finalized before it is opened
+abbrev pub final_first : List NodeEntry
+final_first = main op.Final reply.Ok ∷ []
+
+-- two seats hold a semaphore of limit 1
+abbrev pub makes_sem : NodeEntry
+makes_sem = main (op.SemCreate 1 1) (reply.Handle first_handle)
+
+abbrev pub looks_at_it : Op
+looks_at_it = op.SemLook (record { 0 = first_handle }) false
+
+abbrev pub both_hold : List NodeEntry
+both_hold = main looks_at_it reply.Ok ∷ second looks_at_it reply.Ok ∷ []
+
+-- each law refuses its list
+pub record LawsRefuse : Type 0 where
+  pub one_end : TellsItsEnd usual two_ends first_handle → ⊥
+  pub end_after_close : EndsAfterClose usual too_early first_handle → ⊥
+  pub no_reuse : NeverAgain usual (up_to_the_end ++ (leaves ++ again)) object.Task first_handle → ⊥
+  pub kind : (terms : Terms) → NotInBoth Two terms one_for_two object.Action object.Task first_handle → ⊥
+  pub affinity : ObeysMasks on_another_core 2 → ⊥
+  pub group_order : GivenInOrder usual given_twice first_handle → ⊥
+  pub ordered : RunsInOrder usual (two_put ++ picks_second) first_handle → ⊥
+  pub sems : SemsKeepTo (makes_sem ∷ both_hold) → ⊥
+  pub drop : DropsToSame usual final_first → ⊥
