@@ -8,7 +8,8 @@ mod state;
 #[cfg(test)]
 mod tests;
 
-ghost use Rattle.std.specs.Prelude.{◌≡◌, ◌≤◌, false, replicate, IfOk, IfErr, OnOk, OnErr};
+ghost use Rattle.std.specs.Prelude.{◌≡◌, ◌≤◌, false, is_some, replicate, IfOk, IfErr, OnOk, OnErr};
+ghost use Rattle.std.specs.Option.{option_map};
 ghost use Rattle.std.specs.Result.{result_err};
 ghost use Rattle.handle_pool.specs.Slots.{get, free_slot, without, changed, Inserts, NoneLive, HasLive, IsFull, OneEach};
 ghost use Rattle.mtapi_objects.specs.Mutexes.{new_mutex, mutex_delete_refusals, mutex_unlock_refusals};
@@ -86,6 +87,16 @@ impl Mutexes {
             }
         }
         Err(MrapiStatus::ErrMutexIdInvalid)
+    }
+
+    /// Whether some seat owns the mutex of a handle: none exactly where the handle isn't live.
+    pub fn is_owned(&self, m: MutexHandle) -> Option<bool>
+        ensures { result ≡ option_map (λ x. is_some x.owner) (get self.now m.0) }
+    {
+        match self.pool.get(m.0) {
+            None => None,
+            Some(mutex) => Some(mutex.is_locked()),
+        }
     }
 
     /// Gives up a mutex that nobody owns.

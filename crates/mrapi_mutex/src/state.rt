@@ -1,6 +1,6 @@
 //! One mutex.
 
-ghost use Rattle.std.specs.Prelude.{◌≡◌, ◌↔◌, IsTrue, IsSome};
+ghost use Rattle.std.specs.Prelude.{◌≡◌, is_some};
 ghost use Rattle.std.specs.Result.{result_err};
 ghost use Rattle.mtapi_values.specs.Conditions.{first};
 ghost use Rattle.mtapi_objects.specs.Mutexes.{new_mutex, mutex_unlock_refusals};
@@ -56,7 +56,7 @@ impl MutexState {
     }
 
     pub(crate) fn is_locked(&self) -> bool
-        ensures { IsTrue result ↔ IsSome self.now.owner }
+        ensures { result ≡ is_some self.now.owner }
     {
         self.owner.is_some()
     }

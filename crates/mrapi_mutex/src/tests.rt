@@ -30,7 +30,9 @@ fn one_place_has_one_mutex(rt: HostRuntime) -> Result<(), Fail> {
     assert_eq!(rt; mutexes.create(7, true), Err(MrapiStatus::ErrMutexExists));
     assert_eq!(rt; mutexes.create(8, true), Err(MrapiStatus::ErrMutexLimit));
     assert_eq!(rt; mutexes.get(7), Ok(m));
+    assert_eq!(rt; mutexes.is_owned(m), Some(false));
     assert_eq!(rt; mutexes.look(m, 3), Look::Got(1));
+    assert_eq!(rt; mutexes.is_owned(m), Some(true));
     assert_eq!(rt;
         mutexes.look(m, 3),
         Look::Refused(MrapiStatus::ErrMutexLocked)
@@ -44,6 +46,7 @@ fn one_place_has_one_mutex(rt: HostRuntime) -> Result<(), Fail> {
     assert_eq!(rt; mutexes.unlock(m, 3, 1), Ok(()));
     assert_eq!(rt; mutexes.delete(m), Ok(()));
     assert_eq!(rt; mutexes.delete(m), Err(MrapiStatus::ErrMutexInvalid));
+    assert_eq!(rt; mutexes.is_owned(m), None);
     assert_eq!(rt;
         mutexes.look(m, 3),
         Look::Refused(MrapiStatus::ErrMutexInvalid)

@@ -24,6 +24,7 @@ fn one_place_has_one_segment(rt: HostRuntime) -> Result<(), Fail> {
     assert_eq!(rt; segments.create(1, 4097), Err(MrapiStatus::ErrParameter));
     assert_eq!(rt; segments.get(1), Err(MrapiStatus::ErrShmIdInvalid));
     let s = segments.create(1, 4096).ok().ok_or("refused")?;
+    assert_eq!(rt; segments.cell_count(s), Some(4096));
     assert_eq!(rt; segments.create(1, 1), Err(MrapiStatus::ErrShmExists));
     assert_eq!(rt; segments.create(2, 1), Err(MrapiStatus::ErrShmLimit));
     assert_eq!(rt; segments.get(1), Ok(s));
@@ -34,6 +35,7 @@ fn one_place_has_one_segment(rt: HostRuntime) -> Result<(), Fail> {
     assert_eq!(rt; segments.detach(s, 24), Err(MrapiStatus::ErrShmNotattached));
     assert_eq!(rt; segments.delete(s), Ok(()));
     assert_eq!(rt; segments.delete(s), Err(MrapiStatus::ErrShmInvalid));
+    assert_eq!(rt; segments.cell_count(s), None);
     let r = segments.create(1, 1).ok().ok_or("refused")?;
     assert_eq!(rt; segments.delete(r), Ok(()));
     assert_eq!(rt; segments.create(1, 1), Err(MrapiStatus::ErrShmLimit));

@@ -10,6 +10,8 @@ mod mutex_ops;
 mod rwl_ops;
 mod sem_ops;
 mod shmem_ops;
+#[cfg(test)]
+mod tests;
 
 ghost use Rattle.std.specs.Prelude.{◌≡◌, IfOk};
 ghost use Rattle.mtapi_machine.specs.declared.terms.Terms.{Terms};

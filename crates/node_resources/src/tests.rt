@@ -1,0 +1,264 @@
+ghost use Rattle.std.specs.Prelude.{◌<◌};
+
+use super::*;
+use mtapi_machine::{Phase, Reply};
+use mtapi_values::{MrapiStatus, MutexHandle, RwlHandle, SemHandle, ShmemHandle};
+use std::test::Fail;
+
+const WORKER: u32 = 1;
+
+const MAIN: u32 = 2;
+
+/// How many ops there are: five of each kind, and seven of segments.
+const OPS: u32 = 22;
+
+// The op of this number, on an object of the id 9 or of this handle.
+fn ask(resources: &mut Resources, gate: Gate, who: u32, op: u32, handle: u64) -> Reply
+    requires { who < 25 }
+{
+    match op {
+        0 => resources.mutex_create(gate, who, 9, true),
+        1 => resources.mutex_get(gate, who, 9),
+        2 => resources.mutex_delete(gate, who, MutexHandle(handle)),
+        3 => resources.mutex_look(gate, who, MutexHandle(handle), false),
+        4 => resources.mutex_unlock(gate, who, MutexHandle(handle), 1),
+        5 => resources.sem_create(gate, who, 9, 1),
+        6 => resources.sem_get(gate, who, 9),
+        7 => resources.sem_delete(gate, who, SemHandle(handle)),
+        8 => resources.sem_look(gate, who, SemHandle(handle), false),
+        9 => resources.sem_unlock(gate, who, SemHandle(handle)),
+        10 => resources.rwl_create(gate, who, 9, 1),
+        11 => resources.rwl_get(gate, who, 9),
+        12 => resources.rwl_delete(gate, who, RwlHandle(handle)),
+        13 => resources.rwl_look(gate, who, RwlHandle(handle), true, false),
+        14 => resources.rwl_unlock(gate, who, RwlHandle(handle), true),
+        15 => resources.shmem_create(gate, who, 9, 4),
+        16 => resources.shmem_get(gate, who, 9),
+        17 => resources.shmem_delete(gate, who, ShmemHandle(handle)),
+        18 => resources.shmem_attach(gate, who, ShmemHandle(handle)),
+        19 => resources.shmem_detach(gate, who, ShmemHandle(handle)),
+        20 => resources.shmem_read(gate, who, ShmemHandle(handle), 3),
+        _ => resources.shmem_write(gate, who, ShmemHandle(handle), 3, -7),
+    }
+}
+
+// What a reply says in short: the status, the handle or the number of it, or its name.
+#[derive(Clone, Copy, Debug, Drop, PartialEq, Eq)]
+enum Told {
+    Status(MrapiStatus),
+    Handle(u64),
+    Number(i64),
+    Ok,
+    Pending,
+    Other,
+}
+
+fn in_short(reply: Reply) -> Told {
+    match reply {
+        Reply::Mrapi(status) => Told::Status(status),
+        Reply::Handle(handle) => Told::Handle(handle),
+        Reply::Number(number) => Told::Number(number),
+        Reply::Ok => Told::Ok,
+        Reply::Pending => Told::Pending,
+        _ => Told::Other,
+    }
+}
+
+fn gate(phase: Phase) -> Gate {
+    Gate { phase, workers: 2 }
+}
+
+fn with_room_for_one(rt: HostRuntime, generations: u64) -> Result<Resources, Fail> {
+    let mut settings = NodeAttr::new();
+    let _ = settings.set(6, 1);
+    let _ = settings.set(8, generations);
+    Ok(Resources::init(rt.alloc(), settings)?)
+}
+
+// The handles under which the first objects stand, and then the second ones.
+const FIRST: [u64; 4] = [0x1_0500_0000, 0x1_0600_0000, 0x1_0700_0000, 0x1_0800_0000];
+
+const SECOND: [u64; 4] = [0x2_0500_0000, 0x2_0600_0000, 0x2_0700_0000, 0x2_0800_0000];
+
+// The kind of an op, by its place in these tables.
+fn kind_of(op: u32) -> usize
+    ensures { result < 4 }
+{
+    match op {
+        0..=4 => 0,
+        5..=9 => 1,
+        10..=14 => 2,
+        _ => 3,
+    }
+}
+
+// Handles that name no live object of each kind, while the second ones live: 0, the pool's own handle, one of each other kind, one
+// past the end, an older and a newer one, and one of no kind.
+const WRONG: [[u64; 9]; 4] = [
+    [
+        0,
+        0x2_0000_0000,
+        0x2_0600_0000,
+        0x2_0700_0000,
+        0x2_0800_0000,
+        0x2_0500_0001,
+        0x1_0500_0000,
+        0x3_0500_0000,
+        0x2_1500_0000,
+    ],
+    [
+        0,
+        0x2_0000_0000,
+        0x2_0500_0000,
+        0x2_0700_0000,
+        0x2_0100_0000,
+        0x2_0600_0001,
+        0x1_0600_0000,
+        0x3_0600_0000,
+        0x2_FF00_0000,
+    ],
+    [
+        0,
+        0x2_0000_0000,
+        0x2_0600_0000,
+        0x2_0500_0000,
+        0x2_0200_0000,
+        0x2_0700_0001,
+        0x1_0700_0000,
+        0x3_0700_0000,
+        0x2_0900_0000,
+    ],
+    [
+        0,
+        0x2_0000_0000,
+        0x2_0600_0000,
+        0x2_0700_0000,
+        0x2_0400_0000,
+        0x2_0800_0001,
+        0x1_0800_0000,
+        0x3_0800_0000,
+        0xFFFF_FFFF_FFFF_FFFF,
+    ],
+];
+
+const INVALID: [MrapiStatus; 4] = [
+    MrapiStatus::ErrMutexInvalid,
+    MrapiStatus::ErrSemInvalid,
+    MrapiStatus::ErrRwlInvalid,
+    MrapiStatus::ErrShmInvalid,
+];
+
+const PHASES: [Phase; 4] = [Phase::New, Phase::Open, Phase::Closing, Phase::Closed];
+
+// Whether the phase carries this op out: in Closing nothing is made and nothing given up.
+fn is_carried_out(op: u32, phase: Phase) -> bool {
+    match phase {
+        Phase::New | Phase::Closed => false,
+        Phase::Open => true,
+        Phase::Closing => !matches!(op, 0 | 2 | 5 | 7 | 10 | 12 | 15 | 17),
+    }
+}
+
+// Makes an object of each kind, gives it up, and makes another.
+fn second_objects(resources: &mut Resources) {
+    for op in [0u32, 5, 10, 15] {
+        let kind = kind_of(op);
+        let _ = ask(resources, gate(Phase::Open), MAIN, op, 0);
+        let _ = ask(resources, gate(Phase::Open), MAIN, op + 2, FIRST[kind]);
+        let _ = ask(resources, gate(Phase::Open), MAIN, op, 0);
+    }
+}
+
+#[test]
+fn a_handle_that_names_nothing_is_invalid_in_every_op(rt: HostRuntime) -> Result<(), Fail> {
+    let mut resources = with_room_for_one(rt, 2)?;
+    second_objects(&mut resources);
+    for phase in PHASES {
+        for op in 0..OPS {
+            if matches!(op, 0 | 1 | 5 | 6 | 10 | 11 | 15 | 16) {
+                continue;
+            }
+            for handle in WRONG[kind_of(op)] {
+                let want = if is_carried_out(op, phase) {
+                    INVALID[kind_of(op)]
+                } else {
+                    MrapiStatus::ErrNodeNotinit
+                };
+                let got = in_short(ask(&mut resources, gate(phase), MAIN, op, handle));
+                assert_eq!(rt; got, Told::Status(want));
+            }
+        }
+    }
+    Ok(())
+}
+
+#[test]
+fn a_phase_comes_first_and_then_the_seat(rt: HostRuntime) -> Result<(), Fail> {
+    let mut resources = with_room_for_one(rt, 2)?;
+    second_objects(&mut resources);
+    for phase in PHASES {
+        for op in 0..OPS {
+            let want = if is_carried_out(op, phase) {
+                MrapiStatus::ErrParameter
+            } else {
+                MrapiStatus::ErrNodeNotinit
+            };
+            let handle = SECOND[kind_of(op)];
+            let got = in_short(ask(&mut resources, gate(phase), WORKER, op, handle));
+            assert_eq!(rt; got, Told::Status(want));
+        }
+    }
+    Ok(())
+}
+
+#[test]
+fn each_op_is_carried_out_on_a_live_object(rt: HostRuntime) -> Result<(), Fail> {
+    let mut resources = with_room_for_one(rt, 1)?;
+    let open = gate(Phase::Open);
+    // The op, and its reply.
+    let rows = [
+        (1, Told::Status(MrapiStatus::ErrMutexIdInvalid)),
+        (0, Told::Handle(FIRST[0])),
+        (0, Told::Status(MrapiStatus::ErrMutexExists)),
+        (1, Told::Handle(FIRST[0])),
+        (3, Told::Number(1)),
+        (3, Told::Number(2)),
+        (2, Told::Status(MrapiStatus::ErrMutexLocked)),
+        (4, Told::Status(MrapiStatus::ErrMutexLockorder)),
+        (6, Told::Status(MrapiStatus::ErrSemIdInvalid)),
+        (5, Told::Handle(FIRST[1])),
+        (6, Told::Handle(FIRST[1])),
+        (8, Told::Ok),
+        (8, Told::Pending),
+        (7, Told::Status(MrapiStatus::ErrSemLocked)),
+        (9, Told::Ok),
+        (9, Told::Status(MrapiStatus::ErrSemNotlocked)),
+        (7, Told::Ok),
+        (5, Told::Status(MrapiStatus::ErrSemLimit)),
+        (10, Told::Handle(FIRST[2])),
+        (11, Told::Handle(FIRST[2])),
+        (13, Told::Ok),
+        (13, Told::Status(MrapiStatus::ErrRwlLocked)),
+        (12, Told::Status(MrapiStatus::ErrRwlLocked)),
+        (14, Told::Ok),
+        (12, Told::Ok),
+        (15, Told::Handle(FIRST[3])),
+        (16, Told::Handle(FIRST[3])),
+        (20, Told::Status(MrapiStatus::ErrShmNotattached)),
+        (18, Told::Ok),
+        (20, Told::Number(0)),
+        (21, Told::Ok),
+        (20, Told::Number(-7)),
+        (17, Told::Status(MrapiStatus::ErrShmAttached)),
+        (19, Told::Ok),
+        (17, Told::Ok),
+        (16, Told::Status(MrapiStatus::ErrShmIdInvalid)),
+    ];
+    for (op, want) in rows {
+        let got = in_short(ask(&mut resources, open, MAIN, op, FIRST[kind_of(op)]));
+        assert_eq!(rt; got, want);
+    }
+    let late = resources.mutex_look(open, 3, MutexHandle(FIRST[0]), true);
+    assert_eq!(rt; in_short(late), Told::Status(MrapiStatus::Timeout));
+    Ok(())
+}
