@@ -1,5 +1,6 @@
 pub mod Slots
 pub mod Place
+pub mod PlaceLends
 pub mod Lends
 pub mod Issued
 pub mod Stands
