@@ -9,7 +9,7 @@ use Rattle.handle_pool.specs.Slots.{Slot, is_live, is_retired, value_at, slot_of
 use Rattle.std.proofs.lemmas.Option.{slice_get-map}
 use Rattle.std.specs.Option.{option_map}
 use Rattle.std.proofs.lemmas.Bool.Decides.{nat_tests}
-use Rattle.handle_pool.specs.Place.{slot_in, value_in, fresh, IsFreeList, HasGeneration, HasValue, IsSound}
+use Rattle.handle_pool.specs.Place.{slot_in, value_in, with_value_in, with_value_at, IsFree, fresh, IsFreeList, HasGeneration, HasValue, IsSound}
 use Rattle.handle_pool.proofs.ListReads.{slice_get-set_same, slice_get-set_other, slice_get-push_old, slice_get-push_last, slice_get-push_cases, slice_get-set_cases, set-same}
 
 -- a pool of no places has none
@@ -210,6 +210,25 @@ module _ {T : Type 0} where
       by_place (Some (Free g next)) is some = grind (arith, nat_tests)
       by_place (Some (Live g value)) is some = grind (arith, nat_tests)
       by_place (Some Retired) is some = grind (arith, nat_tests)
+
+  -- a free place, and a place in use, is there
+  pub free_within : (es : List (Place T)) (place : ℕ) → IsFree (slice_get es place) → place < length es
+  free_within [] place free = absurd free
+  free_within (e ∷ es) zero free = omega arith
+  free_within (e ∷ es) (suc place) free = omega (arith, free_within es place free)
+
+  pub value_within : (es : List (Place T)) (place : ℕ) → HasValue (slice_get es place) → place < length es
+  value_within [] place value = absurd value
+  value_within (e ∷ es) zero value = omega arith
+  value_within (e ∷ es) (suc place) value = omega (arith, value_within es place value)
+
+  -- with another value in one of them the places are as many
+  pub length-with_value_at : (es : List (Place T)) (place : ℕ) (w : T) → length (with_value_at es place w) ≡ length es
+  length-with_value_at es place w = by_place (slice_get es place) refl
+    where
+      by_place : (o : Option (Place T)) → slice_get es place ≡ o → length (with_value_at es place w) ≡ length es
+      by_place None is = rw is refl
+      by_place (Some e) is = rw is (length-set es place (with_value_in e w))
 
   -- one place has one value
   pub same_value : (es : List (Place T)) (place g k : ℕ) (v w : T) → slice_get es place ≡ Some (Live g v) → slice_get es place ≡ Some (Live k w) → Some v ≡ Some w

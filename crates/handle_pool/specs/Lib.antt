@@ -5,3 +5,5 @@ pub mod Lends
 pub mod Issued
 pub mod Stands
 pub mod Calls
+pub mod RowOwns
+pub mod RowLends

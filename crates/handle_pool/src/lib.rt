@@ -12,6 +12,7 @@ ghost use Rattle.handle_pool.specs.Calls.{PoolLaw};
 ghost use Rattle.handle_pool.specs.Place.{slot_in};
 
 mod places;
+mod row;
 
 use places::{Place, Places};
 use std::alloc::{AllocError, Global};
