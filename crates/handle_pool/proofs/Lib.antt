@@ -1,5 +1,6 @@
 pub mod ListReads
 mod PlaceLemmas
+mod RowSteps
 pub mod LiveLemmas
 pub mod ListedLemmas
 pub mod StandsLemmas

@@ -1,16 +1,26 @@
 -- How each change of the places keeps the counts and the list of free places.
-use Rattle.std.proofs.Common.{◌≡◌, ◌≢◌, ℕ, true, zero, suc, ◌+◌, ◌-◌, ◌*◌, ◌<◌, ◌≤◌, Bool, List, [], ◌∷◌, ◌++◌, map, length, get_or, set, Option, Some, None, count_by, cond, slice_get, IsSome, refl, sym, ap, subst, ◌∙◌, arith, length-set}
-use Rattle.std.proofs.lemmas.List.{map-set, map_push, length-map, length_push, get_or-map}
+use Rattle.std.proofs.Common.{◌≡◌, ◌≢◌, ℕ, true, zero, suc, ◌+◌, ◌-◌, ◌*◌, ◌<◌, ◌≤◌, ◌^◌, Bool, List, [], ◌∷◌, ◌++◌, map, length, replicate, get_or, set, Option, Some, None, count_by, cond, slice_get, IsSome, refl, sym, ap, subst, ◌∙◌, arith, length-set}
+use Rattle.std.proofs.lemmas.List.{map-set, map_push, length-map, length_push, get_or-map, replicate_more}
 use Rattle.std.proofs.lemmas.List.Sums.{sum_by-set, sum_by_push}
 use Rattle.std.proofs.lemmas.Option.{slice_get_within, get_or_from_slice_get}
-use Rattle.handle_pool.specs.declared.Place.{Place}
-use Rattle.handle_pool.specs.declared.Place.TheVariants.{Free, Live, Retired}
+use Rattle.handle_pool.specs.declared.places.Place.{Place}
+use Rattle.handle_pool.specs.declared.places.Place.TheVariants.{Free, Live, Retired}
 use Rattle.handle_pool.specs.Slots.{Slot, is_live, is_retired, value_at, slot_of, generation_of, free_slot, slot_after, used_slot, with_value, Inserts}
 use Rattle.std.proofs.lemmas.Option.{slice_get-map}
 use Rattle.std.specs.Option.{option_map}
 use Rattle.std.proofs.lemmas.Bool.Decides.{nat_tests}
-use Rattle.handle_pool.specs.Place.{slot_in, IsFreeList, HasGeneration, HasValue, IsSound}
+use Rattle.handle_pool.specs.Place.{slot_in, value_in, with_value_in, with_value_at, IsFree, fresh, IsFreeList, HasGeneration, HasValue, IsSound}
 use Rattle.handle_pool.proofs.ListReads.{slice_get-set_same, slice_get-set_other, slice_get-push_old, slice_get-push_last, slice_get-push_cases, slice_get-set_cases, set-same}
+
+-- a pool of no places has none
+pub fresh-none : (T : Type 0) → [] ≡ fresh {T = T} 0
+unfolding fresh
+fresh-none T = refl
+
+pub fresh-length : (T : Type 0) (n : ℕ) → length (fresh {T = T} n) ≡ n
+unfolding fresh
+fresh-length T zero = refl
+fresh-length T (suc n) = omega (arith, length_push (fresh {T = T} n) (Free 1 (suc n)), fresh-length T n)
 
 module _ {T : Type 0} where
   IsFreeList-push : (es : List (Place T)) (generation count place : ℕ) → IsFreeList es count place → IsFreeList (es ++ Free generation (length es + 1) ∷ []) (suc count) place
@@ -28,10 +38,51 @@ module _ {T : Type 0} where
         free = suc sound.free;
         total = omega (arith, length_push es (Free 1 (length es + 1)), sound.total);
         linked = IsFreeList-push es 1 sound.free 0 sound.linked;
+        some = omega (arith, length_push es (Free 1 (length es + 1)));
         few = omega (arith, length_push es (Free 1 (length es + 1)));
         top = sound.top;
         generated = λ place e found. slice_get-push_cases es _ e place found (sound.generated place e) (λ same. subst (HasGeneration generations) same (omega arith, sound.top.0));
       }
+
+  -- one place more at the end
+  pub fresh-push : (n : ℕ) (es : List (Place T)) → es ≡ fresh n → es ++ Free 1 (n + 1) ∷ [] ≡ fresh (n + 1)
+  unfolding fresh
+  fresh-push n es is =
+      let one : suc n ≡ n + 1 = omega arith in
+      subst (λ m. es ++ Free 1 m ∷ [] ≡ fresh m) one (ap (λ xs. xs ++ Free 1 (suc n) ∷ []) is)
+
+  IsSound-one : (generations : ℕ) → (1 ≤ generations) × (generations < 2 ^ 32) → IsSound {T = T} (Free 1 1 ∷ []) generations 0 0 0
+  IsSound-one generations top = record {
+    live_counted = refl;
+    retired_counted = refl;
+    free = 1;
+    total = refl;
+    linked = (1, 1, refl, refl);
+    some = omega arith;
+    few = omega arith;
+    top = top;
+    generated = λ place e found. at place e found;
+  }
+    where
+      at : (place : ℕ) (e : Place T) → slice_get (Free 1 1 ∷ []) place ≡ Some e → HasGeneration generations e
+      at zero e found = let same : Free 1 1 ≡ e = cc in subst (HasGeneration generations) same (omega arith, top.0)
+      at (suc place) e found = absurd (cc)
+
+  -- the places of a new pool are sound
+  pub IsSound-fresh : (n generations : ℕ) → 1 ≤ n → n ≤ 65536 → (1 ≤ generations) × (generations < 2 ^ 32) → IsSound (fresh {T = T} n) generations 0 0 0
+  unfolding fresh
+  IsSound-fresh zero generations some few top = absurd (omega arith)
+  IsSound-fresh (suc zero) generations some few top = IsSound-one generations top
+  IsSound-fresh (suc (suc n)) generations some few top =
+      IsSound-push (fresh (suc n)) generations (suc (suc n)) (omega (arith, fresh-length T (suc n))) (omega (arith, fresh-length T (suc n))) (IsSound-fresh (suc n) generations (omega arith) (omega arith) top)
+
+  -- each of them is an empty slot of generation 1
+  pub fresh-slots : (n generations : ℕ) → map (slot_in generations) (fresh {T = T} n) ≡ replicate n (free_slot 1)
+  unfolding fresh
+  fresh-slots zero generations = refl
+  fresh-slots (suc n) generations =
+      let one : n + 1 ≡ suc n = omega arith in
+      rw map_push (subst (λ m. map (slot_in generations) (fresh {T = T} n) ++ free_slot 1 ∷ [] ≡ replicate m (free_slot 1)) one (ap (λ xs. xs ++ free_slot 1 ∷ []) (fresh-slots n generations) ∙ replicate_more n (free_slot 1)))
 
   -- a place starts one list of free places at most
   pub IsFreeList-count_unique : (es : List (Place T)) (m n place : ℕ) → IsFreeList es m place → IsFreeList es n place → m ≡ n
@@ -90,6 +141,7 @@ module _ {T : Type 0} where
             free = n;
             total = omega (arith, length-set es next (Live generation value));
             linked = IsFreeList-set es next (Live generation value) n after off (subst (IsFreeList es n) same linked.3);
+            some = omega (arith, length-set es next (Live generation value), sound.some);
             few = omega (arith, length-set es next (Live generation value), sound.few);
             top = sound.top;
             generated = λ place e read. slice_get-set_cases es next place _ e read (sound.generated place e) (λ same. subst (HasGeneration generations) same (sound.generated next _ found));
@@ -107,6 +159,7 @@ module _ {T : Type 0} where
         free = suc sound.free;
         total = omega (arith, sound.live_counted, sound.total);
         linked = (generation + 1, next, slice_get-set_same es place _ _ found, IsFreeList-set es place _ sound.free next (λ m _. live_is_off_list es place generation value found m) sound.linked);
+        some = omega (arith, sound.some);
         few = omega (arith, sound.few);
         top = sound.top;
         generated = λ at e read. slice_get-set_cases es place at _ e read (sound.generated at e) (λ is. subst (HasGeneration generations) is (omega arith, omega arith));
@@ -124,6 +177,7 @@ module _ {T : Type 0} where
         free = sound.free;
         total = omega (arith, sound.live_counted, sound.total);
         linked = IsFreeList-set es place _ sound.free next (λ m _. live_is_off_list es place generation value found m) sound.linked;
+        some = omega (arith, sound.some);
         few = omega (arith, sound.few);
         top = sound.top;
         generated = λ at e read. slice_get-set_cases es place at _ e read (sound.generated at e) (λ is. subst (HasGeneration generations) is tt);
@@ -141,6 +195,7 @@ module _ {T : Type 0} where
         free = sound.free;
         total = omega (arith, sound.total);
         linked = IsFreeList-set es place _ sound.free next (λ m _. live_is_off_list es place generation old found m) sound.linked;
+        some = omega (arith, sound.some);
         few = omega (arith, sound.few);
         top = sound.top;
         generated = λ at e read. slice_get-set_cases es place at _ e read (sound.generated at e) (λ is. subst (HasGeneration generations) is (sound.generated place _ found));
@@ -155,6 +210,31 @@ module _ {T : Type 0} where
       by_place (Some (Free g next)) is some = grind (arith, nat_tests)
       by_place (Some (Live g value)) is some = grind (arith, nat_tests)
       by_place (Some Retired) is some = grind (arith, nat_tests)
+
+  -- a free place, and a place in use, is there
+  pub free_within : (es : List (Place T)) (place : ℕ) → IsFree (slice_get es place) → place < length es
+  free_within [] place free = absurd free
+  free_within (e ∷ es) zero free = omega arith
+  free_within (e ∷ es) (suc place) free = omega (arith, free_within es place free)
+
+  pub value_within : (es : List (Place T)) (place : ℕ) → HasValue (slice_get es place) → place < length es
+  value_within [] place value = absurd value
+  value_within (e ∷ es) zero value = omega arith
+  value_within (e ∷ es) (suc place) value = omega (arith, value_within es place value)
+
+  -- with another value in one of them the places are as many
+  pub length-with_value_at : (es : List (Place T)) (place : ℕ) (w : T) → length (with_value_at es place w) ≡ length es
+  length-with_value_at es place w = by_place (slice_get es place) refl
+    where
+      by_place : (o : Option (Place T)) → slice_get es place ≡ o → length (with_value_at es place w) ≡ length es
+      by_place None is = rw is refl
+      by_place (Some e) is = rw is (length-set es place (with_value_in e w))
+
+  -- one place has one value
+  pub same_value : (es : List (Place T)) (place g k : ℕ) (v w : T) → slice_get es place ≡ Some (Live g v) → slice_get es place ≡ Some (Live k w) → Some v ≡ Some w
+  same_value es place g k v w first second =
+      let same : Live g v ≡ Live k w = cc in
+      ap value_in same
 
   -- what `get` reads of a live place
   pub get-live : (es : List (Place T)) (generations place generation : ℕ) (value : T) → slice_get es place ≡ Some (Live generation value) → value_at (slice_get (map (slot_in generations) es) place) generation ≡ Some value

@@ -1,7 +1,10 @@
 pub mod Slots
 pub mod Place
+pub mod PlaceLends
 pub mod Lends
 pub mod Issued
 pub mod Inside
 pub mod Stands
 pub mod Calls
+pub mod RowOwns
+pub mod RowLends

@@ -1,8 +1,8 @@
 -- How a `Pool` lays out its places. No public clause cites this module.
-use Rattle.std.specs.Prelude.{◌≡◌, ℕ, true, zero, suc, ◌+◌, ◌^◌, ◌<◌, ◌≤◌, List, map, length, Option, Some, None, count_by, slice_get}
+use Rattle.std.specs.Prelude.{◌≡◌, ℕ, true, zero, suc, ◌+◌, ◌^◌, ◌<◌, ◌≤◌, List, [], ◌∷◌, ◌++◌, map, length, Option, Some, None, count_by, slice_get, slice_set}
 use Rattle.handle_pool.specs.Slots.{Slot, free_slot, used_slot, is_live, is_retired}
-use Rattle.handle_pool.specs.declared.Place.{Place}
-use Rattle.handle_pool.specs.declared.Place.TheVariants.{Free, Live, Retired}
+use Rattle.handle_pool.specs.declared.places.Place.{Place}
+use Rattle.handle_pool.specs.declared.places.Place.TheVariants.{Free, Live, Retired}
 
 module _ {T : Type 0} where
   -- a retired place has the last generation
@@ -22,6 +22,26 @@ module _ {T : Type 0} where
   with_value_in (Free generation next) new = Free generation next
   with_value_in (Live generation value) new = Live generation new
   with_value_in Retired new = Retired
+
+  -- the generation and the value of a place in use
+  abbrev pub used_in : Option (Place T) → Option (ℕ × T)
+  used_in None = None
+  used_in (Some (Free generation next)) = None
+  used_in (Some (Live generation value)) = Some (generation, value)
+  used_in (Some Retired) = None
+
+  -- the places, with another value in this one if it is in use
+  abbrev pub with_value_at : List (Place T) → ℕ → T → List (Place T)
+  with_value_at es place new = written (slice_get es place)
+    where
+      written : Option (Place T) → List (Place T)
+      written None = es
+      written (Some e) = slice_set es place (with_value_in e new)
+
+  -- so many places that were never used, each naming the next
+  unfoldable pub fresh : ℕ → List (Place T)
+  fresh zero = []
+  fresh (suc n) = fresh n ++ Free 1 (suc n) ∷ []
 
   -- there is a place, and it is free
   abbrev pub IsFree : Option (Place T) → Type 0
@@ -55,6 +75,7 @@ module _ {T : Type 0} where
     pub free : ℕ
     pub total : live + retired + free ≡ length es
     pub linked : IsFreeList es free next
+    pub some : 1 ≤ length es
     pub few : length es ≤ 65536
     pub top : (1 ≤ generations) × (generations < 2 ^ 32)
     pub generated : (place : ℕ) (e : Place T) → slice_get es place ≡ Some e → HasGeneration generations e

@@ -9,11 +9,14 @@ ghost use Rattle.std.specs.Option.{option_copied_mut, option_map};
 ghost use Rattle.std.specs.Borrow.{Lends, sem};
 ghost use Rattle.handle_pool.specs.Slots.{get, value_at, slot_of, generation_of, free_slot, live_count, retired_count, max_of, IsFull, Inserts, without, with_value, used_at};
 ghost use Rattle.handle_pool.specs.Calls.{PoolLaw};
-ghost use Rattle.handle_pool.specs.Place.{slot_in, IsFree, HasValue};
+ghost use Rattle.handle_pool.specs.Place.{slot_in};
 
+mod places;
+mod row;
+
+use places::{Place, Places};
 use std::alloc::{AllocError, Global};
 use std::marker::Model;
-use std::mem;
 
 /// How many slots a handle can name: a handle is its generation times this, and its slot.
 const SPAN: u64 = 0x1_0000_0000;
@@ -21,21 +24,12 @@ const SPAN: u64 = 0x1_0000_0000;
 /// Slots that are used again, each time under a handle that was never issued before.
 #[derive(Drop)]
 pub struct Pool<T> {
-    places: Vec<Place<T>>,
+    places: Places<T>,
     generations: u32,
     live: u32,
     retired: u32,
     // The first free place, or the number of places where there is none.
     next: u32,
-}
-
-#[derive(Drop)]
-enum Place<T> {
-    // The generation of the next value, and the next free place.
-    Free(u32, u32),
-    // The generation, and the value.
-    Live(u32, T),
-    Retired,
 }
 
 impl<T> Model for Pool<T> {
@@ -50,62 +44,10 @@ impl<T> Model for Pool<T> {
 
     ghost view = { λ p. record {
       generations = p.generations;
-      slots = map (slot_in p.generations) p.places.items;
+      slots = map (slot_in p.generations) p.places;
     } };
 
-    ghost invariant = { λ p. IsSound p.places.items p.generations p.live p.retired p.next };
-}
-
-impl<T> Place<T> {
-    ghost use Rattle.handle_pool.specs.contracts.Place.{the_row};
-    ghost use Rattle.handle_pool.specs.Place.{value_in, with_value_in};
-
-    fn value_mut(&mut self) -> &mut T
-        requires { IsSome (value_in self.old) }
-        ensures* lends { sem 𝓛 (Lends (the_row T.row) T.row self.entry result (with_value_in self.entry.now)) }
-        ensures value { value_in self.old ≡ Some result.now }
-    {
-        match self {
-            Place::Live(_, value) => value,
-            Place::Free(_, _) | Place::Retired => unreachable!(),
-        }
-    }
-}
-
-// The generation of a free place, and the next free place.
-fn free_at<T>(places: &[Place<T>], place: usize) -> (u32, u32)
-    requires { IsFree (slice_get places.now place) }
-    ensures { slice_get places.now place ≡ Some (Place.Free result.0 result.1) }
-{
-    match &places[place] {
-        Place::Free(generation, after) => (*generation, *after),
-        _ => unreachable!(),
-    }
-}
-
-// Puts a value into a free place, and gives its generation and the next free place.
-fn fill<T>(places: &mut Vec<Place<T>>, place: usize, value: T) -> (u32, u32)
-    requires { IsFree (slice_get places.old.items place) }
-    ensures was { slice_get places.old.items place ≡ Some (Place.Free result.0 result.1) }
-    ensures now { places.new.items ≡ slice_set places.old.items place (Place.Live result.0 value) }
-{
-    let (generation, after) = free_at(places.as_slice(), place);
-    match mem::replace(&mut places[place], Place::Live(generation, value)) {
-        Place::Free(_, _) | Place::Retired => (generation, after),
-        Place::Live(_, _) => unreachable!(),
-    }
-}
-
-// Takes the value out of a live place, and leaves this there.
-fn vacate<T>(places: &mut Vec<Place<T>>, place: usize, left: Place<T>) -> T
-    requires { HasValue (slice_get places.old.items place) }
-    ensures was { (generation : ℕ) × (slice_get places.old.items place ≡ Some (Place.Live generation result)) }
-    ensures now { places.new.items ≡ slice_set places.old.items place left }
-{
-    match mem::replace(&mut places[place], left) {
-        Place::Live(_, value) => value,
-        Place::Free(_, _) | Place::Retired => unreachable!(),
-    }
+    ghost invariant = { λ p. IsSound p.places p.generations p.live p.retired p.next };
 }
 
 impl<T> Pool<T> {
@@ -120,10 +62,7 @@ impl<T> Pool<T> {
         ensures generations { IfOk result (λ p. p.generations ≡ generations) }
         ensures slots { IfOk result (λ p. p.slots ≡ replicate max (free_slot 1)) }
     {
-        let mut places = Vec::with_capacity(alloc, max as usize)?;
-        for place in 0..max {
-            places.push_reserved(Place::Free(1, place + 1));
-        }
+        let places = Places::new(alloc, max)?;
         Ok(Pool {
             places,
             generations,
@@ -137,15 +76,15 @@ impl<T> Pool<T> {
     pub fn get(&self, handle: u64) -> Option<&T>
         ensures { option_copied result ≡ get self.now handle }
     {
-        match self.places.get((handle % SPAN) as usize) {
-            Some(Place::Live(generation, value)) => {
-                if u64::from(*generation) == handle / SPAN {
+        match self.places.used((handle % SPAN) as usize) {
+            Some((generation, value)) => {
+                if u64::from(generation) == handle / SPAN {
                     Some(value)
                 } else {
                     None
                 }
             }
-            _ => None,
+            None => None,
         }
     }
 
@@ -170,7 +109,7 @@ impl<T> Pool<T> {
         ensures value { get self.old handle ≡ Some result.now }
         ensures same { with_value self.old handle result.now ≡ self.old }
     {
-        self.places[(handle % SPAN) as usize].value_mut()
+        self.places.value_mut((handle % SPAN) as usize)
     }
 
     /// Whether the handle is live.
@@ -191,7 +130,7 @@ impl<T> Pool<T> {
         if place == self.places.len() {
             return Err(value);
         }
-        let (generation, after) = fill(&mut self.places, place, value);
+        let (generation, after) = self.places.fill(place, value);
         self.live += 1;
         self.next = after;
         Ok(u64::from(generation) * SPAN + place as u64)
@@ -218,13 +157,13 @@ impl<T> Pool<T> {
         let place = (handle % SPAN) as usize;
         let generation = (handle / SPAN) as u32;
         if generation == self.generations {
-            let value = vacate(&mut self.places, place, Place::Retired);
+            let value = self.places.vacate(place, Place::Retired);
             self.live -= 1;
             self.retired += 1;
             return value;
         }
         let freed = Place::Free(generation + 1, self.next);
-        let value = vacate(&mut self.places, place, freed);
+        let value = self.places.vacate(place, freed);
         self.live -= 1;
         self.next = place as u32;
         value
@@ -234,17 +173,18 @@ impl<T> Pool<T> {
     pub fn slot_at(&self, place: u32) -> Option<(u64, &T)>
         ensures { option_map (λ found. (found.0, found.1.now)) result ≡ used_at place (slice_get self.now.slots place) }
     {
-        match self.places.get(place as usize) {
-            Some(Place::Live(generation, value)) => {
-                Some((u64::from(*generation) * SPAN + u64::from(place), value))
+        match self.places.used(place as usize) {
+            Some((generation, value)) => {
+                Some((u64::from(generation) * SPAN + u64::from(place), value))
             }
-            _ => None,
+            None => None,
         }
     }
 
     /// How many slots are in use.
     pub fn live(&self) -> u32
-        ensures { result ≡ live_count self.now }
+        ensures value { result ≡ live_count self.now }
+        ensures fits { live_count self.now + retired_count self.now ≤ max_of self.now }
     {
         self.live
     }
@@ -268,7 +208,8 @@ impl<T> Pool<T> {
 
     /// The last generation that a slot may have, at least 1.
     pub fn generations(&self) -> u32
-        ensures { result ≡ self.now.generations }
+        ensures value { result ≡ self.now.generations }
+        ensures once { 1 ≤ result }
     {
         self.generations
     }
@@ -282,6 +223,7 @@ pub fn law_pool<T>()
 #[cfg(test)]
 mod tests {
     use super::*;
+    use std::cell::Cell;
     use std::collections::VecDeque;
     use std::test::Fail;
 
@@ -353,10 +295,10 @@ mod tests {
                     Ok(handle) => {
                         assert_eq!(rt; full, false);
                         assert_eq!(rt; pool.get(handle).copied(), Some(i));
-                        if let Some(turn) = turns.get_mut((handle % SPAN) as usize) {
-                            *turn = turn.wrapping_add(1);
-                            assert_eq!(rt; handle / SPAN, *turn);
-                        }
+                        let slot = (handle % SPAN) as usize;
+                        let turn = turns.get_mut(slot).ok_or("no such slot")?;
+                        *turn = turn.wrapping_add(1);
+                        assert_eq!(rt; handle / SPAN, *turn);
                         live.push_back((handle, i))?;
                     }
                     Err(back) => {
@@ -371,26 +313,74 @@ mod tests {
         Ok(())
     }
 
-    // A pool may go to another thread where its values may, and be shared by threads where they may.
+    // A pool may go to another thread where its values may.
     fn goes<S: Send>(value: S) -> S {
         value
     }
-
-    fn is_shared<S: Sync>(_value: &S) {}
 
     fn pool_goes<T: Send>(pool: Pool<T>) -> Pool<T> {
         goes(pool)
     }
 
-    fn pool_is_shared<T: Sync>(pool: &Pool<T>) {
-        is_shared(pool);
-    }
-
     #[test]
     fn a_pool_goes_to_another_thread(rt: HostRuntime) -> Result<(), Fail> {
         let mut pool = pool_goes(Pool::new(rt.alloc(), 1, 1)?);
-        pool_is_shared(&pool);
         assert_eq!(rt; pool.insert(5), Ok(4294967296));
+        Ok(())
+    }
+
+    // A value that counts how often it is dropped.
+    struct Counted<'a>(&'a Cell<u32>);
+
+    impl Drop for Counted<'_> {
+        fn drop(self) {
+            let Counted(drops) = self;
+            drops.set(drops.get().wrapping_add(1));
+        }
+    }
+
+    // The slots end as: in use, retired, empty again, never used.
+    #[test]
+    fn the_end_of_a_pool_drops_each_live_value_once(rt: HostRuntime) -> Result<(), Fail> {
+        let drops = [
+            Cell::new(0),
+            Cell::new(0),
+            Cell::new(0),
+            Cell::new(0),
+            Cell::new(0),
+        ];
+        {
+            let mut pool = Pool::new(rt.alloc(), 4, 2)?;
+            let kept = pool.insert(Counted(&drops[0])).ok().ok_or("full")?;
+            let first = pool.insert(Counted(&drops[1])).ok().ok_or("full")?;
+            let other = pool.insert(Counted(&drops[2])).ok().ok_or("full")?;
+            let removed = pool.remove(first);
+            assert_eq!(rt; removed.is_some(), true);
+            assert_eq!(rt; drops[1].get(), 0);
+            drop(removed);
+            assert_eq!(rt; drops[1].get(), 1);
+            let second = pool.insert(Counted(&drops[3])).ok().ok_or("full")?;
+            drop(pool.remove(second));
+            drop(pool.remove(other));
+            assert_eq!(rt; pool.remove(second).is_none(), true);
+            assert_eq!(rt; pool.get(kept).is_some(), true);
+            assert_eq!(rt; (pool.live(), pool.retired()), (1, 1));
+            assert_eq!(rt; drops[0].get(), 0);
+        }
+        for count in &drops[..4] {
+            assert_eq!(rt; count.get(), 1);
+        }
+
+        // A value that a full pool gives back is dropped by its caller alone, and an end in mid-way drops what is live.
+        {
+            let mut pool = Pool::new(rt.alloc(), 1, 1)?;
+            assert_eq!(rt; pool.insert(Counted(&drops[0])).is_ok(), true);
+            let back = pool.insert(Counted(&drops[4]));
+            assert_eq!(rt; (back.is_err(), drops[4].get()), (true, 0));
+            drop(back);
+            assert_eq!(rt; (drops[0].get(), drops[4].get()), (1, 1));
+        }
+        assert_eq!(rt; (drops[0].get(), drops[4].get()), (2, 1));
         Ok(())
     }
 

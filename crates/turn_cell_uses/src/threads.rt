@@ -59,7 +59,7 @@ pub fn count_together<R: Threads + Wait + Sync>(
 }
 
 /// Two threads hold the cell of any object, and a seat of it each. Then both have seen one history.
-pub fn hold_together<O: Object + Send + Sync, R: Threads + Wait + Sync>(
+pub fn hold_together<O: Object + Send, R: Threads + Wait + Sync>(
     rt: &R,
     cell: &TurnCell<O>,
     a: TurnSeat<O>,

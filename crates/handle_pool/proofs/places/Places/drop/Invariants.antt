@@ -1,0 +1,9 @@
+use Rattle.std.proofs.Common.{◌≡◌, ◌<◌, length}
+use Rattle.handle_pool.proofs.places.Places.drop.Given as goal
+
+abbrev pub invariant-loop-place : goal.invariant-loop-place
+invariant-loop-place g l = record {
+  count : l.count ≡ length l.row.items;
+  room : l.count ≡ l.row.room;
+  some : 0 < l.count;
+}
