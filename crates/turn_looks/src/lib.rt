@@ -1,0 +1,2 @@
+//! The one loop of looks, for every call that waits.
+#![tactic(auto)]
