@@ -1,2 +1,8 @@
 mod Replays
 mod Worked
+mod BoxLemmas
+mod Relisted
+mod RingLemmas
+mod PostSteps
+pub mod Histories
+mod PostStands

@@ -2,6 +2,10 @@
 use Rattle.std.specs.Prelude.{ℕ, Bool, ◌==◌, nat_lt, List, [], ◌∷◌, ◌++◌, Option, Some, None, if◌then◌else◌}
 use Rattle.mcapi_msg.specs.declared.messages.Waiting.{Waiting}
 
+-- the last generation of an endpoint's handle
+abbrev pub last_generation : ℕ
+last_generation = 4294967295
+
 -- its port, the seat that opened it, and the messages that wait there, in the order of their sends
 pub record Endpoint : Type 0 where
   pub port : ℕ

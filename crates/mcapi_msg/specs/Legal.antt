@@ -1,5 +1,5 @@
 -- Legal histories.
-use Rattle.std.specs.Prelude.{◌<◌, ◌≤◌, List, [], ◌∷◌}
+use Rattle.std.specs.Prelude.{◌<◌, ◌≤◌, List, [], ◌∷◌, ◌++◌}
 use Rattle.history.specs.declared.entries.Entry.{Entry}
 use Rattle.mcapi_msg.specs.declared.ops.MsgOp.{MsgOp}
 use Rattle.mcapi_msg.specs.declared.ops.MsgReply.{MsgReply}
@@ -51,3 +51,12 @@ pub record Legal (terms : PostTerms) (L : List MsgEntry) : Type 0 where
 -- the state at its end
 abbrev pub after : PostTerms → List MsgEntry → State
 after terms L = after_from (opening terms) L
+
+-- a front of a legal list is legal
+Legal-front : (s : State) (L M : List MsgEntry) → LegalFrom s (L ++ M) → LegalFrom s L
+unfolding LegalFrom
+Legal-front s [] M h = tt
+Legal-front s (e ∷ L) M h = (h.0, Legal-front (next s e) L M h.1)
+
+pub Legal-prefix : (terms : PostTerms) (L M : List MsgEntry) → Legal terms (L ++ M) → Legal terms L
+Legal-prefix terms L M h = record { fits = h.fits; from = Legal-front _ L M h.from }

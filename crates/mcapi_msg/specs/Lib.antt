@@ -3,5 +3,7 @@ pub mod Endpoints
 pub mod Row
 pub mod Rows
 pub mod Rings
+pub mod Boxes
+pub mod Stands
 pub mod Legal
 pub mod Worked

@@ -9,12 +9,8 @@ use Rattle.mcapi_msg.specs.declared.ops.MsgReply.{MsgReply}
 use Rattle.mcapi_msg.specs.declared.ops.MsgReply.TheVariants.{Ok, Handle, Got, Pending, Refused}
 use Rattle.mcapi_msg.specs.declared.statuses.MsgStatus.{MsgStatus}
 use Rattle.mcapi_msg.specs.declared.statuses.MsgStatus.TheVariants.{Timeout, PortTaken, EndpointLimit, EndpointInvalid, PortUnknown, PriorityRange, Full, NotOwner}
-use Rattle.mcapi_msg.specs.Endpoints.{Endpoint, new_endpoint, has_port, message, next_of}
+use Rattle.mcapi_msg.specs.Endpoints.{last_generation, Endpoint, new_endpoint, has_port, message, next_of}
 use Rattle.mcapi_msg.specs.Row.{State, Row, unless, gives, says, only, given, on, opens, puts, takes, shuts, handle_of}
-
--- the last generation of a handle
-abbrev pub last_generation : ℕ
-last_generation = 4294967295
 
 -- where the condition is met the op is refused with this status
 abbrev pub refuses : Bool → MsgStatus → Row → Row

@@ -4,10 +4,12 @@
 //! stand in a [`Post`], which the callers share in a turn cell: each call of a [`Mailer`] makes one turn for each look.
 #![tactic(auto)]
 
+mod object;
 pub mod ops;
 pub mod post;
 mod rings;
 pub mod statuses;
+mod boxes;
 pub mod laws;
 pub mod messages;
 

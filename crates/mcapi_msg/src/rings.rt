@@ -1,6 +1,6 @@
 //! The messages that wait at one endpoint: one ring for each priority.
 
-ghost use Rattle.std.specs.Prelude.{◌≡◌, ◌<◌, ◌≤◌, IfOk};
+ghost use Rattle.std.specs.Prelude.{◌≡◌, ◌==◌, ◌<◌, ◌≤◌, IfOk, IfNone};
 ghost use Rattle.mcapi_msg.specs.Rings.{empty_rings, count_in, with_last, first_in, without_front};
 
 use crate::messages::Waiting;
@@ -54,7 +54,8 @@ impl Rings {
 
     /// Whether as many messages wait as may.
     pub(crate) fn is_full(&self) -> bool
-        ensures { result ≡ (count_in self.now == self.now.limit) }
+        ensures full { result ≡ (count_in self.now == self.now.limit) }
+        ensures within { count_in self.now ≤ self.now.limit }
     {
         self.first.len() + self.second.len() + self.third.len() + self.fourth.len()
             == self.limit as usize
@@ -78,6 +79,7 @@ impl Rings {
     pub(crate) fn take(&mut self) -> Option<Waiting>
         ensures value { result ≡ first_in self.old }
         ensures rest { self.new ≡ without_front self.old }
+        ensures none { IfNone result (self.new ≡ self.old) }
     {
         if let Some(message) = self.first.pop_front() {
             return Some(message);
