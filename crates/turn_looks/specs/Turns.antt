@@ -18,7 +18,7 @@ module _ {T P Q : Type 0} where
     pub between : List (Entry P Q)
     pub others : entries_of old.number between ≡ []
     pub seen : new.seen ≡ (old.seen ++ between) ++ entry old.number op reply ∷ []
-    pub legal : legal new.terms new.seen
+    pub lawful : legal new.terms new.seen
 
   -- the tickets had run out, and nothing was added
   pub record Unturned (old new : SeatView T P Q) : Type 0 where
