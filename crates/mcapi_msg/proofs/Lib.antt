@@ -6,3 +6,5 @@ mod RingLemmas
 mod PostSteps
 pub mod Histories
 mod PostStands
+mod Said
+mod FifoLemmas

@@ -16,7 +16,7 @@ abbrev with_ahead : Bool → Waiting → List Waiting → List Waiting
 with_ahead b w l = cond b (w ∷ l) l
 
 -- one message more
-of-more : (p : ℕ) (w : Waiting) (ws : List Waiting) → of_priority p (ws ++ w ∷ []) ≡ cond (w.priority == p) (of_priority p ws ++ w ∷ []) (of_priority p ws)
+pub of-more : (p : ℕ) (w : Waiting) (ws : List Waiting) → of_priority p (ws ++ w ∷ []) ≡ cond (w.priority == p) (of_priority p ws ++ w ∷ []) (of_priority p ws)
 of-more p w [] = refl
 of-more p w (x ∷ ws) = pick (x.priority == p) (w.priority == p) (of-more p w ws)
   where
@@ -89,11 +89,11 @@ range-without p (w ∷ ws) r = pick (w.priority == p) (range-without p ws r.1)
     pick false k = (r.0, k)
 
 -- the rings without the first message of a priority
-abbrev dropped : Bool → List Waiting → List Waiting
+abbrev pub dropped : Bool → List Waiting → List Waiting
 dropped b [] = []
 dropped b (w ∷ ws) = cond b ws (w ∷ ws)
 
-of-without : (p q : ℕ) (ws : List Waiting) → of_priority q (without_first p ws) ≡ dropped (p == q) (of_priority q ws)
+pub of-without : (p q : ℕ) (ws : List Waiting) → of_priority q (without_first p ws) ≡ dropped (p == q) (of_priority q ws)
 of-without p q [] = refl
 of-without p q (w ∷ ws) = pick (w.priority == p) (w.priority == q) (p == q) refl refl refl (of-without p q ws)
   where

@@ -5,5 +5,8 @@ pub mod Rows
 pub mod Rings
 pub mod Boxes
 pub mod Stands
+pub mod Answers
+pub mod Fifo
+pub mod Laws
 pub mod Legal
 pub mod Worked

@@ -11,8 +11,10 @@ mod rings;
 pub mod statuses;
 mod boxes;
 pub mod laws;
+pub mod mailer;
 pub mod messages;
 
+pub use mailer::Mailer;
 pub use messages::{EndpointHandle, Msg, Waiting};
 pub use ops::{MsgEntry, MsgOp, MsgReply};
 pub use post::{Post, PostTerms};
