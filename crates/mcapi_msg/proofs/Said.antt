@@ -5,7 +5,7 @@ use Rattle.std.proofs.lemmas.Bool.Decides.{nat_tests}
 use Rattle.std.proofs.lemmas.Result.{IfOk-weaker}
 use Rattle.history.specs.Histories.{entry}
 use Rattle.handle_pool.specs.Issued.{live_of, at, first_live, may_issue}
-use Rattle.turn_looks.specs.Turns.{Turned, Unturned}
+use Rattle.turn_looks.specs.Turns.{SameSeat, Turned, Unturned}
 use Rattle.turn_looks.specs.Looks.{pends, Pended, Looked, StillLooking}
 use Rattle.mcapi_msg.specs.declared.messages.EndpointHandle.{EndpointHandle}
 use Rattle.mcapi_msg.specs.declared.messages.Waiting.{Waiting}
@@ -216,3 +216,16 @@ spent_of h limit old new x r e = elim r [
     never_spent reply.Ok x h e = h
     never_spent (reply.Handle k) x h e = h
     never_spent reply.Pending x h e = h
+
+-- the seat stays the same
+pub called_same : {A : Type 0} (P : MsgReply → Result A MsgStatus → Type 0) (o : MsgOp) (old new : Seat) (x : Result A MsgStatus) → Called P o old new x → SameSeat old new
+called_same P o old new x c = elim c [ inl a ↦ a.turned.same | inr u ↦ u.0.same ]
+
+then_same : (a b c : Seat) → SameSeat a b → SameSeat b c → SameSeat a c
+then_same a b c s t = record { cell = t.cell ∙ s.cell; number = t.number ∙ s.number; terms = t.terms ∙ s.terms }
+
+pub received_same : (h : EndpointHandle) (limit : Option ℕ) (old new : Seat) (x : Result (ℕ × ℕ × List ℕ) MsgStatus) → Received h limit old new x → SameSeat old new
+received_same h limit old new x c = elim c [
+  | inl l ↦ then_same old l.looked.before new l.looked.pended.same l.looked.turned.same
+  | inr u ↦ u.0.pended.same
+]

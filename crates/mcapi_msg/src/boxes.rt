@@ -69,7 +69,25 @@ impl Boxes {
         ensures generations { IfOk result (λ b. b.pool.generations ≡ last_generation) }
         ensures slots { IfOk result (λ b. b.pool.slots ≡ replicate max (free_slot 1)) }
     {
-        let pool = Pool::new(alloc, max, LAST_GENERATION)?;
+        Boxes::with_generations(alloc, max, limit, LAST_GENERATION)
+    }
+
+    /// The same, with slots that retire after so many generations, at least 1.
+    pub(crate) fn with_generations(
+        alloc: Global,
+        max: u32,
+        limit: u32,
+        generations: u32,
+    ) -> Result<Boxes, AllocError>
+        requires some { 1 ≤ max }
+        requires few { max ≤ 64 }
+        requires messages { limit ≤ 256 }
+        requires once { 1 ≤ generations }
+        ensures limit { IfOk result (λ b. b.limit ≡ limit) }
+        ensures generations { IfOk result (λ b. b.pool.generations ≡ generations) }
+        ensures slots { IfOk result (λ b. b.pool.slots ≡ replicate max (free_slot 1)) }
+    {
+        let pool = Pool::new(alloc, max, generations)?;
         let spare = spare_rings(alloc, max, limit)?;
         Ok(Boxes { limit, pool, spare })
     }

@@ -2,7 +2,7 @@
 
 ghost use Rattle.std.specs.Prelude.{◌≡◌, ◌↔◌, Bool, Err, IfOk, OnErr, IsTrue};
 ghost use Rattle.mtapi_values.specs.Timeouts.{looks_of};
-ghost use Rattle.turn_looks.specs.Turns.{Turned, Unturned};
+ghost use Rattle.turn_looks.specs.Turns.{SameSeat, Turned, Unturned};
 ghost use Rattle.mcapi_msg.specs.declared.ops.MsgOp.TheVariants as op;
 ghost use Rattle.mcapi_msg.specs.declared.statuses.MsgStatus.TheVariants as status;
 ghost use Rattle.mcapi_msg.specs.Legal.{Legal};
@@ -131,6 +131,7 @@ impl<'a> Mailer<'a> {
     /// Makes an endpoint with this port, which the caller's seat then owns. `PortTaken`, and then `EndpointLimit`.
     pub fn open<R: Wait>(&mut self, rt: &R, port: u32) -> Result<EndpointHandle, MsgStatus>
         ensures called { Called Names (op.Open port) self.old self.new result }
+        ensures same { SameSeat self.old self.new }
         ensures spent { result ≡ Err status.Spent → Unturned self.old self.new }
     {
         named(self.once(rt, MsgOp::Open { port }))
@@ -139,6 +140,7 @@ impl<'a> Mailer<'a> {
     /// The live endpoint with this port. `PortUnknown` where there is none.
     pub fn find<R: Wait>(&mut self, rt: &R, port: u32) -> Result<EndpointHandle, MsgStatus>
         ensures called { Called Names (op.Find port) self.old self.new result }
+        ensures same { SameSeat self.old self.new }
         ensures spent { result ≡ Err status.Spent → Unturned self.old self.new }
     {
         named(self.once(rt, MsgOp::Find { port }))
@@ -153,6 +155,7 @@ impl<'a> Mailer<'a> {
         msg: Msg,
     ) -> Result<(), MsgStatus>
         ensures called { Called Done (op.Send to priority msg) self.old self.new result }
+        ensures same { SameSeat self.old self.new }
         ensures spent { result ≡ Err status.Spent → Unturned self.old self.new }
     {
         done(self.once(rt, MsgOp::Send { to, priority, msg }))
@@ -166,6 +169,7 @@ impl<'a> Mailer<'a> {
         at: EndpointHandle,
         timeout: Timeout,
     ) -> Result<(u32, u32, Msg), MsgStatus>
+        ensures same { SameSeat self.old self.new }
         ensures received { Received at (looks_of timeout) self.old self.new result }
         ensures timeout { result ≡ Err status.Timeout → TimedOut at (looks_of timeout) self.old self.new }
         ensures spent { result ≡ Err status.Spent → RanOut at (looks_of timeout) self.old self.new }
@@ -176,6 +180,7 @@ impl<'a> Mailer<'a> {
     /// Gives up an endpoint of this seat, with the messages that wait there. `EndpointInvalid`, `NotOwner`.
     pub fn shut<R: Wait>(&mut self, rt: &R, at: EndpointHandle) -> Result<(), MsgStatus>
         ensures called { Called Done (op.Shut at) self.old self.new result }
+        ensures same { SameSeat self.old self.new }
         ensures spent { result ≡ Err status.Spent → Unturned self.old self.new }
     {
         done(self.once(rt, MsgOp::Shut { at }))

@@ -5,7 +5,7 @@ use Rattle.turn_looks.specs.Looks.{Looked}
 use Rattle.mcapi_msg.specs.declared.ops.MsgReply.TheVariants.{Pending}
 use Rattle.mcapi_msg.specs.Legal.{Legal}
 use Rattle.mcapi_msg.specs.Answers.{Seat, Received, RanOut, look_for}
-use Rattle.mcapi_msg.proofs.Said.{look_answer, received, timeout_of, spent_of}
+use Rattle.mcapi_msg.proofs.Said.{look_answer, received, received_same, timeout_of, spent_of}
 use Rattle.mcapi_msg.proofs.mailer.Mailer.recv.Goals as goal
 
 pub handed-requires : goal.handed-requires
@@ -18,6 +18,7 @@ returns g c =
     let all : Received c.args.at (looks_of c.args.timeout) c.args.self.now c.look.new.seat c.handed.result =
     received c.args.at (looks_of c.args.timeout) c.args.self.now c.look.new.seat c.look.result c.handed.result looked out c.handed.ensures in
     record {
+      same = received_same c.args.at (looks_of c.args.timeout) c.args.self.now c.look.new.seat c.handed.result all;
       received = all;
       timeout = timeout_of c.args.at (looks_of c.args.timeout) c.args.self.now c.look.new.seat c.handed.result all;
       spent = spent_of c.args.at (looks_of c.args.timeout) c.args.self.now c.look.new.seat c.handed.result all;

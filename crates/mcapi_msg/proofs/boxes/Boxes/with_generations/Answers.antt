@@ -1,5 +1,5 @@
 use Rattle.mcapi_msg.proofs.BoxLemmas.{kept-new}
-use Rattle.mcapi_msg.proofs.boxes.Boxes.new.Goals as goal
+use Rattle.mcapi_msg.proofs.boxes.Boxes.with_generations.Goals as goal
 
 pub invariant_of-result : goal.invariant_of-result
 invariant_of-result c =
