@@ -22,3 +22,5 @@ pub use statuses::MsgStatus;
 
 #[cfg(test)]
 mod tests;
+#[cfg(test)]
+mod thread_tests;
