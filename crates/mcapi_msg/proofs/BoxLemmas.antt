@@ -1,8 +1,8 @@
 -- What is kept of the live endpoints and the rings in reserve, after each change.
 use Rattle.std.specs.Prelude.{◌==◌}
-use Rattle.std.proofs.Common.{Bool, true, false, cond, ◌≡◌, ◌≢◌, ℕ, ◌+◌, ◌<◌, ◌≤◌, List, [], ◌∷◌, ◌++◌, length, Option, Some, None, replicate, refl, sym, ap, subst, ◌∙◌, inl, inr, arith, length-append}
+use Rattle.std.proofs.Common.{Bool, true, false, cond, ◌≡◌, ℕ, ◌<◌, ◌≤◌, List, [], ◌∷◌, ◌++◌, length, Some, None, replicate, refl, sym, ap, subst, ◌∙◌, inl, inr, arith, length-append}
 use Rattle.std.proofs.lemmas.Bool.{cases_eq}
-use Rattle.handle_pool.specs.Slots.{Slots, slot_of, generation_of, free_slot, get, max_of, live_count, Inserts, with_value, without, NoneLive, OneEach, retired_count, IsFull}
+use Rattle.handle_pool.specs.Slots.{Slots, slot_of, generation_of, free_slot, get, Inserts, with_value, without, NoneLive, IsFull}
 use Rattle.handle_pool.proofs.StandsLemmas.{get-fresh}
 use Rattle.handle_pool.proofs.GetLemmas.{get-insert_same, get-insert_other, get-with_value_same, get-with_value_other, get-without_same, get-without_other}
 use Rattle.handle_pool.proofs.OneEachLemmas.{OneEach-new, OneEach-insert, OneEach-with_value, OneEach-without}

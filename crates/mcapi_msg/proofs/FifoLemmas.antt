@@ -1,12 +1,11 @@
 -- What waits at an endpoint of one sender with one priority is what was sent and not yet received.
-use Rattle.std.proofs.Common.{◌≡◌, ◌≢◌, ℕ, zero, suc, ◌+◌, ◌<◌, ◌≤◌, Bool, true, false, cond, not, ◌&&◌, List, [], ◌∷◌, ◌++◌, Option, Some, None, refl, sym, ap, subst, ◌∙◌, inl, inr, arith, append_assoc}
-use Rattle.std.specs.Prelude.{◌==◌, nat_lt, nat_le, length}
+use Rattle.std.proofs.Common.{◌≡◌, ℕ, ◌+◌, Bool, true, false, cond, ◌&&◌, List, [], ◌∷◌, ◌++◌, Option, Some, None, refl, sym, ap, subst, ◌∙◌, arith, append_assoc}
+use Rattle.std.specs.Prelude.{◌==◌, nat_le}
 use Rattle.std.proofs.lemmas.List.{append-nil}
-use Rattle.std.proofs.lemmas.Bool.{eq-eqb, eqb-true}
-use Rattle.std.proofs.lemmas.Bool.Decides.{nat_tests}
+use Rattle.std.proofs.lemmas.Bool.{eqb-true}
 use Rattle.history.specs.Histories.{StartsWith}
 use Rattle.handle_pool.specs.Slots.{generation_of}
-use Rattle.handle_pool.specs.Issued.{Listed, how_many, live_of, lookup, at, any, first_live, listed, issued_at, is_full, may_issue, issue, change, update, retire, with_fields, gone}
+use Rattle.handle_pool.specs.Issued.{Listed, how_many, live_of, lookup, at, first_live, listed, issued_at, may_issue, issue, update, retire, with_fields, gone}
 use Rattle.handle_pool.specs.Stands.{Distinct}
 use Rattle.handle_pool.proofs.ListedLemmas.{at-issue, at-update, at-retire, Distinct-issue, Distinct-update, Distinct-retire, listed-issue, listed-change}
 use Rattle.mcapi_msg.specs.declared.messages.EndpointHandle.{EndpointHandle}
@@ -14,13 +13,10 @@ use Rattle.mcapi_msg.specs.declared.messages.Waiting.{Waiting}
 use Rattle.mcapi_msg.specs.declared.ops.MsgOp.{MsgOp}
 use Rattle.mcapi_msg.specs.declared.ops.MsgOp.TheVariants as op
 use Rattle.mcapi_msg.specs.declared.ops.MsgReply.{MsgReply}
-use Rattle.mcapi_msg.specs.declared.ops.MsgReply.TheVariants.{Ok, Handle, Got, Pending, Refused}
-use Rattle.mcapi_msg.specs.declared.statuses.MsgStatus.{MsgStatus}
-use Rattle.mcapi_msg.specs.declared.statuses.MsgStatus.TheVariants as status
 use Rattle.mcapi_msg.specs.declared.post.PostTerms.{PostTerms}
 use Rattle.mcapi_msg.specs.Endpoints.{last_generation, Endpoint, new_endpoint, has_port, message, next_of, without_first, of_priority, with_message, with_first_gone}
-use Rattle.mcapi_msg.specs.Row.{State, opening, Move, apply, after_moves, Row, unless, gives, never, says, only, given, Allows, moves_of, handle_of, opens, puts, takes, shuts}
-use Rattle.mcapi_msg.specs.Rows.{row, names, nothing, hands}
+use Rattle.mcapi_msg.specs.Row.{State, opening, Move, after_moves, Row, unless, gives, never, says, only, given, Allows, moves_of, handle_of, opens}
+use Rattle.mcapi_msg.specs.Rows.{row, names, nothing}
 use Rattle.mcapi_msg.specs.Legal.{MsgEntry, IsNext, row_of, next, LegalFrom, Legal}
 use Rattle.mcapi_msg.specs.Fifo.{put_by, got_by, sent_to, received_at}
 use Rattle.mcapi_msg.proofs.RingLemmas.{IsFirst, first-is, of-more, of-without, dropped}
@@ -268,11 +264,10 @@ module _ (endpoint : EndpointHandle) (sender priority : ℕ) where
   unfolding LegalFrom sent_to received_at
   along s [] sent got h f = (f.begins.0, append-nil sent ∙ (f.begins.1 ∙ ap (λ (x : List (List ℕ)). x ++ f.begins.0) (sym (append-nil got))))
   along s (e ∷ L) sent got h f =
-      let more = along (next s e) L (sent ++ put_by endpoint sender priority e.who e.op e.reply) (got ++ got_by endpoint sender priority e.op e.reply) h.1 (step s e sent got h.0 f) in
-      (
+      let more = along (next s e) L (sent ++ put_by endpoint sender priority e.who e.op e.reply) (got ++ got_by endpoint sender priority e.op e.reply) h.1 (step s e sent got h.0 f) in (
         more.0,
         sym (append_assoc sent (put_by endpoint sender priority e.who e.op e.reply) (sent_to endpoint sender priority L))
-        ∙ (more.1 ∙ ap (λ (x : List (List ℕ)). x ++ more.0) (append_assoc got (got_by endpoint sender priority e.op e.reply) (received_at endpoint sender priority L))),
+            ∙ (more.1 ∙ ap (λ (x : List (List ℕ)). x ++ more.0) (append_assoc got (got_by endpoint sender priority e.op e.reply) (received_at endpoint sender priority L))),
       )
 
   -- the law

@@ -1,7 +1,5 @@
 -- Lists of entries, one after the other.
-use Rattle.std.proofs.Common.{◌≡◌, List, [], ◌∷◌, ◌++◌, refl, ap, ◌∙◌}
-use Rattle.handle_pool.specs.Issued.{Listed}
-use Rattle.mcapi_msg.specs.Endpoints.{Endpoint}
+use Rattle.std.proofs.Common.{◌≡◌, List, [], ◌∷◌, ◌++◌, refl, ◌∙◌}
 use Rattle.mcapi_msg.specs.Row.{State, Move, after_moves}
 use Rattle.mcapi_msg.specs.Legal.{MsgEntry, IsNext, row_of, next, LegalFrom, after_from}
 use Rattle.mcapi_msg.specs.Row.{moves_of}

@@ -1,10 +1,10 @@
 -- Each op of a post is a step of the machine.
-use Rattle.std.proofs.Common.{◌≡◌, ◌≢◌, ◌⊎◌, ℕ, ◌+◌, ◌<◌, ◌≤◌, Bool, true, false, not, cond, List, [], ◌∷◌, ◌++◌, length, Option, Some, None, replicate, refl, sym, ap, subst, ◌∙◌, inl, inr, arith}
+use Rattle.std.proofs.Common.{◌≡◌, ◌⊎◌, ℕ, ◌<◌, ◌≤◌, Bool, true, false, not, cond, List, [], ◌∷◌, length, Option, Some, None, refl, sym, ap, subst, ◌∙◌, inl, inr, arith}
 use Rattle.std.specs.Prelude.{◌==◌, ◌&&◌, nat_lt}
 use Rattle.std.proofs.lemmas.Bool.{eqb-true, eq-eqb}
 use Rattle.std.proofs.lemmas.Bool.Decides.{nat_tests}
 use Rattle.handle_pool.specs.Slots.{Slots, get, max_of, IsFull, Inserts, with_value, without, NoneLive, HasLive, OneEach}
-use Rattle.handle_pool.specs.Issued.{Listed, live_of, lookup, at, any, first_live, issue, change, with_fields, gone, update, retire, is_full, may_issue}
+use Rattle.handle_pool.specs.Issued.{Listed, live_of, lookup, at, any, issue, change, with_fields, gone, update, retire, is_full, may_issue}
 use Rattle.handle_pool.specs.Stands.{Stands as SlotsStand}
 use Rattle.handle_pool.proofs.StandsLemmas.{IsFull-limit, IsFull-room, may_issue-insert, Stands-insert, Stands-update, Stands-remove}
 use Rattle.handle_pool.proofs.AnswerLemmas.{any-live, any-none, first_live-only, first_live-absent}
@@ -15,17 +15,16 @@ use Rattle.mcapi_msg.specs.declared.boxes.Mailbox.{Mailbox}
 use Rattle.mcapi_msg.specs.declared.ops.MsgOp.{MsgOp}
 use Rattle.mcapi_msg.specs.declared.ops.MsgOp.TheVariants as op
 use Rattle.mcapi_msg.specs.declared.ops.MsgReply.{MsgReply}
-use Rattle.mcapi_msg.specs.declared.ops.MsgReply.TheVariants.{Ok, Handle, Got, Pending, Refused}
+use Rattle.mcapi_msg.specs.declared.ops.MsgReply.TheVariants.{Ok, Got, Refused}
 use Rattle.mcapi_msg.specs.declared.statuses.MsgStatus.{MsgStatus}
-use Rattle.mcapi_msg.specs.declared.statuses.MsgStatus.TheVariants.{Timeout, PortTaken, EndpointLimit, EndpointInvalid, PortUnknown, PriorityRange, Full, NotOwner}
+use Rattle.mcapi_msg.specs.declared.statuses.MsgStatus.TheVariants.{PortTaken, EndpointLimit, EndpointInvalid, PortUnknown, PriorityRange, Full, NotOwner}
 use Rattle.mcapi_msg.specs.declared.post.Post.{Post}
-use Rattle.mcapi_msg.specs.declared.post.PostTerms.{PostTerms}
-use Rattle.mcapi_msg.specs.Endpoints.{last_generation, Endpoint, new_endpoint, has_port, message, next_of, without_first, with_message, with_first_gone}
-use Rattle.mcapi_msg.specs.Row.{State, Move, Row, unless, gives, says, only, given, Allows, moves_of, after_moves, opens, puts, takes, shuts}
+use Rattle.mcapi_msg.specs.Endpoints.{last_generation, Endpoint, new_endpoint, has_port, message, next_of, with_message, with_first_gone}
+use Rattle.mcapi_msg.specs.Row.{State, Move, Row, unless, gives, says, only, given, Allows, moves_of, after_moves}
 use Rattle.mcapi_msg.specs.Rows.{row, names, nothing}
-use Rattle.mcapi_msg.specs.Rings.{RingTable, count_in, with_last, first_in, without_front}
+use Rattle.mcapi_msg.specs.Rings.{count_in, with_last, first_in, without_front}
 use Rattle.mcapi_msg.specs.Boxes.{BoxTable, HasPort, HasFree, HasSpace, new_mailbox, with_rings, owner_refusal}
-use Rattle.mcapi_msg.specs.Stands.{rings_of, kept_as, relisted, InRange, AreInRange, terms_of, Holds, state_of, Steps}
+use Rattle.mcapi_msg.specs.Stands.{rings_of, kept_as, relisted, InRange, AreInRange, Holds, state_of, Steps}
 use Rattle.mcapi_msg.proofs.RingLemmas.{rings-more, count-rings, range-more, range-without, rings-take, take-none}
 use Rattle.mcapi_msg.proofs.Relisted.{any-relisted, first-relisted, at-back, at-none, is_full-relisted, may_issue-relisted, issue-relisted, retire-relisted, update-relisted}
 

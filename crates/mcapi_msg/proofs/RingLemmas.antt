@@ -1,11 +1,11 @@
 -- What the rings of an endpoint say of the messages that wait there.
-use Rattle.std.proofs.Common.{◌≡◌, ℕ, zero, suc, ◌+◌, ◌<◌, ◌≤◌, Bool, true, false, cond, List, [], ◌∷◌, ◌++◌, length, Option, Some, None, refl, sym, ap, subst, ◌∙◌, inl, inr, arith, length-append}
+use Rattle.std.proofs.Common.{◌≡◌, ℕ, zero, suc, ◌+◌, ◌<◌, ◌≤◌, Bool, true, false, cond, List, [], ◌∷◌, ◌++◌, length, Option, Some, None, refl, sym, ap, subst, ◌∙◌, arith}
 use Rattle.std.specs.Prelude.{◌==◌, nat_lt}
-use Rattle.std.proofs.lemmas.Bool.{cases_eq, cases_lt, eq-eqb, ne_eqb, eqb-true}
+use Rattle.std.proofs.lemmas.Bool.{eq-eqb}
 use Rattle.std.proofs.lemmas.Bool.Decides.{nat_tests}
 use Rattle.mcapi_msg.specs.declared.messages.Waiting.{Waiting}
 use Rattle.mcapi_msg.specs.Endpoints.{sooner, next_of, without_first, of_priority}
-use Rattle.mcapi_msg.specs.Rings.{RingTable, empty_rings, count_in, with_last, front_or, first_in, without_front}
+use Rattle.mcapi_msg.specs.Rings.{RingTable, count_in, with_last, first_in, without_front}
 use Rattle.mcapi_msg.specs.Stands.{rings_of, InRange}
 
 -- a message more at the end, and at the front

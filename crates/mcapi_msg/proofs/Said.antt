@@ -1,12 +1,12 @@
 -- What the calls of a mailer answer follows from the rows of their ops.
-use Rattle.std.proofs.Common.{◌≡◌, ◌≢◌, ◌⊎◌, ℕ, suc, ◌+◌, ◌<◌, Bool, true, false, cond, not, List, [], ◌∷◌, ◌++◌, Option, Some, None, Result, Ok, Err, inl, inr, refl, sym, ◌∙◌, ap, subst, arith}
-use Rattle.std.specs.Prelude.{IfOk, OnErr, MatchOption, ◌==◌, nat_lt, length}
+use Rattle.std.proofs.Common.{◌≡◌, ◌≢◌, ◌⊎◌, ℕ, ◌+◌, ◌<◌, Bool, true, false, List, [], ◌∷◌, ◌++◌, Option, Some, None, Result, Ok, Err, inl, inr, refl, sym, ◌∙◌, ap, subst, arith}
+use Rattle.std.specs.Prelude.{IfOk, OnErr, MatchOption, ◌==◌}
 use Rattle.std.proofs.lemmas.Bool.Decides.{nat_tests}
 use Rattle.std.proofs.lemmas.Result.{IfOk-weaker}
 use Rattle.history.specs.Histories.{entry}
 use Rattle.handle_pool.specs.Issued.{live_of, at, first_live, may_issue}
 use Rattle.turn_looks.specs.Turns.{SameSeat, Turned, Unturned}
-use Rattle.turn_looks.specs.Looks.{pends, Pended, Looked, StillLooking}
+use Rattle.turn_looks.specs.Looks.{pends, Looked}
 use Rattle.mcapi_msg.specs.declared.messages.EndpointHandle.{EndpointHandle}
 use Rattle.mcapi_msg.specs.declared.messages.Waiting.{Waiting}
 use Rattle.mcapi_msg.specs.declared.ops.MsgOp.{MsgOp}
@@ -15,12 +15,11 @@ use Rattle.mcapi_msg.specs.declared.ops.MsgReply.{MsgReply}
 use Rattle.mcapi_msg.specs.declared.ops.MsgReply.TheVariants as reply
 use Rattle.mcapi_msg.specs.declared.statuses.MsgStatus.{MsgStatus}
 use Rattle.mcapi_msg.specs.declared.statuses.MsgStatus.TheVariants as status
-use Rattle.mcapi_msg.specs.declared.post.PostTerms.{PostTerms}
-use Rattle.mcapi_msg.specs.Endpoints.{last_generation, Endpoint, new_endpoint, has_port, next_of}
+use Rattle.mcapi_msg.specs.Endpoints.{last_generation, new_endpoint, has_port, next_of}
 use Rattle.mcapi_msg.specs.Row.{State, opening, Row, unless, gives, never, says, only, given, opens, handle_of, Allows}
 use Rattle.mcapi_msg.specs.Rows.{row, names, nothing}
 use Rattle.mcapi_msg.specs.Legal.{MsgEntry, IsNext, LegalFrom, Legal}
-use Rattle.mcapi_msg.specs.Answers.{Seat, is_spent, Done, Names, Hands, state_at, IsAnswer, AnsweredBy, Answers, Called, look_for, Looks, RanOut, Received, TimedOut}
+use Rattle.mcapi_msg.specs.Answers.{Seat, is_spent, Done, Names, Hands, state_at, IsAnswer, AnsweredBy, Called, look_for, Looks, RanOut, Received, TimedOut}
 use Rattle.mcapi_msg.proofs.Histories.{Legal-rest, first-legal}
 
 -- each reply of the row is so
@@ -221,7 +220,7 @@ spent_of h limit old new x r e = elim r [
 pub called_same : {A : Type 0} (P : MsgReply → Result A MsgStatus → Type 0) (o : MsgOp) (old new : Seat) (x : Result A MsgStatus) → Called P o old new x → SameSeat old new
 called_same P o old new x c = elim c [ inl a ↦ a.turned.same | inr u ↦ u.0.same ]
 
-then_same : (a b c : Seat) → SameSeat a b → SameSeat b c → SameSeat a c
+pub then_same : (a b c : Seat) → SameSeat a b → SameSeat b c → SameSeat a c
 then_same a b c s t = record { cell = t.cell ∙ s.cell; number = t.number ∙ s.number; terms = t.terms ∙ s.terms }
 
 pub received_same : (h : EndpointHandle) (limit : Option ℕ) (old new : Seat) (x : Result (ℕ × ℕ × List ℕ) MsgStatus) → Received h limit old new x → SameSeat old new

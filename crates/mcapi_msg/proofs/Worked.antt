@@ -1,5 +1,5 @@
 -- The worked histories, computed.
-use Rattle.std.proofs.Common.{◌≡◌, ℕ, ◌≤◌, List, [], ◌∷◌, length, refl, ap, arith}
+use Rattle.std.proofs.Common.{◌≡◌, List, [], ◌∷◌, refl, ap, arith}
 use Rattle.handle_pool.specs.Issued.{live_of, issue, change, listed, issued_at, retired, is_full, may_issue}
 use Rattle.mcapi_msg.specs.declared.ops.MsgReply.{MsgReply}
 use Rattle.mcapi_msg.specs.declared.ops.MsgReply.TheVariants.{Refused}

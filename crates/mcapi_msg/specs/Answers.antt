@@ -14,7 +14,7 @@ use Rattle.mcapi_msg.specs.declared.statuses.MsgStatus.TheVariants as status
 use Rattle.mcapi_msg.specs.declared.post.PostTerms.{PostTerms}
 use Rattle.mcapi_msg.specs.Row.{State, Allows}
 use Rattle.mcapi_msg.specs.Rows.{row}
-use Rattle.mcapi_msg.specs.Legal.{MsgEntry, Legal, after}
+use Rattle.mcapi_msg.specs.Legal.{Legal, after}
 
 -- a seat of a cell over a post
 abbrev pub Seat : Type 0

@@ -1,10 +1,8 @@
 -- A law of every row.
-use Rattle.std.specs.Prelude.{◌≡◌, ℕ, Bool, true, false, List, []}
-use Rattle.mcapi_msg.specs.declared.ops.MsgOp.{MsgOp}
+use Rattle.std.specs.Prelude.{◌≡◌, Bool, true, false}
 use Rattle.mcapi_msg.specs.declared.ops.MsgReply.{MsgReply}
 use Rattle.mcapi_msg.specs.declared.ops.MsgReply.TheVariants.{Pending, Refused}
 use Rattle.mcapi_msg.specs.Row.{State, Allows}
-use Rattle.mcapi_msg.specs.Rows.{row}
 use Rattle.mcapi_msg.specs.Legal.{MsgEntry, row_of, next}
 
 -- the reply says that nothing was done

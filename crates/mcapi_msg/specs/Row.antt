@@ -3,7 +3,6 @@ use Rattle.std.specs.Prelude.{◌≡◌, ℕ, Bool, true, false, List, [], ◌�
 use Rattle.std.specs.Bool.{MatchBool}
 use Rattle.handle_pool.specs.Issued.{Listed, at, issue, update, retire}
 use Rattle.mcapi_msg.specs.declared.messages.Waiting.{Waiting}
-use Rattle.mcapi_msg.specs.declared.messages.EndpointHandle.{EndpointHandle}
 use Rattle.mcapi_msg.specs.declared.ops.MsgReply.{MsgReply}
 use Rattle.mcapi_msg.specs.declared.ops.MsgReply.TheVariants.{Handle}
 use Rattle.mcapi_msg.specs.declared.post.PostTerms.{PostTerms}

@@ -1,5 +1,5 @@
 -- The row of each op: its refusals in order, and then its reply and the moves that it makes.
-use Rattle.std.specs.Prelude.{ℕ, Bool, not, ◌==◌, nat_lt, List, [], ◌∷◌, length, Option, Some, None, if◌then◌else◌}
+use Rattle.std.specs.Prelude.{ℕ, Bool, not, ◌==◌, nat_lt, [], ◌∷◌, length, if◌then◌else◌}
 use Rattle.handle_pool.specs.Issued.{live_of, any, first_live, is_full, may_issue}
 use Rattle.mcapi_msg.specs.declared.messages.Waiting.{Waiting}
 use Rattle.mcapi_msg.specs.declared.messages.EndpointHandle.{EndpointHandle}

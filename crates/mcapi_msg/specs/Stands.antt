@@ -9,7 +9,7 @@ use Rattle.mcapi_msg.specs.declared.ops.MsgReply.{MsgReply}
 use Rattle.mcapi_msg.specs.declared.post.Post.{Post}
 use Rattle.mcapi_msg.specs.declared.post.PostTerms.{PostTerms}
 use Rattle.mcapi_msg.specs.Endpoints.{last_generation, Endpoint, of_priority}
-use Rattle.mcapi_msg.specs.Row.{State, Allows, moves_of, moved, after_moves}
+use Rattle.mcapi_msg.specs.Row.{State, Allows, moves_of, after_moves}
 use Rattle.mcapi_msg.specs.Rows.{row}
 use Rattle.mcapi_msg.specs.Rings.{RingTable}
 use Rattle.mcapi_msg.specs.Legal.{MsgEntry, Legal, after}

@@ -1,15 +1,12 @@
 -- Worked histories of a post with three seats, one endpoint and room for two messages there. Each is decided by computing.
-use Rattle.std.specs.Prelude.{◌≡◌, ℕ, ◌*◌, ◌+◌, ◌^◌, true, false, List, [], ◌∷◌, ◌++◌}
+use Rattle.std.specs.Prelude.{ℕ, ◌*◌, ◌^◌, true, false, List, [], ◌∷◌, ◌++◌}
 use Rattle.history.specs.Histories.{entry}
-use Rattle.handle_pool.specs.Issued.{Listed}
 use Rattle.mcapi_msg.specs.declared.messages.EndpointHandle.{EndpointHandle}
-use Rattle.mcapi_msg.specs.declared.ops.MsgOp.{MsgOp}
 use Rattle.mcapi_msg.specs.declared.ops.MsgOp.TheVariants.{Open, Find, Send, Recv, Shut}
-use Rattle.mcapi_msg.specs.declared.ops.MsgReply.{MsgReply}
 use Rattle.mcapi_msg.specs.declared.ops.MsgReply.TheVariants.{Ok, Got, Pending, Refused}
 use Rattle.mcapi_msg.specs.declared.statuses.MsgStatus.TheVariants as status
 use Rattle.mcapi_msg.specs.declared.post.PostTerms.{PostTerms}
-use Rattle.mcapi_msg.specs.Endpoints.{Endpoint, new_endpoint}
+use Rattle.mcapi_msg.specs.Endpoints.{new_endpoint}
 use Rattle.mcapi_msg.specs.Row.{State, Allows}
 use Rattle.mcapi_msg.specs.Rows.{row, names}
 use Rattle.mcapi_msg.specs.Legal.{MsgEntry, Legal}

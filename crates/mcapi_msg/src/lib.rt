@@ -4,15 +4,15 @@
 //! stand in a [`Post`], which the callers share in a turn cell: each call of a [`Mailer`] makes one turn for each look.
 #![tactic(auto)]
 
+mod boxes;
+pub mod laws;
+pub mod mailer;
+pub mod messages;
 mod object;
 pub mod ops;
 pub mod post;
 mod rings;
 pub mod statuses;
-mod boxes;
-pub mod laws;
-pub mod mailer;
-pub mod messages;
 
 pub use mailer::Mailer;
 pub use messages::{EndpointHandle, Msg, Waiting};

@@ -74,11 +74,13 @@ fn handed(reply: Result<MsgReply, Spent>) -> Result<(u32, u32, Msg), MsgStatus>
     ensures { AnsweredBy Hands reply result }
 {
     match reply {
-        Ok(MsgReply::Got {
-            sender,
-            priority,
-            msg,
-        }) => Ok((sender, priority, msg)),
+        Ok(
+            MsgReply::Got {
+                sender,
+                priority,
+                msg,
+            },
+        ) => Ok((sender, priority, msg)),
         Ok(MsgReply::Refused(status)) => Err(status),
         Ok(_) => unreachable!(),
         Err(_) => Err(MsgStatus::Spent),

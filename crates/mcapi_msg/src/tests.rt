@@ -30,6 +30,7 @@ enum Said {
 }
 
 const BOX: u64 = 0x1_0000_0000;
+
 const AGAIN: u64 = 0x2_0000_0000;
 
 fn one_byte(byte: u8) -> Msg {
@@ -69,7 +70,11 @@ fn word_of(reply: MsgReply) -> Said {
             sender,
             priority,
             msg,
-        } => Said::Got(sender, priority, msg.as_slice().first().copied().unwrap_or(0)),
+        } => Said::Got(
+            sender,
+            priority,
+            msg.as_slice().first().copied().unwrap_or(0),
+        ),
         MsgReply::Pending => Said::Pending,
         MsgReply::Refused(status) => Said::Refused(status),
     }
@@ -96,10 +101,18 @@ fn one_endpoint_with_room_for_two(rt: HostRuntime) -> Result<(), Fail> {
         (0, Ask::Look(BOX), Said::Got(1, 3, 1)),
         (0, Ask::Look(BOX), Said::Pending),
         (0, Ask::LastLook(BOX), Said::Refused(MsgStatus::Timeout)),
-        (1, Ask::Send(BOX, 4, 4), Said::Refused(MsgStatus::PriorityRange)),
+        (
+            1,
+            Ask::Send(BOX, 4, 4),
+            Said::Refused(MsgStatus::PriorityRange),
+        ),
         (1, Ask::Shut(BOX), Said::Refused(MsgStatus::NotOwner)),
         (0, Ask::Shut(BOX), Said::Done),
-        (1, Ask::Send(BOX, 0, 5), Said::Refused(MsgStatus::EndpointInvalid)),
+        (
+            1,
+            Ask::Send(BOX, 0, 5),
+            Said::Refused(MsgStatus::EndpointInvalid),
+        ),
         (0, Ask::Look(BOX), Said::Refused(MsgStatus::EndpointInvalid)),
         (0, Ask::Shut(BOX), Said::Refused(MsgStatus::EndpointInvalid)),
         (0, Ask::Shut(0), Said::Refused(MsgStatus::EndpointInvalid)),
@@ -120,12 +133,28 @@ fn refusals_come_in_their_order(rt: HostRuntime) -> Result<(), Fail> {
         (0, Ask::Open(7), Said::Handle(BOX)),
         (1, Ask::Open(7), Said::Refused(MsgStatus::PortTaken)),
         (1, Ask::Send(BOX, 3, 1), Said::Done),
-        (1, Ask::Send(BOX, 4, 1), Said::Refused(MsgStatus::PriorityRange)),
+        (
+            1,
+            Ask::Send(BOX, 4, 1),
+            Said::Refused(MsgStatus::PriorityRange),
+        ),
         (1, Ask::Send(BOX, 3, 1), Said::Refused(MsgStatus::Full)),
-        (1, Ask::Send(AGAIN, 4, 1), Said::Refused(MsgStatus::EndpointInvalid)),
+        (
+            1,
+            Ask::Send(AGAIN, 4, 1),
+            Said::Refused(MsgStatus::EndpointInvalid),
+        ),
         (1, Ask::LastLook(BOX), Said::Refused(MsgStatus::NotOwner)),
-        (1, Ask::LastLook(AGAIN), Said::Refused(MsgStatus::EndpointInvalid)),
-        (1, Ask::Shut(AGAIN), Said::Refused(MsgStatus::EndpointInvalid)),
+        (
+            1,
+            Ask::LastLook(AGAIN),
+            Said::Refused(MsgStatus::EndpointInvalid),
+        ),
+        (
+            1,
+            Ask::Shut(AGAIN),
+            Said::Refused(MsgStatus::EndpointInvalid),
+        ),
         (0, Ask::LastLook(BOX), Said::Got(1, 3, 1)),
     ];
     for (who, ask, says) in rows.iter() {
@@ -150,18 +179,30 @@ fn a_message_holds_64_bytes(rt: HostRuntime) -> Result<(), Fail> {
 fn the_largest_post_fills_up(rt: HostRuntime) -> Result<(), Fail> {
     let mut post = Post::new(rt.alloc(), 25, 64, 256)?;
     for port in 0..64u32 {
-        assert_eq!(rt; answer(&mut post, 24, Ask::Open(port)), Said::Handle(BOX + u64::from(port)));
+        assert_eq!(rt;
+            answer(&mut post, 24, Ask::Open(port)),
+            Said::Handle(BOX + u64::from(port))
+        );
     }
-    assert_eq!(rt; answer(&mut post, 24, Ask::Open(64)), Said::Refused(MsgStatus::EndpointLimit));
+    assert_eq!(rt;
+        answer(&mut post, 24, Ask::Open(64)),
+        Said::Refused(MsgStatus::EndpointLimit)
+    );
     for number in 0..256u32 {
         let ask = Ask::Send(BOX, number % 4, (number / 4) as u8);
         assert_eq!(rt; answer(&mut post, 1, ask), Said::Done);
     }
-    assert_eq!(rt; answer(&mut post, 1, Ask::Send(BOX, 0, 1)), Said::Refused(MsgStatus::Full));
+    assert_eq!(rt;
+        answer(&mut post, 1, Ask::Send(BOX, 0, 1)),
+        Said::Refused(MsgStatus::Full)
+    );
     assert_eq!(rt; answer(&mut post, 1, Ask::Send(BOX + 1, 0, 1)), Said::Done);
     for priority in 0..4u32 {
         for byte in 0..64u8 {
-            assert_eq!(rt; answer(&mut post, 24, Ask::Look(BOX)), Said::Got(1, priority, byte));
+            assert_eq!(rt;
+                answer(&mut post, 24, Ask::Look(BOX)),
+                Said::Got(1, priority, byte)
+            );
         }
     }
     assert_eq!(rt; answer(&mut post, 24, Ask::Look(BOX)), Said::Pending);
@@ -218,15 +259,33 @@ fn two_mailers_exchange_messages(rt: HostRuntime) -> Result<(), Fail> {
     assert_eq!(rt; other.send(&rt, at, 3, one_byte(1)), Ok(()));
     assert_eq!(rt; other.send(&rt, at, 0, one_byte(2)), Ok(()));
     assert_eq!(rt; other.send(&rt, at, 0, one_byte(3)), Err(MsgStatus::Full));
-    assert_eq!(rt; other.recv(&rt, at, Timeout::Infinite).err(), Some(MsgStatus::NotOwner));
-    let first = owner.recv(&rt, at, Timeout::NoWait).ok().ok_or("no message")?;
+    assert_eq!(rt;
+        other.recv(&rt, at, Timeout::Infinite).err(),
+        Some(MsgStatus::NotOwner)
+    );
+    let first = owner
+        .recv(&rt, at, Timeout::NoWait)
+        .ok()
+        .ok_or("no message")?;
     assert_eq!(rt; (first.0, first.1, first.2.as_slice().len()), (1, 0, 1));
-    let second = owner.recv(&rt, at, Timeout::Infinite).ok().ok_or("no message")?;
+    let second = owner
+        .recv(&rt, at, Timeout::Infinite)
+        .ok()
+        .ok_or("no message")?;
     assert_eq!(rt; (second.0, second.1, second.2.as_slice().len()), (1, 3, 1));
-    assert_eq!(rt; owner.recv(&rt, at, Timeout::NoWait).err(), Some(MsgStatus::Timeout));
-    assert_eq!(rt; owner.recv(&rt, at, Timeout::Looks(5)).err(), Some(MsgStatus::Timeout));
+    assert_eq!(rt;
+        owner.recv(&rt, at, Timeout::NoWait).err(),
+        Some(MsgStatus::Timeout)
+    );
+    assert_eq!(rt;
+        owner.recv(&rt, at, Timeout::Looks(5)).err(),
+        Some(MsgStatus::Timeout)
+    );
     assert_eq!(rt; owner.shut(&rt, at), Ok(()));
-    assert_eq!(rt; other.send(&rt, at, 0, one_byte(3)), Err(MsgStatus::EndpointInvalid));
+    assert_eq!(rt;
+        other.send(&rt, at, 0, one_byte(3)),
+        Err(MsgStatus::EndpointInvalid)
+    );
     let _ = (owner.into_seat(), other.into_seat());
     Ok(())
 }

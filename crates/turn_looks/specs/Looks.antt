@@ -1,5 +1,5 @@
 -- What the looks of one call add to a seat's own entries.
-use Rattle.std.specs.Prelude.{◌≡◌, ◌≢◌, ℕ, ◌+◌, ◌<◌, ◌≤◌, ◌^◌, ◌==◌, Bool, true, false, List, [], ◌∷◌, ◌++◌, Option, MatchOption, replicate}
+use Rattle.std.specs.Prelude.{◌≡◌, ◌≢◌, ℕ, ◌+◌, ◌<◌, ◌≤◌, ◌^◌, ◌==◌, Bool, false, List, [], ◌∷◌, ◌++◌, Option, MatchOption, replicate}
 use Rattle.history.specs.declared.entries.Entry.{Entry}
 use Rattle.history.specs.Histories.{entry}
 use Rattle.turn_cell.specs.Seats.{SeatView}

@@ -1,4 +1,4 @@
-use Rattle.std.proofs.Common.{◌≡◌, length, vec_len, refl, sym, ap, subst, ◌∙◌, rules, List, []}
+use Rattle.std.proofs.Common.{◌≡◌, length, vec_len, refl, sym, ap, subst, rules}
 use Rattle.handle_pool.specs.Slots.{Slots, get, NoneLive, Inserts}
 use Rattle.mcapi_msg.specs.declared.boxes.Mailbox.{Mailbox}
 use Rattle.mcapi_msg.specs.Rings.{RingTable, empty_rings}

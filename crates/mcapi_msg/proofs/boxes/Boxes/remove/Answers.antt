@@ -1,5 +1,4 @@
-use Rattle.std.proofs.Common.{◌≡◌, length, vec_len, refl, sym, ap, ◌∙◌, rules, Some}
-use Rattle.handle_pool.specs.Slots.{get}
+use Rattle.std.proofs.Common.{◌≡◌, length, vec_len, sym, ◌∙◌, rules}
 use Rattle.mcapi_msg.proofs.BoxLemmas.{kept-without, reserve_fits}
 use Rattle.mcapi_msg.proofs.boxes.Boxes.remove.Goals as goal
 

@@ -1,4 +1,4 @@
-use Rattle.std.proofs.Common.{◌≡◌, subst}
+use Rattle.std.proofs.Common.{subst}
 use Rattle.std.specs.Prelude.{IfOk, OnErr}
 use Rattle.mtapi_values.specs.Timeouts.{looks_of}
 use Rattle.turn_looks.specs.Looks.{Looked}
