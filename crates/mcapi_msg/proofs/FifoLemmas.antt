@@ -1,0 +1,281 @@
+-- What waits at an endpoint of one sender with one priority is what was sent and not yet received.
+use Rattle.std.proofs.Common.{◌≡◌, ℕ, ◌+◌, Bool, true, false, cond, ◌&&◌, List, [], ◌∷◌, ◌++◌, Option, Some, None, refl, sym, ap, subst, ◌∙◌, arith, append_assoc}
+use Rattle.std.specs.Prelude.{◌==◌, nat_le}
+use Rattle.std.proofs.lemmas.List.{append-nil}
+use Rattle.std.proofs.lemmas.Bool.{eqb-true}
+use Rattle.history.specs.Histories.{StartsWith}
+use Rattle.handle_pool.specs.Slots.{generation_of}
+use Rattle.handle_pool.specs.Issued.{Listed, how_many, live_of, lookup, at, first_live, listed, issued_at, may_issue, issue, update, retire, with_fields, gone}
+use Rattle.handle_pool.specs.Stands.{Distinct}
+use Rattle.handle_pool.proofs.ListedLemmas.{at-issue, at-update, at-retire, Distinct-issue, Distinct-update, Distinct-retire, listed-issue, listed-change}
+use Rattle.mcapi_msg.specs.declared.messages.EndpointHandle.{EndpointHandle}
+use Rattle.mcapi_msg.specs.declared.messages.Waiting.{Waiting}
+use Rattle.mcapi_msg.specs.declared.ops.MsgOp.{MsgOp}
+use Rattle.mcapi_msg.specs.declared.ops.MsgOp.TheVariants as op
+use Rattle.mcapi_msg.specs.declared.ops.MsgReply.{MsgReply}
+use Rattle.mcapi_msg.specs.declared.post.PostTerms.{PostTerms}
+use Rattle.mcapi_msg.specs.Endpoints.{last_generation, Endpoint, new_endpoint, has_port, message, next_of, without_first, of_priority, with_message, with_first_gone}
+use Rattle.mcapi_msg.specs.Row.{State, opening, Move, after_moves, Row, unless, gives, never, says, only, given, Allows, moves_of, handle_of, opens}
+use Rattle.mcapi_msg.specs.Rows.{row, names, nothing}
+use Rattle.mcapi_msg.specs.Legal.{MsgEntry, IsNext, row_of, next, LegalFrom, Legal}
+use Rattle.mcapi_msg.specs.Fifo.{put_by, got_by, sent_to, received_at}
+use Rattle.mcapi_msg.proofs.RingLemmas.{IsFirst, first-is, of-more, of-without, dropped}
+
+-- a reply and the moves that a row gives
+abbrev pub AllGives : (MsgReply → List Move → Type 0) → Row → Type 0
+AllGives P (unless c x w) = P x [] × AllGives P w
+AllGives P (gives x ms) = P x ms
+AllGives P never = Unit {0}
+
+pub gives_so : (P : MsgReply → List Move → Type 0) (w : Row) (r : MsgReply) → AllGives P w → Allows w r → P r (moves_of w)
+gives_so P (unless true x w) r a h = subst (λ (y : MsgReply). P y []) (sym h) a.0
+gives_so P (unless false x w) r a h = gives_so P w r a.1 h
+gives_so P (gives x ms) r a h = subst (λ (y : MsgReply). P y ms) (sym h) a
+gives_so P never r a h = absurd h
+
+pub on_given : {T : Type 0} (P : MsgReply → List Move → Type 0) (o : Option T) (x : MsgReply) (f : T → Row) → P x [] → ((y : T) → o ≡ Some y → AllGives P (f y)) → AllGives P (given o (says x) f)
+on_given P None x f p q = p
+on_given P (Some y) x f p q = q y refl
+
+pub on_only : (P : MsgReply → List Move → Type 0) (b : Bool) (w : Row) → (b ≡ true → AllGives P w) → AllGives P (only b w)
+on_only P true w a = a refl
+on_only P false w a = tt
+
+-- the bytes of the messages of this sender
+abbrev from : ℕ → List Waiting → List (List ℕ)
+from sender [] = []
+from sender (w ∷ ws) = cond (w.sender == sender) (w.msg ∷ from sender ws) (from sender ws)
+
+from-more : (sender : ℕ) (w : Waiting) (ws : List Waiting) → from sender (ws ++ w ∷ []) ≡ from sender ws ++ cond (w.sender == sender) (w.msg ∷ []) []
+from-more sender w [] = pick (w.sender == sender)
+  where
+    pick : (b : Bool) → cond b (w.msg ∷ []) [] ≡ [] ++ cond b (w.msg ∷ []) []
+    pick true = refl
+    pick false = refl
+from-more sender w (x ∷ ws) = pick (x.sender == sender) (from-more sender w ws)
+  where
+    pick : (b : Bool) → from sender (ws ++ w ∷ []) ≡ from sender ws ++ cond (w.sender == sender) (w.msg ∷ []) [] → cond b (x.msg ∷ from sender (ws ++ w ∷ [])) (from sender (ws ++ w ∷ [])) ≡ cond b (x.msg ∷ from sender ws) (from sender ws) ++ cond (w.sender == sender) (w.msg ∷ []) []
+    pick true e = ap (λ (l : List (List ℕ)). x.msg ∷ l) e
+    pick false e = e
+
+-- those that wait, of one sender with one priority
+abbrev flow : ℕ → ℕ → List Waiting → List (List ℕ)
+flow sender priority ws = from sender (of_priority priority ws)
+
+flow-more : (sender priority who p : ℕ) (msg : List ℕ) (ws : List Waiting) → flow sender priority (ws ++ message who p msg ∷ []) ≡ flow sender priority ws ++ cond ((who == sender) && (p == priority)) (msg ∷ []) []
+flow-more sender priority who p msg ws =
+    ap (from sender) (of-more priority (message who p msg) ws) ∙ pick (p == priority) (who == sender) (from-more sender (message who p msg) (of_priority priority ws))
+  where
+    pick : (b c : Bool) → from sender (of_priority priority ws ++ message who p msg ∷ []) ≡ from sender (of_priority priority ws) ++ cond c (msg ∷ []) [] → from sender (cond b (of_priority priority ws ++ message who p msg ∷ []) (of_priority priority ws)) ≡ from sender (of_priority priority ws) ++ cond (c && b) (msg ∷ []) []
+    pick true true e = e
+    pick true false e = e
+    pick false true e = sym (append-nil (from sender (of_priority priority ws)))
+    pick false false e = sym (append-nil (from sender (of_priority priority ws)))
+
+flow-first : (sender priority : ℕ) (w : Waiting) (ws : List Waiting) → IsFirst w ws → flow sender priority ws ≡ cond ((w.sender == sender) && (w.priority == priority)) (w.msg ∷ []) [] ++ flow sender priority (without_first w.priority ws)
+flow-first sender priority w ws f = pick (w.priority == priority) refl (w.sender == sender) refl
+  where
+    kept : (l : List Waiting) → dropped false l ≡ l
+    kept [] = refl
+    kept (x ∷ l) = refl
+
+    left : (b : Bool) → (w.priority == priority) ≡ b → flow sender priority (without_first w.priority ws) ≡ from sender (dropped b (of_priority priority ws))
+    left b e = ap (from sender) (of-without w.priority priority ws ∙ ap (λ c. dropped c (of_priority priority ws)) e)
+
+    front : (w.priority == priority) ≡ true → of_priority priority ws ≡ w ∷ f.rest
+    front e = ap (λ (n : ℕ). of_priority n ws) (sym (eqb-true w.priority priority e)) ∙ f.front
+
+    pick : (b : Bool) → (w.priority == priority) ≡ b → (c : Bool) → (w.sender == sender) ≡ c → flow sender priority ws ≡ cond (c && b) (w.msg ∷ []) [] ++ flow sender priority (without_first w.priority ws)
+    pick true e true g =
+        ap (from sender) (front e) ∙ (ap (λ b. cond b (w.msg ∷ from sender f.rest) (from sender f.rest)) g
+        ∙ ap (λ (l : List (List ℕ)). w.msg ∷ l) (sym (left true e ∙ ap (λ (l : List Waiting). from sender (dropped true l)) (front e))))
+    pick true e false g =
+        ap (from sender) (front e) ∙ (ap (λ b. cond b (w.msg ∷ from sender f.rest) (from sender f.rest)) g
+        ∙ sym (left true e ∙ ap (λ (l : List Waiting). from sender (dropped true l)) (front e)))
+    pick false e true g = sym (left false e ∙ ap (from sender) (kept (of_priority priority ws)))
+    pick false e false g = sym (left false e ∙ ap (from sender) (kept (of_priority priority ws)))
+
+-- a handle that was never issued isn't live
+unlisted : (h : ℕ) (l : List (Listed Endpoint)) → listed h l ≡ 0 → at l h ≡ None
+unfolding listed live_of
+unlisted h [] e = refl
+unlisted h (r ∷ rs) e = pick (r.handle == h) refl r.live e (λ k. unlisted h rs k)
+  where
+    pick : (b : Bool) → (r.handle == h) ≡ b → (live : Bool) → cond b 1 0 + how_many (λ x. x.handle == h) rs ≡ 0 → (how_many (λ x. x.handle == h) rs ≡ 0 → at rs h ≡ None) → lookup (cond live ((r.handle, r.fields) ∷ live_of rs) (live_of rs)) h ≡ None
+    pick true is live k more = absurd (omega arith)
+    pick false is true k more = ap (λ b. cond b (Some r.fields) (at rs h)) is ∙ more (omega arith)
+    pick false is false k more = more (omega arith)
+
+issued_new : (last h : ℕ) (l : List (Listed Endpoint)) → may_issue last h l ≡ true → listed h l ≡ 0
+unfolding may_issue
+issued_new last h l e = is_zero (listed h l) (nat_le (generation_of h) last) (generation_of h == issued_at h l + 1) e
+  where
+    is_zero : (n : ℕ) (b c : Bool) → ((n == 0) && b && c) ≡ true → n ≡ 0
+    is_zero n b c e = eqb-true n 0 (front (n == 0) b c e)
+      where
+        front : (a b c : Bool) → (a && b && c) ≡ true → a ≡ true
+        front true b c e = refl
+        front false b c e = absurd (cc)
+
+module _ (endpoint : EndpointHandle) (sender priority : ℕ) where
+  -- of what was sent, what wasn't received waits there, in its order, while the endpoint is live
+  record Flows (l : List (Listed Endpoint)) (sent got : List (List ℕ)) : Type 0 where
+    distinct : Distinct (live_of l)
+    live : (e : Endpoint) → at l endpoint.0 ≡ Some e → sent ≡ got ++ flow sender priority e.waiting
+    begins : StartsWith sent got
+    unissued : listed endpoint.0 l ≡ 0 → (sent ≡ []) × (got ≡ [])
+
+  -- an entry that puts and receives nothing there, and leaves the endpoints
+  stays : (l : List (Listed Endpoint)) (sent got : List (List ℕ)) → Flows l sent got → Flows l (sent ++ []) (got ++ [])
+  stays l sent got f = subst (λ (x : List (List ℕ)). Flows l x (got ++ [])) (sym (append-nil sent)) (subst (λ (x : List (List ℕ)). Flows l sent x) (sym (append-nil got)) f)
+
+  same_some : (x y : Endpoint) → Some x ≡ Some y → x ≡ y
+  same_some x y e = cc
+
+  -- where the endpoint is live, what waits there tells all
+  flows-live : (l : List (Listed Endpoint)) (sent got : List (List ℕ)) (x : Endpoint) → Distinct (live_of l) → at l endpoint.0 ≡ Some x → sent ≡ got ++ flow sender priority x.waiting → Flows l sent got
+  flows-live l sent got x d is e = record {
+    distinct = d;
+    live = λ y k. e ∙ ap (λ (z : Endpoint). got ++ flow sender priority z.waiting) (same_some x y (sym is ∙ k));
+    begins = (flow sender priority x.waiting, e);
+    unissued = λ k. let none = sym is ∙ unlisted endpoint.0 l k in absurd (cc);
+  }
+
+  -- where the endpoint is as it was
+  flows-other : (l m : List (Listed Endpoint)) (sent got : List (List ℕ)) → Flows l sent got → Distinct (live_of m) → at m endpoint.0 ≡ at l endpoint.0 → (listed endpoint.0 m ≡ 0 → listed endpoint.0 l ≡ 0) → Flows m sent got
+  flows-other l m sent got f d same count = record {
+    distinct = d;
+    live = λ y k. f.live y (sym same ∙ k);
+    begins = f.begins;
+    unissued = λ k. f.unissued (count k);
+  }
+
+  -- where the endpoint isn't live any more
+  flows-gone : (l m : List (Listed Endpoint)) (sent got : List (List ℕ)) → Flows l sent got → Distinct (live_of m) → at m endpoint.0 ≡ None → (listed endpoint.0 m ≡ 0 → listed endpoint.0 l ≡ 0) → Flows m sent got
+  flows-gone l m sent got f d none count = record {
+    distinct = d;
+    live = λ y k. let no = sym none ∙ k in absurd (cc);
+    begins = f.begins;
+    unissued = λ k. f.unissued (count k);
+  }
+
+  flows-issue : (l : List (Listed Endpoint)) (sent got : List (List ℕ)) (h port who : ℕ) → Flows l sent got → may_issue last_generation h l ≡ true → Flows (issue h (new_endpoint port who) l) sent got
+  flows-issue l sent got h port who f may = pick (h == endpoint.0) refl
+    where
+      new : listed h l ≡ 0
+      new = issued_new last_generation h l may
+
+      off : at l h ≡ None
+      off = unlisted h l (issued_new last_generation h l may)
+
+      now : at (issue h (new_endpoint port who) l) endpoint.0 ≡ cond (h == endpoint.0) (Some (new_endpoint port who)) (at l endpoint.0)
+      now = at-issue h endpoint.0 (new_endpoint port who) l (unlisted h l (issued_new last_generation h l may))
+
+      distinct : Distinct (live_of (issue h (new_endpoint port who) l))
+      distinct = Distinct-issue h (new_endpoint port who) l f.distinct (unlisted h l (issued_new last_generation h l may))
+
+      pick : (b : Bool) → (h == endpoint.0) ≡ b → Flows (issue h (new_endpoint port who) l) sent got
+      pick true e =
+          let none = f.unissued (ap (λ (n : ℕ). listed n l) (sym (eqb-true h endpoint.0 e)) ∙ new) in
+          flows-live _ sent got (new_endpoint port who) distinct (now ∙ ap (λ b. cond b (Some (new_endpoint port who)) (at l endpoint.0)) e) (none.0 ∙ ap (λ (x : List (List ℕ)). x ++ []) (sym none.1))
+      pick false e =
+          flows-other l _ sent got f distinct (now ∙ ap (λ b. cond b (Some (new_endpoint port who)) (at l endpoint.0)) e)
+          (λ k. let more = listed-issue endpoint.0 h (new_endpoint port who) l in omega (arith, more, k))
+
+  -- the live endpoint k changes, and keeps its handle
+  now_updated : (l : List (Listed Endpoint)) (k : ℕ) (g : Endpoint → Endpoint) (e : Endpoint) (b : Bool) → at l k ≡ Some e → (k == endpoint.0) ≡ b → at (update k g l) endpoint.0 ≡ cond b (Some (g e)) (at l endpoint.0)
+  now_updated l k g e b is same = at-update k endpoint.0 g e l is ∙ ap (λ c. cond c (Some (g e)) (at l endpoint.0)) same
+
+  here : (l : List (Listed Endpoint)) (k : ℕ) (e : Endpoint) → at l k ≡ Some e → (k == endpoint.0) ≡ true → at l endpoint.0 ≡ Some e
+  here l k e is same = ap (at l) (sym (eqb-true k endpoint.0 same)) ∙ is
+
+  flows-put : (l : List (Listed Endpoint)) (sent got : List (List ℕ)) (k who p : ℕ) (msg : List ℕ) (e : Endpoint) → Flows l sent got → at l k ≡ Some e → Flows (update k (with_message (message who p msg)) l) (sent ++ cond ((k == endpoint.0) && ((who == sender) && (p == priority))) (msg ∷ []) []) (got ++ [])
+  flows-put l sent got k who p msg e f is = pick (k == endpoint.0) refl
+    where
+      put : List (List ℕ)
+      put = cond ((who == sender) && (p == priority)) (msg ∷ []) []
+
+      distinct : Distinct (live_of (update k (with_message (message who p msg)) l))
+      distinct = Distinct-update k (with_message (message who p msg)) l f.distinct
+
+      pick : (b : Bool) → (k == endpoint.0) ≡ b → Flows (update k (with_message (message who p msg)) l) (sent ++ cond (b && ((who == sender) && (p == priority))) (msg ∷ []) []) (got ++ [])
+      pick true same =
+          flows-live _ _ _ (with_message (message who p msg) e) distinct (now_updated l k (with_message (message who p msg)) e true is same)
+          (ap (λ (x : List (List ℕ)). x ++ cond ((who == sender) && (p == priority)) (msg ∷ []) []) (f.live e (here l k e is same))
+          ∙ (append_assoc got (flow sender priority e.waiting) (cond ((who == sender) && (p == priority)) (msg ∷ []) [])
+          ∙ (ap (λ (x : List (List ℕ)). got ++ x) (sym (flow-more sender priority who p msg e.waiting))
+          ∙ ap (λ (x : List (List ℕ)). x ++ flow sender priority (e.waiting ++ message who p msg ∷ [])) (sym (append-nil got)))))
+      pick false same =
+          stays _ sent got (flows-other l _ sent got f distinct (now_updated l k (with_message (message who p msg)) e false is same) (λ n. sym (listed-change endpoint.0 k (with_fields (with_message (message who p msg))) (λ r. refl) l) ∙ n))
+
+  flows-take : (l : List (Listed Endpoint)) (sent got : List (List ℕ)) (k : ℕ) (w : Waiting) (e : Endpoint) → Flows l sent got → at l k ≡ Some e → next_of e.waiting ≡ Some w
+      → Flows (update k (with_first_gone w.priority) l) (sent ++ []) (got ++ cond ((k == endpoint.0) && ((w.sender == sender) && (w.priority == priority))) (w.msg ∷ []) [])
+  flows-take l sent got k w e f is first = pick (k == endpoint.0) refl
+    where
+      distinct : Distinct (live_of (update k (with_first_gone w.priority) l))
+      distinct = Distinct-update k (with_first_gone w.priority) l f.distinct
+
+      pick : (b : Bool) → (k == endpoint.0) ≡ b → Flows (update k (with_first_gone w.priority) l) (sent ++ []) (got ++ cond (b && ((w.sender == sender) && (w.priority == priority))) (w.msg ∷ []) [])
+      pick true same =
+          flows-live _ _ _ (with_first_gone w.priority e) distinct (now_updated l k (with_first_gone w.priority) e true is same)
+          (append-nil sent
+          ∙ (f.live e (here l k e is same)
+          ∙ (ap (λ (x : List (List ℕ)). got ++ x) (flow-first sender priority w e.waiting (first-is e.waiting w first))
+          ∙ sym (append_assoc got (cond ((w.sender == sender) && (w.priority == priority)) (w.msg ∷ []) []) (flow sender priority (without_first w.priority e.waiting))))))
+      pick false same =
+          stays _ sent got (flows-other l _ sent got f distinct (now_updated l k (with_first_gone w.priority) e false is same) (λ n. sym (listed-change endpoint.0 k (with_fields (with_first_gone w.priority)) (λ r. refl) l) ∙ n))
+
+  flows-shut : (l : List (Listed Endpoint)) (sent got : List (List ℕ)) (k : ℕ) → Flows l sent got → Flows (retire k l) sent got
+  flows-shut l sent got k f = pick (k == endpoint.0) refl
+    where
+      count : listed endpoint.0 (retire k l) ≡ 0 → listed endpoint.0 l ≡ 0
+      count n = sym (listed-change endpoint.0 k gone (λ r. refl) l) ∙ n
+
+      pick : (b : Bool) → (k == endpoint.0) ≡ b → Flows (retire k l) sent got
+      pick true same = flows-gone l _ sent got f (Distinct-retire k l f.distinct) (at-retire k endpoint.0 l f.distinct ∙ ap (λ b. cond b None (at l endpoint.0)) same) count
+      pick false same = flows-other l _ sent got f (Distinct-retire k l f.distinct) (at-retire k endpoint.0 l f.distinct ∙ ap (λ b. cond b None (at l endpoint.0)) same) count
+
+  -- what an entry with this reply and these moves leaves
+  abbrev After : State → ℕ → MsgOp → List (List ℕ) → List (List ℕ) → MsgReply → List Move → Type 0
+  After s who o sent got r ms = Flows (after_moves ms s).endpoints (sent ++ put_by endpoint sender priority who o r) (got ++ got_by endpoint sender priority o r)
+
+  looked : (last : Bool) (s : State) (who : ℕ) (h : EndpointHandle) (sent got : List (List ℕ)) → Flows s.endpoints sent got → After s who (op.Recv h last) sent got (nothing last) []
+  looked true s who h sent got f = stays s.endpoints sent got f
+  looked false s who h sent got f = stays s.endpoints sent got f
+
+  row_flows : (s : State) (who : ℕ) (o : MsgOp) (r : MsgReply) (sent got : List (List ℕ)) → Flows s.endpoints sent got → AllGives (After s who o sent got) (row s who o r)
+  row_flows s who (op.Open port) r sent got f = (
+    stays _ sent got f,
+    (stays _ sent got f, on_only (After s who (op.Open port) sent got) (may_issue last_generation (handle_of r) s.endpoints) (gives (names (handle_of r)) (opens (handle_of r) (new_endpoint port who) ∷ [])) (λ may. stays _ sent got (flows-issue s.endpoints sent got (handle_of r) port who f may))),
+  )
+  row_flows s who (op.Find port) r sent got f = on_given (After s who (op.Find port) sent got) (first_live (has_port port) (live_of s.endpoints)) _ _ (stays _ sent got f) (λ h is. stays _ sent got f)
+  row_flows s who (op.Send to p msg) r sent got f =
+      on_given (After s who (op.Send to p msg) sent got) (at s.endpoints to.0) _ _ (stays _ sent got f) (λ e is. (stays _ sent got f, (stays _ sent got f, flows-put s.endpoints sent got to.0 who p msg e f is)))
+  row_flows s who (op.Recv h last) r sent got f =
+      on_given (After s who (op.Recv h last) sent got) (at s.endpoints h.0) _ _ (stays _ sent got f)
+      (λ e is. (stays _ sent got f, on_given (After s who (op.Recv h last) sent got) (next_of e.waiting) _ _ (looked last s who h sent got f) (λ w first. flows-take s.endpoints sent got h.0 w e f is first)))
+  row_flows s who (op.Shut h) r sent got f =
+      on_given (After s who (op.Shut h) sent got) (at s.endpoints h.0) _ _ (stays _ sent got f) (λ e is. (stays _ sent got f, stays _ sent got (flows-shut s.endpoints sent got h.0 f)))
+
+  step : (s : State) (e : MsgEntry) (sent got : List (List ℕ)) → IsNext s e → Flows s.endpoints sent got → Flows (next s e).endpoints (sent ++ put_by endpoint sender priority e.who e.op e.reply) (got ++ got_by endpoint sender priority e.op e.reply)
+  step s e sent got n f = gives_so (After s e.who e.op sent got) (row_of s e) e.reply (row_flows s e.who e.op e.reply sent got f) n.allowed
+
+  along : (s : State) (L : List MsgEntry) (sent got : List (List ℕ)) → LegalFrom s L → Flows s.endpoints sent got → StartsWith (sent ++ sent_to endpoint sender priority L) (got ++ received_at endpoint sender priority L)
+  unfolding LegalFrom sent_to received_at
+  along s [] sent got h f = (f.begins.0, append-nil sent ∙ (f.begins.1 ∙ ap (λ (x : List (List ℕ)). x ++ f.begins.0) (sym (append-nil got))))
+  along s (e ∷ L) sent got h f =
+      let more = along (next s e) L (sent ++ put_by endpoint sender priority e.who e.op e.reply) (got ++ got_by endpoint sender priority e.op e.reply) h.1 (step s e sent got h.0 f) in (
+        more.0,
+        sym (append_assoc sent (put_by endpoint sender priority e.who e.op e.reply) (sent_to endpoint sender priority L))
+            ∙ (more.1 ∙ ap (λ (x : List (List ℕ)). x ++ more.0) (append_assoc got (got_by endpoint sender priority e.op e.reply) (received_at endpoint sender priority L))),
+      )
+
+  -- the law
+  pub in_order : (t : PostTerms) (L : List MsgEntry) → Legal t L → StartsWith (sent_to endpoint sender priority L) (received_at endpoint sender priority L)
+  unfolding live_of listed
+  in_order t L h = along (opening t) L [] [] h.from (record {
+    distinct = tt;
+    live = λ e k. absurd (cc);
+    begins = ([], refl);
+    unissued = λ k. (refl, refl);
+  })

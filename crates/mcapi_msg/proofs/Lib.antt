@@ -1,0 +1,10 @@
+mod Replays
+mod Worked
+mod BoxLemmas
+mod Relisted
+mod RingLemmas
+mod PostSteps
+pub mod Histories
+mod PostStands
+mod Said
+mod FifoLemmas

@@ -1,0 +1,230 @@
+-- What the calls of a mailer answer follows from the rows of their ops.
+use Rattle.std.proofs.Common.{◌≡◌, ◌≢◌, ◌⊎◌, ℕ, ◌+◌, ◌<◌, Bool, true, false, List, [], ◌∷◌, ◌++◌, Option, Some, None, Result, Ok, Err, inl, inr, refl, sym, ◌∙◌, ap, subst, arith}
+use Rattle.std.specs.Prelude.{IfOk, OnErr, MatchOption, ◌==◌}
+use Rattle.std.proofs.lemmas.Bool.Decides.{nat_tests}
+use Rattle.std.proofs.lemmas.Result.{IfOk-weaker}
+use Rattle.history.specs.Histories.{entry}
+use Rattle.handle_pool.specs.Issued.{live_of, at, first_live, may_issue}
+use Rattle.turn_looks.specs.Turns.{SameSeat, Turned, Unturned}
+use Rattle.turn_looks.specs.Looks.{pends, Looked}
+use Rattle.mcapi_msg.specs.declared.messages.EndpointHandle.{EndpointHandle}
+use Rattle.mcapi_msg.specs.declared.messages.Waiting.{Waiting}
+use Rattle.mcapi_msg.specs.declared.ops.MsgOp.{MsgOp}
+use Rattle.mcapi_msg.specs.declared.ops.MsgOp.TheVariants as op
+use Rattle.mcapi_msg.specs.declared.ops.MsgReply.{MsgReply}
+use Rattle.mcapi_msg.specs.declared.ops.MsgReply.TheVariants as reply
+use Rattle.mcapi_msg.specs.declared.statuses.MsgStatus.{MsgStatus}
+use Rattle.mcapi_msg.specs.declared.statuses.MsgStatus.TheVariants as status
+use Rattle.mcapi_msg.specs.Endpoints.{last_generation, new_endpoint, has_port, next_of}
+use Rattle.mcapi_msg.specs.Row.{State, opening, Row, unless, gives, never, says, only, given, opens, handle_of, Allows}
+use Rattle.mcapi_msg.specs.Rows.{row, names, nothing}
+use Rattle.mcapi_msg.specs.Legal.{MsgEntry, IsNext, LegalFrom, Legal}
+use Rattle.mcapi_msg.specs.Answers.{Seat, is_spent, Done, Names, Hands, state_at, IsAnswer, AnsweredBy, Called, look_for, Looks, RanOut, Received, TimedOut}
+use Rattle.mcapi_msg.proofs.Histories.{Legal-rest, first-legal}
+
+-- each reply of the row is so
+abbrev pub AllSays : (MsgReply → Type 0) → Row → Type 0
+AllSays P (unless c x w) = P x × AllSays P w
+AllSays P (gives x ms) = P x
+AllSays P never = Unit {0}
+
+pub said : (P : MsgReply → Type 0) (w : Row) (r : MsgReply) → AllSays P w → Allows w r → P r
+said P (unless true x w) r a h = subst P (sym h) a.0
+said P (unless false x w) r a h = said P w r a.1 h
+said P (gives x ms) r a h = subst P (sym h) a
+said P never r a h = absurd h
+
+on_given : {T : Type 0} (P : MsgReply → Type 0) (o : Option T) (x : MsgReply) (f : T → Row) → P x → ((y : T) → AllSays P (f y)) → AllSays P (given o (says x) f)
+on_given P None x f p q = p
+on_given P (Some y) x f p q = q y
+
+on_only : (P : MsgReply → Type 0) (b : Bool) (w : Row) → AllSays P w → AllSays P (only b w)
+on_only P true w a = a
+on_only P false w a = tt
+
+-- the turn's entry is one that may come next
+next_at : (old new : Seat) (o : MsgOp) (r : MsgReply) (t : Turned Legal old o r new) → IsNext (state_at old new o r t) (entry old.number o r)
+next_at old new o r t =
+    first-legal _ _ (Legal-rest (opening new.terms) (old.seen ++ t.between) (entry old.number o r ∷ []) (subst (λ (l : List MsgEntry). LegalFrom (opening new.terms) l) t.seen t.lawful.from))
+
+pub by_row : (old new : Seat) (o : MsgOp) (r : MsgReply) (t : Turned Legal old o r new) → Allows (row (state_at old new o r t) old.number o r) r
+by_row old new o r t = (next_at old new o r t).allowed
+
+module _ {A : Type 0} (P : MsgReply → Result A MsgStatus → Type 0) (o : MsgOp) (all : (s : State) (who : ℕ) (r : MsgReply) → AllSays (IsAnswer P) (row s who o r)) where
+  -- there is an answer to the reply of each turn
+  pub has_answer : (old new : Seat) (x : Result MsgReply ℕ) → IfOk x (λ r. Turned Legal old o r new) → IfOk x (IsAnswer P)
+  has_answer old new x k =
+      IfOk-weaker x (λ r. Turned Legal old o r new) (IsAnswer P)
+      (λ r t. said (IsAnswer P) (row (state_at old new o r t) old.number o r) r (all (state_at old new o r t) old.number r) (by_row old new o r t)) k
+
+pub called : {A : Type 0} (P : MsgReply → Result A MsgStatus → Type 0) (o : MsgOp) (old new : Seat) (y : Result MsgReply ℕ) (x : Result A MsgStatus) → IfOk y (λ r. Turned Legal old o r new) → OnErr y (Unturned old new) → AnsweredBy P y x → Called P o old new x
+called P o old new (Ok r) x t u a = inl (record { said = r; turned = t; by_row = by_row old new o r t; answer = a })
+called P o old new (Err s) x t u a = inr (u, a)
+
+names_code : (c : MsgStatus) → is_spent c ≡ false → IsAnswer Names (reply.Refused c)
+names_code c e = (Err c, (refl, e))
+
+done_code : (c : MsgStatus) → is_spent c ≡ false → IsAnswer Done (reply.Refused c)
+done_code c e = (Err c, (refl, e))
+
+hands_code : (c : MsgStatus) → is_spent c ≡ false → IsAnswer Hands (reply.Refused c)
+hands_code c e = (Err c, (refl, e))
+
+pub open_says : (port : ℕ) (s : State) (who : ℕ) (r : MsgReply) → AllSays (IsAnswer Names) (row s who (op.Open port) r)
+open_says port s who r =
+    let answer : IsAnswer Names (names (handle_of r)) = (Ok (record { 0 = handle_of r }), refl) in
+    (names_code _ refl, (names_code _ refl, on_only (IsAnswer Names) (may_issue last_generation (handle_of r) s.endpoints) (gives (names (handle_of r)) (opens (handle_of r) (new_endpoint port who) ∷ [])) answer))
+
+pub find_says : (port : ℕ) (s : State) (who : ℕ) (r : MsgReply) → AllSays (IsAnswer Names) (row s who (op.Find port) r)
+find_says port s who r = on_given (IsAnswer Names) (first_live (has_port port) (live_of s.endpoints)) _ _ (names_code _ refl) (λ h. (Ok (record { 0 = h }), refl))
+
+pub send_says : (to : EndpointHandle) (priority : ℕ) (msg : List ℕ) (s : State) (who : ℕ) (r : MsgReply) → AllSays (IsAnswer Done) (row s who (op.Send to priority msg) r)
+send_says to priority msg s who r = on_given (IsAnswer Done) (at s.endpoints to.0) _ _ (done_code _ refl) (λ e. (done_code _ refl, (done_code _ refl, (Ok tt, refl))))
+
+pub shut_says : (h : EndpointHandle) (s : State) (who : ℕ) (r : MsgReply) → AllSays (IsAnswer Done) (row s who (op.Shut h) r)
+shut_says h s who r = on_given (IsAnswer Done) (at s.endpoints h.0) _ _ (done_code _ refl) (λ e. (done_code _ refl, (Ok tt, refl)))
+
+-- a look gives a message or a status, or Pending where more looks may come; Timeout comes with the last one
+record LookSays (last : Bool) (r : MsgReply) : Type 0 where
+  answers : r ≢ reply.Pending → IsAnswer Hands r
+  pends : r ≡ reply.Pending → last ≡ false
+  late : r ≡ reply.Refused status.Timeout → last ≡ true
+
+status_of : MsgReply → MsgStatus
+status_of (reply.Refused c) = c
+status_of _ = status.Spent
+
+is_late : MsgStatus → Bool
+is_late status.Timeout = true
+is_late _ = false
+
+is_pending : MsgReply → Bool
+is_pending reply.Pending = true
+is_pending _ = false
+
+late_no : (c : MsgStatus) → is_late c ≡ false → reply.Refused c ≡ reply.Refused status.Timeout → ⊥
+unfolding is_late status_of
+late_no c e k = let same = ap (λ x. is_late (status_of x)) k in absurd (cc)
+
+refusal_says : (last : Bool) (c : MsgStatus) → is_spent c ≡ false → is_late c ≡ false → LookSays last (reply.Refused c)
+unfolding is_pending
+refusal_says last c e l = record {
+  answers = λ n. hands_code c e;
+  pends = λ k. absurd (not_pending (ap is_pending k));
+  late = λ k. absurd (late_no c l k);
+}
+  where
+    not_pending : false ≡ true → ⊥
+    not_pending k = cc
+
+nothing_says : (last : Bool) → LookSays last (nothing last)
+unfolding is_pending status_of is_late
+nothing_says true = record { answers = λ n. hands_code _ refl; pends = λ k. absurd (no (ap is_pending k)); late = λ k. refl }
+  where
+    no : false ≡ true → ⊥
+    no k = cc
+nothing_says false = record { answers = λ n. absurd (n refl); pends = λ k. refl; late = λ k. absurd (no (ap is_pending k)) }
+  where
+    no : true ≡ false → ⊥
+    no k = cc
+
+got_says : (last : Bool) (w : Waiting) → LookSays last (reply.Got w.sender w.priority w.msg)
+got_says last w = record { answers = λ n. (Ok _, refl); pends = λ k. absurd (cc); late = λ k. absurd (cc) }
+
+look_says : (h : EndpointHandle) (last : Bool) (s : State) (who : ℕ) (r : MsgReply) → AllSays (LookSays last) (row s who (look_for h last) r)
+unfolding is_late
+look_says h last s who r =
+    on_given (LookSays last) (at s.endpoints h.0) _ _ (refusal_says last _ refl refl)
+    (λ e. (refusal_says last _ refl refl, on_given (LookSays last) (next_of e.waiting) _ _ (nothing_says last) (λ w. got_says last w)))
+
+at_look : (h : EndpointHandle) (limit : Option ℕ) (old new : Seat) (r : MsgReply) (l : Looked Legal (look_for h) reply.Pending limit old new r) → LookSays l.last r
+at_look h limit old new r l =
+    said (LookSays l.last) _ r (look_says h l.last (state_at l.before new (look_for h l.last) r l.turned) l.before.number r) (by_row l.before new (look_for h l.last) r l.turned)
+
+pending_apart : (r : MsgReply) → (r ≡ reply.Pending) ⊎ (r ≢ reply.Pending)
+pending_apart reply.Pending = inl refl
+pending_apart reply.Ok = inr (λ k. cc)
+pending_apart (reply.Handle h) = inr (λ k. cc)
+pending_apart (reply.Got a b m) = inr (λ k. cc)
+pending_apart (reply.Refused c) = inr (λ k. cc)
+
+pub look_answer : (h : EndpointHandle) (limit : Option ℕ) (old new : Seat) (x : Result MsgReply ℕ) → IfOk x (λ r. Looked Legal (look_for h) reply.Pending limit old new r) → IfOk x (IsAnswer Hands)
+look_answer h limit old new x k =
+    IfOk-weaker x (λ r. Looked Legal (look_for h) reply.Pending limit old new r) (IsAnswer Hands)
+    (λ r l. elim (pending_apart r) [
+      | inl pending ↦ absurd (l.decides ((at_look h limit old new r l).pends pending) pending)
+      | inr other ↦ (at_look h limit old new r l).answers other
+    ]) k
+
+looks : (h : EndpointHandle) (limit : Option ℕ) (old new : Seat) (r : MsgReply) (x : Result (ℕ × ℕ × List ℕ) MsgStatus) → Looked Legal (look_for h) reply.Pending limit old new r → Hands r x → Looks h limit old new x
+looks h limit old new r x l a = record {
+  said = r;
+  looked = l;
+  by_row = subst (λ (n : ℕ). Allows (row (state_at l.before new (look_for h l.last) r l.turned) n (look_for h l.last) r) r) l.pended.same.number (by_row l.before new (look_for h l.last) r l.turned);
+  late = (at_look h limit old new r l).late;
+  answer = a;
+}
+
+pub received : (h : EndpointHandle) (limit : Option ℕ) (old new : Seat) (y : Result MsgReply ℕ) (x : Result (ℕ × ℕ × List ℕ) MsgStatus) → IfOk y (λ r. Looked Legal (look_for h) reply.Pending limit old new r) → OnErr y (RanOut h limit old new) → AnsweredBy Hands y x → Received h limit old new x
+received h limit old new (Ok r) x l u a = inl (looks h limit old new r x l a)
+received h limit old new (Err s) x l u a = inr (u, a)
+
+same_status : {A : Type 0} (c d : MsgStatus) → ◌≡◌ {A = Result A MsgStatus} (Err c) (Err d) → c ≡ d
+same_status c d k = cc
+
+-- a Timeout is said by the last look alone, and not for want of tickets
+timeout_said : (r : MsgReply) (x : Result (ℕ × ℕ × List ℕ) MsgStatus) → Hands r x → x ≡ Err status.Timeout → r ≡ reply.Refused status.Timeout
+timeout_said (reply.Got a b m) x h e = let k = sym h ∙ e in absurd (cc)
+timeout_said (reply.Refused c) x h e = ap reply.Refused (same_status {A = ℕ × ℕ × List ℕ} c status.Timeout (sym h.0 ∙ e))
+timeout_said reply.Ok x h e = absurd h
+timeout_said (reply.Handle k) x h e = absurd h
+timeout_said reply.Pending x h e = absurd h
+
+all_looks : (limit : Option ℕ) (pending : ℕ) (last : Bool) → last ≡ true → MatchOption limit (last ≡ false) (λ n. (pending < n) × (last ≡ (pending + 1 == n))) → limit ≡ Some (pending + 1)
+all_looks None pending last is b = let k = sym is ∙ b in absurd (cc)
+all_looks (Some n) pending last is b = ap Some (sym (equal (pending + 1) n (sym b.1 ∙ is)))
+  where
+    equal : (a b : ℕ) → (a == b) ≡ true → a ≡ b
+    equal a b e = grind (arith, nat_tests)
+
+timed_out : (h : EndpointHandle) (limit : Option ℕ) (old new : Seat) (x : Result (ℕ × ℕ × List ℕ) MsgStatus) → Looks h limit old new x → x ≡ Err status.Timeout → TimedOut h limit old new
+timed_out h limit old new x l e =
+    let is = timeout_said l.said x l.answer e in
+    let last = l.late is in
+    record {
+      earlier = l.looked.pending;
+      all = all_looks limit l.looked.pending l.looked.last last l.looked.bound;
+      mine = l.looked.mine ∙ (λ i. old.mine ++ (pends Legal (look_for h) reply.Pending old.number l.looked.pending ++ entry old.number (look_for h (last i)) (is i) ∷ []));
+    }
+
+pub timeout_of : (h : EndpointHandle) (limit : Option ℕ) (old new : Seat) (x : Result (ℕ × ℕ × List ℕ) MsgStatus) → Received h limit old new x → x ≡ Err status.Timeout → TimedOut h limit old new
+timeout_of h limit old new x r e = elim r [
+  | inl l ↦ timed_out h limit old new x l e
+  | inr u ↦ let k = sym u.1 ∙ e in absurd (cc)
+]
+
+pub spent_of : (h : EndpointHandle) (limit : Option ℕ) (old new : Seat) (x : Result (ℕ × ℕ × List ℕ) MsgStatus) → Received h limit old new x → x ≡ Err status.Spent → RanOut h limit old new
+spent_of h limit old new x r e = elim r [
+  | inl l ↦ absurd (never_spent l.said x l.answer e)
+  | inr u ↦ u.0
+]
+  where
+    never_spent : (r : MsgReply) (x : Result (ℕ × ℕ × List ℕ) MsgStatus) → Hands r x → x ≡ Err status.Spent → ⊥
+    never_spent (reply.Got a b m) x h e = let k = sym h ∙ e in cc
+    never_spent (reply.Refused c) x h e = let g = sym h.1 ∙ ap is_spent (same_status {A = ℕ × ℕ × List ℕ} c status.Spent (sym h.0 ∙ e)) in cc
+    never_spent reply.Ok x h e = h
+    never_spent (reply.Handle k) x h e = h
+    never_spent reply.Pending x h e = h
+
+-- the seat stays the same
+pub called_same : {A : Type 0} (P : MsgReply → Result A MsgStatus → Type 0) (o : MsgOp) (old new : Seat) (x : Result A MsgStatus) → Called P o old new x → SameSeat old new
+called_same P o old new x c = elim c [ inl a ↦ a.turned.same | inr u ↦ u.0.same ]
+
+pub then_same : (a b c : Seat) → SameSeat a b → SameSeat b c → SameSeat a c
+then_same a b c s t = record { cell = t.cell ∙ s.cell; number = t.number ∙ s.number; terms = t.terms ∙ s.terms }
+
+pub received_same : (h : EndpointHandle) (limit : Option ℕ) (old new : Seat) (x : Result (ℕ × ℕ × List ℕ) MsgStatus) → Received h limit old new x → SameSeat old new
+received_same h limit old new x c = elim c [
+  | inl l ↦ then_same old l.looked.before new l.looked.pended.same l.looked.turned.same
+  | inr u ↦ u.0.pended.same
+]

@@ -1,0 +1,6 @@
+use Rattle.handle_pool.specs.Slots.{NoneBelow}
+use Rattle.mcapi_msg.specs.Boxes.{HasPort}
+use Rattle.mcapi_msg.proofs.boxes.Boxes.find.Given as goal
+
+abbrev pub invariant-loop-place : goal.invariant-loop-place
+invariant-loop-place l = NoneBelow l.self.pool l.place (HasPort l.port)

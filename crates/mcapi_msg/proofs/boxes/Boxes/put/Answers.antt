@@ -1,0 +1,11 @@
+use Rattle.std.proofs.Common.{refl, sym, ap, ◌∙◌}
+use Rattle.std.specs.Option.{option_copied_mut}
+use Rattle.mcapi_msg.specs.Rings.{RingTable}
+use Rattle.mcapi_msg.proofs.BoxLemmas.{kept-with_value, with_last-limit}
+use Rattle.mcapi_msg.proofs.boxes.Boxes.put.Goals as goal
+
+pub invariant_of-self : goal.invariant_of-self
+invariant_of-self c =
+    kept-with_value c.self.inside.limit _ c.args.at.0 c.self.inside.pool c.in-Some.mailbox.now _ c.self.inside.spare.items c.self.invariant
+    (sym c.get_mut.ensures.value ∙ ap option_copied_mut c.in-Some.is) refl
+    (ap (λ (r : RingTable). r.limit) c.push.ensures ∙ with_last-limit c.args.message c.in-Some.mailbox.now.rings)

@@ -1,0 +1,12 @@
+pub mod Statuses
+pub mod Endpoints
+pub mod Row
+pub mod Rows
+pub mod Rings
+pub mod Boxes
+pub mod Stands
+pub mod Answers
+pub mod Fifo
+pub mod Laws
+pub mod Legal
+pub mod Worked

@@ -1,0 +1,2 @@
+mod OwnEntries
+mod LookLemmas

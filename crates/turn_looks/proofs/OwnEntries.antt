@@ -1,0 +1,47 @@
+-- A seat's entries in what it has seen.
+use Rattle.std.proofs.Common.{◌≡◌, ℕ, Bool, true, false, cond, List, [], ◌∷◌, ◌++◌, length, length-append, refl, sym, ◌∙◌, ap, arith}
+use Rattle.std.specs.Prelude.{◌==◌}
+use Rattle.std.proofs.lemmas.Bool.Decides.{nat_tests}
+use Rattle.history.specs.declared.entries.Entry.{Entry}
+use Rattle.history.specs.Histories.{entry, entries_of, Extends}
+use Rattle.turn_cell.specs.Seats.{SeatView}
+use Rattle.turn_looks.specs.Turns.{SameSeat, Turned}
+
+self_is : (w : ℕ) → (w == w) ≡ true
+self_is w = grind (arith, nat_tests)
+
+empty : {A : Type 0} (l : List A) → length l ≡ 0 → l ≡ []
+empty [] e = refl
+empty (x ∷ xs) e = absurd (omega arith)
+
+module _ {P Q : Type 0} where
+  pub entries-append : (w : ℕ) (L M : List (Entry P Q)) → entries_of w (L ++ M) ≡ entries_of w L ++ entries_of w M
+  entries-append w [] M = refl
+  entries-append w (e ∷ L) M = by_seat (e.who == w) (entries-append w L M)
+    where
+      by_seat : (b : Bool) → entries_of w (L ++ M) ≡ entries_of w L ++ entries_of w M → cond b (e ∷ entries_of w (L ++ M)) (entries_of w (L ++ M)) ≡ cond b (e ∷ entries_of w L) (entries_of w L) ++ entries_of w M
+      by_seat true k = ap (λ (l : List (Entry P Q)). e ∷ l) k
+      by_seat false k = k
+
+  -- where a seat's own entries grew by its last one alone, others made those between
+  between_others : (w : ℕ) (a b mine : List (Entry P Q)) (e : Entry P Q) → e.who ≡ w → entries_of w a ≡ mine → entries_of w ((a ++ b) ++ e ∷ []) ≡ mine ++ e ∷ [] → entries_of w b ≡ []
+  between_others w a b mine e s old new =
+      let one : entries_of w (e ∷ []) ≡ e ∷ [] = (λ i. cond (s i == w) (e ∷ []) []) ∙ ap (λ c. cond c (e ∷ []) []) (self_is w) in
+      let all : (entries_of w a ++ entries_of w b) ++ (e ∷ []) ≡ mine ++ e ∷ [] = ap (λ l. (entries_of w a ++ entries_of w b) ++ l) (sym one) ∙ (ap (λ l. l ++ entries_of w (e ∷ [])) (sym (entries-append w a b)) ∙ (sym (entries-append w (a ++ b) (e ∷ [])) ∙ new)) in
+      let n : length ((entries_of w a ++ entries_of w b) ++ (e ∷ [])) ≡ length (mine ++ e ∷ []) = ap (λ l. length l) all in
+      let m : length (entries_of w a) ≡ length mine = ap (λ l. length l) old in
+      empty (entries_of w b) (omega (arith, length-append (entries_of w a ++ entries_of w b) (e ∷ []), length-append (entries_of w a) (entries_of w b), length-append mine (e ∷ [])))
+
+  -- what a call of the cell says is a turn
+  pub turned : {T : Type 0} (legal : T → List (Entry P Q) → Type 0) (old new : SeatView T P Q) (op : P) (reply : Q) → SameSeat old new → entries_of old.number old.seen ≡ old.mine → Extends old.seen (entry old.number op reply) new.seen → new.mine ≡ old.mine ++ entry old.number op reply ∷ []
+      → entries_of new.number new.seen ≡ new.mine → legal new.terms new.seen → Turned legal old op reply new
+  turned legal old new op reply same was x mine own lawful = record {
+    same = same;
+    mine = mine;
+    between = x.0;
+    others =
+        between_others old.number old.seen x.0 old.mine (entry old.number op reply) refl was
+        (ap (λ (l : List (Entry P Q)). entries_of old.number l) (sym x.1) ∙ (ap (λ (n : ℕ). entries_of n new.seen) (sym same.number) ∙ (own ∙ mine)));
+    seen = x.1;
+    lawful = lawful;
+  }
