@@ -16,3 +16,4 @@ pub mod Rereading
 pub mod Phrases
 pub mod Rewriting
 pub mod Again
+pub mod Taken
