@@ -150,10 +150,10 @@ bits_first : (low bits total : ℕ) (text : List ℕ) (texts : List (List ℕ)) 
 unfolding bits_from
 bits_first low bits total text texts e rest sum = rw (e, rest) (ap Some sum)
 
-cores_yes : (mask low k : ℕ) → in_mask low mask ≡ true → map decimal (cores_from mask low (suc k)) ≡ decimal low ∷ map decimal (cores_from mask (low + 1) k)
+pub cores_yes : (mask low k : ℕ) → in_mask low mask ≡ true → map decimal (cores_from mask low (suc k)) ≡ decimal low ∷ map decimal (cores_from mask (low + 1) k)
 cores_yes mask low k t = rw t refl
 
-cores_no : (mask low k : ℕ) → in_mask low mask ≡ false → map decimal (cores_from mask low (suc k)) ≡ map decimal (cores_from mask (low + 1) k)
+pub cores_no : (mask low k : ℕ) → in_mask low mask ≡ false → map decimal (cores_from mask low (suc k)) ≡ map decimal (cores_from mask (low + 1) k)
 cores_no mask low k f = rw f refl
 
 lowest : (m low r mask : ℕ) → mask ≡ m * 2 ^ low + r → r < 2 ^ low → bit_at mask low ≡ m % 2

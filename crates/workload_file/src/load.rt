@@ -1,6 +1,6 @@
 //! A workload from a source.
 ghost use Rattle.std.specs.Prelude.{◌≡◌, ◌<◌, ◌≤◌, ◌^◌, ◌+◌, length, IfOk, IfSome, IsErrOf, Ok};
-ghost use Rattle.workload_file.specs.Values.{between};
+ghost use Rattle.number_text.specs.Lists.{between};
 ghost use Rattle.workload_file.specs.Reading.{line_adds, lines_add, start, workload_of, finished, Gives};
 ghost use Rattle.workload_file.specs.Indexed.{IsReader, said_of};
 ghost use Rattle.workload_file.specs.Loading.{Loads, ReadsClean, HoldsBut};
@@ -8,7 +8,7 @@ ghost use Rattle.workload_file.specs.Formed.{WellFormed};
 ghost use Rattle.byte_io.specs.Causes.{Rose};
 
 use crate::changes::with_change;
-use crate::cut::cut_at;
+use number_text::cut_at;
 use crate::faults::{Fault, LineError, LoadError};
 use crate::grammar::line_gives;
 use crate::index::NameIndex;
