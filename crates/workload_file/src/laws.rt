@@ -7,6 +7,15 @@ ghost use Rattle.workload_file.specs.Faulty.{first_met, refused_for};
 ghost use Rattle.workload_file.specs.Formed.{WellFormed};
 ghost use Rattle.workload_file.specs.Written.{canonical, lines_of, AreShort};
 
+use crate::workload::Workload;
+
+fn crosses_threads<T: Send + Sync>() {}
+
+/// A workload may be sent to another thread, and may be shared with one.
+pub fn law_shared() {
+    crosses_threads::<Workload>();
+}
+
 /// What a text gives is a well-formed workload.
 pub fn law_formed()
     ensures { (bytes : List ℕ) (load : Workload) → workload_of bytes ≡ Ok load → WellFormed load }
