@@ -24,4 +24,3 @@ list_more f d first mid out xs h a b =
     let split = first_rest xs d h in
     let all : listed (map f xs) ≡ f (get_or xs 0 d) ++ led 44 (map f (rest_of xs)) = ap (λ l. listed (map f l)) split ∙ joined 44 (f (get_or xs 0 d)) (map f (rest_of xs)) in
     rw (b, a, all) (append_assoc first (f (get_or xs 0 d)) (led 44 (map f (rest_of xs))))
-

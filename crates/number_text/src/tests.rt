@@ -3,7 +3,16 @@ use std::test::Fail;
 
 /// Texts that spell no number of u64.
 const NO_NUMBERS: [&str; 10] = [
-    "", "-", "-0", "-1", "+1", "00", "01", "1a", " 1", "18446744073709551616",
+    "",
+    "-",
+    "-0",
+    "-1",
+    "+1",
+    "00",
+    "01",
+    "1a",
+    " 1",
+    "18446744073709551616",
 ];
 
 #[test]
@@ -32,6 +41,8 @@ fn lists_and_cores(rt: HostRuntime) -> Result<(), Fail> {
     push_cores(alloc, &mut cores, 1 << 63 | 5)?;
     assert!(rt; cores.as_slice() == b"0,2,63".as_slice());
     assert_eq!(rt; cores_of(&cores), Some(1 << 63 | 5));
-    assert!(rt; cores_of(b"1,1").is_none() && cores_of(b"2,1").is_none() && cores_of(b"64").is_none());
+    assert!(rt;
+        cores_of(b"1,1").is_none() && cores_of(b"2,1").is_none() && cores_of(b"64").is_none()
+    );
     Ok(())
 }

@@ -1,5 +1,5 @@
 -- Reading refuses a line for the first cause that it meets.
-use Rattle.std.proofs.Common.{◌≡◌, ℕ, List, [], ◌∷◌, Bool, true, false, not, cond, ◌&&◌, ◌||◌, eqb, Option, Some, None, Result, Ok, Err, refl, sym, subst, ◌∙◌, inl, inr}
+use Rattle.std.proofs.Common.{◌≡◌, ℕ, ◌+◌, List, [], ◌∷◌, ◌++◌, Bool, true, false, not, cond, ◌&&◌, ◌||◌, eqb, Option, Some, None, Result, Ok, Err, refl, sym, ap, subst, ◌∙◌, inl, inr, arith}
 use Rattle.std.specs.Prelude.{nat_le, nat_lt, length, is_some, option_and_then}
 use Rattle.std.specs.List.{find, list_any, list_all}
 use Rattle.std.proofs.lemmas.Bool.{and_parts, cases_Bool}
@@ -9,15 +9,18 @@ use Rattle.workload_file.specs.declared.table.Naming.TheVariants as rule
 use Rattle.workload_file.specs.declared.table.Field.{Field}
 use Rattle.workload_file.specs.declared.reading.Reading.{Reading}
 use Rattle.workload_file.specs.declared.reading.Change.{Change}
+use Rattle.workload_file.specs.declared.workload.Workload.{Workload}
+use Rattle.workload_file.specs.declared.faults.Fault.{Fault}
 use Rattle.workload_file.specs.declared.faults.Cause.{Cause}
 use Rattle.workload_file.specs.declared.faults.Cause.TheVariants as cause
+use Rattle.number_text.specs.Lists.{between}
 use Rattle.workload_file.specs.Values.{is_name}
 use Rattle.workload_file.specs.Cuts.{words_of}
 use Rattle.workload_file.specs.Table.{word_of, naming, fields}
 use Rattle.workload_file.specs.Options.{value_of, field_of, is_known, has_twice, is_value, has_value, is_missing}
 use Rattle.workload_file.specs.Names.{split_name, is_taken, is_unbound, has_unbound, is_misplaced, is_ninth_caller}
-use Rattle.workload_file.specs.Reading.{◌>>=◌, refuse, or_cause, heading, check_options, check_names, name_text, change_of, statement_of, words_give, is_comment, is_printable, line_gives}
-use Rattle.workload_file.specs.Faulty.{statement_word, is_statement, second, has_second, options_in, bad_at, has_bad_value, is_faulty, is_faulty_of, meets, causes, first_met, refused_for}
+use Rattle.workload_file.specs.Reading.{◌>>=◌, refuse, or_cause, heading, check_options, check_names, name_text, change_of, statement_of, words_give, is_comment, is_printable, line_gives, with_change, at_line, line_adds, lines_add, start, finished, workload_of}
+use Rattle.workload_file.specs.Faulty.{statement_word, is_statement, second, has_second, options_in, bad_at, has_bad_value, is_faulty, is_faulty_of, meets, causes, first_met, refused_for, IsFirstFault}
 
 -- ---- one step of reading
 
@@ -234,9 +237,9 @@ words_refused r line (first ∷ rest) =
     elim (cases_Bool (is_comment first)) [
       | inl t ↦ rw t refl
       | inr f ↦ elim (known_as first (word_of first) refl) [
-          | known w e ↦ no_comment r line first rest f ∙ (known_refused r line first rest w e ∙ sym (met_known r first rest w f e))
-          | unknown e ↦ no_comment r line first rest f ∙ (unknown_refused r line first rest e ∙ sym (met_unknown r first rest f e))
-        ]
+        | known w e ↦ no_comment r line first rest f ∙ (known_refused r line first rest w e ∙ sym (met_known r first rest w f e))
+        | unknown e ↦ no_comment r line first rest f ∙ (unknown_refused r line first rest e ∙ sym (met_unknown r first rest f e))
+      ]
     ]
 
 pub line_refused : (r : Reading) (line : ℕ) (text : List ℕ) → refused_for (line_gives r line text) ≡ first_met r text
@@ -245,3 +248,117 @@ line_refused r line text =
     step_same (nat_lt 512 (length text)) cause.LineTooLong _ _
     (step (not (list_all is_printable text)) (list_any (λ b. not (is_printable b)) text) cause.BadByte _ _ (not_all is_printable text)
     (words_refused r line (words_of text)))
+
+-- ---- the first faulty line of a text
+
+record IsFault (texts : List (List ℕ)) (r : Reading) (line : ℕ) (f : Fault) : Type 0 where
+  before : List (List ℕ)
+  text : List ℕ
+  after : List (List ℕ)
+  said : Reading
+  lines : texts ≡ before ++ text ∷ after
+  number : f.line ≡ line + length before
+  read : lines_add r line before ≡ Ok said
+  cause : first_met said text ≡ Some f.cause
+
+no_lines : (r : Reading) (line : ℕ) → lines_add r line [] ≡ Ok r
+unfolding lines_add
+no_lines r line = refl
+
+one_more : (r s t : Reading) (line : ℕ) (text : List ℕ) (texts : List (List ℕ)) → line_adds r line text ≡ Ok s → lines_add s (line + 1) texts ≡ Ok t → lines_add r line (text ∷ texts) ≡ Ok t
+unfolding lines_add
+one_more r s t line text texts e h = rw e h
+
+abbrev failed : Fault → Result Reading Fault
+failed f = Err f
+
+failed_is : (f g : Fault) → failed f ≡ failed g → f ≡ g
+failed_is f g e = cc
+
+fault_at : (r : Reading) (line : ℕ) (x : Result (Option Change) Cause) (f : Fault) → at_line line (x >>= λ c. Ok (with_change r line c)) ≡ Err f → (f.line ≡ line) × (refused_for x ≡ Some f.cause)
+fault_at r line (Ok c) f e = absurd cc
+fault_at r line (Err c) f e =
+    let same = failed_is (record { line = line; cause = c }) f e in
+    (sym (ap (λ (g : Fault). g.line) same), ap (λ (g : Fault). Some g.cause) same)
+
+data Added (r : Reading) (line : ℕ) (text : List ℕ) : Type 0 where
+  added : (s : Reading) → line_adds r line text ≡ Ok s → Added r line text
+  refused : (f : Fault) → line_adds r line text ≡ Err f → Added r line text
+
+added_as : (r : Reading) (line : ℕ) (text : List ℕ) (x : Result Reading Fault) → line_adds r line text ≡ x → Added r line text
+added_as r line text (Ok s) e = added s e
+added_as r line text (Err f) e = refused f e
+
+rest_of : (r s : Reading) (line : ℕ) (text : List ℕ) (texts : List (List ℕ)) (f : Fault) → line_adds r line text ≡ Ok s → lines_add r line (text ∷ texts) ≡ Err f → lines_add s (line + 1) texts ≡ Err f
+unfolding lines_add
+rest_of r s line text texts f e h = rw e at h
+
+here_of : (r : Reading) (line : ℕ) (text : List ℕ) (texts : List (List ℕ)) (f g : Fault) → line_adds r line text ≡ Err g → lines_add r line (text ∷ texts) ≡ Err f → g ≡ f
+unfolding lines_add
+here_of r line text texts f g e h = failed_is g f (rw e at h)
+
+line_fault : (r : Reading) (line : ℕ) (text : List ℕ) (f : Fault) → line_adds r line text ≡ Err f → (f.line ≡ line) × (first_met r text ≡ Some f.cause)
+unfolding line_adds
+line_fault r line text f e =
+    let a = fault_at r line (line_gives r line text) f e in
+    (a.0, sym (line_refused r line text) ∙ a.1)
+
+nothing_read : (r : Reading) (line : ℕ) (f : Fault) → lines_add r line [] ≡ Err f → ⊥
+unfolding lines_add
+nothing_read r line f e = cc
+
+fault_in : (texts : List (List ℕ)) (r : Reading) (line : ℕ) (f : Fault) → lines_add r line texts ≡ Err f → IsFault texts r line f
+fault_in [] r line f e = absurd (nothing_read r line f e)
+fault_in (text ∷ texts) r line f e =
+    elim (added_as r line text (line_adds r line text) refl) [
+      | added s a ↦
+          let h = fault_in texts s (line + 1) f (rest_of r s line text texts f a e) in
+          record {
+            before = text ∷ h.before;
+            text = h.text;
+            after = h.after;
+            said = h.said;
+            lines = ap (λ (l : List (List ℕ)). text ∷ l) h.lines;
+            number = omega (arith, h.number);
+            read = one_more r s h.said line text h.before a h.read;
+            cause = h.cause;
+          }
+      | refused g a ↦
+          let same = here_of r line text texts f g a e in
+          let w = line_fault r line text f (a ∙ ap failed same) in
+          record {
+            before = [];
+            text = text;
+            after = texts;
+            said = r;
+            lines = refl;
+            number = omega (arith, w.0);
+            read = no_lines r line;
+            cause = w.1;
+          }
+    ]
+
+abbrev no_load : Fault → Result Workload Fault
+no_load f = Err f
+
+load_fault : (f g : Fault) → no_load f ≡ no_load g → f ≡ g
+load_fault f g e = cc
+
+kept_fault : (x : Result Reading Fault) (f : Fault) → (x >>= λ r. Ok (finished r)) ≡ Err f → x ≡ Err f
+kept_fault (Ok r) f e = absurd cc
+kept_fault (Err g) f e = ap failed (load_fault g f e)
+
+pub text_refused : (bytes : List ℕ) (fault : Fault) → workload_of bytes ≡ Err fault → IsFirstFault bytes fault
+unfolding workload_of
+text_refused bytes fault e =
+    let h = fault_in (between 10 bytes) start 1 fault (kept_fault (lines_add start 1 (between 10 bytes)) fault e) in
+    record {
+      before = h.before;
+      text = h.text;
+      after = h.after;
+      said = h.said;
+      lines = h.lines;
+      number = omega (arith, h.number);
+      read = h.read;
+      cause = h.cause;
+    }

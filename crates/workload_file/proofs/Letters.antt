@@ -80,9 +80,9 @@ name_byte_inner : (b : ℕ) → is_name_byte b ≡ true → is_inner b ≡ true
 name_byte_inner b h =
     elim (or_cases (is_letter b || (nat_le 48 b && nat_le b 57)) (eqb b 95) h) [
       | inl first ↦ elim (or_cases (is_letter b) (nat_le 48 b && nat_le b 57) first) [
-          | inl letter ↦ let both = and_parts (nat_le 97 b) (nat_le b 122) letter in let low = leb-true 97 b both.0 in let high = leb-true b 122 both.1 in inner_from b (omega arith) (omega arith)
-          | inr digit ↦ let both = and_parts (nat_le 48 b) (nat_le b 57) digit in let low = leb-true 48 b both.0 in let high = leb-true b 57 both.1 in inner_from b (omega arith) (omega arith)
-        ]
+        | inl letter ↦ let both = and_parts (nat_le 97 b) (nat_le b 122) letter in let low = leb-true 97 b both.0 in let high = leb-true b 122 both.1 in inner_from b (omega arith) (omega arith)
+        | inr digit ↦ let both = and_parts (nat_le 48 b) (nat_le b 57) digit in let low = leb-true 48 b both.0 in let high = leb-true b 57 both.1 in inner_from b (omega arith) (omega arith)
+      ]
       | inr line ↦ let e = eqb-true b 95 line in inner_from b (omega arith) (omega arith)
     ]
 

@@ -1,19 +1,21 @@
 -- The causes, each by itself: what is wrong with a line, whatever else is.
-use Rattle.std.specs.Prelude.{ℕ, List, [], ◌∷◌, ◌&&◌, ◌||◌, not, nat_le, nat_lt, length, drop, Bool, true, false, Option, Some, None, is_some, Result, Ok, Err, if◌then◌else◌}
+use Rattle.std.specs.Prelude.{◌≡◌, ℕ, ◌+◌, List, [], ◌∷◌, ◌++◌, ◌&&◌, ◌||◌, not, nat_le, nat_lt, length, drop, Bool, true, false, Option, Some, None, is_some, Result, Ok, Err, if◌then◌else◌}
 use Rattle.std.specs.List.{list_any, find}
 use Rattle.workload_file.specs.declared.table.Word.{Word}
 use Rattle.workload_file.specs.declared.table.Naming.{Naming}
 use Rattle.workload_file.specs.declared.table.Naming.TheVariants as rule
 use Rattle.workload_file.specs.declared.table.Field.{Field}
 use Rattle.workload_file.specs.declared.reading.Reading.{Reading}
+use Rattle.workload_file.specs.declared.faults.Fault.{Fault}
 use Rattle.workload_file.specs.declared.faults.Cause.{Cause}
 use Rattle.workload_file.specs.declared.faults.Cause.TheVariants as cause
+use Rattle.number_text.specs.Lists.{between}
 use Rattle.workload_file.specs.Values.{is_name}
 use Rattle.workload_file.specs.Cuts.{words_of}
 use Rattle.workload_file.specs.Table.{word_of, naming, fields}
 use Rattle.workload_file.specs.Options.{value_of, field_of, is_known, has_twice, is_value, is_missing}
 use Rattle.workload_file.specs.Names.{is_taken, is_unbound, has_unbound, is_misplaced, is_ninth_caller}
-use Rattle.workload_file.specs.Reading.{is_comment, is_printable}
+use Rattle.workload_file.specs.Reading.{is_comment, is_printable, lines_add, start}
 
 -- the word of the statement that these words are, where they name one
 abbrev pub statement_word : List (List ℕ) → Option Word
@@ -86,3 +88,14 @@ first_met r text = find (meets r text) causes
 abbrev pub refused_for : {A : Type 0} → Result A Cause → Option Cause
 refused_for (Ok x) = None
 refused_for (Err c) = Some c
+
+-- the first line with a fault, behind lines that have none, and the first of the causes that it meets
+pub record IsFirstFault (bytes : List ℕ) (fault : Fault) : Type 0 where
+  pub before : List (List ℕ)
+  pub text : List ℕ
+  pub after : List (List ℕ)
+  pub said : Reading
+  pub lines : between 10 bytes ≡ before ++ text ∷ after
+  pub number : fault.line ≡ length before + 1
+  pub read : lines_add start 1 before ≡ Ok said
+  pub cause : first_met said text ≡ Some fault.cause

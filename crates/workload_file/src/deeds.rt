@@ -6,12 +6,12 @@ ghost use Rattle.workload_file.specs.Indexed.{IsReader};
 
 use crate::names::place_of;
 use crate::numbers::{cores_of, flag_of, kind_of, mode_of, number, timeout_of};
-use number_text::{list_of, whole};
 use crate::options::text_of;
 use crate::reading::Reader;
 use crate::table::{Key, Sort, Word};
 use crate::workload::Deed;
 use mtapi_values::{Args, Kind, Mask, NodeAttr, Timeout};
+use number_text::{list_of, whole};
 
 #[tactic(auto, unfolding(crate::specs::Reading::number_in))]
 fn number_in(options: &[&[u8]], key: Key, default: u32) -> u32

@@ -8,15 +8,15 @@ ghost use Rattle.workload_file.specs.Formed.{WellFormed};
 ghost use Rattle.byte_io.specs.Causes.{Rose};
 
 use crate::changes::with_change;
-use number_text::cut_at;
 use crate::faults::{Fault, LineError, LoadError};
 use crate::grammar::line_gives;
 use crate::index::NameIndex;
 use crate::name::Name;
 use crate::reading::{Reader, Reading};
 use crate::workload::{Part, PartList, StatementList, Workload};
-use mtapi_values::NodeAttr;
 use byte_io::{ReadAllError, Source, read_all};
+use mtapi_values::NodeAttr;
+use number_text::cut_at;
 use std::alloc::Global;
 
 #[tactic(auto, unfolding(crate::specs::Reading::line_adds, crate::specs::Reading::with_change))]
