@@ -1,6 +1,6 @@
 //! A source and a sink in memory, which tell their bytes and fail where they are told to.
 
-ghost use Rattle.std.specs.Prelude.{◌≡◌, ◌+◌, ◌-◌, ◌<◌, ◌≤◌, ◌==◌, ◌&&◌, ◌||◌, nat_lt, nat_le, [], ◌++◌, min, length, take, drop, if◌then◌else◌, IfOk, OnErr, Some, Ok, Err};
+ghost use Rattle.std.specs.Prelude.{◌≡◌, ◌+◌, ◌-◌, ◌<◌, ◌≤◌, ◌==◌, ◌&&◌, ◌||◌, nat_lt, nat_le, [], ◌++◌, min, length, take, drop, if◌then◌else◌, IfOk, OnOk, OnErr, Some, Ok, Err};
 ghost use Rattle.byte_io.specs.Memory.{names_call, failed};
 ghost use Rattle.byte_io.specs.Causes.{HasCause, TakesSome, one_more, faults_after};
 ghost use Rattle.std.specs.Io.{ReadsAtMost};
@@ -79,6 +79,7 @@ impl Source for MemSource {
         ensures bound { ReadsAtMost result buf.new }
         ensures bytes { ReadConsumes (Some self.old.left) (Some self.new.left) result buf.new }
         ensures cause { HasCause self.old.faults self.new.faults result }
+        ensures clean { OnOk result (self.new.faults ≡ self.old.faults) }
         ensures count { self.new.faults ≡ faults_after self.old.faults result }
         ensures exact { result ≡ (if names_call self.old.fails (one_more self.old.calls) then Err failed
             else Ok (min (min (length buf.old) self.old.most) (length self.old.left))) }

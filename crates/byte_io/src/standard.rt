@@ -1,27 +1,18 @@
-//! The edge to the process: a reader and a writer of std, which tell nothing of their bytes.
+//! The edge to the process: a reader and a writer of std, which tell of their bytes what these tell.
 
-ghost use Rattle.std.specs.Prelude.{◌≡◌, None};
+ghost use Rattle.std.specs.Prelude.{◌≡◌, OnOk};
 ghost use Rattle.std.specs.Io.{ReadsAtMost};
 ghost use Rattle.std.specs.Io.KnownBytes.{ReadConsumes, WriteAppends};
 ghost use Rattle.byte_io.specs.Causes.{HasCause, TakesSome, faults_after};
 
 use crate::{Failed, Sink, Source};
 use std::io::{Read, Write};
-use std::marker::Model;
 
-/// A reader of std as a source. Contracts see it as the number of its failed reads.
+/// A reader of std as a source: it tells the bytes that the reader tells, and counts its failed reads.
 #[derive(Drop)]
 pub struct StdSource<R: Read> {
     inner: R,
     faults: u64,
-}
-
-impl<R: Read> Model for StdSource<R> {
-    ghost use Rattle.std.specs.Prelude.{ℕ};
-
-    ghost Value = { ℕ };
-
-    ghost view = { λ s. s.faults };
 }
 
 impl<R: Read> StdSource<R> {
@@ -29,24 +20,24 @@ impl<R: Read> StdSource<R> {
 
     /// A source over `inner`, with no fault yet.
     pub fn new(inner: R) -> Self
-        ensures { result ≡ 0 }
+        ensures faults { result.faults ≡ 0 }
+        ensures bytes { R.remaining result.inner ≡ R.remaining inner }
     {
         StdSource { inner, faults: 0 }
     }
 }
 
 impl<R: Read> Source for StdSource<R> {
-    ghost use Rattle.std.specs.Prelude.{None};
+    ghost left = { λ s. R.remaining s.inner };
 
-    ghost left = { λ _. None };
-
-    ghost faults = { λ s. s };
+    ghost faults = { λ s. s.faults };
 
     fn read(&mut self, buf: &mut [u8]) -> Result<usize, Failed>
         ensures bound { ReadsAtMost result buf.new }
-        ensures bytes { ReadConsumes None None result buf.new }
-        ensures cause { HasCause self.old self.new result }
-        ensures count { self.new ≡ faults_after self.old result }
+        ensures bytes { ReadConsumes (R.remaining self.old.inner) (R.remaining self.new.inner) result buf.new }
+        ensures cause { HasCause self.old.faults self.new.faults result }
+        ensures clean { OnOk result (self.new.faults ≡ self.old.faults) }
+        ensures count { self.new.faults ≡ faults_after self.old.faults result }
     {
         match self.inner.read(buf) {
             Ok(count) => Ok(count),
@@ -58,20 +49,12 @@ impl<R: Read> Source for StdSource<R> {
     }
 }
 
-/// A writer of std as a sink. A write that takes nothing of a piece that isn't empty is a fault.
-/// Contracts see it as the number of its failed writes.
+/// A writer of std as a sink: it holds the bytes that the writer tells, and counts its failed writes. A write that takes
+/// nothing of a piece that isn't empty is one.
 #[derive(Drop)]
 pub struct StdSink<W: Write> {
     inner: W,
     faults: u64,
-}
-
-impl<W: Write> Model for StdSink<W> {
-    ghost use Rattle.std.specs.Prelude.{ℕ};
-
-    ghost Value = { ℕ };
-
-    ghost view = { λ s. s.faults };
 }
 
 impl<W: Write> StdSink<W> {
@@ -79,24 +62,23 @@ impl<W: Write> StdSink<W> {
 
     /// A sink over `inner`, with no fault yet.
     pub fn new(inner: W) -> Self
-        ensures { result ≡ 0 }
+        ensures faults { result.faults ≡ 0 }
+        ensures bytes { W.contents result.inner ≡ W.contents inner }
     {
         StdSink { inner, faults: 0 }
     }
 }
 
 impl<W: Write> Sink for StdSink<W> {
-    ghost use Rattle.std.specs.Prelude.{None};
+    ghost held = { λ s. W.contents s.inner };
 
-    ghost held = { λ _. None };
-
-    ghost faults = { λ s. s };
+    ghost faults = { λ s. s.faults };
 
     fn write(&mut self, piece: &[u8]) -> Result<usize, Failed>
         ensures bound { TakesSome result piece.now }
-        ensures bytes { WriteAppends None None result piece.now }
-        ensures cause { HasCause self.old self.new result }
-        ensures count { self.new ≡ faults_after self.old result }
+        ensures bytes { WriteAppends (W.contents self.old.inner) (W.contents self.new.inner) result piece.now }
+        ensures cause { HasCause self.old.faults self.new.faults result }
+        ensures count { self.new.faults ≡ faults_after self.old.faults result }
     {
         if piece.is_empty() {
             return Ok(0);

@@ -1,6 +1,6 @@
 //! Sources and sinks of bytes. Each clause but the ones on bytes holds also where the bytes aren't told.
 
-ghost use Rattle.std.specs.Prelude.{Option, List, ℕ};
+ghost use Rattle.std.specs.Prelude.{Option, List, ℕ, OnOk, ◌≡◌};
 ghost use Rattle.std.specs.Io.{ReadsAtMost};
 ghost use Rattle.std.specs.Io.KnownBytes.{ReadConsumes, WriteAppends};
 ghost use Rattle.byte_io.specs.Causes.{HasCause, TakesSome};
@@ -16,11 +16,12 @@ pub trait Source {
     ghost faults: { Self → ℕ };
 
     /// Puts the next bytes into the front of `buf` and tells how many; 0 with a buffer that isn't empty means
-    /// the end. A failed read takes nothing.
+    /// the end. A failed read takes nothing, and a read that didn't fail counts no fault.
     fn read(&mut self, buf: &mut [u8]) -> Result<usize, Failed>
         ensures bound { ReadsAtMost result buf.new }
         ensures bytes { ReadConsumes (left self.old) (left self.new) result buf.new }
-        ensures cause { HasCause (faults self.old) (faults self.new) result };
+        ensures cause { HasCause (faults self.old) (faults self.new) result }
+        ensures clean { OnOk result (faults self.new ≡ faults self.old) };
 }
 
 /// A sink for bytes.

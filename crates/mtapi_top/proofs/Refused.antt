@@ -52,3 +52,8 @@ pub refused_has : (run : Bool) (bytes : Option (List ℕ)) (s s' : ℕ) (o o' : 
 refused_has run None s s' o o' w w' e f f' p p' outcome h t r n = tt
 refused_has run (Some b) s s' o o' w w' e f f' p p' outcome h (inl t) r n = λ i. one_of outcome.status (status_of e) t.status (refused_status run b s s' o o' w w' e h r n i)
 refused_has run (Some b) s s' o o' w w' e f f' p p' outcome h (inr t) r n = λ i. inr t.1.status
+
+-- what holds of an end with the status 3 holds of what was told with it
+pub clean_told : (P : Type 0) (e : End) (f f' : ℕ) (p p' : Option (List ℕ)) (outcome : Outcome) → (status_of e ≡ 3 → P) → Told e f f' p p' outcome → outcome.status ≡ 3 → P
+clean_told P e f f' p p' outcome h (inl t) q = h (sym t.status ∙ q)
+clean_told P e f f' p p' outcome h (inr t) q = absurd (let m = sym t.1.status ∙ q in cc)

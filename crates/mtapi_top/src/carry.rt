@@ -2,7 +2,8 @@
 ghost use Rattle.std.specs.Prelude.{◌≡◌, ◌≤◌, ◌⊎◌, ◌↔◌, IfSome, IsSome, IsOk, true, false};
 ghost use Rattle.std.specs.Io.KnownBytes.{Appends, IsAtEnd};
 ghost use Rattle.byte_io.specs.Causes.{Rose, AppendsFront};
-ghost use Rattle.mtapi_top.specs.Command.{is_run, texts, Ends, IsTold, IsNone, IsRefused, IsBuilt, journal_of};
+ghost use Rattle.mtapi_top.specs.Command.{is_run, texts, Ends, IsTold, IsNone, IsRefused, IsBuilt, journal_of, status_of};
+ghost use Rattle.workload_file.specs.Loading.{ReadsClean};
 ghost use Rattle.mtapi_top.specs.Headline.{Ran};
 ghost use Rattle.mtapi_top.specs.declared.ends.End.{End};
 
@@ -34,6 +35,7 @@ fn carry_out<S: Source, W: Sink, A: ActionSource>(
 ) -> End
     ensures end { Ends (is_run (texts words.now)) (S.left src.old) (S.faults src.old) (S.faults src.new)
         (W.held out.old) (W.held out.new) (W.faults out.old) (W.faults out.new) result }
+    ensures clean { status_of result ≡ 3 → ReadsClean (S.faults src.old) (S.faults src.new) (S.left src.old) (S.left src.new) }
     ensures later { (S.faults src.old ≤ S.faults src.new) × (W.faults out.old ≤ W.faults out.new) }
     ensures unread { is_run (texts words.now) ≡ false → (S.left src.new ≡ S.left src.old) × (S.faults src.new ≡ S.faults src.old) }
     ensures whole { IfSome (journal_of result) (λ journal. IfSome (S.left src.old) (λ bytes. IsAtEnd (S.left src.new))) }
@@ -80,6 +82,7 @@ pub fn command<S: Source, W: Sink, E: Sink, A: ActionSource>(
     // Each status has its cause.
     ensures usage { (result.status ≡ 2) ↔ (is_run (texts words.now) ≡ false) }
     ensures refused { result.status ≡ 3 → IfSome (S.left src.old) IsRefused }
+    ensures refused_clean { result.status ≡ 3 → ReadsClean (S.faults src.old) (S.faults src.new) (S.left src.old) (S.left src.new) }
     ensures refused_where { is_run (texts words.now) ≡ true → (Rose (S.faults src.old) (S.faults src.new) → ⊥)
         → IfSome (S.left src.old) (λ bytes. IsRefused bytes → (result.status ≡ 3) ⊎ (result.status ≡ 6)) }
     ensures read_fault { result.status ≡ 4 → Rose (S.faults src.old) (S.faults src.new) }

@@ -1,20 +1,20 @@
 -- What the report says of a task.
 use Rattle.std.specs.Prelude.{ℕ, ℤ, List, [], ◌∷◌, ◌++◌, codes, Option, Some, None}
-use Rattle.std.specs.Fmt.{signed_decimal}
+use Rattle.number_text.specs.Lists.{list_text}
 use Rattle.mtapi_values.specs.Statuses.{mtapi_name}
 use Rattle.mtapi_values.specs.declared.ends.TaskEnd.{TaskEnd}
 use Rattle.mtapi_values.specs.declared.ends.TaskEnd.TheVariants.{Completed, Cancelled, Failed}
 use Rattle.mtapi_machine.specs.declared.replies.Reply.{Reply}
 use Rattle.mtapi_machine.specs.declared.replies.Reply.TheVariants as reply
 
--- numbers: this byte before the first, and a comma before each further one
-unfoldable pub numbers_text : ℕ → List ℤ → List ℕ
-numbers_text before [] = []
-numbers_text before (z ∷ zs) = before ∷ (signed_decimal z ++ numbers_text 44 zs)
+-- numbers behind a space, with commas between them; nothing, where there is none
+unfoldable pub numbers_text : List ℤ → List ℕ
+numbers_text [] = []
+numbers_text (z ∷ zs) = 32 ∷ list_text (z ∷ zs)
 
 -- how a task ended
 unfoldable pub end_text : TaskEnd → List ℕ
-end_text (Completed zs) = codes "completed" ++ numbers_text 32 zs
+end_text (Completed zs) = codes "completed" ++ numbers_text zs
 end_text Cancelled = codes "cancelled"
 end_text (Failed status) = codes "error " ++ mtapi_name status
 

@@ -9,6 +9,7 @@ use crate::places::{places_of, task_name};
 use crate::sorts::{Shown, shown_of};
 use crate::text::push_marked;
 use mtapi_machine::Reply;
+use number_text::push_whole;
 use std::alloc::{AllocError, Global};
 use std::collections::BTreeMap;
 use workload_file::Statement;
@@ -40,8 +41,9 @@ fn push_number_in(
 {
     match reply {
         Reply::Number(number) => {
-            let text = format!(in alloc; "{number}")?;
-            push_marked(alloc, out, b'=', part, line, text.as_bytes())
+            let mut text = Vec::new(alloc);
+            push_whole(alloc, &mut text, *number)?;
+            push_marked(alloc, out, b'=', part, line, &text)
         }
         _ => Ok(()),
     }

@@ -1,11 +1,11 @@
 //! Pieces of the report's text.
 ghost use Rattle.std.specs.Prelude.{◌≡◌, ◌++◌, OnOk, Some};
-ghost use Rattle.std.specs.Fmt.{decimal, signed_decimal};
 ghost use Rattle.workload_file.specs.Reading.{name_text};
 ghost use Rattle.run_report.specs.Tasks.{numbers_text, end_text};
 ghost use Rattle.run_report.specs.Calls.{marked_line};
 
 use mtapi_values::TaskEnd;
+use number_text::{push_list, push_number};
 use std::alloc::{AllocError, Global};
 use workload_file::Statement;
 
@@ -19,32 +19,16 @@ pub fn name_of(statement: &Statement) -> &[u8]
     }
 }
 
-/// A number in decimal.
-pub fn push_number(alloc: Global, out: &mut Vec<u8>, number: i64) -> Result<(), AllocError>
-    ensures { OnOk result (out.new.items ≡ out.old.items ++ signed_decimal number) }
-{
-    let text = format!(in alloc; "{number}")?;
-    out.extend_from_slice(text.as_bytes())
-}
-
-/// Numbers: this byte before the first, and a comma before each further one.
+/// Numbers behind a space, with commas between them; nothing, where there is none.
 #[tactic(auto, unfolding(crate::specs::Tasks::numbers_text))]
-fn push_numbers(
-    alloc: Global,
-    out: &mut Vec<u8>,
-    before: u8,
-    numbers: &[i64],
-) -> Result<(), AllocError>
-    ensures { OnOk result (out.new.items ≡ out.old.items ++ numbers_text before numbers.now) }
+fn push_numbers(alloc: Global, out: &mut Vec<u8>, numbers: &[i64]) -> Result<(), AllocError>
+    ensures { OnOk result (out.new.items ≡ out.old.items ++ numbers_text numbers.now) }
 {
-    match numbers {
-        [] => Ok(()),
-        [number, rest @ ..] => {
-            out.push(before)?;
-            push_number(alloc, out, *number)?;
-            push_numbers(alloc, out, b',', rest)
-        }
+    if numbers.is_empty() {
+        return Ok(());
     }
+    out.push(b' ')?;
+    push_list(alloc, out, numbers)
 }
 
 /// How a task ended.
@@ -55,7 +39,7 @@ pub fn push_end(alloc: Global, out: &mut Vec<u8>, end: &TaskEnd) -> Result<(), A
     match end {
         TaskEnd::Completed(numbers) => {
             out.extend_from_slice(b"completed")?;
-            push_numbers(alloc, out, b' ', numbers.as_slice())
+            push_numbers(alloc, out, numbers.as_slice())
         }
         TaskEnd::Cancelled => out.extend_from_slice(b"cancelled"),
         TaskEnd::Failed(status) => {
@@ -63,13 +47,6 @@ pub fn push_end(alloc: Global, out: &mut Vec<u8>, end: &TaskEnd) -> Result<(), A
             out.extend_from_slice(status.name().as_bytes())
         }
     }
-}
-
-fn push_line_number(alloc: Global, out: &mut Vec<u8>, line: u64) -> Result<(), AllocError>
-    ensures { OnOk result (out.new.items ≡ out.old.items ++ decimal line) }
-{
-    let text = format!(in alloc; "{line}")?;
-    out.extend_from_slice(text.as_bytes())
 }
 
 /// A line: its mark, the part, the statement's line and the text, with spaces between them.
@@ -87,7 +64,7 @@ pub fn push_marked(
     out.push(b' ')?;
     out.extend_from_slice(part)?;
     out.push(b' ')?;
-    push_line_number(alloc, out, line)?;
+    push_number(alloc, out, line)?;
     out.push(b' ')?;
     out.extend_from_slice(text)?;
     out.push(b'\n')?;

@@ -15,13 +15,13 @@ use Rattle.workload_file.specs.declared.table.Word.TheVariants as word
 use Rattle.workload_file.specs.Table.{naming}
 use Rattle.workload_file.proofs.Given.{deed_is}
 use Rattle.workload_file.proofs.Rereading.{caller_named}
-use Rattle.workload_file.specs.Values.{between}
+use Rattle.number_text.specs.Lists.{between}
 use Rattle.workload_file.specs.Cuts.{words_of}
 use Rattle.workload_file.specs.Names.{is_misplaced}
 use Rattle.workload_file.specs.Reading.{with_change, line_gives, line_adds, lines_add, start, finished, workload_of, change_of, bound_name, deed_of, name_text}
 use Rattle.workload_file.specs.Formed.{statement_lines, line_if_any, part_lines}
 use Rattle.workload_file.specs.Written.{Line, if_any, node_text, caller_text, statement_text, statement_lines_behind, lines_of_part, lines_of, laid_out, canonical}
-use Rattle.workload_file.specs.Led.{led}
+use Rattle.number_text.specs.Lists.{led}
 use Rattle.workload_file.proofs.Facts.{bind_ok, ok_is, at_line_ok, IsRead, line_facts, words_facts, statement_facts}
 use Rattle.workload_file.proofs.Laid.{statements_push, statements_none, laid_none}
 use Rattle.workload_file.proofs.Invariant.{IsFormed, not_not}
@@ -38,7 +38,7 @@ flat_lines (x ∷ xs) p = rw (flat_lines xs p) (sym (append_assoc (lines_of_part
 abbrev shown : Reading → List Line
 shown r = lines_of (finished r)
 
-line_shown : (line : ℕ) (text : List ℕ) → 1 ≤ line → if_any line text ≡ (line, text) ∷ []
+pub line_shown : (line : ℕ) (text : List ℕ) → 1 ≤ line → if_any line text ≡ (line, text) ∷ []
 line_shown line text le = let n : line ≡ 0 → ⊥ = λ (e : line ≡ 0). omega arith in rw (ne_eqb line 0 n) refl
 
 statement_shown : (r : Reading) (s : Statement) → shown (with_change r s.line (Some (change.Statement s))) ≡ shown r ++ (s.line, statement_text r.current.statements s) ∷ []
@@ -64,14 +64,14 @@ statements_count before (x ∷ xs) = let rest = statements_count (before ++ x �
 any_count : (line : ℕ) (text : List ℕ) → length (if_any line text) ≡ length (line_if_any line)
 any_count line text = elim (cases_Bool (eqb line 0)) [ inl t ↦ rw t refl | inr f ↦ rw f refl ]
 
-part_count : (p : Part) → length (lines_of_part p) ≡ length (part_lines p)
+pub part_count : (p : Part) → length (lines_of_part p) ≡ length (part_lines p)
 part_count p = omega (arith, length-append (if_any p.line (caller_text p.name)) (statement_lines_behind [] p.statements), length-append (line_if_any p.line) (map (λ (s : Statement). s.line) p.statements), any_count p.line (caller_text p.name), statements_count [] p.statements)
 
-parts_count : (ps : List Part) → length (flat_map lines_of_part ps) ≡ length (flat_map part_lines ps)
+pub parts_count : (ps : List Part) → length (flat_map lines_of_part ps) ≡ length (flat_map part_lines ps)
 parts_count [] = refl
 parts_count (p ∷ ps) = omega (arith, length-append (lines_of_part p) (flat_map lines_of_part ps), length-append (part_lines p) (flat_map part_lines ps), part_count p, parts_count ps)
 
-lines_count : (load : Workload) → length (lines_of load) ≡ length (statement_lines load)
+pub lines_count : (load : Workload) → length (lines_of load) ≡ length (statement_lines load)
 lines_count load = omega (arith, length-append (if_any load.node_line (node_text load.settings)) (flat_map lines_of_part load.parts), length-append (line_if_any load.node_line) (flat_map part_lines load.parts), any_count load.node_line (node_text load.settings), parts_count load.parts)
 
 empty_back : (xs ys : List Line) → length (xs ++ ys) ≡ 0 → (xs ++ ys ≡ []) × (ys ≡ [])
@@ -148,11 +148,11 @@ change_shown r line text (change.Statement s) f le e = subst (λ (n : ℕ). show
 -- ---- the lines read again
 
 -- a line without words gives nothing
-empty_adds : (r : Reading) (line : ℕ) → line_adds r line [] ≡ Ok r
+pub empty_adds : (r : Reading) (line : ℕ) → line_adds r line [] ≡ Ok r
 unfolding line_adds line_gives words_of with_change
 empty_adds r line = refl
 
-From : ℕ → List Line → Type 0
+unfoldable pub From : ℕ → List Line → Type 0
 From line [] = Unit {0}
 From line (l ∷ ls) = line ≤ l.0
 
@@ -161,17 +161,17 @@ unfolding From
 from_less line [] h = tt
 from_less line (l ∷ ls) h = omega (arith, h)
 
-laid_step : (line : ℕ) (l : Line) (ls : List Line) → line + 1 ≤ l.0 → laid_out line (l ∷ ls) ≡ 10 ∷ laid_out (line + 1) (l ∷ ls)
+pub laid_step : (line : ℕ) (l : Line) (ls : List Line) → line + 1 ≤ l.0 → laid_out line (l ∷ ls) ≡ 10 ∷ laid_out (line + 1) (l ∷ ls)
 unfolding laid_out
 laid_step line l ls le =
     let n : l.0 - line ≡ suc (l.0 - (line + 1)) = omega arith in
     rw n refl
 
-laid_here : (line : ℕ) (text : List ℕ) (ls : List Line) → laid_out line ((line, text) ∷ ls) ≡ text ++ laid_out line ls
+pub laid_here : (line : ℕ) (text : List ℕ) (ls : List Line) → laid_out line ((line, text) ∷ ls) ≡ text ++ laid_out line ls
 unfolding laid_out
 laid_here line text ls = let n : line - line ≡ 0 = omega arith in rw n refl
 
-one_adds : (r s : Reading) (line : ℕ) (text : List ℕ) → line_adds r line text ≡ Ok s → lines_add r line (text ∷ []) ≡ Ok s
+pub one_adds : (r s : Reading) (line : ℕ) (text : List ℕ) → line_adds r line text ≡ Ok s → lines_add r line (text ∷ []) ≡ Ok s
 unfolding lines_add
 one_adds r s line text e = rw e refl
 
@@ -184,7 +184,7 @@ unfolding lines_add
 empty_more r end line h = ok_is r end (rw (empty_adds r line) at h)
 
 -- a line, and the lines behind it
-next_adds : (r s end : Reading) (line : ℕ) (text : List ℕ) (ls : List Line) → All (λ b. eqb b 10 ≡ false) text → From (line + 1) ls → line_adds r line text ≡ Ok s → lines_add s (line + 1) (between 10 (laid_out (line + 1) ls)) ≡ Ok end → lines_add r line (between 10 (text ++ laid_out line ls)) ≡ Ok end
+pub next_adds : (r s end : Reading) (line : ℕ) (text : List ℕ) (ls : List Line) → All (λ b. eqb b 10 ≡ false) text → From (line + 1) ls → line_adds r line text ≡ Ok s → lines_add s (line + 1) (between 10 (laid_out (line + 1) ls)) ≡ Ok end → lines_add r line (between 10 (text ++ laid_out line ls)) ≡ Ok end
 unfolding From
 next_adds r s end line text [] lacks from e h =
     let whole : between 10 (text ++ laid_out line []) ≡ text ∷ [] = ap (λ (t : List ℕ). between 10 t) (ap (λ (t : List ℕ). text ++ t) (laid_none line) ∙ append-nil text) ∙ slice_split_none (λ b. eqb b 10) text lacks in
@@ -215,7 +215,7 @@ behind line text written texts ls from le (inr h) =
     let zero_long : length (laid_out line ls) ≡ 0 = ap (λ (l : List ℕ). length l) none in
     omega (arith, le, zero_long, length-append written (laid_out line ls), length-append text (led 10 texts))
 
-nothing_lacks : All (λ b. eqb b 10 ≡ false) []
+pub nothing_lacks : All (λ b. eqb b 10 ≡ false) []
 nothing_lacks = λ k d lt. absurd (omega arith)
 
 skipped : (r mid s : Reading) (line : ℕ) (text : List ℕ) (texts : List (List ℕ)) → r ≡ mid → IsReread mid s (line + 1) texts → IsReread r s line (text ∷ texts)
@@ -239,7 +239,7 @@ given_line r mid s line text written texts here adds le lacks h =
       short = inl (subst (λ (t : List ℕ). length t + 1 ≤ length (led 10 (text ∷ texts))) (sym laid) (behind line text written texts h.lines h.from le h.short));
     }
 
-written_adds : (r : Reading) (line : ℕ) (text : List ℕ) (c : Change) → line_gives r line text ≡ Ok (Some c) → line_adds r line text ≡ Ok (with_change r line (Some c))
+pub written_adds : (r : Reading) (line : ℕ) (text : List ℕ) (c : Change) → line_gives r line text ≡ Ok (Some c) → line_adds r line text ≡ Ok (with_change r line (Some c))
 unfolding line_adds
 written_adds r line text c e = rw e refl
 

@@ -1,14 +1,15 @@
 -- The values of a statement without a fault lie in their ranges.
-use Rattle.std.proofs.Common.{◌≡◌, ℕ, ℤ, pos, neg_ℤ, ◌+◌, ◌-◌, ◌*◌, ◌^◌, ◌≤◌, ◌<◌, List, [], ◌∷◌, ◌++◌, length, Bool, true, false, not, cond, ◌&&◌, eqb, Option, Some, None, refl, ap, subst, arith, ◌⊎◌, inl, inr, map, add-one, lit<, get_or, zero, suc, drop}
-use Rattle.std.specs.Prelude.{nat_le, is_some, option_and_then, FitsSigned, slice_get, slice_index, codes}
+use Rattle.std.proofs.Common.{◌≡◌, ℕ, ℤ, ◌+◌, ◌-◌, ◌*◌, ◌^◌, ◌≤◌, ◌<◌, List, [], ◌∷◌, ◌++◌, length, Bool, true, false, not, cond, ◌&&◌, eqb, Option, Some, None, refl, ap, subst, arith, ◌⊎◌, inl, inr, map, get_or, zero, suc, drop}
+use Rattle.std.specs.Prelude.{nat_le, is_some, option_and_then, FitsSigned, slice_get, codes}
 use Rattle.std.specs.List.{AllByRecursion, find, list_any, list_all, position_or_len}
 use Rattle.std.specs.Int.{w64}
 use Rattle.std.specs.Str.{bytes_eq}
-use Rattle.std.proofs.lemmas.Bool.{eqb-true, and_parts, or_parts, leb-true, ltb-true, cases_Bool}
+use Rattle.std.proofs.lemmas.Bool.{eqb-true, and_parts, or_parts, leb-true, cases_Bool}
 use Rattle.std.proofs.lemmas.List.Sums.{split_at_first, passes_at_first}
-use Rattle.std.proofs.lemmas.List.Splits.{length-slice_split}
-use Rattle.std.specs.Str.Parse.{digits_value}
-use Rattle.std.proofs.Math.Nat.{pow-le-pow_right}
+use Rattle.number_text.specs.Numbers.{whole}
+use Rattle.number_text.specs.Lists.{list_of, ◌>>=◌}
+use Rattle.number_text.specs.Cores.{cores_of as listed_cores}
+use Rattle.number_text.proofs.Reading.{whole_fits, list_fits, cores_fit}
 use Rattle.workload_file.specs.declared.table.Word.{Word}
 use Rattle.workload_file.specs.declared.table.Sort.{Sort}
 use Rattle.workload_file.specs.declared.table.Shape.{Shape}
@@ -22,7 +23,7 @@ use Rattle.workload_file.specs.declared.workload.Statement.{Statement}
 use Rattle.mtapi_values.specs.declared.timeouts.Timeout.{Timeout}
 use Rattle.mtapi_values.specs.declared.timeouts.Timeout.TheVariants as timeout
 use Rattle.workload_file.specs.Table.{fields, key_text}
-use Rattle.workload_file.specs.Values.{number, number_within, whole, wholes, args_of, between, bits_from, cores_of, timeout_of, ◌>>=◌}
+use Rattle.workload_file.specs.Values.{number, number_within, cores_of, timeout_of}
 use Rattle.workload_file.specs.Options.{key_of, value_of, field_of, is_known, has_value, is_value, gives, is_missing, is_refused, text_of}
 use Rattle.workload_file.specs.Names.{is_unbound_value, has_unbound, place_of, bound_at, is_binding}
 use Rattle.workload_file.specs.Reading.{number_in, args_in, kind_in, cores_in, timeout_in, flag_in, mode_in, whole_in, place_in}
@@ -192,93 +193,20 @@ just x = Some x
 pub just_is : {A : Type 0} (x y : A) → just x ≡ just y → x ≡ y
 just_is x y e = cc
 
--- numbers of i64
-neg_fits : (n : ℕ) → n ≤ 2 ^ 63 → FitsSigned w64 (neg_ℤ (pos n))
-neg_fits zero le = record { sfits = omega arith }
-neg_fits (suc n) le = record { sfits = omega arith }
-
-pos_fits : (n : ℕ) → n < 2 ^ 63 → FitsSigned w64 (pos n)
-pos_fits n lt = record { sfits = lt }
-
-whole_fits : (text : List ℕ) (z : ℤ) → whole text ≡ Some z → FitsSigned w64 z
-unfolding whole
-whole_fits text z e =
-    elim (cases_Bool (eqb (slice_index text 0) 45)) [
-      | inl t ↦
-          let g = some_cond _ (neg_ℤ (pos (digits_value 10 (drop 1 text)))) z (rw t at e) in
-          let le = leb-true (digits_value 10 (drop 1 text)) (2 ^ 63) (and_parts _ _ g.0).1 in
-          subst (FitsSigned w64) g.1 (neg_fits _ le)
-      | inr f ↦
-          let g = some_cond _ (pos (digits_value 10 text)) z (rw f at e) in
-          let lt = ltb-true (digits_value 10 text) (2 ^ 63) (and_parts _ _ g.0).1 in
-          subst (FitsSigned w64) g.1 (pos_fits _ lt)
-    ]
-
-wholes_fit : (texts : List (List ℕ)) (zs : List ℤ) → wholes texts ≡ Some zs → (length zs ≡ length texts) × AllByRecursion (FitsSigned w64) zs
-unfolding wholes
-wholes_fit [] zs e = let same : [] ≡ zs = just_is [] zs e in rw (← same) (refl, tt)
-wholes_fit (text ∷ texts) zs e =
-    let a = bind_some (whole text) _ zs e in
-    let b = bind_some (wholes texts) _ zs a.2 in
-    let rest = wholes_fit texts b.0 b.1 in
-    subst (λ (l : List ℤ). (length l ≡ length (text ∷ texts)) × AllByRecursion (FitsSigned w64) l) (just_is (a.0 ∷ b.0) zs b.2) (omega (arith, rest.0), (whole_fits text a.0 a.1, rest.1))
-
-pub args_cond : (b : Bool) (o : Option (List ℤ)) (zs : List ℤ) → cond b o None ≡ Some zs → (b ≡ true) × (o ≡ Some zs)
-args_cond true o zs e = (refl, e)
-args_cond false o zs e = absurd cc
-
-pub args_fit : (text : List ℕ) (zs : List ℤ) → args_of text ≡ Some zs → (length zs ≤ 16) × AllByRecursion (FitsSigned w64) zs
-unfolding args_of
-args_fit text zs e =
-    let g = args_cond _ (wholes (between 44 text)) zs e in
-    let few = leb-true (length (between 44 text)) 16 g.0 in
-    let all = wholes_fit (between 44 text) zs g.1 in
-    (omega (arith, few, all.0), all.1)
-
-pub pow_double : (n : ℕ) → 2 ^ (n + 1) ≡ 2 * 2 ^ n
-pow_double n = rw add-one (omega arith)
-
-bits_fit : (texts : List (List ℕ)) (low bits : ℕ) → bits_from low texts ≡ Some bits → low ≤ 64 → bits + 2 ^ low ≤ 2 ^ 64
-unfolding bits_from
-bits_fit [] low bits e le =
-    let same : 0 ≡ bits = just_is 0 bits e in
-    let p : 2 ^ low ≤ 2 ^ 64 = pow-le-pow_right (lit< tt) le in
-    omega (arith, same, p)
-bits_fit (text ∷ texts) low bits e le =
-    let a = bind_some (number_within low 63 text) _ bits e in
-    let b = bind_some (bits_from (a.0 + 1) texts) _ bits a.2 in
-    let w = within_is low 63 a.0 text a.1 in
-    let rest = bits_fit texts (a.0 + 1) b.0 b.1 (omega (arith, w.2)) in
-    let same : 2 ^ a.0 + b.0 ≡ bits = just_is (2 ^ a.0 + b.0) bits b.2 in
-    let p : 2 ^ low ≤ 2 ^ a.0 = pow-le-pow_right (lit< tt) w.1 in
-    omega (arith, same, p, rest, pow_double a.0)
-
-pub bits_some : (texts : List (List ℕ)) (low bits : ℕ) → 1 ≤ length texts → bits_from low texts ≡ Some bits → 0 < bits
-unfolding bits_from
-bits_some [] low bits h e = absurd (omega arith)
-bits_some (text ∷ texts) low bits h e =
-    let a = bind_some (number_within low 63 text) _ bits e in
-    let b = bind_some (bits_from (a.0 + 1) texts) _ bits a.2 in
-    let same : 2 ^ a.0 + b.0 ≡ bits = just_is (2 ^ a.0 + b.0) bits b.2 in
-    let from : 0 ≤ a.0 = omega arith in
-    let p : 2 ^ 0 ≤ 2 ^ a.0 = pow-le-pow_right (lit< tt) from in
-    omega (arith, same, p)
-
 pub cores_cond : (b : Bool) (m : ℕ) (o : Option ℕ) (bits : ℕ) → cond b (Some m) o ≡ Some bits → (m ≡ bits) ⊎ (o ≡ Some bits)
 cores_cond true m o bits e = inl (just_is m bits e)
 cores_cond false m o bits e = inr e
 
-pub cores_fit : (text : List ℕ) (bits : ℕ) → cores_of text ≡ Some bits → (0 < bits) × (bits < 2 ^ 64)
+pub all_cores_fit : (text : List ℕ) (bits : ℕ) → cores_of text ≡ Some bits → (0 < bits) × (bits < 2 ^ 64)
 unfolding cores_of
-cores_fit text bits e =
-    elim (cores_cond _ (2 ^ 64 - 1) (bits_from 0 (between 44 text)) bits e) [
+all_cores_fit text bits e =
+    elim (cores_cond _ (2 ^ 64 - 1) (listed_cores text) bits e) [
       | inl same ↦ (omega (arith, same), omega (arith, same))
-      | inr listed ↦
-          let some : 1 ≤ length (between 44 text) = omega (arith, length-slice_split (λ b. eqb b 44) text) in
-          let a = bits_some (between 44 text) 0 bits some listed in
-          let b = bits_fit (between 44 text) 0 bits listed (omega arith) in
-          (a, omega (arith, b))
+      | inr listed ↦ cores_fit text bits listed
     ]
+
+pub args_fit : (text : List ℕ) (zs : List ℤ) → list_of text ≡ Some zs → (length zs ≤ 16) × AllByRecursion (FitsSigned w64) zs
+args_fit text zs e = let f = list_fits text zs e in (f.1, f.2)
 
 pub timeout_cond : (b : Bool) (x t : Timeout) (o : Option Timeout) → cond b (Some x) o ≡ Some t → (x ≡ t) ⊎ (o ≡ Some t)
 timeout_cond true x t o e = inl (just_is x t e)
@@ -359,9 +287,9 @@ shape_fits r options k a (shape.Number low high) good (inr g) = let v = number_g
 shape_fits r options k a shape.Whole good (inl n) = absurd (never a shape.Whole refl (λ d. refl) good n.may)
 shape_fits r options k a shape.Whole good (inr g) = let v = some_value (whole g.text) g.valued in rw (g.at, v.1) (whole_fits g.text v.0 v.1)
 shape_fits r options k a shape.Args good (inl n) = rw n.at (omega arith, tt)
-shape_fits r options k a shape.Args good (inr g) = let v = some_value (args_of g.text) g.valued in rw (g.at, v.1) (args_fit g.text v.0 v.1)
+shape_fits r options k a shape.Args good (inr g) = let v = some_value (list_of g.text) g.valued in rw (g.at, v.1) (args_fit g.text v.0 v.1)
 shape_fits r options k a shape.Cores good (inl n) = rw n.at (omega arith, omega arith)
-shape_fits r options k a shape.Cores good (inr g) = let v = some_value (cores_of g.text) g.valued in rw (g.at, v.1) (cores_fit g.text v.0 v.1)
+shape_fits r options k a shape.Cores good (inr g) = let v = some_value (cores_of g.text) g.valued in rw (g.at, v.1) (all_cores_fit g.text v.0 v.1)
 shape_fits r options k a shape.Kind good o = tt
 shape_fits r options k a shape.Flag good o = tt
 shape_fits r options k a shape.Mode good o = tt

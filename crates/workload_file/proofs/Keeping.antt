@@ -13,7 +13,8 @@ use Rattle.workload_file.specs.declared.workload.Part.{Part}
 use Rattle.workload_file.specs.declared.workload.Workload.{Workload}
 use Rattle.workload_file.specs.declared.reading.Reading.{Reading}
 use Rattle.workload_file.specs.declared.reading.Change.{Change}
-use Rattle.workload_file.specs.Values.{is_name, between}
+use Rattle.workload_file.specs.Values.{is_name}
+use Rattle.number_text.specs.Lists.{between}
 use Rattle.workload_file.specs.Table.{naming, fields}
 use Rattle.workload_file.specs.Deeds.{setting_values, is_begin}
 use Rattle.workload_file.specs.Names.{is_taken, is_misplaced, is_ninth_caller}

@@ -8,9 +8,10 @@ use Rattle.workload_file.specs.Written.{Line, if_any, laid_out, statement_lines_
 use Rattle.std.specs.List.{flat_map, join_with_byte}
 use Rattle.std.proofs.lemmas.List.{take_all, take_more}
 use Rattle.workload_file.proofs.Pieces.{joined, led_append}
-use Rattle.workload_file.specs.Written.{listed, lines_of_part}
+use Rattle.workload_file.specs.Written.{lines_of_part}
 use Rattle.workload_file.specs.declared.workload.Part.{Part}
-use Rattle.workload_file.specs.Led.{last_line, led}
+use Rattle.workload_file.specs.Led.{last_line}
+use Rattle.number_text.specs.Lists.{led}
 
 pub laid-append : (at : ℕ) (xs ys : List Line) → laid_out at (xs ++ ys) ≡ laid_out at xs ++ laid_out (last_line at xs) ys
 unfolding laid_out
@@ -79,12 +80,6 @@ first_rest (x ∷ xs) d h =
 pub none_below : {X : Type 0} (xs : List X) → length xs < 1 → xs ≡ []
 none_below [] h = refl
 none_below (x ∷ xs) h = absurd (omega arith)
-
-pub list_more : {X : Type 0} (f : X → List ℕ) (d : X) (first mid out : List ℕ) (xs : List X) → 1 ≤ length xs → mid ≡ first ++ f (get_or xs 0 d) → out ≡ mid ++ led 44 (map f (rest_of xs)) → out ≡ first ++ listed (map f xs)
-list_more f d first mid out xs h a b =
-    let split = first_rest xs d h in
-    let all : listed (map f xs) ≡ f (get_or xs 0 d) ++ led 44 (map f (rest_of xs)) = ap (λ l. listed (map f l)) split ∙ joined 44 (f (get_or xs 0 d)) (map f (rest_of xs)) in
-    rw (b, a, all) (append_assoc first (f (get_or xs 0 d)) (led 44 (map f (rest_of xs))))
 
 pub parts_split : (parts : List Part) (p : Part) → 1 ≤ length parts → p ≡ get_or parts 0 p → flat_map lines_of_part parts ≡ lines_of_part p ++ flat_map lines_of_part (rest_of parts)
 parts_split parts p h is = ap (λ l. flat_map lines_of_part l) (first_rest parts p h) ∙ rw (← is) refl

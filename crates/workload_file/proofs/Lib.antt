@@ -1,9 +1,7 @@
 pub mod Pieces
-pub mod Parsing
 pub mod Lines
 pub mod Places
 pub mod Laid
-pub mod Cores
 pub mod Feeds
 pub mod Facts
 pub mod Given
@@ -16,3 +14,12 @@ pub mod Rereading
 pub mod Phrases
 pub mod Rewriting
 pub mod Again
+pub mod Taken
+pub mod FirstMet
+pub mod KindWords
+pub mod Tables
+pub mod Letters
+pub mod Valued
+pub mod Optioned
+pub mod Stated
+pub mod Converse

@@ -9,13 +9,13 @@ use Rattle.std.proofs.lemmas.List.Splits.{slice_split_at, slice_split_none, leng
 use Rattle.workload_file.specs.declared.table.Key.{Key}
 use Rattle.workload_file.specs.declared.table.Field.{Field}
 use Rattle.workload_file.specs.declared.reading.Reading.{Reading}
-use Rattle.workload_file.specs.Values.{between}
+use Rattle.number_text.specs.Lists.{between}
 use Rattle.workload_file.specs.Table.{key_text}
 use Rattle.workload_file.specs.Cuts.{words_of}
 use Rattle.workload_file.specs.Options.{key_of}
 use Rattle.workload_file.specs.Reading.{is_printable}
 use Rattle.workload_file.specs.Written.{line_text}
-use Rattle.workload_file.specs.Led.{led}
+use Rattle.number_text.specs.Lists.{led}
 use Rattle.workload_file.proofs.Pieces.{joined}
 use Rattle.workload_file.proofs.Places.{bytes_are}
 use Rattle.workload_file.proofs.Given.{AreApart}

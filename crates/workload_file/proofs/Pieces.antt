@@ -1,52 +1,11 @@
 -- Texts that are cut at a byte.
-use Rattle.std.proofs.Common.{◌≡◌, ℕ, ◌+◌, ◌<◌, ◌≤◌, List, [], ◌∷◌, ◌++◌, Bool, eqb, length, take, drop, Option, Some, None, refl, sym, ◌∙◌, arith, append_assoc, inl, inr}
-use Rattle.std.specs.Prelude.{IfSome, position, nat_lt}
-use Rattle.std.specs.List.{position_or_len, slice_split}
-use Rattle.std.proofs.lemmas.Bool.{ltb-true, ltb-false, cases_Bool}
-use Rattle.std.proofs.lemmas.List.Splits.{slice_split_first}
-use Rattle.workload_file.specs.Values.{between}
+use Rattle.std.proofs.Common.{◌≡◌, ℕ, ◌+◌, ◌<◌, ◌≤◌, List, [], ◌∷◌, ◌++◌, length, Option, Some, None, refl, sym, arith, append_assoc}
+use Rattle.std.specs.Prelude.{IfSome}
 use denote.Ref.{Bor}
 use Rattle.std.proofs.lemmas.List.{map-append, append-nil}
 use Rattle.std.specs.List.{join_with_byte}
-use Rattle.workload_file.specs.Led.{led}
+use Rattle.number_text.specs.Lists.{led}
 use Rattle.workload_file.specs.Texts.{texts}
-
--- where no element passes, the list is one piece
-split_none : {X : Type 0} (p : X → Bool) (xs : List X) → length xs ≤ position_or_len p xs → slice_split p xs ≡ xs ∷ []
-split_none p [] h = refl
-split_none p (x ∷ xs) h =
-    elim (cases_Bool (p x)) [
-      | inl t ↦ absurd (let e : position_or_len p (x ∷ xs) ≡ 0 = rw t refl in omega arith)
-      | inr f ↦
-          let e : position_or_len p (x ∷ xs) ≡ 1 + position_or_len p xs = rw f refl in
-          let r = split_none p xs (omega arith) in
-          rw (f, r) refl
-    ]
-
-pub place_some : {X : Type 0} (p : X → Bool) (xs : List X) (i : ℕ) → position p xs ≡ Some i → (i < length xs) × (position_or_len p xs ≡ i)
-place_some p xs i e =
-    elim (cases_Bool (nat_lt (position_or_len p xs) (length xs))) [
-      | inl t ↦ let e2 : position p xs ≡ Some (position_or_len p xs) = rw t refl in
-          let same : position_or_len p xs ≡ i = cc in
-          (omega (arith, ltb-true _ _ t), same)
-      | inr f ↦ let e2 : position p xs ≡ None = rw f refl in absurd (cc)
-    ]
-
-pub place_none : {X : Type 0} (p : X → Bool) (xs : List X) → position p xs ≡ None → length xs ≤ position_or_len p xs
-place_none p xs e =
-    elim (cases_Bool (nat_lt (position_or_len p xs) (length xs))) [
-      | inl t ↦ let e2 : position p xs ≡ Some (position_or_len p xs) = rw t refl in absurd (cc)
-      | inr f ↦ ltb-false _ _ f
-    ]
-
-pub between_some : (byte : ℕ) (text : List ℕ) (i : ℕ) → position (λ b. eqb b byte) text ≡ Some i → between byte text ≡ take i text ∷ between byte (drop (i + 1) text)
-between_some byte text i e =
-    let h = place_some (λ b. eqb b byte) text i e in
-    let lt : position_or_len (λ b. eqb b byte) text < length text = omega (arith, h.0, h.1) in
-    slice_split_first (λ b. eqb b byte) text 0 lt ∙ rw h.1 refl
-
-pub between_none : (byte : ℕ) (text : List ℕ) → position (λ b. eqb b byte) text ≡ None → between byte text ≡ text ∷ []
-between_none byte text e = split_none (λ b. eqb b byte) text (place_none _ text e)
 
 -- what a rest measures
 abbrev pub left_len : Option (Bor (List ℕ)) → ℕ

@@ -77,17 +77,17 @@ picks_once r options [] a p = rw (picks_none r options) refl
 picks_once r options (f ∷ fs) a (inl l, p) = rw (picks_cons r options f fs, l.words) (picks_once r options fs a.1 p)
 picks_once r options (f ∷ fs) a (inr g, p) = rw (picks_cons r options f fs, g.words, g.key) (or_from _ _ (no_key f.key r options fs a.0 p) (picks_once r options fs a.1 p))
 
-any_in : {X : Type 0} (p : X → Bool) (xs ys : List X) (y : X) → p y ≡ true → list_any p (xs ++ y ∷ ys) ≡ true
+pub any_in : {X : Type 0} (p : X → Bool) (xs ys : List X) (y : X) → p y ≡ true → list_any p (xs ++ y ∷ ys) ≡ true
 any_in p [] ys y h = or_left (p y) (list_any p ys) h
 any_in p (x ∷ xs) ys y h = or_right (p x) (list_any p (xs ++ y ∷ ys)) (any_in p xs ys y h)
 
-left_out_may : (a : Absent) (v : Value) → is_default a v ≡ true → is_refused a ≡ false
+pub left_out_may : (a : Absent) (v : Value) → is_default a v ≡ true → is_refused a ≡ false
 unfolding is_default
 left_out_may absent.Refused v h = absurd cc
 left_out_may absent.Usual v h = refl
 left_out_may (absent.Number n) v h = refl
 
-and_false : (a b : Bool) → b ≡ false → (a && b) ≡ false
+pub and_false : (a b : Bool) → b ≡ false → (a && b) ≡ false
 and_false true b h = h
 and_false false b h = refl
 
@@ -108,11 +108,11 @@ picks_lack_none r options fs p = picks_present r options [] fs p
 
 -- ---- values
 
-find_skip : {X : Type 0} (p : X → Bool) (xs ys : List X) (y : X) → list_any p xs ≡ false → p y ≡ true → find p (xs ++ y ∷ ys) ≡ Some y
+pub find_skip : {X : Type 0} (p : X → Bool) (xs ys : List X) (y : X) → list_any p xs ≡ false → p y ≡ true → find p (xs ++ y ∷ ys) ≡ Some y
 find_skip p [] ys y h t = rw t refl
 find_skip p (x ∷ xs) ys y h t = let both = or_parts (p x) (list_any p xs) h in rw both.0 (find_skip p xs ys y both.1 t)
 
-find_nothing : {X : Type 0} (p : X → Bool) (xs ys : List X) → list_any p xs ≡ false → list_any p ys ≡ false → find p (xs ++ ys) ≡ None
+pub find_nothing : {X : Type 0} (p : X → Bool) (xs ys : List X) → list_any p xs ≡ false → list_any p ys ≡ false → find p (xs ++ ys) ≡ None
 find_nothing p [] [] h k = refl
 find_nothing p [] (y ∷ ys) h k = let both = or_parts (p y) (list_any p ys) k in rw both.0 (find_nothing p [] ys refl both.1)
 find_nothing p (x ∷ xs) ys h k = let both = or_parts (p x) (list_any p xs) h in rw both.0 (find_nothing p xs ys both.1 k)
@@ -130,19 +130,19 @@ shaped_same r xs ys k a shape.Mode e = rw e refl
 shaped_same r xs ys k a shape.Timeout e = rw e refl
 shaped_same r xs ys k a (shape.Named sort) e = rw e refl
 
-usual_args : (zs : List ℤ) → is_usual (given.Args zs) ≡ true → given.Args [] ≡ given.Args zs
+pub usual_args : (zs : List ℤ) → is_usual (given.Args zs) ≡ true → given.Args [] ≡ given.Args zs
 usual_args [] h = refl
 usual_args (z ∷ zs) h = absurd cc
 
-usual_flag : (b : Bool) → is_usual (given.Flag b) ≡ true → given.Flag false ≡ given.Flag b
+pub usual_flag : (b : Bool) → is_usual (given.Flag b) ≡ true → given.Flag false ≡ given.Flag b
 usual_flag true h = absurd cc
 usual_flag false h = refl
 
-usual_place : (o : Option ℕ) → is_usual (given.Place o) ≡ true → given.Place None ≡ given.Place o
+pub usual_place : (o : Option ℕ) → is_usual (given.Place o) ≡ true → given.Place None ≡ given.Place o
 usual_place None h = refl
 usual_place (Some i) h = absurd cc
 
-usual_cores : (m : ℕ) → is_usual (given.Cores (record { 0 = m })) ≡ true → given.Cores (record { 0 = 2 ^ 64 - 1 }) ≡ given.Cores (record { 0 = m })
+pub usual_cores : (m : ℕ) → is_usual (given.Cores (record { 0 = m })) ≡ true → given.Cores (record { 0 = 2 ^ 64 - 1 }) ≡ given.Cores (record { 0 = m })
 usual_cores m h = ap (λ (x : ℕ). given.Cores (record { 0 = x })) (sym (eqb-true m (2 ^ 64 - 1) h))
 
 -- an option that was left out gives its default again
@@ -175,31 +175,31 @@ apart_sym xs ys h =
       | inr f ↦ f
     ]
 
-abbrev Free : List (List ℕ) → List Field → Type 0
+abbrev pub Free : List (List ℕ) → List Field → Type 0
 Free ws fs = AllByRecursion (λ f. gives f.key ws ≡ false) fs
 
 any_push : {X : Type 0} (p : X → Bool) (xs : List X) (y : X) → list_any p xs ≡ false → p y ≡ false → list_any p (xs ++ y ∷ []) ≡ false
 any_push p [] y h e = or_from (p y) false e refl
 any_push p (x ∷ xs) y h e = let both = or_parts (p x) (list_any p xs) h in or_from (p x) (list_any p (xs ++ y ∷ [])) both.0 (any_push p xs y both.1 e)
 
-free_push : (ws : List (List ℕ)) (word : List ℕ) (k : Key) (fs : List Field) → key_of word ≡ key_text k → list_any (λ g. bytes_eq (key_text g.key) (key_text k)) fs ≡ false → Free ws fs → Free (ws ++ word ∷ []) fs
+pub free_push : (ws : List (List ℕ)) (word : List ℕ) (k : Key) (fs : List Field) → key_of word ≡ key_text k → list_any (λ g. bytes_eq (key_text g.key) (key_text k)) fs ≡ false → Free ws fs → Free (ws ++ word ∷ []) fs
 free_push ws word k [] e h f = tt
 free_push ws word k (g ∷ fs) e h f =
     let both = or_parts _ _ h in
     let other : bytes_eq (key_of word) (key_text g.key) ≡ false = rw e (apart_sym (key_text g.key) (key_text k) both.0) in
     (any_push (λ (w : List ℕ). bytes_eq (key_of w) (key_text g.key)) ws word f.0 other, free_push ws word k fs e both.1 f.1)
 
-text_skip : (k : Key) (xs ys : List (List ℕ)) (word text : List ℕ) → gives k xs ≡ false → key_of word ≡ key_text k → value_of word ≡ text → text_of k (xs ++ word ∷ ys) ≡ Some text
+pub text_skip : (k : Key) (xs ys : List (List ℕ)) (word text : List ℕ) → gives k xs ≡ false → key_of word ≡ key_text k → value_of word ≡ text → text_of k (xs ++ word ∷ ys) ≡ Some text
 unfolding text_of
 text_skip k xs ys word text h e v =
     let t : bytes_eq (key_of word) (key_text k) ≡ true = rw e (bytes_same (key_text k)) in
     rw (find_skip (λ (w : List ℕ). bytes_eq (key_of w) (key_text k)) xs ys word h t) (ap some v)
 
-text_nothing : (k : Key) (xs ys : List (List ℕ)) → gives k xs ≡ false → gives k ys ≡ false → text_of k (xs ++ ys) ≡ None
+pub text_nothing : (k : Key) (xs ys : List (List ℕ)) → gives k xs ≡ false → gives k ys ≡ false → text_of k (xs ++ ys) ≡ None
 unfolding text_of
 text_nothing k xs ys h g = rw (find_nothing (λ (w : List ℕ). bytes_eq (key_of w) (key_text k)) xs ys h g) refl
 
-two : {X : Type 0} {x y : X} {xs ys : List X} → x ≡ y → xs ≡ ys → x ∷ xs ≡ y ∷ ys
+pub two : {X : Type 0} {x y : X} {xs ys : List X} → x ≡ y → xs ≡ ys → x ∷ xs ≡ y ∷ ys
 two e f = rw (e, f) refl
 
 values_from : (r : Reading) (options ws : List (List ℕ)) (fs : List Field) → AllPicked r options fs → AreApart fs → AllByRecursion (λ f. is_good f.absent f.shape ≡ true) fs → Free ws fs → map (value_in r (ws ++ picks r options fs)) fs ≡ map (value_in r options) fs
@@ -215,7 +215,7 @@ values_from r options ws (f ∷ fs) (inr g, p) a good free =
     let moved = subst (λ (ps : List (List ℕ)). map (value_in r ps) fs ≡ map (value_in r options) fs) (append_assoc ws (g.word ∷ []) (picks r options fs)) rest in
     subst (λ (ps : List (List ℕ)). map (value_in r (ws ++ ps)) (f ∷ fs) ≡ map (value_in r options) (f ∷ fs)) (sym (picks_word r options f fs g)) (two head moved)
 
-free_none : (fs : List Field) → Free [] fs
+pub free_none : (fs : List Field) → Free [] fs
 free_none [] = tt
 free_none (f ∷ fs) = (refl, free_none fs)
 

@@ -18,7 +18,7 @@ use Rattle.workload_file.specs.Options.{is_known, has_value}
 use Rattle.workload_file.specs.Names.{split_name, is_unbound, has_unbound, place_of}
 use Rattle.workload_file.specs.Reading.{deed_of, change_of, settings_in, name_text, bound_name, used_place, line_gives, statement_of}
 use Rattle.workload_file.specs.Written.{value_text, options_words, bound_words, used_words, name_at, line_text, statement_text, node_text, caller_text}
-use Rattle.workload_file.specs.Led.{led}
+use Rattle.number_text.specs.Lists.{led}
 use Rattle.workload_file.proofs.Pieces.{led_append}
 use Rattle.workload_file.proofs.Places.{bytes_are}
 use Rattle.workload_file.proofs.Facts.{IsRead, statement_facts, statement_read, line_facts, line_read, words_facts, words_read, some, some_is}

@@ -1,236 +1,53 @@
 -- A value that was read is written as it was read.
-use Rattle.std.proofs.Common.{◌≡◌, ℕ, ℤ, pos, neg_ℤ, ◌+◌, ◌-◌, ◌*◌, ◌^◌, ◌≤◌, ◌<◌, List, [], ◌∷◌, ◌++◌, length, Bool, true, false, not, cond, eqb, Option, Some, None, refl, sym, ap, ◌∙◌, arith, ◌⊎◌, inl, inr, map, lit<, get_or, zero, suc, drop, append_assoc, mul_assoc, mul_comm, add-mul}
-use Rattle.std.specs.Prelude.{nat_le, nat_lt, slice_get, slice_index, codes}
-use Rattle.std.specs.Int.{bit_at}
+use Rattle.std.proofs.Common.{◌≡◌, ℕ, ℤ, ◌-◌, ◌^◌, ◌<◌, List, [], ◌∷◌, length, Bool, true, false, cond, Option, Some, None, refl, sym, ap, ◌∙◌, arith, ◌⊎◌, inl, inr, get_or, zero, suc}
+use Rattle.std.specs.Prelude.{slice_get, codes}
 use Rattle.std.specs.Fmt.{decimal, signed_decimal}
 use Rattle.std.specs.Str.{bytes_eq}
-use Rattle.std.specs.Str.Parse.{digits_value}
-use Rattle.std.proofs.Math.Nat.{pow-le-pow_right}
-use Rattle.std.proofs.lemmas.Bool.{le-leb, and_parts, or_cases, eqb-true, leb-true, ltb-true, cases_Bool, eq-eqb, cases_eq}
-use Rattle.std.proofs.lemmas.Fmt.{decimal-digits_value, decimal_digit}
-use Rattle.std.proofs.lemmas.List.{append-nil}
-use Rattle.std.proofs.lemmas.List.Splits.{join_with_byte-slice_split}
 use Rattle.std.proofs.lemmas.List.Quantifiers.{position-Some}
-use Rattle.std.proofs.lemmas.Nat.Bits.{bit_at-zero, bit_at-pow_same, bit_at_cat_low, bit_at_cat_high}
 use Rattle.mtapi_values.specs.declared.kinds.Kind.{Kind}
 use Rattle.mtapi_values.specs.declared.timeouts.Timeout.{Timeout}
 use Rattle.mtapi_values.specs.declared.timeouts.Timeout.TheVariants as timeout
 use Rattle.mtapi_values.specs.Kinds.{kind_word}
-use Rattle.mtapi_values.specs.Masks.{in_mask}
+use Rattle.mtapi_values.proofs.ValueTables.{kind_all}
+use Rattle.number_text.specs.Numbers.{whole}
+use Rattle.number_text.specs.Lists.{list_of, list_text}
+use Rattle.number_text.specs.Cores.{cores_text}
+use Rattle.number_text.specs.Cores.{cores_of as listed_cores}
+use Rattle.number_text.proofs.Reading.{within_is as wide_is}
+use Rattle.number_text.proofs.Spelling.{number_spelled, whole_spelled, list_spelled, cores_spelled}
 use Rattle.workload_file.specs.declared.workload.Statement.{Statement}
-use Rattle.workload_file.specs.Values.{is_decimal, number, number_within, whole, wholes, args_of, between, bits_from, cores_of, kind_of, kinds, timeout_of, flag_of, mode_of}
+use Rattle.workload_file.specs.Values.{number, number_within, cores_of, kind_of, timeout_of, flag_of, mode_of}
 use Rattle.workload_file.specs.Names.{bound_at, is_called}
 use Rattle.workload_file.specs.Reading.{name_text}
-use Rattle.workload_file.specs.Written.{cores_below, listed, timeout_text, name_at, name_of}
-use Rattle.workload_file.proofs.Parsing.{own}
+use Rattle.workload_file.specs.Written.{timeout_text, name_at, name_of}
 use Rattle.workload_file.proofs.Places.{bytes_are}
-use Rattle.workload_file.proofs.Cores.{cores_none, cores_next}
-use Rattle.workload_file.proofs.Fitting.{find_passes, bind_some, just_is, some_cond, args_cond, cores_cond, looks_of, within_is, pow_double}
+use Rattle.workload_file.proofs.Fitting.{find_passes, bind_some, just_is, cores_cond, looks_of, within_is}
 
 -- ---- numbers
 
-decimal_text : (text : List ℕ) → is_decimal text ≡ true → digits_value 10 text < 2 ^ 64 → decimal (digits_value 10 text) ≡ text
-decimal_text text h lt =
-    let a = and_parts _ _ h in
-    let b = and_parts _ _ a.0 in
-    let some = ltb-true 0 (length text) b.0 in
-    decimal-digits_value own text b.1 some (λ (e : get_or text 0 0 ≡ 48).
-    elim (or_cases (eqb (length text) 1) (not (eqb (slice_index text 0) 48)) a.1) [
-      | inl one ↦ eqb-true (length text) 1 one
-      | inr other ↦ absurd (let t : eqb (slice_index text 0) 48 ≡ true = eq-eqb _ _ e in let f = rw t at other in cc)
-    ]) lt
-
 pub number_text : (text : List ℕ) (n : ℕ) → number text ≡ Some n → decimal n ≡ text
 unfolding number
-number_text text n e =
-    let g = some_cond _ (digits_value 10 text) n e in
-    let both = and_parts (is_decimal text) (nat_lt (digits_value 10 text) (2 ^ 32)) g.0 in
-    let lt = ltb-true (digits_value 10 text) (2 ^ 32) both.1 in
-    ap decimal (sym g.1) ∙ decimal_text text both.0 (omega arith)
-
-minus_text : (text : List ℕ) → slice_index text 0 ≡ 45 → text ≡ 45 ∷ drop 1 text
-minus_text [] e = absurd (omega arith)
-minus_text (x ∷ xs) e = ap (λ (y : ℕ). y ∷ xs) e
-
-zero_digit : (v : ℕ) (ds : List ℕ) → decimal v ≡ ds → v ≡ 0 → get_or ds 0 0 ≡ 48
-zero_digit v ds e z = rw (← e, z, decimal_digit 0 (omega arith)) (omega arith)
-
-neg_text : (v : ℕ) (ds : List ℕ) → decimal v ≡ ds → (v ≡ 0 → ⊥) → signed_decimal (neg_ℤ (pos v)) ≡ 45 ∷ ds
-neg_text zero ds e h = absurd (h refl)
-neg_text (suc m) ds e h = ap (λ (l : List ℕ). 45 ∷ l) e
-
-second : (text : List ℕ) → slice_index text 1 ≡ get_or (drop 1 text) 0 0
-second [] = refl
-second (x ∷ xs) = refl
+number_text text n e = number_spelled text n (wide_is 0 4294967295 n text e).0
 
 pub whole_text : (text : List ℕ) (z : ℤ) → whole text ≡ Some z → signed_decimal z ≡ text
-unfolding whole
-whole_text text z e =
-    elim (cases_Bool (eqb (slice_index text 0) 45)) [
-      | inl t ↦
-          let ds = drop 1 text in
-          let v = digits_value 10 ds in
-          let g = some_cond _ (neg_ℤ (pos v)) z (rw t at e) in
-          let a = and_parts _ _ g.0 in
-          let b = and_parts _ _ a.0 in
-          let le = leb-true v (2 ^ 63) a.1 in
-          let spelled = decimal_text ds b.0 (omega (arith, le)) in
-          let some : v ≡ 0 → ⊥ = λ (n : v ≡ 0).
-          let first = zero_digit v ds spelled n in
-          let t2 : eqb (slice_index text 1) 48 ≡ true = eq-eqb _ _ (second text ∙ first) in
-          let f = rw t2 at b.1 in cc in
-          ap signed_decimal (sym g.1) ∙ (neg_text v ds spelled some ∙ sym (minus_text text (eqb-true _ _ t)))
-      | inr f ↦
-          let g = some_cond _ (pos (digits_value 10 text)) z (rw f at e) in
-          let a = and_parts _ _ g.0 in
-          let lt = ltb-true (digits_value 10 text) (2 ^ 63) a.1 in
-          ap signed_decimal (sym g.1) ∙ decimal_text text a.0 (omega (arith, lt))
-    ]
+whole_text text z e = whole_spelled text z e
 
-wholes_text : (texts : List (List ℕ)) (zs : List ℤ) → wholes texts ≡ Some zs → map signed_decimal zs ≡ texts
-unfolding wholes
-wholes_text [] zs e = let same : [] ≡ zs = just_is [] zs e in rw (← same) refl
-wholes_text (text ∷ texts) zs e =
-    let a = bind_some (whole text) _ zs e in
-    let b = bind_some (wholes texts) _ zs a.2 in
-    let same = just_is (a.0 ∷ b.0) zs b.2 in
-    rw (← same, whole_text text a.0 a.1, wholes_text texts b.0 b.1) refl
+pub args_text : (text : List ℕ) (zs : List ℤ) → list_of text ≡ Some zs → list_text zs ≡ text
+args_text text zs e = list_spelled text zs e
 
-pub args_text : (text : List ℕ) (zs : List ℤ) → args_of text ≡ Some zs → listed (map signed_decimal zs) ≡ text
-unfolding args_of
-args_text text zs e =
-    let g = args_cond _ (wholes (between 44 text)) zs e in
-    ap (λ (l : List (List ℕ)). listed l) (wholes_text (between 44 text) zs g.1) ∙ join_with_byte-slice_split 44 text
-
--- ---- cores
-
--- the cores of the mask from low on, k of them
-abbrev cores_from : ℕ → ℕ → ℕ → List ℕ
-cores_from mask low zero = []
-cores_from mask low (suc k) = cond (in_mask low mask) (low ∷ []) [] ++ cores_from mask (low + 1) k
-
-cores_up : (mask n k : ℕ) → cores_below mask n ++ cores_from mask n k ≡ cores_below mask (n + k)
-cores_up mask n zero = append-nil (cores_below mask n) ∙ ap (cores_below mask) (omega arith)
-cores_up mask n (suc k) =
-    let next = cores_next mask n in
-    let rest = cores_up mask (n + 1) k in
-    let same : n + 1 + k ≡ n + suc k = omega arith in
-    sym (append_assoc (cores_below mask n) (cond (in_mask n mask) (n ∷ []) []) (cores_from mask (n + 1) k)) ∙ (ap (λ (l : List ℕ). l ++ cores_from mask (n + 1) k) (sym next) ∙ (rest ∙ ap (cores_below mask) same))
-
-cores_all : (mask : ℕ) → cores_below mask 64 ≡ cores_from mask 0 64
-cores_all mask = sym (cores_up mask 0 64) ∙ ap (λ (l : List ℕ). l ++ cores_from mask 0 64) (cores_none mask)
-
-cores_same : (a b low k : ℕ) → ((i : ℕ) → low ≤ i → bit_at a i ≡ bit_at b i) → cores_from a low k ≡ cores_from b low k
-cores_same a b low zero h = refl
-cores_same a b low (suc k) h =
-    rw (h low (omega arith), cores_same a b (low + 1) k (λ (i : ℕ) (le : low + 1 ≤ i). h i (omega arith))) refl
-
--- the listed cores from low on: either low comes first, or the list is one from the next core on
-data Step (low bits : ℕ) (texts : List (List ℕ)) : Type 0 where
-  here : (text : List ℕ) (rest : List (List ℕ)) (more : ℕ) → texts ≡ text ∷ rest → decimal low ≡ text → 2 ^ low + more ≡ bits → bits_from (low + 1) rest ≡ Some more → Step low bits texts
-  later : bits_from (low + 1) texts ≡ Some bits → Step low bits texts
-
-within_next : (low core : ℕ) (text : List ℕ) → number_within low 63 text ≡ Some core → low < core → number_within (low + 1) 63 text ≡ Some core
-unfolding number_within
-within_next low core text e lt =
-    let w = within_is low 63 core text e in
-    let a : nat_le (low + 1) core ≡ true = le-leb _ _ (omega arith) in
-    let b : nat_le core 63 ≡ true = le-leb _ _ w.2 in
-    rw (w.0, a, b) refl
-
-step_at : (low bits core more : ℕ) (text : List ℕ) (texts : List (List ℕ)) → number_within low 63 text ≡ Some core → number text ≡ Some core → low ≤ core → 2 ^ core + more ≡ bits → bits_from (core + 1) texts ≡ Some more → Step low bits (text ∷ texts)
-unfolding bits_from
-step_at low bits core more text texts within is le total next =
-    elim (cases_eq core low) [
-      | inl same ↦ here text texts more refl (rw same at (number_text text core is)) (rw same at total) (rw same at next)
-      | inr other ↦
-          let lt : low < core = omega arith in
-          let w = within_next low core text within lt in
-          later (rw (w, next) (ap Some total))
-    ]
-
-step : (low bits : ℕ) (texts : List (List ℕ)) → bits_from low texts ≡ Some bits → Step low bits texts
-unfolding bits_from
-step low bits [] e = later e
-step low bits (text ∷ texts) e =
-    let a = bind_some (number_within low 63 text) _ bits e in
-    let b = bind_some (bits_from (a.0 + 1) texts) _ bits a.2 in
-    let w = within_is low 63 a.0 text a.1 in
-    step_at low bits a.0 b.0 text texts a.1 w.0 w.1 (just_is (2 ^ a.0 + b.0) bits b.2) b.1
-
-none_left : (texts : List (List ℕ)) (bits : ℕ) → bits_from 64 texts ≡ Some bits → (texts ≡ []) × (bits ≡ 0)
-unfolding bits_from
-none_left [] bits e = (refl, sym (just_is 0 bits e))
-none_left (text ∷ texts) bits e =
-    let a = bind_some (number_within 64 63 text) _ bits e in
-    let w = within_is 64 63 a.0 text a.1 in
-    absurd (omega (arith, w.1, w.2))
-
-twice : (m low : ℕ) → m * 2 ^ (low + 1) ≡ 2 * m * 2 ^ low
-twice m low = ap (λ (x : ℕ). m * x) (pow_double low) ∙ (sym (mul_assoc m 2 (2 ^ low)) ∙ ap (λ (x : ℕ). x * 2 ^ low) (mul_comm m 2))
-
-abbrev Listed : ℕ → ℕ → ℕ → List (List ℕ) → Type 0
-Listed k low bits texts = ((m : ℕ) × (bits ≡ m * 2 ^ low)) × (map decimal (cores_from bits low k) ≡ texts)
-
-from_zero : (low : ℕ) → 0 ≤ low
-from_zero low = omega arith
-
-pow_less : (low : ℕ) → 2 ^ low < 2 ^ (low + 1)
-pow_less low =
-    let p : 2 ^ 0 ≤ 2 ^ low = pow-le-pow_right (lit< tt) (from_zero low) in
-    omega (arith, pow_double low, p)
-
-cores_later : (k low bits : ℕ) (texts : List (List ℕ)) → Listed k (low + 1) bits texts → Listed (suc k) low bits texts
-cores_later k low bits texts h =
-    let m = h.0.0 in
-    let is : bits ≡ m * 2 ^ (low + 1) + 0 = omega (arith, h.0.1) in
-    let bit : bit_at bits low ≡ 0 = ap (λ (x : ℕ). bit_at x low) is ∙ (bit_at_cat_low m (low + 1) 0 low (omega arith) ∙ bit_at-zero low) in
-    ((2 * m, h.0.1 ∙ twice m low), rw bit h.1)
-
-bits_above : (m low more bits i : ℕ) → more ≡ m * 2 ^ (low + 1) → 2 ^ low + more ≡ bits → low + 1 ≤ i → bit_at bits i ≡ bit_at more i
-bits_above m low more bits i a b le =
-    let c : bits ≡ m * 2 ^ (low + 1) + 2 ^ low = omega (arith, a, b) in
-    let d : more ≡ m * 2 ^ (low + 1) + 0 = omega (arith, a) in
-    let e = bit_at_cat_high m (low + 1) (2 ^ low) i (pow_less low) le in
-    let p : 0 < 2 ^ (low + 1) = omega (arith, pow_less low) in
-    let f = bit_at_cat_high m (low + 1) 0 i p le in
-    ap (λ (x : ℕ). bit_at x i) c ∙ (e ∙ (sym f ∙ ap (λ (x : ℕ). bit_at x i) (sym d)))
-
-cores_here : (k low bits : ℕ) (text : List ℕ) (rest : List (List ℕ)) (more : ℕ) (texts : List (List ℕ)) → texts ≡ text ∷ rest → decimal low ≡ text → 2 ^ low + more ≡ bits → Listed k (low + 1) more rest → Listed (suc k) low bits texts
-cores_here k low bits text rest more texts is spelled total h =
-    let m = h.0.0 in
-    let c : bits ≡ m * 2 ^ (low + 1) + 2 ^ low = omega (arith, h.0.1, total) in
-    let bit : bit_at bits low ≡ 1 = ap (λ (x : ℕ). bit_at x low) c ∙ (bit_at_cat_low m (low + 1) (2 ^ low) low (omega arith) ∙ bit_at-pow_same low) in
-    let same = cores_same bits more (low + 1) k (λ (i : ℕ) (le : low + 1 ≤ i). bits_above m low more bits i h.0.1 total le) in
-    let one : (2 * m + 1) * 2 ^ low ≡ 2 * m * 2 ^ low + 2 ^ low = add-mul (2 * m) 1 (2 ^ low) ∙ omega arith in
-    ((2 * m + 1, c ∙ (ap (λ (x : ℕ). x + 2 ^ low) (twice m low) ∙ sym one)), rw (bit, same, spelled, h.1) (sym is))
-
-cores_listed : (k low bits : ℕ) (texts : List (List ℕ)) → low + k ≡ 64 → bits_from low texts ≡ Some bits → Listed k low bits texts
-cores_listed zero low bits texts sum e =
-    let at : low ≡ 64 = omega arith in
-    let none = none_left texts bits (rw at at e) in
-    ((0, none.1 ∙ omega arith), sym none.0)
-cores_listed (suc k) low bits texts sum e =
-    elim (step low bits texts e) [
-      | here text rest more is spelled total next ↦ cores_here k low bits text rest more texts is spelled total (cores_listed k (low + 1) more rest (omega arith) next)
-      | later next ↦ cores_later k low bits texts (cores_listed k (low + 1) bits texts (omega arith) next)
-    ]
-
-pub cores_text : (text : List ℕ) (bits : ℕ) → cores_of text ≡ Some bits → (bits ≡ 2 ^ 64 - 1 → ⊥) → listed (map decimal (cores_below bits 64)) ≡ text
+pub all_cores_text : (text : List ℕ) (bits : ℕ) → cores_of text ≡ Some bits → (bits ≡ 2 ^ 64 - 1 → ⊥) → cores_text bits ≡ text
 unfolding cores_of
-cores_text text bits e h =
-    elim (cores_cond _ (2 ^ 64 - 1) (bits_from 0 (between 44 text)) bits e) [
+all_cores_text text bits e h =
+    elim (cores_cond _ (2 ^ 64 - 1) (listed_cores text) bits e) [
       | inl same ↦ absurd (h (sym same))
-      | inr there ↦
-          let l = cores_listed 64 0 bits (between 44 text) (omega arith) there in
-          ap (λ (l : List ℕ). listed (map decimal l)) (cores_all bits) ∙ (ap (λ (l : List (List ℕ)). listed l) l.1 ∙ join_with_byte-slice_split 44 text)
+      | inr there ↦ cores_spelled text bits there
     ]
 
 -- ---- words
 
 pub kind_text : (text : List ℕ) (k : Kind) → kind_of text ≡ Some k → kind_word k ≡ text
 unfolding kind_of
-kind_text text k e = bytes_are (kind_word k) text (find_passes (λ k. bytes_eq (kind_word k) text) kinds k e)
+kind_text text k e = bytes_are (kind_word k) text (find_passes (λ k. bytes_eq (kind_word k) text) kind_all k e)
 
 flag_cond : (a b : Bool) (x : Bool) → cond a (Some true) (cond b (Some false) None) ≡ Some x → ((a ≡ true) × (x ≡ true)) ⊎ ((b ≡ true) × (x ≡ false))
 flag_cond true b x e = inl (refl, sym (just_is true x e))

@@ -1,11 +1,6 @@
--- Texts one behind the other.
-use Rattle.std.specs.Prelude.{ℕ, List, [], ◌∷◌, ◌++◌}
+-- Lines one behind the other.
+use Rattle.std.specs.Prelude.{ℕ, List, [], ◌∷◌}
 use Rattle.workload_file.specs.Written.{Line}
-
--- each text behind this byte
-abbrev pub led : ℕ → List (List ℕ) → List ℕ
-led byte [] = []
-led byte (text ∷ texts) = byte ∷ (text ++ led byte texts)
 
 -- the line behind which all that is laid out stands
 abbrev pub last_line : ℕ → List Line → ℕ

@@ -9,6 +9,7 @@ pub mod Names
 pub mod Reading
 pub mod Indexed
 pub mod Loading
+pub mod Faulty
 pub mod Formed
 pub mod Written
 pub mod Led

@@ -14,3 +14,16 @@ Loads bytes left (Err (errors.Refused line cause)) = (length bytes ≤ 1048576) 
 Loads bytes left (Err errors.TooLong) = (1048576 < length bytes) × IfSome left (λ rest. rest ≡ drop 1048577 bytes)
 Loads bytes left (Err errors.Memory) = Unit {0}
 Loads bytes left (Err errors.Read) = Unit {0}
+
+-- the source counted no fault, and gave at most one byte past the limit, where it tells its bytes
+pub record ReadsClean (before now : ℕ) (old new : Option (List ℕ)) : Type 0 where
+  pub faults : now ≡ before
+  pub taken : IfSome old (λ bytes. IfSome new (λ rest. rest ≡ drop 1048577 bytes))
+
+-- this holds with each answer but a failed read and want of memory
+abbrev pub HoldsBut : Type 0 → Result Workload LoadError → Type 0
+HoldsBut P (Ok load) = P
+HoldsBut P (Err (errors.Refused line cause)) = P
+HoldsBut P (Err errors.TooLong) = P
+HoldsBut P (Err errors.Memory) = Unit {0}
+HoldsBut P (Err errors.Read) = Unit {0}

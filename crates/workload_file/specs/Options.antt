@@ -10,7 +10,9 @@ use Rattle.workload_file.specs.declared.table.Absent.TheVariants as absent
 use Rattle.workload_file.specs.declared.table.Shape.{Shape}
 use Rattle.workload_file.specs.declared.table.Shape.TheVariants as shape
 use Rattle.workload_file.specs.Table.{key_text}
-use Rattle.workload_file.specs.Values.{number_within, args_of, cores_of, kind_of, timeout_of, whole, flag_of, mode_of, is_name}
+use Rattle.workload_file.specs.Values.{number_within, cores_of, kind_of, timeout_of, flag_of, mode_of, is_name}
+use Rattle.number_text.specs.Numbers.{whole}
+use Rattle.number_text.specs.Lists.{list_of}
 
 -- what stands before the first =
 abbrev pub key_of : List ℕ → List ℕ
@@ -39,7 +41,7 @@ is_value (shape.Number low high) text = is_some (number_within low high text)
 is_value shape.Whole text = is_some (whole text)
 is_value shape.Flag text = is_some (flag_of text)
 is_value shape.Mode text = is_some (mode_of text)
-is_value shape.Args text = is_some (args_of text)
+is_value shape.Args text = is_some (list_of text)
 is_value shape.Cores text = is_some (cores_of text)
 is_value shape.Kind text = is_some (kind_of text)
 is_value shape.Timeout text = is_some (timeout_of text)

@@ -29,7 +29,9 @@ use Rattle.workload_file.specs.declared.faults.Fault.{Fault}
 use Rattle.workload_file.specs.declared.faults.LineError.{LineError}
 use Rattle.workload_file.specs.declared.faults.LineError.TheVariants as errors
 use Rattle.workload_file.specs.Cuts.{words_of}
-use Rattle.workload_file.specs.Values.{between, number, args_of, cores_of, kind_of, timeout_of, whole, flag_of, mode_of}
+use Rattle.workload_file.specs.Values.{number, cores_of, kind_of, timeout_of, flag_of, mode_of}
+use Rattle.number_text.specs.Numbers.{whole}
+use Rattle.number_text.specs.Lists.{between, list_of}
 use Rattle.workload_file.specs.Table.{word_of, naming, fields}
 use Rattle.workload_file.specs.Options.{is_known, has_twice, has_value, is_missing, text_of}
 use Rattle.workload_file.specs.Names.{place_of, split_name, is_taken, is_unbound, has_unbound, is_misplaced, is_ninth_caller}
@@ -84,7 +86,7 @@ unfoldable pub number_in : List (List ℕ) → Key → ℕ → ℕ
 number_in options k default = unwrap_or (option_and_then number (text_of k options)) default
 
 unfoldable pub args_in : List (List ℕ) → Key → Args
-args_in options k = unwrap_or (option_and_then args_of (text_of k options)) []
+args_in options k = unwrap_or (option_and_then list_of (text_of k options)) []
 
 unfoldable pub kind_in : List (List ℕ) → Key → Kind
 kind_in options k = unwrap_or (option_and_then kind_of (text_of k options)) kind.Add

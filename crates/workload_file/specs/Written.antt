@@ -1,12 +1,13 @@
 -- The canonical text of a workload.
-use Rattle.std.specs.Prelude.{ℕ, zero, suc, ◌-◌, ◌^◌, ◌==◌, List, [], ◌∷◌, ◌++◌, map, replicate, codes, Bool, true, false, not, Option, Some, None, slice_get, if◌then◌else◌}
-use Rattle.std.specs.List.{join_with_byte, flat_map}
+use Rattle.std.specs.Prelude.{ℕ, ◌-◌, ◌^◌, ◌≤◌, ◌==◌, List, [], ◌∷◌, ◌++◌, length, replicate, codes, Bool, true, false, not, Option, Some, None, slice_get, if◌then◌else◌}
+use Rattle.std.specs.List.{AllByRecursion, join_with_byte, flat_map}
 use Rattle.std.specs.Fmt.{decimal, signed_decimal}
 use Rattle.mtapi_values.specs.declared.timeouts.Timeout.{Timeout}
 use Rattle.mtapi_values.specs.declared.timeouts.Timeout.TheVariants as timeout
 use Rattle.mtapi_values.specs.Attributes.{NodeSettings}
 use Rattle.mtapi_values.specs.Kinds.{kind_word}
-use Rattle.mtapi_values.specs.Masks.{in_mask}
+use Rattle.number_text.specs.Lists.{list_text}
+use Rattle.number_text.specs.Cores.{cores_text}
 use Rattle.workload_file.specs.declared.table.Word.TheVariants as word
 use Rattle.workload_file.specs.declared.table.Sort.{Sort}
 use Rattle.workload_file.specs.declared.table.Field.{Field}
@@ -22,15 +23,6 @@ use Rattle.workload_file.specs.Deeds.{word_for, values, setting_values, place_us
 use Rattle.workload_file.specs.Reading.{name_text}
 
 -- ---- values as texts
-
--- the cores below n that are in the mask, ascending
-unfoldable pub cores_below : ℕ → ℕ → List ℕ
-cores_below mask zero = []
-cores_below mask (suc n) = cores_below mask n ++ (if in_mask n mask then n ∷ [] else [])
-
--- the texts with commas between them
-abbrev pub listed : List (List ℕ) → List ℕ
-listed texts = join_with_byte 44 texts
 
 unfoldable pub timeout_text : Timeout → List ℕ
 timeout_text timeout.NoWait = codes "nowait"
@@ -51,8 +43,8 @@ name_at before (Some place) = name_of (slice_get before place)
 unfoldable pub value_text : List Statement → Value → List ℕ
 value_text before (given.Number n) = decimal n
 value_text before (given.Whole z) = signed_decimal z
-value_text before (given.Args zs) = listed (map signed_decimal zs)
-value_text before (given.Cores mask) = listed (map decimal (cores_below mask.0 64))
+value_text before (given.Args zs) = list_text zs
+value_text before (given.Cores mask) = cores_text mask.0
 value_text before (given.Kind kind) = kind_word kind
 value_text before (given.Flag b) = if b then codes "yes" else codes "no"
 value_text before (given.Mode b) = if b then codes "writer" else codes "reader"
@@ -134,6 +126,10 @@ lines_of_part p = if_any p.line (caller_text p.name) ++ statement_lines_behind [
 
 abbrev pub lines_of : Workload → List Line
 lines_of load = if_any load.node_line (node_text load.settings) ++ flat_map lines_of_part load.parts
+
+-- each line has at most 512 bytes
+abbrev pub AreShort : List Line → Type 0
+AreShort lines = AllByRecursion (λ l. length l.1 ≤ 512) lines
 
 -- ---- the text
 

@@ -5,12 +5,13 @@ ghost use Rattle.workload_file.specs.Reading.{number_in, args_in, kind_in, cores
 ghost use Rattle.workload_file.specs.Indexed.{IsReader};
 
 use crate::names::place_of;
-use crate::numbers::{args_of, cores_of, flag_of, kind_of, mode_of, number, timeout_of, whole};
+use crate::numbers::{cores_of, flag_of, kind_of, mode_of, number, timeout_of};
 use crate::options::text_of;
 use crate::reading::Reader;
 use crate::table::{Key, Sort, Word};
 use crate::workload::Deed;
 use mtapi_values::{Args, Kind, Mask, NodeAttr, Timeout};
+use number_text::{list_of, whole};
 
 #[tactic(auto, unfolding(crate::specs::Reading::number_in))]
 fn number_in(options: &[&[u8]], key: Key, default: u32) -> u32
@@ -27,7 +28,7 @@ fn args_in(options: &[&[u8]], key: Key) -> Args
     ensures { result ≡ args_in (texts options.now) key }
 {
     match text_of(key, options) {
-        Some(text) => match args_of(text) {
+        Some(text) => match list_of(text) {
             Some(args) => args,
             None => Args::new(),
         },

@@ -3,8 +3,6 @@ ghost use Rattle.std.specs.Prelude.{◌≡◌};
 ghost use Rattle.workload_file.specs.Causes.{cause_text};
 
 use std::alloc::{AllocError, AllocFailed};
-use std::fmt;
-use thiserror::Error;
 
 /// Why a line is faulty. The variants stand in the order in which a line is looked at: the first that it meets is its cause.
 #[derive(Clone, Copy, Debug, Drop, PartialEq, Eq)]
@@ -61,26 +59,16 @@ impl Cause {
     }
 }
 
-impl fmt::Display for Cause {
-    fn fmt<W: fmt::Write>(&self, f: &mut fmt::Formatter<W>) -> fmt::Result {
-        f.write_str(self.text())
-    }
-}
-
 /// Why a source gave no workload.
-#[derive(Debug, Drop, Error)]
+#[derive(Debug, Drop)]
 pub enum LoadError {
     /// Memory ran out.
-    #[error("out of memory")]
     Memory,
     /// A read failed: the source's count of faults rose.
-    #[error("read fault")]
     Read,
     /// The source gave more than 1,048,576 bytes.
-    #[error("workload too long")]
     TooLong,
     /// The first faulty line, counted from 1, and its first cause.
-    #[error("line {line}: {cause}")]
     Refused { line: u64, cause: Cause },
 }
 

@@ -20,11 +20,11 @@ mod text;
 mod values;
 mod workload;
 
+pub use byte_io::{Failed, MemSink, MemSource, Sink, Source, StdSink, StdSource, write_all};
 pub use faults::{Cause, LoadError};
-pub use laws::{law_again, law_formed};
+pub use laws::{law_again, law_causes, law_converse, law_formed, law_shared};
 pub use load::read_workload;
 pub use name::Name;
-pub use byte_io::{Failed, MemSink, MemSource, Sink, Source, StdSink, StdSource, write_all};
 pub use page::text_of;
 pub use workload::{Deed, Part, PartList, Statement, StatementList, Workload};
 

@@ -1,22 +1,22 @@
 //! A workload from a source.
 ghost use Rattle.std.specs.Prelude.{◌≡◌, ◌<◌, ◌≤◌, ◌^◌, ◌+◌, length, IfOk, IfSome, IsErrOf, Ok};
-ghost use Rattle.workload_file.specs.Values.{between};
+ghost use Rattle.number_text.specs.Lists.{between};
 ghost use Rattle.workload_file.specs.Reading.{line_adds, lines_add, start, workload_of, finished, Gives};
 ghost use Rattle.workload_file.specs.Indexed.{IsReader, said_of};
-ghost use Rattle.workload_file.specs.Loading.{Loads};
+ghost use Rattle.workload_file.specs.Loading.{Loads, ReadsClean, HoldsBut};
 ghost use Rattle.workload_file.specs.Formed.{WellFormed};
 ghost use Rattle.byte_io.specs.Causes.{Rose};
 
 use crate::changes::with_change;
-use crate::cut::cut_at;
 use crate::faults::{Fault, LineError, LoadError};
 use crate::grammar::line_gives;
 use crate::index::NameIndex;
 use crate::name::Name;
 use crate::reading::{Reader, Reading};
 use crate::workload::{Part, PartList, StatementList, Workload};
-use mtapi_values::NodeAttr;
 use byte_io::{ReadAllError, Source, read_all};
+use mtapi_values::NodeAttr;
+use number_text::cut_at;
 use std::alloc::Global;
 
 #[tactic(auto, unfolding(crate::specs::Reading::line_adds, crate::specs::Reading::with_change))]
@@ -116,9 +116,11 @@ fn formed_workload_of(alloc: Global, bytes: &[u8]) -> Result<Workload, LineError
 /// Reads a workload from a source, to its end or to one byte past 1,048,576 bytes. Ok exactly where the bytes are of the
 /// grammar and memory suffices; Refused at the first faulty line with its first cause; TooLong where the source gave more bytes;
 /// Read only where its count of faults rose.
+#[tactic(auto, using(crate::proofs::Taken::long_clean))]
 pub fn read_workload<S: Source>(alloc: Global, src: &mut S) -> Result<Workload, LoadError>
     ensures exact { IfSome (S.left src.old) (λ bytes. Loads bytes (S.left src.new) result) }
     ensures formed { IfOk result WellFormed }
+    ensures clean { HoldsBut (ReadsClean (S.faults src.old) (S.faults src.new) (S.left src.old) (S.left src.new)) result }
     ensures later { S.faults src.old ≤ S.faults src.new }
     ensures read { IsErrOf result LoadError.Read → Rose (S.faults src.old) (S.faults src.new) }
 {

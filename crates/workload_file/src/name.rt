@@ -13,11 +13,14 @@ pub struct Name {
 }
 
 impl Model for Name {
-    ghost use Rattle.std.specs.Prelude.{ℕ, List};
+    ghost use Rattle.std.specs.Prelude.{ℕ, List, IsTrue};
+    ghost use Rattle.workload_file.specs.Values.{is_name};
 
     ghost Value = { List ℕ };
 
     ghost view = { λ n. n.text.items };
+
+    ghost invariant = { λ n. IsTrue (is_name n.text.items) };
 }
 
 fn is_name_byte(b: u8) -> bool
@@ -67,7 +70,8 @@ impl Name {
 
     /// The bytes of the name, 1 to 16. It takes no memory.
     pub fn as_slice(&self) -> &[u8]
-        ensures { result.now ≡ self.now }
+        ensures value { result.now ≡ self.now }
+        ensures name { IsTrue (is_name result.now) }
     {
         self.text.as_slice()
     }

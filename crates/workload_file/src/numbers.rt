@@ -1,48 +1,17 @@
-//! Numbers, lists of them, and the other values of options.
-ghost use Rattle.std.specs.Prelude.{◌≡◌, ◌≤◌, ◌<◌, ◌^◌, ◌*◌, nat_le, nat_lt, length, FitsSigned, drop, slice_index, pos, neg_ℤ, Bool, true, Some, None, IfSome, if◌then◌else◌, option_map};
-ghost use Rattle.std.specs.List.{list_all};
-ghost use Rattle.std.specs.Int.{w64};
-ghost use Rattle.std.specs.Char.{is_ascii_digit};
-ghost use Rattle.std.specs.Str.Parse.{digits_value};
-ghost use Rattle.workload_file.specs.Values.{is_decimal, number, number_within, whole, args_of, between, bits_from, cores_of, kind_of, timeout_of, flag_of, mode_of};
+//! The values of options that are no list.
+ghost use Rattle.std.specs.Prelude.{◌≡◌, ◌≤◌, IfSome, option_map};
+ghost use Rattle.workload_file.specs.Values.{number, number_within, cores_of, kind_of, timeout_of, flag_of, mode_of};
 
-use crate::cut::cut_at;
-use mtapi_values::{Args, Kind, Mask, Timeout};
+use mtapi_values::{Kind, Mask, Timeout};
+use number_text::number_within as wide_within;
 use std::str;
-
-fn all_digits(text: &[u8]) -> bool
-    ensures { result ≡ list_all is_ascii_digit text.now }
-{
-    text.iter().all(|b| b.is_ascii_digit())
-}
-
-fn is_decimal(text: &[u8]) -> bool
-    ensures value { result ≡ is_decimal text.now }
-    ensures digits { result ≡ true → list_all is_ascii_digit text.now ≡ true }
-    ensures some { result ≡ true → 0 < length text.now }
-{
-    !text.is_empty() && all_digits(text) && (text.len() == 1 || text[0] != b'0')
-}
-
-fn parsed(text: &[u8]) -> Option<u32>
-    requires digits { list_all is_ascii_digit text.now ≡ true }
-    requires some { 0 < length text.now }
-    ensures { result ≡ (if nat_lt (digits_value 10 text.now) (2 ^ 32) then Some (digits_value 10 text.now) else None) }
-{
-    match str::from_utf8(text) {
-        Ok(digits) => digits.parse::<u32>().ok(),
-        Err(_) => None,
-    }
-}
 
 #[tactic(auto, unfolding(crate::specs::Values::number))]
 pub fn number(text: &[u8]) -> Option<u32>
     ensures { result ≡ number text.now }
 {
-    if !is_decimal(text) {
-        return None;
-    }
-    parsed(text)
+    let n = wide_within(0, 4_294_967_295, text)?;
+    Some(n as u32)
 }
 
 #[tactic(auto, unfolding(crate::specs::Values::number_within))]
@@ -56,23 +25,14 @@ pub fn number_within(low: u32, high: u32, text: &[u8]) -> Option<u32>
     }
 }
 
-const KINDS: [Kind; 9] = [
-    Kind::Add,
-    Kind::Mul,
-    Kind::Max,
-    Kind::Div,
-    Kind::Gcd,
-    Kind::Echo,
-    Kind::Triangle,
-    Kind::Fail,
-    Kind::Watch,
-];
-
-#[tactic(auto, unfolding(crate::specs::Values::kind_of))]
+/// The kind that a word names: exactly the words of the kinds are taken.
 pub fn kind_of(text: &[u8]) -> Option<Kind>
     ensures { result ≡ kind_of text.now }
 {
-    KINDS.iter().copied().find(|k| k.word().as_bytes() == text)
+    match str::from_utf8(text) {
+        Ok(word) => Kind::from_word(word),
+        Err(_) => None,
+    }
 }
 
 #[tactic(auto, unfolding(crate::specs::Values::timeout_of))]
@@ -117,25 +77,6 @@ pub fn mode_of(text: &[u8]) -> Option<bool>
     None
 }
 
-/// Ascending cores with commas, as bits.
-pub fn listed_cores(text: &[u8]) -> Option<u64>
-    ensures { result ≡ bits_from 0 (between 44 text.now) }
-{
-    let mut mask = 0u64;
-    let mut low = 0u32;
-    let mut left = Some(text);
-    'cutting: while let Some(rest) = left {
-        let (part, after) = cut_at(rest, b',');
-        let Some(core) = number_within(low, 63, part) else {
-            return None;
-        };
-        mask += 1u64 << core;
-        low = core + 1;
-        left = after;
-    }
-    Some(mask)
-}
-
 #[tactic(auto, unfolding(crate::specs::Values::cores_of))]
 pub fn cores_of(text: &[u8]) -> Option<Mask>
     ensures { option_map (λ m. m.0) result ≡ cores_of text.now }
@@ -143,71 +84,8 @@ pub fn cores_of(text: &[u8]) -> Option<Mask>
     if text == b"all".as_slice() {
         return Some(Mask(u64::MAX));
     }
-    match listed_cores(text) {
+    match number_text::cores_of(text) {
         Some(bits) => Some(Mask(bits)),
         None => None,
     }
-}
-
-fn negative(text: &[u8]) -> Option<i64>
-    requires minus { slice_index text.now 0 ≡ 45 }
-    requires digits { list_all is_ascii_digit (drop 1 text.now) ≡ true }
-    requires some { 1 < length text.now }
-    ensures { result ≡ (if nat_le (digits_value 10 (drop 1 text.now)) (2 ^ 63) then Some (neg_ℤ (pos (digits_value 10 (drop 1 text.now)))) else None) }
-{
-    match str::from_utf8(text) {
-        Ok(digits) => digits.parse::<i64>().ok(),
-        Err(_) => None,
-    }
-}
-
-fn positive(text: &[u8]) -> Option<i64>
-    requires digits { list_all is_ascii_digit text.now ≡ true }
-    requires some { 0 < length text.now }
-    ensures { result ≡ (if nat_lt (digits_value 10 text.now) (2 ^ 63) then Some (pos (digits_value 10 text.now)) else None) }
-{
-    match str::from_utf8(text) {
-        Ok(digits) => digits.parse::<i64>().ok(),
-        Err(_) => None,
-    }
-}
-
-#[tactic(auto, unfolding(crate::specs::Values::whole))]
-pub fn whole(text: &[u8]) -> Option<i64>
-    ensures value { result ≡ whole text.now }
-    ensures fits { IfSome result (λ z. FitsSigned w64 z) }
-{
-    match text {
-        [b'-', digits @ ..] => {
-            if !is_decimal(digits) || digits[0] == b'0' {
-                return None;
-            }
-            negative(text)
-        }
-        _ => {
-            if !is_decimal(text) {
-                return None;
-            }
-            positive(text)
-        }
-    }
-}
-
-#[tactic(auto, unfolding(crate::specs::Values::args_of))]
-pub fn args_of(text: &[u8]) -> Option<Args>
-    ensures { result ≡ args_of text.now }
-{
-    let mut args = Args::new();
-    let mut left = Some(text);
-    'cutting: while let Some(rest) = left {
-        let (part, after) = cut_at(rest, b',');
-        let Some(value) = whole(part) else {
-            return None;
-        };
-        if !args.push(value) {
-            return None;
-        }
-        left = after;
-    }
-    Some(args)
 }

@@ -6,12 +6,10 @@ ghost use Rattle.workload_file.specs.Texts.{texts};
 ghost use Rattle.workload_file.specs.Options.{key_of, value_of, field_of, is_known, has_twice, is_value, has_value, gives, is_refused, is_missing, text_of};
 ghost use Rattle.std.specs.Str.{bytes_eq};
 
-use crate::cut::cut_at;
 use crate::name::is_name;
-use crate::numbers::{
-    args_of, cores_of, flag_of, kind_of, mode_of, number_within, timeout_of, whole,
-};
+use crate::numbers::{cores_of, flag_of, kind_of, mode_of, number_within, timeout_of};
 use crate::table::{Absent, Field, Key, Shape};
+use number_text::{cut_at, list_of, whole};
 
 pub fn key_of(word: &[u8]) -> &[u8]
     ensures { result.now ≡ key_of word.now }
@@ -80,7 +78,7 @@ fn is_value(shape: Shape, text: &[u8]) -> bool
         Shape::Whole => whole(text).is_some(),
         Shape::Flag => flag_of(text).is_some(),
         Shape::Mode => mode_of(text).is_some(),
-        Shape::Args => args_of(text).is_some(),
+        Shape::Args => list_of(text).is_some(),
         Shape::Cores => cores_of(text).is_some(),
         Shape::Kind => kind_of(text).is_some(),
         Shape::Timeout => timeout_of(text).is_some(),

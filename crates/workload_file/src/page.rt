@@ -2,7 +2,8 @@
 ghost use Rattle.std.specs.Prelude.{◌≡◌, ◌++◌, ◌∷◌, [], List, ℕ, ◌-◌, replicate, OnOk, IfOk, Option, Ok, ◌≤◌, length};
 ghost use Rattle.std.specs.List.{flat_map};
 ghost use Rattle.workload_file.specs.Written.{statement_text, node_text, caller_text, statement_lines_behind, lines_of_part, lines_of, if_any, laid_out, canonical, bound_words, used_words};
-ghost use Rattle.workload_file.specs.Led.{led, last_line};
+ghost use Rattle.workload_file.specs.Led.{last_line};
+ghost use Rattle.number_text.specs.Lists.{led};
 ghost use Rattle.workload_file.specs.Reading.{workload_of};
 
 use crate::name::Name;

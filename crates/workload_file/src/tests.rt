@@ -11,7 +11,13 @@ fn told_in_pieces(alloc: Global, text: &[u8], most: usize) -> Result<String, Fai
     let mut src = MemSource::new(text.to_vec(alloc)?, most, Vec::new(alloc));
     match read_workload(alloc, &mut src) {
         Ok(_) => Ok(format!(in alloc; "ok")?),
-        Err(error) => Ok(format!(in alloc; "{error}")?),
+        Err(LoadError::Memory) => Ok(format!(in alloc; "out of memory")?),
+        Err(LoadError::Read) => Ok(format!(in alloc; "read fault")?),
+        Err(LoadError::TooLong) => Ok(format!(in alloc; "workload too long")?),
+        Err(LoadError::Refused { line, cause }) => {
+            let cause = cause.text();
+            Ok(format!(in alloc; "line {line}: {cause}")?)
+        }
     }
 }
 
@@ -586,6 +592,19 @@ fn many_bytes(rt: HostRuntime) -> Result<(), Fail> {
     assert_eq!(rt; told(a, &spaces)?.as_str(), "workload too long");
     let mut src = MemSource::new(ROW.as_bytes().to_vec(a)?, 20, vec![in a; 2]?);
     assert!(rt; matches!(read_workload(a, &mut src), Err(LoadError::Read)));
+    Ok(())
+}
+
+/// Whether reading a text of 10,000 groups and 10,000 waits, each for one of them, gives a workload.
+#[test]
+fn many_names(rt: HostRuntime) -> Result<(), Fail> {
+    let a = rt.alloc();
+    let mut text = groups(a, 10000)?;
+    for i in 0..10000 {
+        let line = format!(in a; "wait_all g{i} timeout=inf\n")?;
+        text.extend_from_slice(line.as_bytes())?;
+    }
+    assert_eq!(rt; told_in_pieces(a, &text, 4096)?.as_str(), "ok");
     Ok(())
 }
 

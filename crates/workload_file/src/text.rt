@@ -1,104 +1,16 @@
 //! The canonical text of a workload: values and options.
-ghost use Rattle.std.specs.Prelude.{◌≡◌, ◌<◌, ◌++◌, ◌∷◌, [], List, ℕ, map, OnOk, length, Option};
-ghost use Rattle.std.specs.Fmt.{decimal, signed_decimal};
-ghost use Rattle.workload_file.specs.Written.{cores_below, listed, timeout_text, name_of, name_at, value_text, is_usual, is_number, is_default, option_words, options_words};
-ghost use Rattle.mtapi_values.specs.Masks.{in_mask};
-ghost use Rattle.workload_file.specs.Led.{led};
+ghost use Rattle.std.specs.Prelude.{◌≡◌, ◌++◌, ◌∷◌, [], List, ℕ, OnOk, length, Option, Some};
+ghost use Rattle.workload_file.specs.Written.{timeout_text, name_of, name_at, value_text, is_usual, is_number, is_default, option_words, options_words};
+ghost use Rattle.number_text.specs.Lists.{led};
 ghost use Rattle.workload_file.specs.Reading.{name_text};
 
 use crate::name::Name;
 use crate::table::{Absent, Field};
 use crate::values::Value;
 use crate::workload::Statement;
-use arrayvec::ArrayVec;
-use mtapi_values::{Mask, Timeout};
+use mtapi_values::Timeout;
+use number_text::{push_cores, push_list, push_number, push_whole};
 use std::alloc::{AllocError, Global};
-
-fn push_number(alloc: Global, out: &mut Vec<u8>, n: u32) -> Result<(), AllocError>
-    ensures { OnOk result (out.new.items ≡ out.old.items ++ decimal n) }
-{
-    let text = format!(in alloc; "{n}")?;
-    out.extend_from_slice(text.as_bytes())
-}
-
-fn push_whole(alloc: Global, out: &mut Vec<u8>, z: i64) -> Result<(), AllocError>
-    ensures { OnOk result (out.new.items ≡ out.old.items ++ signed_decimal z) }
-{
-    let text = format!(in alloc; "{z}")?;
-    out.extend_from_slice(text.as_bytes())
-}
-
-fn push_more_wholes(alloc: Global, out: &mut Vec<u8>, numbers: &[i64]) -> Result<(), AllocError>
-    ensures { OnOk result (out.new.items ≡ out.old.items ++ led 44 (map signed_decimal numbers.now)) }
-{
-    match numbers {
-        [] => Ok(()),
-        [z, rest @ ..] => {
-            out.push(b',')?;
-            push_whole(alloc, out, *z)?;
-            push_more_wholes(alloc, out, rest)
-        }
-    }
-}
-
-#[tactic(auto, using(crate::proofs::Pieces::joined))]
-fn push_wholes(alloc: Global, out: &mut Vec<u8>, numbers: &[i64]) -> Result<(), AllocError>
-    ensures { OnOk result (out.new.items ≡ out.old.items ++ listed (map signed_decimal numbers.now)) }
-{
-    match numbers {
-        [] => Ok(()),
-        [z, rest @ ..] => {
-            push_whole(alloc, out, *z)?;
-            push_more_wholes(alloc, out, rest)
-        }
-    }
-}
-
-fn push_more_numbers(alloc: Global, out: &mut Vec<u8>, numbers: &[u32]) -> Result<(), AllocError>
-    ensures { OnOk result (out.new.items ≡ out.old.items ++ led 44 (map decimal numbers.now)) }
-{
-    match numbers {
-        [] => Ok(()),
-        [n, rest @ ..] => {
-            out.push(b',')?;
-            push_number(alloc, out, *n)?;
-            push_more_numbers(alloc, out, rest)
-        }
-    }
-}
-
-#[tactic(auto, using(crate::proofs::Pieces::joined))]
-fn push_numbers(alloc: Global, out: &mut Vec<u8>, numbers: &[u32]) -> Result<(), AllocError>
-    ensures { OnOk result (out.new.items ≡ out.old.items ++ listed (map decimal numbers.now)) }
-{
-    match numbers {
-        [] => Ok(()),
-        [n, rest @ ..] => {
-            push_number(alloc, out, *n)?;
-            push_more_numbers(alloc, out, rest)
-        }
-    }
-}
-
-fn has_core(mask: Mask, core: u32) -> bool
-    requires { core < 64 }
-    ensures { result ≡ in_mask core mask.0 }
-{
-    mask.0 >> core & 1 == 1
-}
-
-/// The cores of a mask, ascending.
-fn cores_of(mask: Mask) -> ArrayVec<u32, 64>
-    ensures { result.items ≡ cores_below mask.0 64 }
-{
-    let mut cores = ArrayVec::new();
-    for core in 0..64u32 {
-        if has_core(mask, core) {
-            cores.push(core);
-        }
-    }
-    cores
-}
 
 #[tactic(auto, unfolding(crate::specs::Written::timeout_text))]
 fn push_timeout(alloc: Global, out: &mut Vec<u8>, timeout: Timeout) -> Result<(), AllocError>
@@ -107,7 +19,7 @@ fn push_timeout(alloc: Global, out: &mut Vec<u8>, timeout: Timeout) -> Result<()
     match timeout {
         Timeout::NoWait => out.extend_from_slice(b"nowait"),
         Timeout::Infinite => out.extend_from_slice(b"inf"),
-        Timeout::Looks(looks) => push_number(alloc, out, looks),
+        Timeout::Looks(looks) => push_number(alloc, out, u64::from(looks)),
     }
 }
 
@@ -141,10 +53,10 @@ fn push_value(
     ensures { OnOk result (out.new.items ≡ out.old.items ++ value_text before.now value.now) }
 {
     match value {
-        Value::Number(n) => push_number(alloc, out, *n),
+        Value::Number(n) => push_number(alloc, out, u64::from(*n)),
         Value::Whole(z) => push_whole(alloc, out, *z),
-        Value::Args(args) => push_wholes(alloc, out, args.as_slice()),
-        Value::Cores(mask) => push_numbers(alloc, out, cores_of(*mask).as_slice()),
+        Value::Args(args) => push_list(alloc, out, args.as_slice()),
+        Value::Cores(mask) => push_cores(alloc, out, mask.0),
         Value::Kind(kind) => out.extend_from_slice(kind.word().as_bytes()),
         Value::Flag(true) => out.extend_from_slice(b"yes"),
         Value::Flag(false) => out.extend_from_slice(b"no"),

@@ -1,4 +1,4 @@
-use Rattle.std.proofs.Common.{length, ◌-◌, ◌≤◌, ◌+◌, vec_len}
+use Rattle.std.proofs.Common.{length, ◌-◌, ◌≤◌, ◌+◌, ◌≡◌, vec_len}
 use Rattle.std.specs.Io.KnownBytes.{Consumes}
 use Rattle.byte_io.proofs.whole.read_all.Given as goal
 
@@ -6,7 +6,7 @@ abbrev pub invariant-reading : goal.invariant-reading
 invariant-reading g l = record {
   within : vec_len l.bytes ≤ l.limit + 1;
   taken : Consumes (g.S.Source.left l.initial.src) (g.S.Source.left l.src) l.bytes.items;
-  later : g.S.Source.faults l.initial.src ≤ g.S.Source.faults l.src;
+  same : g.S.Source.faults l.src ≡ g.S.Source.faults l.initial.src;
 }
 
 abbrev pub decreases-reading : goal.decreases-reading

@@ -1,6 +1,5 @@
 use Rattle.std.proofs.Common.{◌≡◌, ◌+◌, ◌≤◌, length}
-use Rattle.workload_file.specs.Values.{between}
-use Rattle.workload_file.specs.Cuts.{pieces_of}
+use Rattle.number_text.specs.Lists.{between, pieces_of}
 use Rattle.workload_file.specs.Reading.{lines_add}
 use Rattle.workload_file.specs.Indexed.{IsReader}
 use Rattle.workload_file.proofs.Pieces.{left_len}

@@ -1,0 +1,80 @@
+#!/usr/bin/env python3
+"""How long the command takes to read a workload. Each text is read whole and refused as not built, so reading is all that is done.
+
+Prints a line for each text, and fails where one takes longer than its limit, or where twice the bytes take more than 2.2 times
+the time. The command has to be built: run `./mtapi` once before.
+"""
+
+import os
+import subprocess
+import sys
+import time
+
+TOP = os.path.dirname(os.path.dirname(os.path.abspath(__file__)))
+PROGRAM = os.path.join(TOP, "crates", "mtapi_cli", "out", "mtapi_cli")
+LIMIT = 0.1  # seconds for the largest text of a kind
+RATIO = 2.2  # of the times, at twice the bytes
+FLOOR = 0.002  # seconds below which times say nothing of a ratio
+TRIES = 9
+
+
+def names(count):
+    """As many groups as uses of them."""
+    bound = "".join(f"group g{i}\n" for i in range(count))
+    used = "".join(f"group_delete g{i}\n" for i in range(count))
+    return (bound + used).encode()
+
+
+def remarks(count):
+    """Comments of so many bytes in all, and a statement."""
+    line = b"# " + b"x" * 61 + b"\n"
+    head = b"group g\n"
+    return head + (line * (count // len(line) + 1))[: count - len(head)]
+
+
+def options(count):
+    """Tasks with all options, of about so many bytes in all."""
+    line = "start t{} job=65535 args=-9223372036854775808,1,2,3,4,5,6,7,8,9,10,11,12,13,14,15 priority=7 cores=0,1,2,3,5,8,13,21,34,55 detached=yes\n"
+    text = b"group g\n"
+    i = 0
+    while True:
+        more = line.format(i).encode()
+        if len(text) + len(more) > count:
+            return text
+        text += more
+        i += 1
+
+
+def seconds(text):
+    best = None
+    for _ in range(TRIES):
+        start = time.perf_counter()
+        done = subprocess.run([PROGRAM, "run"], input=text, capture_output=True)
+        took = time.perf_counter() - start
+        if done.returncode != 3 or b"not built" not in done.stderr:
+            sys.exit(f"status {done.returncode}: {done.stderr.decode()}")
+        best = took if best is None else min(best, took)
+    return best
+
+
+def main():
+    if not os.access(PROGRAM, os.X_OK):
+        sys.exit("build the command first: ./mtapi")
+    start = seconds(b"group g\n")
+    failed = False
+    for name, half, whole in (
+        ("names", names(5000), names(10000)),
+        ("remarks", remarks(524288), remarks(1048576)),
+        ("options", options(524288), options(1048576)),
+    ):
+        small = seconds(half) - start
+        large = seconds(whole) - start
+        ratio = large / small if small > FLOOR else 0.0
+        bad = large > LIMIT or ratio > RATIO
+        failed = failed or bad
+        print(f"{name}: {len(half)} bytes {small:.4f} s, {len(whole)} bytes {large:.4f} s, ratio {ratio:.2f}{'  TOO SLOW' if bad else ''}")
+    sys.exit(1 if failed else 0)
+
+
+if __name__ == "__main__":
+    main()

@@ -1,0 +1,137 @@
+-- What reading a text gave, and the range that it lies in.
+use Rattle.std.proofs.Common.{◌≡◌, ℕ, ℤ, pos, neg_ℤ, ◌+◌, ◌-◌, ◌*◌, ◌^◌, ◌≤◌, ◌<◌, List, [], ◌∷◌, length, Bool, true, false, cond, ◌&&◌, eqb, Option, Some, None, refl, ap, subst, arith, inl, inr, add-one, lit<, zero, suc, drop}
+use Rattle.std.specs.Prelude.{nat_le, nat_lt, is_some, option_and_then, FitsSigned, slice_index}
+use Rattle.std.specs.List.{AllByRecursion}
+use Rattle.std.specs.Int.{w64}
+use Rattle.std.specs.Str.Parse.{digits_value}
+use Rattle.std.proofs.lemmas.Bool.{and_parts, leb-true, ltb-true, cases_Bool}
+use Rattle.std.proofs.lemmas.List.Splits.{length-slice_split}
+use Rattle.std.proofs.Math.Nat.{pow-le-pow_right}
+use Rattle.number_text.specs.Numbers.{is_decimal, number, number_within, whole}
+use Rattle.number_text.specs.Lists.{◌>>=◌, between, wholes, list_of}
+use Rattle.number_text.specs.Cores.{bits_from, cores_of}
+
+-- ---- steps that gave something
+
+pub bind_some : {A B : Type 0} (o : Option A) (f : A → Option B) (y : B) → (o >>= f) ≡ Some y → (x : A) × (o ≡ Some x) × (f x ≡ Some y)
+bind_some (Some x) f y e = (x, refl, e)
+bind_some None f y e = absurd cc
+
+pub some_cond : {A : Type 0} (b : Bool) (x y : A) → cond b (Some x) None ≡ Some y → (b ≡ true) × (x ≡ y)
+some_cond true x y e = (refl, cc)
+some_cond false x y e = absurd cc
+
+abbrev just : {A : Type 0} → A → Option A
+just x = Some x
+
+pub just_is : {A : Type 0} (x y : A) → just x ≡ just y → x ≡ y
+just_is x y e = cc
+
+-- ---- numbers
+
+pub number_fits : (text : List ℕ) (n : ℕ) → number text ≡ Some n → n < 2 ^ 64
+unfolding number
+number_fits text n e =
+    let g = some_cond _ (digits_value 10 text) n e in
+    let both = and_parts (is_decimal text) (nat_lt (digits_value 10 text) (2 ^ 64)) g.0 in
+    let lt = ltb-true (digits_value 10 text) (2 ^ 64) both.1 in
+    subst (λ (m : ℕ). m < 2 ^ 64) g.1 lt
+
+abbrev picked : ℕ → ℕ → ℕ → Option ℕ
+picked low high n = cond (nat_le low n && nat_le n high) (Some n) None
+
+within_some : (low high n : ℕ) (o : Option ℕ) → option_and_then (picked low high) o ≡ Some n → (o ≡ Some n) × (low ≤ n) × (n ≤ high)
+within_some low high n None e = absurd cc
+within_some low high n (Some m) e =
+    let g = some_cond (nat_le low m && nat_le m high) m n e in
+    let both = and_parts (nat_le low m) (nat_le m high) g.0 in
+    let a = leb-true low m both.0 in
+    let b = leb-true m high both.1 in
+    (ap Some g.1, omega (arith, a, g.1), omega (arith, b, g.1))
+
+pub within_is : (low high n : ℕ) (text : List ℕ) → number_within low high text ≡ Some n → (number text ≡ Some n) × (low ≤ n) × (n ≤ high)
+unfolding number_within
+within_is low high n text e = within_some low high n (number text) e
+
+neg_fits : (n : ℕ) → n ≤ 2 ^ 63 → FitsSigned w64 (neg_ℤ (pos n))
+neg_fits zero le = record { sfits = omega arith }
+neg_fits (suc n) le = record { sfits = omega arith }
+
+pos_fits : (n : ℕ) → n < 2 ^ 63 → FitsSigned w64 (pos n)
+pos_fits n lt = record { sfits = lt }
+
+pub whole_fits : (text : List ℕ) (z : ℤ) → whole text ≡ Some z → FitsSigned w64 z
+unfolding whole
+whole_fits text z e =
+    elim (cases_Bool (eqb (slice_index text 0) 45)) [
+      | inl t ↦
+          let g = some_cond _ (neg_ℤ (pos (digits_value 10 (drop 1 text)))) z (rw t at e) in
+          let le = leb-true (digits_value 10 (drop 1 text)) (2 ^ 63) (and_parts _ _ g.0).1 in
+          subst (FitsSigned w64) g.1 (neg_fits _ le)
+      | inr f ↦
+          let g = some_cond _ (pos (digits_value 10 text)) z (rw f at e) in
+          let lt = ltb-true (digits_value 10 text) (2 ^ 63) (and_parts _ _ g.0).1 in
+          subst (FitsSigned w64) g.1 (pos_fits _ lt)
+    ]
+
+-- ---- lists
+
+wholes_fit : (texts : List (List ℕ)) (zs : List ℤ) → wholes texts ≡ Some zs → (length zs ≡ length texts) × AllByRecursion (FitsSigned w64) zs
+unfolding wholes
+wholes_fit [] zs e = let same : [] ≡ zs = just_is [] zs e in rw (← same) (refl, tt)
+wholes_fit (text ∷ texts) zs e =
+    let a = bind_some (whole text) _ zs e in
+    let b = bind_some (wholes texts) _ zs a.2 in
+    let rest = wholes_fit texts b.0 b.1 in
+    subst (λ (l : List ℤ). (length l ≡ length (text ∷ texts)) × AllByRecursion (FitsSigned w64) l) (just_is (a.0 ∷ b.0) zs b.2) (omega (arith, rest.0), (whole_fits text a.0 a.1, rest.1))
+
+pub list_cond : (b : Bool) (o : Option (List ℤ)) (zs : List ℤ) → cond b o None ≡ Some zs → (b ≡ true) × (o ≡ Some zs)
+list_cond true o zs e = (refl, e)
+list_cond false o zs e = absurd cc
+
+pub list_fits : (text : List ℕ) (zs : List ℤ) → list_of text ≡ Some zs → (1 ≤ length zs) × (length zs ≤ 16) × AllByRecursion (FitsSigned w64) zs
+unfolding list_of
+list_fits text zs e =
+    let g = list_cond _ (wholes (between 44 text)) zs e in
+    let few = leb-true (length (between 44 text)) 16 g.0 in
+    let some : 1 ≤ length (between 44 text) = omega (arith, length-slice_split (λ b. eqb b 44) text) in
+    let all = wholes_fit (between 44 text) zs g.1 in
+    (omega (arith, some, all.0), omega (arith, few, all.0), all.1)
+
+-- ---- cores
+
+pub pow_double : (n : ℕ) → 2 ^ (n + 1) ≡ 2 * 2 ^ n
+pow_double n = rw add-one (omega arith)
+
+bits_fit : (texts : List (List ℕ)) (low bits : ℕ) → bits_from low texts ≡ Some bits → low ≤ 64 → bits + 2 ^ low ≤ 2 ^ 64
+unfolding bits_from
+bits_fit [] low bits e le =
+    let same : 0 ≡ bits = just_is 0 bits e in
+    let p : 2 ^ low ≤ 2 ^ 64 = pow-le-pow_right (lit< tt) le in
+    omega (arith, same, p)
+bits_fit (text ∷ texts) low bits e le =
+    let a = bind_some (number_within low 63 text) _ bits e in
+    let b = bind_some (bits_from (a.0 + 1) texts) _ bits a.2 in
+    let w = within_is low 63 a.0 text a.1 in
+    let rest = bits_fit texts (a.0 + 1) b.0 b.1 (omega (arith, w.2)) in
+    let same : 2 ^ a.0 + b.0 ≡ bits = just_is (2 ^ a.0 + b.0) bits b.2 in
+    let p : 2 ^ low ≤ 2 ^ a.0 = pow-le-pow_right (lit< tt) w.1 in
+    omega (arith, same, p, rest, pow_double a.0)
+
+bits_some : (texts : List (List ℕ)) (low bits : ℕ) → 1 ≤ length texts → bits_from low texts ≡ Some bits → 0 < bits
+unfolding bits_from
+bits_some [] low bits h e = absurd (omega arith)
+bits_some (text ∷ texts) low bits h e =
+    let a = bind_some (number_within low 63 text) _ bits e in
+    let b = bind_some (bits_from (a.0 + 1) texts) _ bits a.2 in
+    let same : 2 ^ a.0 + b.0 ≡ bits = just_is (2 ^ a.0 + b.0) bits b.2 in
+    let from : 0 ≤ a.0 = omega arith in
+    let p : 2 ^ 0 ≤ 2 ^ a.0 = pow-le-pow_right (lit< tt) from in
+    omega (arith, same, p)
+
+pub cores_fit : (text : List ℕ) (mask : ℕ) → cores_of text ≡ Some mask → (0 < mask) × (mask < 2 ^ 64)
+cores_fit text mask e =
+    let some : 1 ≤ length (between 44 text) = omega (arith, length-slice_split (λ b. eqb b 44) text) in
+    let a = bits_some (between 44 text) 0 mask some e in
+    let b = bits_fit (between 44 text) 0 mask e (omega arith) in
+    (a, omega (arith, b))

@@ -1,0 +1,25 @@
+//! Texts cut at a byte.
+ghost use Rattle.std.specs.Prelude.{◌≡◌, ◌==◌, ◌<◌, ◌∷◌, [], length, position, IfSome, IfNone};
+ghost use Rattle.std.specs.List.{before_first, after_first};
+ghost use Rattle.number_text.specs.Lists.{between, pieces_of};
+
+/// The first place of a byte.
+fn place_of(text: &[u8], byte: u8) -> Option<usize>
+    ensures { result ≡ position (λ b. b == byte) text.now }
+{
+    text.iter().position(|b| *b == byte)
+}
+
+/// The text before the first such byte, and the text after it where it stands.
+pub fn cut_at(text: &[u8], byte: u8) -> (&[u8], Option<&[u8]>)
+    ensures front { result.0.now ≡ before_first (λ b. b == byte) text.now }
+    ensures parts { between byte text.now ≡ result.0.now ∷ pieces_of byte result.1 }
+    ensures back { IfSome result.1 (λ rest. rest.now ≡ after_first (λ b. b == byte) text.now) }
+    ensures none { IfNone result.1 (after_first (λ b. b == byte) text.now ≡ []) }
+    ensures shorter { IfSome result.1 (λ rest. length rest.now < length text.now) }
+{
+    match place_of(text, byte) {
+        Some(at) => (&text[..at], Some(&text[at + 1..])),
+        None => (text, None),
+    }
+}

@@ -1,0 +1,120 @@
+//! Numbers.
+ghost use Rattle.std.specs.Prelude.{◌≡◌, ◌≤◌, ◌<◌, ◌^◌, ◌++◌, OnOk, nat_le, nat_lt, length, FitsSigned, drop, slice_index, pos, neg_ℤ, true, Some, None, IfSome, if◌then◌else◌};
+ghost use Rattle.std.specs.List.{list_all};
+ghost use Rattle.std.specs.Int.{w64};
+ghost use Rattle.std.specs.Char.{is_ascii_digit};
+ghost use Rattle.std.specs.Str.Parse.{digits_value};
+ghost use Rattle.std.specs.Fmt.{decimal, signed_decimal};
+ghost use Rattle.number_text.specs.Numbers.{is_decimal, number, number_within, whole};
+
+use std::alloc::{AllocError, Global};
+use std::str;
+
+fn all_digits(text: &[u8]) -> bool
+    ensures { result ≡ list_all is_ascii_digit text.now }
+{
+    text.iter().all(|b| b.is_ascii_digit())
+}
+
+fn is_decimal(text: &[u8]) -> bool
+    ensures value { result ≡ is_decimal text.now }
+    ensures digits { result ≡ true → list_all is_ascii_digit text.now ≡ true }
+    ensures some { result ≡ true → 0 < length text.now }
+{
+    !text.is_empty() && all_digits(text) && (text.len() == 1 || text[0] != b'0')
+}
+
+fn parsed(text: &[u8]) -> Option<u64>
+    requires digits { list_all is_ascii_digit text.now ≡ true }
+    requires some { 0 < length text.now }
+    ensures { result ≡ (if nat_lt (digits_value 10 text.now) (2 ^ 64) then Some (digits_value 10 text.now) else None) }
+{
+    match str::from_utf8(text) {
+        Ok(digits) => digits.parse::<u64>().ok(),
+        Err(_) => None,
+    }
+}
+
+/// The number that a text is. None exactly where it is none of u64, or not in the one spelling.
+#[tactic(auto, unfolding(crate::specs::Numbers::number))]
+pub fn number(text: &[u8]) -> Option<u64>
+    ensures { result ≡ number text.now }
+{
+    if !is_decimal(text) {
+        return None;
+    }
+    parsed(text)
+}
+
+/// The number from `low` to `high` that a text is.
+#[tactic(auto, unfolding(crate::specs::Numbers::number_within))]
+pub fn number_within(low: u64, high: u64, text: &[u8]) -> Option<u64>
+    ensures value { result ≡ number_within low high text.now }
+    ensures within { IfSome result (λ n. (low ≤ n) × (n ≤ high)) }
+{
+    match number(text) {
+        Some(n) if low <= n && n <= high => Some(n),
+        _ => None,
+    }
+}
+
+fn negative(text: &[u8]) -> Option<i64>
+    requires minus { slice_index text.now 0 ≡ 45 }
+    requires digits { list_all is_ascii_digit (drop 1 text.now) ≡ true }
+    requires some { 1 < length text.now }
+    ensures { result ≡ (if nat_le (digits_value 10 (drop 1 text.now)) (2 ^ 63) then Some (neg_ℤ (pos (digits_value 10 (drop 1 text.now)))) else None) }
+{
+    match str::from_utf8(text) {
+        Ok(digits) => digits.parse::<i64>().ok(),
+        Err(_) => None,
+    }
+}
+
+fn positive(text: &[u8]) -> Option<i64>
+    requires digits { list_all is_ascii_digit text.now ≡ true }
+    requires some { 0 < length text.now }
+    ensures { result ≡ (if nat_lt (digits_value 10 text.now) (2 ^ 63) then Some (pos (digits_value 10 text.now)) else None) }
+{
+    match str::from_utf8(text) {
+        Ok(digits) => digits.parse::<i64>().ok(),
+        Err(_) => None,
+    }
+}
+
+/// The number of i64 that a text is. None exactly where it is none, or not in the one spelling.
+#[tactic(auto, unfolding(crate::specs::Numbers::whole))]
+pub fn whole(text: &[u8]) -> Option<i64>
+    ensures value { result ≡ whole text.now }
+    ensures fits { IfSome result (λ z. FitsSigned w64 z) }
+{
+    match text {
+        [b'-', digits @ ..] => {
+            if !is_decimal(digits) || digits[0] == b'0' {
+                return None;
+            }
+            negative(text)
+        }
+        _ => {
+            if !is_decimal(text) {
+                return None;
+            }
+            positive(text)
+        }
+    }
+}
+
+/// Appends a number.
+pub fn push_number(alloc: Global, out: &mut Vec<u8>, number: u64) -> Result<(), AllocError>
+    ensures { OnOk result (out.new.items ≡ out.old.items ++ decimal number) }
+{
+    let text = format!(in alloc; "{number}")?;
+    out.extend_from_slice(text.as_bytes())
+}
+
+/// Appends a number of i64.
+pub fn push_whole(alloc: Global, out: &mut Vec<u8>, number: i64) -> Result<(), AllocError>
+    ensures { OnOk result (out.new.items ≡ out.old.items ++ signed_decimal number) }
+{
+    let text = format!(in alloc; "{number}")?;
+    out.extend_from_slice(text.as_bytes())
+}

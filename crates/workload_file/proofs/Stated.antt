@@ -1,0 +1,359 @@
+-- The line of a well-formed statement is read as that statement.
+use Rattle.std.proofs.Common.{◌≡◌, ℕ, ◌+◌, ◌≤◌, ◌<◌, List, [], ◌∷◌, ◌++◌, length, Bool, true, false, not, cond, eqb, Option, Some, None, Ok, refl, sym, ap, subst, ◌∙◌, arith, inl, inr, map, All, zero, suc, append_assoc}
+use Rattle.std.specs.Prelude.{nat_le, nat_lt, is_some, IfSome, IsTrue, position, slice_get}
+use Rattle.std.specs.List.{AllByRecursion, list_any, list_all, position_or_len}
+use Rattle.std.specs.Str.{bytes_eq}
+use Rattle.std.proofs.lemmas.Bool.{and_from, or_parts, or_from, cases_Bool, lt-ltb, le-ltb}
+use Rattle.mtapi_values.specs.Attributes.{NodeSettings}
+use Rattle.number_text.proofs.Pieces.{place_some}
+use Rattle.workload_file.specs.declared.table.Word.{Word}
+use Rattle.workload_file.specs.declared.table.Word.TheVariants as word
+use Rattle.workload_file.specs.declared.table.Sort.{Sort}
+use Rattle.workload_file.specs.declared.table.Sort.TheVariants as sort
+use Rattle.workload_file.specs.declared.table.Naming.{Naming}
+use Rattle.workload_file.specs.declared.table.Naming.TheVariants as rule
+use Rattle.workload_file.specs.declared.workload.Deed.{Deed}
+use Rattle.workload_file.specs.declared.workload.Deed.TheVariants as deed
+use Rattle.workload_file.specs.declared.workload.Statement.{Statement}
+use Rattle.workload_file.specs.declared.reading.Reading.{Reading}
+use Rattle.workload_file.specs.declared.reading.Change.{Change}
+use Rattle.workload_file.specs.declared.reading.Change.TheVariants as change
+use Rattle.workload_file.specs.Values.{is_name}
+use Rattle.workload_file.specs.Table.{word_text, naming, fields}
+use Rattle.workload_file.specs.Deeds.{word_for, values, setting_values, place_used, binds}
+use Rattle.workload_file.specs.declared.values.Value.{Value}
+use Rattle.workload_file.specs.Options.{is_known, has_twice, has_value, is_missing}
+use Rattle.workload_file.specs.Names.{has_unbound, split_name, is_called, bound_at, place_of, is_binding, is_taken, is_unbound, is_misplaced, is_ninth_caller}
+use Rattle.workload_file.specs.Reading.{is_comment, name_text, bound_name, deed_of, change_of, settings_in, used_place, line_gives, line_adds, with_change}
+use Rattle.workload_file.specs.Formed.{IsBoundAt, has_name, IsNew, IsStatement, AreStatements, AllFit}
+use Rattle.workload_file.specs.Written.{name_of, name_at, bound_words, used_words, line_text, options_words, statement_text, node_text, caller_text}
+use Rattle.workload_file.proofs.Facts.{IsRead, statement_read, line_read, words_read}
+use Rattle.workload_file.proofs.Given.{value_in, is_deed, use_of, deed_is, IsDeed, fields_apart, fields_found, fields_good}
+use Rattle.workload_file.proofs.Phrases.{is_word, words_again, line_printable, printable_lacks}
+use Rattle.workload_file.proofs.Places.{bytes_same}
+use Rattle.workload_file.proofs.Rereading.{free_none}
+use Rattle.workload_file.proofs.Invariant.{node_settings}
+use Rattle.workload_file.proofs.Tables.{word_found, word_good, fields_spelled, values_full, is_full, NamingIs, naming_is, deed_word, deed_back}
+use Rattle.workload_file.proofs.Letters.{name_word}
+use Rattle.workload_file.proofs.Valued.{IsNamed}
+use Rattle.workload_file.proofs.Optioned.{AllWritten, Names, all_written, opts, opts_known, opts_valued, opts_bound, opts_words, opts_once, opts_lack_none, values_from}
+
+-- ---- places in lists
+
+position_at : {X : Type 0} (p : X → Bool) (xs : List X) (i : ℕ) → position_or_len p xs ≡ i → i < length xs → position p xs ≡ Some i
+position_at p xs i e lt = rw (e, lt-ltb i (length xs) lt) refl
+
+position_first : {X : Type 0} (p : X → Bool) (x : X) (xs : List X) → p x ≡ true → position p (x ∷ xs) ≡ Some 0
+position_first p x xs t =
+    let e : position_or_len p (x ∷ xs) ≡ 0 = rw t refl in
+    position_at p (x ∷ xs) 0 e (omega arith)
+
+position_next : {X : Type 0} (p : X → Bool) (x : X) (xs : List X) (i : ℕ) → p x ≡ false → position p xs ≡ Some i → position p (x ∷ xs) ≡ Some (suc i)
+position_next p x xs i f h =
+    let at = place_some p xs i h in
+    let e : position_or_len p (x ∷ xs) ≡ 1 + position_or_len p xs = rw f refl in
+    position_at p (x ∷ xs) (suc i) (omega (arith, e, at.1)) (omega (arith, at.0))
+
+none_len : {X : Type 0} (p : X → Bool) (xs : List X) → list_any p xs ≡ false → position_or_len p xs ≡ length xs
+none_len p [] h = refl
+none_len p (x ∷ xs) h =
+    let both = or_parts (p x) (list_any p xs) h in
+    let f = both.0 in
+    let e : position_or_len p (x ∷ xs) ≡ 1 + position_or_len p xs = rw f refl in
+    omega (arith, e, none_len p xs both.1)
+
+position_none : {X : Type 0} (p : X → Bool) (xs : List X) → list_any p xs ≡ false → position p xs ≡ None
+position_none p xs h = rw (none_len p xs h, le-ltb (length xs) (length xs) (omega arith)) refl
+
+pub any_last : {X : Type 0} (p : X → Bool) (xs : List X) (y : X) → list_any p (xs ++ y ∷ []) ≡ false → (list_any p xs ≡ false) × (p y ≡ false)
+any_last p [] y h = (refl, (or_parts (p y) false h).0)
+any_last p (x ∷ xs) y h =
+    let both = or_parts (p x) (list_any p (xs ++ y ∷ [])) h in
+    let rest = any_last p xs y both.1 in
+    (or_from (p x) (list_any p xs) both.0 rest.0, rest.1)
+
+-- ---- the names of a part
+
+binder_named : (s : Sort) (d : Deed) → binds s d ≡ true → has_name (naming (word_for d)) ≡ true
+unfolding binds naming word_for
+binder_named sort.Action (deed.Action job kind cores) h = refl
+binder_named sort.Task (deed.Start job args priority cores detached group) h = refl
+binder_named sort.Task (deed.Enqueue queue args cores detached group) h = refl
+binder_named sort.Group deed.Group h = refl
+binder_named sort.Queue (deed.Queue id job priority limit ordered retain) h = refl
+binder_named sort.Queue (deed.QueueGet id) h = refl
+binder_named sort.Mutex (deed.Mutex id recursive) h = refl
+binder_named sort.Mutex (deed.MutexGet id) h = refl
+binder_named sort.Sem (deed.Sem id limit) h = refl
+binder_named sort.Sem (deed.SemGet id) h = refl
+binder_named sort.Rwl (deed.Rwl id limit) h = refl
+binder_named sort.Rwl (deed.RwlGet id) h = refl
+binder_named sort.Shmem (deed.Shmem id cells) h = refl
+binder_named sort.Shmem (deed.ShmemGet id) h = refl
+binder_named _ _ h = absurd cc
+
+-- the name of the statement at a place, which none before it has
+record IsHere (s : Sort) (before rest : List Statement) (i : ℕ) : Type 0 where
+  name : List ℕ
+  is : name_of (slice_get rest i) ≡ name
+  good : is_name name ≡ true
+  new : list_any (λ t. is_called name t.name) before ≡ false
+  at : position (λ t. is_called name t.name) rest ≡ Some i
+  binds : is_binding s (slice_get rest i) ≡ true
+
+here_named : (s : Sort) (before rest : List Statement) (st : Statement) (o : Option (List ℕ)) → st.name ≡ o → is_some o ≡ true → IfSome o (IsNew before) → binds s st.deed ≡ true → IsHere s before (st ∷ rest) 0
+here_named s before rest st None e h new b = absurd cc
+here_named s before rest st (Some name) e h new b =
+    let called : is_called name st.name ≡ true = rw e (bytes_same name) in
+    record {
+      name = name;
+      is = ap name_text e;
+      good = new.0;
+      new = new.1;
+      at = position_first (λ (t : Statement). is_called name t.name) st rest called;
+      binds = b;
+    }
+
+named_here : (s : Sort) (before rest : List Statement) (i : ℕ) → AreStatements before rest → IsBoundAt s rest i → IsHere s before rest i
+named_here s before [] i h b = absurd (omega (arith, b.0))
+named_here s before (st ∷ rest) zero h b = here_named s before rest st st.name refl (h.0.named ∙ binder_named s st.deed b.1) h.0.name b.1
+named_here s before (st ∷ rest) (suc i) h b =
+    let r = named_here s (before ++ st ∷ []) rest i h.1 (omega (arith, b.0), b.1) in
+    let apart = any_last (λ (t : Statement). is_called r.name t.name) before st r.new in
+    record {
+      name = r.name;
+      is = r.is;
+      good = r.good;
+      new = apart.0;
+      at = position_next (λ (t : Statement). is_called r.name t.name) st rest i apart.1 r.at;
+      binds = r.binds;
+    }
+
+found_here : (s : Sort) (name : List ℕ) (sts : List Statement) (i : ℕ) → bound_at name sts ≡ Some i → is_binding s (slice_get sts i) ≡ true → place_of s name sts ≡ Some i
+unfolding place_of
+found_here s name sts i e b = rw (e, b) refl
+
+pub part_names : (r : Reading) → AreStatements [] r.current.statements → Names r
+unfolding IsNamed
+part_names r h = λ s i b.
+    let n = named_here s [] r.current.statements i h b in
+    subst (λ (x : List ℕ). (is_name x ≡ true) × (place_of s x r.current.statements ≡ Some i)) (sym n.is) (n.good, found_here s n.name r.current.statements i n.at n.binds)
+
+-- ---- the words of a statement
+
+record IsHead (r : Reading) (n : Naming) (u : Option (Sort × ℕ)) (bound : Option (List ℕ)) (options : List (List ℕ)) : Type 0 where
+  name : Option (List ℕ)
+  split : split_name n (bound_words bound ++ (used_words r.current.statements u ++ options)) ≡ Some (name, options)
+  free : is_taken r n (name_text name) ≡ false
+  known : is_unbound r n (name_text name) ≡ false
+  binds : bound_name n name ≡ bound
+  uses : use_of r n (name_text name) ≡ u
+  words : list_all is_word (bound_words bound ++ (used_words r.current.statements u ++ options)) ≡ true
+
+uses_head : (r : Reading) (s : Sort) (i : ℕ) (options : List (List ℕ)) → IsNamed r.current.statements s i → list_all is_word options ≡ true → IsHead r (rule.Uses s) (Some (s, i)) None options
+unfolding IsNamed split_name is_taken is_unbound used_place
+uses_head r s i options h good =
+    let name = name_at r.current.statements (Some i) in
+    record {
+      name = Some name;
+      split = rw h.0 refl;
+      free = refl;
+      known = rw h.1 refl;
+      binds = refl;
+      uses = rw h.1 refl;
+      words = and_from _ _ (name_word name h.0) good;
+    }
+
+binds_head : (r : Reading) (s : Sort) (name : List ℕ) (options : List (List ℕ)) → IsNew r.current.statements name → list_all is_word options ≡ true → IsHead r (rule.Binds s) None (Some name) options
+unfolding split_name is_taken is_unbound
+binds_head r s name options h good =
+    let good_name : is_name name ≡ true = h.0 in
+    let none : bound_at name r.current.statements ≡ None = position_none (λ (t : Statement). is_called name t.name) r.current.statements h.1 in
+    record {
+      name = Some name;
+      split = rw good_name refl;
+      free = rw none refl;
+      known = refl;
+      binds = refl;
+      uses = refl;
+      words = and_from _ _ (name_word name good_name) good;
+    }
+
+bare_head : (r : Reading) (options : List (List ℕ)) → list_all is_word options ≡ true → IsHead r rule.Bare None None options
+unfolding split_name is_taken is_unbound
+bare_head r options good = record { name = None; split = refl; free = refl; known = refl; binds = refl; uses = refl; words = good }
+
+head : (r : Reading) (n : Naming) (u : Option (Sort × ℕ)) (bound : Option (List ℕ)) (options : List (List ℕ)) → NamingIs n u → is_some bound ≡ has_name n → IfSome bound (IsNew r.current.statements) → IfSome u (λ x. IsBoundAt x.0 r.current.statements x.1) → Names r → list_all is_word options ≡ true → IsHead r n u bound options
+head r (rule.Uses s) (Some (t, i)) None options is named new used names good =
+    let same : t ≡ s = is in
+    subst (λ (x : Sort). IsHead r (rule.Uses s) (Some (x, i)) None options) (sym same) (uses_head r s i options (names s i (subst (λ (x : Sort). IsBoundAt x r.current.statements i) same used)) good)
+head r (rule.Uses s) (Some u) (Some x) options is named new used names good = absurd cc
+head r (rule.Uses s) None bound options is named new used names good = absurd is
+head r (rule.Binds s) None (Some name) options is named new used names good = binds_head r s name options new good
+head r (rule.Binds s) None None options is named new used names good = absurd cc
+head r (rule.Binds s) (Some u) bound options is named new used names good = absurd is
+head r rule.Bare None None options is named new used names good = bare_head r options good
+head r rule.Bare None (Some x) options is named new used names good = absurd cc
+head r rule.Bare (Some u) bound options is named new used names good = absurd is
+head r rule.Caller u bound options is named new used names good = absurd is
+
+no_caller : (r : Reading) (w : Word) → is_deed w ≡ true → is_ninth_caller r w ≡ false
+unfolding is_ninth_caller
+no_caller r word.Caller h = absurd cc
+no_caller r _ h = refl
+
+-- ---- a line of words
+
+pub record IsGiven (r : Reading) (line : ℕ) (text : List ℕ) (c : Change) : Type 0 where
+  pub adds : line_adds r line text ≡ Ok (with_change r line (Some c))
+  pub lacks : All (λ b. eqb b 10 ≡ false) text
+
+gives_adds : (r : Reading) (line : ℕ) (text : List ℕ) (c : Change) → line_gives r line text ≡ Ok (Some c) → line_adds r line text ≡ Ok (with_change r line (Some c))
+unfolding line_adds
+gives_adds r line text c e = rw e refl
+
+words_line : (r : Reading) (line : ℕ) (w : Word) (rest : List (List ℕ)) (name : Option (List ℕ)) (options : List (List ℕ)) (c : Change) → IsRead r (word_text w) rest w name options → list_all is_word rest ≡ true → length (line_text (word_text w ∷ rest)) ≤ 512 → change_of r line w name options ≡ c → IsGiven r line (line_text (word_text w ∷ rest)) c
+words_line r line w rest name options c read good short is =
+    let g = word_good w in
+    let all = and_from (is_word (word_text w)) (list_all is_word rest) g.0 good in
+    let printable = line_printable (word_text w) rest all in
+    let gives = line_read r line (line_text (word_text w ∷ rest)) (Some c) (record {
+      short = le-ltb 512 (length (line_text (word_text w ∷ rest))) short;
+      printable = printable;
+      words = rw (words_again (word_text w) rest all) (words_read r line (word_text w) rest c g.1 (statement_read r line (word_text w) rest w name options read ∙ ap Ok is));
+    }) in
+    record { adds = gives_adds r line _ c gives; lacks = printable_lacks (line_text (word_text w ∷ rest)) printable }
+
+-- ---- a statement
+
+abbrev made : ℕ → Option (List ℕ) → Deed → Statement
+made line name d = record { line = line; name = name; deed = d }
+
+same_statement : (s : Statement) (name : Option (List ℕ)) (d : Deed) → name ≡ s.name → d ≡ s.deed → change.Statement (made s.line name d) ≡ change.Statement s
+same_statement s name d e f = rw (e, f) refl
+
+pub statement_given : (r : Reading) (s : Statement) → AreStatements [] r.current.statements → IsStatement r.current.statements s → nat_le 20000 r.count ≡ false → is_misplaced r (word_for s.deed) ≡ false → length (statement_text r.current.statements s) ≤ 512 → IsGiven r s.line (statement_text r.current.statements s) (change.Statement s)
+statement_given r s part st few placed short =
+    let w = word_for s.deed in
+    let names = part_names r part in
+    let vs = values s.deed in
+    let h : AllWritten r (fields w) vs = all_written r (fields w) vs names (fields_spelled w) (fields_good w) (values_full s.deed) st.options in
+    let options = opts r (fields w) vs in
+    let hd = head r (naming w) (place_used s.deed) s.name options (naming_is s.deed) st.named st.name st.uses names (opts_words (fields w) r (fields w) vs (fields_found w) h) in
+    let rest = bound_words s.name ++ (used_words r.current.statements (place_used s.deed) ++ options) in
+    let read : IsRead r (word_text w) rest w hd.name options = record {
+      word = word_found w;
+      few = few;
+      callers = no_caller r w (deed_word s.deed);
+      placed = placed;
+      split = hd.split;
+      known = opts_known (fields w) r (fields w) vs (fields_found w) h;
+      once = opts_once r (fields w) vs (fields_apart w) h;
+      valued = opts_valued (fields w) r (fields w) vs (fields_found w) h;
+      present = opts_lack_none r (fields w) vs h;
+      free = hd.free;
+      bound = hd.known;
+      values_bound = opts_bound (fields w) r (fields w) vs (fields_found w) h;
+    } in
+    let d = deed_is r s.line w hd.name options (deed_word s.deed) in
+    let back = deed_back r s.deed (name_text hd.name) options (values_from r [] (fields w) vs h (fields_apart w) (fields_good w) (free_none (fields w))) hd.uses in
+    words_line r s.line w rest hd.name options (change.Statement s) read hd.words short (d.change ∙ same_statement s (bound_name (naming w) hd.name) (deed_of r w (name_text hd.name) options) hd.binds back)
+
+-- ---- a caller line
+
+nothing_twice : has_twice [] ≡ false
+unfolding has_twice
+nothing_twice = refl
+
+caller_read : (r : Reading) (name : List ℕ) → is_name name ≡ true → nat_le 20000 r.count ≡ false → nat_le 8 (length r.before) ≡ false → is_taken r rule.Caller name ≡ false → IsRead r (word_text word.Caller) (name ∷ []) word.Caller (Some name) []
+unfolding naming fields split_name is_unbound is_misplaced is_ninth_caller
+caller_read r name good few callers free = record {
+  word = word_found word.Caller;
+  few = few;
+  callers = callers;
+  placed = refl;
+  split = rw good refl;
+  known = refl;
+  once = nothing_twice;
+  valued = refl;
+  present = refl;
+  free = free;
+  bound = refl;
+  values_bound = refl;
+}
+
+caller_is : (r : Reading) (line : ℕ) (name : List ℕ) → change_of r line word.Caller (Some name) [] ≡ change.Caller name
+unfolding change_of
+caller_is r line name = refl
+
+pub caller_given : (r : Reading) (line : ℕ) (name : List ℕ) → is_name name ≡ true → nat_le 20000 r.count ≡ false → nat_le 8 (length r.before) ≡ false → is_taken r rule.Caller name ≡ false → length (caller_text name) ≤ 512 → IsGiven r line (caller_text name) (change.Caller name)
+caller_given r line name good few callers free short =
+    words_line r line word.Caller (name ∷ []) (Some name) [] (change.Caller name) (caller_read r name good few callers free) (and_from _ _ (name_word name good) refl) short (caller_is r line name)
+
+-- ---- a node line
+
+node_full : (s : NodeSettings) → is_full (fields word.Node) (setting_values s) ≡ true
+unfolding fields
+node_full s = refl
+
+abbrev settings_of : ℕ → ℕ → ℕ → ℕ → ℕ → ℕ → ℕ → ℕ → NodeSettings
+settings_of a b c d e f g h = record { workers = a; tasks = b; actions = c; groups = d; queues = e; objects = f; priorities = g; generations = h }
+
+settings_same : (s t : NodeSettings) → setting_values s ≡ setting_values t → s ≡ t
+settings_same s t e =
+    let a : s.workers ≡ t.workers = cc in
+    let b : s.tasks ≡ t.tasks = cc in
+    let c : s.actions ≡ t.actions = cc in
+    let d : s.groups ≡ t.groups = cc in
+    let f : s.queues ≡ t.queues = cc in
+    let g : s.objects ≡ t.objects = cc in
+    let h : s.priorities ≡ t.priorities = cc in
+    let i : s.generations ≡ t.generations = cc in
+    let all : settings_of s.workers s.tasks s.actions s.groups s.queues s.objects s.priorities s.generations ≡ settings_of t.workers t.tasks t.actions t.groups t.queues t.objects t.priorities t.generations = rw (a, b, c, d, f, g, h, i) refl in
+    all
+
+node_read : (r : Reading) (options : List (List ℕ)) → nat_le 20000 r.count ≡ false → r.count ≡ 0 → list_all (is_known (fields word.Node)) options ≡ true → has_twice options ≡ false → list_all (has_value (fields word.Node)) options ≡ true → list_any (is_missing options) (fields word.Node) ≡ false → list_any (has_unbound r (fields word.Node)) options ≡ false → IsRead r (word_text word.Node) options word.Node None options
+unfolding naming split_name is_taken is_unbound is_misplaced is_ninth_caller
+node_read r options few none known once valued present bound = record {
+  word = word_found word.Node;
+  few = few;
+  callers = refl;
+  placed = rw none refl;
+  split = refl;
+  known = known;
+  once = once;
+  valued = valued;
+  present = present;
+  free = refl;
+  bound = refl;
+  values_bound = bound;
+}
+
+node_is : (r : Reading) (line : ℕ) (options : List (List ℕ)) (s : NodeSettings) → settings_in options ≡ s → change_of r line word.Node None options ≡ change.Node s
+unfolding change_of
+node_is r line options s e = ap change.Node e
+
+no_statements : (r : Reading) → r.current.statements ≡ [] → (s : NodeSettings) → AllFit [] (fields word.Node) (setting_values s) → AllFit r.current.statements (fields word.Node) (setting_values s)
+no_statements r e s h = rw e h
+
+node_text_is : (r : Reading) (s : NodeSettings) → r.current.statements ≡ [] → node_text s ≡ line_text (word_text word.Node ∷ opts r (fields word.Node) (setting_values s))
+node_text_is r s e = rw e refl
+
+empty_part : (r : Reading) → r.current.statements ≡ [] → AreStatements [] r.current.statements
+empty_part r e = rw e tt
+
+pub node_given : (r : Reading) (line : ℕ) (s : NodeSettings) → r.current.statements ≡ [] → r.count ≡ 0 → AllFit [] (fields word.Node) (setting_values s) → length (node_text s) ≤ 512 → IsGiven r line (node_text s) (change.Node s)
+node_given r line s empty none fits short =
+    let fs = fields word.Node in
+    let vs = setting_values s in
+    let fit = no_statements r empty s fits in
+    let h : AllWritten r fs vs = all_written r fs vs (part_names r (empty_part r empty)) (fields_spelled word.Node) (fields_good word.Node) (node_full s) fit in
+    let options = opts r fs vs in
+    let few : nat_le 20000 r.count ≡ false = rw none refl in
+    let read = node_read r options few none (opts_known fs r fs vs (fields_found word.Node) h) (opts_once r fs vs (fields_apart word.Node) h) (opts_valued fs r fs vs (fields_found word.Node) h) (opts_lack_none r fs vs h) (opts_bound fs r fs vs (fields_found word.Node) h) in
+    let vals = values_from r [] fs vs h (fields_apart word.Node) (fields_good word.Node) (free_none fs) in
+    let set = node_settings r options (subst (λ (xs : List Value). AllFit r.current.statements fs xs) (sym vals) fit) in
+    let same = settings_same (settings_in options) s (set ∙ vals) in
+    let text = node_text_is r s empty in
+    subst (λ (t : List ℕ). IsGiven r line t (change.Node s)) (sym text)
+    (words_line r line word.Node options None options (change.Node s) read (opts_words fs r fs vs (fields_found word.Node) h) (subst (λ (t : List ℕ). length t ≤ 512) text short) (node_is r line options s same))

@@ -1,0 +1,8 @@
+use Rattle.workload_file.proofs.FirstMet.{line_refused, text_refused}
+use Rattle.workload_file.proofs.laws.law_causes.Goals as goal
+
+pub returns-clause-line : goal.returns-clause-line
+returns-clause-line c = line_refused
+
+pub returns-clause-text : goal.returns-clause-text
+returns-clause-text c = text_refused
