@@ -57,7 +57,14 @@ fn run<R: StartsThreads + Wait + Sync>(host: &HostRuntime, rt: &R) -> Result<u8,
     );
     let mut beside = Threads::new();
     let outcome = command(
-        rt, alloc, &words, &mut src, &mut out, &mut err, &mut acts, &mut beside,
+        rt,
+        alloc,
+        &words,
+        &mut src,
+        &mut out,
+        &mut err,
+        &mut acts,
+        &mut beside,
     );
     Ok(outcome.status)
 }

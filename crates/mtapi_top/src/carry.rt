@@ -72,14 +72,7 @@ fn carry_out<R: Threads + Wait + Sync, S: Source, W: Sink, A: ActionSource, B: B
 /// The command `run`: it reads a workload from `src`, carries it out with threads that `beside` starts, and writes its report to `out`.
 /// A refusal or a fault is said on `err`; a fault of `err` changes nothing.
 #[tactic(auto, using(crate::proofs::Refused::refused_has))]
-pub fn command<
-    R: Threads + Wait + Sync,
-    S: Source,
-    W: Sink,
-    E: Sink,
-    A: ActionSource,
-    B: Beside,
->(
+pub fn command<R: Threads + Wait + Sync, S: Source, W: Sink, E: Sink, A: ActionSource, B: Beside>(
     rt: &R,
     alloc: Global,
     words: &[&str],

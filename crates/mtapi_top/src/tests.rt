@@ -131,9 +131,7 @@ fn check_with<R: Abort + StartsThreads + Wait + Sync, A: ActionSource, B: Beside
     let err_fails = vec![in alloc; case.err_fails].expect(rt, "memory");
     let mut err = MemSink::new(alloc, 4096, case.most.max(1), err_fails).expect(rt, "memory");
     let words = &case.words[..case.count.min(2)];
-    let outcome = command(
-        rt, alloc, words, &mut src, &mut out, &mut err, acts, beside,
-    );
+    let outcome = command(rt, alloc, words, &mut src, &mut out, &mut err, acts, beside);
     assert_eq!(rt; outcome.status, case.status);
     assert_eq!(rt; out.bytes(), case.out);
     assert_eq!(rt; err.bytes(), case.err);
