@@ -5,12 +5,14 @@ use action_fn::{
     FnTable, StoredFn, act_add, act_div, act_echo, act_fail, act_gcd, act_max, act_mul,
     act_triangle,
 };
-use mtapi_top::{End, command, tell};
+use mtapi_top::{End, Threads, command, tell};
 use mtapi_values::Kind;
 use std::alloc::AllocError;
 use std::env;
 use std::io::ErrorKind;
 use std::process::ExitCode;
+use std::sync::Wait;
+use std::thread::Threads as StartsThreads;
 use workload_file::{StdSink, StdSource};
 
 /// The words behind the program's name. Where one isn't UTF-8 there are none, which no command takes.
@@ -31,17 +33,17 @@ fn words_of(rt: &HostRuntime) -> Result<Vec<String>, AllocError> {
     Ok(words)
 }
 
-/// Runs the command over the standard input and outputs.
-fn run(rt: &HostRuntime) -> Result<u8, AllocError> {
-    let alloc = rt.alloc();
-    let owned = words_of(rt)?;
+/// Runs the command over the standard input and outputs of the host, with threads of `rt`.
+fn run<R: StartsThreads + Wait + Sync>(host: &HostRuntime, rt: &R) -> Result<u8, AllocError> {
+    let alloc = host.alloc();
+    let owned = words_of(host)?;
     let mut words = Vec::new(alloc);
     for word in &owned {
         words.push(word.as_str())?;
     }
-    let mut src = StdSource::new(rt.stdin());
-    let mut out = StdSink::new(rt.stdout());
-    let mut err = StdSink::new(rt.stderr());
+    let mut src = StdSource::new(host.stdin());
+    let mut out = StdSink::new(host.stdout());
+    let mut err = StdSink::new(host.stderr());
     // The function of each pure kind.
     let mut acts = FnTable::new(
         StoredFn::new(Kind::Add, act_add),
@@ -53,12 +55,22 @@ fn run(rt: &HostRuntime) -> Result<u8, AllocError> {
         StoredFn::new(Kind::Triangle, act_triangle),
         StoredFn::new(Kind::Fail, act_fail),
     );
-    let outcome = command(alloc, &words, &mut src, &mut out, &mut err, &mut acts);
+    let mut beside = Threads::new();
+    let outcome = command(
+        rt,
+        alloc,
+        &words,
+        &mut src,
+        &mut out,
+        &mut err,
+        &mut acts,
+        &mut beside,
+    );
     Ok(outcome.status)
 }
 
 fn main(rt: HostRuntime) -> ExitCode {
-    let status = match run(&rt) {
+    let status = match run(&rt, &rt) {
         Ok(status) => status,
         // There was no memory for the words.
         Err(_) => tell(rt.alloc(), End::Memory, &mut StdSink::new(rt.stderr())).status,

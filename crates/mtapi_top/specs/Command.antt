@@ -1,5 +1,5 @@
 -- How the command ends, and what each end says.
-use Rattle.std.specs.Prelude.{◌≡◌, ◌⊎◌, ℕ, ◌≤◌, ◌<◌, List, [], ◌∷◌, ◌++◌, length, map, codes, Bool, true, false, Option, Some, None, IfSome, Ok, Err}
+use Rattle.std.specs.Prelude.{◌≡◌, ◌⊎◌, ℕ, ◌≤◌, ◌<◌, ◌^◌, List, [], ◌∷◌, ◌++◌, length, map, codes, Bool, true, false, Option, Some, None, IfSome, Ok, Err}
 use Rattle.std.specs.Str.{bytes_eq}
 use Rattle.std.specs.Fmt.{decimal}
 use Rattle.std.specs.Io.KnownBytes.{Appends}
@@ -42,18 +42,26 @@ IsNone bytes = (1048576 < length bytes) ⊎ ((length bytes ≤ 1048576) × (faul
 abbrev pub IsRefused : List ℕ → Type 0
 IsRefused bytes = IsNone bytes ⊎ ((line : ℕ) × IsUnbuilt bytes line)
 
--- what is known at each end: of the words, the bytes of the source, its count of faults before and after, what the output held and holds,
--- and its count of faults before and after
-abbrev pub Ends : Bool → Option (List ℕ) → ℕ → ℕ → Option (List ℕ) → Option (List ℕ) → ℕ → ℕ → End → Type 0
-Ends run bytes s s' o o' w w' (end.Done journal) = (run ≡ true) × Ran bytes journal (Appends o o')
-Ends run bytes s s' o o' w w' end.Usage = (run ≡ false) × (o' ≡ o)
-Ends run bytes s s' o o' w w' (end.Refused line cause) =
-    (run ≡ true) × IfSome bytes (λ b. (length b ≤ 1048576) × (workload_of b ≡ Err (record { line = line; cause = cause }))) × (o' ≡ o)
-Ends run bytes s s' o o' w w' end.TooLong = (run ≡ true) × IfSome bytes (λ b. 1048576 < length b) × (o' ≡ o)
-Ends run bytes s s' o o' w w' (end.NotBuilt line) = (run ≡ true) × IfSome bytes (λ b. IsUnbuilt b line) × (o' ≡ o)
-Ends run bytes s s' o o' w w' end.ReadFault = (run ≡ true) × Rose s s' × (o' ≡ o)
-Ends run bytes s s' o o' w w' (end.WriteFault journal) = (run ≡ true) × Rose w w' × Ran bytes journal (AppendsFront o o')
-Ends run bytes s s' o o' w w' end.Memory = (run ≡ true) × (o' ≡ o)
+-- what stands outside the command: how many reads, writes and threads were refused so far, and what the output holds
+pub record Outside : Type 0 where
+  pub reads : ℕ
+  pub writes : ℕ
+  pub threads : ℕ
+  pub held : Option (List ℕ)
+
+-- what is known at each end: of the words, the bytes of the source, and what stood outside before and stands there then
+abbrev pub Ends : Bool → Option (List ℕ) → Outside → Outside → End → Type 0
+Ends run bytes a b (end.Done journal) = (run ≡ true) × Ran bytes journal (Appends a.held b.held)
+Ends run bytes a b end.Usage = (run ≡ false) × (b.held ≡ a.held)
+Ends run bytes a b (end.Refused line cause) =
+    (run ≡ true) × IfSome bytes (λ t. (length t ≤ 1048576) × (workload_of t ≡ Err (record { line = line; cause = cause }))) × (b.held ≡ a.held)
+Ends run bytes a b end.TooLong = (run ≡ true) × IfSome bytes (λ t. 1048576 < length t) × (b.held ≡ a.held)
+Ends run bytes a b (end.NotBuilt line) = (run ≡ true) × IfSome bytes (λ t. IsUnbuilt t line) × (b.held ≡ a.held)
+Ends run bytes a b end.ReadFault = (run ≡ true) × Rose a.reads b.reads × (b.held ≡ a.held)
+Ends run bytes a b (end.WriteFault journal) = (run ≡ true) × Rose a.writes b.writes × Ran bytes journal (AppendsFront a.held b.held)
+Ends run bytes a b end.Memory = (run ≡ true) × (b.held ≡ a.held)
+Ends run bytes a b end.NoThread = (run ≡ true) × Rose a.threads b.threads × IfSome bytes IsBuilt × (b.held ≡ a.held)
+Ends run bytes a b (end.Spent s) = (run ≡ true) × (2 ^ 62 ≤ s) × IfSome bytes IsBuilt × (b.held ≡ a.held)
 
 -- a text was written, or a front of it where writing failed
 pub record Says (before now : ℕ) (old new : Option (List ℕ)) (text : List ℕ) : Type 0 where
@@ -71,6 +79,8 @@ status_of (end.NotBuilt line) = 3
 status_of end.ReadFault = 4
 status_of (end.WriteFault journal) = 5
 status_of end.Memory = 6
+status_of end.NoThread = 7
+status_of (end.Spent s) = 8
 
 -- the journal of the run, where there was one
 abbrev pub journal_of : End → Option Journal
@@ -82,6 +92,13 @@ journal_of end.TooLong = None
 journal_of (end.NotBuilt line) = None
 journal_of end.ReadFault = None
 journal_of end.Memory = None
+journal_of end.NoThread = None
+journal_of (end.Spent s) = None
+
+-- what shows that the tickets ran out, where they did
+abbrev pub spent_of : End → Option ℕ
+spent_of (end.Spent s) = Some s
+spent_of _ = None
 
 -- what is said on the error output
 unfoldable pub message : End → List ℕ
@@ -93,6 +110,8 @@ message (end.NotBuilt line) = codes "mtapi: line " ++ (decimal line ++ (codes ":
 message end.ReadFault = codes "mtapi: read fault" ++ 10 ∷ []
 message (end.WriteFault journal) = codes "mtapi: write fault" ++ 10 ∷ []
 message end.Memory = codes "mtapi: out of memory" ++ 10 ∷ []
+message end.NoThread = codes "mtapi: thread refused" ++ 10 ∷ []
+message (end.Spent s) = codes "mtapi: turns spent" ++ 10 ∷ []
 
 -- the message names a line
 abbrev pub has_line : End → Bool
@@ -104,9 +123,12 @@ has_line end.TooLong = false
 has_line end.ReadFault = false
 has_line (end.WriteFault journal) = false
 has_line end.Memory = false
+has_line end.NoThread = false
+has_line (end.Spent s) = false
 
--- The outcome is told by an end: its status, its journal, and its message on the error output.
+-- The outcome is told by an end: its status, its journal, what shows that tickets ran out, and its message on the error output.
 pub record IsTold (end : End) (e e' : ℕ) (o o' : Option (List ℕ)) (outcome : Outcome) : Type 0 where
   pub status : outcome.status ≡ status_of end
   pub journal : outcome.journal ≡ journal_of end
+  pub spent : outcome.spent ≡ spent_of end
   pub said : Says e e' o o' (message end)

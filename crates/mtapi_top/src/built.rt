@@ -1,24 +1,9 @@
-//! Which workloads the run of this stage carries out.
+//! Which workloads the run carries out.
 ghost use Rattle.std.specs.Prelude.{◌≡◌};
-ghost use Rattle.mtapi_top.specs.Built.{is_built, first_unbuilt, first_line, unbuilt_in, unbuilt_line};
+ghost use Rattle.mtapi_top.specs.Built.{first_unbuilt, unbuilt_in, unbuilt_line};
 
-use mtapi_values::Kind;
-use workload_file::{Deed, Part, Statement, Workload};
-
-/// Whether the run carries a statement out.
-fn is_built(deed: &Deed) -> bool
-    ensures { result ≡ is_built deed.now }
-{
-    match deed {
-        Deed::Begin
-        | Deed::ActionEnable { .. }
-        | Deed::Start { .. }
-        | Deed::Wait { .. }
-        | Deed::Cancel { .. } => true,
-        Deed::Action { kind, .. } => !matches!(kind, Kind::Watch),
-        _ => false,
-    }
-}
+use sched_threads::is_made;
+use workload_file::{Part, Statement, Workload};
 
 /// The line of the first of these statements that isn't carried out.
 fn first_unbuilt(statements: &[Statement]) -> Option<u64>
@@ -26,30 +11,27 @@ fn first_unbuilt(statements: &[Statement]) -> Option<u64>
 {
     statements
         .iter()
-        .find(|statement| !is_built(&statement.deed))
+        .find(|statement| !is_made(&statement.deed))
         .map(|statement| statement.line)
 }
 
-/// The line of the first of these parts.
-fn first_line(parts: &[Part]) -> Option<u64>
-    ensures { result ≡ first_line parts.now }
+/// The line of the first statement of these parts that isn't carried out.
+#[tactic(auto, unfolding(crate::specs::Built::unbuilt_in))]
+fn unbuilt_in(parts: &[Part]) -> Option<u64>
+    ensures { result ≡ unbuilt_in parts.now }
 {
     match parts {
         [] => None,
-        [part, ..] => Some(part.line),
+        [part, others @ ..] => match first_unbuilt(part.statements.as_slice()) {
+            Some(line) => Some(line),
+            None => unbuilt_in(others),
+        },
     }
 }
 
-/// The line of the first statement that isn't carried out, in the order of the text: one of main's, or the first `caller` line.
-#[tactic(auto, unfolding(crate::specs::Built::unbuilt_in))]
+/// The line of the first statement that isn't carried out, in the order of the text.
 pub fn unbuilt_line(load: &Workload) -> Option<u64>
     ensures { result ≡ unbuilt_line load.now }
 {
-    match load.parts.as_slice() {
-        [] => None,
-        [main, further @ ..] => match first_unbuilt(main.statements.as_slice()) {
-            Some(line) => Some(line),
-            None => first_line(further),
-        },
-    }
+    unbuilt_in(load.parts.as_slice())
 }

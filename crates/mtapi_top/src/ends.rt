@@ -1,13 +1,14 @@
 //! How the command ends.
 
-use node_core::Journal;
+use node_core::RunJournal;
+use turn_cell::Spent;
 use workload_file::Cause;
 
 /// How the command ends.
 #[derive(Drop)]
 pub enum End {
     /// The run's report was written.
-    Done(Journal),
+    Done(RunJournal),
     /// The words are none that the command takes.
     Usage,
     /// The bytes are no workload: this is the first faulty line, and its first cause.
@@ -19,16 +20,22 @@ pub enum End {
     /// A read failed.
     ReadFault,
     /// A write of the report failed.
-    WriteFault(Journal),
+    WriteFault(RunJournal),
     /// There was no memory.
     Memory,
+    /// A thread was refused.
+    NoThread,
+    /// The tickets of the run's turns ran out.
+    Spent(Spent),
 }
 
-/// What the command answers: the status of the process, and the run's journal where there was a run.
+/// What the command answers: the status of the process, and what shows it.
 #[derive(Drop)]
 pub struct Outcome {
-    /// 0, or 2 to 6.
+    /// 0, or 2 to 8.
     pub status: u8,
     /// Some exactly with the status 0 or 5.
-    pub journal: Option<Journal>,
+    pub journal: Option<RunJournal>,
+    /// Some exactly with the status 8.
+    pub spent: Option<Spent>,
 }

@@ -13,5 +13,5 @@ mod tests;
 pub use carry::command;
 pub use ends::{End, Outcome};
 pub use run_report::report_of;
-pub use sched_workers::run_inline;
+pub use sched_threads::{Beside, FewThreads, Threads, run_node};
 pub use telling::tell;

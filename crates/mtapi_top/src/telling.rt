@@ -1,9 +1,10 @@
 //! What the command says of its end.
-ghost use Rattle.std.specs.Prelude.{◌≡◌, ◌⊎◌, true, false, IfOk, string_bytes};
-ghost use Rattle.mtapi_top.specs.Command.{Says, status_of, journal_of, message, has_line, IsTold};
+ghost use Rattle.std.specs.Prelude.{◌≡◌, ◌⊎◌, true, false, Some, None, IfOk, string_bytes};
+ghost use Rattle.mtapi_top.specs.Command.{Says, status_of, journal_of, spent_of, message, has_line, IsTold};
 ghost use Rattle.mtapi_top.specs.declared.ends.End.{End};
 
 use crate::ends::{End, Outcome};
+use node_core::RunJournal;
 use std::alloc::{AllocError, Global};
 use workload_file::{Cause, Sink, write_all};
 
@@ -44,36 +45,50 @@ fn plain_text(end: &End) -> &'static [u8]
         End::ReadFault => b"mtapi: read fault\n",
         End::WriteFault(_) => b"mtapi: write fault\n",
         End::Memory => b"mtapi: out of memory\n",
+        End::NoThread => b"mtapi: thread refused\n",
+        End::Spent(_) => b"mtapi: turns spent\n",
     }
 }
 
-/// The status of an end, and its journal.
+/// The status of an end, and what shows it.
 fn outcome_of(end: End) -> Outcome
     ensures status { result.status ≡ status_of end }
     ensures journal { result.journal ≡ journal_of end }
+    ensures spent { result.spent ≡ spent_of end }
 {
     match end {
-        End::Done(journal) => Outcome {
-            status: 0,
-            journal: Some(journal),
+        End::Done(journal) => with_journal(0, journal),
+        End::WriteFault(journal) => with_journal(5, journal),
+        End::Spent(spent) => Outcome {
+            status: 8,
+            journal: None,
+            spent: Some(spent),
         },
-        End::WriteFault(journal) => Outcome {
-            status: 5,
-            journal: Some(journal),
-        },
-        End::Usage => without_journal(2),
-        End::Refused(..) | End::TooLong | End::NotBuilt(_) => without_journal(3),
-        End::ReadFault => without_journal(4),
-        End::Memory => without_journal(6),
+        End::Usage => alone(2),
+        End::Refused(..) | End::TooLong | End::NotBuilt(_) => alone(3),
+        End::ReadFault => alone(4),
+        End::Memory => alone(6),
+        End::NoThread => alone(7),
     }
 }
 
-fn without_journal(status: u8) -> Outcome
-    ensures { result ≡ record { status = status; journal = None } }
+fn with_journal(status: u8, journal: RunJournal) -> Outcome
+    ensures { result ≡ record { status = status; journal = Some journal; spent = None } }
+{
+    Outcome {
+        status,
+        journal: Some(journal),
+        spent: None,
+    }
+}
+
+fn alone(status: u8) -> Outcome
+    ensures { result ≡ record { status = status; journal = None; spent = None } }
 {
     Outcome {
         status,
         journal: None,
+        spent: None,
     }
 }
 

@@ -1,17 +1,21 @@
 //! The command on worked workloads, over sources and sinks in memory.
 
-use crate::command;
+use crate::{Beside, FewThreads, Threads, command};
 use action_fn::{
-    FnTable, StoredFn, act_add, act_div, act_echo, act_fail, act_gcd, act_max, act_mul,
-    act_triangle,
+    ActionSet, ActionSource, Finished, FnTable, StoredFn, act_add, act_div, act_echo, act_fail,
+    act_gcd, act_max, act_mul, act_triangle,
 };
-use mtapi_values::Kind;
+use crossbeam_utils::Backoff;
+use mtapi_values::{Args, Kind};
 use std::alloc::Global;
 use std::process::Abort;
+use std::sync::Wait;
+use std::sync::atomic::{AtomicU64, Ordering};
+use std::thread::Threads as StartsThreads;
 use workload_file::{MemSink, MemSource};
 
-/// One run of the command: at most so many bytes a call of the source and of the sinks, the call at which each fails (0: at none), and
-/// what the command then says.
+/// One run of the command: at most so many bytes a call of the source and of the sinks, the call at which each fails (0: at none), the
+/// thread that is refused (0: none), and what the command then says.
 #[derive(Drop)]
 struct Case {
     words: [&'static str; 2],
@@ -21,6 +25,7 @@ struct Case {
     source_fails: u64,
     sink_fails: u64,
     err_fails: u64,
+    refused_thread: u64,
     status: u8,
     out: &'static [u8],
     err: &'static [u8],
@@ -36,6 +41,7 @@ fn plain() -> Case {
         source_fails: 0,
         sink_fails: 0,
         err_fails: 0,
+        refused_thread: 0,
         status: 0,
         out: b"main.t completed 6\n",
         err: b"",
@@ -62,22 +68,21 @@ fn refused(text: &'static [u8], err: &'static [u8]) -> Case {
     }
 }
 
-/// Runs the command on a case, and compares all that it says.
-fn check<R: Abort>(rt: &R, alloc: Global, case: &Case) {
-    let bytes = case.text.to_vec(alloc).expect(rt, "memory");
-    check_bytes(rt, alloc, bytes, case);
+/// A workload whose thread of this number is refused.
+fn thread_refused(text: &'static [u8], number: u64) -> Case {
+    Case {
+        text,
+        refused_thread: number,
+        status: 7,
+        out: b"",
+        err: b"mtapi: thread refused\n",
+        ..plain()
+    }
 }
 
-/// The same on these bytes, and not on the case's own text.
-fn check_bytes<R: Abort>(rt: &R, alloc: Global, bytes: Vec<u8>, case: &Case) {
-    let source_fails = vec![in alloc; case.source_fails].expect(rt, "memory");
-    let sink_fails = vec![in alloc; case.sink_fails].expect(rt, "memory");
-    let mut src = MemSource::new(bytes, case.most.max(1), source_fails);
-    let mut out = MemSink::new(alloc, 4096, case.most.max(1), sink_fails).expect(rt, "memory");
-    let err_fails = vec![in alloc; case.err_fails].expect(rt, "memory");
-    let mut err = MemSink::new(alloc, 4096, case.most.max(1), err_fails).expect(rt, "memory");
-    let words = &case.words[..case.count.min(2)];
-    let mut acts = FnTable::new(
+/// The function of each pure kind.
+fn table() -> FnTable {
+    FnTable::new(
         StoredFn::new(Kind::Add, act_add),
         StoredFn::new(Kind::Mul, act_mul),
         StoredFn::new(Kind::Max, act_max),
@@ -86,8 +91,47 @@ fn check_bytes<R: Abort>(rt: &R, alloc: Global, bytes: Vec<u8>, case: &Case) {
         StoredFn::new(Kind::Echo, act_echo),
         StoredFn::new(Kind::Triangle, act_triangle),
         StoredFn::new(Kind::Fail, act_fail),
-    );
-    let outcome = command(alloc, words, &mut src, &mut out, &mut err, &mut acts);
+    )
+}
+
+/// Runs the command on a case, and compares all that it says.
+fn check<R: Abort + StartsThreads + Wait + Sync>(rt: &R, alloc: Global, case: &Case) {
+    let bytes = case.text.to_vec(alloc).expect(rt, "memory");
+    check_bytes(rt, alloc, bytes, case);
+}
+
+/// The same on these bytes, and not on the case's own text.
+fn check_bytes<R: Abort + StartsThreads + Wait + Sync>(
+    rt: &R,
+    alloc: Global,
+    bytes: Vec<u8>,
+    case: &Case,
+) {
+    if case.refused_thread == 0 {
+        check_with(rt, alloc, bytes, case, &mut table(), &mut Threads::new());
+    } else {
+        let mut few = FewThreads::new(case.refused_thread);
+        check_with(rt, alloc, bytes, case, &mut table(), &mut few);
+    }
+}
+
+/// The same with these actions, and these threads.
+fn check_with<R: Abort + StartsThreads + Wait + Sync, A: ActionSource, B: Beside>(
+    rt: &R,
+    alloc: Global,
+    bytes: Vec<u8>,
+    case: &Case,
+    acts: &mut A,
+    beside: &mut B,
+) {
+    let source_fails = vec![in alloc; case.source_fails].expect(rt, "memory");
+    let sink_fails = vec![in alloc; case.sink_fails].expect(rt, "memory");
+    let mut src = MemSource::new(bytes, case.most.max(1), source_fails);
+    let mut out = MemSink::new(alloc, 4096, case.most.max(1), sink_fails).expect(rt, "memory");
+    let err_fails = vec![in alloc; case.err_fails].expect(rt, "memory");
+    let mut err = MemSink::new(alloc, 4096, case.most.max(1), err_fails).expect(rt, "memory");
+    let words = &case.words[..case.count.min(2)];
+    let outcome = command(rt, alloc, words, &mut src, &mut out, &mut err, acts, beside);
     assert_eq!(rt; outcome.status, case.status);
     assert_eq!(rt; out.bytes(), case.out);
     assert_eq!(rt; err.bytes(), case.err);
@@ -95,6 +139,7 @@ fn check_bytes<R: Abort>(rt: &R, alloc: Global, bytes: Vec<u8>, case: &Case) {
         outcome.journal.is_some(),
         case.status == 0 || case.status == 5
     );
+    assert!(rt; outcome.spent.is_none());
 }
 
 #[test]
@@ -180,13 +225,8 @@ fn refused_texts(rt: HostRuntime) {
             b"action a job=1 kind=add\nstart t job=1\nstart t job=1\n",
             b"mtapi: line 3: name taken\n",
         ),
-        refused(b"caller a", b"mtapi: line 1: not built\n"),
         refused(MIXED, b"mtapi: line 4: not built\n"),
-        refused(b"begin\ngroup g\ncaller a\n", b"mtapi: line 2: not built\n"),
-        refused(
-            b"action a job=1 kind=watch\n",
-            b"mtapi: line 1: not built\n",
-        ),
+        refused(b"begin\ncaller a\ngroup g\n", b"mtapi: line 3: not built\n"),
     ] {
         check(&rt, rt.alloc(), &case);
     }
@@ -236,6 +276,103 @@ mutex_get m id=1\n\
 lock m timeout=inf\n\
 unlock m key=1\n";
 
+/// Two workers, main and two further callers, each with a task of its own.
+const THREE: &[u8] = b"node workers=2\n\
+action a job=1 kind=add\n\
+action b job=1 kind=add cores=1\n\
+begin\n\
+start t job=1 args=1,2\n\
+wait t timeout=inf\n\
+caller c\n\
+start t job=1 args=3,4\n\
+start u job=2\n\
+wait t timeout=inf\n\
+wait t timeout=nowait\n\
+caller d\n\
+start v job=1 args=5,6 priority=1\n\
+wait v timeout=inf\n";
+
+const THREE_REPORT: &[u8] = b"main.t completed 3\n\
+c.t completed 7\n\
+c.u refused MTAPI_ERR_JOB_INVALID\n\
+d.v completed 11\n\
+! c 11 MTAPI_ERR_TASK_INVALID\n";
+
+#[test]
+fn refused_threads(rt: HostRuntime) {
+    // Two workers and two further callers have a thread each.
+    for number in 1..=4 {
+        check(&rt, rt.alloc(), &thread_refused(THREE, number));
+    }
+    let case = Case {
+        refused_thread: 5,
+        ..reported(THREE, THREE_REPORT)
+    };
+    check(&rt, rt.alloc(), &case);
+}
+
+/// The actions of a table, of which the first that begins waits for a while until a second has begun.
+#[derive(Drop)]
+struct Meeting<'a> {
+    plain: FnTable,
+    begun: &'a AtomicU64,
+    met: &'a AtomicU64,
+}
+
+impl<'a> ActionSet for Meeting<'a> {
+    fn run(&mut self, kind: Kind, args: Args) -> Finished {
+        let before = self.begun.fetch_add(1, Ordering::SeqCst);
+        if before == 0 {
+            let backoff = Backoff::new();
+            for _ in 0..2_000_000 {
+                if self.begun.load(Ordering::SeqCst) >= 2 {
+                    self.met.store(1, Ordering::SeqCst);
+                    break;
+                }
+                backoff.snooze();
+            }
+        }
+        self.plain.run(kind, args)
+    }
+}
+
+/// Gives each worker such a set.
+#[derive(Drop)]
+struct Meetings<'a> {
+    begun: &'a AtomicU64,
+    met: &'a AtomicU64,
+}
+
+impl<'a> ActionSource for Meetings<'a> {
+    type Set = Meeting<'a>;
+
+    fn for_worker(&mut self, _worker: u32) -> Meeting<'a> {
+        Meeting {
+            plain: table(),
+            begun: self.begun,
+            met: self.met,
+        }
+    }
+}
+
+#[test]
+fn two_actions_meet(rt: HostRuntime) {
+    let alloc = rt.alloc();
+    let case = reported(
+        b"node workers=2\naction a job=1 kind=add\nstart t job=1 args=1\nstart u job=1 args=2\nwait t timeout=inf\nwait u timeout=inf\n",
+        b"main.t completed 1\nmain.u completed 2\n",
+    );
+    let bytes = case.text.to_vec(alloc).expect(&rt, "memory");
+    let begun = AtomicU64::new(0);
+    let met = AtomicU64::new(0);
+    let mut acts = Meetings {
+        begun: &begun,
+        met: &met,
+    };
+    check_with(&rt, alloc, bytes, &case, &mut acts, &mut Threads::new());
+    assert_eq!(rt; met.load(Ordering::SeqCst), 1);
+}
+
 #[test]
 fn reports(rt: HostRuntime) {
     for case in [
@@ -280,9 +417,11 @@ fn reports(rt: HostRuntime) {
             b"main.t refused MTAPI_ERR_NO_CORE\n! main 4 MTAPI_ERR_TASK_INVALID\n",
         ),
         reported(
-            b"action a job=1 kind=echo\nstart t job=1 args=1,-2\ncancel t\nstart u job=1\nwait u timeout=3\n",
-            b"main.t cancelled\nmain.u completed\n",
+            b"action a job=1 kind=watch\nstart t job=1 args=2\nwait t timeout=inf\nstart u job=1 args=65\nwait u timeout=inf\n",
+            b"main.t completed 2\nmain.u error MTAPI_ERR_ACTION_FAILED\n",
         ),
+        reported(b"caller a", b""),
+        reported(THREE, THREE_REPORT),
     ] {
         check(&rt, rt.alloc(), &case);
     }

@@ -74,12 +74,12 @@ pub place_of : (w n k : ℕ) → Place w n k
 place_of w n k = elim (cases_Bool (nat_lt k w)) [
   | inl i ↦ is_worker (ltb-true k w i)
   | inr i ↦ let low = ltb-false k w i in elim (cases_Bool (nat_lt w k)) [
-      | inl j ↦ let high = ltb-true w k j in elim (cases_Bool (nat_lt k n)) [
-          | inl l ↦ is_caller high (ltb-true k n l)
-          | inr l ↦ is_none (ltb-false k n l)
-        ]
-      | inr j ↦ let top = ltb-false w k j in is_main (omega arith)
+    | inl j ↦ let high = ltb-true w k j in elim (cases_Bool (nat_lt k n)) [
+      | inl l ↦ is_caller high (ltb-true k n l)
+      | inr l ↦ is_none (ltb-false k n l)
     ]
+    | inr j ↦ let top = ltb-false w k j in is_main (omega arith)
+  ]
 ]
 
 index : (w i : ℕ) → (w + suc i) - w ≡ suc i

@@ -121,9 +121,7 @@ pub fn run_node<S: ActionSource, B: Beside, R: StartsThreads + Wait + Sync>(
     ensures causes { IfErr result (Causes (B.refusals beside.old) (B.refusals beside.new)) }
 {
     let parts = load.parts.as_slice();
-    let [main, ..] = parts else {
-        unreachable!()
-    };
+    let [main, ..] = parts else { unreachable!() };
     let object = Journaled::with(alloc, node);
     let Ok((cell, seats)) = TurnCell::new(alloc, object) else {
         return Err(RunError::Memory);

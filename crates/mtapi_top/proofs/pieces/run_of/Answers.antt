@@ -1,8 +1,8 @@
-use Rattle.mtapi_top.proofs.Carried.{is_carried, ran_is}
+use Rattle.mtapi_top.proofs.Carried.{parts_made, ran_is}
 use Rattle.mtapi_top.proofs.pieces.run_of.Goals as goal
 
-pub run_inline-requires-clause-carried : goal.run_inline-requires-clause-carried
-run_inline-requires-clause-carried g c κs within = is_carried c.args.load.now c.requires.formed c.requires.built
+pub run_node-requires-clause-made : goal.run_node-requires-clause-made
+run_node-requires-clause-made g c κs within = parts_made c.args.load.now.parts c.requires.built
 
-pub returns : goal.returns
-returns g c = ran_is c.args.load.now c.run_inline.result c.requires.formed c.requires.built c.run_inline.ensures
+pub returns-clause-run : goal.returns-clause-run
+returns-clause-run g c = ran_is c.args.load.now c.run_node.result c.run_node.ensures.run
