@@ -115,7 +115,9 @@ run_is load z m p ps c j e n t x k =
     record {
       settings = k.kept.settings ∙ ap (λ (u : Terms). u.settings) t;
       callers = k.kept.callers ∙ callers_are;
+      layout = k.kept.layout ∙ ap (λ (u : Terms). u.layout) t;
       legal = subst (λ (u : Terms). Legal u j.entries.entries) t k.kept.legal;
+      supported = k.kept.supported;
       run = subst (λ (es : List NodeEntry). RunOf load es j.entries.skipped) (sym k.kept.entries) (subst (λ (ns : List ℕ). RunOf load (kept (opening z.terms.node) k.history) ns) (sym k.kept.numbers) is_run);
     }
 

@@ -17,7 +17,7 @@ use Rattle.mtapi_machine.specs.declared.replies.Reply.TheVariants.{Ok, Handle, N
 use Rattle.mtapi_machine.specs.declared.ops.Op.TheVariants as op
 use Rattle.handle_pool.specs.Issued.{at, count, any, change, with_fields}
 use Rattle.mtapi_objects.specs.Actions.{Action}
-use Rattle.mtapi_objects.specs.Tasks.{Task, TaskState, Scheduled, Running, Over, scheduled, runner, runs_on, runs_as, kind_number, is_unstarted, with_state, ended, asked_once, asked_refusals, finish_refusals, watch_end, watch_end_refusals, looks_of}
+use Rattle.mtapi_objects.specs.Tasks.{Task, TaskState, Scheduled, Running, Over, scheduled, runner, runs_on, runs_as, kind_number, is_unstarted, with_state, with_notes, Notes, no_tally, ended, asked_once, asked_refusals, finish_refusals, watch_end, watch_end_refusals, looks_of}
 use Rattle.mtapi_values.specs.declared.handles.ActionHandle.{ActionHandle}
 use Rattle.mtapi_machine.specs.State.{State, workers, is_new, is_stop, tasks, changed}
 use Rattle.mtapi_machine.specs.Moves.{runs as runs_task, stops as stops_worker, ends as ends_task, notes}
@@ -35,7 +35,7 @@ abbrev pub Untouched : State → Type 0
 Untouched s = (h : ℕ) (t : Task) → at s.tasks h ≡ Some t → is_unstarted t ≡ true → IsUntouched t
 
 abbrev pub work_of : Kind → List ℤ → Work
-work_of k args = record { kind = k; args = args; looks = 0; seen = false }
+work_of k args = record { kind = k; args = args; looks = 0; seen = false; tally = no_tally }
 
 -- what a pick of a worker without a task may answer, and what it leaves
 abbrev pub PickedAs : State → ℕ → Reply → State → Type 0
@@ -72,7 +72,7 @@ begins s w h t k args clean free a u e =
     record {
       task = with_state (Running w k) t;
       found = at-update h (with_state (Running w k)) t s.tasks a;
-      runs = record { state = refl; arguments = sym e; looked = z.looks; told = z.seen };
+      runs = record { state = refl; arguments = sym e; looked = z.looks; told = z.seen; did = z.tally };
       alone = omega (arith, n, m, free);
     }
 
@@ -215,26 +215,23 @@ pub record AskedAs (r : Reply) (w h : ℕ) (x : Work) (u : State) : Type 0 where
   pub reply : r ≡ Asked requested
   pub holds : Holds u w h (told requested x)
 
-asked_runs : (w : ℕ) (x : Work) (t : Task) (b : Bool) → t.notes.requested ≡ b → RunsWith w x t → RunsWith w (told b x) (asked_once t)
-asked_runs w x t true e v = subst (λ (u : Task). RunsWith w (told true x) u) (λ i. cond (sym e i) (record t { seen = true }) (record t { looks = t.looks + 1 })) (record { state = v.state; arguments = v.arguments; looked = v.looked; told = refl })
-asked_runs w x t false e v = subst (λ (u : Task). RunsWith w (told false x) u) (λ i. cond (sym e i) (record t { seen = true }) (record t { looks = t.looks + 1 })) (record { state = v.state; arguments = v.arguments; looked = ap (λ (n : ℕ). n + 1) v.looked; told = v.told })
+asked_runs : (w : ℕ) (x : Work) (t : Task) (b : Bool) → t.notes.requested ≡ b → RunsWith w x t → RunsWith w (told b x) (with_notes asked_once t)
+asked_runs w x t true e v =
+    subst (λ (n : Notes). RunsWith w (told true x) (record t { notes = n })) (λ i. cond (sym e i) (record t.notes { seen = true }) (record t.notes { looks = t.notes.looks + 1 }))
+    (record { state = v.state; arguments = v.arguments; looked = v.looked; told = refl; did = v.did })
+asked_runs w x t false e v =
+    subst (λ (n : Notes). RunsWith w (told false x) (record t { notes = n })) (λ i. cond (sym e i) (record t.notes { seen = true }) (record t.notes { looks = t.notes.looks + 1 }))
+    (record { state = v.state; arguments = v.arguments; looked = ap (λ (n : ℕ). n + 1) v.looked; told = v.told; did = v.did })
 
-asked_state : (t : Task) → (asked_once t).state ≡ t.state
-asked_state t = by_request t.notes.requested
-  where
-    by_request : (b : Bool) → (cond b (record t { seen = true }) (record t { looks = t.looks + 1 })).state ≡ t.state
-    by_request true = refl
-    by_request false = refl
-
-asked_holds : (s : State) (w h : ℕ) (x : Work) (v : Holds s w h x) → Holds (changed tasks h asked_once s) w h (told v.task.notes.requested x)
+asked_holds : (s : State) (w h : ℕ) (x : Work) (v : Holds s w h x) → Holds (changed tasks h (with_notes asked_once) s) w h (told v.task.notes.requested x)
 asked_holds s w h x v =
     let on = runs_on_its w x v.task v.runs in
-    let n = count_changed (runs_on w) h (with_fields asked_once) true s.tasks v.task v.found
-    (λ r l i j. l j && (ap (λ (y : TaskState). holds (λ q. q.0 == w) (runner y)) (asked_state r.fields) ∙ (ap (runs_on w) i ∙ on)) j) in
+    let n = count_changed (runs_on w) h (with_fields (with_notes asked_once)) true s.tasks v.task v.found
+    (λ r l i j. l j && (ap (runs_on w) i ∙ on) j) in
     let o : cond {A = ℕ} (runs_on w v.task) 1 0 ≡ 1 = ap (λ (b : Bool). cond {A = ℕ} b 1 0) on in
     record {
-      task = asked_once v.task;
-      found = at-update h asked_once v.task s.tasks v.found;
+      task = with_notes asked_once v.task;
+      found = at-update h (with_notes asked_once) v.task s.tasks v.found;
       runs = asked_runs w x v.task v.task.notes.requested refl v.runs;
       alone = omega (arith, n, o, v.alone);
     }
@@ -254,7 +251,7 @@ asked_as s w h x v n r l k e a d i =
     record {
       requested = v.task.notes.requested;
       reply = q.allowed;
-      holds = subst (λ (u : State). Holds u w h (told v.task.notes.requested x)) (sym (g.leads ∙ (p.leads ∙ (q.leads ∙ (λ j. changed tasks h (λ u. asked_noted u j) s))))) (asked_holds s w h x v);
+      holds = subst (λ (u : State). Holds u w h (told v.task.notes.requested x)) (sym (g.leads ∙ (p.leads ∙ q.leads))) (asked_holds s w h x v);
     }
 
 pub record WatchedAs (r : Reply) (w : ℕ) (u : State) : Type 0 where

@@ -17,6 +17,7 @@ use Rattle.sched_threads.specs.declared.crew.back.AllHands.{AllHands}
 use Rattle.sched_threads.specs.declared.run.RunError.{RunError}
 use Rattle.sched_threads.specs.declared.run.RunError.TheVariants as error
 use Rattle.sched_threads.specs.Pairs.{Rose}
+use Rattle.node_core.specs.Supported.{AllSupported}
 use Rattle.sched_threads.specs.Carries.{AllMade}
 use Rattle.sched_threads.specs.Crews.{Cell, IsClean}
 
@@ -24,11 +25,13 @@ use Rattle.sched_threads.specs.Crews.{Cell, IsClean}
 abbrev pub terms_for : Workload → Terms
 terms_for load = terms_of One load.settings (length load.parts)
 
--- the journal has these terms, is legal, and is a run of the workload
+-- the journal has these terms, is legal, by ops that a node carries out, and is a run of the workload
 pub record IsRunOf (load : Workload) (j : Journal) : Type 0 where
   pub settings : j.settings ≡ load.settings
   pub callers : j.callers ≡ length load.parts
+  pub layout : j.layout ≡ One
   pub legal : Legal (terms_for load) j.entries.entries
+  pub supported : AllSupported j.entries.entries
   pub run : RunOf load j.entries.entries j.entries.skipped
 
 -- an op does what each statement says
