@@ -1,6 +1,6 @@
 -- What reading a text gave, and the range that it lies in.
-use Rattle.std.proofs.Common.{◌≡◌, ℕ, ℤ, pos, neg_ℤ, ◌+◌, ◌-◌, ◌*◌, ◌^◌, ◌≤◌, ◌<◌, List, [], ◌∷◌, length, Bool, true, false, cond, ◌&&◌, eqb, Option, Some, None, refl, ap, subst, arith, inl, inr, add-one, lit<, zero, suc, drop}
-use Rattle.std.specs.Prelude.{nat_le, nat_lt, is_some, option_and_then, FitsSigned, slice_index}
+use Rattle.std.proofs.Common.{◌≡◌, ℕ, ℤ, pos, neg_ℤ, ◌+◌, ◌*◌, ◌^◌, ◌≤◌, ◌<◌, List, [], ◌∷◌, length, Bool, true, false, cond, ◌&&◌, eqb, Option, Some, None, refl, ap, subst, arith, inl, inr, add-one, lit<, zero, suc, drop}
+use Rattle.std.specs.Prelude.{nat_le, nat_lt, option_and_then, FitsSigned, slice_index}
 use Rattle.std.specs.List.{AllByRecursion}
 use Rattle.std.specs.Int.{w64}
 use Rattle.std.specs.Str.Parse.{digits_value}

@@ -1,5 +1,5 @@
 -- What was read is written as it was read.
-use Rattle.std.proofs.Common.{◌≡◌, ℕ, ℤ, pos, neg_ℤ, ◌+◌, ◌-◌, ◌*◌, ◌^◌, ◌≤◌, ◌<◌, List, [], ◌∷◌, ◌++◌, length, Bool, true, false, not, cond, eqb, Option, Some, None, refl, sym, ap, ◌∙◌, arith, inl, inr, map, lit<, get_or, zero, suc, drop, append_assoc, mul_assoc, mul_comm, add-mul}
+use Rattle.std.proofs.Common.{◌≡◌, ℕ, ℤ, pos, neg_ℤ, ◌+◌, ◌*◌, ◌^◌, ◌≤◌, ◌<◌, List, [], ◌∷◌, ◌++◌, length, true, not, cond, eqb, Some, refl, sym, ap, ◌∙◌, arith, inl, inr, map, lit<, get_or, zero, suc, drop, append_assoc, mul_assoc, mul_comm, add-mul}
 use Rattle.std.specs.Prelude.{nat_le, nat_lt, slice_index}
 use Rattle.std.specs.Int.{bit_at}
 use Rattle.std.specs.Fmt.{decimal, signed_decimal}
@@ -12,7 +12,7 @@ use Rattle.std.proofs.lemmas.List.Splits.{join_with_byte-slice_split}
 use Rattle.std.proofs.lemmas.Nat.Bits.{bit_at-zero, bit_at-pow_same, bit_at_cat_low, bit_at_cat_high}
 use Rattle.mtapi_values.specs.Masks.{in_mask}
 use Rattle.number_text.specs.Numbers.{is_decimal, number, number_within, whole}
-use Rattle.number_text.specs.Lists.{between, wholes, list_of, listed, list_text}
+use Rattle.number_text.specs.Lists.{between, wholes, list_of, listed}
 use Rattle.number_text.specs.Cores.{bits_from, cores_of, cores_below, cores_text}
 use Rattle.number_text.proofs.Parsing.{own}
 use Rattle.number_text.proofs.CoreSteps.{cores_none, cores_next}

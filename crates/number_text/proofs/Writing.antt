@@ -1,12 +1,12 @@
 -- What is written is read as the same.
-use Rattle.std.proofs.Common.{◌≡◌, ℕ, ℤ, pos, negsuc, neg_ℤ, ◌+◌, ◌-◌, ◌*◌, ◌/◌, ◌%◌, ◌^◌, ◌≤◌, ◌<◌, List, [], ◌∷◌, ◌++◌, length, Bool, true, false, not, cond, ◌||◌, eqb, Option, Some, None, refl, sym, ap, subst, ◌∙◌, arith, inl, inr, map, get_or, zero, suc, drop, add-mul, All}
-use Rattle.std.specs.Prelude.{nat_le, nat_lt, slice_index, FitsSigned, option_and_then}
+use Rattle.std.proofs.Common.{◌≡◌, ℕ, ℤ, pos, negsuc, neg_ℤ, ◌+◌, ◌-◌, ◌*◌, ◌/◌, ◌%◌, ◌^◌, ◌≤◌, ◌<◌, List, [], ◌∷◌, length, true, false, not, ◌||◌, eqb, Some, refl, sym, ap, subst, ◌∙◌, arith, inl, inr, map, get_or, zero, suc, add-mul}
+use Rattle.std.specs.Prelude.{slice_index, FitsSigned}
 use Rattle.std.specs.List.{AllByRecursion, list_all, join_with_byte}
 use Rattle.std.specs.Char.{is_ascii_digit}
 use Rattle.std.specs.Int.{w64, bit_at}
 use Rattle.std.specs.Fmt.{decimal, signed_decimal}
 use Rattle.std.specs.Str.Parse.{digits_value}
-use Rattle.std.proofs.lemmas.Bool.{le-leb, lt-ltb, and_parts, and_from, or_left, or_right, eqb-true, cases_Bool, eq-eqb, ne_eqb, cases_eq}
+use Rattle.std.proofs.lemmas.Bool.{le-leb, lt-ltb, and_parts, and_from, or_right, eqb-true, cases_Bool, eq-eqb, ne_eqb, cases_eq}
 use Rattle.std.proofs.lemmas.Fmt.{digits_value-decimal, digits_decimal, decimal_nonempty, first_decimal, decimal_digit}
 use Rattle.std.proofs.lemmas.List.{length-map}
 use Rattle.std.proofs.lemmas.List.Elements.{All-from_recursion}
@@ -15,7 +15,7 @@ use Rattle.std.proofs.lemmas.Nat.Bits.{bit_at_cat_high, bit_at_lowest}
 use Rattle.mtapi_values.specs.Masks.{in_mask}
 use Rattle.number_text.specs.Numbers.{is_decimal, number, number_within, whole}
 use Rattle.number_text.specs.Lists.{between, wholes, list_of, listed, list_text}
-use Rattle.number_text.specs.Cores.{bits_from, cores_of, cores_below, cores_text}
+use Rattle.number_text.specs.Cores.{bits_from, cores_of, cores_text}
 use Rattle.number_text.proofs.Parsing.{own}
 use Rattle.number_text.proofs.Reading.{bind_some, just_is, within_is, pow_double}
 use Rattle.number_text.proofs.Spelling.{cores_from, cores_all, twice}
