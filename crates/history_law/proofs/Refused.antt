@@ -17,7 +17,7 @@ use Rattle.mtapi_machine.specs.Legal.{NodeEntry, LegalFrom, Legal, after_from, a
 use Rattle.mtapi_machine.specs.Kept.{kept}
 use Rattle.mtapi_machine.specs.Laws.{DropsToSame}
 use Rattle.mtapi_machine.specs.Ends.{end_at}
-use Rattle.mtapi_machine.specs.Worked.{usual, main, worker, first_handle, next_handle, task, the_action, every_core, second_core, add_task}
+use Rattle.mtapi_machine.specs.Worked.{usual, main, worker, first_handle, next_handle, task, the_action, every_core, add_task}
 use Rattle.history_law.specs.Words.{is_live}
 use Rattle.history_law.specs.Ends.{EndsAfterClose}
 use Rattle.history_law.specs.Affinity.{ObeysMasks}
@@ -27,7 +27,7 @@ use Rattle.history_law.specs.Ordered.{RunsInOrder}
 use Rattle.history_law.specs.Told.{TellsItsEnd}
 use Rattle.mtapi_values.specs.declared.ends.TaskEnd.TheVariants.{Cancelled, Completed}
 use Rattle.history_law.specs.Reuse.{NeverAgain, NotInBoth}
-use Rattle.history_law.specs.Refused.{makes_action, too_early, up_to_the_end, leaves, again, one_for_two, on_another_core, given_twice, gives_first, the_queue, puts_one, two_put, picks_second, final_first, cancelled_first, completed_then, two_ends, makes_sem, both_hold, LawsRefuse}
+use Rattle.history_law.specs.Refused.{second_core, makes_action, too_early, up_to_the_end, leaves, again, one_for_two, on_another_core, given_twice, gives_first, the_queue, puts_one, two_put, picks_second, final_first, cancelled_first, completed_then, two_ends, makes_sem, both_hold, LawsRefuse}
 
 some_same : {A : Type 0} {x y : A} → Some x ≡ Some y → x ≡ y
 some_same e = cc

@@ -9,10 +9,13 @@ use Rattle.mtapi_values.specs.declared.ends.TaskEnd.TheVariants.{Cancelled, Comp
 use Rattle.mtapi_machine.specs.declared.terms.Terms.{Terms}
 use Rattle.mtapi_machine.specs.declared.ops.Op.{Op}
 use Rattle.mtapi_machine.specs.declared.ops.Op.TheVariants as op
+use Rattle.mtapi_machine.specs.declared.replies.Reply.{Reply}
 use Rattle.mtapi_machine.specs.declared.replies.Reply.TheVariants as reply
+use Rattle.mtapi_values.specs.declared.masks.Mask.{Mask}
+use Rattle.history.specs.Histories.{entry}
 use Rattle.mtapi_machine.specs.Legal.{NodeEntry, Legal}
 use Rattle.mtapi_machine.specs.Laws.{DropsToSame}
-use Rattle.mtapi_machine.specs.Worked.{usual, main, second, worker, first_handle, next_handle, task, the_action, every_core, second_core, add_task}
+use Rattle.mtapi_machine.specs.Worked.{usual, main, worker, first_handle, next_handle, task, the_action, every_core, add_task}
 use Rattle.history_law.specs.Ends.{EndsAfterClose}
 use Rattle.history_law.specs.Affinity.{ObeysMasks}
 use Rattle.history_law.specs.Exclusion.{SemsKeepTo}
@@ -20,6 +23,13 @@ use Rattle.history_law.specs.Order.{GivenInOrder}
 use Rattle.history_law.specs.Ordered.{RunsInOrder}
 use Rattle.history_law.specs.Told.{TellsItsEnd}
 use Rattle.history_law.specs.Reuse.{NeverAgain, NotInBoth}
+
+-- an entry of the second caller, and the mask of the second core
+abbrev pub second : Op → Reply → NodeEntry
+second o r = entry 2 o r
+
+abbrev pub second_core : Mask
+second_core = record { 0 = 2 }
 
 abbrev pub makes_action : Op
 makes_action = op.ActionCreate 1 kind.Add every_core

@@ -79,15 +79,15 @@ none_after terms L p = none_from (opening terms) L p tt
 none_at : (l : List (Listed Action)) (h : ℕ) (a : Action) → NoneTallies l → at l h ≡ Some a → is_tally a.kind ≡ false
 unfolding live_of
 none_at [] h a v e = absurd (cc)
-none_at (r ∷ rs) h a v e = by_live r.live e
+none_at (r ∷ rs) h a v e = by_live (λ m. none_at rs h a v.1 m) r.live e
   where
-    by_handle : (b : Bool) → cond b (Some r.fields) (at rs h) ≡ Some a → is_tally a.kind ≡ false
-    by_handle true m = subst (λ (x : Action). is_tally x.kind ≡ false) (some_same m) v.0
-    by_handle false m = none_at rs h a v.1 m
+    by_handle : (at rs h ≡ Some a → is_tally a.kind ≡ false) → (b : Bool) → cond b (Some r.fields) (at rs h) ≡ Some a → is_tally a.kind ≡ false
+    by_handle rest true m = subst (λ (x : Action). is_tally x.kind ≡ false) (some_same m) v.0
+    by_handle rest false m = rest m
 
-    by_live : (b : Bool) → lookup (cond b ((r.handle, r.fields) ∷ live_of rs) (live_of rs)) h ≡ Some a → is_tally a.kind ≡ false
-    by_live true m = by_handle (r.handle == h) m
-    by_live false m = none_at rs h a v.1 m
+    by_live : (at rs h ≡ Some a → is_tally a.kind ≡ false) → (b : Bool) → lookup (cond b ((r.handle, r.fields) ∷ live_of rs) (live_of rs)) h ≡ Some a → is_tally a.kind ≡ false
+    by_live rest true m = by_handle rest (r.handle == h) m
+    by_live rest false m = rest m
 
 -- and no pick gives one
 

@@ -49,16 +49,7 @@ done_says s who op.Release r i = (code _ refl, ok)
 done_says s who op.Close r i = (code _ refl, ok)
 done_says s who op.Final r i = (code _ refl, (code _ refl, ok))
 done_says s who (op.TaskCancel t) r i = (code _ refl, on_live (IsAnswer Done) (at s.tasks t.0) _ _ (code _ refl) (λ x. on_cancels t.0 x.state))
-done_says s who op.Enter r i = absurd i
-done_says s who (op.JobGet job) r i = absurd i
-done_says s who (op.ActionCreate job kind cores) r i = absurd i
-done_says s who (op.ActionEnable a) r i = absurd i
-done_says s who (op.TaskStart job args priority cores detached group) r i = absurd i
-done_says s who (op.TaskLook t last) r i = absurd i
-done_says s who op.Pick r i = absurd i
-done_says s who (op.Finish t d) r i = absurd i
-done_says s who (op.Asked t) r i = absurd i
-done_says s who (op.WatchEnd t) r i = absurd i
+done_says s who _ r i = absurd i
 
 pub done_answer : (old new : Seat) (o : Op) (x : Result Reply ℕ) → SaysDone o → IfOk x (λ r. Turned old o r new) → IfOk x (IsAnswer Done)
 done_answer old new o x i k =

@@ -18,9 +18,9 @@ use Rattle.mtapi_machine.specs.TaskRows.{looks_at}
 use Rattle.mtapi_machine.specs.Legal.{NodeEntry, IsNext, LegalFrom, next, after_from}
 use Rattle.mtapi_machine.specs.Kept.{is_dropped, is_pending, pends_alike}
 use Rattle.mtapi_machine.proofs.Lists.{after-one, Legal-front, Legal-rest}
-use Rattle.mtapi_machine.proofs.Drops.{at-update}
-use Rattle.history_law.specs.Seats.{Waits, Others}
-use Rattle.history_law.proofs.Others.{waiter_stays}
+use Rattle.mtapi_machine.proofs.Changes.{at-update}
+use Rattle.history_law.specs.Seats.{OnceListed, Waits, Others}
+use Rattle.history_law.proofs.Others.{waiter_stays, once_stays}
 use Rattle.sched_workers.specs.Turns.{Turn, stayed, turn_of, turns_of}
 use Rattle.sched_workers.specs.Whole.{none_of, first_alone, pended}
 use Rattle.sched_workers.proofs.Rows.{look_reply}
@@ -156,10 +156,10 @@ look_decides s w t false r d n = d refl
 both_none : (a b : Bool) → a ≡ true → b ≡ true → (not (not a) && b) ≡ true
 both_none a b e f = λ i. not (not (e i)) && f i
 
-pub waits_turns : (n w : ℕ) (t : TaskHandle) (last : Bool) (r : Reply) (s : State) (H rest : List NodeEntry) → LegalFrom s H → (last ≡ false → is_pending r ≡ false)
+pub waits_turns : (n w : ℕ) (t : TaskHandle) (last : Bool) (r : Reply) (s : State) (H rest : List NodeEntry) → OnceListed s → LegalFrom s H → (last ≡ false → is_pending r ≡ false)
     → entries_of w H ≡ replicate n (entry w (op.TaskLook t false) Pending) ++ entry w (op.TaskLook t last) r ∷ rest → Waited w t n last r s H rest
 unfolding none_of
-waits_turns zero w t last r s H rest l d k =
+waits_turns zero w t last r s H rest once l d k =
     let e : NodeEntry = entry w (op.TaskLook t last) r in
     let c : Cut w H e rest = first_own w H e rest k in
     let x = first_next s c.before e c.behind (subst (λ (L : List NodeEntry). LegalFrom s L) c.is l) in
@@ -175,7 +175,7 @@ waits_turns zero w t last r s H rest l d k =
       rest_is = c.rest;
       decides = look_decides (after_from s c.before) w t last r d x.0;
     }
-waits_turns (suc n) w t last r s H rest l d k =
+waits_turns (suc n) w t last r s H rest once l d k =
     let e : NodeEntry = entry w (op.TaskLook t false) Pending in
     let es : List NodeEntry = replicate n (entry w (op.TaskLook t false) Pending) ++ entry w (op.TaskLook t last) r ∷ rest in
     let c : Cut w H e es = first_own w H e es k in
@@ -183,7 +183,7 @@ waits_turns (suc n) w t last r s H rest l d k =
     let u : State = after_from s c.before in
     let x = first_next s c.before e c.behind whole in
     let v = pend_waits u w t x.0 in
-    let y : Waited w t n last r (next u e) c.behind rest = waits_turns n w t last r (next u e) c.behind rest x.1 d c.rest in
+    let y : Waited w t n last r (next u e) c.behind rest = waits_turns n w t last r (next u e) c.behind rest (subst OnceListed (after-one s c.before e) (once_stays s (c.before ++ e ∷ []) once)) x.1 d c.rest in
     record {
       front = c.before ++ e ∷ y.front;
       back = y.back;
@@ -196,7 +196,7 @@ waits_turns (suc n) w t last r s H rest l d k =
           ∙ (ap (λ (T : List Turn). T ++ turns_of w (after_from s (c.before ++ e ∷ [])) y.front) (turns_one w s c.before e c.others c.by)
           ∙ ap (λ (T : List Turn). turn_of u e ∷ T) (ap (λ (z : State). turns_of w z y.front) (after-one s c.before e) ∙ y.turns)));
       one_kept = y.none_kept v;
-      none_kept = λ q. both_none (is_dropped u e) (none_of y.marks) (waiting_drops u w t (waiter_stays s c.before w t.0 (Legal-front s c.before (e ∷ c.behind) whole) c.others q)) (y.none_kept v);
+      none_kept = λ q. both_none (is_dropped u e) (none_of y.marks) (waiting_drops u w t (waiter_stays s c.before w t.0 once (Legal-front s c.before (e ∷ c.behind) whole) c.others q)) (y.none_kept v);
       rest_is = y.rest_is;
       decides = y.decides;
     }

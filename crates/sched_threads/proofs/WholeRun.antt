@@ -22,6 +22,8 @@ use Rattle.history_law.proofs.Bounds.{by_seats, early_stays, stopped_room}
 use Rattle.sched_workers.specs.RunOf.{has_begin, ClosesAtEnd}
 use Rattle.sched_workers.specs.Turns.{turns_of}
 use Rattle.sched_workers.specs.Whole.{MainBy, CallerBy, WorkerBy, CallersBy, PartsBy, RunBy}
+use Rattle.history_law.specs.Seats.{OnceListed}
+use Rattle.handle_pool.specs.Issued.{listed}
 use Rattle.sched_threads.specs.Rounds.{all_in}
 use Rattle.sched_threads.specs.Carries.{CarriedAs}
 use Rattle.sched_threads.specs.Crews.{is_ok}
@@ -104,6 +106,11 @@ callers_by s L (p ∷ ps) who f =
 
 carried_ok : (k : ℕ) (ss : List Statement) (r : Reply) (es : List NodeEntry) → r ≡ Ok → CarriedAs k [] (if is_ok r then ss else []) es → CarriedAs k [] ss es
 carried_ok k ss r es e c = subst (λ (q : Reply). CarriedAs k [] (if is_ok q then ss else []) es) e c
+
+-- before the first entry no task is listed
+once_opening : (terms : Terms) → OnceListed (opening terms)
+unfolding listed
+once_opening terms h = omega arith
 
 module _ (terms : Terms) (w n : ℕ) (parts : List Part) (ss : List Statement) (H : List NodeEntry) (x : Known terms w n parts ss H) where
   abbrev C : NodeEntry
@@ -303,13 +310,13 @@ module _ (terms : Terms) (w n : ℕ) (parts : List Part) (ss : List Statement) (
       ∙ (λ i. entry w op.Initialize Ok ∷ (named i ++ (es ++ entry w op.Close (closed_is i) ∷ entry w op.Final (final_is i) ∷ [])))))
 
   pub main_by : MainBy ss (turns_of w (opening terms) H)
-  main_by = main_turns w ss x.main.own (opening terms) H x.main.carried x.legal main_is
+  main_by = main_turns w ss x.main.own (opening terms) H x.main.carried (once_opening terms) x.legal main_is
 
   pub caller_by : (k : ℕ) (l : w < k) (h : k < n) → CallerBy (x.called k l h).part.statements (turns_of k (opening terms) H)
   caller_by k l h =
       let d = (x.called k l h).did in
       let ok = entered k l h in
-      caller_turns k d.pending (x.called k l h).part.statements d.rest (opening terms) H (carried_ok k (x.called k l h).part.statements d.reply d.rest ok d.carried) x.legal
+      caller_turns k d.pending (x.called k l h).part.statements d.rest (opening terms) H (carried_ok k (x.called k l h).part.statements d.reply d.rest ok d.carried) (once_opening terms) x.legal
       (d.is ∙ ap (λ (r : Reply). replicate d.pending (entry k op.Enter Pending) ++ entry k op.Enter r ∷ d.rest) ok)
 
   pub worker_by : (k : ℕ) → k < w → WorkerBy (turns_of k (opening terms) H)

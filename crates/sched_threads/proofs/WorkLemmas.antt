@@ -24,7 +24,7 @@ use Rattle.mtapi_machine.specs.Moves.{runs as runs_task, stops as stops_worker, 
 use Rattle.mtapi_machine.specs.Row.{Row, unless, says, gives, never, only, Allows, after_row, mtapi_unless, live}
 use Rattle.mtapi_machine.specs.WorkRows.{is_ready, can_take, may_take, picks, task_end}
 use Rattle.mtapi_machine.specs.Legal.{IsNext, next}
-use Rattle.mtapi_machine.proofs.Drops.{at-update}
+use Rattle.mtapi_machine.proofs.Changes.{at-update}
 use Rattle.history_law.specs.Seats.{Work, RunsWith, Holds, Free, IsUntouched}
 use Rattle.history_law.proofs.Found.{count_changed, count_none}
 use Rattle.sched_threads.proofs.OwnEntries.{self_is}
@@ -207,8 +207,8 @@ finished_as s w h x v done r l k e n =
 
 -- what an ask leaves of the work
 abbrev pub told : Bool → Work → Work
-told true x = record { kind = x.kind; args = x.args; looks = x.looks; seen = true }
-told false x = record { kind = x.kind; args = x.args; looks = x.looks + 1; seen = x.seen }
+told true x = record { kind = x.kind; args = x.args; looks = x.looks; seen = true; tally = x.tally }
+told false x = record { kind = x.kind; args = x.args; looks = x.looks + 1; seen = x.seen; tally = x.tally }
 
 pub record AskedAs (r : Reply) (w h : ℕ) (x : Work) (u : State) : Type 0 where
   pub requested : Bool
