@@ -3,6 +3,7 @@ use Rattle.std.proofs.Common.{◌≡◌, ℕ, zero, suc, ◌≤◌, Bool, true, 
 use Rattle.std.specs.Prelude.{not, ◌&&◌, find, option_map, slice_get, Result, Ok, Err, IfOk}
 use Rattle.std.specs.Option.{option_or}
 use Rattle.history.specs.Histories.{entry}
+use Rattle.mtapi_values.specs.declared.handles.Layout.TheVariants.{One}
 use Rattle.workload_file.specs.declared.workload.Statement.{Statement}
 use Rattle.workload_file.specs.declared.workload.Part.{Part}
 use Rattle.workload_file.specs.declared.workload.Workload.{Workload}
@@ -63,7 +64,7 @@ has_part load formed = some_part load.parts formed.main
 -- a run of the workload is what the headline promises
 pub is_run : (load : Workload) (j : Journal) → IsRunOf load j → IsRun load j
 is_run load j r =
-    let same : told_terms j ≡ terms_for load = told j load r.settings r.callers in
+    let same : told_terms j ≡ terms_for load = told j load r.layout r.settings r.callers in
     let legal : Legal (told_terms j) j.entries.entries = rw same r.legal in
     let main = load.settings.workers in
     let ends = r.run.ends in
@@ -71,13 +72,14 @@ is_run load j r =
       settings = r.settings;
       callers = r.callers;
       legal = legal;
+      supported = r.supported;
       run = r.run;
       tasks = accepted_end (told_terms j) j.entries.entries (ends.before ++ entry main op.Close reply.Ok ∷ ends.behind) main legal
           (ends.closes ∙ last ends.before (entry main op.Close reply.Ok) ends.behind (entry main op.Final reply.Ok ∷ []));
     }
   where
-    told : (j : Journal) (load : Workload) → j.settings ≡ load.settings → j.callers ≡ length load.parts → told_terms j ≡ terms_for load
-    told j load s c = rw (s, c) refl
+    told : (j : Journal) (load : Workload) → j.layout ≡ One → j.settings ≡ load.settings → j.callers ≡ length load.parts → told_terms j ≡ terms_for load
+    told j load l s c = rw (l, s, c) refl
 
     last : (xs : List NodeEntry) (x : NodeEntry) (ys zs : List NodeEntry) → xs ++ x ∷ (ys ++ zs) ≡ (xs ++ x ∷ ys) ++ zs
     last [] x ys zs = refl

@@ -54,7 +54,7 @@ pub(crate) fn run_and_report<R: Threads + Wait + Sync, A: ActionSource, B: Besid
     requires formed { WellFormed load.now }
     requires built { unbuilt_line load.now ≡ None }
     ensures is_run { IfOk result (λ r. IsRun load.now r.0) }
-    ensures report { IfOk result (λ r. r.1.items ≡ report load.now r.0.entries.entries) }
+    ensures report { IfOk result (λ r. r.1.items ≡ report r.0.layout load.now r.0.entries.entries) }
     ensures causes { IfErr result (Causes (B.refusals beside.old) (B.refusals beside.new)) }
 {
     let run = match run_of(rt, alloc, load, acts, beside) {
