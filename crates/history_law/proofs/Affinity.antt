@@ -1,6 +1,6 @@
 -- Who picks a task is in the mask of the task, and in that of the action.
-use Rattle.std.proofs.Common.{◌≡◌, ℕ, Bool, true, false, cond, List, [], ◌∷◌, ◌++◌, Option, Some, None, refl, sym, ◌∙◌, ap, subst}
-use Rattle.std.specs.Prelude.{◌==◌, ◌&&◌, ℤ, nat_lt, not}
+use Rattle.std.proofs.Common.{◌≡◌, ℕ, Bool, true, false, cond, List, [], ◌∷◌, ◌++◌, Option, Some, None, refl, ◌∙◌, ap, subst}
+use Rattle.std.specs.Prelude.{◌&&◌, ℤ, nat_lt, not}
 use Rattle.mtapi_values.specs.declared.kinds.Kind.{Kind}
 use Rattle.mtapi_values.specs.declared.handles.ObjectKind.TheVariants as kind
 use Rattle.mtapi_values.specs.declared.handles.TaskHandle.{TaskHandle}
@@ -26,9 +26,9 @@ use Rattle.mtapi_machine.specs.Laws.{StartsTask}
 use Rattle.mtapi_machine.proofs.Lists.{Legal-front}
 use Rattle.mtapi_machine.proofs.Made.{fst_true, snd_true}
 use Rattle.history_law.specs.Words.{issues}
-use Rattle.history_law.specs.Affinity.{task_mask, action_mask, IsAllowed, ObeysMasks}
+use Rattle.history_law.specs.Affinity.{task_mask, action_mask, ObeysMasks}
 use Rattle.history_law.proofs.Ages.{SameTask, SameAction, under_at}
-use Rattle.history_law.proofs.Objects.{StartedAs, MadeAs, started_as, made_as, task_then, action_then, cut_from, has_behind}
+use Rattle.history_law.proofs.Objects.{MadeAs, started_as, made_as, task_then, action_then, cut_from, has_behind}
 
 some_same : {A : Type 0} {x y : A} → Some x ≡ Some y → x ≡ y
 some_same e = cc

@@ -1,6 +1,6 @@
 -- What each move does to the objects of one kind: they stay listed, none comes back to life, and a new one has a new handle.
-use Rattle.std.proofs.Common.{◌≡◌, ℕ, ◌+◌, ◌≤◌, Bool, true, false, cond, List, [], ◌∷◌, Some, None, refl, sym, ◌∙◌, ap, subst, arith}
-use Rattle.std.specs.Prelude.{◌==◌, ◌&&◌, not, is_some}
+use Rattle.std.proofs.Common.{◌≡◌, ℕ, ◌+◌, ◌≤◌, Bool, true, false, cond, List, [], ◌∷◌, Some, refl, sym, ◌∙◌, ap, subst, arith}
+use Rattle.std.specs.Prelude.{◌==◌, ◌&&◌, is_some}
 use Rattle.mtapi_values.specs.declared.handles.ObjectKind.{ObjectKind}
 use Rattle.mtapi_values.specs.declared.handles.ObjectKind.TheVariants as kind
 use Rattle.mtapi_values.specs.declared.ends.TaskEnd.{TaskEnd}
@@ -10,11 +10,11 @@ use Rattle.mtapi_machine.specs.declared.ops.Op.TheVariants as op
 use Rattle.handle_pool.specs.Issued.{Listed, live_of, lookup, at, listed, change, change_all, issue, with_fields, gone}
 use Rattle.mtapi_objects.specs.Actions.{Action, with_enabled}
 use Rattle.mtapi_objects.specs.Queues.{Queue, opened}
-use Rattle.mtapi_objects.specs.Tasks.{Task, Notes, TaskState, Over, Running, is_unended, with_state, with_notes, ended, end_each, new_task}
+use Rattle.mtapi_objects.specs.Tasks.{Task, Notes, TaskState, Over, Running, with_state, with_notes, ended, end_each, new_task}
 use Rattle.mtapi_objects.specs.Groups.{is_member, freed, let_go}
 use Rattle.mtapi_machine.specs.State.{State, is_open}
-use Rattle.mtapi_machine.specs.Moves.{Move, Sort, Groups, Queues, Mutexes, Sems, Rwls, Segments, makes_action, enables, withdraws, starts, runs, ends, ends_waiting, notes, leaves, frees_members, lets_members_go, makes, alters, removes, is_fresh, apply}
-use Rattle.mtapi_machine.specs.Laws.{may, IsMade, WithdrawsAction, AltersObject}
+use Rattle.mtapi_machine.specs.Moves.{Move, Groups, Queues, Mutexes, Sems, Rwls, Segments, makes_action, enables, withdraws, starts, runs, ends, ends_waiting, notes, leaves, frees_members, lets_members_go, makes, alters, removes, is_fresh, apply}
+use Rattle.mtapi_machine.specs.Laws.{IsMade, WithdrawsAction, AltersObject}
 use Rattle.mtapi_machine.proofs.Made.{snd_true}
 use Rattle.mtapi_machine.proofs.Moves.{sorts_keep}
 use Rattle.history_law.specs.Words.{FieldsOf, objects_of}

@@ -1,10 +1,10 @@
 -- What an Ok `enter` and an Ok `final` stand behind.
-use Rattle.std.proofs.Common.{◌≡◌, ℕ, zero, suc, ◌+◌, ◌<◌, ◌≤◌, Bool, true, false, cond, List, [], ◌∷◌, ◌++◌, Option, Some, None, refl, sym, ◌∙◌, ap, subst, arith}
+use Rattle.std.proofs.Common.{◌≡◌, ℕ, zero, suc, ◌<◌, Bool, true, false, cond, List, [], ◌∷◌, ◌++◌, refl, ◌∙◌, ap, arith}
 use Rattle.std.specs.Prelude.{◌==◌, ◌&&◌, not, slice_set, replicate}
 use Rattle.std.specs.Bool.{MatchBool}
 use Rattle.std.proofs.lemmas.Bool.{eq-eqb}
 use Rattle.std.proofs.lemmas.Bool.Decides.{nat_tests}
-use Rattle.mtapi_values.specs.Seats.{marked, all_marked, no_marks}
+use Rattle.mtapi_values.specs.Seats.{marked, all_marked}
 use Rattle.mtapi_values.specs.declared.statuses.MtapiStatus.TheVariants as m
 use Rattle.history.specs.Histories.{entry}
 use Rattle.mtapi_machine.specs.declared.terms.Terms.{Terms}
@@ -20,7 +20,7 @@ use Rattle.mtapi_machine.specs.WorkRows.{can_take, may_take, picks}
 use Rattle.handle_pool.specs.Issued.{at, any}
 use Rattle.mtapi_machine.specs.Laws.{IsMade, is_pick}
 use Rattle.mtapi_machine.specs.Legal.{NodeEntry, IsNext, next, LegalFrom, Legal, after_from, after}
-use Rattle.mtapi_machine.proofs.Lists.{Legal-front, Legal-rest}
+use Rattle.mtapi_machine.proofs.Lists.{Legal-front}
 use Rattle.mtapi_machine.proofs.Made.{AllGives, given, on_live, on_only, fst_true, snd_true}
 use Rattle.mtapi_machine.proofs.Moves.{sorts_keep, by_moves as made_moves}
 use Rattle.history_law.specs.Words.{some_entry}

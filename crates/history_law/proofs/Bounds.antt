@@ -1,16 +1,15 @@
 -- What bounds a history: its seats, the marks of stopped workers, and the phase before the node is closed.
-use Rattle.std.proofs.Common.{◌≡◌, ℕ, ◌+◌, ◌<◌, Bool, true, false, not, cond, List, [], ◌∷◌, length, refl, ◌∙◌, ap, subst}
+use Rattle.std.proofs.Common.{◌≡◌, ℕ, ◌+◌, Bool, true, false, not, cond, List, [], ◌∷◌, length, refl, ◌∙◌, ap, subst}
 use Rattle.std.proofs.Math.ListN.{length-set}
 use Rattle.history.specs.Histories.{entry}
 use Rattle.mtapi_machine.specs.declared.ops.Op.{Op}
 use Rattle.mtapi_machine.specs.declared.ops.Op.TheVariants.{Initialize, Close, Final}
 use Rattle.mtapi_machine.specs.declared.replies.Reply.{Reply}
-use Rattle.mtapi_machine.specs.declared.terms.Phase.{Phase}
 use Rattle.mtapi_machine.specs.declared.terms.Phase.TheVariants.{Open}
 use Rattle.mtapi_machine.specs.declared.terms.Terms.{Terms}
 use Rattle.mtapi_machine.specs.State.{State, opening, seats, is_new, is_late}
 use Rattle.mtapi_machine.specs.Moves.{Move, phase_is, stops, makes, alters, removes, apply, after_moves}
-use Rattle.mtapi_machine.specs.Legal.{NodeEntry, IsNext, LegalFrom, Legal, next, after_from, after}
+use Rattle.mtapi_machine.specs.Legal.{NodeEntry, IsNext, LegalFrom, next, after_from, after}
 use Rattle.mtapi_machine.proofs.Moves.{sorts_keep}
 use Rattle.history_law.specs.Seats.{closes, NoClose, BySeats}
 use Rattle.history_law.proofs.SeatMoves.{May, by_moves}

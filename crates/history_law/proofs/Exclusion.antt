@@ -1,36 +1,33 @@
 -- Semaphores are held within their limits.
 use Rattle.std.proofs.Common.{◌≡◌, ℕ, zero, suc, ◌+◌, ◌<◌, ◌≤◌, Bool, true, false, cond, List, [], ◌∷◌, ◌++◌, Option, Some, None, refl, sym, ◌∙◌, ap, subst, arith}
-use Rattle.std.specs.Prelude.{◌==◌, ◌-◌, ◌&&◌, not, nat_lt, is_some, length, replicate, slice_index, slice_set}
+use Rattle.std.specs.Prelude.{◌==◌, ◌-◌, ◌&&◌, nat_lt, length, replicate, slice_index, slice_set}
 use Rattle.std.proofs.lemmas.Bool.{eqb-true, eq-eqb}
 use Rattle.std.proofs.lemmas.Bool.Decides.{nat_tests}
 use Rattle.mtapi_values.specs.declared.handles.ObjectKind.TheVariants as kind
-use Rattle.mtapi_values.specs.declared.statuses.MrapiStatus.{MrapiStatus}
 use Rattle.mtapi_values.specs.declared.statuses.MrapiStatus.TheVariants as c
 use Rattle.mtapi_machine.specs.declared.terms.Terms.{Terms}
 use Rattle.mtapi_machine.specs.declared.ops.Op.{Op}
 use Rattle.mtapi_machine.specs.declared.ops.Op.TheVariants as op
 use Rattle.mtapi_machine.specs.declared.replies.Reply.{Reply}
-use Rattle.mtapi_machine.specs.declared.replies.Reply.TheVariants.{Ok, Handle, Pending, Mrapi}
+use Rattle.mtapi_machine.specs.declared.replies.Reply.TheVariants.{Handle, Pending, Mrapi}
 use Rattle.handle_pool.specs.Issued.{Listed, live_of, lookup, at, listed, change, issue, with_fields, gone}
-use Rattle.mtapi_objects.specs.Sems.{Sem, new_sem, total, sem_busy, sem_taken, sem_given, sem_unlock_refusals, sem_delete_refusals}
-use Rattle.mtapi_machine.specs.State.{State, opening, seats, workers}
-use Rattle.mtapi_machine.specs.Moves.{Move, Sort, Groups, Queues, Mutexes, Sems, Rwls, Segments, makes, alters, removes, is_fresh, apply, after_moves}
-use Rattle.mtapi_machine.specs.Row.{Row, unless, gives, never, Allows, only, live, moves_of, after_row, not_yet}
+use Rattle.mtapi_objects.specs.Sems.{Sem, new_sem, total, sem_busy, sem_taken, sem_given}
+use Rattle.mtapi_machine.specs.State.{State, opening, seats}
+use Rattle.mtapi_machine.specs.Moves.{Move, Sems, makes, alters, removes, is_fresh, apply, after_moves}
+use Rattle.mtapi_machine.specs.Row.{Row, unless, gives, never, Allows, live, moves_of, after_row}
 use Rattle.mtapi_machine.specs.Rows.{row}
-use Rattle.mtapi_machine.specs.KeyedRows.{mrapi_unless}
-use Rattle.mtapi_machine.specs.Legal.{NodeEntry, IsNext, next, LegalFrom, Legal, after_from, after}
-use Rattle.mtapi_machine.specs.Laws.{IsMade, makes_kind, AltersObject, RemovesObject}
+use Rattle.mtapi_machine.specs.Legal.{NodeEntry, IsNext, next, LegalFrom, Legal, after}
+use Rattle.mtapi_machine.specs.Laws.{IsMade, AltersObject, RemovesObject}
 use Rattle.mtapi_machine.proofs.Lists.{Legal-front, Legal-rest}
-use Rattle.mtapi_machine.proofs.Made.{AllGives, given, on_live, on_only, fst_true, snd_true, not_false}
+use Rattle.mtapi_machine.proofs.Made.{AllGives, given, on_live, on_only, fst_true, snd_true}
 use Rattle.mtapi_machine.proofs.Changes.{at-update}
 use Rattle.mtapi_machine.proofs.Moves.{by_moves, along}
-use Rattle.history_law.specs.Words.{entries_that, objects_of, times, makes as makes_object, is_handle, issues}
+use Rattle.history_law.specs.Words.{entries_that, objects_of, makes as makes_object, issues}
 use Rattle.history_law.specs.Seats.{says_ok}
-use Rattle.history_law.specs.Exclusion.{looks_at_sem, unlocks_sem, gets_sem, gives_sem, by_seat, sem_limit, SemKeepsTo, SemsKeepTo}
-use Rattle.history_law.proofs.Accepted.{granted, refuses_only, no_handle, stands_after}
+use Rattle.history_law.specs.Exclusion.{looks_at_sem, unlocks_sem, gets_sem, gives_sem, by_seat, sem_limit, SemsKeepTo}
+use Rattle.history_law.proofs.Accepted.{granted, refuses_only, stands_after}
 use Rattle.history_law.proofs.Found.{at_skip, at_dead, at_here}
 use Rattle.history_law.proofs.Reuse.{terms_next, fresh_unlisted, fresh_apart, is_this, listed_issue_some}
-use Rattle.history_law.proofs.Objects.{cut_from}
 use Rattle.history_law.proofs.Handles.{OnceIn, once_same, once_more}
 use Rattle.history_law.proofs.Ages.{SameFields, kind_move, listed_ages}
 

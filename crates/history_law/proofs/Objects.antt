@@ -1,7 +1,7 @@
 -- What an entry says of a new object, its record keeps.
-use Rattle.std.proofs.Common.{◌≡◌, ℕ, ◌≤◌, Bool, true, false, cond, List, [], ◌∷◌, ◌++◌, Option, Some, None, refl, sym, ◌∙◌, ap, subst, arith}
-use Rattle.std.specs.Prelude.{◌==◌, ◌+◌, ◌&&◌, is_some}
-use Rattle.std.proofs.lemmas.Bool.{eqb-true, eq-eqb}
+use Rattle.std.proofs.Common.{◌≡◌, ℕ, ◌≤◌, Bool, true, false, cond, List, [], ◌∷◌, ◌++◌, refl, sym, ◌∙◌, subst, arith}
+use Rattle.std.specs.Prelude.{◌==◌, ◌+◌}
+use Rattle.std.proofs.lemmas.Bool.{eq-eqb}
 use Rattle.mtapi_values.specs.declared.handles.ObjectKind.{ObjectKind}
 use Rattle.mtapi_values.specs.declared.handles.ObjectKind.TheVariants as kind
 use Rattle.mtapi_values.specs.declared.statuses.MtapiStatus.TheVariants as m
@@ -13,9 +13,9 @@ use Rattle.handle_pool.specs.Issued.{Listed, at, listed, issue}
 use Rattle.mtapi_objects.specs.Actions.{Action, new_action}
 use Rattle.mtapi_objects.specs.Tasks.{Task, NewTask, new_task}
 use Rattle.mtapi_objects.specs.Queues.{Queue}
-use Rattle.mtapi_machine.specs.State.{State, opening}
+use Rattle.mtapi_machine.specs.State.{State}
 use Rattle.mtapi_machine.specs.Moves.{Move, Queues, makes_action, starts, makes, is_fresh, apply, after_moves}
-use Rattle.mtapi_machine.specs.Row.{Row, gives, Allows, only, after_row}
+use Rattle.mtapi_machine.specs.Row.{gives, Allows, only, after_row}
 use Rattle.mtapi_machine.specs.Rows.{row}
 use Rattle.mtapi_machine.specs.TaskRows.{asked_for, asked_of}
 use Rattle.mtapi_machine.specs.QueueRows.{new_queue}
@@ -24,9 +24,9 @@ use Rattle.mtapi_machine.specs.Laws.{IsMade, StartsTask}
 use Rattle.mtapi_machine.proofs.Lists.{Legal-rest, after-append}
 use Rattle.mtapi_machine.proofs.Made.{AllGives, on_only, on_live, fst_true, snd_true}
 use Rattle.mtapi_machine.proofs.Moves.{along}
-use Rattle.history_law.specs.Words.{FieldsOf, objects_of, times, makes as makes_kind, is_handle, issues}
-use Rattle.history_law.proofs.Accepted.{granted, refuses_only, refuses_live, no_handle, issue_lists}
-use Rattle.history_law.proofs.Ages.{AgesEach, SameFields, SameAction, SameTask, SameQueue, kind_move, listed_ages, Under, under_issue, under_none, under_at, under_ages}
+use Rattle.history_law.specs.Words.{FieldsOf, objects_of, makes as makes_kind, issues}
+use Rattle.history_law.proofs.Accepted.{granted, refuses_only, refuses_live, no_handle}
+use Rattle.history_law.proofs.Ages.{SameFields, SameAction, SameTask, SameQueue, kind_move, listed_ages, Under, under_issue, under_none, under_ages}
 use Rattle.history_law.proofs.Reuse.{fresh_unlisted, fresh_apart, listed_issue_some, is_this}
 
 true_false : {A : Type 0} {b : Bool} → b ≡ true → b ≡ false → A

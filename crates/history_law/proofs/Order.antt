@@ -1,6 +1,6 @@
 -- A group gives its members in the order of their ends.
-use Rattle.std.proofs.Common.{◌≡◌, ◌≢◌, ℕ, ◌+◌, ◌≤◌, ◌<◌, Bool, true, false, cond, List, [], ◌∷◌, ◌++◌, Option, Some, None, ◌⊎◌, inl, inr, refl, sym, ◌∙◌, ap, subst, arith, append_assoc}
-use Rattle.std.specs.Prelude.{◌==◌, ◌&&◌, not, nat_lt, is_some, is_none}
+use Rattle.std.proofs.Common.{◌≡◌, ℕ, ◌+◌, ◌≤◌, ◌<◌, Bool, true, false, cond, List, [], ◌∷◌, ◌++◌, Option, Some, None, ◌⊎◌, inl, inr, refl, sym, ◌∙◌, ap, subst, arith}
+use Rattle.std.specs.Prelude.{◌==◌, ◌&&◌, nat_lt, is_some}
 use Rattle.std.proofs.lemmas.Bool.{eqb-true, eq-eqb}
 use Rattle.std.proofs.lemmas.Bool.Decides.{nat_tests}
 use Rattle.mtapi_values.specs.Conditions.{holds}
@@ -10,8 +10,8 @@ use Rattle.mtapi_values.specs.declared.statuses.MtapiStatus.TheVariants as m
 use Rattle.mtapi_values.specs.declared.handles.TaskHandle.{TaskHandle}
 use Rattle.mtapi_values.specs.declared.handles.GroupHandle.{GroupHandle}
 use Rattle.mtapi_values.specs.declared.handles.ObjectKind.TheVariants as kind
-use Rattle.handle_pool.specs.Issued.{Listed, live_of, lookup, at, any, listed, change, change_all, issue, with_fields, gone}
-use Rattle.mtapi_objects.specs.Tasks.{Task, Notes, NewTask, TaskState, Scheduled, Running, Over, end_of, is_unended, with_state, with_notes, ended, end_each, new_task}
+use Rattle.handle_pool.specs.Issued.{Listed, live_of, lookup, at, listed, change, change_all, issue, with_fields, gone}
+use Rattle.mtapi_objects.specs.Tasks.{Task, Notes, TaskState, Scheduled, Running, Over, end_of, with_state, with_notes, ended, end_each, new_task}
 use Rattle.mtapi_objects.specs.Groups.{is_member, Ending, insert, insert_ended, endings, in_no_group, freed, let_go}
 use Rattle.mtapi_machine.specs.declared.terms.Terms.{Terms}
 use Rattle.mtapi_machine.specs.declared.ops.Op.{Op}
@@ -20,7 +20,7 @@ use Rattle.mtapi_machine.specs.declared.replies.Reply.{Reply}
 use Rattle.mtapi_machine.specs.declared.replies.Reply.TheVariants.{Given, Pending, Mtapi}
 use Rattle.mtapi_machine.specs.State.{State, opening}
 use Rattle.mtapi_machine.specs.Moves.{Move, starts, runs, ends, ends_waiting, withdraws, notes, leaves, frees_members, lets_members_go, makes, alters, removes, apply, after_moves}
-use Rattle.mtapi_machine.specs.Row.{Row, unless, gives, never, Allows, live, moves_of, after_row, not_yet}
+use Rattle.mtapi_machine.specs.Row.{Row, unless, gives, never, Allows, live, moves_of}
 use Rattle.mtapi_machine.specs.Rows.{row}
 use Rattle.mtapi_machine.specs.GroupRows.{gives_end, gives_first}
 use Rattle.mtapi_machine.specs.Legal.{NodeEntry, IsNext, next, LegalFrom, Legal, after_from, after}
@@ -35,7 +35,7 @@ use Rattle.history_law.proofs.Handles.{OnceIn, once_same, listed_change}
 use Rattle.history_law.proofs.Members.{AllOf, IsEnding, all_endings, all_insert, once_rest}
 use Rattle.history_law.proofs.Numbers.{is_number, bit, has_number, Numbered, numbered_after}
 use Rattle.history_law.proofs.SeatMoves.{Noted, May, by_moves}
-use Rattle.history_law.proofs.Ages.{Dead, none_dead, dead_none}
+use Rattle.history_law.proofs.Ages.{Dead, dead_none}
 use Rattle.history_law.proofs.Reuse.{Gone, stays_gone}
 
 true_false : {A : Type 0} {b : Bool} → b ≡ true → b ≡ false → A

@@ -1,6 +1,6 @@
 -- The runs of an ordered queue.
 use Rattle.std.proofs.Common.{◌≡◌, ℕ, ◌+◌, ◌≤◌, ◌<◌, Bool, true, false, cond, List, [], ◌∷◌, ◌++◌, Option, Some, None, refl, sym, ◌∙◌, ap, subst, arith}
-use Rattle.std.specs.Prelude.{◌==◌, ◌&&◌, ◌||◌, not, nat_lt, is_some, is_none, IsSome}
+use Rattle.std.specs.Prelude.{◌==◌, ◌&&◌, ◌||◌, not, nat_lt, is_none, IsSome}
 use Rattle.std.proofs.lemmas.Bool.{eqb-true, eq-eqb}
 use Rattle.std.proofs.lemmas.Bool.Decides.{nat_tests}
 use Rattle.mtapi_values.specs.Conditions.{holds}
@@ -18,25 +18,24 @@ use Rattle.mtapi_machine.specs.State.{State, opening}
 use Rattle.mtapi_machine.specs.Moves.{Move, starts, makes, alters, removes, apply}
 use Rattle.mtapi_machine.specs.Row.{Allows}
 use Rattle.mtapi_machine.specs.Rows.{row}
-use Rattle.mtapi_machine.specs.QueueRows.{new_queue}
-use Rattle.mtapi_machine.specs.WorkRows.{is_ready, may_take, has_better}
+use Rattle.mtapi_machine.specs.WorkRows.{is_ready, has_better}
 use Rattle.mtapi_machine.specs.Legal.{NodeEntry, IsNext, next, LegalFrom, Legal, after_from, after}
-use Rattle.mtapi_machine.specs.Laws.{IsMade, StartsTask}
+use Rattle.mtapi_machine.specs.Laws.{StartsTask}
 use Rattle.mtapi_machine.specs.Ends.{end_in, end_at}
 use Rattle.mtapi_machine.proofs.Lists.{Legal-front, Legal-rest, after-append}
 use Rattle.mtapi_machine.proofs.Made.{fst_true, snd_true, not_true}
 use Rattle.mtapi_machine.proofs.Moves.{along, sorts_keep}
 use Rattle.mtapi_machine.proofs.Ends.{after_grows}
 use Rattle.history_law.specs.Words.{some_entry, is_handle, issues, makes as makes_kind}
-use Rattle.history_law.specs.Ordered.{asks_ordered, makes_ordered, puts_into, puts, is_pick, is_picked, picks, HasRun, RunsInOrder}
-use Rattle.history_law.proofs.Held.{DeadEnded, HasEnded}
-use Rattle.history_law.proofs.Moves.{Stands, after_stands, once_along, once_from}
+use Rattle.history_law.specs.Ordered.{asks_ordered, makes_ordered, puts_into, puts, is_pick, is_picked, picks, RunsInOrder}
+use Rattle.history_law.proofs.Held.{DeadEnded}
+use Rattle.history_law.proofs.Moves.{Stands, once_along, once_from}
 use Rattle.history_law.proofs.Accepted.{stands_after, shown}
 use Rattle.history_law.proofs.Handles.{OnceIn}
 use Rattle.history_law.proofs.Members.{once_rest}
 use Rattle.history_law.proofs.Ends.{grows_end}
 use Rattle.history_law.proofs.Ages.{SameTask, SameQueue, Under, under_at}
-use Rattle.history_law.proofs.Objects.{Has, HasObject, StartedAs, QueueAs, started_as, queued_as, task_then, queue_then, has_along}
+use Rattle.history_law.proofs.Objects.{HasObject, QueueAs, started_as, queued_as, task_then, has_along}
 use Rattle.history_law.proofs.Affinity.{Took, row_took}
 
 true_false : {A : Type 0} {b : Bool} → b ≡ true → b ≡ false → A

@@ -1,23 +1,21 @@
 -- The lists that the laws refuse, by computing.
-use Rattle.std.proofs.Common.{◌≡◌, ℕ, ◌<◌, ◌≤◌, Bool, true, false, List, [], ◌∷◌, ◌++◌, Option, Some, None, refl, sym, ◌∙◌, ap, subst, arith}
+use Rattle.std.proofs.Common.{◌≡◌, ◌<◌, ◌≤◌, true, false, List, [], ◌∷◌, ◌++◌, Option, Some, None, refl, sym, ◌∙◌, arith}
 use Rattle.std.specs.Prelude.{pos, IsSome}
 use Rattle.mtapi_values.specs.declared.kinds.Kind.TheVariants as kind
 use Rattle.mtapi_values.specs.declared.handles.ObjectKind.TheVariants as object
 use Rattle.mtapi_values.specs.declared.handles.Layout.TheVariants.{Two}
-use Rattle.mtapi_values.specs.Masks.{in_mask}
 use Rattle.handle_pool.specs.Issued.{live_of, issue, change, listed, issued_at, retired, is_full, may_issue}
 use Rattle.mtapi_objects.specs.Actions.{has_worker}
 use Rattle.mtapi_objects.specs.Tasks.{end_each}
 use Rattle.mtapi_machine.specs.declared.terms.Terms.{Terms}
 use Rattle.mtapi_machine.specs.declared.ops.Op.TheVariants as op
 use Rattle.mtapi_machine.specs.declared.replies.Reply.TheVariants as reply
-use Rattle.mtapi_machine.specs.State.{opening}
 use Rattle.mtapi_machine.specs.WorkRows.{is_ready, can_take, has_better}
-use Rattle.mtapi_machine.specs.Legal.{NodeEntry, LegalFrom, Legal, after_from, after}
+use Rattle.mtapi_machine.specs.Legal.{NodeEntry, LegalFrom, after_from, after}
 use Rattle.mtapi_machine.specs.Kept.{kept}
 use Rattle.mtapi_machine.specs.Laws.{DropsToSame}
 use Rattle.mtapi_machine.specs.Ends.{end_at}
-use Rattle.mtapi_machine.specs.Worked.{usual, main, worker, first_handle, next_handle, task, the_action, every_core, add_task}
+use Rattle.mtapi_machine.specs.Worked.{usual, main, worker, first_handle, next_handle, task, the_action, add_task}
 use Rattle.history_law.specs.Words.{is_live}
 use Rattle.history_law.specs.Ends.{EndsAfterClose}
 use Rattle.history_law.specs.Affinity.{ObeysMasks}
@@ -27,7 +25,7 @@ use Rattle.history_law.specs.Ordered.{RunsInOrder}
 use Rattle.history_law.specs.Told.{TellsItsEnd}
 use Rattle.mtapi_values.specs.declared.ends.TaskEnd.TheVariants.{Cancelled, Completed}
 use Rattle.history_law.specs.Reuse.{NeverAgain, NotInBoth}
-use Rattle.history_law.specs.Refused.{second_core, makes_action, too_early, up_to_the_end, leaves, again, one_for_two, on_another_core, given_twice, gives_first, the_queue, puts_one, two_put, picks_second, final_first, cancelled_first, completed_then, two_ends, makes_sem, both_hold, LawsRefuse}
+use Rattle.history_law.specs.Refused.{second_core, makes_action, too_early, up_to_the_end, leaves, again, one_for_two, on_another_core, given_twice, gives_first, puts_one, two_put, picks_second, final_first, cancelled_first, completed_then, two_ends, makes_sem, both_hold, LawsRefuse}
 
 some_same : {A : Type 0} {x y : A} → Some x ≡ Some y → x ≡ y
 some_same e = cc

@@ -1,11 +1,11 @@
 -- No handle is used again, and in layout two none names objects of two kinds.
-use Rattle.std.proofs.Common.{◌≡◌, ℕ, ◌+◌, ◌≤◌, Bool, true, false, cond, List, [], ◌∷◌, ◌++◌, Option, Some, None, refl, sym, ◌∙◌, ap, subst, arith}
-use Rattle.std.specs.Prelude.{◌==◌, ◌&&◌, not, is_some}
+use Rattle.std.proofs.Common.{◌≡◌, ℕ, ◌+◌, ◌≤◌, Bool, true, false, cond, List, [], ◌∷◌, ◌++◌, refl, sym, ◌∙◌, ap, subst, arith}
+use Rattle.std.specs.Prelude.{◌==◌}
 use Rattle.std.proofs.lemmas.Bool.{eqb-true, eq-eqb}
 use Rattle.mtapi_values.specs.declared.handles.ObjectKind.{ObjectKind}
 use Rattle.mtapi_values.specs.declared.handles.ObjectKind.TheVariants as kind
 use Rattle.mtapi_values.specs.declared.handles.Layout.{Layout}
-use Rattle.mtapi_values.specs.declared.handles.Layout.TheVariants.{One, Two}
+use Rattle.mtapi_values.specs.declared.handles.Layout.TheVariants.{Two}
 use Rattle.mtapi_values.specs.declared.statuses.MtapiStatus.TheVariants as m
 use Rattle.mtapi_values.specs.Layouts.{object_number, named_kind, names_kind}
 use Rattle.mtapi_machine.specs.declared.terms.Terms.{Terms}
@@ -15,20 +15,18 @@ use Rattle.mtapi_machine.specs.declared.replies.Reply.{Reply}
 use Rattle.mtapi_machine.specs.declared.replies.Reply.TheVariants.{Handle, Mtapi}
 use Rattle.handle_pool.specs.Issued.{Listed, at, listed, may_issue, issue}
 use Rattle.mtapi_machine.specs.State.{State, opening}
-use Rattle.mtapi_machine.specs.Moves.{Move, Sort, Groups, Queues, Mutexes, Sems, Rwls, Segments, Fields, all_of, is_fresh, makes, alters, removes, apply}
-use Rattle.mtapi_machine.specs.Row.{Row, gives, Allows, only, handle_of, moves_of, live}
+use Rattle.mtapi_machine.specs.Moves.{Move, is_fresh, makes, alters, removes, apply}
+use Rattle.mtapi_machine.specs.Row.{Row, gives, Allows, only, live}
 use Rattle.mtapi_machine.specs.Rows.{row}
-use Rattle.mtapi_machine.specs.KeyedRows.{Keyed, creates_keyed}
 use Rattle.mtapi_machine.specs.Legal.{NodeEntry, IsNext, next, LegalFrom, Legal, after_from, after}
 use Rattle.mtapi_machine.specs.Laws.{IsMade}
 use Rattle.mtapi_machine.proofs.Lists.{Legal-front, Legal-rest, after-append}
 use Rattle.mtapi_machine.proofs.Made.{AllGives, on_only, on_live, fst_true, snd_true}
 use Rattle.mtapi_machine.proofs.Moves.{along, by_moves, sorts_keep}
 use Rattle.history_law.specs.Words.{FieldsOf, objects_of, some_entry, times, is_live, makes as makes_kind, is_handle, issues}
-use Rattle.history_law.specs.Reuse.{StaysGone, NeverAgain, NotInBoth}
-use Rattle.history_law.proofs.Moves.{Stands, after_stands}
-use Rattle.history_law.proofs.Accepted.{RefusesAll, granted, refuses_only, refuses_live, no_handle, opening_stands}
-use Rattle.history_law.proofs.Ages.{AgesEach, SameFields, kind_move, listed_ages, Dead, dead_ages, dead_issue, dead_none, none_dead, live_listed}
+use Rattle.history_law.specs.Reuse.{NeverAgain, NotInBoth}
+use Rattle.history_law.proofs.Accepted.{granted, refuses_only, refuses_live, no_handle}
+use Rattle.history_law.proofs.Ages.{SameFields, kind_move, listed_ages, Dead, dead_ages, dead_issue, dead_none, none_dead, live_listed}
 
 true_false : {A : Type 0} {b : Bool} → b ≡ true → b ≡ false → A
 true_false e f = absurd (cc)

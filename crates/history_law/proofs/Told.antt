@@ -1,28 +1,25 @@
 -- A look tells the end that the record has.
-use Rattle.std.proofs.Common.{◌≡◌, ℕ, Bool, true, false, cond, List, [], ◌∷◌, ◌++◌, Option, Some, None, refl, sym, ◌∙◌, ap, subst}
-use Rattle.std.specs.Prelude.{◌==◌, is_some}
+use Rattle.std.proofs.Common.{◌≡◌, ℕ, Bool, true, false, cond, List, ◌∷◌, Option, Some, None, refl, sym, ◌∙◌, ap, subst}
+use Rattle.std.specs.Prelude.{◌==◌}
 use Rattle.std.proofs.lemmas.Bool.{eqb-true}
 use Rattle.mtapi_values.specs.declared.ends.TaskEnd.{TaskEnd}
 use Rattle.mtapi_values.specs.declared.handles.TaskHandle.{TaskHandle}
-use Rattle.mtapi_values.specs.declared.statuses.MtapiStatus.TheVariants as m
 use Rattle.handle_pool.specs.Issued.{at}
 use Rattle.mtapi_objects.specs.Tasks.{Task, TaskState, Scheduled, Running, Over}
 use Rattle.mtapi_machine.specs.declared.terms.Terms.{Terms}
 use Rattle.mtapi_machine.specs.declared.ops.Op.{Op}
 use Rattle.mtapi_machine.specs.declared.ops.Op.TheVariants as op
 use Rattle.mtapi_machine.specs.declared.replies.Reply.{Reply}
-use Rattle.mtapi_machine.specs.declared.replies.Reply.TheVariants.{Ended, Pending, Mtapi}
 use Rattle.mtapi_machine.specs.State.{State, opening}
-use Rattle.mtapi_machine.specs.Moves.{Move}
-use Rattle.mtapi_machine.specs.Row.{Row, unless, gives, never, Allows, live, moves_of}
+use Rattle.mtapi_machine.specs.Row.{Row, unless, gives, never, Allows, live}
 use Rattle.mtapi_machine.specs.Rows.{row}
 use Rattle.mtapi_machine.specs.TaskRows.{looks_at}
-use Rattle.mtapi_machine.specs.Legal.{NodeEntry, IsNext, next, LegalFrom, Legal, after_from, after}
+use Rattle.mtapi_machine.specs.Legal.{NodeEntry, IsNext, LegalFrom, Legal, after_from, after}
 use Rattle.mtapi_machine.specs.Ends.{end_in, end_at}
 use Rattle.mtapi_machine.proofs.Lists.{after-append}
 use Rattle.mtapi_machine.proofs.Made.{AllGives, on_live}
 use Rattle.mtapi_machine.proofs.Ends.{after_grows}
-use Rattle.history_law.specs.Told.{end_told, told_by, tells, TellsItsEnd}
+use Rattle.history_law.specs.Told.{end_told, told_by, TellsItsEnd}
 use Rattle.history_law.proofs.Moves.{once_from}
 use Rattle.history_law.proofs.Handles.{OnceIn}
 use Rattle.history_law.proofs.Ends.{grows_end}

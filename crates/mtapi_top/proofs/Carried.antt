@@ -1,6 +1,6 @@
 -- Where no statement is found that isn't carried out, all are; and a run of the workload is what the headline promises.
-use Rattle.std.proofs.Common.{◌≡◌, ℕ, zero, suc, ◌≤◌, Bool, true, false, cond, List, [], ◌∷◌, ◌++◌, length, Option, Some, None, refl, sym, ◌∙◌, ap, subst, arith}
-use Rattle.std.specs.Prelude.{not, ◌&&◌, find, option_map, slice_get, Result, Ok, Err, IfOk}
+use Rattle.std.proofs.Common.{◌≡◌, ℕ, zero, suc, ◌≤◌, Bool, true, false, cond, List, [], ◌∷◌, ◌++◌, length, Option, Some, None, refl, ◌∙◌, ap, subst, arith}
+use Rattle.std.specs.Prelude.{not, ◌&&◌, find, option_map, Result, Ok, Err, IfOk}
 use Rattle.std.specs.Option.{option_or}
 use Rattle.history.specs.Histories.{entry}
 use Rattle.mtapi_values.specs.declared.handles.Layout.TheVariants.{One}
@@ -16,7 +16,7 @@ use Rattle.sched_threads.specs.declared.run.RunError.{RunError}
 use Rattle.sched_threads.specs.Carries.{is_made, all_made, AllMade}
 use Rattle.sched_threads.specs.Runs.{terms_for, IsRunOf, PartsMade}
 use Rattle.history_law.proofs.Accepted.{accepted_end}
-use Rattle.mtapi_top.specs.Built.{first_unbuilt, unbuilt_in, unbuilt_line}
+use Rattle.mtapi_top.specs.Built.{first_unbuilt, unbuilt_in}
 use Rattle.mtapi_top.specs.Headline.{IsRun, told_terms}
 
 -- one statement before others, none of which is found not to be made

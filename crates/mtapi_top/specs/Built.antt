@@ -1,5 +1,5 @@
 -- Which workloads the run carries out.
-use Rattle.std.specs.Prelude.{ℕ, Bool, true, false, not, List, [], ◌∷◌, Option, Some, None, option_map, find}
+use Rattle.std.specs.Prelude.{ℕ, not, List, [], ◌∷◌, Option, None, option_map, find}
 use Rattle.std.specs.Option.{option_or}
 use Rattle.workload_file.specs.declared.workload.Statement.{Statement}
 use Rattle.workload_file.specs.declared.workload.Part.{Part}

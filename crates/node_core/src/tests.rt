@@ -1,8 +1,8 @@
 //! Nodes that are asked one op after another, against worked rows.
 
-ghost use Rattle.std.specs.Prelude.{◌≡◌, true, IfOk};
+ghost use Rattle.std.specs.Prelude.{◌≡◌, true, false, IfOk};
 ghost use Rattle.node_core.specs.Logs.{StandsForFew};
-ghost use Rattle.node_core.specs.Supported.{is_supported};
+ghost use Rattle.node_core.specs.Supported.{is_supported, is_tally};
 
 use crate::journaled::Journaled;
 use crate::node::Node;
@@ -129,7 +129,8 @@ fn look(task: u64, last: bool) -> Op
 
 // Opens the node, and makes an action of job 1.
 fn open(node: &mut Asked, main: u32, kind: Kind, cores: u64) -> bool
-    requires { StandsForFew node.old.node node.old.asked }
+    requires stands { StandsForFew node.old.node node.old.asked }
+    requires no_tally { is_tally kind ≡ false }
     ensures { StandsForFew node.new.node node.new.asked }
 {
     let opened = is_ok(node.ask(main, Op::Initialize));

@@ -1,36 +1,31 @@
 -- What came back of the seats of a new cell, and what the closed cell's history is worth then.
-use Rattle.std.proofs.Common.{◌≡◌, ℕ, zero, suc, ◌+◌, ◌<◌, ◌≤◌, Bool, true, false, List, [], ◌∷◌, ◌++◌, length, replicate, Option, Some, inl, inr, refl, sym, ◌∙◌, ap, subst, arith, append_assoc}
-use Rattle.std.specs.Prelude.{◌-◌, slice_get, if◌then◌else◌}
+use Rattle.std.proofs.Common.{◌≡◌, ℕ, ◌+◌, ◌<◌, ◌≤◌, Bool, true, false, List, [], ◌∷◌, ◌++◌, inl, refl, sym, ◌∙◌, ap, subst, arith, append_assoc}
+use Rattle.std.specs.Prelude.{if◌then◌else◌}
 use Rattle.std.specs.Bool.{MatchBool}
 use Rattle.std.specs.List.{AllZip}
 use Rattle.std.proofs.lemmas.List.{append-nil}
-use Rattle.history.specs.Histories.{entry, entries_of, StartsWith}
+use Rattle.history.specs.Histories.{entry, entries_of}
 use Rattle.turn_cell.specs.Lists.{all_of}
-use Rattle.turn_cell.specs.Seats.{fresh_seat, fresh_seats, HasSeenMore, IsComplete, IsSeatOf, numbered}
+use Rattle.turn_cell.specs.Seats.{fresh_seat, fresh_seats, HasSeenMore, IsComplete, IsSeatOf}
 use Rattle.turn_cell.proofs.Complete.{Has, has_front, has_back, fresh_in, numbered_has, all_has, zip_has}
 use Rattle.workload_file.specs.declared.workload.Statement.{Statement}
 use Rattle.workload_file.specs.declared.workload.Part.{Part}
-use Rattle.workload_file.specs.declared.workload.Workload.{Workload}
-use Rattle.mtapi_machine.specs.declared.terms.Terms.{Terms}
 use Rattle.mtapi_machine.specs.declared.ops.Op.TheVariants as op
 use Rattle.mtapi_machine.specs.declared.replies.Reply.{Reply}
-use Rattle.mtapi_machine.specs.declared.replies.Reply.TheVariants.{Pending, Stop}
-use Rattle.mtapi_machine.specs.State.{opening}
+use Rattle.mtapi_machine.specs.declared.replies.Reply.TheVariants.{Stop}
 use Rattle.mtapi_machine.specs.Legal.{NodeEntry, Legal}
-use Rattle.node_core.specs.declared.journaled.JournaledTerms.{JournaledTerms}
 use Rattle.sched_workers.specs.RunOf.{has_begin}
-use Rattle.sched_workers.specs.Whole.{RunBy}
 use Rattle.sched_threads.specs.declared.crew.back.Crew.{Crew}
 use Rattle.sched_threads.specs.declared.looks.Wanted.TheVariants.{Entrance}
-use Rattle.sched_threads.specs.Turns.{Seat, SameSeat, Turned}
+use Rattle.sched_threads.specs.Turns.{Seat, Turned}
 use Rattle.sched_threads.specs.Looks.{pends}
 use Rattle.sched_threads.specs.Rounds.{Served, all_in}
 use Rattle.sched_threads.specs.Carries.{CarriedAs}
-use Rattle.sched_threads.specs.Crews.{Cell, is_ok, CalledPart, CalledIn, MainDid, IsClean, Knows, AreMet, IsEnded, MainRan, AllDid}
+use Rattle.sched_threads.specs.Crews.{Cell, is_ok, CalledPart, CalledIn, MainDid, IsClean, Knows, IsEnded, AllDid}
 use Rattle.sched_threads.specs.Parts.{MainAs, CallerAs, WorkerAs}
-use Rattle.sched_threads.proofs.Meets.{knows_more, zip_front, each_of, met_zip, called_more, all_served_more, known_more}
-use Rattle.sched_threads.proofs.OwnParts.{MainCuts, HasAll, known_front, has_longer, Ending, main_cuts, third, fourth, seen_then_closed, in_order, before_final, whole_from}
-use Rattle.sched_threads.proofs.WholeRun.{Known, KnownCaller, KnownWorker, Place, is_worker, is_main, is_caller, is_none, place_of, run_by}
+use Rattle.sched_threads.proofs.Meets.{zip_front, each_of, met_zip, called_more, all_served_more, known_more}
+use Rattle.sched_threads.proofs.OwnParts.{MainCuts, HasAll, known_front, has_longer, Ending, main_cuts, in_order, before_final, whole_from}
+use Rattle.sched_threads.proofs.WholeRun.{Known, KnownCaller, KnownWorker, is_worker, is_main, is_caller, is_none, place_of}
 
 -- What each seat's own entries are, where it began with none
 

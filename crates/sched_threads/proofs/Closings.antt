@@ -1,5 +1,5 @@
 -- What the entrance, the close, a stop and the final call were answered, by the states in which they were made.
-use Rattle.std.proofs.Common.{◌≡◌, ℕ, zero, suc, ◌+◌, ◌<◌, ◌≤◌, Bool, true, false, not, cond, List, [], ◌∷◌, ◌++◌, length, refl, sym, ◌∙◌, ap, subst, arith, append_assoc}
+use Rattle.std.proofs.Common.{◌≡◌, ℕ, zero, suc, ◌<◌, ◌≤◌, Bool, true, false, not, cond, List, [], ◌∷◌, ◌++◌, length, refl, sym, ◌∙◌, ap, subst, arith, append_assoc}
 use Rattle.std.specs.Prelude.{◌&&◌, slice_set}
 use Rattle.std.specs.Bool.{MatchBool}
 use Rattle.mtapi_values.specs.Seats.{marked, all_marked}
@@ -22,11 +22,10 @@ use Rattle.mtapi_machine.specs.WorkRows.{picks, can_take}
 use Rattle.mtapi_machine.specs.Rows.{row}
 use Rattle.mtapi_machine.specs.Legal.{NodeEntry, IsNext, LegalFrom, next, after_from}
 use Rattle.mtapi_machine.specs.Kept.{is_pending}
-use Rattle.mtapi_machine.proofs.Lists.{Legal-front, Legal-rest, after-append}
-use Rattle.history_law.specs.Seats.{Others}
-use Rattle.history_law.proofs.Others.{phase_stays, stopped_stays, terms_stay}
-use Rattle.history_law.proofs.Bounds.{stopped_room, early_stays}
-use Rattle.sched_workers.proofs.Rows.{Goes, pass, skip}
+use Rattle.mtapi_machine.proofs.Lists.{Legal-front, after-append}
+use Rattle.history_law.proofs.Others.{stopped_stays}
+use Rattle.history_law.proofs.Bounds.{stopped_room}
+use Rattle.sched_workers.proofs.Rows.{pass, skip}
 use Rattle.sched_threads.proofs.TurnMarks.{Cut, first_own, first_next}
 use Rattle.sched_threads.proofs.OwnParts.{Split, own_split}
 

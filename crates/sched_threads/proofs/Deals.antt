@@ -1,8 +1,7 @@
 -- The seats of a new cell, dealt; and what a whole run begins and ends with.
-use Rattle.std.proofs.Common.{◌≡◌, ℕ, zero, suc, ◌+◌, ◌<◌, ◌≤◌, List, [], ◌∷◌, ◌++◌, length, get_or, take, drop, true, Some, None, Result, refl, sym, ◌∙◌, ap, subst, arith, vec_len, vec_capacity}
+use Rattle.std.proofs.Common.{◌≡◌, ℕ, zero, suc, ◌+◌, ◌<◌, ◌≤◌, List, [], ◌∷◌, ◌++◌, length, get_or, take, drop, true, Result, refl, sym, ◌∙◌, ap, subst, arith}
 use Rattle.std.specs.Prelude.{◌-◌, All, IfOk, slice_get}
 use Rattle.std.proofs.lemmas.Result.{IfOk-weaker}
-use Rattle.std.specs.List.{AllZip}
 use Rattle.std.proofs.lemmas.List.Elements.{All-nil, All-cons, All-push}
 use Rattle.turn_cell.specs.Lists.{all_of}
 use Rattle.turn_cell.specs.Seats.{fresh_seat, fresh_seats, IsComplete}
@@ -14,10 +13,10 @@ use Rattle.mtapi_machine.specs.declared.terms.Terms.{Terms}
 use Rattle.mtapi_machine.specs.declared.ops.Op.TheVariants.{Final}
 use Rattle.mtapi_machine.specs.State.{opening}
 use Rattle.mtapi_machine.specs.Legal.{NodeEntry, Legal, after_from}
-use Rattle.mtapi_machine.specs.Kept.{kept, skipped, no_counts}
+use Rattle.mtapi_machine.specs.Kept.{kept}
 use Rattle.node_core.specs.declared.entries.Journal.{Journal}
 use Rattle.node_core.specs.declared.journaled.JournaledTerms.{JournaledTerms}
-use Rattle.node_core.specs.Logs.{KeptAs, journal_seats}
+use Rattle.node_core.specs.Logs.{journal_seats}
 use Rattle.sched_workers.specs.RunOf.{RunOf}
 use Rattle.sched_workers.proofs.Joins.{journal_is_run}
 use Rattle.sched_threads.specs.declared.crew.back.Crew.{Crew}
@@ -26,7 +25,7 @@ use Rattle.sched_threads.specs.Turns.{Seat}
 use Rattle.sched_threads.specs.declared.run.RunError.{RunError}
 use Rattle.sched_threads.specs.Carries.{AllMade}
 use Rattle.sched_threads.specs.Rounds.{AtRest}
-use Rattle.sched_threads.specs.Crews.{Cell, HasPart, IsIdle, AreReady, AreAllReady, IsOf, IsClean, IsWholeCrewOf, IsEnded, AllDid}
+use Rattle.sched_threads.specs.Crews.{Cell, HasPart, IsIdle, AreAllReady, IsOf, IsClean, IsWholeCrewOf, IsEnded, AllDid}
 use Rattle.sched_threads.specs.Runs.{terms_for, IsRunOf, PartsMade, Dealt, JournalOf}
 use Rattle.sched_threads.proofs.Meets.{each_of}
 use Rattle.sched_threads.proofs.Came.{Came, came, came_complete, came_known}

@@ -12,7 +12,7 @@ use Rattle.turn_cell.specs.Seats.{HasSeenMore}
 use Rattle.workload_file.specs.declared.workload.Statement.{Statement}
 use Rattle.workload_file.specs.declared.workload.Part.{Part}
 use Rattle.mtapi_machine.specs.Legal.{NodeEntry}
-use Rattle.sched_threads.specs.Turns.{Seat, SameSeat, Turned}
+use Rattle.sched_threads.specs.Turns.{Seat, Turned}
 use Rattle.sched_threads.specs.Rounds.{Served}
 use Rattle.mtapi_machine.specs.declared.replies.Reply.{Reply}
 use Rattle.sched_threads.specs.declared.looks.Wanted.TheVariants.{Entrance}
@@ -21,7 +21,7 @@ use Rattle.sched_threads.specs.Carries.{Carried, CarriedAs}
 use Rattle.mtapi_machine.specs.declared.ops.Op.{Op}
 use Rattle.sched_threads.specs.declared.crew.back.Crew.{Crew}
 use Rattle.sched_threads.specs.declared.statements.Stop.{Stop}
-use Rattle.sched_threads.specs.Crews.{Cell, is_ok, CalledPart, CalledIn, CameBack, Knows, AreMet, IsClean, IsEnded}
+use Rattle.sched_threads.specs.Crews.{Cell, is_ok, CalledPart, CalledIn, CameBack, Knows, AreMet, IsEnded}
 
 pub seen_nothing_more : (a : Seat) → HasSeenMore a a
 seen_nothing_more a = record { cell = refl; number = refl; terms = refl; seen = ([], sym (append-nil a.seen)); mine = refl; shown = refl }

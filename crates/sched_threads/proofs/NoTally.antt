@@ -1,8 +1,6 @@
 -- A node makes no tallies so far: no worker takes one.
-use Rattle.std.proofs.Common.{◌≡◌, ℕ, Bool, true, false, cond, List, [], ◌∷◌, Option, Some, None, refl, sym, ◌∙◌, ap, subst, ℤ}
-use Rattle.std.specs.Prelude.{not, ◌==◌, ◌&&◌, nat_lt}
-use Rattle.mtapi_values.specs.declared.handles.TaskHandle.{TaskHandle}
-use Rattle.mtapi_values.specs.declared.handles.ActionHandle.{ActionHandle}
+use Rattle.std.proofs.Common.{◌≡◌, ℕ, Bool, true, false, cond, List, [], ◌∷◌, Option, Some, None, refl, ◌∙◌, ap, subst}
+use Rattle.std.specs.Prelude.{not, ◌==◌, ◌&&◌}
 use Rattle.handle_pool.specs.Issued.{Listed, live_of, lookup, at, change, issue, any, with_fields}
 use Rattle.mtapi_objects.specs.Actions.{Action, with_enabled}
 use Rattle.mtapi_machine.specs.declared.ops.Op.{Op}
@@ -10,9 +8,9 @@ use Rattle.mtapi_machine.specs.declared.ops.Op.TheVariants as op
 use Rattle.mtapi_machine.specs.declared.replies.Reply.{Reply}
 use Rattle.mtapi_machine.specs.declared.replies.Reply.TheVariants.{Picked, Idle, Stop}
 use Rattle.mtapi_machine.specs.declared.terms.Terms.{Terms}
-use Rattle.mtapi_machine.specs.State.{State, opening, is_stop, workers}
+use Rattle.mtapi_machine.specs.State.{State, opening, is_stop}
 use Rattle.mtapi_machine.specs.Moves.{Move, makes_action, enables, withdraws, makes, alters, removes, stops}
-use Rattle.mtapi_machine.specs.Row.{Row, unless, gives, says, never, only, live, Allows}
+use Rattle.mtapi_machine.specs.Row.{Row, gives, never, live, Allows}
 use Rattle.mtapi_machine.specs.WorkRows.{can_take, may_take, picks}
 use Rattle.mtapi_machine.specs.Rows.{row}
 use Rattle.mtapi_machine.specs.Legal.{NodeEntry, next, after_from, after}

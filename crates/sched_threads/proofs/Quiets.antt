@@ -1,5 +1,5 @@
 -- What callers and workers do moves the phase nowhere.
-use Rattle.std.proofs.Common.{◌≡◌, ◌≢◌, ℕ, zero, suc, Bool, true, false, cond, List, [], ◌∷◌, ◌++◌, replicate, refl, sym, ◌∙◌, ap, subst}
+use Rattle.std.proofs.Common.{◌≡◌, ℕ, zero, suc, Bool, true, false, cond, List, [], ◌∷◌, ◌++◌, replicate, refl, sym, subst}
 use Rattle.std.specs.Prelude.{◌==◌}
 use Rattle.history.specs.Histories.{entry, entries_of}
 use Rattle.mtapi_values.specs.declared.handles.TaskHandle.{TaskHandle}

@@ -1,5 +1,5 @@
 -- A run of a workload, from what each seat's own entries are.
-use Rattle.std.proofs.Common.{◌≡◌, ◌≢◌, ℕ, zero, suc, ◌+◌, ◌<◌, ◌≤◌, Bool, true, false, List, [], ◌∷◌, ◌++◌, length, replicate, Option, Some, inl, inr, refl, sym, ◌∙◌, ap, subst, arith, append_assoc}
+use Rattle.std.proofs.Common.{◌≡◌, ℕ, zero, suc, ◌+◌, ◌<◌, ◌≤◌, Bool, true, false, List, [], ◌∷◌, ◌++◌, length, replicate, Some, inl, inr, refl, sym, ◌∙◌, ap, subst, arith, append_assoc}
 use Rattle.std.specs.Prelude.{◌-◌, slice_get, nat_lt, if◌then◌else◌}
 use Rattle.std.specs.Bool.{MatchBool}
 use Rattle.std.proofs.lemmas.Bool.{cases_Bool, ltb-true, ltb-false}
@@ -9,14 +9,14 @@ use Rattle.workload_file.specs.declared.workload.Statement.{Statement}
 use Rattle.workload_file.specs.declared.workload.Part.{Part}
 use Rattle.workload_file.specs.declared.workload.Workload.{Workload}
 use Rattle.mtapi_machine.specs.declared.terms.Terms.{Terms}
-use Rattle.mtapi_machine.specs.declared.terms.Phase.TheVariants.{New, Open, Closing}
+use Rattle.mtapi_machine.specs.declared.terms.Phase.TheVariants.{New, Closing}
 use Rattle.mtapi_machine.specs.declared.ops.Op.TheVariants as op
 use Rattle.mtapi_machine.specs.declared.replies.Reply.{Reply}
 use Rattle.mtapi_machine.specs.declared.replies.Reply.TheVariants.{Ok, Pending, Stop}
 use Rattle.mtapi_machine.specs.State.{State, opening, workers, is_late}
 use Rattle.mtapi_machine.specs.Legal.{NodeEntry, LegalFrom, next, after_from}
 use Rattle.mtapi_machine.proofs.Lists.{Legal-front, after-append}
-use Rattle.history_law.specs.Seats.{NoPhase, NoClose, BySeats, Others}
+use Rattle.history_law.specs.Seats.{NoPhase, NoClose, BySeats}
 use Rattle.history_law.proofs.Others.{phase_stays, terms_stay}
 use Rattle.history_law.proofs.Bounds.{by_seats, early_stays, stopped_room}
 use Rattle.sched_workers.specs.RunOf.{has_begin, ClosesAtEnd}

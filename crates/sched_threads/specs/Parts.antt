@@ -1,5 +1,5 @@
 -- What each seat's own entries are in a run.
-use Rattle.std.specs.Prelude.{◌≡◌, ℕ, Bool, true, false, List, [], ◌∷◌, ◌++◌, replicate, if◌then◌else◌}
+use Rattle.std.specs.Prelude.{◌≡◌, ℕ, false, List, [], ◌∷◌, ◌++◌, replicate, if◌then◌else◌}
 use Rattle.std.specs.Bool.{MatchBool}
 use Rattle.history.specs.Histories.{entry}
 use Rattle.workload_file.specs.declared.workload.Statement.{Statement}

@@ -1,5 +1,5 @@
 -- What a run gives back, and what it begins with.
-use Rattle.std.specs.Prelude.{◌≡◌, ℕ, ◌+◌, ◌≤◌, ◌^◌, Bool, true, List, [], ◌∷◌, ◌++◌, length, vec_len, vec_capacity, Some, slice_get}
+use Rattle.std.specs.Prelude.{◌≡◌, ℕ, ◌+◌, ◌≤◌, ◌^◌, List, [], ◌∷◌, ◌++◌, length, vec_len, vec_capacity, Some, slice_get}
 use Rattle.turn_cell.specs.Lists.{all_of}
 use Rattle.turn_cell.specs.Seats.{fresh_seat, fresh_seats, IsSeatOf}
 use Rattle.workload_file.specs.declared.workload.Part.{Part}
@@ -9,7 +9,6 @@ use Rattle.mtapi_machine.specs.declared.terms.Terms.{Terms}
 use Rattle.mtapi_machine.specs.State.{terms_of}
 use Rattle.mtapi_machine.specs.Legal.{NodeEntry, Legal}
 use Rattle.node_core.specs.declared.entries.Journal.{Journal}
-use Rattle.node_core.specs.declared.journaled.JournaledTerms.{JournaledTerms}
 use Rattle.node_core.specs.Logs.{KeptAs}
 use Rattle.sched_workers.specs.RunOf.{RunOf}
 use Rattle.sched_threads.specs.declared.crew.back.Crew.{Crew}

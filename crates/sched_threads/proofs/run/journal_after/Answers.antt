@@ -1,4 +1,4 @@
-use Rattle.std.proofs.Common.{◌≡◌, List, sym, subst, ap, ◌∙◌}
+use Rattle.std.proofs.Common.{◌≡◌, List, sym, subst}
 use Rattle.turn_cell.specs.Lists.{all_of}
 use Rattle.turn_cell.specs.Seats.{IsComplete, IsSeatOf}
 use Rattle.node_core.specs.Logs.{journal_seats, KeptAs}

@@ -1,4 +1,4 @@
-use Rattle.std.proofs.Common.{◌≡◌, ◌≤◌, length, vec_len, vec_capacity}
+use Rattle.std.proofs.Common.{◌≡◌, vec_len, vec_capacity}
 use Rattle.sched_threads.proofs.Meets.{MetSoFar}
 use Rattle.sched_threads.proofs.crew.workers.meet_all.Given as goal
 
