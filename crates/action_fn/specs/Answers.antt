@@ -1,5 +1,5 @@
 -- What each pure kind of action answers.
-use Rattle.std.specs.Prelude.{◌≡◌, ℕ, zero, suc, ◌+◌, ◌*◌, ◌/◌, ◌%◌, Bool, true, false, ◌&&◌, ◌==◌, nat_le, List, [], ◌∷◌, Option, Some, None, ℤ, pos, negsuc, ◌+ℤ◌, ◌*ℤ◌, nat_abs, int_le, int_div, if◌then◌else◌}
+use Rattle.std.specs.Prelude.{◌≡◌, ◌≤◌, ℕ, zero, suc, ◌+◌, ◌*◌, ◌/◌, ◌%◌, Bool, true, false, ◌&&◌, ◌==◌, nat_le, List, [], ◌∷◌, length, Option, Some, None, ℤ, pos, negsuc, ◌+ℤ◌, ◌*ℤ◌, nat_abs, int_le, int_div, if◌then◌else◌}
 use Rattle.mtapi_values.specs.declared.kinds.Kind.{Kind}
 use Rattle.mtapi_values.specs.declared.kinds.Kind.TheVariants.{Add, Mul, Max, Div, Gcd, Echo, Triangle, Fail, Watch, Tally}
 use Rattle.mtapi_values.specs.declared.statuses.MtapiStatus.TheVariants.{ErrActionFailed, ErrArgSize}
@@ -93,7 +93,8 @@ pub record Answered : Type 0 where
   pub args : List ℤ
   pub end : ActEnd
 
--- what a `Finished` keeps: its kind is pure, and its end is the answer
+-- what a `Finished` keeps: its kind is pure, it has at most 16 arguments, and its end is the answer
 pub record IsAnswered (f : Answered) : Type 0 where
   pub pure : is_pure f.kind ≡ true
+  pub few : length f.args ≤ 16
   pub answer : f.end ≡ answer_of f.kind f.args

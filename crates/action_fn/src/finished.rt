@@ -1,6 +1,6 @@
 //! What an action answered.
 
-ghost use Rattle.std.specs.Prelude.{◌≡◌, true};
+ghost use Rattle.std.specs.Prelude.{◌≡◌, ◌≤◌, length, true};
 ghost use Rattle.action_fn.specs.Answers.{answer_of, is_pure};
 
 use mtapi_values::{Args, Kind, MtapiStatus};
@@ -64,9 +64,10 @@ impl Finished {
         self.kind
     }
 
-    /// The arguments.
+    /// The arguments, at most 16.
     pub fn args(&self) -> &Args
-        ensures { result.now ≡ self.now.args }
+        ensures value { result.now ≡ self.now.args }
+        ensures few { length self.now.args ≤ 16 }
     {
         &self.args
     }

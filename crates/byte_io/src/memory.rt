@@ -61,7 +61,7 @@ fn is_named(fails: &[u64], call: u64) -> bool
 /// Copies as many bytes as the buffer, `most` and the bytes allow, and tells how many.
 fn fill(buf: &mut [u8], bytes: &[u8], most: usize) -> usize
     ensures count { result ≡ min (min (length buf.old) most) (length bytes.now) }
-    ensures front { take result buf.new ≡ take result bytes.now }
+    ensures prefix { take result buf.new ≡ take result bytes.now }
 {
     let count = buf.len().min(most).min(bytes.len());
     buf[..count].copy_from_slice(&bytes[..count]);

@@ -32,7 +32,7 @@ pub trait Sink {
     /// How many writes have failed. It never falls.
     ghost faults: { Self → ℕ };
 
-    /// Adds a front of `piece` and tells how long it was, at least 1 where the piece isn't empty. A failed
+    /// Adds a prefix of `piece` and tells how long it was, at least 1 where the piece isn't empty. A failed
     /// write adds nothing.
     fn write(&mut self, piece: &[u8]) -> Result<usize, Failed>
         ensures bound { TakesSome result piece.now }

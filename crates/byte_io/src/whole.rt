@@ -53,7 +53,7 @@ pub fn read_all<S: Source>(
     // Where the source tells its bytes, they decide between Ok and TooLong, however the reads cut them.
     ensures whole { IfSome (S.left src.old) (λ bytes. ReadsWhole limit bytes (S.left src.new) result) }
     ensures bound { IfOk result (λ bytes. length bytes.items ≤ limit) }
-    // An answer that isn't Read and isn't for want of memory comes without a fault.
+    // An answer other than Read and Memory comes without a fault.
     ensures clean { OnOk result (S.faults src.new ≡ S.faults src.old) }
     ensures clean_long { IsErrOf result ReadAllError.TooLong → S.faults src.new ≡ S.faults src.old }
     ensures later { S.faults src.old ≤ S.faults src.new }

@@ -3,14 +3,15 @@ use Rattle.std.proofs.Common.{◌≡◌, ◌↔◌, ℕ, zero, suc, ◌<◌, ◌
 use Rattle.std.specs.Option.{option_map}
 use Rattle.std.proofs.lemmas.Bool.{false≢true, cases_eq}
 use Rattle.std.proofs.lemmas.Bool.Decides.{eqb_tells}
-use Rattle.handle_pool.specs.Slots.{Slot, Slots, slot_of, generation_of, used_slot, free_slot, get, IsFull, Inserts, with_value, without, changed}
+use Rattle.handle_pool.specs.Slots.{Slot, Slots, slot_of, generation_of, used_slot, free_slot, slot_value, IsFull, Inserts, with_value, without, changed}
+use Rattle.handle_pool.proofs.StandsLemmas.{used_at_live}
 use Rattle.handle_pool.proofs.WalkLemmas.{slot_of-live}
 use Rattle.linked_places.specs.Lists.{HandleLists, list_at, stands_at, has_handle, without_handle, NowhereAt, with_list}
-use Rattle.linked_places.specs.Beside.{beside, pool_beside, AreBeside}
+use Rattle.linked_places.specs.Beside.{slot_beside, beside, pool_beside, AreBeside}
 use Rattle.linked_places.proofs.HandleLemmas.{list_at-set_same, list_at-set_other, stands-either, stands_cases}
 use Rattle.linked_places.proofs.LinkedLemmas.{alone}
-use Rattle.linked_places.proofs.BesideLemmas.{length-beside, get-beside, IsFull-beside, Inserts-beside, with_value-beside, list-beside, without-beside, AreBeside-new, AreBeside-insert, AreBeside-value, AreBeside-list, AreBeside-remove, NowhereAt-beside, beside-fresh, list_at-none}
-use Rattle.group_core.specs.Members.{Members, GroupTable, no_members, with_ended, rest_of, NoMemberAt, IsUnendedMember, of_unended, and_ended, members_in, table_of, AreGroups}
+use Rattle.linked_places.proofs.BesideLemmas.{length-beside, slice_get-beside, get-beside, IsFull-beside, Inserts-beside, with_value-beside, list-beside, without-beside, AreBeside-new, AreBeside-insert, AreBeside-value, AreBeside-list, AreBeside-remove, NowhereAt-beside, beside-fresh, list_at-none}
+use Rattle.group_core.specs.Members.{Members, GroupTable, no_members, with_ended, rest_of, NoMemberAt, IsUnendedMember, LiveAreUsed, of_unended, and_ended, members_in, table_of, AreGroups}
 
 -- a live handle of groups, and one that is none
 pub live_tells : (b : Bool) (o : Option (Unit {0})) → IsTrue b ↔ IsSome o → b ≡ true → o ≡ Some tt
@@ -26,37 +27,37 @@ abbrev pub members_at : HandleLists → HandleLists → ℕ → Members
 members_at unended ended g = record { unended = list_at unended.lists (slot_of g); ended = list_at ended.lists (slot_of g) }
 
 module _ (pool : Slots (Unit {0})) (unended ended : HandleLists) (g : ℕ) where
-  pub get-members : get (members_in pool unended ended) g ≡ option_map (λ (u : Unit {0}). members_at unended ended g) (get pool g)
+  pub get-members : slot_value (members_in pool unended ended) g ≡ option_map (λ (u : Unit {0}). members_at unended ended g) (slot_value pool g)
   get-members =
       get-beside and_ended (pool_beside of_unended pool unended.lists) ended.lists g
-      ∙ (rw (get-beside of_unended pool unended.lists g) (by_value (get pool g)))
+      ∙ (rw (get-beside of_unended pool unended.lists g) (by_value (slot_value pool g)))
     where
       by_value : (o : Option (Unit {0})) → option_map (λ v. and_ended v (list_at ended.lists (slot_of g))) (option_map (λ v. of_unended v (list_at unended.lists (slot_of g))) o) ≡ option_map (λ (u : Unit {0}). members_at unended ended g) o
       by_value None = refl
       by_value (Some u) = refl
 
-  pub get-live : (old : GroupTable) → table_of pool unended ended ≡ old → get pool g ≡ Some tt → get old.pool g ≡ Some (members_at unended ended g)
-  get-live old is live = let P : GroupTable → Type 0 = λ o. get o.pool g ≡ Some (members_at unended ended g) in subst P is (get-members ∙ rw live refl)
+  pub get-live : (old : GroupTable) → table_of pool unended ended ≡ old → slot_value pool g ≡ Some tt → slot_value old.pool g ≡ Some (members_at unended ended g)
+  get-live old is live = let P : GroupTable → Type 0 = λ o. slot_value o.pool g ≡ Some (members_at unended ended g) in subst P is (get-members ∙ rw live refl)
 
-  pub get-dead : (old : GroupTable) → table_of pool unended ended ≡ old → get pool g ≡ None → get old.pool g ≡ None
-  get-dead old is dead = let P : GroupTable → Type 0 = λ o. get o.pool g ≡ None in subst P is (get-members ∙ rw dead refl)
+  pub get-dead : (old : GroupTable) → table_of pool unended ended ≡ old → slot_value pool g ≡ None → slot_value old.pool g ≡ None
+  get-dead old is dead = let P : GroupTable → Type 0 = λ o. slot_value o.pool g ≡ None in subst P is (get-members ∙ rw dead refl)
 
-  pub live_from : (old : GroupTable) → table_of pool unended ended ≡ old → IsSome (get old.pool g) → get pool g ≡ Some tt
-  live_from old is some = by_value (get pool g) refl
+  pub live_from : (old : GroupTable) → table_of pool unended ended ≡ old → IsSome (slot_value old.pool g) → slot_value pool g ≡ Some tt
+  live_from old is some = by_value (slot_value pool g) refl
     where
-      by_value : (o : Option (Unit {0})) → get pool g ≡ o → o ≡ Some tt
+      by_value : (o : Option (Unit {0})) → slot_value pool g ≡ o → o ≡ Some tt
       by_value (Some u) found = refl
       by_value None found = absurd (false≢true (rw (get-dead old is found) at some))
 
   -- a member that hasn't ended is in the group's list
-  pub member_from : (old : GroupTable) (t : ℕ) → table_of pool unended ended ≡ old → IsUnendedMember t (get old.pool g) → (get pool g ≡ Some tt) × (has_handle t (list_at unended.lists (slot_of g)) ≡ true)
-  member_from old t is member = by_value (get pool g) refl
+  pub member_from : (old : GroupTable) (t : ℕ) → table_of pool unended ended ≡ old → IsUnendedMember t (slot_value old.pool g) → (slot_value pool g ≡ Some tt) × (has_handle t (list_at unended.lists (slot_of g)) ≡ true)
+  member_from old t is member = by_value (slot_value pool g) refl
     where
-      by_value : (o : Option (Unit {0})) → get pool g ≡ o → (get pool g ≡ Some tt) × (has_handle t (list_at unended.lists (slot_of g)) ≡ true)
+      by_value : (o : Option (Unit {0})) → slot_value pool g ≡ o → (slot_value pool g ≡ Some tt) × (has_handle t (list_at unended.lists (slot_of g)) ≡ true)
       by_value (Some u) live = (live, rw (get-live old is live) at member)
       by_value None dead = absurd (rw (get-dead old is dead) at member)
 
-  module _ (are : AreGroups pool unended ended) (live : get pool g ≡ Some tt) where
+  module _ (are : AreGroups pool unended ended) (live : slot_value pool g ≡ Some tt) where
     pub within_unended : slot_of g < length unended.lists
     within_unended = rw are.unended_beside.size (slot_of-live pool g tt live)
 
@@ -66,7 +67,7 @@ module _ (pool : Slots (Unit {0})) (unended ended : HandleLists) (g : ℕ) where
     first : Slots Members
     first = pool_beside of_unended pool unended.lists
 
-    pub get-first : get (pool_beside of_unended pool unended.lists) g ≡ Some (of_unended tt (list_at unended.lists (slot_of g)))
+    pub get-first : slot_value (pool_beside of_unended pool unended.lists) g ≡ Some (of_unended tt (list_at unended.lists (slot_of g)))
     get-first = get-beside of_unended pool unended.lists g ∙ rw live refl
 
     -- another list of members that haven't ended
@@ -93,7 +94,7 @@ module _ (pool : Slots (Unit {0})) (unended ended : HandleLists) (g : ℕ) where
     -- the groups once the members of this one have changed
     pub view_changed : (old : GroupTable) (after others : HandleLists) (f : Members → Members) → table_of pool unended ended ≡ old → members_in pool after others ≡ with_value (members_in pool unended ended) g (f (members_at unended ended g)) → after.places ≡ unended.places → table_of pool after others ≡ record old { pool = changed old.pool g f }
     view_changed old after others f is moved places =
-        let found : get (members_in pool unended ended) g ≡ Some (members_at unended ended g) = get-members ∙ rw live refl in
+        let found : slot_value (members_in pool unended ended) g ≡ Some (members_at unended ended g) = get-members ∙ rw live refl in
         let is_changed : changed (members_in pool unended ended) g f ≡ with_value (members_in pool unended ended) g (f (members_at unended ended g)) = rw found refl in
         let P : GroupTable → Type 0 = λ o. table_of pool after others ≡ record o { pool = changed o.pool g f } in
         subst P is (rw (moved, places, is_changed) refl)
@@ -230,10 +231,10 @@ module _ (pool : Slots (Unit {0})) (unended ended : HandleLists) where
 
   pub nowhere_ended : (old : GroupTable) (q : ℕ) → table_of pool unended ended ≡ old → AreGroups pool unended ended → NoMemberAt q old.pool → NowhereAt q ended.lists
   nowhere_ended old q is are none =
-      NowhereAt-beside (pool_beside of_unended pool unended.lists) ended.lists q are.ended_beside (λ h v found. by_live h v (get pool h) refl (sym (get-beside of_unended pool unended.lists h) ∙ found))
+      NowhereAt-beside (pool_beside of_unended pool unended.lists) ended.lists q are.ended_beside (λ h v found. by_live h v (slot_value pool h) refl (sym (get-beside of_unended pool unended.lists h) ∙ found))
     where
-      by_live : (h : ℕ) (v : Members) (o : Option (Unit {0})) → get pool h ≡ o → option_map (λ u. of_unended u (list_at unended.lists (slot_of h))) (get pool h) ≡ Some v → stands_at q (list_at ended.lists (slot_of h)) ≡ false
-      by_live h v None dead found = let none : option_map (λ u. of_unended u (list_at unended.lists (slot_of h))) (get pool h) ≡ None = rw dead refl in absurd (cc (none, found))
+      by_live : (h : ℕ) (v : Members) (o : Option (Unit {0})) → slot_value pool h ≡ o → option_map (λ u. of_unended u (list_at unended.lists (slot_of h))) (slot_value pool h) ≡ Some v → stands_at q (list_at ended.lists (slot_of h)) ≡ false
+      by_live h v None dead found = let none : option_map (λ u. of_unended u (list_at unended.lists (slot_of h))) (slot_value pool h) ≡ None = rw dead refl in absurd (cc (none, found))
       by_live h v (Some u) live found = (none h (members_at unended ended h) (get-live pool unended ended h old is live)).1
 
 -- what was written twice is as it was written last
@@ -253,7 +254,7 @@ without-first h (x ∷ hs) first =
     elim (eqb_tells x h) [ inl same ↦ rw same.0 refl | inr apart ↦ absurd (apart.1 is) ]
 
 -- a member comes from the one list to the other
-pub moved : (pool : Slots (Unit {0})) (unended ended : HandleLists) (g t : ℕ) → AreGroups pool unended ended → get pool g ≡ Some tt → AreGroups pool (with_list unended (slot_of g) (without_handle t (list_at unended.lists (slot_of g)))) ended → members_in pool (with_list unended (slot_of g) (without_handle t (list_at unended.lists (slot_of g)))) (with_list ended (slot_of g) (list_at ended.lists (slot_of g) ++ t ∷ [])) ≡ with_value (members_in pool unended ended) g (with_ended t (members_at unended ended g))
+pub moved : (pool : Slots (Unit {0})) (unended ended : HandleLists) (g t : ℕ) → AreGroups pool unended ended → slot_value pool g ≡ Some tt → AreGroups pool (with_list unended (slot_of g) (without_handle t (list_at unended.lists (slot_of g)))) ended → members_in pool (with_list unended (slot_of g) (without_handle t (list_at unended.lists (slot_of g)))) (with_list ended (slot_of g) (list_at ended.lists (slot_of g) ++ t ∷ [])) ≡ with_value (members_in pool unended ended) g (with_ended t (members_at unended ended g))
 moved pool unended ended g t are live fewer =
     let list = without_handle t (list_at unended.lists (slot_of g)) in
     let list_is : list_at (with_list unended (slot_of g) list).lists (slot_of g) ≡ list = list_at-set_same unended.lists (slot_of g) list (within_unended pool unended ended g are live) in
@@ -276,3 +277,26 @@ AreGroups-new pool unended ended count tasks few few_tasks slots unendeds endeds
 
 pub members-new : (pool : Slots (Unit {0})) (unended ended : HandleLists) (count : ℕ) → pool.slots ≡ replicate count (free_slot 1) → unended.lists ≡ replicate count [] → ended.lists ≡ replicate count [] → (members_in pool unended ended).slots ≡ replicate count (free_slot 1)
 members-new pool unended ended count slots unendeds endeds = rw (slots, unendeds, endeds, beside-fresh of_unended count) (beside-fresh and_ended count)
+
+-- the slot of a live value beside a list is in use
+used-beside : {A C : Type 0} (f : A → List ℕ → C) (p : Slots A) (lists : List (List ℕ)) (h : ℕ) (c : C) → AreBeside p.slots lists → slot_value (pool_beside f p lists) h ≡ Some c → slice_get (beside f p.slots lists) (slot_of h) ≡ Some (used_slot (generation_of h) c)
+used-beside {A} {C} f p lists h c are live =
+    let x = used_at_live (slice_get (beside f p.slots lists) (slot_of h)) (generation_of h) c live in
+    let kept : x.0.retired ≡ false = by_slot x.0 x.3 (slice_get p.slots (slot_of h)) refl (sym (slice_get-beside f p.slots lists (slot_of h)) ∙ x.1) in
+    x.1 ∙ (λ i. Some (record { generation = x.2 i; value = x.3 i; retired = kept i }))
+  where
+    by_retired : (t : Slot C) (s : Slot A) (b : Bool) → t.value ≡ Some c → (s.retired ≡ true → s.value ≡ None) → slot_beside f s (list_at lists (slot_of h)) ≡ t → s.retired ≡ b → t.retired ≡ false
+    by_retired t s false v empty is e = ap (λ (u : Slot C). u.retired) (sym is) ∙ e
+    by_retired t s true v empty is e =
+        let none : t.value ≡ None = ap (λ (u : Slot C). u.value) (sym is) ∙ ap (option_map (λ a. f a (list_at lists (slot_of h)))) (empty e) in
+        absurd (cc (none, v))
+
+    by_slot : (t : Slot C) → t.value ≡ Some c → (o : Option (Slot A)) → slice_get p.slots (slot_of h) ≡ o → option_map (λ s. slot_beside f s (list_at lists (slot_of h))) o ≡ Some t → t.retired ≡ false
+    by_slot t v None g e = absurd (cc)
+    by_slot t v (Some s) g e = by_retired t s s.retired v (are.retired (slot_of h) s g) (some_is e) refl
+      where
+        some_is : {X : Type 0} {a b : X} → Some a ≡ Some b → a ≡ b
+        some_is d = cc
+
+pub live-used : (pool : Slots (Unit {0})) (unended ended : HandleLists) → AreGroups pool unended ended → LiveAreUsed (members_in pool unended ended)
+live-used pool unended ended are g m live = used-beside and_ended (pool_beside of_unended pool unended.lists) ended.lists g m are.ended_beside live

@@ -3,7 +3,7 @@ use Rattle.std.specs.Prelude.{◌≡◌, ℕ, ◌+◌, ◌≤◌, true, false, L
 use Rattle.mtapi_values.specs.declared.handles.GroupHandle.{GroupHandle}
 use Rattle.mtapi_values.specs.declared.statuses.MtapiStatus.{MtapiStatus}
 use Rattle.mtapi_values.specs.declared.statuses.MtapiStatus.TheVariants.{ErrGroupInvalid, ErrGroupLimit}
-use Rattle.handle_pool.specs.Slots.{Slots, get, IsFull, Inserts}
+use Rattle.handle_pool.specs.Slots.{Slots, slot_of, generation_of, used_slot, slot_value, IsFull, Inserts}
 use Rattle.linked_places.specs.Lists.{HandleLists, list_at, stands_at, has_handle, without_handle}
 use Rattle.linked_places.specs.Beside.{beside, pool_beside, AreBeside}
 
@@ -52,7 +52,7 @@ delete_reply (Some m) = Ok tt
 
 -- no member of any group has this slot
 abbrev pub NoMemberAt : ℕ → Slots Members → Type 0
-NoMemberAt slot pool = (g : ℕ) (m : Members) → get pool g ≡ Some m → (stands_at slot m.unended ≡ false) × (stands_at slot m.ended ≡ false)
+NoMemberAt slot pool = (g : ℕ) (m : Members) → slot_value pool g ≡ Some m → (stands_at slot m.unended ≡ false) × (stands_at slot m.ended ≡ false)
 
 -- the task is a member that hasn't ended
 abbrev pub IsUnendedMember : ℕ → Option Members → Type 0
@@ -63,10 +63,32 @@ IsUnendedMember task (Some m) = has_handle task m.unended ≡ true
 abbrev pub counts_of : Members → ℕ × ℕ
 counts_of m = (length m.unended + length m.ended, length m.ended)
 
+-- the members of a group that may be live
+abbrev pub unended_of : Option Members → List ℕ
+unended_of None = []
+unended_of (Some m) = m.unended
+
+abbrev pub ended_of : Option Members → List ℕ
+ended_of None = []
+ended_of (Some m) = m.ended
+
 -- the member that ended first
 abbrev pub first_ended : Option Members → Option ℕ
 first_ended None = None
 first_ended (Some m) = slice_get m.ended 0
+
+-- the member that entered first, of those that haven't ended
+abbrev pub first_unended : Option Members → Option ℕ
+first_unended None = None
+first_unended (Some m) = slice_get m.unended 0
+
+-- that member leaves
+abbrev pub without_first_unended : Members → Members
+without_first_unended m = record { unended = rest_of m.unended; ended = m.ended }
+
+-- each live group stands in a slot in use
+abbrev pub LiveAreUsed : Slots Members → Type 0
+LiveAreUsed pool = (g : ℕ) (m : Members) → slot_value pool g ≡ Some m → slice_get pool.slots (slot_of g) ≡ Some (used_slot (generation_of g) m)
 
 -- members put together from what stands in two lists
 abbrev pub of_unended : Unit {0} → List ℕ → Members

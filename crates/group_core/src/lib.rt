@@ -7,8 +7,8 @@ mod worked;
 
 ghost use Rattle.std.specs.Prelude.{◌≡◌, ◌≤◌, ◌<◌, replicate, IfOk, IfNone, OnOk, OnErr, OnSome, IsSome};
 ghost use Rattle.std.specs.Option.{option_map};
-ghost use Rattle.handle_pool.specs.Slots.{get, slot_of, free_slot, without, changed};
-ghost use Rattle.group_core.specs.Members.{with_member, with_ended, without_first, Creates, delete_reply, NoMemberAt, IsUnendedMember, counts_of, first_ended};
+ghost use Rattle.handle_pool.specs.Slots.{slot_value, slot_of, free_slot, without, changed};
+ghost use Rattle.group_core.specs.Members.{with_member, with_ended, without_first, Creates, delete_reply, NoMemberAt, IsUnendedMember, LiveAreUsed, counts_of, first_ended, first_unended, without_first_unended};
 
 use handle_pool::Pool;
 use linked_places::LinkedLists;
@@ -79,7 +79,7 @@ impl Groups {
 
     /// Gives up a group and forgets its members. `ErrGroupInvalid` where it isn't live.
     pub fn delete(&mut self, g: GroupHandle) -> Result<(), MtapiStatus>
-        ensures reply { result ≡ delete_reply (get self.old.pool g.0) }
+        ensures reply { result ≡ delete_reply (slot_value self.old.pool g.0) }
         ensures ok { OnOk result (self.new ≡ record self.old { pool = without self.old.pool g.0 }) }
         ensures err { OnErr result (self.new ≡ self.old) }
     {
@@ -95,7 +95,7 @@ impl Groups {
 
     /// Has a task enter a live group. No member of any group may have its slot.
     pub fn enter(&mut self, g: GroupHandle, t: TaskHandle)
-        requires live { IsSome (get self.old.pool g.0) }
+        requires live { IsSome (slot_value self.old.pool g.0) }
         requires slot { slot_of t.0 < self.old.tasks }
         requires alone { NoMemberAt (slot_of t.0) self.old.pool }
         ensures { self.new ≡ record self.old { pool = changed self.old.pool g.0 (with_member t.0) } }
@@ -105,7 +105,7 @@ impl Groups {
 
     /// Has a member that hasn't ended stand last among those that have.
     pub fn ended(&mut self, g: GroupHandle, t: TaskHandle)
-        requires { IsUnendedMember t.0 (get self.old.pool g.0) }
+        requires { IsUnendedMember t.0 (slot_value self.old.pool g.0) }
         ensures { self.new ≡ record self.old { pool = changed self.old.pool g.0 (with_ended t.0) } }
     {
         let slot = slot_of(g.0);
@@ -115,7 +115,7 @@ impl Groups {
 
     /// How many members of a live group weren't handed out, and how many of these have ended.
     pub fn left(&self, g: GroupHandle) -> Option<(u32, u32)>
-        ensures { result ≡ option_map counts_of (get self.now.pool g.0) }
+        ensures { result ≡ option_map counts_of (slot_value self.now.pool g.0) }
     {
         if !self.pool.is_live(g.0) {
             return None;
@@ -127,7 +127,7 @@ impl Groups {
 
     /// Hands out the member of a live group that ended first.
     pub fn take(&mut self, g: GroupHandle) -> Option<TaskHandle>
-        ensures task { option_map (λ (t : TaskHandle). t.0) result ≡ first_ended (get self.old.pool g.0) }
+        ensures task { option_map (λ (t : TaskHandle). t.0) result ≡ first_ended (slot_value self.old.pool g.0) }
         ensures some { OnSome result (self.new ≡ record self.old { pool = changed self.old.pool g.0 without_first }) }
         ensures none { IfNone result (self.new ≡ self.old) }
     {
@@ -140,5 +140,29 @@ impl Groups {
         };
         self.ended.remove(slot, first);
         Some(TaskHandle(first))
+    }
+
+    /// Has the member of a live group that entered first leave, of those that haven't ended.
+    pub fn leave(&mut self, g: GroupHandle) -> Option<TaskHandle>
+        ensures task { option_map (λ (t : TaskHandle). t.0) result ≡ first_unended (slot_value self.old.pool g.0) }
+        ensures some { OnSome result (self.new ≡ record self.old { pool = changed self.old.pool g.0 without_first_unended }) }
+        ensures none { IfNone result (self.new ≡ self.old) }
+    {
+        if !self.pool.is_live(g.0) {
+            return None;
+        }
+        let slot = slot_of(g.0);
+        let Some(entered) = self.unended.first(slot) else {
+            return None;
+        };
+        self.unended.remove(slot, entered);
+        Some(TaskHandle(entered))
+    }
+
+    /// What the slots of live groups are.
+    pub fn is_kept(&self)
+        ensures { LiveAreUsed self.now.pool }
+    {
+        let _ = self.pool.is_live(0);
     }
 }

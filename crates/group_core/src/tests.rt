@@ -46,6 +46,21 @@ fn members_come_in_the_order_of_their_ends(rt: HostRuntime) -> Result<(), Fail> 
 }
 
 #[test]
+fn a_member_that_has_not_ended_leaves(rt: HostRuntime) -> Result<(), Fail> {
+    let mut groups = Groups::new(rt.alloc(), 1, 5, 2)?;
+    let Ok(g) = groups.create() else {
+        return Err("no group")?;
+    };
+    groups.enter(g, SECOND);
+    groups.enter(g, FIRST);
+    assert_eq!(rt; groups.leave(g), Some(SECOND));
+    assert_eq!(rt; groups.leave(g), Some(FIRST));
+    assert_eq!(rt; groups.leave(g), None);
+    groups.is_kept();
+    Ok(())
+}
+
+#[test]
 fn one_group_at_a_time(rt: HostRuntime) -> Result<(), Fail> {
     let mut groups = Groups::new(rt.alloc(), 1, 5, 2)?;
     let g = groups.create().ok().ok_or("no group")?;

@@ -4,8 +4,9 @@ use Rattle.std.specs.Prelude.{◌==◌}
 use Rattle.std.proofs.lemmas.Bool.{cases_Bool}
 use Rattle.std.proofs.lemmas.Bool.Decides.{nat_tests}
 use Rattle.std.proofs.lemmas.List.Sums.{sum_by-cons}
-use Rattle.handle_pool.specs.Slots.{Slot, Slots, slot_of, generation_of, value_at, value_passes, count_in, get, SomeLive, NoneLive}
-use Rattle.handle_pool.specs.Issued.{Listed, how_many, live_of, lookup, at, any, any_live, first_live, count, change, change_all}
+use Rattle.handle_pool.specs.Slots.{Slot, Slots, slot_of, generation_of, value_at, slot_value}
+use Rattle.handle_pool.specs.Walks.{value_passes, count_in, SomeLive, NoneLive}
+use Rattle.handle_pool.specs.Issued.{Listed, how_many, live_of, lookup, live_object, any_listed, any_live, first_handle, count_listed, change, change_all}
 use Rattle.handle_pool.specs.Stands.{Distinct, Stands}
 use Rattle.handle_pool.proofs.LiveLemmas.{passing, any_live-at, first_live-passes, first_live-any, first_live-none, how_many-same}
 use Rattle.handle_pool.proofs.StandsLemmas.{value_at-none}
@@ -25,41 +26,41 @@ slot_of-handle_at generation place small = omega arith
 
 module _ {T : Type 0} where
   -- an object of a live handle that passes is one of the list
-  pub any-live : (p : Slots T) (l : List (Listed T)) (q : T → Bool) (h : ℕ) (v : T) → Stands p l → get p h ≡ Some v → q v ≡ true → any q l ≡ true
+  pub any-live : (p : Slots T) (l : List (Listed T)) (q : T → Bool) (h : ℕ) (v : T) → Stands p l → slot_value p h ≡ Some v → q v ≡ true → any_listed q l ≡ true
   any-live p l q h v stands found holds = any_live-at q (live_of l) h v (sym (stands.found h) ∙ found) holds
 
   -- where some object of the list passes, a live handle has it
-  pub any-some : (p : Slots T) (l : List (Listed T)) (q : T → Bool) → Stands p l → any q l ≡ true → SomeLive (get p) (λ v. q v ≡ true)
+  pub any-some : (p : Slots T) (l : List (Listed T)) (q : T → Bool) → Stands p l → any_listed q l ≡ true → SomeLive (slot_value p) (λ v. q v ≡ true)
   any-some p l q stands some =
       let one = passing q (live_of l) stands.distinct some in
       (one.handle, one.value, stands.found one.handle ∙ one.stands, one.passes)
 
   -- where no live handle has an object that passes, none of the list does
-  pub any-none : (p : Slots T) (l : List (Listed T)) (q : T → Bool) → Stands p l → NoneLive (get p) (λ v. q v ≡ true) → any q l ≡ false
+  pub any-none : (p : Slots T) (l : List (Listed T)) (q : T → Bool) → Stands p l → NoneLive (slot_value p) (λ v. q v ≡ true) → any_listed q l ≡ false
   any-none p l q stands none =
-      elim (cases_Bool (any q l)) [
+      elim (cases_Bool (any_listed q l)) [
         | inl some ↦ let one = any-some p l q stands some in absurd (none one.0 one.1 one.2 one.3)
         | inr off ↦ off
       ]
 
   -- some object of the list passes exactly where a live handle has one
-  pub any-exactly : (p : Slots T) (l : List (Listed T)) (q : T → Bool) → Stands p l → (any q l ≡ true) ↔ SomeLive (get p) (λ v. q v ≡ true)
+  pub any-exactly : (p : Slots T) (l : List (Listed T)) (q : T → Bool) → Stands p l → (any_listed q l ≡ true) ↔ SomeLive (slot_value p) (λ v. q v ≡ true)
   any-exactly p l q stands = (any-some p l q stands, λ some. any-live p l q some.0 some.1 stands some.2 some.3)
 
   -- the only live handle with an object that passes is the first
-  pub first_live-only : (p : Slots T) (l : List (Listed T)) (q : T → Bool) (h : ℕ) (v : T) → Stands p l → get p h ≡ Some v → q v ≡ true → ((k : ℕ) (w : T) → get p k ≡ Some w → q w ≡ true → k ≡ h) → first_live q (live_of l) ≡ Some h
+  pub first_live-only : (p : Slots T) (l : List (Listed T)) (q : T → Bool) (h : ℕ) (v : T) → Stands p l → slot_value p h ≡ Some v → q v ≡ true → ((k : ℕ) (w : T) → slot_value p k ≡ Some w → q w ≡ true → k ≡ h) → first_handle q (live_of l) ≡ Some h
   first_live-only p l q h v stands found holds only =
       let first = first_live-any q (live_of l) (any-live p l q h v stands found holds) in
       let passes = first_live-passes q (live_of l) first.0 stands.distinct first.1 in
       first.1 ∙ ap Some (only first.0 passes.0 (stands.found first.0 ∙ passes.1) passes.2)
 
   -- the first that passes is live, and passes
-  pub first_live-found : (p : Slots T) (l : List (Listed T)) (q : T → Bool) (h : ℕ) → Stands p l → first_live q (live_of l) ≡ Some h → (v : T) × (get p h ≡ Some v) × (q v ≡ true)
+  pub first_live-found : (p : Slots T) (l : List (Listed T)) (q : T → Bool) (h : ℕ) → Stands p l → first_handle q (live_of l) ≡ Some h → (v : T) × (slot_value p h ≡ Some v) × (q v ≡ true)
   first_live-found p l q h stands first =
       let passes = first_live-passes q (live_of l) h stands.distinct first in
       (passes.0, stands.found h ∙ passes.1, passes.2)
 
-  pub first_live-absent : (p : Slots T) (l : List (Listed T)) (q : T → Bool) → Stands p l → NoneLive (get p) (λ v. q v ≡ true) → first_live q (live_of l) ≡ None
+  pub first_live-absent : (p : Slots T) (l : List (Listed T)) (q : T → Bool) → Stands p l → NoneLive (slot_value p) (λ v. q v ≡ true) → first_handle q (live_of l) ≡ None
   first_live-absent p l q stands none = first_live-none q (live_of l) (any-none p l q stands none)
 
   -- the objects in the slots from a place on
@@ -114,17 +115,17 @@ module _ {T : Type 0} where
       pick None has more = rw has (omega arith)
       pick (Some v) has more = rw has (omega arith)
 
-  how_many-live : (q : T → Bool) (l : List (Listed T)) → count q l ≡ how_many (λ e. q e.1) (live_of l)
+  how_many-live : (q : T → Bool) (l : List (Listed T)) → count_listed q l ≡ how_many (λ e. q e.1) (live_of l)
   unfolding live_of
   how_many-live q [] = refl
   how_many-live q (r ∷ rs) = pick r.live (how_many-live q rs)
     where
-      pick : (b : Bool) → count q rs ≡ how_many (λ e. q e.1) (live_of rs) → cond (b && q r.fields) 1 0 + count q rs ≡ how_many (λ e. q e.1) (cond b ((r.handle, r.fields) ∷ live_of rs) (live_of rs))
+      pick : (b : Bool) → count_listed q rs ≡ how_many (λ e. q e.1) (live_of rs) → cond (b && q r.fields) 1 0 + count_listed q rs ≡ how_many (λ e. q e.1) (cond b ((r.handle, r.fields) ∷ live_of rs) (live_of rs))
       pick true more = ap (λ n. cond (q r.fields) 1 0 + n) more
       pick false more = omega arith
 
   -- as many live objects pass as slots in use have a value that passes
-  pub count-slots : (p : Slots T) (l : List (Listed T)) (q : T → Bool) → Stands p l → count q l ≡ count_in q p
+  pub count-slots : (p : Slots T) (l : List (Listed T)) (q : T → Bool) → Stands p l → count_listed q l ≡ count_in q p
   count-slots p l q stands =
       let few = stands.few in
       how_many-live q l
@@ -134,7 +135,7 @@ module _ {T : Type 0} where
   -- every object that passes, changed one after another in any order
 
   -- where none passes, nothing is left to change
-  pub change_all-none : (q : T → Bool) (f : Listed T → Listed T) (l : List (Listed T)) → any q l ≡ false → change_all q f l ≡ l
+  pub change_all-none : (q : T → Bool) (f : Listed T → Listed T) (l : List (Listed T)) → any_listed q l ≡ false → change_all q f l ≡ l
   unfolding live_of change_all
   change_all-none q f [] none = refl
   change_all-none q f (r ∷ rs) none = pick q f r.handle r.live r.fields (q r.fields) rs refl none (λ more. change_all-none q f rs more)
@@ -165,7 +166,7 @@ module _ {T : Type 0} where
   step_one q f h n false w v b c rs at is spends holds found more = ap (λ l. record { handle = n; live = false; fields = w } ∷ l) (more found)
 
   -- one that passes, changed before the others, changes nothing in the whole
-  pub change_all-step : (q : T → Bool) (f : Listed T → Listed T) (h : ℕ) (v : T) (l : List (Listed T)) → Spends q f → at l h ≡ Some v → q v ≡ true → change_all q f (change h f l) ≡ change_all q f l
+  pub change_all-step : (q : T → Bool) (f : Listed T → Listed T) (h : ℕ) (v : T) (l : List (Listed T)) → Spends q f → live_object l h ≡ Some v → q v ≡ true → change_all q f (change h f l) ≡ change_all q f l
   unfolding live_of change_all change
   change_all-step q f h v [] spends found holds = absurd (cc)
   change_all-step q f h v (r ∷ rs) spends found holds = step_one q f h r.handle r.live r.fields v (r.handle == h) (q r.fields) rs refl refl spends holds found (λ more. change_all-step q f h v rs spends more holds)

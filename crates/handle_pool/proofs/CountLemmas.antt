@@ -3,7 +3,7 @@ use Rattle.std.proofs.Common.{◌≡◌, ℕ, ◌+◌, Bool, Some, cond, replica
 use Rattle.std.proofs.lemmas.Bool.Decides.{eqb_tells}
 use Rattle.std.proofs.lemmas.List.{length-replicate}
 use Rattle.std.proofs.lemmas.List.Folds.{sum_by-replicate}
-use Rattle.handle_pool.specs.Slots.{Slot, Slots, slot_of, generation_of, free_slot, used_slot, slot_after, get, is_live, live_count, max_of, Inserts, with_value, without}
+use Rattle.handle_pool.specs.Slots.{Slot, Slots, slot_of, generation_of, free_slot, used_slot, slot_after, slot_value, is_live, live_count, max_of, Inserts, with_value, without}
 use Rattle.handle_pool.proofs.StandsLemmas.{used_at_live, count_by-set}
 
 not_live : (T : Type 0) (generations generation : ℕ) → ◌≡◌ {A = ℕ} (cond (is_live (slot_after {T = T} generations generation)) 1 0) 0
@@ -24,7 +24,7 @@ module _ {T : Type 0} where
   pub max_of-insert : (p new : Slots T) (h : ℕ) (v : T) → Inserts p new h v → max_of new ≡ max_of p
   max_of-insert p new h v inserts = rw inserts.now (length-set p.slots (slot_of h) (used_slot (generation_of h) v))
 
-  pub live_count-with_value : (p : Slots T) (h : ℕ) (old new : T) → get p h ≡ Some old → live_count (with_value p h new) ≡ live_count p
+  pub live_count-with_value : (p : Slots T) (h : ℕ) (old new : T) → slot_value p h ≡ Some old → live_count (with_value p h new) ≡ live_count p
   live_count-with_value p h old new found =
       let slot = used_at_live _ (generation_of h) old found in
       let one : Bool → ℕ = λ b. cond b 1 0 in
@@ -34,7 +34,7 @@ module _ {T : Type 0} where
   pub max_of-with_value : (p : Slots T) (h : ℕ) (v : T) → max_of (with_value p h v) ≡ max_of p
   max_of-with_value p h v = length-set p.slots (slot_of h) (used_slot (generation_of h) v)
 
-  pub live_count-without : (p : Slots T) (h : ℕ) (old : T) → get p h ≡ Some old → live_count (without p h) + 1 ≡ live_count p
+  pub live_count-without : (p : Slots T) (h : ℕ) (old : T) → slot_value p h ≡ Some old → live_count (without p h) + 1 ≡ live_count p
   live_count-without p h old found =
       let slot = used_at_live _ (generation_of h) old found in
       let one : Bool → ℕ = λ b. cond b 1 0 in

@@ -2,17 +2,17 @@
 use Rattle.std.proofs.Common.{◌≡◌, ◌≢◌, ℕ, ◌+◌, true, Some, None, slice_get, refl, sym, ◌∙◌, inl, inr}
 use Rattle.std.proofs.lemmas.Bool.{cases_eq}
 use Rattle.std.proofs.lemmas.Bool.Decides.{eqb_tells}
-use Rattle.handle_pool.specs.Slots.{Slots, slot_of, generation_of, value_at, free_slot, used_slot, slot_after, get, Inserts, with_value, without}
+use Rattle.handle_pool.specs.Slots.{Slots, slot_of, generation_of, value_at, free_slot, used_slot, slot_after, slot_value, Inserts, with_value, without}
 use Rattle.handle_pool.proofs.ListReads.{slice_get-set_same, slice_get-set_other}
 use Rattle.handle_pool.proofs.StandsLemmas.{used_at_live, same_handle, value_at-used_same, value_at-used_other, value_at-none, value_at-turned}
 
 module _ {T : Type 0} where
-  pub get-with_value_same : (p : Slots T) (h : ℕ) (old new : T) → get p h ≡ Some old → get (with_value p h new) h ≡ Some new
+  pub get-with_value_same : (p : Slots T) (h : ℕ) (old new : T) → slot_value p h ≡ Some old → slot_value (with_value p h new) h ≡ Some new
   get-with_value_same p h old new found =
       let slot = used_at_live (slice_get p.slots (slot_of h)) (generation_of h) old found in
       rw (slice_get-set_same p.slots (slot_of h) (used_slot (generation_of h) new) _ slot.1) (value_at-used_same (generation_of h) new)
 
-  pub get-with_value_other : (p : Slots T) (h k : ℕ) (old new : T) → get p h ≡ Some old → k ≢ h → get (with_value p h new) k ≡ get p k
+  pub get-with_value_other : (p : Slots T) (h k : ℕ) (old new : T) → slot_value p h ≡ Some old → k ≢ h → slot_value (with_value p h new) k ≡ slot_value p k
   get-with_value_other p h k old new found differs =
       let slot = used_at_live (slice_get p.slots (slot_of h)) (generation_of h) old found in
       elim (cases_eq (slot_of k) (slot_of h)) [
@@ -23,15 +23,15 @@ module _ {T : Type 0} where
         | inr away ↦ rw (slice_get-set_other p.slots (slot_of h) (slot_of k) (used_slot (generation_of h) new) away) refl
       ]
 
-  pub get-insert_same : (p new : Slots T) (h : ℕ) (v : T) → Inserts p new h v → get new h ≡ Some v
+  pub get-insert_same : (p new : Slots T) (h : ℕ) (v : T) → Inserts p new h v → slot_value new h ≡ Some v
   get-insert_same p new h v inserts =
       rw (inserts.now, slice_get-set_same p.slots (slot_of h) (used_slot (generation_of h) v) _ inserts.was_free) (value_at-used_same (generation_of h) v)
 
   -- a handle that an insert gives wasn't live
-  pub get-insert_before : (p new : Slots T) (h : ℕ) (v : T) → Inserts p new h v → get p h ≡ None
+  pub get-insert_before : (p new : Slots T) (h : ℕ) (v : T) → Inserts p new h v → slot_value p h ≡ None
   get-insert_before p new h v inserts = rw inserts.was_free (value_at-none (free_slot (generation_of h)) (generation_of h) refl)
 
-  pub get-insert_other : (p new : Slots T) (h k : ℕ) (v : T) → Inserts p new h v → k ≢ h → get new k ≡ get p k
+  pub get-insert_other : (p new : Slots T) (h k : ℕ) (v : T) → Inserts p new h v → k ≢ h → slot_value new k ≡ slot_value p k
   get-insert_other p new h k v inserts differs =
       rw inserts.now (elim (cases_eq (slot_of k) (slot_of h)) [
         | inl beside ↦
@@ -48,12 +48,12 @@ module _ {T : Type 0} where
         | inr before ↦ rw before.0 (value_at-none (free_slot (generation + 1)) other refl)
       ]
 
-  pub get-without_same : (p : Slots T) (h : ℕ) (old : T) → get p h ≡ Some old → get (without p h) h ≡ None
+  pub get-without_same : (p : Slots T) (h : ℕ) (old : T) → slot_value p h ≡ Some old → slot_value (without p h) h ≡ None
   get-without_same p h old found =
       let slot = used_at_live (slice_get p.slots (slot_of h)) (generation_of h) old found in
       rw (slice_get-set_same p.slots (slot_of h) (slot_after p.generations (generation_of h)) _ slot.1) (empty_after p.generations (generation_of h) (generation_of h))
 
-  pub get-without_other : (p : Slots T) (h k : ℕ) (old : T) → get p h ≡ Some old → k ≢ h → get (without p h) k ≡ get p k
+  pub get-without_other : (p : Slots T) (h k : ℕ) (old : T) → slot_value p h ≡ Some old → k ≢ h → slot_value (without p h) k ≡ slot_value p k
   get-without_other p h k old found differs =
       let slot = used_at_live (slice_get p.slots (slot_of h)) (generation_of h) old found in
       elim (cases_eq (slot_of k) (slot_of h)) [

@@ -1,9 +1,9 @@
 -- What the list of a kind answers as its pool has it, and each move of it: one lemma a move.
-use Rattle.std.proofs.Common.{◌≡◌, ℕ, ◌+◌, ◌++◌, Bool, true, false, cond, List, [], ◌∷◌, Option, Some, None, refl, sym, ◌∙◌, ap}
+use Rattle.std.proofs.Common.{◌≡◌, ℕ, ◌+◌, Bool, true, false, cond, List, [], ◌∷◌, Some, refl, sym, ◌∙◌, ap}
 use Rattle.std.specs.Prelude.{◌==◌, ◌&&◌}
 use Rattle.std.specs.Option.{option_map}
 use Rattle.std.proofs.lemmas.Bool.{eqb-true, eq-eqb}
-use Rattle.handle_pool.specs.Issued.{Listed, live_of, lookup, at, how_many, change, change_all, with_fields, gone, update, retire, issue}
+use Rattle.handle_pool.specs.Issued.{Listed, live_of, lookup, live_object, how_many, change, change_all, with_fields, gone, update, retire, issue}
 use Rattle.handle_pool.specs.Inside.{turned, inside, Apart, Agree}
 
 by_both : (a b : Bool) → (a ≡ true → b ≡ true) → (b ≡ true → a ≡ true) → a ≡ b
@@ -17,18 +17,18 @@ same_test g a b i = by_both (g a == g b) (a == b) (λ e. eq-eqb a b (i (eqb-true
 
 module _ {M T : Type 0} (g : ℕ → ℕ) (f : ℕ → M → T) where
   -- the live object of a handle
-  pub at-inside : (h : ℕ) (l : List (Listed M)) → Apart g f h l → at (inside g f l) (g h) ≡ option_map (f h) (at l h)
+  pub at-inside : (h : ℕ) (l : List (Listed M)) → Apart g f h l → live_object (inside g f l) (g h) ≡ option_map (f h) (live_object l h)
   unfolding live_of inside
   at-inside h [] a = refl
   at-inside h (r ∷ rs) a = by_live (at-inside h rs a.1) r.live
     where
-      by_handle : at (inside g f rs) (g h) ≡ option_map (f h) (at rs h) → (b : Bool) → (r.handle == h) ≡ b → cond b (Some (f r.handle r.fields)) (at (inside g f rs) (g h)) ≡ option_map (f h) (cond b (Some r.fields) (at rs h))
+      by_handle : live_object (inside g f rs) (g h) ≡ option_map (f h) (live_object rs h) → (b : Bool) → (r.handle == h) ≡ b → cond b (Some (f r.handle r.fields)) (live_object (inside g f rs) (g h)) ≡ option_map (f h) (cond b (Some r.fields) (live_object rs h))
       by_handle rest true e = ap (λ (k : ℕ). Some (f k r.fields)) (eqb-true r.handle h e)
       by_handle rest false e = rest
 
-      by_live : at (inside g f rs) (g h) ≡ option_map (f h) (at rs h) → (b : Bool) →
+      by_live : live_object (inside g f rs) (g h) ≡ option_map (f h) (live_object rs h) → (b : Bool) →
           lookup (cond b ((g r.handle, f r.handle r.fields) ∷ live_of (inside g f rs)) (live_of (inside g f rs))) (g h) ≡ option_map (f h) (lookup (cond b ((r.handle, r.fields) ∷ live_of rs) (live_of rs)) h)
-      by_live rest true = ap (λ (b : Bool). cond b (Some (f r.handle r.fields)) (at (inside g f rs) (g h))) (same_test g r.handle h a.0) ∙ by_handle rest (r.handle == h) refl
+      by_live rest true = ap (λ (b : Bool). cond b (Some (f r.handle r.fields)) (live_object (inside g f rs) (g h))) (same_test g r.handle h a.0) ∙ by_handle rest (r.handle == h) refl
       by_live rest false = rest
 
   -- the live object of a handle changes

@@ -3,7 +3,7 @@ use Rattle.std.proofs.Common.{◌≡◌, ℕ, ◌+◌, Bool, true, false, not, �
 use Rattle.std.specs.Prelude.{◌==◌}
 use Rattle.std.proofs.lemmas.Bool.{eqb-true}
 use Rattle.handle_pool.specs.Slots.{slot_of, generation_of}
-use Rattle.handle_pool.specs.Issued.{Listed, how_many, live_of, lookup, at, issue, change, with_fields, update, retire, listed, issued_at, retired}
+use Rattle.handle_pool.specs.Issued.{Listed, how_many, live_of, lookup, live_object, issue, change, with_fields, update, retire, listed, issued_at, retired}
 use Rattle.handle_pool.specs.Stands.{Distinct}
 use Rattle.handle_pool.proofs.LiveLemmas.{pairs_changed, pairs_without, lookup-changed, lookup-without, lookup-append, Distinct-append, Distinct-changed, Distinct-without, length-changed, how_many-without}
 
@@ -35,10 +35,10 @@ module _ {T : Type 0} where
   live_of-issue h v [] = refl
   live_of-issue h v (r ∷ rs) = cond_append r.live (r.handle, r.fields) _ (live_of rs) ((h, v) ∷ []) (live_of-issue h v rs)
 
-  abbrev front : Listed T → List (ℕ × T) → List (ℕ × T)
-  front r xs = cond r.live ((r.handle, r.fields) ∷ xs) xs
+  abbrev prefix : Listed T → List (ℕ × T) → List (ℕ × T)
+  prefix r xs = cond r.live ((r.handle, r.fields) ∷ xs) xs
 
-  update_one : (h : ℕ) (f : T → T) (b : Bool) (n : ℕ) (live : Bool) (v : T) (xs rs : List (Listed T)) → (n == h) ≡ b → live_of xs ≡ pairs_changed h f (live_of rs) → live_of (cond (live && b) (record { handle = n; live = live; fields = f v } ∷ rs) (record { handle = n; live = live; fields = v } ∷ xs)) ≡ pairs_changed h f (front (record { handle = n; live = live; fields = v }) (live_of rs))
+  update_one : (h : ℕ) (f : T → T) (b : Bool) (n : ℕ) (live : Bool) (v : T) (xs rs : List (Listed T)) → (n == h) ≡ b → live_of xs ≡ pairs_changed h f (live_of rs) → live_of (cond (live && b) (record { handle = n; live = live; fields = f v } ∷ rs) (record { handle = n; live = live; fields = v } ∷ xs)) ≡ pairs_changed h f (prefix (record { handle = n; live = live; fields = v }) (live_of rs))
   unfolding live_of
   update_one h f true n true v xs rs e i = ap (λ c. cond c ((n, f v) ∷ live_of rs) ((n, v) ∷ pairs_changed h f (live_of rs))) (sym e)
   update_one h f false n true v xs rs e i = ap (λ l. (n, v) ∷ l) i ∙ ap (λ c. cond c ((n, f v) ∷ live_of rs) ((n, v) ∷ pairs_changed h f (live_of rs))) (sym e)
@@ -50,7 +50,7 @@ module _ {T : Type 0} where
   live_of-update h f [] = refl
   live_of-update h f (r ∷ rs) = update_one h f (r.handle == h) r.handle r.live r.fields (update h f rs) rs refl (live_of-update h f rs)
 
-  retire_one : (h : ℕ) (b : Bool) (n : ℕ) (live : Bool) (v : T) (xs rs : List (Listed T)) → (n == h) ≡ b → live_of xs ≡ pairs_without h (live_of rs) → live_of (cond (live && b) (record { handle = n; live = false; fields = v } ∷ rs) (record { handle = n; live = live; fields = v } ∷ xs)) ≡ pairs_without h (front (record { handle = n; live = live; fields = v }) (live_of rs))
+  retire_one : (h : ℕ) (b : Bool) (n : ℕ) (live : Bool) (v : T) (xs rs : List (Listed T)) → (n == h) ≡ b → live_of xs ≡ pairs_without h (live_of rs) → live_of (cond (live && b) (record { handle = n; live = false; fields = v } ∷ rs) (record { handle = n; live = live; fields = v } ∷ xs)) ≡ pairs_without h (prefix (record { handle = n; live = live; fields = v }) (live_of rs))
   unfolding live_of
   retire_one h true n true v xs rs e i = ap (λ c. cond c (live_of rs) ((n, v) ∷ pairs_without h (live_of rs))) (sym e)
   retire_one h false n true v xs rs e i = ap (λ l. (n, v) ∷ l) i ∙ ap (λ c. cond c (live_of rs) ((n, v) ∷ pairs_without h (live_of rs))) (sym e)
@@ -64,16 +64,16 @@ module _ {T : Type 0} where
 
   -- what stands at each handle after each move
 
-  pub at-issue : (h k : ℕ) (v : T) (l : List (Listed T)) → at l h ≡ None → at (issue h v l) k ≡ cond (h == k) (Some v) (at l k)
+  pub at-issue : (h k : ℕ) (v : T) (l : List (Listed T)) → live_object l h ≡ None → live_object (issue h v l) k ≡ cond (h == k) (Some v) (live_object l k)
   at-issue h k v l off = ap (λ es. lookup es k) (live_of-issue h v l) ∙ lookup-append h k v (live_of l) off
 
-  pub at-update : (h k : ℕ) (f : T → T) (v : T) (l : List (Listed T)) → at l h ≡ Some v → at (update h f l) k ≡ cond (h == k) (Some (f v)) (at l k)
+  pub at-update : (h k : ℕ) (f : T → T) (v : T) (l : List (Listed T)) → live_object l h ≡ Some v → live_object (update h f l) k ≡ cond (h == k) (Some (f v)) (live_object l k)
   at-update h k f v l is = ap (λ es. lookup es k) (live_of-update h f l) ∙ lookup-changed h k f v (live_of l) is
 
-  pub at-retire : (h k : ℕ) (l : List (Listed T)) → Distinct (live_of l) → at (retire h l) k ≡ cond (h == k) None (at l k)
+  pub at-retire : (h k : ℕ) (l : List (Listed T)) → Distinct (live_of l) → live_object (retire h l) k ≡ cond (h == k) None (live_object l k)
   at-retire h k l d = ap (λ es. lookup es k) (live_of-retire h l) ∙ lookup-without h k (live_of l) d
 
-  pub Distinct-issue : (h : ℕ) (v : T) (l : List (Listed T)) → Distinct (live_of l) → at l h ≡ None → Distinct (live_of (issue h v l))
+  pub Distinct-issue : (h : ℕ) (v : T) (l : List (Listed T)) → Distinct (live_of l) → live_object l h ≡ None → Distinct (live_of (issue h v l))
   Distinct-issue h v l d off = rw (live_of-issue h v l) (Distinct-append h v (live_of l) d off)
 
   pub Distinct-update : (h : ℕ) (f : T → T) (l : List (Listed T)) → Distinct (live_of l) → Distinct (live_of (update h f l))
@@ -96,7 +96,7 @@ module _ {T : Type 0} where
   pub length-update : (h : ℕ) (f : T → T) (l : List (Listed T)) → length (live_of (update h f l)) ≡ length (live_of l)
   length-update h f l = ap length (live_of-update h f l) ∙ length-changed h f (live_of l)
 
-  pub length-retire : (h : ℕ) (v : T) (l : List (Listed T)) → at l h ≡ Some v → length (live_of l) ≡ length (live_of (retire h l)) + 1
+  pub length-retire : (h : ℕ) (v : T) (l : List (Listed T)) → live_object l h ≡ Some v → length (live_of l) ≡ length (live_of (retire h l)) + 1
   length-retire h v l is =
       let out = how_many-without (λ _. true) h v (live_of l) is in
       let left = ap length (live_of-retire h l) in
@@ -142,7 +142,7 @@ module _ {T : Type 0} where
   unfolding issued_at
   issued_at-slot h l = ap (λ s. how_many (λ r. slot_of r.handle == s) l) (slot_of-slot h)
 
-  retired_one : (last h : ℕ) (b : Bool) (n : ℕ) (live : Bool) (v w : T) (xs rs : List (Listed T)) → (n == h) ≡ b → lookup (front (record { handle = n; live = live; fields = v }) (live_of rs)) h ≡ Some w → (lookup (live_of rs) h ≡ Some w → retired last xs ≡ retired last rs + cond (generation_of h == last) 1 0) → retired last (cond (live && b) (record { handle = n; live = false; fields = v } ∷ rs) (record { handle = n; live = live; fields = v } ∷ xs)) ≡ retired last (record { handle = n; live = live; fields = v } ∷ rs) + cond (generation_of h == last) 1 0
+  retired_one : (last h : ℕ) (b : Bool) (n : ℕ) (live : Bool) (v w : T) (xs rs : List (Listed T)) → (n == h) ≡ b → lookup (prefix (record { handle = n; live = live; fields = v }) (live_of rs)) h ≡ Some w → (lookup (live_of rs) h ≡ Some w → retired last xs ≡ retired last rs + cond (generation_of h == last) 1 0) → retired last (cond (live && b) (record { handle = n; live = false; fields = v } ∷ rs) (record { handle = n; live = live; fields = v } ∷ xs)) ≡ retired last (record { handle = n; live = live; fields = v } ∷ rs) + cond (generation_of h == last) 1 0
   unfolding retired
   retired_one last h true n true v w xs rs e is more =
       let same : retired last (record { handle = n; live = false; fields = v } ∷ rs) ≡ cond (generation_of h == last) 1 0 + retired last rs = ap (λ k. cond (generation_of k == last) 1 0 + retired last rs) (eqb-true n h e) in
@@ -151,18 +151,18 @@ module _ {T : Type 0} where
   retired_one last h true n false v w xs rs e is more = let rest = more is in omega (arith, rest)
   retired_one last h false n false v w xs rs e is more = let rest = more is in omega (arith, rest)
 
-  pub retired-retire : (last h : ℕ) (v : T) (l : List (Listed T)) → at l h ≡ Some v → retired last (retire h l) ≡ retired last l + cond (generation_of h == last) 1 0
+  pub retired-retire : (last h : ℕ) (v : T) (l : List (Listed T)) → live_object l h ≡ Some v → retired last (retire h l) ≡ retired last l + cond (generation_of h == last) 1 0
   unfolding live_of change
   retired-retire last h v [] is = absurd (cc)
   retired-retire last h v (r ∷ rs) is = retired_one last h (r.handle == h) r.handle r.live r.fields v (retire h rs) rs refl is (λ more. retired-retire last h v rs more)
 
   -- a change of a handle that isn't live is none
-  pub change-none : (h : ℕ) (f : Listed T → Listed T) (l : List (Listed T)) → at l h ≡ None → change h f l ≡ l
+  pub change-none : (h : ℕ) (f : Listed T → Listed T) (l : List (Listed T)) → live_object l h ≡ None → change h f l ≡ l
   unfolding live_of change
   change-none h f [] off = refl
   change-none h f (r ∷ rs) off = none_one h f (r.handle == h) r.handle r.live r.fields rs refl off (λ more. change-none h f rs more)
     where
-      none_one : (h : ℕ) (f : Listed T → Listed T) (b : Bool) (n : ℕ) (live : Bool) (v : T) (rs : List (Listed T)) → (n == h) ≡ b → lookup (front (record { handle = n; live = live; fields = v }) (live_of rs)) h ≡ None → (lookup (live_of rs) h ≡ None → change h f rs ≡ rs) → cond (live && b) (f (record { handle = n; live = live; fields = v }) ∷ rs) (record { handle = n; live = live; fields = v } ∷ change h f rs) ≡ record { handle = n; live = live; fields = v } ∷ rs
+      none_one : (h : ℕ) (f : Listed T → Listed T) (b : Bool) (n : ℕ) (live : Bool) (v : T) (rs : List (Listed T)) → (n == h) ≡ b → lookup (prefix (record { handle = n; live = live; fields = v }) (live_of rs)) h ≡ None → (lookup (live_of rs) h ≡ None → change h f rs ≡ rs) → cond (live && b) (f (record { handle = n; live = live; fields = v }) ∷ rs) (record { handle = n; live = live; fields = v } ∷ change h f rs) ≡ record { handle = n; live = live; fields = v } ∷ rs
       none_one h f true n true v rs e off more = let found = ap (λ b. cond b (Some v) (lookup (live_of rs) h)) e in absurd (cc)
       none_one h f false n true v rs e off more = ap (λ l. record { handle = n; live = true; fields = v } ∷ l) (more (sym (ap (λ b. cond b (Some v) (lookup (live_of rs) h)) e) ∙ off))
       none_one h f true n false v rs e off more = ap (λ l. record { handle = n; live = false; fields = v } ∷ l) (more off)

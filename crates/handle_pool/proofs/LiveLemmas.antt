@@ -3,7 +3,7 @@ use Rattle.std.proofs.Common.{◌≡◌, ℕ, suc, ◌+◌, Bool, true, false, c
 use Rattle.std.specs.Prelude.{◌==◌}
 use Rattle.std.proofs.lemmas.Bool.{eqb-true, eq-eqb}
 use Rattle.std.proofs.lemmas.Bool.Decides.{nat_tests}
-use Rattle.handle_pool.specs.Issued.{how_many, lookup, any_live, first_live}
+use Rattle.handle_pool.specs.Issued.{how_many, lookup, any_live, first_handle}
 use Rattle.handle_pool.specs.Stands.{Distinct}
 
 -- three handles can't be so
@@ -182,28 +182,28 @@ module _ {T : Type 0} where
   any_live-at q (x ∷ es) h v e holds = here q (x.0 == h) x.1 v es h e holds (λ more. any_live-at q es h v more holds)
 
   -- the first that passes is one of those that pass
-  pub first_live-passes : (q : T → Bool) (es : List (ℕ × T)) (h : ℕ) → Distinct es → first_live q es ≡ Some h → (v : T) × (lookup es h ≡ Some v) × (q v ≡ true)
+  pub first_live-passes : (q : T → Bool) (es : List (ℕ × T)) (h : ℕ) → Distinct es → first_handle q es ≡ Some h → (v : T) × (lookup es h ≡ Some v) × (q v ≡ true)
   first_live-passes q [] h d e = absurd (cc)
   first_live-passes q (x ∷ es) h d e = pick (q x.1) refl e (λ more. first_live-passes q es h d.1 more)
     where
-      pick : (b : Bool) → q x.1 ≡ b → cond b (Some x.0) (first_live q es) ≡ Some h → (first_live q es ≡ Some h → (v : T) × (lookup es h ≡ Some v) × (q v ≡ true)) → (v : T) × (lookup (x ∷ es) h ≡ Some v) × (q v ≡ true)
+      pick : (b : Bool) → q x.1 ≡ b → cond b (Some x.0) (first_handle q es) ≡ Some h → (first_handle q es ≡ Some h → (v : T) × (lookup es h ≡ Some v) × (q v ≡ true)) → (v : T) × (lookup (x ∷ es) h ≡ Some v) × (q v ≡ true)
       pick true is e more = let same = some_is x.0 h e in (x.1, ap (λ b. cond b (Some x.1) (lookup es h)) (eq-eqb x.0 h same), is)
       pick false is e more = let r = more e in (r.0, later h x es r.0 d.0 r.1, r.2)
 
   -- none is the first that passes exactly where none passes
-  pub first_live-any : (q : T → Bool) (es : List (ℕ × T)) → any_live q es ≡ true → (h : ℕ) × (first_live q es ≡ Some h)
+  pub first_live-any : (q : T → Bool) (es : List (ℕ × T)) → any_live q es ≡ true → (h : ℕ) × (first_handle q es ≡ Some h)
   first_live-any q [] e = absurd (cc)
   first_live-any q (x ∷ es) e = pick (q x.1) e (λ more. first_live-any q es more)
     where
-      pick : (b : Bool) → cond b true (any_live q es) ≡ true → (any_live q es ≡ true → (h : ℕ) × (first_live q es ≡ Some h)) → (h : ℕ) × (cond b (Some x.0) (first_live q es) ≡ Some h)
+      pick : (b : Bool) → cond b true (any_live q es) ≡ true → (any_live q es ≡ true → (h : ℕ) × (first_handle q es ≡ Some h)) → (h : ℕ) × (cond b (Some x.0) (first_handle q es) ≡ Some h)
       pick true e more = (x.0, refl)
       pick false e more = more e
 
-  pub first_live-none : (q : T → Bool) (es : List (ℕ × T)) → any_live q es ≡ false → first_live q es ≡ None
+  pub first_live-none : (q : T → Bool) (es : List (ℕ × T)) → any_live q es ≡ false → first_handle q es ≡ None
   first_live-none q [] e = refl
   first_live-none q (x ∷ es) e = pick (q x.1) e (λ more. first_live-none q es more)
     where
-      pick : (b : Bool) → cond b true (any_live q es) ≡ false → (any_live q es ≡ false → first_live q es ≡ None) → cond b (Some x.0) (first_live q es) ≡ None
+      pick : (b : Bool) → cond b true (any_live q es) ≡ false → (any_live q es ≡ false → first_handle q es ≡ None) → cond b (Some x.0) (first_handle q es) ≡ None
       pick true e more = absurd (cc)
       pick false e more = more e
 

@@ -2,18 +2,19 @@
 use Rattle.std.proofs.Common.{◌≡◌, ℕ, Option, Some, None, replicate, refl, sym, ap, ◌∙◌, inl, inr, Result, Ok, Err}
 use Rattle.std.specs.Result.{IfOk, OnErr}
 use Rattle.std.proofs.lemmas.Bool.{cases_eq}
-use Rattle.handle_pool.specs.Slots.{Slots, slot_of, generation_of, free_slot, get, Inserts, with_value, without, changed, NoneLive, OneEach}
+use Rattle.handle_pool.specs.Slots.{Slots, slot_of, generation_of, free_slot, slot_value, Inserts, with_value, without, changed}
+use Rattle.handle_pool.specs.Walks.{NoneLive, OneEach}
 use Rattle.handle_pool.proofs.StandsLemmas.{get-fresh}
 use Rattle.handle_pool.proofs.GetLemmas.{get-insert_same, get-insert_other, get-with_value_same, get-with_value_other, get-without_same, get-without_other}
 
 module _ {T : Type 0} (key : T → ℕ) where
   pub OneEach-new : (p : Slots T) (max : ℕ) → p.slots ≡ replicate max (free_slot 1) → OneEach key p
   OneEach-new p max fresh = record {
-    only = λ h k v w found other same. let none : get p h ≡ None = rw fresh (get-fresh max (slot_of h) (generation_of h)) in absurd (cc);
+    only = λ h k v w found other same. let none : slot_value p h ≡ None = rw fresh (get-fresh max (slot_of h) (generation_of h)) in absurd (cc);
   }
 
   -- the new value's key is that of no live one
-  pub OneEach-insert : (p new : Slots T) (handle : ℕ) (value : T) → OneEach key p → NoneLive (get p) (λ v. key v ≡ key value) → Inserts p new handle value → OneEach key new
+  pub OneEach-insert : (p new : Slots T) (handle : ℕ) (value : T) → OneEach key p → NoneLive (slot_value p) (λ v. key v ≡ key value) → Inserts p new handle value → OneEach key new
   OneEach-insert p new handle value each free inserts = record {
     only = λ h k v w found other same. elim (cases_eq h handle) [
       | inl here ↦ elim (cases_eq k handle) [
@@ -34,27 +35,27 @@ module _ {T : Type 0} (key : T → ℕ) where
   }
 
   -- the same after an insert that may have been refused
-  pub OneEach-insert_or_not : (p new : Slots T) (result : Result ℕ T) (value : T) (id : ℕ) → OneEach key p → key value ≡ id → NoneLive (get p) (λ v. key v ≡ id) → OnErr result (new ≡ p) → IfOk result (λ handle. Inserts p new handle value) → OneEach key new
+  pub OneEach-insert_or_not : (p new : Slots T) (result : Result ℕ T) (value : T) (id : ℕ) → OneEach key p → key value ≡ id → NoneLive (slot_value p) (λ v. key v ≡ id) → OnErr result (new ≡ p) → IfOk result (λ handle. Inserts p new handle value) → OneEach key new
   OneEach-insert_or_not p new (Ok handle) value id each is free unchanged inserts = OneEach-insert p new handle value each (λ h v found same. free h v found (same ∙ is)) inserts
   OneEach-insert_or_not p new (Err back) value id each is free unchanged inserts = rw unchanged each
 
   -- what was live before, with the same key
   record Was (p : Slots T) (h : ℕ) (v : T) : Type 0 where
     value : T
-    found : get p h ≡ Some value
+    found : slot_value p h ≡ Some value
     same : key value ≡ key v
 
-  was_with : (p : Slots T) (handle : ℕ) (old new : T) (h : ℕ) (v : T) → get p handle ≡ Some old → key new ≡ key old → get (with_value p handle new) h ≡ Some v → Was p h v
+  was_with : (p : Slots T) (handle : ℕ) (old new : T) (h : ℕ) (v : T) → slot_value p handle ≡ Some old → key new ≡ key old → slot_value (with_value p handle new) h ≡ Some v → Was p h v
   was_with p handle old new h v live keeps found = elim (cases_eq h handle) [
     | inl here ↦
         let read = rw (here, get-with_value_same p handle old new live) at found in
         let is : new ≡ v = cc in
-        record { value = old; found = ap (get p) here ∙ live; same = sym keeps ∙ ap key is }
+        record { value = old; found = ap (slot_value p) here ∙ live; same = sym keeps ∙ ap key is }
     | inr away ↦ record { value = v; found = sym (get-with_value_other p handle h old new live away) ∙ found; same = refl }
   ]
 
   -- the value's key stays
-  pub OneEach-with_value : (p : Slots T) (handle : ℕ) (old new : T) → OneEach key p → get p handle ≡ Some old → key new ≡ key old → OneEach key (with_value p handle new)
+  pub OneEach-with_value : (p : Slots T) (handle : ℕ) (old new : T) → OneEach key p → slot_value p handle ≡ Some old → key new ≡ key old → OneEach key (with_value p handle new)
   OneEach-with_value p handle old new each live keeps = record {
     only = λ h k v w found other same.
         let a = was_with p handle old new h v live keeps found in
@@ -63,13 +64,13 @@ module _ {T : Type 0} (key : T → ℕ) where
   }
 
   pub OneEach-changed : (p : Slots T) (handle : ℕ) (f : T → T) → OneEach key p → ((v : T) → key (f v) ≡ key v) → OneEach key (changed p handle f)
-  OneEach-changed p handle f each keeps = by_value (get p handle) refl
+  OneEach-changed p handle f each keeps = by_value (slot_value p handle) refl
     where
-      by_value : (o : Option T) → get p handle ≡ o → OneEach key (changed p handle f)
+      by_value : (o : Option T) → slot_value p handle ≡ o → OneEach key (changed p handle f)
       by_value None is = rw is each
       by_value (Some value) is = rw is (OneEach-with_value p handle value (f value) each is (keeps value))
 
-  pub OneEach-without : (p : Slots T) (handle : ℕ) (old : T) → OneEach key p → get p handle ≡ Some old → OneEach key (without p handle)
+  pub OneEach-without : (p : Slots T) (handle : ℕ) (old : T) → OneEach key p → slot_value p handle ≡ Some old → OneEach key (without p handle)
   OneEach-without p handle old each live = record {
     only = λ h k v w found other same. elim (cases_eq h handle) [
       | inl here ↦ let read = rw (here, get-without_same p handle old live) at found in absurd (cc)

@@ -7,8 +7,8 @@ use Rattle.std.proofs.lemmas.List.{length-replicate}
 use Rattle.std.proofs.lemmas.List.Sums.{sum_by-set}
 use Rattle.std.proofs.lemmas.List.Folds.{sum_by-replicate}
 use Rattle.std.proofs.lemmas.Option.{slice_get_within, get_or_from_slice_get}
-use Rattle.handle_pool.specs.Slots.{Slot, Slots, slot_of, generation_of, free_slot, used_slot, slot_after, value_at, get, is_live, is_retired, live_count, retired_count, max_of, IsFull, Inserts, without, with_value, changed}
-use Rattle.handle_pool.specs.Issued.{Listed, live_of, lookup, at, issue, with_fields, gone, update, retire, listed, issued_at, retired, is_full, may_issue}
+use Rattle.handle_pool.specs.Slots.{Slot, Slots, slot_of, generation_of, free_slot, used_slot, slot_after, value_at, slot_value, is_live, is_retired, live_count, retired_count, max_of, IsFull, Inserts, without, with_value, changed}
+use Rattle.handle_pool.specs.Issued.{Listed, live_of, lookup, live_object, issue, with_fields, gone, update, retire, listed, issued_at, retired, is_full, may_issue}
 use Rattle.handle_pool.specs.Stands.{Distinct, SlotStands, HadTurn, Stands}
 use Rattle.handle_pool.proofs.ListReads.{slice_get-set_same, slice_get-set_other}
 use Rattle.handle_pool.proofs.ListedLemmas.{at-issue, at-update, at-retire, Distinct-issue, Distinct-update, Distinct-retire, length-issue, length-update, length-retire, listed-change, issued_at-change, retired-update, listed-issue, issued_at-issue, retired-issue, issued_at-slot, retired-retire, change-none}
@@ -93,7 +93,7 @@ module _ {T : Type 0} where
         | inr some ↦ absurd (omega (arith, stands.turns h some, slot.generation, issued_at-slot h l))
       ]
 
-  off : (p : Slots T) (l : List (Listed T)) (h : ℕ) (value : T) (new : Slots T) → Stands p l → Inserts p new h value → at l h ≡ None
+  off : (p : Slots T) (l : List (Listed T)) (h : ℕ) (value : T) (new : Slots T) → Stands p l → Inserts p new h value → live_object l h ≡ None
   off p l h value new stands inserts =
       sym (stands.found h) ∙ rw inserts.was_free (value_at-none (free_slot (generation_of h)) (generation_of h) refl)
 
@@ -117,7 +117,7 @@ module _ {T : Type 0} where
           | inl same ↦ rw (same, slice_get-set_same p.slots place used _ inserts.was_free, at-issue h h value l none, eq-eqb h h refl) (value_at-used_same (generation_of h) value)
           | inr differs ↦ rw (at-issue h k value l none, ne_eqb h k (λ is. differs (sym is))) (elim (cases_eq (slot_of k) place) [
             | inl beside ↦
-                let read : get p k ≡ None = rw (beside, inserts.was_free) (value_at-none (free_slot (generation_of h)) (generation_of k) refl) in
+                let read : slot_value p k ≡ None = rw (beside, inserts.was_free) (value_at-none (free_slot (generation_of h)) (generation_of k) refl) in
                 rw (beside, slice_get-set_same p.slots place used _ inserts.was_free)
                 (value_at-used_other (generation_of h) (generation_of k) value (λ turn. differs (same_handle k h beside turn)) ∙ sym read ∙ stands.found k)
             | inr apart ↦ rw (slice_get-set_other p.slots place (slot_of k) used apart) (stands.found k)
@@ -179,7 +179,7 @@ module _ {T : Type 0} where
     count : generation_of h ≡ issued_at (slot_of h) l
     at_most : generation_of h ≤ p.generations
 
-  at_live : (p : Slots T) (l : List (Listed T)) (h : ℕ) (value : T) → Stands p l → get p h ≡ Some value → AtLive p l h value
+  at_live : (p : Slots T) (l : List (Listed T)) (h : ℕ) (value : T) → Stands p l → slot_value p h ≡ Some value → AtLive p l h value
   at_live p l h value stands found =
       let slot = used_at_live (slice_get p.slots (slot_of h)) (generation_of h) value found in
       let was = stands.slots (slot_of h) slot.0 slot.1 in
@@ -195,9 +195,9 @@ module _ {T : Type 0} where
 
   -- another slot in a live handle's place, and what has become of the list
   record Replaces (last h : ℕ) (l new : List (Listed T)) (slot : Slot T) : Type 0 where
-    same : value_at (Some slot) (generation_of h) ≡ at new h
+    same : value_at (Some slot) (generation_of h) ≡ live_object new h
     none : (other : ℕ) → other ≢ generation_of h → value_at (Some slot) other ≡ None
-    others : (k : ℕ) → k ≢ h → at new k ≡ at l k
+    others : (k : ℕ) → k ≢ h → live_object new k ≡ live_object l k
     distinct : Distinct (live_of new)
     stands : SlotStands last (issued_at (slot_of h) l) slot
     listed_as_before : (k : ℕ) → listed k new ≡ listed k l
@@ -214,7 +214,7 @@ module _ {T : Type 0} where
           | inr differs ↦ rw (replaces.others k differs) (elim (cases_eq (slot_of k) place) [
             | inl beside ↦
                 let apart : generation_of k ≢ generation_of h = λ turn. differs (same_handle k h beside turn) in
-                let was : get p k ≡ None = rw (beside, at.read) (value_at-turned at.slot (generation_of k) (λ turn. apart (turn ∙ at.turn))) in
+                let was : slot_value p k ≡ None = rw (beside, at.read) (value_at-turned at.slot (generation_of k) (λ turn. apart (turn ∙ at.turn))) in
                 rw (beside, slice_get-set_same p.slots place slot _ at.read) (replaces.none (generation_of k) apart ∙ sym was ∙ stands.found k)
             | inr apart ↦ rw (slice_get-set_other p.slots place (slot_of k) slot apart) (stands.found k)
           ])
@@ -242,7 +242,7 @@ module _ {T : Type 0} where
       }
 
   -- a change in place is an update
-  pub Stands-update : (p : Slots T) (l : List (Listed T)) (h : ℕ) (f : T → T) (value : T) → Stands p l → get p h ≡ Some value → Stands (with_value p h (f value)) (update h f l)
+  pub Stands-update : (p : Slots T) (l : List (Listed T)) (h : ℕ) (f : T → T) (value : T) → Stands p l → slot_value p h ≡ Some value → Stands (with_value p h (f value)) (update h f l)
   Stands-update p l h f value stands found =
       let at = at_live p l h value stands found in
       let listed_at = sym (stands.found h) ∙ found in
@@ -260,13 +260,13 @@ module _ {T : Type 0} where
 
   -- the same, where the handle may not be live
   pub Stands-changed : (p : Slots T) (l : List (Listed T)) (h : ℕ) (f : T → T) → Stands p l → Stands (changed p h f) (update h f l)
-  Stands-changed p l h f stands = by_value (get p h) refl
+  Stands-changed p l h f stands = by_value (slot_value p h) refl
     where
-      by_value : (o : Option T) → get p h ≡ o → Stands (changed p h f) (update h f l)
+      by_value : (o : Option T) → slot_value p h ≡ o → Stands (changed p h f) (update h f l)
       by_value None is = rw (is, change-none h (with_fields f) l (sym (stands.found h) ∙ is)) stands
       by_value (Some value) is = rw is (Stands-update p l h f value stands is)
 
-  Replaces-retire : (p : Slots T) (l : List (Listed T)) (h : ℕ) (value : T) (slot : Slot T) → Stands p l → get p h ≡ Some value → slot.value ≡ None → SlotStands p.generations (issued_at (slot_of h) l) slot → is_retired slot ≡ (generation_of h == p.generations) → Replaces p.generations h l (retire h l) slot
+  Replaces-retire : (p : Slots T) (l : List (Listed T)) (h : ℕ) (value : T) (slot : Slot T) → Stands p l → slot_value p h ≡ Some value → slot.value ≡ None → SlotStands p.generations (issued_at (slot_of h) l) slot → is_retired slot ≡ (generation_of h == p.generations) → Replaces p.generations h l (retire h l) slot
   Replaces-retire p l h value slot stands found empty slot_stands last =
       let listed_at = sym (stands.found h) ∙ found in
       let one : Bool → ℕ = λ b. cond b 1 0 in
@@ -284,7 +284,7 @@ module _ {T : Type 0} where
       }
 
   -- a removal retires the object
-  pub Stands-remove : (p : Slots T) (l : List (Listed T)) (h : ℕ) (value : T) → Stands p l → get p h ≡ Some value → Stands (without p h) (retire h l)
+  pub Stands-remove : (p : Slots T) (l : List (Listed T)) (h : ℕ) (value : T) → Stands p l → slot_value p h ≡ Some value → Stands (without p h) (retire h l)
   Stands-remove p l h value stands found =
       let at = at_live p l h value stands found in
       Stands-replace p l (retire h l) h value (slot_after p.generations (generation_of h)) stands at (elim (eqb_tells (generation_of h) p.generations) [
@@ -298,10 +298,10 @@ module _ {T : Type 0} where
   set-set (s ∷ slots) (suc place) a b = ap (λ rest. s ∷ rest) (set-set slots place a b)
 
   -- an object that changes and stops being live at once: the change leaves nothing in its slot
-  pub Stands-change_and_remove : (p : Slots T) (l : List (Listed T)) (h : ℕ) (f : T → T) (value : T) → Stands p l → get p h ≡ Some value → Stands (without p h) (retire h (update h f l))
+  pub Stands-change_and_remove : (p : Slots T) (l : List (Listed T)) (h : ℕ) (f : T → T) (value : T) → Stands p l → slot_value p h ≡ Some value → Stands (without p h) (retire h (update h f l))
   Stands-change_and_remove p l h f value stands found =
       let at = at_live p l h value stands found in
-      let read : get (with_value p h (f value)) h ≡ Some (f value) = rw (slice_get-set_same p.slots (slot_of h) (used_slot (generation_of h) (f value)) _ at.read) (value_at-used_same (generation_of h) (f value)) in
+      let read : slot_value (with_value p h (f value)) h ≡ Some (f value) = rw (slice_get-set_same p.slots (slot_of h) (used_slot (generation_of h) (f value)) _ at.read) (value_at-used_same (generation_of h) (f value)) in
       let removed = Stands-remove (with_value p h (f value)) (update h f l) h (f value) (Stands-update p l h f value stands found) read in
       rw (set-set p.slots (slot_of h) (used_slot (generation_of h) (f value)) (slot_after p.generations (generation_of h))) at removed
 
@@ -320,7 +320,7 @@ module _ {T : Type 0} where
   IsFull-room p l stands room = is_full-same p l stands ∙ ne_eqb (live_count p + retired_count p) (max_of p) room
 
   -- a listed handle that isn't live has a generation below that of its slot, or its slot has retired
-  pub gone_below : (p : Slots T) (l : List (Listed T)) (h : ℕ) (slot : Slot T) → Stands p l → 1 ≤ listed h l → at l h ≡ None → slice_get p.slots (slot_of h) ≡ Some slot → (generation_of h < slot.generation) ⊎ ((slot.retired ≡ true) × (generation_of h ≡ p.generations))
+  pub gone_below : (p : Slots T) (l : List (Listed T)) (h : ℕ) (slot : Slot T) → Stands p l → 1 ≤ listed h l → live_object l h ≡ None → slice_get p.slots (slot_of h) ≡ Some slot → (generation_of h < slot.generation) ⊎ ((slot.retired ≡ true) × (generation_of h ≡ p.generations))
   gone_below p l h slot stands some off read = by_case slot.value refl slot.retired refl (stands.slots (slot_of h) slot read) (stands.turns h some)
     where
       by_case : (o : Option T) → slot.value ≡ o → (b : Bool) → slot.retired ≡ b → SlotStands p.generations (issued_at (slot_of h) l) slot → HadTurn (max_of p) (generation_of h) (issued_at h l) (slot_of h) → (generation_of h < slot.generation) ⊎ ((slot.retired ≡ true) × (generation_of h ≡ p.generations))
@@ -335,7 +335,7 @@ module _ {T : Type 0} where
             | inl below ↦ inl below
             | inr not_below ↦
                 let same : slot.generation ≡ generation_of h = omega (arith, had.at_most) in
-                let found : get p h ≡ Some value = rw (read, same, eq-eqb (generation_of h) (generation_of h) refl) has in
+                let found : slot_value p h ≡ Some value = rw (read, same, eq-eqb (generation_of h) (generation_of h) refl) has in
                 let clash = sym found ∙ stands.found h ∙ off in
                 absurd (cc)
           ]

@@ -1,7 +1,7 @@
 -- Calls of a pool, one after another, as its contracts tell them and as the list of issued objects does.
 use Rattle.std.specs.Prelude.{◌≡◌, ◌≢◌, ℕ, ◌≤◌, true, false, List, [], ◌∷◌, Some, None, replicate}
-use Rattle.handle_pool.specs.Slots.{Slots, free_slot, get, IsFull, Inserts, without, with_value}
-use Rattle.handle_pool.specs.Issued.{Listed, at, issue, update, retire, is_full, may_issue}
+use Rattle.handle_pool.specs.Slots.{Slots, free_slot, slot_value, IsFull, Inserts, without, with_value}
+use Rattle.handle_pool.specs.Issued.{Listed, live_object, issue, update, retire, is_full, may_issue}
 use Rattle.handle_pool.specs.Stands.{Stands}
 
 -- what a call was given and what it answered
@@ -20,9 +20,9 @@ module _ {T : Type 0} where
   abbrev pub SlotsStep : Slots T → Call T → Slots T → Type 0
   SlotsStep old (Inserted value handle) new = (IsFull old → ⊥) × Inserts old new handle value
   SlotsStep old (Refused value) new = IsFull old × (new ≡ old)
-  SlotsStep old (Removed handle value) new = (get old handle ≡ Some value) × (new ≡ without old handle)
-  SlotsStep old (NotThere handle) new = (get old handle ≡ None) × (new ≡ old)
-  SlotsStep old (Wrote handle was now) new = (get old handle ≡ Some was) × (new ≡ with_value old handle now)
+  SlotsStep old (Removed handle value) new = (slot_value old handle ≡ Some value) × (new ≡ without old handle)
+  SlotsStep old (NotThere handle) new = (slot_value old handle ≡ None) × (new ≡ old)
+  SlotsStep old (Wrote handle was now) new = (slot_value old handle ≡ Some was) × (new ≡ with_value old handle now)
 
   -- these calls lead from the one pool to the other
   abbrev pub SlotsRun : Slots T → List (Call T) → Slots T → Type 0
@@ -33,9 +33,9 @@ module _ {T : Type 0} where
   abbrev pub MayAnswer : ℕ → ℕ → List (Listed T) → Call T → Type 0
   MayAnswer max generations l (Inserted value handle) = (is_full generations max l ≡ false) × (may_issue generations handle l ≡ true)
   MayAnswer max generations l (Refused value) = is_full generations max l ≡ true
-  MayAnswer max generations l (Removed handle value) = at l handle ≡ Some value
-  MayAnswer max generations l (NotThere handle) = at l handle ≡ None
-  MayAnswer max generations l (Wrote handle was now) = at l handle ≡ Some was
+  MayAnswer max generations l (Removed handle value) = live_object l handle ≡ Some value
+  MayAnswer max generations l (NotThere handle) = live_object l handle ≡ None
+  MayAnswer max generations l (Wrote handle was now) = live_object l handle ≡ Some was
 
   -- the list after a call
   abbrev pub list_after : List (Listed T) → Call T → List (Listed T)
@@ -78,7 +78,7 @@ module _ {T : Type 0} where
     -- each answer is one that the list allows: a refusal exactly where the live and the retired ones are max
     pub run : ListRun max generations [] calls
     -- `get` gives the value exactly of the live handles
-    pub found : (handle : ℕ) → get last handle ≡ at (list_after_all [] calls) handle
+    pub found : (handle : ℕ) → slot_value last handle ≡ live_object (list_after_all [] calls) handle
     -- no handle is issued twice
     pub none_twice : NoneTwice calls
     pub stands : Stands last (list_after_all [] calls)

@@ -25,8 +25,8 @@ module _ {T : Type 0} where
   lookup (e ∷ es) h = if e.0 == h then Some e.1 else lookup es h
 
   -- the live object of this handle
-  abbrev pub at : List (Listed T) → ℕ → Option T
-  at l h = lookup (live_of l) h
+  abbrev pub live_object : List (Listed T) → ℕ → Option T
+  live_object l h = lookup (live_of l) h
 
   -- one of these objects passes
   abbrev pub any_live : (T → Bool) → List (ℕ × T) → Bool
@@ -34,13 +34,13 @@ module _ {T : Type 0} where
   any_live p (e ∷ es) = if p e.1 then true else any_live p es
 
   -- some live object passes
-  abbrev pub any : (T → Bool) → List (Listed T) → Bool
-  any p l = any_live p (live_of l)
+  abbrev pub any_listed : (T → Bool) → List (Listed T) → Bool
+  any_listed p l = any_live p (live_of l)
 
   -- the handle of the first of these objects that passes
-  abbrev pub first_live : (T → Bool) → List (ℕ × T) → Option ℕ
-  first_live p [] = None
-  first_live p (e ∷ es) = if p e.1 then Some e.0 else first_live p es
+  abbrev pub first_handle : (T → Bool) → List (ℕ × T) → Option ℕ
+  first_handle p [] = None
+  first_handle p (e ∷ es) = if p e.1 then Some e.0 else first_handle p es
 
   -- the handles of these objects that pass, in their order
   abbrev pub handles_of : (T → Bool) → List (ℕ × T) → List ℕ
@@ -48,8 +48,8 @@ module _ {T : Type 0} where
   handles_of p (e ∷ es) = if p e.1 then e.0 ∷ handles_of p es else handles_of p es
 
   -- the live objects that pass are so many
-  abbrev pub count : (T → Bool) → List (Listed T) → ℕ
-  count p l = how_many (λ r. r.live && p r.fields) l
+  abbrev pub count_listed : (T → Bool) → List (Listed T) → ℕ
+  count_listed p l = how_many (λ r. r.live && p r.fields) l
 
   -- a new live object at the end
   unfoldable pub issue : ℕ → T → List (Listed T) → List (Listed T)

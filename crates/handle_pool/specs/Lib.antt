@@ -1,4 +1,5 @@
 pub mod Slots
+pub mod Walks
 pub mod Place
 pub mod PlaceLends
 pub mod Lends

@@ -1,5 +1,5 @@
 -- What a contract sees of a `Pool`.
-use Rattle.std.specs.Prelude.{◌≡◌, ℕ, ◌+◌, ◌*◌, ◌/◌, ◌%◌, ◌^◌, ◌<◌, ◌==◌, Bool, true, false, List, length, Option, Some, None, is_some, count_by, slice_get, slice_set, refl, if◌then◌else◌}
+use Rattle.std.specs.Prelude.{◌≡◌, ℕ, ◌+◌, ◌*◌, ◌/◌, ◌%◌, ◌^◌, ◌==◌, Bool, true, false, List, length, Option, Some, None, is_some, count_by, slice_get, slice_set, refl, if◌then◌else◌}
 use Rattle.std.specs.Option.{option_map}
 use Rattle.std.specs.Coded.{Coded, code_by, coded×, coded_ℕ, coded_bool, coded_list, coded_option}
 
@@ -63,8 +63,8 @@ module _ {T : Type 0} where
   value_at (Some slot) generation = if slot.generation == generation then slot.value else None
 
   -- the value of a live handle
-  abbrev pub get : Slots T → ℕ → Option T
-  get p handle = value_at (slice_get p.slots (slot_of handle)) (generation_of handle)
+  abbrev pub slot_value : Slots T → ℕ → Option T
+  slot_value p handle = value_at (slice_get p.slots (slot_of handle)) (generation_of handle)
 
   abbrev pub is_live : Slot T → Bool
   is_live slot = is_some slot.value
@@ -110,38 +110,6 @@ module _ {T : Type 0} where
       handle_in None = None
       handle_in (Some value) = Some (slot.generation * 2 ^ 32 + place, value)
 
-  -- a slot in use has a value that passes
-  abbrev pub value_passes : (T → Bool) → Slot T → Bool
-  value_passes q slot = passes slot.value
-    where
-      passes : Option T → Bool
-      passes None = false
-      passes (Some value) = q value
-
-  -- how many slots in use have a value that passes
-  abbrev pub count_in : (T → Bool) → Slots T → ℕ
-  count_in q p = count_by (value_passes q) p.slots
-
-  -- some live handle has a value of which this holds
-  abbrev pub SomeLive : (ℕ → Option T) → (T → Type 0) → Type 0
-  SomeLive at P = (handle : ℕ) × (value : T) × (at handle ≡ Some value) × P value
-
-  -- no live handle has one
-  abbrev pub NoneLive : (ℕ → Option T) → (T → Type 0) → Type 0
-  NoneLive at P = (handle : ℕ) (value : T) → at handle ≡ Some value → P value → ⊥
-
-  -- no live handle of a slot below this place has one
-  abbrev pub NoneBelow : Slots T → ℕ → (T → Type 0) → Type 0
-  NoneBelow p place P = (handle : ℕ) (value : T) → slot_of handle < place → get p handle ≡ Some value → P value → ⊥
-
-  -- a live handle has a value of which this holds
-  abbrev pub HasLive : Slots T → ℕ → (T → Type 0) → Type 0
-  HasLive p handle P = (value : T) × (get p handle ≡ Some value) × P value
-
-  -- no two live values have one key
-  pub record OneEach (key : T → ℕ) (p : Slots T) : Type 0 where
-    pub only : (h k : ℕ) (v w : T) → get p h ≡ Some v → get p k ≡ Some w → key v ≡ key w → h ≡ k
-
   -- the slots once the value of a handle, if it is live, has become another
   abbrev pub put : Slots T → ℕ → Option T → Slots T
   put p handle None = p
@@ -149,4 +117,4 @@ module _ {T : Type 0} where
 
   -- the slots once the value of a handle, if it is live, has changed so
   abbrev pub changed : Slots T → ℕ → (T → T) → Slots T
-  changed p handle f = put p handle (option_map f (get p handle))
+  changed p handle f = put p handle (option_map f (slot_value p handle))

@@ -1,7 +1,7 @@
 -- What it means that slots, which are used again, stand for a list of objects that only grows.
 use Rattle.std.specs.Prelude.{◌≡◌, ℕ, ◌+◌, ◌<◌, ◌≤◌, Bool, true, false, List, [], ◌∷◌, length, Option, Some, None, slice_get}
-use Rattle.handle_pool.specs.Slots.{Slot, Slots, slot_of, generation_of, get, live_count, retired_count, max_of}
-use Rattle.handle_pool.specs.Issued.{Listed, live_of, lookup, at, listed, issued_at, retired}
+use Rattle.handle_pool.specs.Slots.{Slot, Slots, slot_of, generation_of, slot_value, live_count, retired_count, max_of}
+use Rattle.handle_pool.specs.Issued.{Listed, live_of, lookup, live_object, listed, issued_at, retired}
 
 -- a handle of this slot and generation was issued: there is such a slot, and it had so many turns
 pub record HadTurn (size generation turns slot : ℕ) : Type 0 where
@@ -31,7 +31,7 @@ module _ {T : Type 0} where
   -- the slots stand for the list
   pub record Stands (p : Slots T) (l : List (Listed T)) : Type 0 where
     -- the live handles are the same, with the same fields
-    pub found : (h : ℕ) → get p h ≡ at l h
+    pub found : (h : ℕ) → slot_value p h ≡ live_object l h
     -- no two live objects have one handle
     pub distinct : Distinct (live_of l)
     -- each slot's generation is the number of objects issued there, and one more where it is empty and not retired

@@ -7,7 +7,7 @@
 ghost use Rattle.std.specs.Prelude.{◌≡◌, ◌+◌, ◌*◌, ◌/◌, ◌^◌, ◌<◌, ◌≤◌, ◌==◌, ◌↔◌, [], map, length, IsTrue, IsOk, IsErr, IsSome, OnSome, IfNone, IfOk, IfErr, IfSome, OnOk, OnErr, Some, option_copied, slice_get, slice_set, ℕ, replicate, vec_len};
 ghost use Rattle.std.specs.Option.{option_copied_mut, option_map};
 ghost use Rattle.std.specs.Borrow.{Lends, sem};
-ghost use Rattle.handle_pool.specs.Slots.{get, value_at, slot_of, generation_of, free_slot, live_count, retired_count, max_of, IsFull, Inserts, without, with_value, used_at};
+ghost use Rattle.handle_pool.specs.Slots.{slot_value, value_at, slot_of, generation_of, free_slot, live_count, retired_count, max_of, IsFull, Inserts, without, with_value, used_at};
 ghost use Rattle.handle_pool.specs.Calls.{PoolLaw};
 ghost use Rattle.handle_pool.specs.Place.{slot_in};
 
@@ -54,7 +54,7 @@ impl<T> Pool<T> {
     ghost use Rattle.handle_pool.specs.Lends.{lends_get, lends_value};
 
     /// A pool of `max` empty slots, 1 to 65,536, with all the memory that it will use. Each slot begins at generation 1, and retires
-    /// once a value of the generation `generations`, at least 1, is removed. Refuses for want of memory alone.
+    /// once a value of the generation `generations`, at least 1, is removed. Refuses only when out of memory.
     pub fn new(alloc: Global, max: u32, generations: u32) -> Result<Pool<T>, AllocError>
         requires some { 1 ≤ max }
         requires few { max ≤ 65536 }
@@ -74,7 +74,7 @@ impl<T> Pool<T> {
 
     /// The value of a live handle: none exactly where the handle isn't live.
     pub fn get(&self, handle: u64) -> Option<&T>
-        ensures { option_copied result ≡ get self.now handle }
+        ensures { option_copied result ≡ slot_value self.now handle }
     {
         match self.places.used((handle % SPAN) as usize) {
             Some((generation, value)) => {
@@ -91,7 +91,7 @@ impl<T> Pool<T> {
     /// The value of a live handle, for writing: none exactly where the handle isn't live.
     pub fn get_mut(&mut self, handle: u64) -> Option<&mut T>
         ensures* writes_back { sem 𝓛 (lends_get T.row self.entry handle result) }
-        ensures value { option_copied_mut result ≡ get self.old handle }
+        ensures value { option_copied_mut result ≡ slot_value self.old handle }
 
         // What was there, written back, changes nothing.
         ensures same { IfSome result (λ lent. with_value self.old handle lent.now ≡ self.old) }
@@ -104,9 +104,9 @@ impl<T> Pool<T> {
     }
 
     fn value_mut(&mut self, handle: u64) -> &mut T
-        requires { IsSome (get self.old handle) }
+        requires { IsSome (slot_value self.old handle) }
         ensures* writes_back { sem 𝓛 (lends_value T.row self.entry handle result) }
-        ensures value { get self.old handle ≡ Some result.now }
+        ensures value { slot_value self.old handle ≡ Some result.now }
         ensures same { with_value self.old handle result.now ≡ self.old }
     {
         self.places.value_mut((handle % SPAN) as usize)
@@ -114,7 +114,7 @@ impl<T> Pool<T> {
 
     /// Whether the handle is live.
     pub fn is_live(&self, handle: u64) -> bool
-        ensures { IsTrue result ↔ IsSome (get self.now handle) }
+        ensures { IsTrue result ↔ IsSome (slot_value self.now handle) }
     {
         self.get(handle).is_some()
     }
@@ -139,7 +139,7 @@ impl<T> Pool<T> {
     /// Gives up a live handle, and gives its value back: none exactly where the handle isn't live. The slot goes on to its next
     /// generation, and retires at the last one.
     pub fn remove(&mut self, handle: u64) -> Option<T>
-        ensures value { result ≡ get self.old handle }
+        ensures value { result ≡ slot_value self.old handle }
         ensures removed { OnSome result (self.new ≡ without self.old handle) }
         ensures absent { IfNone result (self.new ≡ self.old) }
     {
@@ -150,8 +150,8 @@ impl<T> Pool<T> {
     }
 
     fn take(&mut self, handle: u64) -> T
-        requires { IsSome (get self.old handle) }
-        ensures value { get self.old handle ≡ Some result }
+        requires { IsSome (slot_value self.old handle) }
+        ensures value { slot_value self.old handle ≡ Some result }
         ensures removed { self.new ≡ without self.old handle }
     {
         let place = (handle % SPAN) as usize;
@@ -201,7 +201,9 @@ impl<T> Pool<T> {
 
     /// How many slots there are, 1 to 65,536.
     pub fn max(&self) -> u32
-        ensures { result ≡ max_of self.now }
+        ensures value { result ≡ max_of self.now }
+        ensures some { 1 ≤ result }
+        ensures few { result ≤ 65536 }
     {
         self.places.len() as u32
     }

@@ -81,7 +81,7 @@ impl<T: Drop> Drop for Places<T> {
 impl<T> Places<T> {
     ghost use Rattle.handle_pool.specs.PlaceLends.{lends_place};
 
-    /// `max` free places of generation 1, each naming the next. Refuses for want of memory alone.
+    /// `max` free places of generation 1, each naming the next. Refuses only when out of memory.
     pub(crate) fn new(alloc: Global, max: u32) -> Result<Places<T>, AllocError>
         requires some { 1 ≤ max }
         requires few { max ≤ 65536 }

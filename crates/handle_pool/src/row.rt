@@ -43,7 +43,7 @@ pub(crate) fn fits<X>(room: usize) -> bool
 impl<X> Row<X> {
     ghost use Rattle.handle_pool.specs.RowLends.{lends_item, lends_items};
 
-    // A block for `room` items, none of them written. Refuses for want of memory alone.
+    // A block for `room` items, none of them written. Refuses only when out of memory.
     pub(crate) fn allocate(alloc: &Global, room: usize) -> Result<Row<X>, AllocError>
         requires { Fits X.row room × (0 < room) }
         ensures { IfOk result (λ r. (r.items ≡ []) × (r.room ≡ room)) }

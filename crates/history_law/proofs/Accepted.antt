@@ -13,10 +13,10 @@ use Rattle.mtapi_machine.specs.declared.ops.Op.TheVariants as op
 use Rattle.mtapi_machine.specs.declared.replies.Reply.{Reply}
 use Rattle.mtapi_machine.specs.declared.replies.Reply.TheVariants.{Ok, Handle, Mtapi}
 use Rattle.history.specs.Histories.{entry}
-use Rattle.handle_pool.specs.Issued.{Listed, at, listed, issue}
+use Rattle.handle_pool.specs.Issued.{Listed, live_object, listed, issue}
 use Rattle.mtapi_objects.specs.Tasks.{Task, NewTask, new_task}
-use Rattle.mtapi_machine.specs.State.{State, opening, workers, is_late}
-use Rattle.mtapi_machine.specs.Moves.{Move, starts, after_moves}
+use Rattle.mtapi_machine.specs.State.{State, opening, workers, is_past_open}
+use Rattle.mtapi_machine.specs.Moves.{Move, starts_task, after_moves}
 use Rattle.mtapi_machine.specs.Row.{Row, unless, gives, never, Allows, only, live, moves_of, after_row}
 use Rattle.mtapi_machine.specs.Rows.{row}
 use Rattle.mtapi_machine.specs.TaskRows.{asked_for, asked_of}
@@ -74,8 +74,8 @@ Lists h s = 1 ≤ listed h s.tasks
 abbrev ListsBy : State → ℕ → Reply → List Move → Type 0
 ListsBy s k x ms = Handle k ≡ x → Lists k (after_moves ms s)
 
-on_create : (s : State) (k : ℕ) (b : Bool) (t : NewTask) → AllGives (ListsBy s k) (only b (gives (Handle k) (starts k t ∷ [])))
-on_create s k b t = on_only (ListsBy s k) b (Handle k) (starts k t ∷ []) (λ m i. issue_lists k (new_task t s.starts) s.tasks)
+on_create : (s : State) (k : ℕ) (b : Bool) (t : NewTask) → AllGives (ListsBy s k) (only b (gives (Handle k) (starts_task k t ∷ [])))
+on_create s k b t = on_only (ListsBy s k) b (Handle k) (starts_task k t ∷ []) (λ m i. issue_lists k (new_task t s.starts) s.tasks)
 
 start_lists : (s : State) (who : ℕ) (o : Op) (r : Reply) (h : ℕ) → accepted_by o r ≡ Some h → Allows (row s who o r) r → Lists h (after_row s (row s who o r))
 start_lists s who (op.TaskStart job args priority cores detached group) (Handle k) h e a =
@@ -88,8 +88,8 @@ start_lists s who (op.TaskEnqueue q args cores detached group) (Handle k) h e a 
     let same : k ≡ h = cc in
     subst (λ (j : ℕ). Lists j (after_row s (row s who (op.TaskEnqueue q args cores detached group) (Handle k)))) same
     (granted (λ ms. Lists k (after_moves ms s)) (row s who (op.TaskEnqueue q args cores detached group) (Handle k)) k
-    (refl, (refl, refuses_live (at s.queues q.0) _ _ tt (λ x. (refl, (refl, (refl, (refl, (refl, (refl, (refl, refuses_only _ _ _))))))))))
-    (λ c d. on_live (ListsBy s k) (at s.queues q.0) _ _ (λ i. absurd (no_handle k (Mtapi m.ErrQueueInvalid) refl i)) (λ x f c0 c1 c2 c3 c4 c5 c6. on_create s k _ (asked_of q.0 x args cores detached group))) a)
+    (refl, (refl, refuses_live (live_object s.queues q.0) _ _ tt (λ x. (refl, (refl, (refl, (refl, (refl, (refl, (refl, refuses_only _ _ _))))))))))
+    (λ c d. on_live (ListsBy s k) (live_object s.queues q.0) _ _ (λ i. absurd (no_handle k (Mtapi m.ErrQueueInvalid) refl i)) (λ x f c0 c1 c2 c3 c4 c5 c6. on_create s k _ (asked_of q.0 x args cores detached group))) a)
 start_lists s who _ _ h e a = absurd (cc)
 
 next_lists : (s : State) (e : NodeEntry) (h : ℕ) → IsNext s e → accepted e ≡ Some h → Lists h (next s e)
@@ -117,7 +117,7 @@ snd_true true b h = h
 snd_true false b h = absurd (cc)
 
 pub final_marked : (s : State) (main : ℕ) → IsNext s (entry main op.Final Ok) → all_marked (workers s) s.stopped ≡ true
-final_marked s main n = snd_true (is_late s.phase) _ (final_reads _ (is_late s.phase && all_marked (workers s) s.stopped) _ _ _ refl refl n.allowed)
+final_marked s main n = snd_true (is_past_open s.phase) _ (final_reads _ (is_past_open s.phase && all_marked (workers s) s.stopped) _ _ _ refl refl n.allowed)
 
 final_stopped : (terms : Terms) (s : State) (main : ℕ) → 1 ≤ terms.settings.workers → s.terms ≡ terms → IsNext s (entry main op.Final Ok) → Stopped s
 final_stopped terms s main w same n =
@@ -134,7 +134,7 @@ opening_stands terms = (refl, record { dead = tt; stopped = λ f. absurd (cc); o
 pub stands_after : (terms : Terms) (L : List NodeEntry) → Stands terms (after terms L)
 stands_after terms L = after_stands terms (opening terms) L (opening_stands terms)
 
-all_after : (terms : Terms) (A B : List NodeEntry) (main : ℕ) → Legal terms (A ++ entry main op.Final Ok ∷ B) → AllEnded (after terms (A ++ entry main op.Final Ok ∷ B)).tasks
+pub all_after : (terms : Terms) (A B : List NodeEntry) (main : ℕ) → Legal terms (A ++ entry main op.Final Ok ∷ B) → AllEnded (after terms (A ++ entry main op.Final Ok ∷ B)).tasks
 unfolding LegalFrom
 all_after terms A B main h =
     let rest : LegalFrom (after terms A) (entry main op.Final Ok ∷ B) = Legal-rest (opening terms) A (entry main op.Final Ok ∷ B) h.from in
@@ -161,7 +161,7 @@ shown None i = let n : false ≡ true = i in absurd (cc)
 pub listed_once : (terms : Terms) (es : List NodeEntry) (h : ℕ) → Legal terms es → listed h (after terms es).tasks ≤ 1
 listed_once terms es h legal = (stands_after terms es).1.once h
 
--- an end that a front shows stays over every longer front
+-- an end that a prefix shows stays over every longer prefix
 pub front_stays : (terms : Terms) (es A M B : List NodeEntry) (h : ℕ) (e : TaskEnd) → Legal terms es → es ≡ A ++ (M ++ B) → end_at (after terms A).tasks h ≡ Some e → end_at (after terms (A ++ M)).tasks h ≡ Some e
 front_stays terms es A M B h e legal is i = end_later (opening terms) A M h e i
 

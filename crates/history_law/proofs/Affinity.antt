@@ -1,6 +1,6 @@
 -- Who picks a task is in the mask of the task, and in that of the action.
-use Rattle.std.proofs.Common.{◌≡◌, ℕ, Bool, true, false, cond, List, [], ◌∷◌, ◌++◌, Option, Some, None, refl, ◌∙◌, ap, subst}
-use Rattle.std.specs.Prelude.{◌&&◌, ℤ, nat_lt, not}
+use Rattle.std.proofs.Common.{◌≡◌, ℕ, ◌≤◌, arith, sym, Bool, true, false, cond, List, [], ◌∷◌, ◌++◌, Option, Some, None, refl, ◌∙◌, ap, subst}
+use Rattle.std.specs.Prelude.{◌==◌, ◌&&◌, is_some, ℤ, nat_lt, not}
 use Rattle.mtapi_values.specs.declared.kinds.Kind.{Kind}
 use Rattle.mtapi_values.specs.declared.handles.ObjectKind.TheVariants as kind
 use Rattle.mtapi_values.specs.declared.handles.TaskHandle.{TaskHandle}
@@ -11,23 +11,28 @@ use Rattle.mtapi_machine.specs.declared.terms.Terms.{Terms}
 use Rattle.mtapi_machine.specs.declared.ops.Op.{Op}
 use Rattle.mtapi_machine.specs.declared.ops.Op.TheVariants as op
 use Rattle.mtapi_machine.specs.declared.replies.Reply.{Reply}
-use Rattle.mtapi_machine.specs.declared.replies.Reply.TheVariants.{Idle, Stop, Picked, Mtapi}
+use Rattle.mtapi_machine.specs.declared.replies.Reply.TheVariants.{Handle, Idle, Stop, Picked, Mtapi}
 use Rattle.mtapi_values.specs.declared.statuses.MtapiStatus.TheVariants as m
-use Rattle.handle_pool.specs.Issued.{at, any}
-use Rattle.mtapi_objects.specs.Actions.{Action, new_action, is_eligible, has_enabled_job}
-use Rattle.mtapi_objects.specs.Tasks.{Task, NewTask, runs_on, new_task}
+use Rattle.mtapi_values.specs.declared.ends.TaskEnd.TheVariants.{Failed}
+use Rattle.handle_pool.specs.Issued.{Listed, live_object, any_listed, listed, issue, with_fields, gone}
+use Rattle.mtapi_objects.specs.Actions.{Action, new_action, with_enabled, is_eligible, has_enabled_job}
+use Rattle.mtapi_objects.specs.Tasks.{Task, NewTask, Running, runs_on, new_task, with_state, with_notes, ended}
+use Rattle.mtapi_objects.specs.Groups.{is_member, freed, let_go}
 use Rattle.mtapi_machine.specs.State.{State, opening, workers, is_new, is_stop}
-use Rattle.mtapi_machine.specs.Moves.{runs, stops}
-use Rattle.mtapi_machine.specs.Row.{Row, unless, gives, never, Allows, only, live}
+use Rattle.mtapi_machine.specs.Moves.{Move, stops, makes_action, enables, withdraws, starts_task, runs_task, ends_task, ends_waiting, notes, leaves, frees_members, lets_members_go, makes, alters, removes, apply, after_moves}
+use Rattle.mtapi_machine.specs.Row.{Row, unless, gives, never, Allows, only, live, handle_of, moves_of}
+use Rattle.mtapi_machine.specs.TaskRows.{asked_for, asked_of}
 use Rattle.mtapi_machine.specs.Rows.{row}
 use Rattle.mtapi_machine.specs.WorkRows.{is_ready, may_take, has_better, picks}
 use Rattle.mtapi_machine.specs.Legal.{NodeEntry, IsNext, next, LegalFrom, Legal, after_from, after}
-use Rattle.mtapi_machine.specs.Laws.{StartsTask}
+use Rattle.mtapi_machine.specs.Laws.{IsMade, StartsTask, MakesAction, WithdrawsAction}
 use Rattle.mtapi_machine.proofs.Lists.{Legal-front}
-use Rattle.mtapi_machine.proofs.Made.{fst_true, snd_true}
-use Rattle.history_law.specs.Words.{issues}
+use Rattle.mtapi_machine.proofs.Made.{AllGives, given, on_only, on_live, fst_true, snd_true}
+use Rattle.mtapi_machine.proofs.Moves.{by_moves, sorts_keep}
+use Rattle.history_law.specs.Words.{some_entry, makes as makes_kind, is_handle, issues}
 use Rattle.history_law.specs.Affinity.{task_mask, action_mask, ObeysMasks}
-use Rattle.history_law.proofs.Ages.{SameTask, SameAction, under_at}
+use Rattle.history_law.proofs.Ages.{SameTask, SameAction, under_at, live_listed}
+use Rattle.history_law.proofs.Handles.{listed_change, listed_all, listed_ends, listed_more}
 use Rattle.history_law.proofs.Objects.{MadeAs, started_as, made_as, task_then, action_then, cut_from, has_behind}
 
 some_same : {A : Type 0} {x y : A} → Some x ≡ Some y → x ≡ y
@@ -38,8 +43,8 @@ some_same e = cc
 pub record Took (s : State) (w t a : ℕ) : Type 0 where
   pub task : Task
   pub action : Action
-  pub task_found : at s.tasks t ≡ Some task
-  pub action_found : at s.actions a ≡ Some action
+  pub task_found : live_object s.tasks t ≡ Some task
+  pub action_found : live_object s.actions a ≡ Some action
   pub may : may_take s w task action ≡ true
 
 abbrev is_picked : Reply → Bool
@@ -56,31 +61,31 @@ through : (c : Bool) (x : Reply) (w : Row) (t : TaskHandle) (a : ActionHandle) (
 through true x w t a k args n e = absurd (other_reply t a k args x n e)
 through false x w t a k args n e = e
 
-took : (s : State) (w : ℕ) (t : TaskHandle) (a : ActionHandle) (k : Kind) (args : List ℤ) (x : Option Task) (y : Option Action) → at s.tasks t.0 ≡ x → at s.actions a.0 ≡ y
-    → Allows (live x never (λ u. live y never (λ v. only (may_take s w u v) (gives (Picked t a v.kind u.args) (runs t.0 w v.kind ∷ []))))) (Picked t a k args) → Took s w t.0 a.0
+took : (s : State) (w : ℕ) (t : TaskHandle) (a : ActionHandle) (k : Kind) (args : List ℤ) (x : Option Task) (y : Option Action) → live_object s.tasks t.0 ≡ x → live_object s.actions a.0 ≡ y
+    → Allows (live x never (λ u. live y never (λ v. only (may_take s w u v) (gives (Picked t a v.kind u.args) (runs_task t.0 w v.kind ∷ []))))) (Picked t a k args) → Took s w t.0 a.0
 took s w t a k args None y d e f = absurd f
 took s w t a k args (Some u) None d e f = absurd f
 took s w t a k args (Some u) (Some v) d e f = by_test (may_take s w u v) refl f
   where
-    by_test : (b : Bool) → may_take s w u v ≡ b → Allows (only b (gives (Picked t a v.kind u.args) (runs t.0 w v.kind ∷ []))) (Picked t a k args) → Took s w t.0 a.0
+    by_test : (b : Bool) → may_take s w u v ≡ b → Allows (only b (gives (Picked t a v.kind u.args) (runs_task t.0 w v.kind ∷ []))) (Picked t a k args) → Took s w t.0 a.0
     by_test true i g = record { task = u; action = v; task_found = d; action_found = e; may = i }
     by_test false i g = absurd g
 
 pub row_took : (s : State) (w : ℕ) (t : TaskHandle) (a : ActionHandle) (k : Kind) (args : List ℤ) → Allows (row s w op.Pick (Picked t a k args)) (Picked t a k args) → Took s w t.0 a.0
 row_took s w t a k args n = by_stop (is_stop s) third
   where
-    first : Allows (unless (any (runs_on w) s.tasks) (Mtapi m.ErrParameter) (unless (is_new s.phase) Idle (cond (is_stop s) (gives Stop (stops w ∷ [])) (picks s w (Picked t a k args))))) (Picked t a k args)
-    first = through (not (nat_lt w (workers s))) (Mtapi m.ErrParameter) (unless (any (runs_on w) s.tasks) (Mtapi m.ErrParameter) (unless (is_new s.phase) Idle (cond (is_stop s) (gives Stop (stops w ∷ [])) (picks s w (Picked t a k args))))) t a k args refl n
+    first : Allows (unless (any_listed (runs_on w) s.tasks) (Mtapi m.ErrParameter) (unless (is_new s.phase) Idle (cond (is_stop s) (gives Stop (stops w ∷ [])) (picks s w (Picked t a k args))))) (Picked t a k args)
+    first = through (not (nat_lt w (workers s))) (Mtapi m.ErrParameter) (unless (any_listed (runs_on w) s.tasks) (Mtapi m.ErrParameter) (unless (is_new s.phase) Idle (cond (is_stop s) (gives Stop (stops w ∷ [])) (picks s w (Picked t a k args))))) t a k args refl n
 
     second : Allows (unless (is_new s.phase) Idle (cond (is_stop s) (gives Stop (stops w ∷ [])) (picks s w (Picked t a k args)))) (Picked t a k args)
-    second = through (any (runs_on w) s.tasks) (Mtapi m.ErrParameter) (unless (is_new s.phase) Idle (cond (is_stop s) (gives Stop (stops w ∷ [])) (picks s w (Picked t a k args)))) t a k args refl first
+    second = through (any_listed (runs_on w) s.tasks) (Mtapi m.ErrParameter) (unless (is_new s.phase) Idle (cond (is_stop s) (gives Stop (stops w ∷ [])) (picks s w (Picked t a k args)))) t a k args refl first
 
     third : Allows (cond (is_stop s) (gives Stop (stops w ∷ [])) (picks s w (Picked t a k args))) (Picked t a k args)
     third = through (is_new s.phase) Idle (cond (is_stop s) (gives Stop (stops w ∷ [])) (picks s w (Picked t a k args))) t a k args refl second
 
     by_stop : (b : Bool) → Allows (cond b (gives Stop (stops w ∷ [])) (picks s w (Picked t a k args))) (Picked t a k args) → Took s w t.0 a.0
     by_stop true f = absurd (other_reply t a k args Stop refl f)
-    by_stop false f = took s w t a k args (at s.tasks t.0) (at s.actions a.0) refl refl f
+    by_stop false f = took s w t a k args (live_object s.tasks t.0) (live_object s.actions a.0) refl refl f
 
 pub pick_took : (s : State) (w : ℕ) (t : TaskHandle) (a : ActionHandle) (k : Kind) (args : List ℤ) → IsNext s (entry w op.Pick (Picked t a k args)) → Took s w t.0 a.0
 pick_took s w t a k args n = row_took s w t a k args n.allowed
@@ -99,7 +104,7 @@ asked_mask n (op.TaskStart job args priority cores detached group) mask b e = ap
 asked_mask n (op.TaskEnqueue q args cores detached group) mask b e = ap (λ (x : NewTask). x.cores) b.1 ∙ some_same e
 asked_mask n _ mask b e = absurd b
 
-made_mask : (o : Op) (h mask : ℕ) (s : State) (a : Action) → MadeAs o h s → action_mask o ≡ Some mask → at s.actions h ≡ Some a → a.cores ≡ mask
+made_mask : (o : Op) (h mask : ℕ) (s : State) (a : Action) → MadeAs o h s → action_mask o ≡ Some mask → live_object s.actions h ≡ Some a → a.cores ≡ mask
 made_mask (op.ActionCreate job k cores) h mask s a v e f = (under_at h _ s.actions a v.under f).cores ∙ some_same e
 made_mask _ h mask s a v e f = absurd v
 
@@ -107,8 +112,112 @@ made_behind : (o : Op) (h : ℕ) (s : State) (A B : List NodeEntry) (e : NodeEnt
 made_behind (op.ActionCreate job k cores) h s A B e v = has_behind kind.Action h (SameAction (new_action job k cores.0)) (action_then (new_action job k cores.0)) s A B e v
 made_behind _ h s A B e v = absurd v
 
+-- What is listed was issued by an entry
+
+true_false : {A : Type 0} {b : Bool} → b ≡ true → b ≡ false → A
+true_false e f = absurd (cc)
+
+no_start : (o : Op) (x : NewTask) → makes_kind kind.Task o ≡ false → StartsTask x o → ⊥
+no_start (op.TaskStart job args priority cores detached group) x n b = true_false refl n
+no_start (op.TaskEnqueue q args cores detached group) x n b = true_false refl n
+no_start _ x n b = absurd b
+
+no_action : (o : Op) (x : Action) → makes_kind kind.Action o ≡ false → MakesAction x o → ⊥
+no_action (op.ActionCreate job k cores) x n b = true_false refl n
+no_action _ x n b = absurd b
+
+task_move : (h n : ℕ) (o : Op) → makes_kind kind.Task o ≡ false → (s : State) (m : Move) → IsMade s o m → listed h s.tasks ≡ n → listed h (apply m s).tasks ≡ n
+task_move h n o z s (starts_task j x) e v = absurd (no_start o x z e.by)
+task_move h n o z s (runs_task j w k) e v = listed_change h j (with_fields (with_state (Running w k))) s.tasks (λ r. refl) ∙ v
+task_move h n o z s (ends_task j x) e v = listed_change h j (ended x s.ends) s.tasks (λ r. refl) ∙ v
+task_move h n o z s (ends_waiting p x) e v = listed_ends h _ x s.ends s.tasks ∙ v
+task_move h n o z s (withdraws j f c) e v = listed_ends h _ (Failed c) s.ends s.tasks ∙ v
+task_move h n o z s (notes j f) e v = listed_change h j (with_fields (with_notes f)) s.tasks (λ r. refl) ∙ v
+task_move h n o z s (leaves j) e v = listed_change h j gone s.tasks (λ r. refl) ∙ v
+task_move h n o z s (frees_members g) e v = listed_all h _ freed s.tasks (λ r. refl) ∙ v
+task_move h n o z s (lets_members_go g) e v = listed_all h (is_member g) let_go s.tasks (λ r. refl) ∙ v
+task_move h n o z s (makes k j x) e v = sorts_keep (λ u. listed h u.tasks ≡ n) (λ u g q m c r y p. p) k _ s v
+task_move h n o z s (alters k j f) e v = sorts_keep (λ u. listed h u.tasks ≡ n) (λ u g q m c r y p. p) k _ s v
+task_move h n o z s (removes k j) e v = sorts_keep (λ u. listed h u.tasks ≡ n) (λ u g q m c r y p. p) k _ s v
+task_move h n o z s _ e v = v
+
+withdrawn_handle : (j : ℕ) (f : Listed Action → Listed Action) (o : Op) → WithdrawsAction j f o → (r : Listed Action) → (f r).handle ≡ r.handle
+withdrawn_handle j f (op.ActionDelete a) w r = ap (λ (g : Listed Action → Listed Action). (g r).handle) w.1
+withdrawn_handle j f (op.ActionDisable a) w r = ap (λ (g : Listed Action → Listed Action). (g r).handle) w.1
+withdrawn_handle j f _ w r = absurd w
+
+action_move : (h n : ℕ) (o : Op) → makes_kind kind.Action o ≡ false → (s : State) (m : Move) → IsMade s o m → listed h s.actions ≡ n → listed h (apply m s).actions ≡ n
+action_move h n o z s (makes_action j x) e v = absurd (no_action o x z e.by)
+action_move h n o z s (enables j) e v = listed_change h j (with_fields (with_enabled true)) s.actions (λ r. refl) ∙ v
+action_move h n o z s (withdraws j f c) e v = listed_change h j f s.actions (withdrawn_handle j f o e.by) ∙ v
+action_move h n o z s (makes k j x) e v = sorts_keep (λ u. listed h u.actions ≡ n) (λ u g q m c r y p. p) k _ s v
+action_move h n o z s (alters k j f) e v = sorts_keep (λ u. listed h u.actions ≡ n) (λ u g q m c r y p. p) k _ s v
+action_move h n o z s (removes k j) e v = sorts_keep (λ u. listed h u.actions ≡ n) (λ u g q m c r y p. p) k _ s v
+action_move h n o z s _ e v = v
+
+-- the reply is allowed with these moves: what holds of those moves, and of none
+by_reply : (P : List Move → Type 0) (w : Row) (r : Reply) → P [] → AllGives (λ x ms. r ≡ x → P ms) w → Allows w r → P (moves_of w)
+by_reply P w r p g a = given (λ x ms. r ≡ x → P ms) w r (λ x i. p) g a refl
+
+module _ (s : State) (who h : ℕ) where
+  abbrev SameTasks : List Move → Type 0
+  SameTasks ms = listed h (after_moves ms s).tasks ≡ listed h s.tasks
+
+  abbrev SameActions : List Move → Type 0
+  SameActions ms = listed h (after_moves ms s).actions ≡ listed h s.actions
+
+  another : (r : Reply) → is_handle h r ≡ false → r ≡ Handle (handle_of r) → (handle_of r == h) ≡ false
+  another r n i = ap (is_handle h) (sym i) ∙ n
+
+  one_more : {T : Type 0} (j : ℕ) (x : T) (l : List (Listed T)) → (j == h) ≡ false → listed h (issue j x l) ≡ listed h l
+  one_more j x l n = let e = listed_more h j x l in let z : cond {A = ℕ} (j == h) 1 0 ≡ 0 = ap (λ (b : Bool). cond {A = ℕ} b 1 0) n in omega arith
+
+  task_listed : (o : Op) (r : Reply) → (makes_kind kind.Task o && is_handle h r) ≡ false → Allows (row s who o r) r → SameTasks (moves_of (row s who o r))
+  task_listed (op.TaskStart job args priority cores detached group) r n a =
+      by_reply SameTasks (row s who (op.TaskStart job args priority cores detached group) r) r refl
+      (λ c0 c1 c2 c3 c4 c5 c6. on_only (λ x ms. r ≡ x → SameTasks ms) _ _ _ (λ m i. one_more (handle_of r) (new_task (asked_for job args priority cores detached group) s.starts) s.tasks (another r n i))) a
+  task_listed (op.TaskEnqueue q args cores detached group) r n a =
+      by_reply SameTasks (row s who (op.TaskEnqueue q args cores detached group) r) r refl
+      (λ c d. on_live (λ x ms. r ≡ x → SameTasks ms) (live_object s.queues q.0) _ _ (λ i. refl) (λ x f c0 c1 c2 c3 c4 c5 c6.
+      on_only (λ x ms. r ≡ x → SameTasks ms) _ _ _ (λ m i. one_more (handle_of r) (new_task (asked_of q.0 x args cores detached group) s.starts) s.tasks (another r n i)))) a
+  task_listed o r n a = by_moves (λ t. listed h t.tasks ≡ listed h s.tasks) s (entry who o r) (λ t m e v. task_move h (listed h s.tasks) o refl t m e v) refl
+
+  action_listed : (o : Op) (r : Reply) → (makes_kind kind.Action o && is_handle h r) ≡ false → Allows (row s who o r) r → SameActions (moves_of (row s who o r))
+  action_listed (op.ActionCreate job k cores) r n a =
+      by_reply SameActions (row s who (op.ActionCreate job k cores) r) r refl
+      (λ c0 c1 c2. on_only (λ x ms. r ≡ x → SameActions ms) _ _ _ (λ m i. one_more (handle_of r) (new_action job k cores.0) s.actions (another r n i))) a
+  action_listed o r n a = by_moves (λ t. listed h t.actions ≡ listed h s.actions) s (entry who o r) (λ t m e v. action_move h (listed h s.actions) o refl t m e v) refl
+
+issued_task : (h : ℕ) (s : State) (L : List NodeEntry) → LegalFrom s L → listed h s.tasks ≡ 0 → 1 ≤ listed h (after_from s L).tasks → some_entry (issues kind.Task h) L ≡ true
+unfolding LegalFrom after_from
+issued_task h s [] l z k = absurd (omega arith)
+issued_task h s (e ∷ es) l z k = by_entry (issues kind.Task h e) refl (λ i. issued_task h (next s e) es l.1 (i ∙ z) k)
+  where
+    by_entry : (b : Bool) → issues kind.Task h e ≡ b → (listed h (next s e).tasks ≡ listed h s.tasks → some_entry (issues kind.Task h) es ≡ true) → cond b true (some_entry (issues kind.Task h) es) ≡ true
+    by_entry true i f = refl
+    by_entry false i f = f (task_listed s e.who h e.op e.reply i l.0.allowed)
+
+issued_action : (h : ℕ) (s : State) (L : List NodeEntry) → LegalFrom s L → listed h s.actions ≡ 0 → 1 ≤ listed h (after_from s L).actions → some_entry (issues kind.Action h) L ≡ true
+unfolding LegalFrom after_from
+issued_action h s [] l z k = absurd (omega arith)
+issued_action h s (e ∷ es) l z k = by_entry (issues kind.Action h e) refl (λ i. issued_action h (next s e) es l.1 (i ∙ z) k)
+  where
+    by_entry : (b : Bool) → issues kind.Action h e ≡ b → (listed h (next s e).actions ≡ listed h s.actions → some_entry (issues kind.Action h) es ≡ true) → cond b true (some_entry (issues kind.Action h) es) ≡ true
+    by_entry true i f = refl
+    by_entry false i f = f (action_listed s e.who h e.op e.reply i l.0.allowed)
+
+none_task : (h : ℕ) → listed {T = Task} h [] ≡ 0
+unfolding listed
+none_task h = refl
+
+none_action : (h : ℕ) → listed {T = Action} h [] ≡ 0
+unfolding listed
+none_action h = refl
+
 pub obeys_masks : (terms : Terms) (es : List NodeEntry) (place : ℕ) → Legal terms es → ObeysMasks es place
 obeys_masks terms es place legal P R w t a k args cut at_place = record {
+  started = issued_task t.0 (opening terms) P legal_front (none_task t.0) (live_listed t.0 (after terms P).tasks (ap is_some found.task_found));
+  made = issued_action a.0 (opening terms) P legal_front (none_action a.0) (live_listed a.0 (after terms P).actions (ap is_some found.action_found));
   task = λ A B e m c i q. task A B e m c i q;
   action = λ A B e m c i q. action A B e m c i q;
 }
@@ -116,23 +225,26 @@ obeys_masks terms es place legal P R w t a k args cut at_place = record {
     whole : LegalFrom (opening terms) (P ++ entry w op.Pick (Picked t a k args) ∷ R)
     whole = subst (λ (L : List NodeEntry). LegalFrom (opening terms) L) cut legal.from
 
+    legal_front : LegalFrom (opening terms) P
+    legal_front = Legal-front (opening terms) P _ whole
+
     found : Took (after terms P) w t.0 a.0
     found = pick_took (after terms P) w t a k args (cut_from (opening terms) P R (entry w op.Pick (Picked t a k args)) whole)
 
-    front : (A B : List NodeEntry) (e : NodeEntry) → P ≡ A ++ e ∷ B → LegalFrom (opening terms) (A ++ e ∷ B)
-    front A B e c = subst (λ (L : List NodeEntry). LegalFrom (opening terms) L) c (Legal-front (opening terms) P _ whole)
+    prefix : (A B : List NodeEntry) (e : NodeEntry) → P ≡ A ++ e ∷ B → LegalFrom (opening terms) (A ++ e ∷ B)
+    prefix A B e c = subst (λ (L : List NodeEntry). LegalFrom (opening terms) L) c (Legal-front (opening terms) P _ whole)
 
     task : (A B : List NodeEntry) (e : NodeEntry) (m : ℕ) → P ≡ A ++ e ∷ B → issues kind.Task t.0 e ≡ true → task_mask e.op ≡ Some m → in_mask w m ≡ true
     task A B e m c i q =
-        let s = started_as (after terms A) e t.0 (cut_from (opening terms) A B e (front A B e c)) i in
+        let s = started_as (after terms A) e t.0 (cut_from (opening terms) A B e (prefix A B e c)) i in
         let v = has_behind kind.Task t.0 (SameTask (new_task s.0 (after terms A).starts)) (task_then (new_task s.0 (after terms A).starts)) (opening terms) A B e s.2 in
-        let there : at (after terms (A ++ e ∷ B)).tasks t.0 ≡ Some found.task = subst (λ (L : List NodeEntry). at (after terms L).tasks t.0 ≡ Some found.task) c found.task_found in
+        let there : live_object (after terms (A ++ e ∷ B)).tasks t.0 ≡ Some found.task = subst (λ (L : List NodeEntry). live_object (after terms L).tasks t.0 ≡ Some found.task) c found.task_found in
         let same : found.task.cores ≡ m = (under_at t.0 _ _ found.task v.under there).cores ∙ asked_mask s.0 e.op m s.1 q in
         subst (λ (n : ℕ). in_mask w n ≡ true) same (in_masks (after terms P) w t.0 a.0 found).0
 
     action : (A B : List NodeEntry) (e : NodeEntry) (m : ℕ) → P ≡ A ++ e ∷ B → issues kind.Action a.0 e ≡ true → action_mask e.op ≡ Some m → in_mask w m ≡ true
     action A B e m c i q =
-        let v = made_behind e.op a.0 (opening terms) A B e (made_as (after terms A) e a.0 (cut_from (opening terms) A B e (front A B e c)) i) in
-        let there : at (after terms (A ++ e ∷ B)).actions a.0 ≡ Some found.action = subst (λ (L : List NodeEntry). at (after terms L).actions a.0 ≡ Some found.action) c found.action_found in
+        let v = made_behind e.op a.0 (opening terms) A B e (made_as (after terms A) e a.0 (cut_from (opening terms) A B e (prefix A B e c)) i) in
+        let there : live_object (after terms (A ++ e ∷ B)).actions a.0 ≡ Some found.action = subst (λ (L : List NodeEntry). live_object (after terms L).actions a.0 ≡ Some found.action) c found.action_found in
         let same : found.action.cores ≡ m = made_mask e.op a.0 m _ found.action v q there in
         subst (λ (n : ℕ). in_mask w n ≡ true) same (in_masks (after terms P) w t.0 a.0 found).1

@@ -7,13 +7,13 @@ use Rattle.mtapi_values.specs.declared.ends.TaskEnd.{TaskEnd}
 use Rattle.mtapi_values.specs.declared.ends.TaskEnd.TheVariants.{Failed}
 use Rattle.mtapi_machine.specs.declared.ops.Op.{Op}
 use Rattle.mtapi_machine.specs.declared.ops.Op.TheVariants as op
-use Rattle.handle_pool.specs.Issued.{Listed, live_of, lookup, at, listed, change, change_all, issue, with_fields, gone}
+use Rattle.handle_pool.specs.Issued.{Listed, live_of, lookup, live_object, listed, change, change_all, issue, with_fields, gone}
 use Rattle.mtapi_objects.specs.Actions.{Action, with_enabled}
 use Rattle.mtapi_objects.specs.Queues.{Queue, opened}
-use Rattle.mtapi_objects.specs.Tasks.{Task, Notes, TaskState, Over, Running, with_state, with_notes, ended, end_each, new_task}
+use Rattle.mtapi_objects.specs.Tasks.{Task, Notes, TaskState, Ended, Running, with_state, with_notes, ended, end_each, new_task}
 use Rattle.mtapi_objects.specs.Groups.{is_member, freed, let_go}
 use Rattle.mtapi_machine.specs.State.{State, is_open}
-use Rattle.mtapi_machine.specs.Moves.{Move, Groups, Queues, Mutexes, Sems, Rwls, Segments, makes_action, enables, withdraws, starts, runs, ends, ends_waiting, notes, leaves, frees_members, lets_members_go, makes, alters, removes, is_fresh, apply}
+use Rattle.mtapi_machine.specs.Moves.{Move, Groups, Queues, Mutexes, Sems, Rwls, Segments, makes_action, enables, withdraws, starts_task, runs_task, ends_task, ends_waiting, notes, leaves, frees_members, lets_members_go, makes, alters, removes, is_fresh, apply}
 use Rattle.mtapi_machine.specs.Laws.{IsMade, WithdrawsAction, AltersObject}
 use Rattle.mtapi_machine.proofs.Made.{snd_true}
 use Rattle.mtapi_machine.proofs.Moves.{sorts_keep}
@@ -117,7 +117,7 @@ notes_same : (f : Notes → Notes) (x : Task) → SameTask x (with_notes f x)
 notes_same f x = record { job = refl; args = refl; priority = refl; cores = refl; queue = refl; start = refl }
 
 ended_ages : (e : TaskEnd) (n : ℕ) (r : Listed Task) → Ages SameTask r (ended e n r)
-ended_ages e n r = record { handle = refl; dead = and_dead r.live _; fields = state_same (Over e n) r.fields }
+ended_ages e n r = record { handle = refl; dead = and_dead r.live _; fields = state_same (Ended e n) r.fields }
 
 each_ends : (p : Task → Bool) (e : TaskEnd) (n : ℕ) (l : List (Listed Task)) → AgesEach SameTask l (end_each p e n l)
 unfolding end_each
@@ -162,9 +162,9 @@ kind_move kind.Action s o Q new old (makes j h x) e v = sorts_keep (λ t. Q t.ac
 kind_move kind.Action s o Q new old (alters j h f) e v = sorts_keep (λ t. Q t.actions) (λ t g q m c r y p. p) j _ s v
 kind_move kind.Action s o Q new old (removes j h) e v = sorts_keep (λ t. Q t.actions) (λ t g q m c r y p. p) j _ s v
 kind_move kind.Action s o Q new old _ e v = v
-kind_move kind.Task s o Q new old (starts h t) e v = new h (new_task t s.starts) (snd_true (is_open s.phase) _ (opens_fresh s h t e.may)) v
-kind_move kind.Task s o Q new old (runs h w k) e v = old _ (each_change SameTask same_task h _ s.tasks (fields_age SameTask (with_state (Running w k)) (state_same (Running w k)))) v
-kind_move kind.Task s o Q new old (ends h x) e v = old _ (each_change SameTask same_task h _ s.tasks (ended_ages x s.ends)) v
+kind_move kind.Task s o Q new old (starts_task h t) e v = new h (new_task t s.starts) (snd_true (is_open s.phase) _ (opens_fresh s h t e.may)) v
+kind_move kind.Task s o Q new old (runs_task h w k) e v = old _ (each_change SameTask same_task h _ s.tasks (fields_age SameTask (with_state (Running w k)) (state_same (Running w k)))) v
+kind_move kind.Task s o Q new old (ends_task h x) e v = old _ (each_change SameTask same_task h _ s.tasks (ended_ages x s.ends)) v
 kind_move kind.Task s o Q new old (ends_waiting p x) e v = old _ (each_ends _ x s.ends s.tasks) v
 kind_move kind.Task s o Q new old (withdraws h f c) e v = old _ (each_ends _ (Failed c) s.ends s.tasks) v
 kind_move kind.Task s o Q new old (notes h f) e v = old _ (each_change SameTask same_task h _ s.tasks (fields_age SameTask (with_notes f) (notes_same f))) v
@@ -252,46 +252,46 @@ module _ {T : Type 0} where
       both e f = cc
   dead_issue h j x (r ∷ rs) n d = (d.0, dead_issue h j x rs n d.1)
 
-  pub dead_none : (h : ℕ) (l : List (Listed T)) → Dead h l → is_some (at l h) ≡ false
+  pub dead_none : (h : ℕ) (l : List (Listed T)) → Dead h l → is_some (live_object l h) ≡ false
   unfolding live_of
   dead_none h [] d = refl
   dead_none h (r ∷ rs) d = by_live r.live (λ e. d.0 e) (dead_none h rs d.1)
     where
-      by_hand : (b : Bool) → (b ≡ true → true ≡ false) → is_some (at rs h) ≡ false → is_some (cond b (Some r.fields) (at rs h)) ≡ false
+      by_hand : (b : Bool) → (b ≡ true → true ≡ false) → is_some (live_object rs h) ≡ false → is_some (cond b (Some r.fields) (live_object rs h)) ≡ false
       by_hand true k m = k refl
       by_hand false k m = m
 
-      by_live : (a : Bool) → ((r.handle == h) ≡ true → a ≡ false) → is_some (at rs h) ≡ false → is_some (lookup (cond a ((r.handle, r.fields) ∷ live_of rs) (live_of rs)) h) ≡ false
+      by_live : (a : Bool) → ((r.handle == h) ≡ true → a ≡ false) → is_some (live_object rs h) ≡ false → is_some (lookup (cond a ((r.handle, r.fields) ∷ live_of rs) (live_of rs)) h) ≡ false
       by_live true k m = by_hand (r.handle == h) k m
       by_live false k m = m
 
-  pub none_dead : (h : ℕ) (l : List (Listed T)) → is_some (at l h) ≡ false → Dead h l
+  pub none_dead : (h : ℕ) (l : List (Listed T)) → is_some (live_object l h) ≡ false → Dead h l
   unfolding live_of
   none_dead h [] e = tt
   none_dead h (r ∷ rs) e = by_live r.live refl e (none_dead h rs)
     where
-      by_hand : (b : Bool) → (r.handle == h) ≡ b → is_some (cond b (Some r.fields) (at rs h)) ≡ false → (is_some (at rs h) ≡ false → Dead h rs) → Dead h (r ∷ rs)
+      by_hand : (b : Bool) → (r.handle == h) ≡ b → is_some (cond b (Some r.fields) (live_object rs h)) ≡ false → (is_some (live_object rs h) ≡ false → Dead h rs) → Dead h (r ∷ rs)
       by_hand true k m g = absurd (cc)
       by_hand false k m g = ((λ i. absurd (both i k)), g m)
         where
           both : {b : Bool} → b ≡ true → b ≡ false → ⊥
           both e f = cc
 
-      by_live : (a : Bool) → r.live ≡ a → is_some (lookup (cond a ((r.handle, r.fields) ∷ live_of rs) (live_of rs)) h) ≡ false → (is_some (at rs h) ≡ false → Dead h rs) → Dead h (r ∷ rs)
+      by_live : (a : Bool) → r.live ≡ a → is_some (lookup (cond a ((r.handle, r.fields) ∷ live_of rs) (live_of rs)) h) ≡ false → (is_some (live_object rs h) ≡ false → Dead h rs) → Dead h (r ∷ rs)
       by_live true a m g = by_hand (r.handle == h) refl m g
       by_live false a m g = ((λ i. a), g m)
 
   -- what is live is listed
-  pub live_listed : (h : ℕ) (l : List (Listed T)) → is_some (at l h) ≡ true → 1 ≤ listed h l
+  pub live_listed : (h : ℕ) (l : List (Listed T)) → is_some (live_object l h) ≡ true → 1 ≤ listed h l
   unfolding live_of listed
   live_listed h [] e = absurd (cc)
   live_listed h (r ∷ rs) e = by_live r.live e (live_listed h rs)
     where
-      by_hand : (b : Bool) → is_some (cond b (Some r.fields) (at rs h)) ≡ true → (is_some (at rs h) ≡ true → 1 ≤ listed h rs) → 1 ≤ cond b 1 0 + listed h rs
+      by_hand : (b : Bool) → is_some (cond b (Some r.fields) (live_object rs h)) ≡ true → (is_some (live_object rs h) ≡ true → 1 ≤ listed h rs) → 1 ≤ cond b 1 0 + listed h rs
       by_hand true m g = omega arith
       by_hand false m g = let k : 1 ≤ listed h rs = g m in omega arith
 
-      by_live : (a : Bool) → is_some (lookup (cond a ((r.handle, r.fields) ∷ live_of rs) (live_of rs)) h) ≡ true → (is_some (at rs h) ≡ true → 1 ≤ listed h rs) → 1 ≤ cond (r.handle == h) 1 0 + listed h rs
+      by_live : (a : Bool) → is_some (lookup (cond a ((r.handle, r.fields) ∷ live_of rs) (live_of rs)) h) ≡ true → (is_some (live_object rs h) ≡ true → 1 ≤ listed h rs) → 1 ≤ cond (r.handle == h) 1 0 + listed h rs
       by_live true m g = by_hand (r.handle == h) m g
       by_live false m g = let k : 1 ≤ listed h rs = g m in omega arith
 
@@ -319,7 +319,7 @@ module _ {T : Type 0} where
       by_test true i e g = absurd (omega arith)
       by_test false i e g = ((λ j. both j i), g (omega arith))
 
-  pub under_at : (h : ℕ) (F : T → Type 0) (l : List (Listed T)) (x : T) → Under h F l → at l h ≡ Some x → F x
+  pub under_at : (h : ℕ) (F : T → Type 0) (l : List (Listed T)) (x : T) → Under h F l → live_object l h ≡ Some x → F x
   unfolding live_of
   under_at h F [] x u e = absurd (cc)
   under_at h F (r ∷ rs) x u e = by_live r.live e (under_at h F rs x u.1)
@@ -327,11 +327,11 @@ module _ {T : Type 0} where
       same : {a b : T} → Some a ≡ Some b → a ≡ b
       same i = cc
 
-      by_hand : (b : Bool) → (r.handle == h) ≡ b → cond b (Some r.fields) (at rs h) ≡ Some x → (at rs h ≡ Some x → F x) → F x
+      by_hand : (b : Bool) → (r.handle == h) ≡ b → cond b (Some r.fields) (live_object rs h) ≡ Some x → (live_object rs h ≡ Some x → F x) → F x
       by_hand true i e g = subst F (same e) (u.0 i)
       by_hand false i e g = g e
 
-      by_live : (a : Bool) → lookup (cond a ((r.handle, r.fields) ∷ live_of rs) (live_of rs)) h ≡ Some x → (at rs h ≡ Some x → F x) → F x
+      by_live : (a : Bool) → lookup (cond a ((r.handle, r.fields) ∷ live_of rs) (live_of rs)) h ≡ Some x → (live_object rs h ≡ Some x → F x) → F x
       by_live true e g = by_hand (r.handle == h) refl e g
       by_live false e g = g e
 

@@ -12,12 +12,12 @@ use Rattle.mtapi_machine.specs.declared.ops.Op.{Op}
 use Rattle.mtapi_machine.specs.declared.ops.Op.TheVariants as op
 use Rattle.mtapi_machine.specs.declared.replies.Reply.{Reply}
 use Rattle.mtapi_machine.specs.declared.replies.Reply.TheVariants.{Ok, Stop, Idle, Pending, Picked, Mtapi}
-use Rattle.mtapi_machine.specs.State.{State, opening, workers, is_open, is_late, is_stop}
-use Rattle.mtapi_machine.specs.Moves.{Move, released, stops, runs, makes, alters, removes, apply, after_moves}
+use Rattle.mtapi_machine.specs.State.{State, opening, workers, is_open, is_past_open, is_stop}
+use Rattle.mtapi_machine.specs.Moves.{Move, released, stops, runs_task, makes, alters, removes, apply, after_moves}
 use Rattle.mtapi_machine.specs.Row.{Row, unless, gives, Allows, after_row}
 use Rattle.mtapi_machine.specs.Rows.{row}
 use Rattle.mtapi_machine.specs.WorkRows.{can_take, may_take, picks}
-use Rattle.handle_pool.specs.Issued.{at, any}
+use Rattle.handle_pool.specs.Issued.{live_object, any_listed}
 use Rattle.mtapi_machine.specs.Laws.{IsMade, is_pick}
 use Rattle.mtapi_machine.specs.Legal.{NodeEntry, IsNext, next, LegalFrom, Legal, after_from, after}
 use Rattle.mtapi_machine.proofs.Lists.{Legal-front}
@@ -25,12 +25,10 @@ use Rattle.mtapi_machine.proofs.Made.{AllGives, given, on_live, on_only, fst_tru
 use Rattle.mtapi_machine.proofs.Moves.{sorts_keep, by_moves as made_moves}
 use Rattle.history_law.specs.Words.{some_entry}
 use Rattle.history_law.specs.Seats.{is_release, says_ok, says_stop, is_released, is_stop_of}
+use Rattle.history_law.proofs.Answered.{true_false, none_first}
 use Rattle.history_law.proofs.Accepted.{stands_after, final_marked}
 use Rattle.history_law.proofs.SeatMoves.{May, by_moves}
 use Rattle.history_law.proofs.Objects.{cut_from}
-
-true_false : {A : Type 0} {b : Bool} → b ≡ true → b ≡ false → A
-true_false e f = absurd (cc)
 
 -- Release
 
@@ -67,10 +65,6 @@ next_released s e n i = by_op (is_release e.op) refl i
     by_op true j k = row_release s e.who e.op e.reply j k n.allowed
     by_op false j k = by_moves (λ t. t.released ≡ s.released) s e n (λ t x y z. other_release e.op t e.who s.released x j y z) refl
 
-none_first : (a b : Bool) → cond a true b ≡ false → (a ≡ false) × (b ≡ false)
-none_first true b e = absurd (cc)
-none_first false b e = (refl, e)
-
 unreleased : (s : State) (L : List NodeEntry) → LegalFrom s L → some_entry is_released L ≡ false → (after_from s L).released ≡ s.released
 unfolding LegalFrom after_from
 unreleased s [] l n = refl
@@ -85,7 +79,7 @@ enter_behind terms A B who l = by_test (some_entry is_released A) refl
     by_test true i = refl
     by_test false i =
         let n : IsNext (after terms A) (entry who op.Enter Ok) = cut_from (opening terms) A B (entry who op.Enter Ok) l.from in
-        let r : (after terms A).released ≡ true = enter_reads (is_late (after terms A).phase) (after terms A).released _ n.allowed in
+        let r : (after terms A).released ≡ true = enter_reads (is_past_open (after terms A).phase) (after terms A).released _ n.allowed in
         let u : (after terms A).released ≡ false = unreleased (opening terms) A (Legal-front (opening terms) A (entry who op.Enter Ok ∷ B) l.from) i in
         true_false r u
 
@@ -121,8 +115,8 @@ StopsNone s w r ms = says_stop r ≡ false → marked w (after_moves ms s).stopp
 
 picks_none : (s : State) (w who : ℕ) (r : Reply) → AllGives (StopsNone s w) (picks s who r)
 picks_none s w who (Picked t a k args) =
-    on_live _ (at s.tasks t.0) _ _ tt (λ x e. on_live _ (at s.actions a.0) _ _ tt (λ y d. on_only (StopsNone s w) (may_take s who x y) (Picked t a y.kind x.args) (runs t.0 who y.kind ∷ []) (λ m i. refl)))
-picks_none s w who _ = on_only (StopsNone s w) (not (any (can_take s who) s.tasks)) Idle [] (λ m i. refl)
+    on_live _ (live_object s.tasks t.0) _ _ tt (λ x e. on_live _ (live_object s.actions a.0) _ _ tt (λ y d. on_only (StopsNone s w) (may_take s who x y) (Picked t a y.kind x.args) (runs_task t.0 who y.kind ∷ []) (λ m i. refl)))
+picks_none s w who _ = on_only (StopsNone s w) (not (any_listed (can_take s who) s.tasks)) Idle [] (λ m i. refl)
 
 stop_none : (b : Bool) (s : State) (w who : ℕ) (v : Row) → AllGives (StopsNone s w) v → AllGives (StopsNone s w) (cond b (gives Stop (stops who ∷ [])) v)
 stop_none true s w who v h = λ i. true_false refl i

@@ -7,7 +7,7 @@ use Rattle.mtapi_machine.specs.declared.ops.Op.TheVariants.{Initialize, Close, F
 use Rattle.mtapi_machine.specs.declared.replies.Reply.{Reply}
 use Rattle.mtapi_machine.specs.declared.terms.Phase.TheVariants.{Open}
 use Rattle.mtapi_machine.specs.declared.terms.Terms.{Terms}
-use Rattle.mtapi_machine.specs.State.{State, opening, seats, is_new, is_late}
+use Rattle.mtapi_machine.specs.State.{State, opening, seats, is_new, is_past_open}
 use Rattle.mtapi_machine.specs.Moves.{Move, phase_is, stops, makes, alters, removes, apply, after_moves}
 use Rattle.mtapi_machine.specs.Legal.{NodeEntry, IsNext, LegalFrom, next, after_from, after}
 use Rattle.mtapi_machine.proofs.Moves.{sorts_keep}
@@ -37,18 +37,18 @@ stopped_room terms L l = room_stays (opening terms) L l refl
 true_false : {A : Type 0} → true ≡ false → A
 true_false e = absurd (cc)
 
-early_next : (s : State) (who : ℕ) (o : Op) (r : Reply) → IsNext s (entry who o r) → closes o ≡ false → is_late s.phase ≡ false → is_late (next s (entry who o r)).phase ≡ false
+early_next : (s : State) (who : ℕ) (o : Op) (r : Reply) → IsNext s (entry who o r) → closes o ≡ false → is_past_open s.phase ≡ false → is_past_open (next s (entry who o r)).phase ≡ false
 unfolding LegalFrom after_from
 early_next s who Initialize r n c l = by_new (not (is_new s.phase))
   where
-    by_new : (b : Bool) → is_late (after_moves (cond b [] (phase_is Open ∷ [])) s).phase ≡ false
+    by_new : (b : Bool) → is_past_open (after_moves (cond b [] (phase_is Open ∷ [])) s).phase ≡ false
     by_new true = l
     by_new false = refl
 early_next s who Close r n c l = true_false c
 early_next s who Final r n c l = true_false c
-early_next s who o r n c l = ap is_late (phase_stays s (entry who o r ∷ []) (n, tt) (refl, tt)) ∙ l
+early_next s who o r n c l = ap is_past_open (phase_stays s (entry who o r ∷ []) (n, tt) (refl, tt)) ∙ l
 
-pub early_stays : (s : State) (L : List NodeEntry) → LegalFrom s L → NoClose L → is_late s.phase ≡ false → is_late (after_from s L).phase ≡ false
+pub early_stays : (s : State) (L : List NodeEntry) → LegalFrom s L → NoClose L → is_past_open s.phase ≡ false → is_past_open (after_from s L).phase ≡ false
 unfolding LegalFrom after_from
 early_stays s [] l n v = v
 early_stays s (e ∷ es) l n v = early_stays (next s e) es l.1 n.1 (early_next s e.who e.op e.reply l.0 n.0 v)

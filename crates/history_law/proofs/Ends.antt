@@ -3,7 +3,7 @@ use Rattle.std.proofs.Common.{◌≡◌, ℕ, ◌+◌, ◌≤◌, Bool, true, fa
 use Rattle.std.specs.Prelude.{◌==◌, is_none}
 use Rattle.mtapi_values.specs.declared.ends.TaskEnd.{TaskEnd}
 use Rattle.handle_pool.specs.Issued.{Listed, listed}
-use Rattle.mtapi_objects.specs.Tasks.{Task, TaskState, Scheduled, Running, Over, end_of}
+use Rattle.mtapi_objects.specs.Tasks.{Task, TaskState, Scheduled, Running, Ended, end_of}
 use Rattle.mtapi_machine.specs.State.{State}
 use Rattle.mtapi_machine.specs.Laws.{Grows}
 use Rattle.mtapi_machine.specs.Legal.{NodeEntry, after_from}
@@ -16,12 +16,12 @@ use Rattle.history_law.proofs.Held.{HasEnded, AllEnded}
 end_stays : (x y : TaskState) (e : TaskEnd) → ((e : TaskEnd) (n : ℕ) → end_of x ≡ Some (e, n) → end_of y ≡ Some (e, n)) → end_in x ≡ Some e → end_in y ≡ Some e
 end_stays Scheduled y e k i = absurd (cc)
 end_stays (Running w j) y e k i = absurd (cc)
-end_stays (Over z n) y e k i = by_end y (k z n refl)
+end_stays (Ended z n) y e k i = by_end y (k z n refl)
   where
     by_end : (y : TaskState) → end_of y ≡ Some (z, n) → end_in y ≡ Some e
     by_end Scheduled o = absurd (cc)
     by_end (Running w j) o = absurd (cc)
-    by_end (Over u m) o = let q : u ≡ z = ap (λ (p : Option (TaskEnd × ℕ)). cond (is_none p) z (first_or p)) o in ap (λ (v : TaskEnd). Some v) q ∙ i
+    by_end (Ended u m) o = let q : u ≡ z = ap (λ (p : Option (TaskEnd × ℕ)). cond (is_none p) z (first_or p)) o in ap (λ (v : TaskEnd). Some v) q ∙ i
       where
         first_or : Option (TaskEnd × ℕ) → TaskEnd
         first_or None = z
@@ -55,7 +55,7 @@ ended_end t h = by_state t.state h
     by_state : (x : TaskState) → is_none (end_of x) ≡ false → (e : TaskEnd) × (end_in x ≡ Some e)
     by_state Scheduled k = absurd (cc)
     by_state (Running w j) k = absurd (cc)
-    by_state (Over e n) k = (e, refl)
+    by_state (Ended e n) k = (e, refl)
 
 -- where every task has ended, a task that is listed has an end
 pub all_end : (h : ℕ) (l : List (Listed Task)) → AllEnded l → 1 ≤ listed h l → (e : TaskEnd) × (end_at l h ≡ Some e)
@@ -67,7 +67,7 @@ all_end h (r ∷ rs) a i = by_handle (r.handle == h) (all_end h rs a.1) i
     by_handle true rest k = ended_end r.fields a.0
     by_handle false rest k = rest (omega arith)
 
--- between two fronts of a list the tasks have grown
+-- between two prefixes of a list the tasks have grown
 pub fronts_grow : (s : State) (P M : List NodeEntry) → Grows (after_from s P).tasks (after_from s (P ++ M)).tasks
 fronts_grow s P M = subst (λ (t : State). Grows (after_from s P).tasks t.tasks) (sym (after-append s P M)) (after_grows (after_from s P) M)
 

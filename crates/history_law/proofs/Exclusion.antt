@@ -10,11 +10,11 @@ use Rattle.mtapi_machine.specs.declared.ops.Op.{Op}
 use Rattle.mtapi_machine.specs.declared.ops.Op.TheVariants as op
 use Rattle.mtapi_machine.specs.declared.replies.Reply.{Reply}
 use Rattle.mtapi_machine.specs.declared.replies.Reply.TheVariants.{Handle, Pending, Mrapi}
-use Rattle.handle_pool.specs.Issued.{Listed, live_of, lookup, at, listed, change, issue, with_fields, gone}
+use Rattle.handle_pool.specs.Issued.{Listed, live_of, lookup, live_object, listed, change, issue, with_fields, gone}
 use Rattle.mtapi_objects.specs.Sems.{Sem, new_sem, total, sem_busy, sem_taken, sem_given}
 use Rattle.mtapi_machine.specs.State.{State, opening, seats}
 use Rattle.mtapi_machine.specs.Moves.{Move, Sems, makes, alters, removes, is_fresh, apply, after_moves}
-use Rattle.mtapi_machine.specs.Row.{Row, unless, gives, never, Allows, live, moves_of, after_row}
+use Rattle.mtapi_machine.specs.Row.{Row, Allows, moves_of, after_row}
 use Rattle.mtapi_machine.specs.Rows.{row}
 use Rattle.mtapi_machine.specs.Legal.{NodeEntry, IsNext, next, LegalFrom, Legal, after}
 use Rattle.mtapi_machine.specs.Laws.{IsMade, AltersObject, RemovesObject}
@@ -28,13 +28,11 @@ use Rattle.history_law.specs.Exclusion.{looks_at_sem, unlocks_sem, gets_sem, giv
 use Rattle.history_law.proofs.Accepted.{granted, refuses_only, stands_after}
 use Rattle.history_law.proofs.Found.{at_skip, at_dead, at_here}
 use Rattle.history_law.proofs.Reuse.{terms_next, fresh_unlisted, fresh_apart, is_this, listed_issue_some}
-use Rattle.history_law.proofs.Handles.{OnceIn, once_same, once_more}
-use Rattle.history_law.proofs.Ages.{SameFields, kind_move, listed_ages}
+use Rattle.history_law.proofs.Handles.{OnceIn}
+use Rattle.history_law.proofs.OnceIssued.{once_none, once_move, once_next, listed_next}
+use Rattle.history_law.proofs.Answered.{true_false, answered, no_live, no_cond, gives_cond, Quiet}
 
-true_false : {A : Type 0} {b : Bool} → b ≡ true → b ≡ false → A
-true_false e f = absurd (cc)
-
-bit : Bool → ℕ
+pub bit : Bool → ℕ
 bit b = cond b 1 0
 
 -- Numbers in a list
@@ -174,7 +172,7 @@ gone_even top a b f g x n v =
 -- The live object of a handle, after a change of the list
 
 module _ {T : Type 0} where
-  head_alike : (h : ℕ) (r : Listed T) (k l : List (Listed T)) → at k h ≡ at l h → at (r ∷ k) h ≡ at (r ∷ l) h
+  pub head_alike : (h : ℕ) (r : Listed T) (k l : List (Listed T)) → live_object k h ≡ live_object l h → live_object (r ∷ k) h ≡ live_object (r ∷ l) h
   unfolding live_of
   head_alike h r k l e = by_live r.live
     where
@@ -182,7 +180,7 @@ module _ {T : Type 0} where
       by_live true = ap (λ (o : Option T). cond (r.handle == h) (Some r.fields) o) e
       by_live false = e
 
-  at_change_other : (x h : ℕ) (f : Listed T → Listed T) (l : List (Listed T)) → ((r : Listed T) → (f r).handle ≡ r.handle) → (x == h) ≡ false → at (change x f l) h ≡ at l h
+  pub at_change_other : (x h : ℕ) (f : Listed T → Listed T) (l : List (Listed T)) → ((r : Listed T) → (f r).handle ≡ r.handle) → (x == h) ≡ false → live_object (change x f l) h ≡ live_object l h
   unfolding change
   at_change_other x h f [] k n = refl
   at_change_other x h f (r ∷ rs) k n = by_test (r.live && (r.handle == x)) refl (at_change_other x h f rs k n)
@@ -190,36 +188,36 @@ module _ {T : Type 0} where
       apart : (r.handle == x) ≡ true → (r.handle == h) ≡ false
       apart e = ap (λ (z : ℕ). z == h) (eqb-true r.handle x e) ∙ n
 
-      by_test : (b : Bool) → (r.live && (r.handle == x)) ≡ b → at (change x f rs) h ≡ at rs h → at (cond b (f r ∷ rs) (r ∷ change x f rs)) h ≡ at (r ∷ rs) h
+      by_test : (b : Bool) → (r.live && (r.handle == x)) ≡ b → live_object (change x f rs) h ≡ live_object rs h → live_object (cond b (f r ∷ rs) (r ∷ change x f rs)) h ≡ live_object (r ∷ rs) h
       by_test true i e =
           let a : (r.handle == h) ≡ false = apart (snd_true r.live _ i) in
           at_skip (f r) rs h (ap (λ (z : ℕ). z == h) (k r) ∙ a) ∙ sym (at_skip r rs h a)
       by_test false i e = head_alike h r (change x f rs) rs e
 
-  at_issue_other : (j h : ℕ) (x : T) (l : List (Listed T)) → (j == h) ≡ false → at (issue j x l) h ≡ at l h
+  pub at_issue_other : (j h : ℕ) (x : T) (l : List (Listed T)) → (j == h) ≡ false → live_object (issue j x l) h ≡ live_object l h
   unfolding issue
   at_issue_other j h x [] n = at_skip (record { handle = j; live = true; fields = x }) [] h n
   at_issue_other j h x (r ∷ rs) n = head_alike h r (issue j x rs) rs (at_issue_other j h x rs n)
 
-  at_issue_here : (h : ℕ) (x : T) (l : List (Listed T)) → listed h l ≡ 0 → at (issue h x l) h ≡ Some x
+  pub at_issue_here : (h : ℕ) (x : T) (l : List (Listed T)) → listed h l ≡ 0 → live_object (issue h x l) h ≡ Some x
   unfolding issue listed
   at_issue_here h x [] n = at_here (record { handle = h; live = true; fields = x }) [] h refl (eq-eqb h h refl)
   at_issue_here h x (r ∷ rs) n = by_hand (r.handle == h) refl n (λ m. at_issue_here h x rs m)
     where
-      by_hand : (b : Bool) → (r.handle == h) ≡ b → cond b 1 0 + listed h rs ≡ 0 → (listed h rs ≡ 0 → at (issue h x rs) h ≡ Some x) → at (r ∷ issue h x rs) h ≡ Some x
+      by_hand : (b : Bool) → (r.handle == h) ≡ b → cond b 1 0 + listed h rs ≡ 0 → (listed h rs ≡ 0 → live_object (issue h x rs) h ≡ Some x) → live_object (r ∷ issue h x rs) h ≡ Some x
       by_hand true i m k = absurd (omega arith)
       by_hand false i m k = at_skip r (issue h x rs) h i ∙ k (omega arith)
 
-  at_unlisted : (h : ℕ) (l : List (Listed T)) → listed h l ≡ 0 → at l h ≡ None
+  pub at_unlisted : (h : ℕ) (l : List (Listed T)) → listed h l ≡ 0 → live_object l h ≡ None
   unfolding listed live_of
   at_unlisted h [] n = refl
   at_unlisted h (r ∷ rs) n = by_hand (r.handle == h) refl n (at_unlisted h rs)
     where
-      by_hand : (b : Bool) → (r.handle == h) ≡ b → cond b 1 0 + listed h rs ≡ 0 → (listed h rs ≡ 0 → at rs h ≡ None) → at (r ∷ rs) h ≡ None
+      by_hand : (b : Bool) → (r.handle == h) ≡ b → cond b 1 0 + listed h rs ≡ 0 → (listed h rs ≡ 0 → live_object rs h ≡ None) → live_object (r ∷ rs) h ≡ None
       by_hand true i m k = absurd (omega arith)
       by_hand false i m k = at_skip r rs h i ∙ k (omega arith)
 
-  at_retired : (h : ℕ) (l : List (Listed T)) → OnceIn l → at (change h gone l) h ≡ None
+  pub at_retired : (h : ℕ) (l : List (Listed T)) → OnceIn l → live_object (change h gone l) h ≡ None
   unfolding change listed live_of
   at_retired h [] o = refl
   at_retired h (r ∷ rs) o = by_test r.live (r.handle == h) refl refl (o h) (at_retired h rs (λ j. rest j))
@@ -227,20 +225,10 @@ module _ {T : Type 0} where
       rest : (j : ℕ) → listed j rs ≤ 1
       rest j = let k : cond {A = ℕ} (r.handle == j) 1 0 + listed j rs ≤ 1 = o j in omega arith
 
-      by_test : (a b : Bool) → r.live ≡ a → (r.handle == h) ≡ b → cond b 1 0 + listed h rs ≤ 1 → at (change h gone rs) h ≡ None → at (cond (a && b) (gone r ∷ rs) (r ∷ change h gone rs)) h ≡ None
+      by_test : (a b : Bool) → r.live ≡ a → (r.handle == h) ≡ b → cond b 1 0 + listed h rs ≤ 1 → live_object (change h gone rs) h ≡ None → live_object (cond (a && b) (gone r ∷ rs) (r ∷ change h gone rs)) h ≡ None
       by_test true true i j k m = at_dead (gone r) rs h refl ∙ at_unlisted h rs (omega arith)
       by_test true false i j k m = at_skip r (change h gone rs) h j ∙ m
       by_test false b i j k m = at_dead r (change h gone rs) h i ∙ m
-
-once_sems : (s : State) (e : NodeEntry) → OnceIn s.sems → OnceIn (next s e).sems
-once_sems s e v =
-    by_moves (λ t. OnceIn t.sems) s e (λ t m y w. kind_move kind.Sem t e.op OnceIn
-    (λ h x i u. once_more h x t.sems (fresh_unlisted kind.Sem t h i) u) (λ l a u. once_same t.sems l (λ j. listed_ages (SameFields kind.Sem) j t.sems l a) u) m y w) v
-
-listed_sems : (s : State) (e : NodeEntry) (h : ℕ) → 1 ≤ listed h s.sems → 1 ≤ listed h (next s e).sems
-listed_sems s e h v =
-    by_moves (λ t. 1 ≤ listed h t.sems) s e (λ t m y w. kind_move kind.Sem t e.op (λ l. 1 ≤ listed h l)
-    (λ j x i u. listed_issue_some h j x t.sems u) (λ l a u. subst (λ (n : ℕ). 1 ≤ n) (sym (listed_ages (SameFields kind.Sem) h t.sems l a)) u) m y w) v
 
 -- Other ops leave it
 
@@ -251,7 +239,7 @@ changes_sems (op.SemDelete x) = true
 changes_sems _ = false
 
 abbrev Alike : ℕ → Option Sem → State → Type 0
-Alike h o t = (1 ≤ listed h t.sems) × (at t.sems h ≡ o)
+Alike h o t = (1 ≤ listed h t.sems) × (live_object t.sems h ≡ o)
 
 no_alter : (o : Op) (j : ℕ) (f : Sem → Sem) → changes_sems o ≡ false → AltersObject Sems j f o → ⊥
 unfolding changes_sems
@@ -273,122 +261,95 @@ alike_move h p o n t (alters _ j f) e v = v
 alike_move h p o n t (removes _ j) e v = v
 alike_move h p o n t _ e v = v
 
-alike_next : (s : State) (e : NodeEntry) (h : ℕ) → changes_sems e.op ≡ false → 1 ≤ listed h s.sems → at (next s e).sems h ≡ at s.sems h
-alike_next s e h n l = (by_moves (Alike h (at s.sems h)) s e (λ t m y w. alike_move h (at s.sems h) e.op n t m y w) (l, refl)).1
+alike_next : (s : State) (e : NodeEntry) (h : ℕ) → changes_sems e.op ≡ false → 1 ≤ listed h s.sems → live_object (next s e).sems h ≡ live_object s.sems h
+alike_next s e h n l = (by_moves (Alike h (live_object s.sems h)) s e (λ t m y w. alike_move h (live_object s.sems h) e.op n t m y w) (l, refl)).1
 
 -- The ops on semaphores
 
--- a row with a reply that passes, where no refusal does
-abbrev NoRefusal : Row → Type 0
-NoRefusal (unless b x w) = (says_ok x ≡ false) × NoRefusal w
-NoRefusal (gives x ms) = Unit {0}
-NoRefusal never = Unit {0}
-
-answered : (P : List Move → Type 0) (w : Row) (r : Reply) → says_ok r ≡ true → NoRefusal w → AllGives (λ x ms. says_ok x ≡ true → P ms) w → Allows w r → P (moves_of w)
-answered P (unless true x w) r i n g a = true_false (ap says_ok (sym a) ∙ i) n.0
-answered P (unless false x w) r i n g a = answered P w r i n.1 (g refl) a
-answered P (gives x ms) r i n g a = g (ap says_ok (sym a) ∙ i)
-answered P never r i n g a = absurd a
-
-no_live : {T : Type 0} (x : Option T) (v : Row) (w : T → Row) → NoRefusal v → ((t : T) → NoRefusal (w t)) → NoRefusal (live x v w)
-no_live None v w g h = g
-no_live (Some t) v w g h = h t
-
-no_cond : (b : Bool) (v w : Row) → NoRefusal v → NoRefusal w → NoRefusal (cond b v w)
-no_cond true v w g h = g
-no_cond false v w g h = h
-
-gives_cond : (Q : Reply → List Move → Type 0) (b : Bool) (v w : Row) → (b ≡ true → AllGives Q v) → (b ≡ false → AllGives Q w) → AllGives Q (cond b v w)
-gives_cond Q true v w g h = g refl
-gives_cond Q false v w g h = h refl
-
-busy_late : (last : Bool) → says_ok (cond last (Mrapi c.Timeout) Pending) ≡ false
+pub busy_late : (last : Bool) → says_ok (cond last (Mrapi c.Timeout) Pending) ≡ false
 busy_late true = refl
 busy_late false = refl
 
 as_step : (who : ℕ) (o p : Option Sem) (a b x y : Bool) → a ≡ x → b ≡ y → Step who o p a b → Step who o p x y
 as_step who o p a b x y i j v = subst (λ (z : Bool). Step who o p x z) j (subst (λ (z : Bool). Step who o p z b) i v)
 
-abbrev Quiet : Reply → List Move → Type 0
-Quiet r ms = says_ok r ≡ false → ms ≡ []
-
-quiet_step : (s : State) (who h : ℕ) (w : Row) (r : Reply) (x y : Bool) → says_ok r ≡ false → AllGives Quiet w → Allows w r → Step who (at s.sems h) (at (after_row s w).sems h) (x && says_ok r) (y && says_ok r)
+quiet_step : (s : State) (who h : ℕ) (w : Row) (r : Reply) (x y : Bool) → says_ok r ≡ false → AllGives (Quiet says_ok) w → Allows w r → Step who (live_object s.sems h) (live_object (after_row s w).sems h) (x && says_ok r) (y && says_ok r)
 quiet_step s who h w r x y i g a =
-    let none : moves_of w ≡ [] = given Quiet w r (λ z k. refl) g a i in
-    as_step who _ _ false false (x && says_ok r) (y && says_ok r) (off x) (off y) (stays (ap (λ (ms : List Move). at (after_moves ms s).sems h) none))
+    let none : moves_of w ≡ [] = given (Quiet says_ok) w r (λ z k. refl) g a i in
+    as_step who _ _ false false (x && says_ok r) (y && says_ok r) (off x) (off y) (stays (ap (λ (ms : List Move). live_object (after_moves ms s).sems h) none))
   where
     off : (z : Bool) → false ≡ (z && says_ok r)
     off true = sym i
     off false = refl
 
-look_quiet : (s : State) (who : ℕ) (x : _) (last : Bool) (r : Reply) → AllGives Quiet (row s who (op.SemLook x last) r)
-look_quiet s who x last r = λ p q. on_live Quiet (at s.sems x.0) _ _ (λ i. refl) (λ y f. gives_cond Quiet (sem_busy y) _ _ (λ b i. refl) (λ b i. true_false refl i))
+look_quiet : (s : State) (who : ℕ) (x : _) (last : Bool) (r : Reply) → AllGives (Quiet says_ok) (row s who (op.SemLook x last) r)
+look_quiet s who x last r = λ p q. on_live (Quiet says_ok) (live_object s.sems x.0) _ _ (λ i. refl) (λ y f. gives_cond (Quiet says_ok) (sem_busy y) _ _ (λ b i. refl) (λ b i. true_false refl i))
 
-unlock_quiet : (s : State) (who : ℕ) (x : _) (r : Reply) → AllGives Quiet (row s who (op.SemUnlock x) r)
-unlock_quiet s who x r = λ p q. on_live Quiet (at s.sems x.0) _ _ (λ i. refl) (λ y f b i. true_false refl i)
+unlock_quiet : (s : State) (who : ℕ) (x : _) (r : Reply) → AllGives (Quiet says_ok) (row s who (op.SemUnlock x) r)
+unlock_quiet s who x r = λ p q. on_live (Quiet says_ok) (live_object s.sems x.0) _ _ (λ i. refl) (λ y f b i. true_false refl i)
 
-delete_quiet : (s : State) (who : ℕ) (x : _) (r : Reply) → AllGives Quiet (row s who (op.SemDelete x) r)
-delete_quiet s who x r = λ p q. on_live Quiet (at s.sems x.0) _ _ (λ i. refl) (λ y f b i. true_false refl i)
+delete_quiet : (s : State) (who : ℕ) (x : _) (r : Reply) → AllGives (Quiet says_ok) (row s who (op.SemDelete x) r)
+delete_quiet s who x r = λ p q. on_live (Quiet says_ok) (live_object s.sems x.0) _ _ (λ i. refl) (λ y f b i. true_false refl i)
 
-look_takes : (s : State) (who h x : ℕ) (y : Sem) → at s.sems x ≡ Some y → sem_busy y ≡ false → Step who (at s.sems h) (at (change x (with_fields (sem_taken who)) s.sems) h) (x == h) false
+look_takes : (s : State) (who h x : ℕ) (y : Sem) → live_object s.sems x ≡ Some y → sem_busy y ≡ false → Step who (live_object s.sems h) (live_object (change x (with_fields (sem_taken who)) s.sems) h) (x == h) false
 look_takes s who h x y f n = by_same (x == h) refl
   where
-    by_same : (b : Bool) → (x == h) ≡ b → Step who (at s.sems h) (at (change x (with_fields (sem_taken who)) s.sems) h) b false
+    by_same : (b : Bool) → (x == h) ≡ b → Step who (live_object s.sems h) (live_object (change x (with_fields (sem_taken who)) s.sems) h) b false
     by_same true i =
         let same : x ≡ h = eqb-true x h i in
-        takes y (ap (λ (z : ℕ). at s.sems z) (sym same) ∙ f) n (ap (λ (z : ℕ). at (change x (with_fields (sem_taken who)) s.sems) z) (sym same) ∙ at-update x (sem_taken who) y s.sems f)
+        takes y (ap (λ (z : ℕ). live_object s.sems z) (sym same) ∙ f) n (ap (λ (z : ℕ). live_object (change x (with_fields (sem_taken who)) s.sems) z) (sym same) ∙ at-update x (sem_taken who) y s.sems f)
     by_same false i = stays (at_change_other x h (with_fields (sem_taken who)) s.sems (λ r. refl) i)
 
-unlock_returns : (s : State) (who h x : ℕ) (y : Sem) → at s.sems x ≡ Some y → (slice_index y.holdings who == 0) ≡ false → Step who (at s.sems h) (at (change x (with_fields (sem_given who)) s.sems) h) false (x == h)
+unlock_returns : (s : State) (who h x : ℕ) (y : Sem) → live_object s.sems x ≡ Some y → (slice_index y.holdings who == 0) ≡ false → Step who (live_object s.sems h) (live_object (change x (with_fields (sem_given who)) s.sems) h) false (x == h)
 unlock_returns s who h x y f n = by_same (x == h) refl
   where
-    by_same : (b : Bool) → (x == h) ≡ b → Step who (at s.sems h) (at (change x (with_fields (sem_given who)) s.sems) h) false b
+    by_same : (b : Bool) → (x == h) ≡ b → Step who (live_object s.sems h) (live_object (change x (with_fields (sem_given who)) s.sems) h) false b
     by_same true i =
         let same : x ≡ h = eqb-true x h i in
-        returns y (ap (λ (z : ℕ). at s.sems z) (sym same) ∙ f) n (ap (λ (z : ℕ). at (change x (with_fields (sem_given who)) s.sems) z) (sym same) ∙ at-update x (sem_given who) y s.sems f)
+        returns y (ap (λ (z : ℕ). live_object s.sems z) (sym same) ∙ f) n (ap (λ (z : ℕ). live_object (change x (with_fields (sem_given who)) s.sems) z) (sym same) ∙ at-update x (sem_given who) y s.sems f)
     by_same false i = stays (at_change_other x h (with_fields (sem_given who)) s.sems (λ r. refl) i)
 
-delete_leaves : (s : State) (who h x : ℕ) (y : Sem) → OnceIn s.sems → at s.sems x ≡ Some y → nat_lt 0 (total y.holdings) ≡ false → Step who (at s.sems h) (at (change x gone s.sems) h) false false
+delete_leaves : (s : State) (who h x : ℕ) (y : Sem) → OnceIn s.sems → live_object s.sems x ≡ Some y → nat_lt 0 (total y.holdings) ≡ false → Step who (live_object s.sems h) (live_object (change x gone s.sems) h) false false
 delete_leaves s who h x y o f n = by_same (x == h) refl
   where
-    by_same : (b : Bool) → (x == h) ≡ b → Step who (at s.sems h) (at (change x gone s.sems) h) false false
+    by_same : (b : Bool) → (x == h) ≡ b → Step who (live_object s.sems h) (live_object (change x gone s.sems) h) false false
     by_same true i =
         let same : x ≡ h = eqb-true x h i in
-        leaves y (ap (λ (z : ℕ). at s.sems z) (sym same) ∙ f) n (ap (λ (z : ℕ). at (change x gone s.sems) z) (sym same) ∙ at_retired x s.sems o)
+        leaves y (ap (λ (z : ℕ). live_object s.sems z) (sym same) ∙ f) n (ap (λ (z : ℕ). live_object (change x gone s.sems) z) (sym same) ∙ at_retired x s.sems o)
     by_same false i = stays (at_change_other x h gone s.sems (λ r. refl) i)
 
 on_and : (b : Bool) (r : Reply) → says_ok r ≡ true → b ≡ (b && says_ok r)
 on_and true r i = sym i
 on_and false r i = refl
 
-sem_step : (s : State) (who : ℕ) (o : Op) (r : Reply) (h : ℕ) → OnceIn s.sems → 1 ≤ listed h s.sems → Allows (row s who o r) r → Step who (at s.sems h) (at (after_row s (row s who o r)).sems h) (looks_at_sem h o && says_ok r) (unlocks_sem h o && says_ok r)
+sem_step : (s : State) (who : ℕ) (o : Op) (r : Reply) (h : ℕ) → OnceIn s.sems → 1 ≤ listed h s.sems → Allows (row s who o r) r → Step who (live_object s.sems h) (live_object (after_row s (row s who o r)).sems h) (looks_at_sem h o && says_ok r) (unlocks_sem h o && says_ok r)
 unfolding changes_sems
 sem_step s who (op.SemLook x last) r h o l a = by_ok (says_ok r) refl
   where
-    by_ok : (b : Bool) → says_ok r ≡ b → Step who (at s.sems h) (at (after_row s (row s who (op.SemLook x last) r)).sems h) ((x.0 == h) && says_ok r) (false && says_ok r)
+    by_ok : (b : Bool) → says_ok r ≡ b → Step who (live_object s.sems h) (live_object (after_row s (row s who (op.SemLook x last) r)).sems h) ((x.0 == h) && says_ok r) (false && says_ok r)
     by_ok false i = quiet_step s who h (row s who (op.SemLook x last) r) r (x.0 == h) false i (look_quiet s who x last r) a
     by_ok true i =
         as_step who _ _ (x.0 == h) false _ _ (on_and (x.0 == h) r i) refl
-        (answered (λ ms. Step who (at s.sems h) (at (after_moves ms s).sems h) (x.0 == h) false) (row s who (op.SemLook x last) r) r i
-        (refl, (refl, no_live (at s.sems x.0) _ _ tt (λ y. no_cond (sem_busy y) _ _ tt tt)))
-        (λ p q. on_live _ (at s.sems x.0) _ _ (λ j. true_false j refl) (λ y f. gives_cond _ (sem_busy y) _ _ (λ b j. true_false j (busy_late last)) (λ b j. look_takes s who h x.0 y f b))) a)
+        (answered says_ok (λ ms. Step who (live_object s.sems h) (live_object (after_moves ms s).sems h) (x.0 == h) false) (row s who (op.SemLook x last) r) r i
+        (refl, (refl, no_live says_ok (live_object s.sems x.0) _ _ tt (λ y. no_cond says_ok (sem_busy y) _ _ tt tt)))
+        (λ p q. on_live _ (live_object s.sems x.0) _ _ (λ j. true_false j refl) (λ y f. gives_cond _ (sem_busy y) _ _ (λ b j. true_false j (busy_late last)) (λ b j. look_takes s who h x.0 y f b))) a)
 sem_step s who (op.SemUnlock x) r h o l a = by_ok (says_ok r) refl
   where
-    by_ok : (b : Bool) → says_ok r ≡ b → Step who (at s.sems h) (at (after_row s (row s who (op.SemUnlock x) r)).sems h) (false && says_ok r) ((x.0 == h) && says_ok r)
+    by_ok : (b : Bool) → says_ok r ≡ b → Step who (live_object s.sems h) (live_object (after_row s (row s who (op.SemUnlock x) r)).sems h) (false && says_ok r) ((x.0 == h) && says_ok r)
     by_ok false i = quiet_step s who h (row s who (op.SemUnlock x) r) r false (x.0 == h) i (unlock_quiet s who x r) a
     by_ok true i =
         as_step who _ _ false (x.0 == h) _ _ refl (on_and (x.0 == h) r i)
-        (answered (λ ms. Step who (at s.sems h) (at (after_moves ms s).sems h) false (x.0 == h)) (row s who (op.SemUnlock x) r) r i
-        (refl, (refl, no_live (at s.sems x.0) _ _ tt (λ y. (refl, tt))))
-        (λ p q. on_live _ (at s.sems x.0) _ _ (λ j. true_false j refl) (λ y f b j. unlock_returns s who h x.0 y f b)) a)
+        (answered says_ok (λ ms. Step who (live_object s.sems h) (live_object (after_moves ms s).sems h) false (x.0 == h)) (row s who (op.SemUnlock x) r) r i
+        (refl, (refl, no_live says_ok (live_object s.sems x.0) _ _ tt (λ y. (refl, tt))))
+        (λ p q. on_live _ (live_object s.sems x.0) _ _ (λ j. true_false j refl) (λ y f b j. unlock_returns s who h x.0 y f b)) a)
 sem_step s who (op.SemDelete x) r h o l a = by_ok (says_ok r) refl
   where
-    by_ok : (b : Bool) → says_ok r ≡ b → Step who (at s.sems h) (at (after_row s (row s who (op.SemDelete x) r)).sems h) (false && says_ok r) (false && says_ok r)
+    by_ok : (b : Bool) → says_ok r ≡ b → Step who (live_object s.sems h) (live_object (after_row s (row s who (op.SemDelete x) r)).sems h) (false && says_ok r) (false && says_ok r)
     by_ok false i = quiet_step s who h (row s who (op.SemDelete x) r) r false false i (delete_quiet s who x r) a
     by_ok true i =
-        answered (λ ms. Step who (at s.sems h) (at (after_moves ms s).sems h) false false) (row s who (op.SemDelete x) r) r i
-        (refl, (refl, no_live (at s.sems x.0) _ _ tt (λ y. (refl, tt))))
-        (λ p q. on_live _ (at s.sems x.0) _ _ (λ j. true_false j refl) (λ y f b j. delete_leaves s who h x.0 y o f b)) a
+        answered says_ok (λ ms. Step who (live_object s.sems h) (live_object (after_moves ms s).sems h) false false) (row s who (op.SemDelete x) r) r i
+        (refl, (refl, no_live says_ok (live_object s.sems x.0) _ _ tt (λ y. (refl, tt))))
+        (λ p q. on_live _ (live_object s.sems x.0) _ _ (λ j. true_false j refl) (λ y f b j. delete_leaves s who h x.0 y o f b)) a
 sem_step s who o r h n l a = stays (alike_next s (record { who = who; op = o; reply = r }) h refl l)
 
 -- Along the entries
@@ -430,26 +391,26 @@ at_end h top a b f g None v = ((λ w. let e : f w ≡ g w = v.each w in omega ar
 at_end h top a b f g (Some x) v =
     ((λ w. let e : f w ≡ g w + slice_index x.holdings w = v.each w in omega arith), (let e : a ≡ b + total x.holdings = v.all in let m : total x.holdings ≤ top = v.most in omega arith))
 
-seats_next : (s : State) (e : NodeEntry) → seats s ≤ 25 → seats (next s e) ≤ 25
+pub seats_next : (s : State) (e : NodeEntry) → seats s ≤ 25 → seats (next s e) ≤ 25
 seats_next s e n = subst (λ (t : Terms). t.settings.workers + t.callers ≤ 25) (sym (terms_next s.terms s e refl)) n
 
-keeps_along : (T : Terms) (h top a b : ℕ) (f g : ℕ → ℕ) (s : State) (L : List NodeEntry) → seats s ≤ 25 → LegalFrom s L → OnceIn s.sems → 1 ≤ listed h s.sems → Beside top a b f g (at s.sems h) → Keeps h top a b f g L
+keeps_along : (T : Terms) (h top a b : ℕ) (f g : ℕ → ℕ) (s : State) (L : List NodeEntry) → seats s ≤ 25 → LegalFrom s L → OnceIn s.sems → 1 ≤ listed h s.sems → Beside top a b f g (live_object s.sems h) → Keeps h top a b f g L
 unfolding LegalFrom bit bits
-keeps_along T h top a b f g s [] n l o k v = at_end h top a b f g (at s.sems h) v
+keeps_along T h top a b f g s [] n l o k v = at_end h top a b f g (live_object s.sems h) v
 keeps_along T h top a b f g s (e ∷ es) n l o k v =
     let less : e.who < seats s = l.0.seat in
     let step = sem_step s e.who e.op e.reply h o k l.0.allowed in
-    let u = after_step top a b f g e.who (at s.sems h) (at (next s e).sems h) (gets_sem h e) (gives_sem h e) (omega arith) step v in
-    let r = keeps_along T h top (a + bit (gets_sem h e)) (b + bit (gives_sem h e)) (λ w. f w + bits e.who w (gets_sem h e)) (λ w. g w + bits e.who w (gives_sem h e)) (next s e) es (seats_next s e n) l.1 (once_sems s e o) (listed_sems s e h k) u in
+    let u = after_step top a b f g e.who (live_object s.sems h) (live_object (next s e).sems h) (gets_sem h e) (gives_sem h e) (omega arith) step v in
+    let r = keeps_along T h top (a + bit (gets_sem h e)) (b + bit (gives_sem h e)) (λ w. f w + bits e.who w (gets_sem h e)) (λ w. g w + bits e.who w (gives_sem h e)) (next s e) es (seats_next s e n) l.1 (once_next kind.Sem s e o) (listed_next kind.Sem s e h k) u in
     ((λ w. let x : (g w + bits e.who w (gives_sem h e)) + entries_that (by_seat w (gives_sem h)) es ≤ (f w + bits e.who w (gets_sem h e)) + entries_that (by_seat w (gets_sem h)) es = r.0 w in omega arith), (let y : (a + bit (gets_sem h e)) + entries_that (gets_sem h) es ≤ top + ((b + bit (gives_sem h e)) + entries_that (gives_sem h) es) = r.1 in omega arith))
 
 -- The law
 
 abbrev MadeSem : Op → ℕ → ℕ → State → Type 0
-MadeSem (op.SemCreate id limit) h top t = (at t.sems h ≡ Some (new_sem id limit)) × (1 ≤ listed h t.sems)
+MadeSem (op.SemCreate id limit) h top t = (live_object t.sems h ≡ Some (new_sem id limit)) × (1 ≤ listed h t.sems)
 MadeSem _ h top t = ⊥
 
-some_issued : (h : ℕ) (x : Sem) (l : List (Listed Sem)) → 1 ≤ listed h (issue h x l)
+pub some_issued : {T : Type 0} (h : ℕ) (x : T) (l : List (Listed T)) → 1 ≤ listed h (issue h x l)
 unfolding listed issue
 some_issued h x [] = let e : cond {A = ℕ} (h == h) 1 0 ≡ 1 = ap (λ (b : Bool). cond {A = ℕ} b 1 0) (eq-eqb h h refl) in omega arith
 some_issued h x (r ∷ rs) = let k : 1 ≤ listed h (issue h x rs) = some_issued h x rs in omega arith
@@ -468,30 +429,21 @@ made_sem s e h top n i =
     subst (λ (x : Reply). MadeSem e.op h top (after_row s (row s e.who e.op x))) (sym r)
     (make_sem s e.who e.op h top (fst_true (makes_object kind.Sem e.op) _ i) (subst (λ (x : Reply). Allows (row s e.who e.op x) x) r n.allowed))
 
-some_same : {A : Type 0} {x y : A} → Some x ≡ Some y → x ≡ y
+pub some_same : {A : Type 0} {x y : A} → Some x ≡ Some y → x ≡ y
 some_same e = cc
 
 none_yet : (w : ℕ) → 0 ≡ 0 + slice_index (replicate 25 0) w
 none_yet w = let z : slice_index (replicate 25 0) w ≡ 0 = none_held 25 w in omega arith
 
-new_beside : (o : Op) (h top : ℕ) (t : State) → sem_limit o ≡ Some top → MadeSem o h top t → (Beside top 0 0 (λ w. 0) (λ w. 0) (at t.sems h)) × (1 ≤ listed h t.sems)
+new_beside : (o : Op) (h top : ℕ) (t : State) → sem_limit o ≡ Some top → MadeSem o h top t → (Beside top 0 0 (λ w. 0) (λ w. 0) (live_object t.sems h)) × (1 ≤ listed h t.sems)
 new_beside (op.SemCreate id limit) h top t e v =
     (subst (Beside top 0 0 (λ w. 0) (λ w. 0)) (sym v.0) (record { limit = some_same e; size = refl; most = omega arith; all = refl; each = λ w. none_yet w }), v.1)
 new_beside _ h top t e v = absurd v
 
-none_listed : (h : ℕ) → listed {T = Sem} h [] ≤ 1
-unfolding listed
-none_listed h = omega arith
-
 once_from_sems : (terms : Terms) (L : List NodeEntry) → OnceIn (after terms L).sems
-once_from_sems terms L =
-    along (λ t. OnceIn t.sems)
-    (λ o t m y w. kind_move kind.Sem t o OnceIn (λ h x i u. once_more h x t.sems (fresh_unlisted kind.Sem t h i) u) (λ l a u. once_same t.sems l (λ j. listed_ages (SameFields kind.Sem) j t.sems l a) u) m y w) (opening terms) L none_twice
-  where
-    none_twice : (h : ℕ) → listed {T = Sem} h [] ≤ 1
-    none_twice h = none_listed h
+once_from_sems terms L = along (λ t. OnceIn t.sems) (once_move kind.Sem) (opening terms) L (once_none Sem)
 
-seats_after : (terms : Terms) (L : List NodeEntry) → Legal terms L → seats (after terms L) ≤ 25
+pub seats_after : (terms : Terms) (L : List NodeEntry) → Legal terms L → seats (after terms L) ≤ 25
 seats_after terms L l =
     let same : (after terms L).terms ≡ terms = (stands_after terms L).0 in
     let w : terms.settings.workers ≤ 16 = l.fits.settings.workers.1 in
@@ -505,9 +457,9 @@ sems_keep_to terms es legal A B R e h limit cut i l =
     let whole : LegalFrom (opening terms) (A ++ e ∷ (B ++ R)) = subst (λ (L : List NodeEntry). LegalFrom (opening terms) L) cut legal.from in
     let rest : LegalFrom (after terms A) (e ∷ (B ++ R)) = Legal-rest (opening terms) A (e ∷ (B ++ R)) whole in
     let made = new_beside e.op h limit (next (after terms A) e) l (made_sem (after terms A) e h limit rest.0 i) in
-    let front : Legal terms A = record { fits = legal.fits; from = Legal-front (opening terms) A (e ∷ (B ++ R)) whole } in
+    let prefix : Legal terms A = record { fits = legal.fits; from = Legal-front (opening terms) A (e ∷ (B ++ R)) whole } in
     let k =
-    keeps_along terms h limit 0 0 (λ w. 0) (λ w. 0) (next (after terms A) e) B (seats_next (after terms A) e (seats_after terms A front)) (Legal-front (next (after terms A) e) B R rest.1) (once_sems (after terms A) e (once_from_sems terms A)) made.1 made.0 in record {
+    keeps_along terms h limit 0 0 (λ w. 0) (λ w. 0) (next (after terms A) e) B (seats_next (after terms A) e (seats_after terms A prefix)) (Legal-front (next (after terms A) e) B R rest.1) (once_next kind.Sem (after terms A) e (once_from_sems terms A)) made.1 made.0 in record {
       each = λ w. let x : 0 + entries_that (by_seat w (gives_sem h)) B ≤ 0 + entries_that (by_seat w (gets_sem h)) B = k.0 w in omega arith;
       most = let x : 0 + entries_that (gets_sem h) B ≤ limit + (0 + entries_that (gives_sem h) B) = k.1 in omega arith;
     }

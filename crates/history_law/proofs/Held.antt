@@ -6,9 +6,9 @@ use Rattle.mtapi_values.specs.declared.ends.TaskEnd.{TaskEnd}
 use Rattle.mtapi_values.specs.Seats.{all_marked}
 use Rattle.mtapi_machine.specs.declared.terms.Phase.{Phase}
 use Rattle.mtapi_machine.specs.declared.terms.Phase.TheVariants.{New, Open, Closing, Closed}
-use Rattle.handle_pool.specs.Issued.{Listed, live_of, at, any, any_live, change, issue, listed, with_fields, gone}
+use Rattle.handle_pool.specs.Issued.{Listed, live_of, live_object, any_listed, any_live, change, issue, listed, with_fields, gone}
 use Rattle.mtapi_objects.specs.Tasks.{Task, TaskState, end_of, is_unended, ended, end_each}
-use Rattle.mtapi_machine.specs.State.{is_new, is_open, is_late}
+use Rattle.mtapi_machine.specs.State.{is_new, is_open, is_past_open}
 
 -- the task has ended
 abbrev pub HasEnded : Task → Type 0
@@ -32,7 +32,7 @@ first_mark (b ∷ bs) = b
 -- once the first worker has stopped the phase is late and every task has ended; no handle is listed twice
 pub record Held (p : Phase) (m : List Bool) (l : List (Listed Task)) : Type 0 where
   pub dead : DeadEnded l
-  pub stopped : first_mark m ≡ true → (is_late p ≡ true) × AllEnded l
+  pub stopped : first_mark m ≡ true → (is_past_open p ≡ true) × AllEnded l
   pub once : (h : ℕ) → listed h l ≤ 1
 
 -- what a change keeps of a listed task: its handle, that it has ended, and that it has ended where it isn't live
@@ -74,19 +74,19 @@ pub keeps_same : (l : List (Listed Task)) → KeepsEach l l
 keeps_same [] = tt
 keeps_same (r ∷ rs) = (same r, keeps_same rs)
 
-pub keeps_change : (h : ℕ) (f : Listed Task → Listed Task) (l : List (Listed Task)) → ((r : Listed Task) → at l h ≡ Some r.fields → Keeps r (f r)) → KeepsEach l (change h f l)
+pub keeps_change : (h : ℕ) (f : Listed Task → Listed Task) (l : List (Listed Task)) → ((r : Listed Task) → live_object l h ≡ Some r.fields → Keeps r (f r)) → KeepsEach l (change h f l)
 unfolding change live_of
 keeps_change h f [] k = tt
 keeps_change h f (r ∷ rs) k = by_live (λ m. keeps_change h f rs m) r.live k
   where
-    by_handle : (((q : Listed Task) → at rs h ≡ Some q.fields → Keeps q (f q)) → KeepsEach rs (change h f rs)) → (b : Bool) →
-        ((q : Listed Task) → cond b (Some r.fields) (at rs h) ≡ Some q.fields → Keeps q (f q)) →
+    by_handle : (((q : Listed Task) → live_object rs h ≡ Some q.fields → Keeps q (f q)) → KeepsEach rs (change h f rs)) → (b : Bool) →
+        ((q : Listed Task) → cond b (Some r.fields) (live_object rs h) ≡ Some q.fields → Keeps q (f q)) →
         KeepsEach (record { handle = r.handle; live = true; fields = r.fields } ∷ rs) (cond b (f (record { handle = r.handle; live = true; fields = r.fields }) ∷ rs) (record { handle = r.handle; live = true; fields = r.fields } ∷ change h f rs))
     by_handle rest true m = (m (record { handle = r.handle; live = true; fields = r.fields }) refl, keeps_same rs)
     by_handle rest false m = (same _, rest m)
 
-    by_live : (((q : Listed Task) → at rs h ≡ Some q.fields → Keeps q (f q)) → KeepsEach rs (change h f rs)) → (a : Bool) →
-        ((q : Listed Task) → at (record { handle = r.handle; live = a; fields = r.fields } ∷ rs) h ≡ Some q.fields → Keeps q (f q)) →
+    by_live : (((q : Listed Task) → live_object rs h ≡ Some q.fields → Keeps q (f q)) → KeepsEach rs (change h f rs)) → (a : Bool) →
+        ((q : Listed Task) → live_object (record { handle = r.handle; live = a; fields = r.fields } ∷ rs) h ≡ Some q.fields → Keeps q (f q)) →
         KeepsEach (record { handle = r.handle; live = a; fields = r.fields } ∷ rs) (change h f (record { handle = r.handle; live = a; fields = r.fields } ∷ rs))
     by_live rest true m = by_handle rest (r.handle == h) m
     by_live rest false m = (same _, rest m)
@@ -136,20 +136,20 @@ held_keeps p m l k v g = record {
 }
 
 -- the phase is late then
-pub held_late : (p q : Phase) (m : List Bool) (l k : List (Listed Task)) → is_late q ≡ true → Held p m l → KeepsEach l k → Held q m k
+pub held_late : (p q : Phase) (m : List Bool) (l k : List (Listed Task)) → is_past_open q ≡ true → Held p m l → KeepsEach l k → Held q m k
 held_late p q m l k t v g = record {
   dead = dead_each l k g v.dead;
   stopped = λ f. (t, ended_each l k g (v.stopped f).1);
   once = once_each l k g v.once;
 }
 
-new_late : (p : Phase) → is_new p ≡ true → is_late p ≡ true → ⊥
+new_late : (p : Phase) → is_new p ≡ true → is_past_open p ≡ true → ⊥
 new_late New a b = cc
 new_late Open a b = cc
 new_late Closing a b = cc
 new_late Closed a b = cc
 
-open_late : (p : Phase) → is_open p ≡ true → is_late p ≡ true → ⊥
+open_late : (p : Phase) → is_open p ≡ true → is_past_open p ≡ true → ⊥
 open_late New a b = cc
 open_late Open a b = cc
 open_late Closing a b = cc
@@ -191,16 +191,16 @@ live_ended : (b c : Bool) → cond b true c ≡ false → (b ≡ false) × (c �
 live_ended true c e = absurd (cc)
 live_ended false c e = (refl, e)
 
-all_ended : (l : List (Listed Task)) → any is_unended l ≡ false → DeadEnded l → AllEnded l
+all_ended : (l : List (Listed Task)) → any_listed is_unended l ≡ false → DeadEnded l → AllEnded l
 unfolding live_of
 all_ended [] e d = tt
 all_ended (r ∷ rs) e d = by_live r.live e d.0 (λ q. all_ended rs q d.1)
   where
-    by_live : (b : Bool) → any_live is_unended (cond b ((r.handle, r.fields) ∷ live_of rs) (live_of rs)) ≡ false → (b ≡ false → HasEnded r.fields) → (any is_unended rs ≡ false → AllEnded rs) → HasEnded r.fields × AllEnded rs
-    by_live true q k rest = let both : (is_unended r.fields ≡ false) × (any is_unended rs ≡ false) = live_ended (is_unended r.fields) (any is_unended rs) q in (both.0, rest both.1)
+    by_live : (b : Bool) → any_live is_unended (cond b ((r.handle, r.fields) ∷ live_of rs) (live_of rs)) ≡ false → (b ≡ false → HasEnded r.fields) → (any_listed is_unended rs ≡ false → AllEnded rs) → HasEnded r.fields × AllEnded rs
+    by_live true q k rest = let both : (is_unended r.fields ≡ false) × (any_listed is_unended rs ≡ false) = live_ended (is_unended r.fields) (any_listed is_unended rs) q in (both.0, rest both.1)
     by_live false q k rest = (k refl, rest q)
 
-pub held_stop : (p : Phase) (m : List Bool) (w : ℕ) (l : List (Listed Task)) → is_late p ≡ true → any is_unended l ≡ false → Held p m l → Held p (slice_set m w true) l
+pub held_stop : (p : Phase) (m : List Bool) (w : ℕ) (l : List (Listed Task)) → is_past_open p ≡ true → any_listed is_unended l ≡ false → Held p m l → Held p (slice_set m w true) l
 held_stop p m w l t n v = record { dead = v.dead; stopped = λ f. (t, all_ended l n v.dead); once = v.once }
 
 -- where each worker has stopped, of one or more, the first has

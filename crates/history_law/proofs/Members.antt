@@ -3,7 +3,7 @@ use Rattle.std.proofs.Common.{◌≡◌, ℕ, ◌+◌, ◌≤◌, Bool, true, fa
 use Rattle.std.specs.Prelude.{◌==◌, nat_lt}
 use Rattle.std.proofs.lemmas.Bool.{eq-eqb}
 use Rattle.mtapi_values.specs.declared.ends.TaskEnd.{TaskEnd}
-use Rattle.handle_pool.specs.Issued.{Listed, live_of, at, listed}
+use Rattle.handle_pool.specs.Issued.{Listed, live_of, live_object, listed}
 use Rattle.mtapi_objects.specs.Tasks.{Task, end_of}
 use Rattle.mtapi_objects.specs.Groups.{is_member, Ending, insert, insert_ended, endings}
 use Rattle.history_law.proofs.Found.{at_skip, at_here}
@@ -28,8 +28,8 @@ all_more P Q (e ∷ es) f a = (f e a.0, all_more P Q es f a.1)
 -- the task was issued, and where it is live it is a member that ended so
 pub record IsEnding (g : ℕ) (l : List (Listed Task)) (e : Ending) : Type 0 where
   pub some : 1 ≤ listed e.task l
-  pub member : (x : Task) → at l e.task ≡ Some x → is_member g x ≡ true
-  pub ended : (x : Task) → at l e.task ≡ Some x → end_of x.state ≡ Some (e.end, e.number)
+  pub member : (x : Task) → live_object l e.task ≡ Some x → is_member g x ≡ true
+  pub ended : (x : Task) → live_object l e.task ≡ Some x → end_of x.state ≡ Some (e.end, e.number)
 
 same_some : {a b : Task} → Some a ≡ Some b → a ≡ b
 same_some e = cc
@@ -59,7 +59,7 @@ all_endings g (r ∷ rs) o = by_live r.live refl (all_more (IsEnding g rs) (IsEn
     here a m None e k = k
     here a m (Some y) e k =
         let c : (r.handle == r.handle) ≡ true = eq-eqb r.handle r.handle refl in
-        let f : at (r ∷ rs) r.handle ≡ Some r.fields = at_here r rs r.handle a c in
+        let f : live_object (r ∷ rs) r.handle ≡ Some r.fields = at_here r rs r.handle a c in
         all_insert (IsEnding g (r ∷ rs)) (record { task = r.handle; end = y.0; number = y.1 }) (endings g (live_of rs))
         (record {
           some = let d : cond {A = ℕ} (r.handle == r.handle) 1 0 ≡ 1 = ap (λ (b : Bool). cond {A = ℕ} b 1 0) c in omega arith;

@@ -5,19 +5,19 @@ use Rattle.std.proofs.lemmas.Bool.{eqb-true}
 use Rattle.std.proofs.lemmas.Bool.Decides.{nat_tests}
 use Rattle.mtapi_values.specs.declared.ends.TaskEnd.{TaskEnd}
 use Rattle.mtapi_values.specs.declared.ends.TaskEnd.TheVariants.{Failed}
-use Rattle.handle_pool.specs.Issued.{Listed, how_many, change, change_all, issue, count, with_fields, gone}
-use Rattle.mtapi_objects.specs.Tasks.{Task, TaskState, Scheduled, Running, Over, with_state, with_notes, ended, end_each, new_task}
+use Rattle.handle_pool.specs.Issued.{Listed, how_many, change, change_all, issue, count_listed, with_fields, gone}
+use Rattle.mtapi_objects.specs.Tasks.{Task, TaskState, Scheduled, Running, Ended, with_state, with_notes, ended, end_each, new_task}
 use Rattle.mtapi_objects.specs.Groups.{is_member, freed, let_go}
 use Rattle.mtapi_machine.specs.declared.terms.Terms.{Terms}
 use Rattle.mtapi_machine.specs.State.{State, opening}
-use Rattle.mtapi_machine.specs.Moves.{Move, starts, runs, ends, ends_waiting, withdraws, notes, leaves, frees_members, lets_members_go, makes, alters, removes, apply}
+use Rattle.mtapi_machine.specs.Moves.{Move, starts_task, runs_task, ends_task, ends_waiting, withdraws, notes, leaves, frees_members, lets_members_go, makes, alters, removes, apply}
 use Rattle.mtapi_machine.specs.Legal.{NodeEntry, after_from}
 use Rattle.mtapi_machine.proofs.Moves.{along, sorts_keep}
 
 abbrev pub is_number : ℕ → TaskState → Bool
 is_number n Scheduled = false
 is_number n (Running w k) = false
-is_number n (Over e m) = m == n
+is_number n (Ended e m) = m == n
 
 abbrev pub bit : Bool → ℕ
 bit b = cond b 1 0
@@ -87,12 +87,12 @@ ends_high n p e k (r ∷ rs) z = by_test (r.live && p r.fields) (ends_high n p e
     by_test false x y low = omega arith
 
 -- and none from the last one on
-ends_above : (n : ℕ) (p : Task → Bool) (e : TaskEnd) (k : ℕ) (l : List (Listed Task)) → k + count p l ≤ n → has_number n l ≡ 0 → has_number n (end_each p e k l) ≡ 0
+ends_above : (n : ℕ) (p : Task → Bool) (e : TaskEnd) (k : ℕ) (l : List (Listed Task)) → k + count_listed p l ≤ n → has_number n l ≡ 0 → has_number n (end_each p e k l) ≡ 0
 unfolding end_each
 ends_above n p e k [] i z = refl
 ends_above n p e k (r ∷ rs) i z = by_test (r.live && p r.fields) i (λ j. ends_above n p e k rs j (omega arith)) (λ j. ends_above n p e (k + 1) rs j (omega arith))
   where
-    by_test : (b : Bool) → k + (bit b + count p rs) ≤ n → (k + count p rs ≤ n → has_number n (end_each p e k rs) ≡ 0) → (k + 1 + count p rs ≤ n → has_number n (end_each p e (k + 1) rs) ≡ 0) → has_number n (cond b (ended e k r ∷ end_each p e (k + 1) rs) (r ∷ end_each p e k rs)) ≡ 0
+    by_test : (b : Bool) → k + (bit b + count_listed p rs) ≤ n → (k + count_listed p rs ≤ n → has_number n (end_each p e k rs) ≡ 0) → (k + 1 + count_listed p rs ≤ n → has_number n (end_each p e (k + 1) rs) ≡ 0) → has_number n (cond b (ended e k r ∷ end_each p e (k + 1) rs) (r ∷ end_each p e k rs)) ≡ 0
     by_test true i x y =
         let c : bit (k == n) ≡ 0 = ap bit (other_number k n (omega arith)) in
         let u : has_number n (end_each p e (k + 1) rs) ≡ 0 = y (omega arith) in
@@ -111,7 +111,7 @@ kept_numbers s t v e f = record {
   above = λ n i. let a : has_number n t.tasks ≤ has_number n s.tasks = f n in let b : has_number n s.tasks ≡ 0 = v.above n (omega arith) in omega arith;
 }
 
-many_numbers : (s : State) (l : List (Listed Task)) (p : Task → Bool) (e : TaskEnd) → Numbered s → Numbered (record s { tasks = end_each p e s.ends s.tasks; ends = s.ends + count p s.tasks })
+many_numbers : (s : State) (l : List (Listed Task)) (p : Task → Bool) (e : TaskEnd) → Numbered s → Numbered (record s { tasks = end_each p e s.ends s.tasks; ends = s.ends + count_listed p s.tasks })
 many_numbers s l p e v = record {
   once = λ n. by_low n (nat_lt n s.ends) refl;
   above = λ n i. ends_above n p e s.ends s.tasks i (v.above n (omega arith));
@@ -155,9 +155,9 @@ none_more : (a b : ℕ) → a ≤ b + 0 → a ≤ b
 none_more a b e = omega arith
 
 numbered_move : (s : State) (m : Move) → Numbered s → Numbered (apply m s)
-numbered_move s (starts h t) v = kept_numbers s _ v refl (λ n. let e : has_number n (issue h (new_task t s.starts) s.tasks) ≡ has_number n s.tasks = issue_number n h (new_task t s.starts) s.tasks refl in omega arith)
-numbered_move s (runs h w k) v = kept_numbers s _ v refl (λ n. none_more _ _ (change_number n 0 h (with_fields (with_state (Running w k))) s.tasks (λ r. omega arith)))
-numbered_move s (ends h e) v = one_number s h e v
+numbered_move s (starts_task h t) v = kept_numbers s _ v refl (λ n. let e : has_number n (issue h (new_task t s.starts) s.tasks) ≡ has_number n s.tasks = issue_number n h (new_task t s.starts) s.tasks refl in omega arith)
+numbered_move s (runs_task h w k) v = kept_numbers s _ v refl (λ n. none_more _ _ (change_number n 0 h (with_fields (with_state (Running w k))) s.tasks (λ r. omega arith)))
+numbered_move s (ends_task h e) v = one_number s h e v
 numbered_move s (ends_waiting p e) v = many_numbers s s.tasks _ e v
 numbered_move s (withdraws h f c) v = let u = many_numbers s s.tasks _ (Failed c) v in record { once = u.once; above = u.above }
 numbered_move s (notes h f) v = kept_numbers s _ v refl (λ n. none_more _ _ (change_number n 0 h (with_fields (with_notes f)) s.tasks (λ r. omega arith)))

@@ -9,12 +9,12 @@ use Rattle.mtapi_machine.specs.declared.ops.Op.{Op}
 use Rattle.mtapi_machine.specs.declared.ops.Op.TheVariants as op
 use Rattle.mtapi_machine.specs.declared.replies.Reply.{Reply}
 use Rattle.mtapi_machine.specs.declared.replies.Reply.TheVariants.{Handle, Mtapi}
-use Rattle.handle_pool.specs.Issued.{Listed, at, listed, issue}
+use Rattle.handle_pool.specs.Issued.{Listed, live_object, listed, issue}
 use Rattle.mtapi_objects.specs.Actions.{Action, new_action}
 use Rattle.mtapi_objects.specs.Tasks.{Task, NewTask, new_task}
 use Rattle.mtapi_objects.specs.Queues.{Queue}
 use Rattle.mtapi_machine.specs.State.{State}
-use Rattle.mtapi_machine.specs.Moves.{Move, Queues, makes_action, starts, makes, is_fresh, apply, after_moves}
+use Rattle.mtapi_machine.specs.Moves.{Move, Queues, makes_action, starts_task, makes, is_fresh, apply, after_moves}
 use Rattle.mtapi_machine.specs.Row.{gives, Allows, only, after_row}
 use Rattle.mtapi_machine.specs.Rows.{row}
 use Rattle.mtapi_machine.specs.TaskRows.{asked_for, asked_of}
@@ -77,9 +77,9 @@ itself a = record { job = refl; args = refl; priority = refl; cores = refl; queu
 abbrev pub StartedAs : State → Op → ℕ → State → Type 0
 StartedAs s o h t = (n : NewTask) × StartsTask n o × HasObject kind.Task h (SameTask (new_task n s.starts)) t × (t.starts ≡ s.starts + 1)
 
-on_start : (s : State) (o : Op) (h : ℕ) (n : NewTask) → StartsTask n o → AllGives (λ x ms. Handle h ≡ x → StartedAs s o h (after_moves ms s)) (only (is_fresh (objects_of kind.Task) s h) (gives (Handle h) (starts h n ∷ [])))
+on_start : (s : State) (o : Op) (h : ℕ) (n : NewTask) → StartsTask n o → AllGives (λ x ms. Handle h ≡ x → StartedAs s o h (after_moves ms s)) (only (is_fresh (objects_of kind.Task) s h) (gives (Handle h) (starts_task h n ∷ [])))
 on_start s o h n b =
-    on_only (λ x ms. Handle h ≡ x → StartedAs s o h (after_moves ms s)) (is_fresh (objects_of kind.Task) s h) (Handle h) (starts h n ∷ [])
+    on_only (λ x ms. Handle h ≡ x → StartedAs s o h (after_moves ms s)) (is_fresh (objects_of kind.Task) s h) (Handle h) (starts_task h n ∷ [])
     (λ e i. (n, b, has_new h (SameTask (new_task n s.starts)) (new_task n s.starts) s.tasks (fresh_unlisted kind.Task s h e) (itself (new_task n s.starts)), refl))
 
 start_as : (s : State) (who : ℕ) (o : Op) (h : ℕ) → makes_kind kind.Task o ≡ true → Allows (row s who o (Handle h)) (Handle h) → StartedAs s o h (after_row s (row s who o (Handle h)))
@@ -88,8 +88,8 @@ start_as s who (op.TaskStart job args priority cores detached group) h e a =
     (refl, (refl, (refl, (refl, (refl, (refl, (refl, refuses_only _ _ _))))))) (λ c0 c1 c2 c3 c4 c5 c6. on_start s (op.TaskStart job args priority cores detached group) h (asked_for job args priority cores detached group) refl) a
 start_as s who (op.TaskEnqueue q args cores detached group) h e a =
     granted (λ ms. StartedAs s (op.TaskEnqueue q args cores detached group) h (after_moves ms s)) (row s who (op.TaskEnqueue q args cores detached group) (Handle h)) h
-    (refl, (refl, refuses_live (at s.queues q.0) _ _ tt (λ x. (refl, (refl, (refl, (refl, (refl, (refl, (refl, refuses_only _ _ _))))))))))
-    (λ c d. on_live (λ x ms. Handle h ≡ x → StartedAs s (op.TaskEnqueue q args cores detached group) h (after_moves ms s)) (at s.queues q.0) _ _ (λ i. absurd (no_handle h (Mtapi m.ErrQueueInvalid) refl i))
+    (refl, (refl, refuses_live (live_object s.queues q.0) _ _ tt (λ x. (refl, (refl, (refl, (refl, (refl, (refl, (refl, refuses_only _ _ _))))))))))
+    (λ c d. on_live (λ x ms. Handle h ≡ x → StartedAs s (op.TaskEnqueue q args cores detached group) h (after_moves ms s)) (live_object s.queues q.0) _ _ (λ i. absurd (no_handle h (Mtapi m.ErrQueueInvalid) refl i))
     (λ x f c0 c1 c2 c3 c4 c5 c6. on_start s (op.TaskEnqueue q args cores detached group) h (asked_of q.0 x args cores detached group) (x, refl))) a
 start_as s who _ h e a = true_false e refl
 
@@ -145,7 +145,7 @@ queued_as s e h n i =
     subst (λ (x : Reply). QueueAs e.op h (after_row s (row s e.who e.op x))) (sym r)
     (queue_as s e.who e.op h (fst_true (makes_kind kind.Queue e.op) _ i) (subst (λ (x : Reply). Allows (row s e.who e.op x) x) r n.allowed))
 
--- After a front that has the entry
+-- After a prefix that has the entry
 
 pub cut_from : (s : State) (A B : List NodeEntry) (e : NodeEntry) → LegalFrom s (A ++ e ∷ B) → IsNext (after_from s A) e
 unfolding LegalFrom

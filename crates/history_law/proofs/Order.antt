@@ -10,8 +10,8 @@ use Rattle.mtapi_values.specs.declared.statuses.MtapiStatus.TheVariants as m
 use Rattle.mtapi_values.specs.declared.handles.TaskHandle.{TaskHandle}
 use Rattle.mtapi_values.specs.declared.handles.GroupHandle.{GroupHandle}
 use Rattle.mtapi_values.specs.declared.handles.ObjectKind.TheVariants as kind
-use Rattle.handle_pool.specs.Issued.{Listed, live_of, lookup, at, listed, change, change_all, issue, with_fields, gone}
-use Rattle.mtapi_objects.specs.Tasks.{Task, Notes, TaskState, Scheduled, Running, Over, end_of, with_state, with_notes, ended, end_each, new_task}
+use Rattle.handle_pool.specs.Issued.{Listed, live_of, lookup, live_object, listed, change, change_all, issue, with_fields, gone}
+use Rattle.mtapi_objects.specs.Tasks.{Task, Notes, TaskState, Scheduled, Running, Ended, end_of, with_state, with_notes, ended, end_each, new_task}
 use Rattle.mtapi_objects.specs.Groups.{is_member, Ending, insert, insert_ended, endings, in_no_group, freed, let_go}
 use Rattle.mtapi_machine.specs.declared.terms.Terms.{Terms}
 use Rattle.mtapi_machine.specs.declared.ops.Op.{Op}
@@ -19,7 +19,7 @@ use Rattle.mtapi_machine.specs.declared.ops.Op.TheVariants as op
 use Rattle.mtapi_machine.specs.declared.replies.Reply.{Reply}
 use Rattle.mtapi_machine.specs.declared.replies.Reply.TheVariants.{Given, Pending, Mtapi}
 use Rattle.mtapi_machine.specs.State.{State, opening}
-use Rattle.mtapi_machine.specs.Moves.{Move, starts, runs, ends, ends_waiting, withdraws, notes, leaves, frees_members, lets_members_go, makes, alters, removes, apply, after_moves}
+use Rattle.mtapi_machine.specs.Moves.{Move, starts_task, runs_task, ends_task, ends_waiting, withdraws, notes, leaves, frees_members, lets_members_go, makes, alters, removes, apply, after_moves}
 use Rattle.mtapi_machine.specs.Row.{Row, unless, gives, never, Allows, live, moves_of}
 use Rattle.mtapi_machine.specs.Rows.{row}
 use Rattle.mtapi_machine.specs.GroupRows.{gives_end, gives_first}
@@ -118,8 +118,8 @@ pub record Gave (s : State) (g h : ℕ) (ms : List Move) : Type 0 where
   pub task : Task
   pub end : TaskEnd
   pub number : ℕ
-  pub found : at s.tasks h ≡ Some task
-  pub over : task.state ≡ Over end number
+  pub found : live_object s.tasks h ≡ Some task
+  pub over : task.state ≡ Ended end number
   pub member : is_member g task ≡ true
   pub least : AllOf (FromNumber number) (endings g (live_of s.tasks))
   pub moves : ms ≡ notes h in_no_group ∷ leaves h ∷ []
@@ -131,23 +131,23 @@ GaveTo s g _ ms = Unit {0}
 end_no : (h : ℕ) (x : TaskState) → NoGiven (gives_end h x)
 end_no h Scheduled = tt
 end_no h (Running w k) = tt
-end_no h (Over e n) = tt
+end_no h (Ended e n) = tt
 
 first_no : (s : State) (last : Bool) (es : List Ending) → NoGiven (gives_first s last es)
 first_no s last [] = tt
-first_no s last (e ∷ es) = no_live (at s.tasks e.task) never _ tt (λ x. end_no e.task x.state)
+first_no s last (e ∷ es) = no_live (live_object s.tasks e.task) never _ tt (λ x. end_no e.task x.state)
 
-end_gave : (s : State) (g h : ℕ) (x : Task) (y : TaskState) → at s.tasks h ≡ Some x → x.state ≡ y → is_member g x ≡ true → ((e : TaskEnd) (n : ℕ) → y ≡ Over e n → AllOf (FromNumber n) (endings g (live_of s.tasks)))
+end_gave : (s : State) (g h : ℕ) (x : Task) (y : TaskState) → live_object s.tasks h ≡ Some x → x.state ≡ y → is_member g x ≡ true → ((e : TaskEnd) (n : ℕ) → y ≡ Ended e n → AllOf (FromNumber n) (endings g (live_of s.tasks)))
     → AllGives (λ r ms. given_any r ≡ true → GaveTo s g r ms) (gives_end h y)
 end_gave s g h x Scheduled f e m l = tt
 end_gave s g h x (Running w k) f e m l = tt
-end_gave s g h x (Over z n) f e m l = λ i. record { task = x; end = z; number = n; found = f; over = e; member = m; least = l z n refl; moves = refl }
+end_gave s g h x (Ended z n) f e m l = λ i. record { task = x; end = z; number = n; found = f; over = e; member = m; least = l z n refl; moves = refl }
 
 number_told : ℕ → Option (TaskEnd × ℕ) → ℕ
 number_told k None = k
 number_told k (Some p) = p.1
 
-same_number : (x : TaskState) (e z : TaskEnd) (k n : ℕ) → end_of x ≡ Some (e, k) → x ≡ Over z n → k ≡ n
+same_number : (x : TaskState) (e z : TaskEnd) (k n : ℕ) → end_of x ≡ Some (e, k) → x ≡ Ended z n → k ≡ n
 unfolding number_told
 same_number x e z k n i o = ap (number_told k) (sym i ∙ ap end_of o)
 
@@ -158,7 +158,7 @@ not_late false c = refl
 first_gave : (s : State) (g : ℕ) (last : Bool) (es : List Ending) → es ≡ endings g (live_of s.tasks) → AllOf (IsEnding g s.tasks) es → Sorted es → AllGives (λ r ms. given_any r ≡ true → GaveTo s g r ms) (gives_first s last es)
 first_gave s g last [] q a o = λ i. true_false i (not_late last m.Timeout)
 first_gave s g last (e ∷ es) q a o =
-    on_live (λ r ms. given_any r ≡ true → GaveTo s g r ms) (at s.tasks e.task) never _ tt (λ x f. end_gave s g e.task x x.state f refl (a.0.member x f)
+    on_live (λ r ms. given_any r ≡ true → GaveTo s g r ms) (live_object s.tasks e.task) never _ tt (λ x f. end_gave s g e.task x x.state f refl (a.0.member x f)
     (λ z n i.
     let k : e.number ≡ n = same_number x.state e.end z e.number n (a.0.ended x f) i in
     let here : e.number ≤ e.number = omega arith in
@@ -167,8 +167,8 @@ first_gave s g last (e ∷ es) q a o =
 gave_row : (s : State) (who : ℕ) (g : GroupHandle) (last : Bool) (t : TaskHandle) (e : TaskEnd) → OnceIn s.tasks → Allows (row s who (op.AnyLook g last) (Given t e)) (Given t e) → Gave s g.0 t.0 (moves_of (row s who (op.AnyLook g last) (Given t e)))
 gave_row s who g last t e o a =
     answered (GaveTo s g.0) (row s who (op.AnyLook g last) (Given t e)) (Given t e) refl
-    (refl, no_live (at s.groups g.0) _ _ tt (λ x. (refl, first_no s last (endings g.0 (live_of s.tasks)))))
-    (λ c. on_live (λ r ms. given_any r ≡ true → GaveTo s g.0 r ms) (at s.groups g.0) _ _ (λ i. true_false i refl) (λ x f d. first_gave s g.0 last (endings g.0 (live_of s.tasks)) refl (all_endings g.0 s.tasks o) (sorted_endings g.0 (live_of s.tasks)))) a
+    (refl, no_live (live_object s.groups g.0) _ _ tt (λ x. (refl, first_no s last (endings g.0 (live_of s.tasks)))))
+    (λ c. on_live (λ r ms. given_any r ≡ true → GaveTo s g.0 r ms) (live_object s.groups g.0) _ _ (λ i. true_false i refl) (λ x f d. first_gave s g.0 last (endings g.0 (live_of s.tasks)) refl (all_endings g.0 s.tasks o) (sorted_endings g.0 (live_of s.tasks)))) a
 
 gave_as : (s : State) (who : ℕ) (o : Op) (r : Reply) (g h : ℕ) → looks_for_any g o ≡ true → is_given h r ≡ true → OnceIn s.tasks → Allows (row s who o r) r → Gave s g h (moves_of (row s who o r))
 gave_as s who (op.AnyLook x last) (Given t e) g h i j o a =
@@ -197,19 +197,19 @@ from_issue g n h x [] e a = ((λ i j p k. absurd (none (sym e ∙ k))), tt)
     none i = cc
 from_issue g n h x (r ∷ rs) e a = (a.0, from_issue g n h x rs e a.1)
 
-from_change : (g n h : ℕ) (f : Listed Task → Listed Task) (l : List (Listed Task)) → ((r : Listed Task) → at l h ≡ Some r.fields → From g n r → From g n (f r)) → AllFrom g n l → AllFrom g n (change h f l)
+from_change : (g n h : ℕ) (f : Listed Task → Listed Task) (l : List (Listed Task)) → ((r : Listed Task) → live_object l h ≡ Some r.fields → From g n r → From g n (f r)) → AllFrom g n l → AllFrom g n (change h f l)
 unfolding change live_of
 from_change g n h f [] k a = tt
 from_change g n h f (r ∷ rs) k a = by_live (λ m. from_change g n h f rs m a.1) r.live a.0 k
   where
-    by_hand : (((q : Listed Task) → at rs h ≡ Some q.fields → From g n q → From g n (f q)) → AllFrom g n (change h f rs)) → (b : Bool) → From g n (record { handle = r.handle; live = true; fields = r.fields })
-        → ((q : Listed Task) → cond b (Some r.fields) (at rs h) ≡ Some q.fields → From g n q → From g n (f q))
+    by_hand : (((q : Listed Task) → live_object rs h ≡ Some q.fields → From g n q → From g n (f q)) → AllFrom g n (change h f rs)) → (b : Bool) → From g n (record { handle = r.handle; live = true; fields = r.fields })
+        → ((q : Listed Task) → cond b (Some r.fields) (live_object rs h) ≡ Some q.fields → From g n q → From g n (f q))
         → AllFrom g n (cond b (f (record { handle = r.handle; live = true; fields = r.fields }) ∷ rs) (record { handle = r.handle; live = true; fields = r.fields } ∷ change h f rs))
     by_hand rest true u k = (k (record { handle = r.handle; live = true; fields = r.fields }) refl u, a.1)
     by_hand rest false u k = (u, rest k)
 
-    by_live : (((q : Listed Task) → at rs h ≡ Some q.fields → From g n q → From g n (f q)) → AllFrom g n (change h f rs)) → (b : Bool) → From g n (record { handle = r.handle; live = b; fields = r.fields })
-        → ((q : Listed Task) → at (record { handle = r.handle; live = b; fields = r.fields } ∷ rs) h ≡ Some q.fields → From g n q → From g n (f q))
+    by_live : (((q : Listed Task) → live_object rs h ≡ Some q.fields → From g n q → From g n (f q)) → AllFrom g n (change h f rs)) → (b : Bool) → From g n (record { handle = r.handle; live = b; fields = r.fields })
+        → ((q : Listed Task) → live_object (record { handle = r.handle; live = b; fields = r.fields } ∷ rs) h ≡ Some q.fields → From g n q → From g n (f q))
         → AllFrom g n (change h f (record { handle = r.handle; live = b; fields = r.fields } ∷ rs))
     by_live rest true u k = by_hand rest (r.handle == h) u k
     by_live rest false u k = (u, rest k)
@@ -252,12 +252,12 @@ noted_from g n who f r x k = by_group x.group
     by_group (inr e) = λ i j p q. true_false j (ap (holds (λ h. h == g)) e)
 
 left_move : (g n who : ℕ) (o : Op) (s : State) (x : Move) → May s who o x → Left g n s → Left g n (apply x s)
-left_move g n who o s (starts h t) k v = record { next = v.next; all = from_issue g n h (new_task t s.starts) s.tasks refl v.all }
-left_move g n who o s (runs h w z) k v = record { next = v.next; all = from_change g n h (with_fields (with_state (Running w z))) s.tasks (λ r e u i j p q. absurd (none q)) v.all }
+left_move g n who o s (starts_task h t) k v = record { next = v.next; all = from_issue g n h (new_task t s.starts) s.tasks refl v.all }
+left_move g n who o s (runs_task h w z) k v = record { next = v.next; all = from_change g n h (with_fields (with_state (Running w z))) s.tasks (λ r e u i j p q. absurd (none q)) v.all }
   where
     none : {A : Type 0} {y : A} → None ≡ Some y → ⊥
     none i = cc
-left_move g n who o s (ends h e) k v = record { next = let l : n ≤ s.ends = v.next in omega arith; all = from_change g n h (ended e s.ends) s.tasks (λ r f u. over_from g n s.ends e r v.next) v.all }
+left_move g n who o s (ends_task h e) k v = record { next = let l : n ≤ s.ends = v.next in omega arith; all = from_change g n h (ended e s.ends) s.tasks (λ r f u. over_from g n s.ends e r v.next) v.all }
 left_move g n who o s (ends_waiting p e) k v = record { next = let l : n ≤ s.ends = v.next in omega arith; all = from_ends g n _ e s.ends s.tasks v.next v.all }
 left_move g n who o s (withdraws h f c) k v = record { next = let l : n ≤ s.ends = v.next in omega arith; all = from_ends g n _ (Failed c) s.ends s.tasks v.next v.all }
 left_move g n who o s (notes h f) k v = record {
@@ -301,36 +301,36 @@ from_endings g n (r ∷ rs) a = by_live r.live refl a (from_endings g n rs)
     by_live true e a k = by_member (is_member g r.fields) refl a k
     by_live false e a k = ((λ i j p q. true_false i e), k a)
 
-from_at : (g n : ℕ) (l : List (Listed Task)) (h : ℕ) (t : Task) → AllFrom g n l → at l h ≡ Some t → is_member g t ≡ true → (p : TaskEnd × ℕ) → end_of t.state ≡ Some p → n ≤ p.1
+from_at : (g n : ℕ) (l : List (Listed Task)) (h : ℕ) (t : Task) → AllFrom g n l → live_object l h ≡ Some t → is_member g t ≡ true → (p : TaskEnd × ℕ) → end_of t.state ≡ Some p → n ≤ p.1
 unfolding live_of
 from_at g n [] h t a e m p q = absurd (cc)
 from_at g n (r ∷ rs) h t a e m p q = by_live r.live refl e (λ i. from_at g n rs h t a.1 i m p q)
   where
-    by_hand : (b : Bool) → r.live ≡ true → cond b (Some r.fields) (at rs h) ≡ Some t → (at rs h ≡ Some t → n ≤ p.1) → n ≤ p.1
+    by_hand : (b : Bool) → r.live ≡ true → cond b (Some r.fields) (live_object rs h) ≡ Some t → (live_object rs h ≡ Some t → n ≤ p.1) → n ≤ p.1
     by_hand true i e k = let s : r.fields ≡ t = some_same e in a.0 i (ap (is_member g) s ∙ m) p (ap (λ (x : Task). end_of x.state) s ∙ q)
     by_hand false i e k = k e
 
-    by_live : (b : Bool) → r.live ≡ b → lookup (cond b ((r.handle, r.fields) ∷ live_of rs) (live_of rs)) h ≡ Some t → (at rs h ≡ Some t → n ≤ p.1) → n ≤ p.1
+    by_live : (b : Bool) → r.live ≡ b → lookup (cond b ((r.handle, r.fields) ∷ live_of rs) (live_of rs)) h ≡ Some t → (live_object rs h ≡ Some t → n ≤ p.1) → n ≤ p.1
     by_live true i e k = by_hand (r.handle == h) i e k
     by_live false i e k = k e
 
 -- The numbers in the records
 
 -- where no handle is listed twice, the record of the live task is its record
-listed_at : (l : List (Listed Task)) (h : ℕ) (t : Task) → at l h ≡ Some t → 1 ≤ listed h l
+listed_at : (l : List (Listed Task)) (h : ℕ) (t : Task) → live_object l h ≡ Some t → 1 ≤ listed h l
 unfolding live_of listed
 listed_at [] h t e = absurd (cc)
 listed_at (r ∷ rs) h t e = by_live r.live e (listed_at rs h t)
   where
-    by_hand : (b : Bool) → cond b (Some r.fields) (at rs h) ≡ Some t → (at rs h ≡ Some t → 1 ≤ listed h rs) → 1 ≤ cond b 1 0 + listed h rs
+    by_hand : (b : Bool) → cond b (Some r.fields) (live_object rs h) ≡ Some t → (live_object rs h ≡ Some t → 1 ≤ listed h rs) → 1 ≤ cond b 1 0 + listed h rs
     by_hand true m g = omega arith
     by_hand false m g = let k : 1 ≤ listed h rs = g m in omega arith
 
-    by_live : (a : Bool) → lookup (cond a ((r.handle, r.fields) ∷ live_of rs) (live_of rs)) h ≡ Some t → (at rs h ≡ Some t → 1 ≤ listed h rs) → 1 ≤ cond (r.handle == h) 1 0 + listed h rs
+    by_live : (a : Bool) → lookup (cond a ((r.handle, r.fields) ∷ live_of rs) (live_of rs)) h ≡ Some t → (live_object rs h ≡ Some t → 1 ≤ listed h rs) → 1 ≤ cond (r.handle == h) 1 0 + listed h rs
     by_live true m g = by_hand (r.handle == h) m g
     by_live false m g = let k : 1 ≤ listed h rs = g m in omega arith
 
-number_found : (l : List (Listed Task)) (h : ℕ) (t : Task) → OnceIn l → at l h ≡ Some t → number_at l h ≡ number_in t.state
+number_found : (l : List (Listed Task)) (h : ℕ) (t : Task) → OnceIn l → live_object l h ≡ Some t → number_at l h ≡ number_in t.state
 unfolding live_of listed number_at
 number_found [] h t o e = absurd (cc)
 number_found (r ∷ rs) h t o e = by_hand (r.handle == h) refl (o h) (λ i. number_found rs h t (once_rest r rs o) i)
@@ -339,11 +339,11 @@ number_found (r ∷ rs) h t o e = by_hand (r.handle == h) refl (o h) (λ i. numb
     by_live true e i k = some_same (sym (ap (λ (c : Bool). cond c (Some r.fields) (lookup (live_of rs) h)) i) ∙ e)
     by_live false e i k = let z : 1 ≤ listed h rs = listed_at rs h t e in absurd (omega arith)
 
-    past : (a : Bool) → lookup (cond a ((r.handle, r.fields) ∷ live_of rs) (live_of rs)) h ≡ Some t → (r.handle == h) ≡ false → at rs h ≡ Some t
+    past : (a : Bool) → lookup (cond a ((r.handle, r.fields) ∷ live_of rs) (live_of rs)) h ≡ Some t → (r.handle == h) ≡ false → live_object rs h ≡ Some t
     past true e i = sym (ap (λ (c : Bool). cond c (Some r.fields) (lookup (live_of rs) h)) i) ∙ e
     past false e i = e
 
-    by_hand : (b : Bool) → (r.handle == h) ≡ b → cond b 1 0 + listed h rs ≤ 1 → (at rs h ≡ Some t → number_at rs h ≡ number_in t.state) → cond b (number_in r.fields.state) (number_at rs h) ≡ number_in t.state
+    by_hand : (b : Bool) → (r.handle == h) ≡ b → cond b 1 0 + listed h rs ≤ 1 → (live_object rs h ≡ Some t → number_at rs h ≡ number_in t.state) → cond b (number_in r.fields.state) (number_at rs h) ≡ number_in t.state
     by_hand true i k m = ap (λ (x : Task). number_in x.state) (by_live r.live e i k)
     by_hand false i k m = m (past r.live e i)
 
@@ -351,12 +351,12 @@ number_stays : (x y : TaskState) (n : ℕ) → ((e : TaskEnd) (k : ℕ) → end_
 unfolding number_told
 number_stays Scheduled y n k i = absurd (cc)
 number_stays (Running w j) y n k i = absurd (cc)
-number_stays (Over z a) y n k i = by_end y (k z a refl)
+number_stays (Ended z a) y n k i = by_end y (k z a refl)
   where
     by_end : (y : TaskState) → end_of y ≡ Some (z, a) → number_in y ≡ Some n
     by_end Scheduled o = absurd (cc)
     by_end (Running w j) o = absurd (cc)
-    by_end (Over u b) o = let q : b ≡ a = ap (number_told b) o in ap Some q ∙ i
+    by_end (Ended u b) o = let q : b ≡ a = ap (number_told b) o in ap Some q ∙ i
 
 grows_number : (h n : ℕ) (l k : List (Listed Task)) → Grows l k → number_at l h ≡ Some n → number_at k h ≡ Some n
 unfolding number_at
@@ -377,7 +377,7 @@ number_counts (r ∷ rs) h n e = by_hand (r.handle == h) e (number_counts rs h n
     own : (x : TaskState) → number_in x ≡ Some n → bit (is_number n x) ≡ 1
     own Scheduled i = absurd (cc)
     own (Running w k) i = absurd (cc)
-    own (Over z a) i = ap bit (eq-eqb a n (some_same i))
+    own (Ended z a) i = ap bit (eq-eqb a n (some_same i))
 
     by_hand : (b : Bool) → cond b (number_in r.fields.state) (number_at rs h) ≡ Some n → (number_at rs h ≡ Some n → 1 ≤ has_number n rs) → 1 ≤ has_number n (r ∷ rs)
     by_hand true i k = let z : bit (is_number n r.fields.state) ≡ 1 = own r.fields.state i in omega arith
@@ -392,7 +392,7 @@ same_task (r ∷ rs) a b n o i j = by_hand (r.handle == a) refl (r.handle == b) 
     own : (x : TaskState) → number_in x ≡ Some n → bit (is_number n x) ≡ 1
     own Scheduled i = absurd (cc)
     own (Running w k) i = absurd (cc)
-    own (Over z a) i = ap bit (eq-eqb a n (some_same i))
+    own (Ended z a) i = ap bit (eq-eqb a n (some_same i))
 
     twice : number_in r.fields.state ≡ Some n → (h : ℕ) → number_at rs h ≡ Some n → ⊥
     twice i h j = let z : bit (is_number n r.fields.state) ≡ 1 = own r.fields.state i in let y : 1 ≤ has_number n rs = number_counts rs h n j in omega arith
@@ -464,7 +464,7 @@ in_order s u t g a b ms ns v w l d m x y = record { first = v.number; second = w
     by_same false i = let k : v.number ≤ w.number = later s u g a b ms ns v w l in grind (arith, nat_tests)
     by_same true i =
         let one : a ≡ b = same_task t.tasks a b v.number (m.once v.number) x (y ∙ ap Some (sym (eqb-true v.number w.number i))) in
-        let alive : is_some (at u.tasks a) ≡ true = ap (λ (h : ℕ). is_some (at u.tasks h)) one ∙ ap is_some w.found in
+        let alive : is_some (live_object u.tasks a) ≡ true = ap (λ (h : ℕ). is_some (live_object u.tasks h)) one ∙ ap is_some w.found in
         true_false alive (dead_none a u.tasks d.dead)
 
 pub given_in_order : (terms : Terms) (es : List NodeEntry) (g : ℕ) → Legal terms es → GivenInOrder terms es g
@@ -472,13 +472,13 @@ unfolding LegalFrom after_from
 given_in_order terms es g legal A B C x y a b cut i j =
     let whole : LegalFrom (opening terms) (A ++ x ∷ (B ++ y ∷ C)) = subst (λ (L : List NodeEntry). LegalFrom (opening terms) L) cut legal.from in
     let rest : LegalFrom (after terms A) (x ∷ (B ++ y ∷ C)) = Legal-rest (opening terms) A (x ∷ (B ++ y ∷ C)) whole in
-    let front : LegalFrom (after terms A) (x ∷ B) = Legal-front (after terms A) (x ∷ B) (y ∷ C) rest in
+    let prefix : LegalFrom (after terms A) (x ∷ B) = Legal-front (after terms A) (x ∷ B) (y ∷ C) rest in
     let behind : LegalFrom (after_from (after terms A) (x ∷ B)) (y ∷ C) = Legal-rest (after terms A) (x ∷ B) (y ∷ C) rest in
     let v = gave (after terms A) x g a (once_from terms A) rest.0 i in
     let once : OnceIn (after_from (after terms A) (x ∷ B)).tasks = subst (λ (t : State). OnceIn t.tasks) (after-append (opening terms) A (x ∷ B)) (once_from terms (A ++ x ∷ B)) in
     let w = gave (after_from (after terms A) (x ∷ B)) y g b once behind.0 j in
-    let left : Left g v.number (after_from (after terms A) (x ∷ B)) = left_along g v.number (after terms A) (x ∷ B) front (record { next = gave_below _ g a _ (once_from terms A) (numbered_after terms A) v; all = from_endings g v.number (after terms A).tasks v.least }) in
-    let gone : Gone kind.Task a (after_from (after terms A) (x ∷ B)).tasks = (stays_gone kind.Task a (next (after terms A) x) B front.1 (gave_gone (after terms A) g a _ (once_from terms A) v)).0 in
+    let left : Left g v.number (after_from (after terms A) (x ∷ B)) = left_along g v.number (after terms A) (x ∷ B) prefix (record { next = gave_below _ g a _ (once_from terms A) (numbered_after terms A) v; all = from_endings g v.number (after terms A).tasks v.least }) in
+    let gone : Gone kind.Task a (after_from (after terms A) (x ∷ B)).tasks = (stays_gone kind.Task a (next (after terms A) x) B prefix.1 (gave_gone (after terms A) g a _ (once_from terms A) v)).0 in
     let whole_is : after terms es ≡ after_from (after terms A) (x ∷ (B ++ y ∷ C)) = ap (after terms) cut ∙ after-append (opening terms) A (x ∷ (B ++ y ∷ C)) in
     let rest_is : after_from (after terms A) (x ∷ (B ++ y ∷ C)) ≡ after_from (after_from (after terms A) (x ∷ B)) (y ∷ C) = after-append (after terms A) (x ∷ B) (y ∷ C) in
     in_order _ _ (after terms es) g a b _ _ v w left gone (numbered_after terms es)

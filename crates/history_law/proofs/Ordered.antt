@@ -6,8 +6,8 @@ use Rattle.std.proofs.lemmas.Bool.Decides.{nat_tests}
 use Rattle.mtapi_values.specs.Conditions.{holds}
 use Rattle.mtapi_values.specs.declared.ends.TaskEnd.{TaskEnd}
 use Rattle.mtapi_values.specs.declared.handles.ObjectKind.TheVariants as kind
-use Rattle.handle_pool.specs.Issued.{Listed, live_of, lookup, at, any_live, listed}
-use Rattle.mtapi_objects.specs.Tasks.{Task, NewTask, TaskState, Scheduled, Running, Over, scheduled, end_of, is_unstarted, is_unended, new_task}
+use Rattle.handle_pool.specs.Issued.{Listed, live_of, lookup, live_object, any_live, listed}
+use Rattle.mtapi_objects.specs.Tasks.{Task, NewTask, TaskState, Scheduled, Running, Ended, scheduled, end_of, is_unstarted, is_unended, new_task}
 use Rattle.mtapi_objects.specs.Queues.{Queue, is_in, is_unended_in, is_head, lets}
 use Rattle.mtapi_machine.specs.declared.terms.Terms.{Terms}
 use Rattle.mtapi_machine.specs.declared.ops.Op.{Op}
@@ -15,7 +15,7 @@ use Rattle.mtapi_machine.specs.declared.ops.Op.TheVariants as op
 use Rattle.mtapi_machine.specs.declared.replies.Reply.{Reply}
 use Rattle.mtapi_machine.specs.declared.replies.Reply.TheVariants.{Picked}
 use Rattle.mtapi_machine.specs.State.{State, opening}
-use Rattle.mtapi_machine.specs.Moves.{Move, starts, makes, alters, removes, apply}
+use Rattle.mtapi_machine.specs.Moves.{Move, starts_task, makes, alters, removes, apply}
 use Rattle.mtapi_machine.specs.Row.{Allows}
 use Rattle.mtapi_machine.specs.Rows.{row}
 use Rattle.mtapi_machine.specs.WorkRows.{is_ready, has_better}
@@ -47,7 +47,7 @@ some_same e = cc
 -- The number of the next start doesn't fall
 
 starts_move : (k : ℕ) (s : State) (m : Move) → k ≤ s.starts → k ≤ (apply m s).starts
-starts_move k s (starts h t) v = omega arith
+starts_move k s (starts_task h t) v = omega arith
 starts_move k s (makes z j x) v = sorts_keep (λ t. k ≤ t.starts) (λ t g q m c r y p. p) z _ s v
 starts_move k s (alters z j f) v = sorts_keep (λ t. k ≤ t.starts) (λ t g q m c r y p. p) z _ s v
 starts_move k s (removes z j) v = sorts_keep (λ t. k ≤ t.starts) (λ t g q m c r y p. p) z _ s v
@@ -74,13 +74,13 @@ unfolding is_ready
 ready_unstarted s t h = fst_true (is_unstarted t) _ h
 
 -- a ready task of a queue is let begin by it
-ready_let : (s : State) (t : Task) (q : ℕ) → t.queue ≡ Some q → is_ready s t ≡ true → holds (lets q t (live_of s.tasks)) (at s.queues q) ≡ true
+ready_let : (s : State) (t : Task) (q : ℕ) → t.queue ≡ Some q → is_ready s t ≡ true → holds (lets q t (live_of s.tasks)) (live_object s.queues q) ≡ true
 unfolding is_ready
 ready_let s t q e h = by_queue t.queue e (snd_true (is_unstarted t) _ h)
   where
-    by_queue : (o : Option ℕ) → o ≡ Some q → (is_none o || holds (λ h. holds (lets h t (live_of s.tasks)) (at s.queues h)) o) ≡ true → holds (lets q t (live_of s.tasks)) (at s.queues q) ≡ true
+    by_queue : (o : Option ℕ) → o ≡ Some q → (is_none o || holds (λ h. holds (lets h t (live_of s.tasks)) (live_object s.queues h)) o) ≡ true → holds (lets q t (live_of s.tasks)) (live_object s.queues q) ≡ true
     by_queue None e k = absurd (cc)
-    by_queue (Some j) e k = subst (λ (x : ℕ). holds (lets x t (live_of s.tasks)) (at s.queues x) ≡ true) (some_same e) k
+    by_queue (Some j) e k = subst (λ (x : ℕ). holds (lets x t (live_of s.tasks)) (live_object s.queues x) ≡ true) (some_same e) k
 
 ordered_head : (q : ℕ) (t : Task) (l : List (ℕ × Task)) (o : Option Queue) → ((x : Queue) → o ≡ Some x → x.ordered ≡ true) → holds (lets q t l) o ≡ true → is_head q t l ≡ true
 ordered_head q t l None f h = absurd (cc)
@@ -112,7 +112,7 @@ ended_before h F p (r ∷ rs) g u d n k = by_hand (r.handle == h) refl k (λ z. 
     by_state : (x : TaskState) → r.fields.state ≡ x → F r.fields → IsSome (end_in x)
     by_state Scheduled i f = let m : is_unended r.fields ≡ true = ap (λ (y : TaskState). is_none (end_of y)) i in absurd (here r.live refl n (g r.fields f m) m)
     by_state (Running w j) i f = let m : is_unended r.fields ≡ true = ap (λ (y : TaskState). is_none (end_of y)) i in absurd (here r.live refl n (g r.fields f m) m)
-    by_state (Over e j) i f = refl
+    by_state (Ended e j) i f = refl
 
     by_hand : (b : Bool) → (r.handle == h) ≡ b → 1 ≤ cond b 1 0 + listed h rs → (1 ≤ listed h rs → IsSome (end_at rs h)) → IsSome (cond b (end_in r.fields.state) (end_at rs h))
     by_hand true i k m = by_state r.fields.state refl (u.0 i)
@@ -120,20 +120,20 @@ ended_before h F p (r ∷ rs) g u d n k = by_hand (r.handle == h) refl k (λ z. 
 
 -- What has ended isn't picked
 
-listed_at : (l : List (Listed Task)) (h : ℕ) (t : Task) → at l h ≡ Some t → 1 ≤ listed h l
+listed_at : (l : List (Listed Task)) (h : ℕ) (t : Task) → live_object l h ≡ Some t → 1 ≤ listed h l
 unfolding live_of listed
 listed_at [] h t e = absurd (cc)
 listed_at (r ∷ rs) h t e = by_live r.live e (listed_at rs h t)
   where
-    by_hand : (b : Bool) → cond b (Some r.fields) (at rs h) ≡ Some t → (at rs h ≡ Some t → 1 ≤ listed h rs) → 1 ≤ cond b 1 0 + listed h rs
+    by_hand : (b : Bool) → cond b (Some r.fields) (live_object rs h) ≡ Some t → (live_object rs h ≡ Some t → 1 ≤ listed h rs) → 1 ≤ cond b 1 0 + listed h rs
     by_hand true m g = omega arith
     by_hand false m g = let k : 1 ≤ listed h rs = g m in omega arith
 
-    by_live : (a : Bool) → lookup (cond a ((r.handle, r.fields) ∷ live_of rs) (live_of rs)) h ≡ Some t → (at rs h ≡ Some t → 1 ≤ listed h rs) → 1 ≤ cond (r.handle == h) 1 0 + listed h rs
+    by_live : (a : Bool) → lookup (cond a ((r.handle, r.fields) ∷ live_of rs) (live_of rs)) h ≡ Some t → (live_object rs h ≡ Some t → 1 ≤ listed h rs) → 1 ≤ cond (r.handle == h) 1 0 + listed h rs
     by_live true m g = by_hand (r.handle == h) m g
     by_live false m g = let k : 1 ≤ listed h rs = g m in omega arith
 
-pub end_found : (l : List (Listed Task)) (h : ℕ) (t : Task) → OnceIn l → at l h ≡ Some t → end_at l h ≡ end_in t.state
+pub end_found : (l : List (Listed Task)) (h : ℕ) (t : Task) → OnceIn l → live_object l h ≡ Some t → end_at l h ≡ end_in t.state
 unfolding live_of listed end_at
 end_found [] h t o e = absurd (cc)
 end_found (r ∷ rs) h t o e = by_hand (r.handle == h) refl (o h) (λ i. end_found rs h t (once_rest r rs o) i)
@@ -142,11 +142,11 @@ end_found (r ∷ rs) h t o e = by_hand (r.handle == h) refl (o h) (λ i. end_fou
     by_live true e i k = some_same (sym (ap (λ (c : Bool). cond c (Some r.fields) (lookup (live_of rs) h)) i) ∙ e)
     by_live false e i k = let z : 1 ≤ listed h rs = listed_at rs h t e in absurd (omega arith)
 
-    past : (a : Bool) → lookup (cond a ((r.handle, r.fields) ∷ live_of rs) (live_of rs)) h ≡ Some t → (r.handle == h) ≡ false → at rs h ≡ Some t
+    past : (a : Bool) → lookup (cond a ((r.handle, r.fields) ∷ live_of rs) (live_of rs)) h ≡ Some t → (r.handle == h) ≡ false → live_object rs h ≡ Some t
     past true e i = sym (ap (λ (c : Bool). cond c (Some r.fields) (lookup (live_of rs) h)) i) ∙ e
     past false e i = e
 
-    by_hand : (b : Bool) → (r.handle == h) ≡ b → cond b 1 0 + listed h rs ≤ 1 → (at rs h ≡ Some t → end_at rs h ≡ end_in t.state) → cond b (end_in r.fields.state) (end_at rs h) ≡ end_in t.state
+    by_hand : (b : Bool) → (r.handle == h) ≡ b → cond b 1 0 + listed h rs ≤ 1 → (live_object rs h ≡ Some t → end_at rs h ≡ end_in t.state) → cond b (end_in r.fields.state) (end_at rs h) ≡ end_in t.state
     by_hand true i k m = ap (λ (x : Task). end_in x.state) (by_live r.live e i k)
     by_hand false i k m = m (past r.live e i)
 
@@ -156,7 +156,7 @@ unstarted_none t h = by_state t.state h
     by_state : (x : TaskState) → scheduled x ≡ true → end_in x ≡ None
     by_state Scheduled e = refl
     by_state (Running w k) e = refl
-    by_state (Over e n) d = absurd (cc)
+    by_state (Ended e n) d = absurd (cc)
 
 not_picked : (s : State) (z : NodeEntry) (h : ℕ) (e : TaskEnd) → OnceIn s.tasks → end_at s.tasks h ≡ Some e → IsNext s z → picks h z ≡ false
 not_picked s z h e o i n = by_test (picks h z) refl
@@ -282,8 +282,8 @@ first_ended : (terms : Terms) (q a b : ℕ) (s : State) (z : NodeEntry) → Stan
 first_ended terms q a b s z stands v n p =
     let t = picks_took s z b n p in
     let same : SameTask (new_task v.k v.j) t.1.task = under_at b _ s.tasks t.1.task v.second.under t.1.task_found in
-    let let_go : holds (lets q t.1.task (live_of s.tasks)) (at s.queues q) ≡ true = ready_let s t.1.task q (same.queue ∙ v.second_in) (took_ready s z.who b t.0 t.1) in
-    let head : is_head q t.1.task (live_of s.tasks) ≡ true = ordered_head q t.1.task (live_of s.tasks) (at s.queues q) (λ x e. under_at q IsOrdered s.queues x v.queue.under e) let_go in
+    let let_go : holds (lets q t.1.task (live_of s.tasks)) (live_object s.queues q) ≡ true = ready_let s t.1.task q (same.queue ∙ v.second_in) (took_ready s z.who b t.0 t.1) in
+    let head : is_head q t.1.task (live_of s.tasks) ≡ true = ordered_head q t.1.task (live_of s.tasks) (live_object s.queues q) (λ x e. under_at q IsOrdered s.queues x v.queue.under e) let_go in
     ended_before a (SameTask (new_task v.n v.i)) (λ u. is_unended_in q u && nat_lt u.start t.1.task.start) s.tasks (λ u f m. passes u f m same) v.first.under stands.1.dead (not_true _ head) v.first.some
   where
     own : is_in q (new_task v.n v.i) ≡ true
@@ -303,10 +303,10 @@ next_of s z D l = l.0
 pub runs_in_order : (terms : Terms) (es : List NodeEntry) (q : ℕ) → Legal terms es → RunsInOrder terms es q
 runs_in_order terms es q legal Z A B C D o x y z a b cut p r t u =
     let whole : LegalFrom (opening terms) ((Z ++ o ∷ (A ++ x ∷ (B ++ y ∷ C))) ++ z ∷ D) = subst (λ (L : List NodeEntry). LegalFrom (opening terms) L) cut legal.from in
-    let front : LegalFrom (opening terms) (Z ++ o ∷ (A ++ x ∷ (B ++ y ∷ C))) = Legal-front (opening terms) (Z ++ o ∷ (A ++ x ∷ (B ++ y ∷ C))) (z ∷ D) whole in
+    let prefix : LegalFrom (opening terms) (Z ++ o ∷ (A ++ x ∷ (B ++ y ∷ C))) = Legal-front (opening terms) (Z ++ o ∷ (A ++ x ∷ (B ++ y ∷ C))) (z ∷ D) whole in
     let rest : LegalFrom (after terms (Z ++ o ∷ (A ++ x ∷ (B ++ y ∷ C)))) (z ∷ D) = Legal-rest (opening terms) (Z ++ o ∷ (A ++ x ∷ (B ++ y ∷ C))) (z ∷ D) whole in
     let both : Both q a b (after terms (Z ++ o ∷ (A ++ x ∷ (B ++ y ∷ C)))) =
-    subst (Both q a b) (sym (after-append (opening terms) Z (o ∷ (A ++ x ∷ (B ++ y ∷ C))))) (both_put q a b (after terms Z) A B C o x y (Legal-rest (opening terms) Z (o ∷ (A ++ x ∷ (B ++ y ∷ C))) front) p r t) in
+    subst (Both q a b) (sym (after-append (opening terms) Z (o ∷ (A ++ x ∷ (B ++ y ∷ C))))) (both_put q a b (after terms Z) A B C o x y (Legal-rest (opening terms) Z (o ∷ (A ++ x ∷ (B ++ y ∷ C))) prefix) p r t) in
     let ended : IsSome (end_at (after terms (Z ++ o ∷ (A ++ x ∷ (B ++ y ∷ C)))).tasks a) = first_ended terms q a b _ z (stands_after terms (Z ++ o ∷ (A ++ x ∷ (B ++ y ∷ C)))) both (next_of _ z D rest) u in
     let e = shown (end_at (after terms (Z ++ o ∷ (A ++ x ∷ (B ++ y ∷ C)))).tasks a) ended in
     record { ended = ended; never = never_picked _ (z ∷ D) a e.0 rest (once_from terms (Z ++ o ∷ (A ++ x ∷ (B ++ y ∷ C)))) e.1 }

@@ -10,14 +10,14 @@ use Rattle.mtapi_machine.specs.declared.ops.Op.TheVariants as op
 use Rattle.mtapi_machine.specs.declared.replies.Reply.{Reply}
 use Rattle.mtapi_values.specs.declared.ends.TaskEnd.TheVariants.{Failed}
 use Rattle.mtapi_machine.specs.declared.terms.Terms.{Terms}
-use Rattle.handle_pool.specs.Issued.{Listed, live_of, at, count, change, with_fields, gone}
+use Rattle.handle_pool.specs.Issued.{Listed, live_of, live_object, count_listed, change, with_fields, gone}
 use Rattle.mtapi_objects.specs.Groups.{is_member, Ending, endings, in_no_group, freed, let_go}
-use Rattle.mtapi_objects.specs.Tasks.{Task, Notes, with_notes, TaskState, Scheduled, Running, Over, scheduled, end_of, runner, runs_on, is_unstarted, is_unended, with_state, ended, new_task}
+use Rattle.mtapi_objects.specs.Tasks.{Task, Notes, with_notes, TaskState, Scheduled, Running, Ended, scheduled, end_of, runner, runs_on, is_unstarted, is_unended, with_state, ended, new_task}
 use Rattle.history.specs.Histories.{entries_of}
 use Rattle.mtapi_machine.specs.State.{State, opening}
 use Rattle.mtapi_machine.specs.Legal.{NodeEntry, next, LegalFrom, Legal, after_from, after}
 use Rattle.history_law.specs.Seats.{moves_phase, is_release, is_late_end, IsWaiter, Waits, OnceListed, Work, RunsWith, IsUntouched, Others, WorkerKeeps, NoPhase, NoRelease}
-use Rattle.mtapi_machine.specs.Moves.{Move, phase_is, released, stops, starts, runs, ends, ends_waiting, withdraws, notes, leaves, frees_members, lets_members_go, makes, alters, removes, apply, after_moves}
+use Rattle.mtapi_machine.specs.Moves.{Move, phase_is, released, stops, starts_task, runs_task, ends_task, ends_waiting, withdraws, notes, leaves, frees_members, lets_members_go, makes, alters, removes, apply, after_moves}
 use Rattle.mtapi_machine.specs.Row.{after_row}
 use Rattle.mtapi_machine.specs.Rows.{row}
 use Rattle.mtapi_machine.specs.GroupRows.{gives_end, gives_first}
@@ -57,13 +57,13 @@ waits_ended w t e n r i a s = (
 waits_set : (w : ℕ) (f : Task → Task) (t : Task) (r : Listed Task) → IsWaiter w (f t) → r.live ≡ true → r.fields ≡ t → ((with_fields f r).live ≡ true) × IsWaiter w (with_fields f r).fields
 waits_set w f t r i a s = (a, subst (λ (u : Task). IsWaiter w (f u)) (sym s) i)
 
-same_found : (s : State) (j h : ℕ) → j ≡ h → (t u : Task) → at s.tasks j ≡ Some t → at s.tasks h ≡ Some u → t ≡ u
-same_found s j h e t u a b = same (sym a ∙ (ap (λ (i : ℕ). at s.tasks i) e ∙ b))
+pub same_found : (s : State) (j h : ℕ) → j ≡ h → (t u : Task) → live_object s.tasks j ≡ Some t → live_object s.tasks h ≡ Some u → t ≡ u
+same_found s j h e t u a b = same (sym a ∙ (ap (λ (i : ℕ). live_object s.tasks i) e ∙ b))
   where
     same : Some t ≡ Some u → t ≡ u
     same i = cc
 
-same_other : (s : State) (who j h : ℕ) → j ≡ h → (t u : Task) → at s.tasks j ≡ Some t → at s.tasks h ≡ Some u → is_other who t.notes.waiter ≡ false → is_other who u.notes.waiter ≡ false
+same_other : (s : State) (who j h : ℕ) → j ≡ h → (t u : Task) → live_object s.tasks j ≡ Some t → live_object s.tasks h ≡ Some u → is_other who t.notes.waiter ≡ false → is_other who u.notes.waiter ≡ false
 same_other s who j h e t u a b n = ap (λ (x : Task). is_other who x.notes.waiter) (sym (same_found s j h e t u a b)) ∙ n
 
 -- what another seat notes of a task leaves the waiter's mark
@@ -83,8 +83,8 @@ no_member : (g : ℕ) (t : Task) → t.notes.group ≡ None → is_member g t �
 no_member g t e = ap (holds (λ h. h == g)) e
 
 waits_move : (w h who : ℕ) (o : Op) → who ≢ w → is_any_look o ≡ false → (s : State) (x : Move) → May s who o x → Waits s w h → Waits (apply x s) w h
-waits_move w h who o n b s (starts j t) k v = found_issued (IsWaiter w) j h (new_task t s.starts) s.tasks v.0 v.1 v.2
-waits_move w h who o n b s (runs j y z) k v = found_changed (IsWaiter w) j h (with_fields (with_state (Running y z))) (λ r. refl) s.tasks v.0 v.1 v.2 (λ r e a f. waits_set w (with_state (Running y z)) v.0 r (record { mark = v.2.mark; kept = v.2.kept; alone = v.2.alone }) a f)
+waits_move w h who o n b s (starts_task j t) k v = found_issued (IsWaiter w) j h (new_task t s.starts) s.tasks v.0 v.1 v.2
+waits_move w h who o n b s (runs_task j y z) k v = found_changed (IsWaiter w) j h (with_fields (with_state (Running y z))) (λ r. refl) s.tasks v.0 v.1 v.2 (λ r e a f. waits_set w (with_state (Running y z)) v.0 r (record { mark = v.2.mark; kept = v.2.kept; alone = v.2.alone }) a f)
 waits_move w h who o n b s (notes j f) k v =
     found_changed (IsWaiter w) j h (with_fields (with_notes f)) (λ r. refl) s.tasks v.0 v.1 v.2
     (λ r e a d. waits_set w (with_notes f) v.0 r (noted_waits w who f v.0 n (subst (λ (t : Task). Noted who f t) (same_found s j h e k.0 v.0 k.1 v.1) k.2) v.2) a d)
@@ -95,7 +95,7 @@ waits_move w h who o n b s (leaves j) k v =
     by_look : j ≡ h → (is_any_look o ≡ true) ⊎ (is_other who k.0.notes.waiter ≡ false) → ⊥
     by_look e (inl i) = true_false i b
     by_look e (inr i) = (waiter_other w who v.0.notes.waiter n v.2.mark (same_other s who j h e k.0 v.0 k.1 v.1 i))
-waits_move w h who o n b s (ends j e) k v = found_changed (IsWaiter w) j h (ended e s.ends) (λ r. refl) s.tasks v.0 v.1 v.2 (λ r d a f. waits_ended w v.0 e s.ends r v.2 a f)
+waits_move w h who o n b s (ends_task j e) k v = found_changed (IsWaiter w) j h (ended e s.ends) (λ r. refl) s.tasks v.0 v.1 v.2 (λ r d a f. waits_ended w v.0 e s.ends r v.2 a f)
 waits_move w h who o n b s (ends_waiting p e) k v = found_ends (IsWaiter w) (λ t. is_unstarted t && p t) e s.ends h s.tasks v.0 v.1 v.2 (λ r m a f d. waits_ended w v.0 e m r v.2 a f)
 waits_move w h who o n b s (withdraws j f c) k v = found_ends (IsWaiter w) _ (Failed c) s.ends h s.tasks v.0 v.1 v.2 (λ r m a i d. waits_ended w v.0 (Failed c) m r v.2 a i)
 waits_move w h who o n b s (frees_members g) k v =
@@ -108,13 +108,13 @@ waits_move w h who o n b s _ k v = v
 
 -- The work of a worker
 
-runs_scheduled : (w : ℕ) (t : Task) → is_unstarted t ≡ true → runs_on w t ≡ false
+pub runs_scheduled : (w : ℕ) (t : Task) → is_unstarted t ≡ true → runs_on w t ≡ false
 runs_scheduled w t = by_state t.state
   where
     by_state : (x : TaskState) → scheduled x ≡ true → holds (λ r. r.0 == w) (runner x) ≡ false
     by_state Scheduled e = refl
     by_state (Running v k) e = absurd (cc)
-    by_state (Over e n) i = absurd (cc)
+    by_state (Ended e n) i = absurd (cc)
 
 runs_apart : (w who : ℕ) (t : Task) → who ≢ w → runs_on who t ≡ true → runs_on w t ≡ false
 runs_apart w who t n = by_state t.state
@@ -122,15 +122,15 @@ runs_apart w who t n = by_state t.state
     by_state : (x : TaskState) → holds (λ r. r.0 == who) (runner x) ≡ true → holds (λ r. r.0 == w) (runner x) ≡ false
     by_state Scheduled e = refl
     by_state (Running v k) e = grind (arith, nat_tests)
-    by_state (Over e k) i = refl
+    by_state (Ended e k) i = refl
 
-runs_over : (w : ℕ) (t : Task) → is_unended t ≡ false → runs_on w t ≡ false
+pub runs_over : (w : ℕ) (t : Task) → is_unended t ≡ false → runs_on w t ≡ false
 runs_over w t = by_state t.state
   where
     by_state : (x : TaskState) → is_none (end_of x) ≡ false → holds (λ r. r.0 == w) (runner x) ≡ false
     by_state Scheduled e = absurd (cc)
     by_state (Running v k) e = absurd (cc)
-    by_state (Over e k) i = refl
+    by_state (Ended e k) i = refl
 
 may_end_apart : (w who : ℕ) (t : Task) → who ≢ w → MayEnd who t → runs_on w t ≡ false
 may_end_apart w who t n (inl e) = runs_scheduled w t e
@@ -148,7 +148,7 @@ live_same true b e = refl
 live_same false b e = absurd (cc)
 
 -- a change of a task of which the worker's count knows nothing
-count_alike : (w j : ℕ) (f : Listed Task → Listed Task) (l : List (Listed Task)) (t : Task) → at l j ≡ Some t → ((r : Listed Task) → r.live ≡ true → r.fields ≡ t → ((f r).live && runs_on w (f r).fields) ≡ runs_on w t) → count (runs_on w) (change j f l) ≡ count (runs_on w) l
+count_alike : (w j : ℕ) (f : Listed Task → Listed Task) (l : List (Listed Task)) (t : Task) → live_object l j ≡ Some t → ((r : Listed Task) → r.live ≡ true → r.fields ≡ t → ((f r).live && runs_on w (f r).fields) ≡ runs_on w t) → count_listed (runs_on w) (change j f l) ≡ count_listed (runs_on w) l
 count_alike w j f l t e g = let n = count_changed (runs_on w) j f (runs_on w t) l t e g in omega arith
 
 state_alike : (w : ℕ) (f : Task → Task) → ((t : Task) → (f t).state ≡ t.state) → (t : Task) (r : Listed Task) → r.live ≡ true → r.fields ≡ t → ((with_fields f r).live && runs_on w (with_fields f r).fields) ≡ runs_on w t
@@ -161,27 +161,39 @@ goes_alike w r a = by_live r.live a
     by_state : (x : TaskState) → (is_none (end_of x) && holds (λ y. y.0 == w) (runner x)) ≡ holds (λ y. y.0 == w) (runner x)
     by_state Scheduled = refl
     by_state (Running v k) = refl
-    by_state (Over e n) = refl
+    by_state (Ended e n) = refl
 
     by_live : (b : Bool) → b ≡ true → ((b && is_unended r.fields) && runs_on w r.fields) ≡ runs_on w r.fields
     by_live true e = by_state r.fields.state
     by_live false e = absurd (cc)
 
-work_count : (w who : ℕ) (o : Op) → who ≢ w → (s : State) (x : Move) → May s who o x → count (runs_on w) (apply x s).tasks ≡ count (runs_on w) s.tasks
-work_count w who o n s (starts j t) k = let e = count_issued (runs_on w) j (new_task t s.starts) s.tasks in omega arith
-work_count w who o n s (runs j y z) k =
+-- a worker gets a task, and a task ends
+abbrev pub turns_worker : Move → Bool
+turns_worker (runs_task h w k) = true
+turns_worker (ends_task h e) = true
+turns_worker _ = false
+
+-- the other moves leave how many tasks run on a worker
+pub other_count : (w who : ℕ) (o : Op) (s : State) (x : Move) → turns_worker x ≡ false → May s who o x → count_listed (runs_on w) (apply x s).tasks ≡ count_listed (runs_on w) s.tasks
+other_count w who o s (starts_task j t) n k = let e = count_issued (runs_on w) j (new_task t s.starts) s.tasks in omega arith
+other_count w who o s (runs_task j y z) n k = true_false refl n
+other_count w who o s (ends_task j e) n k = true_false refl n
+other_count w who o s (notes j f) n k = count_alike w j (with_fields (with_notes f)) s.tasks k.0 k.1 (state_alike w (with_notes f) (λ t. refl) k.0)
+other_count w who o s (leaves j) n k = count_alike w j gone s.tasks k.0 k.1 (λ r a f. sym (runs_over w k.0 k.2))
+other_count w who o s (ends_waiting p e) n k = count_ends (runs_on w) (λ t. is_unstarted t && p t) e s.ends s.tasks (λ r m a f. never_runs w _ ∙ sym (runs_scheduled w r.fields (fst_true _ _ f)))
+other_count w who o s (withdraws j f c) n k = count_ends (runs_on w) _ (Failed c) s.ends s.tasks (λ r m a i. never_runs w _ ∙ sym (runs_scheduled w r.fields (fst_true _ _ i)))
+other_count w who o s (frees_members g) n k = count_all (runs_on w) _ freed s.tasks (λ r a i. sym (runs_over w r.fields (not_true _ (snd_true (is_member g r.fields) _ i))))
+other_count w who o s (lets_members_go g) n k = count_all (runs_on w) (is_member g) let_go s.tasks (λ r a i. goes_alike w r a)
+other_count w who o s (makes z j x) n k = sorts_keep (λ t. count_listed (runs_on w) t.tasks ≡ count_listed (runs_on w) s.tasks) (λ t g q m c r y p. p) z _ s refl
+other_count w who o s (alters z j f) n k = sorts_keep (λ t. count_listed (runs_on w) t.tasks ≡ count_listed (runs_on w) s.tasks) (λ t g q m c r y p. p) z _ s refl
+other_count w who o s (removes z j) n k = sorts_keep (λ t. count_listed (runs_on w) t.tasks ≡ count_listed (runs_on w) s.tasks) (λ t g q m c r y p. p) z _ s refl
+other_count w who o s _ n k = refl
+
+work_count : (w who : ℕ) (o : Op) → who ≢ w → (s : State) (x : Move) → May s who o x → count_listed (runs_on w) (apply x s).tasks ≡ count_listed (runs_on w) s.tasks
+work_count w who o n s (runs_task j y z) k =
     count_alike w j (with_fields (with_state (Running y z))) s.tasks k.0 k.1 (λ r a f. live_same r.live _ a ∙ (apart_seats y who w k.3 n ∙ sym (runs_scheduled w k.0 k.2)))
-work_count w who o n s (notes j f) k = count_alike w j (with_fields (with_notes f)) s.tasks k.0 k.1 (state_alike w (with_notes f) (λ t. refl) k.0)
-work_count w who o n s (leaves j) k = count_alike w j gone s.tasks k.0 k.1 (λ r a f. sym (runs_over w k.0 k.2))
-work_count w who o n s (ends j e) k = count_alike w j (ended e s.ends) s.tasks k.0 k.1 (λ r a f. never_runs w _ ∙ sym (may_end_apart w who k.0 n k.2))
-work_count w who o n s (ends_waiting p e) k = count_ends (runs_on w) (λ t. is_unstarted t && p t) e s.ends s.tasks (λ r m a f. never_runs w _ ∙ sym (runs_scheduled w r.fields (fst_true _ _ f)))
-work_count w who o n s (withdraws j f c) k = count_ends (runs_on w) _ (Failed c) s.ends s.tasks (λ r m a i. never_runs w _ ∙ sym (runs_scheduled w r.fields (fst_true _ _ i)))
-work_count w who o n s (frees_members g) k = count_all (runs_on w) _ freed s.tasks (λ r a i. sym (runs_over w r.fields (not_true _ (snd_true (is_member g r.fields) _ i))))
-work_count w who o n s (lets_members_go g) k = count_all (runs_on w) (is_member g) let_go s.tasks (λ r a i. goes_alike w r a)
-work_count w who o n s (makes z j x) k = sorts_keep (λ t. count (runs_on w) t.tasks ≡ count (runs_on w) s.tasks) (λ t g q m c r y p. p) z _ s refl
-work_count w who o n s (alters z j f) k = sorts_keep (λ t. count (runs_on w) t.tasks ≡ count (runs_on w) s.tasks) (λ t g q m c r y p. p) z _ s refl
-work_count w who o n s (removes z j) k = sorts_keep (λ t. count (runs_on w) t.tasks ≡ count (runs_on w) s.tasks) (λ t g q m c r y p. p) z _ s refl
-work_count w who o n s _ k = refl
+work_count w who o n s (ends_task j e) k = count_alike w j (ended e s.ends) s.tasks k.0 k.1 (λ r a f. never_runs w _ ∙ sym (may_end_apart w who k.0 n k.2))
+work_count w who o n s x k = other_count w who o s x refl k
 
 -- the task of the handle goes on as it is
 runs_set : (w : ℕ) (q : Work) (f : Task → Task) (t : Task) (r : Listed Task) → RunsWith w q (f t) → r.live ≡ true → r.fields ≡ t → ((with_fields f r).live ≡ true) × RunsWith w q (with_fields f r).fields
@@ -193,7 +205,7 @@ runs_here w q t i = ap (λ (x : TaskState). holds (λ r. r.0 == w) (runner x)) i
     same : (w : ℕ) → (w == w) ≡ true
     same w = grind (arith, nat_tests)
 
-runs_as_they_are : (s : State) (w j h : ℕ) (q : Work) → j ≡ h → (t u : Task) → at s.tasks j ≡ Some t → at s.tasks h ≡ Some u → RunsWith w q u → runs_on w t ≡ false → ⊥
+runs_as_they_are : (s : State) (w j h : ℕ) (q : Work) → j ≡ h → (t u : Task) → live_object s.tasks j ≡ Some t → live_object s.tasks h ≡ Some u → RunsWith w q u → runs_on w t ≡ false → ⊥
 runs_as_they_are s w j h q e t u a b i n = true_false (runs_here w q u i) (ap (runs_on w) (sym (same_found s j h e t u a b)) ∙ n)
 
 noted_runs : (w who : ℕ) (q : Work) (f : Notes → Notes) (t : Task) → who ≢ w → Noted who f t → RunsWith w q t → RunsWith w q (with_notes f t)
@@ -201,17 +213,17 @@ noted_runs w who q f t n x i = by_work x.work
   where
     by_work : (runs_on who t ≡ true) ⊎ SameWork t.notes (f t.notes) → RunsWith w q (with_notes f t)
     by_work (inl a) = true_false (runs_here w q t i) (runs_apart w who t n a)
-    by_work (inr e) = record { state = i.state; arguments = i.arguments; looked = e.looks ∙ i.looked; told = e.seen ∙ i.told; did = e.tally ∙ i.did }
+    by_work (inr e) = record { state = i.state; arguments = i.arguments; looked = e.looks ∙ i.looked; reported = e.seen ∙ i.reported; did = e.tally ∙ i.did }
 
 -- a member that is let go of and runs stays live, and runs on
 goes_on : (w : ℕ) (q : Work) (t : Task) (r : Listed Task) → RunsWith w q t → r.live ≡ true → r.fields ≡ t → ((let_go r).live ≡ true) × RunsWith w q (let_go r).fields
 goes_on w q t r i a s =
     let j : RunsWith w q r.fields = subst (RunsWith w q) (sym s) i in
-    (both_true r.live (is_unended r.fields) a (ap (λ (x : TaskState). is_none (end_of x)) j.state), record { state = j.state; arguments = j.arguments; looked = j.looked; told = j.told; did = j.did })
+    (both_true r.live (is_unended r.fields) a (ap (λ (x : TaskState). is_none (end_of x)) j.state), record { state = j.state; arguments = j.arguments; looked = j.looked; reported = j.reported; did = j.did })
 
 runs_move : (w h : ℕ) (q : Work) (who : ℕ) (o : Op) → who ≢ w → (s : State) (x : Move) → May s who o x → FoundAs (RunsWith w q) s.tasks h → FoundAs (RunsWith w q) (apply x s).tasks h
-runs_move w h q who o n s (starts j t) k v = found_issued (RunsWith w q) j h (new_task t s.starts) s.tasks v.0 v.1 v.2
-runs_move w h q who o n s (runs j y z) k v =
+runs_move w h q who o n s (starts_task j t) k v = found_issued (RunsWith w q) j h (new_task t s.starts) s.tasks v.0 v.1 v.2
+runs_move w h q who o n s (runs_task j y z) k v =
     found_changed (RunsWith w q) j h (with_fields (with_state (Running y z))) (λ r. refl) s.tasks v.0 v.1 v.2
     (λ r e a f. absurd (runs_as_they_are s w j h q e k.0 v.0 k.1 v.1 v.2 (runs_scheduled w k.0 k.2)))
 runs_move w h q who o n s (notes j f) k v =
@@ -219,7 +231,7 @@ runs_move w h q who o n s (notes j f) k v =
     (λ r e a d. runs_set w q (with_notes f) v.0 r (noted_runs w who q f v.0 n (subst (λ (t : Task). Noted who f t) (same_found s j h e k.0 v.0 k.1 v.1) k.2) v.2) a d)
 runs_move w h q who o n s (leaves j) k v =
     found_changed (RunsWith w q) j h gone (λ r. refl) s.tasks v.0 v.1 v.2 (λ r e a f. absurd (runs_as_they_are s w j h q e k.0 v.0 k.1 v.1 v.2 (runs_over w k.0 k.2)))
-runs_move w h q who o n s (ends j e) k v =
+runs_move w h q who o n s (ends_task j e) k v =
     found_changed (RunsWith w q) j h (ended e s.ends) (λ r. refl) s.tasks v.0 v.1 v.2
     (λ r d a f. absurd (runs_as_they_are s w j h q d k.0 v.0 k.1 v.1 v.2 (may_end_apart w who k.0 n k.2)))
 runs_move w h q who o n s (ends_waiting p e) k v =
@@ -247,10 +259,10 @@ other_head w e es = by_seat (e.who == w) refl
     by_seat false d i = (apart d, i)
 
 -- a look at a group gives a member, and no seat waits for one
-any_gives : (w h : ℕ) (s : State) (g j : ℕ) (x : Task) (y : TaskState) → at s.tasks j ≡ Some x → is_member g x ≡ true → Waits s w h → AllGives (λ r ms. Waits (after_moves ms s) w h) (gives_end j y)
+any_gives : (w h : ℕ) (s : State) (g j : ℕ) (x : Task) (y : TaskState) → live_object s.tasks j ≡ Some x → is_member g x ≡ true → Waits s w h → AllGives (λ r ms. Waits (after_moves ms s) w h) (gives_end j y)
 any_gives w h s g j x Scheduled e m v = tt
 any_gives w h s g j x (Running z k) e m v = tt
-any_gives w h s g j x (Over z n) e m v =
+any_gives w h s g j x (Ended z n) e m v =
     let u = found_changed (IsWaiter w) j h (with_fields (with_notes in_no_group)) (λ r. refl) s.tasks v.0 v.1 v.2 (λ r i a f. absurd (apart i)) in
     found_changed (IsWaiter w) j h gone (λ r. refl) _ u.0 u.1 u.2 (λ r i a f. absurd (apart i))
   where
@@ -259,12 +271,12 @@ any_gives w h s g j x (Over z n) e m v =
 
 any_first : (w h : ℕ) (s : State) (g : ℕ) (last : Bool) (es : List Ending) → AllOf (IsEnding g s.tasks) es → Waits s w h → AllGives (λ r ms. Waits (after_moves ms s) w h) (gives_first s last es)
 any_first w h s g last [] a v = v
-any_first w h s g last (e ∷ es) a v = on_live _ (at s.tasks e.task) _ _ tt (λ x i. any_gives w h s g e.task x x.state i (a.0.member x i) v)
+any_first w h s g last (e ∷ es) a v = on_live _ (live_object s.tasks e.task) _ _ tt (λ x i. any_gives w h s g e.task x x.state i (a.0.member x i) v)
 
 waits_any : (w h : ℕ) (s : State) (who : ℕ) (o : Op) (r : Reply) → is_any_look o ≡ true → OnceListed s → Waits s w h → Waits (after_row s (row s who o r)) w h
 waits_any w h s who (op.AnyLook g last) r b o v =
     moves_given (λ ms. Waits (after_moves ms s) w h) (row s who (op.AnyLook g last) r) v
-    (λ c. on_live _ (at s.groups g.0) _ _ v (λ x e d. any_first w h s g.0 last (endings g.0 (live_of s.tasks)) (all_endings g.0 s.tasks o) v))
+    (λ c. on_live _ (live_object s.groups g.0) _ _ v (λ x e d. any_first w h s g.0 last (endings g.0 (live_of s.tasks)) (all_endings g.0 s.tasks o) v))
 waits_any w h s who _ r b o v = true_false b refl
 
 pub once_stays : (s : State) (L : List NodeEntry) → OnceListed s → OnceListed (after_from s L)
@@ -284,12 +296,12 @@ waiter_stays s (e ∷ es) w h n l o v =
     by_look a true b = waits_any w h s e.who e.op e.reply b n v
     by_look a false b = by_moves (λ t. Waits t w h) s e l.0 (λ t x k y. waits_move w h e.who e.op a b t x k y) v
 
-pub count_stays : (s : State) (L : List NodeEntry) (w : ℕ) → LegalFrom s L → Others w L → count (runs_on w) (after_from s L).tasks ≡ count (runs_on w) s.tasks
+pub count_stays : (s : State) (L : List NodeEntry) (w : ℕ) → LegalFrom s L → Others w L → count_listed (runs_on w) (after_from s L).tasks ≡ count_listed (runs_on w) s.tasks
 unfolding LegalFrom after_from
 count_stays s [] w l o = refl
 count_stays s (e ∷ es) w l o =
     let q = other_head w e es o in
-    count_stays (next s e) es w l.1 q.1 ∙ by_moves (λ t. count (runs_on w) t.tasks ≡ count (runs_on w) s.tasks) s e l.0 (λ t x k y. work_count w e.who e.op q.0 t x k ∙ y) refl
+    count_stays (next s e) es w l.1 q.1 ∙ by_moves (λ t. count_listed (runs_on w) t.tasks ≡ count_listed (runs_on w) s.tasks) s e l.0 (λ t x k y. work_count w e.who e.op q.0 t x k ∙ y) refl
 
 pub runs_stay : (s : State) (L : List NodeEntry) (w h : ℕ) (q : Work) → LegalFrom s L → Others w L → FoundAs (RunsWith w q) s.tasks h → FoundAs (RunsWith w q) (after_from s L).tasks h
 unfolding LegalFrom after_from
@@ -335,30 +347,30 @@ release_stays s (e ∷ es) l n = release_stays (next s e) es l.1 n.1 ∙ by_move
 -- No task ends with TIMEOUT
 
 -- of each listed task: its end isn't TIMEOUT, and neither is how its tally would end
-abbrev in_time : TaskState → Bool
+abbrev pub in_time : TaskState → Bool
 in_time Scheduled = true
 in_time (Running w k) = true
-in_time (Over e n) = not (is_late_end e)
+in_time (Ended e n) = not (is_late_end e)
 
 pub record InTime (t : Task) : Type 0 where
   pub state : in_time t.state ≡ true
   pub verdict : is_late_end t.notes.tally.verdict ≡ false
 
-ended_in_time : (e : TaskEnd) (n : ℕ) (t : Task) → is_late_end e ≡ false → InTime t → InTime (with_state (Over e n) t)
+ended_in_time : (e : TaskEnd) (n : ℕ) (t : Task) → is_late_end e ≡ false → InTime t → InTime (with_state (Ended e n) t)
 ended_in_time e n t k i = record { state = ap not k; verdict = i.verdict }
 
 noted_in_time : (who : ℕ) (f : Notes → Notes) (t : Task) → Noted who f t → InTime t → InTime (with_notes f t)
 noted_in_time who f t x i = record { state = i.state; verdict = x.verdict i.verdict }
 
 time_move : (who : ℕ) (o : Op) (s : State) (x : Move) → May s who o x → Every InTime s.tasks → Every InTime (apply x s).tasks
-time_move who o s (starts j y) k v = every_issue InTime j (new_task y s.starts) s.tasks (record { state = refl; verdict = refl }) v
-time_move who o s (runs j y z) k v = every_change InTime j (with_fields (with_state (Running y z))) s.tasks (λ r e i. record { state = refl; verdict = i.verdict }) v
+time_move who o s (starts_task j y) k v = every_issue InTime j (new_task y s.starts) s.tasks (record { state = refl; verdict = refl }) v
+time_move who o s (runs_task j y z) k v = every_change InTime j (with_fields (with_state (Running y z))) s.tasks (λ r e i. record { state = refl; verdict = i.verdict }) v
 time_move who o s (notes j f) k v =
     every_change InTime j (with_fields (with_notes f)) s.tasks (λ r e i. noted_in_time who f r.fields (subst (λ (t : Task). Noted who f t) (some_same (sym k.1 ∙ e)) k.2) i) v
 time_move who o s (leaves j) k v = every_change InTime j gone s.tasks (λ r e i. i) v
-time_move who o s (ends j e) k v = every_change InTime j (ended e s.ends) s.tasks (λ r d i. ended_in_time e s.ends r.fields (by_end r.fields d i k.3) i) v
+time_move who o s (ends_task j e) k v = every_change InTime j (ended e s.ends) s.tasks (λ r d i. ended_in_time e s.ends r.fields (by_end r.fields d i k.3) i) v
   where
-    by_end : (t : Task) → at s.tasks j ≡ Some t → InTime t → (is_late_end e ≡ false) ⊎ (e ≡ k.0.notes.tally.verdict) → is_late_end e ≡ false
+    by_end : (t : Task) → live_object s.tasks j ≡ Some t → InTime t → (is_late_end e ≡ false) ⊎ (e ≡ k.0.notes.tally.verdict) → is_late_end e ≡ false
     by_end t d i (inl y) = y
     by_end t d i (inr y) = ap is_late_end (y ∙ ap (λ (u : Task). u.notes.tally.verdict) (some_same (sym k.1 ∙ d))) ∙ i.verdict
 time_move who o s (ends_waiting p e) k v = every_ends InTime (λ t. is_unstarted t && p t) e s.ends s.tasks (λ t n i. ended_in_time e n t k i) v
@@ -370,7 +382,7 @@ time_move who o s (alters z j f) k v = sorts_keep (λ t. Every InTime t.tasks) (
 time_move who o s (removes z j) k v = sorts_keep (λ t. Every InTime t.tasks) (λ t g q m c r y p. p) z _ s v
 time_move who o s _ k v = v
 
-time_after : (s : State) (L : List NodeEntry) → LegalFrom s L → Every InTime s.tasks → Every InTime (after_from s L).tasks
+pub time_after : (s : State) (L : List NodeEntry) → LegalFrom s L → Every InTime s.tasks → Every InTime (after_from s L).tasks
 unfolding LegalFrom after_from
 time_after s [] l v = v
 time_after s (e ∷ es) l v = time_after (next s e) es l.1 (by_moves (λ t. Every InTime t.tasks) s e l.0 (time_move e.who e.op) v)
@@ -380,16 +392,16 @@ told_end : TaskEnd → Option (TaskEnd × ℕ) → TaskEnd
 told_end e None = e
 told_end e (Some p) = p.0
 
-same_end : (e y : TaskEnd) (n m : ℕ) → end_of (Over y m) ≡ Some (e, n) → y ≡ e
+same_end : (e y : TaskEnd) (n m : ℕ) → end_of (Ended y m) ≡ Some (e, n) → y ≡ e
 unfolding told_end
 same_end e y n m k = ap (told_end e) k
 
 over_in_time : (x : TaskState) (e : TaskEnd) (n : ℕ) → in_time x ≡ true → end_of x ≡ Some (e, n) → is_late_end e ≡ false
 over_in_time Scheduled e n i k = absurd (cc)
 over_in_time (Running w z) e n i k = absurd (cc)
-over_in_time (Over y m) e n i k = ap is_late_end (sym (same_end e y n m k)) ∙ not_true _ i
+over_in_time (Ended y m) e n i k = ap is_late_end (sym (same_end e y n m k)) ∙ not_true _ i
 
-pub no_late_end : (terms : Terms) (L : List NodeEntry) (h : ℕ) (t : Task) (n : ℕ) (e : TaskEnd) → Legal terms L → at (after terms L).tasks h ≡ Some t → end_of t.state ≡ Some (e, n) → is_late_end e ≡ false
+pub no_late_end : (terms : Terms) (L : List NodeEntry) (h : ℕ) (t : Task) (n : ℕ) (e : TaskEnd) → Legal terms L → live_object (after terms L).tasks h ≡ Some t → end_of t.state ≡ Some (e, n) → is_late_end e ≡ false
 no_late_end terms L h t n e l a i = over_in_time t.state e n (every_at InTime (after terms L).tasks h t (time_after (opening terms) L l.from tt) a).state i
 
 -- A task that hasn't begun is untouched
@@ -413,12 +425,12 @@ group_clean : (t : Task) (d : Bool) (g : Option ℕ) → Clean t → Clean (with
 group_clean t d g i u = let y = i u in record { looks = y.looks; seen = y.seen; tally = y.tally }
 
 clean_move : (who : ℕ) (o : Op) (s : State) (x : Move) → May s who o x → Every Clean s.tasks → Every Clean (apply x s).tasks
-clean_move who o s (starts j y) k v = every_issue Clean j (new_task y s.starts) s.tasks (λ u. record { looks = refl; seen = refl; tally = refl }) v
-clean_move who o s (runs j y z) k v = every_change Clean j (with_fields (with_state (Running y z))) s.tasks (λ r e i u. true_false u refl) v
+clean_move who o s (starts_task j y) k v = every_issue Clean j (new_task y s.starts) s.tasks (λ u. record { looks = refl; seen = refl; tally = refl }) v
+clean_move who o s (runs_task j y z) k v = every_change Clean j (with_fields (with_state (Running y z))) s.tasks (λ r e i u. true_false u refl) v
 clean_move who o s (notes j f) k v =
     every_change Clean j (with_fields (with_notes f)) s.tasks (λ r e i. noted_clean who f r.fields (subst (λ (t : Task). Noted who f t) (some_same (sym k.1 ∙ e)) k.2) i) v
 clean_move who o s (leaves j) k v = every_change Clean j gone s.tasks (λ r e i. i) v
-clean_move who o s (ends j e) k v = every_change Clean j (ended e s.ends) s.tasks (λ r d i u. true_false u refl) v
+clean_move who o s (ends_task j e) k v = every_change Clean j (ended e s.ends) s.tasks (λ r d i u. true_false u refl) v
 clean_move who o s (ends_waiting p e) k v = every_ends Clean (λ t. is_unstarted t && p t) e s.ends s.tasks (λ t n i u. true_false u refl) v
 clean_move who o s (withdraws j f c) k v = every_ends Clean _ (Failed c) s.ends s.tasks (λ t n i u. true_false u refl) v
 clean_move who o s (frees_members g) k v = every_all Clean _ freed s.tasks (λ r i. group_clean r.fields r.fields.notes.detached None i) v
@@ -433,7 +445,7 @@ unfolding LegalFrom after_from
 clean_after s [] l v = v
 clean_after s (e ∷ es) l v = clean_after (next s e) es l.1 (by_moves (λ t. Every Clean t.tasks) s e l.0 (clean_move e.who e.op) v)
 
-pub unstarted_untouched : (terms : Terms) (L : List NodeEntry) (h : ℕ) (t : Task) → Legal terms L → at (after terms L).tasks h ≡ Some t → is_unstarted t ≡ true → IsUntouched t
+pub unstarted_untouched : (terms : Terms) (L : List NodeEntry) (h : ℕ) (t : Task) → Legal terms L → live_object (after terms L).tasks h ≡ Some t → is_unstarted t ≡ true → IsUntouched t
 unstarted_untouched terms L h t l a i = every_at Clean (after terms L).tasks h t (clean_after (opening terms) L l.from tt) a i
 
 -- The terms stay

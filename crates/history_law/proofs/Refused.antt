@@ -1,10 +1,15 @@
 -- The lists that the laws refuse, by computing.
-use Rattle.std.proofs.Common.{◌≡◌, ◌<◌, ◌≤◌, true, false, List, [], ◌∷◌, ◌++◌, Option, Some, None, refl, sym, ◌∙◌, arith}
-use Rattle.std.specs.Prelude.{pos, IsSome}
+use Rattle.std.proofs.Common.{◌≡◌, ℕ, ◌<◌, ◌≤◌, Bool, true, false, cond, ◌⊎◌, inl, inr, ap, List, [], ◌∷◌, ◌++◌, Option, Some, None, refl, sym, ◌∙◌, arith}
+use Rattle.std.specs.Prelude.{pos, IsSome, slice_set}
 use Rattle.mtapi_values.specs.declared.kinds.Kind.TheVariants as kind
 use Rattle.mtapi_values.specs.declared.handles.ObjectKind.TheVariants as object
 use Rattle.mtapi_values.specs.declared.handles.Layout.TheVariants.{Two}
-use Rattle.handle_pool.specs.Issued.{live_of, issue, change, listed, issued_at, retired, is_full, may_issue}
+use Rattle.mtapi_values.specs.Seats.{no_marks}
+use Rattle.mtapi_values.specs.declared.handles.TaskHandle.{TaskHandle}
+use Rattle.mtapi_machine.specs.declared.ops.Op.{Op}
+use Rattle.mtapi_objects.specs.Tasks.{Task}
+use Rattle.mtapi_objects.specs.Segments.{Segment}
+use Rattle.handle_pool.specs.Issued.{Listed, live_of, issue, change, listed, issued_at, retired, is_full, may_issue}
 use Rattle.mtapi_objects.specs.Actions.{has_worker}
 use Rattle.mtapi_objects.specs.Tasks.{end_each}
 use Rattle.mtapi_machine.specs.declared.terms.Terms.{Terms}
@@ -16,16 +21,19 @@ use Rattle.mtapi_machine.specs.Kept.{kept}
 use Rattle.mtapi_machine.specs.Laws.{DropsToSame}
 use Rattle.mtapi_machine.specs.Ends.{end_at}
 use Rattle.mtapi_machine.specs.Worked.{usual, main, worker, first_handle, next_handle, task, the_action, add_task}
-use Rattle.history_law.specs.Words.{is_live}
+use Rattle.history_law.specs.Words.{some_entry, is_live}
 use Rattle.history_law.specs.Ends.{EndsAfterClose}
 use Rattle.history_law.specs.Affinity.{ObeysMasks}
-use Rattle.history_law.specs.Exclusion.{SemsKeepTo}
+use Rattle.history_law.specs.Exclusion.{HasMutex, MutexesKeepTo, SemsKeepTo, OneWriter, ReadersAlone, RwlsKeepTo, tally_got}
+use Rattle.mtapi_machine.specs.Tables.{h1}
+use Rattle.history_law.specs.WorkedSum.{two_workers, gets_both, begins}
+use Rattle.history_law.specs.Tally.{record_of, number_added, sum_of, writes_to, HoldsTheSum}
 use Rattle.history_law.specs.Order.{GivenInOrder, EndedBefore}
 use Rattle.history_law.specs.Ordered.{RunsInOrder}
 use Rattle.history_law.specs.Told.{TellsItsEnd}
 use Rattle.mtapi_values.specs.declared.ends.TaskEnd.TheVariants.{Cancelled, Completed}
 use Rattle.history_law.specs.Reuse.{NeverAgain, NotInBoth}
-use Rattle.history_law.specs.Refused.{second_core, makes_action, too_early, up_to_the_end, leaves, again, one_for_two, on_another_core, given_twice, gives_first, puts_one, two_put, picks_second, final_first, cancelled_first, completed_then, two_ends, makes_sem, both_hold, LawsRefuse}
+use Rattle.history_law.specs.Refused.{second_core, makes_action, too_early, up_to_the_end, leaves, again, one_for_two, on_another_core, given_twice, gives_first, puts_one, two_put, picks_second, final_first, cancelled_first, completed_then, two_ends, makes_sem, both_hold, both_own, makes_rwl, reads_beside, written_untold, caller_gets, beside_a_tally, LawsRefuse}
 
 some_same : {A : Type 0} {x y : A} → Some x ≡ Some y → x ≡ y
 some_same e = cc
@@ -41,8 +49,8 @@ refuses_close : EndsAfterClose usual too_early first_handle → ⊥
 unfolding too_early
 refuses_close f =
     let before : List NodeEntry = main op.Initialize reply.Ok ∷ main makes_action (reply.Handle first_handle) ∷ main (add_task 0) (reply.Handle first_handle) ∷ [] in
-    let front : List NodeEntry = main op.Initialize reply.Ok ∷ main makes_action (reply.Handle first_handle) ∷ [] in
-    let x = f before [] front (main op.Final reply.Ok ∷ []) (main (add_task 0) (reply.Handle first_handle)) 1 refl refl refl in
+    let prefix : List NodeEntry = main op.Initialize reply.Ok ∷ main makes_action (reply.Handle first_handle) ∷ [] in
+    let x = f before [] prefix (main op.Final reply.Ok ∷ []) (main (add_task 0) (reply.Handle first_handle)) 1 refl refl refl in
     not_some (sym no_end ∙ x.ended)
 
 is_there : is_live object.Task first_handle (after usual up_to_the_end) ≡ true
@@ -65,8 +73,8 @@ refuses_kind terms f = (f refl refl).entries refl refl
 
 refuses_core : ObeysMasks on_another_core 2 → ⊥
 refuses_core f =
-    let front : List NodeEntry = main (op.ActionCreate 1 kind.Add second_core) (reply.Handle first_handle) ∷ main (add_task 0) (reply.Handle first_handle) ∷ [] in
-    let x = f front [] 0 (task first_handle) the_action kind.Add (pos 2 ∷ pos 3 ∷ []) refl refl in
+    let prefix : List NodeEntry = main (op.ActionCreate 1 kind.Add second_core) (reply.Handle first_handle) ∷ main (add_task 0) (reply.Handle first_handle) ∷ [] in
+    let x = f prefix [] 0 (task first_handle) the_action kind.Add (pos 2 ∷ pos 3 ∷ []) refl refl in
     true_false (sym (x.action [] (main (add_task 0) (reply.Handle first_handle) ∷ []) (main (op.ActionCreate 1 kind.Add second_core) (reply.Handle first_handle)) 2 refl refl refl))
 
 refuses_twice : GivenInOrder usual given_twice first_handle → ⊥
@@ -111,6 +119,78 @@ apart e = cc
 refuses_two : TellsItsEnd usual two_ends first_handle → ⊥
 refuses_two f = apart (sym (f [] (completed_then ∷ []) cancelled_first Cancelled refl refl) ∙ f (cancelled_first ∷ []) [] completed_then (Completed []) refl refl)
 
+apart_seats : (v w : ℕ) → v < w → v ≡ w → ⊥
+apart_seats v w l e = omega arith
+
+refuses_own : MutexesKeepTo usual both_own → ⊥
+refuses_own f =
+    let held : 0 < 1 = omega arith in
+    apart_seats 1 2 (omega arith) ((f both_own [] first_handle refl).one 1 2 (inl held) (inl held))
+
+-- the tally has the mutex after its entry
+tally_has_it : HasMutex (after two_workers (begins ++ gets_both 0 h1 ∷ [])) h1 h1
+unfolding after_from live_of issue change listed issued_at retired is_full may_issue has_worker end_each is_ready can_take has_better
+tally_has_it = (_, refl, refl)
+
+refuses_tally_mutex : MutexesKeepTo two_workers beside_a_tally → ⊥
+unfolding beside_a_tally
+refuses_tally_mutex f =
+    let held : 0 < 1 = omega arith in
+    apart_seats 0 2 (omega arith)
+    ((f beside_a_tally [] h1 refl).one 0 2 (inr (record { task = task h1; before = begins; since = caller_gets; cut = refl; got = tally_has_it; unended = refl })) (inl held))
+
+refuses_beside : RwlsKeepTo (makes_rwl ∷ reads_beside) → ⊥
+refuses_beside f = by_holders (f [] reads_beside [] makes_rwl first_handle 2 refl refl refl).held
+  where
+    by_holders : OneWriter reads_beside first_handle ⊎ ReadersAlone reads_beside first_handle 2 → ⊥
+    by_holders (inl x) = apart_seats 0 1 (omega arith) (sym x.readers)
+    by_holders (inr x) = apart_seats 0 1 (omega arith) (sym x.writer)
+
+-- a cell of that segment holds 9
+abbrev nine : Segment
+nine = record { id = 1; cells = pos 9 ∷ []; attached = slice_set no_marks 1 true }
+
+holds_nine : record_of (after usual (written_untold ++ final_first)).segments first_handle ≡ Some nine
+unfolding written_untold record_of after_from live_of issue change listed issued_at retired is_full may_issue
+holds_nine = refl
+
+no_tasks : (after usual (written_untold ++ final_first)).tasks ≡ []
+unfolding written_untold after_from live_of issue change listed issued_at retired is_full may_issue
+no_tasks = refl
+
+is_lock : NodeEntry → Bool
+is_lock e = by_op e.op
+  where
+    by_op : Op → Bool
+    by_op (op.TallyLock t) = true
+    by_op _ = false
+
+some_lock : (A B : List NodeEntry) (w : ℕ) (t : TaskHandle) → some_entry is_lock (A ++ tally_got w t ∷ B) ≡ true
+unfolding is_lock
+some_lock [] B w t = refl
+some_lock (e ∷ A) B w t = by_test (is_lock e) (some_lock A B w t)
+  where
+    by_test : (b : Bool) → some_entry is_lock (A ++ tally_got w t ∷ B) ≡ true → cond b true (some_entry is_lock (A ++ tally_got w t ∷ B)) ≡ true
+    by_test true k = refl
+    by_test false k = k
+
+no_lock : some_entry is_lock (written_untold ++ final_first) ≡ false
+unfolding written_untold is_lock
+no_lock = refl
+
+no_write : some_entry (writes_to first_handle 0) (written_untold ++ final_first) ≡ false
+unfolding written_untold
+no_write = refl
+
+refuses_sum : HoldsTheSum usual (written_untold ++ final_first) first_handle 0 → ⊥
+refuses_sum f =
+    apart_numbers
+    (f written_untold [] 1 0 nine refl holds_nine (omega arith) no_write (λ A B w t x cut a b. absurd (true_false (sym (some_lock A B w t) ∙ (ap (some_entry is_lock) (sym cut) ∙ no_lock))))
+    ∙ ap (λ (l : List (Listed Task)). sum_of (number_added first_handle 0) l) no_tasks)
+  where
+    apart_numbers : pos 9 ≡ pos 0 → ⊥
+    apart_numbers e = cc
+
 pub laws_refuse : LawsRefuse
 laws_refuse = record {
   one_end = refuses_two;
@@ -120,6 +200,10 @@ laws_refuse = record {
   affinity = refuses_core;
   group_order = refuses_twice;
   ordered = refuses_order;
+  mutexes = refuses_own;
+  tally_mutex = refuses_tally_mutex;
   sems = refuses_both;
+  rwls = refuses_beside;
+  tally = refuses_sum;
   drop = refuses_final;
 }

@@ -13,7 +13,7 @@ use Rattle.mtapi_machine.specs.declared.ops.Op.{Op}
 use Rattle.mtapi_machine.specs.declared.ops.Op.TheVariants as op
 use Rattle.mtapi_machine.specs.declared.replies.Reply.{Reply}
 use Rattle.mtapi_machine.specs.declared.replies.Reply.TheVariants.{Handle, Mtapi}
-use Rattle.handle_pool.specs.Issued.{Listed, at, listed, may_issue, issue}
+use Rattle.handle_pool.specs.Issued.{Listed, live_object, listed, may_issue, issue}
 use Rattle.mtapi_machine.specs.State.{State, opening}
 use Rattle.mtapi_machine.specs.Moves.{Move, is_fresh, makes, alters, removes, apply}
 use Rattle.mtapi_machine.specs.Row.{Row, gives, Allows, only, live}
@@ -93,8 +93,8 @@ issue_fresh kind.Task s who (op.TaskStart job args priority cores detached group
     (refl, (refl, (refl, (refl, (refl, (refl, (refl, refuses_only _ _ _))))))) (λ c0 c1 c2 c3 c4 c5 c6. fresh_only kind.Task s h _) a
 issue_fresh kind.Task s who (op.TaskEnqueue q args cores detached group) h e a =
     granted (λ ms. is_fresh (objects_of kind.Task) s h ≡ true) (row s who (op.TaskEnqueue q args cores detached group) (Handle h)) h
-    (refl, (refl, refuses_live (at s.queues q.0) _ _ tt (λ x. (refl, (refl, (refl, (refl, (refl, (refl, (refl, refuses_only _ _ _))))))))))
-    (λ c d. on_live (λ x ms. Handle h ≡ x → is_fresh (objects_of kind.Task) s h ≡ true) (at s.queues q.0) _ _ (λ i. absurd (no_handle h (Mtapi m.ErrQueueInvalid) refl i)) (λ x f c0 c1 c2 c3 c4 c5 c6. fresh_only kind.Task s h _)) a
+    (refl, (refl, refuses_live (live_object s.queues q.0) _ _ tt (λ x. (refl, (refl, (refl, (refl, (refl, (refl, (refl, refuses_only _ _ _))))))))))
+    (λ c d. on_live (λ x ms. Handle h ≡ x → is_fresh (objects_of kind.Task) s h ≡ true) (live_object s.queues q.0) _ _ (λ i. absurd (no_handle h (Mtapi m.ErrQueueInvalid) refl i)) (λ x f c0 c1 c2 c3 c4 c5 c6. fresh_only kind.Task s h _)) a
 issue_fresh kind.Group s who op.GroupCreate h e a =
     granted (λ ms. is_fresh (objects_of kind.Group) s h ≡ true) (row s who op.GroupCreate (Handle h)) h (refl, (refl, refuses_only _ _ _)) (λ c d. fresh_only kind.Group s h _) a
 issue_fresh kind.Queue s who (op.QueueCreate id job priority limit ordered retain) h e a =

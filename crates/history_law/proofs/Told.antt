@@ -4,8 +4,8 @@ use Rattle.std.specs.Prelude.{◌==◌}
 use Rattle.std.proofs.lemmas.Bool.{eqb-true}
 use Rattle.mtapi_values.specs.declared.ends.TaskEnd.{TaskEnd}
 use Rattle.mtapi_values.specs.declared.handles.TaskHandle.{TaskHandle}
-use Rattle.handle_pool.specs.Issued.{at}
-use Rattle.mtapi_objects.specs.Tasks.{Task, TaskState, Scheduled, Running, Over}
+use Rattle.handle_pool.specs.Issued.{live_object}
+use Rattle.mtapi_objects.specs.Tasks.{Task, TaskState, Scheduled, Running, Ended}
 use Rattle.mtapi_machine.specs.declared.terms.Terms.{Terms}
 use Rattle.mtapi_machine.specs.declared.ops.Op.{Op}
 use Rattle.mtapi_machine.specs.declared.ops.Op.TheVariants as op
@@ -53,23 +53,23 @@ look_no who h true Scheduled = tt
 look_no who h false Scheduled = tt
 look_no who h true (Running w k) = tt
 look_no who h false (Running w k) = tt
-look_no who h last (Over e n) = tt
+look_no who h last (Ended e n) = tt
 
 some_same : {A : Type 0} {x y : A} → Some x ≡ Some y → x ≡ y
 some_same e = cc
 
-look_tells : (s : State) (who h : ℕ) (last : Bool) (e : TaskEnd) (t : Task) (x : TaskState) → OnceIn s.tasks → at s.tasks h ≡ Some t → t.state ≡ x → AllGives (λ r ms. end_told r ≡ Some e → end_at s.tasks h ≡ Some e) (looks_at who h last x)
+look_tells : (s : State) (who h : ℕ) (last : Bool) (e : TaskEnd) (t : Task) (x : TaskState) → OnceIn s.tasks → live_object s.tasks h ≡ Some t → t.state ≡ x → AllGives (λ r ms. end_told r ≡ Some e → end_at s.tasks h ≡ Some e) (looks_at who h last x)
 look_tells s who h true e t Scheduled o f d = λ i. none_some i
 look_tells s who h false e t Scheduled o f d = λ i. none_some i
 look_tells s who h true e t (Running w k) o f d = λ i. none_some i
 look_tells s who h false e t (Running w k) o f d = λ i. none_some i
-look_tells s who h last e t (Over z n) o f d = λ i. end_found s.tasks h t o f ∙ (ap end_in d ∙ i)
+look_tells s who h last e t (Ended z n) o f d = λ i. end_found s.tasks h t o f ∙ (ap end_in d ∙ i)
 
 told_row : (s : State) (who : ℕ) (t : TaskHandle) (last : Bool) (r : Reply) (e : TaskEnd) → OnceIn s.tasks → end_told r ≡ Some e → Allows (row s who (op.TaskLook t last) r) r → end_at s.tasks t.0 ≡ Some e
 told_row s who t last r e o i a =
     answered (λ y. end_at s.tasks t.0 ≡ Some y) (row s who (op.TaskLook t last) r) r e i
-    (refl, no_live (at s.tasks t.0) _ _ tt (λ x. (refl, (refl, look_no who t.0 last x.state))))
-    (λ c. on_live _ (at s.tasks t.0) _ _ (λ j. none_some j) (λ x f b d. look_tells s who t.0 last e x x.state o f refl)) a
+    (refl, no_live (live_object s.tasks t.0) _ _ tt (λ x. (refl, (refl, look_no who t.0 last x.state))))
+    (λ c. on_live _ (live_object s.tasks t.0) _ _ (λ j. none_some j) (λ x f b d. look_tells s who t.0 last e x x.state o f refl)) a
 
 told_as : (s : State) (who : ℕ) (o : Op) (r : Reply) (h : ℕ) (e : TaskEnd) → OnceIn s.tasks → told_by h o r ≡ Some e → Allows (row s who o r) r → end_at s.tasks h ≡ Some e
 told_as s who (op.TaskLook t last) r h e n i a = by_test (t.0 == h) refl i

@@ -16,7 +16,7 @@ use Rattle.mtapi_machine.specs.Legal.{NodeEntry, LegalFrom, Legal, after_from, a
 use Rattle.mtapi_machine.specs.Worked.{usual, first_handle, main, worker, add_task, picks_first, finishes_first, task, every_core, one_task}
 use Rattle.mtapi_machine.proofs.Worked.{one_task-legal}
 use Rattle.mtapi_machine.specs.Ends.{end_at}
-use Rattle.mtapi_machine.specs.State.{terms_of}
+use Rattle.mtapi_machine.specs.State.{terms_with}
 use Rattle.history_law.specs.Accepted.{EndsOnce}
 use Rattle.history_law.specs.Worked.{OneTaskEnds}
 use Rattle.history_law.proofs.Accepted.{accepted_end}
@@ -63,6 +63,6 @@ defaults_range = record {
 }
 
 -- the empty list is legal for these and one caller
-pub empty_legal : (s : NodeSettings) → s ≡ record { workers = 1; tasks = 1024; actions = 64; groups = 128; queues = 16; objects = 16; priorities = 4; generations = 4294967295 } → Legal (terms_of Two s 1) []
+pub empty_legal : (s : NodeSettings) → s ≡ record { workers = 1; tasks = 1024; actions = 64; groups = 128; queues = 16; objects = 16; priorities = 4; generations = 4294967295 } → Legal (terms_with Two s 1) []
 unfolding LegalFrom defaults
 empty_legal s e = record { fits = record { settings = subst AreNodeSettings (sym e) defaults_range; some_caller = omega arith; callers = omega arith }; from = tt }

@@ -10,7 +10,7 @@ use Rattle.mtapi_machine.specs.declared.ops.Op.{Op}
 use Rattle.mtapi_machine.specs.declared.ops.Op.TheVariants.{ActionCreate, TaskStart, TaskEnqueue, Pick}
 use Rattle.mtapi_machine.specs.declared.replies.Reply.TheVariants.{Picked}
 use Rattle.mtapi_machine.specs.Legal.{NodeEntry}
-use Rattle.history_law.specs.Words.{issues}
+use Rattle.history_law.specs.Words.{some_entry, issues}
 
 -- the mask with which an op starts a task, and the one with which it makes an action
 abbrev pub task_mask : Op → Option ℕ
@@ -22,8 +22,10 @@ abbrev pub action_mask : Op → Option ℕ
 action_mask (ActionCreate job kind cores) = Some cores.0
 action_mask _ = None
 
--- the worker is in the mask with which these entries started the task, and in the one with which they made the action
+-- one of these entries started the task, and one made the action; and the worker is in the mask with which an entry did so
 pub record IsAllowed (before : List NodeEntry) (w t a : ℕ) : Type 0 where
+  pub started : some_entry (issues kind.Task t) before ≡ true
+  pub made : some_entry (issues kind.Action a) before ≡ true
   pub task : (A B : List NodeEntry) (e : NodeEntry) (m : ℕ) → before ≡ A ++ e ∷ B → issues kind.Task t e ≡ true → task_mask e.op ≡ Some m → in_mask w m ≡ true
   pub action : (A B : List NodeEntry) (e : NodeEntry) (m : ℕ) → before ≡ A ++ e ∷ B → issues kind.Action a e ≡ true → action_mask e.op ≡ Some m → in_mask w m ≡ true
 

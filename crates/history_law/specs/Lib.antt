@@ -10,3 +10,5 @@ pub mod Ordered
 pub mod Refused
 pub mod Exclusion
 pub mod Told
+pub mod Tally
+pub mod WorkedSum

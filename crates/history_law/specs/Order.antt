@@ -1,7 +1,7 @@
 -- The order in which a group gives its members.
 use Rattle.std.specs.Prelude.{◌≡◌, ℕ, ◌<◌, Bool, true, false, ◌==◌, ◌&&◌, List, [], ◌∷◌, ◌++◌, Option, Some, None, if◌then◌else◌}
 use Rattle.handle_pool.specs.Issued.{Listed}
-use Rattle.mtapi_objects.specs.Tasks.{Task, TaskState, Scheduled, Running, Over}
+use Rattle.mtapi_objects.specs.Tasks.{Task, TaskState, Scheduled, Running, Ended}
 use Rattle.mtapi_machine.specs.declared.ops.Op.{Op}
 use Rattle.mtapi_machine.specs.declared.ops.Op.TheVariants.{AnyLook}
 use Rattle.mtapi_machine.specs.declared.replies.Reply.{Reply}
@@ -27,7 +27,7 @@ gives g h e = looks_for_any g e.op && is_given h e.reply
 abbrev pub number_in : TaskState → Option ℕ
 number_in Scheduled = None
 number_in (Running w k) = None
-number_in (Over e n) = Some n
+number_in (Ended e n) = Some n
 
 -- the number of its end in the record of this handle's task, live or not
 unfoldable pub number_at : List (Listed Task) → ℕ → Option ℕ

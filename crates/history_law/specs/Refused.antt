@@ -1,9 +1,10 @@
 -- For each law a list that isn't legal, and that what the law says refuses.
-use Rattle.std.specs.Prelude.{true, false, List, [], ◌∷◌, ◌++◌, None, pos}
+use Rattle.std.specs.Prelude.{Bool, true, false, List, [], ◌∷◌, ◌++◌, None, pos}
 use Rattle.mtapi_values.specs.declared.kinds.Kind.TheVariants as kind
 use Rattle.mtapi_values.specs.declared.handles.ObjectKind.TheVariants as object
 use Rattle.mtapi_values.specs.declared.handles.Layout.TheVariants.{Two}
 use Rattle.mtapi_values.specs.declared.handles.QueueHandle.{QueueHandle}
+use Rattle.mtapi_values.specs.declared.handles.ShmemHandle.{ShmemHandle}
 use Rattle.mtapi_values.specs.declared.ends.TaskEnd.TheVariants.{Cancelled, Completed}
 use Rattle.mtapi_machine.specs.declared.terms.Terms.{Terms}
 use Rattle.mtapi_machine.specs.declared.ops.Op.{Op}
@@ -17,10 +18,13 @@ use Rattle.mtapi_machine.specs.Laws.{DropsToSame}
 use Rattle.mtapi_machine.specs.Worked.{usual, main, worker, first_handle, next_handle, task, the_action, every_core, add_task}
 use Rattle.history_law.specs.Ends.{EndsAfterClose}
 use Rattle.history_law.specs.Affinity.{ObeysMasks}
-use Rattle.history_law.specs.Exclusion.{SemsKeepTo}
+use Rattle.history_law.specs.Exclusion.{MutexesKeepTo, SemsKeepTo, RwlsKeepTo}
 use Rattle.history_law.specs.Order.{GivenInOrder}
 use Rattle.history_law.specs.Ordered.{RunsInOrder}
 use Rattle.history_law.specs.Told.{TellsItsEnd}
+use Rattle.mtapi_machine.specs.Tables.{h1, mutex}
+use Rattle.history_law.specs.Tally.{HoldsTheSum}
+use Rattle.history_law.specs.WorkedSum.{two_workers, asks, gets_both, begins}
 use Rattle.history_law.specs.Reuse.{NeverAgain, NotInBoth}
 
 -- an entry of the second caller, and the mask of the second core
@@ -109,6 +113,42 @@ looks_at_it = op.SemLook (record { 0 = first_handle }) false
 abbrev pub both_hold : List NodeEntry
 both_hold = main looks_at_it reply.Ok ∷ second looks_at_it reply.Ok ∷ []
 
+-- two seats hold a mutex
+abbrev pub looks_at_mutex : Op
+looks_at_mutex = op.MutexLook (record { 0 = first_handle }) false
+
+abbrev pub both_own : List NodeEntry
+both_own = main looks_at_mutex (reply.Number (pos 1)) ∷ second looks_at_mutex (reply.Number (pos 1)) ∷ []
+
+-- a caller gets the mutex that a tally has
+abbrev pub caller_gets : List NodeEntry
+caller_gets = asks (op.MutexLook (mutex h1) false) (reply.Number (pos 1)) ∷ []
+
+unfoldable pub beside_a_tally : List NodeEntry
+beside_a_tally = begins ++ gets_both 0 h1 ∷ caller_gets
+
+-- a reader holds a reader-writer lock beside its writer
+abbrev pub makes_rwl : NodeEntry
+makes_rwl = main (op.RwlCreate 1 2) (reply.Handle first_handle)
+
+abbrev pub looks_at_rwl : Bool → Op
+looks_at_rwl writer = op.RwlLook (record { 0 = first_handle }) writer false
+
+abbrev pub reads_beside : List NodeEntry
+reads_beside = main (looks_at_rwl true) reply.Ok ∷ second (looks_at_rwl false) reply.Ok ∷ []
+
+-- a caller writes 9 to a cell, and is told that it has to wait; no tally has run
+abbrev pub the_segment : ShmemHandle
+the_segment = record { 0 = first_handle }
+
+unfoldable pub written_untold : List NodeEntry
+written_untold =
+    main op.Initialize reply.Ok
+    ∷ main (op.ShmemCreate 1 1) (reply.Handle first_handle)
+    ∷ main (op.ShmemAttach the_segment) reply.Ok
+    ∷ main (op.ShmemWrite the_segment 0 (pos 9)) reply.Pending
+    ∷ []
+
 -- each law refuses its list
 pub record LawsRefuse : Type 0 where
   pub one_end : TellsItsEnd usual two_ends first_handle → ⊥
@@ -118,5 +158,9 @@ pub record LawsRefuse : Type 0 where
   pub affinity : ObeysMasks on_another_core 2 → ⊥
   pub group_order : GivenInOrder usual given_twice first_handle → ⊥
   pub ordered : RunsInOrder usual (two_put ++ picks_second) first_handle → ⊥
+  pub mutexes : MutexesKeepTo usual both_own → ⊥
+  pub tally_mutex : MutexesKeepTo two_workers beside_a_tally → ⊥
   pub sems : SemsKeepTo (makes_sem ∷ both_hold) → ⊥
+  pub rwls : RwlsKeepTo (makes_rwl ∷ reads_beside) → ⊥
+  pub tally : HoldsTheSum usual (written_untold ++ final_first) first_handle 0 → ⊥
   pub drop : DropsToSame usual final_first → ⊥

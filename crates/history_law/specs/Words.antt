@@ -2,7 +2,7 @@
 use Rattle.std.specs.Prelude.{ℕ, ◌+◌, Bool, true, false, ◌&&◌, ◌==◌, List, [], ◌∷◌, is_some, if◌then◌else◌}
 use Rattle.mtapi_values.specs.declared.handles.ObjectKind.{ObjectKind}
 use Rattle.mtapi_values.specs.declared.handles.ObjectKind.TheVariants as kind
-use Rattle.handle_pool.specs.Issued.{at, listed}
+use Rattle.handle_pool.specs.Issued.{live_object, listed}
 use Rattle.mtapi_objects.specs.Actions.{Action}
 use Rattle.mtapi_objects.specs.Tasks.{Task}
 use Rattle.mtapi_objects.specs.Groups.{Group}
@@ -56,7 +56,7 @@ times k h s = listed h ((objects_of k).list s)
 
 -- the handle is that of a live object of the kind
 abbrev pub is_live : ObjectKind → ℕ → State → Bool
-is_live k h s = is_some (at ((objects_of k).list s) h)
+is_live k h s = is_some (live_object ((objects_of k).list s) h)
 
 -- the op makes an object of the kind
 abbrev pub makes : ObjectKind → Op → Bool

@@ -3,24 +3,28 @@
 
 ghost use Rattle.mtapi_machine.specs.Legal.{Legal};
 ghost use Rattle.history_law.specs.Accepted.{AcceptedTasksEndOnce};
-ghost use Rattle.mtapi_machine.specs.State.{terms_of};
+ghost use Rattle.mtapi_machine.specs.State.{terms_with};
 ghost use Rattle.history_law.specs.Ends.{OneEnd, EndsAfterClose};
 ghost use Rattle.mtapi_machine.specs.Laws.{DropsToSame};
 ghost use Rattle.history_law.specs.Affinity.{ObeysMasks};
 ghost use Rattle.history_law.specs.Order.{GivenInOrder};
 ghost use Rattle.history_law.specs.Ordered.{RunsInOrder};
 ghost use Rattle.history_law.specs.Refused.{LawsRefuse};
-ghost use Rattle.history_law.specs.Exclusion.{SemsKeepTo};
+ghost use Rattle.history_law.specs.Exclusion.{MutexesKeepTo, SemsKeepTo, RwlsKeepTo};
 ghost use Rattle.history_law.specs.Told.{TellsItsEnd};
+ghost use Rattle.history_law.specs.Tally.{HoldsTheSum};
 ghost use Rattle.history_law.specs.Reuse.{NeverAgain, NotInBoth};
 ghost use Rattle.history_law.specs.Seats.{OnceAfter, OnceStays, WaiterStays, WorkStays, NoLateEnd, PhaseStays, ReleaseStays, EnterBehindRelease, FinalBehindStops, EarlyStays, StoppedStays, StoppedRoom, UnstartedAreUntouched, EntriesBySeats};
 ghost use Rattle.history_law.specs.Worked.{OneTaskEnds};
+ghost use Rattle.history_law.specs.WorkedSum.{TalliesAddUp};
 
 #[cfg(test)]
 mod tests;
 
 use mtapi_machine::Entry;
-use mtapi_values::{GroupHandle, Layout, NodeAttr, ObjectKind, QueueHandle, TaskHandle};
+use mtapi_values::{
+    GroupHandle, Layout, NodeAttr, ObjectKind, QueueHandle, ShmemHandle, TaskHandle,
+};
 
 /// In a legal history that ends with the final step, every task that was accepted has one record and ends once: it is ended at the end
 /// of the history, and wherever an end of it shows, that is its end.
@@ -37,9 +41,9 @@ pub fn law_one_end(
     entries: &[Entry],
     t: TaskHandle,
 )
-    requires { Legal (terms_of layout settings.now callers) entries.now }
-    ensures one { OneEnd (terms_of layout settings.now callers) entries.now t.0 }
-    ensures told { TellsItsEnd (terms_of layout settings.now callers) entries.now t.0 }
+    requires { Legal (terms_with layout settings.now callers) entries.now }
+    ensures one { OneEnd (terms_with layout settings.now callers) entries.now t.0 }
+    ensures reported { TellsItsEnd (terms_with layout settings.now callers) entries.now t.0 }
 {}
 
 /// Where the history has `final` with Ok, a task that was accepted has exactly one end.
@@ -50,13 +54,18 @@ pub fn law_end_after_close(
     entries: &[Entry],
     t: TaskHandle,
 )
-    requires { Legal (terms_of layout settings.now callers) entries.now }
-    ensures { EndsAfterClose (terms_of layout settings.now callers) entries.now t.0 }
+    requires { Legal (terms_with layout settings.now callers) entries.now }
+    ensures { EndsAfterClose (terms_with layout settings.now callers) entries.now t.0 }
 {}
 
 /// A worked history: its one task ends once, and how.
 pub fn worked_end()
     ensures { OneTaskEnds }
+{}
+
+/// A worked history of two tallies: it has what the law of tallies asks for, and the cell holds the sum of both.
+pub fn worked_tallies()
+    ensures { TalliesAddUp }
 {}
 
 /// No two tasks are issued under one handle.
@@ -106,8 +115,8 @@ pub fn law_seats()
 
 /// The history without its dropped entries is legal, and leads to the same state.
 pub fn law_drop(layout: Layout, settings: &NodeAttr, callers: u32, entries: &[Entry])
-    requires { Legal (terms_of layout settings.now callers) entries.now }
-    ensures { DropsToSame (terms_of layout settings.now callers) entries.now }
+    requires { Legal (terms_with layout settings.now callers) entries.now }
+    ensures { DropsToSame (terms_with layout settings.now callers) entries.now }
 {}
 
 /// A handle that has stopped being live is never issued or live again.
@@ -119,8 +128,8 @@ pub fn law_no_reuse(
     kind: ObjectKind,
     h: u64,
 )
-    requires { Legal (terms_of layout settings.now callers) entries.now }
-    ensures { NeverAgain (terms_of layout settings.now callers) entries.now kind h }
+    requires { Legal (terms_with layout settings.now callers) entries.now }
+    ensures { NeverAgain (terms_with layout settings.now callers) entries.now kind h }
 {}
 
 /// In layout two no handle was issued to objects of two kinds.
@@ -133,8 +142,8 @@ pub fn law_kind(
     b: ObjectKind,
     h: u64,
 )
-    requires { Legal (terms_of layout settings.now callers) entries.now }
-    ensures { NotInBoth layout (terms_of layout settings.now callers) entries.now a b h }
+    requires { Legal (terms_with layout settings.now callers) entries.now }
+    ensures { NotInBoth layout (terms_with layout settings.now callers) entries.now a b h }
 {}
 
 /// A pick at this place, counted from 0, obeys both masks: its worker is in the mask with which the task was started, and in the one
@@ -146,7 +155,7 @@ pub fn law_affinity(
     entries: &[Entry],
     place: usize,
 )
-    requires { Legal (terms_of layout settings.now callers) entries.now }
+    requires { Legal (terms_with layout settings.now callers) entries.now }
     ensures { ObeysMasks entries.now place }
 {}
 
@@ -158,8 +167,8 @@ pub fn law_group_order(
     entries: &[Entry],
     g: GroupHandle,
 )
-    requires { Legal (terms_of layout settings.now callers) entries.now }
-    ensures { GivenInOrder (terms_of layout settings.now callers) entries.now g.0 }
+    requires { Legal (terms_with layout settings.now callers) entries.now }
+    ensures { GivenInOrder (terms_with layout settings.now callers) entries.now g.0 }
 {}
 
 /// The runs of an ordered queue don't overlap, and begin in the order in which its tasks were put.
@@ -170,8 +179,8 @@ pub fn law_ordered(
     entries: &[Entry],
     q: QueueHandle,
 )
-    requires { Legal (terms_of layout settings.now callers) entries.now }
-    ensures { RunsInOrder (terms_of layout settings.now callers) entries.now q.0 }
+    requires { Legal (terms_with layout settings.now callers) entries.now }
+    ensures { RunsInOrder (terms_with layout settings.now callers) entries.now q.0 }
 {}
 
 /// For each law a list that isn't legal and that the law refuses, so that none of them says nothing.
@@ -185,9 +194,26 @@ pub fn law_behind()
     ensures final_step { FinalBehindStops }
 {}
 
-/// Semaphores are held within their limits, by counts of entries: no seat gives one back more often than its looks got it, and at every
-/// moment those that hold it are at most as many as its limit.
-pub fn law_sems(layout: Layout, settings: &NodeAttr, callers: u32, entries: &[Entry])
-    requires { Legal (terms_of layout settings.now callers) entries.now }
-    ensures { SemsKeepTo entries.now }
+/// Locks are held within their limits, by counts of entries: at every moment at most one seat holds a mutex, those that hold a semaphore are
+/// at most as many as its limit, and a reader-writer lock has one writer and no reader, or no writer and at most as many readers as its
+/// limit.
+pub fn law_exclusion(layout: Layout, settings: &NodeAttr, callers: u32, entries: &[Entry])
+    requires { Legal (terms_with layout settings.now callers) entries.now }
+    ensures mutexes { MutexesKeepTo (terms_with layout settings.now callers) entries.now }
+    ensures semaphores { SemsKeepTo entries.now }
+    ensures reader_writer_locks { RwlsKeepTo entries.now }
+{}
+
+/// In a legal history with the final step the cell of a segment holds the sum of the numbers that the completed tallies of it add, where no
+/// caller wrote to the cell and these tallies name one mutex.
+pub fn law_tally(
+    layout: Layout,
+    settings: &NodeAttr,
+    callers: u32,
+    entries: &[Entry],
+    s: ShmemHandle,
+    cell: u32,
+)
+    requires { Legal (terms_with layout settings.now callers) entries.now }
+    ensures { HoldsTheSum (terms_with layout settings.now callers) entries.now s.0 cell }
 {}

@@ -1,18 +1,21 @@
 //! Each law once.
 
 use crate::{
-    law_accepted, law_affinity, law_behind, law_drop, law_end_after_close, law_group_order,
-    law_kind, law_no_late_end, law_no_reuse, law_once_listed, law_one_end, law_ordered,
-    law_phase_stays, law_sems, law_stopped_stays, law_untouched, law_waiter_stays, law_work_stays,
-    worked_end, worked_refusals,
+    law_accepted, law_affinity, law_behind, law_drop, law_end_after_close, law_exclusion,
+    law_group_order, law_kind, law_no_late_end, law_no_reuse, law_once_listed, law_one_end,
+    law_ordered, law_phase_stays, law_stopped_stays, law_tally, law_untouched, law_waiter_stays,
+    law_work_stays, worked_end, worked_refusals, worked_tallies,
 };
 use mtapi_machine::Entry;
-use mtapi_values::{GroupHandle, Layout, NodeAttr, ObjectKind, QueueHandle, TaskHandle};
+use mtapi_values::{
+    GroupHandle, Layout, NodeAttr, ObjectKind, QueueHandle, ShmemHandle, TaskHandle,
+};
 
 #[test]
 fn laws_hold(_rt: HostRuntime) {
     law_accepted();
     worked_end();
+    worked_tallies();
     worked_refusals();
     law_once_listed();
     law_waiter_stays();
@@ -31,7 +34,8 @@ fn laws_hold(_rt: HostRuntime) {
     law_no_reuse(Layout::Two, &settings, 1, &entries, ObjectKind::Task, 1);
     law_group_order(Layout::Two, &settings, 1, &entries, GroupHandle(1));
     law_drop(Layout::Two, &settings, 1, &entries);
-    law_sems(Layout::Two, &settings, 1, &entries);
+    law_exclusion(Layout::Two, &settings, 1, &entries);
+    law_tally(Layout::Two, &settings, 1, &entries, ShmemHandle(1), 0);
     law_kind(
         Layout::Two,
         &settings,

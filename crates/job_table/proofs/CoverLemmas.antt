@@ -5,7 +5,8 @@ use Rattle.std.proofs.lemmas.Nat.Bits.{bit_at_or, bit_at-lt, bit_at-zero}
 use Rattle.std.proofs.lemmas.Bool.Decides.{nat_tests}
 use Rattle.std.proofs.lemmas.Bool.{false≢true, cases_eq}
 use Rattle.std.specs.Prelude.{◌&&◌, ◌==◌}
-use Rattle.handle_pool.specs.Slots.{Slots, get, max_of, SomeLive, NoneLive}
+use Rattle.handle_pool.specs.Slots.{Slots, slot_value, max_of}
+use Rattle.handle_pool.specs.Walks.{SomeLive, NoneLive}
 use Rattle.linked_places.specs.Lists.{HandleLists, list_at, has_handle}
 use Rattle.linked_places.proofs.NextLemmas.{has-index}
 use Rattle.mtapi_values.specs.Masks.{in_mask}
@@ -51,17 +52,17 @@ some_same : {A : Type 0} {a b : A} → Some a ≡ Some b → a ≡ b
 some_same h = cc
 
 -- an action more that does not pass
-pub NoneBefore-one : (p : Slots Action) (hs : List ℕ) (index handle : ℕ) (a : Action) (P : Action → Type 0) → slice_get hs index ≡ Some handle → get p handle ≡ Some a → (P a → ⊥) → NoneBefore p hs index P → NoneBefore p hs (index + 1) P
+pub NoneBefore-one : (p : Slots Action) (hs : List ℕ) (index handle : ℕ) (a : Action) (P : Action → Type 0) → slice_get hs index ≡ Some handle → slot_value p handle ≡ Some a → (P a → ⊥) → NoneBefore p hs index P → NoneBefore p hs (index + 1) P
 NoneBefore-one p hs index handle a P at live fails before i h b less is found holds = elim (cases_eq i index) [
   | inl last ↦
       let same : h ≡ handle = some_same (sym is ∙ ap (slice_get hs) last ∙ at) in
-      let value : b ≡ a = some_same (sym found ∙ ap (get p) same ∙ live) in
+      let value : b ≡ a = some_same (sym found ∙ ap (slot_value p) same ∙ live) in
       fails (rw value at holds)
   | inr earlier ↦ before i h b (omega arith) is found holds
 ]
 
 -- what no action of the job's list passes, no live action passes that has the job
-pub none-of : (p : Slots Action) (jobs : HandleLists) (job : ℕ) → AreListed p jobs → (q : Action → Bool) → ((a : Action) → q a ≡ true → has_job job a ≡ true) → NoneBefore p (list_at jobs.lists (list_of (max_of p) job)) (length (list_at jobs.lists (list_of (max_of p) job))) (Passes q) → NoneLive (get p) (Passes q)
+pub none-of : (p : Slots Action) (jobs : HandleLists) (job : ℕ) → AreListed p jobs → (q : Action → Bool) → ((a : Action) → q a ≡ true → has_job job a ≡ true) → NoneBefore p (list_at jobs.lists (list_of (max_of p) job)) (length (list_at jobs.lists (list_of (max_of p) job))) (Passes q) → NoneLive (slot_value p) (Passes q)
 none-of p jobs job l q has none h a found passes =
     let same : a.job ≡ job = same-number a.job job (has a passes) in
     let hs = list_at jobs.lists (list_of (max_of p) job) in
@@ -107,10 +108,10 @@ CoversBefore-past p hs index job (Cores mask) past h = (
 )
 
 -- an action of another job
-pub CoversBefore-other : (p : Slots Action) (hs : List ℕ) (index job handle : ℕ) (a : Action) (cover : Cover) → slice_get hs index ≡ Some handle → get p handle ≡ Some a → has_job job a ≡ false → CoversBefore p hs index job cover → CoversBefore p hs (index + 1) job cover
+pub CoversBefore-other : (p : Slots Action) (hs : List ℕ) (index job handle : ℕ) (a : Action) (cover : Cover) → slice_get hs index ≡ Some handle → slot_value p handle ≡ Some a → has_job job a ≡ false → CoversBefore p hs index job cover → CoversBefore p hs (index + 1) job cover
 CoversBefore-other p hs index job handle a cover at live other h = CoversBefore-past p hs index job cover (λ q has. NoneBefore-one p hs index handle a (Passes q) at live (λ passes. not_both (has_job job a) other (has a passes))) h
 
-module _ (p : Slots Action) (hs : List ℕ) (index job handle : ℕ) (a : Action) (at : slice_get hs index ≡ Some handle) (live : get p handle ≡ Some a) (has : has_job job a ≡ true) where
+module _ (p : Slots Action) (hs : List ℕ) (index job handle : ℕ) (a : Action) (at : slice_get hs index ≡ Some handle) (live : slot_value p handle ≡ Some a) (has : has_job job a ≡ true) where
   enabled_covers : (cover : Cover) → a.enabled ≡ true → CoversBefore p hs index job cover → CoversBefore p hs (index + 1) job (Cores (record { 0 = bit_or (mask_of cover) a.cores }))
   enabled_covers cover on h =
       let before = union_so_far p hs index job cover h in
@@ -124,7 +125,7 @@ module _ (p : Slots Action) (hs : List ℕ) (index job handle : ℕ) (a : Action
         },
       )
     where
-      by_own : (core : ℕ) → in_mask core (bit_or (mask_of cover) a.cores) ≡ true → (own : Bool) → in_mask core a.cores ≡ own → SomeLive (get p) (Passes (runs_job_on job core))
+      by_own : (core : ℕ) → in_mask core (bit_or (mask_of cover) a.cores) ≡ true → (own : Bool) → in_mask core a.cores ≡ own → SomeLive (slot_value p) (Passes (runs_job_on job core))
       by_own core is true own = (handle, a, live, both (has_enabled_job job a) (in_mask core a.cores) (both a.enabled (a.job == job) on has) own)
       by_own core is false own = (union_so_far p hs index job cover h).covered core (in_mask-or core (mask_of cover) a.cores is own)
 

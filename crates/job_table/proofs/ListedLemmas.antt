@@ -5,7 +5,7 @@ use Rattle.std.specs.Option.{option_map}
 use Rattle.std.proofs.lemmas.Bool.{false≢true, cases_eq, cases_Bool}
 use Rattle.std.proofs.lemmas.Bool.Decides.{nat_tests}
 use Rattle.std.proofs.lemmas.List.{length-replicate}
-use Rattle.handle_pool.specs.Slots.{Slot, Slots, slot_of, generation_of, free_slot, used_slot, slot_after, value_at, get, max_of, Inserts, without, changed, put, with_value}
+use Rattle.handle_pool.specs.Slots.{Slot, Slots, slot_of, generation_of, free_slot, used_slot, slot_after, value_at, slot_value, max_of, Inserts, without, changed, put, with_value}
 use Rattle.handle_pool.proofs.StandsLemmas.{get-fresh, value_at-none}
 use Rattle.handle_pool.proofs.GetLemmas.{get-insert_same, get-insert_other, get-without_same, get-without_other, get-with_value_same, get-with_value_other}
 use Rattle.handle_pool.proofs.WalkLemmas.{slot_of-live}
@@ -88,7 +88,7 @@ listed-new p jobs max some few slots places lists = record {
     all : max_of p ≡ max
     all = ap length slots ∙ length-replicate max (free_slot 1)
 
-    free : (h : ℕ) → get p h ≡ None
+    free : (h : ℕ) → slot_value p h ≡ None
     free h = ap (λ (l : List (Slot Action)). value_at (slice_get l (slot_of h)) (generation_of h)) slots ∙ get-fresh max (slot_of h) (generation_of h)
 
 -- the list of a job is one of them
@@ -103,7 +103,7 @@ nowhere p q jobs h a l i number = elim (cases_Bool (stands_at (slot_of h) (list_
   | inl on ↦
       let w = stands-handle (slot_of h) (list_at jobs.lists number) on in
       let b = l.live number w.0 w.1 in
-      let free : get p w.0 ≡ None = ap (λ (place : ℕ). value_at (slice_get p.slots place) (generation_of w.0)) w.2 ∙ (ap (λ (o : Option (Slot Action)). value_at o (generation_of w.0)) i.was_free ∙ value_at-none (free_slot (generation_of h)) (generation_of w.0) refl) in
+      let free : slot_value p w.0 ≡ None = ap (λ (place : ℕ). value_at (slice_get p.slots place) (generation_of w.0)) w.2 ∙ (ap (λ (o : Option (Slot Action)). value_at o (generation_of w.0)) i.was_free ∙ value_at-none (free_slot (generation_of h)) (generation_of w.0) refl) in
       none-some (sym free ∙ b.1)
   | inr off ↦ off
 ]
@@ -129,7 +129,7 @@ module _ (p q : Slots Action) (old jobs : HandleLists) (h n : ℕ) (a : Action) 
     lists = ap (λ (x : HandleLists). length x.lists) is ∙ length-set old.lists n _ ∙ l.lists ∙ sym max;
     listed = λ k b e. subst (λ (m : ℕ). has_handle k (list_at jobs.lists (list_of m b.job)) ≡ true) (sym max) (listed k b e);
     live = λ m k e. elim (cases_eq k h) [
-      | inl here ↦ (a, ap (get q) here ∙ get-insert_same p q h a i)
+      | inl here ↦ (a, ap (slot_value q) here ∙ get-insert_same p q h a i)
       | inr away ↦ let b = l.live m k (was m k away e) in (b.0, get-insert_other p q h k a i away ∙ b.1)
     ];
   }
@@ -152,23 +152,23 @@ module _ (p q : Slots Action) (old jobs : HandleLists) (h n : ℕ) (a : Action) 
         | inr away ↦ sym (ap (has_handle k) (other_list _ m is away)) ∙ e
       ]
 
-      listed : (k : ℕ) (b : Action) → get q k ≡ Some b → has_handle k (list_at jobs.lists (list_of (max_of p) b.job)) ≡ true
+      listed : (k : ℕ) (b : Action) → slot_value q k ≡ Some b → has_handle k (list_at jobs.lists (list_of (max_of p) b.job)) ≡ true
       listed k b e = elim (cases_eq k h) [
         | inl here ↦
-            let same : a ≡ b = some_same (sym (get-insert_same p q h a i) ∙ ap (get q) (sym here) ∙ e) in
+            let same : a ≡ b = some_same (sym (get-insert_same p q h a i) ∙ ap (slot_value q) (sym here) ∙ e) in
             ap (λ (m : ℕ). has_handle k (list_at jobs.lists m)) (ap (λ (x : Action). list_of (max_of p) x.job) (sym same) ∙ sym at)
             ∙ in_list k ∙ or-right (has_handle k (list_at old.lists n)) _ (or-left (h == k) false (ap (λ (z : ℕ). h == z) here ∙ eq-self h))
         | inr away ↦ keeps _ k (l.listed k b (sym (get-insert_other p q h k a i away) ∙ e))
       ]
 
-  pub listed-without : get p h ≡ Some a → n ≡ list_of (max_of p) a.job → q ≡ without p h → jobs ≡ with_list old n (without_handle h (list_at old.lists n)) → NowhereAt (slot_of h) jobs.lists → AreListed q jobs
+  pub listed-without : slot_value p h ≡ Some a → n ≡ list_of (max_of p) a.job → q ≡ without p h → jobs ≡ with_list old n (without_handle h (list_at old.lists n)) → NowhereAt (slot_of h) jobs.lists → AreListed q jobs
   listed-without g at pool is gone = subst (λ (z : Slots Action). AreListed z jobs) (sym pool) (record {
     some = subst (λ (k : ℕ). 1 ≤ k) (sym max) l.some;
     few = subst (λ (k : ℕ). k ≤ 65536) (sym max) l.few;
     places = ap (λ (x : HandleLists). x.places) is ∙ l.places ∙ sym max;
     lists = ap (λ (x : HandleLists). length x.lists) is ∙ length-set old.lists n _ ∙ l.lists ∙ sym max;
     listed = λ k b e. elim (cases_eq k h) [
-      | inl here ↦ none-some (sym (get-without_same p h a g) ∙ ap (get (without p h)) (sym here) ∙ e)
+      | inl here ↦ none-some (sym (get-without_same p h a g) ∙ ap (slot_value (without p h)) (sym here) ∙ e)
       | inr away ↦
           subst (λ (m : ℕ). has_handle k (list_at jobs.lists (list_of m b.job)) ≡ true) (sym max)
           (same k _ away ∙ l.listed k b (sym (get-without_other p h k a g away) ∙ e))
@@ -189,9 +189,9 @@ module _ (p q : Slots Action) (old jobs : HandleLists) (h n : ℕ) (a : Action) 
       ]
 
 pub listed-changed : (p : Slots Action) (jobs : HandleLists) (h : ℕ) (on : Bool) → AreListed p jobs → AreListed (changed p h (with_enabled on)) jobs
-listed-changed p jobs h on l = by_found (get p h) refl
+listed-changed p jobs h on l = by_found (slot_value p h) refl
   where
-    by_found : (o : Option Action) → get p h ≡ o → AreListed (put p h (option_map (with_enabled on) o)) jobs
+    by_found : (o : Option Action) → slot_value p h ≡ o → AreListed (put p h (option_map (with_enabled on) o)) jobs
     by_found None g = l
     by_found (Some a) g = record {
       some = subst (λ (k : ℕ). 1 ≤ k) (sym max) l.some;
@@ -200,12 +200,12 @@ listed-changed p jobs h on l = by_found (get p h) refl
       lists = l.lists ∙ sym max;
       listed = λ k b e. subst (λ (m : ℕ). has_handle k (list_at jobs.lists (list_of m b.job)) ≡ true) (sym max) (elim (cases_eq k h) [
         | inl here ↦
-            let same : with_enabled on a ≡ b = some_same (sym (get-with_value_same p h a (with_enabled on a) g) ∙ ap (get (with_value p h (with_enabled on a))) (sym here) ∙ e) in
-            ap (λ (x : Action). has_handle k (list_at jobs.lists (list_of (max_of p) x.job))) (sym same) ∙ l.listed k a (ap (get p) here ∙ g)
+            let same : with_enabled on a ≡ b = some_same (sym (get-with_value_same p h a (with_enabled on a) g) ∙ ap (slot_value (with_value p h (with_enabled on a))) (sym here) ∙ e) in
+            ap (λ (x : Action). has_handle k (list_at jobs.lists (list_of (max_of p) x.job))) (sym same) ∙ l.listed k a (ap (slot_value p) here ∙ g)
         | inr away ↦ l.listed k b (sym (get-with_value_other p h k a (with_enabled on a) g away) ∙ e)
       ]);
       live = λ n k e. elim (cases_eq k h) [
-        | inl here ↦ (with_enabled on a, ap (get (with_value p h (with_enabled on a))) here ∙ get-with_value_same p h a (with_enabled on a) g)
+        | inl here ↦ (with_enabled on a, ap (slot_value (with_value p h (with_enabled on a))) here ∙ get-with_value_same p h a (with_enabled on a) g)
         | inr away ↦ let b = l.live n k e in (b.0, get-with_value_other p h k a (with_enabled on a) g away ∙ b.1)
       ];
     }
@@ -219,7 +219,7 @@ past-none [] i less none = omega arith
 past-none (x ∷ hs) zero less none = none-some (sym none)
 past-none (x ∷ hs) (suc i) less none = past-none hs i (omega arith) none
 
-pub live-at : (p : Slots Action) (jobs : HandleLists) (n i h : ℕ) → AreListed p jobs → slice_get (list_at jobs.lists n) i ≡ Some h → (a : Action) × (get p h ≡ Some a)
+pub live-at : (p : Slots Action) (jobs : HandleLists) (n i h : ℕ) → AreListed p jobs → slice_get (list_at jobs.lists n) i ≡ Some h → (a : Action) × (slot_value p h ≡ Some a)
 live-at p jobs n i h l e = l.live n h (index-has h i (list_at jobs.lists n) e)
 
 pub some-is : (o : Option Action) → ((a : Action) × (o ≡ Some a)) → IsSome o

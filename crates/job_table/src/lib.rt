@@ -5,7 +5,7 @@ mod action;
 pub mod cover;
 
 ghost use Rattle.std.specs.Prelude.{◌≡◌, ◌+◌, ◌≤◌, ◌<◌, ℕ, List, true, false, replicate, Some, slice_get, IsSome, IfSome, IfNone, IfOk, OnOk, OnErr};
-ghost use Rattle.handle_pool.specs.Slots.{get, free_slot, without, changed};
+ghost use Rattle.handle_pool.specs.Slots.{slot_value, free_slot, without, changed};
 ghost use Rattle.mtapi_objects.specs.Actions.{Action, with_enabled};
 ghost use Rattle.job_table.specs.Answers.{Creates, Covers, Chooses, job_of, runs_job_on};
 ghost use Rattle.job_table.specs.Cover.{CoversBefore};
@@ -73,7 +73,7 @@ impl Actions {
 
     /// Gives up an action, and gives its job. `ErrActionInvalid` where it isn't live.
     pub fn delete(&mut self, a: ActionHandle) -> Result<u32, MtapiStatus>
-        ensures reply { result ≡ job_of (get self.old a.0) }
+        ensures reply { result ≡ job_of (slot_value self.old a.0) }
         ensures ok { OnOk result (self.new ≡ without self.old a.0) }
         ensures err { OnErr result (self.new ≡ self.old) }
     {
@@ -89,7 +89,7 @@ impl Actions {
 
     /// Enables an action, and gives its job. `ErrActionInvalid` where it isn't live.
     pub fn enable(&mut self, a: ActionHandle) -> Result<u32, MtapiStatus>
-        ensures reply { result ≡ job_of (get self.old a.0) }
+        ensures reply { result ≡ job_of (slot_value self.old a.0) }
         ensures new { self.new ≡ changed self.old a.0 (with_enabled true) }
     {
         self.set_enabled(a, true)
@@ -97,14 +97,14 @@ impl Actions {
 
     /// Disables an action, and gives its job. `ErrActionInvalid` where it isn't live.
     pub fn disable(&mut self, a: ActionHandle) -> Result<u32, MtapiStatus>
-        ensures reply { result ≡ job_of (get self.old a.0) }
+        ensures reply { result ≡ job_of (slot_value self.old a.0) }
         ensures new { self.new ≡ changed self.old a.0 (with_enabled false) }
     {
         self.set_enabled(a, false)
     }
 
     fn set_enabled(&mut self, a: ActionHandle, enabled: bool) -> Result<u32, MtapiStatus>
-        ensures reply { result ≡ job_of (get self.old a.0) }
+        ensures reply { result ≡ job_of (slot_value self.old a.0) }
         ensures new { self.new ≡ changed self.old a.0 (with_enabled enabled) }
     {
         set_enabled_in(&mut self.pool, a.0, enabled)
@@ -149,7 +149,7 @@ fn set_enabled_in(
     handle: u64,
     enabled: bool,
 ) -> Result<u32, MtapiStatus>
-    ensures reply { result ≡ job_of (get pool.old handle) }
+    ensures reply { result ≡ job_of (slot_value pool.old handle) }
     ensures new { pool.new ≡ changed pool.old handle (with_enabled enabled) }
 {
     match pool.get_mut(handle) {
@@ -163,7 +163,7 @@ fn set_enabled_in(
 
 // The cover of the actions before a handle of the list, with the action of this handle.
 fn cover_at(pool: &Pool<StoredAction>, cover: Cover, job: u32, handle: u64) -> Cover
-    requires { IsSome (get pool.now handle) }
+    requires { IsSome (slot_value pool.now handle) }
     ensures { (hs : List ℕ) (index : ℕ) → slice_get hs index ≡ Some handle → CoversBefore pool.now hs index job cover → CoversBefore pool.now hs (index + 1) job result }
 {
     match pool.get(handle) {
@@ -175,9 +175,9 @@ fn cover_at(pool: &Pool<StoredAction>, cover: Cover, job: u32, handle: u64) -> C
 // The kind of the action of this handle, if it is enabled, has this job, and its mask has the worker.
 fn runs_at(pool: &Pool<StoredAction>, job: u32, worker: u32, handle: u64) -> Option<Kind>
     requires worker { worker < 64 }
-    requires live { IsSome (get pool.now handle) }
-    ensures some { IfSome result (λ kind. (a : Action) × (get pool.now handle ≡ Some a) × (a.kind ≡ kind) × (runs_job_on job worker a ≡ true)) }
-    ensures none { IfNone result ((a : Action) → get pool.now handle ≡ Some a → runs_job_on job worker a ≡ true → ⊥) }
+    requires live { IsSome (slot_value pool.now handle) }
+    ensures some { IfSome result (λ kind. (a : Action) × (slot_value pool.now handle ≡ Some a) × (a.kind ≡ kind) × (runs_job_on job worker a ≡ true)) }
+    ensures none { IfNone result ((a : Action) → slot_value pool.now handle ≡ Some a → runs_job_on job worker a ≡ true → ⊥) }
 {
     match pool.get(handle) {
         Some(action) if action.runs_job_on(job, worker) => Some(action.kind()),

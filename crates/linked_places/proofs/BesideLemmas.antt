@@ -5,7 +5,7 @@ use Rattle.std.specs.Option.{option_map}
 use Rattle.std.proofs.lemmas.Bool.{cases_eq}
 use Rattle.std.proofs.lemmas.List.{length-replicate, get_or_past}
 use Rattle.std.proofs.lemmas.Option.{slice_get_within}
-use Rattle.handle_pool.specs.Slots.{Slot, Slots, slot_of, generation_of, free_slot, used_slot, slot_after, value_at, get, is_live, is_retired, used_at, IsFull, Inserts, with_value, without}
+use Rattle.handle_pool.specs.Slots.{Slot, Slots, slot_of, generation_of, free_slot, used_slot, slot_after, value_at, slot_value, is_live, is_retired, used_at, IsFull, Inserts, with_value, without}
 use Rattle.handle_pool.proofs.ListReads.{slice_get-set_other, slice_get-set_cases}
 use Rattle.handle_pool.proofs.StandsLemmas.{used_at_live}
 use Rattle.handle_pool.proofs.WalkLemmas.{live-used_at, slot_of-live}
@@ -81,7 +81,7 @@ module _ {A C : Type 0} (f : A → List ℕ → C) where
       ((λ full. omega (arith, full, live, retired, size)), (λ full. omega (arith, full, live, retired, size)))
 
   -- the value of a live handle, with its list
-  pub get-beside : (p : Slots A) (lists : List (List ℕ)) (h : ℕ) → get (pool_beside f p lists) h ≡ option_map (λ v. f v (list_at lists (slot_of h))) (get p h)
+  pub get-beside : (p : Slots A) (lists : List (List ℕ)) (h : ℕ) → slot_value (pool_beside f p lists) h ≡ option_map (λ v. f v (list_at lists (slot_of h))) (slot_value p h)
   get-beside p lists h = rw (slice_get-beside p.slots lists (slot_of h)) (by_slot (slice_get p.slots (slot_of h)))
     where
       list : List ℕ
@@ -110,7 +110,7 @@ module _ {A C : Type 0} (f : A → List ℕ → C) where
   with_value-beside p lists h v = ap (λ (slots : List (Slot C)). record { generations = p.generations; slots = slots }) (beside-slot p.slots lists (slot_of h) (used_slot (generation_of h) v))
 
   -- another list beside a slot in use
-  pub list-beside : (p : Slots A) (lists : List (List ℕ)) (h : ℕ) (v : A) (list : List ℕ) → AreBeside p.slots lists → get p h ≡ Some v → pool_beside f p (set lists (slot_of h) list) ≡ with_value (pool_beside f p lists) h (f v list)
+  pub list-beside : (p : Slots A) (lists : List (List ℕ)) (h : ℕ) (v : A) (list : List ℕ) → AreBeside p.slots lists → slot_value p h ≡ Some v → pool_beside f p (set lists (slot_of h) list) ≡ with_value (pool_beside f p lists) h (f v list)
   list-beside p lists h v list are live =
       let at = used_at_live (slice_get p.slots (slot_of h)) (generation_of h) v live in
       let within : slot_of h < length lists = rw are.size (slot_of-live p h v live) in
@@ -125,7 +125,7 @@ module _ {A C : Type 0} (f : A → List ℕ → C) where
       used_beside s turn value empty = by_retired s.retired s refl turn value empty
 
   -- a slot that is given up, with its list
-  pub without-beside : (p : Slots A) (lists : List (List ℕ)) (h : ℕ) (v : A) → AreBeside p.slots lists → get p h ≡ Some v → pool_beside f (without p h) (set lists (slot_of h) []) ≡ without (pool_beside f p lists) h
+  pub without-beside : (p : Slots A) (lists : List (List ℕ)) (h : ℕ) (v : A) → AreBeside p.slots lists → slot_value p h ≡ Some v → pool_beside f (without p h) (set lists (slot_of h) []) ≡ without (pool_beside f p lists) h
   without-beside p lists h v are live =
       let within : slot_of h < length lists = rw are.size (slot_of-live p h v live) in
       let at = used_at_live (slice_get p.slots (slot_of h)) (generation_of h) v live in
@@ -181,7 +181,7 @@ module _ {A : Type 0} where
     retired = λ place slot found gone. slice_get-set_cases p.slots (slot_of h) place (used_slot (generation_of h) v) slot found (λ old. are.retired place slot old gone) (λ is. absurd (cc));
   }
 
-  pub AreBeside-list : (p : Slots A) (lists : List (List ℕ)) (h : ℕ) (v : A) (list : List ℕ) → get p h ≡ Some v → AreBeside p.slots lists → AreBeside p.slots (set lists (slot_of h) list)
+  pub AreBeside-list : (p : Slots A) (lists : List (List ℕ)) (h : ℕ) (v : A) (list : List ℕ) → slot_value p h ≡ Some v → AreBeside p.slots lists → AreBeside p.slots (set lists (slot_of h) list)
   AreBeside-list p lists h v list live are =
       let at = used_at_live (slice_get p.slots (slot_of h)) (generation_of h) v live in
       record {
@@ -195,7 +195,7 @@ module _ {A : Type 0} where
         retired = are.retired;
       }
 
-  pub AreBeside-remove : (p : Slots A) (lists : List (List ℕ)) (h : ℕ) (v : A) → get p h ≡ Some v → AreBeside p.slots lists → AreBeside (without p h).slots (set lists (slot_of h) [])
+  pub AreBeside-remove : (p : Slots A) (lists : List (List ℕ)) (h : ℕ) (v : A) → slot_value p h ≡ Some v → AreBeside p.slots lists → AreBeside (without p h).slots (set lists (slot_of h) [])
   AreBeside-remove p lists h v live are =
       let within : slot_of h < length lists = rw are.size (slot_of-live p h v live) in
       record {
@@ -220,7 +220,7 @@ module _ {A : Type 0} where
           by_last false = refl
 
   -- a place that stands in the list of no live handle stands in no list
-  pub NowhereAt-beside : (p : Slots A) (lists : List (List ℕ)) (q : ℕ) → AreBeside p.slots lists → ((h : ℕ) (v : A) → get p h ≡ Some v → stands_at q (list_at lists (slot_of h)) ≡ false) → NowhereAt q lists
+  pub NowhereAt-beside : (p : Slots A) (lists : List (List ℕ)) (q : ℕ) → AreBeside p.slots lists → ((h : ℕ) (v : A) → slot_value p h ≡ Some v → stands_at q (list_at lists (slot_of h)) ≡ false) → NowhereAt q lists
   NowhereAt-beside p lists q are none place = by_slot (slice_get p.slots place) refl
     where
       by_value : (slot : Slot A) (o : Option A) → slice_get p.slots place ≡ Some slot → slot.value ≡ o → stands_at q (list_at lists place) ≡ false
@@ -230,7 +230,7 @@ module _ {A : Type 0} where
           let handle : ℕ = slot.generation * 2 ^ 32 + place in
           let small : place < 2 ^ 32 = omega (arith, are.few, within) in
           let used : used_at place (slice_get p.slots place) ≡ Some (handle, v) = rw (found, is) refl in
-          let live : get p handle ≡ Some v = live-used_at p place handle v small used in
+          let live : slot_value p handle ≡ Some v = live-used_at p place handle v small used in
           let here : slot_of handle ≡ place = omega arith in
           let P : ℕ → Type 0 = λ n. stands_at q (list_at lists n) ≡ false in
           subst P here (none handle v live)

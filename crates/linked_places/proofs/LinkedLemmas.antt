@@ -9,7 +9,7 @@ use Rattle.std.proofs.lemmas.Option.{slice_get_within, slice_get_read}
 use Rattle.handle_pool.specs.Slots.{slot_of}
 use Rattle.handle_pool.proofs.ListReads.{slice_get-set_other}
 use Rattle.linked_places.specs.Lists.{HandleLists, list_at, stands_at, has_handle, without_handle, NowhereAt, with_list}
-use Rattle.linked_places.specs.Links.{link_of, handles_of, first_of, last_of, IsRun, AreApart, IsList, IsLinked, links_followed, links_with, ends_with, links_without, ends_without, IsWithin}
+use Rattle.linked_places.specs.Links.{link_of, handles_of, first_of, last_of, IsRun, AreApart, IsList, IsLinked, links_followed, links_with, ends_with, links_without, ends_without, IsBelow}
 use Rattle.linked_places.specs.declared.Link.{Link}
 use Rattle.linked_places.specs.declared.Ends.{Ends}
 use Rattle.linked_places.proofs.HandleLemmas.{list_at-set_same, list_at-set_other, absent-append, stands_cases, stands-left, stands-right, stands-head, stands-tail, stands-either, Split, split, AreApart-right, AreApart-across, AreApart-push, AreApart-without, length-apart}
@@ -115,12 +115,12 @@ avoids_other lists number other (Some q) apart differs stands =
       | inr absent ↦ absent
     ]
 
-place_within : (links : List Link) (hs : List ℕ) (place : Option ℕ) → IsRun links None hs None → StandsIn place hs → IsWithin (length links) place
+place_within : (links : List Link) (hs : List ℕ) (place : Option ℕ) → IsRun links None hs None → StandsIn place hs → IsBelow (length links) place
 place_within links hs None run stands = tt
 place_within links hs (Some q) run stands = IsRun-within links None hs None q run stands
 
 -- the last place of a list is within the links
-pub last-within : (links : List Link) (e : Ends) (hs : List ℕ) → IsList links e hs → IsWithin (length links) e.last
+pub last-within : (links : List Link) (e : Ends) (hs : List ℕ) → IsList links e hs → IsBelow (length links) e.last
 last-within links e hs list = rw list.last (place_within links hs (last_of None hs) list.run (last_of-stands hs))
 
 -- a list has no more handles than there are links
@@ -274,8 +274,8 @@ pub record Removal (links : List Link) (ends : List Ends) (lists : List (List �
   pub link : Link
   pub read : slice_get links (slot_of h) ≡ Some link
   pub within : slot_of h < length links
-  pub previous : IsWithin (length links) link.previous
-  pub next : IsWithin (length links) link.next
+  pub previous : IsBelow (length links) link.previous
+  pub next : IsBelow (length links) link.next
   pub some : 0 < e.count
   pub linked : IsLinked (links_without links link.previous link.next) (set ends number (ends_without e link)) (set lists number (without_handle h (list_at lists number)))
 

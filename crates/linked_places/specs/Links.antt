@@ -90,9 +90,9 @@ abbrev pub links_without : List Link → Option ℕ → Option ℕ → List Link
 links_without links previous next = links_following (links_followed links previous next) next previous
 
 -- a place below the bound, if there is one
-abbrev pub IsWithin : ℕ → Option ℕ → Type 0
-IsWithin bound None = Unit {0}
-IsWithin bound (Some place) = place < bound
+abbrev pub IsBelow : ℕ → Option ℕ → Type 0
+IsBelow bound None = Unit {0}
+IsBelow bound (Some place) = place < bound
 
 -- the ends of the list without the handle of this link
 abbrev pub ends_without : Ends → Link → Ends

@@ -3,7 +3,7 @@
 
 ghost use Rattle.std.specs.Prelude.{◌≡◌, ◌+◌, ℕ, Some, ◌≤◌, ◌<◌, [], ◌∷◌, ◌++◌, false, true, length, replicate, IfOk, slice_get};
 ghost use Rattle.handle_pool.specs.Slots.{slot_of};
-ghost use Rattle.linked_places.specs.Links.{links_followed, links_following, IsWithin};
+ghost use Rattle.linked_places.specs.Links.{links_followed, links_following, IsBelow};
 ghost use Rattle.linked_places.specs.Lists.{list_at, stands_at, has_handle, without_handle, NowhereAt, with_list};
 
 use std::alloc::{AllocError, Global};
@@ -179,7 +179,7 @@ impl Ends {
 
 // Has a place, if there is one, be followed by another.
 fn set_next(links: &mut Vec<Link>, place: Option<u32>, next: Option<u32>)
-    requires { IsWithin (length links.old.items) place }
+    requires { IsBelow (length links.old.items) place }
     ensures { links.new.items ≡ links_followed links.old.items place next }
 {
     if let Some(place) = place {
@@ -189,7 +189,7 @@ fn set_next(links: &mut Vec<Link>, place: Option<u32>, next: Option<u32>)
 
 // Has a place, if there is one, follow another.
 fn set_previous(links: &mut Vec<Link>, place: Option<u32>, previous: Option<u32>)
-    requires { IsWithin (length links.old.items) place }
+    requires { IsBelow (length links.old.items) place }
     ensures { links.new.items ≡ links_following links.old.items place previous }
 {
     if let Some(place) = place {

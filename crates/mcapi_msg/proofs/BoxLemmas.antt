@@ -2,7 +2,8 @@
 use Rattle.std.specs.Prelude.{◌==◌}
 use Rattle.std.proofs.Common.{Bool, true, false, cond, ◌≡◌, ℕ, ◌<◌, ◌≤◌, List, [], ◌∷◌, ◌++◌, length, Some, None, replicate, refl, sym, ap, subst, ◌∙◌, inl, inr, arith, length-append}
 use Rattle.std.proofs.lemmas.Bool.{cases_eq}
-use Rattle.handle_pool.specs.Slots.{Slots, slot_of, generation_of, free_slot, get, Inserts, with_value, without, NoneLive, IsFull}
+use Rattle.handle_pool.specs.Slots.{Slots, slot_of, generation_of, free_slot, slot_value, Inserts, with_value, without, IsFull}
+use Rattle.handle_pool.specs.Walks.{NoneLive}
 use Rattle.handle_pool.proofs.StandsLemmas.{get-fresh}
 use Rattle.handle_pool.proofs.GetLemmas.{get-insert_same, get-insert_other, get-with_value_same, get-with_value_other, get-without_same, get-without_other}
 use Rattle.handle_pool.proofs.OneEachLemmas.{OneEach-new, OneEach-insert, OneEach-with_value, OneEach-without}
@@ -27,13 +28,13 @@ pub kept-new : (limit max capacity : ℕ) (p : Slots Mailbox) (spare : List Ring
 kept-new limit max capacity p spare few fresh count empty room = record {
   few = few;
   ports = OneEach-new (λ m. m.port) p max fresh;
-  limits = λ h m found. let none : get p h ≡ None = rw fresh (get-fresh max (slot_of h) (generation_of h)) in absurd (cc);
+  limits = λ h m found. let none : slot_value p h ≡ None = rw fresh (get-fresh max (slot_of h) (generation_of h)) in absurd (cc);
   empty = empty;
   count = omega (arith, live_count-new p max fresh, max_of-new p max fresh);
   room = omega (arith, max_of-new p max fresh);
 }
 
-pub kept-insert : (limit capacity h : ℕ) (p q : Slots Mailbox) (m : Mailbox) (r : RingTable) (spare rest : List RingTable) → IsKept limit p spare capacity → spare ≡ rest ++ r ∷ [] → m.rings ≡ r → NoneLive (get p) (λ v. v.port ≡ m.port) → Inserts p q h m → IsKept limit q rest capacity
+pub kept-insert : (limit capacity h : ℕ) (p q : Slots Mailbox) (m : Mailbox) (r : RingTable) (spare rest : List RingTable) → IsKept limit p spare capacity → spare ≡ rest ++ r ∷ [] → m.rings ≡ r → NoneLive (slot_value p) (λ v. v.port ≡ m.port) → Inserts p q h m → IsKept limit q rest capacity
 kept-insert limit capacity h p q m r spare rest kept was own new inserts =
     let empty : AreEmpty limit (rest ++ r ∷ []) = subst (AreEmpty limit) was kept.empty in
     let parts = empty_split limit rest (r ∷ []) empty in
@@ -42,7 +43,7 @@ kept-insert limit capacity h p q m r spare rest kept was own new inserts =
       ports = OneEach-insert (λ m. m.port) p q h m kept.ports new inserts;
       limits = λ k n found. elim (cases_eq k h) [
         | inl here ↦
-            let is : m ≡ n = some_is m n (sym (get-insert_same p q h m inserts) ∙ ap (get q) (sym here) ∙ found) in
+            let is : m ≡ n = some_is m n (sym (get-insert_same p q h m inserts) ∙ ap (slot_value q) (sym here) ∙ found) in
             ap (λ (x : Mailbox). x.rings.limit) (sym is) ∙ (ap (λ (x : RingTable). x.limit) own ∙ ap (λ (x : RingTable). x.limit) parts.1.0)
         | inr away ↦ kept.limits k n (sym (get-insert_other p q h k m inserts away) ∙ found)
       ];
@@ -51,13 +52,13 @@ kept-insert limit capacity h p q m r spare rest kept was own new inserts =
       room = omega (arith, kept.room, max_of-insert p q h m inserts);
     }
 
-pub kept-with_value : (limit capacity h : ℕ) (p : Slots Mailbox) (old new : Mailbox) (spare : List RingTable) → IsKept limit p spare capacity → get p h ≡ Some old → new.port ≡ old.port → new.rings.limit ≡ old.rings.limit → IsKept limit (with_value p h new) spare capacity
+pub kept-with_value : (limit capacity h : ℕ) (p : Slots Mailbox) (old new : Mailbox) (spare : List RingTable) → IsKept limit p spare capacity → slot_value p h ≡ Some old → new.port ≡ old.port → new.rings.limit ≡ old.rings.limit → IsKept limit (with_value p h new) spare capacity
 kept-with_value limit capacity h p old new spare kept found port same = record {
   few = kept.few;
   ports = OneEach-with_value (λ m. m.port) p h old new kept.ports found port;
   limits = λ k n at. elim (cases_eq k h) [
     | inl here ↦
-        let is : new ≡ n = some_is new n (sym (get-with_value_same p h old new found) ∙ ap (get (with_value p h new)) (sym here) ∙ at) in
+        let is : new ≡ n = some_is new n (sym (get-with_value_same p h old new found) ∙ ap (slot_value (with_value p h new)) (sym here) ∙ at) in
         ap (λ (x : Mailbox). x.rings.limit) (sym is) ∙ (same ∙ kept.limits h old found)
     | inr away ↦ kept.limits k n (sym (get-with_value_other p h k old new found away) ∙ at)
   ];
@@ -66,12 +67,12 @@ kept-with_value limit capacity h p old new spare kept found port same = record {
   room = omega (arith, kept.room, max_of-with_value p h new);
 }
 
-pub kept-without : (limit capacity h : ℕ) (p : Slots Mailbox) (old : Mailbox) (spare after : List RingTable) (r : RingTable) → IsKept limit p spare capacity → get p h ≡ Some old → r ≡ empty_rings old.rings.limit → after ≡ spare ++ r ∷ [] → IsKept limit (without p h) after capacity
+pub kept-without : (limit capacity h : ℕ) (p : Slots Mailbox) (old : Mailbox) (spare after : List RingTable) (r : RingTable) → IsKept limit p spare capacity → slot_value p h ≡ Some old → r ≡ empty_rings old.rings.limit → after ≡ spare ++ r ∷ [] → IsKept limit (without p h) after capacity
 kept-without limit capacity h p old spare after r kept found cleared is = record {
   few = kept.few;
   ports = OneEach-without (λ m. m.port) p h old kept.ports found;
   limits = λ k n at. elim (cases_eq k h) [
-    | inl here ↦ let none = sym (get-without_same p h old found) ∙ ap (get (without p h)) (sym here) ∙ at in absurd (cc)
+    | inl here ↦ let none = sym (get-without_same p h old found) ∙ ap (slot_value (without p h)) (sym here) ∙ at in absurd (cc)
     | inr away ↦ kept.limits k n (sym (get-without_other p h k old found away) ∙ at)
   ];
   empty = subst (AreEmpty limit) (sym is) (empty_joined limit spare (r ∷ []) kept.empty (cleared ∙ ap empty_rings (kept.limits h old found), tt));
@@ -80,7 +81,7 @@ kept-without limit capacity h p old spare after r kept found cleared is = record
 }
 
 -- while a slot is in use, the reserve has room for its rings
-pub reserve_fits : (limit capacity h : ℕ) (p : Slots Mailbox) (old : Mailbox) (spare : List RingTable) → IsKept limit p spare capacity → get p h ≡ Some old → length spare < capacity
+pub reserve_fits : (limit capacity h : ℕ) (p : Slots Mailbox) (old : Mailbox) (spare : List RingTable) → IsKept limit p spare capacity → slot_value p h ≡ Some old → length spare < capacity
 reserve_fits limit capacity h p old spare kept found = omega (arith, kept.count, kept.room, live_count-without p h old found)
 
 -- where a slot is free, there are rings for it

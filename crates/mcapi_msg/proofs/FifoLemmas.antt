@@ -5,7 +5,7 @@ use Rattle.std.proofs.lemmas.List.{append-nil}
 use Rattle.std.proofs.lemmas.Bool.{eqb-true}
 use Rattle.history.specs.Histories.{StartsWith}
 use Rattle.handle_pool.specs.Slots.{generation_of}
-use Rattle.handle_pool.specs.Issued.{Listed, how_many, live_of, lookup, at, first_live, listed, issued_at, may_issue, issue, update, retire, with_fields, gone}
+use Rattle.handle_pool.specs.Issued.{Listed, how_many, live_of, lookup, live_object, first_handle, listed, issued_at, may_issue, issue, update, retire, with_fields, gone}
 use Rattle.handle_pool.specs.Stands.{Distinct}
 use Rattle.handle_pool.proofs.ListedLemmas.{at-issue, at-update, at-retire, Distinct-issue, Distinct-update, Distinct-retire, listed-issue, listed-change}
 use Rattle.mcapi_msg.specs.declared.messages.EndpointHandle.{EndpointHandle}
@@ -96,14 +96,14 @@ flow-first sender priority w ws f = pick (w.priority == priority) refl (w.sender
     pick false e false g = sym (left false e ∙ ap (from sender) (kept (of_priority priority ws)))
 
 -- a handle that was never issued isn't live
-unlisted : (h : ℕ) (l : List (Listed Endpoint)) → listed h l ≡ 0 → at l h ≡ None
+unlisted : (h : ℕ) (l : List (Listed Endpoint)) → listed h l ≡ 0 → live_object l h ≡ None
 unfolding listed live_of
 unlisted h [] e = refl
 unlisted h (r ∷ rs) e = pick (r.handle == h) refl r.live e (λ k. unlisted h rs k)
   where
-    pick : (b : Bool) → (r.handle == h) ≡ b → (live : Bool) → cond b 1 0 + how_many (λ x. x.handle == h) rs ≡ 0 → (how_many (λ x. x.handle == h) rs ≡ 0 → at rs h ≡ None) → lookup (cond live ((r.handle, r.fields) ∷ live_of rs) (live_of rs)) h ≡ None
+    pick : (b : Bool) → (r.handle == h) ≡ b → (live : Bool) → cond b 1 0 + how_many (λ x. x.handle == h) rs ≡ 0 → (how_many (λ x. x.handle == h) rs ≡ 0 → live_object rs h ≡ None) → lookup (cond live ((r.handle, r.fields) ∷ live_of rs) (live_of rs)) h ≡ None
     pick true is live k more = absurd (omega arith)
-    pick false is true k more = ap (λ b. cond b (Some r.fields) (at rs h)) is ∙ more (omega arith)
+    pick false is true k more = ap (λ b. cond b (Some r.fields) (live_object rs h)) is ∙ more (omega arith)
     pick false is false k more = more (omega arith)
 
 issued_new : (last h : ℕ) (l : List (Listed Endpoint)) → may_issue last h l ≡ true → listed h l ≡ 0
@@ -121,7 +121,7 @@ module _ (endpoint : EndpointHandle) (sender priority : ℕ) where
   -- of what was sent, what wasn't received waits there, in its order, while the endpoint is live
   record Flows (l : List (Listed Endpoint)) (sent got : List (List ℕ)) : Type 0 where
     distinct : Distinct (live_of l)
-    live : (e : Endpoint) → at l endpoint.0 ≡ Some e → sent ≡ got ++ flow sender priority e.waiting
+    live : (e : Endpoint) → live_object l endpoint.0 ≡ Some e → sent ≡ got ++ flow sender priority e.waiting
     begins : StartsWith sent got
     unissued : listed endpoint.0 l ≡ 0 → (sent ≡ []) × (got ≡ [])
 
@@ -133,7 +133,7 @@ module _ (endpoint : EndpointHandle) (sender priority : ℕ) where
   same_some x y e = cc
 
   -- where the endpoint is live, what waits there tells all
-  flows-live : (l : List (Listed Endpoint)) (sent got : List (List ℕ)) (x : Endpoint) → Distinct (live_of l) → at l endpoint.0 ≡ Some x → sent ≡ got ++ flow sender priority x.waiting → Flows l sent got
+  flows-live : (l : List (Listed Endpoint)) (sent got : List (List ℕ)) (x : Endpoint) → Distinct (live_of l) → live_object l endpoint.0 ≡ Some x → sent ≡ got ++ flow sender priority x.waiting → Flows l sent got
   flows-live l sent got x d is e = record {
     distinct = d;
     live = λ y k. e ∙ ap (λ (z : Endpoint). got ++ flow sender priority z.waiting) (same_some x y (sym is ∙ k));
@@ -142,7 +142,7 @@ module _ (endpoint : EndpointHandle) (sender priority : ℕ) where
   }
 
   -- where the endpoint is as it was
-  flows-other : (l m : List (Listed Endpoint)) (sent got : List (List ℕ)) → Flows l sent got → Distinct (live_of m) → at m endpoint.0 ≡ at l endpoint.0 → (listed endpoint.0 m ≡ 0 → listed endpoint.0 l ≡ 0) → Flows m sent got
+  flows-other : (l m : List (Listed Endpoint)) (sent got : List (List ℕ)) → Flows l sent got → Distinct (live_of m) → live_object m endpoint.0 ≡ live_object l endpoint.0 → (listed endpoint.0 m ≡ 0 → listed endpoint.0 l ≡ 0) → Flows m sent got
   flows-other l m sent got f d same count = record {
     distinct = d;
     live = λ y k. f.live y (sym same ∙ k);
@@ -151,7 +151,7 @@ module _ (endpoint : EndpointHandle) (sender priority : ℕ) where
   }
 
   -- where the endpoint isn't live any more
-  flows-gone : (l m : List (Listed Endpoint)) (sent got : List (List ℕ)) → Flows l sent got → Distinct (live_of m) → at m endpoint.0 ≡ None → (listed endpoint.0 m ≡ 0 → listed endpoint.0 l ≡ 0) → Flows m sent got
+  flows-gone : (l m : List (Listed Endpoint)) (sent got : List (List ℕ)) → Flows l sent got → Distinct (live_of m) → live_object m endpoint.0 ≡ None → (listed endpoint.0 m ≡ 0 → listed endpoint.0 l ≡ 0) → Flows m sent got
   flows-gone l m sent got f d none count = record {
     distinct = d;
     live = λ y k. let no = sym none ∙ k in absurd (cc);
@@ -165,10 +165,10 @@ module _ (endpoint : EndpointHandle) (sender priority : ℕ) where
       new : listed h l ≡ 0
       new = issued_new last_generation h l may
 
-      off : at l h ≡ None
+      off : live_object l h ≡ None
       off = unlisted h l (issued_new last_generation h l may)
 
-      now : at (issue h (new_endpoint port who) l) endpoint.0 ≡ cond (h == endpoint.0) (Some (new_endpoint port who)) (at l endpoint.0)
+      now : live_object (issue h (new_endpoint port who) l) endpoint.0 ≡ cond (h == endpoint.0) (Some (new_endpoint port who)) (live_object l endpoint.0)
       now = at-issue h endpoint.0 (new_endpoint port who) l (unlisted h l (issued_new last_generation h l may))
 
       distinct : Distinct (live_of (issue h (new_endpoint port who) l))
@@ -177,19 +177,19 @@ module _ (endpoint : EndpointHandle) (sender priority : ℕ) where
       pick : (b : Bool) → (h == endpoint.0) ≡ b → Flows (issue h (new_endpoint port who) l) sent got
       pick true e =
           let none = f.unissued (ap (λ (n : ℕ). listed n l) (sym (eqb-true h endpoint.0 e)) ∙ new) in
-          flows-live _ sent got (new_endpoint port who) distinct (now ∙ ap (λ b. cond b (Some (new_endpoint port who)) (at l endpoint.0)) e) (none.0 ∙ ap (λ (x : List (List ℕ)). x ++ []) (sym none.1))
+          flows-live _ sent got (new_endpoint port who) distinct (now ∙ ap (λ b. cond b (Some (new_endpoint port who)) (live_object l endpoint.0)) e) (none.0 ∙ ap (λ (x : List (List ℕ)). x ++ []) (sym none.1))
       pick false e =
-          flows-other l _ sent got f distinct (now ∙ ap (λ b. cond b (Some (new_endpoint port who)) (at l endpoint.0)) e)
+          flows-other l _ sent got f distinct (now ∙ ap (λ b. cond b (Some (new_endpoint port who)) (live_object l endpoint.0)) e)
           (λ k. let more = listed-issue endpoint.0 h (new_endpoint port who) l in omega (arith, more, k))
 
   -- the live endpoint k changes, and keeps its handle
-  now_updated : (l : List (Listed Endpoint)) (k : ℕ) (g : Endpoint → Endpoint) (e : Endpoint) (b : Bool) → at l k ≡ Some e → (k == endpoint.0) ≡ b → at (update k g l) endpoint.0 ≡ cond b (Some (g e)) (at l endpoint.0)
-  now_updated l k g e b is same = at-update k endpoint.0 g e l is ∙ ap (λ c. cond c (Some (g e)) (at l endpoint.0)) same
+  now_updated : (l : List (Listed Endpoint)) (k : ℕ) (g : Endpoint → Endpoint) (e : Endpoint) (b : Bool) → live_object l k ≡ Some e → (k == endpoint.0) ≡ b → live_object (update k g l) endpoint.0 ≡ cond b (Some (g e)) (live_object l endpoint.0)
+  now_updated l k g e b is same = at-update k endpoint.0 g e l is ∙ ap (λ c. cond c (Some (g e)) (live_object l endpoint.0)) same
 
-  here : (l : List (Listed Endpoint)) (k : ℕ) (e : Endpoint) → at l k ≡ Some e → (k == endpoint.0) ≡ true → at l endpoint.0 ≡ Some e
-  here l k e is same = ap (at l) (sym (eqb-true k endpoint.0 same)) ∙ is
+  here : (l : List (Listed Endpoint)) (k : ℕ) (e : Endpoint) → live_object l k ≡ Some e → (k == endpoint.0) ≡ true → live_object l endpoint.0 ≡ Some e
+  here l k e is same = ap (live_object l) (sym (eqb-true k endpoint.0 same)) ∙ is
 
-  flows-put : (l : List (Listed Endpoint)) (sent got : List (List ℕ)) (k who p : ℕ) (msg : List ℕ) (e : Endpoint) → Flows l sent got → at l k ≡ Some e → Flows (update k (with_message (message who p msg)) l) (sent ++ cond ((k == endpoint.0) && ((who == sender) && (p == priority))) (msg ∷ []) []) (got ++ [])
+  flows-put : (l : List (Listed Endpoint)) (sent got : List (List ℕ)) (k who p : ℕ) (msg : List ℕ) (e : Endpoint) → Flows l sent got → live_object l k ≡ Some e → Flows (update k (with_message (message who p msg)) l) (sent ++ cond ((k == endpoint.0) && ((who == sender) && (p == priority))) (msg ∷ []) []) (got ++ [])
   flows-put l sent got k who p msg e f is = pick (k == endpoint.0) refl
     where
       put : List (List ℕ)
@@ -208,7 +208,7 @@ module _ (endpoint : EndpointHandle) (sender priority : ℕ) where
       pick false same =
           stays _ sent got (flows-other l _ sent got f distinct (now_updated l k (with_message (message who p msg)) e false is same) (λ n. sym (listed-change endpoint.0 k (with_fields (with_message (message who p msg))) (λ r. refl) l) ∙ n))
 
-  flows-take : (l : List (Listed Endpoint)) (sent got : List (List ℕ)) (k : ℕ) (w : Waiting) (e : Endpoint) → Flows l sent got → at l k ≡ Some e → next_of e.waiting ≡ Some w
+  flows-take : (l : List (Listed Endpoint)) (sent got : List (List ℕ)) (k : ℕ) (w : Waiting) (e : Endpoint) → Flows l sent got → live_object l k ≡ Some e → next_of e.waiting ≡ Some w
       → Flows (update k (with_first_gone w.priority) l) (sent ++ []) (got ++ cond ((k == endpoint.0) && ((w.sender == sender) && (w.priority == priority))) (w.msg ∷ []) [])
   flows-take l sent got k w e f is first = pick (k == endpoint.0) refl
     where
@@ -232,8 +232,8 @@ module _ (endpoint : EndpointHandle) (sender priority : ℕ) where
       count n = sym (listed-change endpoint.0 k gone (λ r. refl) l) ∙ n
 
       pick : (b : Bool) → (k == endpoint.0) ≡ b → Flows (retire k l) sent got
-      pick true same = flows-gone l _ sent got f (Distinct-retire k l f.distinct) (at-retire k endpoint.0 l f.distinct ∙ ap (λ b. cond b None (at l endpoint.0)) same) count
-      pick false same = flows-other l _ sent got f (Distinct-retire k l f.distinct) (at-retire k endpoint.0 l f.distinct ∙ ap (λ b. cond b None (at l endpoint.0)) same) count
+      pick true same = flows-gone l _ sent got f (Distinct-retire k l f.distinct) (at-retire k endpoint.0 l f.distinct ∙ ap (λ b. cond b None (live_object l endpoint.0)) same) count
+      pick false same = flows-other l _ sent got f (Distinct-retire k l f.distinct) (at-retire k endpoint.0 l f.distinct ∙ ap (λ b. cond b None (live_object l endpoint.0)) same) count
 
   -- what an entry with this reply and these moves leaves
   abbrev After : State → ℕ → MsgOp → List (List ℕ) → List (List ℕ) → MsgReply → List Move → Type 0
@@ -248,14 +248,14 @@ module _ (endpoint : EndpointHandle) (sender priority : ℕ) where
     stays _ sent got f,
     (stays _ sent got f, on_only (After s who (op.Open port) sent got) (may_issue last_generation (handle_of r) s.endpoints) (gives (names (handle_of r)) (opens (handle_of r) (new_endpoint port who) ∷ [])) (λ may. stays _ sent got (flows-issue s.endpoints sent got (handle_of r) port who f may))),
   )
-  row_flows s who (op.Find port) r sent got f = on_given (After s who (op.Find port) sent got) (first_live (has_port port) (live_of s.endpoints)) _ _ (stays _ sent got f) (λ h is. stays _ sent got f)
+  row_flows s who (op.Find port) r sent got f = on_given (After s who (op.Find port) sent got) (first_handle (has_port port) (live_of s.endpoints)) _ _ (stays _ sent got f) (λ h is. stays _ sent got f)
   row_flows s who (op.Send to p msg) r sent got f =
-      on_given (After s who (op.Send to p msg) sent got) (at s.endpoints to.0) _ _ (stays _ sent got f) (λ e is. (stays _ sent got f, (stays _ sent got f, flows-put s.endpoints sent got to.0 who p msg e f is)))
+      on_given (After s who (op.Send to p msg) sent got) (live_object s.endpoints to.0) _ _ (stays _ sent got f) (λ e is. (stays _ sent got f, (stays _ sent got f, flows-put s.endpoints sent got to.0 who p msg e f is)))
   row_flows s who (op.Recv h last) r sent got f =
-      on_given (After s who (op.Recv h last) sent got) (at s.endpoints h.0) _ _ (stays _ sent got f)
+      on_given (After s who (op.Recv h last) sent got) (live_object s.endpoints h.0) _ _ (stays _ sent got f)
       (λ e is. (stays _ sent got f, on_given (After s who (op.Recv h last) sent got) (next_of e.waiting) _ _ (looked last s who h sent got f) (λ w first. flows-take s.endpoints sent got h.0 w e f is first)))
   row_flows s who (op.Shut h) r sent got f =
-      on_given (After s who (op.Shut h) sent got) (at s.endpoints h.0) _ _ (stays _ sent got f) (λ e is. (stays _ sent got f, stays _ sent got (flows-shut s.endpoints sent got h.0 f)))
+      on_given (After s who (op.Shut h) sent got) (live_object s.endpoints h.0) _ _ (stays _ sent got f) (λ e is. (stays _ sent got f, stays _ sent got (flows-shut s.endpoints sent got h.0 f)))
 
   step : (s : State) (e : MsgEntry) (sent got : List (List ℕ)) → IsNext s e → Flows s.endpoints sent got → Flows (next s e).endpoints (sent ++ put_by endpoint sender priority e.who e.op e.reply) (got ++ got_by endpoint sender priority e.op e.reply)
   step s e sent got n f = gives_so (After s e.who e.op sent got) (row_of s e) e.reply (row_flows s e.who e.op e.reply sent got f) n.allowed

@@ -3,8 +3,9 @@ use Rattle.std.proofs.Common.{◌≡◌, ◌⊎◌, ℕ, ◌<◌, ◌≤◌, Boo
 use Rattle.std.specs.Prelude.{◌==◌, ◌&&◌, nat_lt}
 use Rattle.std.proofs.lemmas.Bool.{eqb-true, eq-eqb}
 use Rattle.std.proofs.lemmas.Bool.Decides.{nat_tests}
-use Rattle.handle_pool.specs.Slots.{Slots, get, max_of, IsFull, Inserts, with_value, without, NoneLive, HasLive, OneEach}
-use Rattle.handle_pool.specs.Issued.{Listed, live_of, lookup, at, any, issue, change, with_fields, gone, update, retire, is_full, may_issue}
+use Rattle.handle_pool.specs.Slots.{Slots, slot_value, max_of, IsFull, Inserts, with_value, without}
+use Rattle.handle_pool.specs.Walks.{NoneLive, HasLive, OneEach}
+use Rattle.handle_pool.specs.Issued.{Listed, live_of, lookup, live_object, any_listed, issue, change, with_fields, gone, update, retire, is_full, may_issue}
 use Rattle.handle_pool.specs.Stands.{Stands as SlotsStand}
 use Rattle.handle_pool.proofs.StandsLemmas.{IsFull-limit, IsFull-room, may_issue-insert, Stands-insert, Stands-update, Stands-remove}
 use Rattle.handle_pool.proofs.AnswerLemmas.{any-live, any-none, first_live-only, first_live-absent}
@@ -80,23 +81,23 @@ goes p b l k who o r v limit slots generations max range g = (
 )
 
 -- what the slots say of the endpoints
-live_at : (p : Post) (l : List (Listed Endpoint)) (h : ℕ) (m : Mailbox) → Holds p l → get p.boxes.pool h ≡ Some m → (e : Endpoint) × (at l h ≡ Some e) × (kept_as p.boxes.limit e ≡ m)
+live_at : (p : Post) (l : List (Listed Endpoint)) (h : ℕ) (m : Mailbox) → Holds p l → slot_value p.boxes.pool h ≡ Some m → (e : Endpoint) × (live_object l h ≡ Some e) × (kept_as p.boxes.limit e ≡ m)
 live_at p l h m v found = at-back (kept_as p.boxes.limit) l h m (sym (v.slots.found h) ∙ found)
 
-not_live : (p : Post) (l : List (Listed Endpoint)) (h : ℕ) → Holds p l → get p.boxes.pool h ≡ None → at l h ≡ None
+not_live : (p : Post) (l : List (Listed Endpoint)) (h : ℕ) → Holds p l → slot_value p.boxes.pool h ≡ None → live_object l h ≡ None
 not_live p l h v off = at-none (kept_as p.boxes.limit) l h (sym (v.slots.found h) ∙ off)
 
 abbrev box_port : ℕ → Mailbox → Bool
 box_port port m = m.port == port
 
-taken_port : (p : Post) (l : List (Listed Endpoint)) (port h : ℕ) → Holds p l → HasLive p.boxes.pool h (HasPort port) → any (has_port port) l ≡ true
+taken_port : (p : Post) (l : List (Listed Endpoint)) (port h : ℕ) → Holds p l → HasLive p.boxes.pool h (HasPort port) → any_listed (has_port port) l ≡ true
 taken_port p l port h v has =
     sym (any-relisted (kept_as p.boxes.limit) (box_port port) l) ∙ any-live p.boxes.pool (relisted (kept_as p.boxes.limit) l) (box_port port) h has.0 v.slots has.1 (eq-eqb has.0.port port has.2)
 
-passes_not : (p : Slots Mailbox) (port : ℕ) → NoneLive (get p) (HasPort port) → NoneLive (get p) (λ m. box_port port m ≡ true)
+passes_not : (p : Slots Mailbox) (port : ℕ) → NoneLive (slot_value p) (HasPort port) → NoneLive (slot_value p) (λ m. box_port port m ≡ true)
 passes_not p port none h m found is = none h m found (eqb-true m.port port is)
 
-free_port : (p : Post) (l : List (Listed Endpoint)) (port : ℕ) → Holds p l → NoneLive (get p.boxes.pool) (HasPort port) → any (has_port port) l ≡ false
+free_port : (p : Post) (l : List (Listed Endpoint)) (port : ℕ) → Holds p l → NoneLive (slot_value p.boxes.pool) (HasPort port) → any_listed (has_port port) l ≡ false
 free_port p l port v none =
     sym (any-relisted (kept_as p.boxes.limit) (box_port port) l) ∙ any-none p.boxes.pool (relisted (kept_as p.boxes.limit) l) (box_port port) v.slots (passes_not p.boxes.pool port none)
 
@@ -117,7 +118,7 @@ range-change h f (x ∷ l) k r = pick (x.live && (x.handle == h)) (range-change 
     pick true more = (k x r.0, r.1)
     pick false more = (r.0, more)
 
-in_range : (h : ℕ) (l : List (Listed Endpoint)) (e : Endpoint) → AreInRange l → at l h ≡ Some e → InRange e.waiting
+in_range : (h : ℕ) (l : List (Listed Endpoint)) (e : Endpoint) → AreInRange l → live_object l h ≡ Some e → InRange e.waiting
 unfolding live_of
 in_range h [] e r found = absurd (cc)
 in_range h (x ∷ l) e r found = pick x.live (x.handle == h) refl found (λ more. in_range h l e r.1 more)
@@ -125,21 +126,21 @@ in_range h (x ∷ l) e r found = pick x.live (x.handle == h) refl found (λ more
     same : (a b : Endpoint) → Some a ≡ Some b → a ≡ b
     same a b k = cc
 
-    pick : (a b : Bool) → (x.handle == h) ≡ b → lookup (cond a ((x.handle, x.fields) ∷ live_of l) (live_of l)) h ≡ Some e → (at l h ≡ Some e → InRange e.waiting) → InRange e.waiting
-    pick true true is k more = subst (λ (y : Endpoint). InRange y.waiting) (same x.fields e (sym (ap (λ b. cond b (Some x.fields) (at l h)) is) ∙ k)) r.0
-    pick true false is k more = more (sym (ap (λ b. cond b (Some x.fields) (at l h)) is) ∙ k)
+    pick : (a b : Bool) → (x.handle == h) ≡ b → lookup (cond a ((x.handle, x.fields) ∷ live_of l) (live_of l)) h ≡ Some e → (live_object l h ≡ Some e → InRange e.waiting) → InRange e.waiting
+    pick true true is k more = subst (λ (y : Endpoint). InRange y.waiting) (same x.fields e (sym (ap (λ b. cond b (Some x.fields) (live_object l h)) is) ∙ k)) r.0
+    pick true false is k more = more (sym (ap (λ b. cond b (Some x.fields) (live_object l h)) is) ∙ k)
     pick false b is k more = more k
 
 -- Open
 pub open_taken : (p : Post) (l : List (Listed Endpoint)) (who port h : ℕ) → Holds p l → HasLive p.boxes.pool h (HasPort port) → Steps p l who (op.Open port) (Refused PortTaken) p
 open_taken p l who port h v has = stays p l who (op.Open port) (Refused PortTaken) v (met _ _ _ _ (taken_port p l port h v has))
 
-pub open_full : (p : Post) (l : List (Listed Endpoint)) (who port : ℕ) → Holds p l → NoneLive (get p.boxes.pool) (HasPort port) → IsFull p.boxes.pool → Steps p l who (op.Open port) (Refused EndpointLimit) p
+pub open_full : (p : Post) (l : List (Listed Endpoint)) (who port : ℕ) → Holds p l → NoneLive (slot_value p.boxes.pool) (HasPort port) → IsFull p.boxes.pool → Steps p l who (op.Open port) (Refused EndpointLimit) p
 open_full p l who port v none full =
     stays p l who (op.Open port) (Refused EndpointLimit) v
     (past _ _ _ _ _ _ (free_port p l port v none) (met _ _ _ _ (full_at p l v ∙ (IsFull-limit p.boxes.pool (relisted (kept_as p.boxes.limit) l) v.slots).0 full)))
 
-pub open_made : (p : Post) (b : BoxTable) (l : List (Listed Endpoint)) (who port h : ℕ) → Holds p l → NoneLive (get p.boxes.pool) (HasPort port) → (IsFull p.boxes.pool → ⊥) → b.limit ≡ p.boxes.limit → Inserts p.boxes.pool b.pool h (new_mailbox port who p.boxes.limit)
+pub open_made : (p : Post) (b : BoxTable) (l : List (Listed Endpoint)) (who port h : ℕ) → Holds p l → NoneLive (slot_value p.boxes.pool) (HasPort port) → (IsFull p.boxes.pool → ⊥) → b.limit ≡ p.boxes.limit → Inserts p.boxes.pool b.pool h (new_mailbox port who p.boxes.limit)
     → Steps p l who (op.Open port) (names h) (record p { boxes = b })
 open_made p b l who port h v none room limit inserts =
     let f : Endpoint → Mailbox = kept_as p.boxes.limit in
@@ -162,13 +163,13 @@ find_found p l who port h v has one =
     (λ k w found is. one.only k h w has.0 found has.1 (eqb-true w.port port is ∙ sym has.2)))
     (says_this _ _))
 
-pub find_absent : (p : Post) (l : List (Listed Endpoint)) (who port : ℕ) → Holds p l → NoneLive (get p.boxes.pool) (HasPort port) → Steps p l who (op.Find port) (Refused PortUnknown) p
+pub find_absent : (p : Post) (l : List (Listed Endpoint)) (who port : ℕ) → Holds p l → NoneLive (slot_value p.boxes.pool) (HasPort port) → Steps p l who (op.Find port) (Refused PortUnknown) p
 find_absent p l who port v none =
     stays p l who (op.Find port) (Refused PortUnknown) v
     (at_none _ _ _ _ (sym (first-relisted (kept_as p.boxes.limit) (box_port port) l) ∙ first_live-absent p.boxes.pool (relisted (kept_as p.boxes.limit) l) (box_port port) v.slots (passes_not p.boxes.pool port none)))
 
 -- Send
-pub send_invalid : (p : Post) (l : List (Listed Endpoint)) (who : ℕ) (to : EndpointHandle) (priority : ℕ) (msg : List ℕ) → Holds p l → get p.boxes.pool to.0 ≡ None → Steps p l who (op.Send to priority msg) (Refused EndpointInvalid) p
+pub send_invalid : (p : Post) (l : List (Listed Endpoint)) (who : ℕ) (to : EndpointHandle) (priority : ℕ) (msg : List ℕ) → Holds p l → slot_value p.boxes.pool to.0 ≡ None → Steps p l who (op.Send to priority msg) (Refused EndpointInvalid) p
 send_invalid p l who to priority msg v off = stays p l who (op.Send to priority msg) (Refused EndpointInvalid) v (at_none _ _ _ _ (not_live p l to.0 v off))
 
 above : (n : ℕ) → 4 ≤ n → not (nat_lt n 4) ≡ true
@@ -183,30 +184,30 @@ below n h = ap not (on n h)
     on : (n : ℕ) → n < 4 → nat_lt n 4 ≡ true
     on n h = grind (arith, nat_tests)
 
-pub send_range : (p : Post) (l : List (Listed Endpoint)) (who : ℕ) (to : EndpointHandle) (priority : ℕ) (msg : List ℕ) (m : Mailbox) → Holds p l → get p.boxes.pool to.0 ≡ Some m → 4 ≤ priority → Steps p l who (op.Send to priority msg) (Refused PriorityRange) p
+pub send_range : (p : Post) (l : List (Listed Endpoint)) (who : ℕ) (to : EndpointHandle) (priority : ℕ) (msg : List ℕ) (m : Mailbox) → Holds p l → slot_value p.boxes.pool to.0 ≡ Some m → 4 ≤ priority → Steps p l who (op.Send to priority msg) (Refused PriorityRange) p
 send_range p l who to priority msg m v found out =
     let e = live_at p l to.0 m v found in
     stays p l who (op.Send to priority msg) (Refused PriorityRange) v (at_some _ _ _ e.0 _ _ _ e.1 (met _ _ _ _ (above priority out)))
 
 -- as many messages wait as the rings hold
-count_at : (p : Post) (l : List (Listed Endpoint)) (h : ℕ) (m : Mailbox) (e : Endpoint) → Holds p l → at l h ≡ Some e → kept_as p.boxes.limit e ≡ m → (length e.waiting == p.boxes.limit) ≡ (count_in m.rings == m.rings.limit)
+count_at : (p : Post) (l : List (Listed Endpoint)) (h : ℕ) (m : Mailbox) (e : Endpoint) → Holds p l → live_object l h ≡ Some e → kept_as p.boxes.limit e ≡ m → (length e.waiting == p.boxes.limit) ≡ (count_in m.rings == m.rings.limit)
 count_at p l h m e v is kept =
     (λ i. sym (count-rings p.boxes.limit e.waiting (in_range h l e v.priorities is)) i == p.boxes.limit) ∙ ap (λ (x : Mailbox). count_in x.rings == x.rings.limit) kept
 
-pub send_full : (p : Post) (l : List (Listed Endpoint)) (who : ℕ) (to : EndpointHandle) (priority : ℕ) (msg : List ℕ) (m : Mailbox) → Holds p l → get p.boxes.pool to.0 ≡ Some m → priority < 4 → (count_in m.rings == m.rings.limit) ≡ true → Steps p l who (op.Send to priority msg) (Refused Full) p
+pub send_full : (p : Post) (l : List (Listed Endpoint)) (who : ℕ) (to : EndpointHandle) (priority : ℕ) (msg : List ℕ) (m : Mailbox) → Holds p l → slot_value p.boxes.pool to.0 ≡ Some m → priority < 4 → (count_in m.rings == m.rings.limit) ≡ true → Steps p l who (op.Send to priority msg) (Refused Full) p
 send_full p l who to priority msg m v found small full =
     let e = live_at p l to.0 m v found in
     stays p l who (op.Send to priority msg) (Refused Full) v
     (at_some _ _ _ e.0 _ _ _ e.1 (past _ _ _ _ _ _ (below priority small) (met _ _ _ _ (count_at p l to.0 m e.0 v e.1 e.2 ∙ full))))
 
 -- the slots after a change of one endpoint
-update_stands : (p : Post) (b : BoxTable) (l : List (Listed Endpoint)) (h : ℕ) (m n : Mailbox) (e : Endpoint) (g : Endpoint → Endpoint) → Holds p l → get p.boxes.pool h ≡ Some m → at l h ≡ Some e → kept_as p.boxes.limit (g e) ≡ n → b.pool ≡ with_value p.boxes.pool h n → SlotsStand b.pool (relisted (kept_as p.boxes.limit) (update h g l))
+update_stands : (p : Post) (b : BoxTable) (l : List (Listed Endpoint)) (h : ℕ) (m n : Mailbox) (e : Endpoint) (g : Endpoint → Endpoint) → Holds p l → slot_value p.boxes.pool h ≡ Some m → live_object l h ≡ Some e → kept_as p.boxes.limit (g e) ≡ n → b.pool ≡ with_value p.boxes.pool h n → SlotsStand b.pool (relisted (kept_as p.boxes.limit) (update h g l))
 update_stands p b l h m n e g v found is kept new =
     subst (λ (q : Slots Mailbox). SlotsStand q (relisted (kept_as p.boxes.limit) (update h g l))) (sym new)
     (subst (λ (k : List (Listed Mailbox)). SlotsStand (with_value p.boxes.pool h n) k) (sym (update-relisted (kept_as p.boxes.limit) h g e n l is kept))
     (Stands-update p.boxes.pool (relisted (kept_as p.boxes.limit) l) h (λ _. n) m v.slots found))
 
-pub send_put : (p : Post) (b : BoxTable) (l : List (Listed Endpoint)) (who : ℕ) (to : EndpointHandle) (priority : ℕ) (msg : List ℕ) (m : Mailbox) → Holds p l → get p.boxes.pool to.0 ≡ Some m → priority < 4 → (count_in m.rings == m.rings.limit) ≡ false → b.limit ≡ p.boxes.limit
+pub send_put : (p : Post) (b : BoxTable) (l : List (Listed Endpoint)) (who : ℕ) (to : EndpointHandle) (priority : ℕ) (msg : List ℕ) (m : Mailbox) → Holds p l → slot_value p.boxes.pool to.0 ≡ Some m → priority < 4 → (count_in m.rings == m.rings.limit) ≡ false → b.limit ≡ p.boxes.limit
     → b.pool ≡ with_value p.boxes.pool to.0 (with_rings (with_last (message who priority msg)) m) → Steps p l who (op.Send to priority msg) Ok (record p { boxes = b })
 send_put p b l who to priority msg m v found small room limit new =
     let w : Waiting = message who priority msg in
@@ -241,8 +242,8 @@ same_owner : (p : Post) (m : Mailbox) (e : Endpoint) (who : ℕ) (b : Bool) → 
 same_owner p m e who b kept is = ap not (ap (λ (x : Mailbox). x.owner == who) kept ∙ is)
 
 -- an op of the owner, refused
-owned_refused : (p : Post) (l : List (Listed Endpoint)) (who : ℕ) (h : EndpointHandle) (o : MsgOp) (c : MsgStatus) (f : Endpoint → Row) → Holds p l → ((r : MsgReply) → row (state_of p l) who o r ≡ given (at l h.0) (says (Refused EndpointInvalid)) (λ e. unless (not (e.owner == who)) (Refused NotOwner) (f e))) → owner_refusal who (get p.boxes.pool h.0) ≡ Some c → Steps p l who o (Refused c) p
-owned_refused p l who h o c f v is off = elim (refused (get p.boxes.pool h.0) who c off) [
+owned_refused : (p : Post) (l : List (Listed Endpoint)) (who : ℕ) (h : EndpointHandle) (o : MsgOp) (c : MsgStatus) (f : Endpoint → Row) → Holds p l → ((r : MsgReply) → row (state_of p l) who o r ≡ given (live_object l h.0) (says (Refused EndpointInvalid)) (λ e. unless (not (e.owner == who)) (Refused NotOwner) (f e))) → owner_refusal who (slot_value p.boxes.pool h.0) ≡ Some c → Steps p l who o (Refused c) p
+owned_refused p l who h o c f v is off = elim (refused (slot_value p.boxes.pool h.0) who c off) [
   | inl none ↦
       rw none.1 (stays p l who o (Refused EndpointInvalid) v
       (subst (λ (w : Row). Gives (state_of p l) w (Refused EndpointInvalid) (state_of p l)) (sym (is (Refused EndpointInvalid))) (at_none _ _ _ _ (not_live p l h.0 v none.0))))
@@ -252,21 +253,21 @@ owned_refused p l who h o c f v is off = elim (refused (get p.boxes.pool h.0) wh
       (subst (λ (w : Row). Gives (state_of p l) w (Refused NotOwner) (state_of p l)) (sym (is (Refused NotOwner))) (at_some _ _ _ e.0 _ _ _ e.1 (met _ _ _ _ (same_owner p other.0 e.0 who false e.2 other.2)))))
 ]
 
-pub recv_refused : (p : Post) (l : List (Listed Endpoint)) (who : ℕ) (h : EndpointHandle) (last : Bool) (c : MsgStatus) → Holds p l → owner_refusal who (get p.boxes.pool h.0) ≡ Some c → Steps p l who (op.Recv h last) (Refused c) p
+pub recv_refused : (p : Post) (l : List (Listed Endpoint)) (who : ℕ) (h : EndpointHandle) (last : Bool) (c : MsgStatus) → Holds p l → owner_refusal who (slot_value p.boxes.pool h.0) ≡ Some c → Steps p l who (op.Recv h last) (Refused c) p
 recv_refused p l who h last c v off = owned_refused p l who h (op.Recv h last) c _ v (λ r. refl) off
 
-pub shut_refused : (p : Post) (l : List (Listed Endpoint)) (who : ℕ) (h : EndpointHandle) (c : MsgStatus) → Holds p l → owner_refusal who (get p.boxes.pool h.0) ≡ Some c → Steps p l who (op.Shut h) (Refused c) p
+pub shut_refused : (p : Post) (l : List (Listed Endpoint)) (who : ℕ) (h : EndpointHandle) (c : MsgStatus) → Holds p l → owner_refusal who (slot_value p.boxes.pool h.0) ≡ Some c → Steps p l who (op.Shut h) (Refused c) p
 shut_refused p l who h c v off = owned_refused p l who h (op.Shut h) c _ v (λ r. refl) off
 
 some_is : {A : Type 0} (x y : A) → Some x ≡ Some y → x ≡ y
 some_is x y e = cc
 
 -- a message that goes first
-pub recv_got : (p : Post) (b : BoxTable) (l : List (Listed Endpoint)) (who : ℕ) (h : EndpointHandle) (last : Bool) (m : Mailbox) (w : Waiting) → Holds p l → get p.boxes.pool h.0 ≡ Some m → (m.owner == who) ≡ true → first_in m.rings ≡ Some w → b.limit ≡ p.boxes.limit
+pub recv_got : (p : Post) (b : BoxTable) (l : List (Listed Endpoint)) (who : ℕ) (h : EndpointHandle) (last : Bool) (m : Mailbox) (w : Waiting) → Holds p l → slot_value p.boxes.pool h.0 ≡ Some m → (m.owner == who) ≡ true → first_in m.rings ≡ Some w → b.limit ≡ p.boxes.limit
     → b.pool ≡ with_value p.boxes.pool h.0 (with_rings without_front m) → Steps p l who (op.Recv h last) (Got w.sender w.priority w.msg) (record p { boxes = b })
 recv_got p b l who h last m w v found mine first limit new = by_next (next_of e.0.waiting) refl
   where
-    e : (e : Endpoint) × (at l h.0 ≡ Some e) × (kept_as p.boxes.limit e ≡ m)
+    e : (e : Endpoint) × (live_object l h.0 ≡ Some e) × (kept_as p.boxes.limit e ≡ m)
     e = live_at p l h.0 m v found
 
     front : first_in (rings_of p.boxes.limit e.0.waiting) ≡ Some w
@@ -291,10 +292,10 @@ recv_got p b l who h last m w v found mine first limit new = by_next (next_of e.
     by_next (Some x) is = got x is (some_is x w (sym (rings-take p.boxes.limit e.0.waiting x range is).0 ∙ front))
 
 -- no message waits
-pub recv_none : (p : Post) (l : List (Listed Endpoint)) (who : ℕ) (h : EndpointHandle) (last : Bool) (m : Mailbox) → Holds p l → get p.boxes.pool h.0 ≡ Some m → (m.owner == who) ≡ true → first_in m.rings ≡ None → Steps p l who (op.Recv h last) (nothing last) p
+pub recv_none : (p : Post) (l : List (Listed Endpoint)) (who : ℕ) (h : EndpointHandle) (last : Bool) (m : Mailbox) → Holds p l → slot_value p.boxes.pool h.0 ≡ Some m → (m.owner == who) ≡ true → first_in m.rings ≡ None → Steps p l who (op.Recv h last) (nothing last) p
 recv_none p l who h last m v found mine first = by_next (next_of e.0.waiting) refl
   where
-    e : (e : Endpoint) × (at l h.0 ≡ Some e) × (kept_as p.boxes.limit e ≡ m)
+    e : (e : Endpoint) × (live_object l h.0 ≡ Some e) × (kept_as p.boxes.limit e ≡ m)
     e = live_at p l h.0 m v found
 
     front : first_in (rings_of p.boxes.limit e.0.waiting) ≡ None
@@ -305,7 +306,7 @@ recv_none p l who h last m v found mine first = by_next (next_of e.0.waiting) re
         stays p l who (op.Recv h last) (nothing last) v (at_some _ _ _ e.0 _ _ _ e.1 (past _ _ _ _ _ _ (same_owner p m e.0 who true e.2 mine) (at_none _ _ _ _ is)))
     by_next (Some x) is = let some = sym (rings-take p.boxes.limit e.0.waiting x (in_range h.0 l e.0 v.priorities e.1) is).0 ∙ front in absurd (cc)
 
-pub shut_done : (p : Post) (b : BoxTable) (l : List (Listed Endpoint)) (who : ℕ) (h : EndpointHandle) (m : Mailbox) → Holds p l → get p.boxes.pool h.0 ≡ Some m → (m.owner == who) ≡ true → b.limit ≡ p.boxes.limit → b.pool ≡ without p.boxes.pool h.0
+pub shut_done : (p : Post) (b : BoxTable) (l : List (Listed Endpoint)) (who : ℕ) (h : EndpointHandle) (m : Mailbox) → Holds p l → slot_value p.boxes.pool h.0 ≡ Some m → (m.owner == who) ≡ true → b.limit ≡ p.boxes.limit → b.pool ≡ without p.boxes.pool h.0
     → Steps p l who (op.Shut h) Ok (record p { boxes = b })
 shut_done p b l who h m v found mine limit new =
     let f : Endpoint → Mailbox = kept_as p.boxes.limit in
@@ -328,7 +329,7 @@ has_space o m is room within = subst HasSpace (sym is) (less (count_in m.rings) 
     less a b e k = grind (arith, nat_tests)
 
 -- the same with the slots as the look left them
-pub recv_left : (p : Post) (b : BoxTable) (l : List (Listed Endpoint)) (who : ℕ) (h : EndpointHandle) (last known : Bool) (m : Mailbox) → Holds p l → get p.boxes.pool h.0 ≡ Some m → (m.owner == who) ≡ true → first_in m.rings ≡ None → b ≡ p.boxes → last ≡ known
+pub recv_left : (p : Post) (b : BoxTable) (l : List (Listed Endpoint)) (who : ℕ) (h : EndpointHandle) (last known : Bool) (m : Mailbox) → Holds p l → slot_value p.boxes.pool h.0 ≡ Some m → (m.owner == who) ≡ true → first_in m.rings ≡ None → b ≡ p.boxes → last ≡ known
     → Steps p l who (op.Recv h last) (nothing known) (record p { boxes = b })
 recv_left p b l who h last known m v found mine first same is =
     subst (λ (x : BoxTable). Steps p l who (op.Recv h last) (nothing known) (record p { boxes = x })) (sym same)

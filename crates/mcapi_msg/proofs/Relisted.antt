@@ -2,7 +2,7 @@
 use Rattle.std.proofs.Common.{◌≡◌, ℕ, suc, ◌+◌, Bool, true, false, not, ◌&&◌, cond, List, [], ◌∷◌, length, Option, Some, None, refl, sym, ap, ◌∙◌}
 use Rattle.std.specs.Prelude.{◌==◌, nat_le}
 use Rattle.handle_pool.specs.Slots.{slot_of, generation_of}
-use Rattle.handle_pool.specs.Issued.{Listed, live_of, lookup, at, any, any_live, first_live, issue, change, gone, update, retire, listed, issued_at, retired, is_full, may_issue}
+use Rattle.handle_pool.specs.Issued.{Listed, live_of, lookup, live_object, any_listed, any_live, first_handle, issue, change, gone, update, retire, listed, issued_at, retired, is_full, may_issue}
 use Rattle.mcapi_msg.specs.Stands.{relisted}
 
 module _ {A B : Type 0} (f : A → B) where
@@ -31,36 +31,36 @@ module _ {A B : Type 0} (f : A → B) where
       pick true k = refl
       pick false k = k
 
-  pub at-relisted : (l : List (Listed A)) (h : ℕ) → at (relisted f l) h ≡ mapped (at l h)
+  pub at-relisted : (l : List (Listed A)) (h : ℕ) → live_object (relisted f l) h ≡ mapped (live_object l h)
   at-relisted l h = ap (λ es. lookup es h) (live_of-relisted l) ∙ lookup-pairs (live_of l) h
 
   mapped_back : (o : Option A) (y : B) → mapped o ≡ Some y → (x : A) × (o ≡ Some x) × (f x ≡ y)
   mapped_back None y e = absurd (cc)
   mapped_back (Some x) y e = (x, refl, cc)
 
-  pub at-back : (l : List (Listed A)) (h : ℕ) (y : B) → at (relisted f l) h ≡ Some y → (x : A) × (at l h ≡ Some x) × (f x ≡ y)
-  at-back l h y e = mapped_back (at l h) y (sym (at-relisted l h) ∙ e)
+  pub at-back : (l : List (Listed A)) (h : ℕ) (y : B) → live_object (relisted f l) h ≡ Some y → (x : A) × (live_object l h ≡ Some x) × (f x ≡ y)
+  at-back l h y e = mapped_back (live_object l h) y (sym (at-relisted l h) ∙ e)
 
   mapped_none : (o : Option A) → mapped o ≡ None → o ≡ None
   mapped_none None e = refl
   mapped_none (Some x) e = absurd (cc)
 
-  pub at-none : (l : List (Listed A)) (h : ℕ) → at (relisted f l) h ≡ None → at l h ≡ None
-  at-none l h e = mapped_none (at l h) (sym (at-relisted l h) ∙ e)
+  pub at-none : (l : List (Listed A)) (h : ℕ) → live_object (relisted f l) h ≡ None → live_object l h ≡ None
+  at-none l h e = mapped_none (live_object l h) (sym (at-relisted l h) ∙ e)
 
   any-pairs : (q : B → Bool) (es : List (ℕ × A)) → any_live q (pairs es) ≡ any_live (λ x. q (f x)) es
   any-pairs q [] = refl
   any-pairs q (e ∷ es) = ap (λ b. cond (q (f e.1)) true b) (any-pairs q es)
 
-  pub any-relisted : (q : B → Bool) (l : List (Listed A)) → any q (relisted f l) ≡ any (λ x. q (f x)) l
+  pub any-relisted : (q : B → Bool) (l : List (Listed A)) → any_listed q (relisted f l) ≡ any_listed (λ x. q (f x)) l
   any-relisted q l = ap (λ es. any_live q es) (live_of-relisted l) ∙ any-pairs q (live_of l)
 
-  first-pairs : (q : B → Bool) (es : List (ℕ × A)) → first_live q (pairs es) ≡ first_live (λ x. q (f x)) es
+  first-pairs : (q : B → Bool) (es : List (ℕ × A)) → first_handle q (pairs es) ≡ first_handle (λ x. q (f x)) es
   first-pairs q [] = refl
   first-pairs q (e ∷ es) = ap (λ (o : Option ℕ). cond (q (f e.1)) (Some e.0) o) (first-pairs q es)
 
-  pub first-relisted : (q : B → Bool) (l : List (Listed A)) → first_live q (live_of (relisted f l)) ≡ first_live (λ x. q (f x)) (live_of l)
-  first-relisted q l = ap (λ es. first_live q es) (live_of-relisted l) ∙ first-pairs q (live_of l)
+  pub first-relisted : (q : B → Bool) (l : List (Listed A)) → first_handle q (live_of (relisted f l)) ≡ first_handle (λ x. q (f x)) (live_of l)
+  first-relisted q l = ap (λ es. first_handle q es) (live_of-relisted l) ∙ first-pairs q (live_of l)
 
   length-pairs : (es : List (ℕ × A)) → length (pairs es) ≡ length es
   length-pairs [] = refl
@@ -104,7 +104,7 @@ module _ {A B : Type 0} (f : A → B) where
       pick false e = ap (λ (l : List (Listed B)). record { handle = r.handle; live = r.live; fields = f r.fields } ∷ l) e
 
   -- the live object of the handle changes into one that is seen so
-  pub update-relisted : (h : ℕ) (g : A → A) (x : A) (y : B) (l : List (Listed A)) → at l h ≡ Some x → f (g x) ≡ y → relisted f (update h g l) ≡ update h (λ _. y) (relisted f l)
+  pub update-relisted : (h : ℕ) (g : A → A) (x : A) (y : B) (l : List (Listed A)) → live_object l h ≡ Some x → f (g x) ≡ y → relisted f (update h g l) ≡ update h (λ _. y) (relisted f l)
   unfolding relisted change live_of
   update-relisted h g x y [] found is = absurd (cc)
   update-relisted h g x y (r ∷ rs) found is = pick r.live (r.handle == h) refl found (λ more. update-relisted h g x y rs more is)
@@ -112,7 +112,7 @@ module _ {A B : Type 0} (f : A → B) where
       fields : (a b : A) → Some a ≡ Some b → a ≡ b
       fields a b e = cc
 
-      pick : (live same : Bool) → (r.handle == h) ≡ same → lookup (cond live ((r.handle, r.fields) ∷ live_of rs) (live_of rs)) h ≡ Some x → (at rs h ≡ Some x → relisted f (update h g rs) ≡ update h (λ _. y) (relisted f rs)) →
+      pick : (live same : Bool) → (r.handle == h) ≡ same → lookup (cond live ((r.handle, r.fields) ∷ live_of rs) (live_of rs)) h ≡ Some x → (live_object rs h ≡ Some x → relisted f (update h g rs) ≡ update h (λ _. y) (relisted f rs)) →
           relisted f (cond (live && same) (record { handle = r.handle; live = live; fields = g r.fields } ∷ rs) (record { handle = r.handle; live = live; fields = r.fields } ∷ update h g rs))
           ≡ cond (live && same) (record { handle = r.handle; live = live; fields = y } ∷ relisted f rs) (record { handle = r.handle; live = live; fields = f r.fields } ∷ update h (λ _. y) (relisted f rs))
       pick true true e at more =

@@ -4,7 +4,7 @@ use Rattle.std.specs.Prelude.{IfOk, OnErr, MatchOption, ◌==◌}
 use Rattle.std.proofs.lemmas.Bool.Decides.{nat_tests}
 use Rattle.std.proofs.lemmas.Result.{IfOk-weaker}
 use Rattle.history.specs.Histories.{entry}
-use Rattle.handle_pool.specs.Issued.{live_of, at, first_live, may_issue}
+use Rattle.handle_pool.specs.Issued.{live_of, live_object, first_handle, may_issue}
 use Rattle.turn_looks.specs.Turns.{SameSeat, Turned, Unturned}
 use Rattle.turn_looks.specs.Looks.{pends, Looked}
 use Rattle.mcapi_msg.specs.declared.messages.EndpointHandle.{EndpointHandle}
@@ -76,13 +76,13 @@ open_says port s who r =
     (names_code _ refl, (names_code _ refl, on_only (IsAnswer Names) (may_issue last_generation (handle_of r) s.endpoints) (gives (names (handle_of r)) (opens (handle_of r) (new_endpoint port who) ∷ [])) answer))
 
 pub find_says : (port : ℕ) (s : State) (who : ℕ) (r : MsgReply) → AllSays (IsAnswer Names) (row s who (op.Find port) r)
-find_says port s who r = on_given (IsAnswer Names) (first_live (has_port port) (live_of s.endpoints)) _ _ (names_code _ refl) (λ h. (Ok (record { 0 = h }), refl))
+find_says port s who r = on_given (IsAnswer Names) (first_handle (has_port port) (live_of s.endpoints)) _ _ (names_code _ refl) (λ h. (Ok (record { 0 = h }), refl))
 
 pub send_says : (to : EndpointHandle) (priority : ℕ) (msg : List ℕ) (s : State) (who : ℕ) (r : MsgReply) → AllSays (IsAnswer Done) (row s who (op.Send to priority msg) r)
-send_says to priority msg s who r = on_given (IsAnswer Done) (at s.endpoints to.0) _ _ (done_code _ refl) (λ e. (done_code _ refl, (done_code _ refl, (Ok tt, refl))))
+send_says to priority msg s who r = on_given (IsAnswer Done) (live_object s.endpoints to.0) _ _ (done_code _ refl) (λ e. (done_code _ refl, (done_code _ refl, (Ok tt, refl))))
 
 pub shut_says : (h : EndpointHandle) (s : State) (who : ℕ) (r : MsgReply) → AllSays (IsAnswer Done) (row s who (op.Shut h) r)
-shut_says h s who r = on_given (IsAnswer Done) (at s.endpoints h.0) _ _ (done_code _ refl) (λ e. (done_code _ refl, (Ok tt, refl)))
+shut_says h s who r = on_given (IsAnswer Done) (live_object s.endpoints h.0) _ _ (done_code _ refl) (λ e. (done_code _ refl, (Ok tt, refl)))
 
 -- a look gives a message or a status, or Pending where more looks may come; Timeout comes with the last one
 record LookSays (last : Bool) (r : MsgReply) : Type 0 where
@@ -134,7 +134,7 @@ got_says last w = record { answers = λ n. (Ok _, refl); pends = λ k. absurd (c
 look_says : (h : EndpointHandle) (last : Bool) (s : State) (who : ℕ) (r : MsgReply) → AllSays (LookSays last) (row s who (look_for h last) r)
 unfolding is_late
 look_says h last s who r =
-    on_given (LookSays last) (at s.endpoints h.0) _ _ (refusal_says last _ refl refl)
+    on_given (LookSays last) (live_object s.endpoints h.0) _ _ (refusal_says last _ refl refl)
     (λ e. (refusal_says last _ refl refl, on_given (LookSays last) (next_of e.waiting) _ _ (nothing_says last) (λ w. got_says last w)))
 
 at_look : (h : EndpointHandle) (limit : Option ℕ) (old new : Seat) (r : MsgReply) (l : Looked Legal (look_for h) reply.Pending limit old new r) → LookSays l.last r

@@ -1,6 +1,7 @@
 -- The live endpoints, as the code keeps them.
 use Rattle.std.specs.Prelude.{◌≡◌, ℕ, ◌+◌, ◌<◌, ◌≤◌, List, [], ◌∷◌, length, Option, Some, None, ◌==◌, if◌then◌else◌}
-use Rattle.handle_pool.specs.Slots.{Slots, live_count, retired_count, max_of, OneEach, get}
+use Rattle.handle_pool.specs.Slots.{Slots, live_count, retired_count, max_of, slot_value}
+use Rattle.handle_pool.specs.Walks.{OneEach}
 use Rattle.mcapi_msg.specs.declared.statuses.MsgStatus.{MsgStatus}
 use Rattle.mcapi_msg.specs.declared.statuses.MsgStatus.TheVariants.{EndpointInvalid, NotOwner}
 use Rattle.mcapi_msg.specs.declared.boxes.Mailbox.{Mailbox}
@@ -46,7 +47,7 @@ pub record IsKept (limit : ℕ) (pool : Slots Mailbox) (spare : List RingTable) 
   pub few : limit ≤ 256
   -- no two live endpoints have one port, and each has the limit
   pub ports : OneEach (λ m. m.port) pool
-  pub limits : (h : ℕ) (m : Mailbox) → get pool h ≡ Some m → m.rings.limit ≡ limit
+  pub limits : (h : ℕ) (m : Mailbox) → slot_value pool h ≡ Some m → m.rings.limit ≡ limit
   -- there are rings for every slot without an endpoint
   pub empty : AreEmpty limit spare
   pub count : length spare + live_count pool ≡ max_of pool

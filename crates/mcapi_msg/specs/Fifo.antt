@@ -8,7 +8,7 @@ use Rattle.mcapi_msg.specs.declared.ops.MsgReply.TheVariants.{Ok, Got}
 use Rattle.mcapi_msg.specs.Legal.{MsgEntry}
 
 module _ (endpoint : EndpointHandle) (sender priority : ℕ) where
-  -- the message that an op of the seat `who` put there, if it was a send of this sender with this priority, and was carried out
+  -- the message that an op of the seat `who` put there, if it was a send of this sender with this priority, and was executed
   abbrev pub put_by : ℕ → MsgOp → MsgReply → List (List ℕ)
   put_by who (Send to p msg) Ok = if (to.0 == endpoint.0) && ((who == sender) && (p == priority)) then msg ∷ [] else []
   put_by who _ _ = []

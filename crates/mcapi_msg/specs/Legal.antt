@@ -52,7 +52,7 @@ pub record Legal (terms : PostTerms) (L : List MsgEntry) : Type 0 where
 abbrev pub after : PostTerms → List MsgEntry → State
 after terms L = after_from (opening terms) L
 
--- a front of a legal list is legal
+-- a prefix of a legal list is legal
 Legal-front : (s : State) (L M : List MsgEntry) → LegalFrom s (L ++ M) → LegalFrom s L
 unfolding LegalFrom
 Legal-front s [] M h = tt

@@ -1,7 +1,7 @@
 -- The state of the machine, the moves by which it changes, and how a row is written and read.
 use Rattle.std.specs.Prelude.{◌≡◌, ℕ, Bool, true, false, List, [], ◌∷◌, Option, Some, None, if◌then◌else◌}
 use Rattle.std.specs.Bool.{MatchBool}
-use Rattle.handle_pool.specs.Issued.{Listed, at, issue, update, retire}
+use Rattle.handle_pool.specs.Issued.{Listed, live_object, issue, update, retire}
 use Rattle.mcapi_msg.specs.declared.messages.Waiting.{Waiting}
 use Rattle.mcapi_msg.specs.declared.ops.MsgReply.{MsgReply}
 use Rattle.mcapi_msg.specs.declared.ops.MsgReply.TheVariants.{Handle}
@@ -80,7 +80,7 @@ given (Some x) other row = row x
 
 -- an op on the live endpoint of this handle, and the other row where there is none
 abbrev pub on : State → ℕ → Row → (Endpoint → Row) → Row
-on s h other row = given (at s.endpoints h) other row
+on s h other row = given (live_object s.endpoints h) other row
 
 -- the handle that a reply chooses
 abbrev pub handle_of : MsgReply → ℕ

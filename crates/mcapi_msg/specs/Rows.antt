@@ -1,6 +1,6 @@
 -- The row of each op: its refusals in order, and then its reply and the moves that it makes.
 use Rattle.std.specs.Prelude.{ℕ, Bool, not, ◌==◌, nat_lt, [], ◌∷◌, length, if◌then◌else◌}
-use Rattle.handle_pool.specs.Issued.{live_of, any, first_live, is_full, may_issue}
+use Rattle.handle_pool.specs.Issued.{live_of, any_listed, first_handle, is_full, may_issue}
 use Rattle.mcapi_msg.specs.declared.messages.Waiting.{Waiting}
 use Rattle.mcapi_msg.specs.declared.messages.EndpointHandle.{EndpointHandle}
 use Rattle.mcapi_msg.specs.declared.ops.MsgOp.{MsgOp}
@@ -40,11 +40,11 @@ hands h w = gives (Got w.sender w.priority w.msg) (takes h w.priority ∷ [])
 
 abbrev pub row : State → ℕ → MsgOp → MsgReply → Row
 row s who (Open port) r =
-    refuses (any (has_port port) s.endpoints) PortTaken
+    refuses (any_listed (has_port port) s.endpoints) PortTaken
     (refuses (is_full last_generation s.terms.endpoints s.endpoints) EndpointLimit
     (only (may_issue last_generation (handle_of r) s.endpoints)
     (gives (names (handle_of r)) (opens (handle_of r) (new_endpoint port who) ∷ []))))
-row s who (Find port) r = given (first_live (has_port port) (live_of s.endpoints)) (says (Refused PortUnknown)) (λ h. says (names h))
+row s who (Find port) r = given (first_handle (has_port port) (live_of s.endpoints)) (says (Refused PortUnknown)) (λ h. says (names h))
 row s who (Send to priority msg) r =
     live s to (λ e. refuses (not (nat_lt priority 4)) PriorityRange
     (refuses (length e.waiting == s.terms.limit) Full

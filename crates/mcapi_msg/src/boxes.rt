@@ -2,7 +2,8 @@
 
 ghost use Rattle.std.specs.Prelude.{◌≡◌, ◌≤◌, ◌<◌, ◌↔◌, ℕ, Some, IfOk, IfSome, IfNone, IsTrue, IsSome, replicate, option_copied, vec_len, vec_capacity, length};
 ghost use Rattle.std.specs.Bool.{OnFalse};
-ghost use Rattle.handle_pool.specs.Slots.{Slots, get, free_slot, without, with_value, Inserts, NoneLive, HasLive, IsFull, OneEach};
+ghost use Rattle.handle_pool.specs.Slots.{Slots, slot_value, free_slot, without, with_value, Inserts, IsFull};
+ghost use Rattle.handle_pool.specs.Walks.{NoneLive, HasLive, OneEach};
 ghost use Rattle.mcapi_msg.specs.declared.boxes.Mailbox.{Mailbox};
 ghost use Rattle.mcapi_msg.specs.Endpoints.{last_generation};
 ghost use Rattle.mcapi_msg.specs.Rings.{empty_rings, count_in, with_last, first_in, without_front};
@@ -109,7 +110,7 @@ impl Boxes {
     /// The live endpoint with this port.
     pub(crate) fn find(&self, port: u32) -> Option<EndpointHandle>
         ensures found { IfSome result (λ h. HasLive self.now.pool h.0 (HasPort port)) }
-        ensures absent { IfNone result (NoneLive (get self.now.pool) (HasPort port)) }
+        ensures absent { IfNone result (NoneLive (slot_value self.now.pool) (HasPort port)) }
 
         // A port has one live endpoint at most.
         ensures only { OneEach (λ m. m.port) self.now.pool }
@@ -136,7 +137,7 @@ impl Boxes {
 
     /// Makes an endpoint where no message waits.
     pub(crate) fn insert(&mut self, port: u32, owner: u32) -> u64
-        requires new_port { NoneLive (get self.old.pool) (HasPort port) }
+        requires new_port { NoneLive (slot_value self.old.pool) (HasPort port) }
         requires room { HasFree self.old.pool }
         ensures limit { self.new.limit ≡ self.old.limit }
         ensures made { Inserts self.old.pool self.new.pool result (new_mailbox port owner self.old.limit) }
@@ -152,17 +153,17 @@ impl Boxes {
 
     /// The live endpoint of a handle.
     pub(crate) fn get(&self, at: EndpointHandle) -> Option<&Mailbox>
-        ensures { option_copied result ≡ get self.now.pool at.0 }
+        ensures { option_copied result ≡ slot_value self.now.pool at.0 }
     {
         self.pool.get(at.0)
     }
 
     /// Puts a message at a live endpoint with room for it.
     pub(crate) fn put(&mut self, at: EndpointHandle, message: Waiting)
-        requires space { HasSpace (get self.old.pool at.0) }
+        requires space { HasSpace (slot_value self.old.pool at.0) }
         requires priority { message.priority < 4 }
         ensures limit { self.new.limit ≡ self.old.limit }
-        ensures put { (m : Mailbox) → get self.old.pool at.0 ≡ Some m → self.new.pool ≡ with_value self.old.pool at.0 (with_rings (with_last message) m) }
+        ensures put { (m : Mailbox) → slot_value self.old.pool at.0 ≡ Some m → self.new.pool ≡ with_value self.old.pool at.0 (with_rings (with_last message) m) }
     {
         match self.pool.get_mut(at.0) {
             Some(mailbox) => mailbox.rings.push(message),
@@ -172,11 +173,11 @@ impl Boxes {
 
     /// Takes the message that goes first from a live endpoint.
     pub(crate) fn take(&mut self, at: EndpointHandle) -> Option<Waiting>
-        requires { IsSome (get self.old.pool at.0) }
+        requires { IsSome (slot_value self.old.pool at.0) }
         ensures limit { self.new.limit ≡ self.old.limit }
-        ensures value { (m : Mailbox) → get self.old.pool at.0 ≡ Some m → result ≡ first_in m.rings }
+        ensures value { (m : Mailbox) → slot_value self.old.pool at.0 ≡ Some m → result ≡ first_in m.rings }
         ensures none { IfNone result (self.new ≡ self.old) }
-        ensures rest { (m : Mailbox) → get self.old.pool at.0 ≡ Some m → self.new.pool ≡ with_value self.old.pool at.0 (with_rings without_front m) }
+        ensures rest { (m : Mailbox) → slot_value self.old.pool at.0 ≡ Some m → self.new.pool ≡ with_value self.old.pool at.0 (with_rings without_front m) }
     {
         match self.pool.get_mut(at.0) {
             Some(mailbox) => mailbox.rings.take(),
@@ -186,7 +187,7 @@ impl Boxes {
 
     /// Gives up a live endpoint. Its rings go back to the reserve.
     pub(crate) fn remove(&mut self, at: EndpointHandle)
-        requires { IsSome (get self.old.pool at.0) }
+        requires { IsSome (slot_value self.old.pool at.0) }
         ensures limit { self.new.limit ≡ self.old.limit }
         ensures removed { self.new.pool ≡ without self.old.pool at.0 }
     {

@@ -35,7 +35,7 @@ pub enum MsgOp {
 /// The reply to an op.
 #[derive(Drop)]
 pub enum MsgReply {
-    /// The op was carried out.
+    /// The op was executed.
     Ok,
     /// The endpoint that was made, or asked for.
     Handle(EndpointHandle),

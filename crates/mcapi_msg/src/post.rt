@@ -3,7 +3,7 @@
 ghost use Rattle.std.specs.Prelude.{◌≡◌, ◌≤◌, [], List, IfOk, IfSome};
 ghost use Rattle.handle_pool.specs.Issued.{Listed};
 ghost use Rattle.mcapi_msg.specs.declared.ops.MsgOp.TheVariants as op;
-ghost use Rattle.handle_pool.specs.Slots.{get};
+ghost use Rattle.handle_pool.specs.Slots.{slot_value};
 ghost use Rattle.mcapi_msg.specs.Boxes.{owner_refusal};
 ghost use Rattle.mcapi_msg.specs.Endpoints.{Endpoint};
 ghost use Rattle.mcapi_msg.specs.Stands.{Holds, Steps, Stands, terms_of};
@@ -28,7 +28,7 @@ pub struct PostTerms {
     pub limit: u32,
 }
 
-/// Endpoints that seats open and send messages to: each op is carried out as the machine says.
+/// Endpoints that seats open and send messages to: each op is executed as the machine says.
 #[derive(Drop)]
 pub struct Post {
     pub(crate) seats: u32,
@@ -36,7 +36,7 @@ pub struct Post {
 }
 
 impl Post {
-    /// No endpoint yet, with all the memory that a post of these terms uses, 5 MB at most. It fails for want of memory alone.
+    /// No endpoint yet, with all the memory that a post of these terms uses, 5 MB at most. It fails only when out of memory.
     pub fn new(alloc: Global, seats: u32, endpoints: u32, limit: u32) -> Result<Post, AllocError>
         requires some_seat { 1 ≤ seats }
         requires seats { seats ≤ 25 }
@@ -108,7 +108,7 @@ impl Post {
 
     // Why an op that only the owner may ask for is refused.
     fn owner_refusal(&self, who: u32, at: EndpointHandle) -> Option<MsgStatus>
-        ensures { result ≡ owner_refusal who (get self.now.boxes.pool at.0) }
+        ensures { result ≡ owner_refusal who (slot_value self.now.boxes.pool at.0) }
     {
         match self.boxes.get(at) {
             None => Some(MsgStatus::EndpointInvalid),

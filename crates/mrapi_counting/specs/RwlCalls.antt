@@ -6,7 +6,8 @@ use Rattle.mtapi_values.specs.declared.statuses.MrapiStatus.{MrapiStatus}
 use Rattle.mtapi_values.specs.declared.statuses.MrapiStatus.TheVariants.{ErrRwlInvalid, ErrRwlExists, ErrRwlLimit}
 use Rattle.mtapi_values.specs.Conditions.{first}
 use Rattle.mtapi_values.specs.Looks.{answer, is_got}
-use Rattle.handle_pool.specs.Slots.{Slots, get, IsFull, SomeLive, NoneLive}
+use Rattle.handle_pool.specs.Slots.{Slots, slot_value, IsFull}
+use Rattle.handle_pool.specs.Walks.{SomeLive, NoneLive}
 use Rattle.mtapi_objects.specs.Rwls.{Rwl, rwl_create_refusals, rwl_look_refusals, rwl_busy, rwl_taken, rwl_unlock_refusals, rwl_given}
 
 -- the lock has this id
@@ -17,7 +18,7 @@ HasId id r = r.id ≡ id
 abbrev pub RwlCreateRefused : Slots Rwl → ℕ → ℕ → MrapiStatus → Type 0
 RwlCreateRefused old id limit c =
     (first (rwl_create_refusals limit) ≡ Some c)
-    ⊎ ((first (rwl_create_refusals limit) ≡ None) × (((c ≡ ErrRwlExists) × SomeLive (get old) (HasId id)) ⊎ ((c ≡ ErrRwlLimit) × NoneLive (get old) (HasId id) × IsFull old)))
+    ⊎ ((first (rwl_create_refusals limit) ≡ None) × (((c ≡ ErrRwlExists) × SomeLive (slot_value old) (HasId id)) ⊎ ((c ≡ ErrRwlLimit) × NoneLive (slot_value old) (HasId id) × IsFull old)))
 
 -- what a call on the lock of a handle answers in place of what it does: that the handle isn't live, and else the first of the lock's own refusals
 abbrev pub rwl_refusal : (Rwl → List (Bool × MrapiStatus)) → Option Rwl → Option MrapiStatus

@@ -6,7 +6,8 @@ use Rattle.mtapi_values.specs.declared.statuses.MrapiStatus.{MrapiStatus}
 use Rattle.mtapi_values.specs.declared.statuses.MrapiStatus.TheVariants.{ErrSemInvalid, ErrSemExists, ErrSemLimit}
 use Rattle.mtapi_values.specs.Conditions.{first}
 use Rattle.mtapi_values.specs.Looks.{answer}
-use Rattle.handle_pool.specs.Slots.{Slots, get, IsFull, SomeLive, NoneLive}
+use Rattle.handle_pool.specs.Slots.{Slots, slot_value, IsFull}
+use Rattle.handle_pool.specs.Walks.{SomeLive, NoneLive}
 use Rattle.mtapi_objects.specs.Sems.{Sem, total, sem_create_refusals, sem_busy, sem_taken, sem_unlock_refusals, sem_given}
 
 -- the semaphore has this id
@@ -17,7 +18,7 @@ HasId id s = s.id ≡ id
 abbrev pub SemCreateRefused : Slots Sem → ℕ → ℕ → MrapiStatus → Type 0
 SemCreateRefused old id limit c =
     (first (sem_create_refusals limit) ≡ Some c)
-    ⊎ ((first (sem_create_refusals limit) ≡ None) × (((c ≡ ErrSemExists) × SomeLive (get old) (HasId id)) ⊎ ((c ≡ ErrSemLimit) × NoneLive (get old) (HasId id) × IsFull old)))
+    ⊎ ((first (sem_create_refusals limit) ≡ None) × (((c ≡ ErrSemExists) × SomeLive (slot_value old) (HasId id)) ⊎ ((c ≡ ErrSemLimit) × NoneLive (slot_value old) (HasId id) × IsFull old)))
 
 -- what a call on the semaphore of a handle answers in place of what it does: that the handle isn't live, and else the first of the semaphore's own refusals
 abbrev pub sem_refusal : (Sem → List (Bool × MrapiStatus)) → Option Sem → Option MrapiStatus

@@ -4,7 +4,8 @@ ghost use Rattle.std.specs.Prelude.{◌≡◌, ◌≤◌, ◌<◌, false, None, 
 ghost use Rattle.std.specs.Result.{result_err};
 ghost use Rattle.mtapi_values.specs.declared.statuses.MrapiStatus.TheVariants.{ErrRwlIdInvalid};
 ghost use Rattle.mtapi_values.specs.Conditions.{first};
-ghost use Rattle.handle_pool.specs.Slots.{get, free_slot, without, changed, Inserts, NoneLive, HasLive, IsFull, OneEach};
+ghost use Rattle.handle_pool.specs.Slots.{slot_value, free_slot, without, changed, Inserts, IsFull};
+ghost use Rattle.handle_pool.specs.Walks.{NoneLive, HasLive, OneEach};
 ghost use Rattle.mtapi_values.specs.Looks.{is_got};
 ghost use Rattle.mtapi_objects.specs.Rwls.{new_rwl, rwl_create_refusals, rwl_delete_refusals, rwl_unlock_refusals};
 ghost use Rattle.mrapi_counting.specs.RwlCalls.{HasId, RwlCreateRefused, rwl_refusal, rwl_look_at, rwl_after_look, rwl_after_unlock};
@@ -25,7 +26,8 @@ pub struct Rwls {
 }
 
 impl Model for Rwls {
-    ghost use Rattle.handle_pool.specs.Slots.{Slots, OneEach};
+    ghost use Rattle.handle_pool.specs.Slots.{Slots};
+    ghost use Rattle.handle_pool.specs.Walks.{OneEach};
     ghost use Rattle.mtapi_objects.specs.Rwls.{Rwl};
 
     ghost Value = { Slots Rwl };
@@ -53,7 +55,7 @@ impl Rwls {
     /// where every place is in use or has retired.
     pub fn create(&mut self, id: u32, limit: u32) -> Result<RwlHandle, MrapiStatus>
         ensures in_range { OnOk result (first (rwl_create_refusals limit) ≡ None) }
-        ensures new_id { OnOk result (NoneLive (get self.old) (HasId id)) }
+        ensures new_id { OnOk result (NoneLive (slot_value self.old) (HasId id)) }
         ensures room { OnOk result (IsFull self.old → ⊥) }
         ensures made { IfOk result (λ r. Inserts self.old self.new r.0 (new_rwl id limit)) }
         ensures refused { IfErr result (λ c. RwlCreateRefused self.old id limit c) }
@@ -74,7 +76,7 @@ impl Rwls {
     /// The live lock of an id, and RWL_ID_INVALID exactly where no live one has it.
     pub fn get(&self, id: u32) -> Result<RwlHandle, MrapiStatus>
         ensures found { IfOk result (λ r. HasLive self.now r.0 (HasId id)) }
-        ensures absent { IfErr result (λ c. (c ≡ ErrRwlIdInvalid) × NoneLive (get self.now) (HasId id)) }
+        ensures absent { IfErr result (λ c. (c ≡ ErrRwlIdInvalid) × NoneLive (slot_value self.now) (HasId id)) }
 
         // An id has one live lock at most.
         ensures only { OneEach (λ x. x.id) self.now }
@@ -91,7 +93,7 @@ impl Rwls {
 
     /// Gives up a lock that nobody holds.
     pub fn delete(&mut self, r: RwlHandle) -> Result<(), MrapiStatus>
-        ensures refused { result_err result ≡ rwl_refusal rwl_delete_refusals (get self.old r.0) }
+        ensures refused { result_err result ≡ rwl_refusal rwl_delete_refusals (slot_value self.old r.0) }
         ensures removed { OnOk result (self.new ≡ without self.old r.0) }
         ensures unchanged { OnErr result (self.new ≡ self.old) }
     {
@@ -110,7 +112,7 @@ impl Rwls {
     /// One look of the seat `who`, which is below 25, as a writer or as a reader: it holds the lock, or others do.
     pub fn look(&mut self, r: RwlHandle, who: u32, writer: bool) -> Look<()>
         requires { who < 25 }
-        ensures reply { result ≡ rwl_look_at who writer (get self.old r.0) }
+        ensures reply { result ≡ rwl_look_at who writer (slot_value self.old r.0) }
         ensures new { self.new ≡ changed self.old r.0 (rwl_after_look who writer) }
         ensures unchanged { is_got result ≡ false → self.new ≡ self.old }
     {
@@ -123,7 +125,7 @@ impl Rwls {
     /// The seat `who`, which is below 25, gives the lock back that it holds in this mode.
     pub fn unlock(&mut self, r: RwlHandle, who: u32, writer: bool) -> Result<(), MrapiStatus>
         requires { who < 25 }
-        ensures refused { result_err result ≡ rwl_refusal (rwl_unlock_refusals who writer) (get self.old r.0) }
+        ensures refused { result_err result ≡ rwl_refusal (rwl_unlock_refusals who writer) (slot_value self.old r.0) }
         ensures new { self.new ≡ changed self.old r.0 (rwl_after_unlock who writer) }
         ensures unchanged { OnErr result (self.new ≡ self.old) }
     {

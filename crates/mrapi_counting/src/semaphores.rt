@@ -4,7 +4,8 @@ ghost use Rattle.std.specs.Prelude.{◌≡◌, ◌≤◌, ◌<◌, false, None, 
 ghost use Rattle.std.specs.Result.{result_err};
 ghost use Rattle.mtapi_values.specs.declared.statuses.MrapiStatus.TheVariants.{ErrSemIdInvalid};
 ghost use Rattle.mtapi_values.specs.Conditions.{first};
-ghost use Rattle.handle_pool.specs.Slots.{get, free_slot, without, changed, Inserts, NoneLive, HasLive, IsFull, OneEach};
+ghost use Rattle.handle_pool.specs.Slots.{slot_value, free_slot, without, changed, Inserts, IsFull};
+ghost use Rattle.handle_pool.specs.Walks.{NoneLive, HasLive, OneEach};
 ghost use Rattle.mtapi_values.specs.Looks.{is_got};
 ghost use Rattle.mtapi_objects.specs.Sems.{new_sem, sem_create_refusals, sem_delete_refusals, sem_unlock_refusals};
 ghost use Rattle.mrapi_counting.specs.SemCalls.{HasId, SemCreateRefused, sem_refusal, sem_look_at, sem_after_look, sem_after_unlock};
@@ -25,7 +26,8 @@ pub struct Sems {
 }
 
 impl Model for Sems {
-    ghost use Rattle.handle_pool.specs.Slots.{Slots, OneEach};
+    ghost use Rattle.handle_pool.specs.Slots.{Slots};
+    ghost use Rattle.handle_pool.specs.Walks.{OneEach};
     ghost use Rattle.mtapi_objects.specs.Sems.{Sem};
 
     ghost Value = { Slots Sem };
@@ -53,7 +55,7 @@ impl Sems {
     /// and then where every place is in use or has retired.
     pub fn create(&mut self, id: u32, limit: u32) -> Result<SemHandle, MrapiStatus>
         ensures in_range { OnOk result (first (sem_create_refusals limit) ≡ None) }
-        ensures new_id { OnOk result (NoneLive (get self.old) (HasId id)) }
+        ensures new_id { OnOk result (NoneLive (slot_value self.old) (HasId id)) }
         ensures room { OnOk result (IsFull self.old → ⊥) }
         ensures made { IfOk result (λ s. Inserts self.old self.new s.0 (new_sem id limit)) }
         ensures refused { IfErr result (λ c. SemCreateRefused self.old id limit c) }
@@ -74,7 +76,7 @@ impl Sems {
     /// The live semaphore of an id, and SEM_ID_INVALID exactly where no live one has it.
     pub fn get(&self, id: u32) -> Result<SemHandle, MrapiStatus>
         ensures found { IfOk result (λ s. HasLive self.now s.0 (HasId id)) }
-        ensures absent { IfErr result (λ c. (c ≡ ErrSemIdInvalid) × NoneLive (get self.now) (HasId id)) }
+        ensures absent { IfErr result (λ c. (c ≡ ErrSemIdInvalid) × NoneLive (slot_value self.now) (HasId id)) }
 
         // An id has one live semaphore at most.
         ensures only { OneEach (λ x. x.id) self.now }
@@ -91,7 +93,7 @@ impl Sems {
 
     /// Gives up a semaphore that nobody holds.
     pub fn delete(&mut self, s: SemHandle) -> Result<(), MrapiStatus>
-        ensures refused { result_err result ≡ sem_refusal sem_delete_refusals (get self.old s.0) }
+        ensures refused { result_err result ≡ sem_refusal sem_delete_refusals (slot_value self.old s.0) }
         ensures removed { OnOk result (self.new ≡ without self.old s.0) }
         ensures unchanged { OnErr result (self.new ≡ self.old) }
     {
@@ -110,7 +112,7 @@ impl Sems {
     /// One look of the seat `who`, which is below 25: it holds the semaphore once more, or all holds are taken.
     pub fn look(&mut self, s: SemHandle, who: u32) -> Look<()>
         requires { who < 25 }
-        ensures reply { result ≡ sem_look_at (get self.old s.0) }
+        ensures reply { result ≡ sem_look_at (slot_value self.old s.0) }
         ensures new { self.new ≡ changed self.old s.0 (sem_after_look who) }
         ensures unchanged { is_got result ≡ false → self.new ≡ self.old }
     {
@@ -123,7 +125,7 @@ impl Sems {
     /// Gives back one hold of the seat `who`, which is below 25.
     pub fn unlock(&mut self, s: SemHandle, who: u32) -> Result<(), MrapiStatus>
         requires { who < 25 }
-        ensures refused { result_err result ≡ sem_refusal (sem_unlock_refusals who) (get self.old s.0) }
+        ensures refused { result_err result ≡ sem_refusal (sem_unlock_refusals who) (slot_value self.old s.0) }
         ensures new { self.new ≡ changed self.old s.0 (sem_after_unlock who) }
         ensures unchanged { OnErr result (self.new ≡ self.old) }
     {

@@ -6,7 +6,8 @@ use Rattle.mtapi_values.specs.declared.statuses.MrapiStatus.{MrapiStatus}
 use Rattle.mtapi_values.specs.declared.statuses.MrapiStatus.TheVariants.{ErrMutexInvalid, ErrMutexExists, ErrMutexLimit}
 use Rattle.mtapi_values.specs.Conditions.{first}
 use Rattle.mtapi_values.specs.Looks.{answer, is_got}
-use Rattle.handle_pool.specs.Slots.{Slots, get, IsFull, SomeLive, NoneLive}
+use Rattle.handle_pool.specs.Slots.{Slots, slot_value, IsFull}
+use Rattle.handle_pool.specs.Walks.{SomeLive, NoneLive}
 use Rattle.mtapi_objects.specs.Mutexes.{Mutex, mutex_look_refusals, mutex_busy, locked_by, mutex_unlock_refusals, unlocked}
 
 -- the mutex has this id
@@ -16,7 +17,7 @@ HasId id m = m.id ≡ id
 -- a create is refused where a live mutex has the id, and then where no further mutex can be made
 abbrev pub CreateRefused : Slots Mutex → ℕ → MrapiStatus → Type 0
 CreateRefused old id c =
-    ((c ≡ ErrMutexExists) × SomeLive (get old) (HasId id)) ⊎ ((c ≡ ErrMutexLimit) × NoneLive (get old) (HasId id) × IsFull old)
+    ((c ≡ ErrMutexExists) × SomeLive (slot_value old) (HasId id)) ⊎ ((c ≡ ErrMutexLimit) × NoneLive (slot_value old) (HasId id) × IsFull old)
 
 -- what a call on the mutex of a handle answers in place of what it does: that the handle isn't live, and else the first of the mutex's own refusals
 abbrev pub refusal : (Mutex → List (Bool × MrapiStatus)) → Option Mutex → Option MrapiStatus

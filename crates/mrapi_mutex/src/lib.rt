@@ -11,7 +11,8 @@ mod tests;
 ghost use Rattle.std.specs.Prelude.{◌≡◌, ◌≤◌, false, is_some, replicate, IfOk, IfErr, OnOk, OnErr};
 ghost use Rattle.std.specs.Option.{option_map};
 ghost use Rattle.std.specs.Result.{result_err};
-ghost use Rattle.handle_pool.specs.Slots.{get, free_slot, without, changed, Inserts, NoneLive, HasLive, IsFull, OneEach};
+ghost use Rattle.handle_pool.specs.Slots.{slot_value, free_slot, without, changed, Inserts, IsFull};
+ghost use Rattle.handle_pool.specs.Walks.{NoneLive, HasLive, OneEach};
 ghost use Rattle.mtapi_objects.specs.Mutexes.{new_mutex, mutex_delete_refusals, mutex_unlock_refusals};
 ghost use Rattle.mtapi_values.specs.declared.statuses.MrapiStatus.TheVariants.{ErrMutexIdInvalid};
 ghost use Rattle.mtapi_values.specs.Looks.{is_got};
@@ -30,7 +31,8 @@ pub struct Mutexes {
 }
 
 impl Model for Mutexes {
-    ghost use Rattle.handle_pool.specs.Slots.{Slots, OneEach};
+    ghost use Rattle.handle_pool.specs.Slots.{Slots};
+    ghost use Rattle.handle_pool.specs.Walks.{OneEach};
     ghost use Rattle.mtapi_objects.specs.Mutexes.{Mutex};
 
     ghost Value = { Slots Mutex };
@@ -56,7 +58,7 @@ impl Mutexes {
 
     /// Makes a mutex that nobody owns. Refuses an id that a live mutex has, and then where every place is in use or has retired.
     pub fn create(&mut self, id: u32, recursive: bool) -> Result<MutexHandle, MrapiStatus>
-        ensures new_id { OnOk result (NoneLive (get self.old) (HasId id)) }
+        ensures new_id { OnOk result (NoneLive (slot_value self.old) (HasId id)) }
         ensures room { OnOk result (IsFull self.old → ⊥) }
         ensures made { IfOk result (λ m. Inserts self.old self.new m.0 (new_mutex id recursive)) }
         ensures refused { IfErr result (λ c. CreateRefused self.old id c) }
@@ -74,7 +76,7 @@ impl Mutexes {
     /// The live mutex of an id, and MUTEX_ID_INVALID exactly where no live one has it.
     pub fn get(&self, id: u32) -> Result<MutexHandle, MrapiStatus>
         ensures found { IfOk result (λ m. HasLive self.now m.0 (HasId id)) }
-        ensures absent { IfErr result (λ c. (c ≡ ErrMutexIdInvalid) × NoneLive (get self.now) (HasId id)) }
+        ensures absent { IfErr result (λ c. (c ≡ ErrMutexIdInvalid) × NoneLive (slot_value self.now) (HasId id)) }
 
         // An id has one live mutex at most.
         ensures only { OneEach (λ x. x.id) self.now }
@@ -91,7 +93,7 @@ impl Mutexes {
 
     /// Whether some seat owns the mutex of a handle: none exactly where the handle isn't live.
     pub fn is_owned(&self, m: MutexHandle) -> Option<bool>
-        ensures { result ≡ option_map (λ x. is_some x.owner) (get self.now m.0) }
+        ensures { result ≡ option_map (λ x. is_some x.owner) (slot_value self.now m.0) }
     {
         match self.pool.get(m.0) {
             None => None,
@@ -101,7 +103,7 @@ impl Mutexes {
 
     /// Gives up a mutex that nobody owns.
     pub fn delete(&mut self, m: MutexHandle) -> Result<(), MrapiStatus>
-        ensures refused { result_err result ≡ refusal mutex_delete_refusals (get self.old m.0) }
+        ensures refused { result_err result ≡ refusal mutex_delete_refusals (slot_value self.old m.0) }
         ensures removed { OnOk result (self.new ≡ without self.old m.0) }
         ensures unchanged { OnErr result (self.new ≡ self.old) }
     {
@@ -119,7 +121,7 @@ impl Mutexes {
 
     /// One look of the seat `who`: the key where it gets the mutex, and Busy where another seat owns it.
     pub fn look(&mut self, m: MutexHandle, who: u32) -> Look<u32>
-        ensures reply { result ≡ look_at who (get self.old m.0) }
+        ensures reply { result ≡ look_at who (slot_value self.old m.0) }
         ensures new { self.new ≡ changed self.old m.0 (after_look who) }
         ensures unchanged { is_got result ≡ false → self.new ≡ self.old }
     {
@@ -131,7 +133,7 @@ impl Mutexes {
 
     /// Takes the last key back from the seat `who`. At depth 0 the mutex is free.
     pub fn unlock(&mut self, m: MutexHandle, who: u32, key: u32) -> Result<(), MrapiStatus>
-        ensures refused { result_err result ≡ refusal (mutex_unlock_refusals who key) (get self.old m.0) }
+        ensures refused { result_err result ≡ refusal (mutex_unlock_refusals who key) (slot_value self.old m.0) }
         ensures new { self.new ≡ changed self.old m.0 (after_unlock who key) }
         ensures unchanged { OnErr result (self.new ≡ self.old) }
     {

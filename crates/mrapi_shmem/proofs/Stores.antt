@@ -2,7 +2,8 @@
 use Rattle.std.proofs.Common.{◌≡◌, ℕ, ◌+◌, ◌≤◌, ◌<◌, Bool, true, false, cond, Some, replicate, refl, arith}
 use Rattle.std.specs.Prelude.{ℤ, is_none}
 use Rattle.mtapi_values.specs.Conditions.{first}
-use Rattle.handle_pool.specs.Slots.{Slots, free_slot, get, live_count, retired_count, max_of, IsFull, Inserts, with_value, without, NoneLive}
+use Rattle.handle_pool.specs.Slots.{Slots, free_slot, slot_value, live_count, retired_count, max_of, IsFull, Inserts, with_value, without}
+use Rattle.handle_pool.specs.Walks.{NoneLive}
 use Rattle.handle_pool.proofs.OneEachLemmas.{OneEach-new, OneEach-insert, OneEach-with_value, OneEach-without}
 use Rattle.handle_pool.proofs.CountLemmas.{live_count-new, max_of-new, live_count-insert, max_of-insert, live_count-with_value, max_of-with_value, live_count-without, max_of-without}
 use Rattle.mtapi_objects.specs.Segments.{Segment, with_attached, with_cell, attach_refusals, detach_refusals, cell_refusals}
@@ -15,21 +16,21 @@ IsStore-new p max spare room fresh all fits = record {
   fits = omega (arith, max_of-new p max fresh);
 }
 
-pub IsStore-insert : (p new : Slots Segment) (h id : ℕ) (s : Segment) (spare left room now : ℕ) → IsStore p spare room → NoneLive (get p) (HasId id) → s.id ≡ id → Inserts p new h s → left + 1 ≡ spare → now ≡ room → IsStore new left now
+pub IsStore-insert : (p new : Slots Segment) (h id : ℕ) (s : Segment) (spare left room now : ℕ) → IsStore p spare room → NoneLive (slot_value p) (HasId id) → s.id ≡ id → Inserts p new h s → left + 1 ≡ spare → now ≡ room → IsStore new left now
 IsStore-insert p new h id s spare left room now store free is inserts one same = record {
   each = OneEach-insert (λ (x : Segment). x.id) p new h s store.each (λ k v found equal. free k v found (rw is at equal)) inserts;
   counted = omega (arith, store.counted, live_count-insert p new h s inserts, max_of-insert p new h s inserts);
   fits = omega (arith, store.fits, max_of-insert p new h s inserts);
 }
 
-pub IsStore-with_value : (p : Slots Segment) (h : ℕ) (old new : Segment) (spare room : ℕ) → IsStore p spare room → get p h ≡ Some old → new.id ≡ old.id → IsStore (with_value p h new) spare room
+pub IsStore-with_value : (p : Slots Segment) (h : ℕ) (old new : Segment) (spare room : ℕ) → IsStore p spare room → slot_value p h ≡ Some old → new.id ≡ old.id → IsStore (with_value p h new) spare room
 IsStore-with_value p h old new spare room store found same = record {
   each = OneEach-with_value (λ (x : Segment). x.id) p h old new store.each found same;
   counted = omega (arith, store.counted, live_count-with_value p h old new found, max_of-with_value p h new);
   fits = omega (arith, store.fits, max_of-with_value p h new);
 }
 
-pub IsStore-without : (p : Slots Segment) (h : ℕ) (old : Segment) (spare more room now : ℕ) → IsStore p spare room → get p h ≡ Some old → more ≡ spare + 1 → now ≡ room → IsStore (without p h) more now
+pub IsStore-without : (p : Slots Segment) (h : ℕ) (old : Segment) (spare more room now : ℕ) → IsStore p spare room → slot_value p h ≡ Some old → more ≡ spare + 1 → now ≡ room → IsStore (without p h) more now
 IsStore-without p h old spare more room now store found one same = record {
   each = OneEach-without (λ (x : Segment). x.id) p h old store.each found;
   counted = omega (arith, store.counted, live_count-without p h old found, max_of-without p h);
@@ -37,7 +38,7 @@ IsStore-without p h old spare more room now store found one same = record {
 }
 
 -- a segment that is live has its memory, so that there is room for one more piece of spare memory
-pub room_for_one : (p : Slots Segment) (h : ℕ) (old : Segment) (spare room : ℕ) → IsStore p spare room → get p h ≡ Some old → spare < room
+pub room_for_one : (p : Slots Segment) (h : ℕ) (old : Segment) (spare room : ℕ) → IsStore p spare room → slot_value p h ≡ Some old → spare < room
 room_for_one p h old spare room store found = omega (arith, store.counted, store.fits, live_count-without p h old found)
 
 -- where a segment may still be made, there is memory for it

@@ -3,7 +3,8 @@ use Rattle.std.specs.Prelude.{◌≡◌, ◌⊎◌, ℕ, ◌+◌, ◌≤◌, ℤ
 use Rattle.mtapi_values.specs.declared.statuses.MrapiStatus.{MrapiStatus}
 use Rattle.mtapi_values.specs.declared.statuses.MrapiStatus.TheVariants.{ErrShmInvalid, ErrShmExists, ErrShmLimit}
 use Rattle.mtapi_values.specs.Conditions.{first}
-use Rattle.handle_pool.specs.Slots.{Slots, get, live_count, max_of, IsFull, SomeLive, NoneLive, OneEach}
+use Rattle.handle_pool.specs.Slots.{Slots, slot_value, live_count, max_of, IsFull}
+use Rattle.handle_pool.specs.Walks.{SomeLive, NoneLive, OneEach}
 use Rattle.mtapi_objects.specs.Segments.{Segment, shmem_create_refusals, attach_refusals, detach_refusals, with_attached, cell_refusals, cell_of, with_cell}
 
 -- the segment has this id
@@ -14,7 +15,7 @@ HasId id s = s.id ≡ id
 abbrev pub CreateRefused : Slots Segment → ℕ → ℕ → MrapiStatus → Type 0
 CreateRefused old id cells c =
     (first (shmem_create_refusals cells) ≡ Some c)
-    ⊎ ((first (shmem_create_refusals cells) ≡ None) × (((c ≡ ErrShmExists) × SomeLive (get old) (HasId id)) ⊎ ((c ≡ ErrShmLimit) × NoneLive (get old) (HasId id) × IsFull old)))
+    ⊎ ((first (shmem_create_refusals cells) ≡ None) × (((c ≡ ErrShmExists) × SomeLive (slot_value old) (HasId id)) ⊎ ((c ≡ ErrShmLimit) × NoneLive (slot_value old) (HasId id) × IsFull old)))
 
 -- what a call on the segment of a handle answers in place of what it does: that the handle isn't live, and else the first of the segment's own refusals
 abbrev pub refusal : (Segment → List (Bool × MrapiStatus)) → Option Segment → Option MrapiStatus

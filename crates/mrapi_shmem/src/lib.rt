@@ -14,7 +14,8 @@ ghost use Rattle.std.specs.Option.{option_map};
 ghost use Rattle.std.specs.Result.{result_err};
 ghost use Rattle.mtapi_values.specs.declared.statuses.MrapiStatus.TheVariants.{ErrShmIdInvalid};
 ghost use Rattle.mtapi_values.specs.Conditions.{first};
-ghost use Rattle.handle_pool.specs.Slots.{get, free_slot, without, changed, Inserts, NoneLive, HasLive, IsFull, OneEach, live_count, retired_count, max_of};
+ghost use Rattle.handle_pool.specs.Slots.{slot_value, free_slot, without, changed, Inserts, IsFull, live_count, retired_count, max_of};
+ghost use Rattle.handle_pool.specs.Walks.{NoneLive, HasLive, OneEach};
 ghost use Rattle.mtapi_objects.specs.Segments.{new_segment, shmem_create_refusals, shmem_delete_refusals, attach_refusals, detach_refusals, cell_refusals};
 ghost use Rattle.mrapi_shmem.specs.Calls.{HasId, CreateRefused, refusal, read_at, after_attach, after_detach, after_write};
 
@@ -70,7 +71,7 @@ impl Segments {
     /// then an id that a live segment has, and then where every place is in use or has retired.
     pub fn create(&mut self, id: u32, cells: u32) -> Result<ShmemHandle, MrapiStatus>
         ensures in_range { OnOk result (first (shmem_create_refusals cells) ≡ None) }
-        ensures new_id { OnOk result (NoneLive (get self.old) (HasId id)) }
+        ensures new_id { OnOk result (NoneLive (slot_value self.old) (HasId id)) }
         ensures room { OnOk result (IsFull self.old → ⊥) }
         ensures made { IfOk result (λ s. Inserts self.old self.new s.0 (new_segment id cells)) }
         ensures refused { IfErr result (λ c. CreateRefused self.old id cells c) }
@@ -93,7 +94,7 @@ impl Segments {
     // Puts a new segment into a free place and a piece of spare memory.
     fn fill(&mut self, id: u32, cells: u32) -> u64
         requires few { cells ≤ 4096 }
-        requires new_id { NoneLive (get self.old) (HasId id) }
+        requires new_id { NoneLive (slot_value self.old) (HasId id) }
         requires room { IsFull self.old → ⊥ }
         requires fits { live_count self.old + retired_count self.old ≤ max_of self.old }
         ensures { Inserts self.old self.new result (new_segment id cells) }
@@ -110,7 +111,7 @@ impl Segments {
     /// The live segment of an id, and SHM_ID_INVALID exactly where no live one has it.
     pub fn get(&self, id: u32) -> Result<ShmemHandle, MrapiStatus>
         ensures found { IfOk result (λ s. HasLive self.now s.0 (HasId id)) }
-        ensures absent { IfErr result (λ c. (c ≡ ErrShmIdInvalid) × NoneLive (get self.now) (HasId id)) }
+        ensures absent { IfErr result (λ c. (c ≡ ErrShmIdInvalid) × NoneLive (slot_value self.now) (HasId id)) }
 
         // An id has one live segment at most.
         ensures only { OneEach (λ x. x.id) self.now }
@@ -127,7 +128,7 @@ impl Segments {
 
     /// How many cells the segment of a handle has, 1 to 4,096: none exactly where the handle isn't live.
     pub fn cell_count(&self, s: ShmemHandle) -> Option<usize>
-        ensures { result ≡ option_map (λ x. length x.cells) (get self.now s.0) }
+        ensures { result ≡ option_map (λ x. length x.cells) (slot_value self.now s.0) }
     {
         match self.pool.get(s.0) {
             None => None,
@@ -137,7 +138,7 @@ impl Segments {
 
     /// Gives up a segment to which nobody is attached.
     pub fn delete(&mut self, s: ShmemHandle) -> Result<(), MrapiStatus>
-        ensures refused { result_err result ≡ refusal shmem_delete_refusals (get self.old s.0) }
+        ensures refused { result_err result ≡ refusal shmem_delete_refusals (slot_value self.old s.0) }
         ensures removed { OnOk result (self.new ≡ without self.old s.0) }
         ensures unchanged { OnErr result (self.new ≡ self.old) }
     {
@@ -158,7 +159,7 @@ impl Segments {
     /// Attaches the seat `who`, which is below 25.
     pub fn attach(&mut self, s: ShmemHandle, who: u32) -> Result<(), MrapiStatus>
         requires { who < 25 }
-        ensures refused { result_err result ≡ refusal (attach_refusals who) (get self.old s.0) }
+        ensures refused { result_err result ≡ refusal (attach_refusals who) (slot_value self.old s.0) }
         ensures new { self.new ≡ changed self.old s.0 (after_attach who) }
         ensures unchanged { OnErr result (self.new ≡ self.old) }
     {
@@ -171,7 +172,7 @@ impl Segments {
     /// Detaches the seat `who`, which is below 25.
     pub fn detach(&mut self, s: ShmemHandle, who: u32) -> Result<(), MrapiStatus>
         requires { who < 25 }
-        ensures refused { result_err result ≡ refusal (detach_refusals who) (get self.old s.0) }
+        ensures refused { result_err result ≡ refusal (detach_refusals who) (slot_value self.old s.0) }
         ensures new { self.new ≡ changed self.old s.0 (after_detach who) }
         ensures unchanged { OnErr result (self.new ≡ self.old) }
     {
@@ -184,7 +185,7 @@ impl Segments {
     /// The number in a cell, for the seat `who`, which is below 25 and has to be attached. Cells are numbered from 0.
     pub fn read(&self, s: ShmemHandle, who: u32, cell: u32) -> Result<i64, MrapiStatus>
         requires { who < 25 }
-        ensures { result ≡ read_at who cell (get self.now s.0) }
+        ensures { result ≡ read_at who cell (slot_value self.now s.0) }
     {
         match self.pool.get(s.0) {
             None => Err(MrapiStatus::ErrShmInvalid),
@@ -201,7 +202,7 @@ impl Segments {
         value: i64,
     ) -> Result<(), MrapiStatus>
         requires { who < 25 }
-        ensures refused { result_err result ≡ refusal (cell_refusals who cell) (get self.old s.0) }
+        ensures refused { result_err result ≡ refusal (cell_refusals who cell) (slot_value self.old s.0) }
         ensures new { self.new ≡ changed self.old s.0 (after_write who cell value) }
         ensures unchanged { OnErr result (self.new ≡ self.old) }
     {

@@ -2,7 +2,7 @@
 -- status answers doesn't hang on that.
 use Rattle.std.proofs.Common.{◌≡◌, ℕ, Bool, true, false, List, Option, Some, None, refl, sym, ◌∙◌, ap}
 use Rattle.std.specs.Prelude.{if◌then◌else◌}
-use Rattle.handle_pool.specs.Issued.{at}
+use Rattle.handle_pool.specs.Issued.{live_object}
 use Rattle.mtapi_machine.specs.declared.ops.Op.{Op}
 use Rattle.mtapi_machine.specs.declared.ops.Op.TheVariants.{ActionCreate, TaskStart, TaskEnqueue, GroupCreate, QueueCreate, Pick, MutexCreate, SemCreate, RwlCreate, ShmemCreate}
 use Rattle.mtapi_machine.specs.declared.replies.Reply.{Reply}
@@ -66,7 +66,7 @@ made_alone p q h k ms ns = silent_alone (only_silent p (gives_silent (Handle h) 
 -- a worker takes a task or is idle
 picks_silent : (s : State) (w : ℕ) (r x : Reply) → Silent (picks s w r) x
 picks_silent s w (Picked t a k args) x =
-    live_silent (at s.tasks t.0) _ x (λ u. live_silent (at s.actions a.0) _ x (λ b. only_silent _ (gives_silent (Picked t a b.kind u.args) refl)))
+    live_silent (live_object s.tasks t.0) _ x (λ u. live_silent (live_object s.actions a.0) _ x (λ b. only_silent _ (gives_silent (Picked t a b.kind u.args) refl)))
 picks_silent s w _ x = only_silent _ (gives_silent Idle refl)
 
 picks_alone : (c : Bool) (s : State) (w : ℕ) (v : Row) (q r x y : Reply) → Alone (if c then v else picks s w q) (if c then v else picks s w r) x y
@@ -79,7 +79,7 @@ rows_alone s who (ActionCreate job kind cores) x y = unless_alone (unless_alone 
 rows_alone s who (TaskStart job args priority cores detached group) x y =
     unless_alone (unless_alone (unless_alone (unless_alone (unless_alone (unless_alone (unless_alone (made_alone _ _ _ _ _ _)))))))
 rows_alone s who (TaskEnqueue q args cores detached group) x y =
-    unless_alone (unless_alone (live_alone (at s.queues q.0) _ _ _ x y (λ z.
+    unless_alone (unless_alone (live_alone (live_object s.queues q.0) _ _ _ x y (λ z.
     unless_alone (unless_alone (unless_alone (unless_alone (unless_alone (unless_alone (unless_alone (made_alone _ _ _ _ _ _))))))))))
 rows_alone s who GroupCreate x y = unless_alone (unless_alone (made_alone _ _ _ _ _ _))
 rows_alone s who (QueueCreate id job priority limit ordered retain) x y =

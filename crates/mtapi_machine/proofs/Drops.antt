@@ -5,13 +5,14 @@ use Rattle.std.proofs.lemmas.Bool.Decides.{nat_tests}
 use Rattle.mtapi_values.specs.declared.statuses.MtapiStatus.TheVariants as m
 use Rattle.mtapi_values.specs.declared.handles.TaskHandle.{TaskHandle}
 use Rattle.mtapi_machine.specs.declared.replies.Reply.{Reply}
-use Rattle.mtapi_machine.specs.declared.replies.Reply.TheVariants.{Ok, Handle, Number, Ended, Given, Pending, Picked, Idle, Stop, Asked, Mtapi, Mrapi}
+use Rattle.mtapi_machine.specs.declared.replies.Reply.TheVariants.{Ok, Handle, Number, Given, Pending, Picked, Idle, Stop, Asked, Mtapi, Mrapi}
+use Rattle.mtapi_machine.specs.declared.replies.Reply.TheVariants as reply
 use Rattle.mtapi_machine.specs.declared.ops.Op.{Op}
 use Rattle.mtapi_machine.specs.declared.ops.Op.TheVariants as op
-use Rattle.handle_pool.specs.Issued.{at, update}
+use Rattle.handle_pool.specs.Issued.{live_object, update}
 use Rattle.mtapi_values.specs.Conditions.{holds}
 use Rattle.mtapi_values.specs.Seats.{is_seat}
-use Rattle.mtapi_objects.specs.Tasks.{Task, TaskState, Scheduled, Running, Over, with_notes, with_waiter, task_look_refusals}
+use Rattle.mtapi_objects.specs.Tasks.{Task, TaskState, Scheduled, Running, Ended, with_notes, with_waiter, task_look_refusals}
 use Rattle.mtapi_machine.specs.State.{State}
 use Rattle.mtapi_machine.specs.Row.{Row, unless, says, gives, never, Allows, after_row, mtapi_unless, live}
 use Rattle.mtapi_machine.specs.Moves.{after_moves}
@@ -48,9 +49,9 @@ looks_keep s who h true Scheduled u = λ e. absurd (cc)
 looks_keep s who h false Scheduled u = λ e i. record s { tasks = u i }
 looks_keep s who h true (Running w k) u = λ e. absurd (cc)
 looks_keep s who h false (Running w k) u = λ e i. record s { tasks = u i }
-looks_keep s who h last (Over x n) u = λ e. absurd (cc)
+looks_keep s who h last (Ended x n) u = λ e. absurd (cc)
 
-look_keeps : (s : State) (who : ℕ) (t : TaskHandle) (last : Bool) (o : Option Task) → at s.tasks t.0 ≡ o → holds (λ x. is_seat who x.notes.waiter) o ≡ true →
+look_keeps : (s : State) (who : ℕ) (t : TaskHandle) (last : Bool) (o : Option Task) → live_object s.tasks t.0 ≡ o → holds (λ x. is_seat who x.notes.waiter) o ≡ true →
     KeepsAt s Pending (live o (says (Mtapi m.ErrTaskInvalid)) (λ x. mtapi_unless (task_look_refusals who x) (looks_at who t.0 last x.state)))
 look_keeps s who t last None a e = λ k. refl
 look_keeps s who t last (Some x) a e =
@@ -59,7 +60,7 @@ look_keeps s who t last (Some x) a e =
 -- a reply Pending that leaves the waiter leaves the state
 pub pending_stays : (s : State) (who : ℕ) (o : Op) → IsNext s (entry who o Pending) → pends_alike s who o ≡ true → next s (entry who o Pending) ≡ s
 pending_stays s who (op.TaskLook t last) h e =
-    keeps s Pending (row s who (op.TaskLook t last) Pending) (look_keeps s who t last (at s.tasks t.0) refl e) h.allowed
+    keeps s Pending (row s who (op.TaskLook t last) Pending) (look_keeps s who t last (live_object s.tasks t.0) refl e) h.allowed
 pending_stays s who o h e = entry_stays s (entry who o Pending) h refl
 
 -- where the row gives this reply, the state changes
@@ -85,9 +86,9 @@ looks_change s who h true Scheduled u = λ e. absurd (cc)
 looks_change s who h false Scheduled u = λ e f. u (ap (λ (y : State). y.tasks) f)
 looks_change s who h true (Running w k) u = λ e. absurd (cc)
 looks_change s who h false (Running w k) u = λ e f. u (ap (λ (y : State). y.tasks) f)
-looks_change s who h last (Over x n) u = λ e. absurd (cc)
+looks_change s who h last (Ended x n) u = λ e. absurd (cc)
 
-look_changes : (s : State) (who : ℕ) (t : TaskHandle) (last : Bool) (o : Option Task) → at s.tasks t.0 ≡ o → holds (λ x. is_seat who x.notes.waiter) o ≡ false →
+look_changes : (s : State) (who : ℕ) (t : TaskHandle) (last : Bool) (o : Option Task) → live_object s.tasks t.0 ≡ o → holds (λ x. is_seat who x.notes.waiter) o ≡ false →
     ChangesAt s Pending (live o (says (Mtapi m.ErrTaskInvalid)) (λ x. mtapi_unless (task_look_refusals who x) (looks_at who t.0 last x.state)))
 look_changes s who t last None a e = λ k d. absurd (cc)
 look_changes s who t last (Some x) a e = (
@@ -95,14 +96,14 @@ look_changes s who t last (Some x) a e = (
   (
     λ k. absurd (cc),
     looks_change s who t.0 last x.state (λ u.
-        no_seat who x.notes.waiter (ap (λ (y : Task). y.notes.waiter) (some_same (sym (at-update t.0 (with_notes (with_waiter (Some who))) x s.tasks a) ∙ ap (λ l. at l t.0) u ∙ a))) e),
+        no_seat who x.notes.waiter (ap (λ (y : Task). y.notes.waiter) (some_same (sym (at-update t.0 (with_notes (with_waiter (Some who))) x s.tasks a) ∙ ap (λ l. live_object l t.0) u ∙ a))) e),
   ),
 )
 
 -- and one that changes the waiter changes the state: so `pends_alike` says where the state before equals the state after
 pub pending_changes : (s : State) (who : ℕ) (o : Op) → IsNext s (entry who o Pending) → pends_alike s who o ≡ false → next s (entry who o Pending) ≡ s → ⊥
 pending_changes s who (op.TaskLook t last) h e k =
-    changes s Pending (row s who (op.TaskLook t last) Pending) (λ y. absurd (cc), look_changes s who t last (at s.tasks t.0) refl e) h.allowed k
+    changes s Pending (row s who (op.TaskLook t last) Pending) (λ y. absurd (cc), look_changes s who t last (live_object s.tasks t.0) refl e) h.allowed k
 pending_changes s who o h e k = absurd (cc)
 
 dropped_in : (s : State) (who : ℕ) (o : Op) (r : Reply) → IsNext s (entry who o r) → drops (pends_alike s who o) r ≡ true → next s (entry who o r) ≡ s
@@ -111,7 +112,7 @@ dropped_in s who o Pending h d = pending_stays s who o h d
 dropped_in s who o Ok h d = absurd (cc)
 dropped_in s who o (Handle x) h d = absurd (cc)
 dropped_in s who o (Number x) h d = absurd (cc)
-dropped_in s who o (Ended x) h d = absurd (cc)
+dropped_in s who o (reply.Ended x) h d = absurd (cc)
 dropped_in s who o (Given x y) h d = absurd (cc)
 dropped_in s who o (Picked a b c k) h d = absurd (cc)
 dropped_in s who o Stop h d = absurd (cc)
@@ -154,7 +155,7 @@ pending_drop s who o Idle e h k = refl
 pending_drop s who o Ok e h k = absurd (cc)
 pending_drop s who o (Handle x) e h k = absurd (cc)
 pending_drop s who o (Number x) e h k = absurd (cc)
-pending_drop s who o (Ended x) e h k = absurd (cc)
+pending_drop s who o (reply.Ended x) e h k = absurd (cc)
 pending_drop s who o (Given x y) e h k = absurd (cc)
 pending_drop s who o (Picked a b c l) e h k = absurd (cc)
 pending_drop s who o Stop e h k = absurd (cc)
@@ -168,7 +169,7 @@ drops_only alike Pending d = inr refl
 drops_only alike Ok d = absurd (cc)
 drops_only alike (Handle x) d = absurd (cc)
 drops_only alike (Number x) d = absurd (cc)
-drops_only alike (Ended x) d = absurd (cc)
+drops_only alike (reply.Ended x) d = absurd (cc)
 drops_only alike (Given x y) d = absurd (cc)
 drops_only alike (Picked a b c k) d = absurd (cc)
 drops_only alike Stop d = absurd (cc)

@@ -6,6 +6,7 @@ pub mod Refusals
 pub mod Drops
 pub mod Ends
 pub mod Served
+pub mod StartOrder
 pub mod Replays
 pub mod Lines
 pub mod Worked

@@ -14,7 +14,7 @@ use Rattle.mtapi_machine.specs.declared.replies.Reply.TheVariants.{Ok, Handle, N
 use Rattle.mtapi_machine.specs.State.{State, opening}
 use Rattle.mtapi_machine.specs.Legal.{NodeEntry, IsNext, Fits, row_of, next, LegalFrom, after_from, Legal}
 use Rattle.mtapi_machine.specs.Replay.{answer, replay}
-use Rattle.mtapi_machine.specs.Tables.{Line, told, NoneIsLegal, WrongIsIllegal, Works, node_of, small}
+use Rattle.mtapi_machine.specs.Tables.{Line, reported, NoneIsLegal, WrongIsIllegal, Works, node_of, small}
 use Rattle.mtapi_machine.specs.WorkedTasks.{one_generation}
 use Rattle.mtapi_machine.specs.WorkedLayouts.{single}
 use Rattle.mtapi_machine.proofs.Replays.{answer-allowed, legal_if}
@@ -105,7 +105,7 @@ wrong_from terms before (l ∷ ls) h =
       wrong_from terms (before ++ l.entry ∷ []) ls (ap (λ s. wrong_differ s ls) (after-one (opening terms) before l.entry) ∙ p.1),
     )
 
-pub works_if : (terms : Terms) (table : List Line) → Fits terms → replay (opening terms) (told table) ≡ told table → wrong_differ (opening terms) table ≡ true → Works terms table
+pub works_if : (terms : Terms) (table : List Line) → Fits terms → replay (opening terms) (reported table) ≡ reported table → wrong_differ (opening terms) table ≡ true → Works terms table
 unfolding after_from
 works_if terms table f h k = record { legal = record { fits = f; from = legal_if _ _ h }; wrong = wrong_from terms [] table k }
 

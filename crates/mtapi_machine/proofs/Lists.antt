@@ -4,7 +4,7 @@ use Rattle.mtapi_machine.specs.State.{State}
 use Rattle.mtapi_machine.specs.declared.terms.Terms.{Terms}
 use Rattle.mtapi_machine.specs.Legal.{NodeEntry, IsNext, next, LegalFrom, Legal, after_from}
 
--- a front of a legal list is legal
+-- a prefix of a legal list is legal
 pub Legal-front : (s : State) (L M : List NodeEntry) → LegalFrom s (L ++ M) → LegalFrom s L
 unfolding LegalFrom
 Legal-front s [] M h = tt
@@ -31,7 +31,7 @@ pub Legal-one : (s : State) (e : NodeEntry) → IsNext s e → LegalFrom s (e �
 unfolding LegalFrom
 Legal-one s e h = (h, tt)
 
--- what follows a front is legal from its state on
+-- what follows a prefix is legal from its state on
 pub Legal-rest : (s : State) (L M : List NodeEntry) → LegalFrom s (L ++ M) → LegalFrom (after_from s L) M
 unfolding LegalFrom after_from
 Legal-rest s [] M h = h

@@ -1,6 +1,6 @@
 -- A list is legal exactly where its replay is the list itself.
-use Rattle.std.proofs.Common.{◌≡◌, ℕ, ◌<◌, Bool, true, false, cond, List, [], ◌∷◌, Option, Some, None, refl, sym, ◌∙◌, ap, arith}
-use Rattle.std.specs.Prelude.{nat_lt, ◌&&◌}
+use Rattle.std.proofs.Common.{◌≡◌, ℕ, ◌<◌, ◌≤◌, Bool, true, false, cond, List, [], ◌∷◌, Option, Some, None, refl, sym, ◌∙◌, ap, arith}
+use Rattle.std.specs.Prelude.{nat_lt, nat_le, ◌&&◌}
 use Rattle.std.proofs.lemmas.Bool.Decides.{nat_tests}
 use Rattle.mtapi_machine.specs.declared.ops.Op.{Op}
 use Rattle.mtapi_machine.specs.declared.ops.Op.TheVariants.{Finish}
@@ -37,14 +37,6 @@ corrected_same : (op : Op) → IsHonest op → corrected op ≡ op
 corrected_same (Finish t d) h = λ i. Finish t (record d { end = sym h.answer i })
 corrected_same _ h = refl
 
-sound_if : (op : Op) → IsHonest op → is_sound op ≡ true
-sound_if (Finish t d) h = h.pure
-sound_if _ h = refl
-
-honest_if : (op : Op) → is_sound op ≡ true → corrected op ≡ op → IsHonest op
-honest_if (Finish t d) h c = record { pure = h; answer = sym (ap (λ (x : Answered). x.end) (finish_same t t _ _ c)) }
-honest_if _ h c = tt
-
 both : (a b : Bool) → a ≡ true → b ≡ true → (a && b) ≡ true
 both a b h k = (λ i. h i && k i)
 
@@ -57,6 +49,20 @@ is_below a b h = grind (arith, nat_tests)
 parts : (a b : Bool) → (a && b) ≡ true → (a ≡ true) × (b ≡ true)
 parts true b h = (refl, h)
 parts false b h = absurd (cc)
+
+at_most : (a b : ℕ) → a ≤ b → nat_le a b ≡ true
+at_most a b h = grind (arith, nat_tests)
+
+is_at_most : (a b : ℕ) → nat_le a b ≡ true → a ≤ b
+is_at_most a b h = grind (arith, nat_tests)
+
+sound_if : (op : Op) → IsHonest op → is_sound op ≡ true
+sound_if (Finish t d) h = both _ _ h.pure (at_most _ _ h.few)
+sound_if _ h = refl
+
+honest_if : (op : Op) → is_sound op ≡ true → corrected op ≡ op → IsHonest op
+honest_if (Finish t d) h c = let p = parts _ _ h in record { pure = p.0; few = is_at_most _ _ p.1; answer = sym (ap (λ (x : Answered). x.end) (finish_same t t _ _ c)) }
+honest_if _ h c = tt
 
 -- an entry may be next exactly where it is the machine's own
 retold_if : (s : State) (e : NodeEntry) → IsNext s e → retold s e ≡ Some e

@@ -8,7 +8,7 @@ use Rattle.mtapi_machine.specs.WorkRows.{is_ready, can_take, has_better}
 use Rattle.mtapi_machine.specs.Replay.{replay}
 use Rattle.mtapi_machine.specs.State.{opening}
 use Rattle.mtapi_machine.specs.Kept.{skipped, no_counts}
-use Rattle.mtapi_machine.specs.Tables.{Works, told, node_of, small}
+use Rattle.mtapi_machine.specs.Tables.{Works, reported, node_of, small}
 use Rattle.mtapi_machine.specs.WorkedQueues.{queues_made, puts_refused, retained, retained_cancelled, retained_deleted, third_refused, enabled_left, not_retained, queue_deleted, queue_priority, WorkedQueues}
 use Rattle.mtapi_machine.proofs.Lines.{fits_of, fits_small, works_if, wrong_differ}
 
@@ -52,7 +52,7 @@ queue_priority_works : Works (node_of 1 4 2) queue_priority
 unfolding queue_priority replay wrong_differ live_of issue change change_all listed issued_at retired is_full may_issue fits answer_of has_worker end_each endings is_ready can_take has_better
 queue_priority_works = works_if (node_of 1 4 2) queue_priority (fits_of 1 4 2 (omega arith) (omega arith) (omega arith) (omega arith) (omega arith) (omega arith)) refl refl
 
-retained_skips : skipped (opening small) no_counts (told retained) ≡ (0 ∷ 0 ∷ 0 ∷ 0 ∷ 0 ∷ 0 ∷ 2 ∷ 0 ∷ 0 ∷ [])
+retained_skips : skipped (opening small) no_counts (reported retained) ≡ (0 ∷ 0 ∷ 0 ∷ 0 ∷ 0 ∷ 0 ∷ 2 ∷ 0 ∷ 0 ∷ [])
 unfolding retained skipped live_of issue change change_all listed issued_at retired is_full may_issue fits answer_of has_worker end_each endings is_ready can_take has_better
 retained_skips = refl
 

@@ -12,7 +12,7 @@ use Rattle.history.specs.Histories.{entry}
 use Rattle.mtapi_machine.specs.declared.ops.Op.TheVariants as op
 use Rattle.mtapi_machine.specs.declared.replies.Reply.TheVariants as reply
 use Rattle.mtapi_machine.specs.Legal.{Legal, after_from}
-use Rattle.mtapi_machine.specs.Tables.{Works, told, h1, finish, node_of, small}
+use Rattle.mtapi_machine.specs.Tables.{Works, reported, h1, finish, node_of, small}
 use Rattle.mtapi_machine.specs.WorkedWork.{picking, two_workers, finishing, stopped_watch, whole_watch, bad_watches, running, WorkedWork}
 use Rattle.mtapi_machine.proofs.Lines.{fits_of, fits_small, works_if, last_is_next, wrong_differ}
 
@@ -44,16 +44,16 @@ running_works : Works small running
 unfolding running replay wrong_differ live_of issue change change_all listed issued_at retired is_full may_issue fits answer_of has_worker end_each endings is_ready can_take has_better
 running_works = works_if small running fits_small refl refl
 
-another_end_illegal : Legal small (told running ++ entry 0 (finish h1 kind.Add (pos 2 ∷ pos 3 ∷ []) (Done (pos 6 ∷ []))) reply.Ok ∷ []) → ⊥
+another_end_illegal : Legal small (reported running ++ entry 0 (finish h1 kind.Add (pos 2 ∷ pos 3 ∷ []) (Done (pos 6 ∷ []))) reply.Ok ∷ []) → ⊥
 unfolding fits answer_of
-another_end_illegal h = differs (last_is_next small (told running) _ h).honest.answer
+another_end_illegal h = differs (last_is_next small (reported running) _ h).honest.answer
   where
     differs : Done (pos 6 ∷ []) ≡ Done (pos 5 ∷ []) → ⊥
     differs k = cc
 
-no_seat_illegal : Legal small (told running ++ entry 3 (op.JobGet 1) (reply.Number (pos 1)) ∷ []) → ⊥
+no_seat_illegal : Legal small (reported running ++ entry 3 (op.JobGet 1) (reply.Number (pos 1)) ∷ []) → ⊥
 unfolding running after_from issue change is_full live_of retired may_issue listed issued_at has_worker is_ready has_better can_take
-no_seat_illegal h = not_below (last_is_next small (told running) _ h).seat
+no_seat_illegal h = not_below (last_is_next small (reported running) _ h).seat
   where
     not_below : 3 < 3 → ⊥
     not_below k = omega arith

@@ -5,7 +5,7 @@ use Rattle.mtapi_values.specs.declared.masks.Mask.{Mask}
 use Rattle.mtapi_values.specs.declared.statuses.MtapiStatus.TheVariants as m
 use Rattle.mtapi_machine.specs.declared.replies.Reply.{Reply}
 use Rattle.mtapi_machine.specs.declared.replies.Reply.TheVariants.{Ok, Number, Mtapi}
-use Rattle.handle_pool.specs.Issued.{any, gone, with_fields}
+use Rattle.handle_pool.specs.Issued.{any_listed, gone, with_fields}
 use Rattle.mtapi_objects.specs.Actions.{new_action, action_create_refusals, has_job, with_enabled}
 use Rattle.mtapi_machine.specs.State.{State, actions}
 use Rattle.mtapi_machine.specs.Moves.{makes_action, enables, withdraws}
@@ -13,7 +13,7 @@ use Rattle.mtapi_machine.specs.Row.{Row, unless, says, gives, mtapi_unless, mtap
 
 -- some live action has the job
 abbrev pub job_get : State → ℕ → Row
-job_get s job = mtapi s (unless (not (any (has_job job) s.actions)) (Mtapi m.ErrJobInvalid) (says (Number (pos job))))
+job_get s job = mtapi s (unless (not (any_listed (has_job job) s.actions)) (Mtapi m.ErrJobInvalid) (says (Number (pos job))))
 
 -- a new action is enabled
 abbrev pub action_create : State → Reply → ℕ → Kind → Mask → Row

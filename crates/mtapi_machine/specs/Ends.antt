@@ -2,13 +2,13 @@
 use Rattle.std.specs.Prelude.{ℕ, ◌==◌, List, [], ◌∷◌, Option, Some, None, if◌then◌else◌}
 use Rattle.mtapi_values.specs.declared.ends.TaskEnd.{TaskEnd}
 use Rattle.handle_pool.specs.Issued.{Listed}
-use Rattle.mtapi_objects.specs.Tasks.{Task, TaskState, Scheduled, Running, Over}
+use Rattle.mtapi_objects.specs.Tasks.{Task, TaskState, Scheduled, Running, Ended}
 
 -- the end of a task in this state: completed, cancelled or failed
 abbrev pub end_in : TaskState → Option TaskEnd
 end_in Scheduled = None
 end_in (Running w k) = None
-end_in (Over e n) = Some e
+end_in (Ended e n) = Some e
 
 -- the end in the record of this handle's task, live or not
 unfoldable pub end_at : List (Listed Task) → ℕ → Option TaskEnd

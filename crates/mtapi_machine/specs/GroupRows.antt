@@ -4,8 +4,8 @@ use Rattle.mtapi_values.specs.declared.statuses.MtapiStatus.{MtapiStatus}
 use Rattle.mtapi_values.specs.declared.statuses.MtapiStatus.TheVariants as m
 use Rattle.mtapi_machine.specs.declared.replies.Reply.{Reply}
 use Rattle.mtapi_machine.specs.declared.replies.Reply.TheVariants.{Ok, Given, Mtapi}
-use Rattle.handle_pool.specs.Issued.{live_of, any}
-use Rattle.mtapi_objects.specs.Tasks.{TaskState, Over}
+use Rattle.handle_pool.specs.Issued.{live_of, any_listed}
+use Rattle.mtapi_objects.specs.Tasks.{TaskState, Ended}
 use Rattle.mtapi_objects.specs.Groups.{new_group, is_member, is_unended_member, Ending, endings, first_fault, in_no_group}
 use Rattle.mtapi_machine.specs.State.{State, tasks, groups}
 use Rattle.mtapi_machine.specs.Moves.{Groups, notes, leaves, frees_members, lets_members_go, makes, removes}
@@ -27,12 +27,12 @@ verdict (Some c) = Mtapi c
 -- all members have ended: they are freed, and the reply tells of the first in the order of ends that wasn't completed
 abbrev pub all_look : State → ℕ → Bool → Row
 all_look s g last = mtapi s (on groups s g (λ x.
-    if any (is_unended_member g) s.tasks then not_yet last (Mtapi m.Timeout)
+    if any_listed (is_unended_member g) s.tasks then not_yet last (Mtapi m.Timeout)
     else gives (verdict (first_fault (endings g (live_of s.tasks)))) (frees_members g ∷ [])))
 
 -- a member gives its end, leaves the group and stops being live
 abbrev pub gives_end : ℕ → TaskState → Row
-gives_end h (Over e n) = gives (Given (record { 0 = h }) e) (notes h in_no_group ∷ leaves h ∷ [])
+gives_end h (Ended e n) = gives (Given (record { 0 = h }) e) (notes h in_no_group ∷ leaves h ∷ [])
 gives_end h _ = never
 
 -- the first in the order of ends is given; none has ended yet
@@ -43,4 +43,4 @@ gives_first s last (e ∷ es) = chosen tasks s e.task (λ x. gives_end e.task x.
 -- the member that ended first
 abbrev pub any_look : State → ℕ → Bool → Row
 any_look s g last = mtapi s (on groups s g (λ x.
-    unless (not (any (is_member g) s.tasks)) (Mtapi m.GroupCompleted) (gives_first s last (endings g (live_of s.tasks)))))
+    unless (not (any_listed (is_member g) s.tasks)) (Mtapi m.GroupCompleted) (gives_first s last (endings g (live_of s.tasks)))))

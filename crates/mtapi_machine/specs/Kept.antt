@@ -2,7 +2,7 @@
 use Rattle.std.specs.Prelude.{ℕ, ◌+◌, Bool, true, false, List, [], ◌∷◌, replicate, slice_index, slice_set, if◌then◌else◌}
 use Rattle.mtapi_values.specs.Conditions.{holds}
 use Rattle.mtapi_values.specs.Seats.{is_seat}
-use Rattle.handle_pool.specs.Issued.{at}
+use Rattle.handle_pool.specs.Issued.{live_object}
 use Rattle.mtapi_machine.specs.declared.ops.Op.{Op}
 use Rattle.mtapi_machine.specs.declared.ops.Op.TheVariants.{TaskLook}
 use Rattle.mtapi_machine.specs.declared.replies.Reply.{Reply}
@@ -12,7 +12,7 @@ use Rattle.mtapi_machine.specs.Legal.{NodeEntry, next}
 
 -- where the reply to this op is Pending, the state stays as it was: it is no look at a task that changes the waiter
 abbrev pub pends_alike : State → ℕ → Op → Bool
-pends_alike s who (TaskLook task last) = holds (λ t. is_seat who t.notes.waiter) (at s.tasks task.0)
+pends_alike s who (TaskLook task last) = holds (λ t. is_seat who t.notes.waiter) (live_object s.tasks task.0)
 pends_alike s who _ = true
 
 -- the reply is Idle, or it is Pending and the state stays

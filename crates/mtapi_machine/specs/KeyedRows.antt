@@ -5,7 +5,7 @@ use Rattle.mtapi_values.specs.declared.statuses.MrapiStatus.{MrapiStatus}
 use Rattle.mtapi_values.specs.declared.statuses.MrapiStatus.TheVariants as c
 use Rattle.mtapi_machine.specs.declared.replies.Reply.{Reply}
 use Rattle.mtapi_machine.specs.declared.replies.Reply.TheVariants.{Ok, Handle, Mtapi, Mrapi}
-use Rattle.handle_pool.specs.Issued.{live_of, any, first_live}
+use Rattle.handle_pool.specs.Issued.{live_of, any_listed, first_handle}
 use Rattle.mtapi_machine.specs.State.{State, workers, is_open, is_up}
 use Rattle.mtapi_machine.specs.Moves.{Sort, Queues, Mutexes, Sems, Rwls, Segments, Fields, all_of, makes, alters, removes}
 use Rattle.mtapi_machine.specs.Row.{Row, unless, says, gives, not_yet, on, creates}
@@ -53,11 +53,11 @@ found (Some h) absent = says (Handle h)
 module _ {k : Sort} (o : Keyed k) where
   -- a new object, where no live one has its id
   abbrev pub creates_keyed : State → Reply → Fields k → Row
-  creates_keyed s r x = unless (any (λ y. o.id y == o.id x) ((all_of k).list s)) o.exists (creates (all_of k) s r (λ h. makes k h x))
+  creates_keyed s r x = unless (any_listed (λ y. o.id y == o.id x) ((all_of k).list s)) o.exists (creates (all_of k) s r (λ h. makes k h x))
 
   -- the handle of the live object of an id
   abbrev pub gets : State → ℕ → Row
-  gets s id = found (first_live (λ y. o.id y == id) (live_of ((all_of k).list s))) o.absent
+  gets s id = found (first_handle (λ y. o.id y == id) (live_of ((all_of k).list s))) o.absent
 
 module _ (k : Sort) where
   -- an op on one object: what it is refused for, its reply, and what the object is then

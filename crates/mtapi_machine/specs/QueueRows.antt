@@ -4,7 +4,7 @@ use Rattle.mtapi_values.specs.declared.statuses.MtapiStatus.TheVariants as m
 use Rattle.mtapi_values.specs.declared.ends.TaskEnd.TheVariants.{Cancelled, Failed}
 use Rattle.mtapi_machine.specs.declared.replies.Reply.{Reply}
 use Rattle.mtapi_machine.specs.declared.replies.Reply.TheVariants.{Ok}
-use Rattle.handle_pool.specs.Issued.{any}
+use Rattle.handle_pool.specs.Issued.{any_listed}
 use Rattle.mtapi_objects.specs.Actions.{has_job}
 use Rattle.mtapi_objects.specs.Queues.{Queue, opened, is_in}
 use Rattle.mtapi_machine.specs.State.{State, queues}
@@ -20,7 +20,7 @@ abbrev pub queue_create : State → Reply → Queue → Row
 queue_create s r q =
     mtapi_open s (mtapi_unless
     ((not (nat_lt q.priority s.terms.settings.priorities) || not (nat_le 1 q.limit && nat_le q.limit 65536), m.ErrParameter)
-    ∷ (not (any (has_job q.job) s.actions), m.ErrJobInvalid) ∷ [])
+    ∷ (not (any_listed (has_job q.job) s.actions), m.ErrJobInvalid) ∷ [])
     (creates_keyed keyed_queues s r q))
 
 -- the live queue of an id

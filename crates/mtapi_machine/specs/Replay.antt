@@ -1,5 +1,5 @@
 -- A check of a history by computing. The law is that a list is legal exactly where its replay is the list itself.
-use Rattle.std.specs.Prelude.{ℕ, Bool, true, ◌&&◌, nat_lt, List, [], ◌∷◌, Option, Some, None, if◌then◌else◌}
+use Rattle.std.specs.Prelude.{ℕ, Bool, true, ◌&&◌, nat_lt, nat_le, List, [], ◌∷◌, length, Option, Some, None, if◌then◌else◌}
 use Rattle.history.specs.Histories.{entry}
 use Rattle.action_fn.specs.Answers.{Answered, is_pure, answer_of}
 use Rattle.mtapi_machine.specs.declared.ops.Op.{Op}
@@ -15,9 +15,9 @@ answer (unless c x row) = if c then Some x else answer row
 answer (gives x moves) = Some x
 answer never = None
 
--- a `finish` is of a pure kind
+-- a `finish` is of a pure kind, with at most 16 arguments
 abbrev pub is_sound : Op → Bool
-is_sound (Finish task done) = is_pure done.kind
+is_sound (Finish task done) = is_pure done.kind && nat_le (length done.args) 16
 is_sound _ = true
 
 -- a `finish` with the end that it should have

@@ -13,7 +13,7 @@ use Rattle.mtapi_machine.specs.declared.terms.Phase.TheVariants.{New, Open, Clos
 use Rattle.mtapi_machine.specs.declared.terms.Terms.{Terms}
 use Rattle.mtapi_machine.specs.declared.replies.Reply.{Reply}
 use Rattle.mtapi_machine.specs.declared.replies.Reply.TheVariants.{Mtapi, Mrapi}
-use Rattle.handle_pool.specs.Issued.{Listed, any, count, change, update, retire}
+use Rattle.handle_pool.specs.Issued.{Listed, any_listed, count_listed, change, update, retire}
 use Rattle.mtapi_objects.specs.Actions.{Action}
 use Rattle.mtapi_objects.specs.Tasks.{Task, is_unended, end_each, ended}
 use Rattle.mtapi_objects.specs.Groups.{Group}
@@ -42,8 +42,8 @@ pub record State : Type 0 where
   pub segments : List (Listed Segment)
 
 -- the terms of a node of this layout, with these settings and so many callers
-abbrev pub terms_of : Layout → NodeSettings → ℕ → Terms
-terms_of layout settings callers = record { layout = layout; settings = settings; callers = callers }
+abbrev pub terms_with : Layout → NodeSettings → ℕ → Terms
+terms_with layout settings callers = record { layout = layout; settings = settings; callers = callers }
 
 -- the state before the first entry: New, and no object was made
 abbrev pub opening : Terms → State
@@ -88,12 +88,12 @@ is_up Closing = true
 is_up p = is_open p
 
 -- the phase is Closing or Closed
-abbrev pub is_late : Phase → Bool
-is_late p = not (is_new p) && not (is_open p)
+abbrev pub is_past_open : Phase → Bool
+is_past_open p = not (is_new p) && not (is_open p)
 
 -- the phase is Closing or Closed, and no task is scheduled or running
 abbrev pub is_stop : State → Bool
-is_stop s = is_late s.phase && not (any is_unended s.tasks)
+is_stop s = is_past_open s.phase && not (any_listed is_unended s.tasks)
 
 -- Objects
 
@@ -203,4 +203,4 @@ end_task h e s = record s { tasks = change h (ended e s.ends) s.tasks; ends = s.
 
 -- every live task that passes ends, in the order of their starts
 abbrev pub end_tasks : (Task → Bool) → TaskEnd → State → State
-end_tasks p e s = record s { tasks = end_each p e s.ends s.tasks; ends = s.ends + count p s.tasks }
+end_tasks p e s = record s { tasks = end_each p e s.ends s.tasks; ends = s.ends + count_listed p s.tasks }

@@ -30,9 +30,9 @@ pub record Line : Type 0 where
   pub wrong : List Reply
 
 -- the history that a table tells
-abbrev pub told : List Line → List NodeEntry
-told [] = []
-told (l ∷ ls) = l.entry ∷ told ls
+abbrev pub reported : List Line → List NodeEntry
+reported [] = []
+reported (l ∷ ls) = l.entry ∷ reported ls
 
 -- after these entries, none of these replies may come in the place of this entry's
 abbrev pub NoneIsLegal : Terms → List NodeEntry → NodeEntry → List Reply → Type 0
@@ -46,7 +46,7 @@ WrongIsIllegal terms before (l ∷ ls) = NoneIsLegal terms before l.entry l.wron
 
 -- the table tells a legal history of a node with these terms
 pub record Works (terms : Terms) (table : List Line) : Type 0 where
-  pub legal : Legal terms (told table)
+  pub legal : Legal terms (reported table)
   pub wrong : WrongIsIllegal terms [] table
 
 -- Terms

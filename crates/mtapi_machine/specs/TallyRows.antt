@@ -1,4 +1,4 @@
--- The rows of the ops by which a worker carries out a tally: under a mutex it adds a number to a cell of a segment.
+-- The rows of the ops by which a worker executes a tally: under a mutex it adds a number to a cell of a segment.
 use Rattle.std.specs.Prelude.{ℕ, true, false, not, ◌&&◌, ◌||◌, ◌==◌, nat_lt, List, [], ◌∷◌, length, ℤ, Option, Some, None, is_some, if◌then◌else◌}
 use Rattle.std.specs.Ordering.{int_eq}
 use Rattle.mtapi_values.specs.declared.kinds.Kind.TheVariants.{Tally}
@@ -8,12 +8,12 @@ use Rattle.mtapi_values.specs.declared.ends.TaskEnd.{TaskEnd}
 use Rattle.mtapi_values.specs.declared.ends.TaskEnd.TheVariants.{Completed, Failed}
 use Rattle.action_fn.specs.Answers.{fits}
 use Rattle.mtapi_machine.specs.declared.replies.Reply.TheVariants.{Ok, Number, Ended, Pending, Asked, Mtapi}
-use Rattle.handle_pool.specs.Issued.{live_of, at, first_live}
+use Rattle.handle_pool.specs.Issued.{live_of, live_object, first_handle}
 use Rattle.mtapi_objects.specs.Tasks.{Task, runs_as, with_tally, Adds, tally_args, cell_in, added, tally_failed, tally_has, tally_read, tally_written}
 use Rattle.mtapi_objects.specs.Mutexes.{locked_by, unlocked}
 use Rattle.mtapi_objects.specs.Segments.{with_attached, cell_of, with_cell}
 use Rattle.mtapi_machine.specs.State.{State, tasks, mutexes, segments}
-use Rattle.mtapi_machine.specs.Moves.{Mutexes, Segments, ends, notes, alters}
+use Rattle.mtapi_machine.specs.Moves.{Mutexes, Segments, ends_task, notes, alters}
 use Rattle.mtapi_machine.specs.Row.{Row, unless, says, gives, work, live, on, chosen}
 
 -- an op on a live tally that runs on this worker
@@ -27,7 +27,7 @@ gives_up t status = gives (Asked false) (notes t (with_tally (tally_failed statu
 -- the worker takes the mutex and the segment of these handles; the segment has to have the cell, and the mutex must not be owned
 abbrev pub takes_both : State → ℕ → ℕ → ℕ → Option ℕ → Option ℕ → Row
 takes_both s who t cell (Some a) (Some b) =
-    live (at s.mutexes a) (gives_up t m.ErrActionFailed) (λ x. live (at s.segments b) (gives_up t m.ErrActionFailed) (λ y.
+    live (live_object s.mutexes a) (gives_up t m.ErrActionFailed) (λ x. live (live_object s.segments b) (gives_up t m.ErrActionFailed) (λ y.
     if not (nat_lt cell (length y.cells)) then gives_up t m.ErrActionFailed
     else if is_some x.owner then says Pending
     else gives (Asked true) (alters Mutexes a (locked_by who) ∷ alters Segments b (with_attached who true) ∷ notes t (with_tally (tally_has a b)) ∷ [])))
@@ -36,7 +36,7 @@ takes_both s who t cell _ _ = gives_up t m.ErrActionFailed
 -- the mutex and the segment are those of the ids among its four arguments
 abbrev pub locks : State → ℕ → ℕ → List ℤ → Option Adds → Row
 locks s who t args (Some x) =
-    takes_both s who t x.cell (first_live (λ y. y.id == x.mutex) (live_of s.mutexes)) (first_live (λ y. y.id == x.segment) (live_of s.segments))
+    takes_both s who t x.cell (first_handle (λ y. y.id == x.mutex) (live_of s.mutexes)) (first_handle (λ y. y.id == x.segment) (live_of s.segments))
 locks s who t args None = gives_up t (if length args == 4 then m.ErrActionFailed else m.ErrArgSize)
 
 abbrev pub tally_lock : State → ℕ → ℕ → Row
@@ -59,11 +59,11 @@ writes s who t value =
 abbrev pub gives_back : State → ℕ → ℕ → Task → TaskEnd → Row
 gives_back s who t x e =
     chosen segments s x.notes.tally.segment (λ y. chosen mutexes s x.notes.tally.mutex (λ z.
-    gives (Ended e) (alters Segments x.notes.tally.segment (with_attached who false) ∷ alters Mutexes x.notes.tally.mutex unlocked ∷ ends t e ∷ [])))
+    gives (Ended e) (alters Segments x.notes.tally.segment (with_attached who false) ∷ alters Mutexes x.notes.tally.mutex unlocked ∷ ends_task t e ∷ [])))
 
 -- how it ends at a stage: failed before; with a sum that doesn't fit; with the number that it wrote
 abbrev pub tally_end : State → ℕ → ℕ → Row
 tally_end s who t =
     on_tally s who t (λ x. unless (nat_lt x.notes.tally.stage 2 || ((x.notes.tally.stage == 2) && fits (added x))) (Mtapi m.ErrParameter)
-    (if x.notes.tally.stage == 4 then gives (Ended x.notes.tally.verdict) (ends t x.notes.tally.verdict ∷ [])
+    (if x.notes.tally.stage == 4 then gives (Ended x.notes.tally.verdict) (ends_task t x.notes.tally.verdict ∷ [])
     else gives_back s who t x (if x.notes.tally.stage == 2 then Failed m.ErrActionFailed else Completed (added x ∷ []))))

@@ -9,27 +9,27 @@ use Rattle.action_fn.specs.declared.finished.ActEnd.TheVariants.{Done, Fails}
 use Rattle.action_fn.specs.Answers.{Answered}
 use Rattle.mtapi_machine.specs.declared.replies.Reply.{Reply}
 use Rattle.mtapi_machine.specs.declared.replies.Reply.TheVariants.{Ok, Ended, Picked, Idle, Stop, Asked, Mtapi}
-use Rattle.handle_pool.specs.Issued.{live_of, at, any}
+use Rattle.handle_pool.specs.Issued.{live_of, live_object, any_listed}
 use Rattle.mtapi_objects.specs.Actions.{Action, is_eligible}
 use Rattle.mtapi_objects.specs.Tasks.{Task, is_unstarted, runs_on, finish_refusals, asked_refusals, asked_once, watch_end_refusals, watch_end}
 use Rattle.mtapi_objects.specs.Queues.{lets}
 use Rattle.mtapi_machine.specs.State.{State, workers, is_new, is_stop, actions, tasks}
-use Rattle.mtapi_machine.specs.Moves.{stops, runs, ends, notes}
+use Rattle.mtapi_machine.specs.Moves.{stops, runs_task, ends_task, notes}
 use Rattle.mtapi_machine.specs.Row.{Row, unless, says, gives, only, mtapi_unless, work, on, chosen}
 
 -- Picking
 
 -- the task is scheduled, and its queue, if it has one, lets it begin
 unfoldable pub is_ready : State → Task → Bool
-is_ready s t = is_unstarted t && (is_none t.queue || holds (λ h. holds (lets h t (live_of s.tasks)) (at s.queues h)) t.queue)
+is_ready s t = is_unstarted t && (is_none t.queue || holds (λ h. holds (lets h t (live_of s.tasks)) (live_object s.queues h)) t.queue)
 
 -- the task is ready, and the worker has an eligible action for it
 unfoldable pub can_take : State → ℕ → Task → Bool
-can_take s w t = is_ready s t && any (is_eligible (workers s) w t.job t.cores) s.actions
+can_take s w t = is_ready s t && any_listed (is_eligible (workers s) w t.job t.cores) s.actions
 
 -- the worker could take a task of a smaller priority
 unfoldable pub has_better : State → ℕ → ℕ → Bool
-has_better s w priority = any (λ t. can_take s w t && nat_lt t.priority priority) s.tasks
+has_better s w priority = any_listed (λ t. can_take s w t && nat_lt t.priority priority) s.tasks
 
 -- the worker may take this task by this action
 abbrev pub may_take : State → ℕ → Task → Action → Bool
@@ -38,13 +38,13 @@ may_take s w t a = is_ready s t && is_eligible (workers s) w t.job t.cores a && 
 -- the worker takes the task and the action that the reply chooses, or is idle where there is nothing that it could take
 abbrev pub picks : State → ℕ → Reply → Row
 picks s w (Picked t a k args) =
-    chosen tasks s t.0 (λ x. chosen actions s a.0 (λ y. only (may_take s w x y) (gives (Picked t a y.kind x.args) (runs t.0 w y.kind ∷ []))))
-picks s w _ = only (not (any (can_take s w) s.tasks)) (says Idle)
+    chosen tasks s t.0 (λ x. chosen actions s a.0 (λ y. only (may_take s w x y) (gives (Picked t a y.kind x.args) (runs_task t.0 w y.kind ∷ []))))
+picks s w _ = only (not (any_listed (can_take s w) s.tasks)) (says Idle)
 
 -- a worker that runs a task may not pick; in New there is nothing to take; late, and without a task that hasn't ended, it stops
 abbrev pub pick : State → ℕ → Reply → Row
 pick s who r =
-    work s who (unless (any (runs_on who) s.tasks) (Mtapi m.ErrParameter)
+    work s who (unless (any_listed (runs_on who) s.tasks) (Mtapi m.ErrParameter)
     (unless (is_new s.phase) Idle (if is_stop s then gives Stop (stops who ∷ []) else picks s who r)))
 
 -- Ending
@@ -56,7 +56,7 @@ task_end (Fails status) = Failed status
 
 abbrev pub finish : State → ℕ → ℕ → Answered → Row
 finish s who t done =
-    work s who (on tasks s t (λ x. mtapi_unless (finish_refusals who done.kind done.args x) (gives Ok (ends t (task_end done.end) ∷ []))))
+    work s who (on tasks s t (λ x. mtapi_unless (finish_refusals who done.kind done.args x) (gives Ok (ends_task t (task_end done.end) ∷ []))))
 
 -- a watch is told whether cancelling was requested
 abbrev pub asked : State → ℕ → ℕ → Row
@@ -65,4 +65,4 @@ asked s who t =
 
 abbrev pub ends_watch : State → ℕ → ℕ → Row
 ends_watch s who t =
-    work s who (on tasks s t (λ x. mtapi_unless (watch_end_refusals who x) (gives (Ended (watch_end x)) (ends t (watch_end x) ∷ []))))
+    work s who (on tasks s t (λ x. mtapi_unless (watch_end_refusals who x) (gives (Ended (watch_end x)) (ends_task t (watch_end x) ∷ []))))

@@ -8,7 +8,7 @@ use Rattle.mtapi_machine.specs.declared.ops.Op.TheVariants as op
 use Rattle.mtapi_machine.specs.declared.replies.Reply.TheVariants as reply
 use Rattle.mtapi_machine.specs.State.{opening}
 use Rattle.mtapi_machine.specs.Kept.{skipped, no_counts}
-use Rattle.mtapi_machine.specs.Tables.{Line, told, Works, node_of, small, line, worker, main, worker_not, main_not, refused, h1, h2, h3, again1, action, task, group, queue, every_core, first_core, second_core, action_of, start, start_in, put_in, look, last_look, picked, finish}
+use Rattle.mtapi_machine.specs.Tables.{Line, reported, Works, node_of, small, line, worker, main, worker_not, main_not, refused, h1, h2, h3, again1, action, task, group, queue, every_core, first_core, second_core, action_of, start, start_in, put_in, look, last_look, picked, finish}
 
 -- what the ops on queues are refused for; the priorities are 0 to 3
 unfoldable pub queues_made : List Line
@@ -123,7 +123,7 @@ third_refused =
     ∷ main op.Final reply.Ok
     ∷ []
 
--- closing leaves the tasks of an enabled queue, and those of none; they are carried out, and the worker stops after that
+-- closing leaves the tasks of an enabled queue, and those of none; they are executed, and the worker stops after that
 unfoldable pub enabled_left : List Line
 enabled_left =
     main op.Initialize reply.Ok
@@ -207,7 +207,7 @@ pub record WorkedQueues : Type 0 where
   pub refused : Works (node_of 1 1 2) puts_refused
   pub waits : Works small retained
   -- of the looks by which main waits, the first and the last are kept; two were left out before the last one
-  pub waits_skipped : skipped (opening small) no_counts (told retained) ≡ (0 ∷ 0 ∷ 0 ∷ 0 ∷ 0 ∷ 0 ∷ 2 ∷ 0 ∷ 0 ∷ [])
+  pub waits_skipped : skipped (opening small) no_counts (reported retained) ≡ (0 ∷ 0 ∷ 0 ∷ 0 ∷ 0 ∷ 0 ∷ 2 ∷ 0 ∷ 0 ∷ [])
   pub cancelled : Works small retained_cancelled
   pub deleted : Works small retained_deleted
   pub third : Works (node_of 1 4 2) third_refused

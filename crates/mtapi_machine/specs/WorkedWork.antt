@@ -8,7 +8,7 @@ use Rattle.history.specs.Histories.{entry}
 use Rattle.mtapi_machine.specs.declared.ops.Op.TheVariants as op
 use Rattle.mtapi_machine.specs.declared.replies.Reply.TheVariants as reply
 use Rattle.mtapi_machine.specs.Legal.{Legal}
-use Rattle.mtapi_machine.specs.Tables.{Line, told, Works, node_of, small, line, worker, main, worker_not, main_not, refused, h1, h2, h3, again1, action, task, every_core, second_core, action_of, start, look, picked, finish}
+use Rattle.mtapi_machine.specs.Tables.{Line, reported, Works, node_of, small, line, worker, main, worker_not, main_not, refused, h1, h2, h3, again1, action, task, every_core, second_core, action_of, start, look, picked, finish}
 
 -- a worker takes a task of the smallest priority; it takes none while it runs one, and stops once no task is left
 unfoldable pub picking : List Line
@@ -159,5 +159,5 @@ pub record WorkedWork : Type 0 where
   pub bad_watches : Works (node_of 2 4 2) bad_watches
   pub running_task : Works small running
   -- a worker can't say that it made anything else of them; and nobody asks who has no seat
-  pub another_end : Legal small (told running ++ entry 0 (finish h1 kind.Add (pos 2 ∷ pos 3 ∷ []) (Done (pos 6 ∷ []))) reply.Ok ∷ []) → ⊥
-  pub no_seat : Legal small (told running ++ entry 3 (op.JobGet 1) (reply.Number (pos 1)) ∷ []) → ⊥
+  pub another_end : Legal small (reported running ++ entry 0 (finish h1 kind.Add (pos 2 ∷ pos 3 ∷ []) (Done (pos 6 ∷ []))) reply.Ok ∷ []) → ⊥
+  pub no_seat : Legal small (reported running ++ entry 3 (op.JobGet 1) (reply.Number (pos 1)) ∷ []) → ⊥

@@ -1,6 +1,6 @@
 //! Laws that follow from the definitions of the machine alone. Each function does nothing: its contract is the law.
 
-ghost use Rattle.mtapi_machine.specs.Laws.{MovesAreMade, PrefixIsLegal, NextIsLegal, StatusStays, StatusIsAlone, DroppedStays, DroppingIsLegal, TasksStay, TasksAreServed, LegalReplays};
+ghost use Rattle.mtapi_machine.specs.Laws.{MovesAreMade, PrefixIsLegal, NextIsLegal, StatusStays, StatusIsAlone, DroppedStays, DroppingIsLegal, TasksStay, TasksAreServed, TasksInStartOrder, LegalReplays};
 
 /// Every move of a row is made where it may be.
 pub fn law_made()
@@ -46,6 +46,11 @@ pub fn law_tasks_stay()
 /// After any legal list some worker has an eligible action for every scheduled task.
 pub fn law_served()
     ensures { TasksAreServed }
+{}
+
+/// After any legal list the tasks are listed in the order of their starts.
+pub fn law_start_order()
+    ensures { TasksInStartOrder }
 {}
 
 /// A list is legal exactly where its replay, which computes, is the list itself.

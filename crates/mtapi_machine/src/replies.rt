@@ -5,7 +5,7 @@ use mtapi_values::{ActionHandle, Args, Kind, MrapiStatus, MtapiStatus, TaskEnd, 
 /// The reply to an op.
 #[derive(Drop)]
 pub enum Reply {
-    /// The op was carried out.
+    /// The op was executed.
     Ok,
     /// The handle of a new object, or of one that was asked for.
     Handle(u64),

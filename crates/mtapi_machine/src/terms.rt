@@ -18,7 +18,7 @@ pub struct Terms {
 pub enum Phase {
     /// Not initialized yet.
     New,
-    /// Initialized: every op is carried out.
+    /// Initialized: every op is executed.
     Open,
     /// Closed to what makes new objects, until every worker has stopped.
     Closing,

@@ -1,6 +1,5 @@
 -- One mutex, and what each call on it answers and leaves; `who` is the seat that calls.
-use Rattle.std.specs.Prelude.{ℕ, ◌+◌, ◌-◌, Bool, not, ◌&&◌, ◌||◌, ◌==◌, nat_lt, List, [], ◌∷◌, Option, Some, None, is_some, refl, if◌then◌else◌}
-use Rattle.std.specs.Coded.{Coded, code_by, coded×, coded_ℕ, coded_bool, coded_option}
+use Rattle.std.specs.Prelude.{ℕ, ◌+◌, ◌-◌, Bool, not, ◌&&◌, ◌||◌, ◌==◌, nat_lt, List, [], ◌∷◌, Option, Some, None, is_some, if◌then◌else◌}
 use Rattle.mtapi_values.specs.declared.statuses.MrapiStatus.{MrapiStatus}
 use Rattle.mtapi_values.specs.declared.statuses.MrapiStatus.TheVariants.{ErrMutexLocked, ErrMutexNotlocked, ErrMutexKey, ErrMutexLockorder}
 use Rattle.mtapi_values.specs.Seats.{is_seat, is_other}
@@ -40,13 +39,3 @@ mutex_unlock_refusals who key m =
 -- one level less deep; at depth 0 it is free
 abbrev pub unlocked : Mutex → Mutex
 unlocked m = record m { owner = if m.depth == 1 then None else m.owner; depth = m.depth - 1 }
-
--- the record is data, for a type whose value it is
-abbrev pub mutex_code : Coded Mutex
-mutex_code =
-    code_by
-    ((ℕ × Bool) × (Option ℕ × ℕ))
-    (coded× (coded× coded_ℕ coded_bool) (coded× (coded_option coded_ℕ) coded_ℕ))
-    (λ m. ((m.id, m.recursive), (m.owner, m.depth)))
-    (λ p. record { id = p.0.0; recursive = p.0.1; owner = p.1.0; depth = p.1.1 })
-    (λ _. refl)

@@ -3,7 +3,7 @@ use Rattle.std.specs.Prelude.{ℕ, Bool, not, ◌&&◌, ◌||◌, ◌==◌, nat_
 use Rattle.mtapi_values.specs.declared.statuses.MtapiStatus.{MtapiStatus}
 use Rattle.mtapi_values.specs.declared.statuses.MtapiStatus.TheVariants.{ErrQueueDisabled}
 use Rattle.mtapi_values.specs.Conditions.{holds}
-use Rattle.handle_pool.specs.Issued.{Listed, any_live, at}
+use Rattle.handle_pool.specs.Issued.{Listed, any_live, live_object}
 use Rattle.mtapi_objects.specs.Tasks.{Task, is_unstarted, is_unended}
 
 -- its id, the job and the priority of its tasks, how many unended tasks it holds at most, whether they run one
@@ -47,4 +47,4 @@ lets h t tasks q = q.enabled && (not q.ordered || is_head h t tasks)
 
 -- the task's queue is disabled
 abbrev pub is_shut_in : List (Listed Queue) → Task → Bool
-is_shut_in queues t = holds (λ h. holds (λ q. not q.enabled) (at queues h)) t.queue
+is_shut_in queues t = holds (λ h. holds (λ q. not q.enabled) (live_object queues h)) t.queue

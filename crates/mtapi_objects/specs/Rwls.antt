@@ -1,6 +1,5 @@
 -- One reader-writer lock, and what each call on it answers and leaves; `who` is the seat that calls.
-use Rattle.std.specs.Prelude.{ℕ, Bool, true, false, not, ◌&&◌, ◌||◌, ◌==◌, nat_le, List, [], ◌∷◌, Option, Some, None, is_some, slice_set, refl, if◌then◌else◌}
-use Rattle.std.specs.Coded.{Coded, code_by, coded×, coded_ℕ, coded_bool, coded_option, coded_list}
+use Rattle.std.specs.Prelude.{ℕ, Bool, true, false, not, ◌&&◌, ◌||◌, ◌==◌, nat_le, List, [], ◌∷◌, Option, Some, None, is_some, slice_set, if◌then◌else◌}
 use Rattle.mtapi_values.specs.declared.statuses.MrapiStatus.{MrapiStatus}
 use Rattle.mtapi_values.specs.declared.statuses.MrapiStatus.TheVariants.{ErrParameter, ErrRwlLocked, ErrRwlNotlocked}
 use Rattle.handle_pool.specs.Issued.{how_many}
@@ -48,13 +47,3 @@ rwl_unlock_refusals who writer r = (not (if writer then is_seat who r.writer els
 -- this seat doesn't hold it in this mode any more
 abbrev pub rwl_given : ℕ → Bool → Rwl → Rwl
 rwl_given who writer r = if writer then record r { writer = None } else record r { readers = slice_set r.readers who false }
-
--- the record is data, for a type whose value it is
-abbrev pub rwl_code : Coded Rwl
-rwl_code =
-    code_by
-    ((ℕ × ℕ) × (List Bool × Option ℕ))
-    (coded× (coded× coded_ℕ coded_ℕ) (coded× (coded_list coded_bool) (coded_option coded_ℕ)))
-    (λ r. ((r.id, r.limit), (r.readers, r.writer)))
-    (λ p. record { id = p.0.0; limit = p.0.1; readers = p.1.0; writer = p.1.1 })
-    (λ _. refl)

@@ -1,6 +1,5 @@
 -- One segment, and what each call on it answers and leaves; `who` is the seat that calls.
-use Rattle.std.specs.Prelude.{ℕ, Bool, not, ◌&&◌, nat_lt, nat_le, List, [], ◌∷◌, length, ℤ, pos, replicate, slice_index_or, slice_set, refl}
-use Rattle.std.specs.Coded.{Coded, code_by, coded×, coded_ℕ, coded_bool, coded_ℤ, coded_list}
+use Rattle.std.specs.Prelude.{ℕ, Bool, not, ◌&&◌, nat_lt, nat_le, List, [], ◌∷◌, length, ℤ, pos, replicate, slice_index_or, slice_set}
 use Rattle.mtapi_values.specs.declared.statuses.MrapiStatus.{MrapiStatus}
 use Rattle.mtapi_values.specs.declared.statuses.MrapiStatus.TheVariants.{ErrParameter, ErrShmAttached, ErrShmNotattached}
 use Rattle.mtapi_values.specs.Seats.{no_marks, marked, any_mark}
@@ -45,13 +44,3 @@ cell_of cell s = slice_index_or s.cells cell (pos 0)
 -- the segment with another number in a cell
 abbrev pub with_cell : ℕ → ℤ → Segment → Segment
 with_cell cell value s = record s { cells = slice_set s.cells cell value }
-
--- the record is data, for a type whose value it is
-abbrev pub segment_code : Coded Segment
-segment_code =
-    code_by
-    (ℕ × (List ℤ × List Bool))
-    (coded× coded_ℕ (coded× (coded_list coded_ℤ) (coded_list coded_bool)))
-    (λ s. (s.id, (s.cells, s.attached)))
-    (λ p. record { id = p.0; cells = p.1.0; attached = p.1.1 })
-    (λ _. refl)

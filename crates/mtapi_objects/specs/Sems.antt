@@ -1,6 +1,5 @@
 -- One semaphore, and what each call on it answers and leaves; `who` is the seat that calls.
-use Rattle.std.specs.Prelude.{ℕ, ◌+◌, ◌-◌, Bool, not, ◌&&◌, ◌==◌, nat_lt, nat_le, List, [], ◌∷◌, replicate, slice_index, slice_set, refl}
-use Rattle.std.specs.Coded.{Coded, code_by, coded×, coded_ℕ, coded_list}
+use Rattle.std.specs.Prelude.{ℕ, ◌+◌, ◌-◌, Bool, not, ◌&&◌, ◌==◌, nat_lt, nat_le, List, [], ◌∷◌, replicate, slice_index, slice_set}
 use Rattle.mtapi_values.specs.declared.statuses.MrapiStatus.{MrapiStatus}
 use Rattle.mtapi_values.specs.declared.statuses.MrapiStatus.TheVariants.{ErrParameter, ErrSemLocked, ErrSemNotlocked}
 
@@ -42,13 +41,3 @@ sem_unlock_refusals who s = (slice_index s.holdings who == 0, ErrSemNotlocked) �
 -- this seat holds it once less
 abbrev pub sem_given : ℕ → Sem → Sem
 sem_given who s = record s { holdings = slice_set s.holdings who (slice_index s.holdings who - 1) }
-
--- the record is data, for a type whose value it is
-abbrev pub sem_code : Coded Sem
-sem_code =
-    code_by
-    (ℕ × (ℕ × List ℕ))
-    (coded× coded_ℕ (coded× coded_ℕ (coded_list coded_ℕ)))
-    (λ s. (s.id, (s.limit, s.holdings)))
-    (λ p. record { id = p.0; limit = p.1.0; holdings = p.1.1 })
-    (λ _. refl)

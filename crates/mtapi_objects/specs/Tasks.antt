@@ -16,7 +16,7 @@ use Rattle.handle_pool.specs.Issued.{Listed}
 pub data TaskState : Type 0 where
   Scheduled : TaskState
   Running : ℕ → Kind → TaskState
-  Over : TaskEnd → ℕ → TaskState
+  Ended : TaskEnd → ℕ → TaskState
 
 -- what a tally has done so far: its stage, how it ends at stage 4, the number that it read, and the handles of its mutex and its
 -- segment. The stages: 0 it has done nothing, 1 it has both, 2 it has read, 3 it has written, 4 it has failed
@@ -84,19 +84,19 @@ new_task t start = record {
 abbrev pub scheduled : TaskState → Bool
 scheduled Scheduled = true
 scheduled (Running w k) = false
-scheduled (Over e n) = false
+scheduled (Ended e n) = false
 
 -- the worker on which it runs, and with which kind
 abbrev pub runner : TaskState → Option (ℕ × Kind)
 runner Scheduled = None
 runner (Running w k) = Some (w, k)
-runner (Over e n) = None
+runner (Ended e n) = None
 
 -- its end, with the number of its end
 abbrev pub end_of : TaskState → Option (TaskEnd × ℕ)
 end_of Scheduled = None
 end_of (Running w k) = None
-end_of (Over e n) = Some (e, n)
+end_of (Ended e n) = Some (e, n)
 
 -- a task that hasn't begun
 abbrev pub is_unstarted : Task → Bool
@@ -122,7 +122,7 @@ with_notes f t = record t { notes = f t.notes }
 
 -- the end gets this number; a detached task stops being live
 abbrev pub ended : TaskEnd → ℕ → Listed Task → Listed Task
-ended e n r = record { handle = r.handle; live = r.live && not r.fields.notes.detached; fields = with_state (Over e n) r.fields }
+ended e n r = record { handle = r.handle; live = r.live && not r.fields.notes.detached; fields = with_state (Ended e n) r.fields }
 
 -- every live task that passes ends, in order of their starts, with numbers from n on
 unfoldable pub end_each : (Task → Bool) → TaskEnd → ℕ → List (Listed Task) → List (Listed Task)

@@ -7,7 +7,7 @@ use Rattle.mtapi_values.specs.declared.ends.TaskEnd.TheVariants.{Completed, Canc
 use Rattle.mtapi_values.specs.Conditions.{first}
 use Rattle.handle_pool.specs.Issued.{Listed}
 use Rattle.mtapi_objects.specs.Actions.{new_action, has_worker}
-use Rattle.mtapi_objects.specs.Tasks.{Task, NewTask, Running, Over, new_task, with_state, with_notes, with_waiter, end_each, is_unstarted, task_look_refusals, watch_end}
+use Rattle.mtapi_objects.specs.Tasks.{Task, NewTask, Running, Ended, new_task, with_state, with_notes, with_waiter, end_each, is_unstarted, task_look_refusals, watch_end}
 use Rattle.mtapi_objects.specs.Groups.{endings, first_fault}
 use Rattle.mtapi_objects.specs.Queues.{Queue, lets, opened}
 use Rattle.mtapi_objects.specs.Mutexes.{Mutex, new_mutex, mutex_look_refusals, mutex_busy, locked_by, mutex_unlock_refusals, unlocked}
@@ -86,7 +86,7 @@ abbrev pub three : List (Listed Task)
 three = listed 1 (task_of 0) ∷ listed 2 (with_state (Running 0 kind.Echo) (task_of 1)) ∷ listed 3 (task_of 2) ∷ []
 
 abbrev pub over : ℕ → Task → Task
-over n t = with_state (Over Cancelled n) t
+over n t = with_state (Ended Cancelled n) t
 
 pub record WorkedTasks : Type 0 where
   -- those that haven't begun end in the order of their starts, with the numbers 5 and 6
@@ -99,7 +99,7 @@ pub record WorkedTasks : Type 0 where
 
 -- the second member ended first, and was cancelled; then the first one failed
 abbrev pub two_ended : List (ℕ × Task)
-two_ended = (1, with_state (Over (Failed ErrActionFailed) 8) (task_of 0)) ∷ (2, with_state (Over Cancelled 4) (task_of 1)) ∷ (3, task_of 2) ∷ []
+two_ended = (1, with_state (Ended (Failed ErrActionFailed) 8) (task_of 0)) ∷ (2, with_state (Ended Cancelled 4) (task_of 1)) ∷ (3, task_of 2) ∷ []
 
 abbrev pub queue : Bool → Queue
 queue ordered = record { id = 1; job = 1; priority = 0; limit = 4; ordered = ordered; retain = false; enabled = true }

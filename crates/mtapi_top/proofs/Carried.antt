@@ -1,4 +1,4 @@
--- Where no statement is found that isn't carried out, all are; and a run of the workload is what the headline promises.
+-- Where no statement is found that isn't executed, all are; and a run of the workload is what the headline promises.
 use Rattle.std.proofs.Common.{◌≡◌, ℕ, zero, suc, ◌≤◌, Bool, true, false, cond, List, [], ◌∷◌, ◌++◌, length, Option, Some, None, refl, ◌∙◌, ap, subst, arith}
 use Rattle.std.specs.Prelude.{not, ◌&&◌, find, option_map, Result, Ok, Err, IfOk}
 use Rattle.std.specs.Option.{option_or}
@@ -64,7 +64,7 @@ has_part load formed = some_part load.parts formed.main
 -- a run of the workload is what the headline promises
 pub is_run : (load : Workload) (j : Journal) → IsRunOf load j → IsRun load j
 is_run load j r =
-    let same : told_terms j ≡ terms_for load = told j load r.layout r.settings r.callers in
+    let same : told_terms j ≡ terms_for load = reported j load r.layout r.settings r.callers in
     let legal : Legal (told_terms j) j.entries.entries = rw same r.legal in
     let main = load.settings.workers in
     let ends = r.run.ends in
@@ -78,8 +78,8 @@ is_run load j r =
           (ends.closes ∙ last ends.before (entry main op.Close reply.Ok) ends.behind (entry main op.Final reply.Ok ∷ []));
     }
   where
-    told : (j : Journal) (load : Workload) → j.layout ≡ One → j.settings ≡ load.settings → j.callers ≡ length load.parts → told_terms j ≡ terms_for load
-    told j load l s c = rw (l, s, c) refl
+    reported : (j : Journal) (load : Workload) → j.layout ≡ One → j.settings ≡ load.settings → j.callers ≡ length load.parts → told_terms j ≡ terms_for load
+    reported j load l s c = rw (l, s, c) refl
 
     last : (xs : List NodeEntry) (x : NodeEntry) (ys zs : List NodeEntry) → xs ++ x ∷ (ys ++ zs) ≡ (xs ++ x ∷ ys) ++ zs
     last [] x ys zs = refl

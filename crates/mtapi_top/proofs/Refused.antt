@@ -36,7 +36,7 @@ not_refused t j P r (inl (inl long)) = omega (arith, r.read.0)
 not_refused t j P r (inl (inr none)) = let both = sym none.2 ∙ r.read.1 in cc
 not_refused t j P r (inr unbuilt) = let same = sym unbuilt.1.2 ∙ r.read.1 in let none = r.built in let some = unbuilt.1.3 in cc
 
--- and no text that was carried out is refused
+-- and no text that was executed is refused
 not_built : (t : List ℕ) → IsBuilt t → IsRefused t → ⊥
 not_built t x (inl (inl long)) = omega (arith, x.0)
 not_built t x (inl (inr none)) = let both = sym none.2 ∙ x.2 in cc

@@ -9,7 +9,7 @@ use Rattle.mtapi_machine.specs.declared.replies.Reply.TheVariants as reply
 use Rattle.mtapi_machine.specs.Row.{handle_of}
 use Rattle.mtapi_machine.specs.Legal.{NodeEntry}
 use Rattle.mtapi_machine.specs.Kept.{is_pending}
-use Rattle.sched_workers.specs.Calls.{Call, Once, Looking, Unmade, call_of}
+use Rattle.sched_workers.specs.Calls.{Call, Once, Looking, call_of}
 use Rattle.sched_workers.specs.Lines.{Line, line, lines_of, before_it, Made, Carried}
 use Rattle.sched_workers.specs.RunOf.{has_begin, head_of, tail_of_main, MainRan, CallerRan, CallersRan, PartsRan}
 use Rattle.run_report.specs.Replies.{decided, calls_before, further_told, all_told}
@@ -58,7 +58,6 @@ made_reads (Looking waits o timeout) lines r m =
     ∙ decided_append (before_it (o false) m.first) (line (o m.last) r m.beside ∷ [])
     ∙ ap (λ l. l ++ decided_in (line (o m.last) r m.beside ∷ [])) (before_none (o false) m.first)
     ∙ one_reply (o m.last) r m.beside m.decides
-made_reads Unmade lines r m = absurd m
 
 -- the lines of statements have one for each
 pub record Reads (bound : List ℕ) (ss : List Statement) (lines : List Line) : Type 0 where

@@ -1,4 +1,4 @@
--- Which workloads the run carries out.
+-- Which workloads the run executes.
 use Rattle.std.specs.Prelude.{ℕ, not, List, [], ◌∷◌, Option, None, option_map, find}
 use Rattle.std.specs.Option.{option_or}
 use Rattle.workload_file.specs.declared.workload.Statement.{Statement}
@@ -6,7 +6,7 @@ use Rattle.workload_file.specs.declared.workload.Part.{Part}
 use Rattle.workload_file.specs.declared.workload.Workload.{Workload}
 use Rattle.sched_threads.specs.Carries.{is_made}
 
--- the line of the first of these statements that no op carries out
+-- the line of the first of these statements that no op executes
 abbrev pub first_unbuilt : List Statement → Option ℕ
 first_unbuilt ss = option_map (λ s. s.line) (find (λ s. not (is_made s.deed)) ss)
 

@@ -26,11 +26,11 @@ is_run [] = false
 is_run (word ∷ []) = bytes_eq word (codes "run")
 is_run (word ∷ next ∷ more) = false
 
--- the bytes are a workload whose first statement that isn't carried out is this
+-- the bytes are a workload whose first statement that isn't executed is this
 abbrev pub IsUnbuilt : List ℕ → ℕ → Type 0
 IsUnbuilt bytes line = (length bytes ≤ 1048576) × (load : Workload) × (workload_of bytes ≡ Ok load) × (unbuilt_line load ≡ Some line)
 
--- the bytes are a workload all of whose statements are carried out
+-- the bytes are a workload all of whose statements are executed
 abbrev pub IsBuilt : List ℕ → Type 0
 IsBuilt bytes = (length bytes ≤ 1048576) × (load : Workload) × (workload_of bytes ≡ Ok load) × (unbuilt_line load ≡ None)
 
@@ -38,7 +38,7 @@ IsBuilt bytes = (length bytes ≤ 1048576) × (load : Workload) × (workload_of 
 abbrev pub IsNone : List ℕ → Type 0
 IsNone bytes = (1048576 < length bytes) ⊎ ((length bytes ≤ 1048576) × (fault : Fault) × (workload_of bytes ≡ Err fault))
 
--- the bytes are refused: no workload, or one that isn't carried out
+-- the bytes are refused: no workload, or one that isn't executed
 abbrev pub IsRefused : List ℕ → Type 0
 IsRefused bytes = IsNone bytes ⊎ ((line : ℕ) × IsUnbuilt bytes line)
 
@@ -63,10 +63,10 @@ Ends run bytes a b end.Memory = (run ≡ true) × (b.held ≡ a.held)
 Ends run bytes a b end.NoThread = (run ≡ true) × Rose a.threads b.threads × IfSome bytes IsBuilt × (b.held ≡ a.held)
 Ends run bytes a b (end.Spent s) = (run ≡ true) × (2 ^ 62 ≤ s) × IfSome bytes IsBuilt × (b.held ≡ a.held)
 
--- a text was written, or a front of it where writing failed
+-- a text was written, or a prefix of it where writing failed
 pub record Says (before now : ℕ) (old new : Option (List ℕ)) (text : List ℕ) : Type 0 where
   pub later : before ≤ now
-  pub front : AppendsFront old new text
+  pub prefix : AppendsFront old new text
   pub whole : (Rose before now → ⊥) → Appends old new text
 
 -- the status of the process

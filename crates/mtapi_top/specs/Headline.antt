@@ -4,7 +4,7 @@ use Rattle.workload_file.specs.declared.workload.Workload.{Workload}
 use Rattle.workload_file.specs.Reading.{workload_of}
 use Rattle.workload_file.specs.Formed.{WellFormed}
 use Rattle.mtapi_machine.specs.declared.terms.Terms.{Terms}
-use Rattle.mtapi_machine.specs.State.{terms_of}
+use Rattle.mtapi_machine.specs.State.{terms_with}
 use Rattle.mtapi_machine.specs.Legal.{Legal}
 use Rattle.node_core.specs.Supported.{AllSupported}
 use Rattle.node_core.specs.declared.entries.Journal.{Journal}
@@ -15,7 +15,7 @@ use Rattle.mtapi_top.specs.Built.{unbuilt_line}
 
 -- the terms that a journal tells
 abbrev pub told_terms : Journal → Terms
-told_terms j = terms_of j.layout j.settings j.callers
+told_terms j = terms_with j.layout j.settings j.callers
 
 -- The journal is that of a run of the workload.
 pub record IsRun (load : Workload) (j : Journal) : Type 0 where
@@ -24,7 +24,7 @@ pub record IsRun (load : Workload) (j : Journal) : Type 0 where
   pub callers : j.callers ≡ length load.parts
   -- it is one legal history of the one-thread machine
   pub legal : Legal (told_terms j) j.entries.entries
-  -- by ops that a node carries out so far
+  -- by ops that a node executes so far
   pub supported : AllSupported j.entries.entries
   -- it holds each caller's calls once, in that caller's order
   pub run : RunOf load j.entries.entries j.entries.skipped
@@ -36,7 +36,7 @@ pub record Ran (bytes : Option (List ℕ)) (j : Journal) (P : List ℕ → Type 
   pub load : Workload
   pub read : IfSome bytes (λ b. (length b ≤ 1048576) × (workload_of b ≡ Ok load))
   pub formed : WellFormed load
-  -- every statement of it is carried out
+  -- every statement of it is executed
   pub built : unbuilt_line load ≡ None
   pub is_run : IsRun load j
   pub written : P (report j.layout load j.entries.entries)

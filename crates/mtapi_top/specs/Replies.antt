@@ -20,7 +20,7 @@ unfoldable pub Answered : List ℕ → List Statement → List Line → List Rep
 Answered bound [] lines [] = lines ≡ []
 Answered bound [] lines (r ∷ rs) = ⊥
 Answered bound (s ∷ ss) lines [] = ⊥
-Answered bound (s ∷ ss) lines (r ∷ rs) = (front : List Line) × (rest : List Line) × (lines ≡ front ++ rest) × Made (call_of bound s.deed) front r × Answered (bound ++ handle_of r ∷ []) ss rest rs
+Answered bound (s ∷ ss) lines (r ∷ rs) = (prefix : List Line) × (rest : List Line) × (lines ≡ prefix ++ rest) × Made (call_of bound s.deed) prefix r × Answered (bound ++ handle_of r ∷ []) ss rest rs
 
 -- main's lines, and the replies that the report reads of them: one for each statement, and two more, of the close and of the final step
 pub record MainRead (statements : List Statement) (lines : List Line) (replies : List Reply) : Type 0 where

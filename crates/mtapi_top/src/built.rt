@@ -1,11 +1,11 @@
-//! Which workloads the run carries out.
+//! Which workloads the run executes.
 ghost use Rattle.std.specs.Prelude.{◌≡◌};
 ghost use Rattle.mtapi_top.specs.Built.{first_unbuilt, unbuilt_in, unbuilt_line};
 
 use sched_threads::is_made;
 use workload_file::{Part, Statement, Workload};
 
-/// The line of the first of these statements that isn't carried out.
+/// The line of the first of these statements that isn't executed.
 fn first_unbuilt(statements: &[Statement]) -> Option<u64>
     ensures { result ≡ first_unbuilt statements.now }
 {
@@ -15,7 +15,7 @@ fn first_unbuilt(statements: &[Statement]) -> Option<u64>
         .map(|statement| statement.line)
 }
 
-/// The line of the first statement of these parts that isn't carried out.
+/// The line of the first statement of these parts that isn't executed.
 #[tactic(auto, unfolding(crate::specs::Built::unbuilt_in))]
 fn unbuilt_in(parts: &[Part]) -> Option<u64>
     ensures { result ≡ unbuilt_in parts.now }
@@ -29,7 +29,7 @@ fn unbuilt_in(parts: &[Part]) -> Option<u64>
     }
 }
 
-/// The line of the first statement that isn't carried out, in the order of the text.
+/// The line of the first statement that isn't executed, in the order of the text.
 pub fn unbuilt_line(load: &Workload) -> Option<u64>
     ensures { result ≡ unbuilt_line load.now }
 {

@@ -85,7 +85,7 @@ pub fn command<R: Threads + Wait + Sync, S: Source, W: Sink, E: Sink, A: ActionS
     beside: &mut B,
 ) -> Outcome
     // The headline. Where a run finished, the journal is that of a run of a workload, the bytes read were this workload, and what was
-    // written is the report of that journal: all of it with the status 0, and a front of it with 5.
+    // written is the report of that journal: all of it with the status 0, and a prefix of it with 5.
     ensures headline { result.status ≡ 0 → IfSome result.journal (λ journal. Ran (S.left src.old) journal (Appends (W.held out.old) (W.held out.new))) }
     ensures headline_cut { result.status ≡ 5 → IfSome result.journal (λ journal. Ran (S.left src.old) journal (AppendsFront (W.held out.old) (W.held out.new))) }
     ensures journal { IsSome result.journal ↔ ((result.status ≡ 0) ⊎ (result.status ≡ 5)) }
@@ -109,7 +109,7 @@ pub fn command<R: Threads + Wait + Sync, S: Source, W: Sink, E: Sink, A: ActionS
     // Nothing is written with another status.
     ensures nothing { (result.status ≡ 0 → ⊥) → (result.status ≡ 5 → ⊥) → W.held out.new ≡ W.held out.old }
 
-    // A workload that is carried out, without a fault and with a thread for everyone, ends with 0, for want of memory, or with spent tickets.
+    // A workload that is executed, without a fault and with a thread for everyone, ends with 0, with 6 when out of memory, or with spent tickets.
     ensures complete { is_run (texts words.now) ≡ true → (Rose (S.faults src.old) (S.faults src.new) → ⊥) → (Rose (W.faults out.old) (W.faults out.new) → ⊥)
         → (Rose (B.refusals beside.old) (B.refusals beside.new) → ⊥)
         → IfSome (S.left src.old) (λ bytes. IsBuilt bytes → (result.status ≡ 0) ⊎ (result.status ≡ 6) ⊎ (result.status ≡ 8)) }

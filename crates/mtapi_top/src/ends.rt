@@ -15,7 +15,7 @@ pub enum End {
     Refused(u64, Cause),
     /// There are more bytes than a workload may have.
     TooLong,
-    /// This is the line of the first statement that isn't carried out yet.
+    /// This is the line of the first statement that isn't executed yet.
     NotBuilt(u64),
     /// A read failed.
     ReadFault,

@@ -17,7 +17,7 @@ fn fault_text(alloc: Global, line: u64, cause: Cause) -> Result<String, AllocErr
     format!(in alloc; "mtapi: line {line}: {cause}\n")
 }
 
-/// The message for a statement that isn't carried out.
+/// The message for a statement that isn't executed.
 #[tactic(auto, unfolding(crate::specs::Command::message))]
 fn unbuilt_text(alloc: Global, line: u64) -> Result<String, AllocError>
     ensures { IfOk result (λ text. string_bytes text ≡ message (End.NotBuilt line)) }
@@ -112,7 +112,7 @@ fn tell_text<E: Sink>(end: End, text: Result<String, AllocError>, err: &mut E) -
 
 /// Says on `err` how it ended, and answers the status. Where there is no memory for a message that names a line, that is said instead.
 pub fn tell<E: Sink>(alloc: Global, end: End, err: &mut E) -> Outcome
-    ensures told { IsTold end (E.faults err.old) (E.faults err.new) (E.held err.old) (E.held err.new) result
+    ensures reported { IsTold end (E.faults err.old) (E.faults err.new) (E.held err.old) (E.held err.new) result
         ⊎ ((has_line end ≡ true) × IsTold End.Memory (E.faults err.old) (E.faults err.new) (E.held err.old) (E.held err.new) result) }
 {
     match end {

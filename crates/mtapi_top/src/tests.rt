@@ -225,8 +225,10 @@ fn refused_texts(rt: HostRuntime) {
             b"action a job=1 kind=add\nstart t job=1\nstart t job=1\n",
             b"mtapi: line 3: name taken\n",
         ),
-        refused(MIXED, b"mtapi: line 4: not built\n"),
-        refused(b"begin\ncaller a\ngroup g\n", b"mtapi: line 3: not built\n"),
+        refused(
+            b"begin\ncaller a\naction t job=1 kind=tally\n",
+            b"mtapi: line 3: not built\n",
+        ),
     ] {
         check(&rt, rt.alloc(), &case);
     }
@@ -243,7 +245,7 @@ fn long_texts(rt: HostRuntime) {
     check_bytes(&rt, alloc, spaces, &no_workload);
 }
 
-/// A node with four workers, ordered work and shared memory, whose first statement that isn't carried out is its queue.
+/// A node with four workers, a group, ordered work and shared memory, and two further callers that lock one mutex.
 const MIXED: &[u8] = b"node workers=4\n\
 action sum job=1 kind=add\n\
 action big job=2 kind=max cores=0,1\n\
@@ -275,6 +277,16 @@ caller tail\n\
 mutex_get m id=1\n\
 lock m timeout=inf\n\
 unlock m key=1\n";
+
+const MIXED_REPORT: &[u8] = b"main.a completed 9\n\
+main.b completed -2\n\
+main.c completed 60\n\
+main.d completed 8\n\
+feed.x completed 3\n\
+feed.y completed 7\n\
+= feed 21 1\n\
+= feed 23 5\n\
+= tail 30 1\n";
 
 /// Two workers, main and two further callers, each with a task of its own.
 const THREE: &[u8] = b"node workers=2\n\
@@ -424,5 +436,132 @@ fn reports(rt: HostRuntime) {
         reported(THREE, THREE_REPORT),
     ] {
         check(&rt, rt.alloc(), &case);
+    }
+}
+
+/// Two callers fight for a mutex, and one of them writes a cell while it has it.
+const ADDERS: &[u8] = b"mutex m id=1\n\
+shmem s id=1 cells=1\n\
+begin\n\
+caller a\n\
+mutex_get m id=1\n\
+shmem_get s id=1\n\
+attach s\n\
+lock m timeout=inf\n\
+read s cell=0\n\
+write s cell=0 value=1\n\
+unlock m key=1\n\
+caller b\n\
+mutex_get m id=1\n\
+lock m timeout=inf\n\
+unlock m key=1\n";
+
+#[test]
+fn reports_of_resources_and_queues(rt: HostRuntime) {
+    for case in [
+        // A recursive mutex gives its keys in order.
+        reported(
+            b"mutex m id=1 recursive=yes\nlock m timeout=inf\nlock m timeout=inf\nunlock m key=1\nunlock m key=2\nunlock m key=1\nunlock m key=1\n",
+            b"= main 2 1\n= main 3 2\n! main 4 MRAPI_ERR_MUTEX_LOCKORDER\n! main 7 MRAPI_ERR_MUTEX_NOTLOCKED\n",
+        ),
+        // The cells of a new segment are 0, though another segment was written there.
+        reported(
+            b"node max_objects=1\nshmem s id=1 cells=1\nattach s\nwrite s cell=0 value=7\ndetach s\nshmem_delete s\nshmem r id=1 cells=1\nattach r\nread r cell=0\nattach s\n",
+            b"= main 9 0\n! main 10 MRAPI_ERR_SHM_INVALID\n",
+        ),
+        // What a caller holds it may not have again, and others wait for it in vain.
+        reported(
+            b"sem s id=1 limit=1\nsem_lock s timeout=inf\nsem_lock s timeout=3\nsem_unlock s\nsem_unlock s\n",
+            b"! main 3 MRAPI_TIMEOUT\n! main 5 MRAPI_ERR_SEM_NOTLOCKED\n",
+        ),
+        reported(
+            b"rwl r id=1 limit=1\nrwl_lock r mode=reader timeout=inf\nrwl_lock r mode=reader timeout=inf\nrwl_lock r mode=writer timeout=nowait\nrwl_unlock r mode=reader\nrwl_unlock r mode=writer\n",
+            b"! main 3 MRAPI_ERR_RWL_LOCKED\n! main 4 MRAPI_ERR_RWL_LOCKED\n! main 6 MRAPI_ERR_RWL_NOTLOCKED\n",
+        ),
+        // An ordered queue runs its tasks one after another, on however many workers.
+        reported(
+            b"node workers=4\naction a job=1 kind=echo\nqueue q id=1 job=1 ordered=yes\nenqueue x queue=q args=1\nenqueue y queue=q args=2\nenqueue z queue=q args=3\nwait z timeout=inf\nwait y timeout=nowait\nwait x timeout=nowait\n",
+            b"main.x completed 1\nmain.y completed 2\nmain.z completed 3\n",
+        ),
+        reported(
+            b"action a job=1 kind=add\nqueue q id=1 job=2\nqueue r id=1 job=1 limit=1\nqueue s id=1 job=1\nqueue_get t id=2\nenqueue u queue=t\n",
+            b"main.u refused MTAPI_ERR_QUEUE_INVALID\n! main 2 MTAPI_ERR_JOB_INVALID\n! main 4 MTAPI_ERR_QUEUE_EXISTS\n! main 5 MTAPI_ERR_QUEUE_INVALID\n",
+        ),
+        reported(ADDERS, b"= a 8 1\n= a 9 0\n= b 14 1\n"),
+    ] {
+        check(&rt, rt.alloc(), &case);
+    }
+}
+
+/// Three tasks of an ordered queue, in a group that gives them one after another.
+const GIVEN: &[u8] = b"node workers=4\n\
+action a job=1 kind=echo\n\
+queue q id=1 job=1 ordered=yes\n\
+group g\n\
+enqueue x queue=q args=1 group=g\n\
+enqueue y queue=q args=2 group=g\n\
+enqueue z queue=q args=3 group=g\n\
+wait_any g timeout=inf\n\
+wait_any g timeout=inf\n\
+wait_any g timeout=inf\n\
+wait_any g timeout=inf\n";
+
+const GIVEN_REPORT: &[u8] = b"main.x completed 1\n\
+main.y completed 2\n\
+main.z completed 3\n\
+= main 8 x\n\
+= main 9 y\n\
+= main 10 z\n\
+! main 11 MTAPI_GROUP_COMPLETED\n";
+
+#[test]
+fn reports_of_groups_and_ends_of_many(rt: HostRuntime) {
+    for case in [
+        reported(GIVEN, GIVEN_REPORT),
+        Case {
+            most: 10,
+            sink_fails: 2,
+            status: 5,
+            out: b"main.x com",
+            err: b"mtapi: write fault\n",
+            ..reported(GIVEN, GIVEN_REPORT)
+        },
+        thread_refused(GIVEN, 2),
+        // What a queue that is disabled retains ends when the node closes.
+        reported(
+            b"action a job=1 kind=add\nqueue q id=1 job=1 retain=yes\nqueue_disable q\nenqueue t queue=q args=1\nwait t timeout=3\n",
+            b"main.t cancelled\n! main 5 MTAPI_TIMEOUT\n",
+        ),
+        reported(
+            b"action a job=1 kind=add\nqueue q id=1 job=1 retain=yes\nqueue_disable q\nenqueue t queue=q args=1\ncancel t\n",
+            b"main.t cancelled\n",
+        ),
+        reported(
+            b"action a job=1 kind=add\nqueue q id=1 job=1 retain=yes\nqueue_disable q\nenqueue t queue=q args=1\nqueue_delete q\n",
+            b"main.t error MTAPI_ERR_QUEUE_DELETED\n",
+        ),
+        reported(
+            b"action a job=1 kind=add\nqueue q id=1 job=1 limit=2 retain=yes\nqueue_disable q\nenqueue t queue=q\nenqueue u queue=q\nenqueue v queue=q\n",
+            b"main.t cancelled\nmain.u cancelled\nmain.v refused MTAPI_ERR_QUEUE_LIMIT\n",
+        ),
+        // A task that no worker can take any more fails.
+        reported(
+            b"node workers=2\naction a job=1 kind=add\nqueue q id=1 job=1 retain=yes\nqueue_disable q\nenqueue t queue=q args=1\naction_delete a\nwait t timeout=inf\n",
+            b"main.t error MTAPI_ERR_ACTION_DELETED\n",
+        ),
+        // Nobody waits for the tasks of a group that was deleted: they are detached.
+        reported(
+            b"action a job=1 kind=add\ngroup g\nstart t job=1 args=1,2 group=g\ngroup_delete g\nwait_all g timeout=inf\n",
+            b"main.t completed 3\n! main 5 MTAPI_ERR_GROUP_INVALID\n",
+        ),
+    ] {
+        check(&rt, rt.alloc(), &case);
+    }
+}
+
+#[test]
+fn a_realistic_workload(rt: HostRuntime) {
+    for _ in 0..100 {
+        check(&rt, rt.alloc(), &reported(MIXED, MIXED_REPORT));
     }
 }

@@ -1,12 +1,11 @@
 -- Changes of a list of issued objects that come to the same.
-use Rattle.std.proofs.Common.{◌≡◌, ℕ, ◌+◌, Bool, true, false, not, cond, List, [], ◌∷◌, Option, Some, None, refl, sym, ◌∙◌, ap}
+use Rattle.std.proofs.Common.{◌≡◌, ℕ, Bool, true, false, not, cond, List, [], ◌∷◌, Some, refl, sym, ◌∙◌, ap}
 use Rattle.std.specs.Prelude.{◌==◌, ◌&&◌}
 use Rattle.mtapi_values.specs.declared.ends.TaskEnd.{TaskEnd}
-use Rattle.handle_pool.specs.Slots.{Slots, get, with_value, without}
-use Rattle.handle_pool.specs.Issued.{Listed, live_of, lookup, at, count, change, with_fields, gone, update, retire}
-use Rattle.mtapi_objects.specs.Tasks.{Task, Over, is_unstarted, with_state, ended, end_each}
+use Rattle.handle_pool.specs.Slots.{Slots, slot_value, with_value, without}
+use Rattle.handle_pool.specs.Issued.{Listed, live_of, lookup, live_object, change, with_fields, gone, update, retire}
+use Rattle.mtapi_objects.specs.Tasks.{Task, Ended, with_state, ended}
 use Rattle.task_core.specs.Table.{ended_in}
-use Rattle.mtapi_objects.specs.Queues.{is_shut_in}
 use Rattle.node_core.specs.Stands.{Holds}
 use Rattle.node_core.proofs.Moves.{found, holds_update, holds_change_and_remove}
 
@@ -15,16 +14,16 @@ some_same h = cc
 
 module _ {T : Type 0} where
   -- two changes that agree on the object found
-  change-as : (h : ℕ) (f g : Listed T → Listed T) (v : T) (l : List (Listed T)) → at l h ≡ Some v → ((r : Listed T) → r.live ≡ true → r.fields ≡ v → f r ≡ g r) → change h f l ≡ change h g l
+  pub change-as : (h : ℕ) (f g : Listed T → Listed T) (v : T) (l : List (Listed T)) → live_object l h ≡ Some v → ((r : Listed T) → r.live ≡ true → r.fields ≡ v → f r ≡ g r) → change h f l ≡ change h g l
   unfolding live_of change
   change-as h f g v [] a k = refl
   change-as h f g v (r ∷ rs) a k = by_live (λ m. change-as h f g v rs m k) r.live refl a
     where
-      by_handle : (at rs h ≡ Some v → change h f rs ≡ change h g rs) → r.live ≡ true → (b : Bool) → cond b (Some r.fields) (at rs h) ≡ Some v → cond b (f r ∷ rs) (r ∷ change h f rs) ≡ cond b (g r ∷ rs) (r ∷ change h g rs)
+      by_handle : (live_object rs h ≡ Some v → change h f rs ≡ change h g rs) → r.live ≡ true → (b : Bool) → cond b (Some r.fields) (live_object rs h) ≡ Some v → cond b (f r ∷ rs) (r ∷ change h f rs) ≡ cond b (g r ∷ rs) (r ∷ change h g rs)
       by_handle rest d true m = ap (λ (x : Listed T). x ∷ rs) (k r d (some_same m))
       by_handle rest d false m = ap (λ (x : List (Listed T)). r ∷ x) (rest m)
 
-      by_live : (at rs h ≡ Some v → change h f rs ≡ change h g rs) → (a : Bool) → r.live ≡ a → lookup (cond a ((r.handle, r.fields) ∷ live_of rs) (live_of rs)) h ≡ Some v → cond (r.live && (r.handle == h)) (f r ∷ rs) (r ∷ change h f rs) ≡ cond (r.live && (r.handle == h)) (g r ∷ rs) (r ∷ change h g rs)
+      by_live : (live_object rs h ≡ Some v → change h f rs ≡ change h g rs) → (a : Bool) → r.live ≡ a → lookup (cond a ((r.handle, r.fields) ∷ live_of rs) (live_of rs)) h ≡ Some v → cond (r.live && (r.handle == h)) (f r ∷ rs) (r ∷ change h f rs) ≡ cond (r.live && (r.handle == h)) (g r ∷ rs) (r ∷ change h g rs)
       by_live rest true d m =
           (λ i. cond (d i && (r.handle == h)) (f r ∷ rs) (r ∷ change h f rs))
           ∙ (by_handle rest d (r.handle == h) m ∙ (λ i. cond (sym d i && (r.handle == h)) (g r ∷ rs) (r ∷ change h g rs)))
@@ -33,7 +32,7 @@ module _ {T : Type 0} where
           ∙ (ap (λ (x : List (Listed T)). r ∷ x) (rest m) ∙ (λ i. cond (sym d i && (r.handle == h)) (g r ∷ rs) (r ∷ change h g rs)))
 
   -- fields that change, and then the end of the object's life
-  retire-update : (h : ℕ) (f : T → T) (l : List (Listed T)) → retire h (update h f l) ≡ change h (λ r. gone (with_fields f r)) l
+  pub retire-update : (h : ℕ) (f : T → T) (l : List (Listed T)) → retire h (update h f l) ≡ change h (λ r. gone (with_fields f r)) l
   unfolding change
   retire-update h f [] = refl
   retire-update h f (r ∷ rs) = by_test (retire-update h f rs) (r.live && (r.handle == h)) refl
@@ -51,42 +50,18 @@ not_live true d e = ap not e
 not_live false d e = refl
 
 -- the end of a task that isn't detached, and of one that is
-ended-kept : (h : ℕ) (e : TaskEnd) (n : ℕ) (t : Task) (l : List (Listed Task)) → at l h ≡ Some t → t.notes.detached ≡ false → change h (ended e n) l ≡ update h (with_state (Over e n)) l
-ended-kept h e n t l a d = change-as h (ended e n) (with_fields (with_state (Over e n))) t l a (λ r live is i. record { handle = r.handle; live = stays_live r.live r.fields.notes.detached (ap (λ (u : Task). u.notes.detached) is ∙ d) i; fields = with_state (Over e n) r.fields })
+ended-kept : (h : ℕ) (e : TaskEnd) (n : ℕ) (t : Task) (l : List (Listed Task)) → live_object l h ≡ Some t → t.notes.detached ≡ false → change h (ended e n) l ≡ update h (with_state (Ended e n)) l
+ended-kept h e n t l a d = change-as h (ended e n) (with_fields (with_state (Ended e n))) t l a (λ r live is i. record { handle = r.handle; live = stays_live r.live r.fields.notes.detached (ap (λ (u : Task). u.notes.detached) is ∙ d) i; fields = with_state (Ended e n) r.fields })
 
-ended-gone : (h : ℕ) (e : TaskEnd) (n : ℕ) (t : Task) (l : List (Listed Task)) → at l h ≡ Some t → t.notes.detached ≡ true → change h (ended e n) l ≡ retire h (update h (with_state (Over e n)) l)
+ended-gone : (h : ℕ) (e : TaskEnd) (n : ℕ) (t : Task) (l : List (Listed Task)) → live_object l h ≡ Some t → t.notes.detached ≡ true → change h (ended e n) l ≡ retire h (update h (with_state (Ended e n)) l)
 ended-gone h e n t l a d =
-    change-as h (ended e n) (λ r. gone (with_fields (with_state (Over e n)) r)) t l a (λ r live is i. record { handle = r.handle; live = not_live r.live r.fields.notes.detached (ap (λ (u : Task). u.notes.detached) is ∙ d) i; fields = with_state (Over e n) r.fields })
-    ∙ sym (retire-update h (with_state (Over e n)) l)
+    change-as h (ended e n) (λ r. gone (with_fields (with_state (Ended e n)) r)) t l a (λ r live is i. record { handle = r.handle; live = not_live r.live r.fields.notes.detached (ap (λ (u : Task). u.notes.detached) is ∙ d) i; fields = with_state (Ended e n) r.fields })
+    ∙ sym (retire-update h (with_state (Ended e n)) l)
 
 -- a task that ends in the pool ends in the list
-pub holds_ended : (size turns : ℕ) (p : Slots Task) (l : List (Listed Task)) (h : ℕ) (e : TaskEnd) (n : ℕ) (t : Task) → Holds size turns p l → get p h ≡ Some t → Holds size turns (ended_in p h e n (Some t)) (change h (ended e n) l)
+pub holds_ended : (size turns : ℕ) (p : Slots Task) (l : List (Listed Task)) (h : ℕ) (e : TaskEnd) (n : ℕ) (t : Task) → Holds size turns p l → slot_value p h ≡ Some t → Holds size turns (ended_in p h e n (Some t)) (change h (ended e n) l)
 holds_ended size turns p l h e n t s g = by_detached t.notes.detached refl
   where
-    by_detached : (b : Bool) → t.notes.detached ≡ b → Holds size turns (cond b (without p h) (with_value p h (with_state (Over e n) t))) (change h (ended e n) l)
-    by_detached true d = rw (ended-gone h e n t l (found size turns p l h (Some t) s g) d) (holds_change_and_remove size turns p l h (with_state (Over e n)) t s g)
-    by_detached false d = rw (ended-kept h e n t l (found size turns p l h (Some t) s g) d) (holds_update size turns p l h (with_state (Over e n)) t s g)
-
-and_false : (a b : Bool) → b ≡ false → (a && b) ≡ false
-and_false true b e = e
-and_false false b e = refl
-
--- where no task passes, none ends
-pub ends-none : (p : Task → Bool) (e : TaskEnd) (n : ℕ) (l : List (Listed Task)) → ((t : Task) → p t ≡ false) → end_each p e n l ≡ l
-unfolding end_each
-ends-none p e n [] k = refl
-ends-none p e n (r ∷ rs) k =
-    (λ i. cond (and_false r.live (p r.fields) (k r.fields) i) (ended e n r ∷ end_each p e (n + 1) rs) (r ∷ end_each p e n rs)) ∙ ap (λ (x : List (Listed Task)). r ∷ x) (ends-none p e n rs k)
-
-pub count-none : (p : Task → Bool) (l : List (Listed Task)) → ((t : Task) → p t ≡ false) → count p l ≡ 0
-count-none p [] k = refl
-count-none p (r ∷ rs) k = (λ i. cond (and_false r.live (p r.fields) (k r.fields) i) 1 0 + count-none p rs k i)
-
--- with no queue, no task is in a disabled one
-shut_in-none : (o : Option ℕ) (t : Task) → t.queue ≡ o → is_shut_in [] t ≡ false
-unfolding live_of
-shut_in-none None t e = rw e refl
-shut_in-none (Some q) t e = rw e refl
-
-pub waits_in-none : (t : Task) → (is_unstarted t && is_shut_in [] t) ≡ false
-waits_in-none t = and_false (is_unstarted t) (is_shut_in [] t) (shut_in-none t.queue t refl)
+    by_detached : (b : Bool) → t.notes.detached ≡ b → Holds size turns (cond b (without p h) (with_value p h (with_state (Ended e n) t))) (change h (ended e n) l)
+    by_detached true d = rw (ended-gone h e n t l (found size turns p l h (Some t) s g) d) (holds_change_and_remove size turns p l h (with_state (Ended e n)) t s g)
+    by_detached false d = rw (ended-kept h e n t l (found size turns p l h (Some t) s g) d) (holds_update size turns p l h (with_state (Ended e n)) t s g)

@@ -1,5 +1,5 @@
 -- What a row gives: a reply that it allows, and the state after it. One word for each part of a row.
-use Rattle.std.proofs.Common.{◌≡◌, ℕ, ◌+◌, ◌≤◌, Bool, true, false, List, [], ◌∷◌, Option, Some, None, refl, sym, ◌∙◌, subst, arith}
+use Rattle.std.proofs.Common.{◌≡◌, ℕ, ◌+◌, ◌≤◌, Bool, true, false, List, [], ◌∷◌, Option, Some, None, refl, sym, ◌∙◌, ap, subst, arith, cond}
 use Rattle.mtapi_values.specs.declared.statuses.MtapiStatus.{MtapiStatus}
 use Rattle.mtapi_values.specs.Conditions.{first}
 use Rattle.mtapi_values.specs.declared.handles.Layout.TheVariants.{One}
@@ -14,7 +14,13 @@ use Rattle.mtapi_machine.specs.Legal.{IsHonest}
 use Rattle.handle_pool.specs.Slots.{Slots}
 use Rattle.mtapi_objects.specs.Actions.{Action}
 use Rattle.task_core.specs.Table.{TaskTable}
-use Rattle.task_board.specs.Board.{BoardTable, Becomes}
+use Rattle.mtapi_objects.specs.Queues.{Queue}
+use Rattle.queue_core.specs.Held.{HeldQueue, QueueTable}
+use Rattle.task_board.specs.Board.{BoardTable, Becomes, BecomesWith, records_of, group_slots}
+use Rattle.mtapi_objects.specs.Groups.{Group}
+use Rattle.group_core.specs.Members.{GroupTable}
+use Rattle.task_board.specs.Members.{without_members}
+use Rattle.task_board.specs.GroupMoves.{Regroups}
 use Rattle.node_core.specs.declared.node.Node.{Node}
 use Rattle.node_core.specs.Stands.{Lists, Pools, Live, Steps, state_of, terms_of}
 
@@ -54,6 +60,15 @@ pub allows : (b : Bool) (s t : State) (r : Reply) (v : Row) → b ≡ true → G
 allows true s t r v e g = g
 allows false s t r v e g = absurd (cc)
 
+-- a row that a condition chooses
+pub then_row : (b : Bool) (s t : State) (r : Reply) (v w : Row) → b ≡ true → Gives s v r t → Gives s (cond b v w) r t
+then_row true s t r v w e g = g
+then_row false s t r v w e g = absurd (cc)
+
+pub else_row : (b : Bool) (s t : State) (r : Reply) (v w : Row) → b ≡ false → Gives s w r t → Gives s (cond b v w) r t
+else_row false s t r v w e g = g
+else_row true s t r v w e g = absurd (cc)
+
 module _ {T : Type 0} where
   -- a live object, and none
   pub at_some : (s t : State) (o : Option T) (x : T) (other : Row) (r : Reply) (f : T → Row) → o ≡ Some x → Gives s (f x) r t → Gives s (live o other f) r t
@@ -63,7 +78,7 @@ module _ {T : Type 0} where
   at_none s o invalid f e = subst (λ (p : Option T). Gives s (live p (says invalid) f) invalid s) (sym e) (says_this s invalid)
 
 -- a step of the node from what the row gives
-pub steps : (n m : Node) (l k : Lists) (who : ℕ) (op : Op) (r : Reply) → Gives (state_of n l) (row (state_of n l) who op r) r (state_of m k) → Pools n.board.settings m.board.actions m.board.tasks.pool k → terms_of m ≡ terms_of n → m.board.tasks.starts ≤ n.board.tasks.starts + 1 → IsHonest op → Steps n l who op r m
+pub steps : (n m : Node) (l k : Lists) (who : ℕ) (op : Op) (r : Reply) → Gives (state_of n l) (row (state_of n l) who op r) r (state_of m k) → Pools n.board.settings m.board.actions m.board.tasks.pool (group_slots m.board) (records_of m.board.queues.pool) m.resources k → terms_of m ≡ terms_of n → m.board.tasks.starts ≤ n.board.tasks.starts + 1 → IsHonest op → Steps n l who op r m
 steps n m l k who op r g v t b h =
     (k, record { allowed = g.allowed; leads = g.leads; live = v; terms = t; starts = b; honest = h })
 
@@ -72,18 +87,32 @@ pub stays : (n : Node) (l : Lists) (who : ℕ) (op : Op) (r : Reply) → Live n 
 stays n l who op r v h g = (l, record { allowed = g.allowed; leads = g.leads; live = v; terms = refl; starts = omega arith; honest = h })
 
 -- the same step, of a board that has become so
-pub lands : (n : Node) (l : Lists) (who : ℕ) (op : Op) (r : Reply) (b : BoardTable) (a : Slots Action) (q : TaskTable) → Becomes n.board b a q → Steps n l who op r (record n { board = record n.board { actions = a; tasks = q } }) → Steps n l who op r (record n { board = b })
-lands n l who op r b a q e s = (
+pub lands_to : (n m : Node) (l : Lists) (who : ℕ) (op : Op) (r : Reply) (b : BoardTable) (a : Slots Action) (t : TaskTable) (q : Slots HeldQueue) (g : GroupTable) → m.board.settings ≡ n.board.settings → b.settings ≡ m.board.settings → b.actions ≡ a → b.tasks ≡ t → records_of b.queues.pool ≡ records_of q → group_slots b ≡ without_members g.pool → Steps n l who op r (record m { board = record m.board { actions = a; tasks = t; queues = record m.board.queues { pool = q }; groups = g } }) → Steps n l who op r (record m { board = b })
+lands_to n m l who op r b a t q g base settings actions tasks queues groups s = (
   s.0,
   record {
     allowed = s.1.allowed;
-    leads = s.1.leads ∙ (λ i. state_of (record n { board = path i }) s.0);
-    live = subst (λ (x : BoardTable). Pools n.board.settings x.actions x.tasks.pool s.0) path s.1.live;
-    terms = (λ i. record { layout = One; settings = e.settings i; callers = n.core.callers });
-    starts = subst (λ (x : TaskTable). x.starts ≤ n.board.tasks.starts + 1) (sym e.tasks_are) s.1.starts;
+    leads = s.1.leads ∙ (λ i. state_of (record m { board = path i }) s.0);
+    live =
+        subst (λ (x : BoardTable). Pools n.board.settings x.actions x.tasks.pool (group_slots b) (records_of b.queues.pool) m.resources s.0) path
+        (subst (λ (z : Slots Queue). Pools n.board.settings a t.pool (group_slots b) z m.resources s.0) (sym queues)
+        (subst (λ (z : Slots Group). Pools n.board.settings a t.pool z (records_of q) m.resources s.0) (sym groups) s.1.live));
+    terms = (λ i. record { layout = One; settings = settings i; callers = m.core.callers }) ∙ s.1.terms;
+    starts = subst (λ (x : TaskTable). x.starts ≤ n.board.tasks.starts + 1) (sym tasks) s.1.starts;
     honest = s.1.honest;
   },
 )
   where
-    path : record b { settings = n.board.settings; actions = a; tasks = q } ≡ b
-    path i = record b { settings = sym e.settings i; actions = sym e.actions_are i; tasks = sym e.tasks_are i }
+    path : record b { settings = m.board.settings; actions = a; tasks = t } ≡ b
+    path i = record b { settings = sym settings i; actions = sym actions i; tasks = sym tasks i }
+
+pub lands : (n : Node) (l : Lists) (who : ℕ) (op : Op) (r : Reply) (b : BoardTable) (a : Slots Action) (q : TaskTable) → Becomes n.board b a q → Steps n l who op r (record n { board = record n.board { actions = a; tasks = q } }) → Steps n l who op r (record n { board = b })
+lands n l who op r b a q e s = lands_to n n l who op r b a q n.board.queues.pool n.board.groups refl e.settings e.actions_are e.tasks_are e.queues_are e.groups_are s
+
+-- the same of the queues alone
+pub lands_with : (n : Node) (l : Lists) (who : ℕ) (op : Op) (r : Reply) (b : BoardTable) (q : Slots HeldQueue) → BecomesWith n.board b q → Steps n l who op r (record n { board = record n.board { queues = record n.board.queues { pool = q } } }) → Steps n l who op r (record n { board = b })
+lands_with n l who op r b q e s = lands_to n n l who op r b n.board.actions n.board.tasks q n.board.groups refl e.settings e.actions_are e.tasks_are (ap records_of e.queues_are) (ap (λ (g : GroupTable). without_members g.pool) e.groups_are) s
+
+-- the same, where groups come or go
+pub regroups_to : (n : Node) (l : Lists) (who : ℕ) (op : Op) (r : Reply) (b : BoardTable) (q : TaskTable) → Regroups n.board b q → Steps n l who op r (record n { board = record n.board { tasks = q; groups = b.groups } }) → Steps n l who op r (record n { board = b })
+regroups_to n l who op r b q e s = lands_to n n l who op r b n.board.actions q n.board.queues.pool b.groups refl e.settings e.actions_are e.tasks_are (ap (λ (z : QueueTable). records_of z.pool) e.queues_are) refl s

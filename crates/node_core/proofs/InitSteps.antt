@@ -1,55 +1,60 @@
 -- A new node stands for the empty list, and each step goes on with the list.
-use Rattle.std.proofs.Common.{◌≡◌, ℕ, ◌+◌, ◌<◌, ◌≤◌, false, List, [], ◌∷◌, ◌++◌, ◌^◌, length, length-append, replicate, true, refl, sym, ◌∙◌, ap, subst, arith}
-use Rattle.std.proofs.lemmas.List.{length-replicate}
+use Rattle.std.proofs.Common.{◌≡◌, ℕ, ◌+◌, ◌<◌, ◌≤◌, false, List, [], ◌∷◌, ◌++◌, ◌^◌, length, length-append, true, refl, sym, ◌∙◌, ap, subst, arith, map, replicate}
 use Rattle.mtapi_values.specs.Attributes.{NodeSettings, AreNodeSettings}
-use Rattle.handle_pool.specs.Slots.{Slots, free_slot}
+use Rattle.handle_pool.specs.Slots.{Slot, Slots, free_slot}
 use Rattle.mtapi_values.specs.Seats.{no_marks}
-use Rattle.task_board.specs.Board.{BoardTable, IsBoard}
+use Rattle.queue_core.specs.Held.{HeldQueue}
+use Rattle.task_board.specs.Mapped.{mapped_slot}
+use Rattle.task_board.proofs.MappedLemmas.{mapped-new}
+use Rattle.task_board.specs.Board.{BoardTable, IsBoard, records_of, group_slots}
 use Rattle.node_core.specs.Keeps.{Keeps}
 use Rattle.node_core.proofs.KeepLemmas.{keeps-board}
-use Rattle.handle_pool.proofs.StandsLemmas.{Stands-new}
 use Rattle.history.specs.Histories.{entry}
 use Rattle.mtapi_machine.specs.declared.ops.Op.{Op}
 use Rattle.mtapi_machine.specs.declared.replies.Reply.{Reply}
 use Rattle.mtapi_machine.specs.declared.terms.Terms.{Terms}
 use Rattle.mtapi_machine.specs.declared.terms.Phase.TheVariants.{New}
-use Rattle.mtapi_machine.specs.State.{State}
+use Rattle.mtapi_machine.specs.State.{State, opening}
+use Rattle.mtapi_machine.specs.Laws.{start_numbers}
+use Rattle.mtapi_machine.proofs.Served.{served, after_served}
+use Rattle.mtapi_machine.proofs.StartOrder.{after_numbered, rises-front}
+use Rattle.node_core.specs.Sound.{Sound}
 use Rattle.mtapi_machine.specs.Legal.{NodeEntry, IsNext, next, LegalFrom, Legal, after_from, after}
 use Rattle.mtapi_machine.proofs.Lists.{Legal-append, Legal-one, after-one}
+use Rattle.node_resources.specs.Holds.{ResourceTable, HoldsAll}
 use Rattle.node_core.specs.declared.node.Node.{Node}
 use Rattle.node_core.specs.Supported.{is_supported}
 use Rattle.node_core.proofs.SupportedLemmas.{supported_none, supported_more}
 use Rattle.node_core.specs.Stands.{Lists, Holds, Pools, Live, Steps, Stands, state_of, terms_of, seat_count}
 
--- a new pool holds the empty list
-pub holds_new : {T : Type 0} (size turns : ℕ) (p : Slots T) → 1 ≤ turns → size ≤ 65536 → p.generations ≡ turns → p.slots ≡ replicate size (free_slot 1) → Holds size turns p []
-holds_new size turns p once few g s = record {
-  stands = Stands-new p size (subst (λ (k : ℕ). 1 ≤ k) (sym g) once) few s;
-  max = ap length s ∙ length-replicate size (free_slot 1);
-  generations = g;
-}
+-- new queues have no records
+pub records_new : (p : Slots HeldQueue) (size : ℕ) → p.slots ≡ replicate size (free_slot 1) → (records_of p).slots ≡ replicate size (free_slot 1)
+records_new p size e = ap (λ (l : List (Slot HeldQueue)). map (mapped_slot (λ (x : HeldQueue). x.queue)) l) e ∙ mapped-new (λ (x : HeldQueue). x.queue) size
 
--- a node as it is made
-abbrev made : ℕ → BoardTable → Node
-made callers b = record { core = record { callers = callers; phase = New; released = false; stopped = no_marks }; board = b }
+-- a node as it is made, and no objects
+abbrev made : ℕ → BoardTable → ResourceTable → Node
+made callers b r = record { core = record { callers = callers; phase = New; released = false; stopped = no_marks }; board = b; resources = r }
 
-pub new_node : (attr : NodeSettings) (callers : ℕ) (b : BoardTable) → AreNodeSettings attr → 1 ≤ callers → callers ≤ 9 → b.settings ≡ attr → Holds attr.actions attr.generations b.actions [] → Holds attr.tasks attr.generations b.tasks.pool [] → b.tasks.starts ≡ 0 → b.tasks.ends ≡ 0 → IsBoard b → Stands (made callers b) []
+abbrev none : Lists
+none = record { actions = []; tasks = []; groups = []; queues = []; resources = record { mutexes = []; sems = []; rwls = []; segments = [] } }
+
+pub new_node : (attr : NodeSettings) (callers : ℕ) (b : BoardTable) (r : ResourceTable) → AreNodeSettings attr → 1 ≤ callers → callers ≤ 9 → b.settings ≡ attr → Holds attr.actions attr.generations b.actions [] → Holds attr.tasks attr.generations b.tasks.pool [] → Holds attr.groups attr.generations (group_slots b) [] → Holds attr.queues attr.generations (records_of b.queues.pool) [] → HoldsAll attr r none.resources → b.tasks.starts ≡ 0 → b.tasks.ends ≡ 0 → IsBoard b → Stands (made callers b r) []
 unfolding LegalFrom after_from
-new_node attr callers b s some few is x y starts ends kept = record {
+new_node attr callers b r s some few is x y g z u starts ends kept = record {
   legal = record { fits = record { settings = subst (λ (t : NodeSettings). AreNodeSettings t) (sym is) s; some_caller = some; callers = few }; from = tt };
   supported = supported_none;
-  lists = record { actions = []; tasks = [] };
+  lists = none;
   state = same;
   live = live;
   starts = omega arith;
-  keeps = subst (λ (t : State). Keeps t b) (sym same) (keeps-board (made callers b) (record { actions = []; tasks = [] }) live kept);
+  keeps = subst (λ (t : State). Keeps t b) (sym same) (keeps-board (made callers b r) none live kept);
 }
   where
-    live : Live (made callers b) (record { actions = []; tasks = [] })
-    live = subst (λ (t : NodeSettings). Pools t b.actions b.tasks.pool (record { actions = []; tasks = [] })) (sym is) (record { actions = x; tasks = y })
+    live : Live (made callers b r) none
+    live = subst (λ (t : NodeSettings). Pools t b.actions b.tasks.pool (group_slots b) (records_of b.queues.pool) r none) (sym is) (record { actions = x; tasks = y; groups = g; queues = z; resources = u })
 
-    same : after (terms_of (made callers b)) [] ≡ state_of (made callers b) (record { actions = []; tasks = [] })
-    same i = record (state_of (made callers b) (record { actions = []; tasks = [] })) { starts = sym starts i; ends = sym ends i }
+    same : after (terms_of (made callers b r)) [] ≡ state_of (made callers b r) none
+    same i = record (state_of (made callers b r) none) { starts = sym starts i; ends = sym ends i }
 
 one_more : (L : List NodeEntry) (e : NodeEntry) → length (L ++ e ∷ []) ≡ length L + 1
 one_more L e = simp length-append refl
@@ -69,7 +74,7 @@ goes_on n m L who op r st seat may_ask s kept =
     may = subst (λ (x : State). IsNext x (entry who op r)) (sym st.state) (record { seat = seat; honest = s.1.honest; allowed = s.1.allowed })
 
     live : Live m s.0
-    live = subst (λ (t : Terms). Pools t.settings m.board.actions m.board.tasks.pool s.0) (sym s.1.terms) s.1.live
+    live = subst (λ (t : Terms). Pools t.settings m.board.actions m.board.tasks.pool (group_slots m.board) (records_of m.board.queues.pool) m.resources s.0) (sym s.1.terms) s.1.live
 
     starts : m.board.tasks.starts ≤ length (L ++ entry who op r ∷ [])
     starts = omega (arith, one_more L (entry who op r), st.starts, s.1.starts)
@@ -78,6 +83,26 @@ goes_on n m L who op r st seat may_ask s kept =
 pub few_starts : (n : Node) (L : List NodeEntry) → Stands n L → length L < 2 ^ 62 + 16 → n.board.tasks.starts < 2 ^ 63
 few_starts n L st l = omega (arith, st.starts)
 
+-- and there are few seats
+pub few_seats : (n : Node) (L : List NodeEntry) (who : ℕ) → Stands n L → who < seat_count (terms_of n) → who < 25
+few_seats n L who st seat = omega (arith, st.legal.fits.settings.workers.1, st.legal.fits.callers)
+
+-- the state of a node is one that a history leads to
+pub sound : (n : Node) (L : List NodeEntry) (st : Stands n L) → Sound (state_of n st.lists)
+sound n L st = subst Sound st.state (record {
+  served = served s (after_served (opening (terms_of n)) L tt);
+  ordered = rises-front (start_numbers s.tasks) (s.starts ∷ []) (after_numbered (opening (terms_of n)) L (tt, tt));
+})
+  where
+    s : State
+    s = after (terms_of n) L
+
 -- a step keeps the terms
-pub same_terms : (n m : Node) (who : ℕ) (op : Op) (r : Reply) (L : List NodeEntry) (st : Stands n L) → ((l : Lists) → Live n l → Steps n l who op r m) → terms_of m ≡ terms_of n
-same_terms n m who op r L st s = (s st.lists st.live).1.terms
+pub same_terms : (n m : Node) (who : ℕ) (op : Op) (r : Reply) (L : List NodeEntry) (st : Stands n L) → ((l : Lists) → Live n l → Sound (state_of n l) → Steps n l who op r m) → terms_of m ≡ terms_of n
+same_terms n m who op r L st s = (s st.lists st.live (sound n L st)).1.terms
+
+-- a step from a node whose pools stand for some lists leads to such a node, and starts one task at most
+pub stepped : (n m : Node) (c who : ℕ) (op : Op) (r : Reply) → ((l : Lists) × Live n l × (n.board.tasks.starts ≤ c)) → ((l : Lists) → Live n l → Steps n l who op r m) → (l : Lists) × Live m l × (m.board.tasks.starts ≤ c + 1)
+stepped n m c who op r x f =
+    let s = f x.0 x.1 in
+    (s.0, subst (λ (t : Terms). Pools t.settings m.board.actions m.board.tasks.pool (group_slots m.board) (records_of m.board.queues.pool) m.resources s.0) (sym s.1.terms) s.1.live, omega (arith, s.1.starts, x.2))

@@ -5,7 +5,7 @@ use Rattle.std.proofs.lemmas.Option.{slice_get_within}
 use Rattle.mtapi_values.specs.Conditions.{holds}
 use Rattle.mtapi_values.specs.declared.handles.TaskHandle.{TaskHandle}
 use Rattle.handle_pool.specs.Slots.{Slot, slot_of, used_at}
-use Rattle.handle_pool.specs.Issued.{at}
+use Rattle.handle_pool.specs.Issued.{live_object}
 use Rattle.handle_pool.proofs.LiveLemmas.{same_tests}
 use Rattle.handle_pool.proofs.WalkLemmas.{used_at-live, live-used_at}
 use Rattle.linked_places.specs.Lists.{list_at, has_handle}
@@ -13,6 +13,7 @@ use Rattle.linked_places.proofs.NextLemmas.{index-has}
 use Rattle.ready_index.specs.Marks.{mark_at, is_for_at}
 use Rattle.mtapi_objects.specs.Tasks.{Task, is_unstarted, runs_on}
 use Rattle.task_board.specs.Seen.{Seen, seen, seen_in}
+use Rattle.task_board.specs.Queued.{begins_in}
 use Rattle.task_board.specs.Board.{IsBoard, running_on}
 use Rattle.task_board.proofs.SeenLemmas.{some_same, seen-as, unstarted-seen, seen-live, takes-from, takes-to}
 use Rattle.task_board.proofs.MarkLemmas.{same-number, number-same}
@@ -56,7 +57,7 @@ module _ (n : Node) (l : Lists) (v : Live n l) (k : IsBoard n.board) where
           let t = seen-live n.board.tasks.pool s.0 s.1 s.3 in
           let used = subst (λ (q : ℕ). used_at q (slice_get n.board.tasks.pool.slots q) ≡ Some (s.0, t.0)) s.2 (used_at-live n.board.tasks.pool s.0 t.0 t.1) in
           ap (λ (o : Option (ℕ × Task)). holds (λ e. can_take (state_of n l) w e.1 && (p == e.1.priority)) o) used
-          ∙ and_true _ _ (takes_if n l w v less t.0 (takes-from n.board.actions w t.0 s.1 t.2 s.5)) (number-same p t.0.priority (sym s.4 ∙ (seen-as t.0 t.0.state s.1 t.2).priority))
+          ∙ and_true _ _ (takes_if n l w v k less s.0 t.0 t.1 (takes-from n.board.actions (begins_in n.board.queues.pool s.0) w t.0 s.1 t.2 s.5)) (number-same p t.0.priority (sym s.4 ∙ (seen-as t.0 t.0.state s.1 t.2).priority))
 
       back : holds (λ e. can_take (state_of n l) w e.1 && (p == e.1.priority)) (used_at place (slice_get n.board.tasks.pool.slots place)) ≡ true → is_for_at w p (mark_at n.board.ready.marks place) ≡ true
       back e = by_used (used_at place (slice_get n.board.tasks.pool.slots place)) refl e
@@ -68,12 +69,12 @@ module _ (n : Node) (l : Lists) (v : Live n l) (k : IsBoard n.board) where
               let small : place < 2 ^ 32 = let a = slice_get_within n.board.tasks.pool.slots place x.0 x.1 in omega (arith, v.tasks.stands.few, a) in
               let live = live-used_at n.board.tasks.pool place h t small is in
               let slot = used-slot (slice_get n.board.tasks.pool.slots place) place h t small is in
-              let s = takes-to n.board.actions w t (takeable n l w v less t (and_left _ _ f)) in
+              let s = takes-to n.board.actions (begins_in n.board.queues.pool h) w t (takeable n l w v k less h t live (and_left _ _ f)) in
               let rank : s.s.priority ≡ p = s.priority ∙ sym (same-number p t.priority (and_right _ _ f)) in
               subst (λ (q : ℕ). is_for_at w q (mark_at n.board.ready.marks place) ≡ true) rank
               (subst (λ (q : ℕ). is_for_at w s.s.priority (mark_at n.board.ready.marks q) ≡ true) slot (k.marked.whole w h s.s (ap seen live ∙ s.is) s.takes))
 
-  running_are : (w : ℕ) (t : TaskHandle) → (running_on n.board.running w ≡ Some t) ↔ ((x : Task) × (at l.tasks t.0 ≡ Some x) × (runs_on w x ≡ true))
+  running_are : (w : ℕ) (t : TaskHandle) → (running_on n.board.running w ≡ Some t) ↔ ((x : Task) × (live_object l.tasks t.0 ≡ Some x) × (runs_on w x ≡ true))
   running_are w t = (
     λ e.
         let s = k.running_are.runs w t e in
@@ -85,7 +86,7 @@ module _ (n : Node) (l : Lists) (v : Live n l) (k : IsBoard n.board) where
         k.running_are.found t.0 w s.0 (ap seen g ∙ s.1) s.2,
   )
 
-  waiting_are : (h : ℕ) → (has_handle h (list_at n.board.waiting.lists 0) ≡ true) ↔ ((x : Task) × (at l.tasks h ≡ Some x) × (is_unstarted x ≡ true))
+  waiting_are : (h : ℕ) → (has_handle h (list_at n.board.waiting.lists 0) ≡ true) ↔ ((x : Task) × (live_object l.tasks h ≡ Some x) × (is_unstarted x ≡ true))
   waiting_are h = (
     λ e.
         let s = k.waiting_are.waits h e in
@@ -97,12 +98,12 @@ module _ (n : Node) (l : Lists) (v : Live n l) (k : IsBoard n.board) where
         k.waiting_are.listed h s.0 (ap seen g ∙ s.1) s.2,
   )
 
-  in_order : (i j h k : ℕ) (x y : Task) → i < j → slice_get (list_at n.board.waiting.lists 0) i ≡ Some h → slice_get (list_at n.board.waiting.lists 0) j ≡ Some k → at l.tasks h ≡ Some x → at l.tasks k ≡ Some y → x.start < y.start
+  in_order : (i j h k : ℕ) (x y : Task) → i < j → slice_get (list_at n.board.waiting.lists 0) i ≡ Some h → slice_get (list_at n.board.waiting.lists 0) j ≡ Some k → live_object l.tasks h ≡ Some x → live_object l.tasks k ≡ Some y → x.start < y.start
   in_order i j h m x y less e f a b =
       let hs = list_at n.board.waiting.lists 0 in
       let s = k.waiting_are.waits h (index-has h i hs e) in
       let u = k.waiting_are.waits m (index-has m j hs f) in
-      let start_of = λ (g : ℕ) (z : Task) (w : Seen) (there : at l.tasks g ≡ Some z) (is : seen_in n.board.tasks.pool g ≡ Some w). (seen-as z z.state w (sym (ap seen (v.tasks.stands.found g ∙ there)) ∙ is)).start in
+      let start_of = λ (g : ℕ) (z : Task) (w : Seen) (there : live_object l.tasks g ≡ Some z) (is : seen_in n.board.tasks.pool g ≡ Some w). (seen-as z z.state w (sym (ap seen (v.tasks.stands.found g ∙ there)) ∙ is)).start in
       let first = start_of h x s.0 a s.1 in
       let last = start_of m y u.0 b u.1 in
       omega (arith, order-index (seen_in n.board.tasks.pool) hs i j h m s.0 u.0 k.waiting_are.ordered less e f s.1 u.1, first, last)

@@ -4,10 +4,12 @@ pub mod Gives
 pub mod Moves
 pub mod Changes
 pub mod PhaseSteps
+pub mod ResourceSteps
 pub mod ActionSteps
 pub mod TaskSteps
 pub mod StartSteps
 pub mod WorkSteps
+pub mod QueueLemmas
 pub mod PickSteps
 pub mod InitSteps
 pub mod KeptLemmas
@@ -15,3 +17,9 @@ pub mod LogLemmas
 pub mod TwoSeats
 mod KeepLemmas
 pub mod StopSteps
+pub mod ListedEnds
+pub mod WaitingEnds
+pub mod WithdrawSteps
+pub mod QueueSteps
+pub mod GroupLists
+pub mod GroupSteps

@@ -1,6 +1,7 @@
 -- Why a new task is refused, from what the actions of its job cover.
-use Rattle.std.proofs.Common.{◌≡◌, ◌⊎◌, inl, inr, ℕ, zero, suc, ◌<◌, Bool, true, false, not, cond, List, [], ◌∷◌, Option, Some, None, refl, sym, ◌∙◌, ap, arith}
-use Rattle.std.specs.Prelude.{◌&&◌, ◌==◌, nat_lt, is_some, is_none, ℤ}
+use Rattle.std.proofs.Common.{◌≡◌, ℕ, zero, suc, ◌<◌, Bool, true, false, not, cond, List, [], ◌∷◌, Option, Some, None, refl, sym, ◌∙◌, arith, ap}
+use Rattle.std.specs.Prelude.{◌&&◌, nat_lt, is_some, is_none, ℤ, ◌||◌, IsSome}
+use Rattle.std.specs.Option.{option_map}
 use Rattle.std.proofs.lemmas.Bool.Decides.{nat_tests}
 use Rattle.mtapi_values.specs.declared.masks.Mask.{Mask}
 use Rattle.mtapi_values.specs.declared.handles.GroupHandle.{GroupHandle}
@@ -8,15 +9,18 @@ use Rattle.mtapi_values.specs.declared.statuses.MtapiStatus.{MtapiStatus}
 use Rattle.mtapi_values.specs.declared.statuses.MtapiStatus.TheVariants as m
 use Rattle.mtapi_values.specs.Conditions.{first, holds}
 use Rattle.mtapi_values.specs.Masks.{in_mask}
-use Rattle.handle_pool.specs.Slots.{Slots}
-use Rattle.handle_pool.specs.Issued.{Listed, live_of, at, any, any_live}
+use Rattle.handle_pool.specs.Slots.{Slots, slot_value}
+use Rattle.handle_pool.specs.Issued.{Listed, live_of, live_object, any_listed, any_live}
 use Rattle.handle_pool.proofs.AnswerLemmas.{any-none, any-live}
 use Rattle.mtapi_objects.specs.Actions.{Action, has_enabled_job, is_eligible, some_below, has_worker}
 use Rattle.job_table.specs.Answers.{Covers, IsUnion, runs_job_on}
 use Rattle.job_table.specs.declared.cover.Cover.{Cover}
 use Rattle.job_table.specs.declared.cover.Cover.TheVariants.{NoAction, AllDisabled, Cores}
-use Rattle.mtapi_objects.specs.Groups.{Group}
-use Rattle.mtapi_machine.specs.TaskRows.{asked_for, start_refusals, number_of}
+use Rattle.mtapi_objects.specs.Groups.{new_group}
+use Rattle.group_core.specs.Members.{Members}
+use Rattle.task_board.specs.Members.{names_dead, MayJoin}
+use Rattle.task_board.proofs.MappedLemmas.{value-mapped}
+use Rattle.mtapi_machine.specs.TaskRows.{asked_for, start_refusals, number_of, is_detached_member}
 use Rattle.node_core.specs.declared.node.Node.{Node}
 use Rattle.node_core.specs.Stands.{Lists, Holds, Live, state_of}
 use Rattle.node_core.proofs.ActionSteps.{covers_none, covers_some, enabled_none, enabled_some}
@@ -35,25 +39,7 @@ pub and_right : (a b : Bool) → (a && b) ≡ true → b ≡ true
 and_right true b e = e
 and_right false b e = absurd (cc)
 
--- some number below a bound passes
-
-pub below_at : (n w : ℕ) (p : ℕ → Bool) → w < n → p w ≡ true → some_below n p ≡ true
-below_at zero w p l e = absurd (omega arith)
-below_at (suc n) w p l e = by_test (p n) refl (below_at n w p) (here (w == n) refl)
-  where
-    here : (b : Bool) → (w == n) ≡ b → (w < n) ⊎ (w ≡ n)
-    here true d = inr (grind (arith, nat_tests))
-    here false d = inl (grind (arith, nat_tests))
-
-    by_test : (b : Bool) → p n ≡ b → (w < n → p w ≡ true → some_below n p ≡ true) → (w < n) ⊎ (w ≡ n) → cond b true (some_below n p) ≡ true
-    by_test true d more at = refl
-    by_test false d more (inl less) = more less e
-    by_test false d more (inr same) = false≢true (sym d ∙ (ap p (sym same) ∙ e))
-
-pub below_next : (n : ℕ) (p : ℕ → Bool) → some_below n p ≡ false → p n ≡ false → some_below (suc n) p ≡ false
-below_next n p e d = (λ i. cond (d i) true (some_below n p)) ∙ e
-
-below_same : (n : ℕ) (p q : ℕ → Bool) → ((w : ℕ) → w < n → p w ≡ q w) → some_below n p ≡ some_below n q
+pub below_same : (n : ℕ) (p q : ℕ → Bool) → ((w : ℕ) → w < n → p w ≡ q w) → some_below n p ≡ some_below n q
 below_same zero p q k = refl
 below_same (suc n) p q k = λ i. cond (k n (omega arith) i) true (below_same n p q (λ w l. k w (omega arith)) i)
 
@@ -77,15 +63,15 @@ same_tests false false h k = refl
 
 module _ (size turns : ℕ) (p : Slots Action) (l : List (Listed Action)) (job : ℕ) (mask : Mask) (s : Holds size turns p l) (u : IsUnion p job mask.0) where
   has_in : (workers w cores : ℕ) → w < workers → any_live (is_eligible workers w job cores) (live_of l) ≡ (in_mask w mask.0 && in_mask w cores)
-  has_in workers w cores less = same_tests (any (is_eligible workers w job cores) l) (in_mask w mask.0 && in_mask w cores) there back
+  has_in workers w cores less = same_tests (any_listed (is_eligible workers w job cores) l) (in_mask w mask.0 && in_mask w cores) there back
     where
-      there : any (is_eligible workers w job cores) l ≡ true → (in_mask w mask.0 && in_mask w cores) ≡ true
+      there : any_listed (is_eligible workers w job cores) l ≡ true → (in_mask w mask.0 && in_mask w cores) ≡ true
       there e = by_core (in_mask w mask.0) refl (in_mask w cores) refl
         where
-          none_runs : in_mask w mask.0 ≡ false → any (is_eligible workers w job cores) l ≡ false
+          none_runs : in_mask w mask.0 ≡ false → any_listed (is_eligible workers w job cores) l ≡ false
           none_runs off = any-none p l (is_eligible workers w job cores) s.stands (λ h a g q. u.uncovered w off h a g (runs_in workers w job cores a q))
 
-          none_masked : in_mask w cores ≡ false → any (is_eligible workers w job cores) l ≡ false
+          none_masked : in_mask w cores ≡ false → any_listed (is_eligible workers w job cores) l ≡ false
           none_masked off = any-none p l (is_eligible workers w job cores) s.stands (λ h a g q. false≢true (sym off ∙ and_right (has_enabled_job job a && nat_lt w workers && in_mask w a.cores) (in_mask w cores) q))
 
           by_core : (a : Bool) → in_mask w mask.0 ≡ a → (b : Bool) → in_mask w cores ≡ b → (a && b) ≡ true
@@ -93,7 +79,7 @@ module _ (size turns : ℕ) (p : Slots Action) (l : List (Listed Action)) (job :
           by_core true x false y = false≢true (sym (none_masked y) ∙ e)
           by_core false x b y = false≢true (sym (none_runs x) ∙ e)
 
-      back : (in_mask w mask.0 && in_mask w cores) ≡ true → any (is_eligible workers w job cores) l ≡ true
+      back : (in_mask w mask.0 && in_mask w cores) ≡ true → any_listed (is_eligible workers w job cores) l ≡ true
       back e =
           let a = u.covered w (and_left _ _ e) in
           any-live p l (is_eligible workers w job cores) a.0 a.1 s.stands a.2 (eligible_in workers w job cores a.1 less (and_right (in_mask w mask.0) _ e) a.3)
@@ -102,11 +88,17 @@ module _ (size turns : ℕ) (p : Slots Action) (l : List (Listed Action)) (job :
   unfolding has_worker
   covered_worker workers cores = below_same workers _ _ (λ w less. has_in workers w cores less)
 
--- no group was made, so a group that is given isn't live
-group_is : (g : Option GroupHandle) → holds (λ h. is_none (at {T = Group} [] h)) (number_of g) ≡ is_some g
-unfolding live_of
-group_is None = refl
-group_is (Some g) = refl
+-- whether a new task names a group that isn't live
+group_live : (n : Node) (l : Lists) (h : ℕ) → Live n l → is_none (live_object l.groups h) ≡ is_none (slot_value n.board.groups.pool h)
+group_live n l h v = ap is_none (sym (v.groups.stands.found h) ∙ value-mapped (λ m. new_group) n.board.groups.pool h) ∙ by_value (slot_value n.board.groups.pool h)
+  where
+    by_value : (o : Option Members) → is_none (option_map (λ (m : Members). new_group) o) ≡ is_none o
+    by_value None = refl
+    by_value (Some m) = refl
+
+group_is : (n : Node) (l : Lists) (g : Option GroupHandle) → Live n l → holds (λ h. is_none (live_object l.groups h)) (number_of g) ≡ names_dead n.board.groups.pool (number_of g)
+group_is n l None v = refl
+group_is n l (Some g) v = group_live n l g.0 v
 
 -- the first of the four conditions that is met
 no_job : (a b c d : Bool) → a ≡ false → first ((not a, m.ErrJobInvalid) ∷ (b, m.ErrGroupInvalid) ∷ (not c, m.ErrActionDisabled) ∷ (not d, m.ErrNoCore) ∷ []) ≡ Some m.ErrJobInvalid
@@ -148,11 +140,11 @@ module _ (n : Node) (l : Lists) (job : ℕ) (args : List ℤ) (priority : ℕ) (
   pub refused_job : Covers n.board.actions job NoAction → refusals ≡ Some m.ErrJobInvalid
   refused_job c = no_job _ _ _ _ (covers_none _ _ n.board.actions l.actions job v.actions c)
 
-  pub refused_group : (c : Cover) → Covers n.board.actions job c → (c ≡ NoAction → ⊥) → is_some group ≡ true → refusals ≡ Some m.ErrGroupInvalid
-  refused_group c h k g = no_group _ _ _ _ (covers_some _ _ n.board.actions l.actions job c v.actions h k) (group_is group ∙ g)
+  pub refused_group : (c : Cover) → Covers n.board.actions job c → (c ≡ NoAction → ⊥) → names_dead n.board.groups.pool (number_of group) ≡ true → refusals ≡ Some m.ErrGroupInvalid
+  refused_group c h k g = no_group _ _ _ _ (covers_some _ _ n.board.actions l.actions job c v.actions h k) (group_is n l group v ∙ g)
 
-  pub refused_disabled : Covers n.board.actions job AllDisabled → is_some group ≡ false → refusals ≡ Some m.ErrActionDisabled
-  refused_disabled h g = none_enabled _ _ _ _ (covers_some _ _ n.board.actions l.actions job AllDisabled v.actions h apart) (group_is group ∙ g) (enabled_none _ _ n.board.actions l.actions job v.actions h)
+  pub refused_disabled : Covers n.board.actions job AllDisabled → names_dead n.board.groups.pool (number_of group) ≡ false → refusals ≡ Some m.ErrActionDisabled
+  refused_disabled h g = none_enabled _ _ _ _ (covers_some _ _ n.board.actions l.actions job AllDisabled v.actions h apart) (group_is n l group v ∙ g) (enabled_none _ _ n.board.actions l.actions job v.actions h)
     where
       apart : AllDisabled ≡ NoAction → ⊥
       apart d = cc
@@ -160,14 +152,14 @@ module _ (n : Node) (l : Lists) (job : ℕ) (args : List ℤ) (priority : ℕ) (
   covered : (mask : Mask) → Cores mask ≡ NoAction → ⊥
   covered mask d = cc
 
-  pub refused_core : (mask : Mask) → Covers n.board.actions job (Cores mask) → is_some group ≡ false → some_below workers (λ w. in_mask w mask.0 && in_mask w cores.0) ≡ false → refusals ≡ Some m.ErrNoCore
+  pub refused_core : (mask : Mask) → Covers n.board.actions job (Cores mask) → names_dead n.board.groups.pool (number_of group) ≡ false → some_below workers (λ w. in_mask w mask.0 && in_mask w cores.0) ≡ false → refusals ≡ Some m.ErrNoCore
   refused_core mask h g w =
-      no_core _ _ _ _ (covers_some _ _ n.board.actions l.actions job (Cores mask) v.actions h (covered mask)) (group_is group ∙ g) (enabled_some _ _ n.board.actions l.actions job mask v.actions h)
+      no_core _ _ _ _ (covers_some _ _ n.board.actions l.actions job (Cores mask) v.actions h (covered mask)) (group_is n l group v ∙ g) (enabled_some _ _ n.board.actions l.actions job mask v.actions h)
       (covered_worker _ _ n.board.actions l.actions job mask v.actions h.1 workers cores.0 ∙ w)
 
-  pub refused_none : (mask : Mask) → Covers n.board.actions job (Cores mask) → is_some group ≡ false → some_below workers (λ w. in_mask w mask.0 && in_mask w cores.0) ≡ true → refusals ≡ None
+  pub refused_none : (mask : Mask) → Covers n.board.actions job (Cores mask) → names_dead n.board.groups.pool (number_of group) ≡ false → some_below workers (λ w. in_mask w mask.0 && in_mask w cores.0) ≡ true → refusals ≡ None
   refused_none mask h g w =
-      not_refused _ _ _ _ (covers_some _ _ n.board.actions l.actions job (Cores mask) v.actions h (covered mask)) (group_is group ∙ g) (enabled_some _ _ n.board.actions l.actions job mask v.actions h)
+      not_refused _ _ _ _ (covers_some _ _ n.board.actions l.actions job (Cores mask) v.actions h (covered mask)) (group_is n l group v ∙ g) (enabled_some _ _ n.board.actions l.actions job mask v.actions h)
       (covered_worker _ _ n.board.actions l.actions job mask v.actions h.1 workers cores.0 ∙ w)
 
 pub disabled_not_none : AllDisabled ≡ NoAction → ⊥
@@ -175,3 +167,17 @@ disabled_not_none d = cc
 
 pub cores_not_none : (mask : Mask) → Cores mask ≡ NoAction → ⊥
 cores_not_none mask d = cc
+
+-- a task that isn't refused may name its group
+pub may_join : (n : Node) (priority : Bool) (detached : Bool) (group : Option GroupHandle) → (priority || is_detached_member detached group) ≡ false → names_dead n.board.groups.pool (number_of group) ≡ false → MayJoin n.board.groups.pool detached (number_of group)
+may_join n p detached None w d = tt
+may_join n p detached (Some g) w d = (some-of (slot_value n.board.groups.pool g.0) d, by_detached p detached w)
+  where
+    some-of : {A : Type 0} (o : Option A) → is_none o ≡ false → IsSome o
+    some-of None e = false≢true (sym e)
+    some-of (Some x) e = refl
+
+    by_detached : (a b : Bool) → (a || (b && true)) ≡ false → b ≡ false
+    by_detached a false e = refl
+    by_detached true true e = e
+    by_detached false true e = e

@@ -1,4 +1,4 @@
--- Entries by ops that a node carries out, and lists of them.
+-- Entries by ops that a node executes, and lists of them.
 use Rattle.std.proofs.Common.{◌≡◌, true, false, cond, Bool, List, [], ◌∷◌, ◌++◌}
 use Rattle.mtapi_machine.specs.State.{State}
 use Rattle.mtapi_machine.specs.Legal.{NodeEntry, next}

@@ -4,3 +4,4 @@ pub mod Picks
 pub mod Supported
 pub mod Journals
 pub mod Logs
+pub mod Sound

@@ -91,7 +91,7 @@ pub record HasTerms (t : Terms) (j : Journal) : Type 0 where
   pub settings : j.settings ≡ t.settings
   pub callers : j.callers ≡ t.callers
 
--- the journal of a list: the node's terms, and the kept entries with their numbers, which are legal, by ops that a node carries out, and lead to the same state
+-- the journal of a list: the node's terms, and the kept entries with their numbers, which are legal, by ops that a node executes, and lead to the same state
 pub record KeptAs (t : Terms) (j : Journal) (L : List NodeEntry) : Type 0 where
   pub layout : j.layout ≡ t.layout
   pub settings : j.settings ≡ t.settings

@@ -1,4 +1,4 @@
--- The ops that a node carries out so far.
+-- The ops that a node executes so far.
 use Rattle.std.specs.Prelude.{◌≡◌, Bool, true, false, not, List, [], ◌∷◌, ◌++◌}
 use Rattle.mtapi_values.specs.declared.kinds.Kind.{Kind}
 use Rattle.mtapi_values.specs.declared.kinds.Kind.TheVariants.{Tally}
@@ -6,13 +6,14 @@ use Rattle.mtapi_machine.specs.declared.terms.Terms.{Terms}
 use Rattle.mtapi_machine.specs.Legal.{NodeEntry, Legal}
 use Rattle.mtapi_machine.proofs.Lists.{Legal-prefix}
 use Rattle.mtapi_machine.specs.declared.ops.Op.{Op}
-use Rattle.mtapi_machine.specs.declared.ops.Op.TheVariants.{Initialize, Release, Enter, Close, Final, JobGet, ActionCreate, ActionEnable, TaskStart, TaskLook, TaskCancel, Pick, Finish, Asked, WatchEnd}
+use Rattle.node_resources.specs.Steps.{is_resource_op}
+use Rattle.mtapi_machine.specs.declared.ops.Op.TheVariants.{Initialize, Release, Enter, Close, Final, JobGet, ActionCreate, ActionEnable, TaskStart, TaskLook, TaskCancel, Pick, Finish, Asked, WatchEnd, TaskEnqueue, QueueCreate, QueueGet, QueueEnable, GroupCreate, GroupDelete, AllLook, AnyLook, ActionDelete, ActionDisable, QueueDisable, QueueDelete}
 
 abbrev pub is_tally : Kind → Bool
 is_tally Tally = true
 is_tally _ = false
 
--- a node carries the op out: it makes no tallies
+-- a node executes the op: every op but those of tallies
 abbrev pub is_supported : Op → Bool
 is_supported Initialize = true
 is_supported Release = true
@@ -21,15 +22,27 @@ is_supported Close = true
 is_supported Final = true
 is_supported (JobGet job) = true
 is_supported (ActionCreate job kind cores) = not (is_tally kind)
+is_supported (ActionDelete action) = true
+is_supported (ActionDisable action) = true
 is_supported (ActionEnable action) = true
 is_supported (TaskStart job args priority cores detached group) = true
+is_supported (TaskEnqueue queue args cores detached group) = true
 is_supported (TaskLook task last) = true
 is_supported (TaskCancel task) = true
+is_supported GroupCreate = true
+is_supported (GroupDelete group) = true
+is_supported (AllLook group last) = true
+is_supported (AnyLook group last) = true
+is_supported (QueueCreate id job priority limit ordered retain) = true
+is_supported (QueueGet id) = true
+is_supported (QueueEnable queue) = true
+is_supported (QueueDisable queue) = true
+is_supported (QueueDelete queue) = true
 is_supported Pick = true
 is_supported (Finish task done) = true
 is_supported (Asked task) = true
 is_supported (WatchEnd task) = true
-is_supported _ = false
+is_supported op = is_resource_op op
 
 -- each of these entries is by such an op
 unfoldable pub AllSupported : List NodeEntry → Type 0

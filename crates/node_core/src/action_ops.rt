@@ -1,10 +1,11 @@
 //! The ops on actions.
 
 ghost use Rattle.std.specs.Prelude.{◌≡◌, ℕ};
-ghost use Rattle.handle_pool.specs.Issued.{any};
+ghost use Rattle.handle_pool.specs.Issued.{any_listed};
 ghost use Rattle.mtapi_objects.specs.Actions.{has_job};
 ghost use Rattle.mtapi_machine.specs.declared.ops.Op.TheVariants as op;
-ghost use Rattle.node_core.specs.Stands.{Lists, Live, Steps};
+ghost use Rattle.node_core.specs.Stands.{Lists, Live, Steps, state_of};
+ghost use Rattle.node_core.specs.Sound.{Sound};
 
 use crate::node::Node;
 use crate::phase_ops::{is_open, is_up};
@@ -14,8 +15,8 @@ use mtapi_values::{ActionHandle, Kind, Mask, MtapiStatus};
 
 impl Node {
     // Whether some live action has the job.
-    fn has_job(&self, job: u32) -> bool
-        ensures { (l : Lists) → Live self.now l → any (has_job job) l.actions ≡ result }
+    pub(crate) fn has_job(&self, job: u32) -> bool
+        ensures { (l : Lists) → Live self.now l → any_listed (has_job job) l.actions ≡ result }
     {
         match self.board.cover(job) {
             Cover::NoAction => false,
@@ -55,6 +56,38 @@ impl Node {
         }
         match self.board.enable_action(action) {
             Ok(_) => Reply::Ok,
+            Err(status) => Reply::Mtapi(status),
+        }
+    }
+
+    // The action goes on, and the tasks that no worker can take any more fail.
+    pub(crate) fn action_disable(&mut self, action: ActionHandle) -> Reply
+        ensures { (l : Lists) (who : ℕ) → Live self.old l → Sound (state_of self.old l) → Steps self.old l who (op.ActionDisable action) result self.new }
+    {
+        if !is_open(self.core.phase) {
+            return Reply::Mtapi(MtapiStatus::ErrNodeNotinit);
+        }
+        match self.board.disable_action(action) {
+            Ok(job) => {
+                self.board.end_unserved(job, MtapiStatus::ErrActionDisabled);
+                Reply::Ok
+            }
+            Err(status) => Reply::Mtapi(status),
+        }
+    }
+
+    // The action is given up, and the tasks that no worker can take any more fail.
+    pub(crate) fn action_delete(&mut self, action: ActionHandle) -> Reply
+        ensures { (l : Lists) (who : ℕ) → Live self.old l → Sound (state_of self.old l) → Steps self.old l who (op.ActionDelete action) result self.new }
+    {
+        if !is_open(self.core.phase) {
+            return Reply::Mtapi(MtapiStatus::ErrNodeNotinit);
+        }
+        match self.board.delete_action(action) {
+            Ok(job) => {
+                self.board.end_unserved(job, MtapiStatus::ErrActionDeleted);
+                Reply::Ok
+            }
             Err(status) => Reply::Mtapi(status),
         }
     }

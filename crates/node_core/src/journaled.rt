@@ -214,7 +214,7 @@ impl Journaled {
         }
     }
 
-    /// The kept journal: none where none is kept, and an error where it was lost for want of memory.
+    /// The kept journal: none where none is kept, and an error where it was lost for lack of memory.
     pub fn into_journal(self) -> Result<Option<Journal>, AllocError>
         ensures none { (result ≡ Ok None) ↔ ((journal_terms self).keeps ≡ false) }
         ensures lost { IsErr result ↔ (is_lost self ≡ true) }

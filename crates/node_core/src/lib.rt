@@ -1,10 +1,11 @@
-//! The node: one value that carries out each op as the one-thread machine says, and a node with a journal of its calls.
+//! The node: one value that executes each op as the one-thread machine says, and a node with a journal of its calls.
 //!
 //! `specs/Stands.antt` says what it means that a node stands for a history; every op is a step of the machine.
 #![tactic(auto)]
 
 mod action_ops;
 pub mod entries;
+mod group_ops;
 #[cfg(test)]
 mod journal_tests;
 pub mod journaled;
@@ -12,6 +13,8 @@ pub mod node;
 pub mod node_ops;
 mod object;
 mod phase_ops;
+mod queue_ops;
+mod resource_ops;
 pub mod run_journals;
 mod task_ops;
 #[cfg(test)]

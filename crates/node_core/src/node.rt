@@ -3,11 +3,13 @@
 ghost use Rattle.std.specs.Prelude.{◌≡◌, ◌^◌, ◌<◌, ◌≤◌, [], IfOk};
 ghost use Rattle.mtapi_values.specs.Attributes.{AreNodeSettings};
 ghost use Rattle.mtapi_values.specs.declared.handles.Layout.TheVariants.{One};
-ghost use Rattle.node_core.specs.Stands.{Lists, Live, Steps, Stands, terms_of};
+ghost use Rattle.node_core.specs.Stands.{Lists, Live, Steps, Stands, state_of, terms_of};
+ghost use Rattle.node_core.specs.Sound.{Sound};
 
 use crate::node_ops::NodeOp;
 use mtapi_machine::{Op, Phase, Reply};
 use mtapi_values::NodeAttr;
+use node_resources::Resources;
 use std::alloc::{AllocError, Global};
 use task_board::Board;
 
@@ -23,11 +25,12 @@ pub(crate) struct Core {
     pub(crate) stopped: [bool; 25],
 }
 
-/// A node: it carries out each op as the machine of one thread says.
+/// A node: it executes each op as the machine of one thread says.
 #[derive(Drop)]
 pub struct Node {
     pub(crate) core: Core,
     pub(crate) board: Board,
+    pub(crate) resources: Resources,
 }
 
 // What the readers of the settings promise: each is in its range.
@@ -54,6 +57,7 @@ impl Node {
     {
         read_ranges(&attr);
         let board = Board::new(alloc, attr)?;
+        let resources = Resources::init(alloc, attr)?;
         board.is_kept();
         Ok(Node {
             core: Core {
@@ -63,6 +67,7 @@ impl Node {
                 stopped: [false; 25],
             },
             board,
+            resources,
         })
     }
 
@@ -75,8 +80,9 @@ impl Node {
 
     // One op, by its own method.
     pub(crate) fn dispatch(&mut self, who: u32, op: NodeOp) -> Reply
-        requires { self.old.board.tasks.starts < 2 ^ 63 }
-        ensures { (l : Lists) → Live self.old l → Steps self.old l who op result self.new }
+        requires few_starts { self.old.board.tasks.starts < 2 ^ 63 }
+        requires seat { who < 25 }
+        ensures { (l : Lists) → Live self.old l → Sound (state_of self.old l) → Steps self.old l who op result self.new }
     {
         match op.into_op() {
             Op::Initialize => self.initialize(),
@@ -86,6 +92,8 @@ impl Node {
             Op::Final => self.finalize(),
             Op::JobGet { job } => self.job_get(job),
             Op::ActionCreate { job, kind, cores } => self.action_create(job, kind, cores),
+            Op::ActionDelete { action } => self.action_delete(action),
+            Op::ActionDisable { action } => self.action_disable(action),
             Op::ActionEnable { action } => self.action_enable(action),
             Op::TaskStart {
                 job,
@@ -95,14 +103,36 @@ impl Node {
                 detached,
                 group,
             } => self.task_start(job, args, priority, cores, detached, group),
+            Op::TaskEnqueue {
+                queue,
+                args,
+                cores,
+                detached,
+                group,
+            } => self.task_enqueue(queue, args, cores, detached, group),
             Op::TaskLook { task, last } => self.task_look(who, task, last),
             Op::TaskCancel { task } => self.task_cancel(task),
+            Op::GroupCreate => self.group_create(),
+            Op::GroupDelete { group } => self.group_delete(group),
+            Op::AllLook { group, last } => self.all_look(group, last),
+            Op::AnyLook { group, last } => self.any_look(group, last),
+            Op::QueueCreate {
+                id,
+                job,
+                priority,
+                limit,
+                ordered,
+                retain,
+            } => self.queue_create(id, job, priority, limit, ordered, retain),
+            Op::QueueGet { id } => self.queue_get(id),
+            Op::QueueEnable { queue } => self.queue_enable(queue),
+            Op::QueueDisable { queue } => self.queue_disable(queue),
+            Op::QueueDelete { queue } => self.queue_delete(queue),
             Op::Pick => self.pick(who),
             Op::Finish { task, done } => self.finish(who, task, done),
             Op::Asked { task } => self.asked(who, task),
             Op::WatchEnd { task } => self.watch_end(who, task),
-            // No `NodeOp` is another op.
-            _ => unreachable!(),
+            op => self.resource_op(who, op),
         }
     }
 }

@@ -1,4 +1,4 @@
-//! The ops that a node carries out so far.
+//! The ops that a node executes so far.
 
 ghost use Rattle.std.specs.Prelude.{◌≡◌, true};
 ghost use Rattle.node_core.specs.Supported.{is_supported};
@@ -6,10 +6,9 @@ ghost use Rattle.node_core.specs.Supported.{is_supported};
 use mtapi_machine::Op;
 use std::marker::Model;
 
-/// An op that a node carries out. Contracts see it as that op.
+/// An op that a node executes. Contracts see it as that op.
 ///
-/// A node has no groups, queues, mutexes, semaphores, reader-writer locks, segments and tallies yet, and gives up no action: the ops
-/// on these are none of its ops.
+/// A node has no tallies yet: the ops on these, and an action of that kind, are none of its ops.
 #[derive(Drop)]
 pub struct NodeOp {
     op: Op,
@@ -28,7 +27,7 @@ impl Model for NodeOp {
 }
 
 impl NodeOp {
-    /// This op, which has to be one that a node carries out.
+    /// This op, which has to be one that a node executes.
     pub fn new(op: Op) -> NodeOp
         requires supported { is_supported op ≡ true }
         ensures { result ≡ op }

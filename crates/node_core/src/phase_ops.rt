@@ -2,9 +2,10 @@
 
 ghost use Rattle.std.specs.Prelude.{◌≡◌, ℕ};
 ghost use Rattle.mtapi_values.specs.Seats.{all_marked};
-ghost use Rattle.mtapi_machine.specs.State.{is_new, is_open, is_up, is_late};
+ghost use Rattle.mtapi_machine.specs.State.{is_new, is_open, is_up, is_past_open};
 ghost use Rattle.mtapi_machine.specs.declared.ops.Op.TheVariants as op;
-ghost use Rattle.node_core.specs.Stands.{Lists, Live, Steps};
+ghost use Rattle.node_core.specs.Stands.{Lists, Live, Steps, state_of};
+ghost use Rattle.node_core.specs.Sound.{Sound};
 
 use crate::node::Node;
 use mtapi_machine::{Phase, Reply};
@@ -30,8 +31,8 @@ pub(crate) fn is_up(phase: Phase) -> bool
 }
 
 // The phase is Closing or Closed.
-pub(crate) fn is_late(phase: Phase) -> bool
-    ensures { result ≡ is_late phase }
+pub(crate) fn is_past_open(phase: Phase) -> bool
+    ensures { result ≡ is_past_open phase }
 {
     matches!(phase, Phase::Closing | Phase::Closed)
 }
@@ -77,7 +78,7 @@ impl Node {
     pub(crate) fn enter(&self) -> Reply
         ensures { (l : Lists) (who : ℕ) → Live self.now l → Steps self.now l who op.Enter result self.now }
     {
-        if is_late(self.core.phase) {
+        if is_past_open(self.core.phase) {
             return Reply::Mtapi(MtapiStatus::ErrNodeNotinit);
         }
         if !self.core.released {
@@ -86,14 +87,15 @@ impl Node {
         Reply::Ok
     }
 
-    // No task has a queue yet, so none is in a disabled one.
+    // The tasks of disabled queues that haven't begun are cancelled.
     pub(crate) fn close(&mut self) -> Reply
-        ensures { (l : Lists) (who : ℕ) → Live self.old l → Steps self.old l who op.Close result self.new }
+        ensures { (l : Lists) (who : ℕ) → Live self.old l → Sound (state_of self.old l) → Steps self.old l who op.Close result self.new }
     {
-        if is_late(self.core.phase) {
+        if is_past_open(self.core.phase) {
             return Reply::Mtapi(MtapiStatus::ErrNodeNotinit);
         }
         self.core.phase = Phase::Closing;
+        self.board.end_shut();
         Reply::Ok
     }
 
@@ -104,7 +106,7 @@ impl Node {
             return Reply::Mtapi(MtapiStatus::ErrNodeNotinit);
         }
         let workers = self.board.workers();
-        if !is_late(self.core.phase) || !all_marked(workers, &self.core.stopped) {
+        if !is_past_open(self.core.phase) || !all_marked(workers, &self.core.stopped) {
             return Reply::Mtapi(MtapiStatus::ErrNodeInitialized);
         }
         self.core.phase = Phase::Closed;

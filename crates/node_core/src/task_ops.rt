@@ -1,41 +1,21 @@
 //! The ops on tasks.
 
-ghost use Rattle.std.specs.Prelude.{◌≡◌, ◌≤◌, ◌<◌, ◌^◌, ℕ, ℤ, Bool, List, not, nat_lt, ◌&&◌, ◌||◌};
+ghost use Rattle.std.specs.Prelude.{◌≡◌, ◌<◌, ◌^◌, ℕ, ℤ, Bool, List, not, nat_lt, ◌||◌, IfNone, false, ◌≤◌, ◌&&◌};
 ghost use Rattle.mtapi_values.specs.Conditions.{first};
+ghost use Rattle.mtapi_machine.specs.TaskRows.{asked_for, start_refusals, is_detached_member, number_of};
 ghost use Rattle.mtapi_values.specs.Masks.{in_mask};
 ghost use Rattle.mtapi_objects.specs.Actions.{some_below};
-ghost use Rattle.mtapi_machine.specs.TaskRows.{asked_for, start_refusals, is_detached_member};
+ghost use Rattle.task_board.specs.Members.{names_dead};
 ghost use Rattle.mtapi_machine.specs.declared.ops.Op.TheVariants as op;
 ghost use Rattle.node_core.specs.Stands.{Lists, Live, Steps, state_of};
 
 use crate::node::Node;
 use crate::phase_ops::{is_open, is_up};
-use crate::walks::has_core;
 use job_table::Cover;
 use mtapi_machine::Reply;
 use mtapi_values::{Args, GroupHandle, Mask, MtapiStatus, TaskEnd, TaskHandle};
+use task_board::share_core;
 use task_core::{NewTask, TaskLook, TaskState};
-
-// Whether the core is in both masks.
-fn has_both(a: Mask, b: Mask, core: u32) -> bool
-    requires { core < 64 }
-    ensures { result ≡ (in_mask core a.0 && in_mask core b.0) }
-{
-    has_core(a, core) && has_core(b, core)
-}
-
-// Whether some core below this number is in both masks.
-fn share_core(cores: u32, a: Mask, b: Mask) -> bool
-    requires { cores ≤ 64 }
-    ensures { some_below cores (λ w. in_mask w a.0 && in_mask w b.0) ≡ result }
-{
-    for core in 0..cores {
-        if has_both(a, b, core) {
-            return true;
-        }
-    }
-    false
-}
 
 impl Node {
     // Whether the priority isn't one of the node's, or the task is detached and in a group.
@@ -45,25 +25,36 @@ impl Node {
         priority >= self.board.priorities() || (detached && group.is_some())
     }
 
+    // Whether a group is named that isn't live.
+    fn names_dead(&self, group: Option<GroupHandle>) -> bool
+        ensures { result ≡ names_dead self.now.board.groups.pool (number_of group) }
+    {
+        match group {
+            Some(group) => self.board.left(group).is_none(),
+            None => false,
+        }
+    }
+
     // Why a new task is refused, but for its priority and for want of room.
-    fn start_refusal(
+    pub(crate) fn start_refusal(
         &self,
         job: u32,
         cores: Mask,
         group: Option<GroupHandle>,
     ) -> Option<MtapiStatus>
-        ensures { (l : Lists) (args : List ℤ) (priority : ℕ) (detached : Bool) → Live self.now l → first (start_refusals (state_of self.now l) (asked_for job args priority cores detached group)) ≡ result }
+        ensures first { (l : Lists) (args : List ℤ) (priority : ℕ) (detached : Bool) → Live self.now l → first (start_refusals (state_of self.now l) (asked_for job args priority cores detached group)) ≡ result }
+        ensures group { IfNone result (names_dead self.now.board.groups.pool (number_of group) ≡ false) }
     {
+        let dead = self.names_dead(group);
         match self.board.cover(job) {
             Cover::NoAction => Some(MtapiStatus::ErrJobInvalid),
-            // No group was made yet, so none is live.
-            Cover::AllDisabled => Some(if group.is_some() {
+            Cover::AllDisabled => Some(if dead {
                 MtapiStatus::ErrGroupInvalid
             } else {
                 MtapiStatus::ErrActionDisabled
             }),
             Cover::Cores(mask) => {
-                if group.is_some() {
+                if dead {
                     Some(MtapiStatus::ErrGroupInvalid)
                 } else if share_core(self.board.workers(), mask, cores) {
                     None

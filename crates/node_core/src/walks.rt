@@ -1,14 +1,13 @@
 //! What the node asks of one task.
 
-ghost use Rattle.std.specs.Prelude.{◌≡◌, ◌<◌, ◌&&◌};
+ghost use Rattle.std.specs.Prelude.{◌≡◌, ◌&&◌};
 ghost use Rattle.std.specs.Ordering.{int_eq};
 ghost use Rattle.std.specs.Cmp.Lexicographic.{pointwise};
 ghost use Rattle.mtapi_objects.specs.Tasks.{kind_number, runs_as};
-ghost use Rattle.mtapi_values.specs.Masks.{in_mask};
 ghost use Rattle.mtapi_values.specs.Seats.{is_seat};
 
 use action_fn::Finished;
-use mtapi_values::{Kind, Mask};
+use mtapi_values::Kind;
 use task_core::{TaskRecord, TaskState};
 
 fn kind_number(kind: Kind) -> u32
@@ -36,14 +35,6 @@ pub(crate) fn is_seat(who: u32, seat: Option<u32>) -> bool
         None => false,
         Some(other) => other == who,
     }
-}
-
-// Whether the core is in the mask.
-pub(crate) fn has_core(mask: Mask, core: u32) -> bool
-    requires { core < 64 }
-    ensures { result ≡ in_mask core mask.0 }
-{
-    mask.0 >> core & 1 == 1
 }
 
 // Whether the task runs on the worker, with this kind.

@@ -2,8 +2,9 @@
 
 ghost use Rattle.std.specs.Prelude.{◌≡◌, ◌<◌, ℕ};
 ghost use Rattle.std.specs.Bool.{OnFalse};
-ghost use Rattle.handle_pool.specs.Slots.{get, NoneLive};
-ghost use Rattle.handle_pool.specs.Issued.{any};
+ghost use Rattle.handle_pool.specs.Slots.{slot_value};
+ghost use Rattle.handle_pool.specs.Walks.{NoneLive};
+ghost use Rattle.handle_pool.specs.Issued.{any_listed};
 ghost use Rattle.job_table.specs.Answers.{Passes};
 ghost use Rattle.mtapi_objects.specs.Tasks.{runs_on};
 ghost use Rattle.mtapi_machine.specs.WorkRows.{task_end};
@@ -14,7 +15,7 @@ ghost use Rattle.node_core.specs.Picks.{Takes};
 ghost use Rattle.task_board.specs.Picks.{IsChoice};
 
 use crate::node::Node;
-use crate::phase_ops::{is_late, is_new};
+use crate::phase_ops::{is_new, is_past_open};
 use crate::walks::runs_so;
 use action_fn::{ActEnd, Finished};
 use mtapi_machine::Reply;
@@ -35,8 +36,8 @@ impl Node {
     // Whether a live task runs on the worker.
     fn runs_any(&self, worker: u32) -> bool
         requires { worker < self.now.board.settings.workers }
-        ensures told { (l : Lists) → Live self.now l → any (runs_on worker) l.tasks ≡ result }
-        ensures none { OnFalse result (NoneLive (get self.now.board.tasks.pool) (Passes (runs_on worker))) }
+        ensures reported { (l : Lists) → Live self.now l → any_listed (runs_on worker) l.tasks ≡ result }
+        ensures none { OnFalse result (NoneLive (slot_value self.now.board.tasks.pool) (Passes (runs_on worker))) }
     {
         self.board.is_running(worker)
     }
@@ -45,7 +46,7 @@ impl Node {
     fn stops(&self) -> bool
         ensures { (l : Lists) → Live self.now l → is_stop (state_of self.now l) ≡ result }
     {
-        is_late(self.core.phase) && self.board.unended() == 0
+        is_past_open(self.core.phase) && self.board.unended() == 0
     }
 
     pub(crate) fn pick(&mut self, who: u32) -> Reply
@@ -61,6 +62,7 @@ impl Node {
             self.core.stopped[who as usize] = true;
             return Reply::Stop;
         }
+        self.board.is_kept();
         match self.board.best(who) {
             None => Reply::Idle,
             Some(choice) => self.take(who, choice),
@@ -70,8 +72,8 @@ impl Node {
     // The worker takes what was chosen.
     fn take(&mut self, who: u32, choice: Choice) -> Reply
         requires worker { who < self.old.board.settings.workers }
-        requires free { NoneLive (get self.old.board.tasks.pool) (Passes (runs_on who)) }
-        requires choice { IsChoice self.old.board.actions self.old.board.tasks.pool who choice }
+        requires free { NoneLive (slot_value self.old.board.tasks.pool) (Passes (runs_on who)) }
+        requires choice { IsChoice self.old.board.actions self.old.board.tasks.pool self.old.board.queues.pool who choice }
         ensures { Takes self.old who choice result self.new }
     {
         let args = self.board.take(who, choice);

@@ -1,4 +1,3 @@
-pub mod HandleLemmas
 pub mod HoldsLemmas
 pub mod RowLemmas
 pub mod KindSteps

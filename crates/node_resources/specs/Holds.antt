@@ -1,7 +1,6 @@
--- What it means that resources, each kind in its pool, stand for the lists of a state of the machine.
-use Rattle.std.specs.Prelude.{◌≡◌, ℕ, ◌≤◌, List, [], ◌∷◌, Option, Some, None}
-use Rattle.mtapi_values.specs.declared.handles.ObjectKind.{ObjectKind}
-use Rattle.mtapi_values.specs.Layouts.{inner}
+-- What it means that pools stand for lists of the machine, one pool and the four of the resources.
+use Rattle.std.specs.Prelude.{◌≡◌, ℕ, ◌≤◌, List}
+use Rattle.mtapi_values.specs.Attributes.{NodeSettings}
 use Rattle.handle_pool.specs.Slots.{Slots, max_of}
 use Rattle.handle_pool.specs.Issued.{Listed}
 use Rattle.handle_pool.specs.Stands.{Stands as SlotsStand}
@@ -10,32 +9,16 @@ use Rattle.mtapi_objects.specs.Sems.{Sem}
 use Rattle.mtapi_objects.specs.Rwls.{Rwl}
 use Rattle.mtapi_objects.specs.Segments.{Segment}
 use Rattle.mtapi_machine.specs.State.{State, Objects, mutexes, sems, rwls, segments}
-use Rattle.handle_pool.specs.Inside.{inside}
 
--- 0, which no pool issues, where there is none
-abbrev pub or_zero : Option ℕ → ℕ
-or_zero None = 0
-or_zero (Some h) = h
-
--- a handle as callers see it, as the pool of this kind has it; 0 where it names another kind
-abbrev pub inward : ObjectKind → ℕ → ℕ
-inward k h = or_zero (inner k h)
-
--- each handle of the list names the kind
-abbrev pub AreNamed : {M : Type 0} → ObjectKind → List (Listed M) → Type 0
-AreNamed k [] = Unit {0}
-AreNamed k (r ∷ rs) = (1 ≤ inward k r.handle) × AreNamed k rs
-
--- the slots of a pool stand for this list, seen from inside; they are so many, and each is used so often
-pub record Holds {M T : Type 0} (kind : ObjectKind) (shown : ℕ → M → T) (size turns : ℕ) (p : Slots T) (l : List (Listed M)) : Type 0 where
-  pub stands : SlotsStand p (inside (inward kind) shown l)
-  pub named : AreNamed kind l
+-- the slots of a pool stand for this list, and are as many and used as often as the settings say
+pub record Holds {T : Type 0} (size turns : ℕ) (p : Slots T) (l : List (Listed T)) : Type 0 where
+  pub stands : SlotsStand p l
   pub max : max_of p ≡ size
   pub generations : p.generations ≡ turns
 
--- the pool of a kind of which it keeps all fields stands for this list, with the settings of this state
-abbrev pub HoldsList : {T : Type 0} → Objects T → State → Slots T → List (Listed T) → Type 0
-HoldsList o s p l = Holds o.kind (λ h x. x) (o.max s.terms.settings) s.terms.settings.generations p l
+-- the same for the pool of a kind, with the settings of a node
+abbrev pub HoldsList : {T : Type 0} → Objects T → NodeSettings → Slots T → List (Listed T) → Type 0
+HoldsList o settings p l = Holds (o.max settings) settings.generations p l
 
 -- the four kinds of resources, each as the slots of its pool
 pub record ResourceTable : Type 0 where
@@ -44,12 +27,27 @@ pub record ResourceTable : Type 0 where
   pub rwls : Slots Rwl
   pub segments : Slots Segment
 
--- they stand for the four lists of the state
-pub record Stands (s : State) (r : ResourceTable) : Type 0 where
-  pub mutexes : HoldsList mutexes s r.mutexes s.mutexes
-  pub sems : HoldsList sems s r.sems s.sems
-  pub rwls : HoldsList rwls s r.rwls s.rwls
-  pub segments : HoldsList segments s r.segments s.segments
+-- the objects of these kinds that were ever made
+pub record ResourceLists : Type 0 where
+  pub mutexes : List (Listed Mutex)
+  pub sems : List (Listed Sem)
+  pub rwls : List (Listed Rwl)
+  pub segments : List (Listed Segment)
+
+-- each pool stands for the list of its kind
+pub record HoldsAll (settings : NodeSettings) (r : ResourceTable) (l : ResourceLists) : Type 0 where
+  pub mutexes : HoldsList mutexes settings r.mutexes l.mutexes
+  pub sems : HoldsList sems settings r.sems l.sems
+  pub rwls : HoldsList rwls settings r.rwls l.rwls
+  pub segments : HoldsList segments settings r.segments l.segments
+
+-- the four lists of a state
+abbrev pub resource_lists : State → ResourceLists
+resource_lists s = record { mutexes = s.mutexes; sems = s.sems; rwls = s.rwls; segments = s.segments }
+
+-- the pools stand for the four lists of a state, with its settings
+abbrev pub Stands : State → ResourceTable → Type 0
+Stands s r = HoldsAll s.terms.settings r (resource_lists s)
 
 -- each pool has at most 65,536 slots
 pub record AreSmall (r : ResourceTable) : Type 0 where

@@ -8,7 +8,7 @@ ghost use Rattle.node_resources.specs.Steps.{gate_refusals};
 use mtapi_machine::Phase;
 use mtapi_values::MrapiStatus;
 
-/// What of a node settles whether an op on resources is carried out.
+/// What of a node settles whether an op on resources is executed.
 #[derive(Clone, Copy, Debug, Drop, PartialEq, Eq)]
 pub struct Gate {
     /// The phase of the node.

@@ -1,12 +1,12 @@
 //! The ops of a node on mutexes, semaphores, reader-writer locks and segments, each as its row of the machine says.
 //!
-//! Nothing here knows a node: an op is told the phase and the number of workers. Callers name the objects by handles that name their
-//! kind. These are turned at one place, `handles`, into those that the pools have, and back.
+//! Nothing here knows a node: an op is told the phase and the number of workers. Handles have layout one: they are those of the pools.
 #![tactic(auto)]
 
 mod gate;
-mod handles;
 mod mutex_ops;
+mod ops;
+mod replies;
 mod rwl_ops;
 mod sem_ops;
 mod shmem_ops;

@@ -1,23 +1,14 @@
 //! The ops on mutexes.
 
 ghost use Rattle.std.specs.Prelude.{◌≡◌};
-ghost use Rattle.mtapi_values.specs.declared.handles.ObjectKind.TheVariants as object;
 ghost use Rattle.mtapi_machine.specs.declared.ops.Op.TheVariants as op;
-ghost use Rattle.node_resources.specs.Holds.{inward};
 ghost use Rattle.node_resources.specs.Steps.{Steps};
 
 use crate::Resources;
 use crate::gate::Gate;
-use crate::handles::{done, inward, looked_key, outward};
+use crate::replies::{done, looked_key};
 use mtapi_machine::Reply;
-use mtapi_values::{MutexHandle, ObjectKind};
-
-// The caller's handle of a mutex as its pool has it.
-fn inner(mutex: MutexHandle) -> MutexHandle
-    ensures { result.0 ≡ inward object.Mutex mutex.0 }
-{
-    MutexHandle(inward(ObjectKind::Mutex, mutex.0))
-}
+use mtapi_values::MutexHandle;
 
 impl Resources {
     /// Makes a mutex that nobody owns: the handle, MUTEX_EXISTS where a live one has the id, and MUTEX_LIMIT where there is no room.
@@ -28,7 +19,7 @@ impl Resources {
             return Reply::Mrapi(status);
         }
         match self.mutexes.create(id, recursive) {
-            Ok(mutex) => outward(ObjectKind::Mutex, mutex.0),
+            Ok(mutex) => Reply::Handle(mutex.0),
             Err(status) => Reply::Mrapi(status),
         }
     }
@@ -41,7 +32,7 @@ impl Resources {
             return Reply::Mrapi(status);
         }
         match self.mutexes.get(id) {
-            Ok(mutex) => outward(ObjectKind::Mutex, mutex.0),
+            Ok(mutex) => Reply::Handle(mutex.0),
             Err(status) => Reply::Mrapi(status),
         }
     }
@@ -53,7 +44,7 @@ impl Resources {
         if let Some(status) = gate.open_refusal(who) {
             return Reply::Mrapi(status);
         }
-        done(self.mutexes.delete(inner(mutex)))
+        done(self.mutexes.delete(mutex))
     }
 
     /// One look of a seat that wants a mutex: the key, 1 to 64, where it gets it, and MUTEX_LOCKED where it owns it and may not lock it
@@ -64,7 +55,7 @@ impl Resources {
         if let Some(status) = gate.refusal(who) {
             return Reply::Mrapi(status);
         }
-        looked_key(self.mutexes.look(inner(mutex), who), last)
+        looked_key(self.mutexes.look(mutex, who), last)
     }
 
     /// Takes the last key of a mutex back: MUTEX_NOTLOCKED for a seat that doesn't own it, MUTEX_KEY for a key that isn't out, and
@@ -75,6 +66,6 @@ impl Resources {
         if let Some(status) = gate.refusal(who) {
             return Reply::Mrapi(status);
         }
-        done(self.mutexes.unlock(inner(mutex), who, key))
+        done(self.mutexes.unlock(mutex, who, key))
     }
 }

@@ -1,23 +1,14 @@
 //! The ops on reader-writer locks.
 
 ghost use Rattle.std.specs.Prelude.{◌≡◌, ◌<◌};
-ghost use Rattle.mtapi_values.specs.declared.handles.ObjectKind.TheVariants as object;
 ghost use Rattle.mtapi_machine.specs.declared.ops.Op.TheVariants as op;
-ghost use Rattle.node_resources.specs.Holds.{inward};
 ghost use Rattle.node_resources.specs.Steps.{Steps};
 
 use crate::Resources;
 use crate::gate::Gate;
-use crate::handles::{done, inward, looked, outward};
+use crate::replies::{done, looked};
 use mtapi_machine::Reply;
-use mtapi_values::{ObjectKind, RwlHandle};
-
-// The caller's handle of a reader-writer lock as its pool has it.
-fn inner(rwl: RwlHandle) -> RwlHandle
-    ensures { result.0 ≡ inward object.Rwl rwl.0 }
-{
-    RwlHandle(inward(ObjectKind::Rwl, rwl.0))
-}
+use mtapi_values::RwlHandle;
 
 impl Resources {
     /// Makes a lock for at most `limit` readers: PARAMETER where this isn't 1 to 32, RWL_EXISTS where a live one has the id, and
@@ -29,7 +20,7 @@ impl Resources {
             return Reply::Mrapi(status);
         }
         match self.rwls.create(id, limit) {
-            Ok(rwl) => outward(ObjectKind::Rwl, rwl.0),
+            Ok(rwl) => Reply::Handle(rwl.0),
             Err(status) => Reply::Mrapi(status),
         }
     }
@@ -42,7 +33,7 @@ impl Resources {
             return Reply::Mrapi(status);
         }
         match self.rwls.get(id) {
-            Ok(rwl) => outward(ObjectKind::Rwl, rwl.0),
+            Ok(rwl) => Reply::Handle(rwl.0),
             Err(status) => Reply::Mrapi(status),
         }
     }
@@ -54,7 +45,7 @@ impl Resources {
         if let Some(status) = gate.open_refusal(who) {
             return Reply::Mrapi(status);
         }
-        done(self.rwls.delete(inner(rwl)))
+        done(self.rwls.delete(rwl))
     }
 
     /// One look of a seat, below 25, that wants to hold a lock, as the writer or as a reader: RWL_LOCKED where it holds it already.
@@ -73,7 +64,7 @@ impl Resources {
         if let Some(status) = gate.refusal(who) {
             return Reply::Mrapi(status);
         }
-        looked(self.rwls.look(inner(rwl), who, writer), last)
+        looked(self.rwls.look(rwl, who, writer), last)
     }
 
     /// Gives back the hold of a seat, below 25: RWL_NOTLOCKED where it doesn't hold the lock in this mode.
@@ -84,6 +75,6 @@ impl Resources {
         if let Some(status) = gate.refusal(who) {
             return Reply::Mrapi(status);
         }
-        done(self.rwls.unlock(inner(rwl), who, writer))
+        done(self.rwls.unlock(rwl, who, writer))
     }
 }

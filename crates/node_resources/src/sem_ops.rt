@@ -1,23 +1,14 @@
 //! The ops on semaphores.
 
 ghost use Rattle.std.specs.Prelude.{◌≡◌, ◌<◌};
-ghost use Rattle.mtapi_values.specs.declared.handles.ObjectKind.TheVariants as object;
 ghost use Rattle.mtapi_machine.specs.declared.ops.Op.TheVariants as op;
-ghost use Rattle.node_resources.specs.Holds.{inward};
 ghost use Rattle.node_resources.specs.Steps.{Steps};
 
 use crate::Resources;
 use crate::gate::Gate;
-use crate::handles::{done, inward, looked, outward};
+use crate::replies::{done, looked};
 use mtapi_machine::Reply;
-use mtapi_values::{ObjectKind, SemHandle};
-
-// The caller's handle of a semaphore as its pool has it.
-fn inner(sem: SemHandle) -> SemHandle
-    ensures { result.0 ≡ inward object.Sem sem.0 }
-{
-    SemHandle(inward(ObjectKind::Sem, sem.0))
-}
+use mtapi_values::SemHandle;
 
 impl Resources {
     /// Makes a semaphore that may be held `limit` times: PARAMETER where this isn't 1 to 65,535, SEM_EXISTS where a live one has the
@@ -29,7 +20,7 @@ impl Resources {
             return Reply::Mrapi(status);
         }
         match self.sems.create(id, limit) {
-            Ok(sem) => outward(ObjectKind::Sem, sem.0),
+            Ok(sem) => Reply::Handle(sem.0),
             Err(status) => Reply::Mrapi(status),
         }
     }
@@ -42,7 +33,7 @@ impl Resources {
             return Reply::Mrapi(status);
         }
         match self.sems.get(id) {
-            Ok(sem) => outward(ObjectKind::Sem, sem.0),
+            Ok(sem) => Reply::Handle(sem.0),
             Err(status) => Reply::Mrapi(status),
         }
     }
@@ -54,7 +45,7 @@ impl Resources {
         if let Some(status) = gate.open_refusal(who) {
             return Reply::Mrapi(status);
         }
-        done(self.sems.delete(inner(sem)))
+        done(self.sems.delete(sem))
     }
 
     /// One look of a seat, below 25, that wants to hold a semaphore once more. While it is held as often as it may be the look is to be
@@ -66,7 +57,7 @@ impl Resources {
         if let Some(status) = gate.refusal(who) {
             return Reply::Mrapi(status);
         }
-        looked(self.sems.look(inner(sem), who), last)
+        looked(self.sems.look(sem, who), last)
     }
 
     /// Gives back one hold of a seat, below 25: SEM_NOTLOCKED where it has none.
@@ -77,6 +68,6 @@ impl Resources {
         if let Some(status) = gate.refusal(who) {
             return Reply::Mrapi(status);
         }
-        done(self.sems.unlock(inner(sem), who))
+        done(self.sems.unlock(sem, who))
     }
 }

@@ -1,23 +1,14 @@
 //! The ops on segments.
 
 ghost use Rattle.std.specs.Prelude.{◌≡◌, ◌<◌};
-ghost use Rattle.mtapi_values.specs.declared.handles.ObjectKind.TheVariants as object;
 ghost use Rattle.mtapi_machine.specs.declared.ops.Op.TheVariants as op;
-ghost use Rattle.node_resources.specs.Holds.{inward};
 ghost use Rattle.node_resources.specs.Steps.{Steps};
 
 use crate::Resources;
 use crate::gate::Gate;
-use crate::handles::{done, inward, number_read, outward};
+use crate::replies::{done, number_read};
 use mtapi_machine::Reply;
-use mtapi_values::{ObjectKind, ShmemHandle};
-
-// The caller's handle of a segment as its pool has it.
-fn inner(shmem: ShmemHandle) -> ShmemHandle
-    ensures { result.0 ≡ inward object.Shmem shmem.0 }
-{
-    ShmemHandle(inward(ObjectKind::Shmem, shmem.0))
-}
+use mtapi_values::ShmemHandle;
 
 impl Resources {
     /// Makes a segment of so many cells, all of them 0: PARAMETER where they aren't 1 to 4,096, SHM_EXISTS where a live one has the id,
@@ -29,7 +20,7 @@ impl Resources {
             return Reply::Mrapi(status);
         }
         match self.segments.create(id, cells) {
-            Ok(shmem) => outward(ObjectKind::Shmem, shmem.0),
+            Ok(shmem) => Reply::Handle(shmem.0),
             Err(status) => Reply::Mrapi(status),
         }
     }
@@ -42,7 +33,7 @@ impl Resources {
             return Reply::Mrapi(status);
         }
         match self.segments.get(id) {
-            Ok(shmem) => outward(ObjectKind::Shmem, shmem.0),
+            Ok(shmem) => Reply::Handle(shmem.0),
             Err(status) => Reply::Mrapi(status),
         }
     }
@@ -54,7 +45,7 @@ impl Resources {
         if let Some(status) = gate.open_refusal(who) {
             return Reply::Mrapi(status);
         }
-        done(self.segments.delete(inner(shmem)))
+        done(self.segments.delete(shmem))
     }
 
     /// Attaches a seat, below 25: SHM_ATTACHED where it is attached.
@@ -65,7 +56,7 @@ impl Resources {
         if let Some(status) = gate.refusal(who) {
             return Reply::Mrapi(status);
         }
-        done(self.segments.attach(inner(shmem), who))
+        done(self.segments.attach(shmem, who))
     }
 
     /// Detaches a seat, below 25: SHM_NOTATTACHED where it isn't attached.
@@ -76,7 +67,7 @@ impl Resources {
         if let Some(status) = gate.refusal(who) {
             return Reply::Mrapi(status);
         }
-        done(self.segments.detach(inner(shmem), who))
+        done(self.segments.detach(shmem, who))
     }
 
     /// The number in a cell, counted from 0, for a seat, below 25: SHM_NOTATTACHED where it isn't attached, and PARAMETER where there is
@@ -88,7 +79,7 @@ impl Resources {
         if let Some(status) = gate.refusal(who) {
             return Reply::Mrapi(status);
         }
-        number_read(self.segments.read(inner(shmem), who, cell))
+        number_read(self.segments.read(shmem, who, cell))
     }
 
     /// Puts a number into a cell, counted from 0, for a seat, below 25: SHM_NOTATTACHED where it isn't attached, and PARAMETER where
@@ -107,6 +98,6 @@ impl Resources {
         if let Some(status) = gate.refusal(who) {
             return Reply::Mrapi(status);
         }
-        done(self.segments.write(inner(shmem), who, cell, value))
+        done(self.segments.write(shmem, who, cell, value))
     }
 }

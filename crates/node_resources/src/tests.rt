@@ -1,7 +1,8 @@
-ghost use Rattle.std.specs.Prelude.{◌<◌};
+ghost use Rattle.std.specs.Prelude.{◌≡◌, ◌<◌, true};
+ghost use Rattle.node_resources.specs.Steps.{is_resource_op};
 
 use super::*;
-use mtapi_machine::{Phase, Reply};
+use mtapi_machine::{Op, Phase, Reply};
 use mtapi_values::{MrapiStatus, MutexHandle, RwlHandle, SemHandle, ShmemHandle};
 use std::test::Fail;
 
@@ -13,33 +14,54 @@ const MAIN: u32 = 2;
 const OPS: u32 = 22;
 
 // The op of this number, on an object of the id 9 or of this handle.
+fn numbered(op: u32, handle: u64) -> Op
+    ensures { is_resource_op result ≡ true }
+{
+    let mutex = MutexHandle(handle);
+    let sem = SemHandle(handle);
+    let rwl = RwlHandle(handle);
+    let shmem = ShmemHandle(handle);
+    match op {
+        0 => Op::MutexCreate {
+            id: 9,
+            recursive: true,
+        },
+        1 => Op::MutexGet { id: 9 },
+        2 => Op::MutexDelete { mutex },
+        3 => Op::MutexLook { mutex, last: false },
+        4 => Op::MutexUnlock { mutex, key: 1 },
+        5 => Op::SemCreate { id: 9, limit: 1 },
+        6 => Op::SemGet { id: 9 },
+        7 => Op::SemDelete { sem },
+        8 => Op::SemLook { sem, last: false },
+        9 => Op::SemUnlock { sem },
+        10 => Op::RwlCreate { id: 9, limit: 1 },
+        11 => Op::RwlGet { id: 9 },
+        12 => Op::RwlDelete { rwl },
+        13 => Op::RwlLook {
+            rwl,
+            writer: true,
+            last: false,
+        },
+        14 => Op::RwlUnlock { rwl, writer: true },
+        15 => Op::ShmemCreate { id: 9, cells: 4 },
+        16 => Op::ShmemGet { id: 9 },
+        17 => Op::ShmemDelete { shmem },
+        18 => Op::ShmemAttach { shmem },
+        19 => Op::ShmemDetach { shmem },
+        20 => Op::ShmemRead { shmem, cell: 3 },
+        _ => Op::ShmemWrite {
+            shmem,
+            cell: 3,
+            value: -7,
+        },
+    }
+}
+
 fn ask(resources: &mut Resources, gate: Gate, who: u32, op: u32, handle: u64) -> Reply
     requires { who < 25 }
 {
-    match op {
-        0 => resources.mutex_create(gate, who, 9, true),
-        1 => resources.mutex_get(gate, who, 9),
-        2 => resources.mutex_delete(gate, who, MutexHandle(handle)),
-        3 => resources.mutex_look(gate, who, MutexHandle(handle), false),
-        4 => resources.mutex_unlock(gate, who, MutexHandle(handle), 1),
-        5 => resources.sem_create(gate, who, 9, 1),
-        6 => resources.sem_get(gate, who, 9),
-        7 => resources.sem_delete(gate, who, SemHandle(handle)),
-        8 => resources.sem_look(gate, who, SemHandle(handle), false),
-        9 => resources.sem_unlock(gate, who, SemHandle(handle)),
-        10 => resources.rwl_create(gate, who, 9, 1),
-        11 => resources.rwl_get(gate, who, 9),
-        12 => resources.rwl_delete(gate, who, RwlHandle(handle)),
-        13 => resources.rwl_look(gate, who, RwlHandle(handle), true, false),
-        14 => resources.rwl_unlock(gate, who, RwlHandle(handle), true),
-        15 => resources.shmem_create(gate, who, 9, 4),
-        16 => resources.shmem_get(gate, who, 9),
-        17 => resources.shmem_delete(gate, who, ShmemHandle(handle)),
-        18 => resources.shmem_attach(gate, who, ShmemHandle(handle)),
-        19 => resources.shmem_detach(gate, who, ShmemHandle(handle)),
-        20 => resources.shmem_read(gate, who, ShmemHandle(handle), 3),
-        _ => resources.shmem_write(gate, who, ShmemHandle(handle), 3, -7),
-    }
+    resources.execute(gate, who, numbered(op, handle))
 }
 
 // What a reply says in short: the status, the handle or the number of it, or its name.
@@ -75,12 +97,12 @@ fn with_room_for_one(rt: HostRuntime, generations: u64) -> Result<Resources, Fai
     Ok(Resources::init(rt.alloc(), settings)?)
 }
 
-// The handles under which the first objects stand, and then the second ones.
-const FIRST: [u64; 4] = [0x1_0500_0000, 0x1_0600_0000, 0x1_0700_0000, 0x1_0800_0000];
+// The handle under which the first object of a kind stands, and then the second one.
+const FIRST: u64 = 0x1_0000_0000;
 
-const SECOND: [u64; 4] = [0x2_0500_0000, 0x2_0600_0000, 0x2_0700_0000, 0x2_0800_0000];
+const SECOND: u64 = 0x2_0000_0000;
 
-// The kind of an op, by its place in these tables.
+// The kind of an op, by its place in this table.
 fn kind_of(op: u32) -> usize
     ensures { result < 4 }
 {
@@ -92,53 +114,14 @@ fn kind_of(op: u32) -> usize
     }
 }
 
-// Handles that name no live object of each kind, while the second ones live: 0, the pool's own handle, one of each other kind, one
-// past the end, an older and a newer one, and one of no kind.
-const WRONG: [[u64; 9]; 4] = [
-    [
-        0,
-        0x2_0000_0000,
-        0x2_0600_0000,
-        0x2_0700_0000,
-        0x2_0800_0000,
-        0x2_0500_0001,
-        0x1_0500_0000,
-        0x3_0500_0000,
-        0x2_1500_0000,
-    ],
-    [
-        0,
-        0x2_0000_0000,
-        0x2_0500_0000,
-        0x2_0700_0000,
-        0x2_0100_0000,
-        0x2_0600_0001,
-        0x1_0600_0000,
-        0x3_0600_0000,
-        0x2_FF00_0000,
-    ],
-    [
-        0,
-        0x2_0000_0000,
-        0x2_0600_0000,
-        0x2_0500_0000,
-        0x2_0200_0000,
-        0x2_0700_0001,
-        0x1_0700_0000,
-        0x3_0700_0000,
-        0x2_0900_0000,
-    ],
-    [
-        0,
-        0x2_0000_0000,
-        0x2_0600_0000,
-        0x2_0700_0000,
-        0x2_0400_0000,
-        0x2_0800_0001,
-        0x1_0800_0000,
-        0x3_0800_0000,
-        0xFFFF_FFFF_FFFF_FFFF,
-    ],
+// Handles that name no live object of a kind, while the second one lives: 0, one past the end, an older and a newer one, and others.
+const WRONG: [u64; 6] = [
+    0,
+    0x2_0000_0001,
+    0x1_0000_0000,
+    0x3_0000_0000,
+    0x2_0500_0000,
+    0xFFFF_FFFF_FFFF_FFFF,
 ];
 
 const INVALID: [MrapiStatus; 4] = [
@@ -162,9 +145,8 @@ fn is_carried_out(op: u32, phase: Phase) -> bool {
 // Makes an object of each kind, gives it up, and makes another.
 fn second_objects(resources: &mut Resources) {
     for op in [0u32, 5, 10, 15] {
-        let kind = kind_of(op);
         let _ = ask(resources, gate(Phase::Open), MAIN, op, 0);
-        let _ = ask(resources, gate(Phase::Open), MAIN, op + 2, FIRST[kind]);
+        let _ = ask(resources, gate(Phase::Open), MAIN, op + 2, FIRST);
         let _ = ask(resources, gate(Phase::Open), MAIN, op, 0);
     }
 }
@@ -178,7 +160,7 @@ fn a_handle_that_names_nothing_is_invalid_in_every_op(rt: HostRuntime) -> Result
             if matches!(op, 0 | 1 | 5 | 6 | 10 | 11 | 15 | 16) {
                 continue;
             }
-            for handle in WRONG[kind_of(op)] {
+            for handle in WRONG {
                 let want = if is_carried_out(op, phase) {
                     INVALID[kind_of(op)]
                 } else {
@@ -203,7 +185,7 @@ fn a_phase_comes_first_and_then_the_seat(rt: HostRuntime) -> Result<(), Fail> {
             } else {
                 MrapiStatus::ErrNodeNotinit
             };
-            let handle = SECOND[kind_of(op)];
+            let handle = SECOND;
             let got = in_short(ask(&mut resources, gate(phase), WORKER, op, handle));
             assert_eq!(rt; got, Told::Status(want));
         }
@@ -218,16 +200,16 @@ fn each_op_is_carried_out_on_a_live_object(rt: HostRuntime) -> Result<(), Fail> 
     // The op, and its reply.
     let rows = [
         (1, Told::Status(MrapiStatus::ErrMutexIdInvalid)),
-        (0, Told::Handle(FIRST[0])),
+        (0, Told::Handle(FIRST)),
         (0, Told::Status(MrapiStatus::ErrMutexExists)),
-        (1, Told::Handle(FIRST[0])),
+        (1, Told::Handle(FIRST)),
         (3, Told::Number(1)),
         (3, Told::Number(2)),
         (2, Told::Status(MrapiStatus::ErrMutexLocked)),
         (4, Told::Status(MrapiStatus::ErrMutexLockorder)),
         (6, Told::Status(MrapiStatus::ErrSemIdInvalid)),
-        (5, Told::Handle(FIRST[1])),
-        (6, Told::Handle(FIRST[1])),
+        (5, Told::Handle(FIRST)),
+        (6, Told::Handle(FIRST)),
         (8, Told::Ok),
         (8, Told::Pending),
         (7, Told::Status(MrapiStatus::ErrSemLocked)),
@@ -235,15 +217,15 @@ fn each_op_is_carried_out_on_a_live_object(rt: HostRuntime) -> Result<(), Fail> 
         (9, Told::Status(MrapiStatus::ErrSemNotlocked)),
         (7, Told::Ok),
         (5, Told::Status(MrapiStatus::ErrSemLimit)),
-        (10, Told::Handle(FIRST[2])),
-        (11, Told::Handle(FIRST[2])),
+        (10, Told::Handle(FIRST)),
+        (11, Told::Handle(FIRST)),
         (13, Told::Ok),
         (13, Told::Status(MrapiStatus::ErrRwlLocked)),
         (12, Told::Status(MrapiStatus::ErrRwlLocked)),
         (14, Told::Ok),
         (12, Told::Ok),
-        (15, Told::Handle(FIRST[3])),
-        (16, Told::Handle(FIRST[3])),
+        (15, Told::Handle(FIRST)),
+        (16, Told::Handle(FIRST)),
         (20, Told::Status(MrapiStatus::ErrShmNotattached)),
         (18, Told::Ok),
         (20, Told::Number(0)),
@@ -255,10 +237,10 @@ fn each_op_is_carried_out_on_a_live_object(rt: HostRuntime) -> Result<(), Fail> 
         (16, Told::Status(MrapiStatus::ErrShmIdInvalid)),
     ];
     for (op, want) in rows {
-        let got = in_short(ask(&mut resources, open, MAIN, op, FIRST[kind_of(op)]));
+        let got = in_short(ask(&mut resources, open, MAIN, op, FIRST));
         assert_eq!(rt; got, want);
     }
-    let late = resources.mutex_look(open, 3, MutexHandle(FIRST[0]), true);
+    let late = resources.mutex_look(open, 3, MutexHandle(FIRST), true);
     assert_eq!(rt; in_short(late), Told::Status(MrapiStatus::Timeout));
     Ok(())
 }

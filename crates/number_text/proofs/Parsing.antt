@@ -32,23 +32,23 @@ ok_iff_option (Err e) P v true h to from = absurd (h (to refl))
 ok_iff_option (Err e) P v false h to from = refl
 
 abbrev pub with_front : List ℤ → Option (List ℤ) → Option (List ℤ)
-with_front front rest = rest >>= λ zs. Some (front ++ zs)
+with_front prefix rest = rest >>= λ zs. Some (prefix ++ zs)
 
-step : (front : List ℤ) (z : ℤ) (rest : Option (List ℤ)) → with_front front (rest >>= λ zs. Some (z ∷ zs)) ≡ with_front (front ++ z ∷ []) rest
-step front z None = refl
-step front z (Some zs) = ap Some (simp append_assoc)
+step : (prefix : List ℤ) (z : ℤ) (rest : Option (List ℤ)) → with_front prefix (rest >>= λ zs. Some (z ∷ zs)) ≡ with_front (prefix ++ z ∷ []) rest
+step prefix z None = refl
+step prefix z (Some zs) = ap Some (simp append_assoc)
 
-pub args_more : (front : List ℤ) (part : List ℕ) (rest : List (List ℕ)) (z : ℤ) (total : Option (List ℤ)) → Some z ≡ whole part → with_front front (wholes (part ∷ rest)) ≡ total → with_front (front ++ z ∷ []) (wholes rest) ≡ total
+pub args_more : (prefix : List ℤ) (part : List ℕ) (rest : List (List ℕ)) (z : ℤ) (total : Option (List ℤ)) → Some z ≡ whole part → with_front prefix (wholes (part ∷ rest)) ≡ total → with_front (prefix ++ z ∷ []) (wholes rest) ≡ total
 unfolding wholes
-args_more front part rest z total e h = sym (step front z (wholes rest)) ∙ (rw (← e) at h)
+args_more prefix part rest z total e h = sym (step prefix z (wholes rest)) ∙ (rw (← e) at h)
 
-pub args_end : (front : List ℤ) (part : List ℕ) (rest : List (List ℕ)) (total : Option (List ℤ)) → None ≡ whole part → with_front front (wholes (part ∷ rest)) ≡ total → total ≡ None
+pub args_end : (prefix : List ℤ) (part : List ℕ) (rest : List (List ℕ)) (total : Option (List ℤ)) → None ≡ whole part → with_front prefix (wholes (part ∷ rest)) ≡ total → total ≡ None
 unfolding wholes
-args_end front part rest total e h = sym (rw (← e) at h)
+args_end prefix part rest total e h = sym (rw (← e) at h)
 
-pub args_done : (front : List ℤ) (total : Option (List ℤ)) → with_front front (wholes []) ≡ total → total ≡ Some front
+pub args_done : (prefix : List ℤ) (total : Option (List ℤ)) → with_front prefix (wholes []) ≡ total → total ≡ Some prefix
 unfolding wholes
-args_done front total h = sym h ∙ ap Some (append-nil front)
+args_done prefix total h = sym h ∙ ap Some (append-nil prefix)
 
 abbrev pub add_bits : ℕ → Option ℕ → Option ℕ
 add_bits mask rest = rest >>= λ bits. Some (mask + bits)
@@ -88,9 +88,9 @@ pub none_is : (text : List ℕ) → wholes (between 44 text) ≡ None → None �
 unfolding list_of
 none_is text e = rw e (elim (nat_le (length (between 44 text)) 16) as (λ b. no ≡ cond b no no) [ true ↦ refl | false ↦ refl ])
 
-pub some_is : (text : List ℕ) (front : List ℤ) → length (between 44 text) ≤ 16 → wholes (between 44 text) ≡ Some front → Some front ≡ list_of text
+pub some_is : (text : List ℕ) (prefix : List ℤ) → length (between 44 text) ≤ 16 → wholes (between 44 text) ≡ Some prefix → Some prefix ≡ list_of text
 unfolding list_of
-some_is text front le e = rw (le-leb _ _ le, e) refl
+some_is text prefix le e = rw (le-leb _ _ le, e) refl
 
 pub shl_core : (core : ℕ) → core ≤ 63 → 1 * 2 ^ core % 18446744073709551616 ≡ 2 ^ core
 shl_core core le = one_shl core 64 (omega arith)

@@ -12,7 +12,7 @@ fn place_of(text: &[u8], byte: u8) -> Option<usize>
 
 /// The text before the first such byte, and the text after it where it stands.
 pub fn cut_at(text: &[u8], byte: u8) -> (&[u8], Option<&[u8]>)
-    ensures front { result.0.now ≡ before_first (λ b. b == byte) text.now }
+    ensures prefix { result.0.now ≡ before_first (λ b. b == byte) text.now }
     ensures parts { between byte text.now ≡ result.0.now ∷ pieces_of byte result.1 }
     ensures back { IfSome result.1 (λ rest. rest.now ≡ after_first (λ b. b == byte) text.now) }
     ensures none { IfNone result.1 (after_first (λ b. b == byte) text.now ≡ []) }

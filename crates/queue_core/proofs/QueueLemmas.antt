@@ -1,62 +1,67 @@
 -- What each move of the slots and the lists is for the queues that they are seen as.
-use Rattle.std.proofs.Common.{◌≡◌, ◌≢◌, ℕ, ◌<◌, ◌≤◌, true, false, List, [], length, replicate, Option, Some, None, Result, Ok, Err, is_ok, refl, sym, subst, ◌∙◌}
+use Rattle.std.proofs.Common.{◌≡◌, ◌≢◌, ℕ, ◌<◌, ◌≤◌, Bool, true, false, List, [], length, replicate, Option, Some, None, Result, Ok, Err, is_ok, refl, sym, ap, subst, ◌∙◌, slice_get, arith}
+use Rattle.std.specs.Prelude.{◌==◌}
+use Rattle.std.specs.Option.{option_map}
+use Rattle.std.proofs.lemmas.Bool.Decides.{nat_tests}
 use Rattle.std.proofs.lemmas.Bool.{false≢true, eq-eqb, ne_eqb}
 use Rattle.mtapi_values.specs.declared.handles.QueueHandle.{QueueHandle}
 use Rattle.mtapi_values.specs.declared.statuses.MtapiStatus.{MtapiStatus}
 use Rattle.mtapi_values.specs.declared.statuses.MtapiStatus.TheVariants.{ErrQueueInvalid, ErrQueueLimit}
 use Rattle.mtapi_values.specs.Conditions.{first}
-use Rattle.handle_pool.specs.Slots.{Slots, slot_of, free_slot, get, IsFull, Inserts, NoneLive, with_value, without, changed}
+use Rattle.handle_pool.specs.Slots.{Slot, Slots, slot_of, free_slot, slot_value, IsFull, Inserts, with_value, without, changed}
+use Rattle.handle_pool.specs.Walks.{NoneLive}
 use Rattle.handle_pool.proofs.WalkLemmas.{slot_of-live}
+use Rattle.handle_pool.proofs.OneEachLemmas.{OneEach-new, OneEach-insert, OneEach-with_value, OneEach-without}
 use Rattle.linked_places.specs.Lists.{HandleLists, list_at, has_handle, NowhereAt, with_list}
-use Rattle.linked_places.specs.Beside.{pool_beside}
-use Rattle.linked_places.proofs.BesideLemmas.{get-beside, list-beside, with_value-beside, without-beside, beside-fresh, IsFull-beside, Inserts-beside, AreBeside-new, AreBeside-insert, AreBeside-value, AreBeside-list, AreBeside-remove, NowhereAt-beside}
+use Rattle.linked_places.specs.Beside.{slot_beside, pool_beside}
+use Rattle.linked_places.proofs.BesideLemmas.{slice_get-beside, get-beside, list-beside, with_value-beside, without-beside, beside-fresh, IsFull-beside, Inserts-beside, AreBeside-new, AreBeside-insert, AreBeside-value, AreBeside-list, AreBeside-remove, NowhereAt-beside}
 use Rattle.mtapi_objects.specs.Queues.{Queue, put_refusals}
-use Rattle.queue_core.specs.Held.{HeldQueue, QueueTable, held, has_id, HasId, Finds, FindsIn, put_reply, NoTaskAt, IsUnendedTask, table_of, AreQueues}
+use Rattle.queue_core.specs.Held.{HeldQueue, QueueTable, held, has_id, HasId, Finds, FindsIn, put_reply, NoTaskAt, IsUnendedTask, table_of, AreQueues, AreRetiredEmpty}
 
 -- an unended task is one of a live queue
 pub record Unended (pool : Slots Queue) (tasks : HandleLists) (q task : ℕ) : Type 0 where
   pub queue : Queue
-  pub live : get pool q ≡ Some queue
+  pub live : slot_value pool q ≡ Some queue
   pub has : has_handle task (list_at tasks.lists (slot_of q)) ≡ true
 
 module _ (pool : Slots Queue) (tasks : HandleLists) (q : ℕ) where
-  pub get-live : (old : QueueTable) (v : Queue) → table_of pool tasks ≡ old → get pool q ≡ Some v → get old.pool q ≡ Some (held v (list_at tasks.lists (slot_of q)))
-  get-live old v is live = let P : QueueTable → Type 0 = λ o. get o.pool q ≡ Some (held v (list_at tasks.lists (slot_of q))) in subst P is (get-beside held pool tasks.lists q ∙ rw live refl)
+  pub get-live : (old : QueueTable) (v : Queue) → table_of pool tasks ≡ old → slot_value pool q ≡ Some v → slot_value old.pool q ≡ Some (held v (list_at tasks.lists (slot_of q)))
+  get-live old v is live = let P : QueueTable → Type 0 = λ o. slot_value o.pool q ≡ Some (held v (list_at tasks.lists (slot_of q))) in subst P is (get-beside held pool tasks.lists q ∙ rw live refl)
 
-  pub get-dead : (old : QueueTable) → table_of pool tasks ≡ old → get pool q ≡ None → get old.pool q ≡ None
-  get-dead old is dead = let P : QueueTable → Type 0 = λ o. get o.pool q ≡ None in subst P is (get-beside held pool tasks.lists q ∙ rw dead refl)
+  pub get-dead : (old : QueueTable) → table_of pool tasks ≡ old → slot_value pool q ≡ None → slot_value old.pool q ≡ None
+  get-dead old is dead = let P : QueueTable → Type 0 = λ o. slot_value o.pool q ≡ None in subst P is (get-beside held pool tasks.lists q ∙ rw dead refl)
 
   -- a call on a queue that isn't live changes nothing
-  pub dead_unchanged : (old : QueueTable) (f : HeldQueue → HeldQueue) → table_of pool tasks ≡ old → get pool q ≡ None → table_of pool tasks ≡ record old { pool = changed old.pool q f }
+  pub dead_unchanged : (old : QueueTable) (f : HeldQueue → HeldQueue) → table_of pool tasks ≡ old → slot_value pool q ≡ None → table_of pool tasks ≡ record old { pool = changed old.pool q f }
   dead_unchanged old f is dead = is ∙ rw (get-dead old is dead) refl
 
-  pub unended_from : (old : QueueTable) (task : ℕ) → table_of pool tasks ≡ old → IsUnendedTask task (get old.pool q) → Unended pool tasks q task
-  unended_from old task is unended = by_value (get pool q) refl
+  pub unended_from : (old : QueueTable) (task : ℕ) → table_of pool tasks ≡ old → IsUnendedTask task (slot_value old.pool q) → Unended pool tasks q task
+  unended_from old task is unended = by_value (slot_value pool q) refl
     where
-      by_value : (o : Option Queue) → get pool q ≡ o → Unended pool tasks q task
+      by_value : (o : Option Queue) → slot_value pool q ≡ o → Unended pool tasks q task
       by_value (Some v) live = record { queue = v; live = live; has = rw (get-live old v is live) at unended }
       by_value None dead = absurd (rw (get-dead old is dead) at unended)
 
-  module _ (are : AreQueues pool tasks) (v : Queue) (live : get pool q ≡ Some v) where
+  module _ (are : AreQueues pool tasks) (v : Queue) (live : slot_value pool q ≡ Some v) where
     pub within : slot_of q < length tasks.lists
     within = rw are.beside.size (slot_of-live pool q v live)
 
     -- the queues once this one has changed
     pub view_changed : (old : QueueTable) (p : Slots Queue) (lists : HandleLists) (f : HeldQueue → HeldQueue) → table_of pool tasks ≡ old → pool_beside held p lists.lists ≡ with_value (pool_beside held pool tasks.lists) q (f (held v (list_at tasks.lists (slot_of q)))) → lists.places ≡ tasks.places → table_of p lists ≡ record old { pool = changed old.pool q f }
     view_changed old p lists f is moved places =
-        let found : get (pool_beside held pool tasks.lists) q ≡ Some (held v (list_at tasks.lists (slot_of q))) = get-beside held pool tasks.lists q ∙ rw live refl in
+        let found : slot_value (pool_beside held pool tasks.lists) q ≡ Some (held v (list_at tasks.lists (slot_of q))) = get-beside held pool tasks.lists q ∙ rw live refl in
         let is_changed : changed (pool_beside held pool tasks.lists) q f ≡ with_value (pool_beside held pool tasks.lists) q (f (held v (list_at tasks.lists (slot_of q)))) = rw found refl in
         let P : QueueTable → Type 0 = λ o. table_of p lists ≡ record o { pool = changed o.pool q f } in
         subst P is (rw (moved, places, is_changed) refl)
 
     pub AreQueues-list : (list : List ℕ) → AreQueues pool (with_list tasks (slot_of q) list)
-    AreQueues-list list = record { beside = AreBeside-list pool tasks.lists q v list live are.beside; few = are.few }
+    AreQueues-list list = record { beside = AreBeside-list pool tasks.lists q v list live are.beside; few = are.few; ids = are.ids }
 
-    pub AreQueues-value : (w : Queue) → AreQueues (with_value pool q w) tasks
-    AreQueues-value w = record { beside = AreBeside-value pool tasks.lists q w are.beside; few = are.few }
+    pub AreQueues-value : (w : Queue) → w.id ≡ v.id → AreQueues (with_value pool q w) tasks
+    AreQueues-value w same = record { beside = AreBeside-value pool tasks.lists q w are.beside; few = are.few; ids = OneEach-with_value (λ (x : Queue). x.id) pool q v w are.ids live same }
 
     pub AreQueues-delete : AreQueues (without pool q) (with_list tasks (slot_of q) [])
-    AreQueues-delete = record { beside = AreBeside-remove pool tasks.lists q v live are.beside; few = are.few }
+    AreQueues-delete = record { beside = AreBeside-remove pool tasks.lists q v live are.beside; few = are.few; ids = OneEach-without (λ (x : Queue). x.id) pool q v are.ids live }
 
     pub list-changed : (list : List ℕ) → pool_beside held pool (with_list tasks (slot_of q) list).lists ≡ with_value (pool_beside held pool tasks.lists) q (held v list)
     list-changed list = list-beside held pool tasks.lists q v list are.beside live
@@ -71,10 +76,10 @@ module _ (pool : Slots Queue) (tasks : HandleLists) (q : ℕ) where
 
 module _ (pool : Slots Queue) (tasks : HandleLists) where
   -- no live queue of the slots has the id, so none has it with its tasks
-  pub none_held : (old : QueueTable) (id : ℕ) → table_of pool tasks ≡ old → FindsIn pool id None → NoneLive (get old.pool) (HasId id)
-  none_held old id is none q h found has = by_value (get pool q) refl
+  pub none_held : (old : QueueTable) (id : ℕ) → table_of pool tasks ≡ old → FindsIn pool id None → NoneLive (slot_value old.pool) (HasId id)
+  none_held old id is none q h found has = by_value (slot_value pool q) refl
     where
-      by_value : (o : Option Queue) → get pool q ≡ o → ⊥
+      by_value : (o : Option Queue) → slot_value pool q ≡ o → ⊥
       by_value None dead = let gone = get-dead pool tasks q old is dead in absurd (cc (gone, found))
       by_value (Some v) live =
           let there = get-live pool tasks q old v is live in
@@ -82,8 +87,45 @@ module _ (pool : Slots Queue) (tasks : HandleLists) where
           let P : HeldQueue → Type 0 = λ k. has_id id k.queue ≡ true in
           none q v live (subst P (sym same) has)
 
-  pub found_held : (old : QueueTable) (id q : ℕ) → table_of pool tasks ≡ old → FindsIn pool id (Some q) → Finds old.pool id (Ok (record { 0 = q }))
-  found_held old id q is found = (held found.0 (list_at tasks.lists (slot_of q)), get-live pool tasks q old found.0 is found.1, found.2)
+  -- a live queue with its tasks is one of the slots
+  pub unheld : (old : QueueTable) (k : ℕ) (h : HeldQueue) → table_of pool tasks ≡ old → slot_value old.pool k ≡ Some h → (v : Queue) × (slot_value pool k ≡ Some v) × (v ≡ h.queue)
+  unheld old k h is found = by_value (slot_value pool k) refl
+    where
+      by_value : (o : Option Queue) → slot_value pool k ≡ o → (v : Queue) × (slot_value pool k ≡ Some v) × (v ≡ h.queue)
+      by_value None dead = let gone = get-dead pool tasks k old is dead in absurd (cc (gone, found))
+      by_value (Some v) live =
+          let there = get-live pool tasks k old v is live in
+          let same : held v (list_at tasks.lists (slot_of k)) ≡ h = cc (there, found) in
+          (v, live, ap (λ (x : HeldQueue). x.queue) same)
+
+  pub found_held : (old : QueueTable) (id q : ℕ) → AreQueues pool tasks → table_of pool tasks ≡ old → FindsIn pool id (Some q) → Finds old.pool id (Ok (record { 0 = q }))
+  found_held old id q are is found = (
+    (held found.0 (list_at tasks.lists (slot_of q)), get-live pool tasks q old found.0 is found.1, found.2),
+    λ k h there has.
+        let v = unheld old k h is there in
+        are.ids.only k q v.0 found.0 v.1 found.1 (ap (λ (x : Queue). x.id) v.2 ∙ same_id h.queue.id id has ∙ sym (same_id found.0.id id found.2)),
+  )
+    where
+      same_id : (a b : ℕ) → (a == b) ≡ true → a ≡ b
+      same_id a b e = grind (arith, nat_tests)
+
+  -- no live queue of the slots has an id that none has with its tasks
+  pub none_has : (old : QueueTable) (id : ℕ) → table_of pool tasks ≡ old → NoneLive (slot_value old.pool) (HasId id) → NoneLive (slot_value pool) (λ (v : Queue). v.id ≡ id)
+  none_has old id is none q v live same = none q (held v (list_at tasks.lists (slot_of q))) (get-live pool tasks q old v is live) (eq-eqb v.id id same)
+
+  -- a retired slot holds no queue
+  pub retired_empty : (old : QueueTable) → AreQueues pool tasks → table_of pool tasks ≡ old → AreRetiredEmpty old.pool
+  retired_empty old are is = subst (λ (t : QueueTable). AreRetiredEmpty t.pool) is retired
+    where
+      by_slot : (place : ℕ) (o : Option (Slot Queue)) → slice_get pool.slots place ≡ o → (s : Slot HeldQueue) → option_map (λ t. slot_beside held t (list_at tasks.lists place)) o ≡ Some s → s.retired ≡ true → s.value ≡ None
+      by_slot place None there s e retired = absurd (cc)
+      by_slot place (Some t) there s e retired =
+          let same : slot_beside held t (list_at tasks.lists place) ≡ s = cc in
+          let none = are.beside.retired place t there (ap (λ (x : Slot HeldQueue). x.retired) same ∙ retired) in
+          sym (ap (λ (x : Slot HeldQueue). x.value) same) ∙ ap (λ (o : Option Queue). option_map (λ v. held v (list_at tasks.lists place)) o) none
+
+      retired : AreRetiredEmpty (table_of pool tasks).pool
+      retired place s there gone = by_slot place (slice_get pool.slots place) refl s (sym (slice_get-beside held pool.slots tasks.lists place) ∙ there) gone
 
   pub IsFull-held : IsFull (pool_beside held pool tasks.lists) → IsFull pool
   IsFull-held full = (IsFull-beside held pool tasks.lists).0 full
@@ -94,8 +136,8 @@ module _ (pool : Slots Queue) (tasks : HandleLists) where
   pub room_held : (old : QueueTable) → table_of pool tasks ≡ old → (IsFull pool → ⊥) → IsFull old.pool → ⊥
   room_held old is room full = let P : QueueTable → Type 0 = λ o. IsFull o.pool in room (IsFull-held (subst P (sym is) full))
 
-  pub AreQueues-create : (new : Slots Queue) (q : ℕ) (v : Queue) → Inserts pool new q v → AreQueues pool tasks → AreQueues new tasks
-  AreQueues-create new q v inserts are = record { beside = AreBeside-insert pool new tasks.lists q v inserts are.beside; few = are.few }
+  pub AreQueues-create : (new : Slots Queue) (q : ℕ) (v : Queue) → Inserts pool new q v → NoneLive (slot_value pool) (λ (x : Queue). x.id ≡ v.id) → AreQueues pool tasks → AreQueues new tasks
+  AreQueues-create new q v inserts none are = record { beside = AreBeside-insert pool new tasks.lists q v inserts are.beside; few = are.few; ids = OneEach-insert (λ (x : Queue). x.id) pool new q v are.ids none inserts }
 
   pub Inserts-held : (old : QueueTable) (new : Slots Queue) (q : ℕ) (v : Queue) → table_of pool tasks ≡ old → Inserts pool new q v → AreQueues pool tasks → Inserts old.pool (pool_beside held new tasks.lists) q (held v [])
   Inserts-held old new q v is inserts are =
@@ -108,13 +150,13 @@ module _ (pool : Slots Queue) (tasks : HandleLists) where
       NowhereAt-beside pool tasks.lists slot are.beside (λ h v live. none h (held v (list_at tasks.lists (slot_of h))) (get-live pool tasks h old v is live))
 
   pub AreQueues-new : (count places : ℕ) → count ≤ 65536 → places ≤ 65536 → pool.slots ≡ replicate count (free_slot 1) → tasks.lists ≡ replicate count [] → tasks.places ≡ places → AreQueues pool tasks
-  AreQueues-new count places few few_places slots lists is = record { beside = AreBeside-new pool.slots tasks.lists count few slots lists; few = rw is few_places }
+  AreQueues-new count places few few_places slots lists is = record { beside = AreBeside-new pool.slots tasks.lists count few slots lists; few = rw is few_places; ids = OneEach-new (λ (x : Queue). x.id) pool count slots }
 
   pub slots-new : (count : ℕ) → pool.slots ≡ replicate count (free_slot 1) → tasks.lists ≡ replicate count [] → (pool_beside held pool tasks.lists).slots ≡ replicate count (free_slot 1)
   slots-new count slots lists = rw (slots, lists) (beside-fresh held count)
 
 -- a get that fails says that no live queue has the id
-pub not_found : (pool : Slots HeldQueue) (id : ℕ) (r : Result QueueHandle MtapiStatus) → Finds pool id r → is_ok r ≡ false → NoneLive (get pool) (HasId id)
+pub not_found : (pool : Slots HeldQueue) (id : ℕ) (r : Result QueueHandle MtapiStatus) → Finds pool id r → is_ok r ≡ false → NoneLive (slot_value pool) (HasId id)
 not_found pool id (Ok q) found failed = absurd (false≢true (sym failed))
 not_found pool id (Err ErrQueueInvalid) found failed = found
 not_found pool id (Err _) found failed = absurd found

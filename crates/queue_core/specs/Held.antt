@@ -5,7 +5,8 @@ use Rattle.mtapi_values.specs.Conditions.{first}
 use Rattle.mtapi_values.specs.declared.handles.QueueHandle.{QueueHandle}
 use Rattle.mtapi_values.specs.declared.statuses.MtapiStatus.{MtapiStatus}
 use Rattle.mtapi_values.specs.declared.statuses.MtapiStatus.TheVariants.{ErrQueueInvalid, ErrQueueExists, ErrQueueLimit}
-use Rattle.handle_pool.specs.Slots.{Slots, get, IsFull, Inserts, SomeLive, NoneLive}
+use Rattle.handle_pool.specs.Slots.{Slot, Slots, slot_value, IsFull, Inserts}
+use Rattle.handle_pool.specs.Walks.{SomeLive, NoneLive, OneEach}
 use Rattle.linked_places.specs.Lists.{HandleLists, stands_at, has_handle, without_handle}
 use Rattle.linked_places.specs.Beside.{pool_beside, AreBeside}
 use Rattle.mtapi_objects.specs.Queues.{Queue, opened, put_refusals}
@@ -38,15 +39,15 @@ HasId id h = has_id id h.queue ≡ true
 
 -- a create: an id that is live first, then no room; else a new queue with no tasks under a handle
 abbrev pub Creates : QueueTable → Queue → Result QueueHandle MtapiStatus → QueueTable → Type 0
-Creates old queue (Ok q) new = NoneLive (get old.pool) (HasId queue.id) × (IsFull old.pool → ⊥) × Inserts old.pool new.pool q.0 (held queue []) × (new.tasks ≡ old.tasks)
-Creates old queue (Err ErrQueueExists) new = SomeLive (get old.pool) (HasId queue.id) × (new ≡ old)
-Creates old queue (Err ErrQueueLimit) new = NoneLive (get old.pool) (HasId queue.id) × IsFull old.pool × (new ≡ old)
+Creates old queue (Ok q) new = NoneLive (slot_value old.pool) (HasId queue.id) × (IsFull old.pool → ⊥) × Inserts old.pool new.pool q.0 (held queue []) × (new.tasks ≡ old.tasks)
+Creates old queue (Err ErrQueueExists) new = SomeLive (slot_value old.pool) (HasId queue.id) × (new ≡ old)
+Creates old queue (Err ErrQueueLimit) new = NoneLive (slot_value old.pool) (HasId queue.id) × IsFull old.pool × (new ≡ old)
 Creates old queue (Err _) new = ⊥
 
--- a live queue of this id, or none has it
+-- the one live queue of this id, or none has it
 abbrev pub Finds : Slots HeldQueue → ℕ → Result QueueHandle MtapiStatus → Type 0
-Finds pool id (Ok q) = (h : HeldQueue) × (get pool q.0 ≡ Some h) × HasId id h
-Finds pool id (Err ErrQueueInvalid) = NoneLive (get pool) (HasId id)
+Finds pool id (Ok q) = ((h : HeldQueue) × (slot_value pool q.0 ≡ Some h) × HasId id h) × ((k : ℕ) (h : HeldQueue) → slot_value pool k ≡ Some h → HasId id h → k ≡ q.0)
+Finds pool id (Err ErrQueueInvalid) = NoneLive (slot_value pool) (HasId id)
 Finds pool id (Err _) = ⊥
 
 -- refused exactly where the queue isn't live
@@ -78,7 +79,7 @@ put_reply (Some h) = put_answer (first (put_refusals h.queue)) (length h.tasks =
 
 -- no unended task of any live queue has this slot
 abbrev pub NoTaskAt : ℕ → Slots HeldQueue → Type 0
-NoTaskAt slot pool = (q : ℕ) (h : HeldQueue) → get pool q ≡ Some h → stands_at slot h.tasks ≡ false
+NoTaskAt slot pool = (q : ℕ) (h : HeldQueue) → slot_value pool q ≡ Some h → stands_at slot h.tasks ≡ false
 
 -- the task is an unended one of the queue
 abbrev pub IsUnendedTask : ℕ → Option HeldQueue → Type 0
@@ -101,12 +102,17 @@ facts_of h = facts_with h.queue (length h.tasks)
 abbrev pub table_of : Slots Queue → HandleLists → QueueTable
 table_of pool tasks = record { pool = pool_beside held pool tasks.lists; tasks = tasks.places }
 
--- what the lists keep of the slots
+-- a retired slot holds no queue
+abbrev pub AreRetiredEmpty : Slots HeldQueue → Type 0
+AreRetiredEmpty pool = (place : ℕ) (slot : Slot HeldQueue) → slice_get pool.slots place ≡ Some slot → slot.retired ≡ true → slot.value ≡ None
+
+-- what the lists keep of the slots, and that no two live queues have one id
 pub record AreQueues (pool : Slots Queue) (tasks : HandleLists) : Type 0 where
   pub beside : AreBeside pool.slots tasks.lists
   pub few : tasks.places ≤ 65536
+  pub ids : OneEach (λ (q : Queue). q.id) pool
 
 -- the queue of an id among the slots without their tasks
 abbrev pub FindsIn : Slots Queue → ℕ → Option ℕ → Type 0
-FindsIn pool id None = NoneLive (get pool) (λ q. has_id id q ≡ true)
-FindsIn pool id (Some handle) = (q : Queue) × (get pool handle ≡ Some q) × (has_id id q ≡ true)
+FindsIn pool id None = NoneLive (slot_value pool) (λ q. has_id id q ≡ true)
+FindsIn pool id (Some handle) = (q : Queue) × (slot_value pool handle ≡ Some q) × (has_id id q ≡ true)

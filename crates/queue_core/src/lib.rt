@@ -9,8 +9,8 @@ mod worked;
 
 ghost use Rattle.std.specs.Prelude.{◌≡◌, ◌≤◌, ◌<◌, true, false, replicate, IfOk, OnOk, OnErr};
 ghost use Rattle.std.specs.Option.{option_map};
-ghost use Rattle.handle_pool.specs.Slots.{get, slot_of, free_slot, without, changed};
-ghost use Rattle.queue_core.specs.Held.{new_queue, Creates, Finds, live_reply, with_opened, with_task, without_task, put_reply, NoTaskAt, IsUnendedTask, first_task, facts_of, FindsIn};
+ghost use Rattle.handle_pool.specs.Slots.{slot_value, slot_of, free_slot, without, changed};
+ghost use Rattle.queue_core.specs.Held.{new_queue, Creates, Finds, live_reply, with_opened, with_task, without_task, put_reply, NoTaskAt, IsUnendedTask, first_task, facts_of, FindsIn, AreRetiredEmpty};
 
 pub use facts::QueueFacts;
 use handle_pool::Pool;
@@ -68,6 +68,13 @@ impl Queues {
         })
     }
 
+    /// Slots that have retired hold no queue.
+    pub fn is_kept(&self)
+        ensures { AreRetiredEmpty self.now.pool }
+    {
+        let _ = self.pool.max();
+    }
+
     /// Makes an enabled queue with no tasks. `ErrQueueExists` where a live queue has the id, then `ErrQueueLimit` where there is no room.
     pub fn create(&mut self, id: u32, job: u32, attr: QueueAttr) -> Result<QueueHandle, MtapiStatus>
         ensures { Creates self.old (new_queue id job attr) result self.new }
@@ -93,7 +100,7 @@ impl Queues {
 
     /// Has the tasks of a queue begin again. `ErrQueueInvalid` where it isn't live.
     pub fn enable(&mut self, q: QueueHandle) -> Result<(), MtapiStatus>
-        ensures reply { result ≡ live_reply (get self.old.pool q.0) }
+        ensures reply { result ≡ live_reply (slot_value self.old.pool q.0) }
         ensures new { self.new ≡ record self.old { pool = changed self.old.pool q.0 (with_opened true) } }
     {
         self.set_enabled(q, true)
@@ -101,14 +108,14 @@ impl Queues {
 
     /// Has no further task of a queue begin. `ErrQueueInvalid` where it isn't live.
     pub fn disable(&mut self, q: QueueHandle) -> Result<(), MtapiStatus>
-        ensures reply { result ≡ live_reply (get self.old.pool q.0) }
+        ensures reply { result ≡ live_reply (slot_value self.old.pool q.0) }
         ensures new { self.new ≡ record self.old { pool = changed self.old.pool q.0 (with_opened false) } }
     {
         self.set_enabled(q, false)
     }
 
     fn set_enabled(&mut self, q: QueueHandle, enabled: bool) -> Result<(), MtapiStatus>
-        ensures reply { result ≡ live_reply (get self.old.pool q.0) }
+        ensures reply { result ≡ live_reply (slot_value self.old.pool q.0) }
         ensures new { self.new ≡ record self.old { pool = changed self.old.pool q.0 (with_opened enabled) } }
     {
         let Some(queue) = self.pool.get_mut(q.0) else {
@@ -120,7 +127,7 @@ impl Queues {
 
     /// Gives up a queue and forgets its tasks. `ErrQueueInvalid` where it isn't live.
     pub fn delete(&mut self, q: QueueHandle) -> Result<(), MtapiStatus>
-        ensures reply { result ≡ live_reply (get self.old.pool q.0) }
+        ensures reply { result ≡ live_reply (slot_value self.old.pool q.0) }
         ensures ok { OnOk result (self.new ≡ record self.old { pool = without self.old.pool q.0 }) }
         ensures err { OnErr result (self.new ≡ self.old) }
     {
@@ -136,7 +143,7 @@ impl Queues {
     pub fn put(&mut self, q: QueueHandle, t: TaskHandle) -> Result<(), MtapiStatus>
         requires slot { slot_of t.0 < self.old.tasks }
         requires alone { NoTaskAt (slot_of t.0) self.old.pool }
-        ensures reply { result ≡ put_reply (get self.old.pool q.0) }
+        ensures reply { result ≡ put_reply (slot_value self.old.pool q.0) }
         ensures ok { OnOk result (self.new ≡ record self.old { pool = changed self.old.pool q.0 (with_task t.0) }) }
         ensures err { OnErr result (self.new ≡ self.old) }
     {
@@ -155,7 +162,7 @@ impl Queues {
 
     /// Takes an unended task out of its queue.
     pub fn ended(&mut self, q: QueueHandle, t: TaskHandle)
-        requires { IsUnendedTask t.0 (get self.old.pool q.0) }
+        requires { IsUnendedTask t.0 (slot_value self.old.pool q.0) }
         ensures { self.new ≡ record self.old { pool = changed self.old.pool q.0 (without_task t.0) } }
     {
         self.tasks.remove(slot_of(q.0), t.0);
@@ -163,7 +170,7 @@ impl Queues {
 
     /// The unended task of a live queue that was put first.
     pub fn head(&self, q: QueueHandle) -> Option<TaskHandle>
-        ensures { option_map (λ (t : TaskHandle). t.0) result ≡ first_task (get self.now.pool q.0) }
+        ensures { option_map (λ (t : TaskHandle). t.0) result ≡ first_task (slot_value self.now.pool q.0) }
     {
         let Some(_) = self.pool.get(q.0) else {
             return None;
@@ -176,7 +183,7 @@ impl Queues {
 
     /// A live queue at a glance.
     pub fn facts(&self, q: QueueHandle) -> Option<QueueFacts>
-        ensures { result ≡ option_map facts_of (get self.now.pool q.0) }
+        ensures { result ≡ option_map facts_of (slot_value self.now.pool q.0) }
     {
         match self.pool.get(q.0) {
             Some(queue) => Some(queue.facts(self.tasks.len(slot_of(q.0)))),

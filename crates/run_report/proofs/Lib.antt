@@ -1,5 +1,10 @@
-pub mod Records
-pub mod Steps
+pub mod Listed
+pub mod Sound
+pub mod Follow
+pub mod Rows
+pub mod History
+pub mod LiveActions
+pub mod EndLoop
 pub mod Zips
 pub mod Seats
 pub mod Parts

@@ -8,19 +8,16 @@ use Rattle.mtapi_values.specs.Attributes.{NodeSettings}
 use Rattle.mtapi_values.specs.declared.ends.TaskEnd.{TaskEnd}
 use Rattle.workload_file.specs.declared.workload.Part.{Part}
 use Rattle.mtapi_machine.specs.Legal.{NodeEntry}
-use Rattle.mtapi_machine.specs.Legal.{Legal, after}
+use Rattle.mtapi_machine.specs.Legal.{Legal}
 use Rattle.workload_file.specs.declared.workload.Workload.{Workload}
-use Rattle.run_report.specs.declared.standing.Standing.{Standing}
-use Rattle.mtapi_machine.specs.Ends.{end_at}
 use Rattle.run_report.specs.Calls.{task_lines, call_lines}
-use Rattle.run_report.specs.Standings.{ends_of, end_of_standing, standings_from, no_standing}
+use Rattle.run_report.specs.Seen.{Seen, nothing_seen, seen_from}
+use Rattle.run_report.specs.Standings.{SameAs}
 use Rattle.mtapi_values.specs.declared.handles.Layout.{Layout}
-use Rattle.mtapi_machine.specs.State.{terms_of}
-use Rattle.node_core.specs.Supported.{AllSupported}
+use Rattle.mtapi_machine.specs.State.{terms_with}
 use Rattle.run_report.specs.Report.{run_terms, parts_told, report_by, report}
-use Rattle.run_report.proofs.Records.{end_at-standing}
-use Rattle.run_report.proofs.Steps.{standing_by_entries}
-use Rattle.run_report.specs.Replies.{Told, told, further_told, all_told, calls_before}
+use Rattle.run_report.proofs.History.{ends_by_entries}
+use Rattle.run_report.specs.Replies.{Told, reported, further_told, all_told, calls_before}
 
 abbrev pub rest_of : {X : Type 0} → List X → List X
 rest_of xs = take (length xs - 1) (drop 1 xs)
@@ -41,14 +38,14 @@ two_pieces now mid out a b whole is first second = second ∙ ap (λ x. x ++ b) 
 
 -- what the parts of further callers show is what the first shows, and then what the others show
 pub further_more : (f : Told → List ℕ) (who : ℕ) (es : List NodeEntry) (p : Part) (ps : List Part) → 1 ≤ length ps → p ≡ get_or ps 0 p
-    → flat_map f (further_told who es ps) ≡ f (told who 1 es p) ++ flat_map f (further_told (who + 1) es (rest_of ps))
+    → flat_map f (further_told who es ps) ≡ f (reported who 1 es p) ++ flat_map f (further_told (who + 1) es (rest_of ps))
 unfolding further_told
 further_more f who es p ps h is = ap (λ l. flat_map f (further_told who es l)) (first_with ps p h is)
 
 pub all_more : (f : Told → List ℕ) (main : ℕ) (es : List NodeEntry) (p : Part) (ps : List Part) (before : ℕ) → 1 ≤ length ps → p ≡ get_or ps 0 p → before ≡ calls_before p.statements
-    → flat_map f (all_told main es ps) ≡ f (told main before es p) ++ flat_map f (further_told (main + 1) es (rest_of ps))
+    → flat_map f (all_told main es ps) ≡ f (reported main before es p) ++ flat_map f (further_told (main + 1) es (rest_of ps))
 all_more f main es p ps before h is same =
-    ap (λ l. flat_map f (all_told main es l)) (first_with ps p h is) ∙ (λ j. f (told main (sym same j) es p) ++ flat_map f (further_told (main + 1) es (rest_of ps)))
+    ap (λ l. flat_map f (all_told main es l)) (first_with ps p h is) ∙ (λ j. f (reported main (sym same j) es p) ++ flat_map f (further_told (main + 1) es (rest_of ps)))
 
 -- The whole report
 
@@ -56,30 +53,25 @@ pub if_ok : {E : Type 0} (r : Result (Vec ℕ) E) (a b : List ℕ) → a ≡ b �
 if_ok (Ok v) a b e h = h ∙ e
 if_ok (Err x) a b e h = tt
 
--- the ends by the entries are those in the records of the last state
-ends_same : (layout : Layout) (load : Workload) (es : List NodeEntry) → Legal (run_terms layout load) es → AllSupported es → (h : ℕ) → ends_of (standings_from no_standing es) h ≡ end_at (after (run_terms layout load) es).tasks h
-ends_same layout load es legal plain h = ap end_of_standing (sym (standing_by_entries (run_terms layout load) es legal plain h)) ∙ sym (end_at-standing (after (run_terms layout load) es).tasks h)
-
-pub text_is : (load : Workload) (es : List NodeEntry) (m : ℕ → Option Standing) (workers : ℕ) (parts : List Part) (no_tasks no_calls tasks calls : List ℕ) → ((h : ℕ) → m h ≡ standings_from no_standing es h)
-    → workers ≡ load.settings.workers → parts ≡ load.parts → no_tasks ≡ [] → no_calls ≡ []
-    → tasks ≡ no_tasks ++ flat_map (task_lines (ends_of m)) (all_told workers es parts) → calls ≡ no_calls ++ flat_map call_lines (all_told workers es parts)
-    → tasks ++ calls ≡ report_by (ends_of (standings_from no_standing es)) (parts_told load es)
-text_is load es m workers parts no_tasks no_calls tasks calls is w p nt nc t c =
+-- the text by the ends that were found and by the lines that were put together
+pub text_is : (load : Workload) (es : List NodeEntry) (v : Seen) (n : ℕ) (parts : List Part) (no_tasks no_calls tasks calls : List ℕ) → SameAs v (seen_from n nothing_seen es)
+    → n ≡ load.settings.workers → parts ≡ load.parts → no_tasks ≡ [] → no_calls ≡ []
+    → tasks ≡ no_tasks ++ flat_map (task_lines v.ends) (all_told n es parts) → calls ≡ no_calls ++ flat_map call_lines (all_told n es parts)
+    → tasks ++ calls ≡ report_by (seen_from load.settings.workers nothing_seen es).ends (parts_told load es)
+text_is load es v n parts no_tasks no_calls tasks calls is w p nt nc t c =
     (λ j. t j ++ c j)
-    ∙ (λ j. (nt j ++ flat_map (task_lines (ends_of m)) (all_told (w j) es (p j))) ++ (nc j ++ flat_map call_lines (all_told (w j) es (p j))))
-    ∙ ap (λ (f : ℕ → Option Standing). report_by (ends_of f) (parts_told load es)) (λ j h. is h j)
+    ∙ (λ j. (nt j ++ flat_map (task_lines v.ends) (all_told n es (p j))) ++ (nc j ++ flat_map call_lines (all_told n es (p j))))
+    ∙ ap (λ (f : ℕ → Option TaskEnd). report_by f (all_told n es load.parts)) (λ j h. is.ends h j)
+    ∙ ap (λ (k : ℕ). report_by (seen_from k nothing_seen es).ends (all_told k es load.parts)) w
 
-pub report_is : (layout : Layout) (load : Workload) (es : List NodeEntry) → Legal (run_terms layout load) es → AllSupported es → report_by (ends_of (standings_from no_standing es)) (parts_told load es) ≡ report layout load es
+pub report_is : (layout : Layout) (load : Workload) (es : List NodeEntry) → Legal (run_terms layout load) es → report_by (seen_from load.settings.workers nothing_seen es).ends (parts_told load es) ≡ report layout load es
 unfolding report
-report_is layout load es legal plain = ap (λ (f : ℕ → Option TaskEnd). report_by f (parts_told load es)) (λ j h. ends_same layout load es legal plain h j)
+report_is layout load es legal = ap (λ (f : ℕ → Option TaskEnd). report_by f (parts_told load es)) (λ j h. ends_by_entries (run_terms layout load) es legal h j)
 
 -- a journal with the terms of the workload is legal for these
 pub legal_same : (layout : Layout) (load : Workload) (settings : NodeSettings) (callers : ℕ) (es fs : List NodeEntry) → settings ≡ load.settings → callers ≡ length load.parts → es ≡ fs
-    → Legal (terms_of layout settings callers) fs → Legal (run_terms layout load) es
+    → Legal (terms_with layout settings callers) fs → Legal (run_terms layout load) es
 legal_same layout load settings callers es fs s c e legal =
-    let at_settings : Legal (terms_of layout load.settings callers) fs = subst (λ (x : NodeSettings). Legal (terms_of layout x callers) fs) s legal in
-    let at_callers : Legal (run_terms layout load) fs = subst (λ (n : ℕ). Legal (terms_of layout load.settings n) fs) c at_settings in
+    let at_settings : Legal (terms_with layout load.settings callers) fs = subst (λ (x : NodeSettings). Legal (terms_with layout x callers) fs) s legal in
+    let at_callers : Legal (run_terms layout load) fs = subst (λ (n : ℕ). Legal (terms_with layout load.settings n) fs) c at_settings in
     subst (λ (l : List NodeEntry). Legal (run_terms layout load) l) (sym e) at_callers
-
-pub supported_same : (es fs : List NodeEntry) → es ≡ fs → AllSupported fs → AllSupported es
-supported_same es fs e plain = subst AllSupported (sym e) plain

@@ -3,5 +3,7 @@ pub mod Tasks
 pub mod Calls
 pub mod Places
 pub mod Report
+pub mod Changes
+pub mod Seen
 pub mod Standings
 pub mod Worked

@@ -5,7 +5,7 @@ use Rattle.mtapi_values.specs.declared.ends.TaskEnd.{TaskEnd}
 use Rattle.workload_file.specs.declared.workload.Workload.{Workload}
 use Rattle.mtapi_values.specs.declared.handles.Layout.{Layout}
 use Rattle.mtapi_machine.specs.declared.terms.Terms.{Terms}
-use Rattle.mtapi_machine.specs.State.{terms_of}
+use Rattle.mtapi_machine.specs.State.{terms_with}
 use Rattle.mtapi_machine.specs.Ends.{end_at}
 use Rattle.mtapi_machine.specs.Legal.{NodeEntry, after}
 use Rattle.run_report.specs.Replies.{Told, all_told}
@@ -13,7 +13,7 @@ use Rattle.run_report.specs.Calls.{task_lines, call_lines}
 
 -- the terms of a run of a workload: its settings, and one caller for each part
 abbrev pub run_terms : Layout → Workload → Terms
-run_terms layout load = terms_of layout load.settings (length load.parts)
+run_terms layout load = terms_with layout load.settings (length load.parts)
 
 -- each part with the replies to its statements
 abbrev pub parts_told : Workload → List NodeEntry → List Told

@@ -1,12 +1,14 @@
 //! The report of a run of a workload: what became of each task, and what the calls answered.
 #![tactic(auto)]
 
+mod actions;
 mod call_lines;
+mod changes;
 mod deciding;
 mod page;
 mod places;
 mod sorts;
-mod standing;
+mod standings;
 mod task_lines;
 #[cfg(test)]
 mod tests;
@@ -14,7 +16,8 @@ mod text;
 mod whole;
 mod worked;
 
+pub use changes::{Change, LiveAction, LiveQueue, Unstarted};
 pub use sorts::Shown;
-pub use standing::{Change, Standing};
+pub use standings::{Passing, Standings};
 pub use whole::{report_of, report_of_entries};
 pub use worked::worked_reports;

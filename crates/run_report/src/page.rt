@@ -1,18 +1,19 @@
 //! The lines of the parts of a workload, put together.
-ghost use Rattle.std.specs.Prelude.{◌≡◌, ◌++◌, [], ◌+◌, ◌<◌, ◌^◌, length, OnOk, IfOk};
+ghost use Rattle.std.specs.Prelude.{◌≡◌, ◌++◌, [], ◌+◌, ◌<◌, ◌^◌, ◌≤◌, length, OnOk, IfOk};
 ghost use Rattle.std.specs.List.{flat_map};
-ghost use Rattle.run_report.specs.Replies.{told, further_told, all_told};
+ghost use Rattle.run_report.specs.Replies.{reported, further_told, all_told};
 ghost use Rattle.run_report.specs.Calls.{task_lines, call_lines};
 ghost use Rattle.std.specs.Ordering.{nat_cmp};
 ghost use Rattle.std.specs.BTreeMap.{get};
-ghost use Rattle.run_report.specs.Standings.{ends_of, standings_from, no_standing};
+ghost use Rattle.run_report.specs.Seen.{nothing_seen, seen_from};
 ghost use Rattle.run_report.specs.Report.{parts_told, report_by};
 
 use crate::call_lines::push_call_lines;
 use crate::deciding::{behind, calls_before, decided};
-use crate::standing::{Standing, standings_of};
+use crate::standings::standings_of;
 use crate::task_lines::push_task_lines;
 use mtapi_machine::Entry;
+use mtapi_values::TaskEnd;
 use std::alloc::{AllocError, Global};
 use std::collections::BTreeMap;
 use workload_file::{Part, Workload};
@@ -32,16 +33,16 @@ fn push_part(
     before: usize,
     part: &Part,
     entries: &[Entry],
-    standings: &BTreeMap<u64, Standing>,
+    ended: &BTreeMap<u64, TaskEnd>,
 ) -> Result<(), AllocError>
-    ensures tasks { OnOk result (page.new.tasks.items ≡ page.old.tasks.items ++ task_lines (ends_of (get nat_cmp standings.now)) (told who before entries.now part.now)) }
-    ensures calls { OnOk result (page.new.calls.items ≡ page.old.calls.items ++ call_lines (told who before entries.now part.now)) }
+    ensures tasks { OnOk result (page.new.tasks.items ≡ page.old.tasks.items ++ task_lines (get nat_cmp ended.now) (reported who before entries.now part.now)) }
+    ensures calls { OnOk result (page.new.calls.items ≡ page.old.calls.items ++ call_lines (reported who before entries.now part.now)) }
 {
     let all = decided(alloc, who, entries)?;
     let replies = behind(&all, before);
     let name = part.name.as_slice();
     let statements = part.statements.as_slice();
-    push_task_lines(alloc, &mut page.tasks, name, standings, statements, replies)?;
+    push_task_lines(alloc, &mut page.tasks, name, ended, statements, replies)?;
     push_call_lines(alloc, &mut page.calls, name, statements, replies)
 }
 
@@ -53,17 +54,17 @@ fn push_further(
     who: u32,
     parts: &[Part],
     entries: &[Entry],
-    standings: &BTreeMap<u64, Standing>,
+    ended: &BTreeMap<u64, TaskEnd>,
 ) -> Result<(), AllocError>
     requires { who + length parts.now < 2 ^ 32 }
-    ensures tasks { OnOk result (page.new.tasks.items ≡ page.old.tasks.items ++ flat_map (task_lines (ends_of (get nat_cmp standings.now))) (further_told who entries.now parts.now)) }
+    ensures tasks { OnOk result (page.new.tasks.items ≡ page.old.tasks.items ++ flat_map (task_lines (get nat_cmp ended.now)) (further_told who entries.now parts.now)) }
     ensures calls { OnOk result (page.new.calls.items ≡ page.old.calls.items ++ flat_map call_lines (further_told who entries.now parts.now)) }
 {
     match parts {
         [] => Ok(()),
         [part, rest @ ..] => {
-            push_part(alloc, page, who, 1, part, entries, standings)?;
-            push_further(alloc, page, who + 1, rest, entries, standings)
+            push_part(alloc, page, who, 1, part, entries, ended)?;
+            push_further(alloc, page, who + 1, rest, entries, ended)
         }
     }
 }
@@ -75,25 +76,17 @@ fn push_all(
     main: u32,
     parts: &[Part],
     entries: &[Entry],
-    standings: &BTreeMap<u64, Standing>,
+    ended: &BTreeMap<u64, TaskEnd>,
 ) -> Result<(), AllocError>
     requires { main + length parts.now < 2 ^ 32 }
-    ensures tasks { OnOk result (page.new.tasks.items ≡ page.old.tasks.items ++ flat_map (task_lines (ends_of (get nat_cmp standings.now))) (all_told main entries.now parts.now)) }
+    ensures tasks { OnOk result (page.new.tasks.items ≡ page.old.tasks.items ++ flat_map (task_lines (get nat_cmp ended.now)) (all_told main entries.now parts.now)) }
     ensures calls { OnOk result (page.new.calls.items ≡ page.old.calls.items ++ flat_map call_lines (all_told main entries.now parts.now)) }
 {
     match parts {
         [] => Ok(()),
         [part, further @ ..] => {
-            push_part(
-                alloc,
-                page,
-                main,
-                calls_before(part),
-                part,
-                entries,
-                standings,
-            )?;
-            push_further(alloc, page, main + 1, further, entries, standings)
+            push_part(alloc, page, main, calls_before(part), part, entries, ended)?;
+            push_further(alloc, page, main + 1, further, entries, ended)
         }
     }
 }
@@ -123,18 +116,20 @@ pub fn text_by_entries(
     load: &Workload,
     entries: &[Entry],
 ) -> Result<Vec<u8>, AllocError>
-    requires { load.now.settings.workers + length load.now.parts < 2 ^ 32 }
-    ensures { IfOk result (λ text. text.items ≡ report_by (ends_of (standings_from no_standing entries.now)) (parts_told load.now entries.now)) }
+    requires seats { load.now.settings.workers + length load.now.parts < 2 ^ 32 }
+    requires workers { load.now.settings.workers ≤ 64 }
+    ensures { IfOk result (λ text. text.items ≡ report_by (seen_from load.now.settings.workers nothing_seen entries.now).ends (parts_told load.now entries.now)) }
 {
-    let standings = standings_of(alloc, entries)?;
+    let workers = load.settings.workers();
+    let standings = standings_of(alloc, workers, entries)?;
     let mut page = empty_page(alloc);
     push_all(
         alloc,
         &mut page,
-        load.settings.workers(),
+        workers,
         load.parts.as_slice(),
         entries,
-        &standings,
+        &standings.ended,
     )?;
     joined(page)
 }

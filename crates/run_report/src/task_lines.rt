@@ -4,12 +4,11 @@ ghost use Rattle.run_report.specs.Tasks.{task_text};
 ghost use Rattle.run_report.specs.Calls.{shown_of, is_task, task_line, task_lines_of};
 ghost use Rattle.std.specs.Ordering.{nat_cmp};
 ghost use Rattle.std.specs.BTreeMap.{get};
-ghost use Rattle.run_report.specs.Standings.{ends_of};
 
 use crate::sorts::{Shown, shown_of};
-use crate::standing::Standing;
 use crate::text::{name_of, push_end};
 use mtapi_machine::Reply;
+use mtapi_values::TaskEnd;
 use std::alloc::{AllocError, Global};
 use std::collections::BTreeMap;
 use workload_file::Statement;
@@ -18,14 +17,14 @@ use workload_file::Statement;
 fn push_task(
     alloc: Global,
     out: &mut Vec<u8>,
-    standings: &BTreeMap<u64, Standing>,
+    ended: &BTreeMap<u64, TaskEnd>,
     reply: &Reply,
 ) -> Result<(), AllocError>
-    ensures { OnOk result (out.new.items ≡ out.old.items ++ task_text (ends_of (get nat_cmp standings.now)) reply.now) }
+    ensures { OnOk result (out.new.items ≡ out.old.items ++ task_text (get nat_cmp ended.now) reply.now) }
 {
     match reply {
-        Reply::Handle(handle) => match standings.get(handle) {
-            Some(Standing::Ended(end)) => push_end(alloc, out, end),
+        Reply::Handle(handle) => match ended.get(handle) {
+            Some(end) => push_end(alloc, out, end),
             _ => Ok(()),
         },
         Reply::Mtapi(status) => {
@@ -40,17 +39,17 @@ fn push_task_line(
     alloc: Global,
     out: &mut Vec<u8>,
     part: &[u8],
-    standings: &BTreeMap<u64, Standing>,
+    ended: &BTreeMap<u64, TaskEnd>,
     statement: &Statement,
     reply: &Reply,
 ) -> Result<(), AllocError>
-    ensures { OnOk result (out.new.items ≡ out.old.items ++ task_line part.now (ends_of (get nat_cmp standings.now)) statement.now reply.now) }
+    ensures { OnOk result (out.new.items ≡ out.old.items ++ task_line part.now (get nat_cmp ended.now) statement.now reply.now) }
 {
     out.extend_from_slice(part)?;
     out.push(b'.')?;
     out.extend_from_slice(name_of(statement))?;
     out.push(b' ')?;
-    push_task(alloc, out, standings, reply)?;
+    push_task(alloc, out, ended, reply)?;
     out.push(b'\n')?;
     Ok(())
 }
@@ -59,14 +58,14 @@ fn push_if_task(
     alloc: Global,
     out: &mut Vec<u8>,
     part: &[u8],
-    standings: &BTreeMap<u64, Standing>,
+    ended: &BTreeMap<u64, TaskEnd>,
     statement: &Statement,
     reply: &Reply,
 ) -> Result<(), AllocError>
-    ensures { OnOk result (out.new.items ≡ out.old.items ++ (if is_task (shown_of statement.now.deed) then task_line part.now (ends_of (get nat_cmp standings.now)) statement.now reply.now else [])) }
+    ensures { OnOk result (out.new.items ≡ out.old.items ++ (if is_task (shown_of statement.now.deed) then task_line part.now (get nat_cmp ended.now) statement.now reply.now else [])) }
 {
     match shown_of(&statement.deed) {
-        Shown::Task => push_task_line(alloc, out, part, standings, statement, reply),
+        Shown::Task => push_task_line(alloc, out, part, ended, statement, reply),
         _ => Ok(()),
     }
 }
@@ -76,17 +75,17 @@ pub fn push_task_lines(
     alloc: Global,
     out: &mut Vec<u8>,
     part: &[u8],
-    standings: &BTreeMap<u64, Standing>,
+    ended: &BTreeMap<u64, TaskEnd>,
     statements: &[Statement],
     replies: &[Reply],
 ) -> Result<(), AllocError>
-    ensures { OnOk result (out.new.items ≡ out.old.items ++ task_lines_of part.now (ends_of (get nat_cmp standings.now)) statements.now replies.now) }
+    ensures { OnOk result (out.new.items ≡ out.old.items ++ task_lines_of part.now (get nat_cmp ended.now) statements.now replies.now) }
 {
     for (i, statement) in statements.iter().enumerate() {
         let Some(reply) = replies.get(i) else {
             return Ok(());
         };
-        push_if_task(alloc, out, part, standings, statement, reply)?;
+        push_if_task(alloc, out, part, ended, statement, reply)?;
     }
     Ok(())
 }

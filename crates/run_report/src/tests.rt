@@ -5,8 +5,8 @@ use action_fn::{Finished, act_add};
 use history::Entry;
 use mtapi_machine::{Op, Reply};
 use mtapi_values::{
-    ActionHandle, Args, Kind, Mask, MrapiStatus, MtapiStatus, NodeAttr, TaskEnd, TaskHandle,
-    Timeout,
+    ActionHandle, Args, Kind, Mask, MrapiStatus, MtapiStatus, NodeAttr, QueueHandle, TaskEnd,
+    TaskHandle, Timeout,
 };
 use std::alloc::Global;
 use std::test::Fail;
@@ -15,6 +15,8 @@ use workload_file::{Deed, Name, Part, PartList, Statement, StatementList, Worklo
 const FIRST: u64 = 4294967296;
 
 const SECOND: u64 = 4294967297;
+
+const THIRD: u64 = 4294967298;
 
 const MAIN: u32 = 1;
 
@@ -260,5 +262,164 @@ fn every_kind_of_line(rt: HostRuntime) -> Result<(), Fail> {
     let mut wanted = tasks.to_vec(alloc)?;
     wanted.extend_from_slice(calls)?;
     assert!(rt; text(alloc, parts, &entries)?.as_slice() == wanted.as_slice());
+    Ok(())
+}
+
+fn queue(retain: bool) -> Op {
+    Op::QueueCreate {
+        id: 1,
+        job: 1,
+        priority: 0,
+        limit: 8,
+        ordered: false,
+        retain,
+    }
+}
+
+fn enqueue(values: &[i64]) -> Op {
+    Op::TaskEnqueue {
+        queue: QueueHandle(FIRST),
+        args: numbers(values),
+        cores: Mask(u64::MAX),
+        detached: false,
+        group: None,
+    }
+}
+
+fn ok(op: Op) -> Entry<Op, Reply> {
+    entry(MAIN, op, Reply::Ok)
+}
+
+fn queued(place: u32) -> Deed {
+    Deed::Enqueue {
+        queue: place,
+        args: Args::new(),
+        cores: Mask(u64::MAX),
+        detached: false,
+        group: None,
+    }
+}
+
+// The lines of three tasks: `x` and `y` are put into a queue, which keeps its tasks or not, a worker takes `x`, and `z` is started
+// without a queue; then these entries follow.
+fn ends_of_three(
+    alloc: Global,
+    retain: bool,
+    more: Vec<Entry<Op, Reply>>,
+) -> Result<Vec<u8>, Fail> {
+    let deed = Deed::Queue {
+        id: 1,
+        job: 1,
+        priority: 0,
+        limit: 8,
+        ordered: false,
+        retain,
+    };
+    let statements = vec![in alloc;
+        statement(1, b"a", action()),
+        statement(2, b"q", deed),
+        statement(3, b"x", queued(1)),
+        statement(4, b"y", queued(1)),
+        statement(5, b"z", start(&[])),
+    ]?;
+    let mut entries = vec![in alloc;
+        ok(Op::Initialize),
+        ok(Op::Release),
+        action_made(),
+        entry(MAIN, queue(retain), Reply::Handle(FIRST)),
+        entry(MAIN, enqueue(&[]), Reply::Handle(FIRST)),
+        entry(MAIN, enqueue(&[]), Reply::Handle(SECOND)),
+        entry(MAIN, start_op(&[]), Reply::Handle(THIRD)),
+        picked(FIRST, &[]),
+    ]?;
+    for entry in more {
+        entries.push(entry)?;
+    }
+    let parts = vec![in alloc; part(alloc, 0, b"main", statements)?]?;
+    text(alloc, parts, &entries)
+}
+
+// Ops that end many tasks: a running one ends by itself.
+#[test]
+fn one_op_ends_many(rt: HostRuntime) -> Result<(), Fail> {
+    let alloc = rt.alloc();
+    let queue = QueueHandle(FIRST);
+    let action = ActionHandle(FIRST);
+    let tally = TaskHandle(FIRST);
+    let error = MtapiStatus::ErrActionFailed;
+    let cases = vec![in alloc;
+        (
+            false,
+            vec![in alloc; ok(Op::QueueDisable { queue })]?,
+            b"main.x \nmain.y cancelled\nmain.z \n".as_slice(),
+        ),
+        (
+            true,
+            vec![in alloc; ok(Op::QueueDisable { queue })]?,
+            b"main.x \nmain.y \nmain.z \n".as_slice(),
+        ),
+        (
+            true,
+            vec![in alloc; ok(Op::QueueDisable { queue }), ok(Op::Close)]?,
+            b"main.x \nmain.y cancelled\nmain.z \n".as_slice(),
+        ),
+        (
+            true,
+            vec![in alloc;
+                ok(Op::QueueDisable { queue }),
+                ok(Op::QueueEnable { queue }),
+                ok(Op::Close),
+            ]?,
+            b"main.x \nmain.y \nmain.z \n".as_slice(),
+        ),
+        (
+            true,
+            vec![in alloc; ok(Op::QueueDelete { queue }), finished(FIRST, &[])]?,
+            b"main.x completed 0\nmain.y error MTAPI_ERR_QUEUE_DELETED\nmain.z \n".as_slice(),
+        ),
+        (
+            false,
+            vec![in alloc; ok(Op::ActionDelete { action })]?,
+            b"main.x \nmain.y error MTAPI_ERR_ACTION_DELETED\nmain.z error MTAPI_ERR_ACTION_DELETED\n".as_slice(),
+        ),
+        (
+            false,
+            vec![in alloc;
+                ok(Op::ActionDisable { action }),
+                ok(Op::ActionEnable { action })
+            ]?,
+            b"main.x \nmain.y error MTAPI_ERR_ACTION_DISABLED\nmain.z error MTAPI_ERR_ACTION_DISABLED\n".as_slice(),
+        ),
+        (
+            false,
+            vec![in alloc;
+                entry(
+                    MAIN,
+                    Op::ActionCreate {
+                        job: 1,
+                        kind: Kind::Mul,
+                        cores: Mask(1)
+                    },
+                    Reply::Handle(SECOND)
+                ),
+                ok(Op::ActionDelete { action }),
+            ]?,
+            b"main.x \nmain.y \nmain.z \n".as_slice(),
+        ),
+        (
+            false,
+            vec![in alloc;
+                entry(
+                    0,
+                    Op::TallyEnd { task: tally },
+                    Reply::Ended(TaskEnd::Failed(error))
+                ),
+            ]?,
+            b"main.x error MTAPI_ERR_ACTION_FAILED\nmain.y \nmain.z \n".as_slice(),
+        ),
+    ]?;
+    for (retain, more, wanted) in cases {
+        assert!(rt; ends_of_three(alloc, retain, more)?.as_slice() == wanted);
+    }
     Ok(())
 }

@@ -1,8 +1,7 @@
 //! The report of a run.
 ghost use Rattle.std.specs.Prelude.{◌≡◌, length, IfOk};
 ghost use Rattle.mtapi_machine.specs.Legal.{Legal};
-ghost use Rattle.mtapi_machine.specs.State.{terms_of};
-ghost use Rattle.node_core.specs.Supported.{AllSupported};
+ghost use Rattle.mtapi_machine.specs.State.{terms_with};
 ghost use Rattle.run_report.specs.Report.{run_terms, report};
 
 use crate::page::text_by_entries;
@@ -13,7 +12,7 @@ use std::alloc::{AllocError, Global};
 use workload_file::Workload;
 
 /// The report of a run of this workload, by the entries of its journal: what became of each task, and then what the calls
-/// answered. Each entry is by an op that a node carries out so far: each of them ends at most the task that it names.
+/// answered.
 pub fn report_of_entries(
     alloc: Global,
     layout: Layout,
@@ -21,7 +20,6 @@ pub fn report_of_entries(
     entries: &[Entry],
 ) -> Result<Vec<u8>, AllocError>
     requires legal { Legal (run_terms layout load.now) entries.now }
-    requires supported { AllSupported entries.now }
     ensures { IfOk result (λ text. text.items ≡ report layout load.now entries.now) }
 {
     let _ = layout;
@@ -32,8 +30,7 @@ pub fn report_of_entries(
 pub fn report_of(alloc: Global, load: &Workload, journal: &Journal) -> Result<Vec<u8>, AllocError>
     requires settings { journal.now.settings ≡ load.now.settings }
     requires callers { journal.now.callers ≡ length load.now.parts }
-    requires legal { Legal (terms_of journal.now.layout journal.now.settings journal.now.callers) journal.now.entries.entries }
-    requires supported { AllSupported journal.now.entries.entries }
+    requires legal { Legal (terms_with journal.now.layout journal.now.settings journal.now.callers) journal.now.entries.entries }
     ensures { IfOk result (λ text. text.items ≡ report journal.now.layout load.now journal.now.entries.entries) }
 {
     report_of_entries(alloc, journal.layout, load, journal.entries.as_slice())

@@ -200,7 +200,7 @@ module _ (z : Cell) (w m : ℕ) (parts : List Part) (ss : List Statement) (c : C
         let y = caller_came k l h in
         let s = all_has (IsSeatOf z.terms H) (c.others.items ++ c.main ∷ []) y.seat seats y.has in
         let own : entries_of k H ≡ y.seat.mine = ap (λ (n : ℕ). entries_of n H) (sym y.number) ∙ s.mine in
-        let front : entries_of k y.knows.front ≡ entries_of k H = (ap (λ (n : ℕ). entries_of n y.knows.front) (sym y.number) ∙ y.knows.own) ∙ sym own in
+        let prefix : entries_of k y.knows.prefix ≡ entries_of k H = (ap (λ (n : ℕ). entries_of n y.knows.prefix) (sym y.number) ∙ y.knows.own) ∙ sym own in
         let R : List NodeEntry = entry w op.Close x.a ∷ ((x.ending.more.seen.0 ++ x.ending.final.between) ++ entry w op.Final x.b ∷ main_is.seen.0) in
         let whole = in_order w x.m1 x.m2 x.m3 c.main x.a x.b x.ending H main_is.seen main_is.mine in
         let is : H ≡ x.m1.seen ++ (x.ending.closed.between ++ R) = whole ∙ append_assoc x.m1.seen x.ending.closed.between R in
@@ -208,7 +208,7 @@ module _ (z : Cell) (w m : ℕ) (parts : List Part) (ss : List Statement) (c : C
           part = y.did.0;
           is_part = y.did.1;
           did = subst (λ (l : List NodeEntry). CallerAs k y.did.0.statements l) (sym own) (caller_as y.did.0.statements (fresh_seat z.terms z.id k) y.seat refl y.did.2);
-          place = has_longer k x.m1.seen x.ending.closed.between R (entries_of k H) (known_front k H x.m1.seen (x.ending.closed.between ++ R) y.knows.front (entries_of k H) y.knows.begins front is refl);
+          place = has_longer k x.m1.seen x.ending.closed.between R (entries_of k H) (known_front k H x.m1.seen (x.ending.closed.between ++ R) y.knows.prefix (entries_of k H) y.knows.begins prefix is refl);
         }
 
     known_worker : (k : ℕ) → k < w → KnownWorker k H ((x.m1.seen ++ x.ending.closed.between) ++ entry w op.Close x.a ∷ (x.ending.more.seen.0 ++ x.ending.final.between)) (entry w op.Final x.b ∷ main_is.seen.0)
@@ -216,10 +216,10 @@ module _ (z : Cell) (w m : ℕ) (parts : List Part) (ss : List Statement) (c : C
         let y = worker_came k l in
         let s = all_has (IsSeatOf z.terms H) (c.others.items ++ c.main ∷ []) y.seat seats y.has in
         let own : entries_of k H ≡ y.seat.mine = ap (λ (n : ℕ). entries_of n H) (sym y.number) ∙ s.mine in
-        let front : entries_of k y.knows.front ≡ entries_of k H = (ap (λ (n : ℕ). entries_of n y.knows.front) (sym y.number) ∙ y.knows.own) ∙ sym own in
+        let prefix : entries_of k y.knows.prefix ≡ entries_of k H = (ap (λ (n : ℕ). entries_of n y.knows.prefix) (sym y.number) ∙ y.knows.own) ∙ sym own in
         let R : List NodeEntry = entry w op.Final x.b ∷ main_is.seen.0 in
         let is : H ≡ x.m3.seen ++ (x.ending.final.between ++ R) = whole_from w x.m1 x.m2 x.m3 c.main x.a x.b x.ending H main_is.seen main_is.mine in
-        let short : HasAll k (x.m3.seen ++ x.ending.final.between) R (entries_of k H) = has_longer k x.m3.seen x.ending.final.between R (entries_of k H) (known_front k H x.m3.seen (x.ending.final.between ++ R) y.knows.front (entries_of k H) y.knows.begins front is refl) in
+        let short : HasAll k (x.m3.seen ++ x.ending.final.between) R (entries_of k H) = has_longer k x.m3.seen x.ending.final.between R (entries_of k H) (known_front k H x.m3.seen (x.ending.final.between ++ R) y.knows.prefix (entries_of k H) y.knows.begins prefix is refl) in
         record {
           did = subst (λ (l : List NodeEntry). WorkerAs k l) (sym own) (worker_as (fresh_seat z.terms z.id k) y.seat refl y.did);
           place = subst (λ (S : List NodeEntry). HasAll k S R (entries_of k H)) (before_final w x.m1 x.m2 x.m3 c.main x.a x.b x.ending H main_is.seen main_is.mine) short;

@@ -6,7 +6,7 @@ use Rattle.mtapi_values.specs.Seats.{marked, all_marked}
 use Rattle.mtapi_values.specs.declared.statuses.MtapiStatus.TheVariants as m
 use Rattle.mtapi_values.specs.declared.ends.TaskEnd.TheVariants.{Cancelled}
 use Rattle.history.specs.Histories.{entry, entries_of}
-use Rattle.handle_pool.specs.Issued.{any}
+use Rattle.handle_pool.specs.Issued.{any_listed}
 use Rattle.mtapi_objects.specs.Tasks.{runs_on}
 use Rattle.mtapi_objects.specs.Queues.{is_shut_in}
 use Rattle.mtapi_machine.specs.declared.terms.Terms.{Terms}
@@ -15,7 +15,7 @@ use Rattle.mtapi_machine.specs.declared.terms.Phase.TheVariants.{New, Open, Clos
 use Rattle.mtapi_machine.specs.declared.ops.Op.TheVariants as op
 use Rattle.mtapi_machine.specs.declared.replies.Reply.{Reply}
 use Rattle.mtapi_machine.specs.declared.replies.Reply.TheVariants.{Ok, Pending, Idle, Stop, Mtapi}
-use Rattle.mtapi_machine.specs.State.{State, opening, workers, is_new, is_up, is_late, is_stop}
+use Rattle.mtapi_machine.specs.State.{State, opening, workers, is_new, is_up, is_past_open, is_stop}
 use Rattle.mtapi_machine.specs.Moves.{phase_is, stops, ends_waiting, after_moves}
 use Rattle.mtapi_machine.specs.Row.{Row, Allows, unless, gives, says, only, after_row}
 use Rattle.mtapi_machine.specs.WorkRows.{picks, can_take}
@@ -38,15 +38,15 @@ waits_or_ok true r d a = absurd (both (ap is_pending (sym a) ∙ d))
     both e = cc
 waits_or_ok false r d a = a
 
-pub enter_reply : (u : State) (w : ℕ) (r : Reply) → is_late u.phase ≡ false → is_pending r ≡ false → Allows (row u w op.Enter r) r → r ≡ Ok
-enter_reply u w r e d a = waits_or_ok (not u.released) r d (pass (is_late u.phase) (Mtapi m.ErrNodeNotinit) r (unless (not u.released) Pending (says Ok)) u e a).allowed
+pub enter_reply : (u : State) (w : ℕ) (r : Reply) → is_past_open u.phase ≡ false → is_pending r ≡ false → Allows (row u w op.Enter r) r → r ≡ Ok
+enter_reply u w r e d a = waits_or_ok (not u.released) r d (pass (is_past_open u.phase) (Mtapi m.ErrNodeNotinit) r (unless (not u.released) Pending (says Ok)) u e a).allowed
 
 -- The close
 
-pub close_reply : (u : State) (w : ℕ) (r : Reply) → is_late u.phase ≡ false → Allows (row u w op.Close r) r → r ≡ Ok
-close_reply u w r e a = (pass (is_late u.phase) (Mtapi m.ErrNodeNotinit) r (gives Ok (phase_is Closing ∷ ends_waiting (is_shut_in u.queues) Cancelled ∷ [])) u e a).allowed
+pub close_reply : (u : State) (w : ℕ) (r : Reply) → is_past_open u.phase ≡ false → Allows (row u w op.Close r) r → r ≡ Ok
+close_reply u w r e a = (pass (is_past_open u.phase) (Mtapi m.ErrNodeNotinit) r (gives Ok (phase_is Closing ∷ ends_waiting (is_shut_in u.queues) Cancelled ∷ [])) u e a).allowed
 
-pub close_phase : (u : State) (w : ℕ) (r : Reply) → is_late u.phase ≡ false → (next u (entry w op.Close r)).phase ≡ Closing
+pub close_phase : (u : State) (w : ℕ) (r : Reply) → is_past_open u.phase ≡ false → (next u (entry w op.Close r)).phase ≡ Closing
 close_phase u w r e = ap (λ (b : Bool). (after_moves (cond b [] (phase_is Closing ∷ ends_waiting (is_shut_in u.queues) Cancelled ∷ [])) u).phase) e
 
 -- The release, in the state that main's first call left
@@ -73,13 +73,13 @@ only_idle false a = a
 
 stop_set : (b : Bool) (s : State) (w : ℕ) → w < length s.stopped → Allows (cond b (gives Stop (stops w ∷ [])) (picks s w Stop)) Stop → marked w (after_row s (cond b (gives Stop (stops w ∷ [])) (picks s w Stop))).stopped ≡ true
 stop_set true s w h a = set_marks s.stopped w h
-stop_set false s w h a = absurd (only_idle (not (any (can_take s w) s.tasks)) a)
+stop_set false s w h a = absurd (only_idle (not (any_listed (can_take s w) s.tasks)) a)
 
 pub stop_marks : (s : State) (w : ℕ) → w < length s.stopped → IsNext s (entry w op.Pick Stop) → marked w (next s (entry w op.Pick Stop)).stopped ≡ true
 stop_marks s w h n =
     let inner : Row = cond (is_stop s) (gives Stop (stops w ∷ [])) (picks s w Stop) in
-    let g1 = skip _ (Mtapi m.ErrParameter) Stop (unless (any (runs_on w) s.tasks) (Mtapi m.ErrParameter) (unless (is_new s.phase) Idle inner)) s (not_status m.ErrParameter) n.allowed in
-    let g2 = skip (any (runs_on w) s.tasks) (Mtapi m.ErrParameter) Stop (unless (is_new s.phase) Idle inner) s (not_status m.ErrParameter) g1.allowed in
+    let g1 = skip _ (Mtapi m.ErrParameter) Stop (unless (any_listed (runs_on w) s.tasks) (Mtapi m.ErrParameter) (unless (is_new s.phase) Idle inner)) s (not_status m.ErrParameter) n.allowed in
+    let g2 = skip (any_listed (runs_on w) s.tasks) (Mtapi m.ErrParameter) Stop (unless (is_new s.phase) Idle inner) s (not_status m.ErrParameter) g1.allowed in
     let g3 = skip (is_new s.phase) Idle Stop inner s not_idle g2.allowed in
     subst (λ (t : State). marked w t.stopped ≡ true) (sym (g1.leads ∙ (g2.leads ∙ g3.leads))) (stop_set (is_stop s) s w h g3.allowed)
 
@@ -87,16 +87,16 @@ after-behind : (s : State) (A : List NodeEntry) (e : NodeEntry) (B : List NodeEn
 unfolding after_from
 after-behind s A e B = after-append s A (e ∷ B)
 
--- a worker whose last entry in a front is a stop is marked from then on
+-- a worker whose last entry in a prefix is a stop is marked from then on
 pub stopped_mark : (terms : Terms) (w : ℕ) (S M xs : List NodeEntry) → w < 25 → LegalFrom (opening terms) (S ++ M) → entries_of w S ≡ xs ++ entry w op.Pick Stop ∷ [] → marked w (after_from (opening terms) (S ++ M)).stopped ≡ true
 stopped_mark terms w S M xs few l k =
     let e : NodeEntry = entry w op.Pick Stop in
     let x : Split w S xs (e ∷ []) = own_split w xs S (e ∷ []) k in
     let c : Cut w x.back e [] = first_own w x.back e [] x.rest in
-    let A = x.front ++ c.before in
+    let A = x.prefix ++ c.before in
     let B = c.behind ++ M in
     let is : S ++ M ≡ A ++ e ∷ B =
-    ap (λ (L : List NodeEntry). L ++ M) (x.is ∙ (ap (λ (L : List NodeEntry). x.front ++ L) c.is ∙ sym (append_assoc x.front c.before (e ∷ c.behind))))
+    ap (λ (L : List NodeEntry). L ++ M) (x.is ∙ (ap (λ (L : List NodeEntry). x.prefix ++ L) c.is ∙ sym (append_assoc x.prefix c.before (e ∷ c.behind))))
     ∙ append_assoc A (e ∷ c.behind) M in
     let whole : LegalFrom (opening terms) (A ++ e ∷ B) = subst (λ (L : List NodeEntry). LegalFrom (opening terms) L) is l in
     let n = first_next (opening terms) A e B whole in
@@ -115,6 +115,6 @@ all_marks (suc n) (b ∷ bs) h f = (λ i. f 0 (omega arith) i && all_marked n bs
 
 pub final_reply : (u : State) (w : ℕ) (r : Reply) → u.phase ≡ Closing → all_marked (workers u) u.stopped ≡ true → Allows (row u w op.Final r) r → r ≡ Ok
 final_reply u w r e k a =
-    let inner : Row = unless (not (is_late u.phase && all_marked (workers u) u.stopped)) (Mtapi m.ErrNodeInitialized) (gives Ok (phase_is Closed ∷ [])) in
+    let inner : Row = unless (not (is_past_open u.phase && all_marked (workers u) u.stopped)) (Mtapi m.ErrNodeInitialized) (gives Ok (phase_is Closed ∷ [])) in
     let g = pass (not (is_up u.phase)) (Mtapi m.ErrNodeNotinit) r inner u (ap (λ (p : Phase). not (is_up p)) e) a in
-    (pass (not (is_late u.phase && all_marked (workers u) u.stopped)) (Mtapi m.ErrNodeInitialized) r (gives Ok (phase_is Closed ∷ [])) u (λ i. not (is_late (e i) && k i)) g.allowed).allowed
+    (pass (not (is_past_open u.phase && all_marked (workers u) u.stopped)) (Mtapi m.ErrNodeInitialized) r (gives Ok (phase_is Closed ∷ [])) u (λ i. not (is_past_open (e i) && k i)) g.allowed).allowed

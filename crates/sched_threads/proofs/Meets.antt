@@ -40,7 +40,7 @@ seen_then a b c x y = record {
 }
 
 pub knows_more : (m n s : Seat) → HasSeenMore m n → Knows m s → Knows n s
-knows_more m n s h k = record { front = k.front; begins = starts_then k.front m.seen n.seen k.begins h.seen; own = k.own }
+knows_more m n s h k = record { prefix = k.prefix; begins = starts_then k.prefix m.seen n.seen k.begins h.seen; own = k.own }
 
 module _ {X Y : Type 0} where
   pub zip_of : (R : X → Y → Type 0) (xs : List X) (ys : List Y) → length ys ≡ length xs → ((k : ℕ) (d : X) (e : Y) → k < length xs → R (get_or xs k d) (get_or ys k e)) → AllZip R xs ys
@@ -101,7 +101,7 @@ known_more m [] [] a b = tt
 known_more m [] (z ∷ zs) a b = absurd b
 known_more m (y ∷ ys) [] a b = absurd b
 known_more m (y ∷ ys) (z ∷ zs) a b = (
-  record { front = a.0.front; begins = a.0.begins; own = (ap (λ (n : ℕ). entries_of n a.0.front) b.0.number ∙ a.0.own) ∙ sym b.0.mine },
+  record { prefix = a.0.prefix; begins = a.0.begins; own = (ap (λ (n : ℕ). entries_of n a.0.prefix) b.0.number ∙ a.0.own) ∙ sym b.0.mine },
   known_more m ys zs a.1 b.1,
 )
 
@@ -158,7 +158,7 @@ met_more a m m' s s' xs ys zs n x l at more other one own is =
     known_place : (k : ℕ) (d : Seat) → k ≡ n → Knows m' (get_or (set ys n s') k d)
     known_place k d q =
         let there : get_or (set ys n s') k d ≡ s' = ap (λ (j : ℕ). get_or (set ys n s') j d) q ∙ set_same ys n s' d l in
-        subst (λ (w : Seat). Knows m' w) (sym there) (record { front = s'.seen; begins = ([], one ∙ sym (append-nil s'.seen)); own = own })
+        subst (λ (w : Seat). Knows m' w) (sym there) (record { prefix = s'.seen; begins = ([], one ∙ sym (append-nil s'.seen)); own = own })
 
 pub met_all : (a m : Seat) (xs ys : List Seat) (n : ℕ) → length ys ≤ n → MetSoFar a m xs ys n → AreMet a m xs ys
 met_all a m xs ys n l x = record { main = x.main; len = x.len; others = x.others; knows = λ k d h. x.knows k d (omega arith) h }

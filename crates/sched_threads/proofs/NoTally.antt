@@ -1,7 +1,7 @@
 -- A node makes no tallies so far: no worker takes one.
 use Rattle.std.proofs.Common.{◌≡◌, ℕ, Bool, true, false, cond, List, [], ◌∷◌, Option, Some, None, refl, ◌∙◌, ap, subst}
 use Rattle.std.specs.Prelude.{not, ◌==◌, ◌&&◌}
-use Rattle.handle_pool.specs.Issued.{Listed, live_of, lookup, at, change, issue, any, with_fields}
+use Rattle.handle_pool.specs.Issued.{Listed, live_of, lookup, live_object, change, issue, any_listed, with_fields}
 use Rattle.mtapi_objects.specs.Actions.{Action, with_enabled}
 use Rattle.mtapi_machine.specs.declared.ops.Op.{Op}
 use Rattle.mtapi_machine.specs.declared.ops.Op.TheVariants as op
@@ -30,14 +30,18 @@ unfolding issue
 issued h a [] k v = (k, tt)
 issued h a (r ∷ rs) k v = (v.0, issued h a rs k v.1)
 
-enabled : (h : ℕ) (l : List (Listed Action)) → NoneTallies l → NoneTallies (change h (with_fields (with_enabled true)) l)
+-- a change that leaves each action's kind
+same_kinds : (h : ℕ) (f : Listed Action → Listed Action) (l : List (Listed Action)) → ((r : Listed Action) → (f r).fields.kind ≡ r.fields.kind) → NoneTallies l → NoneTallies (change h f l)
 unfolding change
-enabled h [] v = tt
-enabled h (r ∷ rs) v = by (r.live && (r.handle == h)) (enabled h rs v.1)
+same_kinds h f [] keeps v = tt
+same_kinds h f (r ∷ rs) keeps v = by (r.live && (r.handle == h)) (same_kinds h f rs keeps v.1)
   where
-    by : (b : Bool) → NoneTallies (change h (with_fields (with_enabled true)) rs) → NoneTallies (cond b (with_fields (with_enabled true) r ∷ rs) (r ∷ change h (with_fields (with_enabled true)) rs))
-    by true more = (v.0, v.1)
+    by : (b : Bool) → NoneTallies (change h f rs) → NoneTallies (cond b (f r ∷ rs) (r ∷ change h f rs))
+    by true more = (ap is_tally (keeps r) ∙ v.0, v.1)
     by false more = (v.0, more)
+
+enabled : (h : ℕ) (l : List (Listed Action)) → NoneTallies l → NoneTallies (change h (with_fields (with_enabled true)) l)
+enabled h l v = same_kinds h (with_fields (with_enabled true)) l (λ r. refl) v
 
 not_true : (b : Bool) → not b ≡ true → b ≡ false
 not_true true h = absurd (cc)
@@ -47,10 +51,11 @@ made_kind : (a : Action) (o : Op) → is_supported o ≡ true → MakesAction a 
 made_kind a (op.ActionCreate job kind cores) p e = ap (λ (x : Action). is_tally x.kind) e ∙ not_true (is_tally kind) p
 made_kind a _ p e = absurd e
 
-no_withdraw : (h : ℕ) (f : Listed Action → Listed Action) (o : Op) → is_supported o ≡ true → WithdrawsAction h f o → ⊥
-no_withdraw h f (op.ActionDelete a) p w = absurd (cc)
-no_withdraw h f (op.ActionDisable a) p w = absurd (cc)
-no_withdraw h f _ p w = w
+-- an action that goes has the kind that it had
+withdrawn_kind : (h : ℕ) (f : Listed Action → Listed Action) (o : Op) → WithdrawsAction h f o → (r : Listed Action) → (f r).fields.kind ≡ r.fields.kind
+withdrawn_kind h f (op.ActionDelete a) w r = ap (λ (g : Listed Action → Listed Action). (g r).fields.kind) w.1
+withdrawn_kind h f (op.ActionDisable a) w r = ap (λ (g : Listed Action → Listed Action). (g r).fields.kind) w.1
+withdrawn_kind h f _ w r = absurd w
 
 abbrev NoTally : State → Type 0
 NoTally s = NoneTallies s.actions
@@ -58,7 +63,7 @@ NoTally s = NoneTallies s.actions
 move_none : (o : Op) → is_supported o ≡ true → IsKeptBy o NoTally
 move_none o p s (makes_action h a) e v = issued h a s.actions (made_kind a o p e.by) v
 move_none o p s (enables h) e v = enabled h s.actions v
-move_none o p s (withdraws h f c) e v = absurd (no_withdraw h f o p e.by)
+move_none o p s (withdraws h f c) e v = same_kinds h f s.actions (withdrawn_kind h f o e.by) v
 move_none o p s (makes k h x) e v = sorts_keep NoTally (λ t g q m c r y z. z) k _ s v
 move_none o p s (alters k h f) e v = sorts_keep NoTally (λ t g q m c r y z. z) k _ s v
 move_none o p s (removes k h) e v = sorts_keep NoTally (λ t g q m c r y z. z) k _ s v
@@ -69,21 +74,21 @@ unfolding AllSupported after_from
 none_from s [] p v = v
 none_from s (e ∷ es) p v = none_from (next s e) es p.1 (by_moves NoTally s e (move_none e.op p.0) v)
 
--- after entries by ops that a node carries out, no action is a tally
+-- after entries by ops that a node executes, no action is a tally
 pub none_after : (terms : Terms) (L : List NodeEntry) → AllSupported L → NoneTallies (after terms L).actions
 none_after terms L p = none_from (opening terms) L p tt
 
 -- so no live one is
-none_at : (l : List (Listed Action)) (h : ℕ) (a : Action) → NoneTallies l → at l h ≡ Some a → is_tally a.kind ≡ false
+none_at : (l : List (Listed Action)) (h : ℕ) (a : Action) → NoneTallies l → live_object l h ≡ Some a → is_tally a.kind ≡ false
 unfolding live_of
 none_at [] h a v e = absurd (cc)
 none_at (r ∷ rs) h a v e = by_live (λ m. none_at rs h a v.1 m) r.live e
   where
-    by_handle : (at rs h ≡ Some a → is_tally a.kind ≡ false) → (b : Bool) → cond b (Some r.fields) (at rs h) ≡ Some a → is_tally a.kind ≡ false
+    by_handle : (live_object rs h ≡ Some a → is_tally a.kind ≡ false) → (b : Bool) → cond b (Some r.fields) (live_object rs h) ≡ Some a → is_tally a.kind ≡ false
     by_handle rest true m = subst (λ (x : Action). is_tally x.kind ≡ false) (some_same m) v.0
     by_handle rest false m = rest m
 
-    by_live : (at rs h ≡ Some a → is_tally a.kind ≡ false) → (b : Bool) → lookup (cond b ((r.handle, r.fields) ∷ live_of rs) (live_of rs)) h ≡ Some a → is_tally a.kind ≡ false
+    by_live : (live_object rs h ≡ Some a → is_tally a.kind ≡ false) → (b : Bool) → lookup (cond b ((r.handle, r.fields) ∷ live_of rs) (live_of rs)) h ≡ Some a → is_tally a.kind ≡ false
     by_live rest true m = by_handle rest (r.handle == h) m
     by_live rest false m = rest m
 
@@ -103,8 +108,8 @@ on_stops false ms v h = h
 
 picks_none : (s : State) (w : ℕ) (r : Reply) → NoTally s → AllSays NotTally (picks s w r)
 picks_none s w (Picked t a k args) v =
-    on_found (at s.tasks t.0) _ (λ x e. on_found (at s.actions a.0) _ (λ y d. on_only NotTally (may_take s w x y) _ _ (none_at s.actions a.0 y v d)))
-picks_none s w _ v = on_only NotTally (not (any (can_take s w) s.tasks)) Idle [] tt
+    on_found (live_object s.tasks t.0) _ (λ x e. on_found (live_object s.actions a.0) _ (λ y d. on_only NotTally (may_take s w x y) _ _ (none_at s.actions a.0 y v d)))
+picks_none s w _ v = on_only NotTally (not (any_listed (can_take s w) s.tasks)) Idle [] tt
 
 pub pick_none : (s : State) (w : ℕ) (r : Reply) → NoneTallies s.actions → Allows (row s w op.Pick r) r → NotTally r
 pick_none s w r v a = said NotTally (row s w op.Pick r) r (tt, (tt, (tt, on_stops (is_stop s) (stops w ∷ []) (picks s w r) (picks_none s w r v)))) a

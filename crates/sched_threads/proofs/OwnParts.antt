@@ -17,25 +17,25 @@ use Rattle.sched_threads.proofs.TurnMarks.{Cut, first_own}
 pub own_one : (w : ℕ) (e : NodeEntry) → e.who ≡ w → entries_of w (e ∷ []) ≡ e ∷ []
 own_one w e s = (λ i. cond (s i == w) (e ∷ []) []) ∙ ap (λ c. cond c (e ∷ []) []) (self_is w)
 
--- a front of the history has just these entries of the seat, and what is behind it has those
+-- a prefix of the history has just these entries of the seat, and what is behind it has those
 pub record Split (w : ℕ) (H xs ys : List NodeEntry) : Type 0 where
-  pub front : List NodeEntry
+  pub prefix : List NodeEntry
   pub back : List NodeEntry
-  pub is : H ≡ front ++ back
-  pub first : entries_of w front ≡ xs
+  pub is : H ≡ prefix ++ back
+  pub first : entries_of w prefix ≡ xs
   pub rest : entries_of w back ≡ ys
 
 pub own_split : (w : ℕ) (xs H ys : List NodeEntry) → entries_of w H ≡ xs ++ ys → Split w H xs ys
-own_split w [] H ys k = record { front = []; back = H; is = refl; first = refl; rest = k }
+own_split w [] H ys k = record { prefix = []; back = H; is = refl; first = refl; rest = k }
 own_split w (x ∷ xs) H ys k =
     let c : Cut w H x (xs ++ ys) = first_own w H x (xs ++ ys) k in
     let r = own_split w xs c.behind ys c.rest in
     let one : entries_of w (c.before ++ x ∷ []) ≡ x ∷ [] = entries-append w c.before (x ∷ []) ∙ (λ i. c.others i ++ own_one w x c.by i) in
     record {
-      front = (c.before ++ x ∷ []) ++ r.front;
+      prefix = (c.before ++ x ∷ []) ++ r.prefix;
       back = r.back;
-      is = c.is ∙ (ap (λ (L : List NodeEntry). c.before ++ x ∷ L) r.is ∙ (sym (append_assoc c.before (x ∷ []) (r.front ++ r.back)) ∙ sym (append_assoc (c.before ++ x ∷ []) r.front r.back)));
-      first = entries-append w (c.before ++ x ∷ []) r.front ∙ (λ i. one i ++ r.first i);
+      is = c.is ∙ (ap (λ (L : List NodeEntry). c.before ++ x ∷ L) r.is ∙ (sym (append_assoc c.before (x ∷ []) (r.prefix ++ r.back)) ∙ sym (append_assoc (c.before ++ x ∷ []) r.prefix r.back)));
+      first = entries-append w (c.before ++ x ∷ []) r.prefix ∙ (λ i. one i ++ r.first i);
       rest = r.rest;
     }
 
@@ -57,7 +57,7 @@ no_back : (xs ys : List NodeEntry) → xs ++ ys ≡ [] → ys ≡ []
 no_back [] ys e = e
 no_back (x ∷ xs) ys e = absurd (cc)
 
--- where a front has all entries of the seat, the rest has none
+-- where a prefix has all entries of the seat, the rest has none
 pub prefix_rest : (w : ℕ) (H F R mine : List NodeEntry) → H ≡ F ++ R → entries_of w F ≡ mine → entries_of w H ≡ mine → entries_of w R ≡ []
 prefix_rest w H F R mine is own all =
     nothing_more mine (entries_of w R) (ap (λ (l : List NodeEntry). l ++ entries_of w R) (sym own) ∙ (sym (entries-append w F R) ∙ (ap (λ (l : List NodeEntry). entries_of w l) (sym is) ∙ all)))

@@ -4,7 +4,6 @@ use Rattle.std.specs.Prelude.{◌==◌}
 use Rattle.history.specs.Histories.{entry, entries_of}
 use Rattle.mtapi_values.specs.declared.handles.TaskHandle.{TaskHandle}
 use Rattle.workload_file.specs.declared.workload.Deed.{Deed}
-use Rattle.workload_file.specs.declared.workload.Deed.TheVariants as deed
 use Rattle.workload_file.specs.declared.workload.Statement.{Statement}
 use Rattle.mtapi_machine.specs.declared.ops.Op.{Op}
 use Rattle.mtapi_machine.specs.declared.ops.Op.TheVariants as op
@@ -13,7 +12,11 @@ use Rattle.mtapi_machine.specs.declared.replies.Reply.TheVariants as reply
 use Rattle.mtapi_machine.specs.Row.{handle_of}
 use Rattle.mtapi_machine.specs.Legal.{NodeEntry}
 use Rattle.history_law.specs.Seats.{moves_phase, closes, NoPhase, NoClose}
-use Rattle.sched_workers.specs.Calls.{Call, Once, Looking, Unmade, call_of}
+use Rattle.sched_workers.specs.Calls.{Call, Once, Looking, call_of, IsOnce}
+use Rattle.sched_threads.specs.declared.looks.Wanted.{Wanted}
+use Rattle.sched_threads.specs.declared.looks.Wanted.TheVariants.{Task, Entrance, AllMembers, FirstMember, Mutex, Sem, Rwl}
+use Rattle.sched_threads.specs.Looks.{op_of}
+use Rattle.sched_threads.proofs.Shapes.{Shaped, shaped}
 use Rattle.sched_threads.specs.Rounds.{Round, Rested, Ran, Watched, asks, entries_in, all_in}
 use Rattle.sched_threads.specs.Carries.{MadeAs, CarriedAs}
 use Rattle.sched_threads.proofs.OwnEntries.{self_is}
@@ -30,22 +33,33 @@ quiet_replicate (suc n) e q = (q, quiet_replicate n e q)
 abbrev CallQuiet : Call → Type 0
 CallQuiet (Once o) = moves_phase o ≡ false
 CallQuiet (Looking waits o timeout) = (b : Bool) → moves_phase (o b) ≡ false
-CallQuiet Unmade = Unit {0}
 
 call_quiet : (bound : List ℕ) (d : Deed) → CallQuiet (call_of bound d)
-call_quiet bound deed.Begin = refl
-call_quiet bound (deed.Action job kind cores) = refl
-call_quiet bound (deed.ActionEnable place) = refl
-call_quiet bound (deed.Start job args priority cores detached group) = refl
-call_quiet bound (deed.Wait place timeout) = λ b. refl
-call_quiet bound (deed.Cancel place) = refl
-call_quiet bound _ = tt
+call_quiet bound d = by_shape (call_of bound d) (shaped bound d)
+  where
+    once_quiet : (o : Op) → IsOnce o → moves_phase o ≡ false
+    once_quiet op.Initialize i = absurd i
+    once_quiet op.Close i = absurd i
+    once_quiet op.Final i = absurd i
+    once_quiet _ i = refl
+
+    look_quiet : (w : Wanted) (b : Bool) → moves_phase (op_of w b) ≡ false
+    look_quiet (Task t) b = refl
+    look_quiet Entrance b = refl
+    look_quiet (AllMembers g) b = refl
+    look_quiet (FirstMember g) b = refl
+    look_quiet (Mutex x) b = refl
+    look_quiet (Sem x) b = refl
+    look_quiet (Rwl x writer) b = refl
+
+    by_shape : (c : Call) → Shaped c → CallQuiet c
+    by_shape (Once o) i = once_quiet o i
+    by_shape (Looking stands o timeout) i = subst (λ (p : Bool → Op). (b : Bool) → moves_phase (p b) ≡ false) (sym i.2) (look_quiet i.0)
 
 made_quiet : (w : ℕ) (c : Call) → CallQuiet c → (es : List NodeEntry) (r : Reply) → MadeAs w c es r → NoPhase es
 made_quiet w (Once o) q es r e = subst NoPhase (sym e) (q, tt)
 made_quiet w (Looking waits o timeout) q es r a =
     subst NoPhase (sym a.is) (quiet_append (replicate a.pending (entry w (o false) reply.Pending)) (entry w (o a.last) r ∷ []) (quiet_replicate a.pending (entry w (o false) reply.Pending) (q false)) (q a.last, tt))
-made_quiet w Unmade q es r a = absurd a
 
 pub carried_quiet : (w : ℕ) (ss : List Statement) (bound : List ℕ) (es : List NodeEntry) → CarriedAs w bound ss es → NoPhase es
 unfolding CarriedAs

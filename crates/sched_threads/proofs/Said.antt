@@ -7,8 +7,8 @@ use Rattle.mtapi_machine.specs.declared.ops.Op.{Op}
 use Rattle.mtapi_machine.specs.declared.ops.Op.TheVariants as op
 use Rattle.mtapi_machine.specs.declared.replies.Reply.{Reply}
 use Rattle.mtapi_machine.specs.declared.replies.Reply.TheVariants as reply
-use Rattle.handle_pool.specs.Issued.{at}
-use Rattle.mtapi_objects.specs.Tasks.{TaskState, Scheduled, Running, Over}
+use Rattle.handle_pool.specs.Issued.{live_object}
+use Rattle.mtapi_objects.specs.Tasks.{TaskState, Scheduled, Running, Ended}
 use Rattle.mtapi_machine.specs.State.{State}
 use Rattle.mtapi_machine.specs.Row.{Allows}
 use Rattle.mtapi_machine.specs.TaskRows.{looks_at, cancels}
@@ -41,14 +41,14 @@ ok = (Ok tt, refl)
 on_cancels : (h : ℕ) (x : TaskState) → AllSays (IsAnswer Done) (cancels h x)
 on_cancels h Scheduled = ok
 on_cancels h (Running w k) = ok
-on_cancels h (Over e n) = ok
+on_cancels h (Ended e n) = ok
 
 done_says : (s : State) (who : ℕ) (o : Op) (r : Reply) → SaysDone o → AllSays (IsAnswer Done) (row s who o r)
 done_says s who op.Initialize r i = (code _ refl, ok)
 done_says s who op.Release r i = (code _ refl, ok)
 done_says s who op.Close r i = (code _ refl, ok)
 done_says s who op.Final r i = (code _ refl, (code _ refl, ok))
-done_says s who (op.TaskCancel t) r i = (code _ refl, on_live (IsAnswer Done) (at s.tasks t.0) _ _ (code _ refl) (λ x. on_cancels t.0 x.state))
+done_says s who (op.TaskCancel t) r i = (code _ refl, on_live (IsAnswer Done) (live_object s.tasks t.0) _ _ (code _ refl) (λ x. on_cancels t.0 x.state))
 done_says s who _ r i = absurd i
 
 pub done_answer : (old new : Seat) (o : Op) (x : Result Reply ℕ) → SaysDone o → IfOk x (λ r. Turned old o r new) → IfOk x (IsAnswer Done)
@@ -83,12 +83,12 @@ looks_end who h true Scheduled = end_code _ refl
 looks_end who h false Scheduled = refl
 looks_end who h true (Running w k) = end_code _ refl
 looks_end who h false (Running w k) = refl
-looks_end who h last (Over e n) = (Ok e, refl)
+looks_end who h last (Ended e n) = (Ok e, refl)
 
 look_end : (s : State) (who h : ℕ) (last : Bool) (r : Reply) → Allows (row s who (op.TaskLook (record { 0 = h }) last) r) r → LooksEnd last r
 look_end s who h last r a =
     said (LooksEnd last) (row s who (op.TaskLook (record { 0 = h }) last) r) r
-    (end_code _ refl, on_live (LooksEnd last) (at s.tasks h) _ _ (end_code _ refl) (λ x. (end_code _ refl, (end_code _ refl, looks_end who h last x.state)))) a
+    (end_code _ refl, on_live (LooksEnd last) (live_object s.tasks h) _ _ (end_code _ refl) (λ x. (end_code _ refl, (end_code _ refl, looks_end who h last x.state)))) a
 
 decided_end : (last : Bool) (r : Reply) → (last ≡ false → is_pending r ≡ false) → LooksEnd last r → IsAnswer Ends r
 decided_end last reply.Pending d l = absurd (both (d l))

@@ -7,11 +7,12 @@ use Rattle.mtapi_values.specs.Conditions.{holds}
 use Rattle.mtapi_values.specs.Seats.{is_seat, is_other}
 use Rattle.mtapi_values.specs.declared.statuses.MtapiStatus.TheVariants as m
 use Rattle.mtapi_values.specs.declared.handles.TaskHandle.{TaskHandle}
-use Rattle.handle_pool.specs.Issued.{at}
-use Rattle.mtapi_objects.specs.Tasks.{Task, TaskState, Scheduled, Running, Over, with_notes, with_waiter}
+use Rattle.handle_pool.specs.Issued.{live_object}
+use Rattle.mtapi_objects.specs.Tasks.{Task, TaskState, Scheduled, Running, Ended, with_notes, with_waiter}
 use Rattle.mtapi_machine.specs.declared.ops.Op.TheVariants as op
 use Rattle.mtapi_machine.specs.declared.replies.Reply.{Reply}
-use Rattle.mtapi_machine.specs.declared.replies.Reply.TheVariants.{Pending, Ended, Mtapi}
+use Rattle.mtapi_machine.specs.declared.replies.Reply.TheVariants.{Pending, Mtapi}
+use Rattle.mtapi_machine.specs.declared.replies.Reply.TheVariants as reply
 use Rattle.mtapi_machine.specs.State.{State, is_up, tasks, changed}
 use Rattle.mtapi_machine.specs.Row.{Row, unless, says, Allows, after_row, live}
 use Rattle.mtapi_machine.specs.TaskRows.{looks_at}
@@ -78,13 +79,13 @@ turns_one w s A e o b =
 not_mtapi : (c : _) → Pending ≡ Mtapi c → ⊥
 not_mtapi c e = cc
 
-not_end : (c : _) → Pending ≡ Ended c → ⊥
+not_end : (c : _) → Pending ≡ reply.Ended c → ⊥
 not_end c e = cc
 
 set_waiter : (s : State) (w h : ℕ) (x : Task) (y : TaskState) → Allows (looks_at w h false y) Pending → after_row s (looks_at w h false y) ≡ changed tasks h (with_notes (with_waiter (Some w))) s
 set_waiter s w h x Scheduled a = refl
 set_waiter s w h x (Running v k) a = refl
-set_waiter s w h x (Over e n) a = absurd (not_end e a)
+set_waiter s w h x (Ended e n) a = absurd (not_end e a)
 
 first_false : (a b : Bool) → (a || b) ≡ false → a ≡ false
 first_false true b e = absurd (cc)
@@ -102,7 +103,7 @@ passed : (c : Bool) (x r : Reply) (v : Row) → (r ≡ x → ⊥) → Allows (un
 passed true x r v n a = absurd (n a)
 passed false x r v n a = refl
 
-look_at_live : (s : State) (w h : ℕ) (o : Option Task) → at s.tasks h ≡ o
+look_at_live : (s : State) (w h : ℕ) (o : Option Task) → live_object s.tasks h ≡ o
     → Allows (live o (says (Mtapi m.ErrTaskInvalid)) (λ x. unless (x.notes.detached || is_some x.notes.group) (Mtapi m.ErrParameter) (unless (is_other w x.notes.waiter) (Mtapi m.ErrWaitPending) (looks_at w h false x.state)))) Pending
     → Waits (after_row s (live o (says (Mtapi m.ErrTaskInvalid)) (λ x. unless (x.notes.detached || is_some x.notes.group) (Mtapi m.ErrParameter) (unless (is_other w x.notes.waiter) (Mtapi m.ErrWaitPending) (looks_at w h false x.state))))) w h
 look_at_live s w h None e a = absurd (not_mtapi m.ErrTaskInvalid a)
@@ -116,9 +117,9 @@ look_at_live s w h (Some x) e a =
 
 pub pend_waits : (s : State) (w : ℕ) (t : TaskHandle) → IsNext s (entry w (op.TaskLook t false) Pending) → Waits (next s (entry w (op.TaskLook t false) Pending)) w t.0
 pend_waits s w t n =
-    let v : Row = live (at s.tasks t.0) (says (Mtapi m.ErrTaskInvalid)) (λ x. unless (x.notes.detached || is_some x.notes.group) (Mtapi m.ErrParameter) (unless (is_other w x.notes.waiter) (Mtapi m.ErrWaitPending) (looks_at w t.0 false x.state))) in
+    let v : Row = live (live_object s.tasks t.0) (says (Mtapi m.ErrTaskInvalid)) (λ x. unless (x.notes.detached || is_some x.notes.group) (Mtapi m.ErrParameter) (unless (is_other w x.notes.waiter) (Mtapi m.ErrWaitPending) (looks_at w t.0 false x.state))) in
     let g = skip (not (is_up s.phase)) (Mtapi m.ErrNodeNotinit) Pending v s (not_mtapi m.ErrNodeNotinit) n.allowed in
-    subst (λ (u : State). Waits u w t.0) (sym g.leads) (look_at_live s w t.0 (at s.tasks t.0) refl g.allowed)
+    subst (λ (u : State). Waits u w t.0) (sym g.leads) (look_at_live s w t.0 (live_object s.tasks t.0) refl g.allowed)
 
 -- a seat that stands as the waiter makes a look that no journal keeps
 pub waiting_drops : (s : State) (w : ℕ) (t : TaskHandle) → Waits s w t.0 → is_dropped s (entry w (op.TaskLook t false) Pending) ≡ true
@@ -127,12 +128,12 @@ waiting_drops s w t v = ap (λ (o : Option Task). holds (λ x. is_seat w x.notes
 -- The looks of one wait, in a legal history: of the Pending ones at most the first is kept
 
 pub record Waited (w : ℕ) (t : TaskHandle) (n : ℕ) (last : Bool) (r : Reply) (s : State) (H rest : List NodeEntry) : Type 0 where
-  pub front : List NodeEntry
+  pub prefix : List NodeEntry
   pub back : List NodeEntry
-  pub is : H ≡ front ++ back
+  pub is : H ≡ prefix ++ back
   pub marks : List Bool
   pub count : length marks ≡ n
-  pub turns : turns_of w s front ≡ pended (op.TaskLook t false) marks ++ stayed (op.TaskLook t last) r ∷ []
+  pub turns : turns_of w s prefix ≡ pended (op.TaskLook t false) marks ++ stayed (op.TaskLook t last) r ∷ []
   pub one_kept : first_alone marks ≡ true
   pub none_kept : Waits s w t.0 → none_of marks ≡ true
   pub rest_is : entries_of w back ≡ rest
@@ -153,7 +154,7 @@ look_decides : (s : State) (w : ℕ) (t : TaskHandle) (last : Bool) (r : Reply) 
 look_decides s w t true r d n = (look_reply s w t.0 true r n.allowed).pending refl
 look_decides s w t false r d n = d refl
 
-both_none : (a b : Bool) → a ≡ true → b ≡ true → (not (not a) && b) ≡ true
+pub both_none : (a b : Bool) → a ≡ true → b ≡ true → (not (not a) && b) ≡ true
 both_none a b e f = λ i. not (not (e i)) && f i
 
 pub waits_turns : (n w : ℕ) (t : TaskHandle) (last : Bool) (r : Reply) (s : State) (H rest : List NodeEntry) → OnceListed s → LegalFrom s H → (last ≡ false → is_pending r ≡ false)
@@ -164,7 +165,7 @@ waits_turns zero w t last r s H rest once l d k =
     let c : Cut w H e rest = first_own w H e rest k in
     let x = first_next s c.before e c.behind (subst (λ (L : List NodeEntry). LegalFrom s L) c.is l) in
     record {
-      front = c.before ++ e ∷ [];
+      prefix = c.before ++ e ∷ [];
       back = c.behind;
       is = c.is ∙ sym (append_assoc c.before (e ∷ []) c.behind);
       marks = [];
@@ -185,16 +186,16 @@ waits_turns (suc n) w t last r s H rest once l d k =
     let v = pend_waits u w t x.0 in
     let y : Waited w t n last r (next u e) c.behind rest = waits_turns n w t last r (next u e) c.behind rest (subst OnceListed (after-one s c.before e) (once_stays s (c.before ++ e ∷ []) once)) x.1 d c.rest in
     record {
-      front = c.before ++ e ∷ y.front;
+      prefix = c.before ++ e ∷ y.prefix;
       back = y.back;
-      is = c.is ∙ (ap (λ (L : List NodeEntry). c.before ++ e ∷ L) y.is ∙ sym (append_assoc c.before (e ∷ y.front) y.back));
+      is = c.is ∙ (ap (λ (L : List NodeEntry). c.before ++ e ∷ L) y.is ∙ sym (append_assoc c.before (e ∷ y.prefix) y.back));
       marks = not (is_dropped u e) ∷ y.marks;
       count = omega (arith, y.count);
       turns =
-          ap (λ (L : List NodeEntry). turns_of w s L) (sym (append_assoc c.before (e ∷ []) y.front))
-          ∙ (turns_append w s (c.before ++ e ∷ []) y.front
-          ∙ (ap (λ (T : List Turn). T ++ turns_of w (after_from s (c.before ++ e ∷ [])) y.front) (turns_one w s c.before e c.others c.by)
-          ∙ ap (λ (T : List Turn). turn_of u e ∷ T) (ap (λ (z : State). turns_of w z y.front) (after-one s c.before e) ∙ y.turns)));
+          ap (λ (L : List NodeEntry). turns_of w s L) (sym (append_assoc c.before (e ∷ []) y.prefix))
+          ∙ (turns_append w s (c.before ++ e ∷ []) y.prefix
+          ∙ (ap (λ (T : List Turn). T ++ turns_of w (after_from s (c.before ++ e ∷ [])) y.prefix) (turns_one w s c.before e c.others c.by)
+          ∙ ap (λ (T : List Turn). turn_of u e ∷ T) (ap (λ (z : State). turns_of w z y.prefix) (after-one s c.before e) ∙ y.turns)));
       one_kept = y.none_kept v;
       none_kept = λ q. both_none (is_dropped u e) (none_of y.marks) (waiting_drops u w t (waiter_stays s c.before w t.0 once (Legal-front s c.before (e ∷ c.behind) whole) c.others q)) (y.none_kept v);
       rest_is = y.rest_is;

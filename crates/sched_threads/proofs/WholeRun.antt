@@ -13,7 +13,7 @@ use Rattle.mtapi_machine.specs.declared.terms.Phase.TheVariants.{New, Closing}
 use Rattle.mtapi_machine.specs.declared.ops.Op.TheVariants as op
 use Rattle.mtapi_machine.specs.declared.replies.Reply.{Reply}
 use Rattle.mtapi_machine.specs.declared.replies.Reply.TheVariants.{Ok, Pending, Stop}
-use Rattle.mtapi_machine.specs.State.{State, opening, workers, is_late}
+use Rattle.mtapi_machine.specs.State.{State, opening, workers, is_past_open}
 use Rattle.mtapi_machine.specs.Legal.{NodeEntry, LegalFrom, next, after_from}
 use Rattle.mtapi_machine.proofs.Lists.{Legal-front, after-append}
 use Rattle.history_law.specs.Seats.{NoPhase, NoClose, BySeats}
@@ -220,7 +220,7 @@ module _ (terms : Terms) (w n : ℕ) (parts : List Part) (ss : List Statement) (
     | is_none h ↦ open_quiet (entries_of k x.cuts.before) (quiet_before k (λ e. absurd (let g = x.main_seat in omega arith)))
   ])
 
-  early_at : (P Q : List NodeEntry) → x.cuts.before ≡ P ++ Q → is_late (after_from (opening terms) P).phase ≡ false
+  early_at : (P Q : List NodeEntry) → x.cuts.before ≡ P ++ Q → is_past_open (after_from (opening terms) P).phase ≡ false
   early_at P Q e =
       early_stays (opening terms) P (Legal-front (opening terms) P Q (subst (λ (L : List NodeEntry). LegalFrom (opening terms) L) e legal_before))
       (open_front P Q (subst NoClose e open_before)) refl
@@ -230,16 +230,16 @@ module _ (terms : Terms) (w n : ℕ) (parts : List Part) (ss : List Statement) (
   entered k l h =
       let d = x.called k l h in
       let e : NodeEntry = entry k op.Enter d.did.reply in
-      let front : List NodeEntry = replicate d.did.pending (entry k op.Enter Pending) in
-      let s : Split k x.cuts.before front (e ∷ d.did.rest) = own_split k front x.cuts.before (e ∷ d.did.rest) (d.place.there ∙ d.did.is) in
+      let prefix : List NodeEntry = replicate d.did.pending (entry k op.Enter Pending) in
+      let s : Split k x.cuts.before prefix (e ∷ d.did.rest) = own_split k prefix x.cuts.before (e ∷ d.did.rest) (d.place.there ∙ d.did.is) in
       let c : Cut k s.back e d.did.rest = first_own k s.back e d.did.rest s.rest in
-      let P = s.front ++ c.before in
-      let is : x.cuts.before ≡ P ++ e ∷ c.behind = s.is ∙ (ap (λ (L : List NodeEntry). s.front ++ L) c.is ∙ sym (append_assoc s.front c.before (e ∷ c.behind))) in
+      let P = s.prefix ++ c.before in
+      let is : x.cuts.before ≡ P ++ e ∷ c.behind = s.is ∙ (ap (λ (L : List NodeEntry). s.prefix ++ L) c.is ∙ sym (append_assoc s.prefix c.before (e ∷ c.behind))) in
       let p = first_next (opening terms) P e c.behind (subst (λ (L : List NodeEntry). LegalFrom (opening terms) L) is legal_before) in
       enter_reply (after_from (opening terms) P) k d.did.reply (early_at P (e ∷ c.behind) is) d.did.decides p.0.allowed
 
   -- main closed
-  early : is_late (after_from (opening terms) x.cuts.before).phase ≡ false
+  early : is_past_open (after_from (opening terms) x.cuts.before).phase ≡ false
   early = early_at x.cuts.before [] (nil x.cuts.before)
     where
       nil : (L : List NodeEntry) → L ≡ L ++ []
@@ -260,8 +260,8 @@ module _ (terms : Terms) (w n : ℕ) (parts : List Part) (ss : List Statement) (
   unfolding after_from
   phase_final =
       let u : State = after_from (opening terms) x.cuts.before in
-      let front = Legal-front (opening terms) (x.cuts.before ++ C ∷ x.cuts.behind) (F ∷ x.cuts.rest) legal_final in
-      let p = first_next (opening terms) x.cuts.before C x.cuts.behind front in
+      let prefix = Legal-front (opening terms) (x.cuts.before ++ C ∷ x.cuts.behind) (F ∷ x.cuts.rest) legal_final in
+      let p = first_next (opening terms) x.cuts.before C x.cuts.behind prefix in
       let q = subst (OthersQuiet w) (whole ∙ sym (append_assoc x.cuts.before (C ∷ []) (x.cuts.behind ++ F ∷ x.cuts.rest))) others_quiet in
       let quiet = quiet_front w x.cuts.behind (F ∷ x.cuts.rest) (quiet_back w (x.cuts.before ++ C ∷ []) (x.cuts.behind ++ F ∷ x.cuts.rest) q) in
       ap (λ (s : State). s.phase) (after-append (opening terms) x.cuts.before (C ∷ x.cuts.behind))
@@ -272,9 +272,9 @@ module _ (terms : Terms) (w n : ℕ) (parts : List Part) (ss : List Statement) (
       let d = x.worked k l in
       let S = x.cuts.before ++ C ∷ x.cuts.behind in
       let few : k < 25 = (let a = x.main_seat in let b = x.few in omega arith) in
-      let front = Legal-front (opening terms) S (F ∷ x.cuts.rest) legal_final in
+      let prefix = Legal-front (opening terms) S (F ∷ x.cuts.rest) legal_final in
       subst (λ (L : List NodeEntry). marked k (after_from (opening terms) L).stopped ≡ true) (nil S)
-      (stopped_mark terms k S [] (all_in k d.did.rounds) few (subst (λ (L : List NodeEntry). LegalFrom (opening terms) L) (sym (nil S)) front) (d.place.there ∙ d.did.is))
+      (stopped_mark terms k S [] (all_in k d.did.rounds) few (subst (λ (L : List NodeEntry). LegalFrom (opening terms) L) (sym (nil S)) prefix) (d.place.there ∙ d.did.is))
     where
       nil : (L : List NodeEntry) → L ++ [] ≡ L
       nil [] = refl
@@ -283,10 +283,10 @@ module _ (terms : Terms) (w n : ℕ) (parts : List Part) (ss : List Statement) (
   final_is : x.b ≡ Ok
   final_is =
       let S = x.cuts.before ++ C ∷ x.cuts.behind in
-      let front = Legal-front (opening terms) S (F ∷ x.cuts.rest) legal_final in
+      let prefix = Legal-front (opening terms) S (F ∷ x.cuts.rest) legal_final in
       let u : State = after_from (opening terms) S in
-      let room = stopped_room terms S front in
-      let count : workers u ≡ w = ap (λ (t : Terms). t.settings.workers) (terms_stay (opening terms) S front) ∙ x.workers_are in
+      let room = stopped_room terms S prefix in
+      let count : workers u ≡ w = ap (λ (t : Terms). t.settings.workers) (terms_stay (opening terms) S prefix) ∙ x.workers_are in
       let all : all_marked (workers u) u.stopped ≡ true = all_marks (workers u) u.stopped (let a = x.main_seat in let b = x.few in omega arith) (λ k l. marks_final k (omega arith)) in
       final_reply u w x.b phase_final all (first_next (opening terms) S F x.cuts.rest legal_final).0.allowed
 

@@ -13,14 +13,15 @@ use Rattle.action_fn.specs.Answers.{Answered}
 use Rattle.std.proofs.lemmas.Bool.Decides.{Decides-int_eq}
 use Rattle.std.proofs.lemmas.Slice.Eq.{slice_eq-Decides}
 use Rattle.mtapi_machine.specs.declared.replies.Reply.{Reply}
-use Rattle.mtapi_machine.specs.declared.replies.Reply.TheVariants.{Ok, Handle, Number, Ended, Given, Pending, Picked, Idle, Stop, Asked, Mtapi, Mrapi}
+use Rattle.mtapi_machine.specs.declared.replies.Reply.TheVariants.{Ok, Handle, Number, Given, Pending, Picked, Idle, Stop, Asked, Mtapi, Mrapi}
+use Rattle.mtapi_machine.specs.declared.replies.Reply.TheVariants as reply
 use Rattle.mtapi_machine.specs.declared.ops.Op.TheVariants as op
-use Rattle.handle_pool.specs.Issued.{at, count, any, change, with_fields}
+use Rattle.handle_pool.specs.Issued.{live_object, count_listed, any_listed, change, with_fields}
 use Rattle.mtapi_objects.specs.Actions.{Action}
-use Rattle.mtapi_objects.specs.Tasks.{Task, TaskState, Scheduled, Running, Over, scheduled, runner, runs_on, runs_as, kind_number, is_unstarted, with_state, with_notes, Notes, no_tally, ended, asked_once, asked_refusals, finish_refusals, watch_end, watch_end_refusals, looks_of}
+use Rattle.mtapi_objects.specs.Tasks.{Task, TaskState, Scheduled, Running, Ended, scheduled, runner, runs_on, runs_as, kind_number, is_unstarted, with_state, with_notes, Notes, no_tally, ended, asked_once, asked_refusals, finish_refusals, watch_end, watch_end_refusals, looks_of}
 use Rattle.mtapi_values.specs.declared.handles.ActionHandle.{ActionHandle}
 use Rattle.mtapi_machine.specs.State.{State, workers, is_new, is_stop, tasks, changed}
-use Rattle.mtapi_machine.specs.Moves.{runs as runs_task, stops as stops_worker, ends as ends_task, notes}
+use Rattle.mtapi_machine.specs.Moves.{runs_task as runs_task, stops as stops_worker, ends_task as ends_task, notes}
 use Rattle.mtapi_machine.specs.Row.{Row, unless, says, gives, never, only, Allows, after_row, mtapi_unless, live}
 use Rattle.mtapi_machine.specs.WorkRows.{is_ready, can_take, may_take, picks, task_end}
 use Rattle.mtapi_machine.specs.Legal.{IsNext, next}
@@ -32,7 +33,7 @@ use Rattle.sched_workers.proofs.Rows.{Goes, pass, goes_then, small_not}
 
 -- each task that hasn't begun is untouched
 abbrev pub Untouched : State → Type 0
-Untouched s = (h : ℕ) (t : Task) → at s.tasks h ≡ Some t → is_unstarted t ≡ true → IsUntouched t
+Untouched s = (h : ℕ) (t : Task) → live_object s.tasks h ≡ Some t → is_unstarted t ≡ true → IsUntouched t
 
 abbrev pub work_of : Kind → List ℤ → Work
 work_of k args = record { kind = k; args = args; looks = 0; seen = false; tally = no_tally }
@@ -61,10 +62,10 @@ scheduled_apart w t = by_state t.state
     by_state : (x : TaskState) → scheduled x ≡ true → holds (λ r. r.0 == w) (runner x) ≡ false
     by_state Scheduled e = refl
     by_state (Running v k) e = absurd (cc)
-    by_state (Over e n) i = absurd (cc)
+    by_state (Ended e n) i = absurd (cc)
 
 -- a task that begins is the only one of its worker
-begins : (s : State) (w h : ℕ) (t : Task) (k : Kind) (args : List ℤ) → Untouched s → Free s w → at s.tasks h ≡ Some t → is_unstarted t ≡ true → args ≡ t.args → Holds (changed tasks h (with_state (Running w k)) s) w h (work_of k args)
+begins : (s : State) (w h : ℕ) (t : Task) (k : Kind) (args : List ℤ) → Untouched s → Free s w → live_object s.tasks h ≡ Some t → is_unstarted t ≡ true → args ≡ t.args → Holds (changed tasks h (with_state (Running w k)) s) w h (work_of k args)
 begins s w h t k args clean free a u e =
     let z = clean h t a u in
     let n = count_changed (runs_on w) h (with_fields (with_state (Running w k))) true s.tasks t a (λ r l i j. l j && self_is w j) in
@@ -72,7 +73,7 @@ begins s w h t k args clean free a u e =
     record {
       task = with_state (Running w k) t;
       found = at-update h (with_state (Running w k)) t s.tasks a;
-      runs = record { state = refl; arguments = sym e; looked = z.looks; told = z.seen; did = z.tally };
+      runs = record { state = refl; arguments = sym e; looked = z.looks; reported = z.seen; did = z.tally };
       alone = omega (arith, n, m, free);
     }
 
@@ -92,9 +93,9 @@ abbrev action_row : State → ℕ → ℕ → ActionHandle → Option Action →
 action_row s w h a x t = live x never (λ y. take_row (may_take s w t y) w h a t y)
 
 abbrev task_row : State → ℕ → ℕ → ActionHandle → Option Task → Row
-task_row s w h a t = live t never (λ x. action_row s w h a (at s.actions a.0) x)
+task_row s w h a t = live t never (λ x. action_row s w h a (live_object s.actions a.0) x)
 
-taken : (b : Bool) (s : State) (w h : ℕ) (a : ActionHandle) (t : Task) (x : Action) (k : Kind) (args : List ℤ) → Untouched s → Free s w → at s.tasks h ≡ Some t → may_take s w t x ≡ b
+taken : (b : Bool) (s : State) (w h : ℕ) (a : ActionHandle) (t : Task) (x : Action) (k : Kind) (args : List ℤ) → Untouched s → Free s w → live_object s.tasks h ≡ Some t → may_take s w t x ≡ b
     → Allows (take_row b w h a t x) (Picked (record { 0 = h }) a k args) → Holds (after_row s (take_row b w h a t x)) w h (work_of k args)
 unfolding kind_in args_in
 taken true s w h a t x k args clean free e m p =
@@ -102,14 +103,14 @@ taken true s w h a t x k args clean free e m p =
     (begins s w h t k args clean free e (unstarted s w t x m) (ap (λ (r : Reply). args_in r args) p))
 taken false s w h a t x k args clean free e m p = absurd p
 
-by_action : (s : State) (w h : ℕ) (a : ActionHandle) (t : Task) (x : Option Action) (k : Kind) (args : List ℤ) → Untouched s → Free s w → at s.tasks h ≡ Some t
+by_action : (s : State) (w h : ℕ) (a : ActionHandle) (t : Task) (x : Option Action) (k : Kind) (args : List ℤ) → Untouched s → Free s w → live_object s.tasks h ≡ Some t
     → Allows (action_row s w h a x t) (Picked (record { 0 = h }) a k args) → Holds (after_row s (action_row s w h a x t)) w h (work_of k args)
 by_action s w h a t (Some x) k args clean free e p = taken (may_take s w t x) s w h a t x k args clean free e refl p
 by_action s w h a t None k args clean free e p = absurd p
 
-chosen : (s : State) (w h : ℕ) (a : ActionHandle) (t : Option Task) (k : Kind) (args : List ℤ) → Untouched s → Free s w → at s.tasks h ≡ t
+chosen : (s : State) (w h : ℕ) (a : ActionHandle) (t : Option Task) (k : Kind) (args : List ℤ) → Untouched s → Free s w → live_object s.tasks h ≡ t
     → Allows (task_row s w h a t) (Picked (record { 0 = h }) a k args) → Holds (after_row s (task_row s w h a t)) w h (work_of k args)
-chosen s w h a (Some t) k args clean free e p = by_action s w h a t (at s.actions a.0) k args clean free e p
+chosen s w h a (Some t) k args clean free e p = by_action s w h a t (live_object s.actions a.0) k args clean free e p
 chosen s w h a None k args clean free e p = absurd p
 
 -- a choice of nothing
@@ -118,18 +119,18 @@ idle s w true r a = absurd a
 idle s w false r a = subst (λ (x : Reply). PickedAs s w x s) (sym a) refl
 
 picks_as : (s : State) (w : ℕ) (r : Reply) → Untouched s → Free s w → Allows (picks s w r) r → PickedAs s w r (after_row s (picks s w r))
-picks_as s w (Picked t a k args) clean free p = chosen s w t.0 a (at s.tasks t.0) k args clean free refl p
-picks_as s w Idle clean free p = idle s w (any (can_take s w) s.tasks) Idle p
-picks_as s w Ok clean free p = idle s w (any (can_take s w) s.tasks) Ok p
-picks_as s w (Handle h) clean free p = idle s w (any (can_take s w) s.tasks) (Handle h) p
-picks_as s w (Number h) clean free p = idle s w (any (can_take s w) s.tasks) (Number h) p
-picks_as s w (Ended h) clean free p = idle s w (any (can_take s w) s.tasks) (Ended h) p
-picks_as s w (Given h e) clean free p = idle s w (any (can_take s w) s.tasks) (Given h e) p
-picks_as s w Pending clean free p = idle s w (any (can_take s w) s.tasks) Pending p
-picks_as s w Stop clean free p = idle s w (any (can_take s w) s.tasks) Stop p
-picks_as s w (Asked h) clean free p = idle s w (any (can_take s w) s.tasks) (Asked h) p
-picks_as s w (Mtapi h) clean free p = idle s w (any (can_take s w) s.tasks) (Mtapi h) p
-picks_as s w (Mrapi h) clean free p = idle s w (any (can_take s w) s.tasks) (Mrapi h) p
+picks_as s w (Picked t a k args) clean free p = chosen s w t.0 a (live_object s.tasks t.0) k args clean free refl p
+picks_as s w Idle clean free p = idle s w (any_listed (can_take s w) s.tasks) Idle p
+picks_as s w Ok clean free p = idle s w (any_listed (can_take s w) s.tasks) Ok p
+picks_as s w (Handle h) clean free p = idle s w (any_listed (can_take s w) s.tasks) (Handle h) p
+picks_as s w (Number h) clean free p = idle s w (any_listed (can_take s w) s.tasks) (Number h) p
+picks_as s w (reply.Ended h) clean free p = idle s w (any_listed (can_take s w) s.tasks) (reply.Ended h) p
+picks_as s w (Given h e) clean free p = idle s w (any_listed (can_take s w) s.tasks) (Given h e) p
+picks_as s w Pending clean free p = idle s w (any_listed (can_take s w) s.tasks) Pending p
+picks_as s w Stop clean free p = idle s w (any_listed (can_take s w) s.tasks) Stop p
+picks_as s w (Asked h) clean free p = idle s w (any_listed (can_take s w) s.tasks) (Asked h) p
+picks_as s w (Mtapi h) clean free p = idle s w (any_listed (can_take s w) s.tasks) (Mtapi h) p
+picks_as s w (Mrapi h) clean free p = idle s w (any_listed (can_take s w) s.tasks) (Mrapi h) p
 
 stops_as : (b : Bool) (s : State) (w : ℕ) (r : Reply) → Untouched s → Free s w → Allows (cond b (gives Stop (stops_worker w ∷ [])) (picks s w r)) r → PickedAs s w r (after_row s (cond b (gives Stop (stops_worker w ∷ [])) (picks s w r)))
 stops_as true s w r clean free a = subst (λ (x : Reply). PickedAs s w x (after_row s (gives Stop (stops_worker w ∷ [])))) (sym a) tt
@@ -142,9 +143,9 @@ new_as false s w r clean free a = stops_as (is_stop s) s w r clean free a
 pub picked_as : (s : State) (w : ℕ) (r : Reply) → w < workers s → Untouched s → Free s w → IsNext s (entry w op.Pick r) → PickedAs s w r (next s (entry w op.Pick r))
 picked_as s w r l clean free n =
     let v : Row = unless (is_new s.phase) Idle (cond (is_stop s) (gives Stop (stops_worker w ∷ [])) (picks s w r)) in
-    let u : Row = unless (any (runs_on w) s.tasks) (Mtapi m.ErrParameter) v in
+    let u : Row = unless (any_listed (runs_on w) s.tasks) (Mtapi m.ErrParameter) v in
     let g1 = pass (not (nat_lt w (workers s))) (Mtapi m.ErrParameter) r u s (small_not w (workers s) l) n.allowed in
-    let g2 = pass (any (runs_on w) s.tasks) (Mtapi m.ErrParameter) r v s (count_none (runs_on w) s.tasks free) g1.allowed in
+    let g2 = pass (any_listed (runs_on w) s.tasks) (Mtapi m.ErrParameter) r v s (count_none (runs_on w) s.tasks free) g1.allowed in
     subst (λ (t : State). PickedAs s w r t) (sym (g1.leads ∙ g2.leads)) (new_as (is_new s.phase) s w r clean free g2.allowed)
 
 -- Ops on the task that the worker has
@@ -167,7 +168,7 @@ runs_on_its : (w : ℕ) (x : Work) (t : Task) → RunsWith w x t → runs_on w t
 runs_on_its w x t h = ap (λ (y : TaskState). holds (λ r. r.0 == w) (runner y)) h.state ∙ self_is w
 
 -- a task that ends leaves its worker free
-ends_free : (s : State) (w h : ℕ) (x : Work) (v : Holds s w h x) (e : TaskEnd) (n : ℕ) → count (runs_on w) (change h (ended e n) s.tasks) ≡ 0
+ends_free : (s : State) (w h : ℕ) (x : Work) (v : Holds s w h x) (e : TaskEnd) (n : ℕ) → count_listed (runs_on w) (change h (ended e n) s.tasks) ≡ 0
 ends_free s w h x v e n =
     let m = count_changed (runs_on w) h (ended e n) false s.tasks v.task v.found (λ r l i. none _) in
     let o : cond {A = ℕ} (runs_on w v.task) 1 0 ≡ 1 = ap (λ (b : Bool). cond {A = ℕ} b 1 0) (runs_on_its w x v.task v.runs) in
@@ -181,11 +182,11 @@ same_list : (xs ys : List ℤ) → ys ≡ xs → pointwise int_eq xs ys ≡ true
 same_list xs ys e = (slice_eq-Decides Decides-int_eq xs ys (pointwise int_eq xs ys) refl).1 (sym e)
 
 -- the row's ways to the live task that the worker has
-own_goes : (s : State) (w h : ℕ) (x : Work) (v : Holds s w h x) (r : Reply) (f : Task → Row) → w < workers s → Allows (unless (not (nat_lt w (workers s))) (Mtapi m.ErrParameter) (live (at s.tasks h) (says tasks.invalid) f)) r
-    → Goes s (unless (not (nat_lt w (workers s))) (Mtapi m.ErrParameter) (live (at s.tasks h) (says tasks.invalid) f)) r (f v.task)
+own_goes : (s : State) (w h : ℕ) (x : Work) (v : Holds s w h x) (r : Reply) (f : Task → Row) → w < workers s → Allows (unless (not (nat_lt w (workers s))) (Mtapi m.ErrParameter) (live (live_object s.tasks h) (says tasks.invalid) f)) r
+    → Goes s (unless (not (nat_lt w (workers s))) (Mtapi m.ErrParameter) (live (live_object s.tasks h) (says tasks.invalid) f)) r (f v.task)
 own_goes s w h x v r f l a =
-    let g1 = pass (not (nat_lt w (workers s))) (Mtapi m.ErrParameter) r (live (at s.tasks h) (says tasks.invalid) f) s (small_not w (workers s) l) a in
-    goes_then s _ _ _ r g1 (found_goes s (at s.tasks h) v.task (says tasks.invalid) r f v.found g1.allowed)
+    let g1 = pass (not (nat_lt w (workers s))) (Mtapi m.ErrParameter) r (live (live_object s.tasks h) (says tasks.invalid) f) s (small_not w (workers s) l) a in
+    goes_then s _ _ _ r g1 (found_goes s (live_object s.tasks h) v.task (says tasks.invalid) r f v.found g1.allowed)
 
 pub record Finished (r : Reply) (w : ℕ) (u : State) : Type 0 where
   pub reply : r ≡ Ok
@@ -206,24 +207,24 @@ finished_as s w h x v done r l k e n =
     }
 
 -- what an ask leaves of the work
-abbrev pub told : Bool → Work → Work
-told true x = record { kind = x.kind; args = x.args; looks = x.looks; seen = true; tally = x.tally }
-told false x = record { kind = x.kind; args = x.args; looks = x.looks + 1; seen = x.seen; tally = x.tally }
+abbrev pub reported : Bool → Work → Work
+reported true x = record { kind = x.kind; args = x.args; looks = x.looks; seen = true; tally = x.tally }
+reported false x = record { kind = x.kind; args = x.args; looks = x.looks + 1; seen = x.seen; tally = x.tally }
 
 pub record AskedAs (r : Reply) (w h : ℕ) (x : Work) (u : State) : Type 0 where
   pub requested : Bool
   pub reply : r ≡ Asked requested
-  pub holds : Holds u w h (told requested x)
+  pub holds : Holds u w h (reported requested x)
 
-asked_runs : (w : ℕ) (x : Work) (t : Task) (b : Bool) → t.notes.requested ≡ b → RunsWith w x t → RunsWith w (told b x) (with_notes asked_once t)
+asked_runs : (w : ℕ) (x : Work) (t : Task) (b : Bool) → t.notes.requested ≡ b → RunsWith w x t → RunsWith w (reported b x) (with_notes asked_once t)
 asked_runs w x t true e v =
-    subst (λ (n : Notes). RunsWith w (told true x) (record t { notes = n })) (λ i. cond (sym e i) (record t.notes { seen = true }) (record t.notes { looks = t.notes.looks + 1 }))
-    (record { state = v.state; arguments = v.arguments; looked = v.looked; told = refl; did = v.did })
+    subst (λ (n : Notes). RunsWith w (reported true x) (record t { notes = n })) (λ i. cond (sym e i) (record t.notes { seen = true }) (record t.notes { looks = t.notes.looks + 1 }))
+    (record { state = v.state; arguments = v.arguments; looked = v.looked; reported = refl; did = v.did })
 asked_runs w x t false e v =
-    subst (λ (n : Notes). RunsWith w (told false x) (record t { notes = n })) (λ i. cond (sym e i) (record t.notes { seen = true }) (record t.notes { looks = t.notes.looks + 1 }))
-    (record { state = v.state; arguments = v.arguments; looked = ap (λ (n : ℕ). n + 1) v.looked; told = v.told; did = v.did })
+    subst (λ (n : Notes). RunsWith w (reported false x) (record t { notes = n })) (λ i. cond (sym e i) (record t.notes { seen = true }) (record t.notes { looks = t.notes.looks + 1 }))
+    (record { state = v.state; arguments = v.arguments; looked = ap (λ (n : ℕ). n + 1) v.looked; reported = v.reported; did = v.did })
 
-asked_holds : (s : State) (w h : ℕ) (x : Work) (v : Holds s w h x) → Holds (changed tasks h (with_notes asked_once) s) w h (told v.task.notes.requested x)
+asked_holds : (s : State) (w h : ℕ) (x : Work) (v : Holds s w h x) → Holds (changed tasks h (with_notes asked_once) s) w h (reported v.task.notes.requested x)
 asked_holds s w h x v =
     let on = runs_on_its w x v.task v.runs in
     let n = count_changed (runs_on w) h (with_fields (with_notes asked_once)) true s.tasks v.task v.found
@@ -246,30 +247,30 @@ asked_as s w h x v n r l k e a d i =
     let p = pass (not (runs_as w kind.Watch v.task)) (Mtapi m.ErrTaskInvalid) r (unless (is_none (looks_of v.task.args) || v.task.notes.seen || holds (λ m. v.task.notes.looks == m) (looks_of v.task.args)) (Mtapi m.ErrParameter) (gives (Asked v.task.notes.requested) (notes h asked_once ∷ []))) s (ap not runs) g.allowed in
     let looks : looks_of v.task.args ≡ Some n = ap looks_of v.runs.arguments ∙ a in
     let c : (is_none (looks_of v.task.args) || v.task.notes.seen || holds (λ m. v.task.notes.looks == m) (looks_of v.task.args)) ≡ false =
-    (λ j. is_none (looks j) || (v.runs.told ∙ e) j || holds (λ m. v.runs.looked j == m) (looks j)) ∙ d in
+    (λ j. is_none (looks j) || (v.runs.reported ∙ e) j || holds (λ m. v.runs.looked j == m) (looks j)) ∙ d in
     let q = pass (is_none (looks_of v.task.args) || v.task.notes.seen || holds (λ m. v.task.notes.looks == m) (looks_of v.task.args)) (Mtapi m.ErrParameter) r (gives (Asked v.task.notes.requested) (notes h asked_once ∷ [])) s c p.allowed in
     record {
       requested = v.task.notes.requested;
       reply = q.allowed;
-      holds = subst (λ (u : State). Holds u w h (told v.task.notes.requested x)) (sym (g.leads ∙ (p.leads ∙ q.leads))) (asked_holds s w h x v);
+      holds = subst (λ (u : State). Holds u w h (reported v.task.notes.requested x)) (sym (g.leads ∙ (p.leads ∙ q.leads))) (asked_holds s w h x v);
     }
 
 pub record WatchedAs (r : Reply) (w : ℕ) (u : State) : Type 0 where
   pub end : TaskEnd
-  pub reply : r ≡ Ended end
+  pub reply : r ≡ reply.Ended end
   pub free : Free u w
 
 -- a watch that was told to stop, or has no looks left, ends
 pub watched_as : (s : State) (w h : ℕ) (x : Work) (v : Holds s w h x) (r : Reply) → w < workers s → x.kind ≡ kind.Watch → (not x.seen && holds (λ n. nat_lt x.looks n) (looks_of x.args)) ≡ false → IsNext s (entry w (op.WatchEnd (record { 0 = h })) r)
     → WatchedAs r w (next s (entry w (op.WatchEnd (record { 0 = h })) r))
 watched_as s w h x v r l k d i =
-    let f : Task → Row = λ y. mtapi_unless (watch_end_refusals w y) (gives (Ended (watch_end y)) (ends_task h (watch_end y) ∷ [])) in
+    let f : Task → Row = λ y. mtapi_unless (watch_end_refusals w y) (gives (reply.Ended (watch_end y)) (ends_task h (watch_end y) ∷ [])) in
     let g = own_goes s w h x v r f l i.allowed in
     let runs : runs_as w kind.Watch v.task ≡ true = ap (λ (z : Kind). runs_as w z v.task) (sym k) ∙ runs_as_its w x v.task v.runs in
-    let last : Row = gives (Ended (watch_end v.task)) (ends_task h (watch_end v.task) ∷ []) in
+    let last : Row = gives (reply.Ended (watch_end v.task)) (ends_task h (watch_end v.task) ∷ []) in
     let p = pass (not (runs_as w kind.Watch v.task)) (Mtapi m.ErrTaskInvalid) r (unless (not v.task.notes.seen && holds (λ n. nat_lt v.task.notes.looks n) (looks_of v.task.args)) (Mtapi m.ErrParameter) last) s (ap not runs) g.allowed in
     let c : (not v.task.notes.seen && holds (λ n. nat_lt v.task.notes.looks n) (looks_of v.task.args)) ≡ false =
-    (λ j. not (v.runs.told j) && holds (λ n. nat_lt (v.runs.looked j) n) (looks_of (v.runs.arguments j))) ∙ d in
+    (λ j. not (v.runs.reported j) && holds (λ n. nat_lt (v.runs.looked j) n) (looks_of (v.runs.arguments j))) ∙ d in
     let q = pass (not v.task.notes.seen && holds (λ n. nat_lt v.task.notes.looks n) (looks_of v.task.args)) (Mtapi m.ErrParameter) r last s c p.allowed in
     record {
       end = watch_end v.task;

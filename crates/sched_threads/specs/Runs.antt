@@ -6,7 +6,7 @@ use Rattle.workload_file.specs.declared.workload.Part.{Part}
 use Rattle.workload_file.specs.declared.workload.Workload.{Workload}
 use Rattle.mtapi_values.specs.declared.handles.Layout.TheVariants.{One}
 use Rattle.mtapi_machine.specs.declared.terms.Terms.{Terms}
-use Rattle.mtapi_machine.specs.State.{terms_of}
+use Rattle.mtapi_machine.specs.State.{terms_with}
 use Rattle.mtapi_machine.specs.Legal.{NodeEntry, Legal}
 use Rattle.node_core.specs.declared.entries.Journal.{Journal}
 use Rattle.node_core.specs.Logs.{KeptAs}
@@ -22,9 +22,9 @@ use Rattle.sched_threads.specs.Crews.{Cell, IsClean}
 
 -- the terms of a run: the workload's settings, and one caller for each part
 abbrev pub terms_for : Workload → Terms
-terms_for load = terms_of One load.settings (length load.parts)
+terms_for load = terms_with One load.settings (length load.parts)
 
--- the journal has these terms, is legal, by ops that a node carries out, and is a run of the workload
+-- the journal has these terms, is legal, by ops that a node executes, and is a run of the workload
 pub record IsRunOf (load : Workload) (j : Journal) : Type 0 where
   pub settings : j.settings ≡ load.settings
   pub callers : j.callers ≡ length load.parts

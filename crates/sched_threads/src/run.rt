@@ -105,7 +105,7 @@ fn journal_after(cell: TurnCell<Journaled>, crew: Crew) -> Result<RunJournal, Ru
 /// Carries a workload out on a new node: the workers and the further callers each in a thread of its own, main on the calling thread.
 ///
 /// Main meets each further caller before it begins the end of the node, and each worker before it ends it. Where a thread is refused, no
-/// statement is carried out, and all that were started end.
+/// statement is executed, and all that were started end.
 pub fn run_node<S: ActionSource, B: Beside, R: StartsThreads + Wait + Sync>(
     rt: &R,
     alloc: Global,

@@ -17,8 +17,8 @@ use Rattle.mtapi_machine.specs.State.{State, opening}
 use Rattle.mtapi_machine.specs.Row.{handle_of}
 use Rattle.mtapi_machine.specs.Legal.{NodeEntry, next, after_from}
 use Rattle.mtapi_machine.specs.Kept.{is_dropped, is_pending, kept, skipped, no_counts}
-use Rattle.sched_workers.specs.Calls.{Call, Once, Looking, Unmade, call_of}
-use Rattle.sched_workers.specs.Lines.{Line, line, Within, is_late, Made, Carried}
+use Rattle.sched_workers.specs.Calls.{Call, Once, Looking, call_of}
+use Rattle.sched_workers.specs.Lines.{Line, line, KeepsTimeout, is_timeout, Made, Carried}
 use Rattle.sched_workers.specs.RunOf.{has_begin, head_of, MainRan, CallerRan, CallersRan, PartsRan, is_work, all_work, WorkerRan, ClosesAtEnd, RunOf}
 use Rattle.sched_workers.specs.Turns.{Turn, stayed, turns_of, lines_left}
 use Rattle.sched_workers.specs.Whole.{none_of, first_alone, pended, MadeBy, CarriedBy, head_turns, MainBy, CallerBy, CallersBy, PartsBy, all_worked, WorkerBy, RunBy, HasSeats}
@@ -33,21 +33,21 @@ pended_left o (false ∷ ms) n rest e = pended_left o ms (n + 1) rest e ∙ ap (
 
 -- the lines of one call, in front of what follows
 pub record Leaves (c : Call) (r : Reply) (ts rest : List Turn) : Type 0 where
-  pub front : List Line
-  pub is : lines_left 0 (ts ++ rest) ≡ front ++ lines_left 0 rest
-  pub made : Made c front r
+  pub prefix : List Line
+  pub is : lines_left 0 (ts ++ rest) ≡ prefix ++ lines_left 0 rest
+  pub made : Made c prefix r
 
 -- the facts of a call's looks, at each list of marks
 looks_leave : (waits : Bool) (o : Bool → Op) (timeout : Timeout) (r : Reply) (last : Bool) (marks : List Bool) (rest : List Turn) → first_alone marks ≡ true → (waits ≡ false → none_of marks ≡ true) → is_pending r ≡ false
-    → Within (looks_of timeout) last (length marks + 1) → (is_late r ≡ true → last ≡ true) → Leaves (Looking waits o timeout) r (pended (o false) marks ++ stayed (o last) r ∷ []) rest
+    → KeepsTimeout (looks_of timeout) last (length marks + 1) → (is_timeout r ≡ true → last ≡ true) → Leaves (Looking waits o timeout) r (pended (o false) marks ++ stayed (o last) r ∷ []) rest
 unfolding none_of lines_left
 looks_leave waits o timeout r last [] rest one none decides within late = record {
-  front = line (o last) r 0 ∷ [];
+  prefix = line (o last) r 0 ∷ [];
   is = refl;
   made = record { first = None; beside = 0; last = last; is = refl; none_kept = λ e. refl; decides = decides; within = within; late = late };
 }
 looks_leave waits o timeout r last (true ∷ ms) rest one none decides within late = record {
-  front = line (o false) reply.Pending 0 ∷ line (o last) r (length ms) ∷ [];
+  prefix = line (o false) reply.Pending 0 ∷ line (o last) r (length ms) ∷ [];
   is = ap (λ (l : List Turn). line (o false) reply.Pending 0 ∷ lines_left 0 l) (append_assoc (pended (o false) ms) (stayed (o last) r ∷ []) rest)
       ∙ ap (λ (l : List Line). line (o false) reply.Pending 0 ∷ l) (pended_left (o false) ms 0 (stayed (o last) r ∷ rest) one)
       ∙ ap (λ k. line (o false) reply.Pending 0 ∷ line (o last) r k ∷ lines_left 0 rest) (omega arith);
@@ -58,12 +58,12 @@ looks_leave waits o timeout r last (true ∷ ms) rest one none decides within la
     is = refl;
     none_kept = λ e. absurd (let x = none e in cc);
     decides = decides;
-    within = subst (λ (k : ℕ). Within (looks_of timeout) last k) (omega arith) within;
+    within = subst (λ (k : ℕ). KeepsTimeout (looks_of timeout) last k) (omega arith) within;
     late = late;
   };
 }
 looks_leave waits o timeout r last (false ∷ ms) rest one none decides within late = record {
-  front = line (o last) r (1 + length ms) ∷ [];
+  prefix = line (o last) r (1 + length ms) ∷ [];
   is = ap (λ (l : List Turn). lines_left 1 l) (append_assoc (pended (o false) ms) (stayed (o last) r ∷ []) rest) ∙ pended_left (o false) ms 1 (stayed (o last) r ∷ rest) one;
   made = record {
     first = None;
@@ -72,17 +72,16 @@ looks_leave waits o timeout r last (false ∷ ms) rest one none decides within l
     is = refl;
     none_kept = λ e. refl;
     decides = decides;
-    within = subst (λ (k : ℕ). Within (looks_of timeout) last k) (omega arith) within;
+    within = subst (λ (k : ℕ). KeepsTimeout (looks_of timeout) last k) (omega arith) within;
     late = late;
   };
 }
 
 made_leaves : (c : Call) (ts rest : List Turn) (r : Reply) → MadeBy c ts r → Leaves c r ts rest
 unfolding lines_left
-made_leaves (Once o) ts rest r m = record { front = line o r 0 ∷ []; is = ap (λ (x : List Turn). lines_left 0 (x ++ rest)) m.0; made = (refl, m.1) }
+made_leaves (Once o) ts rest r m = record { prefix = line o r 0 ∷ []; is = ap (λ (x : List Turn). lines_left 0 (x ++ rest)) m.0; made = (refl, m.1) }
 made_leaves (Looking waits o timeout) ts rest r m =
     subst (λ (x : List Turn). Leaves (Looking waits o timeout) r x rest) (sym m.is) (looks_leave waits o timeout r m.last m.marks rest m.one_kept m.none_kept m.decides m.within m.late)
-made_leaves Unmade ts rest r m = absurd m
 
 -- the lines of a list of statements, in front of what follows
 pub record CarriedLeaves (bound : List ℕ) (ss : List Statement) (ts rest : List Turn) : Type 0 where
@@ -93,13 +92,13 @@ pub record CarriedLeaves (bound : List ℕ) (ss : List Statement) (ts rest : Lis
 carried_leaves : (bound : List ℕ) (ss : List Statement) (ts rest : List Turn) → CarriedBy bound ss ts → CarriedLeaves bound ss ts rest
 unfolding CarriedBy Carried
 carried_leaves bound [] ts rest c = record { body = []; is = ap (λ (x : List Turn). lines_left 0 (x ++ rest)) c; carried = refl }
-carried_leaves bound (s ∷ ss) ts rest (front, back, r, is, made, more) =
-    let x = made_leaves (call_of bound s.deed) front (back ++ rest) r made in
+carried_leaves bound (s ∷ ss) ts rest (prefix, back, r, is, made, more) =
+    let x = made_leaves (call_of bound s.deed) prefix (back ++ rest) r made in
     let y = carried_leaves (bound ++ handle_of r ∷ []) ss back rest more in
     record {
-      body = x.front ++ y.body;
-      is = ap (λ (l : List Turn). lines_left 0 (l ++ rest)) is ∙ ap (λ (l : List Turn). lines_left 0 l) (append_assoc front back rest) ∙ x.is ∙ ap (λ (l : List Line). x.front ++ l) y.is ∙ sym (append_assoc x.front y.body (lines_left 0 rest));
-      carried = (x.front, y.body, r, refl, x.made, y.carried);
+      body = x.prefix ++ y.body;
+      is = ap (λ (l : List Turn). lines_left 0 (l ++ rest)) is ∙ ap (λ (l : List Turn). lines_left 0 l) (append_assoc prefix back rest) ∙ x.is ∙ ap (λ (l : List Line). x.prefix ++ l) y.is ∙ sym (append_assoc x.prefix y.body (lines_left 0 rest));
+      carried = (x.prefix, y.body, r, refl, x.made, y.carried);
     }
 
 -- callers

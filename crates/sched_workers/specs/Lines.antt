@@ -11,7 +11,7 @@ use Rattle.mtapi_machine.specs.declared.replies.Reply.TheVariants as reply
 use Rattle.mtapi_machine.specs.Row.{handle_of}
 use Rattle.mtapi_machine.specs.Legal.{NodeEntry}
 use Rattle.mtapi_machine.specs.Kept.{is_pending}
-use Rattle.sched_workers.specs.Calls.{Call, Once, Looking, Unmade, call_of}
+use Rattle.sched_workers.specs.Calls.{Call, Once, Looking, call_of}
 
 -- an entry of one seat, and the number beside it
 pub record Line : Type 0 where
@@ -40,15 +40,15 @@ looks_before (Some n) = n + 1
 
 -- where there is a bound, there are at most so many looks, and the deciding one is the last exactly where they are that many;
 -- where there is none, no look is the last
-abbrev pub Within : Option ℕ → Bool → ℕ → Type 0
-Within None last looks = last ≡ false
-Within (Some most) last looks = (looks ≤ most) × (last ≡ (looks == most))
+abbrev pub KeepsTimeout : Option ℕ → Bool → ℕ → Type 0
+KeepsTimeout None last looks = last ≡ false
+KeepsTimeout (Some most) last looks = (looks ≤ most) × (last ≡ (looks == most))
 
 -- the reply says that the looks are used up
-abbrev pub is_late : Reply → Bool
-is_late (reply.Mtapi mtapi.Timeout) = true
-is_late (reply.Mrapi mrapi.Timeout) = true
-is_late _ = false
+abbrev pub is_timeout : Reply → Bool
+is_timeout (reply.Mtapi mtapi.Timeout) = true
+is_timeout (reply.Mrapi mrapi.Timeout) = true
+is_timeout _ = false
 
 -- the lines of a call that looks: one kept Pending at most, and only where the caller stands as waiter, and the look that decided
 pub record Looked (waits : Bool) (o : Bool → Op) (timeout : Timeout) (lines : List Line) (r : Reply) : Type 0 where
@@ -58,17 +58,16 @@ pub record Looked (waits : Bool) (o : Bool → Op) (timeout : Timeout) (lines : 
   pub is : lines ≡ before_it (o false) first ++ line (o last) r beside ∷ []
   pub none_kept : waits ≡ false → first ≡ None
   pub decides : is_pending r ≡ false
-  pub within : Within (looks_of timeout) last (looks_before first + (beside + 1))
-  pub late : is_late r ≡ true → last ≡ true
+  pub within : KeepsTimeout (looks_of timeout) last (looks_before first + (beside + 1))
+  pub late : is_timeout r ≡ true → last ≡ true
 
 -- the lines of one call, and the reply that it comes to
 abbrev pub Made : Call → List Line → Reply → Type 0
 Made (Once o) lines r = (lines ≡ line o r 0 ∷ []) × (is_pending r ≡ false)
 Made (Looking waits o timeout) lines r = Looked waits o timeout lines r
-Made Unmade lines r = ⊥
 
 -- the lines of the statements in order, where the earlier ones bound these handles: each statement binds the handle of its reply
 unfoldable pub Carried : List ℕ → List Statement → List Line → Type 0
 Carried bound [] lines = lines ≡ []
 Carried bound (s ∷ ss) lines =
-    (front : List Line) × (rest : List Line) × (r : Reply) × (lines ≡ front ++ rest) × Made (call_of bound s.deed) front r × Carried (bound ++ handle_of r ∷ []) ss rest
+    (prefix : List Line) × (rest : List Line) × (r : Reply) × (lines ≡ prefix ++ rest) × Made (call_of bound s.deed) prefix r × Carried (bound ++ handle_of r ∷ []) ss rest

@@ -14,8 +14,8 @@ use Rattle.mtapi_machine.specs.State.{State, opening}
 use Rattle.mtapi_machine.specs.Row.{handle_of}
 use Rattle.mtapi_machine.specs.Legal.{NodeEntry}
 use Rattle.mtapi_machine.specs.Kept.{is_pending, kept, skipped, no_counts}
-use Rattle.sched_workers.specs.Calls.{Call, Once, Looking, Unmade, call_of}
-use Rattle.sched_workers.specs.Lines.{Within, is_late, lines_of}
+use Rattle.sched_workers.specs.Calls.{Call, Once, Looking, call_of}
+use Rattle.sched_workers.specs.Lines.{KeepsTimeout, is_timeout, lines_of}
 use Rattle.sched_workers.specs.RunOf.{has_begin, is_work, ClosesAtEnd, RunOf}
 use Rattle.sched_workers.specs.Turns.{Turn, stayed, turns_of, lines_left}
 
@@ -42,20 +42,19 @@ pub record Looks (waits : Bool) (o : Bool → Op) (timeout : Timeout) (ts : List
   pub one_kept : first_alone marks ≡ true
   pub none_kept : waits ≡ false → none_of marks ≡ true
   pub decides : is_pending r ≡ false
-  pub within : Within (looks_of timeout) last (length marks + 1)
-  pub late : is_late r ≡ true → last ≡ true
+  pub within : KeepsTimeout (looks_of timeout) last (length marks + 1)
+  pub late : is_timeout r ≡ true → last ≡ true
 
 -- the turns of one call, and the reply that it comes to
 abbrev pub MadeBy : Call → List Turn → Reply → Type 0
 MadeBy (Once o) ts r = (ts ≡ stayed o r ∷ []) × (is_pending r ≡ false)
 MadeBy (Looking waits o timeout) ts r = Looks waits o timeout ts r
-MadeBy Unmade ts r = ⊥
 
 -- the turns of the statements in order, where the earlier ones bound these handles
 unfoldable pub CarriedBy : List ℕ → List Statement → List Turn → Type 0
 CarriedBy bound [] ts = ts ≡ []
 CarriedBy bound (s ∷ ss) ts =
-    (front : List Turn) × (rest : List Turn) × (r : Reply) × (ts ≡ front ++ rest) × MadeBy (call_of bound s.deed) front r × CarriedBy (bound ++ handle_of r ∷ []) ss rest
+    (prefix : List Turn) × (rest : List Turn) × (r : Reply) × (ts ≡ prefix ++ rest) × MadeBy (call_of bound s.deed) prefix r × CarriedBy (bound ++ handle_of r ∷ []) ss rest
 
 -- main initializes, and releases at once where no statement does
 abbrev pub head_turns : Bool → List Turn

@@ -1,76 +1,98 @@
 -- What each call keeps of a board.
-use Rattle.std.proofs.Common.{◌≡◌, ◌≤◌, ◌+◌, ℕ, zero, suc, ◌<◌, Bool, true, false, List, [], ◌∷◌, ◌++◌, length, length-set, Option, Some, None, Ok, Err, set, slice_get, refl, sym, ◌∙◌, ap, subst, inl, inr, arith}
-use Rattle.std.specs.Prelude.{◌==◌, ◌||◌, is_some}
+use Rattle.std.proofs.Common.{◌≡◌, ◌≢◌, ◌≤◌, ◌+◌, ℕ, zero, suc, ◌<◌, Bool, true, false, List, [], ◌∷◌, ◌++◌, length, length-set, Option, Some, None, Result, Ok, Err, set, slice_get, refl, sym, ◌∙◌, ap, subst, inl, inr, arith}
+use Rattle.std.specs.Prelude.{is_some, is_none}
 use Rattle.std.specs.Option.{option_map}
+use Rattle.std.specs.Result.{OnOk, OnErr}
 use Rattle.std.proofs.lemmas.Bool.{false≢true, cases_Bool}
-use Rattle.std.proofs.lemmas.Bool.Decides.{nat_tests}
 use Rattle.mtapi_values.specs.declared.kinds.Kind.{Kind}
-use Rattle.mtapi_values.specs.declared.ends.TaskEnd.{TaskEnd}
 use Rattle.mtapi_values.specs.declared.handles.TaskHandle.{TaskHandle}
 use Rattle.mtapi_values.specs.declared.statuses.MtapiStatus.{MtapiStatus}
-use Rattle.handle_pool.specs.Slots.{Slots, slot_of, generation_of, free_slot, value_at, get, max_of, Inserts, changed, put}
+use Rattle.handle_pool.specs.Slots.{without, Slots, slot_of, generation_of, free_slot, value_at, slot_value, max_of, Inserts, changed, put}
 use Rattle.handle_pool.proofs.StandsLemmas.{value_at-none}
-use Rattle.handle_pool.proofs.GetLemmas.{get-insert_same}
+use Rattle.handle_pool.proofs.GetLemmas.{get-insert_same, get-insert_before}
 use Rattle.handle_pool.proofs.WalkLemmas.{slot_of-live}
 use Rattle.linked_places.specs.Lists.{HandleLists, list_at, has_handle, without_handle, stands_at, NowhereAt, with_list}
 use Rattle.linked_places.proofs.HandleLemmas.{list_at-set_same}
 use Rattle.ready_index.specs.declared.marks.Mark.{Mark}
 use Rattle.ready_index.specs.Marks.{ReadyMarks}
 use Rattle.mtapi_objects.specs.Actions.{Action}
+use Rattle.mtapi_objects.specs.Queues.{Queue}
 use Rattle.job_table.specs.Answers.{job_of}
-use Rattle.mtapi_objects.specs.Tasks.{Task, NewTask, new_task, TaskState, Scheduled, Running, Over, is_unstarted, with_state}
-use Rattle.task_core.specs.Records.{shown_state}
-use Rattle.task_core.specs.declared.states.TaskState.TheVariants as shown
-use Rattle.task_core.specs.Table.{TaskTable, ended_in}
+use Rattle.mtapi_objects.specs.Tasks.{Task, NewTask, new_task, Running, is_unstarted, with_state, TaskState, Scheduled, Ended, scheduled, end_of}
+use Rattle.task_core.specs.Table.{TaskTable}
+use Rattle.group_core.specs.Members.{GroupTable}
+use Rattle.task_board.specs.Members.{members_in, AreMembers, MayJoin, joined, ended_member}
 use Rattle.task_board.specs.Seen.{Seen, seen_as, seen, seen_in}
+use Rattle.queue_core.specs.Held.{HeldQueue, QueueTable, NoTaskAt, Creates as CreatesQueue, live_reply, held, facts_of, with_opened, with_task}
+use Rattle.queue_core.specs.declared.facts.QueueFacts.{QueueFacts}
+use Rattle.mtapi_values.specs.declared.handles.QueueHandle.{QueueHandle}
+use Rattle.mtapi_values.specs.declared.statuses.MtapiStatus.TheVariants.{ErrQueueExists, ErrQueueLimit}
+use Rattle.task_board.specs.Queued.{begins_in, AreQueued, NoneWaitsIn}
 use Rattle.task_board.specs.Board.{BoardTable, IsBoard, IsMarkOf, Marked, AreWaiting, AreRunning, AreRanked, running_on, IsFresh, Remarked}
-use Rattle.task_board.proofs.SeenLemmas.{some_same, seen-as, seen-live, unstarted-seen}
-use Rattle.task_board.proofs.MoveLemmas.{started-put, Put, Alone, alone-old, alone-new, put-insert, put-changed, put-ended, max-insert, max-changed, max-ended, marked-put, ranked-put, waiting-push, waiting-leave, waiting-same, running-begin, running-end, running-same}
-use Rattle.task_board.proofs.RemarkLemmas.{SameBut, marked-anew}
+use Rattle.task_board.proofs.SeenLemmas.{some_same, SeenAs, seen-as, seen-live, unstarted-seen}
+use Rattle.task_board.proofs.MoveLemmas.{started-put, Put, Alone, Steady, alone-old, alone-new, put-insert, put-changed, max-insert, max-changed, marked-put, marked-steady, ranked-put, waiting-push, waiting-leave, running-begin, running-same, stands-handle}
+use Rattle.task_board.proofs.RemarkLemmas.{SameBut, SteadyBut, marked-anew}
+use Rattle.task_board.proofs.GivenLemmas.{put-queue_changed, put-queue_insert, put-queue_without}
+use Rattle.task_board.proofs.QueuedLemmas.{queued-apart, queued-enqueue, queued-run, queued-with, queued-new, queued-gone, begins-same, begins-enqueue}
+use Rattle.task_board.proofs.MemberLemmas.{members-same}
+use Rattle.task_board.proofs.TaskMemberLemmas.{members-add, member-runs}
 
 none-some : {A : Type 0} {P : Type 0} {x : A} → None ≡ Some x → P
 none-some e = absurd (cc)
 
+-- the marks have the sizes that they had
+pub record SameSizes (old new : ReadyMarks) : Type 0 where
+  pub workers : new.workers ≡ old.workers
+  pub priorities : new.priorities ≡ old.priorities
+  pub slots : length new.marks ≡ length old.marks
+
+pub sizes-set : (old new : ReadyMarks) (place : ℕ) (m : Option Mark) → new ≡ record old { marks = set old.marks place m } → SameSizes old new
+sizes-set old new place m is = record {
+  workers = ap (λ (r : ReadyMarks). r.workers) is;
+  priorities = ap (λ (r : ReadyMarks). r.priorities) is;
+  slots = ap (λ (r : ReadyMarks). length r.marks) is ∙ length-set old.marks place m;
+}
+
 -- a move of one handle
-put-board : (b : BoardTable) (q : TaskTable) (ready : ReadyMarks) (waiting : HandleLists) (running : List (Option TaskHandle)) (h : ℕ) (x : Option Seen) (m : Option Mark) → IsBoard b → Put (seen_in b.tasks.pool) h x (seen_in q.pool) → Alone (seen_in q.pool) h → max_of q.pool ≡ max_of b.tasks.pool → slot_of h < max_of b.tasks.pool → IsMarkOf b.actions x m → ready ≡ record b.ready { marks = set b.ready.marks (slot_of h) m } → waiting.places ≡ b.waiting.places → length waiting.lists ≡ 1 → length running ≡ 25 → AreWaiting (seen_in q.pool) (list_at waiting.lists 0) → AreRunning (seen_in q.pool) running → ((s : Seen) → x ≡ Some s → s.priority < b.settings.priorities) → ((s : Seen) → x ≡ Some s → s.start < q.starts) → b.tasks.starts ≤ q.starts → IsBoard (record b { tasks = q; ready = ready; waiting = waiting; running = running })
-put-board b q ready waiting running h x m k move one max less right is places lists seats waits runs ranks begins grows = record {
+pub put-board : (b : BoardTable) (q : TaskTable) (queues : QueueTable) (ready : ReadyMarks) (waiting : HandleLists) (running : List (Option TaskHandle)) (groups : GroupTable) (h : ℕ) (x : Option Seen) → IsBoard b → Put (seen_in b.tasks.pool) h x (seen_in q.pool) → max_of q.pool ≡ max_of b.tasks.pool → SameSizes b.ready ready → Marked b.actions (begins_in queues.pool) (seen_in q.pool) ready.marks → AreQueued (seen_in q.pool) queues.pool b.settings.priorities → queues.tasks ≡ b.queues.tasks → waiting.places ≡ b.waiting.places → length waiting.lists ≡ 1 → length running ≡ 25 → AreWaiting (seen_in q.pool) (list_at waiting.lists 0) → AreRunning (seen_in q.pool) running → ((s : Seen) → x ≡ Some s → s.priority < b.settings.priorities) → ((s : Seen) → x ≡ Some s → s.start < q.starts) → b.tasks.starts ≤ q.starts → groups.tasks ≡ b.groups.tasks → AreMembers (members_in q.pool) (slot_value groups.pool) q.starts q.ends → IsBoard (record b { tasks = q; queues = queues; ready = ready; waiting = waiting; running = running; groups = groups })
+put-board b q queues ready waiting running groups h x k move max sizes marked queued room places lists seats waits runs ranks begins grows many members = record {
+  members = members;
+  task_slots = many ∙ k.task_slots ∙ sym max;
   started = started-put (seen_in b.tasks.pool) (seen_in q.pool) h x b.tasks.starts q.starts move begins grows k.started;
   few = k.few;
-  workers = ap (λ (r : ReadyMarks). r.workers) is ∙ k.workers;
-  priorities = ap (λ (r : ReadyMarks). r.priorities) is ∙ k.priorities;
-  slots = ap (λ (r : ReadyMarks). length r.marks) is ∙ length-set b.ready.marks (slot_of h) m ∙ k.slots ∙ sym max;
+  workers = sizes.workers ∙ k.workers;
+  priorities = sizes.priorities ∙ k.priorities;
+  slots = sizes.slots ∙ k.slots ∙ sym max;
   places = places ∙ k.places ∙ sym max;
   lists = lists;
   seats = seats;
-  marked = subst (λ (r : ReadyMarks). Marked b.actions (seen_in q.pool) r.marks) (sym is) (marked-put b.actions (seen_in b.tasks.pool) (seen_in q.pool) h x b.ready.marks m move one (subst (λ (n : ℕ). slot_of h < n) (sym k.slots) less) right k.marked);
+  room = room ∙ k.room ∙ sym max;
+  marked = marked;
   waiting_are = waits;
   running_are = runs;
   ranked = ranked-put (seen_in b.tasks.pool) (seen_in q.pool) h x b.settings.priorities move ranks k.ranked;
+  queued = queued;
 }
 
+-- the marks after a move of one handle, where its own is right
+pub put-marked : (b : BoardTable) (q : TaskTable) (queues : Slots HeldQueue) (ready : ReadyMarks) (h : ℕ) (x : Option Seen) (m : Option Mark) → IsBoard b → Put (seen_in b.tasks.pool) h x (seen_in q.pool) → Steady (begins_in b.queues.pool) (begins_in queues) (seen_in b.tasks.pool) h → Alone (seen_in q.pool) h → slot_of h < max_of b.tasks.pool → IsMarkOf b.actions (begins_in queues h) x m → ready ≡ record b.ready { marks = set b.ready.marks (slot_of h) m } → Marked b.actions (begins_in queues) (seen_in q.pool) ready.marks
+put-marked b q queues ready h x m k move steady one less right is =
+    subst (λ (r : ReadyMarks). Marked b.actions (begins_in queues) (seen_in q.pool) r.marks) (sym is)
+    (marked-put b.actions (begins_in b.queues.pool) (begins_in queues) (seen_in b.tasks.pool) (seen_in q.pool) h x b.ready.marks m move steady one (subst (λ (n : ℕ). slot_of h < n) (sym k.slots) less) right k.marked)
+
+-- queues that don't change
+pub steady-same : (queues : Slots HeldQueue) (at : ℕ → Option Seen) (h : ℕ) → Steady (begins_in queues) (begins_in queues) at h
+unfolding Steady
+steady-same queues at h k s d e n = refl
+
 -- the one list, after a change
-one-list : (ls : HandleLists) (list : List ℕ) → length ls.lists ≡ 1 → list_at (with_list ls 0 list).lists 0 ≡ list
+pub one-list : (ls : HandleLists) (list : List ℕ) → length ls.lists ≡ 1 → list_at (with_list ls 0 list).lists 0 ≡ list
 one-list ls list e = list_at-set_same ls.lists 0 list (omega (arith, e))
 
-one-length : (ls : HandleLists) (list : List ℕ) → length ls.lists ≡ 1 → length (with_list ls 0 list).lists ≡ 1
+pub one-length : (ls : HandleLists) (list : List ℕ) → length ls.lists ≡ 1 → length (with_list ls 0 list).lists ≡ 1
 one-length ls list e = length-set ls.lists 0 list ∙ e
 
 -- Adding
-
-stands-handle : (place : ℕ) (hs : List ℕ) → stands_at place hs ≡ true → (k : ℕ) × (has_handle k hs ≡ true) × (slot_of k ≡ place)
-stands-handle place [] e = absurd (false≢true e)
-stands-handle place (x ∷ hs) e = by_test (slot_of x == place) refl e (stands-handle place hs)
-  where
-    self : (x == x) ≡ true
-    self = grind (arith, nat_tests)
-
-    later : (b : Bool) (k : ℕ) → has_handle k hs ≡ true → (b || has_handle k hs) ≡ true
-    later true k e = refl
-    later false k e = e
-
-    by_test : (b : Bool) → (slot_of x == place) ≡ b → (b || stands_at place hs) ≡ true → (stands_at place hs ≡ true → (k : ℕ) × (has_handle k hs ≡ true) × (slot_of k ≡ place)) → (k : ℕ) × (has_handle k (x ∷ hs) ≡ true) × (slot_of k ≡ place)
-    by_test true is e rest = let same : slot_of x ≡ place = grind (arith, nat_tests) in (x, ap (λ (b : Bool). b || has_handle x hs) self, same)
-    by_test false is e rest = let k = rest e in (k.0, later (x == k.0) k.0 k.1, k.2)
 
 -- nothing stands at a slot that was free
 pub nowhere : (b : BoardTable) (q : Slots Task) (h : ℕ) (t : Task) → IsBoard b → Inserts b.tasks.pool q h t → NowhereAt (slot_of h) b.waiting.lists
@@ -89,9 +111,13 @@ nowhere b q h t k i number = elim (cases_Bool (stands_at (slot_of h) (list_at b.
         let w = stands-handle (slot_of h) (list_at b.waiting.lists 0) on in
         let s = k.waiting_are.waits w.0 w.1 in
         let t = seen-live b.tasks.pool w.0 s.0 s.1 in
-        let free : get b.tasks.pool w.0 ≡ None = ap (λ (place : ℕ). value_at (slice_get b.tasks.pool.slots place) (generation_of w.0)) w.2 ∙ (ap (λ (o : Option _). value_at o (generation_of w.0)) i.was_free ∙ value_at-none (free_slot (generation_of h)) (generation_of w.0) refl) in
+        let free : slot_value b.tasks.pool w.0 ≡ None = ap (λ (place : ℕ). value_at (slice_get b.tasks.pool.slots place) (generation_of w.0)) w.2 ∙ (ap (λ (o : Option _). value_at o (generation_of w.0)) i.was_free ∙ value_at-none (free_slot (generation_of h)) (generation_of w.0) refl) in
         none-some (sym free ∙ t.1)
     at_number (suc n) on = false≢true (sym (ap (stands_at (slot_of h)) (at_none b.waiting.lists n k.lists)) ∙ on)
+
+-- nothing was seen by a new handle
+unseen : (b : BoardTable) (q : Slots Task) (h : ℕ) (t : Task) → Inserts b.tasks.pool q h t → seen_in b.tasks.pool h ≡ None
+unseen b q h t i = ap (λ (o : Option _). seen (value_at o (generation_of h))) i.was_free ∙ ap seen (value_at-none (free_slot (generation_of h)) (generation_of h) refl)
 
 -- the slot of a new handle
 pub new-slot : (b : BoardTable) (q : Slots Task) (h : ℕ) (t : Task) → Inserts b.tasks.pool q h t → slot_of h < max_of b.tasks.pool
@@ -101,52 +127,102 @@ pub new-ranked : (b : BoardTable) (q : Slots Task) (h n : ℕ) (a : NewTask) →
 new-ranked b q h n a k i less =
     ranked-put (seen_in b.tasks.pool) (seen_in q) h _ b.settings.priorities (put-insert b.tasks.pool q h (new_task a n) i) (λ s e. subst (λ (u : Seen). u.priority < b.settings.priorities) (some_same e) less) k.ranked
 
-pub add-board : (b : BoardTable) (q : TaskTable) (ready : ReadyMarks) (waiting : HandleLists) (h n : ℕ) (a : NewTask) → IsBoard b → Inserts b.tasks.pool q.pool h (new_task a n) → n ≡ b.tasks.starts → q.starts ≡ b.tasks.starts + 1 → a.priority < b.settings.priorities → waiting ≡ with_list b.waiting 0 (list_at b.waiting.lists 0 ++ h ∷ []) → IsFresh b.actions (seen_in q.pool) h b.ready ready → IsBoard (record b { tasks = q; ready = ready; waiting = waiting })
-add-board b q ready waiting h n a k i next count less is f =
+joined-tasks : (t : GroupTable) (o : Option ℕ) (h : ℕ) → (joined t o h).tasks ≡ t.tasks
+joined-tasks t None h = refl
+joined-tasks t (Some g) h = refl
+
+pub over-tasks : (t : GroupTable) (o : Option ℕ) (h : ℕ) → (ended_member t o h).tasks ≡ t.tasks
+over-tasks t None h = refl
+over-tasks t (Some g) h = refl
+
+-- what a new task is of a board: `queues` has it in its queue, if any, and `groups` in its group
+add-with : (b : BoardTable) (q : TaskTable) (queues : QueueTable) (ready : ReadyMarks) (waiting : HandleLists) (groups : GroupTable) (h n : ℕ) (a : NewTask) → IsBoard b → Inserts b.tasks.pool q.pool h (new_task a n) → n ≡ b.tasks.starts → q.starts ≡ b.tasks.starts + 1 → a.priority < b.settings.priorities → waiting ≡ with_list b.waiting 0 (list_at b.waiting.lists 0 ++ h ∷ []) → queues.tasks ≡ b.queues.tasks → Steady (begins_in b.queues.pool) (begins_in queues.pool) (seen_in b.tasks.pool) h → AreQueued (seen_in q.pool) queues.pool b.settings.priorities → IsFresh b.actions (begins_in queues.pool) (seen_in q.pool) h b.ready ready → q.ends ≡ b.tasks.ends → MayJoin b.groups.pool a.detached a.group → groups ≡ joined b.groups a.group h → IsBoard (record b { tasks = q; queues = queues; ready = ready; waiting = waiting; groups = groups })
+add-with b q queues ready waiting groups h n a k i next count less is room steady queued f ends may enters =
     let move = put-insert b.tasks.pool q.pool h (new_task a n) i in
-    put-board b q ready waiting b.running h (seen (Some (new_task a n))) f.mark k move (alone-new q.pool h (new_task a n) (get-insert_same b.tasks.pool q.pool h (new_task a n) i)) (max-insert b.tasks.pool q.pool h (new_task a n) i)
-    (new-slot b q.pool h (new_task a n) i)
-    (subst (λ (o : Option Seen). IsMarkOf b.actions o f.mark) move.here f.right) f.now
+    put-board b q queues ready waiting b.running groups h (seen (Some (new_task a n))) k move (max-insert b.tasks.pool q.pool h (new_task a n) i) (sizes-set b.ready ready (slot_of h) f.mark f.now)
+    (put-marked b q queues.pool ready h (seen (Some (new_task a n))) f.mark k move steady (alone-new q.pool h (new_task a n) (get-insert_same b.tasks.pool q.pool h (new_task a n) i))
+    (new-slot b q.pool h (new_task a n) i) (subst (λ (o : Option Seen). IsMarkOf b.actions (begins_in queues.pool h) o f.mark) move.here f.right) f.now)
+    queued room
     (ap (λ (l : HandleLists). l.places) is) (ap (λ (l : HandleLists). length l.lists) is ∙ one-length b.waiting _ k.lists) k.seats
     (subst (λ (hs : List ℕ). AreWaiting (seen_in q.pool) hs) (sym (ap (λ (l : HandleLists). list_at l.lists 0) is ∙ one-list b.waiting _ k.lists)) (waiting-push (seen_in b.tasks.pool) (seen_in q.pool) h _ (list_at b.waiting.lists 0) move refl
-    (λ j e is. let s = k.waiting_are.waits j e in none-some (sym (unseen-before (ap (seen_in b.tasks.pool) (sym is) ∙ s.1)) ∙ (ap (seen_in b.tasks.pool) (sym is) ∙ s.1)))
+    (λ j e is. let s = k.waiting_are.waits j e in none-some (sym (unseen b q.pool h (new_task a n) i) ∙ (ap (seen_in b.tasks.pool) (sym is) ∙ s.1)))
     (λ j u e. subst (λ (m : ℕ). u.start < m) (sym next) (k.started.before j u e)) k.waiting_are))
     (running-same (seen_in b.tasks.pool) (seen_in q.pool) h _ b.running move
-    (λ s w e on. none-some (sym (unseen-before e) ∙ e)) (λ s w e on. none-some (ap (λ (u : Seen). u.on) (some_same e) ∙ on)) k.running_are)
+    (λ s w e on. none-some (sym (unseen b q.pool h (new_task a n) i) ∙ e)) (λ s w e on. none-some (ap (λ (u : Seen). u.on) (some_same e) ∙ on)) k.running_are)
     (λ s e. subst (λ (u : Seen). u.priority < b.settings.priorities) (some_same e) less)
     (λ s e. subst (λ (u : Seen). u.start < q.starts) (some_same e) (omega (arith, next, count))) (omega (arith, count))
+    (ap (λ (t : GroupTable). t.tasks) enters ∙ joined-tasks b.groups a.group h)
+    (subst (λ (t : GroupTable). AreMembers (members_in q.pool) (slot_value t.pool) q.starts q.ends) (sym enters) (members-add b.tasks.pool q.pool h a b.groups b.tasks.starts b.tasks.ends q.starts q.ends k.members (subst (λ (m : ℕ). Inserts b.tasks.pool q.pool h (new_task a m)) next i) count ends may))
+
+pub add-board : (b : BoardTable) (q : TaskTable) (ready : ReadyMarks) (waiting : HandleLists) (groups : GroupTable) (h n : ℕ) (a : NewTask) → IsBoard b → Inserts b.tasks.pool q.pool h (new_task a n) → n ≡ b.tasks.starts → q.starts ≡ b.tasks.starts + 1 → a.priority < b.settings.priorities → a.queue ≡ None → waiting ≡ with_list b.waiting 0 (list_at b.waiting.lists 0 ++ h ∷ []) → IsFresh b.actions (begins_in b.queues.pool) (seen_in q.pool) h b.ready ready → q.ends ≡ b.tasks.ends → MayJoin b.groups.pool a.detached a.group → groups ≡ joined b.groups a.group h → IsBoard (record b { tasks = q; ready = ready; waiting = waiting; groups = groups })
+add-board b q ready waiting groups h n a k i next count less apart is f ends may enters =
+    add-with b q b.queues ready waiting groups h n a k i next count less is refl (steady-same b.queues.pool (seen_in b.tasks.pool) h)
+    (queued-apart (seen_in b.tasks.pool) (seen_in q.pool) h _ b.queues.pool b.settings.priorities (put-insert b.tasks.pool q.pool h (new_task a n) i) (unseen b q.pool h (new_task a n) i) apart k.queued) f ends may enters
+
+pub enqueue-board : (b : BoardTable) (q : TaskTable) (queues : QueueTable) (ready : ReadyMarks) (waiting : HandleLists) (groups : GroupTable) (h n p : ℕ) (a : NewTask) (v : HeldQueue) → IsBoard b → Inserts b.tasks.pool q.pool h (new_task a n) → n ≡ b.tasks.starts → q.starts ≡ b.tasks.starts + 1 → slot_value b.queues.pool p ≡ Some v → a.queue ≡ Some p → a.job ≡ v.queue.job → a.priority ≡ v.queue.priority → waiting ≡ with_list b.waiting 0 (list_at b.waiting.lists 0 ++ h ∷ []) → queues ≡ record b.queues { pool = changed b.queues.pool p (with_task h) } → IsFresh b.actions (begins_in queues.pool) (seen_in q.pool) h b.ready ready → q.ends ≡ b.tasks.ends → MayJoin b.groups.pool a.detached a.group → groups ≡ joined b.groups a.group h → IsBoard (record b { tasks = q; queues = queues; ready = ready; waiting = waiting; groups = groups })
+unfolding Steady
+enqueue-board b q queues ready waiting groups h n p a v k i next count live names job rank is put f ends may enters =
+    add-with b q queues ready waiting groups h n a k i next count (subst (λ (m : ℕ). m < b.settings.priorities) (sym rank) (k.queued.ranked p v live)) is (ap (λ (z : QueueTable). z.tasks) put) steady
+    (subst (λ (z : QueueTable). AreQueued (seen_in q.pool) z.pool b.settings.priorities) (sym put)
+    (queued-enqueue (seen_in b.tasks.pool) (seen_in q.pool) h p _ b.queues.pool b.settings.priorities v (put-insert b.tasks.pool q.pool h (new_task a n) i) (unseen b q.pool h (new_task a n) i) live names job
+    (λ j u e. subst (λ (m : ℕ). u.start < m) (sym next) (k.started.before j u e)) k.queued)) f ends may enters
   where
-    unseen-before : {s : Seen} → seen_in b.tasks.pool h ≡ Some s → seen_in b.tasks.pool h ≡ None
-    unseen-before e = ap (λ (o : Option _). seen (value_at o (generation_of h))) i.was_free ∙ ap seen (value_at-none (free_slot (generation_of h)) (generation_of h) refl)
+    by_queue : (j : ℕ) (o : Option ℕ) → j ≢ h → begins_in (changed b.queues.pool p (with_task h)) j o ≡ begins_in b.queues.pool j o
+    by_queue j None d = refl
+    by_queue j (Some z) d = begins-enqueue b.queues.pool h p j z v live d
+
+    steady : Steady (begins_in b.queues.pool) (begins_in queues.pool) (seen_in b.tasks.pool) h
+    steady j s d e o = ap (λ (z : QueueTable). begins_in z.pool j s.queue) put ∙ by_queue j s.queue d
+
+-- no task of a queue has a slot that was free
+pub no-task : (b : BoardTable) (q : Slots Task) (h : ℕ) (t : Task) → IsBoard b → Inserts b.tasks.pool q h t → NoTaskAt (slot_of h) b.queues.pool
+no-task b q h t k i p x live = elim (cases_Bool (stands_at (slot_of h) x.tasks)) [
+  | inl on ↦
+      let w = stands-handle (slot_of h) x.tasks on in
+      let s = k.queued.names w.0 p x live w.1 in
+      let u = seen-live b.tasks.pool w.0 s.0 s.1 in
+      let free : slot_value b.tasks.pool w.0 ≡ None = ap (λ (place : ℕ). value_at (slice_get b.tasks.pool.slots place) (generation_of w.0)) w.2 ∙ (ap (λ (o : Option _). value_at o (generation_of w.0)) i.was_free ∙ value_at-none (free_slot (generation_of h)) (generation_of w.0) refl) in
+      none-some (sym free ∙ u.1)
+  | inr off ↦ off
+]
 
 -- Taking
 
-unmarked : (actions : Slots Action) (s : Seen) (w : ℕ) → s.on ≡ Some w → IsMarkOf actions (Some s) None
-unmarked actions s w on = record {
+unmarked : (actions : Slots Action) (lets : Option ℕ → Bool) (s : Seen) (w : ℕ) → s.on ≡ Some w → IsMarkOf actions lets (Some s) None
+unmarked actions lets s w on = record {
   sound = λ v p e. absurd (false≢true e);
   whole = λ v u e k. none-some (sym k.waits ∙ ap (λ (z : Seen). z.on) (sym (some_same e)) ∙ on);
 }
 
-unmarked-none : (actions : Slots Action) → IsMarkOf actions None None
-unmarked-none actions = record { sound = λ v p e. absurd (false≢true e); whole = λ v u e k. none-some e }
+pub unmarked-none : (actions : Slots Action) (lets : Option ℕ → Bool) → IsMarkOf actions lets None None
+unmarked-none actions lets = record { sound = λ v p e. absurd (false≢true e); whole = λ v u e k. none-some e }
 
 -- a live task that hasn't begun waits
-pub waits-in : (b : BoardTable) (h : ℕ) (t : Task) → IsBoard b → get b.tasks.pool h ≡ Some t → is_unstarted t ≡ true → has_handle h (list_at b.waiting.lists 0) ≡ true
+pub waits-in : (b : BoardTable) (h : ℕ) (t : Task) → IsBoard b → slot_value b.tasks.pool h ≡ Some t → is_unstarted t ≡ true → has_handle h (list_at b.waiting.lists 0) ≡ true
 waits-in b h t k g u =
     let s = unstarted-seen t t.state u in
     k.waiting_are.listed h s.0 (ap seen g ∙ s.1) s.2
 
-pub take-board : (b : BoardTable) (q : TaskTable) (ready : ReadyMarks) (waiting : HandleLists) (h w : ℕ) (kind : Kind) (t : Task) → IsBoard b → get b.tasks.pool h ≡ Some t → is_unstarted t ≡ true → q.pool ≡ changed b.tasks.pool h (with_state (Running w kind)) → q.starts ≡ b.tasks.starts → w < b.settings.workers → is_some (running_on b.running w) ≡ false → waiting ≡ with_list b.waiting 0 (without_handle h (list_at b.waiting.lists 0)) → NowhereAt (slot_of h) waiting.lists → ready ≡ record b.ready { marks = set b.ready.marks (slot_of h) None } → IsBoard (record b { tasks = q; ready = ready; waiting = waiting; running = set b.running w (Some (record { 0 = h })) })
-take-board b q ready waiting h w kind t k g u pool count less free is gone marks =
-    put-board b q ready waiting (set b.running w (Some (record { 0 = h }))) h (seen (Some (with_state (Running w kind) t))) None k move (alone-old b.tasks.pool h t _ (seen_in q.pool) g move) (ap max_of pool ∙ max-changed b.tasks.pool h (with_state (Running w kind)))
-    (slot_of-live b.tasks.pool h t g) (unmarked b.actions _ w refl) marks
+unstarted-unended : (x : TaskState) → scheduled x ≡ true → is_none (end_of x) ≡ true
+unstarted-unended Scheduled e = refl
+unstarted-unended (Running w k) e = refl
+unstarted-unended (Ended y n) e = absurd (false≢true e)
+
+pub take-board : (b : BoardTable) (q : TaskTable) (ready : ReadyMarks) (waiting : HandleLists) (h w : ℕ) (kind : Kind) (t : Task) → IsBoard b → slot_value b.tasks.pool h ≡ Some t → is_unstarted t ≡ true → q.pool ≡ changed b.tasks.pool h (with_state (Running w kind)) → q.starts ≡ b.tasks.starts → w < b.settings.workers → is_some (running_on b.running w) ≡ false → waiting ≡ with_list b.waiting 0 (without_handle h (list_at b.waiting.lists 0)) → NowhereAt (slot_of h) waiting.lists → ready ≡ record b.ready { marks = set b.ready.marks (slot_of h) None } → q.ends ≡ b.tasks.ends → IsBoard (record b { tasks = q; ready = ready; waiting = waiting; running = set b.running w (Some (record { 0 = h })) })
+take-board b q ready waiting h w kind t k g u pool count less free is gone marks ends =
+    put-board b q b.queues ready waiting (set b.running w (Some (record { 0 = h }))) b.groups h (seen (Some (with_state (Running w kind) t))) k move (ap max_of pool ∙ max-changed b.tasks.pool h (with_state (Running w kind)))
+    (sizes-set b.ready ready (slot_of h) None marks)
+    (put-marked b q b.queues.pool ready h _ None k move (steady-same b.queues.pool (seen_in b.tasks.pool) h) (alone-old b.tasks.pool h t _ (seen_in q.pool) g move) (slot_of-live b.tasks.pool h t g) (unmarked b.actions (begins_in b.queues.pool h) _ w refl) marks)
+    (queued-run (seen_in b.tasks.pool) (seen_in q.pool) h w was.0 _ b.queues.pool b.settings.priorities move (ap seen g ∙ was.1) like.queue like.job like.start refl k.queued) refl
     (ap (λ (l : HandleLists). l.places) is) (ap (λ (l : HandleLists). length l.lists) is ∙ one-length b.waiting _ k.lists) (length-set b.running w _ ∙ k.seats)
     (subst (λ (hs : List ℕ). AreWaiting (seen_in q.pool) hs) (sym list)
     (waiting-leave (seen_in b.tasks.pool) (seen_in q.pool) h _ (list_at b.waiting.lists 0) move (λ s e n. none-some (sym n ∙ ap (λ (z : Seen). z.on) (sym (some_same e)))) (ap (stands_at (slot_of h)) (sym list) ∙ gone 0) k.waiting_are))
     (running-begin (seen_in b.tasks.pool) (seen_in q.pool) h w _ b.running move refl free
     (λ s e. ap (λ (z : Seen). z.on) (some_same (sym e ∙ ap seen g ∙ was.1)) ∙ was.2) (omega (arith, less, k.few, k.seats)) k.running_are)
     (λ s e. subst (λ (n : ℕ). n < b.settings.priorities) (rank ∙ ap (λ (z : Seen). z.priority) (some_same e)) (k.ranked.known h was.0 (ap seen g ∙ was.1)))
-    (λ s e. let x = subst (λ (n : ℕ). n < b.tasks.starts) (begun ∙ ap (λ (z : Seen). z.start) (some_same e)) (k.started.before h was.0 (ap seen g ∙ was.1)) in omega (arith, x, count)) (omega (arith, count))
+    (λ s e. let x = subst (λ (n : ℕ). n < b.tasks.starts) (begun ∙ ap (λ (z : Seen). z.start) (some_same e)) (k.started.before h was.0 (ap seen g ∙ was.1)) in omega (arith, x, count)) (omega (arith, count)) refl
+    (members-same (members_in b.tasks.pool) (members_in q.pool) (slot_value b.groups.pool) b.tasks.starts b.tasks.ends q.starts q.ends
+    (λ j. ap (λ (p : Slots Task). members_in p j) pool ∙ member-runs b.tasks.pool h w kind t g (unstarted-unended t.state u) j) (omega (arith, count)) (omega (arith, ends)) k.members)
   where
     was : (s : Seen) × (seen_as t t.state ≡ Some s) × (s.on ≡ None)
     was = unstarted-seen t t.state u
@@ -157,52 +233,19 @@ take-board b q ready waiting h w kind t k g u pool count less free is gone marks
     list : list_at waiting.lists 0 ≡ without_handle h (list_at b.waiting.lists 0)
     list = ap (λ (l : HandleLists). list_at l.lists 0) is ∙ one-list b.waiting _ k.lists
 
+    like : SeenAs t t.state was.0
+    like = seen-as t t.state was.0 was.1
+
     begun : was.0.start ≡ t.start
-    begun = (seen-as t t.state was.0 was.1).start
+    begun = like.start
 
     rank : was.0.priority ≡ t.priority
-    rank = (seen-as t t.state was.0 was.1).priority
+    rank = like.priority
 
 -- Ending
 
--- how far a task has come, as its state is shown
-pub shown-scheduled : (o : Option Task) → Some shown.Scheduled ≡ option_map (λ (t : Task). shown_state t.state) o → (t : Task) × (o ≡ Some t) × (t.state ≡ Scheduled)
-shown-scheduled None e = absurd (cc)
-shown-scheduled (Some t) e = (t, refl, by_state t.state (some_same e))
-  where
-    by_state : (x : TaskState) → shown.Scheduled ≡ shown_state x → x ≡ Scheduled
-    by_state Scheduled f = refl
-    by_state (Running v k) f = absurd (cc)
-    by_state (Over y n) f = absurd (cc)
-
-pub shown-running : (o : Option Task) (w : ℕ) (kind : Kind) → Some (shown.Running w kind) ≡ option_map (λ (t : Task). shown_state t.state) o → (t : Task) × (o ≡ Some t) × (t.state ≡ Running w kind)
-shown-running None w kind e = absurd (cc)
-shown-running (Some t) w kind e = (t, refl, by_state t.state (some_same e))
-  where
-    by_state : (x : TaskState) → shown.Running w kind ≡ shown_state x → x ≡ Running w kind
-    by_state Scheduled f = absurd (cc)
-    by_state (Running v k) f = cc
-    by_state (Over y n) f = absurd (cc)
-
--- what an end is of a board
-pub end-waiting : (b : BoardTable) (q : TaskTable) (ready : ReadyMarks) (waiting : HandleLists) (h n : ℕ) (e : TaskEnd) (t : Task) → IsBoard b → get b.tasks.pool h ≡ Some t → t.state ≡ Scheduled → q.pool ≡ ended_in b.tasks.pool h e n (Some t) → q.starts ≡ b.tasks.starts → waiting ≡ with_list b.waiting 0 (without_handle h (list_at b.waiting.lists 0)) → NowhereAt (slot_of h) waiting.lists → ready ≡ record b.ready { marks = set b.ready.marks (slot_of h) None } → IsBoard (record b { tasks = q; ready = ready; waiting = waiting })
-end-waiting b q ready waiting h n e t k g x pool count is gone marks =
-    put-board b q ready waiting b.running h None None k move (alone-old b.tasks.pool h t _ (seen_in q.pool) g move) (ap max_of pool ∙ max-ended b.tasks.pool h e n (Some t))
-    (slot_of-live b.tasks.pool h t g) (unmarked-none b.actions) marks
-    (ap (λ (l : HandleLists). l.places) is) (ap (λ (l : HandleLists). length l.lists) is ∙ one-length b.waiting _ k.lists) k.seats
-    (subst (λ (hs : List ℕ). AreWaiting (seen_in q.pool) hs) (sym list)
-    (waiting-leave (seen_in b.tasks.pool) (seen_in q.pool) h _ (list_at b.waiting.lists 0) move (λ s f o. none-some f) (ap (stands_at (slot_of h)) (sym list) ∙ gone 0) k.waiting_are))
-    (running-same (seen_in b.tasks.pool) (seen_in q.pool) h _ b.running move (λ s w f on. none-some (ap (λ (z : Seen). z.on) (some_same (sym (ap seen g ∙ ap (seen_as t) x) ∙ f)) ∙ on)) (λ s w f on. none-some f) k.running_are)
-    (λ s f. none-some f) (λ s f. none-some f) (omega (arith, count))
-  where
-    move : Put (seen_in b.tasks.pool) h None (seen_in q.pool)
-    move = subst (λ (p : Slots Task). Put (seen_in b.tasks.pool) h None (seen_in p)) (sym pool) (put-ended b.tasks.pool h e n t g)
-
-    list : list_at waiting.lists 0 ≡ without_handle h (list_at b.waiting.lists 0)
-    list = ap (λ (l : HandleLists). list_at l.lists 0) is ∙ one-list b.waiting _ k.lists
-
 -- the seat of a running task
-pub seat-below : (b : BoardTable) (h w : ℕ) (kind : Kind) (t : Task) → IsBoard b → get b.tasks.pool h ≡ Some t → t.state ≡ Running w kind → w < 25
+pub seat-below : (b : BoardTable) (h w : ℕ) (kind : Kind) (t : Task) → IsBoard b → slot_value b.tasks.pool h ≡ Some t → t.state ≡ Running w kind → w < 25
 seat-below b h w kind t k g x = subst (λ (n : ℕ). w < n) k.seats (within b.running w (k.running_are.found h w _ (ap seen g ∙ ap (seen_as t) x) refl))
   where
     within : (r : List (Option TaskHandle)) (i : ℕ) → running_on r i ≡ Some (record { 0 = h }) → i < length r
@@ -210,23 +253,9 @@ seat-below b h w kind t k g x = subst (λ (n : ℕ). w < n) k.seats (within b.ru
     within (y ∷ r) zero f = omega arith
     within (y ∷ r) (suc i) f = let more = within r i f in omega (arith, more)
 
-pub end-running : (b : BoardTable) (q : TaskTable) (ready : ReadyMarks) (h w n : ℕ) (kind : Kind) (e : TaskEnd) (t : Task) → IsBoard b → get b.tasks.pool h ≡ Some t → t.state ≡ Running w kind → q.pool ≡ ended_in b.tasks.pool h e n (Some t) → q.starts ≡ b.tasks.starts → ready ≡ record b.ready { marks = set b.ready.marks (slot_of h) None } → IsBoard (record b { tasks = q; ready = ready; running = set b.running w None })
-end-running b q ready h w n kind e t k g x pool count marks =
-    put-board b q ready b.waiting (set b.running w None) h None None k move (alone-old b.tasks.pool h t _ (seen_in q.pool) g move) (ap max_of pool ∙ max-ended b.tasks.pool h e n (Some t))
-    (slot_of-live b.tasks.pool h t g) (unmarked-none b.actions) marks refl k.lists (length-set b.running w None ∙ k.seats)
-    (waiting-same (seen_in b.tasks.pool) (seen_in q.pool) h _ (list_at b.waiting.lists 0) move (λ s f o. none-some (sym o ∙ ap (λ (z : Seen). z.on) (some_same (sym f ∙ was)))) (λ s f o. none-some f) k.waiting_are)
-    (running-end (seen_in b.tasks.pool) (seen_in q.pool) h w _ b.running move was refl (omega (arith, seat-below b h w kind t k g x, k.seats)) k.running_are)
-    (λ s f. none-some f) (λ s f. none-some f) (omega (arith, count))
-  where
-    move : Put (seen_in b.tasks.pool) h None (seen_in q.pool)
-    move = subst (λ (p : Slots Task). Put (seen_in b.tasks.pool) h None (seen_in p)) (sym pool) (put-ended b.tasks.pool h e n t g)
-
-    was : seen_in b.tasks.pool h ≡ Some (record { job = t.job; priority = t.priority; cores = t.cores; queue = t.queue; start = t.start; on = Some w })
-    was = ap seen g ∙ ap (seen_as t) x
-
 -- Other actions
 
-pub remark-board : (b : BoardTable) (new : Slots Action) (ready : ReadyMarks) (job : ℕ) → IsBoard b → SameBut job b.actions new → Remarked new (seen_in b.tasks.pool) job (list_at b.waiting.lists 0) (length (list_at b.waiting.lists 0)) b.ready ready → IsBoard (record b { actions = new; ready = ready })
+pub remark-board : (b : BoardTable) (new : Slots Action) (ready : ReadyMarks) (job : ℕ) → IsBoard b → SameBut job b.actions new → Remarked new (begins_in b.queues.pool) (seen_in b.tasks.pool) job (list_at b.waiting.lists 0) (length (list_at b.waiting.lists 0)) b.ready ready → IsBoard (record b { actions = new; ready = ready })
 remark-board b new ready job k same r = record {
   few = k.few;
   workers = r.workers ∙ k.workers;
@@ -235,21 +264,136 @@ remark-board b new ready job k same r = record {
   places = k.places;
   lists = k.lists;
   seats = k.seats;
-  marked = marked-anew b.actions new b.tasks.pool job (list_at b.waiting.lists 0) b.ready ready same k.waiting_are r k.marked;
+  room = k.room;
+  marked = marked-anew b.actions new (begins_in b.queues.pool) (begins_in b.queues.pool) b.tasks.pool job (list_at b.waiting.lists 0) b.ready ready same (λ h s e d n. refl) k.waiting_are r k.marked;
   waiting_are = k.waiting_are;
   running_are = k.running_are;
   ranked = k.ranked;
   started = k.started;
+  queued = k.queued;
+  members = k.members;
+  task_slots = k.task_slots;
 }
+
+-- Other queues
+
+-- the actions are as they were
+same-actions : (p : Slots Action) (job : ℕ) → SameBut job p p
+same-actions p job = record { there = λ h a d e. e; back = λ h a d e. e }
+
+-- a queue is enabled or disabled, and the waiting tasks of its job are marked anew
+pub opened-board : (b : BoardTable) (queues : QueueTable) (ready : ReadyMarks) (q : ℕ) (v : HeldQueue) (on : Bool) → IsBoard b → slot_value b.queues.pool q ≡ Some v → queues ≡ record b.queues { pool = changed b.queues.pool q (with_opened on) } → Remarked b.actions (begins_in queues.pool) (seen_in b.tasks.pool) v.queue.job (list_at b.waiting.lists 0) (length (list_at b.waiting.lists 0)) b.ready ready → IsBoard (record b { queues = queues; ready = ready })
+opened-board b queues ready q v on k live is r = record {
+  few = k.few;
+  workers = r.workers ∙ k.workers;
+  priorities = r.priorities ∙ k.priorities;
+  slots = r.slots ∙ k.slots;
+  places = k.places;
+  lists = k.lists;
+  seats = k.seats;
+  room = ap (λ (z : QueueTable). z.tasks) is ∙ k.room;
+  marked = marked-anew b.actions b.actions (begins_in b.queues.pool) (begins_in queues.pool) b.tasks.pool v.queue.job (list_at b.waiting.lists 0) b.ready ready (same-actions b.actions v.queue.job) steady k.waiting_are r k.marked;
+  waiting_are = k.waiting_are;
+  running_are = k.running_are;
+  ranked = k.ranked;
+  started = k.started;
+  members = k.members;
+  task_slots = k.task_slots;
+  queued = subst (λ (z : QueueTable). AreQueued (seen_in b.tasks.pool) z.pool b.settings.priorities) (sym is) (queued-with (seen_in b.tasks.pool) q b.queues.pool b.settings.priorities v on live k.queued);
+}
+  where
+    -- the tasks of the queue have its job
+    by_queue : (h : ℕ) (s : Seen) (o : Option ℕ) → s.queue ≡ o → seen_in b.tasks.pool h ≡ Some s → (s.job ≡ v.queue.job → ⊥) → begins_in (changed b.queues.pool q (with_opened on)) h o ≡ begins_in b.queues.pool h o
+    by_queue h s None e f d = refl
+    by_queue h s (Some p) e f d = begins-same b.queues.pool (changed b.queues.pool q (with_opened on)) h p
+        ((put-queue_changed b.queues.pool q (with_opened on) v live).others p (λ here.
+        let u = k.queued.names h q v live (k.queued.listed h q s v f (e ∙ ap Some here) live) in
+        d (ap (λ (z : Seen). z.job) (some_same (sym f ∙ u.1)) ∙ u.3)))
+
+    steady : SteadyBut v.queue.job (begins_in b.queues.pool) (begins_in queues.pool) (seen_in b.tasks.pool)
+    steady h s e d n = ap (λ (z : QueueTable). begins_in z.pool h s.queue) is ∙ by_queue h s s.queue refl e d
+
+-- a queue that is made has no tasks
+pub created-board : (b : BoardTable) (queues : QueueTable) (q : ℕ) (x : Queue) → IsBoard b → Inserts b.queues.pool queues.pool q (held x []) → queues.tasks ≡ b.queues.tasks → x.priority < b.settings.priorities → IsBoard (record b { queues = queues })
+created-board b queues q x k i room rank = record {
+  few = k.few;
+  workers = k.workers;
+  priorities = k.priorities;
+  slots = k.slots;
+  places = k.places;
+  lists = k.lists;
+  seats = k.seats;
+  room = room ∙ k.room;
+  marked = marked-steady b.actions (begins_in b.queues.pool) (begins_in queues.pool) (seen_in b.tasks.pool) b.ready.marks (λ h s e n. by_queue h s s.queue refl e n) k.marked;
+  waiting_are = k.waiting_are;
+  running_are = k.running_are;
+  ranked = k.ranked;
+  started = k.started;
+  members = k.members;
+  task_slots = k.task_slots;
+  queued = queued-new (seen_in b.tasks.pool) q b.queues.pool queues.pool b.settings.priorities x i rank k.queued;
+}
+  where
+    by_queue : (h : ℕ) (s : Seen) (o : Option ℕ) → s.queue ≡ o → seen_in b.tasks.pool h ≡ Some s → s.on ≡ None → begins_in queues.pool h o ≡ begins_in b.queues.pool h o
+    by_queue h s None e f n = refl
+    by_queue h s (Some p) e f n = begins-same b.queues.pool queues.pool h p ((put-queue_insert b.queues.pool queues.pool q (held x []) i).others p (λ here.
+        let old = k.queued.live h p s f n e in
+        none-some (sym (get-insert_before b.queues.pool queues.pool q (held x []) i) ∙ ap (slot_value b.queues.pool) (sym here) ∙ old.1)))
+
+-- a queue goes whose tasks have all begun
+deleted-board : (b : BoardTable) (queues : QueueTable) (q : ℕ) (v : HeldQueue) → IsBoard b → NoneWaitsIn q (seen_in b.tasks.pool) → slot_value b.queues.pool q ≡ Some v → queues ≡ record b.queues { pool = without b.queues.pool q } → IsBoard (record b { queues = queues })
+deleted-board b queues q v k none live is = record {
+  few = k.few;
+  workers = k.workers;
+  priorities = k.priorities;
+  slots = k.slots;
+  places = k.places;
+  lists = k.lists;
+  seats = k.seats;
+  room = ap (λ (z : QueueTable). z.tasks) is ∙ k.room;
+  marked = marked-steady b.actions (begins_in b.queues.pool) (begins_in queues.pool) (seen_in b.tasks.pool) b.ready.marks (λ h s e n. ap (λ (z : QueueTable). begins_in z.pool h s.queue) is ∙ by_queue h s s.queue refl e n) k.marked;
+  waiting_are = k.waiting_are;
+  running_are = k.running_are;
+  ranked = k.ranked;
+  started = k.started;
+  members = k.members;
+  task_slots = k.task_slots;
+  queued = subst (λ (z : QueueTable). AreQueued (seen_in b.tasks.pool) z.pool b.settings.priorities) (sym is) (queued-gone (seen_in b.tasks.pool) q b.queues.pool b.settings.priorities v live none k.queued);
+}
+  where
+    by_queue : (h : ℕ) (s : Seen) (o : Option ℕ) → s.queue ≡ o → seen_in b.tasks.pool h ≡ Some s → s.on ≡ None → begins_in (without b.queues.pool q) h o ≡ begins_in b.queues.pool h o
+    by_queue h s None e f n = refl
+    by_queue h s (Some p) e f n = begins-same b.queues.pool (without b.queues.pool q) h p ((put-queue_without b.queues.pool q v live).others p (λ here. none h s f n (e ∙ ap Some here)))
+
+-- a delete that may have been refused
+pub delete-board : (b : BoardTable) (queues : QueueTable) (q : ℕ) (r : Result Unit MtapiStatus) → IsBoard b → NoneWaitsIn q (seen_in b.tasks.pool) → r ≡ live_reply (slot_value b.queues.pool q) → OnOk r (queues ≡ record b.queues { pool = without b.queues.pool q }) → OnErr r (queues ≡ b.queues) → IsBoard (record b { queues = queues })
+delete-board b queues q (Err c) k none e ok err = subst (λ (z : QueueTable). IsBoard (record b { queues = z })) (sym err) k
+delete-board b queues q (Ok u) k none e ok err = by_found (slot_value b.queues.pool q) refl e
+  where
+    by_found : (o : Option HeldQueue) → slot_value b.queues.pool q ≡ o → Ok u ≡ live_reply o → IsBoard (record b { queues = queues })
+    by_found None dead f = absurd (cc)
+    by_found (Some v) live f = deleted-board b queues q v k none live ok
+
+-- a create that may have been refused
+pub create-board : (b : BoardTable) (queues : QueueTable) (x : Queue) (r : Result QueueHandle MtapiStatus) → IsBoard b → x.priority < b.settings.priorities → CreatesQueue b.queues x r queues → IsBoard (record b { queues = queues })
+create-board b queues x (Ok q) k rank c = created-board b queues q.0 x k c.2 c.3 rank
+create-board b queues x (Err ErrQueueExists) k rank c = subst (λ (z : QueueTable). IsBoard (record b { queues = z })) (sym c.1) k
+create-board b queues x (Err ErrQueueLimit) k rank c = subst (λ (z : QueueTable). IsBoard (record b { queues = z })) (sym c.2) k
+create-board b queues x (Err _) k rank c = absurd c
+
+-- the queue of these facts
+pub queue-found : (o : Option HeldQueue) (f : QueueFacts) → Some f ≡ option_map facts_of o → (x : HeldQueue) × (o ≡ Some x) × (f.job ≡ x.queue.job)
+queue-found None f e = none-some (sym e)
+queue-found (Some x) f e = (x, refl, ap (λ (g : QueueFacts). g.job) (some_same e))
 
 pub job-found : (o : Option Action) (j : ℕ) → Ok j ≡ job_of o → (x : Action) × (o ≡ Some x) × (x.job ≡ j)
 job-found None j e = absurd (cc)
 job-found (Some x) j e = (x, refl, cc)
 
 -- an action that isn't live doesn't change
-pub unchanged : (p : Slots Action) (h : ℕ) (f : Action → Action) (c : MtapiStatus) → Err c ≡ job_of (get p h) → changed p h f ≡ p
-unchanged p h f c e = by_found (get p h) refl e
+pub unchanged : (p : Slots Action) (h : ℕ) (f : Action → Action) (c : MtapiStatus) → Err c ≡ job_of (slot_value p h) → changed p h f ≡ p
+unchanged p h f c e = by_found (slot_value p h) refl e
   where
-    by_found : (o : Option Action) → get p h ≡ o → Err c ≡ job_of o → changed p h f ≡ p
+    by_found : (o : Option Action) → slot_value p h ≡ o → Err c ≡ job_of o → changed p h f ≡ p
     by_found None g d = ap (λ (o : Option Action). put p h (option_map f o)) g
     by_found (Some x) g d = absurd (cc)

@@ -6,7 +6,8 @@ use Rattle.std.proofs.lemmas.Bool.Decides.{nat_tests}
 use Rattle.std.proofs.lemmas.Nat.Bits.{bit_at_and, bit_at-lt}
 use Rattle.mtapi_values.specs.Masks.{in_mask}
 use Rattle.mtapi_values.specs.declared.masks.Mask.{Mask}
-use Rattle.handle_pool.specs.Slots.{Slots, slot_of, get, used_at, SomeLive, NoneLive}
+use Rattle.handle_pool.specs.Slots.{Slots, slot_of, slot_value, used_at}
+use Rattle.handle_pool.specs.Walks.{SomeLive}
 use Rattle.handle_pool.proofs.WalkLemmas.{used_at-live}
 use Rattle.ready_index.specs.declared.marks.Mark.{Mark}
 use Rattle.ready_index.specs.Marks.{mark_at, is_for, is_for_at, HasNoneFor, IsFirst}
@@ -15,8 +16,10 @@ use Rattle.job_table.specs.Answers.{Passes, runs_job_on, Covers, Chooses}
 use Rattle.job_table.specs.declared.cover.Cover.TheVariants.{NoAction, AllDisabled, Cores}
 use Rattle.mtapi_objects.specs.Tasks.{Task, is_unstarted}
 use Rattle.task_board.specs.declared.board.Choice.{Choice}
-use Rattle.task_board.specs.Picks.{Takeable, Beats, IsBest}
+use Rattle.queue_core.specs.Held.{HeldQueue}
+use Rattle.task_board.specs.Picks.{Takeable, NoneTakeable, NoneBetter, IsBest}
 use Rattle.task_board.specs.Seen.{seen, seen_in}
+use Rattle.task_board.specs.Queued.{begins_in}
 use Rattle.task_board.specs.Board.{IsMarkOf, Marked}
 use Rattle.task_board.proofs.SeenLemmas.{some_same, seen-as, unstarted-seen, seen-live, takes-from, takes-to}
 
@@ -51,19 +54,19 @@ pub number-same : (a b : ℕ) → a ≡ b → (a == b) ≡ true
 number-same a b e = grind (arith, nat_tests)
 
 -- nobody may take it: no mark is right
-pub no-mark : (actions : Slots Action) (t : Task) → ((w : ℕ) → Takeable actions w t → ⊥) → IsMarkOf actions (seen (Some t)) None
-no-mark actions t none = record {
+pub no-mark : (actions : Slots Action) (lets : Option ℕ → Bool) (t : Task) → ((w : ℕ) → Takeable actions lets w t → ⊥) → IsMarkOf actions lets (seen (Some t)) None
+no-mark actions lets t none = record {
   sound = λ w p e. absurd (false≢true e);
-  whole = λ w s e k. absurd (none w (takes-from actions w t s e k));
+  whole = λ w s e k. absurd (none w (takes-from actions lets w t s e k));
 }
 
 -- what is not seen has no mark
-pub no-mark-seen : (actions : Slots Action) → IsMarkOf actions None None
-no-mark-seen actions = record { sound = λ w p e. absurd (false≢true e); whole = λ w s e k. absurd (cc) }
+pub no-mark-seen : (actions : Slots Action) (lets : Option ℕ → Bool) → IsMarkOf actions lets None None
+no-mark-seen actions lets = record { sound = λ w p e. absurd (false≢true e); whole = λ w s e k. absurd (cc) }
 
--- the mark of a task that is scheduled and in no queue: its priority, and the cores in its mask that its job's actions cover
-pub mark-right : (actions : Slots Action) (t : Task) (mask : Mask) (m : Mark) → is_unstarted t ≡ true → t.queue ≡ None → Covers actions t.job (Cores mask) → m.priority ≡ t.priority → m.mask.0 ≡ bit_and mask.0 t.cores → IsMarkOf actions (seen (Some t)) (Some m)
-mark-right actions t mask m u q c priority cores = record {
+-- the mark of a task that is scheduled and may begin: its priority, and the cores in its mask that its job's actions cover
+pub mark-right : (actions : Slots Action) (lets : Option ℕ → Bool) (t : Task) (mask : Mask) (m : Mark) → is_unstarted t ≡ true → lets t.queue ≡ true → Covers actions t.job (Cores mask) → m.priority ≡ t.priority → m.mask.0 ≡ bit_and mask.0 t.cores → IsMarkOf actions lets (seen (Some t)) (Some m)
+mark-right actions lets t mask m u q c priority cores = record {
   sound = λ w p e.
       let s = unstarted-seen t t.state u in
       let a = seen-as t t.state s.0 s.1 in
@@ -75,7 +78,7 @@ mark-right actions t mask m u q c priority cores = record {
         a.priority ∙ sym priority ∙ sym at,
         record {
           waits = s.2;
-          queue = a.queue ∙ q;
+          queue = ap lets a.queue ∙ q;
           core = ap (in_mask w) a.cores ∙ in_mask-right w mask.0 t.cores in_m;
           action = (run.0, run.1, run.2, ap (λ (j : ℕ). runs_job_on j w run.1) a.job ∙ run.3);
         },
@@ -87,18 +90,18 @@ mark-right actions t mask m u q c priority cores = record {
       (number-same s.priority m.priority (a.priority ∙ sym priority));
 }
   where
-    covers : (w : ℕ) → SomeLive (get actions) (Passes (runs_job_on t.job w)) → in_mask w mask.0 ≡ true
+    covers : (w : ℕ) → SomeLive (slot_value actions) (Passes (runs_job_on t.job w)) → in_mask w mask.0 ≡ true
     covers w some = elim (cases_Bool (in_mask w mask.0)) [
       | inl on ↦ on
       | inr off ↦ absurd (c.1.uncovered w off some.0 some.1 some.2 some.3)
     ]
 
 -- no action may run it
-pub no-action : (actions : Slots Action) (t : Task) → Covers actions t.job NoAction → (w : ℕ) → Takeable actions w t → ⊥
-no-action actions t c w k = c k.0 k.1 k.2 (and_right _ _ (and_left _ _ k.3.action))
+pub no-action : (actions : Slots Action) (lets : Option ℕ → Bool) (t : Task) → Covers actions t.job NoAction → (w : ℕ) → Takeable actions lets w t → ⊥
+no-action actions lets t c w k = c k.0 k.1 k.2 (and_right _ _ (and_left _ _ k.3.action))
 
-pub none-enabled : (actions : Slots Action) (t : Task) → Covers actions t.job AllDisabled → (w : ℕ) → Takeable actions w t → ⊥
-none-enabled actions t c w k = c.1 k.0 k.1 k.2 (and_left _ _ k.3.action)
+pub none-enabled : (actions : Slots Action) (lets : Option ℕ → Bool) (t : Task) → Covers actions t.job AllDisabled → (w : ℕ) → Takeable actions lets w t → ⊥
+none-enabled actions lets t c w k = c.1 k.0 k.1 k.2 (and_left _ _ k.3.action)
 
 -- Reading the first mark
 
@@ -106,24 +109,24 @@ for-some : (w p : ℕ) (o : Option Mark) → is_for_at w p o ≡ true → is_for
 for-some w p None e = e
 for-some w p (Some m) e = and_left _ _ e
 
-module _ (actions : Slots Action) (p : Slots Task) (marks : List (Option Mark)) (m : Marked actions (seen_in p) marks) (w : ℕ) where
-  pub best-none : HasNoneFor w marks → NoneLive (get p) (Takeable actions w)
+module _ (actions : Slots Action) (p : Slots Task) (queues : Slots HeldQueue) (marks : List (Option Mark)) (m : Marked actions (begins_in queues) (seen_in p) marks) (w : ℕ) where
+  pub best-none : HasNoneFor w marks → NoneTakeable actions p queues w
   best-none none h t g k =
-      let s = takes-to actions w t k in
+      let s = takes-to actions (begins_in queues h) w t k in
       false≢true (sym (none (slot_of h)) ∙ for-some w s.s.priority _ (m.whole w h s.s (ap seen g ∙ s.is) s.takes))
 
-  none-better : (priority place : ℕ) → IsFirst w priority place marks → NoneLive (get p) (Beats actions w priority)
-  none-better priority place f h t g k =
-      let s = takes-to actions w t k.0 in
-      false≢true (sym (f.least s.s.priority (slot_of h) (subst (λ (q : ℕ). q < priority) (sym s.priority) k.1)) ∙ m.whole w h s.s (ap seen g ∙ s.is) s.takes)
+  none-better : (priority place : ℕ) → IsFirst w priority place marks → NoneBetter actions p queues w priority
+  none-better priority place f h t g k less =
+      let s = takes-to actions (begins_in queues h) w t k in
+      false≢true (sym (f.least s.s.priority (slot_of h) (subst (λ (q : ℕ). q < priority) (sym s.priority) less)) ∙ m.whole w h s.s (ap seen g ∙ s.is) s.takes)
 
   -- the task at the place of the first mark
   pub record At (priority place : ℕ) : Type 0 where
     pub h : ℕ
     pub t : Task
-    pub live : get p h ≡ Some t
+    pub live : slot_value p h ≡ Some t
     pub used : used_at place (slice_get p.slots place) ≡ Some (h, t)
-    pub takes : Takeable actions w t
+    pub takes : Takeable actions (begins_in queues h) w t
     pub priority_is : t.priority ≡ priority
 
   pub first-at : (priority place : ℕ) → IsFirst w priority place marks → At priority place
@@ -135,28 +138,29 @@ module _ (actions : Slots Action) (p : Slots Task) (marks : List (Option Mark)) 
         t = t.0;
         live = t.1;
         used = subst (λ (q : ℕ). used_at q (slice_get p.slots q) ≡ Some (s.0, t.0)) s.2 (used_at-live p s.0 t.0 t.1);
-        takes = takes-from actions w t.0 s.1 t.2 s.5;
+        takes = takes-from actions (begins_in queues s.0) w t.0 s.1 t.2 s.5;
         priority_is = sym (seen-as t.0 t.0.state s.1 t.2).priority ∙ s.4;
       }
 
   -- the choice of this task, by an action that the table of actions chose
-  pub found-best : (priority place h : ℕ) (t : Task) (c : Choice) → IsFirst w priority place marks → used_at place (slice_get p.slots place) ≡ Some (h, t) → c.task.0 ≡ h → c.priority ≡ t.priority → Chooses actions t.job w (Some (c.action, c.kind)) → IsBest actions p w (Some c)
+  pub found-best : (priority place h : ℕ) (t : Task) (c : Choice) → IsFirst w priority place marks → used_at place (slice_get p.slots place) ≡ Some (h, t) → c.task.0 ≡ h → c.priority ≡ t.priority → Chooses actions t.job w (Some (c.action, c.kind)) → IsBest actions p queues w (Some c)
   found-best priority place h t c f used task prio a =
       let x = first-at priority place f in
       let pair : ◌≡◌ {A = ℕ × Task} (x.h, x.t) (h, t) = some_same (sym x.used ∙ used) in
       let handle : x.h ≡ h = ap (λ (y : ℕ × Task). y.0) pair in
       let value : x.t ≡ t = ap (λ (y : ℕ × Task). y.1) pair in
-      let takes = subst (λ (y : Task). Takeable actions w y) value x.takes in (
+      let lets = λ (k : ℕ). begins_in queues k in
+      let takes = subst (λ (k : ℕ). Takeable actions (lets k) w t) (handle ∙ sym task) (subst (λ (y : Task). Takeable actions (lets x.h) w y) value x.takes) in (
         record {
           t = t;
           a = a.0;
-          task = ap (get p) (task ∙ sym handle) ∙ x.live ∙ ap Some value;
+          task = ap (slot_value p) (task ∙ sym handle) ∙ x.live ∙ ap Some value;
           action = a.1;
           kind = a.2;
           priority = sym prio;
           runs = record { unstarted = takes.3.unstarted; queue = takes.3.queue; core = takes.3.core; action = a.3 };
         },
-        subst (λ (q : ℕ). NoneLive (get p) (Beats actions w q)) (sym (prio ∙ (ap (λ (y : Task). y.priority) (sym value) ∙ x.priority_is))) (none-better priority place f),
+        subst (λ (q : ℕ). NoneBetter actions p queues w q) (sym (prio ∙ (ap (λ (y : Task). y.priority) (sym value) ∙ x.priority_is))) (none-better priority place f),
       )
 
 -- Lists written at a place

@@ -1,5 +1,5 @@
 -- What is seen after each move of the tasks, and what the move keeps of a board.
-use Rattle.std.proofs.Common.{◌≡◌, ◌≢◌, ℕ, zero, suc, ◌<◌, ◌≤◌, ◌+◌, Bool, true, false, cond, List, [], ◌∷◌, ◌++◌, length, length-set, Option, Some, None, set, slice_get, refl, sym, ◌∙◌, ap, subst, inl, inr, arith}
+use Rattle.std.proofs.Common.{◌≡◌, ◌≢◌, ℕ, zero, suc, ◌<◌, ◌≤◌, Bool, true, false, cond, List, [], ◌∷◌, ◌++◌, length, length-set, Option, Some, None, set, slice_get, refl, sym, ◌∙◌, ap, subst, inl, inr, arith}
 use Rattle.std.specs.Prelude.{◌==◌, ◌||◌, is_some, is_none}
 use Rattle.std.specs.Option.{option_map}
 use Rattle.std.proofs.lemmas.Bool.{false≢true, cases_eq, cases_Bool}
@@ -8,7 +8,7 @@ use Rattle.std.proofs.lemmas.List.{get_or-set_same, get_or-set_other}
 use Rattle.mtapi_values.specs.declared.ends.TaskEnd.{TaskEnd}
 use Rattle.mtapi_values.specs.declared.handles.TaskHandle.{TaskHandle}
 use Rattle.mtapi_values.specs.Conditions.{first}
-use Rattle.handle_pool.specs.Slots.{Slots, slot_of, generation_of, used_slot, slot_after, get, max_of, Inserts, with_value, without, put, changed}
+use Rattle.handle_pool.specs.Slots.{Slots, slot_of, generation_of, used_slot, slot_after, slot_value, max_of, Inserts, with_value, without, put, changed}
 use Rattle.handle_pool.proofs.StandsLemmas.{used_at_live, same_handle}
 use Rattle.handle_pool.proofs.GetLemmas.{get-with_value_same, get-with_value_other, get-insert_same, get-insert_other, get-without_same, get-without_other}
 use Rattle.linked_places.specs.Lists.{list_at, has_handle, without_handle, stands_at}
@@ -17,29 +17,32 @@ use Rattle.linked_places.proofs.NextLemmas.{index-has}
 use Rattle.ready_index.specs.declared.marks.Mark.{Mark}
 use Rattle.ready_index.specs.Marks.{mark_at, is_for_at}
 use Rattle.mtapi_objects.specs.Actions.{Action}
-use Rattle.mtapi_objects.specs.Tasks.{Task, TaskState, Scheduled, Running, Over, is_unended, Notes, with_state, with_notes, cancel_requested, with_waiter, task_look_refusals, asked_refusals, asked_once}
+use Rattle.mtapi_objects.specs.Tasks.{Task, TaskState, Scheduled, Running, Ended, is_unended, Notes, with_state, with_notes, with_waiter, task_look_refusals, asked_refusals, asked_once}
 use Rattle.task_core.specs.Answers.{after_asked, waiter_after}
 use Rattle.task_core.specs.Table.{TaskTable, ended_in, looked_in}
-use Rattle.task_board.specs.Seen.{Seen, seen_as, seen, seen_in}
-use Rattle.task_board.specs.Board.{BoardTable, IsBoard, IsMarkOf, Marked, InOrder, AreWaiting, AreRunning, AreRanked, AreStarted, running_on}
+use Rattle.task_board.specs.Seen.{Seen, seen_as, seen, seen_in, Takes}
+use Rattle.task_board.specs.Queued.{InOrder, begins_in, AreQueued}
+use Rattle.task_board.specs.Board.{BoardTable, IsBoard, IsMarkOf, Marked, AreWaiting, AreRunning, AreRanked, AreStarted, running_on}
+use Rattle.group_core.specs.Members.{GroupTable}
+use Rattle.task_board.specs.Members.{members_in, AreMembers}
 use Rattle.task_board.proofs.SeenLemmas.{some_same, seen-live}
 use Rattle.task_board.proofs.MarkLemmas.{same-number}
 
--- what is seen by one handle has become this, and all else is as it was
-pub record Put (at : ℕ → Option Seen) (h : ℕ) (x : Option Seen) (after : ℕ → Option Seen) : Type 0 where
+-- the value of one handle has become this, and all else is as it was
+pub record Put {A : Type 0} (at : ℕ → A) (h : ℕ) (x : A) (after : ℕ → A) : Type 0 where
   pub here : after h ≡ x
   pub others : (k : ℕ) → k ≢ h → after k ≡ at k
 
 -- Sizes
 
-max-value : (p : Slots Task) (h : ℕ) (t : Task) → max_of (with_value p h t) ≡ max_of p
+pub max-value : (p : Slots Task) (h : ℕ) (t : Task) → max_of (with_value p h t) ≡ max_of p
 max-value p h t = length-set p.slots (slot_of h) (used_slot (generation_of h) t)
 
-max-without : (p : Slots Task) (h : ℕ) → max_of (without p h) ≡ max_of p
+pub max-without : (p : Slots Task) (h : ℕ) → max_of (without p h) ≡ max_of p
 max-without p h = length-set p.slots (slot_of h) (slot_after p.generations (generation_of h))
 
 pub max-changed : (p : Slots Task) (h : ℕ) (f : Task → Task) → max_of (changed p h f) ≡ max_of p
-max-changed p h f = by_found (option_map f (get p h))
+max-changed p h f = by_found (option_map f (slot_value p h))
   where
     by_found : (o : Option Task) → max_of (put p h o) ≡ max_of p
     by_found None = refl
@@ -52,9 +55,9 @@ pub max-ended : (p : Slots Task) (h : ℕ) (e : TaskEnd) (n : ℕ) (o : Option T
 max-ended p h e n None = refl
 max-ended p h e n (Some t) = by_test t.notes.detached
   where
-    by_test : (b : Bool) → max_of (cond b (without p h) (with_value p h (with_state (Over e n) t))) ≡ max_of p
+    by_test : (b : Bool) → max_of (cond b (without p h) (with_value p h (with_state (Ended e n) t))) ≡ max_of p
     by_test true = max-without p h
-    by_test false = max-value p h (with_state (Over e n) t)
+    by_test false = max-value p h (with_state (Ended e n) t)
 
 pub max-looked : (p : Slots Task) (h who : ℕ) (last : Bool) (o : Option Task) → max_of (looked_in p h who last o) ≡ max_of p
 max-looked p h who last None = refl
@@ -65,45 +68,64 @@ max-looked p h who last (Some t) = by_tests (is_some (first (task_look_refusals 
     by_tests false true = max-value p h (with_notes (with_waiter (waiter_after who last)) t)
     by_tests false false = max-without p h
 
+-- The value of each handle
+
+module _ {T : Type 0} where
+  pub slot-value : (p : Slots T) (h : ℕ) (t u : T) → slot_value p h ≡ Some t → Put (slot_value p) h (Some u) (slot_value (with_value p h u))
+  slot-value p h t u g = record { here = get-with_value_same p h t u g; others = λ k d. get-with_value_other p h k t u g d }
+
+  pub slot-without : (p : Slots T) (h : ℕ) (t : T) → slot_value p h ≡ Some t → Put (slot_value p) h None (slot_value (without p h))
+  slot-without p h t g = record { here = get-without_same p h t g; others = λ k d. get-without_other p h k t g d }
+
+  pub slot-insert : (p q : Slots T) (h : ℕ) (t : T) → Inserts p q h t → Put (slot_value p) h (Some t) (slot_value q)
+  slot-insert p q h t i = record { here = get-insert_same p q h t i; others = λ k d. get-insert_other p q h k t i d }
+
+  pub slot-changed : (p : Slots T) (h : ℕ) (f : T → T) (t : T) → slot_value p h ≡ Some t → Put (slot_value p) h (Some (f t)) (slot_value (changed p h f))
+  slot-changed p h f t g = subst (λ (o : Option T). Put (slot_value p) h (Some (f t)) (slot_value (put p h (option_map f o)))) (sym g) (slot-value p h t (f t) g)
+
+-- what is read of the values
+pub put-by : {A B : Type 0} (f : A → B) (at after : ℕ → A) (h : ℕ) (x : A) → Put at h x after → Put (λ k. f (at k)) h (f x) (λ k. f (after k))
+put-by f at after h x m = record { here = ap f m.here; others = λ k d. ap f (m.others k d) }
+
 -- What is seen
 
-pub put-value : (p : Slots Task) (h : ℕ) (t u : Task) → get p h ≡ Some t → Put (seen_in p) h (seen (Some u)) (seen_in (with_value p h u))
-put-value p h t u g = record { here = ap seen (get-with_value_same p h t u g); others = λ k d. ap seen (get-with_value_other p h k t u g d) }
+pub put-value : (p : Slots Task) (h : ℕ) (t u : Task) → slot_value p h ≡ Some t → Put (seen_in p) h (seen (Some u)) (seen_in (with_value p h u))
+put-value p h t u g = put-by seen (slot_value p) _ h (Some u) (slot-value p h t u g)
 
-pub put-without : (p : Slots Task) (h : ℕ) (t : Task) → get p h ≡ Some t → Put (seen_in p) h None (seen_in (without p h))
-put-without p h t g = record { here = ap seen (get-without_same p h t g); others = λ k d. ap seen (get-without_other p h k t g d) }
+pub put-without : (p : Slots Task) (h : ℕ) (t : Task) → slot_value p h ≡ Some t → Put (seen_in p) h None (seen_in (without p h))
+put-without p h t g = put-by seen (slot_value p) _ h None (slot-without p h t g)
 
 pub put-insert : (p q : Slots Task) (h : ℕ) (t : Task) → Inserts p q h t → Put (seen_in p) h (seen (Some t)) (seen_in q)
-put-insert p q h t i = record { here = ap seen (get-insert_same p q h t i); others = λ k d. ap seen (get-insert_other p q h k t i d) }
+put-insert p q h t i = put-by seen (slot_value p) (slot_value q) h (Some t) (slot-insert p q h t i)
 
-pub put-ended : (p : Slots Task) (h : ℕ) (e : TaskEnd) (n : ℕ) (t : Task) → get p h ≡ Some t → Put (seen_in p) h None (seen_in (ended_in p h e n (Some t)))
+pub put-ended : (p : Slots Task) (h : ℕ) (e : TaskEnd) (n : ℕ) (t : Task) → slot_value p h ≡ Some t → Put (seen_in p) h None (seen_in (ended_in p h e n (Some t)))
 put-ended p h e n t g = by_test t.notes.detached
   where
-    by_test : (b : Bool) → Put (seen_in p) h None (seen_in (cond b (without p h) (with_value p h (with_state (Over e n) t))))
+    by_test : (b : Bool) → Put (seen_in p) h None (seen_in (cond b (without p h) (with_value p h (with_state (Ended e n) t))))
     by_test true = put-without p h t g
-    by_test false = put-value p h t (with_state (Over e n) t) g
+    by_test false = put-value p h t (with_state (Ended e n) t) g
 
-pub put-changed : (p : Slots Task) (h : ℕ) (f : Task → Task) (t : Task) → get p h ≡ Some t → Put (seen_in p) h (seen (Some (f t))) (seen_in (changed p h f))
-put-changed p h f t g = subst (λ (o : Option Task). Put (seen_in p) h (seen (Some (f t))) (seen_in (put p h (option_map f o)))) (sym g) (put-value p h t (f t) g)
+pub put-changed : (p : Slots Task) (h : ℕ) (f : Task → Task) (t : Task) → slot_value p h ≡ Some t → Put (seen_in p) h (seen (Some (f t))) (seen_in (changed p h f))
+put-changed p h f t g = put-by seen (slot_value p) _ h (Some (f t)) (slot-changed p h f t g)
 
--- what was seen before is put back
-pub put-same : (at after : ℕ → Option Seen) (h : ℕ) (x : Option Seen) → Put at h x after → x ≡ at h → (k : ℕ) → after k ≡ at k
+-- what was there before is put back
+pub put-same : {A : Type 0} (at after : ℕ → A) (h : ℕ) (x : A) → Put at h x after → x ≡ at h → (k : ℕ) → after k ≡ at k
 put-same at after h x m e k = elim (cases_eq k h) [
   | inl here ↦ ap after here ∙ m.here ∙ e ∙ ap at (sym here)
   | inr away ↦ m.others k away
 ]
 
 pub seen-changed : (p : Slots Task) (h : ℕ) (f : Task → Task) → ((t : Task) → seen (Some (f t)) ≡ seen (Some t)) → (k : ℕ) → seen_in (changed p h f) k ≡ seen_in p k
-seen-changed p h f same k = by_found (get p h) refl
+seen-changed p h f same k = by_found (slot_value p h) refl
   where
-    by_found : (o : Option Task) → get p h ≡ o → seen_in (changed p h f) k ≡ seen_in p k
+    by_found : (o : Option Task) → slot_value p h ≡ o → seen_in (changed p h f) k ≡ seen_in p k
     by_found None g = ap (λ (o : Option Task). seen_in (put p h (option_map f o)) k) g
     by_found (Some t) g = put-same (seen_in p) (seen_in (changed p h f)) h _ (put-changed p h f t g) (same t ∙ ap seen (sym g)) k
 
 notes-same : (f : Notes → Notes) (t : Task) (x : TaskState) → seen_as (with_notes f t) x ≡ seen_as t x
 notes-same f t Scheduled = refl
 notes-same f t (Running w k) = refl
-notes-same f t (Over e n) = refl
+notes-same f t (Ended e n) = refl
 
 -- what is noted of a task isn't seen
 pub seen-noted : (f : Notes → Notes) (t : Task) → seen (Some (with_notes f t)) ≡ seen (Some t)
@@ -116,12 +138,12 @@ seen-asked w t = by_refusal (is_none (first (asked_refusals w t)))
     by_refusal true = seen-noted asked_once t
     by_refusal false = refl
 
-over-unseen : (t : Task) (x : TaskState) → t.state ≡ x → is_unended t ≡ false → seen (Some t) ≡ None
+pub over-unseen : (t : Task) (x : TaskState) → t.state ≡ x → is_unended t ≡ false → seen (Some t) ≡ None
 over-unseen t Scheduled e f = absurd (false≢true (sym f ∙ ap (λ (y : TaskState). is_unended (with_state y t)) e))
 over-unseen t (Running w k) e f = absurd (false≢true (sym f ∙ ap (λ (y : TaskState). is_unended (with_state y t)) e))
-over-unseen t (Over y n) e f = ap (seen_as t) e
+over-unseen t (Ended y n) e f = ap (seen_as t) e
 
-pub seen-looked : (p : Slots Task) (h who : ℕ) (last : Bool) (o : Option Task) → get p h ≡ o → (k : ℕ) → seen_in (looked_in p h who last o) k ≡ seen_in p k
+pub seen-looked : (p : Slots Task) (h who : ℕ) (last : Bool) (o : Option Task) → slot_value p h ≡ o → (k : ℕ) → seen_in (looked_in p h who last o) k ≡ seen_in p k
 seen-looked p h who last None g k = refl
 seen-looked p h who last (Some t) g k = by_tests (is_some (first (task_look_refusals who t))) (is_unended t) refl
   where
@@ -130,10 +152,12 @@ seen-looked p h who last (Some t) g k = by_tests (is_some (first (task_look_refu
     by_tests false true e = put-same (seen_in p) _ h _ (put-value p h t (with_notes (with_waiter (waiter_after who last)) t) g) (seen-noted (with_waiter (waiter_after who last)) t ∙ ap seen (sym g)) k
     by_tests false false e = put-same (seen_in p) _ h None (put-without p h t g) (sym (over-unseen t t.state refl e) ∙ ap seen (sym g)) k
 
--- A move that nothing is seen of
+-- A move of which nothing is seen, with other groups, and with the same
 
-pub quiet : (b : BoardTable) (q : TaskTable) → ((k : ℕ) → seen_in q.pool k ≡ seen_in b.tasks.pool k) → max_of q.pool ≡ max_of b.tasks.pool → q.starts ≡ b.tasks.starts → IsBoard b → IsBoard (record b { tasks = q })
-quiet b q same max count k = record {
+pub regrouped : (b : BoardTable) (q : TaskTable) (groups : GroupTable) → ((k : ℕ) → seen_in q.pool k ≡ seen_in b.tasks.pool k) → max_of q.pool ≡ max_of b.tasks.pool → q.starts ≡ b.tasks.starts → groups.tasks ≡ b.groups.tasks → AreMembers (members_in q.pool) (slot_value groups.pool) q.starts q.ends → IsBoard b → IsBoard (record b { tasks = q; groups = groups })
+regrouped b q groups same max count sizes members k = record {
+  members = members;
+  task_slots = sizes ∙ k.task_slots ∙ sym max;
   few = k.few;
   workers = k.workers;
   priorities = k.priorities;
@@ -141,19 +165,24 @@ quiet b q same max count k = record {
   places = k.places ∙ sym max;
   lists = k.lists;
   seats = k.seats;
-  marked = subst (λ (f : ℕ → Option Seen). Marked b.actions f b.ready.marks) all k.marked;
+  room = k.room ∙ sym max;
+  marked = subst (λ (f : ℕ → Option Seen). Marked b.actions (begins_in b.queues.pool) f b.ready.marks) all k.marked;
   waiting_are = subst (λ (f : ℕ → Option Seen). AreWaiting f (list_at b.waiting.lists 0)) all k.waiting_are;
   running_are = subst (λ (f : ℕ → Option Seen). AreRunning f b.running) all k.running_are;
   ranked = subst (λ (f : ℕ → Option Seen). AreRanked f b.settings.priorities) all k.ranked;
   started = subst (λ (n : ℕ). AreStarted (seen_in q.pool) n) (sym count) (subst (λ (f : ℕ → Option Seen). AreStarted f b.tasks.starts) all k.started);
+  queued = subst (λ (f : ℕ → Option Seen). AreQueued f b.queues.pool b.settings.priorities) all k.queued;
 }
   where
     all : seen_in b.tasks.pool ≡ seen_in q.pool
     all = sym (λ i h. same h i)
 
+pub quiet : (b : BoardTable) (q : TaskTable) → ((k : ℕ) → seen_in q.pool k ≡ seen_in b.tasks.pool k) → max_of q.pool ≡ max_of b.tasks.pool → q.starts ≡ b.tasks.starts → AreMembers (members_in q.pool) (slot_value b.groups.pool) q.starts q.ends → IsBoard b → IsBoard (record b { tasks = q })
+quiet b q same max count members k = regrouped b q b.groups same max count refl members k
+
 -- One handle a slot
 
-pub live-alone : (p : Slots Task) (h k : ℕ) (t v : Task) → get p h ≡ Some t → get p k ≡ Some v → slot_of k ≡ slot_of h → k ≡ h
+pub live-alone : (p : Slots Task) (h k : ℕ) (t v : Task) → slot_value p h ≡ Some t → slot_value p k ≡ Some v → slot_of k ≡ slot_of h → k ≡ h
 live-alone p h k t v a b e =
     let x = used_at_live (slice_get p.slots (slot_of h)) (generation_of h) t a in
     let y = used_at_live (slice_get p.slots (slot_of k)) (generation_of k) v b in
@@ -167,17 +196,17 @@ alone p h k s u a b e =
     live-alone p h k t.0 v.0 t.1 v.1 e
 
 -- after the move no other handle of this slot is seen
-pub Alone : (ℕ → Option Seen) → ℕ → Type 0
+unfoldable pub Alone : (ℕ → Option Seen) → ℕ → Type 0
 Alone after h = (k : ℕ) (s : Seen) → slot_of k ≡ slot_of h → after k ≡ Some s → k ≡ h
 
-pub alone-old : (p : Slots Task) (h : ℕ) (t : Task) (x : Option Seen) (after : ℕ → Option Seen) → get p h ≡ Some t → Put (seen_in p) h x after → Alone after h
+pub alone-old : (p : Slots Task) (h : ℕ) (t : Task) (x : Option Seen) (after : ℕ → Option Seen) → slot_value p h ≡ Some t → Put (seen_in p) h x after → Alone after h
 unfolding Alone
 alone-old p h t x after g m k s e b = elim (cases_eq k h) [
   | inl here ↦ here
   | inr away ↦ let v = seen-live p k s (sym (m.others k away) ∙ b) in live-alone p h k t v.0 g v.1 e
 ]
 
-pub alone-new : (q : Slots Task) (h : ℕ) (t : Task) → get q h ≡ Some t → Alone (seen_in q) h
+pub alone-new : (q : Slots Task) (h : ℕ) (t : Task) → slot_value q h ≡ Some t → Alone (seen_in q) h
 unfolding Alone
 alone-new q h t g k s e b = let v = seen-live q k s b in live-alone q h k t v.0 g v.1 e
 
@@ -189,26 +218,49 @@ mark-here marks place m less = get_or-set_same marks place m None less
 mark-away : (marks : List (Option Mark)) (place other : ℕ) (m : Option Mark) → other ≢ place → mark_at (set marks place m) other ≡ mark_at marks other
 mark-away marks place other m d = get_or-set_other marks place other m None d
 
-pub marked-put : (actions : Slots Action) (at after : ℕ → Option Seen) (h : ℕ) (x : Option Seen) (marks : List (Option Mark)) (m : Option Mark) → Put at h x after → Alone after h → slot_of h < length marks → IsMarkOf actions x m → Marked actions at marks → Marked actions after (set marks (slot_of h) m)
-unfolding Alone
-marked-put actions at after h x marks m move one less right old = record {
+-- the same task may be taken where its queue lets it begin as before
+takes-as : (actions : Slots Action) (lets now : Option ℕ → Bool) (w : ℕ) (s : Seen) → now s.queue ≡ lets s.queue → Takes actions lets w s → Takes actions now w s
+takes-as actions lets now w s e k = record { waits = k.waits; queue = e ∙ k.queue; core = k.core; action = k.action }
+
+-- the move lets no other handle begin, and keeps none from it
+unfoldable pub Steady : (ℕ → Option ℕ → Bool) → (ℕ → Option ℕ → Bool) → (ℕ → Option Seen) → ℕ → Type 0
+Steady lets now at h = (k : ℕ) (s : Seen) → k ≢ h → at k ≡ Some s → s.on ≡ None → now k s.queue ≡ lets k s.queue
+
+pub marked-put : (actions : Slots Action) (lets now : ℕ → Option ℕ → Bool) (at after : ℕ → Option Seen) (h : ℕ) (x : Option Seen) (marks : List (Option Mark)) (m : Option Mark) → Put at h x after → Steady lets now at h → Alone after h → slot_of h < length marks → IsMarkOf actions (now h) x m → Marked actions lets at marks → Marked actions now after (set marks (slot_of h) m)
+unfolding Alone Steady
+marked-put actions lets now at after h x marks m move steady one less right old = record {
   sound = λ w p place e. elim (cases_eq place (slot_of h)) [
     | inl here ↦
         let s = right.sound w p (ap (is_for_at w p) (sym (mark-here marks (slot_of h) m less) ∙ ap (mark_at (set marks (slot_of h) m)) (sym here)) ∙ e) in
         (h, s.0, sym here, move.here ∙ s.1, s.2, s.3)
     | inr away ↦
         let s = old.sound w p place (ap (is_for_at w p) (sym (mark-away marks (slot_of h) place m away)) ∙ e) in
-        (s.0, s.1, s.2, move.others s.0 (λ is. away (sym s.2 ∙ ap slot_of is)) ∙ s.3, s.4, s.5)
+        let other = λ (is : s.0 ≡ h). away (sym s.2 ∙ ap slot_of is) in
+        (s.0, s.1, s.2, move.others s.0 other ∙ s.3, s.4, takes-as actions (lets s.0) (now s.0) w s.1 (steady s.0 s.1 other s.3 s.5.waits) s.5)
   ];
   whole = λ w k s e t. elim (cases_eq (slot_of k) (slot_of h)) [
     | inl here ↦
         let is = one k s here e in
         ap (λ (place : ℕ). is_for_at w s.priority (mark_at (set marks (slot_of h) m) place)) here ∙ ap (is_for_at w s.priority) (mark-here marks (slot_of h) m less)
-        ∙ right.whole w s (sym move.here ∙ ap after (sym is) ∙ e) t
+        ∙ right.whole w s (sym move.here ∙ ap after (sym is) ∙ e) (subst (λ (j : ℕ). Takes actions (now j) w s) is t)
     | inr away ↦
-        ap (is_for_at w s.priority) (mark-away marks (slot_of h) (slot_of k) m away) ∙ old.whole w k s (sym (move.others k (λ is. away (ap slot_of is))) ∙ e) t
+        ap (is_for_at w s.priority) (mark-away marks (slot_of h) (slot_of k) m away) ∙ old.whole w k s (sym (move.others k (λ is. away (ap slot_of is))) ∙ e)
+        (takes-as actions (now k) (lets k) w s (sym (steady k s (λ is. away (ap slot_of is)) (sym (move.others k (λ is. away (ap slot_of is))) ∙ e) t.waits)) t)
   ];
 }
+
+-- the queues let the same tasks begin
+pub marked-steady : (actions : Slots Action) (lets now : ℕ → Option ℕ → Bool) (at : ℕ → Option Seen) (marks : List (Option Mark)) → ((k : ℕ) (s : Seen) → at k ≡ Some s → s.on ≡ None → now k s.queue ≡ lets k s.queue) → Marked actions lets at marks → Marked actions now at marks
+marked-steady actions lets now at marks steady old = record {
+  sound = λ w p place e.
+      let s = old.sound w p place e in
+      (s.0, s.1, s.2, s.3, s.4, takes-as actions (lets s.0) (now s.0) w s.1 (steady s.0 s.1 s.3 s.5.waits) s.5);
+  whole = λ w k s e t. old.whole w k s e (takes-as actions (now k) (lets k) w s (sym (steady k s e t.waits)) t);
+}
+
+-- the mark of one handle is made anew
+pub marked-again : (actions : Slots Action) (lets now : ℕ → Option ℕ → Bool) (at : ℕ → Option Seen) (h : ℕ) (marks : List (Option Mark)) (m : Option Mark) → Steady lets now at h → Alone at h → slot_of h < length marks → IsMarkOf actions (now h) (at h) m → Marked actions lets at marks → Marked actions now at (set marks (slot_of h) m)
+marked-again actions lets now at h marks m steady one less right old = marked-put actions lets now at at h (at h) marks m (record { here = refl; others = λ k d. refl }) steady one less right old
 
 pub ranked-put : (at after : ℕ → Option Seen) (h : ℕ) (x : Option Seen) (n : ℕ) → Put at h x after → ((s : Seen) → x ≡ Some s → s.priority < n) → AreRanked at n → AreRanked after n
 ranked-put at after h x n move less old = record {
@@ -228,7 +280,7 @@ started-put at after h x m n move less grows old = record {
 
 -- the waiting tasks
 
-has-append : (h : ℕ) (xs ys : List ℕ) → has_handle h (xs ++ ys) ≡ (has_handle h xs || has_handle h ys)
+pub has-append : (h : ℕ) (xs ys : List ℕ) → has_handle h (xs ++ ys) ≡ (has_handle h xs || has_handle h ys)
 has-append h [] ys = refl
 has-append h (x ∷ xs) ys = by_test (x == h) (has-append h xs ys)
   where
@@ -236,41 +288,52 @@ has-append h (x ∷ xs) ys = by_test (x == h) (has-append h xs ys)
     by_test true e = refl
     by_test false e = e
 
-or-left : (a b : Bool) → a ≡ true → (a || b) ≡ true
+pub or-left : (a b : Bool) → a ≡ true → (a || b) ≡ true
 or-left true b e = refl
 or-left false b e = absurd (false≢true e)
 
-or-right : (a b : Bool) → b ≡ true → (a || b) ≡ true
+pub or-right : (a b : Bool) → b ≡ true → (a || b) ≡ true
 or-right true b e = refl
 or-right false b e = e
 
-or-only : (a b : Bool) → a ≡ false → (a || b) ≡ true → b ≡ true
+pub or-only : (a b : Bool) → a ≡ false → (a || b) ≡ true → b ≡ true
 or-only false b e f = f
 or-only true b e f = absurd (false≢true (sym e))
 
-or-first : (a b : Bool) → b ≡ false → (a || b) ≡ true → a ≡ true
+pub or-first : (a b : Bool) → b ≡ false → (a || b) ≡ true → a ≡ true
 or-first true b e f = refl
 or-first false b e f = absurd (false≢true (sym e ∙ f))
 
-eq-self : (h : ℕ) → (h == h) ≡ true
+pub eq-self : (h : ℕ) → (h == h) ≡ true
 eq-self h = grind (arith, nat_tests)
 
-eq-other : (h k : ℕ) → k ≢ h → (h == k) ≡ false
+pub eq-other : (h k : ℕ) → k ≢ h → (h == k) ≡ false
 eq-other h k d = grind (arith, nat_tests)
 
 -- lists in order
 
-has-self : (x : ℕ) (xs : List ℕ) → has_handle x (x ∷ xs) ≡ true
+pub has-self : (x : ℕ) (xs : List ℕ) → has_handle x (x ∷ xs) ≡ true
 has-self x xs = or-left (x == x) (has_handle x xs) (eq-self x)
 
-order-same : (at after : ℕ → Option Seen) (hs : List ℕ) → ((k : ℕ) → has_handle k hs ≡ true → after k ≡ at k) → InOrder at hs → InOrder after hs
+-- each task is one of the list that was started with this number
+pub order-starts : (at after : ℕ → Option Seen) (hs : List ℕ) → ((k : ℕ) (s : Seen) → has_handle k hs ≡ true → after k ≡ Some s → (u : Seen) × (at k ≡ Some u) × (u.start ≡ s.start)) → InOrder at hs → InOrder after hs
+order-starts at after [] agree o = tt
+order-starts at after (x ∷ xs) agree o = (
+  λ k s u e f g.
+      let a = agree x s (has-self x xs) f in
+      let b = agree k u (or-right (x == k) _ e) g in
+      omega (arith, o.0 k a.0 b.0 e a.1 b.1, a.2, b.2),
+  order-starts at after xs (λ k s e f. agree k s (or-right (x == k) _ e) f) o.1,
+)
+
+pub order-same : (at after : ℕ → Option Seen) (hs : List ℕ) → ((k : ℕ) → has_handle k hs ≡ true → after k ≡ at k) → InOrder at hs → InOrder after hs
 order-same at after [] agree o = tt
 order-same at after (x ∷ xs) agree o = (
   λ k s u e f g. o.0 k s u e (sym (agree x (has-self x xs)) ∙ f) (sym (agree k (or-right (x == k) _ e)) ∙ g),
   order-same at after xs (λ k e. agree k (or-right (x == k) _ e)) o.1,
 )
 
-has-sub : (k h : ℕ) (hs : List ℕ) → has_handle k (without_handle h hs) ≡ true → has_handle k hs ≡ true
+pub has-sub : (k h : ℕ) (hs : List ℕ) → has_handle k (without_handle h hs) ≡ true → has_handle k hs ≡ true
 has-sub k h [] e = e
 has-sub k h (x ∷ xs) e = by_test (x == h) e (has-sub k h xs)
   where
@@ -282,7 +345,7 @@ has-sub k h (x ∷ xs) e = by_test (x == h) e (has-sub k h xs)
     by_test true f rest = or-right (x == k) _ f
     by_test false f rest = by_or (x == k) f rest
 
-order-without : (at : ℕ → Option Seen) (h : ℕ) (hs : List ℕ) → InOrder at hs → InOrder at (without_handle h hs)
+pub order-without : (at : ℕ → Option Seen) (h : ℕ) (hs : List ℕ) → InOrder at hs → InOrder at (without_handle h hs)
 order-without at h [] o = tt
 order-without at h (x ∷ xs) o = by_test (x == h) (order-without at h xs o.1)
   where
@@ -290,7 +353,7 @@ order-without at h (x ∷ xs) o = by_test (x == h) (order-without at h xs o.1)
     by_test true rest = o.1
     by_test false rest = (λ k s u e f g. o.0 k s u (has-sub k h xs e) f g, rest)
 
-order-push : (at after : ℕ → Option Seen) (h : ℕ) (s : Seen) (hs : List ℕ) → ((k : ℕ) → has_handle k hs ≡ true → after k ≡ at k) → after h ≡ Some s → ((k : ℕ) (u : Seen) → has_handle k hs ≡ true → at k ≡ Some u → u.start < s.start) → InOrder at hs → InOrder after (hs ++ h ∷ [])
+pub order-push : (at after : ℕ → Option Seen) (h : ℕ) (s : Seen) (hs : List ℕ) → ((k : ℕ) → has_handle k hs ≡ true → after k ≡ at k) → after h ≡ Some s → ((k : ℕ) (u : Seen) → has_handle k hs ≡ true → at k ≡ Some u → u.start < s.start) → InOrder at hs → InOrder after (hs ++ h ∷ [])
 order-push at after h s [] agree here below o = (λ k a u e f g. absurd (false≢true e), tt)
 order-push at after h s (x ∷ xs) agree here below o = (
   λ k a u e f g. elim (cases_Bool (has_handle k xs)) [
@@ -319,13 +382,29 @@ waiting-push at after h s hs move waits apart less old = record {
   ];
 }
 
-has-without : (h k : ℕ) (hs : List ℕ) → k ≢ h → has_handle k (without_handle h hs) ≡ has_handle k hs
+pub has-without : (h k : ℕ) (hs : List ℕ) → k ≢ h → has_handle k (without_handle h hs) ≡ has_handle k hs
 has-without h k [] d = refl
 has-without h k (x ∷ xs) d = by_test (x == h) refl (has-without h k xs d)
   where
     by_test : (b : Bool) → (x == h) ≡ b → has_handle k (without_handle h xs) ≡ has_handle k xs → has_handle k (cond b xs (x ∷ without_handle h xs)) ≡ ((x == k) || has_handle k xs)
     by_test true is e = let off : (x == k) ≡ false = let same : x ≡ h = grind (arith, nat_tests) in eq-other x k (λ z. d (z ∙ same)) in ap (λ (b : Bool). b || has_handle k xs) (sym off)
     by_test false is e = ap (λ (b : Bool). (x == k) || b) e
+
+-- a place that stands in a list is that of a handle in it
+pub stands-handle : (place : ℕ) (hs : List ℕ) → stands_at place hs ≡ true → (k : ℕ) × (has_handle k hs ≡ true) × (slot_of k ≡ place)
+stands-handle place [] e = absurd (false≢true e)
+stands-handle place (x ∷ hs) e = by_test (slot_of x == place) refl e (stands-handle place hs)
+  where
+    self : (x == x) ≡ true
+    self = grind (arith, nat_tests)
+
+    later : (b : Bool) (k : ℕ) → has_handle k hs ≡ true → (b || has_handle k hs) ≡ true
+    later true k e = refl
+    later false k e = e
+
+    by_test : (b : Bool) → (slot_of x == place) ≡ b → (b || stands_at place hs) ≡ true → (stands_at place hs ≡ true → (k : ℕ) × (has_handle k hs ≡ true) × (slot_of k ≡ place)) → (k : ℕ) × (has_handle k (x ∷ hs) ≡ true) × (slot_of k ≡ place)
+    by_test true is e rest = let same : slot_of x ≡ place = grind (arith, nat_tests) in (x, ap (λ (b : Bool). b || has_handle x hs) self, same)
+    by_test false is e rest = let k = rest e in (k.0, later (x == k.0) k.0 k.1, k.2)
 
 not-stands : (h : ℕ) (hs : List ℕ) → stands_at (slot_of h) hs ≡ false → has_handle h hs ≡ true → ⊥
 not-stands h hs off on = false≢true (sym off ∙ stands-has h hs on)

@@ -1,19 +1,21 @@
 -- A new board.
 use Rattle.std.proofs.Common.{subst, ◌≡◌, ℕ, zero, suc, ◌≤◌, true, List, [], length, replicate, Option, Some, None, refl, sym, ◌∙◌, ap}
-use Rattle.std.specs.Prelude.{slice_index_or}
+use Rattle.std.specs.Prelude.{slice_index_or, slice_get}
 use Rattle.std.proofs.lemmas.Bool.{false≢true}
 use Rattle.std.proofs.lemmas.List.{length-replicate}
 use Rattle.mtapi_values.specs.declared.handles.TaskHandle.{TaskHandle}
-use Rattle.handle_pool.specs.Slots.{Slots, slot_of, generation_of, free_slot, value_at}
-use Rattle.std.specs.Prelude.{slice_get}
-use Rattle.handle_pool.specs.Slots.{Slot}
+use Rattle.handle_pool.specs.Slots.{Slot, Slots, slot_of, generation_of, free_slot, value_at, slot_value}
 use Rattle.handle_pool.proofs.StandsLemmas.{get-fresh}
 use Rattle.linked_places.specs.Lists.{list_at, has_handle}
 use Rattle.ready_index.specs.declared.marks.Mark.{Mark}
 use Rattle.ready_index.specs.Marks.{ReadyMarks, mark_at, is_for_at}
 use Rattle.mtapi_objects.specs.Tasks.{Task}
+use Rattle.group_core.specs.Members.{Members}
 use Rattle.task_board.specs.Seen.{seen, seen_in}
-use Rattle.task_board.specs.Board.{BoardTable, IsBoard, InOrder, running_on}
+use Rattle.queue_core.specs.Held.{HeldQueue}
+use Rattle.task_board.specs.Queued.{InOrder}
+use Rattle.task_board.specs.Board.{BoardTable, IsBoard, running_on}
+use Rattle.task_board.specs.Members.{membership, members_in}
 
 abbrev nones : {X : Type 0} → ℕ → List (Option X)
 nones n = replicate n None
@@ -35,8 +37,17 @@ no-some o x n e = no (sym n ∙ e)
 unmarked : (marks : List (Option Mark)) (max w p place : ℕ) → marks ≡ replicate max None → is_for_at w p (mark_at marks place) ≡ true → ⊥
 unmarked marks max w p place e f = false≢true (sym (ap (λ (l : List (Option Mark)). is_for_at w p (mark_at l place)) e ∙ ap (is_for_at w p) (none-at max place)) ∙ f)
 
-pub new-board : (b : BoardTable) (max : ℕ) → b.settings.workers ≤ 16 → b.ready ≡ record { workers = b.settings.workers; priorities = b.settings.priorities; marks = replicate max None } → b.tasks.pool.slots ≡ replicate max (free_slot 1) → b.waiting.places ≡ max → b.waiting.lists ≡ replicate 1 [] → b.running ≡ replicate 25 None → IsBoard b
-new-board b max few ready slots places lists running = record {
+pub new-board : (b : BoardTable) (max many : ℕ) → b.settings.workers ≤ 16 → b.ready ≡ record { workers = b.settings.workers; priorities = b.settings.priorities; marks = replicate max None } → b.tasks.pool.slots ≡ replicate max (free_slot 1) → b.waiting.places ≡ max → b.waiting.lists ≡ replicate 1 [] → b.running ≡ replicate 25 None → b.queues.tasks ≡ max → b.queues.pool.slots ≡ replicate many (free_slot 1) → (count : ℕ) → b.groups.pool.slots ≡ replicate count (free_slot 1) → b.groups.tasks ≡ max → IsBoard b
+new-board b max many few ready slots places lists running room queues count groups sizes = record {
+  members = record {
+    named = λ h e f. absurd (no-some _ e (no_member h) f);
+    attached = λ h e f. absurd (no-some _ e (no_member h) f);
+    started = λ h e f. absurd (no-some _ e (no_member h) f);
+    numbered = λ h n e f d. absurd (no-some _ e (no_member h) f);
+    unended = λ g m f. absurd (no-some _ m (no_group g) f);
+    ended = λ g m f. absurd (no-some _ m (no_group g) f);
+  };
+  task_slots = sizes ∙ sym all;
   few = few;
   workers = ap (λ (r : ReadyMarks). r.workers) ready;
   priorities = ap (λ (r : ReadyMarks). r.priorities) ready;
@@ -44,6 +55,7 @@ new-board b max few ready slots places lists running = record {
   places = places ∙ sym all;
   lists = ap length lists;
   seats = ap length running;
+  room = room ∙ sym all;
   marked = record {
     sound = λ w p place f. absurd (unmarked b.ready.marks max w p place (ap (λ (r : ReadyMarks). r.marks) ready) f);
     whole = λ w h s e k. absurd (no-some _ s (none h) e);
@@ -59,10 +71,27 @@ new-board b max few ready slots places lists running = record {
   };
   ranked = record { known = λ h s e. absurd (no-some _ s (none h) e) };
   started = record { before = λ h s e. absurd (no-some _ s (none h) e) };
+  queued = record {
+    listed = λ h q s x e f g. absurd (no-some _ s (none h) e);
+    names = λ h q x g e. absurd (no-some _ x (no_queue q) g);
+    ordered = λ q x g. absurd (no-some _ x (no_queue q) g);
+    live = λ h q s e n f. absurd (no-some _ s (none h) e);
+    given = λ h q s e f. absurd (no-some _ s (none h) e);
+    ranked = λ q x g. absurd (no-some _ x (no_queue q) g);
+  };
 }
   where
     all : length b.tasks.pool.slots ≡ max
     all = ap length slots ∙ length-replicate max (free_slot 1)
 
+    no_queue : (q : ℕ) → slot_value b.queues.pool q ≡ None
+    no_queue q = ap (λ (l : List (Slot HeldQueue)). value_at (slice_get l (slot_of q)) (generation_of q)) queues ∙ get-fresh many (slot_of q) (generation_of q)
+
     none : (h : ℕ) → seen_in b.tasks.pool h ≡ None
     none h = unseen b.tasks.pool max h slots
+
+    no_member : (h : ℕ) → members_in b.tasks.pool h ≡ None
+    no_member h = ap (λ (l : List (Slot Task)). membership (value_at (slice_get l (slot_of h)) (generation_of h))) slots ∙ ap membership (get-fresh max (slot_of h) (generation_of h))
+
+    no_group : (g : ℕ) → slot_value b.groups.pool g ≡ None
+    no_group g = ap (λ (l : List (Slot Members)). value_at (slice_get l (slot_of g)) (generation_of g)) groups ∙ get-fresh count (slot_of g) (generation_of g)

@@ -5,9 +5,9 @@ use Rattle.std.proofs.lemmas.Bool.{cases_eq}
 use Rattle.std.proofs.lemmas.List.{get_or-set_same, get_or-set_other}
 use Rattle.std.proofs.lemmas.Option.{slice_get_within}
 use Rattle.mtapi_values.specs.declared.kinds.Kind.{Kind}
-use Rattle.handle_pool.specs.Slots.{Slots, slot_of, get, max_of, Inserts, changed, put, with_value}
+use Rattle.handle_pool.specs.Slots.{Slots, slot_of, slot_value, max_of, Inserts, changed, put, with_value, without}
 use Rattle.handle_pool.proofs.WalkLemmas.{slot_of-live}
-use Rattle.handle_pool.proofs.GetLemmas.{get-with_value_same, get-with_value_other, get-insert_same, get-insert_before, get-insert_other}
+use Rattle.handle_pool.proofs.GetLemmas.{get-with_value_same, get-with_value_other, get-insert_same, get-insert_before, get-insert_other, get-without_same, get-without_other}
 use Rattle.std.specs.Option.{option_map}
 use Rattle.linked_places.proofs.NextLemmas.{has-index, index-has}
 use Rattle.ready_index.specs.declared.marks.Mark.{Mark}
@@ -34,8 +34,8 @@ mark-here marks place m less = get_or-set_same marks place m None less
 mark-away : (marks : List (Option Mark)) (place other : ℕ) (m : Option Mark) → other ≢ place → mark_at (set marks place m) other ≡ mark_at marks other
 mark-away marks place other m d = get_or-set_other marks place other m None d
 
-pub remarked-none : (actions : Slots Action) (at : ℕ → Option Seen) (job : ℕ) (hs : List ℕ) (r : ReadyMarks) → Remarked actions at job hs 0 r r
-remarked-none actions at job hs r = record {
+pub remarked-none : (actions : Slots Action) (lets : ℕ → Option ℕ → Bool) (at : ℕ → Option Seen) (job : ℕ) (hs : List ℕ) (r : ReadyMarks) → Remarked actions lets at job hs 0 r r
+remarked-none actions lets at job hs r = record {
   workers = refl;
   priorities = refl;
   slots = refl;
@@ -44,12 +44,12 @@ remarked-none actions at job hs r = record {
 }
 
 -- a handle more
-module _ (actions : Slots Action) (p : Slots Task) (job : ℕ) (hs : List ℕ) (index h : ℕ) (old now new : ReadyMarks) (waits : AreWaiting (seen_in p) hs) (is : slice_get hs index ≡ Some h) (less : slot_of h < length now.marks) (done : Remarked actions (seen_in p) job hs index old now) where
+module _ (actions : Slots Action) (lets : ℕ → Option ℕ → Bool) (p : Slots Task) (job : ℕ) (hs : List ℕ) (index h : ℕ) (old now new : ReadyMarks) (waits : AreWaiting (seen_in p) hs) (is : slice_get hs index ≡ Some h) (less : slot_of h < length now.marks) (done : Remarked actions lets (seen_in p) job hs index old now) where
   wider : (place : ℕ) → StandsBefore (seen_in p) job hs index place → StandsBefore (seen_in p) job hs (index + 1) place
   wider place b = record { i = b.i; h = b.h; s = b.s; before = omega (arith, b.before); stands = b.stands; is = b.is; has_job = b.has_job; slot = b.slot }
 
-  skipped : ((s : Seen) → seen_in p h ≡ Some s → s.job ≡ job → ⊥) → new ≡ now → Remarked actions (seen_in p) job hs (index + 1) old new
-  skipped other same = subst (λ (r : ReadyMarks). Remarked actions (seen_in p) job hs (index + 1) old r) (sym same) (record {
+  skipped : ((s : Seen) → seen_in p h ≡ Some s → s.job ≡ job → ⊥) → new ≡ now → Remarked actions lets (seen_in p) job hs (index + 1) old new
+  skipped other same = subst (λ (r : ReadyMarks). Remarked actions lets (seen_in p) job hs (index + 1) old r) (sym same) (record {
     workers = done.workers;
     priorities = done.priorities;
     slots = done.slots;
@@ -63,8 +63,8 @@ module _ (actions : Slots Action) (p : Slots Task) (job : ℕ) (hs : List ℕ) (
     ];
   })
 
-  marked : ((s : Seen) → seen_in p h ≡ Some s → s.job ≡ job) → IsFresh actions (seen_in p) h now new → Remarked actions (seen_in p) job hs (index + 1) old new
-  marked mine f = subst (λ (r : ReadyMarks). Remarked actions (seen_in p) job hs (index + 1) old r) (sym f.now) (record {
+  marked : ((s : Seen) → seen_in p h ≡ Some s → s.job ≡ job) → IsFresh actions lets (seen_in p) h now new → Remarked actions lets (seen_in p) job hs (index + 1) old new
+  marked mine f = subst (λ (r : ReadyMarks). Remarked actions lets (seen_in p) job hs (index + 1) old r) (sym f.now) (record {
     workers = done.workers;
     priorities = done.priorities;
     slots = length-set now.marks (slot_of h) f.mark ∙ done.slots;
@@ -72,11 +72,11 @@ module _ (actions : Slots Action) (p : Slots Task) (job : ℕ) (hs : List ℕ) (
       | inl beside ↦
           let s_is = waits.waits h (index-has h index hs is) in
           let same = alone p h k s_is.0 s s_is.1 g beside in
-          subst (λ (m : Option Mark). IsMarkOf actions (seen_in p k) m) (sym (ap (mark_at (set now.marks (slot_of h) f.mark)) beside ∙ mark-here now.marks (slot_of h) f.mark less))
-          (subst (λ (o : Option Seen). IsMarkOf actions o f.mark) (ap (seen_in p) (sym same)) f.right)
+          subst (λ (m : Option Mark). IsMarkOf actions (lets k) (seen_in p k) m) (sym (ap (mark_at (set now.marks (slot_of h) f.mark)) beside ∙ mark-here now.marks (slot_of h) f.mark less))
+          (subst (λ (j : ℕ). IsMarkOf actions (lets j) (seen_in p j) f.mark) (sym same) f.right)
       | inr away ↦ elim (cases_eq i index) [
         | inl last ↦ absurd (away (ap slot_of (some_same (sym e ∙ ap (slice_get hs) last ∙ is))))
-        | inr earlier ↦ subst (λ (m : Option Mark). IsMarkOf actions (seen_in p k) m) (sym (mark-away now.marks (slot_of h) (slot_of k) f.mark away)) (done.fresh i k s (omega arith) e g j)
+        | inr earlier ↦ subst (λ (m : Option Mark). IsMarkOf actions (lets k) (seen_in p k) m) (sym (mark-away now.marks (slot_of h) (slot_of k) f.mark away)) (done.fresh i k s (omega arith) e g j)
       ]
     ];
     others = λ place. elim (cases_eq place (slot_of h)) [
@@ -90,7 +90,7 @@ module _ (actions : Slots Action) (p : Slots Task) (job : ℕ) (hs : List ℕ) (
     ];
   })
 
-  pub remarked-next : IsFreshFor actions (seen_in p) job h now new → Remarked actions (seen_in p) job hs (index + 1) old new
+  pub remarked-next : IsFreshFor actions lets (seen_in p) job h now new → Remarked actions lets (seen_in p) job hs (index + 1) old new
   remarked-next f = elim f [
     | inl mine ↦ marked mine.0 mine.1
     | inr other ↦ skipped other.0 other.1
@@ -100,17 +100,17 @@ module _ (actions : Slots Action) (p : Slots Task) (job : ℕ) (hs : List ℕ) (
 
 -- the actions of all other jobs are as they were
 pub record SameBut (job : ℕ) (old new : Slots Action) : Type 0 where
-  pub there : (h : ℕ) (a : Action) → (a.job ≡ job → ⊥) → get old h ≡ Some a → get new h ≡ Some a
-  pub back : (h : ℕ) (a : Action) → (a.job ≡ job → ⊥) → get new h ≡ Some a → get old h ≡ Some a
+  pub there : (h : ℕ) (a : Action) → (a.job ≡ job → ⊥) → slot_value old h ≡ Some a → slot_value new h ≡ Some a
+  pub back : (h : ℕ) (a : Action) → (a.job ≡ job → ⊥) → slot_value new h ≡ Some a → slot_value old h ≡ Some a
 
 pub same-insert : (p q : Slots Action) (h job : ℕ) (kind : Kind) (cores : ℕ) → Inserts p q h (new_action job kind cores) → SameBut job p q
 same-insert p q h job kind cores i = record {
   there = λ k a d g. elim (cases_eq k h) [
-    | inl here ↦ absurd (none (sym (get-insert_before p q h _ i) ∙ ap (get p) (sym here) ∙ g))
+    | inl here ↦ absurd (none (sym (get-insert_before p q h _ i) ∙ ap (slot_value p) (sym here) ∙ g))
     | inr away ↦ get-insert_other p q h k _ i away ∙ g
   ];
   back = λ k a d g. elim (cases_eq k h) [
-    | inl here ↦ absurd (d (ap (λ (x : Action). x.job) (some_same (sym g ∙ ap (get q) here ∙ get-insert_same p q h _ i))))
+    | inl here ↦ absurd (d (ap (λ (x : Action). x.job) (some_same (sym g ∙ ap (slot_value q) here ∙ get-insert_same p q h _ i))))
     | inr away ↦ sym (get-insert_other p q h k _ i away) ∙ g
   ];
 }
@@ -118,58 +118,77 @@ same-insert p q h job kind cores i = record {
     none : {a : Action} → None ≡ Some a → ⊥
     none e = cc
 
-pub same-changed : (p : Slots Action) (h job : ℕ) (on : Bool) (x : Action) → get p h ≡ Some x → x.job ≡ job → SameBut job p (changed p h (with_enabled on))
+pub same-changed : (p : Slots Action) (h job : ℕ) (on : Bool) (x : Action) → slot_value p h ≡ Some x → x.job ≡ job → SameBut job p (changed p h (with_enabled on))
 same-changed p h job on x g j =
     subst (λ (o : Option Action). SameBut job p (put p h (option_map (with_enabled on) o))) (sym g) (record {
       there = λ k a d e. elim (cases_eq k h) [
-        | inl here ↦ absurd (d (ap (λ (y : Action). y.job) (some_same (sym e ∙ ap (get p) here ∙ g)) ∙ j))
+        | inl here ↦ absurd (d (ap (λ (y : Action). y.job) (some_same (sym e ∙ ap (slot_value p) here ∙ g)) ∙ j))
         | inr away ↦ get-with_value_other p h k x (with_enabled on x) g away ∙ e
       ];
       back = λ k a d e. elim (cases_eq k h) [
-        | inl here ↦ absurd (d (ap (λ (y : Action). y.job) (some_same (sym e ∙ ap (get (with_value p h (with_enabled on x))) here ∙ get-with_value_same p h x (with_enabled on x) g)) ∙ j))
+        | inl here ↦ absurd (d (ap (λ (y : Action). y.job) (some_same (sym e ∙ ap (slot_value (with_value p h (with_enabled on x))) here ∙ get-with_value_same p h x (with_enabled on x) g)) ∙ j))
         | inr away ↦ sym (get-with_value_other p h k x (with_enabled on x) g away) ∙ e
       ];
     })
 
+pub same-without : (p : Slots Action) (h job : ℕ) (x : Action) → slot_value p h ≡ Some x → x.job ≡ job → SameBut job p (without p h)
+same-without p h job x g j = record {
+  there = λ k a d e. elim (cases_eq k h) [
+    | inl here ↦ absurd (d (ap (λ (y : Action). y.job) (some_same (sym e ∙ ap (slot_value p) here ∙ g)) ∙ j))
+    | inr away ↦ get-without_other p h k x g away ∙ e
+  ];
+  back = λ k a d e. elim (cases_eq k h) [
+    | inl here ↦ absurd (none (sym (get-without_same p h x g) ∙ ap (slot_value (without p h)) (sym here) ∙ e))
+    | inr away ↦ sym (get-without_other p h k x g away) ∙ e
+  ];
+}
+  where
+    none : {a : Action} → None ≡ Some a → ⊥
+    none e = cc
+
 runs-job : (job w : ℕ) (a : Action) → runs_job_on job w a ≡ true → a.job ≡ job
 runs-job job w a r = same-number a.job job (and_right a.enabled (a.job == job) (and_left (has_enabled_job job a) _ r))
 
-takes-there : (job : ℕ) (old new : Slots Action) (w : ℕ) (s : Seen) → SameBut job old new → (s.job ≡ job → ⊥) → Takes old w s → Takes new w s
-takes-there job old new w s same d k = record {
+takes-there : (job : ℕ) (old new : Slots Action) (lets now : Option ℕ → Bool) (w : ℕ) (s : Seen) → SameBut job old new → (s.job ≡ job → ⊥) → now s.queue ≡ lets s.queue → Takes old lets w s → Takes new now w s
+takes-there job old new lets now w s same d steady k = record {
   waits = k.waits;
-  queue = k.queue;
+  queue = steady ∙ k.queue;
   core = k.core;
   action = (k.action.0, k.action.1, same.there k.action.0 k.action.1 (λ e. d (sym (runs-job s.job w k.action.1 k.action.3) ∙ e)) k.action.2, k.action.3);
 }
 
-takes-back : (job : ℕ) (old new : Slots Action) (w : ℕ) (s : Seen) → SameBut job old new → (s.job ≡ job → ⊥) → Takes new w s → Takes old w s
-takes-back job old new w s same d k = record {
+takes-back : (job : ℕ) (old new : Slots Action) (lets now : Option ℕ → Bool) (w : ℕ) (s : Seen) → SameBut job old new → (s.job ≡ job → ⊥) → now s.queue ≡ lets s.queue → Takes new now w s → Takes old lets w s
+takes-back job old new lets now w s same d steady k = record {
   waits = k.waits;
-  queue = k.queue;
+  queue = sym steady ∙ k.queue;
   core = k.core;
   action = (k.action.0, k.action.1, same.back k.action.0 k.action.1 (λ e. d (sym (runs-job s.job w k.action.1 k.action.3) ∙ e)) k.action.2, k.action.3);
 }
 
--- the marks are right for the other actions once the waiting tasks of the job are marked anew
-pub marked-anew : (old new : Slots Action) (p : Slots Task) (job : ℕ) (hs : List ℕ) (was now : ReadyMarks) → SameBut job old new → AreWaiting (seen_in p) hs → Remarked new (seen_in p) job hs (length hs) was now → Marked old (seen_in p) was.marks → Marked new (seen_in p) now.marks
-marked-anew old new p job hs was now same waits done m = record {
+-- the queues let the same tasks of all other jobs begin
+abbrev pub SteadyBut : ℕ → (ℕ → Option ℕ → Bool) → (ℕ → Option ℕ → Bool) → (ℕ → Option Seen) → Type 0
+SteadyBut job lets now at = (h : ℕ) (s : Seen) → at h ≡ Some s → (s.job ≡ job → ⊥) → s.on ≡ None → now h s.queue ≡ lets h s.queue
+
+-- the marks are right for the other actions and queues once the waiting tasks of the job are marked anew
+pub marked-anew : (old new : Slots Action) (lets now : ℕ → Option ℕ → Bool) (p : Slots Task) (job : ℕ) (hs : List ℕ) (was after : ReadyMarks) → SameBut job old new → SteadyBut job lets now (seen_in p) → AreWaiting (seen_in p) hs → Remarked new now (seen_in p) job hs (length hs) was after → Marked old lets (seen_in p) was.marks → Marked new now (seen_in p) after.marks
+marked-anew old new lets now p job hs was after same steady waits done m = record {
   sound = λ w q place e. elim (done.others place) [
     | inl kept ↦
         let s = m.sound w q place (ap (is_for_at w q) (sym kept) ∙ e) in
         elim (cases_eq s.1.job job) [
           | inl mine ↦
-              let f = (fresh s.0 s.1 s.3 mine s.5.waits).sound w q (ap (λ (k : ℕ). is_for_at w q (mark_at now.marks k)) s.2 ∙ e) in
+              let f = (fresh s.0 s.1 s.3 mine s.5.waits).sound w q (ap (λ (k : ℕ). is_for_at w q (mark_at after.marks k)) s.2 ∙ e) in
               (s.0, f.0, s.2, f.1, f.2, f.3)
-          | inr other ↦ (s.0, s.1, s.2, s.3, s.4, takes-there job old new w s.1 same other s.5)
+          | inr other ↦ (s.0, s.1, s.2, s.3, s.4, takes-there job old new (lets s.0) (now s.0) w s.1 same other (steady s.0 s.1 s.3 other s.5.waits) s.5)
         ]
     | inr b ↦
-        let f = (done.fresh b.i b.h b.s b.before b.stands b.is b.has_job).sound w q (ap (λ (k : ℕ). is_for_at w q (mark_at now.marks k)) b.slot ∙ e) in
+        let f = (done.fresh b.i b.h b.s b.before b.stands b.is b.has_job).sound w q (ap (λ (k : ℕ). is_for_at w q (mark_at after.marks k)) b.slot ∙ e) in
         (b.h, f.0, b.slot, f.1, f.2, f.3)
   ];
   whole = λ w h s e k. elim (cases_eq s.job job) [
     | inl mine ↦ (fresh h s e mine k.waits).whole w s e k
     | inr other ↦
-        let kept = m.whole w h s e (takes-back job old new w s same other k) in
+        let kept = m.whole w h s e (takes-back job old new (lets h) (now h) w s same other (steady h s e other k.waits) k) in
         elim (done.others (slot_of h)) [
           | inl as_was ↦ ap (is_for_at w s.priority) as_was ∙ kept
           | inr b ↦
@@ -179,7 +198,7 @@ marked-anew old new p job hs was now same waits done m = record {
   ];
 }
   where
-    fresh : (h : ℕ) (s : Seen) → seen_in p h ≡ Some s → s.job ≡ job → s.on ≡ None → IsMarkOf new (seen_in p h) (mark_at now.marks (slot_of h))
+    fresh : (h : ℕ) (s : Seen) → seen_in p h ≡ Some s → s.job ≡ job → s.on ≡ None → IsMarkOf new (now h) (seen_in p h) (mark_at after.marks (slot_of h))
     fresh h s e j n =
         let i = has-index h hs (waits.listed h s e n) in
         done.fresh i.0 h s (slice_get_within hs i.0 h i.1) i.1 e j

@@ -5,9 +5,10 @@ use Rattle.std.specs.Bool.{OnTrue, OnFalse}
 use Rattle.std.proofs.lemmas.Bool.{false≢true}
 use Rattle.std.proofs.lemmas.Bool.Decides.{nat_tests}
 use Rattle.mtapi_values.specs.declared.handles.TaskHandle.{TaskHandle}
-use Rattle.handle_pool.specs.Slots.{get, SomeLive, NoneLive}
+use Rattle.handle_pool.specs.Slots.{slot_value}
+use Rattle.handle_pool.specs.Walks.{SomeLive, NoneLive}
 use Rattle.job_table.specs.Answers.{Passes}
-use Rattle.mtapi_objects.specs.Tasks.{Task, TaskState, Scheduled, Running, Over, runs_on, with_state}
+use Rattle.mtapi_objects.specs.Tasks.{Task, TaskState, Scheduled, Running, Ended, runs_on, with_state}
 use Rattle.task_board.specs.Seen.{Seen, seen_as, seen}
 use Rattle.task_board.specs.Board.{BoardTable, IsBoard, running_on}
 use Rattle.task_board.proofs.SeenLemmas.{seen-as, seen-live}
@@ -22,15 +23,15 @@ runs-seen t w (Running v k) e r =
     let test : (v == w) ≡ true = ap (λ (y : TaskState). runs_on w (with_state y t)) (sym e) ∙ r in
     let same : v ≡ w = grind (arith, nat_tests) in
     (_, ap (seen_as t) e, ap Some same)
-runs-seen t w (Over y n) e r = absurd (false≢true (ap (λ (z : TaskState). runs_on w (with_state z t)) (sym e) ∙ r))
+runs-seen t w (Ended y n) e r = absurd (false≢true (ap (λ (z : TaskState). runs_on w (with_state z t)) (sym e) ∙ r))
 
-pub some-runs : (b : BoardTable) (w : ℕ) (t : TaskHandle) → IsBoard b → running_on b.running w ≡ Some t → SomeLive (get b.tasks.pool) (Passes (runs_on w))
+pub some-runs : (b : BoardTable) (w : ℕ) (t : TaskHandle) → IsBoard b → running_on b.running w ≡ Some t → SomeLive (slot_value b.tasks.pool) (Passes (runs_on w))
 some-runs b w t k e =
     let s = k.running_are.runs w t e in
     let x = seen-live b.tasks.pool t.0 s.0 s.1 in
     (t.0, x.0, x.1, (seen-as x.0 x.0.state s.0 x.2).on w s.2 ∙ self w)
 
-pub none-runs : (b : BoardTable) (w : ℕ) → IsBoard b → running_on b.running w ≡ None → NoneLive (get b.tasks.pool) (Passes (runs_on w))
+pub none-runs : (b : BoardTable) (w : ℕ) → IsBoard b → running_on b.running w ≡ None → NoneLive (slot_value b.tasks.pool) (Passes (runs_on w))
 none-runs b w k e h t g r =
     let s = runs-seen t w t.state refl r in
     no (sym e ∙ k.running_are.found h w s.0 (ap seen g ∙ s.1) s.2)
@@ -38,18 +39,18 @@ none-runs b w k e h t g r =
     no : {t : TaskHandle} → None ≡ Some t → ⊥
     no d = cc
 
-pub not-running : (b : BoardTable) (w : ℕ) → IsBoard b → NoneLive (get b.tasks.pool) (Passes (runs_on w)) → is_some (running_on b.running w) ≡ false
+pub not-running : (b : BoardTable) (w : ℕ) → IsBoard b → NoneLive (slot_value b.tasks.pool) (Passes (runs_on w)) → is_some (running_on b.running w) ≡ false
 not-running b w k none = by_seat (running_on b.running w) refl
   where
     by_seat : (o : Option TaskHandle) → running_on b.running w ≡ o → is_some o ≡ false
     by_seat None e = refl
     by_seat (Some t) e = let x = some-runs b w t k e in absurd (none x.0 x.1 x.2 x.3)
 
-pub running-tells : (b : BoardTable) (w : ℕ) (o : Option TaskHandle) → IsBoard b → running_on b.running w ≡ o → is_some o ≡ true → SomeLive (get b.tasks.pool) (Passes (runs_on w))
+pub running-tells : (b : BoardTable) (w : ℕ) (o : Option TaskHandle) → IsBoard b → running_on b.running w ≡ o → is_some o ≡ true → SomeLive (slot_value b.tasks.pool) (Passes (runs_on w))
 running-tells b w None k e s = absurd (false≢true s)
 running-tells b w (Some t) k e s = some-runs b w t k e
 
-pub running-denies : (b : BoardTable) (w : ℕ) (o : Option TaskHandle) → IsBoard b → running_on b.running w ≡ o → is_some o ≡ false → NoneLive (get b.tasks.pool) (Passes (runs_on w))
+pub running-denies : (b : BoardTable) (w : ℕ) (o : Option TaskHandle) → IsBoard b → running_on b.running w ≡ o → is_some o ≡ false → NoneLive (slot_value b.tasks.pool) (Passes (runs_on w))
 running-denies b w None k e s = none-runs b w k e
 running-denies b w (Some t) k e s = absurd (false≢true (sym s))
 

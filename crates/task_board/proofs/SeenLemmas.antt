@@ -1,15 +1,15 @@
 -- What is seen of a task, and which tasks a worker may take.
-use Rattle.std.proofs.Common.{◌≡◌, ℕ, true, Option, Some, None, refl, sym, ◌∙◌, ap, subst}
+use Rattle.std.proofs.Common.{◌≡◌, ℕ, Bool, true, Option, Some, None, refl, sym, ◌∙◌, ap, subst}
 use Rattle.std.proofs.lemmas.Bool.{false≢true}
 use Rattle.mtapi_values.specs.Masks.{in_mask}
 use Rattle.mtapi_values.specs.Conditions.{holds}
 use Rattle.std.specs.Prelude.{◌==◌, ◌<◌, IfSome}
 use Rattle.ready_index.specs.declared.marks.Mark.{Mark}
 use Rattle.task_board.specs.Board.{AreRanked}
-use Rattle.handle_pool.specs.Slots.{Slots, get}
+use Rattle.handle_pool.specs.Slots.{Slots, slot_value}
 use Rattle.mtapi_objects.specs.Actions.{Action}
 use Rattle.job_table.specs.Answers.{runs_job_on}
-use Rattle.mtapi_objects.specs.Tasks.{Task, TaskState, Scheduled, Running, Over, scheduled, runner, is_unstarted}
+use Rattle.mtapi_objects.specs.Tasks.{Task, TaskState, Scheduled, Running, Ended, scheduled, runner, is_unstarted}
 use Rattle.task_board.specs.Picks.{Takeable}
 use Rattle.task_board.specs.Seen.{Seen, seen_as, seen, seen_in, Takes}
 
@@ -33,45 +33,45 @@ seen-as t Scheduled s e =
 seen-as t (Running w k) s e =
     subst (λ (r : Seen). SeenAs t (Running w k) r) (some_same e)
     (record { job = refl; priority = refl; cores = refl; queue = refl; start = refl; unstarted = λ n. absurd (cc); on = λ v n. ap (λ (z : ℕ). z == v) (some_same n) })
-seen-as t (Over y n) s e = absurd (cc)
+seen-as t (Ended y n) s e = absurd (cc)
 
 -- a scheduled task is seen
 pub unstarted-seen : (t : Task) (x : TaskState) → scheduled x ≡ true → (s : Seen) × (seen_as t x ≡ Some s) × (s.on ≡ None)
 unstarted-seen t Scheduled e = (_, refl, refl)
 unstarted-seen t (Running w k) e = absurd (false≢true e)
-unstarted-seen t (Over y n) e = absurd (false≢true e)
+unstarted-seen t (Ended y n) e = absurd (false≢true e)
 
 -- what is seen is live
-pub seen-live : (p : Slots Task) (h : ℕ) (s : Seen) → seen_in p h ≡ Some s → (t : Task) × (get p h ≡ Some t) × (seen (Some t) ≡ Some s)
-seen-live p h s e = by_found (get p h) refl e
+pub seen-live : (p : Slots Task) (h : ℕ) (s : Seen) → seen_in p h ≡ Some s → (t : Task) × (slot_value p h ≡ Some t) × (seen (Some t) ≡ Some s)
+seen-live p h s e = by_found (slot_value p h) refl e
   where
-    by_found : (o : Option Task) → get p h ≡ o → seen o ≡ Some s → (t : Task) × (get p h ≡ Some t) × (seen (Some t) ≡ Some s)
+    by_found : (o : Option Task) → slot_value p h ≡ o → seen o ≡ Some s → (t : Task) × (slot_value p h ≡ Some t) × (seen (Some t) ≡ Some s)
     by_found None g e = absurd (cc)
     by_found (Some t) g e = (t, g, e)
 
 -- a worker may take what it sees exactly where it may take the task
-pub takes-from : (actions : Slots Action) (w : ℕ) (t : Task) (s : Seen) → seen (Some t) ≡ Some s → Takes actions w s → Takeable actions w t
-takes-from actions w t s e k =
+pub takes-from : (actions : Slots Action) (lets : Option ℕ → Bool) (w : ℕ) (t : Task) (s : Seen) → seen (Some t) ≡ Some s → Takes actions lets w s → Takeable actions lets w t
+takes-from actions lets w t s e k =
     let a = seen-as t t.state s e in (
       k.action.0,
       k.action.1,
       k.action.2,
       record {
         unstarted = a.unstarted k.waits;
-        queue = sym a.queue ∙ k.queue;
+        queue = ap lets (sym a.queue) ∙ k.queue;
         core = ap (in_mask w) (sym a.cores) ∙ k.core;
         action = ap (λ (j : ℕ). runs_job_on j w k.action.1) (sym a.job) ∙ k.action.3;
       },
     )
 
-pub record TakenAs (actions : Slots Action) (w : ℕ) (t : Task) : Type 0 where
+pub record TakenAs (actions : Slots Action) (lets : Option ℕ → Bool) (w : ℕ) (t : Task) : Type 0 where
   pub s : Seen
   pub is : seen (Some t) ≡ Some s
-  pub takes : Takes actions w s
+  pub takes : Takes actions lets w s
   pub priority : s.priority ≡ t.priority
 
-pub takes-to : (actions : Slots Action) (w : ℕ) (t : Task) → Takeable actions w t → TakenAs actions w t
-takes-to actions w t k =
+pub takes-to : (actions : Slots Action) (lets : Option ℕ → Bool) (w : ℕ) (t : Task) → Takeable actions lets w t → TakenAs actions lets w t
+takes-to actions lets w t k =
     let s = unstarted-seen t t.state k.3.unstarted in
     let a = seen-as t t.state s.0 s.1 in
     record {
@@ -79,7 +79,7 @@ takes-to actions w t k =
       is = s.1;
       takes = record {
         waits = s.2;
-        queue = a.queue ∙ k.3.queue;
+        queue = ap lets a.queue ∙ k.3.queue;
         core = ap (in_mask w) a.cores ∙ k.3.core;
         action = (k.0, k.1, k.2, ap (λ (j : ℕ). runs_job_on j w k.1) a.job ∙ k.3.action);
       };
@@ -87,7 +87,7 @@ takes-to actions w t k =
     }
 
 -- the priority of a mark that was made of a scheduled task
-pub mark-known : (p : Slots Task) (h : ℕ) (t : Task) (n : ℕ) (o : Option Mark) → get p h ≡ Some t → AreRanked (seen_in p) n → IfSome o (λ m. is_unstarted t ≡ true) → IfSome o (λ m. m.priority ≡ t.priority) → IfSome o (λ m. m.priority < n)
+pub mark-known : (p : Slots Task) (h : ℕ) (t : Task) (n : ℕ) (o : Option Mark) → slot_value p h ≡ Some t → AreRanked (seen_in p) n → IfSome o (λ m. is_unstarted t ≡ true) → IfSome o (λ m. m.priority ≡ t.priority) → IfSome o (λ m. m.priority < n)
 mark-known p h t n None g r u e = tt
 mark-known p h t n (Some m) g r u e =
     let s = unstarted-seen t t.state u in

@@ -1,3 +1,9 @@
 pub mod Picks
 pub mod Seen
+pub mod Queued
 pub mod Board
+pub mod Mapped
+pub mod Ends
+pub mod Keyed
+pub mod Members
+pub mod GroupMoves

@@ -1,38 +1,46 @@
 -- Which task a worker may take, as the slots show it.
-use Rattle.std.specs.Prelude.{◌≡◌, ℕ, ◌<◌, true, Option, Some, None}
+use Rattle.std.specs.Prelude.{◌≡◌, ℕ, ◌<◌, Bool, true, Option, Some, None}
 use Rattle.mtapi_values.specs.Masks.{in_mask}
-use Rattle.handle_pool.specs.Slots.{Slots, get, SomeLive, NoneLive}
+use Rattle.handle_pool.specs.Slots.{Slots, slot_value}
+use Rattle.handle_pool.specs.Walks.{SomeLive}
 use Rattle.mtapi_objects.specs.Actions.{Action}
 use Rattle.job_table.specs.Answers.{runs_job_on}
 use Rattle.mtapi_objects.specs.Tasks.{Task, is_unstarted}
+use Rattle.queue_core.specs.Held.{HeldQueue}
 use Rattle.task_board.specs.declared.board.Choice.{Choice}
+use Rattle.task_board.specs.Queued.{begins_in}
 
--- the task is scheduled, in no queue, and may run on the worker by this action
-pub record RunsBy (w : ℕ) (t : Task) (a : Action) : Type 0 where
+-- the task is scheduled, its queue, if any, lets it begin, and it may run on the worker by this action
+pub record RunsBy (lets : Option ℕ → Bool) (w : ℕ) (t : Task) (a : Action) : Type 0 where
   pub unstarted : is_unstarted t ≡ true
-  pub queue : t.queue ≡ None
+  pub queue : lets t.queue ≡ true
   pub core : in_mask w t.cores ≡ true
   pub action : runs_job_on t.job w a ≡ true
 
 -- the worker may take the task, by some live action
-abbrev pub Takeable : Slots Action → ℕ → Task → Type 0
-Takeable actions w t = SomeLive (get actions) (RunsBy w t)
+abbrev pub Takeable : Slots Action → (Option ℕ → Bool) → ℕ → Task → Type 0
+Takeable actions lets w t = SomeLive (slot_value actions) (RunsBy lets w t)
 
--- the worker may take the task, and its priority is smaller
-abbrev pub Beats : Slots Action → ℕ → ℕ → Task → Type 0
-Beats actions w priority t = Takeable actions w t × (t.priority < priority)
+module _ (actions : Slots Action) (tasks : Slots Task) (queues : Slots HeldQueue) (w : ℕ) where
+  -- what was chosen is live, and may be taken
+  pub record IsChoice (c : Choice) : Type 0 where
+    pub t : Task
+    pub a : Action
+    pub task : slot_value tasks c.task.0 ≡ Some t
+    pub action : slot_value actions c.action.0 ≡ Some a
+    pub kind : a.kind ≡ c.kind
+    pub priority : t.priority ≡ c.priority
+    pub runs : RunsBy (begins_in queues c.task.0) w t a
 
--- what was chosen is live, and may be taken
-pub record IsChoice (actions : Slots Action) (tasks : Slots Task) (w : ℕ) (c : Choice) : Type 0 where
-  pub t : Task
-  pub a : Action
-  pub task : get tasks c.task.0 ≡ Some t
-  pub action : get actions c.action.0 ≡ Some a
-  pub kind : a.kind ≡ c.kind
-  pub priority : t.priority ≡ c.priority
-  pub runs : RunsBy w t a
+  -- no live task may be taken
+  abbrev pub NoneTakeable : Type 0
+  NoneTakeable = (h : ℕ) (t : Task) → slot_value tasks h ≡ Some t → Takeable actions (begins_in queues h) w t → ⊥
 
--- it may be taken, and no task that may be has a smaller priority; or none may be taken
-abbrev pub IsBest : Slots Action → Slots Task → ℕ → Option Choice → Type 0
-IsBest actions tasks w None = NoneLive (get tasks) (Takeable actions w)
-IsBest actions tasks w (Some c) = IsChoice actions tasks w c × NoneLive (get tasks) (Beats actions w c.priority)
+  -- no live task of a smaller priority may be taken
+  abbrev pub NoneBetter : ℕ → Type 0
+  NoneBetter priority = (h : ℕ) (t : Task) → slot_value tasks h ≡ Some t → Takeable actions (begins_in queues h) w t → t.priority < priority → ⊥
+
+  -- it may be taken, and no task that may be has a smaller priority; or none may be taken
+  abbrev pub IsBest : Option Choice → Type 0
+  IsBest None = NoneTakeable
+  IsBest (Some c) = IsChoice c × NoneBetter c.priority

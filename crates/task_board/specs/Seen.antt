@@ -1,10 +1,11 @@
 -- What a board sees of a task.
-use Rattle.std.specs.Prelude.{◌≡◌, ℕ, true, Option, Some, None}
+use Rattle.std.specs.Prelude.{◌≡◌, ℕ, Bool, true, Option, Some, None}
 use Rattle.mtapi_values.specs.Masks.{in_mask}
-use Rattle.handle_pool.specs.Slots.{Slots, get, SomeLive}
+use Rattle.handle_pool.specs.Slots.{Slots, slot_value}
+use Rattle.handle_pool.specs.Walks.{SomeLive}
 use Rattle.mtapi_objects.specs.Actions.{Action}
 use Rattle.job_table.specs.Answers.{Passes, runs_job_on}
-use Rattle.mtapi_objects.specs.Tasks.{Task, TaskState, Scheduled, Running, Over}
+use Rattle.mtapi_objects.specs.Tasks.{Task, TaskState, Scheduled, Running, Ended}
 
 -- a task that hasn't ended: what decides who may take it, the number of its start, and the worker on which it runs, if it does
 pub record Seen : Type 0 where
@@ -18,7 +19,7 @@ pub record Seen : Type 0 where
 abbrev pub seen_as : Task → TaskState → Option Seen
 seen_as t Scheduled = Some (record { job = t.job; priority = t.priority; cores = t.cores; queue = t.queue; start = t.start; on = None })
 seen_as t (Running w k) = Some (record { job = t.job; priority = t.priority; cores = t.cores; queue = t.queue; start = t.start; on = Some w })
-seen_as t (Over e n) = None
+seen_as t (Ended e n) = None
 
 -- an ended task is seen no more
 abbrev pub seen : Option Task → Option Seen
@@ -27,11 +28,11 @@ seen (Some t) = seen_as t t.state
 
 -- what is seen by each handle
 abbrev pub seen_in : Slots Task → ℕ → Option Seen
-seen_in p h = seen (get p h)
+seen_in p h = seen (slot_value p h)
 
--- the worker may take it
-pub record Takes (actions : Slots Action) (w : ℕ) (s : Seen) : Type 0 where
+-- the worker may take it, where its queue, if any, lets it begin
+pub record Takes (actions : Slots Action) (lets : Option ℕ → Bool) (w : ℕ) (s : Seen) : Type 0 where
   pub waits : s.on ≡ None
-  pub queue : s.queue ≡ None
+  pub queue : lets s.queue ≡ true
   pub core : in_mask w s.cores ≡ true
-  pub action : SomeLive (get actions) (Passes (runs_job_on s.job w))
+  pub action : SomeLive (slot_value actions) (Passes (runs_job_on s.job w))

@@ -1,23 +1,37 @@
 //! The board.
 
-ghost use Rattle.std.specs.Prelude.{◌≡◌, ◌+◌, ◌≤◌, ◌<◌, ◌^◌, ℕ, replicate, Some, None, IfSome, IfOk, slice_get, is_some, not, true, false};
+ghost use Rattle.std.specs.Prelude.{◌≡◌, ◌+◌, ◌≤◌, ◌<◌, ◌^◌, ℕ, replicate, Some, None, IfSome, IfOk, Ok, OnOk, OnErr, slice_get, is_some, not, true, false, length};
 ghost use Rattle.std.specs.Option.{option_copied, option_map};
 ghost use Rattle.std.specs.Bool.{OnTrue, OnFalse};
 ghost use Rattle.mtapi_values.specs.Attributes.{IsWithin};
-ghost use Rattle.handle_pool.specs.Slots.{Slots, get, free_slot, changed, SomeLive, NoneLive};
+ghost use Rattle.handle_pool.specs.Slots.{Slots, slot_of, slot_value, free_slot, changed, without};
+ghost use Rattle.handle_pool.specs.Walks.{SomeLive, NoneLive};
+ghost use Rattle.linked_places.specs.Lists.{list_at, has_handle};
 ghost use Rattle.mtapi_objects.specs.Actions.{Action, with_enabled};
-ghost use Rattle.job_table.specs.Answers.{Creates, Covers, Passes, job_of};
+ghost use Rattle.job_table.specs.Answers.{Creates as CreatesAction, Covers, Passes, job_of};
 ghost use Rattle.mtapi_objects.specs.Tasks.{Task, is_unstarted, is_unended, runs_on, with_state, Running, runner, with_notes, cancel_requested};
-ghost use Rattle.task_core.specs.Records.{asked_task, shown_state};
+ghost use Rattle.task_core.specs.Records.{asked_task, group_number, shown_state};
 ghost use Rattle.task_core.specs.Answers.{look_reply, asked_of, after_asked, watch_end_of};
 ghost use Rattle.task_core.specs.Table.{Adds, IsLiveAnd, ended_in, looked_in, unended_count};
 ghost use Rattle.task_board.specs.Picks.{IsBest, IsChoice};
-ghost use Rattle.task_board.specs.Board.{IsBoard, Becomes};
+ghost use Rattle.queue_core.specs.Held.{new_queue, Creates as CreatesQueue, Finds, live_reply, with_opened, with_task, put_reply, NoTaskAt, facts_of};
+ghost use Rattle.group_core.specs.Members.{Creates, no_members, counts_of};
+ghost use Rattle.task_board.specs.Seen.{seen_in};
+ghost use Rattle.task_board.specs.Queued.{IsRoomFor, NoneWaitsIn};
+ghost use Rattle.task_board.specs.Members.{MayJoin};
+ghost use Rattle.task_board.specs.GroupMoves.{Regroups, TakesFirst, LeavesFirst};
+ghost use Rattle.task_board.specs.Board.{IsBoard, Becomes, BecomesWith};
 
-use crate::marks::{clear, refresh, remark, slot_of};
+use crate::marks::{clear, leave_queue, refresh, remark, slot_of};
+use crate::members::{join, note_end};
+use group_core::Groups;
 use job_table::{Actions, Cover};
 use linked_places::LinkedLists;
-use mtapi_values::{ActionHandle, Args, Kind, Mask, MtapiStatus, NodeAttr, TaskEnd, TaskHandle};
+use mtapi_values::{
+    ActionHandle, Args, GroupHandle, Kind, Mask, MtapiStatus, NodeAttr, QueueAttr, QueueHandle,
+    TaskEnd, TaskHandle,
+};
+use queue_core::{QueueFacts, Queues};
 use ready_index::ReadyIndex;
 use std::alloc::{AllocError, Global};
 use std::marker::Model;
@@ -36,18 +50,21 @@ pub struct Choice {
     pub priority: u32,
 }
 
-/// Actions and tasks, and which of the tasks wait, may be taken, and run.
+/// Actions, tasks, queues and groups, and which of the tasks wait, may be taken, and run.
 #[derive(Drop)]
 pub struct Board {
     settings: NodeAttr,
     actions: Actions,
     tasks: Tasks,
+    queues: Queues,
     // The tasks that a worker may take.
     ready: ReadyIndex,
     // One list: the tasks that haven't begun.
     waiting: LinkedLists,
     // The task that runs on each worker.
     running: [Option<TaskHandle>; 25],
+    // The groups, each with its members.
+    groups: Groups,
 }
 
 impl Model for Board {
@@ -59,47 +76,59 @@ impl Model for Board {
       settings = b.settings;
       actions = b.actions;
       tasks = b.tasks;
+      queues = b.queues;
       ready = b.ready;
       waiting = b.waiting;
       running = b.running;
+      groups = b.groups;
     } };
 
     ghost invariant = { λ b. IsBoard (record {
       settings = b.settings;
       actions = b.actions;
       tasks = b.tasks;
+      queues = b.queues;
       ready = b.ready;
       waiting = b.waiting;
       running = b.running;
+      groups = b.groups;
     }) };
 }
 
 impl Board {
-    /// A board without actions and tasks, with room for as many as the settings say, and with all the memory that they will use.
+    /// A board without actions, tasks, queues and groups, with room for as many as the settings say, and with all the memory that they will use.
     pub fn new(alloc: Global, attr: NodeAttr) -> Result<Board, AllocError>
         ensures settings { IfOk result (λ b. b.settings ≡ attr) }
         ensures action_turns { IfOk result (λ b. b.actions.generations ≡ attr.generations) }
         ensures action_slots { IfOk result (λ b. b.actions.slots ≡ replicate attr.actions (free_slot 1)) }
         ensures task_turns { IfOk result (λ b. b.tasks.pool.generations ≡ attr.generations) }
         ensures task_slots { IfOk result (λ b. b.tasks.pool.slots ≡ replicate attr.tasks (free_slot 1)) }
+        ensures group_turns { IfOk result (λ b. b.groups.pool.generations ≡ attr.generations) }
+        ensures group_slots { IfOk result (λ b. b.groups.pool.slots ≡ replicate attr.groups (free_slot 1)) }
         ensures starts { IfOk result (λ b. b.tasks.starts ≡ 0) }
         ensures ends { IfOk result (λ b. b.tasks.ends ≡ 0) }
+        ensures queue_turns { IfOk result (λ b. b.queues.pool.generations ≡ attr.generations) }
+        ensures queue_slots { IfOk result (λ b. b.queues.pool.slots ≡ replicate attr.queues (free_slot 1)) }
     {
         let actions = Actions::new(alloc, attr.actions(), attr.generations())?;
         let tasks = Tasks::new(alloc, attr.tasks(), attr.generations())?;
+        let queues = Queues::new(alloc, attr.queues(), attr.generations(), attr.tasks())?;
         let ready = ReadyIndex::new(alloc, attr.tasks(), attr.workers(), attr.priorities())?;
         let waiting = LinkedLists::new(alloc, 1, attr.tasks())?;
+        let groups = Groups::new(alloc, attr.groups(), attr.generations(), attr.tasks())?;
         Ok(Board {
             settings: attr,
             actions,
             tasks,
+            queues,
             ready,
             waiting,
             running: [None; 25],
+            groups,
         })
     }
 
-    /// What the marks, the waiting tasks and the running ones are.
+    /// What the marks, the waiting tasks, the running ones, those of the queues and the members of the groups are.
     pub fn is_kept(&self)
         ensures { IsBoard self.now }
     {
@@ -123,7 +152,8 @@ impl Board {
 
     /// The number of priorities.
     pub fn priorities(&self) -> u32
-        ensures { result ≡ self.now.settings.priorities }
+        ensures value { result ≡ self.now.settings.priorities }
+        ensures range { IsWithin 1 8 result }
     {
         self.settings.priorities()
     }
@@ -144,30 +174,52 @@ impl Board {
 
     /// How far a live task has come.
     pub fn state(&self, t: TaskHandle) -> Option<TaskState>
-        ensures { result ≡ option_map (λ (task : Task). shown_state task.state) (get self.now.tasks.pool t.0) }
+        ensures { result ≡ option_map (λ (task : Task). shown_state task.state) (slot_value self.now.tasks.pool t.0) }
     {
         self.tasks.state(t)
     }
 
     /// The record of a live task. None exactly where it isn't live.
     pub fn task(&self, t: TaskHandle) -> Option<&TaskRecord>
-        ensures { option_copied result ≡ get self.now.tasks.pool t.0 }
+        ensures { option_copied result ≡ slot_value self.now.tasks.pool t.0 }
     {
         self.tasks.get(t)
     }
 
     /// How a watch that runs on the worker ends, as `Tasks::watch_end` says it.
     pub fn watch_end(&self, t: TaskHandle, worker: u32) -> Result<TaskEnd, MtapiStatus>
-        ensures { result ≡ watch_end_of worker (get self.now.tasks.pool t.0) }
+        ensures { result ≡ watch_end_of worker (slot_value self.now.tasks.pool t.0) }
     {
         self.tasks.watch_end(t, worker)
+    }
+
+    // How many tasks haven't begun.
+    pub(crate) fn waiting_count(&self) -> u32
+        ensures { result ≡ length (list_at self.now.waiting.lists 0) }
+    {
+        self.waiting.len(0)
+    }
+
+    // The first of the tasks that haven't begun.
+    pub(crate) fn first_waiting(&self) -> Option<u64>
+        ensures { result ≡ slice_get (list_at self.now.waiting.lists 0) 0 }
+    {
+        self.waiting.first(0)
+    }
+
+    // The task after this one, of those that haven't begun.
+    pub(crate) fn next_waiting(&self, task: u64) -> Option<u64>
+        requires { has_handle task (list_at self.now.waiting.lists 0) ≡ true }
+        ensures { (i : ℕ) → slice_get (list_at self.now.waiting.lists 0) i ≡ Some task → result ≡ slice_get (list_at self.now.waiting.lists 0) (i + 1) }
+    {
+        self.waiting.next(task)
     }
 
     /// Whether a task runs on the worker.
     pub fn is_running(&self, worker: u32) -> bool
         requires { worker < self.now.settings.workers }
-        ensures some { OnTrue result (SomeLive (get self.now.tasks.pool) (Passes (runs_on worker))) }
-        ensures none { OnFalse result (NoneLive (get self.now.tasks.pool) (Passes (runs_on worker))) }
+        ensures some { OnTrue result (SomeLive (slot_value self.now.tasks.pool) (Passes (runs_on worker))) }
+        ensures none { OnFalse result (NoneLive (slot_value self.now.tasks.pool) (Passes (runs_on worker))) }
     {
         let _ = self.settings.workers();
         self.running[worker as usize].is_some()
@@ -176,7 +228,7 @@ impl Board {
     /// A task of the least priority that the worker may take.
     pub fn best(&self, worker: u32) -> Option<Choice>
         requires { worker < self.now.settings.workers }
-        ensures { IsBest self.now.actions self.now.tasks.pool worker result }
+        ensures { IsBest self.now.actions self.now.tasks.pool self.now.queues.pool worker result }
     {
         let Some((_, place)) = self.ready.first_for(worker) else {
             return None;
@@ -197,15 +249,15 @@ impl Board {
 
     /// A look by a seat, as `Tasks::look` says it.
     pub fn look(&mut self, t: TaskHandle, who: u32, last: bool) -> TaskLook
-        ensures reply { result ≡ look_reply who last (get self.old.tasks.pool t.0) }
-        ensures new { Becomes self.old self.new self.old.actions (record self.old.tasks { pool = looked_in self.old.tasks.pool t.0 who last (get self.old.tasks.pool t.0) }) }
+        ensures reply { result ≡ look_reply who last (slot_value self.old.tasks.pool t.0) }
+        ensures new { Becomes self.old self.new self.old.actions (record self.old.tasks { pool = looked_in self.old.tasks.pool t.0 who last (slot_value self.old.tasks.pool t.0) }) }
     {
         self.tasks.look(t, who, last)
     }
 
     /// Whether a watch that runs on the worker is to cancel, as `Tasks::asked` says it.
     pub fn asked(&mut self, t: TaskHandle, worker: u32) -> Result<bool, MtapiStatus>
-        ensures reply { result ≡ asked_of worker (get self.old.tasks.pool t.0) }
+        ensures reply { result ≡ asked_of worker (slot_value self.old.tasks.pool t.0) }
         ensures new { Becomes self.old self.new self.old.actions (record self.old.tasks { pool = changed self.old.tasks.pool t.0 (after_asked worker) }) }
     {
         self.tasks.asked(t, worker)
@@ -213,7 +265,7 @@ impl Board {
 
     /// Asks a running task to cancel.
     pub fn request(&mut self, t: TaskHandle)
-        requires { IsLiveAnd (λ task. is_some (runner task.state)) (get self.old.tasks.pool t.0) }
+        requires { IsLiveAnd (λ task. is_some (runner task.state)) (slot_value self.old.tasks.pool t.0) }
         ensures { Becomes self.old self.new self.old.actions (record self.old.tasks { pool = changed self.old.tasks.pool t.0 (with_notes cancel_requested) }) }
     {
         self.tasks.request(t);
@@ -226,7 +278,7 @@ impl Board {
         kind: Kind,
         cores: Mask,
     ) -> Result<ActionHandle, MtapiStatus>
-        ensures creates { Creates self.old.actions job kind cores.0 result self.new.actions }
+        ensures creates { CreatesAction self.old.actions job kind cores.0 result self.new.actions }
         ensures new { Becomes self.old self.new self.new.actions self.old.tasks }
     {
         match self.actions.create(job, kind, cores) {
@@ -235,6 +287,7 @@ impl Board {
                     &mut self.ready,
                     &self.waiting,
                     &self.tasks,
+                    &self.queues,
                     &self.actions,
                     job,
                 );
@@ -246,7 +299,7 @@ impl Board {
 
     /// Enables an action, as `Actions::enable` says it.
     pub fn enable_action(&mut self, a: ActionHandle) -> Result<u32, MtapiStatus>
-        ensures reply { result ≡ job_of (get self.old.actions a.0) }
+        ensures reply { result ≡ job_of (slot_value self.old.actions a.0) }
         ensures new { Becomes self.old self.new (changed self.old.actions a.0 (with_enabled true)) self.old.tasks }
     {
         match self.actions.enable(a) {
@@ -255,6 +308,7 @@ impl Board {
                     &mut self.ready,
                     &self.waiting,
                     &self.tasks,
+                    &self.queues,
                     &self.actions,
                     job,
                 );
@@ -264,17 +318,90 @@ impl Board {
         }
     }
 
-    /// Adds a scheduled task, as `Tasks::add` says it.
+    /// Disables an action, as `Actions::disable` says it.
+    pub fn disable_action(&mut self, a: ActionHandle) -> Result<u32, MtapiStatus>
+        ensures reply { result ≡ job_of (slot_value self.old.actions a.0) }
+        ensures new { Becomes self.old self.new (changed self.old.actions a.0 (with_enabled false)) self.old.tasks }
+    {
+        let job = self.actions.disable(a)?;
+        remark(
+            &mut self.ready,
+            &self.waiting,
+            &self.tasks,
+            &self.queues,
+            &self.actions,
+            job,
+        );
+        Ok(job)
+    }
+
+    /// Gives up an action, as `Actions::delete` says it.
+    pub fn delete_action(&mut self, a: ActionHandle) -> Result<u32, MtapiStatus>
+        ensures reply { result ≡ job_of (slot_value self.old.actions a.0) }
+        ensures ok { OnOk result (Becomes self.old self.new (without self.old.actions a.0) self.old.tasks) }
+        ensures err { OnErr result (Becomes self.old self.new self.old.actions self.old.tasks) }
+    {
+        let job = self.actions.delete(a)?;
+        remark(
+            &mut self.ready,
+            &self.waiting,
+            &self.tasks,
+            &self.queues,
+            &self.actions,
+            job,
+        );
+        Ok(job)
+    }
+
+    /// Adds a scheduled task of no queue, as `Tasks::add` says it. It enters the group that it names.
     pub fn add(&mut self, task: NewTask) -> Result<TaskHandle, MtapiStatus>
         requires few { self.old.tasks.starts < 2 ^ 63 }
         requires priority { task.priority < self.old.settings.priorities }
+        requires no_queue { task.queue ≡ None }
+        requires member { MayJoin self.old.groups.pool task.detached (group_number task.group) }
         ensures adds { Adds self.old.tasks (asked_task task) result self.new.tasks }
         ensures new { Becomes self.old self.new self.old.actions self.new.tasks }
     {
+        let group = task.group;
         match self.tasks.add(task) {
             Ok(task) => {
                 self.waiting.push(0, task.0);
-                refresh(&mut self.ready, &self.actions, &self.tasks, task);
+                refresh(
+                    &mut self.ready,
+                    &self.actions,
+                    &self.tasks,
+                    &self.queues,
+                    task,
+                );
+                join(&mut self.groups, group, task);
+                Ok(task)
+            }
+            Err(status) => Err(status),
+        }
+    }
+
+    /// Adds a scheduled task to a live queue that takes it, as `Tasks::add` says it. It enters the group that it names.
+    pub fn enqueue(&mut self, queue: QueueHandle, task: NewTask) -> Result<TaskHandle, MtapiStatus>
+        requires few { self.old.tasks.starts < 2 ^ 63 }
+        requires queue { IsRoomFor self.old.queues.pool queue.0 (asked_task task) }
+        requires member { MayJoin self.old.groups.pool task.detached (group_number task.group) }
+        ensures adds { Adds self.old.tasks (asked_task task) result self.new.tasks }
+        ensures new { Becomes self.old self.new self.old.actions self.new.tasks }
+    {
+        let group = task.group;
+        self.queues.is_kept();
+        match self.tasks.add(task) {
+            Ok(task) => {
+                self.waiting.push(0, task.0);
+                put_in(&mut self.queues, queue, task);
+                refresh(
+                    &mut self.ready,
+                    &self.actions,
+                    &self.tasks,
+                    &self.queues,
+                    task,
+                );
+                join(&mut self.groups, group, task);
                 Ok(task)
             }
             Err(status) => Err(status),
@@ -284,9 +411,9 @@ impl Board {
     /// Has a worker that runs nothing take what was chosen, and gives a copy of the arguments.
     pub fn take(&mut self, worker: u32, choice: Choice) -> Args
         requires worker { worker < self.old.settings.workers }
-        requires free { NoneLive (get self.old.tasks.pool) (Passes (runs_on worker)) }
-        requires choice { IsChoice self.old.actions self.old.tasks.pool worker choice }
-        ensures args { option_map (λ (task : Task). task.args) (get self.old.tasks.pool choice.task.0) ≡ Some result }
+        requires free { NoneLive (slot_value self.old.tasks.pool) (Passes (runs_on worker)) }
+        requires choice { IsChoice self.old.actions self.old.tasks.pool self.old.queues.pool worker choice }
+        ensures args { option_map (λ (task : Task). task.args) (slot_value self.old.tasks.pool choice.task.0) ≡ Some result }
         ensures new { Becomes self.old self.new self.old.actions (record self.old.tasks { pool = changed self.old.tasks.pool choice.task.0 (with_state (Running worker choice.kind)) }) }
     {
         let _ = self.settings.workers();
@@ -299,18 +426,171 @@ impl Board {
 
     /// Ends a task, as `Tasks::end_with` says it.
     pub fn end_with(&mut self, t: TaskHandle, end: TaskEnd)
-        requires { IsLiveAnd is_unended (get self.old.tasks.pool t.0) }
-        ensures { Becomes self.old self.new self.old.actions (record self.old.tasks { pool = ended_in self.old.tasks.pool t.0 end self.old.tasks.ends (get self.old.tasks.pool t.0); ends = self.old.tasks.ends + 1 }) }
+        requires { IsLiveAnd is_unended (slot_value self.old.tasks.pool t.0) }
+        ensures { Becomes self.old self.new self.old.actions (record self.old.tasks { pool = ended_in self.old.tasks.pool t.0 end self.old.tasks.ends (slot_value self.old.tasks.pool t.0); ends = self.old.tasks.ends + 1 }) }
     {
-        let Some(state) = self.tasks.state(t) else {
+        let Some(task) = self.tasks.get(t) else {
             unreachable!()
         };
+        let state = task.state();
+        let queue = task.queue();
+        let group = task.group();
+        self.queues.is_kept();
         self.tasks.end_with(t, end);
         clear(&mut self.ready, slot_of(t.0));
+        leave_queue(
+            &mut self.ready,
+            &self.actions,
+            &self.tasks,
+            &mut self.queues,
+            queue,
+            t,
+        );
+        note_end(&mut self.groups, group, t);
         match state {
             TaskState::Scheduled => self.waiting.remove(0, t.0),
             TaskState::Running { worker, .. } => self.running[worker as usize] = None,
             TaskState::Ended => unreachable!(),
         }
+    }
+
+    /// A live queue at a glance. None exactly where it isn't live.
+    pub fn queue(&self, q: QueueHandle) -> Option<QueueFacts>
+        ensures { result ≡ option_map facts_of (slot_value self.now.queues.pool q.0) }
+    {
+        self.queues.facts(q)
+    }
+
+    /// The live queue of an id, as `Queues::get` says it.
+    pub fn get_queue(&self, id: u32) -> Result<QueueHandle, MtapiStatus>
+        ensures { Finds self.now.queues.pool id result }
+    {
+        self.queues.get(id)
+    }
+
+    /// Makes an enabled queue with no tasks, as `Queues::create` says it.
+    pub fn create_queue(
+        &mut self,
+        id: u32,
+        job: u32,
+        attr: QueueAttr,
+    ) -> Result<QueueHandle, MtapiStatus>
+        requires { attr.priority < self.old.settings.priorities }
+        ensures creates { CreatesQueue self.old.queues (new_queue id job attr) result self.new.queues }
+        ensures new { BecomesWith self.old self.new self.new.queues.pool }
+    {
+        self.queues.create(id, job, attr)
+    }
+
+    /// Has the tasks of a queue begin again, as `Queues::enable` says it.
+    pub fn enable_queue(&mut self, q: QueueHandle) -> Result<(), MtapiStatus>
+        ensures reply { result ≡ live_reply (slot_value self.old.queues.pool q.0) }
+        ensures new { BecomesWith self.old self.new (changed self.old.queues.pool q.0 (with_opened true)) }
+    {
+        let Some(facts) = self.queues.facts(q) else {
+            return Err(MtapiStatus::ErrQueueInvalid);
+        };
+        let result = self.queues.enable(q);
+        remark(
+            &mut self.ready,
+            &self.waiting,
+            &self.tasks,
+            &self.queues,
+            &self.actions,
+            facts.job,
+        );
+        result
+    }
+
+    /// Has no further task of a queue begin, as `Queues::disable` says it.
+    pub fn disable_queue(&mut self, q: QueueHandle) -> Result<(), MtapiStatus>
+        ensures reply { result ≡ live_reply (slot_value self.old.queues.pool q.0) }
+        ensures new { BecomesWith self.old self.new (changed self.old.queues.pool q.0 (with_opened false)) }
+    {
+        let Some(facts) = self.queues.facts(q) else {
+            return Err(MtapiStatus::ErrQueueInvalid);
+        };
+        let result = self.queues.disable(q);
+        remark(
+            &mut self.ready,
+            &self.waiting,
+            &self.tasks,
+            &self.queues,
+            &self.actions,
+            facts.job,
+        );
+        result
+    }
+
+    /// Gives up a queue whose tasks have all begun, as `Queues::delete` says it.
+    pub fn delete_queue(&mut self, q: QueueHandle) -> Result<(), MtapiStatus>
+        requires { NoneWaitsIn q.0 (seen_in self.old.tasks.pool) }
+        ensures reply { result ≡ live_reply (slot_value self.old.queues.pool q.0) }
+        ensures ok { OnOk result (BecomesWith self.old self.new (without self.old.queues.pool q.0)) }
+        ensures err { OnErr result (BecomesWith self.old self.new self.old.queues.pool) }
+    {
+        self.queues.delete(q)
+    }
+
+    /// Makes a group with no members, as `Groups::create` says it.
+    pub fn create_group(&mut self) -> Result<GroupHandle, MtapiStatus>
+        ensures creates { Creates self.old.groups result self.new.groups }
+        ensures others { Regroups self.old self.new self.old.tasks }
+    {
+        self.groups.create()
+    }
+
+    /// Gives up a live group that has no members.
+    pub fn delete_group(&mut self, g: GroupHandle)
+        requires empty { slot_value self.old.groups.pool g.0 ≡ Some no_members }
+        ensures group { self.new.groups.pool ≡ without self.old.groups.pool g.0 }
+        ensures others { Regroups self.old self.new self.old.tasks }
+    {
+        let _ = self.groups.delete(g);
+    }
+
+    /// How many members of a live group weren't handed out, and how many of these have ended.
+    pub fn left(&self, g: GroupHandle) -> Option<(u32, u32)>
+        ensures { result ≡ option_map counts_of (slot_value self.now.groups.pool g.0) }
+    {
+        self.groups.left(g)
+    }
+
+    /// Frees the member of a group that ended first, and gives its end.
+    pub fn take_first(&mut self, g: GroupHandle) -> Option<(TaskHandle, TaskEnd)>
+        ensures { TakesFirst self.old g.0 result self.new }
+    {
+        self.groups.is_kept();
+        match self.groups.take(g) {
+            Some(task) => Some((task, self.tasks.free(task))),
+            None => None,
+        }
+    }
+
+    /// Has the member of a group that entered first leave, of those that haven't ended; it becomes detached.
+    pub fn leave_first(&mut self, g: GroupHandle) -> Option<TaskHandle>
+        ensures { LeavesFirst self.old g.0 result self.new }
+    {
+        self.groups.is_kept();
+        match self.groups.leave(g) {
+            Some(task) => {
+                self.tasks.detach(task);
+                Some(task)
+            }
+            None => None,
+        }
+    }
+}
+
+// Puts a task into a live queue that takes it.
+fn put_in(queues: &mut Queues, queue: QueueHandle, task: TaskHandle)
+    requires slot { slot_of task.0 < queues.old.tasks }
+    requires alone { NoTaskAt (slot_of task.0) queues.old.pool }
+    requires takes { put_reply (slot_value queues.old.pool queue.0) ≡ Ok tt }
+    ensures { queues.new ≡ record queues.old { pool = changed queues.old.pool queue.0 (with_task task.0) } }
+{
+    match queues.put(queue, task) {
+        Ok(()) => {}
+        Err(_) => unreachable!(),
     }
 }

@@ -1,17 +1,22 @@
 //! The mark of one task.
 
-ghost use Rattle.std.specs.Prelude.{◌≡◌, ◌<◌, ◌↔◌, ℕ, Some, None, IfSome, length, slice_set, true, is_none, ◌&&◌, bit_and};
-ghost use Rattle.handle_pool.specs.Slots.{Slots, slot_of, max_of};
+ghost use Rattle.std.specs.Prelude.{◌≡◌, ◌<◌, ◌==◌, ℕ, Some, None, IfSome, length, slice_set, true, ◌&&◌, bit_and};
+ghost use Rattle.handle_pool.specs.Slots.{Slots, slot_of, slot_value, max_of};
 ghost use Rattle.mtapi_objects.specs.Actions.{Action};
 ghost use Rattle.job_table.specs.Answers.{Covers};
-ghost use Rattle.linked_places.specs.Lists.{list_at};
+ghost use Rattle.linked_places.specs.Lists.{list_at, has_handle};
 ghost use Rattle.mtapi_objects.specs.Tasks.{is_unstarted};
+ghost use Rattle.task_core.specs.Records.{queue_number};
+ghost use Rattle.queue_core.specs.Held.{HeldQueue, first_task};
+ghost use Rattle.mtapi_values.specs.Conditions.{holds};
 ghost use Rattle.task_board.specs.Seen.{seen, seen_in};
-ghost use Rattle.task_board.specs.Board.{IsMarkOf, AreRanked, AreWaiting, IsFresh, IsFreshFor, Remarked};
+ghost use Rattle.task_board.specs.Queued.{begins_in, left_queue, head_of};
+ghost use Rattle.task_board.specs.Board.{IsMarkOf, AreRanked, AreWaiting, IsFresh, IsFreshAt, IsFreshFor, Remarked};
 
 use job_table::{Actions, Cover};
 use linked_places::LinkedLists;
-use mtapi_values::{Mask, TaskHandle};
+use mtapi_values::{Mask, QueueHandle, TaskHandle};
+use queue_core::Queues;
 use ready_index::{Mark, ReadyIndex};
 use task_core::{TaskRecord, TaskState, Tasks};
 
@@ -47,11 +52,34 @@ pub(crate) fn put_mark(ready: &mut ReadyIndex, place: u32, mark: Option<Mark>)
     }
 }
 
-// Whether the task hasn't begun, and is in no queue. A task in a queue isn't ready, since no queue was made yet.
-fn is_ready(task: &TaskRecord) -> bool
-    ensures { result ≡ (is_unstarted task.now && is_none task.now.queue) }
+// Whether the task is the first of a queue.
+fn is_head(queues: &Queues, queue: QueueHandle, task: TaskHandle) -> bool
+    ensures { result ≡ holds (λ k. k == task.0) (first_task (slot_value queues.now.pool queue.0)) }
 {
-    matches!(task.state(), TaskState::Scheduled) && task.queue().is_none()
+    match queues.head(queue) {
+        Some(head) => head.0 == task.0,
+        None => false,
+    }
+}
+
+// Whether a task that names this queue, or none, may begin.
+fn may_begin(queues: &Queues, task: TaskHandle, queue: Option<QueueHandle>) -> bool
+    ensures { result ≡ begins_in queues.now.pool task.0 (queue_number queue) }
+{
+    let Some(queue) = queue else {
+        return true;
+    };
+    let Some(facts) = queues.facts(queue) else {
+        return false;
+    };
+    facts.enabled && (!facts.ordered || is_head(queues, queue, task))
+}
+
+// Whether the task hasn't begun, and its queue, if any, lets it.
+fn is_ready(queues: &Queues, task: TaskHandle, found: &TaskRecord) -> bool
+    ensures { result ≡ (is_unstarted found.now && begins_in queues.now.pool task.0 found.now.queue) }
+{
+    matches!(found.state(), TaskState::Scheduled) && may_begin(queues, task, found.queue())
 }
 
 // The workers in both masks.
@@ -62,52 +90,96 @@ fn both(a: Mask, b: Mask) -> Mask
 }
 
 // The mark that is right for a task, by what the actions of its job cover.
-fn mark_by(cover: Cover, task: &TaskRecord) -> Option<Mark>
-    ensures right { (actions : Slots Action) → Covers actions task.now.job cover → IsMarkOf actions (seen (Some task.now)) result }
-    ensures unstarted { IfSome result (λ m. is_unstarted task.now ≡ true) }
-    ensures priority { IfSome result (λ m. m.priority ≡ task.now.priority) }
+fn mark_by(cover: Cover, queues: &Queues, task: TaskHandle, found: &TaskRecord) -> Option<Mark>
+    ensures right { (actions : Slots Action) → Covers actions found.now.job cover → IsMarkOf actions (begins_in queues.now.pool task.0) (seen (Some found.now)) result }
+    ensures unstarted { IfSome result (λ m. is_unstarted found.now ≡ true) }
+    ensures priority { IfSome result (λ m. m.priority ≡ found.now.priority) }
 {
-    if !is_ready(task) {
+    if !is_ready(queues, task, found) {
         return None;
     }
     match cover {
         Cover::NoAction | Cover::AllDisabled => None,
         Cover::Cores(mask) => Some(Mark {
-            priority: task.priority(),
-            mask: both(mask, task.cores()),
+            priority: found.priority(),
+            mask: both(mask, found.cores()),
         }),
     }
 }
 
 // The mark that is right for a handle, live or not.
-fn fresh_mark(actions: &Actions, tasks: &Tasks, task: TaskHandle) -> Option<Mark>
-    ensures right { IsMarkOf actions.now (seen_in tasks.now.pool task.0) result }
+fn fresh_mark(actions: &Actions, tasks: &Tasks, queues: &Queues, task: TaskHandle) -> Option<Mark>
+    ensures right { IsMarkOf actions.now (begins_in queues.now.pool task.0) (seen_in tasks.now.pool task.0) result }
     ensures known { (n : ℕ) → AreRanked (seen_in tasks.now.pool) n → IfSome result (λ m. m.priority < n) }
 {
     match tasks.get(task) {
-        Some(record) => mark_by(actions.cover(record.job()), record),
+        Some(record) => mark_by(actions.cover(record.job()), queues, task, record),
         None => None,
     }
 }
 
 // Marks the slot of a task anew.
-pub(crate) fn refresh(ready: &mut ReadyIndex, actions: &Actions, tasks: &Tasks, task: TaskHandle)
+pub(crate) fn refresh(
+    ready: &mut ReadyIndex,
+    actions: &Actions,
+    tasks: &Tasks,
+    queues: &Queues,
+    task: TaskHandle,
+)
     requires place { slot_of task.0 < length ready.old.marks }
     requires ranked { AreRanked (seen_in tasks.now.pool) ready.old.priorities }
-    ensures { IsFresh actions.now (seen_in tasks.now.pool) task.0 ready.old ready.new }
+    ensures { IsFresh actions.now (begins_in queues.now.pool) (seen_in tasks.now.pool) task.0 ready.old ready.new }
 {
-    put_mark(ready, slot_of(task.0), fresh_mark(actions, tasks, task));
+    put_mark(
+        ready,
+        slot_of(task.0),
+        fresh_mark(actions, tasks, queues, task),
+    );
+}
+
+// Takes an ended task out of the queue that it names, if that is live, and marks the first task of this queue anew.
+pub(crate) fn leave_queue(
+    ready: &mut ReadyIndex,
+    actions: &Actions,
+    tasks: &Tasks,
+    queues: &mut Queues,
+    queue: Option<QueueHandle>,
+    task: TaskHandle,
+)
+    requires member { (q : ℕ) (x : HeldQueue) → queue_number queue ≡ Some q → slot_value queues.old.pool q ≡ Some x → has_handle task.0 x.tasks ≡ true }
+    requires place { (h : ℕ) → head_of (left_queue queues.old.pool (queue_number queue) task.0) (queue_number queue) ≡ Some h → slot_of h < length ready.old.marks }
+    requires ranked { AreRanked (seen_in tasks.now.pool) ready.old.priorities }
+    ensures left { queues.new ≡ record queues.old { pool = left_queue queues.old.pool (queue_number queue) task.0 } }
+    ensures marks { IsFreshAt actions.now (begins_in queues.new.pool) (seen_in tasks.now.pool) (head_of queues.new.pool (queue_number queue)) ready.old ready.new }
+{
+    let Some(queue) = queue else {
+        return;
+    };
+    let Some(_) = queues.facts(queue) else {
+        return;
+    };
+    queues.ended(queue, task);
+    if let Some(head) = queues.head(queue) {
+        refresh(ready, actions, tasks, queues, head);
+    }
 }
 
 // The mark of the slot of a task, by what the actions of the job cover, where the task has this job.
-fn refresh_for(ready: &mut ReadyIndex, cover: Cover, tasks: &Tasks, job: u32, task: TaskHandle)
+fn refresh_for(
+    ready: &mut ReadyIndex,
+    cover: Cover,
+    tasks: &Tasks,
+    queues: &Queues,
+    job: u32,
+    task: TaskHandle,
+)
     requires place { slot_of task.0 < length ready.old.marks }
     requires ranked { AreRanked (seen_in tasks.now.pool) ready.old.priorities }
-    ensures { (actions : Slots Action) → Covers actions job cover → IsFreshFor actions (seen_in tasks.now.pool) job task.0 ready.old ready.new }
+    ensures { (actions : Slots Action) → Covers actions job cover → IsFreshFor actions (begins_in queues.now.pool) (seen_in tasks.now.pool) job task.0 ready.old ready.new }
 {
     match tasks.get(task) {
         Some(record) if record.job() == job => {
-            put_mark(ready, slot_of(task.0), mark_by(cover, record))
+            put_mark(ready, slot_of(task.0), mark_by(cover, queues, task, record))
         }
         _ => {}
     }
@@ -118,6 +190,7 @@ pub(crate) fn remark(
     ready: &mut ReadyIndex,
     waiting: &LinkedLists,
     tasks: &Tasks,
+    queues: &Queues,
     actions: &Actions,
     job: u32,
 )
@@ -125,13 +198,13 @@ pub(crate) fn remark(
     requires places { length ready.old.marks ≡ max_of tasks.now.pool }
     requires waits { AreWaiting (seen_in tasks.now.pool) (list_at waiting.now.lists 0) }
     requires ranked { AreRanked (seen_in tasks.now.pool) ready.old.priorities }
-    ensures { Remarked actions.now (seen_in tasks.now.pool) job (list_at waiting.now.lists 0) (length (list_at waiting.now.lists 0)) ready.old ready.new }
+    ensures { Remarked actions.now (begins_in queues.now.pool) (seen_in tasks.now.pool) job (list_at waiting.now.lists 0) (length (list_at waiting.now.lists 0)) ready.old ready.new }
 {
     let cover = actions.cover(job);
     let mut next = waiting.first(0);
     for _index in 0..waiting.len(0) {
         let Some(task) = next else { unreachable!() };
-        refresh_for(ready, cover, tasks, job, TaskHandle(task));
+        refresh_for(ready, cover, tasks, queues, job, TaskHandle(task));
         next = waiting.next(task);
     }
 }

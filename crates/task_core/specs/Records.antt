@@ -4,9 +4,9 @@ use Rattle.std.specs.Option.{option_map}
 use Rattle.mtapi_values.specs.declared.ends.TaskEnd.{TaskEnd}
 use Rattle.mtapi_values.specs.declared.handles.GroupHandle.{GroupHandle}
 use Rattle.mtapi_values.specs.declared.handles.QueueHandle.{QueueHandle}
-use Rattle.mtapi_objects.specs.Tasks.{TaskState, Scheduled, Running, Over, NewTask, looks_of}
+use Rattle.mtapi_objects.specs.Tasks.{TaskState, Scheduled, Running, Ended, NewTask, looks_of}
 use Rattle.task_core.specs.declared.record.Progress.{Progress}
-use Rattle.task_core.specs.declared.record.Progress.TheVariants.{Waiting, Begun, Done}
+use Rattle.task_core.specs.declared.record.Progress.TheVariants as progress
 use Rattle.task_core.specs.declared.states.TaskState.{TaskState as ShownState}
 use Rattle.task_core.specs.declared.states.TaskState.TheVariants.{Scheduled as ShownScheduled, Running as ShownRunning, Ended as ShownEnded}
 use Rattle.task_core.specs.declared.states.NewTask.{NewTask as AskedTask}
@@ -24,15 +24,15 @@ asked_task t = record { job = t.job; args = t.args; priority = t.priority; cores
 
 -- how far the task has come
 abbrev pub state_of : Progress → TaskState
-state_of Waiting = Scheduled
-state_of (Begun worker kind) = Running worker kind
-state_of (Done end number) = Over end number
+state_of progress.Scheduled = Scheduled
+state_of (progress.Running worker kind) = Running worker kind
+state_of (progress.Ended end number) = Ended end number
 
 -- a state without the end
 abbrev pub shown_state : TaskState → ShownState
 shown_state Scheduled = ShownScheduled
 shown_state (Running worker kind) = ShownRunning worker kind
-shown_state (Over end number) = ShownEnded
+shown_state (Ended end number) = ShownEnded
 
 -- the end, and its number
 abbrev pub end_in : Option (TaskEnd × ℕ) → Option TaskEnd

@@ -5,8 +5,9 @@ use Rattle.mtapi_values.specs.declared.statuses.MtapiStatus.TheVariants.{ErrTask
 use Rattle.mtapi_values.specs.declared.handles.TaskHandle.{TaskHandle}
 use Rattle.mtapi_values.specs.declared.ends.TaskEnd.{TaskEnd}
 use Rattle.mtapi_values.specs.Conditions.{first}
-use Rattle.handle_pool.specs.Slots.{Slot, Slots, IsFull, Inserts, with_value, without, value_passes}
-use Rattle.mtapi_objects.specs.Tasks.{Task, Over, NewTask, new_task, is_unended, with_state, with_notes, with_waiter, task_look_refusals}
+use Rattle.handle_pool.specs.Slots.{Slot, Slots, IsFull, Inserts, with_value, without}
+use Rattle.handle_pool.specs.Walks.{value_passes}
+use Rattle.mtapi_objects.specs.Tasks.{Task, Ended, NewTask, new_task, is_unended, with_state, with_notes, with_waiter, task_look_refusals}
 use Rattle.task_core.specs.Answers.{without_group, waiter_after}
 
 -- the slots of the tasks, how many tasks were added, and how many have ended
@@ -29,7 +30,7 @@ IsLiveAnd p (Some t) = p t ≡ true
 -- the slots once the task has ended so: a detached one stops being live
 abbrev pub ended_in : Slots Task → ℕ → TaskEnd → ℕ → Option Task → Slots Task
 ended_in p h end number None = p
-ended_in p h end number (Some t) = if t.notes.detached then without p h else with_value p h (with_state (Over end number) t)
+ended_in p h end number (Some t) = if t.notes.detached then without p h else with_value p h (with_state (Ended end number) t)
 
 -- the slots once the task has left its group: an ended one stops being live
 abbrev pub detached_in : Slots Task → ℕ → Option Task → Slots Task

@@ -6,7 +6,7 @@ pub mod states;
 
 ghost use Rattle.std.specs.Prelude.{◌≡◌, ◌+◌, ◌≤◌, ◌<◌, ◌^◌, replicate, Some, IsSome, IfSome, IfOk, slice_get, is_some, not};
 ghost use Rattle.std.specs.Option.{option_copied, option_map};
-ghost use Rattle.handle_pool.specs.Slots.{get, free_slot, without, changed, used_at};
+ghost use Rattle.handle_pool.specs.Slots.{slot_value, free_slot, without, changed, used_at};
 ghost use Rattle.mtapi_objects.specs.Tasks.{Task, is_unstarted, is_unended, with_state, Running, runner, end_of, with_notes, cancel_requested};
 ghost use Rattle.task_core.specs.Records.{asked_task, shown_state, end_in};
 ghost use Rattle.task_core.specs.Answers.{look_reply, asked_of, after_asked, watch_end_of};
@@ -82,15 +82,15 @@ impl Tasks {
 
     /// How far a live task has come.
     pub fn state(&self, t: TaskHandle) -> Option<TaskState>
-        ensures { result ≡ option_map (λ (task : Task). shown_state task.state) (get self.now.pool t.0) }
+        ensures { result ≡ option_map (λ (task : Task). shown_state task.state) (slot_value self.now.pool t.0) }
     {
         self.pool.get(t.0).map(|record| record.state())
     }
 
     /// Has a scheduled task run on a worker, and gives a copy of its arguments.
     pub fn run_on(&mut self, t: TaskHandle, worker: u32, kind: Kind) -> Args
-        requires { IsLiveAnd is_unstarted (get self.old.pool t.0) }
-        ensures args { option_map (λ (task : Task). task.args) (get self.old.pool t.0) ≡ Some result }
+        requires { IsLiveAnd is_unstarted (slot_value self.old.pool t.0) }
+        ensures args { option_map (λ (task : Task). task.args) (slot_value self.old.pool t.0) ≡ Some result }
         ensures new { self.new ≡ record self.old { pool = changed self.old.pool t.0 (with_state (Running worker kind)) } }
     {
         match self.pool.get_mut(t.0) {
@@ -104,7 +104,7 @@ impl Tasks {
 
     /// Asks a running task to cancel.
     pub fn request(&mut self, t: TaskHandle)
-        requires { IsLiveAnd (λ task. is_some (runner task.state)) (get self.old.pool t.0) }
+        requires { IsLiveAnd (λ task. is_some (runner task.state)) (slot_value self.old.pool t.0) }
         ensures { self.new ≡ record self.old { pool = changed self.old.pool t.0 (with_notes cancel_requested) } }
     {
         match self.pool.get_mut(t.0) {
@@ -115,8 +115,8 @@ impl Tasks {
 
     /// Ends a task, with the next number of an end. A detached one stops being live.
     pub fn end_with(&mut self, t: TaskHandle, end: TaskEnd)
-        requires { IsLiveAnd is_unended (get self.old.pool t.0) }
-        ensures { self.new ≡ record self.old { pool = ended_in self.old.pool t.0 end self.old.ends (get self.old.pool t.0); ends = self.old.ends + 1 } }
+        requires { IsLiveAnd is_unended (slot_value self.old.pool t.0) }
+        ensures { self.new ≡ record self.old { pool = ended_in self.old.pool t.0 end self.old.ends (slot_value self.old.pool t.0); ends = self.old.ends + 1 } }
     {
         finish(&mut self.pool, t.0, end, self.ends);
         self.ends += 1;
@@ -124,8 +124,8 @@ impl Tasks {
 
     /// Has a task leave its group, to be waited for by nobody. An ended one stops being live.
     pub fn detach(&mut self, t: TaskHandle)
-        requires { IsSome (get self.old.pool t.0) }
-        ensures { self.new ≡ record self.old { pool = detached_in self.old.pool t.0 (get self.old.pool t.0) } }
+        requires { IsSome (slot_value self.old.pool t.0) }
+        ensures { self.new ≡ record self.old { pool = detached_in self.old.pool t.0 (slot_value self.old.pool t.0) } }
     {
         leave_group(&mut self.pool, t.0);
     }
@@ -134,8 +134,8 @@ impl Tasks {
     /// `ErrWaitPending` where another seat waits for it. An ended task stops being live; of another one the seat becomes the
     /// waiter, or with `last` no longer is, and the answer is `Timeout`.
     pub fn look(&mut self, t: TaskHandle, who: u32, last: bool) -> TaskLook
-        ensures reply { result ≡ look_reply who last (get self.old.pool t.0) }
-        ensures new { self.new ≡ record self.old { pool = looked_in self.old.pool t.0 who last (get self.old.pool t.0) } }
+        ensures reply { result ≡ look_reply who last (slot_value self.old.pool t.0) }
+        ensures new { self.new ≡ record self.old { pool = looked_in self.old.pool t.0 who last (slot_value self.old.pool t.0) } }
     {
         let Some(record) = self.pool.get_mut(t.0) else {
             return TaskLook::Refused(MtapiStatus::ErrTaskInvalid);
@@ -152,7 +152,7 @@ impl Tasks {
     /// Whether a watch that runs on the worker is to cancel. `ErrTaskInvalid` where it is no such watch, then `ErrParameter` where its
     /// arguments aren't one number from 0 to 64, it saw the request before, or it has no looks left.
     pub fn asked(&mut self, t: TaskHandle, worker: u32) -> Result<bool, MtapiStatus>
-        ensures reply { result ≡ asked_of worker (get self.old.pool t.0) }
+        ensures reply { result ≡ asked_of worker (slot_value self.old.pool t.0) }
         ensures new { self.new ≡ record self.old { pool = changed self.old.pool t.0 (after_asked worker) } }
     {
         ask(&mut self.pool, t.0, worker)
@@ -161,7 +161,7 @@ impl Tasks {
     /// How a watch that runs on the worker ends. `ErrTaskInvalid` where it is no such watch, then `ErrParameter` where its arguments are
     /// good, it hasn't seen the request and it has looks left. Changes nothing.
     pub fn watch_end(&self, t: TaskHandle, worker: u32) -> Result<TaskEnd, MtapiStatus>
-        ensures { result ≡ watch_end_of worker (get self.now.pool t.0) }
+        ensures { result ≡ watch_end_of worker (slot_value self.now.pool t.0) }
     {
         match self.pool.get(t.0) {
             Some(record) => record.watch_end(worker),
@@ -171,8 +171,8 @@ impl Tasks {
 
     /// Gives up an ended task, and gives its end.
     pub fn free(&mut self, t: TaskHandle) -> TaskEnd
-        requires { IsLiveAnd (λ task. not (is_unended task)) (get self.old.pool t.0) }
-        ensures end { IfSome (get self.old.pool t.0) (λ task. end_in (end_of task.state) ≡ Some result) }
+        requires { IsLiveAnd (λ task. not (is_unended task)) (slot_value self.old.pool t.0) }
+        ensures end { IfSome (slot_value self.old.pool t.0) (λ task. end_in (end_of task.state) ≡ Some result) }
         ensures new { self.new ≡ record self.old { pool = without self.old.pool t.0 } }
     {
         match self.pool.remove(t.0) {
@@ -183,7 +183,7 @@ impl Tasks {
 
     /// The record of a live task. None exactly where it isn't live.
     pub fn get(&self, t: TaskHandle) -> Option<&TaskRecord>
-        ensures { option_copied result ≡ get self.now.pool t.0 }
+        ensures { option_copied result ≡ slot_value self.now.pool t.0 }
     {
         self.pool.get(t.0)
     }
@@ -201,8 +201,8 @@ impl Tasks {
 
 // Ends a task with the number of its end. A detached one is given up.
 fn finish(pool: &mut Pool<TaskRecord>, handle: u64, end: TaskEnd, number: u64)
-    requires { IsSome (get pool.old handle) }
-    ensures { pool.new ≡ ended_in pool.old handle end number (get pool.old handle) }
+    requires { IsSome (slot_value pool.old handle) }
+    ensures { pool.new ≡ ended_in pool.old handle end number (slot_value pool.old handle) }
 {
     match pool.get_mut(handle) {
         Some(record) if !record.detached() => record.finish(end, number),
@@ -214,8 +214,8 @@ fn finish(pool: &mut Pool<TaskRecord>, handle: u64, end: TaskEnd, number: u64)
 
 // Has a task leave its group. An ended one is given up.
 fn leave_group(pool: &mut Pool<TaskRecord>, handle: u64)
-    requires { IsSome (get pool.old handle) }
-    ensures { pool.new ≡ detached_in pool.old handle (get pool.old handle) }
+    requires { IsSome (slot_value pool.old handle) }
+    ensures { pool.new ≡ detached_in pool.old handle (slot_value pool.old handle) }
 {
     match pool.get_mut(handle) {
         Some(record) if record.is_unended() => record.detach(),
@@ -227,7 +227,7 @@ fn leave_group(pool: &mut Pool<TaskRecord>, handle: u64)
 
 // Whether a watch that runs on the worker is to cancel.
 fn ask(pool: &mut Pool<TaskRecord>, handle: u64, worker: u32) -> Result<bool, MtapiStatus>
-    ensures reply { result ≡ asked_of worker (get pool.old handle) }
+    ensures reply { result ≡ asked_of worker (slot_value pool.old handle) }
     ensures new { pool.new ≡ changed pool.old handle (after_asked worker) }
 {
     match pool.get_mut(handle) {

@@ -3,7 +3,7 @@
 ghost use Rattle.std.specs.Prelude.{◌≡◌, false, Some};
 ghost use Rattle.std.specs.Option.{option_copied};
 ghost use Rattle.mtapi_values.specs.Conditions.{first};
-ghost use Rattle.mtapi_objects.specs.Tasks.{new_task, end_of, is_unended, with_state, with_notes, Running, Over, cancel_requested, with_waiter, task_look_refusals, runs_as, looks_of};
+ghost use Rattle.mtapi_objects.specs.Tasks.{new_task, end_of, is_unended, with_state, with_notes, Running, Ended, cancel_requested, with_waiter, task_look_refusals, runs_as, looks_of};
 ghost use Rattle.task_core.specs.Answers.{without_group, unended_look, waiter_after, asked_reply, after_asked, watch_end_reply, args_fault};
 ghost use Rattle.task_core.specs.Records.{asked_task, group_number, queue_number, shown_state, end_in, number_in};
 
@@ -17,11 +17,11 @@ const MOST_LOOKS: i64 = 64;
 /// How far a task has come.
 #[derive(Drop)]
 enum Progress {
-    Waiting,
+    Scheduled,
     // The worker, and the kind of the action.
-    Begun(u32, Kind),
+    Running(u32, Kind),
     // The end, and its number.
-    Done(TaskEnd, u64),
+    Ended(TaskEnd, u64),
 }
 
 /// One task: what was asked for, how far it has come, and who waits for it. What a tally has done is not among it.
@@ -83,7 +83,7 @@ impl TaskRecord {
             detached: task.detached,
             group: task.group,
             queue: task.queue,
-            progress: Progress::Waiting,
+            progress: Progress::Scheduled,
             start,
             waiter: None,
             requested: false,
@@ -146,12 +146,12 @@ impl TaskRecord {
         ensures { result ≡ shown_state self.now.state }
     {
         match &self.progress {
-            Progress::Waiting => TaskState::Scheduled,
-            Progress::Begun(worker, kind) => TaskState::Running {
+            Progress::Scheduled => TaskState::Scheduled,
+            Progress::Running(worker, kind) => TaskState::Running {
                 worker: *worker,
                 kind: *kind,
             },
-            Progress::Done(_, _) => TaskState::Ended,
+            Progress::Ended(_, _) => TaskState::Ended,
         }
     }
 
@@ -195,7 +195,7 @@ impl TaskRecord {
         ensures { option_copied result ≡ end_in (end_of self.now.state) }
     {
         match &self.progress {
-            Progress::Done(end, _) => Some(end),
+            Progress::Ended(end, _) => Some(end),
             _ => None,
         }
     }
@@ -205,7 +205,7 @@ impl TaskRecord {
         ensures { result ≡ number_in (end_of self.now.state) }
     {
         match &self.progress {
-            Progress::Done(_, number) => Some(*number),
+            Progress::Ended(_, number) => Some(*number),
             _ => None,
         }
     }
@@ -213,21 +213,21 @@ impl TaskRecord {
     pub(crate) fn is_unended(&self) -> bool
         ensures { result ≡ is_unended self.now }
     {
-        !matches!(&self.progress, Progress::Done(_, _))
+        !matches!(&self.progress, Progress::Ended(_, _))
     }
 
     // Runs on a worker from now on.
     pub(crate) fn run_on(&mut self, worker: u32, kind: Kind)
         ensures { self.new ≡ with_state (Running worker kind) self.old }
     {
-        self.progress = Progress::Begun(worker, kind);
+        self.progress = Progress::Running(worker, kind);
     }
 
     // Ends, with the number of its end.
     pub(crate) fn finish(&mut self, end: TaskEnd, number: u64)
-        ensures { self.new ≡ with_state (Over end number) self.old }
+        ensures { self.new ≡ with_state (Ended end number) self.old }
     {
-        self.progress = Progress::Done(end, number);
+        self.progress = Progress::Ended(end, number);
     }
 
     pub(crate) fn request(&mut self)
@@ -264,8 +264,8 @@ impl TaskRecord {
         ensures { end_in (end_of self.state) ≡ Some result }
     {
         match self.progress {
-            Progress::Done(end, _) => end,
-            Progress::Waiting | Progress::Begun(_, _) => unreachable!(),
+            Progress::Ended(end, _) => end,
+            Progress::Scheduled | Progress::Running(_, _) => unreachable!(),
         }
     }
 
@@ -286,7 +286,7 @@ impl TaskRecord {
         ensures { result ≡ runs_as worker Kind.Watch self.now }
     {
         match &self.progress {
-            Progress::Begun(on, Kind::Watch) => *on == worker,
+            Progress::Running(on, Kind::Watch) => *on == worker,
             _ => false,
         }
     }

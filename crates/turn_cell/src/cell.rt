@@ -36,7 +36,7 @@ impl<O: Object> Model for TurnCell<O> {
 }
 
 impl<O: Object> TurnCell<O> {
-    /// A cell over this object, and its seats in the order of their numbers. It fails for want of memory alone; the object is then dropped.
+    /// A cell over this object, and its seats in the order of their numbers. It fails only when out of memory; the object is then dropped.
     pub fn new(alloc: Global, object: O) -> Result<(TurnCell<O>, Vec<TurnSeat<O>>), AllocError>
         requires seats { 0 < O.seat_count (O.terms object) }
         requires stands { O.stands object [] }

@@ -20,7 +20,7 @@ pub record ReadsClean (before now : ℕ) (old new : Option (List ℕ)) : Type 0 
   pub faults : now ≡ before
   pub taken : IfSome old (λ bytes. IfSome new (λ rest. rest ≡ drop 1048577 bytes))
 
--- this holds with each answer but a failed read and want of memory
+-- this holds with each answer but a failed read and `out of memory`
 abbrev pub HoldsBut : Type 0 → Result Workload LoadError → Type 0
 HoldsBut P (Ok load) = P
 HoldsBut P (Err (errors.Refused line cause)) = P

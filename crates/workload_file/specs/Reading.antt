@@ -261,7 +261,7 @@ abbrev pub Fails : {Y : Type 0} → LineError → Result Y Fault → Type 0
 Fails errors.Memory read = Unit {0}
 Fails (errors.Refused f) read = read ≡ Err f
 
--- the answer is what reading gives, want of memory aside
+-- the answer is what reading gives, the answer `out of memory` aside
 abbrev pub Gives : {X : Type 0} → Result X LineError → Result X Fault → Type 0
 Gives (Ok x) read = read ≡ Ok x
 Gives (Err e) read = Fails e read

@@ -8,5 +8,5 @@ returns-clause-one c = record {
   stays = λ P M Q e is i. front_stays _ _ P M Q c.args.t.0 e c.requires is i;
 }
 
-pub returns-clause-told : goal.returns-clause-told
-returns-clause-told c P Q x e cut i = tells_its_end _ _ c.args.t.0 c.requires P Q x e cut i
+pub returns-clause-reported : goal.returns-clause-reported
+returns-clause-reported c P Q x e cut i = tells_its_end _ _ c.args.t.0 c.requires P Q x e cut i

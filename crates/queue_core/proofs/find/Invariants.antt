@@ -1,5 +1,5 @@
 use Rattle.std.proofs.Common.{◌≡◌, true}
-use Rattle.handle_pool.specs.Slots.{NoneBelow}
+use Rattle.handle_pool.specs.Walks.{NoneBelow}
 use Rattle.queue_core.specs.Held.{has_id}
 use Rattle.queue_core.proofs.find.Given as goal
 

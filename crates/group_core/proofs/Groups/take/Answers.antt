@@ -1,5 +1,5 @@
 use Rattle.std.proofs.Common.{◌≡◌, ℕ, List, None, Some, slice_get, refl, sym, subst, ◌∙◌}
-use Rattle.handle_pool.specs.Slots.{slot_of, get, with_value}
+use Rattle.handle_pool.specs.Slots.{slot_of, slot_value, with_value}
 use Rattle.linked_places.specs.Lists.{list_at, without_handle, with_list}
 use Rattle.group_core.specs.Members.{without_first, members_in}
 use Rattle.linked_places.proofs.HandleLemmas.{has-first}
@@ -9,24 +9,24 @@ use Rattle.group_core.proofs.Groups.take.Goals as goal
 
 pub returns-then-not-is_live-clause-task : goal.returns-then-not-is_live-clause-task
 returns-then-not-is_live-clause-task c =
-    let dead = dead_tells c.is_live.result (get c.self.inside.pool c.args.g.0) c.is_live.ensures c.if-not-is_live.true in
+    let dead = dead_tells c.is_live.result (slot_value c.self.inside.pool c.args.g.0) c.is_live.ensures c.if-not-is_live.true in
     rw (get-dead c.self.inside.pool c.self.inside.unended c.self.inside.ended c.args.g.0 c.args.self.now c.self.view_is dead) refl
 
 pub returns-in_default-clause-task : goal.returns-in_default-clause-task
 returns-in_default-clause-task c =
-    let live = live_tells c.is_live.result (get c.self.inside.pool c.args.g.0) c.is_live.ensures c.if-not-is_live.false in
+    let live = live_tells c.is_live.result (slot_value c.self.inside.pool c.args.g.0) c.is_live.ensures c.if-not-is_live.false in
     let none : slice_get (list_at c.self.inside.ended.lists (slot_of c.args.g.0)) 0 ≡ None = rw (← c.slot_of-slot.ensures) (sym c.first.ensures ∙ c.in_default.is) in
     rw (get-live c.self.inside.pool c.self.inside.unended c.self.inside.ended c.args.g.0 c.args.self.now c.self.view_is live, none) refl
 
 pub returns-clause-task : goal.returns-clause-task
 returns-clause-task c =
-    let live = live_tells c.is_live.result (get c.self.inside.pool c.args.g.0) c.is_live.ensures c.if-not-is_live.false in
+    let live = live_tells c.is_live.result (slot_value c.self.inside.pool c.args.g.0) c.is_live.ensures c.if-not-is_live.false in
     let first : slice_get (list_at c.self.inside.ended.lists (slot_of c.args.g.0)) 0 ≡ Some c.in-Some.first = rw (← c.slot_of-slot.ensures) (sym c.first.ensures ∙ c.in-Some.is) in
     rw (get-live c.self.inside.pool c.self.inside.unended c.self.inside.ended c.args.g.0 c.args.self.now c.self.view_is live, first) refl
 
 pub returns-clause-some : goal.returns-clause-some
 returns-clause-some c =
-    let live = live_tells c.is_live.result (get c.self.inside.pool c.args.g.0) c.is_live.ensures c.if-not-is_live.false in
+    let live = live_tells c.is_live.result (slot_value c.self.inside.pool c.args.g.0) c.is_live.ensures c.if-not-is_live.false in
     let list = without_handle c.in-Some.first (list_at c.self.inside.ended.lists (slot_of c.args.g.0)) in
     let first : slice_get (list_at c.self.inside.ended.lists (slot_of c.args.g.0)) 0 ≡ Some c.in-Some.first = rw (← c.slot_of-slot.ensures) (sym c.first.ensures ∙ c.in-Some.is) in
     let P : List ℕ → Type 0 = λ l. members_in c.self.inside.pool c.self.inside.unended (with_list c.self.inside.ended (slot_of c.args.g.0) list) ≡ with_value (members_in c.self.inside.pool c.self.inside.unended c.self.inside.ended) c.args.g.0 (record { unended = list_at c.self.inside.unended.lists (slot_of c.args.g.0); ended = l }) in
@@ -35,7 +35,7 @@ returns-clause-some c =
 
 pub first-requires : goal.first-requires
 first-requires c =
-    let live = live_tells c.is_live.result (get c.self.inside.pool c.args.g.0) c.is_live.ensures c.if-not-is_live.false in
+    let live = live_tells c.is_live.result (slot_value c.self.inside.pool c.args.g.0) c.is_live.ensures c.if-not-is_live.false in
     rw c.slot_of-slot.ensures (within_ended c.self.inside.pool c.self.inside.unended c.self.inside.ended c.args.g.0 c.self.invariant live)
 
 pub remove-requires : goal.remove-requires
@@ -45,5 +45,5 @@ remove-requires c =
 
 pub invariant_of-self : goal.invariant_of-self
 invariant_of-self c =
-    let live = live_tells c.is_live.result (get c.self.inside.pool c.args.g.0) c.is_live.ensures c.if-not-is_live.false in
+    let live = live_tells c.is_live.result (slot_value c.self.inside.pool c.args.g.0) c.is_live.ensures c.if-not-is_live.false in
     rw (c.remove.ensures.new, c.slot_of-slot.ensures) (AreGroups-taken c.self.inside.pool c.self.inside.unended c.self.inside.ended c.args.g.0 c.self.invariant live (without_handle c.in-Some.first (list_at c.self.inside.ended.lists (slot_of c.args.g.0))) (λ q. stands-without q c.in-Some.first (list_at c.self.inside.ended.lists (slot_of c.args.g.0))))

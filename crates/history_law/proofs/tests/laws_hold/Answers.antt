@@ -25,5 +25,8 @@ law_drop-requires c = empty_legal c.new-settings.result c.new-settings.ensures
 pub law_kind-requires : goal.law_kind-requires
 law_kind-requires c = empty_legal c.new-settings.result c.new-settings.ensures
 
-pub law_sems-requires : goal.law_sems-requires
-law_sems-requires c = empty_legal c.new-settings.result c.new-settings.ensures
+pub law_exclusion-requires : goal.law_exclusion-requires
+law_exclusion-requires c = empty_legal c.new-settings.result c.new-settings.ensures
+
+pub law_tally-requires : goal.law_tally-requires
+law_tally-requires c = empty_legal c.new-settings.result c.new-settings.ensures

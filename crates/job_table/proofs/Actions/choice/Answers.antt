@@ -1,5 +1,6 @@
 use Rattle.std.proofs.Common.{◌≡◌, ◌%◌, ℕ, length, sym, subst, ◌∙◌, arith}
-use Rattle.handle_pool.specs.Slots.{Slots, get, NoneLive}
+use Rattle.handle_pool.specs.Slots.{Slots, slot_value}
+use Rattle.handle_pool.specs.Walks.{NoneLive}
 use Rattle.linked_places.specs.Lists.{list_at}
 use Rattle.linked_places.proofs.NextLemmas.{index-has}
 use Rattle.mtapi_objects.specs.Actions.{Action}
@@ -38,5 +39,5 @@ returns c =
     let all : c.loop-index._index ≡ length hs = omega (arith, c.loop-index-test.false, c.len-index-end.ensures.count, c.loop-index.auto._index-end) in
     let test = Passes (runs_job_on c.args.job c.args.worker) in
     let done = subst (λ (k : ℕ). NoneBefore c.self.inside.pool hs k test) all c.loop-index.invariant.1 in
-    let list = subst (λ (m : ℕ). NoneBefore c.self.inside.pool (list_at c.self.inside.jobs.lists (c.args.job % m)) (length (list_at c.self.inside.jobs.lists (c.args.job % m))) test) c.max.ensures done in
-    subst (λ (p : Slots Action). NoneLive (get p) test) c.self.view_is (none-of c.self.inside.pool c.self.inside.jobs c.args.job c.self.invariant (runs_job_on c.args.job c.args.worker) (runs-job c.args.job c.args.worker) list)
+    let list = subst (λ (m : ℕ). NoneBefore c.self.inside.pool (list_at c.self.inside.jobs.lists (c.args.job % m)) (length (list_at c.self.inside.jobs.lists (c.args.job % m))) test) c.max.ensures.value done in
+    subst (λ (p : Slots Action). NoneLive (slot_value p) test) c.self.view_is (none-of c.self.inside.pool c.self.inside.jobs c.args.job c.self.invariant (runs_job_on c.args.job c.args.worker) (runs-job c.args.job c.args.worker) list)

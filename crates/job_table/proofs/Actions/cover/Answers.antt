@@ -35,5 +35,5 @@ returns c =
     let hs = list_at c.self.inside.jobs.lists (c.args.job % c.max.result) in
     let all : c.loop-index._index ≡ length hs = omega (arith, c.loop-index-test.false, c.len-index-end.ensures.count, c.loop-index.auto._index-end) in
     let done = subst (λ (k : ℕ). CoversBefore c.self.inside.pool hs k c.args.job c.loop-index.cover) all c.loop-index.invariant.1 in
-    let list = subst (λ (m : ℕ). CoversBefore c.self.inside.pool (list_at c.self.inside.jobs.lists (c.args.job % m)) (length (list_at c.self.inside.jobs.lists (c.args.job % m))) c.args.job c.loop-index.cover) c.max.ensures done in
+    let list = subst (λ (m : ℕ). CoversBefore c.self.inside.pool (list_at c.self.inside.jobs.lists (c.args.job % m)) (length (list_at c.self.inside.jobs.lists (c.args.job % m))) c.args.job c.loop-index.cover) c.max.ensures.value done in
     subst (λ (p : Slots Action). Covers p c.args.job c.loop-index.cover) c.self.view_is (Covers-all c.self.inside.pool c.self.inside.jobs c.args.job c.loop-index.cover c.self.invariant list)

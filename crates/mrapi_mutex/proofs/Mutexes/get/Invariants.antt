@@ -1,4 +1,4 @@
-use Rattle.handle_pool.specs.Slots.{NoneBelow}
+use Rattle.handle_pool.specs.Walks.{NoneBelow}
 use Rattle.mrapi_mutex.specs.Calls.{HasId}
 use Rattle.mrapi_mutex.proofs.Mutexes.get.Given as goal
 

@@ -1,4 +1,4 @@
-use Rattle.handle_pool.specs.Slots.{NoneBelow}
+use Rattle.handle_pool.specs.Walks.{NoneBelow}
 use Rattle.mrapi_shmem.specs.Calls.{HasId}
 use Rattle.mrapi_shmem.proofs.Segments.get.Given as goal
 

@@ -1,15 +1,13 @@
 use Rattle.std.proofs.Common.{◌≡◌, ℕ, ◌≤◌, [], replicate, sym, ◌∙◌, ap, arith}
 use Rattle.mtapi_values.specs.Attributes.{NodeSettings}
-use Rattle.mtapi_values.specs.declared.handles.ObjectKind.{ObjectKind}
 use Rattle.handle_pool.specs.Slots.{Slots, free_slot}
-use Rattle.mtapi_machine.specs.State.{mutexes, sems, rwls, segments}
 use Rattle.node_resources.specs.Holds.{Holds}
 use Rattle.node_resources.proofs.HoldsLemmas.{holds_new}
 use Rattle.node_resources.proofs.Resources.init.Goals as goal
 
-fresh : {M T : Type 0} (k : ObjectKind) (f : ℕ → M → T) (p : Slots T) (size turns max generations : ℕ) → size ≡ max → turns ≡ generations → 1 ≤ generations → max ≤ 256 → p.generations ≡ generations → p.slots ≡ replicate max (free_slot 1) → Holds k f size turns p []
-fresh k f p size turns max generations m g once few a b =
-    holds_new k f size turns p (omega (arith, g, once)) (omega (arith, m, few)) (a ∙ sym g) (b ∙ ap (λ n. replicate n (free_slot 1)) (sym m))
+fresh : {T : Type 0} (p : Slots T) (size turns max generations : ℕ) → size ≡ max → turns ≡ generations → 1 ≤ generations → max ≤ 256 → p.generations ≡ generations → p.slots ≡ replicate max (free_slot 1) → Holds size turns p []
+fresh p size turns max generations m g once few a b =
+    holds_new size turns p (omega (arith, g, once)) (omega (arith, m, few)) (a ∙ sym g) (b ∙ ap (λ n. replicate n (free_slot 1)) (sym m))
 
 pub returns : goal.returns
 returns c t e =
@@ -18,8 +16,8 @@ returns c t e =
     let once = c.generations-generations.ensures.range.0 in
     let few = c.objects-max.ensures.range.1 in
     record {
-      mutexes = fresh mutexes.kind (λ h x. x) c.in_ok-new.field-0 t.settings.objects t.settings.generations _ _ m g once few c.in_ok-new.ensures.generations c.in_ok-new.ensures.slots;
-      sems = fresh sems.kind (λ h x. x) c.in_ok-new-2.field-0 t.settings.objects t.settings.generations _ _ m g once few c.in_ok-new-2.ensures.generations c.in_ok-new-2.ensures.slots;
-      rwls = fresh rwls.kind (λ h x. x) c.in_ok-new-3.field-0 t.settings.objects t.settings.generations _ _ m g once few c.in_ok-new-3.ensures.generations c.in_ok-new-3.ensures.slots;
-      segments = fresh segments.kind (λ h x. x) c.in_ok-new-4.field-0 t.settings.objects t.settings.generations _ _ m g once few c.in_ok-new-4.ensures.generations c.in_ok-new-4.ensures.slots;
+      mutexes = fresh c.in_ok-new.field-0 t.settings.objects t.settings.generations _ _ m g once few c.in_ok-new.ensures.generations c.in_ok-new.ensures.slots;
+      sems = fresh c.in_ok-new-2.field-0 t.settings.objects t.settings.generations _ _ m g once few c.in_ok-new-2.ensures.generations c.in_ok-new-2.ensures.slots;
+      rwls = fresh c.in_ok-new-3.field-0 t.settings.objects t.settings.generations _ _ m g once few c.in_ok-new-3.ensures.generations c.in_ok-new-3.ensures.slots;
+      segments = fresh c.in_ok-new-4.field-0 t.settings.objects t.settings.generations _ _ m g once few c.in_ok-new-4.ensures.generations c.in_ok-new-4.ensures.slots;
     }

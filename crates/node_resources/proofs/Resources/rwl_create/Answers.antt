@@ -19,10 +19,10 @@ returns c s a v =
     let g = sym c.in_default.is ∙ c.open_refusal.ensures in
     elim c.match-create.branch [
       | in-Ok w ↦
-          rwls_do s c.args.who (op.RwlCreate c.args.id c.args.limit) _ (the_view c.self.inside) t c.match-create.result c.create.new.self (w.result-is ∙ w.outward.ensures.value)
+          rwls_do s c.args.who (op.RwlCreate c.args.id c.args.limit) _ (the_view c.self.inside) t c.match-create.result c.create.new.self w.result-is
           (past_open Rwls s c.args.gate c.args.who a _ _ _ g
           (past Rwls s (rwl_create_refusals c.args.limit) _ _ _ w.in-Ok.ensures.in_range
-          (creates_does Rwls s keyed_rwls p t.rwls x c.args.id w.in-Ok.rwl.0 c.create.new.self refl w.in-Ok.ensures.new_id w.in-Ok.ensures.room w.in-Ok.ensures.made w.outward.ensures.back)))
+          (creates_does Rwls s keyed_rwls p t.rwls x c.args.id w.in-Ok.rwl.0 c.create.new.self refl w.in-Ok.ensures.new_id w.in-Ok.ensures.room w.in-Ok.ensures.made a.layout)))
       | in-Err w ↦
           rwls_do s c.args.who (op.RwlCreate c.args.id c.args.limit) _ (the_view c.self.inside) t c.match-create.result c.create.new.self w.result-is
           (past_open Rwls s c.args.gate c.args.who a _ _ _ g

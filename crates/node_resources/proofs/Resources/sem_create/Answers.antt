@@ -19,10 +19,10 @@ returns c s a v =
     let g = sym c.in_default.is ∙ c.open_refusal.ensures in
     elim c.match-create.branch [
       | in-Ok w ↦
-          sems_do s c.args.who (op.SemCreate c.args.id c.args.limit) _ (the_view c.self.inside) t c.match-create.result c.create.new.self (w.result-is ∙ w.outward.ensures.value)
+          sems_do s c.args.who (op.SemCreate c.args.id c.args.limit) _ (the_view c.self.inside) t c.match-create.result c.create.new.self w.result-is
           (past_open Sems s c.args.gate c.args.who a _ _ _ g
           (past Sems s (sem_create_refusals c.args.limit) _ _ _ w.in-Ok.ensures.in_range
-          (creates_does Sems s keyed_sems p t.sems x c.args.id w.in-Ok.sem.0 c.create.new.self refl w.in-Ok.ensures.new_id w.in-Ok.ensures.room w.in-Ok.ensures.made w.outward.ensures.back)))
+          (creates_does Sems s keyed_sems p t.sems x c.args.id w.in-Ok.sem.0 c.create.new.self refl w.in-Ok.ensures.new_id w.in-Ok.ensures.room w.in-Ok.ensures.made a.layout)))
       | in-Err w ↦
           sems_do s c.args.who (op.SemCreate c.args.id c.args.limit) _ (the_view c.self.inside) t c.match-create.result c.create.new.self w.result-is
           (past_open Sems s c.args.gate c.args.who a _ _ _ g

@@ -15,10 +15,10 @@ pub returns-in-Ok : goal.returns-in-Ok
 returns-in-Ok c s a v =
     let w = subst (λ (t : ResourceTable). Stands s t) (sym c.self.view_is) v in
     let p = c.self.inside.sems in
-    subst (λ (t : ResourceTable). Does s c.args.who (op.SemGet c.args.id) c.outward.result t) c.self.view_is
-    (sems_do s c.args.who (op.SemGet c.args.id) _ (the_view c.self.inside) w c.outward.result p c.outward.ensures.value
+    subst (λ (t : ResourceTable). Does s c.args.who (op.SemGet c.args.id) (reply.Handle c.in-Ok.sem.0) t) c.self.view_is
+    (sems_do s c.args.who (op.SemGet c.args.id) _ (the_view c.self.inside) w (reply.Handle c.in-Ok.sem.0) p refl
     (past_up Sems s c.args.gate c.args.who a _ _ _ (sym c.in_default.is ∙ c.refusal.ensures)
-    (gets_does Sems s keyed_sems p w.sems c.args.id c.in-Ok.sem.0 c.in-Ok.ensures.only c.in-Ok.ensures.found c.outward.ensures.back)))
+    (gets_does Sems s keyed_sems p w.sems c.args.id c.in-Ok.sem.0 c.in-Ok.ensures.only c.in-Ok.ensures.found)))
 
 pub returns-in-Err : goal.returns-in-Err
 returns-in-Err c s a v =

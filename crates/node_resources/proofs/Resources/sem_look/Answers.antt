@@ -22,6 +22,6 @@ returns c s a v =
     let w = subst (λ (t : ResourceTable). Stands s t) (sym c.self.view_is) v in
     sems_do s c.args.who (op.SemLook c.args.sem c.args.last) _ (the_view c.self.inside) w c.looked.result c.look.new.self c.looked.ensures
     (past_up Sems s c.args.gate c.args.who a _ _ _ (sym c.in_default.is ∙ c.refusal.ensures)
-    (looks_does Sems s c.self.inside.sems w.sems ErrSemInvalid refl c.args.sem.0 c.inner.result.0 c.inner.ensures (λ u. reply.Ok) (λ x. tt) (λ x. []) sem_busy (sem_taken c.args.who) c.args.last
+    (looks_does Sems s c.self.inside.sems w.sems ErrSemInvalid refl c.args.sem.0 (λ u. reply.Ok) (λ x. tt) (λ x. []) sem_busy (sem_taken c.args.who) c.args.last
     (sem_after_look c.args.who) (λ x e. takes c.args.who x (sem_busy x) e)
     c.look.result c.look.new.self c.look.ensures.reply c.look.ensures.new c.look.ensures.unchanged))

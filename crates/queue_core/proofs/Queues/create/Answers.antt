@@ -1,9 +1,10 @@
-use Rattle.std.proofs.Common.{◌≡◌, refl, sym, ap, subst, ◌∙◌}
-use Rattle.handle_pool.specs.Slots.{Slots}
+use Rattle.std.proofs.Common.{◌≡◌, ℕ, refl, sym, ap, subst, ◌∙◌}
+use Rattle.handle_pool.specs.Slots.{Slots, slot_value}
+use Rattle.handle_pool.specs.Walks.{NoneLive}
 use Rattle.mtapi_objects.specs.Queues.{Queue}
 use Rattle.queue_core.specs.Held.{QueueTable, table_of}
 use Rattle.std.proofs.lemmas.Bool.{false≢true}
-use Rattle.queue_core.proofs.QueueLemmas.{not_found, full_held, room_held, AreQueues-create, Inserts-held}
+use Rattle.queue_core.proofs.QueueLemmas.{not_found, none_has, full_held, room_held, AreQueues-create, Inserts-held}
 use Rattle.queue_core.proofs.Queues.create.Goals as goal
 
 pub returns-in_default : goal.returns-in_default
@@ -13,7 +14,10 @@ returns-in_default c =
     (none, full_held c.self.inside.pool c.self.inside.tasks c.args.self.now c.self.view_is (c.in_default.ensures.full.0 refl), subst P (sym c.in_default.ensures.unchanged) c.self.view_is)
 
 pub invariant_of-self-2 : goal.invariant_of-self-2
-invariant_of-self-2 c = AreQueues-create c.self.inside.pool c.self.inside.tasks c.insert.new.self c.in-Ok.handle c.new.result c.in-Ok.ensures.inserts c.self.invariant
+invariant_of-self-2 c =
+    let none = not_found c.args.self.now.pool c.args.id c.get.result c.get.ensures (sym c.is_ok.ensures.value ∙ c.if-is_ok.false) in
+    let ids = subst (λ (id : ℕ). NoneLive (slot_value c.self.inside.pool) (λ (x : Queue). x.id ≡ id)) (ap (λ (x : Queue). x.id) (sym c.new.ensures)) (none_has c.self.inside.pool c.self.inside.tasks c.args.self.now c.args.id c.self.view_is none) in
+    AreQueues-create c.self.inside.pool c.self.inside.tasks c.insert.new.self c.in-Ok.handle c.new.result c.in-Ok.ensures.inserts ids c.self.invariant
 
 pub returns : goal.returns
 returns c =

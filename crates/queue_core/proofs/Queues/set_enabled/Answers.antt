@@ -1,6 +1,6 @@
-use Rattle.std.proofs.Common.{refl, sym}
+use Rattle.std.proofs.Common.{refl, sym, ap}
 use Rattle.handle_pool.specs.Slots.{with_value}
-use Rattle.mtapi_objects.specs.Queues.{opened}
+use Rattle.mtapi_objects.specs.Queues.{Queue, opened}
 use Rattle.queue_core.specs.Held.{with_opened}
 use Rattle.queue_core.proofs.QueueLemmas.{get-live, get-dead, dead_unchanged, view_changed, value-changed, AreQueues-value}
 use Rattle.queue_core.proofs.Queues.set_enabled.Goals as goal
@@ -12,7 +12,7 @@ pub returns-in_default-clause-new : goal.returns-in_default-clause-new
 returns-in_default-clause-new c = dead_unchanged c.self.inside.pool c.self.inside.tasks c.args.q.0 c.args.self.now (with_opened c.args.enabled) c.self.view_is (sym c.in_default.ensures.value)
 
 pub invariant_of-self-2 : goal.invariant_of-self-2
-invariant_of-self-2 c = AreQueues-value c.self.inside.pool c.self.inside.tasks c.args.q.0 c.self.invariant c.in-Some.queue.now (sym c.in-Some.ensures.value) c.set_enabled.new.self
+invariant_of-self-2 c = AreQueues-value c.self.inside.pool c.self.inside.tasks c.args.q.0 c.self.invariant c.in-Some.queue.now (sym c.in-Some.ensures.value) c.set_enabled.new.self (ap (λ (x : Queue). x.id) c.set_enabled.ensures)
 
 pub returns-clause-reply : goal.returns-clause-reply
 returns-clause-reply c = rw (get-live c.self.inside.pool c.self.inside.tasks c.args.q.0 c.args.self.now c.in-Some.queue.now c.self.view_is (sym c.in-Some.ensures.value)) refl

@@ -2,9 +2,8 @@ use Rattle.std.proofs.Common.{◌≡◌, ◌++◌, drop}
 use Rattle.run_report.specs.Calls.{task_lines_of}
 use Rattle.std.specs.Ordering.{nat_cmp}
 use Rattle.std.specs.BTreeMap.{get}
-use Rattle.run_report.specs.Standings.{ends_of}
 use Rattle.run_report.proofs.task_lines.push_task_lines.Given as goal
 
 abbrev pub invariant-loop-i : goal.invariant-loop-i
 invariant-loop-i l =
-    l.out.items ++ task_lines_of l.part (ends_of (get nat_cmp l.standings)) (drop l.i l.statements) (drop l.i l.replies) ≡ l.fn.out.items ++ task_lines_of l.part (ends_of (get nat_cmp l.standings)) l.statements l.replies
+    l.out.items ++ task_lines_of l.part (get nat_cmp l.ended) (drop l.i l.statements) (drop l.i l.replies) ≡ l.fn.out.items ++ task_lines_of l.part (get nat_cmp l.ended) l.statements l.replies

@@ -1,6 +1,6 @@
 use Rattle.std.proofs.Common.{ap}
 use Rattle.run_report.specs.Report.{report}
-use Rattle.run_report.proofs.Parts.{if_ok, legal_same, supported_same}
+use Rattle.run_report.proofs.Parts.{if_ok, legal_same}
 use Rattle.run_report.proofs.whole.report_of.Goals as goal
 
 pub report_of_entries-requires : goal.report_of_entries-requires
@@ -8,7 +8,6 @@ report_of_entries-requires c = record {
   legal =
       legal_same c.args.journal.now.layout c.args.load.now c.args.journal.now.settings c.args.journal.now.callers c.as_slice.result.now c.args.journal.now.entries.entries
       c.requires.settings c.requires.callers c.as_slice.ensures c.requires.legal;
-  supported = supported_same c.as_slice.result.now c.args.journal.now.entries.entries c.as_slice.ensures c.requires.supported;
 }
 
 pub returns : goal.returns

@@ -1,10 +1,11 @@
 use Rattle.std.proofs.Common.{◌≡◌, slice_get}
 use Rattle.linked_places.specs.Lists.{list_at}
 use Rattle.task_board.specs.Seen.{seen_in}
+use Rattle.task_board.specs.Queued.{begins_in}
 use Rattle.task_board.specs.Board.{Remarked}
 use Rattle.task_board.proofs.marks.remark.Given as goal
 
 abbrev pub invariant-loop-index : goal.invariant-loop-index
 invariant-loop-index l =
     (l.next ≡ slice_get (list_at l.waiting.lists 0) l._index)
-    × Remarked l.actions (seen_in l.tasks.pool) l.job (list_at l.waiting.lists 0) l._index l.fn.ready l.ready
+    × Remarked l.actions (begins_in l.queues.pool) (seen_in l.tasks.pool) l.job (list_at l.waiting.lists 0) l._index l.fn.ready l.ready

@@ -61,15 +61,15 @@ use Rattle.handle_pool.proofs.row.Row.allocate.Code as code
 
 module _ {M : Type 1} {𝓤 : Ura M} (𝓛 : Logic 𝓤) (τ : Ty) where
   -- what the heap answered, by its machine value
-  told : (v : Val) (r : Answer.Denot) → ent 𝓤 (sep 𝓤 (sem 𝓛 (Answer.own_val r (v ∷ []))) (sem 𝓛 (block_if_ok chunk τ r)))
+  reported : (v : Val) (r : Answer.Denot) → ent 𝓤 (sep 𝓤 (sem 𝓛 (Answer.own_val r (v ∷ []))) (sem 𝓛 (block_if_ok chunk τ r)))
       (ex 𝓤 (λ (c : Bool × (ℕ × ℕ)). guard 𝓤 (v ≡ answer_val c.0 c.1.0 c.1.1) (sem 𝓛 (got chunk τ c.0 c.1.0 c.1.1))))
-  told v (Ok p) =
+  reported v (Ok p) =
       qed 𝓛 (‵ (Answer.own_val (Ok p) (v ∷ [])) ∷ ‵ (fsep (room_for τ p) (chunk τ p)) ∷ []) ∵
       fpick ! (λ us. fsplit ! $ feq_l ! (λ e. fpick ! (λ vss. fsplit ! $ feq_l ! (λ e'. fsplit ! $ feq_l ! (λ e''. drop ! $
       in_a_block ! p (λ z. fsep (room_for τ z) (chunk τ z)) (fst∗ 𝓤 (never 𝓤) (sem 𝓛 (chunk τ null_ptr))) (λ b o at.
       show ! (λ (c : Bool × (ℕ × ℕ)). guard 𝓤 (v ≡ answer_val c.0 c.1.0 c.1.1) (sem 𝓛 (got chunk τ c.0 c.1.0 c.1.1))) (true, (b, o)) $
       check ! (ap only e ∙ ap (λ (ws : List Val). live 0 (of_list ws)) (e' ∙ ap (λ (ws : List Val). ws ++ []) (e'' ∙ ap (λ (z : Ptr). ptr_val z ∷ []) at))) $ done !))))))
-  told v (Err n) =
+  reported v (Err n) =
       qed 𝓛 (‵ (Answer.own_val (Err n) (v ∷ [])) ∷ ‵ ftrue ∷ []) ∵
       fpick ! (λ us. fsplit ! $ feq_l ! (λ e. fpick ! (λ vss. fsplit ! $ feq_l ! (λ e'. fsplit ! $ fpick ! (λ none. fsplit ! $ feq_l ! (λ e''. keep ! [] $
       show ! (λ (c : Bool × (ℕ × ℕ)). guard 𝓤 (v ≡ answer_val c.0 c.1.0 c.1.1) (sem 𝓛 (got chunk τ c.0 c.1.0 c.1.1))) (false, (0, 0)) $
@@ -128,7 +128,7 @@ allocate_spec 𝓤 𝓛 𝓜 𝓡 wired X L =
     use1 𝓛 (later (some (λ (u : Answer.Denot). ((‵ (flft κ q) ⊛ ‵ ftrue) ⊛ ‵ (Answer.own_val u (v ∷ []))) ⊛
     some (λ (ws : Unit {0} × (Unit {0} × (Unit {0} × Unit {0}))). ‵ (fsep ftrue (fsep ftrue (fsep ftrue ftrue))) ⊛ ‵ (block_if_ok chunk (bare τ) u))))) (id⊢ 𝓤 _) $ await ! tt $ pick ! (λ u.
     split ! $ move ! (1 ∷ []) $ pick ! (λ ws. split ! $ drop ! $ move ! (1 ∷ []) $ split ! $ split ! $ move ! (2 ∷ 3 ∷ []) $
-    use2 𝓛 (some (λ (w : Bool × (ℕ × ℕ)). given (v ≡ answer_val w.0 w.1.0 w.1.1) (‵ (got chunk (bare τ) w.0 w.1.0 w.1.1)))) (told 𝓛 (bare τ) v u) $ pick ! (λ w. learn ! (λ said.
+    use2 𝓛 (some (λ (w : Bool × (ℕ × ℕ)). given (v ≡ answer_val w.0 w.1.0 w.1.1) (‵ (got chunk (bare τ) w.0 w.1.0 w.1.1)))) (reported 𝓛 (bare τ) v u) $ pick ! (λ w. learn ! (λ said.
     by_answer (bare τ) ! v w.0 w.1.0 w.1.1 said
     (λ e. let b = w.1.0 in let o = w.1.1 in
     let d : Row X.Denot = record { at = block_ptr b o; items = []; room = n } in

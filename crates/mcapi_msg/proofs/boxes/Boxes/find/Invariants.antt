@@ -1,4 +1,4 @@
-use Rattle.handle_pool.specs.Slots.{NoneBelow}
+use Rattle.handle_pool.specs.Walks.{NoneBelow}
 use Rattle.mcapi_msg.specs.Boxes.{HasPort}
 use Rattle.mcapi_msg.proofs.boxes.Boxes.find.Given as goal
 

@@ -1,5 +1,6 @@
 use Rattle.std.proofs.Common.{◌≡◌, length, vec_len, refl, sym, ap, subst, rules}
-use Rattle.handle_pool.specs.Slots.{Slots, get, NoneLive, Inserts}
+use Rattle.handle_pool.specs.Slots.{Slots, slot_value, Inserts}
+use Rattle.handle_pool.specs.Walks.{NoneLive}
 use Rattle.mcapi_msg.specs.declared.boxes.Mailbox.{Mailbox}
 use Rattle.mcapi_msg.specs.Rings.{RingTable, empty_rings}
 use Rattle.mcapi_msg.specs.Boxes.{BoxTable, HasPort, HasFree, new_mailbox}
@@ -19,7 +20,7 @@ pub invariant_of-self : goal.invariant_of-self
 invariant_of-self c =
     let same = ap (λ (t : BoxTable). t.pool) c.self.view_is in
     let m : Mailbox = record { port = c.args.port; owner = c.args.owner; rings = c.in-Some.rings } in
-    let new : NoneLive (get c.self.inside.pool) (HasPort c.args.port) = subst (λ (p : Slots Mailbox). NoneLive (get p) (HasPort c.args.port)) (sym same) c.requires.new_port in
+    let new : NoneLive (slot_value c.self.inside.pool) (HasPort c.args.port) = subst (λ (p : Slots Mailbox). NoneLive (slot_value p) (HasPort c.args.port)) (sym same) c.requires.new_port in
     rw c.pop.ensures.capacity
     (kept-insert c.self.inside.limit _ c.in-Ok.handle c.self.inside.pool c.insert.new.self m c.in-Some.rings c.self.inside.spare.items c.pop.new.self.items c.self.invariant c.in-Some.ensures.items refl new c.in-Ok.ensures.inserts)
 

@@ -1,4 +1,4 @@
-use Rattle.handle_pool.specs.Slots.{NoneBelow}
+use Rattle.handle_pool.specs.Walks.{NoneBelow}
 use Rattle.mrapi_counting.specs.SemCalls.{HasId}
 use Rattle.mrapi_counting.proofs.semaphores.Sems.get.Given as goal
 

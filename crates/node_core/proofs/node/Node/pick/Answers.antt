@@ -7,16 +7,16 @@ use Rattle.node_core.proofs.node.Node.pick.Goals as goal
 
 pub take-requires-clause-choice : goal.take-requires-clause-choice
 take-requires-clause-choice c =
-    let best = subst (λ (o : Option Choice). IsBest c.args.self.now.board.actions c.args.self.now.board.tasks.pool c.args.who o) c.in-Some.is c.best.ensures in
+    let best = subst (λ (o : Option Choice). IsBest c.args.self.now.board.actions c.args.self.now.board.tasks.pool c.args.self.now.board.queues.pool c.args.who o) c.in-Some.is c.best.ensures in
     best.0
 
 pub returns-in-None : goal.returns-in-None
 returns-in-None c l v =
-    pick_idle c.args.self.now l c.args.who v (omega arith) (c.runs_any.ensures.told l v ∙ c.if-runs_any.false) (sym c.if-is_new.ensures) (c.stops.ensures l v ∙ c.if-stops.false)
-    (subst (λ (o : Option Choice). IsBest c.args.self.now.board.actions c.args.self.now.board.tasks.pool c.args.who o) c.in-None.is c.best.ensures)
+    pick_idle c.args.self.now l c.args.who v c.is_kept.ensures (omega arith) (c.runs_any.ensures.reported l v ∙ c.if-runs_any.false) (sym c.if-is_new.ensures) (c.stops.ensures l v ∙ c.if-stops.false)
+    (subst (λ (o : Option Choice). IsBest c.args.self.now.board.actions c.args.self.now.board.tasks.pool c.args.self.now.board.queues.pool c.args.who o) c.in-None.is c.best.ensures)
 
 pub returns-in-Some : goal.returns-in-Some
 returns-in-Some c l v =
-    pick_takes c.args.self.now l c.args.who v (omega arith) (c.runs_any.ensures.told l v ∙ c.if-runs_any.false) (sym c.if-is_new.ensures) (c.stops.ensures l v ∙ c.if-stops.false) c.in-Some.choice c.take.result c.take.new.self
-    (subst (λ (o : Option Choice). IsBest c.args.self.now.board.actions c.args.self.now.board.tasks.pool c.args.who o) c.in-Some.is c.best.ensures)
+    pick_takes c.args.self.now l c.args.who v c.is_kept.ensures (omega arith) (c.runs_any.ensures.reported l v ∙ c.if-runs_any.false) (sym c.if-is_new.ensures) (c.stops.ensures l v ∙ c.if-stops.false) c.in-Some.choice c.take.result c.take.new.self
+    (subst (λ (o : Option Choice). IsBest c.args.self.now.board.actions c.args.self.now.board.tasks.pool c.args.self.now.board.queues.pool c.args.who o) c.in-Some.is c.best.ensures)
     c.take.ensures

@@ -1,6 +1,7 @@
 use Rattle.std.proofs.Common.{refl, sym, subst, ◌∙◌}
 use Rattle.std.specs.Bool.{OnTrue, OnFalse}
-use Rattle.handle_pool.specs.Slots.{get, SomeLive, NoneLive}
+use Rattle.handle_pool.specs.Slots.{slot_value}
+use Rattle.handle_pool.specs.Walks.{SomeLive, NoneLive}
 use Rattle.job_table.specs.Answers.{Passes}
 use Rattle.mtapi_objects.specs.Tasks.{runs_on}
 use Rattle.task_board.specs.Board.{BoardTable, running_on}
@@ -9,12 +10,12 @@ use Rattle.task_board.proofs.board.Board.is_running.Goals as goal
 
 pub returns-clause-some : goal.returns-clause-some
 returns-clause-some c =
-    let b : BoardTable = record { settings = c.self.inside.settings; actions = c.self.inside.actions; tasks = c.self.inside.tasks; ready = c.self.inside.ready; waiting = c.self.inside.waiting; running = c.self.inside.running } in
-    subst (λ (k : BoardTable). OnTrue c.is_some.result (SomeLive (get k.tasks.pool) (Passes (runs_on c.args.worker)))) c.self.view_is
+    let b : BoardTable = record { settings = c.self.inside.settings; actions = c.self.inside.actions; tasks = c.self.inside.tasks; queues = c.self.inside.queues; ready = c.self.inside.ready; waiting = c.self.inside.waiting; running = c.self.inside.running; groups = c.self.inside.groups } in
+    subst (λ (k : BoardTable). OnTrue c.is_some.result (SomeLive (slot_value k.tasks.pool) (Passes (runs_on c.args.worker)))) c.self.view_is
     (on-true c.is_some.result (λ e. running-tells b c.args.worker (running_on b.running c.args.worker) c.self.invariant refl (sym c.is_some.ensures ∙ e)))
 
 pub returns-clause-none : goal.returns-clause-none
 returns-clause-none c =
-    let b : BoardTable = record { settings = c.self.inside.settings; actions = c.self.inside.actions; tasks = c.self.inside.tasks; ready = c.self.inside.ready; waiting = c.self.inside.waiting; running = c.self.inside.running } in
-    subst (λ (k : BoardTable). OnFalse c.is_some.result (NoneLive (get k.tasks.pool) (Passes (runs_on c.args.worker)))) c.self.view_is
+    let b : BoardTable = record { settings = c.self.inside.settings; actions = c.self.inside.actions; tasks = c.self.inside.tasks; queues = c.self.inside.queues; ready = c.self.inside.ready; waiting = c.self.inside.waiting; running = c.self.inside.running; groups = c.self.inside.groups } in
+    subst (λ (k : BoardTable). OnFalse c.is_some.result (NoneLive (slot_value k.tasks.pool) (Passes (runs_on c.args.worker)))) c.self.view_is
     (on-false c.is_some.result (λ e. running-denies b c.args.worker (running_on b.running c.args.worker) c.self.invariant refl (sym c.is_some.ensures ∙ e)))

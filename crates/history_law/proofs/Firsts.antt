@@ -1,0 +1,120 @@
+-- What is known of the first live object that passes, and of two live ones where at most one passes.
+use Rattle.std.proofs.Common.{◌≡◌, ℕ, ◌+◌, ◌≤◌, Bool, true, false, cond, List, [], ◌∷◌, Some, refl, sym, ◌∙◌, ap, subst, arith}
+use Rattle.std.specs.Prelude.{◌==◌, ◌&&◌, is_some}
+use Rattle.std.proofs.lemmas.Bool.{eq-eqb}
+use Rattle.handle_pool.specs.Issued.{Listed, live_of, live_object, listed, count_listed, first_handle}
+use Rattle.mtapi_machine.proofs.Changes.{some_same}
+use Rattle.history_law.proofs.Answered.{true_false}
+use Rattle.history_law.proofs.Handles.{OnceIn}
+use Rattle.history_law.proofs.Ages.{live_listed}
+use Rattle.history_law.proofs.Found.{at_skip, at_dead, at_here}
+
+handle_same : {a b : ℕ} → Some a ≡ Some b → a ≡ b
+handle_same i = cc
+
+module _ {T : Type 0} where
+  pub rest_once : (r : Listed T) (rs : List (Listed T)) → OnceIn (r ∷ rs) → OnceIn rs
+  unfolding listed
+  rest_once r rs o j = let k : cond {A = ℕ} (r.handle == j) 1 0 + listed j rs ≤ 1 = o j in omega arith
+
+  -- a head that has the handle has it alone
+  pub head_alone : (r : Listed T) (rs : List (Listed T)) (h : ℕ) → OnceIn (r ∷ rs) → is_some (live_object rs h) ≡ true → (r.handle == h) ≡ false
+  unfolding listed
+  head_alone r rs h o e = by_hand (r.handle == h) refl (o h) (live_listed h rs e)
+    where
+      by_hand : (b : Bool) → (r.handle == h) ≡ b → cond {A = ℕ} b 1 0 + listed h rs ≤ 1 → 1 ≤ listed h rs → b ≡ false
+      by_hand true i k l = absurd (omega arith)
+      by_hand false i k l = refl
+
+  first_there : (p : T → Bool) (l : List (Listed T)) (h : ℕ) → first_handle p (live_of l) ≡ Some h → is_some (live_object l h) ≡ true
+  unfolding live_of
+  first_there p [] h f = absurd (cc)
+  first_there p (r ∷ rs) h f = by_live r.live refl f (first_there p rs h)
+    where
+      later : r.live ≡ true → is_some (live_object rs h) ≡ true → is_some (live_object (r ∷ rs) h) ≡ true
+      later a k = by_hand (r.handle == h) refl
+        where
+          by_hand : (b : Bool) → (r.handle == h) ≡ b → is_some (live_object (r ∷ rs) h) ≡ true
+          by_hand true i = ap is_some (at_here r rs h a i)
+          by_hand false i = ap is_some (at_skip r rs h i) ∙ k
+
+      by_pass : r.live ≡ true → (b : Bool) → cond b (Some r.handle) (first_handle p (live_of rs)) ≡ Some h → (first_handle p (live_of rs) ≡ Some h → is_some (live_object rs h) ≡ true) → is_some (live_object (r ∷ rs) h) ≡ true
+      by_pass a true f k = ap is_some (at_here r rs h a (eq-eqb r.handle h (handle_same f)))
+      by_pass a false f k = later a (k f)
+
+      by_live : (b : Bool) → r.live ≡ b → first_handle p (cond b ((r.handle, r.fields) ∷ live_of rs) (live_of rs)) ≡ Some h → (first_handle p (live_of rs) ≡ Some h → is_some (live_object rs h) ≡ true) → is_some (live_object (r ∷ rs) h) ≡ true
+      by_live true a f k = by_pass a (p r.fields) f k
+      by_live false a f k = ap is_some (at_dead r rs h a) ∙ k f
+
+  -- the first live object that passes is the one of its handle
+  pub first_at : (p : T → Bool) (l : List (Listed T)) (h : ℕ) (x : T) → OnceIn l → first_handle p (live_of l) ≡ Some h → live_object l h ≡ Some x → p x ≡ true
+  unfolding live_of
+  first_at p [] h x o f e = absurd (cc)
+  first_at p (r ∷ rs) h x o f e = by_live r.live refl f (λ i j. first_at p rs h x (rest_once r rs o) i j)
+    where
+      by_pass : r.live ≡ true → (b : Bool) → p r.fields ≡ b → cond b (Some r.handle) (first_handle p (live_of rs)) ≡ Some h → (first_handle p (live_of rs) ≡ Some h → live_object rs h ≡ Some x → p x ≡ true) → p x ≡ true
+      by_pass a true i f k =
+          let here : live_object (r ∷ rs) h ≡ Some r.fields = at_here r rs h a (eq-eqb r.handle h (handle_same f)) in
+          subst (λ (y : T). p y ≡ true) (some_same (sym here ∙ e)) i
+      by_pass a false i f k = k f (sym (at_skip r rs h (head_alone r rs h o (first_there p rs h f))) ∙ e)
+
+      by_live : (b : Bool) → r.live ≡ b → first_handle p (cond b ((r.handle, r.fields) ∷ live_of rs) (live_of rs)) ≡ Some h → (first_handle p (live_of rs) ≡ Some h → live_object rs h ≡ Some x → p x ≡ true) → p x ≡ true
+      by_live true a f k = by_pass a (p r.fields) refl f k
+      by_live false a f k = k f (sym (at_dead r rs h a) ∙ e)
+
+  -- a live object that passes is counted
+  pub found_count : (p : T → Bool) (l : List (Listed T)) (h : ℕ) (x : T) → live_object l h ≡ Some x → p x ≡ true → 1 ≤ count_listed p l
+  unfolding live_of
+  found_count p [] h x e i = absurd (cc)
+  found_count p (r ∷ rs) h x e i = by_live r.live refl (λ j. found_count p rs h x j i)
+    where
+      more : (b : Bool) → 1 ≤ count_listed p rs → 1 ≤ cond {A = ℕ} b 1 0 + count_listed p rs
+      more b k = omega arith
+
+      by_hand : r.live ≡ true → (b : Bool) → (r.handle == h) ≡ b → (live_object rs h ≡ Some x → 1 ≤ count_listed p rs) → 1 ≤ cond {A = ℕ} (r.live && p r.fields) 1 0 + count_listed p rs
+      by_hand a true j k =
+          let same : r.fields ≡ x = some_same (sym (at_here r rs h a j) ∙ e) in
+          let pass : (r.live && p r.fields) ≡ true = (λ z. a z && p (same z)) ∙ i in
+          let n : cond {A = ℕ} (r.live && p r.fields) 1 0 ≡ 1 = ap (λ (c : Bool). cond {A = ℕ} c 1 0) pass in
+          omega arith
+      by_hand a false j k = more (r.live && p r.fields) (k (sym (at_skip r rs h j) ∙ e))
+
+      by_live : (b : Bool) → r.live ≡ b → (live_object rs h ≡ Some x → 1 ≤ count_listed p rs) → 1 ≤ cond {A = ℕ} (r.live && p r.fields) 1 0 + count_listed p rs
+      by_live true a k = by_hand a (r.handle == h) refl k
+      by_live false a k = more (r.live && p r.fields) (k (sym (at_dead r rs h a) ∙ e))
+
+  -- where at most one passes, two that do are one
+  pub one_passes : (p : T → Bool) (l : List (Listed T)) (h k : ℕ) (x y : T) → count_listed p l ≤ 1 → live_object l h ≡ Some x → live_object l k ≡ Some y → p x ≡ true → p y ≡ true → x ≡ y
+  unfolding live_of
+  one_passes p [] h k x y c e f i j = absurd (cc)
+  one_passes p (r ∷ rs) h k x y c e f i j = by_live r.live refl c (λ d a b. one_passes p rs h k x y d a b i j)
+    where
+      less : (b : Bool) → cond {A = ℕ} b 1 0 + count_listed p rs ≤ 1 → count_listed p rs ≤ 1
+      less b d = omega arith
+
+      -- the head passes, so that it is both
+      is_head : (g : ℕ) (z : T) → r.live ≡ true → p r.fields ≡ true → live_object (r ∷ rs) g ≡ Some z → p z ≡ true → cond {A = ℕ} (r.live && p r.fields) 1 0 + count_listed p rs ≤ 1 → r.fields ≡ z
+      is_head g z a b q t d = by_hand (r.handle == g) refl
+        where
+          by_hand : (v : Bool) → (r.handle == g) ≡ v → r.fields ≡ z
+          by_hand true u = some_same (sym (at_here r rs g a u) ∙ q)
+          by_hand false u =
+              let n : 1 ≤ count_listed p rs = found_count p rs g z (sym (at_skip r rs g u) ∙ q) t in
+              let o : cond {A = ℕ} (r.live && p r.fields) 1 0 ≡ 1 = (λ w. cond {A = ℕ} (a w && b w) 1 0) in
+              absurd (omega arith)
+
+      -- it doesn't, so that both are behind it
+      behind : (g : ℕ) (z : T) → r.live ≡ true → p r.fields ≡ false → live_object (r ∷ rs) g ≡ Some z → p z ≡ true → live_object rs g ≡ Some z
+      behind g z a b q t = by_hand (r.handle == g) refl
+        where
+          by_hand : (v : Bool) → (r.handle == g) ≡ v → live_object rs g ≡ Some z
+          by_hand true u = true_false t (subst (λ (w : T). p w ≡ false) (some_same (sym (at_here r rs g a u) ∙ q)) b)
+          by_hand false u = sym (at_skip r rs g u) ∙ q
+
+      by_pass : r.live ≡ true → (b : Bool) → p r.fields ≡ b → cond {A = ℕ} (r.live && p r.fields) 1 0 + count_listed p rs ≤ 1 → (count_listed p rs ≤ 1 → live_object rs h ≡ Some x → live_object rs k ≡ Some y → x ≡ y) → x ≡ y
+      by_pass a true b d g = sym (is_head h x a b e i d) ∙ is_head k y a b f j d
+      by_pass a false b d g = g (less _ d) (behind h x a b e i) (behind k y a b f j)
+
+      by_live : (b : Bool) → r.live ≡ b → cond {A = ℕ} (r.live && p r.fields) 1 0 + count_listed p rs ≤ 1 → (count_listed p rs ≤ 1 → live_object rs h ≡ Some x → live_object rs k ≡ Some y → x ≡ y) → x ≡ y
+      by_live true a d g = by_pass a (p r.fields) refl d g
+      by_live false a d g = g (less _ d) (sym (at_dead r rs h a) ∙ e) (sym (at_dead r rs k a) ∙ f)

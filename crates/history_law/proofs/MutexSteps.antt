@@ -1,0 +1,223 @@
+-- What each entry does to the mutexes, and so every list of entries: at most one seat holds one.
+use Rattle.std.proofs.Common.{◌≡◌, ℕ, ◌≤◌, Bool, true, false, cond, List, [], Option, Some, None, refl, sym, ◌∙◌, ap, subst, arith}
+use Rattle.std.specs.Prelude.{◌==◌, ◌&&◌, ◌||◌, not, nat_lt, is_some, length, ℤ}
+use Rattle.std.proofs.lemmas.Bool.{eqb-true}
+use Rattle.std.proofs.lemmas.Bool.Decides.{nat_tests}
+use Rattle.mtapi_values.specs.declared.handles.ObjectKind.TheVariants as kind
+use Rattle.mtapi_values.specs.declared.handles.TaskHandle.{TaskHandle}
+use Rattle.mtapi_values.specs.declared.statuses.MrapiStatus.TheVariants as c
+use Rattle.mtapi_machine.specs.declared.ops.Op.{Op}
+use Rattle.mtapi_machine.specs.declared.ops.Op.TheVariants as op
+use Rattle.mtapi_machine.specs.declared.replies.Reply.{Reply}
+use Rattle.mtapi_machine.specs.declared.replies.Reply.TheVariants as reply
+use Rattle.handle_pool.specs.Issued.{Listed, live_object, listed, change, issue, with_fields, gone}
+use Rattle.mtapi_objects.specs.Tasks.{Adds, tally_args}
+use Rattle.mtapi_objects.specs.Mutexes.{Mutex, new_mutex, mutex_busy, locked_by, unlocked}
+use Rattle.mtapi_machine.specs.State.{State, workers}
+use Rattle.mtapi_machine.specs.Moves.{Move, Mutexes, makes, alters, removes, apply, after_moves}
+use Rattle.mtapi_machine.specs.Row.{Row, Allows, moves_of, after_row}
+use Rattle.mtapi_machine.specs.Rows.{row}
+use Rattle.mtapi_machine.specs.TallyRows.{takes_both, locks}
+use Rattle.mtapi_machine.specs.Laws.{IsMade, AltersObject, RemovesObject, makes_kind}
+use Rattle.mtapi_machine.proofs.Made.{AllGives, given, moves_given, on_live, on_only, not_false}
+use Rattle.mtapi_machine.proofs.Changes.{at-update}
+use Rattle.mtapi_machine.proofs.Moves.{by_moves as made_moves}
+use Rattle.history_law.specs.Seats.{says_ok}
+use Rattle.history_law.specs.Exclusion.{looks_at_mutex, unlocks_mutex, says_number, says_end}
+use Rattle.history_law.proofs.Reuse.{fresh_unlisted}
+use Rattle.history_law.proofs.Handles.{OnceIn}
+use Rattle.history_law.proofs.Every.{every_at}
+use Rattle.history_law.proofs.Answered.{true_false, first_false, second_false, answered, no_live, no_cond, gives_cond, Quiet}
+use Rattle.history_law.proofs.Exclusion.{at_change_other, at_issue_other, at_issue_here, at_unlisted, at_retired}
+use Rattle.history_law.proofs.Ties.{Owns, id_in, Tied, Ties, as_on}
+use Rattle.history_law.proofs.Mutexes.{Step, stays, made, taken, given as gave, gone as left, got, back}
+
+-- Other ops leave the mutexes
+
+changes_mutexes : Op → Bool
+changes_mutexes (op.MutexCreate id recursive) = true
+changes_mutexes (op.MutexLook x last) = true
+changes_mutexes (op.MutexUnlock x key) = true
+changes_mutexes (op.MutexDelete x) = true
+changes_mutexes (op.TallyLock t) = true
+changes_mutexes (op.TallyEnd t) = true
+changes_mutexes _ = false
+
+no_make : (o : Op) → changes_mutexes o ≡ false → makes_kind Mutexes o ≡ true → ⊥
+unfolding changes_mutexes
+no_make (op.MutexCreate id recursive) n w = true_false refl n
+no_make _ n w = true_false w refl
+
+no_alter : (o : Op) (j : ℕ) (f : Mutex → Mutex) → changes_mutexes o ≡ false → AltersObject Mutexes j f o → ⊥
+unfolding changes_mutexes
+no_alter (op.MutexLook x last) j f n w = true_false refl n
+no_alter (op.MutexUnlock x key) j f n w = true_false refl n
+no_alter (op.TallyLock t) j f n w = true_false refl n
+no_alter (op.TallyEnd t) j f n w = true_false refl n
+no_alter _ j f n w = absurd w
+
+no_remove : (o : Op) (j : ℕ) → changes_mutexes o ≡ false → RemovesObject Mutexes j o → ⊥
+unfolding changes_mutexes
+no_remove (op.MutexDelete x) j n w = true_false refl n
+no_remove _ j n w = absurd w
+
+same_move : (ms : List (Listed Mutex)) (o : Op) → changes_mutexes o ≡ false → (t : State) (x : Move) → IsMade t o x → t.mutexes ≡ ms → (apply x t).mutexes ≡ ms
+same_move ms o n t (makes Mutexes j x) e v = absurd (no_make o n e.by)
+same_move ms o n t (alters Mutexes j f) e v = absurd (no_alter o j f n e.by)
+same_move ms o n t (removes Mutexes j) e v = absurd (no_remove o j n e.by)
+same_move ms o n t (makes _ j x) e v = v
+same_move ms o n t (alters _ j f) e v = v
+same_move ms o n t (removes _ j) e v = v
+same_move ms o n t _ e v = v
+
+same_mutexes : (s : State) (who : ℕ) (o : Op) (r : Reply) → changes_mutexes o ≡ false → (after_row s (row s who o r)).mutexes ≡ s.mutexes
+same_mutexes s who o r n = made_moves (λ t. t.mutexes ≡ s.mutexes) s (record { who = who; op = o; reply = r }) (same_move s.mutexes o n) refl
+
+-- The ops on mutexes, and the two of tallies
+
+abbrev pub is_ending : Op → Bool
+is_ending (op.TallyEnd t) = true
+is_ending _ = false
+
+module _ (n who j : ℕ) (s : State) where
+  abbrev After : Bool → Bool → Bool → List Move → Type 0
+  After b x y ms = Step who n b (live_object s.mutexes j) (live_object (after_moves ms s).mutexes j) x y
+
+  -- the mutex of a handle changes; where it is another one, this one stays
+  hit : (b x y : Bool) (h : ℕ) (f : Mutex → Mutex) (v : Mutex) → live_object s.mutexes h ≡ Some v → ((o p : Option Mutex) → o ≡ Some v → p ≡ Some (f v) → Step who n b o p x y)
+      → Step who n b (live_object s.mutexes j) (live_object (change h (with_fields f) s.mutexes) j) ((h == j) && x) ((h == j) && y)
+  hit b x y h f v e k = by_same (h == j) refl
+    where
+      by_same : (c : Bool) → (h == j) ≡ c → Step who n b (live_object s.mutexes j) (live_object (change h (with_fields f) s.mutexes) j) (c && x) (c && y)
+      by_same true i =
+          let same : h ≡ j = eqb-true h j i in
+          k _ _ (ap (λ (z : ℕ). live_object s.mutexes z) (sym same) ∙ e) (ap (λ (z : ℕ). live_object (change h (with_fields f) s.mutexes) z) (sym same) ∙ at-update h f v s.mutexes e)
+      by_same false i = stays (at_change_other h j (with_fields f) s.mutexes (λ r. refl) i)
+
+  retired : (b : Bool) (h : ℕ) (v : Mutex) → OnceIn s.mutexes → live_object s.mutexes h ≡ Some v → is_some v.owner ≡ false → Step who n b (live_object s.mutexes j) (live_object (change h gone s.mutexes) j) false false
+  retired b h v o e f = by_same (h == j) refl
+    where
+      by_same : (c : Bool) → (h == j) ≡ c → Step who n b (live_object s.mutexes j) (live_object (change h gone s.mutexes) j) false false
+      by_same true i =
+          let same : h ≡ j = eqb-true h j i in
+          left v (ap (λ (z : ℕ). live_object s.mutexes z) (sym same) ∙ e) f (ap (λ (z : ℕ). live_object (change h gone s.mutexes) z) (sym same) ∙ at_retired h s.mutexes o)
+      by_same false i = stays (at_change_other h j gone s.mutexes (λ r. refl) i)
+
+  issued : (b : Bool) (h id : ℕ) (recursive : Bool) → listed h s.mutexes ≡ 0 → Step who n b (live_object s.mutexes j) (live_object (issue h (new_mutex id recursive) s.mutexes) j) false false
+  issued b h id recursive e = by_same (h == j) refl
+    where
+      by_same : (c : Bool) → (h == j) ≡ c → Step who n b (live_object s.mutexes j) (live_object (issue h (new_mutex id recursive) s.mutexes) j) false false
+      by_same true i =
+          let same : h ≡ j = eqb-true h j i in
+          made id recursive (ap (λ (z : ℕ). live_object s.mutexes z) (sym same) ∙ at_unlisted h s.mutexes e) (ap (λ (z : ℕ). live_object (issue h (new_mutex id recursive) s.mutexes) z) (sym same) ∙ at_issue_here h (new_mutex id recursive) s.mutexes e)
+      by_same false i = stays (at_issue_other h j (new_mutex id recursive) s.mutexes i)
+
+  as_step : (b : Bool) (p : Option Mutex) (x y v w : Bool) → v ≡ x → w ≡ y → Step who n b (live_object s.mutexes j) p v w → Step who n b (live_object s.mutexes j) p x y
+  as_step b p x y v w i k t = subst (λ (z : Bool). Step who n b (live_object s.mutexes j) p z y) i (subst (λ (z : Bool). Step who n b (live_object s.mutexes j) p v z) k t)
+
+  -- a change that counts for nothing
+  pub unseen : (b : Bool) (h : ℕ) (f : Mutex → Mutex) (v : Mutex) → live_object s.mutexes h ≡ Some v → ((o p : Option Mutex) → o ≡ Some v → p ≡ Some (f v) → Step who n b o p false false)
+      → Step who n b (live_object s.mutexes j) (live_object (change h (with_fields f) s.mutexes) j) false false
+  unseen b h f v e k = as_step b _ false false ((h == j) && false) ((h == j) && false) (none (h == j)) (none (h == j)) (hit b false false h f v e k)
+    where
+      none : (c : Bool) → (c && false) ≡ false
+      none true = refl
+      none false = refl
+
+  quiet : (p : Reply → Bool) (b : Bool) (w : Row) (r : Reply) → p r ≡ false → AllGives (Quiet p) w → Allows w r → After b false false (moves_of w)
+  quiet p b w r i g a = let none : moves_of w ≡ [] = given (Quiet p) w r (λ z k. refl) g a i in subst (After b false false) (sym none) (stays refl)
+
+  -- a tally takes its mutex
+  takes_step : (t cell : ℕ) (a b : Option ℕ) → nat_lt who n ≡ true → AllGives (λ x ms. After false false false ms) (takes_both s who t cell a b)
+  takes_step t cell None b l = stays refl
+  takes_step t cell (Some a) None l = stays refl
+  takes_step t cell (Some a) (Some b) l =
+      on_live _ (live_object s.mutexes a) _ _ (stays refl) (λ y d. on_live _ (live_object s.segments b) _ _ (stays refl) (λ z f.
+      gives_cond _ (not (nat_lt cell (length z.cells))) _ _ (λ i. stays refl)
+      (λ i. gives_cond _ (is_some y.owner) _ _ (λ k. stays refl) (λ k. unseen false a (locked_by who) y d (λ o p e c. got y e k l c)))))
+
+  locks_step : (t : ℕ) (args : List ℤ) (x : Option Adds) → nat_lt who n ≡ true → AllGives (λ x ms. After false false false ms) (locks s who t args x)
+  locks_step t args None l = stays refl
+  locks_step t args (Some x) l = takes_step t x.cell _ _ l
+
+off : (b : Bool) (c : Bool) → c ≡ false → false ≡ (b && c)
+off true c i = sym i
+off false c i = refl
+
+on : (b : Bool) (c : Bool) → c ≡ true → (b && true) ≡ (b && c)
+on b c i = ap (λ (z : Bool). b && z) (sym i)
+
+off_none : (b c : Bool) → (b && false) ≡ (false && c)
+off_none true c = refl
+off_none false c = refl
+
+deep : (key depth : ℕ) → ((key == 0) || nat_lt depth key) ≡ false → 1 ≤ depth
+deep key depth e =
+    let a : (key == 0) ≡ false = first_false (key == 0) (nat_lt depth key) e in
+    let b : nat_lt depth key ≡ false = second_false (key == 0) (nat_lt depth key) e in
+    grind (arith, nat_tests)
+
+look_quiet : (s : State) (who : ℕ) (x : _) (last : Bool) (r : Reply) → AllGives (Quiet says_number) (row s who (op.MutexLook x last) r)
+look_quiet s who x last r = λ p q. on_live (Quiet says_number) (live_object s.mutexes x.0) _ _ (λ i. refl) (λ y f c. gives_cond (Quiet says_number) (mutex_busy who y) _ _ (λ b i. refl) (λ b i. true_false refl i))
+
+unlock_quiet : (s : State) (who : ℕ) (x : _) (key : ℕ) (r : Reply) → AllGives (Quiet says_ok) (row s who (op.MutexUnlock x key) r)
+unlock_quiet s who x key r = λ p q. on_live (Quiet says_ok) (live_object s.mutexes x.0) _ _ (λ i. refl) (λ y f b c d i. true_false refl i)
+
+pub end_quiet : (s : State) (who : ℕ) (t : TaskHandle) (r : Reply) → AllGives (Quiet says_end) (row s who (op.TallyEnd t) r)
+end_quiet s who t r =
+    λ c. on_live (Quiet says_end) (live_object s.tasks t.0) _ _ (λ i. refl) (λ x e a b. gives_cond (Quiet says_end) (x.notes.tally.stage == 4) _ _ (λ d i. true_false refl i)
+    (λ d. on_live (Quiet says_end) (live_object s.segments x.notes.tally.segment) _ _ tt (λ y f. on_live (Quiet says_end) (live_object s.mutexes x.notes.tally.mutex) _ _ tt (λ z g i. true_false refl i))))
+
+-- at an end a tally that hasn't failed has both
+ending_has : (k : ℕ) (b : Bool) → (nat_lt k 2 || b) ≡ false → (k == 4) ≡ false → (not (k == 0) && not (k == 4)) ≡ true
+ending_has k b e d =
+    let a : nat_lt k 2 ≡ false = first_false (nat_lt k 2) b e in
+    let z : (k == 0) ≡ false = grind (arith, nat_tests) in
+    (λ i. not (z i) && not (d i))
+
+pub mutex_step : (n : ℕ) (s : State) (who : ℕ) (o : Op) (r : Reply) (j : ℕ) → workers s ≡ n → OnceIn s.mutexes → Ties n s.mutexes s → Allows (row s who o r) r
+    → Step who n (is_ending o) (live_object s.mutexes j) (live_object (after_row s (row s who o r)).mutexes j) (looks_at_mutex j o && says_number r) (unlocks_mutex j o && says_ok r)
+unfolding changes_mutexes
+mutex_step n s who (op.MutexCreate id recursive) r j w o v a =
+    moves_given (After n who j s false false false) (row s who (op.MutexCreate id recursive) r) (stays refl)
+    (λ c d e f. on_only (λ x ms. After n who j s false false false ms) _ _ _ (λ i. issued n who j s false _ id recursive (fresh_unlisted kind.Mutex s _ i)))
+mutex_step n s who (op.MutexLook x last) r j w o v a = by_number (says_number r) refl
+  where
+    by_number : (b : Bool) → says_number r ≡ b → Step who n false (live_object s.mutexes j) (live_object (after_row s (row s who (op.MutexLook x last) r)).mutexes j) ((x.0 == j) && says_number r) (false && says_ok r)
+    by_number false i = as_step n who j s false _ _ _ false false (off (x.0 == j) (says_number r) i) refl (quiet n who j s says_number false (row s who (op.MutexLook x last) r) r i (look_quiet s who x last r) a)
+    by_number true i =
+        as_step n who j s false _ _ _ ((x.0 == j) && true) ((x.0 == j) && false) (on (x.0 == j) (says_number r) i) (off_none (x.0 == j) (says_ok r))
+        (answered says_number (After n who j s false ((x.0 == j) && true) ((x.0 == j) && false)) (row s who (op.MutexLook x last) r) r i
+        (refl, (refl, no_live says_number (live_object s.mutexes x.0) _ _ tt (λ y. (refl, no_cond says_number (mutex_busy who y) _ _ tt tt))))
+        (λ p q. on_live _ (live_object s.mutexes x.0) _ _ (λ k. true_false k refl)
+        (λ y f c. gives_cond _ (mutex_busy who y) _ _ (λ b k. true_false k (late_number last))
+        (λ b k. hit n who j s false true false x.0 (locked_by who) y f (λ g p e d. taken y e b (subst (λ (z : ℕ). nat_lt who z ≡ false) w q) d)))) a)
+      where
+        late_number : (last : Bool) → says_number (cond last (reply.Mrapi c.Timeout) reply.Pending) ≡ false
+        late_number true = refl
+        late_number false = refl
+mutex_step n s who (op.MutexUnlock x key) r j w o v a = by_ok (says_ok r) refl
+  where
+    by_ok : (b : Bool) → says_ok r ≡ b → Step who n false (live_object s.mutexes j) (live_object (after_row s (row s who (op.MutexUnlock x key) r)).mutexes j) (false && says_number r) ((x.0 == j) && says_ok r)
+    by_ok false i = as_step n who j s false _ _ _ false false refl (off (x.0 == j) (says_ok r) i) (quiet n who j s says_ok false (row s who (op.MutexUnlock x key) r) r i (unlock_quiet s who x key r) a)
+    by_ok true i =
+        as_step n who j s false _ _ _ ((x.0 == j) && false) ((x.0 == j) && true) (off_none (x.0 == j) (says_number r)) (on (x.0 == j) (says_ok r) i)
+        (answered says_ok (After n who j s false ((x.0 == j) && false) ((x.0 == j) && true)) (row s who (op.MutexUnlock x key) r) r i
+        (refl, (refl, no_live says_ok (live_object s.mutexes x.0) _ _ tt (λ y. (refl, (refl, (refl, tt))))))
+        (λ p q. on_live _ (live_object s.mutexes x.0) _ _ (λ k. true_false k refl)
+        (λ y f b c d k. hit n who j s false false true x.0 unlocked y f (λ g p e h. gave y e (not_false _ b) (deep key y.depth c) (subst (λ (z : ℕ). nat_lt who z ≡ false) w q) h))) a)
+mutex_step n s who (op.MutexDelete x) r j w o v a =
+    moves_given (After n who j s false false false) (row s who (op.MutexDelete x) r) (stays refl)
+    (λ p q. on_live _ (live_object s.mutexes x.0) _ _ (stays refl) (λ y f b. retired n who j s false x.0 y o f b))
+mutex_step n s who (op.TallyLock t) r j w o v a =
+    moves_given (After n who j s false false false) (row s who (op.TallyLock t) r) (stays refl)
+    (λ c. on_live _ (live_object s.tasks t.0) _ _ (stays refl) (λ x e b d. locks_step n who j s t.0 x.args (tally_args x.args) (subst (λ (z : ℕ). nat_lt who z ≡ true) w (not_false _ c))))
+mutex_step n s who (op.TallyEnd t) r j w o v a =
+    moves_given (After n who j s true false false) (row s who (op.TallyEnd t) r) (stays refl)
+    (λ c. on_live _ (live_object s.tasks t.0) _ _ (stays refl) (λ x e b d. gives_cond _ (x.notes.tally.stage == 4) _ _ (λ f. stays refl)
+    (λ f. on_live _ (live_object s.segments x.notes.tally.segment) _ _ tt (λ y g. on_live _ (live_object s.mutexes x.notes.tally.mutex) _ _ tt
+    (λ z h.
+    let owns : Owns who (id_in x) (live_object s.mutexes x.notes.tally.mutex) = ((every_at (Tied n s.mutexes) s.tasks t.0 x v e).tied who (as_on who x.state (not_false _ b)) (ending_has x.notes.tally.stage _ d f)).1 in
+    let owned : Owns who (id_in x) (Some z) = subst (Owns who (id_in x)) h owns in
+    unseen n who j s true x.notes.tally.mutex unlocked z h (λ q p i k. back z refl i owned.0 owned.1 (subst (λ (u : ℕ). nat_lt who u ≡ true) w (not_false _ c)) k))))))
+mutex_step n s who o r j w u v a = stays (ap (λ (l : List (Listed Mutex)). live_object l j) (same_mutexes s who o r refl))

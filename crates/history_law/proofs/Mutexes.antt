@@ -1,0 +1,188 @@
+-- What an entry does to the mutex of one handle, and what that leaves of its owner.
+use Rattle.std.proofs.Common.{◌≡◌, ℕ, ◌+◌, ◌<◌, ◌≤◌, Bool, true, false, cond, Option, Some, None, ◌⊎◌, inl, inr, refl, sym, ◌∙◌, ap, subst, arith}
+use Rattle.std.specs.Prelude.{◌==◌, ◌&&◌, ◌-◌, not, nat_lt, is_some}
+use Rattle.std.proofs.lemmas.Bool.{eqb-true, eq-eqb}
+use Rattle.std.proofs.lemmas.Bool.Decides.{nat_tests}
+use Rattle.mtapi_values.specs.Seats.{is_seat, is_other}
+use Rattle.mtapi_objects.specs.Mutexes.{Mutex, new_mutex, locked_by, unlocked}
+use Rattle.history_law.proofs.Answered.{true_false}
+use Rattle.history_law.proofs.Counts.{one_if}
+use Rattle.history_law.proofs.Ties.{Owns}
+
+-- by an entry of this seat, of a node with n workers: a caller's look got the mutex, or a caller gave it back; and a tally got it, or
+-- gave it back, which only an end of a tally may do (`ending`)
+pub data Step (who n : ℕ) (ending : Bool) (o p : Option Mutex) : Bool → Bool → Type 0 where
+  stays : p ≡ o → Step who n ending o p false false
+  made : (id : ℕ) (recursive : Bool) → o ≡ None → p ≡ Some (new_mutex id recursive) → Step who n ending o p false false
+  taken : (m : Mutex) → o ≡ Some m → is_other who m.owner ≡ false → nat_lt who n ≡ false → p ≡ Some (locked_by who m) → Step who n ending o p true false
+  given : (m : Mutex) → o ≡ Some m → is_seat who m.owner ≡ true → 1 ≤ m.depth → nat_lt who n ≡ false → p ≡ Some (unlocked m) → Step who n ending o p false true
+  gone : (m : Mutex) → o ≡ Some m → is_some m.owner ≡ false → p ≡ None → Step who n ending o p false false
+  got : (m : Mutex) → o ≡ Some m → is_some m.owner ≡ false → nat_lt who n ≡ true → p ≡ Some (locked_by who m) → Step who n ending o p false false
+  back : (m : Mutex) → ending ≡ true → o ≡ Some m → m.owner ≡ Some who → m.depth ≡ 1 → nat_lt who n ≡ true → p ≡ Some (unlocked m) → Step who n ending o p false false
+
+-- a mutex that nobody owns has depth 0
+abbrev pub Free : Option Mutex → Type 0
+Free None = Unit {0}
+Free (Some m) = is_some m.owner ≡ false → m.depth ≡ 0
+
+some_none : {A : Type 0} {x : A} → Some x ≡ None → ⊥
+some_none e = cc
+
+owner_same : {x y : ℕ} → Some x ≡ Some y → x ≡ y
+owner_same e = cc
+
+unlocked_free : (m : Mutex) → (is_some m.owner ≡ false → m.depth ≡ 0) → is_some (unlocked m).owner ≡ false → (unlocked m).depth ≡ 0
+unlocked_free m f = by_depth (m.depth == 1) refl
+  where
+    by_depth : (b : Bool) → (m.depth == 1) ≡ b → is_some (cond b None m.owner) ≡ false → m.depth - 1 ≡ 0
+    by_depth true e i = let k : m.depth ≡ 1 = eqb-true m.depth 1 e in omega arith
+    by_depth false e i = let k : m.depth ≡ 0 = f i in omega arith
+
+pub free_step : (who n : ℕ) (b : Bool) (o p : Option Mutex) (x y : Bool) → Step who n b o p x y → Free o → Free p
+free_step who n b o p _ _ (stays e) f = subst Free (sym e) f
+free_step who n b o p _ _ (made id r e d) f = subst Free (sym d) (λ i. refl)
+free_step who n b o p _ _ (taken m e c l d) f = subst Free (sym d) (λ i. true_false refl i)
+free_step who n b o p _ _ (given m e c k l d) f = subst Free (sym d) (unlocked_free m (subst Free e f))
+free_step who n b o p _ _ (gone m e c d) f = subst Free (sym d) tt
+free_step who n b o p _ _ (got m e c l d) f = subst Free (sym d) (λ i. true_false refl i)
+free_step who n b o p _ _ (back m t e c k l d) f = subst Free (sym d) (unlocked_free m (subst Free e f))
+
+-- a worker that owns the mutex goes on owning it, unless it ends its tally
+pub self : (w : ℕ) → (w == w) ≡ true
+self w = eq-eqb w w refl
+
+is_less : (w n : ℕ) → w < n → nat_lt w n ≡ true
+is_less w n l = grind (arith, nat_tests)
+
+pub owns_step : (who n w id : ℕ) (b : Bool) (o p : Option Mutex) (x y : Bool) → Step who n b o p x y → w < n → Owns w id o → Owns w id p ⊎ ((b ≡ true) × (w ≡ who))
+owns_step who n w id b o p _ _ (stays e) l i = inl (subst (Owns w id) (sym e) i)
+owns_step who n w id b o p _ _ (made i2 r e d) l i = absurd (subst (Owns w id) e i)
+owns_step who n w id b o p _ _ (taken m e c k d) l i = absurd (by_owner m.owner refl)
+  where
+    owned : m.owner ≡ Some w
+    owned = (subst (Owns w id) e i).0
+
+    by_owner : (q : Option ℕ) → m.owner ≡ q → ⊥
+    by_owner q a =
+        let other : not (w == who) ≡ false = sym (ap (is_other who) owned) ∙ c in
+        let same : w ≡ who = grind (arith, nat_tests) in
+        true_false (subst (λ (z : ℕ). nat_lt z n ≡ true) same (is_less w n l)) k
+owns_step who n w id b o p _ _ (given m e c k a d) l i =
+    let owned : m.owner ≡ Some w = (subst (Owns w id) e i).0 in
+    let same : w ≡ who = eqb-true w who (sym (ap (is_seat who) owned) ∙ c) in
+    absurd (true_false (subst (λ (z : ℕ). nat_lt z n ≡ true) same (is_less w n l)) a)
+owns_step who n w id b o p _ _ (gone m e c d) l i = absurd (true_false (ap is_some (subst (Owns w id) e i).0) c)
+owns_step who n w id b o p _ _ (got m e c k d) l i = absurd (true_false (ap is_some (subst (Owns w id) e i).0) c)
+owns_step who n w id b o p _ _ (back m t e c k a d) l i = inr (t, owner_same (sym (subst (Owns w id) e i).0 ∙ c))
+
+-- How often a caller holds it
+
+-- its depth, where this seat is a caller's and owns it
+abbrev pub share_of : ℕ → ℕ → Mutex → ℕ
+share_of n w m = cond (is_seat w m.owner && not (nat_lt w n)) m.depth 0
+
+abbrev pub share : ℕ → ℕ → Option Mutex → ℕ
+share n w None = 0
+share n w (Some m) = share_of n w m
+
+unowned_share : (n w : ℕ) (m : Mutex) → is_some m.owner ≡ false → share_of n w m ≡ 0
+unowned_share n w m e = by_owner m.owner e
+  where
+    by_owner : (q : Option ℕ) → is_some q ≡ false → cond (is_seat w q && not (nat_lt w n)) m.depth 0 ≡ 0
+    by_owner None i = refl
+    by_owner (Some v) i = true_false refl i
+
+-- by a mutex that this seat owns
+owned_share : (n w v : ℕ) (m : Mutex) → m.owner ≡ Some v → share_of n w m ≡ cond ((v == w) && not (nat_lt w n)) m.depth 0
+owned_share n w v m e = ap (λ (q : Option ℕ). cond (is_seat w q && not (nat_lt w n)) m.depth 0) e
+
+worker_share : (n w v k : ℕ) → nat_lt v n ≡ true → cond ((v == w) && not (nat_lt w n)) k 0 ≡ 0
+worker_share n w v k l = by_same (v == w) refl
+  where
+    by_same : (b : Bool) → (v == w) ≡ b → cond (b && not (nat_lt w n)) k 0 ≡ 0
+    by_same true e = ap (λ (c : Bool). cond (not c) k 0) (subst (λ (z : ℕ). nat_lt z n ≡ true) (eqb-true v w e) l)
+    by_same false e = refl
+
+caller_share : (n w v k : ℕ) → nat_lt v n ≡ false → cond ((v == w) && not (nat_lt w n)) k 0 ≡ cond (v == w) k 0
+caller_share n w v k l = by_same (v == w) refl
+  where
+    by_same : (b : Bool) → (v == w) ≡ b → cond (b && not (nat_lt w n)) k 0 ≡ cond b k 0
+    by_same true e = ap (λ (c : Bool). cond (not c) k 0) (subst (λ (z : ℕ). nat_lt z n ≡ false) (eqb-true v w e) l)
+    by_same false e = refl
+
+-- what a caller sees before it gets the mutex
+taken_share : (who n w : ℕ) (m : Mutex) → (is_some m.owner ≡ false → m.depth ≡ 0) → is_other who m.owner ≡ false → nat_lt who n ≡ false → share_of n w m ≡ cond (who == w) m.depth 0
+taken_share who n w m f c l = by_owner m.owner refl
+  where
+    zeros : (b : Bool) (k : ℕ) → k ≡ 0 → 0 ≡ cond b k 0
+    zeros true k e = sym e
+    zeros false k e = refl
+
+    by_owner : (q : Option ℕ) → m.owner ≡ q → share_of n w m ≡ cond (who == w) m.depth 0
+    by_owner None e = unowned_share n w m (ap is_some e) ∙ zeros (who == w) m.depth (f (ap is_some e))
+    by_owner (Some v) e =
+        let other : not (v == who) ≡ false = sym (ap (is_other who) e) ∙ c in
+        let same : v ≡ who = grind (arith, nat_tests) in
+        owned_share n w v m e ∙ (ap (λ (z : ℕ). cond ((z == w) && not (nat_lt w n)) m.depth 0) same ∙ caller_share n w who m.depth l)
+
+given_share : (n w who : ℕ) (m : Mutex) → m.owner ≡ Some who → 1 ≤ m.depth → nat_lt who n ≡ false → share_of n w (unlocked m) ≡ cond (who == w) (m.depth - 1) 0
+given_share n w who m e k l = by_depth (m.depth == 1) refl
+  where
+    zeros : (b : Bool) (k : ℕ) → k ≡ 0 → 0 ≡ cond b k 0
+    zeros true k e = sym e
+    zeros false k e = refl
+
+    by_depth : (b : Bool) → (m.depth == 1) ≡ b → cond (is_seat w (cond b None m.owner) && not (nat_lt w n)) (m.depth - 1) 0 ≡ cond (who == w) (m.depth - 1) 0
+    by_depth true d = zeros (who == w) (m.depth - 1) (let z : m.depth ≡ 1 = eqb-true m.depth 1 d in omega arith)
+    by_depth false d = ap (λ (q : Option ℕ). cond (is_seat w q && not (nat_lt w n)) (m.depth - 1) 0) e ∙ caller_share n w who (m.depth - 1) l
+
+back_share : (n w : ℕ) (m : Mutex) → m.depth ≡ 1 → share_of n w (unlocked m) ≡ 0
+back_share n w m e = ap (λ (b : Bool). cond (is_seat w (cond b None m.owner) && not (nat_lt w n)) (m.depth - 1) 0) (eq-eqb m.depth 1 e)
+
+seat_owner : (who : ℕ) (q : Option ℕ) → is_seat who q ≡ true → q ≡ Some who
+seat_owner who None e = true_false e refl
+seat_owner who (Some v) e = ap Some (eqb-true v who e)
+
+more : (c : Bool) (d : ℕ) → cond c (d + 1) 0 + one_if (c && false) ≡ cond c d 0 + one_if (c && true)
+more true d = omega arith
+more false d = refl
+
+less : (c : Bool) (d : ℕ) → 1 ≤ d → cond c (d - 1) 0 + one_if (c && true) ≡ cond c d 0 + one_if (c && false)
+less true d k = omega arith
+less false d k = refl
+
+pub share_step : (who n w : ℕ) (b : Bool) (o p : Option Mutex) (x y : Bool) → Free o → Step who n b o p x y → share n w p + one_if ((who == w) && y) ≡ share n w o + one_if ((who == w) && x)
+share_step who n w b o p _ _ f (stays e) = ap (λ (q : Option Mutex). share n w q + one_if ((who == w) && false)) e
+share_step who n w b o p _ _ f (made id r e d) = ap (λ (q : Option Mutex). share n w q + one_if ((who == w) && false)) d ∙ ap (λ (q : Option Mutex). share n w q + one_if ((who == w) && false)) (sym e)
+share_step who n w b o p _ _ f (taken m e c l d) =
+    let before : share n w o ≡ cond (who == w) m.depth 0 = ap (share n w) e ∙ taken_share who n w m (subst Free e f) c l in
+    let now : share n w p ≡ cond (who == w) (m.depth + 1) 0 = ap (share n w) d ∙ (owned_share n w who (locked_by who m) refl ∙ caller_share n w who (m.depth + 1) l) in
+    let k = more (who == w) m.depth in
+    omega arith
+share_step who n w b o p _ _ f (given m e c h l d) =
+    let owner : m.owner ≡ Some who = seat_owner who m.owner c in
+    let before : share n w o ≡ cond (who == w) m.depth 0 = ap (share n w) e ∙ (owned_share n w who m owner ∙ caller_share n w who m.depth l) in
+    let now : share n w p ≡ cond (who == w) (m.depth - 1) 0 = ap (share n w) d ∙ given_share n w who m owner h l in
+    let k = less (who == w) m.depth h in
+    omega arith
+share_step who n w b o p _ _ f (gone m e c d) =
+    let before : share n w o ≡ 0 = ap (share n w) e ∙ unowned_share n w m c in
+    let now : share n w p ≡ 0 = ap (share n w) d in
+    omega arith
+share_step who n w b o p _ _ f (got m e c l d) =
+    let before : share n w o ≡ 0 = ap (share n w) e ∙ unowned_share n w m c in
+    let now : share n w p ≡ 0 = ap (share n w) d ∙ (owned_share n w who (locked_by who m) refl ∙ worker_share n w who (m.depth + 1) l) in
+    omega arith
+share_step who n w b o p _ _ f (back m t e c k l d) =
+    let before : share n w o ≡ 0 = ap (share n w) e ∙ (owned_share n w who m c ∙ worker_share n w who m.depth l) in
+    let now : share n w p ≡ 0 = ap (share n w) d ∙ back_share n w m k in
+    omega arith
+
+-- a seat with a share owns it
+pub share_owner : (n w : ℕ) (o : Option Mutex) → 1 ≤ share n w o → (m : Mutex) × (o ≡ Some m) × (m.owner ≡ Some w)
+share_owner n w None k = absurd (omega arith)
+share_owner n w (Some m) k = by_owner (is_seat w m.owner) refl k
+  where
+    by_owner : (b : Bool) → is_seat w m.owner ≡ b → 1 ≤ cond (b && not (nat_lt w n)) m.depth 0 → (m2 : Mutex) × (Some m ≡ Some m2) × (m2.owner ≡ Some w)
+    by_owner true e i = (m, refl, seat_owner w m.owner e)
+    by_owner false e i = absurd (omega arith)

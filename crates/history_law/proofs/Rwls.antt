@@ -1,0 +1,268 @@
+-- A reader-writer lock has one writer or readers alone.
+use Rattle.std.proofs.Common.{◌≡◌, ℕ, zero, suc, ◌+◌, ◌<◌, ◌≤◌, Bool, true, false, cond, List, [], ◌∷◌, Option, Some, None, refl, sym, ◌∙◌, ap, subst, arith}
+use Rattle.std.specs.Prelude.{◌==◌, ◌&&◌, ◌||◌, not, is_some, length, replicate, slice_index_or, slice_set}
+use Rattle.std.proofs.lemmas.Bool.{eqb-true, eq-eqb}
+use Rattle.std.proofs.lemmas.Bool.Decides.{nat_tests}
+use Rattle.mtapi_values.specs.Seats.{is_seat, marked, any_mark}
+use Rattle.handle_pool.specs.Issued.{how_many}
+use Rattle.mtapi_objects.specs.Rwls.{Rwl, new_rwl, rwl_held, rwl_busy, rwl_taken, rwl_given}
+use Rattle.history_law.proofs.Answered.{true_false, first_false, second_false}
+use Rattle.history_law.proofs.Counts.{one_if}
+
+-- Marks of seats
+
+abbrev marks : List Bool → ℕ
+marks l = how_many (λ b. b) l
+
+marks_more : (l : List Bool) (i : ℕ) → i < length l → marked i l ≡ false → marks (slice_set l i true) ≡ marks l + 1
+marks_more [] i k e = absurd (omega arith)
+marks_more (true ∷ bs) zero k e = true_false refl e
+marks_more (false ∷ bs) zero k e = omega arith
+marks_more (b ∷ bs) (suc i) k e = let r : marks (slice_set bs i true) ≡ marks bs + 1 = marks_more bs i (omega arith) e in omega arith
+
+marks_less : (l : List Bool) (i : ℕ) → marked i l ≡ true → marks (slice_set l i false) + 1 ≡ marks l
+marks_less [] i e = true_false e refl
+marks_less (true ∷ bs) zero e = omega arith
+marks_less (false ∷ bs) zero e = true_false e refl
+marks_less (b ∷ bs) (suc i) e = let r : marks (slice_set bs i false) + 1 ≡ marks bs = marks_less bs i e in omega arith
+
+mark_size : (l : List Bool) (i : ℕ) (b : Bool) → length (slice_set l i b) ≡ length l
+mark_size [] i b = refl
+mark_size (c ∷ cs) zero b = refl
+mark_size (c ∷ cs) (suc i) b = ap suc (mark_size cs i b)
+
+mark_here : (l : List Bool) (i : ℕ) (b : Bool) → i < length l → marked i (slice_set l i b) ≡ b
+mark_here [] i b k = absurd (omega arith)
+mark_here (c ∷ cs) zero b k = refl
+mark_here (c ∷ cs) (suc i) b k = mark_here cs i b (omega arith)
+
+mark_unset : (l : List Bool) (i : ℕ) → marked i (slice_set l i false) ≡ false
+mark_unset [] i = refl
+mark_unset (c ∷ cs) zero = refl
+mark_unset (c ∷ cs) (suc i) = mark_unset cs i
+
+mark_apart : (l : List Bool) (i w : ℕ) (b : Bool) → (i == w) ≡ false → marked w (slice_set l i b) ≡ marked w l
+mark_apart [] i w b e = refl
+mark_apart (c ∷ cs) zero zero b e = true_false (eq-eqb zero zero refl) e
+mark_apart (c ∷ cs) zero (suc w) b e = refl
+mark_apart (c ∷ cs) (suc i) zero b e = refl
+mark_apart (c ∷ cs) (suc i) (suc w) b e = mark_apart cs i w b (less_apart i w e)
+  where
+    less_apart : (i w : ℕ) → (suc i == suc w) ≡ false → (i == w) ≡ false
+    less_apart i w e = grind (arith, nat_tests)
+
+no_mark : (l : List Bool) → any_mark l ≡ false → marks l ≡ 0
+no_mark [] e = refl
+no_mark (true ∷ bs) e = true_false refl e
+no_mark (false ∷ bs) e = let r : marks bs ≡ 0 = no_mark bs e in omega arith
+
+unmarked : (l : List Bool) (w : ℕ) → marks l ≡ 0 → marked w l ≡ false
+unmarked [] w e = refl
+unmarked (true ∷ bs) zero e = absurd (omega arith)
+unmarked (false ∷ bs) zero e = refl
+unmarked (b ∷ bs) (suc w) e = unmarked bs w (omega arith)
+
+none_seat : (w : ℕ) (o : Option ℕ) → is_some o ≡ false → is_seat w o ≡ false
+none_seat w None e = refl
+none_seat w (Some x) e = true_false refl e
+
+seat_some : (w : ℕ) (o : Option ℕ) → is_seat w o ≡ true → is_some o ≡ true
+seat_some w None e = true_false e refl
+seat_some w (Some x) e = refl
+
+seat_is : (v w : ℕ) (o : Option ℕ) → is_seat v o ≡ true → is_seat w o ≡ (v == w)
+seat_is v w None e = true_false e refl
+seat_is v w (Some x) e = ap (λ (z : ℕ). z == w) (eqb-true x v e)
+
+-- How many hold the lock in a mode, and whether a seat does
+
+abbrev pub count_in : Bool → Option Rwl → ℕ
+count_in m None = 0
+count_in true (Some x) = one_if (is_some x.writer)
+count_in false (Some x) = marks x.readers
+
+abbrev pub held_in : Bool → ℕ → Option Rwl → Bool
+held_in m w None = false
+held_in true w (Some x) = is_seat w x.writer
+held_in false w (Some x) = marked w x.readers
+
+pub record Fit (top : ℕ) (x : Rwl) : Type 0 where
+  pub limit : x.limit ≡ top
+  pub size : length x.readers ≡ 25
+  pub most : marks x.readers ≤ top
+  pub alone : is_some x.writer ≡ true → marks x.readers ≡ 0
+
+abbrev pub FitIn : ℕ → Option Rwl → Type 0
+FitIn top None = Unit {0}
+FitIn top (Some x) = Fit top x
+
+abbrev pub in_mode : Bool → Bool → Bool
+in_mode m mode = cond m mode (not mode)
+
+abbrev pub no_mode : Bool → Bool
+no_mode m = false
+
+-- what an entry by this seat does to the lock: in which modes it gets it, and gives it back
+pub record RwlStep (top who : ℕ) (o p : Option Rwl) (x y : Bool → Bool) : Type 0 where
+  pub fit : FitIn top p
+  pub all : (m : Bool) → count_in m p + one_if (y m) ≡ count_in m o + one_if (x m)
+  pub each : (m : Bool) (w : ℕ) → one_if (held_in m w p) + one_if ((who == w) && y m) ≡ one_if (held_in m w o) + one_if ((who == w) && x m)
+
+none_here : (c : Bool) → one_if (c && false) ≡ 0
+none_here true = refl
+none_here false = refl
+
+all_here : (c : Bool) → one_if (c && true) ≡ one_if c
+all_here true = refl
+all_here false = refl
+
+pub step_same : (top who : ℕ) (o : Option Rwl) → FitIn top o → RwlStep top who o o no_mode no_mode
+step_same top who o f = record { fit = f; all = λ m. refl; each = λ m w. refl }
+
+one_apart : (b : Bool) → b ≡ false → one_if b ≡ 0
+one_apart b e = ap one_if e
+
+one_here : (b : Bool) → b ≡ true → one_if b ≡ 1
+one_here b e = ap one_if e
+
+-- a writer gets it
+write_step : (top who : ℕ) (x : Rwl) → Fit top x → rwl_held x ≡ false → RwlStep top who (Some x) (Some (rwl_taken who true x)) (λ m. in_mode m true) no_mode
+write_step top who x f b = record {
+  fit = record { limit = f.limit; size = f.size; most = f.most; alone = λ e. no_mark x.readers (second_false (is_some x.writer) _ b) };
+  all = all;
+  each = each;
+}
+  where
+    all : (m : Bool) → count_in m (Some (rwl_taken who true x)) + one_if false ≡ count_in m (Some x) + one_if (in_mode m true)
+    all true = let e : one_if (is_some x.writer) ≡ 0 = one_apart _ (first_false (is_some x.writer) _ b) in omega arith
+    all false = refl
+
+    each : (m : Bool) (w : ℕ) → one_if (held_in m w (Some (rwl_taken who true x))) + one_if ((who == w) && false) ≡ one_if (held_in m w (Some x)) + one_if ((who == w) && in_mode m true)
+    each true w =
+        let e : one_if (is_seat w x.writer) ≡ 0 = one_apart _ (none_seat w x.writer (first_false (is_some x.writer) _ b)) in
+        let k : one_if ((who == w) && false) ≡ 0 = none_here (who == w) in
+        let l : one_if ((who == w) && true) ≡ one_if (who == w) = all_here (who == w) in
+        omega arith
+    each false w = refl
+
+-- a reader gets it
+read_step : (top who : ℕ) (x : Rwl) → Fit top x → who < 25 → marked who x.readers ≡ false → rwl_busy false x ≡ false → RwlStep top who (Some x) (Some (rwl_taken who false x)) (λ m. in_mode m false) no_mode
+read_step top who x f l n b = record {
+  fit = record {
+    limit = f.limit;
+    size = mark_size x.readers who true ∙ f.size;
+    most = room;
+    alone = λ e. true_false e (first_false (is_some x.writer) _ b);
+  };
+  all = all;
+  each = each;
+}
+  where
+    inside : who < length x.readers
+    inside = let s : length x.readers ≡ 25 = f.size in omega arith
+
+    more : marks (slice_set x.readers who true) ≡ marks x.readers + 1
+    more = marks_more x.readers who inside n
+
+    room : marks (slice_set x.readers who true) ≤ top
+    room =
+        let m : marks x.readers ≤ top = f.most in
+        let e : marks (slice_set x.readers who true) ≡ marks x.readers + 1 = more in
+        let q : (marks x.readers == top) ≡ false = ap (λ (k : ℕ). marks x.readers == k) (sym f.limit) ∙ second_false (is_some x.writer) _ b in
+        let less : marks x.readers < top = grind (arith, nat_tests) in
+        omega arith
+
+    all : (m : Bool) → count_in m (Some (rwl_taken who false x)) + one_if false ≡ count_in m (Some x) + one_if (in_mode m false)
+    all true = refl
+    all false = let e : marks (slice_set x.readers who true) ≡ marks x.readers + 1 = more in omega arith
+
+    by_seat : (w : ℕ) (c : Bool) → (who == w) ≡ c → one_if (marked w (slice_set x.readers who true)) + one_if (c && false) ≡ one_if (marked w x.readers) + one_if (c && true)
+    by_seat w true i =
+        let same : who ≡ w = eqb-true who w i in
+        let a : one_if (marked w x.readers) ≡ 0 = one_apart _ (subst (λ (z : ℕ). marked z x.readers ≡ false) same n) in
+        let c : one_if (marked w (slice_set x.readers who true)) ≡ 1 = one_here _ (subst (λ (z : ℕ). marked z (slice_set x.readers who true) ≡ true) same (mark_here x.readers who true inside)) in
+        omega arith
+    by_seat w false i = ap (λ (c : Bool). one_if c + 0) (mark_apart x.readers who w true i)
+
+    each : (m : Bool) (w : ℕ) → one_if (held_in m w (Some (rwl_taken who false x))) + one_if ((who == w) && false) ≡ one_if (held_in m w (Some x)) + one_if ((who == w) && in_mode m false)
+    each true w = refl
+    each false w = by_seat w (who == w) refl
+
+pub get_step : (top who : ℕ) (writer : Bool) (x : Rwl) → Fit top x → who < 25 → (is_seat who x.writer || marked who x.readers) ≡ false → rwl_busy writer x ≡ false
+    → RwlStep top who (Some x) (Some (rwl_taken who writer x)) (λ m. in_mode m writer) no_mode
+get_step top who true x f l n b = write_step top who x f b
+get_step top who false x f l n b = read_step top who x f l (second_false (is_seat who x.writer) _ n) b
+
+-- it is given back
+pub give_step : (top who : ℕ) (writer : Bool) (x : Rwl) → Fit top x → cond writer (is_seat who x.writer) (marked who x.readers) ≡ true → RwlStep top who (Some x) (Some (rwl_given who writer x)) no_mode (λ m. in_mode m writer)
+give_step top who true x f n = record {
+  fit = record { limit = f.limit; size = f.size; most = f.most; alone = λ e. absurd (true_false e refl) };
+  all = all;
+  each = each;
+}
+  where
+    all : (m : Bool) → count_in m (Some (rwl_given who true x)) + one_if (in_mode m true) ≡ count_in m (Some x) + one_if false
+    all true = let e : one_if (is_some x.writer) ≡ 1 = one_here _ (seat_some who x.writer n) in omega arith
+    all false = refl
+
+    each : (m : Bool) (w : ℕ) → one_if (held_in m w (Some (rwl_given who true x))) + one_if ((who == w) && in_mode m true) ≡ one_if (held_in m w (Some x)) + one_if ((who == w) && false)
+    each true w =
+        let e : one_if (is_seat w x.writer) ≡ one_if (who == w) = ap one_if (seat_is who w x.writer n) in
+        let k : one_if ((who == w) && false) ≡ 0 = none_here (who == w) in
+        let l : one_if ((who == w) && true) ≡ one_if (who == w) = all_here (who == w) in
+        omega arith
+    each false w = refl
+give_step top who false x f n = record {
+  fit = record {
+    limit = f.limit;
+    size = mark_size x.readers who false ∙ f.size;
+    most = let e : marks (slice_set x.readers who false) + 1 ≡ marks x.readers = marks_less x.readers who n in let m : marks x.readers ≤ top = f.most in omega arith;
+    alone = λ e. let z : marks x.readers ≡ 0 = f.alone e in let k : marks (slice_set x.readers who false) + 1 ≡ marks x.readers = marks_less x.readers who n in omega arith;
+  };
+  all = all;
+  each = each;
+}
+  where
+    all : (m : Bool) → count_in m (Some (rwl_given who false x)) + one_if (in_mode m false) ≡ count_in m (Some x) + one_if false
+    all true = refl
+    all false = let e : marks (slice_set x.readers who false) + 1 ≡ marks x.readers = marks_less x.readers who n in omega arith
+
+    by_seat : (w : ℕ) (c : Bool) → (who == w) ≡ c → one_if (marked w (slice_set x.readers who false)) + one_if (c && true) ≡ one_if (marked w x.readers) + one_if (c && false)
+    by_seat w true i =
+        let same : who ≡ w = eqb-true who w i in
+        let a : one_if (marked w x.readers) ≡ 1 = one_here _ (subst (λ (z : ℕ). marked z x.readers ≡ true) same n) in
+        let c : one_if (marked w (slice_set x.readers who false)) ≡ 0 = one_apart _ (subst (λ (z : ℕ). marked z (slice_set x.readers who false) ≡ false) same (mark_unset x.readers who)) in
+        omega arith
+    by_seat w false i = ap (λ (c : Bool). one_if c + 0) (mark_apart x.readers who w false i)
+
+    each : (m : Bool) (w : ℕ) → one_if (held_in m w (Some (rwl_given who false x))) + one_if ((who == w) && in_mode m false) ≡ one_if (held_in m w (Some x)) + one_if ((who == w) && false)
+    each true w = refl
+    each false w = by_seat w (who == w) refl
+
+-- it stops being live
+pub leave_step : (top who : ℕ) (x : Rwl) → rwl_held x ≡ false → RwlStep top who (Some x) None no_mode no_mode
+leave_step top who x n = record { fit = tt; all = all; each = each }
+  where
+    none : marks x.readers ≡ 0
+    none = no_mark x.readers (second_false (is_some x.writer) _ n)
+
+    all : (m : Bool) → 0 + one_if false ≡ count_in m (Some x) + one_if false
+    all true = let e : one_if (is_some x.writer) ≡ 0 = one_apart _ (first_false (is_some x.writer) _ n) in omega arith
+    all false = let e : marks x.readers ≡ 0 = none in omega arith
+
+    each : (m : Bool) (w : ℕ) → one_if false + one_if ((who == w) && false) ≡ one_if (held_in m w (Some x)) + one_if ((who == w) && false)
+    each true w = let e : one_if (is_seat w x.writer) ≡ 0 = one_apart _ (none_seat w x.writer (first_false (is_some x.writer) _ n)) in omega arith
+    each false w = let e : one_if (marked w x.readers) ≡ 0 = one_apart _ (unmarked x.readers w none) in omega arith
+
+-- a new lock is held by nobody
+new_marks : (n w : ℕ) → slice_index_or (replicate n false) w false ≡ false
+new_marks zero w = refl
+new_marks (suc n) zero = refl
+new_marks (suc n) (suc w) = new_marks n w
+
+pub new_fit : (id limit : ℕ) → Fit limit (new_rwl id limit)
+new_fit id limit = record { limit = refl; size = refl; most = omega arith; alone = λ e. absurd (true_false e refl) }
+
+pub new_free : (m : Bool) (w id limit : ℕ) → (count_in m (Some (new_rwl id limit)) ≡ 0) × (one_if (held_in m w (Some (new_rwl id limit))) ≡ 0)
+new_free true w id limit = (refl, refl)
+new_free false w id limit = (refl, one_apart _ (new_marks 25 w))

@@ -1,0 +1,220 @@
+-- The sum that a cell holds after tallies.
+use Rattle.std.proofs.Common.{◌≡◌, ℕ, ◌+◌, ◌<◌, ◌≤◌, Bool, true, false, cond, List, [], ◌∷◌, Option, Some, None, refl, sym, ◌∙◌, ap, subst, arith}
+use Rattle.std.specs.Prelude.{◌==◌, ◌&&◌, not, nat_lt, is_some, is_none, length, ℤ, pos, slice_set, slice_index_or, replicate, option_map}
+use Rattle.std.proofs.lemmas.Bool.{eqb-true, eq-eqb}
+use Rattle.mtapi_values.specs.Conditions.{holds}
+use Rattle.mtapi_values.specs.declared.handles.TaskHandle.{TaskHandle}
+use Rattle.mtapi_values.specs.declared.statuses.MtapiStatus.{MtapiStatus}
+use Rattle.mtapi_values.specs.declared.statuses.MtapiStatus.TheVariants as m
+use Rattle.mtapi_machine.specs.declared.ops.Op.{Op}
+use Rattle.mtapi_machine.specs.declared.ops.Op.TheVariants as op
+use Rattle.mtapi_machine.specs.declared.replies.Reply.{Reply}
+use Rattle.mtapi_machine.specs.declared.replies.Reply.TheVariants as reply
+use Rattle.handle_pool.specs.Issued.{Listed, live_of, live_object, count_listed, listed, change, issue, update, with_fields, gone}
+use Rattle.mtapi_objects.specs.Tasks.{Task, TaskState, Scheduled, Running, Ended, runner, end_of, scheduled, Adds, tally_args, runs_on, is_unstarted, is_unended, with_notes, with_tally, tally_failed, tally_has}
+use Rattle.mtapi_objects.specs.Mutexes.{Mutex}
+use Rattle.mtapi_objects.specs.Segments.{Segment, with_cell}
+use Rattle.mtapi_machine.specs.State.{State}
+use Rattle.mtapi_machine.specs.Moves.{Move, Mutexes, makes, alters, removes, notes, apply, after_moves}
+use Rattle.mtapi_machine.specs.Row.{Allows, moves_of}
+use Rattle.mtapi_machine.specs.Rows.{row}
+use Rattle.mtapi_machine.specs.TallyRows.{takes_both, locks}
+use Rattle.mtapi_machine.specs.Laws.{IsMade}
+use Rattle.mtapi_machine.proofs.Made.{AllGives, given, on_live}
+use Rattle.mtapi_machine.proofs.Changes.{at-update, some_same}
+use Rattle.history_law.specs.Tally.{record_of, adds_to, sum_of}
+use Rattle.history_law.proofs.Accepted.{shown}
+use Rattle.history_law.proofs.Handles.{OnceIn}
+use Rattle.history_law.proofs.Found.{at_skip, at_dead, at_here, count_changed, count_issued}
+use Rattle.history_law.proofs.Held.{DeadEnded}
+use Rattle.history_law.proofs.Every.{Every, every_change, every_map, always}
+use Rattle.history_law.proofs.SeatMoves.{May}
+use Rattle.history_law.proofs.Others.{runs_over}
+use Rattle.history_law.proofs.Answered.{true_false, gives_cond}
+use Rattle.history_law.proofs.Firsts.{found_count, one_passes}
+use Rattle.history_law.proofs.Ties.{Owns, none_count, none_runs}
+use Rattle.history_law.proofs.Exclusive.{says_asked}
+use Rattle.history_law.proofs.Sums.{sum_none, record_new, record_beside, record_other, record_at, record_updated, cells_size, cell_apart, cell_new}
+use Rattle.history_law.proofs.TallyMoves.{adds, weight, weigh_off, Each, HasRead, cells_of}
+
+-- A change of the one task that runs on a worker
+
+pub every_alone : (P Q : Task → Type 0) (w j : ℕ) (f : Listed Task → Listed Task) (l : List (Listed Task)) (x : Task) → live_object l j ≡ Some x → runs_on w x ≡ true → count_listed (runs_on w) l ≤ 1 → DeadEnded l
+    → ((u : Task) → runs_on w u ≡ false → P u → Q u) → ((r : Listed Task) → r.fields ≡ x → P r.fields → Q (f r).fields) → Every P l → Every Q (change j f l)
+unfolding live_of change
+every_alone P Q w j f [] x e k c d g h a = tt
+every_alone P Q w j f (r ∷ rs) x e k c d g h a = by_live r.live refl d.0 c (λ i n. every_alone P Q w j f rs x i k n d.1 g h a.1)
+  where
+    rest : (b : Bool) → cond {A = ℕ} b 1 0 + count_listed (runs_on w) rs ≤ 1 → count_listed (runs_on w) rs ≤ 1
+    rest b n = omega arith
+
+    -- the head is another one than the one that is found behind it
+    past : r.live ≡ true → live_object rs j ≡ Some x → cond {A = ℕ} (r.live && runs_on w r.fields) 1 0 + count_listed (runs_on w) rs ≤ 1 → runs_on w r.fields ≡ false
+    past v i n = by_runs (runs_on w r.fields) refl
+      where
+        by_runs : (b : Bool) → runs_on w r.fields ≡ b → b ≡ false
+        by_runs false q = refl
+        by_runs true q =
+            let m : 1 ≤ count_listed (runs_on w) rs = found_count (runs_on w) rs j x i k in
+            let o : cond {A = ℕ} (r.live && runs_on w r.fields) 1 0 ≡ 1 = (λ z. cond {A = ℕ} (v z && q z) 1 0) in
+            absurd (omega arith)
+
+    by_hand : r.live ≡ true → (b : Bool) → (r.handle == j) ≡ b → cond {A = ℕ} (r.live && runs_on w r.fields) 1 0 + count_listed (runs_on w) rs ≤ 1 → (live_object rs j ≡ Some x → count_listed (runs_on w) rs ≤ 1 → Every Q (change j f rs)) → Every Q (cond b (f r ∷ rs) (r ∷ change j f rs))
+    by_hand v true i n m =
+        let same : r.fields ≡ x = some_same (sym (at_here r rs j v i) ∙ e) in
+        let o : cond {A = ℕ} (r.live && runs_on w r.fields) 1 0 ≡ 1 = (λ z. cond {A = ℕ} (v z && runs_on w (same z)) 1 0) ∙ ap (λ (b : Bool). cond {A = ℕ} b 1 0) k in
+        let z : count_listed (runs_on w) rs ≡ 0 = omega arith in
+        (h r same a.0, every_map (λ u. runs_on w u ≡ false) P Q rs (λ u b c. g u b c) (none_runs w rs d.1 z) a.1)
+    by_hand v false i n m =
+        let behind : live_object rs j ≡ Some x = sym (at_skip r rs j i) ∙ e in
+        (g r.fields (past v behind n) a.0, m behind (rest _ n))
+
+    by_live : (b : Bool) → r.live ≡ b → (r.live ≡ false → is_unended r.fields ≡ false) → cond {A = ℕ} (r.live && runs_on w r.fields) 1 0 + count_listed (runs_on w) rs ≤ 1 → (live_object rs j ≡ Some x → count_listed (runs_on w) rs ≤ 1 → Every Q (change j f rs)) → Every Q (cond (b && (r.handle == j)) (f r ∷ rs) (r ∷ change j f rs))
+    by_live true v o n m = by_hand v (r.handle == j) refl n m
+    by_live false v o n m = (g r.fields (runs_over w r.fields (o v)) a.0, m (sym (at_dead r rs j v) ∙ e) (rest _ n))
+
+pub off_when : (b : Bool) → (b ≡ true → ⊥) → b ≡ false
+off_when true f = absurd (f refl)
+off_when false f = refl
+
+-- a task that has begun and hasn't ended runs
+pub some_worker : (t : Task) → is_unended t ≡ true → is_unstarted t ≡ false → (w : ℕ) × (runs_on w t ≡ true)
+some_worker t = by_state t.state
+  where
+    by_state : (x : TaskState) → is_none (end_of x) ≡ true → scheduled x ≡ false → (w : ℕ) × (holds (λ r. r.0 == w) (runner x) ≡ true)
+    by_state Scheduled a b = true_false refl b
+    by_state (Running w k) a b = (w, eq-eqb w w refl)
+    by_state (Ended e n) a b = true_false a refl
+
+pub runs_unended : (w : ℕ) (t : Task) → runs_on w t ≡ true → is_unended t ≡ true
+runs_unended w t r = by_bool (is_unended t) refl
+  where
+    by_bool : (b : Bool) → is_unended t ≡ b → b ≡ true
+    by_bool true e = refl
+    by_bool false e = true_false r (runs_over w t e)
+
+abbrev pub HasId : ℕ → Mutex → Bool
+HasId i y = y.id == i
+
+-- two workers that own a mutex of one id are one
+pub one_owner : (ms : List (Listed Mutex)) (i v w h k : ℕ) → count_listed (HasId i) ms ≤ 1 → Owns v i (live_object ms h) → Owns w i (live_object ms k) → v ≡ w
+one_owner ms i v w h k c a b = by_both (live_object ms h) (live_object ms k) refl refl a b
+  where
+    owner_same : {x y : ℕ} → Some x ≡ Some y → x ≡ y
+    owner_same e = cc
+
+    by_both : (o p : Option Mutex) → live_object ms h ≡ o → live_object ms k ≡ p → Owns v i o → Owns w i p → v ≡ w
+    by_both None p e f x y = absurd x
+    by_both (Some m) None e f x y = absurd y
+    by_both (Some m) (Some l) e f x y =
+        let same : m ≡ l = one_passes (HasId i) ms h k m l c e f (eq-eqb m.id i x.2) (eq-eqb l.id i y.2) in
+        owner_same (sym x.0 ∙ (ap (λ (z : Mutex). z.owner) same ∙ y.0))
+
+-- No two live mutexes have one id
+
+pub ids_move : (i who : ℕ) (o : Op) (s : State) (x : Move) → IsMade s o x → May s who o x → count_listed (HasId i) s.mutexes ≤ 1 → count_listed (HasId i) (apply x s).mutexes ≤ 1
+ids_move i who o s (makes Mutexes j x) e k v = by_id (x.id == i) refl (count_issued (HasId i) j x s.mutexes)
+  where
+    by_id : (b : Bool) → (x.id == i) ≡ b → count_listed (HasId i) (issue j x s.mutexes) ≡ count_listed (HasId i) s.mutexes + cond b 1 0 → count_listed (HasId i) (issue j x s.mutexes) ≤ 1
+    by_id true q c =
+        let z : count_listed (HasId x.id) s.mutexes ≡ 0 = none_count (HasId x.id) s.mutexes k in
+        let n : count_listed (HasId i) s.mutexes ≡ 0 = subst (λ (d : ℕ). count_listed (HasId d) s.mutexes ≡ 0) (eqb-true x.id i q) z in
+        omega arith
+    by_id false q c = let m : count_listed (HasId i) s.mutexes ≤ 1 = v in omega arith
+ids_move i who o s (alters Mutexes j f) e k v =
+    let t = shown (live_object s.mutexes j) e.may in
+    let c = count_changed (HasId i) j (with_fields f) (HasId i t.0) s.mutexes t.0 t.1 (λ r a q. (λ z. a z && (k r.fields z == i)) ∙ ap (HasId i) q) in
+    let m : count_listed (HasId i) s.mutexes ≤ 1 = v in
+    omega arith
+ids_move i who o s (removes Mutexes j) e k v =
+    let t = shown (live_object s.mutexes j) e.may in
+    let c = count_changed (HasId i) j gone false s.mutexes t.0 t.1 (λ r a q. refl) in
+    let m : count_listed (HasId i) s.mutexes ≤ 1 = v in
+    omega arith
+ids_move i who o s (makes _ j x) e k v = v
+ids_move i who o s (alters _ j f) e k v = v
+ids_move i who o s (removes _ j) e k v = v
+ids_move i who o s _ e k v = v
+
+pub asked_true : (r : Reply) → says_asked r ≡ true → r ≡ reply.Asked true
+asked_true (reply.Asked b) e = ap reply.Asked e
+asked_true _ e = true_false e refl
+
+module _ (S C : ℕ) where
+  -- What a `tally_lock` leaves of each task that adds to the cell
+
+  abbrev pub Took : (List ℤ → Type 0) → State → ℕ → Reply → List Move → Type 0
+  Took R s t x ms =
+      (says_asked x ≡ true → (u : Task) (v : Segment) → live_object (after_moves ms s).tasks t ≡ Some u → live_object s.segments u.notes.tally.segment ≡ Some v → adds_to S C u ≡ true → R u.args) → Every (Each S C R) (after_moves ms s).tasks
+
+  module _ (R : List ℤ → Type 0) (s : State) (who : ℕ) (base : Every (Each S C R) s.tasks) where
+    gives_up_each : (t : ℕ) (status : MtapiStatus) → Took R s t (reply.Asked false) (notes t (with_tally (tally_failed status)) ∷ [])
+    gives_up_each t status = λ h. every_change (Each S C R) t (with_fields (with_notes (with_tally (tally_failed status)))) s.tasks (λ r a i q. true_false q refl) base
+
+    takes_each : (t cell : ℕ) (x : Task) (a b : Option ℕ) → live_object s.tasks t ≡ Some x → AllGives (Took R s t) (takes_both s who t cell a b)
+    takes_each t cell x None b e = gives_up_each t m.ErrActionFailed
+    takes_each t cell x (Some a) None e = gives_up_each t m.ErrActionFailed
+    takes_each t cell x (Some a) (Some b) e =
+        on_live (Took R s t) (live_object s.mutexes a) _ _ (gives_up_each t m.ErrActionFailed) (λ y d. on_live (Took R s t) (live_object s.segments b) _ _ (gives_up_each t m.ErrActionFailed) (λ v f.
+        gives_cond (Took R s t) (not (nat_lt cell (length v.cells))) _ _ (λ i. gives_up_each t m.ErrActionFailed)
+        (λ i. gives_cond (Took R s t) (is_some y.owner) _ _ (λ j h. base)
+        (λ j h. every_change (Each S C R) t (with_fields (with_notes (with_tally (tally_has a b)))) s.tasks
+        (λ r c z q. let same : x ≡ r.fields = some_same (sym e ∙ c) in
+        subst (λ (u : Task). R u.args) same (h refl (with_notes (with_tally (tally_has a b)) x) v (at-update t (with_notes (with_tally (tally_has a b))) x s.tasks e) f (subst (λ (u : Task). adds S C (tally_has a b u.notes.tally) u.args ≡ true) (sym same) q))) base))))
+
+    locks_each : (t : ℕ) (x : Task) (args : List ℤ) (a : Option Adds) → live_object s.tasks t ≡ Some x → AllGives (Took R s t) (locks s who t args a)
+    locks_each t x args None e = gives_up_each t _
+    locks_each t x args (Some a) e = takes_each t a.cell x _ _ e
+
+    pub lock_each : (t : TaskHandle) (r : Reply) → Allows (row s who (op.TallyLock t) r) r → Took R s t.0 r (moves_of (row s who (op.TallyLock t) r))
+    lock_each t r a =
+        given (Took R s t.0) (row s who (op.TallyLock t) r) r (λ x h. base)
+        (λ c. on_live (Took R s t.0) (live_object s.tasks t.0) _ _ (λ h. base) (λ x e b d. locks_each t.0 x x.args (tally_args x.args) e)) a
+
+  -- What a cell holds: what the tallies of it have written; and what one has read and hasn't written yet is that, too
+
+  abbrev pub cell_value : List ℤ → ℤ
+  cell_value c = slice_index_or c C (pos 0)
+
+  abbrev pub Sum : Option (List ℤ) → List (Listed Task) → Type 0
+  Sum None l = Unit {0}
+  Sum (Some c) l = C < length c → (cell_value c ≡ sum_of (weight S C) l) × Every (HasRead S C (sum_of (weight S C) l)) l
+
+  pub sum_keep : (o : Option (List ℤ)) (l k : List (Listed Task)) → sum_of (weight S C) k ≡ sum_of (weight S C) l → (Every (HasRead S C (sum_of (weight S C) l)) l → Every (HasRead S C (sum_of (weight S C) l)) k) → Sum o l → Sum o k
+  sum_keep None l k e f v = tt
+  sum_keep (Some c) l k e f v = λ i. let x = v i in (x.0 ∙ sym e, subst (λ (w : ℤ). Every (HasRead S C w) k) (sym e) (f x.1))
+
+  pub sum_cells : (s : State) (o p : Option (List ℤ)) (l : List (Listed Task)) → o ≡ p → Sum o l → Sum p l
+  sum_cells s o p l e v = subst (λ (q : Option (List ℤ)). Sum q l) e v
+
+  -- a new segment
+  pub create_sum : (s : State) (h : ℕ) (x : Segment) → (k : ℕ) → x.cells ≡ replicate k (pos 0) → listed h s.segments ≡ 0 → Every (Each S C (λ a. 1 ≤ listed S s.segments)) s.tasks → Sum (cells_of S C s.segments) s.tasks → Sum (cells_of S C (issue h x s.segments)) s.tasks
+  create_sum s h x k q z known v = by_same (h == S) refl
+    where
+      by_same : (b : Bool) → (h == S) ≡ b → Sum (cells_of S C (issue h x s.segments)) s.tasks
+      by_same true i =
+          let same : h ≡ S = eqb-true h S i in
+          let none : listed S s.segments ≡ 0 = subst (λ (j : ℕ). listed j s.segments ≡ 0) same z in
+          let now : cells_of S C (issue h x s.segments) ≡ Some (replicate k (pos 0)) = ap (λ (o : Option Segment). option_map (λ (y : Segment). y.cells) o) (subst (λ (j : ℕ). record_of (issue h x s.segments) j ≡ Some x) same (record_new h x s.segments z)) ∙ ap Some q in
+          let apart : Every (λ t. adds S C t.notes.tally t.args ≡ false) s.tasks = every_map (Each S C (λ a. 1 ≤ listed S s.segments)) (λ t. Unit {0}) (λ t. adds S C t.notes.tally t.args ≡ false) s.tasks (λ t a u. off_when _ (λ y. none_some (a y) none)) known (always s.tasks) in
+          let zero : sum_of (weight S C) s.tasks ≡ pos 0 = sum_none (weight S C) s.tasks (every_map (λ t. adds S C t.notes.tally t.args ≡ false) (λ t. Unit {0}) (λ t. weight S C t ≡ pos 0) s.tasks (λ t a u. weigh_off S C t.notes.tally t.args a) apart (always s.tasks)) in
+          sum_cells s _ _ s.tasks (sym now)
+          (λ j. (cell_new k C ∙ sym zero, every_map (λ t. adds S C t.notes.tally t.args ≡ false) (λ t. Unit {0}) (HasRead S C (sum_of (weight S C) s.tasks)) s.tasks (λ t a u b c d. true_false b a) apart (always s.tasks)))
+        where
+          none_some : {n : ℕ} → 1 ≤ n → n ≡ 0 → ⊥
+          none_some a b = absurd (omega arith)
+      by_same false i = sum_cells s _ _ s.tasks (sym (ap (λ (o : Option Segment). option_map (λ (y : Segment). y.cells) o) (record_beside h S x s.segments i))) v
+
+  -- a change of one cell of a segment, where it isn't the cell
+  pub other_cell : (s : State) (h c : ℕ) (value : ℤ) (y : Segment) (l : List (Listed Task)) → OnceIn s.segments → live_object s.segments h ≡ Some y → ((h == S) && (c == C)) ≡ false → Sum (cells_of S C s.segments) l → Sum (cells_of S C (update h (with_cell c value) s.segments)) l
+  other_cell s h c value y l o e n v = by_same (h == S) refl
+    where
+      by_same : (b : Bool) → (h == S) ≡ b → Sum (cells_of S C (update h (with_cell c value) s.segments)) l
+      by_same true i =
+          let same : h ≡ S = eqb-true h S i in
+          let apart : (c == C) ≡ false = sym (ap (λ (b : Bool). b && (c == C)) i) ∙ n in
+          let before : cells_of S C s.segments ≡ Some y.cells = ap (λ (q : Option Segment). option_map (λ (z : Segment). z.cells) q) (subst (λ (j : ℕ). record_of s.segments j ≡ Some y) same (record_at h y s.segments o e)) in
+          let now : cells_of S C (update h (with_cell c value) s.segments) ≡ Some (slice_set y.cells c value) = ap (λ (q : Option Segment). option_map (λ (z : Segment). z.cells) q) (subst (λ (j : ℕ). record_of (update h (with_cell c value) s.segments) j ≡ Some (with_cell c value y)) same (record_updated h (with_cell c value) y s.segments o e)) in
+          let w : Sum (Some y.cells) l = sum_cells s _ _ l before v in
+          sum_cells s _ _ l (sym now) (λ j. let x = w (subst (λ (k : ℕ). C < k) (cells_size y.cells c value) j) in (cell_apart y.cells c C value apart ∙ x.0, x.1))
+      by_same false i = sum_cells s _ _ l (sym (ap (λ (q : Option Segment). option_map (λ (z : Segment). z.cells) q) (record_other h S (with_fields (with_cell c value)) s.segments (λ r. refl) i))) v

@@ -1,0 +1,247 @@
+-- What each move leaves of the tallies of a cell: what they wrote, what they read, the mutex that they name, and how they ended.
+use Rattle.std.proofs.Common.{◌≡◌, ℕ, Bool, true, false, cond, List, Option, ◌⊎◌, inl, inr, refl, sym, ◌∙◌, ap, subst}
+use Rattle.std.specs.Prelude.{◌==◌, ◌&&◌, not, ℤ, pos, option_map}
+use Rattle.std.proofs.lemmas.Bool.{eqb-true}
+use Rattle.mtapi_values.specs.declared.ends.TaskEnd.{TaskEnd}
+use Rattle.mtapi_values.specs.declared.ends.TaskEnd.TheVariants.{Failed}
+use Rattle.mtapi_machine.specs.declared.ops.Op.{Op}
+use Rattle.mtapi_machine.specs.declared.ops.Op.TheVariants as op
+use Rattle.mtapi_objects.specs.Actions.{has_worker}
+use Rattle.handle_pool.specs.Issued.{Listed, live_of, change, with_fields, gone}
+use Rattle.mtapi_objects.specs.Groups.{is_member, freed, let_go}
+use Rattle.mtapi_objects.specs.Mutexes.{Mutex}
+use Rattle.mtapi_objects.specs.Segments.{Segment}
+use Rattle.mtapi_objects.specs.Tasks.{Task, Notes, TallyNotes, Running, runs_on, is_unstarted, is_unended, with_state, with_notes, ended, new_task, tally_args, cell_in, number_in, tally_has, tally_read}
+use Rattle.mtapi_machine.specs.State.{State, workers}
+use Rattle.mtapi_machine.specs.Moves.{Move, Segments, starts_task, runs_task, ends_task, ends_waiting, withdraws, notes, leaves, frees_members, lets_members_go, makes, alters, removes, apply}
+use Rattle.mtapi_machine.specs.Laws.{IsMade, EndsTask, WithdrawsAction, ends_many, makes_kind}
+use Rattle.mtapi_machine.proofs.Made.{fst_true, unstarted_unended}
+use Rattle.mtapi_machine.proofs.Moves.{sorts_keep}
+use Rattle.history_law.specs.Exclusion.{is_tally_end}
+use Rattle.history_law.specs.Tally.{record_of, is_completed, sum_of}
+use Rattle.history_law.proofs.Answered.{true_false}
+use Rattle.history_law.proofs.Every.{Every, every_issue, every_change, every_all, every_at, every_passing, every_both}
+use Rattle.history_law.proofs.SeatMoves.{May, MayEnd, Noted, SameWork, Does, stays, fails, has, reads, writes, is_tally_lock, is_tally_read, is_tally_write, writes_cells, EndsTally}
+use Rattle.history_law.proofs.Others.{same_found, runs_over}
+use Rattle.history_law.proofs.Ties.{has_both, Tied, Ties, ties_move, stage_none}
+use Rattle.history_law.proofs.Sums.{sum_issue, sum_change, sum_all, sum_ends, record_view}
+
+and_off : (b c : Bool) → c ≡ false → (b && c) ≡ false
+and_off true c e = e
+and_off false c e = refl
+
+module _ (S C : ℕ) where
+  -- what a tally with these notes and arguments adds to
+  abbrev pub adds : TallyNotes → List ℤ → Bool
+  adds x args = (not (x.stage == 0) && not (x.stage == 4)) && ((x.segment == S) && (cell_in (tally_args args) == C))
+
+  -- it has written: it is past the stages 1 and 2
+  abbrev pub past_read : TallyNotes → Bool
+  past_read x = not (x.stage == 1) && not (x.stage == 2)
+
+  -- the number that it has written beyond what it read
+  abbrev pub weigh : TallyNotes → List ℤ → ℤ
+  weigh x args = cond (adds x args && past_read x) (number_in (tally_args args)) (pos 0)
+
+  abbrev pub weight : Task → ℤ
+  weight t = weigh t.notes.tally t.args
+
+  abbrev pub written : State → ℤ
+  written s = sum_of weight s.tasks
+
+  pub both_of : (x : TallyNotes) (args : List ℤ) → adds x args ≡ true → has_both x ≡ true
+  both_of x args e = fst_true (has_both x) _ e
+
+  pub weigh_off : (x : TallyNotes) (args : List ℤ) → adds x args ≡ false → weigh x args ≡ pos 0
+  weigh_off x args e = ap (λ (b : Bool). cond (b && past_read x) (number_in (tally_args args)) (pos 0)) e
+
+  pub weigh_early : (x : TallyNotes) (args : List ℤ) (k : ℕ) → (x.stage == k) ≡ true → (not (k == 1) && not (k == 2)) ≡ false → weigh x args ≡ pos 0
+  weigh_early x args k e n =
+      let p : past_read x ≡ false = ap (λ (j : ℕ). not (j == 1) && not (j == 2)) (eqb-true x.stage k e) ∙ n in
+      ap (λ (b : Bool). cond b (number_in (tally_args args)) (pos 0)) (and_off (adds x args) (past_read x) p)
+
+  adds_none : (x : TallyNotes) (args : List ℤ) → has_both x ≡ false → adds x args ≡ false
+  adds_none x args e = ap (λ (b : Bool). b && ((x.segment == S) && (cell_in (tally_args args) == C))) e
+
+  does_weigh : (o : Op) (x y : TallyNotes) (args : List ℤ) → is_tally_write o ≡ false → Does o x y → weigh y args ≡ weigh x args
+  does_weigh o x y args n (stays e) = ap (λ (z : TallyNotes). weigh z args) e
+  does_weigh o x y args n (fails c z e) = ap (λ (z : TallyNotes). weigh z args) e ∙ sym (weigh_off x args (adds_none x args (stage_none x z)))
+  does_weigh o x y args n (has a b l z e) = ap (λ (z : TallyNotes). weigh z args) e ∙ (weigh_early (tally_has a b x) args 1 refl refl ∙ sym (weigh_off x args (adds_none x args (stage_none x z))))
+  does_weigh o x y args n (reads v l z e) = ap (λ (z : TallyNotes). weigh z args) e ∙ (weigh_early (tally_read v x) args 2 refl refl ∙ sym (weigh_early x args 1 z refl))
+  does_weigh o x y args n (writes l z e) = true_false l n
+
+  pub written_move : (v : ℤ) (who : ℕ) (o : Op) → is_tally_write o ≡ false → (s : State) (x : Move) → May s who o x → written s ≡ v → written (apply x s) ≡ v
+  written_move v who o n s (starts_task j t) k e = sum_issue weight j (new_task t s.starts) s.tasks refl ∙ e
+  written_move v who o n s (runs_task j y z) k e = sum_change weight j (with_fields (with_state (Running y z))) s.tasks (λ r a. refl) ∙ e
+  written_move v who o n s (ends_task j x) k e = sum_change weight j (ended x s.ends) s.tasks (λ r a. refl) ∙ e
+  written_move v who o n s (ends_waiting p x) k e = sum_ends weight _ x s.ends s.tasks (λ t m. refl) ∙ e
+  written_move v who o n s (withdraws j f c) k e = sum_ends weight _ (Failed c) s.ends s.tasks (λ t m. refl) ∙ e
+  written_move v who o n s (notes j f) k e =
+      sum_change weight j (with_fields (with_notes f)) s.tasks
+      (λ r a. does_weigh o _ _ r.fields.args n (subst (λ (t : Task). Does o t.notes.tally (f t.notes).tally) (same_found s j j refl k.0 r.fields k.1 a) k.3)) ∙ e
+  written_move v who o n s (leaves j) k e = sum_change weight j gone s.tasks (λ r a. refl) ∙ e
+  written_move v who o n s (frees_members g) k e = sum_all weight _ freed s.tasks (λ r. refl) ∙ e
+  written_move v who o n s (lets_members_go g) k e = sum_all weight (is_member g) let_go s.tasks (λ r. refl) ∙ e
+  written_move v who o n s (makes z j x) k e = sorts_keep (λ t. written t ≡ v) (λ t g q m c r y p. p) z _ s e
+  written_move v who o n s (alters z j f) k e = sorts_keep (λ t. written t ≡ v) (λ t g q m c r y p. p) z _ s e
+  written_move v who o n s (removes z j) k e = sorts_keep (λ t. written t ≡ v) (λ t g q m c r y p. p) z _ s e
+  written_move v who o n s _ k e = e
+
+  -- What holds of the arguments of each task that adds to the cell
+
+  abbrev pub Each : (List ℤ → Type 0) → Task → Type 0
+  Each R t = adds t.notes.tally t.args ≡ true → R t.args
+
+  pub does_adds : (o : Op) (x y : TallyNotes) (args : List ℤ) → is_tally_lock o ≡ false → Does o x y → adds y args ≡ true → adds x args ≡ true
+  does_adds o x y args n (stays e) a = ap (λ (z : TallyNotes). adds z args) (sym e) ∙ a
+  does_adds o x y args n (fails c z e) a = true_false (ap (λ (z : TallyNotes). adds z args) (sym e) ∙ a) refl
+  does_adds o x y args n (has c d l z e) a = true_false l n
+  does_adds o x y args n (reads v l z e) a = ap (λ (k : ℕ). (not (k == 0) && not (k == 4)) && ((x.segment == S) && (cell_in (tally_args args) == C))) (eqb-true x.stage 1 z) ∙ (ap (λ (z : TallyNotes). adds z args) (sym e) ∙ a)
+  does_adds o x y args n (writes l z e) a = ap (λ (k : ℕ). (not (k == 0) && not (k == 4)) && ((x.segment == S) && (cell_in (tally_args args) == C))) (eqb-true x.stage 2 z) ∙ (ap (λ (z : TallyNotes). adds z args) (sym e) ∙ a)
+
+  pub each_move : (R : List ℤ → Type 0) (who : ℕ) (o : Op) → is_tally_lock o ≡ false → (s : State) (x : Move) → May s who o x → Every (Each R) s.tasks → Every (Each R) (apply x s).tasks
+  each_move R who o n s (starts_task j t) k v = every_issue (Each R) j (new_task t s.starts) s.tasks (λ a. true_false a refl) v
+  each_move R who o n s (runs_task j y z) k v = every_change (Each R) j (with_fields (with_state (Running y z))) s.tasks (λ r a i. i) v
+  each_move R who o n s (ends_task j e) k v = every_change (Each R) j (ended e s.ends) s.tasks (λ r a i. i) v
+  each_move R who o n s (ends_waiting p e) k v = every_passing (Each R) _ e s.ends s.tasks (λ t m q i. i) v
+  each_move R who o n s (withdraws j f c) k v = every_passing (Each R) _ (Failed c) s.ends s.tasks (λ t m q i. i) v
+  each_move R who o n s (notes j f) k v =
+      every_change (Each R) j (with_fields (with_notes f)) s.tasks
+      (λ r a i b. i (does_adds o _ _ r.fields.args n (subst (λ (t : Task). Does o t.notes.tally (f t.notes).tally) (same_found s j j refl k.0 r.fields k.1 a) k.3) b)) v
+  each_move R who o n s (leaves j) k v = every_change (Each R) j gone s.tasks (λ r a i. i) v
+  each_move R who o n s (frees_members g) k v = every_all (Each R) _ freed s.tasks (λ r i. i) v
+  each_move R who o n s (lets_members_go g) k v = every_all (Each R) (is_member g) let_go s.tasks (λ r i. i) v
+  each_move R who o n s (makes z j x) k v = sorts_keep (λ t. Every (Each R) t.tasks) (λ t g q m c r y p. p) z _ s v
+  each_move R who o n s (alters z j f) k v = sorts_keep (λ t. Every (Each R) t.tasks) (λ t g q m c r y p. p) z _ s v
+  each_move R who o n s (removes z j) k v = sorts_keep (λ t. Every (Each R) t.tasks) (λ t g q m c r y p. p) z _ s v
+  each_move R who o n s _ k v = v
+
+  -- What a tally read that hasn't written yet
+
+  abbrev pub HasRead : ℤ → Task → Type 0
+  HasRead w t = adds t.notes.tally t.args ≡ true → (t.notes.tally.stage == 2) ≡ true → is_unended t ≡ true → t.notes.tally.kept ≡ w
+
+  does_read : (w : ℤ) (o : Op) (x y : TallyNotes) (args : List ℤ) → is_tally_read o ≡ false → is_tally_write o ≡ false → Does o x y → (adds x args ≡ true → (x.stage == 2) ≡ true → x.kept ≡ w) → adds y args ≡ true → (y.stage == 2) ≡ true → y.kept ≡ w
+  does_read w o x y args m n (stays e) k a b = ap (λ (z : TallyNotes). z.kept) e ∙ k (ap (λ (z : TallyNotes). adds z args) (sym e) ∙ a) (ap (λ (z : TallyNotes). z.stage == 2) (sym e) ∙ b)
+  does_read w o x y args m n (fails c z e) k a b = true_false (ap (λ (z : TallyNotes). z.stage == 2) (sym e) ∙ b) refl
+  does_read w o x y args m n (has c d l z e) k a b = true_false (ap (λ (z : TallyNotes). z.stage == 2) (sym e) ∙ b) refl
+  does_read w o x y args m n (reads v l z e) k a b = true_false l m
+  does_read w o x y args m n (writes l z e) k a b = true_false l n
+
+  pub read_move : (w : ℤ) (who : ℕ) (o : Op) → is_tally_read o ≡ false → is_tally_write o ≡ false → (s : State) (x : Move) → May s who o x → Every (HasRead w) s.tasks → Every (HasRead w) (apply x s).tasks
+  read_move w who o m n s (starts_task j t) k v = every_issue (HasRead w) j (new_task t s.starts) s.tasks (λ a b c. true_false a refl) v
+  read_move w who o m n s (runs_task j y z) k v =
+      every_change (HasRead w) j (with_fields (with_state (Running y z))) s.tasks
+      (λ r a i b c d. i b c (unstarted_unended r.fields (subst (λ (t : Task). is_unstarted t ≡ true) (same_found s j j refl k.0 r.fields k.1 a) k.2))) v
+  read_move w who o m n s (ends_task j e) k v = every_change (HasRead w) j (ended e s.ends) s.tasks (λ r a i b c d. true_false d refl) v
+  read_move w who o m n s (ends_waiting p e) k v = every_passing (HasRead w) _ e s.ends s.tasks (λ t z q i b c d. true_false d refl) v
+  read_move w who o m n s (withdraws j f c) k v = every_passing (HasRead w) _ (Failed c) s.ends s.tasks (λ t z q i b c d. true_false d refl) v
+  read_move w who o m n s (notes j f) k v =
+      every_change (HasRead w) j (with_fields (with_notes f)) s.tasks
+      (λ r a i b c d. does_read w o _ _ r.fields.args m n (subst (λ (t : Task). Does o t.notes.tally (f t.notes).tally) (same_found s j j refl k.0 r.fields k.1 a) k.3) (λ x y. i x y d) b c) v
+  read_move w who o m n s (leaves j) k v = every_change (HasRead w) j gone s.tasks (λ r a i. i) v
+  read_move w who o m n s (frees_members g) k v = every_all (HasRead w) _ freed s.tasks (λ r i. i) v
+  read_move w who o m n s (lets_members_go g) k v = every_all (HasRead w) (is_member g) let_go s.tasks (λ r i. i) v
+  read_move w who o m n s (makes z j x) k v = sorts_keep (λ t. Every (HasRead w) t.tasks) (λ t g q m c r y p. p) z _ s v
+  read_move w who o m n s (alters z j f) k v = sorts_keep (λ t. Every (HasRead w) t.tasks) (λ t g q m c r y p. p) z _ s v
+  read_move w who o m n s (removes z j) k v = sorts_keep (λ t. Every (HasRead w) t.tasks) (λ t g q m c r y p. p) z _ s v
+  read_move w who o m n s _ k v = v
+
+  -- How it ends: completed exactly where it has written
+
+  abbrev pub EndsRight : Task → Type 0
+  EndsRight t = is_unended t ≡ false → adds t.notes.tally t.args ≡ true → past_read t.notes.tally ≡ is_completed t.state
+
+  -- a task that an op other than its `tally_end` ends adds nothing
+  adds_nothing : (n : ℕ) (ms : List (Listed Mutex)) (who h : ℕ) (o : Op) (t : Task) → is_tally_end h o ≡ false → Tied n ms t → MayEnd who t → EndsTally h o t → adds t.notes.tally t.args ≡ true → ⊥
+  adds_nothing n ms who h o t f i (inl u) e a = true_false (both_of t.notes.tally t.args a) (i.early u)
+  adds_nothing n ms who h o t f i (inr u) (inl e) a = true_false e f
+  adds_nothing n ms who h o t f i (inr u) (inr e) a = true_false (i.kind who u (both_of t.notes.tally t.args a)) (e who)
+
+  -- where some `tally_end` is no end of this list's tasks
+  abbrev pub NoTallyEnd : Op → Type 0
+  NoTallyEnd o = (h : ℕ) → is_tally_end h o ≡ false
+
+  noted_right : (who : ℕ) (f : Notes → Notes) (t : Task) → Noted who f t → EndsRight t → EndsRight (with_notes f t)
+  noted_right who f t k i u a = by_work k.work
+    where
+      by_work : (runs_on who t ≡ true) ⊎ SameWork t.notes (f t.notes) → past_read (f t.notes).tally ≡ is_completed t.state
+      by_work (inl r) = true_false r (runs_over who t u)
+      by_work (inr w) = ap (λ (z : TallyNotes). past_read z) w.tally ∙ i u (ap (λ (z : TallyNotes). adds z t.args) (sym w.tally) ∙ a)
+
+  module _ (n : ℕ) (ms : List (Listed Mutex)) where
+    -- with the ties, where the op is no `tally_lock`
+    abbrev pub RightTies : Op → State → Type 0
+    RightTies o s = (is_tally_lock o ≡ false → Ties n ms s) × Every EndsRight s.tasks
+
+    over_ends : (who : ℕ) (o : Op) → NoTallyEnd o → (s : State) (j : ℕ) (e : TaskEnd) → IsMade s o (ends_task j e) → May s who o (ends_task j e) → RightTies o s → Every EndsRight (change j (ended e s.ends) s.tasks)
+    over_ends who o f s j e i k v = by_lock (is_tally_lock o) refl
+      where
+        no_end : (o : Op) → is_tally_lock o ≡ true → EndsTask j o → ⊥
+        no_end (op.TallyLock t) l b = b
+        no_end _ l b = true_false l refl
+
+        by_lock : (b : Bool) → is_tally_lock o ≡ b → Every EndsRight (change j (ended e s.ends) s.tasks)
+        by_lock true l = absurd (no_end o l i.by)
+        by_lock false l =
+            every_change EndsRight j (ended e s.ends) s.tasks
+            (λ r a q u b.
+            let same : k.0 ≡ r.fields = same_found s j j refl k.0 r.fields k.1 a in
+            absurd (adds_nothing n ms who j o k.0 (f j) (every_at (Tied n ms) s.tasks j k.0 (v.0 l) k.1) k.2 k.4 (subst (λ (t : Task). adds t.notes.tally t.args ≡ true) (sym same) b))) v.1
+
+    right_each : (who : ℕ) (o : Op) → NoTallyEnd o → (s : State) (x : Move) → IsMade s o x → May s who o x → RightTies o s → Every EndsRight (apply x s).tasks
+    right_each who o f s (starts_task j t) i k v = every_issue EndsRight j (new_task t s.starts) s.tasks (λ u a. true_false refl u) v.1
+    right_each who o f s (runs_task j y z) i k v = every_change EndsRight j (with_fields (with_state (Running y z))) s.tasks (λ r a q u b. true_false refl u) v.1
+    right_each who o f s (ends_task j e) i k v = over_ends who o f s j e i k v
+    right_each who o f s (ends_waiting p e) i k v = by_lock (is_tally_lock o) refl
+      where
+        no_many : (o : Op) → is_tally_lock o ≡ true → ends_many o ≡ true → ⊥
+        no_many (op.TallyLock t) l b = true_false b refl
+        no_many _ l b = true_false l refl
+
+        by_lock : (b : Bool) → is_tally_lock o ≡ b → Every EndsRight (apply (ends_waiting p e) s).tasks
+        by_lock true l = absurd (no_many o l i.by)
+        by_lock false l =
+            every_both (Tied n ms) EndsRight (λ t. is_unstarted t && p t) e s.ends s.tasks
+            (λ t m q z r u a. true_false (both_of t.notes.tally t.args a) (z.early (fst_true _ _ q))) (v.0 l) v.1
+    right_each who o f s (withdraws j g c) i k v = by_lock (is_tally_lock o) refl
+      where
+        no_withdraw : (o : Op) → is_tally_lock o ≡ true → WithdrawsAction j g o → ⊥
+        no_withdraw (op.TallyLock t) l b = b
+        no_withdraw _ l b = true_false l refl
+
+        by_lock : (b : Bool) → is_tally_lock o ≡ b → Every EndsRight (apply (withdraws j g c) s).tasks
+        by_lock true l = absurd (no_withdraw o l i.by)
+        by_lock false l =
+            every_both (Tied n ms) EndsRight (λ t. is_unstarted t && not (has_worker (workers s) t.job t.cores (live_of (change j g s.actions)))) (Failed c) s.ends s.tasks
+            (λ t m q z r u a. true_false (both_of t.notes.tally t.args a) (z.early (fst_true _ _ q))) (v.0 l) v.1
+    right_each who o f s (notes j g) i k v =
+        every_change EndsRight j (with_fields (with_notes g)) s.tasks (λ r a q. noted_right who g r.fields (subst (λ (t : Task). Noted who g t) (same_found s j j refl k.0 r.fields k.1 a) k.2) q) v.1
+    right_each who o f s (leaves j) i k v = every_change EndsRight j gone s.tasks (λ r a q. q) v.1
+    right_each who o f s (frees_members g) i k v = every_all EndsRight _ freed s.tasks (λ r q. q) v.1
+    right_each who o f s (lets_members_go g) i k v = every_all EndsRight (is_member g) let_go s.tasks (λ r q. q) v.1
+    right_each who o f s (makes z j x) i k v = sorts_keep (λ t. Every EndsRight t.tasks) (λ t g q m c r y p. p) z _ s v.1
+    right_each who o f s (alters z j g) i k v = sorts_keep (λ t. Every EndsRight t.tasks) (λ t g q m c r y p. p) z _ s v.1
+    right_each who o f s (removes z j) i k v = sorts_keep (λ t. Every EndsRight t.tasks) (λ t g q m c r y p. p) z _ s v.1
+    right_each who o f s _ i k v = v.1
+
+    pub right_move : (who : ℕ) (o : Op) → NoTallyEnd o → (s : State) (x : Move) → IsMade s o x → May s who o x → RightTies o s → RightTies o (apply x s)
+    right_move who o f s x i k v = ((λ l. ties_move n ms who o l s x k (v.0 l)), right_each who o f s x i k v)
+
+  -- The cells of the segment
+
+  abbrev pub cells_of : List (Listed Segment) → Option (List ℤ)
+  cells_of l = option_map (λ (x : Segment). x.cells) (record_of l S)
+
+  pub cells_move : (v : Option (List ℤ)) (who : ℕ) (o : Op) → makes_kind Segments o ≡ false → writes_cells o ≡ false → (s : State) (x : Move) → IsMade s o x → May s who o x → cells_of s.segments ≡ v → cells_of (apply x s).segments ≡ v
+  cells_move v who o m n s (makes Segments j x) i k e = true_false i.by m
+  cells_move v who o m n s (alters Segments j f) i k e = by_cells k
+    where
+      by_cells : (writes_cells o ≡ true) ⊎ ((x : Segment) → (f x).cells ≡ x.cells) → cells_of (apply (alters Segments j f) s).segments ≡ v
+      by_cells (inl w) = true_false w n
+      by_cells (inr w) = record_view (λ (x : Segment). x.cells) j S (with_fields f) s.segments (λ r. refl) (λ r. w r.fields) ∙ e
+  cells_move v who o m n s (removes Segments j) i k e = record_view (λ (x : Segment). x.cells) j S gone s.segments (λ r. refl) (λ r. refl) ∙ e
+  cells_move v who o m n s (makes _ j x) i k e = e
+  cells_move v who o m n s (alters _ j f) i k e = e
+  cells_move v who o m n s (removes _ j) i k e = e
+  cells_move v who o m n s _ i k e = e

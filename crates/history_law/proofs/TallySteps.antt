@@ -1,0 +1,364 @@
+-- What each entry leaves of the sum that a cell holds, and so every list of entries.
+use Rattle.std.proofs.Common.{◌≡◌, ℕ, ◌<◌, ◌≤◌, Bool, true, false, cond, List, [], ◌∷◌, ◌++◌, Option, Some, None, refl, sym, ◌∙◌, ap, subst, arith}
+use Rattle.std.specs.Prelude.{◌==◌, ◌&&◌, ◌||◌, not, nat_lt, is_some, length, ℤ, pos, ◌+ℤ◌, slice_set, slice_index_or, option_map}
+use Rattle.std.proofs.lemmas.Bool.{eqb-true}
+use Rattle.std.proofs.lemmas.Bool.Decides.{nat_tests, Decides-int_eq}
+use Rattle.std.proofs.lemmas.List.{append_assoc}
+use Rattle.std.proofs.Math.IntN.{+ℤ_idl}
+use Rattle.mtapi_values.specs.declared.handles.ObjectKind.TheVariants as kind
+use Rattle.mtapi_values.specs.declared.handles.TaskHandle.{TaskHandle}
+use Rattle.mtapi_values.specs.declared.ends.TaskEnd.{TaskEnd}
+use Rattle.mtapi_values.specs.declared.ends.TaskEnd.TheVariants.{Failed, Completed}
+use Rattle.mtapi_values.specs.declared.statuses.MtapiStatus.TheVariants as m
+use Rattle.history.specs.Histories.{entry}
+use Rattle.mtapi_machine.specs.declared.terms.Terms.{Terms}
+use Rattle.mtapi_machine.specs.declared.ops.Op.{Op}
+use Rattle.mtapi_machine.specs.declared.ops.Op.TheVariants as op
+use Rattle.mtapi_machine.specs.declared.replies.Reply.{Reply}
+use Rattle.handle_pool.specs.Issued.{Listed, live_object, count_listed, listed, change, update, with_fields}
+use Rattle.mtapi_objects.specs.Tasks.{Task, tally_args, cell_in, number_in, added, runs_on, is_unended, with_notes, with_tally, tally_read, tally_written, ended}
+use Rattle.mtapi_objects.specs.Segments.{Segment, new_segment, cell_of, with_cell}
+use Rattle.mtapi_machine.specs.State.{State, opening}
+use Rattle.mtapi_machine.specs.Moves.{Move, notes, after_moves}
+use Rattle.mtapi_machine.specs.Row.{handle_of, after_row}
+use Rattle.mtapi_machine.specs.Rows.{row}
+use Rattle.mtapi_machine.specs.Legal.{NodeEntry, IsNext, next, LegalFrom, Legal, after_from, after}
+use Rattle.mtapi_machine.proofs.Lists.{after-one}
+use Rattle.mtapi_machine.proofs.Made.{AllGives, given, moves_given, on_live, on_only, not_false, fst_true, snd_true}
+use Rattle.mtapi_machine.proofs.Changes.{some_same}
+use Rattle.history_law.specs.Words.{some_entry}
+use Rattle.history_law.specs.Seats.{says_ok}
+use Rattle.history_law.specs.Exclusion.{tally_got}
+use Rattle.history_law.specs.Tally.{record_of, mutex_in, adds_to, completed_in, is_completed, number_added, sum_of, writes_to, NamesOneMutex, HoldsTheSum}
+use Rattle.history_law.proofs.Accepted.{all_after}
+use Rattle.history_law.proofs.Reuse.{fresh_unlisted}
+use Rattle.history_law.proofs.Handles.{OnceIn}
+use Rattle.history_law.proofs.Ages.{live_listed}
+use Rattle.history_law.proofs.Held.{HasEnded, AllEnded}
+use Rattle.history_law.proofs.Every.{Every, every_change, every_map, every_at, always}
+use Rattle.history_law.proofs.SeatMoves.{by_moves, by_made_moves}
+use Rattle.history_law.proofs.OnceIssued.{once_none, once_next, listed_next}
+use Rattle.history_law.proofs.Answered.{true_false, first_false, second_false, none_first, answered, no_live, gives_cond, Quiet}
+use Rattle.history_law.proofs.Ties.{has_both, Owns, Tied, as_on}
+use Rattle.history_law.proofs.Exclusive.{Good, good_next, good_opening}
+use Rattle.history_law.proofs.Sums.{sum_more, sum_change, sum_same, record_at, record_updated, cells_size, cell_set}
+use Rattle.history_law.proofs.TallyMoves.{adds, past_read, weight, written, both_of, weigh_off, weigh_early, written_move, Each, each_move, HasRead, read_move, EndsRight, right_move, RightTies, cells_of, cells_move}
+use Rattle.history_law.proofs.Tallies.{every_alone, off_when, some_worker, runs_unended, HasId, one_owner, ids_move, asked_true, lock_each, cell_value, Sum, sum_keep, sum_cells, create_sum, other_cell}
+
+module _ (S C id n : ℕ) where
+  -- What holds after every list that the law speaks of
+  pub record SumHolds (s : State) : Type 0 where
+    pub good : Good n s
+    pub ids : (i : ℕ) → count_listed (HasId i) s.mutexes ≤ 1
+    pub once : OnceIn s.segments
+    pub known : Every (Each S C (λ a. 1 ≤ listed S s.segments)) s.tasks
+    pub named : Every (Each S C (λ a. mutex_in (tally_args a) ≡ id)) s.tasks
+    pub right : Every (EndsRight S C) s.tasks
+    pub sum : Sum S C (cells_of S C s.segments) s.tasks
+
+  -- the entry writes to no cell of the law, but by a tally, and a tally that gets the segment for the cell names the mutex
+  pub record KeepsPremises (s : State) (e : NodeEntry) : Type 0 where
+    pub write : writes_to S C e ≡ false
+    pub lock : (w : ℕ) (t : TaskHandle) (x : Task) → e ≡ tally_got w t → live_object (next s e).tasks t.0 ≡ Some x → adds_to S C x ≡ true → mutex_in (tally_args x.args) ≡ id
+
+  module _ (s : State) (who : ℕ) (v : SumHolds s) where
+    -- the tasks that add to the cell
+
+    live_known : (u : Task) (y : Segment) → live_object s.segments u.notes.tally.segment ≡ Some y → adds_to S C u ≡ true → 1 ≤ listed S s.segments
+    live_known u y e a =
+        let same : u.notes.tally.segment ≡ S = eqb-true u.notes.tally.segment S (fst_true (u.notes.tally.segment == S) _ (snd_true (has_both u.notes.tally) _ a)) in
+        live_listed S s.segments (ap is_some (subst (λ (j : ℕ). live_object s.segments j ≡ Some y) same e))
+
+    known_row : (o : Op) (r : Reply) → IsNext s (entry who o r) → Every (Each S C (λ a. 1 ≤ listed S s.segments)) (after_row s (row s who o r)).tasks
+    known_row (op.TallyLock t) r i = lock_each S C (λ a. 1 ≤ listed S s.segments) s who v.known t r i.allowed (λ a u y e f b. live_known u y f b)
+    known_row o r i = by_moves (λ t. Every (Each S C (λ a. 1 ≤ listed S s.segments)) t.tasks) s (entry who o r) i (each_move S C (λ a. 1 ≤ listed S s.segments) who o refl) v.known
+
+    named_row : (o : Op) (r : Reply) → IsNext s (entry who o r) → KeepsPremises s (entry who o r) → Every (Each S C (λ a. mutex_in (tally_args a) ≡ id)) (after_row s (row s who o r)).tasks
+    named_row (op.TallyLock t) r i f =
+        lock_each S C (λ a. mutex_in (tally_args a) ≡ id) s who v.named t r i.allowed
+        (λ a u y e g b. f.lock who t u (ap (λ (z : Reply). entry who (op.TallyLock t) z) (asked_true r a)) e b)
+    named_row o r i f = by_moves (λ t. Every (Each S C (λ a. mutex_in (tally_args a) ≡ id)) t.tasks) s (entry who o r) i (each_move S C (λ a. mutex_in (tally_args a) ≡ id) who o refl) v.named
+
+    -- how tallies end
+
+    ends_right : (t : ℕ) (x : Task) (e : TaskEnd) → live_object s.tasks t ≡ Some x → (adds S C x.notes.tally x.args ≡ true → past_read S C x.notes.tally ≡ completed_in e) → Every (EndsRight S C) (change t (ended e s.ends) s.tasks)
+    ends_right t x e f k =
+        every_change (EndsRight S C) t (ended e s.ends) s.tasks
+        (λ r a q u b.
+        let same : x ≡ r.fields = some_same (sym f ∙ a) in
+        subst (λ (z : Task). past_read S C z.notes.tally ≡ completed_in e) same (k (subst (λ (z : Task). adds S C z.notes.tally z.args ≡ true) (sym same) b))) v.right
+
+    failed_adds : (x : Task) → (x.notes.tally.stage == 4) ≡ true → adds S C x.notes.tally x.args ≡ true → ⊥
+    failed_adds x d a =
+        let none : has_both x.notes.tally ≡ false = ap (λ (k : ℕ). not (k == 0) && not (k == 4)) (eqb-true x.notes.tally.stage 4 d) in
+        true_false (both_of S C x.notes.tally x.args a) none
+
+    back_right : (x : Task) (z : ℤ) (c : Bool) → (nat_lt x.notes.tally.stage 2 || c) ≡ false → past_read S C x.notes.tally ≡ completed_in (cond (x.notes.tally.stage == 2) (Failed m.ErrActionFailed) (Completed (z ∷ [])))
+    back_right x z c e = by_stage (x.notes.tally.stage == 2) refl
+      where
+        late : nat_lt x.notes.tally.stage 2 ≡ false
+        late = first_false (nat_lt x.notes.tally.stage 2) c e
+
+        not_one : (x.notes.tally.stage == 1) ≡ false
+        not_one = let l : nat_lt x.notes.tally.stage 2 ≡ false = late in grind (arith, nat_tests)
+
+        by_stage : (b : Bool) → (x.notes.tally.stage == 2) ≡ b → (not (x.notes.tally.stage == 1) && not (x.notes.tally.stage == 2)) ≡ completed_in (cond b (Failed m.ErrActionFailed) (Completed (z ∷ [])))
+        by_stage true d = (λ i. not (not_one i) && not (d i))
+        by_stage false d = (λ i. not (not_one i) && not (d i))
+
+    right_row : (o : Op) (r : Reply) → IsNext s (entry who o r) → Every (EndsRight S C) (after_row s (row s who o r)).tasks
+    right_row (op.TallyEnd t) r i =
+        moves_given (λ ms. Every (EndsRight S C) (after_moves ms s).tasks) (row s who (op.TallyEnd t) r) v.right
+        (λ c. on_live _ (live_object s.tasks t.0) _ _ v.right (λ x e b d. gives_cond _ (x.notes.tally.stage == 4) _ _ (λ f. ends_right t.0 x x.notes.tally.verdict e (λ a. absurd (failed_adds x f a)))
+        (λ f. on_live _ (live_object s.segments x.notes.tally.segment) _ _ tt (λ y g. on_live _ (live_object s.mutexes x.notes.tally.mutex) _ _ tt
+        (λ z h. ends_right t.0 x _ e (λ a. back_right x (added x) _ d))))))
+    right_row o r i = (by_made_moves (RightTies S C n s.mutexes o) s (entry who o r) i (right_move S C n s.mutexes who o (λ h. refl)) ((λ l. v.good.ties), v.right)).1
+
+    -- the sum
+
+    abbrev SumAfter : List Move → Type 0
+    SumAfter ms = Sum S C (cells_of S C (after_moves ms s).segments) (after_moves ms s).tasks
+
+    -- the segment of a tally that adds to the cell
+    seg_same : (x : Task) → adds S C x.notes.tally x.args ≡ true → x.notes.tally.segment ≡ S
+    seg_same x a = eqb-true x.notes.tally.segment S (fst_true (x.notes.tally.segment == S) _ (snd_true (has_both x.notes.tally) _ a))
+
+    cell_same : (x : Task) → adds S C x.notes.tally x.args ≡ true → cell_in (tally_args x.args) ≡ C
+    cell_same x a = eqb-true (cell_in (tally_args x.args)) C (snd_true (x.notes.tally.segment == S) _ (snd_true (has_both x.notes.tally) _ a))
+
+    cells_here : (x : Task) (y : Segment) → adds S C x.notes.tally x.args ≡ true → live_object s.segments x.notes.tally.segment ≡ Some y → cells_of S C s.segments ≡ Some y.cells
+    cells_here x y a e =
+        ap (λ (q : Option Segment). option_map (λ (z : Segment). z.cells) q)
+        (subst (λ (j : ℕ). record_of s.segments j ≡ Some y) (seg_same x a) (record_at x.notes.tally.segment y s.segments v.once e))
+
+    -- a tally reads the cell
+    read_sum : (t : ℕ) (x : Task) (y : Segment) → live_object s.tasks t ≡ Some x → (x.notes.tally.stage == 1) ≡ true → live_object s.segments x.notes.tally.segment ≡ Some y
+        → SumAfter (notes t (with_tally (tally_read (cell_of (cell_in (tally_args x.args)) y))) ∷ [])
+    read_sum t x y e d f = by_cells (cells_of S C s.segments) refl v.sum
+      where
+        z : ℤ
+        z = cell_of (cell_in (tally_args x.args)) y
+
+        now : List (Listed Task)
+        now = change t (with_fields (with_notes (with_tally (tally_read z)))) s.tasks
+
+        same_sum : sum_of (weight S C) now ≡ sum_of (weight S C) s.tasks
+        same_sum =
+            sum_change (weight S C) t (with_fields (with_notes (with_tally (tally_read z)))) s.tasks
+            (λ r a. weigh_early S C (tally_read z r.fields.notes.tally) r.fields.args 2 refl refl
+            ∙ sym (weigh_early S C r.fields.notes.tally r.fields.args 1 (subst (λ (u : Task). (u.notes.tally.stage == 1) ≡ true) (some_same (sym e ∙ a)) d) refl))
+
+        -- it reads what the cell holds
+        reads_it : (c : List ℤ) → cells_of S C s.segments ≡ Some c → cell_value S C c ≡ sum_of (weight S C) s.tasks → adds S C (tally_read z x.notes.tally) x.args ≡ true → z ≡ sum_of (weight S C) s.tasks
+        reads_it c k w a =
+            let b : adds S C x.notes.tally x.args ≡ true = ap (λ (i : ℕ). (not (i == 0) && not (i == 4)) && ((x.notes.tally.segment == S) && (cell_in (tally_args x.args) == C))) (eqb-true x.notes.tally.stage 1 d) ∙ a in
+            let here : y.cells ≡ c = some_same (sym (cells_here x y b f) ∙ k) in
+            ap (λ (i : ℕ). slice_index_or y.cells i (pos 0)) (cell_same x b) ∙ (ap (λ (i : List ℤ). slice_index_or i C (pos 0)) here ∙ w)
+
+        by_cells : (o : Option (List ℤ)) → cells_of S C s.segments ≡ o → Sum S C o s.tasks → Sum S C (cells_of S C s.segments) now
+        by_cells None k u = sum_cells S C s _ _ now (sym k) tt
+        by_cells (Some c) k u =
+            sum_cells S C s _ _ now (sym k) (λ i.
+            let w = u i in (
+              w.0 ∙ sym same_sum,
+              subst (λ (q : ℤ). Every (HasRead S C q) now) (sym same_sum)
+                  (every_change (HasRead S C (sum_of (weight S C) s.tasks)) t (with_fields (with_notes (with_tally (tally_read z)))) s.tasks
+                  (λ r a h b g p.
+                  let same : x ≡ r.fields = some_same (sym e ∙ a) in
+                  reads_it c k w.0 (subst (λ (q : Task). adds S C (tally_read z q.notes.tally) q.args ≡ true) (sym same) b)) w.1),
+            ))
+
+    -- a tally writes to another cell
+    write_other : (t : ℕ) (value : ℤ) (x : Task) (y : Segment) → live_object s.tasks t ≡ Some x → (x.notes.tally.stage == 2) ≡ true → live_object s.segments x.notes.tally.segment ≡ Some y → ((x.notes.tally.segment == S) && (cell_in (tally_args x.args) == C)) ≡ false
+        → Sum S C (cells_of S C (update x.notes.tally.segment (with_cell (cell_in (tally_args x.args)) value) s.segments)) (change t (with_fields (with_notes (with_tally tally_written))) s.tasks)
+    write_other t value x y e d f a =
+        sum_keep S C _ s.tasks (change t (with_fields (with_notes (with_tally tally_written))) s.tasks) same_sum
+        (λ h. every_change (HasRead S C (sum_of (weight S C) s.tasks)) t (with_fields (with_notes (with_tally tally_written))) s.tasks (λ r i k b g p. true_false g refl) h)
+        (other_cell S C s x.notes.tally.segment (cell_in (tally_args x.args)) value y s.tasks v.once f a v.sum)
+      where
+        same_sum : sum_of (weight S C) (change t (with_fields (with_notes (with_tally tally_written))) s.tasks) ≡ sum_of (weight S C) s.tasks
+        same_sum =
+            sum_change (weight S C) t (with_fields (with_notes (with_tally tally_written))) s.tasks
+            (λ r i.
+            let same : x ≡ r.fields = some_same (sym e ∙ i) in
+            weigh_off S C (tally_written r.fields.notes.tally) r.fields.args (subst (λ (u : Task). ((u.notes.tally.segment == S) && (cell_in (tally_args u.args) == C)) ≡ false) same a)
+            ∙ sym (weigh_early S C r.fields.notes.tally r.fields.args 2 (subst (λ (u : Task). (u.notes.tally.stage == 2) ≡ true) same d) refl))
+
+    -- no other task that adds to the cell has read and not written: it would own the same mutex
+    alone : (x u : Task) → adds S C x.notes.tally x.args ≡ true → runs_on who x ≡ true → Tied n s.mutexes x → mutex_in (tally_args x.args) ≡ id
+        → runs_on who u ≡ false → Tied n s.mutexes u × Each S C (λ a. mutex_in (tally_args a) ≡ id) u → adds S C u.notes.tally u.args ≡ true → is_unended u ≡ true → ⊥
+    alone x u a k i p q r b c =
+        let both : has_both u.notes.tally ≡ true = both_of S C u.notes.tally u.args b in
+        let begun = off_when _ (λ e. true_false both (r.0.early e)) in
+        let w = some_worker u c begun in
+        let own : Owns w.0 id (live_object s.mutexes u.notes.tally.mutex) = subst (λ (j : ℕ). Owns w.0 j (live_object s.mutexes u.notes.tally.mutex)) (r.1 b) (r.0.tied w.0 w.1 both).1 in
+        let owns : Owns who id (live_object s.mutexes x.notes.tally.mutex) = subst (λ (j : ℕ). Owns who j (live_object s.mutexes x.notes.tally.mutex)) p (i.tied who k (both_of S C x.notes.tally x.args a)).1 in
+        let same : w.0 ≡ who = one_owner s.mutexes id w.0 who u.notes.tally.mutex x.notes.tally.mutex (v.ids id) own owns in
+        true_false (subst (λ (j : ℕ). runs_on j u ≡ true) same w.1) q
+
+    -- a tally writes to the cell
+    write_here : (t : ℕ) (value : ℤ) (x : Task) (y : Segment) → live_object s.tasks t ≡ Some x → runs_on who x ≡ true → (x.notes.tally.stage == 2) ≡ true → value ≡ added x → live_object s.segments x.notes.tally.segment ≡ Some y → adds S C x.notes.tally x.args ≡ true
+        → Sum S C (cells_of S C (update x.notes.tally.segment (with_cell (cell_in (tally_args x.args)) value) s.segments)) (change t (with_fields (with_notes (with_tally tally_written))) s.tasks)
+    write_here t value x y e k d w f a = sum_cells S C s _ _ now (sym cells_now) (λ i. written_here (old i))
+      where
+        now : List (Listed Task)
+        now = change t (with_fields (with_notes (with_tally tally_written))) s.tasks
+
+        number : ℤ
+        number = number_in (tally_args x.args)
+
+        cells_now : cells_of S C (update x.notes.tally.segment (with_cell (cell_in (tally_args x.args)) value) s.segments) ≡ Some (slice_set y.cells (cell_in (tally_args x.args)) value)
+        cells_now =
+            ap (λ (q : Option Segment). option_map (λ (z : Segment). z.cells) q)
+            (subst (λ (j : ℕ). record_of (update x.notes.tally.segment (with_cell (cell_in (tally_args x.args)) value) s.segments) j ≡ Some (with_cell (cell_in (tally_args x.args)) value y)) (seg_same x a)
+            (record_updated x.notes.tally.segment (with_cell (cell_in (tally_args x.args)) value) y s.segments v.once f))
+
+        inside : C < length (slice_set y.cells (cell_in (tally_args x.args)) value) → C < length y.cells
+        inside i = subst (λ (j : ℕ). C < j) (cells_size y.cells (cell_in (tally_args x.args)) value) i
+
+        old : C < length (slice_set y.cells (cell_in (tally_args x.args)) value) → (C < length y.cells) × (cell_value S C y.cells ≡ sum_of (weight S C) s.tasks) × Every (HasRead S C (sum_of (weight S C) s.tasks)) s.tasks
+        old i = let u : Sum S C (Some y.cells) s.tasks = sum_cells S C s _ _ s.tasks (cells_here x y a f) v.sum in let z = u (inside i) in (inside i, z.0, z.1)
+
+        heavier : (r : Listed Task) → r.fields ≡ x → weight S C (with_notes (with_tally tally_written) r.fields) ≡ weight S C r.fields +ℤ number
+        heavier r same =
+            let both : ((x.notes.tally.segment == S) && (cell_in (tally_args x.args) == C)) ≡ true = snd_true (has_both x.notes.tally) _ a in
+            let zero : weight S C r.fields ≡ pos 0 = weigh_early S C r.fields.notes.tally r.fields.args 2 (subst (λ (u : Task). (u.notes.tally.stage == 2) ≡ true) (sym same) d) refl in
+            let full : weight S C (with_notes (with_tally tally_written) x) ≡ number = ap (λ (b : Bool). cond (b && true) number (pos 0)) both in
+            subst (λ (u : Task). weight S C (with_notes (with_tally tally_written) u) ≡ number) (sym same) full ∙ (sym (+ℤ_idl number) ∙ ap (λ (q : ℤ). q +ℤ number) (sym zero))
+
+        more : sum_of (weight S C) now ≡ sum_of (weight S C) s.tasks +ℤ number
+        more = sum_more (weight S C) number t (with_fields (with_notes (with_tally tally_written))) s.tasks x e heavier
+
+        tie : Tied n s.mutexes x
+        tie = every_at (Tied n s.mutexes) s.tasks t x v.good.ties e
+
+        name : mutex_in (tally_args x.args) ≡ id
+        name = every_at (Each S C (λ b. mutex_in (tally_args b) ≡ id)) s.tasks t x v.named e a
+
+        written_here : (C < length y.cells) × (cell_value S C y.cells ≡ sum_of (weight S C) s.tasks) × Every (HasRead S C (sum_of (weight S C) s.tasks)) s.tasks
+            → (cell_value S C (slice_set y.cells (cell_in (tally_args x.args)) value) ≡ sum_of (weight S C) now) × Every (HasRead S C (sum_of (weight S C) now)) now
+        written_here z =
+            let kept : x.notes.tally.kept ≡ sum_of (weight S C) s.tasks = every_at (HasRead S C (sum_of (weight S C) s.tasks)) s.tasks t x z.2 e a d (runs_unended who x k) in
+            let sums : value ≡ sum_of (weight S C) now = w ∙ (ap (λ (q : ℤ). q +ℤ number) kept ∙ sym more) in
+            let cell : cell_value S C (slice_set y.cells (cell_in (tally_args x.args)) value) ≡ value = subst (λ (j : ℕ). cell_value S C (slice_set y.cells j value) ≡ value) (sym (cell_same x a)) (cell_set y.cells C value z.0) in (
+              cell ∙ sums,
+              every_alone (λ u. Tied n s.mutexes u × Each S C (λ b. mutex_in (tally_args b) ≡ id) u) (HasRead S C (sum_of (weight S C) now)) who t (with_fields (with_notes (with_tally tally_written))) s.tasks x e k (v.good.one who) v.good.held.dead
+                  (λ u q r b g p. absurd (alone x u a k tie name q r b p)) (λ r same q b g p. true_false g refl)
+                  (every_map (Tied n s.mutexes) (Each S C (λ b. mutex_in (tally_args b) ≡ id)) (λ u. Tied n s.mutexes u × Each S C (λ b. mutex_in (tally_args b) ≡ id) u) s.tasks (λ u b c. (b, c)) v.good.ties v.named),
+            )
+
+    write_sum : (t : ℕ) (value : ℤ) (x : Task) (y : Segment) → live_object s.tasks t ≡ Some x → runs_on who x ≡ true → (x.notes.tally.stage == 2) ≡ true → value ≡ added x → live_object s.segments x.notes.tally.segment ≡ Some y
+        → Sum S C (cells_of S C (update x.notes.tally.segment (with_cell (cell_in (tally_args x.args)) value) s.segments)) (change t (with_fields (with_notes (with_tally tally_written))) s.tasks)
+    write_sum t value x y e k d w f = by_adds ((x.notes.tally.segment == S) && (cell_in (tally_args x.args) == C)) refl
+      where
+        both : has_both x.notes.tally ≡ true
+        both = ap (λ (j : ℕ). not (j == 0) && not (j == 4)) (eqb-true x.notes.tally.stage 2 d)
+
+        by_adds : (b : Bool) → ((x.notes.tally.segment == S) && (cell_in (tally_args x.args) == C)) ≡ b → Sum S C (cells_of S C (update x.notes.tally.segment (with_cell (cell_in (tally_args x.args)) value) s.segments)) (change t (with_fields (with_notes (with_tally tally_written))) s.tasks)
+        by_adds true a = write_here t value x y e k d w f (λ i. both i && a i)
+        by_adds false a = write_other t value x y e d f a
+
+    write_quiet : (x : _) (c : ℕ) (value : ℤ) (r : Reply) → AllGives (Quiet says_ok) (row s who (op.ShmemWrite x c value) r)
+    write_quiet x c value r = λ p q. on_live (Quiet says_ok) (live_object s.segments x.0) _ _ (λ i. refl) (λ y f b d i. true_false refl i)
+
+    sum_row : (o : Op) (r : Reply) → IsNext s (entry who o r) → KeepsPremises s (entry who o r) → Sum S C (cells_of S C (after_row s (row s who o r)).segments) (after_row s (row s who o r)).tasks
+    sum_row (op.ShmemCreate i2 cells) r i f =
+        moves_given SumAfter (row s who (op.ShmemCreate i2 cells) r) v.sum
+        (λ c d e g h. on_only (λ x ms. SumAfter ms) _ _ _ (λ j. create_sum S C s (handle_of r) (new_segment i2 cells) cells refl (fresh_unlisted kind.Shmem s (handle_of r) j) v.known v.sum))
+    sum_row (op.ShmemWrite x c value) r i f = by_ok (says_ok r) refl
+      where
+        other : ((x.0 == S) && (c == C)) && true ≡ false → ((x.0 == S) && (c == C)) ≡ false
+        other e = off_when _ (λ b. true_false (λ j. b j && true) e)
+
+        by_ok : (b : Bool) → says_ok r ≡ b → Sum S C (cells_of S C (after_row s (row s who (op.ShmemWrite x c value) r)).segments) (after_row s (row s who (op.ShmemWrite x c value) r)).tasks
+        by_ok false k = subst SumAfter (sym (given (Quiet says_ok) (row s who (op.ShmemWrite x c value) r) r (λ z j. refl) (write_quiet x c value r) i.allowed k)) v.sum
+        by_ok true k =
+            answered says_ok SumAfter (row s who (op.ShmemWrite x c value) r) r k
+            (refl, (refl, no_live says_ok (live_object s.segments x.0) _ _ tt (λ y. (refl, (refl, tt)))))
+            (λ p q. on_live _ (live_object s.segments x.0) _ _ (λ j. true_false j refl) (λ y g b d j.
+            other_cell S C s x.0 c value y s.tasks v.once g (other ((λ z. ((x.0 == S) && (c == C)) && sym k z) ∙ f.write)) v.sum)) i.allowed
+    sum_row (op.TallyRead t) r i f =
+        moves_given SumAfter (row s who (op.TallyRead t) r) v.sum
+        (λ c. on_live _ (live_object s.tasks t.0) _ _ v.sum (λ x e a b. on_live _ (live_object s.segments x.notes.tally.segment) _ _ tt (λ y g. read_sum t.0 x y e (not_false _ b) g)))
+    sum_row (op.TallyWrite t value) r i f =
+        moves_given SumAfter (row s who (op.TallyWrite t value) r) v.sum
+        (λ c. on_live _ (live_object s.tasks t.0) _ _ v.sum (λ x e a b. on_live _ (live_object s.segments x.notes.tally.segment) _ _ tt
+        (λ y g. write_sum t.0 value x y e (as_on who x.state (not_false _ a)) (not_false _ (first_false _ _ b)) ((Decides-int_eq value (added x)).0 (not_false _ (second_false _ _ b))) g)))
+    sum_row o r i f =
+        sum_cells S C s _ _ (after_row s (row s who o r)).tasks (sym (by_made_moves (λ t. cells_of S C t.segments ≡ cells_of S C s.segments) s (entry who o r) i (cells_move S C (cells_of S C s.segments) who o refl refl) refl))
+        (sum_keep S C (cells_of S C s.segments) s.tasks (after_row s (row s who o r)).tasks
+        (by_moves (λ t. written S C t ≡ written S C s) s (entry who o r) i (written_move S C (written S C s) who o refl) refl)
+        (λ h. by_moves (λ t. Every (HasRead S C (written S C s)) t.tasks) s (entry who o r) i (read_move S C (written S C s) who o refl refl) h) v.sum)
+
+  holds_next : (s : State) (e : NodeEntry) → IsNext s e → KeepsPremises s e → SumHolds s → SumHolds (next s e)
+  holds_next s e i f v = record {
+    good = good_next n s e i v.good;
+    ids = λ j. by_made_moves (λ t. count_listed (HasId j) t.mutexes ≤ 1) s e i (ids_move j e.who e.op) (v.ids j);
+    once = once_next kind.Shmem s e v.once;
+    known =
+        every_map (Each S C (λ a. 1 ≤ listed S s.segments)) (λ t. Unit {0}) (Each S C (λ a. 1 ≤ listed S (next s e).segments)) (next s e).tasks
+        (λ t a u b. listed_next kind.Shmem s e S (a b)) (known_row s e.who v e.op e.reply i) (always (next s e).tasks);
+    named = named_row s e.who v e.op e.reply i f;
+    right = right_row s e.who v e.op e.reply i;
+    sum = sum_row s e.who v e.op e.reply i f;
+  }
+
+  -- each entry keeps the premises in its turn
+  KeepPremises : State → List NodeEntry → Type 0
+  KeepPremises s [] = Unit {0}
+  KeepPremises s (e ∷ es) = KeepsPremises s e × KeepPremises (next s e) es
+
+  holds_along : (s : State) (L : List NodeEntry) → LegalFrom s L → KeepPremises s L → SumHolds s → SumHolds (after_from s L)
+  unfolding LegalFrom after_from KeepPremises
+  holds_along s [] l f v = v
+  holds_along s (e ∷ es) l f v = holds_along (next s e) es l.1 f.1 (holds_next s e l.0 f.0 v)
+
+  premises_from : (terms : Terms) (es P L : List NodeEntry) → es ≡ P ++ L → some_entry (writes_to S C) L ≡ false → NamesOneMutex terms es S C id → KeepPremises (after terms P) L
+  unfolding KeepPremises
+  premises_from terms es P [] cut w k = tt
+  premises_from terms es P (e ∷ L) cut w k =
+      let both = none_first (writes_to S C e) (some_entry (writes_to S C) L) w in (
+        record {
+          write = both.0;
+          lock = λ v t x i a b. k P L v t x (cut ∙ ap (λ (z : NodeEntry). P ++ z ∷ L) i) (subst (λ (z : State). live_object z.tasks t.0 ≡ Some x) (sym (after-one (opening terms) P (tally_got v t))) (subst (λ (z : NodeEntry). live_object (next (after terms P) z).tasks t.0 ≡ Some x) i a)) b;
+        },
+        subst (λ (z : State). KeepPremises z L) (after-one (opening terms) P e) (premises_from terms es (P ++ e ∷ []) L (cut ∙ sym (append_assoc P (e ∷ []) L)) both.1 k),
+      )
+
+  ended_each : (l : List (Listed Task)) → AllEnded l → Every HasEnded l
+  ended_each [] a = tt
+  ended_each (r ∷ rs) a = (a.0, ended_each rs a.1)
+
+  -- after the end of a task, what it has written is what it adds where it has completed
+  same_number : (t : Task) → HasEnded t → EndsRight S C t → weight S C t ≡ number_added S C t
+  same_number t e k = by_adds (adds S C t.notes.tally t.args) refl
+    where
+      by_adds : (b : Bool) → adds S C t.notes.tally t.args ≡ b → cond (b && past_read S C t.notes.tally) (number_in (tally_args t.args)) (pos 0) ≡ cond (b && is_completed t.state) (number_in (tally_args t.args)) (pos 0)
+      by_adds true a = ap (λ (b : Bool). cond b (number_in (tally_args t.args)) (pos 0)) (k e a)
+      by_adds false a = refl
+
+no_cells : (S C : ℕ) → cells_of S C [] ≡ None
+unfolding record_of
+no_cells S C = refl
+
+holds_opening : (S C id : ℕ) (terms : Terms) → SumHolds S C id terms.settings.workers (opening terms)
+holds_opening S C id terms = record {
+  good = good_opening terms;
+  ids = λ i. omega arith;
+  once = once_none Segment;
+  known = tt;
+  named = tt;
+  right = tt;
+  sum = sum_cells S C (opening terms) _ _ [] (sym (no_cells S C)) tt;
+}
+
+pub holds_the_sum : (terms : Terms) (es : List NodeEntry) (S C : ℕ) → Legal terms es → HoldsTheSum terms es S C
+unfolding after_from
+holds_the_sum terms es S C legal A B main id x cut found inside w k =
+    let v : SumHolds S C id terms.settings.workers (after terms es) = holds_along S C id terms.settings.workers (opening terms) es legal.from (premises_from S C id terms.settings.workers terms es [] es refl w k) (holds_opening S C id terms) in
+    let all : AllEnded (after terms es).tasks = subst (λ (L : List NodeEntry). AllEnded (after terms L).tasks) (sym cut) (all_after terms A B main (subst (λ (L : List NodeEntry). Legal terms L) cut legal)) in
+    let cells : cells_of S C (after terms es).segments ≡ Some x.cells = ap (λ (q : Option Segment). option_map (λ (z : Segment). z.cells) q) found in
+    let sum : Sum S C (Some x.cells) (after terms es).tasks = sum_cells S C (after terms es) _ _ (after terms es).tasks cells v.sum in
+    (sum inside).0
+    ∙ sum_same (weight S C) (number_added S C) (after terms es).tasks
+    (every_map HasEnded (EndsRight S C) (λ t. weight S C t ≡ number_added S C t) (after terms es).tasks (λ t a b. same_number S C id terms.settings.workers t a b) (ended_each S C id terms.settings.workers (after terms es).tasks all) v.right)

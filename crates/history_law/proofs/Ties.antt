@@ -1,0 +1,257 @@
+-- A running tally that has its mutex owns it, and at most one task runs on a worker.
+use Rattle.std.proofs.Common.{◌≡◌, ℕ, ◌+◌, ◌<◌, ◌≤◌, Bool, true, false, cond, List, [], ◌∷◌, Option, Some, None, inl, inr, refl, sym, ◌∙◌, ap, subst, arith}
+use Rattle.std.specs.Prelude.{◌==◌, ◌&&◌, not, ℤ}
+use Rattle.std.proofs.lemmas.Bool.{eqb-true}
+use Rattle.mtapi_values.specs.declared.kinds.Kind.{Kind}
+use Rattle.mtapi_values.specs.declared.kinds.Kind.TheVariants as kind
+use Rattle.mtapi_values.specs.declared.ends.TaskEnd.{TaskEnd}
+use Rattle.mtapi_values.specs.declared.ends.TaskEnd.TheVariants.{Failed}
+use Rattle.mtapi_values.specs.Conditions.{holds}
+use Rattle.mtapi_machine.specs.declared.ops.Op.{Op}
+use Rattle.handle_pool.specs.Issued.{Listed, live_of, live_object, any_listed, any_live, count_listed, with_fields, gone}
+use Rattle.mtapi_objects.specs.Groups.{is_member, freed, let_go}
+use Rattle.mtapi_objects.specs.Mutexes.{Mutex}
+use Rattle.mtapi_objects.specs.Tasks.{tally_args, Task, Notes, TallyNotes, TaskState, Scheduled, Running, Ended, scheduled, runner, runs_on, runs_as, kind_number, is_unstarted, is_unended, with_state, with_notes, ended, new_task}
+use Rattle.mtapi_machine.specs.State.{State}
+use Rattle.mtapi_machine.specs.Moves.{Move, starts_task, runs_task, ends_task, ends_waiting, withdraws, notes, leaves, frees_members, lets_members_go, makes, alters, removes, apply}
+use Rattle.mtapi_machine.proofs.Made.{fst_true, snd_true, both_true, not_true}
+use Rattle.mtapi_machine.proofs.Moves.{sorts_keep}
+use Rattle.history_law.specs.Exclusion.{is_tally_end}
+use Rattle.history_law.specs.Tally.{mutex_in}
+use Rattle.history_law.proofs.Answered.{true_false}
+use Rattle.history_law.proofs.Every.{Every, every_issue, every_change, every_all, every_ends}
+use Rattle.history_law.proofs.Found.{FoundAs, found_changed, found_issued, count_changed, found_ends, found_all}
+use Rattle.history_law.proofs.Held.{DeadEnded}
+use Rattle.history_law.proofs.SeatMoves.{May, Does, stays, fails, has, reads, writes, is_tally_lock, EndsTally}
+use Rattle.history_law.proofs.Others.{other_count, runs_scheduled, runs_over, same_found}
+
+-- the tally has its mutex and its segment: it has begun and hasn't failed
+abbrev pub has_both : TallyNotes → Bool
+has_both x = not (x.stage == 0) && not (x.stage == 4)
+
+-- the mutex is there with this id, and this seat owns it once
+abbrev pub Owns : ℕ → ℕ → Option Mutex → Type 0
+Owns w id None = ⊥
+Owns w id (Some m) = (m.owner ≡ Some w) × (m.depth ≡ 1) × (m.id ≡ id)
+
+-- the id of the mutex that a tally's arguments name
+abbrev pub id_in : Task → ℕ
+id_in t = mutex_in (tally_args t.args)
+
+-- a task that hasn't begun has nothing; a running one that has its mutex is a tally, and runs on a worker that owns it
+pub record Tied (n : ℕ) (ms : List (Listed Mutex)) (t : Task) : Type 0 where
+  pub early : is_unstarted t ≡ true → has_both t.notes.tally ≡ false
+  pub tied : (w : ℕ) → runs_on w t ≡ true → has_both t.notes.tally ≡ true → (w < n) × Owns w (id_in t) (live_object ms t.notes.tally.mutex)
+  pub kind : (w : ℕ) → runs_on w t ≡ true → has_both t.notes.tally ≡ true → runs_as w kind.Tally t ≡ true
+
+pub stage_none : (x : TallyNotes) → (x.stage == 0) ≡ true → has_both x ≡ false
+stage_none x e = ap (λ (k : ℕ). not (k == 0) && not (k == 4)) (eqb-true x.stage 0 e)
+
+stage_some : (x : TallyNotes) (k : ℕ) → (x.stage == k) ≡ true → (not (k == 0) && not (k == 4)) ≡ true → has_both x ≡ true
+stage_some x k e n = ap (λ (j : ℕ). not (j == 0) && not (j == 4)) (eqb-true x.stage k e) ∙ n
+
+-- what a step other than a `tally_lock` leaves
+pub record Follows (x y : TallyNotes) : Type 0 where
+  pub before : has_both y ≡ true → has_both x ≡ true
+  pub mutex : has_both y ≡ true → y.mutex ≡ x.mutex
+
+pub does_follow : (o : Op) (x y : TallyNotes) → is_tally_lock o ≡ false → Does o x y → Follows x y
+does_follow o x y n (stays e) = record { before = λ b. ap has_both (sym e) ∙ b; mutex = λ b. ap (λ (z : TallyNotes). z.mutex) e }
+does_follow o x y n (fails c z e) = record { before = λ b. true_false b (ap has_both e); mutex = λ b. true_false b (ap has_both e) }
+does_follow o x y n (has a b l z e) = true_false l n
+does_follow o x y n (reads v l z e) = record { before = λ b. stage_some x 1 z refl; mutex = λ b. ap (λ (t : TallyNotes). t.mutex) e }
+does_follow o x y n (writes l z e) = record { before = λ b. stage_some x 2 z refl; mutex = λ b. ap (λ (t : TallyNotes). t.mutex) e }
+
+-- a tally that has both goes on having them, with any step
+pub record GoesOn (x y : TallyNotes) : Type 0 where
+  pub both : has_both y ≡ true
+  pub mutex : y.mutex ≡ x.mutex
+
+goes_on : (o : Op) (x y : TallyNotes) → has_both x ≡ true → Does o x y → GoesOn x y
+goes_on o x y b (stays e) = record { both = ap has_both e ∙ b; mutex = ap (λ (z : TallyNotes). z.mutex) e }
+goes_on o x y b (fails c z e) = true_false b (stage_none x z)
+goes_on o x y b (has c d l z e) = true_false b (stage_none x z)
+goes_on o x y b (reads v l z e) = record { both = ap has_both e; mutex = ap (λ (t : TallyNotes). t.mutex) e }
+goes_on o x y b (writes l z e) = record { both = ap has_both e; mutex = ap (λ (t : TallyNotes). t.mutex) e }
+
+module _ (n : ℕ) (ms : List (Listed Mutex)) where
+  -- a task that runs nowhere
+  idle_tied : (t : Task) → (is_unstarted t ≡ true → has_both t.notes.tally ≡ false) → ((w : ℕ) → runs_on w t ≡ false) → Tied n ms t
+  idle_tied t e f = record { early = e; tied = λ w r b. true_false r (f w); kind = λ w r b. true_false r (f w) }
+
+  over_tied : (e : TaskEnd) (k : ℕ) (t : Task) → Tied n ms (with_state (Ended e k) t)
+  over_tied e k t = idle_tied (with_state (Ended e k) t) (λ i. true_false i refl) (λ w. refl)
+
+  runs_tied : (v : ℕ) (k : Kind) (t : Task) → is_unstarted t ≡ true → Tied n ms t → Tied n ms (with_state (Running v k) t)
+  runs_tied v k t u i = record { early = λ e. true_false e refl; tied = λ w r b. true_false b (i.early u); kind = λ w r b. true_false b (i.early u) }
+
+  pub noted_tied : (f : Notes → Notes) (t : Task) → Follows t.notes.tally (f t.notes).tally → Tied n ms t → Tied n ms (with_notes f t)
+  noted_tied f t k i = record {
+    early = λ u. by_both (has_both (f t.notes).tally) refl u;
+    tied = λ w r b. let x = i.tied w r (k.before b) in (x.0, subst (λ (h : ℕ). Owns w (id_in t) (live_object ms h)) (sym (k.mutex b)) x.1);
+    kind = λ w r b. i.kind w r (k.before b);
+  }
+    where
+      by_both : (b : Bool) → has_both (f t.notes).tally ≡ b → is_unstarted t ≡ true → b ≡ false
+      by_both true e u = true_false (k.before e) (i.early u)
+      by_both false e u = refl
+
+  same_notes : (t : Task) (f : Task → Task) → (f t).state ≡ t.state → (f t).notes.tally ≡ t.notes.tally → (f t).args ≡ t.args → Tied n ms t → Tied n ms (f t)
+  same_notes t f s e a i = record {
+    early = λ u. ap has_both e ∙ i.early (ap scheduled (sym s) ∙ u);
+    tied = λ w r b.
+        let x = i.tied w (ap (λ (z : TaskState). holds (λ y. y.0 == w) (runner z)) (sym s) ∙ r) (ap has_both (sym e) ∙ b) in
+        (x.0, subst (λ (z : List ℤ). Owns w (mutex_in (tally_args z)) (live_object ms (f t).notes.tally.mutex)) (sym a) (subst (λ (h : ℕ). Owns w (id_in t) (live_object ms h)) (ap (λ (z : TallyNotes). z.mutex) (sym e)) x.1));
+    kind = λ w r b.
+        ap (λ (z : TaskState). holds (λ y. (y.0 == w) && (kind_number y.1 == 10)) (runner z)) s
+        ∙ i.kind w (ap (λ (z : TaskState). holds (λ y. y.0 == w) (runner z)) (sym s) ∙ r) (ap has_both (sym e) ∙ b);
+  }
+
+  abbrev pub Ties : State → Type 0
+  Ties s = Every (Tied n ms) s.tasks
+
+  pub ties_move : (who : ℕ) (o : Op) → is_tally_lock o ≡ false → (s : State) (x : Move) → May s who o x → Ties s → Ties (apply x s)
+  ties_move who o l s (starts_task j t) k v = every_issue (Tied n ms) j (new_task t s.starts) s.tasks (idle_tied (new_task t s.starts) (λ i. refl) (λ w. refl)) v
+  ties_move who o l s (runs_task j y z) k v =
+      every_change (Tied n ms) j (with_fields (with_state (Running y z))) s.tasks
+      (λ r a i. runs_tied y z r.fields (subst (λ (t : Task). is_unstarted t ≡ true) (same_found s j j refl k.0 r.fields k.1 a) k.2) i) v
+  ties_move who o l s (ends_task j e) k v = every_change (Tied n ms) j (ended e s.ends) s.tasks (λ r a i. over_tied e s.ends r.fields) v
+  ties_move who o l s (ends_waiting p e) k v = every_ends (Tied n ms) _ e s.ends s.tasks (λ t m i. over_tied e m t) v
+  ties_move who o l s (withdraws j f c) k v = every_ends (Tied n ms) _ (Failed c) s.ends s.tasks (λ t m i. over_tied (Failed c) m t) v
+  ties_move who o l s (notes j f) k v =
+      every_change (Tied n ms) j (with_fields (with_notes f)) s.tasks
+      (λ r a i. noted_tied f r.fields (does_follow o _ _ l (subst (λ (t : Task). Does o t.notes.tally (f t.notes).tally) (same_found s j j refl k.0 r.fields k.1 a) k.3)) i) v
+  ties_move who o l s (leaves j) k v = every_change (Tied n ms) j gone s.tasks (λ r a i. i) v
+  ties_move who o l s (frees_members g) k v = every_all (Tied n ms) _ freed s.tasks (λ r i. same_notes r.fields (λ t. (freed (record { handle = r.handle; live = r.live; fields = t })).fields) refl refl refl i) v
+  ties_move who o l s (lets_members_go g) k v = every_all (Tied n ms) (is_member g) let_go s.tasks (λ r i. same_notes r.fields (λ t. (let_go (record { handle = r.handle; live = r.live; fields = t })).fields) refl refl refl i) v
+  ties_move who o l s (makes z j x) k v = sorts_keep Ties (λ t g q m c r y p. p) z _ s v
+  ties_move who o l s (alters z j f) k v = sorts_keep Ties (λ t g q m c r y p. p) z _ s v
+  ties_move who o l s (removes z j) k v = sorts_keep Ties (λ t g q m c r y p. p) z _ s v
+  ties_move who o l s _ k v = v
+
+-- At most one task runs on a worker
+
+pub none_count : {T : Type 0} (p : T → Bool) (l : List (Listed T)) → any_listed p l ≡ false → count_listed p l ≡ 0
+unfolding live_of
+none_count p [] e = refl
+none_count p (r ∷ rs) e = by_live r.live (none_count p rs) e
+  where
+    by_test : (b : Bool) → (any_listed p rs ≡ false → count_listed p rs ≡ 0) → cond b true (any_listed p rs) ≡ false → cond {A = ℕ} b 1 0 + count_listed p rs ≡ 0
+    by_test true k i = true_false refl i
+    by_test false k i = let n : count_listed p rs ≡ 0 = k i in omega arith
+
+    by_live : (a : Bool) → (any_listed p rs ≡ false → count_listed p rs ≡ 0) → any_live p (cond a ((r.handle, r.fields) ∷ live_of rs) (live_of rs)) ≡ false → cond {A = ℕ} (a && p r.fields) 1 0 + count_listed p rs ≡ 0
+    by_live true k i = by_test (p r.fields) k i
+    by_live false k i = let n : count_listed p rs ≡ 0 = k i in omega arith
+
+one_bit : (b : Bool) → cond {A = ℕ} b 1 0 ≤ 1
+one_bit true = omega arith
+one_bit false = omega arith
+
+abbrev pub AtMostOne : ℕ → State → Type 0
+AtMostOne w s = count_listed (runs_on w) s.tasks ≤ 1
+
+pub one_move : (w who : ℕ) (o : Op) (s : State) (x : Move) → May s who o x → AtMostOne w s → AtMostOne w (apply x s)
+one_move w who o s (runs_task j y z) k v = by_seat (y == w) refl
+  where
+    as_runs : (b : Bool) → (y == w) ≡ b → count_listed (runs_on w) (apply (runs_task j y z) s).tasks + cond (runs_on w k.0) 1 0 ≡ count_listed (runs_on w) s.tasks + cond b 1 0
+    as_runs b e = count_changed (runs_on w) j (with_fields (with_state (Running y z))) b s.tasks k.0 k.1 (λ r a f. ap (λ (c : Bool). c && (y == w)) a ∙ e)
+
+    by_seat : (b : Bool) → (y == w) ≡ b → count_listed (runs_on w) (apply (runs_task j y z) s).tasks ≤ 1
+    by_seat true e =
+        let same : who ≡ w = sym k.3 ∙ eqb-true y w e in
+        let none : count_listed (runs_on w) s.tasks ≡ 0 = none_count (runs_on w) s.tasks (subst (λ (x : ℕ). any_listed (runs_on x) s.tasks ≡ false) same k.4) in
+        let n = as_runs true e in
+        omega arith
+    by_seat false e = let n = as_runs false e in let m : count_listed (runs_on w) s.tasks ≤ 1 = v in omega arith
+one_move w who o s (ends_task j e) k v =
+    let n = count_changed (runs_on w) j (ended e s.ends) false s.tasks k.0 k.1 (λ r a f. never _) in
+    let m : count_listed (runs_on w) s.tasks ≤ 1 = v in
+    omega arith
+  where
+    never : (b : Bool) → (b && false) ≡ false
+    never true = refl
+    never false = refl
+one_move w who o s x k v = subst (λ (n : ℕ). n ≤ 1) (sym (other_count w who o s x refl k)) v
+
+-- where one task runs on a worker, after its end none of those that were listed does
+pub none_runs : (w : ℕ) (l : List (Listed Task)) → DeadEnded l → count_listed (runs_on w) l ≡ 0 → Every (λ t. runs_on w t ≡ false) l
+none_runs w [] d c = tt
+none_runs w (r ∷ rs) d c = (by_live r.live d.0 c, none_runs w rs d.1 (rest (r.live && runs_on w r.fields) c))
+  where
+    rest : (b : Bool) → cond {A = ℕ} b 1 0 + count_listed (runs_on w) rs ≡ 0 → count_listed (runs_on w) rs ≡ 0
+    rest true e = absurd (omega arith)
+    rest false e = omega arith
+
+    by_runs : (b : Bool) → cond {A = ℕ} b 1 0 + count_listed (runs_on w) rs ≡ 0 → b ≡ false
+    by_runs true e = absurd (omega arith)
+    by_runs false e = refl
+
+    by_live : (a : Bool) → (a ≡ false → is_unended r.fields ≡ false) → cond {A = ℕ} (a && runs_on w r.fields) 1 0 + count_listed (runs_on w) rs ≡ 0 → runs_on w r.fields ≡ false
+    by_live true k e = by_runs (runs_on w r.fields) e
+    by_live false k e = runs_over w r.fields (k refl)
+
+-- A tally that has its mutex, until its `tally_end`
+
+pub record On (w h : ℕ) (t : Task) : Type 0 where
+  pub runs : runs_as w kind.Tally t ≡ true
+  pub both : has_both t.notes.tally ≡ true
+  pub mutex : t.notes.tally.mutex ≡ h
+
+pub as_on : (w : ℕ) (x : TaskState) → holds (λ r. (r.0 == w) && (kind_number r.1 == 10)) (runner x) ≡ true → holds (λ r. r.0 == w) (runner x) ≡ true
+as_on w Scheduled h = true_false h refl
+as_on w (Running v j) h = fst_true (v == w) _ h
+as_on w (Ended e n) h = true_false h refl
+
+pub on_runs : (w h : ℕ) (t : Task) → On w h t → runs_on w t ≡ true
+on_runs w h t i = as_on w t.state i.runs
+
+on_set : (w h : ℕ) (f : Task → Task) (t : Task) (r : Listed Task) → On w h (f t) → r.live ≡ true → r.fields ≡ t → ((with_fields f r).live ≡ true) × On w h (with_fields f r).fields
+on_set w h f t r i a s = (a, subst (λ (u : Task). On w h (f u)) (sym s) i)
+
+not_over : (w h : ℕ) (t : Task) → On w h t → is_unended t ≡ false → ⊥
+not_over w h t i e = true_false (on_runs w h t i) (runs_over w t e)
+
+not_early : (w h : ℕ) (t : Task) → On w h t → is_unstarted t ≡ true → ⊥
+not_early w h t i e = true_false (on_runs w h t i) (runs_scheduled w t e)
+
+on_goes : (w h : ℕ) (t : Task) (r : Listed Task) → On w h t → r.live ≡ true → r.fields ≡ t → ((let_go r).live ≡ true) × On w h (let_go r).fields
+on_goes w h t r i a s =
+    let j : On w h r.fields = subst (On w h) (sym s) i in
+    (both_true r.live (is_unended r.fields) a (unended (is_unended r.fields) refl j), record { runs = j.runs; both = j.both; mutex = j.mutex })
+  where
+    unended : (b : Bool) → is_unended r.fields ≡ b → On w h r.fields → b ≡ true
+    unended true e j = refl
+    unended false e j = absurd (not_over w h r.fields j e)
+
+abbrev pub OnAt : ℕ → ℕ → ℕ → State → Type 0
+OnAt w h j s = FoundAs (On w h) s.tasks j
+
+pub on_move : (w h i who : ℕ) (o : Op) → is_tally_end i o ≡ false → (s : State) (x : Move) → May s who o x → OnAt w h i s → OnAt w h i (apply x s)
+on_move w h i who o n s (starts_task j t) k v = found_issued (On w h) j i (new_task t s.starts) s.tasks v.0 v.1 v.2
+on_move w h i who o n s (runs_task j y z) k v =
+    found_changed (On w h) j i (with_fields (with_state (Running y z))) (λ r. refl) s.tasks v.0 v.1 v.2
+    (λ r e a f. absurd (not_early w h v.0 v.2 (subst (λ (t : Task). is_unstarted t ≡ true) (same_found s j i e k.0 v.0 k.1 v.1) k.2)))
+on_move w h i who o n s (notes j f) k v =
+    found_changed (On w h) j i (with_fields (with_notes f)) (λ r. refl) s.tasks v.0 v.1 v.2
+    (λ r e a d.
+    let g : GoesOn v.0.notes.tally (f v.0.notes).tally = goes_on o _ _ v.2.both (subst (λ (t : Task). Does o t.notes.tally (f t.notes).tally) (same_found s j i e k.0 v.0 k.1 v.1) k.3) in
+    on_set w h (with_notes f) v.0 r (record { runs = v.2.runs; both = g.both; mutex = g.mutex ∙ v.2.mutex }) a d)
+on_move w h i who o n s (leaves j) k v =
+    found_changed (On w h) j i gone (λ r. refl) s.tasks v.0 v.1 v.2 (λ r e a f. absurd (not_over w h v.0 v.2 (subst (λ (t : Task). is_unended t ≡ false) (same_found s j i e k.0 v.0 k.1 v.1) k.2)))
+on_move w h i who o n s (ends_task j e) k v = found_changed (On w h) j i (ended e s.ends) (λ r. refl) s.tasks v.0 v.1 v.2 (λ r d a f. absurd (by_end d k.4))
+  where
+    by_end : j ≡ i → EndsTally j o k.0 → ⊥
+    by_end d (inl y) = true_false (subst (λ (z : ℕ). is_tally_end z o ≡ true) d y) n
+    by_end d (inr y) = true_false v.2.runs (subst (λ (t : Task). runs_as w kind.Tally t ≡ false) (same_found s j i d k.0 v.0 k.1 v.1) (y w))
+on_move w h i who o n s (ends_waiting p e) k v =
+    found_ends (On w h) (λ t. is_unstarted t && p t) e s.ends i s.tasks v.0 v.1 v.2 (λ r m a f d. absurd (not_early w h v.0 v.2 (fst_true _ _ d)))
+on_move w h i who o n s (withdraws j f c) k v =
+    found_ends (On w h) _ (Failed c) s.ends i s.tasks v.0 v.1 v.2 (λ r m a y d. absurd (not_early w h v.0 v.2 (fst_true _ _ d)))
+on_move w h i who o n s (frees_members g) k v =
+    found_all (On w h) _ freed i (λ r. refl) s.tasks v.0 v.1 v.2 (λ r a y d. absurd (not_over w h v.0 v.2 (not_true _ (snd_true (is_member g v.0) _ d))))
+on_move w h i who o n s (lets_members_go g) k v = found_all (On w h) (is_member g) let_go i (λ r. refl) s.tasks v.0 v.1 v.2 (λ r a y d. on_goes w h v.0 r v.2 a y)
+on_move w h i who o n s (makes z j x) k v = sorts_keep (OnAt w h i) (λ t g q m c r y p. p) z _ s v
+on_move w h i who o n s (alters z j f) k v = sorts_keep (OnAt w h i) (λ t g q m c r y p. p) z _ s v
+on_move w h i who o n s (removes z j) k v = sorts_keep (OnAt w h i) (λ t g q m c r y p. p) z _ s v
+on_move w h i who o n s _ k v = v

@@ -1,0 +1,106 @@
+-- The worked history of two tallies, by computing.
+use Rattle.std.proofs.Common.{◌≡◌, false, List, [], ◌∷◌, ◌++◌, Some, refl, sym, ◌∙◌, subst, arith}
+use Rattle.std.specs.Prelude.{ℤ, pos}
+use Rattle.std.proofs.lemmas.List.{append_assoc}
+use Rattle.mtapi_values.specs.Seats.{no_marks}
+use Rattle.mtapi_values.specs.declared.ends.TaskEnd.TheVariants.{Failed}
+use Rattle.action_fn.specs.Answers.{fits, answer_of}
+use Rattle.handle_pool.specs.Issued.{live_of, issue, change, change_all, listed, issued_at, retired, is_full, may_issue, with_fields, gone}
+use Rattle.mtapi_objects.specs.Actions.{has_worker}
+use Rattle.mtapi_objects.specs.Groups.{is_member, freed, let_go}
+use Rattle.mtapi_objects.specs.Tasks.{NewTask, Running, tally_args, new_task, with_state, with_notes, ended, end_each}
+use Rattle.mtapi_objects.specs.Segments.{Segment}
+use Rattle.mtapi_machine.specs.declared.ops.Op.{Op}
+use Rattle.mtapi_machine.specs.declared.ops.Op.TheVariants as op
+use Rattle.mtapi_machine.specs.WorkRows.{is_ready, can_take, has_better}
+use Rattle.mtapi_machine.specs.State.{State, opening}
+use Rattle.mtapi_machine.specs.Moves.{Move, starts_task, runs_task, ends_task, ends_waiting, withdraws, notes, leaves, frees_members, lets_members_go, makes, alters, removes, apply}
+use Rattle.mtapi_machine.specs.Legal.{NodeEntry, next, Legal, after_from, after}
+use Rattle.mtapi_machine.specs.Replay.{replay}
+use Rattle.mtapi_machine.specs.Laws.{IsMade, StartsTask}
+use Rattle.mtapi_machine.specs.Tables.{h1}
+use Rattle.mtapi_machine.proofs.Lines.{fits_of}
+use Rattle.mtapi_machine.proofs.Moves.{by_moves, sorts_keep}
+use Rattle.mtapi_machine.proofs.Replays.{legal_if}
+use Rattle.history_law.specs.Words.{some_entry}
+use Rattle.history_law.specs.Exclusion.{tally_got}
+use Rattle.history_law.specs.Tally.{record_of, mutex_in, sum_of, number_added, writes_to, NamesOneMutex}
+use Rattle.history_law.specs.WorkedSum.{two_workers, two_tallies, TalliesAddUp}
+use Rattle.history_law.proofs.Every.{Every, every_issue, every_change, every_all, every_at, every_ends}
+
+module _ (R : List ℤ → Type 0) where
+  -- what holds of the arguments of each task that is started holds of those of every task
+
+  StartsWith : Op → Type 0
+  StartsWith (op.TaskStart job args priority cores detached group) = R args
+  StartsWith (op.TaskEnqueue q args cores detached group) = R args
+  StartsWith _ = Unit {0}
+
+  started : (o : Op) (t : NewTask) → StartsWith o → StartsTask t o → R t.args
+  unfolding StartsWith
+  started (op.TaskStart job args priority cores detached group) t k b = subst (λ (u : NewTask). R u.args) (sym b) k
+  started (op.TaskEnqueue q args cores detached group) t k b = subst (λ (u : NewTask). R u.args) (sym b.1) k
+  started _ t k b = absurd b
+
+  args_move : (o : Op) → StartsWith o → (s : State) (x : Move) → IsMade s o x → Every (λ u. R u.args) s.tasks → Every (λ u. R u.args) (apply x s).tasks
+  args_move o k s (starts_task j t) e v = every_issue (λ u. R u.args) j (new_task t s.starts) s.tasks (started o t k e.by) v
+  args_move o k s (runs_task j w z) e v = every_change (λ u. R u.args) j (with_fields (with_state (Running w z))) s.tasks (λ r a i. i) v
+  args_move o k s (ends_task j x) e v = every_change (λ u. R u.args) j (ended x s.ends) s.tasks (λ r a i. i) v
+  args_move o k s (ends_waiting p x) e v = every_ends (λ u. R u.args) _ x s.ends s.tasks (λ t m i. i) v
+  args_move o k s (withdraws j f c) e v = every_ends (λ u. R u.args) _ (Failed c) s.ends s.tasks (λ t m i. i) v
+  args_move o k s (notes j f) e v = every_change (λ u. R u.args) j (with_fields (with_notes f)) s.tasks (λ r a i. i) v
+  args_move o k s (leaves j) e v = every_change (λ u. R u.args) j gone s.tasks (λ r a i. i) v
+  args_move o k s (frees_members g) e v = every_all (λ u. R u.args) _ freed s.tasks (λ r i. i) v
+  args_move o k s (lets_members_go g) e v = every_all (λ u. R u.args) (is_member g) let_go s.tasks (λ r i. i) v
+  args_move o k s (makes z j x) e v = sorts_keep (λ t. Every (λ u. R u.args) t.tasks) (λ t g q m c r y p. p) z _ s v
+  args_move o k s (alters z j f) e v = sorts_keep (λ t. Every (λ u. R u.args) t.tasks) (λ t g q m c r y p. p) z _ s v
+  args_move o k s (removes z j) e v = sorts_keep (λ t. Every (λ u. R u.args) t.tasks) (λ t g q m c r y p. p) z _ s v
+  args_move o k s _ e v = v
+
+  AllStart : List NodeEntry → Type 0
+  AllStart [] = Unit {0}
+  AllStart (e ∷ es) = StartsWith e.op × AllStart es
+
+  front_starts : (A B : List NodeEntry) → AllStart (A ++ B) → AllStart A
+  unfolding AllStart
+  front_starts [] B k = tt
+  front_starts (e ∷ A) B k = (k.0, front_starts A B k.1)
+
+  args_along : (s : State) (L : List NodeEntry) → AllStart L → Every (λ u. R u.args) s.tasks → Every (λ u. R u.args) (after_from s L).tasks
+  unfolding AllStart after_from
+  args_along s [] k v = v
+  args_along s (e ∷ es) k v = args_along (next s e) es k.1 (by_moves (λ t. Every (λ u. R u.args) t.tasks) s e (args_move e.op k.0) v)
+
+abbrev names_one : List ℤ → Type 0
+names_one args = mutex_in (tally_args args) ≡ 1
+
+all_name : AllStart names_one two_tallies
+unfolding two_tallies AllStart StartsWith
+all_name = (tt, (tt, (tt, (tt, (refl, (refl, (tt, (tt, (tt, (tt, (tt, (tt, (tt, (tt, (tt, (tt, (tt, (tt, (tt, (tt, (tt, tt)))))))))))))))))))))
+
+one_mutex : NamesOneMutex two_workers two_tallies h1 0 1
+one_mutex A B w t x cut e a =
+    let all : AllStart names_one ((A ++ tally_got w t ∷ []) ++ B) = subst (AllStart names_one) (cut ∙ sym (append_assoc A (tally_got w t ∷ []) B)) all_name in
+    every_at (λ u. names_one u.args) (after two_workers (A ++ tally_got w t ∷ [])).tasks t.0 x (args_along names_one (opening two_workers) (A ++ tally_got w t ∷ []) (front_starts names_one (A ++ tally_got w t ∷ []) B all) tt) e
+
+two_legal : Legal two_workers two_tallies
+unfolding two_tallies replay live_of issue change change_all listed issued_at retired is_full may_issue fits answer_of has_worker end_each is_ready can_take has_better
+two_legal = record { fits = fits_of 2 4 2 (omega arith) (omega arith) (omega arith) (omega arith) (omega arith) (omega arith); from = legal_if _ _ refl }
+
+no_write : some_entry (writes_to h1 0) two_tallies ≡ false
+unfolding two_tallies
+no_write = refl
+
+abbrev twelve : Segment
+twelve = record { id = 2; cells = pos 12 ∷ []; attached = no_marks }
+
+holds_twelve : record_of (after two_workers two_tallies).segments h1 ≡ Some twelve
+unfolding two_tallies record_of after_from live_of issue change change_all listed issued_at retired is_full may_issue fits answer_of has_worker end_each is_ready can_take has_better
+holds_twelve = refl
+
+sum_twelve : sum_of (number_added h1 0) (after two_workers two_tallies).tasks ≡ pos 12
+unfolding two_tallies after_from live_of issue change change_all listed issued_at retired is_full may_issue fits answer_of has_worker end_each is_ready can_take has_better
+sum_twelve = refl
+
+pub tallies_add_up : TalliesAddUp
+tallies_add_up = record { legal = two_legal; one_mutex = one_mutex; no_write = no_write; segment = twelve; found = holds_twelve; holds = refl; sum = sum_twelve }

@@ -1,0 +1,133 @@
+-- A handle that was written is read as the same.
+use Rattle.std.proofs.Common.{◌≡◌, ℕ, ◌+◌, ◌*◌, ◌/◌, ◌%◌, ◌<◌, ◌≤◌, ◌^◌, List, [], ◌∷◌, ◌++◌, length, take, drop, Bool, true, false, cond, eqb, Option, Some, None, refl, ap, ◌∙◌, arith, inl, inr, zero, suc}
+use Rattle.std.specs.Prelude.{codes, nat_lt, find}
+use Rattle.std.specs.List.{before_first, after_first, position_or_len, list_all}
+use Rattle.std.specs.Char.{is_ascii_digit}
+use Rattle.std.specs.Prelude.{nat_le}
+use Rattle.std.specs.Fmt.{decimal}
+use Rattle.std.proofs.lemmas.Bool.{cases_Bool, leb-true, eqb-true, ne_eqb, and_parts}
+use Rattle.std.proofs.lemmas.Fmt.{digits_decimal}
+use Rattle.mtapi_values.specs.declared.handles.ObjectKind.{ObjectKind}
+use Rattle.mtapi_values.specs.declared.handles.ObjectKind.TheVariants.{Action}
+use Rattle.mtapi_values.specs.declared.handles.Layout.{Layout}
+use Rattle.mtapi_values.specs.declared.handles.Layout.TheVariants.{One, Two}
+use Rattle.mtapi_values.specs.Layouts.{object_number, named_kind}
+use Rattle.number_text.specs.Numbers.{number, number_within}
+use Rattle.number_text.proofs.Parsing.{own}
+use Rattle.number_text.proofs.Writing.{number_written, within_written}
+use Rattle.journal_text.specs.Handles.{kind_letter, kind_lettered, kind_numbered, object_kinds, handle_led, handle_of, handle_named, handle_text, named_text, generation, slot}
+
+pub dash_no_handle : handle_of (codes "-") ≡ None
+unfolding handle_of number
+dash_no_handle = refl
+
+-- ---- decimal numbers
+
+digit_low : (b : ℕ) → is_ascii_digit b ≡ true → b ≤ 57
+digit_low b h = leb-true b 57 (and_parts (nat_le 48 b) (nat_le b 57) h).1
+
+pub digit_high : (b : ℕ) → is_ascii_digit b ≡ true → 48 ≤ b
+digit_high b h = leb-true 48 b (and_parts (nat_le 48 b) (nat_le b 57) h).0
+
+no_letter : (b : ℕ) → b ≤ 57 → kind_lettered b ≡ None
+no_letter b h =
+    rw (ne_eqb 97 b (λ (e : 97 ≡ b). omega arith), ne_eqb 116 b (λ (e : 116 ≡ b). omega arith), ne_eqb 103 b (λ (e : 103 ≡ b). omega arith), ne_eqb 113 b (λ (e : 113 ≡ b). omega arith), ne_eqb 109 b (λ (e : 109 ≡ b). omega arith), ne_eqb 115 b (λ (e : 115 ≡ b). omega arith), ne_eqb 114 b (λ (e : 114 ≡ b). omega arith), ne_eqb 104 b (λ (e : 104 ≡ b). omega arith)) refl
+
+digits_number : (text : List ℕ) → list_all is_ascii_digit text ≡ true → handle_of text ≡ number text
+unfolding handle_of number
+digits_number [] h = refl
+digits_number (b ∷ bs) h = ap (λ o. handle_led o bs (b ∷ bs)) (no_letter b (digit_low b (and_parts (is_ascii_digit b) (list_all is_ascii_digit bs) h).0))
+
+decimal_again : (h : ℕ) → h < 2 ^ 64 → handle_of (decimal h) ≡ Some h
+decimal_again h f = digits_number (decimal h) (digits_decimal own h f) ∙ number_written h f
+
+-- ---- handles behind a letter
+
+letter_again : (k : ObjectKind) → kind_lettered (kind_letter k) ≡ Some k
+letter_again Action = refl
+letter_again _ = refl
+
+abbrev is_dot : ℕ → Bool
+is_dot b = eqb b 46
+
+no_dot : (b : ℕ) → is_ascii_digit b ≡ true → is_dot b ≡ false
+no_dot b h = ne_eqb b 46 (λ (e : b ≡ 46). omega (arith, digit_high b h))
+
+dot_place : (ds xs : List ℕ) → list_all is_ascii_digit ds ≡ true → position_or_len is_dot (ds ++ 46 ∷ xs) ≡ length ds
+dot_place [] xs h = refl
+dot_place (d ∷ ds) xs h =
+    let both = and_parts (is_ascii_digit d) (list_all is_ascii_digit ds) h in
+    rw (no_dot d both.0, dot_place ds xs both.1) (omega arith)
+
+take_front : (ds xs : List ℕ) → take (length ds) (ds ++ xs) ≡ ds
+take_front [] xs = refl
+take_front (d ∷ ds) xs = ap (λ l. d ∷ l) (take_front ds xs)
+
+drop_front : (ds xs : List ℕ) (x n : ℕ) → n ≡ length ds + 1 → drop n (ds ++ x ∷ xs) ≡ xs
+drop_front [] xs x zero e = absurd (omega (arith, e))
+drop_front [] xs x (suc n) e = let z : n ≡ 0 = omega (arith, e) in rw z refl
+drop_front (d ∷ ds) xs x zero e = absurd (omega (arith, e))
+drop_front (d ∷ ds) xs x (suc n) e = drop_front ds xs x n (omega (arith, e))
+
+front_is : (ds xs : List ℕ) → list_all is_ascii_digit ds ≡ true → before_first is_dot (ds ++ 46 ∷ xs) ≡ ds
+front_is ds xs h = rw (dot_place ds xs h) (take_front ds (46 ∷ xs))
+
+back_is : (ds xs : List ℕ) → list_all is_ascii_digit ds ≡ true → after_first is_dot (ds ++ 46 ∷ xs) ≡ xs
+back_is ds xs h = rw (dot_place ds xs h) (drop_front ds xs 46 _ (omega arith))
+
+whole_handle : (h q s p n g t : ℕ) → 2 ^ 24 * q + s ≡ h → s < 2 ^ 24 → 256 * p + n ≡ q → n < 256 → 2 ^ 32 * g + t ≡ h → t < 2 ^ 32 → g * 2 ^ 32 + n * 2 ^ 24 + s ≡ h
+whole_handle h q s p n g t a b c d e f = omega arith
+
+div_parts : (x n : ℕ) → 0 < n → n * (x / n) + x % n ≡ x
+div_parts x n h = omega arith
+
+pub mod_less : (x n : ℕ) → 0 < n → x % n < n
+mod_less x n h = omega arith
+
+handle_whole : (h : ℕ) → h / 2 ^ 32 * 2 ^ 32 + named_kind h * 2 ^ 24 + h % 2 ^ 24 ≡ h
+handle_whole h = whole_handle h (h / 2 ^ 24) (h % 2 ^ 24) (h / 2 ^ 24 / 256) (h / 2 ^ 24 % 256) (h / 2 ^ 32) (h % 2 ^ 32) (div_parts h (2 ^ 24) (omega arith)) (mod_less h (2 ^ 24) (omega arith)) (div_parts (h / 2 ^ 24) 256 (omega arith)) (mod_less (h / 2 ^ 24) 256 (omega arith)) (div_parts h (2 ^ 32) (omega arith)) (mod_less h (2 ^ 32) (omega arith))
+
+pub generation_fits : (h : ℕ) → h < 2 ^ 64 → h / 2 ^ 32 < 2 ^ 32
+generation_fits h f = let parts = div_parts h (2 ^ 32) (omega arith) in omega arith
+
+named_from : (k : ObjectKind) (text : List ℕ) (g s : ℕ) → number_within 0 4294967295 (before_first is_dot text) ≡ Some g → number_within 0 16777215 (after_first is_dot text) ≡ Some s → handle_named k text ≡ Some (g * 2 ^ 32 + object_number k * 2 ^ 24 + s)
+unfolding handle_named
+named_from k text g s a b = rw (a, b) refl
+
+named_again : (k : ObjectKind) (h : ℕ) → h < 2 ^ 64 → object_number k ≡ named_kind h → handle_named k (decimal (generation h) ++ 46 ∷ decimal (slot h)) ≡ Some h
+named_again k h f n =
+    let few = generation_fits h f in
+    let low = mod_less h (2 ^ 24) (omega arith) in
+    let digits = digits_decimal own (h / 2 ^ 32) (omega arith) in
+    let prefix = front_is (decimal (generation h)) (decimal (slot h)) digits in
+    let back = back_is (decimal (generation h)) (decimal (slot h)) digits in
+    let a = ap (number_within 0 4294967295) prefix ∙ within_written 0 4294967295 (h / 2 ^ 32) (omega arith) (omega arith) (omega arith) in
+    let b = ap (number_within 0 16777215) back ∙ within_written 0 16777215 (h % 2 ^ 24) (omega arith) (omega arith) (omega arith) in
+    named_from k (decimal (generation h) ++ 46 ∷ decimal (slot h)) (h / 2 ^ 32) (h % 2 ^ 24) a b
+    ∙ ap (λ m. Some (h / 2 ^ 32 * 2 ^ 32 + m * 2 ^ 24 + h % 2 ^ 24)) n
+    ∙ ap Some (handle_whole h)
+
+found_passes : {X : Type 0} (p : X → Bool) (all : List X) (x : X) → find p all ≡ Some x → p x ≡ true
+found_passes p [] x e = absurd cc
+found_passes p (y ∷ ys) x e =
+    elim (p y) as (λ b. p y ≡ b → cond b (Some y) (find p ys) ≡ Some x → p x ≡ true) [
+      | true ↦ λ is f. cc
+      | false ↦ λ is f. found_passes p ys x f
+    ] refl e
+
+kind_again : (h : ℕ) (o : Option ObjectKind) → h < 2 ^ 64 → kind_numbered (named_kind h) ≡ o → handle_of (named_text o h) ≡ Some h
+unfolding handle_of
+kind_again h None f e = decimal_again h f
+kind_again h (Some k) f e =
+    let rest = decimal (generation h) ++ 46 ∷ decimal (slot h) in
+    let n = eqb-true (object_number k) (named_kind h) (found_passes (λ x. eqb (object_number x) (named_kind h)) object_kinds k e) in
+    ap (λ o. handle_led o rest (kind_letter k ∷ rest)) (letter_again k) ∙ named_again k h f n
+
+pub handle_again : (l : Layout) (h : ℕ) → h < 2 ^ 64 → handle_of (handle_text l h) ≡ Some h
+unfolding handle_text
+handle_again One h f = decimal_again h f
+handle_again Two h f =
+    elim (cases_Bool (nat_lt 0 (generation h))) [
+      | inl t ↦ rw t (kind_again h (kind_numbered (named_kind h)) f refl)
+      | inr t ↦ rw t (decimal_again h f)
+    ]

@@ -1,0 +1,126 @@
+-- A line that was written is read as the same entry.
+use Rattle.std.proofs.Common.{◌≡◌, ℕ, ◌+◌, ◌-◌, ◌<◌, ◌^◌, List, [], ◌∷◌, ◌++◌, true, cond, eqb, Some, refl, ap, ◌∙◌, arith, inl, inr}
+use Rattle.std.specs.Prelude.{codes, nat_lt, drop}
+use Rattle.std.specs.List.{AllByRecursion, list_all, join_with_byte}
+use Rattle.std.specs.Str.{bytes_eq}
+use Rattle.std.specs.Fmt.{decimal}
+use Rattle.std.proofs.lemmas.Bool.{and_from, cases_Bool, lt-ltb, ltb-false}
+use Rattle.std.proofs.lemmas.Slice.Eq.{bytes_eq-Decides}
+use Rattle.mtapi_values.specs.declared.handles.Layout.{Layout}
+use Rattle.mtapi_machine.specs.Legal.{NodeEntry, IsHonest}
+use Rattle.mtapi_machine.specs.declared.ops.Op.{Op}
+use Rattle.mtapi_machine.specs.declared.replies.Reply.{Reply}
+use Rattle.number_text.specs.Numbers.{number_within}
+use Rattle.number_text.specs.Lists.{◌>>=◌}
+use Rattle.number_text.proofs.Writing.{number_written, within_written}
+use Rattle.journal_text.specs.declared.heads.Head.{Head}
+use Rattle.journal_text.specs.Values.{values_words, values_onto}
+use Rattle.journal_text.specs.Ops.{op_row, op_spelled, op_of}
+use Rattle.journal_text.specs.Replies.{reply_row, reply_spelled, reply_of}
+use Rattle.journal_text.specs.Lines.{seat_text, op_texts, reply_texts, skipped_texts, entry_texts, entry_text, seat_of, op_from, reply_from, skipped_from, entry_from, has_words, is_seated, if_spelled, entry_of}
+use Rattle.journal_text.specs.Fits.{ValueFits, EntryFits, HeadFits}
+use Rattle.journal_text.proofs.OpsAgain.{op_word_again, op_shapes, op_again, reply_word_again, reply_shapes, reply_again}
+use Rattle.journal_text.proofs.ValuesAgain.{values_again}
+use Rattle.journal_text.proofs.Plain.{is_plain, is_above, all_append, between_words, joined_above, decimal_plain, op_plain, reply_plain, values_plain}
+
+pub bytes_same : (a : List ℕ) → bytes_eq a a ≡ true
+bytes_same a = (bytes_eq-Decides a a).1 refl
+
+-- ---- parts
+
+led_seat : (head : Head) (b : ℕ) (bs : List ℕ) (n : ℕ) → number_within 0 255 bs ≡ Some n → seat_of head (b ∷ bs) ≡ Some (cond (eqb b 119) n (head.settings.workers + n))
+unfolding seat_of
+led_seat head b bs n e = rw e refl
+
+seat_again : (head : Head) (who : ℕ) → HeadFits head → who < head.settings.workers + head.callers → seat_of head (seat_text head.settings.workers who) ≡ Some who
+seat_again head who f lt =
+    let workers = f.settings.workers.1 in
+    elim (cases_Bool (nat_lt who head.settings.workers)) [
+      | inl t ↦ rw t (led_seat head 119 (decimal who) who (within_written 0 255 who (omega (arith, f.few, workers)) (omega arith) (omega (arith, f.few, workers))))
+      | inr t ↦
+          let above = ltb-false who head.settings.workers t in
+          let n = who - head.settings.workers in
+          let back : head.settings.workers + (who - head.settings.workers) ≡ who = omega arith in
+          rw t (led_seat head 99 (decimal n) n (within_written 0 255 n (omega (arith, f.few, workers)) (omega arith) (omega (arith, f.few, workers))) ∙ ap Some back)
+    ]
+
+op_from_again : (l : Layout) (o : Op) (ws : List (List ℕ)) → IsHonest o → AllByRecursion ValueFits (op_spelled o).1 → op_from (op_texts l o ++ ws) ≡ Some (o, ws)
+unfolding op_from
+op_from_again l o ws h f =
+    let w = (op_spelled o).0 in
+    let vs = (op_spelled o).1 in
+    ap (λ r. r >>= λ x. values_onto [] (op_row x).1 (values_words l vs ++ ws) >>= λ values. op_of x values.0 >>= λ y. Some (y, values.1)) (op_word_again w)
+    ∙ ap (λ ss. values_onto [] ss (values_words l vs ++ ws) >>= λ values. op_of w values.0 >>= λ y. Some (y, values.1)) (op_shapes o)
+    ∙ ap (λ r. r >>= λ values. op_of w values.0 >>= λ y. Some (y, values.1)) (values_again l [] vs ws f)
+    ∙ ap (λ r. r >>= λ y. Some (y, ws)) (op_again o h)
+
+reply_from_again : (l : Layout) (r : Reply) (ws : List (List ℕ)) → AllByRecursion ValueFits (reply_spelled r).1 → reply_from (reply_texts l r ++ ws) ≡ Some (r, ws)
+unfolding reply_from
+reply_from_again l r ws f =
+    let w = (reply_spelled r).0 in
+    let vs = (reply_spelled r).1 in
+    ap (λ o. o >>= λ x. values_onto [] (reply_row x).1 (values_words l vs ++ ws) >>= λ values. Some (reply_of x values.0, values.1)) (reply_word_again w)
+    ∙ ap (λ ss. values_onto [] ss (values_words l vs ++ ws) >>= λ values. Some (reply_of w values.0, values.1)) (reply_shapes r)
+    ∙ ap (λ o. o >>= λ values. Some (reply_of w values.0, values.1)) (values_again l [] vs ws f)
+    ∙ ap (λ x. Some (x, ws)) (reply_again r)
+
+skipped_again : (n : ℕ) → n < 2 ^ 64 → skipped_from (skipped_texts n) ≡ Some n
+unfolding skipped_from
+skipped_again n f =
+    elim (cases_Bool (nat_lt 0 n)) [
+      | inl t ↦ rw t (number_written n f)
+      | inr t ↦ let none = ltb-false 0 n t in let z : 0 ≡ n = omega arith in rw t (ap Some z)
+    ]
+
+-- ---- entries
+
+entry_from_again : (head : Head) (e : NodeEntry) (n : ℕ) → HeadFits head → EntryFits head e n → entry_from head (seat_text head.settings.workers e.who ∷ entry_texts head.layout e n) ≡ Some (e, n)
+unfolding entry_from
+entry_from_again head e n g f =
+    let l = head.layout in
+    let ws = entry_texts l e n in
+    let behind = codes "->" ∷ (reply_texts l e.reply ++ skipped_texts n) in
+    ap (λ r. r >>= λ who. op_from ws >>= λ o. reply_from (drop 1 o.1) >>= λ a. skipped_from a.1 >>= λ m. Some (record { who = who; op = o.0; reply = a.0 }, m)) (seat_again head e.who g f.seat)
+    ∙ ap (λ r. r >>= λ o. reply_from (drop 1 o.1) >>= λ a. skipped_from a.1 >>= λ m. Some (record { who = e.who; op = o.0; reply = a.0 }, m)) (op_from_again l e.op behind f.honest f.op)
+    ∙ ap (λ r. r >>= λ a. skipped_from a.1 >>= λ m. Some (record { who = e.who; op = e.op; reply = a.0 }, m)) (reply_from_again l e.reply (skipped_texts n) f.reply)
+    ∙ ap (λ r. r >>= λ m. Some (record { who = e.who; op = e.op; reply = e.reply }, m)) (skipped_again n f.number)
+
+seat_plain : (workers who : ℕ) → who < 2 ^ 64 → is_plain (seat_text workers who) ≡ true
+seat_plain workers who f =
+    elim (cases_Bool (nat_lt who workers)) [
+      | inl t ↦ rw t (decimal_plain who f)
+      | inr t ↦ rw t (decimal_plain (who - workers) (omega arith))
+    ]
+
+skipped_plain : (n : ℕ) → n < 2 ^ 64 → list_all is_plain (skipped_texts n) ≡ true
+skipped_plain n f =
+    elim (cases_Bool (nat_lt 0 n)) [
+      | inl t ↦ rw t (and_from _ _ (decimal_plain n f) refl)
+      | inr t ↦ rw t refl
+    ]
+
+entry_plain : (head : Head) (e : NodeEntry) (n : ℕ) → HeadFits head → EntryFits head e n → list_all is_plain (seat_text head.settings.workers e.who ∷ entry_texts head.layout e n) ≡ true
+entry_plain head e n g f =
+    let l = head.layout in
+    let workers = g.settings.workers.1 in
+    let replies = all_append is_plain (reply_texts l e.reply) (skipped_texts n) (and_from _ _ (reply_plain (reply_spelled e.reply).0) (values_plain l (reply_spelled e.reply).1 f.reply)) (skipped_plain n f.number) in
+    let ops = and_from _ _ (op_plain (op_spelled e.op).0) (values_plain l (op_spelled e.op).1 f.op) in
+    and_from _ _ (seat_plain head.settings.workers e.who (omega (arith, f.seat, workers, g.few))) (all_append is_plain (op_texts l e.op) (codes "->" ∷ (reply_texts l e.reply ++ skipped_texts n)) ops replies)
+
+if_spelled_again : (head : Head) (line : List ℕ) (e : NodeEntry) (n : ℕ) → has_words head.layout e ≡ true → is_seated head e ≡ true → entry_text head e n ≡ line → if_spelled head line (e, n) ≡ Some (e, n)
+if_spelled_again head line e n a b same = rw (a, b, same, bytes_same line) refl
+
+pub entry_again : (head : Head) (e : NodeEntry) (n : ℕ) → HeadFits head → EntryFits head e n → entry_of head (entry_text head e n) ≡ Some (e, n)
+unfolding entry_of entry_text
+entry_again head e n g f =
+    let seat = seat_text head.settings.workers e.who in
+    let ws = entry_texts head.layout e n in
+    let line = join_with_byte 32 (seat ∷ ws) in
+    ap (λ t. entry_from head t >>= if_spelled head line) (between_words seat ws (entry_plain head e n g f))
+    ∙ ap (λ r. r >>= if_spelled head line) (entry_from_again head e n g f)
+    ∙ if_spelled_again head line e n f.words (lt-ltb e.who _ f.seat) refl
+
+-- a line has no line feed
+pub entry_above : (head : Head) (e : NodeEntry) (n : ℕ) → HeadFits head → EntryFits head e n → is_above 10 (entry_text head e n) ≡ true
+unfolding entry_text
+entry_above head e n g f = joined_above (seat_text head.settings.workers e.who ∷ entry_texts head.layout e n) (entry_plain head e n g f)

@@ -1,0 +1,9 @@
+use Rattle.std.proofs.Common.{◌≡◌, ◌++◌, length}
+use Rattle.journal_text.specs.Journals.{lines_text, entry_lines}
+use Rattle.journal_text.proofs.journals.push_entries.Given as goal
+
+abbrev pub invariant-entries : goal.invariant-entries
+invariant-entries l = l.out.items ++ lines_text (entry_lines l.head l.entries l.skipped) ≡ l.initial.out.items ++ lines_text (entry_lines l.head l.initial.entries l.initial.skipped)
+
+abbrev pub decreases-entries : goal.decreases-entries
+decreases-entries l = length l.entries

@@ -1,0 +1,57 @@
+-- What can be written: values in the ranges of their types.
+use Rattle.std.specs.Prelude.{◌≡◌, ℕ, ℤ, ◌+◌, ◌<◌, ◌≤◌, ◌^◌, true, List, [], ◌∷◌, length, Some, FitsSigned}
+use Rattle.std.specs.List.{AllByRecursion}
+use Rattle.std.specs.Int.{w64}
+use Rattle.mtapi_values.specs.Attributes.{AreNodeSettings}
+use Rattle.mtapi_values.specs.declared.ends.TaskEnd.TheVariants as end
+use Rattle.mtapi_machine.specs.Legal.{NodeEntry, IsHonest}
+use Rattle.node_core.specs.declared.entries.Journal.{Journal}
+use Rattle.journal_text.specs.declared.heads.Head.{Head}
+use Rattle.journal_text.specs.declared.values.Value.{Value}
+use Rattle.journal_text.specs.declared.values.Value.TheVariants as given
+use Rattle.journal_text.specs.Ops.{op_spelled}
+use Rattle.journal_text.specs.Replies.{reply_spelled}
+use Rattle.journal_text.specs.Lines.{has_words}
+use Rattle.journal_text.specs.Journals.{head_for}
+
+-- at most 16 numbers of 64 bits, with sign
+pub record AreArgs (zs : List ℤ) : Type 0 where
+  pub few : length zs ≤ 16
+  pub fit : AllByRecursion (FitsSigned w64) zs
+
+-- the value is in its type's range
+abbrev pub ValueFits : Value → Type 0
+ValueFits (given.Number n) = n < 2 ^ 32
+ValueFits (given.Whole z) = FitsSigned w64 z
+ValueFits (given.Cores mask) = mask.0 < 2 ^ 64
+ValueFits (given.Args zs) = AreArgs zs
+ValueFits (given.Handle h) = h < 2 ^ 64
+ValueFits (given.Group (Some h)) = h < 2 ^ 64
+ValueFits (given.End (end.Completed zs)) = AreArgs zs
+ValueFits _ = Unit {0}
+
+-- the entry is by a seat, each value is in its range, a finished task has its kind's answer, and the text has its words
+pub record EntryFits (head : Head) (e : NodeEntry) (n : ℕ) : Type 0 where
+  pub seat : e.who < head.settings.workers + head.callers
+  pub op : AllByRecursion ValueFits (op_spelled e.op).1
+  pub reply : AllByRecursion ValueFits (reply_spelled e.reply).1
+  pub honest : IsHonest e.op
+  pub words : has_words head.layout e ≡ true
+  pub number : n < 2 ^ 64
+
+-- the settings are in their ranges, and there are 1 to 9 callers
+pub record HeadFits (head : Head) : Type 0 where
+  pub settings : AreNodeSettings head.settings
+  pub some : 1 ≤ head.callers
+  pub few : head.callers ≤ 9
+
+-- the entries fit, with as many numbers beside them
+abbrev pub EntriesFit : Head → List NodeEntry → List ℕ → Type 0
+EntriesFit head [] [] = Unit {0}
+EntriesFit head (e ∷ es) (n ∷ ns) = EntryFits head e n × EntriesFit head es ns
+EntriesFit head _ _ = ⊥
+
+-- the journal can be written
+pub record JournalFits (j : Journal) : Type 0 where
+  pub head : HeadFits (head_for j)
+  pub entries : EntriesFit (head_for j) j.entries.entries j.entries.skipped

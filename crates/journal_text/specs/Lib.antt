@@ -1,0 +1,10 @@
+pub mod Found
+pub mod Handles
+pub mod Values
+pub mod Places
+pub mod Ops
+pub mod Replies
+pub mod Heads
+pub mod Lines
+pub mod Journals
+pub mod Fits

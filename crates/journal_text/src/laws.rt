@@ -1,0 +1,33 @@
+//! Laws of the journal text.
+ghost use Rattle.std.specs.Prelude.{◌≡◌, List, ℕ, Ok, Some};
+ghost use Rattle.mtapi_machine.specs.Legal.{IsHonest, NodeEntry};
+ghost use Rattle.mtapi_machine.specs.declared.ops.Op.{Op};
+ghost use Rattle.mtapi_machine.specs.declared.replies.Reply.{Reply};
+ghost use Rattle.node_core.specs.declared.entries.Journal.{Journal};
+ghost use Rattle.journal_text.specs.Ops.{op_spelled, op_of};
+ghost use Rattle.journal_text.specs.Replies.{reply_spelled, reply_of};
+ghost use Rattle.journal_text.specs.declared.heads.Head.{Head};
+ghost use Rattle.journal_text.specs.Fits.{HeadFits, EntryFits, JournalFits};
+ghost use Rattle.journal_text.specs.Lines.{entry_text, entry_of};
+ghost use Rattle.journal_text.specs.Journals.{journal_text, journal_of};
+
+/// What is read is written as it was read: each journal has one text, and no other bytes are read as it.
+pub fn law_read()
+    ensures { (bytes : List ℕ) (j : Journal) → journal_of bytes ≡ Ok j → journal_text j ≡ bytes }
+{}
+
+/// What can be written is read as the same, and each journal that fits its types can be written.
+pub fn law_written()
+    ensures { (j : Journal) → JournalFits j → journal_of (journal_text j) ≡ Ok j }
+{}
+
+/// Each line that can be written is read as its entry, and the number beside it.
+pub fn law_lines()
+    ensures { (head : Head) (e : NodeEntry) (n : ℕ) → HeadFits head → EntryFits head e n → entry_of head (entry_text head e n) ≡ Some (e, n) }
+{}
+
+/// The word and the values by which an op or a reply is written give the same one back.
+pub fn law_spelled()
+    ensures op { (o : Op) → IsHonest o → op_of (op_spelled o).0 (op_spelled o).1 ≡ Some o }
+    ensures reply { (r : Reply) → reply_of (reply_spelled r).0 (reply_spelled r).1 ≡ r }
+{}

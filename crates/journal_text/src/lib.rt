@@ -1,0 +1,21 @@
+//! Journals as texts, written and read in one spelling: a head line, and a line for each entry.
+#![tactic(auto)]
+
+mod faults;
+mod handles;
+mod heads;
+mod journals;
+mod laws;
+mod lines;
+mod op_words;
+mod places;
+mod reply_words;
+mod texts;
+mod values;
+
+pub use faults::JournalError;
+pub use journals::{read_journal, write_journal};
+pub use laws::{law_lines, law_read, law_spelled, law_written};
+
+#[cfg(test)]
+mod tests;

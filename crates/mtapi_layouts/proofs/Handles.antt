@@ -1,0 +1,84 @@
+-- Handles of layout two as the pools have them, and back.
+use Rattle.std.proofs.Common.{◌≡◌, ℕ, ◌+◌, ◌-◌, ◌*◌, ◌/◌, ◌%◌, ◌^◌, ◌<◌, ◌≤◌, Bool, true, false, cond, Some, None, refl, sym, arith}
+use Rattle.std.specs.Prelude.{◌==◌}
+use Rattle.std.proofs.lemmas.Bool.{eqb-true, eq-eqb}
+use Rattle.mtapi_values.specs.declared.handles.ObjectKind.{ObjectKind}
+use Rattle.mtapi_values.specs.declared.handles.ObjectKind.TheVariants.{Action, Task, Group, Queue, Mutex, Sem, Rwl, Shmem}
+use Rattle.mtapi_values.specs.Layouts.{object_number, named_kind, outer}
+use Rattle.handle_pool.specs.Slots.{slot_of, generation_of}
+use Rattle.mtapi_layouts.specs.Inward.{or_zero, inward, Names, HasRoom}
+
+record NamesKind (k : ObjectKind) (h : ℕ) : Type 0 where
+  names : (named_kind h == object_number k) ≡ true
+  is : h ≡ inward k h + object_number k * 2 ^ 24
+
+names_kind : (k : ObjectKind) (h : ℕ) → Names k h → NamesKind k h
+names_kind k h some = record {
+  names = by_test (named_kind h == object_number k) some;
+  is = by_value (named_kind h == object_number k) some;
+}
+  where
+    by_test : (b : Bool) → 1 ≤ or_zero (cond b (Some (h - object_number k * 2 ^ 24)) None) → b ≡ true
+    by_test true e = refl
+    by_test false e = absurd (omega arith)
+
+    by_value : (b : Bool) → 1 ≤ or_zero (cond b (Some (h - object_number k * 2 ^ 24)) None) → h ≡ or_zero (cond b (Some (h - object_number k * 2 ^ 24)) None) + object_number k * 2 ^ 24
+    by_value true e = omega arith
+    by_value false e = absurd (omega arith)
+
+-- no two handles that name the kind become one
+pub inward-one : (k : ObjectKind) (a b : ℕ) → Names k a → inward k a ≡ inward k b → a ≡ b
+inward-one k a b some e = omega (arith, (names_kind k a some).is, (names_kind k b (omega arith)).is, e)
+
+split : (h x n : ℕ) → h ≡ x + n * 2 ^ 24 → h / 2 ^ 24 % 256 ≡ n → (x / 2 ^ 32 ≡ h / 2 ^ 32) × (h % 2 ^ 32 ≡ x % 2 ^ 32 + n * 2 ^ 24)
+split h x n e k = (omega arith, omega arith)
+
+-- the generation stays, and the slot goes up by the number of the kind
+pub inward-parts : (k : ObjectKind) (h : ℕ) → Names k h → (generation_of (inward k h) ≡ generation_of h) × (slot_of h ≡ slot_of (inward k h) + object_number k * 2 ^ 24)
+inward-parts k h some = let n = names_kind k h some in split h (inward k h) (object_number k) n.is (eqb-true (named_kind h) (object_number k) n.names)
+
+-- a handle that names the kind, turned inwards and outwards again
+pub outer-inward : (k : ObjectKind) (h : ℕ) → Names k h → outer k (inward k h) ≡ h
+outer-inward k h some = sym (names_kind k h some).is
+
+number-small : (k : ObjectKind) → object_number k < 256
+number-small Action = omega arith
+number-small Task = omega arith
+number-small Group = omega arith
+number-small Queue = omega arith
+number-small Mutex = omega arith
+number-small Sem = omega arith
+number-small Rwl = omega arith
+number-small Shmem = omega arith
+
+names-sum : (h n : ℕ) → h % 2 ^ 32 < 2 ^ 24 → n < 256 → (h + n * 2 ^ 24) / 2 ^ 24 % 256 ≡ n
+names-sum h n small few = omega arith
+
+pub outer-names : (k : ObjectKind) (h : ℕ) → HasRoom h → (named_kind (outer k h) == object_number k) ≡ true
+outer-names k h room = eq-eqb (named_kind (outer k h)) (object_number k) (names-sum h (object_number k) room (number-small k))
+
+-- a pool's handle, turned outwards and inwards again
+pub inward-outer : (k : ObjectKind) (h : ℕ) → HasRoom h → inward k (outer k h) ≡ h
+inward-outer k h room = by_test (named_kind (outer k h) == object_number k) (outer-names k h room)
+  where
+    by_test : (b : Bool) → b ≡ true → or_zero (cond b (Some (outer k h - object_number k * 2 ^ 24)) None) ≡ h
+    by_test true e = omega arith
+    by_test false e = absurd (cc)
+
+-- a handle that names the kind leaves room for its number once it is turned inwards
+pub inward-room : (k : ObjectKind) (h : ℕ) → Names k h → HasRoom (inward k h)
+inward-room k h some = let n = names_kind k h some in under h (inward k h) (object_number k) n.is (eqb-true (named_kind h) (object_number k) n.names)
+  where
+    under : (a x n : ℕ) → a ≡ x + n * 2 ^ 24 → a / 2 ^ 24 % 256 ≡ n → x % 2 ^ 32 < 2 ^ 24
+    under a x n e d = omega arith
+
+-- a handle that has a generation, and the number of the kind in its place, names the kind
+pub names-of : (k : ObjectKind) (h : ℕ) → (named_kind h == object_number k) ≡ true → 1 ≤ generation_of h → Names k h
+names-of k h e once = by_test (named_kind h == object_number k) e
+  where
+    over : (n : ℕ) → n < 256 → 1 ≤ h / 2 ^ 32 → 1 ≤ h - n * 2 ^ 24
+    over n few some = omega arith
+
+    by_test : (b : Bool) → b ≡ true → 1 ≤ or_zero (cond b (Some (h - object_number k * 2 ^ 24)) None)
+    by_test true e = over (object_number k) (number-small k) once
+    by_test false e = absurd (cc)

@@ -1,0 +1,21 @@
+-- Handles of layout two, as callers see them, and of layout one, as the pools have them.
+use Rattle.std.specs.Prelude.{ℕ, ◌≤◌, ◌%◌, ◌^◌, ◌<◌, Option, Some, None}
+use Rattle.mtapi_values.specs.declared.handles.ObjectKind.{ObjectKind}
+use Rattle.mtapi_values.specs.Layouts.{inner}
+
+-- 0, which no pool issues, where there is none
+abbrev pub or_zero : Option ℕ → ℕ
+or_zero None = 0
+or_zero (Some h) = h
+
+-- a handle as callers see it, as the pool of this kind has it; 0 where it names another kind
+abbrev pub inward : ObjectKind → ℕ → ℕ
+inward k h = or_zero (inner k h)
+
+-- a handle of layout two names this kind
+abbrev pub Names : ObjectKind → ℕ → Type 0
+Names k h = 1 ≤ inward k h
+
+-- a pool's handle leaves room for the number of a kind
+abbrev pub HasRoom : ℕ → Type 0
+HasRoom h = h % 2 ^ 32 < 2 ^ 24

@@ -1,0 +1,5 @@
+pub mod Inward
+pub mod Turned
+pub mod Named
+pub mod Ops
+pub mod Turns

@@ -1,0 +1,175 @@
+-- Every task that hasn't begun and passes ends, one handle after another.
+use Rattle.std.proofs.Common.{◌≡◌, ℕ, ◌+◌, ◌<◌, ◌≤◌, length, get_or, take, Bool, true, false, ◌&&◌, cond, List, [], ◌∷◌, ◌++◌, Option, Some, None, refl, sym, ◌∙◌, ap, arith}
+use Rattle.std.specs.Prelude.{◌==◌, ◌||◌, is_some}
+use Rattle.std.specs.List.{list_any}
+use Rattle.std.proofs.lemmas.Grind.{take_at_read}
+use Rattle.std.proofs.lemmas.List.{take_all}
+use Rattle.std.specs.Ordering.{nat_cmp, is_eq}
+use Rattle.std.specs.BTreeMap.{is_at}
+use Rattle.std.specs.Map.{lookup, keys_of}
+use Rattle.std.proofs.lemmas.Bool.Decides.{nat_tests}
+use Rattle.mtapi_values.specs.declared.ends.TaskEnd.{TaskEnd}
+use Rattle.mtapi_values.specs.Conditions.{holds}
+use Rattle.run_report.specs.declared.changes.Unstarted.{Unstarted}
+use Rattle.run_report.specs.declared.standings.Passing.{Passing}
+use Rattle.run_report.specs.declared.standings.Passing.TheVariants.{Left, Of, Shut}
+use Rattle.run_report.specs.Seen.{Seen, ends_where, with_end}
+use Rattle.run_report.specs.Standings.{SameAs, passes}
+use Rattle.run_report.proofs.History.{same_path, path_same}
+
+-- the handle is among these
+abbrev pub among : ℕ → List ℕ → Bool
+among h ks = list_any (λ k. k == h) ks
+
+-- of the tasks with these handles those that haven't begun and pass have ended
+abbrev pub ends_among : List ℕ → (Unstarted → Bool) → TaskEnd → Seen → Seen
+ends_among ks p e v = record v {
+  ends = λ h. cond (among h ks && holds p (v.unstarted h)) (Some e) (v.ends h);
+  unstarted = λ h. cond (among h ks && holds p (v.unstarted h)) None (v.unstarted h);
+}
+
+among_more : (h k : ℕ) (ks : List ℕ) → among h (ks ++ k ∷ []) ≡ (among h ks || (k == h))
+among_more h k [] = by (k == h)
+  where
+    by : (b : Bool) → (b || false) ≡ b
+    by true = refl
+    by false = refl
+among_more h k (x ∷ ks) = by (x == h) (among_more h k ks)
+  where
+    by : (b : Bool) → among h (ks ++ k ∷ []) ≡ (among h ks || (k == h)) → (b || among h (ks ++ k ∷ [])) ≡ ((b || among h ks) || (k == h))
+    by true e = refl
+    by false e = e
+
+-- none of them yet
+pub ends_none : (p : Unstarted → Bool) (e : TaskEnd) (v : Seen) → SameAs v (ends_among [] p e v)
+ends_none p e v = record { ends = λ h. refl; unstarted = λ h. refl; actions = refl; queues = λ h. refl }
+
+at_key : (h k : ℕ) → is_eq (nat_cmp h k) ≡ true → (k == h) ≡ true
+at_key h k e = grind (arith, nat_tests)
+
+same_handle : (a b : ℕ) → (a == b) ≡ true → a ≡ b
+same_handle a b e = grind (arith, nat_tests)
+
+-- what is read at a handle after one more step, by whether the handle was among them, whether its task passes, whether the step ends
+-- a task, and whether it is at this handle
+step_value : {X : Type 0} (a q b c : Bool) (out r : Option X) → (c ≡ true → b ≡ cond a false q) → cond (b && c) out (cond (a && q) out r) ≡ cond ((a || c) && q) out r
+step_value true q true false out r e = refl
+step_value false q true false out r e = refl
+step_value true q false false out r e = refl
+step_value false q false false out r e = refl
+step_value true q true true out r e = absurd (let z = e refl in cc)
+step_value true q false true out r e = refl
+step_value false true true true out r e = refl
+step_value false true false true out r e = absurd (let z = e refl in cc)
+step_value false false true true out r e = absurd (let z = e refl in cc)
+step_value false false false true out r e = refl
+
+-- a task that has ended passes no more
+passes_once : (p : Unstarted → Bool) (a : Bool) (o : Option Unstarted) → holds p (cond (a && holds p o) None o) ≡ cond a false (holds p o)
+passes_once p true None = refl
+passes_once p false o = refl
+passes_once p true (Some t) = by (p t) refl
+  where
+    by : (b : Bool) → p t ≡ b → holds p (cond (p t) None (Some t)) ≡ false
+    by true d = λ i. holds p (cond (d i) None (Some t))
+    by false d = (λ i. holds p (cond (d i) None (Some t))) ∙ d
+
+-- one more of them
+module _ (p : Unstarted → Bool) (e : TaskEnd) (v : Seen) (ks : List ℕ) (k : ℕ) where
+  abbrev so_far : Seen
+  so_far = ends_among ks p e v
+
+  is_ended : (h : ℕ) → (k == h) ≡ true → holds p (so_far.unstarted k) ≡ cond (among h ks) false (holds p (v.unstarted h))
+  is_ended h is = ap (λ j. holds p (so_far.unstarted j)) (same_handle k h is) ∙ passes_once p (among h ks) (v.unstarted h)
+
+  ends_one : (b : Bool) (h : ℕ) → (cond b (with_end k e so_far) so_far).ends h ≡ cond (b && (k == h)) (Some e) (so_far.ends h)
+  ends_one true h = refl
+  ends_one false h = refl
+
+  unstarted_one : (b : Bool) (h : ℕ) → (cond b (with_end k e so_far) so_far).unstarted h ≡ cond (b && (k == h)) None (so_far.unstarted h)
+  unstarted_one true h = refl
+  unstarted_one false h = refl
+
+  actions_one : (b : Bool) → (cond b (with_end k e so_far) so_far).actions ≡ v.actions
+  actions_one true = refl
+  actions_one false = refl
+
+  queues_one : (b : Bool) (h : ℕ) → (cond b (with_end k e so_far) so_far).queues h ≡ v.queues h
+  queues_one true h = refl
+  queues_one false h = refl
+
+  pub ends_more : SameAs (cond (holds p (so_far.unstarted k)) (with_end k e so_far) so_far) (ends_among (ks ++ k ∷ []) p e v)
+  ends_more = record {
+    ends = λ h.
+        ends_one (holds p (so_far.unstarted k)) h
+        ∙ step_value (among h ks) (holds p (v.unstarted h)) (holds p (so_far.unstarted k)) (k == h) (Some e) (v.ends h) (is_ended h)
+        ∙ (λ i. cond (sym (among_more h k ks) i && holds p (v.unstarted h)) (Some e) (v.ends h));
+    unstarted = λ h.
+        unstarted_one (holds p (so_far.unstarted k)) h
+        ∙ step_value (among h ks) (holds p (v.unstarted h)) (holds p (so_far.unstarted k)) (k == h) None (v.unstarted h) (is_ended h)
+        ∙ (λ i. cond (sym (among_more h k ks) i && holds p (v.unstarted h)) None (v.unstarted h));
+    actions = actions_one (holds p (so_far.unstarted k));
+    queues = queues_one (holds p (so_far.unstarted k));
+  }
+
+-- which tasks pass stays the same
+passes_same : (n : ℕ) (which : Passing) (ks : List ℕ) (p : Unstarted → Bool) (e : TaskEnd) (v : Seen) → passes n which (ends_among ks p e v) ≡ passes n which v
+passes_same n Left ks p e v = refl
+passes_same n (Of q) ks p e v = refl
+passes_same n Shut ks p e v = refl
+
+pub ends_next : (n : ℕ) (which : Passing) (e : TaskEnd) (v : Seen) (all : List ℕ) (i : ℕ) (old new : Seen) → i < length all
+    → SameAs old (ends_among (take i all) (passes n which v) e v)
+    → SameAs new (cond (holds (passes n which old) (old.unstarted (get_or all i 0))) (with_end (get_or all i 0) e old) old)
+    → SameAs new (ends_among (take (i + 1) all) (passes n which v) e v)
+ends_next n which e v all i old new l before after =
+    let k : ℕ = get_or all i 0 in
+    let p : Unstarted → Bool = passes n which v in
+    let ks : List ℕ = take i all in
+    let list : take (i + 1) all ≡ ks ++ k ∷ [] = (take_at_read all i 0 l).1 in
+    path_same new _
+    (same_path new _ after
+    ∙ ap (λ (w : Seen). cond (holds (passes n which w) (w.unstarted k)) (with_end k e w) w) (same_path old _ before)
+    ∙ ap (λ (q : Unstarted → Bool). cond (holds q ((ends_among ks p e v).unstarted k)) (with_end k e (ends_among ks p e v)) (ends_among ks p e v)) (passes_same n which ks p e v)
+    ∙ same_path _ _ (ends_more p e v ks k)
+    ∙ ap (λ (js : List ℕ). ends_among js p e v) (sym list))
+
+-- all of them
+pub ends_all : (p : Unstarted → Bool) (e : TaskEnd) (v : Seen) (ks : List ℕ) → ((h : ℕ) → is_some (v.unstarted h) ≡ true → among h ks ≡ true) → SameAs (ends_among ks p e v) (ends_where p e v)
+ends_all p e v ks covers = record {
+  ends = λ h. by h (v.unstarted h) refl (Some e) (v.ends h);
+  unstarted = λ h. by h (v.unstarted h) refl None (v.unstarted h);
+  actions = refl;
+  queues = λ h. refl;
+}
+  where
+    none : {X : Type 0} (a : Bool) (out r : Option X) → cond (a && false) out r ≡ r
+    none true out r = refl
+    none false out r = refl
+
+    by : {X : Type 0} (h : ℕ) (o : Option Unstarted) → v.unstarted h ≡ o → (out r : Option X) → cond (among h ks && holds p (v.unstarted h)) out r ≡ cond (holds p (v.unstarted h)) out r
+    by h None is out r =
+        (λ i. cond (among h ks && holds p (is i)) out r) ∙ none (among h ks) out r ∙ (λ i. cond (holds p (sym is i)) out r)
+    by h (Some t) is out r = λ i. cond (covers h (ap is_some is) i && holds p (v.unstarted h)) out r
+
+-- the handles are the keys of what hasn't begun
+keys_cover : {X : Type 0} (es : List (ℕ × X)) (h : ℕ) → is_some (lookup (is_at (nat_cmp h)) es) ≡ true → among h (keys_of es) ≡ true
+keys_cover [] h e = absurd (cc)
+keys_cover (x ∷ es) h e = by (is_at (nat_cmp h) x.0) refl e (keys_cover es h)
+  where
+    or_true : (b : Bool) → (b || true) ≡ true
+    or_true true = refl
+    or_true false = refl
+
+    by : (b : Bool) → is_at (nat_cmp h) x.0 ≡ b → is_some (cond b (Some x.1) (lookup (is_at (nat_cmp h)) es)) ≡ true → (is_some (lookup (is_at (nat_cmp h)) es) ≡ true → among h (keys_of es) ≡ true)
+        → ((x.0 == h) || among h (keys_of es)) ≡ true
+    by true is found more = λ i. (at_key h x.0 is i) || among h (keys_of es)
+    by false is found more = ap (λ b. (x.0 == h) || b) (more found) ∙ or_true (x.0 == h)
+
+pub ends_keys : (p : Unstarted → Bool) (e : TaskEnd) (v : Seen) (es : List (ℕ × Unstarted)) (all : List ℕ) (i : ℕ) (new : Seen) → length all ≤ i → all ≡ keys_of es → ((h : ℕ) → v.unstarted h ≡ lookup (is_at (nat_cmp h)) es)
+    → SameAs new (ends_among (take i all) p e v) → SameAs new (ends_where p e v)
+ends_keys p e v es all i new past is read so =
+    path_same new _
+    (same_path new _ so
+    ∙ ap (λ (ks : List ℕ). ends_among ks p e v) (take_all i all past ∙ is)
+    ∙ same_path _ _ (ends_all p e v (keys_of es) (λ h f. keys_cover es h (ap is_some (sym (read h)) ∙ f))))

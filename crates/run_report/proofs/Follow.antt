@@ -1,0 +1,228 @@
+-- What each move changes in what decides how tasks end.
+use Rattle.std.proofs.Common.{◌≡◌, ℕ, ◌+◌, ◌≤◌, Bool, true, false, ◌&&◌, cond, List, [], ◌∷◌, ◌++◌, Option, Some, None, refl, sym, ◌∙◌, ap, arith}
+use Rattle.std.specs.Prelude.{◌==◌, not, option_map, is_none}
+use Rattle.mtapi_values.specs.declared.ends.TaskEnd.{TaskEnd}
+use Rattle.mtapi_values.specs.Conditions.{holds}
+use Rattle.handle_pool.specs.Issued.{Listed, live_of, live_object, change_all, update, retire, issue, with_fields, gone, listed}
+use Rattle.handle_pool.specs.Stands.{Distinct}
+use Rattle.handle_pool.proofs.LiveLemmas.{pairs_changed, pairs_without}
+use Rattle.handle_pool.proofs.ListedLemmas.{live_of-issue, live_of-update, live_of-retire, at-issue, at-update, at-retire}
+use Rattle.mtapi_objects.specs.Actions.{Action}
+use Rattle.mtapi_objects.specs.Queues.{Queue}
+use Rattle.mtapi_objects.specs.Queues as queues
+use Rattle.mtapi_objects.specs.Tasks.{Task, TaskState, Scheduled, Running, Ended, NewTask, new_task, Notes, end_of, scheduled, is_unstarted, is_unended, with_state, with_notes, ended}
+use Rattle.mtapi_values.specs.declared.kinds.Kind.{Kind}
+use Rattle.mtapi_objects.specs.Groups.{is_member, freed, let_go}
+use Rattle.mtapi_machine.specs.State.{State, end_task, end_tasks}
+use Rattle.mtapi_machine.specs.Ends.{end_in, end_at}
+use Rattle.run_report.specs.declared.changes.Unstarted.{Unstarted}
+use Rattle.run_report.specs.declared.changes.LiveQueue.{LiveQueue}
+use Rattle.run_report.specs.Seen.{Seen, Follows, unstarted_of, unstarted_in, unstarted_at, queue_of, queue_at, put, with_action, without_action, ends_where, with_end, opened}
+use Rattle.run_report.proofs.Listed.{first_at, end_read, ends_first, unstarted_first, unlisted, entry_of, first-set, first-kept, first-none, first-issued, first-all, first-ends, same_number}
+
+-- What is seen of a state
+
+abbrev pub seen_of : State → Seen
+seen_of s = record { ends = end_at s.tasks; unstarted = unstarted_at s.tasks; actions = live_of s.actions; queues = queue_at s.queues }
+
+pub follows_self : (s : State) → Follows (seen_of s) s
+follows_self s = record { ends = λ h. refl; unstarted = λ h. refl; actions = refl; queues = λ h. refl }
+
+pub follows_path : (v : Seen) (s : State) → Follows v s → v ≡ seen_of s
+follows_path v s f = λ i. record { ends = λ h. f.ends h i; unstarted = λ h. f.unstarted h i; actions = f.actions i; queues = λ h. f.queues h i }
+
+-- nothing that is seen changes
+pub follows_same : (v : Seen) (s t : State) → Follows v s → t.tasks ≡ s.tasks → t.actions ≡ s.actions → t.queues ≡ s.queues → Follows v t
+follows_same v s t f same acts qs = record {
+  ends = λ h. f.ends h ∙ (λ i. end_at (sym same i) h);
+  unstarted = λ h. f.unstarted h ∙ (λ i. unstarted_at (sym same i) h);
+  actions = f.actions ∙ (λ i. live_of (sym acts i));
+  queues = λ h. f.queues h ∙ (λ i. queue_at (sym qs i) h);
+}
+
+-- Tasks
+
+-- tasks that are read as before
+as_read : (v : Seen) (s : State) (l : List (Listed Task)) → Follows v s → ((h : ℕ) → first_at end_read l h ≡ first_at end_read s.tasks h)
+    → ((h : ℕ) → first_at unstarted_in l h ≡ first_at unstarted_in s.tasks h) → Follows v (record s { tasks = l })
+as_read v s l f ends waits = record {
+  ends = λ h. f.ends h ∙ ends_first s.tasks h ∙ sym (ends h) ∙ sym (ends_first l h);
+  unstarted = λ h. f.unstarted h ∙ unstarted_first s.tasks h ∙ sym (waits h) ∙ sym (unstarted_first l h);
+  actions = f.actions;
+  queues = f.queues;
+}
+
+pub follows_notes : (v : Seen) (s : State) (k : ℕ) (g : Notes → Notes) (t : Task) → Follows v s → ((h : ℕ) → listed h s.tasks ≤ 1) → live_object s.tasks k ≡ Some t
+    → Follows v (record s { tasks = update k (with_notes g) s.tasks })
+follows_notes v s k g t f once found = as_read v s _ f
+    (λ h. first-kept end_read h k (with_fields (with_notes g)) t (λ r. refl) refl s.tasks (once k) found)
+    (λ h. first-kept unstarted_in h k (with_fields (with_notes g)) t (λ r. refl) refl s.tasks (once k) found)
+
+ended_unstarted : (x : TaskState) → not (is_none (end_of x)) ≡ true → scheduled x ≡ false
+ended_unstarted Scheduled e = absurd (cc)
+ended_unstarted (Running w k) e = refl
+ended_unstarted (Ended x n) e = refl
+
+not_waiting : (a : Bool) (t : Task) → is_unstarted t ≡ false → cond (a && is_unstarted t) (Some (unstarted_of t)) None ≡ None
+not_waiting true t e = λ i. cond (e i) (Some (unstarted_of t)) None
+not_waiting false t e = refl
+
+pub follows_leaves : (v : Seen) (s : State) (k : ℕ) (t : Task) → Follows v s → ((h : ℕ) → listed h s.tasks ≤ 1) → live_object s.tasks k ≡ Some t → not (is_unended t) ≡ true
+    → Follows v (record s { tasks = retire k s.tasks })
+follows_leaves v s k t f once found over = as_read v s _ f
+    (λ h. first-kept end_read h k gone t (λ r. refl) refl s.tasks (once k) found)
+    (λ h. first-kept unstarted_in h k gone t (λ r. refl) (sym (not_waiting true t (ended_unstarted t.state over))) s.tasks (once k) found)
+
+and_second : (a b : Bool) → (a && b) ≡ true → b ≡ true
+and_second true b e = e
+and_second false b e = absurd (cc)
+
+pub follows_frees : (v : Seen) (s : State) (g : ℕ) → Follows v s → Follows v (record s { tasks = change_all (λ t. is_member g t && not (is_unended t)) freed s.tasks })
+follows_frees v s g f = as_read v s _ f
+    (λ h. first-all end_read h _ freed (λ r. refl) (λ r e. refl) s.tasks)
+    (λ h. first-all unstarted_in h _ freed (λ r. refl) (λ r e. sym (not_waiting r.live r.fields (ended_unstarted r.fields.state (and_second (is_member g r.fields) _ e)))) s.tasks)
+
+still_waits : (a : Bool) (x : TaskState) → ((a && is_none (end_of x)) && scheduled x) ≡ (a && scheduled x)
+still_waits true Scheduled = refl
+still_waits true (Running w k) = refl
+still_waits true (Ended e n) = refl
+still_waits false x = refl
+
+pub follows_lets_go : (v : Seen) (s : State) (g : ℕ) → Follows v s → Follows v (record s { tasks = change_all (is_member g) let_go s.tasks })
+follows_lets_go v s g f = as_read v s _ f
+    (λ h. first-all end_read h _ let_go (λ r. refl) (λ r e. refl) s.tasks)
+    (λ h. first-all unstarted_in h _ let_go (λ r. refl) (λ r e. λ i. cond (still_waits r.live r.fields.state i) (Some (unstarted_of r.fields)) None) s.tasks)
+
+-- where nothing was read, nothing is put
+put_none : {X : Type 0} (h k : ℕ) (l : List (Listed Task)) (g : Listed Task → Option X) → listed h l ≡ 0 → cond (h == k) None (first_at g l k) ≡ first_at g l k
+put_none h k l g none = by (h == k) refl
+  where
+    by : (b : Bool) → (h == k) ≡ b → cond b None (first_at g l k) ≡ first_at g l k
+    by true is = sym (first-none g h l none) ∙ ap (first_at g l) (same_number h k is)
+    by false is = refl
+
+pub follows_starts : (v : Seen) (s : State) (h : ℕ) (t : NewTask) → Follows v s → listed h s.tasks ≡ 0
+    → Follows (record v { unstarted = put h (Some (unstarted_of (new_task t s.starts))) v.unstarted }) (record s { tasks = issue h (new_task t s.starts) s.tasks; starts = s.starts + 1 })
+follows_starts v s h t f none = record {
+  ends = λ k. f.ends k ∙ ends_first s.tasks k ∙ sym (put_none h k s.tasks end_read none) ∙ sym (first-issued end_read k h (new_task t s.starts) s.tasks none) ∙ sym (ends_first _ k);
+  unstarted = λ k.
+      (λ i. cond (h == k) (Some (unstarted_of (new_task t s.starts))) (f.unstarted k i))
+      ∙ (λ i. cond (h == k) (Some (unstarted_of (new_task t s.starts))) (unstarted_first s.tasks k i))
+      ∙ sym (first-issued unstarted_in k h (new_task t s.starts) s.tasks none)
+      ∙ sym (unstarted_first _ k);
+  actions = f.actions;
+  queues = f.queues;
+}
+
+unstarted_open : (x : TaskState) → scheduled x ≡ true → end_in x ≡ None
+unstarted_open Scheduled e = refl
+unstarted_open (Running w k) e = refl
+unstarted_open (Ended y n) e = absurd (cc)
+
+pub follows_runs : (v : Seen) (s : State) (h w : ℕ) (k : Kind) (t : Task) → Follows v s → ((j : ℕ) → listed j s.tasks ≤ 1) → live_object s.tasks h ≡ Some t → is_unstarted t ≡ true
+    → Follows (record v { unstarted = put h None v.unstarted }) (record s { tasks = update h (with_state (Running w k)) s.tasks })
+follows_runs v s h w k t f once found fresh = record {
+  ends = λ j.
+      f.ends j ∙ ends_first s.tasks j
+      ∙ sym (first-kept end_read j h (with_fields (with_state (Running w k))) t (λ r. refl) (sym (unstarted_open t.state fresh)) s.tasks (once h) found)
+      ∙ sym (ends_first _ j);
+  unstarted = λ j.
+      (λ i. cond (h == j) None (f.unstarted j i))
+      ∙ (λ i. cond (h == j) None (unstarted_first s.tasks j i))
+      ∙ sym (first-set unstarted_in j h (with_fields (with_state (Running w k))) t (λ r. refl) s.tasks (once h) found)
+      ∙ sym (unstarted_first _ j);
+  actions = f.actions;
+  queues = f.queues;
+}
+
+and_false : (a : Bool) (x : Option Unstarted) → cond (a && false) x None ≡ None
+and_false true x = refl
+and_false false x = refl
+
+pub follows_end : (v : Seen) (s : State) (h : ℕ) (e : TaskEnd) (t : Task) → Follows v s → ((j : ℕ) → listed j s.tasks ≤ 1) → live_object s.tasks h ≡ Some t
+    → Follows (with_end h e v) (end_task h e s)
+follows_end v s h e t f once found = record {
+  ends = λ j.
+      (λ i. cond (h == j) (Some e) (f.ends j i))
+      ∙ (λ i. cond (h == j) (Some e) (ends_first s.tasks j i))
+      ∙ sym (first-set end_read j h (ended e s.ends) t (λ r. refl) s.tasks (once h) found)
+      ∙ sym (ends_first _ j);
+  unstarted = λ j.
+      (λ i. cond (h == j) (sym (and_false (not t.notes.detached) (Some (unstarted_of (with_state (Ended e s.ends) t)))) i) (f.unstarted j i))
+      ∙ (λ i. cond (h == j) (unstarted_in (ended e s.ends (entry_of h t))) (unstarted_first s.tasks j i))
+      ∙ sym (first-set unstarted_in j h (ended e s.ends) t (λ r. refl) s.tasks (once h) found)
+      ∙ sym (unstarted_first _ j);
+  actions = f.actions;
+  queues = f.queues;
+}
+
+-- every task that hasn't begun and passes ends
+pub follows_ends : (v : Seen) (s : State) (p : Unstarted → Bool) (e : TaskEnd) → Follows v s → Follows (ends_where p e v) (end_tasks (λ t. is_unstarted t && p (unstarted_of t)) e s)
+follows_ends v s p e f = record {
+  ends = λ h.
+      (λ i. cond (holds p (f.unstarted h i)) (Some e) (f.ends h i))
+      ∙ (λ i. cond (holds p (unstarted_first s.tasks h i)) (Some e) (ends_first s.tasks h i))
+      ∙ sym (first-ends end_read p e (Some e) (λ n r. refl) h s.ends s.tasks)
+      ∙ sym (ends_first _ h);
+  unstarted = λ h.
+      (λ i. cond (holds p (f.unstarted h i)) None (f.unstarted h i))
+      ∙ (λ i. cond (holds p (unstarted_first s.tasks h i)) None (unstarted_first s.tasks h i))
+      ∙ sym (first-ends unstarted_in p e None (λ n r. and_false (r.live && not r.fields.notes.detached) _) h s.ends s.tasks)
+      ∙ sym (unstarted_first _ h);
+  actions = f.actions;
+  queues = f.queues;
+}
+
+-- Actions
+
+changed_same : (h : ℕ) (f : Action → Action) (es : List (ℕ × Action)) → with_action h f es ≡ pairs_changed h f es
+changed_same h f [] = refl
+changed_same h f (e ∷ es) = ap (λ l. cond (e.0 == h) ((e.0, f e.1) ∷ es) (e ∷ l)) (changed_same h f es)
+
+without_same : (h : ℕ) (es : List (ℕ × Action)) → without_action h es ≡ pairs_without h es
+without_same h [] = refl
+without_same h (e ∷ es) = ap (λ l. cond (e.0 == h) es (e ∷ l)) (without_same h es)
+
+pub action_changed : (h : ℕ) (f : Action → Action) (l : List (Listed Action)) → with_action h f (live_of l) ≡ live_of (update h f l)
+action_changed h f l = changed_same h f (live_of l) ∙ sym (live_of-update h f l)
+
+pub action_gone : (h : ℕ) (l : List (Listed Action)) → without_action h (live_of l) ≡ live_of (retire h l)
+action_gone h l = without_same h (live_of l) ∙ sym (live_of-retire h l)
+
+pub follows_actions : (v : Seen) (s : State) (es : List (ℕ × Action)) (l : List (Listed Action)) → Follows v s → es ≡ live_of l → Follows (record v { actions = es }) (record s { actions = l })
+follows_actions v s es l f same = record { ends = f.ends; unstarted = f.unstarted; actions = same; queues = f.queues }
+
+pub action_made : (h : ℕ) (a : Action) (l : List (Listed Action)) → live_of l ++ (h, a) ∷ [] ≡ live_of (issue h a l)
+action_made h a l = sym (live_of-issue h a l)
+
+-- Queues
+
+follows_queues : (v : Seen) (s : State) (q : ℕ → Option LiveQueue) (l : List (Listed Queue)) → Follows v s → ((h : ℕ) → q h ≡ queue_at l h) → Follows (record v { queues = q }) (record s { queues = l })
+follows_queues v s q l f same = record { ends = f.ends; unstarted = f.unstarted; actions = f.actions; queues = same }
+
+-- what a test chooses, under a function
+mapped : (b : Bool) (x : Option Queue) (y : Option Queue) → cond b (option_map queue_of x) (option_map queue_of y) ≡ option_map queue_of (cond b x y)
+mapped true x y = refl
+mapped false x y = refl
+
+pub follows_queue_made : (v : Seen) (s : State) (h : ℕ) (x : Queue) → Follows v s → listed h s.queues ≡ 0
+    → Follows (record v { queues = put h (Some (queue_of x)) v.queues }) (record s { queues = issue h x s.queues })
+follows_queue_made v s h x f none = follows_queues v s _ _ f (λ k.
+    (λ i. cond (h == k) (Some (queue_of x)) (f.queues k i))
+    ∙ mapped (h == k) (Some x) (live_object s.queues k)
+    ∙ ap (option_map queue_of) (sym (at-issue h k x s.queues (unlisted h s.queues (omega (arith, none))))))
+
+pub follows_queue_changed : (v : Seen) (s : State) (h : ℕ) (on : Bool) (x : Queue) → Follows v s → live_object s.queues h ≡ Some x
+    → Follows (record v { queues = put h (option_map (opened on) (v.queues h)) v.queues }) (record s { queues = update h (queues.opened on) s.queues })
+follows_queue_changed v s h on x f found = follows_queues v s _ _ f (λ k.
+    (λ i. cond (h == k) (option_map (opened on) (f.queues h i)) (f.queues k i))
+    ∙ (λ i. cond (h == k) (option_map (opened on) (option_map queue_of (found i))) (queue_at s.queues k))
+    ∙ mapped (h == k) (Some (queues.opened on x)) (live_object s.queues k)
+    ∙ ap (option_map queue_of) (sym (at-update h k (queues.opened on) x s.queues found)))
+
+pub follows_queue_gone : (v : Seen) (s : State) (h : ℕ) → Follows v s → Distinct (live_of s.queues)
+    → Follows (record v { queues = put h None v.queues }) (record s { queues = retire h s.queues })
+follows_queue_gone v s h f alone = follows_queues v s _ _ f (λ k.
+    (λ i. cond (h == k) None (f.queues k i))
+    ∙ mapped (h == k) None (live_object s.queues k)
+    ∙ ap (option_map queue_of) (sym (at-retire h k s.queues alone)))

@@ -1,0 +1,445 @@
+-- After each entry that may come next, what is seen is what stands in the state.
+use Rattle.std.proofs.Common.{◌≡◌, ℕ, ℤ, ◌≤◌, Bool, true, false, ◌&&◌, cond, List, [], ◌∷◌, Option, Some, None, refl, sym, ◌∙◌, ap, subst}
+use Rattle.std.specs.Prelude.{◌==◌, not, option_map, is_some}
+use Rattle.mtapi_values.specs.declared.ends.TaskEnd.{TaskEnd}
+use Rattle.mtapi_values.specs.declared.ends.TaskEnd.TheVariants.{Cancelled, Failed}
+use Rattle.mtapi_values.specs.declared.statuses.MtapiStatus.{MtapiStatus}
+use Rattle.mtapi_values.specs.declared.statuses.MtapiStatus.TheVariants as m
+use Rattle.mtapi_values.specs.declared.handles.TaskHandle.{TaskHandle}
+use Rattle.mtapi_values.specs.declared.handles.QueueHandle.{QueueHandle}
+use Rattle.mtapi_values.specs.declared.handles.GroupHandle.{GroupHandle}
+use Rattle.mtapi_values.specs.declared.masks.Mask.{Mask}
+use Rattle.mtapi_values.specs.Conditions.{holds}
+use Rattle.handle_pool.specs.Issued.{Listed, live_of, live_object, change, with_fields, gone, any_listed, listed}
+use Rattle.mtapi_objects.specs.Actions.{Action, new_action, with_enabled}
+use Rattle.mtapi_objects.specs.Queues.{Queue, is_shut_in, is_in}
+use Rattle.mtapi_objects.specs.Queues as queues
+use Rattle.mtapi_objects.specs.Tasks.{Task, NewTask, TaskState, Scheduled, Running, Ended, is_unstarted, is_unended, scheduled, watch_end, cancel_requested}
+use Rattle.mtapi_machine.specs.declared.ops.Op.{Op}
+use Rattle.mtapi_machine.specs.declared.ops.Op.TheVariants as op
+use Rattle.mtapi_machine.specs.declared.replies.Reply.{Reply}
+use Rattle.mtapi_machine.specs.declared.replies.Reply.TheVariants.{Ok, Handle, Picked, Idle, Stop}
+use Rattle.mtapi_machine.specs.State.{State, workers, is_open, is_stop, end_tasks}
+use Rattle.mtapi_machine.specs.State as kinds
+use Rattle.mtapi_machine.specs.Moves.{Move, Groups, Queues, Mutexes, Sems, Rwls, Segments, phase_is, released, stops, makes_action, enables, withdraws, starts_task, runs_task, ends_task, ends_waiting, notes, leaves, frees_members, lets_members_go, makes, alters, removes, is_fresh, apply, after_moves}
+use Rattle.mtapi_machine.specs.Row.{Row, unless, gives, never, Allows, after_row, only, live, handle_of}
+use Rattle.mtapi_machine.specs.TaskRows.{asked_for, asked_of, cancels}
+use Rattle.mtapi_machine.specs.WorkRows.{is_ready, can_take, may_take, picks, task_end}
+use Rattle.mtapi_machine.specs.Rows.{row}
+use Rattle.mtapi_machine.specs.Laws.{IsMade, is_pick, MakesAction, EnablesAction, WithdrawsAction, StartsTask, EndsTask, ends_many, makes_kind, AltersObject, RemovesObject}
+use Rattle.mtapi_machine.specs.Legal.{NodeEntry, IsNext, row_of, next}
+use Rattle.mtapi_machine.proofs.Made.{fst_true, snd_true}
+use Rattle.mtapi_machine.proofs.Moves.{IsKeptBy, by_moves}
+use Rattle.run_report.specs.declared.changes.Change.{Change}
+use Rattle.run_report.specs.declared.changes.Change.TheVariants.{Nothing}
+use Rattle.run_report.specs.Changes.{change_of}
+use Rattle.run_report.specs.Seen.{Seen, Follows, unstarted_of, unstarted_in, unstarted_at, queue_of, queue_at, ends_where, with_end, withdrawn, is_left, is_of, is_shut, enqueued, with_open, with_change}
+use Rattle.run_report.proofs.Listed.{unstarted_first, first-found}
+use Rattle.run_report.proofs.Sound.{Sound, none_listed, sound_move}
+use Rattle.run_report.proofs.Follow.{seen_of, follows_self, follows_path, follows_same, follows_notes, follows_leaves, follows_frees, follows_lets_go, follows_starts, follows_runs, follows_end, follows_ends, follows_actions, action_changed, action_gone, action_made, follows_queue_made, follows_queue_changed, follows_queue_gone}
+
+-- The ops that change nothing of what is seen
+
+abbrev is_quiet : Op → Bool
+is_quiet op.Close = false
+is_quiet (op.ActionCreate job kind cores) = false
+is_quiet (op.ActionEnable a) = false
+is_quiet (op.ActionDisable a) = false
+is_quiet (op.ActionDelete a) = false
+is_quiet (op.TaskStart job args priority cores detached group) = false
+is_quiet (op.TaskEnqueue q args cores detached group) = false
+is_quiet (op.TaskCancel t) = false
+is_quiet (op.QueueCreate id job priority limit ordered retain) = false
+is_quiet (op.QueueEnable q) = false
+is_quiet (op.QueueDisable q) = false
+is_quiet (op.QueueDelete q) = false
+is_quiet op.Pick = false
+is_quiet (op.Finish t done) = false
+is_quiet (op.WatchEnd t) = false
+is_quiet (op.TallyEnd t) = false
+is_quiet _ = true
+
+nothing_of : (o : Op) (r : Reply) → is_quiet o ≡ true → change_of o r ≡ Nothing
+nothing_of op.Close r p = absurd (cc)
+nothing_of (op.ActionCreate job kind cores) r p = absurd (cc)
+nothing_of (op.ActionEnable a) r p = absurd (cc)
+nothing_of (op.ActionDisable a) r p = absurd (cc)
+nothing_of (op.ActionDelete a) r p = absurd (cc)
+nothing_of (op.TaskStart job args priority cores detached group) r p = absurd (cc)
+nothing_of (op.TaskEnqueue q args cores detached group) r p = absurd (cc)
+nothing_of (op.TaskCancel t) r p = absurd (cc)
+nothing_of (op.QueueCreate id job priority limit ordered retain) r p = absurd (cc)
+nothing_of (op.QueueEnable q) r p = absurd (cc)
+nothing_of (op.QueueDisable q) r p = absurd (cc)
+nothing_of (op.QueueDelete q) r p = absurd (cc)
+nothing_of op.Pick r p = absurd (cc)
+nothing_of (op.Finish t done) r p = absurd (cc)
+nothing_of (op.WatchEnd t) r p = absurd (cc)
+nothing_of (op.TallyEnd t) r p = absurd (cc)
+nothing_of _ r p = refl
+
+no_made : (a : Action) (o : Op) → is_quiet o ≡ true → MakesAction a o → ⊥
+no_made a (op.ActionCreate job kind cores) p b = absurd (cc)
+no_made a _ p b = b
+
+no_enabled : (h : ℕ) (o : Op) → is_quiet o ≡ true → EnablesAction h o → ⊥
+no_enabled h (op.ActionEnable a) p b = absurd (cc)
+no_enabled h _ p b = b
+
+no_withdrawn : (h : ℕ) (f : Listed Action → Listed Action) (o : Op) → is_quiet o ≡ true → WithdrawsAction h f o → ⊥
+no_withdrawn h f (op.ActionDelete a) p b = absurd (cc)
+no_withdrawn h f (op.ActionDisable a) p b = absurd (cc)
+no_withdrawn h f _ p b = b
+
+no_started : (t : NewTask) (o : Op) → is_quiet o ≡ true → StartsTask t o → ⊥
+no_started t (op.TaskStart job args priority cores detached group) p b = absurd (cc)
+no_started t (op.TaskEnqueue q args cores detached group) p b = absurd (cc)
+no_started t _ p b = b
+
+no_run : (o : Op) → is_quiet o ≡ true → is_pick o ≡ true → ⊥
+no_run op.Pick p b = absurd (cc)
+no_run _ p b = absurd (cc)
+
+no_ended : (h : ℕ) (o : Op) → is_quiet o ≡ true → EndsTask h o → ⊥
+no_ended h (op.TaskCancel t) p b = absurd (cc)
+no_ended h (op.Finish t done) p b = absurd (cc)
+no_ended h (op.WatchEnd t) p b = absurd (cc)
+no_ended h (op.TallyEnd t) p b = absurd (cc)
+no_ended h _ p b = b
+
+none_end : (o : Op) → is_quiet o ≡ true → ends_many o ≡ true → ⊥
+none_end op.Close p b = absurd (cc)
+none_end (op.QueueDisable q) p b = absurd (cc)
+none_end (op.QueueDelete q) p b = absurd (cc)
+none_end _ p b = absurd (cc)
+
+no_queue_made : (o : Op) → is_quiet o ≡ true → makes_kind Queues o ≡ true → ⊥
+no_queue_made (op.QueueCreate id job priority limit ordered retain) p b = absurd (cc)
+no_queue_made _ p b = absurd (cc)
+
+no_queue_altered : (h : ℕ) (f : Queue → Queue) (o : Op) → is_quiet o ≡ true → AltersObject Queues h f o → ⊥
+no_queue_altered h f (op.QueueEnable q) p b = absurd (cc)
+no_queue_altered h f (op.QueueDisable q) p b = absurd (cc)
+no_queue_altered h f _ p b = b
+
+no_queue_gone : (h : ℕ) (o : Op) → is_quiet o ≡ true → RemovesObject Queues h o → ⊥
+no_queue_gone h (op.QueueDelete q) p b = absurd (cc)
+no_queue_gone h _ p b = b
+
+-- what is there
+there : {T : Type 0} (o : Option T) → is_some o ≡ true → (t : T) × (o ≡ Some t)
+there None e = absurd (cc)
+there (Some t) e = (t, refl)
+
+-- what is there and passes
+found : {T : Type 0} (q : T → Bool) (o : Option T) → holds q o ≡ true → (t : T) × ((o ≡ Some t) × (q t ≡ true))
+found q None e = absurd (cc)
+found q (Some t) e = (t, (refl, e))
+
+module _ (n : ℕ) (v : Seen) where
+  abbrev Both : State → Type 0
+  Both s = Sound n s × Follows v s
+
+  quiet_move : (o : Op) → is_quiet o ≡ true → IsKeptBy o Both
+  quiet_move o p s x e i = (sound_move n o s x e i.0, by x e)
+    where
+      by : (x : Move) → IsMade s o x → Follows v (apply x s)
+      by (phase_is h) e = follows_same v s _ i.1 refl refl refl
+      by released e = follows_same v s _ i.1 refl refl refl
+      by (stops w) e = follows_same v s _ i.1 refl refl refl
+      by (makes_action h a) e = absurd (no_made a o p e.by)
+      by (enables h) e = absurd (no_enabled h o p e.by)
+      by (withdraws h f c) e = absurd (no_withdrawn h f o p e.by)
+      by (starts_task h t) e = absurd (no_started t o p e.by)
+      by (runs_task h w k) e = absurd (no_run o p e.by)
+      by (ends_task h x) e = absurd (no_ended h o p e.by)
+      by (ends_waiting q x) e = absurd (none_end o p e.by)
+      by (notes h f) e = let t = there (live_object s.tasks h) e.may in follows_notes v s h f t.0 i.1 i.0.once t.1
+      by (leaves h) e = let t = found (λ u. not (is_unended u)) (live_object s.tasks h) e.may in follows_leaves v s h t.0 i.1 i.0.once t.1.0 t.1.1
+      by (frees_members g) e = follows_frees v s g i.1
+      by (lets_members_go g) e = follows_lets_go v s g i.1
+      by (makes Queues h x) e = absurd (no_queue_made o p e.by)
+      by (alters Queues h f) e = absurd (no_queue_altered h f o p e.by)
+      by (removes Queues h) e = absurd (no_queue_gone h o p e.by)
+      by (makes Groups h x) e = follows_same v s _ i.1 refl refl refl
+      by (makes Mutexes h x) e = follows_same v s _ i.1 refl refl refl
+      by (makes Sems h x) e = follows_same v s _ i.1 refl refl refl
+      by (makes Rwls h x) e = follows_same v s _ i.1 refl refl refl
+      by (makes Segments h x) e = follows_same v s _ i.1 refl refl refl
+      by (alters Groups h f) e = follows_same v s _ i.1 refl refl refl
+      by (alters Mutexes h f) e = follows_same v s _ i.1 refl refl refl
+      by (alters Sems h f) e = follows_same v s _ i.1 refl refl refl
+      by (alters Rwls h f) e = follows_same v s _ i.1 refl refl refl
+      by (alters Segments h f) e = follows_same v s _ i.1 refl refl refl
+      by (removes Groups h) e = follows_same v s _ i.1 refl refl refl
+      by (removes Mutexes h) e = follows_same v s _ i.1 refl refl refl
+      by (removes Sems h) e = follows_same v s _ i.1 refl refl refl
+      by (removes Rwls h) e = follows_same v s _ i.1 refl refl refl
+      by (removes Segments h) e = follows_same v s _ i.1 refl refl refl
+
+-- The tool: P of each reply that the row may give, with the state after it
+
+abbrev Leads : (Reply → State → Type 0) → State → Row → Type 0
+Leads P s (unless c x w) = P x s × Leads P s w
+Leads P s (gives x ms) = P x (after_moves ms s)
+Leads P s never = Unit {0}
+
+led : (P : Reply → State → Type 0) (s : State) (w : Row) (r : Reply) → Leads P s w → Allows w r → P r (after_row s w)
+led P s (unless true x w) r l a = subst (λ (q : Reply). P q s) (sym a) l.0
+led P s (unless false x w) r l a = led P s w r l.1 a
+led P s (gives x ms) r l a = subst (λ (q : Reply). P q (after_moves ms s)) (sym a) l
+led P s never r l a = absurd a
+
+leads_live : (P : Reply → State → Type 0) (s : State) {T : Type 0} (x : Option T) (v : Row) (w : T → Row) → Leads P s v → ((t : T) → x ≡ Some t → Leads P s (w t)) → Leads P s (live x v w)
+leads_live P s None v w p h = p
+leads_live P s (Some t) v w p h = h t refl
+
+leads_only : (P : Reply → State → Type 0) (s : State) (b : Bool) (x : Reply) (ms : List Move) → (b ≡ true → P x (after_moves ms s)) → Leads P s (only b (gives x ms))
+leads_only P s true x ms p = p refl
+leads_only P s false x ms p = tt
+
+leads_cond : (P : Reply → State → Type 0) (s : State) (b : Bool) (v w : Row) → Leads P s v → Leads P s w → Leads P s (cond b v w)
+leads_cond P s true v w h k = h
+leads_cond P s false v w h k = k
+
+-- The rows of the other ops, where what was seen stands in the state
+
+module _ (s : State) (i : Sound (workers s) s) where
+  abbrev W : Op → Reply → State → Type 0
+  W o x t = Follows (with_change (workers s) (change_of o x) (seen_of s)) t
+
+  self : Follows (seen_of s) s
+  self = follows_self s
+
+  -- the phase
+
+  shut_same : (t : Task) → is_shut (queue_at s.queues) (unstarted_of t) ≡ is_shut_in s.queues t
+  shut_same t = by t.queue
+    where
+      at : (o : Option Queue) → holds (λ q. not q.enabled) (option_map queue_of o) ≡ holds (λ q. not q.enabled) o
+      at None = refl
+      at (Some q) = refl
+
+      by : (o : Option ℕ) → holds (λ h. holds (λ q. not q.enabled) (queue_at s.queues h)) o ≡ holds (λ h. holds (λ q. not q.enabled) (live_object s.queues h)) o
+      by None = refl
+      by (Some h) = at (live_object s.queues h)
+
+  closes : (t : State) → t.tasks ≡ s.tasks → t.actions ≡ s.actions → t.queues ≡ s.queues
+      → Follows (ends_where (is_shut (queue_at s.queues)) Cancelled (seen_of s)) (end_tasks (λ u. is_unstarted u && is_shut_in s.queues u) Cancelled t)
+  closes t a b c =
+      subst (λ (p : Task → Bool). Follows (ends_where (is_shut (queue_at s.queues)) Cancelled (seen_of s)) (end_tasks (λ u. is_unstarted u && p u) Cancelled t)) (λ j u. shut_same u j)
+      (follows_ends (seen_of s) t (is_shut (queue_at s.queues)) Cancelled (follows_same (seen_of s) s t self a b c))
+
+  -- actions
+
+  withdraws_so : (es : List (ℕ × Action)) (l : List (Listed Action)) (c : MtapiStatus) → es ≡ live_of l
+      → Follows (withdrawn (workers s) es c (seen_of s)) (end_tasks (λ u. is_unstarted u && is_left (workers s) (live_of l) (unstarted_of u)) (Failed c) (record s { actions = l }))
+  withdraws_so es l c same =
+      subst (λ (fs : List (ℕ × Action)). Follows (ends_where (is_left (workers s) fs) (Failed c) (record (seen_of s) { actions = es })) (end_tasks (λ u. is_unstarted u && is_left (workers s) (live_of l) (unstarted_of u)) (Failed c) (record s { actions = l }))) (sym same)
+      (follows_ends (record (seen_of s) { actions = es }) (record s { actions = l }) (is_left (workers s) (live_of l)) (Failed c) (follows_actions (seen_of s) s es l self same))
+
+  -- tasks
+
+  fresh_tasks : (h : ℕ) → is_fresh kinds.tasks s h ≡ true → listed h s.tasks ≡ 0
+  fresh_tasks h e = none_listed _ h s.tasks (snd_true _ _ e)
+
+  enqueues : (q : QueueHandle) (args : List ℤ) (cores : Mask) (detached : Bool) (group : Option GroupHandle) (x : Queue) (h : ℕ) → live_object s.queues q.0 ≡ Some x → is_fresh kinds.tasks s h ≡ true
+      → W (op.TaskEnqueue q args cores detached group) (Handle h) (apply (starts_task h (asked_of q.0 x args cores detached group)) s)
+  enqueues q args cores detached group x h at e =
+      subst (λ (o : Option Queue). Follows (enqueued h q.0 cores (option_map queue_of o) (seen_of s)) (apply (starts_task h (asked_of q.0 x args cores detached group)) s)) (sym at)
+      (follows_starts (seen_of s) s h (asked_of q.0 x args cores detached group) self (fresh_tasks h e))
+
+  waits : (h : ℕ) (t : Task) → live_object s.tasks h ≡ Some t → is_some (unstarted_at s.tasks h) ≡ is_unstarted t
+  waits h t e = ap is_some (unstarted_first s.tasks h ∙ first-found unstarted_in h t s.tasks (i.once h) e) ∙ by (is_unstarted t)
+    where
+      by : (b : Bool) → is_some (cond b (Some (unstarted_of t)) None) ≡ b
+      by true = refl
+      by false = refl
+
+  on_cancels : (k : TaskHandle) (t : Task) (x : TaskState) → live_object s.tasks k.0 ≡ Some t → t.state ≡ x → Leads (W (op.TaskCancel k)) s (cancels k.0 x)
+  on_cancels k t Scheduled e d =
+      subst (λ b. Follows (cond b (with_end k.0 Cancelled (seen_of s)) (seen_of s)) (apply (ends_task k.0 Cancelled) s)) (sym (waits k.0 t e ∙ ap scheduled d))
+      (follows_end (seen_of s) s k.0 Cancelled t self i.once e)
+  on_cancels k t (Running w j) e d =
+      subst (λ b. Follows (cond b (with_end k.0 Cancelled (seen_of s)) (seen_of s)) (apply (notes k.0 cancel_requested) s)) (sym (waits k.0 t e ∙ ap scheduled d))
+      (follows_notes (seen_of s) s k.0 cancel_requested t self i.once e)
+  on_cancels k t (Ended y j) e d = subst (λ b. Follows (cond b (with_end k.0 Cancelled (seen_of s)) (seen_of s)) s) (sym (waits k.0 t e ∙ ap scheduled d)) self
+
+  -- work
+
+  ready_unstarted : (t : Task) → is_ready s t ≡ true → is_unstarted t ≡ true
+  unfolding is_ready
+  ready_unstarted t h = fst_true (is_unstarted t) _ h
+
+  on_picks : (w : ℕ) (r : Reply) → Leads (W op.Pick) s (picks s w r)
+  on_picks w (Picked t a k args) =
+      leads_live (W op.Pick) s (live_object s.tasks t.0) _ _ tt (λ x e. leads_live (W op.Pick) s (live_object s.actions a.0) _ _ tt (λ y d.
+      leads_only (W op.Pick) s (may_take s w x y) _ (runs_task t.0 w y.kind ∷ [])
+      (λ b. follows_runs (seen_of s) s t.0 w y.kind x self i.once e (ready_unstarted x (fst_true (is_ready s x) _ (fst_true _ _ b))))))
+  on_picks w _ = leads_only (W op.Pick) s (not (any_listed (can_take s w) s.tasks)) Idle [] (λ b. self)
+
+  on_stops : (b : Bool) (w : ℕ) (v : Row) → Leads (W op.Pick) s v → Leads (W op.Pick) s (cond b (gives Stop (stops w ∷ [])) v)
+  on_stops true w v h = follows_same (seen_of s) s _ self refl refl refl
+  on_stops false w v h = h
+
+  -- a task that ends after other objects changed
+  ends_so : (h : ℕ) (e : TaskEnd) (t : Task) (u : State) → live_object s.tasks h ≡ Some t → u.tasks ≡ s.tasks → u.actions ≡ s.actions → u.queues ≡ s.queues
+      → Follows (with_end h e (seen_of s)) (apply (ends_task h e) u)
+  ends_so h e t u at a b c =
+      follows_end (seen_of s) u h e t (follows_same (seen_of s) s u self a b c) (λ j. subst (λ l. listed j l ≤ 1) (sym a) (i.once j)) ((λ j. live_object (a j) h) ∙ at)
+
+  -- queues
+
+  fresh_queues : (h : ℕ) → is_fresh kinds.queues s h ≡ true → listed h s.queues ≡ 0
+  fresh_queues h e = none_listed _ h s.queues (snd_true _ _ e)
+
+  disables : (q : QueueHandle) (x : Queue) → live_object s.queues q.0 ≡ Some x → (keeps : Bool) → x.retain ≡ keeps
+      → W (op.QueueDisable q) Ok (after_moves (alters Queues q.0 (queues.opened false) ∷ cond keeps [] (ends_waiting (is_in q.0) Cancelled ∷ [])) s)
+  disables q x e keeps is = by keeps test
+    where
+      test : holds (λ y. not y.retain) (queue_at s.queues q.0) ≡ not keeps
+      test = (λ j. holds (λ y. not y.retain) (option_map queue_of (e j))) ∙ ap not is
+
+      shut : Follows (with_open q.0 false (seen_of s)) (apply (alters Queues q.0 (queues.opened false)) s)
+      shut = follows_queue_changed (seen_of s) s q.0 false x self e
+
+      by : (b : Bool) → holds (λ y. not y.retain) (queue_at s.queues q.0) ≡ not b
+          → W (op.QueueDisable q) Ok (after_moves (alters Queues q.0 (queues.opened false) ∷ cond b [] (ends_waiting (is_in q.0) Cancelled ∷ [])) s)
+      by true t =
+          subst (λ c. Follows (cond c (ends_where (is_of q.0) Cancelled (with_open q.0 false (seen_of s))) (with_open q.0 false (seen_of s))) (apply (alters Queues q.0 (queues.opened false)) s)) (sym t) shut
+      by false t =
+          subst (λ c. Follows (cond c (ends_where (is_of q.0) Cancelled (with_open q.0 false (seen_of s))) (with_open q.0 false (seen_of s))) (apply (ends_waiting (is_in q.0) Cancelled) (apply (alters Queues q.0 (queues.opened false)) s))) (sym t)
+          (follows_ends _ _ (is_of q.0) Cancelled shut)
+
+  row_leads : (who : ℕ) (o : Op) (r : Reply) → is_quiet o ≡ false → Leads (W o) s (row s who o r)
+  row_leads who op.Close r p = (self, closes _ refl refl refl)
+  row_leads who (op.ActionCreate job kind cores) r p = (
+    self,
+    (
+      self,
+      (
+        self,
+        leads_only (W (op.ActionCreate job kind cores)) s _ _ (makes_action (handle_of r) (new_action job kind cores.0) ∷ [])
+            (λ b. follows_actions (seen_of s) s _ _ self (action_made (handle_of r) (new_action job kind cores.0) s.actions)),
+      ),
+    ),
+  )
+  row_leads who (op.ActionEnable a) r p =
+      (self, leads_live (W (op.ActionEnable a)) s (live_object s.actions a.0) _ _ self (λ x e. follows_actions (seen_of s) s _ _ self (action_changed a.0 (with_enabled true) s.actions)))
+  row_leads who (op.ActionDisable a) r p = (
+    self,
+    leads_live (W (op.ActionDisable a)) s (live_object s.actions a.0) _ _ self
+        (λ x e. withdraws_so _ (change a.0 (with_fields (with_enabled false)) s.actions) m.ErrActionDisabled (action_changed a.0 (with_enabled false) s.actions)),
+  )
+  row_leads who (op.ActionDelete a) r p =
+      (self, leads_live (W (op.ActionDelete a)) s (live_object s.actions a.0) _ _ self (λ x e. withdraws_so _ (change a.0 gone s.actions) m.ErrActionDeleted (action_gone a.0 s.actions)))
+  row_leads who (op.TaskStart job args priority cores detached group) r p = (
+    self,
+    (
+      self,
+      (
+        self,
+        (
+          self,
+          (
+            self,
+            (
+              self,
+              (
+                self,
+                leads_only (W (op.TaskStart job args priority cores detached group)) s _ _ (starts_task (handle_of r) (asked_for job args priority cores detached group) ∷ [])
+                    (λ b. follows_starts (seen_of s) s (handle_of r) (asked_for job args priority cores detached group) self (fresh_tasks (handle_of r) b)),
+              ),
+            ),
+          ),
+        ),
+      ),
+    ),
+  )
+  row_leads who (op.TaskEnqueue q args cores detached group) r p = (
+    self,
+    (
+      self,
+      leads_live (W (op.TaskEnqueue q args cores detached group)) s (live_object s.queues q.0) _ _ self (λ x e. (
+        self,
+        (
+          self,
+          (
+            self,
+            (
+              self,
+              (
+                self,
+                (
+                  self,
+                  (
+                    self,
+                    leads_only (W (op.TaskEnqueue q args cores detached group)) s _ _ (starts_task (handle_of r) (asked_of q.0 x args cores detached group) ∷ [])
+                        (λ b. enqueues q args cores detached group x (handle_of r) e b),
+                  ),
+                ),
+              ),
+            ),
+          ),
+        ),
+      )),
+    ),
+  )
+  row_leads who (op.TaskCancel t) r p = (self, leads_live (W (op.TaskCancel t)) s (live_object s.tasks t.0) _ _ self (λ x e. on_cancels t x x.state e refl))
+  row_leads who (op.QueueCreate id job priority limit ordered retain) r p = (
+    self,
+    (
+      self,
+      (
+        self,
+        (
+          self,
+          (
+            self,
+            leads_only (W (op.QueueCreate id job priority limit ordered retain)) s _ _ (makes Queues (handle_of r) _ ∷ [])
+                (λ b. follows_queue_made (seen_of s) s (handle_of r) _ self (fresh_queues (handle_of r) b)),
+          ),
+        ),
+      ),
+    ),
+  )
+  row_leads who (op.QueueEnable q) r p =
+      (self, leads_live (W (op.QueueEnable q)) s (live_object s.queues q.0) _ _ self (λ x e. follows_queue_changed (seen_of s) s q.0 true x self e))
+  row_leads who (op.QueueDisable q) r p =
+      (self, leads_live (W (op.QueueDisable q)) s (live_object s.queues q.0) _ _ self (λ x e. disables q x e x.retain refl))
+  row_leads who (op.QueueDelete q) r p = (
+    self,
+    leads_live (W (op.QueueDelete q)) s (live_object s.queues q.0) _ _ self
+        (λ x e. follows_queue_gone _ _ q.0 (follows_ends (seen_of s) s (is_of q.0) (Failed m.ErrQueueDeleted) self) i.distinct),
+  )
+  row_leads who op.Pick r p = (self, (self, (self, on_stops (is_stop s) who _ (on_picks who r))))
+  row_leads who (op.Finish t d) r p =
+      (self, leads_live (W (op.Finish t d)) s (live_object s.tasks t.0) _ _ self (λ x e. (self, ends_so t.0 (task_end d.end) x s e refl refl refl)))
+  row_leads who (op.WatchEnd t) r p =
+      (self, leads_live (W (op.WatchEnd t)) s (live_object s.tasks t.0) _ _ self (λ x e. (self, (self, ends_so t.0 (watch_end x) x s e refl refl refl))))
+  row_leads who (op.TallyEnd t) r p = (
+    self,
+    leads_live (W (op.TallyEnd t)) s (live_object s.tasks t.0) _ _ self (λ x e. (
+      self,
+      (
+        self,
+        leads_cond (W (op.TallyEnd t)) s (x.notes.tally.stage == 4) _ _ (ends_so t.0 x.notes.tally.verdict x s e refl refl refl)
+            (leads_live (W (op.TallyEnd t)) s (live_object s.segments x.notes.tally.segment) _ _ tt (λ y f. leads_live (W (op.TallyEnd t)) s (live_object s.mutexes x.notes.tally.mutex) _ _ tt
+            (λ z g. ends_so t.0 _ x _ e refl refl refl))),
+      ),
+    )),
+  )
+  row_leads who _ r p = absurd (cc)
+
+-- one entry on
+pub follows_next : (n : ℕ) (v : Seen) (s : State) (e : NodeEntry) → IsNext s e → Sound n s → Follows v s → Follows (with_change n (change_of e.op e.reply) v) (next s e)
+follows_next n v s e h i f = by (is_quiet e.op) refl
+  where
+    by : (b : Bool) → is_quiet e.op ≡ b → Follows (with_change n (change_of e.op e.reply) v) (next s e)
+    by true p =
+        subst (λ (c : Change). Follows (with_change n c v) (next s e)) (sym (nothing_of e.op e.reply p))
+        (by_moves (λ t. Sound n t × Follows v t) s e (quiet_move n v e.op p) (i, f)).1
+    by false p =
+        subst (λ (k : ℕ). Follows (with_change k (change_of e.op e.reply) v) (next s e)) i.workers
+        (subst (λ (w : Seen). Follows (with_change (workers s) (change_of e.op e.reply) w) (next s e)) (sym (follows_path v s f))
+        (led (W s (record { once = i.once; distinct = i.distinct; workers = refl }) e.op) s (row_of s e) e.reply (row_leads s (record { once = i.once; distinct = i.distinct; workers = refl }) e.who e.op e.reply p) h.allowed))

@@ -1,0 +1,119 @@
+-- What holds after every history: no task's handle is listed twice, no live queue stands twice, and the workers are so many.
+use Rattle.std.proofs.Common.{◌≡◌, ℕ, ◌+◌, ◌≤◌, Bool, true, false, ◌&&◌, cond, List, [], ◌∷◌, refl, sym, ◌∙◌, ap, subst, arith}
+use Rattle.std.specs.Prelude.{◌==◌}
+use Rattle.std.proofs.lemmas.Bool.{eqb-true}
+use Rattle.mtapi_values.specs.declared.ends.TaskEnd.{TaskEnd}
+use Rattle.handle_pool.specs.Issued.{Listed, live_of, change, change_all, issue, with_fields, gone, listed, may_issue}
+use Rattle.handle_pool.specs.Stands.{Distinct}
+use Rattle.handle_pool.proofs.ListedLemmas.{listed-change, listed-issue, Distinct-issue, Distinct-update, Distinct-retire}
+use Rattle.mtapi_objects.specs.Tasks.{Task, Running, with_state, with_notes, ended, end_each}
+use Rattle.mtapi_objects.specs.Groups.{freed, let_go}
+use Rattle.mtapi_machine.specs.State.{State, workers, is_open}
+use Rattle.mtapi_machine.specs.Moves.{Queues, starts_task, runs_task, ends_task, ends_waiting, withdraws, notes, leaves, frees_members, lets_members_go, makes, alters, removes, makes_action, enables, phase_is, released, stops, Groups, Mutexes, Sems, Rwls, Segments}
+use Rattle.mtapi_machine.specs.Legal.{NodeEntry, next}
+use Rattle.mtapi_machine.proofs.Made.{fst_true, snd_true}
+use Rattle.mtapi_machine.proofs.Moves.{IsKept, by_moves}
+use Rattle.run_report.proofs.Listed.{unlisted, same_number}
+
+pub record Sound (n : ℕ) (s : State) : Type 0 where
+  pub once : (k : ℕ) → listed k s.tasks ≤ 1
+  pub distinct : Distinct (live_of s.queues)
+  pub workers : workers s ≡ n
+
+abbrev Once : List (Listed Task) → Type 0
+Once l = (k : ℕ) → listed k l ≤ 1
+
+-- a handle that may be issued isn't listed
+pub none_listed : {T : Type 0} (last h : ℕ) (l : List (Listed T)) → may_issue last h l ≡ true → listed h l ≡ 0
+unfolding may_issue
+none_listed last h l may = eqb-true (listed h l) 0 (fst_true (listed h l == 0) _ (fst_true _ _ may))
+
+once_change : (h : ℕ) (f : Listed Task → Listed Task) (l : List (Listed Task)) → ((r : Listed Task) → (f r).handle ≡ r.handle) → Once l → Once (change h f l)
+once_change h f l keeps one k = subst (λ (n : ℕ). n ≤ 1) (sym (listed-change k h f keeps l)) (one k)
+
+once_issue : (last h : ℕ) (t : Task) (l : List (Listed Task)) → may_issue last h l ≡ true → Once l → Once (issue h t l)
+once_issue last h t l may one k = by (h == k) refl
+  where
+    by : (b : Bool) → (h == k) ≡ b → listed k (issue h t l) ≤ 1
+    by true is =
+        let here : listed k l ≡ 0 = subst (λ (n : ℕ). listed n l ≡ 0) (same_number h k is) (none_listed last h l may) in
+        let more : listed k (issue h t l) ≡ listed k l + 1 = listed-issue k h t l ∙ (λ i. listed k l + cond (is i) 1 0) in
+        omega (arith, here, more)
+    by false is =
+        let more : listed k (issue h t l) ≡ listed k l + 0 = listed-issue k h t l ∙ (λ i. listed k l + cond (is i) 1 0) in
+        omega (arith, one k, more)
+
+listed_ends : (k : ℕ) (p : Task → Bool) (e : TaskEnd) (n : ℕ) (l : List (Listed Task)) → listed k (end_each p e n l) ≡ listed k l
+unfolding listed end_each
+listed_ends k p e n [] = refl
+listed_ends k p e n (r ∷ rs) = by (r.live && p r.fields) (listed_ends k p e n rs) (listed_ends k p e (n + 1) rs)
+  where
+    by : (b : Bool) → listed k (end_each p e n rs) ≡ listed k rs → listed k (end_each p e (n + 1) rs) ≡ listed k rs → listed k (cond b (ended e n r ∷ end_each p e (n + 1) rs) (r ∷ end_each p e n rs)) ≡ cond (r.handle == k) 1 0 + listed k rs
+    by true same more = ap (λ m. cond (r.handle == k) 1 0 + m) more
+    by false same more = ap (λ m. cond (r.handle == k) 1 0 + m) same
+
+once_ends : (p : Task → Bool) (e : TaskEnd) (n : ℕ) (l : List (Listed Task)) → Once l → Once (end_each p e n l)
+once_ends p e n l one k = subst (λ (m : ℕ). m ≤ 1) (sym (listed_ends k p e n l)) (one k)
+
+listed_all : (k : ℕ) (p : Task → Bool) (f : Listed Task → Listed Task) → ((r : Listed Task) → (f r).handle ≡ r.handle) → (l : List (Listed Task)) → listed k (change_all p f l) ≡ listed k l
+unfolding listed change_all
+listed_all k p f keeps [] = refl
+listed_all k p f keeps (r ∷ rs) = by (r.live && p r.fields) (listed_all k p f keeps rs)
+  where
+    by : (b : Bool) → listed k (change_all p f rs) ≡ listed k rs → listed k (cond b (f r) r ∷ change_all p f rs) ≡ cond (r.handle == k) 1 0 + listed k rs
+    by true more = λ i. cond (keeps r i == k) 1 0 + more i
+    by false more = ap (λ m. cond (r.handle == k) 1 0 + m) more
+
+once_all : (p : Task → Bool) (f : Listed Task → Listed Task) (l : List (Listed Task)) → ((r : Listed Task) → (f r).handle ≡ r.handle) → Once l → Once (change_all p f l)
+once_all p f l keeps one k = subst (λ (m : ℕ). m ≤ 1) (sym (listed_all k p f keeps l)) (one k)
+
+module _ (n : ℕ) where
+  with_tasks : (s t : State) → Sound n s → Once t.tasks → t.queues ≡ s.queues → t.terms ≡ s.terms → Sound n t
+  with_tasks s t i one same terms =
+      record { once = one; distinct = subst (λ l. Distinct (live_of l)) (sym same) i.distinct; workers = ap (λ x. x.settings.workers) terms ∙ i.workers }
+
+  with_queues : (s t : State) → Sound n s → Distinct (live_of t.queues) → t.tasks ≡ s.tasks → t.terms ≡ s.terms → Sound n t
+  with_queues s t i alone same terms =
+      record { once = λ k. subst (λ l. listed k l ≤ 1) (sym same) (i.once k); distinct = alone; workers = ap (λ x. x.settings.workers) terms ∙ i.workers }
+
+  as_before : (s t : State) → Sound n s → t.tasks ≡ s.tasks → t.queues ≡ s.queues → t.terms ≡ s.terms → Sound n t
+  as_before s t i same alone terms = with_queues s t i (subst (λ l. Distinct (live_of l)) (sym alone) i.distinct) same terms
+
+  pub sound_move : IsKept (Sound n)
+  sound_move o s (starts_task h t) e i =
+      with_tasks s _ i (once_issue _ h _ s.tasks (snd_true _ _ (snd_true (is_open s.phase) _ (fst_true _ _ (fst_true _ _ (fst_true _ _ e.may))))) i.once) refl refl
+  sound_move o s (runs_task h w k) e i = with_tasks s _ i (once_change h (with_fields (with_state (Running w k))) s.tasks (λ r. refl) i.once) refl refl
+  sound_move o s (ends_task h x) e i = with_tasks s _ i (once_change h (ended x s.ends) s.tasks (λ r. refl) i.once) refl refl
+  sound_move o s (ends_waiting q x) e i = with_tasks s _ i (once_ends _ x s.ends s.tasks i.once) refl refl
+  sound_move o s (withdraws h f c) e i = with_tasks s _ i (once_ends _ _ s.ends s.tasks i.once) refl refl
+  sound_move o s (notes h f) e i = with_tasks s _ i (once_change h (with_fields (with_notes f)) s.tasks (λ r. refl) i.once) refl refl
+  sound_move o s (leaves h) e i = with_tasks s _ i (once_change h gone s.tasks (λ r. refl) i.once) refl refl
+  sound_move o s (frees_members g) e i = with_tasks s _ i (once_all _ freed s.tasks (λ r. refl) i.once) refl refl
+  sound_move o s (lets_members_go g) e i = with_tasks s _ i (once_all _ let_go s.tasks (λ r. refl) i.once) refl refl
+  sound_move o s (makes Queues h x) e i =
+      with_queues s _ i (Distinct-issue h x s.queues i.distinct (unlisted h s.queues (omega (arith, none_listed _ h s.queues (snd_true _ _ e.may))))) refl refl
+  sound_move o s (alters Queues h f) e i = with_queues s _ i (Distinct-update h f s.queues i.distinct) refl refl
+  sound_move o s (removes Queues h) e i = with_queues s _ i (Distinct-retire h s.queues i.distinct) refl refl
+  sound_move o s (makes Groups h x) e i = as_before s _ i refl refl refl
+  sound_move o s (makes Mutexes h x) e i = as_before s _ i refl refl refl
+  sound_move o s (makes Sems h x) e i = as_before s _ i refl refl refl
+  sound_move o s (makes Rwls h x) e i = as_before s _ i refl refl refl
+  sound_move o s (makes Segments h x) e i = as_before s _ i refl refl refl
+  sound_move o s (alters Groups h f) e i = as_before s _ i refl refl refl
+  sound_move o s (alters Mutexes h f) e i = as_before s _ i refl refl refl
+  sound_move o s (alters Sems h f) e i = as_before s _ i refl refl refl
+  sound_move o s (alters Rwls h f) e i = as_before s _ i refl refl refl
+  sound_move o s (alters Segments h f) e i = as_before s _ i refl refl refl
+  sound_move o s (removes Groups h) e i = as_before s _ i refl refl refl
+  sound_move o s (removes Mutexes h) e i = as_before s _ i refl refl refl
+  sound_move o s (removes Sems h) e i = as_before s _ i refl refl refl
+  sound_move o s (removes Rwls h) e i = as_before s _ i refl refl refl
+  sound_move o s (removes Segments h) e i = as_before s _ i refl refl refl
+  sound_move o s (makes_action h a) e i = as_before s _ i refl refl refl
+  sound_move o s (enables h) e i = as_before s _ i refl refl refl
+  sound_move o s (phase_is p) e i = as_before s _ i refl refl refl
+  sound_move o s released e i = as_before s _ i refl refl refl
+  sound_move o s (stops w) e i = as_before s _ i refl refl refl
+
+  pub sound_next : (s : State) (e : NodeEntry) → Sound n s → Sound n (next s e)
+  sound_next s e i = by_moves (Sound n) s e (sound_move e.op) i

@@ -1,0 +1,7 @@
+use Rattle.std.proofs.Common.{◌≡◌, drop}
+use Rattle.run_report.specs.Standings.{place_of}
+use Rattle.run_report.proofs.LiveActions.{further}
+use Rattle.run_report.proofs.actions.place_of.Given as goal
+
+abbrev pub invariant-loop-i : goal.invariant-loop-i
+invariant-loop-i l = further l.i (place_of l.handle (drop l.i l.actions)) ≡ place_of l.handle l.actions

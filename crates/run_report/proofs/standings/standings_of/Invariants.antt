@@ -1,0 +1,7 @@
+use Rattle.std.proofs.Common.{take}
+use Rattle.run_report.specs.Seen.{nothing_seen, seen_from}
+use Rattle.run_report.specs.Standings.{seen_in, SameAs}
+use Rattle.run_report.proofs.standings.standings_of.Given as goal
+
+abbrev pub invariant-loop-entry : goal.invariant-loop-entry
+invariant-loop-entry l = SameAs (seen_in l.table) (seen_from l.workers nothing_seen (take l.entry-index l.entries))

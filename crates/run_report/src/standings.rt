@@ -1,0 +1,307 @@
+//! What decides how tasks end, found again from the entries of a journal.
+ghost use Rattle.std.specs.Prelude.{◌≡◌, ◌≤◌, not, IfOk, OnOk, is_some, if◌then◌else◌};
+ghost use Rattle.std.specs.Ordering.{nat_cmp};
+ghost use Rattle.std.specs.BTreeMap.{get, keys};
+ghost use Rattle.mtapi_values.specs.Conditions.{holds};
+ghost use Rattle.mtapi_values.specs.declared.ends.TaskEnd.TheVariants.{Cancelled, Failed};
+ghost use Rattle.mtapi_values.specs.declared.statuses.MtapiStatus.TheVariants.{ErrQueueDeleted};
+ghost use Rattle.run_report.specs.Seen.{is_shut, is_of, ends_where, with_end, with_open, enqueued, cancelled, queue_disabled, queue_deleted, withdrawn, with_action, without_action, with_change, nothing_seen, seen_from};
+ghost use Rattle.run_report.specs.Standings.{seen_in, SameAs, passes};
+
+use crate::actions::{has_worker, set_enabled, take_out};
+use crate::changes::{Change, LiveAction, LiveQueue, Unstarted, change_of};
+use mtapi_machine::Entry;
+use mtapi_values::{Mask, MtapiStatus, TaskEnd};
+use std::alloc::{AllocError, Global};
+use std::collections::BTreeMap;
+
+/// How each task ended, and what decides how the others will: the tasks that haven't begun, the live actions in the order in which
+/// they were made, and the live queues. A running task stands nowhere.
+#[derive(Drop)]
+pub struct Standings {
+    pub ended: BTreeMap<u64, TaskEnd>,
+    pub unstarted: BTreeMap<u64, Unstarted>,
+    pub actions: Vec<LiveAction>,
+    pub queues: BTreeMap<u64, LiveQueue>,
+}
+
+/// Which of the tasks that haven't begun end.
+#[derive(Drop)]
+pub enum Passing {
+    /// Those that no worker can take.
+    Left,
+    /// Those of this queue.
+    Of(u64),
+    /// Those whose queue is disabled.
+    Shut,
+}
+
+// Whether the queue is there and disabled.
+fn is_disabled(queues: &BTreeMap<u64, LiveQueue>, queue: u64) -> bool
+    ensures { result ≡ holds (λ q. not q.enabled) (get nat_cmp queues.now queue) }
+{
+    match queues.get(&queue) {
+        Some(found) => !found.enabled,
+        None => false,
+    }
+}
+
+// Whether the queue is there and doesn't keep its tasks while it is disabled.
+fn lets_go(queues: &BTreeMap<u64, LiveQueue>, queue: u64) -> bool
+    ensures { result ≡ holds (λ q. not q.retain) (get nat_cmp queues.now queue) }
+{
+    match queues.get(&queue) {
+        Some(found) => !found.retain,
+        None => false,
+    }
+}
+
+fn is_of(queue: u64, task: &Unstarted) -> bool
+    ensures { result ≡ is_of queue task.now }
+{
+    match task.queue {
+        Some(own) => own == queue,
+        None => false,
+    }
+}
+
+fn is_shut(queues: &BTreeMap<u64, LiveQueue>, task: &Unstarted) -> bool
+    ensures { result ≡ is_shut (get nat_cmp queues.now) task.now }
+{
+    match task.queue {
+        Some(own) => is_disabled(queues, own),
+        None => false,
+    }
+}
+
+fn passes(table: &Standings, workers: u32, which: &Passing, task: &Unstarted) -> bool
+    requires { workers ≤ 64 }
+    ensures { result ≡ passes workers which.now (seen_in table.now) task.now }
+{
+    match which {
+        Passing::Left => !has_worker(workers, task.job, task.cores, &table.actions),
+        Passing::Of(queue) => is_of(*queue, task),
+        Passing::Shut => is_shut(&table.queues, task),
+    }
+}
+
+// Whether the task of this handle hasn't begun, and passes.
+fn is_passing(table: &Standings, workers: u32, which: &Passing, handle: u64) -> bool
+    requires { workers ≤ 64 }
+    ensures { result ≡ holds (passes workers which.now (seen_in table.now)) (get nat_cmp table.now.unstarted handle) }
+{
+    match table.unstarted.get(&handle) {
+        Some(task) => passes(table, workers, which, task),
+        None => false,
+    }
+}
+
+fn end_one(table: &mut Standings, handle: u64, end: TaskEnd) -> Result<(), AllocError>
+    ensures { OnOk result (SameAs (seen_in table.new) (with_end handle end (seen_in table.old))) }
+{
+    table.unstarted.remove(&handle);
+    table.ended.insert(handle, end)?;
+    Ok(())
+}
+
+fn end_if_passing(
+    table: &mut Standings,
+    workers: u32,
+    which: &Passing,
+    handle: u64,
+    end: &TaskEnd,
+) -> Result<(), AllocError>
+    requires { workers ≤ 64 }
+    ensures { OnOk result (SameAs (seen_in table.new) (if holds (passes workers which.now (seen_in table.old)) (get nat_cmp table.old.unstarted handle) then with_end handle end.now (seen_in table.old) else seen_in table.old)) }
+{
+    if is_passing(table, workers, which, handle) {
+        return end_one(table, handle, end.again());
+    }
+    Ok(())
+}
+
+fn handles_of(alloc: Global, unstarted: &BTreeMap<u64, Unstarted>) -> Result<Vec<u64>, AllocError>
+    ensures { IfOk result (λ handles. handles.items ≡ keys unstarted.now) }
+{
+    unstarted.keys().copied().collect(alloc)
+}
+
+// Ends every task that passes. It walks the tasks that haven't begun, and no other.
+fn end_where(
+    alloc: Global,
+    table: &mut Standings,
+    workers: u32,
+    which: &Passing,
+    end: &TaskEnd,
+) -> Result<(), AllocError>
+    requires { workers ≤ 64 }
+    ensures { OnOk result (SameAs (seen_in table.new) (ends_where (passes workers which.now (seen_in table.old)) end.now (seen_in table.old))) }
+{
+    let handles = handles_of(alloc, &table.unstarted)?;
+    for handle in handles.iter() {
+        end_if_passing(table, workers, which, *handle, end)?;
+    }
+    Ok(())
+}
+
+fn cancel(table: &mut Standings, handle: u64) -> Result<(), AllocError>
+    ensures { OnOk result (SameAs (seen_in table.new) (cancelled handle (seen_in table.old))) }
+{
+    if table.unstarted.contains_key(&handle) {
+        return end_one(table, handle, TaskEnd::Cancelled);
+    }
+    Ok(())
+}
+
+fn enqueue(table: &mut Standings, handle: u64, queue: u64, cores: Mask) -> Result<(), AllocError>
+    ensures { OnOk result (SameAs (seen_in table.new) (enqueued handle queue cores (get nat_cmp table.old.queues queue) (seen_in table.old))) }
+{
+    let Some(found) = table.queues.get(&queue) else {
+        return Ok(());
+    };
+    let task = Unstarted {
+        job: found.job,
+        cores,
+        queue: Some(queue),
+    };
+    table.unstarted.insert(handle, task)?;
+    Ok(())
+}
+
+fn set_open(table: &mut Standings, queue: u64, enabled: bool) -> Result<(), AllocError>
+    ensures { OnOk result (SameAs (seen_in table.new) (with_open queue enabled (seen_in table.old))) }
+{
+    let Some(found) = table.queues.get(&queue) else {
+        return Ok(());
+    };
+    let changed = LiveQueue {
+        job: found.job,
+        retain: found.retain,
+        enabled,
+    };
+    table.queues.insert(queue, changed)?;
+    Ok(())
+}
+
+fn disable_queue(
+    alloc: Global,
+    table: &mut Standings,
+    workers: u32,
+    queue: u64,
+) -> Result<(), AllocError>
+    requires { workers ≤ 64 }
+    ensures { OnOk result (SameAs (seen_in table.new) (queue_disabled queue (seen_in table.old))) }
+{
+    let ends = lets_go(&table.queues, queue);
+    set_open(table, queue, false)?;
+    if ends {
+        return end_where(
+            alloc,
+            table,
+            workers,
+            &Passing::Of(queue),
+            &TaskEnd::Cancelled,
+        );
+    }
+    Ok(())
+}
+
+fn delete_queue(
+    alloc: Global,
+    table: &mut Standings,
+    workers: u32,
+    queue: u64,
+) -> Result<(), AllocError>
+    requires { workers ≤ 64 }
+    ensures { OnOk result (SameAs (seen_in table.new) (queue_deleted queue (seen_in table.old))) }
+{
+    let end = TaskEnd::Failed(MtapiStatus::ErrQueueDeleted);
+    end_where(alloc, table, workers, &Passing::Of(queue), &end)?;
+    table.queues.remove(&queue);
+    Ok(())
+}
+
+// An action was taken back: the tasks that no worker can take any more fail with this status.
+fn fail_left(
+    alloc: Global,
+    table: &mut Standings,
+    workers: u32,
+    status: MtapiStatus,
+) -> Result<(), AllocError>
+    requires { workers ≤ 64 }
+    ensures { OnOk result (SameAs (seen_in table.new) (withdrawn workers (seen_in table.old).actions status (seen_in table.old))) }
+{
+    end_where(
+        alloc,
+        table,
+        workers,
+        &Passing::Left,
+        &TaskEnd::Failed(status),
+    )
+}
+
+// What an entry changes in how far tasks have come.
+fn note(
+    alloc: Global,
+    table: &mut Standings,
+    workers: u32,
+    change: Change,
+) -> Result<(), AllocError>
+    requires { workers ≤ 64 }
+    ensures { OnOk result (SameAs (seen_in table.new) (with_change workers change (seen_in table.old))) }
+{
+    match change {
+        Change::Nothing => {}
+        Change::MakesAction(action) => table.actions.push(action)?,
+        Change::EnablesAction(action) => set_enabled(&mut table.actions, action, true),
+        Change::DisablesAction(action) => {
+            set_enabled(&mut table.actions, action, false);
+            fail_left(alloc, table, workers, MtapiStatus::ErrActionDisabled)?;
+        }
+        Change::DeletesAction(action) => {
+            take_out(&mut table.actions, action);
+            fail_left(alloc, table, workers, MtapiStatus::ErrActionDeleted)?;
+        }
+        Change::StartsTask(handle, task) => {
+            table.unstarted.insert(handle, task)?;
+        }
+        Change::EnqueuesTask(handle, queue, cores) => enqueue(table, handle, queue, cores)?,
+        Change::BeginsTask(handle) => {
+            table.unstarted.remove(&handle);
+        }
+        Change::EndsTask(handle, end) => end_one(table, handle, end)?,
+        Change::CancelsTask(handle) => cancel(table, handle)?,
+        Change::MakesQueue(handle, queue) => {
+            table.queues.insert(handle, queue)?;
+        }
+        Change::EnablesQueue(queue) => set_open(table, queue, true)?,
+        Change::DisablesQueue(queue) => disable_queue(alloc, table, workers, queue)?,
+        Change::DeletesQueue(queue) => delete_queue(alloc, table, workers, queue)?,
+        Change::Closes => end_where(alloc, table, workers, &Passing::Shut, &TaskEnd::Cancelled)?,
+    }
+    Ok(())
+}
+
+fn no_standings(alloc: Global) -> Standings
+    ensures { SameAs (seen_in result) nothing_seen }
+{
+    Standings {
+        ended: BTreeMap::new(alloc),
+        unstarted: BTreeMap::new(alloc),
+        actions: Vec::new(alloc),
+        queues: BTreeMap::new(alloc),
+    }
+}
+
+/// What is known after these entries of a node with so many workers. An entry that may end many tasks walks those that haven't begun;
+/// one that takes an action back looks through the live actions for each of them.
+pub fn standings_of(alloc: Global, workers: u32, entries: &[Entry]) -> Result<Standings, AllocError>
+    requires { workers ≤ 64 }
+    ensures { IfOk result (λ t. SameAs (seen_in t) (seen_from workers nothing_seen entries.now)) }
+{
+    let mut table = no_standings(alloc);
+    for entry in entries {
+        note(alloc, &mut table, workers, change_of(entry))?;
+    }
+    Ok(table)
+}

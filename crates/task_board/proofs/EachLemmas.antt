@@ -1,0 +1,290 @@
+-- What the walks over the members of a group keep.
+use Rattle.std.proofs.Common.{◌≡◌, ℕ, ◌+◌, ◌<◌, Bool, true, false, not, cond, List, [], ◌∷◌, ◌++◌, length, Option, Some, None, IsSome, refl, sym, ◌∙◌, ap, subst, inl, inr, arith}
+use Rattle.std.specs.Prelude.{◌&&◌, ◌==◌, is_none}
+use Rattle.std.specs.Option.{option_or}
+use Rattle.std.proofs.lemmas.Bool.{false≢true, cases_eq}
+use Rattle.mtapi_values.specs.declared.ends.TaskEnd.{TaskEnd}
+use Rattle.mtapi_values.specs.declared.statuses.MtapiStatus.{MtapiStatus}
+use Rattle.mtapi_values.specs.Conditions.{holds}
+use Rattle.handle_pool.specs.Slots.{Slots, slot_value, with_value, without}
+use Rattle.handle_pool.specs.Walks.{NoneLive}
+use Rattle.linked_places.specs.Lists.{has_handle}
+use Rattle.mtapi_objects.specs.Tasks.{Task, TaskState, Scheduled, Running, Ended, end_of, is_unended}
+use Rattle.mtapi_objects.specs.Groups.{is_member, is_unended_member, fault_of, first_fault}
+use Rattle.task_core.specs.Answers.{without_group}
+use Rattle.task_core.specs.Records.{number_in}
+use Rattle.task_core.specs.Table.{TaskTable}
+use Rattle.group_core.specs.Members.{Members, no_members, ended_of, unended_of}
+use Rattle.task_board.specs.Members.{start_in, end_in, member_as, membership, members_in}
+use Rattle.task_board.specs.Board.{BoardTable, IsBoard, Becomes}
+use Rattle.task_board.specs.GroupMoves.{is_ended_member, end_at, ending_of, endings_of, Each, frees, lets_go, Takes, Leaves, FreesAll, LetsUnendedGo, LetsAllGo, Freed, Left}
+use Rattle.task_board.proofs.SeenLemmas.{some_same}
+use Rattle.task_board.proofs.MoveLemmas.{slot-without}
+use Rattle.task_board.proofs.MarkLemmas.{same-number}
+use Rattle.task_board.proofs.MemberLemmas.{start-here, end-here, unnamed}
+
+none-some : {A : Type 0} {P : Type 0} {x : A} → None ≡ Some x → P
+none-some e = absurd (cc)
+
+-- one more task
+each-next : (p : Task → Bool) (move : Slots Task → ℕ → Task → Slots Task) (hs : List ℕ) (old now : Slots Task) (h : ℕ) (t : Task) → Each p move hs old now → slot_value now h ≡ Some t → p t ≡ true → Each p move (hs ++ h ∷ []) old (move now h t)
+each-next p move [] old now h t e g passes = (t, ap (λ (q : Slots Task). slot_value q h) (sym e) ∙ g, passes, ap (λ (q : Slots Task). move q h t) e)
+each-next p move (x ∷ xs) old now h t e g passes = (e.0, e.1, e.2, each-next p move xs (move old x e.0) now h t e.3 g passes)
+
+each-more : (p : Task → Bool) (move : Slots Task → ℕ → Task → Slots Task) (xs ys : List ℕ) (old now new : Slots Task) → Each p move xs old now → Each p move ys now new → Each p move (xs ++ ys) old new
+each-more p move [] ys old now new a b = subst (λ (q : Slots Task). Each p move ys q new) a b
+each-more p move (x ∷ xs) ys old now new a b = (a.0, a.1, a.2, each-more p move xs ys (move old x a.0) now new a.3 b)
+
+and-left : (a b : Bool) → (a && b) ≡ true → a ≡ true
+and-left true b e = refl
+and-left false b e = e
+
+and-both : (a b : Bool) → a ≡ true → b ≡ true → (a && b) ≡ true
+and-both a b x y = λ i. x i && y i
+
+not-false : (b : Bool) → not b ≡ true → b ≡ false
+not-false true e = absurd (false≢true e)
+not-false false e = refl
+
+and-right : (a b : Bool) → (a && b) ≡ true → b ≡ true
+and-right true b e = e
+and-right false b e = absurd (false≢true e)
+
+-- a member that has ended is let go where it is freed
+each-ended : (g : ℕ) (hs : List ℕ) (old new : Slots Task) → Each (is_ended_member g) frees hs old new → Each (is_member g) lets_go hs old new
+each-ended g [] old new e = e
+each-ended g (h ∷ hs) old new e = (
+  e.0,
+  e.1,
+  and-left (is_member g e.0) (not (is_unended e.0)) e.2,
+  subst (λ (q : Slots Task). Each (is_member g) lets_go hs q new) (sym (gone (is_unended e.0) (not-false (is_unended e.0) (and-right (is_member g e.0) (not (is_unended e.0)) e.2)))) (each-ended g hs (without old h) new e.3),
+)
+  where
+    gone : (b : Bool) → b ≡ false → cond b (with_value old h (without_group e.0)) (without old h) ≡ without old h
+    gone true off = absurd (false≢true (sym off))
+    gone false off = refl
+
+-- Lists
+
+append-more : (xs ys : List ℕ) (h : ℕ) → xs ++ h ∷ ys ≡ (xs ++ h ∷ []) ++ ys
+append-more [] ys h = refl
+append-more (x ∷ xs) ys h = ap (λ (l : List ℕ). x ∷ l) (append-more xs ys h)
+
+length-more : (xs : List ℕ) (h : ℕ) → length (xs ++ h ∷ []) ≡ length xs + 1
+length-more [] h = refl
+length-more (x ∷ xs) h = let e = length-more xs h in omega (arith, e)
+
+append-none : (xs : List ℕ) → xs ++ [] ≡ xs
+append-none [] = refl
+append-none (x ∷ xs) = ap (λ (l : List ℕ). x ∷ l) (append-none xs)
+
+none-left : (xs ys : List ℕ) → length xs ≡ length (xs ++ ys) → ys ≡ []
+none-left [] [] e = refl
+none-left [] (y ∷ ys) e = absurd (omega (arith, e))
+none-left (x ∷ xs) ys e = none-left xs ys (omega (arith, e))
+
+or-assoc : {A : Type 0} (a b c : Option A) → option_or a (option_or b c) ≡ option_or (option_or a b) c
+or-assoc None b c = refl
+or-assoc (Some x) b c = refl
+
+or-none : {A : Type 0} (a : Option A) → option_or a None ≡ a
+or-none None = refl
+or-none (Some x) = refl
+
+fault-next : (at : ℕ → Option Task) (hs : List ℕ) (h n : ℕ) (e : TaskEnd) → end_at (at h) ≡ Some (e, n) → first_fault (endings_of at (hs ++ h ∷ [])) ≡ option_or (first_fault (endings_of at hs)) (fault_of e)
+fault-next at [] h n e is = ap (λ (o : Option _). first_fault (ending_of h o [])) is ∙ or-none (fault_of e)
+fault-next at (x ∷ xs) h n e is = by_end (end_at (at x)) (fault-next at xs h n e is)
+  where
+    by_end : (o : Option (TaskEnd × ℕ)) → first_fault (endings_of at (xs ++ h ∷ [])) ≡ option_or (first_fault (endings_of at xs)) (fault_of e) → first_fault (ending_of x o (endings_of at (xs ++ h ∷ []))) ≡ option_or (first_fault (ending_of x o (endings_of at xs))) (fault_of e)
+    by_end None rest = rest
+    by_end (Some y) rest = ap (λ (z : Option MtapiStatus). option_or (fault_of y.0) z) rest ∙ or-assoc (fault_of y.0) (first_fault (endings_of at xs)) (fault_of e)
+
+-- Freeing
+
+same-becomes : (b : BoardTable) → Becomes b b b.actions (record b.tasks { pool = b.tasks.pool })
+same-becomes b = record { settings = refl; actions_are = refl; tasks_are = refl; queues_are = refl; groups_are = refl }
+
+becomes-next : (old now new : BoardTable) (pool : Slots Task) → Becomes old now old.actions (record old.tasks { pool = now.tasks.pool }) → Becomes now new now.actions (record now.tasks { pool = pool }) → Becomes old new old.actions (record old.tasks { pool = new.tasks.pool })
+becomes-next old now new pool a b = record {
+  settings = b.settings ∙ a.settings;
+  actions_are = b.actions_are ∙ a.actions_are;
+  tasks_are = (λ i. record { pool = new.tasks.pool; starts = (ap (λ (q : TaskTable). q.starts) b.tasks_are ∙ ap (λ (q : TaskTable). q.starts) a.tasks_are) i; ends = (ap (λ (q : TaskTable). q.ends) b.tasks_are ∙ ap (λ (q : TaskTable). q.ends) a.tasks_are) i });
+  queues_are = b.queues_are ∙ a.queues_are;
+  groups_are = b.groups_are ∙ a.groups_are;
+}
+
+pub freed-none : (b : BoardTable) (g : ℕ) (m : Members) → slot_value b.groups.pool g ≡ Some m → Freed b b g 0 None
+freed-none b g m live = record {
+  members = m;
+  done = [];
+  rest = m.ended;
+  list = refl;
+  count = refl;
+  group = live;
+  group_now = live;
+  each = refl;
+  kept = λ h t e. e;
+  fault_is = refl;
+  becomes = same-becomes b;
+}
+
+ended-passes : (g : ℕ) (t : Task) (e : TaskEnd) (n : ℕ) → is_member g t ≡ true → t.state ≡ Ended e n → is_ended_member g t ≡ true
+ended-passes g t e n member is = and-both (is_member g t) (not (is_unended t)) member (ap (λ (x : TaskState). not (is_none (end_of x))) is)
+
+pub freed-next : (old now new : BoardTable) (g index h : ℕ) (fault : Option MtapiStatus) (e : TaskEnd) → Freed old now g index fault → Takes now new g h e → Freed old new g (index + 1) (option_or fault (fault_of e))
+freed-next old now new g index h fault e f x = record {
+  members = f.members;
+  done = f.done ++ h ∷ [];
+  rest = x.rest;
+  list = f.list ∙ ap (λ (l : List ℕ). f.done ++ l) rest ∙ append-more f.done x.rest h;
+  count = let n = length-more f.done h in let m = f.count in omega (arith, n, m);
+  group = f.group;
+  group_now = x.parts.group_now ∙ ap (λ (m : Members). Some (record m { ended = x.rest })) same;
+  each = subst (λ (q : Slots Task). Each (is_ended_member g) frees (f.done ++ h ∷ []) old.tasks.pool q) (sym pool) (each-next (is_ended_member g) frees f.done old.tasks.pool now.tasks.pool h x.t f.each x.parts.task (ended-passes g x.t e x.number x.parts.member x.state));
+  kept = λ k t is. f.kept k t (older k t (ap (λ (q : Slots Task). slot_value q k) (sym pool) ∙ is));
+  fault_is = ap (λ (o : Option MtapiStatus). option_or o (fault_of e)) f.fault_is ∙ sym (fault-next (slot_value old.tasks.pool) f.done h x.number e (ap end_at (f.kept h x.t x.parts.task) ∙ ap end_of x.state));
+  becomes = becomes-next old now new (without now.tasks.pool h) f.becomes x.parts.becomes;
+}
+  where
+    same : x.members ≡ record f.members { ended = f.rest }
+    same = some_same (sym x.parts.group ∙ f.group_now)
+
+    rest : f.rest ≡ h ∷ x.rest
+    rest = ap (λ (m : Members). m.ended) (sym same) ∙ x.list
+
+    pool : new.tasks.pool ≡ without now.tasks.pool h
+    pool = ap (λ (q : TaskTable). q.pool) x.parts.becomes.tasks_are
+
+    older : (k : ℕ) (t : Task) → slot_value (without now.tasks.pool h) k ≡ Some t → slot_value now.tasks.pool k ≡ Some t
+    older k t is =
+        let m = slot-without now.tasks.pool h x.t x.parts.task in
+        elim (cases_eq k h) [ inl here ↦ none-some (sym m.here ∙ ap (slot_value (without now.tasks.pool h)) (sym here) ∙ is) | inr away ↦ sym (m.others k away) ∙ is ]
+
+pub freed-all : (old now : BoardTable) (g index : ℕ) (fault : Option MtapiStatus) → Freed old now g index fault → index ≡ length (ended_of (slot_value old.groups.pool g)) → FreesAll old now g fault
+freed-all old now g index fault f all = record {
+  members = f.members;
+  group = f.group;
+  group_now = f.group_now ∙ ap (λ (l : List ℕ). Some (record f.members { ended = l })) none;
+  each = subst (λ (l : List ℕ). Each (is_ended_member g) frees l old.tasks.pool now.tasks.pool) (sym whole) f.each;
+  fault_is = f.fault_is ∙ ap (λ (l : List ℕ). first_fault (endings_of (slot_value old.tasks.pool) l)) (sym whole);
+  becomes = f.becomes;
+}
+  where
+    none : f.rest ≡ []
+    none = none-left f.done f.rest (f.count ∙ all ∙ ap (λ (o : Option Members). length (ended_of o)) f.group ∙ ap length f.list)
+
+    whole : f.members.ended ≡ f.done
+    whole = f.list ∙ ap (λ (l : List ℕ). f.done ++ l) none ∙ append-none f.done
+
+-- while members are left one is taken
+pub freed-left : (old now : BoardTable) (g index : ℕ) (fault : Option MtapiStatus) → Freed old now g index fault → index < length (ended_of (slot_value old.groups.pool g)) → ((m : Members) → slot_value now.groups.pool g ≡ Some m → m.ended ≡ []) → ⊥
+freed-left old now g index fault f less none =
+    let empty : f.rest ≡ [] = none (record f.members { ended = f.rest }) f.group_now in
+    let whole = f.list ∙ ap (λ (l : List ℕ). f.done ++ l) empty ∙ append-none f.done in
+    let all : length (ended_of (slot_value old.groups.pool g)) ≡ length f.done = ap (λ (o : Option Members). length (ended_of o)) f.group ∙ ap length whole in
+    let n = f.count in
+    omega (arith, less, all, n)
+
+-- Letting go
+
+pub left-none : (b : BoardTable) (g : ℕ) (m : Members) → slot_value b.groups.pool g ≡ Some m → Left b b g 0
+left-none b g m live = record {
+  members = m;
+  done = [];
+  rest = m.unended;
+  list = refl;
+  count = refl;
+  group = live;
+  group_now = live;
+  each = refl;
+  becomes = same-becomes b;
+}
+
+pub left-next : (old now new : BoardTable) (g index h : ℕ) → Left old now g index → Leaves now new g h → Left old new g (index + 1)
+left-next old now new g index h f x = record {
+  members = f.members;
+  done = f.done ++ h ∷ [];
+  rest = x.rest;
+  list = f.list ∙ ap (λ (l : List ℕ). f.done ++ l) rest ∙ append-more f.done x.rest h;
+  count = let n = length-more f.done h in let m = f.count in omega (arith, n, m);
+  group = f.group;
+  group_now = x.parts.group_now ∙ ap (λ (m : Members). Some (record m { unended = x.rest })) same;
+  each = subst (λ (q : Slots Task). Each (is_member g) lets_go (f.done ++ h ∷ []) old.tasks.pool q) (sym (ap (λ (q : TaskTable). q.pool) x.parts.becomes.tasks_are)) (each-next (is_member g) lets_go f.done old.tasks.pool now.tasks.pool h x.t f.each x.parts.task x.parts.member);
+  becomes = becomes-next old now new (lets_go now.tasks.pool h x.t) f.becomes x.parts.becomes;
+}
+  where
+    same : x.members ≡ record f.members { unended = f.rest }
+    same = some_same (sym x.parts.group ∙ f.group_now)
+
+    rest : f.rest ≡ h ∷ x.rest
+    rest = ap (λ (m : Members). m.unended) (sym same) ∙ x.list
+
+pub left-all : (old now : BoardTable) (g index : ℕ) → Left old now g index → index ≡ length (unended_of (slot_value old.groups.pool g)) → LetsUnendedGo old now g
+left-all old now g index f all = record {
+  members = f.members;
+  group = f.group;
+  group_now = f.group_now ∙ ap (λ (l : List ℕ). Some (record f.members { unended = l })) none;
+  each = subst (λ (l : List ℕ). Each (is_member g) lets_go l old.tasks.pool now.tasks.pool) (sym (f.list ∙ ap (λ (l : List ℕ). f.done ++ l) none ∙ append-none f.done)) f.each;
+  becomes = f.becomes;
+}
+  where
+    none : f.rest ≡ []
+    none = none-left f.done f.rest (f.count ∙ all ∙ ap (λ (o : Option Members). length (unended_of o)) f.group ∙ ap length f.list)
+
+pub left-over : (old now : BoardTable) (g index : ℕ) → Left old now g index → index < length (unended_of (slot_value old.groups.pool g)) → ((m : Members) → slot_value now.groups.pool g ≡ Some m → m.unended ≡ []) → ⊥
+left-over old now g index f less none =
+    let empty : f.rest ≡ [] = none (record f.members { unended = f.rest }) f.group_now in
+    let whole = f.list ∙ ap (λ (l : List ℕ). f.done ++ l) empty ∙ append-none f.done in
+    let all : length (unended_of (slot_value old.groups.pool g)) ≡ length f.done = ap (λ (o : Option Members). length (unended_of o)) f.group ∙ ap length whole in
+    let n = f.count in
+    omega (arith, less, all, n)
+
+-- the ended ones are freed, and then the others are let go
+pub all-go : (old now new : BoardTable) (g : ℕ) (fault : Option MtapiStatus) → FreesAll old now g fault → LetsUnendedGo now new g → LetsAllGo old new g
+all-go old now new g fault a b = record {
+  handles = a.members.ended ++ b.members.unended;
+  each = each-more (is_member g) lets_go a.members.ended b.members.unended old.tasks.pool now.tasks.pool new.tasks.pool (each-ended g a.members.ended old.tasks.pool now.tasks.pool a.each) b.each;
+  group_now = b.group_now ∙ ap (λ (m : Members). Some (record m { unended = [] })) (some_same (sym b.group ∙ a.group_now));
+  becomes = becomes-next old now new new.tasks.pool a.becomes b.becomes;
+}
+
+-- Who is left
+
+pub live-group : (o : Option Members) → IsSome o → (m : Members) × (o ≡ Some m)
+live-group None e = absurd (false≢true e)
+live-group (Some m) e = (m, refl)
+
+named-group : (g : ℕ) (o : Option ℕ) → holds (λ h. h == g) o ≡ true → o ≡ Some g
+named-group g None e = absurd (false≢true e)
+named-group g (Some h) e = ap Some (same-number h g e)
+
+number-of : (x : TaskState) → is_none (end_of x) ≡ false → (n : ℕ) × (number_in (end_of x) ≡ Some n)
+number-of Scheduled e = absurd (false≢true (sym e))
+number-of (Running w k) e = absurd (false≢true (sym e))
+number-of (Ended y n) e = (n, refl)
+
+pub none-ended-left : (b : BoardTable) (g : ℕ) (m : Members) → IsBoard b → slot_value b.groups.pool g ≡ Some m → m.ended ≡ [] → NoneLive (slot_value b.tasks.pool) (λ t. is_ended_member g t ≡ true)
+none-ended-left b g m k live none h t is passes =
+    let group = named-group g t.notes.group (and-left (is_member g t) (not (is_unended t)) passes) in
+    let n = number-of t.state (not-false (is_unended t) (and-right (is_member g t) (not (is_unended t)) passes)) in
+    let here : members_in b.tasks.pool h ≡ Some (record { group = g; detached = t.notes.detached; start = t.start; end = number_in (end_of t.state) }) = ap membership is ∙ ap (member_as t) group in
+    false≢true (sym (ap (has_handle h) none) ∙ (k.members.ended g m live).listed h n.0 (ap (end_in g) here ∙ end-here g n.0 (record { group = g; detached = t.notes.detached; start = t.start; end = number_in (end_of t.state) }) refl n.1))
+
+unended-number : (x : TaskState) → is_none (end_of x) ≡ true → number_in (end_of x) ≡ None
+unended-number Scheduled e = refl
+unended-number (Running w k) e = refl
+unended-number (Ended y n) e = absurd (false≢true e)
+
+pub none-unended-left : (b : BoardTable) (g : ℕ) (m : Members) → IsBoard b → slot_value b.groups.pool g ≡ Some m → m.unended ≡ [] → NoneLive (slot_value b.tasks.pool) (λ t. is_unended_member g t ≡ true)
+none-unended-left b g m k live none h t is passes =
+    let group = named-group g t.notes.group (and-left (is_member g t) (is_unended t) passes) in
+    let here : members_in b.tasks.pool h ≡ Some (record { group = g; detached = t.notes.detached; start = t.start; end = number_in (end_of t.state) }) = ap membership is ∙ ap (member_as t) group in
+    false≢true (sym (ap (has_handle h) none) ∙ (k.members.unended g m live).listed h t.start (ap (start_in g) here ∙ start-here g (record { group = g; detached = t.notes.detached; start = t.start; end = number_in (end_of t.state) }) refl (unended-number t.state (and-right (is_member g t) (is_unended t) passes))))
+
+pub none-left-in : (b : BoardTable) (g : ℕ) → IsBoard b → slot_value b.groups.pool g ≡ Some no_members → NoneLive (slot_value b.tasks.pool) (λ t. is_member g t ≡ true)
+none-left-in b g k live h t is passes =
+    unnamed (members_in b.tasks.pool) (slot_value b.groups.pool) h g b.tasks.starts b.tasks.ends (record { group = g; detached = t.notes.detached; start = t.start; end = number_in (end_of t.state) }) k.members live
+    (ap membership is ∙ ap (member_as t) (named-group g t.notes.group passes)) refl
+
+pub freed-group : (old now : BoardTable) (g : ℕ) (fault : Option MtapiStatus) → FreesAll old now g fault → IsBoard now → NoneLive (slot_value now.tasks.pool) (λ t. is_ended_member g t ≡ true)
+freed-group old now g fault f k = none-ended-left now g (record f.members { ended = [] }) k f.group_now refl

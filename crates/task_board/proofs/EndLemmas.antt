@@ -1,0 +1,191 @@
+-- What is kept while the waiting tasks that pass end, one after the other.
+use Rattle.std.proofs.Common.{◌≡◌, ℕ, ◌<◌, ◌+◌, Bool, true, false, cond, List, [], ◌∷◌, ◌++◌, length, Option, Some, None, slice_get, refl, sym, ◌∙◌, ap, subst, arith}
+use Rattle.std.proofs.lemmas.Bool.{false≢true}
+use Rattle.std.proofs.lemmas.Bool.Decides.{nat_tests}
+use Rattle.std.proofs.lemmas.Nat.Bits.{bit_at-zero}
+use Rattle.std.specs.Prelude.{◌==◌, ◌||◌}
+use Rattle.mtapi_values.specs.declared.ends.TaskEnd.{TaskEnd}
+use Rattle.mtapi_values.specs.Conditions.{holds}
+use Rattle.mtapi_values.specs.Masks.{in_mask}
+use Rattle.handle_pool.specs.Slots.{Slots, slot_value}
+use Rattle.linked_places.specs.Lists.{list_at, has_handle}
+use Rattle.mtapi_objects.specs.Actions.{Action, has_enabled_job}
+use Rattle.mtapi_objects.specs.Tasks.{Task, is_unstarted}
+use Rattle.mtapi_objects.specs.Queues.{is_in}
+use Rattle.job_table.specs.Answers.{Covers, IsUnion}
+use Rattle.job_table.specs.declared.cover.Cover.TheVariants.{NoAction, AllDisabled}
+use Rattle.task_core.specs.Table.{TaskTable, ended_in, IsLiveAnd}
+use Rattle.task_board.specs.Seen.{Seen, seen_in}
+use Rattle.task_board.specs.Queued.{NoneWaitsIn}
+use Rattle.task_board.specs.Board.{BoardTable, IsBoard, Becomes, AreWaiting, records_of, group_slots}
+use Rattle.task_board.specs.Ends.{ended_next, ended_if, ended_each, EndsWaiting}
+use Rattle.task_board.proofs.SeenLemmas.{some_same, seen-as, seen-live}
+use Rattle.task_board.proofs.MarkLemmas.{and_left, and_right}
+use Rattle.task_board.proofs.MoveLemmas.{Put, put-ended}
+use Rattle.task_board.proofs.OrderLemmas.{waiting-once, waiting-beside, has-itself, at-middle, past-middle, append-middle}
+
+-- a waiting task is live and hasn't begun
+pub waits-live : (p : Slots Task) (hs : List ℕ) (h : ℕ) → AreWaiting (seen_in p) hs → has_handle h hs ≡ true → (t : Task) × (slot_value p h ≡ Some t) × (is_unstarted t ≡ true)
+waits-live p hs h w e =
+    let s = w.waits h e in
+    let t = seen-live p h s.0 s.1 in
+    (t.0, t.1, (seen-as t.0 t.0.state s.0 t.2).unstarted s.2)
+
+-- of the waiting tasks those in front have had their turn and wait on, and the rest is still to come
+pub record Going (p : Task → Bool) (e : TaskEnd) (first now : BoardTable) (index : ℕ) (next : Option ℕ) : Type 0 where
+  pub front : List ℕ
+  pub rest : List ℕ
+  pub board : IsBoard now
+  pub settings : now.settings ≡ first.settings
+  pub actions : now.actions ≡ first.actions
+  pub records : records_of now.queues.pool ≡ records_of first.queues.pool
+  pub groups : group_slots now ≡ group_slots first
+  pub list : list_at now.waiting.lists 0 ≡ front ++ rest
+  pub left : index + length rest ≡ length (list_at first.waiting.lists 0)
+  pub next_is : next ≡ slice_get rest 0
+  pub ends : ended_each p e rest now.tasks ≡ ended_each p e (list_at first.waiting.lists 0) first.tasks
+
+pub going-first : (p : Task → Bool) (e : TaskEnd) (b : BoardTable) (next : Option ℕ) → IsBoard b → next ≡ slice_get (list_at b.waiting.lists 0) 0 → Going p e b b 0 next
+going-first p e b next k is = record { front = []; rest = list_at b.waiting.lists 0; board = k; settings = refl; actions = refl; records = refl; groups = refl; list = refl; left = omega arith; next_is = is; ends = refl }
+
+module _ (p : Task → Bool) (e : TaskEnd) (first now : BoardTable) (index : ℕ) (next : Option ℕ) (g : Going p e first now index next) where
+  pub going-some : index < length (list_at first.waiting.lists 0) → next ≡ None → ⊥
+  going-some less none = by_rest g.rest g.left g.next_is
+    where
+      no : {h : ℕ} → None ≡ Some h → ⊥
+      no d = cc
+
+      by_rest : (rest : List ℕ) → index + length rest ≡ length (list_at first.waiting.lists 0) → next ≡ slice_get rest 0 → ⊥
+      by_rest [] l n = omega (arith, less, l)
+      by_rest (x ∷ rest) l n = no (sym none ∙ n)
+
+  -- the rest begins with the next task
+  pub going-next : (h : ℕ) → next ≡ Some h → (rest : List ℕ) × (g.rest ≡ h ∷ rest)
+  going-next h is = by_rest g.rest g.next_is
+    where
+      no : Some h ≡ None → ⊥
+      no d = cc
+
+      by_rest : (rest : List ℕ) → next ≡ slice_get rest 0 → (more : List ℕ) × (rest ≡ h ∷ more)
+      by_rest [] n = absurd (no (sym is ∙ n))
+      by_rest (x ∷ rest) n = (rest, ap (λ (k : ℕ). k ∷ rest) (some_same (sym n ∙ is)))
+
+  pub going-has : (h : ℕ) → next ≡ Some h → has_handle h (list_at now.waiting.lists 0) ≡ true
+  going-has h is =
+      let r = going-next h is in
+      ap (has_handle h) (g.list ∙ ap (λ (l : List ℕ). g.front ++ l) r.1) ∙ has-itself h g.front r.0
+
+  pub going-live : (h : ℕ) → next ≡ Some h → IsLiveAnd is_unstarted (slot_value now.tasks.pool h)
+  going-live h is =
+      let t = waits-live now.tasks.pool (list_at now.waiting.lists 0) h g.board.waiting_are (going-has h is) in
+      subst (λ (o : Option Task). IsLiveAnd is_unstarted o) (sym t.1) t.2
+
+  -- the list once the next task has had its turn
+  listed-on : (h : ℕ) (rest : List ℕ) (new : BoardTable) (b : Bool) → holds p (slot_value now.tasks.pool h) ≡ b → list_at now.waiting.lists 0 ≡ g.front ++ h ∷ rest → IsBoard new → new.tasks ≡ cond b (ended_next e h now.tasks) now.tasks → (front : List ℕ) × (list_at new.waiting.lists 0 ≡ front ++ rest)
+  listed-on h rest new true test is k becomes =
+      let old = subst (λ (l : List ℕ). AreWaiting (seen_in now.tasks.pool) l) is g.board.waiting_are in
+      let t = waits-live now.tasks.pool (g.front ++ h ∷ rest) h old (has-itself h g.front rest) in
+      let pool : new.tasks.pool ≡ ended_in now.tasks.pool h e now.tasks.ends (Some t.0) = ap (λ (q : TaskTable). q.pool) becomes ∙ ap (λ (o : Option Task). ended_in now.tasks.pool h e now.tasks.ends o) t.1 in
+      let move = subst (λ (q : Slots Task). Put (seen_in now.tasks.pool) h None (seen_in q)) (sym pool) (put-ended now.tasks.pool h e now.tasks.ends t.0 t.1) in
+      (g.front, waiting-once (seen_in new.tasks.pool) _ (g.front ++ rest) k.waiting_are (waiting-beside (seen_in now.tasks.pool) (seen_in new.tasks.pool) h g.front rest move old))
+  listed-on h rest new false test is k becomes =
+      let old = subst (λ (q : TaskTable). AreWaiting (seen_in q.pool) (list_at now.waiting.lists 0)) (sym becomes) g.board.waiting_are in
+      (g.front ++ h ∷ [], waiting-once (seen_in new.tasks.pool) _ _ k.waiting_are old ∙ is ∙ append-middle h g.front rest)
+
+  pub going-on : (h : ℕ) (new : BoardTable) (after : Option ℕ) → next ≡ Some h → ((i : ℕ) → slice_get (list_at now.waiting.lists 0) i ≡ Some h → after ≡ slice_get (list_at now.waiting.lists 0) (i + 1)) → Becomes now new now.actions (ended_if p e h now.tasks) → IsBoard new → Going p e first new (index + 1) after
+  going-on h new after is follows becomes k =
+      let r = going-next h is in
+      let list : list_at now.waiting.lists 0 ≡ g.front ++ h ∷ r.0 = g.list ∙ ap (λ (l : List ℕ). g.front ++ l) r.1 in
+      let l = listed-on h r.0 new (holds p (slot_value now.tasks.pool h)) refl list k becomes.tasks_are in
+      let size : index + length (h ∷ r.0) ≡ length (list_at first.waiting.lists 0) = ap (λ (x : List ℕ). index + length x) (sym r.1) ∙ g.left in
+      record {
+        front = l.0;
+        rest = r.0;
+        board = k;
+        settings = becomes.settings ∙ g.settings;
+        actions = becomes.actions_are ∙ g.actions;
+        records = becomes.queues_are ∙ g.records;
+        groups = becomes.groups_are ∙ g.groups;
+        list = l.1;
+        left = omega (arith, size);
+        next_is =
+            follows (length g.front) (ap (λ (x : List ℕ). slice_get x (length g.front)) list ∙ at-middle h g.front r.0)
+            ∙ ap (λ (x : List ℕ). slice_get x (length g.front + 1)) list ∙ past-middle h g.front r.0;
+        ends = ap (ended_each p e r.0) becomes.tasks_are ∙ ap (λ (x : List ℕ). ended_each p e x now.tasks) (sym r.1) ∙ g.ends;
+      }
+
+  pub going-last : IsBoard first → index ≡ length (list_at first.waiting.lists 0) → EndsWaiting p e first.tasks now.tasks
+  going-last k all = record { list = list_at first.waiting.lists 0; waiting = k.waiting_are; now = by_rest g.rest g.left g.ends }
+    where
+      by_rest : (rest : List ℕ) → index + length rest ≡ length (list_at first.waiting.lists 0) → ended_each p e rest now.tasks ≡ ended_each p e (list_at first.waiting.lists 0) first.tasks → now.tasks ≡ ended_each p e (list_at first.waiting.lists 0) first.tasks
+      by_rest [] l n = n
+      by_rest (x ∷ rest) l n = absurd (omega (arith, all, l))
+
+-- No task of a queue waits on
+
+-- what is seen once these have had their turn was seen before, and is none of them that names the queue
+left-seen : (k : ℕ) (e : TaskEnd) (hs : List ℕ) (q : TaskTable) (h : ℕ) (s : Seen) → seen_in (ended_each (is_in k) e hs q).pool h ≡ Some s → (seen_in q.pool h ≡ Some s) × (s.queue ≡ Some k → has_handle h hs ≡ false)
+left-seen k e [] q h s is = (is, λ n. refl)
+left-seen k e (x ∷ hs) q h s is =
+    let rest = left-seen k e hs (ended_if (is_in k) e x q) h s is in
+    by_test (holds (is_in k) (slot_value q.pool x)) refl rest.0 rest.1
+  where
+    equal : (a b : ℕ) → (a == b) ≡ true → a ≡ b
+    equal a b e = grind (arith, nat_tests)
+
+    itself : (a : ℕ) → (a == a) ≡ true
+    itself a = grind (arith, nat_tests)
+
+    away : (b : Bool) → b ≡ false → has_handle h hs ≡ false → (b || has_handle h hs) ≡ false
+    away false e f = f
+    away true e f = absurd (false≢true (sym e))
+
+    named : (o : Option Task) → holds (is_in k) o ≡ true → (t : Task) × (o ≡ Some t)
+    named None f = absurd (false≢true f)
+    named (Some t) f = (t, refl)
+
+    none : {z : Seen} → None ≡ Some z → ⊥
+    none d = cc
+
+    in-queue : (o : Option ℕ) → o ≡ Some k → holds (λ j. j == k) o ≡ true
+    in-queue o d = ap (λ (z : Option ℕ). holds (λ j. j == k) z) d ∙ itself k
+
+    by_test : (b : Bool) → holds (is_in k) (slot_value q.pool x) ≡ b → seen_in (cond b (ended_next e x q) q).pool h ≡ Some s → (s.queue ≡ Some k → has_handle h hs ≡ false) → (seen_in q.pool h ≡ Some s) × (s.queue ≡ Some k → ((x == h) || has_handle h hs) ≡ false)
+    by_test true test now more =
+        let t = named (slot_value q.pool x) test in
+        let move = subst (λ (o : Option Task). Put (seen_in q.pool) x None (seen_in (ended_in q.pool x e q.ends o))) (sym t.1) (put-ended q.pool x e q.ends t.0 t.1) in
+        by_handle move (x == h) refl
+      where
+        by_handle : Put (seen_in q.pool) x None (seen_in (ended_next e x q).pool) → (b : Bool) → (x == h) ≡ b → (seen_in q.pool h ≡ Some s) × (s.queue ≡ Some k → ((x == h) || has_handle h hs) ≡ false)
+        by_handle move true here = absurd (none (sym move.here ∙ ap (seen_in (ended_next e x q).pool) (equal x h here) ∙ now))
+        by_handle move false off = (sym (move.others h (λ z. false≢true (sym off ∙ ap (λ (j : ℕ). x == j) z ∙ itself x))) ∙ now, λ n. away (x == h) off (more n))
+    by_test false test now more = (now, λ n. by_handle n (x == h) refl)
+      where
+        by_handle : s.queue ≡ Some k → (b : Bool) → (x == h) ≡ b → ((x == h) || has_handle h hs) ≡ false
+        by_handle n true here =
+            let t = seen-live q.pool h s now in
+            let is_named : is_in k t.0 ≡ true = in-queue t.0.queue (sym (seen-as t.0 t.0.state s t.2).queue ∙ n) in
+            absurd (false≢true (sym test ∙ ap (λ (j : ℕ). holds (is_in k) (slot_value q.pool j)) (equal x h here) ∙ ap (holds (is_in k)) t.1 ∙ is_named))
+        by_handle n false off = away (x == h) off (more n)
+
+pub none-left : (k : ℕ) (e : TaskEnd) (old new : TaskTable) → EndsWaiting (is_in k) e old new → NoneWaitsIn k (seen_in new.pool)
+none-left k e old new ends h s is waits names =
+    let was = left-seen k e ends.list old h s (ap (λ (q : TaskTable). seen_in q.pool h) (sym ends.now) ∙ is) in
+    false≢true (sym (was.1 names) ∙ ends.waiting.listed h s was.0 waits)
+
+-- The cores that a cover has
+
+in_mask-zero : (core : ℕ) → in_mask core 0 ≡ false
+in_mask-zero core = grind (arith, nat_tests, bit_at-zero core)
+
+pub union-none : (actions : Slots Action) (job : ℕ) → Covers actions job NoAction → IsUnion actions job 0
+union-none actions job c = record {
+  covered = λ w e. absurd (false≢true (sym (in_mask-zero w) ∙ e));
+  uncovered = λ w off h a g r. c h a g (and_right a.enabled (a.job == job) (and_left (has_enabled_job job a) _ r));
+}
+
+pub union-disabled : (actions : Slots Action) (job : ℕ) → Covers actions job AllDisabled → IsUnion actions job 0
+union-disabled actions job c = record {
+  covered = λ w e. absurd (false≢true (sym (in_mask-zero w) ∙ e));
+  uncovered = λ w off h a g r. c.1 h a g (and_left (has_enabled_job job a) _ r);
+}

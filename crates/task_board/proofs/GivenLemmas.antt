@@ -1,0 +1,105 @@
+-- Handles that were given to queues, and one queue that changes.
+use Rattle.std.proofs.Common.{◌≡◌, ◌≢◌, ℕ, ◌+◌, Bool, true, false, Option, Some, None, set, slice_get, refl, sym, ◌∙◌, ap, subst, inl, inr, arith}
+use Rattle.std.specs.Prelude.{◌==◌, if◌then◌else◌}
+use Rattle.std.specs.Option.{option_map}
+use Rattle.std.proofs.lemmas.Bool.{cases_eq}
+use Rattle.handle_pool.specs.Slots.{Slot, Slots, slot_of, generation_of, free_slot, used_slot, slot_after, slot_value, Inserts, without, put, changed}
+use Rattle.handle_pool.proofs.ListReads.{slice_get-set_same, slice_get-set_other}
+use Rattle.handle_pool.proofs.StandsLemmas.{used_at_live}
+use Rattle.handle_pool.proofs.GetLemmas.{get-with_value_same, get-with_value_other, get-insert_same, get-insert_other, get-without_same, get-without_other}
+use Rattle.queue_core.specs.Held.{HeldQueue}
+use Rattle.task_board.specs.Queued.{HasHad, WasGiven}
+
+some_same : {A : Type 0} {a b : A} → Some a ≡ Some b → a ≡ b
+some_same h = cc
+
+-- the queue of one handle has become this, and all others are as they were
+pub record PutQueue (old : Slots HeldQueue) (q : ℕ) (y : Option HeldQueue) (new : Slots HeldQueue) : Type 0 where
+  pub here : slot_value new q ≡ y
+  pub others : (k : ℕ) → k ≢ q → slot_value new k ≡ slot_value old k
+
+pub put-queue_changed : (p : Slots HeldQueue) (q : ℕ) (f : HeldQueue → HeldQueue) (x : HeldQueue) → slot_value p q ≡ Some x → PutQueue p q (Some (f x)) (changed p q f)
+put-queue_changed p q f x g =
+    subst (λ (o : Option HeldQueue). PutQueue p q (Some (f x)) (put p q (option_map f o))) (sym g)
+    (record { here = get-with_value_same p q x (f x) g; others = λ k d. get-with_value_other p q k x (f x) g d })
+
+pub put-queue_insert : (p new : Slots HeldQueue) (q : ℕ) (x : HeldQueue) → Inserts p new q x → PutQueue p q (Some x) new
+put-queue_insert p new q x i = record { here = get-insert_same p new q x i; others = λ k d. get-insert_other p new q k x i d }
+
+pub put-queue_without : (p : Slots HeldQueue) (q : ℕ) (x : HeldQueue) → slot_value p q ≡ Some x → PutQueue p q None (without p q)
+put-queue_without p q x g = record { here = get-without_same p q x g; others = λ k d. get-without_other p q k x g d }
+
+-- a queue that isn't live doesn't change
+pub dead-queue : (p : Slots HeldQueue) (q : ℕ) (f : HeldQueue → HeldQueue) → slot_value p q ≡ None → changed p q f ≡ p
+dead-queue p q f g = ap (λ (o : Option HeldQueue). put p q (option_map f o)) g
+
+-- Handles that were given
+
+used-not_free : (generation other : ℕ) (x : HeldQueue) → used_slot generation x ≡ free_slot other → ⊥
+used-not_free generation other x e = no (ap (λ (s : Slot HeldQueue). s.value) e)
+  where
+    no : Some x ≡ None → ⊥
+    no d = cc
+
+-- the live handle's slot before
+was-live : (p : Slots HeldQueue) (h : ℕ) (x : HeldQueue) → slot_value p h ≡ Some x → (s : Slot HeldQueue) × (slice_get p.slots (slot_of h) ≡ Some s) × (s.generation ≡ generation_of h)
+was-live p h x g = let s = used_at_live (slice_get p.slots (slot_of h)) (generation_of h) x g in (s.0, s.1, s.2)
+
+pub given-live : (p : Slots HeldQueue) (q : ℕ) (x : HeldQueue) → slot_value p q ≡ Some x → WasGiven p q
+given-live p q x g slot there =
+    let s = used_at_live (slice_get p.slots (slot_of q)) (generation_of q) x g in
+    let same : s.0 ≡ slot = some_same (sym s.1 ∙ there) in
+    inr (sym s.2 ∙ ap (λ (z : Slot HeldQueue). z.generation) same, λ free. no (sym s.3 ∙ ap (λ (z : Slot HeldQueue). z.value) (same ∙ free)))
+  where
+    no : Some x ≡ None → ⊥
+    no d = cc
+
+-- another slot at the place of a handle
+given-set : (p : Slots HeldQueue) (h q : ℕ) (was new : Slot HeldQueue) → slice_get p.slots (slot_of h) ≡ Some was → (HasHad (generation_of q) was → HasHad (generation_of q) new) → WasGiven p q → WasGiven (record p { slots = set p.slots (slot_of h) new }) q
+given-set p h q was new there step old slot now = elim (cases_eq (slot_of q) (slot_of h)) [
+  | inl here ↦
+      let same : new ≡ slot = some_same (sym (slice_get-set_same p.slots (slot_of h) new was there) ∙ ap (slice_get (set p.slots (slot_of h) new)) (sym here) ∙ now) in
+      subst (λ (z : Slot HeldQueue). HasHad (generation_of q) z) same (step (old was (ap (slice_get p.slots) here ∙ there)))
+  | inr away ↦ old slot (sym (slice_get-set_other p.slots (slot_of h) (slot_of q) new away) ∙ now)
+]
+
+-- a later use of a slot of this generation
+had-used : (g generation : ℕ) (was : Slot HeldQueue) (x : HeldQueue) → was.generation ≡ generation → HasHad g was → HasHad g (used_slot generation x)
+had-used g generation was x e had = elim had [
+  | inl before ↦ inl (omega (arith, before, e))
+  | inr at ↦ inr (at.0 ∙ e, used-not_free generation g x)
+]
+
+pub given-changed : (p : Slots HeldQueue) (h q : ℕ) (f : HeldQueue → HeldQueue) (x : HeldQueue) → slot_value p h ≡ Some x → WasGiven p q → WasGiven (changed p h f) q
+given-changed p h q f x g old =
+    let s = was-live p h x g in
+    subst (λ (o : Option HeldQueue). WasGiven (put p h (option_map f o)) q) (sym g) (given-set p h q s.0 (used_slot (generation_of h) (f x)) s.1 (had-used (generation_of q) (generation_of h) s.0 (f x) s.2) old)
+
+pub given-insert : (p new : Slots HeldQueue) (h q : ℕ) (x : HeldQueue) → Inserts p new h x → WasGiven p q → WasGiven new q
+given-insert p new h q x i old =
+    subst (λ (n : Slots HeldQueue). WasGiven n q) (sym i.now) (given-set p h q (free_slot (generation_of h)) (used_slot (generation_of h) x) i.was_free (had-used (generation_of q) (generation_of h) (free_slot (generation_of h)) x refl) old)
+
+-- a handle that is given now wasn't given before
+pub given-new : (p new : Slots HeldQueue) (q : ℕ) (x : HeldQueue) → Inserts p new q x → WasGiven p q → ⊥
+given-new p new q x i given = elim (given (free_slot (generation_of q)) i.was_free) [
+  | inl before ↦ omega (arith, before)
+  | inr at ↦ at.1 refl
+]
+
+pub given-without : (p : Slots HeldQueue) (h q : ℕ) (x : HeldQueue) → slot_value p h ≡ Some x → WasGiven p q → WasGiven (without p h) q
+given-without p h q x g old =
+    let s = was-live p h x g in
+    given-set p h q s.0 (slot_after p.generations (generation_of h)) s.1 (after s.0 s.2 (generation_of h == p.generations)) old
+  where
+    no : true ≡ false → ⊥
+    no d = cc
+
+    after : (was : Slot HeldQueue) → was.generation ≡ generation_of h → (b : Bool) → HasHad (generation_of q) was → HasHad (generation_of q) (if b then record { generation = generation_of h; value = None; retired = true } else free_slot (generation_of h + 1))
+    after was e true had = elim had [
+      | inl before ↦ inl (omega (arith, before, e))
+      | inr at ↦ inr (at.0 ∙ e, λ free. no (ap (λ (z : Slot HeldQueue). z.retired) free))
+    ]
+    after was e false had = elim had [
+      | inl before ↦ inl (omega (arith, before, e))
+      | inr at ↦ inl (omega (arith, at.0, e))
+    ]

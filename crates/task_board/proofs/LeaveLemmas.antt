@@ -1,0 +1,247 @@
+-- What an end is of a board.
+use Rattle.std.proofs.Common.{◌≡◌, ◌≢◌, ◌+◌, ℕ, ◌<◌, true, List, length, length-set, Option, Some, None, set, slice_get, refl, sym, ◌∙◌, ap, subst, arith}
+use Rattle.std.specs.Prelude.{is_none}
+use Rattle.std.proofs.lemmas.Bool.{false≢true}
+use Rattle.mtapi_values.specs.declared.kinds.Kind.{Kind}
+use Rattle.mtapi_values.specs.declared.ends.TaskEnd.{TaskEnd}
+use Rattle.handle_pool.specs.Slots.{Slots, slot_of, slot_value, max_of, changed}
+use Rattle.handle_pool.proofs.WalkLemmas.{slot_of-live}
+use Rattle.linked_places.specs.Lists.{HandleLists, list_at, has_handle, without_handle, stands_at, NowhereAt, with_list}
+use Rattle.linked_places.proofs.HandleLemmas.{has-first}
+use Rattle.ready_index.specs.Marks.{ReadyMarks}
+use Rattle.mtapi_objects.specs.Tasks.{Task, TaskState, Scheduled, Running, Ended, end_of, is_unended}
+use Rattle.task_core.specs.Records.{shown_state}
+use Rattle.task_core.specs.declared.states.TaskState.TheVariants as shown
+use Rattle.task_core.specs.Table.{TaskTable, ended_in, IsLiveAnd}
+use Rattle.queue_core.specs.Held.{HeldQueue, QueueTable, without_task}
+use Rattle.task_board.specs.Seen.{Seen, seen_as, seen, seen_in}
+use Rattle.group_core.specs.Members.{GroupTable}
+use Rattle.task_board.specs.Members.{members_in, AreMembers, ended_member}
+use Rattle.task_board.specs.Queued.{begins_in, AreQueued, left_queue, head_of}
+use Rattle.task_board.specs.Board.{BoardTable, IsBoard, Marked, AreWaiting, AreRanked, IsFreshAt}
+use Rattle.task_board.proofs.SeenLemmas.{some_same}
+use Rattle.task_board.proofs.MoveLemmas.{has-sub, ranked-put, Put, Alone, Steady, alone, alone-old, put-ended, max-ended, marked-steady, marked-again, waiting-leave, waiting-same, running-end, running-same}
+use Rattle.task_board.proofs.RemarkLemmas.{seen-slot}
+use Rattle.task_board.proofs.GivenLemmas.{dead-queue, put-queue_changed}
+use Rattle.task_board.proofs.QueuedLemmas.{queued-out, queued-leave, begins-leave}
+use Rattle.task_board.proofs.BoardLemmas.{SameSizes, sizes-set, put-board, put-marked, steady-same, unmarked-none, one-list, one-length, seat-below, over-tasks}
+use Rattle.task_board.proofs.TaskMemberLemmas.{members-over}
+
+none-some : {A : Type 0} {P : Type 0} {x : A} → None ≡ Some x → P
+none-some e = absurd (cc)
+
+first-of : (queues : Slots HeldQueue) (q : ℕ) (x : HeldQueue) → slot_value queues q ≡ Some x → head_of queues (Some q) ≡ slice_get x.tasks 0
+first-of queues q x e = rw e refl
+
+no-first : (queues : Slots HeldQueue) (q : ℕ) → slot_value queues q ≡ None → head_of queues (Some q) ≡ None
+no-first queues q e = rw e refl
+
+-- an ended task leaves its queue, whose first task is marked anew
+pub record Leaves (b : BoardTable) (q : TaskTable) (queues : QueueTable) (cleared ready : ReadyMarks) (h : ℕ) (o : Option ℕ) : Type 0 where
+  left : queues ≡ record b.queues { pool = left_queue b.queues.pool o h }
+  cleared_is : cleared ≡ record b.ready { marks = set b.ready.marks (slot_of h) None }
+  fresh : IsFreshAt b.actions (begins_in queues.pool) (seen_in q.pool) (head_of queues.pool o) cleared ready
+
+pub leaves : (b : BoardTable) (q : TaskTable) (queues : QueueTable) (cleared ready : ReadyMarks) (h : ℕ) (o named : Option ℕ) → o ≡ named → queues ≡ record b.queues { pool = left_queue b.queues.pool o h } → cleared ≡ record b.ready { marks = set b.ready.marks (slot_of h) None } → IsFreshAt b.actions (begins_in queues.pool) (seen_in q.pool) (head_of queues.pool o) cleared ready → Leaves b q queues cleared ready h named
+leaves b q queues cleared ready h o named is left cleared_is fresh = subst (λ (z : Option ℕ). Leaves b q queues cleared ready h z) is (record { left = left; cleared_is = cleared_is; fresh = fresh })
+
+-- The state of the task
+
+pub scheduled-is : (x : TaskState) → shown.Scheduled ≡ shown_state x → x ≡ Scheduled
+scheduled-is Scheduled f = refl
+scheduled-is (Running v k) f = absurd (cc)
+scheduled-is (Ended y n) f = absurd (cc)
+
+pub running-is : (x : TaskState) (w : ℕ) (kind : Kind) → shown.Running w kind ≡ shown_state x → x ≡ Running w kind
+running-is Scheduled w kind f = absurd (cc)
+running-is (Running v k) w kind f = cc
+running-is (Ended y n) w kind f = absurd (cc)
+
+-- a task that hasn't ended is seen, with its queue
+unended-seen : (t : Task) (x : TaskState) → is_none (end_of x) ≡ true → (s : Seen) × (seen_as t x ≡ Some s) × (s.queue ≡ t.queue)
+unended-seen t Scheduled e = (_, refl, refl)
+unended-seen t (Running w k) e = (_, refl, refl)
+unended-seen t (Ended y n) e = absurd (false≢true e)
+
+-- its queue, if that is live, has it
+pub member-of : (b : BoardTable) (h : ℕ) (t : Task) (o : Option ℕ) → IsBoard b → slot_value b.tasks.pool h ≡ Some t → IsLiveAnd is_unended (slot_value b.tasks.pool h) → o ≡ t.queue → (q : ℕ) (x : HeldQueue) → o ≡ Some q → slot_value b.queues.pool q ≡ Some x → has_handle h x.tasks ≡ true
+member-of b h t o k g unended same q x names live =
+    let s = unended-seen t t.state (subst (λ (z : Option Task). IsLiveAnd is_unended z) g unended) in
+    k.queued.listed h q s.0 x (ap seen g ∙ s.1) (s.2 ∙ sym same ∙ names) live
+
+-- the slot of the first task of the queue, once the task has left it
+pub first-slot_of : (b : BoardTable) (h : ℕ) (o : Option ℕ) → IsBoard b → (j : ℕ) → head_of (left_queue b.queues.pool o h) o ≡ Some j → slot_of j < max_of b.tasks.pool
+first-slot_of b h None k j e = none-some e
+first-slot_of b h (Some q) k j e = by_live (slot_value b.queues.pool q) refl
+  where
+    by_live : (o : Option HeldQueue) → slot_value b.queues.pool q ≡ o → slot_of j < max_of b.tasks.pool
+    by_live None dead = none-some (sym (no-first (changed b.queues.pool q (without_task h)) q (ap (λ (z : Slots HeldQueue). slot_value z q) (dead-queue b.queues.pool q (without_task h) dead) ∙ dead)) ∙ e)
+    by_live (Some x) live =
+        let now = (put-queue_changed b.queues.pool q (without_task h) x live).here in
+        let has = has-first j (without_handle h x.tasks) (sym (first-of (changed b.queues.pool q (without_task h)) q (without_task h x) now) ∙ e) in
+        let s = k.queued.names j q x live (has-sub j h x.tasks has) in
+        seen-slot b.tasks.pool j s.0 s.1
+
+pub ended-ranked : (b : BoardTable) (q : Slots Task) (h n : ℕ) (e : TaskEnd) (t : Task) → IsBoard b → slot_value b.tasks.pool h ≡ Some t → q ≡ ended_in b.tasks.pool h e n (Some t) → AreRanked (seen_in q) b.settings.priorities
+ended-ranked b q h n e t k g is =
+    subst (λ (p : Slots Task). AreRanked (seen_in p) b.settings.priorities) (sym is)
+    (ranked-put (seen_in b.tasks.pool) _ h None b.settings.priorities (put-ended b.tasks.pool h e n t g) (λ s f. none-some f) k.ranked)
+
+-- The queue, the marks and the lists
+
+module _ (b : BoardTable) (q : TaskTable) (queues : QueueTable) (cleared ready : ReadyMarks) (h : ℕ) (s : Seen) (t : Task) (k : IsBoard b) (move : Put (seen_in b.tasks.pool) h None (seen_in q.pool)) (max : max_of q.pool ≡ max_of b.tasks.pool) (g : slot_value b.tasks.pool h ≡ Some t) (seen_was : seen_in b.tasks.pool h ≡ Some s) (l : Leaves b q queues cleared ready h s.queue) where
+  sizes-cleared : SameSizes b.ready cleared
+  sizes-cleared = sizes-set b.ready cleared (slot_of h) None l.cleared_is
+
+  sizes-left : SameSizes b.ready ready
+  sizes-left = by_head (head_of queues.pool s.queue) l.fresh
+    where
+      by_head : (o : Option ℕ) → IsFreshAt b.actions (begins_in queues.pool) (seen_in q.pool) o cleared ready → SameSizes b.ready ready
+      by_head None e = subst (λ (r : ReadyMarks). SameSizes b.ready r) (sym e) sizes-cleared
+      by_head (Some j) f =
+          let more = sizes-set cleared ready (slot_of j) f.mark f.now in
+          record { workers = more.workers ∙ sizes-cleared.workers; priorities = more.priorities ∙ sizes-cleared.priorities; slots = more.slots ∙ sizes-cleared.slots }
+
+  -- without the task, and with the queues as they were
+  marked-cleared : Marked b.actions (begins_in b.queues.pool) (seen_in q.pool) cleared.marks
+  marked-cleared =
+      put-marked b q b.queues.pool cleared h None None k move (steady-same b.queues.pool (seen_in b.tasks.pool) h) (alone-old b.tasks.pool h t None (seen_in q.pool) g move) (slot_of-live b.tasks.pool h t g) (unmarked-none b.actions (begins_in b.queues.pool h)) l.cleared_is
+
+  -- the list of the queue has changed
+  module _ (p : ℕ) (v : HeldQueue) (names : s.queue ≡ Some p) (live : slot_value b.queues.pool p ≡ Some v) where
+    pool-is : queues.pool ≡ changed b.queues.pool p (without_task h)
+    pool-is = ap (λ (z : QueueTable). z.pool) l.left ∙ ap (λ (o : Option ℕ). left_queue b.queues.pool o h) names
+
+    queue-is : slot_value queues.pool p ≡ Some (without_task h v)
+    queue-is = ap (λ (z : Slots HeldQueue). slot_value z p) pool-is ∙ (put-queue_changed b.queues.pool p (without_task h) v live).here
+
+    queued-live : AreQueued (seen_in q.pool) queues.pool b.settings.priorities
+    queued-live =
+        subst (λ (z : Slots HeldQueue). AreQueued (seen_in q.pool) z b.settings.priorities) (sym pool-is)
+        (queued-leave (seen_in b.tasks.pool) (seen_in q.pool) h p s b.queues.pool b.settings.priorities v move seen_was live names k.queued)
+
+    lets-same : (j : ℕ) (o : Option ℕ) → j ≢ h → ((i : ℕ) → slice_get (without_handle h v.tasks) 0 ≡ Some i → j ≢ i) → begins_in queues.pool j o ≡ begins_in b.queues.pool j o
+    lets-same j None d e = refl
+    lets-same j (Some z) d e = ap (λ (x : Slots HeldQueue). begins_in x j (Some z)) pool-is ∙ begins-leave b.queues.pool h p j z v live d e
+
+    unseen-now : (j : ℕ) (u : Seen) → seen_in q.pool j ≡ Some u → j ≢ h
+    unseen-now j u e here = none-some (sym move.here ∙ ap (seen_in q.pool) (sym here) ∙ e)
+
+    first-seen : (i : ℕ) → slice_get (without_handle h v.tasks) 0 ≡ Some i → (u : Seen) × (seen_in q.pool i ≡ Some u)
+    first-seen i some = let u = queued-live.names i p (without_task h v) queue-is (has-first i (without_handle h v.tasks) some) in (u.0, u.1)
+
+    steady-but : (i : ℕ) → slice_get (without_handle h v.tasks) 0 ≡ Some i → Steady (begins_in b.queues.pool) (begins_in queues.pool) (seen_in q.pool) i
+    unfolding Steady
+    steady-but i some j u d e n = lets-same j u.queue (unseen-now j u e) (λ a first here. d (here ∙ some_same (sym first ∙ some)))
+
+    alone-first : (i : ℕ) → (u : Seen) × (seen_in q.pool i ≡ Some u) → Alone (seen_in q.pool) i
+    unfolding Alone
+    alone-first i u j a e f = alone q.pool i j u.0 a u.1 f e
+
+    first-slot : (i : ℕ) → slice_get (without_handle h v.tasks) 0 ≡ Some i → slot_of i < length cleared.marks
+    first-slot i some =
+        let u = first-seen i some in
+        let less = seen-slot q.pool i u.0 u.1 in
+        omega (arith, less, max, sizes-cleared.slots, k.slots)
+
+    marked-first : (o : Option ℕ) → slice_get (without_handle h v.tasks) 0 ≡ o → IsFreshAt b.actions (begins_in queues.pool) (seen_in q.pool) o cleared ready → Marked b.actions (begins_in queues.pool) (seen_in q.pool) ready.marks
+    marked-first None none is =
+        subst (λ (r : ReadyMarks). Marked b.actions (begins_in queues.pool) (seen_in q.pool) r.marks) (sym is)
+        (marked-steady b.actions (begins_in b.queues.pool) (begins_in queues.pool) (seen_in q.pool) cleared.marks
+        (λ j u e n. lets-same j u.queue (unseen-now j u e) (λ i first. none-some (sym none ∙ first))) marked-cleared)
+    marked-first (Some i) some f =
+        subst (λ (r : ReadyMarks). Marked b.actions (begins_in queues.pool) (seen_in q.pool) r.marks) (sym f.now)
+        (marked-again b.actions (begins_in b.queues.pool) (begins_in queues.pool) (seen_in q.pool) i cleared.marks f.mark
+        (steady-but i some) (alone-first i (first-seen i some)) (first-slot i some) f.right marked-cleared)
+
+    head-is : head_of queues.pool s.queue ≡ slice_get (without_handle h v.tasks) 0
+    head-is = ap (head_of queues.pool) names ∙ first-of queues.pool p (without_task h v) queue-is
+
+    marked-live : Marked b.actions (begins_in queues.pool) (seen_in q.pool) ready.marks
+    marked-live = marked-first (slice_get (without_handle h v.tasks) 0) refl (subst (λ (o : Option ℕ). IsFreshAt b.actions (begins_in queues.pool) (seen_in q.pool) o cleared ready) head-is l.fresh)
+
+  -- what has left no live queue
+  module _ (out : (p : ℕ) (y : HeldQueue) → s.queue ≡ Some p → slot_value b.queues.pool p ≡ Some y → ⊥) (same : left_queue b.queues.pool s.queue h ≡ b.queues.pool) (none : head_of queues.pool s.queue ≡ None) where
+    pool-was : queues.pool ≡ b.queues.pool
+    pool-was = ap (λ (z : QueueTable). z.pool) l.left ∙ same
+
+    marked-was : Marked b.actions (begins_in queues.pool) (seen_in q.pool) ready.marks
+    marked-was =
+        let is = subst (λ (o : Option ℕ). IsFreshAt b.actions (begins_in queues.pool) (seen_in q.pool) o cleared ready) none l.fresh in
+        subst (λ (r : ReadyMarks). Marked b.actions (begins_in queues.pool) (seen_in q.pool) r.marks) (sym is)
+        (subst (λ (z : Slots HeldQueue). Marked b.actions (begins_in z) (seen_in q.pool) cleared.marks) (sym pool-was) marked-cleared)
+
+    queued-was : AreQueued (seen_in q.pool) queues.pool b.settings.priorities
+    queued-was =
+        subst (λ (z : Slots HeldQueue). AreQueued (seen_in q.pool) z b.settings.priorities) (sym pool-was)
+        (queued-out (seen_in b.tasks.pool) (seen_in q.pool) h b.queues.pool b.settings.priorities move
+        (λ p y there e. let u = k.queued.names h p y there e in out p y (ap (λ (z : Seen). z.queue) (some_same (sym seen_was ∙ u.1)) ∙ u.2) there) k.queued)
+
+  pub left-both : AreQueued (seen_in q.pool) queues.pool b.settings.priorities × Marked b.actions (begins_in queues.pool) (seen_in q.pool) ready.marks
+  left-both = by_queue s.queue refl
+    where
+      by_live : (p : ℕ) → s.queue ≡ Some p → (o : Option HeldQueue) → slot_value b.queues.pool p ≡ o → AreQueued (seen_in q.pool) queues.pool b.settings.priorities × Marked b.actions (begins_in queues.pool) (seen_in q.pool) ready.marks
+      by_live p names (Some v) live = (queued-live p v names live, marked-live p v names live)
+      by_live p names None dead =
+          let out = λ (i : ℕ) (y : HeldQueue) (e : s.queue ≡ Some i) (f : slot_value b.queues.pool i ≡ Some y). none-some (sym dead ∙ ap (slot_value b.queues.pool) (some_same (sym names ∙ e)) ∙ f) in
+          let same = ap (λ (o : Option ℕ). left_queue b.queues.pool o h) names ∙ dead-queue b.queues.pool p (without_task h) dead in
+          let none = ap (head_of queues.pool) names ∙ no-first queues.pool p (ap (λ (z : Slots HeldQueue). slot_value z p) (ap (λ (z : QueueTable). z.pool) l.left ∙ same) ∙ dead) in
+          (queued-was out same none, marked-was out same none)
+
+      by_queue : (o : Option ℕ) → s.queue ≡ o → AreQueued (seen_in q.pool) queues.pool b.settings.priorities × Marked b.actions (begins_in queues.pool) (seen_in q.pool) ready.marks
+      by_queue (Some p) names = by_live p names (slot_value b.queues.pool p) refl
+      by_queue None apart =
+          let out = λ (i : ℕ) (y : HeldQueue) (e : s.queue ≡ Some i) (f : slot_value b.queues.pool i ≡ Some y). none-some (sym apart ∙ e) in
+          let same = ap (λ (o : Option ℕ). left_queue b.queues.pool o h) apart in
+          let none = ap (head_of queues.pool) apart in
+          (queued-was out same none, marked-was out same none)
+
+pub end-waiting : (b : BoardTable) (q : TaskTable) (queues : QueueTable) (cleared ready : ReadyMarks) (waiting : HandleLists) (groups : GroupTable) (h : ℕ) (e : TaskEnd) (t : Task) → IsBoard b → slot_value b.tasks.pool h ≡ Some t → t.state ≡ Scheduled → q.pool ≡ ended_in b.tasks.pool h e b.tasks.ends (Some t) → q.starts ≡ b.tasks.starts → waiting ≡ with_list b.waiting 0 (without_handle h (list_at b.waiting.lists 0)) → NowhereAt (slot_of h) waiting.lists → Leaves b q queues cleared ready h t.queue → q.ends ≡ b.tasks.ends + 1 → groups ≡ ended_member b.groups t.notes.group h → IsBoard (record b { tasks = q; queues = queues; ready = ready; waiting = waiting; groups = groups })
+end-waiting b q queues cleared ready waiting groups h e t k g x pool count is gone l ends notes =
+    put-board b q queues ready waiting b.running groups h None k move (ap max_of pool ∙ max-ended b.tasks.pool h e b.tasks.ends (Some t))
+    (sizes-left b q queues cleared ready h seen_as_was t k move (ap max_of pool ∙ max-ended b.tasks.pool h e b.tasks.ends (Some t)) g was l) both.1 both.0 (ap (λ (z : QueueTable). z.tasks) l.left)
+    (ap (λ (z : HandleLists). z.places) is) (ap (λ (z : HandleLists). length z.lists) is ∙ one-length b.waiting _ k.lists) k.seats
+    (subst (λ (hs : List ℕ). AreWaiting (seen_in q.pool) hs) (sym list)
+    (waiting-leave (seen_in b.tasks.pool) (seen_in q.pool) h _ (list_at b.waiting.lists 0) move (λ s f o. none-some f) (ap (stands_at (slot_of h)) (sym list) ∙ gone 0) k.waiting_are))
+    (running-same (seen_in b.tasks.pool) (seen_in q.pool) h _ b.running move (λ s w f on. none-some (ap (λ (z : Seen). z.on) (some_same (sym was ∙ f)) ∙ on)) (λ s w f on. none-some f) k.running_are)
+    (λ s f. none-some f) (λ s f. none-some f) (omega (arith, count))
+    (ap (λ (z : GroupTable). z.tasks) notes ∙ over-tasks b.groups t.notes.group h)
+    (subst (λ (z : GroupTable). AreMembers (members_in q.pool) (slot_value z.pool) q.starts q.ends) (sym notes) (members-over b.tasks.pool q.pool h e t b.groups b.tasks.starts b.tasks.ends q.starts q.ends k.members g (ap (λ (y : TaskState). is_none (end_of y)) x) pool count ends))
+  where
+    move : Put (seen_in b.tasks.pool) h None (seen_in q.pool)
+    move = subst (λ (p : Slots Task). Put (seen_in b.tasks.pool) h None (seen_in p)) (sym pool) (put-ended b.tasks.pool h e b.tasks.ends t g)
+
+    seen_as_was : Seen
+    seen_as_was = record { job = t.job; priority = t.priority; cores = t.cores; queue = t.queue; start = t.start; on = None }
+
+    was : seen_in b.tasks.pool h ≡ Some seen_as_was
+    was = ap seen g ∙ ap (seen_as t) x
+
+    list : list_at waiting.lists 0 ≡ without_handle h (list_at b.waiting.lists 0)
+    list = ap (λ (z : HandleLists). list_at z.lists 0) is ∙ one-list b.waiting _ k.lists
+
+    both : AreQueued (seen_in q.pool) queues.pool b.settings.priorities × Marked b.actions (begins_in queues.pool) (seen_in q.pool) ready.marks
+    both = left-both b q queues cleared ready h seen_as_was t k move (ap max_of pool ∙ max-ended b.tasks.pool h e b.tasks.ends (Some t)) g was l
+
+pub end-running : (b : BoardTable) (q : TaskTable) (queues : QueueTable) (cleared ready : ReadyMarks) (groups : GroupTable) (h w : ℕ) (kind : Kind) (e : TaskEnd) (t : Task) → IsBoard b → slot_value b.tasks.pool h ≡ Some t → t.state ≡ Running w kind → q.pool ≡ ended_in b.tasks.pool h e b.tasks.ends (Some t) → q.starts ≡ b.tasks.starts → Leaves b q queues cleared ready h t.queue → q.ends ≡ b.tasks.ends + 1 → groups ≡ ended_member b.groups t.notes.group h → IsBoard (record b { tasks = q; queues = queues; ready = ready; running = set b.running w None; groups = groups })
+end-running b q queues cleared ready groups h w kind e t k g x pool count l ends notes =
+    put-board b q queues ready b.waiting (set b.running w None) groups h None k move (ap max_of pool ∙ max-ended b.tasks.pool h e b.tasks.ends (Some t))
+    (sizes-left b q queues cleared ready h seen_as_was t k move (ap max_of pool ∙ max-ended b.tasks.pool h e b.tasks.ends (Some t)) g was l) both.1 both.0 (ap (λ (z : QueueTable). z.tasks) l.left)
+    refl k.lists (length-set b.running w None ∙ k.seats)
+    (waiting-same (seen_in b.tasks.pool) (seen_in q.pool) h _ (list_at b.waiting.lists 0) move (λ s f o. none-some (sym o ∙ ap (λ (z : Seen). z.on) (some_same (sym f ∙ was)))) (λ s f o. none-some f) k.waiting_are)
+    (running-end (seen_in b.tasks.pool) (seen_in q.pool) h w _ b.running move was refl (omega (arith, seat-below b h w kind t k g x, k.seats)) k.running_are)
+    (λ s f. none-some f) (λ s f. none-some f) (omega (arith, count))
+    (ap (λ (z : GroupTable). z.tasks) notes ∙ over-tasks b.groups t.notes.group h)
+    (subst (λ (z : GroupTable). AreMembers (members_in q.pool) (slot_value z.pool) q.starts q.ends) (sym notes) (members-over b.tasks.pool q.pool h e t b.groups b.tasks.starts b.tasks.ends q.starts q.ends k.members g (ap (λ (y : TaskState). is_none (end_of y)) x) pool count ends))
+  where
+    move : Put (seen_in b.tasks.pool) h None (seen_in q.pool)
+    move = subst (λ (p : Slots Task). Put (seen_in b.tasks.pool) h None (seen_in p)) (sym pool) (put-ended b.tasks.pool h e b.tasks.ends t g)
+
+    seen_as_was : Seen
+    seen_as_was = record { job = t.job; priority = t.priority; cores = t.cores; queue = t.queue; start = t.start; on = Some w }
+
+    was : seen_in b.tasks.pool h ≡ Some seen_as_was
+    was = ap seen g ∙ ap (seen_as t) x
+
+    both : AreQueued (seen_in q.pool) queues.pool b.settings.priorities × Marked b.actions (begins_in queues.pool) (seen_in q.pool) ready.marks
+    both = left-both b q queues cleared ready h seen_as_was t k move (ap max_of pool ∙ max-ended b.tasks.pool h e b.tasks.ends (Some t)) g was l

@@ -1,0 +1,347 @@
+-- What each move of the tasks and of the queues keeps of the lists of the queues.
+use Rattle.std.proofs.Common.{◌≡◌, ◌≢◌, ℕ, ◌<◌, Bool, true, false, List, [], ◌∷◌, ◌++◌, Option, Some, None, refl, sym, ◌∙◌, ap, subst, inl, inr, arith}
+use Rattle.std.specs.Prelude.{◌==◌, ◌||◌, ◌&&◌, not, slice_get, if◌then◌else◌}
+use Rattle.std.proofs.lemmas.Bool.{false≢true, cases_eq, cases_Bool}
+use Rattle.mtapi_values.specs.Conditions.{holds}
+use Rattle.handle_pool.specs.Slots.{Slots, slot_value, Inserts, without, changed}
+use Rattle.linked_places.specs.Lists.{has_handle, without_handle}
+use Rattle.queue_core.specs.Held.{HeldQueue, held, with_task, without_task, with_opened}
+use Rattle.queue_ready.specs.Ready.{is_first, may_begin}
+use Rattle.mtapi_objects.specs.Queues.{Queue}
+use Rattle.task_board.specs.Seen.{Seen}
+use Rattle.task_board.specs.Queued.{InOrder, begins_in, WasGiven, AreQueued}
+use Rattle.task_board.proofs.SeenLemmas.{some_same}
+use Rattle.task_board.proofs.MarkLemmas.{same-number}
+use Rattle.task_board.proofs.MoveLemmas.{Put, has-append, or-left, or-right, or-first, or-only, eq-self, eq-other, has-without, order-same, order-starts, order-without, order-push}
+use Rattle.task_board.proofs.GivenLemmas.{PutQueue, put-queue_changed, put-queue_insert, put-queue_without, given-live, given-changed, given-insert, given-new, given-without}
+
+none-some : {A : Type 0} {P : Type 0} {x : A} → None ≡ Some x → P
+none-some e = absurd (cc)
+
+-- One task moves, and no queue's list changes
+
+-- what is seen of the task names the queue as its list says
+pub record NamesAs (at : ℕ → Option Seen) (h : ℕ) (x : Option Seen) (q : ℕ) (y : HeldQueue) : Type 0 where
+  pub there : has_handle h y.tasks ≡ true → (s : Seen) × (x ≡ Some s) × (s.queue ≡ Some q) × (s.job ≡ y.queue.job) × ((u : Seen) → at h ≡ Some u → u.start ≡ s.start)
+  pub back : (s : Seen) → x ≡ Some s → s.queue ≡ Some q → has_handle h y.tasks ≡ true
+
+pub queued-put : (at after : ℕ → Option Seen) (h : ℕ) (x : Option Seen) (queues : Slots HeldQueue) (n : ℕ) → Put at h x after → ((q : ℕ) (y : HeldQueue) → slot_value queues q ≡ Some y → NamesAs at h x q y) → ((q : ℕ) (s : Seen) → x ≡ Some s → s.on ≡ None → s.queue ≡ Some q → (y : HeldQueue) × (slot_value queues q ≡ Some y)) → ((q : ℕ) (s : Seen) → x ≡ Some s → s.queue ≡ Some q → WasGiven queues q) → AreQueued at queues n → AreQueued after queues n
+queued-put at after h x queues n move same live given old = record {
+  listed = λ k q s y e f g. elim (cases_eq k h) [
+    | inl here ↦ ap (λ (z : ℕ). has_handle z y.tasks) here ∙ (same q y g).back s (sym move.here ∙ ap after (sym here) ∙ e) f
+    | inr away ↦ old.listed k q s y (sym (move.others k away) ∙ e) f g
+  ];
+  names = λ k q y g e. elim (cases_eq k h) [
+    | inl here ↦ let s = (same q y g).there (ap (λ (z : ℕ). has_handle z y.tasks) (sym here) ∙ e) in (s.0, ap after here ∙ move.here ∙ s.1, s.2, s.3)
+    | inr away ↦ let s = old.names k q y g e in (s.0, move.others k away ∙ s.1, s.2, s.3)
+  ];
+  ordered = λ q y g. order-starts at after y.tasks
+      (λ k u e is. elim (cases_eq k h) [
+        | inl here ↦
+            let s = (same q y g).there (ap (λ (z : ℕ). has_handle z y.tasks) (sym here) ∙ e) in
+            let was = old.names k q y g e in
+            let now : u ≡ s.0 = some_same (sym is ∙ ap after here ∙ move.here ∙ s.1) in
+            (was.0, was.1, s.4 was.0 (ap at (sym here) ∙ was.1) ∙ ap (λ (z : Seen). z.start) (sym now))
+        | inr away ↦ (u, sym (move.others k away) ∙ is, refl)
+      ]) (old.ordered q y g);
+  live = λ k q s e o f. elim (cases_eq k h) [
+    | inl here ↦ live q s (sym move.here ∙ ap after (sym here) ∙ e) o f
+    | inr away ↦ old.live k q s (sym (move.others k away) ∙ e) o f
+  ];
+  given = λ k q s e f. elim (cases_eq k h) [
+    | inl here ↦ given q s (sym move.here ∙ ap after (sym here) ∙ e) f
+    | inr away ↦ old.given k q s (sym (move.others k away) ∙ e) f
+  ];
+  ranked = old.ranked;
+}
+
+-- a task of no queue starts
+pub queued-apart : (at after : ℕ → Option Seen) (h : ℕ) (s : Seen) (queues : Slots HeldQueue) (n : ℕ) → Put at h (Some s) after → at h ≡ None → s.queue ≡ None → AreQueued at queues n → AreQueued after queues n
+queued-apart at after h s queues n move none apart old =
+    queued-put at after h (Some s) queues n move
+    (λ q y g. record {
+      there = λ e. let u = old.names h q y g e in none-some (sym none ∙ u.1);
+      back = λ u e f. none-some (sym apart ∙ ap (λ (z : Seen). z.queue) (some_same e) ∙ f);
+    })
+    (λ q u e o f. none-some (sym apart ∙ ap (λ (z : Seen). z.queue) (some_same e) ∙ f))
+    (λ q u e f. none-some (sym apart ∙ ap (λ (z : Seen). z.queue) (some_same e) ∙ f)) old
+
+-- a task begins to run
+pub queued-run : (at after : ℕ → Option Seen) (h w : ℕ) (was s : Seen) (queues : Slots HeldQueue) (n : ℕ) → Put at h (Some s) after → at h ≡ Some was → was.queue ≡ s.queue → was.job ≡ s.job → was.start ≡ s.start → s.on ≡ Some w → AreQueued at queues n → AreQueued after queues n
+queued-run at after h w was s queues n move seen queue job start on old =
+    queued-put at after h (Some s) queues n move
+    (λ q y g. record {
+      there = λ e.
+          let u = old.names h q y g e in
+          let same : was ≡ u.0 = some_same (sym seen ∙ u.1) in
+          (s, refl, sym queue ∙ ap (λ (z : Seen). z.queue) same ∙ u.2, sym job ∙ ap (λ (z : Seen). z.job) same ∙ u.3, λ v e. ap (λ (z : Seen). z.start) (some_same (sym e ∙ seen)) ∙ start);
+      back = λ u e f. old.listed h q was y seen (queue ∙ ap (λ (z : Seen). z.queue) (some_same e) ∙ f) g;
+    })
+    (λ q u e o f. none-some (sym o ∙ ap (λ (z : Seen). z.on) (sym (some_same e)) ∙ on))
+    (λ q u e f. old.given h q was seen (queue ∙ ap (λ (z : Seen). z.queue) (some_same e) ∙ f)) old
+
+-- a task ends that is in no live queue
+pub queued-out : (at after : ℕ → Option Seen) (h : ℕ) (queues : Slots HeldQueue) (n : ℕ) → Put at h None after → ((q : ℕ) (y : HeldQueue) → slot_value queues q ≡ Some y → has_handle h y.tasks ≡ true → ⊥) → AreQueued at queues n → AreQueued after queues n
+queued-out at after h queues n move out old =
+    queued-put at after h None queues n move
+    (λ q y g. record { there = λ e. absurd (out q y g e); back = λ u e f. none-some e })
+    (λ q u e o f. none-some e) (λ q u e f. none-some e) old
+
+-- One task moves, and the list of its queue with it
+
+-- the lists of all other queues, and what they say
+module _ (at after : ℕ → Option Seen) (h q : ℕ) (x : Option Seen) (old new : Slots HeldQueue) (n : ℕ) (v y : HeldQueue) (move : Put at h x after) (turn : PutQueue old q (Some y) new) (was : slot_value old q ≡ Some v) (same : y.queue ≡ v.queue) (k : AreQueued at old n) where
+  -- the queue of another handle
+  pub record Lists : Type 0 where
+    pub listed : (j : ℕ) (s : Seen) → after j ≡ Some s → s.queue ≡ Some q → has_handle j y.tasks ≡ true
+    pub names : (j : ℕ) → has_handle j y.tasks ≡ true → (s : Seen) × (after j ≡ Some s) × (s.queue ≡ Some q) × (s.job ≡ v.queue.job)
+    pub ordered : InOrder after y.tasks
+    pub apart : (p : ℕ) (z : HeldQueue) → p ≢ q → slot_value old p ≡ Some z → has_handle h z.tasks ≡ false
+    pub only : (s : Seen) (p : ℕ) → x ≡ Some s → s.queue ≡ Some p → p ≡ q
+    pub given : (p : ℕ) → WasGiven old p → WasGiven new p
+
+  pub queued-turn : Lists → AreQueued after new n
+  queued-turn l = record {
+    listed = λ j p s z e f g. elim (cases_eq p q) [
+      | inl here ↦
+          let is : y ≡ z = some_same (sym turn.here ∙ ap (slot_value new) (sym here) ∙ g) in
+          ap (λ (u : HeldQueue). has_handle j u.tasks) (sym is) ∙ l.listed j s e (f ∙ ap Some here)
+      | inr away ↦ elim (cases_eq j h) [
+        | inl too ↦ absurd (away (l.only s p (sym move.here ∙ ap after (sym too) ∙ e) f))
+        | inr other ↦ k.listed j p s z (sym (move.others j other) ∙ e) f (sym (turn.others p away) ∙ g)
+      ]
+    ];
+    names = λ j p z g e. elim (cases_eq p q) [
+      | inl here ↦
+          let is : y ≡ z = some_same (sym turn.here ∙ ap (slot_value new) (sym here) ∙ g) in
+          let s = l.names j (ap (λ (u : HeldQueue). has_handle j u.tasks) is ∙ e) in
+          (s.0, s.1, s.2 ∙ ap Some (sym here), s.3 ∙ ap (λ (u : Queue). u.job) (sym same) ∙ ap (λ (u : HeldQueue). u.queue.job) is)
+      | inr away ↦
+          let there = sym (turn.others p away) ∙ g in
+          elim (cases_eq j h) [
+            | inl too ↦ absurd (false≢true (sym (l.apart p z away there) ∙ ap (λ (i : ℕ). has_handle i z.tasks) (sym too) ∙ e))
+            | inr other ↦ let s = k.names j p z there e in (s.0, move.others j other ∙ s.1, s.2, s.3)
+          ]
+    ];
+    ordered = λ p z g. elim (cases_eq p q) [
+      | inl here ↦ subst (λ (u : HeldQueue). InOrder after u.tasks) (some_same (sym turn.here ∙ ap (slot_value new) (sym here) ∙ g)) l.ordered
+      | inr away ↦
+          let there = sym (turn.others p away) ∙ g in
+          order-same at after z.tasks (λ j e. move.others j (λ too. false≢true (sym (l.apart p z away there) ∙ ap (λ (i : ℕ). has_handle i z.tasks) (sym too) ∙ e))) (k.ordered p z there)
+    ];
+    live = λ j p s e o f. elim (cases_eq p q) [
+      | inl here ↦ (_, ap (slot_value new) here ∙ turn.here)
+      | inr away ↦ elim (cases_eq j h) [
+        | inl too ↦ absurd (away (l.only s p (sym move.here ∙ ap after (sym too) ∙ e) f))
+        | inr other ↦ subst (λ (u : Option HeldQueue). (z : HeldQueue) × (u ≡ Some z)) (sym (turn.others p away)) (k.live j p s (sym (move.others j other) ∙ e) o f)
+      ]
+    ];
+    given = λ j p s e f. elim (cases_eq j h) [
+      | inl too ↦ subst (λ (i : ℕ). WasGiven new i) (sym (l.only s p (sym move.here ∙ ap after (sym too) ∙ e) f)) (given-live new q y turn.here)
+      | inr other ↦ l.given p (k.given j p s (sym (move.others j other) ∙ e) f)
+    ];
+    ranked = λ p z g. elim (cases_eq p q) [
+      | inl here ↦
+          let is : y ≡ z = some_same (sym turn.here ∙ ap (slot_value new) (sym here) ∙ g) in
+          subst (λ (u : HeldQueue). u.queue.priority < n) is (subst (λ (u : Queue). u.priority < n) (sym same) (k.ranked q v was))
+      | inr away ↦ k.ranked p z (sym (turn.others p away) ∙ g)
+    ];
+  }
+
+-- a new task is put into a queue
+pub queued-enqueue : (at after : ℕ → Option Seen) (h q : ℕ) (s : Seen) (old : Slots HeldQueue) (n : ℕ) (v : HeldQueue) → Put at h (Some s) after → at h ≡ None → slot_value old q ≡ Some v → s.queue ≡ Some q → s.job ≡ v.queue.job → ((j : ℕ) (u : Seen) → at j ≡ Some u → u.start < s.start) → AreQueued at old n → AreQueued after (changed old q (with_task h)) n
+queued-enqueue at after h q s old n v move none was queue job last k =
+    queued-turn at after h q (Some s) old (changed old q (with_task h)) n v (with_task h v) move (put-queue_changed old q (with_task h) v was) was refl k (record {
+      listed = λ j u e f. elim (cases_eq j h) [
+        | inl here ↦ has-append j v.tasks (h ∷ []) ∙ or-right (has_handle j v.tasks) _ (or-left (h == j) false (ap (λ (z : ℕ). h == z) here ∙ eq-self h))
+        | inr away ↦ has-append j v.tasks (h ∷ []) ∙ or-left (has_handle j v.tasks) _ (k.listed j q u v (sym (move.others j away) ∙ e) f was)
+      ];
+      names = λ j e. elim (cases_eq j h) [
+        | inl here ↦ (s, ap after here ∙ move.here, queue, job)
+        | inr away ↦
+            let u = k.names j q v was (or-first (has_handle j v.tasks) _ (ap (λ (b : Bool). b || false) (eq-other h j away)) (sym (has-append j v.tasks (h ∷ [])) ∙ e)) in
+            (u.0, move.others j away ∙ u.1, u.2, u.3)
+      ];
+      ordered = order-push at after h s v.tasks (λ j e. move.others j (λ too. apart q v was (ap (λ (i : ℕ). has_handle i v.tasks) (sym too) ∙ e))) move.here (λ j u e f. last j u f) (k.ordered q v was);
+      apart = λ p z away there. elim (cases_Bool (has_handle h z.tasks)) [
+        | inl on ↦ absurd (apart p z there on)
+        | inr off ↦ off
+      ];
+      only = λ u p e f. some_same (sym f ∙ ap (λ (z : Seen). z.queue) (sym (some_same e)) ∙ queue);
+      given = λ p g. given-changed old q p (with_task h) v was g;
+    })
+  where
+    apart : (p : ℕ) (z : HeldQueue) → slot_value old p ≡ Some z → has_handle h z.tasks ≡ true → ⊥
+    apart p z there e = let u = k.names h p z there e in none-some (sym none ∙ u.1)
+
+-- an ended task leaves its queue
+pub queued-leave : (at after : ℕ → Option Seen) (h q : ℕ) (s : Seen) (old : Slots HeldQueue) (n : ℕ) (v : HeldQueue) → Put at h None after → at h ≡ Some s → slot_value old q ≡ Some v → s.queue ≡ Some q → AreQueued at old n → AreQueued after (changed old q (without_task h)) n
+queued-leave at after h q s old n v move seen was queue k =
+    queued-turn at after h q None old (changed old q (without_task h)) n v (without_task h v) move (put-queue_changed old q (without_task h) v was) was refl k (record {
+      listed = λ j u e f. elim (cases_eq j h) [
+        | inl here ↦ none-some (sym move.here ∙ ap after (sym here) ∙ e)
+        | inr away ↦ has-without h j v.tasks away ∙ k.listed j q u v (sym (move.others j away) ∙ e) f was
+      ];
+      names = λ j e.
+          let away : j ≢ h = λ here. left-out at h s v.tasks seen (k.ordered q v was) (ap (λ (i : ℕ). has_handle i (without_handle h v.tasks)) (sym here) ∙ e) in
+          let u = k.names j q v was (sym (has-without h j v.tasks away) ∙ e) in
+          (u.0, move.others j away ∙ u.1, u.2, u.3);
+      ordered = order-same at after (without_handle h v.tasks) (λ j e. move.others j (λ here. left-out at h s v.tasks seen (k.ordered q v was) (ap (λ (i : ℕ). has_handle i (without_handle h v.tasks)) (sym here) ∙ e))) (order-without at h v.tasks (k.ordered q v was));
+      apart = λ p z away there. elim (cases_Bool (has_handle h z.tasks)) [
+        | inl on ↦
+            let u = k.names h p z there on in
+            let same : s ≡ u.0 = some_same (sym seen ∙ u.1) in
+            absurd (away (some_same (sym u.2 ∙ ap (λ (i : Seen). i.queue) (sym same) ∙ queue)))
+        | inr off ↦ off
+      ];
+      only = λ u p e f. none-some e;
+      given = λ p g. given-changed old q p (without_task h) v was g;
+    })
+  where
+    -- a list in order has a handle once
+    left-out : (at : ℕ → Option Seen) (h : ℕ) (s : Seen) (hs : List ℕ) → at h ≡ Some s → InOrder at hs → has_handle h (without_handle h hs) ≡ true → ⊥
+    left-out at h s [] e o f = false≢true f
+    left-out at h s (a ∷ hs) e o f = by_test (a == h) refl f (left-out at h s hs e o.1)
+      where
+        less : s.start < s.start → ⊥
+        less l = omega (arith, l)
+
+        by_test : (b : Bool) → (a == h) ≡ b → has_handle h (if b then hs else a ∷ without_handle h hs) ≡ true → (has_handle h (without_handle h hs) ≡ true → ⊥) → ⊥
+        by_test true is g rest = let same : a ≡ h = same-number a h is in less (o.0 h s s g (ap at same ∙ e) e)
+        by_test false is g rest = rest (or-only (a == h) _ is g)
+
+-- A queue changes, and no task does
+
+pub queued-with : (at : ℕ → Option Seen) (q : ℕ) (old : Slots HeldQueue) (n : ℕ) (v : HeldQueue) (on : Bool) → slot_value old q ≡ Some v → AreQueued at old n → AreQueued at (changed old q (with_opened on)) n
+queued-with at q old n v on was k = record {
+  listed = λ j p s z e f g. elim (cases_eq p q) [
+    | inl here ↦ ap (λ (u : HeldQueue). has_handle j u.tasks) (sym (is p z here g)) ∙ k.listed j q s v e (f ∙ ap Some here) was
+    | inr away ↦ k.listed j p s z e f (sym (turn.others p away) ∙ g)
+  ];
+  names = λ j p z g e. elim (cases_eq p q) [
+    | inl here ↦
+        let s = k.names j q v was (ap (λ (u : HeldQueue). has_handle j u.tasks) (is p z here g) ∙ e) in
+        (s.0, s.1, s.2 ∙ ap Some (sym here), s.3 ∙ ap (λ (u : HeldQueue). u.queue.job) (is p z here g))
+    | inr away ↦ k.names j p z (sym (turn.others p away) ∙ g) e
+  ];
+  ordered = λ p z g. elim (cases_eq p q) [
+    | inl here ↦ subst (λ (u : HeldQueue). InOrder at u.tasks) (is p z here g) (k.ordered q v was)
+    | inr away ↦ k.ordered p z (sym (turn.others p away) ∙ g)
+  ];
+  live = λ j p s e o f. elim (cases_eq p q) [
+    | inl here ↦ (_, ap (slot_value (changed old q (with_opened on))) here ∙ turn.here)
+    | inr away ↦ subst (λ (u : Option HeldQueue). (z : HeldQueue) × (u ≡ Some z)) (sym (turn.others p away)) (k.live j p s e o f)
+  ];
+  given = λ j p s e f. given-changed old q p (with_opened on) v was (k.given j p s e f);
+  ranked = λ p z g. elim (cases_eq p q) [
+    | inl here ↦ subst (λ (u : HeldQueue). u.queue.priority < n) (is p z here g) (k.ranked q v was)
+    | inr away ↦ k.ranked p z (sym (turn.others p away) ∙ g)
+  ];
+}
+  where
+    turn : PutQueue old q (Some (with_opened on v)) (changed old q (with_opened on))
+    turn = put-queue_changed old q (with_opened on) v was
+
+    is : (p : ℕ) (z : HeldQueue) → p ≡ q → slot_value (changed old q (with_opened on)) p ≡ Some z → with_opened on v ≡ z
+    is p z here g = some_same (sym turn.here ∙ ap (slot_value (changed old q (with_opened on))) (sym here) ∙ g)
+
+pub queued-new : (at : ℕ → Option Seen) (q : ℕ) (old new : Slots HeldQueue) (n : ℕ) (r : Queue) → Inserts old new q (held r []) → r.priority < n → AreQueued at old n → AreQueued at new n
+queued-new at q old new n r i rank k = record {
+  listed = λ j p s z e f g. elim (cases_eq p q) [
+    | inl here ↦ absurd (given-new old new q (held r []) i (subst (λ (u : ℕ). WasGiven old u) here (k.given j p s e f)))
+    | inr away ↦ k.listed j p s z e f (sym (turn.others p away) ∙ g)
+  ];
+  names = λ j p z g e. elim (cases_eq p q) [
+    | inl here ↦ absurd (false≢true (ap (λ (u : HeldQueue). has_handle j u.tasks) (is p z here g) ∙ e))
+    | inr away ↦ k.names j p z (sym (turn.others p away) ∙ g) e
+  ];
+  ordered = λ p z g. elim (cases_eq p q) [
+    | inl here ↦ subst (λ (u : HeldQueue). InOrder at u.tasks) (is p z here g) tt
+    | inr away ↦ k.ordered p z (sym (turn.others p away) ∙ g)
+  ];
+  live = λ j p s e o f. elim (cases_eq p q) [
+    | inl here ↦ (_, ap (slot_value new) here ∙ turn.here)
+    | inr away ↦ subst (λ (u : Option HeldQueue). (z : HeldQueue) × (u ≡ Some z)) (sym (turn.others p away)) (k.live j p s e o f)
+  ];
+  given = λ j p s e f. given-insert old new q p (held r []) i (k.given j p s e f);
+  ranked = λ p z g. elim (cases_eq p q) [
+    | inl here ↦ subst (λ (u : HeldQueue). u.queue.priority < n) (is p z here g) rank
+    | inr away ↦ k.ranked p z (sym (turn.others p away) ∙ g)
+  ];
+}
+  where
+    turn : PutQueue old q (Some (held r [])) new
+    turn = put-queue_insert old new q (held r []) i
+
+    is : (p : ℕ) (z : HeldQueue) → p ≡ q → slot_value new p ≡ Some z → held r [] ≡ z
+    is p z here g = some_same (sym turn.here ∙ ap (slot_value new) (sym here) ∙ g)
+
+-- a queue goes whose tasks that haven't ended all run
+pub queued-gone : (at : ℕ → Option Seen) (q : ℕ) (old : Slots HeldQueue) (n : ℕ) (v : HeldQueue) → slot_value old q ≡ Some v → ((h : ℕ) (s : Seen) → at h ≡ Some s → s.on ≡ None → s.queue ≡ Some q → ⊥) → AreQueued at old n → AreQueued at (without old q) n
+queued-gone at q old n v was none k = record {
+  listed = λ j p s z e f g. k.listed j p s z e f (there p z g);
+  names = λ j p z g e. k.names j p z (there p z g) e;
+  ordered = λ p z g. k.ordered p z (there p z g);
+  live = λ j p s e o f. elim (cases_eq p q) [
+    | inl here ↦ absurd (none j s e o (f ∙ ap Some here))
+    | inr away ↦ subst (λ (u : Option HeldQueue). (z : HeldQueue) × (u ≡ Some z)) (sym (turn.others p away)) (k.live j p s e o f)
+  ];
+  given = λ j p s e f. given-without old q p v was (k.given j p s e f);
+  ranked = λ p z g. k.ranked p z (there p z g);
+}
+  where
+    turn : PutQueue old q None (without old q)
+    turn = put-queue_without old q v was
+
+    there : (p : ℕ) (z : HeldQueue) → slot_value (without old q) p ≡ Some z → slot_value old p ≡ Some z
+    there p z g = elim (cases_eq p q) [
+      | inl here ↦ none-some (sym turn.here ∙ ap (slot_value (without old q)) (sym here) ∙ g)
+      | inr away ↦ sym (turn.others p away) ∙ g
+    ]
+
+-- What a queue lets begin
+
+-- a queue that doesn't change lets the same tasks begin
+pub begins-same : (old new : Slots HeldQueue) (h q : ℕ) → slot_value new q ≡ slot_value old q → begins_in new h (Some q) ≡ begins_in old h (Some q)
+begins-same old new h q e = ap (λ (o : Option HeldQueue). holds (λ (x : HeldQueue). may_begin h x.queue x.tasks) o) e
+
+-- the list of the queue has changed, but it has the same first task, or another one than this before and after
+begins-list : (old new : Slots HeldQueue) (h q : ℕ) (v y : HeldQueue) → slot_value old q ≡ Some v → slot_value new q ≡ Some y → y.queue ≡ v.queue → is_first h y.tasks ≡ is_first h v.tasks → begins_in new h (Some q) ≡ begins_in old h (Some q)
+begins-list old new h q v y a b same first =
+    ap (λ (o : Option HeldQueue). holds (λ (x : HeldQueue). may_begin h x.queue x.tasks) o) b
+    ∙ (λ i. (same i).enabled && (not (same i).ordered || first i))
+    ∙ ap (λ (o : Option HeldQueue). holds (λ (x : HeldQueue). may_begin h x.queue x.tasks) o) (sym a)
+
+first-push : (h k : ℕ) (hs : List ℕ) → k ≢ h → is_first k (hs ++ h ∷ []) ≡ is_first k hs
+first-push h k [] d = eq-other h k d
+first-push h k (a ∷ hs) d = refl
+
+first-leave : (h k : ℕ) (hs : List ℕ) → k ≢ h → ((j : ℕ) → slice_get (without_handle h hs) 0 ≡ Some j → k ≢ j) → is_first k (without_handle h hs) ≡ is_first k hs
+first-leave h k [] d e = refl
+first-leave h k (a ∷ hs) d e = by_test (a == h) refl e
+  where
+    away : (l : List ℕ) → ((j : ℕ) → slice_get l 0 ≡ Some j → k ≢ j) → is_first k l ≡ false
+    away [] f = refl
+    away (b ∷ l) f = eq-other b k (f b refl)
+
+    by_test : (b : Bool) → (a == h) ≡ b → ((j : ℕ) → slice_get (if b then hs else a ∷ without_handle h hs) 0 ≡ Some j → k ≢ j) → is_first k (if b then hs else a ∷ without_handle h hs) ≡ (a == k)
+    by_test true is f = away hs f ∙ sym (eq-other a k (λ z. d (z ∙ same-number a h is)))
+    by_test false is f = refl
+
+pub begins-enqueue : (old : Slots HeldQueue) (h q k p : ℕ) (v : HeldQueue) → slot_value old q ≡ Some v → k ≢ h → begins_in (changed old q (with_task h)) k (Some p) ≡ begins_in old k (Some p)
+begins-enqueue old h q k p v was d = elim (cases_eq p q) [
+  | inl here ↦
+      ap (λ (i : ℕ). begins_in (changed old q (with_task h)) k (Some i)) here
+      ∙ begins-list old (changed old q (with_task h)) k q v (with_task h v) was (put-queue_changed old q (with_task h) v was).here refl (first-push h k v.tasks d)
+      ∙ ap (λ (i : ℕ). begins_in old k (Some i)) (sym here)
+  | inr away ↦ begins-same old (changed old q (with_task h)) k p ((put-queue_changed old q (with_task h) v was).others p away)
+]
+
+pub begins-leave : (old : Slots HeldQueue) (h q k p : ℕ) (v : HeldQueue) → slot_value old q ≡ Some v → k ≢ h → ((j : ℕ) → slice_get (without_handle h v.tasks) 0 ≡ Some j → k ≢ j) → begins_in (changed old q (without_task h)) k (Some p) ≡ begins_in old k (Some p)
+begins-leave old h q k p v was d e = elim (cases_eq p q) [
+  | inl here ↦
+      ap (λ (i : ℕ). begins_in (changed old q (without_task h)) k (Some i)) here
+      ∙ begins-list old (changed old q (without_task h)) k q v (without_task h v) was (put-queue_changed old q (without_task h) v was).here refl (first-leave h k v.tasks d e)
+      ∙ ap (λ (i : ℕ). begins_in old k (Some i)) (sym here)
+  | inr away ↦ begins-same old (changed old q (without_task h)) k p ((put-queue_changed old q (without_task h) v was).others p away)
+]

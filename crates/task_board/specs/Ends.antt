@@ -1,0 +1,55 @@
+-- Ends of waiting tasks, many at once.
+use Rattle.std.specs.Prelude.{◌≡◌, ℕ, ◌+◌, Bool, not, ◌&&◌, ◌==◌, List, [], ◌∷◌, Option, if◌then◌else◌}
+use Rattle.mtapi_values.specs.declared.ends.TaskEnd.{TaskEnd}
+use Rattle.mtapi_values.specs.declared.masks.Mask.{Mask}
+use Rattle.mtapi_values.specs.Conditions.{holds}
+use Rattle.mtapi_values.specs.Masks.{in_mask}
+use Rattle.handle_pool.specs.Slots.{Slots, slot_value}
+use Rattle.mtapi_objects.specs.Actions.{Action, some_below}
+use Rattle.mtapi_objects.specs.Tasks.{Task}
+use Rattle.mtapi_objects.specs.Queues.{Queue, is_in}
+use Rattle.job_table.specs.Answers.{IsUnion}
+use Rattle.task_core.specs.Table.{TaskTable, ended_in}
+use Rattle.task_board.specs.declared.ends.WaitingTest.{WaitingTest}
+use Rattle.task_board.specs.declared.ends.WaitingTest.TheVariants.{Unserved, InQueue, Shut}
+use Rattle.task_board.specs.Seen.{seen_in}
+use Rattle.task_board.specs.Board.{AreWaiting}
+
+-- the task has this job, and of so many workers none is on these cores and on those of the task
+abbrev pub is_unserved : ℕ → ℕ → ℕ → Task → Bool
+is_unserved workers job cores t = (t.job == job) && not (some_below workers (λ w. in_mask w cores && in_mask w t.cores))
+
+-- a queue is named that is live and disabled
+abbrev pub is_shut : Slots Queue → Option ℕ → Bool
+is_shut queues o = holds (λ q. holds (λ x. not x.enabled) (slot_value queues q)) o
+
+-- with so many workers and these queues, the task passes the test
+abbrev pub passes : ℕ → Slots Queue → WaitingTest → Task → Bool
+passes workers queues (Unserved job cores) t = is_unserved workers job cores.0 t
+passes workers queues (InQueue queue) t = is_in queue.0 t
+passes workers queues Shut t = is_shut queues t.queue
+
+-- the tasks once this one has ended, with the next number of an end
+abbrev pub ended_next : TaskEnd → ℕ → TaskTable → TaskTable
+ended_next e h q = record q { pool = ended_in q.pool h e q.ends (slot_value q.pool h); ends = q.ends + 1 }
+
+-- the same where it passes; else the tasks as they were
+abbrev pub ended_if : (Task → Bool) → TaskEnd → ℕ → TaskTable → TaskTable
+ended_if p e h q = if holds p (slot_value q.pool h) then ended_next e h q else q
+
+-- the tasks once each of these that passes has ended, one after the other
+abbrev pub ended_each : (Task → Bool) → TaskEnd → List ℕ → TaskTable → TaskTable
+ended_each p e [] q = q
+ended_each p e (h ∷ hs) q = ended_each p e hs (ended_if p e h q)
+
+-- each task that hasn't begun and passes ends, in the order of their starts
+pub record EndsWaiting (p : Task → Bool) (e : TaskEnd) (old new : TaskTable) : Type 0 where
+  pub list : List ℕ
+  pub waiting : AreWaiting (seen_in old.pool) list
+  pub now : new ≡ ended_each p e list old
+
+-- each task of the job that hasn't begun and that no worker can take ends, in the order of their starts
+pub record EndsUnserved (workers : ℕ) (actions : Slots Action) (job : ℕ) (e : TaskEnd) (old new : TaskTable) : Type 0 where
+  pub mask : Mask
+  pub covered : IsUnion actions job mask.0
+  pub ends : EndsWaiting (is_unserved workers job mask.0) e old new

@@ -1,0 +1,136 @@
+//! Ends of waiting tasks, many at once.
+
+ghost use Rattle.std.specs.Prelude.{◌≡◌, ◌==◌, ℕ, true, ◌<◌};
+ghost use Rattle.mtapi_values.specs.Conditions.{holds};
+ghost use Rattle.handle_pool.specs.Slots.{Slots, slot_value};
+ghost use Rattle.mtapi_values.specs.declared.ends.TaskEnd.TheVariants.{Failed, Cancelled};
+ghost use Rattle.mtapi_objects.specs.Actions.{Action};
+ghost use Rattle.mtapi_objects.specs.Tasks.{is_unstarted};
+ghost use Rattle.job_table.specs.Answers.{Covers, IsUnion};
+ghost use Rattle.task_core.specs.Table.{IsLiveAnd};
+ghost use Rattle.mtapi_objects.specs.Queues.{is_in};
+ghost use Rattle.task_core.specs.Records.{queue_number};
+ghost use Rattle.task_board.specs.Board.{IsBoard, Becomes, records_of};
+ghost use Rattle.task_board.specs.Ends.{is_shut, passes, ended_if, EndsWaiting, EndsUnserved};
+
+use crate::board::Board;
+use crate::cores::share_core;
+use job_table::Cover;
+use mtapi_values::{Mask, MtapiStatus, QueueHandle, TaskEnd, TaskHandle};
+use task_core::TaskRecord;
+
+/// Which of the tasks that haven't begun a call ends.
+#[derive(Clone, Copy, Drop)]
+pub enum WaitingTest {
+    /// Those of this job that none of the workers on these cores may run.
+    Unserved { job: u32, cores: Mask },
+    /// Those that name this queue.
+    InQueue { queue: QueueHandle },
+    /// Those that name a queue that is disabled.
+    Shut,
+}
+
+// Whether there is a queue, and it is this one.
+fn is_named(queue: QueueHandle, named: Option<QueueHandle>) -> bool
+    ensures { result ≡ holds (λ h. h == queue.0) (queue_number named) }
+{
+    match named {
+        Some(named) => named.0 == queue.0,
+        None => false,
+    }
+}
+
+// The cores that the enabled actions of a job cover.
+fn covered_cores(cover: Cover) -> Mask
+    ensures { (actions : Slots Action) (job : ℕ) → Covers actions job cover → IsUnion actions job result.0 }
+{
+    match cover {
+        Cover::NoAction | Cover::AllDisabled => Mask(0),
+        Cover::Cores(mask) => mask,
+    }
+}
+
+impl Board {
+    // Whether a task names a queue that is disabled.
+    fn is_shut(&self, queue: Option<QueueHandle>) -> bool
+        ensures { result ≡ is_shut (records_of self.now.queues.pool) (queue_number queue) }
+    {
+        let Some(queue) = queue else {
+            return false;
+        };
+        match self.queue(queue) {
+            Some(facts) => !facts.enabled,
+            None => false,
+        }
+    }
+
+    // Whether a task passes.
+    fn passes(&self, test: WaitingTest, task: &TaskRecord) -> bool
+        ensures { result ≡ passes self.now.settings.workers (records_of self.now.queues.pool) test task.now }
+    {
+        match test {
+            WaitingTest::Unserved { job, cores } => {
+                task.job() == job && !share_core(self.workers(), cores, task.cores())
+            }
+            WaitingTest::InQueue { queue } => is_named(queue, task.queue()),
+            WaitingTest::Shut => self.is_shut(task.queue()),
+        }
+    }
+
+    // Ends a task that hasn't begun, if it passes.
+    fn end_if(&mut self, task: TaskHandle, test: WaitingTest, end: &TaskEnd)
+        requires { IsLiveAnd is_unstarted (slot_value self.old.tasks.pool task.0) }
+        ensures new { Becomes self.old self.new self.old.actions (ended_if (passes self.old.settings.workers (records_of self.old.queues.pool) test) end.now task.0 self.old.tasks) }
+        ensures kept { IsBoard self.new }
+    {
+        let Some(record) = self.task(task) else {
+            unreachable!()
+        };
+        if self.passes(test, record) {
+            self.end_with(task, end.again());
+        }
+        self.is_kept();
+    }
+
+    // Ends each task that hasn't begun and passes, in the order of their starts. It visits each of those that haven't begun once.
+    fn end_waiting(&mut self, test: WaitingTest, end: &TaskEnd)
+        ensures new { Becomes self.old self.new self.old.actions self.new.tasks }
+        ensures ends { EndsWaiting (passes self.old.settings.workers (records_of self.old.queues.pool) test) end.now self.old.tasks self.new.tasks }
+    {
+        self.is_kept();
+        let mut next = self.first_waiting();
+        for _index in 0..self.waiting_count() {
+            let Some(task) = next else { unreachable!() };
+            next = self.next_waiting(task);
+            self.end_if(TaskHandle(task), test, end);
+        }
+    }
+
+    /// Ends the tasks of a job that haven't begun and that no worker can take, in the order of their starts.
+    pub fn end_unserved(&mut self, job: u32, status: MtapiStatus)
+        ensures new { Becomes self.old self.new self.old.actions self.new.tasks }
+        ensures ends { EndsUnserved self.old.settings.workers self.old.actions job (Failed status) self.old.tasks self.new.tasks }
+    {
+        let cores = covered_cores(self.cover(job));
+        self.end_waiting(
+            WaitingTest::Unserved { job, cores },
+            &TaskEnd::Failed(status),
+        );
+    }
+
+    /// Ends the tasks of a queue that haven't begun, in the order of their starts.
+    pub fn end_queued(&mut self, queue: QueueHandle, end: &TaskEnd)
+        ensures new { Becomes self.old self.new self.old.actions self.new.tasks }
+        ensures ends { EndsWaiting (is_in queue.0) end.now self.old.tasks self.new.tasks }
+    {
+        self.end_waiting(WaitingTest::InQueue { queue }, end);
+    }
+
+    /// Cancels the tasks of disabled queues that haven't begun, in the order of their starts.
+    pub fn end_shut(&mut self)
+        ensures new { Becomes self.old self.new self.old.actions self.new.tasks }
+        ensures ends { EndsWaiting (λ t. is_shut (records_of self.old.queues.pool) t.queue) Cancelled self.old.tasks self.new.tasks }
+    {
+        self.end_waiting(WaitingTest::Shut, &TaskEnd::Cancelled);
+    }
+}
