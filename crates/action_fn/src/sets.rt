@@ -5,11 +5,13 @@ ghost use Rattle.action_fn.specs.Answers.{is_pure};
 
 use crate::finished::Finished;
 use mtapi_values::{Args, Kind};
+use std::sync::Wait;
 
 /// Runs the actions of one worker.
 pub trait ActionSet {
-    /// Answers a pure kind for these arguments. What `Finished` keeps says which answer that is.
-    fn run(&mut self, kind: Kind, args: Args) -> Finished
+    /// Answers a pure kind for these arguments. What `Finished` keeps says which answer that is. It may wait, as a set does that
+    /// asks another node.
+    fn run<R: Wait>(&mut self, rt: &R, kind: Kind, args: Args) -> Finished
         requires { is_pure kind ≡ true }
         ensures kind { result.kind ≡ kind }
         ensures args { result.args ≡ args };

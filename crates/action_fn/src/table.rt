@@ -7,6 +7,7 @@ use crate::finished::Finished;
 use crate::sets::{ActionSet, ActionSource};
 use crate::stored::StoredFn;
 use mtapi_values::{Args, Kind};
+use std::sync::Wait;
 
 /// One stored function for each pure kind. It is made where the functions are named, in `main` or a test.
 #[derive(Drop)]
@@ -78,7 +79,7 @@ impl FnTable {
 }
 
 impl ActionSet for FnTable {
-    fn run(&mut self, kind: Kind, args: Args) -> Finished {
+    fn run<R: Wait>(&mut self, _rt: &R, kind: Kind, args: Args) -> Finished {
         match kind {
             Kind::Add => self.add.call(args),
             Kind::Mul => self.mul.call(args),

@@ -156,7 +156,7 @@ fn a_table_runs_each_kind(rt: HostRuntime) {
     let mut table = source.for_worker(0);
     for kind in [Kind::Add, Kind::Mul, Kind::Max, Kind::Div, Kind::Gcd] {
         let numbers = [12, -18];
-        let done = table.run(kind, args_of(&numbers));
+        let done = table.run(&rt, kind, args_of(&numbers));
         let wanted = match kind {
             Kind::Add => -6,
             Kind::Mul => -216,
@@ -166,16 +166,16 @@ fn a_table_runs_each_kind(rt: HostRuntime) {
         };
         assert!(rt; done.kind() == kind && is_number(done.end().again(), wanted));
     }
-    let triangle = table.run(Kind::Triangle, args_of(&[4]));
+    let triangle = table.run(&rt, Kind::Triangle, args_of(&[4]));
     assert!(rt; is_number(triangle.end().again(), 10));
-    let done = table.run(Kind::Div, args_of(&[-8, 3])).again();
+    let done = table.run(&rt, Kind::Div, args_of(&[-8, 3])).again();
     assert_eq!(rt; done.kind(), Kind::Div);
     assert_eq!(rt; done.args().as_slice(), [-8, 3].as_slice());
     assert!(rt; is_number(done.end().again(), -2));
-    let echo = table.run(Kind::Echo, args_of(&SIXTEEN));
+    let echo = table.run(&rt, Kind::Echo, args_of(&SIXTEEN));
     assert_eq!(rt; echo.args().as_slice(), SIXTEEN.as_slice());
     assert!(rt; is_list(echo.end().again(), &SIXTEEN));
-    let fail = table.run(Kind::Fail, args_of(&[]));
+    let fail = table.run(&rt, Kind::Fail, args_of(&[]));
     assert!(rt; is_status(fail.end().again(), FAILED));
 }
 

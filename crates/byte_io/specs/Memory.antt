@@ -1,5 +1,5 @@
 -- A source and a sink in memory, as contracts see them.
-use Rattle.std.specs.Prelude.{◌≡◌, ℕ, ◌+◌, ◌-◌, ◌^◌, ◌≤◌, ◌<◌, ◌==◌, min, List, [], ◌++◌, take, drop, length, Result, Ok, Err, if◌then◌else◌, ◌||◌, Bool}
+use Rattle.std.specs.Prelude.{ℕ, ◌==◌, List, Bool}
 use Rattle.std.specs.List.{list_any}
 use Rattle.byte_io.specs.declared.Failed.{Failed}
 

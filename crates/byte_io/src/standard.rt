@@ -7,6 +7,7 @@ ghost use Rattle.byte_io.specs.Causes.{HasCause, TakesSome, faults_after};
 
 use crate::{Failed, Sink, Source};
 use std::io::{Read, Write};
+use std::marker::Model;
 
 /// A reader of std as a source: it tells the bytes that the reader tells, and counts its failed reads.
 #[derive(Drop)]
@@ -15,26 +16,33 @@ pub struct StdSource<R: Read> {
     faults: u64,
 }
 
+impl<R: Read> Model for StdSource<R> {
+    ghost use Rattle.byte_io.specs.Standard.{StreamState};
+
+    ghost Value = { StreamState };
+
+    ghost view = { λ s. record { bytes = R.remaining s.inner; faults = s.faults } };
+}
+
 impl<R: Read> StdSource<R> {
     ghost use Rattle.std.specs.Prelude.{◌≡◌};
 
     /// A source over `inner`, with no fault yet.
     pub fn new(inner: R) -> Self
-        ensures faults { result.faults ≡ 0 }
-        ensures bytes { R.remaining result.inner ≡ R.remaining inner }
+        ensures { result ≡ record { bytes = R.remaining inner; faults = 0 } }
     {
         StdSource { inner, faults: 0 }
     }
 }
 
 impl<R: Read> Source for StdSource<R> {
-    ghost left = { λ s. R.remaining s.inner };
+    ghost left = { λ s. s.bytes };
 
     ghost faults = { λ s. s.faults };
 
     fn read(&mut self, buf: &mut [u8]) -> Result<usize, Failed>
         ensures bound { ReadsAtMost result buf.new }
-        ensures bytes { ReadConsumes (R.remaining self.old.inner) (R.remaining self.new.inner) result buf.new }
+        ensures bytes { ReadConsumes self.old.bytes self.new.bytes result buf.new }
         ensures cause { HasCause self.old.faults self.new.faults result }
         ensures clean { OnOk result (self.new.faults ≡ self.old.faults) }
         ensures count { self.new.faults ≡ faults_after self.old.faults result }
@@ -57,26 +65,33 @@ pub struct StdSink<W: Write> {
     faults: u64,
 }
 
+impl<W: Write> Model for StdSink<W> {
+    ghost use Rattle.byte_io.specs.Standard.{StreamState};
+
+    ghost Value = { StreamState };
+
+    ghost view = { λ s. record { bytes = W.contents s.inner; faults = s.faults } };
+}
+
 impl<W: Write> StdSink<W> {
     ghost use Rattle.std.specs.Prelude.{◌≡◌};
 
     /// A sink over `inner`, with no fault yet.
     pub fn new(inner: W) -> Self
-        ensures faults { result.faults ≡ 0 }
-        ensures bytes { W.contents result.inner ≡ W.contents inner }
+        ensures { result ≡ record { bytes = W.contents inner; faults = 0 } }
     {
         StdSink { inner, faults: 0 }
     }
 }
 
 impl<W: Write> Sink for StdSink<W> {
-    ghost held = { λ s. W.contents s.inner };
+    ghost held = { λ s. s.bytes };
 
     ghost faults = { λ s. s.faults };
 
     fn write(&mut self, piece: &[u8]) -> Result<usize, Failed>
         ensures bound { TakesSome result piece.now }
-        ensures bytes { WriteAppends (W.contents self.old.inner) (W.contents self.new.inner) result piece.now }
+        ensures bytes { WriteAppends self.old.bytes self.new.bytes result piece.now }
         ensures cause { HasCause self.old.faults self.new.faults result }
         ensures count { self.new.faults ≡ faults_after self.old.faults result }
     {

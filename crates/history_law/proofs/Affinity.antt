@@ -23,7 +23,7 @@ use Rattle.mtapi_machine.specs.Moves.{Move, stops, makes_action, enables, withdr
 use Rattle.mtapi_machine.specs.Row.{Row, unless, gives, never, Allows, only, live, handle_of, moves_of}
 use Rattle.mtapi_machine.specs.TaskRows.{asked_for, asked_of}
 use Rattle.mtapi_machine.specs.Rows.{row}
-use Rattle.mtapi_machine.specs.WorkRows.{is_ready, may_take, has_better, picks}
+use Rattle.mtapi_machine.specs.WorkRows.{is_ready, has_better, picks}
 use Rattle.mtapi_machine.specs.Legal.{NodeEntry, IsNext, next, LegalFrom, Legal, after_from, after}
 use Rattle.mtapi_machine.specs.Laws.{IsMade, StartsTask, MakesAction, WithdrawsAction}
 use Rattle.mtapi_machine.proofs.Lists.{Legal-front}
@@ -34,9 +34,8 @@ use Rattle.history_law.specs.Affinity.{task_mask, action_mask, ObeysMasks}
 use Rattle.history_law.proofs.Ages.{SameTask, SameAction, under_at, live_listed}
 use Rattle.history_law.proofs.Handles.{listed_change, listed_all, listed_ends, listed_more}
 use Rattle.history_law.proofs.Objects.{MadeAs, started_as, made_as, task_then, action_then, cut_from, has_behind}
-
-some_same : {A : Type 0} {x y : A} → Some x ≡ Some y → x ≡ y
-some_same e = cc
+use Rattle.history_law.proofs.Answered.{true_false}
+use Rattle.mtapi_machine.proofs.Changes.{some_same}
 
 -- What a pick had to find
 
@@ -45,7 +44,7 @@ pub record Took (s : State) (w t a : ℕ) : Type 0 where
   pub action : Action
   pub task_found : live_object s.tasks t ≡ Some task
   pub action_found : live_object s.actions a ≡ Some action
-  pub may : may_take s w task action ≡ true
+  pub may : (is_ready s task && is_eligible (workers s) w task.job task.cores action && not (has_better s w task.priority)) ≡ true
 
 abbrev is_picked : Reply → Bool
 is_picked (Picked t a k args) = true
@@ -62,12 +61,12 @@ through true x w t a k args n e = absurd (other_reply t a k args x n e)
 through false x w t a k args n e = e
 
 took : (s : State) (w : ℕ) (t : TaskHandle) (a : ActionHandle) (k : Kind) (args : List ℤ) (x : Option Task) (y : Option Action) → live_object s.tasks t.0 ≡ x → live_object s.actions a.0 ≡ y
-    → Allows (live x never (λ u. live y never (λ v. only (may_take s w u v) (gives (Picked t a v.kind u.args) (runs_task t.0 w v.kind ∷ []))))) (Picked t a k args) → Took s w t.0 a.0
+    → Allows (live x never (λ u. live y never (λ v. only (is_ready s u && is_eligible (workers s) w u.job u.cores v && not (has_better s w u.priority)) (gives (Picked t a v.kind u.args) (runs_task t.0 w v.kind ∷ []))))) (Picked t a k args) → Took s w t.0 a.0
 took s w t a k args None y d e f = absurd f
 took s w t a k args (Some u) None d e f = absurd f
-took s w t a k args (Some u) (Some v) d e f = by_test (may_take s w u v) refl f
+took s w t a k args (Some u) (Some v) d e f = by_test (is_ready s u && is_eligible (workers s) w u.job u.cores v && not (has_better s w u.priority)) refl f
   where
-    by_test : (b : Bool) → may_take s w u v ≡ b → Allows (only b (gives (Picked t a v.kind u.args) (runs_task t.0 w v.kind ∷ []))) (Picked t a k args) → Took s w t.0 a.0
+    by_test : (b : Bool) → (is_ready s u && is_eligible (workers s) w u.job u.cores v && not (has_better s w u.priority)) ≡ b → Allows (only b (gives (Picked t a v.kind u.args) (runs_task t.0 w v.kind ∷ []))) (Picked t a k args) → Took s w t.0 a.0
     by_test true i g = record { task = u; action = v; task_found = d; action_found = e; may = i }
     by_test false i g = absurd g
 
@@ -113,9 +112,6 @@ made_behind (op.ActionCreate job k cores) h s A B e v = has_behind kind.Action h
 made_behind _ h s A B e v = absurd v
 
 -- What is listed was issued by an entry
-
-true_false : {A : Type 0} {b : Bool} → b ≡ true → b ≡ false → A
-true_false e f = absurd (cc)
 
 no_start : (o : Op) (x : NewTask) → makes_kind kind.Task o ≡ false → StartsTask x o → ⊥
 no_start (op.TaskStart job args priority cores detached group) x n b = true_false refl n

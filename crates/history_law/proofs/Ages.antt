@@ -13,12 +13,13 @@ use Rattle.mtapi_objects.specs.Queues.{Queue, opened}
 use Rattle.mtapi_objects.specs.Tasks.{Task, Notes, TaskState, Ended, Running, with_state, with_notes, ended, end_each, new_task}
 use Rattle.mtapi_objects.specs.Groups.{is_member, freed, let_go}
 use Rattle.mtapi_machine.specs.State.{State, is_open}
-use Rattle.mtapi_machine.specs.Moves.{Move, Groups, Queues, Mutexes, Sems, Rwls, Segments, makes_action, enables, withdraws, starts_task, runs_task, ends_task, ends_waiting, notes, leaves, frees_members, lets_members_go, makes, alters, removes, is_fresh, apply}
+use Rattle.mtapi_machine.specs.Moves.{Sort, Fields, all_of, Move, Groups, Queues, Mutexes, Sems, Rwls, Segments, makes_action, enables, withdraws, starts_task, runs_task, ends_task, ends_waiting, notes, leaves, frees_members, lets_members_go, makes, alters, removes, is_fresh, apply}
 use Rattle.mtapi_machine.specs.Laws.{IsMade, WithdrawsAction, AltersObject}
 use Rattle.mtapi_machine.proofs.Made.{snd_true}
 use Rattle.mtapi_machine.proofs.Moves.{sorts_keep}
 use Rattle.history_law.specs.Words.{FieldsOf, objects_of}
 use Rattle.history_law.proofs.Moves.{opens_fresh}
+use Rattle.history_law.proofs.Sorts.{sort_move}
 
 -- What no move changes of an object
 
@@ -150,6 +151,14 @@ altered_same h f (op.QueueEnable q) w x = subst (λ g. SameQueue x (g x)) (sym w
 altered_same h f (op.QueueDisable q) w x = subst (λ g. SameQueue x (g x)) (sym w.1) (opened_same false x)
 altered_same h f _ w x = absurd w
 
+-- so it is of the kinds that no rule of tasks speaks of
+sort_ages : (k : Sort) (K : Fields k → Fields k → Type 0) → ((x : Fields k) → K x x) → (s : State) (o : Op) → ((j : ℕ) (f : Fields k → Fields k) → AltersObject k j f o → (x : Fields k) → K x (f x)) → (Q : List (Listed (Fields k)) → Type 0)
+    → ((h : ℕ) (x : Fields k) → is_fresh (all_of k) s h ≡ true → Q ((all_of k).list s) → Q (issue h x ((all_of k).list s)))
+    → ((m : List (Listed (Fields k))) → AgesEach K ((all_of k).list s) m → Q ((all_of k).list s) → Q m)
+    → (m : Move) → IsMade s o m → Q ((all_of k).list s) → Q ((all_of k).list (apply m s))
+sort_ages k K same s o alter Q new old m e v =
+    sort_move k s o Q (λ j x z. new j x z.may) (λ j f w. old _ (each_change K same j (with_fields f) ((all_of k).list s) (fields_age K f (alter j f w)))) (λ j w. old _ (each_change K same j gone ((all_of k).list s) (gone_ages K same))) m e v
+
 -- what a new object and ageing keep, each move keeps
 pub kind_move : (k : ObjectKind) (s : State) (o : Op) (Q : List (Listed (FieldsOf k)) → Type 0)
     → ((h : ℕ) (x : FieldsOf k) → is_fresh (objects_of k) s h ≡ true → Q ((objects_of k).list s) → Q (issue h x ((objects_of k).list s)))
@@ -175,48 +184,12 @@ kind_move kind.Task s o Q new old (makes j h x) e v = sorts_keep (λ t. Q t.task
 kind_move kind.Task s o Q new old (alters j h f) e v = sorts_keep (λ t. Q t.tasks) (λ t g q m c r y p. p) j _ s v
 kind_move kind.Task s o Q new old (removes j h) e v = sorts_keep (λ t. Q t.tasks) (λ t g q m c r y p. p) j _ s v
 kind_move kind.Task s o Q new old _ e v = v
-kind_move kind.Group s o Q new old (makes Groups h x) e v = new h x e.may v
-kind_move kind.Group s o Q new old (alters Groups h f) e v = old _ (each_change (SameFields kind.Group) nothing_same h _ s.groups (fields_age (SameFields kind.Group) f nothing_same)) v
-kind_move kind.Group s o Q new old (removes Groups h) e v = old _ (each_change (SameFields kind.Group) nothing_same h gone s.groups (gone_ages (SameFields kind.Group) nothing_same)) v
-kind_move kind.Group s o Q new old (makes _ h x) e v = v
-kind_move kind.Group s o Q new old (alters _ h f) e v = v
-kind_move kind.Group s o Q new old (removes _ h) e v = v
-kind_move kind.Group s o Q new old _ e v = v
-kind_move kind.Queue s o Q new old (makes Queues h x) e v = new h x e.may v
-kind_move kind.Queue s o Q new old (alters Queues h f) e v = old _ (each_change SameQueue same_queue h _ s.queues (fields_age SameQueue f (altered_same h f o e.by))) v
-kind_move kind.Queue s o Q new old (removes Queues h) e v = old _ (each_change SameQueue same_queue h gone s.queues (gone_ages SameQueue same_queue)) v
-kind_move kind.Queue s o Q new old (makes _ h x) e v = v
-kind_move kind.Queue s o Q new old (alters _ h f) e v = v
-kind_move kind.Queue s o Q new old (removes _ h) e v = v
-kind_move kind.Queue s o Q new old _ e v = v
-kind_move kind.Mutex s o Q new old (makes Mutexes h x) e v = new h x e.may v
-kind_move kind.Mutex s o Q new old (alters Mutexes h f) e v = old _ (each_change (SameFields kind.Mutex) nothing_same h _ s.mutexes (fields_age (SameFields kind.Mutex) f nothing_same)) v
-kind_move kind.Mutex s o Q new old (removes Mutexes h) e v = old _ (each_change (SameFields kind.Mutex) nothing_same h gone s.mutexes (gone_ages (SameFields kind.Mutex) nothing_same)) v
-kind_move kind.Mutex s o Q new old (makes _ h x) e v = v
-kind_move kind.Mutex s o Q new old (alters _ h f) e v = v
-kind_move kind.Mutex s o Q new old (removes _ h) e v = v
-kind_move kind.Mutex s o Q new old _ e v = v
-kind_move kind.Sem s o Q new old (makes Sems h x) e v = new h x e.may v
-kind_move kind.Sem s o Q new old (alters Sems h f) e v = old _ (each_change (SameFields kind.Sem) nothing_same h _ s.sems (fields_age (SameFields kind.Sem) f nothing_same)) v
-kind_move kind.Sem s o Q new old (removes Sems h) e v = old _ (each_change (SameFields kind.Sem) nothing_same h gone s.sems (gone_ages (SameFields kind.Sem) nothing_same)) v
-kind_move kind.Sem s o Q new old (makes _ h x) e v = v
-kind_move kind.Sem s o Q new old (alters _ h f) e v = v
-kind_move kind.Sem s o Q new old (removes _ h) e v = v
-kind_move kind.Sem s o Q new old _ e v = v
-kind_move kind.Rwl s o Q new old (makes Rwls h x) e v = new h x e.may v
-kind_move kind.Rwl s o Q new old (alters Rwls h f) e v = old _ (each_change (SameFields kind.Rwl) nothing_same h _ s.rwls (fields_age (SameFields kind.Rwl) f nothing_same)) v
-kind_move kind.Rwl s o Q new old (removes Rwls h) e v = old _ (each_change (SameFields kind.Rwl) nothing_same h gone s.rwls (gone_ages (SameFields kind.Rwl) nothing_same)) v
-kind_move kind.Rwl s o Q new old (makes _ h x) e v = v
-kind_move kind.Rwl s o Q new old (alters _ h f) e v = v
-kind_move kind.Rwl s o Q new old (removes _ h) e v = v
-kind_move kind.Rwl s o Q new old _ e v = v
-kind_move kind.Shmem s o Q new old (makes Segments h x) e v = new h x e.may v
-kind_move kind.Shmem s o Q new old (alters Segments h f) e v = old _ (each_change (SameFields kind.Shmem) nothing_same h _ s.segments (fields_age (SameFields kind.Shmem) f nothing_same)) v
-kind_move kind.Shmem s o Q new old (removes Segments h) e v = old _ (each_change (SameFields kind.Shmem) nothing_same h gone s.segments (gone_ages (SameFields kind.Shmem) nothing_same)) v
-kind_move kind.Shmem s o Q new old (makes _ h x) e v = v
-kind_move kind.Shmem s o Q new old (alters _ h f) e v = v
-kind_move kind.Shmem s o Q new old (removes _ h) e v = v
-kind_move kind.Shmem s o Q new old _ e v = v
+kind_move kind.Group s o Q new old m e v = sort_ages Groups (SameFields kind.Group) nothing_same s o (λ j f w x. tt) Q new old m e v
+kind_move kind.Queue s o Q new old m e v = sort_ages Queues SameQueue same_queue s o (λ j f w x. altered_same j f o w x) Q new old m e v
+kind_move kind.Mutex s o Q new old m e v = sort_ages Mutexes (SameFields kind.Mutex) nothing_same s o (λ j f w x. tt) Q new old m e v
+kind_move kind.Sem s o Q new old m e v = sort_ages Sems (SameFields kind.Sem) nothing_same s o (λ j f w x. tt) Q new old m e v
+kind_move kind.Rwl s o Q new old m e v = sort_ages Rwls (SameFields kind.Rwl) nothing_same s o (λ j f w x. tt) Q new old m e v
+kind_move kind.Shmem s o Q new old m e v = sort_ages Segments (SameFields kind.Shmem) nothing_same s o (λ j f w x. tt) Q new old m e v
 
 -- How often a handle is listed, and whether it is live
 

@@ -16,7 +16,7 @@ use Rattle.mtapi_machine.specs.State.{State, opening, workers, is_open, is_past_
 use Rattle.mtapi_machine.specs.Moves.{Move, released, stops, runs_task, makes, alters, removes, apply, after_moves}
 use Rattle.mtapi_machine.specs.Row.{Row, unless, gives, Allows, after_row}
 use Rattle.mtapi_machine.specs.Rows.{row}
-use Rattle.mtapi_machine.specs.WorkRows.{can_take, may_take, picks}
+use Rattle.mtapi_machine.specs.WorkRows.{can_take, picks}
 use Rattle.handle_pool.specs.Issued.{live_object, any_listed}
 use Rattle.mtapi_machine.specs.Laws.{IsMade, is_pick}
 use Rattle.mtapi_machine.specs.Legal.{NodeEntry, IsNext, next, LegalFrom, Legal, after_from, after}
@@ -115,7 +115,7 @@ StopsNone s w r ms = says_stop r ≡ false → marked w (after_moves ms s).stopp
 
 picks_none : (s : State) (w who : ℕ) (r : Reply) → AllGives (StopsNone s w) (picks s who r)
 picks_none s w who (Picked t a k args) =
-    on_live _ (live_object s.tasks t.0) _ _ tt (λ x e. on_live _ (live_object s.actions a.0) _ _ tt (λ y d. on_only (StopsNone s w) (may_take s who x y) (Picked t a y.kind x.args) (runs_task t.0 who y.kind ∷ []) (λ m i. refl)))
+    on_live _ (live_object s.tasks t.0) _ _ tt (λ x e. on_live _ (live_object s.actions a.0) _ _ tt (λ y d. on_only (StopsNone s w) _ (Picked t a y.kind x.args) (runs_task t.0 who y.kind ∷ []) (λ m i. refl)))
 picks_none s w who _ = on_only (StopsNone s w) (not (any_listed (can_take s who) s.tasks)) Idle [] (λ m i. refl)
 
 stop_none : (b : Bool) (s : State) (w who : ℕ) (v : Row) → AllGives (StopsNone s w) v → AllGives (StopsNone s w) (cond b (gives Stop (stops who ∷ [])) v)

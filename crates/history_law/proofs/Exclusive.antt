@@ -67,7 +67,7 @@ tied_step n who b l k x y f t a i = record { early = i.early; tied = λ w r c. l
     by_step w r (inr v) = true_false (subst (λ (z : ℕ). runs_on z t ≡ true) v.1 r) (a v.0)
 
 -- after an end of a tally no task runs on its worker
-end_count : (s : State) (who : ℕ) (t : TaskHandle) (r : Reply) → AtMostOne who s → says_end r ≡ true → Allows (row s who (op.TallyEnd t) r) r → count_listed (runs_on who) (after_row s (row s who (op.TallyEnd t) r)).tasks ≡ 0
+pub end_count : (s : State) (who : ℕ) (t : TaskHandle) (r : Reply) → AtMostOne who s → says_end r ≡ true → Allows (row s who (op.TallyEnd t) r) r → count_listed (runs_on who) (after_row s (row s who (op.TallyEnd t) r)).tasks ≡ 0
 end_count s who t r one i a =
     answered says_end (λ ms. count_listed (runs_on who) (after_moves ms s).tasks ≡ 0) (row s who (op.TallyEnd t) r) r i (
       refl,
@@ -94,7 +94,7 @@ end_count s who t r one i a =
         let m : count_listed (runs_on who) s.tasks ≤ 1 = one in
         omega arith
 
-one_runner : (v w : ℕ) (t : Task) → runs_on v t ≡ true → runs_on w t ≡ true → v ≡ w
+pub one_runner : (v w : ℕ) (t : Task) → runs_on v t ≡ true → runs_on w t ≡ true → v ≡ w
 one_runner v w t = by_state t.state
   where
     by_state : (x : TaskState) → holds (λ r. r.0 == v) (runner x) ≡ true → holds (λ r. r.0 == w) (runner x) ≡ true → v ≡ w
@@ -102,7 +102,7 @@ one_runner v w t = by_state t.state
     by_state (Running u k) a b = sym (eqb-true u v a) ∙ eqb-true u w b
     by_state (Ended e k) a b = true_false a refl
 
-less_of : (w n : ℕ) → nat_lt w n ≡ true → w < n
+pub less_of : (w n : ℕ) → nat_lt w n ≡ true → w < n
 less_of w n e = grind (arith, nat_tests)
 
 -- a tally_lock that gets the mutex ties its task to it
@@ -168,7 +168,7 @@ module _ (n : ℕ) (s : State) (who : ℕ) (g : Good n s) where
 
 -- The ties, and what else holds, after an entry
 
-held_next : (s : State) (e : NodeEntry) → Held s.phase s.stopped s.tasks → Held (next s e).phase (next s e).stopped (next s e).tasks
+pub held_next : (s : State) (e : NodeEntry) → Held s.phase s.stopped s.tasks → Held (next s e).phase (next s e).stopped (next s e).tasks
 unfolding after_from
 held_next s e h = (after_stands s.terms s (e ∷ []) (refl, h)).1
 
@@ -185,10 +185,10 @@ moved_ties n s e i g l f =
     (λ t v a. tied_step n e.who (is_ending e.op) s.mutexes (next s e).mutexes (λ j. gets_mutex j e) (λ j. gives_mutex j e) (λ j. step_next n s e j i g) t a v)
     (by_moves (Ties n s.mutexes) s e i (ties_move n s.mutexes e.who e.op l) g.ties) f
 
-no_ending : (o : Op) (w : ℕ) (l : List (Listed Task)) → is_ending o ≡ false → Every (λ t. (is_ending o ≡ true) → runs_on w t ≡ false) l
+pub no_ending : (o : Op) (w : ℕ) (l : List (Listed Task)) → is_ending o ≡ false → Every (λ t. (is_ending o ≡ true) → runs_on w t ≡ false) l
 no_ending o w l n = every_map (λ t. Unit {0}) (λ t. Unit {0}) (λ t. (is_ending o ≡ true) → runs_on w t ≡ false) l (λ t a b c. true_false c n) (always l) (always l)
 
-quiet_end : (s : State) (who : ℕ) (t : TaskHandle) (r : Reply) → says_end r ≡ false → Allows (row s who (op.TallyEnd t) r) r → after_row s (row s who (op.TallyEnd t) r) ≡ s
+pub quiet_end : (s : State) (who : ℕ) (t : TaskHandle) (r : Reply) → says_end r ≡ false → Allows (row s who (op.TallyEnd t) r) r → after_row s (row s who (op.TallyEnd t) r) ≡ s
 quiet_end s who t r i a = ap (λ (ms : List Move). after_moves ms s) (given (Quiet says_end) (row s who (op.TallyEnd t) r) r (λ z k. refl) (end_quiet s who t r) a i)
 
 ties_next : (n : ℕ) (s : State) (who : ℕ) (o : Op) (r : Reply) → IsNext s (record { who = who; op = o; reply = r }) → Good n s → Ties n (after_row s (row s who o r)).mutexes (after_row s (row s who o r))

@@ -5,7 +5,7 @@ use Rattle.std.proofs.lemmas.Bool.{eq-eqb}
 use Rattle.handle_pool.specs.Issued.{Listed, live_of, live_object, listed, count_listed, first_handle}
 use Rattle.mtapi_machine.proofs.Changes.{some_same}
 use Rattle.history_law.proofs.Answered.{true_false}
-use Rattle.history_law.proofs.Handles.{OnceIn}
+use Rattle.history_law.proofs.Handles.{OnceIn, once_rest}
 use Rattle.history_law.proofs.Ages.{live_listed}
 use Rattle.history_law.proofs.Found.{at_skip, at_dead, at_here}
 
@@ -13,10 +13,6 @@ handle_same : {a b : ℕ} → Some a ≡ Some b → a ≡ b
 handle_same i = cc
 
 module _ {T : Type 0} where
-  pub rest_once : (r : Listed T) (rs : List (Listed T)) → OnceIn (r ∷ rs) → OnceIn rs
-  unfolding listed
-  rest_once r rs o j = let k : cond {A = ℕ} (r.handle == j) 1 0 + listed j rs ≤ 1 = o j in omega arith
-
   -- a head that has the handle has it alone
   pub head_alone : (r : Listed T) (rs : List (Listed T)) (h : ℕ) → OnceIn (r ∷ rs) → is_some (live_object rs h) ≡ true → (r.handle == h) ≡ false
   unfolding listed
@@ -50,7 +46,7 @@ module _ {T : Type 0} where
   pub first_at : (p : T → Bool) (l : List (Listed T)) (h : ℕ) (x : T) → OnceIn l → first_handle p (live_of l) ≡ Some h → live_object l h ≡ Some x → p x ≡ true
   unfolding live_of
   first_at p [] h x o f e = absurd (cc)
-  first_at p (r ∷ rs) h x o f e = by_live r.live refl f (λ i j. first_at p rs h x (rest_once r rs o) i j)
+  first_at p (r ∷ rs) h x o f e = by_live r.live refl f (λ i j. first_at p rs h x (once_rest r rs o) i j)
     where
       by_pass : r.live ≡ true → (b : Bool) → p r.fields ≡ b → cond b (Some r.handle) (first_handle p (live_of rs)) ≡ Some h → (first_handle p (live_of rs) ≡ Some h → live_object rs h ≡ Some x → p x ≡ true) → p x ≡ true
       by_pass a true i f k =

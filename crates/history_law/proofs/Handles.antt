@@ -38,6 +38,10 @@ module _ {T : Type 0} where
   abbrev pub OnceIn : List (Listed T) → Type 0
   OnceIn l = (j : ℕ) → listed j l ≤ 1
 
+  pub once_rest : (r : Listed T) (rs : List (Listed T)) → OnceIn (r ∷ rs) → OnceIn rs
+  unfolding listed
+  once_rest r rs o j = let k : cond {A = ℕ} (r.handle == j) 1 0 + listed j rs ≤ 1 = o j in omega arith
+
   pub once_same : (l k : List (Listed T)) → ((j : ℕ) → listed j k ≡ listed j l) → OnceIn l → OnceIn k
   once_same l k e o j = subst (λ (n : ℕ). n ≤ 1) (sym (e j)) (o j)
 

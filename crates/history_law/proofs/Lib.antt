@@ -18,6 +18,7 @@ pub mod Numbers
 pub mod Order
 pub mod Ordered
 pub mod Refused
+pub mod RefusedRuns
 pub mod Behind
 pub mod Answered
 pub mod OnceIssued
@@ -35,4 +36,13 @@ pub mod TallyMoves
 pub mod Tallies
 pub mod TallySteps
 pub mod Told
+pub mod Records
+pub mod Slots
+pub mod Served
+pub mod AtHandles
+pub mod Sorts
+pub mod Unmoved
 pub mod WorkedSum
+pub mod WorkedLegal
+pub mod Attached
+pub mod Attends

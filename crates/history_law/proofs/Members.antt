@@ -7,6 +7,8 @@ use Rattle.handle_pool.specs.Issued.{Listed, live_of, live_object, listed}
 use Rattle.mtapi_objects.specs.Tasks.{Task, end_of}
 use Rattle.mtapi_objects.specs.Groups.{is_member, Ending, insert, insert_ended, endings}
 use Rattle.history_law.proofs.Found.{at_skip, at_here}
+use Rattle.history_law.proofs.Handles.{once_rest}
+use Rattle.mtapi_machine.proofs.Changes.{some_same}
 
 -- each of these endings passes
 abbrev pub AllOf : (Ending → Type 0) → List Ending → Type 0
@@ -30,13 +32,6 @@ pub record IsEnding (g : ℕ) (l : List (Listed Task)) (e : Ending) : Type 0 whe
   pub some : 1 ≤ listed e.task l
   pub member : (x : Task) → live_object l e.task ≡ Some x → is_member g x ≡ true
   pub ended : (x : Task) → live_object l e.task ≡ Some x → end_of x.state ≡ Some (e.end, e.number)
-
-same_some : {a b : Task} → Some a ≡ Some b → a ≡ b
-same_some e = cc
-
-pub once_rest : (r : Listed Task) (rs : List (Listed Task)) → ((h : ℕ) → listed h (r ∷ rs) ≤ 1) → (h : ℕ) → listed h rs ≤ 1
-unfolding listed
-once_rest r rs o h = let k : cond {A = ℕ} (r.handle == h) 1 0 + listed h rs ≤ 1 = o h in omega arith
 
 -- where no handle is listed twice, each of the endings of a group is so
 pub all_endings : (g : ℕ) (l : List (Listed Task)) → ((h : ℕ) → listed h l ≤ 1) → AllOf (IsEnding g l) (endings g (live_of l))
@@ -63,8 +58,8 @@ all_endings g (r ∷ rs) o = by_live r.live refl (all_more (IsEnding g rs) (IsEn
         all_insert (IsEnding g (r ∷ rs)) (record { task = r.handle; end = y.0; number = y.1 }) (endings g (live_of rs))
         (record {
           some = let d : cond {A = ℕ} (r.handle == r.handle) 1 0 ≡ 1 = ap (λ (b : Bool). cond {A = ℕ} b 1 0) c in omega arith;
-          member = λ x i. subst (λ (t : Task). is_member g t ≡ true) (same_some (sym f ∙ i)) m;
-          ended = λ x i. subst (λ (t : Task). end_of t.state ≡ Some (y.0, y.1)) (same_some (sym f ∙ i)) e;
+          member = λ x i. subst (λ (t : Task). is_member g t ≡ true) (some_same (sym f ∙ i)) m;
+          ended = λ x i. subst (λ (t : Task). end_of t.state ≡ Some (y.0, y.1)) (some_same (sym f ∙ i)) e;
         }) k
 
     by_member : r.live ≡ true → (b : Bool) → is_member g r.fields ≡ b → AllOf (IsEnding g (r ∷ rs)) (endings g (live_of rs)) → AllOf (IsEnding g (r ∷ rs)) (cond b (insert_ended r.handle (end_of r.fields.state) (endings g (live_of rs))) (endings g (live_of rs)))

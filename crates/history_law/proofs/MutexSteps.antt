@@ -14,64 +14,22 @@ use Rattle.handle_pool.specs.Issued.{Listed, live_object, listed, change, issue,
 use Rattle.mtapi_objects.specs.Tasks.{Adds, tally_args}
 use Rattle.mtapi_objects.specs.Mutexes.{Mutex, new_mutex, mutex_busy, locked_by, unlocked}
 use Rattle.mtapi_machine.specs.State.{State, workers}
-use Rattle.mtapi_machine.specs.Moves.{Move, Mutexes, makes, alters, removes, apply, after_moves}
+use Rattle.mtapi_machine.specs.Moves.{Move, Mutexes, after_moves}
 use Rattle.mtapi_machine.specs.Row.{Row, Allows, moves_of, after_row}
 use Rattle.mtapi_machine.specs.Rows.{row}
 use Rattle.mtapi_machine.specs.TallyRows.{takes_both, locks}
-use Rattle.mtapi_machine.specs.Laws.{IsMade, AltersObject, RemovesObject, makes_kind}
 use Rattle.mtapi_machine.proofs.Made.{AllGives, given, moves_given, on_live, on_only, not_false}
 use Rattle.mtapi_machine.proofs.Changes.{at-update}
-use Rattle.mtapi_machine.proofs.Moves.{by_moves as made_moves}
 use Rattle.history_law.specs.Seats.{says_ok}
 use Rattle.history_law.specs.Exclusion.{looks_at_mutex, unlocks_mutex, says_number, says_end}
 use Rattle.history_law.proofs.Reuse.{fresh_unlisted}
 use Rattle.history_law.proofs.Handles.{OnceIn}
 use Rattle.history_law.proofs.Every.{every_at}
 use Rattle.history_law.proofs.Answered.{true_false, first_false, second_false, answered, no_live, no_cond, gives_cond, Quiet}
-use Rattle.history_law.proofs.Exclusion.{at_change_other, at_issue_other, at_issue_here, at_unlisted, at_retired}
+use Rattle.history_law.proofs.AtHandles.{at_change_other, at_issue_other, at_issue_here, at_unlisted, at_retired}
+use Rattle.history_law.proofs.Unmoved.{list_stays}
 use Rattle.history_law.proofs.Ties.{Owns, id_in, Tied, Ties, as_on}
 use Rattle.history_law.proofs.Mutexes.{Step, stays, made, taken, given as gave, gone as left, got, back}
-
--- Other ops leave the mutexes
-
-changes_mutexes : Op → Bool
-changes_mutexes (op.MutexCreate id recursive) = true
-changes_mutexes (op.MutexLook x last) = true
-changes_mutexes (op.MutexUnlock x key) = true
-changes_mutexes (op.MutexDelete x) = true
-changes_mutexes (op.TallyLock t) = true
-changes_mutexes (op.TallyEnd t) = true
-changes_mutexes _ = false
-
-no_make : (o : Op) → changes_mutexes o ≡ false → makes_kind Mutexes o ≡ true → ⊥
-unfolding changes_mutexes
-no_make (op.MutexCreate id recursive) n w = true_false refl n
-no_make _ n w = true_false w refl
-
-no_alter : (o : Op) (j : ℕ) (f : Mutex → Mutex) → changes_mutexes o ≡ false → AltersObject Mutexes j f o → ⊥
-unfolding changes_mutexes
-no_alter (op.MutexLook x last) j f n w = true_false refl n
-no_alter (op.MutexUnlock x key) j f n w = true_false refl n
-no_alter (op.TallyLock t) j f n w = true_false refl n
-no_alter (op.TallyEnd t) j f n w = true_false refl n
-no_alter _ j f n w = absurd w
-
-no_remove : (o : Op) (j : ℕ) → changes_mutexes o ≡ false → RemovesObject Mutexes j o → ⊥
-unfolding changes_mutexes
-no_remove (op.MutexDelete x) j n w = true_false refl n
-no_remove _ j n w = absurd w
-
-same_move : (ms : List (Listed Mutex)) (o : Op) → changes_mutexes o ≡ false → (t : State) (x : Move) → IsMade t o x → t.mutexes ≡ ms → (apply x t).mutexes ≡ ms
-same_move ms o n t (makes Mutexes j x) e v = absurd (no_make o n e.by)
-same_move ms o n t (alters Mutexes j f) e v = absurd (no_alter o j f n e.by)
-same_move ms o n t (removes Mutexes j) e v = absurd (no_remove o j n e.by)
-same_move ms o n t (makes _ j x) e v = v
-same_move ms o n t (alters _ j f) e v = v
-same_move ms o n t (removes _ j) e v = v
-same_move ms o n t _ e v = v
-
-same_mutexes : (s : State) (who : ℕ) (o : Op) (r : Reply) → changes_mutexes o ≡ false → (after_row s (row s who o r)).mutexes ≡ s.mutexes
-same_mutexes s who o r n = made_moves (λ t. t.mutexes ≡ s.mutexes) s (record { who = who; op = o; reply = r }) (same_move s.mutexes o n) refl
 
 -- The ops on mutexes, and the two of tallies
 
@@ -177,7 +135,6 @@ ending_has k b e d =
 
 pub mutex_step : (n : ℕ) (s : State) (who : ℕ) (o : Op) (r : Reply) (j : ℕ) → workers s ≡ n → OnceIn s.mutexes → Ties n s.mutexes s → Allows (row s who o r) r
     → Step who n (is_ending o) (live_object s.mutexes j) (live_object (after_row s (row s who o r)).mutexes j) (looks_at_mutex j o && says_number r) (unlocks_mutex j o && says_ok r)
-unfolding changes_mutexes
 mutex_step n s who (op.MutexCreate id recursive) r j w o v a =
     moves_given (After n who j s false false false) (row s who (op.MutexCreate id recursive) r) (stays refl)
     (λ c d e f. on_only (λ x ms. After n who j s false false false ms) _ _ _ (λ i. issued n who j s false _ id recursive (fresh_unlisted kind.Mutex s _ i)))
@@ -220,4 +177,4 @@ mutex_step n s who (op.TallyEnd t) r j w o v a =
     let owns : Owns who (id_in x) (live_object s.mutexes x.notes.tally.mutex) = ((every_at (Tied n s.mutexes) s.tasks t.0 x v e).tied who (as_on who x.state (not_false _ b)) (ending_has x.notes.tally.stage _ d f)).1 in
     let owned : Owns who (id_in x) (Some z) = subst (Owns who (id_in x)) h owns in
     unseen n who j s true x.notes.tally.mutex unlocked z h (λ q p i k. back z refl i owned.0 owned.1 (subst (λ (u : ℕ). nat_lt who u ≡ true) w (not_false _ c)) k))))))
-mutex_step n s who o r j w u v a = stays (ap (λ (l : List (Listed Mutex)). live_object l j) (same_mutexes s who o r refl))
+mutex_step n s who o r j w u v a = stays (ap (λ (l : List (Listed Mutex)). live_object l j) (list_stays Mutexes s (record { who = who; op = o; reply = r }) (λ w. true_false w refl) (λ h f w. w) (λ h w. w)))

@@ -8,6 +8,7 @@ use Rattle.mtapi_objects.specs.Mutexes.{Mutex, new_mutex, locked_by, unlocked}
 use Rattle.history_law.proofs.Answered.{true_false}
 use Rattle.history_law.proofs.Counts.{one_if}
 use Rattle.history_law.proofs.Ties.{Owns}
+use Rattle.mtapi_machine.proofs.Changes.{some_same}
 
 -- by an entry of this seat, of a node with n workers: a caller's look got the mutex, or a caller gave it back; and a tally got it, or
 -- gave it back, which only an end of a tally may do (`ending`)
@@ -27,9 +28,6 @@ Free (Some m) = is_some m.owner ≡ false → m.depth ≡ 0
 
 some_none : {A : Type 0} {x : A} → Some x ≡ None → ⊥
 some_none e = cc
-
-owner_same : {x y : ℕ} → Some x ≡ Some y → x ≡ y
-owner_same e = cc
 
 unlocked_free : (m : Mutex) → (is_some m.owner ≡ false → m.depth ≡ 0) → is_some (unlocked m).owner ≡ false → (unlocked m).depth ≡ 0
 unlocked_free m f = by_depth (m.depth == 1) refl
@@ -73,7 +71,7 @@ owns_step who n w id b o p _ _ (given m e c k a d) l i =
     absurd (true_false (subst (λ (z : ℕ). nat_lt z n ≡ true) same (is_less w n l)) a)
 owns_step who n w id b o p _ _ (gone m e c d) l i = absurd (true_false (ap is_some (subst (Owns w id) e i).0) c)
 owns_step who n w id b o p _ _ (got m e c k d) l i = absurd (true_false (ap is_some (subst (Owns w id) e i).0) c)
-owns_step who n w id b o p _ _ (back m t e c k a d) l i = inr (t, owner_same (sym (subst (Owns w id) e i).0 ∙ c))
+owns_step who n w id b o p _ _ (back m t e c k a d) l i = inr (t, some_same (sym (subst (Owns w id) e i).0 ∙ c))
 
 -- How often a caller holds it
 

@@ -1,5 +1,5 @@
 -- What an entry says of a new object, its record keeps.
-use Rattle.std.proofs.Common.{◌≡◌, ℕ, ◌≤◌, Bool, true, false, cond, List, [], ◌∷◌, ◌++◌, refl, sym, ◌∙◌, subst, arith}
+use Rattle.std.proofs.Common.{◌≡◌, ℕ, ◌≤◌, Bool, true, cond, List, [], ◌∷◌, ◌++◌, refl, sym, ◌∙◌, ap, subst, arith}
 use Rattle.std.specs.Prelude.{◌==◌, ◌+◌}
 use Rattle.std.proofs.lemmas.Bool.{eq-eqb}
 use Rattle.mtapi_values.specs.declared.handles.ObjectKind.{ObjectKind}
@@ -7,7 +7,6 @@ use Rattle.mtapi_values.specs.declared.handles.ObjectKind.TheVariants as kind
 use Rattle.mtapi_values.specs.declared.statuses.MtapiStatus.TheVariants as m
 use Rattle.mtapi_machine.specs.declared.ops.Op.{Op}
 use Rattle.mtapi_machine.specs.declared.ops.Op.TheVariants as op
-use Rattle.mtapi_machine.specs.declared.replies.Reply.{Reply}
 use Rattle.mtapi_machine.specs.declared.replies.Reply.TheVariants.{Handle, Mtapi}
 use Rattle.handle_pool.specs.Issued.{Listed, live_object, listed, issue}
 use Rattle.mtapi_objects.specs.Actions.{Action, new_action}
@@ -22,15 +21,13 @@ use Rattle.mtapi_machine.specs.QueueRows.{new_queue}
 use Rattle.mtapi_machine.specs.Legal.{NodeEntry, IsNext, next, LegalFrom, after_from}
 use Rattle.mtapi_machine.specs.Laws.{IsMade, StartsTask}
 use Rattle.mtapi_machine.proofs.Lists.{Legal-rest, after-append}
-use Rattle.mtapi_machine.proofs.Made.{AllGives, on_only, on_live, fst_true, snd_true}
+use Rattle.mtapi_machine.proofs.Made.{AllGives, on_only, on_live}
 use Rattle.mtapi_machine.proofs.Moves.{along}
 use Rattle.history_law.specs.Words.{FieldsOf, objects_of, makes as makes_kind, issues}
 use Rattle.history_law.proofs.Accepted.{granted, refuses_only, refuses_live, no_handle}
 use Rattle.history_law.proofs.Ages.{SameFields, SameAction, SameTask, SameQueue, kind_move, listed_ages, Under, under_issue, under_none, under_ages}
-use Rattle.history_law.proofs.Reuse.{fresh_unlisted, fresh_apart, listed_issue_some, is_this}
-
-true_false : {A : Type 0} {b : Bool} → b ≡ true → b ≡ false → A
-true_false e f = absurd (cc)
+use Rattle.history_law.proofs.Reuse.{fresh_unlisted, fresh_apart, listed_issue_some, issued_as}
+use Rattle.history_law.proofs.Answered.{true_false}
 
 -- an object was issued under the handle, and F holds of each that was
 pub record Has {T : Type 0} (h : ℕ) (F : T → Type 0) (l : List (Listed T)) : Type 0 where
@@ -49,16 +46,9 @@ has_move k h F c s o m e v =
 pub has_along : (k : ObjectKind) (h : ℕ) (F : FieldsOf k → Type 0) → ((x y : FieldsOf k) → SameFields k x y → F x → F y) → (s : State) (L : List NodeEntry) → HasObject k h F s → HasObject k h F (after_from s L)
 has_along k h F c s L v = along (HasObject k h F) (λ o t m e. has_move k h F c t o m e) s L v
 
-some_issued : {T : Type 0} (h : ℕ) (x : T) (l : List (Listed T)) → 1 ≤ listed h (issue h x l)
+pub some_issued : {T : Type 0} (h : ℕ) (x : T) (l : List (Listed T)) → 1 ≤ listed h (issue h x l)
 unfolding listed issue
-some_issued h x [] = by_self (h == h) (self h)
-  where
-    self : (n : ℕ) → (n == n) ≡ true
-    self n = eq-eqb n n refl
-
-    by_self : (b : Bool) → b ≡ true → 1 ≤ cond b 1 0 + 0
-    by_self true e = omega arith
-    by_self false e = absurd (cc)
+some_issued h x [] = let e : cond {A = ℕ} (h == h) 1 0 ≡ 1 = ap (λ (b : Bool). cond {A = ℕ} b 1 0) (eq-eqb h h refl) in omega arith
 some_issued h x (r ∷ rs) = let k : 1 ≤ listed h (issue h x rs) = some_issued h x rs in omega arith
 
 -- a new object, under a handle that was fresh
@@ -94,10 +84,7 @@ start_as s who (op.TaskEnqueue q args cores detached group) h e a =
 start_as s who _ h e a = true_false e refl
 
 pub started_as : (s : State) (e : NodeEntry) (h : ℕ) → IsNext s e → issues kind.Task h e ≡ true → StartedAs s e.op h (next s e)
-started_as s e h n i =
-    let r : e.reply ≡ Handle h = is_this h e.reply (snd_true (makes_kind kind.Task e.op) _ i) in
-    subst (λ (x : Reply). StartedAs s e.op h (after_row s (row s e.who e.op x))) (sym r)
-    (start_as s e.who e.op h (fst_true (makes_kind kind.Task e.op) _ i) (subst (λ (x : Reply). Allows (row s e.who e.op x) x) r n.allowed))
+started_as s e h n i = issued_as kind.Task h s (λ o t. StartedAs s o h t) (λ who o. start_as s who o h) e n i
 
 -- Actions
 
@@ -117,10 +104,7 @@ make_as s who (op.ActionCreate job k cores) h e a =
 make_as s who _ h e a = true_false e refl
 
 pub made_as : (s : State) (e : NodeEntry) (h : ℕ) → IsNext s e → issues kind.Action h e ≡ true → MadeAs e.op h (next s e)
-made_as s e h n i =
-    let r : e.reply ≡ Handle h = is_this h e.reply (snd_true (makes_kind kind.Action e.op) _ i) in
-    subst (λ (x : Reply). MadeAs e.op h (after_row s (row s e.who e.op x))) (sym r)
-    (make_as s e.who e.op h (fst_true (makes_kind kind.Action e.op) _ i) (subst (λ (x : Reply). Allows (row s e.who e.op x) x) r n.allowed))
+made_as s e h n i = issued_as kind.Action h s (λ o t. MadeAs o h t) (λ who o. make_as s who o h) e n i
 
 -- Queues
 
@@ -140,10 +124,7 @@ queue_as s who (op.QueueCreate id job priority limit ordered retain) h e a =
 queue_as s who _ h e a = true_false e refl
 
 pub queued_as : (s : State) (e : NodeEntry) (h : ℕ) → IsNext s e → issues kind.Queue h e ≡ true → QueueAs e.op h (next s e)
-queued_as s e h n i =
-    let r : e.reply ≡ Handle h = is_this h e.reply (snd_true (makes_kind kind.Queue e.op) _ i) in
-    subst (λ (x : Reply). QueueAs e.op h (after_row s (row s e.who e.op x))) (sym r)
-    (queue_as s e.who e.op h (fst_true (makes_kind kind.Queue e.op) _ i) (subst (λ (x : Reply). Allows (row s e.who e.op x) x) r n.allowed))
+queued_as s e h n i = issued_as kind.Queue h s (λ o t. QueueAs o h t) (λ who o. queue_as s who o h) e n i
 
 -- After a prefix that has the entry
 

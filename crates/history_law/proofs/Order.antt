@@ -20,7 +20,7 @@ use Rattle.mtapi_machine.specs.declared.replies.Reply.{Reply}
 use Rattle.mtapi_machine.specs.declared.replies.Reply.TheVariants.{Given, Pending, Mtapi}
 use Rattle.mtapi_machine.specs.State.{State, opening}
 use Rattle.mtapi_machine.specs.Moves.{Move, starts_task, runs_task, ends_task, ends_waiting, withdraws, notes, leaves, frees_members, lets_members_go, makes, alters, removes, apply, after_moves}
-use Rattle.mtapi_machine.specs.Row.{Row, unless, gives, never, Allows, live, moves_of}
+use Rattle.mtapi_machine.specs.Row.{never, Allows, moves_of}
 use Rattle.mtapi_machine.specs.Rows.{row}
 use Rattle.mtapi_machine.specs.GroupRows.{gives_end, gives_first}
 use Rattle.mtapi_machine.specs.Legal.{NodeEntry, IsNext, next, LegalFrom, Legal, after_from, after}
@@ -32,17 +32,15 @@ use Rattle.mtapi_machine.proofs.Ends.{after_grows}
 use Rattle.history_law.specs.Order.{looks_for_any, is_given, gives as gives_task, number_in, number_at, EndedBefore, GivenInOrder}
 use Rattle.history_law.proofs.Moves.{once_from}
 use Rattle.history_law.proofs.Handles.{OnceIn, once_same, listed_change}
-use Rattle.history_law.proofs.Members.{AllOf, IsEnding, all_endings, all_insert, once_rest}
+use Rattle.history_law.proofs.Records.{read_found}
+use Rattle.history_law.proofs.Members.{AllOf, IsEnding, all_endings, all_insert}
 use Rattle.history_law.proofs.Numbers.{is_number, bit, has_number, Numbered, numbered_after}
 use Rattle.history_law.proofs.SeatMoves.{Noted, May, by_moves}
-use Rattle.history_law.proofs.Ages.{Dead, dead_none}
+use Rattle.history_law.proofs.Ages.{dead_none, none_dead, live_listed}
+use Rattle.history_law.proofs.AtHandles.{at_retired}
 use Rattle.history_law.proofs.Reuse.{Gone, stays_gone}
-
-true_false : {A : Type 0} {b : Bool} → b ≡ true → b ≡ false → A
-true_false e f = absurd (cc)
-
-some_same : {A : Type 0} {x y : A} → Some x ≡ Some y → x ≡ y
-some_same e = cc
+use Rattle.history_law.proofs.Answered.{true_false, NoRefusal, answered_by, no_live}
+use Rattle.mtapi_machine.proofs.Changes.{some_same}
 
 -- Sorted endings
 
@@ -98,21 +96,6 @@ abbrev given_any : Reply → Bool
 given_any (Given t e) = true
 given_any _ = false
 
-abbrev NoGiven : Row → Type 0
-NoGiven (unless c x w) = (given_any x ≡ false) × NoGiven w
-NoGiven (gives x ms) = Unit {0}
-NoGiven never = Unit {0}
-
-answered : (P : Reply → List Move → Type 0) (w : Row) (r : Reply) → given_any r ≡ true → NoGiven w → AllGives (λ x ms. given_any x ≡ true → P x ms) w → Allows w r → P r (moves_of w)
-answered P (unless true x w) r i n g a = true_false i (ap given_any a ∙ n.0)
-answered P (unless false x w) r i n g a = answered P w r i n.1 (g refl) a
-answered P (gives x ms) r i n g a = subst (λ (y : Reply). P y ms) (sym a) (g (ap given_any (sym a) ∙ i))
-answered P never r i n g a = absurd a
-
-no_live : {T : Type 0} (x : Option T) (v : Row) (w : T → Row) → NoGiven v → ((t : T) → NoGiven (w t)) → NoGiven (live x v w)
-no_live None v w g h = g
-no_live (Some t) v w g h = h t
-
 -- the task had ended, with the least number among the ended members, and it leaves
 pub record Gave (s : State) (g h : ℕ) (ms : List Move) : Type 0 where
   pub task : Task
@@ -128,14 +111,14 @@ abbrev GaveTo : State → ℕ → Reply → List Move → Type 0
 GaveTo s g (Given t e) ms = Gave s g t.0 ms
 GaveTo s g _ ms = Unit {0}
 
-end_no : (h : ℕ) (x : TaskState) → NoGiven (gives_end h x)
+end_no : (h : ℕ) (x : TaskState) → NoRefusal given_any (gives_end h x)
 end_no h Scheduled = tt
 end_no h (Running w k) = tt
 end_no h (Ended e n) = tt
 
-first_no : (s : State) (last : Bool) (es : List Ending) → NoGiven (gives_first s last es)
+first_no : (s : State) (last : Bool) (es : List Ending) → NoRefusal given_any (gives_first s last es)
 first_no s last [] = tt
-first_no s last (e ∷ es) = no_live (live_object s.tasks e.task) never _ tt (λ x. end_no e.task x.state)
+first_no s last (e ∷ es) = no_live given_any (live_object s.tasks e.task) never _ tt (λ x. end_no e.task x.state)
 
 end_gave : (s : State) (g h : ℕ) (x : Task) (y : TaskState) → live_object s.tasks h ≡ Some x → x.state ≡ y → is_member g x ≡ true → ((e : TaskEnd) (n : ℕ) → y ≡ Ended e n → AllOf (FromNumber n) (endings g (live_of s.tasks)))
     → AllGives (λ r ms. given_any r ≡ true → GaveTo s g r ms) (gives_end h y)
@@ -166,8 +149,8 @@ first_gave s g last (e ∷ es) q a o =
 
 gave_row : (s : State) (who : ℕ) (g : GroupHandle) (last : Bool) (t : TaskHandle) (e : TaskEnd) → OnceIn s.tasks → Allows (row s who (op.AnyLook g last) (Given t e)) (Given t e) → Gave s g.0 t.0 (moves_of (row s who (op.AnyLook g last) (Given t e)))
 gave_row s who g last t e o a =
-    answered (GaveTo s g.0) (row s who (op.AnyLook g last) (Given t e)) (Given t e) refl
-    (refl, no_live (live_object s.groups g.0) _ _ tt (λ x. (refl, first_no s last (endings g.0 (live_of s.tasks)))))
+    answered_by given_any (GaveTo s g.0) (row s who (op.AnyLook g last) (Given t e)) (Given t e) refl
+    (refl, no_live given_any (live_object s.groups g.0) _ _ tt (λ x. (refl, first_no s last (endings g.0 (live_of s.tasks)))))
     (λ c. on_live (λ r ms. given_any r ≡ true → GaveTo s g.0 r ms) (live_object s.groups g.0) _ _ (λ i. true_false i refl) (λ x f d. first_gave s g.0 last (endings g.0 (live_of s.tasks)) refl (all_endings g.0 s.tasks o) (sorted_endings g.0 (live_of s.tasks)))) a
 
 gave_as : (s : State) (who : ℕ) (o : Op) (r : Reply) (g h : ℕ) → looks_for_any g o ≡ true → is_given h r ≡ true → OnceIn s.tasks → Allows (row s who o r) r → Gave s g h (moves_of (row s who o r))
@@ -316,36 +299,9 @@ from_at g n (r ∷ rs) h t a e m p q = by_live r.live refl e (λ i. from_at g n 
 
 -- The numbers in the records
 
--- where no handle is listed twice, the record of the live task is its record
-listed_at : (l : List (Listed Task)) (h : ℕ) (t : Task) → live_object l h ≡ Some t → 1 ≤ listed h l
-unfolding live_of listed
-listed_at [] h t e = absurd (cc)
-listed_at (r ∷ rs) h t e = by_live r.live e (listed_at rs h t)
-  where
-    by_hand : (b : Bool) → cond b (Some r.fields) (live_object rs h) ≡ Some t → (live_object rs h ≡ Some t → 1 ≤ listed h rs) → 1 ≤ cond b 1 0 + listed h rs
-    by_hand true m g = omega arith
-    by_hand false m g = let k : 1 ≤ listed h rs = g m in omega arith
-
-    by_live : (a : Bool) → lookup (cond a ((r.handle, r.fields) ∷ live_of rs) (live_of rs)) h ≡ Some t → (live_object rs h ≡ Some t → 1 ≤ listed h rs) → 1 ≤ cond (r.handle == h) 1 0 + listed h rs
-    by_live true m g = by_hand (r.handle == h) m g
-    by_live false m g = let k : 1 ≤ listed h rs = g m in omega arith
-
 number_found : (l : List (Listed Task)) (h : ℕ) (t : Task) → OnceIn l → live_object l h ≡ Some t → number_at l h ≡ number_in t.state
-unfolding live_of listed number_at
-number_found [] h t o e = absurd (cc)
-number_found (r ∷ rs) h t o e = by_hand (r.handle == h) refl (o h) (λ i. number_found rs h t (once_rest r rs o) i)
-  where
-    by_live : (a : Bool) → lookup (cond a ((r.handle, r.fields) ∷ live_of rs) (live_of rs)) h ≡ Some t → (r.handle == h) ≡ true → 1 + listed h rs ≤ 1 → r.fields ≡ t
-    by_live true e i k = some_same (sym (ap (λ (c : Bool). cond c (Some r.fields) (lookup (live_of rs) h)) i) ∙ e)
-    by_live false e i k = let z : 1 ≤ listed h rs = listed_at rs h t e in absurd (omega arith)
-
-    past : (a : Bool) → lookup (cond a ((r.handle, r.fields) ∷ live_of rs) (live_of rs)) h ≡ Some t → (r.handle == h) ≡ false → live_object rs h ≡ Some t
-    past true e i = sym (ap (λ (c : Bool). cond c (Some r.fields) (lookup (live_of rs) h)) i) ∙ e
-    past false e i = e
-
-    by_hand : (b : Bool) → (r.handle == h) ≡ b → cond b 1 0 + listed h rs ≤ 1 → (live_object rs h ≡ Some t → number_at rs h ≡ number_in t.state) → cond b (number_in r.fields.state) (number_at rs h) ≡ number_in t.state
-    by_hand true i k m = ap (λ (x : Task). number_in x.state) (by_live r.live e i k)
-    by_hand false i k m = m (past r.live e i)
+unfolding number_at
+number_found l h t o e = read_found h (λ m. number_at m h) (λ (x : Task). number_in x.state) (λ r rs. refl) l t o e
 
 number_stays : (x y : TaskState) (n : ℕ) → ((e : TaskEnd) (k : ℕ) → end_of x ≡ Some (e, k) → end_of y ≡ Some (e, k)) → number_in x ≡ Some n → number_in y ≡ Some n
 unfolding number_told
@@ -404,38 +360,17 @@ same_task (r ∷ rs) a b n o i j = by_hand (r.handle == a) refl (r.handle == b) 
     by_hand false p true q i j k = absurd (twice j a i)
     by_hand false p false q i j k = k i j
 
--- The given task isn't live any more
-
-dead_unlisted : (h : ℕ) (l : List (Listed Task)) → listed h l ≡ 0 → Dead h l
-unfolding listed
-dead_unlisted h [] e = tt
-dead_unlisted h (r ∷ rs) e = by_hand (r.handle == h) refl e (dead_unlisted h rs)
-  where
-    by_hand : (b : Bool) → (r.handle == h) ≡ b → cond b 1 0 + listed h rs ≡ 0 → (listed h rs ≡ 0 → Dead h rs) → Dead h (r ∷ rs)
-    by_hand true i e k = absurd (omega arith)
-    by_hand false i e k = ((λ j. true_false j i), k (omega arith))
-
-retired_dead : (h : ℕ) (l : List (Listed Task)) → OnceIn l → Dead h (change h gone l)
-unfolding change listed
-retired_dead h [] o = tt
-retired_dead h (r ∷ rs) o = by_test r.live (r.handle == h) refl refl (o h) (retired_dead h rs (once_rest r rs o))
-  where
-    by_test : (a b : Bool) → r.live ≡ a → (r.handle == h) ≡ b → cond b 1 0 + listed h rs ≤ 1 → Dead h (change h gone rs) → Dead h (cond (a && b) (gone r ∷ rs) (r ∷ change h gone rs))
-    by_test true true i j k m = ((λ e. refl), dead_unlisted h rs (omega arith))
-    by_test true false i j k m = ((λ e. true_false e j), m)
-    by_test false b i j k m = ((λ e. i), m)
-
 -- The law
 
 -- what gave a task left it dead
 gave_gone : (s : State) (g h : ℕ) (ms : List Move) → OnceIn s.tasks → Gave s g h ms → Gone kind.Task h (after_moves ms s).tasks
 gave_gone s g h ms o v =
     let changed : OnceIn (change h (with_fields (with_notes in_no_group)) s.tasks) = once_same s.tasks _ (λ j. listed_change j h (with_fields (with_notes in_no_group)) s.tasks (λ r. refl)) o in
-    let some : 1 ≤ listed h s.tasks = listed_at s.tasks h v.task v.found in
+    let some : 1 ≤ listed h s.tasks = live_listed h s.tasks (ap is_some v.found) in
     subst (λ (ns : List Move). Gone kind.Task h (after_moves ns s).tasks) (sym v.moves)
     (record {
       some = subst (λ (n : ℕ). 1 ≤ n) (sym (listed_change h h gone _ (λ r. refl) ∙ listed_change h h (with_fields (with_notes in_no_group)) s.tasks (λ r. refl))) some;
-      dead = retired_dead h (change h (with_fields (with_notes in_no_group)) s.tasks) changed;
+      dead = none_dead h _ (ap is_some (at_retired h (change h (with_fields (with_notes in_no_group)) s.tasks) changed));
     })
 
 -- the record's number, at the entry that gives and at the end

@@ -6,7 +6,7 @@ use Rattle.std.proofs.lemmas.Bool.Decides.{nat_tests}
 use Rattle.mtapi_values.specs.Conditions.{holds}
 use Rattle.mtapi_values.specs.declared.ends.TaskEnd.{TaskEnd}
 use Rattle.mtapi_values.specs.declared.handles.ObjectKind.TheVariants as kind
-use Rattle.handle_pool.specs.Issued.{Listed, live_of, lookup, live_object, any_live, listed}
+use Rattle.handle_pool.specs.Issued.{Listed, live_of, live_object, any_live, listed}
 use Rattle.mtapi_objects.specs.Tasks.{Task, NewTask, TaskState, Scheduled, Running, Ended, scheduled, end_of, is_unstarted, is_unended, new_task}
 use Rattle.mtapi_objects.specs.Queues.{Queue, is_in, is_unended_in, is_head, lets}
 use Rattle.mtapi_machine.specs.declared.terms.Terms.{Terms}
@@ -32,17 +32,14 @@ use Rattle.history_law.proofs.Held.{DeadEnded}
 use Rattle.history_law.proofs.Moves.{Stands, once_along, once_from}
 use Rattle.history_law.proofs.Accepted.{stands_after, shown}
 use Rattle.history_law.proofs.Handles.{OnceIn}
-use Rattle.history_law.proofs.Members.{once_rest}
+use Rattle.history_law.proofs.Records.{read_found}
 use Rattle.history_law.proofs.Ends.{grows_end}
 use Rattle.history_law.proofs.Ages.{SameTask, SameQueue, Under, under_at}
 use Rattle.history_law.proofs.Objects.{HasObject, QueueAs, started_as, queued_as, task_then, has_along}
 use Rattle.history_law.proofs.Affinity.{Took, row_took}
-
-true_false : {A : Type 0} {b : Bool} → b ≡ true → b ≡ false → A
-true_false e f = absurd (cc)
-
-some_same : {A : Type 0} {x y : A} → Some x ≡ Some y → x ≡ y
-some_same e = cc
+use Rattle.history_law.proofs.Answered.{true_false}
+use Rattle.mtapi_machine.proofs.Changes.{some_same}
+use Rattle.history_law.proofs.SeatMoves.{ready_unstarted}
 
 -- The number of the next start doesn't fall
 
@@ -68,10 +65,6 @@ picks_took s e h n i = took_as s e.who e.op e.reply h (fst_true (is_pick e.op) _
 
 took_ready : (s : State) (w h a : ℕ) (x : Took s w h a) → is_ready s x.task ≡ true
 took_ready s w h a x = fst_true (is_ready s x.task) _ (fst_true _ (not (has_better s w x.task.priority)) x.may)
-
-ready_unstarted : (s : State) (t : Task) → is_ready s t ≡ true → is_unstarted t ≡ true
-unfolding is_ready
-ready_unstarted s t h = fst_true (is_unstarted t) _ h
 
 -- a ready task of a queue is let begin by it
 ready_let : (s : State) (t : Task) (q : ℕ) → t.queue ≡ Some q → is_ready s t ≡ true → holds (lets q t (live_of s.tasks)) (live_object s.queues q) ≡ true
@@ -120,35 +113,9 @@ ended_before h F p (r ∷ rs) g u d n k = by_hand (r.handle == h) refl k (λ z. 
 
 -- What has ended isn't picked
 
-listed_at : (l : List (Listed Task)) (h : ℕ) (t : Task) → live_object l h ≡ Some t → 1 ≤ listed h l
-unfolding live_of listed
-listed_at [] h t e = absurd (cc)
-listed_at (r ∷ rs) h t e = by_live r.live e (listed_at rs h t)
-  where
-    by_hand : (b : Bool) → cond b (Some r.fields) (live_object rs h) ≡ Some t → (live_object rs h ≡ Some t → 1 ≤ listed h rs) → 1 ≤ cond b 1 0 + listed h rs
-    by_hand true m g = omega arith
-    by_hand false m g = let k : 1 ≤ listed h rs = g m in omega arith
-
-    by_live : (a : Bool) → lookup (cond a ((r.handle, r.fields) ∷ live_of rs) (live_of rs)) h ≡ Some t → (live_object rs h ≡ Some t → 1 ≤ listed h rs) → 1 ≤ cond (r.handle == h) 1 0 + listed h rs
-    by_live true m g = by_hand (r.handle == h) m g
-    by_live false m g = let k : 1 ≤ listed h rs = g m in omega arith
-
 pub end_found : (l : List (Listed Task)) (h : ℕ) (t : Task) → OnceIn l → live_object l h ≡ Some t → end_at l h ≡ end_in t.state
-unfolding live_of listed end_at
-end_found [] h t o e = absurd (cc)
-end_found (r ∷ rs) h t o e = by_hand (r.handle == h) refl (o h) (λ i. end_found rs h t (once_rest r rs o) i)
-  where
-    by_live : (a : Bool) → lookup (cond a ((r.handle, r.fields) ∷ live_of rs) (live_of rs)) h ≡ Some t → (r.handle == h) ≡ true → 1 + listed h rs ≤ 1 → r.fields ≡ t
-    by_live true e i k = some_same (sym (ap (λ (c : Bool). cond c (Some r.fields) (lookup (live_of rs) h)) i) ∙ e)
-    by_live false e i k = let z : 1 ≤ listed h rs = listed_at rs h t e in absurd (omega arith)
-
-    past : (a : Bool) → lookup (cond a ((r.handle, r.fields) ∷ live_of rs) (live_of rs)) h ≡ Some t → (r.handle == h) ≡ false → live_object rs h ≡ Some t
-    past true e i = sym (ap (λ (c : Bool). cond c (Some r.fields) (lookup (live_of rs) h)) i) ∙ e
-    past false e i = e
-
-    by_hand : (b : Bool) → (r.handle == h) ≡ b → cond b 1 0 + listed h rs ≤ 1 → (live_object rs h ≡ Some t → end_at rs h ≡ end_in t.state) → cond b (end_in r.fields.state) (end_at rs h) ≡ end_in t.state
-    by_hand true i k m = ap (λ (x : Task). end_in x.state) (by_live r.live e i k)
-    by_hand false i k m = m (past r.live e i)
+unfolding end_at
+end_found l h t o e = read_found h (λ m. end_at m h) (λ (x : Task). end_in x.state) (λ r rs. refl) l t o e
 
 unstarted_none : (t : Task) → is_unstarted t ≡ true → end_in t.state ≡ None
 unstarted_none t h = by_state t.state h

@@ -16,6 +16,7 @@ use Rattle.mtapi_objects.specs.Tasks.{Task, Notes, with_notes, TaskState, Schedu
 use Rattle.history.specs.Histories.{entries_of}
 use Rattle.mtapi_machine.specs.State.{State, opening}
 use Rattle.mtapi_machine.specs.Legal.{NodeEntry, next, LegalFrom, Legal, after_from, after}
+use Rattle.mtapi_machine.specs.Ends.{end_in, end_at}
 use Rattle.history_law.specs.Seats.{moves_phase, is_release, is_late_end, IsWaiter, Waits, OnceListed, Work, RunsWith, IsUntouched, Others, WorkerKeeps, NoPhase, NoRelease}
 use Rattle.mtapi_machine.specs.Moves.{Move, phase_is, released, stops, starts_task, runs_task, ends_task, ends_waiting, withdraws, notes, leaves, frees_members, lets_members_go, makes, alters, removes, apply, after_moves}
 use Rattle.mtapi_machine.specs.Row.{after_row}
@@ -28,12 +29,8 @@ use Rattle.history_law.proofs.Moves.{once_along, once_from}
 use Rattle.history_law.proofs.Members.{AllOf, IsEnding, all_endings}
 use Rattle.history_law.proofs.Every.{Every, every_issue, every_change, every_all, every_at, every_ends}
 use Rattle.history_law.proofs.Found.{FoundAs, found_changed, found_issued, count_changed, count_issued, found_ends, count_ends, found_all, count_all}
-
-some_same : {A : Type 0} {x y : A} → Some x ≡ Some y → x ≡ y
-some_same e = cc
-
-true_false : {A : Type 0} {b : Bool} → b ≡ true → b ≡ false → A
-true_false e f = absurd (cc)
+use Rattle.history_law.proofs.Answered.{true_false}
+use Rattle.mtapi_machine.proofs.Changes.{some_same}
 
 -- The mark of a waiter
 
@@ -387,22 +384,23 @@ unfolding LegalFrom after_from
 time_after s [] l v = v
 time_after s (e ∷ es) l v = time_after (next s e) es l.1 (by_moves (λ t. Every InTime t.tasks) s e l.0 (time_move e.who e.op) v)
 
--- the end that is told
-told_end : TaskEnd → Option (TaskEnd × ℕ) → TaskEnd
-told_end e None = e
-told_end e (Some p) = p.0
+-- so does the end in the first record under a handle
+ended_late : (h : ℕ) (e : TaskEnd) (l : List (Listed Task)) → Every InTime l → end_at l h ≡ Some e → is_late_end e ≡ false
+unfolding end_at
+ended_late h e [] v i = absurd (cc)
+ended_late h e (r ∷ rs) v i = by_hand (r.handle == h) (λ j. ended_late h e rs v.1 j) i
+  where
+    by_state : (x : TaskState) → in_time x ≡ true → end_in x ≡ Some e → is_late_end e ≡ false
+    by_state Scheduled k j = absurd (cc)
+    by_state (Running w z) k j = absurd (cc)
+    by_state (Ended y n) k j = ap is_late_end (sym (some_same j)) ∙ not_true _ k
 
-same_end : (e y : TaskEnd) (n m : ℕ) → end_of (Ended y m) ≡ Some (e, n) → y ≡ e
-unfolding told_end
-same_end e y n m k = ap (told_end e) k
+    by_hand : (b : Bool) → (end_at rs h ≡ Some e → is_late_end e ≡ false) → cond b (end_in r.fields.state) (end_at rs h) ≡ Some e → is_late_end e ≡ false
+    by_hand true m j = by_state r.fields.state v.0.state j
+    by_hand false m j = m j
 
-over_in_time : (x : TaskState) (e : TaskEnd) (n : ℕ) → in_time x ≡ true → end_of x ≡ Some (e, n) → is_late_end e ≡ false
-over_in_time Scheduled e n i k = absurd (cc)
-over_in_time (Running w z) e n i k = absurd (cc)
-over_in_time (Ended y m) e n i k = ap is_late_end (sym (same_end e y n m k)) ∙ not_true _ i
-
-pub no_late_end : (terms : Terms) (L : List NodeEntry) (h : ℕ) (t : Task) (n : ℕ) (e : TaskEnd) → Legal terms L → live_object (after terms L).tasks h ≡ Some t → end_of t.state ≡ Some (e, n) → is_late_end e ≡ false
-no_late_end terms L h t n e l a i = over_in_time t.state e n (every_at InTime (after terms L).tasks h t (time_after (opening terms) L l.from tt) a).state i
+pub no_late_end : (terms : Terms) (L : List NodeEntry) (h : ℕ) (e : TaskEnd) → Legal terms L → end_at (after terms L).tasks h ≡ Some e → is_late_end e ≡ false
+no_late_end terms L h e l i = ended_late h e (after terms L).tasks (time_after (opening terms) L l.from tt) i
 
 -- A task that hasn't begun is untouched
 

@@ -34,14 +34,12 @@ use Rattle.history_law.specs.Told.{TellsItsEnd}
 use Rattle.mtapi_values.specs.declared.ends.TaskEnd.TheVariants.{Cancelled, Completed}
 use Rattle.history_law.specs.Reuse.{NeverAgain, NotInBoth}
 use Rattle.history_law.specs.Refused.{second_core, makes_action, too_early, up_to_the_end, leaves, again, one_for_two, on_another_core, given_twice, gives_first, puts_one, two_put, picks_second, final_first, cancelled_first, completed_then, two_ends, makes_sem, both_hold, both_own, makes_rwl, reads_beside, written_untold, caller_gets, beside_a_tally, LawsRefuse}
+use Rattle.mtapi_machine.proofs.Changes.{some_same}
 
-some_same : {A : Type 0} {x y : A} → Some x ≡ Some y → x ≡ y
-some_same e = cc
-
-not_some : {A : Type 0} {x : A} → None ≡ Some x → ⊥
+pub not_some : {A : Type 0} {x : A} → None ≡ Some x → ⊥
 not_some e = cc
 
-no_end : end_at (after usual too_early).tasks first_handle ≡ None
+pub no_end : end_at (after usual too_early).tasks first_handle ≡ None
 unfolding too_early end_at after_from live_of issue change listed issued_at retired is_full may_issue has_worker end_each is_ready can_take has_better
 no_end = refl
 
@@ -61,7 +59,7 @@ is_gone : is_live object.Task first_handle (after usual (up_to_the_end ++ leaves
 unfolding up_to_the_end end_at after_from live_of issue change listed issued_at retired is_full may_issue has_worker end_each is_ready can_take has_better
 is_gone = refl
 
-true_false : true ≡ false → ⊥
+pub true_false : true ≡ false → ⊥
 true_false e = cc
 
 refuses_reuse : NeverAgain usual (up_to_the_end ++ (leaves ++ again)) object.Task first_handle → ⊥

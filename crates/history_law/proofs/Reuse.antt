@@ -14,9 +14,9 @@ use Rattle.mtapi_machine.specs.declared.ops.Op.TheVariants as op
 use Rattle.mtapi_machine.specs.declared.replies.Reply.{Reply}
 use Rattle.mtapi_machine.specs.declared.replies.Reply.TheVariants.{Handle, Mtapi}
 use Rattle.handle_pool.specs.Issued.{Listed, live_object, listed, may_issue, issue}
-use Rattle.mtapi_machine.specs.State.{State, opening}
+use Rattle.mtapi_machine.specs.State.{Objects, State, opening}
 use Rattle.mtapi_machine.specs.Moves.{Move, is_fresh, makes, alters, removes, apply}
-use Rattle.mtapi_machine.specs.Row.{Row, gives, Allows, only, live}
+use Rattle.mtapi_machine.specs.Row.{Row, gives, Allows, only, live, after_row}
 use Rattle.mtapi_machine.specs.Rows.{row}
 use Rattle.mtapi_machine.specs.Legal.{NodeEntry, IsNext, next, LegalFrom, Legal, after_from, after}
 use Rattle.mtapi_machine.specs.Laws.{IsMade}
@@ -27,26 +27,30 @@ use Rattle.history_law.specs.Words.{FieldsOf, objects_of, some_entry, times, is_
 use Rattle.history_law.specs.Reuse.{NeverAgain, NotInBoth}
 use Rattle.history_law.proofs.Accepted.{granted, refuses_only, refuses_live, no_handle}
 use Rattle.history_law.proofs.Ages.{SameFields, kind_move, listed_ages, Dead, dead_ages, dead_issue, dead_none, none_dead, live_listed}
-
-true_false : {A : Type 0} {b : Bool} → b ≡ true → b ≡ false → A
-true_false e f = absurd (cc)
+use Rattle.history_law.proofs.Answered.{true_false}
 
 -- A fresh handle is listed nowhere
 
-pub fresh_unlisted : (k : ObjectKind) (s : State) (h : ℕ) → is_fresh (objects_of k) s h ≡ true → times k h s ≡ 0
+pub unlisted_if : {T : Type 0} (o : Objects T) (s : State) (h : ℕ) → is_fresh o s h ≡ true → listed h (o.list s) ≡ 0
 unfolding may_issue
-fresh_unlisted k s h e = eqb-true (times k h s) 0 (fst_true _ _ (fst_true _ _ (snd_true (names_kind s.terms.layout (objects_of k).kind h) _ e)))
+unlisted_if o s h e = eqb-true (listed h (o.list s)) 0 (fst_true _ _ (fst_true _ _ (snd_true (names_kind s.terms.layout o.kind h) _ e)))
 
-pub fresh_apart : (k : ObjectKind) (s : State) (h j : ℕ) → 1 ≤ times k h s → is_fresh (objects_of k) s j ≡ true → (j == h) ≡ false
-fresh_apart k s h j l e = by_test (j == h) refl
+pub apart_if : {T : Type 0} (o : Objects T) (s : State) (h j : ℕ) → 1 ≤ listed h (o.list s) → is_fresh o s j ≡ true → (j == h) ≡ false
+apart_if o s h j l e = by_test (j == h) refl
   where
     by_test : (b : Bool) → (j == h) ≡ b → b ≡ false
     by_test false i = refl
     by_test true i =
         let same : j ≡ h = eqb-true j h i in
-        let none : times k j s ≡ 0 = fresh_unlisted k s j e in
-        let here : times k h s ≡ 0 = subst (λ (n : ℕ). times k n s ≡ 0) same none in
+        let none : listed j (o.list s) ≡ 0 = unlisted_if o s j e in
+        let here : listed h (o.list s) ≡ 0 = subst (λ (n : ℕ). listed n (o.list s) ≡ 0) same none in
         absurd (omega arith)
+
+pub fresh_unlisted : (k : ObjectKind) (s : State) (h : ℕ) → is_fresh (objects_of k) s h ≡ true → times k h s ≡ 0
+fresh_unlisted k s h e = unlisted_if (objects_of k) s h e
+
+pub fresh_apart : (k : ObjectKind) (s : State) (h j : ℕ) → 1 ≤ times k h s → is_fresh (objects_of k) s j ≡ true → (j == h) ≡ false
+fresh_apart k s h j l e = apart_if (objects_of k) s h j l e
 
 pub listed_issue_some : {T : Type 0} (h j : ℕ) (x : T) (l : List (Listed T)) → 1 ≤ listed h l → 1 ≤ listed h (issue j x l)
 unfolding listed issue
@@ -114,15 +118,18 @@ issue_fresh kind.Shmem s who (op.ShmemCreate id cells) h e a =
     (refl, (refl, (refl, (refl, (refl, refuses_only _ _ _))))) (λ c0 c1 c2 c3 c4. fresh_only kind.Shmem s h _) a
 issue_fresh _ s who _ h e a = true_false e refl
 
-pub is_this : (h : ℕ) (r : Reply) → is_handle h r ≡ true → r ≡ Handle h
+is_this : (h : ℕ) (r : Reply) → is_handle h r ≡ true → r ≡ Handle h
 is_this h (Handle g) e = ap Handle (eqb-true g h e)
 is_this h _ e = true_false e refl
 
--- the reply names the handle, so the row is that of this reply
-pub issues_fresh : (k : ObjectKind) (s : State) (e : NodeEntry) (h : ℕ) → IsNext s e → issues k h e ≡ true → is_fresh (objects_of k) s h ≡ true
-issues_fresh k s e h n i =
+-- an entry that issues a handle has the row of this reply, so what holds after that row holds after the entry
+pub issued_as : (k : ObjectKind) (h : ℕ) (s : State) (P : Op → State → Type 0) → ((who : ℕ) (o : Op) → makes_kind k o ≡ true → Allows (row s who o (Handle h)) (Handle h) → P o (after_row s (row s who o (Handle h)))) → (e : NodeEntry) → IsNext s e → issues k h e ≡ true → P e.op (next s e)
+issued_as k h s P make e n i =
     let r : e.reply ≡ Handle h = is_this h e.reply (snd_true (makes_kind k e.op) _ i) in
-    issue_fresh k s e.who e.op h (fst_true (makes_kind k e.op) _ i) (subst (λ (x : Reply). Allows (row s e.who e.op x) x) r n.allowed)
+    subst (λ (x : Reply). P e.op (after_row s (row s e.who e.op x))) (sym r) (make e.who e.op (fst_true (makes_kind k e.op) _ i) (subst (λ (x : Reply). Allows (row s e.who e.op x) x) r n.allowed))
+
+pub issues_fresh : (k : ObjectKind) (s : State) (e : NodeEntry) (h : ℕ) → IsNext s e → issues k h e ≡ true → is_fresh (objects_of k) s h ≡ true
+issues_fresh k s e h n i = issued_as k h s (λ o t. is_fresh (objects_of k) s h ≡ true) (λ who o. issue_fresh k s who o h) e n i
 
 not_issued : (k : ObjectKind) (s : State) (e : NodeEntry) (h : ℕ) → IsNext s e → 1 ≤ times k h s → issues k h e ≡ false
 not_issued k s e h n l = by_test (issues k h e) refl

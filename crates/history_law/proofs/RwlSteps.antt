@@ -11,60 +11,28 @@ use Rattle.mtapi_machine.specs.declared.replies.Reply.TheVariants.{Handle}
 use Rattle.handle_pool.specs.Issued.{live_object, listed, change, with_fields, gone}
 use Rattle.mtapi_objects.specs.Rwls.{Rwl, new_rwl, rwl_held, rwl_busy, rwl_taken, rwl_given}
 use Rattle.mtapi_machine.specs.State.{State, opening, seats}
-use Rattle.mtapi_machine.specs.Moves.{Move, Rwls, makes, alters, removes, is_fresh, apply, after_moves}
+use Rattle.mtapi_machine.specs.Moves.{Move, Rwls, makes, is_fresh, after_moves}
 use Rattle.mtapi_machine.specs.Row.{Row, Allows, moves_of, after_row}
 use Rattle.mtapi_machine.specs.Rows.{row}
 use Rattle.mtapi_machine.specs.Legal.{NodeEntry, IsNext, next, LegalFrom, Legal, after_from, after}
-use Rattle.mtapi_machine.specs.Laws.{IsMade, AltersObject, RemovesObject}
 use Rattle.mtapi_machine.proofs.Lists.{Legal-front, Legal-rest}
-use Rattle.mtapi_machine.proofs.Made.{AllGives, given, on_live, on_only, fst_true, snd_true, not_false}
-use Rattle.mtapi_machine.proofs.Changes.{at-update}
-use Rattle.mtapi_machine.proofs.Moves.{by_moves, along}
+use Rattle.mtapi_machine.proofs.Made.{AllGives, given, on_live, on_only, not_false}
+use Rattle.mtapi_machine.proofs.Changes.{at-update, some_same}
+use Rattle.mtapi_machine.proofs.Moves.{along}
 use Rattle.history_law.specs.Words.{entries_that, objects_of, makes as makes_object, issues}
 use Rattle.history_law.specs.Seats.{says_ok}
 use Rattle.history_law.specs.Exclusion.{by_seat, looks_at_rwl, unlocks_rwl, gets_rwl, gives_rwl, rwl_limit, OneWriter, ReadersAlone, RwlsKeepTo}
 use Rattle.history_law.proofs.Accepted.{granted, refuses_only}
-use Rattle.history_law.proofs.Reuse.{fresh_unlisted, fresh_apart, is_this, listed_issue_some}
+use Rattle.history_law.proofs.Reuse.{fresh_unlisted, issued_as}
 use Rattle.history_law.proofs.Handles.{OnceIn}
 use Rattle.history_law.proofs.OnceIssued.{once_none, once_move, once_next, listed_next}
 use Rattle.history_law.proofs.Answered.{true_false, answered, no_live, no_cond, gives_cond, Quiet}
-use Rattle.history_law.proofs.Exclusion.{at_change_other, at_issue_other, at_issue_here, at_retired, busy_late, some_issued, some_same, seats_next, seats_after}
+use Rattle.history_law.proofs.AtHandles.{at_change_other, at_issue_here, at_retired}
+use Rattle.history_law.proofs.Unmoved.{live_stays}
+use Rattle.history_law.proofs.Exclusion.{busy_late, seats_next, seats_after}
 use Rattle.history_law.proofs.Counts.{one_if, counts_along}
 use Rattle.history_law.proofs.Rwls.{count_in, held_in, Fit, FitIn, in_mode, no_mode, RwlStep, step_same, get_step, give_step, leave_step, new_fit, new_free}
-
--- Other ops leave it
-
-changes_rwls : Op → Bool
-changes_rwls (op.RwlLook x writer last) = true
-changes_rwls (op.RwlUnlock x writer) = true
-changes_rwls (op.RwlDelete x) = true
-changes_rwls _ = false
-
-abbrev Alike : ℕ → Option Rwl → State → Type 0
-Alike h o t = (1 ≤ listed h t.rwls) × (live_object t.rwls h ≡ o)
-
-no_alter : (o : Op) (j : ℕ) (f : Rwl → Rwl) → changes_rwls o ≡ false → AltersObject Rwls j f o → ⊥
-unfolding changes_rwls
-no_alter (op.RwlLook x writer last) j f n w = true_false refl n
-no_alter (op.RwlUnlock x writer) j f n w = true_false refl n
-no_alter _ j f n w = absurd w
-
-no_remove : (o : Op) (j : ℕ) → changes_rwls o ≡ false → RemovesObject Rwls j o → ⊥
-unfolding changes_rwls
-no_remove (op.RwlDelete x) j n w = true_false refl n
-no_remove _ j n w = absurd w
-
-alike_move : (h : ℕ) (p : Option Rwl) (o : Op) → changes_rwls o ≡ false → (t : State) (m : Move) → IsMade t o m → Alike h p t → Alike h p (apply m t)
-alike_move h p o n t (makes Rwls j x) e v = (listed_issue_some h j x t.rwls v.0, at_issue_other j h x t.rwls (fresh_apart kind.Rwl t h j v.0 e.may) ∙ v.1)
-alike_move h p o n t (alters Rwls j f) e v = absurd (no_alter o j f n e.by)
-alike_move h p o n t (removes Rwls j) e v = absurd (no_remove o j n e.by)
-alike_move h p o n t (makes _ j x) e v = v
-alike_move h p o n t (alters _ j f) e v = v
-alike_move h p o n t (removes _ j) e v = v
-alike_move h p o n t _ e v = v
-
-alike_next : (s : State) (e : NodeEntry) (h : ℕ) → changes_rwls e.op ≡ false → 1 ≤ listed h s.rwls → live_object (next s e).rwls h ≡ live_object s.rwls h
-alike_next s e h n l = (by_moves (Alike h (live_object s.rwls h)) s e (λ t m y w. alike_move h (live_object s.rwls h) e.op n t m y w) (l, refl)).1
+use Rattle.history_law.proofs.Objects.{some_issued}
 
 -- The ops on reader-writer locks
 
@@ -131,7 +99,6 @@ on false r i = refl
 
 rwl_step : (top : ℕ) (s : State) (who : ℕ) (o : Op) (r : Reply) (h : ℕ) → who < 25 → OnceIn s.rwls → 1 ≤ listed h s.rwls → FitIn top (live_object s.rwls h) → Allows (row s who o r) r
     → RwlStep top who (live_object s.rwls h) (live_object (after_row s (row s who o r)).rwls h) (λ m. looks_at_rwl h m o && says_ok r) (λ m. unlocks_rwl h m o && says_ok r)
-unfolding changes_rwls
 rwl_step top s who (op.RwlLook x writer last) r h k o l fit a = by_ok (says_ok r) refl
   where
     by_ok : (b : Bool) → says_ok r ≡ b → RwlStep top who (live_object s.rwls h) (live_object (after_row s (row s who (op.RwlLook x writer last) r)).rwls h) (λ m. ((x.0 == h) && in_mode m writer) && says_ok r) (λ m. false && says_ok r)
@@ -169,7 +136,7 @@ rwl_step top s who (op.RwlDelete x) r h k o l fit a = by_ok (says_ok r) refl
         (refl, (refl, no_live says_ok (live_object s.rwls x.0) _ _ tt (λ y. (refl, tt))))
         (λ p q. on_live _ (live_object s.rwls x.0) _ _ (λ j. true_false j refl) (λ y f b j. left top who h s fit x.0 y o f b)) a
 rwl_step top s who o r h k n l fit a =
-    subst (λ (q : Option Rwl). RwlStep top who (live_object s.rwls h) q no_mode no_mode) (sym (alike_next s (record { who = who; op = o; reply = r }) h refl l)) (step_same top who (live_object s.rwls h) fit)
+    subst (λ (q : Option Rwl). RwlStep top who (live_object s.rwls h) q no_mode no_mode) (sym (live_stays Rwls s (record { who = who; op = o; reply = r }) h (λ j f w. w) (λ j w. w) l)) (step_same top who (live_object s.rwls h) fit)
 
 -- Along the entries
 
@@ -213,10 +180,7 @@ make_rwl s who (op.RwlCreate id limit) h e a =
 make_rwl s who _ h e a = true_false e refl
 
 made_rwl : (s : State) (e : NodeEntry) (h : ℕ) → IsNext s e → issues kind.Rwl h e ≡ true → MadeRwl e.op h (next s e)
-made_rwl s e h n i =
-    let r : e.reply ≡ Handle h = is_this h e.reply (snd_true (makes_object kind.Rwl e.op) _ i) in
-    subst (λ (x : Reply). MadeRwl e.op h (after_row s (row s e.who e.op x))) (sym r)
-    (make_rwl s e.who e.op h (fst_true (makes_object kind.Rwl e.op) _ i) (subst (λ (x : Reply). Allows (row s e.who e.op x) x) r n.allowed))
+made_rwl s e h n i = issued_as kind.Rwl h s (λ o t. MadeRwl o h t) (λ who o. make_rwl s who o h) e n i
 
 -- a lock that nobody holds, with this limit
 pub record Fresh (top h : ℕ) (t : State) : Type 0 where

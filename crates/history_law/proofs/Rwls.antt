@@ -1,13 +1,15 @@
 -- A reader-writer lock has one writer or readers alone.
 use Rattle.std.proofs.Common.{◌≡◌, ℕ, zero, suc, ◌+◌, ◌<◌, ◌≤◌, Bool, true, false, cond, List, [], ◌∷◌, Option, Some, None, refl, sym, ◌∙◌, ap, subst, arith}
 use Rattle.std.specs.Prelude.{◌==◌, ◌&&◌, ◌||◌, not, is_some, length, replicate, slice_index_or, slice_set}
-use Rattle.std.proofs.lemmas.Bool.{eqb-true, eq-eqb}
+use Rattle.std.proofs.lemmas.Bool.{eqb-true}
 use Rattle.std.proofs.lemmas.Bool.Decides.{nat_tests}
 use Rattle.mtapi_values.specs.Seats.{is_seat, marked, any_mark}
 use Rattle.handle_pool.specs.Issued.{how_many}
 use Rattle.mtapi_objects.specs.Rwls.{Rwl, new_rwl, rwl_held, rwl_busy, rwl_taken, rwl_given}
 use Rattle.history_law.proofs.Answered.{true_false, first_false, second_false}
 use Rattle.history_law.proofs.Counts.{one_if}
+use Rattle.std.proofs.lemmas.List.{length-set, get_or-set_same}
+use Rattle.history_law.proofs.Slots.{set_apart}
 
 -- Marks of seats
 
@@ -26,30 +28,10 @@ marks_less (true ∷ bs) zero e = omega arith
 marks_less (false ∷ bs) zero e = true_false e refl
 marks_less (b ∷ bs) (suc i) e = let r : marks (slice_set bs i false) + 1 ≡ marks bs = marks_less bs i e in omega arith
 
-mark_size : (l : List Bool) (i : ℕ) (b : Bool) → length (slice_set l i b) ≡ length l
-mark_size [] i b = refl
-mark_size (c ∷ cs) zero b = refl
-mark_size (c ∷ cs) (suc i) b = ap suc (mark_size cs i b)
-
-mark_here : (l : List Bool) (i : ℕ) (b : Bool) → i < length l → marked i (slice_set l i b) ≡ b
-mark_here [] i b k = absurd (omega arith)
-mark_here (c ∷ cs) zero b k = refl
-mark_here (c ∷ cs) (suc i) b k = mark_here cs i b (omega arith)
-
 mark_unset : (l : List Bool) (i : ℕ) → marked i (slice_set l i false) ≡ false
 mark_unset [] i = refl
 mark_unset (c ∷ cs) zero = refl
 mark_unset (c ∷ cs) (suc i) = mark_unset cs i
-
-mark_apart : (l : List Bool) (i w : ℕ) (b : Bool) → (i == w) ≡ false → marked w (slice_set l i b) ≡ marked w l
-mark_apart [] i w b e = refl
-mark_apart (c ∷ cs) zero zero b e = true_false (eq-eqb zero zero refl) e
-mark_apart (c ∷ cs) zero (suc w) b e = refl
-mark_apart (c ∷ cs) (suc i) zero b e = refl
-mark_apart (c ∷ cs) (suc i) (suc w) b e = mark_apart cs i w b (less_apart i w e)
-  where
-    less_apart : (i w : ℕ) → (suc i == suc w) ≡ false → (i == w) ≡ false
-    less_apart i w e = grind (arith, nat_tests)
 
 no_mark : (l : List Bool) → any_mark l ≡ false → marks l ≡ 0
 no_mark [] e = refl
@@ -150,7 +132,7 @@ read_step : (top who : ℕ) (x : Rwl) → Fit top x → who < 25 → marked who 
 read_step top who x f l n b = record {
   fit = record {
     limit = f.limit;
-    size = mark_size x.readers who true ∙ f.size;
+    size = length-set x.readers who true ∙ f.size;
     most = room;
     alone = λ e. true_false e (first_false (is_some x.writer) _ b);
   };
@@ -180,9 +162,9 @@ read_step top who x f l n b = record {
     by_seat w true i =
         let same : who ≡ w = eqb-true who w i in
         let a : one_if (marked w x.readers) ≡ 0 = one_apart _ (subst (λ (z : ℕ). marked z x.readers ≡ false) same n) in
-        let c : one_if (marked w (slice_set x.readers who true)) ≡ 1 = one_here _ (subst (λ (z : ℕ). marked z (slice_set x.readers who true) ≡ true) same (mark_here x.readers who true inside)) in
+        let c : one_if (marked w (slice_set x.readers who true)) ≡ 1 = one_here _ (subst (λ (z : ℕ). marked z (slice_set x.readers who true) ≡ true) same (get_or-set_same x.readers who true false inside)) in
         omega arith
-    by_seat w false i = ap (λ (c : Bool). one_if c + 0) (mark_apart x.readers who w true i)
+    by_seat w false i = ap (λ (c : Bool). one_if c + 0) (set_apart x.readers who w true false i)
 
     each : (m : Bool) (w : ℕ) → one_if (held_in m w (Some (rwl_taken who false x))) + one_if ((who == w) && false) ≡ one_if (held_in m w (Some x)) + one_if ((who == w) && in_mode m false)
     each true w = refl
@@ -215,7 +197,7 @@ give_step top who true x f n = record {
 give_step top who false x f n = record {
   fit = record {
     limit = f.limit;
-    size = mark_size x.readers who false ∙ f.size;
+    size = length-set x.readers who false ∙ f.size;
     most = let e : marks (slice_set x.readers who false) + 1 ≡ marks x.readers = marks_less x.readers who n in let m : marks x.readers ≤ top = f.most in omega arith;
     alone = λ e. let z : marks x.readers ≡ 0 = f.alone e in let k : marks (slice_set x.readers who false) + 1 ≡ marks x.readers = marks_less x.readers who n in omega arith;
   };
@@ -233,7 +215,7 @@ give_step top who false x f n = record {
         let a : one_if (marked w x.readers) ≡ 1 = one_here _ (subst (λ (z : ℕ). marked z x.readers ≡ true) same n) in
         let c : one_if (marked w (slice_set x.readers who false)) ≡ 0 = one_apart _ (subst (λ (z : ℕ). marked z (slice_set x.readers who false) ≡ false) same (mark_unset x.readers who)) in
         omega arith
-    by_seat w false i = ap (λ (c : Bool). one_if c + 0) (mark_apart x.readers who w false i)
+    by_seat w false i = ap (λ (c : Bool). one_if c + 0) (set_apart x.readers who w false false i)
 
     each : (m : Bool) (w : ℕ) → one_if (held_in m w (Some (rwl_given who false x))) + one_if ((who == w) && in_mode m false) ≡ one_if (held_in m w (Some x)) + one_if ((who == w) && false)
     each true w = refl

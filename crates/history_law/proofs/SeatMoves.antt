@@ -33,7 +33,7 @@ use Rattle.mtapi_machine.specs.Rows.{row}
 use Rattle.mtapi_machine.specs.TaskRows.{asked_for, asked_of, looks_at, cancels}
 use Rattle.mtapi_machine.specs.GroupRows.{gives_end, gives_first}
 use Rattle.mtapi_machine.specs.KeyedRows.{Keyed, keyed_queues, keyed_mutexes, keyed_sems, keyed_rwls, keyed_segments, mrapi_unless, found, creates_keyed, gets, alters_one, looks_one, deletes}
-use Rattle.mtapi_machine.specs.WorkRows.{is_ready, can_take, may_take, picks, task_end}
+use Rattle.mtapi_machine.specs.WorkRows.{is_ready, can_take, picks, task_end}
 use Rattle.mtapi_machine.specs.TallyRows.{gives_up, takes_both, locks}
 use Rattle.mtapi_machine.specs.Legal.{NodeEntry, IsNext, IsHonest, row_of, next}
 use Rattle.mtapi_machine.specs.Laws.{IsMade, AreMade}
@@ -164,7 +164,7 @@ module _ (s : State) (who : ℕ) (o : Op) where
 
 -- Picking
 
-ready_unstarted : (s : State) (t : Task) → is_ready s t ≡ true → is_unstarted t ≡ true
+pub ready_unstarted : (s : State) (t : Task) → is_ready s t ≡ true → is_unstarted t ≡ true
 unfolding is_ready
 ready_unstarted s t h = fst_true (is_unstarted t) _ h
 
@@ -175,7 +175,7 @@ as_on w k (Ended e n) h = absurd (cc)
 
 on_picks : (s : State) (w : ℕ) (r : Reply) → any_listed (runs_on w) s.tasks ≡ false → AllGives (By s w op.Pick) (picks s w r)
 on_picks s w (Picked t a k args) n =
-    on_live _ (live_object s.tasks t.0) _ _ tt (λ x e. on_live _ (live_object s.actions a.0) _ _ tt (λ y d. on_only (By s w op.Pick) (may_take s w x y) _ _ (λ m.
+    on_live _ (live_object s.tasks t.0) _ _ tt (λ x e. on_live _ (live_object s.actions a.0) _ _ tt (λ y d. on_only (By s w op.Pick) _ _ _ (λ m.
     ((x, e, ready_unstarted s x (fst_true (is_ready s x) _ (fst_true _ _ m)), refl, n), tt))))
 on_picks s w _ n = on_only (By s w op.Pick) (not (any_listed (can_take s w) s.tasks)) Idle [] (λ m. tt)
 

@@ -1,8 +1,7 @@
 -- Sums over listed tasks, and the records of handles, after a change of the list.
-use Rattle.std.proofs.Common.{◌≡◌, ℕ, ◌+◌, ◌<◌, suc, zero, Bool, true, false, cond, List, [], ◌∷◌, Option, Some, None, refl, sym, ◌∙◌, ap, arith}
-use Rattle.std.specs.Prelude.{◌==◌, ◌&&◌, is_some, ℤ, pos, ◌+ℤ◌, length, slice_set, slice_index_or, replicate, option_map}
+use Rattle.std.proofs.Common.{◌≡◌, ℕ, ◌+◌, suc, zero, Bool, true, false, cond, List, [], ◌∷◌, Option, Some, None, refl, sym, ◌∙◌, ap, arith}
+use Rattle.std.specs.Prelude.{◌==◌, ◌&&◌, is_some, ℤ, pos, ◌+ℤ◌, slice_index_or, replicate, option_map}
 use Rattle.std.proofs.lemmas.Bool.{eqb-true, eq-eqb}
-use Rattle.std.proofs.lemmas.Bool.Decides.{nat_tests}
 use Rattle.std.proofs.Math.IntN.{+ℤ_comm, +ℤ_assoc}
 use Rattle.mtapi_values.specs.declared.ends.TaskEnd.{TaskEnd}
 use Rattle.handle_pool.specs.Issued.{Listed, live_of, live_object, listed, change, change_all, issue, update, with_fields}
@@ -10,10 +9,10 @@ use Rattle.mtapi_objects.specs.Tasks.{Task, Ended, with_state, ended, end_each}
 use Rattle.mtapi_machine.proofs.Changes.{some_same, at-update}
 use Rattle.history_law.specs.Tally.{record_of, sum_of}
 use Rattle.history_law.proofs.Answered.{true_false}
-use Rattle.history_law.proofs.Handles.{OnceIn, listed_change, once_same}
+use Rattle.history_law.proofs.Handles.{OnceIn, once_rest, listed_change, once_same}
 use Rattle.history_law.proofs.Every.{Every}
 use Rattle.history_law.proofs.Found.{at_skip, at_dead, at_here}
-use Rattle.history_law.proofs.Firsts.{rest_once, head_alone}
+use Rattle.history_law.proofs.Firsts.{head_alone}
 
 -- Sums
 
@@ -129,7 +128,7 @@ module _ {T : Type 0} where
   pub record_at : (h : ℕ) (x : T) (l : List (Listed T)) → OnceIn l → live_object l h ≡ Some x → record_of l h ≡ Some x
   unfolding record_of live_of
   record_at h x [] o e = absurd (cc)
-  record_at h x (r ∷ rs) o e = by_live r.live refl (record_at h x rs (rest_once r rs o))
+  record_at h x (r ∷ rs) o e = by_live r.live refl (record_at h x rs (once_rest r rs o))
     where
       behind : live_object rs h ≡ Some x → (live_object rs h ≡ Some x → record_of rs h ≡ Some x) → cond (r.handle == h) (Some r.fields) (record_of rs h) ≡ Some x
       behind i k = ap (λ (b : Bool). cond b (Some r.fields) (record_of rs h)) (head_alone r rs h o (ap is_some i)) ∙ k i
@@ -165,26 +164,6 @@ module _ {T : Type 0} where
       by_test false e = by_hand (r.handle == h) e
 
 -- Cells
-
-pub cells_size : (l : List ℤ) (i : ℕ) (v : ℤ) → length (slice_set l i v) ≡ length l
-cells_size [] i v = refl
-cells_size (n ∷ ns) zero v = refl
-cells_size (n ∷ ns) (suc i) v = ap suc (cells_size ns i v)
-
-pub cell_set : (l : List ℤ) (i : ℕ) (v : ℤ) → i < length l → slice_index_or (slice_set l i v) i (pos 0) ≡ v
-cell_set [] i v k = absurd (omega arith)
-cell_set (n ∷ ns) zero v k = refl
-cell_set (n ∷ ns) (suc i) v k = cell_set ns i v (omega arith)
-
-pub cell_apart : (l : List ℤ) (i w : ℕ) (v : ℤ) → (i == w) ≡ false → slice_index_or (slice_set l i v) w (pos 0) ≡ slice_index_or l w (pos 0)
-cell_apart [] i w v e = refl
-cell_apart (n ∷ ns) zero zero v e = true_false (eq-eqb zero zero refl) e
-cell_apart (n ∷ ns) zero (suc w) v e = refl
-cell_apart (n ∷ ns) (suc i) zero v e = refl
-cell_apart (n ∷ ns) (suc i) (suc w) v e = cell_apart ns i w v (less_apart i w e)
-  where
-    less_apart : (i w : ℕ) → (suc i == suc w) ≡ false → (i == w) ≡ false
-    less_apart i w e = grind (arith, nat_tests)
 
 pub cell_new : (n w : ℕ) → slice_index_or (replicate n (pos 0)) w (pos 0) ≡ pos 0
 cell_new zero w = refl

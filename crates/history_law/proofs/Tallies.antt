@@ -34,8 +34,10 @@ use Rattle.history_law.proofs.Answered.{true_false, gives_cond}
 use Rattle.history_law.proofs.Firsts.{found_count, one_passes}
 use Rattle.history_law.proofs.Ties.{Owns, none_count, none_runs}
 use Rattle.history_law.proofs.Exclusive.{says_asked}
-use Rattle.history_law.proofs.Sums.{sum_none, record_new, record_beside, record_other, record_at, record_updated, cells_size, cell_apart, cell_new}
+use Rattle.history_law.proofs.Sums.{sum_none, record_new, record_beside, record_other, record_at, record_updated, cell_new}
 use Rattle.history_law.proofs.TallyMoves.{adds, weight, weigh_off, Each, HasRead, cells_of}
+use Rattle.std.proofs.lemmas.List.{length-set}
+use Rattle.history_law.proofs.Slots.{set_apart}
 
 -- A change of the one task that runs on a worker
 
@@ -216,5 +218,5 @@ module _ (S C : ℕ) where
           let before : cells_of S C s.segments ≡ Some y.cells = ap (λ (q : Option Segment). option_map (λ (z : Segment). z.cells) q) (subst (λ (j : ℕ). record_of s.segments j ≡ Some y) same (record_at h y s.segments o e)) in
           let now : cells_of S C (update h (with_cell c value) s.segments) ≡ Some (slice_set y.cells c value) = ap (λ (q : Option Segment). option_map (λ (z : Segment). z.cells) q) (subst (λ (j : ℕ). record_of (update h (with_cell c value) s.segments) j ≡ Some (with_cell c value y)) same (record_updated h (with_cell c value) y s.segments o e)) in
           let w : Sum (Some y.cells) l = sum_cells s _ _ l before v in
-          sum_cells s _ _ l (sym now) (λ j. let x = w (subst (λ (k : ℕ). C < k) (cells_size y.cells c value) j) in (cell_apart y.cells c C value apart ∙ x.0, x.1))
+          sum_cells s _ _ l (sym now) (λ j. let x = w (subst (λ (k : ℕ). C < k) (length-set y.cells c value) j) in (set_apart y.cells c C value (pos 0) apart ∙ x.0, x.1))
       by_same false i = sum_cells s _ _ l (sym (ap (λ (q : Option Segment). option_map (λ (z : Segment). z.cells) q) (record_other h S (with_fields (with_cell c value)) s.segments (λ r. refl) i))) v

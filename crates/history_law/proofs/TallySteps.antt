@@ -41,9 +41,10 @@ use Rattle.history_law.proofs.OnceIssued.{once_none, once_next, listed_next}
 use Rattle.history_law.proofs.Answered.{true_false, first_false, second_false, none_first, answered, no_live, gives_cond, Quiet}
 use Rattle.history_law.proofs.Ties.{has_both, Owns, Tied, as_on}
 use Rattle.history_law.proofs.Exclusive.{Good, good_next, good_opening}
-use Rattle.history_law.proofs.Sums.{sum_more, sum_change, sum_same, record_at, record_updated, cells_size, cell_set}
+use Rattle.history_law.proofs.Sums.{sum_more, sum_change, sum_same, record_at, record_updated}
 use Rattle.history_law.proofs.TallyMoves.{adds, past_read, weight, written, both_of, weigh_off, weigh_early, written_move, Each, each_move, HasRead, read_move, EndsRight, right_move, RightTies, cells_of, cells_move}
 use Rattle.history_law.proofs.Tallies.{every_alone, off_when, some_worker, runs_unended, HasId, one_owner, ids_move, asked_true, lock_each, cell_value, Sum, sum_keep, sum_cells, create_sum, other_cell}
+use Rattle.std.proofs.lemmas.List.{length-set, get_or-set_same}
 
 module _ (S C id n : ℕ) where
   -- What holds after every list that the law speaks of
@@ -214,7 +215,7 @@ module _ (S C id n : ℕ) where
             (record_updated x.notes.tally.segment (with_cell (cell_in (tally_args x.args)) value) y s.segments v.once f))
 
         inside : C < length (slice_set y.cells (cell_in (tally_args x.args)) value) → C < length y.cells
-        inside i = subst (λ (j : ℕ). C < j) (cells_size y.cells (cell_in (tally_args x.args)) value) i
+        inside i = subst (λ (j : ℕ). C < j) (length-set y.cells (cell_in (tally_args x.args)) value) i
 
         old : C < length (slice_set y.cells (cell_in (tally_args x.args)) value) → (C < length y.cells) × (cell_value S C y.cells ≡ sum_of (weight S C) s.tasks) × Every (HasRead S C (sum_of (weight S C) s.tasks)) s.tasks
         old i = let u : Sum S C (Some y.cells) s.tasks = sum_cells S C s _ _ s.tasks (cells_here x y a f) v.sum in let z = u (inside i) in (inside i, z.0, z.1)
@@ -240,7 +241,7 @@ module _ (S C id n : ℕ) where
         written_here z =
             let kept : x.notes.tally.kept ≡ sum_of (weight S C) s.tasks = every_at (HasRead S C (sum_of (weight S C) s.tasks)) s.tasks t x z.2 e a d (runs_unended who x k) in
             let sums : value ≡ sum_of (weight S C) now = w ∙ (ap (λ (q : ℤ). q +ℤ number) kept ∙ sym more) in
-            let cell : cell_value S C (slice_set y.cells (cell_in (tally_args x.args)) value) ≡ value = subst (λ (j : ℕ). cell_value S C (slice_set y.cells j value) ≡ value) (sym (cell_same x a)) (cell_set y.cells C value z.0) in (
+            let cell : cell_value S C (slice_set y.cells (cell_in (tally_args x.args)) value) ≡ value = subst (λ (j : ℕ). cell_value S C (slice_set y.cells j value) ≡ value) (sym (cell_same x a)) (get_or-set_same y.cells C value (pos 0) z.0) in (
               cell ∙ sums,
               every_alone (λ u. Tied n s.mutexes u × Each S C (λ b. mutex_in (tally_args b) ≡ id) u) (HasRead S C (sum_of (weight S C) now)) who t (with_fields (with_notes (with_tally tally_written))) s.tasks x e k (v.good.one who) v.good.held.dead
                   (λ u q r b g p. absurd (alone x u a k tie name q r b p)) (λ r same q b g p. true_false g refl)

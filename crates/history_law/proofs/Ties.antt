@@ -47,7 +47,7 @@ pub record Tied (n : ℕ) (ms : List (Listed Mutex)) (t : Task) : Type 0 where
 pub stage_none : (x : TallyNotes) → (x.stage == 0) ≡ true → has_both x ≡ false
 stage_none x e = ap (λ (k : ℕ). not (k == 0) && not (k == 4)) (eqb-true x.stage 0 e)
 
-stage_some : (x : TallyNotes) (k : ℕ) → (x.stage == k) ≡ true → (not (k == 0) && not (k == 4)) ≡ true → has_both x ≡ true
+pub stage_some : (x : TallyNotes) (k : ℕ) → (x.stage == k) ≡ true → (not (k == 0) && not (k == 4)) ≡ true → has_both x ≡ true
 stage_some x k e n = ap (λ (j : ℕ). not (j == 0) && not (j == 4)) (eqb-true x.stage k e) ∙ n
 
 -- what a step other than a `tally_lock` leaves

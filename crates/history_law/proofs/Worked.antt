@@ -1,8 +1,6 @@
 -- The worked history, by the law and by computing.
-use Rattle.std.proofs.Common.{◌≡◌, List, [], ◌∷◌, ◌++◌, Some, refl, sym, ◌∙◌, subst, arith}
+use Rattle.std.proofs.Common.{◌≡◌, List, [], ◌∷◌, ◌++◌, Some, refl, sym, ◌∙◌}
 use Rattle.std.specs.Prelude.{pos, false}
-use Rattle.mtapi_values.specs.Attributes.{NodeSettings, AreNodeSettings}
-use Rattle.mtapi_values.specs.declared.handles.Layout.TheVariants.{Two}
 use Rattle.mtapi_values.specs.declared.kinds.Kind.TheVariants as kind
 use Rattle.mtapi_values.specs.declared.ends.TaskEnd.{TaskEnd}
 use Rattle.mtapi_values.specs.declared.ends.TaskEnd.TheVariants.{Completed}
@@ -12,11 +10,10 @@ use Rattle.handle_pool.specs.Issued.{live_of, issue, change, listed, issued_at, 
 use Rattle.mtapi_objects.specs.Actions.{has_worker}
 use Rattle.mtapi_objects.specs.Tasks.{end_each}
 use Rattle.mtapi_machine.specs.WorkRows.{is_ready, can_take, has_better}
-use Rattle.mtapi_machine.specs.Legal.{NodeEntry, LegalFrom, Legal, after_from, after}
+use Rattle.mtapi_machine.specs.Legal.{NodeEntry, after_from, after}
 use Rattle.mtapi_machine.specs.Worked.{usual, first_handle, main, worker, add_task, picks_first, finishes_first, task, every_core, one_task}
 use Rattle.mtapi_machine.proofs.Worked.{one_task-legal}
 use Rattle.mtapi_machine.specs.Ends.{end_at}
-use Rattle.mtapi_machine.specs.State.{terms_with}
 use Rattle.history_law.specs.Accepted.{EndsOnce}
 use Rattle.history_law.specs.Worked.{OneTaskEnds}
 use Rattle.history_law.proofs.Accepted.{accepted_end}
@@ -44,25 +41,3 @@ one_task_ends = (ends_once, same ends_once.end (sym ends_once.ended ∙ computed
   where
     same : (x : TaskEnd) → Some x ≡ Some (Completed (pos 5 ∷ [])) → x ≡ Completed (pos 5 ∷ [])
     same x e = cc
-
--- the settings that a node has where none is chosen
-defaults : NodeSettings
-defaults = record { workers = 1; tasks = 1024; actions = 64; groups = 128; queues = 16; objects = 16; priorities = 4; generations = 4294967295 }
-
-defaults_range : AreNodeSettings defaults
-unfolding defaults
-defaults_range = record {
-  workers = (omega arith, omega arith);
-  tasks = (omega arith, omega arith);
-  actions = (omega arith, omega arith);
-  groups = (omega arith, omega arith);
-  queues = (omega arith, omega arith);
-  objects = (omega arith, omega arith);
-  priorities = (omega arith, omega arith);
-  generations = (omega arith, omega arith);
-}
-
--- the empty list is legal for these and one caller
-pub empty_legal : (s : NodeSettings) → s ≡ record { workers = 1; tasks = 1024; actions = 64; groups = 128; queues = 16; objects = 16; priorities = 4; generations = 4294967295 } → Legal (terms_with Two s 1) []
-unfolding LegalFrom defaults
-empty_legal s e = record { fits = record { settings = subst AreNodeSettings (sym e) defaults_range; some_caller = omega arith; callers = omega arith }; from = tt }

@@ -2,13 +2,16 @@ pub mod Accepted
 pub mod Ends
 pub mod Worked
 pub mod Seats
+pub mod Served
 pub mod Words
 pub mod Reuse
 pub mod Affinity
 pub mod Order
 pub mod Ordered
 pub mod Refused
+pub mod RefusedRuns
 pub mod Exclusion
 pub mod Told
 pub mod Tally
 pub mod WorkedSum
+pub mod TallyHolds

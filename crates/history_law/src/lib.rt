@@ -10,14 +10,19 @@ ghost use Rattle.history_law.specs.Affinity.{ObeysMasks};
 ghost use Rattle.history_law.specs.Order.{GivenInOrder};
 ghost use Rattle.history_law.specs.Ordered.{RunsInOrder};
 ghost use Rattle.history_law.specs.Refused.{LawsRefuse};
+ghost use Rattle.history_law.specs.RefusedRuns.{RunLawsRefuse};
 ghost use Rattle.history_law.specs.Exclusion.{MutexesKeepTo, SemsKeepTo, RwlsKeepTo};
 ghost use Rattle.history_law.specs.Told.{TellsItsEnd};
 ghost use Rattle.history_law.specs.Tally.{HoldsTheSum};
+ghost use Rattle.history_law.specs.TallyHolds.{RunningTalliesHold};
 ghost use Rattle.history_law.specs.Reuse.{NeverAgain, NotInBoth};
 ghost use Rattle.history_law.specs.Seats.{OnceAfter, OnceStays, WaiterStays, WorkStays, NoLateEnd, PhaseStays, ReleaseStays, EnterBehindRelease, FinalBehindStops, EarlyStays, StoppedStays, StoppedRoom, UnstartedAreUntouched, EntriesBySeats};
+ghost use Rattle.history_law.specs.Served.{WorkIsServed};
 ghost use Rattle.history_law.specs.Worked.{OneTaskEnds};
 ghost use Rattle.history_law.specs.WorkedSum.{TalliesAddUp};
 
+#[cfg(test)]
+mod histories;
 #[cfg(test)]
 mod tests;
 
@@ -80,9 +85,10 @@ pub fn law_waiter_stays()
 {}
 
 /// A task that a worker took stays on it, with its kind, its arguments and what it has done so far, over the entries of other seats;
-/// and a worker that has none gets none by them.
+/// and a worker that has none gets none by them. So what the worker asks of its task isn't refused as that of another's.
 pub fn law_work_stays()
-    ensures { WorkStays }
+    ensures stays { WorkStays }
+    ensures served { WorkIsServed }
 {}
 
 /// No task ends with the failure TIMEOUT or SPENT.
@@ -183,9 +189,11 @@ pub fn law_ordered(
     ensures { RunsInOrder (terms_with layout settings.now callers) entries.now q.0 }
 {}
 
-/// For each law a list that isn't legal and that the law refuses, so that none of them says nothing.
+/// For each law a list that it refuses, so that none of them says nothing: for a law of a list one that isn't legal, and for one of the
+/// run in threads one that lacks what the law asks for.
 pub fn worked_refusals()
-    ensures { LawsRefuse }
+    ensures of_lists { LawsRefuse }
+    ensures of_runs { RunLawsRefuse }
 {}
 
 /// An Ok `enter` stands behind an Ok `release`, and an Ok `final` behind a Stop of each worker.
@@ -216,4 +224,10 @@ pub fn law_tally(
 )
     requires { Legal (terms_with layout settings.now callers) entries.now }
     ensures { HoldsTheSum (terms_with layout settings.now callers) entries.now s.0 cell }
+{}
+
+/// While a tally runs that has got its mutex and its segment, both are live: its worker owns the mutex once, and is attached to the
+/// segment.
+pub fn law_tally_holds()
+    ensures { RunningTalliesHold }
 {}

@@ -10,9 +10,8 @@ use Rattle.mtapi_values.specs.declared.statuses.MtapiStatus.{MtapiStatus}
 use Rattle.mtapi_values.specs.declared.statuses.MrapiStatus.{MrapiStatus}
 use Rattle.mtapi_values.specs.declared.ends.TaskEnd.{TaskEnd}
 use Rattle.mtapi_values.specs.declared.ends.TaskEnd.TheVariants as end
-use Rattle.mtapi_values.specs.Kinds.{kind_word}
-use Rattle.mtapi_values.specs.Statuses.{mtapi_name, mrapi_name}
-use Rattle.mtapi_values.proofs.ValueTables.{kind_all, mtapi_all, mrapi_all}
+use Rattle.mtapi_values.specs.Kinds.{kind_word, kind_all}
+use Rattle.mtapi_values.specs.Statuses.{mtapi_name, mrapi_name, mtapi_all, mrapi_all}
 use Rattle.number_text.specs.Numbers.{number, number_within, whole}
 use Rattle.number_text.specs.Lists.{list_of, list_text, ◌>>=◌}
 use Rattle.journal_text.specs.declared.values.Status.{Status}

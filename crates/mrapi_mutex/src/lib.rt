@@ -8,7 +8,7 @@ mod state;
 #[cfg(test)]
 mod tests;
 
-ghost use Rattle.std.specs.Prelude.{◌≡◌, ◌≤◌, false, is_some, replicate, IfOk, IfErr, OnOk, OnErr};
+ghost use Rattle.std.specs.Prelude.{◌≡◌, ◌≤◌, false, is_some, replicate, IfSome, IsNone, IfOk, IfErr, OnOk, OnErr};
 ghost use Rattle.std.specs.Option.{option_map};
 ghost use Rattle.std.specs.Result.{result_err};
 ghost use Rattle.handle_pool.specs.Slots.{slot_value, free_slot, without, changed, Inserts, IsFull};
@@ -81,14 +81,28 @@ impl Mutexes {
         // An id has one live mutex at most.
         ensures only { OneEach (λ x. x.id) self.now }
     {
+        match self.find(u64::from(id)) {
+            Some(mutex) => Ok(mutex),
+            None => Err(MrapiStatus::ErrMutexIdInvalid),
+        }
+    }
+
+    /// The live mutex of an id, which may be any number: none exactly where no live one has it.
+    pub fn find(&self, id: u64) -> Option<MutexHandle>
+        ensures found { IfSome result (λ m. HasLive self.now m.0 (HasId id)) }
+        ensures absent { IsNone result → NoneLive (slot_value self.now) (HasId id) }
+
+        // An id has one live mutex at most.
+        ensures only { OneEach (λ x. x.id) self.now }
+    {
         for place in 0..self.pool.max() {
             if let Some((handle, mutex)) = self.pool.slot_at(place) {
-                if mutex.id() == id {
-                    return Ok(MutexHandle(handle));
+                if u64::from(mutex.id()) == id {
+                    return Some(MutexHandle(handle));
                 }
             }
         }
-        Err(MrapiStatus::ErrMutexIdInvalid)
+        None
     }
 
     /// Whether some seat owns the mutex of a handle: none exactly where the handle isn't live.

@@ -9,14 +9,14 @@ mod state;
 #[cfg(test)]
 mod tests;
 
-ghost use Rattle.std.specs.Prelude.{◌≡◌, ◌+◌, ◌≤◌, ◌<◌, None, length, replicate, IfOk, IfErr, OnOk, OnErr};
+ghost use Rattle.std.specs.Prelude.{◌≡◌, ◌+◌, ◌≤◌, ◌<◌, None, length, replicate, IfSome, IsNone, IfOk, IfErr, OnOk, OnErr};
 ghost use Rattle.std.specs.Option.{option_map};
 ghost use Rattle.std.specs.Result.{result_err};
 ghost use Rattle.mtapi_values.specs.declared.statuses.MrapiStatus.TheVariants.{ErrShmIdInvalid};
 ghost use Rattle.mtapi_values.specs.Conditions.{first};
 ghost use Rattle.handle_pool.specs.Slots.{slot_value, free_slot, without, changed, Inserts, IsFull, live_count, retired_count, max_of};
 ghost use Rattle.handle_pool.specs.Walks.{NoneLive, HasLive, OneEach};
-ghost use Rattle.mtapi_objects.specs.Segments.{new_segment, shmem_create_refusals, shmem_delete_refusals, attach_refusals, detach_refusals, cell_refusals};
+ghost use Rattle.mtapi_objects.specs.Segments.{new_segment, shmem_create_refusals, shmem_delete_refusals, attach_refusals, detach_refusals, cell_refusals, cell_of, with_cell};
 ghost use Rattle.mrapi_shmem.specs.Calls.{HasId, CreateRefused, refusal, read_at, after_attach, after_detach, after_write};
 
 use handle_pool::Pool;
@@ -116,14 +116,28 @@ impl Segments {
         // An id has one live segment at most.
         ensures only { OneEach (λ x. x.id) self.now }
     {
+        match self.find(u64::from(id)) {
+            Some(segment) => Ok(segment),
+            None => Err(MrapiStatus::ErrShmIdInvalid),
+        }
+    }
+
+    /// The live segment of an id, which may be any number: none exactly where no live one has it.
+    pub fn find(&self, id: u64) -> Option<ShmemHandle>
+        ensures found { IfSome result (λ s. HasLive self.now s.0 (HasId id)) }
+        ensures absent { IsNone result → NoneLive (slot_value self.now) (HasId id) }
+
+        // An id has one live segment at most.
+        ensures only { OneEach (λ x. x.id) self.now }
+    {
         for place in 0..self.pool.max() {
             if let Some((handle, segment)) = self.pool.slot_at(place) {
-                if segment.id() == id {
-                    return Ok(ShmemHandle(handle));
+                if u64::from(segment.id()) == id {
+                    return Some(ShmemHandle(handle));
                 }
             }
         }
-        Err(MrapiStatus::ErrShmIdInvalid)
+        None
     }
 
     /// How many cells the segment of a handle has, 1 to 4,096: none exactly where the handle isn't live.
@@ -209,6 +223,28 @@ impl Segments {
         match self.pool.get_mut(s.0) {
             None => Err(MrapiStatus::ErrShmInvalid),
             Some(segment) => segment.write(who, cell, value),
+        }
+    }
+
+    /// The number in a cell, counted from 0, for what the node itself does for a seat: 0 past the last cell, and none exactly
+    /// where the handle isn't live.
+    pub fn number(&self, s: ShmemHandle, cell: u64) -> Option<i64>
+        ensures { result ≡ option_map (cell_of cell) (slot_value self.now s.0) }
+    {
+        match self.pool.get(s.0) {
+            None => None,
+            Some(segment) => Some(segment.number(cell)),
+        }
+    }
+
+    /// Puts a number into a cell, counted from 0, for what the node itself does for a seat. Changes nothing past the last cell, and
+    /// where the handle isn't live.
+    pub fn set_number(&mut self, s: ShmemHandle, cell: u64, value: i64)
+        ensures { self.new ≡ changed self.old s.0 (with_cell cell value) }
+    {
+        match self.pool.get_mut(s.0) {
+            None => {}
+            Some(segment) => segment.set_number(cell, value),
         }
     }
 }

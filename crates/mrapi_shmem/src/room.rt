@@ -51,17 +51,17 @@ impl Room {
         self.cells.len()
     }
 
-    pub(crate) fn get(&self, cell: u32) -> i64
+    pub(crate) fn get(&self, cell: usize) -> i64
         requires { cell < length self.now }
         ensures { result ≡ slice_index_or self.now cell (pos 0) }
     {
-        self.cells[cell as usize]
+        self.cells[cell]
     }
 
-    pub(crate) fn set(&mut self, cell: u32, value: i64)
+    pub(crate) fn set(&mut self, cell: usize, value: i64)
         requires { cell < length self.old }
         ensures { self.new ≡ slice_set self.old cell value }
     {
-        self.cells[cell as usize] = value;
+        self.cells[cell] = value;
     }
 }

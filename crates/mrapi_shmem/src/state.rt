@@ -4,7 +4,7 @@ ghost use Rattle.std.specs.Prelude.{◌≡◌, ◌≤◌, ◌<◌, length};
 ghost use Rattle.std.specs.Result.{result_err};
 ghost use Rattle.mtapi_values.specs.Conditions.{first};
 ghost use Rattle.mtapi_values.specs.Seats.{any_mark};
-ghost use Rattle.mtapi_objects.specs.Segments.{new_segment, attach_refusals, detach_refusals, cell_refusals, cell_of};
+ghost use Rattle.mtapi_objects.specs.Segments.{new_segment, attach_refusals, detach_refusals, cell_refusals, cell_of, with_cell};
 ghost use Rattle.mrapi_shmem.specs.Calls.{read_answer, after_attach, after_detach, after_write};
 
 use crate::room::Room;
@@ -108,7 +108,7 @@ impl SegmentState {
         ensures { result ≡ read_answer (first (cell_refusals who cell self.now)) (cell_of cell self.now) }
     {
         self.check(who, cell)?;
-        Ok(self.room.get(cell))
+        Ok(self.room.get(cell as usize))
     }
 
     pub(crate) fn write(&mut self, who: u32, cell: u32, value: i64) -> Result<(), MrapiStatus>
@@ -117,8 +117,30 @@ impl SegmentState {
         ensures new { self.new ≡ after_write who cell value self.old }
     {
         self.check(who, cell)?;
-        self.room.set(cell, value);
+        self.room.set(cell as usize, value);
         Ok(())
+    }
+
+    /// The number in a cell, whoever asks: 0 past the last one.
+    pub(crate) fn number(&self, cell: u64) -> i64
+        ensures { result ≡ cell_of cell self.now }
+    {
+        let place = cell as usize;
+        if place < self.room.len() {
+            self.room.get(place)
+        } else {
+            0
+        }
+    }
+
+    /// Puts a number into a cell, whoever asks. Changes nothing past the last one.
+    pub(crate) fn set_number(&mut self, cell: u64, value: i64)
+        ensures { self.new ≡ with_cell cell value self.old }
+    {
+        let place = cell as usize;
+        if place < self.room.len() {
+            self.room.set(place, value);
+        }
     }
 
     /// The segment's memory.

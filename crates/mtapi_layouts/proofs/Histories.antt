@@ -50,7 +50,7 @@ terms_stay (alters k h f) s = sort_terms k _ s
 terms_stay (removes k h) s = sort_terms k _ s
 terms_stay m s = refl
 
-all_stay : (ms : List Move) (s : State) → (after_moves ms s).terms ≡ s.terms
+pub all_stay : (ms : List Move) (s : State) → (after_moves ms s).terms ≡ s.terms
 all_stay [] s = refl
 all_stay (m ∷ ms) s = all_stay ms (apply m s) ∙ terms_stay m s
 

@@ -1,6 +1,6 @@
 -- The rows by which workers take tasks and end them, and those of tallies, seen from inside.
 use Rattle.std.proofs.Common.{◌≡◌, ℕ, Bool, true, false, ◌&&◌, ◌||◌, List, [], ◌∷◌, Option, Some, None, refl, sym, ◌∙◌, ap, subst, length}
-use Rattle.std.specs.Prelude.{◌==◌, not, nat_lt, is_none, is_some, ℤ}
+use Rattle.std.specs.Prelude.{◌==◌, ◌&&◌, not, nat_lt, is_none, is_some, ℤ}
 use Rattle.std.specs.Option.{option_map}
 use Rattle.mtapi_values.specs.declared.handles.ObjectKind.{ObjectKind}
 use Rattle.mtapi_values.specs.declared.handles.ObjectKind.TheVariants as kind
@@ -19,7 +19,7 @@ use Rattle.mtapi_machine.specs.declared.replies.Reply.TheVariants.{Picked}
 use Rattle.mtapi_machine.specs.State.{State, workers, is_past_open, is_stop}
 use Rattle.mtapi_machine.specs.Moves.{Queues, Mutexes, Segments, runs_task, ends_task, notes, alters, apply, after_moves}
 use Rattle.mtapi_machine.specs.Row.{Row}
-use Rattle.mtapi_machine.specs.WorkRows.{is_ready, can_take, has_better, may_take, picks}
+use Rattle.mtapi_machine.specs.WorkRows.{is_ready, can_take, has_better, picks}
 use Rattle.mtapi_machine.specs.TallyRows.{on_tally, gives_up, takes_both, locks, gives_back}
 use Rattle.mtapi_layouts.specs.Inward.{inward, HasRoom}
 use Rattle.mtapi_layouts.specs.Turned.{turned_task, turned}
@@ -60,7 +60,8 @@ module _ {s : State} (n : Named s) where
   unfolding has_better
   same_better w priority = task-any n _ _ (λ t v. ap (λ (b : Bool). b && nat_lt t.priority priority) (same_take w t v))
 
-  same_may : (w : ℕ) (t : Task) (a : Action) → TaskIsNamed t → may_take (turned s) w (turned_task t) a ≡ may_take s w t a
+  same_may : (w : ℕ) (t : Task) (a : Action) → TaskIsNamed t → (is_ready (turned s) (turned_task t) && is_eligible (workers (turned s)) w (turned_task t).job (turned_task t).cores a && not (has_better (turned s) w (turned_task t).priority))
+      ≡ (is_ready s t && is_eligible (workers s) w t.job t.cores a && not (has_better s w t.priority))
   same_may w t a v = λ i. same_ready t v i && is_eligible (workers s) w t.job t.cores a && not (same_better w t.priority i)
 
   pub same_stop : is_stop (turned s) ≡ is_stop s

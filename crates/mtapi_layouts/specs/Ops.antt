@@ -120,19 +120,23 @@ outward k r = r
 abbrev pub outward_reply : Op → Reply → Reply
 outward_reply op r = outward (answered_kind op) r
 
--- the handle of an object that the reply gives leaves room for the number of its kind
+-- the handle in the reply leaves room for the number of a kind
 abbrev pub HandleIsSmall : Reply → Type 0
 HandleIsSmall (Handle h) = HasRoom h
 HandleIsSmall r = Unit {0}
 
--- so does that of a new object; where an op asks for the object of an id, none is new
+-- so does the handle of a new object
 abbrev pub IssuesSmall : Op → Reply → Type 0
-IssuesSmall (QueueGet id) r = Unit {0}
-IssuesSmall (MutexGet id) r = Unit {0}
-IssuesSmall (SemGet id) r = Unit {0}
-IssuesSmall (RwlGet id) r = Unit {0}
-IssuesSmall (ShmemGet id) r = Unit {0}
-IssuesSmall op r = HandleIsSmall r
+IssuesSmall (ActionCreate job x cores) r = HandleIsSmall r
+IssuesSmall (TaskStart job args priority cores detached group) r = HandleIsSmall r
+IssuesSmall (TaskEnqueue q args cores detached group) r = HandleIsSmall r
+IssuesSmall GroupCreate r = HandleIsSmall r
+IssuesSmall (QueueCreate id job priority limit ordered retain) r = HandleIsSmall r
+IssuesSmall (MutexCreate id recursive) r = HandleIsSmall r
+IssuesSmall (SemCreate id limit) r = HandleIsSmall r
+IssuesSmall (RwlCreate id limit) r = HandleIsSmall r
+IssuesSmall (ShmemCreate id cells) r = HandleIsSmall r
+IssuesSmall op r = Unit {0}
 
 -- each handle in the reply leaves room for the number of its kind
 abbrev pub IsSmall : Reply → Type 0

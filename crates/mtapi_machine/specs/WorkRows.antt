@@ -31,14 +31,13 @@ can_take s w t = is_ready s t && any_listed (is_eligible (workers s) w t.job t.c
 unfoldable pub has_better : State → ℕ → ℕ → Bool
 has_better s w priority = any_listed (λ t. can_take s w t && nat_lt t.priority priority) s.tasks
 
--- the worker may take this task by this action
-abbrev pub may_take : State → ℕ → Task → Action → Bool
-may_take s w t a = is_ready s t && is_eligible (workers s) w t.job t.cores a && not (has_better s w t.priority)
-
--- the worker takes the task and the action that the reply chooses, or is idle where there is nothing that it could take
+-- the worker takes the task and the action that the reply chooses: a ready task, by an eligible action, and none of a
+-- smaller priority could be taken; or it is idle, where there is nothing that it could take
 abbrev pub picks : State → ℕ → Reply → Row
 picks s w (Picked t a k args) =
-    chosen tasks s t.0 (λ x. chosen actions s a.0 (λ y. only (may_take s w x y) (gives (Picked t a y.kind x.args) (runs_task t.0 w y.kind ∷ []))))
+    chosen tasks s t.0 (λ x. chosen actions s a.0 (λ y.
+    only (is_ready s x && is_eligible (workers s) w x.job x.cores y && not (has_better s w x.priority))
+    (gives (Picked t a y.kind x.args) (runs_task t.0 w y.kind ∷ []))))
 picks s w _ = only (not (any_listed (can_take s w) s.tasks)) (says Idle)
 
 -- a worker that runs a task may not pick; in New there is nothing to take; late, and without a task that hasn't ended, it stops

@@ -1,3 +1,4 @@
 mod Refused
 mod Carried
 mod Replies
+mod GeneratedFormed

@@ -1,46 +1,41 @@
 -- How the command ends, and what each end says.
-use Rattle.std.specs.Prelude.{◌≡◌, ◌⊎◌, ℕ, ◌≤◌, ◌<◌, ◌^◌, List, [], ◌∷◌, ◌++◌, length, map, codes, Bool, true, false, Option, Some, None, IfSome, Ok, Err}
-use Rattle.std.specs.Str.{bytes_eq}
+use Rattle.std.specs.Prelude.{◌≡◌, ◌⊎◌, ℕ, ◌≤◌, ◌<◌, ◌^◌, List, [], ◌∷◌, ◌++◌, length, codes, Bool, true, false, Option, Some, None, IfSome, is_some, Ok, Err}
 use Rattle.std.specs.Fmt.{decimal}
 use Rattle.std.specs.Io.KnownBytes.{Appends}
-use denote.Ref.{Bor}
 use Rattle.byte_io.specs.Causes.{Rose, AppendsFront}
 use Rattle.workload_file.specs.declared.workload.Workload.{Workload}
 use Rattle.workload_file.specs.declared.faults.Fault.{Fault}
+use Rattle.workload_file.specs.declared.faults.LoadError.{LoadError}
+use Rattle.workload_file.specs.declared.faults.LoadError.TheVariants as errors
 use Rattle.workload_file.specs.Causes.{cause_text}
 use Rattle.workload_file.specs.Reading.{workload_of}
 use Rattle.node_core.specs.declared.entries.Journal.{Journal}
 use Rattle.mtapi_top.specs.declared.ends.End.{End}
 use Rattle.mtapi_top.specs.declared.ends.End.TheVariants as end
 use Rattle.mtapi_top.specs.declared.ends.Outcome.{Outcome}
-use Rattle.mtapi_top.specs.Built.{unbuilt_line}
+use Rattle.mtapi_top.specs.declared.words.Asked.{Asked}
+use Rattle.mtapi_top.specs.Words.{reads}
 use Rattle.mtapi_top.specs.Headline.{Ran}
 
--- the texts behind a list of words
-abbrev pub texts : List (Bor (List ℕ)) → List (List ℕ)
-texts words = map (λ w. w.now) words
+-- the bytes are a workload
+abbrev pub IsWorkload : List ℕ → Type 0
+IsWorkload bytes = (length bytes ≤ 1048576) × (load : Workload) × (workload_of bytes ≡ Ok load)
 
--- the words are `run` alone
-abbrev pub is_run : List (List ℕ) → Bool
-is_run [] = false
-is_run (word ∷ []) = bytes_eq word (codes "run")
-is_run (word ∷ next ∷ more) = false
-
--- the bytes are a workload whose first statement that isn't executed is this
-abbrev pub IsUnbuilt : List ℕ → ℕ → Type 0
-IsUnbuilt bytes line = (length bytes ≤ 1048576) × (load : Workload) × (workload_of bytes ≡ Ok load) × (unbuilt_line load ≡ Some line)
-
--- the bytes are a workload all of whose statements are executed
-abbrev pub IsBuilt : List ℕ → Type 0
-IsBuilt bytes = (length bytes ≤ 1048576) × (load : Workload) × (workload_of bytes ≡ Ok load) × (unbuilt_line load ≡ None)
-
--- the bytes are no workload
-abbrev pub IsNone : List ℕ → Type 0
-IsNone bytes = (1048576 < length bytes) ⊎ ((length bytes ≤ 1048576) × (fault : Fault) × (workload_of bytes ≡ Err fault))
-
--- the bytes are refused: no workload, or one that isn't executed
+-- the bytes are refused: they are no workload
 abbrev pub IsRefused : List ℕ → Type 0
-IsRefused bytes = IsNone bytes ⊎ ((line : ℕ) × IsUnbuilt bytes line)
+IsRefused bytes = (1048576 < length bytes) ⊎ ((length bytes ≤ 1048576) × (fault : Fault) × (workload_of bytes ≡ Err fault))
+
+-- where words that read a workload were asked, the bytes are one
+abbrev pub HasRead : Option Asked → Option (List ℕ) → Type 0
+HasRead words bytes = reads words ≡ true → IfSome bytes IsWorkload
+
+-- why there is no workload to run: but for want of memory, only where one is read
+abbrev pub HasNone : Option Asked → Option (List ℕ) → ℕ → ℕ → LoadError → Type 0
+HasNone words bytes before now errors.Memory = Unit {0}
+HasNone words bytes before now errors.Read = (reads words ≡ true) × Rose before now
+HasNone words bytes before now errors.TooLong = (reads words ≡ true) × IfSome bytes (λ t. 1048576 < length t)
+HasNone words bytes before now (errors.Refused line cause) =
+    (reads words ≡ true) × IfSome bytes (λ t. (length t ≤ 1048576) × (workload_of t ≡ Err (record { line = line; cause = cause })))
 
 -- what stands outside the command: how many reads, writes and threads were refused so far, and what the output holds
 pub record Outside : Type 0 where
@@ -50,18 +45,17 @@ pub record Outside : Type 0 where
   pub held : Option (List ℕ)
 
 -- what is known at each end: of the words, the bytes of the source, and what stood outside before and stands there then
-abbrev pub Ends : Bool → Option (List ℕ) → Outside → Outside → End → Type 0
-Ends run bytes a b (end.Done journal) = (run ≡ true) × Ran bytes journal (Appends a.held b.held)
-Ends run bytes a b end.Usage = (run ≡ false) × (b.held ≡ a.held)
-Ends run bytes a b (end.Refused line cause) =
-    (run ≡ true) × IfSome bytes (λ t. (length t ≤ 1048576) × (workload_of t ≡ Err (record { line = line; cause = cause }))) × (b.held ≡ a.held)
-Ends run bytes a b end.TooLong = (run ≡ true) × IfSome bytes (λ t. 1048576 < length t) × (b.held ≡ a.held)
-Ends run bytes a b (end.NotBuilt line) = (run ≡ true) × IfSome bytes (λ t. IsUnbuilt t line) × (b.held ≡ a.held)
-Ends run bytes a b end.ReadFault = (run ≡ true) × Rose a.reads b.reads × (b.held ≡ a.held)
-Ends run bytes a b (end.WriteFault journal) = (run ≡ true) × Rose a.writes b.writes × Ran bytes journal (AppendsFront a.held b.held)
-Ends run bytes a b end.Memory = (run ≡ true) × (b.held ≡ a.held)
-Ends run bytes a b end.NoThread = (run ≡ true) × Rose a.threads b.threads × IfSome bytes IsBuilt × (b.held ≡ a.held)
-Ends run bytes a b (end.Spent s) = (run ≡ true) × (2 ^ 62 ≤ s) × IfSome bytes IsBuilt × (b.held ≡ a.held)
+abbrev pub Ends : Option Asked → Option (List ℕ) → Outside → Outside → End → Type 0
+Ends words bytes a b (end.Done journal) = Ran words bytes journal (Appends a.held b.held)
+Ends words bytes a b end.Usage = (words ≡ None) × (b.held ≡ a.held)
+Ends words bytes a b (end.Refused line cause) =
+    (reads words ≡ true) × IfSome bytes (λ t. (length t ≤ 1048576) × (workload_of t ≡ Err (record { line = line; cause = cause }))) × (b.held ≡ a.held)
+Ends words bytes a b end.TooLong = (reads words ≡ true) × IfSome bytes (λ t. 1048576 < length t) × (b.held ≡ a.held)
+Ends words bytes a b end.ReadFault = (reads words ≡ true) × Rose a.reads b.reads × (b.held ≡ a.held)
+Ends words bytes a b (end.WriteFault journal) = Rose a.writes b.writes × Ran words bytes journal (AppendsFront a.held b.held)
+Ends words bytes a b end.Memory = (is_some words ≡ true) × (b.held ≡ a.held)
+Ends words bytes a b end.NoThread = (is_some words ≡ true) × Rose a.threads b.threads × HasRead words bytes × (b.held ≡ a.held)
+Ends words bytes a b (end.Spent s) = (is_some words ≡ true) × (2 ^ 62 ≤ s) × HasRead words bytes × (b.held ≡ a.held)
 
 -- a text was written, or a prefix of it where writing failed
 pub record Says (before now : ℕ) (old new : Option (List ℕ)) (text : List ℕ) : Type 0 where
@@ -75,7 +69,6 @@ status_of (end.Done journal) = 0
 status_of end.Usage = 2
 status_of (end.Refused line cause) = 3
 status_of end.TooLong = 3
-status_of (end.NotBuilt line) = 3
 status_of end.ReadFault = 4
 status_of (end.WriteFault journal) = 5
 status_of end.Memory = 6
@@ -89,7 +82,6 @@ journal_of (end.WriteFault journal) = Some journal
 journal_of end.Usage = None
 journal_of (end.Refused line cause) = None
 journal_of end.TooLong = None
-journal_of (end.NotBuilt line) = None
 journal_of end.ReadFault = None
 journal_of end.Memory = None
 journal_of end.NoThread = None
@@ -103,10 +95,9 @@ spent_of _ = None
 -- what is said on the error output
 unfoldable pub message : End → List ℕ
 message (end.Done journal) = []
-message end.Usage = codes "usage: mtapi run" ++ 10 ∷ []
+message end.Usage = codes "usage: mtapi run [--journal] | mtapi gen N [W]" ++ 10 ∷ []
 message (end.Refused line cause) = codes "mtapi: line " ++ (decimal line ++ (codes ": " ++ (cause_text cause ++ 10 ∷ [])))
 message end.TooLong = codes "mtapi: workload too long" ++ 10 ∷ []
-message (end.NotBuilt line) = codes "mtapi: line " ++ (decimal line ++ (codes ": not built" ++ 10 ∷ []))
 message end.ReadFault = codes "mtapi: read fault" ++ 10 ∷ []
 message (end.WriteFault journal) = codes "mtapi: write fault" ++ 10 ∷ []
 message end.Memory = codes "mtapi: out of memory" ++ 10 ∷ []
@@ -116,7 +107,6 @@ message (end.Spent s) = codes "mtapi: turns spent" ++ 10 ∷ []
 -- the message names a line
 abbrev pub has_line : End → Bool
 has_line (end.Refused line cause) = true
-has_line (end.NotBuilt line) = true
 has_line (end.Done journal) = false
 has_line end.Usage = false
 has_line end.TooLong = false

@@ -1,4 +1,5 @@
-pub mod Built
+pub mod Words
 pub mod Headline
 pub mod Command
 pub mod Replies
+pub mod Generated

@@ -7,7 +7,7 @@ use workload_file::Cause;
 /// How the command ends.
 #[derive(Drop)]
 pub enum End {
-    /// The run's report was written.
+    /// The output was written.
     Done(RunJournal),
     /// The words are none that the command takes.
     Usage,
@@ -15,11 +15,9 @@ pub enum End {
     Refused(u64, Cause),
     /// There are more bytes than a workload may have.
     TooLong,
-    /// This is the line of the first statement that isn't executed yet.
-    NotBuilt(u64),
     /// A read failed.
     ReadFault,
-    /// A write of the report failed.
+    /// A write of the output failed.
     WriteFault(RunJournal),
     /// There was no memory.
     Memory,

@@ -1,17 +1,24 @@
-//! The command: it reads a workload, makes its run and writes its report.
+//! The command: it reads or makes a workload, makes its run, and writes its report, its journal or its summary.
 #![tactic(auto)]
 
-mod built;
 mod carry;
 mod ends;
+#[cfg(test)]
+mod generated_tests;
+mod generator;
+#[cfg(test)]
+mod journal_tests;
 pub mod laws;
 mod pieces;
 mod telling;
 #[cfg(test)]
 mod tests;
+mod words;
 
 pub use carry::command;
 pub use ends::{End, Outcome};
+pub use generator::generated;
 pub use run_report::report_of;
 pub use sched_threads::{Beside, FewThreads, Threads, run_node};
 pub use telling::tell;
+pub use words::Asked;

@@ -1,16 +1,16 @@
-//! The run of a workload, and its report.
-ghost use Rattle.std.specs.Prelude.{◌≡◌, ◌≤◌, None, IfOk, IfErr, length};
+//! The run of a workload, and its output.
+ghost use Rattle.std.specs.Prelude.{◌≡◌, ◌≤◌, IfOk, IfErr, length};
 ghost use Rattle.workload_file.specs.Formed.{WellFormed};
-ghost use Rattle.run_report.specs.Report.{report};
 ghost use Rattle.sched_threads.specs.Runs.{Causes};
-ghost use Rattle.mtapi_top.specs.Built.{unbuilt_line};
-ghost use Rattle.mtapi_top.specs.Headline.{IsRun};
+ghost use Rattle.mtapi_top.specs.Headline.{IsRun, output};
 
+use crate::words::Asked;
 use action_fn::ActionSource;
-use node_core::{Node, RunJournal};
-use run_report::report_of;
+use journal_text::write_journal;
+use node_core::{Journal, Node, RunJournal};
+use run_report::{report_of, summary_of};
 use sched_threads::{Beside, RunError, run_node};
-use std::alloc::Global;
+use std::alloc::{AllocError, Global};
 use std::sync::Wait;
 use std::thread::Threads;
 use workload_file::Workload;
@@ -33,7 +33,6 @@ fn run_of<R: Threads + Wait + Sync, A: ActionSource, B: Beside>(
     beside: &mut B,
 ) -> Result<RunJournal, RunError>
     requires formed { WellFormed load.now }
-    requires built { unbuilt_line load.now ≡ None }
     ensures run { IfOk result (λ j. IsRun load.now j) }
     ensures causes { IfErr result (Causes (B.refusals beside.old) (B.refusals beside.new)) }
 {
@@ -43,25 +42,48 @@ fn run_of<R: Threads + Wait + Sync, A: ActionSource, B: Beside>(
     run_node(rt, alloc, node, load, acts, beside)
 }
 
-/// Makes the run of a workload, and its report.
-pub(crate) fn run_and_report<R: Threads + Wait + Sync, A: ActionSource, B: Beside>(
+/// The output that was asked for, of a run of this workload that left this journal.
+fn output_of(
+    alloc: Global,
+    asked: &Asked,
+    load: &Workload,
+    journal: &Journal,
+) -> Result<Vec<u8>, AllocError>
+    requires formed { WellFormed load.now }
+    requires run { IsRun load.now journal.now }
+    ensures { IfOk result (λ text. text.items ≡ output asked.now load.now journal.now) }
+{
+    match asked {
+        Asked::Report => report_of(alloc, load, journal),
+        Asked::Journal => {
+            let mut text = report_of(alloc, load, journal)?;
+            let lines = write_journal(alloc, journal)?;
+            text.extend_from_slice(&lines)?;
+            Ok(text)
+        }
+        Asked::Generated { .. } => summary_of(alloc, load, journal),
+    }
+}
+
+/// Makes the run of a workload, and the output that was asked for.
+pub(crate) fn run_and_output<R: Threads + Wait + Sync, A: ActionSource, B: Beside>(
     rt: &R,
     alloc: Global,
+    asked: &Asked,
     load: &Workload,
     acts: &mut A,
     beside: &mut B,
 ) -> Result<(RunJournal, Vec<u8>), RunError>
     requires formed { WellFormed load.now }
-    requires built { unbuilt_line load.now ≡ None }
     ensures is_run { IfOk result (λ r. IsRun load.now r.0) }
-    ensures report { IfOk result (λ r. r.1.items ≡ report r.0.layout load.now r.0.entries.entries) }
+    ensures output { IfOk result (λ r. r.1.items ≡ output asked.now load.now r.0) }
     ensures causes { IfErr result (Causes (B.refusals beside.old) (B.refusals beside.new)) }
 {
     let run = match run_of(rt, alloc, load, acts, beside) {
         Ok(run) => run,
         Err(error) => return Err(error),
     };
-    match report_of(alloc, load, run.journal()) {
+    match output_of(alloc, asked, load, run.journal()) {
         Ok(text) => Ok((run, text)),
         Err(_) => Err(RunError::Memory),
     }

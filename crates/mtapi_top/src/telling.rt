@@ -17,14 +17,6 @@ fn fault_text(alloc: Global, line: u64, cause: Cause) -> Result<String, AllocErr
     format!(in alloc; "mtapi: line {line}: {cause}\n")
 }
 
-/// The message for a statement that isn't executed.
-#[tactic(auto, unfolding(crate::specs::Command::message))]
-fn unbuilt_text(alloc: Global, line: u64) -> Result<String, AllocError>
-    ensures { IfOk result (λ text. string_bytes text ≡ message (End.NotBuilt line)) }
-{
-    format!(in alloc; "mtapi: line {line}: not built\n")
-}
-
 /// Writes a text. A fault of the sink changes nothing else.
 fn say<E: Sink>(err: &mut E, text: &[u8])
     ensures { Says (E.faults err.old) (E.faults err.new) (E.held err.old) (E.held err.new) text.now }
@@ -39,8 +31,8 @@ fn plain_text(end: &End) -> &'static [u8]
     ensures { result.now ≡ message end.now }
 {
     match end {
-        End::Done(_) | End::Refused(..) | End::NotBuilt(_) => b"",
-        End::Usage => b"usage: mtapi run\n",
+        End::Done(_) | End::Refused(..) => b"",
+        End::Usage => b"usage: mtapi run [--journal] | mtapi gen N [W]\n",
         End::TooLong => b"mtapi: workload too long\n",
         End::ReadFault => b"mtapi: read fault\n",
         End::WriteFault(_) => b"mtapi: write fault\n",
@@ -65,7 +57,7 @@ fn outcome_of(end: End) -> Outcome
             spent: Some(spent),
         },
         End::Usage => alone(2),
-        End::Refused(..) | End::TooLong | End::NotBuilt(_) => alone(3),
+        End::Refused(..) | End::TooLong => alone(3),
         End::ReadFault => alone(4),
         End::Memory => alone(6),
         End::NoThread => alone(7),
@@ -119,10 +111,6 @@ pub fn tell<E: Sink>(alloc: Global, end: End, err: &mut E) -> Outcome
         End::Refused(line, cause) => {
             let text = fault_text(alloc, line, cause);
             tell_text(End::Refused(line, cause), text, err)
-        }
-        End::NotBuilt(line) => {
-            let text = unbuilt_text(alloc, line);
-            tell_text(End::NotBuilt(line), text, err)
         }
         other => {
             say(err, plain_text(&other));

@@ -31,19 +31,19 @@ struct Case {
     err: &'static [u8],
 }
 
-/// The first workload, read and written whole.
+/// A workload, read and written whole.
 fn plain() -> Case {
     Case {
         words: ["run", "x"],
         count: 1,
-        text: b"action a job=1 kind=add\nstart t job=1 args=1,2,3\nwait t timeout=inf\n",
+        text: b"action a job=1 kind=max\nstart t job=1 args=3,9,4\nwait t timeout=inf\n",
         most: 4096,
         source_fails: 0,
         sink_fails: 0,
         err_fails: 0,
         refused_thread: 0,
         status: 0,
-        out: b"main.t completed 6\n",
+        out: b"main.t completed 9\n",
         err: b"",
     }
 }
@@ -81,7 +81,7 @@ fn thread_refused(text: &'static [u8], number: u64) -> Case {
 }
 
 /// The function of each pure kind.
-fn table() -> FnTable {
+pub(crate) fn table() -> FnTable {
     FnTable::new(
         StoredFn::new(Kind::Add, act_add),
         StoredFn::new(Kind::Mul, act_mul),
@@ -152,21 +152,21 @@ fn words_and_faults(rt: HostRuntime) {
             count: 2,
             status: 2,
             out: none,
-            err: b"usage: mtapi run\n",
+            err: b"usage: mtapi run [--journal] | mtapi gen N [W]\n",
             ..plain()
         },
         Case {
             count: 0,
             status: 2,
             out: none,
-            err: b"usage: mtapi run\n",
+            err: b"usage: mtapi run [--journal] | mtapi gen N [W]\n",
             ..plain()
         },
         Case {
             words: ["runs", "x"],
             status: 2,
             out: none,
-            err: b"usage: mtapi run\n",
+            err: b"usage: mtapi run [--journal] | mtapi gen N [W]\n",
             ..plain()
         },
         Case {
@@ -225,10 +225,6 @@ fn refused_texts(rt: HostRuntime) {
             b"action a job=1 kind=add\nstart t job=1\nstart t job=1\n",
             b"mtapi: line 3: name taken\n",
         ),
-        refused(
-            b"begin\ncaller a\naction t job=1 kind=tally\n",
-            b"mtapi: line 3: not built\n",
-        ),
     ] {
         check(&rt, rt.alloc(), &case);
     }
@@ -245,80 +241,18 @@ fn long_texts(rt: HostRuntime) {
     check_bytes(&rt, alloc, spaces, &no_workload);
 }
 
-/// A node with four workers, a group, ordered work and shared memory, and two further callers that lock one mutex.
-const MIXED: &[u8] = b"node workers=4\n\
-action sum job=1 kind=add\n\
-action big job=2 kind=max cores=0,1\n\
-queue q id=7 job=1 ordered=yes\n\
-mutex m id=1\n\
-shmem s id=1 cells=4\n\
-begin\n\
-group g\n\
-start a job=2 args=3,9,4 group=g\n\
-start b job=2 args=-5,-2 group=g\n\
-start c job=1 args=10,20,30 group=g priority=1\n\
-start d job=2 args=8 group=g\n\
-wait_all g timeout=inf\n\
-caller feed\n\
-queue_get q id=7\n\
-mutex_get m id=1\n\
-shmem_get s id=1\n\
-attach s\n\
-enqueue x queue=q args=1,2\n\
-enqueue y queue=q args=3,4\n\
-lock m timeout=inf\n\
-write s cell=0 value=5\n\
-read s cell=0\n\
-unlock m key=1\n\
-wait x timeout=inf\n\
-wait y timeout=inf\n\
-detach s\n\
-caller tail\n\
-mutex_get m id=1\n\
-lock m timeout=inf\n\
-unlock m key=1\n";
-
-const MIXED_REPORT: &[u8] = b"main.a completed 9\n\
-main.b completed -2\n\
-main.c completed 60\n\
-main.d completed 8\n\
-feed.x completed 3\n\
-feed.y completed 7\n\
-= feed 21 1\n\
-= feed 23 5\n\
-= tail 30 1\n";
-
-/// Two workers, main and two further callers, each with a task of its own.
-const THREE: &[u8] = b"node workers=2\n\
-action a job=1 kind=add\n\
-action b job=1 kind=add cores=1\n\
-begin\n\
-start t job=1 args=1,2\n\
-wait t timeout=inf\n\
-caller c\n\
-start t job=1 args=3,4\n\
-start u job=2\n\
-wait t timeout=inf\n\
-wait t timeout=nowait\n\
-caller d\n\
-start v job=1 args=5,6 priority=1\n\
-wait v timeout=inf\n";
-
-const THREE_REPORT: &[u8] = b"main.t completed 3\n\
-c.t completed 7\n\
-c.u refused MTAPI_ERR_JOB_INVALID\n\
-d.v completed 11\n\
-! c 11 MTAPI_ERR_TASK_INVALID\n";
+/// Two workers, main and two further callers.
+const FIVE: &[u8] = b"node workers=2\ncaller c\ncaller d\n";
 
 #[test]
 fn refused_threads(rt: HostRuntime) {
     // Two workers and two further callers have a thread each.
     for number in 1..=4 {
-        check(&rt, rt.alloc(), &thread_refused(THREE, number));
+        check(&rt, rt.alloc(), &thread_refused(FIVE, number));
     }
     let case = Case {
         refused_thread: 5,
-        ..reported(THREE, THREE_REPORT)
+        ..reported(FIVE, b"")
     };
     check(&rt, rt.alloc(), &case);
 }
@@ -332,7 +266,7 @@ struct Meeting<'a> {
 }
 
 impl<'a> ActionSet for Meeting<'a> {
-    fn run(&mut self, kind: Kind, args: Args) -> Finished {
+    fn run<R: Wait>(&mut self, rt: &R, kind: Kind, args: Args) -> Finished {
         let before = self.begun.fetch_add(1, Ordering::SeqCst);
         if before == 0 {
             let backoff = Backoff::new();
@@ -344,7 +278,7 @@ impl<'a> ActionSet for Meeting<'a> {
                 backoff.snooze();
             }
         }
-        self.plain.run(kind, args)
+        self.plain.run(rt, kind, args)
     }
 }
 
@@ -389,16 +323,11 @@ fn two_actions_meet(rt: HostRuntime) {
 fn reports(rt: HostRuntime) {
     for case in [
         reported(b"", b""),
-        reported(
-            b"action a job=1 kind=add\nstart t job=1 args=1,2,3\nwait t timeout=inf",
-            b"main.t completed 6\n",
-        ),
+        // The last line has no line feed.
         Case {
+            text: b"action a job=1 kind=max\nstart t job=1 args=3,9,4\nwait t timeout=inf",
             most: 1,
-            ..reported(
-                b"action a job=1 kind=add\nstart t job=1 args=1,2,3\nwait t timeout=inf",
-                b"main.t completed 6\n",
-            )
+            ..plain()
         },
         reported(
             b"start t job=1 args=1\n",
@@ -417,10 +346,6 @@ fn reports(rt: HostRuntime) {
             b"main.t completed 9223372036854775807\n",
         ),
         reported(
-            b"node max_tasks=1\naction a job=1 kind=add\nstart t job=1 args=1\nstart u job=1 args=2\nwait u timeout=inf\nwait t timeout=inf\n",
-            b"main.t completed 1\nmain.u refused MTAPI_ERR_TASK_LIMIT\n! main 5 MTAPI_ERR_TASK_INVALID\n",
-        ),
-        reported(
             b"node max_tasks=1 generations=1\naction a job=1 kind=add\nstart t job=1 args=1\nwait t timeout=inf\nstart u job=1 args=2\n",
             b"main.t completed 1\nmain.u refused MTAPI_ERR_TASK_LIMIT\n",
         ),
@@ -433,7 +358,6 @@ fn reports(rt: HostRuntime) {
             b"main.t completed 2\nmain.u error MTAPI_ERR_ACTION_FAILED\n",
         ),
         reported(b"caller a", b""),
-        reported(THREE, THREE_REPORT),
     ] {
         check(&rt, rt.alloc(), &case);
     }
@@ -559,9 +483,52 @@ fn reports_of_groups_and_ends_of_many(rt: HostRuntime) {
     }
 }
 
+/// Two tallies of one cell, on two workers.
+const TALLIES: &[u8] =
+    b"node workers=2\naction a job=1 kind=tally\nmutex m id=1\nshmem s id=2 cells=1\ngroup g\nstart t job=1 args=1,2,0,5 group=g\nstart u job=1 args=1,2,0,7 group=g\nwait_all g timeout=inf\nattach s\nread s cell=0\n";
+
 #[test]
-fn a_realistic_workload(rt: HostRuntime) {
-    for _ in 0..100 {
-        check(&rt, rt.alloc(), &reported(MIXED, MIXED_REPORT));
+fn tallies_of_two_workers(rt: HostRuntime) {
+    for case in [
+        // The segment doesn't have the cell.
+        reported(
+            b"node workers=2\naction a job=1 kind=tally\nmutex m id=1\nshmem s id=2 cells=1\ngroup g\nstart t job=1 args=1,2,0,5 group=g\nstart u job=1 args=1,2,1,7 group=g\nwait_all g timeout=inf\nattach s\nread s cell=0\n",
+            b"main.t completed 5\nmain.u error MTAPI_ERR_ACTION_FAILED\n! main 8 MTAPI_ERR_ACTION_FAILED\n= main 10 5\n",
+        ),
+        // There are three arguments.
+        reported(
+            b"node workers=2\naction a job=1 kind=tally\nmutex m id=1\nshmem s id=2 cells=1\ngroup g\nstart t job=1 args=1,2,0,5 group=g\nstart u job=1 args=1,2,0 group=g\nwait_all g timeout=inf\nattach s\nread s cell=0\n",
+            b"main.t completed 5\nmain.u error MTAPI_ERR_ARG_SIZE\n! main 8 MTAPI_ERR_ARG_SIZE\n= main 10 5\n",
+        ),
+        // Nobody has the id of the mutex.
+        reported(
+            b"action a job=1 kind=tally\nshmem s id=2 cells=1\nstart t job=1 args=1,2,0,5\nwait t timeout=inf\n",
+            b"main.t error MTAPI_ERR_ACTION_FAILED\n",
+        ),
+    ] {
+        check(&rt, rt.alloc(), &case);
+    }
+    // Which of the two adds first isn't said; the cell holds the sum of both.
+    for _ in 0..20 {
+        let alloc = rt.alloc();
+        let text = TALLIES.to_vec(alloc).expect(&rt, "memory");
+        let none = vec![in alloc; 0u64].expect(&rt, "memory");
+        let mut src = MemSource::new(text, 4096, none);
+        let none = vec![in alloc; 0u64].expect(&rt, "memory");
+        let mut out = MemSink::new(alloc, 4096, 4096, none).expect(&rt, "memory");
+        let none = vec![in alloc; 0u64].expect(&rt, "memory");
+        let mut err = MemSink::new(alloc, 4096, 4096, none).expect(&rt, "memory");
+        let outcome = command(
+            &rt,
+            alloc,
+            &["run"],
+            &mut src,
+            &mut out,
+            &mut err,
+            &mut table(),
+            &mut Threads::new(),
+        );
+        assert_eq!(rt; outcome.status, 0);
+        assert!(rt; out.bytes().ends_with(b"= main 10 12\n"));
     }
 }

@@ -1,17 +1,14 @@
--- The lists that the code searches for names, and that they have each value.
-use Rattle.std.proofs.Common.{◌≡◌, Some, List, [], ◌∷◌, refl}
+-- The lists of values that have names: each has every value.
+use Rattle.std.proofs.Common.{◌≡◌, Some, refl}
 use Rattle.mtapi_values.specs.declared.statuses.MtapiStatus.{MtapiStatus}
 use Rattle.mtapi_values.specs.declared.statuses.MrapiStatus.{MrapiStatus}
 use Rattle.mtapi_values.specs.declared.statuses.MtapiStatus.TheVariants as t
 use Rattle.mtapi_values.specs.declared.statuses.MrapiStatus.TheVariants as r
 use Rattle.mtapi_values.specs.declared.kinds.Kind.{Kind}
 use Rattle.mtapi_values.specs.declared.kinds.Kind.TheVariants as k
-use Rattle.mtapi_values.specs.Statuses.{mtapi_name, mrapi_name}
-use Rattle.mtapi_values.specs.Kinds.{kind_word}
+use Rattle.mtapi_values.specs.Statuses.{mtapi_name, mrapi_name, mtapi_all, mrapi_all}
+use Rattle.mtapi_values.specs.Kinds.{kind_word, kind_all}
 use Rattle.mtapi_values.proofs.NameLemmas.{FindsEach, found_by}
-
-abbrev pub mtapi_all : List MtapiStatus
-mtapi_all = t.Success ∷ t.Timeout ∷ t.GroupCompleted ∷ t.ErrParameter ∷ t.ErrNodeInitialized ∷ t.ErrNodeNotinit ∷ t.ErrActionInvalid ∷ t.ErrActionLimit ∷ t.ErrActionFailed ∷ t.ErrActionDeleted ∷ t.ErrActionDisabled ∷ t.ErrArgSize ∷ t.ErrJobInvalid ∷ t.ErrNoCore ∷ t.ErrTaskInvalid ∷ t.ErrTaskLimit ∷ t.ErrTaskCancelled ∷ t.ErrGroupInvalid ∷ t.ErrGroupLimit ∷ t.ErrQueueInvalid ∷ t.ErrQueueLimit ∷ t.ErrQueueDeleted ∷ t.ErrQueueDisabled ∷ t.ErrQueueExists ∷ t.ErrWaitPending ∷ t.ErrAttrNum ∷ t.ErrAttrReadonly ∷ t.ErrCoreNum ∷ t.ErrSpent ∷ []
 
 mtapi_own : (x : MtapiStatus) → found_by mtapi_name mtapi_all (mtapi_name x) ≡ Some x
 mtapi_own t.Success = refl
@@ -46,9 +43,6 @@ mtapi_own t.ErrSpent = refl
 
 pub mtapi_finds_each : FindsEach mtapi_name mtapi_all
 mtapi_finds_each = record { own = mtapi_own }
-
-abbrev pub mrapi_all : List MrapiStatus
-mrapi_all = r.Success ∷ r.Timeout ∷ r.ErrParameter ∷ r.ErrNodeNotinit ∷ r.ErrMutexInvalid ∷ r.ErrMutexIdInvalid ∷ r.ErrMutexExists ∷ r.ErrMutexLimit ∷ r.ErrMutexLocked ∷ r.ErrMutexNotlocked ∷ r.ErrMutexKey ∷ r.ErrMutexLockorder ∷ r.ErrSemInvalid ∷ r.ErrSemIdInvalid ∷ r.ErrSemExists ∷ r.ErrSemLocked ∷ r.ErrSemNotlocked ∷ r.ErrRwlInvalid ∷ r.ErrRwlIdInvalid ∷ r.ErrRwlExists ∷ r.ErrRwlLimit ∷ r.ErrRwlLocked ∷ r.ErrRwlNotlocked ∷ r.ErrShmInvalid ∷ r.ErrShmIdInvalid ∷ r.ErrShmExists ∷ r.ErrShmLimit ∷ r.ErrShmAttached ∷ r.ErrShmNotattached ∷ r.ErrSpent ∷ r.ErrSemLimit ∷ []
 
 mrapi_own : (x : MrapiStatus) → found_by mrapi_name mrapi_all (mrapi_name x) ≡ Some x
 mrapi_own r.Success = refl
@@ -85,9 +79,6 @@ mrapi_own r.ErrSemLimit = refl
 
 pub mrapi_finds_each : FindsEach mrapi_name mrapi_all
 mrapi_finds_each = record { own = mrapi_own }
-
-abbrev pub kind_all : List Kind
-kind_all = k.Add ∷ k.Mul ∷ k.Max ∷ k.Div ∷ k.Gcd ∷ k.Echo ∷ k.Triangle ∷ k.Fail ∷ k.Watch ∷ k.Tally ∷ []
 
 kind_own : (x : Kind) → found_by kind_word kind_all (kind_word x) ≡ Some x
 kind_own k.Add = refl

@@ -1,5 +1,5 @@
 -- The tables of statuses: each one's number and its name.
-use Rattle.std.specs.Prelude.{ℕ, List, codes}
+use Rattle.std.specs.Prelude.{ℕ, List, [], ◌∷◌, codes}
 use Rattle.mtapi_values.specs.declared.statuses.MtapiStatus.{MtapiStatus}
 use Rattle.mtapi_values.specs.declared.statuses.MrapiStatus.{MrapiStatus}
 use Rattle.mtapi_values.specs.declared.statuses.MtapiStatus.TheVariants as t
@@ -136,3 +136,11 @@ mrapi_name r.ErrShmAttached = codes "MRAPI_ERR_SHM_ATTACHED"
 mrapi_name r.ErrShmNotattached = codes "MRAPI_ERR_SHM_NOTATTACHED"
 mrapi_name r.ErrSpent = codes "MRAPI_ERR_SPENT"
 mrapi_name r.ErrSemLimit = codes "MRAPI_ERR_SEM_LIMIT"
+
+-- each MTAPI status once
+abbrev pub mtapi_all : List MtapiStatus
+mtapi_all = t.Success ∷ t.Timeout ∷ t.GroupCompleted ∷ t.ErrParameter ∷ t.ErrNodeInitialized ∷ t.ErrNodeNotinit ∷ t.ErrActionInvalid ∷ t.ErrActionLimit ∷ t.ErrActionFailed ∷ t.ErrActionDeleted ∷ t.ErrActionDisabled ∷ t.ErrArgSize ∷ t.ErrJobInvalid ∷ t.ErrNoCore ∷ t.ErrTaskInvalid ∷ t.ErrTaskLimit ∷ t.ErrTaskCancelled ∷ t.ErrGroupInvalid ∷ t.ErrGroupLimit ∷ t.ErrQueueInvalid ∷ t.ErrQueueLimit ∷ t.ErrQueueDeleted ∷ t.ErrQueueDisabled ∷ t.ErrQueueExists ∷ t.ErrWaitPending ∷ t.ErrAttrNum ∷ t.ErrAttrReadonly ∷ t.ErrCoreNum ∷ t.ErrSpent ∷ []
+
+-- each MRAPI status once
+abbrev pub mrapi_all : List MrapiStatus
+mrapi_all = r.Success ∷ r.Timeout ∷ r.ErrParameter ∷ r.ErrNodeNotinit ∷ r.ErrMutexInvalid ∷ r.ErrMutexIdInvalid ∷ r.ErrMutexExists ∷ r.ErrMutexLimit ∷ r.ErrMutexLocked ∷ r.ErrMutexNotlocked ∷ r.ErrMutexKey ∷ r.ErrMutexLockorder ∷ r.ErrSemInvalid ∷ r.ErrSemIdInvalid ∷ r.ErrSemExists ∷ r.ErrSemLocked ∷ r.ErrSemNotlocked ∷ r.ErrRwlInvalid ∷ r.ErrRwlIdInvalid ∷ r.ErrRwlExists ∷ r.ErrRwlLimit ∷ r.ErrRwlLocked ∷ r.ErrRwlNotlocked ∷ r.ErrShmInvalid ∷ r.ErrShmIdInvalid ∷ r.ErrShmExists ∷ r.ErrShmLimit ∷ r.ErrShmAttached ∷ r.ErrShmNotattached ∷ r.ErrSpent ∷ r.ErrSemLimit ∷ []

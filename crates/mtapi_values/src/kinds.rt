@@ -2,7 +2,7 @@
 
 ghost use Rattle.std.specs.Prelude.{◌≡◌, ◌≢◌, ◌↔◌, Some, IsNone};
 ghost use Rattle.mtapi_values.specs.declared.kinds.Kind.{Kind};
-ghost use Rattle.mtapi_values.specs.Kinds.{kind_word};
+ghost use Rattle.mtapi_values.specs.Kinds.{kind_word, kind_named};
 
 use crate::names::{Named, value_named};
 
@@ -67,6 +67,7 @@ impl Kind {
 
     /// The kind with this word, and None exactly where no kind has it.
     pub fn from_word(text: &str) -> Option<Kind>
+        ensures value { result ≡ kind_named text.now }
         ensures known { (kind : Kind) → (result ≡ Some kind) ↔ (text.now ≡ kind_word kind) }
         ensures unknown { IsNone result ↔ ((kind : Kind) → text.now ≢ kind_word kind) }
     {

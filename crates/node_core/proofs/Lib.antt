@@ -1,25 +1,5 @@
-pub mod Marks
-pub mod SupportedLemmas
-pub mod Gives
-pub mod Moves
-pub mod Changes
-pub mod PhaseSteps
-pub mod ResourceSteps
-pub mod ActionSteps
-pub mod TaskSteps
-pub mod StartSteps
-pub mod WorkSteps
-pub mod QueueLemmas
-pub mod PickSteps
-pub mod InitSteps
 pub mod KeptLemmas
 pub mod LogLemmas
 pub mod TwoSeats
-mod KeepLemmas
-pub mod StopSteps
-pub mod ListedEnds
-pub mod WaitingEnds
-pub mod WithdrawSteps
-pub mod QueueSteps
-pub mod GroupLists
-pub mod GroupSteps
+pub mod Outside
+pub mod NodeLemmas

@@ -2,8 +2,6 @@
 use Rattle.std.proofs.Common.{◌≡◌, ℕ, ◌+◌, ◌<◌, ◌^◌, Bool, true, false, List, [], ◌∷◌, ◌++◌, length, length-append, refl, sym, ◌∙◌, ap, subst, arith}
 use Rattle.std.specs.Prelude.{slice_index, Option, None, Result, Ok, IfOk, IfSome, IsErr, ◌↔◌}
 use Rattle.std.specs.declared.alloc.AllocError.{AllocError}
-use Rattle.node_core.specs.Supported.{AllSupported}
-use Rattle.node_core.proofs.SupportedLemmas.{supported_kept}
 use Rattle.node_core.specs.declared.entries.Journal.{Journal}
 use Rattle.history.specs.Histories.{entry}
 use Rattle.mtapi_machine.specs.declared.ops.Op.{Op}
@@ -19,8 +17,8 @@ use Rattle.node_core.specs.declared.journaled.Log.{Log}
 use Rattle.node_core.specs.declared.journaled.Journaled.{Journaled}
 use Rattle.node_core.specs.declared.node.Node.{Node}
 use Rattle.node_core.specs.Journals.{KeptEntries, kept_of, skipped_of}
-use Rattle.node_core.specs.Stands.{Stands, state_of, terms_of, seat_count}
-use Rattle.node_core.specs.Logs.{keeps, lost, AddsTo, Logs, KeepsOf, LoggedFrom, StandsKept, StandsForFew, HasTerms, KeptAs, IsJournal, copy_for}
+use Rattle.node_core.specs.Stands.{Stands, terms_of, seat_count, history_of}
+use Rattle.node_core.specs.Logs.{keeps, lost, AddsTo, Logs, KeepsOf, LoggedFrom, StandsKept, HasTerms, KeptAs, IsJournal, copy_for}
 use Rattle.node_core.proofs.KeptLemmas.{kept-append, skipped-append, counts-append, number_le}
 
 -- what is kept of a list is kept of the longer one, with what the entry adds
@@ -64,10 +62,10 @@ none_added Lost op e n c = refl
 none_added (Entries k) op e n c = absurd (cc)
 
 -- the node goes on with the list, and so does the log
-pub journal_goes_on : (n m : Node) (g k : Log) (L : List NodeEntry) (who : ℕ) (op : Op) (r : Reply) (alike : Bool) (st : Stands n L) → LoggedFrom (opening (terms_of n)) g L → terms_of m ≡ terms_of n → pends_alike (state_of n st.lists) who op ≡ alike → Logs g (drops alike r) (entry who op r) k → LoggedFrom (opening (terms_of m)) k (L ++ entry who op r ∷ [])
-journal_goes_on n m g k L who op r alike st old same is new =
+pub journal_goes_on : (n m : Node) (g k : Log) (L : List NodeEntry) (who : ℕ) (op : Op) (r : Reply) (alike : Bool) → LoggedFrom (opening (terms_of n)) g L → terms_of m ≡ terms_of n → pends_alike (after (terms_of n) L) who op ≡ alike → Logs g (drops alike r) (entry who op r) k → LoggedFrom (opening (terms_of m)) k (L ++ entry who op r ∷ [])
+journal_goes_on n m g k L who op r alike old same is new =
     subst (λ (t : Terms). LoggedFrom (opening t) k (L ++ entry who op r ∷ [])) (sym same)
-    (logged (opening (terms_of n)) g k L (entry who op r) (drops alike r) old (ap (λ (s : State). drops (pends_alike s who op) r) st.state ∙ ap (λ b. drops b r) is) new)
+    (logged (opening (terms_of n)) g k L (entry who op r) (drops alike r) old (ap (λ b. drops b r) is) new)
 
 -- a number fits, and so does a seat
 pub number_fits : (n : Node) (g : Log) (L : List NodeEntry) (who : ℕ) → LoggedFrom (opening (terms_of n)) g L → length L < 2 ^ 62 → slice_index g.counts who < 2 ^ 63
@@ -76,8 +74,9 @@ number_fits n g L who st l =
 
 pub seat_fits : (n : Node) (L : List NodeEntry) (who : ℕ) → Stands n L → who < seat_count (terms_of n) → who < 25
 seat_fits n L who st s =
-    let workers = st.legal.fits.settings.workers.1 in
-    let callers = st.legal.fits.callers in
+    let fits = (history_of n L st).fits in
+    let workers = fits.settings.workers.1 in
+    let callers = fits.callers in
     omega arith
 
 -- nothing was called yet
@@ -113,23 +112,9 @@ module _ (t : Terms) where
   journal_lost Lost r e = rw e (λ x. refl, λ x. refl)
   journal_lost (Entries k) r e = rw e (λ x. cc, λ x. cc)
 
-  pub journal_kept : (k : Kept) (r : Result (Option Journal) AllocError) (L : List NodeEntry) → IsJournal t k r → KeepsOf (opening t) k L → Legal t L → AllSupported L → IfOk r (λ o. IfSome o (λ j. KeptAs t j L))
-  journal_kept Nothing r L e h l a = rw e tt
-  journal_kept Lost r L e h l a = rw e tt
-  journal_kept (Entries k) r L e h l a =
+  pub journal_kept : (k : Kept) (r : Result (Option Journal) AllocError) (L : List NodeEntry) → IsJournal t k r → KeepsOf (opening t) k L → Legal t L → IfOk r (λ o. IfSome o (λ j. KeptAs t j L))
+  journal_kept Nothing r L e h l = rw e tt
+  journal_kept Lost r L e h l = rw e tt
+  journal_kept (Entries k) r L e h l =
       let good = kept_legal t L k.entries l h.0 in
-      rw e (record { layout = refl; settings = refl; callers = refl; entries = h.0; numbers = h.1; legal = good.0; supported = subst AllSupported (sym h.0) (supported_kept (opening t) L a); leads = good.1 })
-
--- few entries, and one more
-pub few_none : (j : Journaled) → StandsKept j [] → StandsForFew j 0
-few_none j s = record { list = []; stands = s; few = omega arith }
-
-pub few_room : (j : Journaled) (k : ℕ) → StandsForFew j k → k < 2 ^ 62 → (L : List NodeEntry) × StandsKept j L × (length L < 2 ^ 62)
-few_room j k s l = (s.list, s.stands, omega (arith, s.few))
-
-pub few_more : (j m : Journaled) (k who : ℕ) (op : Op) (r : Reply) → StandsForFew j k → ((L : List NodeEntry) → StandsKept j L → StandsKept m (L ++ entry who op r ∷ [])) → StandsForFew m (k + 1)
-few_more j m k who op r s f = record {
-  list = s.list ++ entry who op r ∷ [];
-  stands = f s.list s.stands;
-  few = let one : length (s.list ++ entry who op r ∷ []) ≡ length s.list + 1 = simp length-append refl in omega (arith, s.few);
-}
+      rw e (record { layout = refl; settings = refl; callers = refl; entries = h.0; numbers = h.1; legal = good.0; leads = good.1 })

@@ -1,5 +1,5 @@
 -- What it means that a node with a journal stands for a history.
-use Rattle.std.specs.Prelude.{◌≡◌, ℕ, ◌≤◌, length, Bool, true, false, List, ◌∷◌, [], ◌++◌, Option, Some, None, Result, Ok, Err, alloc_error, slice_index}
+use Rattle.std.specs.Prelude.{◌≡◌, ℕ, Bool, true, false, List, ◌∷◌, [], ◌++◌, Option, Some, None, Result, Ok, Err, alloc_error, slice_index}
 use Rattle.std.specs.Bool.{MatchBool}
 use Rattle.std.specs.declared.alloc.AllocError.{AllocError}
 use Rattle.mtapi_machine.specs.declared.terms.Terms.{Terms}
@@ -14,7 +14,6 @@ use Rattle.node_core.specs.declared.journaled.Log.{Log}
 use Rattle.node_core.specs.declared.journaled.Journaled.{Journaled}
 use Rattle.node_core.specs.declared.journaled.JournaledTerms.{JournaledTerms}
 use Rattle.node_core.specs.Journals.{KeptEntries}
-use Rattle.node_core.specs.Supported.{AllSupported, IsNodeHistory}
 use Rattle.node_core.specs.Stands.{Stands, terms_of, seat_count, some_terms}
 
 -- a journal is kept, be it lost by now or not
@@ -62,12 +61,6 @@ pub record StandsKept (j : Journaled) (L : List NodeEntry) : Type 0 where
   pub node : Stands j.node L
   pub log : LoggedFrom (opening (terms_of j.node)) j.log L
 
--- the node stands for some list of at most so many entries
-pub record StandsForFew (j : Journaled) (most : ℕ) : Type 0 where
-  pub list : List NodeEntry
-  pub stands : StandsKept j list
-  pub few : length list ≤ most
-
 -- what no op changes: the node's terms, and whether a journal is kept
 abbrev pub journal_terms : Journaled → JournaledTerms
 journal_terms j = record { node = terms_of j.node; keeps = keeps j.log.kept }
@@ -80,7 +73,7 @@ abbrev pub journal_seats : JournaledTerms → ℕ
 journal_seats t = seat_count t.node
 
 abbrev pub journal_legal : JournaledTerms → List NodeEntry → Type 0
-journal_legal t L = IsNodeHistory t.node L
+journal_legal t L = Legal t.node L
 
 abbrev pub some_journal_terms : JournaledTerms
 some_journal_terms = record { node = some_terms; keeps = false }
@@ -91,7 +84,7 @@ pub record HasTerms (t : Terms) (j : Journal) : Type 0 where
   pub settings : j.settings ≡ t.settings
   pub callers : j.callers ≡ t.callers
 
--- the journal of a list: the node's terms, and the kept entries with their numbers, which are legal, by ops that a node executes, and lead to the same state
+-- the journal of a list: the node's terms, and the kept entries with their numbers, which are legal, and lead to the same state
 pub record KeptAs (t : Terms) (j : Journal) (L : List NodeEntry) : Type 0 where
   pub layout : j.layout ≡ t.layout
   pub settings : j.settings ≡ t.settings
@@ -99,7 +92,6 @@ pub record KeptAs (t : Terms) (j : Journal) (L : List NodeEntry) : Type 0 where
   pub entries : j.entries.entries ≡ kept (opening t) L
   pub numbers : j.entries.skipped ≡ skipped (opening t) no_counts L
   pub legal : Legal t j.entries.entries
-  pub supported : AllSupported j.entries.entries
   pub leads : after t j.entries.entries ≡ after t L
 
 -- the journal with what was kept; an error where it is lost

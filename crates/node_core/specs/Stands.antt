@@ -1,103 +1,36 @@
 -- What it means that a node stands for a history.
-use Rattle.std.specs.Prelude.{◌≡◌, ℕ, ◌+◌, ◌≤◌, List, length}
-use Rattle.mtapi_values.specs.Attributes.{NodeSettings}
-use Rattle.handle_pool.specs.Slots.{Slots}
-use Rattle.handle_pool.specs.Issued.{Listed}
-use Rattle.mtapi_objects.specs.Actions.{Action}
-use Rattle.mtapi_objects.specs.Tasks.{Task}
-use Rattle.mtapi_objects.specs.Queues.{Queue}
-use Rattle.task_board.specs.Board.{records_of, group_slots}
-use Rattle.mtapi_objects.specs.Groups.{Group}
-use Rattle.mtapi_values.specs.declared.handles.Layout.TheVariants.{One}
+use Rattle.std.specs.Prelude.{◌≡◌, List, refl}
+use Rattle.std.proofs.Common.{subst}
+use Rattle.mtapi_values.specs.declared.handles.Layout.TheVariants.{Two}
 use Rattle.mtapi_machine.specs.declared.terms.Terms.{Terms}
-use Rattle.mtapi_machine.specs.declared.ops.Op.{Op}
-use Rattle.mtapi_machine.specs.declared.replies.Reply.{Reply}
-use Rattle.mtapi_machine.specs.State.{State, terms_with as node_terms}
-use Rattle.mtapi_machine.specs.Row.{Allows, after_row}
-use Rattle.mtapi_machine.specs.Rows.{row}
-use Rattle.mtapi_machine.specs.Legal.{NodeEntry, IsHonest, Legal, after}
-use Rattle.node_resources.specs.Holds.{ResourceTable, ResourceLists, HoldsAll}
-pub use Rattle.node_resources.specs.Holds.{Holds}
+use Rattle.mtapi_machine.specs.Legal.{NodeEntry, Legal}
+use Rattle.mtapi_layouts.specs.Turns.{inner_entries, outer_entries, AllIssueSmall}
+use Rattle.node_steps.specs.Stands.{Stands as StandsInside, terms_of as terms_inside}
+pub use Rattle.node_steps.specs.Stands.{seat_count}
+use Rattle.mtapi_layouts.proofs.Histories.{history_turns}
 use Rattle.node_core.specs.declared.node.Node.{Node}
-use Rattle.node_core.specs.Keeps.{Keeps}
-use Rattle.node_core.specs.Supported.{AllSupported, IsNodeHistory}
 
--- the objects that were ever made, of the kinds that a node has so far
-pub record Lists : Type 0 where
-  pub actions : List (Listed Action)
-  pub tasks : List (Listed Task)
-  pub groups : List (Listed Group)
-  pub queues : List (Listed Queue)
-  pub resources : ResourceLists
-
--- what no op changes; handles are those of layout one
+-- what no op changes; handles are those of layout two
 abbrev pub terms_of : Node → Terms
-terms_of n = node_terms One n.board.settings n.core.callers
+terms_of n = record (terms_inside n.inner) { layout = Two }
 
--- the state of the machine that has these lists, and all else as the node has it
-abbrev pub state_of : Node → Lists → State
-state_of n l = record {
-  terms = terms_of n;
-  phase = n.core.phase;
-  released = n.core.released;
-  stopped = n.core.stopped;
-  starts = n.board.tasks.starts;
-  ends = n.board.tasks.ends;
-  actions = l.actions;
-  tasks = l.tasks;
-  groups = l.groups;
-  queues = l.queues;
-  mutexes = l.resources.mutexes;
-  sems = l.resources.sems;
-  rwls = l.resources.rwls;
-  segments = l.resources.segments;
-}
-
--- the node's pools stand for these lists
-pub record Pools (settings : NodeSettings) (a : Slots Action) (t : Slots Task) (g : Slots Group) (q : Slots Queue) (r : ResourceTable) (l : Lists) : Type 0 where
-  pub actions : Holds settings.actions settings.generations a l.actions
-  pub tasks : Holds settings.tasks settings.generations t l.tasks
-  pub groups : Holds settings.groups settings.generations g l.groups
-  pub queues : Holds settings.queues settings.generations q l.queues
-  pub resources : HoldsAll settings r l.resources
-
-abbrev pub Live : Node → Lists → Type 0
-Live n l = Pools n.board.settings n.board.actions n.board.tasks.pool (group_slots n.board) (records_of n.board.queues.pool) n.resources l
-
--- the step from n to m, with these lists then, is one of the machine's
-pub record StepsTo (n : Node) (l : Lists) (who : ℕ) (op : Op) (r : Reply) (m : Node) (k : Lists) : Type 0 where
-  pub allowed : Allows (row (state_of n l) who op r) r
-  pub leads : after_row (state_of n l) (row (state_of n l) who op r) ≡ state_of m k
-  pub live : Pools n.board.settings m.board.actions m.board.tasks.pool (group_slots m.board) (records_of m.board.queues.pool) m.resources k
-  pub terms : terms_of m ≡ terms_of n
-  pub starts : m.board.tasks.starts ≤ n.board.tasks.starts + 1
-  pub honest : IsHonest op
-
-abbrev pub Steps : Node → Lists → ℕ → Op → Reply → Node → Type 0
-Steps n l who op r m = (k : Lists) × StepsTo n l who op r m k
-
--- the node stands for the list: it is legal, by ops that a node executes, and leads to what the node holds
+-- the node stands for the list that its callers see: the node inside, which has the handles of its pools, stands for this list as it
+-- saw it
 pub record Stands (n : Node) (L : List NodeEntry) : Type 0 where
-  pub legal : Legal (terms_of n) L
-  pub supported : AllSupported L
-  pub lists : Lists
-  pub state : after (terms_of n) L ≡ state_of n lists
-  pub live : Live n lists
-  pub starts : n.board.tasks.starts ≤ length L
-  pub keeps : Keeps (after (terms_of n) L) n.board
+  -- each entry with the op as its caller asked it, and the reply as the node inside gave it
+  pub entries : List NodeEntry
+  pub seen : outer_entries entries ≡ L
+  pub small : AllIssueSmall entries
+  pub inside : StandsInside n.inner (inner_entries entries)
 
--- a node stands for such histories alone
-abbrev pub history_of : (n : Node) (L : List NodeEntry) → Stands n L → IsNodeHistory (terms_of n) L
-history_of n L s = record { legal = s.legal; supported = s.supported }
-
--- how many seats these terms give
-abbrev pub seat_count : Terms → ℕ
-seat_count t = t.settings.workers + t.callers
+-- a node stands for legal histories alone
+abbrev pub history_of : (n : Node) (L : List NodeEntry) → Stands n L → Legal (terms_of n) L
+history_of n L s = subst (Legal (terms_of n)) s.seen (history_turns (terms_of n) s.entries refl s.small s.inside.legal).legal
 
 -- terms of a node: the usual settings, and main alone
 abbrev pub some_terms : Terms
 some_terms = record {
-  layout = One;
+  layout = Two;
   settings = record { workers = 1; tasks = 1024; actions = 64; groups = 128; queues = 16; objects = 16; priorities = 4; generations = 4294967295 };
   callers = 1;
 }

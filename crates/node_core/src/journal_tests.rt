@@ -3,7 +3,6 @@
 use crate::entries::EntryList;
 use crate::journaled::Journaled;
 use crate::node::Node;
-use crate::node_ops::NodeOp;
 use crate::run_journals::journal_of;
 use history::Object;
 use mtapi_machine::{Entry, Op, Reply};
@@ -14,9 +13,9 @@ use turn_cell::TurnCell;
 
 /// A node with a journal, and a bound on how often it was called.
 #[derive(Drop)]
-struct Called {
-    node: Journaled,
-    calls: u64,
+pub(crate) struct Called {
+    pub(crate) node: Journaled,
+    pub(crate) calls: u64,
 }
 
 impl Model for Called {
@@ -32,14 +31,22 @@ impl Model for Called {
 }
 
 impl Called {
-    // One call, in a word. None where the seat isn't one, or after a hundred calls.
-    fn call(&mut self, who: u32, op: NodeOp) -> Option<&'static str> {
+    // One call. None where the seat isn't one, or after a hundred calls.
+    pub(crate) fn ask(&mut self, who: u32, op: Op) -> Option<Reply> {
         if who >= self.node.seats() || self.calls >= 100 {
             return None;
         }
         let reply = self.node.apply(who, op);
         self.calls += 1;
-        Some(word(&reply))
+        Some(reply)
+    }
+
+    // The same, in a word.
+    fn call(&mut self, who: u32, op: Op) -> Option<&'static str> {
+        match self.ask(who, op) {
+            Some(reply) => Some(word(&reply)),
+            None => None,
+        }
     }
 }
 
@@ -55,36 +62,36 @@ fn word(reply: &Reply) -> &'static str {
     }
 }
 
-fn look(last: bool) -> NodeOp {
-    NodeOp::new(Op::TaskLook {
-        task: TaskHandle(4294967296),
+fn look(last: bool) -> Op {
+    Op::TaskLook {
+        task: TaskHandle(4328521728),
         last,
-    })
+    }
 }
 
-fn cancel() -> NodeOp {
-    NodeOp::new(Op::TaskCancel {
-        task: TaskHandle(4294967296),
-    })
+fn cancel() -> Op {
+    Op::TaskCancel {
+        task: TaskHandle(4328521728),
+    }
 }
 
-fn action() -> NodeOp {
-    NodeOp::new(Op::ActionCreate {
+fn action() -> Op {
+    Op::ActionCreate {
         job: 1,
         kind: Kind::Add,
         cores: Mask(1),
-    })
+    }
 }
 
-fn start() -> NodeOp {
-    NodeOp::new(Op::TaskStart {
+fn start() -> Op {
+    Op::TaskStart {
         job: 1,
         args: Args::new(),
         priority: 0,
         cores: Mask(1),
         detached: false,
         group: None,
-    })
+    }
 }
 
 #[test]
@@ -95,24 +102,24 @@ fn pending_looks_are_counted_and_idle_picks_are_left_out(rt: HostRuntime) -> Res
         calls: 0,
     };
     for (who, op, reply) in [
-        (1, NodeOp::new(Op::Initialize), "ok"),
-        (2, NodeOp::new(Op::Enter), "pending"),
-        (2, NodeOp::new(Op::Enter), "pending"),
-        (0, NodeOp::new(Op::Pick), "idle"),
-        (1, NodeOp::new(Op::Release), "ok"),
-        (2, NodeOp::new(Op::Enter), "ok"),
+        (1, Op::Initialize, "ok"),
+        (2, Op::Enter, "pending"),
+        (2, Op::Enter, "pending"),
+        (0, Op::Pick, "idle"),
+        (1, Op::Release, "ok"),
+        (2, Op::Enter, "ok"),
         (1, action(), "handle"),
-        (0, NodeOp::new(Op::Pick), "idle"),
+        (0, Op::Pick, "idle"),
         (1, start(), "handle"),
         (2, look(false), "pending"),
         (2, look(false), "pending"),
         (2, look(false), "pending"),
         (1, cancel(), "ok"),
-        (0, NodeOp::new(Op::Pick), "idle"),
+        (0, Op::Pick, "idle"),
         (2, look(true), "cancelled"),
-        (1, NodeOp::new(Op::Close), "ok"),
-        (0, NodeOp::new(Op::Pick), "stop"),
-        (1, NodeOp::new(Op::Final), "ok"),
+        (1, Op::Close, "ok"),
+        (0, Op::Pick, "stop"),
+        (1, Op::Final, "ok"),
     ] {
         assert_eq!(rt; called.call(who, op), Some(reply));
     }
@@ -165,7 +172,7 @@ fn none_is_kept_without(rt: HostRuntime) -> Result<(), Fail> {
     let node = Node::init(rt.alloc(), NodeAttr::new(), 1)?;
     let mut node = Journaled::without(node);
     assert!(rt; !node.told_terms().keeps);
-    assert!(rt; matches!(node.apply(1, NodeOp::new(Op::Initialize)), Reply::Ok));
+    assert!(rt; matches!(node.apply(1, Op::Initialize), Reply::Ok));
     assert!(rt; matches!(node.into_journal(), Ok(None)));
     Ok(())
 }
@@ -181,16 +188,16 @@ fn a_closed_cell_gives_its_journal(rt: HostRuntime) -> Result<(), Fail> {
     let Some(mut worker) = seats.pop() else {
         unreachable!()
     };
-    let opened = cell.call(&rt, &mut main, NodeOp::new(Op::Initialize));
+    let opened = cell.call(&rt, &mut main, Op::Initialize);
     assert!(rt; matches!(opened, Ok(Reply::Ok)));
-    let idle = cell.call(&rt, &mut worker, NodeOp::new(Op::Pick));
+    let idle = cell.call(&rt, &mut worker, Op::Pick);
     assert!(rt; matches!(idle, Ok(Reply::Idle)));
     seats.push(worker)?;
     seats.push(main)?;
     let run = journal_of(cell.close(seats))?;
     let journal = run.journal();
     assert_eq!(rt; (journal.callers, journal.settings), (1, NodeAttr::new()));
-    assert_eq!(rt; journal.layout, Layout::One);
+    assert_eq!(rt; journal.layout, Layout::Two);
     let entries = journal.entries.as_slice();
     assert_eq!(rt; entries.len(), 1);
     for entry in entries {

@@ -5,14 +5,12 @@ ghost use Rattle.std.specs.Bool.{OnTrue, OnFalse};
 ghost use Rattle.history.specs.Histories.{entry};
 ghost use Rattle.mtapi_machine.specs.declared.ops.Op.{Op as OpAsked};
 ghost use Rattle.mtapi_machine.specs.Legal.{NodeEntry};
-ghost use Rattle.mtapi_machine.specs.Kept.{pends_alike, drops, is_pending};
-ghost use Rattle.node_core.specs.Stands.{Lists, Live, Stands, state_of, terms_of};
+ghost use Rattle.mtapi_machine.specs.Kept.{drops, is_pending};
+ghost use Rattle.node_core.specs.Stands.{Stands, terms_of};
 ghost use Rattle.node_core.specs.Logs.{copy_for, AddsTo, Logs, StandsKept, HasTerms, KeptAs, IsJournal, keeps, journal_terms, is_lost};
 
 use crate::entries::{EntryList, Journal};
 use crate::node::Node;
-use crate::node_ops::NodeOp;
-use crate::walks::is_seat;
 use history::Object;
 use mtapi_machine::{Entry, Op, Reply, Terms};
 use std::alloc::{AllocError, Global};
@@ -34,21 +32,6 @@ fn is_pending(reply: &Reply) -> bool
     matches!(reply, Reply::Pending)
 }
 
-impl Node {
-    // Where this op is answered Pending, does the state stay as it was?
-    fn pends_alike(&self, who: u32, op: &NodeOp) -> bool
-        ensures { (l : Lists) → Live self.now l → pends_alike (state_of self.now l) who op.now ≡ result }
-    {
-        match op.op() {
-            Op::TaskLook { task, .. } => match self.board.task(*task) {
-                Some(found) => is_seat(who, found.waiter()),
-                None => false,
-            },
-            _ => true,
-        }
-    }
-}
-
 // What is kept of the calls.
 #[derive(Drop)]
 enum Kept {
@@ -61,11 +44,11 @@ enum Kept {
 
 impl Kept {
     // The op once more, where entries are kept.
-    fn copy_for(&self, op: &NodeOp) -> Option<Op>
+    fn copy_for(&self, op: &Op) -> Option<Op>
         ensures { result ≡ copy_for self.now op.now }
     {
         match self {
-            Kept::Entries(_) => Some(op.op().again()),
+            Kept::Entries(_) => Some(op.again()),
             Kept::Nothing | Kept::Lost => None,
         }
     }
@@ -140,13 +123,13 @@ pub struct JournaledTerms {
 }
 
 impl Object for Journaled {
-    type Op = NodeOp;
+    type Op = Op;
 
     type Reply = Reply;
 
     type Terms = JournaledTerms;
 
-    ghost use Rattle.node_core.specs.Supported.{history_prefix};
+    ghost use Rattle.mtapi_machine.proofs.Lists.{Legal-prefix};
     ghost use Rattle.node_core.specs.Stands.{history_of};
     ghost use Rattle.node_core.specs.Logs.{StandsKept, journal_terms, journal_seats, journal_legal, some_journal_terms};
 
@@ -160,7 +143,7 @@ impl Object for Journaled {
 
     ghost stands = { StandsKept };
 
-    ghost prefix_legal = { λ t. history_prefix t.node };
+    ghost prefix_legal = { λ t. Legal-prefix t.node };
 
     ghost stands_legal = { λ x l s. history_of x.node l s.node };
 
@@ -175,7 +158,7 @@ impl Object for Journaled {
         }
     }
 
-    fn apply(&mut self, who: u32, op: NodeOp) -> Reply {
+    fn apply(&mut self, who: u32, op: Op) -> Reply {
         let alike = self.node.pends_alike(who, &op);
         let copy = self.log.kept.copy_for(&op);
         let reply = self.node.step(who, op);

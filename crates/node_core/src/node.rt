@@ -1,50 +1,67 @@
-//! The node, and what it keeps beside its objects.
+//! The node, as an object whose calls make one history.
 
-ghost use Rattle.std.specs.Prelude.{◌≡◌, ◌^◌, ◌<◌, ◌≤◌, [], IfOk};
-ghost use Rattle.mtapi_values.specs.Attributes.{AreNodeSettings};
-ghost use Rattle.mtapi_values.specs.declared.handles.Layout.TheVariants.{One};
-ghost use Rattle.node_core.specs.Stands.{Lists, Live, Steps, Stands, state_of, terms_of};
-ghost use Rattle.node_core.specs.Sound.{Sound};
+ghost use Rattle.std.specs.Prelude.{◌≡◌, ◌+◌, ◌^◌, ◌<◌, ◌≤◌, List, [], ◌∷◌, ◌++◌, length, IfOk};
+ghost use Rattle.history.specs.Histories.{entry};
+ghost use Rattle.mtapi_values.specs.declared.handles.Layout.TheVariants.{Two};
+ghost use Rattle.mtapi_machine.specs.Legal.{NodeEntry, after};
+ghost use Rattle.mtapi_machine.specs.Kept.{pends_alike};
+ghost use Rattle.node_core.specs.Stands.{Stands, terms_of, seat_count};
 
-use crate::node_ops::NodeOp;
-use mtapi_machine::{Op, Phase, Reply};
-use mtapi_values::NodeAttr;
-use node_resources::Resources;
+use history::Object;
+use mtapi_layouts::{answered_kind, inward_op, outward_reply};
+use mtapi_machine::{Op, Reply, Terms};
+use mtapi_values::{Layout, NodeAttr};
 use std::alloc::{AllocError, Global};
-use task_board::Board;
-
-/// What a node keeps beside its objects.
-#[derive(Drop)]
-pub(crate) struct Core {
-    // The number of callers, main included.
-    pub(crate) callers: u8,
-    pub(crate) phase: Phase,
-    // Main has let the further callers enter.
-    pub(crate) released: bool,
-    // The workers that have stopped, by their seats.
-    pub(crate) stopped: [bool; 25],
-}
 
 /// A node: it executes each op as the machine of one thread says.
+///
+/// Callers see handles of layout two, each of which names the kind of its object. They are turned here, at an op and at its reply,
+/// and nowhere else: the node inside has the handles of its pools.
 #[derive(Drop)]
 pub struct Node {
-    pub(crate) core: Core,
-    pub(crate) board: Board,
-    pub(crate) resources: Resources,
+    inner: node_steps::Node,
 }
 
-// What the readers of the settings promise: each is in its range.
-fn read_ranges(attr: &NodeAttr)
-    ensures { AreNodeSettings attr.now }
-{
-    let _ = attr.workers();
-    let _ = attr.tasks();
-    let _ = attr.actions();
-    let _ = attr.groups();
-    let _ = attr.queues();
-    let _ = attr.objects();
-    let _ = attr.priorities();
-    let _ = attr.generations();
+impl Object for Node {
+    type Op = Op;
+
+    type Reply = Reply;
+
+    type Terms = Terms;
+
+    ghost use Rattle.mtapi_machine.specs.Legal.{Legal};
+    ghost use Rattle.mtapi_machine.proofs.Lists.{Legal-prefix};
+    ghost use Rattle.node_core.specs.Stands.{Stands, terms_of, seat_count, some_terms, history_of};
+
+    ghost blank = { some_terms };
+
+    ghost terms = { terms_of };
+
+    ghost seat_count = { seat_count };
+
+    ghost legal = { Legal };
+
+    ghost stands = { Stands };
+
+    ghost prefix_legal = { Legal-prefix };
+
+    ghost stands_legal = { history_of };
+
+    fn seats(&self) -> u32 {
+        self.inner.seats()
+    }
+
+    fn told_terms(&self) -> Terms {
+        Terms {
+            layout: Layout::Two,
+            settings: *self.inner.settings(),
+            callers: self.inner.terms().callers,
+        }
+    }
+
+    fn apply(&mut self, who: u32, op: Op) -> Reply {
+        self.step(who, op)
+    }
 }
 
 impl Node {
@@ -52,87 +69,43 @@ impl Node {
     pub fn init(alloc: Global, attr: NodeAttr, callers: u32) -> Result<Node, AllocError>
         requires some_caller { 1 ≤ callers }
         requires few_callers { callers ≤ 9 }
-        ensures terms { IfOk result (λ n. terms_of n ≡ record { layout = One; settings = attr; callers = callers }) }
+        ensures terms { IfOk result (λ n. terms_of n ≡ record { layout = Two; settings = attr; callers = callers }) }
         ensures stands { IfOk result (λ n. Stands n []) }
     {
-        read_ranges(&attr);
-        let board = Board::new(alloc, attr)?;
-        let resources = Resources::init(alloc, attr)?;
-        board.is_kept();
-        Ok(Node {
-            core: Core {
-                callers: callers as u8,
-                phase: Phase::New,
-                released: false,
-                stopped: [false; 25],
-            },
-            board,
-            resources,
-        })
+        let inner = node_steps::Node::init(alloc, attr, callers)?;
+        Ok(Node { inner })
     }
 
     /// The settings of the node.
     pub fn settings(&self) -> &NodeAttr
         ensures { result.now ≡ (terms_of self.now).settings }
     {
-        self.board.settings()
+        self.inner.settings()
     }
 
-    // One op, by its own method.
-    pub(crate) fn dispatch(&mut self, who: u32, op: NodeOp) -> Reply
-        requires few_starts { self.old.board.tasks.starts < 2 ^ 63 }
-        requires seat { who < 25 }
-        ensures { (l : Lists) → Live self.old l → Sound (state_of self.old l) → Steps self.old l who op result self.new }
+    /// One op by the seat `who`: it does what `apply` does.
+    pub fn step(&mut self, who: u32, op: Op) -> Reply
+        requires seat { who < seat_count (terms_of self.old) }
+        requires room { (L : List NodeEntry) × Stands self.old L × (length L < 2 ^ 62 + 16) }
+        ensures terms { terms_of self.new ≡ terms_of self.old }
+        ensures stands { (L : List NodeEntry) → Stands self.old L → Stands self.new (L ++ entry who op result ∷ []) }
     {
-        match op.into_op() {
-            Op::Initialize => self.initialize(),
-            Op::Release => self.release(),
-            Op::Enter => self.enter(),
-            Op::Close => self.close(),
-            Op::Final => self.finalize(),
-            Op::JobGet { job } => self.job_get(job),
-            Op::ActionCreate { job, kind, cores } => self.action_create(job, kind, cores),
-            Op::ActionDelete { action } => self.action_delete(action),
-            Op::ActionDisable { action } => self.action_disable(action),
-            Op::ActionEnable { action } => self.action_enable(action),
-            Op::TaskStart {
-                job,
-                args,
-                priority,
-                cores,
-                detached,
-                group,
-            } => self.task_start(job, args, priority, cores, detached, group),
-            Op::TaskEnqueue {
-                queue,
-                args,
-                cores,
-                detached,
-                group,
-            } => self.task_enqueue(queue, args, cores, detached, group),
-            Op::TaskLook { task, last } => self.task_look(who, task, last),
-            Op::TaskCancel { task } => self.task_cancel(task),
-            Op::GroupCreate => self.group_create(),
-            Op::GroupDelete { group } => self.group_delete(group),
-            Op::AllLook { group, last } => self.all_look(group, last),
-            Op::AnyLook { group, last } => self.any_look(group, last),
-            Op::QueueCreate {
-                id,
-                job,
-                priority,
-                limit,
-                ordered,
-                retain,
-            } => self.queue_create(id, job, priority, limit, ordered, retain),
-            Op::QueueGet { id } => self.queue_get(id),
-            Op::QueueEnable { queue } => self.queue_enable(queue),
-            Op::QueueDisable { queue } => self.queue_disable(queue),
-            Op::QueueDelete { queue } => self.queue_delete(queue),
-            Op::Pick => self.pick(who),
-            Op::Finish { task, done } => self.finish(who, task, done),
-            Op::Asked { task } => self.asked(who, task),
-            Op::WatchEnd { task } => self.watch_end(who, task),
-            op => self.resource_op(who, op),
+        let kind = answered_kind(&op);
+        let reply = self.inner.step(who, inward_op(op));
+        outward_reply(kind, reply)
+    }
+
+    // Where this op is answered Pending, does the state stay as it was?
+    pub(crate) fn pends_alike(&self, who: u32, op: &Op) -> bool
+        ensures { (L : List NodeEntry) → Stands self.now L → pends_alike (after (terms_of self.now) L) who op.now ≡ result }
+    {
+        match op {
+            Op::TaskLook { task, last } => {
+                let (task, last) = (*task, *last);
+                self.inner
+                    .pends_alike(who, &inward_op(Op::TaskLook { task, last }))
+            }
+            _ => true,
         }
     }
 }

@@ -1,3 +1,4 @@
 pub mod HoldsLemmas
 pub mod RowLemmas
 pub mod KindSteps
+pub mod TallyLemmas

@@ -1,3 +1,4 @@
 pub mod Holds
 pub mod Steps
 pub mod Replies
+pub mod Tallies

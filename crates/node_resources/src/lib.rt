@@ -10,6 +10,7 @@ mod replies;
 mod rwl_ops;
 mod sem_ops;
 mod shmem_ops;
+pub mod tally_ops;
 #[cfg(test)]
 mod tests;
 
@@ -25,6 +26,7 @@ use mrapi_shmem::Segments;
 use mtapi_values::NodeAttr;
 use std::alloc::{AllocError, Global};
 use std::marker::Model;
+pub use tally_ops::TallyLock;
 
 /// The mutexes, semaphores, reader-writer locks and segments of a node.
 #[derive(Drop)]

@@ -244,3 +244,38 @@ fn each_op_is_carried_out_on_a_live_object(rt: HostRuntime) -> Result<(), Fail> 
     assert_eq!(rt; in_short(late), Told::Status(MrapiStatus::Timeout));
     Ok(())
 }
+
+#[test]
+fn a_tally_takes_both_and_gives_them_back(rt: HostRuntime) -> Result<(), Fail> {
+    let mut resources = with_room_for_one(rt, 1)?;
+    let open = gate(Phase::Open);
+    let _ = ask(&mut resources, open, MAIN, 0, 0);
+    let _ = ask(&mut resources, open, MAIN, 15, 0);
+    // The ids of a mutex and of a segment, and a cell, of which one isn't there.
+    let absent = [
+        (8u64, 9u64, 0u64),
+        (9, 8, 0),
+        (9, 9, 4),
+        (0x1_0000_0009, 9, 0),
+        (9, 0x1_0000_0009, 0),
+        (9, 9, 0x1_0000_0000),
+    ];
+    for (mutex, segment, cell) in absent {
+        let got = resources.tally_lock(WORKER, mutex, segment, cell);
+        assert!(rt; matches!(got, TallyLock::Absent));
+    }
+    let (mutex, segment) = (MutexHandle(FIRST), ShmemHandle(FIRST));
+    let first = resources.tally_lock(WORKER, 9, 9, 3);
+    assert!(rt; matches!(first, TallyLock::Both(_, _)));
+    let second = resources.tally_lock(0, 9, 9, 3);
+    assert!(rt; matches!(second, TallyLock::Owned));
+    assert_eq!(rt; resources.tally_read(segment, 3), 0);
+    resources.tally_write(segment, 3, -5);
+    assert_eq!(rt; resources.tally_read(segment, 3), -5);
+    let attached = in_short(ask(&mut resources, open, MAIN, 17, FIRST));
+    assert_eq!(rt; attached, Told::Status(MrapiStatus::ErrShmAttached));
+    resources.tally_end(WORKER, mutex, segment);
+    let third = resources.tally_lock(0, 9, 9, 0);
+    assert!(rt; matches!(third, TallyLock::Both(_, _)));
+    Ok(())
+}

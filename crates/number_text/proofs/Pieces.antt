@@ -1,5 +1,5 @@
 -- Texts that are cut at a byte.
-use Rattle.std.proofs.Common.{◌≡◌, ℕ, ◌+◌, ◌<◌, ◌≤◌, List, [], ◌∷◌, ◌++◌, Bool, eqb, length, take, drop, Option, Some, None, refl, sym, ◌∙◌, arith, inl, inr}
+use Rattle.std.proofs.Common.{◌≡◌, ℕ, ◌+◌, ◌<◌, ◌≤◌, List, [], ◌∷◌, ◌++◌, Bool, eqb, length, take, drop, Option, Some, None, refl, sym, ◌∙◌, arith, inl, inr, append_assoc}
 use Rattle.std.specs.Prelude.{IfSome, position, nat_lt}
 use Rattle.std.specs.List.{position_or_len, slice_split}
 use Rattle.std.proofs.lemmas.Bool.{ltb-true, ltb-false, cases_Bool}
@@ -60,3 +60,7 @@ after_len (Some r) n h = omega (arith, h)
 pub joined : (byte : ℕ) (text : List ℕ) (texts : List (List ℕ)) → join_with_byte byte (text ∷ texts) ≡ text ++ led byte texts
 joined byte text [] = sym (append-nil text)
 joined byte text (next ∷ texts) = rw (joined byte next texts) refl
+
+pub led_append : (byte : ℕ) (xs ys : List (List ℕ)) → led byte (xs ++ ys) ≡ led byte xs ++ led byte ys
+led_append byte [] ys = refl
+led_append byte (x ∷ xs) ys = rw (led_append byte xs ys) (simp append_assoc)

@@ -9,3 +9,5 @@ pub mod Zips
 pub mod Seats
 pub mod Parts
 pub mod Computed
+mod TotalSteps
+mod Summaries

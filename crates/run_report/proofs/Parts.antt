@@ -29,7 +29,7 @@ first_rest (x ∷ xs) d h =
     let same : take (length xs) xs ≡ xs = take_all (length xs) xs (omega arith) in
     rw (n, same) refl
 
-first_with : {X : Type 0} (xs : List X) (d : X) → 1 ≤ length xs → d ≡ get_or xs 0 d → xs ≡ d ∷ rest_of xs
+pub first_with : {X : Type 0} (xs : List X) (d : X) → 1 ≤ length xs → d ≡ get_or xs 0 d → xs ≡ d ∷ rest_of xs
 first_with xs d h is = first_rest xs d h ∙ ap (λ x. x ∷ rest_of xs) (sym is)
 
 -- a text with two pieces behind it

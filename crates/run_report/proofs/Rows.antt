@@ -24,7 +24,7 @@ use Rattle.mtapi_machine.specs.State as kinds
 use Rattle.mtapi_machine.specs.Moves.{Move, Groups, Queues, Mutexes, Sems, Rwls, Segments, phase_is, released, stops, makes_action, enables, withdraws, starts_task, runs_task, ends_task, ends_waiting, notes, leaves, frees_members, lets_members_go, makes, alters, removes, is_fresh, apply, after_moves}
 use Rattle.mtapi_machine.specs.Row.{Row, unless, gives, never, Allows, after_row, only, live, handle_of}
 use Rattle.mtapi_machine.specs.TaskRows.{asked_for, asked_of, cancels}
-use Rattle.mtapi_machine.specs.WorkRows.{is_ready, can_take, may_take, picks, task_end}
+use Rattle.mtapi_machine.specs.WorkRows.{is_ready, can_take, picks, task_end}
 use Rattle.mtapi_machine.specs.Rows.{row}
 use Rattle.mtapi_machine.specs.Laws.{IsMade, is_pick, MakesAction, EnablesAction, WithdrawsAction, StartsTask, EndsTask, ends_many, makes_kind, AltersObject, RemovesObject}
 use Rattle.mtapi_machine.specs.Legal.{NodeEntry, IsNext, row_of, next}
@@ -274,7 +274,7 @@ module _ (s : State) (i : Sound (workers s) s) where
   on_picks : (w : ℕ) (r : Reply) → Leads (W op.Pick) s (picks s w r)
   on_picks w (Picked t a k args) =
       leads_live (W op.Pick) s (live_object s.tasks t.0) _ _ tt (λ x e. leads_live (W op.Pick) s (live_object s.actions a.0) _ _ tt (λ y d.
-      leads_only (W op.Pick) s (may_take s w x y) _ (runs_task t.0 w y.kind ∷ [])
+      leads_only (W op.Pick) s _ _ (runs_task t.0 w y.kind ∷ [])
       (λ b. follows_runs (seen_of s) s t.0 w y.kind x self i.once e (ready_unstarted x (fst_true (is_ready s x) _ (fst_true _ _ b))))))
   on_picks w _ = leads_only (W op.Pick) s (not (any_listed (can_take s w) s.tasks)) Idle [] (λ b. self)
 

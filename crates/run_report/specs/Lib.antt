@@ -7,3 +7,4 @@ pub mod Changes
 pub mod Seen
 pub mod Standings
 pub mod Worked
+pub mod Summary

@@ -9,15 +9,21 @@ mod page;
 mod places;
 mod sorts;
 mod standings;
+mod summary;
+#[cfg(test)]
+mod summary_tests;
 mod task_lines;
 #[cfg(test)]
 mod tests;
 mod text;
+mod totals;
 mod whole;
 mod worked;
 
 pub use changes::{Change, LiveAction, LiveQueue, Unstarted};
 pub use sorts::Shown;
 pub use standings::{Passing, Standings};
+pub use summary::summary_of;
+pub use totals::Totals;
 pub use whole::{report_of, report_of_entries};
 pub use worked::worked_reports;

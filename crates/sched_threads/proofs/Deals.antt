@@ -23,10 +23,9 @@ use Rattle.sched_threads.specs.declared.crew.back.Crew.{Crew}
 use Rattle.sched_threads.specs.declared.crew.back.AllHands.{AllHands}
 use Rattle.sched_threads.specs.Turns.{Seat}
 use Rattle.sched_threads.specs.declared.run.RunError.{RunError}
-use Rattle.sched_threads.specs.Carries.{AllMade}
 use Rattle.sched_threads.specs.Rounds.{AtRest}
 use Rattle.sched_threads.specs.Crews.{Cell, HasPart, IsIdle, AreAllReady, IsOf, IsClean, IsWholeCrewOf, IsEnded, AllDid}
-use Rattle.sched_threads.specs.Runs.{terms_for, IsRunOf, PartsMade, Dealt, JournalOf}
+use Rattle.sched_threads.specs.Runs.{terms_for, IsRunOf, Dealt, JournalOf}
 use Rattle.sched_threads.proofs.Meets.{each_of}
 use Rattle.sched_threads.proofs.Came.{Came, came, came_complete, came_known}
 use Rattle.sched_threads.proofs.WholeRun.{Known, run_by}
@@ -65,8 +64,8 @@ at_rest : (z : Cell) (k : ℕ) → k < z.terms.node.settings.workers → AtRest 
 unfolding after_from
 at_rest z k l = record { worker = l; free = refl }
 
-pub all_ready : (z : Cell) (w m : ℕ) (parts : List Part) (a : AllHands) → Dealt z w m a → length parts ≡ m + 1 → w ≡ z.terms.node.settings.workers → PartsMade parts → AreAllReady z parts a
-all_ready z w m parts a d count few made =
+pub all_ready : (z : Cell) (w m : ℕ) (parts : List Part) (a : AllHands) → Dealt z w m a → length parts ≡ m + 1 → w ≡ z.terms.node.settings.workers → AreAllReady z parts a
+all_ready z w m parts a d count few =
     let number : a.hands.main.number ≡ w = ap (λ (s : Seat). s.number) d.main in
     record {
       hands = record {
@@ -76,7 +75,6 @@ all_ready z w m parts a d count few made =
             (all_fresh z (HasPart z parts a.hands.main.number) (w + 1) m (λ k low high. record { cell = refl; behind = omega arith; part = omega arith }));
         empty = d.empty;
         room = (let r = d.room in let c = d.callers_len in omega arith);
-        made = made;
       };
       workers =
           subst (λ (xs : List Seat). All (IsIdle z) xs) (sym d.workers)
@@ -116,7 +114,6 @@ run_is load z m p ps c j e n t x k =
       callers = k.kept.callers ∙ callers_are;
       layout = k.kept.layout ∙ ap (λ (u : Terms). u.layout) t;
       legal = subst (λ (u : Terms). Legal u j.entries.entries) t k.kept.legal;
-      supported = k.kept.supported;
       run = subst (λ (es : List NodeEntry). RunOf load es j.entries.skipped) (sym k.kept.entries) (subst (λ (ns : List ℕ). RunOf load (kept (opening z.terms.node) k.history) ns) (sym k.kept.numbers) is_run);
     }
 
@@ -146,9 +143,6 @@ begun load z items t u e f g is = record {
 pub first_part : (ps : List Part) (p : Part) → 1 ≤ length ps → p ≡ get_or ps 0 p → (qs : List Part) × (ps ≡ p ∷ qs)
 first_part [] p l e = absurd (omega arith)
 first_part (q ∷ qs) p l e = (qs, ap (λ (x : Part). x ∷ qs) (sym e))
-
-pub main_made : (ps qs : List Part) (p : Part) → ps ≡ p ∷ qs → PartsMade ps → AllMade p.statements
-main_made ps qs p e made = made 0 p (ap (λ (l : List Part). slice_get l 0) e)
 
 -- and what it gives
 pub ran : (load : Workload) (z : Cell) (w m : ℕ) (parts : List Part) (ss : List Statement) (p : Part) (qs : List Part) (a : AllHands) (c c' : Crew) (r : Result Journal RunError) → w ≡ load.settings.workers → parts ≡ p ∷ qs → load.parts ≡ p ∷ qs → ss ≡ p.statements → m ≡ length qs → z.terms.node ≡ terms_for load

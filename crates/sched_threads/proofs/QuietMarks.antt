@@ -13,8 +13,8 @@ use Rattle.sched_workers.specs.Whole.{none_of, pended}
 use Rattle.sched_workers.proofs.TurnLists.{turns_append}
 use Rattle.sched_threads.specs.declared.looks.Wanted.{Wanted}
 use Rattle.sched_threads.specs.declared.looks.Wanted.TheVariants.{Task, Entrance, AllMembers, FirstMember, Mutex, Sem, Rwl}
-use Rattle.sched_threads.specs.Looks.{op_of, waits}
-use Rattle.sched_threads.proofs.WantedRows.{IsTimed, wanted_decides}
+use Rattle.sched_threads.specs.Looks.{op_of, waits, IsTimed}
+use Rattle.sched_threads.proofs.WantedRows.{wanted_decides}
 use Rattle.sched_threads.proofs.TurnMarks.{Cut, first_own, first_next, turns_one, both_none}
 
 quiet_drops : (x : Wanted) → waits x ≡ false → (s : State) (w : ℕ) → is_dropped s (entry w (op_of x false) Pending) ≡ true

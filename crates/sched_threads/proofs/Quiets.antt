@@ -17,7 +17,7 @@ use Rattle.sched_threads.specs.declared.looks.Wanted.{Wanted}
 use Rattle.sched_threads.specs.declared.looks.Wanted.TheVariants.{Task, Entrance, AllMembers, FirstMember, Mutex, Sem, Rwl}
 use Rattle.sched_threads.specs.Looks.{op_of}
 use Rattle.sched_threads.proofs.Shapes.{Shaped, shaped}
-use Rattle.sched_threads.specs.Rounds.{Round, Rested, Ran, Watched, asks, entries_in, all_in}
+use Rattle.sched_threads.specs.Rounds.{Round, Rested, Ran, Watched, Tallied, Tallying, GivesUp, Reads, Writes, retries, tally_steps, asks, entries_in, all_in}
 use Rattle.sched_threads.specs.Carries.{MadeAs, CarriedAs}
 use Rattle.sched_threads.proofs.OwnEntries.{self_is}
 
@@ -71,9 +71,16 @@ asks_quiet : (w : ℕ) (t : TaskHandle) (heard : List Bool) → NoPhase (asks w 
 asks_quiet w t [] = tt
 asks_quiet w t (b ∷ bs) = (refl, asks_quiet w t bs)
 
+steps_quiet : (w : ℕ) (t : TaskHandle) (x : Tallying) → NoPhase (tally_steps w t x)
+steps_quiet w t GivesUp = (refl, tt)
+steps_quiet w t (Reads z) = (refl, (refl, tt))
+steps_quiet w t (Writes z v) = (refl, (refl, (refl, tt)))
+
 round_quiet : (w : ℕ) (r : Round) → NoPhase (entries_in w r)
 round_quiet w Rested = (refl, tt)
 round_quiet w (Ran t a k args done) = (refl, (refl, tt))
+round_quiet w (Tallied t a k args pending steps e) =
+    (refl, quiet_append (retries w t pending ++ tally_steps w t steps) (entry w (op.TallyEnd t) (reply.Ended e) ∷ []) (quiet_append (retries w t pending) (tally_steps w t steps) (quiet_replicate pending (entry w (op.TallyLock t) reply.Pending) refl) (steps_quiet w t steps)) (refl, tt))
 round_quiet w (Watched t a k args heard e) = (refl, quiet_append (asks w t heard) (entry w (op.WatchEnd t) (reply.Ended e) ∷ []) (asks_quiet w t heard) (refl, tt))
 
 pub rounds_quiet : (w : ℕ) (rs : List Round) → NoPhase (all_in w rs)

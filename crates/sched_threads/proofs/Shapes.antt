@@ -5,8 +5,7 @@ use Rattle.workload_file.specs.declared.workload.Deed.TheVariants as deed
 use Rattle.sched_workers.specs.Calls.{Call, Once, Looking, call_of, handle_at, IsOnce}
 use Rattle.sched_threads.specs.declared.looks.Wanted.{Wanted}
 use Rattle.sched_threads.specs.declared.looks.Wanted.TheVariants as wanted
-use Rattle.sched_threads.specs.Looks.{op_of, waits}
-use Rattle.sched_threads.proofs.WantedRows.{IsTimed}
+use Rattle.sched_threads.specs.Looks.{op_of, waits, IsTimed}
 
 abbrev pub Shaped : Call → Type 0
 Shaped (Once o) = IsOnce o

@@ -28,9 +28,9 @@ use Rattle.sched_workers.specs.Lines.{is_timeout}
 use Rattle.sched_workers.proofs.Rows.{AllSays, said, on_live}
 use Rattle.sched_threads.specs.declared.looks.Wanted.{Wanted}
 use Rattle.sched_threads.specs.declared.looks.Wanted.TheVariants.{Task as TheEnd, Entrance, AllMembers, FirstMember, Mutex, Sem, Rwl}
-use Rattle.sched_threads.specs.Looks.{op_of}
+use Rattle.sched_threads.specs.Looks.{op_of, IsTimed}
 
-on_cond : (P : Reply → Type 0) (b : Bool) (v w : Row) → AllSays P v → AllSays P w → AllSays P (cond b v w)
+pub on_cond : (P : Reply → Type 0) (b : Bool) (v w : Row) → AllSays P v → AllSays P w → AllSays P (cond b v w)
 on_cond P true v w h k = h
 on_cond P false v w h k = k
 
@@ -76,11 +76,6 @@ tasks_look who h false Scheduled = record { pending = λ e. absurd (cc); stays =
 tasks_look who h true (Running w k) = code true _
 tasks_look who h false (Running w k) = record { pending = λ e. absurd (cc); stays = λ e b. absurd (cc) }
 tasks_look who h last (Ended e n) = record { pending = λ i. refl; stays = λ i b. refl }
-
--- the wants but the entrance, which has no last look
-abbrev pub IsTimed : Wanted → Type 0
-IsTimed Entrance = ⊥
-IsTimed w = Unit {0}
 
 decides_all : (w : Wanted) (s : State) (who : ℕ) (last : Bool) (r : Reply) → IsTimed w → AllSays (Decides last) (row s who (op_of w last) r)
 decides_all (TheEnd t) s who last r i = (code last _, on_live (Decides last) (live_object s.tasks t.0) _ _ (code last _) (λ x. (code last _, (code last _, tasks_look who t.0 last x.state))))
@@ -129,7 +124,7 @@ early_firsts s last [] = early_later last
 early_firsts s last (e ∷ es) = on_live (Early last) (live_object s.tasks e.task) _ _ tt (λ x. early_given last e.task x.state)
 
 -- no end of these is late
-abbrev AllEarly : List Ending → Type 0
+abbrev pub AllEarly : List Ending → Type 0
 AllEarly [] = Unit {0}
 AllEarly (e ∷ es) = (is_late_end e.end ≡ false) × AllEarly es
 
@@ -150,7 +145,7 @@ ended_early h Scheduled es i a = a
 ended_early h (Running w k) es i a = a
 ended_early h (Ended e n) es i a = insert_early (record { task = h; end = e; number = n }) es (not_true (is_late_end e) i) a
 
-endings_early : (g : ℕ) (l : List (Listed Task)) → Every InTime l → AllEarly (endings g (live_of l))
+pub endings_early : (g : ℕ) (l : List (Listed Task)) → Every InTime l → AllEarly (endings g (live_of l))
 unfolding endings live_of
 endings_early g [] a = tt
 endings_early g (r ∷ rs) a = by r.live (endings_early g rs a.1)

@@ -17,13 +17,13 @@ use Rattle.mtapi_machine.specs.declared.replies.Reply.TheVariants.{Ok, Handle, N
 use Rattle.mtapi_machine.specs.declared.replies.Reply.TheVariants as reply
 use Rattle.mtapi_machine.specs.declared.ops.Op.TheVariants as op
 use Rattle.handle_pool.specs.Issued.{live_object, count_listed, any_listed, change, with_fields}
-use Rattle.mtapi_objects.specs.Actions.{Action}
+use Rattle.mtapi_objects.specs.Actions.{Action, is_eligible}
 use Rattle.mtapi_objects.specs.Tasks.{Task, TaskState, Scheduled, Running, Ended, scheduled, runner, runs_on, runs_as, kind_number, is_unstarted, with_state, with_notes, Notes, no_tally, ended, asked_once, asked_refusals, finish_refusals, watch_end, watch_end_refusals, looks_of}
 use Rattle.mtapi_values.specs.declared.handles.ActionHandle.{ActionHandle}
 use Rattle.mtapi_machine.specs.State.{State, workers, is_new, is_stop, tasks, changed}
 use Rattle.mtapi_machine.specs.Moves.{runs_task as runs_task, stops as stops_worker, ends_task as ends_task, notes}
 use Rattle.mtapi_machine.specs.Row.{Row, unless, says, gives, never, only, Allows, after_row, mtapi_unless, live}
-use Rattle.mtapi_machine.specs.WorkRows.{is_ready, can_take, may_take, picks, task_end}
+use Rattle.mtapi_machine.specs.WorkRows.{is_ready, can_take, has_better, picks, task_end}
 use Rattle.mtapi_machine.specs.Legal.{IsNext, next}
 use Rattle.mtapi_machine.proofs.Changes.{at-update}
 use Rattle.history_law.specs.Seats.{Work, RunsWith, Holds, Free, IsUntouched}
@@ -52,7 +52,7 @@ left : (a b : Bool) → (a && b) ≡ true → a ≡ true
 left true b e = refl
 left false b e = e
 
-unstarted : (s : State) (w : ℕ) (t : Task) (x : Action) → may_take s w t x ≡ true → is_unstarted t ≡ true
+unstarted : (s : State) (w : ℕ) (t : Task) (x : Action) → (is_ready s t && is_eligible (workers s) w t.job t.cores x && not (has_better s w t.priority)) ≡ true → is_unstarted t ≡ true
 unfolding is_ready
 unstarted s w t x e = left (is_unstarted t) _ (left (is_ready s t) _ (left _ _ e))
 
@@ -90,12 +90,12 @@ abbrev take_row : Bool → ℕ → ℕ → ActionHandle → Task → Action → 
 take_row b w h a t x = only b (gives (Picked (record { 0 = h }) a x.kind t.args) (runs_task h w x.kind ∷ []))
 
 abbrev action_row : State → ℕ → ℕ → ActionHandle → Option Action → Task → Row
-action_row s w h a x t = live x never (λ y. take_row (may_take s w t y) w h a t y)
+action_row s w h a x t = live x never (λ y. take_row (is_ready s t && is_eligible (workers s) w t.job t.cores y && not (has_better s w t.priority)) w h a t y)
 
 abbrev task_row : State → ℕ → ℕ → ActionHandle → Option Task → Row
 task_row s w h a t = live t never (λ x. action_row s w h a (live_object s.actions a.0) x)
 
-taken : (b : Bool) (s : State) (w h : ℕ) (a : ActionHandle) (t : Task) (x : Action) (k : Kind) (args : List ℤ) → Untouched s → Free s w → live_object s.tasks h ≡ Some t → may_take s w t x ≡ b
+taken : (b : Bool) (s : State) (w h : ℕ) (a : ActionHandle) (t : Task) (x : Action) (k : Kind) (args : List ℤ) → Untouched s → Free s w → live_object s.tasks h ≡ Some t → (is_ready s t && is_eligible (workers s) w t.job t.cores x && not (has_better s w t.priority)) ≡ b
     → Allows (take_row b w h a t x) (Picked (record { 0 = h }) a k args) → Holds (after_row s (take_row b w h a t x)) w h (work_of k args)
 unfolding kind_in args_in
 taken true s w h a t x k args clean free e m p =
@@ -105,7 +105,7 @@ taken false s w h a t x k args clean free e m p = absurd p
 
 by_action : (s : State) (w h : ℕ) (a : ActionHandle) (t : Task) (x : Option Action) (k : Kind) (args : List ℤ) → Untouched s → Free s w → live_object s.tasks h ≡ Some t
     → Allows (action_row s w h a x t) (Picked (record { 0 = h }) a k args) → Holds (after_row s (action_row s w h a x t)) w h (work_of k args)
-by_action s w h a t (Some x) k args clean free e p = taken (may_take s w t x) s w h a t x k args clean free e refl p
+by_action s w h a t (Some x) k args clean free e p = taken (is_ready s t && is_eligible (workers s) w t.job t.cores x && not (has_better s w t.priority)) s w h a t x k args clean free e refl p
 by_action s w h a t None k args clean free e p = absurd p
 
 chosen : (s : State) (w h : ℕ) (a : ActionHandle) (t : Option Task) (k : Kind) (args : List ℤ) → Untouched s → Free s w → live_object s.tasks h ≡ t
@@ -161,14 +161,14 @@ found_goes s None t i r f e a = absurd (cc)
 number_self : (k : Kind) → (kind_number k == kind_number k) ≡ true
 number_self k = self_is (kind_number k)
 
-runs_as_its : (w : ℕ) (x : Work) (t : Task) → RunsWith w x t → runs_as w x.kind t ≡ true
+pub runs_as_its : (w : ℕ) (x : Work) (t : Task) → RunsWith w x t → runs_as w x.kind t ≡ true
 runs_as_its w x t h = ap (λ (y : TaskState). holds (λ r. (r.0 == w) && (kind_number r.1 == kind_number x.kind)) (runner y)) h.state ∙ ((λ i. self_is w i && (kind_number x.kind == kind_number x.kind)) ∙ number_self x.kind)
 
-runs_on_its : (w : ℕ) (x : Work) (t : Task) → RunsWith w x t → runs_on w t ≡ true
+pub runs_on_its : (w : ℕ) (x : Work) (t : Task) → RunsWith w x t → runs_on w t ≡ true
 runs_on_its w x t h = ap (λ (y : TaskState). holds (λ r. r.0 == w) (runner y)) h.state ∙ self_is w
 
 -- a task that ends leaves its worker free
-ends_free : (s : State) (w h : ℕ) (x : Work) (v : Holds s w h x) (e : TaskEnd) (n : ℕ) → count_listed (runs_on w) (change h (ended e n) s.tasks) ≡ 0
+pub ends_free : (s : State) (w h : ℕ) (x : Work) (v : Holds s w h x) (e : TaskEnd) (n : ℕ) → count_listed (runs_on w) (change h (ended e n) s.tasks) ≡ 0
 ends_free s w h x v e n =
     let m = count_changed (runs_on w) h (ended e n) false s.tasks v.task v.found (λ r l i. none _) in
     let o : cond {A = ℕ} (runs_on w v.task) 1 0 ≡ 1 = ap (λ (b : Bool). cond {A = ℕ} b 1 0) (runs_on_its w x v.task v.runs) in
@@ -182,7 +182,7 @@ same_list : (xs ys : List ℤ) → ys ≡ xs → pointwise int_eq xs ys ≡ true
 same_list xs ys e = (slice_eq-Decides Decides-int_eq xs ys (pointwise int_eq xs ys) refl).1 (sym e)
 
 -- the row's ways to the live task that the worker has
-own_goes : (s : State) (w h : ℕ) (x : Work) (v : Holds s w h x) (r : Reply) (f : Task → Row) → w < workers s → Allows (unless (not (nat_lt w (workers s))) (Mtapi m.ErrParameter) (live (live_object s.tasks h) (says tasks.invalid) f)) r
+pub own_goes : (s : State) (w h : ℕ) (x : Work) (v : Holds s w h x) (r : Reply) (f : Task → Row) → w < workers s → Allows (unless (not (nat_lt w (workers s))) (Mtapi m.ErrParameter) (live (live_object s.tasks h) (says tasks.invalid) f)) r
     → Goes s (unless (not (nat_lt w (workers s))) (Mtapi m.ErrParameter) (live (live_object s.tasks h) (says tasks.invalid) f)) r (f v.task)
 own_goes s w h x v r f l a =
     let g1 = pass (not (nat_lt w (workers s))) (Mtapi m.ErrParameter) r (live (live_object s.tasks h) (says tasks.invalid) f) s (small_not w (workers s) l) a in

@@ -4,7 +4,7 @@ use Rattle.turn_cell.specs.Lists.{all_of}
 use Rattle.turn_cell.specs.Seats.{fresh_seat, fresh_seats, IsSeatOf}
 use Rattle.workload_file.specs.declared.workload.Part.{Part}
 use Rattle.workload_file.specs.declared.workload.Workload.{Workload}
-use Rattle.mtapi_values.specs.declared.handles.Layout.TheVariants.{One}
+use Rattle.mtapi_values.specs.declared.handles.Layout.TheVariants.{Two}
 use Rattle.mtapi_machine.specs.declared.terms.Terms.{Terms}
 use Rattle.mtapi_machine.specs.State.{terms_with}
 use Rattle.mtapi_machine.specs.Legal.{NodeEntry, Legal}
@@ -16,26 +16,19 @@ use Rattle.sched_threads.specs.declared.crew.back.AllHands.{AllHands}
 use Rattle.sched_threads.specs.declared.run.RunError.{RunError}
 use Rattle.sched_threads.specs.declared.run.RunError.TheVariants as error
 use Rattle.sched_threads.specs.Pairs.{Rose}
-use Rattle.node_core.specs.Supported.{AllSupported}
-use Rattle.sched_threads.specs.Carries.{AllMade}
 use Rattle.sched_threads.specs.Crews.{Cell, IsClean}
 
 -- the terms of a run: the workload's settings, and one caller for each part
 abbrev pub terms_for : Workload → Terms
-terms_for load = terms_with One load.settings (length load.parts)
+terms_for load = terms_with Two load.settings (length load.parts)
 
--- the journal has these terms, is legal, by ops that a node executes, and is a run of the workload
+-- the journal has these terms, is legal, and is a run of the workload
 pub record IsRunOf (load : Workload) (j : Journal) : Type 0 where
   pub settings : j.settings ≡ load.settings
   pub callers : j.callers ≡ length load.parts
-  pub layout : j.layout ≡ One
+  pub layout : j.layout ≡ Two
   pub legal : Legal (terms_for load) j.entries.entries
-  pub supported : AllSupported j.entries.entries
   pub run : RunOf load j.entries.entries j.entries.skipped
-
--- an op does what each statement says
-abbrev pub PartsMade : List Part → Type 0
-PartsMade parts = (i : ℕ) (p : Part) → slice_get parts i ≡ Some p → AllMade p.statements
 
 -- where a run was refused, the count of refused threads rose; `Spent` shows a ticket word of at least 2^62
 abbrev pub Causes : ℕ → ℕ → RunError → Type 0

@@ -1,13 +1,12 @@
 //! The call that each statement makes.
 
-ghost use Rattle.std.specs.Prelude.{◌≡◌, true, option_map};
+ghost use Rattle.std.specs.Prelude.{◌≡◌, option_map};
 ghost use Rattle.sched_workers.specs.Calls.{call_of, handle_at, group_at};
-ghost use Rattle.node_core.specs.Supported.{is_supported};
-ghost use Rattle.sched_threads.specs.Carries.{IsMade, is_made, shape, IsDone};
+ghost use Rattle.sched_threads.specs.Carries.{shape};
 
 use crate::looks::Wanted;
 use mtapi_values::{
-    ActionHandle, GroupHandle, Kind, MutexHandle, QueueHandle, RwlHandle, SemHandle, ShmemHandle,
+    ActionHandle, GroupHandle, MutexHandle, QueueHandle, RwlHandle, SemHandle, ShmemHandle,
     TaskHandle, Timeout,
 };
 use node_core::Op;
@@ -40,9 +39,7 @@ fn group_at(bound: &[u64], group: Option<u32>) -> Option<GroupHandle>
 
 /// The call of a statement, where the earlier ones bound these handles: one line a statement.
 pub(crate) fn call_of(deed: &Deed, bound: &[u64]) -> Call
-    requires made { IsMade deed.now }
     ensures call { shape result ≡ call_of bound.now deed.now }
-    ensures done { IsDone result }
 {
     match deed {
         Deed::Begin => Call::Once(Op::Release),
@@ -209,15 +206,5 @@ pub(crate) fn call_of(deed: &Deed, bound: &[u64]) -> Call
             cell: *cell,
             value: *value,
         }),
-    }
-}
-
-/// Whether a node executes what the statement says.
-pub fn is_made(deed: &Deed) -> bool
-    ensures { result ≡ is_made deed.now }
-{
-    match deed {
-        Deed::Action { kind, .. } => !matches!(kind, Kind::Tally),
-        _ => true,
     }
 }

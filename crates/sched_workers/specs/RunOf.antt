@@ -55,6 +55,11 @@ is_work op.Pick (reply.Picked t a k args) = true
 is_work (op.Finish t done) reply.Ok = true
 is_work (op.Asked t) (reply.Asked requested) = true
 is_work (op.WatchEnd t) (reply.Ended end) = true
+is_work (op.TallyLock t) (reply.Asked got) = true
+is_work (op.TallyLock t) reply.Pending = true
+is_work (op.TallyRead t) (reply.Number z) = true
+is_work (op.TallyWrite t value) reply.Ok = true
+is_work (op.TallyEnd t) (reply.Ended end) = true
 is_work _ _ = false
 
 unfoldable pub all_work : List Line → Bool

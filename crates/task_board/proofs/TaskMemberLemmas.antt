@@ -12,8 +12,10 @@ use Rattle.mtapi_values.specs.declared.statuses.MtapiStatus.TheVariants.{ErrWait
 use Rattle.handle_pool.specs.Slots.{Slots, slot_of, generation_of, free_slot, slot_value, value_at, Inserts, with_value, without, put, changed}
 use Rattle.handle_pool.proofs.StandsLemmas.{value_at-none}
 use Rattle.linked_places.specs.Lists.{has_handle, stands_at}
-use Rattle.mtapi_objects.specs.Tasks.{Task, TaskState, Scheduled, Running, Ended, NewTask, new_task, Notes, is_unended, end_of, with_state, with_notes, with_waiter, cancel_requested, asked_once, asked_refusals, task_look_refusals}
+use Rattle.mtapi_objects.specs.Tasks.{Task, TaskState, Scheduled, Running, Ended, NewTask, new_task, Notes, is_unended, end_of, with_state, with_notes, with_tally, with_waiter, cancel_requested, asked_once, asked_refusals, task_look_refusals}
 use Rattle.task_core.specs.Records.{group_number, number_in}
+use Rattle.task_core.specs.declared.tallies.TallyState.{TallyState}
+use Rattle.task_core.specs.Tallies.{notes_of, tallied}
 use Rattle.task_core.specs.Answers.{after_asked, waiter_after}
 use Rattle.task_core.specs.Table.{ended_in, looked_in}
 use Rattle.group_core.specs.Members.{Members, GroupTable, with_member, with_ended, NoMemberAt, IsUnendedMember}
@@ -42,6 +44,9 @@ member-changed p h f same k = by_found (slot_value p h) refl
 
 pub member-requested : (p : Slots Task) (h k : ℕ) → members_in (changed p h (with_notes cancel_requested)) k ≡ members_in p k
 member-requested p h k = member-changed p h (with_notes cancel_requested) (λ t. member-noted cancel_requested t refl refl) k
+
+pub member-tallied : (p : Slots Task) (h k : ℕ) (y : TallyState) → members_in (changed p h (tallied y)) k ≡ members_in p k
+member-tallied p h k y = member-changed p h (tallied y) (λ t. member-noted (with_tally (λ n. notes_of t.args y)) t refl refl) k
 
 pub member-asked : (p : Slots Task) (h w k : ℕ) → members_in (changed p h (after_asked w)) k ≡ members_in p k
 member-asked p h w k = member-changed p h (after_asked w) (λ t. by_refusal t (is_none (first (asked_refusals w t)))) k

@@ -12,6 +12,7 @@ ghost use Rattle.job_table.specs.Answers.{Creates as CreatesAction, Covers, Pass
 ghost use Rattle.mtapi_objects.specs.Tasks.{Task, is_unstarted, is_unended, runs_on, with_state, Running, runner, with_notes, cancel_requested};
 ghost use Rattle.task_core.specs.Records.{asked_task, group_number, shown_state};
 ghost use Rattle.task_core.specs.Answers.{look_reply, asked_of, after_asked, watch_end_of};
+ghost use Rattle.task_core.specs.Tallies.{tallied};
 ghost use Rattle.task_core.specs.Table.{Adds, IsLiveAnd, ended_in, looked_in, unended_count};
 ghost use Rattle.task_board.specs.Picks.{IsBest, IsChoice};
 ghost use Rattle.queue_core.specs.Held.{new_queue, Creates as CreatesQueue, Finds, live_reply, with_opened, with_task, put_reply, NoTaskAt, facts_of};
@@ -35,7 +36,7 @@ use queue_core::{QueueFacts, Queues};
 use ready_index::ReadyIndex;
 use std::alloc::{AllocError, Global};
 use std::marker::Model;
-use task_core::{NewTask, TaskLook, TaskRecord, TaskState, Tasks};
+use task_core::{NewTask, TallyState, TaskLook, TaskRecord, TaskState, Tasks};
 
 /// A task that a worker may take, the action by which it would run it, and its priority.
 #[derive(Clone, Copy, Drop)]
@@ -269,6 +270,13 @@ impl Board {
         ensures { Becomes self.old self.new self.old.actions (record self.old.tasks { pool = changed self.old.tasks.pool t.0 (with_notes cancel_requested) }) }
     {
         self.tasks.request(t);
+    }
+
+    /// Notes how far the tally of a task has come. Changes nothing where the task isn't live.
+    pub fn note_tally(&mut self, t: TaskHandle, tally: TallyState)
+        ensures { Becomes self.old self.new self.old.actions (record self.old.tasks { pool = changed self.old.tasks.pool t.0 (tallied tally) }) }
+    {
+        self.tasks.note_tally(t, tally);
     }
 
     /// Makes an enabled action, as `Actions::create` says it.

@@ -3,6 +3,7 @@
 
 pub mod record;
 pub mod states;
+pub mod tallies;
 
 ghost use Rattle.std.specs.Prelude.{◌≡◌, ◌+◌, ◌≤◌, ◌<◌, ◌^◌, replicate, Some, IsSome, IfSome, IfOk, slice_get, is_some, not};
 ghost use Rattle.std.specs.Option.{option_copied, option_map};
@@ -10,6 +11,7 @@ ghost use Rattle.handle_pool.specs.Slots.{slot_value, free_slot, without, change
 ghost use Rattle.mtapi_objects.specs.Tasks.{Task, is_unstarted, is_unended, with_state, Running, runner, end_of, with_notes, cancel_requested};
 ghost use Rattle.task_core.specs.Records.{asked_task, shown_state, end_in};
 ghost use Rattle.task_core.specs.Answers.{look_reply, asked_of, after_asked, watch_end_of};
+ghost use Rattle.task_core.specs.Tallies.{tallied};
 ghost use Rattle.task_core.specs.Table.{Adds, IsLiveAnd, unended_count, ended_in, detached_in, looked_in};
 
 use handle_pool::Pool;
@@ -18,6 +20,7 @@ pub use record::TaskRecord;
 pub use states::{NewTask, TaskLook, TaskState};
 use std::alloc::{AllocError, Global};
 use std::marker::Model;
+pub use tallies::{TallyArgs, TallyState};
 
 /// Tasks, each under a handle, and how many were started and have ended.
 #[derive(Drop)]
@@ -111,6 +114,13 @@ impl Tasks {
             Some(record) => record.request(),
             None => unreachable!(),
         }
+    }
+
+    /// Notes how far the tally of a task has come. Changes nothing where the task isn't live.
+    pub fn note_tally(&mut self, t: TaskHandle, tally: TallyState)
+        ensures { self.new ≡ record self.old { pool = changed self.old.pool t.0 (tallied tally) } }
+    {
+        note_tally(&mut self.pool, t.0, tally);
     }
 
     /// Ends a task, with the next number of an end. A detached one stops being live.
@@ -222,6 +232,16 @@ fn leave_group(pool: &mut Pool<TaskRecord>, handle: u64)
         _ => {
             let _ = pool.remove(handle);
         }
+    }
+}
+
+// Notes how far the tally of a task has come.
+fn note_tally(pool: &mut Pool<TaskRecord>, handle: u64, tally: TallyState)
+    ensures { pool.new ≡ changed pool.old handle (tallied tally) }
+{
+    match pool.get_mut(handle) {
+        Some(record) => record.note_tally(tally),
+        None => {}
     }
 }
 

@@ -1,13 +1,15 @@
 //! Task records.
 
 ghost use Rattle.std.specs.Prelude.{◌≡◌, false, Some};
-ghost use Rattle.std.specs.Option.{option_copied};
+ghost use Rattle.std.specs.Option.{option_copied, option_map};
 ghost use Rattle.mtapi_values.specs.Conditions.{first};
-ghost use Rattle.mtapi_objects.specs.Tasks.{new_task, end_of, is_unended, with_state, with_notes, Running, Ended, cancel_requested, with_waiter, task_look_refusals, runs_as, looks_of};
+ghost use Rattle.mtapi_objects.specs.Tasks.{new_task, end_of, is_unended, with_state, with_notes, tally_args, Running, Ended, cancel_requested, with_waiter, task_look_refusals, runs_as, looks_of};
 ghost use Rattle.task_core.specs.Answers.{without_group, unended_look, waiter_after, asked_reply, after_asked, watch_end_reply, args_fault};
 ghost use Rattle.task_core.specs.Records.{asked_task, group_number, queue_number, shown_state, end_in, number_in};
+ghost use Rattle.task_core.specs.Tallies.{adds_of, notes_of, tallied};
 
 use crate::states::{NewTask, TaskLook, TaskState};
+use crate::tallies::{TallyArgs, TallyState, tally_args};
 use mtapi_values::{Args, GroupHandle, Kind, Mask, MtapiStatus, QueueHandle, TaskEnd};
 use std::marker::Model;
 
@@ -24,7 +26,7 @@ enum Progress {
     Ended(TaskEnd, u64),
 }
 
-/// One task: what was asked for, how far it has come, and who waits for it. What a tally has done is not among it.
+/// One task: what was asked for, how far it has come, who waits for it, and what a tally has done.
 #[derive(Drop)]
 pub struct TaskRecord {
     job: u32,
@@ -40,14 +42,16 @@ pub struct TaskRecord {
     requested: bool,
     looks: u32,
     seen: bool,
+    tally: TallyState,
 }
 
 impl Model for TaskRecord {
-    ghost use Rattle.mtapi_objects.specs.Tasks.{Task, no_tally};
+    ghost use Rattle.mtapi_objects.specs.Tasks.{Task};
 
     ghost Value = { Task };
 
     ghost use Rattle.task_core.specs.Records.{group_number, queue_number, state_of, LooksWithin};
+    ghost use Rattle.task_core.specs.Tallies.{notes_of};
 
     ghost view = { λ t. record {
       job = t.job;
@@ -64,7 +68,7 @@ impl Model for TaskRecord {
         requested = t.requested;
         looks = t.looks;
         seen = t.seen;
-        tally = no_tally;
+        tally = notes_of t.args t.tally;
       };
     } };
 
@@ -89,6 +93,7 @@ impl TaskRecord {
             requested: false,
             looks: 0,
             seen: false,
+            tally: TallyState::Begun,
         }
     }
 
@@ -234,6 +239,26 @@ impl TaskRecord {
         ensures { self.new ≡ with_notes cancel_requested self.old }
     {
         self.requested = true;
+    }
+
+    /// What its arguments name, where it is run as a tally: none where they aren't four or one of the first three is negative.
+    pub fn tally_args(&self) -> Option<TallyArgs>
+        ensures { option_map adds_of result ≡ tally_args self.now.args }
+    {
+        tally_args(self.args.as_slice())
+    }
+
+    /// How far its tally has come.
+    pub fn tally(&self) -> TallyState
+        ensures { notes_of self.now.args result ≡ self.now.notes.tally }
+    {
+        self.tally
+    }
+
+    pub(crate) fn note_tally(&mut self, tally: TallyState)
+        ensures { self.new ≡ tallied tally self.old }
+    {
+        self.tally = tally;
     }
 
     // Leaves its group, and is waited for by nobody.

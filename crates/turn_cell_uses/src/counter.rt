@@ -1,6 +1,6 @@
 //! An object that counts its calls.
 ghost use Rattle.std.specs.Prelude.{◌≡◌, length};
-ghost use Rattle.turn_cell_uses.specs.Counts.{replies_count, replies_count-prefix};
+ghost use Rattle.turn_cell_uses.specs.Counts.{counts, counts-prefix};
 
 use turn_cell::Object;
 
@@ -26,9 +26,9 @@ impl Object for Counter {
 
     ghost seat_count = { λ t. t };
 
-    ghost legal = { λ t l. replies_count 0 l };
+    ghost legal = { λ t l. counts t 0 l };
 
-    ghost stands = { λ c l. replies_count 0 l × (c.count ≡ length l) };
+    ghost stands = { λ c l. counts c.seats 0 l × (c.count ≡ length l) };
 
     fn seats(&self) -> u32 {
         self.seats
@@ -43,7 +43,7 @@ impl Object for Counter {
         self.count
     }
 
-    ghost prefix_legal = { λ t l more h. replies_count-prefix 0 l more h };
+    ghost prefix_legal = { λ t l more h. counts-prefix t 0 l more h };
 
     ghost stands_legal = { λ c l h. h.0 };
 }

@@ -3,17 +3,17 @@ use crate::total::{Change, Total};
 use std::test::Fail;
 use turn_cell::TurnCell;
 
-fn rise(replies: &[u64]) -> bool {
-    replies.windows(2).all(|pair| pair[0] < pair[1])
-}
-
 #[test]
-fn two_threads_count_and_their_replies_rise(rt: HostRuntime) -> Result<(), Fail> {
+fn two_threads_count_and_their_replies_are_all_numbers(rt: HostRuntime) -> Result<(), Fail> {
     let (count, first, second) = count_together(&rt, rt.alloc(), 1000)?;
     assert_eq!(rt; count, 2000);
     assert_eq!(rt; (first.len(), second.len()), (1000, 1000));
-    assert!(rt; rise(&first));
-    assert!(rt; rise(&second));
+    let mut all = first;
+    for reply in second {
+        all.push(reply)?;
+    }
+    all.sort()?;
+    assert!(rt; (1..=2000).eq(all.iter().copied()));
     Ok(())
 }
 

@@ -1,9 +1,10 @@
 //! Threads that call one object.
-ghost use Rattle.std.specs.Prelude.{◌≡◌, IfOk, length, vec_len};
+ghost use Rattle.std.specs.Prelude.{◌≡◌, ◌++◌, IfOk, length, vec_len};
+ghost use Rattle.turn_cell_uses.specs.Counts.{calls, CountedBy};
 
 use crate::counter::Counter;
 use std::alloc::{AllocError, Global};
-use std::sync::Wait;
+use std::sync::{Barrier, Wait};
 use std::thread::{Threads, join};
 use turn_cell::{Object, TurnCell, TurnSeat};
 
@@ -16,7 +17,8 @@ pub fn count_up<R: Wait>(
     times: u32,
 ) -> Result<(TurnSeat<Counter>, Vec<u64>), AllocError>
     requires { seat.cell ≡ cell.now.id }
-    ensures { IfOk result (λ r. (r.0.cell ≡ seat.cell) × (r.0.number ≡ seat.number)) }
+    ensures seat { IfOk result (λ r. (r.0.cell ≡ seat.cell) × (r.0.number ≡ seat.number)) }
+    ensures replies { IfOk result (λ r. r.0.mine ≡ seat.mine ++ calls seat.number r.1.items) }
 {
     let mut seat = seat;
     let mut replies = Vec::new(alloc);
@@ -29,26 +31,36 @@ pub fn count_up<R: Wait>(
     Ok((seat, replies))
 }
 
-/// Two threads call one counter so many times each. Gives the count, and the replies of each.
+/// Two threads call one counter so many times each, once both have come to the barrier. Gives the count, and the replies of each.
 pub fn count_together<R: Threads + Wait + Sync>(
     rt: &R,
     alloc: Global,
     times: u32,
-) -> Result<(u64, Vec<u64>, Vec<u64>), AllocError> {
+) -> Result<(u64, Vec<u64>, Vec<u64>), AllocError>
+    ensures { IfOk result (λ r. CountedBy r.0 r.1.items r.2.items) }
+{
     let (cell, mut seats) = TurnCell::new(alloc, Counter { seats: 2, count: 0 })?;
     let Some(b) = seats.pop() else { unreachable!() };
     let Some(a) = seats.pop() else { unreachable!() };
     let shared = &cell;
+    let barrier = Barrier::new(2);
+    let start = &barrier;
     let (first, second) = join(
         rt,
         move || -> Result<(TurnSeat<Counter>, Vec<u64>), AllocError>
             requires { a.cell ≡ shared.now.id }
-            ensures { IfOk result (λ r. (r.0.cell ≡ a.cell) × (r.0.number ≡ a.number)) }
-        { count_up(rt, alloc, shared, a, times) },
+            ensures { IfOk result (λ r. (r.0.cell ≡ a.cell) × (r.0.number ≡ a.number) × (r.0.mine ≡ a.mine ++ calls a.number r.1.items)) }
+        {
+            start.wait(rt);
+            count_up(rt, alloc, shared, a, times)
+        },
         move || -> Result<(TurnSeat<Counter>, Vec<u64>), AllocError>
             requires { b.cell ≡ shared.now.id }
-            ensures { IfOk result (λ r. (r.0.cell ≡ b.cell) × (r.0.number ≡ b.number)) }
-        { count_up(rt, alloc, shared, b, times) },
+            ensures { IfOk result (λ r. (r.0.cell ≡ b.cell) × (r.0.number ≡ b.number) × (r.0.mine ≡ b.mine ++ calls b.number r.1.items)) }
+        {
+            start.wait(rt);
+            count_up(rt, alloc, shared, b, times)
+        },
     );
     let (mut a, first) = first?;
     let (mut b, second) = second?;

@@ -14,20 +14,24 @@ use Rattle.workload_file.specs.declared.table.Word.{Word}
 use Rattle.workload_file.specs.declared.table.Word.TheVariants as word
 use Rattle.workload_file.specs.Table.{naming}
 use Rattle.workload_file.proofs.Given.{deed_is}
-use Rattle.workload_file.proofs.Rereading.{caller_named}
+use Rattle.workload_file.proofs.Invariant.{caller_named}
 use Rattle.number_text.specs.Lists.{between}
 use Rattle.workload_file.specs.Cuts.{words_of}
 use Rattle.workload_file.specs.Names.{is_misplaced}
-use Rattle.workload_file.specs.Reading.{with_change, line_gives, line_adds, lines_add, start, finished, workload_of, change_of, bound_name, deed_of, name_text}
+use Rattle.workload_file.specs.Reading.{with_change, line_gives, line_adds, lines_add, start, finished, workload_of, name_text}
+use Rattle.workload_file.specs.Changes.{bound_name}
+use Rattle.workload_file.specs.Settled.{change_of, deed_of}
 use Rattle.workload_file.specs.Formed.{statement_lines, line_if_any, part_lines}
-use Rattle.workload_file.specs.Written.{Line, if_any, node_text, caller_text, statement_text, statement_lines_behind, lines_of_part, lines_of, laid_out, canonical}
+use Rattle.workload_file.specs.Written.{Line, if_any, node_text, caller_text, statement_text, statement_lines_behind, lines_of_part, lines_of, laid_out, canonical, AreShort}
 use Rattle.number_text.specs.Lists.{led}
-use Rattle.workload_file.proofs.Facts.{bind_ok, ok_is, at_line_ok, IsRead, line_facts, words_facts, statement_facts}
+use Rattle.workload_file.proofs.Facts.{bind_ok, ok_is, at_line_ok, IsRead, line_facts, words_facts}
+use Rattle.workload_file.proofs.Agreed.{statement_facts}
 use Rattle.workload_file.proofs.Laid.{statements_push, statements_none, laid_none}
 use Rattle.workload_file.proofs.Invariant.{IsFormed, not_not}
-use Rattle.workload_file.proofs.Keeping.{kind_of, a_node, a_caller, a_deed, adds_keeps, start_formed}
+use Rattle.workload_file.proofs.Given.{kind_of, a_node, a_caller, a_deed}
+use Rattle.workload_file.proofs.Keeping.{adds_keeps, start_formed}
 use Rattle.workload_file.proofs.Phrases.{text_led}
-use Rattle.workload_file.proofs.Rewriting.{text_of_change, line_again}
+use Rattle.workload_file.proofs.Rewriting.{text_of_change, line_shorter}
 
 -- ---- the lines of what is read so far
 
@@ -199,12 +203,12 @@ unfolding From
 laid_less line [] h = rw (laid_none line) (omega arith)
 laid_less line (l ∷ ls) h = rw (laid_step line l ls h) (omega arith)
 
--- the lines that are written of the lines from this one on, and that reading them gives the same
+-- the lines that are written of the lines from this one on
 record IsReread (r s : Reading) (line : ℕ) (texts : List (List ℕ)) : Type 0 where
   lines : List Line
   shows : shown s ≡ shown r ++ lines
   from : From line lines
-  same : lines_add r line (between 10 (laid_out line lines)) ≡ Ok s
+  each : AreShort lines
   short : (length (laid_out line lines) + 1 ≤ length (led 10 texts)) ⊎ ((texts ≡ []) × (lines ≡ []))
 
 -- how long the lines behind one line are
@@ -223,25 +227,19 @@ skipped r mid s line text texts e h = record {
   lines = h.lines;
   shows = rw e h.shows;
   from = from_less line h.lines h.from;
-  same = next_adds r mid s line [] h.lines nothing_lacks h.from (empty_adds r line ∙ ap Ok e) h.same;
+  each = h.each;
   short = inl (behind line text [] texts h.lines h.from (omega arith) h.short);
 }
 
-given_line : (r mid s : Reading) (line : ℕ) (text written : List ℕ) (texts : List (List ℕ)) → shown mid ≡ shown r ++ (line, written) ∷ [] → line_adds r line written ≡ Ok mid → length written ≤ length text → All (λ b. eqb b 10 ≡ false) written → IsReread mid s (line + 1) texts → IsReread r s line (text ∷ texts)
+given_line : (r mid s : Reading) (line : ℕ) (text written : List ℕ) (texts : List (List ℕ)) → shown mid ≡ shown r ++ (line, written) ∷ [] → length written ≤ length text → length written ≤ 512 → IsReread mid s (line + 1) texts → IsReread r s line (text ∷ texts)
 unfolding From
-given_line r mid s line text written texts here adds le lacks h =
-    let laid = laid_here line written h.lines in
-    record {
-      lines = (line, written) ∷ h.lines;
-      shows = h.shows ∙ (ap (λ (l : List Line). l ++ h.lines) here ∙ append_assoc (shown r) ((line, written) ∷ []) h.lines);
-      from = omega arith;
-      same = subst (λ (t : List ℕ). lines_add r line (between 10 t) ≡ Ok s) (sym laid) (next_adds r mid s line written h.lines lacks h.from adds h.same);
-      short = inl (subst (λ (t : List ℕ). length t + 1 ≤ length (led 10 (text ∷ texts))) (sym laid) (behind line text written texts h.lines h.from le h.short));
-    }
-
-pub written_adds : (r : Reading) (line : ℕ) (text : List ℕ) (c : Change) → line_gives r line text ≡ Ok (Some c) → line_adds r line text ≡ Ok (with_change r line (Some c))
-unfolding line_adds
-written_adds r line text c e = rw e refl
+given_line r mid s line text written texts here le short h = record {
+  lines = (line, written) ∷ h.lines;
+  shows = h.shows ∙ (ap (λ (l : List Line). l ++ h.lines) here ∙ append_assoc (shown r) ((line, written) ∷ []) h.lines);
+  from = omega arith;
+  each = (short, h.each);
+  short = inl (subst (λ (t : List ℕ). length t + 1 ≤ length (led 10 (text ∷ texts))) (sym (laid_here line written h.lines)) (behind line text written texts h.lines h.from le h.short));
+}
 
 none_is : (r : Reading) (line : ℕ) → with_change r line None ≡ r
 unfolding with_change
@@ -250,21 +248,13 @@ none_is r line = refl
 by_change : (r mid s : Reading) (line : ℕ) (text : List ℕ) (texts : List (List ℕ)) (c : Option Change) → IsFormed r line → 1 ≤ line → line_gives r line text ≡ Ok c → with_change r line c ≡ mid → IsReread mid s (line + 1) texts → IsReread r s line (text ∷ texts)
 by_change r mid s line text texts None f le e is h = skipped r mid s line text texts (sym (none_is r line) ∙ is) h
 by_change r mid s line text texts (Some c) f le e is h =
-    let again = line_again r line text c e in
+    let again = line_shorter r line text c e in
     let here = change_shown r line text c f le e in
-    given_line r mid s line text (text_of_change r c) texts (ap shown (sym is) ∙ here) (written_adds r line (text_of_change r c) c again.gives ∙ ap Ok is) again.short again.lacks h
+    given_line r mid s line text (text_of_change r c) texts (ap shown (sym is) ∙ here) again.shorter again.short h
 
 reread : (texts : List (List ℕ)) (r s : Reading) (line : ℕ) → IsFormed r line → 1 ≤ line → lines_add r line texts ≡ Ok s → IsReread r s line texts
 unfolding lines_add line_adds From
-reread [] r s line f le e =
-    let same = ok_is r s e in
-    record {
-      lines = [];
-      shows = ap shown (sym same) ∙ sym (append-nil (shown r));
-      from = tt;
-      same = subst (λ (t : List ℕ). lines_add r line (between 10 t) ≡ Ok s) (sym (laid_none line)) (one_adds r s line [] (empty_adds r line ∙ ap Ok same));
-      short = inr (refl, refl);
-    }
+reread [] r s line f le e = record { lines = []; shows = ap shown (sym (ok_is r s e)) ∙ sym (append-nil (shown r)); from = tt; each = tt; short = inr (refl, refl) }
 reread (text ∷ texts) r s line f le e =
     let b = bind_ok (line_adds r line text) _ s e in
     let d = bind_ok (line_gives r line text) _ b.0 (at_line_ok line _ b.0 b.1) in
@@ -275,13 +265,10 @@ nothing_shown : shown start ≡ []
 unfolding start statement_lines_behind
 nothing_shown = refl
 
-record IsSame (bytes : List ℕ) (load : Workload) : Type 0 where
-  same : workload_of (canonical load) ≡ Ok load
-  short : length (canonical load) ≤ length bytes
-
-canonical_same : (s : Reading) (lines : List Line) → shown s ≡ lines → lines_add start 1 (between 10 (laid_out 1 lines)) ≡ Ok s → workload_of (canonical (finished s)) ≡ Ok (finished s)
-unfolding workload_of
-canonical_same s lines e h = rw (e, h) refl
+-- the canonical text is no longer than the text, and each of its lines is short
+pub record IsShort (bytes : List ℕ) (load : Workload) : Type 0 where
+  pub each : AreShort (lines_of load)
+  pub short : length (canonical load) ≤ length bytes
 
 whole_short : (bytes : List ℕ) (lines : List Line) → (length (laid_out 1 lines) + 1 ≤ length (led 10 (between 10 bytes))) ⊎ ((between 10 bytes ≡ []) × (lines ≡ [])) → length (laid_out 1 lines) ≤ length bytes
 whole_short bytes lines (inl h) = omega (arith, h, text_led 10 bytes)
@@ -290,19 +277,16 @@ whole_short bytes lines (inr h) =
     let zero_long : length (laid_out 1 lines) ≡ 0 = ap (λ (l : List ℕ). length l) none in
     omega (arith, zero_long)
 
-all_same : (bytes : List ℕ) (load : Workload) → workload_of bytes ≡ Ok load → IsSame bytes load
+pub all_short : (bytes : List ℕ) (load : Workload) → workload_of bytes ≡ Ok load → IsShort bytes load
 unfolding workload_of
-all_same bytes load e =
+all_short bytes load e =
     let b = bind_ok (lines_add start 1 (between 10 bytes)) _ load e in
     let h = reread (between 10 bytes) start b.0 1 start_formed (omega arith) b.1 in
     let shows : shown b.0 ≡ h.lines = h.shows ∙ ap (λ (l : List Line). l ++ h.lines) nothing_shown in
-    subst (λ (l : Workload). IsSame bytes l) (ok_is (finished b.0) load b.2) (record {
-      same = canonical_same b.0 h.lines shows h.same;
+    subst (λ (l : Workload). IsShort bytes l) (ok_is (finished b.0) load b.2) (record {
+      each = subst AreShort (sym shows) h.each;
       short = subst (λ (l : List Line). length (laid_out 1 l) ≤ length bytes) (sym shows) (whole_short bytes h.lines h.short);
     })
 
-pub canonical_again : (bytes : List ℕ) (load : Workload) → workload_of bytes ≡ Ok load → workload_of (canonical load) ≡ Ok load
-canonical_again bytes load e = (all_same bytes load e).same
-
 pub canonical_short : (bytes : List ℕ) (load : Workload) → workload_of bytes ≡ Ok load → length (canonical load) ≤ length bytes
-canonical_short bytes load e = (all_same bytes load e).short
+canonical_short bytes load e = (all_short bytes load e).short

@@ -1,12 +1,11 @@
 -- The canonical text of a well-formed workload is read as that workload.
-use Rattle.std.proofs.Common.{◌≡◌, ℕ, ◌+◌, ◌-◌, ◌≤◌, ◌<◌, List, [], ◌∷◌, ◌++◌, length, Bool, true, false, not, cond, eqb, Option, Some, None, Ok, refl, sym, ap, subst, ◌∙◌, arith, ◌⊎◌, inl, inr, map, append_assoc, length-append, All, zero, suc}
+use Rattle.std.proofs.Common.{◌≡◌, ℕ, ◌+◌, ◌-◌, ◌≤◌, ◌<◌, List, [], ◌∷◌, ◌++◌, length, true, false, eqb, Some, Ok, refl, sym, ap, subst, ◌∙◌, arith, ◌⊎◌, inl, inr, map, append_assoc, length-append, All, zero, suc}
 use Rattle.std.specs.Prelude.{nat_le, codes}
 use Rattle.mtapi_values.specs.Attributes.{NodeSettings}
 use Rattle.std.specs.List.{AllByRecursion, list_any, flat_map}
 use Rattle.std.specs.Str.{bytes_eq}
-use Rattle.std.proofs.lemmas.Bool.{or_parts, or_from, le-leb, lt-ltb, eqb-true, eq-eqb, ne_eqb, cases_Bool, leb-true}
+use Rattle.std.proofs.lemmas.Bool.{or_parts, or_from, eqb-true, cases_Bool, leb-true}
 use Rattle.std.proofs.lemmas.List.{append-nil}
-use Rattle.workload_file.specs.declared.table.Word.{Word}
 use Rattle.workload_file.specs.declared.table.Word.TheVariants as word
 use Rattle.workload_file.specs.declared.table.Naming.TheVariants as rule
 use Rattle.workload_file.specs.declared.workload.Deed.{Deed}
@@ -17,17 +16,18 @@ use Rattle.workload_file.specs.declared.workload.Workload.{Workload}
 use Rattle.workload_file.specs.declared.reading.Reading.{Reading}
 use Rattle.workload_file.specs.declared.reading.Change.TheVariants as change
 use Rattle.number_text.specs.Lists.{between}
-use Rattle.workload_file.specs.Values.{is_name}
-use Rattle.workload_file.specs.Deeds.{word_for, is_begin, setting_values}
+use Rattle.workload_file.specs.Deeds.{deed_spelled, word_for, is_begin, setting_values}
 use Rattle.workload_file.specs.Names.{is_taken, is_misplaced}
 use Rattle.workload_file.specs.Table.{fields}
-use Rattle.workload_file.specs.Reading.{usual_settings, with_change, line_adds, lines_add, start, finished, workload_of}
-use Rattle.workload_file.specs.Formed.{AllFit, AreStatements, begins, IsPart, IsMain, IsFurther, MainFirst, HaveDifferentNames, line_if_any, part_lines, statement_lines, Rise, WellFormed}
+use Rattle.workload_file.specs.Reading.{with_change, line_adds, lines_add, start, finished, workload_of}
+use Rattle.workload_file.specs.Changes.{usual_settings}
+use Rattle.workload_file.specs.Formed.{AllFit, AreStatements, begins, IsPart, IsFurther, MainFirst, HaveDifferentNames, line_if_any, part_lines, statement_lines, Rise, WellFormed}
 use Rattle.workload_file.specs.Written.{Line, if_any, node_text, caller_text, statement_text, statement_lines_behind, lines_of_part, lines_of, laid_out, canonical, AreShort}
 use Rattle.workload_file.proofs.Invariant.{push_statement}
 use Rattle.workload_file.proofs.Laid.{laid_none}
-use Rattle.workload_file.proofs.Again.{line_shown, lines_count, empty_adds, one_adds, next_adds, From, laid_here, nothing_lacks, part_count, parts_count}
-use Rattle.workload_file.proofs.Stated.{IsGiven, any_last, statement_given, caller_given, node_given}
+use Rattle.workload_file.proofs.Keeping.{workload_formed}
+use Rattle.workload_file.proofs.Again.{line_shown, empty_adds, one_adds, next_adds, From, laid_here, nothing_lacks, part_count, all_short}
+use Rattle.workload_file.proofs.Stated.{any_last, statement_given, caller_given, node_given}
 
 -- ---- lines that are read one by one
 
@@ -128,7 +128,7 @@ begin_fits r rest (inl h) = begin_placed r h.0 (omega (arith, h.1))
 begin_fits r rest (inr h) = absurd (omega arith)
 
 placed_deed : (r : Reading) (s : Statement) (rest : List Statement) (d : Deed) → s.deed ≡ d → MayBegin r (begins r.current.statements + begins (s ∷ rest)) → is_misplaced r (word_for d) ≡ false
-unfolding is_misplaced word_for is_begin
+unfolding is_misplaced deed_spelled is_begin
 placed_deed r s rest deed.Begin e h = begin_fits r rest (rw e at h)
 placed_deed r s rest _ e h = refl
 
@@ -486,3 +486,7 @@ canonical_read load w short =
     let h = whole_parts load load.parts refl w short in
     let rises : Rise 0 (numbers (lines_of load)) = subst (λ (xs : List ℕ). Rise 0 xs) (sym (lines_numbers load)) w.lines in
     read_whole (canonical load) h.end load (laid_adds (lines_of load) 0 start h.end rises h.adds) h.is
+
+-- the canonical text of what was read: it is well formed, and each of its lines is short
+pub canonical_again : (bytes : List ℕ) (load : Workload) → workload_of bytes ≡ Ok load → workload_of (canonical load) ≡ Ok load
+canonical_again bytes load e = canonical_read load (workload_formed bytes load e) (all_short bytes load e).each

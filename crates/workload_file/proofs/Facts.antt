@@ -11,7 +11,8 @@ use Rattle.workload_file.specs.Table.{naming, fields, word_of}
 use Rattle.workload_file.specs.Options.{is_known, has_twice, has_value, is_missing}
 use Rattle.workload_file.specs.Names.{split_name, is_taken, is_unbound, has_unbound, is_misplaced, is_ninth_caller}
 use Rattle.workload_file.specs.Cuts.{words_of}
-use Rattle.workload_file.specs.Reading.{◌>>=◌, refuse, or_cause, heading, check_options, check_names, name_text, change_of, statement_of, words_give, is_comment, is_printable, line_gives, at_line}
+use Rattle.workload_file.specs.Reading.{◌>>=◌, refuse, or_cause, heading, check_options, name_text, statement_of, words_give, is_comment, is_printable, line_gives, at_line}
+use Rattle.workload_file.specs.Settled.{check_names, change_of, settled}
 
 -- ---- steps that did not fail
 
@@ -67,18 +68,18 @@ pub record Statement (r : Reading) (line : ℕ) (first : List ℕ) (rest : List 
   pub read : IsRead r first rest word name options
   pub change : change_of r line word name options ≡ c
 
-not_false : (b : Bool) → not b ≡ false → b ≡ true
+pub not_false : (b : Bool) → not b ≡ false → b ≡ true
 not_false true h = refl
 not_false false h = absurd cc
 
-record IsHeading (r : Reading) (first : List ℕ) (rest : List (List ℕ)) (h : Word × Option (List ℕ) × List (List ℕ)) : Type 0 where
-  word : word_of first ≡ Some h.0
-  few : nat_le 20000 r.count ≡ false
-  callers : is_ninth_caller r h.0 ≡ false
-  placed : is_misplaced r h.0 ≡ false
-  split : split_name (naming h.0) rest ≡ Some (h.1, h.2)
+pub record IsHeading (r : Reading) (first : List ℕ) (rest : List (List ℕ)) (h : Word × Option (List ℕ) × List (List ℕ)) : Type 0 where
+  pub word : word_of first ≡ Some h.0
+  pub few : nat_le 20000 r.count ≡ false
+  pub callers : is_ninth_caller r h.0 ≡ false
+  pub placed : is_misplaced r h.0 ≡ false
+  pub split : split_name (naming h.0) rest ≡ Some (h.1, h.2)
 
-heading_facts : (r : Reading) (first : List ℕ) (rest : List (List ℕ)) (h : Word × Option (List ℕ) × List (List ℕ)) → heading r first rest ≡ Ok h → IsHeading r first rest h
+pub heading_facts : (r : Reading) (first : List ℕ) (rest : List (List ℕ)) (h : Word × Option (List ℕ) × List (List ℕ)) → heading r first rest ≡ Ok h → IsHeading r first rest h
 unfolding heading
 heading_facts r first rest h e =
     let a = bind_ok (or_cause (word_of first) UnknownWord) _ h e in
@@ -95,9 +96,9 @@ heading_facts r first rest h e =
     } in
     subst (λ (x : Word × Option (List ℕ) × List (List ℕ)). IsHeading r first rest x) (ok_is (a.0, g.0.0, g.0.1) h g.2) made
 
-pub statement_facts : (r : Reading) (line : ℕ) (first : List ℕ) (rest : List (List ℕ)) (c : Change) → statement_of r line first rest ≡ Ok c → Statement r line first rest c
-unfolding statement_of check_options check_names
-statement_facts r line first rest c e =
+pub settled_facts : (r : Reading) (line : ℕ) (first : List ℕ) (rest : List (List ℕ)) (c : Change) → settled r line first rest ≡ Ok c → Statement r line first rest c
+unfolding settled check_options check_names
+settled_facts r line first rest c e =
     let h = bind_ok (heading r first rest) _ c e in
     let k = heading_facts r first rest h.0 h.1 in
     let o = bind_ok (check_options (fields h.0.0) h.0.2) _ c h.2 in
@@ -129,9 +130,9 @@ statement_facts r line first rest c e =
     }
 
 -- and the other way round
-pub statement_read : (r : Reading) (line : ℕ) (first : List ℕ) (rest : List (List ℕ)) (w : Word) (name : Option (List ℕ)) (options : List (List ℕ)) → IsRead r first rest w name options → statement_of r line first rest ≡ Ok (change_of r line w name options)
-unfolding statement_of heading check_options check_names
-statement_read r line first rest w name options f = rw (f.word, f.few, f.callers, f.placed, f.split, f.known, f.once, f.valued, f.present, f.free, f.bound, f.values_bound) refl
+pub settled_read : (r : Reading) (line : ℕ) (first : List ℕ) (rest : List (List ℕ)) (w : Word) (name : Option (List ℕ)) (options : List (List ℕ)) → IsRead r first rest w name options → settled r line first rest ≡ Ok (change_of r line w name options)
+unfolding settled heading check_options check_names
+settled_read r line first rest w name options f = rw (f.word, f.few, f.callers, f.placed, f.split, f.known, f.once, f.valued, f.present, f.free, f.bound, f.values_bound) refl
 
 -- ---- a line
 

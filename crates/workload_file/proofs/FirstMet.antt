@@ -19,8 +19,10 @@ use Rattle.workload_file.specs.Cuts.{words_of}
 use Rattle.workload_file.specs.Table.{word_of, naming, fields}
 use Rattle.workload_file.specs.Options.{value_of, field_of, is_known, has_twice, is_value, has_value, is_missing}
 use Rattle.workload_file.specs.Names.{split_name, is_taken, is_unbound, has_unbound, is_misplaced, is_ninth_caller}
-use Rattle.workload_file.specs.Reading.{◌>>=◌, refuse, or_cause, heading, check_options, check_names, name_text, change_of, statement_of, words_give, is_comment, is_printable, line_gives, with_change, at_line, line_adds, lines_add, start, finished, workload_of}
-use Rattle.workload_file.specs.Faulty.{statement_word, is_statement, second, has_second, options_in, bad_at, has_bad_value, is_faulty, is_faulty_of, meets, causes, first_met, refused_for, IsFirstFault}
+use Rattle.workload_file.specs.Reading.{◌>>=◌, refuse, or_cause, heading, check_options, name_text, statement_of, words_give, is_comment, is_printable, line_gives, with_change, at_line, line_adds, lines_add, start, finished, workload_of}
+use Rattle.workload_file.specs.Settled.{check_names, change_of, settled}
+use Rattle.workload_file.proofs.Agreed.{statement_same}
+use Rattle.workload_file.specs.Faulty.{statement_word, is_statement, second, has_second, options_in, bad_at, has_bad_value, is_faulty, is_faulty_of, first_met, refused_for, IsFirstFault}
 
 -- ---- one step of reading
 
@@ -195,12 +197,15 @@ abbrev statement_met : Reading → Option Word → List (List ℕ) → Option Ca
 statement_met r None words = Some cause.UnknownWord
 statement_met r (Some w) words = cond (nat_le 20000 r.count) (Some cause.TooManyStatements) (word_met r w words)
 
-known_refused : (r : Reading) (line : ℕ) (first : List ℕ) (rest : List (List ℕ)) (w : Word) → word_of first ≡ Some w → refused_for (statement_of r line first rest) ≡ statement_met r (Some w) (first ∷ rest)
-unfolding statement_of heading
-known_refused r line first rest w e =
+settled_refused : (r : Reading) (line : ℕ) (first : List ℕ) (rest : List (List ℕ)) (w : Word) → word_of first ≡ Some w → refused_for (settled r line first rest) ≡ statement_met r (Some w) (first ∷ rest)
+unfolding settled heading
+settled_refused r line first rest w e =
     rw e (inner_same (nat_le 20000 r.count) cause.TooManyStatements _ _ _
     (inner_same (is_ninth_caller r w) cause.TooManyCallers _ _ _
     (inner_same (is_misplaced r w) cause.Misplaced _ _ _ (name_refused r line w first rest))))
+
+known_refused : (r : Reading) (line : ℕ) (first : List ℕ) (rest : List (List ℕ)) (w : Word) → word_of first ≡ Some w → refused_for (statement_of r line first rest) ≡ statement_met r (Some w) (first ∷ rest)
+known_refused r line first rest w e = ap refused_for (statement_same r line first rest) ∙ settled_refused r line first rest w e
 
 unknown_refused : (r : Reading) (line : ℕ) (first : List ℕ) (rest : List (List ℕ)) → word_of first ≡ None → refused_for (statement_of r line first rest) ≡ Some cause.UnknownWord
 unfolding statement_of heading

@@ -1,10 +1,10 @@
 -- The values of a statement without a fault lie in their ranges.
-use Rattle.std.proofs.Common.{◌≡◌, ℕ, ℤ, ◌+◌, ◌-◌, ◌*◌, ◌^◌, ◌≤◌, ◌<◌, List, [], ◌∷◌, ◌++◌, length, Bool, true, false, not, cond, ◌&&◌, eqb, Option, Some, None, refl, ap, subst, arith, ◌⊎◌, inl, inr, map, get_or, zero, suc, drop}
+use Rattle.std.proofs.Common.{◌≡◌, ℕ, ℤ, ◌+◌, ◌-◌, ◌^◌, ◌≤◌, ◌<◌, List, [], ◌∷◌, ◌++◌, length, Bool, true, false, not, cond, ◌&&◌, eqb, Option, Some, None, refl, ap, subst, arith, ◌⊎◌, inl, inr, map, get_or, zero, suc}
 use Rattle.std.specs.Prelude.{nat_le, is_some, option_and_then, FitsSigned, slice_get, codes}
 use Rattle.std.specs.List.{AllByRecursion, find, list_any, list_all, position_or_len}
 use Rattle.std.specs.Int.{w64}
 use Rattle.std.specs.Str.{bytes_eq}
-use Rattle.std.proofs.lemmas.Bool.{eqb-true, and_parts, or_parts, leb-true, cases_Bool}
+use Rattle.std.proofs.lemmas.Bool.{eqb-true, and_parts, leb-true, cases_Bool}
 use Rattle.std.proofs.lemmas.List.Sums.{split_at_first, passes_at_first}
 use Rattle.number_text.specs.Numbers.{whole}
 use Rattle.number_text.specs.Lists.{list_of, ◌>>=◌}
@@ -26,47 +26,12 @@ use Rattle.workload_file.specs.Table.{fields, key_text}
 use Rattle.workload_file.specs.Values.{number, number_within, cores_of, timeout_of}
 use Rattle.workload_file.specs.Options.{key_of, value_of, field_of, is_known, has_value, is_value, gives, is_missing, is_refused, text_of}
 use Rattle.workload_file.specs.Names.{is_unbound_value, has_unbound, place_of, bound_at, is_binding}
-use Rattle.workload_file.specs.Reading.{number_in, args_in, kind_in, cores_in, timeout_in, flag_in, mode_in, whole_in, place_in}
+use Rattle.workload_file.specs.Settled.{number_in, args_in, kind_in, cores_in, timeout_in, flag_in, mode_in, whole_in, place_in}
 use Rattle.workload_file.specs.Formed.{Fits, AllFit, IsBoundAt, IsTimeout}
 use Rattle.workload_file.proofs.Facts.{IsRead}
+use Rattle.workload_file.proofs.Finds.{find_passes, find_all, find_none, find_any}
 use Rattle.workload_file.proofs.Given.{IsField, shaped, value_in, default_of, placed, is_good, fields_found, fields_good}
 use Rattle.workload_file.proofs.Places.{bytes_are}
-
--- ---- what is found in a list
-
-pub find_passes : {X : Type 0} (p : X → Bool) (xs : List X) (x : X) → find p xs ≡ Some x → p x ≡ true
-find_passes p [] x e = absurd cc
-find_passes p (y ∷ ys) x e =
-    elim (cases_Bool (p y)) [
-      | inl t ↦ let e2 = rw t at e in let same : y ≡ x = cc in rw (← same) t
-      | inr f ↦ find_passes p ys x (rw f at e)
-    ]
-
-pub find_all : {X : Type 0} (p q : X → Bool) (xs : List X) (x : X) → find p xs ≡ Some x → list_all q xs ≡ true → q x ≡ true
-find_all p q [] x e h = absurd cc
-find_all p q (y ∷ ys) x e h =
-    let both = and_parts (q y) (list_all q ys) h in
-    elim (cases_Bool (p y)) [
-      | inl t ↦ let e2 = rw t at e in let same : y ≡ x = cc in rw (← same) both.0
-      | inr f ↦ find_all p q ys x (rw f at e) both.1
-    ]
-
-pub find_none : {X : Type 0} (p q : X → Bool) (xs : List X) (x : X) → find p xs ≡ Some x → list_any q xs ≡ false → q x ≡ false
-find_none p q [] x e h = absurd cc
-find_none p q (y ∷ ys) x e h =
-    let both = or_parts (q y) (list_any q ys) h in
-    elim (cases_Bool (p y)) [
-      | inl t ↦ let e2 = rw t at e in let same : y ≡ x = cc in rw (← same) both.0
-      | inr f ↦ find_none p q ys x (rw f at e) both.1
-    ]
-
-pub find_any : {X : Type 0} (p : X → Bool) (xs : List X) → find p xs ≡ None → list_any p xs ≡ false
-find_any p [] e = refl
-find_any p (y ∷ ys) e =
-    elim (cases_Bool (p y)) [
-      | inl t ↦ absurd (let e2 = rw t at e in cc)
-      | inr f ↦ rw f (find_any p ys (rw f at e))
-    ]
 
 pub any_place : {X : Type 0} (p : X → Bool) (xs : List X) → list_any p xs ≡ true → position_or_len p xs < length xs
 any_place p [] h = absurd cc
@@ -115,7 +80,7 @@ may_be true true h e = absurd cc
 may_be true false h e = absurd cc
 may_be false g h e = refl
 
-option_at : (r : Reading) (fs : List Field) (options : List (List ℕ)) (f : Field) (o : Option (List ℕ)) → IsField fs f → list_all (is_known fs) options ≡ true → list_all (has_value fs) options ≡ true → list_any (is_missing options) fs ≡ false → list_any (has_unbound r fs) options ≡ false → find (λ w. bytes_eq (key_of w) (key_text f.key)) options ≡ o → OptionOf r options f.key f.absent f.shape
+pub option_at : (r : Reading) (fs : List Field) (options : List (List ℕ)) (f : Field) (o : Option (List ℕ)) → IsField fs f → list_all (is_known fs) options ≡ true → list_all (has_value fs) options ≡ true → list_any (is_missing options) fs ≡ false → list_any (has_unbound r fs) options ≡ false → find (λ w. bytes_eq (key_of w) (key_text f.key)) options ≡ o → OptionOf r options f.key f.absent f.shape
 unfolding text_of
 option_at r fs options f None field known valued present bound e =
     let missing = find_none (λ g. bytes_eq (key_text g.key) (key_text f.key)) (is_missing options) fs f field present in
@@ -263,7 +228,7 @@ never absent.Refused s u n g m = cc
 never absent.Usual s u n g m = cc (u, g)
 never (absent.Number d) s u n g m = cc (n d, g)
 
-placed_some : (a : Absent) (i : ℕ) (o : Option ℕ) → o ≡ Some i → placed a o ≡ Some i
+pub placed_some : (a : Absent) (i : ℕ) (o : Option ℕ) → o ≡ Some i → placed a o ≡ Some i
 placed_some absent.Refused i o e = rw e refl
 placed_some absent.Usual i o e = e
 placed_some (absent.Number d) i o e = e

@@ -1,7 +1,10 @@
 -- The values that the options of a statement give, field by field of the table.
-use Rattle.std.proofs.Common.{◌≡◌, ℕ, List, [], ◌∷◌, Bool, true, false, Option, Some, None, map, refl, ◌&&◌}
+use Rattle.std.proofs.Common.{◌≡◌, ℕ, List, [], ◌∷◌, Bool, true, false, Option, Some, None, map, refl, ◌&&◌, not}
 use Rattle.std.specs.Prelude.{unwrap_or, nat_le}
-use Rattle.std.specs.List.{AllByRecursion, find, list_any}
+use Rattle.std.specs.List.{AllByRecursion, find, list_any, list_all}
+use Rattle.std.proofs.lemmas.Bool.{and_parts, or_parts}
+use Rattle.workload_file.proofs.Places.{bytes_same, apart_sym}
+use Rattle.workload_file.proofs.Rows.{each_word, each_field}
 use Rattle.std.specs.Str.{bytes_eq}
 use Rattle.workload_file.specs.declared.table.Word.{Word}
 use Rattle.workload_file.specs.declared.table.Word.TheVariants as word
@@ -18,9 +21,11 @@ use Rattle.workload_file.specs.declared.values.Value.{Value}
 use Rattle.workload_file.specs.declared.values.Value.TheVariants as given
 use Rattle.workload_file.specs.declared.reading.Reading.{Reading}
 use Rattle.workload_file.specs.declared.reading.Change.TheVariants as change
-use Rattle.workload_file.specs.Table.{naming, fields, key_text}
-use Rattle.workload_file.specs.Deeds.{word_for, values, place_used}
-use Rattle.workload_file.specs.Reading.{number_in, args_in, kind_in, cores_in, timeout_in, flag_in, mode_in, whole_in, place_in, used_place, deed_of, change_of, bound_name, name_text}
+use Rattle.workload_file.specs.Table.{row, words, naming, fields, key_text}
+use Rattle.workload_file.specs.Deeds.{deed_spelled, word_for, values, place_used}
+use Rattle.workload_file.specs.Reading.{name_text}
+use Rattle.workload_file.specs.Changes.{bound_name}
+use Rattle.workload_file.specs.Settled.{number_in, args_in, kind_in, cores_in, timeout_in, flag_in, mode_in, whole_in, place_in, used_place, deed_of, change_of}
 
 -- the number that an absent option stands for
 abbrev pub default_of : Absent → ℕ
@@ -55,6 +60,17 @@ is_deed word.Node = false
 is_deed word.Caller = false
 is_deed _ = true
 
+-- a statement is a node line, a caller line or a deed
+pub data Kind (w : Word) : Type 0 where
+  a_node : w ≡ word.Node → Kind w
+  a_caller : w ≡ word.Caller → Kind w
+  a_deed : is_deed w ≡ true → Kind w
+
+pub kind_of : (w : Word) → Kind w
+kind_of word.Node = a_node refl
+kind_of word.Caller = a_caller refl
+kind_of _ = a_deed refl
+
 -- the use that a statement makes of its name
 abbrev pub use_of : Reading → Naming → List ℕ → Option (Sort × ℕ)
 use_of r (rule.Uses s) name = Some (s, used_place r s name)
@@ -70,7 +86,7 @@ pub record IsDeed (r : Reading) (line : ℕ) (w : Word) (name : Option (List ℕ
   pub change : change_of r line w name options ≡ change.Statement (record { line = line; name = bound_name (naming w) name; deed = deed_of r w (name_text name) options })
 
 pub deed_is : (r : Reading) (line : ℕ) (w : Word) (name : Option (List ℕ)) (options : List (List ℕ)) → is_deed w ≡ true → IsDeed r line w name options
-unfolding word_for values place_used deed_of change_of naming fields
+unfolding deed_spelled deed_of change_of row
 deed_is r line word.Node name options h = absurd cc
 deed_is r line word.Caller name options h = absurd cc
 deed_is r line word.Begin name options h = record { word = refl; values = refl; uses = refl; change = refl }
@@ -119,99 +135,44 @@ abbrev pub AreApart : List Field → Type 0
 AreApart [] = Unit {0}
 AreApart (f ∷ fs) = (list_any (λ g. bytes_eq (key_text g.key) (key_text f.key)) fs ≡ false) × AreApart fs
 
+abbrev are_apart : List Field → Bool
+are_apart [] = true
+are_apart (f ∷ fs) = not (list_any (λ g. bytes_eq (key_text g.key) (key_text f.key)) fs) && are_apart fs
+
+pub not_true : (b : Bool) → not b ≡ true → b ≡ false
+not_true true h = absurd cc
+not_true false h = refl
+
+apart_from : (fs : List Field) → are_apart fs ≡ true → AreApart fs
+apart_from [] h = tt
+apart_from (f ∷ fs) h =
+    let both = and_parts (not (list_any (λ g. bytes_eq (key_text g.key) (key_text f.key)) fs)) (are_apart fs) h in
+    (not_true _ both.0, apart_from fs both.1)
+
+every_apart : list_all (λ w. are_apart (fields w)) words ≡ true
+unfolding row key_text
+every_apart = refl
+
+pub fields_apart : (w : Word) → AreApart (fields w)
+fields_apart w = apart_from (fields w) (each_word (λ w. are_apart (fields w)) every_apart w)
+
 -- the field is found by its key
 abbrev pub IsField : List Field → Field → Type 0
 IsField fs f = find (λ g. bytes_eq (key_text g.key) (key_text f.key)) fs ≡ Some f
 
-pub fields_apart : (w : Word) → AreApart (fields w)
-unfolding fields key_text
-fields_apart word.Node = (refl, (refl, (refl, (refl, (refl, (refl, (refl, (refl, tt))))))))
-fields_apart word.Caller = tt
-fields_apart word.Begin = tt
-fields_apart word.Action = (refl, (refl, (refl, tt)))
-fields_apart word.ActionDelete = tt
-fields_apart word.ActionEnable = tt
-fields_apart word.ActionDisable = tt
-fields_apart word.Start = (refl, (refl, (refl, (refl, (refl, (refl, tt))))))
-fields_apart word.Enqueue = (refl, (refl, (refl, (refl, (refl, tt)))))
-fields_apart word.Wait = (refl, tt)
-fields_apart word.Cancel = tt
-fields_apart word.Group = tt
-fields_apart word.WaitAll = (refl, tt)
-fields_apart word.WaitAny = (refl, tt)
-fields_apart word.GroupDelete = tt
-fields_apart word.Queue = (refl, (refl, (refl, (refl, (refl, (refl, tt))))))
-fields_apart word.QueueGet = (refl, tt)
-fields_apart word.QueueEnable = tt
-fields_apart word.QueueDisable = tt
-fields_apart word.QueueDelete = tt
-fields_apart word.Mutex = (refl, (refl, tt))
-fields_apart word.MutexGet = (refl, tt)
-fields_apart word.MutexDelete = tt
-fields_apart word.Lock = (refl, tt)
-fields_apart word.Unlock = (refl, tt)
-fields_apart word.Sem = (refl, (refl, tt))
-fields_apart word.SemGet = (refl, tt)
-fields_apart word.SemDelete = tt
-fields_apart word.SemLock = (refl, tt)
-fields_apart word.SemUnlock = tt
-fields_apart word.Rwl = (refl, (refl, tt))
-fields_apart word.RwlGet = (refl, tt)
-fields_apart word.RwlDelete = tt
-fields_apart word.RwlLock = (refl, (refl, tt))
-fields_apart word.RwlUnlock = (refl, tt)
-fields_apart word.Shmem = (refl, (refl, tt))
-fields_apart word.ShmemGet = (refl, tt)
-fields_apart word.ShmemDelete = tt
-fields_apart word.Attach = tt
-fields_apart word.Detach = tt
-fields_apart word.Read = (refl, tt)
-fields_apart word.Write = (refl, (refl, tt))
+found_behind : (f : Field) (all gs : List Field) → list_any (λ g. bytes_eq (key_text g.key) (key_text f.key)) gs ≡ false → AllByRecursion (IsField all) gs → AllByRecursion (IsField (f ∷ all)) gs
+found_behind f all [] h p = tt
+found_behind f all (g ∷ gs) h p =
+    let both = or_parts (bytes_eq (key_text g.key) (key_text f.key)) (list_any (λ g. bytes_eq (key_text g.key) (key_text f.key)) gs) h in
+    let other = apart_sym (key_text g.key) (key_text f.key) both.0 in
+    (rw other p.0, found_behind f all gs both.1 p.1)
+
+found_each : (fs : List Field) → AreApart fs → AllByRecursion (IsField fs) fs
+found_each [] a = tt
+found_each (f ∷ fs) a = (rw (bytes_same (key_text f.key)) refl, found_behind f fs fs a.0 (found_each fs a.1))
 
 pub fields_found : (w : Word) → AllByRecursion (IsField (fields w)) (fields w)
-unfolding fields key_text
-fields_found word.Node = (refl, (refl, (refl, (refl, (refl, (refl, (refl, (refl, tt))))))))
-fields_found word.Caller = tt
-fields_found word.Begin = tt
-fields_found word.Action = (refl, (refl, (refl, tt)))
-fields_found word.ActionDelete = tt
-fields_found word.ActionEnable = tt
-fields_found word.ActionDisable = tt
-fields_found word.Start = (refl, (refl, (refl, (refl, (refl, (refl, tt))))))
-fields_found word.Enqueue = (refl, (refl, (refl, (refl, (refl, tt)))))
-fields_found word.Wait = (refl, tt)
-fields_found word.Cancel = tt
-fields_found word.Group = tt
-fields_found word.WaitAll = (refl, tt)
-fields_found word.WaitAny = (refl, tt)
-fields_found word.GroupDelete = tt
-fields_found word.Queue = (refl, (refl, (refl, (refl, (refl, (refl, tt))))))
-fields_found word.QueueGet = (refl, tt)
-fields_found word.QueueEnable = tt
-fields_found word.QueueDisable = tt
-fields_found word.QueueDelete = tt
-fields_found word.Mutex = (refl, (refl, tt))
-fields_found word.MutexGet = (refl, tt)
-fields_found word.MutexDelete = tt
-fields_found word.Lock = (refl, tt)
-fields_found word.Unlock = (refl, tt)
-fields_found word.Sem = (refl, (refl, tt))
-fields_found word.SemGet = (refl, tt)
-fields_found word.SemDelete = tt
-fields_found word.SemLock = (refl, tt)
-fields_found word.SemUnlock = tt
-fields_found word.Rwl = (refl, (refl, tt))
-fields_found word.RwlGet = (refl, tt)
-fields_found word.RwlDelete = tt
-fields_found word.RwlLock = (refl, (refl, tt))
-fields_found word.RwlUnlock = (refl, tt)
-fields_found word.Shmem = (refl, (refl, tt))
-fields_found word.ShmemGet = (refl, tt)
-fields_found word.ShmemDelete = tt
-fields_found word.Attach = tt
-fields_found word.Detach = tt
-fields_found word.Read = (refl, tt)
-fields_found word.Write = (refl, (refl, tt))
+fields_found w = found_each (fields w) (fields_apart w)
 
 -- an absent option stands for a value of its shape
 abbrev pub is_good : Absent → Shape → Bool
@@ -224,47 +185,9 @@ is_good absent.Usual shape.Flag = true
 is_good absent.Usual (shape.Named s) = true
 is_good _ _ = false
 
+every_good : list_all (λ w. list_all (λ f. is_good f.absent f.shape) (fields w)) words ≡ true
+unfolding row
+every_good = refl
+
 pub fields_good : (w : Word) → AllByRecursion (λ f. is_good f.absent f.shape ≡ true) (fields w)
-unfolding fields
-fields_good word.Node = (refl, (refl, (refl, (refl, (refl, (refl, (refl, (refl, tt))))))))
-fields_good word.Caller = tt
-fields_good word.Begin = tt
-fields_good word.Action = (refl, (refl, (refl, tt)))
-fields_good word.ActionDelete = tt
-fields_good word.ActionEnable = tt
-fields_good word.ActionDisable = tt
-fields_good word.Start = (refl, (refl, (refl, (refl, (refl, (refl, tt))))))
-fields_good word.Enqueue = (refl, (refl, (refl, (refl, (refl, tt)))))
-fields_good word.Wait = (refl, tt)
-fields_good word.Cancel = tt
-fields_good word.Group = tt
-fields_good word.WaitAll = (refl, tt)
-fields_good word.WaitAny = (refl, tt)
-fields_good word.GroupDelete = tt
-fields_good word.Queue = (refl, (refl, (refl, (refl, (refl, (refl, tt))))))
-fields_good word.QueueGet = (refl, tt)
-fields_good word.QueueEnable = tt
-fields_good word.QueueDisable = tt
-fields_good word.QueueDelete = tt
-fields_good word.Mutex = (refl, (refl, tt))
-fields_good word.MutexGet = (refl, tt)
-fields_good word.MutexDelete = tt
-fields_good word.Lock = (refl, tt)
-fields_good word.Unlock = (refl, tt)
-fields_good word.Sem = (refl, (refl, tt))
-fields_good word.SemGet = (refl, tt)
-fields_good word.SemDelete = tt
-fields_good word.SemLock = (refl, tt)
-fields_good word.SemUnlock = tt
-fields_good word.Rwl = (refl, (refl, tt))
-fields_good word.RwlGet = (refl, tt)
-fields_good word.RwlDelete = tt
-fields_good word.RwlLock = (refl, (refl, tt))
-fields_good word.RwlUnlock = (refl, tt)
-fields_good word.Shmem = (refl, (refl, tt))
-fields_good word.ShmemGet = (refl, tt)
-fields_good word.ShmemDelete = tt
-fields_good word.Attach = tt
-fields_good word.Detach = tt
-fields_good word.Read = (refl, tt)
-fields_good word.Write = (refl, (refl, tt))
+fields_good w = each_field (λ f. is_good f.absent f.shape) (fields w) (each_word (λ w. list_all (λ f. is_good f.absent f.shape) (fields w)) every_good w)

@@ -17,10 +17,12 @@ use Rattle.workload_file.specs.declared.workload.Statement.{Statement}
 use Rattle.workload_file.specs.declared.workload.Part.{Part}
 use Rattle.workload_file.specs.declared.reading.Reading.{Reading}
 use Rattle.workload_file.specs.Values.{is_name}
-use Rattle.workload_file.specs.Table.{naming, fields}
-use Rattle.workload_file.specs.Deeds.{word_for, setting_values, is_begin}
+use Rattle.workload_file.specs.Table.{row, naming, fields}
+use Rattle.workload_file.specs.Deeds.{deed_spelled, word_for, setting_values, is_begin}
 use Rattle.workload_file.specs.Names.{split_name, is_called, bound_at, is_taken, is_unbound, is_misplaced, place_of}
-use Rattle.workload_file.specs.Reading.{number_in, settings_in, with_setting, usual_settings, deed_of, used_place, name_text, bound_name, finished}
+use Rattle.workload_file.specs.Reading.{name_text, finished}
+use Rattle.workload_file.specs.Changes.{with_setting, usual_settings, bound_name}
+use Rattle.workload_file.specs.Settled.{number_in, settings_in, deed_of, used_place}
 use Rattle.workload_file.specs.Formed.{AllFit, IsBoundAt, has_name, IsNew, IsStatement, AreStatements, begins, IsPart, IsMain, IsFurther, MainFirst, HaveDifferentNames, statement_lines, Rise}
 use Rattle.workload_file.proofs.Facts.{IsRead, some, some_is}
 use Rattle.workload_file.proofs.Given.{value_in, use_of, IsDeed}
@@ -145,6 +147,10 @@ unbound_any name xs h =
       | inr f ↦ f
     ]
 
+pub caller_named : (rest : List (List ℕ)) (name : Option (List ℕ)) (options : List (List ℕ)) → split_name (naming word.Caller) rest ≡ Some (name, options) → (text : List ℕ) × (name ≡ Some text) × (is_name text ≡ true)
+unfolding row
+caller_named rest name options e = named_by rule.Caller rest name options e (λ (x : rule.Caller ≡ rule.Bare). cc)
+
 bound_named : (r : Reading) (n : Naming) (name : Option (List ℕ)) (rest options : List (List ℕ)) → split_name n rest ≡ Some (name, options) → is_some (bound_name n name) ≡ has_name n
 bound_named r rule.Bare name rest options e = refl
 bound_named r rule.Caller name rest options e = refl
@@ -182,7 +188,7 @@ statement_formed r line first rest w name options read d = record {
 -- ---- begin
 
 pub begin_word : (d : Deed) → is_begin d ≡ true → word_for d ≡ word.Begin
-unfolding is_begin word_for
+unfolding is_begin deed_spelled
 begin_word deed.Begin h = refl
 begin_word _ h = absurd cc
 
@@ -233,7 +239,7 @@ unfolding with_setting
 set_generations v s h = rw (le-leb 1 v h.0, le-leb v 4294967295 h.1) refl
 
 pub node_settings : (r : Reading) (options : List (List ℕ)) → AllFit r.current.statements (fields word.Node) (map (value_in r options) (fields word.Node)) → setting_values (settings_in options) ≡ map (value_in r options) (fields word.Node)
-unfolding fields settings_in
+unfolding row settings_in
 node_settings r options h =
     let v1 = number_in options key.Workers 1 in
     let e1 = set_workers v1 usual_settings h.0 in

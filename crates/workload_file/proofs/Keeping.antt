@@ -15,15 +15,18 @@ use Rattle.workload_file.specs.declared.reading.Reading.{Reading}
 use Rattle.workload_file.specs.declared.reading.Change.{Change}
 use Rattle.workload_file.specs.Values.{is_name}
 use Rattle.number_text.specs.Lists.{between}
-use Rattle.workload_file.specs.Table.{naming, fields}
+use Rattle.workload_file.specs.Table.{row, naming, fields}
 use Rattle.workload_file.specs.Deeds.{setting_values, is_begin}
 use Rattle.workload_file.specs.Names.{is_taken, is_misplaced, is_ninth_caller}
 use Rattle.workload_file.specs.Cuts.{words_of}
-use Rattle.workload_file.specs.Reading.{settings_in, usual_settings, deed_of, name_text, bound_name, change_of, with_change, line_gives, line_adds, lines_add, start, finished, workload_of}
+use Rattle.workload_file.specs.Reading.{name_text, with_change, line_gives, line_adds, lines_add, start, finished, workload_of}
+use Rattle.workload_file.specs.Changes.{usual_settings, bound_name}
+use Rattle.workload_file.specs.Settled.{settings_in, deed_of, change_of}
 use Rattle.workload_file.specs.Formed.{AllFit, begins, IsPart, IsMain, IsFurther, line_if_any, part_lines, statement_lines, WellFormed}
 use Rattle.workload_file.proofs.Invariant.{IsFormed, below_more, below_push, rise_push, push_all, last_all, push_statement, main_last, main_push, any_push, names_last, names_push, begins_push, flat_push, named_by, statement_formed, begin_word, begin_free, node_settings, not_not}
-use Rattle.workload_file.proofs.Facts.{IsRead, some, bind_ok, ok_is, at_line_ok, line_facts, words_facts, statement_facts}
-use Rattle.workload_file.proofs.Given.{value_in, is_deed, deed_is, IsDeed}
+use Rattle.workload_file.proofs.Facts.{IsRead, some, bind_ok, ok_is, at_line_ok, line_facts, words_facts}
+use Rattle.workload_file.proofs.Agreed.{statement_facts}
+use Rattle.workload_file.proofs.Given.{value_in, kind_of, a_node, a_caller, a_deed, deed_is, IsDeed}
 use Rattle.workload_file.proofs.Fitting.{options_fit}
 
 -- ---- the lines of the statements so far
@@ -93,7 +96,7 @@ statement_keeps r line first rest w name options f le read d =
 -- ---- a caller line
 
 caller_keeps : (r : Reading) (line : ℕ) (first : List ℕ) (rest : List (List ℕ)) (name : List ℕ) (options : List (List ℕ)) → IsFormed r line → 1 ≤ line → IsRead r first rest word.Caller (Some name) options → is_name name ≡ true → IsFormed (with_caller r line name) (line + 1)
-unfolding is_taken is_ninth_caller naming
+unfolding is_taken is_ninth_caller row
 caller_keeps r line first rest name options f le read good =
     let lines = lines_caller r line name le in
     let fewer = leb-false 20000 r.count read.few in
@@ -123,7 +126,7 @@ empty_parts [] (y ∷ ys) h = absurd (omega arith)
 empty_parts (x ∷ xs) ys h = absurd (omega arith)
 
 node_fits : (r : Reading) (options : List (List ℕ)) → AllFit r.current.statements (fields word.Node) (map (value_in r options) (fields word.Node)) → AllFit [] (fields word.Node) (map (value_in r options) (fields word.Node))
-unfolding fields
+unfolding row
 node_fits r options h = h
 
 node_keeps : (r : Reading) (line : ℕ) (first : List ℕ) (rest : List (List ℕ)) (name : Option (List ℕ)) (options : List (List ℕ)) → IsFormed r line → 1 ≤ line → IsRead r first rest word.Node name options → IsFormed (with_node r line (settings_in options)) (line + 1)
@@ -148,22 +151,12 @@ node_keeps r line first rest name options f le read =
 
 -- ---- every line
 
-pub data Kind (w : Word) : Type 0 where
-  a_node : w ≡ word.Node → Kind w
-  a_caller : w ≡ word.Caller → Kind w
-  a_deed : is_deed w ≡ true → Kind w
-
-pub kind_of : (w : Word) → Kind w
-kind_of word.Node = a_node refl
-kind_of word.Caller = a_caller refl
-kind_of _ = a_deed refl
-
 node_read : (r : Reading) (line : ℕ) (first : List ℕ) (rest : List (List ℕ)) (name : Option (List ℕ)) (options : List (List ℕ)) → IsFormed r line → 1 ≤ line → IsRead r first rest word.Node name options → IsFormed (with_change r line (Some (change_of r line word.Node name options))) (line + 1)
 unfolding with_change change_of
 node_read r line first rest name options f le read = node_keeps r line first rest name options f le read
 
 caller_read : (r : Reading) (line : ℕ) (first : List ℕ) (rest : List (List ℕ)) (name : Option (List ℕ)) (options : List (List ℕ)) → IsFormed r line → 1 ≤ line → IsRead r first rest word.Caller name options → IsFormed (with_change r line (Some (change_of r line word.Caller name options))) (line + 1)
-unfolding with_change change_of naming
+unfolding with_change change_of row
 caller_read r line first rest name options f le read =
     let g = named_by rule.Caller rest name options read.split (λ (x : rule.Caller ≡ rule.Bare). cc) in
     subst (λ (n : Option (List ℕ)). IsRead r first rest word.Caller n options → IsFormed (with_change r line (Some (change_of r line word.Caller n options))) (line + 1)) (sym g.1) (λ (rd : IsRead r first rest word.Caller (some g.0) options). caller_keeps r line first rest g.0 options f le rd g.2) read
@@ -206,7 +199,7 @@ lines_keep (text ∷ texts) r s line f le e =
     lines_keep texts b.0 s (line + 1) (adds_keeps r b.0 line text f le b.1) (omega arith) b.2
 
 usual_fit : AllFit [] (fields word.Node) (setting_values usual_settings)
-unfolding fields
+unfolding row
 usual_fit = ((omega arith, omega arith), ((omega arith, omega arith), ((omega arith, omega arith), ((omega arith, omega arith), ((omega arith, omega arith), ((omega arith, omega arith), ((omega arith, omega arith), ((omega arith, omega arith), tt))))))))
 
 pub start_formed : IsFormed start 1

@@ -1,5 +1,5 @@
 -- Lines laid out one behind the other.
-use Rattle.std.proofs.Common.{◌≡◌, ℕ, ◌+◌, ◌-◌, List, [], ◌∷◌, ◌++◌, replicate, Result, Ok, Err, refl, sym, ap, ◌∙◌, append_assoc, take, length, get_or, drop, map, ◌<◌, ◌≤◌, arith}
+use Rattle.std.proofs.Common.{◌≡◌, ℕ, ◌+◌, ◌-◌, List, [], ◌∷◌, ◌++◌, replicate, Result, Ok, Err, refl, sym, ap, ◌∙◌, append_assoc, take, length, get_or, drop, ◌<◌, ◌≤◌, arith}
 use Rattle.std.specs.Prelude.{OnOk}
 use Rattle.std.proofs.lemmas.List.{append-nil}
 use Rattle.std.proofs.lemmas.Bool.{ne_eqb}
@@ -7,7 +7,7 @@ use Rattle.workload_file.specs.declared.workload.Statement.{Statement}
 use Rattle.workload_file.specs.Written.{Line, if_any, laid_out, statement_lines_behind, statement_text}
 use Rattle.std.specs.List.{flat_map, join_with_byte}
 use Rattle.std.proofs.lemmas.List.{take_all, take_more}
-use Rattle.workload_file.proofs.Pieces.{joined, led_append}
+use Rattle.number_text.proofs.Pieces.{joined, led_append}
 use Rattle.workload_file.specs.Written.{lines_of_part}
 use Rattle.workload_file.specs.declared.workload.Part.{Part}
 use Rattle.workload_file.specs.Led.{last_line}

@@ -1,6 +1,6 @@
 -- What is written consists of printable bytes without a space.
-use Rattle.std.proofs.Common.{◌≡◌, ℕ, ℤ, pos, negsuc, ◌^◌, ◌≤◌, ◌<◌, List, [], ◌∷◌, ◌++◌, Bool, true, false, not, cond, ◌&&◌, ◌||◌, eqb, Option, Some, None, refl, ap, arith, inl, inr, map, suc, zero, ◌+◌}
-use Rattle.std.specs.Prelude.{nat_le, nat_lt, length, FitsSigned, codes}
+use Rattle.std.proofs.Common.{◌≡◌, ℕ, ℤ, pos, negsuc, ◌^◌, ◌≤◌, ◌<◌, List, [], ◌∷◌, ◌++◌, true, not, ◌&&◌, ◌||◌, eqb, refl, ap, arith, inl, inr, map, suc, zero, ◌+◌}
+use Rattle.std.specs.Prelude.{nat_le, length, FitsSigned}
 use Rattle.std.specs.List.{AllByRecursion, list_all, join_with_byte}
 use Rattle.std.specs.Char.{is_ascii_digit}
 use Rattle.std.specs.Int.{w64}
@@ -8,10 +8,10 @@ use Rattle.std.specs.Fmt.{decimal, signed_decimal}
 use Rattle.std.proofs.lemmas.Bool.{le-leb, leb-true, lt-ltb, and_parts, and_from, or_cases, eqb-true, ne_eqb, cases_Bool}
 use Rattle.std.proofs.lemmas.Fmt.{digits_decimal}
 use Rattle.mtapi_values.specs.declared.kinds.Kind.{Kind}
-use Rattle.mtapi_values.specs.Kinds.{kind_word}
-use Rattle.mtapi_values.proofs.ValueTables.{kind_all, kind_finds_each}
+use Rattle.mtapi_values.specs.Kinds.{kind_word, kind_all}
+use Rattle.mtapi_values.proofs.ValueTables.{kind_finds_each}
 use Rattle.std.specs.Str.{bytes_eq}
-use Rattle.workload_file.proofs.Fitting.{find_all}
+use Rattle.workload_file.proofs.Finds.{find_all}
 use Rattle.mtapi_values.specs.Masks.{in_mask}
 use Rattle.number_text.specs.Lists.{list_text}
 use Rattle.number_text.specs.Cores.{cores_text}
@@ -19,7 +19,6 @@ use Rattle.number_text.proofs.Parsing.{own}
 use Rattle.number_text.proofs.Spelling.{cores_from, cores_all}
 use Rattle.number_text.proofs.Writing.{cores_yes, cores_no}
 use Rattle.workload_file.specs.Values.{is_name, is_name_byte, is_letter, begins_with_letter}
-use Rattle.workload_file.specs.Reading.{is_printable}
 use Rattle.workload_file.proofs.Phrases.{is_inner, is_word}
 
 pub inner_from : (b : ℕ) → 33 ≤ b → b ≤ 126 → is_inner b ≡ true

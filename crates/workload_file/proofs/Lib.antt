@@ -3,10 +3,13 @@ pub mod Lines
 pub mod Places
 pub mod Laid
 pub mod Feeds
+pub mod Finds
+pub mod Rows
 pub mod Facts
 pub mod Given
 pub mod Fitting
 pub mod Invariant
+pub mod Agreed
 pub mod Keeping
 pub mod Spelling
 pub mod Picks

@@ -1,7 +1,7 @@
 -- The options that are written of values are options of the statement, and give the values.
-use Rattle.std.proofs.Common.{◌≡◌, ℕ, ◌-◌, ◌^◌, ◌<◌, List, [], ◌∷◌, ◌++◌, Bool, true, false, not, cond, ◌&&◌, eqb, Option, Some, None, refl, sym, ap, subst, ◌∙◌, ◌⊎◌, inl, inr, map, append_assoc, arith, length, length-append}
-use Rattle.std.specs.Prelude.{nat_lt, is_some, option_and_then}
-use Rattle.std.specs.List.{AllByRecursion, find, list_any, list_all}
+use Rattle.std.proofs.Common.{◌≡◌, ℕ, ◌<◌, List, [], ◌∷◌, ◌++◌, Bool, true, false, cond, eqb, Option, Some, None, refl, sym, ap, subst, inl, inr, map, append_assoc, arith, length, length-append}
+use Rattle.std.specs.Prelude.{is_some, option_and_then}
+use Rattle.std.specs.List.{AllByRecursion, list_any, list_all}
 use Rattle.std.specs.Str.{bytes_eq}
 use Rattle.std.proofs.lemmas.Bool.{and_from, and_parts, or_parts, or_from, eqb-true, cases_Bool, lt-ltb}
 use Rattle.workload_file.specs.declared.table.Sort.{Sort}
@@ -15,10 +15,10 @@ use Rattle.workload_file.specs.declared.values.Value.{Value}
 use Rattle.workload_file.specs.declared.values.Value.TheVariants as given
 use Rattle.workload_file.specs.declared.reading.Reading.{Reading}
 use Rattle.workload_file.specs.Table.{key_text}
-use Rattle.workload_file.specs.Options.{key_of, value_of, field_of, is_known, has_twice, is_value, has_value, gives, is_missing, is_refused, text_of}
+use Rattle.workload_file.specs.Options.{key_of, field_of, is_known, has_twice, is_value, has_value, gives, is_missing, is_refused, text_of}
 use Rattle.workload_file.specs.Names.{has_unbound, has_unbound_at, is_unbound_value}
-use Rattle.workload_file.specs.Reading.{number_in, args_in, cores_in, flag_in, place_in}
-use Rattle.workload_file.specs.Written.{value_text, is_default, option_words, options_words}
+use Rattle.workload_file.specs.Settled.{number_in, args_in, cores_in, flag_in, place_in}
+use Rattle.workload_file.specs.Written.{value_text, is_default, options_words}
 use Rattle.workload_file.specs.Formed.{Fits, AllFit, IsBoundAt}
 use Rattle.workload_file.proofs.Given.{AreApart, IsField, shaped, value_in, is_good}
 use Rattle.workload_file.proofs.Phrases.{is_inner, is_word}

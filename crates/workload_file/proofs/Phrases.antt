@@ -1,7 +1,7 @@
 -- Words that are joined are cut into the same words, and a line of fewer words is shorter.
 use Rattle.std.proofs.Common.{◌≡◌, ℕ, ◌+◌, ◌≤◌, List, [], ◌∷◌, ◌++◌, length, Bool, true, false, not, cond, ◌&&◌, eqb, Some, refl, ap, ◌∙◌, arith, inl, inr, length-append, All}
 use Rattle.std.specs.Prelude.{nat_lt, filter}
-use Rattle.std.specs.List.{AllByRecursion, list_any, list_all, find, join_with_byte, onto_first}
+use Rattle.std.specs.List.{AllByRecursion, list_any, list_all, find, join_with_byte}
 use Rattle.std.specs.Str.{bytes_eq}
 use Rattle.std.proofs.lemmas.Bool.{and_parts, and_from, or_parts, cases_Bool, eq-eqb, eqb-true}
 use Rattle.std.proofs.lemmas.List.Elements.{All-from_recursion}
@@ -16,11 +16,11 @@ use Rattle.workload_file.specs.Options.{key_of}
 use Rattle.workload_file.specs.Reading.{is_printable}
 use Rattle.workload_file.specs.Written.{line_text}
 use Rattle.number_text.specs.Lists.{led}
-use Rattle.workload_file.proofs.Pieces.{joined}
-use Rattle.workload_file.proofs.Places.{bytes_are}
+use Rattle.number_text.proofs.Pieces.{joined}
+use Rattle.workload_file.proofs.Places.{bytes_are, apart_sym}
 use Rattle.workload_file.proofs.Given.{AreApart}
 use Rattle.workload_file.proofs.Picks.{AllPicked}
-use Rattle.workload_file.proofs.Rereading.{picks, picks_none, picks_left, picks_word, apart_sym}
+use Rattle.workload_file.proofs.Rereading.{picks, picks_none, picks_left, picks_word}
 
 -- ---- what words consist of
 
@@ -30,32 +30,6 @@ is_inner b = is_printable b && not (eqb b 32)
 
 abbrev pub is_word : List ℕ → Bool
 is_word w = nat_lt 0 (length w) && list_all is_inner w
-
-onto_good : (x : ℕ) (parts : List (List ℕ)) → is_inner x ≡ true → list_all (list_all is_inner) parts ≡ true → list_all (list_all is_inner) (onto_first x parts) ≡ true
-onto_good x [] t h = and_from _ _ (and_from _ _ t refl) refl
-onto_good x (p ∷ ps) t h = let both = and_parts (list_all is_inner p) (list_all (list_all is_inner) ps) h in and_from _ _ (and_from _ _ t both.0) both.1
-
-pieces_good : (text : List ℕ) → list_all is_printable text ≡ true → list_all (list_all is_inner) (between 32 text) ≡ true
-pieces_good [] h = refl
-pieces_good (x ∷ xs) h =
-    let both = and_parts (is_printable x) (list_all is_printable xs) h in
-    elim (cases_Bool (eqb x 32)) [
-      | inl t ↦ rw t (pieces_good xs both.1)
-      | inr f ↦ rw f (onto_good x (between 32 xs) (and_from _ _ both.0 (rw f refl)) (pieces_good xs both.1))
-    ]
-
-filter_good : (xs : List (List ℕ)) → list_all (list_all is_inner) xs ≡ true → list_all is_word (filter (λ w. nat_lt 0 (length w)) xs) ≡ true
-filter_good [] h = refl
-filter_good (x ∷ xs) h =
-    let both = and_parts (list_all is_inner x) (list_all (list_all is_inner) xs) h in
-    elim (cases_Bool (nat_lt 0 (length x))) [
-      | inl t ↦ rw t (and_from _ _ (and_from _ _ t both.0) (filter_good xs both.1))
-      | inr f ↦ rw f (filter_good xs both.1)
-    ]
-
-pub words_good : (text : List ℕ) → list_all is_printable text ≡ true → list_all is_word (words_of text) ≡ true
-unfolding words_of
-words_good text h = filter_good (between 32 text) (pieces_good text h)
 
 -- ---- joined words
 

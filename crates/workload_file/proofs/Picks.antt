@@ -14,16 +14,18 @@ use Rattle.workload_file.specs.declared.values.Value.TheVariants as given
 use Rattle.workload_file.specs.declared.reading.Reading.{Reading}
 use Rattle.workload_file.specs.declared.workload.Statement.{Statement}
 use Rattle.workload_file.specs.Table.{fields, key_text}
-use Rattle.workload_file.specs.Values.{cores_of, kind_of, timeout_of, flag_of, mode_of}
+use Rattle.workload_file.specs.Values.{cores_of, timeout_of, flag_of, mode_of}
+use Rattle.mtapi_values.specs.Kinds.{kind_named}
 use Rattle.number_text.specs.Numbers.{whole}
 use Rattle.number_text.specs.Lists.{list_of}
 use Rattle.workload_file.specs.Names.{bound_at}
 use Rattle.workload_file.specs.Options.{key_of, value_of, is_value, is_refused, text_of}
-use Rattle.workload_file.specs.Reading.{number_in, args_in, kind_in, cores_in, timeout_in, flag_in, mode_in, whole_in, place_in}
+use Rattle.workload_file.specs.Settled.{number_in, args_in, kind_in, cores_in, timeout_in, flag_in, mode_in, whole_in, place_in}
 use Rattle.workload_file.specs.Written.{value_text, is_default, option_words}
 use Rattle.workload_file.proofs.Facts.{IsRead, some_is}
 use Rattle.workload_file.proofs.Given.{IsField, shaped, value_in, placed, is_good}
-use Rattle.workload_file.proofs.Fitting.{IsGiven, OptionOf, option_facts, find_passes, number_given, some_value, place_given}
+use Rattle.workload_file.proofs.Fitting.{IsGiven, OptionOf, option_facts, number_given, some_value, place_given}
+use Rattle.workload_file.proofs.Finds.{find_passes}
 use Rattle.workload_file.proofs.Spelling.{number_text, whole_text, args_text, all_cores_text, kind_text, flag_text, mode_text, timeout_spelled, place_text}
 use Rattle.workload_file.proofs.Places.{bytes_are}
 
@@ -78,7 +80,7 @@ given_text r options k a shape.Cores good g d =
     let v = some_value (cores_of g.text) g.valued in
     let other = cores_usual a v.0 good (rw (g.at, v.1) at d) in
     rw (g.at, v.1) (all_cores_text g.text v.0 v.1 other)
-given_text r options k a shape.Kind good g d = let v = some_value (kind_of g.text) g.valued in rw (g.at, v.1) (kind_text g.text v.0 v.1)
+given_text r options k a shape.Kind good g d = let v = some_value (kind_named g.text) g.valued in rw (g.at, v.1) (kind_text g.text v.0 v.1)
 given_text r options k a shape.Flag good g d = let v = some_value (flag_of g.text) g.valued in rw (g.at, v.1) (flag_text g.text v.0 v.1)
 given_text r options k a shape.Mode good g d = let v = some_value (mode_of g.text) g.valued in rw (g.at, v.1) (mode_text g.text v.0 v.1)
 given_text r options k a shape.Timeout good g d = let v = some_value (timeout_of g.text) g.valued in rw (g.at, v.1) (timeout_spelled g.text v.0 v.1)

@@ -108,3 +108,10 @@ bound_push name sts s = rw (position_or_len_push (λ s. is_called name s.name) s
 pub none_of : (x : Option ℕ) → is_some x ≡ false → x ≡ None
 none_of None h = refl
 none_of (Some a) h = absurd cc
+
+pub apart_sym : (xs ys : List ℕ) → bytes_eq xs ys ≡ false → bytes_eq ys xs ≡ false
+apart_sym xs ys h =
+    elim (cases_Bool (bytes_eq ys xs)) [
+      | inl t ↦ absurd (let same = bytes_are ys xs t in let t2 : bytes_eq xs ys ≡ true = rw same (bytes_same xs) in cc)
+      | inr f ↦ f
+    ]

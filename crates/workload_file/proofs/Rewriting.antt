@@ -1,8 +1,7 @@
--- A line that is written again gives what the line that was read gave.
-use Rattle.std.proofs.Common.{◌≡◌, ℕ, ◌+◌, ◌≤◌, List, [], ◌∷◌, ◌++◌, length, Bool, true, false, cond, Option, Some, None, Ok, refl, sym, ap, subst, ◌∙◌, arith, inl, inr, map, length-append, All, eqb}
-use Rattle.std.specs.List.{list_all}
+-- A line that is written again is no longer than the line that was read.
+use Rattle.std.proofs.Common.{◌≡◌, ℕ, ◌+◌, ◌≤◌, List, [], ◌∷◌, ◌++◌, length, true, false, cond, Option, Some, None, Ok, refl, sym, ap, subst, ◌∙◌, arith, inl, inr, map, length-append}
 use Rattle.std.specs.Str.{bytes_eq}
-use Rattle.std.proofs.lemmas.Bool.{and_parts, and_from, cases_Bool, le-ltb, ltb-false}
+use Rattle.std.proofs.lemmas.Bool.{cases_Bool, ltb-false}
 use Rattle.workload_file.specs.declared.table.Word.{Word}
 use Rattle.workload_file.specs.declared.table.Word.TheVariants as word
 use Rattle.workload_file.specs.declared.table.Sort.{Sort}
@@ -11,25 +10,28 @@ use Rattle.workload_file.specs.declared.table.Naming.TheVariants as rule
 use Rattle.workload_file.specs.declared.reading.Reading.{Reading}
 use Rattle.workload_file.specs.declared.reading.Change.{Change}
 use Rattle.workload_file.specs.declared.reading.Change.TheVariants as change
-use Rattle.workload_file.specs.Table.{word_text, word_of, words, naming, fields}
+use Rattle.workload_file.specs.Table.{row, word_text, word_of, words, naming, fields}
 use Rattle.workload_file.specs.Values.{is_name}
 use Rattle.workload_file.specs.Cuts.{words_of}
-use Rattle.workload_file.specs.Options.{is_known, has_value}
-use Rattle.workload_file.specs.Names.{split_name, is_unbound, has_unbound, place_of}
-use Rattle.workload_file.specs.Reading.{deed_of, change_of, settings_in, name_text, bound_name, used_place, line_gives, statement_of}
+use Rattle.workload_file.specs.Names.{split_name, is_unbound, place_of}
+use Rattle.workload_file.specs.Reading.{name_text, line_gives}
+use Rattle.workload_file.specs.Changes.{bound_name}
+use Rattle.workload_file.specs.Settled.{deed_of, change_of, settings_in, used_place}
 use Rattle.workload_file.specs.Written.{value_text, options_words, bound_words, used_words, name_at, line_text, statement_text, node_text, caller_text}
 use Rattle.number_text.specs.Lists.{led}
-use Rattle.workload_file.proofs.Pieces.{led_append}
+use Rattle.number_text.proofs.Pieces.{led_append}
 use Rattle.workload_file.proofs.Places.{bytes_are}
-use Rattle.workload_file.proofs.Facts.{IsRead, statement_facts, statement_read, line_facts, line_read, words_facts, words_read, some, some_is}
+use Rattle.workload_file.proofs.Facts.{IsRead, line_facts, words_facts, some, some_is}
+use Rattle.workload_file.proofs.Agreed.{statement_facts}
 use Rattle.workload_file.proofs.Given.{value_in, is_deed, use_of, deed_is, IsDeed, fields_apart, fields_found, fields_good}
-use Rattle.workload_file.proofs.Fitting.{find_passes, place_found, place_some, options_fit}
+use Rattle.workload_file.proofs.Fitting.{place_found, place_some, options_fit}
+use Rattle.workload_file.proofs.Finds.{find_passes}
 use Rattle.workload_file.proofs.Spelling.{place_text}
-use Rattle.workload_file.proofs.Picks.{AllPicked, all_picked}
-use Rattle.workload_file.proofs.Rereading.{picks, picks_all, picks_any, picks_once, picks_lack_none, picks_same, change_same, caller_named}
-use Rattle.workload_file.proofs.Invariant.{named_by, node_settings}
-use Rattle.workload_file.proofs.Keeping.{kind_of, a_node, a_caller, a_deed}
-use Rattle.workload_file.proofs.Phrases.{is_word, words_good, words_again, line_printable, printable_lacks, led_length, words_shorter, picks_short}
+use Rattle.workload_file.proofs.Picks.{all_picked}
+use Rattle.workload_file.proofs.Rereading.{picks}
+use Rattle.workload_file.proofs.Invariant.{caller_named, named_by, node_settings}
+use Rattle.workload_file.proofs.Given.{kind_of, a_node, a_caller, a_deed}
+use Rattle.workload_file.proofs.Phrases.{led_length, words_shorter, picks_short}
 
 -- ---- the name of a statement
 
@@ -37,10 +39,6 @@ use Rattle.workload_file.proofs.Phrases.{is_word, words_good, words_again, line_
 abbrev pub named : Option (List ℕ) → List (List ℕ)
 named None = []
 named (Some name) = name ∷ []
-
-record Splits (n : Naming) (rest : List (List ℕ)) (name : Option (List ℕ)) (options : List (List ℕ)) : Type 0 where
-  are : rest ≡ named name ++ options
-  again : (ws : List (List ℕ)) → split_name n (named name ++ ws) ≡ Some (name, ws)
 
 abbrev pair : Option (List ℕ) → List (List ℕ) → Option (List ℕ) × List (List ℕ)
 pair name options = (name, options)
@@ -60,52 +58,20 @@ split_parts x xs name options e =
       | inr f ↦ absurd (let g = rw f at e in cc)
     ]
 
-word_splits : (n : Naming) (x : List ℕ) (xs : List (List ℕ)) (name : Option (List ℕ)) (options : List (List ℕ)) → ((y : List ℕ) (ys : List (List ℕ)) → split_name n (y ∷ ys) ≡ split_word y ys) → split_word x xs ≡ Some (pair name options) → Splits n (x ∷ xs) name options
-word_splits n x xs name options h e =
-    let p = split_parts x xs name options e in
-    rw p.1 (record { are = rw p.2 refl; again = λ ws. h x ws ∙ rw p.0 refl })
-
-splits : (n : Naming) (rest : List (List ℕ)) (name : Option (List ℕ)) (options : List (List ℕ)) → split_name n rest ≡ Some (name, options) → Splits n rest name options
+splits : (n : Naming) (rest : List (List ℕ)) (name : Option (List ℕ)) (options : List (List ℕ)) → split_name n rest ≡ Some (name, options) → rest ≡ named name ++ options
 unfolding split_name
-splits rule.Bare rest name options e = let p = pair_is None name rest options e in rw (← p.0) (record { are = p.1; again = λ ws. refl })
+splits rule.Bare rest name options e = let p = pair_is None name rest options e in rw (← p.0) p.1
 splits rule.Caller [] name options e = absurd cc
-splits rule.Caller (x ∷ xs) name options e = word_splits rule.Caller x xs name options (λ y ys. refl) e
+splits rule.Caller (x ∷ xs) name options e = let p = split_parts x xs name options e in rw (p.1, p.2) refl
 splits (rule.Binds s) [] name options e = absurd cc
-splits (rule.Binds s) (x ∷ xs) name options e = word_splits (rule.Binds s) x xs name options (λ y ys. refl) e
+splits (rule.Binds s) (x ∷ xs) name options e = let p = split_parts x xs name options e in rw (p.1, p.2) refl
 splits (rule.Uses s) [] name options e = absurd cc
-splits (rule.Uses s) (x ∷ xs) name options e = word_splits (rule.Uses s) x xs name options (λ y ys. refl) e
+splits (rule.Uses s) (x ∷ xs) name options e = let p = split_parts x xs name options e in rw (p.1, p.2) refl
 
 -- ---- the words of the line that is written
 
 abbrev new_words : Reading → Word → Option (List ℕ) → List (List ℕ) → List (List ℕ)
 new_words r w name options = named name ++ picks r options (fields w)
-
-pub read_again : (r : Reading) (first : List ℕ) (rest : List (List ℕ)) (w : Word) (name : Option (List ℕ)) (options : List (List ℕ)) → IsRead r first rest w name options → AllPicked r options (fields w) → IsRead r first (new_words r w name options) w name (picks r options (fields w))
-read_again r first rest w name options read p = record {
-  word = read.word;
-  few = read.few;
-  callers = read.callers;
-  placed = read.placed;
-  split = (splits (naming w) rest name options read.split).again (picks r options (fields w));
-  known = picks_all (is_known (fields w)) r options (fields w) read.known p;
-  once = picks_once r options (fields w) (fields_apart w) p;
-  valued = picks_all (has_value (fields w)) r options (fields w) read.valued p;
-  present = picks_lack_none r options (fields w) p;
-  free = read.free;
-  bound = read.bound;
-  values_bound = picks_any (has_unbound r (fields w)) r options (fields w) read.values_bound p;
-}
-
-all_parts : (q : List ℕ → Bool) (xs ys : List (List ℕ)) → list_all q (xs ++ ys) ≡ true → (list_all q xs ≡ true) × (list_all q ys ≡ true)
-all_parts q [] ys h = (refl, h)
-all_parts q (x ∷ xs) ys h =
-    let both = and_parts (q x) (list_all q (xs ++ ys)) h in
-    let rest = all_parts q xs ys both.1 in
-    (and_from _ _ both.0 rest.0, rest.1)
-
-all_join : (q : List ℕ → Bool) (xs ys : List (List ℕ)) → list_all q xs ≡ true → list_all q ys ≡ true → list_all q (xs ++ ys) ≡ true
-all_join q [] ys h k = k
-all_join q (x ∷ xs) ys h k = let both = and_parts (q x) (list_all q xs) h in and_from _ _ both.0 (all_join q xs ys both.1 k)
 
 -- ---- the text of what a line gave
 
@@ -119,7 +85,7 @@ unfolding word_of
 word_spelled first w e = bytes_are (word_text w) first (find_passes (λ w. bytes_eq (word_text w) first) words w e)
 
 deed_naming : (w : Word) → is_deed w ≡ true → naming w ≡ rule.Caller → ⊥
-unfolding naming
+unfolding row
 deed_naming word.Node h e = cc
 deed_naming word.Caller h e = cc
 deed_naming _ h e = cc
@@ -144,17 +110,17 @@ names_written r (rule.Uses s) rest name options ps e c h =
 
 statement_written : (r : Reading) (line : ℕ) (first : List ℕ) (rest : List (List ℕ)) (w : Word) (name : Option (List ℕ)) (options : List (List ℕ)) → IsRead r first rest w name options → IsDeed r line w name options → is_deed w ≡ true → statement_text r.current.statements (record { line = line; name = bound_name (naming w) name; deed = deed_of r w (name_text name) options }) ≡ line_text (first ∷ new_words r w name options)
 statement_written r line first rest w name options read d h =
-    rw (d.word, d.uses, d.values, word_spelled first w read.word, names_written r (naming w) rest name options (picks r options (fields w)) read.split (deed_naming w h) read.bound) refl
+    rw (d.uses, d.values, d.word, word_spelled first w read.word, names_written r (naming w) rest name options (picks r options (fields w)) read.split (deed_naming w h) read.bound) refl
 
 node_options : (r : Reading) (options : List (List ℕ)) → options_words [] (fields word.Node) (map (value_in r options) (fields word.Node)) ≡ picks r options (fields word.Node)
-unfolding options_words fields value_text
+unfolding options_words row value_text
 node_options r options = refl
 
 abbrev nothing_named : Option (List ℕ)
 nothing_named = None
 
 node_named : (rest : List (List ℕ)) (name : Option (List ℕ)) (options : List (List ℕ)) → split_name (naming word.Node) rest ≡ Some (name, options) → nothing_named ≡ name
-unfolding naming split_name
+unfolding row split_name
 node_named rest name options e = (pair_is None name rest options e).0
 
 node_written : (r : Reading) (first : List ℕ) (rest : List (List ℕ)) (name : Option (List ℕ)) (options : List (List ℕ)) → IsRead r first rest word.Node name options → node_text (settings_in options) ≡ line_text (first ∷ new_words r word.Node name options)
@@ -163,7 +129,7 @@ node_written r first rest name options read =
     rw (← none, word_spelled first word.Node read.word, node_settings r options (options_fit r first rest word.Node name options read), node_options r options) refl
 
 caller_options : (r : Reading) (options : List (List ℕ)) → picks r options (fields word.Caller) ≡ []
-unfolding options_words fields
+unfolding options_words row
 caller_options r options = refl
 
 caller_written : (r : Reading) (first : List ℕ) (rest : List (List ℕ)) (name : List ℕ) (options : List (List ℕ)) → IsRead r first rest word.Caller (Some name) options → caller_text name ≡ line_text (first ∷ new_words r word.Caller (Some name) options)
@@ -193,16 +159,10 @@ change_written r line first rest w name options read =
 
 -- ---- the line
 
-pub record IsAgain (r : Reading) (line : ℕ) (text : List ℕ) (c : Change) : Type 0 where
-  pub gives : line_gives r line (text_of_change r c) ≡ Ok (Some c)
-  pub short : length (text_of_change r c) ≤ length text
-  pub lacks : All (λ b. eqb b 10 ≡ false) (text_of_change r c)
-
-statement_again : (r : Reading) (line : ℕ) (first : List ℕ) (rest : List (List ℕ)) (w : Word) (name : Option (List ℕ)) (options : List (List ℕ)) (c : Change) → IsRead r first rest w name options → AllPicked r options (fields w) → change_of r line w name options ≡ c → statement_of r line first (new_words r w name options) ≡ Ok c
-statement_again r line first rest w name options c read p e =
-    let again = statement_read r line first (new_words r w name options) w name (picks r options (fields w)) (read_again r first rest w name options read p) in
-    let same = change_same r line first rest w name options (picks r options (fields w)) options read (picks_same r options w p) in
-    again ∙ ap Ok (same ∙ e)
+-- what is written is no longer than what was read
+pub record IsShorter (r : Reading) (text : List ℕ) (c : Change) : Type 0 where
+  pub shorter : length (text_of_change r c) ≤ length text
+  pub short : length (text_of_change r c) ≤ 512
 
 shorter_words : (first : List ℕ) (named rest options ps : List (List ℕ)) (text : List ℕ) → rest ≡ named ++ options → length (led 32 ps) ≤ length (led 32 options) → length (led 32 (first ∷ rest)) ≤ length text + 1 → length (line_text (first ∷ (named ++ ps))) ≤ length text
 shorter_words first named rest options ps text is le fit =
@@ -213,31 +173,20 @@ shorter_words first named rest options ps text is le fit =
     let e = length-append first (led 32 rest) in
     omega (arith, a, b, c, d, e, le, fit)
 
-pub line_again : (r : Reading) (line : ℕ) (text : List ℕ) (c : Change) → line_gives r line text ≡ Ok (Some c) → IsAgain r line text c
-line_again r line text c e =
+pub line_shorter : (r : Reading) (line : ℕ) (text : List ℕ) (c : Change) → line_gives r line text ≡ Ok (Some c) → IsShorter r text c
+line_shorter r line text c e =
     let l = line_facts r line text (Some c) e in
     let ws = words_facts r line (words_of text) c l.words in
     let st = statement_facts r line ws.first ws.rest c ws.statement in
     let p = all_picked r ws.first ws.rest st.word st.name st.options (fields st.word) st.read (fields_found st.word) (fields_good st.word) in
     let sp = splits (naming st.word) ws.rest st.name st.options st.read.split in
     let ps = picks r st.options (fields st.word) in
-    let good = and_parts (is_word ws.first) (list_all is_word ws.rest) (rw ws.are at (words_good text l.printable)) in
-    let parts = all_parts is_word (named st.name) st.options (rw sp.are at good.1) in
-    let new_good = and_from (is_word ws.first) (list_all is_word (named st.name ++ ps)) good.0 (all_join is_word (named st.name) ps parts.0 (picks_all is_word r st.options (fields st.word) parts.1 p)) in
     let new_text = line_text (ws.first ∷ (named st.name ++ ps)) in
-    let words_are = words_again ws.first (named st.name ++ ps) new_good in
-    let printable = line_printable ws.first (named st.name ++ ps) new_good in
     let fit = rw ws.are at (words_shorter text) in
-    let short = shorter_words ws.first (named st.name) ws.rest st.options ps text sp.are (picks_short r st.options (fields st.word) (fields_apart st.word) p) fit in
+    let shorter = shorter_words ws.first (named st.name) ws.rest st.options ps text sp (picks_short r st.options (fields st.word) (fields_apart st.word) p) fit in
     let le = ltb-false 512 (length text) l.short in
-    let gives = line_read r line new_text (Some c) (record {
-      short = le-ltb 512 (length new_text) (omega (arith, short, le));
-      printable = printable;
-      words = rw words_are (words_read r line ws.first (named st.name ++ ps) c ws.comment (statement_again r line ws.first ws.rest st.word st.name st.options c st.read p st.change));
-    }) in
     let same : text_of_change r c ≡ new_text = ap (text_of_change r) (sym st.change) ∙ change_written r line ws.first ws.rest st.word st.name st.options st.read in
     record {
-      gives = subst (λ (t : List ℕ). line_gives r line t ≡ Ok (Some c)) (sym same) gives;
-      short = subst (λ (t : List ℕ). length t ≤ length text) (sym same) short;
-      lacks = subst (λ (t : List ℕ). All (λ b. eqb b 10 ≡ false) t) (sym same) (printable_lacks new_text printable);
+      shorter = subst (λ (t : List ℕ). length t ≤ length text) (sym same) shorter;
+      short = subst (λ (t : List ℕ). length t ≤ 512) (sym same) (omega (arith, shorter, le));
     }

@@ -7,8 +7,8 @@ use Rattle.std.proofs.lemmas.List.Quantifiers.{position-Some}
 use Rattle.mtapi_values.specs.declared.kinds.Kind.{Kind}
 use Rattle.mtapi_values.specs.declared.timeouts.Timeout.{Timeout}
 use Rattle.mtapi_values.specs.declared.timeouts.Timeout.TheVariants as timeout
-use Rattle.mtapi_values.specs.Kinds.{kind_word}
-use Rattle.mtapi_values.proofs.ValueTables.{kind_all}
+use Rattle.mtapi_values.specs.Kinds.{kind_word, kind_named}
+use Rattle.mtapi_values.specs.Kinds.{kind_all}
 use Rattle.number_text.specs.Numbers.{whole}
 use Rattle.number_text.specs.Lists.{list_of, list_text}
 use Rattle.number_text.specs.Cores.{cores_text}
@@ -16,12 +16,13 @@ use Rattle.number_text.specs.Cores.{cores_of as listed_cores}
 use Rattle.number_text.proofs.Reading.{within_is as wide_is}
 use Rattle.number_text.proofs.Spelling.{number_spelled, whole_spelled, list_spelled, cores_spelled}
 use Rattle.workload_file.specs.declared.workload.Statement.{Statement}
-use Rattle.workload_file.specs.Values.{number, number_within, cores_of, kind_of, timeout_of, flag_of, mode_of}
+use Rattle.workload_file.specs.Values.{number, number_within, cores_of, timeout_of, flag_of, mode_of}
 use Rattle.workload_file.specs.Names.{bound_at, is_called}
 use Rattle.workload_file.specs.Reading.{name_text}
 use Rattle.workload_file.specs.Written.{timeout_text, name_at, name_of}
 use Rattle.workload_file.proofs.Places.{bytes_are}
-use Rattle.workload_file.proofs.Fitting.{find_passes, bind_some, just_is, cores_cond, looks_of, within_is}
+use Rattle.workload_file.proofs.Fitting.{bind_some, just_is, cores_cond, looks_of, within_is}
+use Rattle.workload_file.proofs.Finds.{find_passes}
 
 -- ---- numbers
 
@@ -45,8 +46,8 @@ all_cores_text text bits e h =
 
 -- ---- words
 
-pub kind_text : (text : List ℕ) (k : Kind) → kind_of text ≡ Some k → kind_word k ≡ text
-unfolding kind_of
+pub kind_text : (text : List ℕ) (k : Kind) → kind_named text ≡ Some k → kind_word k ≡ text
+unfolding kind_named
 kind_text text k e = bytes_are (kind_word k) text (find_passes (λ k. bytes_eq (kind_word k) text) kind_all k e)
 
 flag_cond : (a b : Bool) (x : Bool) → cond a (Some true) (cond b (Some false) None) ≡ Some x → ((a ≡ true) × (x ≡ true)) ⊎ ((b ≡ true) × (x ≡ false))

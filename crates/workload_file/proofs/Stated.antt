@@ -1,9 +1,8 @@
 -- The line of a well-formed statement is read as that statement.
-use Rattle.std.proofs.Common.{◌≡◌, ℕ, ◌+◌, ◌≤◌, ◌<◌, List, [], ◌∷◌, ◌++◌, length, Bool, true, false, not, cond, eqb, Option, Some, None, Ok, refl, sym, ap, subst, ◌∙◌, arith, inl, inr, map, All, zero, suc, append_assoc}
-use Rattle.std.specs.Prelude.{nat_le, nat_lt, is_some, IfSome, IsTrue, position, slice_get}
-use Rattle.std.specs.List.{AllByRecursion, list_any, list_all, position_or_len}
-use Rattle.std.specs.Str.{bytes_eq}
-use Rattle.std.proofs.lemmas.Bool.{and_from, or_parts, or_from, cases_Bool, lt-ltb, le-ltb}
+use Rattle.std.proofs.Common.{◌≡◌, ℕ, ◌+◌, ◌≤◌, ◌<◌, List, [], ◌∷◌, ◌++◌, length, Bool, true, false, eqb, Option, Some, None, Ok, refl, sym, ap, subst, ◌∙◌, arith, All, zero, suc}
+use Rattle.std.specs.Prelude.{nat_le, is_some, IfSome, position, slice_get}
+use Rattle.std.specs.List.{list_any, list_all, position_or_len}
+use Rattle.std.proofs.lemmas.Bool.{and_from, or_parts, or_from, lt-ltb, le-ltb}
 use Rattle.mtapi_values.specs.Attributes.{NodeSettings}
 use Rattle.number_text.proofs.Pieces.{place_some}
 use Rattle.workload_file.specs.declared.table.Word.{Word}
@@ -19,21 +18,25 @@ use Rattle.workload_file.specs.declared.reading.Reading.{Reading}
 use Rattle.workload_file.specs.declared.reading.Change.{Change}
 use Rattle.workload_file.specs.declared.reading.Change.TheVariants as change
 use Rattle.workload_file.specs.Values.{is_name}
-use Rattle.workload_file.specs.Table.{word_text, naming, fields}
-use Rattle.workload_file.specs.Deeds.{word_for, values, setting_values, place_used, binds}
+use Rattle.workload_file.specs.Table.{row, word_text, naming, fields}
+use Rattle.workload_file.specs.Deeds.{deed_spelled, word_for, values, setting_values, place_used, binds}
 use Rattle.workload_file.specs.declared.values.Value.{Value}
 use Rattle.workload_file.specs.Options.{is_known, has_twice, has_value, is_missing}
 use Rattle.workload_file.specs.Names.{has_unbound, split_name, is_called, bound_at, place_of, is_binding, is_taken, is_unbound, is_misplaced, is_ninth_caller}
-use Rattle.workload_file.specs.Reading.{is_comment, name_text, bound_name, deed_of, change_of, settings_in, used_place, line_gives, line_adds, with_change}
+use Rattle.workload_file.specs.Reading.{name_text, line_gives, line_adds, with_change}
+use Rattle.workload_file.specs.Changes.{bound_name}
+use Rattle.workload_file.specs.Settled.{deed_of, change_of, settings_in, used_place}
 use Rattle.workload_file.specs.Formed.{IsBoundAt, has_name, IsNew, IsStatement, AreStatements, AllFit}
-use Rattle.workload_file.specs.Written.{name_of, name_at, bound_words, used_words, line_text, options_words, statement_text, node_text, caller_text}
-use Rattle.workload_file.proofs.Facts.{IsRead, statement_read, line_read, words_read}
-use Rattle.workload_file.proofs.Given.{value_in, is_deed, use_of, deed_is, IsDeed, fields_apart, fields_found, fields_good}
+use Rattle.workload_file.specs.Written.{name_of, name_at, bound_words, used_words, line_text, statement_text, node_text, caller_text}
+use Rattle.workload_file.proofs.Facts.{IsRead, line_read, words_read}
+use Rattle.workload_file.proofs.Agreed.{statement_read}
+use Rattle.workload_file.proofs.Given.{is_deed, use_of, deed_is, fields_apart, fields_found, fields_good}
 use Rattle.workload_file.proofs.Phrases.{is_word, words_again, line_printable, printable_lacks}
 use Rattle.workload_file.proofs.Places.{bytes_same}
 use Rattle.workload_file.proofs.Rereading.{free_none}
 use Rattle.workload_file.proofs.Invariant.{node_settings}
-use Rattle.workload_file.proofs.Tables.{word_found, word_good, fields_spelled, values_full, is_full, NamingIs, naming_is, deed_word, deed_back}
+use Rattle.workload_file.proofs.Rows.{word_found}
+use Rattle.workload_file.proofs.Tables.{word_good, fields_spelled, values_full, is_full, NamingIs, naming_is, deed_word, deed_back}
 use Rattle.workload_file.proofs.Letters.{name_word}
 use Rattle.workload_file.proofs.Valued.{IsNamed}
 use Rattle.workload_file.proofs.Optioned.{AllWritten, Names, all_written, opts, opts_known, opts_valued, opts_bound, opts_words, opts_once, opts_lack_none, values_from}
@@ -75,7 +78,7 @@ any_last p (x ∷ xs) y h =
 -- ---- the names of a part
 
 binder_named : (s : Sort) (d : Deed) → binds s d ≡ true → has_name (naming (word_for d)) ≡ true
-unfolding binds naming word_for
+unfolding binds row deed_spelled
 binder_named sort.Action (deed.Action job kind cores) h = refl
 binder_named sort.Task (deed.Start job args priority cores detached group) h = refl
 binder_named sort.Task (deed.Enqueue queue args cores detached group) h = refl
@@ -266,7 +269,7 @@ unfolding has_twice
 nothing_twice = refl
 
 caller_read : (r : Reading) (name : List ℕ) → is_name name ≡ true → nat_le 20000 r.count ≡ false → nat_le 8 (length r.before) ≡ false → is_taken r rule.Caller name ≡ false → IsRead r (word_text word.Caller) (name ∷ []) word.Caller (Some name) []
-unfolding naming fields split_name is_unbound is_misplaced is_ninth_caller
+unfolding row split_name is_unbound is_misplaced is_ninth_caller
 caller_read r name good few callers free = record {
   word = word_found word.Caller;
   few = few;
@@ -293,7 +296,7 @@ caller_given r line name good few callers free short =
 -- ---- a node line
 
 node_full : (s : NodeSettings) → is_full (fields word.Node) (setting_values s) ≡ true
-unfolding fields
+unfolding row
 node_full s = refl
 
 abbrev settings_of : ℕ → ℕ → ℕ → ℕ → ℕ → ℕ → ℕ → ℕ → NodeSettings
@@ -313,7 +316,7 @@ settings_same s t e =
     all
 
 node_read : (r : Reading) (options : List (List ℕ)) → nat_le 20000 r.count ≡ false → r.count ≡ 0 → list_all (is_known (fields word.Node)) options ≡ true → has_twice options ≡ false → list_all (has_value (fields word.Node)) options ≡ true → list_any (is_missing options) (fields word.Node) ≡ false → list_any (has_unbound r (fields word.Node)) options ≡ false → IsRead r (word_text word.Node) options word.Node None options
-unfolding naming split_name is_taken is_unbound is_misplaced is_ninth_caller
+unfolding row split_name is_taken is_unbound is_misplaced is_ninth_caller
 node_read r options few none known once valued present bound = record {
   word = word_found word.Node;
   few = few;

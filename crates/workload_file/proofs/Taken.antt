@@ -1,11 +1,10 @@
 -- What was taken of a source that was read without a fault.
-use Rattle.std.proofs.Common.{◌≡◌, ℕ, ◌+◌, ◌≤◌, List, drop, length, Option, Some, None, Result, Ok, Err, sym, ◌∙◌, arith}
+use Rattle.std.proofs.Common.{◌≡◌, ℕ, ◌≤◌, List, drop, length, Option, Some, None, Ok, Err, sym, ◌∙◌, arith}
 use Rattle.std.specs.Prelude.{IfSome}
 use Rattle.std.specs.Io.KnownBytes.{IsAtEnd}
 use Rattle.std.specs.Global.{Vec}
 use Rattle.std.proofs.Math.ListN.{drop_of_length-le}
 use Rattle.byte_io.specs.Causes.{ReadsWhole}
-use Rattle.byte_io.specs.declared.whole.ReadAllError.{ReadAllError}
 use Rattle.byte_io.specs.declared.whole.ReadAllError.TheVariants.{TooLong}
 use Rattle.workload_file.specs.Loading.{ReadsClean}
 

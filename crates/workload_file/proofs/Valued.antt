@@ -1,19 +1,18 @@
 -- A value that is written is read as the same.
-use Rattle.std.proofs.Common.{◌≡◌, ℕ, ℤ, ◌-◌, ◌^◌, ◌≤◌, ◌<◌, List, [], ◌∷◌, length, Bool, true, false, not, cond, eqb, Option, Some, None, refl, sym, ap, subst, ◌∙◌, arith, inl, inr}
-use Rattle.std.specs.Prelude.{nat_le, is_some, FitsSigned, codes, slice_get, IfSome}
-use Rattle.std.specs.List.{AllByRecursion, list_all, list_any}
-use Rattle.std.specs.Int.{w64}
+use Rattle.std.proofs.Common.{◌≡◌, ℕ, ℤ, ◌^◌, ◌≤◌, ◌<◌, List, [], ◌∷◌, length, Bool, true, false, not, cond, Option, Some, None, refl, sym, ap, subst, ◌∙◌, arith, inl, inr}
+use Rattle.std.specs.Prelude.{is_some, codes, IfSome}
+use Rattle.std.specs.List.{list_all}
 use Rattle.std.specs.Fmt.{decimal, signed_decimal}
 use Rattle.std.specs.Str.{bytes_eq}
 use Rattle.std.proofs.lemmas.Bool.{le-leb, leb-true, cases_Bool}
 use Rattle.mtapi_values.specs.declared.kinds.Kind.{Kind}
 use Rattle.mtapi_values.specs.declared.timeouts.Timeout.{Timeout}
 use Rattle.mtapi_values.specs.declared.timeouts.Timeout.TheVariants as timeout
-use Rattle.mtapi_values.specs.Kinds.{kind_word}
+use Rattle.mtapi_values.specs.Kinds.{kind_word, kind_named}
 use Rattle.mtapi_values.proofs.ValueTables.{kind_finds_each}
 use Rattle.number_text.specs.Numbers.{whole}
 use Rattle.number_text.specs.Numbers as wide
-use Rattle.number_text.specs.Lists.{list_of, list_text, between}
+use Rattle.number_text.specs.Lists.{list_of, list_text}
 use Rattle.number_text.specs.Cores.{cores_text, bits_from}
 use Rattle.number_text.specs.Cores.{cores_of as listed_cores}
 use Rattle.number_text.proofs.Writing.{number_written, within_written, whole_written, list_written, cores_written}
@@ -27,13 +26,13 @@ use Rattle.workload_file.specs.declared.values.Value.{Value}
 use Rattle.workload_file.specs.declared.values.Value.TheVariants as given
 use Rattle.workload_file.specs.declared.workload.Statement.{Statement}
 use Rattle.workload_file.specs.declared.reading.Reading.{Reading}
-use Rattle.workload_file.specs.Values.{number, number_within, cores_of, kind_of, timeout_of, flag_of, mode_of, is_name}
+use Rattle.workload_file.specs.Values.{number, number_within, cores_of, timeout_of, flag_of, mode_of, is_name}
 use Rattle.workload_file.specs.Options.{is_value, text_of}
-use Rattle.workload_file.specs.Names.{is_unbound_value, place_of, bound_at}
-use Rattle.workload_file.specs.Reading.{number_in, args_in, kind_in, cores_in, timeout_in, flag_in, mode_in, whole_in, place_in}
-use Rattle.workload_file.specs.Written.{value_text, timeout_text, name_at, is_default, is_usual}
+use Rattle.workload_file.specs.Names.{is_unbound_value, place_of}
+use Rattle.workload_file.specs.Settled.{number_in, args_in, kind_in, cores_in, timeout_in, flag_in, mode_in, whole_in, place_in}
+use Rattle.workload_file.specs.Written.{value_text, timeout_text, name_at, is_default}
 use Rattle.workload_file.specs.Formed.{Fits, IsTimeout, IsBoundAt}
-use Rattle.workload_file.proofs.Given.{shaped, placed, is_good, default_of}
+use Rattle.workload_file.proofs.Given.{shaped, placed, is_good}
 use Rattle.workload_file.proofs.Places.{bytes_are}
 use Rattle.workload_file.proofs.Phrases.{is_inner}
 use Rattle.workload_file.proofs.Tables.{is_spelled, is_full_at}
@@ -102,8 +101,8 @@ cores_from_list text mask e = rw (other_cores text mask e) e
 pub mask_written : (mask : ℕ) → 0 < mask → mask < 2 ^ 64 → cores_of (cores_text mask) ≡ Some mask
 mask_written mask some lt = cores_from_list (cores_text mask) mask (cores_written mask some lt)
 
-pub kind_written : (k : Kind) → kind_of (kind_word k) ≡ Some k
-unfolding kind_of
+pub kind_written : (k : Kind) → kind_named (kind_word k) ≡ Some k
+unfolding kind_named
 kind_written k = kind_finds_each.own k
 
 pub flag_written : (b : Bool) → flag_of (cond b (codes "yes") (codes "no")) ≡ Some b
@@ -134,7 +133,7 @@ gives_cores : (r : Reading) (options : List (List ℕ)) (k : Key) (a : Absent) (
 unfolding cores_in
 gives_cores r options k a mask text e v = rw (e, v) refl
 
-gives_kind : (r : Reading) (options : List (List ℕ)) (k : Key) (a : Absent) (kind : Kind) (text : List ℕ) → text_of k options ≡ Some text → kind_of text ≡ Some kind → shaped r options k a shape.Kind ≡ given.Kind kind
+gives_kind : (r : Reading) (options : List (List ℕ)) (k : Key) (a : Absent) (kind : Kind) (text : List ℕ) → text_of k options ≡ Some text → kind_named text ≡ Some kind → shaped r options k a shape.Kind ≡ given.Kind kind
 unfolding kind_in
 gives_kind r options k a kind text e v = rw (e, v) refl
 

@@ -1,147 +1,127 @@
--- Each kind of deed: its statement, the name that it uses, and the values of its options.
+-- What each deed is in the text, and back.
 use Rattle.std.specs.Prelude.{ℕ, List, [], ◌∷◌, Bool, true, false, Option, Some, None}
 use Rattle.mtapi_values.specs.Attributes.{NodeSettings}
 use Rattle.workload_file.specs.declared.table.Word.{Word}
 use Rattle.workload_file.specs.declared.table.Word.TheVariants as word
 use Rattle.workload_file.specs.declared.table.Sort.{Sort}
 use Rattle.workload_file.specs.declared.table.Sort.TheVariants as sort
+use Rattle.workload_file.specs.declared.table.Naming.{Naming}
+use Rattle.workload_file.specs.declared.table.Naming.TheVariants as rule
+use Rattle.workload_file.specs.Table.{naming}
 use Rattle.workload_file.specs.declared.workload.Deed.{Deed}
 use Rattle.workload_file.specs.declared.workload.Deed.TheVariants as deed
 use Rattle.workload_file.specs.declared.values.Value.{Value}
 use Rattle.workload_file.specs.declared.values.Value.TheVariants as given
 
--- the word of the statement that does this
-unfoldable pub word_for : Deed → Word
-word_for deed.Begin = word.Begin
-word_for (deed.Action job kind cores) = word.Action
-word_for (deed.ActionDelete place) = word.ActionDelete
-word_for (deed.ActionEnable place) = word.ActionEnable
-word_for (deed.ActionDisable place) = word.ActionDisable
-word_for (deed.Start job args priority cores detached group) = word.Start
-word_for (deed.Enqueue queue args cores detached group) = word.Enqueue
-word_for (deed.Wait place timeout) = word.Wait
-word_for (deed.Cancel place) = word.Cancel
-word_for deed.Group = word.Group
-word_for (deed.WaitAll place timeout) = word.WaitAll
-word_for (deed.WaitAny place timeout) = word.WaitAny
-word_for (deed.GroupDelete place) = word.GroupDelete
-word_for (deed.Queue id job priority limit ordered retain) = word.Queue
-word_for (deed.QueueGet id) = word.QueueGet
-word_for (deed.QueueEnable place) = word.QueueEnable
-word_for (deed.QueueDisable place) = word.QueueDisable
-word_for (deed.QueueDelete place) = word.QueueDelete
-word_for (deed.Mutex id recursive) = word.Mutex
-word_for (deed.MutexGet id) = word.MutexGet
-word_for (deed.MutexDelete place) = word.MutexDelete
-word_for (deed.Lock place timeout) = word.Lock
-word_for (deed.Unlock place key) = word.Unlock
-word_for (deed.Sem id limit) = word.Sem
-word_for (deed.SemGet id) = word.SemGet
-word_for (deed.SemDelete place) = word.SemDelete
-word_for (deed.SemLock place timeout) = word.SemLock
-word_for (deed.SemUnlock place) = word.SemUnlock
-word_for (deed.Rwl id limit) = word.Rwl
-word_for (deed.RwlGet id) = word.RwlGet
-word_for (deed.RwlDelete place) = word.RwlDelete
-word_for (deed.RwlLock place writer timeout) = word.RwlLock
-word_for (deed.RwlUnlock place writer) = word.RwlUnlock
-word_for (deed.Shmem id cells) = word.Shmem
-word_for (deed.ShmemGet id) = word.ShmemGet
-word_for (deed.ShmemDelete place) = word.ShmemDelete
-word_for (deed.Attach place) = word.Attach
-word_for (deed.Detach place) = word.Detach
-word_for (deed.Read place cell) = word.Read
-word_for (deed.Write place cell value) = word.Write
+-- a deed in the text: its word, the place of the statement that bound the name that it uses, and the values of its options in the order of the table
+pub record Spelled : Type 0 where
+  pub word : Word
+  pub place : Option ℕ
+  pub values : List Value
 
--- the values of the options, in the order of the table
-unfoldable pub values : Deed → List Value
-values deed.Begin = []
-values (deed.Action job kind cores) = given.Number job ∷ given.Kind kind ∷ given.Cores cores ∷ []
-values (deed.ActionDelete place) = []
-values (deed.ActionEnable place) = []
-values (deed.ActionDisable place) = []
-values (deed.Start job args priority cores detached group) = given.Number job ∷ given.Args args ∷ given.Number priority ∷ given.Cores cores ∷ given.Flag detached ∷ given.Place group ∷ []
-values (deed.Enqueue queue args cores detached group) = given.Place (Some queue) ∷ given.Args args ∷ given.Cores cores ∷ given.Flag detached ∷ given.Place group ∷ []
-values (deed.Wait place timeout) = given.Timeout timeout ∷ []
-values (deed.Cancel place) = []
-values deed.Group = []
-values (deed.WaitAll place timeout) = given.Timeout timeout ∷ []
-values (deed.WaitAny place timeout) = given.Timeout timeout ∷ []
-values (deed.GroupDelete place) = []
-values (deed.Queue id job priority limit ordered retain) = given.Number id ∷ given.Number job ∷ given.Number priority ∷ given.Number limit ∷ given.Flag ordered ∷ given.Flag retain ∷ []
-values (deed.QueueGet id) = given.Number id ∷ []
-values (deed.QueueEnable place) = []
-values (deed.QueueDisable place) = []
-values (deed.QueueDelete place) = []
-values (deed.Mutex id recursive) = given.Number id ∷ given.Flag recursive ∷ []
-values (deed.MutexGet id) = given.Number id ∷ []
-values (deed.MutexDelete place) = []
-values (deed.Lock place timeout) = given.Timeout timeout ∷ []
-values (deed.Unlock place key) = given.Number key ∷ []
-values (deed.Sem id limit) = given.Number id ∷ given.Number limit ∷ []
-values (deed.SemGet id) = given.Number id ∷ []
-values (deed.SemDelete place) = []
-values (deed.SemLock place timeout) = given.Timeout timeout ∷ []
-values (deed.SemUnlock place) = []
-values (deed.Rwl id limit) = given.Number id ∷ given.Number limit ∷ []
-values (deed.RwlGet id) = given.Number id ∷ []
-values (deed.RwlDelete place) = []
-values (deed.RwlLock place writer timeout) = given.Mode writer ∷ given.Timeout timeout ∷ []
-values (deed.RwlUnlock place writer) = given.Mode writer ∷ []
-values (deed.Shmem id cells) = given.Number id ∷ given.Number cells ∷ []
-values (deed.ShmemGet id) = given.Number id ∷ []
-values (deed.ShmemDelete place) = []
-values (deed.Attach place) = []
-values (deed.Detach place) = []
-values (deed.Read place cell) = given.Number cell ∷ []
-values (deed.Write place cell value) = given.Number cell ∷ given.Whole value ∷ []
+unfoldable pub deed_spelled : Deed → Spelled
+deed_spelled deed.Begin = record { word = word.Begin; place = None; values = [] }
+deed_spelled (deed.Action job kind cores) = record { word = word.Action; place = None; values = given.Number job ∷ given.Kind kind ∷ given.Cores cores ∷ [] }
+deed_spelled (deed.ActionDelete place) = record { word = word.ActionDelete; place = Some place; values = [] }
+deed_spelled (deed.ActionEnable place) = record { word = word.ActionEnable; place = Some place; values = [] }
+deed_spelled (deed.ActionDisable place) = record { word = word.ActionDisable; place = Some place; values = [] }
+deed_spelled (deed.Start job args priority cores detached group) = record { word = word.Start; place = None; values = given.Number job ∷ given.Args args ∷ given.Number priority ∷ given.Cores cores ∷ given.Flag detached ∷ given.Place group ∷ [] }
+deed_spelled (deed.Enqueue queue args cores detached group) = record { word = word.Enqueue; place = None; values = given.Place (Some queue) ∷ given.Args args ∷ given.Cores cores ∷ given.Flag detached ∷ given.Place group ∷ [] }
+deed_spelled (deed.Wait place timeout) = record { word = word.Wait; place = Some place; values = given.Timeout timeout ∷ [] }
+deed_spelled (deed.Cancel place) = record { word = word.Cancel; place = Some place; values = [] }
+deed_spelled deed.Group = record { word = word.Group; place = None; values = [] }
+deed_spelled (deed.WaitAll place timeout) = record { word = word.WaitAll; place = Some place; values = given.Timeout timeout ∷ [] }
+deed_spelled (deed.WaitAny place timeout) = record { word = word.WaitAny; place = Some place; values = given.Timeout timeout ∷ [] }
+deed_spelled (deed.GroupDelete place) = record { word = word.GroupDelete; place = Some place; values = [] }
+deed_spelled (deed.Queue id job priority limit ordered retain) = record { word = word.Queue; place = None; values = given.Number id ∷ given.Number job ∷ given.Number priority ∷ given.Number limit ∷ given.Flag ordered ∷ given.Flag retain ∷ [] }
+deed_spelled (deed.QueueGet id) = record { word = word.QueueGet; place = None; values = given.Number id ∷ [] }
+deed_spelled (deed.QueueEnable place) = record { word = word.QueueEnable; place = Some place; values = [] }
+deed_spelled (deed.QueueDisable place) = record { word = word.QueueDisable; place = Some place; values = [] }
+deed_spelled (deed.QueueDelete place) = record { word = word.QueueDelete; place = Some place; values = [] }
+deed_spelled (deed.Mutex id recursive) = record { word = word.Mutex; place = None; values = given.Number id ∷ given.Flag recursive ∷ [] }
+deed_spelled (deed.MutexGet id) = record { word = word.MutexGet; place = None; values = given.Number id ∷ [] }
+deed_spelled (deed.MutexDelete place) = record { word = word.MutexDelete; place = Some place; values = [] }
+deed_spelled (deed.Lock place timeout) = record { word = word.Lock; place = Some place; values = given.Timeout timeout ∷ [] }
+deed_spelled (deed.Unlock place key) = record { word = word.Unlock; place = Some place; values = given.Number key ∷ [] }
+deed_spelled (deed.Sem id limit) = record { word = word.Sem; place = None; values = given.Number id ∷ given.Number limit ∷ [] }
+deed_spelled (deed.SemGet id) = record { word = word.SemGet; place = None; values = given.Number id ∷ [] }
+deed_spelled (deed.SemDelete place) = record { word = word.SemDelete; place = Some place; values = [] }
+deed_spelled (deed.SemLock place timeout) = record { word = word.SemLock; place = Some place; values = given.Timeout timeout ∷ [] }
+deed_spelled (deed.SemUnlock place) = record { word = word.SemUnlock; place = Some place; values = [] }
+deed_spelled (deed.Rwl id limit) = record { word = word.Rwl; place = None; values = given.Number id ∷ given.Number limit ∷ [] }
+deed_spelled (deed.RwlGet id) = record { word = word.RwlGet; place = None; values = given.Number id ∷ [] }
+deed_spelled (deed.RwlDelete place) = record { word = word.RwlDelete; place = Some place; values = [] }
+deed_spelled (deed.RwlLock place writer timeout) = record { word = word.RwlLock; place = Some place; values = given.Mode writer ∷ given.Timeout timeout ∷ [] }
+deed_spelled (deed.RwlUnlock place writer) = record { word = word.RwlUnlock; place = Some place; values = given.Mode writer ∷ [] }
+deed_spelled (deed.Shmem id cells) = record { word = word.Shmem; place = None; values = given.Number id ∷ given.Number cells ∷ [] }
+deed_spelled (deed.ShmemGet id) = record { word = word.ShmemGet; place = None; values = given.Number id ∷ [] }
+deed_spelled (deed.ShmemDelete place) = record { word = word.ShmemDelete; place = Some place; values = [] }
+deed_spelled (deed.Attach place) = record { word = word.Attach; place = Some place; values = [] }
+deed_spelled (deed.Detach place) = record { word = word.Detach; place = Some place; values = [] }
+deed_spelled (deed.Read place cell) = record { word = word.Read; place = Some place; values = given.Number cell ∷ [] }
+deed_spelled (deed.Write place cell value) = record { word = word.Write; place = Some place; values = given.Number cell ∷ given.Whole value ∷ [] }
+
+abbrev pub word_for : Deed → Word
+word_for d = (deed_spelled d).word
+
+abbrev pub values : Deed → List Value
+values d = (deed_spelled d).values
+
+-- the deed of the statement with this word, this place of the name that it uses, and these values of its options
+unfoldable pub deed_with : Word → Option ℕ → List Value → Option Deed
+deed_with word.Begin None [] = Some deed.Begin
+deed_with word.Action None (given.Number job ∷ given.Kind kind ∷ given.Cores cores ∷ []) = Some (deed.Action job kind cores)
+deed_with word.ActionDelete (Some place) [] = Some (deed.ActionDelete place)
+deed_with word.ActionEnable (Some place) [] = Some (deed.ActionEnable place)
+deed_with word.ActionDisable (Some place) [] = Some (deed.ActionDisable place)
+deed_with word.Start None (given.Number job ∷ given.Args args ∷ given.Number priority ∷ given.Cores cores ∷ given.Flag detached ∷ given.Place group ∷ []) = Some (deed.Start job args priority cores detached group)
+deed_with word.Enqueue None (given.Place (Some queue) ∷ given.Args args ∷ given.Cores cores ∷ given.Flag detached ∷ given.Place group ∷ []) = Some (deed.Enqueue queue args cores detached group)
+deed_with word.Wait (Some place) (given.Timeout timeout ∷ []) = Some (deed.Wait place timeout)
+deed_with word.Cancel (Some place) [] = Some (deed.Cancel place)
+deed_with word.Group None [] = Some deed.Group
+deed_with word.WaitAll (Some place) (given.Timeout timeout ∷ []) = Some (deed.WaitAll place timeout)
+deed_with word.WaitAny (Some place) (given.Timeout timeout ∷ []) = Some (deed.WaitAny place timeout)
+deed_with word.GroupDelete (Some place) [] = Some (deed.GroupDelete place)
+deed_with word.Queue None (given.Number id ∷ given.Number job ∷ given.Number priority ∷ given.Number limit ∷ given.Flag ordered ∷ given.Flag retain ∷ []) = Some (deed.Queue id job priority limit ordered retain)
+deed_with word.QueueGet None (given.Number id ∷ []) = Some (deed.QueueGet id)
+deed_with word.QueueEnable (Some place) [] = Some (deed.QueueEnable place)
+deed_with word.QueueDisable (Some place) [] = Some (deed.QueueDisable place)
+deed_with word.QueueDelete (Some place) [] = Some (deed.QueueDelete place)
+deed_with word.Mutex None (given.Number id ∷ given.Flag recursive ∷ []) = Some (deed.Mutex id recursive)
+deed_with word.MutexGet None (given.Number id ∷ []) = Some (deed.MutexGet id)
+deed_with word.MutexDelete (Some place) [] = Some (deed.MutexDelete place)
+deed_with word.Lock (Some place) (given.Timeout timeout ∷ []) = Some (deed.Lock place timeout)
+deed_with word.Unlock (Some place) (given.Number key ∷ []) = Some (deed.Unlock place key)
+deed_with word.Sem None (given.Number id ∷ given.Number limit ∷ []) = Some (deed.Sem id limit)
+deed_with word.SemGet None (given.Number id ∷ []) = Some (deed.SemGet id)
+deed_with word.SemDelete (Some place) [] = Some (deed.SemDelete place)
+deed_with word.SemLock (Some place) (given.Timeout timeout ∷ []) = Some (deed.SemLock place timeout)
+deed_with word.SemUnlock (Some place) [] = Some (deed.SemUnlock place)
+deed_with word.Rwl None (given.Number id ∷ given.Number limit ∷ []) = Some (deed.Rwl id limit)
+deed_with word.RwlGet None (given.Number id ∷ []) = Some (deed.RwlGet id)
+deed_with word.RwlDelete (Some place) [] = Some (deed.RwlDelete place)
+deed_with word.RwlLock (Some place) (given.Mode writer ∷ given.Timeout timeout ∷ []) = Some (deed.RwlLock place writer timeout)
+deed_with word.RwlUnlock (Some place) (given.Mode writer ∷ []) = Some (deed.RwlUnlock place writer)
+deed_with word.Shmem None (given.Number id ∷ given.Number cells ∷ []) = Some (deed.Shmem id cells)
+deed_with word.ShmemGet None (given.Number id ∷ []) = Some (deed.ShmemGet id)
+deed_with word.ShmemDelete (Some place) [] = Some (deed.ShmemDelete place)
+deed_with word.Attach (Some place) [] = Some (deed.Attach place)
+deed_with word.Detach (Some place) [] = Some (deed.Detach place)
+deed_with word.Read (Some place) (given.Number cell ∷ []) = Some (deed.Read place cell)
+deed_with word.Write (Some place) (given.Number cell ∷ given.Whole value ∷ []) = Some (deed.Write place cell value)
+deed_with _ _ _ = None
 
 -- the settings of a node, in the order of the table
 abbrev pub setting_values : NodeSettings → List Value
 setting_values s = given.Number s.workers ∷ given.Number s.tasks ∷ given.Number s.actions ∷ given.Number s.groups ∷ given.Number s.queues ∷ given.Number s.objects ∷ given.Number s.priorities ∷ given.Number s.generations ∷ []
 
--- the kind of object whose name the statement uses, and the place of the statement that bound it
-unfoldable pub place_used : Deed → Option (Sort × ℕ)
-place_used deed.Begin = None
-place_used (deed.Action job kind cores) = None
-place_used (deed.ActionDelete place) = Some (sort.Action, place)
-place_used (deed.ActionEnable place) = Some (sort.Action, place)
-place_used (deed.ActionDisable place) = Some (sort.Action, place)
-place_used (deed.Start job args priority cores detached group) = None
-place_used (deed.Enqueue queue args cores detached group) = None
-place_used (deed.Wait place timeout) = Some (sort.Task, place)
-place_used (deed.Cancel place) = Some (sort.Task, place)
-place_used deed.Group = None
-place_used (deed.WaitAll place timeout) = Some (sort.Group, place)
-place_used (deed.WaitAny place timeout) = Some (sort.Group, place)
-place_used (deed.GroupDelete place) = Some (sort.Group, place)
-place_used (deed.Queue id job priority limit ordered retain) = None
-place_used (deed.QueueGet id) = None
-place_used (deed.QueueEnable place) = Some (sort.Queue, place)
-place_used (deed.QueueDisable place) = Some (sort.Queue, place)
-place_used (deed.QueueDelete place) = Some (sort.Queue, place)
-place_used (deed.Mutex id recursive) = None
-place_used (deed.MutexGet id) = None
-place_used (deed.MutexDelete place) = Some (sort.Mutex, place)
-place_used (deed.Lock place timeout) = Some (sort.Mutex, place)
-place_used (deed.Unlock place key) = Some (sort.Mutex, place)
-place_used (deed.Sem id limit) = None
-place_used (deed.SemGet id) = None
-place_used (deed.SemDelete place) = Some (sort.Sem, place)
-place_used (deed.SemLock place timeout) = Some (sort.Sem, place)
-place_used (deed.SemUnlock place) = Some (sort.Sem, place)
-place_used (deed.Rwl id limit) = None
-place_used (deed.RwlGet id) = None
-place_used (deed.RwlDelete place) = Some (sort.Rwl, place)
-place_used (deed.RwlLock place writer timeout) = Some (sort.Rwl, place)
-place_used (deed.RwlUnlock place writer) = Some (sort.Rwl, place)
-place_used (deed.Shmem id cells) = None
-place_used (deed.ShmemGet id) = None
-place_used (deed.ShmemDelete place) = Some (sort.Shmem, place)
-place_used (deed.Attach place) = Some (sort.Shmem, place)
-place_used (deed.Detach place) = Some (sort.Shmem, place)
-place_used (deed.Read place cell) = Some (sort.Shmem, place)
-place_used (deed.Write place cell value) = Some (sort.Shmem, place)
+-- the kind of object whose name is used, and the place of the statement that bound it
+abbrev pub used_with : Naming → Option ℕ → Option (Sort × ℕ)
+used_with (rule.Uses sort) (Some place) = Some (sort, place)
+used_with _ _ = None
+
+abbrev pub place_used : Deed → Option (Sort × ℕ)
+place_used d = used_with (naming (word_for d)) (deed_spelled d).place
 
 -- what a statement binds its name to
 unfoldable pub binds : Sort → Deed → Bool

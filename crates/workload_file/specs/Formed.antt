@@ -21,7 +21,7 @@ use Rattle.workload_file.specs.Values.{is_name}
 use Rattle.workload_file.specs.Table.{naming, fields}
 use Rattle.workload_file.specs.Deeds.{word_for, values, setting_values, place_used, binds, is_begin}
 use Rattle.workload_file.specs.Names.{is_called}
-use Rattle.workload_file.specs.Reading.{usual_settings}
+use Rattle.workload_file.specs.Changes.{usual_settings}
 
 -- the statement at this place binds such a thing
 abbrev pub IsBoundAt : Sort → List Statement → ℕ → Type 0

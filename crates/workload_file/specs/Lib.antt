@@ -6,7 +6,9 @@ pub mod Cuts
 pub mod Options
 pub mod Deeds
 pub mod Names
+pub mod Changes
 pub mod Reading
+pub mod Settled
 pub mod Indexed
 pub mod Loading
 pub mod Faulty

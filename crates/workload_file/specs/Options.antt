@@ -10,7 +10,8 @@ use Rattle.workload_file.specs.declared.table.Absent.TheVariants as absent
 use Rattle.workload_file.specs.declared.table.Shape.{Shape}
 use Rattle.workload_file.specs.declared.table.Shape.TheVariants as shape
 use Rattle.workload_file.specs.Table.{key_text}
-use Rattle.workload_file.specs.Values.{number_within, cores_of, kind_of, timeout_of, flag_of, mode_of, is_name}
+use Rattle.workload_file.specs.Values.{number_within, cores_of, timeout_of, flag_of, mode_of, is_name}
+use Rattle.mtapi_values.specs.Kinds.{kind_named}
 use Rattle.number_text.specs.Numbers.{whole}
 use Rattle.number_text.specs.Lists.{list_of}
 
@@ -43,7 +44,7 @@ is_value shape.Flag text = is_some (flag_of text)
 is_value shape.Mode text = is_some (mode_of text)
 is_value shape.Args text = is_some (list_of text)
 is_value shape.Cores text = is_some (cores_of text)
-is_value shape.Kind text = is_some (kind_of text)
+is_value shape.Kind text = is_some (kind_named text)
 is_value shape.Timeout text = is_some (timeout_of text)
 is_value (shape.Named sort) text = is_name text
 

@@ -1,7 +1,8 @@
 //! What a statement without a fault does, from its options.
 ghost use Rattle.std.specs.Prelude.{◌≡◌, Some, None};
 ghost use Rattle.workload_file.specs.Texts.{texts};
-ghost use Rattle.workload_file.specs.Reading.{number_in, args_in, kind_in, cores_in, timeout_in, flag_in, mode_in, whole_in, place_in, used_place, with_setting, settings_in, deed_of};
+ghost use Rattle.workload_file.specs.Changes.{with_setting};
+ghost use Rattle.workload_file.specs.Settled.{number_in, args_in, kind_in, cores_in, timeout_in, flag_in, mode_in, whole_in, place_in, used_place, settings_in, deed_of};
 ghost use Rattle.workload_file.specs.Indexed.{IsReader};
 
 use crate::names::place_of;
@@ -13,7 +14,7 @@ use crate::workload::Deed;
 use mtapi_values::{Args, Kind, Mask, NodeAttr, Timeout};
 use number_text::{list_of, whole};
 
-#[tactic(auto, unfolding(crate::specs::Reading::number_in))]
+#[tactic(auto, unfolding(crate::specs::Settled::number_in))]
 fn number_in(options: &[&[u8]], key: Key, default: u32) -> u32
     ensures { result ≡ number_in (texts options.now) key default }
 {
@@ -23,7 +24,7 @@ fn number_in(options: &[&[u8]], key: Key, default: u32) -> u32
     }
 }
 
-#[tactic(auto, unfolding(crate::specs::Reading::args_in))]
+#[tactic(auto, unfolding(crate::specs::Settled::args_in))]
 fn args_in(options: &[&[u8]], key: Key) -> Args
     ensures { result ≡ args_in (texts options.now) key }
 {
@@ -36,7 +37,7 @@ fn args_in(options: &[&[u8]], key: Key) -> Args
     }
 }
 
-#[tactic(auto, unfolding(crate::specs::Reading::kind_in))]
+#[tactic(auto, unfolding(crate::specs::Settled::kind_in))]
 fn kind_in(options: &[&[u8]], key: Key) -> Kind
     ensures { result ≡ kind_in (texts options.now) key }
 {
@@ -46,7 +47,7 @@ fn kind_in(options: &[&[u8]], key: Key) -> Kind
     }
 }
 
-#[tactic(auto, unfolding(crate::specs::Reading::cores_in))]
+#[tactic(auto, unfolding(crate::specs::Settled::cores_in))]
 fn cores_in(options: &[&[u8]], key: Key) -> Mask
     ensures { result.0 ≡ cores_in (texts options.now) key }
 {
@@ -59,7 +60,7 @@ fn cores_in(options: &[&[u8]], key: Key) -> Mask
     }
 }
 
-#[tactic(auto, unfolding(crate::specs::Reading::timeout_in))]
+#[tactic(auto, unfolding(crate::specs::Settled::timeout_in))]
 fn timeout_in(options: &[&[u8]], key: Key) -> Timeout
     ensures { result ≡ timeout_in (texts options.now) key }
 {
@@ -69,7 +70,7 @@ fn timeout_in(options: &[&[u8]], key: Key) -> Timeout
     }
 }
 
-#[tactic(auto, unfolding(crate::specs::Reading::place_in))]
+#[tactic(auto, unfolding(crate::specs::Settled::place_in))]
 fn place_in(r: &Reader, sort: Sort, key: Key, options: &[&[u8]]) -> Option<u32>
     requires { IsReader r.now }
     ensures { result ≡ place_in r.now.said sort key (texts options.now) }
@@ -80,7 +81,7 @@ fn place_in(r: &Reader, sort: Sort, key: Key, options: &[&[u8]]) -> Option<u32>
     }
 }
 
-#[tactic(auto, unfolding(crate::specs::Reading::used_place))]
+#[tactic(auto, unfolding(crate::specs::Settled::used_place))]
 fn used_place(r: &Reader, sort: Sort, name: &[u8]) -> u32
     requires { IsReader r.now }
     ensures { result ≡ used_place r.now.said sort name.now }
@@ -88,7 +89,7 @@ fn used_place(r: &Reader, sort: Sort, name: &[u8]) -> u32
     place_of(r, sort, name).unwrap_or(0)
 }
 
-#[tactic(auto, unfolding(crate::specs::Reading::with_setting))]
+#[tactic(auto, unfolding(crate::specs::Changes::with_setting))]
 fn with_setting(settings: NodeAttr, number: u32, value: u32) -> NodeAttr
     ensures { result ≡ with_setting number value settings }
 {
@@ -98,7 +99,7 @@ fn with_setting(settings: NodeAttr, number: u32, value: u32) -> NodeAttr
 }
 
 /// The settings that a `node` line gives.
-#[tactic(auto, unfolding(crate::specs::Reading::settings_in))]
+#[tactic(auto, unfolding(crate::specs::Settled::settings_in))]
 pub fn settings_in(options: &[&[u8]]) -> NodeAttr
     ensures { result ≡ settings_in (texts options.now) }
 {
@@ -112,7 +113,7 @@ pub fn settings_in(options: &[&[u8]]) -> NodeAttr
     with_setting(g, 8, number_in(options, Key::Generations, 4294967295))
 }
 
-#[tactic(auto, unfolding(crate::specs::Reading::flag_in))]
+#[tactic(auto, unfolding(crate::specs::Settled::flag_in))]
 fn flag_in(options: &[&[u8]], key: Key) -> bool
     ensures { result ≡ flag_in (texts options.now) key }
 {
@@ -122,7 +123,7 @@ fn flag_in(options: &[&[u8]], key: Key) -> bool
     }
 }
 
-#[tactic(auto, unfolding(crate::specs::Reading::mode_in))]
+#[tactic(auto, unfolding(crate::specs::Settled::mode_in))]
 fn mode_in(options: &[&[u8]], key: Key) -> bool
     ensures { result ≡ mode_in (texts options.now) key }
 {
@@ -132,7 +133,7 @@ fn mode_in(options: &[&[u8]], key: Key) -> bool
     }
 }
 
-#[tactic(auto, unfolding(crate::specs::Reading::whole_in))]
+#[tactic(auto, unfolding(crate::specs::Settled::whole_in))]
 fn whole_in(options: &[&[u8]], key: Key) -> i64
     ensures { result ≡ whole_in (texts options.now) key }
 {
@@ -142,7 +143,7 @@ fn whole_in(options: &[&[u8]], key: Key) -> i64
     }
 }
 
-#[tactic(auto, unfolding(crate::specs::Reading::deed_of))]
+#[tactic(auto, unfolding(crate::specs::Settled::deed_of))]
 pub fn deed_of(r: &Reader, word: Word, name: &[u8], options: &[&[u8]]) -> Deed
     requires { IsReader r.now }
     ensures { result ≡ deed_of r.now.said word name.now (texts options.now) }

@@ -2,7 +2,9 @@
 ghost use Rattle.std.specs.Prelude.{◌≡◌, ◌<◌, ◌≤◌, length, Bool, Ok, Err, Some, None, List, IfOk, IfSome, OnOk, IsSome};
 ghost use Rattle.std.specs.List.{list_any, list_all};
 ghost use Rattle.workload_file.specs.Texts.{texts, result_map};
-ghost use Rattle.workload_file.specs.Reading.{refuse, heading, check_options, check_names, name_text, bound_name, change_of, statement_of, words_give, is_printable, line_gives, is_comment};
+ghost use Rattle.workload_file.specs.Reading.{refuse, heading, check_options, statement_of, words_give, is_printable, line_gives, is_comment};
+ghost use Rattle.workload_file.specs.Changes.{bound_name};
+ghost use Rattle.workload_file.specs.Settled.{check_names, change_of, settled};
 ghost use Rattle.workload_file.specs.Indexed.{IsReader, binds_a_name};
 
 use crate::cut::words_of;
@@ -53,7 +55,7 @@ fn check_options(fields: &[Field], options: &[&[u8]]) -> Result<(), Cause>
     refuse(lacks(fields, options), Cause::OptionMissing)
 }
 
-#[tactic(auto, unfolding(crate::specs::Reading::check_names))]
+#[tactic(auto, unfolding(crate::specs::Settled::check_names))]
 fn check_names(r: &Reader, word: Word, name: &[u8], options: &[&[u8]]) -> Result<(), Cause>
     requires { IsReader r.now }
     ensures { result ≡ check_names r.now.said word name.now (texts options.now) }
@@ -75,7 +77,7 @@ fn bound_name(naming: Naming, name: Option<Name>) -> Option<Name>
     if binds_name(naming) { name } else { None }
 }
 
-#[tactic(auto, unfolding(crate::specs::Reading::change_of))]
+#[tactic(auto, unfolding(crate::specs::Settled::change_of))]
 fn change_of(r: &Reader, line: u64, word: Word, name: Option<Name>, options: &[&[u8]]) -> Change
     requires { IsReader r.now }
     ensures { result ≡ change_of r.now.said line word name (texts options.now) }
@@ -94,16 +96,26 @@ fn change_of(r: &Reader, line: u64, word: Word, name: Option<Name>, options: &[&
     }
 }
 
-#[tactic(auto, unfolding(crate::specs::Reading::statement_of))]
-fn statement_of(r: &Reader, line: u64, first: &[u8], rest: &[&[u8]]) -> Result<Change, Cause>
+/// Looks for each fault first, and then reads with a default for each option, of which none is needed that isn't the table's.
+#[tactic(auto, unfolding(crate::specs::Settled::settled))]
+fn settled(r: &Reader, line: u64, first: &[u8], rest: &[&[u8]]) -> Result<Change, Cause>
     requires { IsReader r.now }
-    ensures value { result ≡ statement_of r.now.said line first.now (texts rest.now) }
+    ensures value { result ≡ settled r.now.said line first.now (texts rest.now) }
     ensures few { OnOk result (r.now.said.count < 20000) }
 {
     let (word, name, options) = heading(r, first, rest)?;
     check_options(word.fields(), options)?;
     check_names(r, word, text_of_name(&name), options)?;
     Ok(change_of(r, line, word, name, options))
+}
+
+/// What a statement adds, or its first cause.
+fn statement_of(r: &Reader, line: u64, first: &[u8], rest: &[&[u8]]) -> Result<Change, Cause>
+    requires { IsReader r.now }
+    ensures value { result ≡ statement_of r.now.said line first.now (texts rest.now) }
+    ensures few { OnOk result (r.now.said.count < 20000) }
+{
+    settled(r, line, first, rest)
 }
 
 fn words_give(r: &Reader, line: u64, words: &[&[u8]]) -> Result<Option<Change>, Cause>

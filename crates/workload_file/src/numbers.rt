@@ -1,6 +1,7 @@
 //! The values of options that are no list.
 ghost use Rattle.std.specs.Prelude.{◌≡◌, ◌≤◌, IfSome, option_map};
-ghost use Rattle.workload_file.specs.Values.{number, number_within, cores_of, kind_of, timeout_of, flag_of, mode_of};
+ghost use Rattle.mtapi_values.specs.Kinds.{kind_named};
+ghost use Rattle.workload_file.specs.Values.{number, number_within, cores_of, timeout_of, flag_of, mode_of};
 
 use mtapi_values::{Kind, Mask, Timeout};
 use number_text::number_within as wide_within;
@@ -27,7 +28,7 @@ pub fn number_within(low: u32, high: u32, text: &[u8]) -> Option<u32>
 
 /// The kind that a word names: exactly the words of the kinds are taken.
 pub fn kind_of(text: &[u8]) -> Option<Kind>
-    ensures { result ≡ kind_of text.now }
+    ensures { result ≡ kind_named text.now }
 {
     match str::from_utf8(text) {
         Ok(word) => Kind::from_word(word),

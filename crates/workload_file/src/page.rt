@@ -64,7 +64,7 @@ fn push_used(
     }
 }
 
-#[tactic(auto, using(crate::proofs::Pieces::joined, crate::proofs::Pieces::led_append))]
+#[tactic(auto, using(number_text::proofs::Pieces::joined, number_text::proofs::Pieces::led_append))]
 fn push_statement(
     alloc: Global,
     out: &mut Vec<u8>,
@@ -81,7 +81,7 @@ fn push_statement(
     push_options(alloc, out, before, word.fields(), &values)
 }
 
-#[tactic(auto, using(crate::proofs::Pieces::joined, crate::proofs::Pieces::led_append))]
+#[tactic(auto, using(number_text::proofs::Pieces::joined, number_text::proofs::Pieces::led_append))]
 fn push_node(alloc: Global, out: &mut Vec<u8>, settings: &NodeAttr) -> Result<(), AllocError>
     ensures { OnOk result (out.new.items ≡ out.old.items ++ node_text settings.now) }
 {
@@ -90,7 +90,7 @@ fn push_node(alloc: Global, out: &mut Vec<u8>, settings: &NodeAttr) -> Result<()
     push_options(alloc, out, &[], Word::Node.fields(), &values)
 }
 
-#[tactic(auto, using(crate::proofs::Pieces::joined, crate::proofs::Pieces::led_append))]
+#[tactic(auto, using(number_text::proofs::Pieces::joined, number_text::proofs::Pieces::led_append))]
 fn push_caller(out: &mut Vec<u8>, name: &Name) -> Result<(), AllocError>
     ensures { OnOk result (out.new.items ≡ out.old.items ++ caller_text name.now) }
 {

@@ -181,6 +181,12 @@ const WORDS: [Word; 42] = [
     Word::Write,
 ];
 
+macro_rules! row {
+    ($text:expr, $naming:ident$(($sort:expr))?, [$($field:expr),* $(,)?]) => {
+        Row { text: $text, naming: Naming::$naming$(($sort))?, fields: &[$($field),*] }
+    };
+}
+
 macro_rules! needs {
     ($key:ident, $shape:expr) => {
         Field { key: Key::$key, shape: $shape, absent: Absent::Refused }
@@ -199,55 +205,223 @@ macro_rules! number {
     };
 }
 
+/// A statement: its word, what its second word is, and its options in order.
+#[derive(Clone, Copy)]
+struct Row {
+    text: &'static [u8],
+    naming: Naming,
+    fields: &'static [Field],
+}
+
 impl Word {
-    #[tactic(auto, unfolding(crate::specs::Table::word_text))]
+    /// The row of the table.
+    #[tactic(auto, unfolding(crate::specs::Table::row))]
+    fn row(self) -> Row
+        ensures text { result.text.now ≡ word_text self }
+        ensures naming { result.naming ≡ naming self }
+        ensures fields { result.fields.now ≡ fields self }
+    {
+        match self {
+            Word::Node => row!(
+                b"node",
+                Bare,
+                [
+                    number!(Workers, 1, 16, 1),
+                    number!(MaxTasks, 1, 65536, 1024),
+                    number!(MaxActions, 1, 1024, 64),
+                    number!(MaxGroups, 1, 1024, 128),
+                    number!(MaxQueues, 1, 256, 16),
+                    number!(MaxObjects, 1, 256, 16),
+                    number!(Priorities, 1, 8, 4),
+                    number!(Generations, 1, 4294967295, 4294967295),
+                ]
+            ),
+            Word::Caller => row!(b"caller", Caller, []),
+            Word::Begin => row!(b"begin", Bare, []),
+            Word::Action => row!(
+                b"action",
+                Binds(Sort::Action),
+                [
+                    needs!(Job, Shape::Number(1, 65535)),
+                    needs!(Kind, Shape::Kind),
+                    may!(Cores, Shape::Cores),
+                ]
+            ),
+            Word::ActionDelete => row!(b"action_delete", Uses(Sort::Action), []),
+            Word::ActionEnable => row!(b"action_enable", Uses(Sort::Action), []),
+            Word::ActionDisable => row!(b"action_disable", Uses(Sort::Action), []),
+            Word::Start => row!(
+                b"start",
+                Binds(Sort::Task),
+                [
+                    needs!(Job, Shape::Number(1, 65535)),
+                    may!(Args, Shape::Args),
+                    number!(Priority, 0, 7, 0),
+                    may!(Cores, Shape::Cores),
+                    may!(Detached, Shape::Flag),
+                    may!(Group, Shape::Named(Sort::Group)),
+                ]
+            ),
+            Word::Enqueue => row!(
+                b"enqueue",
+                Binds(Sort::Task),
+                [
+                    needs!(Queue, Shape::Named(Sort::Queue)),
+                    may!(Args, Shape::Args),
+                    may!(Cores, Shape::Cores),
+                    may!(Detached, Shape::Flag),
+                    may!(Group, Shape::Named(Sort::Group)),
+                ]
+            ),
+            Word::Wait => row!(b"wait", Uses(Sort::Task), [needs!(Timeout, Shape::Timeout)]),
+            Word::Cancel => row!(b"cancel", Uses(Sort::Task), []),
+            Word::Group => row!(b"group", Binds(Sort::Group), []),
+            Word::WaitAll => row!(
+                b"wait_all",
+                Uses(Sort::Group),
+                [needs!(Timeout, Shape::Timeout),]
+            ),
+            Word::WaitAny => row!(
+                b"wait_any",
+                Uses(Sort::Group),
+                [needs!(Timeout, Shape::Timeout),]
+            ),
+            Word::GroupDelete => row!(b"group_delete", Uses(Sort::Group), []),
+            Word::Queue => row!(
+                b"queue",
+                Binds(Sort::Queue),
+                [
+                    needs!(Id, Shape::Number(0, 4294967295)),
+                    needs!(Job, Shape::Number(1, 65535)),
+                    number!(Priority, 0, 7, 0),
+                    number!(Limit, 1, 65536, 65536),
+                    may!(Ordered, Shape::Flag),
+                    may!(Retain, Shape::Flag),
+                ]
+            ),
+            Word::QueueGet => row!(
+                b"queue_get",
+                Binds(Sort::Queue),
+                [needs!(Id, Shape::Number(0, 4294967295)),]
+            ),
+            Word::QueueEnable => row!(b"queue_enable", Uses(Sort::Queue), []),
+            Word::QueueDisable => row!(b"queue_disable", Uses(Sort::Queue), []),
+            Word::QueueDelete => row!(b"queue_delete", Uses(Sort::Queue), []),
+            Word::Mutex => row!(
+                b"mutex",
+                Binds(Sort::Mutex),
+                [
+                    needs!(Id, Shape::Number(0, 4294967295)),
+                    may!(Recursive, Shape::Flag),
+                ]
+            ),
+            Word::MutexGet => row!(
+                b"mutex_get",
+                Binds(Sort::Mutex),
+                [needs!(Id, Shape::Number(0, 4294967295)),]
+            ),
+            Word::MutexDelete => row!(b"mutex_delete", Uses(Sort::Mutex), []),
+            Word::Lock => row!(
+                b"lock",
+                Uses(Sort::Mutex),
+                [needs!(Timeout, Shape::Timeout)]
+            ),
+            Word::Unlock => row!(
+                b"unlock",
+                Uses(Sort::Mutex),
+                [needs!(Key, Shape::Number(0, 4294967295)),]
+            ),
+            Word::Sem => row!(
+                b"sem",
+                Binds(Sort::Sem),
+                [
+                    needs!(Id, Shape::Number(0, 4294967295)),
+                    needs!(Limit, Shape::Number(1, 65535)),
+                ]
+            ),
+            Word::SemGet => row!(
+                b"sem_get",
+                Binds(Sort::Sem),
+                [needs!(Id, Shape::Number(0, 4294967295)),]
+            ),
+            Word::SemDelete => row!(b"sem_delete", Uses(Sort::Sem), []),
+            Word::SemLock => row!(
+                b"sem_lock",
+                Uses(Sort::Sem),
+                [needs!(Timeout, Shape::Timeout)]
+            ),
+            Word::SemUnlock => row!(b"sem_unlock", Uses(Sort::Sem), []),
+            Word::Rwl => row!(
+                b"rwl",
+                Binds(Sort::Rwl),
+                [
+                    needs!(Id, Shape::Number(0, 4294967295)),
+                    needs!(Limit, Shape::Number(1, 32)),
+                ]
+            ),
+            Word::RwlGet => row!(
+                b"rwl_get",
+                Binds(Sort::Rwl),
+                [needs!(Id, Shape::Number(0, 4294967295)),]
+            ),
+            Word::RwlDelete => row!(b"rwl_delete", Uses(Sort::Rwl), []),
+            Word::RwlLock => row!(
+                b"rwl_lock",
+                Uses(Sort::Rwl),
+                [needs!(Mode, Shape::Mode), needs!(Timeout, Shape::Timeout),]
+            ),
+            Word::RwlUnlock => row!(b"rwl_unlock", Uses(Sort::Rwl), [needs!(Mode, Shape::Mode)]),
+            Word::Shmem => row!(
+                b"shmem",
+                Binds(Sort::Shmem),
+                [
+                    needs!(Id, Shape::Number(0, 4294967295)),
+                    needs!(Cells, Shape::Number(1, 4096)),
+                ]
+            ),
+            Word::ShmemGet => row!(
+                b"shmem_get",
+                Binds(Sort::Shmem),
+                [needs!(Id, Shape::Number(0, 4294967295)),]
+            ),
+            Word::ShmemDelete => row!(b"shmem_delete", Uses(Sort::Shmem), []),
+            Word::Attach => row!(b"attach", Uses(Sort::Shmem), []),
+            Word::Detach => row!(b"detach", Uses(Sort::Shmem), []),
+            Word::Read => row!(
+                b"read",
+                Uses(Sort::Shmem),
+                [needs!(Cell, Shape::Number(0, 4095))]
+            ),
+            Word::Write => row!(
+                b"write",
+                Uses(Sort::Shmem),
+                [
+                    needs!(Cell, Shape::Number(0, 4095)),
+                    needs!(Value, Shape::Whole),
+                ]
+            ),
+        }
+    }
+
+    /// The word itself.
     pub fn text(self) -> &'static [u8]
         ensures { result.now ≡ word_text self }
     {
-        match self {
-            Word::Node => b"node",
-            Word::Caller => b"caller",
-            Word::Begin => b"begin",
-            Word::Action => b"action",
-            Word::ActionDelete => b"action_delete",
-            Word::ActionEnable => b"action_enable",
-            Word::ActionDisable => b"action_disable",
-            Word::Start => b"start",
-            Word::Enqueue => b"enqueue",
-            Word::Wait => b"wait",
-            Word::Cancel => b"cancel",
-            Word::Group => b"group",
-            Word::WaitAll => b"wait_all",
-            Word::WaitAny => b"wait_any",
-            Word::GroupDelete => b"group_delete",
-            Word::Queue => b"queue",
-            Word::QueueGet => b"queue_get",
-            Word::QueueEnable => b"queue_enable",
-            Word::QueueDisable => b"queue_disable",
-            Word::QueueDelete => b"queue_delete",
-            Word::Mutex => b"mutex",
-            Word::MutexGet => b"mutex_get",
-            Word::MutexDelete => b"mutex_delete",
-            Word::Lock => b"lock",
-            Word::Unlock => b"unlock",
-            Word::Sem => b"sem",
-            Word::SemGet => b"sem_get",
-            Word::SemDelete => b"sem_delete",
-            Word::SemLock => b"sem_lock",
-            Word::SemUnlock => b"sem_unlock",
-            Word::Rwl => b"rwl",
-            Word::RwlGet => b"rwl_get",
-            Word::RwlDelete => b"rwl_delete",
-            Word::RwlLock => b"rwl_lock",
-            Word::RwlUnlock => b"rwl_unlock",
-            Word::Shmem => b"shmem",
-            Word::ShmemGet => b"shmem_get",
-            Word::ShmemDelete => b"shmem_delete",
-            Word::Attach => b"attach",
-            Word::Detach => b"detach",
-            Word::Read => b"read",
-            Word::Write => b"write",
-        }
+        self.row().text
+    }
+
+    /// What its second word is.
+    pub fn naming(self) -> Naming
+        ensures { result ≡ naming self }
+    {
+        self.row().naming
+    }
+
+    /// Its options, in order.
+    pub fn fields(self) -> &'static [Field]
+        ensures { result.now ≡ fields self }
+    {
+        self.row().fields
     }
 
     #[tactic(auto, unfolding(crate::specs::Table::word_of))]
@@ -255,154 +429,6 @@ impl Word {
         ensures { result ≡ word_of text.now }
     {
         WORDS.iter().copied().find(|w| w.text() == text)
-    }
-
-    #[tactic(auto, unfolding(crate::specs::Table::naming))]
-    pub fn naming(self) -> Naming
-        ensures { result ≡ naming self }
-    {
-        match self {
-            Word::Node => Naming::Bare,
-            Word::Caller => Naming::Caller,
-            Word::Begin => Naming::Bare,
-            Word::Action => Naming::Binds(Sort::Action),
-            Word::ActionDelete => Naming::Uses(Sort::Action),
-            Word::ActionEnable => Naming::Uses(Sort::Action),
-            Word::ActionDisable => Naming::Uses(Sort::Action),
-            Word::Start => Naming::Binds(Sort::Task),
-            Word::Enqueue => Naming::Binds(Sort::Task),
-            Word::Wait => Naming::Uses(Sort::Task),
-            Word::Cancel => Naming::Uses(Sort::Task),
-            Word::Group => Naming::Binds(Sort::Group),
-            Word::WaitAll => Naming::Uses(Sort::Group),
-            Word::WaitAny => Naming::Uses(Sort::Group),
-            Word::GroupDelete => Naming::Uses(Sort::Group),
-            Word::Queue => Naming::Binds(Sort::Queue),
-            Word::QueueGet => Naming::Binds(Sort::Queue),
-            Word::QueueEnable => Naming::Uses(Sort::Queue),
-            Word::QueueDisable => Naming::Uses(Sort::Queue),
-            Word::QueueDelete => Naming::Uses(Sort::Queue),
-            Word::Mutex => Naming::Binds(Sort::Mutex),
-            Word::MutexGet => Naming::Binds(Sort::Mutex),
-            Word::MutexDelete => Naming::Uses(Sort::Mutex),
-            Word::Lock => Naming::Uses(Sort::Mutex),
-            Word::Unlock => Naming::Uses(Sort::Mutex),
-            Word::Sem => Naming::Binds(Sort::Sem),
-            Word::SemGet => Naming::Binds(Sort::Sem),
-            Word::SemDelete => Naming::Uses(Sort::Sem),
-            Word::SemLock => Naming::Uses(Sort::Sem),
-            Word::SemUnlock => Naming::Uses(Sort::Sem),
-            Word::Rwl => Naming::Binds(Sort::Rwl),
-            Word::RwlGet => Naming::Binds(Sort::Rwl),
-            Word::RwlDelete => Naming::Uses(Sort::Rwl),
-            Word::RwlLock => Naming::Uses(Sort::Rwl),
-            Word::RwlUnlock => Naming::Uses(Sort::Rwl),
-            Word::Shmem => Naming::Binds(Sort::Shmem),
-            Word::ShmemGet => Naming::Binds(Sort::Shmem),
-            Word::ShmemDelete => Naming::Uses(Sort::Shmem),
-            Word::Attach => Naming::Uses(Sort::Shmem),
-            Word::Detach => Naming::Uses(Sort::Shmem),
-            Word::Read => Naming::Uses(Sort::Shmem),
-            Word::Write => Naming::Uses(Sort::Shmem),
-        }
-    }
-
-    #[tactic(auto, unfolding(crate::specs::Table::fields))]
-    pub fn fields(self) -> &'static [Field]
-        ensures { result.now ≡ fields self }
-    {
-        match self {
-            Word::Node => &[
-                number!(Workers, 1, 16, 1),
-                number!(MaxTasks, 1, 65536, 1024),
-                number!(MaxActions, 1, 1024, 64),
-                number!(MaxGroups, 1, 1024, 128),
-                number!(MaxQueues, 1, 256, 16),
-                number!(MaxObjects, 1, 256, 16),
-                number!(Priorities, 1, 8, 4),
-                number!(Generations, 1, 4294967295, 4294967295),
-            ],
-            Word::Caller => &[],
-            Word::Begin => &[],
-            Word::Action => &[
-                needs!(Job, Shape::Number(1, 65535)),
-                needs!(Kind, Shape::Kind),
-                may!(Cores, Shape::Cores),
-            ],
-            Word::ActionDelete => &[],
-            Word::ActionEnable => &[],
-            Word::ActionDisable => &[],
-            Word::Start => &[
-                needs!(Job, Shape::Number(1, 65535)),
-                may!(Args, Shape::Args),
-                number!(Priority, 0, 7, 0),
-                may!(Cores, Shape::Cores),
-                may!(Detached, Shape::Flag),
-                may!(Group, Shape::Named(Sort::Group)),
-            ],
-            Word::Enqueue => &[
-                needs!(Queue, Shape::Named(Sort::Queue)),
-                may!(Args, Shape::Args),
-                may!(Cores, Shape::Cores),
-                may!(Detached, Shape::Flag),
-                may!(Group, Shape::Named(Sort::Group)),
-            ],
-            Word::Wait => &[needs!(Timeout, Shape::Timeout)],
-            Word::Cancel => &[],
-            Word::Group => &[],
-            Word::WaitAll => &[needs!(Timeout, Shape::Timeout)],
-            Word::WaitAny => &[needs!(Timeout, Shape::Timeout)],
-            Word::GroupDelete => &[],
-            Word::Queue => &[
-                needs!(Id, Shape::Number(0, 4294967295)),
-                needs!(Job, Shape::Number(1, 65535)),
-                number!(Priority, 0, 7, 0),
-                number!(Limit, 1, 65536, 65536),
-                may!(Ordered, Shape::Flag),
-                may!(Retain, Shape::Flag),
-            ],
-            Word::QueueGet => &[needs!(Id, Shape::Number(0, 4294967295))],
-            Word::QueueEnable => &[],
-            Word::QueueDisable => &[],
-            Word::QueueDelete => &[],
-            Word::Mutex => &[
-                needs!(Id, Shape::Number(0, 4294967295)),
-                may!(Recursive, Shape::Flag),
-            ],
-            Word::MutexGet => &[needs!(Id, Shape::Number(0, 4294967295))],
-            Word::MutexDelete => &[],
-            Word::Lock => &[needs!(Timeout, Shape::Timeout)],
-            Word::Unlock => &[needs!(Key, Shape::Number(0, 4294967295))],
-            Word::Sem => &[
-                needs!(Id, Shape::Number(0, 4294967295)),
-                needs!(Limit, Shape::Number(1, 65535)),
-            ],
-            Word::SemGet => &[needs!(Id, Shape::Number(0, 4294967295))],
-            Word::SemDelete => &[],
-            Word::SemLock => &[needs!(Timeout, Shape::Timeout)],
-            Word::SemUnlock => &[],
-            Word::Rwl => &[
-                needs!(Id, Shape::Number(0, 4294967295)),
-                needs!(Limit, Shape::Number(1, 32)),
-            ],
-            Word::RwlGet => &[needs!(Id, Shape::Number(0, 4294967295))],
-            Word::RwlDelete => &[],
-            Word::RwlLock => &[needs!(Mode, Shape::Mode), needs!(Timeout, Shape::Timeout)],
-            Word::RwlUnlock => &[needs!(Mode, Shape::Mode)],
-            Word::Shmem => &[
-                needs!(Id, Shape::Number(0, 4294967295)),
-                needs!(Cells, Shape::Number(1, 4096)),
-            ],
-            Word::ShmemGet => &[needs!(Id, Shape::Number(0, 4294967295))],
-            Word::ShmemDelete => &[],
-            Word::Attach => &[],
-            Word::Detach => &[],
-            Word::Read => &[needs!(Cell, Shape::Number(0, 4095))],
-            Word::Write => &[
-                needs!(Cell, Shape::Number(0, 4095)),
-                needs!(Value, Shape::Whole),
-            ],
-        }
     }
 }
 

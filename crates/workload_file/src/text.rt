@@ -121,7 +121,7 @@ fn push_option(
 }
 
 /// The options that don't have their defaults, each behind a space.
-#[tactic(auto, unfolding(crate::specs::Written::options_words), using(crate::proofs::Pieces::led_append))]
+#[tactic(auto, unfolding(crate::specs::Written::options_words), using(number_text::proofs::Pieces::led_append))]
 pub fn push_options(
     alloc: Global,
     out: &mut Vec<u8>,

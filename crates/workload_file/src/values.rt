@@ -22,7 +22,7 @@ pub enum Value {
 }
 
 /// The word of the statement that does this.
-#[tactic(auto, unfolding(crate::specs::Deeds::word_for))]
+#[tactic(auto, unfolding(crate::specs::Deeds::deed_spelled))]
 pub fn word_for(deed: &Deed) -> Word
     ensures { result ≡ word_for deed.now }
 {
@@ -71,7 +71,7 @@ pub fn word_for(deed: &Deed) -> Word
 }
 
 /// The kind of object whose name the statement uses, and the place of the statement that bound it.
-#[tactic(auto, unfolding(crate::specs::Deeds::place_used))]
+#[tactic(auto, unfolding(crate::specs::Deeds::deed_spelled, crate::specs::Table::row))]
 pub fn place_used(deed: &Deed) -> Option<(Sort, u32)>
     ensures { result ≡ place_used deed.now }
 {
@@ -120,7 +120,7 @@ pub fn place_used(deed: &Deed) -> Option<(Sort, u32)>
 }
 
 /// The values of the options, in the order of the table.
-#[tactic(auto, unfolding(crate::specs::Deeds::values))]
+#[tactic(auto, unfolding(crate::specs::Deeds::deed_spelled))]
 pub fn values(alloc: Global, deed: &Deed) -> Result<Vec<Value>, AllocError>
     ensures { IfOk result (λ list. list.items ≡ values deed.now) }
 {

@@ -1,5 +1,9 @@
 use Rattle.history_law.proofs.Refused.{laws_refuse}
+use Rattle.history_law.proofs.RefusedRuns.{run_laws_refuse}
 use Rattle.history_law.proofs.worked_refusals.Goals as goal
 
-pub returns : goal.returns
-returns c = laws_refuse
+pub returns-clause-of_lists : goal.returns-clause-of_lists
+returns-clause-of_lists c = laws_refuse
+
+pub returns-clause-of_runs : goal.returns-clause-of_runs
+returns-clause-of_runs c = run_laws_refuse

@@ -22,7 +22,7 @@ returns-in-Ok-clause-journal c =
     record {
       clean = record { started = c.if-refused.false; turned = c.in-None.is };
       history = h.0;
-      legal = h.1.legal;
+      legal = h.1;
       seats = subst (λ (xs : List Seat). all_of (IsSeatOf c.args.cell.terms h.0) xs) c.with_main.ensures h.3;
       kept = subst (λ (t : JournaledTerms). KeptAs t.node c.in-Ok.journal h.0) c.close.ensures.terms (c.in-Ok.ensures.kept h.0 h.2);
     }

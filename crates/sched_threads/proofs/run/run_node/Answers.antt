@@ -1,13 +1,12 @@
-use Rattle.std.proofs.Common.{◌≡◌, ℕ, ◌+◌, List, length, sym, ap, ◌∙◌, subst, arith, vec_len}
+use Rattle.std.proofs.Common.{◌≡◌, ℕ, ◌+◌, List, [], length, sym, ap, ◌∙◌, subst, arith, vec_len}
 use Rattle.std.specs.Prelude.{◌-◌}
 use Rattle.turn_cell.specs.Seats.{fresh_seats}
+use Rattle.node_core.specs.Stands.{history_of}
 use Rattle.node_core.specs.Logs.{journal_terms, journal_seats}
 use Rattle.mtapi_machine.specs.declared.terms.Terms.{Terms}
 use Rattle.workload_file.specs.declared.workload.Statement.{Statement}
 use Rattle.workload_file.specs.declared.workload.Part.{Part}
-use Rattle.sched_threads.specs.Carries.{AllMade}
-use Rattle.sched_threads.specs.Runs.{PartsMade}
-use Rattle.sched_threads.proofs.Deals.{begun, first_part, main_made, all_ready, crew_complete, ran}
+use Rattle.sched_threads.proofs.Deals.{begun, first_part, all_ready, crew_complete, ran}
 use Rattle.sched_threads.proofs.run.run_node.Goals as goal
 
 pub deal-requires-clause-fresh : goal.deal-requires-clause-fresh
@@ -22,7 +21,7 @@ deal-requires-clause-some g c =
     let b = begun c.args.load.now c.in-Ok.cell c.in-Ok.seats.items (journal_terms c.with-object.result) _ c.in-Ok.ensures.terms c.with-object.ensures.terms c.requires.terms c.in-Ok.ensures.seats in
     let k = b.len in
     let m = b.count in
-    let s = c.requires.new.legal.fits.some_caller in
+    let s = (history_of c.args.node [] c.requires.new).fits.some_caller in
     let t = ap (λ (u : Terms). u.callers) c.requires.terms in
     let v = c.workers-workers.ensures.value in
     omega arith
@@ -32,26 +31,21 @@ start_workers-crew-requires-clause-ready g c κs within =
     let b = begun c.args.load.now c.in-Ok.cell c.in-Ok.seats.items (journal_terms c.with-object.result) _ c.in-Ok.ensures.terms c.with-object.ensures.terms c.requires.terms c.in-Ok.ensures.seats in
     let k = b.len in
     let m = b.count in
-    let s = c.requires.new.legal.fits.some_caller in
+    let s = (history_of c.args.node [] c.requires.new).fits.some_caller in
     let t = ap (λ (u : Terms). u.callers) c.requires.terms in
     let v = c.workers-workers.ensures.value in
     let w = c.workers-workers.result in
     let parts = c.as_slice-parts.result.now in
     let l = ap (λ (ps : List Part). length ps) c.as_slice-parts.ensures in
     let count : length parts ≡ (vec_len c.in-Ok.seats - w - 1) + 1 = omega arith in
-    all_ready c.in-Ok.cell w (vec_len c.in-Ok.seats - w - 1) parts c.in-Ok-deal.all c.in-Ok-deal.ensures count (v ∙ sym (ap (λ (u : Terms). u.settings.workers) b.terms)) (subst PartsMade (sym c.as_slice-parts.ensures) c.requires.made)
-
-pub start_workers-crew-requires-clause-made : goal.start_workers-crew-requires-clause-made
-start_workers-crew-requires-clause-made g c κs within =
-    let f = first_part c.as_slice-parts.result.now c.main-item.result (let x = c.in-len1-up.len_at_least in omega arith) c.main-item.is in
-    subst (λ (ss : List Statement). AllMade ss) (sym c.as_slice-statements.ensures) (main_made c.args.load.now.parts f.0 c.main-item.result (sym c.as_slice-parts.ensures ∙ f.1) c.requires.made)
+    all_ready c.in-Ok.cell w (vec_len c.in-Ok.seats - w - 1) parts c.in-Ok-deal.all c.in-Ok-deal.ensures count (v ∙ sym (ap (λ (u : Terms). u.settings.workers) b.terms))
 
 pub journal_after-requires-clause-complete : goal.journal_after-requires-clause-complete
 journal_after-requires-clause-complete g c =
     let b = begun c.args.load.now c.in-Ok.cell c.in-Ok.seats.items (journal_terms c.with-object.result) _ c.in-Ok.ensures.terms c.with-object.ensures.terms c.requires.terms c.in-Ok.ensures.seats in
     let k = b.len in
     let m = b.count in
-    let s = c.requires.new.legal.fits.some_caller in
+    let s = (history_of c.args.node [] c.requires.new).fits.some_caller in
     let t = ap (λ (u : Terms). u.callers) c.requires.terms in
     let v = c.workers-workers.ensures.value in
     let w = c.workers-workers.result in
@@ -64,7 +58,7 @@ returns-clause-run g c =
     let b = begun c.args.load.now c.in-Ok.cell c.in-Ok.seats.items (journal_terms c.with-object.result) _ c.in-Ok.ensures.terms c.with-object.ensures.terms c.requires.terms c.in-Ok.ensures.seats in
     let k = b.len in
     let m = b.count in
-    let s = c.requires.new.legal.fits.some_caller in
+    let s = (history_of c.args.node [] c.requires.new).fits.some_caller in
     let t = ap (λ (u : Terms). u.callers) c.requires.terms in
     let v = c.workers-workers.ensures.value in
     let w = c.workers-workers.result in

@@ -2,7 +2,7 @@ use Rattle.std.proofs.Common.{◌≡◌, ◌++◌, length, filter, nat_lt}
 use Rattle.number_text.specs.Lists.{pieces_of}
 use Rattle.workload_file.specs.Cuts.{words_of}
 use Rattle.workload_file.specs.Texts.{texts}
-use Rattle.workload_file.proofs.Pieces.{left_len}
+use Rattle.number_text.proofs.Pieces.{left_len}
 use Rattle.workload_file.proofs.cut.words_of.Given as goal
 
 abbrev pub invariant-cutting : goal.invariant-cutting

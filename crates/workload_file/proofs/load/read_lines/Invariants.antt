@@ -2,7 +2,7 @@ use Rattle.std.proofs.Common.{◌≡◌, ◌+◌, ◌≤◌, length}
 use Rattle.number_text.specs.Lists.{between, pieces_of}
 use Rattle.workload_file.specs.Reading.{lines_add}
 use Rattle.workload_file.specs.Indexed.{IsReader}
-use Rattle.workload_file.proofs.Pieces.{left_len}
+use Rattle.number_text.proofs.Pieces.{left_len}
 use Rattle.workload_file.proofs.load.read_lines.Given as goal
 
 abbrev pub invariant-lines : goal.invariant-lines

@@ -16,23 +16,34 @@ use mir.Syntax.{Ty}
 use Rattle.handle_pool.specs.contracts.row.Row as C
 use Rattle.handle_pool.specs.contracts.row.Row.{the_row}
 
--- no value of a row is left behind a reference when it goes
-quiet : {D X : Type 0} (view : D → X) (e : Exit X) → Quiet e → Quiet (hidden (under view e))
-quiet view unchanged q = λ x w. tt
-quiet view (leaves L l S s r) q = λ d. q (view d)
+-- where a row goes, it leaves nothing behind that a reference could still show
+exits_keep_none : {D X : Type 0} (view : D → X) (e : Exit X) → Quiet e → Quiet (hidden (under view e))
+exits_keep_none view unchanged none = λ d w. tt
+exits_keep_none view (leaves L l S s r) none = λ d. none (view d)
 
--- what lies in the block, and the room after it, name no key of a thread
-lies : (R : RattleType) → IsSend R → (p : Ptr) (x : R.Denot) → Keyless (lies_at R full_share p x)
-lies R s (block_ptr b o) x = part_keyless R s full_share x b o
-lies R s null_ptr x = tt
+-- the memory of a row is no thread's own: neither its items, where these may cross, ..
+items_cross : (R : RattleType) → IsSend R → (at : Ptr) (x : R.Denot) → Keyless (lies_at R full_share at x)
+items_cross R may null_ptr x = tt
+items_cross R may (block_ptr b o) x = part_keyless R may full_share x b o
 
-room : (τ : Ty) (p : Ptr) → Keyless (room_for τ p)
-room τ (block_ptr b o) = tt
-room τ null_ptr = tt
+-- .. nor the bytes that no item fills yet
+spare_crosses : (τ : Ty) (at : Ptr) → Keyless (room_for τ at)
+spare_crosses τ null_ptr = tt
+spare_crosses τ (block_ptr b o) = tt
 
 pub send : (X : RattleType) → IsSend X → IsSend (the_row X)
-send X s =
-    let O = C.the_type X in let all : AllSend (fields O) = (search sendable, tt) in
+send X may =
+    let O = C.the_type X in
+    let all : AllSend (fields O) = (search sendable, tt) in
     owning_send O all
-    (λ d. ((tt, tt), (lies (Array X (length d.items)) (array_send X (length d.items) s) d.at d.items, (room (array_of X (d.room - length d.items)) (d.at +ₚ length d.items * type_size X), frees.frees (record { memory = record { seal = tt } }) (array_of X d.room) d.at))))
-    (λ k. quiet (to O) (exits_of k (fields O)) ((struct_send (shape O) all).leaving k))
+    (λ d. (
+      (tt, tt),
+      (
+        items_cross (Array X (length d.items)) (array_send X (length d.items) may) d.at d.items,
+        (
+          spare_crosses (array_of X (d.room - length d.items)) (d.at +ₚ length d.items * type_size X),
+          frees.frees (record { memory = record { seal = tt } }) (array_of X d.room) d.at,
+        ),
+      ),
+    ))
+    (λ k. exits_keep_none (to O) (exits_of k (fields O)) ((struct_send (shape O) all).leaving k))

@@ -60,28 +60,28 @@ use Rattle.handle_pool.proofs.row.Row.allocate.Statement.{statement}
 use Rattle.handle_pool.proofs.row.Row.allocate.Code as code
 
 module _ {M : Type 1} {𝓤 : Ura M} (𝓛 : Logic 𝓤) (τ : Ty) where
-  -- what the heap answered, by its machine value
-  reported : (v : Val) (r : Answer.Denot) → ent 𝓤 (sep 𝓤 (sem 𝓛 (Answer.own_val r (v ∷ []))) (sem 𝓛 (block_if_ok chunk τ r)))
+  -- the word that the heap answered is that of a block, with its bytes, or of none
+  answer_word : (v : Val) (r : Answer.Denot) → ent 𝓤 (sep 𝓤 (sem 𝓛 (Answer.own_val r (v ∷ []))) (sem 𝓛 (block_if_ok chunk τ r)))
       (ex 𝓤 (λ (c : Bool × (ℕ × ℕ)). guard 𝓤 (v ≡ answer_val c.0 c.1.0 c.1.1) (sem 𝓛 (got chunk τ c.0 c.1.0 c.1.1))))
-  reported v (Ok p) =
+  answer_word v (Ok p) =
       qed 𝓛 (‵ (Answer.own_val (Ok p) (v ∷ [])) ∷ ‵ (fsep (room_for τ p) (chunk τ p)) ∷ []) ∵
       fpick ! (λ us. fsplit ! $ feq_l ! (λ e. fpick ! (λ vss. fsplit ! $ feq_l ! (λ e'. fsplit ! $ feq_l ! (λ e''. drop ! $
       in_a_block ! p (λ z. fsep (room_for τ z) (chunk τ z)) (fst∗ 𝓤 (never 𝓤) (sem 𝓛 (chunk τ null_ptr))) (λ b o at.
       show ! (λ (c : Bool × (ℕ × ℕ)). guard 𝓤 (v ≡ answer_val c.0 c.1.0 c.1.1) (sem 𝓛 (got chunk τ c.0 c.1.0 c.1.1))) (true, (b, o)) $
       check ! (ap only e ∙ ap (λ (ws : List Val). live 0 (of_list ws)) (e' ∙ ap (λ (ws : List Val). ws ++ []) (e'' ∙ ap (λ (z : Ptr). ptr_val z ∷ []) at))) $ done !))))))
-  reported v (Err n) =
+  answer_word v (Err n) =
       qed 𝓛 (‵ (Answer.own_val (Err n) (v ∷ [])) ∷ ‵ ftrue ∷ []) ∵
       fpick ! (λ us. fsplit ! $ feq_l ! (λ e. fpick ! (λ vss. fsplit ! $ feq_l ! (λ e'. fsplit ! $ fpick ! (λ none. fsplit ! $ feq_l ! (λ e''. keep ! [] $
       show ! (λ (c : Bool × (ℕ × ℕ)). guard 𝓤 (v ≡ answer_val c.0 c.1.0 c.1.1) (sem 𝓛 (got chunk τ c.0 c.1.0 c.1.1))) (false, (0, 0)) $
       check ! (ap only e ∙ ap (λ (ws : List Val). live 1 (of_list ws)) (e' ∙ ap (λ (ws : List Val). ws ++ []) e'')) $ done !))))))
 
 module _ {M : Type 1} {𝓤 : Ura M} {𝓛 : Logic 𝓤} {K : Type 0} {Γ : List (Item 𝓤)} {G : Goal 𝓤 𝓛.H} (τ : Ty) where
-  -- its two cases
-  by_answer : K → (v : Val) (y : Bool) (b o : ℕ) → v ≡ answer_val y b o
+  -- the heap gave a block, or it refused
+  given_or_refused : K → (v : Val) (y : Bool) (b o : ℕ) → v ≡ answer_val y b o
       → (v ≡ answer_val true b o → Seq K 𝓛 (‵ (froom τ b o) ∷ ‵ (chunk τ (block_ptr b o)) ∷ Γ) G) → (v ≡ answer_val false b o → Seq K 𝓛 Γ G)
       → Seq K 𝓛 (‵ (got chunk τ y b o) ∷ Γ) G
-  by_answer t v true b o e ok none = fsplit t $ ok e
-  by_answer t v false b o e ok none = drop t $ none e
+  given_or_refused t v false b o said with_block without = drop t $ without said
+  given_or_refused t v true b o said with_block without = fsplit t $ with_block said
 
 module _ (X : RattleType) where
   abbrev fn' : Fn
@@ -128,8 +128,8 @@ allocate_spec 𝓤 𝓛 𝓜 𝓡 wired X L =
     use1 𝓛 (later (some (λ (u : Answer.Denot). ((‵ (flft κ q) ⊛ ‵ ftrue) ⊛ ‵ (Answer.own_val u (v ∷ []))) ⊛
     some (λ (ws : Unit {0} × (Unit {0} × (Unit {0} × Unit {0}))). ‵ (fsep ftrue (fsep ftrue (fsep ftrue ftrue))) ⊛ ‵ (block_if_ok chunk (bare τ) u))))) (id⊢ 𝓤 _) $ await ! tt $ pick ! (λ u.
     split ! $ move ! (1 ∷ []) $ pick ! (λ ws. split ! $ drop ! $ move ! (1 ∷ []) $ split ! $ split ! $ move ! (2 ∷ 3 ∷ []) $
-    use2 𝓛 (some (λ (w : Bool × (ℕ × ℕ)). given (v ≡ answer_val w.0 w.1.0 w.1.1) (‵ (got chunk (bare τ) w.0 w.1.0 w.1.1)))) (reported 𝓛 (bare τ) v u) $ pick ! (λ w. learn ! (λ said.
-    by_answer (bare τ) ! v w.0 w.1.0 w.1.1 said
+    use2 𝓛 (some (λ (w : Bool × (ℕ × ℕ)). given (v ≡ answer_val w.0 w.1.0 w.1.1) (‵ (got chunk (bare τ) w.0 w.1.0 w.1.1)))) (answer_word 𝓛 (bare τ) v u) $ pick ! (λ w. learn ! (λ said.
+    given_or_refused (bare τ) ! v w.0 w.1.0 w.1.1 said
     (λ e. let b = w.1.0 in let o = w.1.1 in
     let d : Row X.Denot = record { at = block_ptr b o; items = []; room = n } in
     let it = vstruct (vcons (vptr b o) vnil) in

@@ -1,7 +1,7 @@
 use Rattle.std.proofs.Common.{subst}
 use Rattle.mtapi_machine.specs.declared.terms.Terms.{Terms}
 use Rattle.node_core.specs.Logs.{IsJournal}
-use Rattle.node_core.specs.Stands.{terms_of}
+use Rattle.node_core.specs.Stands.{terms_of, history_of}
 use Rattle.node_core.proofs.LogLemmas.{journal_none, journal_has, journal_lost, journal_kept}
 use Rattle.node_core.proofs.journaled.Journaled.into_journal.Goals as goal
 
@@ -19,4 +19,4 @@ returns-clause-lost c = journal_lost _ c.args.self.log.kept c.journal_in.result 
 pub returns-clause-kept : goal.returns-clause-kept
 returns-clause-kept c L st =
     journal_kept (terms_of c.args.self.node) c.args.self.log.kept c.journal_in.result L
-    (subst (λ (t : Terms). IsJournal t c.args.self.log.kept c.journal_in.result) c.told_terms-terms.ensures.terms c.journal_in.ensures) st.log.kept st.node.legal st.node.supported
+    (subst (λ (t : Terms). IsJournal t c.args.self.log.kept c.journal_in.result) c.told_terms-terms.ensures.terms c.journal_in.ensures) st.log.kept (history_of c.args.self.node L st.node)

@@ -1,15 +1,13 @@
-use Rattle.std.proofs.Common.{arith}
-use Rattle.node_core.proofs.InitSteps.{goes_on, few_starts, few_seats, same_terms, sound}
+use Rattle.node_core.specs.declared.node.Node.{Node}
+use Rattle.node_core.proofs.NodeLemmas.{room_inside, same_terms, goes_on}
 use Rattle.node_core.proofs.node.Node.step.Goals as goal
 
-pub dispatch-reply-requires-clause-few_starts : goal.dispatch-reply-requires-clause-few_starts
-dispatch-reply-requires-clause-few_starts c = few_starts c.args.self.now c.requires.room.0 c.requires.room.1 (omega (arith, c.requires.room.2))
-
-pub dispatch-reply-requires-clause-seat : goal.dispatch-reply-requires-clause-seat
-dispatch-reply-requires-clause-seat c = few_seats c.args.self.now c.requires.room.0 c.args.who c.requires.room.1 c.requires.seat
-
-pub returns-clause-terms : goal.returns-clause-terms
-returns-clause-terms c = same_terms c.args.self.now c.dispatch-reply.new.self _ _ _ c.requires.room.0 c.requires.room.1 c.dispatch-reply.ensures
+pub step-reply-requires-clause-room : goal.step-reply-requires-clause-room
+step-reply-requires-clause-room c = room_inside c.args.self.now _ c.requires.room
 
 pub returns-clause-stands : goal.returns-clause-stands
-returns-clause-stands c L st = goes_on c.args.self.now c.dispatch-reply.new.self L c.args.who c.args.op c.dispatch-reply.result st c.requires.seat c.op.ensures.supported (c.dispatch-reply.ensures st.lists st.live (sound c.args.self.now L st)) c.is_kept.ensures
+returns-clause-stands c L st =
+    let m : Node = record { inner = c.step-reply.new.self } in
+    goes_on c.args.self.now m L c.args.who c.args.op c.inward_op.result c.answered_kind-kind.result c.step-reply.result c.outward_reply.result st
+    c.inward_op.ensures c.answered_kind-kind.ensures
+    (same_terms c.args.self.now m c.step-reply.ensures.terms) c.step-reply.ensures.stands c.step-reply.ensures.small c.outward_reply.ensures

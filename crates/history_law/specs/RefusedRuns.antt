@@ -1,0 +1,86 @@
+-- For each law that serves the run in threads a list that it refuses. Some lists are legal and have what the law leaves out: the op that
+-- moves the phase, or the entry of the seat itself. Three laws refuse a state.
+use Rattle.std.specs.Prelude.{true, false, List, [], ◌∷◌, ◌++◌, None, pos, replicate, slice_set}
+use Rattle.mtapi_values.specs.declared.kinds.Kind.TheVariants as kind
+use Rattle.mtapi_values.specs.declared.statuses.MtapiStatus.TheVariants.{Timeout}
+use Rattle.action_fn.specs.declared.finished.ActEnd.TheVariants.{Fails}
+use Rattle.handle_pool.specs.Issued.{Listed}
+use Rattle.mtapi_objects.specs.Tasks.{Task, new_task, with_notes}
+use Rattle.mtapi_machine.specs.declared.ops.Op.TheVariants as op
+use Rattle.mtapi_machine.specs.declared.replies.Reply.TheVariants as reply
+use Rattle.history.specs.Histories.{entry}
+use Rattle.mtapi_machine.specs.State.{State, opening, seats}
+use Rattle.mtapi_machine.specs.Legal.{NodeEntry, after}
+use Rattle.mtapi_machine.specs.Worked.{usual, main, worker, first_handle, task, add_task, picks_first, finishes_first}
+use Rattle.history_law.specs.Accepted.{TasksEndOnce}
+use Rattle.history_law.specs.Seats.{OnceListed, KeepsWaiter, WorkerKeeps, EndsInTime, KeepsPhase, KeepsRelease, KeepsEarly, AreUntouched, KeepsStops, BySeats, EntersBehindRelease, FinalsBehindStops}
+use Rattle.history_law.specs.Refused.{makes_action, too_early, final_first}
+
+-- a node with a task
+unfoldable pub started : List NodeEntry
+started = main op.Initialize reply.Ok ∷ main makes_action (reply.Handle first_handle) ∷ main (add_task 0) (reply.Handle first_handle) ∷ []
+
+-- main waits for it, and looks a last time; the worker takes it, and ends it, or says that it ended too late
+abbrev pub waits : List NodeEntry
+waits = main (op.TaskLook (task first_handle) false) reply.Pending ∷ []
+
+abbrev pub looks_last : List NodeEntry
+looks_last = main (op.TaskLook (task first_handle) true) (reply.Mtapi Timeout) ∷ []
+
+abbrev pub takes : List NodeEntry
+takes = picks_first ∷ []
+
+abbrev pub ends : List NodeEntry
+ends = finishes_first ∷ []
+
+abbrev pub ends_late : List NodeEntry
+ends_late = worker (op.Finish (task first_handle) (record { kind = kind.Add; args = pos 2 ∷ pos 3 ∷ []; end = Fails Timeout })) reply.Ok ∷ []
+
+-- the node is opened; main releases the callers; the node is closed; a caller enters
+abbrev pub opens : List NodeEntry
+opens = main op.Initialize reply.Ok ∷ []
+
+abbrev pub releases : List NodeEntry
+releases = main op.Initialize reply.Ok ∷ main op.Release reply.Ok ∷ []
+
+abbrev pub closes_it : List NodeEntry
+closes_it = main op.Close reply.Ok ∷ []
+
+abbrev pub enters_first : List NodeEntry
+enters_first = entry 2 op.Enter reply.Ok ∷ []
+
+-- there is no seat 3
+abbrev pub by_no_seat : List NodeEntry
+by_no_seat = entry 3 op.Pick reply.Idle ∷ []
+
+-- a state with these tasks, and one whose worker has stopped
+abbrev pub with_tasks : List (Listed Task) → State
+with_tasks l = record (opening usual) { tasks = l }
+
+abbrev pub a_task : Task
+a_task = new_task (record { job = 1; args = []; priority = 0; cores = 1; detached = false; group = None; queue = None }) 0
+
+abbrev pub listed_once : Task → Listed Task
+listed_once t = record { handle = first_handle; live = true; fields = t }
+
+abbrev pub has_looked : Task
+has_looked = with_notes (λ n. record n { looks = 1 }) a_task
+
+abbrev pub has_stopped : State
+has_stopped = record (opening usual) { stopped = slice_set (replicate 25 false) 0 true }
+
+-- each law refuses its list or state
+pub record RunLawsRefuse : Type 0 where
+  pub accepted : TasksEndOnce usual too_early → ⊥
+  pub once : OnceListed (with_tasks (listed_once a_task ∷ listed_once a_task ∷ [])) → ⊥
+  pub waiter : KeepsWaiter (after usual (started ++ waits)) looks_last 1 first_handle → ⊥
+  pub work : WorkerKeeps (after usual (started ++ takes)) (after usual (started ++ (takes ++ ends))) 0 → ⊥
+  pub untouched : AreUntouched (with_tasks (listed_once has_looked ∷ [])) → ⊥
+  pub seats : BySeats (seats (opening usual)) by_no_seat → ⊥
+  pub late : EndsInTime (after usual (started ++ (takes ++ ends_late))) → ⊥
+  pub phase : KeepsPhase (opening usual) opens → ⊥
+  pub release : KeepsRelease (opening usual) releases → ⊥
+  pub early : KeepsEarly (opening usual) closes_it → ⊥
+  pub stopped : KeepsStops has_stopped (opening usual) → ⊥
+  pub enter : EntersBehindRelease enters_first → ⊥
+  pub final_step : FinalsBehindStops usual final_first → ⊥

@@ -1,0 +1,33 @@
+-- What a worker may ask of the task that it has.
+use Rattle.std.specs.Prelude.{◌≡◌, ℕ, ◌<◌}
+use Rattle.mtapi_values.specs.declared.kinds.Kind.TheVariants.{Watch, Tally}
+use Rattle.mtapi_values.specs.declared.statuses.MtapiStatus.TheVariants.{ErrTaskInvalid}
+use Rattle.mtapi_values.specs.declared.handles.TaskHandle.{TaskHandle}
+use Rattle.history.specs.Histories.{entry}
+use Rattle.mtapi_machine.specs.declared.ops.Op.{Op}
+use Rattle.mtapi_machine.specs.declared.ops.Op.TheVariants.{Finish, Asked, WatchEnd, TallyLock, TallyRead, TallyWrite, TallyEnd}
+use Rattle.mtapi_machine.specs.declared.replies.Reply.{Reply}
+use Rattle.mtapi_machine.specs.declared.replies.Reply.TheVariants.{Ok, Mtapi}
+use Rattle.mtapi_machine.specs.State.{State, workers}
+use Rattle.mtapi_machine.specs.Legal.{IsNext}
+use Rattle.history_law.specs.Seats.{Work, Holds}
+
+-- the op asks this of the task: to finish it, with its own kind and arguments, or a step of a watch or of a tally
+abbrev pub AsksOf : TaskHandle → Work → Op → Type 0
+AsksOf t x (Finish u done) = (u ≡ t) × (done.kind ≡ x.kind) × (done.args ≡ x.args)
+AsksOf t x (Asked u) = (u ≡ t) × (x.kind ≡ Watch)
+AsksOf t x (WatchEnd u) = (u ≡ t) × (x.kind ≡ Watch)
+AsksOf t x (TallyLock u) = (u ≡ t) × (x.kind ≡ Tally)
+AsksOf t x (TallyRead u) = (u ≡ t) × (x.kind ≡ Tally)
+AsksOf t x (TallyWrite u value) = (u ≡ t) × (x.kind ≡ Tally)
+AsksOf t x (TallyEnd u) = (u ≡ t) × (x.kind ≡ Tally)
+AsksOf t x _ = ⊥
+
+-- a finish is done; a step isn't refused as one of a task that isn't the worker's
+abbrev pub IsServed : Op → Reply → Type 0
+IsServed (Finish u done) r = r ≡ Ok
+IsServed _ r = r ≡ Mtapi ErrTaskInvalid → ⊥
+
+-- so it is of every worker and the task that it has
+abbrev pub WorkIsServed : Type 0
+WorkIsServed = (s : State) (w : ℕ) (t : TaskHandle) (x : Work) (o : Op) (r : Reply) → w < workers s → Holds s w t.0 x → AsksOf t x o → IsNext s (entry w o r) → IsServed o r

@@ -1,0 +1,15 @@
+use Rattle.std.proofs.Common.{sym, rules, arith}
+use Rattle.std.proofs.lemmas.List.{append-nil}
+use Rattle.mtapi_top.specs.Generated.{tasks}
+use Rattle.mtapi_top.proofs.GeneratedFormed.{one_more}
+use Rattle.mtapi_top.proofs.generator.push_tasks.Goals as goal
+
+pub loop-i-init : goal.loop-i-init
+unfolding tasks
+loop-i-init c = record { so_far = sym (append-nil c.args.list.now); within = omega arith }
+
+pub loop-i-preserved : goal.loop-i-preserved
+loop-i-preserved c = record {
+  so_far = one_more c.args.list.now c.loop-i.list c.loop-i.i c.push.new.self c.loop-i.invariant.so_far (search rules);
+  within = omega arith;
+}

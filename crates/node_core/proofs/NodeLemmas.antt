@@ -1,0 +1,59 @@
+-- A node goes on with the list that its callers see, as the node inside goes on with what it saw.
+use Rattle.std.proofs.Common.{◌≡◌, ℕ, ◌<◌, Bool, List, [], ◌∷◌, ◌++◌, length, Option, refl, sym, ◌∙◌, ap, subst, arith}
+use Rattle.history.specs.Histories.{entry}
+use Rattle.mtapi_values.specs.Attributes.{NodeSettings}
+use Rattle.mtapi_values.specs.declared.handles.Layout.TheVariants.{One, Two}
+use Rattle.mtapi_machine.specs.declared.terms.Terms.{Terms}
+use Rattle.mtapi_machine.specs.declared.ops.Op.{Op}
+use Rattle.mtapi_machine.specs.declared.replies.Reply.{Reply}
+use Rattle.mtapi_machine.specs.Legal.{NodeEntry, Legal, after}
+use Rattle.mtapi_machine.specs.Kept.{pends_alike}
+use Rattle.mtapi_values.specs.declared.handles.ObjectKind.{ObjectKind}
+use Rattle.mtapi_layouts.specs.Ops.{inward_op, answered_kind, outward, outward_reply, IssuesSmall, IsSmall}
+use Rattle.mtapi_layouts.specs.Turns.{inner_entries}
+use Rattle.node_steps.specs.Stands.{Stands as StandsInside, terms_of as terms_inside}
+use Rattle.node_core.specs.declared.node.Node.{Node}
+use Rattle.node_core.specs.Stands.{Stands, terms_of}
+use Rattle.node_core.proofs.Outside.{inner_append, outer_append, small_append, same_length, small_outside, reply_small, pends_outside}
+
+pub new_node : (n : Node) → StandsInside n.inner [] → Stands n []
+new_node n s = record { entries = []; seen = refl; small = tt; inside = s }
+
+pub new_terms : (n : Node) (settings : NodeSettings) (callers : ℕ) → terms_inside n.inner ≡ record { layout = One; settings = settings; callers = callers } → terms_of n ≡ record { layout = Two; settings = settings; callers = callers }
+new_terms n settings callers e = ap (λ (t : Terms). record t { layout = Two }) e
+
+pub same_terms : (n m : Node) → terms_inside m.inner ≡ terms_inside n.inner → terms_of m ≡ terms_of n
+same_terms n m e = ap (λ (t : Terms). record t { layout = Two }) e
+
+-- the node inside has room for one more op
+pub room_inside : (n : Node) (k : ℕ) → ((L : List NodeEntry) × Stands n L × (length L < k)) → (L : List NodeEntry) × StandsInside n.inner L × (length L < k)
+room_inside n k x =
+    let same : length (inner_entries x.1.entries) ≡ length x.0 = same_length x.1.entries ∙ ap (λ (l : List NodeEntry). length l) x.1.seen in
+    (inner_entries x.1.entries, x.1.inside, omega (arith, same, x.2))
+
+-- one more entry: the node inside was asked the op turned inwards, and its reply is turned outwards
+module _ (n m : Node) (L : List NodeEntry) (who : ℕ) (o p : Op) (k : Option ObjectKind) (r out : Reply) (st : Stands n L) (inward : p ≡ inward_op o) (kind : k ≡ answered_kind o) where
+  pub goes_on : terms_of m ≡ terms_of n → ((K : List NodeEntry) → StandsInside n.inner K → StandsInside m.inner (K ++ entry who p r ∷ [])) → IssuesSmall p r → (IsSmall r → out ≡ outward k r) → Stands m (L ++ entry who o out ∷ [])
+  goes_on same goes small is = record {
+    entries = st.entries ++ entry who o r ∷ [];
+    seen = outer_append st.entries (entry who o r ∷ []) ∙ (λ i. st.seen i ++ entry who o (sym turned i) ∷ []);
+    small = small_append st.entries (entry who o r ∷ []) st.small (new, tt);
+    inside = subst (StandsInside m.inner) (sym (inner_append st.entries (entry who o r ∷ []))) inside;
+  }
+    where
+      new : IssuesSmall o r
+      new = small_outside o r (subst (λ (x : Op). IssuesSmall x r) inward small)
+
+      inside : StandsInside m.inner (inner_entries st.entries ++ entry who (inward_op o) r ∷ [])
+      inside = subst (λ (x : Op). StandsInside m.inner (inner_entries st.entries ++ entry who x r ∷ [])) inward (goes (inner_entries st.entries) st.inside)
+
+      legal : Legal (terms_inside n.inner) (inner_entries st.entries ++ entry who (inward_op o) r ∷ [])
+      legal = subst (λ (t : Terms). Legal (record t { layout = One }) (inner_entries st.entries ++ entry who (inward_op o) r ∷ [])) same inside.legal
+
+      turned : out ≡ outward_reply o r
+      turned = is (reply_small (terms_of n) st.entries who o r refl st.small new legal st.inside.legal) ∙ ap (λ (x : Option ObjectKind). outward x r) kind
+
+-- a Pending reply leaves the state as it was, where it does so inside
+pub pends_alike_so : (n : Node) (L : List NodeEntry) (who : ℕ) (o p : Op) (b : Bool) → Stands n L → p ≡ inward_op o → ((K : List NodeEntry) → StandsInside n.inner K → pends_alike (after (terms_inside n.inner) K) who p ≡ b) → pends_alike (after (terms_of n) L) who o ≡ b
+pends_alike_so n L who o p b st inward is =
+    pends_outside (terms_of n) st.entries L who o b refl st.seen st.small st.inside.legal (ap (λ (x : Op). pends_alike (after (terms_inside n.inner) (inner_entries st.entries)) who x) (sym inward) ∙ is (inner_entries st.entries) st.inside)

@@ -1,9 +1,0 @@
--- What every state that a history leads to keeps, and an op may use.
-use Rattle.mtapi_machine.specs.State.{State}
-use Rattle.mtapi_machine.specs.Laws.{IsServed, Rises, start_numbers}
-
-pub record Sound (s : State) : Type 0 where
-  -- some worker has an eligible action for every scheduled task
-  pub served : IsServed s
-  -- each task was started before those listed behind it
-  pub ordered : Rises (start_numbers s.tasks)

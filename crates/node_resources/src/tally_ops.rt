@@ -1,0 +1,104 @@
+//! What the node does with a mutex and a segment for a tally.
+
+ghost use Rattle.std.specs.Prelude.{◌≡◌, ◌<◌, true, false, Some, is_some, nat_lt, length, [], ◌∷◌};
+ghost use Rattle.handle_pool.specs.Slots.{slot_value, changed};
+ghost use Rattle.handle_pool.specs.Issued.{live_object};
+ghost use Rattle.mtapi_objects.specs.Mutexes.{Mutex, locked_by, unlocked};
+ghost use Rattle.mtapi_objects.specs.Segments.{Segment, cell_of, with_attached, with_cell};
+ghost use Rattle.mtapi_machine.specs.State.{State};
+ghost use Rattle.mtapi_machine.specs.Moves.{Mutexes, Segments, alters, after_moves};
+ghost use Rattle.node_resources.specs.Holds.{Stands};
+ghost use Rattle.node_resources.specs.Tallies.{Locks};
+
+use crate::Resources;
+use mtapi_values::{MutexHandle, ShmemHandle};
+
+/// What a tally is told that wants its mutex and its segment.
+#[derive(Clone, Copy, Drop)]
+pub enum TallyLock {
+    /// Its worker owns the mutex now, and is attached to the segment.
+    Both(MutexHandle, ShmemHandle),
+    /// A seat owns the mutex, so nothing changed.
+    Owned,
+    /// No live mutex or no live segment has the id, or the segment doesn't have the cell.
+    Absent,
+}
+
+impl Resources {
+    /// Gives a tally on the worker `who`, below 25, the mutex and the segment of these ids; the segment has to have the cell.
+    pub fn tally_lock(&mut self, who: u32, mutex_id: u64, segment_id: u64, cell: u64) -> TallyLock
+        requires seat { who < 25 }
+        ensures { (s : State) → Stands s self.old → Locks s who mutex_id segment_id cell result self.new }
+    {
+        let Some(mutex) = self.mutexes.find(mutex_id) else {
+            return TallyLock::Absent;
+        };
+        let Some(segment) = self.segments.find(segment_id) else {
+            return TallyLock::Absent;
+        };
+        if !self.has_cell(segment, cell) {
+            return TallyLock::Absent;
+        }
+        if self.is_owned(mutex) {
+            return TallyLock::Owned;
+        }
+        self.take(who, mutex, segment);
+        TallyLock::Both(mutex, segment)
+    }
+
+    // Whether a live segment has the cell.
+    fn has_cell(&self, segment: ShmemHandle, cell: u64) -> bool
+        ensures { (y : Segment) → slot_value self.now.segments segment.0 ≡ Some y → nat_lt cell (length y.cells) ≡ result }
+    {
+        match self.segments.cell_count(segment) {
+            Some(count) => cell < count as u64,
+            None => false,
+        }
+    }
+
+    // Whether a seat owns a live mutex.
+    fn is_owned(&self, mutex: MutexHandle) -> bool
+        ensures { (x : Mutex) → slot_value self.now.mutexes mutex.0 ≡ Some x → is_some x.owner ≡ result }
+    {
+        match self.mutexes.is_owned(mutex) {
+            Some(owned) => owned,
+            None => false,
+        }
+    }
+
+    // Has a seat own a free mutex and attaches it to a segment.
+    fn take(&mut self, who: u32, mutex: MutexHandle, segment: ShmemHandle)
+        requires seat { who < 25 }
+        requires free { (x : Mutex) → slot_value self.old.mutexes mutex.0 ≡ Some x → is_some x.owner ≡ false }
+        ensures { self.new ≡ record self.old { mutexes = changed self.old.mutexes mutex.0 (locked_by who); segments = changed self.old.segments segment.0 (with_attached who true) } }
+    {
+        let _ = self.mutexes.look(mutex, who);
+        let _ = self.segments.attach(segment, who);
+    }
+
+    /// The number in a cell of a tally's segment.
+    pub fn tally_read(&self, segment: ShmemHandle, cell: u64) -> i64
+        ensures { (s : State) (y : Segment) → Stands s self.now → live_object s.segments segment.0 ≡ Some y → result ≡ cell_of cell y }
+    {
+        match self.segments.number(segment, cell) {
+            Some(number) => number,
+            None => 0,
+        }
+    }
+
+    /// Puts a number into a cell of a tally's segment.
+    pub fn tally_write(&mut self, segment: ShmemHandle, cell: u64, value: i64)
+        ensures { (s : State) → Stands s self.old → Stands (after_moves (alters Segments segment.0 (with_cell cell value) ∷ []) s) self.new }
+    {
+        self.segments.set_number(segment, cell, value);
+    }
+
+    /// Takes the mutex and the segment of a tally back from the worker `who`, below 25, which owns the mutex once.
+    pub fn tally_end(&mut self, who: u32, mutex: MutexHandle, segment: ShmemHandle)
+        requires seat { who < 25 }
+        ensures { (s : State) (x : Mutex) → Stands s self.old → live_object s.mutexes mutex.0 ≡ Some x → x.owner ≡ Some who → x.depth ≡ 1 → Stands (after_moves (alters Segments segment.0 (with_attached who false) ∷ alters Mutexes mutex.0 unlocked ∷ []) s) self.new }
+    {
+        let _ = self.segments.detach(segment, who);
+        let _ = self.mutexes.unlock(mutex, who, 1);
+    }
+}

@@ -1,0 +1,118 @@
+-- The ops on actions are steps of the machine.
+use Rattle.std.proofs.Common.{◌≡◌, ◌⊎◌, inl, inr, ℕ, Bool, true, false, not, List, Option, Some, None, Result, Ok, Err, refl, sym, ◌∙◌, ap, subst, arith}
+use Rattle.std.specs.Prelude.{◌&&◌}
+use Rattle.mtapi_values.specs.declared.kinds.Kind.{Kind}
+use Rattle.mtapi_values.specs.declared.masks.Mask.{Mask}
+use Rattle.mtapi_values.specs.declared.handles.ActionHandle.{ActionHandle}
+use Rattle.mtapi_values.specs.declared.statuses.MtapiStatus.{MtapiStatus}
+use Rattle.mtapi_values.specs.declared.statuses.MtapiStatus.TheVariants as m
+use Rattle.mtapi_values.specs.Conditions.{first}
+use Rattle.handle_pool.specs.Slots.{Slots, slot_value, IsFull, Inserts, changed}
+use Rattle.handle_pool.specs.Issued.{Listed, live_object, any_listed, issue, update}
+use Rattle.handle_pool.proofs.AnswerLemmas.{any-none, any-live}
+use Rattle.mtapi_objects.specs.Actions.{Action, new_action, action_create_refusals, has_job, has_enabled_job, with_enabled}
+use Rattle.job_table.specs.Answers.{Creates, Covers, job_of}
+use Rattle.job_table.specs.declared.cover.Cover.{Cover}
+use Rattle.job_table.specs.declared.cover.Cover.TheVariants.{NoAction, AllDisabled, Cores}
+use Rattle.mtapi_machine.specs.declared.ops.Op.{Op}
+use Rattle.mtapi_machine.specs.declared.ops.Op.TheVariants as op
+use Rattle.mtapi_machine.specs.declared.replies.Reply.{Reply}
+use Rattle.mtapi_machine.specs.declared.replies.Reply.TheVariants as reply
+use Rattle.mtapi_machine.specs.State.{is_open}
+use Rattle.mtapi_machine.specs.Rows.{row}
+use Rattle.mtapi_machine.specs.Legal.{IsHonest}
+use Rattle.task_board.proofs.BoardLemmas.{unchanged}
+use Rattle.node_steps.specs.declared.node.Node.{Node}
+use Rattle.node_steps.specs.Stands.{Lists, Holds, Live, Steps, state_of}
+use Rattle.node_steps.proofs.Gives.{Gives, allows, gives_this, met, past, met_in, past_all, at_some, steps, stays}
+use Rattle.node_steps.proofs.Moves.{found, full_list, room_in, may_be, holds_insert, holds_changed}
+
+pub not_true : (b : Bool) → b ≡ true → not b ≡ false
+not_true b e = ap not e
+
+both : (a b : Bool) → (a && b) ≡ true → b ≡ true
+both true b e = e
+both false b e = absurd (cc)
+
+-- which job has an action, by the cores that its actions cover
+pub covers_none : (size turns : ℕ) (p : Slots Action) (l : List (Listed Action)) (job : ℕ) → Holds size turns p l → Covers p job NoAction → any_listed (has_job job) l ≡ false
+covers_none size turns p l job s c = any-none p l (has_job job) s.stands c
+
+pub covers_some : (size turns : ℕ) (p : Slots Action) (l : List (Listed Action)) (job : ℕ) (c : Cover) → Holds size turns p l → Covers p job c → (c ≡ NoAction → ⊥) → any_listed (has_job job) l ≡ true
+covers_some size turns p l job NoAction s c n = absurd (n refl)
+covers_some size turns p l job AllDisabled s c n = any-live p l (has_job job) c.0.0 c.0.1 s.stands c.0.2 c.0.3
+covers_some size turns p l job (Cores mask) s c n = any-live p l (has_job job) c.0.0 c.0.1 s.stands c.0.2 (both _ _ c.0.3)
+
+pub enabled_some : (size turns : ℕ) (p : Slots Action) (l : List (Listed Action)) (job : ℕ) (mask : Mask) → Holds size turns p l → Covers p job (Cores mask) → any_listed (has_enabled_job job) l ≡ true
+enabled_some size turns p l job mask s c = any-live p l (has_enabled_job job) c.0.0 c.0.1 s.stands c.0.2 c.0.3
+
+pub enabled_none : (size turns : ℕ) (p : Slots Action) (l : List (Listed Action)) (job : ℕ) → Holds size turns p l → Covers p job AllDisabled → any_listed (has_enabled_job job) l ≡ false
+enabled_none size turns p l job s c = any-none p l (has_enabled_job job) s.stands c.1
+
+-- what a create is answered
+abbrev pub create_reply : Result ActionHandle MtapiStatus → Reply
+create_reply (Ok a) = reply.Handle a.0
+create_reply (Err c) = reply.Mtapi c
+
+create_refused : (n : Node) (l : Lists) (who job : ℕ) (kind : Kind) (cores : Mask) (c : MtapiStatus) → Live n l → is_open n.core.phase ≡ true → first (action_create_refusals job) ≡ Some c → Steps n l who (op.ActionCreate job kind cores) (reply.Mtapi c) n
+create_refused n l who job kind cores c v up f =
+    stays n l who (op.ActionCreate job kind cores) (reply.Mtapi c) v tt (past _ _ _ _ _ _ (not_true _ up) (met_in _ (action_create_refusals job) c _ f))
+
+create_full : (n : Node) (l : Lists) (who job : ℕ) (kind : Kind) (cores : Mask) → Live n l → is_open n.core.phase ≡ true → first (action_create_refusals job) ≡ None → IsFull n.board.actions → Steps n l who (op.ActionCreate job kind cores) (reply.Mtapi m.ErrActionLimit) n
+create_full n l who job kind cores v up f full =
+    stays n l who (op.ActionCreate job kind cores) (reply.Mtapi m.ErrActionLimit) v tt
+    (past _ _ _ _ _ _ (not_true _ up) (past_all _ _ (action_create_refusals job) _ _ f (met _ _ _ _ (full_list _ _ n.board.actions l.actions v.actions full))))
+
+create_made : (n : Node) (q : Slots Action) (l : Lists) (who job : ℕ) (kind : Kind) (cores : Mask) (h : ℕ) → Live n l → is_open n.core.phase ≡ true → first (action_create_refusals job) ≡ None → (IsFull n.board.actions → ⊥) → Inserts n.board.actions q h (new_action job kind cores.0) → Steps n l who (op.ActionCreate job kind cores) (reply.Handle h) (record n { board = record n.board { actions = q } })
+create_made n q l who job kind cores h v up f room i =
+    steps n (record n { board = record n.board { actions = q } }) l (record l { actions = issue h (new_action job kind cores.0) l.actions }) who (op.ActionCreate job kind cores) (reply.Handle h)
+    (past _ _ _ _ _ _ (not_true _ up) (past_all _ _ (action_create_refusals job) _ _ f (past _ _ _ _ _ _ (room_in _ _ n.board.actions l.actions v.actions room) (allows _ _ _ _ _ (may_be _ _ n.board.actions q l.actions h _ v.actions i) (gives_this _ _ _)))))
+    (record { actions = holds_insert _ _ n.board.actions q l.actions h (new_action job kind cores.0) v.actions i; tasks = v.tasks; groups = v.groups; queues = v.queues; resources = v.resources })
+    refl (omega arith) tt
+
+as_was : (n : Node) (q : Slots Action) (l : Lists) (who job : ℕ) (kind : Kind) (cores : Mask) (r : Reply) → q ≡ n.board.actions → Steps n l who (op.ActionCreate job kind cores) r n → Steps n l who (op.ActionCreate job kind cores) r (record n { board = record n.board { actions = q } })
+as_was n q l who job kind cores r e s = subst (λ (p : Slots Action). Steps n l who (op.ActionCreate job kind cores) r (record n { board = record n.board { actions = p } })) (sym e) s
+
+create_failed : (n : Node) (q : Slots Action) (l : Lists) (who job : ℕ) (kind : Kind) (cores : Mask) (c : MtapiStatus) → Live n l → is_open n.core.phase ≡ true → Creates n.board.actions job kind cores.0 (Err c) q → Steps n l who (op.ActionCreate job kind cores) (reply.Mtapi c) (record n { board = record n.board { actions = q } })
+create_failed n q l who job kind cores m.ErrActionLimit v up c = as_was n q l who job kind cores _ c.2 (create_full n l who job kind cores v up c.0 c.1)
+create_failed n q l who job kind cores x v up c = as_was n q l who job kind cores _ c.1 (create_refused n l who job kind cores x v up c.0)
+
+pub create_steps : (n : Node) (q : Slots Action) (l : Lists) (who job : ℕ) (kind : Kind) (cores : Mask) (x : Result ActionHandle MtapiStatus) → Live n l → is_open n.core.phase ≡ true → Creates n.board.actions job kind cores.0 x q → Steps n l who (op.ActionCreate job kind cores) (create_reply x) (record n { board = record n.board { actions = q } })
+create_steps n q l who job kind cores (Ok a) v up c = create_made n q l who job kind cores a.0 v up c.0 c.1 c.2
+create_steps n q l who job kind cores (Err x) v up c = create_failed n q l who job kind cores x v up c
+
+-- enabling
+job_found : (o : Option Action) (j : ℕ) → job_of o ≡ Ok j → (x : Action) × (o ≡ Some x)
+job_found None j e = absurd (cc)
+job_found (Some x) j e = (x, refl)
+
+pub enable_steps : (n : Node) (q : Slots Action) (l : Lists) (who j : ℕ) (a : ActionHandle) → Live n l → is_open n.core.phase ≡ true → job_of (slot_value n.board.actions a.0) ≡ Ok j → q ≡ changed n.board.actions a.0 (with_enabled true) → Steps n l who (op.ActionEnable a) reply.Ok (record n { board = record n.board { actions = q } })
+enable_steps n q l who j a v up e new =
+    let x = job_found (slot_value n.board.actions a.0) j e in
+    subst (λ (p : Slots Action). Steps n l who (op.ActionEnable a) reply.Ok (record n { board = record n.board { actions = p } })) (sym new)
+    (steps n (record n { board = record n.board { actions = changed n.board.actions a.0 (with_enabled true) } }) l (record l { actions = update a.0 (with_enabled true) l.actions }) who (op.ActionEnable a) reply.Ok
+    (past _ _ _ _ _ _ (not_true _ up) (at_some _ _ _ x.0 _ _ _ (found _ _ n.board.actions l.actions a.0 (Some x.0) v.actions x.1) (gives_this _ _ _)))
+    (record { actions = holds_changed _ _ n.board.actions l.actions a.0 (with_enabled true) v.actions; tasks = v.tasks; groups = v.groups; queues = v.queues; resources = v.resources })
+    refl (omega arith) tt)
+
+-- an action that isn't live doesn't change
+job_absent : (o : Option Action) (c : MtapiStatus) → job_of o ≡ Err c → (o ≡ None) × (m.ErrActionInvalid ≡ c)
+job_absent None c e = (refl, cc)
+job_absent (Some x) c e = absurd (cc)
+
+pub action_absent : (n : Node) (l : Lists) (who : ℕ) (o : Op) (a : ActionHandle) (c : MtapiStatus) (f : Action → Action) → Live n l → job_of (slot_value n.board.actions a.0) ≡ Err c → IsHonest o → (live_object l.actions a.0 ≡ None → Gives (state_of n l) (row (state_of n l) who o (reply.Mtapi m.ErrActionInvalid)) (reply.Mtapi m.ErrActionInvalid) (state_of n l)) → Steps n l who o (reply.Mtapi c) (record n { board = record n.board { actions = changed n.board.actions a.0 f } })
+action_absent n l who o a c f v e honest refuses =
+    let x = job_absent (slot_value n.board.actions a.0) c e in
+    subst (λ (p : Slots Action). Steps n l who o (reply.Mtapi c) (record n { board = record n.board { actions = p } })) (sym (unchanged n.board.actions a.0 f c (sym e)))
+    (subst (λ (s : MtapiStatus). Steps n l who o (reply.Mtapi s) n) x.1
+    (stays n l who o (reply.Mtapi m.ErrActionInvalid) v honest (refuses (found _ _ n.board.actions l.actions a.0 None v.actions x.0))))
+
+-- one of the two other cases
+pub some_cover : (c : Cover) → (c ≡ AllDisabled) ⊎ ((mask : Mask) × (c ≡ Cores mask)) → c ≡ NoAction → ⊥
+some_cover c h e = elim h [ inl a ↦ apart (sym e ∙ a) | inr a ↦ other a.0 (sym e ∙ a.1) ]
+  where
+    apart : NoAction ≡ AllDisabled → ⊥
+    apart d = cc
+
+    other : (mask : Mask) → NoAction ≡ Cores mask → ⊥
+    other mask d = cc

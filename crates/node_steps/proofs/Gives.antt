@@ -1,0 +1,118 @@
+-- What a row gives: a reply that it allows, and the state after it. One word for each part of a row.
+use Rattle.std.proofs.Common.{◌≡◌, ℕ, ◌+◌, ◌≤◌, Bool, true, false, List, [], ◌∷◌, Option, Some, None, refl, sym, ◌∙◌, ap, subst, arith, cond}
+use Rattle.mtapi_values.specs.declared.statuses.MtapiStatus.{MtapiStatus}
+use Rattle.mtapi_values.specs.Conditions.{first}
+use Rattle.mtapi_values.specs.declared.handles.Layout.TheVariants.{One}
+use Rattle.mtapi_machine.specs.declared.ops.Op.{Op}
+use Rattle.mtapi_machine.specs.declared.replies.Reply.{Reply}
+use Rattle.mtapi_machine.specs.declared.replies.Reply.TheVariants.{Mtapi}
+use Rattle.mtapi_machine.specs.State.{State}
+use Rattle.mtapi_machine.specs.Moves.{Move, after_moves}
+use Rattle.mtapi_machine.specs.Row.{Row, unless, says, gives, only, Allows, after_row, mtapi_unless, live}
+use Rattle.mtapi_machine.specs.Rows.{row}
+use Rattle.mtapi_machine.specs.Legal.{IsHonest}
+use Rattle.handle_pool.specs.Slots.{Slots}
+use Rattle.mtapi_objects.specs.Actions.{Action}
+use Rattle.task_core.specs.Table.{TaskTable}
+use Rattle.mtapi_objects.specs.Queues.{Queue}
+use Rattle.queue_core.specs.Held.{HeldQueue, QueueTable}
+use Rattle.task_board.specs.Board.{BoardTable, Becomes, BecomesWith, records_of, group_slots}
+use Rattle.mtapi_objects.specs.Groups.{Group}
+use Rattle.group_core.specs.Members.{GroupTable}
+use Rattle.task_board.specs.Members.{without_members}
+use Rattle.task_board.specs.GroupMoves.{Regroups}
+use Rattle.node_steps.specs.declared.node.Node.{Node}
+use Rattle.node_steps.specs.Stands.{Lists, Pools, Live, Steps, state_of, terms_of}
+
+-- from the state s the row w gives the reply r and leads to t
+pub record Gives (s : State) (w : Row) (r : Reply) (t : State) : Type 0 where
+  pub allowed : Allows w r
+  pub leads : after_row s w ≡ t
+
+pub gives_this : (s : State) (r : Reply) (ms : List Move) → Gives s (gives r ms) r (after_moves ms s)
+gives_this s r ms = record { allowed = refl; leads = refl }
+
+pub says_this : (s : State) (r : Reply) → Gives s (says r) r s
+says_this s r = record { allowed = refl; leads = refl }
+
+-- a condition that is met, and one that isn't
+pub met : (s : State) (c : Bool) (x : Reply) (w : Row) → c ≡ true → Gives s (unless c x w) x s
+met s true x w e = record { allowed = refl; leads = refl }
+met s false x w e = absurd (cc)
+
+pub past : (s t : State) (c : Bool) (x r : Reply) (w : Row) → c ≡ false → Gives s w r t → Gives s (unless c x w) r t
+past s t false x r w e g = record { allowed = g.allowed; leads = g.leads }
+past s t true x r w e g = absurd (cc)
+
+-- a list of conditions
+pub met_in : (s : State) (cs : List (Bool × MtapiStatus)) (c : MtapiStatus) (w : Row) → first cs ≡ Some c → Gives s (mtapi_unless cs w) (Mtapi c) s
+met_in s [] c w h = absurd (cc)
+met_in s ((true, x) ∷ cs) c w h = record { allowed = cc; leads = refl }
+met_in s ((false, x) ∷ cs) c w h = let g = met_in s cs c w h in record { allowed = g.allowed; leads = g.leads }
+
+pub past_all : (s t : State) (cs : List (Bool × MtapiStatus)) (r : Reply) (w : Row) → first cs ≡ None → Gives s w r t → Gives s (mtapi_unless cs w) r t
+past_all s t [] r w h g = g
+past_all s t ((true, x) ∷ cs) r w h g = absurd (cc)
+past_all s t ((false, x) ∷ cs) r w h g = let k = past_all s t cs r w h g in record { allowed = k.allowed; leads = k.leads }
+
+-- a row that a condition lets through
+pub allows : (b : Bool) (s t : State) (r : Reply) (v : Row) → b ≡ true → Gives s v r t → Gives s (only b v) r t
+allows true s t r v e g = g
+allows false s t r v e g = absurd (cc)
+
+-- a row that a condition chooses
+pub then_row : (b : Bool) (s t : State) (r : Reply) (v w : Row) → b ≡ true → Gives s v r t → Gives s (cond b v w) r t
+then_row true s t r v w e g = g
+then_row false s t r v w e g = absurd (cc)
+
+pub else_row : (b : Bool) (s t : State) (r : Reply) (v w : Row) → b ≡ false → Gives s w r t → Gives s (cond b v w) r t
+else_row false s t r v w e g = g
+else_row true s t r v w e g = absurd (cc)
+
+module _ {T : Type 0} where
+  -- a live object, and none
+  pub at_some : (s t : State) (o : Option T) (x : T) (other : Row) (r : Reply) (f : T → Row) → o ≡ Some x → Gives s (f x) r t → Gives s (live o other f) r t
+  at_some s t o x other r f e g = subst (λ (p : Option T). Gives s (live p other f) r t) (sym e) g
+
+  pub at_none : (s : State) (o : Option T) (invalid : Reply) (f : T → Row) → o ≡ None → Gives s (live o (says invalid) f) invalid s
+  at_none s o invalid f e = subst (λ (p : Option T). Gives s (live p (says invalid) f) invalid s) (sym e) (says_this s invalid)
+
+-- a step of the node from what the row gives
+pub steps : (n m : Node) (l k : Lists) (who : ℕ) (op : Op) (r : Reply) → Gives (state_of n l) (row (state_of n l) who op r) r (state_of m k) → Pools n.board.settings m.board.actions m.board.tasks.pool (group_slots m.board) (records_of m.board.queues.pool) m.resources k → terms_of m ≡ terms_of n → m.board.tasks.starts ≤ n.board.tasks.starts + 1 → IsHonest op → Steps n l who op r m
+steps n m l k who op r g v t b h =
+    (k, record { allowed = g.allowed; leads = g.leads; live = v; terms = t; starts = b; honest = h })
+
+-- a step that leaves the node as it was
+pub stays : (n : Node) (l : Lists) (who : ℕ) (op : Op) (r : Reply) → Live n l → IsHonest op → Gives (state_of n l) (row (state_of n l) who op r) r (state_of n l) → Steps n l who op r n
+stays n l who op r v h g = (l, record { allowed = g.allowed; leads = g.leads; live = v; terms = refl; starts = omega arith; honest = h })
+
+-- the same step, of a board that has become so
+pub lands_to : (n m : Node) (l : Lists) (who : ℕ) (op : Op) (r : Reply) (b : BoardTable) (a : Slots Action) (t : TaskTable) (q : Slots HeldQueue) (g : GroupTable) → m.board.settings ≡ n.board.settings → b.settings ≡ m.board.settings → b.actions ≡ a → b.tasks ≡ t → records_of b.queues.pool ≡ records_of q → group_slots b ≡ without_members g.pool → Steps n l who op r (record m { board = record m.board { actions = a; tasks = t; queues = record m.board.queues { pool = q }; groups = g } }) → Steps n l who op r (record m { board = b })
+lands_to n m l who op r b a t q g base settings actions tasks queues groups s = (
+  s.0,
+  record {
+    allowed = s.1.allowed;
+    leads = s.1.leads ∙ (λ i. state_of (record m { board = path i }) s.0);
+    live =
+        subst (λ (x : BoardTable). Pools n.board.settings x.actions x.tasks.pool (group_slots b) (records_of b.queues.pool) m.resources s.0) path
+        (subst (λ (z : Slots Queue). Pools n.board.settings a t.pool (group_slots b) z m.resources s.0) (sym queues)
+        (subst (λ (z : Slots Group). Pools n.board.settings a t.pool z (records_of q) m.resources s.0) (sym groups) s.1.live));
+    terms = (λ i. record { layout = One; settings = settings i; callers = m.core.callers }) ∙ s.1.terms;
+    starts = subst (λ (x : TaskTable). x.starts ≤ n.board.tasks.starts + 1) (sym tasks) s.1.starts;
+    honest = s.1.honest;
+  },
+)
+  where
+    path : record b { settings = m.board.settings; actions = a; tasks = t } ≡ b
+    path i = record b { settings = sym settings i; actions = sym actions i; tasks = sym tasks i }
+
+pub lands : (n : Node) (l : Lists) (who : ℕ) (op : Op) (r : Reply) (b : BoardTable) (a : Slots Action) (q : TaskTable) → Becomes n.board b a q → Steps n l who op r (record n { board = record n.board { actions = a; tasks = q } }) → Steps n l who op r (record n { board = b })
+lands n l who op r b a q e s = lands_to n n l who op r b a q n.board.queues.pool n.board.groups refl e.settings e.actions_are e.tasks_are e.queues_are e.groups_are s
+
+-- the same of the queues alone
+pub lands_with : (n : Node) (l : Lists) (who : ℕ) (op : Op) (r : Reply) (b : BoardTable) (q : Slots HeldQueue) → BecomesWith n.board b q → Steps n l who op r (record n { board = record n.board { queues = record n.board.queues { pool = q } } }) → Steps n l who op r (record n { board = b })
+lands_with n l who op r b q e s = lands_to n n l who op r b n.board.actions n.board.tasks q n.board.groups refl e.settings e.actions_are e.tasks_are (ap records_of e.queues_are) (ap (λ (g : GroupTable). without_members g.pool) e.groups_are) s
+
+-- the same, where groups come or go
+pub regroups_to : (n : Node) (l : Lists) (who : ℕ) (op : Op) (r : Reply) (b : BoardTable) (q : TaskTable) → Regroups n.board b q → Steps n l who op r (record n { board = record n.board { tasks = q; groups = b.groups } }) → Steps n l who op r (record n { board = b })
+regroups_to n l who op r b q e s = lands_to n n l who op r b n.board.actions q n.board.queues.pool b.groups refl e.settings e.actions_are e.tasks_are (ap (λ (z : QueueTable). records_of z.pool) e.queues_are) refl s

@@ -1,0 +1,48 @@
+-- The ops on phases are steps of the machine.
+use Rattle.std.proofs.Common.{◌≡◌, ℕ, Bool, false, not, refl, sym, subst, arith}
+use Rattle.std.specs.Prelude.{◌&&◌}
+use Rattle.mtapi_values.specs.declared.ends.TaskEnd.TheVariants.{Cancelled}
+use Rattle.mtapi_values.specs.Conditions.{holds}
+use Rattle.mtapi_machine.specs.declared.ops.Op.TheVariants as op
+use Rattle.mtapi_machine.specs.declared.replies.Reply.TheVariants as reply
+use Rattle.mtapi_machine.specs.declared.terms.Phase.TheVariants.{Closing}
+use Rattle.mtapi_machine.specs.State.{is_past_open, end_tasks}
+use Rattle.mtapi_objects.specs.Tasks.{Task, is_unstarted, end_each}
+use Rattle.mtapi_objects.specs.Queues.{is_shut_in}
+use Rattle.task_core.specs.Table.{TaskTable}
+use Rattle.task_board.specs.Board.{records_of}
+use Rattle.task_board.specs.Ends.{is_shut, EndsWaiting}
+use Rattle.node_steps.specs.declared.node.Node.{Node}
+use Rattle.node_steps.specs.Stands.{Lists, Live, Steps, state_of}
+use Rattle.node_steps.specs.Sound.{Sound}
+use Rattle.node_steps.proofs.Gives.{past, steps}
+use Rattle.node_steps.proofs.WaitingEnds.{AtOnce, ends-at-once}
+
+-- the node closed to new objects
+abbrev pub closing : Node → Node
+closing n = record n { core = record n.core { phase = Closing } }
+
+module _ (n : Node) (l : Lists) (who : ℕ) (v : Live n l) (k : Sound (state_of n l)) (late : is_past_open n.core.phase ≡ false) (t : TaskTable) (ends : EndsWaiting (λ x. is_shut (records_of n.board.queues.pool) x.queue) Cancelled n.board.tasks t) where
+  -- the board's queues and the machine's say the same
+  shut : ◌≡◌ {A = Task → Bool} (λ x. is_shut (records_of n.board.queues.pool) x.queue) (is_shut_in l.queues)
+  shut i x = holds (λ h. holds (λ q. not q.enabled) (v.queues.stands.found h i)) x.queue
+
+  once : AtOnce n.board.settings.tasks n.board.settings.generations (is_shut_in l.queues) Cancelled n.board.tasks t l.tasks
+  once = ends-at-once n.board.settings.tasks n.board.settings.generations (is_shut_in l.queues) Cancelled n.board.tasks t l.tasks v.tasks k.ordered (subst (λ (p : Task → Bool). EndsWaiting p Cancelled n.board.tasks t) shut ends)
+
+  closed : Node
+  closed = record (closing n) { board = record n.board { tasks = t } }
+
+  to : Lists
+  to = record l { tasks = end_each (λ x. is_unstarted x && is_shut_in l.queues x) Cancelled n.board.tasks.ends l.tasks }
+
+  leads : end_tasks (λ x. is_unstarted x && is_shut_in l.queues x) Cancelled (record (state_of n l) { phase = Closing }) ≡ state_of closed to
+  unfolding closed to
+  leads i = record (state_of closed to) { starts = sym once.starts i; ends = sym once.ends i }
+
+  pub close_steps : Steps n l who op.Close reply.Ok (record (closing n) { board = record n.board { tasks = t } })
+  unfolding closed to
+  close_steps =
+      steps n closed l to who op.Close reply.Ok
+      (past _ _ _ _ _ _ late (record { allowed = refl; leads = leads }))
+      (record { actions = v.actions; tasks = once.holds; groups = v.groups; queues = v.queues; resources = v.resources }) refl (omega (arith, once.starts)) tt

@@ -1,0 +1,163 @@
+-- A pick is a step of the machine.
+use Rattle.std.proofs.Common.{◌≡◌, ℕ, ◌<◌, Bool, true, false, not, cond, [], ◌∷◌, Option, Some, None, refl, sym, ◌∙◌, ap, subst, arith}
+use Rattle.std.specs.Prelude.{◌&&◌, not, nat_lt, is_none}
+use Rattle.std.specs.Bool.{OnTrue, OnFalse}
+use Rattle.std.proofs.lemmas.Bool.Decides.{nat_tests}
+use Rattle.mtapi_values.specs.Masks.{in_mask}
+use Rattle.handle_pool.specs.Slots.{slot_value, changed}
+use Rattle.handle_pool.specs.Walks.{SomeLive, NoneLive}
+use Rattle.handle_pool.specs.Issued.{any_listed, update}
+use Rattle.handle_pool.proofs.AnswerLemmas.{any-none, any-live, any-some}
+use Rattle.mtapi_objects.specs.Actions.{Action, has_enabled_job, is_eligible}
+use Rattle.job_table.specs.Answers.{Passes}
+use Rattle.mtapi_objects.specs.Tasks.{Task, TaskState, Scheduled, Running, Ended, scheduled, end_of, is_unstarted, is_unended, runs_on, with_state}
+use Rattle.mtapi_machine.specs.declared.ops.Op.TheVariants as op
+use Rattle.mtapi_machine.specs.declared.replies.Reply.{Reply}
+use Rattle.mtapi_machine.specs.declared.replies.Reply.TheVariants as reply
+use Rattle.mtapi_machine.specs.State.{State, workers, is_new, is_stop}
+use Rattle.mtapi_machine.specs.Row.{Row, says, gives}
+use Rattle.mtapi_machine.specs.Moves.{runs_task as runs_task}
+use Rattle.mtapi_machine.specs.WorkRows.{is_ready, can_take, has_better, picks}
+use Rattle.mtapi_values.specs.declared.kinds.Kind.{Kind}
+use Rattle.node_steps.specs.declared.node.Node.{Node}
+use Rattle.task_board.specs.declared.board.Choice.{Choice}
+use Rattle.node_steps.specs.Stands.{Lists, Live, Steps, state_of}
+use Rattle.task_board.specs.Queued.{begins_in}
+use Rattle.task_board.specs.Board.{IsBoard}
+use Rattle.task_board.specs.Picks.{RunsBy, Takeable, NoneTakeable, NoneBetter, IsChoice, IsBest}
+use Rattle.node_steps.specs.Picks.{Takes}
+use Rattle.node_steps.proofs.Gives.{Gives, gives_this, says_this, past, allows, at_some, stays, lands}
+use Rattle.node_steps.proofs.Moves.{found, holds_changed}
+use Rattle.node_steps.proofs.StartSteps.{and_true, and_left, and_right, eligible_in, runs_in}
+use Rattle.node_steps.proofs.TaskSteps.{task_steps, with_pool}
+use Rattle.node_steps.proofs.QueueLemmas.{lets-begin}
+use Rattle.node_steps.proofs.WorkSteps.{is_worker}
+
+-- The tests of the machine, from the slots
+
+module _ (n : Node) (l : Lists) (w : ℕ) (v : Live n l) (k : IsBoard n.board) (less : w < n.board.settings.workers) where
+  abbrev worker_count : ℕ
+  worker_count = n.board.settings.workers
+
+  abbrev lets_in : ℕ → Option ℕ → Bool
+  lets_in h = begins_in n.board.queues.pool h
+
+  scheduled-unended : (t : Task) → is_unstarted t ≡ true → is_unended t ≡ true
+  scheduled-unended t u = by_state t.state u
+    where
+      by_state : (x : TaskState) → scheduled x ≡ true → is_none (end_of x) ≡ true
+      by_state Scheduled e = refl
+      by_state (Running v k) e = refl
+      by_state (Ended y n) e = absurd (cc)
+
+  ready_if : (h : ℕ) (t : Task) → slot_value n.board.tasks.pool h ≡ Some t → is_unstarted t ≡ true → lets_in h t.queue ≡ true → is_ready (state_of n l) t ≡ true
+  unfolding is_ready
+  ready_if h t g u q = and_true _ _ u (lets-begin n l v k h t g (scheduled-unended t u) ∙ q)
+
+  ready_unstarted : (t : Task) → is_ready (state_of n l) t ≡ true → is_unstarted t ≡ true
+  unfolding is_ready
+  ready_unstarted t e = and_left (is_unstarted t) _ e
+
+  ready_let : (h : ℕ) (t : Task) → slot_value n.board.tasks.pool h ≡ Some t → is_ready (state_of n l) t ≡ true → lets_in h t.queue ≡ true
+  unfolding is_ready
+  ready_let h t g e = sym (lets-begin n l v k h t g (scheduled-unended t (and_left (is_unstarted t) _ e))) ∙ and_right (is_unstarted t) _ e
+
+  -- an action that may run the task is eligible
+  eligible_if : (h : ℕ) (t : Task) (a : Action) → RunsBy (lets_in h) w t a → is_eligible worker_count w t.job t.cores a ≡ true
+  eligible_if h t a r = eligible_in worker_count w t.job t.cores a less r.core r.action
+
+  pub takes_if : (h : ℕ) (t : Task) → slot_value n.board.tasks.pool h ≡ Some t → Takeable n.board.actions (lets_in h) w t → can_take (state_of n l) w t ≡ true
+  unfolding can_take
+  takes_if h t g s =
+      and_true _ _ (ready_if h t g s.3.unstarted s.3.queue) (any-live n.board.actions l.actions (is_eligible worker_count w t.job t.cores) s.0 s.1 v.actions.stands s.2 (eligible_if h t s.1 s.3))
+
+  pub takeable : (h : ℕ) (t : Task) → slot_value n.board.tasks.pool h ≡ Some t → can_take (state_of n l) w t ≡ true → Takeable n.board.actions (lets_in h) w t
+  unfolding can_take
+  takeable h t g e =
+      let ready = and_left (is_ready (state_of n l) t) _ e in
+      let a = any-some n.board.actions l.actions (is_eligible worker_count w t.job t.cores) v.actions.stands (and_right (is_ready (state_of n l) t) _ e) in (
+        a.0,
+        a.1,
+        a.2,
+        record {
+          unstarted = ready_unstarted t ready;
+          queue = ready_let h t g ready;
+          core = and_right (has_enabled_job t.job a.1 && nat_lt w worker_count && in_mask w a.1.cores) (in_mask w t.cores) a.3;
+          action = runs_in worker_count w t.job t.cores a.1 a.3;
+        },
+      )
+
+  -- nothing can be taken
+  pub none_takes : NoneTakeable n.board.actions n.board.tasks.pool n.board.queues.pool w → any_listed (can_take (state_of n l) w) l.tasks ≡ false
+  none_takes none = any-none n.board.tasks.pool l.tasks (can_take (state_of n l) w) v.tasks.stands (λ h t g e. none h t g (takeable h t g e))
+
+  -- nothing of a smaller priority can be taken
+  none_better : (priority : ℕ) → NoneBetter n.board.actions n.board.tasks.pool n.board.queues.pool w priority → has_better (state_of n l) w priority ≡ false
+  unfolding has_better
+  none_better priority none =
+      any-none n.board.tasks.pool l.tasks (λ t. can_take (state_of n l) w t && nat_lt t.priority priority) v.tasks.stands
+      (λ h t g e. none h t g (takeable h t g (and_left (can_take (state_of n l) w t) _ e)) (lt t.priority (and_right (can_take (state_of n l) w t) _ e)))
+    where
+      lt : (p : ℕ) → nat_lt p priority ≡ true → p < priority
+      lt p e = grind (arith, nat_tests)
+
+  -- what was chosen may be taken
+  may : (c : Choice) (x : IsChoice n.board.actions n.board.tasks.pool n.board.queues.pool w c) → NoneBetter n.board.actions n.board.tasks.pool n.board.queues.pool w c.priority → (is_ready (state_of n l) x.t && is_eligible (workers (state_of n l)) w x.t.job x.t.cores x.a && not (has_better (state_of n l) w x.t.priority)) ≡ true
+  may c x none =
+      let better : has_better (state_of n l) w x.t.priority ≡ false = ap (has_better (state_of n l) w) x.priority ∙ none_better c.priority none in
+      and_true _ _ (and_true _ _ (ready_if c.task.0 x.t x.task x.runs.unstarted x.runs.queue) (eligible_if c.task.0 x.t x.a x.runs)) (ap not better)
+
+not_stopped : (b : Bool) (s t : State) (r : Reply) (u v : Row) → b ≡ false → Gives s v r t → Gives s (cond b u v) r t
+not_stopped false s t r u v e g = g
+not_stopped true s t r u v e g = absurd (cc)
+
+module _ (n : Node) (l : Lists) (w : ℕ) (v : Live n l) (kept : IsBoard n.board) (less : w < n.board.settings.workers) (runs : any_listed (runs_on w) l.tasks ≡ false) (new : is_new n.core.phase ≡ false) (stop : is_stop (state_of n l) ≡ false) where
+  pub pick_idle : IsBest n.board.actions n.board.tasks.pool n.board.queues.pool w None → Steps n l w op.Pick reply.Idle n
+  pick_idle none =
+      stays n l w op.Pick reply.Idle v tt
+      (past _ _ _ _ _ _ (is_worker w _ less) (past _ _ _ _ _ _ runs (past _ _ _ _ _ _ new (not_stopped (is_stop (state_of n l)) _ _ _ _ _ stop
+      (allows _ _ _ _ (says reply.Idle) (ap not (none_takes n l w v kept less none)) (says_this _ reply.Idle))))))
+
+  pub pick_takes : (c : Choice) (r : Reply) (m : Node) → IsBest n.board.actions n.board.tasks.pool n.board.queues.pool w (Some c) → Takes n w c r m → Steps n l w op.Pick r m
+  pick_takes c r m best t =
+      subst (λ (k : Node). Steps n l w op.Pick r k) (λ i. record { core = sym t.core i; board = m.board; resources = sym t.resources i })
+      (lands n l w op.Pick r m.board n.board.actions (with_pool n (changed n.board.tasks.pool c.task.0 (with_state (Running w c.kind)))) t.board
+      (subst (λ (y : Reply). Steps n l w op.Pick y (record n { board = record n.board { tasks = with_pool n (changed n.board.tasks.pool c.task.0 (with_state (Running w c.kind))) } })) (sym said)
+      (task_steps n l (with_pool n (changed n.board.tasks.pool c.task.0 (with_state (Running w c.kind)))) (update c.task.0 (with_state (Running w c.kind)) l.tasks) w op.Pick (reply.Picked c.task c.action c.kind x.t.args) v
+      (past _ _ _ _ _ _ (is_worker w _ less) (past _ _ _ _ _ _ runs (past _ _ _ _ _ _ new (not_stopped (is_stop (state_of n l)) _ _ _ _ _ stop chosen))))
+      (holds_changed _ _ n.board.tasks.pool l.tasks c.task.0 (with_state (Running w c.kind)) v.tasks) (omega arith) tt)))
+    where
+      x : IsChoice n.board.actions n.board.tasks.pool n.board.queues.pool w c
+      x = best.0
+
+      same : t.t ≡ x.t
+      same = some (sym t.task ∙ x.task)
+        where
+          some : Some t.t ≡ Some x.t → t.t ≡ x.t
+          some e = cc
+
+      said : r ≡ reply.Picked c.task c.action c.kind x.t.args
+      said = t.reply ∙ ap (λ (u : Task). reply.Picked c.task c.action c.kind u.args) same
+
+      may_be : (is_ready (state_of n l) x.t && is_eligible (workers (state_of n l)) w x.t.job x.t.cores x.a && not (has_better (state_of n l) w x.t.priority)) ≡ true
+      may_be = may n l w v kept less c x best.1
+
+      chosen : Gives (state_of n l) (picks (state_of n l) w (reply.Picked c.task c.action c.kind x.t.args)) (reply.Picked c.task c.action c.kind x.t.args) (record (state_of n l) { tasks = update c.task.0 (with_state (Running w c.kind)) l.tasks })
+      chosen =
+          at_some _ _ _ x.t _ _ _ (found _ _ n.board.tasks.pool l.tasks c.task.0 (Some x.t) v.tasks x.task)
+          (at_some _ _ _ x.a _ _ _ (found _ _ n.board.actions l.actions c.action.0 (Some x.a) v.actions x.action)
+          (allows (is_ready (state_of n l) x.t && is_eligible (workers (state_of n l)) w x.t.job x.t.cores x.a && not (has_better (state_of n l) w x.t.priority)) _ _ _ _ may_be
+          (subst (λ (k : Kind). Gives (state_of n l) (gives (reply.Picked c.task c.action x.a.kind x.t.args) (runs_task c.task.0 w x.a.kind ∷ [])) (reply.Picked c.task c.action k x.t.args) (record (state_of n l) { tasks = update c.task.0 (with_state (Running w k)) l.tasks })) x.kind
+          (gives_this _ _ _))))
+
+-- no task runs on the worker, and one does
+pick_free : (n : Node) (l : Lists) (w : ℕ) → Live n l → NoneLive (slot_value n.board.tasks.pool) (Passes (runs_on w)) → any_listed (runs_on w) l.tasks ≡ false
+pick_free n l w v none = any-none n.board.tasks.pool l.tasks (runs_on w) v.tasks.stands none
+
+pick_busy : (n : Node) (l : Lists) (w : ℕ) → Live n l → SomeLive (slot_value n.board.tasks.pool) (Passes (runs_on w)) → any_listed (runs_on w) l.tasks ≡ true
+pick_busy n l w v some = any-live n.board.tasks.pool l.tasks (runs_on w) some.0 some.1 v.tasks.stands some.2 some.3
+
+-- what was told of a worker
+pub runs_told : (n : Node) (l : Lists) (w : ℕ) (b : Bool) → Live n l → OnTrue b (SomeLive (slot_value n.board.tasks.pool) (Passes (runs_on w))) → OnFalse b (NoneLive (slot_value n.board.tasks.pool) (Passes (runs_on w))) → any_listed (runs_on w) l.tasks ≡ b
+runs_told n l w true v some none = pick_busy n l w v some
+runs_told n l w false v some none = pick_free n l w v none

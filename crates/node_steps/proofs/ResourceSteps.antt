@@ -1,0 +1,43 @@
+-- The ops on resources are steps of the machine.
+use Rattle.std.proofs.Common.{◌≡◌, ℕ, true, refl, sym, ap, subst, arith}
+use Rattle.mtapi_values.specs.Attributes.{NodeSettings}
+use Rattle.mtapi_machine.specs.declared.ops.Op.{Op}
+use Rattle.mtapi_machine.specs.declared.ops.Op.TheVariants as op
+use Rattle.mtapi_machine.specs.declared.replies.Reply.{Reply}
+use Rattle.mtapi_machine.specs.State.{State}
+use Rattle.mtapi_machine.specs.Row.{after_row}
+use Rattle.mtapi_machine.specs.Rows.{row}
+use Rattle.mtapi_machine.specs.Legal.{IsHonest}
+use Rattle.node_resources.specs.declared.gate.Gate.{Gate}
+use Rattle.node_resources.specs.Holds.{ResourceTable, HoldsAll, resource_lists}
+use Rattle.node_resources.specs.Steps.{Does, Steps as ResourceSteps, is_resource_op}
+use Rattle.node_steps.specs.declared.node.Node.{Node}
+use Rattle.node_steps.specs.Stands.{Lists, Live, Steps, state_of}
+
+-- a seat tells nothing with such an op that it could not know
+honest : (o : Op) → is_resource_op o ≡ true → IsHonest o
+honest (op.Finish task done) e = absurd (cc)
+honest _ e = tt
+
+-- a step of the resources is one of the node
+pub carries : (n : Node) (l : Lists) (who : ℕ) (o : Op) (r : Reply) (g : Gate) (new : ResourceTable) → Live n l → is_resource_op o ≡ true → g.phase ≡ n.core.phase → g.workers ≡ n.board.settings.workers → ResourceSteps n.resources g who o r new → Steps n l who o r (record n { resources = new })
+carries n l who o r g new v is phase workers s = (
+  record l { resources = resource_lists (after_row (state_of n l) (row (state_of n l) who o r)) },
+  record {
+    allowed = d.allowed;
+    leads = d.others;
+    live = record {
+      actions = v.actions;
+      tasks = v.tasks;
+      groups = v.groups;
+      queues = v.queues;
+      resources = subst (λ (a : NodeSettings). HoldsAll a new (resource_lists (after_row (state_of n l) (row (state_of n l) who o r)))) (ap (λ (x : State). x.terms.settings) d.others) d.stands;
+    };
+    terms = refl;
+    starts = omega arith;
+    honest = honest o is;
+  },
+)
+  where
+    d : Does (state_of n l) who o r new
+    d = s (state_of n l) (record { layout = refl; phase = sym phase; workers = sym workers }) v.resources

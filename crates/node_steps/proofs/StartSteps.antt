@@ -1,0 +1,183 @@
+-- Why a new task is refused, from what the actions of its job cover.
+use Rattle.std.proofs.Common.{◌≡◌, ℕ, zero, suc, ◌<◌, Bool, true, false, not, cond, List, [], ◌∷◌, Option, Some, None, refl, sym, ◌∙◌, arith, ap}
+use Rattle.std.specs.Prelude.{◌&&◌, nat_lt, is_some, is_none, ℤ, ◌||◌, IsSome}
+use Rattle.std.specs.Option.{option_map}
+use Rattle.std.proofs.lemmas.Bool.Decides.{nat_tests}
+use Rattle.mtapi_values.specs.declared.masks.Mask.{Mask}
+use Rattle.mtapi_values.specs.declared.handles.GroupHandle.{GroupHandle}
+use Rattle.mtapi_values.specs.declared.statuses.MtapiStatus.{MtapiStatus}
+use Rattle.mtapi_values.specs.declared.statuses.MtapiStatus.TheVariants as m
+use Rattle.mtapi_values.specs.Conditions.{first, holds}
+use Rattle.mtapi_values.specs.Masks.{in_mask}
+use Rattle.handle_pool.specs.Slots.{Slots, slot_value}
+use Rattle.handle_pool.specs.Issued.{Listed, live_of, live_object, any_listed, any_live}
+use Rattle.handle_pool.proofs.AnswerLemmas.{any-none, any-live}
+use Rattle.mtapi_objects.specs.Actions.{Action, has_enabled_job, is_eligible, some_below, has_worker}
+use Rattle.job_table.specs.Answers.{Covers, IsUnion, runs_job_on}
+use Rattle.job_table.specs.declared.cover.Cover.{Cover}
+use Rattle.job_table.specs.declared.cover.Cover.TheVariants.{NoAction, AllDisabled, Cores}
+use Rattle.mtapi_objects.specs.Groups.{new_group}
+use Rattle.group_core.specs.Members.{Members}
+use Rattle.task_board.specs.Members.{names_dead, MayJoin}
+use Rattle.task_board.proofs.MappedLemmas.{value-mapped}
+use Rattle.mtapi_machine.specs.TaskRows.{asked_for, start_refusals, number_of, is_detached_member}
+use Rattle.node_steps.specs.declared.node.Node.{Node}
+use Rattle.node_steps.specs.Stands.{Lists, Holds, Live, state_of}
+use Rattle.node_steps.proofs.ActionSteps.{covers_none, covers_some, enabled_none, enabled_some}
+
+pub false≢true : {P : Type 0} → false ≡ true → P
+false≢true h = absurd (cc)
+
+pub and_true : (a b : Bool) → a ≡ true → b ≡ true → (a && b) ≡ true
+and_true a b x y = λ i. x i && y i
+
+pub and_left : (a b : Bool) → (a && b) ≡ true → a ≡ true
+and_left true b e = refl
+and_left false b e = e
+
+pub and_right : (a b : Bool) → (a && b) ≡ true → b ≡ true
+and_right true b e = e
+and_right false b e = absurd (cc)
+
+pub below_same : (n : ℕ) (p q : ℕ → Bool) → ((w : ℕ) → w < n → p w ≡ q w) → some_below n p ≡ some_below n q
+below_same zero p q k = refl
+below_same (suc n) p q k = λ i. cond (k n (omega arith) i) true (below_same n p q (λ w l. k w (omega arith)) i)
+
+-- a worker has an eligible action for a task exactly where the core is covered and in the task's mask
+
+pub eligible_in : (workers w job cores : ℕ) (a : Action) → w < workers → in_mask w cores ≡ true → runs_job_on job w a ≡ true → is_eligible workers w job cores a ≡ true
+eligible_in workers w job cores a l c r =
+    let below : nat_lt w workers ≡ true = grind (arith, nat_tests) in
+    and_true _ _ (and_true _ _ (and_true _ _ (and_left _ _ r) below) (and_right (has_enabled_job job a) _ r)) c
+
+pub runs_in : (workers w job cores : ℕ) (a : Action) → is_eligible workers w job cores a ≡ true → runs_job_on job w a ≡ true
+runs_in workers w job cores a e =
+    let core = and_left (has_enabled_job job a && nat_lt w workers && in_mask w a.cores) (in_mask w cores) e in
+    and_true _ _ (and_left _ _ (and_left (has_enabled_job job a && nat_lt w workers) (in_mask w a.cores) core)) (and_right (has_enabled_job job a && nat_lt w workers) (in_mask w a.cores) core)
+
+same_tests : (a b : Bool) → (a ≡ true → b ≡ true) → (b ≡ true → a ≡ true) → a ≡ b
+same_tests true true h k = refl
+same_tests true false h k = sym (h refl)
+same_tests false true h k = k refl
+same_tests false false h k = refl
+
+module _ (size turns : ℕ) (p : Slots Action) (l : List (Listed Action)) (job : ℕ) (mask : Mask) (s : Holds size turns p l) (u : IsUnion p job mask.0) where
+  has_in : (workers w cores : ℕ) → w < workers → any_live (is_eligible workers w job cores) (live_of l) ≡ (in_mask w mask.0 && in_mask w cores)
+  has_in workers w cores less = same_tests (any_listed (is_eligible workers w job cores) l) (in_mask w mask.0 && in_mask w cores) there back
+    where
+      there : any_listed (is_eligible workers w job cores) l ≡ true → (in_mask w mask.0 && in_mask w cores) ≡ true
+      there e = by_core (in_mask w mask.0) refl (in_mask w cores) refl
+        where
+          none_runs : in_mask w mask.0 ≡ false → any_listed (is_eligible workers w job cores) l ≡ false
+          none_runs off = any-none p l (is_eligible workers w job cores) s.stands (λ h a g q. u.uncovered w off h a g (runs_in workers w job cores a q))
+
+          none_masked : in_mask w cores ≡ false → any_listed (is_eligible workers w job cores) l ≡ false
+          none_masked off = any-none p l (is_eligible workers w job cores) s.stands (λ h a g q. false≢true (sym off ∙ and_right (has_enabled_job job a && nat_lt w workers && in_mask w a.cores) (in_mask w cores) q))
+
+          by_core : (a : Bool) → in_mask w mask.0 ≡ a → (b : Bool) → in_mask w cores ≡ b → (a && b) ≡ true
+          by_core true x true y = refl
+          by_core true x false y = false≢true (sym (none_masked y) ∙ e)
+          by_core false x b y = false≢true (sym (none_runs x) ∙ e)
+
+      back : (in_mask w mask.0 && in_mask w cores) ≡ true → any_listed (is_eligible workers w job cores) l ≡ true
+      back e =
+          let a = u.covered w (and_left _ _ e) in
+          any-live p l (is_eligible workers w job cores) a.0 a.1 s.stands a.2 (eligible_in workers w job cores a.1 less (and_right (in_mask w mask.0) _ e) a.3)
+
+  pub covered_worker : (workers cores : ℕ) → has_worker workers job cores (live_of l) ≡ some_below workers (λ w. in_mask w mask.0 && in_mask w cores)
+  unfolding has_worker
+  covered_worker workers cores = below_same workers _ _ (λ w less. has_in workers w cores less)
+
+-- whether a new task names a group that isn't live
+group_live : (n : Node) (l : Lists) (h : ℕ) → Live n l → is_none (live_object l.groups h) ≡ is_none (slot_value n.board.groups.pool h)
+group_live n l h v = ap is_none (sym (v.groups.stands.found h) ∙ value-mapped (λ m. new_group) n.board.groups.pool h) ∙ by_value (slot_value n.board.groups.pool h)
+  where
+    by_value : (o : Option Members) → is_none (option_map (λ (m : Members). new_group) o) ≡ is_none o
+    by_value None = refl
+    by_value (Some m) = refl
+
+group_is : (n : Node) (l : Lists) (g : Option GroupHandle) → Live n l → holds (λ h. is_none (live_object l.groups h)) (number_of g) ≡ names_dead n.board.groups.pool (number_of g)
+group_is n l None v = refl
+group_is n l (Some g) v = group_live n l g.0 v
+
+-- the first of the four conditions that is met
+no_job : (a b c d : Bool) → a ≡ false → first ((not a, m.ErrJobInvalid) ∷ (b, m.ErrGroupInvalid) ∷ (not c, m.ErrActionDisabled) ∷ (not d, m.ErrNoCore) ∷ []) ≡ Some m.ErrJobInvalid
+no_job false b c d e = refl
+no_job true b c d e = absurd (cc)
+
+no_group : (a b c d : Bool) → a ≡ true → b ≡ true → first ((not a, m.ErrJobInvalid) ∷ (b, m.ErrGroupInvalid) ∷ (not c, m.ErrActionDisabled) ∷ (not d, m.ErrNoCore) ∷ []) ≡ Some m.ErrGroupInvalid
+no_group true true c d e f = refl
+no_group true false c d e f = absurd (cc)
+no_group false b c d e f = absurd (cc)
+
+none_enabled : (a b c d : Bool) → a ≡ true → b ≡ false → c ≡ false → first ((not a, m.ErrJobInvalid) ∷ (b, m.ErrGroupInvalid) ∷ (not c, m.ErrActionDisabled) ∷ (not d, m.ErrNoCore) ∷ []) ≡ Some m.ErrActionDisabled
+none_enabled true false false d e f g = refl
+none_enabled true false true d e f g = absurd (cc)
+none_enabled true true c d e f g = absurd (cc)
+none_enabled false b c d e f g = absurd (cc)
+
+no_core : (a b c d : Bool) → a ≡ true → b ≡ false → c ≡ true → d ≡ false → first ((not a, m.ErrJobInvalid) ∷ (b, m.ErrGroupInvalid) ∷ (not c, m.ErrActionDisabled) ∷ (not d, m.ErrNoCore) ∷ []) ≡ Some m.ErrNoCore
+no_core true false true false e f g h = refl
+no_core true false true true e f g h = absurd (cc)
+no_core true false false d e f g h = absurd (cc)
+no_core true true c d e f g h = absurd (cc)
+no_core false b c d e f g h = absurd (cc)
+
+not_refused : (a b c d : Bool) → a ≡ true → b ≡ false → c ≡ true → d ≡ true → first ((not a, m.ErrJobInvalid) ∷ (b, m.ErrGroupInvalid) ∷ (not c, m.ErrActionDisabled) ∷ (not d, m.ErrNoCore) ∷ []) ≡ None
+not_refused true false true true e f g h = refl
+not_refused true false true false e f g h = absurd (cc)
+not_refused true false false d e f g h = absurd (cc)
+not_refused true true c d e f g h = absurd (cc)
+not_refused false b c d e f g h = absurd (cc)
+
+module _ (n : Node) (l : Lists) (job : ℕ) (args : List ℤ) (priority : ℕ) (cores : Mask) (detached : Bool) (group : Option GroupHandle) (v : Live n l) where
+  abbrev refusals : Option MtapiStatus
+  refusals = first (start_refusals (state_of n l) (asked_for job args priority cores detached group))
+
+  abbrev workers : ℕ
+  workers = n.board.settings.workers
+
+  pub refused_job : Covers n.board.actions job NoAction → refusals ≡ Some m.ErrJobInvalid
+  refused_job c = no_job _ _ _ _ (covers_none _ _ n.board.actions l.actions job v.actions c)
+
+  pub refused_group : (c : Cover) → Covers n.board.actions job c → (c ≡ NoAction → ⊥) → names_dead n.board.groups.pool (number_of group) ≡ true → refusals ≡ Some m.ErrGroupInvalid
+  refused_group c h k g = no_group _ _ _ _ (covers_some _ _ n.board.actions l.actions job c v.actions h k) (group_is n l group v ∙ g)
+
+  pub refused_disabled : Covers n.board.actions job AllDisabled → names_dead n.board.groups.pool (number_of group) ≡ false → refusals ≡ Some m.ErrActionDisabled
+  refused_disabled h g = none_enabled _ _ _ _ (covers_some _ _ n.board.actions l.actions job AllDisabled v.actions h apart) (group_is n l group v ∙ g) (enabled_none _ _ n.board.actions l.actions job v.actions h)
+    where
+      apart : AllDisabled ≡ NoAction → ⊥
+      apart d = cc
+
+  covered : (mask : Mask) → Cores mask ≡ NoAction → ⊥
+  covered mask d = cc
+
+  pub refused_core : (mask : Mask) → Covers n.board.actions job (Cores mask) → names_dead n.board.groups.pool (number_of group) ≡ false → some_below workers (λ w. in_mask w mask.0 && in_mask w cores.0) ≡ false → refusals ≡ Some m.ErrNoCore
+  refused_core mask h g w =
+      no_core _ _ _ _ (covers_some _ _ n.board.actions l.actions job (Cores mask) v.actions h (covered mask)) (group_is n l group v ∙ g) (enabled_some _ _ n.board.actions l.actions job mask v.actions h)
+      (covered_worker _ _ n.board.actions l.actions job mask v.actions h.1 workers cores.0 ∙ w)
+
+  pub refused_none : (mask : Mask) → Covers n.board.actions job (Cores mask) → names_dead n.board.groups.pool (number_of group) ≡ false → some_below workers (λ w. in_mask w mask.0 && in_mask w cores.0) ≡ true → refusals ≡ None
+  refused_none mask h g w =
+      not_refused _ _ _ _ (covers_some _ _ n.board.actions l.actions job (Cores mask) v.actions h (covered mask)) (group_is n l group v ∙ g) (enabled_some _ _ n.board.actions l.actions job mask v.actions h)
+      (covered_worker _ _ n.board.actions l.actions job mask v.actions h.1 workers cores.0 ∙ w)
+
+pub disabled_not_none : AllDisabled ≡ NoAction → ⊥
+disabled_not_none d = cc
+
+pub cores_not_none : (mask : Mask) → Cores mask ≡ NoAction → ⊥
+cores_not_none mask d = cc
+
+-- a task that isn't refused may name its group
+pub may_join : (n : Node) (priority : Bool) (detached : Bool) (group : Option GroupHandle) → (priority || is_detached_member detached group) ≡ false → names_dead n.board.groups.pool (number_of group) ≡ false → MayJoin n.board.groups.pool detached (number_of group)
+may_join n p detached None w d = tt
+may_join n p detached (Some g) w d = (some-of (slot_value n.board.groups.pool g.0) d, by_detached p detached w)
+  where
+    some-of : {A : Type 0} (o : Option A) → is_none o ≡ false → IsSome o
+    some-of None e = false≢true (sym e)
+    some-of (Some x) e = refl
+
+    by_detached : (a b : Bool) → (a || (b && true)) ≡ false → b ≡ false
+    by_detached a false e = refl
+    by_detached true true e = e
+    by_detached false true e = e

@@ -1,0 +1,41 @@
+-- Whether a task hasn't ended, by their number.
+use Rattle.std.proofs.Common.{◌≡◌, ℕ, ◌+◌, Bool, true, false, not, cond, List, [], ◌∷◌, refl, sym, ◌∙◌, ap, arith}
+use Rattle.std.specs.Prelude.{◌&&◌, ◌==◌}
+use Rattle.std.proofs.lemmas.Bool.Decides.{nat_tests}
+use Rattle.handle_pool.specs.Issued.{Listed, live_of, any_listed, any_live, count_listed}
+use Rattle.handle_pool.proofs.AnswerLemmas.{count-slots}
+use Rattle.mtapi_objects.specs.Tasks.{is_unended}
+use Rattle.task_core.specs.Table.{unended_count}
+use Rattle.mtapi_machine.specs.State.{is_past_open}
+use Rattle.mtapi_machine.specs.State.{is_stop}
+use Rattle.node_steps.specs.declared.node.Node.{Node}
+use Rattle.node_steps.specs.Stands.{Lists, Live, state_of}
+
+-- some object passes exactly where they are more than none
+any-count : {T : Type 0} (q : T → Bool) (l : List (Listed T)) → any_listed q l ≡ not (count_listed q l == 0)
+unfolding live_of
+any-count q [] = refl
+any-count q (r ∷ rs) = by_live r.live (any-count q rs)
+  where
+    more : (n : ℕ) → not (1 + n == 0) ≡ true
+    more n = grind (arith, nat_tests)
+
+    less : (n : ℕ) → not (0 + n == 0) ≡ not (n == 0)
+    less n = grind (arith, nat_tests)
+
+    by_test : (b : Bool) → any_listed q rs ≡ not (count_listed q rs == 0) → cond b true (any_listed q rs) ≡ not (cond b 1 0 + count_listed q rs == 0)
+    by_test true e = sym (more (count_listed q rs))
+    by_test false e = e ∙ sym (less (count_listed q rs))
+
+    by_live : (a : Bool) → any_listed q rs ≡ not (count_listed q rs == 0) → any_live q (cond a ((r.handle, r.fields) ∷ live_of rs) (live_of rs)) ≡ not (cond (a && q r.fields) 1 0 + count_listed q rs == 0)
+    by_live true e = by_test (q r.fields) e
+    by_live false e = e ∙ sym (less (count_listed q rs))
+
+pub stop_told : (n : Node) (l : Lists) (k : ℕ) → Live n l → k ≡ unended_count n.board.tasks.pool → is_stop (state_of n l) ≡ (is_past_open n.core.phase && (k == 0))
+stop_told n l k v e =
+    let some = any-count is_unended l.tasks ∙ ap (λ (m : ℕ). not (m == 0)) (count-slots n.board.tasks.pool l.tasks is_unended v.tasks.stands ∙ sym e) in
+    ap (λ (b : Bool). is_past_open n.core.phase && not b) some ∙ ap (λ (b : Bool). is_past_open n.core.phase && b) (twice (k == 0))
+  where
+    twice : (b : Bool) → not (not b) ≡ b
+    twice true = refl
+    twice false = refl

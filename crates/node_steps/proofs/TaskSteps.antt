@@ -1,0 +1,202 @@
+-- The ops on tasks are steps of the machine.
+use Rattle.std.proofs.Common.{◌≡◌, ℕ, ◌+◌, ◌≤◌, Bool, true, false, not, cond, List, Option, Some, None, Result, Ok, Err, refl, sym, ◌∙◌, ap, subst, arith}
+use Rattle.std.specs.Prelude.{◌||◌, nat_lt, is_some, is_none, ℤ}
+use Rattle.std.specs.Option.{option_map}
+use Rattle.mtapi_values.specs.declared.kinds.Kind.{Kind}
+use Rattle.mtapi_values.specs.declared.masks.Mask.{Mask}
+use Rattle.mtapi_values.specs.declared.handles.TaskHandle.{TaskHandle}
+use Rattle.mtapi_values.specs.declared.handles.GroupHandle.{GroupHandle}
+use Rattle.mtapi_values.specs.declared.statuses.MtapiStatus.{MtapiStatus}
+use Rattle.mtapi_values.specs.declared.statuses.MtapiStatus.TheVariants as m
+use Rattle.mtapi_values.specs.declared.ends.TaskEnd.{TaskEnd}
+use Rattle.mtapi_values.specs.declared.ends.TaskEnd.TheVariants.{Cancelled}
+use Rattle.mtapi_values.specs.Conditions.{first}
+use Rattle.handle_pool.specs.Slots.{Slots, slot_value, IsFull, Inserts, with_value, without, changed}
+use Rattle.handle_pool.specs.Issued.{Listed, change, issue, update, retire}
+use Rattle.mtapi_objects.specs.Tasks.{Task, TaskState, Scheduled, Running, Ended, NewTask, new_task, end_of, ended, with_notes, cancel_requested, with_waiter, task_look_refusals}
+use Rattle.task_core.specs.Records.{shown_state}
+use Rattle.task_core.specs.Answers.{look_reply, look_at_end, look_unless, waiter_after}
+use Rattle.task_core.specs.Table.{TaskTable, Adds, ended_in, looked_in}
+use Rattle.task_core.specs.declared.states.TaskLook.{TaskLook}
+use Rattle.task_core.specs.declared.states.TaskLook.TheVariants as look
+use Rattle.task_core.specs.declared.states.TaskState.{TaskState as ShownState}
+use Rattle.task_core.specs.declared.states.TaskState.TheVariants as shown
+use Rattle.mtapi_machine.specs.declared.ops.Op.{Op}
+use Rattle.mtapi_machine.specs.declared.ops.Op.TheVariants as op
+use Rattle.mtapi_machine.specs.declared.replies.Reply.{Reply}
+use Rattle.mtapi_machine.specs.declared.replies.Reply.TheVariants as reply
+use Rattle.mtapi_machine.specs.State.{State, is_open, is_up}
+use Rattle.mtapi_machine.specs.Rows.{row}
+use Rattle.mtapi_machine.specs.TaskRows.{asked_for, start_refusals, is_detached_member, looks_at, cancels}
+use Rattle.mtapi_machine.specs.Legal.{IsHonest}
+use Rattle.node_steps.specs.declared.node.Node.{Node}
+use Rattle.node_steps.specs.Stands.{Lists, Holds, Live, Steps, state_of}
+use Rattle.node_steps.proofs.Gives.{Gives, gives_this, allows, met, past, met_in, past_all, at_some, at_none, steps, stays}
+use Rattle.node_steps.proofs.Moves.{found, full_list, room_in, may_be, holds_insert, holds_changed, holds_update, holds_remove}
+use Rattle.node_steps.proofs.Changes.{holds_ended}
+use Rattle.node_steps.proofs.ActionSteps.{not_true}
+
+-- a step that changes the tasks alone
+pub task_steps : (n : Node) (l : Lists) (q : TaskTable) (k : List (Listed Task)) (who : ℕ) (o : Op) (r : Reply) → Live n l → Gives (state_of n l) (row (state_of n l) who o r) r (state_of (record n { board = record n.board { tasks = q } }) (record l { tasks = k })) → Holds n.board.settings.tasks n.board.settings.generations q.pool k → q.starts ≤ n.board.tasks.starts + 1 → IsHonest o → Steps n l who o r (record n { board = record n.board { tasks = q } })
+task_steps n l q k who o r v g h b i = steps n (record n { board = record n.board { tasks = q } }) l (record l { tasks = k }) who o r g (record { actions = v.actions; tasks = h; groups = v.groups; queues = v.queues; resources = v.resources }) refl b i
+
+-- the tasks with other slots
+abbrev pub with_pool : Node → Slots Task → TaskTable
+with_pool n p = record n.board.tasks { pool = p }
+
+-- the same step, of a node that is told to be so
+pub reported : (n : Node) (l : Lists) (q x : TaskTable) (who : ℕ) (o : Op) (r : Reply) → q ≡ x → Steps n l who o r (record n { board = record n.board { tasks = x } }) → Steps n l who o r (record n { board = record n.board { tasks = q } })
+reported n l q x who o r e s = subst (λ (p : TaskTable). Steps n l who o r (record n { board = record n.board { tasks = p } })) (sym e) s
+
+-- Starting
+
+-- what an add is answered
+abbrev pub add_reply : Result TaskHandle MtapiStatus → Reply
+add_reply (Ok t) = reply.Handle t.0
+add_reply (Err c) = reply.Mtapi c
+
+module _ (n : Node) (l : Lists) (who job : ℕ) (args : List ℤ) (priority : ℕ) (cores : Mask) (detached : Bool) (group : Option GroupHandle) (v : Live n l) (up : is_open n.core.phase ≡ true) where
+  abbrev asks : NewTask
+  asks = asked_for job args priority cores detached group
+
+  abbrev start : Op
+  start = op.TaskStart job args priority cores detached group
+
+  abbrev wrong : Bool
+  wrong = not (nat_lt priority n.board.settings.priorities) || is_detached_member detached group
+
+  pub start_wrong : wrong ≡ true → Steps n l who start (reply.Mtapi m.ErrParameter) n
+  start_wrong w = stays n l who start (reply.Mtapi m.ErrParameter) v tt (past _ _ _ _ _ _ (not_true _ up) (met _ _ _ _ w))
+
+  pub start_refused : (c : MtapiStatus) → wrong ≡ false → first (start_refusals (state_of n l) asks) ≡ Some c → Steps n l who start (reply.Mtapi c) n
+  start_refused c w f = stays n l who start (reply.Mtapi c) v tt (past _ _ _ _ _ _ (not_true _ up) (past _ _ _ _ _ _ w (met_in _ (start_refusals (state_of n l) asks) c _ f)))
+
+  start_full : wrong ≡ false → first (start_refusals (state_of n l) asks) ≡ None → IsFull n.board.tasks.pool → Steps n l who start (reply.Mtapi m.ErrTaskLimit) n
+  start_full w f full =
+      stays n l who start (reply.Mtapi m.ErrTaskLimit) v tt
+      (past _ _ _ _ _ _ (not_true _ up) (past _ _ _ _ _ _ w (past_all _ _ (start_refusals (state_of n l) asks) _ _ f (met _ _ _ _ (full_list _ _ n.board.tasks.pool l.tasks v.tasks full)))))
+
+  start_made : (q : TaskTable) (h : ℕ) → wrong ≡ false → first (start_refusals (state_of n l) asks) ≡ None → (IsFull n.board.tasks.pool → ⊥) → Inserts n.board.tasks.pool q.pool h (new_task asks n.board.tasks.starts) → q.starts ≡ n.board.tasks.starts + 1 → q.ends ≡ n.board.tasks.ends → Steps n l who start (reply.Handle h) (record n { board = record n.board { tasks = q } })
+  start_made q h w f room i s e =
+      task_steps n l q (issue h (new_task asks n.board.tasks.starts) l.tasks) who start (reply.Handle h) v
+      (subst (λ (t : State). Gives (state_of n l) (row (state_of n l) who start (reply.Handle h)) (reply.Handle h) t) counts issued)
+      (holds_insert _ _ n.board.tasks.pool q.pool l.tasks h (new_task asks n.board.tasks.starts) v.tasks i) (omega arith) tt
+    where
+      counts : record (state_of n l) { tasks = issue h (new_task asks n.board.tasks.starts) l.tasks; starts = n.board.tasks.starts + 1 } ≡ state_of (record n { board = record n.board { tasks = q } }) (record l { tasks = issue h (new_task asks n.board.tasks.starts) l.tasks })
+      counts j = record (state_of n l) { tasks = issue h (new_task asks n.board.tasks.starts) l.tasks; starts = sym s j; ends = sym e j }
+
+      issued : Gives (state_of n l) (row (state_of n l) who start (reply.Handle h)) (reply.Handle h) (record (state_of n l) { tasks = issue h (new_task asks n.board.tasks.starts) l.tasks; starts = n.board.tasks.starts + 1 })
+      issued =
+          past _ _ _ _ _ _ (not_true _ up) (past _ _ _ _ _ _ w (past_all _ _ (start_refusals (state_of n l) asks) _ _ f (past _ _ _ _ _ _ (room_in _ _ n.board.tasks.pool l.tasks v.tasks room)
+          (allows _ _ _ _ _ (may_be _ _ n.board.tasks.pool q.pool l.tasks h _ v.tasks i) (gives_this _ _ _)))))
+
+  start_failed : (q : TaskTable) (c : MtapiStatus) → wrong ≡ false → first (start_refusals (state_of n l) asks) ≡ None → Adds n.board.tasks asks (Err c) q → Steps n l who start (reply.Mtapi c) (record n { board = record n.board { tasks = q } })
+  start_failed q m.ErrTaskLimit w f a = reported n l q n.board.tasks who start _ a.1 (start_full w f a.0)
+  start_failed q x w f a = absurd a
+
+  pub start_steps : (q : TaskTable) (x : Result TaskHandle MtapiStatus) → wrong ≡ false → first (start_refusals (state_of n l) asks) ≡ None → Adds n.board.tasks asks x q → Steps n l who start (add_reply x) (record n { board = record n.board { tasks = q } })
+  start_steps q (Ok t) w f a = start_made q t.0 w f a.0 a.1 a.2 a.3
+  start_steps q (Err c) w f a = start_failed q c w f a
+
+-- Looking
+
+abbrev pub look_said : TaskLook → Reply
+look_said (look.Ended e) = reply.Ended e
+look_said look.Pending = reply.Pending
+look_said (look.Refused c) = reply.Mtapi c
+
+module _ (n : Node) (l : Lists) (who : ℕ) (t : TaskHandle) (last : Bool) (v : Live n l) (up : is_up n.core.phase ≡ true) where
+  abbrev looks : Op
+  looks = op.TaskLook t last
+
+  -- a look that isn't refused, at a task in this state
+  looked : (x : Task) (s : TaskState) (r : Reply) (p : Slots Task) (k : List (Listed Task)) → slot_value n.board.tasks.pool t.0 ≡ Some x → first (task_look_refusals who x) ≡ None → x.state ≡ s → Gives (state_of n l) (looks_at who t.0 last s) r (record (state_of n l) { tasks = k }) → Holds n.board.settings.tasks n.board.settings.generations p k → Steps n l who looks r (record n { board = record n.board { tasks = with_pool n p } })
+  looked x s r p k g f e w h =
+      task_steps n l (with_pool n p) k who looks r v
+      (past _ _ _ _ _ _ (not_true _ up) (at_some _ _ _ x _ _ _ (found _ _ n.board.tasks.pool l.tasks t.0 (Some x) v.tasks g) (past_all _ _ (task_look_refusals who x) _ _ f
+      (subst (λ (y : TaskState). Gives (state_of n l) (looks_at who t.0 last y) r (record (state_of n l) { tasks = k })) (sym e) w))))
+      h (omega arith) tt
+
+  look_refused : (x : Task) (c : MtapiStatus) → slot_value n.board.tasks.pool t.0 ≡ Some x → first (task_look_refusals who x) ≡ Some c → Steps n l who looks (reply.Mtapi c) n
+  look_refused x c g f =
+      stays n l who looks (reply.Mtapi c) v tt
+      (past _ _ _ _ _ _ (not_true _ up) (at_some _ _ _ x _ _ _ (found _ _ n.board.tasks.pool l.tasks t.0 (Some x) v.tasks g) (met_in _ (task_look_refusals who x) c _ f)))
+
+  look_absent : slot_value n.board.tasks.pool t.0 ≡ None → Steps n l who looks (reply.Mtapi m.ErrTaskInvalid) n
+  look_absent g = stays n l who looks (reply.Mtapi m.ErrTaskInvalid) v tt (past _ _ _ _ _ _ (not_true _ up) (at_none _ _ _ _ (found _ _ n.board.tasks.pool l.tasks t.0 None v.tasks g)))
+
+-- a look at a task that hasn't ended: the last one, and an earlier one
+waited : (n : Node) (l : Lists) (who : ℕ) (t : TaskHandle) (last : Bool) (v : Live n l) (up : is_up n.core.phase ≡ true) (x : Task) (s : TaskState) → slot_value n.board.tasks.pool t.0 ≡ Some x → first (task_look_refusals who x) ≡ None → x.state ≡ s → end_of s ≡ None → Steps n l who (op.TaskLook t last) (look_said (look_at_end None last)) (record n { board = record n.board { tasks = with_pool n (with_value n.board.tasks.pool t.0 (with_notes (with_waiter (waiter_after who last)) x)) } })
+waited n l who t true v up x Scheduled g f e d = looked n l who t true v up x Scheduled _ _ (update t.0 (with_notes (with_waiter None)) l.tasks) g f e (gives_this _ _ _) (holds_update _ _ n.board.tasks.pool l.tasks t.0 (with_notes (with_waiter None)) x v.tasks g)
+waited n l who t false v up x Scheduled g f e d = looked n l who t false v up x Scheduled _ _ (update t.0 (with_notes (with_waiter (Some who))) l.tasks) g f e (gives_this _ _ _) (holds_update _ _ n.board.tasks.pool l.tasks t.0 (with_notes (with_waiter (Some who))) x v.tasks g)
+waited n l who t true v up x (Running w k) g f e d = looked n l who t true v up x (Running w k) _ _ (update t.0 (with_notes (with_waiter None)) l.tasks) g f e (gives_this _ _ _) (holds_update _ _ n.board.tasks.pool l.tasks t.0 (with_notes (with_waiter None)) x v.tasks g)
+waited n l who t false v up x (Running w k) g f e d = looked n l who t false v up x (Running w k) _ _ (update t.0 (with_notes (with_waiter (Some who))) l.tasks) g f e (gives_this _ _ _) (holds_update _ _ n.board.tasks.pool l.tasks t.0 (with_notes (with_waiter (Some who))) x v.tasks g)
+waited n l who t last v up x (Ended y k) g f e d = absurd (cc)
+
+look_found : (n : Node) (l : Lists) (who : ℕ) (t : TaskHandle) (last : Bool) (v : Live n l) (up : is_up n.core.phase ≡ true) (x : Task) (s : TaskState) → slot_value n.board.tasks.pool t.0 ≡ Some x → first (task_look_refusals who x) ≡ None → x.state ≡ s →
+    Steps n l who (op.TaskLook t last) (look_said (look_at_end (end_of s) last)) (record n { board = record n.board { tasks = with_pool n (cond (is_none (end_of s)) (with_value n.board.tasks.pool t.0 (with_notes (with_waiter (waiter_after who last)) x)) (without n.board.tasks.pool t.0)) } })
+look_found n l who t last v up x Scheduled g f e = waited n l who t last v up x Scheduled g f e refl
+look_found n l who t last v up x (Running w k) g f e = waited n l who t last v up x (Running w k) g f e refl
+look_found n l who t last v up x (Ended y k) g f e = looked n l who t last v up x (Ended y k) _ _ (retire t.0 l.tasks) g f e (gives_this _ _ _) (holds_remove _ _ n.board.tasks.pool l.tasks t.0 x v.tasks g)
+
+look_live : (n : Node) (l : Lists) (who : ℕ) (t : TaskHandle) (last : Bool) (v : Live n l) (up : is_up n.core.phase ≡ true) (x : Task) (f : Option MtapiStatus) → slot_value n.board.tasks.pool t.0 ≡ Some x → first (task_look_refusals who x) ≡ f →
+    Steps n l who (op.TaskLook t last) (look_said (look_unless f (look_at_end (end_of x.state) last)))
+    (record n { board = record n.board { tasks = with_pool n (cond (is_some f) n.board.tasks.pool (cond (is_none (end_of x.state)) (with_value n.board.tasks.pool t.0 (with_notes (with_waiter (waiter_after who last)) x)) (without n.board.tasks.pool t.0))) } })
+look_live n l who t last v up x (Some c) g f = look_refused n l who t last v up x c g f
+look_live n l who t last v up x None g f = look_found n l who t last v up x x.state g f refl
+
+look_steps : (n : Node) (l : Lists) (who : ℕ) (t : TaskHandle) (last : Bool) (v : Live n l) (up : is_up n.core.phase ≡ true) (o : Option Task) → slot_value n.board.tasks.pool t.0 ≡ o →
+    Steps n l who (op.TaskLook t last) (look_said (look_reply who last o)) (record n { board = record n.board { tasks = with_pool n (looked_in n.board.tasks.pool t.0 who last o) } })
+look_steps n l who t last v up None g = look_absent n l who t last v up g
+look_steps n l who t last v up (Some x) g = look_live n l who t last v up x (first (task_look_refusals who x)) g refl
+
+-- what the tasks told of a look
+pub look_told : (n : Node) (l : Lists) (who : ℕ) (t : TaskHandle) (last : Bool) (q : TaskTable) (x : TaskLook) → Live n l → is_up n.core.phase ≡ true → x ≡ look_reply who last (slot_value n.board.tasks.pool t.0) → q ≡ with_pool n (looked_in n.board.tasks.pool t.0 who last (slot_value n.board.tasks.pool t.0)) → Steps n l who (op.TaskLook t last) (look_said x) (record n { board = record n.board { tasks = q } })
+look_told n l who t last q x v up e d =
+    reported n l q _ who _ _ d (subst (λ (y : TaskLook). Steps n l who (op.TaskLook t last) (look_said y) (record n { board = record n.board { tasks = with_pool n (looked_in n.board.tasks.pool t.0 who last (slot_value n.board.tasks.pool t.0)) } })) (sym e) (look_steps n l who t last v up (slot_value n.board.tasks.pool t.0) refl))
+
+-- Ending
+
+-- the tasks once one has ended
+abbrev pub ended_tasks : Node → ℕ → TaskEnd → Option Task → TaskTable
+ended_tasks n h e o = record n.board.tasks { pool = ended_in n.board.tasks.pool h e n.board.tasks.ends o; ends = n.board.tasks.ends + 1 }
+
+-- a row that ends one live task
+pub end_steps : (n : Node) (l : Lists) (who : ℕ) (o : Op) (r : Reply) (h : ℕ) (e : TaskEnd) (x : Task) → Live n l → slot_value n.board.tasks.pool h ≡ Some x → IsHonest o → Gives (state_of n l) (row (state_of n l) who o r) r (record (state_of n l) { tasks = change h (ended e n.board.tasks.ends) l.tasks; ends = n.board.tasks.ends + 1 }) → Steps n l who o r (record n { board = record n.board { tasks = ended_tasks n h e (Some x) } })
+end_steps n l who o r h e x v g i w = task_steps n l (ended_tasks n h e (Some x)) (change h (ended e n.board.tasks.ends) l.tasks) who o r v w (holds_ended _ _ n.board.tasks.pool l.tasks h e n.board.tasks.ends x v.tasks g) (omega arith) i
+
+-- a task of this state shows it
+state_found : (o : Option Task) (y : ShownState) → Some y ≡ option_map (λ (t : Task). shown_state t.state) o → (x : Task) × (o ≡ Some x) × (y ≡ shown_state x.state)
+state_found None y e = absurd (cc)
+state_found (Some x) y e = (x, refl, cc)
+
+shown_scheduled : (s : TaskState) → shown.Scheduled ≡ shown_state s → s ≡ Scheduled
+shown_scheduled Scheduled e = refl
+shown_scheduled (Running w k) e = absurd (cc)
+shown_scheduled (Ended y k) e = absurd (cc)
+
+shown_running : (s : TaskState) (w : ℕ) (k : Kind) → shown.Running w k ≡ shown_state s → s ≡ Running w k
+shown_running Scheduled w k e = absurd (cc)
+shown_running (Running a b) w k e = cc
+shown_running (Ended y n) w k e = absurd (cc)
+
+cancel_at : (n : Node) (l : Lists) (who : ℕ) (t : TaskHandle) (x : Task) (s : TaskState) (w : State) → Live n l → is_up n.core.phase ≡ true → slot_value n.board.tasks.pool t.0 ≡ Some x → x.state ≡ s → Gives (state_of n l) (cancels t.0 s) reply.Ok w → Gives (state_of n l) (row (state_of n l) who (op.TaskCancel t) reply.Ok) reply.Ok w
+cancel_at n l who t x s w v up g e y =
+    past _ _ _ _ _ _ (not_true _ up) (at_some _ _ _ x _ _ _ (found _ _ n.board.tasks.pool l.tasks t.0 (Some x) v.tasks g)
+    (subst (λ (z : TaskState). Gives (state_of n l) (cancels t.0 z) reply.Ok w) (sym e) y))
+
+pub cancel_scheduled : (n : Node) (l : Lists) (who : ℕ) (t : TaskHandle) (q : TaskTable) → Live n l → is_up n.core.phase ≡ true → Some shown.Scheduled ≡ option_map (λ (x : Task). shown_state x.state) (slot_value n.board.tasks.pool t.0) → q ≡ ended_tasks n t.0 Cancelled (slot_value n.board.tasks.pool t.0) → Steps n l who (op.TaskCancel t) reply.Ok (record n { board = record n.board { tasks = q } })
+cancel_scheduled n l who t q v up e d =
+    let x = state_found (slot_value n.board.tasks.pool t.0) shown.Scheduled e in
+    let s = shown_scheduled x.0.state x.2 in
+    reported n l q (ended_tasks n t.0 Cancelled (Some x.0)) who _ _ (d ∙ ap (λ (o : Option Task). ended_tasks n t.0 Cancelled o) x.1)
+    (end_steps n l who (op.TaskCancel t) reply.Ok t.0 Cancelled x.0 v x.1 tt (cancel_at n l who t x.0 Scheduled _ v up x.1 s (gives_this _ _ _)))
+
+pub cancel_running : (n : Node) (l : Lists) (who : ℕ) (t : TaskHandle) (w : ℕ) (k : Kind) (q : TaskTable) → Live n l → is_up n.core.phase ≡ true → Some (shown.Running w k) ≡ option_map (λ (x : Task). shown_state x.state) (slot_value n.board.tasks.pool t.0) → q ≡ with_pool n (changed n.board.tasks.pool t.0 (with_notes cancel_requested)) → Steps n l who (op.TaskCancel t) reply.Ok (record n { board = record n.board { tasks = q } })
+cancel_running n l who t w k q v up e d =
+    let x = state_found (slot_value n.board.tasks.pool t.0) (shown.Running w k) e in
+    let s = shown_running x.0.state w k x.2 in
+    reported n l q _ who _ _ d
+    (task_steps n l (with_pool n (changed n.board.tasks.pool t.0 (with_notes cancel_requested))) (update t.0 (with_notes cancel_requested) l.tasks) who (op.TaskCancel t) reply.Ok v
+    (cancel_at n l who t x.0 (Running w k) _ v up x.1 s (gives_this _ _ _))
+    (holds_changed _ _ n.board.tasks.pool l.tasks t.0 (with_notes cancel_requested) v.tasks) (omega arith) tt)

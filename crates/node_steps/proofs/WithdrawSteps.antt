@@ -1,0 +1,206 @@
+-- An action that goes ends the tasks that no worker can take any more.
+use Rattle.std.proofs.Common.{◌≡◌, ℕ, ◌+◌, Bool, true, false, not, cond, List, [], ◌∷◌, Some, None, Ok, refl, sym, ◌∙◌, ap, subst, arith}
+use Rattle.std.specs.Prelude.{◌==◌, ◌&&◌}
+use Rattle.mtapi_values.specs.declared.ends.TaskEnd.{TaskEnd}
+use Rattle.mtapi_values.specs.declared.ends.TaskEnd.TheVariants.{Failed}
+use Rattle.mtapi_values.specs.declared.handles.ActionHandle.{ActionHandle}
+use Rattle.mtapi_values.specs.declared.statuses.MtapiStatus.{MtapiStatus}
+use Rattle.mtapi_values.specs.declared.statuses.MtapiStatus.TheVariants as m
+use Rattle.mtapi_values.specs.Masks.{in_mask}
+use Rattle.handle_pool.specs.Slots.{Slots, slot_value, without, changed}
+use Rattle.handle_pool.specs.Issued.{Listed, live_of, lookup, live_object, any_listed, count_listed, change, with_fields, gone}
+use Rattle.handle_pool.specs.Stands.{Distinct}
+use Rattle.handle_pool.proofs.AnswerLemmas.{any-live, any-some}
+use Rattle.handle_pool.proofs.LiveLemmas.{same_tests}
+use Rattle.mtapi_objects.specs.Actions.{Action, with_enabled, is_eligible, has_worker, some_below}
+use Rattle.mtapi_objects.specs.Tasks.{Task, is_unstarted, ended, end_each}
+use Rattle.job_table.specs.Answers.{job_of}
+use Rattle.task_core.specs.Table.{TaskTable}
+use Rattle.task_board.specs.Board.{BoardTable, Becomes}
+use Rattle.task_board.specs.Ends.{is_unserved, EndsUnserved}
+use Rattle.task_board.proofs.RemarkLemmas.{SameBut, same-changed, same-without}
+use Rattle.task_board.proofs.BoardLemmas.{job-found}
+use Rattle.mtapi_machine.specs.declared.ops.Op.{Op}
+use Rattle.mtapi_machine.specs.declared.ops.Op.TheVariants as op
+use Rattle.mtapi_machine.specs.declared.replies.Reply.TheVariants as reply
+use Rattle.mtapi_machine.specs.State.{State, is_open}
+use Rattle.mtapi_machine.specs.Moves.{withdraws, apply}
+use Rattle.mtapi_machine.specs.Rows.{row}
+use Rattle.mtapi_machine.specs.Legal.{IsHonest}
+use Rattle.node_steps.specs.declared.node.Node.{Node}
+use Rattle.node_steps.specs.Stands.{Lists, Holds, Live, Steps, state_of}
+use Rattle.node_steps.specs.Sound.{Sound}
+use Rattle.node_steps.proofs.Gives.{Gives, gives_this, past, at_some, steps}
+use Rattle.node_steps.proofs.Moves.{found, holds_changed, holds_remove}
+use Rattle.node_steps.proofs.ActionSteps.{not_true}
+use Rattle.node_steps.proofs.StartSteps.{and_left, and_right, below_same, runs_in, covered_worker}
+use Rattle.node_steps.proofs.ListedEnds.{both_pass}
+use Rattle.node_steps.proofs.WaitingEnds.{AtOnce, ends-at-once}
+
+some_same : {A : Type 0} {a b : A} → Some a ≡ Some b → a ≡ b
+some_same h = cc
+
+none_some : {A : Type 0} {P : Type 0} {a : A} → None ≡ Some a → P
+none_some h = absurd (cc)
+
+-- Two tests that agree on the live tasks of a list
+
+Agree : (Task → Bool) → (Task → Bool) → List (ℕ × Task) → Type 0
+Agree p q es = (h : ℕ) (t : Task) → lookup es h ≡ Some t → p t ≡ q t
+
+itself : (a : ℕ) → (a == a) ≡ true
+itself a = grind (arith)
+
+agree-behind : (p q : Task → Bool) (x : ℕ × Task) (es : List (ℕ × Task)) → lookup es x.0 ≡ None → Agree p q (x ∷ es) → Agree p q es
+unfolding Agree
+agree-behind p q x es none k h t g = k h t (by_handle (x.0 == h) refl)
+  where
+    by_handle : (b : Bool) → (x.0 == h) ≡ b → cond b (Some x.1) (lookup es h) ≡ Some t
+    by_handle true same = let is : x.0 ≡ h = grind (arith) in none_some (sym none ∙ ap (lookup es) is ∙ g)
+    by_handle false other = g
+
+-- on the object in front, and on those behind it
+agree-first : (p q : Task → Bool) (r : Listed Task) (rs : List (Listed Task)) → Distinct (live_of (r ∷ rs)) → Agree p q (live_of (r ∷ rs)) → ((r.live && p r.fields) ≡ (r.live && q r.fields)) × Distinct (live_of rs) × Agree p q (live_of rs)
+unfolding live_of Agree
+agree-first p q r rs d k = by_live r.live d k
+  where
+    by_live : (a : Bool) → Distinct (cond a ((r.handle, r.fields) ∷ live_of rs) (live_of rs)) → Agree p q (cond a ((r.handle, r.fields) ∷ live_of rs) (live_of rs)) → ((a && p r.fields) ≡ (a && q r.fields)) × Distinct (live_of rs) × Agree p q (live_of rs)
+    by_live true d k = (
+      k r.handle r.fields (ap (λ (b : Bool). cond b (Some r.fields) (lookup (live_of rs) r.handle)) (itself r.handle)),
+      d.1,
+      agree-behind p q (r.handle, r.fields) (live_of rs) d.0 k,
+    )
+    by_live false d k = (refl, d, k)
+
+same-ends : (p q : Task → Bool) (e : TaskEnd) (n : ℕ) (l : List (Listed Task)) → Distinct (live_of l) → Agree p q (live_of l) → end_each p e n l ≡ end_each q e n l
+unfolding end_each
+same-ends p q e n [] d k = refl
+same-ends p q e n (r ∷ rs) d k =
+    let f = agree-first p q r rs d k in
+    λ i. cond (f.0 i) (ended e n r ∷ same-ends p q e (n + 1) rs f.1 f.2 i) (r ∷ same-ends p q e n rs f.1 f.2 i)
+
+same-count : (p q : Task → Bool) (l : List (Listed Task)) → Distinct (live_of l) → Agree p q (live_of l) → count_listed p l ≡ count_listed q l
+same-count p q [] d k = refl
+same-count p q (r ∷ rs) d k =
+    let f = agree-first p q r rs d k in
+    λ i. cond (f.0 i) 1 0 + same-count p q rs f.1 f.2 i
+
+-- Which tasks a worker can take
+
+-- an action of a job serves its tasks alone
+eligible-job : (workers w job cores : ℕ) (a : Action) → is_eligible workers w job cores a ≡ true → a.job ≡ job
+eligible-job workers w job cores a e =
+    let r = runs_in workers w job cores a e in
+    let j : (a.job == job) ≡ true = and_right a.enabled (a.job == job) (and_left (a.enabled && (a.job == job)) (in_mask w a.cores) r) in
+    grind (arith)
+
+module _ (size turns : ℕ) (p q : Slots Action) (l others : List (Listed Action)) (job : ℕ) (s : Holds size turns p l) (z : Holds size turns q others) (same : SameBut job p q) where
+  serves : (workers w other cores : ℕ) → (other ≡ job → ⊥) → any_listed (is_eligible workers w other cores) others ≡ any_listed (is_eligible workers w other cores) l
+  serves workers w other cores d = same_tests _ _
+      (λ e.
+      let a = any-some q others (is_eligible workers w other cores) z.stands e in
+      any-live p l (is_eligible workers w other cores) a.0 a.1 s.stands (same.back a.0 a.1 (λ j. d (sym (eligible-job workers w other cores a.1 a.3) ∙ j)) a.2) a.3)
+      (λ e.
+      let a = any-some p l (is_eligible workers w other cores) s.stands e in
+      any-live q others (is_eligible workers w other cores) a.0 a.1 z.stands (same.there a.0 a.1 (λ j. d (sym (eligible-job workers w other cores a.1 a.3) ∙ j)) a.2) a.3)
+
+  -- the tasks of another job are served as before
+  pub served-as-before : (workers other cores : ℕ) → (other ≡ job → ⊥) → has_worker workers other cores (live_of others) ≡ has_worker workers other cores (live_of l)
+  unfolding has_worker
+  served-as-before workers other cores d = below_same workers _ _ (λ w less. serves workers w other cores d)
+
+-- the tasks that end are those that no worker can take any more
+left-agree : (size turns workers : ℕ) (p q : Slots Action) (l others : List (Listed Action)) (job : ℕ) (tasks : List (Listed Task)) (e : TaskEnd) (old new : TaskTable) → Holds size turns p l → Holds size turns q others → SameBut job p q → ((h : ℕ) (t : Task) → live_object tasks h ≡ Some t → is_unstarted t ≡ true → has_worker workers t.job t.cores (live_of l) ≡ true) → (u : EndsUnserved workers q job e old new) → Agree (both_pass (is_unserved workers job u.mask.0) e) (λ t. is_unstarted t && not (has_worker workers t.job t.cores (live_of others))) (live_of tasks)
+unfolding Agree
+left-agree size turns workers p q l others job tasks e old new s z same served u h t g = by_state (is_unstarted t) refl
+  where
+    by_job : is_unstarted t ≡ true → (b : Bool) → (t.job == job) ≡ b → (b && not (some_below workers (λ w. in_mask w u.mask.0 && in_mask w t.cores))) ≡ not (has_worker workers t.job t.cores (live_of others))
+    by_job on true is =
+        let j : t.job ≡ job = grind (arith) in
+        ap not (sym (covered_worker size turns q others job u.mask z u.covered workers t.cores) ∙ ap (λ (k : ℕ). has_worker workers k t.cores (live_of others)) (sym j))
+    by_job on false is =
+        ap not (sym (served h t g on) ∙ sym (served-as-before size turns p q l others job s z same workers t.job t.cores other))
+      where
+        other : t.job ≡ job → ⊥
+        other j = let k : (t.job == job) ≡ true = grind (arith) in no (sym is ∙ k)
+          where
+            no : false ≡ true → ⊥
+            no x = cc
+
+    by_state : (a : Bool) → is_unstarted t ≡ a → (a && is_unserved workers job u.mask.0 t) ≡ (a && not (has_worker workers t.job t.cores (live_of others)))
+    by_state true on = by_job on (t.job == job) refl
+    by_state false off = refl
+
+-- The step
+
+module _ (n : Node) (l : Lists) (who job : ℕ) (v : Live n l) (k : Sound (state_of n l)) where
+  -- an action goes, and the tasks that no worker can take any more end
+  withdrawn : (o : Op) (h : ℕ) (f : Listed Action → Listed Action) (c : MtapiStatus) (q : Slots Action) (t : TaskTable) → Holds n.board.settings.actions n.board.settings.generations q (change h f l.actions) → SameBut job n.board.actions q → EndsUnserved n.board.settings.workers q job (Failed c) n.board.tasks t → Gives (state_of n l) (row (state_of n l) who o reply.Ok) reply.Ok (apply (withdraws h f c) (state_of n l)) → IsHonest o → Steps n l who o reply.Ok (record n { board = record n.board { actions = q; tasks = t } })
+  withdrawn o h f c q t held same u g honest =
+      steps n m l to who o reply.Ok (subst (λ (s : State). Gives (state_of n l) (row (state_of n l) who o reply.Ok) reply.Ok s) leads g)
+      (record { actions = held; tasks = subst (λ (ts : List (Listed Task)). Holds n.board.settings.tasks n.board.settings.generations t.pool ts) ends once.holds; groups = v.groups; queues = v.queues; resources = v.resources })
+      refl (omega (arith, once.starts)) honest
+    where
+      others : List (Listed Action)
+      others = change h f l.actions
+
+      is_left : Task → Bool
+      is_left x = is_unstarted x && not (has_worker n.board.settings.workers x.job x.cores (live_of others))
+
+      passes : Task → Bool
+      passes = is_unserved n.board.settings.workers job u.mask.0
+
+      once : AtOnce n.board.settings.tasks n.board.settings.generations passes (Failed c) n.board.tasks t l.tasks
+      once = ends-at-once n.board.settings.tasks n.board.settings.generations passes (Failed c) n.board.tasks t l.tasks v.tasks k.ordered u.ends
+
+      agree : Agree (both_pass passes (Failed c)) is_left (live_of l.tasks)
+      agree = left-agree n.board.settings.actions n.board.settings.generations n.board.settings.workers n.board.actions q l.actions others job l.tasks (Failed c) n.board.tasks t v.actions held same k.served u
+
+      ends : end_each (both_pass passes (Failed c)) (Failed c) n.board.tasks.ends l.tasks ≡ end_each is_left (Failed c) n.board.tasks.ends l.tasks
+      ends = same-ends (both_pass passes (Failed c)) is_left (Failed c) n.board.tasks.ends l.tasks v.tasks.stands.distinct agree
+
+      count : count_listed (both_pass passes (Failed c)) l.tasks ≡ count_listed is_left l.tasks
+      count = same-count (both_pass passes (Failed c)) is_left l.tasks v.tasks.stands.distinct agree
+
+      m : Node
+      m = record n { board = record n.board { actions = q; tasks = t } }
+
+      to : Lists
+      to = record l { actions = others; tasks = end_each is_left (Failed c) n.board.tasks.ends l.tasks }
+
+      number : n.board.tasks.ends + count_listed is_left l.tasks ≡ t.ends
+      number = ap (λ (x : ℕ). n.board.tasks.ends + x) (sym count) ∙ sym once.ends
+
+      leads : apply (withdraws h f c) (state_of n l) ≡ state_of m to
+      leads i = record (state_of n l) {
+        actions = others;
+        tasks = end_each is_left (Failed c) n.board.tasks.ends l.tasks;
+        starts = sym once.starts i;
+        ends = number i;
+      }
+
+module _ (n : Node) (l : Lists) (who job : ℕ) (a : ActionHandle) (v : Live n l) (k : Sound (state_of n l)) (up : is_open n.core.phase ≡ true) (is : Ok job ≡ job_of (slot_value n.board.actions a.0)) where
+  pub disable_steps : (t : TaskTable) → EndsUnserved n.board.settings.workers (changed n.board.actions a.0 (with_enabled false)) job (Failed m.ErrActionDisabled) n.board.tasks t → Steps n l who (op.ActionDisable a) reply.Ok (record n { board = record n.board { actions = changed n.board.actions a.0 (with_enabled false); tasks = t } })
+  disable_steps t u =
+      let x = job-found (slot_value n.board.actions a.0) job is in
+      withdrawn n l who job v k (op.ActionDisable a) a.0 (with_fields (with_enabled false)) m.ErrActionDisabled (changed n.board.actions a.0 (with_enabled false)) t
+      (holds_changed _ _ n.board.actions l.actions a.0 (with_enabled false) v.actions) (same-changed n.board.actions a.0 job false x.0 x.1 x.2) u
+      (past _ _ _ _ _ _ (not_true _ up) (at_some _ _ _ x.0 _ _ _ (found _ _ n.board.actions l.actions a.0 (Some x.0) v.actions x.1) (gives_this _ _ _))) tt
+
+  pub delete_steps : (t : TaskTable) → EndsUnserved n.board.settings.workers (without n.board.actions a.0) job (Failed m.ErrActionDeleted) n.board.tasks t → Steps n l who (op.ActionDelete a) reply.Ok (record n { board = record n.board { actions = without n.board.actions a.0; tasks = t } })
+  delete_steps t u =
+      let x = job-found (slot_value n.board.actions a.0) job is in
+      withdrawn n l who job v k (op.ActionDelete a) a.0 gone m.ErrActionDeleted (without n.board.actions a.0) t
+      (holds_remove _ _ n.board.actions l.actions a.0 x.0 v.actions x.1) (same-without n.board.actions a.0 job x.0 x.1 x.2) u
+      (past _ _ _ _ _ _ (not_true _ up) (at_some _ _ _ x.0 _ _ _ (found _ _ n.board.actions l.actions a.0 (Some x.0) v.actions x.1) (gives_this _ _ _))) tt
+
+-- The two calls of a board
+
+pub becomes-twice : (a b c : BoardTable) (q : Slots Action) → Becomes a b q a.tasks → Becomes b c b.actions c.tasks → Becomes a c q c.tasks
+becomes-twice a b c q x y = record { settings = y.settings ∙ x.settings; actions_are = y.actions_are ∙ x.actions_are; tasks_are = refl; queues_are = y.queues_are ∙ x.queues_are; groups_are = y.groups_are ∙ x.groups_are }
+
+pub unserved-before : (a b : BoardTable) (q : Slots Action) (job : ℕ) (e : TaskEnd) (t : TaskTable) → Becomes a b q a.tasks → EndsUnserved b.settings.workers b.actions job e b.tasks t → EndsUnserved a.settings.workers q job e a.tasks t
+unserved-before a b q job e t x u = subst (λ (y : BoardTable). EndsUnserved y.settings.workers y.actions job e y.tasks t) path u
+  where
+    path : ◌≡◌ {A = BoardTable} b (record b { settings = a.settings; actions = q; tasks = a.tasks })
+    path i = record b { settings = x.settings i; actions = x.actions_are i; tasks = x.tasks_are i }

@@ -1,0 +1,134 @@
+use Rattle.std.proofs.Common.{◌≡◌, true, refl, sym, ◌∙◌, subst}
+use Rattle.mtapi_machine.specs.declared.ops.Op.{Op}
+use Rattle.mtapi_machine.specs.declared.ops.Op.TheVariants as op
+use Rattle.node_resources.specs.Steps.{is_resource_op}
+use Rattle.node_steps.specs.Stands.{Steps}
+use Rattle.node_steps.proofs.node.Node.dispatch.Goals as goal
+
+pub returns-in-Initialize : goal.returns-in-Initialize
+returns-in-Initialize c l v k = subst (λ (o : Op). Steps c.args.self.now l c.args.who o c.initialize.result c.initialize.new.self) (sym c.in-Initialize.is) (c.initialize.ensures l c.args.who v)
+
+pub returns-in-Release : goal.returns-in-Release
+returns-in-Release c l v k = subst (λ (o : Op). Steps c.args.self.now l c.args.who o c.release.result c.release.new.self) (sym c.in-Release.is) (c.release.ensures l c.args.who v)
+
+pub returns-in-Enter : goal.returns-in-Enter
+returns-in-Enter c l v k = subst (λ (o : Op). Steps c.args.self.now l c.args.who o c.enter.result c.args.self.now) (sym c.in-Enter.is) (c.enter.ensures l c.args.who v)
+
+pub returns-in-Close : goal.returns-in-Close
+returns-in-Close c l v k = subst (λ (o : Op). Steps c.args.self.now l c.args.who o c.close.result c.close.new.self) (sym c.in-Close.is) (c.close.ensures l c.args.who v k)
+
+pub returns-in-Final : goal.returns-in-Final
+returns-in-Final c l v k = subst (λ (o : Op). Steps c.args.self.now l c.args.who o c.finalize.result c.finalize.new.self) (sym c.in-Final.is) (c.finalize.ensures l c.args.who v)
+
+pub returns-in-JobGet : goal.returns-in-JobGet
+returns-in-JobGet c l v k = subst (λ (o : Op). Steps c.args.self.now l c.args.who o c.job_get.result c.args.self.now) (sym c.in-JobGet.is) (c.job_get.ensures l c.args.who v)
+
+pub returns-in-ActionCreate : goal.returns-in-ActionCreate
+returns-in-ActionCreate c l v k = subst (λ (o : Op). Steps c.args.self.now l c.args.who o c.action_create.result c.action_create.new.self) (sym c.in-ActionCreate.is) (c.action_create.ensures l c.args.who v)
+
+pub returns-in-ActionDelete : goal.returns-in-ActionDelete
+returns-in-ActionDelete c l v k = subst (λ (o : Op). Steps c.args.self.now l c.args.who o c.action_delete.result c.action_delete.new.self) (sym c.in-ActionDelete.is) (c.action_delete.ensures l c.args.who v k)
+
+pub returns-in-ActionDisable : goal.returns-in-ActionDisable
+returns-in-ActionDisable c l v k = subst (λ (o : Op). Steps c.args.self.now l c.args.who o c.action_disable.result c.action_disable.new.self) (sym c.in-ActionDisable.is) (c.action_disable.ensures l c.args.who v k)
+
+pub returns-in-ActionEnable : goal.returns-in-ActionEnable
+returns-in-ActionEnable c l v k = subst (λ (o : Op). Steps c.args.self.now l c.args.who o c.action_enable.result c.action_enable.new.self) (sym c.in-ActionEnable.is) (c.action_enable.ensures l c.args.who v)
+
+pub returns-in-TaskStart : goal.returns-in-TaskStart
+returns-in-TaskStart c l v k = subst (λ (o : Op). Steps c.args.self.now l c.args.who o c.task_start.result c.task_start.new.self) (sym c.in-TaskStart.is) (c.task_start.ensures l c.args.who v)
+
+pub returns-in-TaskLook : goal.returns-in-TaskLook
+returns-in-TaskLook c l v k = subst (λ (o : Op). Steps c.args.self.now l c.args.who o c.task_look.result c.task_look.new.self) (sym c.in-TaskLook.is) (c.task_look.ensures l v)
+
+pub returns-in-TaskCancel : goal.returns-in-TaskCancel
+returns-in-TaskCancel c l v k = subst (λ (o : Op). Steps c.args.self.now l c.args.who o c.task_cancel.result c.task_cancel.new.self) (sym c.in-TaskCancel.is) (c.task_cancel.ensures l c.args.who v)
+
+pub returns-in-Pick : goal.returns-in-Pick
+returns-in-Pick c l v k = subst (λ (o : Op). Steps c.args.self.now l c.args.who o c.pick.result c.pick.new.self) (sym c.in-Pick.is) (c.pick.ensures l v)
+
+pub returns-in-Finish : goal.returns-in-Finish
+returns-in-Finish c l v k = subst (λ (o : Op). Steps c.args.self.now l c.args.who o c.finish.result c.finish.new.self) (sym c.in-Finish.is) (c.finish.ensures l v)
+
+pub returns-in-Asked : goal.returns-in-Asked
+returns-in-Asked c l v k = subst (λ (o : Op). Steps c.args.self.now l c.args.who o c.asked.result c.asked.new.self) (sym c.in-Asked.is) (c.asked.ensures l v)
+
+pub returns-in-WatchEnd : goal.returns-in-WatchEnd
+returns-in-WatchEnd c l v k = subst (λ (o : Op). Steps c.args.self.now l c.args.who o c.watch_end.result c.watch_end.new.self) (sym c.in-WatchEnd.is) (c.watch_end.ensures l v)
+
+pub returns-in-TaskEnqueue : goal.returns-in-TaskEnqueue
+returns-in-TaskEnqueue c l v k = subst (λ (o : Op). Steps c.args.self.now l c.args.who o c.task_enqueue.result c.task_enqueue.new.self) (sym c.in-TaskEnqueue.is) (c.task_enqueue.ensures l c.args.who v)
+
+pub returns-in-QueueCreate : goal.returns-in-QueueCreate
+returns-in-QueueCreate c l v k = subst (λ (o : Op). Steps c.args.self.now l c.args.who o c.queue_create.result c.queue_create.new.self) (sym c.in-QueueCreate.is) (c.queue_create.ensures l c.args.who v)
+
+pub returns-in-QueueGet : goal.returns-in-QueueGet
+returns-in-QueueGet c l v k = subst (λ (o : Op). Steps c.args.self.now l c.args.who o c.queue_get.result c.args.self.now) (sym c.in-QueueGet.is) (c.queue_get.ensures l c.args.who v)
+
+pub returns-in-QueueEnable : goal.returns-in-QueueEnable
+returns-in-QueueEnable c l v k = subst (λ (o : Op). Steps c.args.self.now l c.args.who o c.queue_enable.result c.queue_enable.new.self) (sym c.in-QueueEnable.is) (c.queue_enable.ensures l c.args.who v)
+
+pub returns-in-QueueDisable : goal.returns-in-QueueDisable
+returns-in-QueueDisable c l v k = subst (λ (o : Op). Steps c.args.self.now l c.args.who o c.queue_disable.result c.queue_disable.new.self) (sym c.in-QueueDisable.is) (c.queue_disable.ensures l c.args.who v k)
+
+pub returns-in-QueueDelete : goal.returns-in-QueueDelete
+returns-in-QueueDelete c l v k = subst (λ (o : Op). Steps c.args.self.now l c.args.who o c.queue_delete.result c.queue_delete.new.self) (sym c.in-QueueDelete.is) (c.queue_delete.ensures l c.args.who v k)
+
+pub returns-in-GroupCreate : goal.returns-in-GroupCreate
+returns-in-GroupCreate c l v k = subst (λ (o : Op). Steps c.args.self.now l c.args.who o c.group_create.result c.group_create.new.self) (sym c.in-GroupCreate.is) (c.group_create.ensures l c.args.who v)
+
+pub returns-in-GroupDelete : goal.returns-in-GroupDelete
+returns-in-GroupDelete c l v k = subst (λ (o : Op). Steps c.args.self.now l c.args.who o c.group_delete.result c.group_delete.new.self) (sym c.in-GroupDelete.is) (c.group_delete.ensures l c.args.who v)
+
+pub returns-in-AllLook : goal.returns-in-AllLook
+returns-in-AllLook c l v k = subst (λ (o : Op). Steps c.args.self.now l c.args.who o c.all_look.result c.all_look.new.self) (sym c.in-AllLook.is) (c.all_look.ensures l c.args.who v)
+
+pub returns-in-AnyLook : goal.returns-in-AnyLook
+returns-in-AnyLook c l v k = subst (λ (o : Op). Steps c.args.self.now l c.args.who o c.any_look.result c.any_look.new.self) (sym c.in-AnyLook.is) (c.any_look.ensures l c.args.who v)
+
+pub returns-in-TallyLock : goal.returns-in-TallyLock
+returns-in-TallyLock c l v k = subst (λ (o : Op). Steps c.args.self.now l c.args.who o c.tally_lock.result c.tally_lock.new.self) (sym c.in-TallyLock.is) (c.tally_lock.ensures l v)
+
+pub returns-in-TallyRead : goal.returns-in-TallyRead
+returns-in-TallyRead c l v k = subst (λ (o : Op). Steps c.args.self.now l c.args.who o c.tally_read.result c.tally_read.new.self) (sym c.in-TallyRead.is) (c.tally_read.ensures l v k)
+
+pub returns-in-TallyEnd : goal.returns-in-TallyEnd
+returns-in-TallyEnd c l v k = subst (λ (o : Op). Steps c.args.self.now l c.args.who o c.tally_end.result c.tally_end.new.self) (sym c.in-TallyEnd.is) (c.tally_end.ensures l v k)
+
+pub resource_op-requires-clause-resource : goal.resource_op-requires-clause-resource
+resource_op-requires-clause-resource c = by_op c.args.op refl
+  where
+    -- what is none of the ops above
+    by_op : (o : Op) → c.args.op ≡ o → is_resource_op o ≡ true
+    by_op op.Initialize e = absurd (c.in_default.not-Initialize e)
+    by_op op.Release e = absurd (c.in_default.not-Release e)
+    by_op op.Enter e = absurd (c.in_default.not-Enter e)
+    by_op op.Close e = absurd (c.in_default.not-Close e)
+    by_op op.Final e = absurd (c.in_default.not-Final e)
+    by_op (op.JobGet j) e = absurd (c.in_default.not-JobGet j e)
+    by_op (op.ActionCreate j k x) e = absurd (c.in_default.not-ActionCreate j k x e)
+    by_op (op.ActionDelete a) e = absurd (c.in_default.not-ActionDelete a e)
+    by_op (op.ActionDisable a) e = absurd (c.in_default.not-ActionDisable a e)
+    by_op (op.ActionEnable a) e = absurd (c.in_default.not-ActionEnable a e)
+    by_op (op.TaskStart j a p x d g) e = absurd (c.in_default.not-TaskStart j a p x d g e)
+    by_op (op.TaskEnqueue q a x d g) e = absurd (c.in_default.not-TaskEnqueue q a x d g e)
+    by_op (op.TaskLook t l) e = absurd (c.in_default.not-TaskLook t l e)
+    by_op (op.TaskCancel t) e = absurd (c.in_default.not-TaskCancel t e)
+    by_op op.GroupCreate e = absurd (c.in_default.not-GroupCreate e)
+    by_op (op.GroupDelete g) e = absurd (c.in_default.not-GroupDelete g e)
+    by_op (op.AllLook g l) e = absurd (c.in_default.not-AllLook g l e)
+    by_op (op.AnyLook g l) e = absurd (c.in_default.not-AnyLook g l e)
+    by_op (op.QueueCreate i j p l o r) e = absurd (c.in_default.not-QueueCreate i j p l o r e)
+    by_op (op.QueueGet i) e = absurd (c.in_default.not-QueueGet i e)
+    by_op (op.QueueEnable q) e = absurd (c.in_default.not-QueueEnable q e)
+    by_op (op.QueueDisable q) e = absurd (c.in_default.not-QueueDisable q e)
+    by_op (op.QueueDelete q) e = absurd (c.in_default.not-QueueDelete q e)
+    by_op op.Pick e = absurd (c.in_default.not-Pick e)
+    by_op (op.Finish t d) e = absurd (c.in_default.not-Finish t d e)
+    by_op (op.Asked t) e = absurd (c.in_default.not-Asked t e)
+    by_op (op.WatchEnd t) e = absurd (c.in_default.not-WatchEnd t e)
+    by_op (op.TallyLock t) e = absurd (c.in_default.not-TallyLock t e)
+    by_op (op.TallyRead t) e = absurd (c.in_default.not-TallyRead t e)
+    by_op (op.TallyWrite t z) e = absurd (c.in_default.not-TallyWrite t z e)
+    by_op (op.TallyEnd t) e = absurd (c.in_default.not-TallyEnd t e)
+    by_op _ e = refl

@@ -1,0 +1,5 @@
+pub mod Keeps
+pub mod Stands
+pub mod Picks
+pub mod Sound
+pub mod Tallies

@@ -1,0 +1,94 @@
+//! The ops on actions.
+
+ghost use Rattle.std.specs.Prelude.{◌≡◌, ℕ};
+ghost use Rattle.handle_pool.specs.Issued.{any_listed};
+ghost use Rattle.mtapi_objects.specs.Actions.{has_job};
+ghost use Rattle.mtapi_machine.specs.declared.ops.Op.TheVariants as op;
+ghost use Rattle.node_steps.specs.Stands.{Lists, Live, Steps, state_of};
+ghost use Rattle.node_steps.specs.Sound.{Sound};
+
+use crate::node::Node;
+use crate::phase_ops::{is_open, is_up};
+use job_table::Cover;
+use mtapi_machine::Reply;
+use mtapi_values::{ActionHandle, Kind, Mask, MtapiStatus};
+
+impl Node {
+    // Whether some live action has the job.
+    pub(crate) fn has_job(&self, job: u32) -> bool
+        ensures { (l : Lists) → Live self.now l → any_listed (has_job job) l.actions ≡ result }
+    {
+        match self.board.cover(job) {
+            Cover::NoAction => false,
+            Cover::AllDisabled | Cover::Cores(_) => true,
+        }
+    }
+
+    pub(crate) fn job_get(&self, job: u32) -> Reply
+        ensures { (l : Lists) (who : ℕ) → Live self.now l → Steps self.now l who (op.JobGet job) result self.now }
+    {
+        if !is_up(self.core.phase) {
+            return Reply::Mtapi(MtapiStatus::ErrNodeNotinit);
+        }
+        if !self.has_job(job) {
+            return Reply::Mtapi(MtapiStatus::ErrJobInvalid);
+        }
+        Reply::Number(i64::from(job))
+    }
+
+    pub(crate) fn action_create(&mut self, job: u32, kind: Kind, cores: Mask) -> Reply
+        ensures { (l : Lists) (who : ℕ) → Live self.old l → Steps self.old l who (op.ActionCreate job kind cores) result self.new }
+    {
+        if !is_open(self.core.phase) {
+            return Reply::Mtapi(MtapiStatus::ErrNodeNotinit);
+        }
+        match self.board.create_action(job, kind, cores) {
+            Ok(action) => Reply::Handle(action.0),
+            Err(status) => Reply::Mtapi(status),
+        }
+    }
+
+    pub(crate) fn action_enable(&mut self, action: ActionHandle) -> Reply
+        ensures { (l : Lists) (who : ℕ) → Live self.old l → Steps self.old l who (op.ActionEnable action) result self.new }
+    {
+        if !is_open(self.core.phase) {
+            return Reply::Mtapi(MtapiStatus::ErrNodeNotinit);
+        }
+        match self.board.enable_action(action) {
+            Ok(_) => Reply::Ok,
+            Err(status) => Reply::Mtapi(status),
+        }
+    }
+
+    // The action goes on, and the tasks that no worker can take any more fail.
+    pub(crate) fn action_disable(&mut self, action: ActionHandle) -> Reply
+        ensures { (l : Lists) (who : ℕ) → Live self.old l → Sound (state_of self.old l) → Steps self.old l who (op.ActionDisable action) result self.new }
+    {
+        if !is_open(self.core.phase) {
+            return Reply::Mtapi(MtapiStatus::ErrNodeNotinit);
+        }
+        match self.board.disable_action(action) {
+            Ok(job) => {
+                self.board.end_unserved(job, MtapiStatus::ErrActionDisabled);
+                Reply::Ok
+            }
+            Err(status) => Reply::Mtapi(status),
+        }
+    }
+
+    // The action is given up, and the tasks that no worker can take any more fail.
+    pub(crate) fn action_delete(&mut self, action: ActionHandle) -> Reply
+        ensures { (l : Lists) (who : ℕ) → Live self.old l → Sound (state_of self.old l) → Steps self.old l who (op.ActionDelete action) result self.new }
+    {
+        if !is_open(self.core.phase) {
+            return Reply::Mtapi(MtapiStatus::ErrNodeNotinit);
+        }
+        match self.board.delete_action(action) {
+            Ok(job) => {
+                self.board.end_unserved(job, MtapiStatus::ErrActionDeleted);
+                Reply::Ok
+            }
+            Err(status) => Reply::Mtapi(status),
+        }
+    }
+}

@@ -1,0 +1,141 @@
+//! The node, and what it keeps beside its objects.
+
+ghost use Rattle.std.specs.Prelude.{◌≡◌, ◌^◌, ◌<◌, ◌≤◌, [], IfOk};
+ghost use Rattle.mtapi_values.specs.Attributes.{AreNodeSettings};
+ghost use Rattle.mtapi_values.specs.declared.handles.Layout.TheVariants.{One};
+ghost use Rattle.node_steps.specs.Stands.{Lists, Live, Steps, Stands, state_of, terms_of};
+ghost use Rattle.node_steps.specs.Sound.{Sound};
+
+use mtapi_machine::{Op, Phase, Reply};
+use mtapi_values::NodeAttr;
+use node_resources::Resources;
+use std::alloc::{AllocError, Global};
+use task_board::Board;
+
+/// What a node keeps beside its objects.
+#[derive(Drop)]
+pub(crate) struct Core {
+    // The number of callers, main included.
+    pub(crate) callers: u8,
+    pub(crate) phase: Phase,
+    // Main has let the further callers enter.
+    pub(crate) released: bool,
+    // The workers that have stopped, by their seats.
+    pub(crate) stopped: [bool; 25],
+}
+
+/// A node: it executes each op as the machine of one thread says.
+#[derive(Drop)]
+pub struct Node {
+    pub(crate) core: Core,
+    pub(crate) board: Board,
+    pub(crate) resources: Resources,
+}
+
+// What the readers of the settings promise: each is in its range.
+fn read_ranges(attr: &NodeAttr)
+    ensures { AreNodeSettings attr.now }
+{
+    let _ = attr.workers();
+    let _ = attr.tasks();
+    let _ = attr.actions();
+    let _ = attr.groups();
+    let _ = attr.queues();
+    let _ = attr.objects();
+    let _ = attr.priorities();
+    let _ = attr.generations();
+}
+
+impl Node {
+    /// A new node with these settings, for so many callers, main included, with all the memory that its objects will use.
+    pub fn init(alloc: Global, attr: NodeAttr, callers: u32) -> Result<Node, AllocError>
+        requires some_caller { 1 ≤ callers }
+        requires few_callers { callers ≤ 9 }
+        ensures terms { IfOk result (λ n. terms_of n ≡ record { layout = One; settings = attr; callers = callers }) }
+        ensures stands { IfOk result (λ n. Stands n []) }
+    {
+        read_ranges(&attr);
+        let board = Board::new(alloc, attr)?;
+        let resources = Resources::init(alloc, attr)?;
+        board.is_kept();
+        Ok(Node {
+            core: Core {
+                callers: callers as u8,
+                phase: Phase::New,
+                released: false,
+                stopped: [false; 25],
+            },
+            board,
+            resources,
+        })
+    }
+
+    /// The settings of the node.
+    pub fn settings(&self) -> &NodeAttr
+        ensures { result.now ≡ (terms_of self.now).settings }
+    {
+        self.board.settings()
+    }
+
+    // One op, by its own method.
+    pub(crate) fn dispatch(&mut self, who: u32, op: Op) -> Reply
+        requires few_starts { self.old.board.tasks.starts < 2 ^ 63 }
+        requires seat { who < 25 }
+        ensures { (l : Lists) → Live self.old l → Sound (state_of self.old l) → Steps self.old l who op result self.new }
+    {
+        match op {
+            Op::Initialize => self.initialize(),
+            Op::Release => self.release(),
+            Op::Enter => self.enter(),
+            Op::Close => self.close(),
+            Op::Final => self.finalize(),
+            Op::JobGet { job } => self.job_get(job),
+            Op::ActionCreate { job, kind, cores } => self.action_create(job, kind, cores),
+            Op::ActionDelete { action } => self.action_delete(action),
+            Op::ActionDisable { action } => self.action_disable(action),
+            Op::ActionEnable { action } => self.action_enable(action),
+            Op::TaskStart {
+                job,
+                args,
+                priority,
+                cores,
+                detached,
+                group,
+            } => self.task_start(job, args, priority, cores, detached, group),
+            Op::TaskEnqueue {
+                queue,
+                args,
+                cores,
+                detached,
+                group,
+            } => self.task_enqueue(queue, args, cores, detached, group),
+            Op::TaskLook { task, last } => self.task_look(who, task, last),
+            Op::TaskCancel { task } => self.task_cancel(task),
+            Op::GroupCreate => self.group_create(),
+            Op::GroupDelete { group } => self.group_delete(group),
+            Op::AllLook { group, last } => self.all_look(group, last),
+            Op::AnyLook { group, last } => self.any_look(group, last),
+            Op::QueueCreate {
+                id,
+                job,
+                priority,
+                limit,
+                ordered,
+                retain,
+            } => self.queue_create(id, job, priority, limit, ordered, retain),
+            Op::QueueGet { id } => self.queue_get(id),
+            Op::QueueEnable { queue } => self.queue_enable(queue),
+            Op::QueueDisable { queue } => self.queue_disable(queue),
+            Op::QueueDelete { queue } => self.queue_delete(queue),
+            Op::Pick => self.pick(who),
+            Op::Finish { task, done } => self.finish(who, task, done),
+            Op::Asked { task } => self.asked(who, task),
+            Op::WatchEnd { task } => self.watch_end(who, task),
+            Op::TallyLock { task } => self.tally_lock(who, task),
+            Op::TallyRead { task } => self.tally_read(who, task),
+            Op::TallyWrite { task, value } => self.tally_write(who, task, value),
+            Op::TallyEnd { task } => self.tally_end(who, task),
+            op => self.resource_op(who, op),
+        }
+    }
+}

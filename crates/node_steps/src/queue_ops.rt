@@ -1,0 +1,206 @@
+//! The ops on queues.
+
+ghost use Rattle.std.specs.Prelude.{◌≡◌, ◌≤◌, ◌<◌, ◌^◌, ◌==◌, ◌&&◌, ◌++◌, ◌∷◌, [], ℕ, ℤ, Bool, List, not, false, None, if◌then◌else◌};
+ghost use Rattle.mtapi_values.specs.Conditions.{first};
+ghost use Rattle.mtapi_values.specs.declared.statuses.MtapiStatus.TheVariants as status;
+ghost use Rattle.mtapi_machine.specs.TaskRows.{asked_for, start_refusals, is_detached_member, number_of};
+ghost use Rattle.task_board.specs.Members.{names_dead};
+ghost use Rattle.mtapi_machine.specs.declared.ops.Op.TheVariants as op;
+ghost use Rattle.node_steps.specs.Stands.{Lists, Live, Steps, state_of};
+ghost use Rattle.node_steps.specs.Sound.{Sound};
+
+use crate::node::Node;
+use crate::phase_ops::{is_open, is_up};
+use mtapi_machine::Reply;
+use mtapi_values::{Args, GroupHandle, Mask, MtapiStatus, QueueAttr, QueueHandle, TaskEnd};
+use task_board::QueueFacts;
+use task_core::NewTask;
+
+// A yes or no as an attribute has it.
+fn yes_or_no(yes: bool) -> u64
+    ensures { result ≡ (if yes then 1 else 0) }
+{
+    if yes { 1 } else { 0 }
+}
+
+// Whether a queue takes no tasks: it is disabled, and doesn't retain them.
+fn is_shut(facts: QueueFacts) -> bool
+    ensures { result ≡ (not facts.enabled && not facts.retain) }
+{
+    !facts.enabled && !facts.retain
+}
+
+// Whether a task is to be detached and in a group.
+fn is_detached_member(detached: bool, group: Option<GroupHandle>) -> bool
+    ensures { result ≡ is_detached_member detached group }
+{
+    detached && group.is_some()
+}
+
+// The attributes of a queue, each in its range.
+fn attributes(priority: u32, limit: u32, ordered: bool, retain: bool) -> QueueAttr
+    requires priority { priority ≤ 7 }
+    requires some { 1 ≤ limit }
+    requires few { limit ≤ 65536 }
+    ensures priority { result.priority ≡ priority }
+    ensures limit { result.limit ≡ limit }
+    ensures ordered { result.ordered ≡ ordered }
+    ensures retain { result.retain ≡ retain }
+{
+    let mut attr = QueueAttr::new();
+    let _ = attr.set(2, u64::from(priority));
+    let _ = attr.set(3, u64::from(limit));
+    let _ = attr.set(4, yes_or_no(ordered));
+    let _ = attr.set(5, yes_or_no(retain));
+    attr
+}
+
+impl Node {
+    pub(crate) fn queue_create(
+        &mut self,
+        id: u32,
+        job: u32,
+        priority: u32,
+        limit: u32,
+        ordered: bool,
+        retain: bool,
+    ) -> Reply
+        ensures { (l : Lists) (who : ℕ) → Live self.old l → Steps self.old l who (op.QueueCreate id job priority limit ordered retain) result self.new }
+    {
+        if !is_open(self.core.phase) {
+            return Reply::Mtapi(MtapiStatus::ErrNodeNotinit);
+        }
+        if priority >= self.board.priorities() || limit < 1 || limit > 65_536 {
+            return Reply::Mtapi(MtapiStatus::ErrParameter);
+        }
+        if !self.has_job(job) {
+            return Reply::Mtapi(MtapiStatus::ErrJobInvalid);
+        }
+        let attr = attributes(priority, limit, ordered, retain);
+        match self.board.create_queue(id, job, attr) {
+            Ok(queue) => Reply::Handle(queue.0),
+            Err(status) => Reply::Mtapi(status),
+        }
+    }
+
+    pub(crate) fn queue_get(&self, id: u32) -> Reply
+        ensures { (l : Lists) (who : ℕ) → Live self.now l → Steps self.now l who (op.QueueGet id) result self.now }
+    {
+        if !is_up(self.core.phase) {
+            return Reply::Mtapi(MtapiStatus::ErrNodeNotinit);
+        }
+        match self.board.get_queue(id) {
+            Ok(queue) => Reply::Handle(queue.0),
+            Err(status) => Reply::Mtapi(status),
+        }
+    }
+
+    pub(crate) fn queue_enable(&mut self, queue: QueueHandle) -> Reply
+        ensures { (l : Lists) (who : ℕ) → Live self.old l → Steps self.old l who (op.QueueEnable queue) result self.new }
+    {
+        if !is_open(self.core.phase) {
+            return Reply::Mtapi(MtapiStatus::ErrNodeNotinit);
+        }
+        match self.board.enable_queue(queue) {
+            Ok(()) => Reply::Ok,
+            Err(status) => Reply::Mtapi(status),
+        }
+    }
+
+    // Where the queue doesn't retain its tasks, those that haven't begun are cancelled.
+    pub(crate) fn queue_disable(&mut self, queue: QueueHandle) -> Reply
+        ensures { (l : Lists) (who : ℕ) → Live self.old l → Sound (state_of self.old l) → Steps self.old l who (op.QueueDisable queue) result self.new }
+    {
+        if !is_open(self.core.phase) {
+            return Reply::Mtapi(MtapiStatus::ErrNodeNotinit);
+        }
+        let Some(facts) = self.board.queue(queue) else {
+            return Reply::Mtapi(MtapiStatus::ErrQueueInvalid);
+        };
+        let _ = self.board.disable_queue(queue);
+        if facts.retain {
+            return Reply::Ok;
+        }
+        self.board.end_queued(queue, &TaskEnd::Cancelled);
+        Reply::Ok
+    }
+
+    // The tasks of the queue that haven't begun fail.
+    pub(crate) fn queue_delete(&mut self, queue: QueueHandle) -> Reply
+        ensures { (l : Lists) (who : ℕ) → Live self.old l → Sound (state_of self.old l) → Steps self.old l who (op.QueueDelete queue) result self.new }
+    {
+        if !is_open(self.core.phase) {
+            return Reply::Mtapi(MtapiStatus::ErrNodeNotinit);
+        }
+        let Some(_) = self.board.queue(queue) else {
+            return Reply::Mtapi(MtapiStatus::ErrQueueInvalid);
+        };
+        self.board
+            .end_queued(queue, &TaskEnd::Failed(MtapiStatus::ErrQueueDeleted));
+        let _ = self.board.delete_queue(queue);
+        Reply::Ok
+    }
+
+    // Why a queue takes no new task, but for want of room among the tasks.
+    fn put_refusal(
+        &self,
+        facts: QueueFacts,
+        cores: Mask,
+        group: Option<GroupHandle>,
+    ) -> Option<MtapiStatus>
+        ensures refused { (l : Lists) (args : List ℤ) (priority : ℕ) (detached : Bool) → Live self.now l → first ((not facts.enabled && not facts.retain, status.ErrQueueDisabled) ∷ start_refusals (state_of self.now l) (asked_for facts.job args priority cores detached group) ++ (facts.unended == facts.limit, status.ErrQueueLimit) ∷ []) ≡ result }
+        ensures takes { result ≡ None → (not facts.enabled && not facts.retain) ≡ false }
+        ensures room { result ≡ None → (facts.unended == facts.limit) ≡ false }
+        ensures group { result ≡ None → names_dead self.now.board.groups.pool (number_of group) ≡ false }
+    {
+        if is_shut(facts) {
+            return Some(MtapiStatus::ErrQueueDisabled);
+        }
+        if let Some(status) = self.start_refusal(facts.job, cores, group) {
+            return Some(status);
+        }
+        if facts.unended == facts.limit {
+            return Some(MtapiStatus::ErrQueueLimit);
+        }
+        None
+    }
+
+    pub(crate) fn task_enqueue(
+        &mut self,
+        queue: QueueHandle,
+        args: Args,
+        cores: Mask,
+        detached: bool,
+        group: Option<GroupHandle>,
+    ) -> Reply
+        requires { self.old.board.tasks.starts < 2 ^ 63 }
+        ensures { (l : Lists) (who : ℕ) → Live self.old l → Steps self.old l who (op.TaskEnqueue queue args cores detached group) result self.new }
+    {
+        if !is_open(self.core.phase) {
+            return Reply::Mtapi(MtapiStatus::ErrNodeNotinit);
+        }
+        if is_detached_member(detached, group) {
+            return Reply::Mtapi(MtapiStatus::ErrParameter);
+        }
+        let Some(facts) = self.board.queue(queue) else {
+            return Reply::Mtapi(MtapiStatus::ErrQueueInvalid);
+        };
+        self.board.is_kept();
+        if let Some(status) = self.put_refusal(facts, cores, group) {
+            return Reply::Mtapi(status);
+        }
+        let task = NewTask {
+            job: facts.job,
+            args,
+            priority: facts.priority,
+            cores,
+            detached,
+            group,
+            queue: Some(queue),
+        };
+        match self.board.enqueue(queue, task) {
+            Ok(task) => Reply::Handle(task.0),
+            Err(status) => Reply::Mtapi(status),
+        }
+    }
+}

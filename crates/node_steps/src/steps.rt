@@ -1,0 +1,67 @@
+//! One op of the node after another, and what is told of a node between them.
+
+ghost use Rattle.std.specs.Prelude.{◌≡◌, ◌+◌, ◌^◌, ◌<◌, List, [], ◌∷◌, ◌++◌, length};
+ghost use Rattle.history.specs.Histories.{entry};
+ghost use Rattle.mtapi_machine.specs.Legal.{NodeEntry, after};
+ghost use Rattle.mtapi_machine.specs.Kept.{pends_alike};
+ghost use Rattle.mtapi_layouts.specs.Ops.{IssuesSmall};
+ghost use Rattle.node_steps.specs.Stands.{Lists, Live, Stands, state_of, terms_of, seat_count};
+
+use crate::node::Node;
+use crate::walks::is_seat;
+use mtapi_machine::{Op, Reply, Terms};
+use mtapi_values::Layout;
+
+impl Node {
+    /// The number of seats, which are numbered from 0. It never changes.
+    pub fn seats(&self) -> u32
+        ensures { result ≡ seat_count (terms_of self.now) }
+    {
+        self.board.workers() + u32::from(self.core.callers)
+    }
+
+    /// A copy of the node's terms.
+    pub fn terms(&self) -> Terms
+        ensures { result ≡ terms_of self.now }
+    {
+        Terms {
+            layout: Layout::One,
+            settings: *self.board.settings(),
+            callers: u32::from(self.core.callers),
+        }
+    }
+
+    /// One op by the seat `who`. It refuses nothing: what the node refuses, it says in its reply. The slot in the handle of a new
+    /// object is below 2^24.
+    pub fn step(&mut self, who: u32, op: Op) -> Reply
+        requires seat { who < seat_count (terms_of self.old) }
+        requires room { (L : List NodeEntry) × Stands self.old L × (length L < 2 ^ 62 + 16) }
+        ensures terms { terms_of self.new ≡ terms_of self.old }
+        ensures stands { (L : List NodeEntry) → Stands self.old L → Stands self.new (L ++ entry who op result ∷ []) }
+        ensures small { IssuesSmall op result }
+    {
+        let reply = self.dispatch(who, op);
+        self.board.is_kept();
+        reply
+    }
+
+    /// Where this op is answered Pending, does the state stay as it was?
+    pub fn pends_alike(&self, who: u32, op: &Op) -> bool
+        ensures { (L : List NodeEntry) → Stands self.now L → pends_alike (after (terms_of self.now) L) who op.now ≡ result }
+    {
+        self.looks_alike(who, op)
+    }
+
+    // The same, by what the pools hold: it is no look at a task that changes who waits for it.
+    fn looks_alike(&self, who: u32, op: &Op) -> bool
+        ensures { (l : Lists) → Live self.now l → pends_alike (state_of self.now l) who op.now ≡ result }
+    {
+        match op {
+            Op::TaskLook { task, .. } => match self.board.task(*task) {
+                Some(found) => is_seat(who, found.waiter()),
+                None => false,
+            },
+            _ => true,
+        }
+    }
+}

@@ -1,0 +1,99 @@
+-- The totals of the parts, one part after another.
+use Rattle.std.proofs.Common.{◌≡◌, ℕ, ◌+◌, ◌≤◌, List, [], ◌∷◌, ◌++◌, append_assoc, length, map, Result, Ok, Err, refl, sym, ◌∙◌, ap, arith, get_or}
+use Rattle.std.specs.Prelude.{IfOk, Option, codes}
+use Rattle.std.specs.Fmt.{signed_decimal}
+use Rattle.std.specs.declared.alloc.AllocError.{AllocError}
+use Rattle.mtapi_values.specs.declared.ends.TaskEnd.{TaskEnd}
+use Rattle.mtapi_machine.specs.Legal.{NodeEntry}
+use Rattle.std.specs.List.{flat_map}
+use Rattle.std.proofs.lemmas.List.{length-append, length-map}
+use Rattle.mtapi_values.specs.declared.handles.Layout.{Layout}
+use Rattle.mtapi_machine.specs.declared.replies.Reply.{Reply}
+use Rattle.mtapi_machine.specs.Legal.{Legal}
+use Rattle.workload_file.specs.declared.workload.Statement.{Statement}
+use Rattle.workload_file.specs.declared.workload.Part.{Part}
+use Rattle.workload_file.specs.declared.workload.Workload.{Workload}
+use Rattle.workload_file.specs.Formed.{WellFormed, part_lines, line_if_any}
+use Rattle.run_report.specs.Seen.{Seen, nothing_seen, seen_from}
+use Rattle.run_report.specs.Standings.{SameAs}
+use Rattle.run_report.specs.Report.{run_terms, parts_told}
+use Rattle.run_report.proofs.History.{ends_by_entries}
+use Rattle.run_report.specs.declared.totals.Totals.{Totals}
+use Rattle.run_report.specs.Replies.{reported, further_told, all_told, calls_before}
+use Rattle.run_report.specs.Summary.{no_totals, with_tasks, with_parts, totals, counted, totals_text, statements_in}
+use Rattle.run_report.proofs.Parts.{rest_of, first_with}
+
+-- the first part's statements, and those of the others
+pub statements_more : (p : Part) (ps : List Part) → 1 ≤ length ps → p ≡ get_or ps 0 p → statements_in ps ≡ length p.statements + statements_in (rest_of ps)
+statements_more p ps h is = ap statements_in (first_with ps p h is)
+
+-- what the other parts add to what the first added
+pub further_with : (by : ℕ → Option TaskEnd) (t u : Totals) (who : ℕ) (es : List NodeEntry) (p : Part) (ps : List Part) → 1 ≤ length ps → p ≡ get_or ps 0 p
+    → u ≡ with_tasks by t p.statements (reported who 1 es p).replies
+    → with_parts by u (further_told (who + 1) es (rest_of ps)) ≡ with_parts by t (further_told who es ps)
+unfolding further_told with_parts
+further_with by t u who es p ps h is made = ap (λ (x : Totals). with_parts by x (further_told (who + 1) es (rest_of ps))) made ∙ sym (ap (λ (l : List Part). with_parts by t (further_told who es l)) (first_with ps p h is))
+
+pub all_with : (by : ℕ → Option TaskEnd) (t u : Totals) (main : ℕ) (es : List NodeEntry) (p : Part) (ps : List Part) (before : ℕ) → 1 ≤ length ps → p ≡ get_or ps 0 p → before ≡ calls_before p.statements
+    → u ≡ with_tasks by t p.statements (reported main before es p).replies
+    → with_parts by u (further_told (main + 1) es (rest_of ps)) ≡ with_parts by t (all_told main es ps)
+unfolding with_parts
+all_with by t u main es p ps before h is same made =
+    ap (λ (x : Totals). with_parts by x (further_told (main + 1) es (rest_of ps))) made
+    ∙ ap (λ (n : ℕ). with_parts by (with_tasks by t p.statements (reported main n es p).replies) (further_told (main + 1) es (rest_of ps))) same
+    ∙ sym (ap (λ (l : List Part). with_parts by t (all_told main es l)) (first_with ps p h is))
+
+pub if_totals : (r : Result Totals AllocError) (a b : Totals) → a ≡ b → IfOk r (λ t. t ≡ a) → IfOk r (λ t. t ≡ b)
+if_totals (Ok t) a b e h = h ∙ e
+if_totals (Err x) a b e h = tt
+
+-- ---- the line
+
+-- a piece behind what is written, before what is still to be
+onto : (out new piece rest whole : List ℕ) → new ≡ out ++ piece → out ++ (piece ++ rest) ≡ whole → new ++ rest ≡ whole
+onto out new piece rest whole made so = ap (λ x. x ++ rest) made ∙ append_assoc out piece rest ∙ so
+
+-- the pieces of the line, one after another
+pub line_is : (t : Totals) (a b c d e f g h out : List ℕ) → a ≡ [] → b ≡ a ++ counted (codes "tasks ") t.tasks → c ≡ b ++ counted (codes " completed ") t.completed → d ≡ c ++ counted (codes " cancelled ") t.cancelled
+    → e ≡ d ++ counted (codes " error ") t.failed → f ≡ e ++ counted (codes " refused ") t.refused → g ≡ f ++ codes " sum " → h ≡ g ++ signed_decimal t.sum → out ≡ h ++ 10 ∷ [] → out ≡ totals_text t
+unfolding totals_text
+line_is t a b c d e f g h out ia ib ic iid ie iff ig ih io =
+    io
+    ∙ onto g h (signed_decimal t.sum) _ _ ih (onto f g (codes " sum ") _ _ ig (onto e f (counted (codes " refused ") t.refused) _ _ iff (onto d e (counted (codes " error ") t.failed) _ _ ie (onto c d (counted (codes " cancelled ") t.cancelled) _ _ iid
+    (onto b c (counted (codes " completed ") t.completed) _ _ ic (onto a b (counted (codes "tasks ") t.tasks) _ _ ib (ap (λ x. x ++ totals_text t) ia)))))))
+
+-- ---- the whole
+
+-- the same from totals that are the same
+pub part_is : (t u : Totals) (by : ℕ → Option TaskEnd) (ss : List Statement) (rs : List Reply) → t ≡ no_totals → u ≡ with_tasks by t ss rs → u ≡ with_tasks by no_totals ss rs
+part_is t u by ss rs none made = made ∙ ap (λ (x : Totals). with_tasks by x ss rs) none
+
+-- the totals by the ends that were found
+pub totals_are : (load : Workload) (es : List NodeEntry) (v : Seen) (n : ℕ) (parts : List Part) → SameAs v (seen_from n nothing_seen es) → n ≡ load.settings.workers → parts ≡ load.parts
+    → with_parts v.ends no_totals (all_told n es parts) ≡ with_parts (seen_from load.settings.workers nothing_seen es).ends no_totals (parts_told load es)
+totals_are load es v n parts is w p =
+    ap (λ (l : List Part). with_parts v.ends no_totals (all_told n es l)) p
+    ∙ ap (λ (f : ℕ → Option TaskEnd). with_parts f no_totals (all_told n es load.parts)) (λ j h. is.ends h j)
+    ∙ ap (λ (k : ℕ). with_parts (seen_from k nothing_seen es).ends no_totals (all_told k es load.parts)) w
+
+-- for a legal list the ends that entries show are those in the last state
+pub summary_is : (layout : Layout) (load : Workload) (es : List NodeEntry) → Legal (run_terms layout load) es → with_parts (seen_from load.settings.workers nothing_seen es).ends no_totals (parts_told load es) ≡ totals layout load es
+unfolding totals
+summary_is layout load es legal = ap (λ (f : ℕ → Option TaskEnd). with_parts f no_totals (parts_told load es)) (λ j h. ends_by_entries (run_terms layout load) es legal h j)
+
+-- a well-formed workload has at most 20,000 statements
+lines_more : (p : Part) (rest : List ℕ) → length p.statements + length rest ≤ length (part_lines p ++ rest)
+lines_more p rest =
+    let a = length-append (part_lines p) rest in
+    let b = length-append (line_if_any p.line) (map (λ s. s.line) p.statements) in
+    let c = length-map p.statements (λ (s : Statement). s.line) in
+    omega (arith, a, b, c)
+
+parts_more : (ps : List Part) → statements_in ps ≤ length (flat_map part_lines ps)
+parts_more [] = omega arith
+parts_more (p ∷ ps) = let rest = parts_more ps in let here = lines_more p (flat_map part_lines ps) in omega (arith, rest, here)
+
+pub few_statements : (load : Workload) → WellFormed load → statements_in load.parts ≤ 20000
+few_statements load w =
+    let all = length-append (line_if_any load.node_line) (flat_map part_lines load.parts) in
+    omega (arith, all, parts_more load.parts, w.statements)

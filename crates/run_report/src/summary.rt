@@ -1,0 +1,167 @@
+//! The summary of a run.
+ghost use Rattle.std.specs.Prelude.{◌≡◌, ◌≤◌, ◌<◌, ◌+◌, ◌^◌, ◌++◌, length, string_bytes, IfOk, OnOk};
+ghost use Rattle.std.specs.Fmt.{signed_decimal};
+ghost use Rattle.std.specs.Ordering.{nat_cmp};
+ghost use Rattle.std.specs.BTreeMap.{get};
+ghost use Rattle.workload_file.specs.Formed.{WellFormed};
+ghost use Rattle.mtapi_machine.specs.Legal.{Legal};
+ghost use Rattle.mtapi_machine.specs.State.{terms_with};
+ghost use Rattle.run_report.specs.Replies.{reported, further_told, all_told};
+ghost use Rattle.run_report.specs.Report.{parts_told};
+ghost use Rattle.run_report.specs.Seen.{nothing_seen, seen_from};
+ghost use Rattle.run_report.specs.Summary.{no_totals, with_tasks, with_parts, counted, totals_text, summary, statements_in, AreTotals};
+
+use crate::deciding::{behind, calls_before, decided};
+use crate::standings::standings_of;
+use crate::totals::{Totals, no_totals, with_tasks};
+use mtapi_machine::Entry;
+use mtapi_values::TaskEnd;
+use node_core::Journal;
+use number_text::push_number;
+use std::alloc::{AllocError, Global};
+use std::collections::BTreeMap;
+use workload_file::{Part, Workload};
+
+/// With the tasks of a part, whose caller has this seat and makes so many calls before those of its statements.
+fn with_part(
+    alloc: Global,
+    totals: Totals,
+    who: u32,
+    before: usize,
+    part: &Part,
+    entries: &[Entry],
+    ended: &BTreeMap<u64, TaskEnd>,
+) -> Result<Totals, AllocError>
+    requires totals { AreTotals totals.tasks totals }
+    requires few { totals.tasks + length part.now.statements ≤ 20000 }
+    ensures value { IfOk result (λ t. t ≡ with_tasks (get nat_cmp ended.now) totals part.now.statements (reported who before entries.now part.now).replies) }
+    ensures totals { IfOk result (λ t. AreTotals t.tasks t) }
+    ensures tasks { IfOk result (λ t. t.tasks ≤ totals.tasks + length part.now.statements) }
+{
+    let all = decided(alloc, who, entries)?;
+    let replies = behind(&all, before);
+    Ok(with_tasks(totals, ended, part.statements.as_slice(), replies))
+}
+
+/// With the tasks of the parts of further callers, from this seat on.
+#[tactic(auto, unfolding(crate::specs::Replies::further_told, crate::specs::Summary::with_parts))]
+fn with_further(
+    alloc: Global,
+    totals: Totals,
+    who: u32,
+    parts: &[Part],
+    entries: &[Entry],
+    ended: &BTreeMap<u64, TaskEnd>,
+) -> Result<Totals, AllocError>
+    requires seats { who + length parts.now < 2 ^ 32 }
+    requires totals { AreTotals totals.tasks totals }
+    requires few { totals.tasks + statements_in parts.now ≤ 20000 }
+    ensures { IfOk result (λ t. t ≡ with_parts (get nat_cmp ended.now) totals (further_told who entries.now parts.now)) }
+{
+    match parts {
+        [] => Ok(totals),
+        [part, rest @ ..] => {
+            let with = with_part(alloc, totals, who, 1, part, entries, ended)?;
+            with_further(alloc, with, who + 1, rest, entries, ended)
+        }
+    }
+}
+
+/// The totals of all parts. Main has this seat.
+#[tactic(auto, unfolding(crate::specs::Summary::with_parts))]
+fn all_totals(
+    alloc: Global,
+    main: u32,
+    parts: &[Part],
+    entries: &[Entry],
+    ended: &BTreeMap<u64, TaskEnd>,
+) -> Result<Totals, AllocError>
+    requires seats { main + length parts.now < 2 ^ 32 }
+    requires few { statements_in parts.now ≤ 20000 }
+    ensures { IfOk result (λ t. t ≡ with_parts (get nat_cmp ended.now) no_totals (all_told main entries.now parts.now)) }
+{
+    match parts {
+        [] => Ok(no_totals()),
+        [part, further @ ..] => {
+            let with = with_part(
+                alloc,
+                no_totals(),
+                main,
+                calls_before(part),
+                part,
+                entries,
+                ended,
+            )?;
+            with_further(alloc, with, main + 1, further, entries, ended)
+        }
+    }
+}
+
+/// The totals of a workload with these entries, whatever they are.
+fn totals_by_entries(
+    alloc: Global,
+    load: &Workload,
+    entries: &[Entry],
+) -> Result<Totals, AllocError>
+    requires seats { load.now.settings.workers + length load.now.parts < 2 ^ 32 }
+    requires workers { load.now.settings.workers ≤ 64 }
+    requires few { statements_in load.now.parts ≤ 20000 }
+    ensures { IfOk result (λ t. t ≡ with_parts (seen_from load.now.settings.workers nothing_seen entries.now).ends no_totals (parts_told load.now entries.now)) }
+{
+    let workers = load.settings.workers();
+    let standings = standings_of(alloc, workers, entries)?;
+    all_totals(
+        alloc,
+        workers,
+        load.parts.as_slice(),
+        entries,
+        &standings.ended,
+    )
+}
+
+/// A count behind its word.
+fn push_counted(alloc: Global, out: &mut Vec<u8>, word: &[u8], count: u64) -> Result<(), AllocError>
+    ensures { OnOk result (out.new.items ≡ out.old.items ++ counted word.now count) }
+{
+    out.extend_from_slice(word)?;
+    push_number(alloc, out, count)
+}
+
+/// A sum in decimal.
+fn sum_text(alloc: Global, totals: &Totals) -> Result<String, AllocError>
+    ensures { IfOk result (λ text. string_bytes text ≡ signed_decimal totals.now.sum) }
+{
+    let sum = totals.sum;
+    format!(in alloc; "{sum}")
+}
+
+/// The line of totals.
+#[tactic(auto, unfolding(crate::specs::Summary::totals_text))]
+pub(crate) fn line_of(alloc: Global, totals: &Totals) -> Result<Vec<u8>, AllocError>
+    ensures { IfOk result (λ text. text.items ≡ totals_text totals.now) }
+{
+    let sum = sum_text(alloc, totals)?;
+    let mut out = Vec::new(alloc);
+    push_counted(alloc, &mut out, b"tasks ", totals.tasks)?;
+    push_counted(alloc, &mut out, b" completed ", totals.completed)?;
+    push_counted(alloc, &mut out, b" cancelled ", totals.cancelled)?;
+    push_counted(alloc, &mut out, b" error ", totals.failed)?;
+    push_counted(alloc, &mut out, b" refused ", totals.refused)?;
+    out.extend_from_slice(b" sum ")?;
+    out.extend_from_slice(sum.as_bytes())?;
+    out.push(b'\n')?;
+    Ok(out)
+}
+
+/// The summary of a run of this workload that left this journal: one line, with its tasks counted by how they ended, and the sum of
+/// all numbers of those that completed.
+pub fn summary_of(alloc: Global, load: &Workload, journal: &Journal) -> Result<Vec<u8>, AllocError>
+    requires formed { WellFormed load.now }
+    requires settings { journal.now.settings ≡ load.now.settings }
+    requires callers { journal.now.callers ≡ length load.now.parts }
+    requires legal { Legal (terms_with journal.now.layout journal.now.settings journal.now.callers) journal.now.entries.entries }
+    ensures { IfOk result (λ text. text.items ≡ summary journal.now.layout load.now journal.now.entries.entries) }
+{
+    let totals = totals_by_entries(alloc, load, journal.entries.as_slice())?;
+    line_of(alloc, &totals)
+}

@@ -1,0 +1,8 @@
+use Rattle.mtapi_values.specs.Timeouts.{looks_of}
+use Rattle.sched_threads.specs.declared.looks.Wanted.TheVariants.{FirstMember}
+use Rattle.sched_threads.specs.Replies.{mtapi, given}
+use Rattle.sched_threads.proofs.Said.{waited}
+use Rattle.sched_threads.proofs.callers.Caller.group_wait_any.Goals as goal
+
+pub returns : goal.returns
+returns g c = waited mtapi given (FirstMember c.args.group) (looks_of c.args.timeout) _ _ c.within.result c.given.result c.within.ensures.looked c.within.ensures.spent c.given.ensures

@@ -1,0 +1,8 @@
+use Rattle.mtapi_values.specs.Timeouts.{looks_of}
+use Rattle.sched_threads.specs.declared.looks.Wanted.TheVariants.{Mutex}
+use Rattle.sched_threads.specs.Replies.{mrapi, key}
+use Rattle.sched_threads.proofs.Said.{waited}
+use Rattle.sched_threads.proofs.callers.Caller.mutex_lock.Goals as goal
+
+pub returns : goal.returns
+returns g c = waited mrapi key (Mutex c.args.mutex) (looks_of c.args.timeout) _ _ c.within.result c.key.result c.within.ensures.looked c.within.ensures.spent c.key.ensures

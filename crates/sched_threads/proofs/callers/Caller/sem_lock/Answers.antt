@@ -1,0 +1,8 @@
+use Rattle.mtapi_values.specs.Timeouts.{looks_of}
+use Rattle.sched_threads.specs.declared.looks.Wanted.TheVariants.{Sem}
+use Rattle.sched_threads.specs.Replies.{mrapi, done}
+use Rattle.sched_threads.proofs.Said.{waited}
+use Rattle.sched_threads.proofs.callers.Caller.sem_lock.Goals as goal
+
+pub returns : goal.returns
+returns g c = waited mrapi done (Sem c.args.sem) (looks_of c.args.timeout) _ _ c.within.result c.resource_done.result c.within.ensures.looked c.within.ensures.spent c.resource_done.ensures

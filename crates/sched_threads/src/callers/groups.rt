@@ -1,0 +1,57 @@
+//! The calls on groups.
+
+ghost use Rattle.mtapi_values.specs.Timeouts.{looks_of};
+ghost use Rattle.sched_threads.specs.declared.looks.Wanted.TheVariants.{AllMembers, FirstMember};
+ghost use Rattle.mtapi_machine.specs.declared.ops.Op.TheVariants as op;
+ghost use Rattle.sched_threads.specs.Replies.{done, handle, given, mtapi};
+ghost use Rattle.sched_threads.specs.Answers.{Called, Waited, with_number};
+
+use crate::callers::Caller;
+use crate::callers::answers::{done, given};
+use crate::looks::Wanted;
+use mtapi_values::{GroupHandle, MtapiStatus, TaskEnd, TaskHandle, Timeout};
+use node_core::Op;
+use std::sync::Wait;
+
+impl<'a> Caller<'a> {
+    /// Makes a group without members.
+    pub fn group_create<R: Wait>(&mut self, rt: &R) -> Result<GroupHandle, MtapiStatus>
+        ensures { Called mtapi handle op.GroupCreate self.old self.new (with_number (λ h. h.0) result) }
+    {
+        match self.mtapi_handle(rt, Op::GroupCreate) {
+            Ok(number) => Ok(GroupHandle(number)),
+            Err(status) => Err(status),
+        }
+    }
+
+    /// Gives a group up. Its members become detached.
+    pub fn group_delete<R: Wait>(&mut self, rt: &R, group: GroupHandle) -> Result<(), MtapiStatus>
+        ensures { Called mtapi done (op.GroupDelete group) self.old self.new result }
+    {
+        self.mtapi_done(rt, Op::GroupDelete { group })
+    }
+
+    /// Waits until all members of a group have ended, and frees them. Where one wasn't completed, the first such end in the order of ends is the answer.
+    pub fn group_wait_all<R: Wait>(
+        &mut self,
+        rt: &R,
+        group: GroupHandle,
+        timeout: Timeout,
+    ) -> Result<(), MtapiStatus>
+        ensures { Waited mtapi done (AllMembers group) (looks_of timeout) self.old self.new result }
+    {
+        done(self.within(rt, Wanted::AllMembers(group), timeout))
+    }
+
+    /// Waits for the member of a group that ended first, and hands it out with its end. `GroupCompleted` where the group has none any more.
+    pub fn group_wait_any<R: Wait>(
+        &mut self,
+        rt: &R,
+        group: GroupHandle,
+        timeout: Timeout,
+    ) -> Result<(TaskHandle, TaskEnd), MtapiStatus>
+        ensures { Waited mtapi given (FirstMember group) (looks_of timeout) self.old self.new result }
+    {
+        given(self.within(rt, Wanted::FirstMember(group), timeout))
+    }
+}

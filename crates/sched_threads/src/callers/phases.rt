@@ -1,0 +1,50 @@
+//! The calls on the phase of the node.
+
+ghost use Rattle.std.specs.Prelude.{None};
+ghost use Rattle.sched_threads.specs.declared.looks.Wanted.TheVariants.{Entrance};
+ghost use Rattle.mtapi_machine.specs.declared.ops.Op.TheVariants as op;
+ghost use Rattle.sched_threads.specs.Replies.{done, mtapi};
+ghost use Rattle.sched_threads.specs.Answers.{Called, Waited};
+
+use crate::callers::Caller;
+use crate::callers::answers::done;
+use mtapi_values::MtapiStatus;
+use node_core::Op;
+use std::sync::Wait;
+
+impl<'a> Caller<'a> {
+    /// Opens the node.
+    pub fn initialize<R: Wait>(&mut self, rt: &R) -> Result<(), MtapiStatus>
+        ensures { Called mtapi done op.Initialize self.old self.new result }
+    {
+        self.mtapi_done(rt, Op::Initialize)
+    }
+
+    /// Lets the further callers enter.
+    pub fn release<R: Wait>(&mut self, rt: &R) -> Result<(), MtapiStatus>
+        ensures { Called mtapi done op.Release self.old self.new result }
+    {
+        self.mtapi_done(rt, Op::Release)
+    }
+
+    /// Looks until main has released.
+    pub fn enter<R: Wait>(&mut self, rt: &R) -> Result<(), MtapiStatus>
+        ensures { Waited mtapi done Entrance None self.old self.new result }
+    {
+        done(self.to_enter(rt))
+    }
+
+    /// Begins the end of the node, which takes no new objects then.
+    pub fn finalize_begin<R: Wait>(&mut self, rt: &R) -> Result<(), MtapiStatus>
+        ensures { Called mtapi done op.Close self.old self.new result }
+    {
+        self.mtapi_done(rt, Op::Close)
+    }
+
+    /// Ends the node, once every worker has stopped.
+    pub fn finalize_end<R: Wait>(&mut self, rt: &R) -> Result<(), MtapiStatus>
+        ensures { Called mtapi done op.Final self.old self.new result }
+    {
+        self.mtapi_done(rt, Op::Final)
+    }
+}
