@@ -1,5 +1,6 @@
 #!/usr/bin/env python3
-"""How long the command takes to read a workload. Each text is read whole and refused as not built, so reading is all that is done.
+"""How long the command takes to read a workload. Each text is faulty in its last line alone, so it is read whole, and
+reading is all that is done.
 
 Prints a line for each text, and fails where one takes longer than its limit, or where twice the bytes take more than 2.2 times
 the time. The command has to be built: run `./mtapi` once before.
@@ -14,6 +15,7 @@ TOP = os.path.dirname(os.path.dirname(os.path.abspath(__file__)))
 PROGRAM = os.path.join(TOP, "crates", "mtapi_cli", "out", "mtapi_cli")
 LIMIT = 0.1  # seconds for the largest text of a kind
 RATIO = 2.2  # of the times, at twice the bytes
+LAST = b"faulty\n"  # no word of a statement
 FLOOR = 0.002  # seconds below which times say nothing of a ratio
 TRIES = 9
 
@@ -22,14 +24,14 @@ def names(count):
     """As many groups as uses of them."""
     bound = "".join(f"group g{i}\n" for i in range(count))
     used = "".join(f"group_delete g{i}\n" for i in range(count))
-    return (bound + used).encode()
+    return (bound + used).encode() + LAST
 
 
 def remarks(count):
-    """Comments of so many bytes in all, and a statement."""
+    """Comments, and a statement, of so many bytes in all. The last comment ends one byte before the last line."""
     line = b"# " + b"x" * 61 + b"\n"
     head = b"group g\n"
-    return head + (line * (count // len(line) + 1))[: count - len(head)]
+    return head + (line * (count // len(line) + 1))[: count - len(head) - len(LAST) - 1] + b"\n" + LAST
 
 
 def options(count):
@@ -39,8 +41,8 @@ def options(count):
     i = 0
     while True:
         more = line.format(i).encode()
-        if len(text) + len(more) > count:
-            return text
+        if len(text) + len(more) + len(LAST) > count:
+            return text + LAST
         text += more
         i += 1
 
@@ -51,7 +53,7 @@ def seconds(text):
         start = time.perf_counter()
         done = subprocess.run([PROGRAM, "run"], input=text, capture_output=True)
         took = time.perf_counter() - start
-        if done.returncode != 3 or b"not built" not in done.stderr:
+        if done.returncode != 3 or b": unknown word" not in done.stderr:
             sys.exit(f"status {done.returncode}: {done.stderr.decode()}")
         best = took if best is None else min(best, took)
     return best
@@ -60,7 +62,7 @@ def seconds(text):
 def main():
     if not os.access(PROGRAM, os.X_OK):
         sys.exit("build the command first: ./mtapi")
-    start = seconds(b"group g\n")
+    start = seconds(LAST)
     failed = False
     for name, half, whole in (
         ("names", names(5000), names(10000)),
