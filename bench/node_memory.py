@@ -16,7 +16,8 @@ import subprocess
 import sys
 import tempfile
 
-TOP = os.path.dirname(os.path.dirname(os.path.abspath(__file__)))
+import common
+
 EARLY = (2, 6)  # no memory for the program's words, or for the node
 
 PROGRAM = r"""
@@ -189,21 +190,8 @@ fn main(rt: HostRuntime) -> ExitCode {
 LIBRARIES = "node_core mtapi_machine mtapi_values action_fn"
 
 
-def tree():
-    """A copy of the repository with room for the program in it."""
-    top = tempfile.mkdtemp(prefix="node_memory-")
-    shutil.copytree(os.path.join(TOP, "crates"), os.path.join(top, "crates"), ignore=shutil.ignore_patterns("out", "must-fail"))
-    shutil.copy(os.path.join(TOP, "HANDLES"), top)
-    with open(os.path.join(TOP, "crates.txt")) as old, open(os.path.join(top, "crates.txt"), "w") as new:
-        new.write(old.read() + f"node_memory: {LIBRARIES}\n")
-    os.makedirs(os.path.join(top, "crates", "node_memory", "src"))
-    subprocess.run(["git", "init", "-q"], cwd=top, check=True)
-    return top
-
-
-def tried(top, asks, largest, *flags):
+def tried(crate, asks, largest, *flags):
     """The status and the text of a run of the program, without proof."""
-    crate = os.path.join(top, "crates", "node_memory")
     text = PROGRAM.lstrip().replace("@ASKS@", asks).replace("@LARGEST@", largest)
     with open(os.path.join(crate, "src", "main.rt"), "w") as main:
         main.write(text)
@@ -213,13 +201,13 @@ def tried(top, asks, largest, *flags):
     return done.returncode, done.stdout
 
 
-def last_allocation(top, asks):
+def last_allocation(crate, asks):
     """The number of the program's own allocation: the least that leaves memory for the node when it fails."""
     known = {}
 
     def status(number):
         if number not in known:
-            known[number] = tried(top, asks, "false", "--fail-alloc", str(number))[0]
+            known[number] = tried(crate, asks, "false", "--fail-alloc", str(number))[0]
         return known[number]
 
     low, high = 0, 32
@@ -235,15 +223,16 @@ def last_allocation(top, asks):
 
 
 def main():
-    top = tree()
+    top = tempfile.mkdtemp(prefix="node_memory-")
     try:
-        alone, status = last_allocation(top, "false")
+        crate = common.with_crate(top, "node_memory", LIBRARIES, {})
+        alone, status = last_allocation(crate, "false")
         print(f"a node alone: the program's own is number {alone}, status {status}")
-        asked = tried(top, "true", "false", "--fail-alloc", str(alone))[0]
+        asked = tried(crate, "true", "false", "--fail-alloc", str(alone))[0]
         print(f"after every op of the node: number {alone}, status {asked}")
-        unhindered = tried(top, "true", "false")[0]
+        unhindered = tried(crate, "true", "false")[0]
         print(f"every op with ample memory: status {unhindered}")
-        largest = tried(top, "false", "true")[1]
+        largest = tried(crate, "false", "true")[1]
         seconds = int(re.search(r"nanoseconds (\d+)", largest)[1]) / 1e9
         kilobytes = int(re.search(r"VmHWM:\s+(\d+)", largest)[1])
         print(f"the largest node: {seconds:.3f} s, {kilobytes} kB with the memory of the run-time checks")

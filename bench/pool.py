@@ -1,17 +1,13 @@
 #!/usr/bin/env python3
 """What a pool costs beside a vector with a list of free places, and what a new one costs. Prints a line for each.
 
-Builds the program below over a copy of the crate `handle_pool` in a folder of its own, which takes a minute or two.
+Builds the program below over a copy of the repository in a folder of its own, which takes a minute or two.
 """
 
-import os
-import resource
-import shutil
-import subprocess
-import sys
 import tempfile
 
-TOP = os.path.dirname(os.path.dirname(os.path.abspath(__file__)))
+import common
+
 PLACES = 65_536
 ROUNDS = 200  # fillings and emptyings, as in the program
 NEW = 1_000  # new pools, as in the program
@@ -32,19 +28,6 @@ const PLACES: u32 = 65_536;
 const ROUNDS: u64 = 200;
 
 const POOLS: u64 = 1_000;
-
-/// So many words.
-fn words(rt: &HostRuntime) -> u64 {
-    let mut count = 0;
-    if let Ok(all) = env::args(rt) {
-        for _word in all.skip(1) {
-            if count < 100 {
-                count += 1;
-            }
-        }
-    }
-    count
-}
 
 /// Fills a pool and empties it, so many times.
 fn with_pool(alloc: Global) -> Result<u64, AllocError> {
@@ -137,44 +120,17 @@ fn main(rt: HostRuntime) -> ExitCode {
         Err(_) => ExitCode::FAILURE,
     }
 }
-"""
-
-
-def build(folder):
-    crate = os.path.join(folder, "crates", "pool_bench")
-    os.makedirs(os.path.join(crate, "src"))
-    with open(os.path.join(crate, "src", "main.rt"), "w") as file:
-        file.write(PROGRAM.lstrip("\n"))
-    shutil.copytree(
-        os.path.join(TOP, "crates", "handle_pool"),
-        os.path.join(folder, "crates", "handle_pool"),
-        ignore=shutil.ignore_patterns("out", "must-fail"),
-    )
-    with open(os.path.join(folder, "crates.txt"), "w") as file:
-        file.write("handle_pool:\npool_bench: handle_pool\n")
-    subprocess.run(["git", "init", "-q", folder], check=True)
-    built = subprocess.run(["rt", "run"], cwd=crate, capture_output=True, text=True)
-    program = os.path.join(crate, "out", "pool_bench")
-    if not os.path.exists(program):
-        sys.exit(built.stdout + built.stderr)
-    return program
+""" + common.WORDS
 
 
 def seconds(program, words):
     """The least processor time of some runs."""
-    best = None
-    for _ in range(TRIES):
-        before = resource.getrusage(resource.RUSAGE_CHILDREN)
-        subprocess.run([program] + ["x"] * words, check=True)
-        after = resource.getrusage(resource.RUSAGE_CHILDREN)
-        took = after.ru_utime + after.ru_stime - before.ru_utime - before.ru_stime
-        best = took if best is None else min(best, took)
-    return best
+    return min(common.cost([program] + ["x"] * words)[0] for _ in range(TRIES))
 
 
 def main():
     with tempfile.TemporaryDirectory() as folder:
-        program = build(folder)
+        program = common.built(folder, "pool_bench", "handle_pool", {"main.rt": PROGRAM})
         nothing = seconds(program, 0)
         for words, what in [(1, "the pool"), (2, "a vector")]:
             each = (seconds(program, words) - nothing) / (ROUNDS * PLACES)
@@ -184,4 +140,5 @@ def main():
             print(f"{what}: {each * 1e6:.0f} microseconds for a new one with {PLACES} places of 8 bytes")
 
 
-main()
+if __name__ == "__main__":
+    main()

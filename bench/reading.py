@@ -6,13 +6,12 @@ Prints a line for each text, and fails where one takes longer than its limit, or
 the time. The command has to be built: run `./mtapi` once before.
 """
 
-import os
 import subprocess
 import sys
 import time
 
-TOP = os.path.dirname(os.path.dirname(os.path.abspath(__file__)))
-PROGRAM = os.path.join(TOP, "crates", "mtapi_cli", "out", "mtapi_cli")
+from common import COMMAND, need_command
+
 LIMIT = 0.1  # seconds for the largest text of a kind
 RATIO = 2.2  # of the times, at twice the bytes
 LAST = b"faulty\n"  # no word of a statement
@@ -51,7 +50,7 @@ def seconds(text):
     best = None
     for _ in range(TRIES):
         start = time.perf_counter()
-        done = subprocess.run([PROGRAM, "run"], input=text, capture_output=True)
+        done = subprocess.run([COMMAND, "run"], input=text, capture_output=True)
         took = time.perf_counter() - start
         if done.returncode != 3 or b": unknown word" not in done.stderr:
             sys.exit(f"status {done.returncode}: {done.stderr.decode()}")
@@ -60,8 +59,7 @@ def seconds(text):
 
 
 def main():
-    if not os.access(PROGRAM, os.X_OK):
-        sys.exit("build the command first: ./mtapi")
+    need_command()
     start = seconds(LAST)
     failed = False
     for name, half, whole in (

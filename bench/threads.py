@@ -1,47 +1,84 @@
 #!/usr/bin/env python3
 """How long `mtapi run` takes for generated workloads, beside a peer in plain Rust with one lock (`bench/peer`).
 
-Prints for each number of workers and of tasks the best of some runs of each, whole, and the nanoseconds a task. The command has to be built.
+The peer reads the same text, keeps a journal and writes the same report: the bytes are compared first. The bare peer runs the tasks alone.
+Prints for each number of workers and of tasks the least of some runs of each: the nanoseconds a task on the clock and of the processors;
+and then how far the times are from the bounds that are aimed at. Where the system allows it, all run before the other work of the machine
+(`SCHED_RR`). The command has to be built; another program is measured where it is named: `bench/threads.py [PROGRAM]`.
 """
 
 import os
+import resource
 import subprocess
+import sys
 import tempfile
 import time
 
+import common
 from generated import workload
 
-TOP = os.path.dirname(os.path.dirname(os.path.abspath(__file__)))
-PROGRAM = os.path.join(TOP, "crates", "mtapi_cli", "out", "mtapi_cli")
-PEER = os.path.join(TOP, "bench", "peer", "main.rs")
+PEER = os.path.join(common.TOP, "bench", "peer", "main.rs")
 WORKERS = (1, 2, 4, 16)
 TASKS = (4_750, 19_000)
-RUNS = 5
+RUNS = 7
 
 
 def best(command, text):
-    """The least time of the command on this input, in seconds."""
-    times = []
+    """The least time of the command on this input, in seconds: on the clock, and of the processors."""
+    clock, processors = [], []
     for _ in range(RUNS):
-        start = time.perf_counter()
+        before, start = resource.getrusage(resource.RUSAGE_CHILDREN), time.perf_counter()
         subprocess.run(command, input=text, stdout=subprocess.DEVNULL, check=True)
-        times.append(time.perf_counter() - start)
-    return min(times)
+        took, after = time.perf_counter() - start, resource.getrusage(resource.RUSAGE_CHILDREN)
+        clock.append(took)
+        processors.append(after.ru_utime + after.ru_stime - before.ru_utime - before.ru_stime)
+    return min(clock), min(processors)
+
+
+def same_report(program, peer, text):
+    """Whether both write the same bytes for this workload."""
+    both = [subprocess.run([it, "run"], input=text, stdout=subprocess.PIPE, check=True).stdout for it in (program, peer)]
+    return both[0] == both[1]
+
+
+def measured(program, peer):
+    """The times on the clock of the program and of the peer, by workers and tasks. Prints each, and those of the bare peer."""
+    print("ns a task           mtapi                  the peer               the bare peer")
+    print("workers   tasks   on the clock processors   on the clock processors   on the clock processors")
+    ours, theirs = {}, {}
+    for workers in WORKERS:
+        for tasks in TASKS:
+            text = "".join(f"{line}\n" for line in workload(tasks, workers)).encode()
+            if not same_report(program, peer, text):
+                sys.exit(f"the reports of {tasks} tasks on {workers} workers differ")
+            row = f"{workers:7} {tasks:7}"
+            for times, command, given in (
+                (ours, [program, "run"], text),
+                (theirs, [peer, "run"], text),
+                ({}, [peer, "bare", str(tasks), str(workers)], b""),
+            ):
+                clock, processors = best(command, given)
+                times[workers, tasks] = clock
+                row += f" {clock * 1e9 / tasks:14.0f} {processors * 1e9 / tasks:10.0f}"
+            print(row, flush=True)
+    return ours, theirs
 
 
 def main():
-    print(f"load {os.getloadavg()[0]:.1f}")
+    program = sys.argv[1] if len(sys.argv) > 1 else common.COMMAND
+    first = common.go_first()
+    print(f"load {os.getloadavg()[0]:.1f}, {'before' if first else 'beside'} all other work")
     with tempfile.TemporaryDirectory() as room:
         peer = os.path.join(room, "peer")
         subprocess.run(["rustc", "-O", "--edition", "2021", "-o", peer, PEER], check=True)
-        print("workers   tasks    mtapi s   ns/task     peer s   ns/task")
-        for workers in WORKERS:
-            for tasks in TASKS:
-                text = "".join(f"{line}\n" for line in workload(tasks, workers)).encode()
-                ours = best([PROGRAM, "run"], text)
-                theirs = best([peer, str(tasks), str(workers)], b"")
-                each = [seconds * 1e9 / tasks for seconds in (ours, theirs)]
-                print(f"{workers:7} {tasks:7} {ours:10.3f} {each[0]:9.0f} {theirs:10.3f} {each[1]:9.0f}")
+        ours, theirs = measured(program, peer)
+    few, many = TASKS
+    for workers in WORKERS:
+        print(
+            f"{workers} workers: {many} tasks take {ours[workers, many] / ours[workers, few]:.1f} times as long as {few} (at most 5),"
+            f" and {ours[workers, many] / theirs[workers, many]:.2f} times as long as the peer (at most 2)"
+        )
+    print(f"16 workers take {ours[16, many] / ours[4, many]:.1f} times as long as 4 (at most 3)")
 
 
 if __name__ == "__main__":

@@ -1,95 +1,35 @@
-//! What the runtime is measured against: the same tasks in plain Rust, where one lock and two conditions stand for the node.
+//! What the runtime is measured against, in plain Rust, where one lock and two conditions stand for the node.
 //!
-//! `peer N W` starts N tasks as `bench/generated.py N W` does, on W workers, waits for all of them, and prints the sum of what they answered.
+//! `peer run` does what `mtapi run` does for the workloads of `bench/generated.py`: it reads the text from standard input, runs it with its
+//! workers in threads, keeps a journal entry for each call that is answered, and writes the same report.
+//!
+//! `peer bare N W` runs N such tasks on W workers and does nothing else.
 
-use std::collections::VecDeque;
+mod bare;
+mod node;
+mod report;
+mod workload;
+
 use std::env;
-use std::sync::{Condvar, Mutex};
-use std::thread;
+use std::hint::black_box;
+use std::io::{self, Read};
 
-/// A task: its kind is told by which numbers it has.
-enum Task {
-    Add(i64, i64),
-    Triangle(i64),
+fn run() -> io::Result<()> {
+    let mut text = String::new();
+    io::stdin().read_to_string(&mut text)?;
+    let load = workload::read(&text);
+    let journal = black_box(node::run(&load));
+    report::write(&load, &journal, io::stdout().lock())
 }
 
-impl Task {
-    fn run(&self) -> i64 {
-        match self {
-            Task::Add(a, b) => a + b,
-            Task::Triangle(n) => n * (n + 1) / 2,
+fn main() -> io::Result<()> {
+    let words: Vec<String> = env::args().skip(1).collect();
+    match words[0].as_str() {
+        "run" => run(),
+        "bare" => {
+            bare::run(words[1].parse().expect("a number"), words[2].parse().expect("a number"));
+            Ok(())
         }
+        word => panic!("unknown word {word}"),
     }
-}
-
-#[derive(Default)]
-struct Shared {
-    ready: VecDeque<Task>,
-    ended: u64,
-    sum: i64,
-    closed: bool,
-}
-
-#[derive(Default)]
-struct Node {
-    shared: Mutex<Shared>,
-    starts: Condvar,
-    ends: Condvar,
-}
-
-impl Node {
-    fn start(&self, task: Task) {
-        self.shared.lock().unwrap().ready.push_back(task);
-        self.starts.notify_one();
-    }
-
-    fn pick(&self) -> Option<Task> {
-        let mut shared = self.shared.lock().unwrap();
-        loop {
-            if let Some(task) = shared.ready.pop_front() {
-                return Some(task);
-            }
-            if shared.closed {
-                return None;
-            }
-            shared = self.starts.wait(shared).unwrap();
-        }
-    }
-
-    fn finish(&self, result: i64) {
-        let mut shared = self.shared.lock().unwrap();
-        shared.ended += 1;
-        shared.sum += result;
-        self.ends.notify_one();
-    }
-
-    fn wait_for(&self, count: u64) -> i64 {
-        let mut shared = self.shared.lock().unwrap();
-        while shared.ended < count {
-            shared = self.ends.wait(shared).unwrap();
-        }
-        shared.closed = true;
-        self.starts.notify_all();
-        shared.sum
-    }
-}
-
-fn main() {
-    let numbers: Vec<u64> = env::args().skip(1).map(|word| word.parse().expect("a number")).collect();
-    let (tasks, workers) = (numbers[0], numbers[1]);
-    let node = Node::default();
-    thread::scope(|scope| {
-        for _ in 0..workers {
-            scope.spawn(|| {
-                while let Some(task) = node.pick() {
-                    let result = task.run();
-                    node.finish(result);
-                }
-            });
-        }
-        for i in 0..tasks as i64 {
-            node.start(if i % 2 == 0 { Task::Add(i, 7) } else { Task::Triangle(i % 64) });
-        }
-        println!("{}", node.wait_for(tasks));
-    });
 }

@@ -19,6 +19,7 @@ pub trait ActionSet {
 
 /// Gives each worker a set of actions of its own.
 pub trait ActionSource {
+    /// The set that a worker gets.
     type Set: ActionSet + Send + Drop;
 
     /// The set for this worker.

@@ -121,6 +121,10 @@ impl Model for MemSink {
 
 impl MemSink {
     /// An empty sink; `most` is at least 1. Its room is taken here, so that a write takes no memory.
+    ///
+    /// # Errors
+    ///
+    /// - `AllocError`: there is no memory for the room.
     pub fn new(alloc: Global, room: usize, most: usize, fails: Vec<u64>) -> Result<Self, AllocError>
         requires { 0 < most }
         ensures { IfOk result (λ s. s ≡ record { bytes = []; room = room; most = most; fails = fails.items; calls = 0; faults = 0 }) }

@@ -17,6 +17,10 @@ pub trait Source {
 
     /// Puts the next bytes into the front of `buf` and tells how many; 0 with a buffer that isn't empty means
     /// the end. A failed read takes nothing, and a read that didn't fail counts no fault.
+    ///
+    /// # Errors
+    ///
+    /// - `Failed`: the read failed, and the count of faults rose.
     fn read(&mut self, buf: &mut [u8]) -> Result<usize, Failed>
         ensures bound { ReadsAtMost result buf.new }
         ensures bytes { ReadConsumes (left self.old) (left self.new) result buf.new }
@@ -34,6 +38,10 @@ pub trait Sink {
 
     /// Adds a prefix of `piece` and tells how long it was, at least 1 where the piece isn't empty. A failed
     /// write adds nothing.
+    ///
+    /// # Errors
+    ///
+    /// - `Failed`: the write failed, and the count of faults rose.
     fn write(&mut self, piece: &[u8]) -> Result<usize, Failed>
         ensures bound { TakesSome result piece.now }
         ensures bytes { WriteAppends (held self.old) (held self.new) result piece.now }

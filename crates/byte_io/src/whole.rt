@@ -44,6 +44,12 @@ impl From<Failed> for ReadAllError {
 }
 
 /// Reads a source to its end, or to one byte past `limit`.
+///
+/// # Errors
+///
+/// - `Memory`: there is no memory for the bytes.
+/// - `Read`: a read failed, and the count of faults rose.
+/// - `TooLong`: the source gave more than `limit` bytes.
 pub fn read_all<S: Source>(
     alloc: Global,
     src: &mut S,

@@ -7,6 +7,11 @@ ghost use Rattle.byte_io.specs.Causes.{Rose, AppendsFront, HasCause};
 use crate::{Failed, Sink};
 
 /// Writes all the bytes, in as many calls as the sink wants.
+///
+/// # Errors
+///
+/// - `Failed`: a write failed, and the count of faults rose. What the sink took before
+///   is a prefix of the bytes, where it tells its bytes.
 pub fn write_all<W: Sink>(out: &mut W, bytes: &[u8]) -> Result<(), Failed>
     ensures ok { OnOk result (Appends (W.held out.old) (W.held out.new) bytes.now) }
     ensures err { OnErr result (AppendsFront (W.held out.old) (W.held out.new) bytes.now) }

@@ -3,14 +3,14 @@ use Rattle.std.proofs.Common.{◌≡◌, ◌↔◌, ℕ, zero, suc, ◌<◌, ◌
 use Rattle.std.specs.Option.{option_map}
 use Rattle.std.proofs.lemmas.Bool.{false≢true, cases_eq}
 use Rattle.std.proofs.lemmas.Bool.Decides.{eqb_tells}
-use Rattle.handle_pool.specs.Slots.{Slot, Slots, slot_of, generation_of, used_slot, free_slot, slot_value, IsFull, Inserts, with_value, without, changed}
+use Rattle.handle_pool.specs.Slots.{Slot, Slots, slot_of, generation_of, used_slot, free_slot, slot_value, live_count, IsFull, Inserts, with_value, without, changed}
 use Rattle.handle_pool.proofs.StandsLemmas.{used_at_live}
 use Rattle.handle_pool.proofs.WalkLemmas.{slot_of-live}
 use Rattle.linked_places.specs.Lists.{HandleLists, list_at, stands_at, has_handle, without_handle, NowhereAt, with_list}
 use Rattle.linked_places.specs.Beside.{slot_beside, beside, pool_beside, AreBeside}
 use Rattle.linked_places.proofs.HandleLemmas.{list_at-set_same, list_at-set_other, stands-either, stands_cases}
 use Rattle.linked_places.proofs.LinkedLemmas.{alone}
-use Rattle.linked_places.proofs.BesideLemmas.{length-beside, slice_get-beside, get-beside, IsFull-beside, Inserts-beside, with_value-beside, list-beside, without-beside, AreBeside-new, AreBeside-insert, AreBeside-value, AreBeside-list, AreBeside-remove, NowhereAt-beside, beside-fresh, list_at-none}
+use Rattle.linked_places.proofs.BesideLemmas.{length-beside, slice_get-beside, get-beside, live_count-beside, IsFull-beside, Inserts-beside, with_value-beside, list-beside, without-beside, AreBeside-new, AreBeside-insert, AreBeside-value, AreBeside-list, AreBeside-remove, NowhereAt-beside, beside-fresh, list_at-none}
 use Rattle.group_core.specs.Members.{Members, GroupTable, no_members, with_ended, rest_of, NoMemberAt, IsUnendedMember, LiveAreUsed, of_unended, and_ended, members_in, table_of, AreGroups}
 
 -- a live handle of groups, and one that is none
@@ -205,6 +205,9 @@ module _ (pool : Slots (Unit {0})) (unended ended : HandleLists) (g : ℕ) where
         ∙ without-beside and_ended (pool_beside of_unended pool unended.lists) ended.lists g (of_unended tt (list_at unended.lists (slot_of g))) are.ended_beside get-first
 
 module _ (pool : Slots (Unit {0})) (unended ended : HandleLists) where
+  pub live_count-members : live_count (members_in pool unended ended) ≡ live_count pool
+  live_count-members = live_count-beside and_ended (pool_beside of_unended pool unended.lists).slots ended.lists ∙ live_count-beside of_unended pool.slots unended.lists
+
   pub IsFull-members : IsFull (members_in pool unended ended) ↔ IsFull pool
   IsFull-members =
       let outer = IsFull-beside and_ended (pool_beside of_unended pool unended.lists) ended.lists in

@@ -7,7 +7,7 @@ mod worked;
 
 ghost use Rattle.std.specs.Prelude.{◌≡◌, ◌≤◌, ◌<◌, replicate, IfOk, IfNone, OnOk, OnErr, OnSome, IsSome};
 ghost use Rattle.std.specs.Option.{option_map};
-ghost use Rattle.handle_pool.specs.Slots.{slot_value, slot_of, free_slot, without, changed};
+ghost use Rattle.handle_pool.specs.Slots.{slot_value, slot_of, free_slot, without, changed, live_count};
 ghost use Rattle.group_core.specs.Members.{with_member, with_ended, without_first, Creates, delete_reply, NoMemberAt, IsUnendedMember, LiveAreUsed, counts_of, first_ended, first_unended, without_first_unended};
 
 use handle_pool::Pool;
@@ -67,7 +67,13 @@ impl Groups {
         })
     }
 
-    /// Makes a group with no members. `ErrGroupLimit` where there is no room.
+    /// Makes a group with no members.
+    ///
+    /// Stands for `mtapi_group_create`.
+    ///
+    /// # Errors
+    ///
+    /// - `ErrGroupLimit`: every place is in use or has retired.
     pub fn create(&mut self) -> Result<GroupHandle, MtapiStatus>
         ensures { Creates self.old result self.new }
     {
@@ -77,7 +83,13 @@ impl Groups {
         Ok(GroupHandle(handle))
     }
 
-    /// Gives up a group and forgets its members. `ErrGroupInvalid` where it isn't live.
+    /// Gives up a group and forgets its members.
+    ///
+    /// Stands for `mtapi_group_delete`.
+    ///
+    /// # Errors
+    ///
+    /// - `ErrGroupInvalid`: the group isn't live.
     pub fn delete(&mut self, g: GroupHandle) -> Result<(), MtapiStatus>
         ensures reply { result ≡ delete_reply (slot_value self.old.pool g.0) }
         ensures ok { OnOk result (self.new ≡ record self.old { pool = without self.old.pool g.0 }) }
@@ -113,7 +125,15 @@ impl Groups {
         self.ended.push(slot, t.0);
     }
 
-    /// How many members of a live group weren't handed out, and how many of these have ended.
+    /// Tells how many groups are live.
+    pub fn live(&self) -> u32
+        ensures { result ≡ live_count self.now.pool }
+    {
+        self.pool.live()
+    }
+
+    /// Tells how many members of a live group weren't handed out, and how many of these have ended.
+    /// None exactly where the group isn't live.
     pub fn left(&self, g: GroupHandle) -> Option<(u32, u32)>
         ensures { result ≡ option_map counts_of (slot_value self.now.pool g.0) }
     {
@@ -125,7 +145,10 @@ impl Groups {
         Some((self.unended.len(slot) + ended, ended))
     }
 
-    /// Hands out the member of a live group that ended first.
+    /// Hands out the member of a live group that ended first. None where the group isn't live, or
+    /// no member is left that has ended.
+    ///
+    /// Stands for what `mtapi_group_wait_any` takes out of a group.
     pub fn take(&mut self, g: GroupHandle) -> Option<TaskHandle>
         ensures task { option_map (λ (t : TaskHandle). t.0) result ≡ first_ended (slot_value self.old.pool g.0) }
         ensures some { OnSome result (self.new ≡ record self.old { pool = changed self.old.pool g.0 without_first }) }
@@ -142,7 +165,8 @@ impl Groups {
         Some(TaskHandle(first))
     }
 
-    /// Has the member of a live group that entered first leave, of those that haven't ended.
+    /// Has the member that entered first leave a live group, of those that haven't ended. None
+    /// where the group isn't live, or there is no such member.
     pub fn leave(&mut self, g: GroupHandle) -> Option<TaskHandle>
         ensures task { option_map (λ (t : TaskHandle). t.0) result ≡ first_unended (slot_value self.old.pool g.0) }
         ensures some { OnSome result (self.new ≡ record self.old { pool = changed self.old.pool g.0 without_first_unended }) }

@@ -13,6 +13,8 @@ ghost use Rattle.handle_pool.specs.Place.{slot_in};
 
 mod places;
 mod row;
+#[cfg(test)]
+mod tests;
 
 use places::{Place, Places};
 use std::alloc::{AllocError, Global};
@@ -54,7 +56,11 @@ impl<T> Pool<T> {
     ghost use Rattle.handle_pool.specs.Lends.{lends_get, lends_value};
 
     /// A pool of `max` empty slots, 1 to 65,536, with all the memory that it will use. Each slot begins at generation 1, and retires
-    /// once a value of the generation `generations`, at least 1, is removed. Refuses only when out of memory.
+    /// once a value of the generation `generations`, at least 1, is removed.
+    ///
+    /// # Errors
+    ///
+    /// - `AllocError`: memory ran out.
     pub fn new(alloc: Global, max: u32, generations: u32) -> Result<Pool<T>, AllocError>
         requires some { 1 ≤ max }
         requires few { max ≤ 65536 }
@@ -72,7 +78,11 @@ impl<T> Pool<T> {
         })
     }
 
-    /// The value of a live handle: none exactly where the handle isn't live.
+    /// The value of a live handle.
+    ///
+    /// # Errors
+    ///
+    /// - `None`: the handle isn't live.
     pub fn get(&self, handle: u64) -> Option<&T>
         ensures { option_copied result ≡ slot_value self.now handle }
     {
@@ -88,7 +98,11 @@ impl<T> Pool<T> {
         }
     }
 
-    /// The value of a live handle, for writing: none exactly where the handle isn't live.
+    /// The value of a live handle, for writing.
+    ///
+    /// # Errors
+    ///
+    /// - `None`: the handle isn't live.
     pub fn get_mut(&mut self, handle: u64) -> Option<&mut T>
         ensures* writes_back { sem 𝓛 (lends_get T.row self.entry handle result) }
         ensures value { option_copied_mut result ≡ slot_value self.old handle }
@@ -119,7 +133,11 @@ impl<T> Pool<T> {
         self.get(handle).is_some()
     }
 
-    /// Puts a value into an empty slot, and gives its handle. The value comes back exactly where every slot is in use or has retired.
+    /// Puts a value into an empty slot, and gives its handle.
+    ///
+    /// # Errors
+    ///
+    /// - The value itself: every slot is in use or has retired. The pool stays as it was.
     pub fn insert(&mut self, value: T) -> Result<u64, T>
         ensures full { IsErr result ↔ IsFull self.old }
         ensures value_back { IfErr result (λ back. back ≡ value) }
@@ -136,8 +154,12 @@ impl<T> Pool<T> {
         Ok(u64::from(generation) * SPAN + place as u64)
     }
 
-    /// Gives up a live handle, and gives its value back: none exactly where the handle isn't live. The slot goes on to its next
+    /// Gives up a live handle, and gives its value back. The slot goes on to its next
     /// generation, and retires at the last one.
+    ///
+    /// # Errors
+    ///
+    /// - `None`: the handle isn't live. The pool stays as it was.
     pub fn remove(&mut self, handle: u64) -> Option<T>
         ensures value { result ≡ slot_value self.old handle }
         ensures removed { OnSome result (self.new ≡ without self.old handle) }
@@ -169,7 +191,11 @@ impl<T> Pool<T> {
         value
     }
 
-    /// The handle and the value of the slot at a place: none exactly where there is no such slot or it is empty.
+    /// The handle and the value of the slot at a place.
+    ///
+    /// # Errors
+    ///
+    /// - `None`: there is no such slot, or it is empty.
     pub fn slot_at(&self, place: u32) -> Option<(u64, &T)>
         ensures { option_map (λ found. (found.0, found.1.now)) result ≡ used_at place (slice_get self.now.slots place) }
     {
@@ -221,186 +247,3 @@ impl<T> Pool<T> {
 pub fn law_pool<T>()
     ensures { PoolLaw T }
 {}
-
-#[cfg(test)]
-mod tests {
-    use super::*;
-    use std::cell::Cell;
-    use std::collections::VecDeque;
-    use std::test::Fail;
-
-    #[test]
-    fn one_slot_of_two_generations(rt: HostRuntime) -> Result<(), Fail> {
-        let mut pool = Pool::new(rt.alloc(), 1, 2)?;
-        assert_eq!(rt; pool.insert(7), Ok(4294967296));
-        assert_eq!(rt; pool.remove(4294967296), Some(7));
-        assert_eq!(rt; pool.insert(8), Ok(8589934592));
-        assert_eq!(rt; pool.get(4294967296).copied(), None);
-        assert_eq!(rt; pool.remove(8589934592), Some(8));
-        assert_eq!(rt; pool.insert(9), Err(9));
-        assert_eq!(rt; pool.live(), 0);
-        assert_eq!(rt; pool.retired(), 1);
-        Ok(())
-    }
-
-    #[test]
-    fn a_place_is_used_again(rt: HostRuntime) -> Result<(), Fail> {
-        let mut pool = Pool::new(rt.alloc(), 2, 2)?;
-        let first = pool.insert(1).ok().ok_or("full")?;
-        assert_eq!(rt; pool.insert(2).is_ok(), true);
-        assert_eq!(rt; pool.insert(3), Err(3));
-        assert_eq!(rt; pool.live(), 2);
-        assert_eq!(rt; pool.retired(), 0);
-        assert_eq!(rt; pool.remove(first), Some(1));
-        assert_eq!(rt;
-            pool.insert(3).ok().map(u128::from),
-            Some(u128::from(first) + 4294967296)
-        );
-        Ok(())
-    }
-
-    #[test]
-    fn a_used_place_has_another_handle(rt: HostRuntime) -> Result<(), Fail> {
-        let mut pool = Pool::new(rt.alloc(), 3, 2)?;
-        assert_eq!(rt; pool.insert(1).is_ok(), true);
-        let second = pool.insert(2).ok().ok_or("full")?;
-        assert_eq!(rt; pool.insert(3).is_ok(), true);
-        assert_eq!(rt; pool.remove(second), Some(2));
-        assert_eq!(rt;
-            pool.insert(4).ok().map(u128::from),
-            Some(u128::from(second) + 4294967296)
-        );
-        assert_eq!(rt; pool.get(second).copied(), None);
-        Ok(())
-    }
-
-    // In turn i the oldest live value goes where i is divisible by 3 or 50 values are live, and else i comes.
-    #[test]
-    fn many_turns_answer_as_a_plain_list_does(rt: HostRuntime) -> Result<(), Fail> {
-        let mut pool = Pool::new(rt.alloc(), 50, 1000)?;
-        let mut live = VecDeque::new(rt.alloc());
-        let mut turns = vec![in rt.alloc(); 0u64; 50]?;
-        let mut retired = Vec::new(rt.alloc());
-        for i in 1..100_001u64 {
-            let leaves = i % 3 == 0 || live.len() == 50;
-            let oldest = if leaves { live.pop_front() } else { None };
-            if let Some((handle, value)) = oldest {
-                assert_eq!(rt; pool.get(handle).copied(), Some(value));
-                assert_eq!(rt; pool.remove(handle), Some(value));
-                assert_eq!(rt; pool.get(handle).copied(), None);
-                if handle / SPAN == 1000 {
-                    retired.push(handle)?;
-                }
-            } else {
-                let full = live.len().wrapping_add(retired.len()) == 50;
-                match pool.insert(i) {
-                    Ok(handle) => {
-                        assert_eq!(rt; full, false);
-                        assert_eq!(rt; pool.get(handle).copied(), Some(i));
-                        let slot = (handle % SPAN) as usize;
-                        let turn = turns.get_mut(slot).ok_or("no such slot")?;
-                        *turn = turn.wrapping_add(1);
-                        assert_eq!(rt; handle / SPAN, *turn);
-                        live.push_back((handle, i))?;
-                    }
-                    Err(back) => {
-                        assert_eq!(rt; full, true);
-                        assert_eq!(rt; back, i);
-                    }
-                }
-            }
-            assert_eq!(rt; u64::from(pool.live()), live.len() as u64);
-            assert_eq!(rt; u64::from(pool.retired()), retired.len() as u64);
-        }
-        Ok(())
-    }
-
-    // A pool may go to another thread where its values may.
-    fn goes<S: Send>(value: S) -> S {
-        value
-    }
-
-    fn pool_goes<T: Send>(pool: Pool<T>) -> Pool<T> {
-        goes(pool)
-    }
-
-    #[test]
-    fn a_pool_goes_to_another_thread(rt: HostRuntime) -> Result<(), Fail> {
-        let mut pool = pool_goes(Pool::new(rt.alloc(), 1, 1)?);
-        assert_eq!(rt; pool.insert(5), Ok(4294967296));
-        Ok(())
-    }
-
-    // A value that counts how often it is dropped.
-    struct Counted<'a>(&'a Cell<u32>);
-
-    impl Drop for Counted<'_> {
-        fn drop(self) {
-            let Counted(drops) = self;
-            drops.set(drops.get().wrapping_add(1));
-        }
-    }
-
-    // The slots end as: in use, retired, empty again, never used.
-    #[test]
-    fn the_end_of_a_pool_drops_each_live_value_once(rt: HostRuntime) -> Result<(), Fail> {
-        let drops = [
-            Cell::new(0),
-            Cell::new(0),
-            Cell::new(0),
-            Cell::new(0),
-            Cell::new(0),
-        ];
-        {
-            let mut pool = Pool::new(rt.alloc(), 4, 2)?;
-            let kept = pool.insert(Counted(&drops[0])).ok().ok_or("full")?;
-            let first = pool.insert(Counted(&drops[1])).ok().ok_or("full")?;
-            let other = pool.insert(Counted(&drops[2])).ok().ok_or("full")?;
-            let removed = pool.remove(first);
-            assert_eq!(rt; removed.is_some(), true);
-            assert_eq!(rt; drops[1].get(), 0);
-            drop(removed);
-            assert_eq!(rt; drops[1].get(), 1);
-            let second = pool.insert(Counted(&drops[3])).ok().ok_or("full")?;
-            drop(pool.remove(second));
-            drop(pool.remove(other));
-            assert_eq!(rt; pool.remove(second).is_none(), true);
-            assert_eq!(rt; pool.get(kept).is_some(), true);
-            assert_eq!(rt; (pool.live(), pool.retired()), (1, 1));
-            assert_eq!(rt; drops[0].get(), 0);
-        }
-        for count in &drops[..4] {
-            assert_eq!(rt; count.get(), 1);
-        }
-
-        // A value that a full pool gives back is dropped by its caller alone, and an end in mid-way drops what is live.
-        {
-            let mut pool = Pool::new(rt.alloc(), 1, 1)?;
-            assert_eq!(rt; pool.insert(Counted(&drops[0])).is_ok(), true);
-            let back = pool.insert(Counted(&drops[4]));
-            assert_eq!(rt; (back.is_err(), drops[4].get()), (true, 0));
-            drop(back);
-            assert_eq!(rt; (drops[0].get(), drops[4].get()), (1, 1));
-        }
-        assert_eq!(rt; (drops[0].get(), drops[4].get()), (2, 1));
-        Ok(())
-    }
-
-    #[test]
-    fn a_value_is_changed_in_place(rt: HostRuntime) -> Result<(), Fail> {
-        let mut pool = Pool::new(rt.alloc(), 2, 2)?;
-        let handle = pool.insert(1).ok().ok_or("full")?;
-        if let Some(value) = pool.get_mut(handle) {
-            *value = 5;
-        }
-        assert_eq!(rt; pool.get(handle).copied(), Some(5));
-        assert_eq!(rt; pool.max(), 2);
-        assert_eq!(rt; pool.generations(), 2);
-        assert_eq!(rt;
-            pool.slot_at(0).map(|found| (found.0, *found.1)),
-            Some((handle, 5))
-        );
-        law_pool::<u32>();
-        Ok(())
-    }
-}

@@ -3,10 +3,13 @@
 
 mod action;
 pub mod cover;
+#[cfg(test)]
+mod tests;
 
-ghost use Rattle.std.specs.Prelude.{◌≡◌, ◌+◌, ◌≤◌, ◌<◌, ℕ, List, true, false, replicate, Some, slice_get, IsSome, IfSome, IfNone, IfOk, OnOk, OnErr};
-ghost use Rattle.handle_pool.specs.Slots.{slot_value, free_slot, without, changed};
-ghost use Rattle.mtapi_objects.specs.Actions.{Action, with_enabled};
+ghost use Rattle.std.specs.Prelude.{◌≡◌, ◌+◌, ◌≤◌, ◌<◌, ℕ, List, true, false, replicate, Some, slice_get, is_some, IsSome, IfSome, IfNone, IfOk, OnOk, OnErr};
+ghost use Rattle.handle_pool.specs.Slots.{slot_value, free_slot, without, changed, live_count};
+ghost use Rattle.mtapi_objects.specs.Actions.{Action, with_enabled, action_create_refusals};
+ghost use Rattle.mtapi_values.specs.Conditions.{first};
 ghost use Rattle.job_table.specs.Answers.{Creates, Covers, Chooses, job_of, runs_job_on};
 ghost use Rattle.job_table.specs.Cover.{CoversBefore};
 
@@ -54,12 +57,19 @@ impl Actions {
         })
     }
 
-    /// Makes an enabled action. `ErrJobInvalid` where the job isn't 1 to 65,535, then `ErrActionLimit` where there is no room.
+    /// Makes an enabled action of a job, which may run on these cores.
+    ///
+    /// Stands for `mtapi_action_create`.
+    ///
+    /// # Errors
+    ///
+    /// - `ErrJobInvalid`: the job isn't 1 to 65,535.
+    /// - `ErrActionLimit`: every place is in use or has retired.
     pub fn create(&mut self, job: u32, kind: Kind, cores: Mask) -> Result<ActionHandle, MtapiStatus>
         ensures { Creates self.old job kind cores.0 result self.new }
     {
-        if job == 0 || job > 65535 {
-            return Err(MtapiStatus::ErrJobInvalid);
+        if let Some(status) = Actions::create_refusal(job) {
+            return Err(status);
         }
         let lists = self.pool.max();
         match self.pool.insert(StoredAction::new(job, kind, cores)) {
@@ -71,7 +81,49 @@ impl Actions {
         }
     }
 
-    /// Gives up an action, and gives its job. `ErrActionInvalid` where it isn't live.
+    /// Tells why a create of an action of this job is refused, whether there is room or not:
+    /// `ErrJobInvalid` where the job isn't 1 to 65,535, else None.
+    pub fn create_refusal(job: u32) -> Option<MtapiStatus>
+        ensures { result ≡ first (action_create_refusals job) }
+    {
+        if job == 0 || job > 65535 {
+            Some(MtapiStatus::ErrJobInvalid)
+        } else {
+            None
+        }
+    }
+
+    /// Tells how many actions are live.
+    pub fn live(&self) -> u32
+        ensures { result ≡ live_count self.now }
+    {
+        self.pool.live()
+    }
+
+    /// Whether a handle names a live action.
+    pub fn is_live(&self, a: ActionHandle) -> bool
+        ensures { result ≡ is_some (slot_value self.now a.0) }
+    {
+        self.pool.get(a.0).is_some()
+    }
+
+    /// The job of an action. `ErrActionInvalid` where the action isn't live.
+    pub fn job(&self, a: ActionHandle) -> Result<u32, MtapiStatus>
+        ensures { result ≡ job_of (slot_value self.now a.0) }
+    {
+        match self.pool.get(a.0) {
+            Some(action) => Ok(action.job()),
+            None => Err(MtapiStatus::ErrActionInvalid),
+        }
+    }
+
+    /// Gives up an action, and gives its job.
+    ///
+    /// Stands for `mtapi_action_delete`.
+    ///
+    /// # Errors
+    ///
+    /// - `ErrActionInvalid`: the action isn't live.
     pub fn delete(&mut self, a: ActionHandle) -> Result<u32, MtapiStatus>
         ensures reply { result ≡ job_of (slot_value self.old a.0) }
         ensures ok { OnOk result (self.new ≡ without self.old a.0) }
@@ -87,7 +139,13 @@ impl Actions {
         }
     }
 
-    /// Enables an action, and gives its job. `ErrActionInvalid` where it isn't live.
+    /// Lets an action be chosen again, and gives its job. An enabled one stays as it is.
+    ///
+    /// Stands for `mtapi_action_enable`.
+    ///
+    /// # Errors
+    ///
+    /// - `ErrActionInvalid`: the action isn't live.
     pub fn enable(&mut self, a: ActionHandle) -> Result<u32, MtapiStatus>
         ensures reply { result ≡ job_of (slot_value self.old a.0) }
         ensures new { self.new ≡ changed self.old a.0 (with_enabled true) }
@@ -95,7 +153,13 @@ impl Actions {
         self.set_enabled(a, true)
     }
 
-    /// Disables an action, and gives its job. `ErrActionInvalid` where it isn't live.
+    /// Has an action be chosen no more, and gives its job. A disabled one stays as it is.
+    ///
+    /// Stands for `mtapi_action_disable`.
+    ///
+    /// # Errors
+    ///
+    /// - `ErrActionInvalid`: the action isn't live.
     pub fn disable(&mut self, a: ActionHandle) -> Result<u32, MtapiStatus>
         ensures reply { result ≡ job_of (slot_value self.old a.0) }
         ensures new { self.new ≡ changed self.old a.0 (with_enabled false) }
@@ -110,7 +174,8 @@ impl Actions {
         set_enabled_in(&mut self.pool, a.0, enabled)
     }
 
-    /// Which cores the live actions of a job cover.
+    /// Tells which cores the live actions of a job cover: no live action has it, all that do are
+    /// disabled, or the cores in some mask of those that aren't. Any job may be asked for.
     pub fn cover(&self, job: u32) -> Cover
         ensures { Covers self.now job result }
     {
@@ -125,7 +190,8 @@ impl Actions {
         cover
     }
 
-    /// Some live, enabled action of the job whose mask has the worker, and its kind.
+    /// Finds a live, enabled action of the job whose mask has the worker, and gives its kind beside
+    /// it. None exactly where there is none; which of several isn't said.
     pub fn choice(&self, job: u32, worker: u32) -> Option<(ActionHandle, Kind)>
         requires { worker < 64 }
         ensures { Chooses self.now job worker result }
@@ -140,6 +206,16 @@ impl Actions {
             next = self.jobs.next(handle);
         }
         None
+    }
+
+    /// The kind of a live, enabled action of this job whose mask has the worker. None exactly where
+    /// the handle names no such action.
+    pub fn kind_for(&self, a: ActionHandle, job: u32, worker: u32) -> Option<Kind>
+        requires { worker < 64 }
+        ensures some { IfSome result (λ kind. (x : Action) × (slot_value self.now a.0 ≡ Some x) × (x.kind ≡ kind) × (runs_job_on job worker x ≡ true)) }
+        ensures none { IfNone result ((x : Action) → slot_value self.now a.0 ≡ Some x → runs_job_on job worker x ≡ true → ⊥) }
+    {
+        runs_at(&self.pool, job, worker, a.0)
     }
 }
 
@@ -172,53 +248,14 @@ fn cover_at(pool: &Pool<StoredAction>, cover: Cover, job: u32, handle: u64) -> C
     }
 }
 
-// The kind of the action of this handle, if it is enabled, has this job, and its mask has the worker.
+// The kind of the live action of this handle, if it is enabled, has this job, and its mask has the worker.
 fn runs_at(pool: &Pool<StoredAction>, job: u32, worker: u32, handle: u64) -> Option<Kind>
-    requires worker { worker < 64 }
-    requires live { IsSome (slot_value pool.now handle) }
+    requires { worker < 64 }
     ensures some { IfSome result (λ kind. (a : Action) × (slot_value pool.now handle ≡ Some a) × (a.kind ≡ kind) × (runs_job_on job worker a ≡ true)) }
     ensures none { IfNone result ((a : Action) → slot_value pool.now handle ≡ Some a → runs_job_on job worker a ≡ true → ⊥) }
 {
     match pool.get(handle) {
         Some(action) if action.runs_job_on(job, worker) => Some(action.kind()),
         _ => None,
-    }
-}
-
-#[cfg(test)]
-mod tests {
-    use super::*;
-    use std::test::Fail;
-
-    #[test]
-    fn one_job_with_two_actions(rt: HostRuntime) -> Result<(), Fail> {
-        let mut actions = Actions::new(rt.alloc(), 2, 1)?;
-        assert_eq!(rt; actions.cover(7), Cover::NoAction);
-        assert_eq!(rt;
-            actions.create(0, Kind::Add, Mask(1)),
-            Err(MtapiStatus::ErrJobInvalid)
-        );
-        let add = actions.create(7, Kind::Add, Mask(1)).ok().ok_or("full")?;
-        let max = actions.create(7, Kind::Max, Mask(6)).ok().ok_or("full")?;
-        assert_eq!(rt;
-            actions.create(7, Kind::Max, Mask(6)),
-            Err(MtapiStatus::ErrActionLimit)
-        );
-        assert_eq!(rt; actions.cover(7), Cover::Cores(Mask(7)));
-        assert_eq!(rt; actions.choice(7, 2), Some((max, Kind::Max)));
-        assert_eq!(rt; actions.choice(7, 3), None);
-        assert_eq!(rt; actions.disable(max), Ok(7));
-        assert_eq!(rt; actions.cover(7), Cover::Cores(Mask(1)));
-        assert_eq!(rt; actions.disable(add), Ok(7));
-        assert_eq!(rt; actions.cover(7), Cover::AllDisabled);
-        assert_eq!(rt; actions.enable(max), Ok(7));
-        assert_eq!(rt; actions.choice(7, 1), Some((max, Kind::Max)));
-        assert_eq!(rt; actions.delete(max), Ok(7));
-        assert_eq!(rt; actions.delete(max), Err(MtapiStatus::ErrActionInvalid));
-        assert_eq!(rt;
-            actions.create(7, Kind::Max, Mask(6)),
-            Err(MtapiStatus::ErrActionLimit)
-        );
-        Ok(())
     }
 }

@@ -1,5 +1,4 @@
 pub mod Pieces
-pub mod Names
 pub mod PlainNames
 pub mod Reading
 pub mod Steps
@@ -10,3 +9,10 @@ pub mod Plain
 pub mod LinesAgain
 pub mod HeadsAgain
 pub mod JournalsAgain
+pub mod ValuesFit
+pub mod AnswersFit
+pub mod OpsFit
+pub mod HeadsFit
+pub mod LinesFit
+pub mod JournalsFit
+pub mod Taken

@@ -1,29 +1,10 @@
--- Words that are joined and cut.
-use Rattle.std.proofs.Common.{◌≡◌, ℕ, ◌+◌, ◌<◌, ◌≤◌, List, [], ◌∷◌, ◌++◌, length, get_or, Option, Some, None, Result, Ok, Err, refl, sym, ap, append_assoc, arith}
-use Rattle.std.specs.Prelude.{IfSome, OnOk}
+-- Words that are put behind others.
+use Rattle.std.proofs.Common.{◌≡◌, ℕ, ◌≤◌, List, ◌∷◌, ◌++◌, length, get_or, Result, Ok, Err, ap, append_assoc}
+use Rattle.std.specs.Prelude.{OnOk}
 use Rattle.std.specs.List.{join_with_byte, flat_map}
+use Rattle.number_text.proofs.Pieces.{joined, led_append}
 use Rattle.number_text.proofs.Slices.{first_rest, rest_of}
-use Rattle.std.proofs.lemmas.List.{append-nil}
 use Rattle.number_text.specs.Lists.{led}
-use denote.Ref.{Bor}
-
--- what a rest measures
-abbrev pub left_len : Option (Bor (List ℕ)) → ℕ
-left_len None = 0
-left_len (Some rest) = length rest.now + 1
-
-pub after_len : (after : Option (Bor (List ℕ))) (n : ℕ) → IfSome after (λ r. length r.now < n) → left_len after ≤ n
-after_len None n h = omega arith
-after_len (Some r) n h = omega (arith, h)
-
-pub led_append : (byte : ℕ) (xs ys : List (List ℕ)) → led byte (xs ++ ys) ≡ led byte xs ++ led byte ys
-led_append byte [] ys = refl
-led_append byte (x ∷ xs) ys = rw (led_append byte xs ys) (simp append_assoc)
-
--- texts joined by a byte: the first, and the others each behind it
-pub joined : (byte : ℕ) (text : List ℕ) (texts : List (List ℕ)) → join_with_byte byte (text ∷ texts) ≡ text ++ led byte texts
-joined byte text [] = sym (append-nil text)
-joined byte text (next ∷ texts) = rw (joined byte next texts) refl
 
 -- words behind words
 pub words_two : {T E : Type 0} (r : Result T E) (out mid new : List ℕ) (a b : List (List ℕ)) → mid ≡ out ++ led 32 a → OnOk r (new ≡ mid ++ led 32 b) → OnOk r (new ≡ out ++ led 32 (a ++ b))

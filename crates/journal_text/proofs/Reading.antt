@@ -12,7 +12,7 @@ use Rattle.mtapi_machine.specs.Legal.{NodeEntry}
 use Rattle.node_core.specs.Journals.{KeptEntries}
 use Rattle.node_core.specs.declared.entries.Journal.{Journal}
 use Rattle.number_text.specs.Lists.{between}
-use Rattle.number_text.specs.Lists as lists
+use Rattle.number_text.proofs.Reading.{bind_some}
 use Rattle.journal_text.specs.declared.heads.Head.{Head}
 use Rattle.journal_text.specs.declared.faults.TextError.{TextError}
 use Rattle.journal_text.specs.Heads.{head_text, head_of, head_in, head_from, numbers_behind, has_callers, or_else}
@@ -21,9 +21,6 @@ use Rattle.journal_text.specs.Journals.{entry_lines, lines_text, journal_text, i
 
 -- ---- steps that may fail
 
-some_same : {A : Type 0} (x y : A) → ◌≡◌ {A = Option A} (Some x) (Some y) → x ≡ y
-some_same x y e = cc
-
 pub bytes_are : (a b : List ℕ) → bytes_eq a b ≡ true → a ≡ b
 bytes_are a b h = (bytes_eq-Decides a b).0 h
 
@@ -31,11 +28,7 @@ pub ok_parts : {A B : Type 0} (r : Result A TextError) (f : A → Result B TextE
 ok_parts (Ok x) f y h = (x, refl, h)
 ok_parts (Err e) f y h = absurd cc
 
-some_parts : {A B : Type 0} (r : Option A) (f : A → Option B) (y : B) → lists.◌>>=◌ r f ≡ Some y → (x : A) × (r ≡ Some x) × (f x ≡ Some y)
-some_parts (Some x) f y h = (x, refl, h)
-some_parts None f y h = absurd cc
-
-in_line_some : {A : Type 0} (line : ℕ) (o : Option A) (x : A) → in_line line o ≡ Ok x → o ≡ Some x
+pub in_line_some : {A : Type 0} (line : ℕ) (o : Option A) (x : A) → in_line line o ≡ Ok x → o ≡ Some x
 in_line_some line None x h = absurd cc
 in_line_some line (Some y) x h = let e : y ≡ x = cc in rw e refl
 
@@ -45,7 +38,7 @@ in_line_some line (Some y) x h = let e : y ≡ x = cc in rw e refl
 pub entry_spelled : (head : Head) (line : List ℕ) (x : NodeEntry × ℕ) → entry_of head line ≡ Some x → entry_text head x.0 x.1 ≡ line
 unfolding entry_of
 entry_spelled head line x h =
-    let p = some_parts (entry_from head (between 32 line)) (if_spelled head line) x h in
+    let p = bind_some (entry_from head (between 32 line)) (if_spelled head line) x h in
     let c = cond_some (has_words head.layout p.0.0 && is_seated head p.0.0 && bytes_eq (entry_text head p.0.0 p.0.1) line) p.0 x p.2 in
     let t = and_parts (has_words head.layout p.0.0 && is_seated head p.0.0) _ c.0 in
     rw (← c.1) (bytes_are (entry_text head p.0.0 p.0.1) line t.1)
@@ -96,12 +89,9 @@ kept_beside k x h = omega (arith, h, length_more k.entries x.0, length_more k.sk
 kept_more : (head : Head) (k : KeptEntries) (x : NodeEntry × ℕ) → IsBeside k → kept_text head (with_kept k x) ≡ kept_text head k ++ (entry_text head x.0 x.1 ++ 10 ∷ [])
 kept_more head k x h = ap lines_text (entry_lines_append head k.entries k.skipped x.0 x.1 h) ∙ lines_append (entry_lines head k.entries k.skipped) (entry_text head x.0 x.1 ∷ [])
 
-at_end_is : {A : Type 0} (x y : A) (last : List ℕ) → at_end x last ≡ Ok y → (x ≡ y) × (last ≡ [])
+pub at_end_is : {A : Type 0} (x y : A) (last : List ℕ) → at_end x last ≡ Ok y → (x ≡ y) × (last ≡ [])
 at_end_is x y [] h = (cc, refl)
 at_end_is x y (b ∷ bs) h = absurd cc
-
-join_two : (a b : List ℕ) (cs : List (List ℕ)) → join_with_byte 10 (a ∷ b ∷ cs) ≡ a ++ 10 ∷ join_with_byte 10 (b ∷ cs)
-join_two a b cs = refl
 
 -- the entries that were read are those whose lines these are
 pub entries_spelled : (head : Head) (line : ℕ) (kept k : KeptEntries) (text : List ℕ) (texts : List (List ℕ)) → IsBeside kept → entries_from head line kept (text ∷ texts) ≡ Ok k → kept_text head k ≡ kept_text head kept ++ join_with_byte 10 (text ∷ texts)

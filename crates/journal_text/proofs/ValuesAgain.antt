@@ -9,6 +9,7 @@ use Rattle.mtapi_values.specs.declared.ends.TaskEnd.TheVariants as end
 use Rattle.mtapi_values.specs.declared.handles.Layout.{Layout}
 use Rattle.mtapi_values.specs.declared.statuses.MrapiStatus.{MrapiStatus}
 use Rattle.mtapi_values.specs.declared.statuses.MrapiStatus.TheVariants as mrapi
+use Rattle.mtapi_values.specs.Kinds.{kind_named}
 use Rattle.mtapi_values.specs.Statuses.{mtapi_name, mrapi_name}
 use Rattle.mtapi_values.proofs.ValueTables.{kind_finds_each, mtapi_finds_each, mrapi_finds_each}
 use Rattle.number_text.specs.Numbers.{whole}
@@ -74,7 +75,7 @@ abbrev alone : List (List ℕ) → Option Value → Option (Value × List (List 
 alone ws o = one (λ v. v) ws o
 
 pub value_again : (l : Layout) (v : Value) (ws : List (List ℕ)) → ValueFits v → value_of (shape_of v) (value_words l v ++ ws) ≡ Some (v, ws)
-unfolding value_of value_words word_value end_of completed_of failed_of status_of group_of
+unfolding value_of value_words word_value end_of completed_of failed_of status_of group_of kind_named
 value_again l (given.Number n) ws f = ap (λ o. alone ws (option_map given.Number o)) (within_written 0 4294967295 n (omega arith) (omega arith) (omega arith))
 value_again l (given.Whole z) ws f = ap (λ o. alone ws (option_map given.Whole o)) (whole_written z f)
 value_again l (given.Flag true) ws f = refl

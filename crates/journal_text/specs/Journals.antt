@@ -112,3 +112,17 @@ Loads bytes left (Err answers.PartialEnd) = (length bytes ≤ 67108864) × (jour
 Loads bytes left (Err answers.TooLong) = (67108864 < length bytes) × IfSome left (λ rest. rest ≡ drop 67108865 bytes)
 Loads bytes left (Err answers.Memory) = Unit {0}
 Loads bytes left (Err answers.Read) = Unit {0}
+
+-- the source counted no fault, and gave at most one byte past the limit, where it tells its bytes
+pub record ReadsClean (before now : ℕ) (old new : Option (List ℕ)) : Type 0 where
+  pub faults : now ≡ before
+  pub taken : IfSome old (λ bytes. IfSome new (λ rest. rest ≡ drop 67108865 bytes))
+
+-- this holds with each answer but a failed read and `out of memory`
+abbrev pub HoldsBut : Type 0 → Result Journal JournalError → Type 0
+HoldsBut P (Ok j) = P
+HoldsBut P (Err (answers.BadLine line)) = P
+HoldsBut P (Err answers.PartialEnd) = P
+HoldsBut P (Err answers.TooLong) = P
+HoldsBut P (Err answers.Memory) = Unit {0}
+HoldsBut P (Err answers.Read) = Unit {0}

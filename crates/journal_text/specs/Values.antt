@@ -4,13 +4,12 @@ use Rattle.std.specs.Prelude.{ℕ, ℤ, Bool, List, [], ◌∷◌, ◌++◌, cod
 use Rattle.std.specs.List.{find, flat_map}
 use Rattle.std.specs.Str.{bytes_eq}
 use Rattle.std.specs.Fmt.{decimal, signed_decimal}
-use Rattle.mtapi_values.specs.declared.kinds.Kind.{Kind}
 use Rattle.mtapi_values.specs.declared.handles.Layout.{Layout}
 use Rattle.mtapi_values.specs.declared.statuses.MtapiStatus.{MtapiStatus}
 use Rattle.mtapi_values.specs.declared.statuses.MrapiStatus.{MrapiStatus}
 use Rattle.mtapi_values.specs.declared.ends.TaskEnd.{TaskEnd}
 use Rattle.mtapi_values.specs.declared.ends.TaskEnd.TheVariants as end
-use Rattle.mtapi_values.specs.Kinds.{kind_word, kind_all}
+use Rattle.mtapi_values.specs.Kinds.{kind_word, kind_named}
 use Rattle.mtapi_values.specs.Statuses.{mtapi_name, mrapi_name, mtapi_all, mrapi_all}
 use Rattle.number_text.specs.Numbers.{number, number_within, whole}
 use Rattle.number_text.specs.Lists.{list_of, list_text, ◌>>=◌}
@@ -67,10 +66,6 @@ abbrev pub values_words : Layout → List Value → List (List ℕ)
 values_words layout values = flat_map (value_words layout) values
 
 -- ---- read
-
--- the kind that a word names
-abbrev pub kind_of : List ℕ → Option Kind
-kind_of text = find (λ k. bytes_eq (kind_word k) text) kind_all
 
 -- the status of MTAPI that a word names
 abbrev pub mtapi_of : List ℕ → Option MtapiStatus
@@ -131,7 +126,7 @@ unfoldable pub word_value : Shape → List ℕ → Option Value
 word_value shape.Number w = option_map value.Number (number_within 0 4294967295 w)
 word_value shape.Whole w = option_map value.Whole (whole w)
 word_value shape.Flag w = Some (value.Flag (bytes_eq w (codes "1")))
-word_value shape.Kind w = option_map value.Kind (kind_of w)
+word_value shape.Kind w = option_map value.Kind (kind_named w)
 word_value shape.Cores w = option_map (λ n. value.Cores (record { 0 = n })) (number w)
 word_value shape.Args w = option_map value.Args (args_of w)
 word_value shape.Handle w = option_map value.Handle (handle_of w)

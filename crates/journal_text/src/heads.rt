@@ -59,7 +59,7 @@ fn push_last(alloc: Global, out: &mut Vec<u8>, head: &Head) -> Result<(), AllocE
 }
 
 /// Appends the head line.
-#[tactic(auto, unfolding(crate::specs::Heads::head_text), using(crate::proofs::Pieces::joined, crate::proofs::Pieces::led_append))]
+#[tactic(auto, unfolding(crate::specs::Heads::head_text), using(number_text::proofs::Pieces::joined, number_text::proofs::Pieces::led_append))]
 pub fn push_head(alloc: Global, out: &mut Vec<u8>, head: &Head) -> Result<(), AllocError>
     ensures { OnOk result (out.new.items ≡ out.old.items ++ head_text head.now) }
 {

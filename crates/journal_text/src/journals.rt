@@ -5,7 +5,7 @@ ghost use Rattle.byte_io.specs.Causes.{Rose};
 ghost use Rattle.journal_text.specs.Heads.{head_of};
 ghost use Rattle.journal_text.specs.Fits.{JournalFits};
 ghost use Rattle.journal_text.specs.Lines.{entry_text};
-ghost use Rattle.journal_text.specs.Journals.{head_for, entry_lines, lines_text, journal_text, in_line, line_adds, at_end, entries_from, no_entries, no_line, journal_of, ReadsAs, Loads};
+ghost use Rattle.journal_text.specs.Journals.{head_for, entry_lines, lines_text, journal_text, in_line, line_adds, at_end, entries_from, no_entries, no_line, journal_of, ReadsAs, Loads, ReadsClean, HoldsBut};
 
 use crate::faults::{JournalError, LineError, TextError};
 use crate::heads::{Head, head_of, push_head};
@@ -70,7 +70,14 @@ fn text_of(alloc: Global, journal: &Journal) -> Result<Vec<u8>, AllocError>
     Ok(out)
 }
 
-/// The text of a journal: text 1 for layout one, and text 2 for layout two.
+/// The text of a journal: text 1 for layout one, and text 2 for layout two. Its length is in proportion to the entries: a line
+/// for each, behind the head line.
+///
+/// The text is read again as the same journal where the journal fits: its settings are in their ranges, its callers are 1 to 9,
+/// each entry is by one of its seats, and a journal of layout one has no tally.
+///
+/// # Errors
+/// `AllocError` where memory runs out.
 pub fn write_journal(alloc: Global, journal: &Journal) -> Result<Vec<u8>, AllocError>
     ensures text { IfOk result (λ text. text.items ≡ journal_text journal.now) }
     // Reading this text gives the same journal.
@@ -158,10 +165,12 @@ fn head_line(alloc: Global, text: &[u8]) -> Result<Head, TextError>
     }
 }
 
-/// The journal that a text is.
+/// The journal that a text is. It can be written.
 fn journal_of(alloc: Global, bytes: &[u8]) -> Result<Journal, TextError>
     requires { length bytes.now < 2 ^ 62 }
-    ensures { ReadsAs result (journal_of bytes.now) }
+    ensures value { ReadsAs result (journal_of bytes.now) }
+    ensures fits { IfOk result JournalFits }
+    ensures same { IfOk result (λ j. journal_text j ≡ bytes.now) }
 {
     let (first, after) = cut_at(bytes, b'\n');
     let Some(rest) = after else {
@@ -183,9 +192,24 @@ fn journal_of(alloc: Global, bytes: &[u8]) -> Result<Journal, TextError>
 }
 
 /// Reads a journal from a source, to its end or to one byte past 67,108,864 bytes. Ok exactly where the bytes are the text of a
-/// journal and memory suffices.
+/// journal and memory suffices; then the journal can be written, and gives the bytes that were read. Whether the history is
+/// legal isn't asked.
+///
+/// # Errors
+/// In this order:
+/// - `Memory` where memory runs out; it is taken in proportion to the bytes read, and never to a number that they name.
+/// - `Read` only where the source's count of faults rose.
+/// - `TooLong` exactly where the source gave more than 67,108,864 bytes.
+/// - `BadLine` at the first line, counted from 1, that ends with a line feed and is outside the grammar, or with line 1 where
+///   there is no byte.
+/// - `PartialEnd` where there is no such line and the last byte isn't a line feed.
+#[tactic(auto, using(crate::proofs::Taken::long_clean, crate::proofs::Taken::text_same))]
 pub fn read_journal<S: Source>(alloc: Global, src: &mut S) -> Result<Journal, JournalError>
     ensures exact { IfSome (S.left src.old) (λ bytes. Loads bytes (S.left src.new) result) }
+    ensures fits { IfOk result JournalFits }
+    ensures same { IfSome (S.left src.old) (λ bytes. IfOk result (λ j. journal_text j ≡ bytes)) }
+    // An answer other than Read and Memory comes without a fault.
+    ensures clean { HoldsBut (ReadsClean (S.faults src.old) (S.faults src.new) (S.left src.old) (S.left src.new)) result }
     ensures later { S.faults src.old ≤ S.faults src.new }
     ensures read { IsErrOf result JournalError.Read → Rose (S.faults src.old) (S.faults src.new) }
 {

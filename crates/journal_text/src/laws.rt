@@ -11,9 +11,11 @@ ghost use Rattle.journal_text.specs.Fits.{HeadFits, EntryFits, JournalFits};
 ghost use Rattle.journal_text.specs.Lines.{entry_text, entry_of};
 ghost use Rattle.journal_text.specs.Journals.{journal_text, journal_of};
 
-/// What is read is written as it was read: each journal has one text, and no other bytes are read as it.
+/// What is read is written as it was read: each journal has one text, and no other bytes are read as it. And what is read can be
+/// written.
 pub fn law_read()
-    ensures { (bytes : List ℕ) (j : Journal) → journal_of bytes ≡ Ok j → journal_text j ≡ bytes }
+    ensures same { (bytes : List ℕ) (j : Journal) → journal_of bytes ≡ Ok j → journal_text j ≡ bytes }
+    ensures fits { (bytes : List ℕ) (j : Journal) → journal_of bytes ≡ Ok j → JournalFits j }
 {}
 
 /// What can be written is read as the same, and each journal that fits its types can be written.

@@ -62,7 +62,7 @@ fn push_skipped(alloc: Global, out: &mut Vec<u8>, skipped: u64) -> Result<(), Al
     }
 }
 
-#[tactic(auto, using(crate::proofs::Pieces::led_append))]
+#[tactic(auto, using(number_text::proofs::Pieces::led_append))]
 fn push_words(
     alloc: Global,
     out: &mut Vec<u8>,
@@ -79,7 +79,7 @@ fn push_words(
 }
 
 /// Appends the line of an entry, without its line feed.
-#[tactic(auto, unfolding(crate::specs::Lines::entry_text), using(crate::proofs::Pieces::joined))]
+#[tactic(auto, unfolding(crate::specs::Lines::entry_text), using(number_text::proofs::Pieces::joined))]
 pub fn push_entry(
     alloc: Global,
     out: &mut Vec<u8>,

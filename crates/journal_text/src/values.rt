@@ -2,14 +2,16 @@
 ghost use Rattle.std.specs.Prelude.{◌≡◌, ◌++◌, OnOk, IfOk, Some, None, option_map};
 ghost use Rattle.number_text.specs.Numbers.{number_within};
 ghost use Rattle.number_text.specs.Lists.{led, pieces_of};
-ghost use Rattle.journal_text.specs.Values.{flag_text, args_text, group_text, end_words, status_name, value_words, values_words, kind_of, mtapi_of, mrapi_of, status_of, status_from, args_of, group_of, completed_of, failed_of, end_of, word_value, value_of, values_onto};
+ghost use Rattle.journal_text.specs.Values.{flag_text, args_text, group_text, end_words, status_name, value_words, values_words, mtapi_of, mrapi_of, status_of, status_from, args_of, group_of, completed_of, failed_of, end_of, word_value, value_of, values_onto};
 ghost use Rattle.journal_text.specs.Found.{left_texts, Gives};
 
 use crate::faults::LineError;
 use crate::handles::{handle_of, push_handle};
 use crate::texts::{next_word, push_word};
 use mtapi_values::{Args, Kind, Layout, Mask, MrapiStatus, MtapiStatus, TaskEnd};
-use number_text::{list_of, number, number_within, push_list, push_number, push_whole, whole};
+use number_text::{
+    kind_of, list_of, number, number_within, push_list, push_number, push_whole, whole,
+};
 use std::alloc::{AllocError, Global};
 use std::str;
 
@@ -142,7 +144,7 @@ fn push_value(
 }
 
 /// Appends the words of values, each behind a space.
-#[tactic(auto, using(crate::proofs::Pieces::led_append))]
+#[tactic(auto, using(number_text::proofs::Pieces::led_append))]
 pub fn push_values(
     alloc: Global,
     out: &mut Vec<u8>,
@@ -161,16 +163,6 @@ pub fn push_values(
 }
 
 // ---- read
-
-/// The kind that a word names.
-fn kind_of(text: &[u8]) -> Option<Kind>
-    ensures { result ≡ kind_of text.now }
-{
-    match str::from_utf8(text) {
-        Ok(word) => Kind::from_word(word),
-        Err(_) => None,
-    }
-}
 
 fn mtapi_of(text: &[u8]) -> Option<MtapiStatus>
     ensures { result ≡ mtapi_of text.now }

@@ -67,7 +67,7 @@ module _ {A C : Type 0} (f : A → List ℕ → C) where
   beside-fresh zero = refl
   beside-fresh (suc count) = ap (λ (xs : List (Slot C)). free_slot 1 ∷ xs) (beside-fresh count)
 
-  live_count-beside : (slots : List (Slot A)) (lists : List (List ℕ)) → count_by is_live (beside f slots lists) ≡ count_by is_live slots
+  pub live_count-beside : (slots : List (Slot A)) (lists : List (List ℕ)) → count_by is_live (beside f slots lists) ≡ count_by is_live slots
   live_count-beside slots lists = fold-beside is_live is_live is_live-beside slots lists 0
 
   retired_count-beside : (slots : List (Slot A)) (lists : List (List ℕ)) → count_by is_retired (beside f slots lists) ≡ count_by is_retired slots

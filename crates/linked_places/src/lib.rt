@@ -6,6 +6,9 @@ ghost use Rattle.handle_pool.specs.Slots.{slot_of};
 ghost use Rattle.linked_places.specs.Links.{links_followed, links_following, IsBelow};
 ghost use Rattle.linked_places.specs.Lists.{list_at, stands_at, has_handle, without_handle, NowhereAt, with_list};
 
+#[cfg(test)]
+mod tests;
+
 use std::alloc::{AllocError, Global};
 use std::marker::Model;
 
@@ -65,6 +68,10 @@ const NO_ENDS: Ends = Ends {
 
 impl LinkedLists {
     /// So many empty lists over so many places, with all the memory that they will use.
+    ///
+    /// # Errors
+    ///
+    /// - `AllocError`: memory ran out.
     pub fn new(alloc: Global, lists: u32, places: u32) -> Result<LinkedLists, AllocError>
         requires { places ≤ 65536 }
         ensures places { IfOk result (λ l. l.places ≡ places) }
@@ -121,7 +128,7 @@ impl LinkedLists {
         self.ends[list as usize] = NO_ENDS;
     }
 
-    /// The first handle of a list.
+    /// The first handle of a list; none exactly where it is empty.
     pub fn first(&self, list: u32) -> Option<u64>
         requires { list < length self.now.lists }
         ensures { result ≡ slice_get (list_at self.now.lists list) 0 }
@@ -132,7 +139,7 @@ impl LinkedLists {
         }
     }
 
-    /// The handle after this one in its list.
+    /// The handle after this one in its list; none exactly where this one is the last.
     pub fn next(&self, handle: u64) -> Option<u64>
         requires { (list : ℕ) × (has_handle handle (list_at self.now.lists list) ≡ true) }
         ensures { (list i : ℕ) → slice_get (list_at self.now.lists list) i ≡ Some handle → result ≡ slice_get (list_at self.now.lists list) (i + 1) }
@@ -215,25 +222,4 @@ fn no_ends(alloc: Global, lists: u32) -> Result<Vec<Ends>, AllocError>
         ends.push_reserved(NO_ENDS);
     }
     Ok(ends)
-}
-
-#[cfg(test)]
-mod tests {
-    use super::*;
-    use std::test::Fail;
-
-    #[test]
-    fn a_new_list_is_empty(rt: HostRuntime) -> Result<(), Fail> {
-        let mut lists = LinkedLists::new(rt.alloc(), 2, 3)?;
-        assert_eq!(rt; lists.first(0), None);
-        lists.push(0, 4294967298);
-        assert_eq!(rt; lists.first(0), Some(4294967298));
-        assert_eq!(rt; lists.len(0), 1);
-        assert_eq!(rt; lists.len(1), 0);
-        lists.remove(0, 4294967298);
-        assert_eq!(rt; lists.len(0), 0);
-        lists.clear(1);
-        assert_eq!(rt; lists.first(1), None);
-        Ok(())
-    }
 }

@@ -22,5 +22,3 @@ pub use statuses::MsgStatus;
 
 #[cfg(test)]
 mod tests;
-#[cfg(test)]
-mod thread_tests;

@@ -130,7 +130,13 @@ impl<'a> Mailer<'a> {
         turn(rt, self.cell, &mut self.seat, op)
     }
 
-    /// Makes an endpoint with this port, which the caller's seat then owns. `PortTaken`, and then `EndpointLimit`.
+    /// Makes an endpoint with this port, which the caller's seat then owns.
+    ///
+    /// # Errors
+    ///
+    /// - `PortTaken`: a live endpoint has this port.
+    /// - `EndpointLimit`: there is no room for a further endpoint.
+    /// - `Spent`: the cell has used up its turns. Nothing enters the history.
     pub fn open<R: Wait>(&mut self, rt: &R, port: u32) -> Result<EndpointHandle, MsgStatus>
         ensures called { Called Names (op.Open port) self.old self.new result }
         ensures same { SameSeat self.old self.new }
@@ -139,7 +145,12 @@ impl<'a> Mailer<'a> {
         named(self.once(rt, MsgOp::Open { port }))
     }
 
-    /// The live endpoint with this port. `PortUnknown` where there is none.
+    /// The live endpoint with this port.
+    ///
+    /// # Errors
+    ///
+    /// - `PortUnknown`: no live endpoint has this port.
+    /// - `Spent`: the cell has used up its turns. Nothing enters the history.
     pub fn find<R: Wait>(&mut self, rt: &R, port: u32) -> Result<EndpointHandle, MsgStatus>
         ensures called { Called Names (op.Find port) self.old self.new result }
         ensures same { SameSeat self.old self.new }
@@ -148,7 +159,14 @@ impl<'a> Mailer<'a> {
         named(self.once(rt, MsgOp::Find { port }))
     }
 
-    /// Puts a message at an endpoint, with a priority of 0 to 3, of which 0 goes first. `EndpointInvalid`, `PriorityRange`, `Full`.
+    /// Puts a message at an endpoint, with a priority of 0 to 3, of which 0 goes first.
+    ///
+    /// # Errors
+    ///
+    /// - `EndpointInvalid`: the handle is no live endpoint's.
+    /// - `PriorityRange`: the priority isn't 0 to 3.
+    /// - `Full`: as many messages wait at the endpoint as may.
+    /// - `Spent`: the cell has used up its turns. Nothing enters the history.
     pub fn send<R: Wait>(
         &mut self,
         rt: &R,
@@ -164,7 +182,13 @@ impl<'a> Mailer<'a> {
     }
 
     /// Takes the message that goes first from an endpoint of this seat, and gives its sender, its priority and its bytes.
-    /// `EndpointInvalid`, `NotOwner`; `Timeout` after exactly the looks that the timeout allows, where none found a message.
+    ///
+    /// # Errors
+    ///
+    /// - `EndpointInvalid`: the handle is no live endpoint's.
+    /// - `NotOwner`: another seat opened the endpoint.
+    /// - `Timeout`: all the looks that the timeout allows were made, and none found a message.
+    /// - `Spent`: the cell has used up its turns. Each look before found no message.
     pub fn recv<R: Wait>(
         &mut self,
         rt: &R,
@@ -179,7 +203,13 @@ impl<'a> Mailer<'a> {
         handed(look(rt, self.cell, &mut self.seat, &Arrival { at }, timeout))
     }
 
-    /// Gives up an endpoint of this seat, with the messages that wait there. `EndpointInvalid`, `NotOwner`.
+    /// Gives up an endpoint of this seat, with the messages that wait there.
+    ///
+    /// # Errors
+    ///
+    /// - `EndpointInvalid`: the handle is no live endpoint's.
+    /// - `NotOwner`: another seat opened the endpoint.
+    /// - `Spent`: the cell has used up its turns. Nothing enters the history.
     pub fn shut<R: Wait>(&mut self, rt: &R, at: EndpointHandle) -> Result<(), MsgStatus>
         ensures called { Called Done (op.Shut at) self.old self.new result }
         ensures same { SameSeat self.old self.new }

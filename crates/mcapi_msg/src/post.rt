@@ -36,7 +36,11 @@ pub struct Post {
 }
 
 impl Post {
-    /// No endpoint yet, with all the memory that a post of these terms uses, 5 MB at most. It fails only when out of memory.
+    /// No endpoint yet, with all the memory that a post of these terms uses, 5 MB at most.
+    ///
+    /// # Errors
+    ///
+    /// - `AllocError`: memory ran out.
     pub fn new(alloc: Global, seats: u32, endpoints: u32, limit: u32) -> Result<Post, AllocError>
         requires some_seat { 1 ≤ seats }
         requires seats { seats ≤ 25 }

@@ -1,3 +1,7 @@
+//! Rows, limits and mailers on one thread; and two senders beside a receiver.
+
+mod threads;
+
 use crate::boxes::Boxes;
 use crate::mailer::Mailer;
 use crate::messages::{EndpointHandle, Msg};

@@ -1,11 +1,11 @@
 //! Reader-writer locks, each under a handle.
 
-ghost use Rattle.std.specs.Prelude.{◌≡◌, ◌≤◌, ◌<◌, false, None, replicate, IfOk, IfErr, OnOk, OnErr};
+ghost use Rattle.std.specs.Prelude.{◌≡◌, ◌⊎◌, ◌≤◌, ◌<◌, false, None, Some, replicate, is_some, IfSome, IsNone, IfOk, IfErr, OnOk, OnErr};
 ghost use Rattle.std.specs.Result.{result_err};
-ghost use Rattle.mtapi_values.specs.declared.statuses.MrapiStatus.TheVariants.{ErrRwlIdInvalid};
+ghost use Rattle.mtapi_values.specs.declared.statuses.MrapiStatus.TheVariants.{ErrRwlIdInvalid, ErrRwlExists};
 ghost use Rattle.mtapi_values.specs.Conditions.{first};
-ghost use Rattle.handle_pool.specs.Slots.{slot_value, free_slot, without, changed, Inserts, IsFull};
-ghost use Rattle.handle_pool.specs.Walks.{NoneLive, HasLive, OneEach};
+ghost use Rattle.handle_pool.specs.Slots.{slot_value, free_slot, without, changed, Inserts, IsFull, live_count};
+ghost use Rattle.handle_pool.specs.Walks.{SomeLive, NoneLive, HasLive, OneEach};
 ghost use Rattle.mtapi_values.specs.Looks.{is_got};
 ghost use Rattle.mtapi_objects.specs.Rwls.{new_rwl, rwl_create_refusals, rwl_delete_refusals, rwl_unlock_refusals};
 ghost use Rattle.mrapi_counting.specs.RwlCalls.{HasId, RwlCreateRefused, rwl_refusal, rwl_look_at, rwl_after_look, rwl_after_unlock};
@@ -51,8 +51,15 @@ impl Rwls {
         })
     }
 
-    /// Makes a lock for `limit` readers or one writer. Refuses a limit that isn't 1 to 32, then an id that a live lock has, and then
-    /// where every place is in use or has retired.
+    /// Makes a lock for `limit` readers or one writer. Any id may be asked for.
+    ///
+    /// Stands for `mrapi_rwl_create`.
+    ///
+    /// # Errors
+    ///
+    /// - `ErrParameter`: the limit isn't 1 to 32.
+    /// - `ErrRwlExists`: a live lock has the id.
+    /// - `ErrRwlLimit`: every place is in use or has retired.
     pub fn create(&mut self, id: u32, limit: u32) -> Result<RwlHandle, MrapiStatus>
         ensures in_range { OnOk result (first (rwl_create_refusals limit) ≡ None) }
         ensures new_id { OnOk result (NoneLive (slot_value self.old) (HasId id)) }
@@ -61,11 +68,8 @@ impl Rwls {
         ensures refused { IfErr result (λ c. RwlCreateRefused self.old id limit c) }
         ensures unchanged { OnErr result (self.new ≡ self.old) }
     {
-        if limit == 0 || limit > MAX_READERS {
-            return Err(MrapiStatus::ErrParameter);
-        }
-        if self.get(id).is_ok() {
-            return Err(MrapiStatus::ErrRwlExists);
+        if let Some(status) = self.create_refusal(id, limit) {
+            return Err(status);
         }
         match self.pool.insert(RwlState::new(id, limit)) {
             Ok(handle) => Ok(RwlHandle(handle)),
@@ -73,7 +77,43 @@ impl Rwls {
         }
     }
 
-    /// The live lock of an id, and RWL_ID_INVALID exactly where no live one has it.
+    /// Tells why such a create is refused, whether there is room or not: `ErrParameter` where the limit isn't 1 to 32, and
+    /// then `ErrRwlExists` where a live lock has the id, else None. It walks the places.
+    pub fn create_refusal(&self, id: u32, limit: u32) -> Option<MrapiStatus>
+        ensures refused { IfSome result (λ c. (first (rwl_create_refusals limit) ≡ Some c) ⊎ ((first (rwl_create_refusals limit) ≡ None) × (c ≡ ErrRwlExists) × SomeLive (slot_value self.now) (HasId id))) }
+        ensures in_range { IsNone result → first (rwl_create_refusals limit) ≡ None }
+        ensures new_id { IsNone result → NoneLive (slot_value self.now) (HasId id) }
+    {
+        if limit == 0 || limit > MAX_READERS {
+            return Some(MrapiStatus::ErrParameter);
+        }
+        match self.get(id) {
+            Ok(_) => Some(MrapiStatus::ErrRwlExists),
+            Err(_) => None,
+        }
+    }
+
+    /// Tells how many locks are live.
+    pub fn live(&self) -> u32
+        ensures { result ≡ live_count self.now }
+    {
+        self.pool.live()
+    }
+
+    /// Whether a handle names a live lock.
+    pub fn is_live(&self, r: RwlHandle) -> bool
+        ensures { result ≡ is_some (slot_value self.now r.0) }
+    {
+        self.pool.get(r.0).is_some()
+    }
+
+    /// Finds the live lock of an id. It walks the places.
+    ///
+    /// Stands for `mrapi_rwl_get`.
+    ///
+    /// # Errors
+    ///
+    /// - `ErrRwlIdInvalid`: no live lock has the id.
     pub fn get(&self, id: u32) -> Result<RwlHandle, MrapiStatus>
         ensures found { IfOk result (λ r. HasLive self.now r.0 (HasId id)) }
         ensures absent { IfErr result (λ c. (c ≡ ErrRwlIdInvalid) × NoneLive (slot_value self.now) (HasId id)) }
@@ -92,6 +132,13 @@ impl Rwls {
     }
 
     /// Gives up a lock that nobody holds.
+    ///
+    /// Stands for `mrapi_rwl_delete`.
+    ///
+    /// # Errors
+    ///
+    /// - `ErrRwlInvalid`: the lock isn't live.
+    /// - `ErrRwlLocked`: some seat holds it, as a reader or as the writer.
     pub fn delete(&mut self, r: RwlHandle) -> Result<(), MrapiStatus>
         ensures refused { result_err result ≡ rwl_refusal rwl_delete_refusals (slot_value self.old r.0) }
         ensures removed { OnOk result (self.new ≡ without self.old r.0) }
@@ -109,7 +156,16 @@ impl Rwls {
         Ok(())
     }
 
-    /// One look of the seat `who`, which is below 25, as a writer or as a reader: it holds the lock, or others do.
+    /// Looks once for the seat `who`, which is below 25, as a writer or as a reader: it holds the
+    /// lock, or is told Busy. A writer is told so while anybody holds the lock, a reader while a
+    /// writer does or the readers are as many as may be.
+    ///
+    /// Stands for `mrapi_rwl_trylock`, and for one look of `mrapi_rwl_lock`.
+    ///
+    /// # Errors
+    ///
+    /// - `ErrRwlInvalid`: the lock isn't live.
+    /// - `ErrRwlLocked`: this seat holds it, in either mode.
     pub fn look(&mut self, r: RwlHandle, who: u32, writer: bool) -> Look<()>
         requires { who < 25 }
         ensures reply { result ≡ rwl_look_at who writer (slot_value self.old r.0) }
@@ -122,7 +178,14 @@ impl Rwls {
         }
     }
 
-    /// The seat `who`, which is below 25, gives the lock back that it holds in this mode.
+    /// Gives the lock back that the seat `who`, which is below 25, holds in this mode.
+    ///
+    /// Stands for `mrapi_rwl_unlock`.
+    ///
+    /// # Errors
+    ///
+    /// - `ErrRwlInvalid`: the lock isn't live.
+    /// - `ErrRwlNotlocked`: this seat doesn't hold it in this mode.
     pub fn unlock(&mut self, r: RwlHandle, who: u32, writer: bool) -> Result<(), MrapiStatus>
         requires { who < 25 }
         ensures refused { result_err result ≡ rwl_refusal (rwl_unlock_refusals who writer) (slot_value self.old r.0) }

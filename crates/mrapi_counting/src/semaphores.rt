@@ -1,11 +1,11 @@
 //! Semaphores, each under a handle.
 
-ghost use Rattle.std.specs.Prelude.{◌≡◌, ◌≤◌, ◌<◌, false, None, replicate, IfOk, IfErr, OnOk, OnErr};
+ghost use Rattle.std.specs.Prelude.{◌≡◌, ◌⊎◌, ◌≤◌, ◌<◌, false, None, Some, replicate, is_some, IfSome, IsNone, IfOk, IfErr, OnOk, OnErr};
 ghost use Rattle.std.specs.Result.{result_err};
-ghost use Rattle.mtapi_values.specs.declared.statuses.MrapiStatus.TheVariants.{ErrSemIdInvalid};
+ghost use Rattle.mtapi_values.specs.declared.statuses.MrapiStatus.TheVariants.{ErrSemIdInvalid, ErrSemExists};
 ghost use Rattle.mtapi_values.specs.Conditions.{first};
-ghost use Rattle.handle_pool.specs.Slots.{slot_value, free_slot, without, changed, Inserts, IsFull};
-ghost use Rattle.handle_pool.specs.Walks.{NoneLive, HasLive, OneEach};
+ghost use Rattle.handle_pool.specs.Slots.{slot_value, free_slot, without, changed, Inserts, IsFull, live_count};
+ghost use Rattle.handle_pool.specs.Walks.{SomeLive, NoneLive, HasLive, OneEach};
 ghost use Rattle.mtapi_values.specs.Looks.{is_got};
 ghost use Rattle.mtapi_objects.specs.Sems.{new_sem, sem_create_refusals, sem_delete_refusals, sem_unlock_refusals};
 ghost use Rattle.mrapi_counting.specs.SemCalls.{HasId, SemCreateRefused, sem_refusal, sem_look_at, sem_after_look, sem_after_unlock};
@@ -51,8 +51,15 @@ impl Sems {
         })
     }
 
-    /// Makes a semaphore that may be held `limit` times. Refuses a limit that isn't 1 to 65,535, then an id that a live semaphore has,
-    /// and then where every place is in use or has retired.
+    /// Makes a semaphore that may be held `limit` times. Any id may be asked for.
+    ///
+    /// Stands for `mrapi_sem_create`.
+    ///
+    /// # Errors
+    ///
+    /// - `ErrParameter`: the limit isn't 1 to 65,535.
+    /// - `ErrSemExists`: a live semaphore has the id.
+    /// - `ErrSemLimit`: every place is in use or has retired.
     pub fn create(&mut self, id: u32, limit: u32) -> Result<SemHandle, MrapiStatus>
         ensures in_range { OnOk result (first (sem_create_refusals limit) ≡ None) }
         ensures new_id { OnOk result (NoneLive (slot_value self.old) (HasId id)) }
@@ -61,11 +68,8 @@ impl Sems {
         ensures refused { IfErr result (λ c. SemCreateRefused self.old id limit c) }
         ensures unchanged { OnErr result (self.new ≡ self.old) }
     {
-        if limit == 0 || limit > MAX_LIMIT {
-            return Err(MrapiStatus::ErrParameter);
-        }
-        if self.get(id).is_ok() {
-            return Err(MrapiStatus::ErrSemExists);
+        if let Some(status) = self.create_refusal(id, limit) {
+            return Err(status);
         }
         match self.pool.insert(SemState::new(id, limit)) {
             Ok(handle) => Ok(SemHandle(handle)),
@@ -73,7 +77,43 @@ impl Sems {
         }
     }
 
-    /// The live semaphore of an id, and SEM_ID_INVALID exactly where no live one has it.
+    /// Tells why such a create is refused, whether there is room or not: `ErrParameter` where the limit isn't 1 to 65,535, and
+    /// then `ErrSemExists` where a live semaphore has the id, else None. It walks the places.
+    pub fn create_refusal(&self, id: u32, limit: u32) -> Option<MrapiStatus>
+        ensures refused { IfSome result (λ c. (first (sem_create_refusals limit) ≡ Some c) ⊎ ((first (sem_create_refusals limit) ≡ None) × (c ≡ ErrSemExists) × SomeLive (slot_value self.now) (HasId id))) }
+        ensures in_range { IsNone result → first (sem_create_refusals limit) ≡ None }
+        ensures new_id { IsNone result → NoneLive (slot_value self.now) (HasId id) }
+    {
+        if limit == 0 || limit > MAX_LIMIT {
+            return Some(MrapiStatus::ErrParameter);
+        }
+        match self.get(id) {
+            Ok(_) => Some(MrapiStatus::ErrSemExists),
+            Err(_) => None,
+        }
+    }
+
+    /// Tells how many semaphores are live.
+    pub fn live(&self) -> u32
+        ensures { result ≡ live_count self.now }
+    {
+        self.pool.live()
+    }
+
+    /// Whether a handle names a live semaphore.
+    pub fn is_live(&self, s: SemHandle) -> bool
+        ensures { result ≡ is_some (slot_value self.now s.0) }
+    {
+        self.pool.get(s.0).is_some()
+    }
+
+    /// Finds the live semaphore of an id. It walks the places.
+    ///
+    /// Stands for `mrapi_sem_get`.
+    ///
+    /// # Errors
+    ///
+    /// - `ErrSemIdInvalid`: no live semaphore has the id.
     pub fn get(&self, id: u32) -> Result<SemHandle, MrapiStatus>
         ensures found { IfOk result (λ s. HasLive self.now s.0 (HasId id)) }
         ensures absent { IfErr result (λ c. (c ≡ ErrSemIdInvalid) × NoneLive (slot_value self.now) (HasId id)) }
@@ -92,6 +132,13 @@ impl Sems {
     }
 
     /// Gives up a semaphore that nobody holds.
+    ///
+    /// Stands for `mrapi_sem_delete`.
+    ///
+    /// # Errors
+    ///
+    /// - `ErrSemInvalid`: the semaphore isn't live.
+    /// - `ErrSemLocked`: some seat holds it.
     pub fn delete(&mut self, s: SemHandle) -> Result<(), MrapiStatus>
         ensures refused { result_err result ≡ sem_refusal sem_delete_refusals (slot_value self.old s.0) }
         ensures removed { OnOk result (self.new ≡ without self.old s.0) }
@@ -109,7 +156,14 @@ impl Sems {
         Ok(())
     }
 
-    /// One look of the seat `who`, which is below 25: it holds the semaphore once more, or all holds are taken.
+    /// Looks once for the seat `who`, which is below 25: it holds the semaphore once more, or is
+    /// told Busy where all holds are taken.
+    ///
+    /// Stands for `mrapi_sem_trylock`, and for one look of `mrapi_sem_lock`.
+    ///
+    /// # Errors
+    ///
+    /// - `ErrSemInvalid`: the semaphore isn't live.
     pub fn look(&mut self, s: SemHandle, who: u32) -> Look<()>
         requires { who < 25 }
         ensures reply { result ≡ sem_look_at (slot_value self.old s.0) }
@@ -123,6 +177,13 @@ impl Sems {
     }
 
     /// Gives back one hold of the seat `who`, which is below 25.
+    ///
+    /// Stands for `mrapi_sem_unlock`.
+    ///
+    /// # Errors
+    ///
+    /// - `ErrSemInvalid`: the semaphore isn't live.
+    /// - `ErrSemNotlocked`: this seat doesn't hold it.
     pub fn unlock(&mut self, s: SemHandle, who: u32) -> Result<(), MrapiStatus>
         requires { who < 25 }
         ensures refused { result_err result ≡ sem_refusal (sem_unlock_refusals who) (slot_value self.old s.0) }

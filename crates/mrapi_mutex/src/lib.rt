@@ -11,10 +11,10 @@ mod tests;
 ghost use Rattle.std.specs.Prelude.{◌≡◌, ◌≤◌, false, is_some, replicate, IfSome, IsNone, IfOk, IfErr, OnOk, OnErr};
 ghost use Rattle.std.specs.Option.{option_map};
 ghost use Rattle.std.specs.Result.{result_err};
-ghost use Rattle.handle_pool.specs.Slots.{slot_value, free_slot, without, changed, Inserts, IsFull};
-ghost use Rattle.handle_pool.specs.Walks.{NoneLive, HasLive, OneEach};
+ghost use Rattle.handle_pool.specs.Slots.{slot_value, free_slot, without, changed, Inserts, IsFull, live_count};
+ghost use Rattle.handle_pool.specs.Walks.{SomeLive, NoneLive, HasLive, OneEach};
 ghost use Rattle.mtapi_objects.specs.Mutexes.{new_mutex, mutex_delete_refusals, mutex_unlock_refusals};
-ghost use Rattle.mtapi_values.specs.declared.statuses.MrapiStatus.TheVariants.{ErrMutexIdInvalid};
+ghost use Rattle.mtapi_values.specs.declared.statuses.MrapiStatus.TheVariants.{ErrMutexIdInvalid, ErrMutexExists};
 ghost use Rattle.mtapi_values.specs.Looks.{is_got};
 ghost use Rattle.mrapi_mutex.specs.Calls.{HasId, CreateRefused, refusal, look_at, after_look, after_unlock};
 
@@ -56,7 +56,14 @@ impl Mutexes {
         })
     }
 
-    /// Makes a mutex that nobody owns. Refuses an id that a live mutex has, and then where every place is in use or has retired.
+    /// Makes a mutex that nobody owns. Any id may be asked for.
+    ///
+    /// Stands for `mrapi_mutex_create`.
+    ///
+    /// # Errors
+    ///
+    /// - `ErrMutexExists`: a live mutex has the id.
+    /// - `ErrMutexLimit`: every place is in use or has retired.
     pub fn create(&mut self, id: u32, recursive: bool) -> Result<MutexHandle, MrapiStatus>
         ensures new_id { OnOk result (NoneLive (slot_value self.old) (HasId id)) }
         ensures room { OnOk result (IsFull self.old → ⊥) }
@@ -64,8 +71,8 @@ impl Mutexes {
         ensures refused { IfErr result (λ c. CreateRefused self.old id c) }
         ensures unchanged { OnErr result (self.new ≡ self.old) }
     {
-        if self.get(id).is_ok() {
-            return Err(MrapiStatus::ErrMutexExists);
+        if let Some(status) = self.create_refusal(id) {
+            return Err(status);
         }
         match self.pool.insert(MutexState::new(id, recursive)) {
             Ok(handle) => Ok(MutexHandle(handle)),
@@ -73,7 +80,39 @@ impl Mutexes {
         }
     }
 
-    /// The live mutex of an id, and MUTEX_ID_INVALID exactly where no live one has it.
+    /// Tells why a create of this id is refused, whether there is room or not: `ErrMutexExists`
+    /// where a live mutex has the id, else None. It walks the places.
+    pub fn create_refusal(&self, id: u32) -> Option<MrapiStatus>
+        ensures exists { IfSome result (λ c. (c ≡ ErrMutexExists) × SomeLive (slot_value self.now) (HasId id)) }
+        ensures new_id { IsNone result → NoneLive (slot_value self.now) (HasId id) }
+    {
+        match self.get(id) {
+            Ok(_) => Some(MrapiStatus::ErrMutexExists),
+            Err(_) => None,
+        }
+    }
+
+    /// Tells how many mutexes are live.
+    pub fn live(&self) -> u32
+        ensures { result ≡ live_count self.now }
+    {
+        self.pool.live()
+    }
+
+    /// Whether a handle names a live mutex.
+    pub fn is_live(&self, m: MutexHandle) -> bool
+        ensures { result ≡ is_some (slot_value self.now m.0) }
+    {
+        self.pool.get(m.0).is_some()
+    }
+
+    /// Finds the live mutex of an id. It walks the places.
+    ///
+    /// Stands for `mrapi_mutex_get`.
+    ///
+    /// # Errors
+    ///
+    /// - `ErrMutexIdInvalid`: no live mutex has the id.
     pub fn get(&self, id: u32) -> Result<MutexHandle, MrapiStatus>
         ensures found { IfOk result (λ m. HasLive self.now m.0 (HasId id)) }
         ensures absent { IfErr result (λ c. (c ≡ ErrMutexIdInvalid) × NoneLive (slot_value self.now) (HasId id)) }
@@ -116,6 +155,13 @@ impl Mutexes {
     }
 
     /// Gives up a mutex that nobody owns.
+    ///
+    /// Stands for `mrapi_mutex_delete`.
+    ///
+    /// # Errors
+    ///
+    /// - `ErrMutexInvalid`: the mutex isn't live.
+    /// - `ErrMutexLocked`: some seat owns it.
     pub fn delete(&mut self, m: MutexHandle) -> Result<(), MrapiStatus>
         ensures refused { result_err result ≡ refusal mutex_delete_refusals (slot_value self.old m.0) }
         ensures removed { OnOk result (self.new ≡ without self.old m.0) }
@@ -133,7 +179,15 @@ impl Mutexes {
         Ok(())
     }
 
-    /// One look of the seat `who`: the key where it gets the mutex, and Busy where another seat owns it.
+    /// Looks once for the seat `who`: it gets the key where the mutex is free or its own, and Busy
+    /// where another seat owns it. The key is the new depth, 1 to 64.
+    ///
+    /// Stands for `mrapi_mutex_trylock`, and for one look of `mrapi_mutex_lock`.
+    ///
+    /// # Errors
+    ///
+    /// - `ErrMutexInvalid`: the mutex isn't live.
+    /// - `ErrMutexLocked`: this seat owns it, and it isn't recursive or is locked 64 deep.
     pub fn look(&mut self, m: MutexHandle, who: u32) -> Look<u32>
         ensures reply { result ≡ look_at who (slot_value self.old m.0) }
         ensures new { self.new ≡ changed self.old m.0 (after_look who) }
@@ -146,6 +200,15 @@ impl Mutexes {
     }
 
     /// Takes the last key back from the seat `who`. At depth 0 the mutex is free.
+    ///
+    /// Stands for `mrapi_mutex_unlock`.
+    ///
+    /// # Errors
+    ///
+    /// - `ErrMutexInvalid`: the mutex isn't live.
+    /// - `ErrMutexNotlocked`: this seat doesn't own it.
+    /// - `ErrMutexKey`: the key isn't from 1 to the depth.
+    /// - `ErrMutexLockorder`: a later key is still out.
     pub fn unlock(&mut self, m: MutexHandle, who: u32, key: u32) -> Result<(), MrapiStatus>
         ensures refused { result_err result ≡ refusal (mutex_unlock_refusals who key) (slot_value self.old m.0) }
         ensures new { self.new ≡ changed self.old m.0 (after_unlock who key) }

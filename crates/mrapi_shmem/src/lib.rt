@@ -9,13 +9,13 @@ mod state;
 #[cfg(test)]
 mod tests;
 
-ghost use Rattle.std.specs.Prelude.{◌≡◌, ◌+◌, ◌≤◌, ◌<◌, None, length, replicate, IfSome, IsNone, IfOk, IfErr, OnOk, OnErr};
+ghost use Rattle.std.specs.Prelude.{◌≡◌, ◌⊎◌, ◌+◌, ◌≤◌, ◌<◌, None, Some, is_some, length, replicate, IfSome, IsNone, IfOk, IfErr, OnOk, OnErr};
 ghost use Rattle.std.specs.Option.{option_map};
 ghost use Rattle.std.specs.Result.{result_err};
-ghost use Rattle.mtapi_values.specs.declared.statuses.MrapiStatus.TheVariants.{ErrShmIdInvalid};
+ghost use Rattle.mtapi_values.specs.declared.statuses.MrapiStatus.TheVariants.{ErrShmIdInvalid, ErrShmExists};
 ghost use Rattle.mtapi_values.specs.Conditions.{first};
 ghost use Rattle.handle_pool.specs.Slots.{slot_value, free_slot, without, changed, Inserts, IsFull, live_count, retired_count, max_of};
-ghost use Rattle.handle_pool.specs.Walks.{NoneLive, HasLive, OneEach};
+ghost use Rattle.handle_pool.specs.Walks.{SomeLive, NoneLive, HasLive, OneEach};
 ghost use Rattle.mtapi_objects.specs.Segments.{new_segment, shmem_create_refusals, shmem_delete_refusals, attach_refusals, detach_refusals, cell_refusals, cell_of, with_cell};
 ghost use Rattle.mrapi_shmem.specs.Calls.{HasId, CreateRefused, refusal, read_at, after_attach, after_detach, after_write};
 
@@ -67,8 +67,16 @@ impl Segments {
         })
     }
 
-    /// Makes a segment of so many cells, all of them 0, to which nobody is attached. Refuses a number of cells that isn't 1 to 4,096,
-    /// then an id that a live segment has, and then where every place is in use or has retired.
+    /// Makes a segment of so many cells, all of them 0, to which nobody is attached. Any id may be
+    /// asked for.
+    ///
+    /// Stands for `mrapi_shmem_create`.
+    ///
+    /// # Errors
+    ///
+    /// - `ErrParameter`: the number of cells isn't 1 to 4,096.
+    /// - `ErrShmExists`: a live segment has the id.
+    /// - `ErrShmLimit`: every place is in use or has retired.
     pub fn create(&mut self, id: u32, cells: u32) -> Result<ShmemHandle, MrapiStatus>
         ensures in_range { OnOk result (first (shmem_create_refusals cells) ≡ None) }
         ensures new_id { OnOk result (NoneLive (slot_value self.old) (HasId id)) }
@@ -77,11 +85,8 @@ impl Segments {
         ensures refused { IfErr result (λ c. CreateRefused self.old id cells c) }
         ensures unchanged { OnErr result (self.new ≡ self.old) }
     {
-        if cells == 0 || cells > MAX_CELLS {
-            return Err(MrapiStatus::ErrParameter);
-        }
-        if self.get(id).is_ok() {
-            return Err(MrapiStatus::ErrShmExists);
+        if let Some(status) = self.create_refusal(id, cells) {
+            return Err(status);
         }
         if u64::from(self.pool.live()) + u64::from(self.pool.retired())
             == u64::from(self.pool.max())
@@ -89,6 +94,36 @@ impl Segments {
             return Err(MrapiStatus::ErrShmLimit);
         }
         Ok(ShmemHandle(self.fill(id, cells)))
+    }
+
+    /// Tells why such a create is refused, whether there is room or not: `ErrParameter` where the cells aren't 1 to 4,096, and
+    /// then `ErrShmExists` where a live segment has the id, else None. It walks the places.
+    pub fn create_refusal(&self, id: u32, cells: u32) -> Option<MrapiStatus>
+        ensures refused { IfSome result (λ c. (first (shmem_create_refusals cells) ≡ Some c) ⊎ ((first (shmem_create_refusals cells) ≡ None) × (c ≡ ErrShmExists) × SomeLive (slot_value self.now) (HasId id))) }
+        ensures in_range { IsNone result → first (shmem_create_refusals cells) ≡ None }
+        ensures new_id { IsNone result → NoneLive (slot_value self.now) (HasId id) }
+    {
+        if cells == 0 || cells > MAX_CELLS {
+            return Some(MrapiStatus::ErrParameter);
+        }
+        match self.get(id) {
+            Ok(_) => Some(MrapiStatus::ErrShmExists),
+            Err(_) => None,
+        }
+    }
+
+    /// Tells how many segments are live.
+    pub fn live(&self) -> u32
+        ensures { result ≡ live_count self.now }
+    {
+        self.pool.live()
+    }
+
+    /// Whether a handle names a live segment.
+    pub fn is_live(&self, s: ShmemHandle) -> bool
+        ensures { result ≡ is_some (slot_value self.now s.0) }
+    {
+        self.pool.get(s.0).is_some()
     }
 
     // Puts a new segment into a free place and a piece of spare memory.
@@ -108,7 +143,13 @@ impl Segments {
         }
     }
 
-    /// The live segment of an id, and SHM_ID_INVALID exactly where no live one has it.
+    /// Finds the live segment of an id. It walks the places.
+    ///
+    /// Stands for `mrapi_shmem_get`.
+    ///
+    /// # Errors
+    ///
+    /// - `ErrShmIdInvalid`: no live segment has the id.
     pub fn get(&self, id: u32) -> Result<ShmemHandle, MrapiStatus>
         ensures found { IfOk result (λ s. HasLive self.now s.0 (HasId id)) }
         ensures absent { IfErr result (λ c. (c ≡ ErrShmIdInvalid) × NoneLive (slot_value self.now) (HasId id)) }
@@ -151,6 +192,13 @@ impl Segments {
     }
 
     /// Gives up a segment to which nobody is attached.
+    ///
+    /// Stands for `mrapi_shmem_delete`.
+    ///
+    /// # Errors
+    ///
+    /// - `ErrShmInvalid`: the segment isn't live.
+    /// - `ErrShmAttached`: some seat is attached.
     pub fn delete(&mut self, s: ShmemHandle) -> Result<(), MrapiStatus>
         ensures refused { result_err result ≡ refusal shmem_delete_refusals (slot_value self.old s.0) }
         ensures removed { OnOk result (self.new ≡ without self.old s.0) }
@@ -171,6 +219,13 @@ impl Segments {
     }
 
     /// Attaches the seat `who`, which is below 25.
+    ///
+    /// Stands for `mrapi_shmem_attach`; no address is given.
+    ///
+    /// # Errors
+    ///
+    /// - `ErrShmInvalid`: the segment isn't live.
+    /// - `ErrShmAttached`: this seat is attached.
     pub fn attach(&mut self, s: ShmemHandle, who: u32) -> Result<(), MrapiStatus>
         requires { who < 25 }
         ensures refused { result_err result ≡ refusal (attach_refusals who) (slot_value self.old s.0) }
@@ -183,7 +238,14 @@ impl Segments {
         }
     }
 
-    /// Detaches the seat `who`, which is below 25.
+    /// Detaches the seat `who`, which is below 25. The cells stay as they are.
+    ///
+    /// Stands for `mrapi_shmem_detach`.
+    ///
+    /// # Errors
+    ///
+    /// - `ErrShmInvalid`: the segment isn't live.
+    /// - `ErrShmNotattached`: this seat isn't attached.
     pub fn detach(&mut self, s: ShmemHandle, who: u32) -> Result<(), MrapiStatus>
         requires { who < 25 }
         ensures refused { result_err result ≡ refusal (detach_refusals who) (slot_value self.old s.0) }
@@ -196,7 +258,15 @@ impl Segments {
         }
     }
 
-    /// The number in a cell, for the seat `who`, which is below 25 and has to be attached. Cells are numbered from 0.
+    /// Reads the number in a cell for the seat `who`, which is below 25. Cells are numbered from 0.
+    ///
+    /// Stands for a read of attached memory.
+    ///
+    /// # Errors
+    ///
+    /// - `ErrShmInvalid`: the segment isn't live.
+    /// - `ErrShmNotattached`: this seat isn't attached.
+    /// - `ErrParameter`: the segment has no such cell.
     pub fn read(&self, s: ShmemHandle, who: u32, cell: u32) -> Result<i64, MrapiStatus>
         requires { who < 25 }
         ensures { result ≡ read_at who cell (slot_value self.now s.0) }
@@ -207,7 +277,15 @@ impl Segments {
         }
     }
 
-    /// Puts a number into a cell, for the seat `who`, which is below 25 and has to be attached.
+    /// Puts a number into a cell for the seat `who`, which is below 25. Cells are numbered from 0.
+    ///
+    /// Stands for a write of attached memory.
+    ///
+    /// # Errors
+    ///
+    /// - `ErrShmInvalid`: the segment isn't live.
+    /// - `ErrShmNotattached`: this seat isn't attached.
+    /// - `ErrParameter`: the segment has no such cell.
     pub fn write(
         &mut self,
         s: ShmemHandle,

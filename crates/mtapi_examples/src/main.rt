@@ -1,7 +1,7 @@
 //! Runs each example as the program does, and tells whether it writes what its report says.
 #![tactic(auto)]
 
-use mtapi_program::run_words;
+use mtapi_program::{Threads as RealThreads, run_words};
 use std::sync::Wait;
 use std::thread::Threads;
 use std::{fs, io};
@@ -32,7 +32,16 @@ fn agrees<R: Threads + Wait + Sync>(host: &HostRuntime, rt: &R, name: &str) -> i
     let mut src = MemSource::new(text, 4096, Vec::new(alloc));
     let mut out = MemSink::new(alloc, ROOM, 4096, Vec::new(alloc))?;
     let mut err = MemSink::new(alloc, ROOM, 4096, Vec::new(alloc))?;
-    let status = run_words(rt, alloc, &["run"], &mut src, &mut out, &mut err);
+    let mut beside = RealThreads::new();
+    let status = run_words(
+        rt,
+        alloc,
+        &["run"],
+        &mut src,
+        &mut out,
+        &mut err,
+        &mut beside,
+    );
     Ok(status == 0 && out.bytes() == report.as_slice())
 }
 

@@ -6,14 +6,19 @@ use mtapi_values::{
     ActionHandle, Args, GroupHandle, Kind, Mask, MutexHandle, ObjectKind, TaskEnd, TaskHandle,
 };
 
-// The first handles of a pool, and of an action, a task and a group as callers see them.
-const FIRST: u64 = 4294967296;
+/// How many handles of a generation name a kind, as callers see them.
+const KIND: u64 = 0x100_0000;
 
-const ACTION: u64 = 4311744512;
+// The first handles: of a pool, and of an action, a task, a group and a mutex as callers see them.
+const FIRST: u64 = 0x1_0000_0000;
 
-const TASK: u64 = 4328521728;
+const ACTION: u64 = FIRST + KIND;
 
-const GROUP: u64 = 4345298944;
+const TASK: u64 = FIRST + 2 * KIND;
+
+const GROUP: u64 = FIRST + 3 * KIND;
+
+const MUTEX: u64 = FIRST + 5 * KIND;
 
 #[test]
 fn ops_turn(rt: HostRuntime) {
@@ -63,7 +68,7 @@ fn ops_turn(rt: HostRuntime) {
         )
     );
     let unlock = Op::MutexUnlock {
-        mutex: MutexHandle(4378853376),
+        mutex: MutexHandle(MUTEX),
         key: 7,
     };
     assert!(rt;

@@ -1,4 +1,8 @@
 mod Refused
 mod Carried
-mod Replies
 mod GeneratedFormed
+mod GeneratedSettled
+mod SettledOutput
+mod InputSplit
+mod Judged
+mod CheckTold

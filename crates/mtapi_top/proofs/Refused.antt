@@ -28,6 +28,7 @@ refused_end words (Some t) a b (end.WriteFault j) h q = absurd (cc)
 refused_end words (Some t) a b end.Memory h q = absurd (cc)
 refused_end words (Some t) a b end.NoThread h q = absurd (cc)
 refused_end words (Some t) a b (end.Spent s) h q = absurd (cc)
+refused_end words (Some t) a b _ h q = absurd h
 
 pub refused_told : (words : Option Asked) (bytes : Option (List ℕ)) (a b : Outside) (e : End) (f f' : ℕ) (p p' : Option (List ℕ)) (outcome : Outcome) → Ends words bytes a b e → Told e f f' p p' outcome → outcome.status ≡ 3 → IfSome bytes IsRefused
 refused_told words bytes a b e f f' p p' outcome h (inl t) q = refused_end words bytes a b e h (sym t.status ∙ q)
@@ -41,13 +42,14 @@ not_refused words t j P r e i = by i (was_read r.asked t r.load (ap reads (sym r
     was_read asks.Report t load e h = h
     was_read asks.Journal t load e h = h
     was_read (asks.Generated n w) t load e h = absurd (cc)
+    was_read asks.Check t load e h = absurd (cc)
 
     by : IsRefused t → IsRead (Some t) r.load → ⊥
     by (inl long) read = omega (arith, read.0)
     by (inr none) read = let both = sym none.2 ∙ read.1 in cc
 
 -- and no workload is refused
-not_workload : (t : List ℕ) → IsWorkload t → IsRefused t → ⊥
+pub not_workload : (t : List ℕ) → IsWorkload t → IsRefused t → ⊥
 not_workload t x (inl long) = omega (arith, x.0)
 not_workload t x (inr none) = let both = sym none.2 ∙ x.2 in cc
 
@@ -64,6 +66,7 @@ refused_status words t a b (end.WriteFault j) h r n i = absurd (not_refused word
 refused_status words t a b end.Memory h r n i = inr refl
 refused_status words t a b end.NoThread h r n i = absurd (not_workload t (h.2 r) i)
 refused_status words t a b (end.Spent s) h r n i = absurd (not_workload t (h.2 r) i)
+refused_status words t a b _ h r n i = absurd h
 
 one_of : (x y : ℕ) → x ≡ y → (y ≡ 3) ⊎ (y ≡ 6) → (x ≡ 3) ⊎ (x ≡ 6)
 one_of x y e (inl q) = inl (e ∙ q)

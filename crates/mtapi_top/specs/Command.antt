@@ -10,6 +10,8 @@ use Rattle.workload_file.specs.declared.faults.LoadError.TheVariants as errors
 use Rattle.workload_file.specs.Causes.{cause_text}
 use Rattle.workload_file.specs.Reading.{workload_of}
 use Rattle.node_core.specs.declared.entries.Journal.{Journal}
+use Rattle.journal_check.specs.declared.verdicts.Verdict.{Verdict}
+use Rattle.journal_check.specs.declared.verdicts.Verdict.TheVariants as verdict
 use Rattle.mtapi_top.specs.declared.ends.End.{End}
 use Rattle.mtapi_top.specs.declared.ends.End.TheVariants as end
 use Rattle.mtapi_top.specs.declared.ends.Outcome.{Outcome}
@@ -44,7 +46,7 @@ pub record Outside : Type 0 where
   pub threads : ℕ
   pub held : Option (List ℕ)
 
--- what is known at each end: of the words, the bytes of the source, and what stood outside before and stands there then
+-- what is known at each end of a run: of the words, the bytes of the source, and what stood outside before and stands there then
 abbrev pub Ends : Option Asked → Option (List ℕ) → Outside → Outside → End → Type 0
 Ends words bytes a b (end.Done journal) = Ran words bytes journal (Appends a.held b.held)
 Ends words bytes a b end.Usage = (words ≡ None) × (b.held ≡ a.held)
@@ -56,12 +58,23 @@ Ends words bytes a b (end.WriteFault journal) = Rose a.writes b.writes × Ran wo
 Ends words bytes a b end.Memory = (is_some words ≡ true) × (b.held ≡ a.held)
 Ends words bytes a b end.NoThread = (is_some words ≡ true) × Rose a.threads b.threads × HasRead words bytes × (b.held ≡ a.held)
 Ends words bytes a b (end.Spent s) = (is_some words ≡ true) × (2 ^ 62 ≤ s) × HasRead words bytes × (b.held ≡ a.held)
+Ends words bytes a b (end.Judged v) = ⊥
+Ends words bytes a b (end.VerdictFault v) = ⊥
+Ends words bytes a b end.InputTooLong = ⊥
+Ends words bytes a b (end.JournalLine line) = ⊥
+Ends words bytes a b end.JournalCut = ⊥
 
 -- a text was written, or a prefix of it where writing failed
 pub record Says (before now : ℕ) (old new : Option (List ℕ)) (text : List ℕ) : Type 0 where
   pub later : before ≤ now
   pub prefix : AppendsFront old new text
   pub whole : (Rose before now → ⊥) → Appends old new text
+
+-- the status for a verdict
+abbrev pub verdict_status : Verdict → ℕ
+verdict_status verdict.Yes = 0
+verdict_status (verdict.Illegal n) = 9
+verdict_status verdict.NotRun = 9
 
 -- the status of the process
 abbrev pub status_of : End → ℕ
@@ -74,6 +87,11 @@ status_of (end.WriteFault journal) = 5
 status_of end.Memory = 6
 status_of end.NoThread = 7
 status_of (end.Spent s) = 8
+status_of (end.Judged v) = verdict_status v
+status_of (end.VerdictFault v) = 5
+status_of end.InputTooLong = 3
+status_of (end.JournalLine line) = 3
+status_of end.JournalCut = 3
 
 -- the journal of the run, where there was one
 abbrev pub journal_of : End → Option Journal
@@ -86,6 +104,11 @@ journal_of end.ReadFault = None
 journal_of end.Memory = None
 journal_of end.NoThread = None
 journal_of (end.Spent s) = None
+journal_of (end.Judged v) = None
+journal_of (end.VerdictFault v) = None
+journal_of end.InputTooLong = None
+journal_of (end.JournalLine line) = None
+journal_of end.JournalCut = None
 
 -- what shows that the tickets ran out, where they did
 abbrev pub spent_of : End → Option ℕ
@@ -95,7 +118,7 @@ spent_of _ = None
 -- what is said on the error output
 unfoldable pub message : End → List ℕ
 message (end.Done journal) = []
-message end.Usage = codes "usage: mtapi run [--journal] | mtapi gen N [W]" ++ 10 ∷ []
+message end.Usage = codes "usage: mtapi run [--journal] | mtapi gen N [W] | mtapi check" ++ 10 ∷ []
 message (end.Refused line cause) = codes "mtapi: line " ++ (decimal line ++ (codes ": " ++ (cause_text cause ++ 10 ∷ [])))
 message end.TooLong = codes "mtapi: workload too long" ++ 10 ∷ []
 message end.ReadFault = codes "mtapi: read fault" ++ 10 ∷ []
@@ -103,6 +126,11 @@ message (end.WriteFault journal) = codes "mtapi: write fault" ++ 10 ∷ []
 message end.Memory = codes "mtapi: out of memory" ++ 10 ∷ []
 message end.NoThread = codes "mtapi: thread refused" ++ 10 ∷ []
 message (end.Spent s) = codes "mtapi: turns spent" ++ 10 ∷ []
+message (end.Judged v) = []
+message (end.VerdictFault v) = codes "mtapi: write fault" ++ 10 ∷ []
+message end.InputTooLong = codes "mtapi: input too long" ++ 10 ∷ []
+message (end.JournalLine line) = codes "mtapi: journal line " ++ (decimal line ++ 10 ∷ [])
+message end.JournalCut = codes "mtapi: journal cut short" ++ 10 ∷ []
 
 -- the message names a line
 abbrev pub has_line : End → Bool
@@ -115,6 +143,11 @@ has_line (end.WriteFault journal) = false
 has_line end.Memory = false
 has_line end.NoThread = false
 has_line (end.Spent s) = false
+has_line (end.Judged v) = false
+has_line (end.VerdictFault v) = false
+has_line end.InputTooLong = false
+has_line (end.JournalLine line) = true
+has_line end.JournalCut = false
 
 -- The outcome is told by an end: its status, its journal, what shows that tickets ran out, and its message on the error output.
 pub record IsTold (end : End) (e e' : ℕ) (o o' : Option (List ℕ)) (outcome : Outcome) : Type 0 where

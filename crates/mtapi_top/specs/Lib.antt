@@ -1,5 +1,6 @@
 pub mod Words
 pub mod Headline
 pub mod Command
-pub mod Replies
 pub mod Generated
+pub mod Settled
+pub mod Check

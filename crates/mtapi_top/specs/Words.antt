@@ -29,10 +29,17 @@ gen_asks (tasks ∷ []) = generated_asks (number_within 1 19000 tasks) (Some 4)
 gen_asks (tasks ∷ workers ∷ []) = generated_asks (number_within 1 19000 tasks) (number_within 1 16 workers)
 gen_asks (tasks ∷ workers ∷ next ∷ more) = None
 
+-- what the words behind `check` ask for: there are none
+abbrev pub check_asks : List (List ℕ) → Option Asked
+check_asks [] = Some asks.Check
+check_asks (next ∷ more) = None
+
 -- what the words ask for; nothing, where the command takes no such words
 abbrev pub asked_of : List (List ℕ) → Option Asked
 asked_of [] = None
-asked_of (word ∷ options) = if bytes_eq word (codes "run") then run_asks options else (if bytes_eq word (codes "gen") then gen_asks options else None)
+asked_of (word ∷ options) =
+    if bytes_eq word (codes "run") then run_asks options
+    else (if bytes_eq word (codes "gen") then gen_asks options else (if bytes_eq word (codes "check") then check_asks options else None))
 
 -- the words ask for the run of a workload that is read
 abbrev pub reads : Option Asked → Bool
@@ -40,9 +47,19 @@ reads None = false
 reads (Some asks.Report) = true
 reads (Some asks.Journal) = true
 reads (Some (asks.Generated n w)) = false
+reads (Some asks.Check) = false
+
+-- the words ask for a journal to be judged, and for no run
+abbrev pub judges : Option Asked → Bool
+judges None = false
+judges (Some asks.Report) = false
+judges (Some asks.Journal) = false
+judges (Some (asks.Generated n w)) = false
+judges (Some asks.Check) = true
 
 -- the numbers of what was asked for are in their ranges
 abbrev pub InRange : Asked → Type 0
 InRange asks.Report = Unit {0}
 InRange asks.Journal = Unit {0}
+InRange asks.Check = Unit {0}
 InRange (asks.Generated n w) = (1 ≤ n) × (n ≤ 19000) × (1 ≤ w) × (w ≤ 16)

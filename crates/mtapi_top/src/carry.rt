@@ -7,14 +7,24 @@ ghost use Rattle.workload_file.specs.Formed.{WellFormed};
 ghost use Rattle.workload_file.specs.Loading.{HoldsBut, ReadsClean};
 ghost use Rattle.mtapi_top.specs.Generated.{generated};
 ghost use Rattle.mtapi_top.specs.Headline.{IsLoadOf, Ran};
-ghost use Rattle.mtapi_top.specs.Words.{texts, asked_of, reads, InRange};
+ghost use Rattle.mtapi_top.specs.Settled.{IsPlainOutput};
+ghost use Rattle.mtapi_top.specs.Check.{IsJudged, IsInput, IsRefusedInput, Checks, verdict_line};
+ghost use Rattle.mtapi_top.specs.Command.{verdict_status};
+ghost use Rattle.journal_text.specs.Journals.{ReadsClean as ReadsInput};
+ghost use Rattle.journal_check.specs.Verdicts.{IsVerdict};
+ghost use Rattle.journal_check.specs.declared.verdicts.Verdict.{Verdict};
+ghost use Rattle.journal_check.specs.declared.verdicts.Verdict.TheVariants.{Yes};
+ghost use Rattle.workload_file.specs.declared.workload.Workload.{Workload};
+ghost use Rattle.node_core.specs.declared.entries.Journal.{Journal};
+ghost use Rattle.mtapi_top.specs.Words.{texts, asked_of, reads, judges, InRange};
 ghost use Rattle.mtapi_top.specs.declared.ends.End.{End};
 
+use crate::checking::check_input;
 use crate::ends::{End, Outcome};
 use crate::generator::generated;
 use crate::pieces::run_and_output;
 use crate::telling::tell;
-use crate::words::{Asked, asked_of};
+use crate::words::{Asked, asked_of, judges};
 use action_fn::ActionSource;
 use sched_threads::{Beside, RunError};
 use std::alloc::Global;
@@ -38,7 +48,8 @@ fn generated_load(alloc: Global, tasks: u32, workers: u32) -> Result<Workload, L
 
 /// The workload whose run was asked for: the one that is read, or the generated one, for which nothing is read.
 fn load_for<S: Source>(alloc: Global, asked: &Asked, src: &mut S) -> Result<Workload, LoadError>
-    requires { InRange asked.now }
+    requires range { InRange asked.now }
+    requires asked { judges (Some asked.now) ≡ false }
     ensures load { IfOk result (λ load. IsLoadOf asked.now (S.left src.old) load) }
     ensures formed { IfOk result WellFormed }
     ensures workload { IfOk result (λ load. HasRead (Some asked.now) (S.left src.old)) }
@@ -51,6 +62,7 @@ fn load_for<S: Source>(alloc: Global, asked: &Asked, src: &mut S) -> Result<Work
     match asked {
         Asked::Report | Asked::Journal => read_workload(alloc, src),
         Asked::Generated { tasks, workers } => generated_load(alloc, *tasks, *workers),
+        Asked::Check => unreachable!(),
     }
 }
 
@@ -64,6 +76,7 @@ fn carry_out<R: Threads + Wait + Sync, S: Source, W: Sink, A: ActionSource, B: B
     acts: &mut A,
     beside: &mut B,
 ) -> End
+    requires { judges (asked_of (texts words.now)) ≡ false }
     ensures end { Ends (asked_of (texts words.now)) (S.left src.old)
         (record { reads = S.faults src.old; writes = W.faults out.old; threads = B.refusals beside.old; held = W.held out.old })
         (record { reads = S.faults src.new; writes = W.faults out.new; threads = B.refusals beside.new; held = W.held out.new }) result }
@@ -72,6 +85,7 @@ fn carry_out<R: Threads + Wait + Sync, S: Source, W: Sink, A: ActionSource, B: B
     ensures unread { reads (asked_of (texts words.now)) ≡ false → (S.left src.new ≡ S.left src.old) × (S.faults src.new ≡ S.faults src.old) }
     ensures whole { reads (asked_of (texts words.now)) ≡ true
         → IfSome (journal_of result) (λ journal. IfSome (S.left src.old) (λ bytes. IsAtEnd (S.left src.new))) }
+    ensures range { IfSome (asked_of (texts words.now)) InRange }
 {
     let Some(asked) = asked_of(words) else {
         return End::Usage;
@@ -95,11 +109,31 @@ fn carry_out<R: Threads + Wait + Sync, S: Source, W: Sink, A: ActionSource, B: B
     }
 }
 
-/// The command. Asked by `run` it reads a workload from `src`, carries it out with threads that `beside` starts, and writes its report
-/// to `out`; by `run --journal` it writes the text of the run's journal behind the report. Asked by `gen N` or `gen N W` it reads
-/// nothing, carries out the generated workload of N tasks with W workers, and writes the summary of its run. The whole output is made
-/// before its first byte is written.
+/// The command: carries out what its words ask for, and answers the status of the process, 0 or 2
+/// to 9.
+///
+/// Asked by `run` it reads a workload from `src`, carries it out with threads that `beside` starts,
+/// and writes its report to `out`; by `run --journal` it writes the text of the run's journal
+/// behind the report. Asked by `gen N` or `gen N W` it reads nothing, carries out the generated
+/// workload of N tasks, 1 to 19,000, with W workers, 1 to 16, and writes the summary of its run.
+/// Asked by `check` it reads a workload and behind it the text of a journal, together at most
+/// 67,108,864 bytes, makes no run, and writes the verdict on the journal: `yes`, `no: illegal
+/// entry N` or `no: not a run`. The journal begins with the first line that begins with
+/// `mtapi-journal `. The whole output is made before its first byte is written.
+///
 /// A refusal or a fault is said on `err`; a fault of `err` changes nothing.
+///
+/// # Errors
+///
+/// - `2`: the words are none of the command.
+/// - `3`: the input is no workload; of `check`, it is too long, or no workload stands before the
+///   journal, or what stands behind it is no journal, looked for in this order.
+/// - `4`: a read failed.
+/// - `5`: a write failed. A prefix of the output was written; with the other ones nothing was.
+/// - `6`: there was no memory.
+/// - `7`: a thread was refused.
+/// - `8`: the tickets of the run's turns ran out.
+/// - `9`: the verdict on the journal isn't yes. It was written.
 #[tactic(auto, using(crate::proofs::Refused::refused_has))]
 pub fn command<R: Threads + Wait + Sync, S: Source, W: Sink, E: Sink, A: ActionSource, B: Beside>(
     rt: &R,
@@ -116,16 +150,23 @@ pub fn command<R: Threads + Wait + Sync, S: Source, W: Sink, E: Sink, A: ActionS
     // and a prefix of it with 5.
     ensures headline { result.status ≡ 0 → IfSome result.journal (λ journal. Ran (asked_of (texts words.now)) (S.left src.old) journal (Appends (W.held out.old) (W.held out.new))) }
     ensures headline_cut { result.status ≡ 5 → IfSome result.journal (λ journal. Ran (asked_of (texts words.now)) (S.left src.old) journal (AppendsFront (W.held out.old) (W.held out.new))) }
-    ensures journal { IsSome result.journal ↔ ((result.status ≡ 0) ⊎ (result.status ≡ 5)) }
+
+    // Of a settled workload the statements alone tell what is written, for every number of workers: its plain report; and of the generated
+    // ones, which are settled, a summary that is the same for every number of workers.
+    ensures settled { result.status ≡ 0 → IfSome result.journal (λ journal. IsPlainOutput (asked_of (texts words.now)) (S.left src.old) journal (Appends (W.held out.old) (W.held out.new))) }
+    ensures settled_cut { result.status ≡ 5 → IfSome result.journal (λ journal. IsPlainOutput (asked_of (texts words.now)) (S.left src.old) journal (AppendsFront (W.held out.old) (W.held out.new))) }
+    ensures journal { IsSome result.journal ↔ ((judges (asked_of (texts words.now)) ≡ false) × ((result.status ≡ 0) ⊎ (result.status ≡ 5))) }
     ensures spent { IsSome result.spent ↔ (result.status ≡ 8) }
 
     // Each status has its cause.
     ensures usage { (result.status ≡ 2) ↔ (asked_of (texts words.now) ≡ None) }
-    ensures refused { result.status ≡ 3 → IfSome (S.left src.old) IsRefused }
-    ensures refused_clean { result.status ≡ 3 → ReadsClean (S.faults src.old) (S.faults src.new) (S.left src.old) (S.left src.new) }
+    ensures refused { judges (asked_of (texts words.now)) ≡ false → result.status ≡ 3 → IfSome (S.left src.old) IsRefused }
+    ensures refused_clean { judges (asked_of (texts words.now)) ≡ false → result.status ≡ 3
+        → ReadsClean (S.faults src.old) (S.faults src.new) (S.left src.old) (S.left src.new) }
     ensures refused_where { reads (asked_of (texts words.now)) ≡ true → (Rose (S.faults src.old) (S.faults src.new) → ⊥)
         → IfSome (S.left src.old) (λ bytes. IsRefused bytes → (result.status ≡ 3) ⊎ (result.status ≡ 6)) }
-    ensures reading { (result.status ≡ 3) ⊎ (result.status ≡ 4) → reads (asked_of (texts words.now)) ≡ true }
+    ensures reading { (result.status ≡ 3) ⊎ (result.status ≡ 4)
+        → (reads (asked_of (texts words.now)) ≡ true) ⊎ (judges (asked_of (texts words.now)) ≡ true) }
     ensures read_fault { result.status ≡ 4 → Rose (S.faults src.old) (S.faults src.new) }
     ensures write_fault { result.status ≡ 5 → Rose (W.faults out.old) (W.faults out.new) }
     ensures no_thread { result.status ≡ 7 → Rose (B.refusals beside.old) (B.refusals beside.new) }
@@ -133,29 +174,63 @@ pub fn command<R: Threads + Wait + Sync, S: Source, W: Sink, E: Sink, A: ActionS
 
     // Where the words are `gen`, or none of the command, nothing is read; where the run of what is read finished, the input was read
     // to its end.
-    ensures unread { reads (asked_of (texts words.now)) ≡ false → (S.left src.new ≡ S.left src.old) × (S.faults src.new ≡ S.faults src.old) }
+    ensures unread { reads (asked_of (texts words.now)) ≡ false → judges (asked_of (texts words.now)) ≡ false
+        → (S.left src.new ≡ S.left src.old) × (S.faults src.new ≡ S.faults src.old) }
     ensures whole { reads (asked_of (texts words.now)) ≡ true
         → IfSome result.journal (λ journal. IfSome (S.left src.old) (λ bytes. IsAtEnd (S.left src.new))) }
 
     // Nothing is written with another status.
-    ensures nothing { (result.status ≡ 0 → ⊥) → (result.status ≡ 5 → ⊥) → W.held out.new ≡ W.held out.old }
+    ensures nothing { (result.status ≡ 0 → ⊥) → (result.status ≡ 5 → ⊥) → (result.status ≡ 9 → ⊥) → W.held out.new ≡ W.held out.old }
 
     // A workload, without a fault and with a thread for everyone, ends with 0, with 6 when out of memory, or with spent tickets.
     ensures complete { reads (asked_of (texts words.now)) ≡ true → (Rose (S.faults src.old) (S.faults src.new) → ⊥) → (Rose (W.faults out.old) (W.faults out.new) → ⊥)
         → (Rose (B.refusals beside.old) (B.refusals beside.new) → ⊥)
         → IfSome (S.left src.old) (λ bytes. IsWorkload bytes → (result.status ≡ 0) ⊎ (result.status ≡ 6) ⊎ (result.status ≡ 8)) }
     ensures complete_generated { is_some (asked_of (texts words.now)) ≡ true → reads (asked_of (texts words.now)) ≡ false
-        → (Rose (W.faults out.old) (W.faults out.new) → ⊥) → (Rose (B.refusals beside.old) (B.refusals beside.new) → ⊥)
+        → judges (asked_of (texts words.now)) ≡ false → (Rose (W.faults out.old) (W.faults out.new) → ⊥) → (Rose (B.refusals beside.old) (B.refusals beside.new) → ⊥)
         → (result.status ≡ 0) ⊎ (result.status ≡ 6) ⊎ (result.status ≡ 8) }
 
+    // A journal that is judged. With 0 and with 9 the verdict on it was written: yes, and another one; with 5 a prefix of it.
+    ensures check_yes { judges (asked_of (texts words.now)) ≡ true → result.status ≡ 0
+        → IsJudged (S.left src.old) Yes × Appends (W.held out.old) (W.held out.new) (verdict_line Yes) }
+    ensures check_no { judges (asked_of (texts words.now)) ≡ true → result.status ≡ 9
+        → (v : Verdict) × (v ≡ Yes → ⊥) × IsJudged (S.left src.old) v × Appends (W.held out.old) (W.held out.new) (verdict_line v) }
+    ensures check_cut { judges (asked_of (texts words.now)) ≡ true → result.status ≡ 5
+        → (v : Verdict) × IsJudged (S.left src.old) v × AppendsFront (W.held out.old) (W.held out.new) (verdict_line v) }
+    ensures check_nine { result.status ≡ 9 → judges (asked_of (texts words.now)) ≡ true }
+
+    // What is refused in place of being judged; it was read without a fault.
+    ensures check_refused { judges (asked_of (texts words.now)) ≡ true → result.status ≡ 3 → IfSome (S.left src.old) IsRefusedInput }
+    ensures check_refused_where { judges (asked_of (texts words.now)) ≡ true → (Rose (S.faults src.old) (S.faults src.new) → ⊥)
+        → IfSome (S.left src.old) (λ bytes. IsRefusedInput bytes → (result.status ≡ 3) ⊎ (result.status ≡ 6)) }
+    ensures check_clean { judges (asked_of (texts words.now)) ≡ true → (result.status ≡ 4 → ⊥) → (result.status ≡ 6 → ⊥)
+        → ReadsInput (S.faults src.old) (S.faults src.new) (S.left src.old) (S.left src.new) }
+
+    // Without a fault it ends with 0, with 9, with 3, or with 6 when out of memory; and but for 6 the input alone tells with which.
+    ensures check_complete { judges (asked_of (texts words.now)) ≡ true → (Rose (S.faults src.old) (S.faults src.new) → ⊥)
+        → (Rose (W.faults out.old) (W.faults out.new) → ⊥)
+        → (result.status ≡ 0) ⊎ (result.status ≡ 3) ⊎ (result.status ≡ 6) ⊎ (result.status ≡ 9) }
+    ensures check_decides { judges (asked_of (texts words.now)) ≡ true → (Rose (S.faults src.old) (S.faults src.new) → ⊥)
+        → (Rose (W.faults out.old) (W.faults out.new) → ⊥)
+        → IfSome (S.left src.old) (λ bytes. (load : Workload) (j : Journal) (v : Verdict) → IsInput bytes load j → IsVerdict load j v
+        → (result.status ≡ verdict_status v) ⊎ (result.status ≡ 6)) }
+
     // The outcome and the text on `err` are of the way it ended.
-    ensures ends { (end : End)
+    ensures ends { judges (asked_of (texts words.now)) ≡ false → (end : End)
         × Ends (asked_of (texts words.now)) (S.left src.old)
         (record { reads = S.faults src.old; writes = W.faults out.old; threads = B.refusals beside.old; held = W.held out.old })
         (record { reads = S.faults src.new; writes = W.faults out.new; threads = B.refusals beside.new; held = W.held out.new }) end
         × IsTold end (E.faults err.old) (E.faults err.new) (E.held err.old) (E.held err.new) result }
+    ensures check_ends { judges (asked_of (texts words.now)) ≡ true → (end : End)
+        × Checks (S.left src.old) (record { reads = S.faults src.old; writes = W.faults out.old; held = W.held out.old })
+        (record { reads = S.faults src.new; writes = W.faults out.new; held = W.held out.new }) end
+        × IsTold end (E.faults err.old) (E.faults err.new) (E.held err.old) (E.held err.new) result }
     ensures later { (S.faults src.old ≤ S.faults src.new) × (W.faults out.old ≤ W.faults out.new) × (E.faults err.old ≤ E.faults err.new) }
 {
+    if judges(words) {
+        let verdict = check_input(alloc, src, out);
+        return tell(alloc, verdict, err);
+    }
     let end = carry_out(rt, alloc, words, src, out, acts, beside);
     tell(alloc, end, err)
 }

@@ -1,5 +1,6 @@
 //! How the command ends.
 
+use journal_check::Verdict;
 use node_core::RunJournal;
 use turn_cell::Spent;
 use workload_file::Cause;
@@ -25,14 +26,24 @@ pub enum End {
     NoThread,
     /// The tickets of the run's turns ran out.
     Spent(Spent),
+    /// A journal was judged, and the verdict was written.
+    Judged(Verdict),
+    /// A journal was judged, and a write of the verdict failed.
+    VerdictFault(Verdict),
+    /// There are more bytes than a workload and a journal to be judged may have.
+    InputTooLong,
+    /// The bytes behind the workload are no journal: this is the first line outside the grammar, counted from 1 at the journal's first.
+    JournalLine(u64),
+    /// The bytes behind the workload are no journal: its last line has no line feed.
+    JournalCut,
 }
 
 /// What the command answers: the status of the process, and what shows it.
 #[derive(Drop)]
 pub struct Outcome {
-    /// 0, or 2 to 8.
+    /// 0, or 2 to 9.
     pub status: u8,
-    /// Some exactly with the status 0 or 5.
+    /// Some exactly with the status 0 or 5 of words other than `check`.
     pub journal: Option<RunJournal>,
     /// Some exactly with the status 8.
     pub spent: Option<Spent>,

@@ -1,13 +1,12 @@
-//! The command: it reads or makes a workload, makes its run, and writes its report, its journal or its summary.
+//! The command: it reads or makes a workload, makes its run, and writes its report, its journal or its summary; or it judges a
+//! journal that was kept.
 #![tactic(auto)]
 
 mod carry;
+mod checking;
 mod ends;
-#[cfg(test)]
-mod generated_tests;
 mod generator;
-#[cfg(test)]
-mod journal_tests;
+mod input;
 pub mod laws;
 mod pieces;
 mod telling;

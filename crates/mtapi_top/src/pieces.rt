@@ -1,8 +1,9 @@
 //! The run of a workload, and its output.
-ghost use Rattle.std.specs.Prelude.{◌≡◌, ◌≤◌, IfOk, IfErr, length};
+ghost use Rattle.std.specs.Prelude.{◌≡◌, ◌≤◌, IfOk, IfErr, Some, false, length};
 ghost use Rattle.workload_file.specs.Formed.{WellFormed};
 ghost use Rattle.sched_threads.specs.Runs.{Causes};
 ghost use Rattle.mtapi_top.specs.Headline.{IsRun, output};
+ghost use Rattle.mtapi_top.specs.Words.{judges};
 
 use crate::words::Asked;
 use action_fn::ActionSource;
@@ -24,6 +25,13 @@ fn callers_of(load: &Workload) -> u32
     load.parts.as_slice().len() as u32
 }
 
+// Each entry of a journal has a number beside it, which its list says to a caller of the numbers alone.
+fn see_numbers(journal: &Journal)
+    ensures { length journal.now.entries.entries ≡ length journal.now.entries.skipped }
+{
+    let _ = journal.entries.skipped();
+}
+
 /// Makes the run of a workload, with a thread for each worker and for each further caller.
 fn run_of<R: Threads + Wait + Sync, A: ActionSource, B: Beside>(
     rt: &R,
@@ -39,7 +47,13 @@ fn run_of<R: Threads + Wait + Sync, A: ActionSource, B: Beside>(
     let Ok(node) = Node::init(alloc, load.settings, callers_of(load)) else {
         return Err(RunError::Memory);
     };
-    run_node(rt, alloc, node, load, acts, beside)
+    match run_node(rt, alloc, node, load, acts, beside) {
+        Ok(run) => {
+            see_numbers(run.journal());
+            Ok(run)
+        }
+        Err(error) => Err(error),
+    }
 }
 
 /// The output that was asked for, of a run of this workload that left this journal.
@@ -51,6 +65,7 @@ fn output_of(
 ) -> Result<Vec<u8>, AllocError>
     requires formed { WellFormed load.now }
     requires run { IsRun load.now journal.now }
+    requires asked { judges (Some asked.now) ≡ false }
     ensures { IfOk result (λ text. text.items ≡ output asked.now load.now journal.now) }
 {
     match asked {
@@ -62,6 +77,7 @@ fn output_of(
             Ok(text)
         }
         Asked::Generated { .. } => summary_of(alloc, load, journal),
+        Asked::Check => unreachable!(),
     }
 }
 
@@ -75,6 +91,7 @@ pub(crate) fn run_and_output<R: Threads + Wait + Sync, A: ActionSource, B: Besid
     beside: &mut B,
 ) -> Result<(RunJournal, Vec<u8>), RunError>
     requires formed { WellFormed load.now }
+    requires asked { judges (Some asked.now) ≡ false }
     ensures is_run { IfOk result (λ r. IsRun load.now r.0) }
     ensures output { IfOk result (λ r. r.1.items ≡ output asked.now load.now r.0) }
     ensures causes { IfErr result (Causes (B.refusals beside.old) (B.refusals beside.new)) }

@@ -1,10 +1,12 @@
 //! What the command says of its end.
 ghost use Rattle.std.specs.Prelude.{◌≡◌, ◌⊎◌, true, false, Some, None, IfOk, string_bytes};
-ghost use Rattle.mtapi_top.specs.Command.{Says, status_of, journal_of, spent_of, message, has_line, IsTold};
+ghost use Rattle.mtapi_top.specs.Command.{Says, verdict_status, status_of, journal_of, spent_of, message, has_line, IsTold};
 ghost use Rattle.mtapi_top.specs.declared.ends.End.{End};
 
 use crate::ends::{End, Outcome};
+use journal_check::Verdict;
 use node_core::RunJournal;
+use number_text::decimal_text;
 use std::alloc::{AllocError, Global};
 use workload_file::{Cause, Sink, write_all};
 
@@ -13,8 +15,17 @@ use workload_file::{Cause, Sink, write_all};
 fn fault_text(alloc: Global, line: u64, cause: Cause) -> Result<String, AllocError>
     ensures { IfOk result (λ text. string_bytes text ≡ message (End.Refused line cause)) }
 {
+    let line = decimal_text(alloc, line)?;
     let cause = cause.text();
     format!(in alloc; "mtapi: line {line}: {cause}\n")
+}
+
+/// The message for a line of a journal that is outside the grammar.
+#[tactic(auto, unfolding(crate::specs::Command::message))]
+fn journal_fault_text(alloc: Global, line: u64) -> Result<String, AllocError>
+    ensures { IfOk result (λ text. string_bytes text ≡ message (End.JournalLine line)) }
+{
+    format!(in alloc; "mtapi: journal line {line}\n")
 }
 
 /// Writes a text. A fault of the sink changes nothing else.
@@ -31,14 +42,26 @@ fn plain_text(end: &End) -> &'static [u8]
     ensures { result.now ≡ message end.now }
 {
     match end {
-        End::Done(_) | End::Refused(..) => b"",
-        End::Usage => b"usage: mtapi run [--journal] | mtapi gen N [W]\n",
+        End::Done(_) | End::Judged(_) | End::Refused(..) | End::JournalLine(_) => b"",
+        End::Usage => b"usage: mtapi run [--journal] | mtapi gen N [W] | mtapi check\n",
         End::TooLong => b"mtapi: workload too long\n",
         End::ReadFault => b"mtapi: read fault\n",
-        End::WriteFault(_) => b"mtapi: write fault\n",
+        End::WriteFault(_) | End::VerdictFault(_) => b"mtapi: write fault\n",
         End::Memory => b"mtapi: out of memory\n",
         End::NoThread => b"mtapi: thread refused\n",
         End::Spent(_) => b"mtapi: turns spent\n",
+        End::InputTooLong => b"mtapi: input too long\n",
+        End::JournalCut => b"mtapi: journal cut short\n",
+    }
+}
+
+/// The status for a verdict.
+fn verdict_status(verdict: Verdict) -> u8
+    ensures { result ≡ verdict_status verdict }
+{
+    match verdict {
+        Verdict::Yes => 0,
+        Verdict::Illegal { .. } | Verdict::NotRun => 9,
     }
 }
 
@@ -56,9 +79,12 @@ fn outcome_of(end: End) -> Outcome
             journal: None,
             spent: Some(spent),
         },
+        End::Judged(verdict) => alone(verdict_status(verdict)),
         End::Usage => alone(2),
         End::Refused(..) | End::TooLong => alone(3),
+        End::InputTooLong | End::JournalLine(_) | End::JournalCut => alone(3),
         End::ReadFault => alone(4),
+        End::VerdictFault(_) => alone(5),
         End::Memory => alone(6),
         End::NoThread => alone(7),
     }
@@ -111,6 +137,10 @@ pub fn tell<E: Sink>(alloc: Global, end: End, err: &mut E) -> Outcome
         End::Refused(line, cause) => {
             let text = fault_text(alloc, line, cause);
             tell_text(End::Refused(line, cause), text, err)
+        }
+        End::JournalLine(line) => {
+            let text = journal_fault_text(alloc, line);
+            tell_text(End::JournalLine(line), text, err)
         }
         other => {
             say(err, plain_text(&other));

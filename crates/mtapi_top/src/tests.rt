@@ -1,5 +1,10 @@
 //! The command on worked workloads, over sources and sinks in memory.
 
+mod changed_journals;
+mod checks;
+mod generated;
+mod journals;
+
 use crate::{Beside, FewThreads, Threads, command};
 use action_fn::{
     ActionSet, ActionSource, Finished, FnTable, StoredFn, act_add, act_div, act_echo, act_fail,
@@ -152,21 +157,21 @@ fn words_and_faults(rt: HostRuntime) {
             count: 2,
             status: 2,
             out: none,
-            err: b"usage: mtapi run [--journal] | mtapi gen N [W]\n",
+            err: b"usage: mtapi run [--journal] | mtapi gen N [W] | mtapi check\n",
             ..plain()
         },
         Case {
             count: 0,
             status: 2,
             out: none,
-            err: b"usage: mtapi run [--journal] | mtapi gen N [W]\n",
+            err: b"usage: mtapi run [--journal] | mtapi gen N [W] | mtapi check\n",
             ..plain()
         },
         Case {
             words: ["runs", "x"],
             status: 2,
             out: none,
-            err: b"usage: mtapi run [--journal] | mtapi gen N [W]\n",
+            err: b"usage: mtapi run [--journal] | mtapi gen N [W] | mtapi check\n",
             ..plain()
         },
         Case {

@@ -1,7 +1,7 @@
 //! What the words of the command ask for.
 ghost use Rattle.std.specs.Prelude.{◌≡◌, ◌≤◌, IfSome};
 ghost use Rattle.number_text.specs.Numbers.{number_within};
-ghost use Rattle.mtapi_top.specs.Words.{texts, asked_of, run_asks, gen_asks, generated_asks, InRange};
+ghost use Rattle.mtapi_top.specs.Words.{texts, asked_of, run_asks, gen_asks, check_asks, generated_asks, judges, InRange};
 
 use number_text::number_within;
 
@@ -19,6 +19,8 @@ pub enum Asked {
         /// With how many workers it runs: 1 to 16, and 4 where the words don't say.
         workers: u32,
     },
+    /// `check`: whether the journal that is read is that of a run of the workload that stands before it.
+    Check,
 }
 
 /// What the words behind `run` ask for.
@@ -69,6 +71,17 @@ fn gen_asks(words: &[&str]) -> Option<Asked>
     }
 }
 
+/// What the words behind `check` ask for.
+fn check_asks(words: &[&str]) -> Option<Asked>
+    ensures value { result ≡ check_asks (texts words.now) }
+    ensures range { IfSome result InRange }
+{
+    match words {
+        [] => Some(Asked::Check),
+        _ => None,
+    }
+}
+
 /// What the words ask for. None where they are no words of the command.
 pub fn asked_of(words: &[&str]) -> Option<Asked>
     ensures value { result ≡ asked_of (texts words.now) }
@@ -77,6 +90,17 @@ pub fn asked_of(words: &[&str]) -> Option<Asked>
     match words {
         [word, options @ ..] if word.as_bytes() == b"run".as_slice() => run_asks(options),
         [word, options @ ..] if word.as_bytes() == b"gen".as_slice() => gen_asks(options),
+        [word, options @ ..] if word.as_bytes() == b"check".as_slice() => check_asks(options),
         _ => None,
+    }
+}
+
+/// Whether the words ask for a journal to be judged, and for no run.
+pub(crate) fn judges(words: &[&str]) -> bool
+    ensures { result ≡ judges (asked_of (texts words.now)) }
+{
+    match asked_of(words) {
+        None | Some(Asked::Report | Asked::Journal | Asked::Generated { .. }) => false,
+        Some(Asked::Check) => true,
     }
 }

@@ -115,7 +115,12 @@ impl NodeAttr {
         self.generations
     }
 
-    /// Sets the attribute with this number. It refuses an unknown number, then an attribute that can't be set, then a value outside the range, and then nothing changes.
+    /// Sets the attribute with this number. Where it refuses, nothing changes.
+    ///
+    /// # Errors
+    ///
+    /// - `ErrAttrNum`: the number isn't 1 to 8.
+    /// - `ErrParameter`: the value is outside the range of the attribute.
     pub fn set(&mut self, number: u32, value: u64) -> Result<(), MtapiStatus>
         ensures answers { result ≡ set_answer node_attributes number value }
         ensures becomes { self.new ≡ after_set node_attributes number value self.old }
@@ -134,7 +139,11 @@ impl NodeAttr {
         }
     }
 
-    /// The value of the attribute with this number, a yes or no as 1 or 0. It refuses an unknown number.
+    /// The value of the attribute with this number, a yes or no as 1 or 0.
+    ///
+    /// # Errors
+    ///
+    /// - `ErrAttrNum`: the number isn't 1 to 8.
     pub fn get(&self, number: u32) -> Result<u64, MtapiStatus>
         ensures { result ≡ get_answer node_attributes number self.now }
     {
@@ -207,7 +216,12 @@ impl ActionAttr {
         self.domain_shared
     }
 
-    /// Sets the attribute with this number. It refuses an unknown number, then an attribute that can't be set, then a value outside the range, and then nothing changes.
+    /// Sets the attribute with this number. Where it refuses, nothing changes.
+    ///
+    /// # Errors
+    ///
+    /// - `ErrAttrNum`: the number isn't 1 to 3.
+    /// - `ErrAttrReadonly`: the number is 1 or 3, whose attributes are always false.
     pub fn set(&mut self, number: u32, value: u64) -> Result<(), MtapiStatus>
         ensures answers { result ≡ set_answer action_attributes number value }
         ensures becomes { self.new ≡ after_set action_attributes number value self.old }
@@ -223,7 +237,11 @@ impl ActionAttr {
         }
     }
 
-    /// The value of the attribute with this number, a yes or no as 1 or 0. It refuses an unknown number.
+    /// The value of the attribute with this number, a yes or no as 1 or 0.
+    ///
+    /// # Errors
+    ///
+    /// - `ErrAttrNum`: the number isn't 1 to 3.
     pub fn get(&self, number: u32) -> Result<u64, MtapiStatus>
         ensures { result ≡ get_answer action_attributes number self.now }
     {
@@ -300,7 +318,12 @@ impl TaskAttr {
         self.affinity
     }
 
-    /// Sets the attribute with this number. It refuses an unknown number, then an attribute that can't be set, then a value outside the range, and then nothing changes.
+    /// Sets the attribute with this number. Where it refuses, nothing changes.
+    ///
+    /// # Errors
+    ///
+    /// - `ErrAttrNum`: the number isn't 1 to 4.
+    /// - `ErrParameter`: the value is outside the range of the attribute; a yes or no is 1 or 0.
     pub fn set(&mut self, number: u32, value: u64) -> Result<(), MtapiStatus>
         ensures answers { result ≡ set_answer task_attributes number value }
         ensures becomes { self.new ≡ after_set task_attributes number value self.old }
@@ -318,7 +341,11 @@ impl TaskAttr {
         }
     }
 
-    /// The value of the attribute with this number, a yes or no as 1 or 0. It refuses an unknown number.
+    /// The value of the attribute with this number, a yes or no as 1 or 0.
+    ///
+    /// # Errors
+    ///
+    /// - `ErrAttrNum`: the number isn't 1 to 4.
     pub fn get(&self, number: u32) -> Result<u64, MtapiStatus>
         ensures { result ≡ get_answer task_attributes number self.now }
     {
@@ -416,7 +443,13 @@ impl QueueAttr {
         self.domain_shared
     }
 
-    /// Sets the attribute with this number. It refuses an unknown number, then an attribute that can't be set, then a value outside the range, and then nothing changes.
+    /// Sets the attribute with this number. Where it refuses, nothing changes.
+    ///
+    /// # Errors
+    ///
+    /// - `ErrAttrNum`: the number isn't 1 to 6.
+    /// - `ErrAttrReadonly`: the number is 1 or 6, whose attributes are always false.
+    /// - `ErrParameter`: the value is outside the range of the attribute; a yes or no is 1 or 0.
     pub fn set(&mut self, number: u32, value: u64) -> Result<(), MtapiStatus>
         ensures answers { result ≡ set_answer queue_attributes number value }
         ensures becomes { self.new ≡ after_set queue_attributes number value self.old }
@@ -432,7 +465,11 @@ impl QueueAttr {
         }
     }
 
-    /// The value of the attribute with this number, a yes or no as 1 or 0. It refuses an unknown number.
+    /// The value of the attribute with this number, a yes or no as 1 or 0.
+    ///
+    /// # Errors
+    ///
+    /// - `ErrAttrNum`: the number isn't 1 to 6.
     pub fn get(&self, number: u32) -> Result<u64, MtapiStatus>
         ensures { result ≡ get_answer queue_attributes number self.now }
     {
@@ -479,7 +516,12 @@ impl MutexAttr {
         self.recursive
     }
 
-    /// Sets the attribute with this number. It refuses an unknown number, then an attribute that can't be set, then a value outside the range, and then nothing changes.
+    /// Sets the attribute with this number. Where it refuses, nothing changes.
+    ///
+    /// # Errors
+    ///
+    /// - `ErrAttrNum`: the number isn't 1.
+    /// - `ErrParameter`: the value isn't 1 or 0, for yes or no.
     pub fn set(&mut self, number: u32, value: u64) -> Result<(), MtapiStatus>
         ensures answers { result ≡ set_answer mutex_attributes number value }
         ensures becomes { self.new ≡ after_set mutex_attributes number value self.old }
@@ -491,7 +533,11 @@ impl MutexAttr {
         }
     }
 
-    /// The value of the attribute with this number, a yes or no as 1 or 0. It refuses an unknown number.
+    /// The value of the attribute with this number, a yes or no as 1 or 0.
+    ///
+    /// # Errors
+    ///
+    /// - `ErrAttrNum`: the number isn't 1.
     pub fn get(&self, number: u32) -> Result<u64, MtapiStatus>
         ensures { result ≡ get_answer mutex_attributes number self.now }
     {

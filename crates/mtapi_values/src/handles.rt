@@ -90,7 +90,11 @@ pub fn outer(kind: ObjectKind, handle: u64) -> u64
     handle + u64::from(kind.number()) * (1 << 24)
 }
 
-/// A handle of layout two as the pool of this kind has it, and None exactly where the handle names another kind, or none.
+/// A handle of layout two as the pool of this kind has it.
+///
+/// # Errors
+///
+/// - `None`: the handle names another kind, or none.
 pub fn inner(kind: ObjectKind, handle: u64) -> Option<u64>
     ensures { result ≡ inner kind handle }
 {

@@ -65,7 +65,11 @@ impl Kind {
         }
     }
 
-    /// The kind with this word, and None exactly where no kind has it.
+    /// The kind with this word.
+    ///
+    /// # Errors
+    ///
+    /// - `None`: no kind has the word.
     pub fn from_word(text: &str) -> Option<Kind>
         ensures value { result ≡ kind_named text.now }
         ensures known { (kind : Kind) → (result ≡ Some kind) ↔ (text.now ≡ kind_word kind) }

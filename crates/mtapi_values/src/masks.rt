@@ -22,7 +22,11 @@ impl Mask {
         Mask(if all { u64::MAX } else { 0 })
     }
 
-    /// Puts a core into the set or takes it out. It refuses a core from 64 on, and then nothing changes.
+    /// Puts a core into the set or takes it out.
+    ///
+    /// # Errors
+    ///
+    /// - `ErrCoreNum`: the core isn't 0 to 63. The set stays as it was.
     pub fn set(&mut self, core: u32, on: bool) -> Result<(), MtapiStatus>
         ensures answers { result ≡ (if nat_lt core 64 then Ok tt else Err ErrCoreNum) }
         ensures set { core < 64 → SetsCore core on self.old.0 self.new.0 }
@@ -35,7 +39,11 @@ impl Mask {
         Ok(())
     }
 
-    /// Whether the core is in the set. It refuses a core from 64 on.
+    /// Whether the core is in the set.
+    ///
+    /// # Errors
+    ///
+    /// - `ErrCoreNum`: the core isn't 0 to 63.
     pub fn get(self, core: u32) -> Result<bool, MtapiStatus>
         ensures { result ≡ (if nat_lt core 64 then Ok (in_mask core self.0) else Err ErrCoreNum) }
     {

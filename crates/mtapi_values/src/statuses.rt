@@ -217,7 +217,11 @@ impl MtapiStatus {
         }
     }
 
-    /// The status with this name, and None exactly where no status has it.
+    /// The status with this name.
+    ///
+    /// # Errors
+    ///
+    /// - `None`: no status has the name.
     pub fn from_name(text: &str) -> Option<MtapiStatus>
         ensures known { (status : MtapiStatus) → (result ≡ Some status) ↔ (text.now ≡ mtapi_name status) }
         ensures unknown { IsNone result ↔ ((status : MtapiStatus) → text.now ≢ mtapi_name status) }
@@ -318,7 +322,11 @@ impl MrapiStatus {
         }
     }
 
-    /// The status with this name, and None exactly where no status has it.
+    /// The status with this name.
+    ///
+    /// # Errors
+    ///
+    /// - `None`: no status has the name.
     pub fn from_name(text: &str) -> Option<MrapiStatus>
         ensures known { (status : MrapiStatus) → (result ≡ Some status) ↔ (text.now ≡ mrapi_name status) }
         ensures unknown { IsNone result ↔ ((status : MrapiStatus) → text.now ≢ mrapi_name status) }

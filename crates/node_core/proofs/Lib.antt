@@ -3,3 +3,4 @@ pub mod LogLemmas
 pub mod TwoSeats
 pub mod Outside
 pub mod NodeLemmas
+pub mod PartLemmas

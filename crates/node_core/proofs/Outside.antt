@@ -59,7 +59,7 @@ layout_stays s [] two = two
 layout_stays s (e ∷ es) two = layout_stays (next s e) es (ap (λ (t : Terms). t.layout) (all_stay (moves_of (row s e.who e.op e.reply)) s) ∙ two)
 
 -- in the state that the callers see each handle names its kind
-named : (t : Terms) (L : List NodeEntry) → t.layout ≡ Two → Named (after t (outer_entries L))
+pub named : (t : Terms) (L : List NodeEntry) → t.layout ≡ Two → Named (after t (outer_entries L))
 named t L two = history_named (opening t) (outer_entries L) two (opening_turns t).named
 
 -- a reply of the node inside can be turned outwards

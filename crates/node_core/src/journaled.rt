@@ -168,7 +168,7 @@ impl Object for Journaled {
 }
 
 impl Journaled {
-    /// A node that keeps no journal. It takes no memory.
+    /// Makes an object for a cell out of a node, which keeps no journal. It takes no memory.
     pub fn without(node: Node) -> Journaled
         ensures terms { journal_terms result ≡ record { node = terms_of node; keeps = false } }
         ensures stands { Stands node [] → StandsKept result [] }
@@ -182,7 +182,9 @@ impl Journaled {
         }
     }
 
-    /// A node that keeps a journal, which grows with its calls.
+    /// Makes an object for a cell out of a node, which keeps a journal that grows with its calls.
+    /// Where a call finds no memory for its entry, the call is answered as ever, and the journal is
+    /// lost.
     pub fn with(alloc: Global, node: Node) -> Journaled
         ensures terms { journal_terms result ≡ record { node = terms_of node; keeps = true } }
         ensures there { is_lost result ≡ false }
@@ -197,7 +199,8 @@ impl Journaled {
         }
     }
 
-    /// The kept journal: none where none is kept, and an error where it was lost for lack of memory.
+    /// Gives the kept journal: none where none is kept. It fails exactly where the journal was lost
+    /// for lack of memory.
     pub fn into_journal(self) -> Result<Option<Journal>, AllocError>
         ensures none { (result ≡ Ok None) ↔ ((journal_terms self).keeps ≡ false) }
         ensures lost { IsErr result ↔ (is_lost self ≡ true) }

@@ -4,15 +4,9 @@
 #![tactic(auto)]
 
 pub mod entries;
-#[cfg(test)]
-mod journal_tests;
 pub mod journaled;
-#[cfg(test)]
-mod layout_tests;
 pub mod node;
 pub mod run_journals;
-#[cfg(test)]
-mod tally_tests;
 #[cfg(test)]
 mod tests;
 

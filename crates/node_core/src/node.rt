@@ -6,6 +6,7 @@ ghost use Rattle.mtapi_values.specs.declared.handles.Layout.TheVariants.{Two};
 ghost use Rattle.mtapi_machine.specs.Legal.{NodeEntry, after};
 ghost use Rattle.mtapi_machine.specs.Kept.{pends_alike};
 ghost use Rattle.node_core.specs.Stands.{Stands, terms_of, seat_count};
+ghost use Rattle.node_core.specs.Parts.{Agrees};
 
 use history::Object;
 use mtapi_layouts::{answered_kind, inward_op, outward_reply};
@@ -13,10 +14,11 @@ use mtapi_machine::{Op, Reply, Terms};
 use mtapi_values::{Layout, NodeAttr};
 use std::alloc::{AllocError, Global};
 
-/// A node: it executes each op as the machine of one thread says.
+/// A node: it executes each op as the machine of one thread says. One node stands for MTAPI and
+/// MRAPI.
 ///
-/// Callers see handles of layout two, each of which names the kind of its object. They are turned here, at an op and at its reply,
-/// and nowhere else: the node inside has the handles of its pools.
+/// Callers see handles of layout two, each of which names the kind of its object. They are turned
+/// here, at an op and at its reply, and nowhere else: the node inside has the handles of its pools.
 #[derive(Drop)]
 pub struct Node {
     inner: node_steps::Node,
@@ -65,7 +67,11 @@ impl Object for Node {
 }
 
 impl Node {
-    /// A new node with these settings, for so many callers, main included, with all the memory that its objects will use.
+    /// Makes a new node with these settings, for 1 to 9 callers, main included, and takes all the
+    /// memory that its objects will use. It fails for want of memory alone.
+    ///
+    /// Stands for the arguments of `mtapi_initialize` and `mrapi_initialize`; the op `Initialize`
+    /// opens the node.
     pub fn init(alloc: Global, attr: NodeAttr, callers: u32) -> Result<Node, AllocError>
         requires some_caller { 1 ≤ callers }
         requires few_callers { callers ≤ 9 }
@@ -76,14 +82,15 @@ impl Node {
         Ok(Node { inner })
     }
 
-    /// The settings of the node.
+    /// Shows the settings of the node, which never change.
     pub fn settings(&self) -> &NodeAttr
         ensures { result.now ≡ (terms_of self.now).settings }
     {
         self.inner.settings()
     }
 
-    /// One op by the seat `who`: it does what `apply` does.
+    /// Executes one op by the seat `who`: it does what `apply` does. It has no error of its own,
+    /// since what the node refuses it says in its reply.
     pub fn step(&mut self, who: u32, op: Op) -> Reply
         requires seat { who < seat_count (terms_of self.old) }
         requires room { (L : List NodeEntry) × Stands self.old L × (length L < 2 ^ 62 + 16) }
@@ -94,6 +101,12 @@ impl Node {
         let reply = self.inner.step(who, inward_op(op));
         outward_reply(kind, reply)
     }
+
+    /// What a node is that stands for a list: it agrees with the state that its callers see, kind by kind and index by index. It
+    /// does nothing.
+    pub fn agrees(&self)
+        ensures { (L : List NodeEntry) → Stands self.now L → Agrees self.now (after (terms_of self.now) L) }
+    {}
 
     // Where this op is answered Pending, does the state stay as it was?
     pub(crate) fn pends_alike(&self, who: u32, op: &Op) -> bool

@@ -1,11 +1,17 @@
 //! Nodes that are asked one op after another: tables of worked histories. A row has the seat, what it asks, and the reply.
 
-mod asking;
+pub(crate) mod asking;
 mod bad_handles;
+mod handles;
+mod journals;
+mod layouts;
+mod limits;
 mod plain;
 mod plain_answers;
 mod plain_resources;
 mod random_ops;
+mod random_tallies;
+mod tallies;
 
 use crate::journaled::Journaled;
 use crate::node::Node;
@@ -28,6 +34,7 @@ use crate::tests::asking::{
     AGAIN, ALL, Called, FIRST, NONE, SECOND, SMALL, Size, THIRD, Told, first_other, handle,
     object_of,
 };
+use crate::tests::handles::{GENERATION, GROUP};
 use history::Object;
 use mtapi_machine::{Op, Reply};
 use mtapi_values::{Kind, Layout, MrapiStatus, MtapiStatus, NodeAttr, ObjectKind};
@@ -37,7 +44,7 @@ use std::test::Fail;
 fn room_for_one_task(rt: HostRuntime) -> Result<(), Fail> {
     let size = Size {
         tasks: 1,
-        generations: 4294967295,
+        generations: 0xffff_ffff,
         ..SMALL
     };
     let rows = [
@@ -680,14 +687,14 @@ fn a_node_without_a_journal(rt: HostRuntime) -> Result<(), Fail> {
 fn handles_of_both_layouts(rt: HostRuntime) -> Result<(), Fail> {
     for (layout, object, number) in [
         (Layout::One, NONE, 0),
-        (Layout::One, FIRST, 4294967296),
+        (Layout::One, FIRST, GENERATION),
         (Layout::Two, NONE, 0),
-        (Layout::Two, FIRST, 4345298944),
-        (Layout::Two, (2, 1), 8640266241),
+        (Layout::Two, FIRST, GROUP),
+        (Layout::Two, (2, 1), GROUP + GENERATION + 1),
     ] {
         assert_eq!(rt; handle(layout, ObjectKind::Group, object), number);
         assert_eq!(rt; object_of(layout, ObjectKind::Group, number), object);
     }
-    assert_eq!(rt; object_of(Layout::Two, ObjectKind::Task, 4345298944), NONE);
+    assert_eq!(rt; object_of(Layout::Two, ObjectKind::Task, GROUP), NONE);
     Ok(())
 }

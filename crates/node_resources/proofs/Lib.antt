@@ -2,3 +2,4 @@ pub mod HoldsLemmas
 pub mod RowLemmas
 pub mod KindSteps
 pub mod TallyLemmas
+pub mod RefusalLemmas

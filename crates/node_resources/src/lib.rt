@@ -14,7 +14,8 @@ pub mod tally_ops;
 #[cfg(test)]
 mod tests;
 
-ghost use Rattle.std.specs.Prelude.{◌≡◌, IfOk};
+ghost use Rattle.std.specs.Prelude.{◌≡◌, IfOk, is_some};
+ghost use Rattle.handle_pool.specs.Slots.{slot_value, live_count};
 ghost use Rattle.mtapi_machine.specs.declared.terms.Terms.{Terms};
 ghost use Rattle.mtapi_machine.specs.State.{opening};
 ghost use Rattle.node_resources.specs.Holds.{Stands};
@@ -23,7 +24,7 @@ pub use gate::Gate;
 use mrapi_counting::{Rwls, Sems};
 use mrapi_mutex::Mutexes;
 use mrapi_shmem::Segments;
-use mtapi_values::NodeAttr;
+use mtapi_values::{MutexHandle, NodeAttr, RwlHandle, SemHandle, ShmemHandle};
 use std::alloc::{AllocError, Global};
 use std::marker::Model;
 pub use tally_ops::TallyLock;
@@ -70,5 +71,61 @@ impl Resources {
             rwls: Rwls::new(alloc, max, generations)?,
             segments: Segments::new(alloc, max, generations)?,
         })
+    }
+
+    /// Tells how many mutexes are live.
+    pub fn live_mutexes(&self) -> u32
+        ensures { result ≡ live_count self.now.mutexes }
+    {
+        self.mutexes.live()
+    }
+
+    /// Whether a handle names a live mutex.
+    pub fn is_mutex(&self, mutex: MutexHandle) -> bool
+        ensures { result ≡ is_some (slot_value self.now.mutexes mutex.0) }
+    {
+        self.mutexes.is_live(mutex)
+    }
+
+    /// Tells how many semaphores are live.
+    pub fn live_sems(&self) -> u32
+        ensures { result ≡ live_count self.now.sems }
+    {
+        self.sems.live()
+    }
+
+    /// Whether a handle names a live semaphore.
+    pub fn is_sem(&self, sem: SemHandle) -> bool
+        ensures { result ≡ is_some (slot_value self.now.sems sem.0) }
+    {
+        self.sems.is_live(sem)
+    }
+
+    /// Tells how many reader-writer locks are live.
+    pub fn live_rwls(&self) -> u32
+        ensures { result ≡ live_count self.now.rwls }
+    {
+        self.rwls.live()
+    }
+
+    /// Whether a handle names a live reader-writer lock.
+    pub fn is_rwl(&self, rwl: RwlHandle) -> bool
+        ensures { result ≡ is_some (slot_value self.now.rwls rwl.0) }
+    {
+        self.rwls.is_live(rwl)
+    }
+
+    /// Tells how many segments are live.
+    pub fn live_segments(&self) -> u32
+        ensures { result ≡ live_count self.now.segments }
+    {
+        self.segments.live()
+    }
+
+    /// Whether a handle names a live segment.
+    pub fn is_segment(&self, shmem: ShmemHandle) -> bool
+        ensures { result ≡ is_some (slot_value self.now.segments shmem.0) }
+    {
+        self.segments.is_live(shmem)
     }
 }

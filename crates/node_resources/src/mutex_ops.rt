@@ -2,13 +2,17 @@
 
 ghost use Rattle.std.specs.Prelude.{◌≡◌};
 ghost use Rattle.mtapi_machine.specs.declared.ops.Op.TheVariants as op;
-ghost use Rattle.node_resources.specs.Steps.{Steps};
+ghost use Rattle.mtapi_machine.specs.State.{State};
+ghost use Rattle.mtapi_values.specs.Conditions.{first};
+ghost use Rattle.node_resources.specs.Holds.{Stands};
+ghost use Rattle.node_resources.specs.Refusals.{mutex_refusals};
+ghost use Rattle.node_resources.specs.Steps.{Steps, IsAt};
 
 use crate::Resources;
 use crate::gate::Gate;
 use crate::replies::{done, looked_key};
 use mtapi_machine::Reply;
-use mtapi_values::MutexHandle;
+use mtapi_values::{MrapiStatus, MutexHandle};
 
 impl Resources {
     /// Makes a mutex that nobody owns: the handle, MUTEX_EXISTS where a live one has the id, and MUTEX_LIMIT where there is no room.
@@ -22,6 +26,17 @@ impl Resources {
             Ok(mutex) => Reply::Handle(mutex.0),
             Err(status) => Reply::Mrapi(status),
         }
+    }
+
+    /// Tells why `mutex_create` refuses, whether there is room or not. None where only want of room
+    /// can refuse it.
+    pub fn mutex_refusal(&self, gate: Gate, who: u32, id: u32) -> Option<MrapiStatus>
+        ensures { (s : State) → IsAt s gate → Stands s self.now → first (mutex_refusals s who id) ≡ result }
+    {
+        if let Some(status) = gate.open_refusal(who) {
+            return Some(status);
+        }
+        self.mutexes.create_refusal(id)
     }
 
     /// The handle of the live mutex of an id, and MUTEX_ID_INVALID where there is none.

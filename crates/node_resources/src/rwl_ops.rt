@@ -2,13 +2,17 @@
 
 ghost use Rattle.std.specs.Prelude.{◌≡◌, ◌<◌};
 ghost use Rattle.mtapi_machine.specs.declared.ops.Op.TheVariants as op;
-ghost use Rattle.node_resources.specs.Steps.{Steps};
+ghost use Rattle.mtapi_machine.specs.State.{State};
+ghost use Rattle.mtapi_values.specs.Conditions.{first};
+ghost use Rattle.node_resources.specs.Holds.{Stands};
+ghost use Rattle.node_resources.specs.Refusals.{rwl_refusals};
+ghost use Rattle.node_resources.specs.Steps.{Steps, IsAt};
 
 use crate::Resources;
 use crate::gate::Gate;
 use crate::replies::{done, looked};
 use mtapi_machine::Reply;
-use mtapi_values::RwlHandle;
+use mtapi_values::{MrapiStatus, RwlHandle};
 
 impl Resources {
     /// Makes a lock for at most `limit` readers: PARAMETER where this isn't 1 to 32, RWL_EXISTS where a live one has the id, and
@@ -23,6 +27,17 @@ impl Resources {
             Ok(rwl) => Reply::Handle(rwl.0),
             Err(status) => Reply::Mrapi(status),
         }
+    }
+
+    /// Tells why `rwl_create` refuses, whether there is room or not. None where only want of room
+    /// can refuse it.
+    pub fn rwl_refusal(&self, gate: Gate, who: u32, id: u32, limit: u32) -> Option<MrapiStatus>
+        ensures { (s : State) → IsAt s gate → Stands s self.now → first (rwl_refusals s who id limit) ≡ result }
+    {
+        if let Some(status) = gate.open_refusal(who) {
+            return Some(status);
+        }
+        self.rwls.create_refusal(id, limit)
     }
 
     /// The handle of the live lock of an id, and RWL_ID_INVALID where there is none.

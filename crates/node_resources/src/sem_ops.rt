@@ -2,13 +2,17 @@
 
 ghost use Rattle.std.specs.Prelude.{◌≡◌, ◌<◌};
 ghost use Rattle.mtapi_machine.specs.declared.ops.Op.TheVariants as op;
-ghost use Rattle.node_resources.specs.Steps.{Steps};
+ghost use Rattle.mtapi_machine.specs.State.{State};
+ghost use Rattle.mtapi_values.specs.Conditions.{first};
+ghost use Rattle.node_resources.specs.Holds.{Stands};
+ghost use Rattle.node_resources.specs.Refusals.{sem_refusals};
+ghost use Rattle.node_resources.specs.Steps.{Steps, IsAt};
 
 use crate::Resources;
 use crate::gate::Gate;
 use crate::replies::{done, looked};
 use mtapi_machine::Reply;
-use mtapi_values::SemHandle;
+use mtapi_values::{MrapiStatus, SemHandle};
 
 impl Resources {
     /// Makes a semaphore that may be held `limit` times: PARAMETER where this isn't 1 to 65,535, SEM_EXISTS where a live one has the
@@ -23,6 +27,17 @@ impl Resources {
             Ok(sem) => Reply::Handle(sem.0),
             Err(status) => Reply::Mrapi(status),
         }
+    }
+
+    /// Tells why `sem_create` refuses, whether there is room or not. None where only want of room
+    /// can refuse it.
+    pub fn sem_refusal(&self, gate: Gate, who: u32, id: u32, limit: u32) -> Option<MrapiStatus>
+        ensures { (s : State) → IsAt s gate → Stands s self.now → first (sem_refusals s who id limit) ≡ result }
+    {
+        if let Some(status) = gate.open_refusal(who) {
+            return Some(status);
+        }
+        self.sems.create_refusal(id, limit)
     }
 
     /// The handle of the live semaphore of an id, and SEM_ID_INVALID where there is none.

@@ -2,13 +2,17 @@
 
 ghost use Rattle.std.specs.Prelude.{◌≡◌, ◌<◌};
 ghost use Rattle.mtapi_machine.specs.declared.ops.Op.TheVariants as op;
-ghost use Rattle.node_resources.specs.Steps.{Steps};
+ghost use Rattle.mtapi_machine.specs.State.{State};
+ghost use Rattle.mtapi_values.specs.Conditions.{first};
+ghost use Rattle.node_resources.specs.Holds.{Stands};
+ghost use Rattle.node_resources.specs.Refusals.{shmem_refusals};
+ghost use Rattle.node_resources.specs.Steps.{Steps, IsAt};
 
 use crate::Resources;
 use crate::gate::Gate;
 use crate::replies::{done, number_read};
 use mtapi_machine::Reply;
-use mtapi_values::ShmemHandle;
+use mtapi_values::{MrapiStatus, ShmemHandle};
 
 impl Resources {
     /// Makes a segment of so many cells, all of them 0: PARAMETER where they aren't 1 to 4,096, SHM_EXISTS where a live one has the id,
@@ -23,6 +27,17 @@ impl Resources {
             Ok(shmem) => Reply::Handle(shmem.0),
             Err(status) => Reply::Mrapi(status),
         }
+    }
+
+    /// Tells why `shmem_create` refuses, whether there is room or not. None where only want of room
+    /// can refuse it.
+    pub fn shmem_refusal(&self, gate: Gate, who: u32, id: u32, cells: u32) -> Option<MrapiStatus>
+        ensures { (s : State) → IsAt s gate → Stands s self.now → first (shmem_refusals s who id cells) ≡ result }
+    {
+        if let Some(status) = gate.open_refusal(who) {
+            return Some(status);
+        }
+        self.segments.create_refusal(id, cells)
     }
 
     /// The handle of the live segment of an id, and SHM_ID_INVALID where there is none.

@@ -1,31 +1,44 @@
 -- What a board keeps is what the machine's state says.
-use Rattle.std.proofs.Common.{◌≡◌, ◌↔◌, ℕ, ◌+◌, ◌*◌, ◌^◌, ◌<◌, true, List, Option, Some, None, slice_get, refl, sym, ◌∙◌, ap, subst, arith}
-use Rattle.std.specs.Prelude.{◌&&◌, ◌==◌}
+use Rattle.std.proofs.Common.{◌≡◌, ◌↔◌, ℕ, zero, suc, ◌+◌, ◌*◌, ◌^◌, ◌<◌, Bool, true, List, [], ◌∷◌, Option, Some, None, slice_get, refl, sym, ◌∙◌, ap, subst, arith}
+use Rattle.std.specs.Prelude.{◌&&◌, ◌==◌, is_none, map}
 use Rattle.std.proofs.lemmas.Option.{slice_get_within}
 use Rattle.mtapi_values.specs.Conditions.{holds}
 use Rattle.mtapi_values.specs.declared.handles.TaskHandle.{TaskHandle}
-use Rattle.handle_pool.specs.Slots.{Slot, slot_of, used_at}
-use Rattle.handle_pool.specs.Issued.{live_object}
+use Rattle.mtapi_values.specs.declared.ends.TaskEnd.{TaskEnd}
+use Rattle.handle_pool.specs.Slots.{Slot, slot_of, slot_value, used_at}
+use Rattle.handle_pool.specs.Issued.{live_of, live_object}
 use Rattle.handle_pool.proofs.LiveLemmas.{same_tests}
 use Rattle.handle_pool.proofs.WalkLemmas.{used_at-live, live-used_at}
 use Rattle.linked_places.specs.Lists.{list_at, has_handle}
 use Rattle.linked_places.proofs.NextLemmas.{index-has}
 use Rattle.ready_index.specs.Marks.{mark_at, is_for_at}
-use Rattle.mtapi_objects.specs.Tasks.{Task, is_unstarted, runs_on}
+use Rattle.mtapi_objects.specs.Tasks.{Task, TaskState, Scheduled, Running, Ended, end_of, is_unstarted, is_unended, runs_on}
+use Rattle.mtapi_objects.specs.Groups.{Ending, is_member, is_unended_member, endings}
+use Rattle.mtapi_objects.specs.Queues.{is_unended_in}
+use Rattle.task_core.specs.Records.{number_in}
+use Rattle.queue_core.specs.Held.{HeldQueue}
+use Rattle.group_core.specs.Members.{Members}
+use Rattle.task_board.specs.Keyed.{RisesBy}
+use Rattle.task_board.specs.Members.{Membership, member_as, membership, members_in, start_in}
+use Rattle.task_board.specs.GroupMoves.{end_at, ending_of, endings_of}
 use Rattle.task_board.specs.Seen.{Seen, seen, seen_in}
-use Rattle.task_board.specs.Queued.{begins_in}
-use Rattle.task_board.specs.Board.{IsBoard, running_on}
+use Rattle.task_board.specs.Queued.{InOrder, begins_in}
+use Rattle.task_board.specs.Board.{BoardTable, IsBoard, running_on}
 use Rattle.task_board.proofs.SeenLemmas.{some_same, seen-as, unstarted-seen, seen-live, takes-from, takes-to}
 use Rattle.task_board.proofs.MarkLemmas.{same-number, number-same}
 use Rattle.task_board.proofs.RunningLemmas.{runs-seen, self}
-use Rattle.task_board.proofs.MoveLemmas.{order-index}
+use Rattle.task_board.proofs.MoveLemmas.{has-self, or-right, order-index}
+use Rattle.task_board.proofs.MemberLemmas.{start-here, start-tells, end-tells}
+use Rattle.task_board.proofs.PartLemmas.{Member, member-from, ended-so, unended-so}
 use Rattle.mtapi_machine.specs.WorkRows.{can_take}
 use Rattle.node_steps.specs.declared.node.Node.{Node}
 use Rattle.node_steps.specs.Stands.{Lists, Live, state_of}
-use Rattle.node_steps.specs.Keeps.{Keeps}
+use Rattle.node_steps.specs.Keeps.{ListsByStart, Keeps}
 use Rattle.node_steps.proofs.Moves.{found}
 use Rattle.node_steps.proofs.StartSteps.{and_true, and_left, and_right, false≢true}
 use Rattle.node_steps.proofs.PickSteps.{takes_if, takeable}
+use Rattle.node_steps.proofs.QueueLemmas.{is_in-named, in-list, of-list}
+use Rattle.node_steps.proofs.GroupLists.{endings-are}
 
 -- the slot of a handle that stands at a place
 used-slot : (o : Option (Slot Task)) (place h : ℕ) (t : Task) → place < 2 ^ 32 → used_at place o ≡ Some (h, t) → slot_of h ≡ place
@@ -46,6 +59,56 @@ within-place slots place h t e = by_slot (slice_get slots place) refl e
     by_slot : (o : Option (Slot Task)) → slice_get slots place ≡ o → used_at place o ≡ Some (h, t) → (x : Slot Task) × (slice_get slots place ≡ Some x)
     by_slot None is f = absurd (cc)
     by_slot (Some x) is f = (x, is)
+
+-- The members of groups
+
+-- the numbers rise along the list
+rises-index : (key : ℕ → Option ℕ) (hs : List ℕ) (i j h k a b : ℕ) → RisesBy key hs → i < j → slice_get hs i ≡ Some h → slice_get hs j ≡ Some k → key h ≡ Some a → key k ≡ Some b → a < b
+rises-index key [] i j h k a b o less e f c d = absurd (cc)
+rises-index key (x ∷ xs) zero zero h k a b o less e f c d = absurd (omega arith)
+rises-index key (x ∷ xs) zero (suc j) h k a b o less e f c d = o.0 k a b (index-has k j xs f) (ap key (some_same e) ∙ c) d
+rises-index key (x ∷ xs) (suc i) zero h k a b o less e f c d = absurd (omega arith)
+rises-index key (x ∷ xs) (suc i) (suc j) h k a b o less e f c d = rises-index key xs i j h k a b o.1 (omega arith) e f c d
+
+-- the number of a member that hasn't ended is that of its start
+none-number : (x : TaskState) → is_none (end_of x) ≡ true → number_in (end_of x) ≡ None
+none-number Scheduled e = refl
+none-number (Running w k) e = refl
+none-number (Ended y n) e = absurd (false≢true e)
+
+unended-number : (g : ℕ) (t : Task) → is_member g t ≡ true → is_unended t ≡ true → start_in g (membership (Some t)) ≡ Some t.start
+unended-number g t member un =
+    ap (λ (o : Option ℕ). start_in g (member_as t o)) (is_in-named g t.notes.group member)
+    ∙ start-here g (record { group = g; detached = t.notes.detached; start = t.start; end = number_in (end_of t.state) }) refl (none-number t.state un)
+
+member-number : (g : ℕ) (t : Task) (a : ℕ) → start_in g (membership (Some t)) ≡ Some a → a ≡ t.start
+member-number g t a e = let x = start-tells g a (membership (Some t)) e in sym x.start ∙ by_group t.notes.group x.e x.is
+  where
+    by_group : (o : Option ℕ) (z : Membership) → member_as t o ≡ Some z → z.start ≡ t.start
+    by_group None z f = absurd (cc)
+    by_group (Some g) z f = ap (λ (w : Membership). w.start) (sym (some_same f))
+
+unended-at : (b : BoardTable) (g h : ℕ) (m : Members) → IsBoard b → slot_value b.groups.pool g ≡ Some m → has_handle h m.unended ≡ true → Member b.tasks.pool g h None
+unended-at b g h m k live e =
+    let a = (k.members.unended g m live).has_key h e in
+    let x = start-tells g a.0 (members_in b.tasks.pool h) a.1 in
+    subst (λ (o : Option ℕ). Member b.tasks.pool g h o) x.end (member-from b.tasks.pool g h x.e x.is x.group)
+
+-- the tasks of the ends are those of the list
+ended-at : (b : BoardTable) (g h : ℕ) (m : Members) → IsBoard b → slot_value b.groups.pool g ≡ Some m → has_handle h m.ended ≡ true → (e : TaskEnd × ℕ) × (end_at (slot_value b.tasks.pool h) ≡ Some e)
+ended-at b g h m k live e =
+    let a = (k.members.ended g m live).has_key h e in
+    let x = end-tells g a.0 (members_in b.tasks.pool h) a.1 in
+    let y = member-from b.tasks.pool g h x.e x.is x.group in
+    let z = ended-so y.t.state a.0 (y.end ∙ x.end) in
+    ((z.e, a.0), ap end_at y.live ∙ ap end_of z.is)
+
+names-back : (at : ℕ → Option Task) (hs : List ℕ) → ((h : ℕ) → has_handle h hs ≡ true → (e : TaskEnd × ℕ) × (end_at (at h) ≡ Some e)) → map (λ (e : Ending). e.task) (endings_of at hs) ≡ hs
+names-back at [] all = refl
+names-back at (h ∷ hs) all =
+    let e = all h (has-self h hs) in
+    (λ i. map (λ (x : Ending). x.task) (ending_of h (e.1 i) (endings_of at hs)))
+    ∙ ap (λ (l : List ℕ). h ∷ l) (names-back at hs (λ k f. all k (or-right (h == k) _ f)))
 
 module _ (n : Node) (l : Lists) (v : Live n l) (k : IsBoard n.board) where
   marks_are : (w p place : ℕ) → w < n.board.settings.workers → is_for_at w p (mark_at n.board.ready.marks place) ≡ holds (λ e. can_take (state_of n l) w e.1 && (p == e.1.priority)) (used_at place (slice_get n.board.tasks.pool.slots place))
@@ -86,27 +149,61 @@ module _ (n : Node) (l : Lists) (v : Live n l) (k : IsBoard n.board) where
         k.running_are.found t.0 w s.0 (ap seen g ∙ s.1) s.2,
   )
 
-  waiting_are : (h : ℕ) → (has_handle h (list_at n.board.waiting.lists 0) ≡ true) ↔ ((x : Task) × (live_object l.tasks h ≡ Some x) × (is_unstarted x ≡ true))
-  waiting_are h = (
-    λ e.
-        let s = k.waiting_are.waits h e in
-        let x = seen-live n.board.tasks.pool h s.0 s.1 in
-        (x.0, found _ _ n.board.tasks.pool l.tasks h (Some x.0) v.tasks x.1, (seen-as x.0 x.0.state s.0 x.2).unstarted s.2),
-    λ x.
-        let g = v.tasks.stands.found h ∙ x.1 in
-        let s = unstarted-seen x.0 x.0.state x.2 in
-        k.waiting_are.listed h s.0 (ap seen g ∙ s.1) s.2,
-  )
+  -- a list is as the machine says it, where it is so for the pool
+  lists : (p : Task → Bool) (hs : List ℕ) → ((h : ℕ) → has_handle h hs ≡ true → (t : Task) × (slot_value n.board.tasks.pool h ≡ Some t) × (p t ≡ true)) → ((h : ℕ) (t : Task) → slot_value n.board.tasks.pool h ≡ Some t → p t ≡ true → has_handle h hs ≡ true) → ((i j h m : ℕ) (x y : Task) → i < j → slice_get hs i ≡ Some h → slice_get hs j ≡ Some m → slot_value n.board.tasks.pool h ≡ Some x → slot_value n.board.tasks.pool m ≡ Some y → x.start < y.start) → ListsByStart (state_of n l) p hs
+  lists p hs tells listed order = record {
+    has = λ h. (
+      λ e. let x = tells h e in (x.0, found _ _ n.board.tasks.pool l.tasks h (Some x.0) v.tasks x.1, x.2),
+      λ x. listed h x.0 (v.tasks.stands.found h ∙ x.1) x.2,
+    );
+    in_order = λ i j h m x y less e f a b. order i j h m x y less e f (v.tasks.stands.found h ∙ a) (v.tasks.stands.found m ∙ b);
+  }
 
-  in_order : (i j h k : ℕ) (x y : Task) → i < j → slice_get (list_at n.board.waiting.lists 0) i ≡ Some h → slice_get (list_at n.board.waiting.lists 0) j ≡ Some k → live_object l.tasks h ≡ Some x → live_object l.tasks k ≡ Some y → x.start < y.start
-  in_order i j h m x y less e f a b =
-      let hs = list_at n.board.waiting.lists 0 in
-      let s = k.waiting_are.waits h (index-has h i hs e) in
-      let u = k.waiting_are.waits m (index-has m j hs f) in
-      let start_of = λ (g : ℕ) (z : Task) (w : Seen) (there : live_object l.tasks g ≡ Some z) (is : seen_in n.board.tasks.pool g ≡ Some w). (seen-as z z.state w (sym (ap seen (v.tasks.stands.found g ∙ there)) ∙ is)).start in
-      let first = start_of h x s.0 a s.1 in
-      let last = start_of m y u.0 b u.1 in
-      omega (arith, order-index (seen_in n.board.tasks.pool) hs i j h m s.0 u.0 k.waiting_are.ordered less e f s.1 u.1, first, last)
+  -- tasks that were started one after the other, as the board sees them
+  seen-order : (hs : List ℕ) → ((h : ℕ) → has_handle h hs ≡ true → (s : Seen) × (seen_in n.board.tasks.pool h ≡ Some s)) → InOrder (seen_in n.board.tasks.pool) hs → (i j h m : ℕ) (x y : Task) → i < j → slice_get hs i ≡ Some h → slice_get hs j ≡ Some m → slot_value n.board.tasks.pool h ≡ Some x → slot_value n.board.tasks.pool m ≡ Some y → x.start < y.start
+  seen-order hs sees ordered i j h m x y less e f a b =
+      let s = sees h (index-has h i hs e) in
+      let u = sees m (index-has m j hs f) in
+      let first = (seen-as x x.state s.0 (sym (ap seen a) ∙ s.1)).start in
+      let last = (seen-as y y.state u.0 (sym (ap seen b) ∙ u.1)).start in
+      omega (arith, order-index (seen_in n.board.tasks.pool) hs i j h m s.0 u.0 ordered less e f s.1 u.1, first, last)
+
+  waiting_are : ListsByStart (state_of n l) is_unstarted (list_at n.board.waiting.lists 0)
+  waiting_are =
+      lists is_unstarted hs
+      (λ h e.
+      let s = k.waiting_are.waits h e in
+      let x = seen-live n.board.tasks.pool h s.0 s.1 in
+      (x.0, x.1, (seen-as x.0 x.0.state s.0 x.2).unstarted s.2))
+      (λ h t g u. let s = unstarted-seen t t.state u in k.waiting_are.listed h s.0 (ap seen g ∙ s.1) s.2)
+      (seen-order hs (λ h e. let s = k.waiting_are.waits h e in (s.0, s.1)) k.waiting_are.ordered)
+    where
+      hs : List ℕ
+      hs = list_at n.board.waiting.lists 0
+
+  queues_are : (q : ℕ) (x : HeldQueue) → slot_value n.board.queues.pool q ≡ Some x → ListsByStart (state_of n l) (is_unended_in q) x.tasks
+  queues_are q x live =
+      lists (is_unended_in q) x.tasks (of-list n l v k q x live) (in-list n l v k q x live)
+      (seen-order x.tasks (λ h e. let s = k.queued.names h q x live e in (s.0, s.1)) (k.queued.ordered q x live))
+
+  members_are : (g : ℕ) (m : Members) → slot_value n.board.groups.pool g ≡ Some m → ListsByStart (state_of n l) (is_unended_member g) m.unended
+  members_are g m live =
+      lists (is_unended_member g) m.unended
+      (λ h e. let x = unended-at n.board g h m k live e in (x.t, x.live, and_true _ _ x.member (unended-so x.t.state x.end)))
+      (λ h t a u.
+      let is = unended-number g t (and_left (is_member g t) _ u) (and_right (is_member g t) _ u) in
+      (k.members.unended g m live).listed h t.start (ap (λ (o : Option Task). start_in g (membership o)) a ∙ is))
+      (λ i j h u x y less e f a b.
+      let has = λ (z : ℕ) (w : Task) (at : has_handle z m.unended ≡ true) (here : slot_value n.board.tasks.pool z ≡ Some w). member-number g w ((k.members.unended g m live).has_key z at).0 (ap (λ (o : Option Task). start_in g (membership o)) (sym here) ∙ ((k.members.unended g m live).has_key z at).1) in
+      let first = has h x (index-has h i m.unended e) a in
+      let last = has u y (index-has u j m.unended f) b in
+      let less-key = rises-index (λ z. start_in g (members_in n.board.tasks.pool z)) m.unended i j h u _ _ (k.members.unended g m live).rises less e f ((k.members.unended g m live).has_key h (index-has h i m.unended e)).1 ((k.members.unended g m live).has_key u (index-has u j m.unended f)).1 in
+      omega (arith, less-key, first, last))
+
+  ended_are : (g : ℕ) (m : Members) → slot_value n.board.groups.pool g ≡ Some m → m.ended ≡ map (λ (e : Ending). e.task) (endings g (live_of l.tasks))
+  ended_are g m live =
+      sym (ap (map (λ (e : Ending). e.task)) (endings-are n.board l.tasks g m k v.tasks.stands live)
+      ∙ names-back (slot_value n.board.tasks.pool) m.ended (λ h e. ended-at n.board g h m k live e))
 
   pub keeps-board : Keeps (state_of n l) n.board
-  keeps-board = record { marks = marks_are; running = running_are; waiting = waiting_are; in_order = in_order }
+  keeps-board = record { marks = marks_are; running = running_are; waiting = waiting_are; queues = queues_are; members = members_are; ended = ended_are }

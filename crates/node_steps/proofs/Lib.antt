@@ -10,6 +10,7 @@ pub mod StartSteps
 pub mod WorkSteps
 pub mod QueueLemmas
 pub mod PickSteps
+pub mod TowardSteps
 pub mod InitSteps
 mod KeepLemmas
 pub mod StopSteps
@@ -17,6 +18,7 @@ pub mod ListedEnds
 pub mod WaitingEnds
 pub mod WithdrawSteps
 pub mod QueueSteps
+pub mod RefusedSteps
 pub mod GroupLists
 pub mod GroupSteps
 pub mod NewHandles

@@ -2,6 +2,7 @@
 use Rattle.std.proofs.Common.{◌≡◌, ℕ, ◌<◌, Bool, true, false, not, cond, [], ◌∷◌, Option, Some, None, refl, sym, ◌∙◌, ap, subst, arith}
 use Rattle.std.specs.Prelude.{◌&&◌, not, nat_lt, is_none}
 use Rattle.std.specs.Bool.{OnTrue, OnFalse}
+use Rattle.std.proofs.lemmas.Bool.{false≢true}
 use Rattle.std.proofs.lemmas.Bool.Decides.{nat_tests}
 use Rattle.mtapi_values.specs.Masks.{in_mask}
 use Rattle.handle_pool.specs.Slots.{slot_value, changed}
@@ -100,6 +101,33 @@ module _ (n : Node) (l : Lists) (w : ℕ) (v : Live n l) (k : IsBoard n.board) (
     where
       lt : (p : ℕ) → nat_lt p priority ≡ true → p < priority
       lt p e = grind (arith, nat_tests)
+
+  -- and the other way round
+  pub better_if : (priority : ℕ) → has_better (state_of n l) w priority ≡ false → NoneBetter n.board.actions n.board.tasks.pool n.board.queues.pool w priority
+  unfolding has_better
+  better_if priority e h t g s smaller =
+      false≢true (sym e ∙ any-live n.board.tasks.pool l.tasks (λ t. can_take (state_of n l) w t && nat_lt t.priority priority) h t v.tasks.stands g (and_true _ _ (takes_if h t g s) less_than))
+    where
+      less_than : nat_lt t.priority priority ≡ true
+      less_than = grind (arith, nat_tests)
+
+  -- what may be taken can be chosen
+  pub choice_if : (c : Choice) (t : Task) (a : Action) → slot_value n.board.tasks.pool c.task.0 ≡ Some t → slot_value n.board.actions c.action.0 ≡ Some a → a.kind ≡ c.kind → t.priority ≡ c.priority → is_ready (state_of n l) t ≡ true → is_eligible worker_count w t.job t.cores a ≡ true →
+      IsChoice n.board.actions n.board.tasks.pool n.board.queues.pool w c
+  choice_if c t a found_t found_a kind priority ready eligible = record {
+    t = t;
+    a = a;
+    task = found_t;
+    action = found_a;
+    kind = kind;
+    priority = priority;
+    runs = record {
+      unstarted = ready_unstarted t ready;
+      queue = ready_let c.task.0 t found_t ready;
+      core = and_right (has_enabled_job t.job a && nat_lt w worker_count && in_mask w a.cores) (in_mask w t.cores) eligible;
+      action = runs_in worker_count w t.job t.cores a eligible;
+    };
+  }
 
   -- what was chosen may be taken
   may : (c : Choice) (x : IsChoice n.board.actions n.board.tasks.pool n.board.queues.pool w c) → NoneBetter n.board.actions n.board.tasks.pool n.board.queues.pool w c.priority → (is_ready (state_of n l) x.t && is_eligible (workers (state_of n l)) w x.t.job x.t.cores x.a && not (has_better (state_of n l) w x.t.priority)) ≡ true

@@ -74,7 +74,7 @@ seen-unended t Scheduled s e f = ap (λ (z : TaskState). is_none (end_of z)) e
 seen-unended t (Running w k) s e f = ap (λ (z : TaskState). is_none (end_of z)) e
 seen-unended t (Ended y n) s e f = none_some (sym (ap (seen_as t) e) ∙ f)
 
-is_in-named : (q : ℕ) (o : Option ℕ) → holds (λ h. h == q) o ≡ true → o ≡ Some q
+pub is_in-named : (q : ℕ) (o : Option ℕ) → holds (λ h. h == q) o ≡ true → o ≡ Some q
 is_in-named q None e = false≢true e
 is_in-named q (Some h) e = ap Some (equal h q e)
 

@@ -10,7 +10,7 @@ use Rattle.mtapi_machine.specs.Rows.{row}
 use Rattle.mtapi_machine.specs.Legal.{IsHonest}
 use Rattle.node_resources.specs.declared.gate.Gate.{Gate}
 use Rattle.node_resources.specs.Holds.{ResourceTable, HoldsAll, resource_lists}
-use Rattle.node_resources.specs.Steps.{Does, Steps as ResourceSteps, is_resource_op}
+use Rattle.node_resources.specs.Steps.{Does, IsAt, Steps as ResourceSteps, is_resource_op}
 use Rattle.node_steps.specs.declared.node.Node.{Node}
 use Rattle.node_steps.specs.Stands.{Lists, Live, Steps, state_of}
 
@@ -18,6 +18,10 @@ use Rattle.node_steps.specs.Stands.{Lists, Live, Steps, state_of}
 honest : (o : Op) → is_resource_op o ≡ true → IsHonest o
 honest (op.Finish task done) e = absurd (cc)
 honest _ e = tt
+
+-- the gate that the node tells is that of its state
+pub is_at : (n : Node) (l : Lists) (g : Gate) → g.phase ≡ n.core.phase → g.workers ≡ n.board.settings.workers → IsAt (state_of n l) g
+is_at n l g phase workers = record { layout = refl; phase = sym phase; workers = sym workers }
 
 -- a step of the resources is one of the node
 pub carries : (n : Node) (l : Lists) (who : ℕ) (o : Op) (r : Reply) (g : Gate) (new : ResourceTable) → Live n l → is_resource_op o ≡ true → g.phase ≡ n.core.phase → g.workers ≡ n.board.settings.workers → ResourceSteps n.resources g who o r new → Steps n l who o r (record n { resources = new })
@@ -40,4 +44,4 @@ carries n l who o r g new v is phase workers s = (
 )
   where
     d : Does (state_of n l) who o r new
-    d = s (state_of n l) (record { layout = refl; phase = sym phase; workers = sym workers }) v.resources
+    d = s (state_of n l) (is_at n l g phase workers) v.resources

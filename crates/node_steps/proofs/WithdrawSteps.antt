@@ -4,6 +4,8 @@ use Rattle.std.specs.Prelude.{◌==◌, ◌&&◌}
 use Rattle.mtapi_values.specs.declared.ends.TaskEnd.{TaskEnd}
 use Rattle.mtapi_values.specs.declared.ends.TaskEnd.TheVariants.{Failed}
 use Rattle.mtapi_values.specs.declared.handles.ActionHandle.{ActionHandle}
+use Rattle.mtapi_values.specs.declared.masks.Mask.{Mask}
+use Rattle.mtapi_values.specs.Attributes.{NodeSettings}
 use Rattle.mtapi_values.specs.declared.statuses.MtapiStatus.{MtapiStatus}
 use Rattle.mtapi_values.specs.declared.statuses.MtapiStatus.TheVariants as m
 use Rattle.mtapi_values.specs.Masks.{in_mask}
@@ -14,10 +16,10 @@ use Rattle.handle_pool.proofs.AnswerLemmas.{any-live, any-some}
 use Rattle.handle_pool.proofs.LiveLemmas.{same_tests}
 use Rattle.mtapi_objects.specs.Actions.{Action, with_enabled, is_eligible, has_worker, some_below}
 use Rattle.mtapi_objects.specs.Tasks.{Task, is_unstarted, ended, end_each}
-use Rattle.job_table.specs.Answers.{job_of}
+use Rattle.job_table.specs.Answers.{job_of, IsUnion}
 use Rattle.task_core.specs.Table.{TaskTable}
 use Rattle.task_board.specs.Board.{BoardTable, Becomes}
-use Rattle.task_board.specs.Ends.{is_unserved, EndsUnserved}
+use Rattle.task_board.specs.Ends.{is_unserved, AreServed, EndsUnserved}
 use Rattle.task_board.proofs.RemarkLemmas.{SameBut, same-changed, same-without}
 use Rattle.task_board.proofs.BoardLemmas.{job-found}
 use Rattle.mtapi_machine.specs.declared.ops.Op.{Op}
@@ -204,3 +206,25 @@ unserved-before a b q job e t x u = subst (λ (y : BoardTable). EndsUnserved y.s
   where
     path : ◌≡◌ {A = BoardTable} b (record b { settings = a.settings; actions = q; tasks = a.tasks })
     path i = record b { settings = x.settings i; actions = x.actions_are i; tasks = x.tasks_are i }
+
+-- Before the action goes
+
+-- each task of a job that hasn't begun has a worker on the cores that the actions of the job cover
+served-before : (n : Node) (l : Lists) (job : ℕ) (mask : Mask) → Live n l → Sound (state_of n l) → IsUnion n.board.actions job mask.0 → AreServed n.board.settings.workers job mask.0 n.board.tasks.pool
+served-before n l job mask v k u h t g on = by_job (t.job == job) refl
+  where
+    by_job : (b : Bool) → (t.job == job) ≡ b → (b && not (some_below n.board.settings.workers (λ w. in_mask w mask.0 && in_mask w t.cores))) ≡ false
+    by_job true is =
+        let j : t.job ≡ job = grind (arith) in
+        ap not (sym (covered_worker n.board.settings.actions n.board.settings.generations n.board.actions l.actions job mask v.actions u n.board.settings.workers t.cores)
+        ∙ ap (λ (o : ℕ). has_worker n.board.settings.workers o t.cores (live_of l.actions)) (sym j)
+        ∙ k.served h t (found _ _ n.board.tasks.pool l.tasks h (Some t) v.tasks g) on)
+    by_job false other = refl
+
+-- and so it is of an action's job, once the action has gone
+pub served-after : (n : Node) (l : Lists) (job : ℕ) (a : ActionHandle) (mask : Mask) (b : BoardTable) (q : Slots Action) → Live n l → Sound (state_of n l) → Ok job ≡ job_of (slot_value n.board.actions a.0) → ((x : Action) → slot_value n.board.actions a.0 ≡ Some x → IsUnion n.board.actions x.job mask.0) → Becomes n.board b q n.board.tasks → AreServed b.settings.workers job mask.0 b.tasks.pool
+served-after n l job a mask b q v k is covers x =
+    let y = job-found (slot_value n.board.actions a.0) job is in
+    subst (λ (t : TaskTable). AreServed b.settings.workers job mask.0 t.pool) (sym x.tasks_are)
+    (subst (λ (s : NodeSettings). AreServed s.workers job mask.0 n.board.tasks.pool) (sym x.settings)
+    (served-before n l job mask v k (subst (λ (o : ℕ). IsUnion n.board.actions o mask.0) y.2 (covers y.0 y.1))))

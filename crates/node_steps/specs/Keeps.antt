@@ -1,15 +1,24 @@
 -- What a board keeps beside its pools, as the machine's state says it.
-use Rattle.std.specs.Prelude.{◌≡◌, ◌↔◌, ℕ, ◌<◌, true, ◌&&◌, ◌==◌, Some, slice_get}
+use Rattle.std.specs.Prelude.{◌≡◌, ◌↔◌, ℕ, ◌<◌, Bool, true, ◌&&◌, ◌==◌, List, map, Some, slice_get}
 use Rattle.mtapi_values.specs.Conditions.{holds}
 use Rattle.mtapi_values.specs.declared.handles.TaskHandle.{TaskHandle}
-use Rattle.handle_pool.specs.Slots.{used_at}
-use Rattle.handle_pool.specs.Issued.{live_object}
+use Rattle.handle_pool.specs.Slots.{slot_value, used_at}
+use Rattle.handle_pool.specs.Issued.{live_of, live_object}
 use Rattle.linked_places.specs.Lists.{list_at, has_handle}
 use Rattle.ready_index.specs.Marks.{mark_at, is_for_at}
 use Rattle.mtapi_objects.specs.Tasks.{Task, is_unstarted, runs_on}
+use Rattle.mtapi_objects.specs.Groups.{Ending, is_unended_member, endings}
+use Rattle.mtapi_objects.specs.Queues.{is_unended_in}
+use Rattle.queue_core.specs.Held.{HeldQueue}
+use Rattle.group_core.specs.Members.{Members}
 use Rattle.task_board.specs.Board.{BoardTable, running_on}
 use Rattle.mtapi_machine.specs.State.{State, workers}
 use Rattle.mtapi_machine.specs.WorkRows.{can_take}
+
+-- the list has exactly the live tasks that pass, in the order of their starts
+pub record ListsByStart (s : State) (p : Task → Bool) (hs : List ℕ) : Type 0 where
+  pub has : (h : ℕ) → (has_handle h hs ≡ true) ↔ ((x : Task) × (live_object s.tasks h ≡ Some x) × (p x ≡ true))
+  pub in_order : (i j h k : ℕ) (x y : Task) → i < j → slice_get hs i ≡ Some h → slice_get hs j ≡ Some k → live_object s.tasks h ≡ Some x → live_object s.tasks k ≡ Some y → x.start < y.start
 
 pub record Keeps (s : State) (b : BoardTable) : Type 0 where
   -- a slot is marked for a worker, with a priority, exactly where its task is ready, has this priority, and has an eligible action on this worker
@@ -17,6 +26,9 @@ pub record Keeps (s : State) (b : BoardTable) : Type 0 where
   -- the task that stands beside a worker is the one that runs there
   pub running : (w : ℕ) (t : TaskHandle) → (running_on b.running w ≡ Some t) ↔ ((x : Task) × (live_object s.tasks t.0 ≡ Some x) × (runs_on w x ≡ true))
   -- the waiting tasks are those that are scheduled
-  pub waiting : (h : ℕ) → (has_handle h (list_at b.waiting.lists 0) ≡ true) ↔ ((x : Task) × (live_object s.tasks h ≡ Some x) × (is_unstarted x ≡ true))
-  -- in the order of their starts
-  pub in_order : (i j h k : ℕ) (x y : Task) → i < j → slice_get (list_at b.waiting.lists 0) i ≡ Some h → slice_get (list_at b.waiting.lists 0) j ≡ Some k → live_object s.tasks h ≡ Some x → live_object s.tasks k ≡ Some y → x.start < y.start
+  pub waiting : ListsByStart s is_unstarted (list_at b.waiting.lists 0)
+  -- the list of each live queue has its unended tasks
+  pub queues : (q : ℕ) (x : HeldQueue) → slot_value b.queues.pool q ≡ Some x → ListsByStart s (is_unended_in q) x.tasks
+  -- the lists of each live group are its members: those that haven't ended, and those that have, in the order of their ends
+  pub members : (g : ℕ) (m : Members) → slot_value b.groups.pool g ≡ Some m → ListsByStart s (is_unended_member g) m.unended
+  pub ended : (g : ℕ) (m : Members) → slot_value b.groups.pool g ≡ Some m → m.ended ≡ map (λ (e : Ending). e.task) (endings g (live_of s.tasks))

@@ -3,3 +3,4 @@ pub mod Stands
 pub mod Picks
 pub mod Sound
 pub mod Tallies
+pub mod Refusals

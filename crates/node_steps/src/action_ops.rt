@@ -2,14 +2,16 @@
 
 ghost use Rattle.std.specs.Prelude.{◌≡◌, ℕ};
 ghost use Rattle.handle_pool.specs.Issued.{any_listed};
-ghost use Rattle.mtapi_objects.specs.Actions.{has_job};
+ghost use Rattle.mtapi_objects.specs.Actions.{has_job, action_create_refusals};
+ghost use Rattle.mtapi_values.specs.Conditions.{first};
+ghost use Rattle.node_steps.specs.Refusals.{open_refusals};
 ghost use Rattle.mtapi_machine.specs.declared.ops.Op.TheVariants as op;
 ghost use Rattle.node_steps.specs.Stands.{Lists, Live, Steps, state_of};
 ghost use Rattle.node_steps.specs.Sound.{Sound};
 
 use crate::node::Node;
 use crate::phase_ops::{is_open, is_up};
-use job_table::Cover;
+use job_table::{Actions, Cover};
 use mtapi_machine::Reply;
 use mtapi_values::{ActionHandle, Kind, Mask, MtapiStatus};
 
@@ -36,11 +38,21 @@ impl Node {
         Reply::Number(i64::from(job))
     }
 
+    // Why no action of this job is made, whether there is room or not.
+    pub(crate) fn action_refusal(&self, job: u32) -> Option<MtapiStatus>
+        ensures { result ≡ first (open_refusals self.now.core.phase (action_create_refusals job)) }
+    {
+        if !is_open(self.core.phase) {
+            return Some(MtapiStatus::ErrNodeNotinit);
+        }
+        Actions::create_refusal(job)
+    }
+
     pub(crate) fn action_create(&mut self, job: u32, kind: Kind, cores: Mask) -> Reply
         ensures { (l : Lists) (who : ℕ) → Live self.old l → Steps self.old l who (op.ActionCreate job kind cores) result self.new }
     {
-        if !is_open(self.core.phase) {
-            return Reply::Mtapi(MtapiStatus::ErrNodeNotinit);
+        if let Some(status) = self.action_refusal(job) {
+            return Reply::Mtapi(status);
         }
         match self.board.create_action(job, kind, cores) {
             Ok(action) => Reply::Handle(action.0),
@@ -67,9 +79,11 @@ impl Node {
         if !is_open(self.core.phase) {
             return Reply::Mtapi(MtapiStatus::ErrNodeNotinit);
         }
+        let before = self.board.covered(action);
         match self.board.disable_action(action) {
             Ok(job) => {
-                self.board.end_unserved(job, MtapiStatus::ErrActionDisabled);
+                self.board
+                    .end_unserved(job, before, MtapiStatus::ErrActionDisabled);
                 Reply::Ok
             }
             Err(status) => Reply::Mtapi(status),
@@ -83,9 +97,11 @@ impl Node {
         if !is_open(self.core.phase) {
             return Reply::Mtapi(MtapiStatus::ErrNodeNotinit);
         }
+        let before = self.board.covered(action);
         match self.board.delete_action(action) {
             Ok(job) => {
-                self.board.end_unserved(job, MtapiStatus::ErrActionDeleted);
+                self.board
+                    .end_unserved(job, before, MtapiStatus::ErrActionDeleted);
                 Reply::Ok
             }
             Err(status) => Reply::Mtapi(status),

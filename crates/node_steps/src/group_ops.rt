@@ -1,6 +1,8 @@
 //! The ops on groups.
 
-ghost use Rattle.std.specs.Prelude.{◌≡◌, ℕ, if◌then◌else◌};
+ghost use Rattle.std.specs.Prelude.{◌≡◌, ℕ, [], if◌then◌else◌};
+ghost use Rattle.mtapi_values.specs.Conditions.{first};
+ghost use Rattle.node_steps.specs.Refusals.{open_refusals};
 ghost use Rattle.mtapi_values.specs.declared.statuses.MtapiStatus.TheVariants as status;
 ghost use Rattle.mtapi_machine.specs.declared.replies.Reply.TheVariants as reply;
 ghost use Rattle.mtapi_machine.specs.GroupRows.{verdict};
@@ -35,11 +37,22 @@ fn early(last: bool) -> Reply
 }
 
 impl Node {
+    // Why no group is made, whether there is room or not.
+    pub(crate) fn group_refusal(&self) -> Option<MtapiStatus>
+        ensures { result ≡ first (open_refusals self.now.core.phase []) }
+    {
+        if is_open(self.core.phase) {
+            None
+        } else {
+            Some(MtapiStatus::ErrNodeNotinit)
+        }
+    }
+
     pub(crate) fn group_create(&mut self) -> Reply
         ensures { (l : Lists) (who : ℕ) → Live self.old l → Steps self.old l who op.GroupCreate result self.new }
     {
-        if !is_open(self.core.phase) {
-            return Reply::Mtapi(MtapiStatus::ErrNodeNotinit);
+        if let Some(status) = self.group_refusal() {
+            return Reply::Mtapi(status);
         }
         match self.board.create_group() {
             Ok(group) => Reply::Handle(group.0),

@@ -4,6 +4,7 @@
 #![tactic(auto)]
 
 mod action_ops;
+mod follow;
 mod group_ops;
 pub mod node;
 mod phase_ops;

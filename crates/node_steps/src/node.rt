@@ -47,7 +47,8 @@ fn read_ranges(attr: &NodeAttr)
 }
 
 impl Node {
-    /// A new node with these settings, for so many callers, main included, with all the memory that its objects will use.
+    /// Makes a new node with these settings, for 1 to 9 callers, main included, and takes all the
+    /// memory that its objects will use. It fails for want of memory alone.
     pub fn init(alloc: Global, attr: NodeAttr, callers: u32) -> Result<Node, AllocError>
         requires some_caller { 1 ≤ callers }
         requires few_callers { callers ≤ 9 }
@@ -70,7 +71,7 @@ impl Node {
         })
     }
 
-    /// The settings of the node.
+    /// Shows the settings of the node, which never change.
     pub fn settings(&self) -> &NodeAttr
         ensures { result.now ≡ (terms_of self.now).settings }
     {

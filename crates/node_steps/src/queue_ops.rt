@@ -1,11 +1,15 @@
 //! The ops on queues.
 
-ghost use Rattle.std.specs.Prelude.{◌≡◌, ◌≤◌, ◌<◌, ◌^◌, ◌==◌, ◌&&◌, ◌++◌, ◌∷◌, [], ℕ, ℤ, Bool, List, not, false, None, if◌then◌else◌};
+ghost use Rattle.std.specs.Prelude.{◌≡◌, ◌≤◌, ◌<◌, ◌^◌, ◌==◌, ◌&&◌, ◌++◌, ◌∷◌, [], ℕ, ℤ, Bool, List, not, false, None, Some, IfNone, IfOk, IfErr, if◌then◌else◌};
+ghost use Rattle.std.specs.Option.{option_map};
 ghost use Rattle.mtapi_values.specs.Conditions.{first};
 ghost use Rattle.mtapi_values.specs.declared.statuses.MtapiStatus.TheVariants as status;
 ghost use Rattle.mtapi_machine.specs.TaskRows.{asked_for, start_refusals, is_detached_member, number_of};
 ghost use Rattle.task_board.specs.Members.{names_dead};
 ghost use Rattle.mtapi_machine.specs.declared.ops.Op.TheVariants as op;
+ghost use Rattle.mtapi_machine.specs.declared.replies.Reply.TheVariants as reply;
+ghost use Rattle.mtapi_renaming.specs.Refusals.{refusal_of};
+ghost use Rattle.node_steps.specs.Refusals.{queue_causes, queue_refusals, MayPut};
 ghost use Rattle.node_steps.specs.Stands.{Lists, Live, Steps, state_of};
 ghost use Rattle.node_steps.specs.Sound.{Sound};
 
@@ -56,6 +60,42 @@ fn attributes(priority: u32, limit: u32, ordered: bool, retain: bool) -> QueueAt
 }
 
 impl Node {
+    // Why no queue of this job and these numbers is made, but for its id and for want of room.
+    fn queue_cause(&self, job: u32, priority: u32, limit: u32) -> Option<MtapiStatus>
+        ensures first { (l : Lists) → Live self.now l → first (queue_causes (state_of self.now l) job priority limit) ≡ result }
+        ensures known { IfNone result (priority < self.now.board.settings.priorities) }
+        ensures priority { IfNone result (priority ≤ 7) }
+        ensures some { IfNone result (1 ≤ limit) }
+        ensures few { IfNone result (limit ≤ 65536) }
+    {
+        if !is_open(self.core.phase) {
+            return Some(MtapiStatus::ErrNodeNotinit);
+        }
+        if priority >= self.board.priorities() || limit < 1 || limit > 65_536 {
+            return Some(MtapiStatus::ErrParameter);
+        }
+        if !self.has_job(job) {
+            return Some(MtapiStatus::ErrJobInvalid);
+        }
+        None
+    }
+
+    // Why no such queue is made, whether there is room or not.
+    pub(crate) fn queue_refusal(
+        &self,
+        id: u32,
+        job: u32,
+        priority: u32,
+        limit: u32,
+    ) -> Option<MtapiStatus>
+        ensures { (l : Lists) → Live self.now l → first (queue_refusals (state_of self.now l) id job priority limit) ≡ result }
+    {
+        if let Some(status) = self.queue_cause(job, priority, limit) {
+            return Some(status);
+        }
+        self.board.queue_refusal(id)
+    }
+
     pub(crate) fn queue_create(
         &mut self,
         id: u32,
@@ -67,14 +107,8 @@ impl Node {
     ) -> Reply
         ensures { (l : Lists) (who : ℕ) → Live self.old l → Steps self.old l who (op.QueueCreate id job priority limit ordered retain) result self.new }
     {
-        if !is_open(self.core.phase) {
-            return Reply::Mtapi(MtapiStatus::ErrNodeNotinit);
-        }
-        if priority >= self.board.priorities() || limit < 1 || limit > 65_536 {
-            return Reply::Mtapi(MtapiStatus::ErrParameter);
-        }
-        if !self.has_job(job) {
-            return Reply::Mtapi(MtapiStatus::ErrJobInvalid);
+        if let Some(status) = self.queue_cause(job, priority, limit) {
+            return Reply::Mtapi(status);
         }
         let attr = attributes(priority, limit, ordered, retain);
         match self.board.create_queue(id, job, attr) {
@@ -165,6 +199,50 @@ impl Node {
         None
     }
 
+    // What the queue shows, into which such a task may be put but for want of room among the tasks.
+    fn enqueue_facts(
+        &self,
+        queue: QueueHandle,
+        cores: Mask,
+        detached: bool,
+        group: Option<GroupHandle>,
+    ) -> Result<QueueFacts, MtapiStatus>
+        ensures may { IfOk result (λ f. MayPut self.now queue.0 cores detached group f) }
+        ensures refused { IfErr result (λ c. (l : Lists) (who : ℕ) (args : List ℤ) → Live self.now l → refusal_of (state_of self.now l) who (op.TaskEnqueue queue args cores detached group) ≡ Some (reply.Mtapi c)) }
+    {
+        if !is_open(self.core.phase) {
+            return Err(MtapiStatus::ErrNodeNotinit);
+        }
+        if is_detached_member(detached, group) {
+            return Err(MtapiStatus::ErrParameter);
+        }
+        let Some(facts) = self.board.queue(queue) else {
+            return Err(MtapiStatus::ErrQueueInvalid);
+        };
+        self.board.is_kept();
+        match self.put_refusal(facts, cores, group) {
+            Some(status) => Err(status),
+            None => Ok(facts),
+        }
+    }
+
+    // Why such a task isn't put into the queue, whether there is room among the tasks or not.
+    pub(crate) fn enqueue_refusal(
+        &self,
+        queue: QueueHandle,
+        cores: Mask,
+        detached: bool,
+        group: Option<GroupHandle>,
+    ) -> Option<MtapiStatus>
+        ensures { (l : Lists) (who : ℕ) (args : List ℤ) → Live self.now l → refusal_of (state_of self.now l) who (op.TaskEnqueue queue args cores detached group) ≡ option_map reply.Mtapi result }
+    {
+        self.board.is_kept();
+        match self.enqueue_facts(queue, cores, detached, group) {
+            Ok(_) => None,
+            Err(status) => Some(status),
+        }
+    }
+
     pub(crate) fn task_enqueue(
         &mut self,
         queue: QueueHandle,
@@ -176,19 +254,11 @@ impl Node {
         requires { self.old.board.tasks.starts < 2 ^ 63 }
         ensures { (l : Lists) (who : ℕ) → Live self.old l → Steps self.old l who (op.TaskEnqueue queue args cores detached group) result self.new }
     {
-        if !is_open(self.core.phase) {
-            return Reply::Mtapi(MtapiStatus::ErrNodeNotinit);
-        }
-        if is_detached_member(detached, group) {
-            return Reply::Mtapi(MtapiStatus::ErrParameter);
-        }
-        let Some(facts) = self.board.queue(queue) else {
-            return Reply::Mtapi(MtapiStatus::ErrQueueInvalid);
-        };
         self.board.is_kept();
-        if let Some(status) = self.put_refusal(facts, cores, group) {
-            return Reply::Mtapi(status);
-        }
+        let facts = match self.enqueue_facts(queue, cores, detached, group) {
+            Ok(facts) => facts,
+            Err(status) => return Reply::Mtapi(status),
+        };
         let task = NewTask {
             job: facts.job,
             args,

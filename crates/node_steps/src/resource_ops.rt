@@ -2,10 +2,13 @@
 
 ghost use Rattle.std.specs.Prelude.{◌≡◌, ◌<◌, true};
 ghost use Rattle.node_resources.specs.Steps.{is_resource_op};
-ghost use Rattle.node_steps.specs.Stands.{Lists, Live, Steps};
+ghost use Rattle.mtapi_values.specs.Conditions.{first};
+ghost use Rattle.node_resources.specs.Refusals.{mutex_refusals, sem_refusals, rwl_refusals, shmem_refusals};
+ghost use Rattle.node_steps.specs.Stands.{Lists, Live, Steps, state_of};
 
 use crate::node::Node;
 use mtapi_machine::{Op, Reply};
+use mtapi_values::MrapiStatus;
 use node_resources::Gate;
 
 impl Node {
@@ -28,5 +31,30 @@ impl Node {
     {
         let gate = self.gate();
         self.resources.execute(gate, who, op)
+    }
+
+    // Why a create of a resource is refused, whether there is room or not.
+    pub(crate) fn mutex_refusal(&self, who: u32, id: u32) -> Option<MrapiStatus>
+        ensures { (l : Lists) → Live self.now l → first (mutex_refusals (state_of self.now l) who id) ≡ result }
+    {
+        self.resources.mutex_refusal(self.gate(), who, id)
+    }
+
+    pub(crate) fn sem_refusal(&self, who: u32, id: u32, limit: u32) -> Option<MrapiStatus>
+        ensures { (l : Lists) → Live self.now l → first (sem_refusals (state_of self.now l) who id limit) ≡ result }
+    {
+        self.resources.sem_refusal(self.gate(), who, id, limit)
+    }
+
+    pub(crate) fn rwl_refusal(&self, who: u32, id: u32, limit: u32) -> Option<MrapiStatus>
+        ensures { (l : Lists) → Live self.now l → first (rwl_refusals (state_of self.now l) who id limit) ≡ result }
+    {
+        self.resources.rwl_refusal(self.gate(), who, id, limit)
+    }
+
+    pub(crate) fn shmem_refusal(&self, who: u32, id: u32, cells: u32) -> Option<MrapiStatus>
+        ensures { (l : Lists) → Live self.now l → first (shmem_refusals (state_of self.now l) who id cells) ≡ result }
+    {
+        self.resources.shmem_refusal(self.gate(), who, id, cells)
     }
 }

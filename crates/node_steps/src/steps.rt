@@ -13,14 +13,15 @@ use mtapi_machine::{Op, Reply, Terms};
 use mtapi_values::Layout;
 
 impl Node {
-    /// The number of seats, which are numbered from 0. It never changes.
+    /// Tells the number of seats, 2 to 25, which are numbered from 0: first the workers, then main,
+    /// then the further callers. It never changes.
     pub fn seats(&self) -> u32
         ensures { result ≡ seat_count (terms_of self.now) }
     {
         self.board.workers() + u32::from(self.core.callers)
     }
 
-    /// A copy of the node's terms.
+    /// Copies the node's terms, which never change.
     pub fn terms(&self) -> Terms
         ensures { result ≡ terms_of self.now }
     {
@@ -31,8 +32,8 @@ impl Node {
         }
     }
 
-    /// One op by the seat `who`. It refuses nothing: what the node refuses, it says in its reply. The slot in the handle of a new
-    /// object is below 2^24.
+    /// Executes one op by the seat `who`. It has no error of its own, since what the node refuses
+    /// it says in its reply. The slot in the handle of a new object is below 2^24.
     pub fn step(&mut self, who: u32, op: Op) -> Reply
         requires seat { who < seat_count (terms_of self.old) }
         requires room { (L : List NodeEntry) × Stands self.old L × (length L < 2 ^ 62 + 16) }
@@ -45,7 +46,7 @@ impl Node {
         reply
     }
 
-    /// Where this op is answered Pending, does the state stay as it was?
+    /// Tells whether the state would stay as it is, were this op answered Pending.
     pub fn pends_alike(&self, who: u32, op: &Op) -> bool
         ensures { (L : List NodeEntry) → Stands self.now L → pends_alike (after (terms_of self.now) L) who op.now ≡ result }
     {

@@ -7,6 +7,7 @@ ghost use Rattle.mtapi_values.specs.Masks.{in_mask};
 ghost use Rattle.mtapi_objects.specs.Actions.{some_below};
 ghost use Rattle.task_board.specs.Members.{names_dead};
 ghost use Rattle.mtapi_machine.specs.declared.ops.Op.TheVariants as op;
+ghost use Rattle.node_steps.specs.Refusals.{task_refusals};
 ghost use Rattle.node_steps.specs.Stands.{Lists, Live, Steps, state_of};
 
 use crate::node::Node;
@@ -65,6 +66,28 @@ impl Node {
         }
     }
 
+    // Why such a task isn't started, whether there is room or not.
+    pub(crate) fn task_refusal(
+        &self,
+        job: u32,
+        priority: u32,
+        cores: Mask,
+        detached: bool,
+        group: Option<GroupHandle>,
+    ) -> Option<MtapiStatus>
+        ensures first { (l : Lists) (args : List ℤ) → Live self.now l → first (task_refusals (state_of self.now l) job args priority cores detached group) ≡ result }
+        ensures right { IfNone result ((not (nat_lt priority self.now.board.settings.priorities) || is_detached_member detached group) ≡ false) }
+        ensures group { IfNone result (names_dead self.now.board.groups.pool (number_of group) ≡ false) }
+    {
+        if !is_open(self.core.phase) {
+            return Some(MtapiStatus::ErrNodeNotinit);
+        }
+        if self.is_wrong(priority, detached, group) {
+            return Some(MtapiStatus::ErrParameter);
+        }
+        self.start_refusal(job, cores, group)
+    }
+
     pub(crate) fn task_start(
         &mut self,
         job: u32,
@@ -77,13 +100,7 @@ impl Node {
         requires { self.old.board.tasks.starts < 2 ^ 63 }
         ensures { (l : Lists) (who : ℕ) → Live self.old l → Steps self.old l who (op.TaskStart job args priority cores detached group) result self.new }
     {
-        if !is_open(self.core.phase) {
-            return Reply::Mtapi(MtapiStatus::ErrNodeNotinit);
-        }
-        if self.is_wrong(priority, detached, group) {
-            return Reply::Mtapi(MtapiStatus::ErrParameter);
-        }
-        if let Some(status) = self.start_refusal(job, cores, group) {
+        if let Some(status) = self.task_refusal(job, priority, cores, detached, group) {
             return Reply::Mtapi(status);
         }
         let task = NewTask {

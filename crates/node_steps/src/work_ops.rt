@@ -1,6 +1,6 @@
 //! The ops of workers.
 
-ghost use Rattle.std.specs.Prelude.{◌≡◌, ◌<◌, ℕ};
+ghost use Rattle.std.specs.Prelude.{◌≡◌, ◌<◌, ℕ, ℤ, List, Some};
 ghost use Rattle.std.specs.Bool.{OnFalse};
 ghost use Rattle.handle_pool.specs.Slots.{slot_value};
 ghost use Rattle.handle_pool.specs.Walks.{NoneLive};
@@ -11,15 +11,17 @@ ghost use Rattle.mtapi_machine.specs.WorkRows.{task_end};
 ghost use Rattle.mtapi_machine.specs.State.{is_stop};
 ghost use Rattle.mtapi_machine.specs.declared.ops.Op.TheVariants as op;
 ghost use Rattle.node_steps.specs.Stands.{Lists, Live, Steps, state_of};
-ghost use Rattle.node_steps.specs.Picks.{Takes};
-ghost use Rattle.task_board.specs.Picks.{IsChoice};
+ghost use Rattle.node_steps.specs.Picks.{Takes, IsToward, MayPick};
+ghost use Rattle.task_board.specs.Picks.{IsBest, IsChoice};
+ghost use Rattle.mtapi_values.specs.declared.kinds.Kind.{Kind};
+ghost use Rattle.mtapi_machine.specs.declared.replies.Reply.TheVariants as reply;
 
 use crate::node::Node;
 use crate::phase_ops::{is_new, is_past_open};
 use crate::walks::runs_so;
 use action_fn::{ActEnd, Finished};
 use mtapi_machine::Reply;
-use mtapi_values::{MtapiStatus, TaskEnd, TaskHandle};
+use mtapi_values::{ActionHandle, MtapiStatus, TaskEnd, TaskHandle};
 use task_board::Choice;
 
 // How a task ends whose action answered so.
@@ -49,8 +51,39 @@ impl Node {
         is_past_open(self.core.phase) && self.board.unended() == 0
     }
 
+    // What the worker takes: some task of the least priority that it may take, and this task by this
+    // action where these are wanted and no task of a smaller priority may be taken.
+    fn chosen(&self, who: u32, wanted: Option<(TaskHandle, ActionHandle)>) -> Option<Choice>
+        requires { who < self.now.board.settings.workers }
+        ensures best { IsBest self.now.board.actions self.now.board.tasks.pool self.now.board.queues.pool who result }
+        ensures toward { (task : TaskHandle) (action : ActionHandle) → wanted ≡ Some (task, action) → IsToward self.now who task action result }
+    {
+        let Some(best) = self.board.best(who) else {
+            return None;
+        };
+        let Some((task, action)) = wanted else {
+            return Some(best);
+        };
+        match self.board.choice_of(who, task, action) {
+            Some(choice) if choice.priority == best.priority => Some(choice),
+            _ => Some(best),
+        }
+    }
+
     pub(crate) fn pick(&mut self, who: u32) -> Reply
         ensures { (l : Lists) → Live self.old l → Steps self.old l who op.Pick result self.new }
+    {
+        self.pick_wanted(who, None)
+    }
+
+    // The same, by a worker that takes this task by this action wherever it may.
+    pub(crate) fn pick_wanted(
+        &mut self,
+        who: u32,
+        wanted: Option<(TaskHandle, ActionHandle)>,
+    ) -> Reply
+        ensures steps { (l : Lists) → Live self.old l → Steps self.old l who op.Pick result self.new }
+        ensures toward { (task : TaskHandle) (action : ActionHandle) (l : Lists) (kind : Kind) (args : List ℤ) → wanted ≡ Some (task, action) → Live self.old l → MayPick (state_of self.old l) who task action kind args → result ≡ reply.Picked task action kind args }
     {
         if who >= self.board.workers() || self.runs_any(who) {
             return Reply::Mtapi(MtapiStatus::ErrParameter);
@@ -63,7 +96,7 @@ impl Node {
             return Reply::Stop;
         }
         self.board.is_kept();
-        match self.board.best(who) {
+        match self.chosen(who, wanted) {
             None => Reply::Idle,
             Some(choice) => self.take(who, choice),
         }

@@ -5,3 +5,5 @@ pub mod Slices
 pub mod Reading
 pub mod Spelling
 pub mod Writing
+pub mod Names
+pub mod KindWords

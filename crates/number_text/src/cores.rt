@@ -10,7 +10,12 @@ use crate::numbers::{number_within, push_number};
 use arrayvec::ArrayVec;
 use std::alloc::{AllocError, Global};
 
-/// The mask of the cores that a text lists: ascending numbers from 0 to 63 with commas. None exactly where it is no such list.
+/// The mask of the cores that a text lists: ascending numbers from 0 to 63 with commas.
+///
+/// # Errors
+///
+/// - `None`: an item between two commas is no number from 0 to 63 in the one spelling,
+///   or isn't greater than the one before.
 pub fn cores_of(text: &[u8]) -> Option<u64>
     ensures { result ≡ cores_of text.now }
 {
@@ -76,6 +81,10 @@ fn push_numbers(alloc: Global, out: &mut Vec<u8>, numbers: &[u64]) -> Result<(),
 }
 
 /// Appends the cores of a mask, ascending, with commas between them.
+///
+/// # Errors
+///
+/// - `AllocError`: memory ran out. A front of the list may have been appended.
 pub fn push_cores(alloc: Global, out: &mut Vec<u8>, mask: u64) -> Result<(), AllocError>
     ensures { OnOk result (out.new.items ≡ out.old.items ++ cores_text mask) }
 {

@@ -8,7 +8,12 @@ use crate::numbers::{push_whole, whole};
 use mtapi_values::Args;
 use std::alloc::{AllocError, Global};
 
-/// The 1 to 16 numbers that a text lists, with commas between them. None exactly where it is no such list.
+/// The 1 to 16 numbers that a text lists, with commas between them.
+///
+/// # Errors
+///
+/// - `None`: an item between two commas is no number of i64 in the one spelling, or there
+///   are more than 16.
 #[tactic(auto, unfolding(crate::specs::Lists::list_of))]
 pub fn list_of(text: &[u8]) -> Option<Args>
     ensures { result ≡ list_of text.now }
@@ -42,6 +47,10 @@ fn push_more(alloc: Global, out: &mut Vec<u8>, numbers: &[i64]) -> Result<(), Al
 }
 
 /// Appends numbers, with commas between them.
+///
+/// # Errors
+///
+/// - `AllocError`: memory ran out. A front of the list may have been appended.
 #[tactic(auto, using(crate::proofs::Pieces::joined))]
 pub fn push_list(alloc: Global, out: &mut Vec<u8>, numbers: &[i64]) -> Result<(), AllocError>
     ensures { OnOk result (out.new.items ≡ out.old.items ++ list_text numbers.now) }

@@ -1,5 +1,5 @@
 //! Numbers.
-ghost use Rattle.std.specs.Prelude.{◌≡◌, ◌≤◌, ◌<◌, ◌^◌, ◌++◌, OnOk, nat_le, nat_lt, length, FitsSigned, drop, slice_index, pos, neg_ℤ, true, Some, None, IfSome, if◌then◌else◌};
+ghost use Rattle.std.specs.Prelude.{◌≡◌, ◌≤◌, ◌<◌, ◌^◌, ◌++◌, OnOk, nat_le, nat_lt, length, FitsSigned, drop, slice_index, pos, neg_ℤ, true, Some, None, IfSome, IfOk, string_bytes, if◌then◌else◌};
 ghost use Rattle.std.specs.List.{list_all};
 ghost use Rattle.std.specs.Int.{w64};
 ghost use Rattle.std.specs.Char.{is_ascii_digit};
@@ -35,7 +35,11 @@ fn parsed(text: &[u8]) -> Option<u64>
     }
 }
 
-/// The number that a text is. None exactly where it is none of u64, or not in the one spelling.
+/// The number that a text is.
+///
+/// # Errors
+///
+/// - `None`: the text is no number from 0 to 2^64 - 1, or isn't in the one spelling.
 #[tactic(auto, unfolding(crate::specs::Numbers::number))]
 pub fn number(text: &[u8]) -> Option<u64>
     ensures { result ≡ number text.now }
@@ -47,6 +51,10 @@ pub fn number(text: &[u8]) -> Option<u64>
 }
 
 /// The number from `low` to `high` that a text is.
+///
+/// # Errors
+///
+/// - `None`: the text is no number, isn't in the one spelling, or is below `low` or above `high`.
 #[tactic(auto, unfolding(crate::specs::Numbers::number_within))]
 pub fn number_within(low: u64, high: u64, text: &[u8]) -> Option<u64>
     ensures value { result ≡ number_within low high text.now }
@@ -81,7 +89,11 @@ fn positive(text: &[u8]) -> Option<i64>
     }
 }
 
-/// The number of i64 that a text is. None exactly where it is none, or not in the one spelling.
+/// The number of i64 that a text is.
+///
+/// # Errors
+///
+/// - `None`: the text is no number from -2^63 to 2^63 - 1, or isn't in the one spelling.
 #[tactic(auto, unfolding(crate::specs::Numbers::whole))]
 pub fn whole(text: &[u8]) -> Option<i64>
     ensures value { result ≡ whole text.now }
@@ -103,18 +115,48 @@ pub fn whole(text: &[u8]) -> Option<i64>
     }
 }
 
+/// A number in decimal digits.
+///
+/// # Errors
+///
+/// - `AllocError`: memory ran out.
+pub fn decimal_text(alloc: Global, number: u64) -> Result<String, AllocError>
+    ensures { IfOk result (λ text. string_bytes text ≡ decimal number) }
+{
+    format!(in alloc; "{number}")
+}
+
+/// A number in decimal digits, with a minus where it is negative. It takes sums too that are too large for i64.
+///
+/// # Errors
+///
+/// - `AllocError`: memory ran out.
+pub fn signed_text(alloc: Global, number: i128) -> Result<String, AllocError>
+    ensures { IfOk result (λ text. string_bytes text ≡ signed_decimal number) }
+{
+    format!(in alloc; "{number}")
+}
+
 /// Appends a number.
+///
+/// # Errors
+///
+/// - `AllocError`: memory ran out.
 pub fn push_number(alloc: Global, out: &mut Vec<u8>, number: u64) -> Result<(), AllocError>
     ensures { OnOk result (out.new.items ≡ out.old.items ++ decimal number) }
 {
-    let text = format!(in alloc; "{number}")?;
+    let text = decimal_text(alloc, number)?;
     out.extend_from_slice(text.as_bytes())
 }
 
 /// Appends a number of i64.
+///
+/// # Errors
+///
+/// - `AllocError`: memory ran out.
 pub fn push_whole(alloc: Global, out: &mut Vec<u8>, number: i64) -> Result<(), AllocError>
     ensures { OnOk result (out.new.items ≡ out.old.items ++ signed_decimal number) }
 {
-    let text = format!(in alloc; "{number}")?;
+    let text = signed_text(alloc, i128::from(number))?;
     out.extend_from_slice(text.as_bytes())
 }

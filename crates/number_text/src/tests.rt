@@ -1,4 +1,5 @@
 use super::*;
+use mtapi_values::Kind;
 use std::test::Fail;
 
 /// Texts that spell no number of u64.
@@ -25,6 +26,19 @@ fn numbers(rt: HostRuntime) -> Result<(), Fail> {
     }
     for text in NO_NUMBERS {
         assert_eq!(rt; number(text.as_bytes()), None, "{text}");
+    }
+    Ok(())
+}
+
+#[test]
+fn kinds(rt: HostRuntime) -> Result<(), Fail> {
+    for (text, kind) in [
+        (b"gcd".as_slice(), Some(Kind::Gcd)),
+        (b"Gcd", None),
+        (b"", None),
+        (b"\xff", None),
+    ] {
+        assert!(rt; kind_of(text) == kind);
     }
     Ok(())
 }

@@ -1,12 +1,11 @@
 -- What each move of the slots and the lists is for the queues that they are seen as.
-use Rattle.std.proofs.Common.{◌≡◌, ◌≢◌, ℕ, ◌<◌, ◌≤◌, Bool, true, false, List, [], length, replicate, Option, Some, None, Result, Ok, Err, is_ok, refl, sym, ap, subst, ◌∙◌, slice_get, arith}
+use Rattle.std.proofs.Common.{◌≡◌, ◌≢◌, ℕ, ◌<◌, ◌≤◌, Bool, true, false, List, [], length, replicate, Option, Some, None, Ok, Err, refl, sym, ap, subst, ◌∙◌, slice_get, arith}
 use Rattle.std.specs.Prelude.{◌==◌}
 use Rattle.std.specs.Option.{option_map}
 use Rattle.std.proofs.lemmas.Bool.Decides.{nat_tests}
 use Rattle.std.proofs.lemmas.Bool.{false≢true, eq-eqb, ne_eqb}
-use Rattle.mtapi_values.specs.declared.handles.QueueHandle.{QueueHandle}
 use Rattle.mtapi_values.specs.declared.statuses.MtapiStatus.{MtapiStatus}
-use Rattle.mtapi_values.specs.declared.statuses.MtapiStatus.TheVariants.{ErrQueueInvalid, ErrQueueLimit}
+use Rattle.mtapi_values.specs.declared.statuses.MtapiStatus.TheVariants.{ErrQueueLimit}
 use Rattle.mtapi_values.specs.Conditions.{first}
 use Rattle.handle_pool.specs.Slots.{Slot, Slots, slot_of, free_slot, slot_value, IsFull, Inserts, with_value, without, changed}
 use Rattle.handle_pool.specs.Walks.{NoneLive}
@@ -154,12 +153,6 @@ module _ (pool : Slots Queue) (tasks : HandleLists) where
 
   pub slots-new : (count : ℕ) → pool.slots ≡ replicate count (free_slot 1) → tasks.lists ≡ replicate count [] → (pool_beside held pool tasks.lists).slots ≡ replicate count (free_slot 1)
   slots-new count slots lists = rw (slots, lists) (beside-fresh held count)
-
--- a get that fails says that no live queue has the id
-pub not_found : (pool : Slots HeldQueue) (id : ℕ) (r : Result QueueHandle MtapiStatus) → Finds pool id r → is_ok r ≡ false → NoneLive (slot_value pool) (HasId id)
-not_found pool id (Ok q) found failed = absurd (false≢true (sym failed))
-not_found pool id (Err ErrQueueInvalid) found failed = found
-not_found pool id (Err _) found failed = absurd found
 
 -- what a put answers, by what is refused
 pub put_refused : (h : HeldQueue) (status : MtapiStatus) → first (put_refusals h.queue) ≡ Some status → put_reply (Some h) ≡ Err status

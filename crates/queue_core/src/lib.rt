@@ -7,10 +7,12 @@ mod queue;
 mod tests;
 mod worked;
 
-ghost use Rattle.std.specs.Prelude.{◌≡◌, ◌≤◌, ◌<◌, true, false, replicate, IfOk, OnOk, OnErr};
+ghost use Rattle.std.specs.Prelude.{◌≡◌, ◌≤◌, ◌<◌, true, false, replicate, IfSome, IsNone, IfOk, OnOk, OnErr};
+ghost use Rattle.mtapi_values.specs.declared.statuses.MtapiStatus.TheVariants.{ErrQueueExists};
+ghost use Rattle.handle_pool.specs.Walks.{SomeLive, NoneLive};
 ghost use Rattle.std.specs.Option.{option_map};
-ghost use Rattle.handle_pool.specs.Slots.{slot_value, slot_of, free_slot, without, changed};
-ghost use Rattle.queue_core.specs.Held.{new_queue, Creates, Finds, live_reply, with_opened, with_task, without_task, put_reply, NoTaskAt, IsUnendedTask, first_task, facts_of, FindsIn, AreRetiredEmpty};
+ghost use Rattle.handle_pool.specs.Slots.{slot_value, slot_of, free_slot, without, changed, live_count};
+ghost use Rattle.queue_core.specs.Held.{new_queue, Creates, Finds, live_reply, with_opened, with_task, without_task, put_reply, NoTaskAt, IsUnendedTask, first_task, facts_of, FindsIn, AreRetiredEmpty, HasId};
 
 pub use facts::QueueFacts;
 use handle_pool::Pool;
@@ -75,12 +77,19 @@ impl Queues {
         let _ = self.pool.max();
     }
 
-    /// Makes an enabled queue with no tasks. `ErrQueueExists` where a live queue has the id, then `ErrQueueLimit` where there is no room.
+    /// Makes an enabled queue with no tasks.
+    ///
+    /// Stands for `mtapi_queue_create`.
+    ///
+    /// # Errors
+    ///
+    /// - `ErrQueueExists`: a live queue has the id.
+    /// - `ErrQueueLimit`: every place is in use or has retired.
     pub fn create(&mut self, id: u32, job: u32, attr: QueueAttr) -> Result<QueueHandle, MtapiStatus>
         ensures { Creates self.old (new_queue id job attr) result self.new }
     {
-        if self.get(id).is_ok() {
-            return Err(MtapiStatus::ErrQueueExists);
+        if let Some(refusal) = self.create_refusal(id) {
+            return Err(refusal);
         }
         let Ok(handle) = self.pool.insert(StoredQueue::new(id, job, &attr)) else {
             return Err(MtapiStatus::ErrQueueLimit);
@@ -88,7 +97,32 @@ impl Queues {
         Ok(QueueHandle(handle))
     }
 
-    /// The live queue of an id. `ErrQueueInvalid` where there is none.
+    /// Tells why a create of this id is refused, whether there is room or not: `ErrQueueExists`
+    /// where a live queue has the id, else None. It walks the places of the queues.
+    pub fn create_refusal(&self, id: u32) -> Option<MtapiStatus>
+        ensures exists { IfSome result (λ c. (c ≡ ErrQueueExists) × SomeLive (slot_value self.now.pool) (HasId id)) }
+        ensures new_id { IsNone result → NoneLive (slot_value self.now.pool) (HasId id) }
+    {
+        match self.get(id) {
+            Ok(_) => Some(MtapiStatus::ErrQueueExists),
+            Err(_) => None,
+        }
+    }
+
+    /// Tells how many queues are live.
+    pub fn live(&self) -> u32
+        ensures { result ≡ live_count self.now.pool }
+    {
+        self.pool.live()
+    }
+
+    /// Finds the live queue of an id. It walks the places of the queues.
+    ///
+    /// Stands for `mtapi_queue_get`.
+    ///
+    /// # Errors
+    ///
+    /// - `ErrQueueInvalid`: no live queue has the id.
     pub fn get(&self, id: u32) -> Result<QueueHandle, MtapiStatus>
         ensures { Finds self.now.pool id result }
     {
@@ -98,7 +132,13 @@ impl Queues {
         }
     }
 
-    /// Has the tasks of a queue begin again. `ErrQueueInvalid` where it isn't live.
+    /// Has the tasks of a queue begin again. An enabled queue stays as it is.
+    ///
+    /// Stands for `mtapi_queue_enable`.
+    ///
+    /// # Errors
+    ///
+    /// - `ErrQueueInvalid`: the queue isn't live.
     pub fn enable(&mut self, q: QueueHandle) -> Result<(), MtapiStatus>
         ensures reply { result ≡ live_reply (slot_value self.old.pool q.0) }
         ensures new { self.new ≡ record self.old { pool = changed self.old.pool q.0 (with_opened true) } }
@@ -106,7 +146,13 @@ impl Queues {
         self.set_enabled(q, true)
     }
 
-    /// Has no further task of a queue begin. `ErrQueueInvalid` where it isn't live.
+    /// Has no further task of a queue begin. A disabled queue stays as it is.
+    ///
+    /// Stands for `mtapi_queue_disable`, without the end of the tasks that wait.
+    ///
+    /// # Errors
+    ///
+    /// - `ErrQueueInvalid`: the queue isn't live.
     pub fn disable(&mut self, q: QueueHandle) -> Result<(), MtapiStatus>
         ensures reply { result ≡ live_reply (slot_value self.old.pool q.0) }
         ensures new { self.new ≡ record self.old { pool = changed self.old.pool q.0 (with_opened false) } }
@@ -125,7 +171,13 @@ impl Queues {
         Ok(())
     }
 
-    /// Gives up a queue and forgets its tasks. `ErrQueueInvalid` where it isn't live.
+    /// Gives up a queue and forgets its tasks.
+    ///
+    /// Stands for `mtapi_queue_delete`, without the end of the tasks that wait.
+    ///
+    /// # Errors
+    ///
+    /// - `ErrQueueInvalid`: the queue isn't live.
     pub fn delete(&mut self, q: QueueHandle) -> Result<(), MtapiStatus>
         ensures reply { result ≡ live_reply (slot_value self.old.pool q.0) }
         ensures ok { OnOk result (self.new ≡ record self.old { pool = without self.old.pool q.0 }) }
@@ -138,8 +190,16 @@ impl Queues {
         Ok(())
     }
 
-    /// Puts a task behind the others. `ErrQueueInvalid` where the queue isn't live, then `ErrQueueDisabled` where it is disabled and doesn't
-    /// retain, then `ErrQueueLimit` where its unended tasks equal its limit. No unended task of any live queue may have the task's slot.
+    /// Puts a task behind the others of a queue. No unended task of any live queue may have the
+    /// task's slot.
+    ///
+    /// Stands for what `mtapi_task_enqueue` does to a queue.
+    ///
+    /// # Errors
+    ///
+    /// - `ErrQueueInvalid`: the queue isn't live.
+    /// - `ErrQueueDisabled`: it is disabled, and doesn't retain.
+    /// - `ErrQueueLimit`: its unended tasks equal its limit.
     pub fn put(&mut self, q: QueueHandle, t: TaskHandle) -> Result<(), MtapiStatus>
         requires slot { slot_of t.0 < self.old.tasks }
         requires alone { NoTaskAt (slot_of t.0) self.old.pool }
@@ -168,7 +228,8 @@ impl Queues {
         self.tasks.remove(slot_of(q.0), t.0);
     }
 
-    /// The unended task of a live queue that was put first.
+    /// Finds the unended task of a live queue that was put first. None where the queue isn't live,
+    /// or holds no task.
     pub fn head(&self, q: QueueHandle) -> Option<TaskHandle>
         ensures { option_map (λ (t : TaskHandle). t.0) result ≡ first_task (slot_value self.now.pool q.0) }
     {
@@ -181,7 +242,7 @@ impl Queues {
         }
     }
 
-    /// A live queue at a glance.
+    /// Shows a live queue at a glance. None exactly where it isn't live.
     pub fn facts(&self, q: QueueHandle) -> Option<QueueFacts>
         ensures { result ≡ option_map facts_of (slot_value self.now.pool q.0) }
     {

@@ -3,11 +3,11 @@
 use super::*;
 use std::test::Fail;
 
-const FIRST: TaskHandle = TaskHandle(4294967296);
+const FIRST: TaskHandle = TaskHandle(SPAN);
 
-const SECOND: TaskHandle = TaskHandle(4294967297);
+const SECOND: TaskHandle = TaskHandle(SPAN + 1);
 
-const THIRD: TaskHandle = TaskHandle(4294967298);
+const THIRD: TaskHandle = TaskHandle(SPAN + 2);
 
 #[test]
 fn worked_rows(_rt: HostRuntime) {

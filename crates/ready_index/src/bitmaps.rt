@@ -30,6 +30,10 @@ impl Model for Bitmap {
 
 impl Bitmap {
     /// An empty set with room for the numbers below max.
+    ///
+    /// # Errors
+    ///
+    /// - `AllocError`: memory ran out.
     pub fn new(alloc: Global, max: u32) -> Result<Bitmap, AllocError>
         requires { max ≤ 65536 }
         ensures empty { IfOk result (λ b. (number : ℕ) → has_bit b number ≡ false) }
@@ -69,7 +73,7 @@ impl Bitmap {
         self.top.clear(number / 64 / 64);
     }
 
-    /// Some number of the set, by at most three words.
+    /// Some number of the set, by at most three words; none exactly where it is empty.
     pub fn first<L: Ledger>(&self, steps: &mut Steps<L>) -> Option<u32>
         ensures found { IfSome result (λ number. has_bit self.now number ≡ true) }
         ensures none { IfNone result ((number : ℕ) → has_bit self.now number ≡ false) }

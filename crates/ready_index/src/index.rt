@@ -36,6 +36,10 @@ impl Model for ReadyIndex {
 
 impl ReadyIndex {
     /// An index without marks, for slots below max: 1 to 65,536 slots, 1 to 16 workers and 1 to 8 priorities.
+    ///
+    /// # Errors
+    ///
+    /// - `AllocError`: memory ran out.
     pub fn new(
         alloc: Global,
         max: u32,
@@ -84,7 +88,10 @@ impl ReadyIndex {
         self.marks[slot as usize].is_some()
     }
 
-    /// The least priority of the marks for this worker, and a slot that has such a mark. At most three words are read for each priority.
+    /// The least priority of the marks for this worker, and a slot that has such a mark;
+    /// none exactly where no mark is for it. At most three words are read for each priority, by
+    /// the caller's counter. Reads on a counter that a body made for itself, as `first_for` does,
+    /// aren't bounded.
     pub fn first<L: Ledger>(&self, worker: u32, steps: &mut Steps<L>) -> Option<(u32, u32)>
         requires { worker < self.now.workers }
         ensures none { IsNone result ↔ HasNoneFor worker self.now.marks }

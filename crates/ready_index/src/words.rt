@@ -28,6 +28,10 @@ impl Model for Words {
 
 impl Words {
     /// So many words without a bit.
+    ///
+    /// # Errors
+    ///
+    /// - `AllocError`: memory ran out.
     pub fn new(alloc: Global, count: usize) -> Result<Words, AllocError>
         ensures empty { IfOk result (λ w. (bit : ℕ) → has_bit w bit ≡ false) }
         ensures words { IfOk result (λ w. (word : ℕ) → is_empty_word w word ≡ true) }

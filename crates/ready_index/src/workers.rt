@@ -25,6 +25,10 @@ impl Model for WorkerSets {
 
 impl WorkerSets {
     /// An empty set for each priority, with room for the slots below max.
+    ///
+    /// # Errors
+    ///
+    /// - `AllocError`: memory ran out.
     pub fn new(alloc: Global, max: u32, priorities: u32) -> Result<WorkerSets, AllocError>
         requires { max ≤ 65536 }
         ensures empty { IfOk result (λ w. (priority slot : ℕ) → has_slot w priority slot ≡ false) }
@@ -60,7 +64,8 @@ impl WorkerSets {
         self.by_priority[priority as usize].remove(slot);
     }
 
-    /// The least priority that has a slot, and a slot of it. At most three words are read for each priority.
+    /// The least priority that has a slot, and a slot of it; none exactly where none has one. At
+    /// most three words are read for each priority.
     pub fn first<L: Ledger>(&self, steps: &mut Steps<L>) -> Option<(u32, u32)>
         requires { length self.now < 2 ^ 32 }
         ensures found { IfSome result (λ r. has_slot self.now r.0 r.1 ≡ true) }

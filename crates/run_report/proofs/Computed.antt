@@ -9,6 +9,7 @@ use Rattle.mtapi_machine.specs.WorkRows.{is_ready, can_take, has_better}
 use Rattle.mtapi_machine.specs.Legal.{after_from}
 use Rattle.mtapi_machine.specs.Worked.{one_task}
 use Rattle.workload_file.specs.Deeds.{is_begin}
+use Rattle.sched_workers.specs.Parts.{has_begin}
 use Rattle.run_report.specs.Replies.{decided, further_told}
 use Rattle.mtapi_machine.specs.Ends.{end_at}
 use Rattle.run_report.specs.Tasks.{numbers_text, end_text}
@@ -17,5 +18,5 @@ use Rattle.run_report.specs.Report.{report}
 use Rattle.run_report.specs.Worked.{WorkedReports}
 
 pub worked_reports : WorkedReports
-unfolding digits report one_task after_from live_of issue change listed issued_at retired is_full may_issue fits answer_of has_worker end_each is_ready can_take has_better is_begin decided further_told end_at numbers_text end_text shown_of task_lines_of task_name call_lines_of
+unfolding digits report one_task after_from live_of issue change listed issued_at retired is_full may_issue fits answer_of has_worker end_each is_ready can_take has_better is_begin has_begin decided further_told end_at numbers_text end_text shown_of task_lines_of task_name call_lines_of
 worked_reports = record { sum = refl; full = refl; cancelled = refl; locks_shown = refl; handed_out_shown = refl }

@@ -1,11 +1,9 @@
 -- Every task that hasn't begun and passes ends, one handle after another.
 use Rattle.std.proofs.Common.{◌≡◌, ℕ, ◌+◌, ◌<◌, ◌≤◌, length, get_or, take, Bool, true, false, ◌&&◌, cond, List, [], ◌∷◌, ◌++◌, Option, Some, None, refl, sym, ◌∙◌, ap, arith}
-use Rattle.std.specs.Prelude.{◌==◌, ◌||◌, is_some}
+use Rattle.std.specs.Prelude.{◌==◌, ◌||◌, is_some, nat_eq}
 use Rattle.std.specs.List.{list_any}
 use Rattle.std.proofs.lemmas.Grind.{take_at_read}
 use Rattle.std.proofs.lemmas.List.{take_all}
-use Rattle.std.specs.Ordering.{nat_cmp, is_eq}
-use Rattle.std.specs.BTreeMap.{is_at}
 use Rattle.std.specs.Map.{lookup, keys_of}
 use Rattle.std.proofs.lemmas.Bool.Decides.{nat_tests}
 use Rattle.mtapi_values.specs.declared.ends.TaskEnd.{TaskEnd}
@@ -44,7 +42,7 @@ among_more h k (x ∷ ks) = by (x == h) (among_more h k ks)
 pub ends_none : (p : Unstarted → Bool) (e : TaskEnd) (v : Seen) → SameAs v (ends_among [] p e v)
 ends_none p e v = record { ends = λ h. refl; unstarted = λ h. refl; actions = refl; queues = λ h. refl }
 
-at_key : (h k : ℕ) → is_eq (nat_cmp h k) ≡ true → (k == h) ≡ true
+at_key : (h k : ℕ) → nat_eq h k ≡ true → (k == h) ≡ true
 at_key h k e = grind (arith, nat_tests)
 
 same_handle : (a b : ℕ) → (a == b) ≡ true → a ≡ b
@@ -153,20 +151,20 @@ ends_all p e v ks covers = record {
     by h (Some t) is out r = λ i. cond (covers h (ap is_some is) i && holds p (v.unstarted h)) out r
 
 -- the handles are the keys of what hasn't begun
-keys_cover : {X : Type 0} (es : List (ℕ × X)) (h : ℕ) → is_some (lookup (is_at (nat_cmp h)) es) ≡ true → among h (keys_of es) ≡ true
+keys_cover : {X : Type 0} (es : List (ℕ × X)) (h : ℕ) → is_some (lookup (nat_eq h) es) ≡ true → among h (keys_of es) ≡ true
 keys_cover [] h e = absurd (cc)
-keys_cover (x ∷ es) h e = by (is_at (nat_cmp h) x.0) refl e (keys_cover es h)
+keys_cover (x ∷ es) h e = by (nat_eq h x.0) refl e (keys_cover es h)
   where
     or_true : (b : Bool) → (b || true) ≡ true
     or_true true = refl
     or_true false = refl
 
-    by : (b : Bool) → is_at (nat_cmp h) x.0 ≡ b → is_some (cond b (Some x.1) (lookup (is_at (nat_cmp h)) es)) ≡ true → (is_some (lookup (is_at (nat_cmp h)) es) ≡ true → among h (keys_of es) ≡ true)
+    by : (b : Bool) → nat_eq h x.0 ≡ b → is_some (cond b (Some x.1) (lookup (nat_eq h) es)) ≡ true → (is_some (lookup (nat_eq h) es) ≡ true → among h (keys_of es) ≡ true)
         → ((x.0 == h) || among h (keys_of es)) ≡ true
     by true is found more = λ i. (at_key h x.0 is i) || among h (keys_of es)
     by false is found more = ap (λ b. (x.0 == h) || b) (more found) ∙ or_true (x.0 == h)
 
-pub ends_keys : (p : Unstarted → Bool) (e : TaskEnd) (v : Seen) (es : List (ℕ × Unstarted)) (all : List ℕ) (i : ℕ) (new : Seen) → length all ≤ i → all ≡ keys_of es → ((h : ℕ) → v.unstarted h ≡ lookup (is_at (nat_cmp h)) es)
+pub ends_keys : (p : Unstarted → Bool) (e : TaskEnd) (v : Seen) (es : List (ℕ × Unstarted)) (all : List ℕ) (i : ℕ) (new : Seen) → length all ≤ i → all ≡ keys_of es → ((h : ℕ) → v.unstarted h ≡ lookup (nat_eq h) es)
     → SameAs new (ends_among (take i all) p e v) → SameAs new (ends_where p e v)
 ends_keys p e v es all i new past is read so =
     path_same new _

@@ -11,3 +11,4 @@ pub mod Parts
 pub mod Computed
 mod TotalSteps
 mod Summaries
+pub mod RunReplies

@@ -1,13 +1,36 @@
 -- Statements with their replies, one after another.
-use Rattle.std.proofs.Common.{zero, suc, Some, None, Result, Ok, Err, ◌≡◌, ℕ, ◌+◌, ◌<◌, ◌≤◌, Bool, true, false, cond, List, [], ◌∷◌, ◌++◌, Option, refl, sym, ◌∙◌, ap, arith, length, get_or, drop, append_assoc, length-drop}
-use Rattle.std.proofs.lemmas.List.{drop_more, append-nil, nil_from_length, drop-drop}
+use Rattle.std.proofs.Common.{zero, suc, Some, None, Result, Ok, Err, ◌≡◌, ℕ, ◌+◌, ◌<◌, ◌≤◌, Bool, true, false, cond, List, [], ◌∷◌, ◌++◌, Option, refl, sym, ◌∙◌, ap, arith, length, get_or, take, drop, append_assoc, length-drop}
+use denote.Ref.{Bor}
+use Rattle.run_report.specs.Replies.{nows}
+use Rattle.std.proofs.lemmas.List.{map-append, length-map, get_or-map, drop-map, drop_more, append-nil, nil_from_length, drop-drop}
 use Rattle.std.specs.Prelude.{◌==◌, slice_get, OnOk}
 use Rattle.mtapi_values.specs.declared.ends.TaskEnd.{TaskEnd}
 use Rattle.workload_file.specs.declared.workload.Statement.{Statement}
 use Rattle.workload_file.specs.Reading.{name_text}
 use Rattle.mtapi_machine.specs.declared.replies.Reply.{Reply}
-use Rattle.run_report.specs.Places.{first_of_two, place_if, is_found, place_from, name_of, name_at, names_by}
+use Rattle.std.specs.List.{list_any, take-map}
+use Rattle.std.proofs.lemmas.Bool.{or_parts}
+use Rattle.run_report.specs.declared.sorts.Shown.{Shown}
+use Rattle.run_report.specs.declared.sorts.Shown.TheVariants as shows
+use Rattle.run_report.specs.Places.{first_of_two, place_if, is_found, place_from, name_of, name_at, names_by, is_given, shows_given, ShowsNames}
 use Rattle.run_report.specs.Calls.{makes, shown_of, is_task, task_line, task_lines_of, task_name, call_line, call_lines_of}
+
+-- the replies behind references, one by one
+pub nows_push : (replies : List (Bor Reply)) (r : Bor Reply) → nows (replies ++ r ∷ []) ≡ nows replies ++ r.now ∷ []
+nows_push replies r = map-append (λ r. r.now) replies (r ∷ [])
+
+pub nows_past : (replies : List (Bor Reply)) (i : ℕ) → length replies ≤ i → length (nows replies) ≤ i
+nows_past replies i past = omega (arith, length-map replies (λ (r : Bor Reply). r.now))
+
+pub nows_room : (replies : List (Bor Reply)) (i : ℕ) → i < length replies → i < length (nows replies)
+nows_room replies i room = omega (arith, length-map replies (λ (r : Bor Reply). r.now))
+
+pub nows_at : (replies : List (Bor Reply)) (i : ℕ) (r : Bor Reply) → i < length replies → r ≡ get_or replies i r → r.now ≡ get_or (nows replies) i r.now
+nows_at replies i r room at = ap (λ (q : Bor Reply). q.now) at ∙ sym (get_or-map (λ (q : Bor Reply). q.now) replies i r r.now room)
+
+-- the replies to the statements of a part, behind their references
+pub nows_part : (replies : List (Bor Reply)) (before count : ℕ) → nows (take count (drop before replies)) ≡ take count (drop before (nows replies))
+nows_part replies before count = sym (take-map (λ (r : Bor Reply). r.now) count (drop before replies)) ∙ ap (take count) (sym (drop-map (λ (r : Bor Reply). r.now) before replies))
 
 nothing_left : {A : Type 0} (l : List A) (i : ℕ) → length l ≤ i → drop i l ≡ []
 nothing_left l i past = nil_from_length (drop i l) (omega (arith, length-drop i l))
@@ -147,7 +170,24 @@ on_ok (Ok x) P Q f h = f h
 on_ok (Err e) P Q f h = tt
 
 -- the lines of calls, where the names are found by places
-pub call_lines-named : (part : List ℕ) (ss : List Statement) (rs : List Reply) (places : ℕ → Option ℕ) (out new : List ℕ) → ((h : ℕ) → places h ≡ place_from 0 ss rs h)
-    → new ≡ out ++ call_lines_of part (names_by ss places) ss rs → new ≡ out ++ call_lines_of part (task_name ss rs) ss rs
-call_lines-named part ss rs places out new is made =
-    made ∙ ap (λ (f : ℕ → List ℕ). out ++ call_lines_of part f ss rs) (λ j h. (ap (name_at ss) (is h) ∙ named ss h 0 ss rs refl) j)
+pub named_lines : (ss : List Statement) (rs : List Reply) (places : ℕ → Option ℕ) → ((h : ℕ) → places h ≡ place_from 0 ss rs h) → ShowsNames ss rs places
+named_lines ss rs places is part = ap (λ (f : ℕ → List ℕ). call_lines_of part f ss rs) (λ j h. (ap (name_at ss) (is h) ∙ named ss h 0 ss rs refl) j)
+
+-- a line that shows no given task is the same whatever the names are
+unnamed_line : (part : List ℕ) (f g : ℕ → List ℕ) (line : ℕ) (shown : Shown) (r : Reply) → is_given shown ≡ false → call_line part f line shown r ≡ call_line part g line shown r
+unnamed_line part f g line shows.Task r plain = refl
+unnamed_line part f g line shows.Nothing r plain = refl
+unnamed_line part f g line shows.Number r plain = refl
+unnamed_line part f g line shows.Given r plain = absurd (cc)
+unnamed_line part f g line shows.Status r plain = refl
+
+unnamed : (part : List ℕ) (f g : ℕ → List ℕ) (ss : List Statement) (rs : List Reply) → list_any shows_given ss ≡ false → call_lines_of part f ss rs ≡ call_lines_of part g ss rs
+unfolding call_lines_of
+unnamed part f g [] rs plain = refl
+unnamed part f g (s ∷ ss) [] plain = refl
+unnamed part f g (s ∷ ss) (r ∷ rs) plain =
+    let both = or_parts (shows_given s) (list_any shows_given ss) plain in
+    λ j. unnamed_line part f g s.line (shown_of s.deed) r both.0 j ++ unnamed part f g ss rs both.1 j
+
+pub unnamed_lines : (ss : List Statement) (rs : List Reply) (places : ℕ → Option ℕ) → list_any shows_given ss ≡ false → ShowsNames ss rs places
+unnamed_lines ss rs places plain part = unnamed part (names_by ss places) (task_name ss rs) ss rs plain

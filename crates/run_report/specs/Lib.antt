@@ -8,3 +8,4 @@ pub mod Seen
 pub mod Standings
 pub mod Worked
 pub mod Summary
+pub mod RunReplies

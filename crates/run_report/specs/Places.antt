@@ -1,9 +1,11 @@
 -- The places at which the tasks of a part were made, by their handles.
-use Rattle.std.specs.Prelude.{ℕ, ◌+◌, ◌==◌, List, [], ◌∷◌, Bool, false, Option, Some, None, slice_get, if◌then◌else◌}
+use Rattle.std.specs.Prelude.{◌≡◌, true, ℕ, ◌+◌, ◌==◌, List, [], ◌∷◌, Bool, false, Option, Some, None, slice_get, if◌then◌else◌}
 use Rattle.workload_file.specs.declared.workload.Statement.{Statement}
 use Rattle.workload_file.specs.Reading.{name_text}
 use Rattle.mtapi_machine.specs.declared.replies.Reply.{Reply}
-use Rattle.run_report.specs.Calls.{makes}
+use Rattle.run_report.specs.declared.sorts.Shown.{Shown}
+use Rattle.run_report.specs.declared.sorts.Shown.TheVariants as shows
+use Rattle.run_report.specs.Calls.{makes, shown_of, task_name, call_lines_of}
 
 -- the first value, or else the second
 abbrev pub first_of_two : Option ℕ → Option ℕ → Option ℕ
@@ -39,3 +41,15 @@ name_at ss (Some place) = name_of (slice_get ss place)
 -- the name of the task of a handle, by the place at which it was made
 abbrev pub names_by : List Statement → (ℕ → Option ℕ) → ℕ → List ℕ
 names_by ss places h = name_at ss (places h)
+
+-- it shows the task that it was given
+abbrev pub is_given : Shown → Bool
+is_given shows.Given = true
+is_given _ = false
+
+abbrev pub shows_given : Statement → Bool
+shows_given s = is_given (shown_of s.deed)
+
+-- by these places the lines of the calls are as they have to be
+abbrev pub ShowsNames : List Statement → List Reply → (ℕ → Option ℕ) → Type 0
+ShowsNames ss rs places = (part : List ℕ) → call_lines_of part (names_by ss places) ss rs ≡ call_lines_of part (task_name ss rs) ss rs

@@ -1,12 +1,16 @@
 -- The reply to each statement of a run.
-use Rattle.std.specs.Prelude.{ℕ, ◌+◌, ◌==◌, ◌&&◌, Bool, not, List, [], ◌∷◌, drop, if◌then◌else◌}
-use Rattle.std.specs.List.{list_any}
+use Rattle.std.specs.Prelude.{ℕ, ◌+◌, ◌==◌, ◌&&◌, Bool, not, List, [], ◌∷◌, length, take, drop, map, if◌then◌else◌}
+use denote.Ref.{Bor}
 use Rattle.workload_file.specs.declared.workload.Statement.{Statement}
 use Rattle.workload_file.specs.declared.workload.Part.{Part}
-use Rattle.workload_file.specs.Deeds.{is_begin}
 use Rattle.mtapi_machine.specs.declared.replies.Reply.{Reply}
 use Rattle.mtapi_machine.specs.Kept.{is_pending}
 use Rattle.mtapi_machine.specs.Legal.{NodeEntry}
+use Rattle.sched_workers.specs.Parts.{has_begin}
+
+-- the replies behind a list of references
+abbrev pub nows : List (Bor Reply) → List Reply
+nows replies = map (λ r. r.now) replies
 
 -- the entry decides a call of this seat: its reply isn't Pending
 abbrev pub decides : ℕ → NodeEntry → Bool
@@ -17,15 +21,11 @@ unfoldable pub decided : ℕ → List NodeEntry → List Reply
 decided who [] = []
 decided who (e ∷ es) = if decides who e then e.reply ∷ decided who es else decided who es
 
--- one of the statements is `begin`
-abbrev pub has_begin : List Statement → Bool
-has_begin statements = list_any (λ s. is_begin s.deed) statements
-
 -- how many calls main makes before those of its statements: it initializes, and releases at once where no statement is `begin`
 abbrev pub calls_before : List Statement → ℕ
 calls_before statements = if has_begin statements then 1 else 2
 
--- a part, and the replies to its statements in order
+-- a part, and the replies to its statements, one for each, in order
 pub record Told : Type 0 where
   pub name : List ℕ
   pub statements : List Statement
@@ -33,7 +33,7 @@ pub record Told : Type 0 where
 
 -- a part whose caller has this seat and makes so many calls before those of its statements
 abbrev pub reported : ℕ → ℕ → List NodeEntry → Part → Told
-reported who before es p = record { name = p.name; statements = p.statements; replies = drop before (decided who es) }
+reported who before es p = record { name = p.name; statements = p.statements; replies = take (length p.statements) (drop before (decided who es)) }
 
 -- the parts of further callers, from this seat on: each caller makes one call before those of its statements, to enter
 unfoldable pub further_told : ℕ → List NodeEntry → List Part → List Told

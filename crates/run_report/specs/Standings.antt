@@ -1,7 +1,6 @@
 -- What a table of a run shows of what decides how tasks end.
-use Rattle.std.specs.Prelude.{◌≡◌, ℕ, ◌==◌, ◌&&◌, suc, Bool, List, [], ◌∷◌, Option, Some, None, option_map, if◌then◌else◌}
-use Rattle.std.specs.Ordering.{nat_cmp}
-use Rattle.std.specs.BTreeMap.{get}
+use Rattle.std.specs.Prelude.{◌≡◌, ℕ, ◌==◌, ◌&&◌, suc, Bool, List, [], ◌∷◌, Option, Some, None, option_map, if◌then◌else◌, nat_eq}
+use Rattle.std.specs.HashMap.{get}
 use Rattle.mtapi_values.specs.Masks.{in_mask}
 use Rattle.mtapi_objects.specs.Actions.{Action, has_enabled_job, some_below}
 use Rattle.run_report.specs.declared.changes.Unstarted.{Unstarted}
@@ -12,7 +11,7 @@ use Rattle.run_report.specs.declared.standings.Passing.TheVariants.{Left, Of, Sh
 use Rattle.run_report.specs.Seen.{Seen, pairs, is_left, is_of, is_shut}
 
 abbrev pub seen_in : Standings → Seen
-seen_in t = record { ends = get nat_cmp t.ended; unstarted = get nat_cmp t.unstarted; actions = pairs t.actions.items; queues = get nat_cmp t.queues }
+seen_in t = record { ends = get nat_eq t.ended; unstarted = get nat_eq t.unstarted; actions = pairs t.actions.items; queues = get nat_eq t.queues }
 
 -- the same is seen
 pub record SameAs (v w : Seen) : Type 0 where

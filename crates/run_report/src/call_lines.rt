@@ -1,9 +1,10 @@
 //! The lines of the calls of a part.
-ghost use Rattle.std.specs.Prelude.{◌≡◌, ◌++◌, OnOk};
-ghost use Rattle.std.specs.Ordering.{nat_cmp};
-ghost use Rattle.std.specs.BTreeMap.{get};
+ghost use Rattle.std.specs.List.{list_any};
+ghost use Rattle.std.specs.Prelude.{◌≡◌, ◌++◌, OnOk, IfOk, nat_eq};
+ghost use Rattle.std.specs.HashMap.{get};
+ghost use Rattle.run_report.specs.Replies.{nows};
 ghost use Rattle.run_report.specs.Calls.{shown_of, task_name, status_of, number_in, given_in, marked_line, call_line, call_lines_of};
-ghost use Rattle.run_report.specs.Places.{names_by};
+ghost use Rattle.run_report.specs.Places.{names_by, is_given, shows_given, ShowsNames};
 
 use crate::places::{places_of, task_name};
 use crate::sorts::{Shown, shown_of};
@@ -11,7 +12,7 @@ use crate::text::push_marked;
 use mtapi_machine::Reply;
 use number_text::push_whole;
 use std::alloc::{AllocError, Global};
-use std::collections::BTreeMap;
+use std::collections::HashMap;
 use workload_file::Statement;
 
 fn push_status(
@@ -54,11 +55,11 @@ fn push_given(
     out: &mut Vec<u8>,
     part: &[u8],
     statements: &[Statement],
-    places: &BTreeMap<u64, usize>,
+    places: &HashMap<u64, usize>,
     line: u64,
     reply: &Reply,
 ) -> Result<(), AllocError>
-    ensures { OnOk result (out.new.items ≡ out.old.items ++ marked_line 61 part.now line (given_in (names_by statements.now (get nat_cmp places.now)) reply.now)) }
+    ensures { OnOk result (out.new.items ≡ out.old.items ++ marked_line 61 part.now line (given_in (names_by statements.now (get nat_eq places.now)) reply.now)) }
 {
     match reply {
         Reply::Given(task, _) => push_marked(
@@ -78,11 +79,11 @@ fn push_call(
     out: &mut Vec<u8>,
     part: &[u8],
     statements: &[Statement],
-    places: &BTreeMap<u64, usize>,
+    places: &HashMap<u64, usize>,
     statement: &Statement,
     reply: &Reply,
 ) -> Result<(), AllocError>
-    ensures { OnOk result (out.new.items ≡ out.old.items ++ call_line part.now (names_by statements.now (get nat_cmp places.now)) statement.now.line (shown_of statement.now.deed) reply.now) }
+    ensures { OnOk result (out.new.items ≡ out.old.items ++ call_line part.now (names_by statements.now (get nat_eq places.now)) statement.now.line (shown_of statement.now.deed) reply.now) }
 {
     match shown_of(&statement.deed) {
         Shown::Task => Ok(()),
@@ -104,10 +105,10 @@ fn push_calls(
     out: &mut Vec<u8>,
     part: &[u8],
     statements: &[Statement],
-    places: &BTreeMap<u64, usize>,
-    replies: &[Reply],
+    places: &HashMap<u64, usize>,
+    replies: &[&Reply],
 ) -> Result<(), AllocError>
-    ensures { OnOk result (out.new.items ≡ out.old.items ++ call_lines_of part.now (names_by statements.now (get nat_cmp places.now)) statements.now replies.now) }
+    ensures { OnOk result (out.new.items ≡ out.old.items ++ call_lines_of part.now (names_by statements.now (get nat_eq places.now)) statements.now (nows replies.now)) }
 {
     for (i, statement) in statements.iter().enumerate() {
         let Some(reply) = replies.get(i) else {
@@ -118,16 +119,44 @@ fn push_calls(
     Ok(())
 }
 
+fn is_given(shown: Shown) -> bool
+    ensures { result ≡ is_given shown }
+{
+    matches!(shown, Shown::Given)
+}
+
+fn any_given(statements: &[Statement]) -> bool
+    ensures { result ≡ list_any shows_given statements.now }
+{
+    statements.iter().any(|s| is_given(shown_of(&s.deed)))
+}
+
+/// The place at which each task was made, where a line shows the name of one; otherwise none.
+#[tactic(auto, using(crate::proofs::Zips::named_lines, crate::proofs::Zips::unnamed_lines))]
+fn places_shown(
+    alloc: Global,
+    statements: &[Statement],
+    replies: &[&Reply],
+) -> Result<HashMap<u64, usize>, AllocError>
+    ensures { IfOk result (λ places. ShowsNames statements.now (nows replies.now) (get nat_eq places)) }
+{
+    if any_given(statements) {
+        places_of(alloc, statements, replies)
+    } else {
+        Ok(HashMap::new(alloc))
+    }
+}
+
 /// The lines of the calls of these statements, one at most for each reply.
 pub fn push_call_lines(
     alloc: Global,
     out: &mut Vec<u8>,
     part: &[u8],
     statements: &[Statement],
-    replies: &[Reply],
+    replies: &[&Reply],
 ) -> Result<(), AllocError>
-    ensures { OnOk result (out.new.items ≡ out.old.items ++ call_lines_of part.now (task_name statements.now replies.now) statements.now replies.now) }
+    ensures { OnOk result (out.new.items ≡ out.old.items ++ call_lines_of part.now (task_name statements.now (nows replies.now)) statements.now (nows replies.now)) }
 {
-    let places = places_of(alloc, statements, replies)?;
+    let places = places_shown(alloc, statements, replies)?;
     push_calls(alloc, out, part, statements, &places, replies)
 }

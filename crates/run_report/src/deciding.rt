@@ -1,12 +1,12 @@
 //! The replies to the statements of a part.
-ghost use Rattle.std.specs.Prelude.{◌≡◌, ◌++◌, ◌∷◌, [], OnOk, IfOk, drop, if◌then◌else◌};
-ghost use Rattle.workload_file.specs.Deeds.{is_begin};
+ghost use Rattle.std.specs.Prelude.{◌≡◌, ◌++◌, ◌∷◌, [], OnOk, IfOk, take, drop, if◌then◌else◌};
 ghost use Rattle.mtapi_machine.specs.Kept.{is_pending};
-ghost use Rattle.run_report.specs.Replies.{decides, decided, has_begin, calls_before};
+ghost use Rattle.run_report.specs.Replies.{nows, decides, decided, calls_before};
 
 use mtapi_machine::{Entry, Reply};
+use sched_workers::has_begin;
 use std::alloc::{AllocError, Global};
-use workload_file::{Deed, Part, Statement};
+use workload_file::Part;
 
 fn is_pending(reply: &Reply) -> bool
     ensures { result ≡ is_pending reply.now }
@@ -23,18 +23,23 @@ fn decides(who: u32, entry: &Entry) -> bool
     entry.who == who && !is_pending(&entry.reply)
 }
 
-fn push_if_decides(replies: &mut Vec<Reply>, who: u32, entry: &Entry) -> Result<(), AllocError>
-    ensures { OnOk result (replies.new.items ≡ replies.old.items ++ (if decides who entry.now then entry.now.reply ∷ [] else [])) }
+#[tactic(auto, using(crate::proofs::Zips::nows_push))]
+fn push_if_decides<'a>(
+    replies: &mut Vec<&'a Reply>,
+    who: u32,
+    entry: &'a Entry,
+) -> Result<(), AllocError>
+    ensures { OnOk result (nows replies.new.items ≡ nows replies.old.items ++ (if decides who entry.now then entry.now.reply ∷ [] else [])) }
 {
     if decides(who, entry) {
-        replies.push(entry.reply.again())?;
+        replies.push(&entry.reply)?;
     }
     Ok(())
 }
 
 /// The replies that decide the calls of this seat, in order.
-pub fn decided(alloc: Global, who: u32, entries: &[Entry]) -> Result<Vec<Reply>, AllocError>
-    ensures { IfOk result (λ replies. replies.items ≡ decided who entries.now) }
+pub fn decided(alloc: Global, who: u32, entries: &[Entry]) -> Result<Vec<&Reply>, AllocError>
+    ensures { IfOk result (λ replies. nows replies.items ≡ decided who entries.now) }
 {
     let mut replies = Vec::new(alloc);
     for entry in entries {
@@ -44,7 +49,7 @@ pub fn decided(alloc: Global, who: u32, entries: &[Entry]) -> Result<Vec<Reply>,
 }
 
 /// What is left behind the first ones.
-pub fn behind(replies: &[Reply], count: usize) -> &[Reply]
+fn behind<'a, 'b>(replies: &'b [&'a Reply], count: usize) -> &'b [&'a Reply]
     ensures { result.now ≡ drop count replies.now }
 {
     if count < replies.len() {
@@ -54,20 +59,26 @@ pub fn behind(replies: &[Reply], count: usize) -> &[Reply]
     }
 }
 
-#[tactic(auto, unfolding(workload_file::specs::Deeds::is_begin))]
-fn is_begin(deed: &Deed) -> bool
-    ensures { result ≡ is_begin deed.now }
+/// The first ones.
+fn front<'a, 'b>(replies: &'b [&'a Reply], count: usize) -> &'b [&'a Reply]
+    ensures { result.now ≡ take count replies.now }
 {
-    match deed {
-        Deed::Begin => true,
-        _ => false,
+    if count < replies.len() {
+        &replies[..count]
+    } else {
+        replies
     }
 }
 
-fn has_begin(statements: &[Statement]) -> bool
-    ensures { result ≡ has_begin statements.now }
+/// The replies to so many statements, among those of a seat that made so many calls before theirs.
+pub fn replies_to<'a, 'b>(
+    replies: &'b [&'a Reply],
+    before: usize,
+    statements: usize,
+) -> &'b [&'a Reply]
+    ensures { result.now ≡ take statements (drop before replies.now) }
 {
-    statements.iter().any(|s| is_begin(&s.deed))
+    front(behind(replies, before), statements)
 }
 
 /// How many calls main makes before those of the statements of its part.

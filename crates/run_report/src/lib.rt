@@ -5,13 +5,12 @@ mod actions;
 mod call_lines;
 mod changes;
 mod deciding;
+mod laws;
 mod page;
 mod places;
 mod sorts;
 mod standings;
 mod summary;
-#[cfg(test)]
-mod summary_tests;
 mod task_lines;
 #[cfg(test)]
 mod tests;
@@ -21,6 +20,7 @@ mod whole;
 mod worked;
 
 pub use changes::{Change, LiveAction, LiveQueue, Unstarted};
+pub use laws::law_report_reads_the_run;
 pub use sorts::Shown;
 pub use standings::{Passing, Standings};
 pub use summary::summary_of;

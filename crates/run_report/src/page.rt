@@ -1,21 +1,20 @@
 //! The lines of the parts of a workload, put together.
-ghost use Rattle.std.specs.Prelude.{◌≡◌, ◌++◌, [], ◌+◌, ◌<◌, ◌^◌, ◌≤◌, length, OnOk, IfOk};
+ghost use Rattle.std.specs.Prelude.{◌≡◌, ◌++◌, [], ◌+◌, ◌<◌, ◌^◌, ◌≤◌, length, OnOk, IfOk, nat_eq};
 ghost use Rattle.std.specs.List.{flat_map};
 ghost use Rattle.run_report.specs.Replies.{reported, further_told, all_told};
 ghost use Rattle.run_report.specs.Calls.{task_lines, call_lines};
-ghost use Rattle.std.specs.Ordering.{nat_cmp};
-ghost use Rattle.std.specs.BTreeMap.{get};
+ghost use Rattle.std.specs.HashMap.{get};
 ghost use Rattle.run_report.specs.Seen.{nothing_seen, seen_from};
 ghost use Rattle.run_report.specs.Report.{parts_told, report_by};
 
 use crate::call_lines::push_call_lines;
-use crate::deciding::{behind, calls_before, decided};
+use crate::deciding::{calls_before, decided, replies_to};
 use crate::standings::standings_of;
 use crate::task_lines::push_task_lines;
 use mtapi_machine::Entry;
 use mtapi_values::TaskEnd;
 use std::alloc::{AllocError, Global};
-use std::collections::BTreeMap;
+use std::collections::HashMap;
 use workload_file::{Part, Workload};
 
 /// The lines of tasks, and those of calls, which stand behind them.
@@ -26,6 +25,7 @@ struct Page {
 }
 
 /// The lines of a part, whose caller has this seat and makes so many calls before those of its statements.
+#[tactic(auto, using(crate::proofs::Zips::nows_part))]
 fn push_part(
     alloc: Global,
     page: &mut Page,
@@ -33,15 +33,15 @@ fn push_part(
     before: usize,
     part: &Part,
     entries: &[Entry],
-    ended: &BTreeMap<u64, TaskEnd>,
+    ended: &HashMap<u64, TaskEnd>,
 ) -> Result<(), AllocError>
-    ensures tasks { OnOk result (page.new.tasks.items ≡ page.old.tasks.items ++ task_lines (get nat_cmp ended.now) (reported who before entries.now part.now)) }
+    ensures tasks { OnOk result (page.new.tasks.items ≡ page.old.tasks.items ++ task_lines (get nat_eq ended.now) (reported who before entries.now part.now)) }
     ensures calls { OnOk result (page.new.calls.items ≡ page.old.calls.items ++ call_lines (reported who before entries.now part.now)) }
 {
     let all = decided(alloc, who, entries)?;
-    let replies = behind(&all, before);
     let name = part.name.as_slice();
     let statements = part.statements.as_slice();
+    let replies = replies_to(&all, before, statements.len());
     push_task_lines(alloc, &mut page.tasks, name, ended, statements, replies)?;
     push_call_lines(alloc, &mut page.calls, name, statements, replies)
 }
@@ -54,10 +54,10 @@ fn push_further(
     who: u32,
     parts: &[Part],
     entries: &[Entry],
-    ended: &BTreeMap<u64, TaskEnd>,
+    ended: &HashMap<u64, TaskEnd>,
 ) -> Result<(), AllocError>
     requires { who + length parts.now < 2 ^ 32 }
-    ensures tasks { OnOk result (page.new.tasks.items ≡ page.old.tasks.items ++ flat_map (task_lines (get nat_cmp ended.now)) (further_told who entries.now parts.now)) }
+    ensures tasks { OnOk result (page.new.tasks.items ≡ page.old.tasks.items ++ flat_map (task_lines (get nat_eq ended.now)) (further_told who entries.now parts.now)) }
     ensures calls { OnOk result (page.new.calls.items ≡ page.old.calls.items ++ flat_map call_lines (further_told who entries.now parts.now)) }
 {
     match parts {
@@ -76,10 +76,10 @@ fn push_all(
     main: u32,
     parts: &[Part],
     entries: &[Entry],
-    ended: &BTreeMap<u64, TaskEnd>,
+    ended: &HashMap<u64, TaskEnd>,
 ) -> Result<(), AllocError>
     requires { main + length parts.now < 2 ^ 32 }
-    ensures tasks { OnOk result (page.new.tasks.items ≡ page.old.tasks.items ++ flat_map (task_lines (get nat_cmp ended.now)) (all_told main entries.now parts.now)) }
+    ensures tasks { OnOk result (page.new.tasks.items ≡ page.old.tasks.items ++ flat_map (task_lines (get nat_eq ended.now)) (all_told main entries.now parts.now)) }
     ensures calls { OnOk result (page.new.calls.items ≡ page.old.calls.items ++ flat_map call_lines (all_told main entries.now parts.now)) }
 {
     match parts {

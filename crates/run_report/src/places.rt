@@ -1,7 +1,7 @@
 //! Where the tasks of a part were made.
-ghost use Rattle.std.specs.Prelude.{◌≡◌, ℕ, OnOk, IfOk};
-ghost use Rattle.std.specs.Ordering.{nat_cmp};
-ghost use Rattle.std.specs.BTreeMap.{get};
+ghost use Rattle.std.specs.Prelude.{◌≡◌, ℕ, OnOk, IfOk, nat_eq};
+ghost use Rattle.std.specs.HashMap.{get};
+ghost use Rattle.run_report.specs.Replies.{nows};
 ghost use Rattle.run_report.specs.Calls.{makes};
 ghost use Rattle.run_report.specs.Places.{first_of_two, place_if, is_found, place_from, names_by};
 
@@ -9,7 +9,7 @@ use crate::sorts::{Shown, shown_of};
 use crate::text::name_of;
 use mtapi_machine::Reply;
 use std::alloc::{AllocError, Global};
-use std::collections::BTreeMap;
+use std::collections::HashMap;
 use workload_file::Statement;
 
 /// The handle of the task that a statement made.
@@ -24,11 +24,11 @@ fn made(statement: &Statement, reply: &Reply) -> Option<u64>
 
 /// A handle keeps its first place.
 fn note(
-    places: &mut BTreeMap<u64, usize>,
+    places: &mut HashMap<u64, usize>,
     place: usize,
     found: Option<u64>,
 ) -> Result<(), AllocError>
-    ensures { OnOk result ((h : ℕ) → get nat_cmp places.new h ≡ first_of_two (get nat_cmp places.old h) (place_if place h found)) }
+    ensures { OnOk result ((h : ℕ) → get nat_eq places.new h ≡ first_of_two (get nat_eq places.old h) (place_if place h found)) }
 {
     let Some(handle) = found else {
         return Ok(());
@@ -44,11 +44,11 @@ fn note(
 pub fn places_of(
     alloc: Global,
     statements: &[Statement],
-    replies: &[Reply],
-) -> Result<BTreeMap<u64, usize>, AllocError>
-    ensures { IfOk result (λ places. (h : ℕ) → get nat_cmp places h ≡ place_from 0 statements.now replies.now h) }
+    replies: &[&Reply],
+) -> Result<HashMap<u64, usize>, AllocError>
+    ensures { IfOk result (λ places. (h : ℕ) → get nat_eq places h ≡ place_from 0 statements.now (nows replies.now) h) }
 {
-    let mut places = BTreeMap::new(alloc);
+    let mut places = HashMap::new(alloc);
     for (i, statement) in statements.iter().enumerate() {
         let Some(reply) = replies.get(i) else {
             return Ok(places);
@@ -61,10 +61,10 @@ pub fn places_of(
 /// The name of the task of this handle, by the place at which it was made.
 pub fn task_name<'a>(
     statements: &'a [Statement],
-    places: &BTreeMap<u64, usize>,
+    places: &HashMap<u64, usize>,
     handle: u64,
 ) -> &'a [u8]
-    ensures { result.now ≡ names_by statements.now (get nat_cmp places.now) handle }
+    ensures { result.now ≡ names_by statements.now (get nat_eq places.now) handle }
 {
     match places.get(&handle) {
         Some(place) => match statements.get(*place) {

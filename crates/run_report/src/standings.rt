@@ -1,7 +1,6 @@
 //! What decides how tasks end, found again from the entries of a journal.
-ghost use Rattle.std.specs.Prelude.{◌≡◌, ◌≤◌, not, IfOk, OnOk, is_some, if◌then◌else◌};
-ghost use Rattle.std.specs.Ordering.{nat_cmp};
-ghost use Rattle.std.specs.BTreeMap.{get, keys};
+ghost use Rattle.std.specs.Prelude.{◌≡◌, ◌≤◌, not, IfOk, OnOk, is_some, if◌then◌else◌, nat_eq};
+ghost use Rattle.std.specs.HashMap.{get, keys};
 ghost use Rattle.mtapi_values.specs.Conditions.{holds};
 ghost use Rattle.mtapi_values.specs.declared.ends.TaskEnd.TheVariants.{Cancelled, Failed};
 ghost use Rattle.mtapi_values.specs.declared.statuses.MtapiStatus.TheVariants.{ErrQueueDeleted};
@@ -13,16 +12,18 @@ use crate::changes::{Change, LiveAction, LiveQueue, Unstarted, change_of};
 use mtapi_machine::Entry;
 use mtapi_values::{Mask, MtapiStatus, TaskEnd};
 use std::alloc::{AllocError, Global};
-use std::collections::BTreeMap;
+use std::collections::HashMap;
 
 /// How each task ended, and what decides how the others will: the tasks that haven't begun, the live actions in the order in which
 /// they were made, and the live queues. A running task stands nowhere.
+///
+/// The handles are the node's, so that no workload can choose them to have the same hash.
 #[derive(Drop)]
 pub struct Standings {
-    pub ended: BTreeMap<u64, TaskEnd>,
-    pub unstarted: BTreeMap<u64, Unstarted>,
+    pub ended: HashMap<u64, TaskEnd>,
+    pub unstarted: HashMap<u64, Unstarted>,
     pub actions: Vec<LiveAction>,
-    pub queues: BTreeMap<u64, LiveQueue>,
+    pub queues: HashMap<u64, LiveQueue>,
 }
 
 /// Which of the tasks that haven't begun end.
@@ -37,8 +38,8 @@ pub enum Passing {
 }
 
 // Whether the queue is there and disabled.
-fn is_disabled(queues: &BTreeMap<u64, LiveQueue>, queue: u64) -> bool
-    ensures { result ≡ holds (λ q. not q.enabled) (get nat_cmp queues.now queue) }
+fn is_disabled(queues: &HashMap<u64, LiveQueue>, queue: u64) -> bool
+    ensures { result ≡ holds (λ q. not q.enabled) (get nat_eq queues.now queue) }
 {
     match queues.get(&queue) {
         Some(found) => !found.enabled,
@@ -47,8 +48,8 @@ fn is_disabled(queues: &BTreeMap<u64, LiveQueue>, queue: u64) -> bool
 }
 
 // Whether the queue is there and doesn't keep its tasks while it is disabled.
-fn lets_go(queues: &BTreeMap<u64, LiveQueue>, queue: u64) -> bool
-    ensures { result ≡ holds (λ q. not q.retain) (get nat_cmp queues.now queue) }
+fn lets_go(queues: &HashMap<u64, LiveQueue>, queue: u64) -> bool
+    ensures { result ≡ holds (λ q. not q.retain) (get nat_eq queues.now queue) }
 {
     match queues.get(&queue) {
         Some(found) => !found.retain,
@@ -65,8 +66,8 @@ fn is_of(queue: u64, task: &Unstarted) -> bool
     }
 }
 
-fn is_shut(queues: &BTreeMap<u64, LiveQueue>, task: &Unstarted) -> bool
-    ensures { result ≡ is_shut (get nat_cmp queues.now) task.now }
+fn is_shut(queues: &HashMap<u64, LiveQueue>, task: &Unstarted) -> bool
+    ensures { result ≡ is_shut (get nat_eq queues.now) task.now }
 {
     match task.queue {
         Some(own) => is_disabled(queues, own),
@@ -88,7 +89,7 @@ fn passes(table: &Standings, workers: u32, which: &Passing, task: &Unstarted) ->
 // Whether the task of this handle hasn't begun, and passes.
 fn is_passing(table: &Standings, workers: u32, which: &Passing, handle: u64) -> bool
     requires { workers ≤ 64 }
-    ensures { result ≡ holds (passes workers which.now (seen_in table.now)) (get nat_cmp table.now.unstarted handle) }
+    ensures { result ≡ holds (passes workers which.now (seen_in table.now)) (get nat_eq table.now.unstarted handle) }
 {
     match table.unstarted.get(&handle) {
         Some(task) => passes(table, workers, which, task),
@@ -112,7 +113,7 @@ fn end_if_passing(
     end: &TaskEnd,
 ) -> Result<(), AllocError>
     requires { workers ≤ 64 }
-    ensures { OnOk result (SameAs (seen_in table.new) (if holds (passes workers which.now (seen_in table.old)) (get nat_cmp table.old.unstarted handle) then with_end handle end.now (seen_in table.old) else seen_in table.old)) }
+    ensures { OnOk result (SameAs (seen_in table.new) (if holds (passes workers which.now (seen_in table.old)) (get nat_eq table.old.unstarted handle) then with_end handle end.now (seen_in table.old) else seen_in table.old)) }
 {
     if is_passing(table, workers, which, handle) {
         return end_one(table, handle, end.again());
@@ -120,7 +121,7 @@ fn end_if_passing(
     Ok(())
 }
 
-fn handles_of(alloc: Global, unstarted: &BTreeMap<u64, Unstarted>) -> Result<Vec<u64>, AllocError>
+fn handles_of(alloc: Global, unstarted: &HashMap<u64, Unstarted>) -> Result<Vec<u64>, AllocError>
     ensures { IfOk result (λ handles. handles.items ≡ keys unstarted.now) }
 {
     unstarted.keys().copied().collect(alloc)
@@ -154,7 +155,7 @@ fn cancel(table: &mut Standings, handle: u64) -> Result<(), AllocError>
 }
 
 fn enqueue(table: &mut Standings, handle: u64, queue: u64, cores: Mask) -> Result<(), AllocError>
-    ensures { OnOk result (SameAs (seen_in table.new) (enqueued handle queue cores (get nat_cmp table.old.queues queue) (seen_in table.old))) }
+    ensures { OnOk result (SameAs (seen_in table.new) (enqueued handle queue cores (get nat_eq table.old.queues queue) (seen_in table.old))) }
 {
     let Some(found) = table.queues.get(&queue) else {
         return Ok(());
@@ -286,15 +287,18 @@ fn no_standings(alloc: Global) -> Standings
     ensures { SameAs (seen_in result) nothing_seen }
 {
     Standings {
-        ended: BTreeMap::new(alloc),
-        unstarted: BTreeMap::new(alloc),
+        ended: HashMap::new(alloc),
+        unstarted: HashMap::new(alloc),
         actions: Vec::new(alloc),
-        queues: BTreeMap::new(alloc),
+        queues: HashMap::new(alloc),
     }
 }
 
-/// What is known after these entries of a node with so many workers. An entry that may end many tasks walks those that haven't begun;
-/// one that takes an action back looks through the live actions for each of them.
+/// Tells what is known after these entries of a node with so many workers. It fails for want of
+/// memory alone.
+///
+/// An entry that may end many tasks walks those that haven't begun; one that takes an action back
+/// looks through the live actions for each of them.
 pub fn standings_of(alloc: Global, workers: u32, entries: &[Entry]) -> Result<Standings, AllocError>
     requires { workers ≤ 64 }
     ensures { IfOk result (λ t. SameAs (seen_in t) (seen_from workers nothing_seen entries.now)) }

@@ -1,8 +1,7 @@
 //! The summary of a run.
-ghost use Rattle.std.specs.Prelude.{◌≡◌, ◌≤◌, ◌<◌, ◌+◌, ◌^◌, ◌++◌, length, string_bytes, IfOk, OnOk};
+ghost use Rattle.std.specs.Prelude.{◌≡◌, ◌≤◌, ◌<◌, ◌+◌, ◌^◌, ◌++◌, length, string_bytes, IfOk, OnOk, nat_eq};
 ghost use Rattle.std.specs.Fmt.{signed_decimal};
-ghost use Rattle.std.specs.Ordering.{nat_cmp};
-ghost use Rattle.std.specs.BTreeMap.{get};
+ghost use Rattle.std.specs.HashMap.{get};
 ghost use Rattle.workload_file.specs.Formed.{WellFormed};
 ghost use Rattle.mtapi_machine.specs.Legal.{Legal};
 ghost use Rattle.mtapi_machine.specs.State.{terms_with};
@@ -11,18 +10,19 @@ ghost use Rattle.run_report.specs.Report.{parts_told};
 ghost use Rattle.run_report.specs.Seen.{nothing_seen, seen_from};
 ghost use Rattle.run_report.specs.Summary.{no_totals, with_tasks, with_parts, counted, totals_text, summary, statements_in, AreTotals};
 
-use crate::deciding::{behind, calls_before, decided};
+use crate::deciding::{calls_before, decided, replies_to};
 use crate::standings::standings_of;
 use crate::totals::{Totals, no_totals, with_tasks};
 use mtapi_machine::Entry;
 use mtapi_values::TaskEnd;
 use node_core::Journal;
-use number_text::push_number;
+use number_text::{push_number, signed_text};
 use std::alloc::{AllocError, Global};
-use std::collections::BTreeMap;
+use std::collections::HashMap;
 use workload_file::{Part, Workload};
 
 /// With the tasks of a part, whose caller has this seat and makes so many calls before those of its statements.
+#[tactic(auto, using(crate::proofs::Zips::nows_part))]
 fn with_part(
     alloc: Global,
     totals: Totals,
@@ -30,17 +30,18 @@ fn with_part(
     before: usize,
     part: &Part,
     entries: &[Entry],
-    ended: &BTreeMap<u64, TaskEnd>,
+    ended: &HashMap<u64, TaskEnd>,
 ) -> Result<Totals, AllocError>
     requires totals { AreTotals totals.tasks totals }
     requires few { totals.tasks + length part.now.statements ≤ 20000 }
-    ensures value { IfOk result (λ t. t ≡ with_tasks (get nat_cmp ended.now) totals part.now.statements (reported who before entries.now part.now).replies) }
+    ensures value { IfOk result (λ t. t ≡ with_tasks (get nat_eq ended.now) totals part.now.statements (reported who before entries.now part.now).replies) }
     ensures totals { IfOk result (λ t. AreTotals t.tasks t) }
     ensures tasks { IfOk result (λ t. t.tasks ≤ totals.tasks + length part.now.statements) }
 {
     let all = decided(alloc, who, entries)?;
-    let replies = behind(&all, before);
-    Ok(with_tasks(totals, ended, part.statements.as_slice(), replies))
+    let statements = part.statements.as_slice();
+    let replies = replies_to(&all, before, statements.len());
+    Ok(with_tasks(totals, ended, statements, replies))
 }
 
 /// With the tasks of the parts of further callers, from this seat on.
@@ -51,12 +52,12 @@ fn with_further(
     who: u32,
     parts: &[Part],
     entries: &[Entry],
-    ended: &BTreeMap<u64, TaskEnd>,
+    ended: &HashMap<u64, TaskEnd>,
 ) -> Result<Totals, AllocError>
     requires seats { who + length parts.now < 2 ^ 32 }
     requires totals { AreTotals totals.tasks totals }
     requires few { totals.tasks + statements_in parts.now ≤ 20000 }
-    ensures { IfOk result (λ t. t ≡ with_parts (get nat_cmp ended.now) totals (further_told who entries.now parts.now)) }
+    ensures { IfOk result (λ t. t ≡ with_parts (get nat_eq ended.now) totals (further_told who entries.now parts.now)) }
 {
     match parts {
         [] => Ok(totals),
@@ -74,11 +75,11 @@ fn all_totals(
     main: u32,
     parts: &[Part],
     entries: &[Entry],
-    ended: &BTreeMap<u64, TaskEnd>,
+    ended: &HashMap<u64, TaskEnd>,
 ) -> Result<Totals, AllocError>
     requires seats { main + length parts.now < 2 ^ 32 }
     requires few { statements_in parts.now ≤ 20000 }
-    ensures { IfOk result (λ t. t ≡ with_parts (get nat_cmp ended.now) no_totals (all_told main entries.now parts.now)) }
+    ensures { IfOk result (λ t. t ≡ with_parts (get nat_eq ended.now) no_totals (all_told main entries.now parts.now)) }
 {
     match parts {
         [] => Ok(no_totals()),
@@ -131,8 +132,7 @@ fn push_counted(alloc: Global, out: &mut Vec<u8>, word: &[u8], count: u64) -> Re
 fn sum_text(alloc: Global, totals: &Totals) -> Result<String, AllocError>
     ensures { IfOk result (λ text. string_bytes text ≡ signed_decimal totals.now.sum) }
 {
-    let sum = totals.sum;
-    format!(in alloc; "{sum}")
+    signed_text(alloc, totals.sum)
 }
 
 /// The line of totals.
@@ -153,8 +153,9 @@ pub(crate) fn line_of(alloc: Global, totals: &Totals) -> Result<Vec<u8>, AllocEr
     Ok(out)
 }
 
-/// The summary of a run of this workload that left this journal: one line, with its tasks counted by how they ended, and the sum of
-/// all numbers of those that completed.
+/// Writes the summary of a run of this workload that left this journal: one line, with its tasks
+/// counted by how they ended, and the sum of all numbers of those that completed. It fails for want
+/// of memory alone.
 pub fn summary_of(alloc: Global, load: &Workload, journal: &Journal) -> Result<Vec<u8>, AllocError>
     requires formed { WellFormed load.now }
     requires settings { journal.now.settings ≡ load.now.settings }

@@ -1,26 +1,26 @@
 //! The lines of the statements of a part.
-ghost use Rattle.std.specs.Prelude.{◌≡◌, ◌++◌, [], OnOk, if◌then◌else◌};
+ghost use Rattle.std.specs.Prelude.{◌≡◌, ◌++◌, [], OnOk, if◌then◌else◌, nat_eq};
 ghost use Rattle.run_report.specs.Tasks.{task_text};
+ghost use Rattle.run_report.specs.Replies.{nows};
 ghost use Rattle.run_report.specs.Calls.{shown_of, is_task, task_line, task_lines_of};
-ghost use Rattle.std.specs.Ordering.{nat_cmp};
-ghost use Rattle.std.specs.BTreeMap.{get};
+ghost use Rattle.std.specs.HashMap.{get};
 
 use crate::sorts::{Shown, shown_of};
 use crate::text::{name_of, push_end};
 use mtapi_machine::Reply;
 use mtapi_values::TaskEnd;
 use std::alloc::{AllocError, Global};
-use std::collections::BTreeMap;
+use std::collections::HashMap;
 use workload_file::Statement;
 
 /// What became of a task, by the reply to its statement.
 fn push_task(
     alloc: Global,
     out: &mut Vec<u8>,
-    ended: &BTreeMap<u64, TaskEnd>,
+    ended: &HashMap<u64, TaskEnd>,
     reply: &Reply,
 ) -> Result<(), AllocError>
-    ensures { OnOk result (out.new.items ≡ out.old.items ++ task_text (get nat_cmp ended.now) reply.now) }
+    ensures { OnOk result (out.new.items ≡ out.old.items ++ task_text (get nat_eq ended.now) reply.now) }
 {
     match reply {
         Reply::Handle(handle) => match ended.get(handle) {
@@ -39,11 +39,11 @@ fn push_task_line(
     alloc: Global,
     out: &mut Vec<u8>,
     part: &[u8],
-    ended: &BTreeMap<u64, TaskEnd>,
+    ended: &HashMap<u64, TaskEnd>,
     statement: &Statement,
     reply: &Reply,
 ) -> Result<(), AllocError>
-    ensures { OnOk result (out.new.items ≡ out.old.items ++ task_line part.now (get nat_cmp ended.now) statement.now reply.now) }
+    ensures { OnOk result (out.new.items ≡ out.old.items ++ task_line part.now (get nat_eq ended.now) statement.now reply.now) }
 {
     out.extend_from_slice(part)?;
     out.push(b'.')?;
@@ -58,11 +58,11 @@ fn push_if_task(
     alloc: Global,
     out: &mut Vec<u8>,
     part: &[u8],
-    ended: &BTreeMap<u64, TaskEnd>,
+    ended: &HashMap<u64, TaskEnd>,
     statement: &Statement,
     reply: &Reply,
 ) -> Result<(), AllocError>
-    ensures { OnOk result (out.new.items ≡ out.old.items ++ (if is_task (shown_of statement.now.deed) then task_line part.now (get nat_cmp ended.now) statement.now reply.now else [])) }
+    ensures { OnOk result (out.new.items ≡ out.old.items ++ (if is_task (shown_of statement.now.deed) then task_line part.now (get nat_eq ended.now) statement.now reply.now else [])) }
 {
     match shown_of(&statement.deed) {
         Shown::Task => push_task_line(alloc, out, part, ended, statement, reply),
@@ -75,11 +75,11 @@ pub fn push_task_lines(
     alloc: Global,
     out: &mut Vec<u8>,
     part: &[u8],
-    ended: &BTreeMap<u64, TaskEnd>,
+    ended: &HashMap<u64, TaskEnd>,
     statements: &[Statement],
-    replies: &[Reply],
+    replies: &[&Reply],
 ) -> Result<(), AllocError>
-    ensures { OnOk result (out.new.items ≡ out.old.items ++ task_lines_of part.now (get nat_cmp ended.now) statements.now replies.now) }
+    ensures { OnOk result (out.new.items ≡ out.old.items ++ task_lines_of part.now (get nat_eq ended.now) statements.now (nows replies.now)) }
 {
     for (i, statement) in statements.iter().enumerate() {
         let Some(reply) = replies.get(i) else {

@@ -1,303 +1,261 @@
 //! Reports of hand-made journals.
 
-use crate::page::text_by_entries;
-use action_fn::{Finished, act_add};
+mod journals;
+mod summary;
+
+use crate::tests::journals::{
+    FIRST, MAIN, OTHER, SECOND, THIRD, action, action_made, cancelled, enqueue, enqueued, entry,
+    finished, lock, looked, numbers, ok, part, picked, queue, queue_made, start, started,
+    statement, text, wait, wait_all, wait_any,
+};
 use history::Entry;
 use mtapi_machine::{Op, Reply};
 use mtapi_values::{
-    ActionHandle, Args, Kind, Mask, MrapiStatus, MtapiStatus, NodeAttr, QueueHandle, TaskEnd,
-    TaskHandle, Timeout,
+    ActionHandle, GroupHandle, Kind, Mask, MrapiStatus, MtapiStatus, MutexHandle, QueueHandle,
+    ShmemHandle, TaskEnd, TaskHandle,
 };
 use std::alloc::Global;
 use std::test::Fail;
-use workload_file::{Deed, Name, Part, PartList, Statement, StatementList, Workload};
+use workload_file::{Deed, Part, Statement};
 
-const FIRST: u64 = 4294967296;
-
-const SECOND: u64 = 4294967297;
-
-const THIRD: u64 = 4294967298;
-
-const MAIN: u32 = 1;
-
-fn numbers(values: &[i64]) -> Args {
-    let mut args = Args::new();
-    for value in values {
-        args.push(*value);
-    }
-    args
-}
-
-// A statement that binds a name, unless that is empty.
-fn statement(line: u64, name: &[u8], deed: Deed) -> Statement {
-    Statement {
-        line,
-        name: Name::new(name),
-        deed,
-    }
-}
-
-fn action() -> Deed {
-    Deed::Action {
-        job: 1,
-        kind: Kind::Add,
-        cores: Mask(u64::MAX),
-    }
-}
-
-fn start(values: &[i64]) -> Deed {
-    Deed::Start {
-        job: 1,
-        args: numbers(values),
-        priority: 0,
-        cores: Mask(u64::MAX),
-        detached: false,
-        group: None,
-    }
-}
-
-fn wait(place: u32) -> Deed {
-    Deed::Wait {
-        place,
-        timeout: Timeout::Infinite,
-    }
-}
-
-fn part(alloc: Global, line: u64, name: &[u8], statements: Vec<Statement>) -> Result<Part, Fail> {
-    let mut list = StatementList::new(alloc);
-    for statement in statements {
-        list.push(statement)?;
-    }
-    Ok(Part {
-        line,
-        name: Name::new(name).ok_or("name")?,
-        statements: list,
-    })
-}
-
-// A workload with the usual settings: one worker, so that main has seat 1 and the next caller seat 2.
-fn load(alloc: Global, parts: Vec<Part>) -> Result<Workload, Fail> {
-    let mut list = PartList::new(alloc);
-    for part in parts {
-        list.push(part)?;
-    }
-    Ok(Workload {
-        node_line: 0,
-        settings: NodeAttr::new(),
-        parts: list,
-    })
-}
-
-fn entry(who: u32, op: Op, reply: Reply) -> Entry<Op, Reply> {
-    Entry { who, op, reply }
-}
-
-fn start_op(values: &[i64]) -> Op {
-    Op::TaskStart {
-        job: 1,
-        args: numbers(values),
-        priority: 0,
-        cores: Mask(u64::MAX),
-        detached: false,
-        group: None,
-    }
-}
-
-fn action_made() -> Entry<Op, Reply> {
-    let op = Op::ActionCreate {
-        job: 1,
-        kind: Kind::Add,
-        cores: Mask(u64::MAX),
-    };
-    entry(MAIN, op, Reply::Handle(FIRST))
-}
-
-fn picked(task: u64, values: &[i64]) -> Entry<Op, Reply> {
-    let reply = Reply::Picked {
-        task: TaskHandle(task),
-        action: ActionHandle(FIRST),
-        kind: Kind::Add,
-        args: numbers(values),
-    };
-    entry(0, Op::Pick, reply)
-}
-
-fn finished(task: u64, values: &[i64]) -> Entry<Op, Reply> {
-    let args = numbers(values);
-    let end = act_add(&args);
-    let op = Op::Finish {
-        task: TaskHandle(task),
-        done: Finished::new(Kind::Add, args, end),
-    };
-    entry(0, op, Reply::Ok)
-}
-
-fn look(task: u64, reply: Reply) -> Entry<Op, Reply> {
-    let op = Op::TaskLook {
-        task: TaskHandle(task),
-        last: false,
-    };
-    entry(MAIN, op, reply)
-}
-
-fn text(alloc: Global, parts: Vec<Part>, entries: &[Entry<Op, Reply>]) -> Result<Vec<u8>, Fail> {
-    let load = load(alloc, parts)?;
-    if load.settings.workers() > 16 || load.parts.as_slice().len() > 9 {
-        return Err(Fail::from("too many"));
-    }
-    Ok(text_by_entries(alloc, &load, entries)?)
-}
-
-#[test]
-fn one_sum(rt: HostRuntime) -> Result<(), Fail> {
-    let alloc = rt.alloc();
-    let statements = vec![in alloc;
-        statement(1, b"a", action()),
-        statement(2, b"t", start(&[1, 2, 3])),
-        statement(3, b"", wait(1)),
+// The report of main's task `x`, of one more statement of main's, and of these entries behind the start of the task.
+fn report_of_main(
+    alloc: Global,
+    values: &[i64],
+    last: Statement,
+    more: Vec<Entry<Op, Reply>>,
+) -> Result<Vec<u8>, Fail> {
+    let statements = vec![in alloc; statement(1, b"x", start(values)), last]?;
+    let mut entries = vec![in alloc;
+        ok(Op::Initialize),
+        ok(Op::Release),
+        started(MAIN, values, Reply::Handle(FIRST)),
     ]?;
-    let entries = vec![in alloc;
-        entry(MAIN, Op::Initialize, Reply::Ok),
-        entry(MAIN, Op::Release, Reply::Ok),
-        action_made(),
-        entry(MAIN, start_op(&[1, 2, 3]), Reply::Handle(FIRST)),
-        look(FIRST, Reply::Pending),
-        picked(FIRST, &[1, 2, 3]),
-        finished(FIRST, &[1, 2, 3]),
-        look(FIRST, Reply::Ended(TaskEnd::Completed(numbers(&[6])))),
-        entry(MAIN, Op::Close, Reply::Ok),
-        entry(0, Op::Pick, Reply::Stop),
-        entry(MAIN, Op::Final, Reply::Ok),
-    ]?;
+    for entry in more {
+        entries.push(entry)?;
+    }
     let parts = vec![in alloc; part(alloc, 0, b"main", statements)?]?;
-    assert!(rt; text(alloc, parts, &entries)?.as_slice() == b"main.t completed 6\n".as_slice());
+    text(alloc, parts, &entries)
+}
+
+// How a task ends: its arguments, what main asks of it then, what follows its start, and its line.
+#[test]
+fn each_end_of_a_task(rt: HostRuntime) -> Result<(), Fail> {
+    let alloc = rt.alloc();
+    let sum = TaskEnd::Completed(numbers(&[6]));
+    let cases = vec![in alloc;
+        (
+            [1, 2, 3],
+            wait(0),
+            vec![in alloc;
+                looked(FIRST, Reply::Pending),
+                picked(FIRST, &[1, 2, 3]),
+                finished(FIRST, &[1, 2, 3]),
+                looked(FIRST, Reply::Ended(sum)),
+            ]?,
+            b"main.x completed 6\n".as_slice(),
+        ),
+        // The sum is past the greatest number. A running task that is cancelled ends by its action.
+        (
+            [i64::MAX, 1, 0],
+            Deed::Cancel { place: 0 },
+            vec![in alloc;
+                picked(FIRST, &[i64::MAX, 1, 0]),
+                cancelled(MAIN, FIRST),
+                finished(FIRST, &[i64::MAX, 1, 0]),
+            ]?,
+            b"main.x error MTAPI_ERR_ACTION_FAILED\n".as_slice(),
+        ),
+        (
+            [1, 2, 3],
+            Deed::Cancel { place: 0 },
+            vec![in alloc; cancelled(MAIN, FIRST)]?,
+            b"main.x cancelled\n".as_slice(),
+        ),
+        (
+            [1, 2, 3],
+            wait(0),
+            vec![in alloc; picked(FIRST, &[1, 2, 3])]?,
+            b"main.x \n".as_slice(),
+        ),
+    ]?;
+    for (values, deed, more, wanted) in cases {
+        let last = statement(2, b"", deed);
+        assert!(rt; report_of_main(alloc, &values, last, more)?.as_slice() == wanted);
+    }
     Ok(())
 }
 
-// Two parts: an error, a refused start, a task cancelled, statuses, a key, and a task that was handed out.
+// The ops of the calls below.
+
+fn lock_look() -> Op {
+    Op::MutexLook {
+        mutex: MutexHandle(FIRST),
+        last: true,
+    }
+}
+
+fn unlock_op() -> Op {
+    Op::MutexUnlock {
+        mutex: MutexHandle(FIRST),
+        key: 1,
+    }
+}
+
+fn read_op() -> Op {
+    Op::ShmemRead {
+        shmem: ShmemHandle(FIRST),
+        cell: 0,
+    }
+}
+
+fn member_look() -> Op {
+    Op::AnyLook {
+        group: GroupHandle(FIRST),
+        last: true,
+    }
+}
+
+fn group_look() -> Op {
+    Op::AllLook {
+        group: GroupHandle(FIRST),
+        last: true,
+    }
+}
+
+// What one call adds to the report: its statement, its entry, and what stands behind the line of the first task, which never ends.
 #[test]
-fn every_kind_of_line(rt: HostRuntime) -> Result<(), Fail> {
+fn each_line_of_a_call(rt: HostRuntime) -> Result<(), Fail> {
     let alloc = rt.alloc();
-    let lock = Deed::Lock {
-        place: 0,
-        timeout: Timeout::NoWait,
-    };
-    let wait_any = Deed::WaitAny {
-        place: 0,
-        timeout: Timeout::Infinite,
-    };
+    let limit = Reply::Mtapi(MtapiStatus::ErrTaskLimit);
+    let invalid = Reply::Mtapi(MtapiStatus::ErrTaskInvalid);
+    let failed = Reply::Mtapi(MtapiStatus::ErrActionFailed);
+    let none_left = Reply::Mtapi(MtapiStatus::GroupCompleted);
+    let no_key = Reply::Mrapi(MrapiStatus::ErrMutexKey);
+    let busy = Reply::Mrapi(MrapiStatus::Timeout);
+    let member = Reply::Given(TaskHandle(FIRST), TaskEnd::Cancelled);
     let unlock = Deed::Unlock { place: 0, key: 1 };
+    let unlock_again = Deed::Unlock { place: 0, key: 1 };
+    let read = Deed::Read { place: 0, cell: 0 };
+    let cases = vec![in alloc;
+        (
+            statement(9, b"u", start(&[1])),
+            started(MAIN, &[1], limit),
+            b"main.u refused MTAPI_ERR_TASK_LIMIT\n".as_slice()
+        ),
+        (
+            statement(9, b"", wait(0)),
+            looked(FIRST, invalid),
+            b"! main 9 MTAPI_ERR_TASK_INVALID\n".as_slice()
+        ),
+        (
+            statement(9, b"", wait_all()),
+            entry(MAIN, group_look(), failed),
+            b"! main 9 MTAPI_ERR_ACTION_FAILED\n".as_slice()
+        ),
+        (
+            statement(9, b"", wait_all()),
+            ok(group_look()),
+            b"".as_slice()
+        ),
+        (
+            statement(9, b"", wait_any()),
+            entry(MAIN, member_look(), member),
+            b"= main 9 x\n".as_slice()
+        ),
+        (
+            statement(9, b"", wait_any()),
+            entry(MAIN, member_look(), none_left),
+            b"! main 9 MTAPI_GROUP_COMPLETED\n".as_slice()
+        ),
+        (
+            statement(9, b"", lock()),
+            entry(MAIN, lock_look(), Reply::Number(2)),
+            b"= main 9 2\n".as_slice()
+        ),
+        (
+            statement(9, b"", lock()),
+            entry(MAIN, lock_look(), busy),
+            b"! main 9 MRAPI_TIMEOUT\n".as_slice()
+        ),
+        (statement(9, b"", unlock), ok(unlock_op()), b"".as_slice()),
+        (
+            statement(9, b"", unlock_again),
+            entry(MAIN, unlock_op(), no_key),
+            b"! main 9 MRAPI_ERR_MUTEX_KEY\n".as_slice()
+        ),
+        (
+            statement(9, b"", read),
+            entry(MAIN, read_op(), Reply::Number(-7)),
+            b"= main 9 -7\n".as_slice()
+        ),
+    ]?;
+    for (last, asked, wanted) in cases {
+        let report = report_of_main(alloc, &[], last, vec![in alloc; asked]?)?;
+        let (task, line) = report.split_at(report.len().min(b"main.x \n".len()));
+        assert!(rt; task == b"main.x \n".as_slice());
+        assert!(rt; line == wanted);
+    }
+    Ok(())
+}
+
+// Main lets the other caller begin, and cancels its task; each of the two waits for a task that isn't there.
+fn two_parts(alloc: Global) -> Result<Vec<Part>, Fail> {
     let main = vec![in alloc;
         statement(1, b"", Deed::Begin),
-        statement(2, b"a", action()),
-        statement(3, b"t", start(&[i64::MAX, 1])),
-        statement(4, b"u", start(&[1])),
-        statement(5, b"", wait(3)),
-        statement(6, b"", Deed::Cancel { place: 2 }),
+        statement(2, b"t", start(&[])),
+        statement(3, b"", Deed::Cancel { place: 1 }),
+        statement(4, b"", wait(1)),
     ]?;
-    let other = vec![in alloc;
-        statement(8, b"x", start(&[])),
-        statement(9, b"", lock),
-        statement(10, b"", unlock),
-        statement(11, b"", wait_any),
-    ]?;
-    let entries = vec![in alloc;
-        entry(MAIN, Op::Initialize, Reply::Ok),
-        entry(2, Op::Enter, Reply::Pending),
-        entry(MAIN, Op::Release, Reply::Ok),
-        entry(2, Op::Enter, Reply::Ok),
-        action_made(),
-        entry(MAIN, start_op(&[i64::MAX, 1]), Reply::Handle(FIRST)),
-        entry(2, start_op(&[]), Reply::Handle(SECOND)),
-        entry(
-            MAIN,
-            start_op(&[1]),
-            Reply::Mtapi(MtapiStatus::ErrTaskLimit)
-        ),
-        look(0, Reply::Mtapi(MtapiStatus::ErrTaskInvalid)),
-        picked(FIRST, &[i64::MAX, 1]),
-        entry(
-            MAIN,
-            Op::TaskCancel {
-                task: TaskHandle(FIRST)
-            },
-            Reply::Ok
-        ),
-        finished(FIRST, &[i64::MAX, 1]),
-        entry(
-            2,
-            Op::TaskCancel {
-                task: TaskHandle(SECOND)
-            },
-            Reply::Number(-7)
-        ),
-        entry(
-            2,
-            Op::TaskCancel {
-                task: TaskHandle(SECOND)
-            },
-            Reply::Mrapi(MrapiStatus::ErrMutexKey)
-        ),
-        entry(
-            0,
-            Op::TaskCancel {
-                task: TaskHandle(SECOND)
-            },
-            Reply::Ok
-        ),
-        entry(
-            2,
-            Op::Pick,
-            Reply::Given(TaskHandle(SECOND), TaskEnd::Cancelled)
-        ),
-    ]?;
-    let parts = vec![in alloc;
+    let other = vec![in alloc; statement(6, b"x", start(&[])), statement(7, b"", wait(0))]?;
+    Ok(vec![in alloc;
         part(alloc, 0, b"main", main)?,
-        part(alloc, 7, b"other", other)?,
+        part(alloc, 5, b"other", other)?,
+    ]?)
+}
+
+// Tasks come first, and then calls, each in the order of the text, whichever caller had its turns first.
+#[test]
+fn parts_in_the_order_of_the_text(rt: HostRuntime) -> Result<(), Fail> {
+    let alloc = rt.alloc();
+    let gone = |who: u32| -> Entry<Op, Reply> {
+        let op = Op::TaskLook {
+            task: TaskHandle(THIRD),
+            last: false,
+        };
+        entry(who, op, Reply::Mtapi(MtapiStatus::ErrTaskInvalid))
+    };
+    let wanted =
+        b"main.t cancelled\nother.x \n! main 4 MTAPI_ERR_TASK_INVALID\n! other 7 MTAPI_ERR_TASK_INVALID\n";
+    let orders = vec![in alloc;
+        vec![in alloc;
+            started(MAIN, &[], Reply::Handle(FIRST)),
+            cancelled(MAIN, FIRST),
+            gone(MAIN),
+            started(OTHER, &[], Reply::Handle(SECOND)),
+            gone(OTHER),
+        ]?,
+        vec![in alloc;
+            started(OTHER, &[], Reply::Handle(SECOND)),
+            gone(OTHER),
+            started(MAIN, &[], Reply::Handle(FIRST)),
+            cancelled(MAIN, FIRST),
+            gone(MAIN),
+        ]?,
     ]?;
-    let tasks =
-        b"main.t error MTAPI_ERR_ACTION_FAILED\nmain.u refused MTAPI_ERR_TASK_LIMIT\nother.x cancelled\n";
-    let calls =
-        b"! main 5 MTAPI_ERR_TASK_INVALID\n= other 9 -7\n! other 10 MRAPI_ERR_MUTEX_KEY\n= other 11 x\n";
-    let mut wanted = tasks.to_vec(alloc)?;
-    wanted.extend_from_slice(calls)?;
-    assert!(rt; text(alloc, parts, &entries)?.as_slice() == wanted.as_slice());
+    for order in orders {
+        let mut entries = vec![in alloc;
+            ok(Op::Initialize),
+            entry(OTHER, Op::Enter, Reply::Pending),
+            ok(Op::Release),
+            entry(OTHER, Op::Enter, Reply::Ok),
+        ]?;
+        for entry in order {
+            entries.push(entry)?;
+        }
+        assert!(rt; text(alloc, two_parts(alloc)?, &entries)?.as_slice() == wanted.as_slice());
+    }
     Ok(())
-}
-
-fn queue(retain: bool) -> Op {
-    Op::QueueCreate {
-        id: 1,
-        job: 1,
-        priority: 0,
-        limit: 8,
-        ordered: false,
-        retain,
-    }
-}
-
-fn enqueue(values: &[i64]) -> Op {
-    Op::TaskEnqueue {
-        queue: QueueHandle(FIRST),
-        args: numbers(values),
-        cores: Mask(u64::MAX),
-        detached: false,
-        group: None,
-    }
-}
-
-fn ok(op: Op) -> Entry<Op, Reply> {
-    entry(MAIN, op, Reply::Ok)
-}
-
-fn queued(place: u32) -> Deed {
-    Deed::Enqueue {
-        queue: place,
-        args: Args::new(),
-        cores: Mask(u64::MAX),
-        detached: false,
-        group: None,
-    }
 }
 
 // The lines of three tasks: `x` and `y` are put into a queue, which keeps its tasks or not, a worker takes `x`, and `z` is started
@@ -307,29 +265,21 @@ fn ends_of_three(
     retain: bool,
     more: Vec<Entry<Op, Reply>>,
 ) -> Result<Vec<u8>, Fail> {
-    let deed = Deed::Queue {
-        id: 1,
-        job: 1,
-        priority: 0,
-        limit: 8,
-        ordered: false,
-        retain,
-    };
     let statements = vec![in alloc;
         statement(1, b"a", action()),
-        statement(2, b"q", deed),
-        statement(3, b"x", queued(1)),
-        statement(4, b"y", queued(1)),
+        statement(2, b"q", queue(retain)),
+        statement(3, b"x", enqueue(1)),
+        statement(4, b"y", enqueue(1)),
         statement(5, b"z", start(&[])),
     ]?;
     let mut entries = vec![in alloc;
         ok(Op::Initialize),
         ok(Op::Release),
         action_made(),
-        entry(MAIN, queue(retain), Reply::Handle(FIRST)),
-        entry(MAIN, enqueue(&[]), Reply::Handle(FIRST)),
-        entry(MAIN, enqueue(&[]), Reply::Handle(SECOND)),
-        entry(MAIN, start_op(&[]), Reply::Handle(THIRD)),
+        queue_made(retain),
+        enqueued(FIRST),
+        enqueued(SECOND),
+        started(MAIN, &[], Reply::Handle(THIRD)),
         picked(FIRST, &[]),
     ]?;
     for entry in more {

@@ -1,14 +1,14 @@
 //! The tasks of a run, counted by how they ended.
-ghost use Rattle.std.specs.Prelude.{◌≡◌, ◌≤◌, ◌<◌, ◌+◌, ◌*◌, ◌+ℤ◌, ◌≤ℤ◌, pos, neg_ℤ, Some, length, if◌then◌else◌};
-ghost use Rattle.std.specs.Ordering.{nat_cmp};
-ghost use Rattle.std.specs.BTreeMap.{get};
+ghost use Rattle.std.specs.Prelude.{◌≡◌, ◌≤◌, ◌<◌, ◌+◌, ◌*◌, ◌+ℤ◌, ◌≤ℤ◌, pos, neg_ℤ, Some, length, if◌then◌else◌, nat_eq};
+ghost use Rattle.std.specs.HashMap.{get};
+ghost use Rattle.run_report.specs.Replies.{nows};
 ghost use Rattle.run_report.specs.Calls.{shown_of, is_task};
 ghost use Rattle.run_report.specs.Summary.{no_totals, with_number, with_numbers, with_end, with_fate, with_task, with_tasks, IsNear, AreTotals};
 
 use crate::sorts::{Shown, shown_of};
 use mtapi_machine::Reply;
 use mtapi_values::TaskEnd;
-use std::collections::BTreeMap;
+use std::collections::HashMap;
 use workload_file::Statement;
 
 /// The tasks of a run, counted by how they ended, and the sum of all numbers of those that completed.
@@ -82,10 +82,10 @@ fn with_end(totals: Totals, end: &TaskEnd) -> Totals
 }
 
 /// With what became of a task, by the reply to its statement.
-fn with_fate(totals: Totals, ended: &BTreeMap<u64, TaskEnd>, reply: &Reply) -> Totals
+fn with_fate(totals: Totals, ended: &HashMap<u64, TaskEnd>, reply: &Reply) -> Totals
     requires totals { AreTotals totals.tasks totals }
     requires few { totals.tasks < 20000 }
-    ensures value { result ≡ with_fate (get nat_cmp ended.now) totals reply.now }
+    ensures value { result ≡ with_fate (get nat_eq ended.now) totals reply.now }
     ensures totals { AreTotals (totals.tasks + 1) result }
     ensures tasks { result.tasks ≡ totals.tasks }
 {
@@ -103,10 +103,10 @@ fn with_fate(totals: Totals, ended: &BTreeMap<u64, TaskEnd>, reply: &Reply) -> T
 }
 
 /// With a task.
-fn with_task(totals: Totals, ended: &BTreeMap<u64, TaskEnd>, reply: &Reply) -> Totals
+fn with_task(totals: Totals, ended: &HashMap<u64, TaskEnd>, reply: &Reply) -> Totals
     requires totals { AreTotals totals.tasks totals }
     requires few { totals.tasks < 20000 }
-    ensures value { result ≡ with_task (get nat_cmp ended.now) totals reply.now }
+    ensures value { result ≡ with_task (get nat_eq ended.now) totals reply.now }
     ensures totals { AreTotals result.tasks result }
     ensures tasks { result.tasks ≡ totals.tasks + 1 }
 {
@@ -120,13 +120,13 @@ fn with_task(totals: Totals, ended: &BTreeMap<u64, TaskEnd>, reply: &Reply) -> T
 /// With a statement, where it is of a task.
 fn with_statement(
     totals: Totals,
-    ended: &BTreeMap<u64, TaskEnd>,
+    ended: &HashMap<u64, TaskEnd>,
     statement: &Statement,
     reply: &Reply,
 ) -> Totals
     requires totals { AreTotals totals.tasks totals }
     requires few { totals.tasks < 20000 }
-    ensures value { result ≡ (if is_task (shown_of statement.now.deed) then with_task (get nat_cmp ended.now) totals reply.now else totals) }
+    ensures value { result ≡ (if is_task (shown_of statement.now.deed) then with_task (get nat_eq ended.now) totals reply.now else totals) }
     ensures totals { AreTotals result.tasks result }
     ensures tasks { result.tasks ≤ totals.tasks + 1 }
 {
@@ -140,13 +140,13 @@ fn with_statement(
 #[tactic(auto, unfolding(crate::specs::Summary::with_tasks))]
 pub fn with_tasks(
     totals: Totals,
-    ended: &BTreeMap<u64, TaskEnd>,
+    ended: &HashMap<u64, TaskEnd>,
     statements: &[Statement],
-    replies: &[Reply],
+    replies: &[&Reply],
 ) -> Totals
     requires totals { AreTotals totals.tasks totals }
     requires few { totals.tasks + length statements.now ≤ 20000 }
-    ensures value { result ≡ with_tasks (get nat_cmp ended.now) totals statements.now replies.now }
+    ensures value { result ≡ with_tasks (get nat_eq ended.now) totals statements.now (nows replies.now) }
     ensures totals { AreTotals result.tasks result }
     ensures tasks { result.tasks ≤ totals.tasks + length statements.now }
 {

@@ -11,8 +11,8 @@ use node_core::Journal;
 use std::alloc::{AllocError, Global};
 use workload_file::Workload;
 
-/// The report of a run of this workload, by the entries of its journal: what became of each task, and then what the calls
-/// answered.
+/// Writes the report of a run of this workload, by the entries of its journal: what became of each
+/// task, and then what the calls answered. It fails for want of memory alone.
 pub fn report_of_entries(
     alloc: Global,
     layout: Layout,
@@ -26,7 +26,8 @@ pub fn report_of_entries(
     text_by_entries(alloc, load, entries)
 }
 
-/// The report of a run of this workload that left this journal: what became of each task, and then what the calls answered.
+/// Writes the report of a run of this workload that left this journal: what became of each task,
+/// and then what the calls answered. It fails for want of memory alone.
 pub fn report_of(alloc: Global, load: &Workload, journal: &Journal) -> Result<Vec<u8>, AllocError>
     requires settings { journal.now.settings ≡ load.now.settings }
     requires callers { journal.now.callers ≡ length load.now.parts }

@@ -14,13 +14,13 @@ use Rattle.mtapi_machine.specs.declared.ops.Op.TheVariants as op
 use Rattle.mtapi_machine.specs.declared.replies.Reply.{Reply}
 use Rattle.mtapi_machine.specs.declared.replies.Reply.TheVariants.{Stop}
 use Rattle.mtapi_machine.specs.Legal.{NodeEntry, Legal}
-use Rattle.sched_workers.specs.RunOf.{has_begin}
+use Rattle.sched_workers.specs.Parts.{has_begin, Carried}
 use Rattle.sched_threads.specs.declared.crew.back.Crew.{Crew}
-use Rattle.sched_threads.specs.declared.looks.Wanted.TheVariants.{Entrance}
+use Rattle.sched_workers.specs.declared.calls.Wanted.TheVariants.{Entrance}
 use Rattle.sched_threads.specs.Turns.{Seat, Turned}
 use Rattle.sched_threads.specs.Looks.{pends}
 use Rattle.sched_threads.specs.Rounds.{Served, all_in}
-use Rattle.sched_threads.specs.Carries.{CarriedAs}
+use Rattle.sched_threads.specs.Carries.{MadeAs}
 use Rattle.sched_threads.specs.Crews.{Cell, is_ok, CalledPart, CalledIn, MainDid, IsClean, Knows, IsEnded, AllDid}
 use Rattle.sched_threads.specs.Parts.{MainAs, CallerAs, WorkerAs}
 use Rattle.sched_threads.proofs.Meets.{zip_front, each_of, met_zip, called_more, all_served_more, known_more}
@@ -59,9 +59,10 @@ main_as ss old new none d =
       first = d.first;
       lets = x.lets;
       own = d.carried.own;
+      replies = d.carried.replies;
       is = d.carried.mine ∙ ap (λ (l : List NodeEntry). l ++ d.carried.own) (x.mine ∙ ap (λ (l : List NodeEntry). l ++ x.lets) (d.opens.mine ∙ ap (λ (l : List NodeEntry). l ++ entry old.number op.Initialize d.first ∷ []) none));
       let_is = x.is;
-      carried = subst (λ (n : ℕ). CarriedAs n [] ss d.carried.own) x.number d.carried.carried;
+      carried = subst (λ (n : ℕ). Carried (MadeAs n) [] ss d.carried.own d.carried.replies) x.number d.carried.carried;
     }
 
 main_number : (ss : List Statement) (old new : Seat) → MainDid ss old new → new.number ≡ old.number
@@ -76,9 +77,10 @@ caller_as ss old new none d =
       pending = l.pending;
       reply = d.reply;
       rest = d.carried.own;
+      replies = d.carried.replies;
       is = d.carried.mine ∙ (ap (λ (m : List NodeEntry). m ++ d.carried.own) (l.mine ∙ ap (λ (m : List NodeEntry). m ++ (P ++ E ∷ [])) none) ∙ append_assoc P (E ∷ []) d.carried.own);
       decides = l.decides l.bound;
-      carried = subst (λ (n : ℕ). CarriedAs n [] (if is_ok d.reply then ss else []) d.carried.own) l.same.number d.carried.carried;
+      carried = subst (λ (n : ℕ). Carried (MadeAs n) [] (if is_ok d.reply then ss else []) d.carried.own d.carried.replies) l.same.number d.carried.carried;
     }
 
 caller_number : (ss : List Statement) (old new : Seat) → CalledPart ss old new → new.number ≡ old.number
@@ -115,7 +117,7 @@ came z w m parts ss c c' d e clean =
     let main0 : Seat = fresh_seat z.terms z.id w in
     let zipped = subst (λ (l : List Seat). AllZip HasSeenMore l c'.others.items) d.whole (met_zip x.2) in
     let f = zip_front HasSeenMore d.called d.worked c'.others.items zipped in
-    let r = d.main_ran in
+    let r = d.main_closed in
     let known = subst (λ (l : List Seat). all_of (Knows x.0) l) f.2 (each_of (Knows x.0) c'.others.items x.2.knows) in
     record {
       callers = f.0;

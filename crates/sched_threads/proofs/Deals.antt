@@ -1,6 +1,6 @@
 -- The seats of a new cell, dealt; and what a whole run begins and ends with.
 use Rattle.std.proofs.Common.{◌≡◌, ℕ, zero, suc, ◌+◌, ◌<◌, ◌≤◌, List, [], ◌∷◌, ◌++◌, length, get_or, take, drop, true, Result, refl, sym, ◌∙◌, ap, subst, arith}
-use Rattle.std.specs.Prelude.{◌-◌, All, IfOk, slice_get}
+use Rattle.std.specs.Prelude.{◌-◌, All, IfOk}
 use Rattle.std.proofs.lemmas.Result.{IfOk-weaker}
 use Rattle.std.proofs.lemmas.List.Elements.{All-nil, All-cons, All-push}
 use Rattle.turn_cell.specs.Lists.{all_of}
@@ -12,21 +12,21 @@ use Rattle.workload_file.specs.declared.workload.Workload.{Workload}
 use Rattle.mtapi_machine.specs.declared.terms.Terms.{Terms}
 use Rattle.mtapi_machine.specs.declared.ops.Op.TheVariants.{Final}
 use Rattle.mtapi_machine.specs.State.{opening}
-use Rattle.mtapi_machine.specs.Legal.{NodeEntry, Legal, after_from}
+use Rattle.mtapi_machine.specs.Legal.{NodeEntry, Legal}
 use Rattle.mtapi_machine.specs.Kept.{kept}
 use Rattle.node_core.specs.declared.entries.Journal.{Journal}
 use Rattle.node_core.specs.declared.journaled.JournaledTerms.{JournaledTerms}
 use Rattle.node_core.specs.Logs.{journal_seats}
 use Rattle.sched_workers.specs.RunOf.{RunOf}
-use Rattle.sched_workers.proofs.Joins.{journal_is_run}
+use Rattle.sched_workers.proofs.Joins.{journal_run}
 use Rattle.sched_threads.specs.declared.crew.back.Crew.{Crew}
 use Rattle.sched_threads.specs.declared.crew.back.AllHands.{AllHands}
 use Rattle.sched_threads.specs.Turns.{Seat}
 use Rattle.sched_threads.specs.declared.run.RunError.{RunError}
-use Rattle.sched_threads.specs.Rounds.{AtRest}
 use Rattle.sched_threads.specs.Crews.{Cell, HasPart, IsIdle, AreAllReady, IsOf, IsClean, IsWholeCrewOf, IsEnded, AllDid}
 use Rattle.sched_threads.specs.Runs.{terms_for, IsRunOf, Dealt, JournalOf}
 use Rattle.sched_threads.proofs.Meets.{each_of}
+use Rattle.sched_threads.proofs.Starts.{new_at_rest}
 use Rattle.sched_threads.proofs.Came.{Came, came, came_complete, came_known}
 use Rattle.sched_threads.proofs.WholeRun.{Known, run_by}
 
@@ -60,10 +60,6 @@ all_fresh : (z : Cell) (P : Seat → Type 0) (from n : ℕ) → ((k : ℕ) → f
 all_fresh z P from zero f = All-nil P
 all_fresh z P from (suc n) f = All-cons P (fresh_seat z.terms z.id from) (fresh_seats z.terms z.id (suc from) n) (f from (omega arith) (omega arith)) (all_fresh z P (suc from) n (λ k low high. f k (omega arith) (omega arith)))
 
-at_rest : (z : Cell) (k : ℕ) → k < z.terms.node.settings.workers → AtRest (fresh_seat z.terms z.id k)
-unfolding after_from
-at_rest z k l = record { worker = l; free = refl }
-
 pub all_ready : (z : Cell) (w m : ℕ) (parts : List Part) (a : AllHands) → Dealt z w m a → length parts ≡ m + 1 → w ≡ z.terms.node.settings.workers → AreAllReady z parts a
 all_ready z w m parts a d count few =
     let number : a.hands.main.number ≡ w = ap (λ (s : Seat). s.number) d.main in
@@ -78,7 +74,7 @@ all_ready z w m parts a d count few =
       };
       workers =
           subst (λ (xs : List Seat). All (IsIdle z) xs) (sym d.workers)
-          (all_fresh z (IsIdle z) 0 w (λ k low high. record { cell = refl; rest = at_rest z k (omega arith) }));
+          (all_fresh z (IsIdle z) 0 w (λ k low high. record { cell = refl; rest = new_at_rest (fresh_seat z.terms z.id k) (omega arith) refl }));
       room = (let r = d.room in let c = d.callers_len in let v = d.workers_len in omega arith);
     }
 
@@ -108,7 +104,7 @@ run_is load z m p ps c j e n t x k =
     let known = came_known z load.settings.workers m (p ∷ ps) p.statements c x k.history k.legal k.seats workers_are (omega arith) (omega arith) in
     let total : load.settings.workers + (m + 1) ≡ load.settings.workers + length (p ∷ ps) = omega arith in
     let run = run_by load z.terms.node p ps k.history (subst (λ (i : ℕ). Known z.terms.node load.settings.workers i (p ∷ ps) p.statements k.history) total known) e in
-    let is_run = journal_is_run load z.terms.node k.history (omega arith, omega arith) run in
+    let is_run = journal_run load z.terms.node k.history (omega arith, omega arith) run in
     record {
       settings = k.kept.settings ∙ ap (λ (u : Terms). u.settings) t;
       callers = k.kept.callers ∙ callers_are;

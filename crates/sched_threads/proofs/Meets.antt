@@ -15,9 +15,10 @@ use Rattle.mtapi_machine.specs.Legal.{NodeEntry}
 use Rattle.sched_threads.specs.Turns.{Seat, Turned}
 use Rattle.sched_threads.specs.Rounds.{Served}
 use Rattle.mtapi_machine.specs.declared.replies.Reply.{Reply}
-use Rattle.sched_threads.specs.declared.looks.Wanted.TheVariants.{Entrance}
+use Rattle.sched_workers.specs.declared.calls.Wanted.TheVariants.{Entrance}
 use Rattle.sched_threads.specs.Looks.{Looked}
-use Rattle.sched_threads.specs.Carries.{Carried, CarriedAs}
+use Rattle.sched_threads.specs.Carries.{CarriedOut}
+use Rattle.sched_workers.specs.Parts.{Carried}
 use Rattle.mtapi_machine.specs.declared.ops.Op.{Op}
 use Rattle.sched_threads.specs.declared.crew.back.Crew.{Crew}
 use Rattle.sched_threads.specs.declared.statements.Stop.{Stop}
@@ -61,10 +62,11 @@ each_of F (x ∷ xs) a = (a 0 x (omega arith), each_of F xs (λ k d h. a (suc k)
 pub met_zip : {old new : Seat} {before after : List Seat} → AreMet old new before after → AllZip HasSeenMore before after
 met_zip {old} {new} {before} {after} m = zip_of HasSeenMore before after m.len m.others
 
-carried_more : (a b c : Seat) (bound : List ℕ) (ss : List Statement) → Carried a bound ss b → HasSeenMore b c → Carried a bound ss c
+carried_more : (a b c : Seat) (bound : List ℕ) (ss : List Statement) → CarriedOut a bound ss b → HasSeenMore b c → CarriedOut a bound ss c
 carried_more a b c bound ss x m = record {
   same = record { cell = m.cell ∙ x.same.cell; number = m.number ∙ x.same.number; terms = m.terms ∙ x.same.terms };
   own = x.own;
+  replies = x.replies;
   mine = m.mine ∙ x.mine;
   carried = x.carried;
 }
@@ -166,7 +168,7 @@ met_all a m xs ys n l x = record { main = x.main; len = x.len; others = x.others
 -- a further caller that didn't enter
 
 pub not_entered : (ss : List Statement) (a b : Seat) (r : Reply) → is_ok r ≡ false → Looked Entrance None a b r → CameBack (CalledPart ss) a (record { seat = b; stop = None })
-unfolding CarriedAs
+unfolding Carried
 not_entered ss a b r n l = record {
   same = l.same;
   did = λ none. record {
@@ -174,15 +176,15 @@ not_entered ss a b r n l = record {
     reply = r;
     entered = l;
     carried =
-        subst (λ (q : Bool). Carried b [] (if q then ss else []) b) (sym n)
-        (record { same = record { cell = refl; number = refl; terms = refl }; own = []; mine = sym (append-nil b.mine); carried = refl });
+        subst (λ (q : Bool). CarriedOut b [] (if q then ss else []) b) (sym n)
+        (record { same = record { cell = refl; number = refl; terms = refl }; own = []; replies = []; mine = sym (append-nil b.mine); carried = refl });
   };
 }
 
-pub entered_part : (ss : List Statement) (a b d : Seat) (r : Reply) → is_ok r ≡ true → Looked Entrance None a b r → Carried b [] ss d → CameBack (CalledPart ss) a (record { seat = d; stop = None })
+pub entered_part : (ss : List Statement) (a b d : Seat) (r : Reply) → is_ok r ≡ true → Looked Entrance None a b r → CarriedOut b [] ss d → CameBack (CalledPart ss) a (record { seat = d; stop = None })
 entered_part ss a b d r y l c = record {
   same = record { cell = c.same.cell ∙ l.same.cell; number = c.same.number ∙ l.same.number; terms = c.same.terms ∙ l.same.terms };
-  did = λ none. record { inside = b; reply = r; entered = l; carried = subst (λ (q : Bool). Carried b [] (if q then ss else []) d) (sym y) c };
+  did = λ none. record { inside = b; reply = r; entered = l; carried = subst (λ (q : Bool). CarriedOut b [] (if q then ss else []) d) (sym y) c };
 }
 
 -- Main met all, and made its call

@@ -11,9 +11,9 @@ use Rattle.mtapi_machine.proofs.Lists.{after-one}
 use Rattle.sched_workers.specs.Turns.{Turn, stayed, turn_of, turns_of}
 use Rattle.sched_workers.specs.Whole.{none_of, pended}
 use Rattle.sched_workers.proofs.TurnLists.{turns_append}
-use Rattle.sched_threads.specs.declared.looks.Wanted.{Wanted}
-use Rattle.sched_threads.specs.declared.looks.Wanted.TheVariants.{Task, Entrance, AllMembers, FirstMember, Mutex, Sem, Rwl}
-use Rattle.sched_threads.specs.Looks.{op_of, waits, IsTimed}
+use Rattle.sched_workers.specs.declared.calls.Wanted.{Wanted}
+use Rattle.sched_workers.specs.declared.calls.Wanted.TheVariants.{Task, Entrance, AllMembers, FirstMember, Mutex, Sem, Rwl}
+use Rattle.sched_workers.specs.Wants.{op_of, waits, IsTimed}
 use Rattle.sched_threads.proofs.WantedRows.{wanted_decides}
 use Rattle.sched_threads.proofs.TurnMarks.{Cut, first_own, first_next, turns_one, both_none}
 

@@ -13,12 +13,13 @@ use Rattle.mtapi_machine.specs.Row.{handle_of}
 use Rattle.mtapi_machine.specs.Legal.{NodeEntry}
 use Rattle.history_law.specs.Seats.{moves_phase, closes, NoPhase, NoClose}
 use Rattle.sched_workers.specs.Calls.{Call, Once, Looking, call_of, IsOnce}
-use Rattle.sched_threads.specs.declared.looks.Wanted.{Wanted}
-use Rattle.sched_threads.specs.declared.looks.Wanted.TheVariants.{Task, Entrance, AllMembers, FirstMember, Mutex, Sem, Rwl}
-use Rattle.sched_threads.specs.Looks.{op_of}
-use Rattle.sched_threads.proofs.Shapes.{Shaped, shaped}
+use Rattle.sched_workers.specs.Parts.{Carried}
+use Rattle.sched_workers.specs.declared.calls.Wanted.{Wanted}
+use Rattle.sched_workers.specs.declared.calls.Wanted.TheVariants.{Task, Entrance, AllMembers, FirstMember, Mutex, Sem, Rwl}
+use Rattle.sched_workers.specs.Wants.{op_of}
+use Rattle.sched_workers.proofs.Shapes.{Shaped, shaped}
 use Rattle.sched_threads.specs.Rounds.{Round, Rested, Ran, Watched, Tallied, Tallying, GivesUp, Reads, Writes, retries, tally_steps, asks, entries_in, all_in}
-use Rattle.sched_threads.specs.Carries.{MadeAs, CarriedAs}
+use Rattle.sched_threads.specs.Carries.{MadeAs}
 use Rattle.sched_threads.proofs.OwnEntries.{self_is}
 
 pub quiet_append : (xs ys : List NodeEntry) → NoPhase xs → NoPhase ys → NoPhase (xs ++ ys)
@@ -61,11 +62,13 @@ made_quiet w (Once o) q es r e = subst NoPhase (sym e) (q, tt)
 made_quiet w (Looking waits o timeout) q es r a =
     subst NoPhase (sym a.is) (quiet_append (replicate a.pending (entry w (o false) reply.Pending)) (entry w (o a.last) r ∷ []) (quiet_replicate a.pending (entry w (o false) reply.Pending) (q false)) (q a.last, tt))
 
-pub carried_quiet : (w : ℕ) (ss : List Statement) (bound : List ℕ) (es : List NodeEntry) → CarriedAs w bound ss es → NoPhase es
-unfolding CarriedAs
-carried_quiet w [] bound es a = subst NoPhase (sym a) tt
-carried_quiet w (s ∷ ss) bound es a =
-    subst NoPhase (sym a.3) (quiet_append a.0 a.1 (made_quiet w (call_of bound s.deed) (call_quiet bound s.deed) a.0 a.2 a.4) (carried_quiet w ss (bound ++ handle_of a.2 ∷ []) a.1 a.5))
+pub carried_quiet : (w : ℕ) (ss : List Statement) (bound : List ℕ) (es : List NodeEntry) (rs : List Reply) → Carried (MadeAs w) bound ss es rs → NoPhase es
+unfolding Carried
+carried_quiet w [] bound es [] a = subst NoPhase (sym a) tt
+carried_quiet w [] bound es (r ∷ rs) a = absurd a
+carried_quiet w (s ∷ ss) bound es [] a = absurd a
+carried_quiet w (s ∷ ss) bound es (r ∷ rs) a =
+    subst NoPhase (sym a.2) (quiet_append a.0 a.1 (made_quiet w (call_of bound s.deed) (call_quiet bound s.deed) a.0 r a.3) (carried_quiet w ss (bound ++ handle_of r ∷ []) a.1 rs a.4))
 
 asks_quiet : (w : ℕ) (t : TaskHandle) (heard : List Bool) → NoPhase (asks w t heard)
 asks_quiet w t [] = tt

@@ -29,10 +29,11 @@ use Rattle.history_law.specs.Seats.{is_late_end}
 use Rattle.history_law.proofs.Every.{Every, every_at}
 use Rattle.history_law.proofs.Others.{InTime}
 use Rattle.sched_workers.proofs.Rows.{AllSays, said, on_live, on_only}
-use Rattle.sched_threads.specs.declared.looks.Wanted.{Wanted}
-use Rattle.sched_threads.specs.declared.looks.Wanted.TheVariants as want
+use Rattle.sched_workers.specs.declared.calls.Wanted.{Wanted}
+use Rattle.sched_workers.specs.declared.calls.Wanted.TheVariants as want
 use Rattle.sched_threads.specs.Turns.{Seat, Turned, Unturned}
-use Rattle.sched_threads.specs.Looks.{op_of, IsTimed, Looked, StillLooking}
+use Rattle.sched_threads.specs.Looks.{Looked, StillLooking}
+use Rattle.sched_workers.specs.Wants.{op_of, IsTimed}
 use Rattle.sched_threads.specs.Answers.{AnsweredBy, Called, Waited}
 use Rattle.sched_threads.specs.Replies.{Standard, mtapi, mrapi, done, given, key, says, fits, found}
 use Rattle.sched_threads.proofs.OwnEntries.{turned_next, state_at, self_is}

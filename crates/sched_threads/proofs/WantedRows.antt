@@ -26,9 +26,9 @@ use Rattle.history_law.proofs.Every.{Every}
 use Rattle.history_law.proofs.Others.{InTime, in_time}
 use Rattle.sched_workers.specs.Lines.{is_timeout}
 use Rattle.sched_workers.proofs.Rows.{AllSays, said, on_live}
-use Rattle.sched_threads.specs.declared.looks.Wanted.{Wanted}
-use Rattle.sched_threads.specs.declared.looks.Wanted.TheVariants.{Task as TheEnd, Entrance, AllMembers, FirstMember, Mutex, Sem, Rwl}
-use Rattle.sched_threads.specs.Looks.{op_of, IsTimed}
+use Rattle.sched_workers.specs.declared.calls.Wanted.{Wanted}
+use Rattle.sched_workers.specs.declared.calls.Wanted.TheVariants.{Task as TheEnd, Entrance, AllMembers, FirstMember, Mutex, Sem, Rwl}
+use Rattle.sched_workers.specs.Wants.{op_of, IsTimed}
 
 pub on_cond : (P : Reply → Type 0) (b : Bool) (v w : Row) → AllSays P v → AllSays P w → AllSays P (cond b v w)
 on_cond P true v w h k = h

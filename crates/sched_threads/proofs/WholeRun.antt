@@ -19,13 +19,14 @@ use Rattle.mtapi_machine.proofs.Lists.{Legal-front, after-append}
 use Rattle.history_law.specs.Seats.{NoPhase, NoClose, BySeats}
 use Rattle.history_law.proofs.Others.{phase_stays, terms_stay}
 use Rattle.history_law.proofs.Bounds.{by_seats, early_stays, stopped_room}
-use Rattle.sched_workers.specs.RunOf.{has_begin, ClosesAtEnd}
-use Rattle.sched_workers.specs.Turns.{turns_of}
-use Rattle.sched_workers.specs.Whole.{MainBy, CallerBy, WorkerBy, CallersBy, PartsBy, RunBy}
+use Rattle.sched_workers.specs.Parts.{has_begin, Carried, MainRan, CallerRan, CallersRan, PartsRan}
+use Rattle.sched_workers.specs.RunOf.{ClosesAtEnd}
+use Rattle.sched_workers.specs.Turns.{Turn, turns_of}
+use Rattle.sched_workers.specs.Whole.{in_turns, WorkerBy, RunBy}
 use Rattle.history_law.specs.Seats.{OnceListed}
 use Rattle.handle_pool.specs.Issued.{listed}
 use Rattle.sched_threads.specs.Rounds.{all_in}
-use Rattle.sched_threads.specs.Carries.{CarriedAs}
+use Rattle.sched_threads.specs.Carries.{MadeAs}
 use Rattle.sched_threads.specs.Crews.{is_ok}
 use Rattle.sched_threads.specs.Parts.{MainAs, CallerAs, WorkerAs}
 use Rattle.sched_threads.specs.Bridges.{lets}
@@ -95,17 +96,22 @@ got_below (x ∷ ps) (suc i) p e = let l = got_below ps i p e in omega arith
 same_part : {p q : Part} → Some p ≡ Some q → p ≡ q
 same_part e = cc
 
-callers_by : (s : State) (L : List NodeEntry) (ps : List Part) (who : ℕ) → ((i : ℕ) (p : Part) → slice_get ps i ≡ Some p → CallerBy p.statements (turns_of (who + i) s L)) → CallersBy s L who ps
-unfolding CallersBy
-callers_by s L [] who f = tt
-callers_by s L (p ∷ ps) who f =
-    let here : who + 0 ≡ who = omega arith in (
-      subst (λ (n : ℕ). CallerBy p.statements (turns_of n s L)) here (f 0 p refl),
-      callers_by s L ps (suc who) (λ i q e. let n : who + suc i ≡ suc who + i = omega arith in subst (λ (m : ℕ). CallerBy q.statements (turns_of m s L)) n (f (suc i) q e)),
-    )
+-- the turns of a further caller, and the replies to its statements
+abbrev CallerBy : List Statement → List Turn → Type 0
+CallerBy ss ts = (rs : List Reply) × CallerRan in_turns ss ts rs
 
-carried_ok : (k : ℕ) (ss : List Statement) (r : Reply) (es : List NodeEntry) → r ≡ Ok → CarriedAs k [] (if is_ok r then ss else []) es → CarriedAs k [] ss es
-carried_ok k ss r es e c = subst (λ (q : Reply). CarriedAs k [] (if is_ok q then ss else []) es) e c
+callers_by : (s : State) (L : List NodeEntry) (ps : List Part) (who : ℕ) → ((i : ℕ) (p : Part) → slice_get ps i ≡ Some p → CallerBy p.statements (turns_of (who + i) s L))
+    → (rss : List (List Reply)) × CallersRan in_turns (λ k. turns_of k s L) who ps rss
+unfolding CallersRan
+callers_by s L [] who f = ([], tt)
+callers_by s L (p ∷ ps) who f =
+    let here : who + 0 ≡ who = omega arith in
+    let first = subst (λ (n : ℕ). CallerBy p.statements (turns_of n s L)) here (f 0 p refl) in
+    let more = callers_by s L ps (suc who) (λ i q e. let n : who + suc i ≡ suc who + i = omega arith in subst (λ (m : ℕ). CallerBy q.statements (turns_of m s L)) n (f (suc i) q e)) in
+    (first.0 ∷ more.0, (first.1, more.1))
+
+carried_ok : (k : ℕ) (ss : List Statement) (r : Reply) (es : List NodeEntry) (rs : List Reply) → r ≡ Ok → Carried (MadeAs k) [] (if is_ok r then ss else []) es rs → Carried (MadeAs k) [] ss es rs
+carried_ok k ss r es rs e c = subst (λ (q : Reply). Carried (MadeAs k) [] (if is_ok q then ss else []) es rs) e c
 
 -- before the first entry no task is listed
 once_opening : (terms : Terms) → OnceListed (opening terms)
@@ -154,7 +160,7 @@ module _ (terms : Terms) (w n : ℕ) (parts : List Part) (ss : List Statement) (
   -- no other seat moves the phase
   caller_quiet : (k : ℕ) (ps : List Statement) (es : List NodeEntry) → CallerAs k ps es → NoPhase es
   caller_quiet k ps es d =
-      subst NoPhase (sym d.is) (quiet_append (replicate d.pending (entry k op.Enter Pending)) (entry k op.Enter d.reply ∷ d.rest) (quiet_replicate d.pending (entry k op.Enter Pending) refl) (refl, carried_quiet k (if is_ok d.reply then ps else []) [] d.rest d.carried))
+      subst NoPhase (sym d.is) (quiet_append (replicate d.pending (entry k op.Enter Pending)) (entry k op.Enter d.reply ∷ d.rest) (quiet_replicate d.pending (entry k op.Enter Pending) refl) (refl, carried_quiet k (if is_ok d.reply then ps else []) [] d.rest d.replies d.carried))
 
   worker_quiet : (k : ℕ) (es : List NodeEntry) → WorkerAs k es → NoPhase es
   worker_quiet k es d = subst NoPhase (sym d.is) (quiet_append (all_in k d.rounds) (entry k op.Pick Stop ∷ []) (rounds_quiet k d.rounds) (refl, tt))
@@ -206,7 +212,7 @@ module _ (terms : Terms) (w n : ℕ) (parts : List Part) (ss : List Statement) (
       subst NoClose (sym own_before) (refl, lets_open (has_begin ss) x.main.let_is)
     where
       own_open : NoClose x.main.own
-      own_open = open_quiet x.main.own (carried_quiet w ss [] x.main.own x.main.carried)
+      own_open = open_quiet x.main.own (carried_quiet w ss [] x.main.own x.main.replies x.main.carried)
 
       lets_open : (b : Bool) → MatchBool b (x.main.lets ≡ []) ((r : Reply) × (x.main.lets ≡ entry w op.Release r ∷ [])) → NoClose (x.main.lets ++ x.main.own)
       lets_open true e = subst (λ (L : List NodeEntry). NoClose (L ++ x.main.own)) (sym e) own_open
@@ -309,15 +315,17 @@ module _ (terms : Terms) (w n : ℕ) (parts : List Part) (ss : List Statement) (
       ∙ ((λ i. entry w op.Initialize (first_is i) ∷ append_assoc ls es (C ∷ F ∷ []) i)
       ∙ (λ i. entry w op.Initialize Ok ∷ (named i ++ (es ++ entry w op.Close (closed_is i) ∷ entry w op.Final (final_is i) ∷ [])))))
 
-  pub main_by : MainBy ss (turns_of w (opening terms) H)
-  main_by = main_turns w ss x.main.own (opening terms) H x.main.carried (once_opening terms) x.legal main_is
+  pub main_by : MainRan in_turns ss (turns_of w (opening terms) H) x.main.replies
+  main_by = main_turns w ss x.main.own x.main.replies (opening terms) H x.main.carried (once_opening terms) x.legal main_is
 
   pub caller_by : (k : ℕ) (l : w < k) (h : k < n) → CallerBy (x.called k l h).part.statements (turns_of k (opening terms) H)
   caller_by k l h =
       let d = (x.called k l h).did in
-      let ok = entered k l h in
-      caller_turns k d.pending (x.called k l h).part.statements d.rest (opening terms) H (carried_ok k (x.called k l h).part.statements d.reply d.rest ok d.carried) (once_opening terms) x.legal
-      (d.is ∙ ap (λ (r : Reply). replicate d.pending (entry k op.Enter Pending) ++ entry k op.Enter r ∷ d.rest) ok)
+      let ok = entered k l h in (
+        d.replies,
+        caller_turns k d.pending (x.called k l h).part.statements d.rest d.replies (opening terms) H (carried_ok k (x.called k l h).part.statements d.reply d.rest d.replies ok d.carried) (once_opening terms) x.legal
+            (d.is ∙ ap (λ (r : Reply). replicate d.pending (entry k op.Enter Pending) ++ entry k op.Enter r ∷ d.rest) ok),
+      )
 
   pub worker_by : (k : ℕ) → k < w → WorkerBy (turns_of k (opening terms) H)
   worker_by k l = let d = (x.worked k l).did in worker_turns k d.rounds (opening terms) H d.is
@@ -348,12 +356,16 @@ module _ (load : Workload) (terms : Terms) (p : Part) (ps : List Part) (H : List
       (subst (λ (r : Part). CallerBy r.statements (turns_of (load.settings.workers + suc i) (opening terms) H)) same
       (caller_by terms load.settings.workers (load.settings.workers + length (p ∷ ps)) (p ∷ ps) p.statements H x (load.settings.workers + suc i) l h))
 
+  further : (rss : List (List Reply)) × CallersRan in_turns (λ k. turns_of k (opening terms) H) (suc load.settings.workers) ps rss
+  further = callers_by (opening terms) H ps (suc load.settings.workers) each_caller
+
   -- a whole history of these parts is a run of the workload
   pub run_by : load.parts ≡ p ∷ ps → RunBy load (opening terms) H
   run_by e = record {
+    replies = x.main.replies ∷ further.0;
     parts =
-        subst (λ (l : List Part). PartsBy (opening terms) H load.settings.workers l) (sym e)
-        (main_by terms load.settings.workers (load.settings.workers + length (p ∷ ps)) (p ∷ ps) p.statements H x, callers_by (opening terms) H ps (suc load.settings.workers) each_caller);
+        subst (λ (l : List Part). PartsRan in_turns (λ k. turns_of k (opening terms) H) load.settings.workers l (x.main.replies ∷ further.0)) (sym e)
+        (main_by terms load.settings.workers (load.settings.workers + length (p ∷ ps)) (p ∷ ps) p.statements H x, further.1);
     workers = λ k l. worker_by terms load.settings.workers (load.settings.workers + length (p ∷ ps)) (p ∷ ps) p.statements H x k l;
     ends = closes_at_end terms load.settings.workers (load.settings.workers + length (p ∷ ps)) (p ∷ ps) p.statements H x;
   }

@@ -10,8 +10,8 @@ use Rattle.mtapi_machine.specs.declared.ops.Op.{Op}
 use Rattle.mtapi_machine.specs.declared.ops.Op.TheVariants as op
 use Rattle.mtapi_machine.specs.declared.replies.Reply.{Reply}
 use Rattle.mtapi_machine.specs.declared.replies.Reply.TheVariants as reply
-use Rattle.sched_threads.specs.declared.looks.Wanted.{Wanted}
-use Rattle.sched_threads.specs.declared.looks.Wanted.TheVariants as want
+use Rattle.sched_workers.specs.declared.calls.Wanted.{Wanted}
+use Rattle.sched_workers.specs.declared.calls.Wanted.TheVariants as want
 
 -- What a call reads from a reply that isn't a status: that it was done, a handle, a number, the end of a task, and a member of a group with its end
 

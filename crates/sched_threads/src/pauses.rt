@@ -3,7 +3,11 @@
 use crossbeam_utils::Backoff;
 use std::sync::Wait;
 use std::sync::atomic::AtomicU64;
+use std::thread;
 use std::time::Duration;
+
+// So often it spins before it gives its time away once and then sleeps. Each look takes a turn for which others wait, so they are few.
+const SPINS: u32 = 3;
 
 // So long the longest sleep is, in microseconds.
 const LONGEST: u64 = 1_000;
@@ -15,6 +19,8 @@ const FEW: u64 = 2_000;
 #[derive(Drop)]
 pub(crate) struct Pause {
     backoff: Backoff,
+    // How often it has waited without a sleep, at most once more than it spins.
+    short: u32,
     // The length of the next sleep, in microseconds.
     micros: u64,
     // How many sleeps are left; without one it gives its time away.
@@ -37,6 +43,7 @@ impl Pause {
     fn with(left: u64) -> Pause {
         Pause {
             backoff: Backoff::new(),
+            short: 0,
             micros: 1,
             left,
             asleep: AtomicU64::new(0),
@@ -46,13 +53,20 @@ impl Pause {
     /// Begins anew, after there was something to do.
     pub(crate) fn reset(&mut self) {
         self.backoff.reset();
+        self.short = 0;
         self.micros = 1;
     }
 
     /// Waits once.
     pub(crate) fn wait<R: Wait>(&mut self, rt: &R) {
-        if !self.backoff.is_completed() || self.left == 0 {
-            self.backoff.snooze();
+        if self.short < SPINS {
+            self.short += 1;
+            self.backoff.spin();
+            return;
+        }
+        if self.short == SPINS || self.left == 0 {
+            self.short = SPINS + 1;
+            thread::yield_now();
             return;
         }
         self.left -= 1;

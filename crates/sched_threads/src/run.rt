@@ -102,10 +102,18 @@ fn journal_after(cell: TurnCell<Journaled>, crew: Crew) -> Result<RunJournal, Ru
     }
 }
 
-/// Carries a workload out on a new node: the workers and the further callers each in a thread of its own, main on the calling thread.
+/// Carries a workload out on a new node: the workers and the further callers each in a thread of
+/// its own, main on the calling thread.
 ///
-/// Main meets each further caller before it begins the end of the node, and each worker before it ends it. Where a thread is refused, no
-/// statement is executed, and all that were started end.
+/// Main meets each further caller before it begins the end of the node, and each worker before it
+/// ends it.
+///
+/// # Errors
+///
+/// - `Refused`: a thread was refused. No statement was executed, and all threads that were started
+///   have ended.
+/// - `Spent`: the tickets of the cell ran out.
+/// - `Memory`: there was no memory for the cell, for the handles of a caller, or for the journal.
 pub fn run_node<S: ActionSource, B: Beside, R: StartsThreads + Wait + Sync>(
     rt: &R,
     alloc: Global,

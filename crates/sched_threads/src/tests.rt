@@ -1,5 +1,8 @@
 //! Each call of a caller once, on a node whose worker never comes to its turn: a task ends only where it is cancelled.
 
+ghost use Rattle.std.specs.Prelude.{◌≡◌};
+ghost use Rattle.turn_cell.specs.Seats.{fresh_seat, fresh_seats};
+
 use crate::callers::Caller;
 use mtapi_values::{
     ActionAttr, Args, JobHandle, Kind, MrapiStatus, MtapiStatus, MutexAttr, NodeAttr, QueueAttr,
@@ -8,7 +11,31 @@ use mtapi_values::{
 use node_core::{Journaled, Node};
 use std::sync::Wait;
 use std::test::Fail;
-use turn_cell::TurnCell;
+use turn_cell::{TurnCell, TurnSeat};
+
+// The seats of the two callers.
+#[derive(Drop)]
+struct Seats {
+    caller: TurnSeat<Journaled>,
+    other: TurnSeat<Journaled>,
+}
+
+// A node with one worker and two callers has three seats.
+fn deal(cell: &TurnCell<Journaled>, seats: Vec<TurnSeat<Journaled>>) -> Seats
+    requires { seats.items ≡ fresh_seats cell.now.terms cell.now.id 0 3 }
+    ensures caller { result.caller ≡ fresh_seat cell.now.terms cell.now.id 1 }
+    ensures other { result.other ≡ fresh_seat cell.now.terms cell.now.id 2 }
+{
+    let _ = cell;
+    let mut seats = seats;
+    let Some(other) = seats.pop() else {
+        unreachable!()
+    };
+    let Some(caller) = seats.pop() else {
+        unreachable!()
+    };
+    Seats { caller, other }
+}
 
 fn is_cancelled(end: &Result<TaskEnd, MtapiStatus>) -> bool {
     matches!(end, Ok(TaskEnd::Cancelled))
@@ -107,15 +134,10 @@ fn segments<R: Wait>(rt: &R, caller: &mut Caller) -> Result<bool, MrapiStatus> {
 fn each_call_of_a_caller(rt: HostRuntime) -> Result<(), Fail> {
     let alloc = rt.alloc();
     let node = Node::init(alloc, NodeAttr::new(), 2)?;
-    let (cell, mut seats) = TurnCell::new(alloc, Journaled::without(node))?;
-    let Some(seat) = seats.pop() else {
-        unreachable!()
-    };
-    let mut other = Caller::new(&cell, seat);
-    let Some(seat) = seats.pop() else {
-        unreachable!()
-    };
-    let mut caller = Caller::new(&cell, seat);
+    let (cell, seats) = TurnCell::new(alloc, Journaled::without(node))?;
+    let Seats { caller, other } = deal(&cell, seats);
+    let mut caller = Caller::new(&cell, caller);
+    let mut other = Caller::new(&cell, other);
     assert_eq!(rt; caller.initialize(&rt), Ok(()));
     assert_eq!(rt; caller.release(&rt), Ok(()));
     assert_eq!(rt; other.enter(&rt), Ok(()));

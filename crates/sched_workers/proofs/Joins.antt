@@ -18,10 +18,11 @@ use Rattle.mtapi_machine.specs.Row.{handle_of}
 use Rattle.mtapi_machine.specs.Legal.{NodeEntry, next, after_from}
 use Rattle.mtapi_machine.specs.Kept.{is_dropped, is_pending, kept, skipped, no_counts}
 use Rattle.sched_workers.specs.Calls.{Call, Once, Looking, call_of}
-use Rattle.sched_workers.specs.Lines.{Line, line, KeepsTimeout, is_timeout, Made, Carried}
-use Rattle.sched_workers.specs.RunOf.{has_begin, head_of, MainRan, CallerRan, CallersRan, PartsRan, is_work, all_work, WorkerRan, ClosesAtEnd, RunOf}
+use Rattle.sched_workers.specs.Lines.{Line, line, lines_of, KeepsTimeout, is_timeout, Made, head_of, in_lines}
+use Rattle.sched_workers.specs.Parts.{has_begin, Carried, MainRan, CallerRan, CallersRan, PartsRan}
+use Rattle.sched_workers.specs.RunOf.{is_work, all_work, WorkerRan, ClosesAtEnd, RunOf}
 use Rattle.sched_workers.specs.Turns.{Turn, stayed, turns_of, lines_left}
-use Rattle.sched_workers.specs.Whole.{none_of, first_alone, pended, MadeBy, CarriedBy, head_turns, MainBy, CallerBy, CallersBy, PartsBy, all_worked, WorkerBy, RunBy, HasSeats}
+use Rattle.sched_workers.specs.Whole.{none_of, first_alone, pended, MadeBy, head_turns, tail_turns, in_turns, all_worked, WorkerBy, RunBy, HasSeats, JournalIsRun}
 use Rattle.sched_workers.proofs.Left.{journal_lines}
 
 -- Pending looks that no journal keeps are counted
@@ -84,21 +85,23 @@ made_leaves (Looking waits o timeout) ts rest r m =
     subst (λ (x : List Turn). Leaves (Looking waits o timeout) r x rest) (sym m.is) (looks_leave waits o timeout r m.last m.marks rest m.one_kept m.none_kept m.decides m.within m.late)
 
 -- the lines of a list of statements, in front of what follows
-pub record CarriedLeaves (bound : List ℕ) (ss : List Statement) (ts rest : List Turn) : Type 0 where
+pub record CarriedLeaves (bound : List ℕ) (ss : List Statement) (ts rest : List Turn) (rs : List Reply) : Type 0 where
   pub body : List Line
   pub is : lines_left 0 (ts ++ rest) ≡ body ++ lines_left 0 rest
-  pub carried : Carried bound ss body
+  pub carried : Carried Made bound ss body rs
 
-carried_leaves : (bound : List ℕ) (ss : List Statement) (ts rest : List Turn) → CarriedBy bound ss ts → CarriedLeaves bound ss ts rest
-unfolding CarriedBy Carried
-carried_leaves bound [] ts rest c = record { body = []; is = ap (λ (x : List Turn). lines_left 0 (x ++ rest)) c; carried = refl }
-carried_leaves bound (s ∷ ss) ts rest (prefix, back, r, is, made, more) =
-    let x = made_leaves (call_of bound s.deed) prefix (back ++ rest) r made in
-    let y = carried_leaves (bound ++ handle_of r ∷ []) ss back rest more in
+carried_leaves : (bound : List ℕ) (ss : List Statement) (ts rest : List Turn) (rs : List Reply) → Carried MadeBy bound ss ts rs → CarriedLeaves bound ss ts rest rs
+unfolding Carried
+carried_leaves bound [] ts rest [] c = record { body = []; is = ap (λ (x : List Turn). lines_left 0 (x ++ rest)) c; carried = refl }
+carried_leaves bound [] ts rest (r ∷ rs) c = absurd c
+carried_leaves bound (s ∷ ss) ts rest [] c = absurd c
+carried_leaves bound (s ∷ ss) ts rest (r ∷ rs) (front, back, is, made, more) =
+    let x = made_leaves (call_of bound s.deed) front (back ++ rest) r made in
+    let y = carried_leaves (bound ++ handle_of r ∷ []) ss back rest rs more in
     record {
       body = x.prefix ++ y.body;
-      is = ap (λ (l : List Turn). lines_left 0 (l ++ rest)) is ∙ ap (λ (l : List Turn). lines_left 0 l) (append_assoc prefix back rest) ∙ x.is ∙ ap (λ (l : List Line). x.prefix ++ l) y.is ∙ sym (append_assoc x.prefix y.body (lines_left 0 rest));
-      carried = (x.prefix, y.body, r, refl, x.made, y.carried);
+      is = ap (λ (l : List Turn). lines_left 0 (l ++ rest)) is ∙ ap (λ (l : List Turn). lines_left 0 l) (append_assoc front back rest) ∙ x.is ∙ ap (λ (l : List Line). x.prefix ++ l) y.is ∙ sym (append_assoc x.prefix y.body (lines_left 0 rest));
+      carried = (x.prefix, y.body, refl, x.made, y.carried);
     }
 
 -- callers
@@ -108,43 +111,56 @@ unfolding lines_left
 head_left true rest = refl
 head_left false rest = refl
 
-main_ran : (ss : List Statement) (ts : List Turn) → MainBy ss ts → MainRan ss (lines_left 0 ts)
+main_ran : (ss : List Statement) (ts : List Turn) (rs : List Reply) → MainRan in_turns ss ts rs → MainRan in_lines ss (lines_left 0 ts) rs
 unfolding lines_left
-main_ran ss ts m =
-    let tail = stayed op.Close reply.Ok ∷ stayed op.Final reply.Ok ∷ [] in
-    let x = carried_leaves [] ss m.body tail m.carried in
+main_ran ss ts rs m =
+    let x = carried_leaves [] ss m.body tail_turns rs m.carried in
     record {
       body = x.body;
-      is = ap (λ (l : List Turn). lines_left 0 l) m.is ∙ head_left (has_begin ss) (m.body ++ tail) ∙ ap (λ (l : List Line). head_of (has_begin ss) ++ l) x.is;
+      is = ap (λ (l : List Turn). lines_left 0 l) m.is ∙ head_left (has_begin ss) (m.body ++ tail_turns) ∙ ap (λ (l : List Line). head_of (has_begin ss) ++ l) x.is;
       carried = x.carried;
     }
 
-caller_ran : (ss : List Statement) (ts : List Turn) → CallerBy ss ts → CallerRan ss (lines_left 0 ts)
+caller_ran : (ss : List Statement) (ts : List Turn) (rs : List Reply) → CallerRan in_turns ss ts rs → CallerRan in_lines ss (lines_left 0 ts) rs
 unfolding lines_left
-caller_ran ss ts m =
-    let x = carried_leaves [] ss m.body [] m.carried in
+caller_ran ss ts rs m =
+    let x = carried_leaves [] ss m.body [] rs m.carried in
+    let marks = m.entered.marks in
+    let n = 0 + length marks in
     record {
+      front = line op.Enter reply.Ok n ∷ [];
       body = x.body;
-      looks = 0 + length m.marks;
-      is = ap (λ (l : List Turn). lines_left 0 l) m.is ∙ pended_left op.Enter m.marks 0 (stayed op.Enter reply.Ok ∷ m.body) m.none_kept
-          ∙ ap (λ (l : List Line). line op.Enter reply.Ok (0 + length m.marks) ∷ l) (ap (λ (l : List Turn). lines_left 0 l) (sym (append-nil m.body)) ∙ x.is ∙ append-nil x.body);
+      entered = (n, refl);
+      is = ap (λ (l : List Turn). lines_left 0 l) (m.is ∙ ap (λ (l : List Turn). l ++ m.body) m.entered.is ∙ append_assoc (pended op.Enter marks) (stayed op.Enter reply.Ok ∷ []) m.body)
+          ∙ pended_left op.Enter marks 0 (stayed op.Enter reply.Ok ∷ m.body) m.entered.none_kept
+          ∙ ap (λ (l : List Line). line op.Enter reply.Ok n ∷ l) (ap (λ (l : List Turn). lines_left 0 l) (sym (append-nil m.body)) ∙ x.is ∙ append-nil x.body);
       carried = x.carried;
     }
 
-callers_ran : (terms : Terms) (L : List NodeEntry) (who : ℕ) (ps : List Part) → who + length ps ≤ 25 → CallersBy (opening terms) L who ps → CallersRan (kept (opening terms) L) (skipped (opening terms) no_counts L) who ps
-unfolding CallersBy CallersRan
-callers_ran terms L who [] small c = tt
-callers_ran terms L who (p ∷ ps) small (c, cs) = (
-  subst (λ (ls : List Line). CallerRan p.statements ls) (sym (journal_lines terms L who (omega (arith, small)))) (caller_ran p.statements (turns_of who (opening terms) L) c),
-  callers_ran terms L (suc who) ps (omega (arith, small)) cs,
-)
+module _ (terms : Terms) (L : List NodeEntry) where
+  abbrev turns : ℕ → List Turn
+  turns who = turns_of who (opening terms) L
 
-parts_ran : (terms : Terms) (L : List NodeEntry) (main : ℕ) (ps : List Part) → main + length ps ≤ 25 → PartsBy (opening terms) L main ps → PartsRan (kept (opening terms) L) (skipped (opening terms) no_counts L) main ps
-parts_ran terms L main [] small c = c
-parts_ran terms L main (p ∷ ps) small (c, cs) = (
-  subst (λ (ls : List Line). MainRan p.statements ls) (sym (journal_lines terms L main (omega (arith, small)))) (main_ran p.statements (turns_of main (opening terms) L) c),
-  callers_ran terms L (suc main) ps (omega (arith, small)) cs,
-)
+  abbrev lines : ℕ → List Line
+  lines who = lines_of who (kept (opening terms) L) (skipped (opening terms) no_counts L)
+
+  callers_ran : (who : ℕ) (ps : List Part) (rss : List (List Reply)) → who + length ps ≤ 25 → CallersRan in_turns turns who ps rss → CallersRan in_lines lines who ps rss
+  unfolding CallersRan
+  callers_ran who [] [] small c = tt
+  callers_ran who [] (rs ∷ rss) small c = absurd c
+  callers_ran who (p ∷ ps) [] small c = absurd c
+  callers_ran who (p ∷ ps) (rs ∷ rss) small (c, cs) = (
+    subst (λ (ls : List Line). CallerRan in_lines p.statements ls rs) (sym (journal_lines terms L who (omega (arith, small)))) (caller_ran p.statements (turns who) rs c),
+    callers_ran (suc who) ps rss (omega (arith, small)) cs,
+  )
+
+  parts_ran : (main : ℕ) (ps : List Part) (rss : List (List Reply)) → main + length ps ≤ 25 → PartsRan in_turns turns main ps rss → PartsRan in_lines lines main ps rss
+  parts_ran main [] rss small c = absurd c
+  parts_ran main (p ∷ ps) [] small c = absurd c
+  parts_ran main (p ∷ ps) (rs ∷ rss) small (c, cs) = (
+    subst (λ (ls : List Line). MainRan in_lines p.statements ls rs) (sym (journal_lines terms L main (omega (arith, small)))) (main_ran p.statements (turns main) rs c),
+    callers_ran (suc main) ps rss (omega (arith, small)) cs,
+  )
 
 -- workers
 
@@ -213,9 +229,16 @@ closes_kept s main L c =
       callers_ended = λ who l. none_entered who s2 c.behind (c.callers_ended who l);
     }
 
-pub journal_is_run : (load : Workload) (terms : Terms) (L : List NodeEntry) → HasSeats load → RunBy load (opening terms) L → RunOf load (kept (opening terms) L) (skipped (opening terms) no_counts L)
-journal_is_run load terms L seats run = record {
-  parts = parts_ran terms L load.settings.workers load.parts (omega (arith, seats.0, seats.1)) run.parts;
+-- where a history is a run of the workload, so is its journal
+pub journal_run : (load : Workload) (terms : Terms) (L : List NodeEntry) → HasSeats load → RunBy load (opening terms) L → RunOf load (kept (opening terms) L) (skipped (opening terms) no_counts L)
+journal_run load terms L seats run = record {
+  replies = run.replies;
+  parts = parts_ran terms L load.settings.workers load.parts run.replies (omega (arith, seats.0, seats.1)) run.parts;
   workers = λ w l. subst (λ (ls : List Line). WorkerRan ls) (sym (journal_lines terms L w (omega (arith, l, seats.0)))) (worker_ran (turns_of w (opening terms) L) (run.workers w l));
   ends = closes_kept (opening terms) load.settings.workers L run.ends;
 }
+
+-- with the same replies
+pub journal_is_run : JournalIsRun
+unfolding journal_run
+journal_is_run load terms L seats run = (journal_run load terms L seats run, refl)

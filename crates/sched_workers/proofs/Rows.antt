@@ -1,13 +1,11 @@
 -- Reading the rows of the machine: which reply a row allows, and which state it gives.
-use Rattle.std.proofs.Common.{◌≡◌, ℕ, ◌<◌, Bool, true, false, not, List, [], ◌∷◌, ◌++◌, Option, Some, None, ℤ, refl, sym, ◌∙◌, ap, subst}
+use Rattle.std.proofs.Common.{◌≡◌, ℕ, ◌<◌, Bool, true, false, not, List, [], ◌∷◌, Option, Some, None, ℤ, refl, sym, ◌∙◌, ap, subst}
 use Rattle.std.specs.Prelude.{nat_lt}
 use Rattle.std.proofs.lemmas.Bool.{lt-ltb}
 use Rattle.mtapi_values.specs.declared.statuses.MtapiStatus.{MtapiStatus}
-use Rattle.mtapi_values.specs.declared.statuses.MtapiStatus.TheVariants as m
 use Rattle.mtapi_values.specs.declared.statuses.MrapiStatus.{MrapiStatus}
-use Rattle.mtapi_values.specs.declared.statuses.MrapiStatus.TheVariants as x
 use Rattle.mtapi_machine.specs.declared.replies.Reply.{Reply}
-use Rattle.mtapi_machine.specs.declared.replies.Reply.TheVariants.{Ok, Handle, Number, Pending, Mtapi, Mrapi}
+use Rattle.mtapi_machine.specs.declared.replies.Reply.TheVariants.{Ok, Handle, Number, Mtapi, Mrapi}
 use Rattle.mtapi_machine.specs.declared.ops.Op.{Op}
 use Rattle.mtapi_machine.specs.declared.ops.Op.TheVariants as op
 use Rattle.mtapi_objects.specs.Tasks.{Task, TaskState, Scheduled, Running, Ended}

@@ -1,4 +1,6 @@
 pub mod Calls
+pub mod Wants
+pub mod Parts
 pub mod Lines
 pub mod RunOf
 pub mod Turns

@@ -1,17 +1,17 @@
--- One seat's part of a journal, and the part of it that a list of statements makes.
+-- One seat's part of a journal, and how its calls are told by it.
 use Rattle.std.specs.Prelude.{◌≡◌, ℕ, ◌+◌, ◌≤◌, Bool, true, false, ◌==◌, List, [], ◌∷◌, ◌++◌, Option, Some, None, if◌then◌else◌}
 use Rattle.mtapi_values.specs.declared.timeouts.Timeout.{Timeout}
 use Rattle.mtapi_values.specs.Timeouts.{looks_of}
 use Rattle.mtapi_values.specs.declared.statuses.MtapiStatus.TheVariants as mtapi
 use Rattle.mtapi_values.specs.declared.statuses.MrapiStatus.TheVariants as mrapi
-use Rattle.workload_file.specs.declared.workload.Statement.{Statement}
 use Rattle.mtapi_machine.specs.declared.ops.Op.{Op}
+use Rattle.mtapi_machine.specs.declared.ops.Op.TheVariants as op
 use Rattle.mtapi_machine.specs.declared.replies.Reply.{Reply}
 use Rattle.mtapi_machine.specs.declared.replies.Reply.TheVariants as reply
-use Rattle.mtapi_machine.specs.Row.{handle_of}
 use Rattle.mtapi_machine.specs.Legal.{NodeEntry}
 use Rattle.mtapi_machine.specs.Kept.{is_pending}
-use Rattle.sched_workers.specs.Calls.{Call, Once, Looking, call_of}
+use Rattle.sched_workers.specs.Calls.{Call, Once, Looking}
+use Rattle.sched_workers.specs.Parts.{Form}
 
 -- an entry of one seat, and the number beside it
 pub record Line : Type 0 where
@@ -66,8 +66,19 @@ abbrev pub Made : Call → List Line → Reply → Type 0
 Made (Once o) lines r = (lines ≡ line o r 0 ∷ []) × (is_pending r ≡ false)
 Made (Looking waits o timeout) lines r = Looked waits o timeout lines r
 
--- the lines of the statements in order, where the earlier ones bound these handles: each statement binds the handle of its reply
-unfoldable pub Carried : List ℕ → List Statement → List Line → Type 0
-Carried bound [] lines = lines ≡ []
-Carried bound (s ∷ ss) lines =
-    (prefix : List Line) × (rest : List Line) × (r : Reply) × (lines ≡ prefix ++ rest) × Made (call_of bound s.deed) prefix r × Carried (bound ++ handle_of r ∷ []) ss rest
+-- main initializes, and releases at once where no statement does
+abbrev pub head_of : Bool → List Line
+head_of true = line op.Initialize reply.Ok 0 ∷ []
+head_of false = line op.Initialize reply.Ok 0 ∷ line op.Release reply.Ok 0 ∷ []
+
+-- main closes, and finalizes
+abbrev pub tail_of_main : List Line
+tail_of_main = line op.Close reply.Ok 0 ∷ line op.Final reply.Ok 0 ∷ []
+
+-- a further caller enters, after any number of looks
+abbrev pub Entered : List Line → Type 0
+Entered lines = (looks : ℕ) × (lines ≡ line op.Enter reply.Ok looks ∷ [])
+
+-- what a seat makes, told by lines
+abbrev pub in_lines : Form Line
+in_lines = record { made = Made; head = head_of; tail = tail_of_main; entrance = Entered }

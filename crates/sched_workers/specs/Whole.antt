@@ -1,9 +1,7 @@
 -- A run of a workload, said of the whole history and not of its journal.
-use Rattle.std.specs.Prelude.{◌≡◌, ℕ, suc, ◌+◌, ◌<◌, Bool, true, false, not, ◌&&◌, List, [], ◌∷◌, ◌++◌, length, map, if◌then◌else◌}
+use Rattle.std.specs.Prelude.{◌≡◌, ℕ, ◌+◌, ◌<◌, Bool, true, false, not, ◌&&◌, List, [], ◌∷◌, ◌++◌, length, map, if◌then◌else◌}
 use Rattle.mtapi_values.specs.declared.timeouts.Timeout.{Timeout}
 use Rattle.mtapi_values.specs.Timeouts.{looks_of}
-use Rattle.workload_file.specs.declared.workload.Statement.{Statement}
-use Rattle.workload_file.specs.declared.workload.Part.{Part}
 use Rattle.workload_file.specs.declared.workload.Workload.{Workload}
 use Rattle.mtapi_machine.specs.declared.ops.Op.{Op}
 use Rattle.mtapi_machine.specs.declared.ops.Op.TheVariants as op
@@ -11,12 +9,12 @@ use Rattle.mtapi_machine.specs.declared.replies.Reply.{Reply}
 use Rattle.mtapi_machine.specs.declared.replies.Reply.TheVariants as reply
 use Rattle.mtapi_machine.specs.declared.terms.Terms.{Terms}
 use Rattle.mtapi_machine.specs.State.{State, opening}
-use Rattle.mtapi_machine.specs.Row.{handle_of}
 use Rattle.mtapi_machine.specs.Legal.{NodeEntry}
 use Rattle.mtapi_machine.specs.Kept.{is_pending, kept, skipped, no_counts}
-use Rattle.sched_workers.specs.Calls.{Call, Once, Looking, call_of}
+use Rattle.sched_workers.specs.Calls.{Call, Once, Looking}
 use Rattle.sched_workers.specs.Lines.{KeepsTimeout, is_timeout, lines_of}
-use Rattle.sched_workers.specs.RunOf.{has_begin, is_work, ClosesAtEnd, RunOf}
+use Rattle.sched_workers.specs.Parts.{Form, PartsRan}
+use Rattle.sched_workers.specs.RunOf.{is_work, ClosesAtEnd, RunOf}
 use Rattle.sched_workers.specs.Turns.{Turn, stayed, turns_of, lines_left}
 
 -- none of them is true
@@ -50,39 +48,24 @@ abbrev pub MadeBy : Call → List Turn → Reply → Type 0
 MadeBy (Once o) ts r = (ts ≡ stayed o r ∷ []) × (is_pending r ≡ false)
 MadeBy (Looking waits o timeout) ts r = Looks waits o timeout ts r
 
--- the turns of the statements in order, where the earlier ones bound these handles
-unfoldable pub CarriedBy : List ℕ → List Statement → List Turn → Type 0
-CarriedBy bound [] ts = ts ≡ []
-CarriedBy bound (s ∷ ss) ts =
-    (prefix : List Turn) × (rest : List Turn) × (r : Reply) × (ts ≡ prefix ++ rest) × MadeBy (call_of bound s.deed) prefix r × CarriedBy (bound ++ handle_of r ∷ []) ss rest
-
 -- main initializes, and releases at once where no statement does
 abbrev pub head_turns : Bool → List Turn
 head_turns true = stayed op.Initialize reply.Ok ∷ []
 head_turns false = stayed op.Initialize reply.Ok ∷ stayed op.Release reply.Ok ∷ []
 
--- main's turns
-pub record MainBy (statements : List Statement) (ts : List Turn) : Type 0 where
-  pub body : List Turn
-  pub is : ts ≡ head_turns (has_begin statements) ++ (body ++ stayed op.Close reply.Ok ∷ stayed op.Final reply.Ok ∷ [])
-  pub carried : CarriedBy [] statements body
+-- main closes, and finalizes
+abbrev pub tail_turns : List Turn
+tail_turns = stayed op.Close reply.Ok ∷ stayed op.Final reply.Ok ∷ []
 
--- a further caller's turns: looks at the entrance that no journal keeps, and then it enters
-pub record CallerBy (statements : List Statement) (ts : List Turn) : Type 0 where
+-- a further caller looks at the entrance, which no journal keeps, and then it enters
+pub record EnteredBy (ts : List Turn) : Type 0 where
   pub marks : List Bool
   pub none_kept : none_of marks ≡ true
-  pub body : List Turn
-  pub is : ts ≡ pended op.Enter marks ++ stayed op.Enter reply.Ok ∷ body
-  pub carried : CarriedBy [] statements body
+  pub is : ts ≡ pended op.Enter marks ++ stayed op.Enter reply.Ok ∷ []
 
--- the turns of the further callers, from this seat on
-unfoldable pub CallersBy : State → List NodeEntry → ℕ → List Part → Type 0
-CallersBy s L who [] = Unit {0}
-CallersBy s L who (p ∷ ps) = CallerBy p.statements (turns_of who s L) × CallersBy s L (suc who) ps
-
-abbrev pub PartsBy : State → List NodeEntry → ℕ → List Part → Type 0
-PartsBy s L main [] = ⊥
-PartsBy s L main (p ∷ ps) = MainBy p.statements (turns_of main s L) × CallersBy s L (suc main) ps
+-- what a seat makes, told by turns
+abbrev pub in_turns : Form Turn
+in_turns = record { made = MadeBy; head = head_turns; tail = tail_turns; entrance = EnteredBy }
 
 -- each turn that a journal keeps is work
 unfoldable pub all_worked : List Turn → Bool
@@ -97,7 +80,9 @@ pub record WorkerBy (ts : List Turn) : Type 0 where
 
 -- the history from this state on is a run of the workload
 pub record RunBy (load : Workload) (s : State) (L : List NodeEntry) : Type 0 where
-  pub parts : PartsBy s L load.settings.workers load.parts
+  -- the replies to the statements of each part
+  pub replies : List (List Reply)
+  pub parts : PartsRan in_turns (λ who. turns_of who s L) load.settings.workers load.parts replies
   pub workers : (w : ℕ) → w < load.settings.workers → WorkerBy (turns_of w s L)
   pub ends : ClosesAtEnd load.settings.workers L
 
@@ -109,7 +94,8 @@ LinesAreLeft = (terms : Terms) (L : List NodeEntry) (who : ℕ) → who < 25 →
 abbrev pub HasSeats : Workload → Type 0
 HasSeats load = (load.settings.workers < 17) × (length load.parts < 10)
 
--- where a history is a run of the workload, so is its journal
+-- where a history is a run of the workload, so is its journal, with the same replies
 abbrev pub JournalIsRun : Type 0
 JournalIsRun =
-    (load : Workload) (terms : Terms) (L : List NodeEntry) → HasSeats load → RunBy load (opening terms) L → RunOf load (kept (opening terms) L) (skipped (opening terms) no_counts L)
+    (load : Workload) (terms : Terms) (L : List NodeEntry) → HasSeats load → (run : RunBy load (opening terms) L)
+    → (told : RunOf load (kept (opening terms) L) (skipped (opening terms) no_counts L)) × (told.replies ≡ run.replies)

@@ -3,4 +3,9 @@
 //! The definitions stand in `specs/`. The functions of `laws` have no body: each contract is a law that follows from the definitions.
 #![tactic(auto)]
 
+mod calls;
 pub mod laws;
+mod statements;
+
+pub use calls::{Call, Wanted, call_of};
+pub use statements::has_begin;

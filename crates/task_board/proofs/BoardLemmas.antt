@@ -17,7 +17,7 @@ use Rattle.ready_index.specs.declared.marks.Mark.{Mark}
 use Rattle.ready_index.specs.Marks.{ReadyMarks}
 use Rattle.mtapi_objects.specs.Actions.{Action}
 use Rattle.mtapi_objects.specs.Queues.{Queue}
-use Rattle.job_table.specs.Answers.{job_of}
+use Rattle.job_table.specs.Answers.{job_of, IsUnion}
 use Rattle.mtapi_objects.specs.Tasks.{Task, NewTask, new_task, Running, is_unstarted, with_state, TaskState, Scheduled, Ended, scheduled, end_of}
 use Rattle.task_core.specs.Table.{TaskTable}
 use Rattle.group_core.specs.Members.{GroupTable}
@@ -28,10 +28,10 @@ use Rattle.queue_core.specs.declared.facts.QueueFacts.{QueueFacts}
 use Rattle.mtapi_values.specs.declared.handles.QueueHandle.{QueueHandle}
 use Rattle.mtapi_values.specs.declared.statuses.MtapiStatus.TheVariants.{ErrQueueExists, ErrQueueLimit}
 use Rattle.task_board.specs.Queued.{begins_in, AreQueued, NoneWaitsIn}
-use Rattle.task_board.specs.Board.{BoardTable, IsBoard, IsMarkOf, Marked, AreWaiting, AreRunning, AreRanked, running_on, IsFresh, Remarked}
+use Rattle.task_board.specs.Board.{BoardTable, IsBoard, IsMarkOf, Marked, AreWaiting, AreRunning, AreRanked, running_on, IsFresh, Remarked, RemarkedUnless}
 use Rattle.task_board.proofs.SeenLemmas.{some_same, SeenAs, seen-as, seen-live, unstarted-seen}
 use Rattle.task_board.proofs.MoveLemmas.{started-put, Put, Alone, Steady, alone-old, alone-new, put-insert, put-changed, max-insert, max-changed, marked-put, marked-steady, ranked-put, waiting-push, waiting-leave, running-begin, running-same, stands-handle}
-use Rattle.task_board.proofs.RemarkLemmas.{SameBut, SteadyBut, marked-anew}
+use Rattle.task_board.proofs.RemarkLemmas.{SameBut, SteadyBut, marked-anew, marked-over}
 use Rattle.task_board.proofs.GivenLemmas.{put-queue_changed, put-queue_insert, put-queue_without}
 use Rattle.task_board.proofs.QueuedLemmas.{queued-apart, queued-enqueue, queued-run, queued-with, queued-new, queued-gone, begins-same, begins-enqueue}
 use Rattle.task_board.proofs.MemberLemmas.{members-same}
@@ -274,6 +274,30 @@ remark-board b new ready job k same r = record {
   members = k.members;
   task_slots = k.task_slots;
 }
+
+-- the same where the waiting tasks of the job are marked anew unless its actions cover the cores that they covered
+pub changed-board : (b : BoardTable) (new : Slots Action) (ready : ReadyMarks) (job mask : ℕ) → IsBoard b → SameBut job b.actions new → IsUnion b.actions job mask → RemarkedUnless new (begins_in b.queues.pool) (seen_in b.tasks.pool) job mask (list_at b.waiting.lists 0) b.ready ready → IsBoard (record b { actions = new; ready = ready })
+changed-board b new ready job mask k same was r = elim r [
+  | inl anew ↦ remark-board b new ready job k same anew
+  | inr u ↦ subst (λ (m : ReadyMarks). IsBoard (record b { actions = new; ready = m })) (sym u.1) (record {
+    few = k.few;
+    workers = k.workers;
+    priorities = k.priorities;
+    slots = k.slots;
+    places = k.places;
+    lists = k.lists;
+    seats = k.seats;
+    room = k.room;
+    marked = marked-over job mask b.actions new (begins_in b.queues.pool) (seen_in b.tasks.pool) b.ready.marks same was u.0 k.marked;
+    waiting_are = k.waiting_are;
+    running_are = k.running_are;
+    ranked = k.ranked;
+    started = k.started;
+    queued = k.queued;
+    members = k.members;
+    task_slots = k.task_slots;
+  })
+]
 
 -- Other queues
 

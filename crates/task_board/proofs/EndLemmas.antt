@@ -21,7 +21,7 @@ use Rattle.task_board.specs.Board.{BoardTable, IsBoard, Becomes, AreWaiting, rec
 use Rattle.task_board.specs.Ends.{ended_next, ended_if, ended_each, EndsWaiting}
 use Rattle.task_board.proofs.SeenLemmas.{some_same, seen-as, seen-live}
 use Rattle.task_board.proofs.MarkLemmas.{and_left, and_right}
-use Rattle.task_board.proofs.MoveLemmas.{Put, put-ended}
+use Rattle.task_board.proofs.MoveLemmas.{Put, put-ended, or-right}
 use Rattle.task_board.proofs.OrderLemmas.{waiting-once, waiting-beside, has-itself, at-middle, past-middle, append-middle}
 
 -- a waiting task is live and hasn't begun
@@ -188,4 +188,22 @@ pub union-disabled : (actions : Slots Action) (job : ℕ) → Covers actions job
 union-disabled actions job c = record {
   covered = λ w e. absurd (false≢true (sym (in_mask-zero w) ∙ e));
   uncovered = λ w off h a g r. c.1 h a g (and_left (has_enabled_job job a) _ r);
+}
+
+-- Where none passes
+
+each-none : (p : Task → Bool) (e : TaskEnd) (q : TaskTable) (hs : List ℕ) → ((h : ℕ) → has_handle h hs ≡ true → holds p (slot_value q.pool h) ≡ false) → ended_each p e hs q ≡ q
+each-none p e q [] none = refl
+each-none p e q (h ∷ hs) none =
+    ap (λ (b : Bool). ended_each p e hs (cond b (ended_next e h q) q)) (none h (has-itself h [] hs))
+    ∙ each-none p e q hs (λ k on. none k (or-right (h == k) _ on))
+
+-- a board on which no task that hasn't begun passes is what it is once those that pass have ended
+pub none-ends : (p : Task → Bool) (e : TaskEnd) (b : BoardTable) → IsBoard b → ((h : ℕ) (t : Task) → slot_value b.tasks.pool h ≡ Some t → is_unstarted t ≡ true → p t ≡ false) → EndsWaiting p e b.tasks b.tasks
+none-ends p e b k none = record {
+  list = list_at b.waiting.lists 0;
+  waiting = k.waiting_are;
+  now = sym (each-none p e b.tasks (list_at b.waiting.lists 0) (λ h on.
+      let t = waits-live b.tasks.pool (list_at b.waiting.lists 0) h k.waiting_are on in
+      ap (holds p) t.1 ∙ none h t.0 t.1 t.2));
 }

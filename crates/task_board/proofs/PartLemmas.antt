@@ -70,7 +70,7 @@ pub record Member (p : Slots Task) (g h : ℕ) (e : Option ℕ) : Type 0 where
 test-self : (g : ℕ) → (g == g) ≡ true
 test-self g = elim (eqb_tells g g) [ inl same ↦ same.0 | inr apart ↦ absurd (apart.1 refl) ]
 
-member-from : (p : Slots Task) (g h : ℕ) (e : Membership) → members_in p h ≡ Some e → e.group ≡ g → Member p g h e.end
+pub member-from : (p : Slots Task) (g h : ℕ) (e : Membership) → members_in p h ≡ Some e → e.group ≡ g → Member p g h e.end
 member-from p g h e f is = by_found (slot_value p h) refl f
   where
     by_group : (t : Task) → slot_value p h ≡ Some t → (o : Option ℕ) → t.notes.group ≡ o → member_as t o ≡ Some e → Member p g h e.end

@@ -1,7 +1,7 @@
 -- Marks made anew for the waiting tasks of one job.
 use Rattle.std.proofs.Common.{◌≡◌, ◌≢◌, ℕ, zero, suc, ◌<◌, ◌+◌, Bool, true, List, [], ◌∷◌, length, length-set, Option, Some, None, set, slice_get, refl, sym, ◌∙◌, ap, subst, inl, inr, arith}
 use Rattle.std.specs.Prelude.{◌==◌}
-use Rattle.std.proofs.lemmas.Bool.{cases_eq}
+use Rattle.std.proofs.lemmas.Bool.{cases_eq, cases_Bool}
 use Rattle.std.proofs.lemmas.List.{get_or-set_same, get_or-set_other}
 use Rattle.std.proofs.lemmas.Option.{slice_get_within}
 use Rattle.mtapi_values.specs.declared.kinds.Kind.{Kind}
@@ -13,7 +13,9 @@ use Rattle.linked_places.proofs.NextLemmas.{has-index, index-has}
 use Rattle.ready_index.specs.declared.marks.Mark.{Mark}
 use Rattle.ready_index.specs.Marks.{ReadyMarks, mark_at, is_for_at}
 use Rattle.mtapi_objects.specs.Actions.{Action, has_enabled_job, new_action, with_enabled}
-use Rattle.job_table.specs.Answers.{runs_job_on}
+use Rattle.handle_pool.specs.Walks.{SomeLive}
+use Rattle.mtapi_values.specs.Masks.{in_mask}
+use Rattle.job_table.specs.Answers.{runs_job_on, IsUnion, Passes}
 use Rattle.mtapi_objects.specs.Tasks.{Task}
 use Rattle.task_board.specs.Seen.{Seen, seen_in, Takes}
 use Rattle.task_board.specs.Board.{IsMarkOf, Marked, AreWaiting, IsFresh, IsFreshFor, StandsBefore, Remarked}
@@ -202,6 +204,36 @@ marked-anew old new lets now p job hs was after same steady waits done m = recor
     fresh h s e j n =
         let i = has-index h hs (waits.listed h s e n) in
         done.fresh i.0 h s (slice_get_within hs i.0 h i.1) i.1 e j
+
+-- The same cores
+
+-- a worker that had an action of the job has one, where the actions cover the cores that they covered
+runs-over : (job mask w : ℕ) (old new : Slots Action) → IsUnion old job mask → IsUnion new job mask → SomeLive (slot_value old) (Passes (runs_job_on job w)) → SomeLive (slot_value new) (Passes (runs_job_on job w))
+runs-over job mask w old new was now a = elim (cases_Bool (in_mask w mask)) [
+  | inl on ↦ now.covered w on
+  | inr off ↦ absurd (was.uncovered w off a.0 a.1 a.2 a.3)
+]
+
+takes-over : (job mask : ℕ) (old new : Slots Action) (lets : Option ℕ → Bool) (w : ℕ) (s : Seen) → SameBut job old new → IsUnion old job mask → IsUnion new job mask → Takes old lets w s → Takes new lets w s
+takes-over job mask old new lets w s same was now k = elim (cases_eq s.job job) [
+  | inl mine ↦ record {
+    waits = k.waits;
+    queue = k.queue;
+    core = k.core;
+    action = subst (λ (j : ℕ). SomeLive (slot_value new) (Passes (runs_job_on j w))) (sym mine)
+        (runs-over job mask w old new was now (subst (λ (j : ℕ). SomeLive (slot_value old) (Passes (runs_job_on j w))) mine k.action));
+  }
+  | inr other ↦ takes-there job old new lets lets w s same other refl k
+]
+
+-- the marks are right for the other actions as they are, where those of the job cover the cores that they covered
+pub marked-over : (job mask : ℕ) (old new : Slots Action) (lets : ℕ → Option ℕ → Bool) (at : ℕ → Option Seen) (marks : List (Option Mark)) → SameBut job old new → IsUnion old job mask → IsUnion new job mask → Marked old lets at marks → Marked new lets at marks
+marked-over job mask old new lets at marks same was now m = record {
+  sound = λ w q place e.
+      let s = m.sound w q place e in
+      (s.0, s.1, s.2, s.3, s.4, takes-over job mask old new (lets s.0) w s.1 same was now s.5);
+  whole = λ w h s e k. m.whole w h s e (takes-over job mask new old (lets h) w s (record { there = same.back; back = same.there }) now was k);
+}
 
 -- the list has something at each index below its length
 pub past-none : (hs : List ℕ) (i : ℕ) → i < length hs → slice_get hs i ≡ None → ⊥

@@ -7,6 +7,7 @@ use Rattle.linked_places.specs.Lists.{HandleLists, list_at, has_handle}
 use Rattle.ready_index.specs.declared.marks.Mark.{Mark}
 use Rattle.ready_index.specs.Marks.{ReadyMarks, mark_at, is_for_at}
 use Rattle.mtapi_objects.specs.Actions.{Action}
+use Rattle.job_table.specs.Answers.{IsUnion}
 use Rattle.mtapi_objects.specs.Queues.{Queue}
 use Rattle.task_core.specs.Table.{TaskTable}
 use Rattle.queue_core.specs.Held.{HeldQueue, QueueTable}
@@ -136,3 +137,7 @@ pub record Remarked (actions : Slots Action) (lets : ℕ → Option ℕ → Bool
   pub slots : length new.marks ≡ length old.marks
   pub fresh : (i h : ℕ) (s : Seen) → i < index → slice_get hs i ≡ Some h → at h ≡ Some s → s.job ≡ job → IsMarkOf actions (lets h) (at h) (mark_at new.marks (slot_of h))
   pub others : (place : ℕ) → (mark_at new.marks place ≡ mark_at old.marks place) ⊎ StandsBefore at job hs index place
+
+-- the waiting tasks of the job are marked anew; or its actions cover these cores, and the marks are as they were
+abbrev pub RemarkedUnless : (actions : Slots Action) (lets : ℕ → Option ℕ → Bool) (at : ℕ → Option Seen) (job mask : ℕ) (hs : List ℕ) (old new : ReadyMarks) → Type 0
+RemarkedUnless actions lets at job mask hs old new = Remarked actions lets at job hs (length hs) old new ⊎ (IsUnion actions job mask × (new ≡ old))

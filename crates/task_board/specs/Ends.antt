@@ -1,12 +1,12 @@
 -- Ends of waiting tasks, many at once.
-use Rattle.std.specs.Prelude.{◌≡◌, ℕ, ◌+◌, Bool, not, ◌&&◌, ◌==◌, List, [], ◌∷◌, Option, if◌then◌else◌}
+use Rattle.std.specs.Prelude.{◌≡◌, ℕ, ◌+◌, Bool, true, false, not, ◌&&◌, ◌==◌, List, [], ◌∷◌, Option, Some, if◌then◌else◌}
 use Rattle.mtapi_values.specs.declared.ends.TaskEnd.{TaskEnd}
 use Rattle.mtapi_values.specs.declared.masks.Mask.{Mask}
 use Rattle.mtapi_values.specs.Conditions.{holds}
 use Rattle.mtapi_values.specs.Masks.{in_mask}
 use Rattle.handle_pool.specs.Slots.{Slots, slot_value}
 use Rattle.mtapi_objects.specs.Actions.{Action, some_below}
-use Rattle.mtapi_objects.specs.Tasks.{Task}
+use Rattle.mtapi_objects.specs.Tasks.{Task, is_unstarted}
 use Rattle.mtapi_objects.specs.Queues.{Queue, is_in}
 use Rattle.job_table.specs.Answers.{IsUnion}
 use Rattle.task_core.specs.Table.{TaskTable, ended_in}
@@ -18,6 +18,10 @@ use Rattle.task_board.specs.Board.{AreWaiting}
 -- the task has this job, and of so many workers none is on these cores and on those of the task
 abbrev pub is_unserved : ℕ → ℕ → ℕ → Task → Bool
 is_unserved workers job cores t = (t.job == job) && not (some_below workers (λ w. in_mask w cores && in_mask w t.cores))
+
+-- each task of the job that hasn't begun has one of so many workers on these cores
+abbrev pub AreServed : ℕ → ℕ → ℕ → Slots Task → Type 0
+AreServed workers job cores tasks = (h : ℕ) (t : Task) → slot_value tasks h ≡ Some t → is_unstarted t ≡ true → is_unserved workers job cores t ≡ false
 
 -- a queue is named that is live and disabled
 abbrev pub is_shut : Slots Queue → Option ℕ → Bool

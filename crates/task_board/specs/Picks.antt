@@ -1,6 +1,8 @@
 -- Which task a worker may take, as the slots show it.
 use Rattle.std.specs.Prelude.{◌≡◌, ℕ, ◌<◌, Bool, true, Option, Some, None}
 use Rattle.mtapi_values.specs.Masks.{in_mask}
+use Rattle.mtapi_values.specs.declared.handles.ActionHandle.{ActionHandle}
+use Rattle.mtapi_values.specs.declared.handles.TaskHandle.{TaskHandle}
 use Rattle.handle_pool.specs.Slots.{Slots, slot_value}
 use Rattle.handle_pool.specs.Walks.{SomeLive}
 use Rattle.mtapi_objects.specs.Actions.{Action}
@@ -31,6 +33,11 @@ module _ (actions : Slots Action) (tasks : Slots Task) (queues : Slots HeldQueue
     pub kind : a.kind ≡ c.kind
     pub priority : t.priority ≡ c.priority
     pub runs : RunsBy (begins_in queues c.task.0) w t a
+
+  -- the choice of this task and this action, where these are one
+  abbrev pub IsChoiceOf : TaskHandle → ActionHandle → Option Choice → Type 0
+  IsChoiceOf task action None = (c : Choice) → c.task ≡ task → c.action ≡ action → IsChoice c → ⊥
+  IsChoiceOf task action (Some c) = (c.task ≡ task) × (c.action ≡ action) × IsChoice c
 
   -- no live task may be taken
   abbrev pub NoneTakeable : Type 0

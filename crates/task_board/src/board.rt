@@ -1,21 +1,22 @@
 //! The board.
 
-ghost use Rattle.std.specs.Prelude.{◌≡◌, ◌+◌, ◌≤◌, ◌<◌, ◌^◌, ℕ, replicate, Some, None, IfSome, IfOk, Ok, OnOk, OnErr, slice_get, is_some, not, true, false, length};
+ghost use Rattle.std.specs.Prelude.{◌≡◌, ◌+◌, ◌≤◌, ◌<◌, ◌^◌, ℕ, replicate, Some, None, IfSome, IsNone, IfOk, Ok, OnOk, OnErr, slice_get, is_some, not, true, false, length};
 ghost use Rattle.std.specs.Option.{option_copied, option_map};
 ghost use Rattle.std.specs.Bool.{OnTrue, OnFalse};
 ghost use Rattle.mtapi_values.specs.Attributes.{IsWithin};
-ghost use Rattle.handle_pool.specs.Slots.{Slots, slot_of, slot_value, free_slot, changed, without};
+ghost use Rattle.handle_pool.specs.Slots.{Slots, slot_of, slot_value, free_slot, changed, without, live_count};
+ghost use Rattle.mtapi_values.specs.declared.statuses.MtapiStatus.TheVariants.{ErrQueueExists};
 ghost use Rattle.handle_pool.specs.Walks.{SomeLive, NoneLive};
 ghost use Rattle.linked_places.specs.Lists.{list_at, has_handle};
 ghost use Rattle.mtapi_objects.specs.Actions.{Action, with_enabled};
-ghost use Rattle.job_table.specs.Answers.{Creates as CreatesAction, Covers, Passes, job_of};
+ghost use Rattle.job_table.specs.Answers.{Creates as CreatesAction, Covers, IsUnion, Passes, job_of};
 ghost use Rattle.mtapi_objects.specs.Tasks.{Task, is_unstarted, is_unended, runs_on, with_state, Running, runner, with_notes, cancel_requested};
 ghost use Rattle.task_core.specs.Records.{asked_task, group_number, shown_state};
 ghost use Rattle.task_core.specs.Answers.{look_reply, asked_of, after_asked, watch_end_of};
 ghost use Rattle.task_core.specs.Tallies.{tallied};
 ghost use Rattle.task_core.specs.Table.{Adds, IsLiveAnd, ended_in, looked_in, unended_count};
-ghost use Rattle.task_board.specs.Picks.{IsBest, IsChoice};
-ghost use Rattle.queue_core.specs.Held.{new_queue, Creates as CreatesQueue, Finds, live_reply, with_opened, with_task, put_reply, NoTaskAt, facts_of};
+ghost use Rattle.task_board.specs.Picks.{IsBest, IsChoice, IsChoiceOf};
+ghost use Rattle.queue_core.specs.Held.{new_queue, Creates as CreatesQueue, Finds, live_reply, with_opened, with_task, put_reply, NoTaskAt, facts_of, HasId};
 ghost use Rattle.group_core.specs.Members.{Creates, no_members, counts_of};
 ghost use Rattle.task_board.specs.Seen.{seen_in};
 ghost use Rattle.task_board.specs.Queued.{IsRoomFor, NoneWaitsIn};
@@ -23,7 +24,8 @@ ghost use Rattle.task_board.specs.Members.{MayJoin};
 ghost use Rattle.task_board.specs.GroupMoves.{Regroups, TakesFirst, LeavesFirst};
 ghost use Rattle.task_board.specs.Board.{IsBoard, Becomes, BecomesWith};
 
-use crate::marks::{clear, leave_queue, refresh, remark, slot_of};
+use crate::ends::{cores_beside, covered_cores};
+use crate::marks::{clear, leave_queue, may_run, refresh, remark, remark_where_changed, slot_of};
 use crate::members::{join, note_end};
 use group_core::Groups;
 use job_table::{Actions, Cover};
@@ -97,7 +99,9 @@ impl Model for Board {
 }
 
 impl Board {
-    /// A board without actions, tasks, queues and groups, with room for as many as the settings say, and with all the memory that they will use.
+    /// Makes a board without actions, tasks, queues and groups, with room for as many as the
+    /// settings say, and takes all the memory that they will use. It fails for want of memory
+    /// alone.
     pub fn new(alloc: Global, attr: NodeAttr) -> Result<Board, AllocError>
         ensures settings { IfOk result (λ b. b.settings ≡ attr) }
         ensures action_turns { IfOk result (λ b. b.actions.generations ≡ attr.generations) }
@@ -159,6 +163,41 @@ impl Board {
         self.settings.priorities()
     }
 
+    /// Tells how many actions are live.
+    pub fn live_actions(&self) -> u32
+        ensures { result ≡ live_count self.now.actions }
+    {
+        self.actions.live()
+    }
+
+    /// Tells how many tasks are live.
+    pub fn live_tasks(&self) -> u32
+        ensures { result ≡ live_count self.now.tasks.pool }
+    {
+        self.tasks.live()
+    }
+
+    /// Tells how many groups are live.
+    pub fn live_groups(&self) -> u32
+        ensures { result ≡ live_count self.now.groups.pool }
+    {
+        self.groups.live()
+    }
+
+    /// Tells how many queues are live.
+    pub fn live_queues(&self) -> u32
+        ensures { result ≡ live_count self.now.queues.pool }
+    {
+        self.queues.live()
+    }
+
+    /// Whether a handle names a live action.
+    pub fn is_action(&self, a: ActionHandle) -> bool
+        ensures { result ≡ is_some (slot_value self.now.actions a.0) }
+    {
+        self.actions.is_live(a)
+    }
+
     /// Which cores the live actions of a job cover.
     pub fn cover(&self, job: u32) -> Cover
         ensures { Covers self.now.actions job result }
@@ -173,7 +212,7 @@ impl Board {
         self.tasks.unended()
     }
 
-    /// How far a live task has come.
+    /// Tells how far a live task has come. None exactly where it isn't live.
     pub fn state(&self, t: TaskHandle) -> Option<TaskState>
         ensures { result ≡ option_map (λ (task : Task). shown_state task.state) (slot_value self.now.tasks.pool t.0) }
     {
@@ -226,7 +265,8 @@ impl Board {
         self.running[worker as usize].is_some()
     }
 
-    /// A task of the least priority that the worker may take.
+    /// Finds a task of the least priority number that the worker may take. None exactly where it
+    /// may take none; which of several isn't said.
     pub fn best(&self, worker: u32) -> Option<Choice>
         requires { worker < self.now.settings.workers }
         ensures { IsBest self.now.actions self.now.tasks.pool self.now.queues.pool worker result }
@@ -239,6 +279,30 @@ impl Board {
         };
         let Some((action, kind)) = self.actions.choice(record.job(), worker) else {
             unreachable!()
+        };
+        Some(Choice {
+            task,
+            action,
+            kind,
+            priority: record.priority(),
+        })
+    }
+
+    /// The choice of this task and this action, for a worker that wants just these. None exactly
+    /// where the worker may not take the task by the action.
+    pub fn choice_of(&self, worker: u32, task: TaskHandle, action: ActionHandle) -> Option<Choice>
+        requires { worker < self.now.settings.workers }
+        ensures { IsChoiceOf self.now.actions self.now.tasks.pool self.now.queues.pool worker task action result }
+    {
+        let _ = self.settings.workers();
+        let Some(record) = self.tasks.get(task) else {
+            return None;
+        };
+        if !may_run(&self.queues, task, record, worker) {
+            return None;
+        }
+        let Some(kind) = self.actions.kind_for(action, record.job(), worker) else {
+            return None;
         };
         Some(Choice {
             task,
@@ -279,6 +343,13 @@ impl Board {
         self.tasks.note_tally(t, tally);
     }
 
+    /// The cores that the enabled actions of an action's job cover.
+    pub fn covered(&self, a: ActionHandle) -> Mask
+        ensures { (x : Action) → slot_value self.now.actions a.0 ≡ Some x → IsUnion self.now.actions x.job result.0 }
+    {
+        cores_beside(&self.actions, a)
+    }
+
     /// Makes an enabled action, as `Actions::create` says it.
     pub fn create_action(
         &mut self,
@@ -289,15 +360,17 @@ impl Board {
         ensures creates { CreatesAction self.old.actions job kind cores.0 result self.new.actions }
         ensures new { Becomes self.old self.new self.new.actions self.old.tasks }
     {
+        let before = covered_cores(self.actions.cover(job));
         match self.actions.create(job, kind, cores) {
             Ok(action) => {
-                remark(
+                remark_where_changed(
                     &mut self.ready,
                     &self.waiting,
                     &self.tasks,
                     &self.queues,
                     &self.actions,
                     job,
+                    before,
                 );
                 Ok(action)
             }
@@ -310,15 +383,17 @@ impl Board {
         ensures reply { result ≡ job_of (slot_value self.old.actions a.0) }
         ensures new { Becomes self.old self.new (changed self.old.actions a.0 (with_enabled true)) self.old.tasks }
     {
+        let before = cores_beside(&self.actions, a);
         match self.actions.enable(a) {
             Ok(job) => {
-                remark(
+                remark_where_changed(
                     &mut self.ready,
                     &self.waiting,
                     &self.tasks,
                     &self.queues,
                     &self.actions,
                     job,
+                    before,
                 );
                 Ok(job)
             }
@@ -331,14 +406,16 @@ impl Board {
         ensures reply { result ≡ job_of (slot_value self.old.actions a.0) }
         ensures new { Becomes self.old self.new (changed self.old.actions a.0 (with_enabled false)) self.old.tasks }
     {
+        let before = cores_beside(&self.actions, a);
         let job = self.actions.disable(a)?;
-        remark(
+        remark_where_changed(
             &mut self.ready,
             &self.waiting,
             &self.tasks,
             &self.queues,
             &self.actions,
             job,
+            before,
         );
         Ok(job)
     }
@@ -349,14 +426,16 @@ impl Board {
         ensures ok { OnOk result (Becomes self.old self.new (without self.old.actions a.0) self.old.tasks) }
         ensures err { OnErr result (Becomes self.old self.new self.old.actions self.old.tasks) }
     {
+        let before = cores_beside(&self.actions, a);
         let job = self.actions.delete(a)?;
-        remark(
+        remark_where_changed(
             &mut self.ready,
             &self.waiting,
             &self.tasks,
             &self.queues,
             &self.actions,
             job,
+            before,
         );
         Ok(job)
     }
@@ -388,7 +467,8 @@ impl Board {
         }
     }
 
-    /// Adds a scheduled task to a live queue that takes it, as `Tasks::add` says it. It enters the group that it names.
+    /// Adds a scheduled task to a live queue that takes it, as `Tasks::add` says it. It enters the
+    /// group that it names. That the queue takes it is for the caller to see first.
     pub fn enqueue(&mut self, queue: QueueHandle, task: NewTask) -> Result<TaskHandle, MtapiStatus>
         requires few { self.old.tasks.starts < 2 ^ 63 }
         requires queue { IsRoomFor self.old.queues.pool queue.0 (asked_task task) }
@@ -476,6 +556,14 @@ impl Board {
         self.queues.get(id)
     }
 
+    /// Tells why a create of a queue of this id is refused, as `Queues::create_refusal` says it.
+    pub fn queue_refusal(&self, id: u32) -> Option<MtapiStatus>
+        ensures exists { IfSome result (λ c. (c ≡ ErrQueueExists) × SomeLive (slot_value self.now.queues.pool) (HasId id)) }
+        ensures new_id { IsNone result → NoneLive (slot_value self.now.queues.pool) (HasId id) }
+    {
+        self.queues.create_refusal(id)
+    }
+
     /// Makes an enabled queue with no tasks, as `Queues::create` says it.
     pub fn create_queue(
         &mut self,
@@ -557,14 +645,16 @@ impl Board {
         let _ = self.groups.delete(g);
     }
 
-    /// How many members of a live group weren't handed out, and how many of these have ended.
+    /// Tells how many members of a live group weren't handed out, and how many of these have ended.
+    /// None exactly where the group isn't live.
     pub fn left(&self, g: GroupHandle) -> Option<(u32, u32)>
         ensures { result ≡ option_map counts_of (slot_value self.now.groups.pool g.0) }
     {
         self.groups.left(g)
     }
 
-    /// Frees the member of a group that ended first, and gives its end.
+    /// Frees the member of a group that ended first, and gives its end. None where the group isn't
+    /// live, or no member is left that has ended.
     pub fn take_first(&mut self, g: GroupHandle) -> Option<(TaskHandle, TaskEnd)>
         ensures { TakesFirst self.old g.0 result self.new }
     {
@@ -575,7 +665,8 @@ impl Board {
         }
     }
 
-    /// Has the member of a group that entered first leave, of those that haven't ended; it becomes detached.
+    /// Has the member of a group that entered first leave, of those that haven't ended; it becomes
+    /// detached. None where the group isn't live, or there is no such member.
     pub fn leave_first(&mut self, g: GroupHandle) -> Option<TaskHandle>
         ensures { LeavesFirst self.old g.0 result self.new }
     {

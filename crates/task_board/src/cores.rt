@@ -7,7 +7,7 @@ ghost use Rattle.mtapi_objects.specs.Actions.{some_below};
 use mtapi_values::Mask;
 
 // Whether the core is in the mask.
-fn has_core(mask: Mask, core: u32) -> bool
+pub(crate) fn has_core(mask: Mask, core: u32) -> bool
     requires { core < 64 }
     ensures { result ≡ in_mask core mask.0 }
 {

@@ -1,6 +1,6 @@
 //! Ends of waiting tasks, many at once.
 
-ghost use Rattle.std.specs.Prelude.{◌≡◌, ◌==◌, ℕ, true, ◌<◌};
+ghost use Rattle.std.specs.Prelude.{◌≡◌, ◌==◌, ℕ, Some, true, ◌<◌};
 ghost use Rattle.mtapi_values.specs.Conditions.{holds};
 ghost use Rattle.handle_pool.specs.Slots.{Slots, slot_value};
 ghost use Rattle.mtapi_values.specs.declared.ends.TaskEnd.TheVariants.{Failed, Cancelled};
@@ -11,12 +11,12 @@ ghost use Rattle.task_core.specs.Table.{IsLiveAnd};
 ghost use Rattle.mtapi_objects.specs.Queues.{is_in};
 ghost use Rattle.task_core.specs.Records.{queue_number};
 ghost use Rattle.task_board.specs.Board.{IsBoard, Becomes, records_of};
-ghost use Rattle.task_board.specs.Ends.{is_shut, passes, ended_if, EndsWaiting, EndsUnserved};
+ghost use Rattle.task_board.specs.Ends.{is_shut, passes, ended_if, AreServed, EndsWaiting, EndsUnserved};
 
 use crate::board::Board;
 use crate::cores::share_core;
-use job_table::Cover;
-use mtapi_values::{Mask, MtapiStatus, QueueHandle, TaskEnd, TaskHandle};
+use job_table::{Actions, Cover};
+use mtapi_values::{ActionHandle, Mask, MtapiStatus, QueueHandle, TaskEnd, TaskHandle};
 use task_core::TaskRecord;
 
 /// Which of the tasks that haven't begun a call ends.
@@ -41,12 +41,22 @@ fn is_named(queue: QueueHandle, named: Option<QueueHandle>) -> bool
 }
 
 // The cores that the enabled actions of a job cover.
-fn covered_cores(cover: Cover) -> Mask
+pub(crate) fn covered_cores(cover: Cover) -> Mask
     ensures { (actions : Slots Action) (job : ℕ) → Covers actions job cover → IsUnion actions job result.0 }
 {
     match cover {
         Cover::NoAction | Cover::AllDisabled => Mask(0),
         Cover::Cores(mask) => mask,
+    }
+}
+
+// The cores that the enabled actions of an action's job cover.
+pub(crate) fn cores_beside(actions: &Actions, a: ActionHandle) -> Mask
+    ensures { (x : Action) → slot_value actions.now a.0 ≡ Some x → IsUnion actions.now x.job result.0 }
+{
+    match actions.job(a) {
+        Ok(job) => covered_cores(actions.cover(job)),
+        Err(_) => Mask(0),
     }
 }
 
@@ -106,12 +116,17 @@ impl Board {
         }
     }
 
-    /// Ends the tasks of a job that haven't begun and that no worker can take, in the order of their starts.
-    pub fn end_unserved(&mut self, job: u32, status: MtapiStatus)
+    /// Ends the tasks of a job that haven't begun and that no worker can take, in the order of their starts. While its actions
+    /// covered the cores `before`, each of its tasks had a worker: where they still do, no task is visited.
+    pub fn end_unserved(&mut self, job: u32, before: Mask, status: MtapiStatus)
         ensures new { Becomes self.old self.new self.old.actions self.new.tasks }
-        ensures ends { EndsUnserved self.old.settings.workers self.old.actions job (Failed status) self.old.tasks self.new.tasks }
+        ensures ends { AreServed self.old.settings.workers job before.0 self.old.tasks.pool → EndsUnserved self.old.settings.workers self.old.actions job (Failed status) self.old.tasks self.new.tasks }
     {
+        self.is_kept();
         let cores = covered_cores(self.cover(job));
+        if cores.0 == before.0 {
+            return;
+        }
         self.end_waiting(
             WaitingTest::Unserved { job, cores },
             &TaskEnd::Failed(status),

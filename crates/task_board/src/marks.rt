@@ -9,10 +9,13 @@ ghost use Rattle.mtapi_objects.specs.Tasks.{is_unstarted};
 ghost use Rattle.task_core.specs.Records.{queue_number};
 ghost use Rattle.queue_core.specs.Held.{HeldQueue, first_task};
 ghost use Rattle.mtapi_values.specs.Conditions.{holds};
+ghost use Rattle.mtapi_values.specs.Masks.{in_mask};
 ghost use Rattle.task_board.specs.Seen.{seen, seen_in};
 ghost use Rattle.task_board.specs.Queued.{begins_in, left_queue, head_of};
-ghost use Rattle.task_board.specs.Board.{IsMarkOf, AreRanked, AreWaiting, IsFresh, IsFreshAt, IsFreshFor, Remarked};
+ghost use Rattle.task_board.specs.Board.{IsMarkOf, AreRanked, AreWaiting, IsFresh, IsFreshAt, IsFreshFor, Remarked, RemarkedUnless};
 
+use crate::cores::has_core;
+use crate::ends::covered_cores;
 use job_table::{Actions, Cover};
 use linked_places::LinkedLists;
 use mtapi_values::{Mask, QueueHandle, TaskHandle};
@@ -80,6 +83,14 @@ fn is_ready(queues: &Queues, task: TaskHandle, found: &TaskRecord) -> bool
     ensures { result ≡ (is_unstarted found.now && begins_in queues.now.pool task.0 found.now.queue) }
 {
     matches!(found.state(), TaskState::Scheduled) && may_begin(queues, task, found.queue())
+}
+
+// Whether the task hasn't begun, its queue, if any, lets it, and it may run on this core.
+pub(crate) fn may_run(queues: &Queues, task: TaskHandle, found: &TaskRecord, core: u32) -> bool
+    requires { core < 64 }
+    ensures { result ≡ ((is_unstarted found.now && begins_in queues.now.pool task.0 found.now.queue) && in_mask core found.now.cores) }
+{
+    is_ready(queues, task, found) && has_core(found.cores(), core)
 }
 
 // The workers in both masks.
@@ -207,4 +218,27 @@ pub(crate) fn remark(
         refresh_for(ready, cover, tasks, queues, job, TaskHandle(task));
         next = waiting.next(task);
     }
+}
+
+// Marks the slots of the waiting tasks of a job anew where its actions cover other cores than these, which they covered before. Where
+// they cover the same ones, every task has the workers that it had.
+pub(crate) fn remark_where_changed(
+    ready: &mut ReadyIndex,
+    waiting: &LinkedLists,
+    tasks: &Tasks,
+    queues: &Queues,
+    actions: &Actions,
+    job: u32,
+    before: Mask,
+)
+    requires lists { length waiting.now.lists ≡ 1 }
+    requires places { length ready.old.marks ≡ max_of tasks.now.pool }
+    requires waits { AreWaiting (seen_in tasks.now.pool) (list_at waiting.now.lists 0) }
+    requires ranked { AreRanked (seen_in tasks.now.pool) ready.old.priorities }
+    ensures { RemarkedUnless actions.now (begins_in queues.now.pool) (seen_in tasks.now.pool) job before.0 (list_at waiting.now.lists 0) ready.old ready.new }
+{
+    if covered_cores(actions.cover(job)).0 == before.0 {
+        return;
+    }
+    remark(ready, waiting, tasks, queues, actions, job);
 }

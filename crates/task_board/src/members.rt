@@ -82,7 +82,8 @@ fn unended_count(board: &Board, g: GroupHandle) -> u32
     }
 }
 
-/// Frees the members of a live group that have ended, in the order of their ends, and gives the first fault.
+/// Frees the members of a live group that have ended, in the order of their ends, and gives the
+/// status of the first that wasn't completed, if there is one.
 pub fn free_members(board: &mut Board, g: GroupHandle) -> Option<MtapiStatus>
     requires { IsSome (slot_value board.old.groups.pool g.0) }
     ensures freed { FreesAll board.old board.new g.0 result }

@@ -7,7 +7,7 @@ pub mod tallies;
 
 ghost use Rattle.std.specs.Prelude.{◌≡◌, ◌+◌, ◌≤◌, ◌<◌, ◌^◌, replicate, Some, IsSome, IfSome, IfOk, slice_get, is_some, not};
 ghost use Rattle.std.specs.Option.{option_copied, option_map};
-ghost use Rattle.handle_pool.specs.Slots.{slot_value, free_slot, without, changed, used_at};
+ghost use Rattle.handle_pool.specs.Slots.{slot_value, free_slot, without, changed, used_at, live_count};
 ghost use Rattle.mtapi_objects.specs.Tasks.{Task, is_unstarted, is_unended, with_state, Running, runner, end_of, with_notes, cancel_requested};
 ghost use Rattle.task_core.specs.Records.{asked_task, shown_state, end_in};
 ghost use Rattle.task_core.specs.Answers.{look_reply, asked_of, after_asked, watch_end_of};
@@ -62,7 +62,13 @@ impl Tasks {
         })
     }
 
-    /// Adds a scheduled task. `ErrTaskLimit` where there is no room.
+    /// Adds a scheduled task, with the next number of a start.
+    ///
+    /// Stands for the end of `mtapi_task_start` and of `mtapi_task_enqueue`.
+    ///
+    /// # Errors
+    ///
+    /// - `ErrTaskLimit`: every place is in use or has retired.
     pub fn add(&mut self, task: NewTask) -> Result<TaskHandle, MtapiStatus>
         requires { self.old.starts < 2 ^ 63 }
         ensures { Adds self.old (asked_task task) result self.new }
@@ -74,6 +80,13 @@ impl Tasks {
             }
             Err(_) => Err(MtapiStatus::ErrTaskLimit),
         }
+    }
+
+    /// Tells how many tasks are live.
+    pub fn live(&self) -> u32
+        ensures { result ≡ live_count self.now.pool }
+    {
+        self.pool.live()
     }
 
     /// How many tasks haven't ended.
@@ -140,9 +153,18 @@ impl Tasks {
         leave_group(&mut self.pool, t.0);
     }
 
-    /// A look by a seat. `ErrTaskInvalid` where the task isn't live, `ErrParameter` where it is detached or in a group, then
-    /// `ErrWaitPending` where another seat waits for it. An ended task stops being live; of another one the seat becomes the
-    /// waiter, or with `last` no longer is, and the answer is `Timeout`.
+    /// Looks once at a task for a seat. An ended task gives its end and stops being live. Of
+    /// another one the seat becomes the waiter, and is told that it goes on; with `last` it no
+    /// longer is the waiter, and is told that its looks are used up.
+    ///
+    /// Stands for one look of `mtapi_task_wait`.
+    ///
+    /// # Errors
+    ///
+    /// - `ErrTaskInvalid`: the task isn't live.
+    /// - `ErrParameter`: it is detached or in a group.
+    /// - `ErrWaitPending`: another seat waits for it.
+    /// - `Timeout`: it hasn't ended, and this was the last look.
     pub fn look(&mut self, t: TaskHandle, who: u32, last: bool) -> TaskLook
         ensures reply { result ≡ look_reply who last (slot_value self.old.pool t.0) }
         ensures new { self.new ≡ record self.old { pool = looked_in self.old.pool t.0 who last (slot_value self.old.pool t.0) } }
@@ -159,8 +181,14 @@ impl Tasks {
         TaskLook::Ended(self.free(t))
     }
 
-    /// Whether a watch that runs on the worker is to cancel. `ErrTaskInvalid` where it is no such watch, then `ErrParameter` where its
-    /// arguments aren't one number from 0 to 64, it saw the request before, or it has no looks left.
+    /// Tells a watch that runs on the worker whether it is to cancel, and counts the question until
+    /// it has seen the request.
+    ///
+    /// # Errors
+    ///
+    /// - `ErrTaskInvalid`: the task is no live watch that runs on the worker.
+    /// - `ErrParameter`: its arguments aren't one number from 0 to 64, it saw the request before,
+    ///   or it has no looks left.
     pub fn asked(&mut self, t: TaskHandle, worker: u32) -> Result<bool, MtapiStatus>
         ensures reply { result ≡ asked_of worker (slot_value self.old.pool t.0) }
         ensures new { self.new ≡ record self.old { pool = changed self.old.pool t.0 (after_asked worker) } }
@@ -168,8 +196,12 @@ impl Tasks {
         ask(&mut self.pool, t.0, worker)
     }
 
-    /// How a watch that runs on the worker ends. `ErrTaskInvalid` where it is no such watch, then `ErrParameter` where its arguments are
-    /// good, it hasn't seen the request and it has looks left. Changes nothing.
+    /// Tells how a watch that runs on the worker ends. Changes nothing.
+    ///
+    /// # Errors
+    ///
+    /// - `ErrTaskInvalid`: the task is no live watch that runs on the worker.
+    /// - `ErrParameter`: its arguments are good, it hasn't seen the request, and it has looks left.
     pub fn watch_end(&self, t: TaskHandle, worker: u32) -> Result<TaskEnd, MtapiStatus>
         ensures { result ≡ watch_end_of worker (slot_value self.now.pool t.0) }
     {

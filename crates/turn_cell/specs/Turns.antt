@@ -1,6 +1,7 @@
 -- The rule of a turn cell, and what each step tells.
 -- Word 0 is the number of turns that are over, which is the length of the history, and word 1 the next ticket. The one slot has the object, and is away while a turn is held.
-use Rattle.std.specs.Prelude.{◌≡◌, ◌≢◌, ℕ, zero, suc, ◌^◌, ◌<◌, ◌≤◌, ◌⊎◌, ◌==◌, Bool, cond, List, [], ◌∷◌, ◌++◌, map, length, Option, Some}
+use Rattle.std.specs.Prelude.{◌≡◌, ◌≢◌, ℕ, zero, suc, ◌^◌, ◌<◌, ◌≤◌, ◌⊎◌, ◌==◌, Bool, cond, List, [], ◌∷◌, ◌++◌, map, length, Option, Some, Box}
+use Rattle.std.specs.Box.{box_value}
 use mathlib.Core.Option.{none, some}
 use lib.ListN.{get_elem?}
 use Rattle.atomic_table.specs.Table.{State, Me, Step, rest}
@@ -72,6 +73,13 @@ module _ {T P Q : Type 0} where
   -- an entry that this seat makes
   abbrev pub part_entry : Part T P Q → P → Q → Entry P Q
   part_entry p op reply = record { who = p.number; op = op; reply = reply }
+
+-- the same of an object in a box, in which a turn moves it
+abbrev pub boxed_terms : {O T Z : Type 0} → (O → T) → Box O Z → T
+boxed_terms terms_of b = terms_of (box_value b)
+
+abbrev pub boxed_stands : {O E Z : Type 0} → (O → List E → Type 0) → Box O Z → List E → Type 0
+boxed_stands stands b l = stands (box_value b) l
 
 module _ {O T P Q : Type 0} (terms_of : O → T) (seat_count : T → ℕ) (legal : T → List (Entry P Q) → Type 0) (stands : O → List (Entry P Q) → Type 0) where
   -- what a part knows is true of the history, and who holds the object has seen all of it

@@ -1,9 +1,10 @@
 //! One turn of the cell: draw a ticket, wait until it is served, call the object, and let the entry into the history.
-ghost use Rattle.std.specs.Prelude.{◌≡◌, ◌≢◌, ℕ, ◌+◌, ◌^◌, ◌<◌, ◌≤◌, true, false, Option, None, List, [], ◌∷◌, ◌++◌, length, IfOk, IfErr, OnOk, OnErr};
+ghost use Rattle.std.specs.Prelude.{◌≡◌, ◌≢◌, ℕ, ◌+◌, ◌^◌, ◌<◌, ◌≤◌, true, false, Option, Box, None, List, [], ◌∷◌, ◌++◌, length, IfOk, IfErr, OnOk, OnErr};
+ghost use Rattle.std.specs.declared.alloc.Global.{Global};
 ghost use Rattle.history.specs.Histories.{Extends, entries_of, entry};
 ghost use Rattle.turn_cell.specs.declared.parts.Part.{Part};
 ghost use Rattle.turn_cell.specs.declared.parts.Stage.TheVariants.{Idle, Waits, Holds};
-ghost use Rattle.turn_cell.specs.Turns.{after_draw, after_pass, part_entry, Took};
+ghost use Rattle.turn_cell.specs.Turns.{after_draw, after_pass, part_entry, Took, boxed_terms, boxed_stands};
 
 use crate::cell::TurnCell;
 use crate::parts::{GhostArgument, Part};
@@ -14,9 +15,37 @@ use crossbeam_utils::Backoff;
 use history::Object;
 use std::marker::Brand;
 use std::sync::Wait;
+use std::sync::atomic::AtomicU64;
+use std::time::Duration;
+
+// So often a seat looks whether it can have its turn at once, before it stands in line.
+const LOOKS: u32 = 64;
+
+// So long it sleeps between two of them, in microseconds.
+const NAP: u64 = 100;
 
 impl<O: Object> TurnCell<O> {
-    // Tries until it has a ticket. The first guess is the ticket behind the one that was shown last, which is right where no other seat drew.
+    // Waits until every drawn ticket was served, but for no more than so many looks: it spins, then yields, and then sleeps for
+    // microseconds, so that few threads at a time pass the object around. Says how many looks are left.
+    fn wait_until_free<R: Wait>(&self, rt: &R, backoff: &Backoff, looks: u32) -> u32 {
+        // Nobody wakes it, so that a sleep ends by its length.
+        let asleep = AtomicU64::new(0);
+        for done in 0..looks {
+            if self.table.shared.peek(0) == self.table.shared.peek(1) {
+                return looks - done;
+            }
+            if backoff.is_completed() {
+                asleep.park_timeout(rt, 0, Duration::from_micros(NAP));
+            } else {
+                backoff.snooze();
+            }
+        }
+        0
+    }
+
+    // Tries until it has a ticket. At first it draws one only where it is served at once: so the others seldom wait for a thread that has
+    // no processor, and a thread may have several turns one after another. Where it looked in vain for long it draws all the same, and is
+    // then served in its order.
     fn draw<R: Wait>(&self, rt: &R, token: &mut Token<O>, shown: u64) -> Result<u64, u64>
         requires own { token.old.table_id ≡ self.now.id }
         requires idle { (p : Part O.Terms O.Op O.Reply) × (token.old.me ≡ (p ∷ [], [])) × (p.stage ≡ Idle) × (p.shown ≡ shown) }
@@ -25,12 +54,14 @@ impl<O: Object> TurnCell<O> {
         ensures spent { IfErr result (λ n. (2 ^ 62 ≤ n) × ((p : Part O.Terms O.Op O.Reply) → token.old.me ≡ (p ∷ [], []) → token.new.me ≡ (after_draw p n false ∷ [], []))) }
     {
         let backoff = Backoff::new();
+        let mut looks = LOOKS;
         let mut shown = shown;
-        let mut guess = shown.saturating_add(1).min(LIMIT - 1);
         for _ in rt.forever() {
             if shown >= LIMIT {
                 return Err(shown);
             }
+            looks = self.wait_until_free(rt, &backoff, looks);
+            let guess = self.table.shared.peek(1).min(LIMIT - 1);
             let found = self
                 .table
                 .shared
@@ -39,18 +70,16 @@ impl<O: Object> TurnCell<O> {
                 return Ok(guess);
             }
             shown = found;
-            guess = found;
-            backoff.snooze();
         }
         unreachable!()
     }
 
     // Tries until the ticket is served, and takes the object out of its slot.
-    fn look<R: Wait>(&self, rt: &R, token: &mut Token<O>, ticket: u64) -> O
+    fn look<R: Wait>(&self, rt: &R, token: &mut Token<O>, ticket: u64) -> Box<O>
         requires own { token.old.table_id ≡ self.now.id }
         requires waits { (p : Part O.Terms O.Op O.Reply) × (token.old.me ≡ (p ∷ [], [])) × (p.stage ≡ Waits ticket) }
         ensures own { token.new.table_id ≡ token.old.table_id }
-        ensures took { (p : Part O.Terms O.Op O.Reply) → token.old.me ≡ (p ∷ [], []) → p.stage ≡ Waits ticket → Took O.terms O.seat_count O.legal O.stands p ticket result None token.new.me }
+        ensures took { (p : Part O.Terms O.Op O.Reply) → token.old.me ≡ (p ∷ [], []) → p.stage ≡ Waits ticket → Took (boxed_terms O.terms) O.seat_count O.legal (boxed_stands O.stands) p ticket result None token.new.me }
     {
         let backoff = Backoff::new();
         for _ in rt.forever() {
@@ -63,11 +92,11 @@ impl<O: Object> TurnCell<O> {
     }
 
     // Takes the object out of the slot, which the look gave to the seat.
-    fn take(&self, token: &mut Token<O>, ticket: u64) -> O
+    fn take(&self, token: &mut Token<O>, ticket: u64) -> Box<O>
         requires own { token.old.table_id ≡ self.now.id }
-        requires took { (p : Part O.Terms O.Op O.Reply) × (o : O) × Took O.terms O.seat_count O.legal O.stands p ticket o (Some o) token.old.me }
+        requires took { (p : Part O.Terms O.Op O.Reply) × (o : Box O Global) × Took (boxed_terms O.terms) O.seat_count O.legal (boxed_stands O.stands) p ticket o (Some o) token.old.me }
         ensures own { token.new.table_id ≡ token.old.table_id }
-        ensures took { (p : Part O.Terms O.Op O.Reply) (o : O) → Took O.terms O.seat_count O.legal O.stands p ticket o (Some o) token.old.me → Took O.terms O.seat_count O.legal O.stands p ticket result None token.new.me }
+        ensures took { (p : Part O.Terms O.Op O.Reply) (o : Box O Global) → Took (boxed_terms O.terms) O.seat_count O.legal (boxed_stands O.stands) p ticket o (Some o) token.old.me → Took (boxed_terms O.terms) O.seat_count O.legal (boxed_stands O.stands) p ticket result None token.new.me }
     {
         match self.table.shared.exchange(token, 0, None) {
             Some(object) => object,
@@ -79,11 +108,11 @@ impl<O: Object> TurnCell<O> {
     fn pass<B: GhostArgument<O::Op>, C: GhostArgument<O::Reply>>(
         &self,
         token: &mut Token<O>,
-        object: O,
+        object: Box<O>,
         reply: &O::Reply,
     )
         requires own { token.old.table_id ≡ self.now.id }
-        requires holds { (p : Part O.Terms O.Op O.Reply) × (k : ℕ) × (op : O.Op) × (token.old.me ≡ (p ∷ [], (0, None) ∷ [])) × (p.stage ≡ Holds k) × (O.terms object ≡ p.terms) × O.stands object (p.seen ++ part_entry p op reply.now ∷ []) × (B.argument ≡ op ∷ []) × (C.argument ≡ reply.now ∷ []) }
+        requires holds { (p : Part O.Terms O.Op O.Reply) × (k : ℕ) × (op : O.Op) × (token.old.me ≡ (p ∷ [], (0, None) ∷ [])) × (p.stage ≡ Holds k) × (O.terms object.value ≡ p.terms) × O.stands object.value (p.seen ++ part_entry p op reply.now ∷ []) × (B.argument ≡ op ∷ []) × (C.argument ≡ reply.now ∷ []) }
         ensures own { token.new.table_id ≡ token.old.table_id }
         ensures passed { (p : Part O.Terms O.Op O.Reply) (op : O.Op) → token.old.me ≡ (p ∷ [], (0, None) ∷ []) → B.argument ≡ op ∷ [] → token.new.me ≡ (after_pass p (part_entry p op reply.now) ∷ [], []) }
     {
@@ -97,12 +126,12 @@ impl<O: Object> TurnCell<O> {
         &self,
         token: &mut Token<O>,
         number: u32,
-        mut object: O,
+        mut object: Box<O>,
         op: O::Op,
     ) -> O::Reply
         requires own { token.old.table_id ≡ self.now.id }
         requires argument { B.argument ≡ op ∷ [] }
-        requires holds { (p : Part O.Terms O.Op O.Reply) × (k : ℕ) × (token.old.me ≡ (p ∷ [], (0, None) ∷ [])) × (p.stage ≡ Holds k) × (p.number ≡ number) × (O.terms object ≡ p.terms) × O.stands object p.seen × (length p.seen < 2 ^ 62) × (p.number < O.seat_count p.terms) }
+        requires holds { (p : Part O.Terms O.Op O.Reply) × (k : ℕ) × (token.old.me ≡ (p ∷ [], (0, None) ∷ [])) × (p.stage ≡ Holds k) × (p.number ≡ number) × (O.terms object.value ≡ p.terms) × O.stands object.value p.seen × (length p.seen < 2 ^ 62) × (p.number < O.seat_count p.terms) }
         ensures own { token.new.table_id ≡ token.old.table_id }
         ensures passed { (p : Part O.Terms O.Op O.Reply) → token.old.me ≡ (p ∷ [], (0, None) ∷ []) → token.new.me ≡ (after_pass p (part_entry p op result) ∷ [], []) }
         ensures legal { (p : Part O.Terms O.Op O.Reply) → token.old.me ≡ (p ∷ [], (0, None) ∷ []) → O.legal p.terms (p.seen ++ part_entry p op result ∷ []) }
@@ -115,7 +144,12 @@ impl<O: Object> TurnCell<O> {
     /// One turn: the object is called once by this seat, and the entry comes to the end of the history.
     ///
     /// The seat then has seen the history up to its own entry. It takes no memory beyond what the object's `apply` takes, and waits
-    /// until its ticket is served. `Spent` comes exactly where the ticket word that was shown is at least 2^62; nothing else changes then.
+    /// until its ticket is served.
+    ///
+    /// # Errors
+    ///
+    /// - `Spent`: the ticket word that the seat was shown is at least 2^62. The object
+    ///   wasn't called, and no entry was made.
     pub fn call<R: Wait>(
         &self,
         rt: &R,

@@ -16,7 +16,7 @@ use std::marker::Model;
 pub struct TurnCell<O: Object> {
     // Word 0, the serving word, is the number of turns that are over, and word 1 is the next ticket. The one slot has the object.
     pub(crate) table: Table<
-        Option<O>,
+        Option<Box<O>>,
         Parts<O::Terms, O::Op, O::Reply>,
         O::Terms,
         TurnRule,
@@ -36,7 +36,11 @@ impl<O: Object> Model for TurnCell<O> {
 }
 
 impl<O: Object> TurnCell<O> {
-    /// A cell over this object, and its seats in the order of their numbers. It fails only when out of memory; the object is then dropped.
+    /// A cell over this object, and its seats in the order of their numbers.
+    ///
+    /// # Errors
+    ///
+    /// - `AllocError`: memory ran out. The object is then dropped.
     pub fn new(alloc: Global, object: O) -> Result<(TurnCell<O>, Vec<TurnSeat<O>>), AllocError>
         requires seats { 0 < O.seat_count (O.terms object) }
         requires stands { O.stands object [] }
@@ -45,8 +49,10 @@ impl<O: Object> TurnCell<O> {
     {
         let count = object.seats();
         let terms = object.told_terms();
+        // A turn so moves the box alone, however large the object is.
+        let boxed = Box::new(alloc, object)?;
         let mut slots = Vec::new(alloc);
-        slots.push(Some(object))?;
+        slots.push(Some(boxed))?;
         let Ok((table, token)) = Table::new(alloc, &[0, 0], slots, &terms) else {
             return Err(AllocError);
         };
@@ -59,7 +65,7 @@ impl<O: Object> TurnCell<O> {
     fn deal(
         &self,
         alloc: Global,
-        token: Seat<Option<O>, Parts<O::Terms, O::Op, O::Reply>>,
+        token: Seat<Option<Box<O>>, Parts<O::Terms, O::Op, O::Reply>>,
         count: u32,
     ) -> Result<Vec<TurnSeat<O>>, AllocError>
         requires own { token.table_id ≡ self.now.id }

@@ -53,7 +53,9 @@ impl<O: Object> TurnCell<O> {
         let slot = closed.take(0);
         closed.free();
         match slot {
-            Some(object) => Closed { object },
+            Some(object) => Closed {
+                object: Box::into_inner(object),
+            },
             None => unreachable!(),
         }
     }

@@ -10,7 +10,7 @@ use std::marker::Model;
 
 // What a thread steps with. It has no bytes.
 pub(crate) type Token<O> = Seat<
-    Option<O>,
+    Option<Box<O>>,
     Parts<<O as Object>::Terms, <O as Object>::Op, <O as Object>::Reply>,
 >;
 
@@ -23,7 +23,7 @@ pub(crate) type Token<O> = Seat<
 pub struct TurnSeat<O: Object> {
     pub(crate) number: u32,
     pub(crate) shown: u64,
-    pub(crate) token: Seat<Option<O>, Parts<O::Terms, O::Op, O::Reply>>,
+    pub(crate) token: Seat<Option<Box<O>>, Parts<O::Terms, O::Op, O::Reply>>,
 }
 
 impl<O: Object> Model for TurnSeat<O> {

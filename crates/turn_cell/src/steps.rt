@@ -1,6 +1,6 @@
 //! The rule of the cell, and what each step on its table tells the seat that makes it. These types are for the proofs alone.
 ghost use Rattle.std.specs.Prelude.{[], ◌++◌};
-ghost use Rattle.turn_cell.specs.Turns.{Invariant, fresh_parts, drew, looked, passed, observed, first_of, rest_of};
+ghost use Rattle.turn_cell.specs.Turns.{Invariant, fresh_parts, drew, looked, passed, observed, first_of, rest_of, boxed_terms, boxed_stands};
 
 use crate::parts::{GhostArgument, Part, Parts};
 use atomic_table::{Join, Play, Split, TableRule};
@@ -11,8 +11,8 @@ use std::marker::PhantomData;
 /// What holds of the words, the slot and all seats between any two steps.
 pub struct TurnRule;
 
-impl<O: Object> TableRule<Option<O>, Parts<O::Terms, O::Op, O::Reply>, O::Terms> for TurnRule {
-    ghost holds = { Invariant O.terms O.seat_count O.legal O.stands };
+impl<O: Object> TableRule<Option<Box<O>>, Parts<O::Terms, O::Op, O::Reply>, O::Terms> for TurnRule {
+    ghost holds = { Invariant (boxed_terms O.terms) O.seat_count O.legal (boxed_stands O.stands) };
 
     ghost first = { λ t. fresh_parts t 0 (O.seat_count t) };
 }
@@ -20,15 +20,15 @@ impl<O: Object> TableRule<Option<O>, Parts<O::Terms, O::Op, O::Reply>, O::Terms>
 /// A try at a ticket: one compare-exchange on the ticket word.
 pub struct Draw;
 
-impl<O: Object> Play<Option<O>, Parts<O::Terms, O::Op, O::Reply>> for Draw {
-    ghost then = { drew O.terms O.seat_count O.legal O.stands };
+impl<O: Object> Play<Option<Box<O>>, Parts<O::Terms, O::Op, O::Reply>> for Draw {
+    ghost then = { drew (boxed_terms O.terms) O.seat_count O.legal (boxed_stands O.stands) };
 }
 
 /// One load of the serving word. If it shows the seat's own ticket, the object's slot goes to the seat.
 pub struct Look;
 
-impl<O: Object> Play<Option<O>, Parts<O::Terms, O::Op, O::Reply>> for Look {
-    ghost then = { looked O.terms O.seat_count O.legal O.stands };
+impl<O: Object> Play<Option<Box<O>>, Parts<O::Terms, O::Op, O::Reply>> for Look {
+    ghost then = { looked (boxed_terms O.terms) O.seat_count O.legal (boxed_stands O.stands) };
 }
 
 /// The addition to the serving word: the slot goes home, and the entry enters the history.
@@ -38,17 +38,17 @@ pub struct Pass<B, C> {
 }
 
 impl<O: Object, B: GhostArgument<O::Op>, C: GhostArgument<O::Reply>> Play<
-    Option<O>,
+    Option<Box<O>>,
     Parts<O::Terms, O::Op, O::Reply>,
 > for Pass<B, C> {
-    ghost then = { passed O.terms O.seat_count O.legal O.stands B.argument C.argument };
+    ghost then = { passed (boxed_terms O.terms) O.seat_count O.legal (boxed_stands O.stands) B.argument C.argument };
 }
 
 /// A load of the serving word by which all parts of a token see the history so far.
 pub struct Observe;
 
-impl<O: Object> Play<Option<O>, Parts<O::Terms, O::Op, O::Reply>> for Observe {
-    ghost then = { observed O.terms O.seat_count O.legal O.stands };
+impl<O: Object> Play<Option<Box<O>>, Parts<O::Terms, O::Op, O::Reply>> for Observe {
+    ghost then = { observed (boxed_terms O.terms) O.seat_count O.legal (boxed_stands O.stands) };
 }
 
 /// All parts leave a token.

@@ -87,6 +87,11 @@ fn look_on<O: Object, W: Wanted<O>, R: Wait>(
 }
 
 /// Looks until there is an answer, or until the looks are used up. Each look is one turn.
+///
+/// # Errors
+///
+/// - `Spent`: the tickets of the cell ran out. Each look before, fewer than the timeout allows,
+///   answered "not yet".
 pub fn look<O: Object, W: Wanted<O>, R: Wait>(
     rt: &R,
     cell: &TurnCell<O>,

@@ -7,7 +7,11 @@ use history::Object;
 use std::sync::Wait;
 use turn_cell::{Spent, TurnCell, TurnSeat};
 
-/// One turn: the op enters the history, after what others had entered there. Where the tickets ran out, nothing enters.
+/// One turn: the op enters the history, after what others had entered there.
+///
+/// # Errors
+///
+/// - `Spent`: the tickets of the cell ran out. Nothing enters the history.
 pub fn turn<O: Object, R: Wait>(
     rt: &R,
     cell: &TurnCell<O>,

@@ -12,23 +12,17 @@ use Rattle.workload_file.specs.declared.workload.Part.{Part}
 use Rattle.workload_file.specs.declared.workload.Workload.{Workload}
 use Rattle.workload_file.specs.declared.table.Word.{Word}
 use Rattle.workload_file.specs.declared.table.Word.TheVariants as word
-use Rattle.workload_file.specs.Table.{naming}
-use Rattle.workload_file.proofs.Given.{deed_is}
-use Rattle.workload_file.proofs.Invariant.{caller_named}
 use Rattle.number_text.specs.Lists.{between}
 use Rattle.workload_file.specs.Cuts.{words_of}
 use Rattle.workload_file.specs.Names.{is_misplaced}
-use Rattle.workload_file.specs.Reading.{with_change, line_gives, line_adds, lines_add, start, finished, workload_of, name_text}
-use Rattle.workload_file.specs.Changes.{bound_name}
-use Rattle.workload_file.specs.Settled.{change_of, deed_of}
+use Rattle.workload_file.specs.Reading.{with_change, line_gives, line_adds, lines_add, start, finished, workload_of}
 use Rattle.workload_file.specs.Formed.{statement_lines, line_if_any, part_lines}
 use Rattle.workload_file.specs.Written.{Line, if_any, node_text, caller_text, statement_text, statement_lines_behind, lines_of_part, lines_of, laid_out, canonical, AreShort}
 use Rattle.number_text.specs.Lists.{led}
-use Rattle.workload_file.proofs.Facts.{bind_ok, ok_is, at_line_ok, IsRead, line_facts, words_facts}
-use Rattle.workload_file.proofs.Agreed.{statement_facts}
+use Rattle.workload_file.proofs.Facts.{bind_ok, ok_is, at_line_ok, IsRead, line_facts, words_facts, statement_facts}
+use Rattle.workload_file.proofs.Fields.{made, Says, says_node, says_caller, says_deed, says}
 use Rattle.workload_file.proofs.Laid.{statements_push, statements_none, laid_none}
 use Rattle.workload_file.proofs.Invariant.{IsFormed, not_not}
-use Rattle.workload_file.proofs.Given.{kind_of, a_node, a_caller, a_deed}
 use Rattle.workload_file.proofs.Keeping.{adds_keeps, start_formed}
 use Rattle.workload_file.proofs.Phrases.{text_led}
 use Rattle.workload_file.proofs.Rewriting.{text_of_change, line_shorter}
@@ -89,65 +83,22 @@ node_shown r line settings f le none =
     let e = empty_back (if_any r.node_line (node_text r.settings)) (flat_map lines_of_part (r.before ++ r.current ∷ [])) (lines_count (finished r) ∙ (f.count ∙ none)) in
     rw (line_shown line (node_text settings) le, e.0, e.1) refl
 
-count_zero : (r : Reading) (w : Word) → w ≡ word.Node → is_misplaced r w ≡ false → r.count ≡ 0
+count_zero : (r : Reading) → is_misplaced r word.Node ≡ false → r.count ≡ 0
 unfolding is_misplaced
-count_zero r w e h = let g = rw e at h in eqb-true r.count 0 (not_not _ g)
+count_zero r h = eqb-true r.count 0 (not_not _ h)
 
-caller_no_node : (r : Reading) (line : ℕ) (name : List ℕ) (options : List (List ℕ)) (settings : _) → change_of r line word.Caller (Some name) options ≡ change.Node settings → ⊥
-unfolding change_of
-caller_no_node r line name options settings e = cc
-
-caller_no_statement : (r : Reading) (line : ℕ) (name : List ℕ) (options : List (List ℕ)) (s : Statement) → change_of r line word.Caller (Some name) options ≡ change.Statement s → ⊥
-unfolding change_of
-caller_no_statement r line name options s e = cc
-
-node_no_statement : (r : Reading) (line : ℕ) (name : Option (List ℕ)) (options : List (List ℕ)) (s : Statement) → change_of r line word.Node name options ≡ change.Statement s → ⊥
-unfolding change_of
-node_no_statement r line name options s e = cc
-
-node_case : (r : Reading) (line : ℕ) (first : List ℕ) (rest : List (List ℕ)) (w : Word) (name : Option (List ℕ)) (options : List (List ℕ)) (settings : _) → IsRead r first rest w name options → change_of r line w name options ≡ change.Node settings → r.count ≡ 0
-node_case r line first rest w name options settings read e =
-    elim (kind_of w) [
-      | a_node is ↦ count_zero r w is read.placed
-      | a_caller is ↦
-          let g = caller_named rest name options (rw is at read.split) in
-          absurd (caller_no_node r line g.0 options settings (rw (is, g.1) at e))
-      | a_deed h ↦ let d = deed_is r line w name options h in absurd (let x = sym d.change ∙ e in cc)
-    ]
-
-statement_case : (r : Reading) (line : ℕ) (first : List ℕ) (rest : List (List ℕ)) (w : Word) (name : Option (List ℕ)) (options : List (List ℕ)) (s : Statement) → IsRead r first rest w name options → change_of r line w name options ≡ change.Statement s → s.line ≡ line
-statement_case r line first rest w name options s read e =
-    elim (kind_of w) [
-      | a_node is ↦ absurd (node_no_statement r line name options s (rw is at e))
-      | a_caller is ↦
-          let g = caller_named rest name options (rw is at read.split) in
-          absurd (caller_no_statement r line g.0 options s (rw (is, g.1) at e))
-      | a_deed h ↦
-          let d = deed_is r line w name options h in
-          let st : Statement = record { line = line; name = bound_name (naming w) name; deed = deed_of r w (name_text name) options } in
-          let x : change.Statement st ≡ change.Statement s = sym d.change ∙ e in
-          let same : st ≡ s = cc in
-          sym (ap (λ (y : Statement). y.line) same)
-    ]
-
-node_first : (r : Reading) (line : ℕ) (text : List ℕ) (settings : _) → line_gives r line text ≡ Ok (Some (change.Node settings)) → r.count ≡ 0
-node_first r line text settings e =
-    let l = line_facts r line text (Some (change.Node settings)) e in
-    let ws = words_facts r line (words_of text) (change.Node settings) l.words in
-    let st = statement_facts r line ws.first ws.rest (change.Node settings) ws.statement in
-    node_case r line ws.first ws.rest st.word st.name st.options settings st.read st.change
-
-statement_line : (r : Reading) (line : ℕ) (text : List ℕ) (s : Statement) → line_gives r line text ≡ Ok (Some (change.Statement s)) → s.line ≡ line
-statement_line r line text s e =
-    let l = line_facts r line text (Some (change.Statement s)) e in
-    let ws = words_facts r line (words_of text) (change.Statement s) l.words in
-    let st = statement_facts r line ws.first ws.rest (change.Statement s) ws.statement in
-    statement_case r line ws.first ws.rest st.word st.name st.options s st.read st.change
+-- what a line gave, by its kind: a node line is the first one, and a statement has its number
+change_at : (r : Reading) (line : ℕ) (first : List ℕ) (rest : List (List ℕ)) (w : Word) (name : Option (List ℕ)) (options : List (List ℕ)) (c : Change) → IsFormed r line → 1 ≤ line → IsRead r first rest w name options → Says r line w name options c → shown (with_change r line (Some c)) ≡ shown r ++ (line, text_of_change r c) ∷ []
+change_at r line first rest w name options c f le read (says_node vs s is v e change) = rw change (node_shown r line s f le (count_zero r (rw is at read.placed)))
+change_at r line first rest w name options c f le read (says_caller n is named change) = rw change (caller_shown r line n le)
+change_at r line first rest w name options c f le read (says_deed place vs d h u v e change) = rw change (statement_shown r (made line w name d))
 
 pub change_shown : (r : Reading) (line : ℕ) (text : List ℕ) (c : Change) → IsFormed r line → 1 ≤ line → line_gives r line text ≡ Ok (Some c) → shown (with_change r line (Some c)) ≡ shown r ++ (line, text_of_change r c) ∷ []
-change_shown r line text (change.Node settings) f le e = node_shown r line settings f le (node_first r line text settings e)
-change_shown r line text (change.Caller name) f le e = caller_shown r line name le
-change_shown r line text (change.Statement s) f le e = subst (λ (n : ℕ). shown (with_change r n (Some (change.Statement s))) ≡ shown r ++ (n, text_of_change r (change.Statement s)) ∷ []) (statement_line r line text s e) (statement_shown r s)
+change_shown r line text c f le e =
+    let l = line_facts r line text (Some c) e in
+    let ws = words_facts r line (words_of text) c l.words in
+    let st = statement_facts r line ws.first ws.rest c ws.statement in
+    change_at r line ws.first ws.rest st.word st.name st.options c f le st.read (says r line st.word st.name st.options c st.change)
 
 -- ---- the lines read again
 

@@ -1,12 +1,13 @@
--- The code looks for names that aren't bound, and then reads with defaults: a statement says the same so.
-use Rattle.std.proofs.Common.{◌≡◌, ℕ, List, [], ◌∷◌, Bool, true, false, not, Option, Some, None, Result, Ok, Err, refl, sym, subst, ◌∙◌, inl, inr, map}
+-- What the code finds field by field is what the grammar asks word by word.
+use Rattle.std.proofs.Common.{◌≡◌, ℕ, List, [], ◌∷◌, Bool, true, false, not, cond, eqb, ◌&&◌, ◌||◌, Option, Some, None, Result, Ok, Err, refl, sym, ap, ◌∙◌, inl, inr}
 use Rattle.std.specs.Prelude.{is_some}
 use Rattle.std.specs.Option.{option_map}
 use Rattle.std.specs.List.{AllByRecursion, find, list_any, list_all}
 use Rattle.std.specs.Str.{bytes_eq}
-use Rattle.std.proofs.lemmas.Bool.{or_parts, cases_Bool}
+use Rattle.std.proofs.lemmas.Bool.{and_parts, or_parts, cases_Bool}
 use Rattle.mtapi_values.specs.Kinds.{kind_named}
 use Rattle.number_text.specs.Numbers.{whole}
+use Rattle.number_text.specs.Lists.{list_of}
 use Rattle.number_text.specs.Lists as maybe
 use Rattle.workload_file.specs.declared.table.Word.{Word}
 use Rattle.workload_file.specs.declared.table.Word.TheVariants as word
@@ -17,7 +18,6 @@ use Rattle.workload_file.specs.declared.table.Shape.{Shape}
 use Rattle.workload_file.specs.declared.table.Shape.TheVariants as shape
 use Rattle.workload_file.specs.declared.table.Absent.{Absent}
 use Rattle.workload_file.specs.declared.table.Absent.TheVariants as absent
-use Rattle.workload_file.specs.declared.table.Key.{Key}
 use Rattle.workload_file.specs.declared.table.Field.{Field}
 use Rattle.workload_file.specs.declared.values.Value.{Value}
 use Rattle.workload_file.specs.declared.values.Value.TheVariants as given
@@ -26,83 +26,37 @@ use Rattle.workload_file.specs.declared.reading.Reading.{Reading}
 use Rattle.workload_file.specs.declared.reading.Change.{Change}
 use Rattle.workload_file.specs.declared.reading.Change.TheVariants as change
 use Rattle.workload_file.specs.declared.faults.Cause.{Cause}
-use Rattle.workload_file.specs.declared.faults.Cause.TheVariants.{UnknownOption, OptionTwice, BadValue, NameTaken, NameUnknown}
+use Rattle.workload_file.specs.declared.faults.Cause.TheVariants.{UnknownOption, OptionTwice, BadValue, OptionMissing, NameTaken, NameUnknown}
 use Rattle.workload_file.specs.Table.{row, naming, fields, key_text}
 use Rattle.workload_file.specs.Values.{number_within, cores_of, timeout_of, flag_of, mode_of}
-use Rattle.workload_file.specs.Options.{key_of, value_of, field_of, is_known, has_twice, has_value, is_value, is_missing, is_refused, text_of}
+use Rattle.workload_file.specs.Options.{key_of, value_of, field_of, is_known, has_twice, has_value, is_value, gives, is_missing, is_refused, text_of}
 use Rattle.workload_file.specs.Names.{place_of, split_name, is_taken, is_unbound, has_unbound, has_unbound_at, is_unbound_value}
-use Rattle.workload_file.specs.Deeds.{deed_with}
-use Rattle.workload_file.specs.Changes.{value_given, value_absent, value_at, values_in, use_in, settings_with, bound_name}
-use Rattle.workload_file.specs.Changes as said
+use Rattle.workload_file.specs.Changes.{value_given, value_absent, value_at, values_in, use_in, change_of, change_with}
 use Rattle.workload_file.specs.Reading.{◌>>=◌, refuse, or_cause, heading, check_options, name_text, statement_of}
-use Rattle.workload_file.specs.Settled.{number_in, args_in, kind_in, cores_in, timeout_in, flag_in, mode_in, whole_in, place_in, used_place, settings_in, deed_of, change_of, check_names, settled}
-use Rattle.workload_file.proofs.Facts.{some, Statement as Line, IsRead, heading_facts, settled_facts, settled_read, bind_ok, refuse_ok, not_false}
-use Rattle.workload_file.proofs.Given.{IsField, shaped, value_in, is_good, is_deed, kind_of, a_node, a_caller, a_deed, use_of, deed_is, fields_found, fields_good}
-use Rattle.workload_file.proofs.Fitting.{IsGiven, OptionOf, option_at, some_value, within_is, place_found, placed_some}
-use Rattle.workload_file.proofs.Finds.{find_none, find_passes}
-use Rattle.workload_file.proofs.Invariant.{named_by, caller_named}
+use Rattle.workload_file.specs.Formed.{AllFit}
+use Rattle.workload_file.specs.Indexed.{is_bad_text, is_bad, check_keys, settled}
+use Rattle.workload_file.proofs.Facts.{some, refuse_ok, bind_ok, not_false}
+use Rattle.workload_file.proofs.Fields.{IsField, is_good, here, made, are_filled, kind_of, a_node, a_caller, a_deed, deed_same, node_change, caller_change, deed_change_is, fields_found, fields_good}
+use Rattle.workload_file.proofs.Finds.{find_passes, find_all, find_none, find_any}
+use Rattle.workload_file.proofs.Invariant.{named_by, caller_named, use_is, node_settings}
+use Rattle.workload_file.proofs.Picks.{values_are}
 use Rattle.workload_file.proofs.Places.{bytes_are, bytes_same, apart_sym}
+use Rattle.workload_file.proofs.Spelling.{place_found}
+use Rattle.workload_file.proofs.Tables.{deed_of, node_values}
 
-abbrev here : Reading → List Statement
-here r = r.current.statements
+pub not_all : {X : Type 0} (p : X → Bool) (xs : List X) → not (list_all p xs) ≡ list_any (λ x. not (p x)) xs
+not_all p [] = refl
+not_all p (x ∷ xs) =
+    elim (cases_Bool (p x)) [
+      | inl t ↦ rw t (not_all p xs)
+      | inr f ↦ rw f refl
+    ]
 
--- ---- the value of an option that is given, or may be absent
+there : {A : Type 0} (o : Option A) → is_some o ≡ true → (x : A) × (o ≡ Some x)
+there None h = absurd cc
+there (Some x) h = (x, refl)
 
-absent_value : (r : Reading) (options : List (List ℕ)) (k : Key) (a : Absent) (s : Shape) → is_good a s ≡ true → is_refused a ≡ false → text_of k options ≡ None → value_absent a s ≡ Some (shaped r options k a s)
-unfolding value_absent number_in args_in cores_in flag_in place_in
-absent_value r options k (absent.Number d) (shape.Number low high) good may none = rw none refl
-absent_value r options k absent.Usual shape.Args good may none = rw none refl
-absent_value r options k absent.Usual shape.Cores good may none = rw none refl
-absent_value r options k absent.Usual shape.Flag good may none = rw none refl
-absent_value r options k absent.Usual (shape.Named s) good may none = rw none refl
-absent_value r options k _ _ good may none = absurd cc
-
-place_at : (r : Reading) (options : List (List ℕ)) (k : Key) (s : Sort) (text : List ℕ) (i : ℕ) → text_of k options ≡ Some text → place_of s text (here r) ≡ Some i → place_in r s k options ≡ Some i
-unfolding place_in
-place_at r options k s text i at e = rw at e
-
-place_value : (r : Reading) (options : List (List ℕ)) (k : Key) (a : Absent) (s : Sort) (text : List ℕ) (i : ℕ) → text_of k options ≡ Some text → place_of s text (here r) ≡ Some i → value_given (here r) (shape.Named s) text ≡ Some (shaped r options k a (shape.Named s))
-unfolding value_given
-place_value r options k a s text i at e = rw (e, placed_some a i (place_in r s k options) (place_at r options k s text i at e)) refl
-
-bound_place : (r : Reading) (s : Sort) (text : List ℕ) → is_unbound_value r (shape.Named s) text ≡ false → (i : ℕ) × (place_of s text (here r) ≡ Some i)
-unfolding is_unbound_value
-bound_place r s text h = place_found (place_of s text (here r)) h
-
-given_value : (r : Reading) (options : List (List ℕ)) (k : Key) (a : Absent) (s : Shape) (g : IsGiven r options k s) → value_given (here r) s g.text ≡ Some (shaped r options k a s)
-unfolding value_given is_value number_in args_in kind_in cores_in timeout_in flag_in mode_in whole_in
-given_value r options k a (shape.Number low high) g =
-    let v = some_value (number_within low high g.text) g.valued in
-    let n = within_is low high v.0 g.text v.1 in
-    rw (g.at, v.1, n.0) refl
-given_value r options k a shape.Whole g = let v = some_value (whole g.text) g.valued in rw (g.at, v.1) refl
-given_value r options k a shape.Args g = let v = some_value (maybe.list_of g.text) g.valued in rw (g.at, v.1) refl
-given_value r options k a shape.Cores g = let v = some_value (cores_of g.text) g.valued in rw (g.at, v.1) refl
-given_value r options k a shape.Kind g = let v = some_value (kind_named g.text) g.valued in rw (g.at, v.1) refl
-given_value r options k a shape.Flag g = let v = some_value (flag_of g.text) g.valued in rw (g.at, v.1) refl
-given_value r options k a shape.Mode g = let v = some_value (mode_of g.text) g.valued in rw (g.at, v.1) refl
-given_value r options k a shape.Timeout g = let v = some_value (timeout_of g.text) g.valued in rw (g.at, v.1) refl
-given_value r options k a (shape.Named sort) g = let p = bound_place r sort g.text g.bound in place_value r options k a sort g.text p.0 g.at p.1
-
-field_value : (r : Reading) (options : List (List ℕ)) (f : Field) → is_good f.absent f.shape ≡ true → OptionOf r options f.key f.absent f.shape → value_at (here r) f (text_of f.key options) ≡ Some (value_in r options f)
-field_value r options f good (inl n) = rw n.at (absent_value r options f.key f.absent f.shape good n.may n.at)
-field_value r options f good (inr g) = rw g.at (given_value r options f.key f.absent f.shape g)
-
--- the options are of the statement, none twice, each with a value, and none is missing
-record AreOptions (fs : List Field) (options : List (List ℕ)) : Type 0 where
-  known : list_all (is_known fs) options ≡ true
-  once : has_twice options ≡ false
-  valued : list_all (has_value fs) options ≡ true
-  present : list_any (is_missing options) fs ≡ false
-
-all_values : (r : Reading) (options : List (List ℕ)) (all fs : List Field) → AreOptions all options → list_any (has_unbound r all) options ≡ false → AllByRecursion (IsField all) fs → AllByRecursion (λ f. is_good f.absent f.shape ≡ true) fs → values_in (here r) options fs ≡ Some (map (value_in r options) fs)
-unfolding values_in
-all_values r options all [] are bound found good = refl
-all_values r options all (f ∷ fs) are bound found good =
-    let o = option_at r all options f (find (λ w. bytes_eq (key_of w) (key_text f.key)) options) found.0 are.known are.valued are.present bound refl in
-    rw (field_value r options f good.0 o, all_values r options all fs are bound found.1 good.1) refl
-
--- ---- a name among the values that isn't bound
+-- ---- the words and the fields
 
 -- a word that passes, and is the first with its key
 record IsFirst (p : List ℕ → Bool) (options : List (List ℕ)) : Type 0 where
@@ -122,6 +76,100 @@ first_of p (w ∷ ws) once some =
           let other = apart_sym (key_of h.word) (key_of w) (find_none (λ (v : List ℕ). bytes_eq (key_of v) (key_of h.word)) (λ (v : List ℕ). bytes_eq (key_of v) (key_of w)) ws h.word h.first both.0) in
           record { word = h.word; passes = h.passes; first = rw other h.first }
     ]
+
+valued_is : (b : Bool) (f : Field) → is_some (cond b (Some f) None) ≡ true → b ≡ true
+valued_is true f h = refl
+valued_is false f h = absurd cc
+
+may_be : (a g : Bool) → (a && not g) ≡ false → g ≡ false → a ≡ false
+may_be true true h e = absurd cc
+may_be true false h e = absurd cc
+may_be false g h e = refl
+
+-- the word that gives a field gives it by its key
+word_field : (all : List Field) (f : Field) (options : List (List ℕ)) (word : List ℕ) → IsField all f → find (λ w. bytes_eq (key_of w) (key_text f.key)) options ≡ Some word → field_of all word ≡ Some f
+word_field all f options word field e =
+    let key : key_of word ≡ key_text f.key = bytes_are (key_of word) (key_text f.key) (find_passes (λ w. bytes_eq (key_of w) (key_text f.key)) options word e) in
+    rw key field
+
+-- the value of a word that gives a field is one of the field
+word_valued : (all : List Field) (f : Field) (options : List (List ℕ)) (word : List ℕ) → IsField all f → find (λ w. bytes_eq (key_of w) (key_text f.key)) options ≡ Some word → list_all (has_value all) options ≡ true → is_value f.shape (value_of word) ≡ true
+word_valued all f options word field e valued = valued_is _ f (rw (word_field all f options word field e) at (find_all (λ w. bytes_eq (key_of w) (key_text f.key)) (has_value all) options word e valued))
+
+-- ---- a value that is none of its option's
+
+field_good : (all : List Field) (f : Field) (options : List (List ℕ)) (o : Option (List ℕ)) → IsField all f → find (λ w. bytes_eq (key_of w) (key_text f.key)) options ≡ o → list_all (has_value all) options ≡ true → is_bad_text f.shape (option_map value_of o) ≡ false
+field_good all f options None field e valued = refl
+field_good all f options (Some word) field e valued = ap not (word_valued all f options word field e valued)
+
+none_bad : (all fs : List Field) (options : List (List ℕ)) → AllByRecursion (IsField all) fs → list_all (has_value all) options ≡ true → list_any (is_bad options) fs ≡ false
+unfolding text_of
+none_bad all [] options found valued = refl
+none_bad all (f ∷ fs) options found valued = rw (field_good all f options (find (λ w. bytes_eq (key_of w) (key_text f.key)) options) found.0 refl valued) (none_bad all fs options found.1 valued)
+
+bad_value : (fs : List Field) (word : List ℕ) (f : Field) → field_of fs word ≡ Some f → not (has_value fs word) ≡ true → is_value f.shape (value_of word) ≡ false
+bad_value fs word f e h =
+    elim (cases_Bool (is_value f.shape (value_of word))) [
+      | inl t ↦ absurd (let x = rw (e, t) at h in cc)
+      | inr n ↦ n
+    ]
+
+-- a field with a bad value, where a word has none
+some_bad : (fs : List Field) (options : List (List ℕ)) → list_all (is_known fs) options ≡ true → has_twice options ≡ false → list_any (is_bad options) fs ≡ false → list_any (λ w. not (has_value fs w)) options ≡ true → ⊥
+unfolding text_of
+some_bad fs options known once none h =
+    let w = first_of (λ (x : List ℕ). not (has_value fs x)) options once h in
+    let k = and_parts (list_any (λ b. eqb b 61) w.word) (is_some (field_of fs w.word)) (find_all (λ (x : List ℕ). bytes_eq (key_of x) (key_of w.word)) (is_known fs) options w.word w.first known) in
+    let f = there (field_of fs w.word) k.1 in
+    let p : Field → Bool = λ (g : Field). bytes_eq (key_text g.key) (key_of w.word) in
+    let key : key_text f.0.key ≡ key_of w.word = bytes_are (key_text f.0.key) (key_of w.word) (find_passes p fs f.0 f.1) in
+    let at : text_of f.0.key options ≡ Some (value_of w.word) = rw (key, w.first) refl in
+    let good : is_bad options f.0 ≡ false = find_none p (is_bad options) fs f.0 f.1 none in
+    let bad = bad_value fs w.word f.0 f.1 w.passes in
+    let x = rw (at, bad) at good in
+    cc
+
+-- a value is none of its option's, asked word by word, exactly where one is, field by field
+bad_fields : (fs : List Field) (options : List (List ℕ)) → AllByRecursion (IsField fs) fs → list_all (is_known fs) options ≡ true → has_twice options ≡ false → not (list_all (has_value fs) options) ≡ list_any (is_bad options) fs
+bad_fields fs options found known once =
+    elim (cases_Bool (list_all (has_value fs) options)) [
+      | inl t ↦ rw t (sym (none_bad fs fs options found t))
+      | inr n ↦ elim (cases_Bool (list_any (is_bad options) fs)) [
+        | inl t ↦ rw (n, t) refl
+        | inr g ↦ absurd (some_bad fs options known once g (sym (not_all (has_value fs) options) ∙ ap not n))
+      ]
+    ]
+
+-- ---- the steps of the code
+
+later : (x m : Bool) (k : Result Change Cause) → (refuse x BadValue >>= λ a. refuse m OptionMissing >>= λ b. k) ≡ ((refuse x BadValue >>= λ a. refuse m OptionMissing) >>= λ b. k)
+later true m k = refl
+later false true k = refl
+later false false k = refl
+
+keys_good : (fs : List Field) (options : List (List ℕ)) → check_keys fs options ≡ Ok tt → (list_all (is_known fs) options ≡ true) × (has_twice options ≡ false)
+keys_good fs options e =
+    let a = bind_ok (refuse (not (list_all (is_known fs) options)) UnknownOption) _ tt e in
+    (not_false _ (refuse_ok _ _ a.0 a.1), refuse_ok _ _ tt a.2)
+
+pub statement_ends : (r : Reading) (line : ℕ) (first : List ℕ) (rest : List (List ℕ)) (w : Word) (name : Option (List ℕ)) (options : List (List ℕ)) (x : Result Change Cause) → heading r first rest ≡ Ok (w, name, options) → check_keys (fields w) options ≡ Ok tt → x ≡ settled r line w name options (list_any (is_bad options) (fields w)) (values_in (here r) options (fields w)) → x ≡ statement_of r line first rest
+unfolding statement_of check_options
+statement_ends r line first rest w name options x h k e =
+    let keys = keys_good (fields w) options k in
+    rw (e, h, keys.0, keys.1, bad_fields (fields w) options (fields_found w) keys.0 keys.1) (later (list_any (is_bad options) (fields w)) (list_any (is_missing options) (fields w)) (refuse (is_taken r (naming w) (name_text name)) NameTaken >>= λ b. or_cause (change_of r line w name options) NameUnknown))
+
+keys_bad : (k t : Bool) (c : Cause) (rest : Result (Unit {0}) Cause) → (refuse k UnknownOption >>= λ a. refuse t OptionTwice) ≡ Err c → (refuse k UnknownOption >>= λ a. refuse t OptionTwice >>= λ b. rest) ≡ Err c
+keys_bad true t c rest e = e
+keys_bad false true c rest e = e
+keys_bad false false c rest e = absurd cc
+
+pub statement_fails : (r : Reading) (line : ℕ) (first : List ℕ) (rest : List (List ℕ)) (w : Word) (name : Option (List ℕ)) (options : List (List ℕ)) (c : Cause) → heading r first rest ≡ Ok (w, name, options) → check_keys (fields w) options ≡ Err c → Err c ≡ statement_of r line first rest
+unfolding statement_of check_options
+statement_fails r line first rest w name options c h k =
+    let same = keys_bad (not (list_all (is_known (fields w)) options)) (has_twice options) c (refuse (not (list_all (has_value (fields w)) options)) BadValue >>= λ d. refuse (list_any (is_missing options) (fields w)) OptionMissing) k in
+    rw (h, same) refl
+
+-- ---- a name that isn't bound
 
 unplaced : (s : Sort) (o : Option ℕ) → not (is_some o) ≡ true → option_map (λ (place : ℕ). given.Place (Some place)) o ≡ None
 unplaced s None h = refl
@@ -164,22 +212,6 @@ unbound_none r fs options once some =
     let at : text_of u.field.key options ≡ Some (value_of w.word) = rw (key, w.first) refl in
     no_values (here r) options (λ (f : Field). bytes_eq (key_text f.key) (key_of w.word)) fs u.field u.found (rw at u.none)
 
--- ---- the name that is used
-
--- the place of the name that a statement uses
-abbrev used_of : Reading → Naming → List ℕ → Option ℕ
-used_of r n name = option_map (λ u. u.1) (use_of r n name)
-
-use_some : (r : Reading) (n : Naming) (rest options : List (List ℕ)) (name : Option (List ℕ)) → split_name n rest ≡ Some (name, options) → is_unbound r n (name_text name) ≡ false → use_in (here r) n name ≡ Some (used_of r n (name_text name))
-unfolding use_in is_unbound used_place
-use_some r rule.Bare rest options name e h = refl
-use_some r rule.Caller rest options name e h = refl
-use_some r (rule.Binds s) rest options name e h = refl
-use_some r (rule.Uses s) rest options name e h =
-    let g = named_by (rule.Uses s) rest name options e (λ (x : rule.Uses s ≡ rule.Bare). cc) in
-    let p = place_found (place_of s g.0 (here r)) (rw g.1 at h) in
-    rw (g.1, p.1) refl
-
 unused : (o : Option ℕ) → not (is_some o) ≡ true → option_map some o ≡ None
 unused None h = refl
 unused (Some i) h = absurd cc
@@ -192,105 +224,104 @@ use_none r (rule.Binds s) name h = absurd cc
 use_none r (rule.Uses s) None h = refl
 use_none r (rule.Uses s) (Some name) h = unused (place_of s name (here r)) h
 
--- ---- what a statement does
+-- ---- names that are bound
 
-deed_settled : (r : Reading) (w : Word) (name : List ℕ) (options : List (List ℕ)) → is_deed w ≡ true → deed_with w (used_of r (naming w) name) (map (value_in r options) (fields w)) ≡ Some (deed_of r w name options)
-unfolding deed_with deed_of row
-deed_settled r word.Node name options h = absurd cc
-deed_settled r word.Caller name options h = absurd cc
-deed_settled r word.Begin name options h = refl
-deed_settled r word.Action name options h = refl
-deed_settled r word.ActionDelete name options h = refl
-deed_settled r word.ActionEnable name options h = refl
-deed_settled r word.ActionDisable name options h = refl
-deed_settled r word.Start name options h = refl
-deed_settled r word.Enqueue name options h = refl
-deed_settled r word.Wait name options h = refl
-deed_settled r word.Cancel name options h = refl
-deed_settled r word.Group name options h = refl
-deed_settled r word.WaitAll name options h = refl
-deed_settled r word.WaitAny name options h = refl
-deed_settled r word.GroupDelete name options h = refl
-deed_settled r word.Queue name options h = refl
-deed_settled r word.QueueGet name options h = refl
-deed_settled r word.QueueEnable name options h = refl
-deed_settled r word.QueueDisable name options h = refl
-deed_settled r word.QueueDelete name options h = refl
-deed_settled r word.Mutex name options h = refl
-deed_settled r word.MutexGet name options h = refl
-deed_settled r word.MutexDelete name options h = refl
-deed_settled r word.Lock name options h = refl
-deed_settled r word.Unlock name options h = refl
-deed_settled r word.Sem name options h = refl
-deed_settled r word.SemGet name options h = refl
-deed_settled r word.SemDelete name options h = refl
-deed_settled r word.SemLock name options h = refl
-deed_settled r word.SemUnlock name options h = refl
-deed_settled r word.Rwl name options h = refl
-deed_settled r word.RwlGet name options h = refl
-deed_settled r word.RwlDelete name options h = refl
-deed_settled r word.RwlLock name options h = refl
-deed_settled r word.RwlUnlock name options h = refl
-deed_settled r word.Shmem name options h = refl
-deed_settled r word.ShmemGet name options h = refl
-deed_settled r word.ShmemDelete name options h = refl
-deed_settled r word.Attach name options h = refl
-deed_settled r word.Detach name options h = refl
-deed_settled r word.Read name options h = refl
-deed_settled r word.Write name options h = refl
+mapped : {A B : Type 0} (f : A → B) (o : Option A) → is_some o ≡ true → is_some (option_map f o) ≡ true
+mapped f (Some x) h = refl
+mapped f None h = absurd cc
 
-settings_settled : (r : Reading) (options : List (List ℕ)) → settings_with (map (value_in r options) (fields word.Node)) ≡ Some (settings_in options)
-unfolding settings_with settings_in row
-settings_settled r options = refl
+given_some : (r : Reading) (s : Shape) (text : List ℕ) → is_value s text ≡ true → is_unbound_value r s text ≡ false → is_some (value_given (here r) s text) ≡ true
+unfolding value_given is_value is_unbound_value
+given_some r (shape.Number low high) text v u = mapped given.Number (number_within low high text) v
+given_some r shape.Whole text v u = mapped given.Whole (whole text) v
+given_some r shape.Args text v u = mapped given.Args (list_of text) v
+given_some r shape.Cores text v u = mapped (λ (mask : ℕ). given.Cores (record { 0 = mask })) (cores_of text) v
+given_some r shape.Kind text v u = mapped given.Kind (kind_named text) v
+given_some r shape.Flag text v u = mapped given.Flag (flag_of text) v
+given_some r shape.Mode text v u = mapped given.Mode (mode_of text) v
+given_some r shape.Timeout text v u = mapped given.Timeout (timeout_of text) v
+given_some r (shape.Named sort) text v u = mapped (λ (place : ℕ). given.Place (Some place)) (place_of sort text (here r)) (not_false (is_some (place_of sort text (here r))) u)
+
+absent_some : (a : Absent) (s : Shape) → is_good a s ≡ true → is_refused a ≡ false → is_some (value_absent a s) ≡ true
+unfolding value_absent
+absent_some (absent.Number d) s good may = refl
+absent_some absent.Usual shape.Args good may = refl
+absent_some absent.Usual shape.Cores good may = refl
+absent_some absent.Usual shape.Flag good may = refl
+absent_some absent.Usual (shape.Named s) good may = refl
+absent_some _ _ good may = absurd cc
+
+-- the options are of the statement, each with a value, none is missing, and the names are bound
+record AreBound (r : Reading) (fs : List Field) (options : List (List ℕ)) : Type 0 where
+  valued : list_all (has_value fs) options ≡ true
+  present : list_any (is_missing options) fs ≡ false
+  bound : list_any (has_unbound r fs) options ≡ false
+
+value_some : (r : Reading) (all : List Field) (options : List (List ℕ)) (f : Field) (o : Option (List ℕ)) → AreBound r all options → IsField all f → is_good f.absent f.shape ≡ true → find (λ w. bytes_eq (key_of w) (key_text f.key)) options ≡ o → is_some (value_at (here r) f (option_map value_of o)) ≡ true
+value_some r all options f None are field good e =
+    let missing = find_none (λ g. bytes_eq (key_text g.key) (key_text f.key)) (is_missing options) all f field are.present in
+    let none : gives f.key options ≡ false = find_any (λ w. bytes_eq (key_of w) (key_text f.key)) options e in
+    absent_some f.absent f.shape good (may_be (is_refused f.absent) (gives f.key options) missing none)
+value_some r all options f (Some word) are field good e =
+    let bound = rw (word_field all f options word field e) at (find_none (λ w. bytes_eq (key_of w) (key_text f.key)) (has_unbound r all) options word e are.bound) in
+    given_some r f.shape (value_of word) (word_valued all f options word field e are.valued) bound
+
+pub values_more : (before : List Statement) (options : List (List ℕ)) (f : Field) (fs : List Field) (v : Value) (vs : List Value) → value_at before f (text_of f.key options) ≡ Some v → values_in before options fs ≡ Some vs → values_in before options (f ∷ fs) ≡ Some (v ∷ vs)
+unfolding values_in
+values_more before options f fs v vs e h = rw (e, h) refl
+
+values_some : (r : Reading) (all : List Field) (options : List (List ℕ)) (fs : List Field) → AreBound r all options → AllByRecursion (IsField all) fs → AllByRecursion (λ f. is_good f.absent f.shape ≡ true) fs → (vs : List Value) × (values_in (here r) options fs ≡ Some vs)
+unfolding values_in text_of
+values_some r all options [] are found good = ([], refl)
+values_some r all options (f ∷ fs) are found good =
+    let v = there _ (value_some r all options f (find (λ w. bytes_eq (key_of w) (key_text f.key)) options) are found.0 good.0 refl) in
+    let rest = values_some r all options fs are found.1 good.1 in
+    (v.0 ∷ rest.0, values_more (here r) options f fs v.0 rest.0 v.1 rest.1)
+
+used_at : (r : Reading) (s : Sort) (name : Option (List ℕ)) (text : List ℕ) (place : ℕ) → name ≡ Some text → place_of s text (here r) ≡ Some place → use_in (here r) (rule.Uses s) name ≡ Some (Some place)
+unfolding use_in
+used_at r s name text place e p = rw (e, p) refl
+
+use_some : (r : Reading) (n : Naming) (rest options : List (List ℕ)) (name : Option (List ℕ)) → split_name n rest ≡ Some (name, options) → is_unbound r n (name_text name) ≡ false → (place : Option ℕ) × (use_in (here r) n name ≡ Some place)
+unfolding use_in is_unbound
+use_some r rule.Bare rest options name e h = (None, refl)
+use_some r rule.Caller rest options name e h = (None, refl)
+use_some r (rule.Binds s) rest options name e h = (None, refl)
+use_some r (rule.Uses s) rest options name e h =
+    let g = named_by (rule.Uses s) rest name options e (λ (x : rule.Uses s ≡ rule.Bare). cc) in
+    let p = place_found (place_of s g.0 (here r)) (rw g.1 at h) in
+    (some p.0, used_at r s name g.0 p.0 g.1 p.1)
+
+-- ---- what a statement adds, where its names are bound, and where one isn't
 
 -- the words behind the first one are the name and the options of a statement with this word
-record IsSaid (r : Reading) (rest : List (List ℕ)) (w : Word) (name : Option (List ℕ)) (options : List (List ℕ)) : Type 0 where
-  split : split_name (naming w) rest ≡ Some (name, options)
-  are : AreOptions (fields w) options
+pub record IsSaid (rest : List (List ℕ)) (w : Word) (name : Option (List ℕ)) (options : List (List ℕ)) : Type 0 where
+  pub split : split_name (naming w) rest ≡ Some (name, options)
+  pub once : has_twice options ≡ false
+  pub valued : list_all (has_value (fields w)) options ≡ true
+  pub present : list_any (is_missing options) (fields w) ≡ false
 
--- the names are bound
-record AreBound (r : Reading) (w : Word) (name : Option (List ℕ)) (options : List (List ℕ)) : Type 0 where
-  used : is_unbound r (naming w) (name_text name) ≡ false
-  values : list_any (has_unbound r (fields w)) options ≡ false
+node_some : (r : Reading) (line : ℕ) (w : Word) (name : Option (List ℕ)) (options : List (List ℕ)) (vs : List Value) → w ≡ word.Node → values_in (here r) options (fields w) ≡ Some vs → AllFit (here r) (fields w) vs → are_filled (fields w) vs ≡ true → (c : Change) × (change_of r line w name options ≡ Some c)
+node_some r line w name options vs is v fit filled =
+    let n = node_values vs (rw is at filled) in
+    let set = node_settings (here r) n.0 (rw n.1 (rw is at fit)) in
+    (change.Node n.0, node_change r line w name options vs n.0 is v (rw n.1 at set))
 
-node_said : (r : Reading) (line : ℕ) (name : Option (List ℕ)) (options : List (List ℕ)) → values_in (here r) options (fields word.Node) ≡ Some (map (value_in r options) (fields word.Node)) → said.change_of r line word.Node name options ≡ Some (change_of r line word.Node name options)
-unfolding said.change_of change_of
-node_said r line name options v = rw (v, settings_settled r options) refl
-
-caller_said : (r : Reading) (line : ℕ) (name : List ℕ) (options : List (List ℕ)) → said.change_of r line word.Caller (Some name) options ≡ Some (change_of r line word.Caller (Some name) options)
-unfolding said.change_of change_of
-caller_said r line name options = refl
-
-abbrev deed_behind : ℕ → Word → Option (List ℕ) → Option ℕ → List Value → Option Change
-deed_behind line w name place values = maybe.◌>>=◌ (deed_with w place values) (λ d. Some (change.Statement (record { line = line; name = bound_name (naming w) name; deed = d })))
-
-abbrev deed_change : Reading → ℕ → Word → Option (List ℕ) → List (List ℕ) → Option Change
-deed_change r line w name options = maybe.◌>>=◌ (use_in (here r) (naming w) name) (λ place. maybe.◌>>=◌ (values_in (here r) options (fields w)) (deed_behind line w name place))
-
-deed_says : (r : Reading) (line : ℕ) (w : Word) (name : Option (List ℕ)) (options : List (List ℕ)) → is_deed w ≡ true → said.change_of r line w name options ≡ deed_change r line w name options
-unfolding said.change_of
-deed_says r line word.Node name options h = absurd cc
-deed_says r line word.Caller name options h = absurd cc
-deed_says r line _ name options h = refl
-
-deed_said : (r : Reading) (line : ℕ) (w : Word) (name : Option (List ℕ)) (options : List (List ℕ)) → is_deed w ≡ true → use_in (here r) (naming w) name ≡ Some (used_of r (naming w) (name_text name)) → values_in (here r) options (fields w) ≡ Some (map (value_in r options) (fields w)) → said.change_of r line w name options ≡ Some (change_of r line w name options)
-deed_said r line w name options h u v =
-    let d = deed_is r line w name options h in
-    deed_says r line w name options h ∙ rw (u, v, deed_settled r w (name_text name) options h, d.change) refl
-
--- where all names are bound, the change is what the code makes of it
-bound_says : (r : Reading) (line : ℕ) (rest : List (List ℕ)) (w : Word) (name : Option (List ℕ)) (options : List (List ℕ)) → IsSaid r rest w name options → AreBound r w name options → said.change_of r line w name options ≡ Some (change_of r line w name options)
-bound_says r line rest w name options is b =
-    let v = all_values r options (fields w) (fields w) is.are b.values (fields_found w) (fields_good w) in
+change_some : (r : Reading) (line : ℕ) (rest : List (List ℕ)) (w : Word) (name : Option (List ℕ)) (options : List (List ℕ)) → IsSaid rest w name options → is_unbound r (naming w) (name_text name) ≡ false → list_any (has_unbound r (fields w)) options ≡ false → (c : Change) × (change_of r line w name options ≡ Some c)
+change_some r line rest w name options read used bound =
+    let vs = values_some r (fields w) options (fields w) (record { valued = read.valued; present = read.present; bound = bound }) (fields_found w) (fields_good w) in
+    let are = values_are (here r) options (fields w) vs.0 (fields_good w) vs.1 in
     elim (kind_of w) [
-      | a_node e ↦ subst (λ (x : Word). values_in (here r) options (fields x) ≡ Some (map (value_in r options) (fields x)) → said.change_of r line x name options ≡ Some (change_of r line x name options)) (sym e) (node_said r line name options) v
-      | a_caller e ↦
-          let g = caller_named rest name options (rw e at is.split) in
-          rw (e, g.1) (caller_said r line g.0 options)
-      | a_deed h ↦ deed_said r line w name options h (use_some r (naming w) rest options name is.split b.used) v
+      | a_node is ↦ node_some r line w name options vs.0 is vs.1 are.0 are.1
+      | a_caller is ↦
+          let g = caller_named rest name options (rw is at read.split) in
+          (change.Caller g.0, caller_change r line w name options g.0 is g.1)
+      | a_deed h ↦
+          let u = use_some r (naming w) rest options name read.split used in
+          let d = deed_of w u.0 vs.0 h (use_is (here r) (naming w) name u.0 u.1).0 are.1 in
+          (change.Statement (made line w name d.deed), deed_change_is r line w name options u.0 vs.0 d.deed h u.1 vs.1 d.gives)
     ]
 
--- where one is not, there is none
 no_fields : (r : Reading) (ws : List (List ℕ)) → list_any (has_unbound r []) ws ≡ false
 no_fields r [] = refl
 no_fields r (w ∷ ws) = no_fields r ws
@@ -299,109 +330,42 @@ caller_bound : (r : Reading) (ws : List (List ℕ)) → list_any (has_unbound r 
 unfolding row
 caller_bound r ws = no_fields r ws
 
-caller_uses : (r : Reading) (name : List ℕ) → is_unbound r (naming word.Caller) name ≡ false
+bare_uses : (r : Reading) (w : Word) (name : List ℕ) → w ≡ word.Node → is_unbound r (naming w) name ≡ false
 unfolding row is_unbound
-caller_uses r name = refl
+bare_uses r w name is = rw is refl
 
-node_unsaid : (r : Reading) (line : ℕ) (name : Option (List ℕ)) (options : List (List ℕ)) → values_in (here r) options (fields word.Node) ≡ None → said.change_of r line word.Node name options ≡ None
-unfolding said.change_of
-node_unsaid r line name options e = rw e refl
-
-node_uses : (r : Reading) (name : List ℕ) → is_unbound r (naming word.Node) name ≡ false
+caller_uses : (r : Reading) (w : Word) (name : List ℕ) → w ≡ word.Caller → is_unbound r (naming w) name ≡ false
 unfolding row is_unbound
-node_uses r name = refl
+caller_uses r w name is = rw is refl
 
-use_unsaid : (r : Reading) (line : ℕ) (w : Word) (name : Option (List ℕ)) (options : List (List ℕ)) → is_unbound r (naming w) (name_text name) ≡ true → said.change_of r line w name options ≡ None
+use_unsaid : (r : Reading) (line : ℕ) (w : Word) (name : Option (List ℕ)) (options : List (List ℕ)) → is_unbound r (naming w) (name_text name) ≡ true → change_of r line w name options ≡ None
 use_unsaid r line w name options h =
     elim (kind_of w) [
-      | a_node e ↦ absurd (let f = node_uses r (name_text name) in let t = rw e at h in cc)
-      | a_caller e ↦ absurd (let f = caller_uses r (name_text name) in let t = rw e at h in cc)
-      | a_deed d ↦ deed_says r line w name options d ∙ rw (use_none r (naming w) name h) refl
+      | a_node is ↦ absurd (let f = bare_uses r w (name_text name) is in let x = sym f ∙ h in cc)
+      | a_caller is ↦ absurd (let f = caller_uses r w (name_text name) is in let x = sym f ∙ h in cc)
+      | a_deed d ↦ deed_same r line w name (values_in (here r) options (fields w)) d ∙ rw (use_none r (naming w) name h) refl
     ]
 
-value_unsaid : (r : Reading) (line : ℕ) (w : Word) (name : Option (List ℕ)) (options : List (List ℕ)) → AreOptions (fields w) options → list_any (has_unbound r (fields w)) options ≡ true → said.change_of r line w name options ≡ None
-value_unsaid r line w name options are h =
-    let none = unbound_none r (fields w) options are.once h in
+node_unsaid : (r : Reading) (line : ℕ) (w : Word) (name : Option (List ℕ)) (options : List (List ℕ)) → w ≡ word.Node → values_in (here r) options (fields w) ≡ None → change_of r line w name options ≡ None
+unfolding change_with
+node_unsaid r line w name options is e = rw e (rw is refl)
+
+value_unsaid : (r : Reading) (line : ℕ) (w : Word) (name : Option (List ℕ)) (options : List (List ℕ)) → has_twice options ≡ false → list_any (has_unbound r (fields w)) options ≡ true → change_of r line w name options ≡ None
+value_unsaid r line w name options once h =
+    let none = unbound_none r (fields w) options once h in
     elim (kind_of w) [
-      | a_node e ↦ subst (λ (x : Word). values_in (here r) options (fields x) ≡ None → said.change_of r line x name options ≡ None) (sym e) (node_unsaid r line name options) none
-      | a_caller e ↦ absurd (let f = caller_bound r options in let t = rw e at h in cc)
-      | a_deed d ↦ deed_says r line w name options d ∙ rw none (none_behind (use_in (here r) (naming w) name))
+      | a_node is ↦ node_unsaid r line w name options is none
+      | a_caller is ↦ absurd (let f = caller_bound r options in let t = rw is at h in cc)
+      | a_deed d ↦ deed_same r line w name (values_in (here r) options (fields w)) d ∙ rw none (none_behind (use_in (here r) (naming w) name))
     ]
 
--- ---- the statement
-
-abbrev looked : Bool → Bool → Change → Result Change Cause
-looked name values c = (refuse name NameUnknown >>= λ x. refuse values NameUnknown) >>= λ y. Ok c
-
-ends_same : (r : Reading) (line : ℕ) (rest : List (List ℕ)) (w : Word) (name : Option (List ℕ)) (options : List (List ℕ)) → IsSaid r rest w name options → or_cause (said.change_of r line w name options) NameUnknown ≡ looked (is_unbound r (naming w) (name_text name)) (list_any (has_unbound r (fields w)) options) (change_of r line w name options)
-ends_same r line rest w name options is =
+-- a statement that is read up to its names adds something exactly where the names that it uses are bound
+pub change_there : (r : Reading) (line : ℕ) (rest : List (List ℕ)) (w : Word) (name : Option (List ℕ)) (options : List (List ℕ)) → IsSaid rest w name options → is_some (change_of r line w name options) ≡ not (is_unbound r (naming w) (name_text name) || list_any (has_unbound r (fields w)) options)
+change_there r line rest w name options read =
     elim (cases_Bool (is_unbound r (naming w) (name_text name))) [
       | inl t ↦ rw (t, use_unsaid r line w name options t) refl
       | inr f ↦ elim (cases_Bool (list_any (has_unbound r (fields w)) options)) [
-        | inl t ↦ rw (f, t, value_unsaid r line w name options is.are t) refl
-        | inr g ↦ rw (f, g, bound_says r line rest w name options is (record { used = f; values = g })) refl
+        | inl t ↦ rw (f, t, value_unsaid r line w name options read.once t) refl
+        | inr g ↦ rw (f, g, (change_some r line rest w name options read f g).1) refl
       ]
     ]
-
-names_same : (r : Reading) (line : ℕ) (rest : List (List ℕ)) (w : Word) (name : Option (List ℕ)) (options : List (List ℕ)) → IsSaid r rest w name options → (refuse (is_taken r (naming w) (name_text name)) NameTaken >>= λ b. or_cause (said.change_of r line w name options) NameUnknown) ≡ (check_names r w (name_text name) options >>= λ b. Ok (change_of r line w name options))
-unfolding check_names
-names_same r line rest w name options is =
-    elim (cases_Bool (is_taken r (naming w) (name_text name))) [
-      | inl t ↦ rw t refl
-      | inr f ↦ rw f (ends_same r line rest w name options is)
-    ]
-
-data Checked (fs : List Field) (options : List (List ℕ)) : Type 0 where
-  good : check_options fs options ≡ Ok tt → AreOptions fs options → Checked fs options
-  bad : (c : Cause) → check_options fs options ≡ Err c → Checked fs options
-
-options_good : (fs : List Field) (options : List (List ℕ)) → check_options fs options ≡ Ok tt → AreOptions fs options
-unfolding check_options
-options_good fs options e =
-    let a = bind_ok (refuse (not (list_all (is_known fs) options)) UnknownOption) _ tt e in
-    let b = bind_ok (refuse (has_twice options) OptionTwice) _ tt a.2 in
-    let d = bind_ok (refuse (not (list_all (has_value fs) options)) BadValue) _ tt b.2 in
-    record {
-      known = not_false _ (refuse_ok _ _ a.0 a.1);
-      once = refuse_ok _ _ b.0 b.1;
-      valued = not_false _ (refuse_ok _ _ d.0 d.1);
-      present = refuse_ok _ _ tt d.2;
-    }
-
-checked_as : (fs : List Field) (options : List (List ℕ)) (x : Result (Unit {0}) Cause) → check_options fs options ≡ x → Checked fs options
-checked_as fs options (Err c) e = bad c e
-checked_as fs options (Ok tt) e = good e (options_good fs options e)
-
-data Headed (r : Reading) (first : List ℕ) (rest : List (List ℕ)) : Type 0 where
-  head : (h : Word × Option (List ℕ) × List (List ℕ)) → heading r first rest ≡ Ok h → Headed r first rest
-  none : (c : Cause) → heading r first rest ≡ Err c → Headed r first rest
-
-headed_as : (r : Reading) (first : List ℕ) (rest : List (List ℕ)) (x : Result (Word × Option (List ℕ) × List (List ℕ)) Cause) → heading r first rest ≡ x → Headed r first rest
-headed_as r first rest (Ok h) e = head h e
-headed_as r first rest (Err c) e = none c e
-
-head_same : (r : Reading) (line : ℕ) (first : List ℕ) (rest : List (List ℕ)) (h : Word × Option (List ℕ) × List (List ℕ)) → heading r first rest ≡ Ok h → statement_of r line first rest ≡ settled r line first rest
-unfolding statement_of settled
-head_same r line first rest h e =
-    let k = heading_facts r first rest h e in
-    elim (checked_as (fields h.0) h.2 (check_options (fields h.0) h.2) refl) [
-      | good g are ↦ rw (e, g) (names_same r line rest h.0 h.1 h.2 (record { split = k.split; are = are }))
-      | bad c b ↦ rw (e, b) refl
-    ]
-
-no_head : (r : Reading) (line : ℕ) (first : List ℕ) (rest : List (List ℕ)) (c : Cause) → heading r first rest ≡ Err c → statement_of r line first rest ≡ settled r line first rest
-unfolding statement_of settled
-no_head r line first rest c e = rw e refl
-
-pub statement_same : (r : Reading) (line : ℕ) (first : List ℕ) (rest : List (List ℕ)) → statement_of r line first rest ≡ settled r line first rest
-statement_same r line first rest =
-    elim (headed_as r first rest (heading r first rest) refl) [
-      | head h e ↦ head_same r line first rest h e
-      | none c e ↦ no_head r line first rest c e
-    ]
-
-pub statement_facts : (r : Reading) (line : ℕ) (first : List ℕ) (rest : List (List ℕ)) (c : Change) → statement_of r line first rest ≡ Ok c → Line r line first rest c
-statement_facts r line first rest c e = settled_facts r line first rest c (sym (statement_same r line first rest) ∙ e)
-
-pub statement_read : (r : Reading) (line : ℕ) (first : List ℕ) (rest : List (List ℕ)) (w : Word) (name : Option (List ℕ)) (options : List (List ℕ)) → IsRead r first rest w name options → statement_of r line first rest ≡ Ok (change_of r line w name options)
-statement_read r line first rest w name options read = statement_same r line first rest ∙ settled_read r line first rest w name options read

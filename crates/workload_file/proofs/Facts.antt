@@ -1,6 +1,7 @@
 -- What is known of a line that was read without a fault.
 use Rattle.std.proofs.Common.{◌≡◌, ℕ, List, [], ◌∷◌, length, Bool, true, false, not, cond, Option, Some, None, Result, Ok, Err, refl, ap, subst, ◌∙◌}
 use Rattle.std.specs.Prelude.{nat_le, nat_lt}
+use Rattle.std.specs.Option.{option_map}
 use Rattle.std.specs.List.{list_all, list_any}
 use Rattle.workload_file.specs.declared.table.Word.{Word}
 use Rattle.workload_file.specs.declared.faults.Cause.{Cause}
@@ -9,10 +10,11 @@ use Rattle.workload_file.specs.declared.reading.Reading.{Reading}
 use Rattle.workload_file.specs.declared.reading.Change.{Change}
 use Rattle.workload_file.specs.Table.{naming, fields, word_of}
 use Rattle.workload_file.specs.Options.{is_known, has_twice, has_value, is_missing}
-use Rattle.workload_file.specs.Names.{split_name, is_taken, is_unbound, has_unbound, is_misplaced, is_ninth_caller}
+use Rattle.workload_file.specs.Names.{split_name, is_taken, is_misplaced, is_ninth_caller}
 use Rattle.workload_file.specs.Cuts.{words_of}
 use Rattle.workload_file.specs.Reading.{◌>>=◌, refuse, or_cause, heading, check_options, name_text, statement_of, words_give, is_comment, is_printable, line_gives, at_line}
-use Rattle.workload_file.specs.Settled.{check_names, change_of, settled}
+use Rattle.workload_file.specs.Changes.{change_of}
+use Rattle.number_text.specs.Lists as maybe
 
 -- ---- steps that did not fail
 
@@ -44,9 +46,17 @@ pub at_line_ok : {A : Type 0} (line : ℕ) (x : Result A Cause) (y : A) → at_l
 at_line_ok line (Ok x) y e = ap Ok (ok_is x y e)
 at_line_ok line (Err c) y e = absurd cc
 
+pub bind_some : {A B : Type 0} (o : Option A) (f : A → Option B) (y : B) → maybe.◌>>=◌ o f ≡ Some y → (x : A) × (o ≡ Some x) × (f x ≡ Some y)
+bind_some (Some x) f y e = (x, refl, e)
+bind_some None f y e = absurd cc
+
+pub map_some : {A B : Type 0} (f : A → B) (o : Option A) (y : B) → option_map f o ≡ Some y → (x : A) × (o ≡ Some x) × (f x ≡ y)
+map_some f (Some x) y e = (x, refl, some_is (f x) y e)
+map_some f None y e = absurd cc
+
 -- ---- a statement
 
--- the words are a statement without a fault: its word, its name and its options
+-- the words are a statement in which no fault was found before the names: its word, its name and its options
 pub record IsRead (r : Reading) (first : List ℕ) (rest : List (List ℕ)) (w : Word) (name : Option (List ℕ)) (options : List (List ℕ)) : Type 0 where
   pub word : word_of first ≡ Some w
   pub few : nat_le 20000 r.count ≡ false
@@ -58,15 +68,13 @@ pub record IsRead (r : Reading) (first : List ℕ) (rest : List (List ℕ)) (w :
   pub valued : list_all (has_value (fields w)) options ≡ true
   pub present : list_any (is_missing options) (fields w) ≡ false
   pub free : is_taken r (naming w) (name_text name) ≡ false
-  pub bound : is_unbound r (naming w) (name_text name) ≡ false
-  pub values_bound : list_any (has_unbound r (fields w)) options ≡ false
 
 pub record Statement (r : Reading) (line : ℕ) (first : List ℕ) (rest : List (List ℕ)) (c : Change) : Type 0 where
   pub word : Word
   pub name : Option (List ℕ)
   pub options : List (List ℕ)
   pub read : IsRead r first rest word name options
-  pub change : change_of r line word name options ≡ c
+  pub change : change_of r line word name options ≡ Some c
 
 pub not_false : (b : Bool) → not b ≡ false → b ≡ true
 not_false true h = refl
@@ -96,18 +104,16 @@ heading_facts r first rest h e =
     } in
     subst (λ (x : Word × Option (List ℕ) × List (List ℕ)). IsHeading r first rest x) (ok_is (a.0, g.0.0, g.0.1) h g.2) made
 
-pub settled_facts : (r : Reading) (line : ℕ) (first : List ℕ) (rest : List (List ℕ)) (c : Change) → settled r line first rest ≡ Ok c → Statement r line first rest c
-unfolding settled check_options check_names
-settled_facts r line first rest c e =
+pub statement_facts : (r : Reading) (line : ℕ) (first : List ℕ) (rest : List (List ℕ)) (c : Change) → statement_of r line first rest ≡ Ok c → Statement r line first rest c
+unfolding statement_of check_options
+statement_facts r line first rest c e =
     let h = bind_ok (heading r first rest) _ c e in
     let k = heading_facts r first rest h.0 h.1 in
     let o = bind_ok (check_options (fields h.0.0) h.0.2) _ c h.2 in
-    let n = bind_ok (check_names r h.0.0 (name_text h.0.1) h.0.2) _ c o.2 in
+    let n = bind_ok (refuse (is_taken r (naming h.0.0) (name_text h.0.1)) NameTaken) _ c o.2 in
     let o1 = bind_ok (refuse (not (list_all (is_known (fields h.0.0)) h.0.2)) UnknownOption) _ o.0 o.1 in
     let o2 = bind_ok (refuse (has_twice h.0.2) OptionTwice) _ o.0 o1.2 in
     let o3 = bind_ok (refuse (not (list_all (has_value (fields h.0.0)) h.0.2)) BadValue) _ o.0 o2.2 in
-    let n1 = bind_ok (refuse (is_taken r (naming h.0.0) (name_text h.0.1)) NameTaken) _ n.0 n.1 in
-    let n2 = bind_ok (refuse (is_unbound r (naming h.0.0) (name_text h.0.1)) NameUnknown) _ n.0 n1.2 in
     record {
       word = h.0.0;
       name = h.0.1;
@@ -122,17 +128,15 @@ settled_facts r line first rest c e =
         once = refuse_ok _ _ o2.0 o2.1;
         valued = not_false _ (refuse_ok _ _ o3.0 o3.1);
         present = refuse_ok _ _ o.0 o3.2;
-        free = refuse_ok _ _ n1.0 n1.1;
-        bound = refuse_ok _ _ n2.0 n2.1;
-        values_bound = refuse_ok _ _ n.0 n2.2;
+        free = refuse_ok _ _ n.0 n.1;
       };
-      change = ok_is _ c n.2;
+      change = or_cause_ok _ NameUnknown c n.2;
     }
 
 -- and the other way round
-pub settled_read : (r : Reading) (line : ℕ) (first : List ℕ) (rest : List (List ℕ)) (w : Word) (name : Option (List ℕ)) (options : List (List ℕ)) → IsRead r first rest w name options → settled r line first rest ≡ Ok (change_of r line w name options)
-unfolding settled heading check_options check_names
-settled_read r line first rest w name options f = rw (f.word, f.few, f.callers, f.placed, f.split, f.known, f.once, f.valued, f.present, f.free, f.bound, f.values_bound) refl
+pub statement_read : (r : Reading) (line : ℕ) (first : List ℕ) (rest : List (List ℕ)) (w : Word) (name : Option (List ℕ)) (options : List (List ℕ)) (c : Change) → IsRead r first rest w name options → change_of r line w name options ≡ Some c → statement_of r line first rest ≡ Ok c
+unfolding statement_of heading check_options
+statement_read r line first rest w name options c f e = rw (f.word, f.few, f.callers, f.placed, f.split, f.known, f.once, f.valued, f.present, f.free, e) refl
 
 -- ---- a line
 

@@ -1,7 +1,7 @@
 -- What is found in a list.
-use Rattle.std.proofs.Common.{◌≡◌, List, [], ◌∷◌, Bool, true, false, Some, None, refl, inl, inr}
+use Rattle.std.proofs.Common.{◌≡◌, List, [], ◌∷◌, ◌++◌, Bool, true, false, Some, None, refl, inl, inr}
 use Rattle.std.specs.List.{find, list_any, list_all}
-use Rattle.std.proofs.lemmas.Bool.{and_parts, or_parts, cases_Bool}
+use Rattle.std.proofs.lemmas.Bool.{and_parts, or_parts, or_left, or_right, cases_Bool}
 
 pub find_passes : {X : Type 0} (p : X → Bool) (xs : List X) (x : X) → find p xs ≡ Some x → p x ≡ true
 find_passes p [] x e = absurd cc
@@ -36,3 +36,16 @@ find_any p (y ∷ ys) e =
       | inl t ↦ absurd (let e2 = rw t at e in cc)
       | inr f ↦ rw f (find_any p ys (rw f at e))
     ]
+
+pub find_skip : {X : Type 0} (p : X → Bool) (xs ys : List X) (y : X) → list_any p xs ≡ false → p y ≡ true → find p (xs ++ y ∷ ys) ≡ Some y
+find_skip p [] ys y h t = rw t refl
+find_skip p (x ∷ xs) ys y h t = let both = or_parts (p x) (list_any p xs) h in rw both.0 (find_skip p xs ys y both.1 t)
+
+pub find_nothing : {X : Type 0} (p : X → Bool) (xs ys : List X) → list_any p xs ≡ false → list_any p ys ≡ false → find p (xs ++ ys) ≡ None
+find_nothing p [] [] h k = refl
+find_nothing p [] (y ∷ ys) h k = let both = or_parts (p y) (list_any p ys) k in rw both.0 (find_nothing p [] ys refl both.1)
+find_nothing p (x ∷ xs) ys h k = let both = or_parts (p x) (list_any p xs) h in rw both.0 (find_nothing p xs ys both.1 k)
+
+pub any_in : {X : Type 0} (p : X → Bool) (xs ys : List X) (y : X) → p y ≡ true → list_any p (xs ++ y ∷ ys) ≡ true
+any_in p [] ys y h = or_left (p y) (list_any p ys) h
+any_in p (x ∷ xs) ys y h = or_right (p x) (list_any p (xs ++ y ∷ ys)) (any_in p xs ys y h)

@@ -20,8 +20,8 @@ use Rattle.workload_file.specs.Table.{word_of, naming, fields}
 use Rattle.workload_file.specs.Options.{value_of, field_of, is_known, has_twice, is_value, has_value, is_missing}
 use Rattle.workload_file.specs.Names.{split_name, is_taken, is_unbound, has_unbound, is_misplaced, is_ninth_caller}
 use Rattle.workload_file.specs.Reading.{◌>>=◌, refuse, or_cause, heading, check_options, name_text, statement_of, words_give, is_comment, is_printable, line_gives, with_change, at_line, line_adds, lines_add, start, finished, workload_of}
-use Rattle.workload_file.specs.Settled.{check_names, change_of, settled}
-use Rattle.workload_file.proofs.Agreed.{statement_same}
+use Rattle.workload_file.specs.Changes.{change_of}
+use Rattle.workload_file.proofs.Agreed.{not_all, change_there}
 use Rattle.workload_file.specs.Faulty.{statement_word, is_statement, second, has_second, options_in, bad_at, has_bad_value, is_faulty, is_faulty_of, first_met, refused_for, IsFirstFault}
 
 -- ---- one step of reading
@@ -36,17 +36,6 @@ step b t c f o e h = subst (λ (x : Bool). refused_for (refuse b c >>= f) ≡ co
 inner_same : {A B : Type 0} (b : Bool) (c : Cause) (f : Unit {0} → Result A Cause) (g : A → Result B Cause) (o : Option Cause) → refused_for (f tt >>= g) ≡ o → refused_for ((refuse b c >>= f) >>= g) ≡ cond b (Some c) o
 inner_same true c f g o h = refl
 inner_same false c f g o h = h
-
-inner : {A B : Type 0} (b t : Bool) (c : Cause) (f : Unit {0} → Result A Cause) (g : A → Result B Cause) (o : Option Cause) → b ≡ t → refused_for (f tt >>= g) ≡ o → refused_for ((refuse b c >>= f) >>= g) ≡ cond t (Some c) o
-inner b t c f g o e h = subst (λ (x : Bool). refused_for ((refuse b c >>= f) >>= g) ≡ cond x (Some c) o) e (inner_same b c f g o h)
-
-not_all : {X : Type 0} (p : X → Bool) (xs : List X) → not (list_all p xs) ≡ list_any (λ x. not (p x)) xs
-not_all p [] = refl
-not_all p (x ∷ xs) =
-    elim (cases_Bool (p x)) [
-      | inl t ↦ rw t (not_all p xs)
-      | inr f ↦ rw f refl
-    ]
 
 -- ---- values of known options
 
@@ -72,49 +61,51 @@ bad_values fs (w ∷ ws) h =
 
 -- ---- names and options
 
-two_unknown : (a b : Bool) (c : Change) → refused_for ((refuse a cause.NameUnknown >>= λ x. refuse b cause.NameUnknown) >>= λ y. Ok c) ≡ cond (a || b) (Some cause.NameUnknown) None
-two_unknown true b c = refl
-two_unknown false true c = refl
-two_unknown false false c = refl
+name_unknown : (o : Option Change) (b : Bool) → is_some o ≡ not b → refused_for (or_cause o cause.NameUnknown) ≡ cond b (Some cause.NameUnknown) None
+name_unknown (Some c) true e = absurd cc
+name_unknown (Some c) false e = refl
+name_unknown None true e = refl
+name_unknown None false e = absurd cc
 
 abbrev names_met : Reading → Word → List ℕ → List (List ℕ) → Option Cause
 names_met r w name options = cond (is_taken r (naming w) name) (Some cause.NameTaken) (cond (is_unbound r (naming w) name || list_any (has_unbound r (fields w)) options) (Some cause.NameUnknown) None)
 
-names_refused : (r : Reading) (w : Word) (name : List ℕ) (options : List (List ℕ)) (c : Change) → refused_for (check_names r w name options >>= λ b. Ok c) ≡ names_met r w name options
-unfolding check_names
-names_refused r w name options c = inner_same (is_taken r (naming w) name) cause.NameTaken _ _ _ (two_unknown (is_unbound r (naming w) name) (list_any (has_unbound r (fields w)) options) c)
+abbrev names_read : Reading → ℕ → Word → Option (List ℕ) → List (List ℕ) → Result Change Cause
+names_read r line w name options = refuse (is_taken r (naming w) (name_text name)) cause.NameTaken >>= λ b. or_cause (change_of r line w name options) cause.NameUnknown
 
-abbrev later_met : Reading → Word → List ℕ → List (List ℕ) → Option Cause
-later_met r w name options =
-    cond (has_twice options) (Some cause.OptionTwice)
-    (cond (list_any (has_bad_value (fields w)) options) (Some cause.BadValue)
-    (cond (list_any (is_missing options) (fields w)) (Some cause.OptionMissing)
-    (names_met r w name options)))
+-- the four steps of the options, and what comes behind them where none is refused
+chain : (k t v m : Bool) (names : Result Change Cause) (o : Option Cause) → (k ≡ true → t ≡ false → v ≡ true → m ≡ false → refused_for names ≡ o) → refused_for ((refuse (not k) cause.UnknownOption >>= λ a. refuse t cause.OptionTwice >>= λ b. refuse (not v) cause.BadValue >>= λ d. refuse m cause.OptionMissing) >>= λ e. names) ≡ cond (not k) (Some cause.UnknownOption) (cond t (Some cause.OptionTwice) (cond (not v) (Some cause.BadValue) (cond m (Some cause.OptionMissing) o)))
+chain false t v m names o h = refl
+chain true true v m names o h = refl
+chain true false false m names o h = refl
+chain true false true true names o h = refl
+chain true false true false names o h = h refl refl refl refl
+
+met_same : (fs : List Field) (options : List (List ℕ)) (t : Bool) (o : Option Cause) → cond (not (list_all (is_known fs) options)) (Some cause.UnknownOption) (cond t (Some cause.OptionTwice) (cond (not (list_all (has_value fs) options)) (Some cause.BadValue) o)) ≡ cond (list_any (λ word. not (is_known fs word)) options) (Some cause.UnknownOption) (cond t (Some cause.OptionTwice) (cond (list_any (has_bad_value fs) options) (Some cause.BadValue) o))
+met_same fs options t o =
+    let same = not_all (is_known fs) options in
+    elim (cases_Bool (list_all (is_known fs) options)) [
+      | inl k ↦ rw (← same, bad_values fs options k) refl
+      | inr f ↦ rw (← same, f) refl
+    ]
 
 abbrev options_met : Reading → Word → List ℕ → List (List ℕ) → Option Cause
-options_met r w name options = cond (list_any (λ word. not (is_known (fields w) word)) options) (Some cause.UnknownOption) (later_met r w name options)
+options_met r w name options =
+    cond (list_any (λ word. not (is_known (fields w) word)) options) (Some cause.UnknownOption)
+    (cond (has_twice options) (Some cause.OptionTwice)
+    (cond (list_any (has_bad_value (fields w)) options) (Some cause.BadValue)
+    (cond (list_any (is_missing options) (fields w)) (Some cause.OptionMissing)
+    (names_met r w name options))))
 
-abbrev reads : Reading → Word → List ℕ → List (List ℕ) → Change → Result Change Cause
-reads r w name options c = check_options (fields w) options >>= λ a. check_names r w name options >>= λ b. Ok c
-
-options_known : (r : Reading) (w : Word) (name : List ℕ) (options : List (List ℕ)) (c : Change) → list_all (is_known (fields w)) options ≡ true → refused_for (reads r w name options c) ≡ later_met r w name options
+options_refused : (r : Reading) (line : ℕ) (w : Word) (name : Option (List ℕ)) (rest options : List (List ℕ)) → split_name (naming w) rest ≡ Some (name, options) → refused_for (check_options (fields w) options >>= λ a. names_read r line w name options) ≡ options_met r w (name_text name) options
 unfolding check_options
-options_known r w name options c h =
-    rw h (inner_same (has_twice options) cause.OptionTwice _ _ _
-    (inner (not (list_all (has_value (fields w)) options)) (list_any (has_bad_value (fields w)) options) cause.BadValue _ _ _ (bad_values (fields w) options h)
-    (step_same (list_any (is_missing options) (fields w)) cause.OptionMissing _ _ (names_refused r w name options c))))
-
-options_unknown : (r : Reading) (w : Word) (name : List ℕ) (options : List (List ℕ)) (c : Change) → list_all (is_known (fields w)) options ≡ false → refused_for (reads r w name options c) ≡ Some cause.UnknownOption
-unfolding check_options
-options_unknown r w name options c h = rw h refl
-
-options_refused : (r : Reading) (w : Word) (name : List ℕ) (options : List (List ℕ)) (c : Change) → refused_for (reads r w name options c) ≡ options_met r w name options
-options_refused r w name options c =
-    let same = not_all (is_known (fields w)) options in
-    elim (cases_Bool (list_all (is_known (fields w)) options)) [
-      | inl t ↦ let none : list_any (λ word. not (is_known (fields w) word)) options ≡ false = sym same ∙ rw t refl in rw none (options_known r w name options c t)
-      | inr f ↦ let some : list_any (λ word. not (is_known (fields w) word)) options ≡ true = sym same ∙ rw f refl in rw some (options_unknown r w name options c f)
-    ]
+options_refused r line w name rest options split =
+    let fs = fields w in
+    let missing = list_any (is_missing options) fs in
+    let unbound = is_unbound r (naming w) (name_text name) || list_any (has_unbound r fs) options in
+    chain (list_all (is_known fs) options) (has_twice options) (list_all (has_value fs) options) missing (names_read r line w name options) (names_met r w (name_text name) options)
+    (λ k t v m. step_same (is_taken r (naming w) (name_text name)) cause.NameTaken _ _ (name_unknown (change_of r line w name options) unbound (change_there r line rest w name options (record { split = split; once = t; valued = v; present = m }))))
+    ∙ met_same fs options (has_twice options) (cond missing (Some cause.OptionMissing) (names_met r w (name_text name) options))
 
 -- ---- the name
 
@@ -129,7 +120,7 @@ abbrev from_split : Word → Option (Option (List ℕ) × List (List ℕ)) → R
 from_split w o = or_cause o cause.BadName >>= λ parts. Ok (w, parts.0, parts.1)
 
 abbrev with_head : Reading → ℕ → head_type → Result Change Cause
-with_head r line head = check_options (fields head.0) head.2 >>= λ a. check_names r head.0 (name_text head.1) head.2 >>= λ b. Ok (change_of r line head.0 head.1 head.2)
+with_head r line head = check_options (fields head.0) head.2 >>= λ a. names_read r line head.0 head.1 head.2
 
 -- a statement without a name doesn't ask for one
 bare_names : (r : Reading) (w : Word) (name : List ℕ) (options : List (List ℕ)) → naming w ≡ rule.Bare → options_met r w [] options ≡ options_met r w name options
@@ -139,10 +130,10 @@ bare_names r w name options e = rw e refl
 abbrev split_word : List ℕ → List (List ℕ) → Option (Option (List ℕ) × List (List ℕ))
 split_word x xs = cond (is_name x) (Some (Some x, xs)) None
 
-named_refused : (r : Reading) (line : ℕ) (w : Word) (first name : List ℕ) (rest : List (List ℕ)) → has_second (naming w) ≡ true → refused_for (from_split w (split_word name rest) >>= with_head r line) ≡ name_met r w (first ∷ (name ∷ rest))
-named_refused r line w first name rest h =
+named_refused : (r : Reading) (line : ℕ) (w : Word) (first name : List ℕ) (rest : List (List ℕ)) → has_second (naming w) ≡ true → split_name (naming w) (name ∷ rest) ≡ split_word name rest → refused_for (from_split w (split_word name rest) >>= with_head r line) ≡ name_met r w (first ∷ (name ∷ rest))
+named_refused r line w first name rest h s =
     elim (cases_Bool (is_name name)) [
-      | inl t ↦ rw (t, h) (options_refused r w name rest (change_of r line w (Some name) rest))
+      | inl t ↦ rw (t, h) (options_refused r line w (Some name) (name ∷ rest) rest (rw t at s))
       | inr f ↦ rw (f, h) refl
     ]
 
@@ -153,9 +144,9 @@ no_name = refl
 nameless_refused : (r : Reading) (line : ℕ) (w : Word) (first : List ℕ) → has_second (naming w) ≡ true → refused_for (from_split w None >>= with_head r line) ≡ name_met r w (first ∷ [])
 nameless_refused r line w first h = rw (h, no_name) refl
 
-bare_refused : (r : Reading) (line : ℕ) (w : Word) (first : List ℕ) (rest : List (List ℕ)) → naming w ≡ rule.Bare → refused_for (from_split w (Some (None, rest)) >>= with_head r line) ≡ name_met r w (first ∷ rest)
-bare_refused r line w first rest e =
-    let same = options_refused r w [] rest (change_of r line w None rest) ∙ bare_names r w (second (first ∷ rest)) rest e in
+bare_refused : (r : Reading) (line : ℕ) (w : Word) (first : List ℕ) (rest : List (List ℕ)) → naming w ≡ rule.Bare → split_name (naming w) rest ≡ Some (None, rest) → refused_for (from_split w (Some (None, rest)) >>= with_head r line) ≡ name_met r w (first ∷ rest)
+bare_refused r line w first rest e s =
+    let same = options_refused r line w None rest rest s ∙ bare_names r w (second (first ∷ rest)) rest e in
     rw e (rw e at same)
 
 data Split (w : Word) (rest : List (List ℕ)) : Type 0 where
@@ -176,9 +167,9 @@ split_as w (rule.Uses s) (x ∷ xs) e = named x xs (rw e refl) refl (rw e refl)
 name_refused : (r : Reading) (line : ℕ) (w : Word) (first : List ℕ) (rest : List (List ℕ)) → refused_for (from_split w (split_name (naming w) rest) >>= with_head r line) ≡ name_met r w (first ∷ rest)
 name_refused r line w first rest =
     elim (split_as w (naming w) rest refl) [
-      | bare e s ↦ rw s (bare_refused r line w first rest e)
+      | bare e s ↦ rw s (bare_refused r line w first rest e s)
       | nameless h is s ↦ rw (s, is) (nameless_refused r line w first h)
-      | named name options h is s ↦ rw (s, is) (named_refused r line w first name options h)
+      | named name options h is s ↦ rw (s, is) (named_refused r line w first name options h (rw is at s))
     ]
 
 -- ---- the statement
@@ -197,15 +188,12 @@ abbrev statement_met : Reading → Option Word → List (List ℕ) → Option Ca
 statement_met r None words = Some cause.UnknownWord
 statement_met r (Some w) words = cond (nat_le 20000 r.count) (Some cause.TooManyStatements) (word_met r w words)
 
-settled_refused : (r : Reading) (line : ℕ) (first : List ℕ) (rest : List (List ℕ)) (w : Word) → word_of first ≡ Some w → refused_for (settled r line first rest) ≡ statement_met r (Some w) (first ∷ rest)
-unfolding settled heading
-settled_refused r line first rest w e =
+known_refused : (r : Reading) (line : ℕ) (first : List ℕ) (rest : List (List ℕ)) (w : Word) → word_of first ≡ Some w → refused_for (statement_of r line first rest) ≡ statement_met r (Some w) (first ∷ rest)
+unfolding statement_of heading
+known_refused r line first rest w e =
     rw e (inner_same (nat_le 20000 r.count) cause.TooManyStatements _ _ _
     (inner_same (is_ninth_caller r w) cause.TooManyCallers _ _ _
     (inner_same (is_misplaced r w) cause.Misplaced _ _ _ (name_refused r line w first rest))))
-
-known_refused : (r : Reading) (line : ℕ) (first : List ℕ) (rest : List (List ℕ)) (w : Word) → word_of first ≡ Some w → refused_for (statement_of r line first rest) ≡ statement_met r (Some w) (first ∷ rest)
-known_refused r line first rest w e = ap refused_for (statement_same r line first rest) ∙ settled_refused r line first rest w e
 
 unknown_refused : (r : Reading) (line : ℕ) (first : List ℕ) (rest : List (List ℕ)) → word_of first ≡ None → refused_for (statement_of r line first rest) ≡ Some cause.UnknownWord
 unfolding statement_of heading

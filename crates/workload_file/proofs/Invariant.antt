@@ -1,6 +1,6 @@
 -- Each line keeps what is read well formed.
-use Rattle.std.proofs.Common.{◌≡◌, ℕ, ◌+◌, ◌≤◌, ◌<◌, List, [], ◌∷◌, ◌++◌, length, Bool, true, false, not, cond, eqb, Option, Some, None, refl, sym, ap, arith, inl, inr, map, append_assoc}
-use Rattle.std.specs.Prelude.{is_some, IfSome}
+use Rattle.std.proofs.Common.{◌≡◌, ℕ, ◌+◌, ◌≤◌, ◌<◌, List, [], ◌∷◌, ◌++◌, length, Bool, true, false, not, cond, eqb, Option, Some, None, refl, sym, ap, subst, ◌∙◌, arith, inl, inr, append_assoc}
+use Rattle.std.specs.Prelude.{is_some, IfSome, slice_get}
 use Rattle.std.specs.List.{AllByRecursion, list_any, flat_map, position_or_len}
 use Rattle.std.specs.Str.{bytes_eq}
 use Rattle.std.proofs.lemmas.Bool.{or_parts, or_from, eqb-true, cases_Bool, lt-ltb, le-leb}
@@ -8,7 +8,6 @@ use Rattle.std.proofs.lemmas.List.{append-nil}
 use Rattle.mtapi_values.specs.Attributes.{NodeSettings}
 use Rattle.workload_file.specs.declared.table.Word.{Word}
 use Rattle.workload_file.specs.declared.table.Word.TheVariants as word
-use Rattle.workload_file.specs.declared.table.Key.TheVariants as key
 use Rattle.workload_file.specs.declared.table.Naming.{Naming}
 use Rattle.workload_file.specs.declared.table.Naming.TheVariants as rule
 use Rattle.workload_file.specs.declared.workload.Deed.{Deed}
@@ -16,17 +15,20 @@ use Rattle.workload_file.specs.declared.workload.Deed.TheVariants as deed
 use Rattle.workload_file.specs.declared.workload.Statement.{Statement}
 use Rattle.workload_file.specs.declared.workload.Part.{Part}
 use Rattle.workload_file.specs.declared.reading.Reading.{Reading}
+use Rattle.workload_file.specs.declared.values.Value.{Value}
 use Rattle.workload_file.specs.Values.{is_name}
 use Rattle.workload_file.specs.Table.{row, naming, fields}
-use Rattle.workload_file.specs.Deeds.{deed_spelled, word_for, setting_values, is_begin}
-use Rattle.workload_file.specs.Names.{split_name, is_called, bound_at, is_taken, is_unbound, is_misplaced, place_of}
+use Rattle.workload_file.specs.Deeds.{deed_spelled, word_for, used_place, values, used_with, deed_with, setting_values, is_begin}
+use Rattle.workload_file.specs.Names.{split_name, is_called, bound_at, is_taken, is_misplaced, place_of}
 use Rattle.workload_file.specs.Reading.{name_text, finished}
-use Rattle.workload_file.specs.Changes.{with_setting, usual_settings, bound_name}
-use Rattle.workload_file.specs.Settled.{number_in, settings_in, deed_of, used_place}
+use Rattle.workload_file.specs.Changes.{with_setting, usual_settings, bound_name, use_in, values_in, settings_by}
 use Rattle.workload_file.specs.Formed.{AllFit, IsBoundAt, has_name, IsNew, IsStatement, AreStatements, begins, IsPart, IsMain, IsFurther, MainFirst, HaveDifferentNames, statement_lines, Rise}
-use Rattle.workload_file.proofs.Facts.{IsRead, some, some_is}
-use Rattle.workload_file.proofs.Given.{value_in, use_of, IsDeed}
-use Rattle.workload_file.proofs.Fitting.{options_fit, place_found, place_some, any_place}
+use Rattle.workload_file.specs.Written.{bound_words}
+use Rattle.workload_file.proofs.Facts.{IsRead, some, some_is, map_some}
+use Rattle.workload_file.proofs.Fields.{is_deed, made, fields_good}
+use Rattle.workload_file.proofs.Picks.{values_are}
+use Rattle.workload_file.proofs.Spelling.{place_is, any_place, some_cond}
+use Rattle.workload_file.proofs.Tables.{is_used_at, deed_of, deed_is, node_values}
 
 -- ---- lists that end with a part or a statement
 
@@ -116,26 +118,40 @@ pub record IsFormed (r : Reading) (line : ℕ) : Type 0 where
 abbrev pair : Option (List ℕ) → List (List ℕ) → Option (List ℕ) × List (List ℕ)
 pair name options = (name, options)
 
-pair_is : (a b : Option (List ℕ)) (xs ys : List (List ℕ)) → some (pair a xs) ≡ some (pair b ys) → a ≡ b
-pair_is a b xs ys e = ap (λ (x : Option (List ℕ) × List (List ℕ)). x.0) (some_is (pair a xs) (pair b ys) e)
+pub pair_is : (a b : Option (List ℕ)) (xs ys : List (List ℕ)) → some (pair a xs) ≡ some (pair b ys) → (a ≡ b) × (xs ≡ ys)
+pair_is a b xs ys e =
+    let same = some_is (pair a xs) (pair b ys) e in
+    (ap (λ (x : Option (List ℕ) × List (List ℕ)). x.0) same, ap (λ (x : Option (List ℕ) × List (List ℕ)). x.1) same)
 
-pub is_name_true : (text : List ℕ) (name : Option (List ℕ)) (rest options : List (List ℕ)) → cond (is_name text) (Some (pair (Some text) rest)) None ≡ Some (pair name options) → (is_name text ≡ true) × (name ≡ Some text)
-is_name_true text name rest options e =
-    elim (cases_Bool (is_name text)) [
-      | inl t ↦ (t, sym (pair_is (Some text) name rest options (rw t at e)))
-      | inr f ↦ absurd (let g = rw f at e in cc)
-    ]
+abbrev split_word : List ℕ → List (List ℕ) → Option (Option (List ℕ) × List (List ℕ))
+split_word x xs = cond (is_name x) (Some (pair (Some x) xs)) None
+
+split_parts : (x : List ℕ) (xs : List (List ℕ)) (name : Option (List ℕ)) (options : List (List ℕ)) → split_word x xs ≡ Some (pair name options) → (is_name x ≡ true) × (name ≡ Some x) × (xs ≡ options)
+split_parts x xs name options e =
+    let g = some_cond (is_name x) (pair (Some x) xs) (pair name options) e in
+    (g.0, sym (ap (λ (y : Option (List ℕ) × List (List ℕ)). y.0) g.1), ap (λ (y : Option (List ℕ) × List (List ℕ)). y.1) g.1)
+
+-- the words behind the first one are the name and the options
+pub splits : (n : Naming) (rest : List (List ℕ)) (name : Option (List ℕ)) (options : List (List ℕ)) → split_name n rest ≡ Some (name, options) → rest ≡ bound_words name ++ options
+unfolding split_name
+splits rule.Bare rest name options e = let p = pair_is None name rest options e in rw (← p.0) p.1
+splits rule.Caller [] name options e = absurd cc
+splits rule.Caller (x ∷ xs) name options e = let p = split_parts x xs name options e in rw (p.1, p.2) refl
+splits (rule.Binds s) [] name options e = absurd cc
+splits (rule.Binds s) (x ∷ xs) name options e = let p = split_parts x xs name options e in rw (p.1, p.2) refl
+splits (rule.Uses s) [] name options e = absurd cc
+splits (rule.Uses s) (x ∷ xs) name options e = let p = split_parts x xs name options e in rw (p.1, p.2) refl
 
 -- the name of a statement that has one
 pub named_by : (n : Naming) (rest : List (List ℕ)) (name : Option (List ℕ)) (options : List (List ℕ)) → split_name n rest ≡ Some (name, options) → (n ≡ rule.Bare → ⊥) → (text : List ℕ) × (name ≡ Some text) × (is_name text ≡ true)
 unfolding split_name
 named_by rule.Bare rest name options e h = absurd (h refl)
 named_by rule.Caller [] name options e h = absurd cc
-named_by rule.Caller (x ∷ xs) name options e h = let g = is_name_true x name xs options e in (x, g.1, g.0)
+named_by rule.Caller (x ∷ xs) name options e h = let g = split_parts x xs name options e in (x, g.1, g.0)
 named_by (rule.Binds s) [] name options e h = absurd cc
-named_by (rule.Binds s) (x ∷ xs) name options e h = let g = is_name_true x name xs options e in (x, g.1, g.0)
+named_by (rule.Binds s) (x ∷ xs) name options e h = let g = split_parts x xs name options e in (x, g.1, g.0)
 named_by (rule.Uses s) [] name options e h = absurd cc
-named_by (rule.Uses s) (x ∷ xs) name options e h = let g = is_name_true x name xs options e in (x, g.1, g.0)
+named_by (rule.Uses s) (x ∷ xs) name options e h = let g = split_parts x xs name options e in (x, g.1, g.0)
 
 unbound_any : (name : List ℕ) (xs : List Statement) → is_some (bound_at name xs) ≡ false → list_any (λ s. is_called name s.name) xs ≡ false
 unbound_any name xs h =
@@ -150,6 +166,9 @@ unbound_any name xs h =
 pub caller_named : (rest : List (List ℕ)) (name : Option (List ℕ)) (options : List (List ℕ)) → split_name (naming word.Caller) rest ≡ Some (name, options) → (text : List ℕ) × (name ≡ Some text) × (is_name text ≡ true)
 unfolding row
 caller_named rest name options e = named_by rule.Caller rest name options e (λ (x : rule.Caller ≡ rule.Bare). cc)
+
+pub caller_name : (rest : List (List ℕ)) (name : List ℕ) (options : List (List ℕ)) → split_name (naming word.Caller) rest ≡ Some (Some name, options) → is_name name ≡ true
+caller_name rest name options e = let g = caller_named rest (Some name) options e in rw (some_is name g.0 g.1) g.2
 
 bound_named : (r : Reading) (n : Naming) (name : Option (List ℕ)) (rest options : List (List ℕ)) → split_name n rest ≡ Some (name, options) → is_some (bound_name n name) ≡ has_name n
 bound_named r rule.Bare name rest options e = refl
@@ -167,22 +186,40 @@ new_name r (rule.Binds s) name rest options e f =
     let free = rw g.1 at f in
     rw g.1 (g.2, unbound_any g.0 r.current.statements free)
 
-used_well : (r : Reading) (n : Naming) (name : List ℕ) → is_unbound r n name ≡ false → IfSome (use_of r n name) (λ u. IsBoundAt u.0 r.current.statements u.1)
-unfolding is_unbound used_place
-used_well r rule.Bare name h = tt
-used_well r rule.Caller name h = tt
-used_well r (rule.Binds s) name h = tt
-used_well r (rule.Uses s) name h =
-    let f = place_found (place_of s name r.current.statements) h in
-    let p = place_some s name r.current.statements f.0 f.1 in
-    rw f.1 p.0
+abbrev UseOf : List Statement → Naming → Option ℕ → Type 0
+UseOf before n place = (is_used_at n place ≡ true) × IfSome (used_with n place) (λ u. IsBoundAt u.0 before u.1)
 
-pub statement_formed : (r : Reading) (line : ℕ) (first : List ℕ) (rest : List (List ℕ)) (w : Word) (name : Option (List ℕ)) (options : List (List ℕ)) → IsRead r first rest w name options → IsDeed r line w name options → IsStatement r.current.statements (record { line = line; name = bound_name (naming w) name; deed = deed_of r w (name_text name) options })
-statement_formed r line first rest w name options read d = record {
-  named = rw d.word (bound_named r (naming w) name rest options read.split);
+-- the name that a statement uses is bound
+pub use_is : (before : List Statement) (n : Naming) (name : Option (List ℕ)) (place : Option ℕ) → use_in before n name ≡ Some place → UseOf before n place
+unfolding use_in
+use_is before rule.Bare name place e = subst (UseOf before rule.Bare) (some_is None place e) (refl, tt)
+use_is before rule.Caller name place e = subst (UseOf before rule.Caller) (some_is None place e) (refl, tt)
+use_is before (rule.Binds s) name place e = subst (UseOf before (rule.Binds s)) (some_is None place e) (refl, tt)
+use_is before (rule.Uses s) None place e = absurd cc
+use_is before (rule.Uses s) (Some text) place e =
+    let m = map_some some (place_of s text before) place e in
+    subst (UseOf before (rule.Uses s)) m.2 (refl, (place_is s text before m.0 m.1).0)
+
+-- what is known of the deed of a statement that was read
+pub record IsGiven (before : List Statement) (w : Word) (place : Option ℕ) (d : Deed) : Type 0 where
+  pub word : word_for d ≡ w
+  pub used : used_place d ≡ place
+  pub bound : IfSome (used_with (naming w) place) (λ u. IsBoundAt u.0 before u.1)
+  pub fits : AllFit before (fields w) (values d)
+
+pub deed_given : (before : List Statement) (w : Word) (name : Option (List ℕ)) (options : List (List ℕ)) (place : Option ℕ) (vs : List Value) (d : Deed) → is_deed w ≡ true → use_in before (naming w) name ≡ Some place → values_in before options (fields w) ≡ Some vs → deed_with w place vs ≡ Some d → IsGiven before w place d × (values d ≡ vs)
+deed_given before w name options place vs d h u v e =
+    let used = use_is before (naming w) name place u in
+    let are = values_are before options (fields w) vs (fields_good w) v in
+    let is = deed_is w place vs d (deed_of w place vs h used.0 are.1) e in
+    (record { word = is.0; used = is.1; bound = used.1; fits = rw is.2 are.0 }, is.2)
+
+pub statement_formed : (r : Reading) (line : ℕ) (first : List ℕ) (rest : List (List ℕ)) (w : Word) (name : Option (List ℕ)) (options : List (List ℕ)) (place : Option ℕ) (d : Deed) → IsRead r first rest w name options → IsGiven r.current.statements w place d → IsStatement r.current.statements (made line w name d)
+statement_formed r line first rest w name options place d read g = record {
+  named = rw g.word (bound_named r (naming w) name rest options read.split);
   name = new_name r (naming w) name rest options read.split read.free;
-  uses = rw d.uses (used_well r (naming w) (name_text name) read.bound);
-  options = rw (d.word, d.values) (options_fit r first rest w name options read);
+  uses = rw (g.word, g.used) g.bound;
+  options = rw g.word g.fits;
 }
 
 -- ---- begin
@@ -238,31 +275,33 @@ set_generations : (v : ℕ) (s : NodeSettings) → (1 ≤ v) × (v ≤ 429496729
 unfolding with_setting
 set_generations v s h = rw (le-leb 1 v h.0, le-leb v 4294967295 h.1) refl
 
-pub node_settings : (r : Reading) (options : List (List ℕ)) → AllFit r.current.statements (fields word.Node) (map (value_in r options) (fields word.Node)) → setting_values (settings_in options) ≡ map (value_in r options) (fields word.Node)
-unfolding row settings_in
-node_settings r options h =
-    let v1 = number_in options key.Workers 1 in
-    let e1 = set_workers v1 usual_settings h.0 in
-    let s1 : NodeSettings = record usual_settings { workers = v1 } in
-    let v2 = number_in options key.MaxTasks 1024 in
-    let e2 = set_tasks v2 s1 h.1.0 in
-    let s2 : NodeSettings = record s1 { tasks = v2 } in
-    let v3 = number_in options key.MaxActions 64 in
-    let e3 = set_actions v3 s2 h.1.1.0 in
-    let s3 : NodeSettings = record s2 { actions = v3 } in
-    let v4 = number_in options key.MaxGroups 128 in
-    let e4 = set_groups v4 s3 h.1.1.1.0 in
-    let s4 : NodeSettings = record s3 { groups = v4 } in
-    let v5 = number_in options key.MaxQueues 16 in
-    let e5 = set_queues v5 s4 h.1.1.1.1.0 in
-    let s5 : NodeSettings = record s4 { queues = v5 } in
-    let v6 = number_in options key.MaxObjects 16 in
-    let e6 = set_objects v6 s5 h.1.1.1.1.1.0 in
-    let s6 : NodeSettings = record s5 { objects = v6 } in
-    let v7 = number_in options key.Priorities 4 in
-    let e7 = set_priorities v7 s6 h.1.1.1.1.1.1.0 in
-    let s7 : NodeSettings = record s6 { priorities = v7 } in
-    let v8 = number_in options key.Generations 4294967295 in
-    let e8 = set_generations v8 s7 h.1.1.1.1.1.1.1.0 in
-    let s8 : NodeSettings = record s7 { generations = v8 } in
+-- the settings whose values fit are given by their values
+pub node_settings : (before : List Statement) (s : NodeSettings) → AllFit before (fields word.Node) (setting_values s) → settings_by (slice_get (setting_values s)) ≡ Some s
+unfolding row settings_by
+node_settings before s h =
+    let e1 = set_workers s.workers usual_settings h.0 in
+    let s1 : NodeSettings = record usual_settings { workers = s.workers } in
+    let e2 = set_tasks s.tasks s1 h.1.0 in
+    let s2 : NodeSettings = record s1 { tasks = s.tasks } in
+    let e3 = set_actions s.actions s2 h.1.1.0 in
+    let s3 : NodeSettings = record s2 { actions = s.actions } in
+    let e4 = set_groups s.groups s3 h.1.1.1.0 in
+    let s4 : NodeSettings = record s3 { groups = s.groups } in
+    let e5 = set_queues s.queues s4 h.1.1.1.1.0 in
+    let s5 : NodeSettings = record s4 { queues = s.queues } in
+    let e6 = set_objects s.objects s5 h.1.1.1.1.1.0 in
+    let s6 : NodeSettings = record s5 { objects = s.objects } in
+    let e7 = set_priorities s.priorities s6 h.1.1.1.1.1.1.0 in
+    let s7 : NodeSettings = record s6 { priorities = s.priorities } in
+    let e8 = set_generations s.generations s7 h.1.1.1.1.1.1.1.0 in
     rw (e1, e2, e3, e4, e5, e6, e7, e8) refl
+
+-- the settings of a node line fit, and their values are those of its options
+pub node_given : (before : List Statement) (options : List (List ℕ)) (vs : List Value) (s : NodeSettings) → values_in before options (fields word.Node) ≡ Some vs → settings_by (slice_get vs) ≡ Some s → (setting_values s ≡ vs) × AllFit before (fields word.Node) (setting_values s)
+node_given before options vs s v e =
+    let are = values_are before options (fields word.Node) vs (fields_good word.Node) v in
+    let n = node_values vs are.1 in
+    let fit : AllFit before (fields word.Node) (setting_values n.0) = rw n.1 are.0 in
+    let set : settings_by (slice_get vs) ≡ Some n.0 = rw n.1 at (node_settings before n.0 fit) in
+    let same : n.0 ≡ s = some_is n.0 s (sym set ∙ e) in
+    rw (← same) (n.1, fit)

@@ -1,5 +1,5 @@
 -- Each line keeps the invariant, and what all lines give is well formed.
-use Rattle.std.proofs.Common.{◌≡◌, ℕ, ◌+◌, ◌≤◌, List, [], ◌∷◌, ◌++◌, length, true, false, Option, Some, None, Ok, refl, sym, subst, ◌∙◌, arith, ◌⊎◌, inl, inr, map, append_assoc}
+use Rattle.std.proofs.Common.{◌≡◌, ℕ, ◌+◌, ◌≤◌, List, [], ◌∷◌, ◌++◌, length, false, Option, Some, None, Ok, refl, sym, subst, ◌∙◌, arith, ◌⊎◌, inl, inr, map, append_assoc}
 use Rattle.std.specs.List.{list_any, flat_map}
 use Rattle.std.specs.Str.{bytes_eq}
 use Rattle.std.proofs.lemmas.Bool.{or_parts, leb-false, eqb-true, ne_eqb, cases_Bool}
@@ -7,7 +7,7 @@ use Rattle.std.proofs.lemmas.List.{append-nil, length_push, map-append}
 use Rattle.mtapi_values.specs.Attributes.{NodeSettings}
 use Rattle.workload_file.specs.declared.table.Word.{Word}
 use Rattle.workload_file.specs.declared.table.Word.TheVariants as word
-use Rattle.workload_file.specs.declared.table.Naming.TheVariants as rule
+use Rattle.workload_file.specs.declared.workload.Deed.{Deed}
 use Rattle.workload_file.specs.declared.workload.Statement.{Statement}
 use Rattle.workload_file.specs.declared.workload.Part.{Part}
 use Rattle.workload_file.specs.declared.workload.Workload.{Workload}
@@ -15,19 +15,16 @@ use Rattle.workload_file.specs.declared.reading.Reading.{Reading}
 use Rattle.workload_file.specs.declared.reading.Change.{Change}
 use Rattle.workload_file.specs.Values.{is_name}
 use Rattle.number_text.specs.Lists.{between}
-use Rattle.workload_file.specs.Table.{row, naming, fields}
-use Rattle.workload_file.specs.Deeds.{setting_values, is_begin}
+use Rattle.workload_file.specs.Table.{row, fields}
+use Rattle.workload_file.specs.Deeds.{word_for, setting_values, is_begin}
 use Rattle.workload_file.specs.Names.{is_taken, is_misplaced, is_ninth_caller}
 use Rattle.workload_file.specs.Cuts.{words_of}
-use Rattle.workload_file.specs.Reading.{name_text, with_change, line_gives, line_adds, lines_add, start, finished, workload_of}
-use Rattle.workload_file.specs.Changes.{usual_settings, bound_name}
-use Rattle.workload_file.specs.Settled.{settings_in, deed_of, change_of}
+use Rattle.workload_file.specs.Reading.{with_change, line_gives, line_adds, lines_add, start, finished, workload_of}
+use Rattle.workload_file.specs.Changes.{usual_settings}
 use Rattle.workload_file.specs.Formed.{AllFit, begins, IsPart, IsMain, IsFurther, line_if_any, part_lines, statement_lines, WellFormed}
-use Rattle.workload_file.proofs.Invariant.{IsFormed, below_more, below_push, rise_push, push_all, last_all, push_statement, main_last, main_push, any_push, names_last, names_push, begins_push, flat_push, named_by, statement_formed, begin_word, begin_free, node_settings, not_not}
-use Rattle.workload_file.proofs.Facts.{IsRead, some, bind_ok, ok_is, at_line_ok, line_facts, words_facts}
-use Rattle.workload_file.proofs.Agreed.{statement_facts}
-use Rattle.workload_file.proofs.Given.{value_in, kind_of, a_node, a_caller, a_deed, deed_is, IsDeed}
-use Rattle.workload_file.proofs.Fitting.{options_fit}
+use Rattle.workload_file.proofs.Invariant.{IsFormed, below_more, below_push, rise_push, push_all, last_all, push_statement, main_last, main_push, any_push, names_last, names_push, begins_push, flat_push, caller_name, IsGiven, deed_given, statement_formed, begin_word, begin_free, node_given, not_not}
+use Rattle.workload_file.proofs.Facts.{IsRead, bind_ok, ok_is, at_line_ok, line_facts, words_facts, statement_facts}
+use Rattle.workload_file.proofs.Fields.{made, Says, says_node, says_caller, says_deed, says}
 
 -- ---- the lines of the statements so far
 
@@ -60,31 +57,30 @@ lines_caller r line name le =
 
 -- ---- a statement
 
-begins_more : (r : Reading) (line : ℕ) (w : Word) (name : Option (List ℕ)) (options : List (List ℕ)) (s : Statement) → s.deed ≡ deed_of r w (name_text name) options → IsDeed r line w name options → is_misplaced r w ≡ false → (begins (r.current.statements ++ s ∷ []) ≡ begins r.current.statements) ⊎ ((length r.before ≡ 0) × (begins (r.current.statements ++ s ∷ []) ≡ 1))
-begins_more r line w name options s e d placed =
+begins_more : (r : Reading) (w : Word) (s : Statement) → word_for s.deed ≡ w → is_misplaced r w ≡ false → (begins (r.current.statements ++ s ∷ []) ≡ begins r.current.statements) ⊎ ((length r.before ≡ 0) × (begins (r.current.statements ++ s ∷ []) ≡ 1))
+begins_more r w s is placed =
     let more = begins_push r.current.statements s in
     elim (cases_Bool (is_begin s.deed)) [
       | inl t ↦
-          let here = rw e at (begin_word s.deed t) in
-          let free = begin_free r w (sym d.word ∙ here) placed in
+          let free = begin_free r w (sym is ∙ begin_word s.deed t) placed in
           inr (free.0, more ∙ rw (t, free.1) refl)
       | inr f ↦ inl (more ∙ rw f (omega arith))
     ]
 
-statement_keeps : (r : Reading) (line : ℕ) (first : List ℕ) (rest : List (List ℕ)) (w : Word) (name : Option (List ℕ)) (options : List (List ℕ)) → IsFormed r line → 1 ≤ line → IsRead r first rest w name options → IsDeed r line w name options → IsFormed (with_statement r (record { line = line; name = bound_name (naming w) name; deed = deed_of r w (name_text name) options })) (line + 1)
-statement_keeps r line first rest w name options f le read d =
-    let s : Statement = record { line = line; name = bound_name (naming w) name; deed = deed_of r w (name_text name) options } in
+statement_keeps : (r : Reading) (line : ℕ) (first : List ℕ) (rest : List (List ℕ)) (w : Word) (name : Option (List ℕ)) (options : List (List ℕ)) (place : Option ℕ) (d : Deed) → IsFormed r line → 1 ≤ line → IsRead r first rest w name options → IsGiven r.current.statements w place d → IsFormed (with_statement r (made line w name d)) (line + 1)
+statement_keeps r line first rest w name options place d f le read g =
+    let s = made line w name d in
     let p : Part = record r.current { statements = r.current.statements ++ s ∷ [] } in
     let lines = lines_statement r s in
     let fewer = leb-false 20000 r.count read.few in
-    let b = begins_more r line w name options s refl d read.placed in
+    let b = begins_more r w s g.word read.placed in
     record {
       callers = f.callers;
       main = main_last r.before r.current p f.main
           (λ (e : length r.before ≡ 0) (m : IsMain r.current). record { line = m.line; name = m.name; begin = elim b [ inl same ↦ rw same m.begin | inr one ↦ rw one.1 (omega arith) ] })
           (λ (ge : 1 ≤ length r.before) (m : IsFurther r.current). record { line = m.line; begin = elim b [ inl same ↦ rw same m.begin | inr one ↦ absurd (omega (arith, ge, one.0)) ] });
       names = names_last r.before r.current p refl f.names;
-      parts = last_all IsPart r.before r.current p f.parts (λ (q : IsPart r.current). record { name = q.name; statements = push_statement [] r.current.statements s q.statements (statement_formed r line first rest w name options read d) });
+      parts = last_all IsPart r.before r.current p f.parts (λ (q : IsPart r.current). record { name = q.name; statements = push_statement [] r.current.statements s q.statements (statement_formed r line first rest w name options place d read g) });
       count = rw lines (length_push (lines_so_far r) line ∙ rw f.count refl);
       few = omega (arith, fewer);
       rise = rw lines (rise_push 0 line (lines_so_far r) (omega arith) f.rise f.below);
@@ -95,9 +91,10 @@ statement_keeps r line first rest w name options f le read d =
 
 -- ---- a caller line
 
-caller_keeps : (r : Reading) (line : ℕ) (first : List ℕ) (rest : List (List ℕ)) (name : List ℕ) (options : List (List ℕ)) → IsFormed r line → 1 ≤ line → IsRead r first rest word.Caller (Some name) options → is_name name ≡ true → IsFormed (with_caller r line name) (line + 1)
+caller_keeps : (r : Reading) (line : ℕ) (first : List ℕ) (rest : List (List ℕ)) (name : List ℕ) (options : List (List ℕ)) → IsFormed r line → 1 ≤ line → IsRead r first rest word.Caller (Some name) options → IsFormed (with_caller r line name) (line + 1)
 unfolding is_taken is_ninth_caller row
-caller_keeps r line first rest name options f le read good =
+caller_keeps r line first rest name options f le read =
+    let good = caller_name rest name options read.split in
     let lines = lines_caller r line name le in
     let fewer = leb-false 20000 r.count read.few in
     let callers = leb-false 8 (length r.before) read.callers in
@@ -125,17 +122,16 @@ empty_parts [] [] h = refl
 empty_parts [] (y ∷ ys) h = absurd (omega arith)
 empty_parts (x ∷ xs) ys h = absurd (omega arith)
 
-node_fits : (r : Reading) (options : List (List ℕ)) → AllFit r.current.statements (fields word.Node) (map (value_in r options) (fields word.Node)) → AllFit [] (fields word.Node) (map (value_in r options) (fields word.Node))
+node_fits : (before : List Statement) (settings : NodeSettings) → AllFit before (fields word.Node) (setting_values settings) → AllFit [] (fields word.Node) (setting_values settings)
 unfolding row
-node_fits r options h = h
+node_fits before settings h = h
 
-node_keeps : (r : Reading) (line : ℕ) (first : List ℕ) (rest : List (List ℕ)) (name : Option (List ℕ)) (options : List (List ℕ)) → IsFormed r line → 1 ≤ line → IsRead r first rest word.Node name options → IsFormed (with_node r line (settings_in options)) (line + 1)
+node_keeps : (r : Reading) (line : ℕ) (settings : NodeSettings) → IsFormed r line → 1 ≤ line → is_misplaced r word.Node ≡ false → AllFit r.current.statements (fields word.Node) (setting_values settings) → IsFormed (with_node r line settings) (line + 1)
 unfolding is_misplaced
-node_keeps r line first rest name options f le read =
-    let none : r.count ≡ 0 = eqb-true r.count 0 (not_not _ read.placed) in
+node_keeps r line settings f le placed fit =
+    let none : r.count ≡ 0 = eqb-true r.count 0 (not_not _ placed) in
     let empty = empty_parts (line_if_any r.node_line) (flat_map part_lines (r.before ++ r.current ∷ [])) (f.count ∙ none) in
-    let lines : lines_so_far (with_node r line (settings_in options)) ≡ line ∷ [] = rw (line_there line le, empty) refl in
-    let fit = options_fit r first rest word.Node name options read in
+    let lines : lines_so_far (with_node r line settings) ≡ line ∷ [] = rw (line_there line le, empty) refl in
     record {
       callers = f.callers;
       main = f.main;
@@ -146,32 +142,19 @@ node_keeps r line first rest name options f le read =
       rise = rw lines (omega arith, tt);
       below = rw lines (omega arith, tt);
       usual = λ (e : line ≡ 0). absurd (omega arith);
-      settings = rw (node_settings r options fit) (node_fits r options fit);
+      settings = node_fits r.current.statements settings fit;
     }
 
 -- ---- every line
 
-node_read : (r : Reading) (line : ℕ) (first : List ℕ) (rest : List (List ℕ)) (name : Option (List ℕ)) (options : List (List ℕ)) → IsFormed r line → 1 ≤ line → IsRead r first rest word.Node name options → IsFormed (with_change r line (Some (change_of r line word.Node name options))) (line + 1)
-unfolding with_change change_of
-node_read r line first rest name options f le read = node_keeps r line first rest name options f le read
-
-caller_read : (r : Reading) (line : ℕ) (first : List ℕ) (rest : List (List ℕ)) (name : Option (List ℕ)) (options : List (List ℕ)) → IsFormed r line → 1 ≤ line → IsRead r first rest word.Caller name options → IsFormed (with_change r line (Some (change_of r line word.Caller name options))) (line + 1)
-unfolding with_change change_of row
-caller_read r line first rest name options f le read =
-    let g = named_by rule.Caller rest name options read.split (λ (x : rule.Caller ≡ rule.Bare). cc) in
-    subst (λ (n : Option (List ℕ)). IsRead r first rest word.Caller n options → IsFormed (with_change r line (Some (change_of r line word.Caller n options))) (line + 1)) (sym g.1) (λ (rd : IsRead r first rest word.Caller (some g.0) options). caller_keeps r line first rest g.0 options f le rd g.2) read
-
-deed_read : (r : Reading) (line : ℕ) (first : List ℕ) (rest : List (List ℕ)) (w : Word) (name : Option (List ℕ)) (options : List (List ℕ)) → IsFormed r line → 1 ≤ line → IsRead r first rest w name options → IsDeed r line w name options → IsFormed (with_change r line (Some (change_of r line w name options))) (line + 1)
+keeps : (r : Reading) (line : ℕ) (first : List ℕ) (rest : List (List ℕ)) (w : Word) (name : Option (List ℕ)) (options : List (List ℕ)) (c : Change) → IsFormed r line → 1 ≤ line → IsRead r first rest w name options → Says r line w name options c → IsFormed (with_change r line (Some c)) (line + 1)
 unfolding with_change
-deed_read r line first rest w name options f le read d = rw d.change (statement_keeps r line first rest w name options f le read d)
-
-pub read_keeps : (r : Reading) (line : ℕ) (first : List ℕ) (rest : List (List ℕ)) (w : Word) (name : Option (List ℕ)) (options : List (List ℕ)) → IsFormed r line → 1 ≤ line → IsRead r first rest w name options → IsFormed (with_change r line (Some (change_of r line w name options))) (line + 1)
-read_keeps r line first rest w name options f le read =
-    elim (kind_of w) [
-      | a_node e ↦ subst (λ (x : Word). IsRead r first rest x name options → IsFormed (with_change r line (Some (change_of r line x name options))) (line + 1)) (sym e) (node_read r line first rest name options f le) read
-      | a_caller e ↦ subst (λ (x : Word). IsRead r first rest x name options → IsFormed (with_change r line (Some (change_of r line x name options))) (line + 1)) (sym e) (caller_read r line first rest name options f le) read
-      | a_deed h ↦ deed_read r line first rest w name options f le read (deed_is r line w name options h)
-    ]
+keeps r line first rest w name options c f le read (says_node vs s is v e change) =
+    rw change (node_keeps r line s f le (rw is at read.placed) (node_given r.current.statements options vs s (rw is at v) e).1)
+keeps r line first rest w name options c f le read (says_caller n is named change) =
+    rw change (caller_keeps r line first rest n options f le (rw (is, named) at read))
+keeps r line first rest w name options c f le read (says_deed place vs d h u v e change) =
+    rw change (statement_keeps r line first rest w name options place d f le read (deed_given r.current.statements w name options place vs d h u v e).0)
 
 none_keeps : (r : Reading) (line : ℕ) → IsFormed r line → IsFormed (with_change r line None) (line + 1)
 unfolding with_change
@@ -183,7 +166,7 @@ line_keeps r line text (Some c) f le e =
     let l = line_facts r line text (Some c) e in
     let ws = words_facts r line (words_of text) c l.words in
     let st = statement_facts r line ws.first ws.rest c ws.statement in
-    subst (λ (x : Change). IsFormed (with_change r line (Some x)) (line + 1)) st.change (read_keeps r line ws.first ws.rest st.word st.name st.options f le st.read)
+    keeps r line ws.first ws.rest st.word st.name st.options c f le st.read (says r line st.word st.name st.options c st.change)
 
 pub adds_keeps : (r s : Reading) (line : ℕ) (text : List ℕ) → IsFormed r line → 1 ≤ line → line_adds r line text ≡ Ok s → IsFormed s (line + 1)
 unfolding line_adds

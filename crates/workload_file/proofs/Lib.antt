@@ -1,14 +1,15 @@
 pub mod Pieces
 pub mod Lines
 pub mod Places
+pub mod Keys
 pub mod Laid
 pub mod Feeds
 pub mod Finds
 pub mod Rows
 pub mod Facts
-pub mod Given
-pub mod Fitting
+pub mod Fields
 pub mod Invariant
+pub mod Founds
 pub mod Agreed
 pub mod Keeping
 pub mod Spelling
@@ -19,7 +20,6 @@ pub mod Rewriting
 pub mod Again
 pub mod Taken
 pub mod FirstMet
-pub mod KindWords
 pub mod Tables
 pub mod Letters
 pub mod Valued

@@ -1,26 +1,16 @@
 -- Words that are joined are cut into the same words, and a line of fewer words is shorter.
-use Rattle.std.proofs.Common.{◌≡◌, ℕ, ◌+◌, ◌≤◌, List, [], ◌∷◌, ◌++◌, length, Bool, true, false, not, cond, ◌&&◌, eqb, Some, refl, ap, ◌∙◌, arith, inl, inr, length-append, All}
+use Rattle.std.proofs.Common.{◌≡◌, ℕ, ◌+◌, ◌≤◌, List, [], ◌∷◌, ◌++◌, length, Bool, true, false, not, ◌&&◌, eqb, refl, ap, ◌∙◌, arith, inl, inr, length-append, All}
 use Rattle.std.specs.Prelude.{nat_lt, filter}
-use Rattle.std.specs.List.{AllByRecursion, list_any, list_all, find, join_with_byte}
-use Rattle.std.specs.Str.{bytes_eq}
-use Rattle.std.proofs.lemmas.Bool.{and_parts, and_from, or_parts, cases_Bool, eq-eqb, eqb-true}
+use Rattle.std.specs.List.{AllByRecursion, list_all, join_with_byte}
+use Rattle.std.proofs.lemmas.Bool.{and_parts, and_from, cases_Bool, eq-eqb, eqb-true}
 use Rattle.std.proofs.lemmas.List.Elements.{All-from_recursion}
 use Rattle.std.proofs.lemmas.List.Splits.{slice_split_at, slice_split_none, length-slice_split, join_with_byte-slice_split}
-use Rattle.workload_file.specs.declared.table.Key.{Key}
-use Rattle.workload_file.specs.declared.table.Field.{Field}
-use Rattle.workload_file.specs.declared.reading.Reading.{Reading}
 use Rattle.number_text.specs.Lists.{between}
-use Rattle.workload_file.specs.Table.{key_text}
 use Rattle.workload_file.specs.Cuts.{words_of}
-use Rattle.workload_file.specs.Options.{key_of}
 use Rattle.workload_file.specs.Reading.{is_printable}
 use Rattle.workload_file.specs.Written.{line_text}
 use Rattle.number_text.specs.Lists.{led}
 use Rattle.number_text.proofs.Pieces.{joined}
-use Rattle.workload_file.proofs.Places.{bytes_are, apart_sym}
-use Rattle.workload_file.proofs.Given.{AreApart}
-use Rattle.workload_file.proofs.Picks.{AllPicked}
-use Rattle.workload_file.proofs.Rereading.{picks, picks_none, picks_left, picks_word}
 
 -- ---- what words consist of
 
@@ -138,71 +128,3 @@ text_led byte text = between_led byte (between byte text) text (omega (arith, le
 pub words_shorter : (text : List ℕ) → length (led 32 (words_of text)) ≤ length text + 1
 unfolding words_of
 words_shorter text = omega (arith, filter_shorter (λ w. nat_lt 0 (length w)) (between 32 text), text_led 32 text)
-
--- ---- the options that are written are no longer than those that were read
-
--- what the words with a key need
-part : Key → List (List ℕ) → ℕ
-part k [] = 0
-part k (w ∷ ws) = cond (bytes_eq (key_of w) (key_text k)) (length w + 1) 0 + part k ws
-
-parts : List Field → List (List ℕ) → ℕ
-unfolding part
-parts [] ws = 0
-parts (f ∷ fs) ws = part f.key ws + parts fs ws
-
--- what one word counts for
-ones : List Field → List ℕ → ℕ → ℕ
-ones [] w c = 0
-ones (f ∷ fs) w c = cond (bytes_eq (key_of w) (key_text f.key)) c 0 + ones fs w c
-
-found_part : (k : Key) (options : List (List ℕ)) (word : List ℕ) → find (λ w. bytes_eq (key_of w) (key_text k)) options ≡ Some word → length word + 1 ≤ part k options
-unfolding part
-found_part k [] word e = absurd cc
-found_part k (w ∷ ws) word e =
-    elim (cases_Bool (bytes_eq (key_of w) (key_text k))) [
-      | inl t ↦ let g = rw t at e in let same : w ≡ word = cc in rw t (omega (arith, ap (λ (x : List ℕ). length x) same))
-      | inr f ↦ let rest = found_part k ws word (rw f at e) in rw f (omega (arith, rest))
-    ]
-
-picks_parts : (r : Reading) (options : List (List ℕ)) (fs : List Field) → AllPicked r options fs → length (led 32 (picks r options fs)) ≤ parts fs options
-unfolding parts
-picks_parts r options [] p = rw (picks_none r options) (omega arith)
-picks_parts r options (f ∷ fs) (inl l, p) = rw (picks_left r options f fs l) (omega (arith, picks_parts r options fs p))
-picks_parts r options (f ∷ fs) (inr g, p) =
-    rw (picks_word r options f fs g) (omega (arith, picks_parts r options fs p, found_part f.key options g.word g.first, length-append g.word (led 32 (picks r options fs))))
-
-parts_empty : (fs : List Field) → parts fs [] ≡ 0
-unfolding parts part
-parts_empty [] = refl
-parts_empty (f ∷ fs) = omega (arith, parts_empty fs)
-
-parts_word : (fs : List Field) (w : List ℕ) (ws : List (List ℕ)) → parts fs (w ∷ ws) ≡ ones fs w (length w + 1) + parts fs ws
-unfolding parts part ones
-parts_word [] w ws = refl
-parts_word (f ∷ fs) w ws = omega (arith, parts_word fs w ws)
-
-ones_none : (fs : List Field) (k : Key) (w : List ℕ) (c : ℕ) → key_of w ≡ key_text k → list_any (λ g. bytes_eq (key_text g.key) (key_text k)) fs ≡ false → ones fs w c ≡ 0
-unfolding ones
-ones_none [] k w c e h = refl
-ones_none (f ∷ fs) k w c e h =
-    let both = or_parts _ _ h in
-    let other : bytes_eq (key_of w) (key_text f.key) ≡ false = rw e (apart_sym (key_text f.key) (key_text k) both.0) in
-    let rest = ones_none fs k w c e both.1 in
-    rw other (omega (arith, rest))
-
-ones_le : (fs : List Field) (w : List ℕ) (c : ℕ) → AreApart fs → ones fs w c ≤ c
-unfolding ones
-ones_le [] w c a = omega arith
-ones_le (f ∷ fs) w c a =
-    elim (cases_Bool (bytes_eq (key_of w) (key_text f.key))) [
-      | inl t ↦ let none = ones_none fs f.key w c (bytes_are (key_of w) (key_text f.key) t) a.0 in rw t (omega (arith, none))
-      | inr g ↦ let rest = ones_le fs w c a.1 in rw g (omega (arith, rest))
-    ]
-
-parts_le : (fs : List Field) (ws : List (List ℕ)) → AreApart fs → parts fs ws ≤ length (led 32 ws)
-parts_le fs [] a = omega (arith, parts_empty fs)
-parts_le fs (w ∷ ws) a = omega (arith, parts_word fs w ws, ones_le fs w (length w + 1) a, parts_le fs ws a, length-append w (led 32 ws))
-
-pub picks_short : (r : Reading) (options : List (List ℕ)) (fs : List Field) → AreApart fs → AllPicked r options fs → length (led 32 (picks r options fs)) ≤ length (led 32 options)
-picks_short r options fs a p = omega (arith, picks_parts r options fs p, parts_le fs options a)

@@ -1,58 +1,45 @@
--- The options of the canonical text are words of the line that was read.
-use Rattle.std.proofs.Common.{◌≡◌, ℕ, ◌-◌, ◌^◌, List, [], ◌∷◌, true, false, Option, Some, None, refl, ◌⊎◌, inl, inr}
-use Rattle.std.specs.List.{AllByRecursion, find}
+-- The values that options give fit their options, and what is written of them is no longer than the options.
+use Rattle.std.proofs.Common.{◌≡◌, ℕ, ◌+◌, ◌-◌, ◌^◌, ◌≤◌, List, [], ◌∷◌, ◌++◌, length, true, false, not, cond, Option, Some, None, refl, ap, subst, arith, inl, inr, length-append}
+use Rattle.std.specs.Option.{option_map}
+use Rattle.std.specs.List.{AllByRecursion, find, list_any, list_all}
 use Rattle.std.specs.Str.{bytes_eq}
-use Rattle.std.proofs.lemmas.Bool.{eq-eqb, cases_Bool}
-use Rattle.workload_file.specs.declared.table.Word.{Word}
+use Rattle.std.proofs.lemmas.Bool.{eq-eqb, cases_Bool, and_parts, and_from, or_parts, or_left, or_right, leb-true}
+use Rattle.mtapi_values.specs.Kinds.{kind_named}
+use Rattle.number_text.specs.Numbers.{whole}
+use Rattle.number_text.specs.Lists.{list_of, led}
+use Rattle.number_text.proofs.Reading.{whole_fits, list_fits}
+use Rattle.number_text.proofs.Spelling.{whole_spelled, list_spelled}
+use Rattle.number_text.proofs.Pieces.{led_append}
 use Rattle.workload_file.specs.declared.table.Shape.{Shape}
 use Rattle.workload_file.specs.declared.table.Shape.TheVariants as shape
 use Rattle.workload_file.specs.declared.table.Absent.{Absent}
 use Rattle.workload_file.specs.declared.table.Absent.TheVariants as absent
 use Rattle.workload_file.specs.declared.table.Key.{Key}
 use Rattle.workload_file.specs.declared.table.Field.{Field}
+use Rattle.workload_file.specs.declared.values.Value.{Value}
 use Rattle.workload_file.specs.declared.values.Value.TheVariants as given
-use Rattle.workload_file.specs.declared.reading.Reading.{Reading}
 use Rattle.workload_file.specs.declared.workload.Statement.{Statement}
-use Rattle.workload_file.specs.Table.{fields, key_text}
-use Rattle.workload_file.specs.Values.{cores_of, timeout_of, flag_of, mode_of}
-use Rattle.mtapi_values.specs.Kinds.{kind_named}
-use Rattle.number_text.specs.Numbers.{whole}
-use Rattle.number_text.specs.Lists.{list_of}
-use Rattle.workload_file.specs.Names.{bound_at}
-use Rattle.workload_file.specs.Options.{key_of, value_of, is_value, is_refused, text_of}
-use Rattle.workload_file.specs.Settled.{number_in, args_in, kind_in, cores_in, timeout_in, flag_in, mode_in, whole_in, place_in}
-use Rattle.workload_file.specs.Written.{value_text, is_default, option_words}
-use Rattle.workload_file.proofs.Facts.{IsRead, some_is}
-use Rattle.workload_file.proofs.Given.{IsField, shaped, value_in, placed, is_good}
-use Rattle.workload_file.proofs.Fitting.{IsGiven, OptionOf, option_facts, number_given, some_value, place_given}
-use Rattle.workload_file.proofs.Finds.{find_passes}
-use Rattle.workload_file.proofs.Spelling.{number_text, whole_text, args_text, all_cores_text, kind_text, flag_text, mode_text, timeout_spelled, place_text}
-use Rattle.workload_file.proofs.Places.{bytes_are}
+use Rattle.workload_file.specs.Table.{key_text}
+use Rattle.workload_file.specs.Values.{number_within, cores_of, timeout_of, flag_of, mode_of}
+use Rattle.workload_file.specs.Names.{place_of}
+use Rattle.workload_file.specs.Options.{key_of, value_of, is_known, is_refused, text_of}
+use Rattle.workload_file.specs.Changes.{value_given, value_absent, value_at, values_in}
+use Rattle.workload_file.specs.Written.{value_text, is_default, option_words, options_words}
+use Rattle.workload_file.specs.Formed.{Fits, AllFit}
+use Rattle.workload_file.proofs.Facts.{some_is, bind_some, map_some}
+use Rattle.workload_file.proofs.Fields.{AreApart, is_good, is_shaped, is_there, is_filled, are_filled}
+use Rattle.workload_file.proofs.Finds.{find_passes, find_all}
+use Rattle.workload_file.proofs.Places.{bytes_are, apart_sym}
+use Rattle.workload_file.proofs.Spelling.{spelled, within_is, cores_is, kind_text, flag_text, mode_text, timeout_is, place_is}
 
--- ---- one option
+-- ---- one value
 
--- the value of an absent option is its default
-absent_default : (r : Reading) (options : List (List ℕ)) (k : Key) (a : Absent) (s : Shape) → is_good a s ≡ true → is_refused a ≡ false → text_of k options ≡ None → is_default a (shaped r options k a s) ≡ true
-unfolding is_default number_in args_in cores_in flag_in place_in
-absent_default r options k absent.Refused s good may none = absurd cc
-absent_default r options k absent.Usual (shape.Number low high) good may none = absurd cc
-absent_default r options k absent.Usual shape.Whole good may none = absurd cc
-absent_default r options k absent.Usual shape.Args good may none = rw none refl
-absent_default r options k absent.Usual shape.Cores good may none = rw none refl
-absent_default r options k absent.Usual shape.Kind good may none = absurd cc
-absent_default r options k absent.Usual shape.Flag good may none = rw none refl
-absent_default r options k absent.Usual shape.Mode good may none = absurd cc
-absent_default r options k absent.Usual shape.Timeout good may none = absurd cc
-absent_default r options k absent.Usual (shape.Named s) good may none = rw none refl
-absent_default r options k (absent.Number d) (shape.Number low high) good may none = rw none (eq-eqb d d refl)
-absent_default r options k (absent.Number d) shape.Whole good may none = absurd cc
-absent_default r options k (absent.Number d) shape.Args good may none = absurd cc
-absent_default r options k (absent.Number d) shape.Cores good may none = absurd cc
-absent_default r options k (absent.Number d) shape.Kind good may none = absurd cc
-absent_default r options k (absent.Number d) shape.Flag good may none = absurd cc
-absent_default r options k (absent.Number d) shape.Mode good may none = absurd cc
-absent_default r options k (absent.Number d) shape.Timeout good may none = absurd cc
-absent_default r options k (absent.Number d) (shape.Named s) good may none = absurd cc
+-- what a value that was read of a text is
+record IsValue (before : List Statement) (s : Shape) (text : List ℕ) (v : Value) : Type 0 where
+  fits : Fits before s v
+  shaped : is_shaped s v ≡ true
+  there : is_there v ≡ true
+  written : (a : Absent) → is_good a s ≡ true → is_default a v ≡ false → value_text before v ≡ text
 
 -- all cores are the usual ones
 cores_usual : (a : Absent) (mask : ℕ) → is_good a shape.Cores ≡ true → is_default a (given.Cores (record { 0 = mask })) ≡ false → mask ≡ 2 ^ 64 - 1 → ⊥
@@ -61,78 +48,175 @@ cores_usual absent.Refused mask good d e = cc
 cores_usual absent.Usual mask good d e = let t = eq-eqb mask (2 ^ 64 - 1) e in cc (t, d)
 cores_usual (absent.Number n) mask good d e = cc
 
-placed_text : (sts : List Statement) (a : Absent) (i : ℕ) (o : Option ℕ) (text : List ℕ) → o ≡ Some i → value_text sts (given.Place (Some i)) ≡ text → value_text sts (given.Place (placed a o)) ≡ text
-placed_text sts absent.Refused i o text e h = rw e h
-placed_text sts absent.Usual i o text e h = rw e h
-placed_text sts (absent.Number n) i o text e h = rw e h
+value_is : (before : List Statement) (s : Shape) (text : List ℕ) (v : Value) → value_given before s text ≡ Some v → IsValue before s text v
+unfolding value_given value_text
+value_is before (shape.Number low high) text v e =
+    let m = map_some given.Number (number_within low high text) v e in
+    let w = within_is low high m.0 text m.1 in
+    subst (IsValue before (shape.Number low high) text) m.2 (record { fits = w.0; shaped = refl; there = refl; written = λ a good d. w.1 })
+value_is before shape.Whole text v e =
+    let m = map_some given.Whole (whole text) v e in
+    subst (IsValue before shape.Whole text) m.2 (record { fits = whole_fits text m.0 m.1; shaped = refl; there = refl; written = λ a good d. whole_spelled text m.0 m.1 })
+value_is before shape.Args text v e =
+    let m = map_some given.Args (list_of text) v e in
+    let f = list_fits text m.0 m.1 in
+    subst (IsValue before shape.Args text) m.2 (record { fits = (f.1, f.2); shaped = refl; there = refl; written = λ a good d. list_spelled text m.0 m.1 })
+value_is before shape.Cores text v e =
+    let m = map_some (λ (mask : ℕ). given.Cores (record { 0 = mask })) (cores_of text) v e in
+    let c = cores_is text m.0 m.1 in
+    subst (IsValue before shape.Cores text) m.2 (record { fits = c.0; shaped = refl; there = refl; written = λ a good d. c.1 (cores_usual a m.0 good d) })
+value_is before shape.Kind text v e =
+    let m = map_some given.Kind (kind_named text) v e in
+    subst (IsValue before shape.Kind text) m.2 (record { fits = tt; shaped = refl; there = refl; written = λ a good d. kind_text text m.0 m.1 })
+value_is before shape.Flag text v e =
+    let m = map_some given.Flag (flag_of text) v e in
+    subst (IsValue before shape.Flag text) m.2 (record { fits = tt; shaped = refl; there = refl; written = λ a good d. flag_text text m.0 m.1 })
+value_is before shape.Mode text v e =
+    let m = map_some given.Mode (mode_of text) v e in
+    subst (IsValue before shape.Mode text) m.2 (record { fits = tt; shaped = refl; there = refl; written = λ a good d. mode_text text m.0 m.1 })
+value_is before shape.Timeout text v e =
+    let m = map_some given.Timeout (timeout_of text) v e in
+    let t = timeout_is text m.0 m.1 in
+    subst (IsValue before shape.Timeout text) m.2 (record { fits = t.0; shaped = refl; there = refl; written = λ a good d. t.1 })
+value_is before (shape.Named sort) text v e =
+    let m = map_some (λ (i : ℕ). given.Place (Some i)) (place_of sort text before) v e in
+    let p = place_is sort text before m.0 m.1 in
+    subst (IsValue before (shape.Named sort) text) m.2 (record { fits = p.0; shaped = refl; there = refl; written = λ a good d. p.1 })
 
-place_written : (sts : List Statement) (i : ℕ) (text : List ℕ) → bound_at text sts ≡ Some i → value_text sts (given.Place (Some i)) ≡ text
-unfolding value_text
-place_written sts i text e = place_text text sts i e
+-- what the value of an absent option is
+record IsUsual (before : List Statement) (a : Absent) (s : Shape) (v : Value) : Type 0 where
+  fits : Fits before s v
+  shaped : is_shaped s v ≡ true
+  may : is_refused a ≡ false
+  default : is_default a v ≡ true
 
--- a given value that isn't the default is written as it was read
-given_text : (r : Reading) (options : List (List ℕ)) (k : Key) (a : Absent) (s : Shape) → is_good a s ≡ true → (g : IsGiven r options k s) → is_default a (shaped r options k a s) ≡ false → value_text r.current.statements (shaped r options k a s) ≡ g.text
-unfolding value_text is_value number_in args_in kind_in cores_in timeout_in flag_in mode_in whole_in
-given_text r options k a (shape.Number low high) good g d = let v = number_given low high g.text g.valued in rw (g.at, v.1) (number_text g.text v.0 v.1)
-given_text r options k a shape.Whole good g d = let v = some_value (whole g.text) g.valued in rw (g.at, v.1) (whole_text g.text v.0 v.1)
-given_text r options k a shape.Args good g d = let v = some_value (list_of g.text) g.valued in rw (g.at, v.1) (args_text g.text v.0 v.1)
-given_text r options k a shape.Cores good g d =
-    let v = some_value (cores_of g.text) g.valued in
-    let other = cores_usual a v.0 good (rw (g.at, v.1) at d) in
-    rw (g.at, v.1) (all_cores_text g.text v.0 v.1 other)
-given_text r options k a shape.Kind good g d = let v = some_value (kind_named g.text) g.valued in rw (g.at, v.1) (kind_text g.text v.0 v.1)
-given_text r options k a shape.Flag good g d = let v = some_value (flag_of g.text) g.valued in rw (g.at, v.1) (flag_text g.text v.0 v.1)
-given_text r options k a shape.Mode good g d = let v = some_value (mode_of g.text) g.valued in rw (g.at, v.1) (mode_text g.text v.0 v.1)
-given_text r options k a shape.Timeout good g d = let v = some_value (timeout_of g.text) g.valued in rw (g.at, v.1) (timeout_spelled g.text v.0 v.1)
-given_text r options k a (shape.Named sort) good g d =
-    let v = place_given r options k sort g in
-    placed_text r.current.statements a v.0 (place_in r sort k options) g.text v.1 (place_written r.current.statements v.0 g.text v.3)
+absent_is : (before : List Statement) (a : Absent) (s : Shape) (v : Value) → is_good a s ≡ true → value_absent a s ≡ Some v → IsUsual before a s v
+unfolding value_absent is_default
+absent_is before (absent.Number d) (shape.Number low high) v good e =
+    let both = and_parts _ _ (and_parts _ _ good).1 in
+    subst (IsUsual before (absent.Number d) (shape.Number low high)) (some_is (given.Number d) v e) (record { fits = (leb-true low d both.0, leb-true d high both.1); shaped = refl; may = refl; default = eq-eqb d d refl })
+absent_is before absent.Usual shape.Args v good e = subst (IsUsual before absent.Usual shape.Args) (some_is (given.Args []) v e) (record { fits = (omega arith, tt); shaped = refl; may = refl; default = refl })
+absent_is before absent.Usual shape.Cores v good e = subst (IsUsual before absent.Usual shape.Cores) (some_is (given.Cores (record { 0 = 2 ^ 64 - 1 })) v e) (record { fits = (omega arith, omega arith); shaped = refl; may = refl; default = refl })
+absent_is before absent.Usual shape.Flag v good e = subst (IsUsual before absent.Usual shape.Flag) (some_is (given.Flag false) v e) (record { fits = tt; shaped = refl; may = refl; default = refl })
+absent_is before absent.Usual (shape.Named s) v good e = subst (IsUsual before absent.Usual (shape.Named s)) (some_is (given.Place None) v e) (record { fits = tt; shaped = refl; may = refl; default = refl })
+absent_is before _ _ v good e = absurd cc
 
--- what the canonical text has of an option: nothing where it has its default, else the word that gave it
-pub record IsPicked (r : Reading) (options : List (List ℕ)) (f : Field) : Type 0 where
-  pub text : List ℕ
-  pub word : List ℕ
-  pub first : find (λ w. bytes_eq (key_of w) (key_text f.key)) options ≡ Some word
-  pub at : text_of f.key options ≡ Some text
-  pub words : option_words r.current.statements f (value_in r options f) ≡ word ∷ []
-  pub key : key_of word ≡ key_text f.key
-  pub value : value_of word ≡ text
+-- ---- all values
 
-pub record IsLeftOut (r : Reading) (options : List (List ℕ)) (f : Field) : Type 0 where
-  pub words : option_words r.current.statements f (value_in r options f) ≡ []
-  pub usual : is_default f.absent (value_in r options f) ≡ true
+field_is : (before : List Statement) (f : Field) (o : Option (List ℕ)) (v : Value) → is_good f.absent f.shape ≡ true → value_at before f o ≡ Some v → Fits before f.shape v × (is_filled f v ≡ true)
+field_is before f None v good e =
+    let u = absent_is before f.absent f.shape v good e in
+    (u.fits, and_from _ _ u.shaped (or_left (not (is_refused f.absent)) (is_there v) (ap not u.may)))
+field_is before f (Some text) v good e =
+    let i = value_is before f.shape text v e in
+    (i.fits, and_from _ _ i.shaped (or_right (not (is_refused f.absent)) (is_there v) i.there))
 
-abbrev pub Picked : Reading → List (List ℕ) → Field → Type 0
-Picked r options f = IsLeftOut r options f ⊎ IsPicked r options f
+abbrev AreValues : List Statement → List Field → List Value → Type 0
+AreValues before fs vs = AllFit before fs vs × (are_filled fs vs ≡ true)
 
-value_found : (k : Key) (options : List (List ℕ)) (text word : List ℕ) → find (λ w. bytes_eq (key_of w) (key_text k)) options ≡ Some word → text_of k options ≡ Some text → value_of word ≡ text
-unfolding text_of
-value_found k options text word e h = some_is (value_of word) text (rw e at h)
+-- values that are read fit their options, and none is missing
+pub values_are : (before : List Statement) (options : List (List ℕ)) (fs : List Field) (vs : List Value) → AllByRecursion (λ f. is_good f.absent f.shape ≡ true) fs → values_in before options fs ≡ Some vs → AllFit before fs vs × (are_filled fs vs ≡ true)
+unfolding values_in
+values_are before options [] vs good e = subst (AreValues before []) (some_is [] vs e) (tt, refl)
+values_are before options (f ∷ fs) vs good e =
+    let a = bind_some (value_at before f (text_of f.key options)) _ vs e in
+    let b = bind_some (values_in before options fs) _ vs a.2 in
+    let here = field_is before f (text_of f.key options) a.0 good.0 a.1 in
+    let rest = values_are before options fs b.0 good.1 b.1 in
+    subst (AreValues before (f ∷ fs)) (some_is (a.0 ∷ b.0) vs b.2) ((here.0, rest.0), and_from _ _ here.1 rest.1)
 
-pub picked : (r : Reading) (options : List (List ℕ)) (f : Field) → is_good f.absent f.shape ≡ true → OptionOf r options f.key f.absent f.shape → Picked r options f
-picked r options f good (inl n) =
-    let d = absent_default r options f.key f.absent f.shape good n.may n.at in
-    inl (record { words = rw d refl; usual = d })
-picked r options f good (inr g) =
-    elim (cases_Bool (is_default f.absent (value_in r options f))) [
-      | inl t ↦ inl (record { words = rw t refl; usual = t })
-      | inr d ↦
-          let text = given_text r options f.key f.absent f.shape good g d in
-          inr (record {
-            text = g.text;
-            word = g.word;
-            first = g.first;
-            at = g.at;
-            words = rw (d, text, g.spelled) refl;
-            key = bytes_are (key_of g.word) (key_text f.key) (find_passes (λ w. bytes_eq (key_of w) (key_text f.key)) options g.word g.first);
-            value = value_found f.key options g.text g.word g.first g.at;
-          })
+-- ---- what is written of them
+
+-- what the words with a key need
+part : Key → List (List ℕ) → ℕ
+part k [] = 0
+part k (w ∷ ws) = cond (bytes_eq (key_of w) (key_text k)) (length w + 1) 0 + part k ws
+
+parts : List Field → List (List ℕ) → ℕ
+unfolding part
+parts [] ws = 0
+parts (f ∷ fs) ws = part f.key ws + parts fs ws
+
+-- what one word counts for
+ones : List Field → List ℕ → ℕ → ℕ
+ones [] w c = 0
+ones (f ∷ fs) w c = cond (bytes_eq (key_of w) (key_text f.key)) c 0 + ones fs w c
+
+found_part : (k : Key) (options : List (List ℕ)) (word : List ℕ) → find (λ w. bytes_eq (key_of w) (key_text k)) options ≡ Some word → length word + 1 ≤ part k options
+unfolding part
+found_part k [] word e = absurd cc
+found_part k (w ∷ ws) word e =
+    elim (cases_Bool (bytes_eq (key_of w) (key_text k))) [
+      | inl t ↦ let g = rw t at e in let same : w ≡ word = cc in rw t (omega (arith, ap (λ (x : List ℕ). length x) same))
+      | inr f ↦ let rest = found_part k ws word (rw f at e) in rw f (omega (arith, rest))
     ]
 
-abbrev pub AllPicked : Reading → List (List ℕ) → List Field → Type 0
-AllPicked r options fs = AllByRecursion (Picked r options) fs
+-- an option is left out, or is the word that gave it
+picked : (before : List Statement) (all : List Field) (options : List (List ℕ)) (f : Field) (v : Value) (o : Option (List ℕ)) → is_good f.absent f.shape ≡ true → list_all (is_known all) options ≡ true → find (λ w. bytes_eq (key_of w) (key_text f.key)) options ≡ o → value_at before f (option_map value_of o) ≡ Some v → length (led 32 (option_words before f v)) ≤ part f.key options
+picked before all options f v None good known is e = rw (absent_is before f.absent f.shape v good e).default (omega arith)
+picked before all options f v (Some word) good known is e =
+    elim (cases_Bool (is_default f.absent v)) [
+      | inl t ↦ rw t (omega arith)
+      | inr d ↦
+          let text = (value_is before f.shape (value_of word) v e).written f.absent good d in
+          let key : key_of word ≡ key_text f.key = bytes_are (key_of word) (key_text f.key) (find_passes (λ w. bytes_eq (key_of w) (key_text f.key)) options word is) in
+          let k = and_parts _ _ (find_all (λ w. bytes_eq (key_of w) (key_text f.key)) (is_known all) options word is known) in
+          let whole : word ≡ key_text f.key ++ 61 ∷ value_of word = rw (← key) (spelled word k.0) in
+          rw (d, text, ← whole) (omega (arith, found_part f.key options word is, length-append word []))
+    ]
 
-pub all_picked : (r : Reading) (first : List ℕ) (rest : List (List ℕ)) (w : Word) (name : Option (List ℕ)) (options : List (List ℕ)) (fs : List Field) → IsRead r first rest w name options → AllByRecursion (IsField (fields w)) fs → AllByRecursion (λ f. is_good f.absent f.shape ≡ true) fs → AllPicked r options fs
-all_picked r first rest w name options [] read found good = tt
-all_picked r first rest w name options (f ∷ fs) read found good =
-    (picked r options f good.0 (option_facts r first rest w name options f read found.0), all_picked r first rest w name options fs read found.1 good.1)
+options_cons : (before : List Statement) (f : Field) (fs : List Field) (v : Value) (vs : List Value) → options_words before (f ∷ fs) (v ∷ vs) ≡ option_words before f v ++ options_words before fs vs
+unfolding options_words
+options_cons before f fs v vs = refl
+
+options_none : (before : List Statement) (vs : List Value) → options_words before [] vs ≡ []
+unfolding options_words
+options_none before vs = refl
+
+picks_parts : (before : List Statement) (all : List Field) (options : List (List ℕ)) (fs : List Field) (vs : List Value) → AllByRecursion (λ f. is_good f.absent f.shape ≡ true) fs → list_all (is_known all) options ≡ true → values_in before options fs ≡ Some vs → length (led 32 (options_words before fs vs)) ≤ parts fs options
+unfolding parts values_in text_of
+picks_parts before all options [] vs good known e = rw (options_none before vs) (omega arith)
+picks_parts before all options (f ∷ fs) vs good known e =
+    let a = bind_some (value_at before f (text_of f.key options)) _ vs e in
+    let b = bind_some (values_in before options fs) _ vs a.2 in
+    let here = picked before all options f a.0 (find (λ w. bytes_eq (key_of w) (key_text f.key)) options) good.0 known refl a.1 in
+    let rest = picks_parts before all options fs b.0 good.1 known b.1 in
+    let xs = option_words before f a.0 in
+    let ys = options_words before fs b.0 in
+    rw (← some_is (a.0 ∷ b.0) vs b.2, options_cons before f fs a.0 b.0, led_append 32 xs ys) (omega (arith, here, rest, length-append (led 32 xs) (led 32 ys)))
+
+parts_empty : (fs : List Field) → parts fs [] ≡ 0
+unfolding parts part
+parts_empty [] = refl
+parts_empty (f ∷ fs) = omega (arith, parts_empty fs)
+
+parts_word : (fs : List Field) (w : List ℕ) (ws : List (List ℕ)) → parts fs (w ∷ ws) ≡ ones fs w (length w + 1) + parts fs ws
+unfolding parts part ones
+parts_word [] w ws = refl
+parts_word (f ∷ fs) w ws = omega (arith, parts_word fs w ws)
+
+ones_none : (fs : List Field) (k : Key) (w : List ℕ) (c : ℕ) → key_of w ≡ key_text k → list_any (λ g. bytes_eq (key_text g.key) (key_text k)) fs ≡ false → ones fs w c ≡ 0
+unfolding ones
+ones_none [] k w c e h = refl
+ones_none (f ∷ fs) k w c e h =
+    let both = or_parts _ _ h in
+    let other : bytes_eq (key_of w) (key_text f.key) ≡ false = rw e (apart_sym (key_text f.key) (key_text k) both.0) in
+    let rest = ones_none fs k w c e both.1 in
+    rw other (omega (arith, rest))
+
+ones_le : (fs : List Field) (w : List ℕ) (c : ℕ) → AreApart fs → ones fs w c ≤ c
+unfolding ones
+ones_le [] w c a = omega arith
+ones_le (f ∷ fs) w c a =
+    elim (cases_Bool (bytes_eq (key_of w) (key_text f.key))) [
+      | inl t ↦ let none = ones_none fs f.key w c (bytes_are (key_of w) (key_text f.key) t) a.0 in rw t (omega (arith, none))
+      | inr g ↦ let rest = ones_le fs w c a.1 in rw g (omega (arith, rest))
+    ]
+
+parts_le : (fs : List Field) (ws : List (List ℕ)) → AreApart fs → parts fs ws ≤ length (led 32 ws)
+parts_le fs [] a = omega (arith, parts_empty fs)
+parts_le fs (w ∷ ws) a = omega (arith, parts_word fs w ws, ones_le fs w (length w + 1) a, parts_le fs ws a, length-append w (led 32 ws))
+
+-- the options that are written are no longer than those that were read
+pub picks_short : (before : List Statement) (options : List (List ℕ)) (fs : List Field) (vs : List Value) → AreApart fs → AllByRecursion (λ f. is_good f.absent f.shape ≡ true) fs → list_all (is_known fs) options ≡ true → values_in before options fs ≡ Some vs → length (led 32 (options_words before fs vs)) ≤ length (led 32 options)
+picks_short before options fs vs apart good known e = omega (arith, picks_parts before fs options fs vs good known e, parts_le fs options apart)

@@ -1,45 +1,21 @@
--- The options of the canonical text are words of the line that was read.
-use Rattle.std.proofs.Common.{◌≡◌, ℕ, ℤ, ◌-◌, ◌^◌, List, [], ◌∷◌, ◌++◌, Bool, true, false, ◌&&◌, Option, Some, None, refl, sym, ap, ◌∙◌, map}
-use Rattle.std.specs.List.{AllByRecursion, find, list_any}
+-- What options that are left out or written give.
+use Rattle.std.proofs.Common.{◌≡◌, ℕ, ℤ, ◌-◌, ◌^◌, List, [], ◌∷◌, ◌++◌, Bool, true, false, ◌&&◌, Option, Some, None, refl, sym, ap}
+use Rattle.std.specs.List.{AllByRecursion, list_any}
 use Rattle.std.specs.Str.{bytes_eq}
-use Rattle.std.proofs.lemmas.Bool.{or_parts, or_from, eqb-true, or_right, or_left}
+use Rattle.std.proofs.lemmas.Bool.{or_parts, eqb-true}
 use Rattle.workload_file.specs.declared.table.Absent.{Absent}
 use Rattle.workload_file.specs.declared.table.Absent.TheVariants as absent
 use Rattle.workload_file.specs.declared.table.Key.{Key}
 use Rattle.workload_file.specs.declared.table.Field.{Field}
 use Rattle.workload_file.specs.declared.values.Value.{Value}
 use Rattle.workload_file.specs.declared.values.Value.TheVariants as given
-use Rattle.workload_file.specs.declared.reading.Reading.{Reading}
 use Rattle.workload_file.specs.Table.{key_text}
 use Rattle.workload_file.specs.Options.{key_of, value_of, gives, is_refused, text_of}
-use Rattle.workload_file.specs.Written.{is_default, is_usual, option_words, options_words}
-use Rattle.workload_file.proofs.Picks.{IsPicked, IsLeftOut}
+use Rattle.workload_file.specs.Written.{is_default, is_usual}
 use Rattle.workload_file.proofs.Facts.{some}
-use Rattle.workload_file.proofs.Given.{value_in}
+use Rattle.workload_file.proofs.Finds.{find_skip, find_nothing}
+use Rattle.workload_file.proofs.Invariant.{any_push}
 use Rattle.workload_file.proofs.Places.{bytes_same, apart_sym}
-
-abbrev pub picks : Reading → List (List ℕ) → List Field → List (List ℕ)
-picks r options fs = options_words r.current.statements fs (map (value_in r options) fs)
-
-pub picks_none : (r : Reading) (options : List (List ℕ)) → picks r options [] ≡ []
-unfolding options_words
-picks_none r options = refl
-
-pub picks_cons : (r : Reading) (options : List (List ℕ)) (f : Field) (fs : List Field) → picks r options (f ∷ fs) ≡ option_words r.current.statements f (value_in r options f) ++ picks r options fs
-unfolding options_words
-picks_cons r options f fs = refl
-
-pub picks_left : (r : Reading) (options : List (List ℕ)) (f : Field) (fs : List Field) → IsLeftOut r options f → picks r options (f ∷ fs) ≡ picks r options fs
-picks_left r options f fs l = picks_cons r options f fs ∙ rw l.words refl
-
-pub picks_word : (r : Reading) (options : List (List ℕ)) (f : Field) (fs : List Field) (g : IsPicked r options f) → picks r options (f ∷ fs) ≡ g.word ∷ picks r options fs
-picks_word r options f fs g = picks_cons r options f fs ∙ rw g.words refl
-
--- ---- keys
-
-pub any_in : {X : Type 0} (p : X → Bool) (xs ys : List X) (y : X) → p y ≡ true → list_any p (xs ++ y ∷ ys) ≡ true
-any_in p [] ys y h = or_left (p y) (list_any p ys) h
-any_in p (x ∷ xs) ys y h = or_right (p x) (list_any p (xs ++ y ∷ ys)) (any_in p xs ys y h)
 
 pub left_out_may : (a : Absent) (v : Value) → is_default a v ≡ true → is_refused a ≡ false
 unfolding is_default
@@ -50,17 +26,6 @@ left_out_may (absent.Number n) v h = refl
 pub and_false : (a b : Bool) → b ≡ false → (a && b) ≡ false
 and_false true b h = h
 and_false false b h = refl
-
--- ---- values
-
-pub find_skip : {X : Type 0} (p : X → Bool) (xs ys : List X) (y : X) → list_any p xs ≡ false → p y ≡ true → find p (xs ++ y ∷ ys) ≡ Some y
-find_skip p [] ys y h t = rw t refl
-find_skip p (x ∷ xs) ys y h t = let both = or_parts (p x) (list_any p xs) h in rw both.0 (find_skip p xs ys y both.1 t)
-
-pub find_nothing : {X : Type 0} (p : X → Bool) (xs ys : List X) → list_any p xs ≡ false → list_any p ys ≡ false → find p (xs ++ ys) ≡ None
-find_nothing p [] [] h k = refl
-find_nothing p [] (y ∷ ys) h k = let both = or_parts (p y) (list_any p ys) k in rw both.0 (find_nothing p [] ys refl both.1)
-find_nothing p (x ∷ xs) ys h k = let both = or_parts (p x) (list_any p xs) h in rw both.0 (find_nothing p xs ys both.1 k)
 
 pub usual_args : (zs : List ℤ) → is_usual (given.Args zs) ≡ true → given.Args [] ≡ given.Args zs
 usual_args [] h = refl
@@ -80,10 +45,6 @@ usual_cores m h = ap (λ (x : ℕ). given.Cores (record { 0 = x })) (sym (eqb-tr
 abbrev pub Free : List (List ℕ) → List Field → Type 0
 Free ws fs = AllByRecursion (λ f. gives f.key ws ≡ false) fs
 
-any_push : {X : Type 0} (p : X → Bool) (xs : List X) (y : X) → list_any p xs ≡ false → p y ≡ false → list_any p (xs ++ y ∷ []) ≡ false
-any_push p [] y h e = or_from (p y) false e refl
-any_push p (x ∷ xs) y h e = let both = or_parts (p x) (list_any p xs) h in or_from (p x) (list_any p (xs ++ y ∷ [])) both.0 (any_push p xs y both.1 e)
-
 pub free_push : (ws : List (List ℕ)) (word : List ℕ) (k : Key) (fs : List Field) → key_of word ≡ key_text k → list_any (λ g. bytes_eq (key_text g.key) (key_text k)) fs ≡ false → Free ws fs → Free (ws ++ word ∷ []) fs
 free_push ws word k [] e h f = tt
 free_push ws word k (g ∷ fs) e h f =
@@ -100,9 +61,6 @@ text_skip k xs ys word text h e v =
 pub text_nothing : (k : Key) (xs ys : List (List ℕ)) → gives k xs ≡ false → gives k ys ≡ false → text_of k (xs ++ ys) ≡ None
 unfolding text_of
 text_nothing k xs ys h g = rw (find_nothing (λ (w : List ℕ). bytes_eq (key_of w) (key_text k)) xs ys h g) refl
-
-pub two : {X : Type 0} {x y : X} {xs ys : List X} → x ≡ y → xs ≡ ys → x ∷ xs ≡ y ∷ ys
-two e f = rw (e, f) refl
 
 pub free_none : (fs : List Field) → Free [] fs
 free_none [] = tt

@@ -12,47 +12,7 @@ use Rattle.workload_file.proofs.Finds.{find_all}
 pub word_found : (w : Word) → word_of (word_text w) ≡ Some w
 unfolding word_of row
 word_found word.Node = refl
-word_found word.Caller = refl
-word_found word.Begin = refl
-word_found word.Action = refl
-word_found word.ActionDelete = refl
-word_found word.ActionEnable = refl
-word_found word.ActionDisable = refl
-word_found word.Start = refl
-word_found word.Enqueue = refl
-word_found word.Wait = refl
-word_found word.Cancel = refl
-word_found word.Group = refl
-word_found word.WaitAll = refl
-word_found word.WaitAny = refl
-word_found word.GroupDelete = refl
-word_found word.Queue = refl
-word_found word.QueueGet = refl
-word_found word.QueueEnable = refl
-word_found word.QueueDisable = refl
-word_found word.QueueDelete = refl
-word_found word.Mutex = refl
-word_found word.MutexGet = refl
-word_found word.MutexDelete = refl
-word_found word.Lock = refl
-word_found word.Unlock = refl
-word_found word.Sem = refl
-word_found word.SemGet = refl
-word_found word.SemDelete = refl
-word_found word.SemLock = refl
-word_found word.SemUnlock = refl
-word_found word.Rwl = refl
-word_found word.RwlGet = refl
-word_found word.RwlDelete = refl
-word_found word.RwlLock = refl
-word_found word.RwlUnlock = refl
-word_found word.Shmem = refl
-word_found word.ShmemGet = refl
-word_found word.ShmemDelete = refl
-word_found word.Attach = refl
-word_found word.Detach = refl
-word_found word.Read = refl
-word_found word.Write = refl
+word_found _ = refl
 
 first_word : (w : Word) → find (λ x. bytes_eq (word_text x) (word_text w)) words ≡ Some w
 unfolding word_of

@@ -19,27 +19,25 @@ use Rattle.workload_file.specs.declared.reading.Change.{Change}
 use Rattle.workload_file.specs.declared.reading.Change.TheVariants as change
 use Rattle.workload_file.specs.Values.{is_name}
 use Rattle.workload_file.specs.Table.{row, word_text, naming, fields}
-use Rattle.workload_file.specs.Deeds.{deed_spelled, word_for, values, setting_values, place_used, binds}
-use Rattle.workload_file.specs.declared.values.Value.{Value}
+use Rattle.workload_file.specs.Deeds.{deed_spelled, word_for, used_place, used_with, values, setting_values, binds}
 use Rattle.workload_file.specs.Options.{is_known, has_twice, has_value, is_missing}
-use Rattle.workload_file.specs.Names.{has_unbound, split_name, is_called, bound_at, place_of, is_binding, is_taken, is_unbound, is_misplaced, is_ninth_caller}
+use Rattle.workload_file.specs.Names.{split_name, is_called, bound_at, place_of, is_binding, is_taken, is_misplaced, is_ninth_caller}
 use Rattle.workload_file.specs.Reading.{name_text, line_gives, line_adds, with_change}
-use Rattle.workload_file.specs.Changes.{bound_name}
-use Rattle.workload_file.specs.Settled.{deed_of, change_of, settings_in, used_place}
+use Rattle.workload_file.specs.Changes.{bound_name, use_in, change_of}
 use Rattle.workload_file.specs.Formed.{IsBoundAt, has_name, IsNew, IsStatement, AreStatements, AllFit}
 use Rattle.workload_file.specs.Written.{name_of, name_at, bound_words, used_words, line_text, statement_text, node_text, caller_text}
-use Rattle.workload_file.proofs.Facts.{IsRead, line_read, words_read}
-use Rattle.workload_file.proofs.Agreed.{statement_read}
-use Rattle.workload_file.proofs.Given.{is_deed, use_of, deed_is, fields_apart, fields_found, fields_good}
+use Rattle.workload_file.proofs.Facts.{some, IsRead, line_read, words_read, statement_read}
+use Rattle.workload_file.proofs.Fields.{is_deed, here, made, node_change, caller_change, deed_change_is, fields_apart, fields_found, fields_good, are_filled}
+use Rattle.workload_file.proofs.Invariant.{node_settings}
+use Rattle.workload_file.proofs.Letters.{name_word}
+use Rattle.workload_file.proofs.Optioned.{AllWritten, all_written, opts, opts_known, opts_valued, opts_words, opts_once, opts_lack_none, values_from}
 use Rattle.workload_file.proofs.Phrases.{is_word, words_again, line_printable, printable_lacks}
 use Rattle.workload_file.proofs.Places.{bytes_same}
 use Rattle.workload_file.proofs.Rereading.{free_none}
-use Rattle.workload_file.proofs.Invariant.{node_settings}
+use Rattle.workload_file.proofs.Rewriting.{deed_naming}
 use Rattle.workload_file.proofs.Rows.{word_found}
-use Rattle.workload_file.proofs.Tables.{word_good, fields_spelled, values_full, is_full, NamingIs, naming_is, deed_word, deed_back}
-use Rattle.workload_file.proofs.Letters.{name_word}
-use Rattle.workload_file.proofs.Valued.{IsNamed}
-use Rattle.workload_file.proofs.Optioned.{AllWritten, Names, all_written, opts, opts_known, opts_valued, opts_bound, opts_words, opts_once, opts_lack_none, values_from}
+use Rattle.workload_file.proofs.Tables.{is_used_at, word_good, deed_facts}
+use Rattle.workload_file.proofs.Valued.{IsNamed, Names}
 
 -- ---- places in lists
 
@@ -136,7 +134,7 @@ found_here : (s : Sort) (name : List ℕ) (sts : List Statement) (i : ℕ) → b
 unfolding place_of
 found_here s name sts i e b = rw (e, b) refl
 
-pub part_names : (r : Reading) → AreStatements [] r.current.statements → Names r
+part_names : (r : Reading) → AreStatements [] r.current.statements → Names (here r)
 unfolding IsNamed
 part_names r h = λ s i b.
     let n = named_here s [] r.current.statements i h b in
@@ -144,61 +142,51 @@ part_names r h = λ s i b.
 
 -- ---- the words of a statement
 
-record IsHead (r : Reading) (n : Naming) (u : Option (Sort × ℕ)) (bound : Option (List ℕ)) (options : List (List ℕ)) : Type 0 where
+record IsHead (r : Reading) (n : Naming) (place : Option ℕ) (bound : Option (List ℕ)) (options : List (List ℕ)) : Type 0 where
   name : Option (List ℕ)
-  split : split_name n (bound_words bound ++ (used_words r.current.statements u ++ options)) ≡ Some (name, options)
+  split : split_name n (bound_words bound ++ (used_words (here r) place ++ options)) ≡ Some (name, options)
   free : is_taken r n (name_text name) ≡ false
-  known : is_unbound r n (name_text name) ≡ false
+  uses : use_in (here r) n name ≡ Some place
   binds : bound_name n name ≡ bound
-  uses : use_of r n (name_text name) ≡ u
-  words : list_all is_word (bound_words bound ++ (used_words r.current.statements u ++ options)) ≡ true
+  words : list_all is_word (bound_words bound ++ (used_words (here r) place ++ options)) ≡ true
 
-uses_head : (r : Reading) (s : Sort) (i : ℕ) (options : List (List ℕ)) → IsNamed r.current.statements s i → list_all is_word options ≡ true → IsHead r (rule.Uses s) (Some (s, i)) None options
-unfolding IsNamed split_name is_taken is_unbound used_place
+uses_head : (r : Reading) (s : Sort) (i : ℕ) (options : List (List ℕ)) → IsNamed (here r) s i → list_all is_word options ≡ true → IsHead r (rule.Uses s) (Some i) None options
+unfolding IsNamed split_name is_taken use_in
 uses_head r s i options h good =
-    let name = name_at r.current.statements (Some i) in
+    let name = name_at (here r) (Some i) in
     record {
       name = Some name;
       split = rw h.0 refl;
       free = refl;
-      known = rw h.1 refl;
-      binds = refl;
       uses = rw h.1 refl;
+      binds = refl;
       words = and_from _ _ (name_word name h.0) good;
     }
 
-binds_head : (r : Reading) (s : Sort) (name : List ℕ) (options : List (List ℕ)) → IsNew r.current.statements name → list_all is_word options ≡ true → IsHead r (rule.Binds s) None (Some name) options
-unfolding split_name is_taken is_unbound
+binds_head : (r : Reading) (s : Sort) (name : List ℕ) (options : List (List ℕ)) → IsNew (here r) name → list_all is_word options ≡ true → IsHead r (rule.Binds s) None (Some name) options
+unfolding split_name is_taken use_in
 binds_head r s name options h good =
     let good_name : is_name name ≡ true = h.0 in
-    let none : bound_at name r.current.statements ≡ None = position_none (λ (t : Statement). is_called name t.name) r.current.statements h.1 in
+    let none : bound_at name (here r) ≡ None = position_none (λ (t : Statement). is_called name t.name) (here r) h.1 in
     record {
       name = Some name;
       split = rw good_name refl;
       free = rw none refl;
-      known = refl;
-      binds = refl;
       uses = refl;
+      binds = refl;
       words = and_from _ _ (name_word name good_name) good;
     }
 
 bare_head : (r : Reading) (options : List (List ℕ)) → list_all is_word options ≡ true → IsHead r rule.Bare None None options
-unfolding split_name is_taken is_unbound
-bare_head r options good = record { name = None; split = refl; free = refl; known = refl; binds = refl; uses = refl; words = good }
+unfolding split_name is_taken use_in
+bare_head r options good = record { name = None; split = refl; free = refl; uses = refl; binds = refl; words = good }
 
-head : (r : Reading) (n : Naming) (u : Option (Sort × ℕ)) (bound : Option (List ℕ)) (options : List (List ℕ)) → NamingIs n u → is_some bound ≡ has_name n → IfSome bound (IsNew r.current.statements) → IfSome u (λ x. IsBoundAt x.0 r.current.statements x.1) → Names r → list_all is_word options ≡ true → IsHead r n u bound options
-head r (rule.Uses s) (Some (t, i)) None options is named new used names good =
-    let same : t ≡ s = is in
-    subst (λ (x : Sort). IsHead r (rule.Uses s) (Some (x, i)) None options) (sym same) (uses_head r s i options (names s i (subst (λ (x : Sort). IsBoundAt x r.current.statements i) same used)) good)
-head r (rule.Uses s) (Some u) (Some x) options is named new used names good = absurd cc
-head r (rule.Uses s) None bound options is named new used names good = absurd is
-head r (rule.Binds s) None (Some name) options is named new used names good = binds_head r s name options new good
-head r (rule.Binds s) None None options is named new used names good = absurd cc
-head r (rule.Binds s) (Some u) bound options is named new used names good = absurd is
-head r rule.Bare None None options is named new used names good = bare_head r options good
-head r rule.Bare None (Some x) options is named new used names good = absurd cc
-head r rule.Bare (Some u) bound options is named new used names good = absurd is
-head r rule.Caller u bound options is named new used names good = absurd is
+head : (r : Reading) (n : Naming) (place : Option ℕ) (bound : Option (List ℕ)) (options : List (List ℕ)) → (n ≡ rule.Caller → ⊥) → is_used_at n place ≡ true → is_some bound ≡ has_name n → IfSome bound (IsNew (here r)) → IfSome (used_with n place) (λ x. IsBoundAt x.0 (here r) x.1) → Names (here r) → list_all is_word options ≡ true → IsHead r n place bound options
+head r (rule.Uses s) (Some i) None options other is named new used names good = uses_head r s i options (names s i used) good
+head r (rule.Binds s) None (Some name) options other is named new used names good = binds_head r s name options new good
+head r rule.Bare None None options other is named new used names good = bare_head r options good
+head r rule.Caller place bound options other is named new used names good = absurd (other refl)
+head r _ _ _ options other is named new used names good = absurd cc
 
 no_caller : (r : Reading) (w : Word) → is_deed w ≡ true → is_ninth_caller r w ≡ false
 unfolding is_ninth_caller
@@ -215,7 +203,7 @@ gives_adds : (r : Reading) (line : ℕ) (text : List ℕ) (c : Change) → line_
 unfolding line_adds
 gives_adds r line text c e = rw e refl
 
-words_line : (r : Reading) (line : ℕ) (w : Word) (rest : List (List ℕ)) (name : Option (List ℕ)) (options : List (List ℕ)) (c : Change) → IsRead r (word_text w) rest w name options → list_all is_word rest ≡ true → length (line_text (word_text w ∷ rest)) ≤ 512 → change_of r line w name options ≡ c → IsGiven r line (line_text (word_text w ∷ rest)) c
+words_line : (r : Reading) (line : ℕ) (w : Word) (rest : List (List ℕ)) (name : Option (List ℕ)) (options : List (List ℕ)) (c : Change) → IsRead r (word_text w) rest w name options → list_all is_word rest ≡ true → length (line_text (word_text w ∷ rest)) ≤ 512 → change_of r line w name options ≡ Some c → IsGiven r line (line_text (word_text w ∷ rest)) c
 words_line r line w rest name options c read good short is =
     let g = word_good w in
     let all = and_from (is_word (word_text w)) (list_all is_word rest) g.0 good in
@@ -223,44 +211,41 @@ words_line r line w rest name options c read good short is =
     let gives = line_read r line (line_text (word_text w ∷ rest)) (Some c) (record {
       short = le-ltb 512 (length (line_text (word_text w ∷ rest))) short;
       printable = printable;
-      words = rw (words_again (word_text w) rest all) (words_read r line (word_text w) rest c g.1 (statement_read r line (word_text w) rest w name options read ∙ ap Ok is));
+      words = rw (words_again (word_text w) rest all) (words_read r line (word_text w) rest c g.1 (statement_read r line (word_text w) rest w name options c read is));
     }) in
     record { adds = gives_adds r line _ c gives; lacks = printable_lacks (line_text (word_text w ∷ rest)) printable }
 
 -- ---- a statement
 
-abbrev made : ℕ → Option (List ℕ) → Deed → Statement
-made line name d = record { line = line; name = name; deed = d }
-
-same_statement : (s : Statement) (name : Option (List ℕ)) (d : Deed) → name ≡ s.name → d ≡ s.deed → change.Statement (made s.line name d) ≡ change.Statement s
-same_statement s name d e f = rw (e, f) refl
+same_statement : (w : Word) (s : Statement) (name : Option (List ℕ)) → bound_name (naming w) name ≡ s.name → made s.line w name s.deed ≡ s
+same_statement w s name e = rw e refl
 
 pub statement_given : (r : Reading) (s : Statement) → AreStatements [] r.current.statements → IsStatement r.current.statements s → nat_le 20000 r.count ≡ false → is_misplaced r (word_for s.deed) ≡ false → length (statement_text r.current.statements s) ≤ 512 → IsGiven r s.line (statement_text r.current.statements s) (change.Statement s)
 statement_given r s part st few placed short =
     let w = word_for s.deed in
-    let names = part_names r part in
+    let fs = fields w in
     let vs = values s.deed in
-    let h : AllWritten r (fields w) vs = all_written r (fields w) vs names (fields_spelled w) (fields_good w) (values_full s.deed) st.options in
-    let options = opts r (fields w) vs in
-    let hd = head r (naming w) (place_used s.deed) s.name options (naming_is s.deed) st.named st.name st.uses names (opts_words (fields w) r (fields w) vs (fields_found w) h) in
-    let rest = bound_words s.name ++ (used_words r.current.statements (place_used s.deed) ++ options) in
+    let d = deed_facts s.deed in
+    let names = part_names r part in
+    let h : AllWritten (here r) fs vs = all_written (here r) fs vs names (fields_good w) d.filled st.options in
+    let options = opts (here r) fs vs in
+    let hd = head r (naming w) (used_place s.deed) s.name options (deed_naming w d.word) d.used st.named st.name st.uses names (opts_words fs (here r) fs vs (fields_found w) h) in
+    let rest = bound_words s.name ++ (used_words (here r) (used_place s.deed) ++ options) in
     let read : IsRead r (word_text w) rest w hd.name options = record {
       word = word_found w;
       few = few;
-      callers = no_caller r w (deed_word s.deed);
+      callers = no_caller r w d.word;
       placed = placed;
       split = hd.split;
-      known = opts_known (fields w) r (fields w) vs (fields_found w) h;
-      once = opts_once r (fields w) vs (fields_apart w) h;
-      valued = opts_valued (fields w) r (fields w) vs (fields_found w) h;
-      present = opts_lack_none r (fields w) vs h;
+      known = opts_known fs (here r) fs vs (fields_found w) h;
+      once = opts_once (here r) fs vs (fields_apart w) h;
+      valued = opts_valued fs (here r) fs vs (fields_found w) h;
+      present = opts_lack_none (here r) fs vs h;
       free = hd.free;
-      bound = hd.known;
-      values_bound = opts_bound (fields w) r (fields w) vs (fields_found w) h;
     } in
-    let d = deed_is r s.line w hd.name options (deed_word s.deed) in
-    let back = deed_back r s.deed (name_text hd.name) options (values_from r [] (fields w) vs h (fields_apart w) (fields_good w) (free_none (fields w))) hd.uses in
-    words_line r s.line w rest hd.name options (change.Statement s) read hd.words short (d.change ∙ same_statement s (bound_name (naming w) hd.name) (deed_of r w (name_text hd.name) options) hd.binds back)
+    let vals = values_from (here r) [] fs vs h (fields_apart w) (fields_good w) (free_none fs) in
+    let gives = deed_change_is r s.line w hd.name options (used_place s.deed) vs s.deed d.word hd.uses vals d.again in
+    words_line r s.line w rest hd.name options (change.Statement s) read hd.words short (gives ∙ ap (λ (x : Statement). some (change.Statement x)) (same_statement w s hd.name hd.binds))
 
 -- ---- a caller line
 
@@ -269,7 +254,7 @@ unfolding has_twice
 nothing_twice = refl
 
 caller_read : (r : Reading) (name : List ℕ) → is_name name ≡ true → nat_le 20000 r.count ≡ false → nat_le 8 (length r.before) ≡ false → is_taken r rule.Caller name ≡ false → IsRead r (word_text word.Caller) (name ∷ []) word.Caller (Some name) []
-unfolding row split_name is_unbound is_misplaced is_ninth_caller
+unfolding row split_name is_misplaced is_ninth_caller
 caller_read r name good few callers free = record {
   word = word_found word.Caller;
   few = few;
@@ -281,43 +266,21 @@ caller_read r name good few callers free = record {
   valued = refl;
   present = refl;
   free = free;
-  bound = refl;
-  values_bound = refl;
 }
-
-caller_is : (r : Reading) (line : ℕ) (name : List ℕ) → change_of r line word.Caller (Some name) [] ≡ change.Caller name
-unfolding change_of
-caller_is r line name = refl
 
 pub caller_given : (r : Reading) (line : ℕ) (name : List ℕ) → is_name name ≡ true → nat_le 20000 r.count ≡ false → nat_le 8 (length r.before) ≡ false → is_taken r rule.Caller name ≡ false → length (caller_text name) ≤ 512 → IsGiven r line (caller_text name) (change.Caller name)
 caller_given r line name good few callers free short =
-    words_line r line word.Caller (name ∷ []) (Some name) [] (change.Caller name) (caller_read r name good few callers free) (and_from _ _ (name_word name good) refl) short (caller_is r line name)
+    words_line r line word.Caller (name ∷ []) (Some name) [] (change.Caller name) (caller_read r name good few callers free) (and_from _ _ (name_word name good) refl) short (caller_change r line word.Caller (Some name) [] name refl refl)
 
 -- ---- a node line
 
-node_full : (s : NodeSettings) → is_full (fields word.Node) (setting_values s) ≡ true
+node_full : (s : NodeSettings) → are_filled (fields word.Node) (setting_values s) ≡ true
 unfolding row
 node_full s = refl
 
-abbrev settings_of : ℕ → ℕ → ℕ → ℕ → ℕ → ℕ → ℕ → ℕ → NodeSettings
-settings_of a b c d e f g h = record { workers = a; tasks = b; actions = c; groups = d; queues = e; objects = f; priorities = g; generations = h }
-
-settings_same : (s t : NodeSettings) → setting_values s ≡ setting_values t → s ≡ t
-settings_same s t e =
-    let a : s.workers ≡ t.workers = cc in
-    let b : s.tasks ≡ t.tasks = cc in
-    let c : s.actions ≡ t.actions = cc in
-    let d : s.groups ≡ t.groups = cc in
-    let f : s.queues ≡ t.queues = cc in
-    let g : s.objects ≡ t.objects = cc in
-    let h : s.priorities ≡ t.priorities = cc in
-    let i : s.generations ≡ t.generations = cc in
-    let all : settings_of s.workers s.tasks s.actions s.groups s.queues s.objects s.priorities s.generations ≡ settings_of t.workers t.tasks t.actions t.groups t.queues t.objects t.priorities t.generations = rw (a, b, c, d, f, g, h, i) refl in
-    all
-
-node_read : (r : Reading) (options : List (List ℕ)) → nat_le 20000 r.count ≡ false → r.count ≡ 0 → list_all (is_known (fields word.Node)) options ≡ true → has_twice options ≡ false → list_all (has_value (fields word.Node)) options ≡ true → list_any (is_missing options) (fields word.Node) ≡ false → list_any (has_unbound r (fields word.Node)) options ≡ false → IsRead r (word_text word.Node) options word.Node None options
-unfolding row split_name is_taken is_unbound is_misplaced is_ninth_caller
-node_read r options few none known once valued present bound = record {
+node_read : (r : Reading) (options : List (List ℕ)) → nat_le 20000 r.count ≡ false → r.count ≡ 0 → list_all (is_known (fields word.Node)) options ≡ true → has_twice options ≡ false → list_all (has_value (fields word.Node)) options ≡ true → list_any (is_missing options) (fields word.Node) ≡ false → IsRead r (word_text word.Node) options word.Node None options
+unfolding row split_name is_taken is_misplaced is_ninth_caller
+node_read r options few none known once valued present = record {
   word = word_found word.Node;
   few = few;
   callers = refl;
@@ -328,35 +291,21 @@ node_read r options few none known once valued present bound = record {
   valued = valued;
   present = present;
   free = refl;
-  bound = refl;
-  values_bound = bound;
 }
 
-node_is : (r : Reading) (line : ℕ) (options : List (List ℕ)) (s : NodeSettings) → settings_in options ≡ s → change_of r line word.Node None options ≡ change.Node s
-unfolding change_of
-node_is r line options s e = ap change.Node e
-
-no_statements : (r : Reading) → r.current.statements ≡ [] → (s : NodeSettings) → AllFit [] (fields word.Node) (setting_values s) → AllFit r.current.statements (fields word.Node) (setting_values s)
-no_statements r e s h = rw e h
-
-node_text_is : (r : Reading) (s : NodeSettings) → r.current.statements ≡ [] → node_text s ≡ line_text (word_text word.Node ∷ opts r (fields word.Node) (setting_values s))
-node_text_is r s e = rw e refl
-
-empty_part : (r : Reading) → r.current.statements ≡ [] → AreStatements [] r.current.statements
-empty_part r e = rw e tt
+empty_part : (before : List Statement) → before ≡ [] → AreStatements [] before
+empty_part before e = rw e tt
 
 pub node_given : (r : Reading) (line : ℕ) (s : NodeSettings) → r.current.statements ≡ [] → r.count ≡ 0 → AllFit [] (fields word.Node) (setting_values s) → length (node_text s) ≤ 512 → IsGiven r line (node_text s) (change.Node s)
 node_given r line s empty none fits short =
     let fs = fields word.Node in
     let vs = setting_values s in
-    let fit = no_statements r empty s fits in
-    let h : AllWritten r fs vs = all_written r fs vs (part_names r (empty_part r empty)) (fields_spelled word.Node) (fields_good word.Node) (node_full s) fit in
-    let options = opts r fs vs in
+    let fit : AllFit (here r) fs vs = rw empty fits in
+    let h : AllWritten (here r) fs vs = all_written (here r) fs vs (part_names r (empty_part (here r) empty)) (fields_good word.Node) (node_full s) fit in
+    let options = opts (here r) fs vs in
     let few : nat_le 20000 r.count ≡ false = rw none refl in
-    let read = node_read r options few none (opts_known fs r fs vs (fields_found word.Node) h) (opts_once r fs vs (fields_apart word.Node) h) (opts_valued fs r fs vs (fields_found word.Node) h) (opts_lack_none r fs vs h) (opts_bound fs r fs vs (fields_found word.Node) h) in
-    let vals = values_from r [] fs vs h (fields_apart word.Node) (fields_good word.Node) (free_none fs) in
-    let set = node_settings r options (subst (λ (xs : List Value). AllFit r.current.statements fs xs) (sym vals) fit) in
-    let same = settings_same (settings_in options) s (set ∙ vals) in
-    let text = node_text_is r s empty in
+    let read = node_read r options few none (opts_known fs (here r) fs vs (fields_found word.Node) h) (opts_once (here r) fs vs (fields_apart word.Node) h) (opts_valued fs (here r) fs vs (fields_found word.Node) h) (opts_lack_none (here r) fs vs h) in
+    let vals = values_from (here r) [] fs vs h (fields_apart word.Node) (fields_good word.Node) (free_none fs) in
+    let text : node_text s ≡ line_text (word_text word.Node ∷ options) = rw empty refl in
     subst (λ (t : List ℕ). IsGiven r line t (change.Node s)) (sym text)
-    (words_line r line word.Node options None options (change.Node s) read (opts_words fs r fs vs (fields_found word.Node) h) (subst (λ (t : List ℕ). length t ≤ 512) text short) (node_is r line options s same))
+    (words_line r line word.Node options None options (change.Node s) read (opts_words fs (here r) fs vs (fields_found word.Node) h) (subst (λ (t : List ℕ). length t ≤ 512) text short) (node_change r line word.Node None options vs s refl vals (node_settings (here r) s fit)))

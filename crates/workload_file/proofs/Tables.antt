@@ -1,34 +1,26 @@
 -- What the table says of each word, each key and each deed, read off case by case.
-use Rattle.std.proofs.Common.{◌≡◌, ℕ, List, [], ◌∷◌, ◌++◌, Bool, true, false, ◌&&◌, not, eqb, Option, Some, None, refl, ap, map}
-use Rattle.std.specs.Prelude.{nat_le}
-use Rattle.std.specs.List.{AllByRecursion, list_any, list_all}
+use Rattle.std.proofs.Common.{◌≡◌, ℕ, List, [], ◌∷◌, ◌++◌, Bool, true, false, ◌&&◌, not, eqb, Option, Some, None, refl, sym, ◌∙◌}
+use Rattle.std.specs.List.{list_any, list_all}
+use Rattle.std.proofs.lemmas.Bool.{and_parts}
+use Rattle.mtapi_values.specs.Attributes.{NodeSettings}
 use Rattle.workload_file.specs.declared.table.Word.{Word}
+use Rattle.workload_file.specs.declared.table.Word.TheVariants as word
 use Rattle.workload_file.specs.declared.table.Key.{Key}
 use Rattle.workload_file.specs.declared.table.Key.TheVariants as key
-use Rattle.workload_file.specs.declared.table.Sort.{Sort}
-use Rattle.workload_file.specs.declared.table.Sort.TheVariants as sort
 use Rattle.workload_file.specs.declared.table.Naming.{Naming}
 use Rattle.workload_file.specs.declared.table.Naming.TheVariants as rule
-use Rattle.workload_file.specs.declared.table.Shape.{Shape}
-use Rattle.workload_file.specs.declared.table.Shape.TheVariants as shape
-use Rattle.workload_file.specs.declared.table.Absent.{Absent}
-use Rattle.workload_file.specs.declared.table.Absent.TheVariants as absent
-use Rattle.workload_file.specs.declared.table.Field.{Field}
 use Rattle.workload_file.specs.declared.workload.Deed.{Deed}
 use Rattle.workload_file.specs.declared.workload.Deed.TheVariants as deed
 use Rattle.workload_file.specs.declared.values.Value.{Value}
 use Rattle.workload_file.specs.declared.values.Value.TheVariants as given
-use Rattle.workload_file.specs.declared.reading.Reading.{Reading}
 use Rattle.workload_file.specs.Table.{row, words, word_text, key_text, naming, fields}
 use Rattle.workload_file.specs.Options.{key_of, value_of}
-use Rattle.workload_file.specs.Deeds.{deed_spelled, word_for, values, place_used}
+use Rattle.workload_file.specs.Deeds.{deed_spelled, word_for, used_place, values, deed_by, deed_with, setting_values}
 use Rattle.workload_file.specs.Reading.{is_comment}
-use Rattle.workload_file.specs.Settled.{deed_of, used_place}
-use Rattle.workload_file.proofs.Facts.{some, some_is}
-use Rattle.workload_file.proofs.Given.{value_in, use_of, is_deed, not_true}
-use Rattle.workload_file.proofs.Rows.{each_word, each_field}
-use Rattle.std.proofs.lemmas.Bool.{and_parts}
+use Rattle.workload_file.proofs.Facts.{some_is}
+use Rattle.workload_file.proofs.Fields.{is_deed, not_true, are_filled}
 use Rattle.workload_file.proofs.Phrases.{is_inner, is_word}
+use Rattle.workload_file.proofs.Rows.{each_word}
 
 -- ---- words
 
@@ -52,206 +44,96 @@ pub record IsOption (word : List ℕ) (k : Key) (text : List ℕ) : Type 0 where
 pub option_is : (k : Key) (text : List ℕ) → IsOption (key_text k ++ 61 ∷ text) k text
 unfolding key_text
 option_is key.Workers text = record { key = refl; value = refl; equals = refl }
-option_is key.MaxTasks text = record { key = refl; value = refl; equals = refl }
-option_is key.MaxActions text = record { key = refl; value = refl; equals = refl }
-option_is key.MaxGroups text = record { key = refl; value = refl; equals = refl }
-option_is key.MaxQueues text = record { key = refl; value = refl; equals = refl }
-option_is key.MaxObjects text = record { key = refl; value = refl; equals = refl }
-option_is key.Priorities text = record { key = refl; value = refl; equals = refl }
-option_is key.Generations text = record { key = refl; value = refl; equals = refl }
-option_is key.Job text = record { key = refl; value = refl; equals = refl }
-option_is key.Kind text = record { key = refl; value = refl; equals = refl }
-option_is key.Cores text = record { key = refl; value = refl; equals = refl }
-option_is key.Args text = record { key = refl; value = refl; equals = refl }
-option_is key.Priority text = record { key = refl; value = refl; equals = refl }
-option_is key.Detached text = record { key = refl; value = refl; equals = refl }
-option_is key.Group text = record { key = refl; value = refl; equals = refl }
-option_is key.Queue text = record { key = refl; value = refl; equals = refl }
-option_is key.Timeout text = record { key = refl; value = refl; equals = refl }
-option_is key.Id text = record { key = refl; value = refl; equals = refl }
-option_is key.Limit text = record { key = refl; value = refl; equals = refl }
-option_is key.Ordered text = record { key = refl; value = refl; equals = refl }
-option_is key.Retain text = record { key = refl; value = refl; equals = refl }
-option_is key.Recursive text = record { key = refl; value = refl; equals = refl }
-option_is key.Key text = record { key = refl; value = refl; equals = refl }
-option_is key.Mode text = record { key = refl; value = refl; equals = refl }
-option_is key.Cells text = record { key = refl; value = refl; equals = refl }
-option_is key.Cell text = record { key = refl; value = refl; equals = refl }
-option_is key.Value text = record { key = refl; value = refl; equals = refl }
+option_is _ text = record { key = refl; value = refl; equals = refl }
 
 pub key_good : (k : Key) → list_all is_inner (key_text k) ≡ true
 unfolding key_text
 key_good key.Workers = refl
-key_good key.MaxTasks = refl
-key_good key.MaxActions = refl
-key_good key.MaxGroups = refl
-key_good key.MaxQueues = refl
-key_good key.MaxObjects = refl
-key_good key.Priorities = refl
-key_good key.Generations = refl
-key_good key.Job = refl
-key_good key.Kind = refl
-key_good key.Cores = refl
-key_good key.Args = refl
-key_good key.Priority = refl
-key_good key.Detached = refl
-key_good key.Group = refl
-key_good key.Queue = refl
-key_good key.Timeout = refl
-key_good key.Id = refl
-key_good key.Limit = refl
-key_good key.Ordered = refl
-key_good key.Retain = refl
-key_good key.Recursive = refl
-key_good key.Key = refl
-key_good key.Mode = refl
-key_good key.Cells = refl
-key_good key.Cell = refl
-key_good key.Value = refl
-
--- ---- fields
-
--- a value that isn't the default is written in a way that can be read
-abbrev pub is_spelled : Shape → Absent → Bool
-is_spelled (shape.Number low high) a = nat_le high 4294967295
-is_spelled shape.Args absent.Refused = false
-is_spelled shape.Args absent.Usual = true
-is_spelled shape.Args (absent.Number n) = true
-is_spelled shape.Whole a = true
-is_spelled shape.Cores a = true
-is_spelled shape.Kind a = true
-is_spelled shape.Flag a = true
-is_spelled shape.Mode a = true
-is_spelled shape.Timeout a = true
-is_spelled (shape.Named sort) a = true
-
-every_spelled : list_all (λ w. list_all (λ f. is_spelled f.shape f.absent) (fields w)) words ≡ true
-unfolding row
-every_spelled = refl
-
-pub fields_spelled : (w : Word) → AllByRecursion (λ f. is_spelled f.shape f.absent ≡ true) (fields w)
-fields_spelled w = each_field (λ f. is_spelled f.shape f.absent) (fields w) (each_word (λ w. list_all (λ f. is_spelled f.shape f.absent) (fields w)) every_spelled w)
+key_good _ = refl
 
 -- ---- deeds
 
--- a name that has to be there is there
-abbrev pub is_full_at : Absent → Value → Bool
-is_full_at absent.Usual v = true
-is_full_at (absent.Number n) v = true
-is_full_at absent.Refused (given.Place None) = false
-is_full_at absent.Refused _ = true
+-- a place is there exactly where a name is used
+abbrev pub is_used_at : Naming → Option ℕ → Bool
+is_used_at (rule.Uses sort) (Some place) = true
+is_used_at rule.Bare None = true
+is_used_at rule.Caller None = true
+is_used_at (rule.Binds sort) None = true
+is_used_at _ _ = false
 
-abbrev pub is_full : List Field → List Value → Bool
-is_full [] vs = true
-is_full (f ∷ fs) [] = true
-is_full (f ∷ fs) (v ∷ vs) = is_full_at f.absent v && is_full fs vs
+-- what holds of each deed: its values are those of its statement, it uses a name where its statement does, its word is one of a deed, and it is the deed of all these
+pub record IsSpelled (d : Deed) : Type 0 where
+  pub filled : are_filled (fields (word_for d)) (values d) ≡ true
+  pub used : is_used_at (naming (word_for d)) (used_place d) ≡ true
+  pub word : is_deed (word_for d) ≡ true
+  pub again : deed_with (word_for d) (used_place d) (values d) ≡ Some d
 
--- the use that a deed makes of a name is that of its statement
-abbrev pub NamingIs : Naming → Option (Sort × ℕ) → Type 0
-NamingIs (rule.Uses s) (Some u) = u.0 ≡ s
-NamingIs (rule.Uses s) None = ⊥
-NamingIs rule.Caller u = ⊥
-NamingIs rule.Bare None = Unit {0}
-NamingIs rule.Bare (Some u) = ⊥
-NamingIs (rule.Binds s) None = Unit {0}
-NamingIs (rule.Binds s) (Some u) = ⊥
+pub deed_facts : (d : Deed) → IsSpelled d
+unfolding row deed_spelled deed_by
+deed_facts deed.Begin = record { filled = refl; used = refl; word = refl; again = refl }
+deed_facts _ = record { filled = refl; used = refl; word = refl; again = refl }
 
--- the values of a deed are all there, the use that it makes of a name is that of its statement, and its word is one of a deed
-pub deed_facts : (d : Deed) → (is_full (fields (word_for d)) (values d) ≡ true) × NamingIs (naming (word_for d)) (place_used d) × (is_deed (word_for d) ≡ true)
-unfolding row deed_spelled
-deed_facts deed.Begin = (refl, tt, refl)
-deed_facts (deed.Action job kind cores) = (refl, tt, refl)
-deed_facts (deed.ActionDelete place) = (refl, refl, refl)
-deed_facts (deed.ActionEnable place) = (refl, refl, refl)
-deed_facts (deed.ActionDisable place) = (refl, refl, refl)
-deed_facts (deed.Start job args priority cores detached group) = (refl, tt, refl)
-deed_facts (deed.Enqueue queue args cores detached group) = (refl, tt, refl)
-deed_facts (deed.Wait place timeout) = (refl, refl, refl)
-deed_facts (deed.Cancel place) = (refl, refl, refl)
-deed_facts deed.Group = (refl, tt, refl)
-deed_facts (deed.WaitAll place timeout) = (refl, refl, refl)
-deed_facts (deed.WaitAny place timeout) = (refl, refl, refl)
-deed_facts (deed.GroupDelete place) = (refl, refl, refl)
-deed_facts (deed.Queue id job priority limit ordered retain) = (refl, tt, refl)
-deed_facts (deed.QueueGet id) = (refl, tt, refl)
-deed_facts (deed.QueueEnable place) = (refl, refl, refl)
-deed_facts (deed.QueueDisable place) = (refl, refl, refl)
-deed_facts (deed.QueueDelete place) = (refl, refl, refl)
-deed_facts (deed.Mutex id recursive) = (refl, tt, refl)
-deed_facts (deed.MutexGet id) = (refl, tt, refl)
-deed_facts (deed.MutexDelete place) = (refl, refl, refl)
-deed_facts (deed.Lock place timeout) = (refl, refl, refl)
-deed_facts (deed.Unlock place key) = (refl, refl, refl)
-deed_facts (deed.Sem id limit) = (refl, tt, refl)
-deed_facts (deed.SemGet id) = (refl, tt, refl)
-deed_facts (deed.SemDelete place) = (refl, refl, refl)
-deed_facts (deed.SemLock place timeout) = (refl, refl, refl)
-deed_facts (deed.SemUnlock place) = (refl, refl, refl)
-deed_facts (deed.Rwl id limit) = (refl, tt, refl)
-deed_facts (deed.RwlGet id) = (refl, tt, refl)
-deed_facts (deed.RwlDelete place) = (refl, refl, refl)
-deed_facts (deed.RwlLock place writer timeout) = (refl, refl, refl)
-deed_facts (deed.RwlUnlock place writer) = (refl, refl, refl)
-deed_facts (deed.Shmem id cells) = (refl, tt, refl)
-deed_facts (deed.ShmemGet id) = (refl, tt, refl)
-deed_facts (deed.ShmemDelete place) = (refl, refl, refl)
-deed_facts (deed.Attach place) = (refl, refl, refl)
-deed_facts (deed.Detach place) = (refl, refl, refl)
-deed_facts (deed.Read place cell) = (refl, refl, refl)
-deed_facts (deed.Write place cell value) = (refl, refl, refl)
+-- there is a deed of a word, a place and values
+pub record IsDeed (w : Word) (place : Option ℕ) (vs : List Value) : Type 0 where
+  pub deed : Deed
+  pub gives : deed_with w place vs ≡ Some deed
+  pub word : word_for deed ≡ w
+  pub used : used_place deed ≡ place
+  pub values : values deed ≡ vs
 
-pub values_full : (d : Deed) → is_full (fields (word_for d)) (values d) ≡ true
-values_full d = (deed_facts d).0
+pub deed_of : (w : Word) (place : Option ℕ) (vs : List Value) → is_deed w ≡ true → is_used_at (naming w) place ≡ true → are_filled (fields w) vs ≡ true → IsDeed w place vs
+unfolding row deed_spelled deed_by
+deed_of word.Begin None [] h u f = record { deed = deed.Begin; gives = refl; word = refl; used = refl; values = refl }
+deed_of word.Action None (given.Number job ∷ given.Kind kind ∷ given.Cores cores ∷ []) h u f = record { deed = (deed.Action job kind cores); gives = refl; word = refl; used = refl; values = refl }
+deed_of word.ActionDelete (Some place) [] h u f = record { deed = (deed.ActionDelete place); gives = refl; word = refl; used = refl; values = refl }
+deed_of word.ActionEnable (Some place) [] h u f = record { deed = (deed.ActionEnable place); gives = refl; word = refl; used = refl; values = refl }
+deed_of word.ActionDisable (Some place) [] h u f = record { deed = (deed.ActionDisable place); gives = refl; word = refl; used = refl; values = refl }
+deed_of word.Start None (given.Number job ∷ given.Args args ∷ given.Number priority ∷ given.Cores cores ∷ given.Flag detached ∷ given.Place group ∷ []) h u f = record { deed = (deed.Start job args priority cores detached group); gives = refl; word = refl; used = refl; values = refl }
+deed_of word.Enqueue None (given.Place (Some queue) ∷ given.Args args ∷ given.Cores cores ∷ given.Flag detached ∷ given.Place group ∷ []) h u f = record { deed = (deed.Enqueue queue args cores detached group); gives = refl; word = refl; used = refl; values = refl }
+deed_of word.Wait (Some place) (given.Timeout timeout ∷ []) h u f = record { deed = (deed.Wait place timeout); gives = refl; word = refl; used = refl; values = refl }
+deed_of word.Cancel (Some place) [] h u f = record { deed = (deed.Cancel place); gives = refl; word = refl; used = refl; values = refl }
+deed_of word.Group None [] h u f = record { deed = deed.Group; gives = refl; word = refl; used = refl; values = refl }
+deed_of word.WaitAll (Some place) (given.Timeout timeout ∷ []) h u f = record { deed = (deed.WaitAll place timeout); gives = refl; word = refl; used = refl; values = refl }
+deed_of word.WaitAny (Some place) (given.Timeout timeout ∷ []) h u f = record { deed = (deed.WaitAny place timeout); gives = refl; word = refl; used = refl; values = refl }
+deed_of word.GroupDelete (Some place) [] h u f = record { deed = (deed.GroupDelete place); gives = refl; word = refl; used = refl; values = refl }
+deed_of word.Queue None (given.Number id ∷ given.Number job ∷ given.Number priority ∷ given.Number limit ∷ given.Flag ordered ∷ given.Flag retain ∷ []) h u f = record { deed = (deed.Queue id job priority limit ordered retain); gives = refl; word = refl; used = refl; values = refl }
+deed_of word.QueueGet None (given.Number id ∷ []) h u f = record { deed = (deed.QueueGet id); gives = refl; word = refl; used = refl; values = refl }
+deed_of word.QueueEnable (Some place) [] h u f = record { deed = (deed.QueueEnable place); gives = refl; word = refl; used = refl; values = refl }
+deed_of word.QueueDisable (Some place) [] h u f = record { deed = (deed.QueueDisable place); gives = refl; word = refl; used = refl; values = refl }
+deed_of word.QueueDelete (Some place) [] h u f = record { deed = (deed.QueueDelete place); gives = refl; word = refl; used = refl; values = refl }
+deed_of word.Mutex None (given.Number id ∷ given.Flag recursive ∷ []) h u f = record { deed = (deed.Mutex id recursive); gives = refl; word = refl; used = refl; values = refl }
+deed_of word.MutexGet None (given.Number id ∷ []) h u f = record { deed = (deed.MutexGet id); gives = refl; word = refl; used = refl; values = refl }
+deed_of word.MutexDelete (Some place) [] h u f = record { deed = (deed.MutexDelete place); gives = refl; word = refl; used = refl; values = refl }
+deed_of word.Lock (Some place) (given.Timeout timeout ∷ []) h u f = record { deed = (deed.Lock place timeout); gives = refl; word = refl; used = refl; values = refl }
+deed_of word.Unlock (Some place) (given.Number key ∷ []) h u f = record { deed = (deed.Unlock place key); gives = refl; word = refl; used = refl; values = refl }
+deed_of word.Sem None (given.Number id ∷ given.Number limit ∷ []) h u f = record { deed = (deed.Sem id limit); gives = refl; word = refl; used = refl; values = refl }
+deed_of word.SemGet None (given.Number id ∷ []) h u f = record { deed = (deed.SemGet id); gives = refl; word = refl; used = refl; values = refl }
+deed_of word.SemDelete (Some place) [] h u f = record { deed = (deed.SemDelete place); gives = refl; word = refl; used = refl; values = refl }
+deed_of word.SemLock (Some place) (given.Timeout timeout ∷ []) h u f = record { deed = (deed.SemLock place timeout); gives = refl; word = refl; used = refl; values = refl }
+deed_of word.SemUnlock (Some place) [] h u f = record { deed = (deed.SemUnlock place); gives = refl; word = refl; used = refl; values = refl }
+deed_of word.Rwl None (given.Number id ∷ given.Number limit ∷ []) h u f = record { deed = (deed.Rwl id limit); gives = refl; word = refl; used = refl; values = refl }
+deed_of word.RwlGet None (given.Number id ∷ []) h u f = record { deed = (deed.RwlGet id); gives = refl; word = refl; used = refl; values = refl }
+deed_of word.RwlDelete (Some place) [] h u f = record { deed = (deed.RwlDelete place); gives = refl; word = refl; used = refl; values = refl }
+deed_of word.RwlLock (Some place) (given.Mode writer ∷ given.Timeout timeout ∷ []) h u f = record { deed = (deed.RwlLock place writer timeout); gives = refl; word = refl; used = refl; values = refl }
+deed_of word.RwlUnlock (Some place) (given.Mode writer ∷ []) h u f = record { deed = (deed.RwlUnlock place writer); gives = refl; word = refl; used = refl; values = refl }
+deed_of word.Shmem None (given.Number id ∷ given.Number cells ∷ []) h u f = record { deed = (deed.Shmem id cells); gives = refl; word = refl; used = refl; values = refl }
+deed_of word.ShmemGet None (given.Number id ∷ []) h u f = record { deed = (deed.ShmemGet id); gives = refl; word = refl; used = refl; values = refl }
+deed_of word.ShmemDelete (Some place) [] h u f = record { deed = (deed.ShmemDelete place); gives = refl; word = refl; used = refl; values = refl }
+deed_of word.Attach (Some place) [] h u f = record { deed = (deed.Attach place); gives = refl; word = refl; used = refl; values = refl }
+deed_of word.Detach (Some place) [] h u f = record { deed = (deed.Detach place); gives = refl; word = refl; used = refl; values = refl }
+deed_of word.Read (Some place) (given.Number cell ∷ []) h u f = record { deed = (deed.Read place cell); gives = refl; word = refl; used = refl; values = refl }
+deed_of word.Write (Some place) (given.Number cell ∷ given.Whole value ∷ []) h u f = record { deed = (deed.Write place cell value); gives = refl; word = refl; used = refl; values = refl }
+deed_of _ _ _ h u f = absurd cc
 
-pub naming_is : (d : Deed) → NamingIs (naming (word_for d)) (place_used d)
-naming_is d = (deed_facts d).1
+pub deed_is : (w : Word) (place : Option ℕ) (vs : List Value) (d : Deed) → IsDeed w place vs → deed_with w place vs ≡ Some d → (word_for d ≡ w) × (used_place d ≡ place) × (values d ≡ vs)
+deed_is w place vs d is e =
+    let same : is.deed ≡ d = some_is is.deed d (sym is.gives ∙ e) in
+    rw (← same) (is.word, is.used, is.values)
 
-pub deed_word : (d : Deed) → is_deed (word_for d) ≡ true
-deed_word d = (deed_facts d).2
+-- ---- settings
 
-used_is : (s : Sort) (a b : ℕ) → some {A = Sort × ℕ} (s, a) ≡ some {A = Sort × ℕ} (s, b) → a ≡ b
-used_is s a b e = ap (λ (x : Sort × ℕ). x.1) (some_is (s, a) (s, b) e)
-
--- the deed with these values and this use is what the statement gives
-pub deed_back : (r : Reading) (d : Deed) (name : List ℕ) (options : List (List ℕ)) → map (value_in r options) (fields (word_for d)) ≡ values d → use_of r (naming (word_for d)) name ≡ place_used d → deed_of r (word_for d) name options ≡ d
-unfolding row deed_spelled deed_of
-deed_back r deed.Begin name options e u = refl
-deed_back r (deed.Action job kind cores) name options e u = cc
-deed_back r (deed.ActionDelete place) name options e u = let p = used_is sort.Action (used_place r sort.Action name) place u in cc p
-deed_back r (deed.ActionEnable place) name options e u = let p = used_is sort.Action (used_place r sort.Action name) place u in cc p
-deed_back r (deed.ActionDisable place) name options e u = let p = used_is sort.Action (used_place r sort.Action name) place u in cc p
-deed_back r (deed.Start job args priority cores detached group) name options e u = cc
-deed_back r (deed.Enqueue queue args cores detached group) name options e u = cc
-deed_back r (deed.Wait place timeout) name options e u = let p = used_is sort.Task (used_place r sort.Task name) place u in cc p
-deed_back r (deed.Cancel place) name options e u = let p = used_is sort.Task (used_place r sort.Task name) place u in cc p
-deed_back r deed.Group name options e u = refl
-deed_back r (deed.WaitAll place timeout) name options e u = let p = used_is sort.Group (used_place r sort.Group name) place u in cc p
-deed_back r (deed.WaitAny place timeout) name options e u = let p = used_is sort.Group (used_place r sort.Group name) place u in cc p
-deed_back r (deed.GroupDelete place) name options e u = let p = used_is sort.Group (used_place r sort.Group name) place u in cc p
-deed_back r (deed.Queue id job priority limit ordered retain) name options e u = cc
-deed_back r (deed.QueueGet id) name options e u = cc
-deed_back r (deed.QueueEnable place) name options e u = let p = used_is sort.Queue (used_place r sort.Queue name) place u in cc p
-deed_back r (deed.QueueDisable place) name options e u = let p = used_is sort.Queue (used_place r sort.Queue name) place u in cc p
-deed_back r (deed.QueueDelete place) name options e u = let p = used_is sort.Queue (used_place r sort.Queue name) place u in cc p
-deed_back r (deed.Mutex id recursive) name options e u = cc
-deed_back r (deed.MutexGet id) name options e u = cc
-deed_back r (deed.MutexDelete place) name options e u = let p = used_is sort.Mutex (used_place r sort.Mutex name) place u in cc p
-deed_back r (deed.Lock place timeout) name options e u = let p = used_is sort.Mutex (used_place r sort.Mutex name) place u in cc p
-deed_back r (deed.Unlock place key) name options e u = let p = used_is sort.Mutex (used_place r sort.Mutex name) place u in cc p
-deed_back r (deed.Sem id limit) name options e u = cc
-deed_back r (deed.SemGet id) name options e u = cc
-deed_back r (deed.SemDelete place) name options e u = let p = used_is sort.Sem (used_place r sort.Sem name) place u in cc p
-deed_back r (deed.SemLock place timeout) name options e u = let p = used_is sort.Sem (used_place r sort.Sem name) place u in cc p
-deed_back r (deed.SemUnlock place) name options e u = let p = used_is sort.Sem (used_place r sort.Sem name) place u in cc p
-deed_back r (deed.Rwl id limit) name options e u = cc
-deed_back r (deed.RwlGet id) name options e u = cc
-deed_back r (deed.RwlDelete place) name options e u = let p = used_is sort.Rwl (used_place r sort.Rwl name) place u in cc p
-deed_back r (deed.RwlLock place writer timeout) name options e u = let p = used_is sort.Rwl (used_place r sort.Rwl name) place u in cc p
-deed_back r (deed.RwlUnlock place writer) name options e u = let p = used_is sort.Rwl (used_place r sort.Rwl name) place u in cc p
-deed_back r (deed.Shmem id cells) name options e u = cc
-deed_back r (deed.ShmemGet id) name options e u = cc
-deed_back r (deed.ShmemDelete place) name options e u = let p = used_is sort.Shmem (used_place r sort.Shmem name) place u in cc p
-deed_back r (deed.Attach place) name options e u = let p = used_is sort.Shmem (used_place r sort.Shmem name) place u in cc p
-deed_back r (deed.Detach place) name options e u = let p = used_is sort.Shmem (used_place r sort.Shmem name) place u in cc p
-deed_back r (deed.Read place cell) name options e u = let p = used_is sort.Shmem (used_place r sort.Shmem name) place u in cc p
-deed_back r (deed.Write place cell value) name options e u = let p = used_is sort.Shmem (used_place r sort.Shmem name) place u in cc p
+-- there are settings of the values of a node line
+pub node_values : (vs : List Value) → are_filled (fields word.Node) vs ≡ true → (s : NodeSettings) × (setting_values s ≡ vs)
+unfolding row
+node_values (given.Number a ∷ given.Number b ∷ given.Number c ∷ given.Number d ∷ given.Number e ∷ given.Number f ∷ given.Number g ∷ given.Number h ∷ []) is = (record { workers = a; tasks = b; actions = c; groups = d; queues = e; objects = f; priorities = g; generations = h }, refl)
+node_values _ is = absurd cc

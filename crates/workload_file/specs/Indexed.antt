@@ -1,23 +1,39 @@
 -- What the reader keeps beside the workload so far.
-use Rattle.std.specs.Prelude.{◌≡◌, ℕ, ◌≤◌, List, length, Bool, true, false, Option, Some, None, Result, Ok, Err, if◌then◌else◌}
-use Rattle.workload_file.specs.declared.table.Naming.{Naming}
-use Rattle.workload_file.specs.declared.table.Naming.TheVariants as rule
+use Rattle.std.specs.Prelude.{◌≡◌, ℕ, ◌+◌, ◌*◌, ◌≤◌, List, [], ◌∷◌, ◌++◌, length, Bool, false, not, Option, Some, None, Result, Ok, Err, if◌then◌else◌}
+use Rattle.workload_file.specs.declared.table.Shape.{Shape}
+use Rattle.workload_file.specs.declared.table.Field.{Field}
+use Rattle.workload_file.specs.declared.values.Value.{Value}
+use Rattle.workload_file.specs.declared.found.Found.{Found}
 use Rattle.workload_file.specs.declared.reading.Reader.{Reader}
 use Rattle.workload_file.specs.declared.reading.Reading.{Reading}
+use Rattle.workload_file.specs.declared.reading.Change.{Change}
+use Rattle.workload_file.specs.declared.faults.Cause.{Cause}
+use Rattle.workload_file.specs.declared.faults.Cause.TheVariants.{UnknownOption, OptionTwice, BadValue, OptionMissing, NameTaken, NameUnknown}
+use Rattle.workload_file.specs.declared.table.Word.{Word}
+use Rattle.workload_file.specs.Table.{naming, fields}
+use Rattle.workload_file.specs.Changes.{change_with}
+use Rattle.workload_file.specs.Reading.{◌>>=◌, refuse, or_cause, name_text}
 use Rattle.workload_file.specs.declared.index.NameIndex.{NameIndex}
+use Rattle.std.specs.List.{list_any, list_all}
 use Rattle.std.specs.BTreeMap.{get_by}
-use Rattle.std.specs.Cmp.Lexicographic.{slice_cmp}
 use Rattle.std.specs.Ordering.{nat_cmp}
-use Rattle.workload_file.specs.Names.{bound_at, is_called}
+use Rattle.workload_file.specs.Names.{bound_at, is_called, is_taken}
+use Rattle.workload_file.specs.Values.{is_name}
+use Rattle.workload_file.specs.Options.{is_value, text_of, is_known, has_twice, is_missing}
 
 -- the first value, or else the second
 abbrev pub first_of_two : Option ℕ → Option ℕ → Option ℕ
 first_of_two (Some x) y = Some x
 first_of_two None y = y
 
--- the place at which the index has a name
+-- the number at which the index has a name: its bytes as the digits to base 256, the first the least
+unfoldable pub key_of : List ℕ → ℕ
+key_of [] = 0
+key_of (b ∷ bs) = b + 256 * key_of bs
+
+-- the place at which the index has a name; it has no other text
 abbrev pub found : NameIndex → List ℕ → Option ℕ
-found index name = get_by (λ key. slice_cmp nat_cmp name key.items) index.places
+found index name = if is_name name then get_by (nat_cmp (key_of name)) index.places else None
 
 -- few enough statements, and the index has each name of this part at the place that bound it
 pub record IsReader (r : Reader) : Type 0 where
@@ -29,14 +45,53 @@ pub record IsReader (r : Reader) : Type 0 where
 abbrev pub with_name : Option (List ℕ) → ℕ → (List ℕ → Option ℕ) → List ℕ → Option ℕ
 with_name name place names other = first_of_two (names other) (if is_called other name then Some place else None)
 
--- a statement that binds its name
-abbrev pub binds_a_name : Naming → Bool
-binds_a_name (rule.Binds sort) = true
-binds_a_name rule.Bare = false
-binds_a_name rule.Caller = false
-binds_a_name (rule.Uses sort) = false
-
 -- the answer, seen without the index
 abbrev pub said_of : {E : Type 0} → Result Reader E → Result Reading E
 said_of (Ok r) = Ok r.said
 said_of (Err e) = Err e
+
+-- what the lines say after one more, where it was read
+abbrev pub said_then : {E : Type 0} → Result (Unit {0}) E → Reading → Result Reading E
+said_then (Ok done) r = Ok r
+said_then (Err e) r = Err e
+
+-- ---- the values of the options of a statement, found one by one
+
+-- the values found, where there is one for each option so far
+abbrev pub seen : Found → Option (List Value)
+seen found = if found.complete then Some found.values.items else None
+
+-- with the value of one more option
+abbrev pub with_value : Option (List Value) → Option Value → Option (List Value)
+with_value (Some values) (Some value) = Some (values ++ value ∷ [])
+with_value _ _ = None
+
+-- with the values of the options behind
+abbrev pub ahead : Option (List Value) → Option (List Value) → Option (List Value)
+ahead (Some values) (Some behind) = Some (values ++ behind)
+ahead _ _ = None
+
+-- a text that is none of its option's
+abbrev pub is_bad_text : Shape → Option (List ℕ) → Bool
+is_bad_text s None = false
+is_bad_text s (Some text) = not (is_value s text)
+
+-- an option that is given such a text
+abbrev pub is_bad : List (List ℕ) → Field → Bool
+is_bad options field = is_bad_text field.shape (text_of field.key options)
+
+-- ---- the steps in which a statement is refused
+
+-- the options are of the statement, and none stands twice
+abbrev pub check_keys : List Field → List (List ℕ) → Result (Unit {0}) Cause
+check_keys fields options = do
+  a ← refuse (not (list_all (is_known fields) options)) UnknownOption
+  refuse (has_twice options) OptionTwice
+
+-- what a statement adds, of whether a value is none of its option's and the values, or its first cause from the values on
+abbrev pub settled : Reading → ℕ → Word → Option (List ℕ) → List (List ℕ) → Bool → Option (List Value) → Result Change Cause
+settled r line word name options bad values = do
+  a ← refuse bad BadValue
+  b ← refuse (list_any (is_missing options) (fields word)) OptionMissing
+  c ← refuse (is_taken r (naming word) (name_text name)) NameTaken
+  or_cause (change_with r.current.statements line word name values) NameUnknown

@@ -8,7 +8,6 @@ pub mod Deeds
 pub mod Names
 pub mod Changes
 pub mod Reading
-pub mod Settled
 pub mod Indexed
 pub mod Loading
 pub mod Faulty

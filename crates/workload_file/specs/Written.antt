@@ -9,7 +9,6 @@ use Rattle.mtapi_values.specs.Kinds.{kind_word}
 use Rattle.number_text.specs.Lists.{list_text}
 use Rattle.number_text.specs.Cores.{cores_text}
 use Rattle.workload_file.specs.declared.table.Word.TheVariants as word
-use Rattle.workload_file.specs.declared.table.Sort.{Sort}
 use Rattle.workload_file.specs.declared.table.Field.{Field}
 use Rattle.workload_file.specs.declared.table.Absent.{Absent}
 use Rattle.workload_file.specs.declared.table.Absent.TheVariants as absent
@@ -19,7 +18,7 @@ use Rattle.workload_file.specs.declared.workload.Statement.{Statement}
 use Rattle.workload_file.specs.declared.workload.Part.{Part}
 use Rattle.workload_file.specs.declared.workload.Workload.{Workload}
 use Rattle.workload_file.specs.Table.{word_text, key_text, fields}
-use Rattle.workload_file.specs.Deeds.{word_for, values, setting_values, place_used}
+use Rattle.workload_file.specs.Deeds.{word_for, used_place, values, setting_values}
 use Rattle.workload_file.specs.Reading.{name_text}
 
 -- ---- values as texts
@@ -90,9 +89,9 @@ abbrev pub bound_words : Option (List ℕ) → List (List ℕ)
 bound_words None = []
 bound_words (Some name) = name ∷ []
 
-abbrev pub used_words : List Statement → Option (Sort × ℕ) → List (List ℕ)
+abbrev pub used_words : List Statement → Option ℕ → List (List ℕ)
 used_words before None = []
-used_words before (Some used) = name_at before (Some used.1) ∷ []
+used_words before (Some place) = name_at before (Some place) ∷ []
 
 -- words joined by one space
 abbrev pub line_text : List (List ℕ) → List ℕ
@@ -100,7 +99,7 @@ line_text words = join_with_byte 32 words
 
 -- a statement behind those before it in its part
 abbrev pub statement_text : List Statement → Statement → List ℕ
-statement_text before s = line_text (word_text (word_for s.deed) ∷ (bound_words s.name ++ (used_words before (place_used s.deed) ++ options_words before (fields (word_for s.deed)) (values s.deed))))
+statement_text before s = line_text (word_text (word_for s.deed) ∷ (bound_words s.name ++ (used_words before (used_place s.deed) ++ options_words before (fields (word_for s.deed)) (values s.deed))))
 
 abbrev pub node_text : NodeSettings → List ℕ
 node_text settings = line_text (word_text word.Node ∷ options_words [] (fields word.Node) (setting_values settings))

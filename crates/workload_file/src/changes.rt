@@ -13,27 +13,24 @@ use std::alloc::{AllocError, Global};
 use std::mem;
 
 #[tactic(auto, unfolding(crate::specs::Reading::with_change))]
-fn with_node(r: Reader, line: u64, settings: NodeAttr) -> Reader
-    requires reader { IsReader r }
-    requires few { r.said.count < 20000 }
-    ensures value { result.said ≡ with_change r.said line (Some (change.Node settings)) }
-    ensures reader { IsReader result }
+fn with_node(r: &mut Reader, line: u64, settings: NodeAttr)
+    requires reader { IsReader r.old }
+    requires few { r.old.said.count < 20000 }
+    ensures value { r.new.said ≡ with_change r.old.said line (Some (change.Node settings)) }
+    ensures reader { IsReader r.new }
 {
-    let mut r = r;
     r.said.node_line = line;
     r.said.settings = settings;
     r.said.count += 1;
-    r
 }
 
 #[tactic(auto, unfolding(crate::specs::Reading::with_change))]
-fn with_caller(alloc: Global, r: Reader, line: u64, name: Name) -> Result<Reader, AllocError>
-    requires reader { IsReader r }
-    requires few { r.said.count < 20000 }
-    ensures value { IfOk result (λ s. s.said ≡ with_change r.said line (Some (change.Caller name))) }
-    ensures reader { IfOk result (λ s. IsReader s) }
+fn with_caller(alloc: Global, r: &mut Reader, line: u64, name: Name) -> Result<(), AllocError>
+    requires reader { IsReader r.old }
+    requires few { r.old.said.count < 20000 }
+    ensures value { OnOk result (r.new.said ≡ with_change r.old.said line (Some (change.Caller name))) }
+    ensures reader { OnOk result (IsReader r.new) }
 {
-    let mut r = r;
     let part = Part {
         line,
         name,
@@ -42,58 +39,50 @@ fn with_caller(alloc: Global, r: Reader, line: u64, name: Name) -> Result<Reader
     r.said.before.push(mem::replace(&mut r.said.current, part))?;
     r.said.count += 1;
     r.names = NameIndex::new(alloc);
-    Ok(r)
+    Ok(())
 }
 
-fn add_name(
-    alloc: Global,
-    names: &mut NameIndex,
-    name: &Option<Name>,
-    place: u32,
-) -> Result<(), AllocError>
+fn add_name(names: &mut NameIndex, name: &Option<Name>, place: u32) -> Result<(), AllocError>
     ensures { OnOk result ((other : List ℕ) → found names.new other ≡ with_name name.now place (found names.old) other) }
 {
     match name {
-        Some(name) => names.add(alloc, name.as_slice(), place),
+        Some(name) => names.add(name, place),
         None => Ok(()),
     }
 }
 
 #[tactic(auto, unfolding(crate::specs::Reading::with_change))]
-fn with_statement(
-    alloc: Global,
-    r: Reader,
-    line: u64,
-    statement: Statement,
-) -> Result<Reader, AllocError>
-    requires reader { IsReader r }
-    requires few { r.said.count < 20000 }
-    ensures value { IfOk result (λ s. s.said ≡ with_change r.said line (Some (change.Statement statement))) }
-    ensures reader { IfOk result (λ s. IsReader s) }
+fn with_statement(r: &mut Reader, line: u64, statement: Statement) -> Result<(), AllocError>
+    requires reader { IsReader r.old }
+    requires few { r.old.said.count < 20000 }
+    ensures value { OnOk result (r.new.said ≡ with_change r.old.said line (Some (change.Statement statement))) }
+    ensures reader { OnOk result (IsReader r.new) }
 {
-    let mut r = r;
     let place = r.said.current.statements.as_slice().len() as u32;
-    add_name(alloc, &mut r.names, &statement.name, place)?;
+    add_name(&mut r.names, &statement.name, place)?;
     r.said.current.statements.push(statement)?;
     r.said.count += 1;
-    Ok(r)
+    Ok(())
 }
 
 /// The workload so far, with what a statement adds.
 pub fn with_change(
     alloc: Global,
-    r: Reader,
+    r: &mut Reader,
     line: u64,
     change: Change,
-) -> Result<Reader, AllocError>
-    requires reader { IsReader r }
-    requires few { r.said.count < 20000 }
-    ensures value { IfOk result (λ s. s.said ≡ with_change r.said line (Some change)) }
-    ensures reader { IfOk result (λ s. IsReader s) }
+) -> Result<(), AllocError>
+    requires reader { IsReader r.old }
+    requires few { r.old.said.count < 20000 }
+    ensures value { OnOk result (r.new.said ≡ with_change r.old.said line (Some change)) }
+    ensures reader { OnOk result (IsReader r.new) }
 {
     match change {
-        Change::Node(settings) => Ok(with_node(r, line, settings)),
+        Change::Node(settings) => {
+            with_node(r, line, settings);
+            Ok(())
+        }
         Change::Caller(name) => with_caller(alloc, r, line, name),
-        Change::Statement(statement) => with_statement(alloc, r, line, statement),
+        Change::Statement(statement) => with_statement(r, line, statement),
     }
 }

@@ -11,7 +11,8 @@ use std::alloc::{AllocError, Global};
 pub fn words_of(alloc: Global, line: &[u8]) -> Result<Vec<&[u8]>, AllocError>
     ensures { IfOk result (λ v. texts v.items ≡ words_of line.now) }
 {
-    let mut words = Vec::new(alloc);
+    // Few lines have more words, so that the list seldom moves.
+    let mut words = Vec::with_capacity(alloc, 8)?;
     let mut left = Some(line);
     'cutting: while let Some(text) = left {
         let (word, rest) = cut_at(text, b' ');

@@ -2,20 +2,22 @@
 ghost use Rattle.std.specs.Prelude.{◌≡◌, ◌<◌, ◌≤◌, length, Bool, Ok, Err, Some, None, List, IfOk, IfSome, OnOk, IsSome};
 ghost use Rattle.std.specs.List.{list_any, list_all};
 ghost use Rattle.workload_file.specs.Texts.{texts, result_map};
-ghost use Rattle.workload_file.specs.Reading.{refuse, heading, check_options, statement_of, words_give, is_printable, line_gives, is_comment};
-ghost use Rattle.workload_file.specs.Changes.{bound_name};
-ghost use Rattle.workload_file.specs.Settled.{check_names, change_of, settled};
-ghost use Rattle.workload_file.specs.Indexed.{IsReader, binds_a_name};
+ghost use Rattle.std.specs.Option.{option_map};
+ghost use Rattle.workload_file.specs.Reading.{refuse, heading, statement_of, words_give, is_printable, line_gives, is_comment};
+ghost use Rattle.workload_file.specs.Changes.{bound_name, change_with};
+ghost use Rattle.workload_file.specs.Indexed.{IsReader, seen, check_keys, settled};
 
 use crate::cut::words_of;
-use crate::deeds::{deed_of, settings_in};
+use crate::deeds::{deed_with, settings_with};
 use crate::faults::Cause;
+use crate::found::{Found, values_in};
 use crate::name::Name;
-use crate::names::{any_unbound, is_misplaced, is_ninth_caller, is_taken, is_unbound, split_name};
-use crate::options::{all_known, all_valued, has_twice, lacks};
+use crate::names::{is_misplaced, is_ninth_caller, is_taken, split_name, use_in};
+use crate::options::{all_known, has_twice, lacks};
 use crate::reading::{Change, Reader};
 use crate::table::{Field, Naming, Word};
 use crate::text::text_of_name;
+use crate::values::Value;
 use crate::workload::Statement;
 use std::alloc::{AllocError, Global};
 
@@ -45,91 +47,127 @@ fn heading<'a, 'b>(
     }
 }
 
-#[tactic(auto, unfolding(crate::specs::Reading::check_options))]
-fn check_options(fields: &[Field], options: &[&[u8]]) -> Result<(), Cause>
-    ensures { result ≡ check_options fields.now (texts options.now) }
+/// Whether the options are of the statement, and none stands twice.
+fn check_keys(fields: &[Field], options: &[&[u8]]) -> Result<(), Cause>
+    ensures { result ≡ check_keys fields.now (texts options.now) }
 {
     refuse(!all_known(fields, options), Cause::UnknownOption)?;
-    refuse(has_twice(options), Cause::OptionTwice)?;
-    refuse(!all_valued(fields, options), Cause::BadValue)?;
-    refuse(lacks(fields, options), Cause::OptionMissing)
-}
-
-#[tactic(auto, unfolding(crate::specs::Settled::check_names))]
-fn check_names(r: &Reader, word: Word, name: &[u8], options: &[&[u8]]) -> Result<(), Cause>
-    requires { IsReader r.now }
-    ensures { result ≡ check_names r.now.said word name.now (texts options.now) }
-{
-    refuse(is_taken(r, word.naming(), name), Cause::NameTaken)?;
-    refuse(is_unbound(r, word.naming(), name), Cause::NameUnknown)?;
-    refuse(any_unbound(r, word.fields(), options), Cause::NameUnknown)
-}
-
-fn binds_name(naming: Naming) -> bool
-    ensures { result ≡ binds_a_name naming }
-{
-    matches!(naming, Naming::Binds(_))
+    refuse(has_twice(options), Cause::OptionTwice)
 }
 
 fn bound_name(naming: Naming, name: Option<Name>) -> Option<Name>
     ensures { result ≡ bound_name naming name }
 {
-    if binds_name(naming) { name } else { None }
+    match naming {
+        Naming::Binds(_) => name,
+        Naming::Bare | Naming::Caller | Naming::Uses(_) => None,
+    }
 }
 
-#[tactic(auto, unfolding(crate::specs::Settled::change_of))]
-fn change_of(r: &Reader, line: u64, word: Word, name: Option<Name>, options: &[&[u8]]) -> Change
+fn all_of(found: &Found) -> Option<&[Value]>
+    ensures { option_map (λ v. v.now) result ≡ seen found.now }
+{
+    if found.complete {
+        Some(&found.values)
+    } else {
+        None
+    }
+}
+
+/// What a statement adds, where the names that it uses are bound.
+#[tactic(auto, unfolding(crate::specs::Changes::change_with))]
+fn change_with(
+    r: &Reader,
+    line: u64,
+    word: Word,
+    name: Option<Name>,
+    found: &Found,
+) -> Option<Change>
     requires { IsReader r.now }
-    ensures { result ≡ change_of r.now.said line word name (texts options.now) }
+    ensures { result ≡ change_with r.now.said.current.statements line word name (seen found.now) }
 {
     match word {
-        Word::Node => Change::Node(settings_in(options)),
+        Word::Node => Some(Change::Node(settings_with(all_of(found)?)?)),
         Word::Caller => match name {
-            Some(name) => Change::Caller(name),
-            None => Change::Node(settings_in(options)),
+            Some(name) => Some(Change::Caller(name)),
+            None => None,
         },
         _ => {
-            let deed = deed_of(r, word, text_of_name(&name), options);
+            let place = use_in(r, word.naming(), &name)?;
+            let deed = deed_with(word, place, all_of(found)?)?;
             let name = bound_name(word.naming(), name);
-            Change::Statement(Statement { line, name, deed })
+            Some(Change::Statement(Statement { line, name, deed }))
         }
     }
 }
 
-/// Looks for each fault first, and then reads with a default for each option, of which none is needed that isn't the table's.
-#[tactic(auto, unfolding(crate::specs::Settled::settled))]
-fn settled(r: &Reader, line: u64, first: &[u8], rest: &[&[u8]]) -> Result<Change, Cause>
+/// What a statement adds, of the values of its options, or its first cause from the values on.
+fn settled(
+    r: &Reader,
+    line: u64,
+    word: Word,
+    name: Option<Name>,
+    options: &[&[u8]],
+    found: &Found,
+) -> Result<Change, Cause>
     requires { IsReader r.now }
-    ensures value { result ≡ settled r.now.said line first.now (texts rest.now) }
-    ensures few { OnOk result (r.now.said.count < 20000) }
+    ensures { result ≡ settled r.now.said line word name (texts options.now) found.now.bad (seen found.now) }
 {
-    let (word, name, options) = heading(r, first, rest)?;
-    check_options(word.fields(), options)?;
-    check_names(r, word, text_of_name(&name), options)?;
-    Ok(change_of(r, line, word, name, options))
+    refuse(found.bad, Cause::BadValue)?;
+    refuse(lacks(word.fields(), options), Cause::OptionMissing)?;
+    refuse(
+        is_taken(r, word.naming(), text_of_name(&name)),
+        Cause::NameTaken,
+    )?;
+    change_with(r, line, word, name, found).ok_or(Cause::NameUnknown)
 }
 
 /// What a statement adds, or its first cause.
-fn statement_of(r: &Reader, line: u64, first: &[u8], rest: &[&[u8]]) -> Result<Change, Cause>
+#[tactic(auto, unfolding(crate::specs::Reading::statement_of))]
+fn statement_of(
+    alloc: Global,
+    r: &Reader,
+    line: u64,
+    first: &[u8],
+    rest: &[&[u8]],
+) -> Result<Result<Change, Cause>, AllocError>
     requires { IsReader r.now }
-    ensures value { result ≡ statement_of r.now.said line first.now (texts rest.now) }
-    ensures few { OnOk result (r.now.said.count < 20000) }
+    ensures value { IfOk result (λ found. found ≡ statement_of r.now.said line first.now (texts rest.now)) }
+    ensures few { IfOk result (λ found. OnOk found (r.now.said.count < 20000)) }
 {
-    settled(r, line, first, rest)
+    let (word, name, options) = match heading(r, first, rest) {
+        Ok(head) => head,
+        Err(cause) => return Ok(Err(cause)),
+    };
+    match check_keys(word.fields(), options) {
+        Ok(()) => {
+            let found = values_in(alloc, r, options, word.fields())?;
+            Ok(settled(r, line, word, name, options, &found))
+        }
+        Err(cause) => Ok(Err(cause)),
+    }
 }
 
-fn words_give(r: &Reader, line: u64, words: &[&[u8]]) -> Result<Option<Change>, Cause>
+fn words_give(
+    alloc: Global,
+    r: &Reader,
+    line: u64,
+    words: &[&[u8]],
+) -> Result<Result<Option<Change>, Cause>, AllocError>
     requires { IsReader r.now }
-    ensures value { result ≡ words_give r.now.said line (texts words.now) }
-    ensures few { IfOk result (λ c. IsSome c → r.now.said.count < 20000) }
+    ensures value { IfOk result (λ found. found ≡ words_give r.now.said line (texts words.now)) }
+    ensures few { IfOk result (λ found. IfOk found (λ c. IsSome c → r.now.said.count < 20000)) }
 {
     match words {
-        [] => Ok(None),
+        [] => Ok(Ok(None)),
         [first, rest @ ..] => {
             if is_comment(first) {
-                return Ok(None);
+                return Ok(Ok(None));
             }
-            Ok(Some(statement_of(r, line, first, rest)?))
+            match statement_of(alloc, r, line, first, rest)? {
+                Ok(change) => Ok(Ok(Some(change))),
+                Err(cause) => Ok(Err(cause)),
+            }
         }
     }
 }
@@ -168,5 +206,5 @@ pub fn line_gives(
         return Ok(Err(Cause::BadByte));
     }
     let words = words_of(alloc, text)?;
-    Ok(words_give(r, line, &words))
+    words_give(alloc, r, line, &words)
 }

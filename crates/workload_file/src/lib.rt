@@ -5,6 +5,7 @@ mod changes;
 mod cut;
 mod deeds;
 mod faults;
+mod found;
 mod grammar;
 mod index;
 mod laws;
@@ -25,6 +26,7 @@ pub use faults::{Cause, LoadError};
 pub use laws::{law_again, law_causes, law_converse, law_formed, law_shared};
 pub use load::read_workload;
 pub use name::Name;
+pub use names::has_begin;
 pub use page::text_of;
 pub use workload::{Deed, Part, PartList, Statement, StatementList, Workload};
 

@@ -1,8 +1,8 @@
 //! A workload from a source.
-ghost use Rattle.std.specs.Prelude.{◌≡◌, ◌<◌, ◌≤◌, ◌^◌, ◌+◌, length, IfOk, IfSome, IsErrOf, Ok};
+ghost use Rattle.std.specs.Prelude.{◌≡◌, ◌<◌, ◌≤◌, ◌^◌, ◌+◌, length, IfOk, OnOk, IfSome, IsErrOf, Ok};
 ghost use Rattle.number_text.specs.Lists.{between};
 ghost use Rattle.workload_file.specs.Reading.{line_adds, lines_add, start, workload_of, finished, Gives};
-ghost use Rattle.workload_file.specs.Indexed.{IsReader, said_of};
+ghost use Rattle.workload_file.specs.Indexed.{IsReader, said_of, said_then};
 ghost use Rattle.workload_file.specs.Loading.{Loads, ReadsClean, HoldsBut};
 ghost use Rattle.workload_file.specs.Formed.{WellFormed};
 ghost use Rattle.byte_io.specs.Causes.{Rose};
@@ -20,14 +20,17 @@ use number_text::cut_at;
 use std::alloc::Global;
 
 #[tactic(auto, unfolding(crate::specs::Reading::line_adds, crate::specs::Reading::with_change))]
-fn add_line(alloc: Global, r: Reader, line: u64, text: &[u8]) -> Result<Reader, LineError>
-    requires { IsReader r }
-    ensures value { Gives (said_of result) (line_adds r.said line text.now) }
-    ensures reader { IfOk result (λ s. IsReader s) }
+fn add_line(alloc: Global, r: &mut Reader, line: u64, text: &[u8]) -> Result<(), LineError>
+    requires { IsReader r.old }
+    ensures value { Gives (said_then result r.new.said) (line_adds r.old.said line text.now) }
+    ensures reader { OnOk result (IsReader r.new) }
 {
-    match line_gives(alloc, &r, line, text)? {
-        Ok(Some(change)) => Ok(with_change(alloc, r, line, change)?),
-        Ok(None) => Ok(r),
+    match line_gives(alloc, r, line, text)? {
+        Ok(Some(change)) => {
+            with_change(alloc, r, line, change)?;
+            Ok(())
+        }
+        Ok(None) => Ok(()),
         Err(cause) => Err(LineError::Refused(Fault { line, cause })),
     }
 }
@@ -72,7 +75,7 @@ fn read_lines(alloc: Global, first: Reader, bytes: &[u8]) -> Result<Reader, Line
     let mut left = Some(bytes);
     'lines: while let Some(rest) = left {
         let (text, after) = cut_at(rest, b'\n');
-        r = add_line(alloc, r, line, text)?;
+        add_line(alloc, &mut r, line, text)?;
         line += 1;
         left = after;
     }
@@ -114,8 +117,15 @@ fn formed_workload_of(alloc: Global, bytes: &[u8]) -> Result<Workload, LineError
 }
 
 /// Reads a workload from a source, to its end or to one byte past 1,048,576 bytes. Ok exactly where the bytes are of the
-/// grammar and memory suffices; Refused at the first faulty line with its first cause; TooLong where the source gave more bytes;
-/// Read only where its count of faults rose.
+/// grammar and memory suffices.
+///
+/// # Errors
+///
+/// - `Memory`: memory ran out.
+/// - `Read`: a read failed, and the source's count of faults rose.
+/// - `TooLong`: the source gave more than 1,048,576 bytes.
+/// - `Refused`: the bytes are not of the grammar. It has the first faulty line, counted from 1,
+///   and its first cause.
 #[tactic(auto, using(crate::proofs::Taken::long_clean))]
 pub fn read_workload<S: Source>(alloc: Global, src: &mut S) -> Result<Workload, LoadError>
     ensures exact { IfSome (S.left src.old) (λ bytes. Loads bytes (S.left src.new) result) }

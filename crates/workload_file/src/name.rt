@@ -54,7 +54,11 @@ pub fn is_name(text: &[u8]) -> bool
 }
 
 impl Name {
-    /// The name of these bytes. None exactly where they are no name. It takes no memory.
+    /// The name of these bytes. It takes no memory.
+    ///
+    /// # Errors
+    ///
+    /// - `None`: the bytes are no name: a letter a to z, and at most 15 of a to z, 0 to 9 and `_`.
     pub fn new(text: &[u8]) -> Option<Name>
         ensures { result ≡ (if is_name text.now then Some text.now else None) }
     {

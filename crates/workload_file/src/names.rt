@@ -4,14 +4,14 @@ ghost use Rattle.std.specs.Option.{option_map};
 ghost use Rattle.std.specs.List.{list_any};
 ghost use Rattle.std.specs.Str.{bytes_eq};
 ghost use Rattle.workload_file.specs.Texts.{texts};
+ghost use Rattle.workload_file.specs.Changes.{use_in};
 ghost use Rattle.workload_file.specs.Deeds.{binds, is_begin};
-ghost use Rattle.workload_file.specs.Names.{is_binding, place_of, split_name, is_taken, is_unbound, is_unbound_value, has_unbound, is_misplaced, is_ninth_caller};
+ghost use Rattle.workload_file.specs.Names.{is_binding, place_of, split_name, is_taken, is_misplaced, is_ninth_caller};
 ghost use Rattle.workload_file.specs.Indexed.{IsReader};
 
 use crate::name::Name;
-use crate::options::{field_of, value_of};
 use crate::reading::Reader;
-use crate::table::{Field, Naming, Shape, Sort, Word};
+use crate::table::{Naming, Sort, Word};
 use crate::workload::{Deed, Part, Statement};
 
 #[tactic(auto, unfolding(crate::specs::Deeds::binds))]
@@ -79,12 +79,14 @@ fn any_part(parts: &[Part], name: &[u8]) -> bool
     parts.iter().any(|p| p.name.as_slice() == name)
 }
 
-fn any_begin(statements: &[Statement]) -> bool
+/// Whether one of the statements is `begin`.
+pub fn has_begin(statements: &[Statement]) -> bool
     ensures { result ≡ list_any (λ s. is_begin s.deed) statements.now }
 {
     statements.iter().any(|s| is_begin(&s.deed))
 }
 
+/// Whether a name that is to be bound is bound already: in the part, or by another part.
 #[tactic(auto, unfolding(crate::specs::Names::is_taken))]
 pub fn is_taken(r: &Reader, naming: Naming, name: &[u8]) -> bool
     requires { IsReader r.now }
@@ -99,45 +101,21 @@ pub fn is_taken(r: &Reader, naming: Naming, name: &[u8]) -> bool
     }
 }
 
-#[tactic(auto, unfolding(crate::specs::Names::is_unbound))]
-pub fn is_unbound(r: &Reader, naming: Naming, name: &[u8]) -> bool
+/// The place of the statement that bound the name that is used, where one has to be used.
+#[tactic(auto, unfolding(crate::specs::Changes::use_in))]
+pub fn use_in(r: &Reader, naming: Naming, name: &Option<Name>) -> Option<Option<u32>>
     requires { IsReader r.now }
-    ensures { result ≡ is_unbound r.now.said naming name.now }
+    ensures { result ≡ use_in r.now.said.current.statements naming name.now }
 {
     match naming {
-        Naming::Uses(sort) => place_of(r, sort, name).is_none(),
-        Naming::Bare | Naming::Caller | Naming::Binds(_) => false,
-    }
-}
-
-#[tactic(auto, unfolding(crate::specs::Names::is_unbound_value))]
-fn is_unbound_value(r: &Reader, shape: Shape, text: &[u8]) -> bool
-    requires { IsReader r.now }
-    ensures { result ≡ is_unbound_value r.now.said shape text.now }
-{
-    match shape {
-        Shape::Named(sort) => place_of(r, sort, text).is_none(),
-        _ => false,
-    }
-}
-
-fn has_unbound(r: &Reader, fields: &[Field], word: &[u8]) -> bool
-    requires { IsReader r.now }
-    ensures { result ≡ has_unbound r.now.said fields.now word.now }
-{
-    match field_of(fields, word) {
-        None => false,
-        Some(field) => is_unbound_value(r, field.shape, value_of(word)),
-    }
-}
-
-pub fn any_unbound(r: &Reader, fields: &[Field], words: &[&[u8]]) -> bool
-    requires { IsReader r.now }
-    ensures { result ≡ list_any (has_unbound r.now.said fields.now) (texts words.now) }
-{
-    match words {
-        [] => false,
-        [word, rest @ ..] => has_unbound(r, fields, word) || any_unbound(r, fields, rest),
+        Naming::Uses(sort) => match name {
+            Some(name) => match place_of(r, sort, name.as_slice()) {
+                Some(place) => Some(Some(place)),
+                None => None,
+            },
+            None => None,
+        },
+        Naming::Bare | Naming::Caller | Naming::Binds(_) => Some(None),
     }
 }
 
@@ -148,6 +126,7 @@ fn is_begin(deed: &Deed) -> bool
     matches!(deed, Deed::Begin)
 }
 
+/// Whether a `node` or `begin` may not stand here.
 #[tactic(auto, unfolding(crate::specs::Names::is_misplaced))]
 pub fn is_misplaced(r: &Reader, word: Word) -> bool
     ensures { result ≡ is_misplaced r.now.said word }
@@ -155,12 +134,13 @@ pub fn is_misplaced(r: &Reader, word: Word) -> bool
     match word {
         Word::Node => r.said.count != 0,
         Word::Begin => {
-            !r.said.before.as_slice().is_empty() || any_begin(r.said.current.statements.as_slice())
+            !r.said.before.as_slice().is_empty() || has_begin(r.said.current.statements.as_slice())
         }
         _ => false,
     }
 }
 
+/// Whether it is a `caller` line behind eight others.
 #[tactic(auto, unfolding(crate::specs::Names::is_ninth_caller))]
 pub fn is_ninth_caller(r: &Reader, word: Word) -> bool
     ensures { result ≡ is_ninth_caller r.now.said word }

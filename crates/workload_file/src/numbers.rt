@@ -1,12 +1,11 @@
 //! The values of options that are no list.
 ghost use Rattle.std.specs.Prelude.{◌≡◌, ◌≤◌, IfSome, option_map};
-ghost use Rattle.mtapi_values.specs.Kinds.{kind_named};
 ghost use Rattle.workload_file.specs.Values.{number, number_within, cores_of, timeout_of, flag_of, mode_of};
 
-use mtapi_values::{Kind, Mask, Timeout};
+use mtapi_values::{Mask, Timeout};
 use number_text::number_within as wide_within;
-use std::str;
 
+/// The number of u32 that a text is, in the one spelling.
 #[tactic(auto, unfolding(crate::specs::Values::number))]
 pub fn number(text: &[u8]) -> Option<u32>
     ensures { result ≡ number text.now }
@@ -15,6 +14,7 @@ pub fn number(text: &[u8]) -> Option<u32>
     Some(n as u32)
 }
 
+/// The number from `low` to `high` that a text is, in the one spelling.
 #[tactic(auto, unfolding(crate::specs::Values::number_within))]
 pub fn number_within(low: u32, high: u32, text: &[u8]) -> Option<u32>
     ensures value { result ≡ number_within low high text.now }
@@ -26,16 +26,7 @@ pub fn number_within(low: u32, high: u32, text: &[u8]) -> Option<u32>
     }
 }
 
-/// The kind that a word names: exactly the words of the kinds are taken.
-pub fn kind_of(text: &[u8]) -> Option<Kind>
-    ensures { result ≡ kind_named text.now }
-{
-    match str::from_utf8(text) {
-        Ok(word) => Kind::from_word(word),
-        Err(_) => None,
-    }
-}
-
+/// The timeout that a text is: `nowait`, `inf`, or the looks after the first, 0 to 1,000,000.
 #[tactic(auto, unfolding(crate::specs::Values::timeout_of))]
 pub fn timeout_of(text: &[u8]) -> Option<Timeout>
     ensures { result ≡ timeout_of text.now }
@@ -52,6 +43,7 @@ pub fn timeout_of(text: &[u8]) -> Option<Timeout>
     }
 }
 
+/// The flag that a text is: `yes` or `no`.
 #[tactic(auto, unfolding(crate::specs::Values::flag_of))]
 pub fn flag_of(text: &[u8]) -> Option<bool>
     ensures { result ≡ flag_of text.now }
@@ -65,6 +57,7 @@ pub fn flag_of(text: &[u8]) -> Option<bool>
     None
 }
 
+/// Whether a text is `writer`; the other mode is `reader`.
 #[tactic(auto, unfolding(crate::specs::Values::mode_of))]
 pub fn mode_of(text: &[u8]) -> Option<bool>
     ensures { result ≡ mode_of text.now }
@@ -78,6 +71,7 @@ pub fn mode_of(text: &[u8]) -> Option<bool>
     None
 }
 
+/// The mask that a text is: `all`, or ascending cores from 0 to 63 with commas.
 #[tactic(auto, unfolding(crate::specs::Values::cores_of))]
 pub fn cores_of(text: &[u8]) -> Option<Mask>
     ensures { option_map (λ m. m.0) result ≡ cores_of text.now }

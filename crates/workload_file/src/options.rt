@@ -3,21 +3,19 @@ ghost use Rattle.std.specs.Prelude.{◌≡◌, ◌==◌, Bool};
 ghost use Rattle.std.specs.Option.{option_copied};
 ghost use Rattle.std.specs.List.{list_any, list_all};
 ghost use Rattle.workload_file.specs.Texts.{texts};
-ghost use Rattle.workload_file.specs.Options.{key_of, value_of, field_of, is_known, has_twice, is_value, has_value, gives, is_refused, is_missing, text_of};
+ghost use Rattle.workload_file.specs.Options.{key_of, value_of, field_of, is_known, has_twice, gives, is_refused, is_missing, text_of};
 ghost use Rattle.std.specs.Str.{bytes_eq};
 
-use crate::name::is_name;
-use crate::numbers::{cores_of, flag_of, kind_of, mode_of, number_within, timeout_of};
-use crate::table::{Absent, Field, Key, Shape};
-use number_text::{cut_at, list_of, whole};
+use crate::table::{Absent, Field, Key};
+use number_text::cut_at;
 
-pub fn key_of(word: &[u8]) -> &[u8]
+fn key_of(word: &[u8]) -> &[u8]
     ensures { result.now ≡ key_of word.now }
 {
     cut_at(word, b'=').0
 }
 
-pub fn value_of(word: &[u8]) -> &[u8]
+fn value_of(word: &[u8]) -> &[u8]
     ensures { result.now ≡ value_of word.now }
 {
     match cut_at(word, b'=').1 {
@@ -26,7 +24,7 @@ pub fn value_of(word: &[u8]) -> &[u8]
     }
 }
 
-pub fn field_of(fields: &[Field], word: &[u8]) -> Option<Field>
+fn field_of(fields: &[Field], word: &[u8]) -> Option<Field>
     ensures { result ≡ field_of fields.now word.now }
 {
     let key = key_of(word);
@@ -66,42 +64,6 @@ pub fn has_twice(words: &[&[u8]]) -> bool
     match words {
         [] => false,
         [word, rest @ ..] => gives_key(rest, key_of(word)) || has_twice(rest),
-    }
-}
-
-#[tactic(auto, unfolding(crate::specs::Options::is_value))]
-fn is_value(shape: Shape, text: &[u8]) -> bool
-    ensures { result ≡ is_value shape text.now }
-{
-    match shape {
-        Shape::Number(low, high) => number_within(low, high, text).is_some(),
-        Shape::Whole => whole(text).is_some(),
-        Shape::Flag => flag_of(text).is_some(),
-        Shape::Mode => mode_of(text).is_some(),
-        Shape::Args => list_of(text).is_some(),
-        Shape::Cores => cores_of(text).is_some(),
-        Shape::Kind => kind_of(text).is_some(),
-        Shape::Timeout => timeout_of(text).is_some(),
-        Shape::Named(_) => is_name(text),
-    }
-}
-
-fn has_value(fields: &[Field], word: &[u8]) -> bool
-    ensures { result ≡ has_value fields.now word.now }
-{
-    match field_of(fields, word) {
-        Some(field) => is_value(field.shape, value_of(word)),
-        None => false,
-    }
-}
-
-/// Whether each value is one of its option.
-pub fn all_valued(fields: &[Field], words: &[&[u8]]) -> bool
-    ensures { result ≡ list_all (has_value fields.now) (texts words.now) }
-{
-    match words {
-        [] => true,
-        [word, rest @ ..] => has_value(fields, word) && all_valued(fields, rest),
     }
 }
 

@@ -7,9 +7,9 @@ ghost use Rattle.number_text.specs.Lists.{led};
 ghost use Rattle.workload_file.specs.Reading.{workload_of};
 
 use crate::name::Name;
-use crate::table::{Sort, Word};
+use crate::table::Word;
 use crate::text::{name_at, push_options};
-use crate::values::{place_used, setting_values, values, word_for};
+use crate::values::{deed_spelled, setting_values};
 use crate::workload::{Part, Statement, Workload};
 use mtapi_values::NodeAttr;
 use std::alloc::{AllocError, Global};
@@ -51,15 +51,11 @@ fn push_bound(out: &mut Vec<u8>, name: &Option<Name>) -> Result<(), AllocError>
     }
 }
 
-fn push_used(
-    out: &mut Vec<u8>,
-    before: &[Statement],
-    used: Option<(Sort, u32)>,
-) -> Result<(), AllocError>
+fn push_used(out: &mut Vec<u8>, before: &[Statement], used: Option<u32>) -> Result<(), AllocError>
     ensures { OnOk result (out.new.items ≡ out.old.items ++ led 32 (used_words before.now used)) }
 {
     match used {
-        Some((_, place)) => push_word(out, name_at(before, place)),
+        Some(place) => push_word(out, name_at(before, place)),
         None => Ok(()),
     }
 }
@@ -73,11 +69,10 @@ fn push_statement(
 ) -> Result<(), AllocError>
     ensures { OnOk result (out.new.items ≡ out.old.items ++ statement_text before.now statement.now) }
 {
-    let word = word_for(&statement.deed);
+    let (word, place, values) = deed_spelled(alloc, &statement.deed)?;
     out.extend_from_slice(word.text())?;
     push_bound(out, &statement.name)?;
-    push_used(out, before, place_used(&statement.deed))?;
-    let values = values(alloc, &statement.deed)?;
+    push_used(out, before, place)?;
     push_options(alloc, out, before, word.fields(), &values)
 }
 
@@ -163,6 +158,10 @@ fn lay_parts(alloc: Global, page: &mut Page, parts: &[Part]) -> Result<(), Alloc
 
 /// The canonical text: each statement on its own line, words joined by one space, options in the order of the
 /// table and left out where they have their defaults, and no line feed behind the last line.
+///
+/// # Errors
+///
+/// - `AllocError`: memory ran out.
 pub fn text_of(alloc: Global, load: &Workload) -> Result<Vec<u8>, AllocError>
     ensures canonical { IfOk result (λ text. text.items ≡ canonical load.now) }
     // For a workload that was read, reading this text gives the same workload, and it is no longer than what was read.

@@ -424,6 +424,7 @@ impl Word {
         self.row().fields
     }
 
+    /// The statement with this first word.
     #[tactic(auto, unfolding(crate::specs::Table::word_of))]
     pub fn from_text(text: &[u8]) -> Option<Word>
         ensures { result ≡ word_of text.now }
@@ -433,6 +434,7 @@ impl Word {
 }
 
 impl Key {
+    /// The key as it stands before `=`.
     #[tactic(auto, unfolding(crate::specs::Table::key_text))]
     pub fn text(self) -> &'static [u8]
         ensures { result.now ≡ key_text self }

@@ -192,7 +192,11 @@ impl StatementList {
         }
     }
 
-    /// Appends a statement. Where memory runs out the list stays as it was.
+    /// Appends a statement.
+    ///
+    /// # Errors
+    ///
+    /// - `AllocError`: memory ran out. The list stays as it was.
     pub fn push(&mut self, statement: Statement) -> Result<(), AllocError>
         ensures ok { OnOk result (self.new ≡ self.old ++ statement ∷ []) }
         ensures err { OnErr result (self.new ≡ self.old) }
@@ -242,7 +246,11 @@ impl PartList {
         }
     }
 
-    /// Appends a part. Where memory runs out the list stays as it was.
+    /// Appends a part.
+    ///
+    /// # Errors
+    ///
+    /// - `AllocError`: memory ran out. The list stays as it was.
     pub fn push(&mut self, part: Part) -> Result<(), AllocError>
         ensures ok { OnOk result (self.new ≡ self.old ++ part ∷ []) }
         ensures err { OnErr result (self.new ≡ self.old) }

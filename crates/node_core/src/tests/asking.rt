@@ -115,6 +115,10 @@ pub(crate) enum Deed {
     Finish(Kind, Numbers),
     Asked,
     WatchEnd,
+    TallyLock,
+    TallyRead,
+    TallyWrite(i64),
+    TallyEnd,
     GroupDelete,
     All(bool),
     Any(bool),
@@ -176,8 +180,15 @@ pub(crate) enum Ask {
 pub(crate) fn kind_of(deed: Deed) -> ObjectKind {
     match deed {
         Deed::ActionDelete | Deed::ActionDisable | Deed::ActionEnable => ObjectKind::Action,
-        Deed::Look(_) | Deed::Cancel | Deed::Finish(_, _) | Deed::Asked | Deed::WatchEnd =>
-            ObjectKind::Task,
+        Deed::Look(_)
+        | Deed::Cancel
+        | Deed::Finish(_, _)
+        | Deed::Asked
+        | Deed::WatchEnd
+        | Deed::TallyLock
+        | Deed::TallyRead
+        | Deed::TallyWrite(_)
+        | Deed::TallyEnd => ObjectKind::Task,
         Deed::StartIn(_) | Deed::DetachedIn | Deed::GroupDelete | Deed::All(_) | Deed::Any(_) =>
             ObjectKind::Group,
         Deed::Enqueue(_)
@@ -288,6 +299,10 @@ fn on_object(deed: Deed, number: u64) -> Op {
         },
         Deed::Asked => Op::Asked { task },
         Deed::WatchEnd => Op::WatchEnd { task },
+        Deed::TallyLock => Op::TallyLock { task },
+        Deed::TallyRead => Op::TallyRead { task },
+        Deed::TallyWrite(value) => Op::TallyWrite { task, value },
+        Deed::TallyEnd => Op::TallyEnd { task },
         deed => on_lock(deed, number),
     }
 }
@@ -506,10 +521,15 @@ impl Called {
     /// A new node of this size, with two priorities and with a journal.
     pub(crate) fn new(alloc: Global, size: Size) -> Result<Called, Fail> {
         let attr = attributes(size).ok_or("a setting")?;
-        if size.callers < 1 || size.callers > 9 {
+        Called::with(alloc, attr, size.callers)
+    }
+
+    /// A new node with these settings and with a journal, for 1 to 9 callers.
+    pub(crate) fn with(alloc: Global, attr: NodeAttr, callers: u32) -> Result<Called, Fail> {
+        if callers < 1 || callers > 9 {
             return Err("callers".into());
         }
-        let node = Journaled::with(alloc, Node::init(alloc, attr, size.callers)?);
+        let node = Journaled::with(alloc, Node::init(alloc, attr, callers)?);
         let layout = node.told_terms().node.layout;
         Ok(Called {
             node,

@@ -7,7 +7,8 @@ use crate::tests::asking::Deed::{
     ActionDelete, ActionDisable, ActionEnable, All, Any, Asked, Cancel, DetachedIn, Enqueue,
     EnqueueDetached, EnqueueIn, Finish, GroupDelete, Look, MutexDelete, MutexLook, MutexUnlock,
     QueueDelete, QueueDisable, QueueEnable, RwlDelete, RwlLook, RwlUnlock, SemDelete, SemLook,
-    SemUnlock, ShmemAttach, ShmemDelete, ShmemDetach, ShmemRead, ShmemWrite, StartIn, WatchEnd,
+    SemUnlock, ShmemAttach, ShmemDelete, ShmemDetach, ShmemRead, ShmemWrite, StartIn, TallyEnd,
+    TallyLock, TallyRead, TallyWrite, WatchEnd,
 };
 use crate::tests::asking::End::Cancelled;
 use crate::tests::asking::Numbers::{No, One};
@@ -54,7 +55,7 @@ const NO_SHM: Told = Mrapi(MrapiStatus::ErrShmInvalid);
 const PARAMETER: Told = Mtapi(MtapiStatus::ErrParameter);
 
 /// Each op that names an object: who asks, in which phases the object is looked for, and the reply where none has the handle.
-const OPS: [(u32, Deed, Looks, Told); 45] = [
+const OPS: [(u32, Deed, Looks, Told); 53] = [
     (MAIN, ActionDelete, Looks::Open, NO_ACTION),
     (MAIN, ActionDisable, Looks::Open, NO_ACTION),
     (MAIN, ActionEnable, Looks::Open, NO_ACTION),
@@ -71,9 +72,17 @@ const OPS: [(u32, Deed, Looks, Told); 45] = [
     (WORKER, Finish(Kind::Add, One(1)), Looks::Always, NO_TASK),
     (WORKER, Asked, Looks::Always, NO_TASK),
     (WORKER, WatchEnd, Looks::Always, NO_TASK),
+    (WORKER, TallyLock, Looks::Always, NO_TASK),
+    (WORKER, TallyRead, Looks::Always, NO_TASK),
+    (WORKER, TallyWrite(1), Looks::Always, NO_TASK),
+    (WORKER, TallyEnd, Looks::Always, NO_TASK),
     (MAIN, Finish(Kind::Add, One(1)), Looks::Always, PARAMETER),
     (MAIN, Asked, Looks::Always, PARAMETER),
     (MAIN, WatchEnd, Looks::Always, PARAMETER),
+    (MAIN, TallyLock, Looks::Always, PARAMETER),
+    (MAIN, TallyRead, Looks::Always, PARAMETER),
+    (MAIN, TallyWrite(1), Looks::Always, PARAMETER),
+    (MAIN, TallyEnd, Looks::Always, PARAMETER),
     (MAIN, GroupDelete, Looks::Open, NO_GROUP),
     (MAIN, All(false), Looks::OpenAndClosing, NO_GROUP),
     (MAIN, All(true), Looks::OpenAndClosing, NO_GROUP),

@@ -297,9 +297,21 @@ impl Plain {
             Deed::ActionEnable => self.action_enable(which),
             Deed::Look(last) => self.look(who, which, last),
             Deed::Cancel => self.cancel(which),
-            Deed::Finish(_, _) | Deed::Asked | Deed::WatchEnd if who >= WORKERS => PARAMETER,
+            Deed::Finish(_, _)
+            | Deed::Asked
+            | Deed::WatchEnd
+            | Deed::TallyLock
+            | Deed::TallyRead
+            | Deed::TallyWrite(_)
+            | Deed::TallyEnd
+                if who >= WORKERS => { PARAMETER }
             Deed::Finish(kind, numbers) => self.finish(who, which, kind, numbers),
-            Deed::Asked | Deed::WatchEnd => NO_TASK,
+            Deed::Asked
+            | Deed::WatchEnd
+            | Deed::TallyLock
+            | Deed::TallyRead
+            | Deed::TallyWrite(_)
+            | Deed::TallyEnd => NO_TASK,
             deed => return Ok(self.on_list(deed, which)),
         }))
     }

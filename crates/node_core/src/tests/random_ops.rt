@@ -24,13 +24,13 @@ const SIZE: Size = Size {
 
 /// Numbers by a fixed rule: the upper half of a linear congruential sequence.
 #[derive(Drop)]
-struct Dice {
-    state: u64,
+pub(crate) struct Dice {
+    pub(crate) state: u64,
 }
 
 impl Dice {
-    // A number below this one, which isn't 0.
-    fn below(&mut self, bound: u32) -> u32 {
+    /// A number below this one, which isn't 0.
+    pub(crate) fn below(&mut self, bound: u32) -> u32 {
         self.state = self
             .state
             .wrapping_mul(6364136223846793005)
@@ -39,7 +39,7 @@ impl Dice {
         upper.checked_rem(bound).unwrap_or(0)
     }
 
-    fn coin(&mut self) -> bool {
+    pub(crate) fn coin(&mut self) -> bool {
         self.below(2) == 0
     }
 
@@ -55,7 +55,7 @@ impl Dice {
 
     // What is asked of actions, tasks and groups.
     fn task_deed(&mut self) -> Deed {
-        match self.below(24) {
+        match self.below(26) {
             0 => Deed::ActionDelete,
             1 => Deed::ActionDisable,
             2 | 3 => Deed::ActionEnable,
@@ -69,7 +69,18 @@ impl Dice {
             17 => Deed::GroupDelete,
             18 | 19 => Deed::All(self.coin()),
             20..=22 => Deed::Any(self.coin()),
+            23 => self.tally_deed(),
             _ => Deed::Finish(Kind::Add, self.numbers()),
+        }
+    }
+
+    // What is asked of tallies. These nodes run none, so no worker has one.
+    fn tally_deed(&mut self) -> Deed {
+        match self.below(4) {
+            0 => Deed::TallyLock,
+            1 => Deed::TallyRead,
+            2 => Deed::TallyWrite(1),
+            _ => Deed::TallyEnd,
         }
     }
 

@@ -11,7 +11,14 @@ use node_core::Op;
 use std::sync::Wait;
 
 impl<'a> Caller<'a> {
-    /// The job, where a live action has it.
+    /// Gives the job, where a live action has it.
+    ///
+    /// Stands for `mtapi_job_get`.
+    ///
+    /// # Errors
+    ///
+    /// - `ErrNodeNotinit`: the node isn't open or closing.
+    /// - `ErrJobInvalid`: no live action has the job.
     pub fn job_get<R: Wait>(&mut self, rt: &R, job: u32) -> Result<JobHandle, MtapiStatus>
         ensures { Called mtapi (the_job job) (op.JobGet job) self.old self.new (with_number (λ j. j.0) result) }
     {
@@ -21,7 +28,15 @@ impl<'a> Caller<'a> {
         }
     }
 
-    /// Makes an action of this job, which is enabled.
+    /// Makes an enabled action of this job, 1 to 65,535, with the affinity of `attr`.
+    ///
+    /// Stands for `mtapi_action_create`.
+    ///
+    /// # Errors
+    ///
+    /// - `ErrNodeNotinit`: the node isn't open.
+    /// - `ErrJobInvalid`: the job isn't 1 to 65,535.
+    /// - `ErrActionLimit`: there is no room for a further action.
     pub fn action_create<R: Wait>(
         &mut self,
         rt: &R,
@@ -44,7 +59,15 @@ impl<'a> Caller<'a> {
         }
     }
 
-    /// Gives an action up. Tasks that no worker can take any more fail.
+    /// Gives an action up. Tasks that haven't begun and that no worker can take any more fail with
+    /// `ErrActionDeleted`.
+    ///
+    /// Stands for `mtapi_action_delete`.
+    ///
+    /// # Errors
+    ///
+    /// - `ErrNodeNotinit`: the node isn't open.
+    /// - `ErrActionInvalid`: the action isn't live.
     pub fn action_delete<R: Wait>(
         &mut self,
         rt: &R,
@@ -55,7 +78,14 @@ impl<'a> Caller<'a> {
         self.mtapi_done(rt, Op::ActionDelete { action })
     }
 
-    /// Lets an action be taken again for tasks of its job.
+    /// Lets an action be taken again for tasks of its job. An enabled one stays as it is.
+    ///
+    /// Stands for `mtapi_action_enable`.
+    ///
+    /// # Errors
+    ///
+    /// - `ErrNodeNotinit`: the node isn't open.
+    /// - `ErrActionInvalid`: the action isn't live.
     pub fn action_enable<R: Wait>(
         &mut self,
         rt: &R,
@@ -66,7 +96,15 @@ impl<'a> Caller<'a> {
         self.mtapi_done(rt, Op::ActionEnable { action })
     }
 
-    /// An action isn't taken any more. Tasks that no worker can take any more fail.
+    /// Has an action be taken no more. Tasks that haven't begun and that no worker can take any
+    /// more fail with `ErrActionDisabled`.
+    ///
+    /// Stands for `mtapi_action_disable`.
+    ///
+    /// # Errors
+    ///
+    /// - `ErrNodeNotinit`: the node isn't open.
+    /// - `ErrActionInvalid`: the action isn't live.
     pub fn action_disable<R: Wait>(
         &mut self,
         rt: &R,

@@ -1,20 +1,27 @@
 //! The calls on groups.
 
 ghost use Rattle.mtapi_values.specs.Timeouts.{looks_of};
-ghost use Rattle.sched_threads.specs.declared.looks.Wanted.TheVariants.{AllMembers, FirstMember};
+ghost use Rattle.sched_workers.specs.declared.calls.Wanted.TheVariants.{AllMembers, FirstMember};
 ghost use Rattle.mtapi_machine.specs.declared.ops.Op.TheVariants as op;
 ghost use Rattle.sched_threads.specs.Replies.{done, handle, given, mtapi};
 ghost use Rattle.sched_threads.specs.Answers.{Called, Waited, with_number};
 
 use crate::callers::Caller;
 use crate::callers::answers::{done, given};
-use crate::looks::Wanted;
 use mtapi_values::{GroupHandle, MtapiStatus, TaskEnd, TaskHandle, Timeout};
 use node_core::Op;
+use sched_workers::Wanted;
 use std::sync::Wait;
 
 impl<'a> Caller<'a> {
     /// Makes a group without members.
+    ///
+    /// Stands for `mtapi_group_create`.
+    ///
+    /// # Errors
+    ///
+    /// - `ErrNodeNotinit`: the node isn't open.
+    /// - `ErrGroupLimit`: there is no room for a further group.
     pub fn group_create<R: Wait>(&mut self, rt: &R) -> Result<GroupHandle, MtapiStatus>
         ensures { Called mtapi handle op.GroupCreate self.old self.new (with_number (λ h. h.0) result) }
     {
@@ -24,14 +31,32 @@ impl<'a> Caller<'a> {
         }
     }
 
-    /// Gives a group up. Its members become detached.
+    /// Gives a group up. Its members that haven't ended become detached, and the others stop being
+    /// live.
+    ///
+    /// Stands for `mtapi_group_delete`.
+    ///
+    /// # Errors
+    ///
+    /// - `ErrNodeNotinit`: the node isn't open.
+    /// - `ErrGroupInvalid`: the group isn't live.
     pub fn group_delete<R: Wait>(&mut self, rt: &R, group: GroupHandle) -> Result<(), MtapiStatus>
         ensures { Called mtapi done (op.GroupDelete group) self.old self.new result }
     {
         self.mtapi_done(rt, Op::GroupDelete { group })
     }
 
-    /// Waits until all members of a group have ended, and frees them. Where one wasn't completed, the first such end in the order of ends is the answer.
+    /// Waits until all members of a group have ended, and frees them. The group stays live.
+    ///
+    /// Stands for `mtapi_group_wait_all`.
+    ///
+    /// # Errors
+    ///
+    /// - `ErrNodeNotinit`: the node isn't open or closing.
+    /// - `ErrGroupInvalid`: the group isn't live.
+    /// - `Timeout`: the looks are used up, and a member hasn't ended.
+    /// - `ErrTaskCancelled`: the first member that wasn't completed, in the order of ends, was
+    ///   cancelled; where it failed, the status with which it did. All are freed nonetheless.
     pub fn group_wait_all<R: Wait>(
         &mut self,
         rt: &R,
@@ -43,7 +68,17 @@ impl<'a> Caller<'a> {
         done(self.within(rt, Wanted::AllMembers(group), timeout))
     }
 
-    /// Waits for the member of a group that ended first, and hands it out with its end. `GroupCompleted` where the group has none any more.
+    /// Waits for the member of a group that ended first, and hands it out with its end. The member
+    /// is no longer live then.
+    ///
+    /// Stands for `mtapi_group_wait_any`.
+    ///
+    /// # Errors
+    ///
+    /// - `ErrNodeNotinit`: the node isn't open or closing.
+    /// - `ErrGroupInvalid`: the group isn't live.
+    /// - `GroupCompleted`: the group has no member any more.
+    /// - `Timeout`: the looks are used up, and no member has ended.
     pub fn group_wait_any<R: Wait>(
         &mut self,
         rt: &R,

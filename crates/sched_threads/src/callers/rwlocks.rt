@@ -2,20 +2,30 @@
 
 ghost use Rattle.std.specs.Prelude.{Some};
 ghost use Rattle.mtapi_values.specs.Timeouts.{looks_of};
-ghost use Rattle.sched_threads.specs.declared.looks.Wanted.TheVariants.{Rwl};
+ghost use Rattle.sched_workers.specs.declared.calls.Wanted.TheVariants.{Rwl};
 ghost use Rattle.mtapi_machine.specs.declared.ops.Op.TheVariants as op;
 ghost use Rattle.sched_threads.specs.Replies.{done, handle, mrapi};
 ghost use Rattle.sched_threads.specs.Answers.{Called, Waited, with_number};
 
 use crate::callers::Caller;
 use crate::callers::answers::resource_done;
-use crate::looks::Wanted;
 use mtapi_values::{MrapiStatus, RwlHandle, Timeout};
 use node_core::Op;
+use sched_workers::Wanted;
 use std::sync::Wait;
 
 impl<'a> Caller<'a> {
-    /// Makes a reader-writer lock for at most `limit` readers. No live one has its id.
+    /// Makes a reader-writer lock, under any id, for one writer or at most `limit` readers, 1 to
+    /// 32.
+    ///
+    /// Stands for `mrapi_rwl_create`.
+    ///
+    /// # Errors
+    ///
+    /// - `ErrNodeNotinit`: the node isn't open.
+    /// - `ErrParameter`: the limit is outside its range.
+    /// - `ErrRwlExists`: a live lock has the id.
+    /// - `ErrRwlLimit`: there is no room for a further lock.
     pub fn rwl_create<R: Wait>(
         &mut self,
         rt: &R,
@@ -30,7 +40,14 @@ impl<'a> Caller<'a> {
         }
     }
 
-    /// The live reader-writer lock of this id.
+    /// Gives the live reader-writer lock of this id.
+    ///
+    /// Stands for `mrapi_rwl_get`.
+    ///
+    /// # Errors
+    ///
+    /// - `ErrNodeNotinit`: the node isn't open or closing.
+    /// - `ErrRwlIdInvalid`: no live lock has the id.
     pub fn rwl_get<R: Wait>(&mut self, rt: &R, id: u32) -> Result<RwlHandle, MrapiStatus>
         ensures { Called mrapi handle (op.RwlGet id) self.old self.new (with_number (λ h. h.0) result) }
     {
@@ -41,6 +58,14 @@ impl<'a> Caller<'a> {
     }
 
     /// Gives a reader-writer lock up that nobody holds.
+    ///
+    /// Stands for `mrapi_rwl_delete`.
+    ///
+    /// # Errors
+    ///
+    /// - `ErrNodeNotinit`: the node isn't open.
+    /// - `ErrRwlInvalid`: the lock isn't live.
+    /// - `ErrRwlLocked`: some seat holds it, as a reader or as the writer.
     pub fn rwl_delete<R: Wait>(&mut self, rt: &R, rwl: RwlHandle) -> Result<(), MrapiStatus>
         ensures { Called mrapi done (op.RwlDelete rwl) self.old self.new result }
     {
@@ -48,6 +73,15 @@ impl<'a> Caller<'a> {
     }
 
     /// Holds a reader-writer lock, as the writer or as a reader.
+    ///
+    /// Stands for `mrapi_rwl_lock`; a timeout is a number of looks.
+    ///
+    /// # Errors
+    ///
+    /// - `ErrNodeNotinit`: the node isn't open or closing.
+    /// - `ErrRwlInvalid`: the lock isn't live.
+    /// - `ErrRwlLocked`: this caller holds it, in either mode.
+    /// - `Timeout`: the looks are used up, and the lock can't be had in this mode.
     pub fn rwl_lock<R: Wait>(
         &mut self,
         rt: &R,
@@ -61,6 +95,8 @@ impl<'a> Caller<'a> {
     }
 
     /// Holds a reader-writer lock, as the writer or as a reader, where one look finds that it can.
+    ///
+    /// Stands for `mrapi_rwl_trylock`. It refuses what `rwl_lock` does.
     pub fn rwl_trylock<R: Wait>(
         &mut self,
         rt: &R,
@@ -73,6 +109,14 @@ impl<'a> Caller<'a> {
     }
 
     /// Gives back what it holds as the writer or as a reader.
+    ///
+    /// Stands for `mrapi_rwl_unlock`.
+    ///
+    /// # Errors
+    ///
+    /// - `ErrNodeNotinit`: the node isn't open or closing.
+    /// - `ErrRwlInvalid`: the lock isn't live.
+    /// - `ErrRwlNotlocked`: this caller doesn't hold it in this mode.
     pub fn rwl_unlock<R: Wait>(
         &mut self,
         rt: &R,

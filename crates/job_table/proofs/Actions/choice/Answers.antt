@@ -7,7 +7,7 @@ use Rattle.mtapi_objects.specs.Actions.{Action}
 use Rattle.job_table.specs.Answers.{Passes, runs_job_on}
 use Rattle.job_table.specs.Cover.{NoneBefore}
 use Rattle.job_table.proofs.CoverLemmas.{NoneBefore-zero, NoneBefore-one, none-of, runs-job}
-use Rattle.job_table.proofs.ListedLemmas.{past-none, live-at, some-is}
+use Rattle.job_table.proofs.ListedLemmas.{past-none, live-at}
 use Rattle.job_table.proofs.Actions.choice.Goals as goal
 
 pub loop-index-init : goal.loop-index-init
@@ -17,9 +17,6 @@ pub unreachable-requires : goal.unreachable-requires
 unreachable-requires c =
     let hs = list_at c.self.inside.jobs.lists (c.args.job % c.max.result) in
     past-none hs c.loop-index._index (omega (arith, c.loop-index-test.true, c.len-index-end.ensures.count)) (sym c.loop-index.invariant.0 ∙ c.in_default.is)
-
-pub runs_at-requires-clause-live : goal.runs_at-requires-clause-live
-runs_at-requires-clause-live c = some-is _ (live-at c.self.inside.pool c.self.inside.jobs (c.args.job % c.max.result) c.loop-index._index c.in-Some.handle c.self.invariant (sym c.loop-index.invariant.0 ∙ c.in-Some.is))
 
 pub next-next-requires : goal.next-next-requires
 next-next-requires c = (c.args.job % c.max.result, index-has c.in-Some.handle c.loop-index._index (list_at c.self.inside.jobs.lists (c.args.job % c.max.result)) (sym c.loop-index.invariant.0 ∙ c.in-Some.is))

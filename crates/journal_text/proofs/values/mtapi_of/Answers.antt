@@ -1,5 +1,5 @@
 use Rattle.mtapi_values.proofs.ValueTables.{mtapi_finds_each}
-use Rattle.journal_text.proofs.Names.{named_exact, unnamed_exact}
+use Rattle.number_text.proofs.Names.{named_exact, unnamed_exact}
 use Rattle.journal_text.proofs.PlainNames.{mtapi_plain}
 use Rattle.journal_text.proofs.values.mtapi_of.Goals as goal
 

@@ -1,11 +1,12 @@
-use Rattle.std.proofs.Common.{◌∙◌}
+use Rattle.std.proofs.Common.{◌∙◌, ap}
+use Rattle.run_report.specs.Replies.{nows}
 use Rattle.run_report.proofs.Seats.{decided_none, decided_next}
 use Rattle.run_report.proofs.deciding.decided.Goals as goal
 
 pub loop-entry-init : goal.loop-entry-init
-loop-entry-init c = c.new-replies.ensures.items ∙ decided_none c.args.who
+loop-entry-init c = ap nows c.new-replies.ensures.items ∙ decided_none c.args.who
 
 pub loop-entry-preserved : goal.loop-entry-preserved
 loop-entry-preserved c =
-    decided_next c.args.who c.loop-entry.entry-index c.args.entries.now c.entry-item.result c.loop-entry.replies.items c.push_if_decides.new.replies.items
+    decided_next c.args.who c.loop-entry.entry-index c.args.entries.now c.entry-item.result (nows c.loop-entry.replies.items) (nows c.push_if_decides.new.replies.items)
     c.loop-entry-test.true c.entry-item.is c.loop-entry.invariant c.in_ok-push_if_decides.ensures

@@ -1,7 +1,7 @@
+use Rattle.std.specs.Prelude.{nat_eq}
 use Rattle.std.proofs.Common.{◌+◌}
 use Rattle.std.specs.List.{flat_map}
-use Rattle.std.specs.Ordering.{nat_cmp}
-use Rattle.std.specs.BTreeMap.{get}
+use Rattle.std.specs.HashMap.{get}
 use Rattle.run_report.specs.Replies.{reported, further_told}
 use Rattle.run_report.specs.Calls.{task_lines, call_lines}
 use Rattle.run_report.proofs.Zips.{on_ok}
@@ -10,7 +10,7 @@ use Rattle.run_report.proofs.page.push_all.Goals as goal
 
 pub returns-in_ok-push_part-in-len1-up-clause-tasks : goal.returns-in_ok-push_part-in-len1-up-clause-tasks
 returns-in_ok-push_part-in-len1-up-clause-tasks c =
-    let by = task_lines (get nat_cmp c.args.ended.now) in
+    let by = task_lines (get nat_eq c.args.ended.now) in
     let before = c.calls_before.result in
     on_ok c.push_further.result _ _
     (two_pieces c.args.page.now.tasks.items c.push_part.new.page.tasks.items c.push_further.new.page.tasks.items (by (reported c.args.main before c.args.entries.now c.part-item.result))

@@ -1,12 +1,13 @@
+use Rattle.std.specs.Prelude.{nat_eq}
 use Rattle.std.proofs.Common.{◌≡◌, ◌≤◌, ◌+◌, length}
-use Rattle.std.specs.Ordering.{nat_cmp}
-use Rattle.std.specs.BTreeMap.{get}
+use Rattle.std.specs.HashMap.{get}
+use Rattle.run_report.specs.Replies.{nows}
 use Rattle.run_report.specs.Summary.{with_tasks, AreTotals}
 use Rattle.run_report.proofs.totals.with_tasks.Given as goal
 
 abbrev pub invariant-statements : goal.invariant-statements
 invariant-statements l = record {
-  value : with_tasks (get nat_cmp l.ended) l.totals l.statements l.replies ≡ with_tasks (get nat_cmp l.ended) l.initial.totals l.initial.statements l.initial.replies;
+  value : with_tasks (get nat_eq l.ended) l.totals l.statements (nows l.replies) ≡ with_tasks (get nat_eq l.ended) l.initial.totals l.initial.statements (nows l.initial.replies);
   totals : AreTotals l.totals.tasks l.totals;
   tasks : l.totals.tasks + length l.statements ≤ l.initial.totals.tasks + length l.initial.statements;
 }

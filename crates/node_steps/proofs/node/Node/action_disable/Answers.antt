@@ -3,7 +3,7 @@ use Rattle.mtapi_objects.specs.Actions.{with_enabled}
 use Rattle.mtapi_machine.specs.declared.ops.Op.TheVariants as op
 use Rattle.node_steps.proofs.ActionSteps.{not_true, action_absent}
 use Rattle.node_steps.proofs.Gives.{lands, past, at_none}
-use Rattle.node_steps.proofs.WithdrawSteps.{disable_steps, becomes-twice, unserved-before}
+use Rattle.node_steps.proofs.WithdrawSteps.{disable_steps, becomes-twice, unserved-before, served-after}
 use Rattle.node_steps.proofs.node.Node.action_disable.Goals as goal
 
 pub returns-in-Ok : goal.returns-in-Ok
@@ -11,7 +11,8 @@ returns-in-Ok c l who v k =
     let n = c.args.self.now in
     lands n l who _ _ c.end_unserved.new.self _ c.end_unserved.new.self.tasks (becomes-twice n.board c.disable_action.new.self c.end_unserved.new.self _ c.disable_action.ensures.new c.end_unserved.ensures.new)
     (disable_steps n l who c.in-Ok.job c.args.action v k (sym c.if-not-is_open.ensures) (sym c.in-Ok.is ∙ c.disable_action.ensures.reply) c.end_unserved.new.self.tasks
-    (unserved-before n.board c.disable_action.new.self _ _ _ _ c.disable_action.ensures.new c.end_unserved.ensures.ends))
+    (unserved-before n.board c.disable_action.new.self _ _ _ _ c.disable_action.ensures.new
+    (c.end_unserved.ensures.ends (served-after n l c.in-Ok.job c.args.action c.covered-before.result c.disable_action.new.self _ v k (sym c.in-Ok.is ∙ c.disable_action.ensures.reply) c.covered-before.ensures c.disable_action.ensures.new))))
 
 pub returns-in-Err : goal.returns-in-Err
 returns-in-Err c l who v k =

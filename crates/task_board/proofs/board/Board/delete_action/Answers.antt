@@ -1,9 +1,10 @@
-use Rattle.std.proofs.Common.{sym, subst}
+use Rattle.std.proofs.Common.{ℕ, sym, subst}
 use Rattle.handle_pool.specs.Slots.{Slots}
 use Rattle.mtapi_objects.specs.Actions.{Action}
+use Rattle.job_table.specs.Answers.{IsUnion}
 use Rattle.task_board.specs.Board.{BoardTable, IsBoard}
 use Rattle.task_board.proofs.RemarkLemmas.{SameBut, same-without}
-use Rattle.task_board.proofs.BoardLemmas.{remark-board, job-found}
+use Rattle.task_board.proofs.BoardLemmas.{changed-board, job-found}
 use Rattle.task_board.proofs.board.Board.delete_action.Goals as goal
 
 pub invariant_of-self : goal.invariant_of-self
@@ -15,5 +16,5 @@ pub invariant_of-self-2 : goal.invariant_of-self-2
 invariant_of-self-2 c =
     let b : BoardTable = record { settings = c.self.inside.settings; actions = c.self.inside.actions; tasks = c.self.inside.tasks; queues = c.self.inside.queues; ready = c.self.inside.ready; waiting = c.self.inside.waiting; running = c.self.inside.running; groups = c.self.inside.groups } in
     let x = job-found _ c.in_ok-job.job c.in_ok-job.ensures.reply in
-    remark-board b c.delete.new.self c.remark.new.ready c.in_ok-job.job c.self.invariant
-    (subst (λ (p : Slots Action). SameBut c.in_ok-job.job c.self.inside.actions p) (sym c.in_ok-job.ensures.ok) (same-without c.self.inside.actions c.args.a.0 c.in_ok-job.job x.0 x.1 x.2)) c.remark.ensures
+    changed-board b c.delete.new.self c.remark_where_changed.new.ready c.in_ok-job.job c.cores_beside-before.result.0 c.self.invariant
+    (subst (λ (p : Slots Action). SameBut c.in_ok-job.job c.self.inside.actions p) (sym c.in_ok-job.ensures.ok) (same-without c.self.inside.actions c.args.a.0 c.in_ok-job.job x.0 x.1 x.2)) (subst (λ (j : ℕ). IsUnion c.self.inside.actions j c.cores_beside-before.result.0) x.2 (c.cores_beside-before.ensures x.0 x.1)) c.remark_where_changed.ensures

@@ -2,6 +2,7 @@ use Rattle.std.proofs.Common.{◌≡◌, ℕ, ◌<◌, List, [], ◌∷◌, leng
 use Rattle.history.specs.declared.entries.Entry.{Entry}
 use Rattle.turn_cell.specs.Lists.{all_of}
 use Rattle.turn_cell.specs.Seats.{SeatView, IsComplete, IsSeatOf}
+use Rattle.turn_cell.specs.Turns.{boxed_terms, boxed_stands}
 use Rattle.turn_cell.proofs.Ends.{Ended, ends}
 use Rattle.turn_cell.proofs.cell.TurnCell.close.Goals as goal
 
@@ -27,10 +28,14 @@ gather-token-requires-clause-some g c = some_seat _ _ (subst (λ t. 0 < g.O.Obje
 pub unreachable-requires : goal.unreachable-requires
 unreachable-requires g c =
     let complete = subst (λ t. IsComplete (g.O.Object.seat_count t) c.args.seats.items) (sym (ap (λ w. w.terms) c.self.view_is)) c.requires.complete in
-    no_object g.O.Object.terms g.O.Object.seat_count g.O.Object.legal g.O.Object.stands _ _ _ (ends _ _ _ _ _ _ _ _ _ _ _ c.gather-token.ensures.parts complete c.close_with-closed.ensures.values.2 c.take-slot.ensures.value) c.in-None.is
+    no_object (boxed_terms g.O.Object.terms) g.O.Object.seat_count g.O.Object.legal (boxed_stands g.O.Object.stands) _ _ _ (ends _ _ _ _ _ _ _ _ _ _ _ c.gather-token.ensures.parts complete c.close_with-closed.ensures.values.2 c.take-slot.ensures.value) c.in-None.is
 
 pub returns : goal.returns
 returns g c =
     let complete = subst (λ t. IsComplete (g.O.Object.seat_count t) c.args.seats.items) (sym (ap (λ w. w.terms) c.self.view_is)) c.requires.complete in
-    let r = the_object g.O.Object.terms g.O.Object.seat_count g.O.Object.legal g.O.Object.stands _ c.args.self.terms _ _ c.in-Some.object (ends _ _ _ _ _ _ _ _ _ _ _ c.gather-token.ensures.parts complete c.close_with-closed.ensures.values.2 c.take-slot.ensures.value) c.in-Some.is (ap (λ w. w.terms) c.self.view_is) in
-    record { terms = r.0; history = r.1 }
+    let r = the_object (boxed_terms g.O.Object.terms) g.O.Object.seat_count g.O.Object.legal (boxed_stands g.O.Object.stands) _ c.args.self.terms _ _ c.in-Some.object (ends _ _ _ _ _ _ _ _ _ _ _ c.gather-token.ensures.parts complete c.close_with-closed.ensures.values.2 c.take-slot.ensures.value) c.in-Some.is (ap (λ w. w.terms) c.self.view_is) in
+    let out = sym c.into_inner.ensures in
+    record {
+      terms = subst (λ o. g.O.Object.terms o ≡ c.args.self.terms) out r.0;
+      history = subst (λ o. (h : List (Entry g.row.O-Op.Denot g.row.O-Reply.Denot)) × g.O.Object.legal c.args.self.terms h × g.O.Object.stands o h × all_of (IsSeatOf c.args.self.terms h) c.args.seats.items) out r.1;
+    }

@@ -1,7 +1,7 @@
 use Rattle.std.proofs.Common.{arith, ◌≡◌, refl, sym, ap, ◌∙◌}
 use Rattle.history.specs.Histories.{entries_of}
 use Rattle.turn_cell.specs.Seats.{HasSeenMore}
-use Rattle.turn_cell.specs.Turns.{having_seen}
+use Rattle.turn_cell.specs.Turns.{having_seen, boxed_terms, boxed_stands}
 use Rattle.turn_cell.proofs.OnePart.{carried, first_rest, seen_of}
 use Rattle.turn_cell.proofs.Shares.{cuts, glues, gathers, meets}
 use Rattle.turn_cell.proofs.cell.TurnCell.meet.Goals as goal
@@ -21,19 +21,19 @@ split_seat-requires g c = (c.load.ensures.0 ∙ (c.join_seat.ensures.0 ∙ (ap (
 pub invariant_of-a : goal.invariant_of-a
 invariant_of-a g c =
     let v = c.a.invariant in
-    let m = meets g.O.Object.terms g.O.Object.seat_count g.O.Object.legal g.O.Object.stands _ _ _ _ _ _ _ _ _ v.me_is c.b.invariant.me_is c.split_seat-theirs.ensures.4 c.join_seat.ensures.2 c.load.ensures.2 c.split_seat.ensures.2 c.split_seat.ensures.4 in
+    let m = meets (boxed_terms g.O.Object.terms) g.O.Object.seat_count g.O.Object.legal (boxed_stands g.O.Object.stands) _ _ _ _ _ _ _ _ _ v.me_is c.b.invariant.me_is c.split_seat-theirs.ensures.4 c.join_seat.ensures.2 c.load.ensures.2 c.split_seat.ensures.2 c.split_seat.ensures.4 in
     record { part = having_seen m.history v.part; me_is = m.one; idle = v.idle; number_is = v.number_is; shown_is = v.shown_is; lawful = m.first_knows.lawful; own = m.first_knows.own }
 
 pub invariant_of-b : goal.invariant_of-b
 invariant_of-b g c =
     let v = c.b.invariant in
-    let m = meets g.O.Object.terms g.O.Object.seat_count g.O.Object.legal g.O.Object.stands _ _ _ _ _ _ _ _ _ c.a.invariant.me_is v.me_is c.split_seat-theirs.ensures.4 c.join_seat.ensures.2 c.load.ensures.2 c.split_seat.ensures.2 c.split_seat.ensures.4 in
+    let m = meets (boxed_terms g.O.Object.terms) g.O.Object.seat_count g.O.Object.legal (boxed_stands g.O.Object.stands) _ _ _ _ _ _ _ _ _ c.a.invariant.me_is v.me_is c.split_seat-theirs.ensures.4 c.join_seat.ensures.2 c.load.ensures.2 c.split_seat.ensures.2 c.split_seat.ensures.4 in
     record { part = having_seen m.history v.part; me_is = m.two; idle = v.idle; number_is = v.number_is; shown_is = v.shown_is; lawful = m.second_knows.lawful; own = m.second_knows.own }
 
 pub returns : goal.returns
 returns g c =
     let va = c.a.invariant in let vb = c.b.invariant in
-    let m = meets g.O.Object.terms g.O.Object.seat_count g.O.Object.legal g.O.Object.stands _ _ _ _ _ _ _ _ _ va.me_is vb.me_is c.split_seat-theirs.ensures.4 c.join_seat.ensures.2 c.load.ensures.2 c.split_seat.ensures.2 c.split_seat.ensures.4 in
+    let m = meets (boxed_terms g.O.Object.terms) g.O.Object.seat_count g.O.Object.legal (boxed_stands g.O.Object.stands) _ _ _ _ _ _ _ _ _ va.me_is vb.me_is c.split_seat-theirs.ensures.4 c.join_seat.ensures.2 c.load.ensures.2 c.split_seat.ensures.2 c.split_seat.ensures.4 in
     let d = g.O.Object.blank in
     let first = carried
     (λ x y. HasSeenMore x y × g.O.Object.legal y.terms y.seen × (entries_of y.number y.seen ≡ y.mine))

@@ -1,0 +1,111 @@
+-- A follower before the first entry; and what an entry needs beside that its row allows its reply.
+use Rattle.std.proofs.Common.{◌≡◌, ℕ, ◌+◌, ◌≤◌, ◌<◌, Bool, false, List, [], refl, sym, ◌∙◌, ap, subst, arith}
+use Rattle.mtapi_values.specs.declared.handles.ObjectKind.{ObjectKind}
+use Rattle.mtapi_values.specs.declared.handles.ObjectKind.TheVariants as kind
+use Rattle.handle_pool.specs.Slots.{slot_of}
+use Rattle.handle_pool.specs.Issued.{issued_at}
+use Rattle.mtapi_machine.specs.declared.terms.Terms.{Terms}
+use Rattle.mtapi_machine.specs.State.{opening, seats}
+use Rattle.mtapi_machine.specs.Legal.{NodeEntry, IsHonest, after_from, after}
+use Rattle.node_steps.specs.declared.node.Node.{Node}
+use Rattle.node_steps.specs.Stands.{Stands, terms_of, seat_count}
+use Rattle.mtapi_renaming.specs.declared.maps.OtherHandles.{OtherHandles}
+use Rattle.mtapi_renaming.specs.Renaming.{Renaming, nothing}
+use Rattle.mtapi_renaming.specs.Renamed.{terms_in, renamed}
+use Rattle.mtapi_renaming.specs.Follows.{Follows}
+use Rattle.mtapi_renaming.specs.Counts.{made_in, made_at}
+use Rattle.mtapi_renaming.specs.Lasts.{lasts_in, lasts_of}
+use Rattle.mtapi_renaming.specs.Gone.{taken_in}
+use Rattle.mtapi_renaming.specs.Maps.{renaming_of}
+use Rattle.journal_check.specs.declared.following.Following.{Following}
+use Rattle.journal_check.specs.declared.made.Made.{Made}
+use Rattle.journal_check.specs.Made.{count_in, last_handles, made_count, gone_count, freed_count, of_kind}
+use Rattle.journal_check.specs.Laws.{Laws}
+use Rattle.journal_check.specs.Follow.{room_of, HasFollowed, Judges, JudgesNext}
+
+none_made : (k : ObjectKind) (terms : Terms) (h : ℕ) → made_at k (opening terms) h ≡ 0
+unfolding issued_at
+none_made kind.Action terms h = refl
+none_made kind.Task terms h = refl
+none_made kind.Group terms h = refl
+none_made kind.Queue terms h = refl
+none_made kind.Mutex terms h = refl
+none_made kind.Sem terms h = refl
+none_made kind.Rwl terms h = refl
+none_made kind.Shmem terms h = refl
+
+none_last : (k : ObjectKind) (terms : Terms) → lasts_of k (opening terms) ≡ []
+unfolding lasts_in
+none_last kind.Action terms = refl
+none_last kind.Task terms = refl
+none_last kind.Group terms = refl
+none_last kind.Queue terms = refl
+none_last kind.Mutex terms = refl
+none_last kind.Sem terms = refl
+none_last kind.Rwl terms = refl
+none_last kind.Shmem terms = refl
+
+none_in : (k : ObjectKind) (terms : Terms) → made_in k (opening terms) ≡ 0
+none_in kind.Action terms = refl
+none_in kind.Task terms = refl
+none_in kind.Group terms = refl
+none_in kind.Queue terms = refl
+none_in kind.Mutex terms = refl
+none_in kind.Sem terms = refl
+none_in kind.Rwl terms = refl
+none_in kind.Shmem terms = refl
+
+none_yet : (k : ObjectKind) (terms : Terms) → made_in k (opening terms) ≤ 0
+none_yet kind.Action terms = omega arith
+none_yet kind.Task terms = omega arith
+none_yet kind.Group terms = omega arith
+none_yet kind.Queue terms = omega arith
+none_yet kind.Mutex terms = omega arith
+none_yet kind.Sem terms = omega arith
+none_yet kind.Rwl terms = omega arith
+none_yet kind.Shmem terms = omega arith
+
+pub begun : (w : Laws) (terms : Terms) (n : Node) (names : OtherHandles) (made : Made) → Stands n [] → terms_of n ≡ terms_in (room_of terms) terms → renaming_of names ≡ nothing →
+    ((k : ObjectKind) (slot : ℕ) → count_in (of_kind made k) slot ≡ 0) → ((k : ObjectKind) → last_handles (of_kind made k) ≡ []) → ((k : ObjectKind) → made_count (of_kind made k) ≡ 0) →
+    ((k : ObjectKind) → gone_count (of_kind made k) ≡ 0) → ((k : ObjectKind) → freed_count (of_kind made k) ≡ 0) → HasFollowed (record { terms = terms; node = n; names = names; made = made }) []
+unfolding after_from
+begun w terms n names made stands own none counts lasts none_counted none_gone none_freed = record {
+  node = record {
+    own = [];
+    stands = stands;
+    renames = ap opening own ∙ sym (w.opening (room_of terms) terms).renamed ∙ ap (λ (g : Renaming). renamed g (room_of terms) (opening terms)) (sym none);
+    few = omega arith;
+  };
+  terms = own;
+  follows = subst (λ (g : Renaming). Follows g (opening terms)) (sym none) (w.opening (room_of terms) terms).follows;
+  made = record {
+    counts = λ k h. counts k (slot_of h) ∙ sym (none_made k terms h);
+    lasts = λ k. lasts k ∙ sym (none_last k terms);
+    made = λ k. none_counted k ∙ sym (none_in k terms);
+    gone = λ k. let e : gone_count (of_kind made k) ≡ 0 = none_gone k in omega (arith, e);
+    freed = λ k. let e : freed_count (of_kind made k) ≡ 0 = none_freed k in let t : taken_in k (opening terms) ≤ made_in k (opening terms) = (w.gone terms [] k).made in omega (arith, e, t);
+  };
+  few = λ k. none_yet k terms;
+}
+
+module _ (w : Laws) (f : Following) (e : NodeEntry) where
+  -- the node has as many seats
+  same_seats : (L : List NodeEntry) → HasFollowed f L → seats (after f.terms L) ≡ seat_count (terms_of f.node)
+  same_seats L h = ap (λ (t : Terms). t.settings.workers + t.callers) (w.terms f.terms L) ∙ sym (ap seat_count h.terms)
+
+  pub judged_next : (b : Bool) (g : Following) → e.who < seat_count (terms_of f.node) → IsHonest e.op → Judges f e b g → JudgesNext f e b g
+  judged_next b g seat honest j = record {
+    terms = j.terms;
+    exact = λ L h short. (
+      λ p. record { seat = subst (λ (m : ℕ). e.who < m) (sym (same_seats L h)) seat; honest = honest; allowed = (j.exact L h short).0 p },
+      λ i. (j.exact L h short).1 i.allowed,
+    );
+    goes_on = j.goes_on;
+  }
+
+  pub judged_seatless : seat_count (terms_of f.node) ≤ e.who → JudgesNext f e false f
+  judged_seatless none = record {
+    terms = refl;
+    exact = λ L h short. (λ p. absurd (cc), λ i. let a : e.who < seats (after f.terms L) = i.seat in let b = same_seats L h in absurd (omega (arith, a, b, none)));
+    goes_on = λ L h short p. absurd (cc);
+  }

@@ -1,0 +1,57 @@
+-- Prefixes of a list of entries, one entry more, and the first one that isn't legal.
+use Rattle.std.proofs.Common.{◌≡◌, ◌↔◌, ℕ, ◌+◌, ◌≤◌, ◌<◌, List, [], ◌∷◌, ◌++◌, zero, suc, length, take, drop, get_or, refl, sym, ◌∙◌, ap, subst, arith, take-append-drop, take-take}
+use Rattle.std.proofs.lemmas.Grind.{take_at_read}
+use Rattle.mtapi_values.specs.Attributes.{AreNodeSettings}
+use Rattle.mtapi_machine.specs.declared.terms.Terms.{Terms}
+use Rattle.mtapi_machine.specs.State.{opening}
+use Rattle.mtapi_machine.specs.Legal.{NodeEntry, IsNext, LegalFrom, Fits, Legal, after}
+use Rattle.mtapi_machine.proofs.Lists.{Legal-rest, Legal-append, Legal-one, Legal-prefix}
+use Rattle.journal_check.specs.Verdicts.{IsFirstIllegal}
+
+-- terms that no node has: no list is legal
+pub none_legal : (terms : Terms) (L : List NodeEntry) → (Fits terms → ⊥) → IsFirstIllegal terms L 1
+none_legal terms L unfit = record { some = omega arith; illegal = λ h. unfit h.fits; before = λ m one less. absurd (omega (arith, one, less)) }
+
+pub few_callers : (terms : Terms) → terms.callers < 1 → Fits terms → ⊥
+few_callers terms few f = let a : 1 ≤ terms.callers = f.some_caller in omega (arith, a, few)
+
+pub many_callers : (terms : Terms) → 9 < terms.callers → Fits terms → ⊥
+many_callers terms many f = let a : terms.callers ≤ 9 = f.callers in omega (arith, a, many)
+
+-- the empty list
+pub empty_legal : (terms : Terms) → Fits terms → Legal terms []
+unfolding LegalFrom
+empty_legal terms fits = record { fits = fits; from = tt }
+
+pub take_next : (es : List NodeEntry) (i : ℕ) (e : NodeEntry) → i < length es → e ≡ get_or es i e → take (i + 1) es ≡ take i es ++ e ∷ []
+take_next es i e below at = (take_at_read es i e below).1 ∙ ap (λ (x : NodeEntry). take i es ++ x ∷ []) (sym at)
+
+pub legal_more : (terms : Terms) (L : List NodeEntry) (e : NodeEntry) → Legal terms L → IsNext (after terms L) e → Legal terms (L ++ e ∷ [])
+legal_more terms L e h n = record { fits = h.fits; from = Legal-append (opening terms) L (e ∷ []) h.from (Legal-one (after terms L) e n) }
+
+-- a prefix of a prefix
+legal_before : (terms : Terms) (es : List NodeEntry) (m i : ℕ) → m ≤ i → Legal terms (take i es) → Legal terms (take m es)
+legal_before terms es m i within h =
+    let front : take m (take i es) ≡ take m es = take-take m i es within in
+    subst (Legal terms) front (Legal-prefix terms (take m (take i es)) (drop m (take i es)) (subst (Legal terms) (sym (take-append-drop m (take i es))) h))
+
+-- the entry that may not come next is the first one that isn't legal
+pub first_here : (terms : Terms) (es : List NodeEntry) (i : ℕ) (e : NodeEntry) → i < length es → e ≡ get_or es i e → Legal terms (take i es) → (IsNext (after terms (take i es)) e → ⊥) → IsFirstIllegal terms es (i + 1)
+unfolding LegalFrom
+first_here terms es i e below at h never = record {
+  some = omega arith;
+  illegal = λ more.
+      let l : Legal terms (take i es ++ e ∷ []) = subst (Legal terms) (take_next es i e below at) more in
+      never (Legal-rest (opening terms) (take i es) (e ∷ []) l.from).0;
+  before = λ m one less. legal_before terms es m i (omega (arith, less)) h;
+}
+
+-- any prefix of a legal list
+pub legal_front : (terms : Terms) (es : List NodeEntry) (n : ℕ) → Legal terms es → Legal terms (take n es)
+legal_front terms es n h = Legal-prefix terms (take n es) (drop n es) (subst (Legal terms) (sym (take-append-drop n es)) h)
+
+pub short_take : (es : List NodeEntry) (i : ℕ) → length (take i es) ≤ length es
+short_take [] zero = omega arith
+short_take [] (suc i) = omega arith
+short_take (e ∷ es) zero = omega arith
+short_take (e ∷ es) (suc i) = let a : length (take i es) ≤ length es = short_take es i in omega (arith, a)

@@ -1,0 +1,155 @@
+-- How many of a kind are live, and how many of its last handles aren't, as the node tells it.
+use Rattle.std.proofs.Common.{◌≡◌, ℕ, ◌+◌, ◌≤◌, ◌<◌, Bool, true, false, cond, List, length, refl, sym, ◌∙◌, ap, arith}
+use Rattle.std.specs.Prelude.{◌==◌, ◌-◌, not, take, get_or}
+use Rattle.std.proofs.lemmas.Bool.Decides.{nat_tests}
+use Rattle.mtapi_values.specs.declared.handles.ObjectKind.{ObjectKind}
+use Rattle.mtapi_machine.specs.declared.terms.Terms.{Terms}
+use Rattle.mtapi_machine.specs.State.{State}
+use Rattle.mtapi_machine.specs.Legal.{NodeEntry, after}
+use Rattle.node_steps.specs.declared.node.Node.{Node}
+use Rattle.node_steps.specs.Stands.{Stands, terms_of}
+use Rattle.mtapi_renaming.specs.Renaming.{Renaming}
+use Rattle.mtapi_renaming.specs.Renamed.{renamed}
+use Rattle.mtapi_renaming.specs.Follows.{Follows}
+use Rattle.mtapi_renaming.specs.Kinds.{live_in, is_live_of, is_full_of}
+use Rattle.mtapi_renaming.specs.Counts.{made_in, most_of}
+use Rattle.mtapi_renaming.specs.Lasts.{lasts_of, gone_of}
+use Rattle.mtapi_renaming.specs.Gone.{gone_in, taken_in}
+use Rattle.mtapi_renaming.specs.Maps.{renaming_of}
+use Rattle.journal_check.specs.declared.following.Following.{Following}
+use Rattle.journal_check.specs.declared.made.Made.{Made}
+use Rattle.journal_check.specs.Made.{of_kind, last_handles, made_count, gone_count, freed_count, Ends, Tells}
+use Rattle.journal_check.specs.Laws.{Laws}
+use Rattle.journal_check.specs.Follow.{room_of, last_generation, Mirrors, HasFollowed, Same}
+use Rattle.journal_check.proofs.Lists.{how_many-next}
+use Rattle.journal_check.proofs.Ends.{told_more, told_less}
+
+-- a handle names a live object where its other one does
+pub live_here : (w : Laws) (n : Node) (g : Renaming) (k : ObjectKind) (h : ℕ) (b : Bool) → ((L : List NodeEntry) → Stands n L → is_live_of k (after (terms_of n) L) (g k h) ≡ b) →
+    (terms : Terms) (s : State) (count : ℕ) → Mirrors n g terms s count → Follows g s → is_live_of k s h ≡ b
+live_here w n g k h b told terms s count m f =
+    let a : is_live_of k (after (terms_of n) m.own) (g k h) ≡ b = told m.own m.stands in
+    let e : is_live_of k (after (terms_of n) m.own) (g k h) ≡ is_live_of k (renamed g (room_of terms) s) (g k h) = ap (λ (t : State). is_live_of k t (g k h)) m.renames in
+    sym ((w.live g (room_of terms) s k f).same h) ∙ sym e ∙ a
+
+-- one handle more
+pub gone_next : (k : ObjectKind) (s : State) (hs : List ℕ) (i d gone : ℕ) (b : Bool) → i < length hs → is_live_of k s (get_or hs i d) ≡ b → gone_of k s (take i hs) ≡ gone → gone_of k s (take (i + 1) hs) ≡ gone + cond {A = ℕ} (not b) 1 0
+gone_next k s hs i d gone b below here e =
+    how_many-next (λ h. not (is_live_of k s h)) hs i d below ∙ ap (λ (m : ℕ). m + cond {A = ℕ} (not (is_live_of k s (get_or hs i d))) 1 0) e ∙ ap (λ (c : Bool). gone + cond {A = ℕ} (not c) 1 0) here
+
+module _ (w : Laws) (f : Following) (k : ObjectKind) (most : ℕ) (mosts : (s : State) → s.terms.settings ≡ f.terms.settings → most_of k s ≡ most) (L : List NodeEntry) (h : HasFollowed f L) where
+  abbrev reached : State
+  reached = after f.terms L
+
+  pub most_of_it : most_of k reached ≡ most
+  most_of_it = mosts reached (ap (λ (t : Terms). t.settings) (w.terms f.terms L))
+
+  -- where fewer were made, but for those that are known to take no slot, it isn't full
+  pub few_taken : made_count (of_kind f.made k) - freed_count (of_kind f.made k) < most → is_full_of k reached ≡ false
+  few_taken less =
+      let made : made_count (of_kind f.made k) ≡ made_in k reached = h.made.made k in
+      let free : freed_count (of_kind f.made k) + taken_in k reached ≤ made_in k reached = h.made.freed k in
+      w.room f.terms L k ∙ unequal (taken_in k reached) (most_of k reached) (omega (arith, made, free, less, most_of_it))
+    where
+      unequal : (m n : ℕ) → m < n → (m == n) ≡ false
+      unequal m n below = grind (arith, nat_tests)
+
+  -- with as many handles of the last generation it is
+  pub all_last : length (last_handles (of_kind f.made k)) ≡ most → is_full_of k reached ≡ true
+  all_last all =
+      let lasts : length (last_handles (of_kind f.made k)) ≡ length (lasts_of k reached) = ap length (h.made.lasts k) in
+      let more : length (lasts_of k reached) ≤ taken_in k reached = (w.gone f.terms L k).lasts in
+      let kept : taken_in k reached ≤ most_of k reached = w.kept f.terms L k in
+      w.room f.terms L k ∙ equal (taken_in k reached) (most_of k reached) (omega (arith, lasts, more, kept, all, most_of_it))
+    where
+      equal : (m n : ℕ) → m ≡ n → (m == n) ≡ true
+      equal m n same = grind (arith, nat_tests)
+
+  -- where the live ones and those that are known to be gone take all, it is full
+  pub all_taken : (alive : ℕ) → live_in k reached ≡ alive → alive + gone_count (of_kind f.made k) ≡ most → is_full_of k reached ≡ true
+  all_taken alive live all =
+      let gone : gone_count (of_kind f.made k) ≤ gone_in k reached = h.made.gone k in
+      let kept : taken_in k reached ≤ most_of k reached = w.kept f.terms L k in
+      w.room f.terms L k ∙ equal_too (taken_in k reached) (most_of k reached) (omega (arith, live, gone, kept, all, most_of_it))
+    where
+      equal_too : (m n : ℕ) → m ≡ n → (m == n) ≡ true
+      equal_too m n same = grind (arith, nat_tests)
+
+module _ (w : Laws) (f : Following) (k : ObjectKind) (alive most : ℕ)
+    (lives : (L : List NodeEntry) → Stands f.node L → live_in k (after (terms_of f.node) L) ≡ alive)
+    (mosts : (s : State) → s.terms.settings ≡ f.terms.settings → most_of k s ≡ most) where
+  module _ (L : List NodeEntry) (h : HasFollowed f L) where
+    abbrev s : State
+    s = after f.terms L
+
+    pub alive_here : live_in k s ≡ alive
+    alive_here =
+        let a : live_in k (after (terms_of f.node) h.node.own) ≡ alive = lives h.node.own h.node.stands in
+        let e : live_in k (after (terms_of f.node) h.node.own) ≡ live_in k (renamed (renaming_of f.names) (room_of f.terms) s) = ap (live_in k) h.node.renames in
+        sym (w.live (renaming_of f.names) (room_of f.terms) s k h.follows).count ∙ sym e ∙ a
+
+    most_here : most_of k s ≡ most
+    most_here = mosts s (ap (λ (t : Terms). t.settings) (w.terms f.terms L))
+
+    -- whether it is full, by the handles that were kept
+    pub full_here : is_full_of k s ≡ (alive + gone_of k s (last_handles (of_kind f.made k)) == most)
+    full_here =
+        let a = alive_here in let b = most_here in let c = h.made.lasts k in
+        w.room f.terms L k ∙ ap (λ (n : ℕ). n + gone_of k s (lasts_of k s) == most_of k s) a ∙ ap (λ (n : ℕ). alive + gone_of k s (lasts_of k s) == n) b
+        ∙ ap (λ (hs : List ℕ). alive + gone_of k s hs == most) (sym c)
+
+  -- how many are gone, by the handles that were kept
+  module _ (gone : ℕ) (goes : (L : List NodeEntry) → HasFollowed f L → gone_of k (after f.terms L) (last_handles (of_kind f.made k)) ≡ gone) where
+    gone_here : (L : List NodeEntry) → HasFollowed f L → gone_in k (after f.terms L) ≡ gone
+    gone_here L h = ap (gone_of k (after f.terms L)) (sym (h.made.lasts k)) ∙ goes L h
+
+    pub all_made : (L : List NodeEntry) → HasFollowed f L → alive + gone ≤ made_count (of_kind f.made k)
+    all_made L h =
+        let a : gone_in k (after f.terms L) ≡ gone = gone_here L h in
+        let b : live_in k (after f.terms L) ≡ alive = alive_here L h in
+        let c : made_count (of_kind f.made k) ≡ made_in k (after f.terms L) = h.made.made k in
+        let d : taken_in k (after f.terms L) ≤ made_in k (after f.terms L) = (w.gone f.terms L k).made in
+        omega (arith, a, b, c, d)
+
+    -- they may be kept, and what was kept before was no more
+    pub same_gone : (L : List NodeEntry) → HasFollowed f L → (made : Made) → Ends k gone (made_count (of_kind f.made k) - alive - gone) f.made made → Same f (record f { made = made })
+    same_gone K i made ends = record {
+      terms = refl;
+      node = refl;
+      there = λ L h. record {
+        node = h.node;
+        terms = h.terms;
+        follows = h.follows;
+        made = told_more ends (after f.terms L) (enough L h) (free L h) h.made;
+        few = h.few;
+      };
+      back = λ L h. record {
+        node = h.node;
+        terms = h.terms;
+        follows = h.follows;
+        made = told_less ends (after f.terms L) known known_free h.made;
+        few = h.few;
+      };
+    }
+      where
+        enough : (L : List NodeEntry) → HasFollowed f L → gone ≤ gone_in k (after f.terms L)
+        enough L h = let a : gone_in k (after f.terms L) ≡ gone = gone_here L h in omega (arith, a)
+
+        free : (L : List NodeEntry) → HasFollowed f L → (made_count (of_kind f.made k) - alive - gone) + taken_in k (after f.terms L) ≤ made_in k (after f.terms L)
+        free L h =
+            let a : gone_in k (after f.terms L) ≡ gone = gone_here L h in
+            let b : live_in k (after f.terms L) ≡ alive = alive_here L h in
+            let c : made_count (of_kind f.made k) ≡ made_in k (after f.terms L) = h.made.made k in
+            let d : taken_in k (after f.terms L) ≤ made_in k (after f.terms L) = (w.gone f.terms L k).made in
+            omega (arith, a, b, c, d)
+
+        known : gone_count (of_kind f.made k) ≤ gone
+        known = let a : gone_in k (after f.terms K) ≡ gone = gone_here K i in let b : gone_count (of_kind f.made k) ≤ gone_in k (after f.terms K) = i.made.gone k in omega (arith, a, b)
+
+        known_free : freed_count (of_kind f.made k) ≤ made_count (of_kind f.made k) - alive - gone
+        known_free =
+            let a : gone_in k (after f.terms K) ≡ gone = gone_here K i in
+            let b : live_in k (after f.terms K) ≡ alive = alive_here K i in
+            let c : made_count (of_kind f.made k) ≡ made_in k (after f.terms K) = i.made.made k in
+            let d : freed_count (of_kind f.made k) + taken_in k (after f.terms K) ≤ made_in k (after f.terms K) = i.made.freed k in
+            omega (arith, a, b, c, d)

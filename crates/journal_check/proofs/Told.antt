@@ -1,0 +1,42 @@
+-- The verdict of what was told.
+use Rattle.std.proofs.Common.{◌≡◌, ◌↔◌, ℕ, ◌+◌, ◌≤◌, ◌<◌, Bool, true, false, List, Option, Some, None, refl, sym, ◌∙◌, ap, subst, arith, IsTrue}
+use Rattle.workload_file.specs.declared.workload.Workload.{Workload}
+use Rattle.mtapi_machine.specs.declared.terms.Terms.{Terms}
+use Rattle.mtapi_machine.specs.Legal.{NodeEntry, Legal}
+use Rattle.node_core.specs.declared.entries.Journal.{Journal}
+use Rattle.journal_check.specs.declared.verdicts.Verdict.{Verdict}
+use Rattle.journal_check.specs.declared.verdicts.Verdict.TheVariants.{Yes, Illegal, NotRun}
+use Rattle.journal_check.specs.Verdicts.{terms_of, IsLegal, IsFirstIllegal, IsRun, IsVerdict}
+use Rattle.journal_check.proofs.Prefixes.{legal_front}
+
+-- a legal list has no first entry that isn't
+none_first : (terms : Terms) (L : List NodeEntry) (n : ℕ) → Legal terms L → IsFirstIllegal terms L n → ⊥
+none_first terms L n h f = f.illegal (legal_front terms L n h)
+
+-- and there is one first entry alone
+one_first : (terms : Terms) (L : List NodeEntry) (m n : ℕ) → IsFirstIllegal terms L m → IsFirstIllegal terms L n → m < n → ⊥
+one_first terms L m n f g less = f.illegal (g.before m f.some less)
+
+same_first : (terms : Terms) (L : List NodeEntry) (m n : ℕ) → IsFirstIllegal terms L m → IsFirstIllegal terms L n → m ≡ n
+same_first terms L m n f g = omega (arith, one_first terms L m n f g, one_first terms L n m g f)
+
+pub illegal_verdict : (load : Workload) (j : Journal) (n : ℕ) → IsFirstIllegal (terms_of j) j.entries.entries n → IsVerdict load j (Illegal n)
+illegal_verdict load j n f = record {
+  yes = (λ e. absurd (cc), λ a. absurd (none_first (terms_of j) j.entries.entries n a.0 f));
+  illegal = λ m. (λ e. let i : n ≡ m = cc in subst (IsFirstIllegal (terms_of j) j.entries.entries) i f, λ g. ap Illegal (same_first (terms_of j) j.entries.entries n m f g));
+  not_run = (λ e. absurd (cc), λ a. absurd (none_first (terms_of j) j.entries.entries n a.0 f));
+}
+
+pub yes_verdict : (load : Workload) (j : Journal) → IsLegal j → IsRun load j → IsVerdict load j Yes
+yes_verdict load j h r = record {
+  yes = (λ e. (h, r), λ a. refl);
+  illegal = λ m. (λ e. absurd (cc), λ g. absurd (none_first (terms_of j) j.entries.entries m h g));
+  not_run = (λ e. absurd (cc), λ a. absurd (a.1 r));
+}
+
+pub not_run_verdict : (load : Workload) (j : Journal) → IsLegal j → (IsRun load j → ⊥) → IsVerdict load j NotRun
+not_run_verdict load j h never = record {
+  yes = (λ e. absurd (cc), λ a. absurd (never a.1));
+  illegal = λ m. (λ e. absurd (cc), λ g. absurd (none_first (terms_of j) j.entries.entries m h g));
+  not_run = (λ e. (h, never), λ a. refl);
+}

@@ -1,0 +1,34 @@
+use Rattle.std.proofs.Common.{◌≡◌, List, Option, Some, None, subst, sym}
+use Rattle.std.specs.Prelude.{IsSome}
+use Rattle.mtapi_machine.specs.declared.ops.Op.{Op}
+use Rattle.mtapi_machine.specs.Legal.{NodeEntry, after}
+use Rattle.node_steps.specs.Stands.{Stands, terms_of}
+use Rattle.mtapi_renaming.specs.Kinds.{made_kind}
+use Rattle.mtapi_renaming.specs.Refusals.{refusal_of}
+use Rattle.mtapi_renaming.specs.Maps.{renaming_of}
+use Rattle.mtapi_renaming.specs.Ops.{renamed_op}
+use Rattle.journal_check.proofs.Creates.{makes_some, refusal_here, judged_refused}
+use Rattle.journal_check.proofs.following.Following.create.Goals as goal
+
+pub refusal-requires-clause-makes : goal.refusal-requires-clause-makes
+refusal-requires-clause-makes c =
+    let f = c.args.self.now in
+    let e = c.args.entry.now in
+    let op : renamed_op (renaming_of f.names) e.op ≡ c.renamed_op-op.result = cc in
+    subst (λ (o : Op). IsSome (made_kind o)) op (makes_some (renaming_of f.names) e.op c.args.kind c.requires.makes)
+
+pub returns-in-Some : goal.returns-in-Some
+returns-in-Some c =
+    let f = c.args.self.now in
+    let e = c.args.entry.now in
+    let op : c.renamed_op-op.result ≡ renamed_op (renaming_of f.names) e.op = cc in
+    judged_refused c.laws.ensures f e c.args.kind c.requires.makes c.same_reply.result c.in-Some.refused c.same_reply.ensures
+    (subst (λ (o : Op). (K : List NodeEntry) → Stands f.node K → refusal_of (after (terms_of f.node) K) e.who o ≡ Some c.in-Some.refused) op c.in-Some.ensures)
+
+pub place-requires-clause-accepted : goal.place-requires-clause-accepted
+place-requires-clause-accepted c =
+    let f = c.args.self.now in
+    let e = c.args.entry.now in
+    let op : c.renamed_op-op.result ≡ renamed_op (renaming_of f.names) e.op = cc in
+    refusal_here c.laws.ensures f e c.args.kind c.requires.makes None
+    (subst (λ (o : Op). (K : List NodeEntry) → Stands f.node K → refusal_of (after (terms_of f.node) K) e.who o ≡ None) op c.in-None.ensures)

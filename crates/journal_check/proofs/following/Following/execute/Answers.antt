@@ -1,0 +1,28 @@
+use Rattle.std.proofs.Common.{◌≡◌, List, [], ◌∷◌, ◌++◌, true, Decides, subst, sym}
+use Rattle.history.specs.Histories.{entry}
+use Rattle.mtapi_machine.specs.declared.ops.Op.{Op}
+use Rattle.mtapi_machine.specs.declared.replies.Reply.{Reply}
+use Rattle.mtapi_machine.specs.Row.{Allows}
+use Rattle.mtapi_machine.specs.Rows.{row}
+use Rattle.mtapi_machine.specs.Legal.{NodeEntry, after}
+use Rattle.node_steps.specs.Stands.{Stands, terms_of}
+use Rattle.mtapi_renaming.specs.Maps.{renaming_of}
+use Rattle.mtapi_renaming.specs.Ops.{renamed_op, renamed_reply}
+use Rattle.mtapi_renaming.specs.Kinds.{takes_task}
+use Rattle.journal_check.proofs.Executes.{executed}
+use Rattle.journal_check.proofs.following.Following.execute.Goals as goal
+
+pub returns-clause-judges : goal.returns-clause-judges
+returns-clause-judges c =
+    let f = c.args.self.now in
+    let e = c.args.entry.now in
+    let m = c.answer-given.new.node in
+    let given = c.answer-given.result in
+    let op : c.renamed_op-op.result ≡ renamed_op (renaming_of f.names) e.op = cc in
+    let told : c.renamed_answer-told.result ≡ renamed_reply (renaming_of f.names) e.op e.reply = cc in
+    executed c.laws.ensures f e m given c.requires.idle c.answer-given.ensures.terms
+    (subst (λ (o : Op). (L : List NodeEntry) → Stands f.node L → Stands m (L ++ entry e.who o given ∷ [])) op c.answer-given.ensures.stands)
+    (subst (λ (r : Reply). (L : List NodeEntry) → Stands f.node L → takes_task (renamed_op (renaming_of f.names) e.op) r ≡ true → Allows (row (after (terms_of f.node) L) e.who (renamed_op (renaming_of f.names) e.op) r) r → given ≡ r) told
+    (subst (λ (o : Op). (L : List NodeEntry) → Stands f.node L → takes_task o c.renamed_answer-told.result ≡ true → Allows (row (after (terms_of f.node) L) e.who o c.renamed_answer-told.result) c.renamed_answer-told.result → given ≡ c.renamed_answer-told.result) op c.answer-given.ensures.toward))
+    c.same_reply.result
+    (subst (λ (r : Reply). Decides c.same_reply.result (r ≡ given)) told c.same_reply.ensures)

@@ -1,0 +1,54 @@
+//! Whether a list of entries is a legal history.
+
+ghost use Rattle.std.specs.Prelude.{IfOk};
+ghost use Rattle.mtapi_values.specs.Attributes.{AreNodeSettings};
+ghost use Rattle.mtapi_machine.specs.State.{terms_with};
+ghost use Rattle.journal_check.specs.Judged.{IsLegalOr};
+
+use crate::following::Following;
+use mtapi_machine::Entry;
+use mtapi_values::{Layout, NodeAttr};
+use std::alloc::{AllocError, Global};
+
+// What the type of a node's settings promises: each is in its range.
+fn read_ranges(settings: &NodeAttr)
+    ensures { AreNodeSettings settings.now }
+{
+    let _ = settings.workers();
+    let _ = settings.tasks();
+    let _ = settings.actions();
+    let _ = settings.groups();
+    let _ = settings.queues();
+    let _ = settings.objects();
+    let _ = settings.priorities();
+    let _ = settings.generations();
+}
+
+/// The number, from 1, of the first entry that isn't legal by these terms; none where the list is a
+/// legal history. It fails for want of memory alone; 2^32 - 1 entries or more need more than there is.
+pub(crate) fn first_illegal(
+    alloc: Global,
+    layout: Layout,
+    settings: NodeAttr,
+    callers: u32,
+    entries: &[Entry],
+) -> Result<Option<u64>, AllocError>
+    ensures { IfOk result (IsLegalOr (terms_with layout settings callers) entries.now) }
+{
+    read_ranges(&settings);
+    if entries.len() >= 4_294_967_295 {
+        return Err(AllocError);
+    }
+    if callers < 1 || callers > 9 {
+        return Ok(Some(1));
+    }
+    let mut follower = Following::new(alloc, layout, settings, callers)?;
+    let mut judged = 0;
+    for entry in entries {
+        judged += 1;
+        if !follower.judge(entry)? {
+            return Ok(Some(judged));
+        }
+    }
+    Ok(None)
+}

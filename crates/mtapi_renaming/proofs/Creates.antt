@@ -1,0 +1,202 @@
+-- The rows of the ops that make objects, in the renamed state.
+use Rattle.std.proofs.Common.{◌≡◌, ◌↔◌, ℕ, Bool, true, false, List, [], ◌∷◌, Option, Some, None, refl, sym, ◌∙◌, ap, subst}
+use Rattle.std.specs.Prelude.{◌==◌, not, is_none}
+use Rattle.std.specs.Option.{option_map, IfSome}
+use Rattle.std.specs.Bool.{MatchBool}
+use Rattle.mtapi_values.specs.declared.handles.ObjectKind.{ObjectKind}
+use Rattle.mtapi_values.specs.declared.handles.ObjectKind.TheVariants as kind
+use Rattle.mtapi_values.specs.declared.statuses.MrapiStatus.{MrapiStatus}
+use Rattle.mtapi_values.specs.Conditions.{holds}
+use Rattle.handle_pool.specs.Issued.{live_object}
+use Rattle.mtapi_objects.specs.Actions.{Action, has_job, has_enabled_job}
+use Rattle.mtapi_objects.specs.Tasks.{NewTask}
+use Rattle.mtapi_objects.specs.Groups.{Group}
+use Rattle.mtapi_objects.specs.Queues.{Queue}
+use Rattle.mtapi_machine.specs.declared.replies.Reply.{Reply}
+use Rattle.mtapi_machine.specs.declared.replies.Reply.TheVariants.{Handle}
+use Rattle.mtapi_machine.specs.State.{State, Objects, actions, tasks, queues}
+use Rattle.mtapi_machine.specs.Moves.{Move, Sort, Groups, Queues, Mutexes, Sems, Rwls, Segments, Fields, all_of, makes_action, starts_task, makes, is_fresh, apply, after_moves}
+use Rattle.mtapi_machine.specs.Row.{Row, unless, gives, Allows, after_row, says, only, mtapi_unless, handle_of, live, on, creates}
+use Rattle.mtapi_machine.specs.KeyedRows.{Keyed, mrapi_unless, creates_keyed}
+use Rattle.mtapi_machine.specs.TaskRows.{start_refusals}
+use Rattle.mtapi_layouts.proofs.Rows.{is_plain}
+use Rattle.mtapi_renaming.specs.Renaming.{Renaming, Has, with_pair}
+use Rattle.mtapi_renaming.specs.Renamed.{Room, renamed_task, renamed}
+use Rattle.mtapi_renaming.specs.Follows.{HasTask, NoHandle, Follows}
+use Rattle.mtapi_renaming.specs.Kinds.{full, is_full_of, is_fresh_of, limit_of, CanBe, is_handle}
+use Rattle.mtapi_renaming.proofs.Lists.{found-has}
+use Rattle.mtapi_renaming.proofs.Moves.{sort-list, sort-follows, renamed_new}
+use Rattle.mtapi_renaming.proofs.Rows.{sort-found, sort-any}
+use Rattle.mtapi_renaming.proofs.TaskRows.{action-any, served, group_missing}
+use Rattle.mtapi_renaming.proofs.Pairs.{MakesPair, is_new, makes_action-pair, starts_task-pair, makes-pair}
+
+-- the rows of an op that makes an object, for each reply: in the state, and in the renamed one
+pub record CreateAlike (g : Renaming) (x : Room) (s : State) (k : ObjectKind) (h other : ℕ) (own others : Reply → Row) : Type 0 where
+  pub refused : (r : Reply) → is_handle r ≡ false → (r ≡ limit_of k → ⊥) → Allows (own r) r ↔ Allows (others r) r
+  pub refuses : (given r : Reply) → is_handle given ≡ false → (given ≡ limit_of k → ⊥) → Allows (others given) given → Allows (own r) r ↔ (r ≡ given)
+  pub answers : Allows (others (Handle other)) (Handle other) → (r : Reply) → Allows (own r) r ↔ CanBe k s r
+  pub made : is_full_of k s ≡ false → is_full_of k (renamed g x s) ≡ false → is_fresh_of k s h ≡ true → is_fresh_of k (renamed g x s) other ≡ true → Allows (own (Handle h)) (Handle h) ↔ Allows (others (Handle other)) (Handle other)
+  pub makes : Allows (own (Handle h)) (Handle h) → Allows (others (Handle other)) (Handle other) → MakesPair g x s k h other (after_row s (own (Handle h))) (after_row (renamed g x s) (others (Handle other)))
+
+pub no_handle : (h : ℕ) (y : Reply) → is_plain y ≡ true → Handle h ≡ y → ⊥
+no_handle h y p e = let t : is_plain (Handle h) ≡ true = subst (λ (z : Reply). is_plain z ≡ true) (sym e) p in absurd (cc)
+
+-- what is refused for a reason that doesn't depend on the handle
+pub says_creates : {g : Renaming} {x : Room} {s : State} {k : ObjectKind} {h other : ℕ} {y : Reply} → is_plain y ≡ true → CreateAlike g x s k h other (λ r. says y) (λ r. says y)
+says_creates {g} {x} {s} {k} {h} {other} {y} p = record {
+  refused = λ r no_r less. (λ i. i, λ i. i);
+  refuses = λ given r no_r less i. (λ j. j ∙ sym i, λ j. j ∙ i);
+  answers = λ i r. absurd (no_handle other y p i);
+  made = λ a b c d. (λ i. absurd (no_handle h y p i), λ i. absurd (no_handle other y p i));
+  makes = λ i j. absurd (no_handle h y p i);
+}
+
+module _ {g : Renaming} {x : Room} {s : State} {k : ObjectKind} {h other : ℕ} where
+  pub unless_creates : {a b : Bool} {y : Reply} {own others : Reply → Row} → b ≡ a → is_plain y ≡ true → (a ≡ false → CreateAlike g x s k h other own others) →
+      CreateAlike g x s k h other (λ r. unless a y (own r)) (λ r. unless b y (others r))
+  unless_creates {a} {b} {y} {own} {others} e p w = subst (λ (c : Bool). CreateAlike g x s k h other (λ r. unless a y (own r)) (λ r. unless c y (others r))) (sym e) (by_test a refl)
+    where
+      by_test : (c : Bool) → a ≡ c → CreateAlike g x s k h other (λ r. unless c y (own r)) (λ r. unless c y (others r))
+      by_test true d = let v : CreateAlike g x s k h other (λ r. says y) (λ r. says y) = says_creates p in record { refused = v.refused; refuses = v.refuses; answers = v.answers; made = v.made; makes = v.makes }
+      by_test false d = let v : CreateAlike g x s k h other own others = w d in record { refused = v.refused; refuses = v.refuses; answers = v.answers; made = v.made; makes = v.makes }
+
+  pub mrapi_creates : (cs : List (Bool × MrapiStatus)) {own others : Reply → Row} → CreateAlike g x s k h other own others → CreateAlike g x s k h other (λ r. mrapi_unless cs (own r)) (λ r. mrapi_unless cs (others r))
+  mrapi_creates [] w = w
+  mrapi_creates (c ∷ cs) {own} {others} w = unless_creates {own = λ r. mrapi_unless cs (own r)} {others = λ r. mrapi_unless cs (others r)} refl refl (λ d. mrapi_creates cs {own = own} {others = others} w)
+
+  pub live_creates : {T : Type 0} (f : T → T) {o p : Option T} (y : Reply) (v w : T → Reply → Row) → p ≡ option_map f o → is_plain y ≡ true → ((z : T) → o ≡ Some z → CreateAlike g x s k h other (v z) (w (f z))) →
+      CreateAlike g x s k h other (λ r. live o (says y) (λ z. v z r)) (λ r. live p (says y) (λ z. w z r))
+  live_creates {T} f {o} {p} y v w e plain j = subst (λ (q : Option T). CreateAlike g x s k h other (λ r. live o (says y) (λ z. v z r)) (λ r. live q (says y) (λ z. w z r))) (sym e) (by_object o refl)
+    where
+      by_object : (q : Option T) → o ≡ q → CreateAlike g x s k h other (λ r. live q (says y) (λ z. v z r)) (λ r. live (option_map f q) (says y) (λ z. w z r))
+      by_object None d = says_creates plain
+      by_object (Some z) d = j z d
+
+-- the end of such a row: the limit, or a handle that may be issued
+abbrev ends_in : Bool → Reply → Bool → Reply → List Move → Row
+ends_in f limit b r ms = unless f limit (only b (gives (Handle (handle_of r)) ms))
+
+none_other : (f b : Bool) (limit r : Reply) (ms : List Move) → is_handle r ≡ false → (r ≡ limit → ⊥) → Allows (ends_in f limit b r ms) r → ⊥
+none_other true b limit r ms no_r less i = less i
+none_other false true limit r ms no_r less i = let t : is_handle (Handle (handle_of r)) ≡ false = subst (λ (z : Reply). is_handle z ≡ false) i no_r in absurd (cc)
+none_other false false limit r ms no_r less i = i
+
+pub reached : (f b : Bool) (limit : Reply) (h : ℕ) (ms : List Move) → is_plain limit ≡ true → Allows (ends_in f limit b (Handle h) ms) (Handle h) → (f ≡ false) × (b ≡ true)
+reached true b limit h ms p i = absurd (no_handle h limit p i)
+reached false true limit h ms p i = (refl, refl)
+reached false false limit h ms p i = absurd i
+
+given : (f b : Bool) (limit : Reply) (h : ℕ) (ms : List Move) → f ≡ false → b ≡ true → Allows (ends_in f limit b (Handle h) ms) (Handle h)
+given true b limit h ms e d = absurd (cc)
+given false true limit h ms e d = refl
+given false false limit h ms e d = absurd (cc)
+
+pub after_given : (s : State) (f b : Bool) (limit : Reply) (h : ℕ) (ms : List Move) → f ≡ false → b ≡ true → after_row s (ends_in f limit b (Handle h) ms) ≡ after_moves ms s
+after_given s true b limit h ms e d = absurd (cc)
+after_given s false true limit h ms e d = refl
+after_given s false false limit h ms e d = absurd (cc)
+
+pub can_be : (f b : Bool) (limit r : Reply) (ms : List Move) → Allows (ends_in f limit b r ms) r ↔ MatchBool f (r ≡ limit) ((b ≡ true) × (r ≡ Handle (handle_of r)))
+can_be true b limit r ms = (λ i. i, λ i. i)
+can_be false true limit r ms = (λ i. (refl, i), λ i. i.1)
+can_be false false limit r ms = (λ i. absurd i, λ i. absurd (cc))
+
+-- the six kinds that no rule of tasks speaks of
+pub full_same : (t : Sort) (u : State) → is_full_of (all_of t).kind u ≡ full (all_of t) u
+full_same Groups u = refl
+full_same Queues u = refl
+full_same Mutexes u = refl
+full_same Sems u = refl
+full_same Rwls u = refl
+full_same Segments u = refl
+
+pub fresh_same : (t : Sort) (u : State) (a : ℕ) → is_fresh_of (all_of t).kind u a ≡ is_fresh (all_of t) u a
+fresh_same Groups u a = refl
+fresh_same Queues u a = refl
+fresh_same Mutexes u a = refl
+fresh_same Sems u a = refl
+fresh_same Rwls u a = refl
+fresh_same Segments u a = refl
+
+pub limit_same : (t : Sort) → limit_of (all_of t).kind ≡ (all_of t).limit
+limit_same Groups = refl
+limit_same Queues = refl
+limit_same Mutexes = refl
+limit_same Sems = refl
+limit_same Rwls = refl
+limit_same Segments = refl
+
+pub limit_plain : (t : Sort) → is_plain (all_of t).limit ≡ true
+limit_plain Groups = refl
+limit_plain Queues = refl
+limit_plain Mutexes = refl
+limit_plain Sems = refl
+limit_plain Rwls = refl
+limit_plain Segments = refl
+
+-- the group of a new task that is not refused
+group_has : {g : Renaming} {s : State} → Follows g s → (c : Option ℕ) → holds (λ a. is_none (live_object s.groups a)) c ≡ false → IfSome c (Has g kind.Group)
+group_has n None e = tt
+group_has {g} {s} n (Some a) e = by_object (live_object s.groups a) refl e
+  where
+    by_object : (o : Option Group) → live_object s.groups a ≡ o → is_none o ≡ false → Has g kind.Group a
+    by_object None d f = absurd (cc)
+    by_object (Some y) d f = (found-has g kind.Group NoHandle a y s.groups n.groups.each d).0
+
+module _ {g : Renaming} {x : Room} {s : State} (n : Follows g s) {h other : ℕ} where
+  creates_alike : {T : Type 0} (o : Objects T) (make make_other : ℕ → Move) → ((t : State) → is_full_of o.kind t ≡ full o t) → ((t : State) (a : ℕ) → is_fresh_of o.kind t a ≡ is_fresh o t a) → limit_of o.kind ≡ o.limit → is_plain o.limit ≡ true →
+      (is_fresh o s h ≡ true → is_fresh o (renamed g x s) other ≡ true → MakesPair g x s o.kind h other (apply (make h) s) (apply (make_other other) (renamed g x s))) →
+      CreateAlike g x s o.kind h other (λ r. creates o s r make) (λ r. creates o (renamed g x s) r make_other)
+  creates_alike o make make_other ef er el plain pair = record {
+    refused = λ r no_r less. let far : r ≡ o.limit → ⊥ = λ i. less (i ∙ sym el) in
+        (λ i. absurd (none_other (full o s) (is_fresh o s (handle_of r)) o.limit r (make (handle_of r) ∷ []) no_r far i), λ i. absurd (none_other (full o (renamed g x s)) (is_fresh o (renamed g x s) (handle_of r)) o.limit r (make_other (handle_of r) ∷ []) no_r far i));
+    refuses = λ given r no_r less i. absurd (none_other (full o (renamed g x s)) (is_fresh o (renamed g x s) (handle_of given)) o.limit given (make_other (handle_of given) ∷ []) no_r (λ j. less (j ∙ sym el)) i);
+    answers = λ i r. subst (λ (b : Bool). Allows (creates o s r make) r ↔ MatchBool b (r ≡ limit_of o.kind) ((is_fresh_of o.kind s (handle_of r) ≡ true) × (r ≡ Handle (handle_of r)))) (sym (ef s))
+        (subst (λ (b : Bool). Allows (creates o s r make) r ↔ MatchBool (full o s) (r ≡ limit_of o.kind) ((b ≡ true) × (r ≡ Handle (handle_of r)))) (sym (er s (handle_of r)))
+        (subst (λ (y : Reply). Allows (creates o s r make) r ↔ MatchBool (full o s) (r ≡ y) ((is_fresh o s (handle_of r) ≡ true) × (r ≡ Handle (handle_of r)))) (sym el)
+        (can_be (full o s) (is_fresh o s (handle_of r)) o.limit r (make (handle_of r) ∷ []))));
+    made = λ a b c d. (
+      λ i. given (full o (renamed g x s)) (is_fresh o (renamed g x s) other) o.limit other (make_other other ∷ []) (sym (ef (renamed g x s)) ∙ b) (sym (er (renamed g x s) other) ∙ d),
+      λ i. given (full o s) (is_fresh o s h) o.limit h (make h ∷ []) (sym (ef s) ∙ a) (sym (er s h) ∙ c),
+    );
+    makes = λ i j.
+        let own : (full o s ≡ false) × (is_fresh o s h ≡ true) = reached (full o s) (is_fresh o s h) o.limit h (make h ∷ []) plain i in
+        let others : (full o (renamed g x s) ≡ false) × (is_fresh o (renamed g x s) other ≡ true) = reached (full o (renamed g x s)) (is_fresh o (renamed g x s) other) o.limit other (make_other other ∷ []) plain j in
+        let p : MakesPair g x s o.kind h other (apply (make h) s) (apply (make_other other) (renamed g x s)) = pair own.1 others.1 in
+        let e = after_given s (full o s) (is_fresh o s h) o.limit h (make h ∷ []) own.0 own.1 in
+        let d = after_given (renamed g x s) (full o (renamed g x s)) (is_fresh o (renamed g x s) other) o.limit other (make_other other ∷ []) others.0 others.1 in
+        record { same = ap (renamed (with_pair o.kind h other g) x) e ∙ p.same ∙ sym d; follows = subst (λ (t : State). Follows (with_pair o.kind h other g) t) (sym e) p.follows };
+  }
+
+  pub creates_action : (a : Action) → CreateAlike g x s kind.Action h other (λ r. creates actions s r (λ b. makes_action b a)) (λ r. creates actions (renamed g x s) r (λ b. makes_action b a))
+  creates_action a =
+      creates_alike actions (λ b. makes_action b a) (λ b. makes_action b a) (λ t. refl) (λ t b. refl) refl refl
+      (λ i j. makes_action-pair g x s n h other a (is_new g x s n.one actions (λ y. y) NoHandle refl n.actions h other i j))
+
+  pub creates_task : (t : NewTask) → IfSome t.group (Has g kind.Group) → IfSome t.queue (Has g kind.Queue) →
+      CreateAlike g x s kind.Task h other (λ r. creates tasks s r (λ b. starts_task b t)) (λ r. creates tasks (renamed g x s) r (λ b. starts_task b (renamed_new g t)))
+  creates_task t a b =
+      creates_alike tasks (λ c. starts_task c t) (λ c. starts_task c (renamed_new g t)) (λ u. refl) (λ u c. refl) refl refl
+      (λ i j. starts_task-pair g x s n h other t a b (is_new g x s n.one tasks (renamed_task g) (HasTask g) refl n.tasks h other i j))
+
+  pub creates_sort : (t : Sort) (w : Fields t) → CreateAlike g x s (all_of t).kind h other (λ r. creates (all_of t) s r (λ b. makes t b w)) (λ r. creates (all_of t) (renamed g x s) r (λ b. makes t b w))
+  creates_sort t w =
+      creates_alike (all_of t) (λ b. makes t b w) (λ b. makes t b w) (full_same t) (fresh_same t) (limit_same t) (limit_plain t)
+      (λ i j. makes-pair g x s n h other t w (is_new g x s n.one (all_of t) (λ y. y) NoHandle (sort-list g x t s) (sort-follows g t s n) h other i j))
+
+  -- a new object, where no live one has its id
+  pub keyed_creates : {t : Sort} (o : Keyed t) (w : Fields t) → is_plain o.exists ≡ true → CreateAlike g x s (all_of t).kind h other (λ r. creates_keyed o s r w) (λ r. creates_keyed o (renamed g x s) r w)
+  keyed_creates {t} o w p = unless_creates (sort-any n x t (λ y. o.id y == o.id w)) p (λ d. creates_sort t w)
+
+  -- Starting
+
+  pub starts_creates : (t : NewTask) {own others : Reply → Row} → (IfSome t.group (Has g kind.Group) → CreateAlike g x s kind.Task h other own others) →
+      CreateAlike g x s kind.Task h other (λ r. mtapi_unless (start_refusals s t) (own r)) (λ r. mtapi_unless (start_refusals (renamed g x s) (renamed_new g t)) (others r))
+  starts_creates t {own} {others} w =
+      unless_creates (ap not (action-any n x (has_job t.job))) refl (λ a. unless_creates (group_missing n x t.group) refl (λ b. unless_creates (ap not (action-any n x (has_enabled_job t.job))) refl (λ c.
+      unless_creates {own = own} {others = others} (ap not (served n x t.job t.cores)) refl (λ d. w (group_has n t.group b)))))
+
+  -- an enqueue on the live queue of a handle
+  pub on_queue : (q : ℕ) (v w : Queue → Reply → Row) → ((y : Queue) → Has g kind.Queue q → CreateAlike g x s kind.Task h other (v y) (w y)) →
+      CreateAlike g x s kind.Task h other (λ r. on queues s q (λ y. v y r)) (λ r. on queues (renamed g x s) (g kind.Queue q) (λ y. w y r))
+  on_queue q v w e = live_creates (λ y. y) _ v w (sort-found n x Queues q) refl (λ y d. e y (found-has g kind.Queue NoHandle q y s.queues n.queues.each d).0)

@@ -1,0 +1,178 @@
+-- The tests of equality decide it.
+use Rattle.std.proofs.Common.{◌≡◌, ℕ, Bool, true, false, ◌&&◌, cond, List, refl, sym, ◌∙◌, ap}
+use Rattle.std.specs.Prelude.{◌==◌}
+use Rattle.std.specs.Bool.{beq, Decides}
+use Rattle.std.specs.Ordering.{int_eq}
+use Rattle.std.specs.Cmp.{signed_Decides, booleans_Decides}
+use Rattle.std.specs.Cmp.Rules.{signed_items}
+use Rattle.std.specs.Cmp.Lexicographic.{pointwise}
+use Rattle.std.proofs.lemmas.Bool.Decides.{Decides-eqb}
+use Rattle.mtapi_values.specs.declared.kinds.Kind.{Kind}
+use Rattle.mtapi_values.specs.declared.kinds.Kind.TheVariants as k
+use Rattle.mtapi_values.specs.declared.statuses.MtapiStatus.{MtapiStatus}
+use Rattle.mtapi_values.specs.declared.statuses.MrapiStatus.{MrapiStatus}
+use Rattle.mtapi_values.specs.declared.statuses.MtapiStatus.TheVariants as t
+use Rattle.mtapi_values.specs.declared.statuses.MrapiStatus.TheVariants as r
+use Rattle.mtapi_values.specs.Statuses.{mtapi_number, mrapi_number}
+use Rattle.mtapi_values.specs.declared.handles.TaskHandle.{TaskHandle}
+use Rattle.mtapi_values.specs.declared.handles.ActionHandle.{ActionHandle}
+use Rattle.mtapi_values.specs.declared.ends.TaskEnd.{TaskEnd}
+use Rattle.mtapi_values.specs.declared.ends.TaskEnd.TheVariants.{Completed, Cancelled, Failed}
+use Rattle.action_fn.specs.declared.finished.ActEnd.{ActEnd}
+use Rattle.action_fn.specs.declared.finished.ActEnd.TheVariants.{Done, Fails}
+use Rattle.mtapi_objects.specs.Tasks.{kind_number}
+use Rattle.mtapi_machine.specs.declared.replies.Reply.{Reply}
+use Rattle.mtapi_machine.specs.declared.replies.Reply.TheVariants.{Ok, Handle, Number, Ended, Given, Pending, Picked, Idle, Stop, Asked, Mtapi, Mrapi}
+use Rattle.mtapi_renaming.specs.Verdicts.{same_end, same_act, same_reply}
+
+-- both of two tests
+pub both_decide : {P Q : Type 0} (a b : Bool) → Decides a P → Decides b Q → Decides (a && b) (P × Q)
+both_decide true true d e = (λ i. (d.0 refl, e.0 refl), λ i. refl)
+both_decide true false d e = (λ i. absurd (cc), λ i. e.1 i.1)
+both_decide false b d e = (λ i. absurd (cc), λ i. d.1 i.0)
+
+-- a test of one fact is a test of another that says the same
+pub decides_so : {P Q : Type 0} (a : Bool) → (P → Q) → (Q → P) → Decides a P → Decides a Q
+decides_so a to back d = (λ i. to (d.0 i), λ q. d.1 (back q))
+
+-- a status and a kind are told by their numbers
+abbrev mtapi_of : ℕ → MtapiStatus
+mtapi_of m = cond (m == 0) t.Success (cond (m == 1) t.Timeout (cond (m == 2) t.GroupCompleted (cond (m == 3) t.ErrParameter (cond (m == 4) t.ErrNodeInitialized (cond (m == 5) t.ErrNodeNotinit (cond (m == 6) t.ErrActionInvalid (cond (m == 7) t.ErrActionLimit (cond (m == 8) t.ErrActionFailed (cond (m == 9) t.ErrActionDeleted (cond (m == 10) t.ErrActionDisabled (cond (m == 11) t.ErrArgSize (cond (m == 12) t.ErrJobInvalid (cond (m == 13) t.ErrNoCore (cond (m == 14) t.ErrTaskInvalid (cond (m == 16) t.ErrTaskLimit (cond (m == 17) t.ErrTaskCancelled (cond (m == 18) t.ErrGroupInvalid (cond (m == 19) t.ErrGroupLimit (cond (m == 20) t.ErrQueueInvalid (cond (m == 21) t.ErrQueueLimit (cond (m == 22) t.ErrQueueDeleted (cond (m == 23) t.ErrQueueDisabled (cond (m == 24) t.ErrQueueExists (cond (m == 25) t.ErrWaitPending (cond (m == 26) t.ErrAttrNum (cond (m == 27) t.ErrAttrReadonly (cond (m == 28) t.ErrCoreNum (t.ErrSpent))))))))))))))))))))))))))))
+
+mtapi-number : (c : MtapiStatus) → mtapi_of (mtapi_number c) ≡ c
+mtapi-number t.Success = refl
+mtapi-number t.Timeout = refl
+mtapi-number t.GroupCompleted = refl
+mtapi-number t.ErrParameter = refl
+mtapi-number t.ErrNodeInitialized = refl
+mtapi-number t.ErrNodeNotinit = refl
+mtapi-number t.ErrActionInvalid = refl
+mtapi-number t.ErrActionLimit = refl
+mtapi-number t.ErrActionFailed = refl
+mtapi-number t.ErrActionDeleted = refl
+mtapi-number t.ErrActionDisabled = refl
+mtapi-number t.ErrArgSize = refl
+mtapi-number t.ErrJobInvalid = refl
+mtapi-number t.ErrNoCore = refl
+mtapi-number t.ErrTaskInvalid = refl
+mtapi-number t.ErrTaskLimit = refl
+mtapi-number t.ErrTaskCancelled = refl
+mtapi-number t.ErrGroupInvalid = refl
+mtapi-number t.ErrGroupLimit = refl
+mtapi-number t.ErrQueueInvalid = refl
+mtapi-number t.ErrQueueLimit = refl
+mtapi-number t.ErrQueueDeleted = refl
+mtapi-number t.ErrQueueDisabled = refl
+mtapi-number t.ErrQueueExists = refl
+mtapi-number t.ErrWaitPending = refl
+mtapi-number t.ErrAttrNum = refl
+mtapi-number t.ErrAttrReadonly = refl
+mtapi-number t.ErrCoreNum = refl
+mtapi-number t.ErrSpent = refl
+
+abbrev mrapi_of : ℕ → MrapiStatus
+mrapi_of m = cond (m == 0) r.Success (cond (m == 1) r.Timeout (cond (m == 2) r.ErrParameter (cond (m == 3) r.ErrNodeNotinit (cond (m == 4) r.ErrMutexInvalid (cond (m == 5) r.ErrMutexIdInvalid (cond (m == 6) r.ErrMutexExists (cond (m == 7) r.ErrMutexLimit (cond (m == 8) r.ErrMutexLocked (cond (m == 9) r.ErrMutexNotlocked (cond (m == 10) r.ErrMutexKey (cond (m == 11) r.ErrMutexLockorder (cond (m == 12) r.ErrSemInvalid (cond (m == 13) r.ErrSemIdInvalid (cond (m == 14) r.ErrSemExists (cond (m == 15) r.ErrSemLocked (cond (m == 16) r.ErrSemNotlocked (cond (m == 17) r.ErrRwlInvalid (cond (m == 18) r.ErrRwlIdInvalid (cond (m == 19) r.ErrRwlExists (cond (m == 20) r.ErrRwlLimit (cond (m == 21) r.ErrRwlLocked (cond (m == 22) r.ErrRwlNotlocked (cond (m == 23) r.ErrShmInvalid (cond (m == 24) r.ErrShmIdInvalid (cond (m == 25) r.ErrShmExists (cond (m == 26) r.ErrShmLimit (cond (m == 27) r.ErrShmAttached (cond (m == 28) r.ErrShmNotattached (cond (m == 29) r.ErrSpent (r.ErrSemLimit))))))))))))))))))))))))))))))
+
+mrapi-number : (c : MrapiStatus) → mrapi_of (mrapi_number c) ≡ c
+mrapi-number r.Success = refl
+mrapi-number r.Timeout = refl
+mrapi-number r.ErrParameter = refl
+mrapi-number r.ErrNodeNotinit = refl
+mrapi-number r.ErrMutexInvalid = refl
+mrapi-number r.ErrMutexIdInvalid = refl
+mrapi-number r.ErrMutexExists = refl
+mrapi-number r.ErrMutexLimit = refl
+mrapi-number r.ErrMutexLocked = refl
+mrapi-number r.ErrMutexNotlocked = refl
+mrapi-number r.ErrMutexKey = refl
+mrapi-number r.ErrMutexLockorder = refl
+mrapi-number r.ErrSemInvalid = refl
+mrapi-number r.ErrSemIdInvalid = refl
+mrapi-number r.ErrSemExists = refl
+mrapi-number r.ErrSemLocked = refl
+mrapi-number r.ErrSemNotlocked = refl
+mrapi-number r.ErrRwlInvalid = refl
+mrapi-number r.ErrRwlIdInvalid = refl
+mrapi-number r.ErrRwlExists = refl
+mrapi-number r.ErrRwlLimit = refl
+mrapi-number r.ErrRwlLocked = refl
+mrapi-number r.ErrRwlNotlocked = refl
+mrapi-number r.ErrShmInvalid = refl
+mrapi-number r.ErrShmIdInvalid = refl
+mrapi-number r.ErrShmExists = refl
+mrapi-number r.ErrShmLimit = refl
+mrapi-number r.ErrShmAttached = refl
+mrapi-number r.ErrShmNotattached = refl
+mrapi-number r.ErrSpent = refl
+mrapi-number r.ErrSemLimit = refl
+
+abbrev kind_of : ℕ → Kind
+kind_of m = cond (m == 1) k.Add (cond (m == 2) k.Mul (cond (m == 3) k.Max (cond (m == 4) k.Div (cond (m == 5) k.Gcd (cond (m == 6) k.Echo (cond (m == 7) k.Triangle (cond (m == 8) k.Fail (cond (m == 9) k.Watch (k.Tally)))))))))
+
+kind-number : (c : Kind) → kind_of (kind_number c) ≡ c
+kind-number k.Add = refl
+kind-number k.Mul = refl
+kind-number k.Max = refl
+kind-number k.Div = refl
+kind-number k.Gcd = refl
+kind-number k.Echo = refl
+kind-number k.Triangle = refl
+kind-number k.Fail = refl
+kind-number k.Watch = refl
+kind-number k.Tally = refl
+
+mtapi_decides : (a b : MtapiStatus) → Decides (mtapi_number a == mtapi_number b) (a ≡ b)
+mtapi_decides a b = decides_so (mtapi_number a == mtapi_number b) (λ e. sym (mtapi-number a) ∙ ap mtapi_of e ∙ mtapi-number b) (λ e. ap mtapi_number e) (Decides-eqb (mtapi_number a) (mtapi_number b))
+
+mrapi_decides : (a b : MrapiStatus) → Decides (mrapi_number a == mrapi_number b) (a ≡ b)
+mrapi_decides a b = decides_so (mrapi_number a == mrapi_number b) (λ e. sym (mrapi-number a) ∙ ap mrapi_of e ∙ mrapi-number b) (λ e. ap mrapi_number e) (Decides-eqb (mrapi_number a) (mrapi_number b))
+
+kind_decides : (a b : Kind) → Decides (kind_number a == kind_number b) (a ≡ b)
+kind_decides a b = decides_so (kind_number a == kind_number b) (λ e. sym (kind-number a) ∙ ap kind_of e ∙ kind-number b) (λ e. ap kind_number e) (Decides-eqb (kind_number a) (kind_number b))
+
+pub end_decides : (a b : TaskEnd) → Decides (same_end a b) (a ≡ b)
+end_decides (Completed a) (Completed b) = decides_so (pointwise int_eq a b) (λ e. ap Completed e) (λ e. cc) (signed_items a b)
+end_decides Cancelled Cancelled = (λ i. refl, λ i. refl)
+end_decides (Failed a) (Failed b) = decides_so (mtapi_number a == mtapi_number b) (λ e. ap Failed e) (λ e. cc) (mtapi_decides a b)
+end_decides a b = (λ i. absurd (cc), λ i. absurd (cc))
+
+pub act_decides : (a b : ActEnd) → Decides (same_act a b) (a ≡ b)
+act_decides (Done a) (Done b) = decides_so (pointwise int_eq a b) (λ e. ap Done e) (λ e. cc) (signed_items a b)
+act_decides (Fails a) (Fails b) = decides_so (mtapi_number a == mtapi_number b) (λ e. ap Fails e) (λ e. cc) (mtapi_decides a b)
+act_decides a b = (λ i. absurd (cc), λ i. absurd (cc))
+
+task_in : Reply → ℕ
+task_in (Given v b) = v.0
+task_in (Picked v w z xs) = v.0
+task_in _ = 0
+
+action_in : Reply → ℕ
+action_in (Picked v w z xs) = w.0
+action_in _ = 0
+
+given_decides : (u v : TaskHandle) (a b : TaskEnd) → Decides ((u.0 == v.0) && same_end a b) (Given u a ≡ Given v b)
+unfolding task_in
+given_decides u v a b =
+    decides_so ((u.0 == v.0) && same_end a b) (λ e i. Given (record { 0 = e.0 i }) (e.1 i)) (λ e. (ap task_in e, let d : a ≡ b = cc in d)) (both_decide (u.0 == v.0) (same_end a b) (Decides-eqb u.0 v.0) (end_decides a b))
+
+picked_decides : (u v : TaskHandle) (a b : ActionHandle) (c d : Kind) (xs ys : List _) → Decides ((u.0 == v.0) && (a.0 == b.0) && (kind_number c == kind_number d) && pointwise int_eq xs ys) (Picked u a c xs ≡ Picked v b d ys)
+unfolding task_in action_in
+picked_decides u v a b c d xs ys =
+    decides_so ((u.0 == v.0) && (a.0 == b.0) && (kind_number c == kind_number d) && pointwise int_eq xs ys) (λ e i. Picked (record { 0 = e.0.0.0 i }) (record { 0 = e.0.0.1 i }) (e.0.1 i) (e.1 i))
+    (λ e. (((ap task_in e, ap action_in e), let f : c ≡ d = cc in f), let f : xs ≡ ys = cc in f))
+    (both_decide _ (pointwise int_eq xs ys) (both_decide _ (kind_number c == kind_number d) (both_decide (u.0 == v.0) (a.0 == b.0) (Decides-eqb u.0 v.0) (Decides-eqb a.0 b.0)) (kind_decides c d)) (signed_items xs ys))
+
+pub reply_decides : (a b : Reply) → Decides (same_reply a b) (a ≡ b)
+reply_decides Ok Ok = (λ i. refl, λ i. refl)
+reply_decides (Handle a) (Handle b) = decides_so (a == b) (λ e. ap Handle e) (λ e. cc) (Decides-eqb a b)
+reply_decides (Number a) (Number b) = decides_so (int_eq a b) (λ e. ap Number e) (λ e. cc) (signed_Decides a b)
+reply_decides (Ended a) (Ended b) = decides_so (same_end a b) (λ e. ap Ended e) (λ e. cc) (end_decides a b)
+reply_decides (Given u a) (Given v b) = given_decides u v a b
+reply_decides Pending Pending = (λ i. refl, λ i. refl)
+reply_decides (Picked u a c xs) (Picked v b d ys) = picked_decides u v a b c d xs ys
+reply_decides Idle Idle = (λ i. refl, λ i. refl)
+reply_decides Stop Stop = (λ i. refl, λ i. refl)
+reply_decides (Asked a) (Asked b) = decides_so (beq a b) (λ e. ap Asked e) (λ e. cc) (booleans_Decides a b)
+reply_decides (Mtapi a) (Mtapi b) = decides_so (mtapi_number a == mtapi_number b) (λ e. ap Mtapi e) (λ e. cc) (mtapi_decides a b)
+reply_decides (Mrapi a) (Mrapi b) = decides_so (mrapi_number a == mrapi_number b) (λ e. ap Mrapi e) (λ e. cc) (mrapi_decides a b)
+reply_decides a b = (λ i. absurd (cc), λ i. absurd (cc))

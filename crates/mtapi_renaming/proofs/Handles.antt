@@ -1,0 +1,102 @@
+-- Lists of the same handles, in the same order: what is read of the handles alone is the same.
+use Rattle.std.proofs.Common.{◌≡◌, ℕ, suc, ◌+◌, Bool, true, false, ◌&&◌, cond, List, [], ◌∷◌, length, refl, ap}
+use Rattle.std.specs.Prelude.{◌==◌, not}
+use Rattle.mtapi_values.specs.declared.ends.TaskEnd.{TaskEnd}
+use Rattle.handle_pool.specs.Slots.{slot_of}
+use Rattle.handle_pool.specs.Issued.{Listed, how_many, change, change_all, with_fields, gone, listed, issued_at}
+use Rattle.mtapi_objects.specs.Tasks.{Task, is_unended, end_each, ended}
+use Rattle.mtapi_objects.specs.Groups.{freed, let_go}
+
+module _ {T : Type 0} where
+  -- an object keeps its handle, and isn't live again
+  pub record KeepsHandle (r q : Listed T) : Type 0 where
+    pub handle : q.handle ≡ r.handle
+    pub dead : r.live ≡ false → q.live ≡ false
+
+  pub keeps_itself : (r : Listed T) → KeepsHandle r r
+  keeps_itself r = record { handle = refl; dead = λ e. e }
+
+  pub keeps-fields : (f : T → T) (r : Listed T) → KeepsHandle r (with_fields f r)
+  keeps-fields f r = record { handle = refl; dead = λ e. e }
+
+  pub keeps-gone : (r : Listed T) → KeepsHandle r (gone r)
+  keeps-gone r = record { handle = refl; dead = λ e. refl }
+
+-- a list of the same handles, in the same order, in which nothing is live again
+abbrev pub SameHandles : {T : Type 0} → List (Listed T) → List (Listed T) → Type 0
+SameHandles [] [] = Unit {0}
+SameHandles [] (q ∷ qs) = ⊥
+SameHandles (r ∷ rs) [] = ⊥
+SameHandles (r ∷ rs) (q ∷ qs) = KeepsHandle r q × SameHandles rs qs
+
+module _ {T : Type 0} where
+  pub handles-same : (l : List (Listed T)) → SameHandles l l
+  handles-same [] = tt
+  handles-same (r ∷ rs) = (keeps_itself r, handles-same rs)
+
+  pub handles-change : (h : ℕ) (F : Listed T → Listed T) → ((r : Listed T) → KeepsHandle r (F r)) → (l : List (Listed T)) → SameHandles l (change h F l)
+  unfolding change
+  handles-change h F same [] = tt
+  handles-change h F same (r ∷ rs) = by_test (r.live && (r.handle == h)) (handles-change h F same rs)
+    where
+      by_test : (b : Bool) → SameHandles rs (change h F rs) → SameHandles (r ∷ rs) (cond b (F r ∷ rs) (r ∷ change h F rs))
+      by_test true v = (same r, handles-same rs)
+      by_test false v = (keeps_itself r, v)
+
+  pub handles-change_all : (p : T → Bool) (F : Listed T → Listed T) → ((r : Listed T) → KeepsHandle r (F r)) → (l : List (Listed T)) → SameHandles l (change_all p F l)
+  unfolding change_all
+  handles-change_all p F same [] = tt
+  handles-change_all p F same (r ∷ rs) = (by_test (r.live && p r.fields), handles-change_all p F same rs)
+    where
+      by_test : (b : Bool) → KeepsHandle r (cond b (F r) r)
+      by_test true = same r
+      by_test false = keeps_itself r
+
+  -- what is read of the handles alone
+  same_count : (p : ℕ → Bool) (l m : List (Listed T)) → SameHandles l m → how_many (λ r. p r.handle) m ≡ how_many (λ r. p r.handle) l
+  same_count p [] [] v = refl
+  same_count p [] (q ∷ qs) v = absurd v
+  same_count p (r ∷ rs) [] v = absurd v
+  same_count p (r ∷ rs) (q ∷ qs) v = λ i. cond {A = ℕ} (p (v.0.handle i)) 1 0 + same_count p rs qs v.1 i
+
+  pub listed-same : (h : ℕ) (l m : List (Listed T)) → SameHandles l m → listed h m ≡ listed h l
+  unfolding listed
+  listed-same h l m v = same_count (λ a. a == h) l m v
+
+  -- a change that keeps each handle lists the same ones
+  pub listed-change_all : (h : ℕ) (p : T → Bool) (F : Listed T → Listed T) → ((r : Listed T) → (F r).handle ≡ r.handle) → (l : List (Listed T)) → listed h (change_all p F l) ≡ listed h l
+  unfolding listed change_all
+  listed-change_all h p F same [] = refl
+  listed-change_all h p F same (r ∷ rs) = λ i. cond {A = ℕ} (by_test (r.live && p r.fields) i == h) 1 0 + listed-change_all h p F same rs i
+    where
+      by_test : (b : Bool) → (cond b (F r) r).handle ≡ r.handle
+      by_test true = same r
+      by_test false = refl
+
+  pub issued_at-same : (h : ℕ) (l m : List (Listed T)) → SameHandles l m → issued_at h m ≡ issued_at h l
+  unfolding issued_at
+  issued_at-same h l m v = same_count (λ a. slot_of a == slot_of h) l m v
+
+  pub length-same : (l m : List (Listed T)) → SameHandles l m → length m ≡ length l
+  length-same [] [] v = refl
+  length-same [] (q ∷ qs) v = absurd v
+  length-same (r ∷ rs) [] v = absurd v
+  length-same (r ∷ rs) (q ∷ qs) v = ap suc (length-same rs qs v.1)
+
+pub keeps-ended : (e : TaskEnd) (n : ℕ) (r : Listed Task) → KeepsHandle r (ended e n r)
+keeps-ended e n r = record { handle = refl; dead = λ d. ap (λ (b : Bool). b && not r.fields.notes.detached) d }
+
+pub keeps-freed : (r : Listed Task) → KeepsHandle r (freed r)
+keeps-freed r = record { handle = refl; dead = λ e. refl }
+
+pub keeps-let_go : (r : Listed Task) → KeepsHandle r (let_go r)
+keeps-let_go r = record { handle = refl; dead = λ d. ap (λ (b : Bool). b && is_unended r.fields) d }
+
+pub handles-ends : (p : Task → Bool) (e : TaskEnd) (n : ℕ) (l : List (Listed Task)) → SameHandles l (end_each p e n l)
+unfolding end_each
+handles-ends p e n [] = tt
+handles-ends p e n (r ∷ rs) = by_pass (r.live && p r.fields) (handles-ends p e n rs) (handles-ends p e (n + 1) rs)
+  where
+    by_pass : (b : Bool) → SameHandles rs (end_each p e n rs) → SameHandles rs (end_each p e (n + 1) rs) → SameHandles (r ∷ rs) (cond b (ended e n r ∷ end_each p e (n + 1) rs) (r ∷ end_each p e n rs))
+    by_pass true x y = (keeps-ended e n r, y)
+    by_pass false x y = (keeps_itself r, x)

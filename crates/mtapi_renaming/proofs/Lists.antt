@@ -1,0 +1,142 @@
+-- What a list of objects answers once its handles are others, and what its changes leave of the renaming.
+use Rattle.std.proofs.Common.{◌≡◌, ℕ, ◌≤◌, Bool, true, false, ◌&&◌, cond, List, [], ◌∷◌, Some, refl, sym, ◌∙◌, ap, subst}
+use Rattle.std.specs.Prelude.{◌==◌}
+use Rattle.std.specs.Option.{option_map}
+use Rattle.std.proofs.lemmas.Bool.{eqb-true, eq-eqb}
+use Rattle.mtapi_values.specs.declared.handles.ObjectKind.{ObjectKind}
+use Rattle.handle_pool.specs.Issued.{Listed, live_of, lookup, live_object, any_live, any_listed, first_handle, count_listed, listed, issue, change, change_all}
+use Rattle.handle_pool.specs.Inside.{inside, Apart, Agree}
+use Rattle.handle_pool.specs.Inside.{turned as turned_one}
+use Rattle.handle_pool.proofs.InsideLemmas.{at-inside, count-inside}
+use Rattle.handle_pool.proofs.LiveLemmas.{same_tests}
+use Rattle.handle_pool.proofs.ListedLemmas.{listed-change}
+use Rattle.mtapi_renaming.proofs.Handles.{listed-change_all}
+use Rattle.mtapi_renaming.specs.Renaming.{Renaming, Has, IsOneToOne}
+use Rattle.mtapi_renaming.specs.Renamed.{renamed_list}
+use Rattle.mtapi_renaming.specs.Follows.{HasEach, HasOnly, FollowsList}
+
+-- two handles are told apart by their other ones, where the first has another
+pub same_test : (g : Renaming) → IsOneToOne g → (k : ObjectKind) (a b : ℕ) → Has g k a → (g k a == g k b) ≡ (a == b)
+same_test g one k a b has = same_tests (g k a == g k b) (a == b) (λ e. eq-eqb a b (one k a b has (eqb-true (g k a) (g k b) e))) (λ e. eq-eqb (g k a) (g k b) (ap (g k) (eqb-true a b e)))
+
+module _ {T : Type 0} (g : Renaming) (one : IsOneToOne g) (k : ObjectKind) (f : T → T) (P : T → Type 0) where
+  -- a handle of the list stands apart from any other handle
+  pub apart : (h : ℕ) (l : List (Listed T)) → HasEach g k P l → Apart (g k) (λ i x. f x) h l
+  apart h [] n = tt
+  apart h (r ∷ rs) n = (λ e. one k r.handle h n.0.0 e, apart h rs n.1)
+
+  -- the live object of a handle
+  pub found-renamed : (h : ℕ) (l : List (Listed T)) → HasEach g k P l → live_object (renamed_list (g k) f l) (g k h) ≡ option_map f (live_object l h)
+  found-renamed h l n = at-inside (g k) (λ i x. f x) h l (apart h l n)
+
+  -- what is read of the live objects by a test
+  module _ (q m : T → Bool) (same : (x : T) → P x → q (f x) ≡ m x) where
+    pub same_any : (l : List (Listed T)) → HasEach g k P l → any_listed q (renamed_list (g k) f l) ≡ any_listed m l
+    unfolding live_of inside
+    same_any [] n = refl
+    same_any (r ∷ rs) n = by_live r.live (same_any rs n.1)
+      where
+        by_live : (b : Bool) → any_listed q (renamed_list (g k) f rs) ≡ any_listed m rs →
+            any_live q (cond b ((g k r.handle, f r.fields) ∷ live_of (renamed_list (g k) f rs)) (live_of (renamed_list (g k) f rs))) ≡ any_live m (cond b ((r.handle, r.fields) ∷ live_of rs) (live_of rs))
+        by_live true e = λ i. cond (same r.fields n.0.1 i) true (e i)
+        by_live false e = e
+
+    pub same_first : (l : List (Listed T)) → HasEach g k P l → first_handle q (live_of (renamed_list (g k) f l)) ≡ option_map (g k) (first_handle m (live_of l))
+    unfolding live_of inside
+    same_first [] n = refl
+    same_first (r ∷ rs) n = by_live r.live (same_first rs n.1)
+      where
+        by_pass : (b : Bool) → first_handle q (live_of (renamed_list (g k) f rs)) ≡ option_map (g k) (first_handle m (live_of rs)) →
+            cond b (Some (g k r.handle)) (first_handle q (live_of (renamed_list (g k) f rs))) ≡ option_map (g k) (cond b (Some r.handle) (first_handle m (live_of rs)))
+        by_pass true e = refl
+        by_pass false e = e
+
+        by_live : (b : Bool) → first_handle q (live_of (renamed_list (g k) f rs)) ≡ option_map (g k) (first_handle m (live_of rs)) →
+            first_handle q (cond b ((g k r.handle, f r.fields) ∷ live_of (renamed_list (g k) f rs)) (live_of (renamed_list (g k) f rs))) ≡ option_map (g k) (first_handle m (cond b ((r.handle, r.fields) ∷ live_of rs) (live_of rs)))
+        by_live true e = ap (λ (b : Bool). cond b (Some (g k r.handle)) (first_handle q (live_of (renamed_list (g k) f rs)))) (same r.fields n.0.1) ∙ by_pass (m r.fields) e
+        by_live false e = e
+
+    pub same_count : (l : List (Listed T)) → HasEach g k P l → count_listed q (renamed_list (g k) f l) ≡ count_listed m l
+    same_count l n = count-inside (g k) (λ i x. f x) (λ r. r.live && q r.fields) (λ r. r.live && m r.fields) l (agree l n)
+      where
+        agree : (xs : List (Listed T)) → HasEach g k P xs → Agree (g k) (λ i x. f x) (λ r. r.live && q r.fields) (λ r. r.live && m r.fields) xs
+        agree [] n = tt
+        agree (r ∷ rs) n = (ap (λ (b : Bool). r.live && b) (same r.fields n.0.1), agree rs n.1)
+
+    -- every live object that passes changes
+    pub change_all-renamed : (F G : Listed T → Listed T) → ((r : Listed T) → turned_one (g k) (λ i x. f x) (F r) ≡ G (turned_one (g k) (λ i x. f x) r)) →
+        (l : List (Listed T)) → HasEach g k P l → renamed_list (g k) f (change_all m F l) ≡ change_all q G (renamed_list (g k) f l)
+    unfolding change_all inside
+    change_all-renamed F G to [] n = refl
+    change_all-renamed F G to (r ∷ rs) n = λ i. by_test (r.live && m r.fields) i ∷ change_all-renamed F G to rs n.1 i
+      where
+        by_pass : (b : Bool) → turned_one (g k) (λ i x. f x) (cond b (F r) r) ≡ cond b (G (turned_one (g k) (λ i x. f x) r)) (turned_one (g k) (λ i x. f x) r)
+        by_pass true = to r
+        by_pass false = refl
+
+        by_test : (b : Bool) → turned_one (g k) (λ i x. f x) (cond (r.live && m r.fields) (F r) r) ≡ cond (r.live && q (f r.fields)) (G (turned_one (g k) (λ i x. f x) r)) (turned_one (g k) (λ i x. f x) r)
+        by_test b = by_pass (r.live && m r.fields) ∙ (λ i. cond (r.live && (sym (same r.fields n.0.1) i)) (G (turned_one (g k) (λ i x. f x) r)) (turned_one (g k) (λ i x. f x) r))
+
+module _ {T : Type 0} (g : Renaming) (k : ObjectKind) (P : T → Type 0) where
+  -- the live object of a handle, and the handle
+  pub found-has : (h : ℕ) (x : T) (l : List (Listed T)) → HasEach g k P l → live_object l h ≡ Some x → Has g k h × P x
+  unfolding live_of
+  found-has h x [] n e = absurd (cc)
+  found-has h x (r ∷ rs) n e = by_live r.live (λ d. found-has h x rs n.1 d) e
+    where
+      by_handle : (b : Bool) → (r.handle == h) ≡ b → (live_object rs h ≡ Some x → Has g k h × P x) → cond b (Some r.fields) (live_object rs h) ≡ Some x → Has g k h × P x
+      by_handle true i rest d = (subst (λ (y : ℕ). Has g k y) (eqb-true r.handle h i) n.0.0, let is : r.fields ≡ x = cc in subst P is n.0.1)
+      by_handle false i rest d = rest d
+
+      by_live : (b : Bool) → (live_object rs h ≡ Some x → Has g k h × P x) → lookup (cond b ((r.handle, r.fields) ∷ live_of rs) (live_of rs)) h ≡ Some x → Has g k h × P x
+      by_live true rest d = by_handle (r.handle == h) refl rest d
+      by_live false rest d = rest d
+
+  -- the handle of the first live object that passes
+  pub first-has : (m : T → Bool) (l : List (Listed T)) (h : ℕ) → HasEach g k P l → first_handle m (live_of l) ≡ Some h → Has g k h
+  unfolding live_of
+  first-has m [] h n e = absurd (cc)
+  first-has m (r ∷ rs) h n e = by_live r.live (λ d. first-has m rs h n.1 d) e
+    where
+      by_pass : (b : Bool) → (first_handle m (live_of rs) ≡ Some h → Has g k h) → cond b (Some r.handle) (first_handle m (live_of rs)) ≡ Some h → Has g k h
+      by_pass true rest d = let is : r.handle ≡ h = cc in subst (λ (x : ℕ). Has g k x) is n.0.0
+      by_pass false rest d = rest d
+
+      by_live : (b : Bool) → (first_handle m (live_of rs) ≡ Some h → Has g k h) → first_handle m (cond b ((r.handle, r.fields) ∷ live_of rs) (live_of rs)) ≡ Some h → Has g k h
+      by_live true rest d = by_pass (m r.fields) rest d
+      by_live false rest d = rest d
+
+  -- what the changes of a list leave of the renaming
+
+  has-change : (h : ℕ) (F : Listed T → Listed T) → ((r : Listed T) → (F r).handle ≡ r.handle) → ((r : Listed T) → P r.fields → P (F r).fields) → (l : List (Listed T)) → HasEach g k P l → HasEach g k P (change h F l)
+  unfolding change
+  has-change h F same keeps [] n = tt
+  has-change h F same keeps (r ∷ rs) n = by_test (r.live && (r.handle == h)) (has-change h F same keeps rs n.1)
+    where
+      by_test : (b : Bool) → HasEach g k P (change h F rs) → HasEach g k P (cond b (F r ∷ rs) (r ∷ change h F rs))
+      by_test true rest = ((subst (λ (x : ℕ). Has g k x) (sym (same r)) n.0.0, keeps r n.0.1), n.1)
+      by_test false rest = (n.0, rest)
+
+  has-change_all : (p : T → Bool) (F : Listed T → Listed T) → ((r : Listed T) → (F r).handle ≡ r.handle) → ((r : Listed T) → P r.fields → P (F r).fields) → (l : List (Listed T)) → HasEach g k P l → HasEach g k P (change_all p F l)
+  unfolding change_all
+  has-change_all p F same keeps [] n = tt
+  has-change_all p F same keeps (r ∷ rs) n = (by_test (r.live && p r.fields), has-change_all p F same keeps rs n.1)
+    where
+      by_test : (b : Bool) → Has g k (cond b (F r) r).handle × P (cond b (F r) r).fields
+      by_test true = (subst (λ (x : ℕ). Has g k x) (sym (same r)) n.0.0, keeps r n.0.1)
+      by_test false = n.0
+
+  pub has-issue : (h : ℕ) (v : T) (l : List (Listed T)) → Has g k h → P v → HasEach g k P l → HasEach g k P (issue h v l)
+  unfolding issue
+  has-issue h v [] some p n = ((some, p), tt)
+  has-issue h v (r ∷ rs) some p n = (n.0, has-issue h v rs some p n.1)
+
+  -- the same handles stay listed
+  pub only_same : (l m : List (Listed T)) → ((h : ℕ) → listed h m ≡ listed h l) → HasOnly g k l → HasOnly g k m
+  only_same l m e o h has = subst (λ (n : ℕ). 1 ≤ n) (sym (e h)) (o h has)
+
+  pub follows-change : (h : ℕ) (F : Listed T → Listed T) → ((r : Listed T) → (F r).handle ≡ r.handle) → ((r : Listed T) → P r.fields → P (F r).fields) → (l : List (Listed T)) → FollowsList g k P l → FollowsList g k P (change h F l)
+  follows-change h F same keeps l v = record { each = has-change h F same keeps l v.each; only = only_same l (change h F l) (λ j. listed-change j h F same l) v.only }
+
+  pub follows-change_all : (p : T → Bool) (F : Listed T → Listed T) → ((r : Listed T) → (F r).handle ≡ r.handle) → ((r : Listed T) → P r.fields → P (F r).fields) → (l : List (Listed T)) → FollowsList g k P l → FollowsList g k P (change_all p F l)
+  follows-change_all p F same keeps l v = record { each = has-change_all p F same keeps l v.each; only = only_same l (change_all p F l) (λ j. listed-change_all j p F same l) v.only }

@@ -1,0 +1,86 @@
+-- A worker that may take a task isn't told anything else.
+use Rattle.std.proofs.Common.{◌≡◌, ℕ, Bool, true, false, ◌&&◌, cond, List, [], ◌∷◌, Option, Some, None, refl, sym, subst}
+use Rattle.std.specs.Prelude.{not, ℤ}
+use Rattle.mtapi_values.specs.declared.kinds.Kind.{Kind}
+use Rattle.mtapi_values.specs.declared.handles.TaskHandle.{TaskHandle}
+use Rattle.mtapi_values.specs.declared.handles.ActionHandle.{ActionHandle}
+use Rattle.handle_pool.specs.Issued.{live_of, live_object, any_listed}
+use Rattle.handle_pool.proofs.LiveLemmas.{any_live-at}
+use Rattle.mtapi_objects.specs.Actions.{Action, is_eligible}
+use Rattle.mtapi_objects.specs.Tasks.{Task}
+use Rattle.mtapi_machine.specs.declared.ops.Op.TheVariants as op
+use Rattle.mtapi_machine.specs.declared.replies.Reply.{Reply}
+use Rattle.mtapi_machine.specs.declared.replies.Reply.TheVariants.{Picked, Idle, Stop}
+use Rattle.mtapi_machine.specs.State.{State, workers, is_stop}
+use Rattle.mtapi_machine.specs.Moves.{stops, runs_task}
+use Rattle.mtapi_machine.specs.Row.{Row, unless, gives, never, Allows, says, only, live}
+use Rattle.mtapi_machine.specs.WorkRows.{is_ready, can_take, has_better, picks}
+use Rattle.mtapi_machine.specs.Rows.{row}
+use Rattle.mtapi_machine.proofs.Made.{fst_true, snd_true}
+use Rattle.mtapi_renaming.specs.Kinds.{takes_task}
+
+-- where a row takes a task, it allows nothing else
+record OnlyTakes (own : Reply → Row) : Type 0 where
+  takes : (t : TaskHandle) (a : ActionHandle) (k : Kind) (args : List ℤ) (r : Reply) → Allows (own (Picked t a k args)) (Picked t a k args) → Allows (own r) r → takes_task op.Pick r ≡ true
+
+-- a reply that takes no task is another one
+other_reply : (t : TaskHandle) (a : ActionHandle) (k : Kind) (args : List ℤ) (y : Reply) → takes_task op.Pick y ≡ false → Picked t a k args ≡ y → ⊥
+other_reply t a k args y e i = let d : takes_task op.Pick (Picked t a k args) ≡ false = subst (λ (z : Reply). takes_task op.Pick z ≡ false) (sym i) e in absurd (cc)
+
+unless_takes : {b : Bool} {y : Reply} {own : Reply → Row} → takes_task op.Pick y ≡ false → OnlyTakes own → OnlyTakes (λ r. unless b y (own r))
+unless_takes {b} {y} {own} e v = by_test b
+  where
+    by_test : (c : Bool) → OnlyTakes (λ r. unless c y (own r))
+    by_test true = record { takes = λ t a k args r i j. absurd (other_reply t a k args y e i) }
+    by_test false = record { takes = v.takes }
+
+stop_takes : (b : Bool) (w : ℕ) {own : Reply → Row} → OnlyTakes own → OnlyTakes (λ r. cond b (gives Stop (stops w ∷ [])) (own r))
+stop_takes b w {own} v = by_test b
+  where
+    by_test : (c : Bool) → OnlyTakes (λ r. cond c (gives Stop (stops w ∷ [])) (own r))
+    by_test true = record { takes = λ t a k args r i j. absurd (other_reply t a k args Stop refl i) }
+    by_test false = record { takes = v.takes }
+
+-- the worker could take the task that it takes
+could_take : (s : State) (w : ℕ) (t a : ℕ) (x : Task) (y : Action) → live_object s.tasks t ≡ Some x → live_object s.actions a ≡ Some y → (is_ready s x && is_eligible (workers s) w x.job x.cores y) ≡ true → any_listed (can_take s w) s.tasks ≡ true
+unfolding can_take
+could_take s w t a x y d e may =
+    let eligible : any_listed (is_eligible (workers s) w x.job x.cores) s.actions ≡ true = any_live-at (is_eligible (workers s) w x.job x.cores) (live_of s.actions) a y e (snd_true (is_ready s x) _ may) in
+    any_live-at (can_take s w) (live_of s.tasks) t x d (both _ _ (fst_true (is_ready s x) _ may) eligible)
+  where
+    both : (b c : Bool) → b ≡ true → c ≡ true → (b && c) ≡ true
+    both b c i j = λ n. i n && j n
+
+picked : (s : State) (w : ℕ) (t : TaskHandle) (a : ActionHandle) (k : Kind) (args : List ℤ) → Allows (picks s w (Picked t a k args)) (Picked t a k args) → any_listed (can_take s w) s.tasks ≡ true
+picked s w t a k args = by_objects (live_object s.tasks t.0) (live_object s.actions a.0) refl refl
+  where
+    test : Task → Action → Bool
+    test x y = is_ready s x && is_eligible (workers s) w x.job x.cores y && not (has_better s w x.priority)
+
+    by_test : (b : Bool) (x : Task) (y : Action) → live_object s.tasks t.0 ≡ Some x → live_object s.actions a.0 ≡ Some y → test x y ≡ b → Allows (only b (gives (Picked t a y.kind x.args) (runs_task t.0 w y.kind ∷ []))) (Picked t a k args) → any_listed (can_take s w) s.tasks ≡ true
+    by_test true x y d e f i = could_take s w t.0 a.0 x y d e (fst_true _ (not (has_better s w x.priority)) f)
+    by_test false x y d e f i = absurd i
+
+    by_objects : (o : Option Task) (p : Option Action) → live_object s.tasks t.0 ≡ o → live_object s.actions a.0 ≡ p →
+        Allows (live o never (λ x. live p never (λ y. only (test x y) (gives (Picked t a y.kind x.args) (runs_task t.0 w y.kind ∷ []))))) (Picked t a k args) → any_listed (can_take s w) s.tasks ≡ true
+    by_objects None p d e i = absurd i
+    by_objects (Some x) None d e i = absurd i
+    by_objects (Some x) (Some y) d e i = by_test (test x y) x y d e refl i
+
+not_idle : (b : Bool) (r : Reply) → b ≡ true → Allows (only (not b) (says Idle)) r → ⊥
+not_idle true r e i = i
+not_idle false r e i = absurd (cc)
+
+picks_take : (s : State) (w : ℕ) → OnlyTakes (picks s w)
+picks_take s w = record { takes = by_reply }
+  where
+    by_reply : (t : TaskHandle) (a : ActionHandle) (k : Kind) (args : List ℤ) (r : Reply) → Allows (picks s w (Picked t a k args)) (Picked t a k args) → Allows (picks s w r) r → takes_task op.Pick r ≡ true
+    by_reply t a k args (Picked u b l brgs) i j = refl
+    by_reply t a k args r i j = absurd (not_idle (any_listed (can_take s w) s.tasks) r (picked s w t a k args i) j)
+
+pub pick_takes : (s : State) (who : ℕ) (t : TaskHandle) (a : ActionHandle) (k : Kind) (args : List ℤ) (r : Reply) →
+    Allows (row s who op.Pick (Picked t a k args)) (Picked t a k args) → Allows (row s who op.Pick r) r → takes_task op.Pick r ≡ true
+pick_takes s who = whole.takes
+  where
+    whole : OnlyTakes (λ r. row s who op.Pick r)
+    whole = unless_takes refl (unless_takes refl (unless_takes refl (stop_takes (is_stop s) who (picks_take s who))))

@@ -1,0 +1,60 @@
+-- How many slots of a list are taken, by live objects and by those of the last generation that aren't: never more than there may be.
+use Rattle.std.proofs.Common.{◌≡◌, ℕ, ◌+◌, ◌≤◌, Bool, true, false, ◌&&◌, cond, List, [], ◌∷◌, length, refl, sym, subst, arith}
+use Rattle.std.specs.Prelude.{◌==◌, not, is_some}
+use Rattle.std.proofs.lemmas.Bool.Decides.{nat_tests}
+use Rattle.handle_pool.specs.Slots.{generation_of}
+use Rattle.handle_pool.specs.Issued.{Listed, how_many, live_of, live_object, issue, retired, is_full}
+use Rattle.handle_pool.proofs.ListedLemmas.{length-issue, retired-issue}
+use Rattle.mtapi_renaming.specs.Lasts.{lasts_in}
+use Rattle.mtapi_renaming.proofs.Handles.{SameHandles}
+use Rattle.mtapi_renaming.proofs.Lasts.{OnceEach, retired-gone}
+
+module _ {T : Type 0} where
+  -- how many slots are taken
+  abbrev pub taken : ℕ → List (Listed T) → ℕ
+  taken last l = length (live_of l) + retired last l
+
+  -- no more than there may be
+  abbrev pub IsWithin : ℕ → ℕ → List (Listed T) → Type 0
+  IsWithin last max l = taken last l ≤ max
+
+  -- where each object keeps its handle and none is live again, no slot more is taken
+  pub taken-same : (last : ℕ) (l m : List (Listed T)) → SameHandles l m → taken last m ≤ taken last l
+  unfolding live_of retired
+  taken-same last [] [] v = omega arith
+  taken-same last [] (q ∷ qs) v = absurd v
+  taken-same last (r ∷ rs) [] v = absurd v
+  taken-same last (r ∷ rs) (q ∷ qs) v =
+      subst (λ (n : ℕ). length (cond q.live ((q.handle, q.fields) ∷ live_of qs) (live_of qs)) + (cond (not q.live && (generation_of n == last)) 1 0 + retired last qs) ≤ taken last (r ∷ rs)) (sym v.0.handle)
+      (by_live r.live q.live (generation_of r.handle == last) v.0.dead (taken-same last rs qs v.1))
+    where
+      by_live : (a b c : Bool) → (a ≡ false → b ≡ false) → taken last qs ≤ taken last rs →
+          length (cond b ((q.handle, q.fields) ∷ live_of qs) (live_of qs)) + (cond {A = ℕ} (not b && c) 1 0 + retired last qs) ≤ length (cond a ((r.handle, r.fields) ∷ live_of rs) (live_of rs)) + (cond {A = ℕ} (not a && c) 1 0 + retired last rs)
+      by_live true true c d e = omega (arith, e)
+      by_live true false true d e = omega (arith, e)
+      by_live true false false d e = omega (arith, e)
+      by_live false true c d e = let off : true ≡ false = d refl in absurd (cc)
+      by_live false false true d e = omega (arith, e)
+      by_live false false false d e = omega (arith, e)
+
+  pub within-same : (last max : ℕ) (l m : List (Listed T)) → SameHandles l m → IsWithin last max l → IsWithin last max m
+  within-same last max l m v w = let less : taken last m ≤ taken last l = taken-same last l m v in omega (arith, less, w)
+
+  room_left : (last max : ℕ) (l : List (Listed T)) → is_full last max l ≡ false → IsWithin last max l → taken last l + 1 ≤ max
+  unfolding is_full
+  room_left last max l e w = grind (arith, nat_tests)
+
+  -- an object is made only where a slot is left
+  pub within-issue : (last max h : ℕ) (v : T) (l : List (Listed T)) → is_full last max l ≡ false → IsWithin last max l → IsWithin last max (issue h v l)
+  within-issue last max h v l e w =
+      let left : taken last l + 1 ≤ max = room_left last max l e w in
+      let one : length (live_of (issue h v l)) ≡ length (live_of l) + 1 = length-issue h v l in
+      let same : retired last (issue h v l) ≡ retired last l = retired-issue last h v l in omega (arith, left, one, same)
+
+  -- so by the handles of the last generation
+  pub within-told : (last max : ℕ) (l : List (Listed T)) → OnceEach l → IsWithin last max l → length (live_of l) + how_many (λ h. not (is_some (live_object l h))) (lasts_in last l) ≤ max
+  within-told last max l v w = subst (λ (n : ℕ). length (live_of l) + n ≤ max) (retired-gone last l v) w
+
+pub none_within : (T : Type 0) (last max : ℕ) → IsWithin {T = T} last max []
+unfolding live_of retired
+none_within T last max = omega arith

@@ -1,0 +1,222 @@
+-- The ways in which a row is made up: where its parts are alike in the renamed state, so is the whole.
+use Rattle.std.proofs.Common.{◌≡◌, ◌↔◌, ℕ, Bool, true, false, List, [], ◌∷◌, Option, Some, None, refl, sym, ◌∙◌, ap, subst}
+use Rattle.std.specs.Prelude.{◌==◌, cond}
+use Rattle.std.specs.Option.{option_map}
+use Rattle.mtapi_values.specs.declared.handles.ObjectKind.{ObjectKind}
+use Rattle.mtapi_values.specs.declared.handles.ObjectKind.TheVariants as kind
+use Rattle.mtapi_values.specs.declared.handles.TaskHandle.{TaskHandle}
+use Rattle.mtapi_values.specs.declared.handles.ActionHandle.{ActionHandle}
+use Rattle.mtapi_values.specs.declared.statuses.MrapiStatus.{MrapiStatus}
+use Rattle.mtapi_values.specs.declared.ends.TaskEnd.{TaskEnd}
+use Rattle.mtapi_values.specs.declared.kinds.Kind.{Kind}
+use Rattle.handle_pool.specs.Issued.{Listed, live_of, live_object, any_listed, first_handle}
+use Rattle.mtapi_objects.specs.Actions.{Action}
+use Rattle.mtapi_objects.specs.Tasks.{Task}
+use Rattle.mtapi_machine.specs.declared.replies.Reply.{Reply}
+use Rattle.mtapi_machine.specs.declared.replies.Reply.TheVariants.{Handle, Given, Picked}
+use Rattle.mtapi_machine.specs.State.{State, actions, tasks}
+use Rattle.mtapi_machine.specs.Moves.{Move, Sort, Groups, Queues, Mutexes, Sems, Rwls, Segments, Fields, all_of}
+use Rattle.mtapi_machine.specs.Row.{Row, unless, gives, never, Allows, after_row, says, not_yet, only, live, on, chosen}
+use Rattle.mtapi_machine.specs.KeyedRows.{Keyed, mrapi_unless, found, gets, alters_one, looks_one, deletes}
+use Rattle.mtapi_layouts.proofs.Rows.{is_plain}
+use Rattle.mtapi_renaming.specs.Renaming.{Renaming, Has, IsOneToOne}
+use Rattle.mtapi_renaming.specs.Renamed.{Room, renamed_task, renamed}
+use Rattle.mtapi_renaming.specs.Follows.{HasTask, NoHandle, Follows}
+use Rattle.mtapi_renaming.specs.Ops.{renamed_answer}
+use Rattle.mtapi_renaming.proofs.Lists.{found-renamed, found-has, first-has, same_any, same_first}
+use Rattle.mtapi_renaming.proofs.Moves.{MovesRename, no_move, one_move, sort-list, sort-follows, alters-renames, removes-renames}
+
+-- each handle in the reply has another one, where an object that it answers is of this kind
+abbrev pub HasOf : Renaming → Option ObjectKind → ℕ → Type 0
+HasOf g None h = ⊥
+HasOf g (Some k) h = Has g k h
+
+abbrev pub HasAnswer : Renaming → Option ObjectKind → Reply → Type 0
+HasAnswer g k (Handle h) = HasOf g k h
+HasAnswer g k (Given t e) = Has g kind.Task t.0
+HasAnswer g k (Picked t a x args) = Has g kind.Task t.0 × Has g kind.Action a.0
+HasAnswer g k r = Unit {0}
+
+plain-same : (g : Renaming) (k : Option ObjectKind) (y : Reply) → is_plain y ≡ true → renamed_answer g k y ≡ y
+plain-same g k (Handle h) p = absurd (cc)
+plain-same g k (Given t e) p = absurd (cc)
+plain-same g k (Picked t a x args) p = absurd (cc)
+plain-same g k y p = refl
+
+plain-has : (g : Renaming) (k : Option ObjectKind) (y : Reply) → is_plain y ≡ true → HasAnswer g k y
+plain-has g k (Handle h) p = absurd (cc)
+plain-has g k (Given t e) p = absurd (cc)
+plain-has g k (Picked t a x args) p = absurd (cc)
+plain-has g k y p = tt
+
+no_plain : (y z : Reply) → is_plain y ≡ true → z ≡ y → is_plain z ≡ false → ⊥
+no_plain y z p e f = let t : is_plain z ≡ true = subst (λ (w : Reply). is_plain w ≡ true) (sym e) p in absurd (cc)
+
+-- no two replies become the same one
+plain_one : (g : Renaming) (k : Option ObjectKind) (y r : Reply) → is_plain y ≡ true → renamed_answer g k r ≡ y → r ≡ y
+plain_one g k y (Handle h) p e = absurd (no_plain y _ p e refl)
+plain_one g k y (Given t d) p e = absurd (no_plain y _ p e refl)
+plain_one g k y (Picked t a x args) p e = absurd (no_plain y _ p e refl)
+plain_one g k y r p e = e
+
+handle_one : (g : Renaming) → IsOneToOne g → (k : ObjectKind) (h : ℕ) (r : Reply) → Has g k h → renamed_answer g (Some k) r ≡ Handle (g k h) → r ≡ Handle h
+handle_one g one k h (Handle a) has e = let d : g k h ≡ g k a = cc in ap Handle (sym (one k h a has d))
+handle_one g one k h (Given t d) has e = absurd (cc)
+handle_one g one k h (Picked t a x args) has e = absurd (cc)
+handle_one g one k h r has e = absurd (cc)
+
+given_one : (g : Renaming) → IsOneToOne g → (k : Option ObjectKind) (t : TaskHandle) (end : TaskEnd) (r : Reply) → Has g kind.Task t.0 → renamed_answer g k r ≡ renamed_answer g k (Given t end) → r ≡ Given t end
+given_one g one k t end (Given u d) has e =
+    let i : g kind.Task t.0 ≡ g kind.Task u.0 = ap (λ (y : Reply). task_in y) (sym e) in
+    let same : d ≡ end = cc in
+    λ j. Given (record { 0 = sym (one kind.Task t.0 u.0 has i) j }) (same j)
+  where
+    task_in : Reply → ℕ
+    task_in (Given v b) = v.0
+    task_in _ = 0
+given_one g one k t end (Handle a) has e = absurd (cc)
+given_one g one k t end (Picked u a x args) has e = absurd (cc)
+given_one g one k t end r has e = absurd (cc)
+
+picked_one : (g : Renaming) → IsOneToOne g → (k : Option ObjectKind) (t : TaskHandle) (a : ActionHandle) (x : Kind) (args : List _) (r : Reply) → Has g kind.Task t.0 → Has g kind.Action a.0 →
+    renamed_answer g k r ≡ renamed_answer g k (Picked t a x args) → r ≡ Picked t a x args
+picked_one g one k t a x args (Picked u b y brgs) has some e =
+    let i : g kind.Task t.0 ≡ g kind.Task u.0 = ap (λ (z : Reply). task_in z) (sym e) in
+    let j : g kind.Action a.0 ≡ g kind.Action b.0 = ap (λ (z : Reply). action_in z) (sym e) in
+    let c : y ≡ x = cc in
+    let d : brgs ≡ args = cc in
+    λ n. Picked (record { 0 = sym (one kind.Task t.0 u.0 has i) n }) (record { 0 = sym (one kind.Action a.0 b.0 some j) n }) (c n) (d n)
+  where
+    task_in : Reply → ℕ
+    task_in (Picked v w z crgs) = v.0
+    task_in _ = 0
+
+    action_in : Reply → ℕ
+    action_in (Picked v w z crgs) = w.0
+    action_in _ = 0
+picked_one g one k t a x args (Handle h) has some e = absurd (cc)
+picked_one g one k t a x args (Given u d) has some e = absurd (cc)
+picked_one g one k t a x args r has some e = absurd (cc)
+
+reply_one : (g : Renaming) → IsOneToOne g → (k : Option ObjectKind) (y r : Reply) → HasAnswer g k y → renamed_answer g k r ≡ renamed_answer g k y → r ≡ y
+reply_one g one None (Handle h) r has e = absurd has
+reply_one g one (Some k) (Handle h) r has e = handle_one g one k h r has e
+reply_one g one k (Given t end) r has e = given_one g one k t end r has e
+reply_one g one k (Picked t a x args) r has e = picked_one g one k t a x args r has.0 has.1 e
+reply_one g one k y r has e = plain_one g k y r refl e
+
+pub sort-invalid : (t : Sort) → is_plain (all_of t).invalid ≡ true
+sort-invalid Groups = refl
+sort-invalid Queues = refl
+sort-invalid Mutexes = refl
+sort-invalid Sems = refl
+sort-invalid Rwls = refl
+sort-invalid Segments = refl
+
+-- the first row allows the reply exactly where the other one, in the renamed state, allows the renamed one; then both lead to one state,
+-- and the renaming has just what was issued
+pub record Alike (g : Renaming) (x : Room) (s : State) (k : Option ObjectKind) (r : Reply) (own other : Row) : Type 0 where
+  pub allowed : Allows own r ↔ Allows other (renamed_answer g k r)
+  pub leads : Allows own r → renamed g x (after_row s own) ≡ after_row (renamed g x s) other
+  pub follows : Allows own r → Follows g (after_row s own)
+
+module _ {g : Renaming} {x : Room} {s : State} (n : Follows g s) {k : Option ObjectKind} {r : Reply} where
+  pub gives_renamed : {y : Reply} {ms ws : List Move} → HasAnswer g k y → MovesRename g x s ms ws → Alike g x s k r (gives y ws) (gives (renamed_answer g k y) ms)
+  gives_renamed {y} has e = record {
+    allowed = (λ i. ap (renamed_answer g k) i, λ i. reply_one g n.one k y r has i);
+    leads = λ i. e.same;
+    follows = λ i. e.follows;
+  }
+
+  pub gives_alike : {y : Reply} {ms ws : List Move} → is_plain y ≡ true → MovesRename g x s ms ws → Alike g x s k r (gives y ws) (gives y ms)
+  gives_alike {y} {ms} {ws} p e = subst (λ (z : Reply). Alike g x s k r (gives y ws) (gives z ms)) (plain-same g k y p) (gives_renamed (plain-has g k y p) e)
+
+  pub says_alike : {y : Reply} → is_plain y ≡ true → Alike g x s k r (says y) (says y)
+  says_alike p = gives_alike p (no_move n)
+
+  pub never_alike : Alike g x s k r never never
+  never_alike = record { allowed = (λ i. i, λ i. i); leads = λ i. absurd i; follows = λ i. absurd i }
+
+  pub unless_alike : {a b : Bool} {y : Reply} {own other : Row} → b ≡ a → is_plain y ≡ true → Alike g x s k r own other → Alike g x s k r (unless a y own) (unless b y other)
+  unless_alike {a} {b} {y} {own} {other} e p w = subst (λ (z : Bool). Alike g x s k r (unless a y own) (unless z y other)) (sym e) (by_test a)
+    where
+      by_test : (z : Bool) → Alike g x s k r (unless z y own) (unless z y other)
+      by_test true = let v : Alike g x s k r (says y) (says y) = says_alike p in record { allowed = v.allowed; leads = v.leads; follows = v.follows }
+      by_test false = record { allowed = w.allowed; leads = w.leads; follows = w.follows }
+
+  pub not_yet_alike : (last : Bool) (late : Reply) → is_plain late ≡ true → Alike g x s k r (not_yet last late) (not_yet last late)
+  not_yet_alike true late p = says_alike p
+  not_yet_alike false late p = says_alike refl
+
+  pub cond_alike : (a b : Bool) {v w y z : Row} → b ≡ a → Alike g x s k r v y → Alike g x s k r w z → Alike g x s k r (cond a v w) (cond b y z)
+  cond_alike a b {v} {w} {y} {z} e i j = subst (λ (c : Bool). Alike g x s k r (cond a v w) (cond c y z)) (sym e) (by_test a)
+    where
+      by_test : (c : Bool) → Alike g x s k r (cond c v w) (cond c y z)
+      by_test true = i
+      by_test false = j
+
+  pub only_alike : {a b : Bool} {own other : Row} → b ≡ a → Alike g x s k r own other → Alike g x s k r (only a own) (only b other)
+  only_alike {a} {b} {own} {other} e w = subst (λ (z : Bool). Alike g x s k r (only a own) (only z other)) (sym e) (by_test a)
+    where
+      by_test : (z : Bool) → Alike g x s k r (only z own) (only z other)
+      by_test true = w
+      by_test false = never_alike
+
+  pub live_alike : {T : Type 0} (f : T → T) {o p : Option T} {own other : Row} (v w : T → Row) → p ≡ option_map f o → Alike g x s k r own other → ((y : T) → o ≡ Some y → Alike g x s k r (v y) (w (f y))) → Alike g x s k r (live o own v) (live p other w)
+  live_alike {T} f {o} {p} {own} {other} v w e i j = subst (λ (z : Option T). Alike g x s k r (live o own v) (live z other w)) (sym e) (by_object o refl)
+    where
+      by_object : (z : Option T) → o ≡ z → Alike g x s k r (live z own v) (live (option_map f z) other w)
+      by_object None d = i
+      by_object (Some y) d = j y d
+
+  pub mrapi_alike : (cs : List (Bool × MrapiStatus)) {own other : Row} → Alike g x s k r own other → Alike g x s k r (mrapi_unless cs own) (mrapi_unless cs other)
+  mrapi_alike [] w = w
+  mrapi_alike (c ∷ cs) w = unless_alike refl refl (mrapi_alike cs w)
+
+-- the objects of a kind that no rule of tasks speaks of, in the renamed state
+module _ {g : Renaming} {s : State} (n : Follows g s) (x : Room) where
+  pub sort-found : (t : Sort) (h : ℕ) → live_object ((all_of t).list (renamed g x s)) (g (all_of t).kind h) ≡ option_map (λ y. y) (live_object ((all_of t).list s) h)
+  sort-found t h = ap (λ (l : List (Listed (Fields t))). live_object l (g (all_of t).kind h)) (sort-list g x t s) ∙ found-renamed g n.one (all_of t).kind (λ y. y) NoHandle h ((all_of t).list s) (sort-follows g t s n).each
+
+  pub sort-any : (t : Sort) (p : Fields t → Bool) → any_listed p ((all_of t).list (renamed g x s)) ≡ any_listed p ((all_of t).list s)
+  sort-any t p = ap (any_listed p) (sort-list g x t s) ∙ same_any g n.one (all_of t).kind (λ y. y) NoHandle p p (λ y v. refl) ((all_of t).list s) (sort-follows g t s n).each
+
+  pub sort-first : (t : Sort) (p : Fields t → Bool) → first_handle p (live_of ((all_of t).list (renamed g x s))) ≡ option_map (g (all_of t).kind) (first_handle p (live_of ((all_of t).list s)))
+  sort-first t p = ap (λ (l : List (Listed (Fields t))). first_handle p (live_of l)) (sort-list g x t s) ∙ same_first g n.one (all_of t).kind (λ y. y) NoHandle p p (λ y v. refl) ((all_of t).list s) (sort-follows g t s n).each
+
+-- an op on an object
+module _ {g : Renaming} {x : Room} {s : State} (n : Follows g s) {k : Option ObjectKind} {r : Reply} where
+  pub on_action : (h : ℕ) (v w : Action → Row) → ((y : Action) → Alike g x s k r (v y) (w y)) → Alike g x s k r (on actions s h v) (on actions (renamed g x s) (g kind.Action h) w)
+  on_action h v w e = live_alike n (λ y. y) _ _ (found-renamed g n.one kind.Action (λ y. y) NoHandle h s.actions n.actions.each) (says_alike n refl) (λ y d. e y)
+
+  pub on_task : (h : ℕ) (v w : Task → Row) → ((y : Task) → HasTask g y → Alike g x s k r (v y) (w (renamed_task g y))) → Alike g x s k r (on tasks s h v) (on tasks (renamed g x s) (g kind.Task h) w)
+  on_task h v w e = live_alike n (renamed_task g) _ _ (found-renamed g n.one kind.Task (renamed_task g) (HasTask g) h s.tasks n.tasks.each) (says_alike n refl) (λ y d. e y (found-has g kind.Task (HasTask g) h y s.tasks n.tasks.each d).1)
+
+  pub on_sort : (t : Sort) (h : ℕ) (v w : Fields t → Row) → ((y : Fields t) → Alike g x s k r (v y) (w y)) → Alike g x s k r (on (all_of t) s h v) (on (all_of t) (renamed g x s) (g (all_of t).kind h) w)
+  on_sort t h v w e = live_alike n (λ y. y) _ _ (sort-found n x t h) (says_alike n (sort-invalid t)) (λ y d. e y)
+
+  pub chosen_sort : (t : Sort) (h : ℕ) (v w : Fields t → Row) → ((y : Fields t) → Alike g x s k r (v y) (w y)) → Alike g x s k r (chosen (all_of t) s h v) (chosen (all_of t) (renamed g x s) (g (all_of t).kind h) w)
+  chosen_sort t h v w e = live_alike n (λ y. y) _ _ (sort-found n x t h) (never_alike n) (λ y d. e y)
+
+  -- ops on one object of a kind whose objects have ids
+  pub alters_alike : (t : Sort) (h : ℕ) (causes : Fields t → List (Bool × MrapiStatus)) (reply : Fields t → Reply) (f : Fields t → Fields t) → ((y : Fields t) → is_plain (reply y) ≡ true) →
+      Alike g x s k r (alters_one t s h causes reply f) (alters_one t (renamed g x s) (g (all_of t).kind h) causes reply f)
+  alters_alike t h causes reply f o = on_sort t h _ _ (λ y. mrapi_alike n (causes y) (gives_alike n (o y) (one_move (alters-renames g x s n t h f))))
+
+  pub looks_alike : (t : Sort) (h : ℕ) (last : Bool) (causes : Fields t → List (Bool × MrapiStatus)) (busy : Fields t → Bool) (reply : Fields t → Reply) (f : Fields t → Fields t) → ((y : Fields t) → is_plain (reply y) ≡ true) →
+      Alike g x s k r (looks_one t s h last causes busy reply f) (looks_one t (renamed g x s) (g (all_of t).kind h) last causes busy reply f)
+  looks_alike t h last causes busy reply f o =
+      on_sort t h _ _ (λ y. mrapi_alike n (causes y) (cond_alike n (busy y) (busy y) refl (not_yet_alike n last _ refl) (gives_alike n (o y) (one_move (alters-renames g x s n t h f)))))
+
+  pub deletes_alike : (t : Sort) (h : ℕ) (causes : Fields t → List (Bool × MrapiStatus)) → Alike g x s k r (deletes t s h causes) (deletes t (renamed g x s) (g (all_of t).kind h) causes)
+  deletes_alike t h causes = on_sort t h _ _ (λ y. mrapi_alike n (causes y) (gives_alike n refl (one_move (removes-renames g x s n t h))))
+
+-- the object of an id
+pub gets_alike : {g : Renaming} {x : Room} {s : State} (n : Follows g s) {t : Sort} (o : Keyed t) (id : ℕ) (r : Reply) → is_plain o.absent ≡ true → Alike g x s (Some (all_of t).kind) r (gets o s id) (gets o (renamed g x s) id)
+gets_alike {g} {x} {s} n {t} o id r e =
+    subst (λ (f : Option ℕ). Alike g x s (Some (all_of t).kind) r (gets o s id) (found f o.absent)) (sym (sort-first n x t (λ y. o.id y == id)))
+    (by_first (first_handle (λ y. o.id y == id) (live_of ((all_of t).list s))) refl)
+  where
+    by_first : (f : Option ℕ) → first_handle (λ y. o.id y == id) (live_of ((all_of t).list s)) ≡ f → Alike g x s (Some (all_of t).kind) r (found f o.absent) (found (option_map (g (all_of t).kind) f) o.absent)
+    by_first None d = says_alike n e
+    by_first (Some h) d = gives_renamed n (first-has g (all_of t).kind NoHandle (λ y. o.id y == id) ((all_of t).list s) h (sort-follows g t s n).each d) (no_move n)

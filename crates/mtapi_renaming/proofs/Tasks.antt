@@ -1,0 +1,137 @@
+-- What is read of a task, and what its list becomes, once its handles are others.
+use Rattle.std.proofs.Common.{◌≡◌, ℕ, zero, suc, ◌+◌, Bool, true, false, ◌&&◌, cond, List, [], ◌∷◌, Option, Some, None, refl, sym, ◌∙◌, ap}
+use Rattle.std.specs.Prelude.{◌==◌, not, nat_lt}
+use Rattle.std.specs.Option.{option_map, option_or, IfSome}
+use Rattle.mtapi_values.specs.declared.handles.ObjectKind.{ObjectKind}
+use Rattle.mtapi_values.specs.declared.handles.ObjectKind.TheVariants as kind
+use Rattle.mtapi_values.specs.declared.ends.TaskEnd.{TaskEnd}
+use Rattle.mtapi_values.specs.Conditions.{holds}
+use Rattle.handle_pool.specs.Issued.{Listed, live_of}
+use Rattle.handle_pool.specs.Inside.{inside}
+use Rattle.handle_pool.specs.Inside.{turned as turned_one}
+use Rattle.mtapi_objects.specs.Actions.{Action, some_below, is_eligible, has_worker}
+use Rattle.mtapi_objects.specs.Tasks.{Task, is_unended, end_of, ended, end_each}
+use Rattle.mtapi_objects.specs.Groups.{is_member, is_unended_member, Ending, insert, insert_ended, endings, fault_of, first_fault}
+use Rattle.mtapi_objects.specs.Queues.{is_in, is_unended_in, is_head}
+use Rattle.mtapi_renaming.specs.Renaming.{Renaming, Has, IsOneToOne}
+use Rattle.mtapi_renaming.specs.Renamed.{renamed_list, renamed_task}
+use Rattle.mtapi_renaming.specs.Follows.{HasTask, NoHandle, HasEach, FollowsList}
+use Rattle.mtapi_renaming.proofs.Handles.{listed-same, handles-ends}
+use Rattle.mtapi_renaming.proofs.Lists.{same_test, same_any, only_same}
+
+-- the tasks with their other handles
+abbrev pub renamed_tasks : Renaming → List (Listed Task) → List (Listed Task)
+renamed_tasks g l = renamed_list (g kind.Task) (renamed_task g) l
+
+-- two tests that agree on every task whose handles have other ones
+abbrev pub SameTest : Renaming → (Task → Bool) → (Task → Bool) → Type 0
+SameTest g q m = (t : Task) → HasTask g t → q (renamed_task g t) ≡ m t
+
+-- the workers that can take tasks
+below_same : (n : ℕ) (p q : ℕ → Bool) → ((w : ℕ) → p w ≡ q w) → some_below n p ≡ some_below n q
+below_same zero p q same = refl
+below_same (suc n) p q same = λ i. cond (same n i) true (below_same n p q same i)
+
+-- the ends of tasks leave what the renaming has
+has-ends : (g : Renaming) (p : Task → Bool) (e : TaskEnd) (n : ℕ) (l : List (Listed Task)) → HasEach g kind.Task (HasTask g) l → HasEach g kind.Task (HasTask g) (end_each p e n l)
+unfolding end_each
+has-ends g p e n [] v = tt
+has-ends g p e n (r ∷ rs) v = by_pass (r.live && p r.fields) (has-ends g p e n rs v.1) (has-ends g p e (n + 1) rs v.1)
+  where
+    by_pass : (b : Bool) → HasEach g kind.Task (HasTask g) (end_each p e n rs) → HasEach g kind.Task (HasTask g) (end_each p e (n + 1) rs) → HasEach g kind.Task (HasTask g) (cond b (ended e n r ∷ end_each p e (n + 1) rs) (r ∷ end_each p e n rs))
+    by_pass true x y = ((v.0.0, record { queue = v.0.1.queue; notes = v.0.1.notes }), y)
+    by_pass false x y = (v.0, x)
+
+pub follows-ends : (g : Renaming) (p : Task → Bool) (e : TaskEnd) (n : ℕ) (l : List (Listed Task)) → FollowsList g kind.Task (HasTask g) l → FollowsList g kind.Task (HasTask g) (end_each p e n l)
+follows-ends g p e n l v = record { each = has-ends g p e n l v.each; only = only_same g kind.Task (HasTask g) l (end_each p e n l) (λ h. listed-same h l _ (handles-ends p e n l)) v.only }
+
+-- the faults of ended tasks
+abbrev pub renamed_ending : Renaming → Ending → Ending
+renamed_ending g x = record x { task = g kind.Task x.task }
+
+abbrev pub renamed_endings : Renaming → List Ending → List Ending
+renamed_endings g [] = []
+renamed_endings g (x ∷ xs) = renamed_ending g x ∷ renamed_endings g xs
+
+pub fault-renamed : (g : Renaming) (xs : List Ending) → first_fault (renamed_endings g xs) ≡ first_fault xs
+fault-renamed g [] = refl
+fault-renamed g (x ∷ xs) = ap (option_or (fault_of x.end)) (fault-renamed g xs)
+
+insert-renamed : (g : Renaming) (x : Ending) (xs : List Ending) → renamed_endings g (insert x xs) ≡ insert (renamed_ending g x) (renamed_endings g xs)
+insert-renamed g x [] = refl
+insert-renamed g x (y ∷ ys) = by_order (nat_lt x.number y.number) (insert-renamed g x ys)
+  where
+    by_order : (b : Bool) → renamed_endings g (insert x ys) ≡ insert (renamed_ending g x) (renamed_endings g ys) →
+        renamed_endings g (cond b (x ∷ y ∷ ys) (y ∷ insert x ys)) ≡ cond b (renamed_ending g x ∷ renamed_ending g y ∷ renamed_endings g ys) (renamed_ending g y ∷ insert (renamed_ending g x) (renamed_endings g ys))
+    by_order true e = refl
+    by_order false e = ap (λ (z : List Ending). renamed_ending g y ∷ z) e
+
+insert_ended-renamed : (g : Renaming) (h : ℕ) (x : Option (TaskEnd × ℕ)) (xs ys : List Ending) → ys ≡ renamed_endings g xs → insert_ended (g kind.Task h) x ys ≡ renamed_endings g (insert_ended h x xs)
+insert_ended-renamed g h None xs ys e = e
+insert_ended-renamed g h (Some x) xs ys e =
+    ap (insert (record { task = g kind.Task h; end = x.0; number = x.1 })) e ∙ sym (insert-renamed g (record { task = h; end = x.0; number = x.1 }) xs)
+
+module _ (g : Renaming) (one : IsOneToOne g) where
+  same_handle : (k : ObjectKind) (h : ℕ) (o : Option ℕ) → IfSome o (Has g k) → holds (λ a. a == g k h) (option_map (g k) o) ≡ holds (λ a. a == h) o
+  same_handle k h None n = refl
+  same_handle k h (Some a) n = same_test g one k a h n
+
+  pub same_member : (h : ℕ) → SameTest g (is_member (g kind.Group h)) (is_member h)
+  same_member h t n = same_handle kind.Group h t.notes.group n.notes.group
+
+  pub same_unended_member : (h : ℕ) → SameTest g (is_unended_member (g kind.Group h)) (is_unended_member h)
+  same_unended_member h t n = ap (λ (b : Bool). b && is_unended t) (same_member h t n)
+
+  pub same_in : (q : ℕ) → SameTest g (is_in (g kind.Queue q)) (is_in q)
+  same_in q t n = same_handle kind.Queue q t.queue n.queue
+
+  pub same_unended_in : (q : ℕ) → SameTest g (is_unended_in (g kind.Queue q)) (is_unended_in q)
+  same_unended_in q t n = ap (λ (b : Bool). b && is_unended t) (same_in q t n)
+
+  -- the task is the head of its queue
+  pub same_head : (q : ℕ) (t : Task) (l : List (Listed Task)) → HasEach g kind.Task (HasTask g) l → is_head (g kind.Queue q) (renamed_task g t) (live_of (renamed_tasks g l)) ≡ is_head q t (live_of l)
+  same_head q t l n =
+      ap not (same_any g one kind.Task (renamed_task g) (HasTask g) (λ u. is_unended_in (g kind.Queue q) u && nat_lt u.start t.start) (λ u. is_unended_in q u && nat_lt u.start t.start)
+      (λ u m. ap (λ (b : Bool). b && nat_lt u.start t.start) (same_unended_in q u m)) l n)
+
+  pub same_workers : (workers job cores : ℕ) (l : List (Listed Action)) → HasEach g kind.Action NoHandle l → has_worker workers job cores (live_of (renamed_list (g kind.Action) (λ x. x) l)) ≡ has_worker workers job cores (live_of l)
+  unfolding has_worker
+  same_workers workers job cores l n = below_same workers _ _ (λ w. same_any g one kind.Action (λ x. x) NoHandle (is_eligible workers w job cores) (is_eligible workers w job cores) (λ x m. refl) l n)
+
+  abbrev one_task : Listed Task → Listed Task
+  one_task x = turned_one (g kind.Task) (λ h y. renamed_task g y) x
+
+  -- the first task ends or doesn't, and then those of the others that pass
+  abbrev with_first : Bool → Listed Task → List (Listed Task) → (Task → Bool) → TaskEnd → ℕ → List (Listed Task)
+  with_first b r rs q e n = cond b (ended e n (one_task r) ∷ end_each q e (n + 1) (renamed_tasks g rs)) (one_task r ∷ end_each q e n (renamed_tasks g rs))
+
+  -- every live task that passes ends
+  pub end_each-renamed : (q m : Task → Bool) → SameTest g q m → (e : TaskEnd) (n : ℕ) (l : List (Listed Task)) → HasEach g kind.Task (HasTask g) l → renamed_tasks g (end_each m e n l) ≡ end_each q e n (renamed_tasks g l)
+  unfolding end_each inside
+  end_each-renamed q m same e n [] v = refl
+  end_each-renamed q m same e n (r ∷ rs) v =
+      by_pass (r.live && m r.fields) (end_each-renamed q m same e n rs v.1) (end_each-renamed q m same e (n + 1) rs v.1) ∙ (λ i. with_first (r.live && (sym (same r.fields v.0.1) i)) r rs q e n)
+    where
+      by_pass : (b : Bool) → renamed_tasks g (end_each m e n rs) ≡ end_each q e n (renamed_tasks g rs) → renamed_tasks g (end_each m e (n + 1) rs) ≡ end_each q e (n + 1) (renamed_tasks g rs) →
+          renamed_tasks g (cond b (ended e n r ∷ end_each m e (n + 1) rs) (r ∷ end_each m e n rs)) ≡ with_first b r rs q e n
+      by_pass true x y = ap (λ (z : List (Listed Task)). one_task (ended e n r) ∷ z) y
+      by_pass false x y = ap (λ (z : List (Listed Task)). one_task r ∷ z) x
+
+  -- the members that have ended, in the order of their ends
+  pub endings-renamed : (h : ℕ) (l : List (Listed Task)) → HasEach g kind.Task (HasTask g) l → endings (g kind.Group h) (live_of (renamed_tasks g l)) ≡ renamed_endings g (endings h (live_of l))
+  unfolding endings live_of inside
+  endings-renamed h [] v = refl
+  endings-renamed h (r ∷ rs) v = by_live r.live (endings-renamed h rs v.1)
+    where
+      by_pass : (b : Bool) → endings (g kind.Group h) (live_of (renamed_tasks g rs)) ≡ renamed_endings g (endings h (live_of rs)) →
+          cond b (insert_ended (g kind.Task r.handle) (end_of r.fields.state) (endings (g kind.Group h) (live_of (renamed_tasks g rs)))) (endings (g kind.Group h) (live_of (renamed_tasks g rs)))
+          ≡ renamed_endings g (cond b (insert_ended r.handle (end_of r.fields.state) (endings h (live_of rs))) (endings h (live_of rs)))
+      by_pass true e = insert_ended-renamed g r.handle (end_of r.fields.state) (endings h (live_of rs)) _ e
+      by_pass false e = e
+
+      by_live : (b : Bool) → endings (g kind.Group h) (live_of (renamed_tasks g rs)) ≡ renamed_endings g (endings h (live_of rs)) →
+          endings (g kind.Group h) (cond b ((g kind.Task r.handle, renamed_task g r.fields) ∷ live_of (renamed_tasks g rs)) (live_of (renamed_tasks g rs))) ≡ renamed_endings g (endings h (cond b ((r.handle, r.fields) ∷ live_of rs) (live_of rs)))
+      by_live true e =
+          (λ i. cond (same_member h r.fields v.0.1 i) (insert_ended (g kind.Task r.handle) (end_of r.fields.state) (endings (g kind.Group h) (live_of (renamed_tasks g rs)))) (endings (g kind.Group h) (live_of (renamed_tasks g rs))))
+          ∙ by_pass (is_member h r.fields) e
+      by_live false e = e

@@ -1,0 +1,59 @@
+-- Renamings that have just the handles that were issued in a state.
+use Rattle.std.specs.Prelude.{◌≡◌, ◌⊎◌, ℕ, ◌≤◌, List, [], ◌∷◌}
+use Rattle.std.specs.Option.{IfSome}
+use Rattle.mtapi_values.specs.declared.handles.ObjectKind.{ObjectKind}
+use Rattle.mtapi_values.specs.declared.handles.ObjectKind.TheVariants as kind
+use Rattle.handle_pool.specs.Issued.{Listed, listed}
+use Rattle.mtapi_objects.specs.Tasks.{Task, Notes, TallyNotes}
+use Rattle.mtapi_machine.specs.State.{State}
+use Rattle.mtapi_renaming.specs.Renaming.{Renaming, Has, IsOneToOne}
+
+-- no handle, or one that has another
+abbrev pub HasOrNone : Renaming → ObjectKind → ℕ → Type 0
+HasOrNone g k h = (h ≡ 0) ⊎ Has g k h
+
+-- the mutex and the segment of a tally, where it has them
+pub record HasTally (g : Renaming) (t : TallyNotes) : Type 0 where
+  pub mutex : HasOrNone g kind.Mutex t.mutex
+  pub segment : HasOrNone g kind.Shmem t.segment
+
+-- what is noted of a task: its group, and what its tally has
+pub record HasNotes (g : Renaming) (n : Notes) : Type 0 where
+  pub group : IfSome n.group (Has g kind.Group)
+  pub tally : HasTally g n.tally
+
+-- the fields of a task: its queue, and what is noted of it
+pub record HasTask (g : Renaming) (t : Task) : Type 0 where
+  pub queue : IfSome t.queue (Has g kind.Queue)
+  pub notes : HasNotes g t.notes
+
+-- objects whose fields have no handle
+abbrev pub NoHandle : {T : Type 0} → T → Type 0
+NoHandle x = Unit {0}
+
+-- each handle of the list has another one, and so have those among the fields
+abbrev pub HasEach : {T : Type 0} → Renaming → ObjectKind → (T → Type 0) → List (Listed T) → Type 0
+HasEach g k P [] = Unit {0}
+HasEach g k P (r ∷ rs) = (Has g k r.handle × P r.fields) × HasEach g k P rs
+
+-- no other handle of the kind has another one
+abbrev pub HasOnly : {T : Type 0} → Renaming → ObjectKind → List (Listed T) → Type 0
+HasOnly g k l = (h : ℕ) → Has g k h → 1 ≤ listed h l
+
+-- the handles of a kind that have other ones are those that were issued
+pub record FollowsList {T : Type 0} (g : Renaming) (k : ObjectKind) (P : T → Type 0) (l : List (Listed T)) : Type 0 where
+  pub each : HasEach g k P l
+  pub only : HasOnly g k l
+
+-- of each kind; no two of them have the same other one, and 0, which is never issued, stays 0
+pub record Follows (g : Renaming) (s : State) : Type 0 where
+  pub one : IsOneToOne g
+  pub zero : (k : ObjectKind) → g k 0 ≡ 0
+  pub actions : FollowsList g kind.Action NoHandle s.actions
+  pub tasks : FollowsList g kind.Task (HasTask g) s.tasks
+  pub groups : FollowsList g kind.Group NoHandle s.groups
+  pub queues : FollowsList g kind.Queue NoHandle s.queues
+  pub mutexes : FollowsList g kind.Mutex NoHandle s.mutexes
+  pub sems : FollowsList g kind.Sem NoHandle s.sems
+  pub rwls : FollowsList g kind.Rwl NoHandle s.rwls
+  pub segments : FollowsList g kind.Shmem NoHandle s.segments

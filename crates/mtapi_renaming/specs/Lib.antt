@@ -1,0 +1,13 @@
+pub mod Renaming
+pub mod Renamed
+pub mod Follows
+pub mod Ops
+pub mod Kinds
+pub mod Counts
+pub mod Refusals
+pub mod Lasts
+pub mod Gone
+pub mod Laws
+pub mod Verdicts
+pub mod Worked
+pub mod Maps

@@ -1,0 +1,24 @@
+-- Other handles for the objects of a node.
+use Rattle.std.specs.Prelude.{◌≡◌, ℕ, ◌≤◌, ◌&&◌, ◌==◌, if◌then◌else◌}
+use Rattle.mtapi_values.specs.declared.handles.ObjectKind.{ObjectKind}
+use Rattle.mtapi_values.specs.Layouts.{object_number}
+
+-- another handle for each handle of each kind; 0 where there is none
+abbrev pub Renaming : Type 0
+Renaming = ObjectKind → ℕ → ℕ
+
+-- no handle has another one
+abbrev pub nothing : Renaming
+nothing k h = 0
+
+-- the handle has another one
+abbrev pub Has : Renaming → ObjectKind → ℕ → Type 0
+Has g k h = 1 ≤ g k h
+
+-- and this handle of this kind has this other one
+abbrev pub with_pair : ObjectKind → ℕ → ℕ → Renaming → Renaming
+with_pair k h other g = λ j a. if (object_number j == object_number k) && (a == h) then other else g j a
+
+-- no two handles of a kind have the same other one
+abbrev pub IsOneToOne : Renaming → Type 0
+IsOneToOne g = (k : ObjectKind) (a b : ℕ) → Has g k a → g k a ≡ g k b → a ≡ b

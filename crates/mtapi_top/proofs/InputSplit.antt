@@ -1,0 +1,77 @@
+-- Each input has one first part and one rest.
+use Rattle.std.proofs.Common.{◌≡◌, ◌⊎◌, ℕ, zero, suc, ◌+◌, ◌<◌, ◌≤◌, Bool, true, false, List, [], ◌++◌, length, take, drop, refl, sym, ap, subst, ◌∙◌, inl, inr, arith, length-append, length-take-le, take-append-drop, append-nil, drop_of_length-le}
+use Rattle.std.proofs.lemmas.Bool.{cases_order}
+use Rattle.std.proofs.Math.Seq.{take-append_seam, drop-append_seam}
+use Rattle.mtapi_top.specs.Check.{begins_journal, IsSplit, OfParts}
+
+-- A split at a place: past the last byte, or at the first journal
+
+pub split_at : (bytes : List ℕ) (n : ℕ) → n ≤ length bytes → (n ≡ length bytes) ⊎ (begins_journal bytes n ≡ true) → ((m : ℕ) → m < n → begins_journal bytes m ≡ false)
+    → IsSplit bytes (take n bytes) (drop n bytes)
+split_at bytes n within begins first = record {
+  whole = sym (take-append-drop n bytes);
+  begins = by begins;
+  first = λ m less. first m (subst (λ (k : ℕ). m < k) long less);
+}
+  where
+    long : length (take n bytes) ≡ n
+    long = length-take-le n bytes within
+
+    by : (n ≡ length bytes) ⊎ (begins_journal bytes n ≡ true) → (drop n bytes ≡ []) ⊎ (begins_journal bytes (length (take n bytes)) ≡ true)
+    by (inl end) = inl (drop_of_length-le bytes (omega (arith, end)))
+    by (inr here) = inr (subst (λ (k : ℕ). begins_journal bytes k ≡ true) (sym long) here)
+
+-- There is one
+
+pub none_below : (bytes : List ℕ) (n : ℕ) → ((m : ℕ) → m < n → begins_journal bytes m ≡ false) → begins_journal bytes n ≡ false → (m : ℕ) → m < n + 1 → begins_journal bytes m ≡ false
+none_below bytes n first none m less = at (cases_order m n)
+  where
+    at : (m ≡ n) ⊎ ((m < n) ⊎ (n < m)) → begins_journal bytes m ≡ false
+    at (inl same) = subst (λ (k : ℕ). begins_journal bytes k ≡ false) (sym same) none
+    at (inr (inl before)) = first m before
+    at (inr (inr behind)) = absurd (omega (arith, less, behind))
+
+seek : (bytes : List ℕ) (left n : ℕ) → n + left ≡ length bytes → ((m : ℕ) → m < n → begins_journal bytes m ≡ false) → OfParts bytes (λ front rest. Unit {0})
+seek bytes zero n end first = record {
+  front = take n bytes;
+  rest = drop n bytes;
+  split = split_at bytes n (omega (arith, end)) (inl (omega (arith, end))) first;
+  holds = tt;
+}
+seek bytes (suc left) n end first = by (begins_journal bytes n) refl (λ none. seek bytes left (n + 1) (omega (arith, end)) (none_below bytes n first none))
+  where
+    by : (found : Bool) → begins_journal bytes n ≡ found → (begins_journal bytes n ≡ false → OfParts bytes (λ front rest. Unit {0})) → OfParts bytes (λ front rest. Unit {0})
+    by true here more = record {
+      front = take n bytes;
+      rest = drop n bytes;
+      split = split_at bytes n (omega (arith, end)) (inr here) first;
+      holds = tt;
+    }
+    by false none more = more none
+
+pub some_split : (bytes : List ℕ) → OfParts bytes (λ front rest. Unit {0})
+some_split bytes = seek bytes (length bytes) 0 (omega arith) (λ m less. absurd (omega (arith, less)))
+
+-- and no other
+
+not_shorter : (bytes front rest front' rest' : List ℕ) → IsSplit bytes front rest → IsSplit bytes front' rest' → length front < length front' → ⊥
+not_shorter bytes front rest front' rest' s s' less = by s.begins
+  where
+    by : (rest ≡ []) ⊎ (begins_journal bytes (length front) ≡ true) → ⊥
+    by (inl none) =
+        let whole : length bytes ≡ length front = ap (λ (xs : List ℕ). length xs) (s.whole ∙ ap (λ (xs : List ℕ). front ++ xs) none ∙ append-nil front) in
+        let part : length bytes ≡ length front' + length rest' = ap (λ (xs : List ℕ). length xs) s'.whole ∙ length-append front' rest' in
+        omega (arith, whole, part, less)
+    by (inr here) = let both = sym here ∙ s'.first (length front) less in cc
+
+pub same_split : (bytes front rest front' rest' : List ℕ) → IsSplit bytes front rest → IsSplit bytes front' rest' → (front ≡ front') × (rest ≡ rest')
+same_split bytes front rest front' rest' s s' = by (cases_order (length front) (length front'))
+  where
+    by : (length front ≡ length front') ⊎ ((length front < length front') ⊎ (length front' < length front)) → (front ≡ front') × (rest ≡ rest')
+    by (inl same) =
+        let both : front ++ rest ≡ front' ++ rest' = sym s.whole ∙ s'.whole in
+        let fronts : front ≡ front' = sym (take-append_seam front rest) ∙ ap (λ (xs : List ℕ). take (length front) xs) both ∙ ap (λ (k : ℕ). take k (front' ++ rest')) same ∙ take-append_seam front' rest' in
+        let rests : rest ≡ rest' = sym (drop-append_seam front rest) ∙ ap (λ (xs : List ℕ). drop (length front) xs) both ∙ ap (λ (k : ℕ). drop k (front' ++ rest')) same ∙ drop-append_seam front' rest' in
+        (fronts, rests)
+    by (inr (inl less)) = absurd (not_shorter bytes front rest front' rest' s s' less)
+    by (inr (inr less)) = absurd (not_shorter bytes front' rest' front rest s' s less)

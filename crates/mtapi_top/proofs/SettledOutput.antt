@@ -1,0 +1,90 @@
+-- What the command writes of a settled workload is told by the workload's statements alone.
+use Rattle.std.proofs.Common.{◌≡◌, ℕ, true, List, ◌++◌, Option, Some, None, refl, sym, ◌∙◌, ap, subst, inl, inr}
+use Rattle.std.specs.Prelude.{IfSome, Result, Ok}
+use Rattle.std.specs.Io.KnownBytes.{Appends}
+use Rattle.byte_io.specs.Causes.{AppendsFront}
+use Rattle.workload_file.specs.declared.faults.Fault.{Fault}
+use Rattle.workload_file.specs.declared.workload.Workload.{Workload}
+use Rattle.workload_file.specs.Reading.{workload_of}
+use Rattle.workload_file.specs.Formed.{WellFormed}
+use Rattle.mtapi_machine.specs.Legal.{Legal}
+use Rattle.node_core.specs.declared.entries.Journal.{Journal}
+use Rattle.journal_text.specs.Journals.{journal_text}
+use Rattle.mtapi_machine.specs.State.{terms_with}
+use Rattle.settled_runs.specs.Plain.{plain_report}
+use Rattle.settled_runs.specs.PlainSummary.{plain_summary}
+use Rattle.settled_runs.specs.RunGranted.{SettledRun}
+use Rattle.settled_runs.specs.Settled.{is_settled}
+use Rattle.settled_runs.proofs.RunReport.{settled_reports_are_plain}
+use Rattle.settled_runs.proofs.PlainSummary.{settled_summaries_are_plain}
+use Rattle.mtapi_top.specs.declared.words.Asked.{Asked}
+use Rattle.mtapi_top.specs.declared.words.Asked.TheVariants as asks
+use Rattle.mtapi_top.specs.declared.ends.End.{End}
+use Rattle.mtapi_top.specs.declared.ends.End.TheVariants as end
+use Rattle.mtapi_top.specs.declared.ends.Outcome.{Outcome}
+use Rattle.mtapi_top.specs.Words.{InRange}
+use Rattle.mtapi_top.specs.Generated.{generated}
+use Rattle.mtapi_top.specs.Headline.{Ran, IsRun, IsLoadOf, output}
+use Rattle.mtapi_top.specs.Settled.{generated_summary, IsPlainOutput}
+use Rattle.mtapi_top.specs.Command.{Outside, Ends, status_of, journal_of}
+use Rattle.mtapi_top.proofs.GeneratedSettled.{generated_settled}
+use Rattle.mtapi_top.proofs.Refused.{Told}
+
+settled_run : (load : Workload) (j : Journal) → WellFormed load → IsRun load j → is_settled load ≡ true → SettledRun j.layout load j.entries.entries j.entries.skipped
+settled_run load j f r e = record {
+  settled = e;
+  formed = f;
+  legal = subst (λ (n : ℕ). Legal (terms_with j.layout load.settings n) j.entries.entries) r.callers (subst (λ x. Legal (terms_with j.layout x j.callers) j.entries.entries) r.settings r.legal);
+  same = r.beside;
+  run = r.run;
+}
+
+-- the summary of generated tasks names no workers
+one_summary : (n w : ℕ) → plain_summary (generated n w) ≡ generated_summary n
+unfolding plain_summary generated
+one_summary n w = refl
+
+one_load : (r : Result Workload Fault) (x y : Workload) → r ≡ Ok x → r ≡ Ok y → x ≡ y
+one_load r x y i k = let both = sym i ∙ k in cc
+
+module _ (j : Journal) (P : List ℕ → Type 0) where
+  by_asked : (asked : Asked) (bytes : Option (List ℕ)) (load : Workload) → IsLoadOf asked bytes load → WellFormed load → IsRun load j → InRange asked → P (output asked load j) → IsPlainOutput (Some asked) bytes j P
+  by_asked asks.Report None load i f r g p = tt
+  by_asked asks.Report (Some b) load i f r g p = λ mine e s.
+      let same : load ≡ mine = one_load (workload_of b) load mine i.1 e in
+      subst (λ (x : Workload). P (plain_report x)) same (subst P (settled_reports_are_plain j.layout load j.entries.entries j.entries.skipped (settled_run load j f r (subst (λ (x : Workload). is_settled x ≡ true) (sym same) s))) p)
+  by_asked asks.Journal None load i f r g p = tt
+  by_asked asks.Journal (Some b) load i f r g p = λ mine e s.
+      let same : load ≡ mine = one_load (workload_of b) load mine i.1 e in
+      subst (λ (x : Workload). P (plain_report x ++ journal_text j)) same
+      (subst (λ (x : List ℕ). P (x ++ journal_text j)) (settled_reports_are_plain j.layout load j.entries.entries j.entries.skipped (settled_run load j f r (subst (λ (x : Workload). is_settled x ≡ true) (sym same) s))) p)
+  by_asked (asks.Generated n w) bytes load i f r g p =
+      let e : is_settled load ≡ true = subst (λ (x : Workload). is_settled x ≡ true) (sym i) (generated_settled n w g.0 g.1 g.2 g.3) in
+      subst P (settled_summaries_are_plain j.layout load j.entries.entries j.entries.skipped (settled_run load j f r e) ∙ ap plain_summary i ∙ one_summary n w) p
+  by_asked asks.Check bytes load i f r g p = tt
+
+  plain_output : (words : Option Asked) (bytes : Option (List ℕ)) → Ran words bytes j P → IfSome words InRange → IsPlainOutput words bytes j P
+  plain_output words bytes r g =
+      subst (λ (x : Option Asked). IsPlainOutput x bytes j P) (sym r.asks) (by_asked r.asked bytes r.load r.is r.formed r.is_run (subst (λ (x : Option Asked). IfSome x InRange) r.asks g) r.written)
+
+-- An end with the status 0, or 5
+
+module _ (words : Option Asked) (bytes : Option (List ℕ)) (a b : Outside) where
+  done_plainly : (e : End) → Ends words bytes a b e → IfSome words InRange → status_of e ≡ 0 → IfSome (journal_of e) (λ j. IsPlainOutput words bytes j (Appends a.held b.held))
+  done_plainly (end.Done j) h g q = plain_output j (Appends a.held b.held) words bytes h g
+  done_plainly (end.WriteFault j) h g q = absurd (cc)
+  done_plainly _ h g q = tt
+
+  cut_plainly : (e : End) → Ends words bytes a b e → IfSome words InRange → status_of e ≡ 5 → IfSome (journal_of e) (λ j. IsPlainOutput words bytes j (AppendsFront a.held b.held))
+  cut_plainly (end.WriteFault j) h g q = plain_output j (AppendsFront a.held b.held) words bytes h.1 g
+  cut_plainly (end.Done j) h g q = absurd (cc)
+  cut_plainly _ h g q = tt
+
+  module _ (e : End) (f f' : ℕ) (p p' : Option (List ℕ)) (outcome : Outcome) (h : Ends words bytes a b e) (g : IfSome words InRange) where
+    pub written_plainly : Told e f f' p p' outcome → outcome.status ≡ 0 → IfSome outcome.journal (λ j. IsPlainOutput words bytes j (Appends a.held b.held))
+    written_plainly (inl t) q = subst (λ (x : Option Journal). IfSome x (λ j. IsPlainOutput words bytes j (Appends a.held b.held))) (sym t.journal) (done_plainly e h g (sym t.status ∙ q))
+    written_plainly (inr t) q = absurd (let m = sym t.1.status ∙ q in cc)
+
+    pub cut_off_plainly : Told e f f' p p' outcome → outcome.status ≡ 5 → IfSome outcome.journal (λ j. IsPlainOutput words bytes j (AppendsFront a.held b.held))
+    cut_off_plainly (inl t) q = subst (λ (x : Option Journal). IfSome x (λ j. IsPlainOutput words bytes j (AppendsFront a.held b.held))) (sym t.journal) (cut_plainly e h g (sym t.status ∙ q))
+    cut_off_plainly (inr t) q = absurd (let m = sym t.1.status ∙ q in cc)

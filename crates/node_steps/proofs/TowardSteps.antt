@@ -1,0 +1,171 @@
+-- A worker that wants one task and one action takes these wherever it may.
+use Rattle.std.proofs.Common.{◌≡◌, ℕ, ◌<◌, Bool, true, false, not, cond, List, [], ◌∷◌, Option, Some, None, refl, sym, ◌∙◌, ap, subst, arith}
+use Rattle.std.specs.Prelude.{◌&&◌, nat_lt, ℤ}
+use Rattle.std.proofs.lemmas.Bool.Decides.{nat_tests}
+use Rattle.mtapi_values.specs.declared.handles.ActionHandle.{ActionHandle}
+use Rattle.mtapi_values.specs.declared.handles.TaskHandle.{TaskHandle}
+use Rattle.mtapi_values.specs.declared.kinds.Kind.{Kind}
+use Rattle.mtapi_values.specs.declared.statuses.MtapiStatus.TheVariants as m
+use Rattle.handle_pool.specs.Slots.{slot_value}
+use Rattle.handle_pool.specs.Issued.{live_object, any_listed}
+use Rattle.mtapi_objects.specs.Actions.{Action, is_eligible}
+use Rattle.mtapi_objects.specs.Tasks.{Task, runs_on}
+use Rattle.mtapi_machine.specs.declared.replies.Reply.{Reply}
+use Rattle.mtapi_machine.specs.declared.replies.Reply.TheVariants as reply
+use Rattle.mtapi_machine.specs.State.{State, workers, is_new, is_stop, actions}
+use Rattle.mtapi_machine.specs.Moves.{stops, runs_task as begins_task}
+use Rattle.mtapi_machine.specs.Row.{Row, unless, gives, never, only, live, chosen, Allows}
+use Rattle.mtapi_machine.specs.WorkRows.{is_ready, has_better, picks}
+use Rattle.task_board.specs.Board.{IsBoard}
+use Rattle.task_board.specs.declared.board.Choice.{Choice}
+use Rattle.task_board.specs.Picks.{NoneBetter, IsChoice, IsBest}
+use Rattle.node_steps.specs.declared.node.Node.{Node}
+use Rattle.node_steps.specs.Picks.{Takes, MayPick, IsToward}
+use Rattle.node_steps.specs.Stands.{Lists, Live, state_of}
+use Rattle.node_steps.proofs.PickSteps.{better_if, choice_if}
+use Rattle.node_steps.proofs.StartSteps.{and_left, and_right}
+
+-- What a worker that may take this task by this action is told of it
+
+pub record CanPick (s : State) (w : ℕ) (t : TaskHandle) (a : ActionHandle) (k : Kind) (args : List ℤ) : Type 0 where
+  pub worker : not (nat_lt w (workers s)) ≡ false
+  pub free : any_listed (runs_on w) s.tasks ≡ false
+  pub started : is_new s.phase ≡ false
+  pub goes_on : is_stop s ≡ false
+  pub x : Task
+  pub y : Action
+  pub task : live_object s.tasks t.0 ≡ Some x
+  pub action : live_object s.actions a.0 ≡ Some y
+  pub may : (is_ready s x && is_eligible (workers s) w x.job x.cores y && not (has_better s w x.priority)) ≡ true
+  pub kind : k ≡ y.kind
+  pub args_are : args ≡ x.args
+
+-- a condition that answers otherwise isn't met
+past_one : (c : Bool) (x r : Reply) (w : Row) → (r ≡ x → ⊥) → Allows (unless c x w) r → (c ≡ false) × Allows w r
+past_one true x r w far allowed = absurd (far allowed)
+past_one false x r w far allowed = (refl, allowed)
+
+past_else : (b : Bool) (u v : Row) (r : Reply) → (Allows u r → ⊥) → Allows (cond b u v) r → (b ≡ false) × Allows v r
+past_else true u v r far allowed = absurd (far allowed)
+past_else false u v r far allowed = (refl, allowed)
+
+module _ (s : State) (w : ℕ) (t : TaskHandle) (a : ActionHandle) (k : Kind) (args : List ℤ) where
+  abbrev told : Reply
+  told = reply.Picked t a k args
+
+  no_status : told ≡ reply.Mtapi m.ErrParameter → ⊥
+  no_status e = cc
+
+  no_idle : told ≡ reply.Idle → ⊥
+  no_idle e = cc
+
+  no_stop : told ≡ reply.Stop → ⊥
+  no_stop e = cc
+
+  abbrev tests : Task → Action → Bool
+  tests x y = is_ready s x && is_eligible (workers s) w x.job x.cores y && not (has_better s w x.priority)
+
+  abbrev takes : Task → Action → Row
+  takes x y = gives (reply.Picked t a y.kind x.args) (begins_task t.0 w y.kind ∷ [])
+
+  module _ (worker : not (nat_lt w (workers s)) ≡ false) (free : any_listed (runs_on w) s.tasks ≡ false) (started : is_new s.phase ≡ false) (goes_on : is_stop s ≡ false) where
+    by_test : (x : Task) (y : Action) → live_object s.tasks t.0 ≡ Some x → live_object s.actions a.0 ≡ Some y → (b : Bool) → tests x y ≡ b → Allows (only b (takes x y)) told → CanPick s w t a k args
+    by_test x y found_x found_y false e allowed = absurd allowed
+    by_test x y found_x found_y true e allowed =
+        let kind : k ≡ y.kind = cc in
+        let args_are : args ≡ x.args = cc in
+        record { worker = worker; free = free; started = started; goes_on = goes_on; x = x; y = y; task = found_x; action = found_y; may = e; kind = kind; args_are = args_are }
+
+    by_action : (x : Task) → live_object s.tasks t.0 ≡ Some x → (o : Option Action) → live_object s.actions a.0 ≡ o → Allows (live o never (λ y. only (tests x y) (takes x y))) told → CanPick s w t a k args
+    by_action x found_x None e allowed = absurd allowed
+    by_action x found_x (Some y) e allowed = by_test x y found_x e (tests x y) refl allowed
+
+    by_task : (o : Option Task) → live_object s.tasks t.0 ≡ o → Allows (live o never (λ x. chosen actions s a.0 (λ y. only (tests x y) (takes x y)))) told → CanPick s w t a k args
+    by_task None e allowed = absurd allowed
+    by_task (Some x) e allowed = by_action x e (live_object s.actions a.0) refl allowed
+
+  pub can_pick : MayPick s w t a k args → CanPick s w t a k args
+  can_pick allowed =
+      let third : Row = cond (is_stop s) (gives reply.Stop (stops w ∷ [])) (picks s w told) in
+      let second : Row = unless (is_new s.phase) reply.Idle third in
+      let first : Row = unless (any_listed (runs_on w) s.tasks) (reply.Mtapi m.ErrParameter) second in
+      let p = past_one (not (nat_lt w (workers s))) (reply.Mtapi m.ErrParameter) told first no_status allowed in
+      let q = past_one (any_listed (runs_on w) s.tasks) (reply.Mtapi m.ErrParameter) told second no_status p.1 in
+      let r = past_one (is_new s.phase) reply.Idle told third no_idle q.1 in
+      let g = past_else (is_stop s) (gives reply.Stop (stops w ∷ [])) (picks s w told) told no_stop r.1 in
+      by_task p.0 q.0 r.0 g.0 (live_object s.tasks t.0) refl g.1
+
+-- The choice of this task and this action
+
+module _ (n : Node) (l : Lists) (w : ℕ) (v : Live n l) (k : IsBoard n.board) (less : w < n.board.settings.workers) (t : TaskHandle) (a : ActionHandle) (kind : Kind) (args : List ℤ) (p : CanPick (state_of n l) w t a kind args) where
+  abbrev choice : Choice
+  choice = record { task = t; action = a; kind = kind; priority = p.x.priority }
+
+  found_task : slot_value n.board.tasks.pool t.0 ≡ Some p.x
+  found_task = v.tasks.stands.found t.0 ∙ p.task
+
+  tested : (is_ready (state_of n l) p.x && is_eligible (workers (state_of n l)) w p.x.job p.x.cores p.y) ≡ true
+  tested = and_left _ (not (has_better (state_of n l) w p.x.priority)) p.may
+
+  it_may : IsChoice n.board.actions n.board.tasks.pool n.board.queues.pool w choice
+  it_may =
+      choice_if n l w v k less choice p.x p.y found_task (v.actions.stands.found a.0 ∙ p.action) (sym p.kind) refl
+      (and_left (is_ready (state_of n l) p.x) _ tested) (and_right (is_ready (state_of n l) p.x) _ tested)
+
+  not_not : (b : Bool) → not b ≡ true → b ≡ false
+  not_not true e = absurd (cc)
+  not_not false e = refl
+
+  none_better : NoneBetter n.board.actions n.board.tasks.pool n.board.queues.pool w p.x.priority
+  none_better =
+      better_if n l w v k less p.x.priority
+      (not_not _ (and_right (is_ready (state_of n l) p.x && is_eligible (workers (state_of n l)) w p.x.job p.x.cores p.y) _ p.may))
+
+  -- so it is what was found
+  pub is_found : (o : Option Choice) → IsToward n w t a o → o ≡ Some choice
+  is_found o toward = toward choice refl refl it_may none_better
+
+  -- and what the worker takes
+  pub is_taken : (c : Choice) (r : Reply) (m : Node) → IsToward n w t a (Some c) → Takes n w c r m → r ≡ reply.Picked t a kind args
+  is_taken c r m toward takes = by_choice (subst (λ (x : Choice). Takes n w x r m) same takes)
+    where
+      same : c ≡ choice
+      same = let e = is_found (Some c) toward in cc
+
+      by_choice : Takes n w choice r m → r ≡ reply.Picked t a kind args
+      by_choice x =
+          let task : x.t ≡ p.x = (let e = x.task in let f = found_task in cc) in
+          x.reply ∙ ap (λ (u : Task). reply.Picked t a kind u.args) task ∙ ap (λ (z : List ℤ). reply.Picked t a kind z) (sym p.args_are)
+
+-- What is chosen toward them
+
+-- what was wanted
+abbrev task_or : TaskHandle → Option (TaskHandle × ActionHandle) → TaskHandle
+task_or t None = t
+task_or t (Some x) = x.0
+
+abbrev action_or : ActionHandle → Option (TaskHandle × ActionHandle) → ActionHandle
+action_or a None = a
+action_or a (Some x) = x.1
+
+pub wanted_task : {t u : TaskHandle} {a b : ActionHandle} → ◌≡◌ {A = Option (TaskHandle × ActionHandle)} (Some (t, a)) (Some (u, b)) → t ≡ u
+wanted_task {t} e = ap (task_or t) e
+
+pub wanted_action : {t u : TaskHandle} {a b : ActionHandle} → ◌≡◌ {A = Option (TaskHandle × ActionHandle)} (Some (t, a)) (Some (u, b)) → a ≡ b
+wanted_action {a = a} e = ap (action_or a) e
+
+module _ (n : Node) (w : ℕ) where
+  -- the choices of one task have one priority
+  pub same_priority : (b c : Choice) → b.task ≡ c.task → IsChoice n.board.actions n.board.tasks.pool n.board.queues.pool w b → IsChoice n.board.actions n.board.tasks.pool n.board.queues.pool w c → b.priority ≡ c.priority
+  same_priority b c is x y = sym x.priority ∙ ap (λ (u : Task). u.priority) task ∙ y.priority
+    where
+      task : x.t ≡ y.t
+      task = let e = ap (λ (h : TaskHandle). slot_value n.board.tasks.pool h.0) is in let f = x.task in let g = y.task in cc
+
+  -- the best one has the priority of the wanted one, where that is best too
+  pub one_priority : (b c : Choice) → IsBest n.board.actions n.board.tasks.pool n.board.queues.pool w (Some b) → IsChoice n.board.actions n.board.tasks.pool n.board.queues.pool w c → NoneBetter n.board.actions n.board.tasks.pool n.board.queues.pool w c.priority → c.priority ≡ b.priority
+  one_priority b c best x better =
+      let above : c.priority < b.priority → ⊥ = (λ less. best.1 c.task.0 x.t x.task (c.action.0, x.a, x.action, x.runs) (subst (λ (k : ℕ). k < b.priority) (sym x.priority) less)) in
+      let y = best.0 in
+      let below : b.priority < c.priority → ⊥ = (λ less. better b.task.0 y.t y.task (b.action.0, y.a, y.action, y.runs) (subst (λ (k : ℕ). k < c.priority) (sym y.priority) less)) in
+      omega (arith, above, below)

@@ -1,0 +1,46 @@
+-- A call takes the same front of the lines, and comes to the same reply, however it is read.
+use Rattle.std.proofs.Common.{◌≡◌, ℕ, ◌+◌, Bool, true, false, List, [], ◌∷◌, ◌++◌, Option, Some, None, refl, sym, ◌∙◌, ap}
+use Rattle.mtapi_values.specs.declared.timeouts.Timeout.{Timeout}
+use Rattle.mtapi_machine.specs.declared.ops.Op.{Op}
+use Rattle.mtapi_machine.specs.declared.replies.Reply.{Reply}
+use Rattle.mtapi_machine.specs.declared.replies.Reply.TheVariants as reply
+use Rattle.mtapi_machine.specs.Kept.{is_pending}
+use Rattle.sched_workers.specs.Calls.{Call, Once, Looking}
+use Rattle.sched_workers.specs.Lines.{Line, line, before_it}
+use Rattle.run_check.specs.Takes.{Takes}
+
+-- the same is left, and the reply is the same
+abbrev pub Agree : List Line → Reply → List Line → Reply → Type 0
+Agree rest r other q = (rest ≡ other) × (r ≡ q)
+
+looked_same : (o : Bool → Op) (lines rest other : List Line) (r q : Reply) (first second : Option ℕ) (m n : ℕ) (a b : Bool)
+    → lines ≡ (before_it (o false) first ++ line (o a) r m ∷ []) ++ rest → lines ≡ (before_it (o false) second ++ line (o b) q n ∷ []) ++ other
+    → is_pending r ≡ false → is_pending q ≡ false → Agree rest r other q
+looked_same o lines rest other r q None None m n a b x y none nor =
+    let e : line (o a) r m ∷ rest ≡ line (o b) q n ∷ other = sym x ∙ y in
+    let here : line (o a) r m ≡ line (o b) q n = cc in
+    (cc, ap (λ l. l.reply) here)
+looked_same o lines rest other r q None (Some k) m n a b x y none nor =
+    let e : line (o a) r m ∷ rest ≡ line (o false) reply.Pending k ∷ line (o b) q n ∷ other = sym x ∙ y in
+    let here : line (o a) r m ≡ line (o false) reply.Pending k = cc in
+    let pends : is_pending r ≡ true = ap (λ l. is_pending l.reply) here in
+    absurd (cc)
+looked_same o lines rest other r q (Some k) None m n a b x y none nor =
+    let e : line (o false) reply.Pending k ∷ line (o a) r m ∷ rest ≡ line (o b) q n ∷ other = sym x ∙ y in
+    let here : line (o false) reply.Pending k ≡ line (o b) q n = cc in
+    let pends : true ≡ is_pending q = ap (λ l. is_pending l.reply) here in
+    absurd (cc)
+looked_same o lines rest other r q (Some k) (Some j) m n a b x y none nor =
+    let e : line (o false) reply.Pending k ∷ line (o a) r m ∷ rest ≡ line (o false) reply.Pending j ∷ line (o b) q n ∷ other = sym x ∙ y in
+    let behind : line (o a) r m ∷ rest ≡ line (o b) q n ∷ other = cc in
+    let here : line (o a) r m ≡ line (o b) q n = cc in
+    (cc, ap (λ l. l.reply) here)
+
+pub takes_same : (c : Call) (lines rest other : List Line) (r q : Reply) → Takes c lines rest r → Takes c lines other q → Agree rest r other q
+takes_same (Once o) lines rest other r q s t =
+    let e : line o r 0 ∷ rest ≡ line o q 0 ∷ other = ap (λ f. f ++ rest) (sym s.made.0) ∙ (sym s.is ∙ (t.is ∙ ap (λ f. f ++ other) t.made.0)) in
+    let here : line o r 0 ≡ line o q 0 = cc in
+    (cc, ap (λ l. l.reply) here)
+takes_same (Looking waits o timeout) lines rest other r q s t =
+    looked_same o lines rest other r q s.made.first t.made.first s.made.beside t.made.beside s.made.last t.made.last
+    (s.is ∙ ap (λ f. f ++ rest) s.made.is) (t.is ∙ ap (λ f. f ++ other) t.made.is) s.made.decides t.made.decides

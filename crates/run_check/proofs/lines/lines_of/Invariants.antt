@@ -1,0 +1,6 @@
+use Rattle.std.proofs.Common.{◌≡◌, take}
+use Rattle.sched_workers.specs.Lines.{lines_of}
+use Rattle.run_check.proofs.lines.lines_of.Given as goal
+
+abbrev pub invariant-loop-i : goal.invariant-loop-i
+invariant-loop-i l = l.lines.items ≡ lines_of l.who (take l.i l.entries) (take l.i l.skipped)

@@ -1,0 +1,6 @@
+use Rattle.std.proofs.Common.{◌≡◌, drop}
+use Rattle.sched_workers.specs.RunOf.{all_work}
+use Rattle.run_check.proofs.parts.all_work.Given as goal
+
+abbrev pub invariant-loop-line : goal.invariant-loop-line
+invariant-loop-line l = all_work l.lines ≡ all_work (drop l.line-index l.lines)

@@ -1,0 +1,34 @@
+use Rattle.std.proofs.Common.{◌≡◌, ◌+◌, ◌-◌, ◌<◌, ℕ, List, [], ◌∷◌, refl, sym, subst, length, take, drop, arith}
+use Rattle.std.specs.Prelude.{IsTrue, ◌↔◌}
+use Rattle.std.proofs.lemmas.List.{nil_from_length}
+use Rattle.workload_file.specs.declared.workload.Part.{Part}
+use Rattle.sched_workers.specs.Lines.{Line, lines_of}
+use Rattle.run_check.proofs.Fronts.{at_front}
+use Rattle.run_check.proofs.Several.{Some, no_callers, not_first, and_rest}
+use Rattle.run_check.proofs.whole.+callers_ran.Goals as goal
+
+pub returns-in_default : goal.returns-in_default
+returns-in_default t c =
+    let made : ℕ → List Line = λ w. lines_of w c.args.entries.now c.args.skipped.now in
+    let nil : c.args.parts.now ≡ [] = nil_from_length c.args.parts.now (omega (arith, c.in_default.len_below)) in
+    (λ x. subst (λ (ps : List Part). Some made c.args.who ps) (sym nil) (no_callers made c.args.who), λ s. refl)
+
+pub returns-then-not-branch : goal.returns-then-not-branch
+returns-then-not-branch t c =
+    let made : ℕ → List Line = λ w. lines_of w c.args.entries.now c.args.skipped.now in
+    let p = c.part-item.result in
+    let rest = take (length c.args.parts.now - 1) (drop 1 c.args.parts.now) in
+    let front = at_front c.args.parts.now p c.in-len1-up.len_at_least c.part-item.is in (
+      λ x. absurd (let y = x in cc),
+      λ s. absurd (not_first made c.args.who p rest
+          (λ r. let x = c.in_ok-caller_made.ensures.1 r in let y = c.if-not-branch.true in absurd (cc)) (subst (λ (ps : List Part). Some made c.args.who ps) front s)),
+    )
+
+pub returns : goal.returns
+returns t c =
+    let made : ℕ → List Line = λ w. lines_of w c.args.entries.now c.args.skipped.now in
+    let p = c.part-item.result in
+    let rest = take (length c.args.parts.now - 1) (drop 1 c.args.parts.now) in
+    let front = at_front c.args.parts.now p c.in-len1-up.len_at_least c.part-item.is in
+    subst (λ (ps : List Part). IsTrue c.in_ok-rest_ran.rest_ran ↔ Some made c.args.who ps) (sym front)
+    (and_rest made c.args.who p rest (c.args.who + 1) c.in_ok-rest_ran.rest_ran (c.in_ok-caller_made.ensures.0 c.if-not-branch.false) refl c.in_ok-rest_ran.ensures)

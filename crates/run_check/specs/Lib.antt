@@ -1,0 +1,4 @@
+pub mod Same
+pub mod Takes
+pub mod Starts
+pub mod Ends

@@ -1,0 +1,12 @@
+//! Decides whether a journal is a run of a workload: each seat's lines are read from the front, statement by statement.
+#![tactic(auto)]
+
+mod asked;
+mod lines;
+mod made;
+mod parts;
+#[cfg(test)]
+mod tests;
+mod whole;
+
+pub use whole::is_run;

@@ -1,0 +1,10 @@
+-- Which replies the report of a run reads.
+use Rattle.std.specs.Prelude.{◌≡◌, ℕ, List, length, map}
+use Rattle.workload_file.specs.declared.workload.Workload.{Workload}
+use Rattle.mtapi_machine.specs.Legal.{NodeEntry}
+use Rattle.sched_workers.specs.RunOf.{RunOf}
+use Rattle.run_report.specs.Report.{parts_told}
+
+-- the replies that the report of a run reads, part by part, are those to which the calls of the part's statements came
+abbrev pub ReadsTheRun : Type 0
+ReadsTheRun = (load : Workload) (es : List NodeEntry) (ns : List ℕ) → length es ≡ length ns → (run : RunOf load es ns) → map (λ t. t.replies) (parts_told load es) ≡ run.replies

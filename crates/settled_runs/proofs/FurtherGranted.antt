@@ -1,0 +1,276 @@
+-- In a run of a settled workload each further caller is given what it asks for.
+use Rattle.std.proofs.Common.{◌≡◌, inl, inr, ℕ, suc, ◌+◌, ◌≤◌, ◌<◌, Bool, true, false, cond, List, [], ◌∷◌, ◌++◌, length, refl, sym, ◌∙◌, ap, subst, arith, append_assoc}
+use Rattle.std.specs.Prelude.{◌||◌, not, map}
+use Rattle.std.specs.List.{list_any, list_all, AllByRecursion}
+use Rattle.std.proofs.lemmas.List.{append-nil}
+use Rattle.mtapi_values.specs.declared.handles.Layout.{Layout}
+use Rattle.history.specs.Histories.{entry}
+use Rattle.handle_pool.specs.Issued.{how_many}
+use Rattle.mtapi_objects.specs.Actions.{Action}
+use Rattle.workload_file.specs.declared.workload.Deed.{Deed}
+use Rattle.workload_file.specs.declared.workload.Deed.TheVariants as deed
+use Rattle.workload_file.specs.declared.workload.Statement.{Statement}
+use Rattle.workload_file.specs.declared.workload.Part.{Part}
+use Rattle.workload_file.specs.declared.workload.Workload.{Workload}
+use Rattle.workload_file.specs.Deeds.{is_begin}
+use Rattle.workload_file.specs.Formed.{IsPart}
+use Rattle.mtapi_machine.specs.declared.ops.Op.TheVariants as op
+use Rattle.mtapi_machine.specs.declared.replies.Reply.{Reply}
+use Rattle.mtapi_machine.specs.declared.replies.Reply.TheVariants as reply
+use Rattle.mtapi_machine.specs.Row.{handle_of}
+use Rattle.mtapi_machine.specs.Legal.{NodeEntry, Legal}
+use Rattle.mtapi_machine.proofs.Made.{fst_true, snd_true, not_true}
+use Rattle.sched_workers.specs.Calls.{call_of}
+use Rattle.sched_workers.specs.Lines.{Line, line, lines_of, Made, head_of, tail_of_main, in_lines}
+use Rattle.sched_workers.specs.Parts.{has_begin, Carried, CallerRan, CallersRan}
+use Rattle.history_law.specs.Seats.{is_release, is_released}
+use Rattle.history_law.proofs.Answered.{true_false}
+use Rattle.history_law.proofs.Behind.{enter_behind}
+use Rattle.run_report.specs.Report.{run_terms}
+use Rattle.settled_runs.specs.Granted.{IsOpened}
+use Rattle.settled_runs.specs.Plain.{action_in, actions_in}
+use Rattle.settled_runs.specs.Settled.{sets_up, set_up, sets_up_first, is_settled_part, is_settled_further, keep_limits}
+use Rattle.settled_runs.specs.RunGranted.{AllGranted, SettledRun, PartsGranted, SettledStatementsAreGranted}
+use Rattle.settled_runs.proofs.Asked.{actions_append}
+use Rattle.settled_runs.proofs.Cuts.{Placed, placed, lines_append, Cut, cut}
+use Rattle.settled_runs.proofs.Counted.{bit, asks, asked, asked_append, carried_asks, Asking, some_asks}
+use Rattle.settled_runs.proofs.Opened.{legal_before, further_unclosed, is_opened, first_of, Front, front_lines, front_releases, some_entry_asks, releases_op, release_class}
+use Rattle.settled_runs.proofs.Places.{Has, has_more, Split, carried_split, HasAction, action_has}
+use Rattle.settled_runs.proofs.Walk.{MadeAction, Finds, walk}
+use Rattle.settled_runs.proofs.MainGranted.{settled_parts, all_parts, all_limits, nothing, main_granted}
+
+-- Statements that set up before they begin
+
+pub record SetUp (ss : List Statement) : Type 0 where
+  pub before : List Statement
+  pub begin : Statement
+  pub behind : List Statement
+  pub is : ss ≡ before ++ begin ∷ behind
+  pub begins : is_begin begin.deed ≡ true
+  pub none : set_up behind ≡ false
+  pub first : how_many (λ s. is_begin s.deed) before ≡ 0
+
+pub set_up_split : (ss : List Statement) → sets_up_first ss ≡ true → SetUp ss
+unfolding sets_up_first
+set_up_split [] e = true_false e refl
+set_up_split (s ∷ ss) e = by (is_begin s.deed) refl e (set_up_split ss)
+  where
+    by : (b : Bool) → is_begin s.deed ≡ b → cond b (not (set_up ss)) (sets_up_first ss) ≡ true → (sets_up_first ss ≡ true → SetUp ss) → SetUp (s ∷ ss)
+    by true i f k = record { before = []; begin = s; behind = ss; is = refl; begins = i; none = not_true _ f; first = refl }
+    by false i f k =
+        let x = k f in
+        let z : bit (is_begin s.deed) ≡ 0 = ap bit i in
+        let n : how_many (λ t. is_begin t.deed) x.before ≡ 0 = x.first in
+        record { before = s ∷ x.before; begin = x.begin; behind = x.behind; is = λ j. s ∷ x.is j; begins = x.begins; none = x.none; first = omega arith }
+
+-- the actions of the statements are those before `begin`
+no_actions : (ss : List Statement) → set_up ss ≡ false → actions_in ss ≡ []
+no_actions [] e = refl
+no_actions (s ∷ ss) e = by s.deed e (no_actions ss)
+  where
+    rest : (b : Bool) → (b || set_up ss) ≡ false → set_up ss ≡ false
+    rest true i = true_false refl i
+    rest false i = i
+
+    by : (d : Deed) → (sets_up d || set_up ss) ≡ false → (set_up ss ≡ false → actions_in ss ≡ []) → action_in d ++ actions_in ss ≡ []
+    by (deed.Action job kind cores) i k = true_false refl i
+    by (deed.Queue id job priority limit ordered retain) i k = true_false refl i
+    by _ i k = k i
+
+begin_acts : (d : Deed) → is_begin d ≡ true → action_in d ≡ []
+unfolding is_begin
+begin_acts deed.Begin e = refl
+begin_acts _ e = true_false e refl
+
+pub first_actions : (ss : List Statement) (x : SetUp ss) → actions_in ss ≡ actions_in x.before
+first_actions ss x =
+    ap actions_in x.is ∙ actions_append x.before (x.begin ∷ x.behind)
+    ∙ ap (λ (z : List Action). actions_in x.before ++ z) ((λ i. begin_acts x.begin.deed x.begins i ++ actions_in x.behind) ∙ no_actions x.behind x.none) ∙ append-nil (actions_in x.before)
+
+pub has_one_begin : (before : List Statement) (s : Statement) (behind : List Statement) → is_begin s.deed ≡ true → has_begin (before ++ s ∷ behind) ≡ true
+unfolding has_begin
+has_one_begin [] s behind e = ap (λ (b : Bool). b || list_any (λ z. is_begin z.deed) behind) e
+has_one_begin (t ∷ before) s behind e = by (is_begin t.deed) (has_one_begin before s behind e)
+  where
+    by : (b : Bool) → list_any (λ z. is_begin z.deed) (before ++ s ∷ behind) ≡ true → (b || list_any (λ z. is_begin z.deed) (before ++ s ∷ behind)) ≡ true
+    by true k = refl
+    by false k = k
+
+granted_front : (ss ts : List Statement) (rs qs : List Reply) → length rs ≡ length ss → AllGranted (ss ++ ts) (rs ++ qs) → AllGranted ss rs
+granted_front [] ts rs qs l a = tt
+granted_front (s ∷ ss) ts [] qs l a = absurd (omega arith)
+granted_front (s ∷ ss) ts (r ∷ rs) qs l a = (a.0, granted_front ss ts rs qs (omega arith) a.1)
+
+pub as_many : (bound : List ℕ) (ss : List Statement) (ls : List Line) (rs : List Reply) → Carried Made bound ss ls rs → length rs ≡ length ss
+unfolding Carried
+as_many bound [] ls [] c = refl
+as_many bound [] ls (r ∷ rs) c = absurd c
+as_many bound (s ∷ ss) ls [] c = absurd c
+as_many bound (s ∷ ss) ls (r ∷ rs) c = ap suc (as_many (bound ++ handle_of r ∷ []) ss c.1 rs c.4)
+
+-- What main's lines are until it lets the others begin
+
+abbrev opening_line : Line
+opening_line = line op.Initialize reply.Ok 0
+
+pub record Began (ss : List Statement) (x : SetUp ss) (M : List Line) : Type 0 where
+  pub first : List Line
+  pub replies : List Reply
+  pub release : Line
+  pub rest : List Line
+  pub is : M ≡ (opening_line ∷ first) ++ release ∷ rest
+  pub carried : Carried Made [] x.before first replies
+  pub granted : AllGranted x.before replies
+  pub none : asked is_release first ≡ 0
+
+begin_released : (d : Deed) (bound : List ℕ) (front : List Line) (r : Reply) → is_begin d ≡ true → Made (call_of bound d) front r → front ≡ line op.Release r 0 ∷ []
+unfolding is_begin
+begin_released deed.Begin bound front r e m = m.0
+begin_released _ bound front r e m = true_false e refl
+
+-- the first of these statements makes the release
+pub record Released (rest : List Line) : Type 0 where
+  pub told : Reply
+  pub behind : List Line
+  pub is : rest ≡ line op.Release told 0 ∷ behind
+
+released : (bound : List ℕ) (s : Statement) (ss : List Statement) (rest : List Line) (rs : List Reply) → is_begin s.deed ≡ true → Carried Made bound (s ∷ ss) rest rs → Released rest
+unfolding Carried
+released bound s ss rest [] b c = absurd c
+released bound s ss rest (r ∷ rs) b c = record { told = r; behind = c.1; is = c.2 ∙ ap (λ (z : List Line). z ++ c.1) (begin_released s.deed bound c.0 r b c.3) }
+
+none_asked : (first : List Line) (bound : List ℕ) (ss : List Statement) (rs : List Reply) → Carried Made bound ss first rs → how_many (λ t. is_begin t.deed) ss ≡ 0 → asked is_release first ≡ 0
+none_asked first bound ss rs c n =
+    let a : asked is_release first ≤ how_many (λ t. is_begin t.deed) ss = carried_asks is_release is_begin release_class bound ss first rs c in
+    let b : how_many (λ t. is_begin t.deed) ss ≡ 0 = n in
+    omega arith
+
+began : (ss : List Statement) (x : SetUp ss) (M body : List Line) (rs : List Reply) → M ≡ head_of (has_begin ss) ++ (body ++ tail_of_main) → Carried Made [] ss body rs → AllGranted ss rs → Began ss x M
+began ss x M body rs i c g =
+    let sp : Split [] x.before (x.begin ∷ x.behind) body rs = carried_split [] x.before (x.begin ∷ x.behind) body rs (subst (λ (z : List Statement). Carried Made [] z body rs) x.is c) in
+    let r : Released sp.rest = released (map handle_of sp.replies) x.begin x.behind sp.rest sp.others x.begins sp.behind in
+    record {
+      first = sp.first;
+      replies = sp.replies;
+      release = line op.Release r.told 0;
+      rest = r.behind ++ tail_of_main;
+      is = i ∙ (λ j. head_of ((ap has_begin x.is ∙ has_one_begin x.before x.begin x.behind x.begins) j) ++ ((sp.is ∙ ap (λ (z : List Line). sp.first ++ z) r.is) j ++ tail_of_main))
+          ∙ ap (λ (z : List Line). opening_line ∷ z) (append_assoc sp.first (line op.Release r.told 0 ∷ r.behind) tail_of_main);
+      carried = sp.before;
+      granted = granted_front x.before (x.begin ∷ x.behind) sp.replies sp.others (as_many [] x.before sp.first sp.replies sp.before) (subst (AllGranted (x.before ++ x.begin ∷ x.behind)) sp.told (subst (λ (z : List Statement). AllGranted z rs) x.is g));
+      none = none_asked sp.first [] x.before sp.replies sp.before x.first;
+    }
+
+-- A front of the list in which somebody has released
+
+begun_lines : (first : List Line) (release : Line) (rest F R : List Line) → asked is_release first ≡ 0 → F ++ R ≡ (opening_line ∷ first) ++ release ∷ rest → 1 ≤ asked is_release F → (Z : List Line) × (F ≡ (opening_line ∷ first) ++ Z)
+begun_lines first release rest F R n i k = by_place (some_asks is_release F k)
+  where
+    by_place : Asking is_release F → (Z : List Line) × (F ≡ (opening_line ∷ first) ++ Z)
+    by_place a = by (placed a.before a.here (a.behind ++ R) (opening_line ∷ first) release rest (sym (append_assoc a.before (a.here ∷ a.behind) R) ∙ ap (λ (z : List Line). z ++ R) (sym a.is) ∙ i))
+      where
+        by : Placed a.before a.here (a.behind ++ R) (opening_line ∷ first) release rest → (Z : List Line) × (F ≡ (opening_line ∷ first) ++ Z)
+        by (inl p) =
+            let b : asked is_release (opening_line ∷ first) ≡ asked is_release (a.before ++ a.here ∷ p.between) = ap (asked is_release) p.front in
+            let d : asked is_release (a.before ++ a.here ∷ p.between) ≡ asked is_release a.before + (bit (is_release a.here.op) + asked is_release p.between) = asked_append is_release a.before (a.here ∷ p.between) in
+            let e : bit (is_release a.here.op) ≡ 1 = ap bit a.asks in
+            let f : asked is_release first ≡ 0 = n in
+            let g : asked is_release (opening_line ∷ first) ≡ 0 + asked is_release first = refl in
+            absurd (omega arith)
+        by (inr (inl p)) = (a.here ∷ a.behind, a.is ∙ ap (λ (z : List Line). z ++ a.here ∷ a.behind) p.front)
+        by (inr (inr p)) = (release ∷ (p.between ++ a.here ∷ a.behind), a.is ∙ ap (λ (z : List Line). z ++ a.here ∷ a.behind) p.front ∙ append_assoc (opening_line ∷ first) (release ∷ p.between) (a.here ∷ a.behind))
+
+module _ (layout : Layout) (load : Workload) (es : List NodeEntry) (ns : List ℕ) (u : SettledRun layout load es ns) where
+  abbrev main : ℕ
+  main = load.settings.workers
+
+  abbrev part : Part
+  part = (first_of layout load es ns u).part
+
+  pub main_began : (x : SetUp part.statements) → Began part.statements x (lines_of main es ns)
+  main_began x = began part.statements x (lines_of main es ns) (first_of layout load es ns u).ran.body (first_of layout load es ns u).replies (first_of layout load es ns u).ran.is (first_of layout load es ns u).ran.carried (main_granted layout load es ns u)
+
+  module _ (x : SetUp part.statements) (who : ℕ) (late : main < who) (looks : ℕ) where
+    abbrev entrance : List Line
+    entrance = line op.Enter reply.Ok looks ∷ []
+
+    module _ (A : List Line) (l : Line) (B : List Line) (c : Cut who es ns (entrance ++ A) l (B ++ [])) where
+      abbrev entered : Cut who c.before c.first [] (line op.Enter reply.Ok looks) A
+      entered = cut who c.before c.first [] (line op.Enter reply.Ok looks) A c.done
+
+      front : Front layout load es ns u entered.before
+      front = record {
+        rest = entry who op.Enter reply.Ok ∷ (entered.behind ++ entry who l.op l.reply ∷ c.behind);
+        numbers = entered.first;
+        left = looks ∷ (entered.rest ++ l.beside ∷ c.rest);
+        is = c.is ∙ ap (λ (z : List NodeEntry). z ++ entry who l.op l.reply ∷ c.behind) entered.is ∙ append_assoc entered.before (entry who op.Enter reply.Ok ∷ entered.behind) (entry who l.op l.reply ∷ c.behind);
+        are = c.numbers ∙ ap (λ (z : List ℕ). z ++ l.beside ∷ c.rest) entered.numbers ∙ append_assoc entered.first (looks ∷ entered.rest) (l.beside ∷ c.rest);
+        same = entered.same;
+      }
+
+      legal_cut : Legal (run_terms layout load) (entered.before ++ entry who op.Enter reply.Ok ∷ entered.behind)
+      legal_cut = subst (Legal (run_terms layout load)) entered.is (legal_before layout load es ns u who (entrance ++ A) l (B ++ []) c)
+
+      some_release : 1 ≤ asks is_release entered.before
+      some_release = some_entry_asks is_released is_release releases_op entered.before (enter_behind (run_terms layout load) entered.before entered.behind who legal_cut)
+
+      -- main's lines before the caller entered
+      seen : (Z : List Line) × (lines_of main entered.before entered.first ≡ (opening_line ∷ (main_began x).first) ++ Z)
+      unfolding front
+      seen = begun_lines (main_began x).first (main_began x).release (main_began x).rest (lines_of main entered.before entered.first) (lines_of main front.rest front.left) (main_began x).none
+          (sym (front_lines layout load es ns u main entered.before front) ∙ (main_began x).is) (let a : asks is_release entered.before ≤ asked is_release (lines_of main entered.before entered.first) = front_releases layout load es ns u entered.before front in let b : 1 ≤ asks is_release entered.before = some_release in omega arith)
+
+      -- and before the line
+      later : List Line
+      later = lines_of main (entry who op.Enter reply.Ok ∷ entered.behind) (looks ∷ entered.rest)
+
+      all_seen : lines_of main c.before c.first ≡ (opening_line ∷ (main_began x).first) ++ (seen.0 ++ later)
+      unfolding later
+      all_seen =
+          (λ i. lines_of main (entered.is i) (entered.numbers i)) ∙ lines_append main entered.before (entry who op.Enter reply.Ok ∷ entered.behind) entered.first (looks ∷ entered.rest) entered.same
+          ∙ ap (λ (z : List Line). z ++ later) seen.1 ∙ append_assoc (opening_line ∷ (main_began x).first) seen.0 later
+
+      pub opened_late : IsOpened c.before
+      opened_late = is_opened main c.before c.first ((main_began x).first ++ (seen.0 ++ later)) all_seen (further_unclosed layout load es ns u who (entrance ++ A) l (B ++ []) c late)
+
+      pub made_late : (p : Action → Bool) → list_any p (actions_in part.statements) ≡ true → MadeAction c.before p
+      made_late p e =
+          let y : HasAction (main_began x).first p = action_has [] x.before (main_began x).first (main_began x).replies p (main_began x).carried (main_began x).granted (subst (λ (z : List Action). list_any p z ≡ true) (first_actions part.statements x) e) in
+          let h : Has (lines_of main c.before c.first) (op.ActionCreate y.job y.kind y.mask) y.handle = subst (λ (z : List Line). Has z (op.ActionCreate y.job y.kind y.mask) y.handle) (sym all_seen) (has_more (opening_line ∷ []) (main_began x).first (seen.0 ++ later) _ _ y.made) in
+          let d : Cut main c.before c.first h.before (line (op.ActionCreate y.job y.kind y.mask) (reply.Handle y.handle) h.beside) h.behind = cut main c.before c.first h.before (line (op.ActionCreate y.job y.kind y.mask) (reply.Handle y.handle) h.beside) h.behind h.is in
+          record { job = y.job; kind = y.kind; mask = y.mask; handle = y.handle; made = record { before = d.before; who = main; behind = d.behind; is = d.is }; passes = y.passes }
+
+    pub further_finds : (all : List Statement) → set_up all ≡ false → Finds layout load es ns who entrance [] all (actions_in part.statements)
+    further_finds all n = record { opened = λ A l B c. opened_late A l B c; unclosed = λ A l B c. further_unclosed layout load es ns u who (entrance ++ A) l (B ++ []) c late; acts = λ A l B c p e. made_late A l B c p e; alone = inl n }
+
+  -- The further callers
+
+  callers_granted : (x : SetUp part.statements) (first : ℕ) → main < first → (ps : List Part) (rss : List (List Reply)) → CallersRan in_lines (λ who. lines_of who es ns) first ps rss → list_all (is_settled_further load.settings (actions_in part.statements)) ps ≡ true
+      → list_all (λ p. keep_limits p.statements 0 p.statements) ps ≡ true → AllByRecursion IsPart ps → PartsGranted ps rss
+  unfolding CallersRan
+  callers_granted x first late [] rss c e l a = tt
+  callers_granted x first late (p ∷ ps) [] c e l a = absurd c
+  callers_granted x first late (p ∷ ps) (rs ∷ rss) c e l a =
+      let ran : CallerRan in_lines p.statements (lines_of first es ns) rs = c.0 in
+      let here : is_settled_further load.settings (actions_in part.statements) p ≡ true = fst_true _ (list_all (is_settled_further load.settings (actions_in part.statements)) ps) e in (
+        walk layout load es ns u first (line op.Enter reply.Ok ran.entered.0 ∷ []) [] p.statements (actions_in part.statements)
+            (further_finds x first late ran.entered.0 p.statements (not_true _ (fst_true _ (is_settled_part load.settings (actions_in part.statements) p) here)))
+            (fst_true _ (list_all (λ y. keep_limits y.statements 0 y.statements) ps) l)
+            [] [] [] p.statements ran.body rs (nothing layout load es ns u) tt refl tt ran.carried
+            (ran.is ∙ (λ i. ran.entered.1 i ++ sym (append-nil ran.body) i))
+            refl (snd_true (not (set_up p.statements)) _ here) a.0.statements,
+        callers_granted x (suc first) (omega arith) ps rss c.1 (snd_true (is_settled_further load.settings (actions_in part.statements) p) _ e) (snd_true (keep_limits p.statements 0 p.statements) _ l) a.1,
+      )
+
+  pub all_granted : PartsGranted (part ∷ (first_of layout load es ns u).others) ((first_of layout load es ns u).replies ∷ (first_of layout load es ns u).further)
+  all_granted = (main_granted layout load es ns u, by (first_of layout load es ns u).others refl)
+    where
+      by : (ps : List Part) → (first_of layout load es ns u).others ≡ ps → PartsGranted (first_of layout load es ns u).others (first_of layout load es ns u).further
+      by [] i = subst (λ (z : List Part). PartsGranted z (first_of layout load es ns u).further) (sym i) tt
+      by (p ∷ ps) i =
+          callers_granted (set_up_split part.statements ((settled_parts layout load es ns u).first p ps i)) (suc main) (omega arith) (first_of layout load es ns u).others (first_of layout load es ns u).further (first_of layout load es ns u).callers
+          (settled_parts layout load es ns u).further (snd_true (keep_limits part.statements 0 part.statements) _ (all_limits layout load es ns u)) (all_parts layout load es ns u).1
+
+pub settled_statements_are_granted : SettledStatementsAreGranted
+settled_statements_are_granted layout load es ns u =
+    subst (PartsGranted load.parts) (sym (first_of layout load es ns u).told) (subst (λ (ps : List Part). PartsGranted ps ((first_of layout load es ns u).replies ∷ (first_of layout load es ns u).further)) (sym (first_of layout load es ns u).are) (all_granted layout load es ns u))

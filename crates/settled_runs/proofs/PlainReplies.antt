@@ -1,0 +1,122 @@
+-- The report of plain replies is the plain report.
+use Rattle.std.proofs.Common.{◌≡◌, ℕ, false, cond, List, [], ◌∷◌, ◌++◌, Option, Some, None, refl, sym, ◌∙◌, ap}
+use Rattle.std.specs.Option.{option_map}
+use Rattle.std.specs.List.{flat_map}
+use Rattle.std.proofs.lemmas.List.{append-nil}
+use Rattle.mtapi_values.specs.declared.ends.TaskEnd.{TaskEnd}
+use Rattle.mtapi_values.specs.declared.statuses.MtapiStatus.{MtapiStatus}
+use Rattle.mtapi_values.specs.Statuses.{mtapi_name}
+use Rattle.mtapi_objects.specs.Actions.{Action}
+use Rattle.mtapi_objects.specs.Tasks.{NewTask}
+use Rattle.mtapi_machine.specs.declared.replies.Reply.{Reply}
+use Rattle.mtapi_machine.specs.declared.replies.Reply.TheVariants as reply
+use Rattle.mtapi_machine.specs.GroupRows.{verdict}
+use Rattle.mtapi_machine.specs.Laws.{is_status}
+use Rattle.workload_file.specs.declared.workload.Deed.{Deed}
+use Rattle.workload_file.specs.declared.workload.Deed.TheVariants as deed
+use Rattle.workload_file.specs.declared.workload.Statement.{Statement}
+use Rattle.workload_file.specs.declared.workload.Part.{Part}
+use Rattle.workload_file.specs.Reading.{name_text}
+use Rattle.run_report.specs.Replies.{Told}
+use Rattle.run_report.specs.Tasks.{ended_text}
+use Rattle.run_report.specs.Calls.{shown_of, is_task, task_line, task_lines_of, task_lines, task_name, status_of, marked_line, call_line, call_lines_of, call_lines}
+use Rattle.settled_runs.specs.Plain.{all_statements, actions_in, task_in, Faults, no_faults, faults_behind, plain_task_line, plain_task_lines, plain_call_line, plain_calls_from, plain_call_lines, plain_report}
+use Rattle.settled_runs.specs.PlainReplies.{IsPlainTask, IsPlainReply, ArePlain, PartsArePlain, PlainRepliesShowPlainReport}
+
+module _ (actions : List Action) (all : List Statement) (ends : ℕ → Option TaskEnd) (part : List ℕ) where
+  -- Lines of tasks
+
+  shows_task : (s : Statement) (asked : Option NewTask) (r : Reply) → IsPlainTask actions ends asked r → task_line part ends s r ≡ plain_task_line actions part s asked
+  shows_task s asked r (t, e, h, i, k) =
+      ap (task_line part ends s) i
+      ∙ ap (λ (o : Option TaskEnd). part ++ (46 ∷ (name_text s.name ++ (32 ∷ (ended_text o ++ 10 ∷ []))))) k
+      ∙ ap (plain_task_line actions part s) (sym e)
+
+  task_shown : (faults : Faults) (s : Statement) (d : Deed) (r : Reply) → IsPlainReply actions all ends faults d r → cond (is_task (shown_of d)) (task_line part ends s r) [] ≡ plain_task_line actions part s (task_in all d)
+  unfolding IsPlainReply shown_of task_in
+  task_shown faults s (deed.Start job args priority cores detached group) r p = shows_task s (task_in all (deed.Start job args priority cores detached group)) r p
+  task_shown faults s (deed.Enqueue queue args cores detached group) r p = shows_task s (task_in all (deed.Enqueue queue args cores detached group)) r p
+  task_shown faults s deed.Begin r p = refl
+  task_shown faults s (deed.Action job kind cores) r p = refl
+  task_shown faults s (deed.Wait place timeout) r p = refl
+  task_shown faults s deed.Group r p = refl
+  task_shown faults s (deed.WaitAll group timeout) r p = refl
+  task_shown faults s (deed.Queue id job priority limit ordered retain) r p = refl
+  task_shown faults s _ r p = absurd p
+
+  pub tasks_shown : (faults : Faults) (ss : List Statement) (rs : List Reply) → ArePlain actions all ends faults ss rs
+      → task_lines_of part ends ss rs ≡ flat_map (λ s. plain_task_line actions part s (task_in all s.deed)) ss
+  unfolding ArePlain task_lines_of
+  tasks_shown faults [] rs p = refl
+  tasks_shown faults (s ∷ ss) [] p = absurd p
+  tasks_shown faults (s ∷ ss) (r ∷ rs) p =
+      let a = task_shown faults s s.deed r p.0 in
+      let b = tasks_shown (faults_behind actions all faults s.deed) ss rs p.1 in
+      λ i. a i ++ b i
+
+  -- Lines of calls
+
+  no_status : (r : Reply) → is_status r ≡ false → status_of r ≡ None
+  no_status (reply.Mtapi c) e = absurd (cc)
+  no_status (reply.Mrapi c) e = absurd (cc)
+  no_status _ e = refl
+
+  tells : (fault : Option MtapiStatus) → status_of (verdict fault) ≡ option_map mtapi_name fault
+  tells None = refl
+  tells (Some c) = refl
+
+  unrefused : (line : ℕ) (r : Reply) → is_status r ≡ false → marked_line 33 part line (status_of r) ++ [] ≡ []
+  unrefused line r e = append-nil (marked_line 33 part line (status_of r)) ∙ ap (marked_line 33 part line) (no_status r e)
+
+  call_shown : (faults : Faults) (name : ℕ → List ℕ) (s : Statement) (d : Deed) (r : Reply) → IsPlainReply actions all ends faults d r → call_line part name s.line (shown_of d) r ≡ plain_call_line part faults s d
+  unfolding IsPlainReply shown_of plain_call_line
+  call_shown faults name s (deed.Start job args priority cores detached group) r p = refl
+  call_shown faults name s (deed.Enqueue queue args cores detached group) r p = refl
+  call_shown faults name s deed.Begin r p = refl
+  call_shown faults name s (deed.Action job kind cores) r p = unrefused s.line r p
+  call_shown faults name s (deed.Wait place timeout) r p = unrefused s.line r p
+  call_shown faults name s deed.Group r p = unrefused s.line r p
+  call_shown faults name s (deed.Queue id job priority limit ordered retain) r p = unrefused s.line r p
+  call_shown faults name s (deed.WaitAll group timeout) r p =
+      append-nil (marked_line 33 part s.line (status_of r)) ∙ ap (marked_line 33 part s.line) (ap status_of p ∙ tells (faults group))
+  call_shown faults name s _ r p = absurd p
+
+module _ (actions : List Action) (ends : ℕ → Option TaskEnd) where
+  calls_shown : (p : Part) (name : ℕ → List ℕ) (faults : Faults) (ss : List Statement) (rs : List Reply) → ArePlain actions p.statements ends faults ss rs
+      → call_lines_of p.name name ss rs ≡ plain_calls_from actions p faults ss
+  unfolding ArePlain call_lines_of plain_calls_from
+  calls_shown p name faults [] rs a = refl
+  calls_shown p name faults (s ∷ ss) [] a = absurd a
+  calls_shown p name faults (s ∷ ss) (r ∷ rs) a =
+      let b = call_shown actions p.statements ends p.name faults name s s.deed r a.0 in
+      let c = calls_shown p name (faults_behind actions p.statements faults s.deed) ss rs a.1 in
+      λ i. b i ++ c i
+
+  all_tasks : (ps : List Part) (ts : List Told) → PartsArePlain actions ends ps ts → flat_map (task_lines ends) ts ≡ flat_map (plain_task_lines actions) ps
+  unfolding PartsArePlain
+  all_tasks [] [] a = refl
+  all_tasks [] (t ∷ ts) a = absurd a
+  all_tasks (p ∷ ps) [] a = absurd a
+  all_tasks (p ∷ ps) (t ∷ ts) a =
+      let b : task_lines_of t.name ends t.statements t.replies ≡ plain_task_lines actions p =
+      (λ i. task_lines_of (a.0 i) ends (a.1 i) t.replies) ∙ tasks_shown actions p.statements ends p.name no_faults p.statements t.replies a.2 in
+      let c = all_tasks ps ts a.3 in
+      λ i. b i ++ c i
+
+  all_calls : (ps : List Part) (ts : List Told) → PartsArePlain actions ends ps ts → flat_map call_lines ts ≡ flat_map (plain_call_lines actions) ps
+  unfolding PartsArePlain
+  all_calls [] [] a = refl
+  all_calls [] (t ∷ ts) a = absurd a
+  all_calls (p ∷ ps) [] a = absurd a
+  all_calls (p ∷ ps) (t ∷ ts) a =
+      let b : call_lines t ≡ plain_call_lines actions p =
+      (λ i. call_lines_of (a.0 i) (task_name t.statements t.replies) (a.1 i) t.replies) ∙ calls_shown p (task_name t.statements t.replies) no_faults p.statements t.replies a.2 in
+      let c = all_calls ps ts a.3 in
+      λ i. b i ++ c i
+
+pub plain_replies : PlainRepliesShowPlainReport
+unfolding plain_report
+plain_replies load ends told a =
+    let b = all_tasks (actions_in (all_statements load)) ends load.parts told a in
+    let c = all_calls (actions_in (all_statements load)) ends load.parts told a in
+    λ i. b i ++ c i

@@ -1,0 +1,59 @@
+-- The summary of plain replies is the plain summary.
+use Rattle.std.proofs.Common.{◌≡◌, ℕ, ◌+◌, cond, List, [], ◌∷◌, Option, refl, sym, ◌∙◌, ap}
+use Rattle.mtapi_values.specs.declared.ends.TaskEnd.{TaskEnd}
+use Rattle.mtapi_objects.specs.Actions.{Action}
+use Rattle.mtapi_objects.specs.Tasks.{NewTask}
+use Rattle.mtapi_machine.specs.declared.replies.Reply.{Reply}
+use Rattle.mtapi_machine.specs.Legal.{after}
+use Rattle.mtapi_machine.specs.Ends.{end_at}
+use Rattle.workload_file.specs.declared.workload.Deed.{Deed}
+use Rattle.workload_file.specs.declared.workload.Deed.TheVariants as deed
+use Rattle.workload_file.specs.declared.workload.Statement.{Statement}
+use Rattle.workload_file.specs.declared.workload.Part.{Part}
+use Rattle.run_report.specs.declared.totals.Totals.{Totals}
+use Rattle.run_report.specs.Calls.{shown_of, is_task}
+use Rattle.run_report.specs.Replies.{Told}
+use Rattle.run_report.specs.Report.{run_terms, parts_told}
+use Rattle.run_report.specs.Summary.{no_totals, with_end, with_task, with_tasks, with_parts, totals, totals_text}
+use Rattle.settled_runs.specs.Plain.{all_statements, actions_in, task_in, Faults, no_faults, faults_behind}
+use Rattle.settled_runs.specs.PlainReplies.{IsPlainTask, IsPlainReply, ArePlain, PartsArePlain}
+use Rattle.settled_runs.specs.PlainSummary.{with_plain_task, with_plain_tasks, with_plain_parts, plain_summary, SettledSummariesArePlain}
+use Rattle.settled_runs.proofs.RunReport.{told_plainly}
+
+module _ (actions : List Action) (ends : ℕ → Option TaskEnd) where
+  counts_task : (t : Totals) (asked : Option NewTask) (r : Reply) → IsPlainTask actions ends asked r → with_task ends t r ≡ with_plain_task actions t asked
+  counts_task t asked r (x, e, h, i, k) = ap (with_task ends t) i ∙ ap (λ (o : Option TaskEnd). record (with_end t o) { tasks = t.tasks + 1 }) k ∙ ap (with_plain_task actions t) (sym e)
+
+  task_counted : (all : List Statement) (faults : Faults) (t : Totals) (d : Deed) (r : Reply) → IsPlainReply actions all ends faults d r → cond (is_task (shown_of d)) (with_task ends t r) t ≡ with_plain_task actions t (task_in all d)
+  unfolding IsPlainReply shown_of task_in
+  task_counted all faults t (deed.Start job args priority cores detached group) r p = counts_task t (task_in all (deed.Start job args priority cores detached group)) r p
+  task_counted all faults t (deed.Enqueue queue args cores detached group) r p = counts_task t (task_in all (deed.Enqueue queue args cores detached group)) r p
+  task_counted all faults t deed.Begin r p = refl
+  task_counted all faults t (deed.Action job kind cores) r p = refl
+  task_counted all faults t (deed.Wait place timeout) r p = refl
+  task_counted all faults t deed.Group r p = refl
+  task_counted all faults t (deed.WaitAll group timeout) r p = refl
+  task_counted all faults t (deed.Queue id job priority limit ordered retain) r p = refl
+  task_counted all faults t _ r p = absurd p
+
+  tasks_counted : (all : List Statement) (faults : Faults) (t : Totals) (ss : List Statement) (rs : List Reply) → ArePlain actions all ends faults ss rs → with_tasks ends t ss rs ≡ with_plain_tasks actions all t ss
+  unfolding ArePlain with_tasks with_plain_tasks
+  tasks_counted all faults t [] rs p = refl
+  tasks_counted all faults t (s ∷ ss) [] p = absurd p
+  tasks_counted all faults t (s ∷ ss) (r ∷ rs) p =
+      ap (λ (x : Totals). with_tasks ends x ss rs) (task_counted all faults t s.deed r p.0)
+      ∙ tasks_counted all (faults_behind actions all faults s.deed) (with_plain_task actions t (task_in all s.deed)) ss rs p.1
+
+  parts_counted : (t : Totals) (ps : List Part) (ts : List Told) → PartsArePlain actions ends ps ts → with_parts ends t ts ≡ with_plain_parts actions t ps
+  unfolding PartsArePlain with_parts with_plain_parts
+  parts_counted t [] [] a = refl
+  parts_counted t [] (x ∷ ts) a = absurd a
+  parts_counted t (p ∷ ps) [] a = absurd a
+  parts_counted t (p ∷ ps) (x ∷ ts) a =
+      ap (λ (y : Totals). with_parts ends y ts) (ap (λ (ss : List Statement). with_tasks ends t ss x.replies) a.1 ∙ tasks_counted p.statements no_faults t p.statements x.replies a.2)
+      ∙ parts_counted (with_plain_tasks actions p.statements t p.statements) ps ts a.3
+
+pub settled_summaries_are_plain : SettledSummariesArePlain
+unfolding totals plain_summary
+settled_summaries_are_plain layout load es ns u =
+    ap totals_text (parts_counted (actions_in (all_statements load)) (end_at (after (run_terms layout load) es).tasks) no_totals load.parts (parts_told load es) (told_plainly layout load es ns u))

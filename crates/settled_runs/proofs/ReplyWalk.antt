@@ -1,0 +1,216 @@
+-- In a run of a settled workload each statement, other than a wait for all tasks of a group, gets its plain reply.
+use Rattle.std.proofs.Common.{◌≡◌, ℕ, suc, Bool, true, false, List, [], ◌∷◌, ◌++◌, length, Option, Some, None, refl, sym, ◌∙◌, ap, subst, append_assoc, ℤ}
+use Rattle.std.specs.Prelude.{◌&&◌, not, map, slice_get, option_and_then, IfSome}
+use Rattle.std.specs.List.{list_any}
+use Rattle.std.specs.Option.{option_map}
+use Rattle.std.proofs.lemmas.List.{append-nil}
+use Rattle.std.proofs.lemmas.Bool.{eq-eqb}
+use Rattle.mtapi_values.specs.declared.ends.TaskEnd.{TaskEnd}
+use Rattle.mtapi_values.specs.declared.timeouts.Timeout.{Timeout}
+use Rattle.mtapi_values.specs.declared.timeouts.Timeout.TheVariants as timeout
+use Rattle.mtapi_values.specs.declared.masks.Mask.{Mask}
+use Rattle.mtapi_values.specs.declared.handles.Layout.{Layout}
+use Rattle.mtapi_values.specs.declared.handles.GroupHandle.{GroupHandle}
+use Rattle.mtapi_values.specs.declared.handles.QueueHandle.{QueueHandle}
+use Rattle.mtapi_values.specs.declared.handles.ObjectKind.TheVariants as kinds
+use Rattle.mtapi_values.specs.declared.statuses.MtapiStatus.TheVariants as m
+use Rattle.history.specs.Histories.{entry}
+use Rattle.handle_pool.specs.Issued.{live_object}
+use Rattle.mtapi_objects.specs.Actions.{Action}
+use Rattle.mtapi_objects.specs.Tasks.{NewTask, new_task}
+use Rattle.mtapi_objects.specs.Queues.{Queue}
+use Rattle.workload_file.specs.declared.table.Sort.TheVariants as sort
+use Rattle.workload_file.specs.declared.workload.Deed.{Deed}
+use Rattle.workload_file.specs.declared.workload.Deed.TheVariants as deed
+use Rattle.workload_file.specs.declared.workload.Statement.{Statement}
+use Rattle.workload_file.specs.declared.workload.Workload.{Workload}
+use Rattle.workload_file.specs.Table.{fields, row as row_of}
+use Rattle.workload_file.specs.Deeds.{deed_spelled, word_for, values, place_used}
+use Rattle.workload_file.specs.Formed.{AllFit, IsBoundAt, IsStatement, AreStatements}
+use Rattle.mtapi_machine.specs.declared.ops.Op.{Op}
+use Rattle.mtapi_machine.specs.declared.ops.Op.TheVariants as op
+use Rattle.mtapi_machine.specs.declared.replies.Reply.{Reply}
+use Rattle.mtapi_machine.specs.declared.replies.Reply.TheVariants as reply
+use Rattle.mtapi_machine.specs.declared.terms.Terms.{Terms}
+use Rattle.mtapi_machine.specs.State.{State, opening, tasks, is_open}
+use Rattle.mtapi_machine.specs.Moves.{released, starts_task, is_fresh, after_moves}
+use Rattle.mtapi_machine.specs.Row.{gives, handle_of, Allows, after_row}
+use Rattle.mtapi_machine.specs.Rows.{row}
+use Rattle.mtapi_machine.specs.TaskRows.{asked_for, asked_of}
+use Rattle.mtapi_machine.specs.Laws.{is_status}
+use Rattle.mtapi_machine.specs.Legal.{NodeEntry, IsNext, next, after_from, after}
+use Rattle.mtapi_machine.specs.Ends.{end_at}
+use Rattle.mtapi_machine.proofs.Changes.{some_same}
+use Rattle.mtapi_machine.proofs.Made.{fst_true, snd_true, on_only, on_live, not_true}
+use Rattle.sched_workers.specs.Calls.{handle_at, group_at, call_of}
+use Rattle.sched_workers.specs.Lines.{Line, line, lines_of, before_it, Made, Looked}
+use Rattle.sched_workers.specs.Parts.{Carried}
+use Rattle.history_law.proofs.Accepted.{granted, refuses_only, refuses_live, no_handle}
+use Rattle.history_law.proofs.Answered.{true_false}
+use Rattle.history_law.proofs.Ages.{SameTask}
+use Rattle.history_law.proofs.Objects.{StartedAs, HasObject, started_as, has_new, cut_from}
+use Rattle.history_law.proofs.Reuse.{fresh_unlisted}
+use Rattle.run_report.specs.Report.{run_terms}
+use Rattle.settled_runs.specs.Plain.{all_statements, actions_in, queue_in, queue_at, task_in, plain_end}
+use Rattle.settled_runs.specs.PlainReplies.{IsPlainTask}
+use Rattle.settled_runs.specs.RunGranted.{GrantedTo, AllGranted, SettledRun}
+use Rattle.settled_runs.specs.Granted.{Asks}
+use Rattle.settled_runs.specs.Waits.{looks_at}
+use Rattle.settled_runs.specs.Settled.{is_infinite, is_alone, waits_for, is_startable, is_settled_deed, are_settled}
+use Rattle.settled_runs.proofs.SettledReplies.{IsSettledReply, AreSettledReplies}
+use Rattle.settled_runs.proofs.Stays.{made_objects_stay}
+use Rattle.settled_runs.proofs.RunEnds.{at_entry, ends_as_asked}
+use Rattle.settled_runs.proofs.Cuts.{Cut, cut}
+use Rattle.settled_runs.proofs.Opened.{legal_here, legal_before, quiet_before}
+use Rattle.settled_runs.proofs.Places.{carried_more, HasQueue, queue_has}
+use Rattle.settled_runs.proofs.Puts.{get_front, BoundBy, bound_by}
+use Rattle.settled_runs.proofs.Walk.{Finds, made_before, granted_more, are_more, snoc, map_more}
+use Rattle.settled_runs.proofs.Waited.{pending_before, unrefused}
+use Rattle.settled_runs.proofs.Counted.{asked}
+use Rattle.settled_runs.proofs.Granted.{is_up, allowed}
+use Rattle.settled_runs.proofs.Waits.{passed}
+
+-- An accepted task of a queue is as the queue says
+
+abbrev Queued : State → NewTask → ℕ → State → Type 0
+Queued s n h t = HasObject kinds.Task h (SameTask (new_task n s.starts)) t
+
+itself : (n : NewTask) (k : ℕ) → SameTask (new_task n k) (new_task n k)
+itself n k = record { job = refl; args = refl; priority = refl; cores = refl; queue = refl; start = refl }
+
+queued : (s : State) (who : ℕ) (q : QueueHandle) (args : List ℤ) (cores : Mask) (detached : Bool) (group : Option GroupHandle) (h : ℕ) (y : Queue) → live_object s.queues q.0 ≡ Some y
+    → Allows (row s who (op.TaskEnqueue q args cores detached group) (reply.Handle h)) (reply.Handle h) → Queued s (asked_of q.0 y args cores detached group) h (after_row s (row s who (op.TaskEnqueue q args cores detached group) (reply.Handle h)))
+queued s who q args cores detached group h y e a =
+    granted (λ ms. Queued s (asked_of q.0 y args cores detached group) h (after_moves ms s)) (row s who (op.TaskEnqueue q args cores detached group) (reply.Handle h)) h
+    (refl, (refl, refuses_live (live_object s.queues q.0) _ _ tt (λ x. (refl, (refl, (refl, (refl, (refl, (refl, (refl, refuses_only _ _ _))))))))))
+    (λ c d. on_live (λ x ms. reply.Handle h ≡ x → Queued s (asked_of q.0 y args cores detached group) h (after_moves ms s)) (live_object s.queues q.0) _ _ (λ i. absurd (no_handle h (reply.Mtapi m.ErrQueueInvalid) refl i))
+    (λ x f c0 c1 c2 c3 c4 c5 c6. on_only (λ x2 ms. reply.Handle h ≡ x2 → Queued s (asked_of q.0 y args cores detached group) h (after_moves ms s)) (is_fresh tasks s h) (reply.Handle h) (starts_task h (asked_of q.0 x args cores detached group) ∷ [])
+    (λ i j. subst (λ (z : Queue). Queued s (asked_of q.0 y args cores detached group) h (after_moves (starts_task h (asked_of q.0 z args cores detached group) ∷ []) s)) (some_same (sym e ∙ f))
+    (has_new h (SameTask (new_task (asked_of q.0 y args cores detached group) s.starts)) (new_task (asked_of q.0 y args cores detached group) s.starts) s.tasks (fresh_unlisted kinds.Task s h i) (itself (asked_of q.0 y args cores detached group) s.starts))))) a
+
+-- One statement
+
+module _ (layout : Layout) (load : Workload) (es : List NodeEntry) (ns : List ℕ) (u : SettledRun layout load es ns) (who : ℕ) (start : List Line) where
+  abbrev terms : Terms
+  terms = run_terms layout load
+
+  abbrev actions : List Action
+  actions = actions_in (all_statements load)
+
+  abbrev ends : ℕ → Option TaskEnd
+  ends h = end_at (after terms es).tasks h
+
+  module _ (A B : List Line) where
+    start_ends : (job : ℕ) (args : List ℤ) (priority : ℕ) (cores : Mask) (detached : Bool) (group : Option GroupHandle) (h : ℕ) → Cut who es ns A (line (op.TaskStart job args priority cores detached group) (reply.Handle h) 0) B
+        → end_at (after terms es).tasks h ≡ plain_end actions (asked_for job args priority cores detached group)
+    start_ends job args priority cores detached group h c =
+        let s : State = after_from (opening terms) c.before in
+        let e : NodeEntry = entry who (op.TaskStart job args priority cores detached group) (reply.Handle h) in
+        let x : StartedAs s e.op h (next s e) = started_as s e h (cut_from (opening terms) c.before c.behind e (at_entry layout load es ns u.settled u.legal u.same u.run c.before c.behind e h c.is refl)) (eq-eqb h h refl) in
+        ends_as_asked layout load es ns u.settled u.legal u.same u.run c.before c.behind e h c.is refl (asked_for job args priority cores detached group) s.starts
+        (subst (λ (n : NewTask). HasObject kinds.Task h (SameTask (new_task n s.starts)) (next s e)) x.1 x.2)
+
+    enqueue_ends : (q : QueueHandle) (y : Queue) (args : List ℤ) (cores : Mask) (detached : Bool) (group : Option GroupHandle) (h : ℕ) → (c : Cut who es ns A (line (op.TaskEnqueue q args cores detached group) (reply.Handle h) 0) B)
+        → live_object (after terms c.before).queues q.0 ≡ Some y → end_at (after terms es).tasks h ≡ plain_end actions (asked_of q.0 y args cores detached group)
+    enqueue_ends q y args cores detached group h c i =
+        let s : State = after_from (opening terms) c.before in
+        let e : NodeEntry = entry who (op.TaskEnqueue q args cores detached group) (reply.Handle h) in
+        let n : IsNext s e = cut_from (opening terms) c.before c.behind e (at_entry layout load es ns u.settled u.legal u.same u.run c.before c.behind e h c.is refl) in
+        ends_as_asked layout load es ns u.settled u.legal u.same u.run c.before c.behind e h c.is refl (asked_of q.0 y args cores detached group) s.starts (queued s who q args cores detached group h y i n.allowed)
+
+  module _ (finish : List Line) (all : List Statement) (known : List Action) (f : Finds layout load es ns who start finish all known) (outside : (h : ℕ) → asked (looks_at h) start ≡ 0) (whole : are_settled load.settings known all [] all ≡ true) where
+    module _ (before : List Statement) (l1 : List Line) (r1 : List Reply) (c1 : Carried Made [] before l1 r1) (g1 : AllGranted before r1) (s : Statement) (more : List Statement) (split : all ≡ before ++ s ∷ more) (st : IsStatement before s) (are : AreStatements [] before)
+        (ok : is_settled_deed load.settings (known ++ actions_in before) before all s.deed ≡ true) where
+      one_line : (o : Op) (front : List Line) (r : Reply) (h : ℕ) (B : List Line) → lines_of who es ns ≡ (start ++ l1) ++ (front ++ (B ++ finish)) → front ≡ line o r 0 ∷ [] → r ≡ reply.Handle h → lines_of who es ns ≡ (start ++ l1) ++ line o (reply.Handle h) 0 ∷ (B ++ finish)
+      one_line o front r h B at e i = at ∙ ap (λ (z : List Line). (start ++ l1) ++ (z ++ (B ++ finish))) (e ∙ ap (λ (x : Reply). line o x 0 ∷ []) i)
+
+      -- the queue of an enqueue is as its statement made it
+      queue_there : (queue : ℕ) → IsBoundAt sort.Queue before queue → (x : Queue) → queue_at all queue ≡ Some x → (l : Line) (B : List Line) (c : Cut who es ns (start ++ l1) l B) → live_object (after terms c.before).queues (handle_at (map handle_of r1) queue) ≡ Some x
+      queue_there queue i x e l B c =
+          let b : BoundBy sort.Queue before queue = bound_by sort.Queue before queue i in
+          let q : queue_in b.statement.deed ≡ Some x = sym (ap (option_and_then (λ z. queue_in z.deed)) (ap (λ (z : List Statement). slice_get z queue) split ∙ get_front before (s ∷ more) queue b.early ∙ b.found)) ∙ e in
+          let y : HasQueue [] before l1 r1 c1 g1 queue x = queue_has [] before l1 r1 c1 g1 queue b.statement x b.found q in
+          made_objects_stay terms c.before (op.QueueCreate y.id y.job y.priority y.limit y.ordered y.retain) (handle_at (map handle_of r1) queue) (legal_before layout load es ns u who (start ++ l1) l B c) (quiet_before layout load es ns u who (start ++ l1) l B c)
+          (made_before es ns who start l1 l B c (op.QueueCreate y.id y.job y.priority y.limit y.ordered y.retain) (handle_at (map handle_of r1) queue) y.made)
+          ∙ ap Some y.same
+
+      -- the release
+      begin_told : (front : List Line) (r : Reply) (B : List Line) → lines_of who es ns ≡ (start ++ l1) ++ (front ++ (B ++ finish)) → front ≡ line op.Release r 0 ∷ [] → is_status r ≡ false
+      begin_told front r B at e =
+          let c = cut who es ns (start ++ l1) (line op.Release r 0) (B ++ finish) (at ∙ ap (λ (z : List Line). (start ++ l1) ++ (z ++ (B ++ finish))) e) in
+          let x : Asks terms c.before who op.Release r = record { legal = legal_here layout load es ns u who (start ++ l1) (line op.Release r 0) (B ++ finish) c; quiet = quiet_before layout load es ns u who (start ++ l1) (line op.Release r 0) (B ++ finish) c; opened = f.opened l1 (line op.Release r 0) B c } in
+          ap is_status (passed (not (is_open (after terms c.before).phase)) (reply.Mtapi m.ErrNodeNotinit) (gives reply.Ok (released ∷ [])) r (is_up terms c.before who op.Release r x) (allowed terms c.before who op.Release r x))
+
+      -- the wait for a task
+      wait_told : (place : ℕ) (t : Timeout) → (is_infinite t && is_alone (option_and_then (λ z. task_in all z.deed) (slice_get all place)) && not (list_any (λ z. waits_for place z.deed) before)) ≡ true → IsBoundAt sort.Task before place
+          → (front : List Line) (r : Reply) (B : List Line) → lines_of who es ns ≡ (start ++ l1) ++ (front ++ (B ++ finish)) → Looked true (λ last. op.TaskLook (record { 0 = handle_at (map handle_of r1) place }) last) t front r → is_status r ≡ false
+      wait_told place timeout.Infinite e i front r B at k =
+          let a : (true && is_alone (option_and_then (λ z. task_in all z.deed) (slice_get all place))) ≡ true = fst_true _ (not (list_any (λ z. waits_for place z.deed) before)) e in
+          let o : Bool → Op = λ last. op.TaskLook (record { 0 = handle_at (map handle_of r1) place }) last in
+          let bi : List Line = before_it (op.TaskLook (record { 0 = handle_at (map handle_of r1) place }) false) k.first in
+          unrefused layout load es ns u who start finish all known f outside whole before l1 r1 c1 g1 are s more split place i (snd_true true _ a) (not_true _ (snd_true (true && is_alone (option_and_then (λ z. task_in all z.deed) (slice_get all place))) _ e))
+          bi k.beside r B (pending_before (handle_at (map handle_of r1) place) (op.TaskLook (record { 0 = handle_at (map handle_of r1) place }) false) k.first)
+          (at ∙ ap (λ (z : List Line). (start ++ l1) ++ (z ++ (B ++ finish))) (k.is ∙ ap (λ (w : Bool). bi ++ line (op.TaskLook (record { 0 = handle_at (map handle_of r1) place }) w) r k.beside ∷ []) k.within)
+          ∙ ap (λ (z : List Line). (start ++ l1) ++ z) (append_assoc bi (line (op.TaskLook (record { 0 = handle_at (map handle_of r1) place }) false) r k.beside ∷ []) (B ++ finish))
+          ∙ sym (append_assoc (start ++ l1) bi (line (op.TaskLook (record { 0 = handle_at (map handle_of r1) place }) false) r k.beside ∷ (B ++ finish)))
+          ∙ ap (λ (z : List Line). z ++ line (op.TaskLook (record { 0 = handle_at (map handle_of r1) place }) false) r k.beside ∷ (B ++ finish)) (append_assoc start l1 bi)) k.decides
+      wait_told place timeout.NoWait e i front r B at k = true_false e refl
+      wait_told place (timeout.Looks n) e i front r B at k = true_false e refl
+
+      pub plain_reply : (front : List Line) (r : Reply) (B : List Line) → lines_of who es ns ≡ (start ++ l1) ++ (front ++ (B ++ finish)) → Made (call_of (map handle_of r1) s.deed) front r → GrantedTo s.deed r → IsSettledReply actions all (λ h. end_at (after terms es).tasks h) s.deed r
+      unfolding is_settled_deed task_in row_of deed_spelled plain_end
+      plain_reply front r B at m g = by s.deed ok st.options st.uses m g
+        where
+          by_queue : (queue : ℕ) (args : List ℤ) (cores : Mask) (detached : Bool) (group : Option ℕ) → (q : Option Queue) → queue_at all queue ≡ q
+              → is_startable load.settings (known ++ actions_in before) (option_map (λ x. record { job = x.job; args = args; priority = x.priority; cores = cores.0; detached = detached; group = group; queue = Some queue }) q) ≡ true
+              → IsBoundAt sort.Queue before queue → Made (call_of (map handle_of r1) (deed.Enqueue queue args cores detached group)) front r → (h : ℕ) → r ≡ reply.Handle h
+              → IsPlainTask actions (λ j. end_at (after terms es).tasks j) (option_map (λ x. record { job = x.job; args = args; priority = x.priority; cores = cores.0; detached = detached; group = group; queue = Some queue }) q) r
+          by_queue queue args cores detached group None e k o n h i = true_false k refl
+          by_queue queue args cores detached group (Some x) e k o n h i =
+              let c = cut who es ns (start ++ l1) (line (op.TaskEnqueue (record { 0 = handle_at (map handle_of r1) queue }) args cores detached (option_map (group_at (map handle_of r1)) group)) (reply.Handle h) 0) (B ++ finish)
+              (one_line (op.TaskEnqueue (record { 0 = handle_at (map handle_of r1) queue }) args cores detached (option_map (group_at (map handle_of r1)) group)) front r h B at n.0 i) in (
+                record { job = x.job; args = args; priority = x.priority; cores = cores.0; detached = detached; group = group; queue = Some queue },
+                refl,
+                h,
+                i,
+                enqueue_ends (start ++ l1) (B ++ finish) (record { 0 = handle_at (map handle_of r1) queue }) x args cores detached (option_map (group_at (map handle_of r1)) group) h c (queue_there queue o x e _ (B ++ finish) c),
+              )
+
+          by : (d : Deed) → is_settled_deed load.settings (known ++ actions_in before) before all d ≡ true → AllFit before (fields (word_for d)) (values d) → IfSome (place_used d) (λ v. IsBoundAt v.0 before v.1) → Made (call_of (map handle_of r1) d) front r → GrantedTo d r → IsSettledReply actions all (λ h. end_at (after terms es).tasks h) d r
+          by (deed.Start job args priority cores detached group) e o v n y = (
+            record { job = job; args = args; priority = priority; cores = cores.0; detached = detached; group = group; queue = None },
+            refl,
+            y.0,
+            y.1,
+            start_ends (start ++ l1) (B ++ finish) job args priority cores detached (option_map (group_at (map handle_of r1)) group) y.0
+                (cut who es ns (start ++ l1) (line (op.TaskStart job args priority cores detached (option_map (group_at (map handle_of r1)) group)) (reply.Handle y.0) 0) (B ++ finish)
+                (one_line (op.TaskStart job args priority cores detached (option_map (group_at (map handle_of r1)) group)) front r y.0 B at n.0 y.1)),
+          )
+          by (deed.Enqueue queue args cores detached group) e o v n y = by_queue queue args cores detached group (queue_at all queue) refl e o.0 n y.0 y.1
+          by deed.Begin e o v n y = begin_told front r B at n.0
+          by (deed.Action job kind cores) e o v n y = ap is_status y.1
+          by deed.Group e o v n y = ap is_status y.1
+          by (deed.Queue id job priority limit ordered retain) e o v n y = ap is_status y.1
+          by (deed.Wait place timeout) e o v n y = wait_told place timeout e v front r B at n
+          by (deed.WaitAll place timeout) e o v n y = tt
+          by _ e o v n y = true_false e refl
+
+    pub plain_walk : (before : List Statement) (l1 : List Line) (r1 : List Reply) (ss : List Statement) (ls : List Line) (rs : List Reply) → Carried Made [] before l1 r1 → AllGranted before r1 → length r1 ≡ length before → AreStatements [] before
+        → Carried Made (map handle_of r1) ss ls rs → AllGranted ss rs → lines_of who es ns ≡ (start ++ l1) ++ (ls ++ finish) → all ≡ before ++ ss → are_settled load.settings known all before ss ≡ true → AreStatements before ss
+        → AreSettledReplies actions all (λ h. end_at (after terms es).tasks h) ss rs
+    unfolding Carried are_settled
+    plain_walk before l1 r1 [] ls rs c1 g1 n a1 c g at split ok a = tt
+    plain_walk before l1 r1 (s ∷ ss) ls [] c1 g1 n a1 c g at split ok a = absurd c
+    plain_walk before l1 r1 (s ∷ ss) ls (r ∷ rs) c1 g1 n a1 c g at split ok a = (
+      plain_reply before l1 r1 c1 g1 s ss split a.0 a1 (fst_true _ (are_settled load.settings known all (before ++ s ∷ []) ss) ok) c.0 r c.1 at2 c.3 g.0,
+      plain_walk (before ++ s ∷ []) (l1 ++ c.0) (r1 ++ r ∷ []) ss c.1 rs
+          (carried_more [] before (s ∷ []) l1 c.0 r1 (r ∷ []) c1 (c.0, [], sym (append-nil c.0), c.3, refl))
+          (granted_more before r1 s r g1 n g.0) (snoc r1 r ∙ ap suc n ∙ sym (snoc before s)) (are_more [] before s a1 a.0)
+          (subst (λ (x : List ℕ). Carried Made x ss c.1 rs) (map_more r1 r) c.4) g.1
+          (at2 ∙ sym (append_assoc (start ++ l1) c.0 (c.1 ++ finish)) ∙ ap (λ (z : List Line). z ++ (c.1 ++ finish)) (append_assoc start l1 c.0))
+          (split ∙ sym (append_assoc before (s ∷ []) ss))
+          (snd_true (is_settled_deed load.settings (known ++ actions_in before) before all s.deed) _ ok) a.1,
+    )
+      where
+        at2 : lines_of who es ns ≡ (start ++ l1) ++ (c.0 ++ (c.1 ++ finish))
+        at2 = at ∙ ap (λ (z : List Line). (start ++ l1) ++ z) (ap (λ (z : List Line). z ++ finish) c.2 ∙ append_assoc c.0 c.1 finish)

@@ -1,0 +1,50 @@
+-- The report of a run of a settled workload is the plain one.
+use Rattle.std.proofs.Common.{◌≡◌, ℕ, ◌+◌, List, [], ◌∷◌, ◌++◌, Option, refl, sym, ◌∙◌, ap, subst}
+use Rattle.std.specs.Prelude.{map}
+use Rattle.std.specs.List.{flat_map}
+use Rattle.mtapi_values.specs.declared.ends.TaskEnd.{TaskEnd}
+use Rattle.mtapi_objects.specs.Actions.{Action}
+use Rattle.mtapi_values.specs.declared.handles.Layout.{Layout}
+use Rattle.workload_file.specs.declared.workload.Part.{Part}
+use Rattle.workload_file.specs.declared.workload.Workload.{Workload}
+use Rattle.mtapi_machine.specs.Legal.{NodeEntry, after}
+use Rattle.mtapi_machine.specs.Ends.{end_at}
+use Rattle.run_report.specs.Replies.{further_told, all_told}
+use Rattle.run_report.specs.Report.{run_terms, parts_told, report}
+use Rattle.run_report.proofs.RunReplies.{reads_the_run}
+use Rattle.settled_runs.specs.Plain.{all_statements, actions_in, plain_task_lines, plain_call_lines, plain_report}
+use Rattle.settled_runs.specs.PlainReplies.{PartsArePlain}
+use Rattle.settled_runs.specs.RunGranted.{SettledRun}
+use Rattle.settled_runs.specs.RunReplies.{PartsReplyPlainly}
+use Rattle.settled_runs.specs.RunReport.{SettledReportsArePlain, SettledReportsAreAlike}
+use Rattle.settled_runs.proofs.PlainReplies.{plain_replies}
+use Rattle.settled_runs.proofs.RunReplies.{settled_replies_are_plain}
+
+module _ (actions : List Action) (ends : ℕ → Option TaskEnd) (es : List NodeEntry) where
+  further_plain : (who : ℕ) (ps : List Part) → PartsReplyPlainly actions ends ps (map (λ t. t.replies) (further_told who es ps)) → PartsArePlain actions ends ps (further_told who es ps)
+  unfolding further_told PartsArePlain
+  further_plain who [] a = tt
+  further_plain who (p ∷ ps) a = (refl, refl, a.0, further_plain (who + 1) ps a.1)
+
+  all_plain : (main : ℕ) (ps : List Part) → PartsReplyPlainly actions ends ps (map (λ t. t.replies) (all_told main es ps)) → PartsArePlain actions ends ps (all_told main es ps)
+  unfolding PartsArePlain
+  all_plain main [] a = tt
+  all_plain main (p ∷ ps) a = (refl, refl, a.0, further_plain (main + 1) ps a.1)
+
+-- the parts are told with plain replies
+pub told_plainly : (layout : Layout) (load : Workload) (es : List NodeEntry) (ns : List ℕ) (u : SettledRun layout load es ns) → PartsArePlain (actions_in (all_statements load)) (end_at (after (run_terms layout load) es).tasks) load.parts (parts_told load es)
+told_plainly layout load es ns u =
+    all_plain (actions_in (all_statements load)) (end_at (after (run_terms layout load) es).tasks) es load.settings.workers load.parts
+    (subst (PartsReplyPlainly (actions_in (all_statements load)) (end_at (after (run_terms layout load) es).tasks) load.parts) (sym (reads_the_run load es ns u.same u.run)) (settled_replies_are_plain layout load es ns u))
+
+pub settled_reports_are_plain : SettledReportsArePlain
+unfolding report
+settled_reports_are_plain layout load es ns u = plain_replies load (end_at (after (run_terms layout load) es).tasks) (parts_told load es) (told_plainly layout load es ns u)
+
+-- the plain report reads the parts alone
+one_plain_report : (a b : Workload) → a.parts ≡ b.parts → plain_report a ≡ plain_report b
+unfolding plain_report
+one_plain_report a b e = ap (λ (ps : List Part). flat_map (plain_task_lines (actions_in (flat_map (λ p. p.statements) ps))) ps ++ flat_map (plain_call_lines (actions_in (flat_map (λ p. p.statements) ps))) ps) e
+
+pub settled_reports_are_alike : SettledReportsAreAlike
+settled_reports_are_alike layout other a b es fs ns ms e u v = settled_reports_are_plain layout a es ns u ∙ one_plain_report a b e ∙ sym (settled_reports_are_plain other b fs ms v)

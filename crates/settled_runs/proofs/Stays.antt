@@ -1,0 +1,128 @@
+-- In a quiet history what was made stays as it was made.
+use Rattle.std.proofs.Common.{◌≡◌, ℕ, true, List, [], ◌∷◌, ◌++◌, Some, refl, sym, ◌∙◌, ap, subst}
+use Rattle.std.specs.Prelude.{is_some}
+use Rattle.std.proofs.lemmas.Bool.{eq-eqb}
+use Rattle.mtapi_values.specs.declared.handles.ObjectKind.TheVariants as kind
+use Rattle.history.specs.Histories.{entry}
+use Rattle.handle_pool.specs.Issued.{live_object}
+use Rattle.mtapi_objects.specs.Actions.{Action, new_action}
+use Rattle.mtapi_objects.specs.Groups.{Group, new_group}
+use Rattle.mtapi_objects.specs.Queues.{Queue}
+use Rattle.mtapi_machine.specs.declared.ops.Op.{Op}
+use Rattle.mtapi_machine.specs.declared.ops.Op.TheVariants as op
+use Rattle.mtapi_machine.specs.declared.replies.Reply.TheVariants.{Handle}
+use Rattle.mtapi_machine.specs.State.{State, opening}
+use Rattle.mtapi_machine.specs.Moves.{Move, Groups, Queues, makes_action, enables, withdraws, makes, alters, removes, apply, after_moves}
+use Rattle.mtapi_machine.specs.Row.{Allows, after_row}
+use Rattle.mtapi_machine.specs.Rows.{row}
+use Rattle.mtapi_machine.specs.QueueRows.{new_queue}
+use Rattle.mtapi_machine.specs.Legal.{NodeEntry, IsNext, next, LegalFrom, after_from, after}
+use Rattle.mtapi_machine.specs.Laws.{IsMade, EnablesAction, AltersObject, RemovesObject}
+use Rattle.mtapi_machine.proofs.Made.{on_only}
+use Rattle.mtapi_machine.proofs.Moves.{by_moves, sorts_keep}
+use Rattle.history_law.specs.Words.{makes as makes_kind}
+use Rattle.history_law.proofs.Accepted.{granted, refuses_only}
+use Rattle.history_law.proofs.Ages.{live_listed}
+use Rattle.history_law.proofs.Answered.{true_false}
+use Rattle.history_law.proofs.AtHandles.{at_issue_here, at_issue_other}
+use Rattle.history_law.proofs.Objects.{cut_from, cut_after}
+use Rattle.history_law.proofs.Reuse.{fresh_unlisted, fresh_apart, issued_as}
+use Rattle.history_law.proofs.Unmoved.{live_stays}
+use Rattle.settled_runs.specs.Quiet.{is_quiet, AreQuiet}
+use Rattle.settled_runs.proofs.Quiet.{none_withdrawn}
+use Rattle.settled_runs.specs.Granted.{IsThere, MadeObjectsStay}
+
+-- The entry that makes it
+
+action_there : (s : State) (who : ℕ) (o : Op) (h : ℕ) → makes_kind kind.Action o ≡ true → Allows (row s who o (Handle h)) (Handle h) → IsThere o h (after_row s (row s who o (Handle h)))
+action_there s who (op.ActionCreate job k cores) h e a =
+    granted (λ ms. IsThere (op.ActionCreate job k cores) h (after_moves ms s)) (row s who (op.ActionCreate job k cores) (Handle h)) h
+    (refl, (refl, (refl, refuses_only _ _ _)))
+    (λ c0 c1 c2. on_only (λ x ms. Handle h ≡ x → IsThere (op.ActionCreate job k cores) h (after_moves ms s)) _ (Handle h) (makes_action h (new_action job k cores.0) ∷ [])
+    (λ e i. at_issue_here h (new_action job k cores.0) s.actions (fresh_unlisted kind.Action s h e))) a
+action_there s who _ h e a = true_false e refl
+
+queue_there : (s : State) (who : ℕ) (o : Op) (h : ℕ) → makes_kind kind.Queue o ≡ true → Allows (row s who o (Handle h)) (Handle h) → IsThere o h (after_row s (row s who o (Handle h)))
+queue_there s who (op.QueueCreate id job priority limit ordered retain) h e a =
+    granted (λ ms. IsThere (op.QueueCreate id job priority limit ordered retain) h (after_moves ms s)) (row s who (op.QueueCreate id job priority limit ordered retain) (Handle h)) h
+    (refl, (refl, (refl, (refl, (refl, refuses_only _ _ _)))))
+    (λ c0 c1 c2 c3 c4. on_only (λ x ms. Handle h ≡ x → IsThere (op.QueueCreate id job priority limit ordered retain) h (after_moves ms s)) _ (Handle h) (makes Queues h (new_queue id job priority limit ordered retain) ∷ [])
+    (λ e i. at_issue_here h (new_queue id job priority limit ordered retain) s.queues (fresh_unlisted kind.Queue s h e))) a
+queue_there s who _ h e a = true_false e refl
+
+group_there : (s : State) (who : ℕ) (o : Op) (h : ℕ) → makes_kind kind.Group o ≡ true → Allows (row s who o (Handle h)) (Handle h) → IsThere o h (after_row s (row s who o (Handle h)))
+group_there s who op.GroupCreate h e a =
+    granted (λ ms. IsThere op.GroupCreate h (after_moves ms s)) (row s who op.GroupCreate (Handle h)) h
+    (refl, (refl, refuses_only _ _ _))
+    (λ c0 c1. on_only (λ x ms. Handle h ≡ x → IsThere op.GroupCreate h (after_moves ms s)) _ (Handle h) (makes Groups h new_group ∷ [])
+    (λ e i. at_issue_here h new_group s.groups (fresh_unlisted kind.Group s h e))) a
+group_there s who _ h e a = true_false e refl
+
+pub made_there : (s : State) (o : Op) (who h : ℕ) → IsNext s (entry who o (Handle h)) → IsThere o h (next s (entry who o (Handle h)))
+made_there s (op.ActionCreate job k cores) who h n = issued_as kind.Action h s (λ o t. IsThere o h t) (λ w o. action_there s w o h) (entry who (op.ActionCreate job k cores) (Handle h)) n (eq-eqb h h refl)
+made_there s (op.QueueCreate id job priority limit ordered retain) who h n =
+    issued_as kind.Queue h s (λ o t. IsThere o h t) (λ w o. queue_there s w o h) (entry who (op.QueueCreate id job priority limit ordered retain) (Handle h)) n (eq-eqb h h refl)
+made_there s op.GroupCreate who h n = issued_as kind.Group h s (λ o t. IsThere o h t) (λ w o. group_there s w o h) (entry who op.GroupCreate (Handle h)) n (eq-eqb h h refl)
+made_there s _ who h n = tt
+
+-- The entries behind it
+
+no_enabling : (j : ℕ) (o : Op) → is_quiet o ≡ true → EnablesAction j o → ⊥
+no_enabling j (op.ActionEnable a) q b = true_false q refl
+no_enabling j _ q b = b
+
+abbrev Same : ℕ → Action → State → Type 0
+Same h x s = live_object s.actions h ≡ Some x
+
+action_stays : (h : ℕ) (x : Action) (o : Op) → is_quiet o ≡ true → (s : State) (m : Move) → IsMade s o m → Same h x s → Same h x (apply m s)
+action_stays h x o q s (makes_action j a) e v = at_issue_other j h a s.actions (fresh_apart kind.Action s h j (live_listed h s.actions (ap is_some v)) e.may) ∙ v
+action_stays h x o q s (enables j) e v = absurd (no_enabling j o q e.by)
+action_stays h x o q s (withdraws j f c) e v = absurd (none_withdrawn j f o q e.by)
+action_stays h x o q s (makes k j y) e v = sorts_keep (Same h x) (λ t g u n c r z p. p) k _ s v
+action_stays h x o q s (alters k j f) e v = sorts_keep (Same h x) (λ t g u n c r z p. p) k _ s v
+action_stays h x o q s (removes k j) e v = sorts_keep (Same h x) (λ t g u n c r z p. p) k _ s v
+action_stays h x o q s _ e v = v
+
+no_queue_alters : (j : ℕ) (f : Queue → Queue) (o : Op) → is_quiet o ≡ true → AltersObject Queues j f o → ⊥
+no_queue_alters j f (op.QueueEnable a) q b = true_false q refl
+no_queue_alters j f (op.QueueDisable a) q b = true_false q refl
+no_queue_alters j f _ q b = b
+
+no_queue_goes : (j : ℕ) (o : Op) → is_quiet o ≡ true → RemovesObject Queues j o → ⊥
+no_queue_goes j (op.QueueDelete a) q b = true_false q refl
+no_queue_goes j _ q b = b
+
+no_group_alters : (j : ℕ) (f : Group → Group) (o : Op) → AltersObject Groups j f o → ⊥
+no_group_alters j f _ b = b
+
+no_group_goes : (j : ℕ) (o : Op) → is_quiet o ≡ true → RemovesObject Groups j o → ⊥
+no_group_goes j (op.GroupDelete a) q b = true_false q refl
+no_group_goes j _ q b = b
+
+pub there_next : (s : State) (e : NodeEntry) (o : Op) (h : ℕ) → is_quiet e.op ≡ true → IsThere o h s → IsThere o h (next s e)
+there_next s e (op.ActionCreate job k cores) h q v = by_moves (Same h (new_action job k cores.0)) s e (λ t m i u. action_stays h (new_action job k cores.0) e.op q t m i u) v
+there_next s e (op.QueueCreate id job priority limit ordered retain) h q v =
+    live_stays Queues s e h (λ j f z. no_queue_alters j f e.op q z) (λ j z. no_queue_goes j e.op q z) (live_listed h s.queues (ap is_some v)) ∙ v
+there_next s e op.GroupCreate h q v = live_stays Groups s e h (λ j f z. no_group_alters j f e.op z) (λ j z. no_group_goes j e.op q z) (live_listed h s.groups (ap is_some v)) ∙ v
+there_next s e _ h q v = tt
+
+there_along : (s : State) (L : List NodeEntry) (o : Op) (h : ℕ) → AreQuiet L → IsThere o h s → IsThere o h (after_from s L)
+unfolding after_from
+there_along s [] o h q v = v
+there_along s (e ∷ es) o h q v = there_along (next s e) es o h q.1 (there_next s e o h q.0 v)
+
+pub quiet_rest : (A B : List NodeEntry) → AreQuiet (A ++ B) → AreQuiet B
+quiet_rest [] B q = q
+quiet_rest (e ∷ A) B q = quiet_rest A B q.1
+
+pub quiet_front : (A B : List NodeEntry) → AreQuiet (A ++ B) → AreQuiet A
+quiet_front [] B q = tt
+quiet_front (e ∷ A) B q = (q.0, quiet_front A B q.1)
+
+pub made_objects_stay : MadeObjectsStay
+made_objects_stay terms L o h legal quiet x =
+    let at : LegalFrom (opening terms) (x.before ++ entry x.who o (Handle h) ∷ x.behind) = subst (LegalFrom (opening terms)) x.is legal.from in
+    let here : IsThere o h (next (after_from (opening terms) x.before) (entry x.who o (Handle h))) = made_there (after_from (opening terms) x.before) o x.who h (cut_from (opening terms) x.before x.behind (entry x.who o (Handle h)) at) in
+    let behind : AreQuiet (entry x.who o (Handle h) ∷ x.behind) = quiet_rest x.before (entry x.who o (Handle h) ∷ x.behind) (subst AreQuiet x.is quiet) in
+    let there : IsThere o h (after_from (next (after_from (opening terms) x.before) (entry x.who o (Handle h))) x.behind) = there_along _ x.behind o h behind.1 here in
+    subst (λ (M : List NodeEntry). IsThere o h (after terms M)) (sym x.is) (subst (IsThere o h) (sym (cut_after (opening terms) x.before x.behind (entry x.who o (Handle h)))) there)

@@ -1,0 +1,262 @@
+-- In a quiet history a task that its own caller alone looks at stays until it has ended and told its end.
+use Rattle.std.proofs.Common.{◌≡◌, ◌⊎◌, inl, inr, ℕ, Bool, true, false, List, [], ◌∷◌, ◌++◌, Option, Some, None, refl, sym, ◌∙◌, ap, subst, arith}
+use Rattle.std.specs.Prelude.{◌==◌, ◌&&◌, ◌||◌, not, is_none, is_some}
+use Rattle.std.proofs.lemmas.Bool.{eq-eqb}
+use Rattle.std.proofs.lemmas.Bool.Decides.{nat_tests}
+use Rattle.mtapi_values.specs.Conditions.{holds}
+use Rattle.mtapi_values.specs.Seats.{is_other}
+use Rattle.mtapi_values.specs.declared.kinds.Kind.TheVariants as kind
+use Rattle.mtapi_values.specs.declared.ends.TaskEnd.{TaskEnd}
+use Rattle.mtapi_values.specs.declared.ends.TaskEnd.TheVariants.{Failed}
+use Rattle.mtapi_values.specs.declared.handles.GroupHandle.{GroupHandle}
+use Rattle.mtapi_values.specs.declared.handles.ObjectKind.TheVariants as kinds
+use Rattle.mtapi_values.specs.declared.statuses.MtapiStatus.TheVariants as m
+use Rattle.history.specs.Histories.{entry}
+use Rattle.handle_pool.specs.Issued.{Listed, live_object, with_fields, gone}
+use Rattle.mtapi_objects.specs.Tasks.{Task, NewTask, TaskState, Scheduled, Running, Ended, is_unstarted, new_task, with_state, with_notes, with_waiter, ended}
+use Rattle.mtapi_objects.specs.Groups.{is_member, freed, let_go}
+use Rattle.mtapi_machine.specs.declared.ops.Op.{Op}
+use Rattle.mtapi_machine.specs.declared.ops.Op.TheVariants as op
+use Rattle.mtapi_machine.specs.declared.replies.Reply.{Reply}
+use Rattle.mtapi_machine.specs.declared.replies.Reply.TheVariants as reply
+use Rattle.mtapi_machine.specs.declared.terms.Phase.{Phase}
+use Rattle.mtapi_machine.specs.declared.terms.Phase.TheVariants.{New, Open, Closing, Closed}
+use Rattle.mtapi_machine.specs.State.{State, opening, is_open, is_up, tasks}
+use Rattle.mtapi_machine.specs.Moves.{Move, starts_task, runs_task, ends_task, ends_waiting, withdraws, notes, leaves, frees_members, lets_members_go, makes, alters, removes, is_fresh, apply, after_moves}
+use Rattle.mtapi_machine.specs.Row.{Row, unless, gives, Allows, live, after_row}
+use Rattle.mtapi_machine.specs.Rows.{row}
+use Rattle.mtapi_machine.specs.TaskRows.{asked_for, asked_of, number_of, looks_at as looks_row}
+use Rattle.mtapi_machine.specs.Legal.{NodeEntry, IsNext, next, LegalFrom, after_from, after}
+use Rattle.mtapi_machine.specs.Laws.{IsMade, NotesTask, TakesEnded}
+use Rattle.mtapi_machine.proofs.Changes.{some_same}
+use Rattle.mtapi_machine.proofs.Lists.{Legal-front, Legal-rest}
+use Rattle.mtapi_machine.proofs.Made.{AllGives, given, on_only, on_live, fst_true}
+use Rattle.mtapi_machine.proofs.Moves.{by_moves, sorts_keep}
+use Rattle.history_law.specs.Words.{makes as makes_object}
+use Rattle.history_law.proofs.Accepted.{granted, refuses_only, refuses_live, no_handle}
+use Rattle.history_law.proofs.Answered.{true_false}
+use Rattle.history_law.proofs.AtHandles.{at_issue_here}
+use Rattle.history_law.proofs.Found.{FoundAs, found_changed, found_issued, found_ends, found_all}
+use Rattle.history_law.proofs.Objects.{cut_from, cut_after}
+use Rattle.history_law.proofs.Reuse.{fresh_unlisted, issued_as}
+use Rattle.settled_runs.specs.Quiet.{is_quiet, AreQuiet}
+use Rattle.settled_runs.specs.Waits.{starts_alone, looks_at, AreLeft, QuietLooksAreAnswered}
+use Rattle.settled_runs.proofs.Quiet.{IsCalm, calm_next, calm_along, calm_opening, none_impure}
+use Rattle.settled_runs.proofs.Stays.{quiet_rest, quiet_front}
+use Rattle.settled_runs.proofs.Granted.{before, is_up as open_now, allowed}
+
+-- the task is neither detached nor in a group, and no other seat waits for it
+pub record IsOwn (who : ℕ) (t : Task) : Type 0 where
+  pub kept : t.notes.detached ≡ false
+  pub alone : t.notes.group ≡ None
+  pub waiter : is_other who t.notes.waiter ≡ false
+
+abbrev Own : ℕ → ℕ → State → Type 0
+Own who h s = FoundAs (IsOwn who) s.tasks h
+
+-- The entry that starts it
+
+started_alone : (a : Bool) (g : Option GroupHandle) → (not a && is_none g) ≡ true → (a ≡ false) × (number_of g ≡ None)
+started_alone true g e = true_false e refl
+started_alone false (Some g) e = true_false e refl
+started_alone false None e = (refl, refl)
+
+new_own : (who h : ℕ) (n : NewTask) (s : State) → (n.detached ≡ false) × (n.group ≡ None) → is_fresh tasks s h ≡ true → Own who h (apply (starts_task h n) s)
+new_own who h n s b e = (new_task n s.starts, at_issue_here h (new_task n s.starts) s.tasks (fresh_unlisted kinds.Task s h e), record { kept = b.0; alone = b.1; waiter = refl })
+
+abbrev Starts : ℕ → ℕ → Op → State → Type 0
+Starts who h o t = starts_alone o ≡ true → Own who h t
+
+start_own : (who : ℕ) (s : State) (w : ℕ) (o : Op) (h : ℕ) → makes_object kinds.Task o ≡ true → Allows (row s w o (reply.Handle h)) (reply.Handle h) → Starts who h o (after_row s (row s w o (reply.Handle h)))
+start_own who s w (op.TaskStart job args priority cores detached group) h e a =
+    granted (λ ms. Starts who h (op.TaskStart job args priority cores detached group) (after_moves ms s)) (row s w (op.TaskStart job args priority cores detached group) (reply.Handle h)) h
+    (refl, (refl, (refl, (refl, (refl, (refl, (refl, refuses_only _ _ _)))))))
+    (λ c0 c1 c2 c3 c4 c5 c6. on_only (λ x ms. reply.Handle h ≡ x → Starts who h (op.TaskStart job args priority cores detached group) (after_moves ms s)) (is_fresh tasks s h) (reply.Handle h) (starts_task h (asked_for job args priority cores detached group) ∷ [])
+    (λ f i b. new_own who h (asked_for job args priority cores detached group) s (started_alone detached group b) f)) a
+start_own who s w (op.TaskEnqueue q args cores detached group) h e a =
+    granted (λ ms. Starts who h (op.TaskEnqueue q args cores detached group) (after_moves ms s)) (row s w (op.TaskEnqueue q args cores detached group) (reply.Handle h)) h
+    (refl, (refl, refuses_live (live_object s.queues q.0) _ _ tt (λ x. (refl, (refl, (refl, (refl, (refl, (refl, (refl, refuses_only _ _ _))))))))))
+    (λ c d. on_live (λ x ms. reply.Handle h ≡ x → Starts who h (op.TaskEnqueue q args cores detached group) (after_moves ms s)) (live_object s.queues q.0) _ _ (λ i. absurd (no_handle h (reply.Mtapi m.ErrQueueInvalid) refl i))
+    (λ x f c0 c1 c2 c3 c4 c5 c6. on_only (λ y ms. reply.Handle h ≡ y → Starts who h (op.TaskEnqueue q args cores detached group) (after_moves ms s)) (is_fresh tasks s h) (reply.Handle h) (starts_task h (asked_of q.0 x args cores detached group) ∷ [])
+    (λ k i b. new_own who h (asked_of q.0 x args cores detached group) s (started_alone detached group b) k))) a
+start_own who s w _ h e a = true_false e refl
+
+alone_task : (o : Op) → starts_alone o ≡ true → makes_object kinds.Task o ≡ true
+alone_task (op.TaskStart job args priority cores detached group) e = refl
+alone_task (op.TaskEnqueue q args cores detached group) e = refl
+alone_task _ e = true_false e refl
+
+started_own : (who h : ℕ) (s : State) (w : ℕ) (o : Op) → IsNext s (entry w o (reply.Handle h)) → starts_alone o ≡ true → Own who h (next s (entry w o (reply.Handle h)))
+started_own who h s w o n a =
+    issued_as kinds.Task h s (λ p t. Starts who h p t) (λ v p. start_own who s v p h) (entry w o (reply.Handle h)) n ((λ i. alone_task o a i && eq-eqb h h refl i)) a
+
+-- The entries behind it
+
+-- the ops that change what is noted of a task
+abbrev pub notes_tasks : Op → Bool
+notes_tasks (op.TaskLook t last) = true
+notes_tasks (op.Asked t) = true
+notes_tasks (op.TallyLock t) = true
+notes_tasks (op.TallyRead t) = true
+notes_tasks (op.TallyWrite t value) = true
+notes_tasks _ = false
+
+pub noting : (j : ℕ) (o : Op) → is_quiet o ≡ true → NotesTask j o → notes_tasks o ≡ true
+noting j (op.TaskLook t last) q e = refl
+noting j (op.TaskCancel t) q e = true_false q refl
+noting j (op.AnyLook g last) q e = true_false q refl
+noting j (op.Asked t) q e = refl
+noting j (op.TallyLock t) q e = refl
+noting j (op.TallyRead t) q e = refl
+noting j (op.TallyWrite t value) q e = refl
+noting j _ q e = absurd e
+
+pub taking : (j : ℕ) (o : Op) → is_quiet o ≡ true → TakesEnded j o → notes_tasks o ≡ true
+taking j (op.TaskLook t last) q e = refl
+taking j (op.AnyLook g last) q e = true_false q refl
+taking j _ q e = absurd e
+
+no_member : (g : ℕ) (t : Task) → t.notes.group ≡ None → is_member g t ≡ false
+no_member g t e = ap (holds (λ h. h == g)) e
+
+over : (who : ℕ) (t : Task) (e : TaskEnd) (n : ℕ) (r : Listed Task) → IsOwn who t → r.live ≡ true → r.fields ≡ t → ((ended e n r).live ≡ true) × IsOwn who (ended e n r).fields
+over who t e n r i a s = ((λ j. a j && not ((ap (λ (u : Task). u.notes.detached) s ∙ i.kept) j)), as_it_is)
+  where
+    own : IsOwn who r.fields
+    own = subst (IsOwn who) (sym s) i
+
+    as_it_is : IsOwn who (ended e n r).fields
+    as_it_is = record { kept = own.kept; alone = own.alone; waiter = own.waiter }
+
+own_move : (who h : ℕ) (o : Op) → is_quiet o ≡ true → notes_tasks o ≡ false → (s : State) (x : Move) → IsMade s o x → Own who h s → Own who h (apply x s)
+own_move who h o q n s (starts_task j t) e v = found_issued (IsOwn who) j h _ s.tasks v.0 v.1 v.2
+own_move who h o q n s (runs_task j w k) e v =
+    found_changed (IsOwn who) j h (with_fields (with_state (Running w k))) (λ r. refl) s.tasks v.0 v.1 v.2
+    (λ r i a f. (a, (let u : IsOwn who r.fields = subst (IsOwn who) (sym f) v.2 in record { kept = u.kept; alone = u.alone; waiter = u.waiter })))
+own_move who h o q n s (ends_task j y) e v = found_changed (IsOwn who) j h (ended y s.ends) (λ r. refl) s.tasks v.0 v.1 v.2 (λ r i a f. over who v.0 y s.ends r v.2 a f)
+own_move who h o q n s (ends_waiting p y) e v = found_ends (IsOwn who) (λ t. is_unstarted t && p t) y s.ends h s.tasks v.0 v.1 v.2 (λ r k a f d. over who v.0 y k r v.2 a f)
+own_move who h o q n s (withdraws j f c) e v = found_ends (IsOwn who) _ (Failed c) s.ends h s.tasks v.0 v.1 v.2 (λ r k a i d. over who v.0 (Failed c) k r v.2 a i)
+own_move who h o q n s (notes j f) e v = true_false (noting j o q e.by) n
+own_move who h o q n s (leaves j) e v = true_false (taking j o q e.by) n
+own_move who h o q n s (frees_members g) e v = found_all (IsOwn who) _ freed h (λ r. refl) s.tasks v.0 v.1 v.2 (λ r a i d. true_false (fst_true (is_member g v.0) _ d) (no_member g v.0 v.2.alone))
+own_move who h o q n s (lets_members_go g) e v = found_all (IsOwn who) _ let_go h (λ r. refl) s.tasks v.0 v.1 v.2 (λ r a i d. true_false d (no_member g v.0 v.2.alone))
+own_move who h o q n s (makes k j y) e v = sorts_keep (Own who h) (λ t g u c d r z p. p) k _ s v
+own_move who h o q n s (alters k j f) e v = sorts_keep (Own who h) (λ t g u c d r z p. p) k _ s v
+own_move who h o q n s (removes k j) e v = sorts_keep (Own who h) (λ t g u c d r z p. p) k _ s v
+own_move who h o q n s _ e v = v
+
+-- a look, by its reply
+abbrev Looks : ℕ → ℕ → State → ℕ → ℕ → Reply → List Move → Type 0
+Looks who h s w t r ms = ((t == h) ≡ true → (w ≡ who) × (r ≡ reply.Pending)) → Own who h (after_moves ms s)
+
+not_pending : (e : TaskEnd) → reply.Ended e ≡ reply.Pending → ⊥
+not_pending e i = cc
+
+no_other : (who w : ℕ) → w ≡ who → is_other who (Some w) ≡ false
+no_other who w e = subst (λ (x : ℕ). is_other who (Some x) ≡ false) (sym e) (grind (arith, nat_tests))
+
+waits : (who h : ℕ) (s : State) (w t : ℕ) (r : Reply) (x : Option ℕ) → Own who h s → ((w ≡ who) → is_other who x ≡ false) → Looks who h s w t r (notes t (with_waiter x) ∷ [])
+waits who h s w t r x v f k =
+    found_changed (IsOwn who) t h (with_fields (with_notes (with_waiter x))) (λ r. refl) s.tasks v.0 v.1 v.2
+    (λ q i a d. (a, (let u : IsOwn who q.fields = subst (IsOwn who) (sym d) v.2 in record { kept = u.kept; alone = u.alone; waiter = f (k (eq-eqb t h i)).0 })))
+
+on_looks : (who h : ℕ) (s : State) (w t : ℕ) (last : Bool) (x : TaskState) → Own who h s → AllGives (Looks who h s w t) (looks_row w t last x)
+on_looks who h s w t true Scheduled v = waits who h s w t (reply.Mtapi m.Timeout) None v (λ e. refl)
+on_looks who h s w t false Scheduled v = waits who h s w t reply.Pending (Some w) v (no_other who w)
+on_looks who h s w t true (Running y k) v = waits who h s w t (reply.Mtapi m.Timeout) None v (λ e. refl)
+on_looks who h s w t false (Running y k) v = waits who h s w t reply.Pending (Some w) v (no_other who w)
+on_looks who h s w t last (Ended y n) v = λ k. found_changed (IsOwn who) t h gone (λ r. refl) s.tasks v.0 v.1 v.2 (λ r i a f. absurd (not_pending y (k (eq-eqb t h i)).1))
+
+abbrev Keeps : ℕ → ℕ → State → Reply → List Move → Type 0
+Keeps who h s r ms = Own who h (after_moves ms s)
+
+noted : (who h : ℕ) (s : State) (w : ℕ) (o : Op) (r : Reply) → IsCalm s → notes_tasks o ≡ true → (looks_at h o ≡ true → (w ≡ who) × (r ≡ reply.Pending)) → Allows (row s w o r) r → Own who h s → Own who h (after_row s (row s w o r))
+noted who h s w (op.TaskLook t last) r c n k a v =
+    given (Looks who h s w t.0) (row s w (op.TaskLook t last) r) r (λ x i. v)
+    (λ d. on_live (Looks who h s w t.0) (live_object s.tasks t.0) _ _ (λ i. v) (λ x e f g. on_looks who h s w t.0 last x.state v)) a k
+noted who h s w (op.Asked t) r c n k a v =
+    given (Keeps who h s) (row s w (op.Asked t) r) r (λ x. v) (λ d. on_live (Keeps who h s) (live_object s.tasks t.0) _ _ v (λ x e f. absurd (none_impure s w t.0 kind.Watch x c refl e f))) a
+noted who h s w (op.TallyLock t) r c n k a v =
+    given (Keeps who h s) (row s w (op.TallyLock t) r) r (λ x. v) (λ d. on_live (Keeps who h s) (live_object s.tasks t.0) _ _ v (λ x e f. absurd (none_impure s w t.0 kind.Tally x c refl e f))) a
+noted who h s w (op.TallyRead t) r c n k a v =
+    given (Keeps who h s) (row s w (op.TallyRead t) r) r (λ x. v) (λ d. on_live (Keeps who h s) (live_object s.tasks t.0) _ _ v (λ x e f. absurd (none_impure s w t.0 kind.Tally x c refl e f))) a
+noted who h s w (op.TallyWrite t value) r c n k a v =
+    given (Keeps who h s) (row s w (op.TallyWrite t value) r) r (λ x. v) (λ d. on_live (Keeps who h s) (live_object s.tasks t.0) _ _ v (λ x e f. absurd (none_impure s w t.0 kind.Tally x c refl e f))) a
+noted who h s w _ r c n k a v = true_false n refl
+
+own_next : (who h : ℕ) (s : State) (e : NodeEntry) → IsNext s e → is_quiet e.op ≡ true → IsCalm s → (looks_at h e.op ≡ true → (e.who ≡ who) × (e.reply ≡ reply.Pending)) → Own who h s → Own who h (next s e)
+own_next who h s e i q c k v = by_notes (notes_tasks e.op) refl
+  where
+    by_notes : (b : Bool) → notes_tasks e.op ≡ b → Own who h (next s e)
+    by_notes true n = noted who h s e.who e.op e.reply c n k i.allowed v
+    by_notes false n = by_moves (Own who h) s e (λ t x y u. own_move who h e.op q n t x y u) v
+
+own_along : (who h : ℕ) (s : State) (L : List NodeEntry) → LegalFrom s L → AreQuiet L → IsCalm s → AreLeft who h L → Own who h s → Own who h (after_from s L)
+unfolding LegalFrom after_from
+own_along who h s [] l q c k v = v
+own_along who h s (e ∷ es) l q c k v = own_along who h (next s e) es l.1 q.1 (calm_next s e l.0 q.0 c) k.1 (own_next who h s e l.0 q.0 c k.0 v)
+
+pub legal_behind : (s : State) (A : List NodeEntry) (e : NodeEntry) (B : List NodeEntry) → LegalFrom s (A ++ e ∷ B) → LegalFrom (next (after_from s A) e) B
+unfolding LegalFrom
+legal_behind s A e B l = (Legal-rest s A (e ∷ B) l).1
+
+-- The look
+
+pub open_up : (p : Phase) → not (is_open p) ≡ false → not (is_up p) ≡ false
+open_up New e = true_false refl e
+open_up Open e = refl
+open_up Closing e = refl
+open_up Closed e = true_false refl e
+
+pub passed : (c : Bool) (x : Reply) (w : Row) (r : Reply) → c ≡ false → Allows (unless c x w) r → Allows w r
+passed true x w r e a = true_false refl e
+passed false x w r e a = a
+
+found_live : {T : Type 0} (o : Option T) (t : T) (v : Row) (f : T → Row) (r : Reply) → o ≡ Some t → Allows (live o v f) r → Allows (f t) r
+found_live None t v f r e a = absurd (cc)
+found_live (Some y) t v f r e a = subst (λ z. Allows (f z) r) (some_same e) a
+
+told : (w h : ℕ) (x : TaskState) (r : Reply) → Allows (looks_row w h false x) r → (r ≡ reply.Pending) ⊎ ((end : TaskEnd) × (r ≡ reply.Ended end))
+told w h Scheduled r a = inl a
+told w h (Running v k) r a = inl a
+told w h (Ended e n) r a = inr (e, a)
+
+pub quiet_looks_are_answered : QuietLooksAreAnswered
+quiet_looks_are_answered terms L who t r x y = told who t.0 own.0.state r looked
+  where
+    o : Op
+    o = op.TaskLook t false
+
+    s : State
+    s = after terms L
+
+    L0 : LegalFrom (opening terms) (y.before ++ entry y.starter y.op (reply.Handle t.0) ∷ y.behind)
+    L0 = subst (LegalFrom (opening terms)) y.is (before terms L who o r x).from
+
+    first : State
+    first = after_from (opening terms) y.before
+
+    quiet : AreQuiet (y.before ++ entry y.starter y.op (reply.Handle t.0) ∷ y.behind)
+    quiet = subst AreQuiet y.is x.quiet
+
+    behind : AreQuiet (entry y.starter y.op (reply.Handle t.0) ∷ y.behind)
+    behind = quiet_rest y.before (entry y.starter y.op (reply.Handle t.0) ∷ y.behind) quiet
+
+    step : IsNext first (entry y.starter y.op (reply.Handle t.0))
+    step = cut_from (opening terms) y.before y.behind (entry y.starter y.op (reply.Handle t.0)) L0
+
+    calm : IsCalm (next first (entry y.starter y.op (reply.Handle t.0)))
+    calm = calm_next first (entry y.starter y.op (reply.Handle t.0)) step behind.0 (calm_along (opening terms) y.before (Legal-front (opening terms) y.before _ L0) (quiet_front y.before _ quiet) (calm_opening terms))
+
+    there : Own who t.0 (after_from (next first (entry y.starter y.op (reply.Handle t.0))) y.behind)
+    there = own_along who t.0 _ y.behind (legal_behind (opening terms) y.before (entry y.starter y.op (reply.Handle t.0)) y.behind L0) behind.1 calm y.left (started_own who t.0 first y.starter y.op step y.alone)
+
+    own : Own who t.0 s
+    own = subst (λ (M : List NodeEntry). Own who t.0 (after terms M)) (sym y.is) (subst (Own who t.0) (sym (cut_after (opening terms) y.before y.behind (entry y.starter y.op (reply.Handle t.0)))) there)
+
+    looked : Allows (looks_row who t.0 false own.0.state) r
+    looked =
+        passed (is_other who own.0.notes.waiter) (reply.Mtapi m.ErrWaitPending) (looks_row who t.0 false own.0.state) r own.2.waiter
+        (passed (own.0.notes.detached || is_some own.0.notes.group) (reply.Mtapi m.ErrParameter) (unless (is_other who own.0.notes.waiter) (reply.Mtapi m.ErrWaitPending) (looks_row who t.0 false own.0.state)) r (λ i. own.2.kept i || is_some (own.2.alone i))
+        (found_live (live_object s.tasks t.0) own.0 (gives tasks.invalid []) (λ z. unless (z.notes.detached || is_some z.notes.group) (reply.Mtapi m.ErrParameter) (unless (is_other who z.notes.waiter) (reply.Mtapi m.ErrWaitPending) (looks_row who t.0 false z.state))) r own.1
+        (passed (not (is_up s.phase)) (reply.Mtapi m.ErrNodeNotinit) (live (live_object s.tasks t.0) (gives tasks.invalid []) (λ z. unless (z.notes.detached || is_some z.notes.group) (reply.Mtapi m.ErrParameter) (unless (is_other who z.notes.waiter) (reply.Mtapi m.ErrWaitPending) (looks_row who t.0 false z.state)))) r (open_up s.phase (open_now terms L who o r x)) (allowed terms L who o r x))))

@@ -1,0 +1,13 @@
+pub mod Plain
+pub mod Settled
+pub mod Worked
+pub mod Quiet
+pub mod PlainReplies
+pub mod Granted
+pub mod Waits
+pub mod Verdicts
+pub mod RunEnds
+pub mod RunGranted
+pub mod RunReplies
+pub mod RunReport
+pub mod PlainSummary

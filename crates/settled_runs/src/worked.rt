@@ -1,0 +1,13 @@
+//! Worked workloads. Each function does nothing: its contract is what the definitions say of them, by computing.
+
+ghost use Rattle.settled_runs.specs.Worked.{WorkedSettled, WorkedUnsettled};
+
+/// Workloads that are settled, and their plain reports.
+pub fn worked_settled()
+    ensures { WorkedSettled }
+{}
+
+/// Workloads that aren't settled, one for each condition.
+pub fn worked_unsettled()
+    ensures { WorkedUnsettled }
+{}
