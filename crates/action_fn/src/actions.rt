@@ -5,7 +5,7 @@ ghost use Rattle.std.specs.Int.{IsGcd};
 ghost use Rattle.mtapi_values.specs.declared.kinds.Kind.TheVariants.{Add, Mul, Max, Div, Gcd, Echo, Triangle, Fail};
 ghost use Rattle.action_fn.specs.Answers.{answer_of, number_end, fold_fitting, greatest, quotient, gcd, fitting, triangle};
 
-use crate::finished::ActEnd;
+use crate::finished::{ActEnd, one_number};
 use mtapi_values::{Args, MtapiStatus};
 
 /// The sum, which fails where a partial sum leaves 64 bits.
@@ -89,11 +89,7 @@ fn end_of(number: Option<i64>) -> ActEnd
     ensures { result ≡ number_end number }
 {
     match number {
-        Some(value) => {
-            let mut numbers = Args::new();
-            numbers.push(value);
-            ActEnd::Done(numbers)
-        }
+        Some(value) => one_number(value),
         None => ActEnd::Fails(MtapiStatus::ErrActionFailed),
     }
 }

@@ -1,7 +1,9 @@
 //! What an action answered.
 
-ghost use Rattle.std.specs.Prelude.{◌≡◌, ◌≤◌, length, true};
+ghost use Rattle.std.specs.Prelude.{◌≡◌, ◌≤◌, ◌∷◌, [], length, true};
+ghost use Rattle.action_fn.specs.declared.finished.ActEnd.TheVariants.{Done};
 ghost use Rattle.action_fn.specs.Answers.{answer_of, is_pure};
+ghost use Rattle.action_fn.specs.Shorts.{in_full};
 
 use mtapi_values::{Args, Kind, MtapiStatus};
 use std::marker::Model;
@@ -27,22 +29,58 @@ impl ActEnd {
     }
 }
 
-/// A pure kind, arguments, and the answer of this kind to them. No value holds another end.
+// An end in short. A pure kind answers one number or, where it echoes, its arguments, so that an end beside its arguments needs no
+// room for a list of its own.
+#[derive(Clone, Copy, Drop)]
+enum Short {
+    Number(i64),
+    TheArgs,
+    Fails(MtapiStatus),
+}
+
+// The answer of one number.
+pub(crate) fn one_number(number: i64) -> ActEnd
+    ensures { result ≡ Done (number ∷ []) }
+{
+    let mut numbers = Args::new();
+    numbers.push(number);
+    ActEnd::Done(numbers)
+}
+
+// The end of a pure kind in short.
+#[tactic(auto, unfolding(crate::specs::Answers::answer_of), using(crate::proofs::Shorts::alone))]
+fn short_of(kind: Kind, _args: &Args, end: &ActEnd) -> Short
+    requires { end.now ≡ answer_of kind _args.now }
+    ensures { in_full _args.now result ≡ end.now }
+{
+    match (kind, end) {
+        (Kind::Echo, _) => Short::TheArgs,
+        (_, ActEnd::Fails(status)) => Short::Fails(*status),
+        (_, ActEnd::Done(numbers)) => match numbers.as_slice() {
+            [number] => Short::Number(*number),
+            _ => unreachable!(),
+        },
+    }
+}
+
+/// A pure kind, arguments, and the answer of this kind to them. No value holds another end. It takes little more room than the
+/// arguments alone.
 #[derive(Drop)]
 pub struct Finished {
     kind: Kind,
     args: Args,
-    end: ActEnd,
+    end: Short,
 }
 
 impl Model for Finished {
     ghost use Rattle.action_fn.specs.Answers.{Answered, IsAnswered};
+    ghost use Rattle.action_fn.specs.Shorts.{in_full};
 
     ghost Value = { Answered };
 
-    ghost view = { λ f. record { kind = f.kind; args = f.args; end = f.end } };
+    ghost view = { λ f. record { kind = f.kind; args = f.args; end = in_full f.args f.end } };
 
-    ghost invariant = { λ f. IsAnswered (record { kind = f.kind; args = f.args; end = f.end }) };
+    ghost invariant = { λ f. IsAnswered (record { kind = f.kind; args = f.args; end = in_full f.args f.end }) };
 }
 
 impl Finished {
@@ -52,6 +90,7 @@ impl Finished {
         requires answer { end ≡ answer_of kind args }
         ensures { result ≡ record { kind = kind; args = args; end = end } }
     {
+        let end = short_of(kind, &args, &end);
         Finished { kind, args, end }
     }
 
@@ -72,12 +111,16 @@ impl Finished {
         &self.args
     }
 
-    /// The answer.
-    pub fn end(&self) -> &ActEnd
-        ensures value { result.now ≡ self.now.end }
+    /// The answer, in full. It takes no memory.
+    pub fn end(&self) -> ActEnd
+        ensures value { result ≡ self.now.end }
         ensures answer { self.now.end ≡ answer_of self.now.kind self.now.args }
     {
-        &self.end
+        match self.end {
+            Short::Number(number) => one_number(number),
+            Short::TheArgs => ActEnd::Done(self.args.again()),
+            Short::Fails(status) => ActEnd::Fails(status),
+        }
     }
 
     /// An equal value. It takes no memory.
@@ -87,7 +130,7 @@ impl Finished {
         Finished {
             kind: self.kind,
             args: self.args.again(),
-            end: self.end.again(),
+            end: self.end,
         }
     }
 }

@@ -164,19 +164,19 @@ fn a_table_runs_each_kind(rt: HostRuntime) {
             Kind::Gcd => 6,
             _ => 0,
         };
-        assert!(rt; done.kind() == kind && is_number(done.end().again(), wanted));
+        assert!(rt; done.kind() == kind && is_number(done.end(), wanted));
     }
     let triangle = table.run(&rt, Kind::Triangle, args_of(&[4]));
-    assert!(rt; is_number(triangle.end().again(), 10));
+    assert!(rt; is_number(triangle.end(), 10));
     let done = table.run(&rt, Kind::Div, args_of(&[-8, 3])).again();
     assert_eq!(rt; done.kind(), Kind::Div);
     assert_eq!(rt; done.args().as_slice(), [-8, 3].as_slice());
-    assert!(rt; is_number(done.end().again(), -2));
+    assert!(rt; is_number(done.end(), -2));
     let echo = table.run(&rt, Kind::Echo, args_of(&SIXTEEN));
     assert_eq!(rt; echo.args().as_slice(), SIXTEEN.as_slice());
-    assert!(rt; is_list(echo.end().again(), &SIXTEEN));
+    assert!(rt; is_list(echo.end(), &SIXTEEN));
     let fail = table.run(&rt, Kind::Fail, args_of(&[]));
-    assert!(rt; is_status(fail.end().again(), FAILED));
+    assert!(rt; is_status(fail.end(), FAILED));
 }
 
 /// Takes what may go to other threads and be shared by them.

@@ -1,10 +1,9 @@
 -- What was noted of objects that aren't live any more, over an entry and where more is known of them.
-use Rattle.std.proofs.Common.{◌≡◌, ℕ, ◌+◌, ◌≤◌, List, refl, sym, ◌∙◌, ap, subst, arith}
+use Rattle.std.proofs.Common.{◌≡◌, ℕ, ◌+◌, ◌≤◌, refl, sym, ◌∙◌, ap, subst, arith}
 use Rattle.mtapi_values.specs.declared.handles.ObjectKind.{ObjectKind}
 use Rattle.handle_pool.specs.Slots.{slot_of}
 use Rattle.mtapi_machine.specs.State.{State}
-use Rattle.mtapi_renaming.specs.Counts.{made_in, made_at}
-use Rattle.mtapi_renaming.specs.Lasts.{lasts_of}
+use Rattle.mtapi_renaming.specs.Counts.{made_in}
 use Rattle.mtapi_renaming.specs.Gone.{gone_in, taken_in, AreGone}
 use Rattle.journal_check.specs.declared.made.Made.{Made}
 use Rattle.journal_check.specs.declared.made.MadeOfKind.{MadeOfKind}

@@ -1,5 +1,5 @@
 -- What an entry of the follower's node says, and how a follower comes one entry further.
-use Rattle.std.proofs.Common.{◌≡◌, ℕ, ◌+◌, ◌≤◌, List, [], ◌∷◌, ◌++◌, length, refl, sym, ◌∙◌, ap, subst, arith, length-append}
+use Rattle.std.proofs.Common.{◌≡◌, ℕ, ◌+◌, ◌≤◌, List, [], ◌∷◌, ◌++◌, length, sym, ◌∙◌, ap, subst, arith, length-append}
 use Rattle.mtapi_values.specs.declared.handles.ObjectKind.{ObjectKind}
 use Rattle.history.specs.Histories.{entry}
 use Rattle.mtapi_machine.specs.declared.terms.Terms.{Terms}
@@ -19,7 +19,6 @@ use Rattle.mtapi_renaming.specs.Counts.{made_in}
 use Rattle.mtapi_renaming.specs.Maps.{renaming_of}
 use Rattle.mtapi_renaming.specs.declared.maps.OtherHandles.{OtherHandles}
 use Rattle.journal_check.specs.declared.made.Made.{Made}
-use Rattle.journal_check.specs.declared.following.Following.{Following}
 use Rattle.journal_check.specs.Made.{Tells}
 use Rattle.journal_check.specs.Follow.{room_of, Mirrors, HasFollowed}
 

@@ -1,7 +1,6 @@
 -- Prefixes of a list of entries, one entry more, and the first one that isn't legal.
-use Rattle.std.proofs.Common.{◌≡◌, ◌↔◌, ℕ, ◌+◌, ◌≤◌, ◌<◌, List, [], ◌∷◌, ◌++◌, zero, suc, length, take, drop, get_or, refl, sym, ◌∙◌, ap, subst, arith, take-append-drop, take-take}
+use Rattle.std.proofs.Common.{◌≡◌, ℕ, ◌+◌, ◌≤◌, ◌<◌, List, [], ◌∷◌, ◌++◌, zero, suc, length, take, drop, get_or, sym, ◌∙◌, ap, subst, arith, take-append-drop, take-take}
 use Rattle.std.proofs.lemmas.Grind.{take_at_read}
-use Rattle.mtapi_values.specs.Attributes.{AreNodeSettings}
 use Rattle.mtapi_machine.specs.declared.terms.Terms.{Terms}
 use Rattle.mtapi_machine.specs.State.{opening}
 use Rattle.mtapi_machine.specs.Legal.{NodeEntry, IsNext, LegalFrom, Fits, Legal, after}

@@ -18,9 +18,9 @@ use Rattle.mtapi_renaming.specs.Gone.{gone_in, taken_in}
 use Rattle.mtapi_renaming.specs.Maps.{renaming_of}
 use Rattle.journal_check.specs.declared.following.Following.{Following}
 use Rattle.journal_check.specs.declared.made.Made.{Made}
-use Rattle.journal_check.specs.Made.{of_kind, last_handles, made_count, gone_count, freed_count, Ends, Tells}
+use Rattle.journal_check.specs.Made.{of_kind, last_handles, made_count, gone_count, freed_count, Ends}
 use Rattle.journal_check.specs.Laws.{Laws}
-use Rattle.journal_check.specs.Follow.{room_of, last_generation, Mirrors, HasFollowed, Same}
+use Rattle.journal_check.specs.Follow.{room_of, Mirrors, HasFollowed, Same}
 use Rattle.journal_check.proofs.Lists.{how_many-next}
 use Rattle.journal_check.proofs.Ends.{told_more, told_less}
 

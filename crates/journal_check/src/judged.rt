@@ -1,8 +1,10 @@
 //! Whether a list of entries is a legal history.
 
-ghost use Rattle.std.specs.Prelude.{IfOk};
+ghost use Rattle.std.specs.Prelude.{◌<◌, [], length, IfOk};
 ghost use Rattle.mtapi_values.specs.Attributes.{AreNodeSettings};
 ghost use Rattle.mtapi_machine.specs.State.{terms_with};
+ghost use Rattle.mtapi_machine.specs.Legal.{Legal};
+ghost use Rattle.journal_check.specs.Follow.{HasFollowed};
 ghost use Rattle.journal_check.specs.Judged.{IsLegalOr};
 
 use crate::following::Following;
@@ -24,6 +26,23 @@ fn read_ranges(settings: &NodeAttr)
     let _ = settings.generations();
 }
 
+// The number, from 1, of the first of these entries that isn't legal; none where they are a legal history. The follower stands before them.
+fn first_refused(follower: &mut Following, entries: &[Entry]) -> Result<Option<u64>, AllocError>
+    requires few { length entries.now < 4294967295 }
+    requires legal { Legal follower.old.terms [] }
+    requires begins { HasFollowed follower.old [] }
+    ensures { IfOk result (IsLegalOr follower.old.terms entries.now) }
+{
+    let mut judged = 0;
+    for entry in entries {
+        judged += 1;
+        if !follower.judge(entry)? {
+            return Ok(Some(judged));
+        }
+    }
+    Ok(None)
+}
+
 /// The number, from 1, of the first entry that isn't legal by these terms; none where the list is a
 /// legal history. It fails for want of memory alone; 2^32 - 1 entries or more need more than there is.
 pub(crate) fn first_illegal(
@@ -43,12 +62,5 @@ pub(crate) fn first_illegal(
         return Ok(Some(1));
     }
     let mut follower = Following::new(alloc, layout, settings, callers)?;
-    let mut judged = 0;
-    for entry in entries {
-        judged += 1;
-        if !follower.judge(entry)? {
-            return Ok(Some(judged));
-        }
-    }
-    Ok(None)
+    first_refused(&mut follower, entries)
 }

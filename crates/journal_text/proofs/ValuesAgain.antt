@@ -64,18 +64,19 @@ group_again l h f =
     ]
 
 no_mtapi : (s : MrapiStatus) → mtapi_of (mrapi_name s) ≡ None
+unfolding mtapi_of
 no_mtapi mrapi.Success = refl
 no_mtapi _ = refl
 
 status_again : (s : _) → status_of (mrapi_name s) ≡ Some (status.Mrapi s)
-unfolding status_of
+unfolding status_of mrapi_of
 status_again s = ap (λ o. status_from o (mrapi_of (mrapi_name s))) (no_mtapi s) ∙ ap (option_map status.Mrapi) (mrapi_finds_each.own s)
 
 abbrev alone : List (List ℕ) → Option Value → Option (Value × List (List ℕ))
 alone ws o = one (λ v. v) ws o
 
 pub value_again : (l : Layout) (v : Value) (ws : List (List ℕ)) → ValueFits v → value_of (shape_of v) (value_words l v ++ ws) ≡ Some (v, ws)
-unfolding value_of value_words word_value end_of completed_of failed_of status_of group_of kind_named
+unfolding value_of value_words word_value end_of completed_of failed_of status_of mtapi_of group_of kind_named
 value_again l (given.Number n) ws f = ap (λ o. alone ws (option_map given.Number o)) (within_written 0 4294967295 n (omega arith) (omega arith) (omega arith))
 value_again l (given.Whole z) ws f = ap (λ o. alone ws (option_map given.Whole o)) (whole_written z f)
 value_again l (given.Flag true) ws f = refl

@@ -68,11 +68,11 @@ values_words layout values = flat_map (value_words layout) values
 -- ---- read
 
 -- the status of MTAPI that a word names
-abbrev pub mtapi_of : List ℕ → Option MtapiStatus
+unfoldable pub mtapi_of : List ℕ → Option MtapiStatus
 mtapi_of text = find (λ s. bytes_eq (mtapi_name s) text) mtapi_all
 
 -- the status of MRAPI that a word names
-abbrev pub mrapi_of : List ℕ → Option MrapiStatus
+unfoldable pub mrapi_of : List ℕ → Option MrapiStatus
 mrapi_of text = find (λ s. bytes_eq (mrapi_name s) text) mrapi_all
 
 -- the status that a word names

@@ -258,6 +258,21 @@ fn group_number(group: &Option<GroupHandle>) -> Option<u64>
     group.map(|group| group.0)
 }
 
+// A word, and the values of its fields.
+fn spelled<const N: usize>(
+    alloc: Global,
+    word: OpWord,
+    values: [Value; N],
+) -> Result<(OpWord, Vec<Value>), AllocError>
+    ensures word { IfOk result (λ x. x.0 ≡ word) }
+    ensures values { IfOk result (λ x. x.1.items ≡ values.entry) }
+{
+    match Vec::from_array(alloc, values) {
+        Ok(list) => Ok((word, list)),
+        Err(_) => Err(AllocError),
+    }
+}
+
 /// An op's word, and the values of its fields.
 #[tactic(auto, unfolding(crate::specs::Ops::op_spelled))]
 pub fn op_spelled(alloc: Global, op: &Op) -> Result<(OpWord, Vec<Value>), AllocError>
@@ -270,27 +285,31 @@ pub fn op_spelled(alloc: Global, op: &Op) -> Result<(OpWord, Vec<Value>), AllocE
         Op::Enter => Ok((OpWord::Enter, Vec::new(alloc))),
         Op::Close => Ok((OpWord::Close, Vec::new(alloc))),
         Op::Final => Ok((OpWord::Final, Vec::new(alloc))),
-        Op::JobGet { job } => Ok((OpWord::JobGet, vec![in alloc; Value::Number(*job)]?)),
-        Op::ActionCreate { job, kind, cores } => Ok((
+        Op::JobGet { job } => spelled(alloc, OpWord::JobGet, [Value::Number(*job)]),
+        Op::ActionCreate { job, kind, cores } => spelled(
+            alloc,
             OpWord::ActionCreate,
-            vec![in alloc;
+            [
                 Value::Number(*job),
                 Value::Kind(*kind),
                 Value::Cores(*cores),
-            ]?,
-        )),
-        Op::ActionDelete { action } => Ok((
+            ],
+        ),
+        Op::ActionDelete { action } => spelled(
+            alloc,
             OpWord::ActionDelete,
-            vec![in alloc; Value::Handle(action.0)]?,
-        )),
-        Op::ActionDisable { action } => Ok((
+            [Value::Handle(action.0)],
+        ),
+        Op::ActionDisable { action } => spelled(
+            alloc,
             OpWord::ActionDisable,
-            vec![in alloc; Value::Handle(action.0)]?,
-        )),
-        Op::ActionEnable { action } => Ok((
+            [Value::Handle(action.0)],
+        ),
+        Op::ActionEnable { action } => spelled(
+            alloc,
             OpWord::ActionEnable,
-            vec![in alloc; Value::Handle(action.0)]?,
-        )),
+            [Value::Handle(action.0)],
+        ),
         Op::TaskStart {
             job,
             args,
@@ -298,51 +317,53 @@ pub fn op_spelled(alloc: Global, op: &Op) -> Result<(OpWord, Vec<Value>), AllocE
             cores,
             detached,
             group,
-        } => Ok((
+        } => spelled(
+            alloc,
             OpWord::TaskStart,
-            vec![in alloc;
+            [
                 Value::Number(*job),
                 Value::Args(args.again()),
                 Value::Number(*priority),
                 Value::Cores(*cores),
                 Value::Flag(*detached),
                 Value::Group(group_number(group)),
-            ]?,
-        )),
+            ],
+        ),
         Op::TaskEnqueue {
             queue,
             args,
             cores,
             detached,
             group,
-        } => Ok((
+        } => spelled(
+            alloc,
             OpWord::TaskEnqueue,
-            vec![in alloc;
+            [
                 Value::Handle(queue.0),
                 Value::Args(args.again()),
                 Value::Cores(*cores),
                 Value::Flag(*detached),
                 Value::Group(group_number(group)),
-            ]?,
-        )),
-        Op::TaskLook { task, last } => Ok((
+            ],
+        ),
+        Op::TaskLook { task, last } => spelled(
+            alloc,
             OpWord::TaskLook,
-            vec![in alloc; Value::Handle(task.0), Value::Flag(*last)]?,
-        )),
-        Op::TaskCancel { task } => Ok((OpWord::TaskCancel, vec![in alloc; Value::Handle(task.0)]?)),
+            [Value::Handle(task.0), Value::Flag(*last)],
+        ),
+        Op::TaskCancel { task } => spelled(alloc, OpWord::TaskCancel, [Value::Handle(task.0)]),
         Op::GroupCreate => Ok((OpWord::GroupCreate, Vec::new(alloc))),
-        Op::GroupDelete { group } => Ok((
-            OpWord::GroupDelete,
-            vec![in alloc; Value::Handle(group.0)]?,
-        )),
-        Op::AllLook { group, last } => Ok((
+        Op::GroupDelete { group } => spelled(alloc, OpWord::GroupDelete, [Value::Handle(group.0)]),
+        Op::AllLook { group, last } => spelled(
+            alloc,
             OpWord::AllLook,
-            vec![in alloc; Value::Handle(group.0), Value::Flag(*last)]?,
-        )),
-        Op::AnyLook { group, last } => Ok((
+            [Value::Handle(group.0), Value::Flag(*last)],
+        ),
+        Op::AnyLook { group, last } => spelled(
+            alloc,
             OpWord::AnyLook,
-            vec![in alloc; Value::Handle(group.0), Value::Flag(*last)]?,
-        )),
+            [Value::Handle(group.0), Value::Flag(*last)],
+        ),
         Op::QueueCreate {
             id,
             job,
@@ -350,124 +371,121 @@ pub fn op_spelled(alloc: Global, op: &Op) -> Result<(OpWord, Vec<Value>), AllocE
             limit,
             ordered,
             retain,
-        } => Ok((
+        } => spelled(
+            alloc,
             OpWord::QueueCreate,
-            vec![in alloc;
+            [
                 Value::Number(*id),
                 Value::Number(*job),
                 Value::Number(*priority),
                 Value::Number(*limit),
                 Value::Flag(*ordered),
                 Value::Flag(*retain),
-            ]?,
-        )),
-        Op::QueueGet { id } => Ok((OpWord::QueueGet, vec![in alloc; Value::Number(*id)]?)),
-        Op::QueueEnable { queue } => Ok((
-            OpWord::QueueEnable,
-            vec![in alloc; Value::Handle(queue.0)]?,
-        )),
-        Op::QueueDisable { queue } => Ok((
+            ],
+        ),
+        Op::QueueGet { id } => spelled(alloc, OpWord::QueueGet, [Value::Number(*id)]),
+        Op::QueueEnable { queue } => spelled(alloc, OpWord::QueueEnable, [Value::Handle(queue.0)]),
+        Op::QueueDisable { queue } => spelled(
+            alloc,
             OpWord::QueueDisable,
-            vec![in alloc; Value::Handle(queue.0)]?,
-        )),
-        Op::QueueDelete { queue } => Ok((
-            OpWord::QueueDelete,
-            vec![in alloc; Value::Handle(queue.0)]?,
-        )),
+            [Value::Handle(queue.0)],
+        ),
+        Op::QueueDelete { queue } => spelled(alloc, OpWord::QueueDelete, [Value::Handle(queue.0)]),
         Op::Pick => Ok((OpWord::Pick, Vec::new(alloc))),
-        Op::Finish { task, done } => Ok((
+        Op::Finish { task, done } => spelled(
+            alloc,
             OpWord::Finish,
-            vec![in alloc;
+            [
                 Value::Handle(task.0),
                 Value::Kind(done.kind()),
                 Value::Args(done.args().again()),
-                Value::End(end_of_answer(done.end())),
-            ]?,
-        )),
-        Op::Asked { task } => Ok((OpWord::Asked, vec![in alloc; Value::Handle(task.0)]?)),
-        Op::WatchEnd { task } => Ok((OpWord::WatchEnd, vec![in alloc; Value::Handle(task.0)]?)),
-        Op::TallyLock { task } => Ok((OpWord::TallyLock, vec![in alloc; Value::Handle(task.0)]?)),
-        Op::TallyRead { task } => Ok((OpWord::TallyRead, vec![in alloc; Value::Handle(task.0)]?)),
-        Op::TallyWrite { task, value } => Ok((
+                Value::End(end_of_answer(&done.end())),
+            ],
+        ),
+        Op::Asked { task } => spelled(alloc, OpWord::Asked, [Value::Handle(task.0)]),
+        Op::WatchEnd { task } => spelled(alloc, OpWord::WatchEnd, [Value::Handle(task.0)]),
+        Op::TallyLock { task } => spelled(alloc, OpWord::TallyLock, [Value::Handle(task.0)]),
+        Op::TallyRead { task } => spelled(alloc, OpWord::TallyRead, [Value::Handle(task.0)]),
+        Op::TallyWrite { task, value } => spelled(
+            alloc,
             OpWord::TallyWrite,
-            vec![in alloc; Value::Handle(task.0), Value::Whole(*value)]?,
-        )),
-        Op::TallyEnd { task } => Ok((OpWord::TallyEnd, vec![in alloc; Value::Handle(task.0)]?)),
-        Op::MutexCreate { id, recursive } => Ok((
+            [Value::Handle(task.0), Value::Whole(*value)],
+        ),
+        Op::TallyEnd { task } => spelled(alloc, OpWord::TallyEnd, [Value::Handle(task.0)]),
+        Op::MutexCreate { id, recursive } => spelled(
+            alloc,
             OpWord::MutexCreate,
-            vec![in alloc; Value::Number(*id), Value::Flag(*recursive)]?,
-        )),
-        Op::MutexGet { id } => Ok((OpWord::MutexGet, vec![in alloc; Value::Number(*id)]?)),
-        Op::MutexDelete { mutex } => Ok((
-            OpWord::MutexDelete,
-            vec![in alloc; Value::Handle(mutex.0)]?,
-        )),
-        Op::MutexLook { mutex, last } => Ok((
+            [Value::Number(*id), Value::Flag(*recursive)],
+        ),
+        Op::MutexGet { id } => spelled(alloc, OpWord::MutexGet, [Value::Number(*id)]),
+        Op::MutexDelete { mutex } => spelled(alloc, OpWord::MutexDelete, [Value::Handle(mutex.0)]),
+        Op::MutexLook { mutex, last } => spelled(
+            alloc,
             OpWord::MutexLook,
-            vec![in alloc; Value::Handle(mutex.0), Value::Flag(*last)]?,
-        )),
-        Op::MutexUnlock { mutex, key } => Ok((
+            [Value::Handle(mutex.0), Value::Flag(*last)],
+        ),
+        Op::MutexUnlock { mutex, key } => spelled(
+            alloc,
             OpWord::MutexUnlock,
-            vec![in alloc; Value::Handle(mutex.0), Value::Number(*key)]?,
-        )),
-        Op::SemCreate { id, limit } => Ok((
+            [Value::Handle(mutex.0), Value::Number(*key)],
+        ),
+        Op::SemCreate { id, limit } => spelled(
+            alloc,
             OpWord::SemCreate,
-            vec![in alloc; Value::Number(*id), Value::Number(*limit)]?,
-        )),
-        Op::SemGet { id } => Ok((OpWord::SemGet, vec![in alloc; Value::Number(*id)]?)),
-        Op::SemDelete { sem } => Ok((OpWord::SemDelete, vec![in alloc; Value::Handle(sem.0)]?)),
-        Op::SemLook { sem, last } => Ok((
+            [Value::Number(*id), Value::Number(*limit)],
+        ),
+        Op::SemGet { id } => spelled(alloc, OpWord::SemGet, [Value::Number(*id)]),
+        Op::SemDelete { sem } => spelled(alloc, OpWord::SemDelete, [Value::Handle(sem.0)]),
+        Op::SemLook { sem, last } => spelled(
+            alloc,
             OpWord::SemLook,
-            vec![in alloc; Value::Handle(sem.0), Value::Flag(*last)]?,
-        )),
-        Op::SemUnlock { sem } => Ok((OpWord::SemUnlock, vec![in alloc; Value::Handle(sem.0)]?)),
-        Op::RwlCreate { id, limit } => Ok((
+            [Value::Handle(sem.0), Value::Flag(*last)],
+        ),
+        Op::SemUnlock { sem } => spelled(alloc, OpWord::SemUnlock, [Value::Handle(sem.0)]),
+        Op::RwlCreate { id, limit } => spelled(
+            alloc,
             OpWord::RwlCreate,
-            vec![in alloc; Value::Number(*id), Value::Number(*limit)]?,
-        )),
-        Op::RwlGet { id } => Ok((OpWord::RwlGet, vec![in alloc; Value::Number(*id)]?)),
-        Op::RwlDelete { rwl } => Ok((OpWord::RwlDelete, vec![in alloc; Value::Handle(rwl.0)]?)),
-        Op::RwlLook { rwl, writer, last } => Ok((
+            [Value::Number(*id), Value::Number(*limit)],
+        ),
+        Op::RwlGet { id } => spelled(alloc, OpWord::RwlGet, [Value::Number(*id)]),
+        Op::RwlDelete { rwl } => spelled(alloc, OpWord::RwlDelete, [Value::Handle(rwl.0)]),
+        Op::RwlLook { rwl, writer, last } => spelled(
+            alloc,
             OpWord::RwlLook,
-            vec![in alloc;
+            [
                 Value::Handle(rwl.0),
                 Value::Flag(*writer),
                 Value::Flag(*last),
-            ]?,
-        )),
-        Op::RwlUnlock { rwl, writer } => Ok((
+            ],
+        ),
+        Op::RwlUnlock { rwl, writer } => spelled(
+            alloc,
             OpWord::RwlUnlock,
-            vec![in alloc; Value::Handle(rwl.0), Value::Flag(*writer)]?,
-        )),
-        Op::ShmemCreate { id, cells } => Ok((
+            [Value::Handle(rwl.0), Value::Flag(*writer)],
+        ),
+        Op::ShmemCreate { id, cells } => spelled(
+            alloc,
             OpWord::ShmemCreate,
-            vec![in alloc; Value::Number(*id), Value::Number(*cells)]?,
-        )),
-        Op::ShmemGet { id } => Ok((OpWord::ShmemGet, vec![in alloc; Value::Number(*id)]?)),
-        Op::ShmemDelete { shmem } => Ok((
-            OpWord::ShmemDelete,
-            vec![in alloc; Value::Handle(shmem.0)]?,
-        )),
-        Op::ShmemAttach { shmem } => Ok((
-            OpWord::ShmemAttach,
-            vec![in alloc; Value::Handle(shmem.0)]?,
-        )),
-        Op::ShmemDetach { shmem } => Ok((
-            OpWord::ShmemDetach,
-            vec![in alloc; Value::Handle(shmem.0)]?,
-        )),
-        Op::ShmemRead { shmem, cell } => Ok((
+            [Value::Number(*id), Value::Number(*cells)],
+        ),
+        Op::ShmemGet { id } => spelled(alloc, OpWord::ShmemGet, [Value::Number(*id)]),
+        Op::ShmemDelete { shmem } => spelled(alloc, OpWord::ShmemDelete, [Value::Handle(shmem.0)]),
+        Op::ShmemAttach { shmem } => spelled(alloc, OpWord::ShmemAttach, [Value::Handle(shmem.0)]),
+        Op::ShmemDetach { shmem } => spelled(alloc, OpWord::ShmemDetach, [Value::Handle(shmem.0)]),
+        Op::ShmemRead { shmem, cell } => spelled(
+            alloc,
             OpWord::ShmemRead,
-            vec![in alloc; Value::Handle(shmem.0), Value::Number(*cell)]?,
-        )),
-        Op::ShmemWrite { shmem, cell, value } => Ok((
+            [Value::Handle(shmem.0), Value::Number(*cell)],
+        ),
+        Op::ShmemWrite { shmem, cell, value } => spelled(
+            alloc,
             OpWord::ShmemWrite,
-            vec![in alloc;
+            [
                 Value::Handle(shmem.0),
                 Value::Number(*cell),
                 Value::Whole(*value),
-            ]?,
-        )),
+            ],
+        ),
     }
 }
 

@@ -128,7 +128,7 @@ impl Node {
             Some(found) if runs_so(found, who, &done) => {}
             _ => return Reply::Mtapi(MtapiStatus::ErrTaskInvalid),
         }
-        self.board.end_with(task, task_end(done.end()));
+        self.board.end_with(task, task_end(&done.end()));
         Reply::Ok
     }
 

@@ -122,7 +122,7 @@ fn change_by_work(op: &Op, reply: &Reply) -> Change
 {
     match (op, reply) {
         (Op::Pick, Reply::Picked { task, .. }) => Change::BeginsTask(task.0),
-        (Op::Finish { task, done }, Reply::Ok) => Change::EndsTask(task.0, task_end(done.end())),
+        (Op::Finish { task, done }, Reply::Ok) => Change::EndsTask(task.0, task_end(&done.end())),
         (Op::WatchEnd { task }, Reply::Ended(end)) => Change::EndsTask(task.0, end.again()),
         (Op::TallyEnd { task }, Reply::Ended(end)) => Change::EndsTask(task.0, end.again()),
         _ => Change::Nothing,

@@ -283,15 +283,16 @@ fn note(
     Ok(())
 }
 
-fn no_standings(alloc: Global) -> Standings
-    ensures { SameAs (seen_in result) nothing_seen }
+// No standings, with room for so many tasks that ended, so that the table doesn't move while it fills.
+fn no_standings(alloc: Global, tasks: usize) -> Result<Standings, AllocError>
+    ensures { IfOk result (λ t. SameAs (seen_in t) nothing_seen) }
 {
-    Standings {
-        ended: HashMap::new(alloc),
+    Ok(Standings {
+        ended: HashMap::with_capacity(alloc, tasks)?,
         unstarted: HashMap::new(alloc),
         actions: Vec::new(alloc),
         queues: HashMap::new(alloc),
-    }
+    })
 }
 
 /// Tells what is known after these entries of a node with so many workers. It fails for want of
@@ -303,7 +304,8 @@ pub fn standings_of(alloc: Global, workers: u32, entries: &[Entry]) -> Result<St
     requires { workers ≤ 64 }
     ensures { IfOk result (λ t. SameAs (seen_in t) (seen_from workers nothing_seen entries.now)) }
 {
-    let mut table = no_standings(alloc);
+    // A task that ran has three entries: its start, its pick and its end.
+    let mut table = no_standings(alloc, entries.len() / 3)?;
     for entry in entries {
         note(alloc, &mut table, workers, change_of(entry))?;
     }

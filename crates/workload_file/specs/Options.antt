@@ -31,6 +31,10 @@ field_of fields word = find (λ f. bytes_eq (key_text f.key) (key_of word)) fiel
 abbrev pub is_known : List Field → List ℕ → Bool
 is_known fields word = list_any (λ b. b == 61) word && is_some (field_of fields word)
 
+-- the word is this key, = and a value
+abbrev pub opens : List ℕ → List ℕ → Bool
+opens word key = list_any (λ b. b == 61) word && bytes_eq key (key_of word)
+
 -- two words with one key
 unfoldable pub has_twice : List (List ℕ) → Bool
 has_twice [] = false

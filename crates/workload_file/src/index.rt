@@ -52,10 +52,11 @@ impl NameIndex {
     pub fn add(&mut self, name: &Name, place: u32) -> Result<(), AllocError>
         ensures { OnOk result ((other : List ℕ) → found self.new other ≡ with_name (Some name.now) place (found self.old) other) }
     {
-        if self.find(name.as_slice()).is_some() {
-            return Ok(());
+        let key = key_of(name.as_slice());
+        if let Some(before) = self.places.insert(key, place)? {
+            // It had a place, which is put back.
+            self.places.insert(key, before)?;
         }
-        self.places.insert(key_of(name.as_slice()), place)?;
         Ok(())
     }
 }

@@ -3,7 +3,7 @@ ghost use Rattle.std.specs.Prelude.{◌≡◌, ◌==◌, Bool};
 ghost use Rattle.std.specs.Option.{option_copied};
 ghost use Rattle.std.specs.List.{list_any, list_all};
 ghost use Rattle.workload_file.specs.Texts.{texts};
-ghost use Rattle.workload_file.specs.Options.{key_of, value_of, field_of, is_known, has_twice, gives, is_refused, is_missing, text_of};
+ghost use Rattle.workload_file.specs.Options.{key_of, value_of, is_known, opens, has_twice, gives, is_refused, is_missing, text_of};
 ghost use Rattle.std.specs.Str.{bytes_eq};
 
 use crate::table::{Absent, Field, Key};
@@ -15,6 +15,34 @@ fn key_of(word: &[u8]) -> &[u8]
     cut_at(word, b'=').0
 }
 
+/// Whether a word's key is this one. Most keys differ in their first byte, so that few bytes are looked at.
+fn has_key(word: &[u8], key: &[u8]) -> bool
+    ensures { result ≡ bytes_eq (key_of word.now) key.now }
+{
+    match word {
+        [] => key.is_empty(),
+        [b'=', ..] => key.is_empty(),
+        [a, word @ ..] => match key {
+            [] => false,
+            [b, key @ ..] => *a == *b && has_key(word, key),
+        },
+    }
+}
+
+/// Whether a word is this key, `=` and a value.
+fn opens(word: &[u8], key: &[u8]) -> bool
+    ensures { result ≡ opens word.now key.now }
+{
+    match word {
+        [] => false,
+        [b'=', ..] => key.is_empty(),
+        [a, word @ ..] => match key {
+            [] => false,
+            [b, key @ ..] => *a == *b && opens(word, key),
+        },
+    }
+}
+
 fn value_of(word: &[u8]) -> &[u8]
     ensures { result.now ≡ value_of word.now }
 {
@@ -24,17 +52,13 @@ fn value_of(word: &[u8]) -> &[u8]
     }
 }
 
-fn field_of(fields: &[Field], word: &[u8]) -> Option<Field>
-    ensures { result ≡ field_of fields.now word.now }
-{
-    let key = key_of(word);
-    fields.iter().copied().find(|f| f.key.text() == key)
-}
-
 fn is_known(fields: &[Field], word: &[u8]) -> bool
     ensures { result ≡ is_known fields.now word.now }
 {
-    word.contains(&b'=') && field_of(fields, word).is_some()
+    match fields {
+        [] => false,
+        [field, rest @ ..] => opens(word, field.key.text()) || is_known(rest, word),
+    }
 }
 
 /// Whether each word is an option of the statement.
@@ -52,7 +76,7 @@ fn gives_key(words: &[&[u8]], key: &[u8]) -> bool
 {
     match words {
         [] => false,
-        [word, rest @ ..] => key_of(word) == key || gives_key(rest, key),
+        [word, rest @ ..] => has_key(word, key) || gives_key(rest, key),
     }
 }
 
@@ -94,7 +118,7 @@ pub fn text_of<'a>(key: Key, words: &[&'a [u8]]) -> Option<&'a [u8]>
     match words {
         [] => None,
         [word, rest @ ..] => {
-            if key_of(word) == key.text() {
+            if has_key(word, key.text()) {
                 return Some(value_of(word));
             }
             text_of(key, rest)

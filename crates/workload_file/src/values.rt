@@ -21,6 +21,23 @@ pub enum Value {
     Place(Option<u32>),
 }
 
+// A word, a place, and the values of the options.
+fn spelled<const N: usize>(
+    alloc: Global,
+    word: Word,
+    place: Option<u32>,
+    values: [Value; N],
+) -> Result<(Word, Option<u32>, Vec<Value>), AllocError>
+    ensures word { IfOk result (λ s. s.0 ≡ word) }
+    ensures place { IfOk result (λ s. s.1 ≡ place) }
+    ensures values { IfOk result (λ s. s.2.items ≡ values.entry) }
+{
+    match Vec::from_array(alloc, values) {
+        Ok(list) => Ok((word, place, list)),
+        Err(_) => Err(AllocError),
+    }
+}
+
 /// A deed in the text: its word, the place of the statement that bound the name that it uses, and the values of its
 /// options in the order of the table.
 #[tactic(auto, unfolding(crate::specs::Deeds::deed_spelled))]
@@ -34,15 +51,16 @@ pub fn deed_spelled(
 {
     match deed {
         Deed::Begin => Ok((Word::Begin, None, Vec::new(alloc))),
-        Deed::Action { job, kind, cores } => Ok((
+        Deed::Action { job, kind, cores } => spelled(
+            alloc,
             Word::Action,
             None,
-            vec![in alloc;
+            [
                 Value::Number(*job),
                 Value::Kind(*kind),
                 Value::Cores(*cores),
-            ]?,
-        )),
+            ],
+        ),
         Deed::ActionDelete { place } => Ok((Word::ActionDelete, Some(*place), Vec::new(alloc))),
         Deed::ActionEnable { place } => Ok((Word::ActionEnable, Some(*place), Vec::new(alloc))),
         Deed::ActionDisable { place } => Ok((Word::ActionDisable, Some(*place), Vec::new(alloc))),
@@ -53,52 +71,57 @@ pub fn deed_spelled(
             cores,
             detached,
             group,
-        } => Ok((
+        } => spelled(
+            alloc,
             Word::Start,
             None,
-            vec![in alloc;
+            [
                 Value::Number(*job),
                 Value::Args(args.again()),
                 Value::Number(*priority),
                 Value::Cores(*cores),
                 Value::Flag(*detached),
                 Value::Place(*group),
-            ]?,
-        )),
+            ],
+        ),
         Deed::Enqueue {
             queue,
             args,
             cores,
             detached,
             group,
-        } => Ok((
+        } => spelled(
+            alloc,
             Word::Enqueue,
             None,
-            vec![in alloc;
+            [
                 Value::Place(Some(*queue)),
                 Value::Args(args.again()),
                 Value::Cores(*cores),
                 Value::Flag(*detached),
                 Value::Place(*group),
-            ]?,
-        )),
-        Deed::Wait { place, timeout } => Ok((
+            ],
+        ),
+        Deed::Wait { place, timeout } => spelled(
+            alloc,
             Word::Wait,
             Some(*place),
-            vec![in alloc; Value::Timeout(*timeout)]?,
-        )),
+            [Value::Timeout(*timeout)],
+        ),
         Deed::Cancel { place } => Ok((Word::Cancel, Some(*place), Vec::new(alloc))),
         Deed::Group => Ok((Word::Group, None, Vec::new(alloc))),
-        Deed::WaitAll { place, timeout } => Ok((
+        Deed::WaitAll { place, timeout } => spelled(
+            alloc,
             Word::WaitAll,
             Some(*place),
-            vec![in alloc; Value::Timeout(*timeout)]?,
-        )),
-        Deed::WaitAny { place, timeout } => Ok((
+            [Value::Timeout(*timeout)],
+        ),
+        Deed::WaitAny { place, timeout } => spelled(
+            alloc,
             Word::WaitAny,
             Some(*place),
-            vec![in alloc; Value::Timeout(*timeout)]?,
-        )),
+            [Value::Timeout(*timeout)],
+        ),
         Deed::GroupDelete { place } => Ok((Word::GroupDelete, Some(*place), Vec::new(alloc))),
         Deed::Queue {
             id,
@@ -107,92 +130,104 @@ pub fn deed_spelled(
             limit,
             ordered,
             retain,
-        } => Ok((
+        } => spelled(
+            alloc,
             Word::Queue,
             None,
-            vec![in alloc;
+            [
                 Value::Number(*id),
                 Value::Number(*job),
                 Value::Number(*priority),
                 Value::Number(*limit),
                 Value::Flag(*ordered),
                 Value::Flag(*retain),
-            ]?,
-        )),
-        Deed::QueueGet { id } => Ok((Word::QueueGet, None, vec![in alloc; Value::Number(*id)]?)),
+            ],
+        ),
+        Deed::QueueGet { id } => spelled(alloc, Word::QueueGet, None, [Value::Number(*id)]),
         Deed::QueueEnable { place } => Ok((Word::QueueEnable, Some(*place), Vec::new(alloc))),
         Deed::QueueDisable { place } => Ok((Word::QueueDisable, Some(*place), Vec::new(alloc))),
         Deed::QueueDelete { place } => Ok((Word::QueueDelete, Some(*place), Vec::new(alloc))),
-        Deed::Mutex { id, recursive } => Ok((
+        Deed::Mutex { id, recursive } => spelled(
+            alloc,
             Word::Mutex,
             None,
-            vec![in alloc; Value::Number(*id), Value::Flag(*recursive)]?,
-        )),
-        Deed::MutexGet { id } => Ok((Word::MutexGet, None, vec![in alloc; Value::Number(*id)]?)),
+            [Value::Number(*id), Value::Flag(*recursive)],
+        ),
+        Deed::MutexGet { id } => spelled(alloc, Word::MutexGet, None, [Value::Number(*id)]),
         Deed::MutexDelete { place } => Ok((Word::MutexDelete, Some(*place), Vec::new(alloc))),
-        Deed::Lock { place, timeout } => Ok((
+        Deed::Lock { place, timeout } => spelled(
+            alloc,
             Word::Lock,
             Some(*place),
-            vec![in alloc; Value::Timeout(*timeout)]?,
-        )),
-        Deed::Unlock { place, key } => Ok((
+            [Value::Timeout(*timeout)],
+        ),
+        Deed::Unlock { place, key } => spelled(
+            alloc,
             Word::Unlock,
             Some(*place),
-            vec![in alloc; Value::Number(*key)]?,
-        )),
-        Deed::Sem { id, limit } => Ok((
+            [Value::Number(*key)],
+        ),
+        Deed::Sem { id, limit } => spelled(
+            alloc,
             Word::Sem,
             None,
-            vec![in alloc; Value::Number(*id), Value::Number(*limit)]?,
-        )),
-        Deed::SemGet { id } => Ok((Word::SemGet, None, vec![in alloc; Value::Number(*id)]?)),
+            [Value::Number(*id), Value::Number(*limit)],
+        ),
+        Deed::SemGet { id } => spelled(alloc, Word::SemGet, None, [Value::Number(*id)]),
         Deed::SemDelete { place } => Ok((Word::SemDelete, Some(*place), Vec::new(alloc))),
-        Deed::SemLock { place, timeout } => Ok((
+        Deed::SemLock { place, timeout } => spelled(
+            alloc,
             Word::SemLock,
             Some(*place),
-            vec![in alloc; Value::Timeout(*timeout)]?,
-        )),
+            [Value::Timeout(*timeout)],
+        ),
         Deed::SemUnlock { place } => Ok((Word::SemUnlock, Some(*place), Vec::new(alloc))),
-        Deed::Rwl { id, limit } => Ok((
+        Deed::Rwl { id, limit } => spelled(
+            alloc,
             Word::Rwl,
             None,
-            vec![in alloc; Value::Number(*id), Value::Number(*limit)]?,
-        )),
-        Deed::RwlGet { id } => Ok((Word::RwlGet, None, vec![in alloc; Value::Number(*id)]?)),
+            [Value::Number(*id), Value::Number(*limit)],
+        ),
+        Deed::RwlGet { id } => spelled(alloc, Word::RwlGet, None, [Value::Number(*id)]),
         Deed::RwlDelete { place } => Ok((Word::RwlDelete, Some(*place), Vec::new(alloc))),
         Deed::RwlLock {
             place,
             writer,
             timeout,
-        } => Ok((
+        } => spelled(
+            alloc,
             Word::RwlLock,
             Some(*place),
-            vec![in alloc; Value::Mode(*writer), Value::Timeout(*timeout)]?,
-        )),
-        Deed::RwlUnlock { place, writer } => Ok((
+            [Value::Mode(*writer), Value::Timeout(*timeout)],
+        ),
+        Deed::RwlUnlock { place, writer } => spelled(
+            alloc,
             Word::RwlUnlock,
             Some(*place),
-            vec![in alloc; Value::Mode(*writer)]?,
-        )),
-        Deed::Shmem { id, cells } => Ok((
+            [Value::Mode(*writer)],
+        ),
+        Deed::Shmem { id, cells } => spelled(
+            alloc,
             Word::Shmem,
             None,
-            vec![in alloc; Value::Number(*id), Value::Number(*cells)]?,
-        )),
-        Deed::ShmemGet { id } => Ok((Word::ShmemGet, None, vec![in alloc; Value::Number(*id)]?)),
+            [Value::Number(*id), Value::Number(*cells)],
+        ),
+        Deed::ShmemGet { id } => spelled(alloc, Word::ShmemGet, None, [Value::Number(*id)]),
         Deed::ShmemDelete { place } => Ok((Word::ShmemDelete, Some(*place), Vec::new(alloc))),
         Deed::Attach { place } => Ok((Word::Attach, Some(*place), Vec::new(alloc))),
         Deed::Detach { place } => Ok((Word::Detach, Some(*place), Vec::new(alloc))),
-        Deed::Read { place, cell } => Ok((
+        Deed::Read { place, cell } => spelled(
+            alloc,
             Word::Read,
             Some(*place),
-            vec![in alloc; Value::Number(*cell)]?,
-        )),
-        Deed::Write { place, cell, value } => Ok((
+            [Value::Number(*cell)],
+        ),
+        Deed::Write { place, cell, value } => spelled(
+            alloc,
             Word::Write,
             Some(*place),
-            vec![in alloc; Value::Number(*cell), Value::Whole(*value)]?,
-        )),
+            [Value::Number(*cell), Value::Whole(*value)],
+        ),
     }
 }
 

@@ -1,58 +1,11 @@
-use Rattle.std.proofs.Common.{◌≡◌, ◌↔◌, ◌+◌, ◌≤◌, ◌<◌, ℕ, Bool, true, false, List, [], ◌∷◌, ◌++◌, take, length, refl, sym, subst, ap, arith, ◌∙◌}
+use Rattle.std.proofs.Common.{[], sym, subst}
 use Rattle.mtapi_machine.specs.declared.terms.Terms.{Terms}
 use Rattle.mtapi_machine.specs.State.{terms_with}
-use Rattle.mtapi_machine.specs.Legal.{NodeEntry, IsNext, Legal, after}
-use Rattle.journal_check.specs.Follow.{HasFollowed}
-use Rattle.journal_check.specs.Verdicts.{IsFirstIllegal}
-use Rattle.journal_check.proofs.Prefixes.{empty_legal, take_next, legal_more, first_here, short_take}
+use Rattle.mtapi_machine.specs.Legal.{Legal}
+use Rattle.journal_check.proofs.Prefixes.{empty_legal}
 use Rattle.journal_check.proofs.judged.first_illegal.Goals as goal
 
-pub loop-entry-init : goal.loop-entry-init
-loop-entry-init c =
+pub first_refused-requires-clause-legal : goal.first_refused-requires-clause-legal
+first_refused-requires-clause-legal c =
     let terms : Terms = terms_with c.args.layout c.args.settings c.args.callers in
-    let is : c.in_ok-follower.follower.terms ≡ terms = c.in_ok-follower.ensures.terms in
-    record {
-      terms = is;
-      legal = subst (λ (t : Terms). Legal t []) (sym is) (empty_legal terms (record { settings = c.read_ranges.ensures; some_caller = c.if-callers-lt1.false; callers = c.if-callers-gt9.false }));
-      followed = c.in_ok-follower.ensures.begins;
-      judged = refl;
-    }
-
-pub overflow_add-judged : goal.overflow_add-judged
-overflow_add-judged c = omega (arith, c.loop-entry.invariant.judged, c.loop-entry-test.true, c.if-entries-ge4294967295.false)
-
-pub judge-requires : goal.judge-requires
-judge-requires c = record {
-  room = (take c.loop-entry.entry-index c.args.entries.now, c.loop-entry.invariant.followed, omega (arith, short_take c.args.entries.now c.loop-entry.entry-index, c.if-entries-ge4294967295.false));
-}
-
-pub returns-then-not-branch : goal.returns-then-not-branch
-returns-then-not-branch c =
-    let es = c.args.entries.now in
-    let i = c.loop-entry.entry-index in
-    let f = c.loop-entry.follower in
-    let e = c.entry-item.result in
-    let short : length (take i es) < 4294967295 = omega (arith, short_take es i, c.if-entries-ge4294967295.false) in
-    let never : IsNext (after f.terms (take i es)) e → ⊥ =
-    λ n. let a : c.in_ok-judge.field-0 ≡ true = (c.in_ok-judge.ensures.exact (take i es) c.loop-entry.invariant.followed short).1 n in let b : c.in_ok-judge.field-0 ≡ false = c.if-not-branch.true in absurd (cc) in
-    let first : IsFirstIllegal f.terms es (i + 1) = first_here f.terms es i e c.loop-entry-test.true c.entry-item.is c.loop-entry.invariant.legal never in
-    subst (λ (n : ℕ). IsFirstIllegal (terms_with c.args.layout c.args.settings c.args.callers) es (n + 1)) (sym c.loop-entry.invariant.judged)
-    (subst (λ (t : Terms). IsFirstIllegal t es (i + 1)) c.loop-entry.invariant.terms first)
-
-pub loop-entry-preserved : goal.loop-entry-preserved
-loop-entry-preserved c =
-    let es = c.args.entries.now in
-    let i = c.loop-entry.entry-index in
-    let f = c.loop-entry.follower in
-    let e = c.entry-item.result in
-    let short : length (take i es) < 4294967295 = omega (arith, short_take es i, c.if-entries-ge4294967295.false) in
-    let j = c.in_ok-judge.ensures in
-    let passed : c.in_ok-judge.field-0 ≡ true = c.if-not-branch.false in
-    let list : take (i + 1) es ≡ take i es ++ e ∷ [] = take_next es i e c.loop-entry-test.true c.entry-item.is in
-    record {
-      terms = j.terms ∙ c.loop-entry.invariant.terms;
-      legal = subst (λ (t : Terms). Legal t (take (i + 1) es)) (sym j.terms)
-          (subst (Legal f.terms) (sym list) (legal_more f.terms (take i es) e c.loop-entry.invariant.legal ((j.exact (take i es) c.loop-entry.invariant.followed short).0 passed)));
-      followed = subst (HasFollowed c.judge.new.self) (sym list) (j.goes_on (take i es) c.loop-entry.invariant.followed short passed);
-      judged = ap (λ (n : ℕ). n + 1) c.loop-entry.invariant.judged;
-    }
+    subst (λ (t : Terms). Legal t []) (sym c.in_ok-follower.ensures.terms) (empty_legal terms (record { settings = c.read_ranges.ensures; some_caller = c.if-callers-lt1.false; callers = c.if-callers-gt9.false }))

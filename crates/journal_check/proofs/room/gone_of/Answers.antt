@@ -1,4 +1,4 @@
-use Rattle.std.proofs.Common.{◌≡◌, ◌+◌, ◌≤◌, ℕ, Bool, true, false, List, take, get_or, length, refl, sym, subst, ap, arith, ◌∙◌, take_all}
+use Rattle.std.proofs.Common.{◌≡◌, ◌+◌, ◌≤◌, ℕ, true, false, List, get_or, sym, subst, ap, arith, ◌∙◌, take_all}
 use Rattle.mtapi_machine.specs.Legal.{NodeEntry, after}
 use Rattle.node_steps.specs.Stands.{Stands, terms_of}
 use Rattle.mtapi_renaming.specs.Kinds.{is_live_of}

@@ -6,7 +6,7 @@ use Rattle.run_report.proofs.History.{seen_none, seen_next}
 use Rattle.run_report.proofs.standings.standings_of.Goals as goal
 
 pub loop-entry-init : goal.loop-entry-init
-loop-entry-init c = seen_none c.args.workers (seen_in c.no_standings-table.result) c.no_standings-table.ensures
+loop-entry-init c = seen_none c.args.workers (seen_in c.in_ok-table.table) c.in_ok-table.ensures
 
 pub loop-entry-preserved : goal.loop-entry-preserved
 loop-entry-preserved c =

@@ -1,4 +1,4 @@
-use Rattle.std.proofs.Common.{◌≡◌, List, Option, Some, None, subst, sym}
+use Rattle.std.proofs.Common.{◌≡◌, List, Some, None, subst}
 use Rattle.std.specs.Prelude.{IsSome}
 use Rattle.mtapi_machine.specs.declared.ops.Op.{Op}
 use Rattle.mtapi_machine.specs.Legal.{NodeEntry, after}

@@ -1,4 +1,4 @@
-use Rattle.std.proofs.Common.{◌≡◌, ◌<◌, ℕ, subst}
+use Rattle.std.proofs.Common.{◌<◌, ℕ, subst}
 use Rattle.journal_check.proofs.Begins.{judged_next}
 use Rattle.journal_check.proofs.following.Following.judge.Goals as goal
 

@@ -1,10 +1,9 @@
-use Rattle.std.proofs.Common.{◌≡◌, ℕ, true, false, List, [], ◌∷◌, ◌++◌, subst, sym, ◌∙◌}
+use Rattle.std.proofs.Common.{◌≡◌, ℕ, List, [], ◌∷◌, ◌++◌, subst}
 use Rattle.history.specs.Histories.{entry}
 use Rattle.mtapi_machine.specs.declared.ops.Op.{Op}
-use Rattle.mtapi_machine.specs.declared.replies.Reply.{Reply}
 use Rattle.mtapi_machine.specs.declared.replies.Reply.TheVariants.{Handle}
-use Rattle.mtapi_machine.specs.Legal.{NodeEntry, after}
-use Rattle.node_steps.specs.Stands.{Stands, terms_of}
+use Rattle.mtapi_machine.specs.Legal.{NodeEntry}
+use Rattle.node_steps.specs.Stands.{Stands}
 use Rattle.mtapi_renaming.specs.Maps.{renaming_of}
 use Rattle.mtapi_renaming.specs.Ops.{renamed_op}
 use Rattle.journal_check.specs.Made.{Notes}

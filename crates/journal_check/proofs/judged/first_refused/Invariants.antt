@@ -1,12 +1,11 @@
 use Rattle.std.specs.Prelude.{◌≡◌, take}
-use Rattle.mtapi_machine.specs.State.{terms_with}
 use Rattle.mtapi_machine.specs.Legal.{Legal}
 use Rattle.journal_check.specs.Follow.{HasFollowed}
-use Rattle.journal_check.proofs.judged.first_illegal.Given as goal
+use Rattle.journal_check.proofs.judged.first_refused.Given as goal
 
 abbrev pub invariant-loop-entry : goal.invariant-loop-entry
 invariant-loop-entry l = record {
-  terms : l.follower.terms ≡ terms_with l.fn.layout l.fn.settings l.fn.callers;
+  terms : l.follower.terms ≡ l.fn.follower.terms;
   legal : Legal l.follower.terms (take l.entry-index l.entries);
   followed : HasFollowed l.follower (take l.entry-index l.entries);
   judged : l.judged ≡ l.entry-index;

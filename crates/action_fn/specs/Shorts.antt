@@ -1,0 +1,12 @@
+-- The short form in which an answer stands beside its arguments.
+use Rattle.std.specs.Prelude.{List, [], ◌∷◌, ℤ}
+use Rattle.action_fn.specs.declared.finished.ActEnd.{ActEnd}
+use Rattle.action_fn.specs.declared.finished.ActEnd.TheVariants.{Done, Fails}
+use Rattle.action_fn.specs.declared.finished.Short.{Short}
+use Rattle.action_fn.specs.declared.finished.Short.TheVariants.{Number, TheArgs, Fails as Fails_short}
+
+-- the end that a short form beside these arguments stands for
+abbrev pub in_full : List ℤ → Short → ActEnd
+in_full args (Number z) = Done (z ∷ [])
+in_full args TheArgs = Done args
+in_full args (Fails_short status) = Fails status
