@@ -17,7 +17,7 @@ use Rattle.journal_text.specs.declared.heads.Head.{Head}
 use Rattle.journal_text.specs.Values.{values_words, values_onto}
 use Rattle.journal_text.specs.Ops.{op_row, op_spelled, op_of}
 use Rattle.journal_text.specs.Replies.{reply_row, reply_spelled, reply_of}
-use Rattle.journal_text.specs.Lines.{seat_text, op_texts, reply_texts, skipped_texts, entry_texts, entry_text, seat_of, op_from, reply_from, skipped_from, entry_from, has_words, is_seated, if_spelled, entry_of}
+use Rattle.journal_text.specs.Lines.{seat_text, op_texts, reply_texts, skipped_texts, entry_texts, entry_text, seat_of, op_from, reply_from, skipped_from, entry_by, entry_from, has_words, is_seated, if_spelled, entry_of}
 use Rattle.journal_text.specs.Fits.{ValueFits, EntryFits, HeadFits}
 use Rattle.journal_text.proofs.OpsAgain.{op_word_again, op_shapes, op_again, reply_word_again, reply_shapes, reply_again}
 use Rattle.journal_text.proofs.ValuesAgain.{values_again}
@@ -75,7 +75,7 @@ skipped_again n f =
 -- ---- entries
 
 entry_from_again : (head : Head) (e : NodeEntry) (n : ℕ) → HeadFits head → EntryFits head e n → entry_from head (seat_text head.settings.workers e.who ∷ entry_texts head.layout e n) ≡ Some (e, n)
-unfolding entry_from
+unfolding entry_from entry_by
 entry_from_again head e n g f =
     let l = head.layout in
     let ws = entry_texts l e n in

@@ -14,7 +14,7 @@ use Rattle.journal_text.specs.declared.heads.Head.{Head}
 use Rattle.journal_text.specs.Values.{values_onto}
 use Rattle.journal_text.specs.Ops.{op_row, op_word_of, op_spelled, op_of}
 use Rattle.journal_text.specs.Replies.{reply_row, reply_word_of, reply_spelled, reply_of}
-use Rattle.journal_text.specs.Lines.{entry_text, seat_of, op_from, reply_from, skipped_from, entry_from, has_words, is_seated, if_spelled, entry_of}
+use Rattle.journal_text.specs.Lines.{entry_text, seat_of, op_from, reply_from, skipped_from, entry_by, entry_from, has_words, is_seated, if_spelled, entry_of}
 use Rattle.journal_text.specs.Fits.{ValueFits, EntryFits}
 use Rattle.journal_text.proofs.ValuesFit.{values_fit}
 use Rattle.journal_text.proofs.OpsFit.{op_fits, reply_fits}
@@ -50,7 +50,7 @@ record PartsFit (x : NodeEntry × ℕ) : Type 0 where
   pub number : x.1 < 2 ^ 64
 
 parts_fit : (head : Head) (ws : List (List ℕ)) (x : NodeEntry × ℕ) → entry_from head ws ≡ Some x → PartsFit x
-unfolding entry_from
+unfolding entry_from entry_by
 parts_fit head [] x e = absurd cc
 parts_fit head (w ∷ ws) x e =
     let a = bind_some (seat_of head w) _ x e in

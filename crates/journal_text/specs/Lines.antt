@@ -76,15 +76,18 @@ skipped_from [] = Some 0
 skipped_from (w ∷ []) = None
 skipped_from (w ∷ n ∷ ws) = number n
 
--- the entry that words may be, and its number
-unfoldable pub entry_from : Head → List (List ℕ) → Option (NodeEntry × ℕ)
-entry_from head [] = None
-entry_from head (w ∷ ws) = do
-  who ← seat_of head w
+-- the entry of a seat that words may be, and its number
+unfoldable pub entry_by : ℕ → List (List ℕ) → Option (NodeEntry × ℕ)
+entry_by who ws = do
   o ← op_from ws
   r ← reply_from (drop 1 o.1)
   n ← skipped_from r.1
   Some (record { who = who; op = o.0; reply = r.0 }, n)
+
+-- the same, with the seat before it
+unfoldable pub entry_from : Head → List (List ℕ) → Option (NodeEntry × ℕ)
+entry_from head [] = None
+entry_from head (w ∷ ws) = seat_of head w >>= λ who. entry_by who ws
 
 -- text 1 has no word and no kind of a tally
 abbrev pub is_tally_op : Op → Bool

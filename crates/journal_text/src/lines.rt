@@ -2,7 +2,7 @@
 ghost use Rattle.std.specs.Prelude.{◌≡◌, ◌≤◌, ◌+◌, ◌++◌, ◌∷◌, [], drop, codes, Some, OnOk, IfOk};
 ghost use Rattle.number_text.specs.Lists.{led, pieces_of, between};
 ghost use Rattle.journal_text.specs.Found.{Gives, left_texts};
-ghost use Rattle.journal_text.specs.Lines.{seat_text, op_texts, reply_texts, skipped_texts, entry_texts, entry_text, seat_of, op_from, reply_from, skipped_from, entry_from, is_tally_op, is_tally_reply, has_words, is_seated, if_spelled, entry_of};
+ghost use Rattle.journal_text.specs.Lines.{seat_text, op_texts, reply_texts, skipped_texts, entry_texts, entry_text, seat_of, op_from, reply_from, skipped_from, entry_by, entry_from, is_tally_op, is_tally_reply, has_words, is_seated, if_spelled, entry_of};
 
 use crate::faults::LineError;
 use crate::heads::Head;
@@ -165,6 +165,18 @@ fn without_word(left: Option<&[u8]>) -> Option<&[u8]>
     }
 }
 
+#[tactic(auto, unfolding(crate::specs::Lines::entry_by))]
+fn entry_by(alloc: Global, who: u32, left: Option<&[u8]>) -> Result<(Entry, u64), LineError>
+    ensures { Gives (λ x. x) result (entry_by who (pieces_of 32 left.entry)) }
+{
+    let (op, left) = op_from(alloc, left)?;
+    let (reply, left) = reply_from(alloc, without_word(left))?;
+    match skipped_from(left) {
+        Some(skipped) => Ok((Entry { who, op, reply }, skipped)),
+        None => Err(LineError::Outside),
+    }
+}
+
 /// The entry that a line may be, and the number beside it: what is written, and more.
 #[tactic(auto, unfolding(crate::specs::Lines::entry_from))]
 fn entry_from(alloc: Global, head: &Head, line: &[u8]) -> Result<(Entry, u64), LineError>
@@ -173,13 +185,8 @@ fn entry_from(alloc: Global, head: &Head, line: &[u8]) -> Result<(Entry, u64), L
     let Some((seat, left)) = next_word(Some(line)) else {
         return Err(LineError::Outside);
     };
-    let Some(who) = seat_of(head, seat) else {
-        return Err(LineError::Outside);
-    };
-    let (op, left) = op_from(alloc, left)?;
-    let (reply, left) = reply_from(alloc, without_word(left))?;
-    match skipped_from(left) {
-        Some(skipped) => Ok((Entry { who, op, reply }, skipped)),
+    match seat_of(head, seat) {
+        Some(who) => entry_by(alloc, who, left),
         None => Err(LineError::Outside),
     }
 }

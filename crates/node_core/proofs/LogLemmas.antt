@@ -1,5 +1,5 @@
 -- The log of a list, with one more entry.
-use Rattle.std.proofs.Common.{◌≡◌, ℕ, ◌+◌, ◌<◌, ◌^◌, Bool, true, false, List, [], ◌∷◌, ◌++◌, length, length-append, refl, sym, ◌∙◌, ap, subst, arith}
+use Rattle.std.proofs.Common.{◌≡◌, ℕ, ◌<◌, ◌^◌, Bool, true, false, List, [], ◌∷◌, ◌++◌, length, refl, sym, ◌∙◌, ap, subst, arith}
 use Rattle.std.specs.Prelude.{slice_index, Option, None, Result, Ok, IfOk, IfSome, IsErr, ◌↔◌}
 use Rattle.std.specs.declared.alloc.AllocError.{AllocError}
 use Rattle.node_core.specs.declared.entries.Journal.{Journal}
@@ -14,11 +14,10 @@ use Rattle.mtapi_machine.proofs.Drops.{Kept-legal, after-kept}
 use Rattle.node_core.specs.declared.journaled.Kept.{Kept}
 use Rattle.node_core.specs.declared.journaled.Kept.TheVariants.{Nothing, Lost, Entries}
 use Rattle.node_core.specs.declared.journaled.Log.{Log}
-use Rattle.node_core.specs.declared.journaled.Journaled.{Journaled}
 use Rattle.node_core.specs.declared.node.Node.{Node}
 use Rattle.node_core.specs.Journals.{KeptEntries, kept_of, skipped_of}
 use Rattle.node_core.specs.Stands.{Stands, terms_of, seat_count, history_of}
-use Rattle.node_core.specs.Logs.{keeps, lost, AddsTo, Logs, KeepsOf, LoggedFrom, StandsKept, HasTerms, KeptAs, IsJournal, copy_for}
+use Rattle.node_core.specs.Logs.{keeps, lost, AddsTo, Logs, KeepsOf, LoggedFrom, HasTerms, KeptAs, IsJournal, copy_for}
 use Rattle.node_core.proofs.KeptLemmas.{kept-append, skipped-append, counts-append, number_le}
 
 -- what is kept of a list is kept of the longer one, with what the entry adds

@@ -1,5 +1,5 @@
 -- A new node stands for the empty list, and each step goes on with the list.
-use Rattle.std.proofs.Common.{◌≡◌, ℕ, ◌+◌, ◌<◌, ◌≤◌, false, List, [], ◌∷◌, ◌++◌, ◌^◌, length, length-append, true, refl, sym, ◌∙◌, ap, subst, arith, map, replicate}
+use Rattle.std.proofs.Common.{◌≡◌, ℕ, ◌+◌, ◌<◌, ◌≤◌, false, List, [], ◌∷◌, ◌++◌, ◌^◌, length, length-append, refl, sym, ◌∙◌, ap, subst, arith, map, replicate}
 use Rattle.mtapi_values.specs.Attributes.{NodeSettings, AreNodeSettings}
 use Rattle.handle_pool.specs.Slots.{Slot, Slots, free_slot}
 use Rattle.mtapi_values.specs.Seats.{no_marks}

@@ -1,6 +1,5 @@
 -- The handle of a new object names a slot of its pool, so it is small.
-use Rattle.std.proofs.Common.{◌≡◌, ℕ, ◌+◌, ◌<◌, ◌≤◌, ◌%◌, ◌^◌, Bool, true, false, cond, List, [], ◌∷◌, Option, Some, None, refl, sym, ◌∙◌, ap, subst, arith}
-use Rattle.std.specs.Prelude.{◌==◌}
+use Rattle.std.proofs.Common.{◌≡◌, ℕ, ◌+◌, ◌≤◌, Bool, true, false, cond, List, [], ◌∷◌, Option, Some, None, refl, sym, ◌∙◌, ap, subst, arith}
 use Rattle.std.proofs.lemmas.Bool.{eq-eqb}
 use Rattle.handle_pool.specs.Slots.{Slots}
 use Rattle.handle_pool.specs.Issued.{Listed, live_object, listed, issue}
@@ -20,7 +19,7 @@ use Rattle.mtapi_objects.specs.Segments.{new_segment}
 use Rattle.mtapi_machine.specs.Moves.{Move, Groups, Queues, Mutexes, Sems, Rwls, Segments, makes_action, starts_task, makes, is_fresh, apply, after_moves}
 use Rattle.mtapi_machine.specs.TaskRows.{asked_for, asked_of}
 use Rattle.mtapi_machine.specs.QueueRows.{new_queue}
-use Rattle.mtapi_machine.specs.Row.{Row, unless, gives, never, only, live, handle_of, Allows, after_row, creates}
+use Rattle.mtapi_machine.specs.Row.{Row, unless, gives, never, only, live, handle_of, Allows, after_row}
 use Rattle.mtapi_machine.specs.Rows.{row}
 use Rattle.mtapi_layouts.specs.Inward.{HasRoom}
 use Rattle.mtapi_layouts.specs.Ops.{HandleIsSmall, IssuesSmall}

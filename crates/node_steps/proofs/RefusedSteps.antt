@@ -16,7 +16,6 @@ use Rattle.handle_pool.specs.Walks.{SomeLive, NoneLive}
 use Rattle.handle_pool.specs.Issued.{any_listed, live_object, count_listed}
 use Rattle.handle_pool.proofs.AnswerLemmas.{any-none, any-live}
 use Rattle.mtapi_objects.specs.Actions.{new_action, has_job, action_create_refusals}
-use Rattle.mtapi_objects.specs.Tasks.{NewTask}
 use Rattle.mtapi_objects.specs.Groups.{new_group}
 use Rattle.mtapi_objects.specs.Queues.{Queue, is_unended_in, put_refusals}
 use Rattle.mtapi_objects.specs.Mutexes.{new_mutex}
@@ -33,7 +32,7 @@ use Rattle.mtapi_machine.specs.Row.{Row, says, live, creates, mtapi_unless, Allo
 use Rattle.mtapi_machine.specs.Rows.{row}
 use Rattle.mtapi_machine.specs.KeyedRows.{mrapi_unless}
 use Rattle.mtapi_machine.specs.QueueRows.{new_queue}
-use Rattle.mtapi_machine.specs.TaskRows.{asked_for, asked_of, start_refusals, is_detached_member, number_of}
+use Rattle.mtapi_machine.specs.TaskRows.{asked_for, asked_of, start_refusals, is_detached_member}
 use Rattle.mtapi_machine.specs.Legal.{IsHonest}
 use Rattle.mtapi_renaming.specs.Kinds.{made_kind}
 use Rattle.mtapi_renaming.specs.Refusals.{makes_or_not, refusal_in, refusal_of, CanAnswer}

@@ -1,6 +1,6 @@
 -- Why a new task is refused, from what the actions of its job cover.
 use Rattle.std.proofs.Common.{◌≡◌, ℕ, zero, suc, ◌<◌, Bool, true, false, not, cond, List, [], ◌∷◌, Option, Some, None, refl, sym, ◌∙◌, arith, ap}
-use Rattle.std.specs.Prelude.{◌&&◌, nat_lt, is_some, is_none, ℤ, ◌||◌, IsSome}
+use Rattle.std.specs.Prelude.{◌&&◌, nat_lt, is_none, ℤ, ◌||◌, IsSome}
 use Rattle.std.specs.Option.{option_map}
 use Rattle.std.proofs.lemmas.Bool.Decides.{nat_tests}
 use Rattle.mtapi_values.specs.declared.masks.Mask.{Mask}

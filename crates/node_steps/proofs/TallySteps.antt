@@ -1,12 +1,11 @@
 -- The ops of tallies are steps of the machine.
-use Rattle.std.proofs.Common.{◌≡◌, ◌⊎◌, inl, inr, ℕ, ◌+◌, ◌<◌, ◌≤◌, Bool, true, false, not, cond, List, [], ◌∷◌, Option, Some, None, refl, sym, ◌∙◌, ap, subst, arith, length}
+use Rattle.std.proofs.Common.{◌≡◌, inl, inr, ℕ, ◌+◌, ◌≤◌, Bool, true, false, not, cond, List, [], ◌∷◌, Option, Some, None, refl, sym, ◌∙◌, ap, subst, arith, length}
 use Rattle.std.specs.Prelude.{◌&&◌, ◌||◌, ◌==◌, nat_lt, ℤ, ◌+ℤ◌, ◌-ℤ◌}
 use Rattle.std.specs.Ordering.{int_eq}
 use Rattle.std.specs.Option.{option_map}
 use Rattle.std.proofs.lemmas.Bool.Decides.{nat_tests, Decides-int_eq}
 use Rattle.std.proofs.Math.IntN.{+ℤ-neg_ℤ_cancel, -ℤ-+ℤ_cancel}
 use Rattle.mtapi_values.specs.Conditions.{holds}
-use Rattle.mtapi_values.specs.declared.kinds.Kind.{Kind}
 use Rattle.mtapi_values.specs.declared.kinds.Kind.TheVariants as kinds
 use Rattle.mtapi_values.specs.declared.handles.TaskHandle.{TaskHandle}
 use Rattle.mtapi_values.specs.declared.handles.MutexHandle.{MutexHandle}
@@ -17,12 +16,12 @@ use Rattle.mtapi_values.specs.declared.ends.TaskEnd.{TaskEnd}
 use Rattle.mtapi_values.specs.declared.ends.TaskEnd.TheVariants.{Completed, Failed as EndFailed}
 use Rattle.action_fn.specs.Answers.{fits, fitting}
 use Rattle.handle_pool.specs.Slots.{Slots, slot_value, changed}
-use Rattle.handle_pool.specs.Issued.{Listed, live_object, update, change}
-use Rattle.mtapi_objects.specs.Tasks.{Task, TaskState, Scheduled, Running, Ended as EndedState, runner, TallyNotes, no_tally, is_unended, runs_on, runs_as, kind_number, ended, with_notes, with_tally, Adds, tally_args, cell_in, number_in, added, tally_failed, tally_has, tally_read, tally_written}
+use Rattle.handle_pool.specs.Issued.{live_object, update, change}
+use Rattle.mtapi_objects.specs.Tasks.{Task, TaskState, Scheduled, Running, Ended as EndedState, runner, TallyNotes, no_tally, is_unended, runs_as, kind_number, ended, with_notes, with_tally, Adds, tally_args, cell_in, number_in, added, tally_failed, tally_has, tally_read, tally_written}
 use Rattle.mtapi_objects.specs.Mutexes.{Mutex, locked_by, unlocked}
 use Rattle.mtapi_objects.specs.Segments.{Segment, cell_of, with_attached, with_cell}
 use Rattle.task_core.specs.Tallies.{adds_of, notes_of, tallied}
-use Rattle.task_core.specs.Table.{TaskTable, IsLiveAnd, ended_in}
+use Rattle.task_core.specs.Table.{IsLiveAnd}
 use Rattle.task_core.specs.declared.tallies.TallyArgs.{TallyArgs}
 use Rattle.task_core.specs.declared.tallies.TallyState.{TallyState}
 use Rattle.task_core.specs.declared.tallies.TallyState.TheVariants.{Begun, Locked, Read, Written, Failed}
@@ -39,9 +38,8 @@ use Rattle.mtapi_machine.specs.TallyRows.{on_tally, locks}
 use Rattle.mtapi_machine.specs.Legal.{IsHonest}
 use Rattle.mtapi_machine.proofs.Made.{fst_true}
 use Rattle.history_law.specs.TallyHolds.{got_both, IsOwned, IsAttached, HoldsBoth}
-use Rattle.node_resources.specs.Holds.{ResourceTable, ResourceLists, HoldsAll, resource_lists, Stands}
+use Rattle.node_resources.specs.Holds.{ResourceTable, HoldsAll, resource_lists, Stands}
 use Rattle.node_resources.specs.Tallies.{after_lock, Locks}
-use Rattle.node_resources.specs.declared.tally_ops.TallyLock.{TallyLock}
 use Rattle.node_resources.specs.declared.tally_ops.TallyLock.TheVariants.{Both, Owned, Absent}
 use Rattle.node_resources.proofs.TallyLemmas.{changed_as}
 use Rattle.node_steps.specs.declared.node.Node.{Node}

@@ -1,13 +1,11 @@
 -- Whether main has closed, and nobody else has an entry behind that, one entry on.
 use Rattle.std.proofs.Common.{◌≡◌, ℕ, ◌+◌, ◌-◌, ◌<◌, ◌≤◌, Bool, true, false, cond, List, [], ◌∷◌, ◌++◌, ◌⊎◌, inl, inr, append_assoc, refl, sym, ◌∙◌, ap, subst, length, get_or, take, arith}
-use Rattle.std.specs.Prelude.{◌&&◌, ◌==◌, nat_le, ◌↔◌, IsTrue, if◌then◌else◌}
+use Rattle.std.specs.Prelude.{◌==◌, ◌↔◌, IsTrue}
 use Rattle.std.proofs.lemmas.Grind.{take_at_read}
 use Rattle.std.proofs.Math.Seq.{take-length}
 use Rattle.std.proofs.lemmas.Bool.Decides.{Decides-eqb}
 use Rattle.history.specs.Histories.{entry, entries_of}
-use Rattle.mtapi_machine.specs.declared.ops.Op.{Op}
 use Rattle.mtapi_machine.specs.declared.ops.Op.TheVariants as ops
-use Rattle.mtapi_machine.specs.declared.replies.Reply.{Reply}
 use Rattle.mtapi_machine.specs.declared.replies.Reply.TheVariants as replies
 use Rattle.mtapi_machine.specs.Legal.{NodeEntry}
 use Rattle.sched_workers.specs.RunOf.{ClosesAtEnd}

@@ -1,5 +1,5 @@
 -- Which calls the front of a list of lines is made by.
-use Rattle.std.proofs.Common.{◌≡◌, ℕ, suc, ◌+◌, ◌-◌, ◌<◌, ◌≤◌, Bool, true, false, List, [], ◌∷◌, ◌++◌, Option, Some, None, arith, refl, sym, ◌∙◌, ap, subst, length, take, drop, get_or}
+use Rattle.std.proofs.Common.{◌≡◌, ℕ, suc, ◌+◌, ◌-◌, ◌≤◌, Bool, true, false, List, [], ◌∷◌, ◌++◌, Option, Some, None, arith, refl, sym, ◌∙◌, ap, subst, length, take, drop, get_or}
 use Rattle.std.proofs.Math.Seq.{take-length}
 use Rattle.mtapi_values.specs.declared.timeouts.Timeout.{Timeout}
 use Rattle.mtapi_machine.specs.declared.ops.Op.{Op}
@@ -11,7 +11,7 @@ use Rattle.sched_workers.specs.declared.calls.Wanted.{Wanted}
 use Rattle.sched_workers.specs.declared.calls.Wanted.TheVariants.{Task, Entrance, AllMembers, FirstMember, Mutex, Sem, Rwl}
 use Rattle.sched_workers.specs.Calls.{Looking}
 use Rattle.sched_workers.specs.Wants.{op_of, waits, IsTimed}
-use Rattle.sched_workers.specs.Lines.{Line, line, Looked, before_it, looks_before}
+use Rattle.sched_workers.specs.Lines.{Line, line, before_it, looks_before}
 use Rattle.run_check.specs.Takes.{Takes, DecidesAs, Decides}
 
 -- whether a look is the last one

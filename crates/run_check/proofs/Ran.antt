@@ -1,5 +1,5 @@
 -- The lines of a part, from what its statements leave behind.
-use Rattle.std.proofs.Common.{◌≡◌, ℕ, ◌+◌, ◌<◌, ◌≤◌, Bool, true, false, List, [], ◌∷◌, ◌++◌, refl, sym, ◌∙◌, ap, subst, length, get_or, take, drop, Option, Some, None, arith, append_assoc, length-drop}
+use Rattle.std.proofs.Common.{◌≡◌, ℕ, ◌+◌, ◌<◌, ◌≤◌, Bool, true, false, List, [], ◌∷◌, ◌++◌, refl, sym, ◌∙◌, ap, subst, length, get_or, drop, Option, Some, None, arith, append_assoc, length-drop}
 use Rattle.std.specs.Prelude.{◌&&◌, ◌==◌, ◌↔◌, IsTrue, IfSome, IfNone}
 use Rattle.std.proofs.lemmas.List.{append-nil, nil_from_length, drop_more}
 use Rattle.std.proofs.lemmas.Bool.Decides.{Decides-eqb}
@@ -12,7 +12,7 @@ use Rattle.sched_workers.specs.Calls.{call_of}
 use Rattle.sched_workers.specs.Parts.{Carried, MainRan, CallerRan, has_begin}
 use Rattle.sched_workers.specs.Lines.{Line, line, Made, head_of, tail_of_main, in_lines}
 use Rattle.sched_workers.specs.RunOf.{is_work, all_work}
-use Rattle.run_check.specs.Takes.{Takes, CarriedTo}
+use Rattle.run_check.specs.Takes.{CarriedTo}
 use Rattle.run_check.specs.Starts.{Enters}
 use Rattle.run_check.proofs.Same.{takes_same}
 

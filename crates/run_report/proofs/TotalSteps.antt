@@ -1,5 +1,5 @@
 -- Totals, one number after another.
-use Rattle.std.proofs.Common.{◌≡◌, ℕ, ℤ, ◌+ℤ◌, sym, ◌∙◌, ap}
+use Rattle.std.proofs.Common.{◌≡◌, ℤ, sym, ◌∙◌, ap}
 use Rattle.run_report.specs.declared.totals.Totals.{Totals}
 use Rattle.run_report.specs.Summary.{with_number}
 

@@ -8,19 +8,19 @@ use Rattle.mtapi_machine.specs.declared.ops.Op.{Op}
 use Rattle.mtapi_machine.specs.declared.ops.Op.TheVariants as op
 use Rattle.mtapi_machine.specs.declared.replies.Reply.{Reply}
 use Rattle.mtapi_machine.specs.declared.replies.Reply.TheVariants as reply
-use Rattle.handle_pool.specs.Issued.{Listed, live_object, change, issue, with_fields, gone}
+use Rattle.handle_pool.specs.Issued.{live_object, change, with_fields, gone}
 use Rattle.mtapi_objects.specs.Tasks.{Adds, tally_args}
 use Rattle.mtapi_objects.specs.Mutexes.{Mutex, new_mutex, mutex_busy, locked_by, unlocked}
 use Rattle.mtapi_machine.specs.State.{State}
 use Rattle.mtapi_machine.specs.Moves.{Move, Mutexes, all_of, is_fresh, makes, alters, removes, apply, after_moves}
-use Rattle.mtapi_machine.specs.Row.{Row, handle_of, moves_of}
+use Rattle.mtapi_machine.specs.Row.{handle_of, moves_of}
 use Rattle.mtapi_machine.specs.Rows.{row}
 use Rattle.mtapi_machine.specs.TallyRows.{takes_both, locks}
 use Rattle.mtapi_machine.specs.Laws.{IsMade, AltersObject, RemovesObject, makes_kind}
-use Rattle.mtapi_machine.specs.Legal.{NodeEntry, IsNext, next, LegalFrom, after_from}
+use Rattle.mtapi_machine.specs.Legal.{NodeEntry, next, LegalFrom, after_from}
 use Rattle.mtapi_machine.proofs.Made.{AllGives, moves_given, on_live, on_only}
 use Rattle.mtapi_machine.proofs.Moves.{by_moves as made_moves}
-use Rattle.history_law.proofs.Answered.{true_false, first_false, second_false, gives_cond}
+use Rattle.history_law.proofs.Answered.{true_false, second_false, gives_cond}
 use Rattle.history_law.proofs.Every.{Every, every_issue, every_change}
 
 -- at most 64 deep, and 0 where nobody owns it

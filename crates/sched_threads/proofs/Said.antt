@@ -1,11 +1,10 @@
 -- What the calls of a caller answer follows from the rows of their ops.
-use Rattle.std.proofs.Common.{◌≡◌, ℕ, Bool, true, false, cond, List, [], ◌∷◌, Option, Some, None, Result, Ok, Err, inl, inr, refl, ap, sym, subst, arith}
-use Rattle.std.specs.Prelude.{IfOk, OnErr, ◌==◌, ◌^◌, ◌+◌, ◌≤◌, nat_lt, is_some, pos}
+use Rattle.std.proofs.Common.{◌≡◌, ℕ, Bool, true, false, cond, List, [], ◌∷◌, Option, Some, None, Result, Ok, Err, inl, inr, refl, ap, arith}
+use Rattle.std.specs.Prelude.{IfOk, OnErr, ◌==◌, ◌^◌, ◌+◌, ◌≤◌, is_some, pos}
 use Rattle.std.proofs.lemmas.Bool.{lt-ltb}
 use Rattle.std.specs.Option.{option_or}
 use Rattle.mtapi_values.specs.declared.statuses.MtapiStatus.{MtapiStatus}
 use Rattle.mtapi_values.specs.declared.statuses.MtapiStatus.TheVariants as m
-use Rattle.mtapi_values.specs.declared.statuses.MrapiStatus.TheVariants as c
 use Rattle.mtapi_values.specs.declared.ends.TaskEnd.{TaskEnd}
 use Rattle.mtapi_values.specs.declared.ends.TaskEnd.TheVariants.{Completed, Cancelled, Failed}
 use Rattle.mtapi_machine.specs.declared.ops.Op.{Op}
@@ -35,7 +34,7 @@ use Rattle.sched_threads.specs.Turns.{Seat, Turned, Unturned}
 use Rattle.sched_threads.specs.Looks.{Looked, StillLooking}
 use Rattle.sched_workers.specs.Wants.{op_of, IsTimed}
 use Rattle.sched_threads.specs.Answers.{AnsweredBy, Called, Waited}
-use Rattle.sched_threads.specs.Replies.{Standard, mtapi, mrapi, done, given, key, says, fits, found}
+use Rattle.sched_threads.specs.Replies.{Standard, mtapi, mrapi, done, key, says, fits, found}
 use Rattle.sched_threads.proofs.OwnEntries.{turned_next, state_at, self_is}
 use Rattle.sched_threads.proofs.Depths.{Shallow}
 use Rattle.sched_threads.proofs.WantedRows.{on_cond, AllEarly, endings_early, wanted_decides}

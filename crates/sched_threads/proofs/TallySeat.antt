@@ -1,18 +1,17 @@
 -- The turns of a worker that executes a tally, from what its seat has seen to what it has seen then.
-use Rattle.std.proofs.Common.{◌≡◌, ℕ, zero, suc, ◌+◌, ◌<◌, Bool, true, false, cond, List, [], ◌∷◌, ◌++◌, Option, Some, None, replicate, refl, sym, ◌∙◌, ap, subst, arith, append_assoc, ℤ}
-use Rattle.std.specs.Prelude.{◌==◌, ◌&&◌, ◌||◌, nat_lt, ◌+ℤ◌}
+use Rattle.std.proofs.Common.{◌≡◌, ℕ, zero, suc, Bool, true, false, cond, List, [], ◌∷◌, ◌++◌, Option, Some, None, replicate, refl, sym, ◌∙◌, ap, subst, append_assoc, ℤ}
 use Rattle.std.proofs.lemmas.List.{append-nil}
 use Rattle.history.specs.Histories.{entry}
 use Rattle.mtapi_values.specs.declared.handles.TaskHandle.{TaskHandle}
 use Rattle.action_fn.specs.Answers.{fits, fitting}
-use Rattle.mtapi_objects.specs.Tasks.{TallyNotes, no_tally, tally_args, number_in, tally_failed, tally_has, tally_read, tally_written}
+use Rattle.mtapi_objects.specs.Tasks.{TallyNotes, no_tally, tally_failed, tally_has, tally_read, tally_written}
 use Rattle.mtapi_machine.specs.declared.ops.Op.TheVariants as op
 use Rattle.mtapi_machine.specs.declared.replies.Reply.{Reply}
 use Rattle.mtapi_machine.specs.declared.replies.Reply.TheVariants as reply
 use Rattle.mtapi_machine.specs.Legal.{NodeEntry, next}
 use Rattle.sched_threads.specs.Turns.{Seat, SameSeat, Turned}
-use Rattle.sched_threads.specs.Rounds.{Tallying, GivesUp, Reads, Writes, retries, tally_steps, tally_entries, AtWork, Added, Stranded}
-use Rattle.sched_threads.specs.Steps.{Works, tallying, Does, LocksOnce, Locked, TakesBoth, sum_with, MayRead, MayWrite, ReadsCell, WritesCell, IsTallyAnswer, answer_in, AddsToCell, MayEndTally, EndsTally, Sums, Tallies}
+use Rattle.sched_threads.specs.Rounds.{Tallying, GivesUp, Reads, Writes, retries, tally_steps, AtWork, Added, Stranded}
+use Rattle.sched_threads.specs.Steps.{Works, tallying, LocksOnce, TakesBoth, sum_with, MayRead, MayWrite, ReadsCell, WritesCell, IsTallyAnswer, answer_in, AddsToCell, MayEndTally, EndsTally, Sums, Tallies}
 use Rattle.sched_threads.proofs.OwnEntries.{state_at, turned_next}
 use Rattle.sched_threads.proofs.LookLemmas.{same_then}
 use Rattle.sched_threads.proofs.TallyWork.{LockedAs, locked_as, read_as, written_as, tallied_as}

@@ -1,5 +1,5 @@
 -- What a worker's own turns do to its tally.
-use Rattle.std.proofs.Common.{◌≡◌, ℕ, ◌+◌, ◌<◌, Bool, true, false, cond, List, [], ◌∷◌, Option, Some, None, refl, sym, ◌∙◌, ap, subst, arith, ℤ, length}
+use Rattle.std.proofs.Common.{◌≡◌, ℕ, ◌<◌, Bool, true, false, cond, List, [], ◌∷◌, Option, Some, None, refl, sym, ◌∙◌, ap, subst, arith, ℤ, length}
 use Rattle.std.specs.Prelude.{◌==◌, ◌&&◌, ◌||◌, not, nat_lt, is_some, ◌+ℤ◌}
 use Rattle.std.specs.Ordering.{int_eq}
 use Rattle.std.proofs.lemmas.Bool.Decides.{Decides-int_eq}
@@ -15,17 +15,17 @@ use Rattle.mtapi_machine.specs.declared.replies.Reply.{Reply}
 use Rattle.mtapi_machine.specs.declared.replies.Reply.TheVariants.{Ok, Number, Pending, Asked, Mtapi}
 use Rattle.mtapi_machine.specs.declared.replies.Reply.TheVariants as reply
 use Rattle.mtapi_machine.specs.declared.ops.Op.TheVariants as op
-use Rattle.handle_pool.specs.Issued.{Listed, live_of, live_object, first_handle, count_listed, update, change, with_fields}
-use Rattle.mtapi_objects.specs.Tasks.{Task, TallyNotes, runs_on, runs_as, with_notes, with_tally, no_tally, ended, Adds, tally_args, cell_in, number_in, added, tally_failed, tally_has, tally_read, tally_written}
+use Rattle.handle_pool.specs.Issued.{Listed, live_object, count_listed, update, with_fields}
+use Rattle.mtapi_objects.specs.Tasks.{Task, TallyNotes, runs_on, runs_as, with_notes, with_tally, Adds, tally_args, cell_in, number_in, added, tally_failed, tally_has, tally_read, tally_written}
 use Rattle.mtapi_objects.specs.Mutexes.{Mutex, locked_by, unlocked}
 use Rattle.mtapi_objects.specs.Segments.{Segment, cell_of, with_attached, with_cell}
-use Rattle.mtapi_machine.specs.State.{State, workers, segments, mutexes}
+use Rattle.mtapi_machine.specs.State.{State, workers}
 use Rattle.mtapi_machine.specs.Moves.{Mutexes, Segments, alters, notes, ends_task, after_moves}
-use Rattle.mtapi_machine.specs.Row.{Row, unless, says, gives, never, Allows, moves_of, after_row, live}
+use Rattle.mtapi_machine.specs.Row.{Row, unless, says, gives, never, Allows, after_row, live}
 use Rattle.mtapi_machine.specs.TallyRows.{takes_both, locks, gives_up, gives_back}
 use Rattle.mtapi_machine.specs.Legal.{IsNext, next}
 use Rattle.mtapi_machine.proofs.Changes.{at-update}
-use Rattle.history_law.specs.Seats.{Work, RunsWith, Holds, Free}
+use Rattle.history_law.specs.Seats.{Work, Holds, Free}
 use Rattle.history_law.proofs.Found.{count_changed}
 use Rattle.sched_workers.proofs.Rows.{Goes, pass, goes_then}
 use Rattle.sched_threads.proofs.WorkLemmas.{runs_as_its, runs_on_its, ends_free, own_goes}

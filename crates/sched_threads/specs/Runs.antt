@@ -1,8 +1,7 @@
 -- What a run gives back, and what it begins with.
-use Rattle.std.specs.Prelude.{◌≡◌, ℕ, ◌+◌, ◌≤◌, ◌^◌, List, [], ◌∷◌, ◌++◌, length, vec_len, vec_capacity, Some, slice_get}
+use Rattle.std.specs.Prelude.{◌≡◌, ℕ, ◌+◌, ◌≤◌, ◌^◌, List, [], ◌∷◌, ◌++◌, length, vec_len, vec_capacity}
 use Rattle.turn_cell.specs.Lists.{all_of}
 use Rattle.turn_cell.specs.Seats.{fresh_seat, fresh_seats, IsSeatOf}
-use Rattle.workload_file.specs.declared.workload.Part.{Part}
 use Rattle.workload_file.specs.declared.workload.Workload.{Workload}
 use Rattle.mtapi_values.specs.declared.handles.Layout.TheVariants.{Two}
 use Rattle.mtapi_machine.specs.declared.terms.Terms.{Terms}

@@ -1,6 +1,6 @@
 //! The board.
 
-ghost use Rattle.std.specs.Prelude.{◌≡◌, ◌+◌, ◌≤◌, ◌<◌, ◌^◌, ℕ, replicate, Some, None, IfSome, IsNone, IfOk, Ok, OnOk, OnErr, slice_get, is_some, not, true, false, length};
+ghost use Rattle.std.specs.Prelude.{◌≡◌, ◌+◌, ◌≤◌, ◌<◌, ◌^◌, ℕ, [], replicate, Some, None, IfSome, IsNone, IfOk, Ok, OnOk, OnErr, slice_get, is_some, not, true, false, length};
 ghost use Rattle.std.specs.Option.{option_copied, option_map};
 ghost use Rattle.std.specs.Bool.{OnTrue, OnFalse};
 ghost use Rattle.mtapi_values.specs.Attributes.{IsWithin};
@@ -98,6 +98,43 @@ impl Model for Board {
     }) };
 }
 
+// The tables that say what there is. Two functions of three calls each leave less to free on each way out than one of six.
+fn new_tables(alloc: Global, attr: NodeAttr) -> Result<(Actions, Tasks, Queues), AllocError>
+    ensures action_turns { IfOk result (λ t. t.0.generations ≡ attr.generations) }
+    ensures action_slots { IfOk result (λ t. t.0.slots ≡ replicate attr.actions (free_slot 1)) }
+    ensures task_turns { IfOk result (λ t. t.1.pool.generations ≡ attr.generations) }
+    ensures task_slots { IfOk result (λ t. t.1.pool.slots ≡ replicate attr.tasks (free_slot 1)) }
+    ensures starts { IfOk result (λ t. t.1.starts ≡ 0) }
+    ensures ends { IfOk result (λ t. t.1.ends ≡ 0) }
+    ensures queue_turns { IfOk result (λ t. t.2.pool.generations ≡ attr.generations) }
+    ensures queue_slots { IfOk result (λ t. t.2.pool.slots ≡ replicate attr.queues (free_slot 1)) }
+    ensures queue_tasks { IfOk result (λ t. t.2.tasks ≡ attr.tasks) }
+{
+    let actions = Actions::new(alloc, attr.actions(), attr.generations())?;
+    let tasks = Tasks::new(alloc, attr.tasks(), attr.generations())?;
+    let queues = Queues::new(alloc, attr.queues(), attr.generations(), attr.tasks())?;
+    Ok((actions, tasks, queues))
+}
+
+// What is kept beside the tables: the marks, the waiting tasks and the members of the groups.
+fn new_places(
+    alloc: Global,
+    attr: NodeAttr,
+) -> Result<(ReadyIndex, LinkedLists, Groups), AllocError>
+    ensures few { attr.workers ≤ 16 }
+    ensures ready { IfOk result (λ t. t.0 ≡ record { workers = attr.workers; priorities = attr.priorities; marks = replicate attr.tasks None }) }
+    ensures places { IfOk result (λ t. t.1.places ≡ attr.tasks) }
+    ensures lists { IfOk result (λ t. t.1.lists ≡ replicate 1 []) }
+    ensures group_turns { IfOk result (λ t. t.2.pool.generations ≡ attr.generations) }
+    ensures group_slots { IfOk result (λ t. t.2.pool.slots ≡ replicate attr.groups (free_slot 1)) }
+    ensures group_tasks { IfOk result (λ t. t.2.tasks ≡ attr.tasks) }
+{
+    let ready = ReadyIndex::new(alloc, attr.tasks(), attr.workers(), attr.priorities())?;
+    let waiting = LinkedLists::new(alloc, 1, attr.tasks())?;
+    let groups = Groups::new(alloc, attr.groups(), attr.generations(), attr.tasks())?;
+    Ok((ready, waiting, groups))
+}
+
 impl Board {
     /// Makes a board without actions, tasks, queues and groups, with room for as many as the
     /// settings say, and takes all the memory that they will use. It fails for want of memory
@@ -115,12 +152,8 @@ impl Board {
         ensures queue_turns { IfOk result (λ b. b.queues.pool.generations ≡ attr.generations) }
         ensures queue_slots { IfOk result (λ b. b.queues.pool.slots ≡ replicate attr.queues (free_slot 1)) }
     {
-        let actions = Actions::new(alloc, attr.actions(), attr.generations())?;
-        let tasks = Tasks::new(alloc, attr.tasks(), attr.generations())?;
-        let queues = Queues::new(alloc, attr.queues(), attr.generations(), attr.tasks())?;
-        let ready = ReadyIndex::new(alloc, attr.tasks(), attr.workers(), attr.priorities())?;
-        let waiting = LinkedLists::new(alloc, 1, attr.tasks())?;
-        let groups = Groups::new(alloc, attr.groups(), attr.generations(), attr.tasks())?;
+        let (actions, tasks, queues) = new_tables(alloc, attr)?;
+        let (ready, waiting, groups) = new_places(alloc, attr)?;
         Ok(Board {
             settings: attr,
             actions,

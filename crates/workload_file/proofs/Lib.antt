@@ -8,6 +8,7 @@ pub mod Finds
 pub mod Rows
 pub mod Facts
 pub mod Fields
+pub mod Held
 pub mod Invariant
 pub mod Founds
 pub mod Agreed

@@ -1,5 +1,5 @@
 -- What the table says of each word, each key and each deed, read off case by case.
-use Rattle.std.proofs.Common.{◌≡◌, ℕ, List, [], ◌∷◌, ◌++◌, Bool, true, false, ◌&&◌, not, eqb, Option, Some, None, refl, sym, ◌∙◌}
+use Rattle.std.proofs.Common.{◌≡◌, ℕ, List, ◌∷◌, ◌++◌, Bool, true, false, ◌&&◌, not, eqb, Option, Some, None, refl, sym, ◌∙◌}
 use Rattle.std.specs.List.{list_any, list_all}
 use Rattle.std.proofs.lemmas.Bool.{and_parts}
 use Rattle.mtapi_values.specs.Attributes.{NodeSettings}
@@ -12,13 +12,13 @@ use Rattle.workload_file.specs.declared.table.Naming.TheVariants as rule
 use Rattle.workload_file.specs.declared.workload.Deed.{Deed}
 use Rattle.workload_file.specs.declared.workload.Deed.TheVariants as deed
 use Rattle.workload_file.specs.declared.values.Value.{Value}
-use Rattle.workload_file.specs.declared.values.Value.TheVariants as given
 use Rattle.workload_file.specs.Table.{row, words, word_text, key_text, naming, fields}
 use Rattle.workload_file.specs.Options.{key_of, value_of}
 use Rattle.workload_file.specs.Deeds.{deed_spelled, word_for, used_place, values, deed_by, deed_with, setting_values}
 use Rattle.workload_file.specs.Reading.{is_comment}
 use Rattle.workload_file.proofs.Facts.{some_is}
 use Rattle.workload_file.proofs.Fields.{is_deed, not_true, are_filled}
+use Rattle.workload_file.proofs.Held.{AllHeld, all_with, all_held}
 use Rattle.workload_file.proofs.Phrases.{is_inner, is_word}
 use Rattle.workload_file.proofs.Rows.{each_word}
 
@@ -81,49 +81,54 @@ pub record IsDeed (w : Word) (place : Option ℕ) (vs : List Value) : Type 0 whe
   pub used : used_place deed ≡ place
   pub values : values deed ≡ vs
 
-pub deed_of : (w : Word) (place : Option ℕ) (vs : List Value) → is_deed w ≡ true → is_used_at (naming w) place ≡ true → are_filled (fields w) vs ≡ true → IsDeed w place vs
+deed_held : (w : Word) (place : Option ℕ) (x : AllHeld (fields w)) → is_deed w ≡ true → is_used_at (naming w) place ≡ true → IsDeed w place (all_with (fields w) x)
 unfolding row deed_spelled deed_by
-deed_of word.Begin None [] h u f = record { deed = deed.Begin; gives = refl; word = refl; used = refl; values = refl }
-deed_of word.Action None (given.Number job ∷ given.Kind kind ∷ given.Cores cores ∷ []) h u f = record { deed = (deed.Action job kind cores); gives = refl; word = refl; used = refl; values = refl }
-deed_of word.ActionDelete (Some place) [] h u f = record { deed = (deed.ActionDelete place); gives = refl; word = refl; used = refl; values = refl }
-deed_of word.ActionEnable (Some place) [] h u f = record { deed = (deed.ActionEnable place); gives = refl; word = refl; used = refl; values = refl }
-deed_of word.ActionDisable (Some place) [] h u f = record { deed = (deed.ActionDisable place); gives = refl; word = refl; used = refl; values = refl }
-deed_of word.Start None (given.Number job ∷ given.Args args ∷ given.Number priority ∷ given.Cores cores ∷ given.Flag detached ∷ given.Place group ∷ []) h u f = record { deed = (deed.Start job args priority cores detached group); gives = refl; word = refl; used = refl; values = refl }
-deed_of word.Enqueue None (given.Place (Some queue) ∷ given.Args args ∷ given.Cores cores ∷ given.Flag detached ∷ given.Place group ∷ []) h u f = record { deed = (deed.Enqueue queue args cores detached group); gives = refl; word = refl; used = refl; values = refl }
-deed_of word.Wait (Some place) (given.Timeout timeout ∷ []) h u f = record { deed = (deed.Wait place timeout); gives = refl; word = refl; used = refl; values = refl }
-deed_of word.Cancel (Some place) [] h u f = record { deed = (deed.Cancel place); gives = refl; word = refl; used = refl; values = refl }
-deed_of word.Group None [] h u f = record { deed = deed.Group; gives = refl; word = refl; used = refl; values = refl }
-deed_of word.WaitAll (Some place) (given.Timeout timeout ∷ []) h u f = record { deed = (deed.WaitAll place timeout); gives = refl; word = refl; used = refl; values = refl }
-deed_of word.WaitAny (Some place) (given.Timeout timeout ∷ []) h u f = record { deed = (deed.WaitAny place timeout); gives = refl; word = refl; used = refl; values = refl }
-deed_of word.GroupDelete (Some place) [] h u f = record { deed = (deed.GroupDelete place); gives = refl; word = refl; used = refl; values = refl }
-deed_of word.Queue None (given.Number id ∷ given.Number job ∷ given.Number priority ∷ given.Number limit ∷ given.Flag ordered ∷ given.Flag retain ∷ []) h u f = record { deed = (deed.Queue id job priority limit ordered retain); gives = refl; word = refl; used = refl; values = refl }
-deed_of word.QueueGet None (given.Number id ∷ []) h u f = record { deed = (deed.QueueGet id); gives = refl; word = refl; used = refl; values = refl }
-deed_of word.QueueEnable (Some place) [] h u f = record { deed = (deed.QueueEnable place); gives = refl; word = refl; used = refl; values = refl }
-deed_of word.QueueDisable (Some place) [] h u f = record { deed = (deed.QueueDisable place); gives = refl; word = refl; used = refl; values = refl }
-deed_of word.QueueDelete (Some place) [] h u f = record { deed = (deed.QueueDelete place); gives = refl; word = refl; used = refl; values = refl }
-deed_of word.Mutex None (given.Number id ∷ given.Flag recursive ∷ []) h u f = record { deed = (deed.Mutex id recursive); gives = refl; word = refl; used = refl; values = refl }
-deed_of word.MutexGet None (given.Number id ∷ []) h u f = record { deed = (deed.MutexGet id); gives = refl; word = refl; used = refl; values = refl }
-deed_of word.MutexDelete (Some place) [] h u f = record { deed = (deed.MutexDelete place); gives = refl; word = refl; used = refl; values = refl }
-deed_of word.Lock (Some place) (given.Timeout timeout ∷ []) h u f = record { deed = (deed.Lock place timeout); gives = refl; word = refl; used = refl; values = refl }
-deed_of word.Unlock (Some place) (given.Number key ∷ []) h u f = record { deed = (deed.Unlock place key); gives = refl; word = refl; used = refl; values = refl }
-deed_of word.Sem None (given.Number id ∷ given.Number limit ∷ []) h u f = record { deed = (deed.Sem id limit); gives = refl; word = refl; used = refl; values = refl }
-deed_of word.SemGet None (given.Number id ∷ []) h u f = record { deed = (deed.SemGet id); gives = refl; word = refl; used = refl; values = refl }
-deed_of word.SemDelete (Some place) [] h u f = record { deed = (deed.SemDelete place); gives = refl; word = refl; used = refl; values = refl }
-deed_of word.SemLock (Some place) (given.Timeout timeout ∷ []) h u f = record { deed = (deed.SemLock place timeout); gives = refl; word = refl; used = refl; values = refl }
-deed_of word.SemUnlock (Some place) [] h u f = record { deed = (deed.SemUnlock place); gives = refl; word = refl; used = refl; values = refl }
-deed_of word.Rwl None (given.Number id ∷ given.Number limit ∷ []) h u f = record { deed = (deed.Rwl id limit); gives = refl; word = refl; used = refl; values = refl }
-deed_of word.RwlGet None (given.Number id ∷ []) h u f = record { deed = (deed.RwlGet id); gives = refl; word = refl; used = refl; values = refl }
-deed_of word.RwlDelete (Some place) [] h u f = record { deed = (deed.RwlDelete place); gives = refl; word = refl; used = refl; values = refl }
-deed_of word.RwlLock (Some place) (given.Mode writer ∷ given.Timeout timeout ∷ []) h u f = record { deed = (deed.RwlLock place writer timeout); gives = refl; word = refl; used = refl; values = refl }
-deed_of word.RwlUnlock (Some place) (given.Mode writer ∷ []) h u f = record { deed = (deed.RwlUnlock place writer); gives = refl; word = refl; used = refl; values = refl }
-deed_of word.Shmem None (given.Number id ∷ given.Number cells ∷ []) h u f = record { deed = (deed.Shmem id cells); gives = refl; word = refl; used = refl; values = refl }
-deed_of word.ShmemGet None (given.Number id ∷ []) h u f = record { deed = (deed.ShmemGet id); gives = refl; word = refl; used = refl; values = refl }
-deed_of word.ShmemDelete (Some place) [] h u f = record { deed = (deed.ShmemDelete place); gives = refl; word = refl; used = refl; values = refl }
-deed_of word.Attach (Some place) [] h u f = record { deed = (deed.Attach place); gives = refl; word = refl; used = refl; values = refl }
-deed_of word.Detach (Some place) [] h u f = record { deed = (deed.Detach place); gives = refl; word = refl; used = refl; values = refl }
-deed_of word.Read (Some place) (given.Number cell ∷ []) h u f = record { deed = (deed.Read place cell); gives = refl; word = refl; used = refl; values = refl }
-deed_of word.Write (Some place) (given.Number cell ∷ given.Whole value ∷ []) h u f = record { deed = (deed.Write place cell value); gives = refl; word = refl; used = refl; values = refl }
-deed_of _ _ _ h u f = absurd cc
+deed_held word.Begin None _ h u = record { deed = deed.Begin; gives = refl; word = refl; used = refl; values = refl }
+deed_held word.Action None (job, (kind, (cores, _))) h u = record { deed = (deed.Action job kind cores); gives = refl; word = refl; used = refl; values = refl }
+deed_held word.ActionDelete (Some place) _ h u = record { deed = (deed.ActionDelete place); gives = refl; word = refl; used = refl; values = refl }
+deed_held word.ActionEnable (Some place) _ h u = record { deed = (deed.ActionEnable place); gives = refl; word = refl; used = refl; values = refl }
+deed_held word.ActionDisable (Some place) _ h u = record { deed = (deed.ActionDisable place); gives = refl; word = refl; used = refl; values = refl }
+deed_held word.Start None (job, (args, (priority, (cores, (detached, (group, _)))))) h u = record { deed = (deed.Start job args priority cores detached group); gives = refl; word = refl; used = refl; values = refl }
+deed_held word.Enqueue None (queue, (args, (cores, (detached, (group, _))))) h u = record { deed = (deed.Enqueue queue args cores detached group); gives = refl; word = refl; used = refl; values = refl }
+deed_held word.Wait (Some place) (timeout, _) h u = record { deed = (deed.Wait place timeout); gives = refl; word = refl; used = refl; values = refl }
+deed_held word.Cancel (Some place) _ h u = record { deed = (deed.Cancel place); gives = refl; word = refl; used = refl; values = refl }
+deed_held word.Group None _ h u = record { deed = deed.Group; gives = refl; word = refl; used = refl; values = refl }
+deed_held word.WaitAll (Some place) (timeout, _) h u = record { deed = (deed.WaitAll place timeout); gives = refl; word = refl; used = refl; values = refl }
+deed_held word.WaitAny (Some place) (timeout, _) h u = record { deed = (deed.WaitAny place timeout); gives = refl; word = refl; used = refl; values = refl }
+deed_held word.GroupDelete (Some place) _ h u = record { deed = (deed.GroupDelete place); gives = refl; word = refl; used = refl; values = refl }
+deed_held word.Queue None (id, (job, (priority, (limit, (ordered, (retain, _)))))) h u = record { deed = (deed.Queue id job priority limit ordered retain); gives = refl; word = refl; used = refl; values = refl }
+deed_held word.QueueGet None (id, _) h u = record { deed = (deed.QueueGet id); gives = refl; word = refl; used = refl; values = refl }
+deed_held word.QueueEnable (Some place) _ h u = record { deed = (deed.QueueEnable place); gives = refl; word = refl; used = refl; values = refl }
+deed_held word.QueueDisable (Some place) _ h u = record { deed = (deed.QueueDisable place); gives = refl; word = refl; used = refl; values = refl }
+deed_held word.QueueDelete (Some place) _ h u = record { deed = (deed.QueueDelete place); gives = refl; word = refl; used = refl; values = refl }
+deed_held word.Mutex None (id, (recursive, _)) h u = record { deed = (deed.Mutex id recursive); gives = refl; word = refl; used = refl; values = refl }
+deed_held word.MutexGet None (id, _) h u = record { deed = (deed.MutexGet id); gives = refl; word = refl; used = refl; values = refl }
+deed_held word.MutexDelete (Some place) _ h u = record { deed = (deed.MutexDelete place); gives = refl; word = refl; used = refl; values = refl }
+deed_held word.Lock (Some place) (timeout, _) h u = record { deed = (deed.Lock place timeout); gives = refl; word = refl; used = refl; values = refl }
+deed_held word.Unlock (Some place) (key, _) h u = record { deed = (deed.Unlock place key); gives = refl; word = refl; used = refl; values = refl }
+deed_held word.Sem None (id, (limit, _)) h u = record { deed = (deed.Sem id limit); gives = refl; word = refl; used = refl; values = refl }
+deed_held word.SemGet None (id, _) h u = record { deed = (deed.SemGet id); gives = refl; word = refl; used = refl; values = refl }
+deed_held word.SemDelete (Some place) _ h u = record { deed = (deed.SemDelete place); gives = refl; word = refl; used = refl; values = refl }
+deed_held word.SemLock (Some place) (timeout, _) h u = record { deed = (deed.SemLock place timeout); gives = refl; word = refl; used = refl; values = refl }
+deed_held word.SemUnlock (Some place) _ h u = record { deed = (deed.SemUnlock place); gives = refl; word = refl; used = refl; values = refl }
+deed_held word.Rwl None (id, (limit, _)) h u = record { deed = (deed.Rwl id limit); gives = refl; word = refl; used = refl; values = refl }
+deed_held word.RwlGet None (id, _) h u = record { deed = (deed.RwlGet id); gives = refl; word = refl; used = refl; values = refl }
+deed_held word.RwlDelete (Some place) _ h u = record { deed = (deed.RwlDelete place); gives = refl; word = refl; used = refl; values = refl }
+deed_held word.RwlLock (Some place) (writer, (timeout, _)) h u = record { deed = (deed.RwlLock place writer timeout); gives = refl; word = refl; used = refl; values = refl }
+deed_held word.RwlUnlock (Some place) (writer, _) h u = record { deed = (deed.RwlUnlock place writer); gives = refl; word = refl; used = refl; values = refl }
+deed_held word.Shmem None (id, (cells, _)) h u = record { deed = (deed.Shmem id cells); gives = refl; word = refl; used = refl; values = refl }
+deed_held word.ShmemGet None (id, _) h u = record { deed = (deed.ShmemGet id); gives = refl; word = refl; used = refl; values = refl }
+deed_held word.ShmemDelete (Some place) _ h u = record { deed = (deed.ShmemDelete place); gives = refl; word = refl; used = refl; values = refl }
+deed_held word.Attach (Some place) _ h u = record { deed = (deed.Attach place); gives = refl; word = refl; used = refl; values = refl }
+deed_held word.Detach (Some place) _ h u = record { deed = (deed.Detach place); gives = refl; word = refl; used = refl; values = refl }
+deed_held word.Read (Some place) (cell, _) h u = record { deed = (deed.Read place cell); gives = refl; word = refl; used = refl; values = refl }
+deed_held word.Write (Some place) (cell, (value, _)) h u = record { deed = (deed.Write place cell value); gives = refl; word = refl; used = refl; values = refl }
+deed_held _ _ _ h u = absurd cc
+
+pub deed_of : (w : Word) (place : Option ℕ) (vs : List Value) → is_deed w ≡ true → is_used_at (naming w) place ≡ true → are_filled (fields w) vs ≡ true → IsDeed w place vs
+deed_of w place vs h u f =
+    let held = all_held (fields w) vs f in
+    rw held.1 (deed_held w place held.0 h u)
 
 pub deed_is : (w : Word) (place : Option ℕ) (vs : List Value) (d : Deed) → IsDeed w place vs → deed_with w place vs ≡ Some d → (word_for d ≡ w) × (used_place d ≡ place) × (values d ≡ vs)
 deed_is w place vs d is e =
@@ -132,8 +137,12 @@ deed_is w place vs d is e =
 
 -- ---- settings
 
+node_held : (x : AllHeld (fields word.Node)) → (s : NodeSettings) × (setting_values s ≡ all_with (fields word.Node) x)
+unfolding row
+node_held (a, (b, (c, (d, (e, (f, (g, (h, _)))))))) = (record { workers = a; tasks = b; actions = c; groups = d; queues = e; objects = f; priorities = g; generations = h }, refl)
+
 -- there are settings of the values of a node line
 pub node_values : (vs : List Value) → are_filled (fields word.Node) vs ≡ true → (s : NodeSettings) × (setting_values s ≡ vs)
-unfolding row
-node_values (given.Number a ∷ given.Number b ∷ given.Number c ∷ given.Number d ∷ given.Number e ∷ given.Number f ∷ given.Number g ∷ given.Number h ∷ []) is = (record { workers = a; tasks = b; actions = c; groups = d; queues = e; objects = f; priorities = g; generations = h }, refl)
-node_values _ is = absurd cc
+node_values vs is =
+    let held = all_held (fields word.Node) vs is in
+    rw held.1 (node_held held.0)

@@ -1,7 +1,7 @@
-use Rattle.std.proofs.Common.{◌≡◌, ℕ, List, Option, Some, None, subst}
-use Rattle.mtapi_machine.specs.Legal.{NodeEntry, Legal}
+use Rattle.std.proofs.Common.{List, subst}
+use Rattle.mtapi_machine.specs.Legal.{NodeEntry}
 use Rattle.journal_check.specs.Judged.{IsLegalOr}
-use Rattle.journal_check.specs.Verdicts.{terms_of, IsLegal, IsFirstIllegal, IsRun}
+use Rattle.journal_check.specs.Verdicts.{terms_of}
 use Rattle.journal_check.proofs.Told.{illegal_verdict, yes_verdict, not_run_verdict}
 use Rattle.journal_check.proofs.check.check_run.Goals as goal
 

@@ -1,4 +1,4 @@
-use Rattle.std.proofs.Common.{◌≡◌, ◌<◌, ◌≤◌, length, arith}
+use Rattle.std.proofs.Common.{arith}
 use Rattle.journal_check.proofs.check.runs.Goals as goal
 
 pub is_run-requires-clause-seats : goal.is_run-requires-clause-seats

@@ -1,4 +1,4 @@
-use Rattle.std.proofs.Common.{◌≡◌, ◌∙◌}
+use Rattle.std.proofs.Common.{◌∙◌}
 use Rattle.run_check.proofs.Owns.{own_none, own_next}
 use Rattle.run_check.proofs.lines.lines_of.Goals as goal
 

@@ -1,9 +1,9 @@
-use Rattle.std.proofs.Common.{◌≡◌, ◌∙◌, ap, subst, ℕ, List}
+use Rattle.std.proofs.Common.{subst, ℕ, List}
 use Rattle.mtapi_machine.specs.declared.replies.Reply.{Reply}
 use Rattle.sched_workers.specs.Calls.{call_of}
 use Rattle.sched_workers.specs.Lines.{Line}
 use Rattle.run_check.specs.Takes.{Takes}
-use Rattle.run_check.proofs.Reached.{at_start, one_more, none_more, at_end}
+use Rattle.run_check.proofs.Reached.{one_more, none_more, at_end}
 use Rattle.run_check.proofs.made.carried.Goals as goal
 
 pub returns-in-None-clause-none : goal.returns-in-None-clause-none

@@ -1,4 +1,4 @@
-use Rattle.std.proofs.Common.{◌≡◌, ◌∙◌, ◌+◌, ◌-◌, Bool, true, false, List, ◌∷◌, refl, sym, ap, subst, length, take, drop, ℕ}
+use Rattle.std.proofs.Common.{◌≡◌, ◌∙◌, ◌+◌, ◌-◌, true, false, List, ◌∷◌, refl, sym, ap, subst, length, take, drop, ℕ}
 use Rattle.mtapi_machine.specs.declared.replies.Reply.{Reply}
 use Rattle.mtapi_machine.specs.Kept.{is_pending}
 use Rattle.sched_workers.specs.Calls.{Looking}

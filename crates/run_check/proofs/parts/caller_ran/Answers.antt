@@ -1,4 +1,4 @@
-use Rattle.std.proofs.Common.{◌≡◌, ◌-◌, take, drop, length, refl}
+use Rattle.std.proofs.Common.{◌-◌, take, drop, length, refl}
 use Rattle.run_check.proofs.Fronts.{at_front}
 use Rattle.run_check.proofs.Ran.{caller_some, caller_none, some_of, none_of, is_nil}
 use Rattle.run_check.proofs.parts.caller_ran.Goals as goal

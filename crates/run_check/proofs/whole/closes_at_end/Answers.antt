@@ -1,4 +1,4 @@
-use Rattle.std.proofs.Common.{◌≡◌, ◌-◌, take, length, refl}
+use Rattle.std.proofs.Common.{◌-◌, take, length, refl}
 use Rattle.run_check.proofs.Ended.{ends_by, at_last}
 use Rattle.run_check.proofs.whole.closes_at_end.Goals as goal
 

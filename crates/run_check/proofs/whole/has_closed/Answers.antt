@@ -1,4 +1,4 @@
-use Rattle.std.proofs.Common.{◌≡◌, refl, take}
+use Rattle.std.proofs.Common.{refl, take}
 use Rattle.run_check.proofs.Ended.{closes_none, closes_at}
 use Rattle.run_check.proofs.whole.has_closed.Goals as goal
 

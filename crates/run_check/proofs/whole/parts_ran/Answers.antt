@@ -1,4 +1,4 @@
-use Rattle.std.proofs.Common.{◌≡◌, ◌+◌, ◌-◌, ℕ, List, refl, sym, subst, length, take, drop}
+use Rattle.std.proofs.Common.{◌+◌, ◌-◌, ℕ, List, refl, sym, subst, length, take, drop}
 use Rattle.std.specs.Prelude.{IsTrue, ◌↔◌}
 use Rattle.workload_file.specs.declared.workload.Part.{Part}
 use Rattle.sched_workers.specs.Lines.{Line, lines_of}

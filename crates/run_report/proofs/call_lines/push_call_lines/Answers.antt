@@ -1,4 +1,4 @@
-use Rattle.std.proofs.Common.{◌≡◌, ◌++◌, ◌∙◌, ap, List, ℕ}
+use Rattle.std.proofs.Common.{◌++◌, ◌∙◌, ap, List, ℕ}
 use Rattle.run_report.proofs.Zips.{on_ok}
 use Rattle.run_report.proofs.call_lines.push_call_lines.Goals as goal
 

@@ -1,7 +1,6 @@
 use Rattle.std.specs.Prelude.{nat_eq}
-use Rattle.std.proofs.Common.{arith}
 use Rattle.std.specs.HashMap.{get}
-use Rattle.run_report.proofs.Summaries.{further_with, if_totals, statements_more}
+use Rattle.run_report.proofs.Summaries.{further_with, if_totals}
 use Rattle.run_report.proofs.summary.+with_further.Goals as goal
 
 pub returns-in_ok-with-in-len1-up : goal.returns-in_ok-with-in-len1-up

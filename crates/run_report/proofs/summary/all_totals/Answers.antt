@@ -1,5 +1,4 @@
 use Rattle.std.specs.Prelude.{nat_eq}
-use Rattle.std.proofs.Common.{arith, ◌∙◌}
 use Rattle.std.specs.HashMap.{get}
 use Rattle.run_report.specs.Summary.{no_totals}
 use Rattle.run_report.proofs.Summaries.{all_with, if_totals, part_is}

@@ -1,5 +1,4 @@
 use Rattle.std.proofs.Common.{rules}
-use Rattle.run_report.specs.Summary.{totals_text}
 use Rattle.run_report.proofs.Summaries.{line_is}
 use Rattle.run_report.proofs.summary.line_of.Goals as goal
 

@@ -1,10 +1,9 @@
-use Rattle.std.proofs.Common.{◌≡◌, ℕ, ◌+◌, List, [], length, sym, ap, ◌∙◌, subst, arith, vec_len}
+use Rattle.std.proofs.Common.{◌≡◌, ℕ, ◌+◌, List, [], length, sym, ap, ◌∙◌, arith, vec_len}
 use Rattle.std.specs.Prelude.{◌-◌}
 use Rattle.turn_cell.specs.Seats.{fresh_seats}
 use Rattle.node_core.specs.Stands.{history_of}
 use Rattle.node_core.specs.Logs.{journal_terms, journal_seats}
 use Rattle.mtapi_machine.specs.declared.terms.Terms.{Terms}
-use Rattle.workload_file.specs.declared.workload.Statement.{Statement}
 use Rattle.workload_file.specs.declared.workload.Part.{Part}
 use Rattle.sched_threads.proofs.Deals.{begun, first_part, all_ready, crew_complete, ran}
 use Rattle.sched_threads.proofs.run.run_node.Goals as goal
