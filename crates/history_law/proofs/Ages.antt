@@ -1,13 +1,14 @@
 -- What each move does to the objects of one kind: they stay listed, none comes back to life, and a new one has a new handle.
 use Rattle.std.proofs.Common.{◌≡◌, ℕ, ◌+◌, ◌≤◌, Bool, true, false, cond, List, [], ◌∷◌, Some, refl, sym, ◌∙◌, ap, subst, arith}
 use Rattle.std.specs.Prelude.{◌==◌, ◌&&◌, is_some}
+use Rattle.std.proofs.lemmas.Bool.{cond_both}
 use Rattle.mtapi_values.specs.declared.handles.ObjectKind.{ObjectKind}
 use Rattle.mtapi_values.specs.declared.handles.ObjectKind.TheVariants as kind
 use Rattle.mtapi_values.specs.declared.ends.TaskEnd.{TaskEnd}
 use Rattle.mtapi_values.specs.declared.ends.TaskEnd.TheVariants.{Failed}
 use Rattle.mtapi_machine.specs.declared.ops.Op.{Op}
 use Rattle.mtapi_machine.specs.declared.ops.Op.TheVariants as op
-use Rattle.handle_pool.specs.Issued.{Listed, live_of, lookup, live_object, listed, change, change_all, issue, with_fields, gone}
+use Rattle.handle_pool.specs.Issued.{Listed, live_of, live_object, listed, change, change_all, issue, with_fields, gone}
 use Rattle.mtapi_objects.specs.Actions.{Action, with_enabled}
 use Rattle.mtapi_objects.specs.Queues.{Queue, opened}
 use Rattle.mtapi_objects.specs.Tasks.{Task, Notes, TaskState, Ended, Running, with_state, with_notes, ended, end_each, new_task}
@@ -20,6 +21,9 @@ use Rattle.mtapi_machine.proofs.Moves.{sorts_keep}
 use Rattle.history_law.specs.Words.{FieldsOf, objects_of}
 use Rattle.history_law.proofs.Moves.{opens_fresh}
 use Rattle.history_law.proofs.Sorts.{sort_move}
+use Rattle.mtapi_machine.proofs.Changes.{some_same}
+use Rattle.history_law.proofs.Answered.{true_false}
+use Rattle.history_law.proofs.Found.{at_head, at_here, at_past}
 
 -- What no move changes of an object
 
@@ -87,20 +91,12 @@ module _ {T : Type 0} (K : T → T → Type 0) where
     each_change : (h : ℕ) (f : Listed T → Listed T) (l : List (Listed T)) → ((r : Listed T) → Ages K r (f r)) → AgesEach l (change h f l)
     unfolding change
     each_change h f [] k = tt
-    each_change h f (r ∷ rs) k = by_test (r.live && (r.handle == h)) (each_change h f rs k)
-      where
-        by_test : (b : Bool) → AgesEach rs (change h f rs) → AgesEach (r ∷ rs) (cond b (f r ∷ rs) (r ∷ change h f rs))
-        by_test true m = (k r, each_same rs)
-        by_test false m = (ages_same r, m)
+    each_change h f (r ∷ rs) k = cond_both (r.live && (r.handle == h)) (f r ∷ rs) (r ∷ change h f rs) (AgesEach (r ∷ rs)) (λ e. (k r, each_same rs)) (λ e. (ages_same r, each_change h f rs k))
 
     each_all : (p : T → Bool) (f : Listed T → Listed T) (l : List (Listed T)) → ((r : Listed T) → Ages K r (f r)) → AgesEach l (change_all p f l)
     unfolding change_all
     each_all p f [] k = tt
-    each_all p f (r ∷ rs) k = (by_test (r.live && p r.fields), each_all p f rs k)
-      where
-        by_test : (b : Bool) → Ages K r (cond b (f r) r)
-        by_test true = k r
-        by_test false = ages_same r
+    each_all p f (r ∷ rs) k = (cond_both (r.live && p r.fields) (f r) r (Ages K r) (λ e. k r) (λ e. ages_same r), each_all p f rs k)
 
     gone_ages : (r : Listed T) → Ages K r (gone r)
     gone_ages r = record { handle = refl; dead = λ d. refl; fields = same r.fields }
@@ -123,11 +119,7 @@ ended_ages e n r = record { handle = refl; dead = and_dead r.live _; fields = st
 each_ends : (p : Task → Bool) (e : TaskEnd) (n : ℕ) (l : List (Listed Task)) → AgesEach SameTask l (end_each p e n l)
 unfolding end_each
 each_ends p e n [] = tt
-each_ends p e n (r ∷ rs) = by_test (r.live && p r.fields) (each_ends p e n rs) (each_ends p e (n + 1) rs)
-  where
-    by_test : (b : Bool) → AgesEach SameTask rs (end_each p e n rs) → AgesEach SameTask rs (end_each p e (n + 1) rs) → AgesEach SameTask (r ∷ rs) (cond b (ended e n r ∷ end_each p e (n + 1) rs) (r ∷ end_each p e n rs))
-    by_test true g m = (ended_ages e n r, m)
-    by_test false g m = (ages_same SameTask same_task r, g)
+each_ends p e n (r ∷ rs) = cond_both (r.live && p r.fields) (ended e n r ∷ end_each p e (n + 1) rs) (r ∷ end_each p e n rs) (AgesEach SameTask (r ∷ rs)) (λ c. (ended_ages e n r, each_ends p e (n + 1) rs)) (λ c. (ages_same SameTask same_task r, each_ends p e n rs))
 
 freed_ages : (r : Listed Task) → Ages SameTask r (freed r)
 freed_ages r = record { handle = refl; dead = λ d. refl; fields = record { job = refl; args = refl; priority = refl; cores = refl; queue = refl; start = refl } }
@@ -228,45 +220,21 @@ module _ {T : Type 0} where
   pub dead_none : (h : ℕ) (l : List (Listed T)) → Dead h l → is_some (live_object l h) ≡ false
   unfolding live_of
   dead_none h [] d = refl
-  dead_none h (r ∷ rs) d = by_live r.live (λ e. d.0 e) (dead_none h rs d.1)
-    where
-      by_hand : (b : Bool) → (b ≡ true → true ≡ false) → is_some (live_object rs h) ≡ false → is_some (cond b (Some r.fields) (live_object rs h)) ≡ false
-      by_hand true k m = k refl
-      by_hand false k m = m
-
-      by_live : (a : Bool) → ((r.handle == h) ≡ true → a ≡ false) → is_some (live_object rs h) ≡ false → is_some (lookup (cond a ((r.handle, r.fields) ∷ live_of rs) (live_of rs)) h) ≡ false
-      by_live true k m = by_hand (r.handle == h) k m
-      by_live false k m = m
+  dead_none h (r ∷ rs) d = at_head r h (λ a b. true_false a (d.0 b)) (λ n. ap is_some (at_past r rs h n) ∙ dead_none h rs d.1)
 
   pub none_dead : (h : ℕ) (l : List (Listed T)) → is_some (live_object l h) ≡ false → Dead h l
-  unfolding live_of
   none_dead h [] e = tt
-  none_dead h (r ∷ rs) e = by_live r.live refl e (none_dead h rs)
+  none_dead h (r ∷ rs) e = at_head r h (λ a b. true_false (ap is_some (at_here r rs h a b)) e) (λ n. (not_live r.live _ n, none_dead h rs (sym (ap is_some (at_past r rs h n)) ∙ e)))
     where
-      by_hand : (b : Bool) → (r.handle == h) ≡ b → is_some (cond b (Some r.fields) (live_object rs h)) ≡ false → (is_some (live_object rs h) ≡ false → Dead h rs) → Dead h (r ∷ rs)
-      by_hand true k m g = absurd (cc)
-      by_hand false k m g = ((λ i. absurd (both i k)), g m)
-        where
-          both : {b : Bool} → b ≡ true → b ≡ false → ⊥
-          both e f = cc
-
-      by_live : (a : Bool) → r.live ≡ a → is_some (lookup (cond a ((r.handle, r.fields) ∷ live_of rs) (live_of rs)) h) ≡ false → (is_some (live_object rs h) ≡ false → Dead h rs) → Dead h (r ∷ rs)
-      by_live true a m g = by_hand (r.handle == h) refl m g
-      by_live false a m g = ((λ i. a), g m)
+      not_live : (a b : Bool) → (a && b) ≡ false → b ≡ true → a ≡ false
+      not_live true b i k = true_false k i
+      not_live false b i k = refl
 
   -- what is live is listed
   pub live_listed : (h : ℕ) (l : List (Listed T)) → is_some (live_object l h) ≡ true → 1 ≤ listed h l
   unfolding live_of listed
   live_listed h [] e = absurd (cc)
-  live_listed h (r ∷ rs) e = by_live r.live e (live_listed h rs)
-    where
-      by_hand : (b : Bool) → is_some (cond b (Some r.fields) (live_object rs h)) ≡ true → (is_some (live_object rs h) ≡ true → 1 ≤ listed h rs) → 1 ≤ cond b 1 0 + listed h rs
-      by_hand true m g = omega arith
-      by_hand false m g = let k : 1 ≤ listed h rs = g m in omega arith
-
-      by_live : (a : Bool) → is_some (lookup (cond a ((r.handle, r.fields) ∷ live_of rs) (live_of rs)) h) ≡ true → (is_some (live_object rs h) ≡ true → 1 ≤ listed h rs) → 1 ≤ cond (r.handle == h) 1 0 + listed h rs
-      by_live true m g = by_hand (r.handle == h) m g
-      by_live false m g = let k : 1 ≤ listed h rs = g m in omega arith
+  live_listed h (r ∷ rs) e = at_head r h (λ a b. let k : cond {A = ℕ} (r.handle == h) 1 0 ≡ 1 = ap (λ (c : Bool). cond {A = ℕ} c 1 0) b in omega arith) (λ n. let k = live_listed h rs (sym (ap is_some (at_past r rs h n)) ∙ e) in omega arith)
 
 -- What holds of each object that was issued under a handle
 
@@ -283,30 +251,12 @@ module _ {T : Type 0} where
   pub under_none : (h : ℕ) (F : T → Type 0) (l : List (Listed T)) → listed h l ≡ 0 → Under h F l
   unfolding listed
   under_none h F [] e = tt
-  under_none h F (r ∷ rs) e = by_test (r.handle == h) refl e (under_none h F rs)
-    where
-      both : {A : Type 0} {b : Bool} → b ≡ true → b ≡ false → A
-      both e f = absurd (cc)
-
-      by_test : (b : Bool) → (r.handle == h) ≡ b → cond b 1 0 + listed h rs ≡ 0 → (listed h rs ≡ 0 → Under h F rs) → Under h F (r ∷ rs)
-      by_test true i e g = absurd (omega arith)
-      by_test false i e g = ((λ j. both j i), g (omega arith))
+  under_none h F (r ∷ rs) e = ((λ j. let k : cond {A = ℕ} (r.handle == h) 1 0 ≡ 1 = ap (λ (c : Bool). cond {A = ℕ} c 1 0) j in absurd (omega arith)), under_none h F rs (omega arith))
 
   pub under_at : (h : ℕ) (F : T → Type 0) (l : List (Listed T)) (x : T) → Under h F l → live_object l h ≡ Some x → F x
   unfolding live_of
   under_at h F [] x u e = absurd (cc)
-  under_at h F (r ∷ rs) x u e = by_live r.live e (under_at h F rs x u.1)
-    where
-      same : {a b : T} → Some a ≡ Some b → a ≡ b
-      same i = cc
-
-      by_hand : (b : Bool) → (r.handle == h) ≡ b → cond b (Some r.fields) (live_object rs h) ≡ Some x → (live_object rs h ≡ Some x → F x) → F x
-      by_hand true i e g = subst F (same e) (u.0 i)
-      by_hand false i e g = g e
-
-      by_live : (a : Bool) → lookup (cond a ((r.handle, r.fields) ∷ live_of rs) (live_of rs)) h ≡ Some x → (live_object rs h ≡ Some x → F x) → F x
-      by_live true e g = by_hand (r.handle == h) refl e g
-      by_live false e g = g e
+  under_at h F (r ∷ rs) x u e = at_head r h (λ a b. subst F (some_same (sym (at_here r rs h a b) ∙ e)) (u.0 b)) (λ n. under_at h F rs x u.1 (sym (at_past r rs h n) ∙ e))
 
   pub under_ages : (K : T → T → Type 0) (h : ℕ) (F : T → Type 0) → ((x y : T) → K x y → F x → F y) → (l m : List (Listed T)) → AgesEach K l m → Under h F l → Under h F m
   under_ages K h F g [] [] a u = tt

@@ -1,9 +1,13 @@
 -- What holds of every task that was ever issued, after a change of the list.
-use Rattle.std.proofs.Common.{◌≡◌, ℕ, ◌+◌, Bool, true, false, cond, List, [], ◌∷◌, Some, refl, subst}
+use Rattle.std.proofs.Common.{◌≡◌, ℕ, ◌+◌, Bool, true, List, [], ◌∷◌, Some, sym, ◌∙◌, subst}
 use Rattle.std.specs.Prelude.{◌==◌, ◌&&◌}
-use Rattle.handle_pool.specs.Issued.{Listed, live_of, lookup, live_object, change, change_all, issue}
+use Rattle.std.proofs.lemmas.Bool.{cond_both}
+use Rattle.handle_pool.specs.Issued.{Listed, live_of, live_object, change, change_all, issue}
 use Rattle.mtapi_values.specs.declared.ends.TaskEnd.{TaskEnd}
 use Rattle.mtapi_objects.specs.Tasks.{Task, Ended, with_state, ended, end_each}
+use Rattle.mtapi_machine.proofs.Changes.{some_same}
+use Rattle.mtapi_machine.proofs.Made.{fst_true, snd_true}
+use Rattle.history_law.proofs.Found.{at_head, at_here, at_past}
 
 module _ {T : Type 0} where
   -- P of the fields of each object
@@ -17,30 +21,15 @@ module _ {T : Type 0} where
   every_issue P j t (r ∷ rs) k a = (a.0, every_issue P j t rs k a.1)
 
   pub every_change : (P : T → Type 0) (j : ℕ) (f : Listed T → Listed T) (l : List (Listed T)) → ((r : Listed T) → live_object l j ≡ Some r.fields → P r.fields → P (f r).fields) → Every P l → Every P (change j f l)
-  unfolding change live_of
+  unfolding change
   every_change P j f [] g a = tt
-  every_change P j f (r ∷ rs) g a = by_live (λ m. every_change P j f rs m a.1) r.live g
-    where
-      by_hand : (((q : Listed T) → live_object rs j ≡ Some q.fields → P q.fields → P (f q).fields) → Every P (change j f rs)) → (b : Bool)
-          → ((q : Listed T) → cond b (Some r.fields) (live_object rs j) ≡ Some q.fields → P q.fields → P (f q).fields)
-          → Every P (cond b (f (record { handle = r.handle; live = true; fields = r.fields }) ∷ rs) (record { handle = r.handle; live = true; fields = r.fields } ∷ change j f rs))
-      by_hand rest true g = (g (record { handle = r.handle; live = true; fields = r.fields }) refl a.0, a.1)
-      by_hand rest false g = (a.0, rest g)
-
-      by_live : (((q : Listed T) → live_object rs j ≡ Some q.fields → P q.fields → P (f q).fields) → Every P (change j f rs)) → (b : Bool)
-          → ((q : Listed T) → live_object (record { handle = r.handle; live = b; fields = r.fields } ∷ rs) j ≡ Some q.fields → P q.fields → P (f q).fields)
-          → Every P (change j f (record { handle = r.handle; live = b; fields = r.fields } ∷ rs))
-      by_live rest true g = by_hand rest (r.handle == j) g
-      by_live rest false g = (a.0, rest g)
+  every_change P j f (r ∷ rs) g a = cond_both (r.live && (r.handle == j)) (f r ∷ rs) (r ∷ change j f rs) (Every P)
+      (λ e. (g r (at_here r rs j (fst_true r.live _ e) (snd_true r.live _ e)) a.0, a.1)) (λ e. (a.0, every_change P j f rs (λ q i. g q (at_past r rs j e ∙ i)) a.1))
 
   pub every_all : (P : T → Type 0) (p : T → Bool) (f : Listed T → Listed T) (l : List (Listed T)) → ((r : Listed T) → P r.fields → P (f r).fields) → Every P l → Every P (change_all p f l)
   unfolding change_all
   every_all P p f [] g a = tt
-  every_all P p f (r ∷ rs) g a = (by_test (r.live && p r.fields), every_all P p f rs g a.1)
-    where
-      by_test : (b : Bool) → P (cond b (f r) r).fields
-      by_test true = g r a.0
-      by_test false = a.0
+  every_all P p f (r ∷ rs) g a = (cond_both (r.live && p r.fields) (f r) r (λ q. P q.fields) (λ e. g r a.0) (λ e. a.0), every_all P p f rs g a.1)
 
   -- what holds of each object, and what follows
   pub every_map : (P R Q : T → Type 0) (l : List (Listed T)) → ((t : T) → P t → R t → Q t) → Every P l → Every R l → Every Q l
@@ -50,32 +39,14 @@ module _ {T : Type 0} where
   pub every_at : (P : T → Type 0) (l : List (Listed T)) (h : ℕ) (t : T) → Every P l → live_object l h ≡ Some t → P t
   unfolding live_of
   every_at P [] h t a i = absurd (cc)
-  every_at P (r ∷ rs) h t a i = by_live r.live (every_at P rs h t a.1) i
-    where
-      same : {x y : T} → Some x ≡ Some y → x ≡ y
-      same i = cc
-
-      by_hand : (b : Bool) → (live_object rs h ≡ Some t → P t) → cond b (Some r.fields) (live_object rs h) ≡ Some t → P t
-      by_hand true k i = subst P (same i) a.0
-      by_hand false k i = k i
-
-      by_live : (b : Bool) → (live_object rs h ≡ Some t → P t) → lookup (cond b ((r.handle, r.fields) ∷ live_of rs) (live_of rs)) h ≡ Some t → P t
-      by_live true k i = by_hand (r.handle == h) k i
-      by_live false k i = k i
+  every_at P (r ∷ rs) h t a i = at_head r h (λ b c. subst P (some_same (sym (at_here r rs h b c) ∙ i)) a.0) (λ n. every_at P rs h t a.1 (sym (at_past r rs h n) ∙ i))
 
 -- the tasks that pass end; the proof for one may read what holds of all before
 pub every_both : (R P : Task → Type 0) (p : Task → Bool) (e : TaskEnd) (n : ℕ) (l : List (Listed Task)) → ((t : Task) (k : ℕ) → p t ≡ true → R t → P t → P (with_state (Ended e k) t)) → Every R l → Every P l → Every P (end_each p e n l)
 unfolding end_each
 every_both R P p e n [] g b a = tt
-every_both R P p e n (r ∷ rs) g b a = by_test (r.live && p r.fields) refl (every_both R P p e n rs g b.1 a.1) (every_both R P p e (n + 1) rs g b.1 a.1)
-  where
-    snd : (c d : Bool) → (c && d) ≡ true → d ≡ true
-    snd true d i = i
-    snd false d i = absurd (cc)
-
-    by_test : (c : Bool) → (r.live && p r.fields) ≡ c → Every P (end_each p e n rs) → Every P (end_each p e (n + 1) rs) → Every P (cond c (ended e n r ∷ end_each p e (n + 1) rs) (r ∷ end_each p e n rs))
-    by_test true i x y = (g r.fields n (snd r.live _ i) b.0 a.0, y)
-    by_test false i x y = (a.0, x)
+every_both R P p e n (r ∷ rs) g b a = cond_both (r.live && p r.fields) (ended e n r ∷ end_each p e (n + 1) rs) (r ∷ end_each p e n rs) (Every P)
+    (λ c. (g r.fields n (snd_true r.live _ c) b.0 a.0, every_both R P p e (n + 1) rs g b.1 a.1)) (λ c. (a.0, every_both R P p e n rs g b.1 a.1))
 
 pub always : {T : Type 0} (l : List (Listed T)) → Every (λ (t : T). Unit {0}) l
 always [] = tt

@@ -1,7 +1,7 @@
 -- How often a handle is listed, after a change of the list.
 use Rattle.std.proofs.Common.{◌≡◌, ℕ, ◌+◌, ◌≤◌, Bool, true, false, cond, List, [], ◌∷◌, refl, sym, ap, subst, arith}
 use Rattle.std.specs.Prelude.{◌==◌, ◌&&◌}
-use Rattle.std.proofs.lemmas.Bool.{eqb-true}
+use Rattle.std.proofs.lemmas.Bool.{eqb-true, cond_both}
 use Rattle.handle_pool.specs.Issued.{Listed, change, change_all, issue, listed}
 use Rattle.mtapi_values.specs.declared.ends.TaskEnd.{TaskEnd}
 use Rattle.mtapi_objects.specs.Tasks.{Task, ended, end_each}
@@ -14,20 +14,12 @@ module _ {T : Type 0} where
   pub listed_change : (j h : ℕ) (f : Listed T → Listed T) (l : List (Listed T)) → ((r : Listed T) → (f r).handle ≡ r.handle) → listed j (change h f l) ≡ listed j l
   unfolding change
   listed_change j h f [] k = refl
-  listed_change j h f (r ∷ rs) k = by_test (r.live && (r.handle == h)) (listed_change j h f rs k)
-    where
-      by_test : (b : Bool) → listed j (change h f rs) ≡ listed j rs → listed j (cond b (f r ∷ rs) (r ∷ change h f rs)) ≡ listed j (r ∷ rs)
-      by_test true e = head_listed j (f r) r rs rs (k r) refl
-      by_test false e = head_listed j r r (change h f rs) rs refl e
+  listed_change j h f (r ∷ rs) k = cond_both (r.live && (r.handle == h)) (f r ∷ rs) (r ∷ change h f rs) (λ l. listed j l ≡ listed j (r ∷ rs)) (λ e. head_listed j (f r) r rs rs (k r) refl) (λ e. head_listed j r r (change h f rs) rs refl (listed_change j h f rs k))
 
   pub listed_all : (j : ℕ) (p : T → Bool) (f : Listed T → Listed T) (l : List (Listed T)) → ((r : Listed T) → (f r).handle ≡ r.handle) → listed j (change_all p f l) ≡ listed j l
   unfolding change_all
   listed_all j p f [] k = refl
-  listed_all j p f (r ∷ rs) k = head_listed j (cond (r.live && p r.fields) (f r) r) r (change_all p f rs) rs (by_test (r.live && p r.fields)) (listed_all j p f rs k)
-    where
-      by_test : (b : Bool) → (cond b (f r) r).handle ≡ r.handle
-      by_test true = k r
-      by_test false = refl
+  listed_all j p f (r ∷ rs) k = head_listed j (cond (r.live && p r.fields) (f r) r) r (change_all p f rs) rs (cond_both (r.live && p r.fields) (f r) r (λ q. q.handle ≡ r.handle) (λ e. k r) (λ e. refl)) (listed_all j p f rs k)
 
   pub listed_more : (j h : ℕ) (v : T) (l : List (Listed T)) → listed j (issue h v l) ≡ listed j l + cond (h == j) 1 0
   unfolding listed issue
@@ -55,8 +47,5 @@ module _ {T : Type 0} where
 pub listed_ends : (j : ℕ) (p : Task → Bool) (e : TaskEnd) (n : ℕ) (l : List (Listed Task)) → listed j (end_each p e n l) ≡ listed j l
 unfolding end_each
 listed_ends j p e n [] = refl
-listed_ends j p e n (r ∷ rs) = by_test (r.live && p r.fields) (listed_ends j p e n rs) (listed_ends j p e (n + 1) rs)
-  where
-    by_test : (b : Bool) → listed j (end_each p e n rs) ≡ listed j rs → listed j (end_each p e (n + 1) rs) ≡ listed j rs → listed j (cond b (ended e n r ∷ end_each p e (n + 1) rs) (r ∷ end_each p e n rs)) ≡ listed j (r ∷ rs)
-    by_test true x y = head_listed j (ended e n r) r (end_each p e (n + 1) rs) rs refl y
-    by_test false x y = head_listed j r r (end_each p e n rs) rs refl x
+listed_ends j p e n (r ∷ rs) = cond_both (r.live && p r.fields) (ended e n r ∷ end_each p e (n + 1) rs) (r ∷ end_each p e n rs) (λ l. listed j l ≡ listed j (r ∷ rs))
+    (λ c. head_listed j (ended e n r) r (end_each p e (n + 1) rs) rs refl (listed_ends j p e (n + 1) rs)) (λ c. head_listed j r r (end_each p e n rs) rs refl (listed_ends j p e n rs))

@@ -24,6 +24,8 @@ pub mod Answered
 pub mod OnceIssued
 pub mod Exclusion
 pub mod Counts
+pub mod Said
+pub mod Locks
 pub mod Rwls
 pub mod RwlSteps
 pub mod Firsts

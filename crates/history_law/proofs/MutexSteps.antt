@@ -1,6 +1,6 @@
 -- What each entry does to the mutexes, and so every list of entries: at most one seat holds one.
-use Rattle.std.proofs.Common.{◌≡◌, ℕ, ◌≤◌, Bool, true, false, cond, List, [], Option, Some, None, refl, sym, ◌∙◌, ap, subst, arith}
-use Rattle.std.specs.Prelude.{◌==◌, ◌&&◌, ◌||◌, not, nat_lt, is_some, length, ℤ}
+use Rattle.std.proofs.Common.{◌≡◌, ℕ, ◌≤◌, Bool, true, false, List, [], Option, Some, None, refl, sym, ◌∙◌, ap, subst, arith}
+use Rattle.std.specs.Prelude.{◌==◌, ◌&&◌, ◌||◌, ◌+◌, not, nat_lt, is_some, length, ℤ, pos}
 use Rattle.std.proofs.lemmas.Bool.{eqb-true}
 use Rattle.std.proofs.lemmas.Bool.Decides.{nat_tests}
 use Rattle.mtapi_values.specs.declared.handles.ObjectKind.TheVariants as kind
@@ -12,21 +12,22 @@ use Rattle.mtapi_machine.specs.declared.replies.Reply.{Reply}
 use Rattle.mtapi_machine.specs.declared.replies.Reply.TheVariants as reply
 use Rattle.handle_pool.specs.Issued.{Listed, live_object, listed, change, issue, with_fields, gone}
 use Rattle.mtapi_objects.specs.Tasks.{Adds, tally_args}
-use Rattle.mtapi_objects.specs.Mutexes.{Mutex, new_mutex, mutex_busy, locked_by, unlocked}
+use Rattle.mtapi_objects.specs.Mutexes.{Mutex, new_mutex, mutex_look_refusals, mutex_unlock_refusals, mutex_busy, locked_by, unlocked}
 use Rattle.mtapi_machine.specs.State.{State, workers}
 use Rattle.mtapi_machine.specs.Moves.{Move, Mutexes, after_moves}
-use Rattle.mtapi_machine.specs.Row.{Row, Allows, moves_of, after_row}
+use Rattle.mtapi_machine.specs.Row.{Allows, after_row}
 use Rattle.mtapi_machine.specs.Rows.{row}
 use Rattle.mtapi_machine.specs.TallyRows.{takes_both, locks}
-use Rattle.mtapi_machine.proofs.Made.{AllGives, given, moves_given, on_live, on_only, not_false}
+use Rattle.mtapi_machine.proofs.Made.{AllGives, moves_given, on_live, on_only, not_false}
 use Rattle.mtapi_machine.proofs.Changes.{at-update}
 use Rattle.history_law.specs.Seats.{says_ok}
 use Rattle.history_law.specs.Exclusion.{looks_at_mutex, unlocks_mutex, says_number, says_end}
 use Rattle.history_law.proofs.Reuse.{fresh_unlisted}
 use Rattle.history_law.proofs.Handles.{OnceIn}
 use Rattle.history_law.proofs.Every.{every_at}
-use Rattle.history_law.proofs.Answered.{true_false, first_false, second_false, answered, no_live, no_cond, gives_cond, Quiet}
+use Rattle.history_law.proofs.Answered.{true_false, first_false, second_false, gives_cond, Quiet}
 use Rattle.history_law.proofs.AtHandles.{at_change_other, at_issue_other, at_issue_here, at_unlisted, at_retired}
+use Rattle.history_law.proofs.Said.{said, says_look, says_alter}
 use Rattle.history_law.proofs.Unmoved.{list_stays}
 use Rattle.history_law.proofs.Ties.{Owns, id_in, Tied, Ties, as_on}
 use Rattle.history_law.proofs.Mutexes.{Step, stays, made, taken, given as gave, gone as left, got, back}
@@ -82,9 +83,6 @@ module _ (n who j : ℕ) (s : State) where
       none true = refl
       none false = refl
 
-  quiet : (p : Reply → Bool) (b : Bool) (w : Row) (r : Reply) → p r ≡ false → AllGives (Quiet p) w → Allows w r → After b false false (moves_of w)
-  quiet p b w r i g a = let none : moves_of w ≡ [] = given (Quiet p) w r (λ z k. refl) g a i in subst (After b false false) (sym none) (stays refl)
-
   -- a tally takes its mutex
   takes_step : (t cell : ℕ) (a b : Option ℕ) → nat_lt who n ≡ true → AllGives (λ x ms. After false false false ms) (takes_both s who t cell a b)
   takes_step t cell None b l = stays refl
@@ -102,24 +100,11 @@ off : (b : Bool) (c : Bool) → c ≡ false → false ≡ (b && c)
 off true c i = sym i
 off false c i = refl
 
-on : (b : Bool) (c : Bool) → c ≡ true → (b && true) ≡ (b && c)
-on b c i = ap (λ (z : Bool). b && z) (sym i)
-
-off_none : (b c : Bool) → (b && false) ≡ (false && c)
-off_none true c = refl
-off_none false c = refl
-
 deep : (key depth : ℕ) → ((key == 0) || nat_lt depth key) ≡ false → 1 ≤ depth
 deep key depth e =
     let a : (key == 0) ≡ false = first_false (key == 0) (nat_lt depth key) e in
     let b : nat_lt depth key ≡ false = second_false (key == 0) (nat_lt depth key) e in
     grind (arith, nat_tests)
-
-look_quiet : (s : State) (who : ℕ) (x : _) (last : Bool) (r : Reply) → AllGives (Quiet says_number) (row s who (op.MutexLook x last) r)
-look_quiet s who x last r = λ p q. on_live (Quiet says_number) (live_object s.mutexes x.0) _ _ (λ i. refl) (λ y f c. gives_cond (Quiet says_number) (mutex_busy who y) _ _ (λ b i. refl) (λ b i. true_false refl i))
-
-unlock_quiet : (s : State) (who : ℕ) (x : _) (key : ℕ) (r : Reply) → AllGives (Quiet says_ok) (row s who (op.MutexUnlock x key) r)
-unlock_quiet s who x key r = λ p q. on_live (Quiet says_ok) (live_object s.mutexes x.0) _ _ (λ i. refl) (λ y f b c d i. true_false refl i)
 
 pub end_quiet : (s : State) (who : ℕ) (t : TaskHandle) (r : Reply) → AllGives (Quiet says_end) (row s who (op.TallyEnd t) r)
 end_quiet s who t r =
@@ -138,31 +123,18 @@ pub mutex_step : (n : ℕ) (s : State) (who : ℕ) (o : Op) (r : Reply) (j : ℕ
 mutex_step n s who (op.MutexCreate id recursive) r j w o v a =
     moves_given (After n who j s false false false) (row s who (op.MutexCreate id recursive) r) (stays refl)
     (λ c d e f. on_only (λ x ms. After n who j s false false false ms) _ _ _ (λ i. issued n who j s false _ id recursive (fresh_unlisted kind.Mutex s _ i)))
-mutex_step n s who (op.MutexLook x last) r j w o v a = by_number (says_number r) refl
-  where
-    by_number : (b : Bool) → says_number r ≡ b → Step who n false (live_object s.mutexes j) (live_object (after_row s (row s who (op.MutexLook x last) r)).mutexes j) ((x.0 == j) && says_number r) (false && says_ok r)
-    by_number false i = as_step n who j s false _ _ _ false false (off (x.0 == j) (says_number r) i) refl (quiet n who j s says_number false (row s who (op.MutexLook x last) r) r i (look_quiet s who x last r) a)
-    by_number true i =
-        as_step n who j s false _ _ _ ((x.0 == j) && true) ((x.0 == j) && false) (on (x.0 == j) (says_number r) i) (off_none (x.0 == j) (says_ok r))
-        (answered says_number (After n who j s false ((x.0 == j) && true) ((x.0 == j) && false)) (row s who (op.MutexLook x last) r) r i
-        (refl, (refl, no_live says_number (live_object s.mutexes x.0) _ _ tt (λ y. (refl, no_cond says_number (mutex_busy who y) _ _ tt tt))))
-        (λ p q. on_live _ (live_object s.mutexes x.0) _ _ (λ k. true_false k refl)
-        (λ y f c. gives_cond _ (mutex_busy who y) _ _ (λ b k. true_false k (late_number last))
-        (λ b k. hit n who j s false true false x.0 (locked_by who) y f (λ g p e d. taken y e b (subst (λ (z : ℕ). nat_lt who z ≡ false) w q) d)))) a)
-      where
-        late_number : (last : Bool) → says_number (cond last (reply.Mrapi c.Timeout) reply.Pending) ≡ false
-        late_number true = refl
-        late_number false = refl
-mutex_step n s who (op.MutexUnlock x key) r j w o v a = by_ok (says_ok r) refl
-  where
-    by_ok : (b : Bool) → says_ok r ≡ b → Step who n false (live_object s.mutexes j) (live_object (after_row s (row s who (op.MutexUnlock x key) r)).mutexes j) (false && says_number r) ((x.0 == j) && says_ok r)
-    by_ok false i = as_step n who j s false _ _ _ false false refl (off (x.0 == j) (says_ok r) i) (quiet n who j s says_ok false (row s who (op.MutexUnlock x key) r) r i (unlock_quiet s who x key r) a)
-    by_ok true i =
-        as_step n who j s false _ _ _ ((x.0 == j) && false) ((x.0 == j) && true) (off_none (x.0 == j) (says_number r)) (on (x.0 == j) (says_ok r) i)
-        (answered says_ok (After n who j s false ((x.0 == j) && false) ((x.0 == j) && true)) (row s who (op.MutexUnlock x key) r) r i
-        (refl, (refl, no_live says_ok (live_object s.mutexes x.0) _ _ tt (λ y. (refl, (refl, (refl, tt))))))
-        (λ p q. on_live _ (live_object s.mutexes x.0) _ _ (λ k. true_false k refl)
-        (λ y f b c d k. hit n who j s false false true x.0 unlocked y f (λ g p e h. gave y e (not_false _ b) (deep key y.depth c) (subst (λ (z : ℕ). nat_lt who z ≡ false) w q) h))) a)
+mutex_step n s who (op.MutexLook x last) r j w o v a =
+    let Q : Reply → List Move → Type 0 = λ r ms. After n who j s false ((x.0 == j) && says_number r) false ms in
+    let no : (r : Reply) → says_number r ≡ false → Q r [] = λ r e. as_step n who j s false _ _ false false false (off (x.0 == j) (says_number r) e) refl (stays refl) in
+    said Q (row s who (op.MutexLook x last) r) r
+    (says_look Q (λ z. no (reply.Mrapi z) refl) Mutexes s who x.0 last (mutex_look_refusals who) (mutex_busy who) (λ y. reply.Number (pos (y.depth + 1))) (locked_by who) (no (reply.Mrapi c.ErrMutexInvalid) refl) (no reply.Pending refl)
+    (λ y q f u b. as_step n who j s false _ _ false _ _ refl (sym (off (x.0 == j) false refl)) (hit n who j s false true false x.0 (locked_by who) y f (λ g p e d. taken y e b (subst (λ (z : ℕ). nat_lt who z ≡ false) w q) d)))) a
+mutex_step n s who (op.MutexUnlock x key) r j w o v a =
+    let Q : Reply → List Move → Type 0 = λ r ms. After n who j s false false ((x.0 == j) && says_ok r) ms in
+    let no : (r : Reply) → says_ok r ≡ false → Q r [] = λ r e. as_step n who j s false _ false _ false false refl (off (x.0 == j) (says_ok r) e) (stays refl) in
+    said Q (row s who (op.MutexUnlock x key) r) r
+    (says_alter Q (λ z. no (reply.Mrapi z) refl) Mutexes s who x.0 (mutex_unlock_refusals who key) (λ y. reply.Ok) unlocked (no (reply.Mrapi c.ErrMutexInvalid) refl)
+    (λ y q f u. as_step n who j s false _ false _ _ _ (sym (off (x.0 == j) false refl)) refl (hit n who j s false false true x.0 unlocked y f (λ g p e h. gave y e (not_false _ u.0) (deep key y.depth u.1.0) (subst (λ (z : ℕ). nat_lt who z ≡ false) w q) h)))) a
 mutex_step n s who (op.MutexDelete x) r j w o v a =
     moves_given (After n who j s false false false) (row s who (op.MutexDelete x) r) (stays refl)
     (λ p q. on_live _ (live_object s.mutexes x.0) _ _ (stays refl) (λ y f b. retired n who j s false x.0 y o f b))

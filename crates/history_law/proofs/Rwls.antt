@@ -8,6 +8,7 @@ use Rattle.handle_pool.specs.Issued.{how_many}
 use Rattle.mtapi_objects.specs.Rwls.{Rwl, new_rwl, rwl_held, rwl_busy, rwl_taken, rwl_given}
 use Rattle.history_law.proofs.Answered.{true_false, first_false, second_false}
 use Rattle.history_law.proofs.Counts.{one_if}
+use Rattle.history_law.proofs.Locks.{Lock, LockStep}
 use Rattle.std.proofs.lemmas.List.{length-set, get_or-set_same}
 use Rattle.history_law.proofs.Slots.{set_apart}
 
@@ -58,15 +59,13 @@ seat_is v w (Some x) e = ap (λ (z : ℕ). z == w) (eqb-true x v e)
 
 -- How many hold the lock in a mode, and whether a seat does
 
-abbrev pub count_in : Bool → Option Rwl → ℕ
-count_in m None = 0
-count_in true (Some x) = one_if (is_some x.writer)
-count_in false (Some x) = marks x.readers
+abbrev count : Bool → Rwl → ℕ
+count true x = one_if (is_some x.writer)
+count false x = marks x.readers
 
-abbrev pub held_in : Bool → ℕ → Option Rwl → Bool
-held_in m w None = false
-held_in true w (Some x) = is_seat w x.writer
-held_in false w (Some x) = marked w x.readers
+abbrev has : Bool → ℕ → Rwl → ℕ
+has true w x = one_if (is_seat w x.writer)
+has false w x = one_if (marked w x.readers)
 
 pub record Fit (top : ℕ) (x : Rwl) : Type 0 where
   pub limit : x.limit ≡ top
@@ -74,21 +73,14 @@ pub record Fit (top : ℕ) (x : Rwl) : Type 0 where
   pub most : marks x.readers ≤ top
   pub alone : is_some x.writer ≡ true → marks x.readers ≡ 0
 
-abbrev pub FitIn : ℕ → Option Rwl → Type 0
-FitIn top None = Unit {0}
-FitIn top (Some x) = Fit top x
+abbrev pub rwl_lock : ℕ → Lock Bool Rwl
+rwl_lock top = record { Fit = Fit top; count = count; has = has }
 
 abbrev pub in_mode : Bool → Bool → Bool
 in_mode m mode = cond m mode (not mode)
 
 abbrev pub no_mode : Bool → Bool
 no_mode m = false
-
--- what an entry by this seat does to the lock: in which modes it gets it, and gives it back
-pub record RwlStep (top who : ℕ) (o p : Option Rwl) (x y : Bool → Bool) : Type 0 where
-  pub fit : FitIn top p
-  pub all : (m : Bool) → count_in m p + one_if (y m) ≡ count_in m o + one_if (x m)
-  pub each : (m : Bool) (w : ℕ) → one_if (held_in m w p) + one_if ((who == w) && y m) ≡ one_if (held_in m w o) + one_if ((who == w) && x m)
 
 none_here : (c : Bool) → one_if (c && false) ≡ 0
 none_here true = refl
@@ -98,9 +90,6 @@ all_here : (c : Bool) → one_if (c && true) ≡ one_if c
 all_here true = refl
 all_here false = refl
 
-pub step_same : (top who : ℕ) (o : Option Rwl) → FitIn top o → RwlStep top who o o no_mode no_mode
-step_same top who o f = record { fit = f; all = λ m. refl; each = λ m w. refl }
-
 one_apart : (b : Bool) → b ≡ false → one_if b ≡ 0
 one_apart b e = ap one_if e
 
@@ -108,18 +97,18 @@ one_here : (b : Bool) → b ≡ true → one_if b ≡ 1
 one_here b e = ap one_if e
 
 -- a writer gets it
-write_step : (top who : ℕ) (x : Rwl) → Fit top x → rwl_held x ≡ false → RwlStep top who (Some x) (Some (rwl_taken who true x)) (λ m. in_mode m true) no_mode
+write_step : (top who : ℕ) (x : Rwl) → Fit top x → rwl_held x ≡ false → LockStep (rwl_lock top) who (Some x) (Some (rwl_taken who true x)) (λ m. in_mode m true) no_mode
 write_step top who x f b = record {
   fit = record { limit = f.limit; size = f.size; most = f.most; alone = λ e. no_mark x.readers (second_false (is_some x.writer) _ b) };
   all = all;
   each = each;
 }
   where
-    all : (m : Bool) → count_in m (Some (rwl_taken who true x)) + one_if false ≡ count_in m (Some x) + one_if (in_mode m true)
+    all : (m : Bool) → count m (rwl_taken who true x) + one_if false ≡ count m x + one_if (in_mode m true)
     all true = let e : one_if (is_some x.writer) ≡ 0 = one_apart _ (first_false (is_some x.writer) _ b) in omega arith
     all false = refl
 
-    each : (m : Bool) (w : ℕ) → one_if (held_in m w (Some (rwl_taken who true x))) + one_if ((who == w) && false) ≡ one_if (held_in m w (Some x)) + one_if ((who == w) && in_mode m true)
+    each : (m : Bool) (w : ℕ) → has m w (rwl_taken who true x) + one_if ((who == w) && false) ≡ has m w x + one_if ((who == w) && in_mode m true)
     each true w =
         let e : one_if (is_seat w x.writer) ≡ 0 = one_apart _ (none_seat w x.writer (first_false (is_some x.writer) _ b)) in
         let k : one_if ((who == w) && false) ≡ 0 = none_here (who == w) in
@@ -128,7 +117,7 @@ write_step top who x f b = record {
     each false w = refl
 
 -- a reader gets it
-read_step : (top who : ℕ) (x : Rwl) → Fit top x → who < 25 → marked who x.readers ≡ false → rwl_busy false x ≡ false → RwlStep top who (Some x) (Some (rwl_taken who false x)) (λ m. in_mode m false) no_mode
+read_step : (top who : ℕ) (x : Rwl) → Fit top x → who < 25 → marked who x.readers ≡ false → rwl_busy false x ≡ false → LockStep (rwl_lock top) who (Some x) (Some (rwl_taken who false x)) (λ m. in_mode m false) no_mode
 read_step top who x f l n b = record {
   fit = record {
     limit = f.limit;
@@ -154,7 +143,7 @@ read_step top who x f l n b = record {
         let less : marks x.readers < top = grind (arith, nat_tests) in
         omega arith
 
-    all : (m : Bool) → count_in m (Some (rwl_taken who false x)) + one_if false ≡ count_in m (Some x) + one_if (in_mode m false)
+    all : (m : Bool) → count m (rwl_taken who false x) + one_if false ≡ count m x + one_if (in_mode m false)
     all true = refl
     all false = let e : marks (slice_set x.readers who true) ≡ marks x.readers + 1 = more in omega arith
 
@@ -166,28 +155,28 @@ read_step top who x f l n b = record {
         omega arith
     by_seat w false i = ap (λ (c : Bool). one_if c + 0) (set_apart x.readers who w true false i)
 
-    each : (m : Bool) (w : ℕ) → one_if (held_in m w (Some (rwl_taken who false x))) + one_if ((who == w) && false) ≡ one_if (held_in m w (Some x)) + one_if ((who == w) && in_mode m false)
+    each : (m : Bool) (w : ℕ) → has m w (rwl_taken who false x) + one_if ((who == w) && false) ≡ has m w x + one_if ((who == w) && in_mode m false)
     each true w = refl
     each false w = by_seat w (who == w) refl
 
 pub get_step : (top who : ℕ) (writer : Bool) (x : Rwl) → Fit top x → who < 25 → (is_seat who x.writer || marked who x.readers) ≡ false → rwl_busy writer x ≡ false
-    → RwlStep top who (Some x) (Some (rwl_taken who writer x)) (λ m. in_mode m writer) no_mode
+    → LockStep (rwl_lock top) who (Some x) (Some (rwl_taken who writer x)) (λ m. in_mode m writer) no_mode
 get_step top who true x f l n b = write_step top who x f b
 get_step top who false x f l n b = read_step top who x f l (second_false (is_seat who x.writer) _ n) b
 
 -- it is given back
-pub give_step : (top who : ℕ) (writer : Bool) (x : Rwl) → Fit top x → cond writer (is_seat who x.writer) (marked who x.readers) ≡ true → RwlStep top who (Some x) (Some (rwl_given who writer x)) no_mode (λ m. in_mode m writer)
+pub give_step : (top who : ℕ) (writer : Bool) (x : Rwl) → Fit top x → cond writer (is_seat who x.writer) (marked who x.readers) ≡ true → LockStep (rwl_lock top) who (Some x) (Some (rwl_given who writer x)) no_mode (λ m. in_mode m writer)
 give_step top who true x f n = record {
   fit = record { limit = f.limit; size = f.size; most = f.most; alone = λ e. absurd (true_false e refl) };
   all = all;
   each = each;
 }
   where
-    all : (m : Bool) → count_in m (Some (rwl_given who true x)) + one_if (in_mode m true) ≡ count_in m (Some x) + one_if false
+    all : (m : Bool) → count m (rwl_given who true x) + one_if (in_mode m true) ≡ count m x + one_if false
     all true = let e : one_if (is_some x.writer) ≡ 1 = one_here _ (seat_some who x.writer n) in omega arith
     all false = refl
 
-    each : (m : Bool) (w : ℕ) → one_if (held_in m w (Some (rwl_given who true x))) + one_if ((who == w) && in_mode m true) ≡ one_if (held_in m w (Some x)) + one_if ((who == w) && false)
+    each : (m : Bool) (w : ℕ) → has m w (rwl_given who true x) + one_if ((who == w) && in_mode m true) ≡ has m w x + one_if ((who == w) && false)
     each true w =
         let e : one_if (is_seat w x.writer) ≡ one_if (who == w) = ap one_if (seat_is who w x.writer n) in
         let k : one_if ((who == w) && false) ≡ 0 = none_here (who == w) in
@@ -205,7 +194,7 @@ give_step top who false x f n = record {
   each = each;
 }
   where
-    all : (m : Bool) → count_in m (Some (rwl_given who false x)) + one_if (in_mode m false) ≡ count_in m (Some x) + one_if false
+    all : (m : Bool) → count m (rwl_given who false x) + one_if (in_mode m false) ≡ count m x + one_if false
     all true = refl
     all false = let e : marks (slice_set x.readers who false) + 1 ≡ marks x.readers = marks_less x.readers who n in omega arith
 
@@ -217,22 +206,22 @@ give_step top who false x f n = record {
         omega arith
     by_seat w false i = ap (λ (c : Bool). one_if c + 0) (set_apart x.readers who w false false i)
 
-    each : (m : Bool) (w : ℕ) → one_if (held_in m w (Some (rwl_given who false x))) + one_if ((who == w) && in_mode m false) ≡ one_if (held_in m w (Some x)) + one_if ((who == w) && false)
+    each : (m : Bool) (w : ℕ) → has m w (rwl_given who false x) + one_if ((who == w) && in_mode m false) ≡ has m w x + one_if ((who == w) && false)
     each true w = refl
     each false w = by_seat w (who == w) refl
 
 -- it stops being live
-pub leave_step : (top who : ℕ) (x : Rwl) → rwl_held x ≡ false → RwlStep top who (Some x) None no_mode no_mode
+pub leave_step : (top who : ℕ) (x : Rwl) → rwl_held x ≡ false → LockStep (rwl_lock top) who (Some x) None no_mode no_mode
 leave_step top who x n = record { fit = tt; all = all; each = each }
   where
     none : marks x.readers ≡ 0
     none = no_mark x.readers (second_false (is_some x.writer) _ n)
 
-    all : (m : Bool) → 0 + one_if false ≡ count_in m (Some x) + one_if false
+    all : (m : Bool) → 0 + one_if false ≡ count m x + one_if false
     all true = let e : one_if (is_some x.writer) ≡ 0 = one_apart _ (first_false (is_some x.writer) _ n) in omega arith
     all false = let e : marks x.readers ≡ 0 = none in omega arith
 
-    each : (m : Bool) (w : ℕ) → one_if false + one_if ((who == w) && false) ≡ one_if (held_in m w (Some x)) + one_if ((who == w) && false)
+    each : (m : Bool) (w : ℕ) → one_if false + one_if ((who == w) && false) ≡ has m w x + one_if ((who == w) && false)
     each true w = let e : one_if (is_seat w x.writer) ≡ 0 = one_apart _ (none_seat w x.writer (first_false (is_some x.writer) _ n)) in omega arith
     each false w = let e : one_if (marked w x.readers) ≡ 0 = one_apart _ (unmarked x.readers w none) in omega arith
 
@@ -245,6 +234,6 @@ new_marks (suc n) (suc w) = new_marks n w
 pub new_fit : (id limit : ℕ) → Fit limit (new_rwl id limit)
 new_fit id limit = record { limit = refl; size = refl; most = omega arith; alone = λ e. absurd (true_false e refl) }
 
-pub new_free : (m : Bool) (w id limit : ℕ) → (count_in m (Some (new_rwl id limit)) ≡ 0) × (one_if (held_in m w (Some (new_rwl id limit))) ≡ 0)
+pub new_free : (m : Bool) (w id limit : ℕ) → (count m (new_rwl id limit) ≡ 0) × (has m w (new_rwl id limit) ≡ 0)
 new_free true w id limit = (refl, refl)
 new_free false w id limit = (refl, one_apart _ (new_marks 25 w))

@@ -26,6 +26,18 @@ names_kind k h some = record {
     by_value true e = omega arith
     by_value false e = absurd (omega arith)
 
+-- in the place of the kind it has the number of this kind
+pub named-kind : (k : ObjectKind) (h : ℕ) → Names k h → (named_kind h == object_number k) ≡ true
+named-kind k h some = (names_kind k h some).names
+
+-- 0 names nothing, and stays
+pub inward-zero : (k : ObjectKind) → inward k 0 ≡ 0
+inward-zero k = by_test (named_kind 0 == object_number k)
+  where
+    by_test : (b : Bool) → or_zero (cond b (Some (0 - object_number k * 2 ^ 24)) None) ≡ 0
+    by_test true = omega arith
+    by_test false = refl
+
 -- no two handles that name the kind become one
 pub inward-one : (k : ObjectKind) (a b : ℕ) → Names k a → inward k a ≡ inward k b → a ≡ b
 inward-one k a b some e = omega (arith, (names_kind k a some).is, (names_kind k b (omega arith)).is, e)

@@ -1,159 +1,75 @@
--- Every step of layout two leaves each handle of the state named.
-use Rattle.std.proofs.Common.{◌≡◌, ℕ, ◌+◌, Bool, true, false, cond, List, [], ◌∷◌, Option, Some, None, inr, refl, sym, ◌∙◌, ap, subst}
-use Rattle.std.specs.Prelude.{◌==◌, not, nat_lt, is_some, length, ℤ}
+-- Every step of layout two, seen from inside, and histories of such steps.
+use Rattle.std.proofs.Common.{◌≡◌, ℕ, List, [], ◌∷◌, Option, Some, None, refl, sym, ◌∙◌, ap, subst}
+use Rattle.std.specs.Option.{option_map}
+use Rattle.mtapi_values.specs.Conditions.{holds}
+use Rattle.mtapi_values.specs.Seats.{is_seat}
 use Rattle.mtapi_values.specs.declared.handles.ObjectKind.TheVariants as kind
 use Rattle.mtapi_values.specs.declared.handles.Layout.TheVariants.{Two}
-use Rattle.mtapi_values.specs.declared.statuses.MtapiStatus.{MtapiStatus}
-use Rattle.handle_pool.specs.Issued.{Listed, live_of, live_object}
-use Rattle.mtapi_objects.specs.Tasks.{Notes, TaskState, Scheduled, Running, Ended, Adds, tally_args, asked_once}
-use Rattle.mtapi_objects.specs.Groups.{Ending, endings}
+use Rattle.handle_pool.specs.Inside.{inside}
+use Rattle.handle_pool.specs.Issued.{live_object}
+use Rattle.mtapi_objects.specs.Tasks.{Task}
 use Rattle.mtapi_machine.specs.declared.terms.Terms.{Terms}
 use Rattle.mtapi_machine.specs.declared.ops.Op.{Op}
 use Rattle.mtapi_machine.specs.declared.ops.Op.TheVariants as op
 use Rattle.mtapi_machine.specs.declared.replies.Reply.{Reply}
 use Rattle.mtapi_machine.specs.State.{State, opening}
-use Rattle.mtapi_machine.specs.Moves.{Move, Sort, Groups, Queues, Mutexes, Sems, Rwls, Segments, Fields, all_of, notes, makes, alters, removes, apply, after_moves}
-use Rattle.mtapi_machine.specs.Row.{Row, Allows, moves_of, after_row, live}
-use Rattle.mtapi_machine.specs.TaskRows.{looks_at, cancels}
-use Rattle.mtapi_machine.specs.GroupRows.{gives_end, gives_first}
-use Rattle.mtapi_machine.specs.TallyRows.{gives_up, takes_both, locks}
+use Rattle.mtapi_machine.specs.Moves.{Move, apply, after_moves}
+use Rattle.mtapi_machine.specs.Row.{Allows, moves_of, after_row}
 use Rattle.mtapi_machine.specs.Rows.{row}
+use Rattle.mtapi_machine.specs.Kept.{pends_alike}
 use Rattle.mtapi_machine.specs.Legal.{NodeEntry, IsHonest, next, LegalFrom, after_from, Legal}
-use Rattle.mtapi_machine.specs.Laws.{IsBy, AreMade}
-use Rattle.mtapi_machine.proofs.Made.{AllGives, moves_given, on_live, row_made}
-use Rattle.mtapi_layouts.specs.Inward.{Names}
-use Rattle.mtapi_layouts.specs.Named.{NotesAreNamed, NoHandle, Named}
-use Rattle.mtapi_layouts.proofs.Lists.{first-named}
+use Rattle.mtapi_renaming.specs.Renamed.{renamed}
+use Rattle.mtapi_renaming.specs.Follows.{Fits}
+use Rattle.mtapi_renaming.specs.Ops.{answered_kind, renamed_reply}
+use Rattle.mtapi_renaming.proofs.LastMoves.{terms_stay}
+use Rattle.mtapi_layouts.specs.Inward.{inward}
+use Rattle.mtapi_layouts.specs.Turned.{turned_task, in_layout_one, room_one, turned}
+use Rattle.mtapi_layouts.specs.Named.{TaskIsNamed, Named}
 use Rattle.mtapi_layouts.specs.Ops.{inward_op, outward_reply, IssuesSmall, IsSmall}
-use Rattle.mtapi_layouts.specs.Turned.{in_layout_one, turned}
 use Rattle.mtapi_layouts.specs.Turns.{StepTurns, inner_entries, outer_entries, AllIssueSmall, HistoryTurns, StartTurns}
-use Rattle.handle_pool.specs.Inside.{inside}
-use Rattle.mtapi_layouts.proofs.Table.{row_alike}
-use Rattle.mtapi_layouts.proofs.Keeps.{NoteKeeps, MoveKeeps, move_named}
+use Rattle.mtapi_layouts.proofs.Handles.{inward-one, inward-zero}
+use Rattle.mtapi_layouts.proofs.Lists.{found-turned}
+use Rattle.mtapi_layouts.proofs.Table.{inward-outward, row_turned, row_small}
 
-abbrev AllKeep : List Move → Type 0
-AllKeep [] = Unit {0}
-AllKeep (m ∷ ms) = MoveKeeps m × AllKeep ms
+-- handles that name their kinds have others, those inside
+fits : {s : State} → Named s → Fits inward s
+fits n = record { one = inward-one; zero = inward-zero; actions = n.actions; tasks = n.tasks; groups = n.groups; queues = n.queues; mutexes = n.mutexes; sems = n.sems; rwls = n.rwls; segments = n.segments }
 
--- no move changes the terms
-sort_terms : (k : Sort) (l : List (Listed (Fields k))) (s : State) → ((all_of k).with_list l s).terms ≡ s.terms
-sort_terms Groups l s = refl
-sort_terms Queues l s = refl
-sort_terms Mutexes l s = refl
-sort_terms Sems l s = refl
-sort_terms Rwls l s = refl
-sort_terms Segments l s = refl
+named : {s : State} → Fits inward s → Named s
+named n = record { actions = n.actions; tasks = n.tasks; groups = n.groups; queues = n.queues; mutexes = n.mutexes; sems = n.sems; rwls = n.rwls; segments = n.segments }
 
-terms_stay : (m : Move) (s : State) → (apply m s).terms ≡ s.terms
-terms_stay (makes k h x) s = sort_terms k _ s
-terms_stay (alters k h f) s = sort_terms k _ s
-terms_stay (removes k h) s = sort_terms k _ s
-terms_stay m s = refl
-
+-- no moves change the terms
 pub all_stay : (ms : List Move) (s : State) → (after_moves ms s).terms ≡ s.terms
 all_stay [] s = refl
-all_stay (m ∷ ms) s = all_stay ms (apply m s) ∙ terms_stay m s
-
-moves_named : (o : Op) (ms : List Move) (s : State) → s.terms.layout ≡ Two → AreMade s o ms → AllKeep ms → Named s → Named (after_moves ms s)
-moves_named o [] s two a k n = n
-moves_named o (m ∷ ms) s two a k n = moves_named o ms (apply m s) (ap (λ (t : Terms). t.layout) (terms_stay m s) ∙ two) a.1 k.1 (move_named s n o m two a.0 k.0)
-
--- an op that changes no notes
-no_notes : (o : Op) → ((h : ℕ) (f : Notes → Notes) → IsBy (notes h f) o → ⊥) → (ms : List Move) (s : State) → AreMade s o ms → AllKeep ms
-no_notes o none [] s a = tt
-no_notes o none (m ∷ ms) s a = (by_move m a.0.by, no_notes o none ms (apply m s) a.1)
-  where
-    by_move : (w : Move) → IsBy w o → MoveKeeps w
-    by_move (notes h f) i = absurd (none h f i)
-    by_move w i = tt
-
--- an op that changes notes, and no handle among them
-abbrev Keeps : Row → Type 0
-Keeps w = AllGives (λ x ms. AllKeep ms) w
-
-asked_keeps : NoteKeeps asked_once
-asked_keeps x v = by_request x.requested
-  where
-    by_request : (b : Bool) → NotesAreNamed (cond b (record x { seen = true }) (record x { looks = x.looks + 1 }))
-    by_request true = record { group = v.group; tally = v.tally }
-    by_request false = record { group = v.group; tally = v.tally }
-
-looks_keep : (who h : ℕ) (last : Bool) (x : TaskState) → Keeps (looks_at who h last x)
-looks_keep who h last (Ended e m) = (tt, tt)
-looks_keep who h true Scheduled = ((λ y v. record { group = v.group; tally = v.tally }), tt)
-looks_keep who h false Scheduled = ((λ y v. record { group = v.group; tally = v.tally }), tt)
-looks_keep who h true (Running w m) = ((λ y v. record { group = v.group; tally = v.tally }), tt)
-looks_keep who h false (Running w m) = ((λ y v. record { group = v.group; tally = v.tally }), tt)
-
-cancels_keep : (h : ℕ) (x : TaskState) → Keeps (cancels h x)
-cancels_keep h Scheduled = (tt, tt)
-cancels_keep h (Running w m) = ((λ y v. record { group = v.group; tally = v.tally }), tt)
-cancels_keep h (Ended e m) = tt
-
-gives_keep : (h : ℕ) (x : TaskState) → Keeps (gives_end h x)
-gives_keep h Scheduled = tt
-gives_keep h (Running w m) = tt
-gives_keep h (Ended e m) = ((λ y v. record { group = tt; tally = v.tally }), (tt, tt))
-
-gives_up_keeps : (h : ℕ) (c : MtapiStatus) → Keeps (gives_up h c)
-gives_up_keeps h c = ((λ y v. record { group = v.group; tally = record { mutex = v.tally.mutex; segment = v.tally.segment } }), tt)
-
-cond_keeps : (b : Bool) (v w : Row) → Keeps v → Keeps w → Keeps (cond b v w)
-cond_keeps true v w h k = h
-cond_keeps false v w h k = k
-
-module _ (s : State) (n : Named s) where
-  one_keeps : {T : Type 0} (x : Option T) (v : Row) (w : T → Row) → Keeps v → ((y : T) → Keeps (w y)) → Keeps (live x v w)
-  one_keeps x v w h k = on_live (λ r ms. AllKeep ms) x v w h (λ y e. k y)
-
-  first_keeps : (last : Bool) (xs : List Ending) → Keeps (gives_first s last xs)
-  first_keeps last [] = tt
-  first_keeps last (x ∷ xs) = one_keeps (live_object s.tasks x.task) _ _ tt (λ y. gives_keep x.task y.state)
-
-  takes_keep : (who h cell : ℕ) (a b : Option ℕ) → ((i : ℕ) → a ≡ Some i → Names kind.Mutex i) → ((i : ℕ) → b ≡ Some i → Names kind.Shmem i) → Keeps (takes_both s who h cell a b)
-  takes_keep who h cell (Some a) (Some b) v w =
-      one_keeps (live_object s.mutexes a) _ _ (gives_up_keeps h _) (λ x. one_keeps (live_object s.segments b) _ _ (gives_up_keeps h _) (λ y.
-      cond_keeps (not (nat_lt cell (length y.cells))) _ _ (gives_up_keeps h _) (cond_keeps (is_some x.owner) _ _ tt
-      (tt, (tt, ((λ z u. record { group = u.group; tally = record { mutex = inr (v a refl); segment = inr (w b refl) } }), tt))))))
-  takes_keep who h cell (Some a) None v w = gives_up_keeps h _
-  takes_keep who h cell None (Some b) v w = gives_up_keeps h _
-  takes_keep who h cell None None v w = gives_up_keeps h _
-
-  locks_keep : (who h : ℕ) (args : List ℤ) (x : Option Adds) → Keeps (locks s who h args x)
-  locks_keep who h args None = gives_up_keeps h _
-  locks_keep who h args (Some x) =
-      takes_keep who h x.cell _ _ (λ i e. first-named kind.Mutex (λ y. y) NoHandle (λ y. y.id == x.mutex) s.mutexes i n.mutexes e) (λ i e. first-named kind.Shmem (λ y. y) NoHandle (λ y. y.id == x.segment) s.segments i n.segments e)
-
-  by_row : (who : ℕ) (o : Op) (r : Reply) → Keeps (row s who o r) → AllKeep (moves_of (row s who o r))
-  by_row who o r k = moves_given AllKeep (row s who o r) tt k
-
-  row_keeps : (who : ℕ) (o : Op) (r : Reply) → AllKeep (moves_of (row s who o r))
-  row_keeps who (op.TaskLook t last) r = by_row who (op.TaskLook t last) r (λ c. one_keeps (live_object s.tasks t.0) _ _ tt (λ x a b. looks_keep who t.0 last x.state))
-  row_keeps who (op.TaskCancel t) r = by_row who (op.TaskCancel t) r (λ c. one_keeps (live_object s.tasks t.0) _ _ tt (λ x. cancels_keep t.0 x.state))
-  row_keeps who (op.AnyLook g last) r = by_row who (op.AnyLook g last) r (λ c. one_keeps (live_object s.groups g.0) _ _ tt (λ x a. first_keeps last (endings g.0 (live_of s.tasks))))
-  row_keeps who (op.Asked t) r = by_row who (op.Asked t) r (λ c. one_keeps (live_object s.tasks t.0) _ _ tt (λ x a b. (asked_keeps, tt)))
-  row_keeps who (op.TallyLock t) r = by_row who (op.TallyLock t) r (λ c. one_keeps (live_object s.tasks t.0) _ _ tt (λ x a b. locks_keep who t.0 x.args (tally_args x.args)))
-  row_keeps who (op.TallyRead t) r =
-      by_row who (op.TallyRead t) r (λ c. one_keeps (live_object s.tasks t.0) _ _ tt (λ x a b. one_keeps (live_object s.segments x.notes.tally.segment) _ _ tt
-      (λ y. ((λ z v. record { group = v.group; tally = record { mutex = v.tally.mutex; segment = v.tally.segment } }), tt))))
-  row_keeps who (op.TallyWrite t value) r =
-      by_row who (op.TallyWrite t value) r (λ c. one_keeps (live_object s.tasks t.0) _ _ tt (λ x a b. one_keeps (live_object s.segments x.notes.tally.segment) _ _ tt
-      (λ y. (tt, ((λ z v. record { group = v.group; tally = record { mutex = v.tally.mutex; segment = v.tally.segment } }), tt)))))
-  row_keeps who o r = no_notes o (λ h f i. i) (moves_of (row s who o r)) s (row_made s who o r)
-
-  pub row_named : s.terms.layout ≡ Two → (who : ℕ) (o : Op) (r : Reply) → Named (after_row s (row s who o r))
-  row_named two who o r = moves_named o (moves_of (row s who o r)) s two (row_made s who o r) (row_keeps who o r) n
+all_stay (m ∷ ms) s = all_stay ms (apply m s) ∙ terms_stay s m
 
 pub history_named : (s : State) (L : List NodeEntry) → s.terms.layout ≡ Two → Named s → Named (after_from s L)
 unfolding after_from
 history_named s [] two n = n
-history_named s (e ∷ es) two n = history_named (next s e) es (ap (λ (t : Terms). t.layout) (all_stay (moves_of (row s e.who e.op e.reply)) s) ∙ two) (row_named s n two e.who e.op e.reply)
+history_named s (e ∷ es) two n = history_named (next s e) es (ap (λ (t : Terms). t.layout) (all_stay (moves_of (row s e.who e.op e.reply)) s) ∙ two) (named (row_turned (fits n) two e.who e.op e.reply).fits)
 
 -- a step inside, and a history of such steps
 pub step_turns : (s : State) (who : ℕ) (o : Op) (r : Reply) → s.terms.layout ≡ Two → Named s → IssuesSmall o r → Allows (row (turned s) who (inward_op o) r) r → StepTurns s who o r
-step_turns s who o r two n small a =
-    let w : IsSmall r × Allows (row s who o (outward_reply o r)) (outward_reply o r) × (turned (after_row s (row s who o (outward_reply o r))) ≡ after_row (turned s) (row (turned s) who (inward_op o) r)) = (row_alike n two who o r small).step a in
-    record { small = w.0; allowed = w.1; leads = w.2; named = row_named s n two who o (outward_reply o r) }
+step_turns s who o r two n issued a =
+    let small : IsSmall r = row_small (fits n) two who o r issued a in
+    let back : renamed_reply inward o (outward_reply o r) ≡ r = inward-outward (answered_kind o) r small in
+    let w = row_turned (fits n) two who o (outward_reply o r) in
+    record {
+      small = small;
+      allowed = w.allowed.1 (subst (λ (q : Reply). Allows (row (turned s) who (inward_op o) q) q) (sym back) a);
+      leads = ap (λ (t : Terms). renamed inward (room_one t) (after_row s (row s who o (outward_reply o r)))) (all_stay (moves_of (row s who o (outward_reply o r))) s)
+          ∙ (w.leads ∙ ap (λ (q : Reply). after_row (turned s) (row (turned s) who (inward_op o) q)) back);
+      named = named w.fits;
+    }
+
+-- the seat that waits for a task
+pub pends_turned : (s : State) (who : ℕ) (o : Op) → Named s → pends_alike (turned s) who (inward_op o) ≡ pends_alike s who o
+pends_turned s who (op.TaskLook t last) n = ap (holds (λ x. is_seat who x.notes.waiter)) (found-turned kind.Task turned_task TaskIsNamed t.0 s.tasks n.tasks) ∙ by_task (live_object s.tasks t.0)
+  where
+    by_task : (o : Option Task) → holds (λ x. is_seat who x.notes.waiter) (option_map turned_task o) ≡ holds (λ x. is_seat who x.notes.waiter) o
+    by_task None = refl
+    by_task (Some x) = refl
+pends_turned s who o n = refl
 
 honest_out : (o : Op) → IsHonest (inward_op o) → IsHonest o
 honest_out (op.Finish t done) h = h

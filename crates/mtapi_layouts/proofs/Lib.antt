@@ -1,10 +1,5 @@
 pub mod Handles
 pub mod Lists
-pub mod Tasks
-pub mod Moves
-pub mod Keeps
-pub mod Rows
-pub mod TaskRows
-pub mod WorkRows
+pub mod Creates
 pub mod Table
 pub mod Histories

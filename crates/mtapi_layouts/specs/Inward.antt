@@ -1,12 +1,8 @@
 -- Handles of layout two, as callers see them, and of layout one, as the pools have them.
-use Rattle.std.specs.Prelude.{ℕ, ◌≤◌, ◌%◌, ◌^◌, ◌<◌, Option, Some, None}
+use Rattle.std.specs.Prelude.{ℕ, ◌≤◌, ◌%◌, ◌^◌, ◌<◌}
 use Rattle.mtapi_values.specs.declared.handles.ObjectKind.{ObjectKind}
 use Rattle.mtapi_values.specs.Layouts.{inner}
-
--- 0, which no pool issues, where there is none
-abbrev pub or_zero : Option ℕ → ℕ
-or_zero None = 0
-or_zero (Some h) = h
+pub use Rattle.mtapi_renaming.specs.Renaming.{or_zero}
 
 -- a handle as callers see it, as the pool of this kind has it; 0 where it names another kind
 abbrev pub inward : ObjectKind → ℕ → ℕ

@@ -1,76 +1,22 @@
 //! Ops turned inwards and replies turned outwards.
 
-ghost use Rattle.std.specs.Prelude.{◌≡◌, option_map};
+ghost use Rattle.std.specs.Prelude.{◌≡◌};
 ghost use Rattle.mtapi_layouts.specs.Inward.{inward, HasRoom};
-ghost use Rattle.mtapi_layouts.specs.Ops.{inward_op, inward_action, inward_task, inward_group, inward_queue, inward_mutex, inward_sem, inward_rwl, inward_shmem, answered_kind, outer_of, outer_task, outer_action, outward, IsSmall};
+ghost use Rattle.mtapi_layouts.specs.Ops.{inward_op, answered_kind, outer_of, outer_task, outer_action, outward, IsSmall};
 
 use mtapi_machine::{Op, Reply};
-use mtapi_values::{
-    ActionHandle, GroupHandle, MutexHandle, ObjectKind, QueueHandle, RwlHandle, SemHandle,
-    ShmemHandle, TaskHandle,
-};
+use mtapi_renaming::{Rename, renamed_op};
+use mtapi_values::{ActionHandle, ObjectKind, TaskHandle};
 
-/// A caller's handle as the pool of this kind has it: 0, which names nothing, where it names another kind.
-fn inward(kind: ObjectKind, handle: u64) -> u64
-    ensures { result ≡ inward kind handle }
-{
-    mtapi_values::inner(kind, handle).unwrap_or(0)
-}
+// The handles that the pools have for those of callers.
+struct Inwards;
 
-fn inward_action(action: ActionHandle) -> ActionHandle
-    ensures { result ≡ inward_action action }
-{
-    ActionHandle(inward(ObjectKind::Action, action.0))
-}
+impl Rename for Inwards {
+    ghost renaming = { λ p. inward };
 
-fn inward_task(task: TaskHandle) -> TaskHandle
-    ensures { result ≡ inward_task task }
-{
-    TaskHandle(inward(ObjectKind::Task, task.0))
-}
-
-fn inward_group(group: GroupHandle) -> GroupHandle
-    ensures { result ≡ inward_group group }
-{
-    GroupHandle(inward(ObjectKind::Group, group.0))
-}
-
-fn inward_queue(queue: QueueHandle) -> QueueHandle
-    ensures { result ≡ inward_queue queue }
-{
-    QueueHandle(inward(ObjectKind::Queue, queue.0))
-}
-
-fn inward_mutex(mutex: MutexHandle) -> MutexHandle
-    ensures { result ≡ inward_mutex mutex }
-{
-    MutexHandle(inward(ObjectKind::Mutex, mutex.0))
-}
-
-fn inward_sem(sem: SemHandle) -> SemHandle
-    ensures { result ≡ inward_sem sem }
-{
-    SemHandle(inward(ObjectKind::Sem, sem.0))
-}
-
-fn inward_rwl(rwl: RwlHandle) -> RwlHandle
-    ensures { result ≡ inward_rwl rwl }
-{
-    RwlHandle(inward(ObjectKind::Rwl, rwl.0))
-}
-
-fn inward_shmem(shmem: ShmemHandle) -> ShmemHandle
-    ensures { result ≡ inward_shmem shmem }
-{
-    ShmemHandle(inward(ObjectKind::Shmem, shmem.0))
-}
-
-fn inward_member(group: Option<GroupHandle>) -> Option<GroupHandle>
-    ensures { result ≡ option_map inward_group group }
-{
-    match group {
-        Some(group) => Some(inward_group(group)),
-        None => None,
+    /// A caller's handle as the pool of this kind has it: 0, which names nothing, where it names another kind.
+    fn other(&self, kind: ObjectKind, handle: u64) -> u64 {
+        mtapi_values::inner(kind, handle).unwrap_or(0)
     }
 }
 
@@ -78,147 +24,7 @@ fn inward_member(group: Option<GroupHandle>) -> Option<GroupHandle>
 pub fn inward_op(op: Op) -> Op
     ensures { result ≡ inward_op op }
 {
-    match op {
-        Op::ActionDelete { action } => Op::ActionDelete {
-            action: inward_action(action),
-        },
-        Op::ActionDisable { action } => Op::ActionDisable {
-            action: inward_action(action),
-        },
-        Op::ActionEnable { action } => Op::ActionEnable {
-            action: inward_action(action),
-        },
-        Op::TaskStart {
-            job,
-            args,
-            priority,
-            cores,
-            detached,
-            group,
-        } => Op::TaskStart {
-            job,
-            args,
-            priority,
-            cores,
-            detached,
-            group: inward_member(group),
-        },
-        Op::TaskEnqueue {
-            queue,
-            args,
-            cores,
-            detached,
-            group,
-        } => Op::TaskEnqueue {
-            queue: inward_queue(queue),
-            args,
-            cores,
-            detached,
-            group: inward_member(group),
-        },
-        Op::TaskLook { task, last } => Op::TaskLook {
-            task: inward_task(task),
-            last,
-        },
-        Op::TaskCancel { task } => Op::TaskCancel {
-            task: inward_task(task),
-        },
-        Op::GroupDelete { group } => Op::GroupDelete {
-            group: inward_group(group),
-        },
-        Op::AllLook { group, last } => Op::AllLook {
-            group: inward_group(group),
-            last,
-        },
-        Op::AnyLook { group, last } => Op::AnyLook {
-            group: inward_group(group),
-            last,
-        },
-        Op::QueueEnable { queue } => Op::QueueEnable {
-            queue: inward_queue(queue),
-        },
-        Op::QueueDisable { queue } => Op::QueueDisable {
-            queue: inward_queue(queue),
-        },
-        Op::QueueDelete { queue } => Op::QueueDelete {
-            queue: inward_queue(queue),
-        },
-        Op::Finish { task, done } => Op::Finish {
-            task: inward_task(task),
-            done,
-        },
-        Op::Asked { task } => Op::Asked {
-            task: inward_task(task),
-        },
-        Op::WatchEnd { task } => Op::WatchEnd {
-            task: inward_task(task),
-        },
-        Op::TallyLock { task } => Op::TallyLock {
-            task: inward_task(task),
-        },
-        Op::TallyRead { task } => Op::TallyRead {
-            task: inward_task(task),
-        },
-        Op::TallyWrite { task, value } => Op::TallyWrite {
-            task: inward_task(task),
-            value,
-        },
-        Op::TallyEnd { task } => Op::TallyEnd {
-            task: inward_task(task),
-        },
-        Op::MutexDelete { mutex } => Op::MutexDelete {
-            mutex: inward_mutex(mutex),
-        },
-        Op::MutexLook { mutex, last } => Op::MutexLook {
-            mutex: inward_mutex(mutex),
-            last,
-        },
-        Op::MutexUnlock { mutex, key } => Op::MutexUnlock {
-            mutex: inward_mutex(mutex),
-            key,
-        },
-        Op::SemDelete { sem } => Op::SemDelete {
-            sem: inward_sem(sem),
-        },
-        Op::SemLook { sem, last } => Op::SemLook {
-            sem: inward_sem(sem),
-            last,
-        },
-        Op::SemUnlock { sem } => Op::SemUnlock {
-            sem: inward_sem(sem),
-        },
-        Op::RwlDelete { rwl } => Op::RwlDelete {
-            rwl: inward_rwl(rwl),
-        },
-        Op::RwlLook { rwl, writer, last } => Op::RwlLook {
-            rwl: inward_rwl(rwl),
-            writer,
-            last,
-        },
-        Op::RwlUnlock { rwl, writer } => Op::RwlUnlock {
-            rwl: inward_rwl(rwl),
-            writer,
-        },
-        Op::ShmemDelete { shmem } => Op::ShmemDelete {
-            shmem: inward_shmem(shmem),
-        },
-        Op::ShmemAttach { shmem } => Op::ShmemAttach {
-            shmem: inward_shmem(shmem),
-        },
-        Op::ShmemDetach { shmem } => Op::ShmemDetach {
-            shmem: inward_shmem(shmem),
-        },
-        Op::ShmemRead { shmem, cell } => Op::ShmemRead {
-            shmem: inward_shmem(shmem),
-            cell,
-        },
-        Op::ShmemWrite { shmem, cell, value } => Op::ShmemWrite {
-            shmem: inward_shmem(shmem),
-            cell,
-            value,
-        },
-        op => op,
-    }
+    renamed_op(&Inwards, op)
 }
 
 /// The kind of the object whose handle the op answers, and None where it answers none.

@@ -24,7 +24,7 @@ use Rattle.mtapi_machine.specs.Row.{Row, unless, Allows, after_row, says, mtapi_
 use Rattle.mtapi_machine.specs.TaskRows.{start_refusals, asked_for, asked_of}
 use Rattle.mtapi_machine.specs.QueueRows.{new_queue}
 use Rattle.mtapi_machine.specs.Rows.{row}
-use Rattle.mtapi_layouts.proofs.Rows.{is_plain}
+use Rattle.mtapi_renaming.proofs.Rows.{is_plain}
 use Rattle.mtapi_renaming.specs.Kinds.{full, made_kind}
 use Rattle.mtapi_renaming.proofs.Creates.{no_handle, reached, after_given, limit_plain}
 

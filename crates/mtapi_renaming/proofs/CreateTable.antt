@@ -43,14 +43,14 @@ module _ {g : Renaming} {s : State} (n : Follows g s) (x : Room) (h other : ℕ)
   enqueue_alike : (q : QueueHandle) (args : _) (cores : _) (detached : Bool) (group : Option GroupHandle) → Alike kind.Task (op.TaskEnqueue q args cores detached group)
   enqueue_alike q args cores detached None =
       unless_creates refl refl (λ a. unless_creates refl refl (λ b. on_queue n q.0 _ _ (λ y has. unless_creates refl refl (λ c. starts_creates n (asked_of q.0 y args cores detached None)
-      (λ d. unless_creates (ap (λ (m : ℕ). m == y.limit) (count-in n x q.0)) refl (λ e. creates_task n (asked_of q.0 y args cores detached None) d has))))))
+      (λ d. unless_creates (ap (λ (m : ℕ). m == y.limit) (count-in n.fits x q.0)) refl (λ e. creates_task n (asked_of q.0 y args cores detached None) d has))))))
   enqueue_alike q args cores detached (Some f) =
       unless_creates refl refl (λ a. unless_creates refl refl (λ b. on_queue n q.0 _ _ (λ y has. unless_creates refl refl (λ c. starts_creates n (asked_of q.0 y args cores detached (Some f))
-      (λ d. unless_creates (ap (λ (m : ℕ). m == y.limit) (count-in n x q.0)) refl (λ e. creates_task n (asked_of q.0 y args cores detached (Some f)) d has))))))
+      (λ d. unless_creates (ap (λ (m : ℕ). m == y.limit) (count-in n.fits x q.0)) refl (λ e. creates_task n (asked_of q.0 y args cores detached (Some f)) d has))))))
 
   queue_alike : (id job priority limit : ℕ) (ordered retain : Bool) → Alike kind.Queue (op.QueueCreate id job priority limit ordered retain)
   queue_alike id job priority limit ordered retain =
-      unless_creates refl refl (λ a. unless_creates refl refl (λ b. unless_creates (ap not (action-any n x (has_job job))) refl (λ c. keyed_creates n keyed_queues (new_queue id job priority limit ordered retain) refl)))
+      unless_creates refl refl (λ a. unless_creates refl refl (λ b. unless_creates (ap not (action-any n.fits x (has_job job))) refl (λ c. keyed_creates n keyed_queues (new_queue id job priority limit ordered retain) refl)))
 
   -- the kind that the op makes
   pub create_alike : (k : ObjectKind) (o : Op) → made_kind o ≡ Some k → Alike k o

@@ -19,13 +19,14 @@ use Rattle.mtapi_machine.specs.Moves.{Move, Sort, Groups, Queues, Mutexes, Sems,
 use Rattle.mtapi_machine.specs.Row.{Row, unless, gives, Allows, after_row, says, only, mtapi_unless, handle_of, live, on, creates}
 use Rattle.mtapi_machine.specs.KeyedRows.{Keyed, mrapi_unless, creates_keyed}
 use Rattle.mtapi_machine.specs.TaskRows.{start_refusals}
-use Rattle.mtapi_layouts.proofs.Rows.{is_plain}
+use Rattle.mtapi_renaming.proofs.Rows.{is_plain}
 use Rattle.mtapi_renaming.specs.Renaming.{Renaming, Has, with_pair}
 use Rattle.mtapi_renaming.specs.Renamed.{Room, renamed_task, renamed}
-use Rattle.mtapi_renaming.specs.Follows.{HasTask, NoHandle, Follows}
+use Rattle.mtapi_renaming.specs.Follows.{HasTask, NoHandle, Fits, Follows}
 use Rattle.mtapi_renaming.specs.Kinds.{full, is_full_of, is_fresh_of, limit_of, CanBe, is_handle}
 use Rattle.mtapi_renaming.proofs.Lists.{found-has}
-use Rattle.mtapi_renaming.proofs.Moves.{sort-list, sort-follows, renamed_new}
+use Rattle.mtapi_renaming.proofs.Moves.{sort-list, sort-has, renamed_new}
+use Rattle.mtapi_renaming.proofs.Fits.{sort-only}
 use Rattle.mtapi_renaming.proofs.Rows.{sort-found, sort-any}
 use Rattle.mtapi_renaming.proofs.TaskRows.{action-any, served, group_missing}
 use Rattle.mtapi_renaming.proofs.Pairs.{MakesPair, is_new, makes_action-pair, starts_task-pair, makes-pair}
@@ -135,13 +136,13 @@ limit_plain Rwls = refl
 limit_plain Segments = refl
 
 -- the group of a new task that is not refused
-group_has : {g : Renaming} {s : State} → Follows g s → (c : Option ℕ) → holds (λ a. is_none (live_object s.groups a)) c ≡ false → IfSome c (Has g kind.Group)
+pub group_has : {g : Renaming} {s : State} → Fits g s → (c : Option ℕ) → holds (λ a. is_none (live_object s.groups a)) c ≡ false → IfSome c (Has g kind.Group)
 group_has n None e = tt
 group_has {g} {s} n (Some a) e = by_object (live_object s.groups a) refl e
   where
     by_object : (o : Option Group) → live_object s.groups a ≡ o → is_none o ≡ false → Has g kind.Group a
     by_object None d f = absurd (cc)
-    by_object (Some y) d f = (found-has g kind.Group NoHandle a y s.groups n.groups.each d).0
+    by_object (Some y) d f = (found-has g kind.Group NoHandle a y s.groups n.groups d).0
 
 module _ {g : Renaming} {x : Room} {s : State} (n : Follows g s) {h other : ℕ} where
   creates_alike : {T : Type 0} (o : Objects T) (make make_other : ℕ → Move) → ((t : State) → is_full_of o.kind t ≡ full o t) → ((t : State) (a : ℕ) → is_fresh_of o.kind t a ≡ is_fresh o t a) → limit_of o.kind ≡ o.limit → is_plain o.limit ≡ true →
@@ -171,32 +172,32 @@ module _ {g : Renaming} {x : Room} {s : State} (n : Follows g s) {h other : ℕ}
   pub creates_action : (a : Action) → CreateAlike g x s kind.Action h other (λ r. creates actions s r (λ b. makes_action b a)) (λ r. creates actions (renamed g x s) r (λ b. makes_action b a))
   creates_action a =
       creates_alike actions (λ b. makes_action b a) (λ b. makes_action b a) (λ t. refl) (λ t b. refl) refl refl
-      (λ i j. makes_action-pair g x s n h other a (is_new g x s n.one actions (λ y. y) NoHandle refl n.actions h other i j))
+      (λ i j. makes_action-pair g x s n h other a (is_new g x s n.fits.one actions (λ y. y) NoHandle refl n.fits.actions (n.only kind.Action) h other i j))
 
   pub creates_task : (t : NewTask) → IfSome t.group (Has g kind.Group) → IfSome t.queue (Has g kind.Queue) →
       CreateAlike g x s kind.Task h other (λ r. creates tasks s r (λ b. starts_task b t)) (λ r. creates tasks (renamed g x s) r (λ b. starts_task b (renamed_new g t)))
   creates_task t a b =
       creates_alike tasks (λ c. starts_task c t) (λ c. starts_task c (renamed_new g t)) (λ u. refl) (λ u c. refl) refl refl
-      (λ i j. starts_task-pair g x s n h other t a b (is_new g x s n.one tasks (renamed_task g) (HasTask g) refl n.tasks h other i j))
+      (λ i j. starts_task-pair g x s n h other t a b (is_new g x s n.fits.one tasks (renamed_task g) (HasTask g) refl n.fits.tasks (n.only kind.Task) h other i j))
 
   pub creates_sort : (t : Sort) (w : Fields t) → CreateAlike g x s (all_of t).kind h other (λ r. creates (all_of t) s r (λ b. makes t b w)) (λ r. creates (all_of t) (renamed g x s) r (λ b. makes t b w))
   creates_sort t w =
       creates_alike (all_of t) (λ b. makes t b w) (λ b. makes t b w) (full_same t) (fresh_same t) (limit_same t) (limit_plain t)
-      (λ i j. makes-pair g x s n h other t w (is_new g x s n.one (all_of t) (λ y. y) NoHandle (sort-list g x t s) (sort-follows g t s n) h other i j))
+      (λ i j. makes-pair g x s n h other t w (is_new g x s n.fits.one (all_of t) (λ y. y) NoHandle (sort-list g x t s) (sort-has g t s n.fits) (sort-only g t s n.only) h other i j))
 
   -- a new object, where no live one has its id
   pub keyed_creates : {t : Sort} (o : Keyed t) (w : Fields t) → is_plain o.exists ≡ true → CreateAlike g x s (all_of t).kind h other (λ r. creates_keyed o s r w) (λ r. creates_keyed o (renamed g x s) r w)
-  keyed_creates {t} o w p = unless_creates (sort-any n x t (λ y. o.id y == o.id w)) p (λ d. creates_sort t w)
+  keyed_creates {t} o w p = unless_creates (sort-any n.fits x t (λ y. o.id y == o.id w)) p (λ d. creates_sort t w)
 
   -- Starting
 
   pub starts_creates : (t : NewTask) {own others : Reply → Row} → (IfSome t.group (Has g kind.Group) → CreateAlike g x s kind.Task h other own others) →
       CreateAlike g x s kind.Task h other (λ r. mtapi_unless (start_refusals s t) (own r)) (λ r. mtapi_unless (start_refusals (renamed g x s) (renamed_new g t)) (others r))
   starts_creates t {own} {others} w =
-      unless_creates (ap not (action-any n x (has_job t.job))) refl (λ a. unless_creates (group_missing n x t.group) refl (λ b. unless_creates (ap not (action-any n x (has_enabled_job t.job))) refl (λ c.
-      unless_creates {own = own} {others = others} (ap not (served n x t.job t.cores)) refl (λ d. w (group_has n t.group b)))))
+      unless_creates (ap not (action-any n.fits x (has_job t.job))) refl (λ a. unless_creates (group_missing n.fits x t.group) refl (λ b. unless_creates (ap not (action-any n.fits x (has_enabled_job t.job))) refl (λ c.
+      unless_creates {own = own} {others = others} (ap not (served n.fits x t.job t.cores)) refl (λ d. w (group_has n.fits t.group b)))))
 
   -- an enqueue on the live queue of a handle
   pub on_queue : (q : ℕ) (v w : Queue → Reply → Row) → ((y : Queue) → Has g kind.Queue q → CreateAlike g x s kind.Task h other (v y) (w y)) →
       CreateAlike g x s kind.Task h other (λ r. on queues s q (λ y. v y r)) (λ r. on queues (renamed g x s) (g kind.Queue q) (λ y. w y r))
-  on_queue q v w e = live_creates (λ y. y) _ v w (sort-found n x Queues q) refl (λ y d. e y (found-has g kind.Queue NoHandle q y s.queues n.queues.each d).0)
+  on_queue q v w e = live_creates (λ y. y) _ v w (sort-found n.fits x Queues q) refl (λ y d. e y (found-has g kind.Queue NoHandle q y s.queues n.fits.queues d).0)

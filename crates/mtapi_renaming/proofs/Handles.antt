@@ -63,16 +63,6 @@ module _ {T : Type 0} where
   unfolding listed
   listed-same h l m v = same_count (λ a. a == h) l m v
 
-  -- a change that keeps each handle lists the same ones
-  pub listed-change_all : (h : ℕ) (p : T → Bool) (F : Listed T → Listed T) → ((r : Listed T) → (F r).handle ≡ r.handle) → (l : List (Listed T)) → listed h (change_all p F l) ≡ listed h l
-  unfolding listed change_all
-  listed-change_all h p F same [] = refl
-  listed-change_all h p F same (r ∷ rs) = λ i. cond {A = ℕ} (by_test (r.live && p r.fields) i == h) 1 0 + listed-change_all h p F same rs i
-    where
-      by_test : (b : Bool) → (cond b (F r) r).handle ≡ r.handle
-      by_test true = same r
-      by_test false = refl
-
   pub issued_at-same : (h : ℕ) (l m : List (Listed T)) → SameHandles l m → issued_at h m ≡ issued_at h l
   unfolding issued_at
   issued_at-same h l m v = same_count (λ a. slot_of a == slot_of h) l m v

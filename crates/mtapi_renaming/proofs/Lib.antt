@@ -17,12 +17,14 @@ pub mod Picks
 pub mod Counts
 pub mod CountMoves
 pub mod CountRows
+pub mod Fits
 pub mod Lasts
 pub mod LastMoves
 pub mod Room
 pub mod RoomMoves
 pub mod Gone
 pub mod GoneMoves
+pub mod Comes
 pub mod Steps
 pub mod Equality
 pub mod Verdicts

@@ -1,19 +1,17 @@
 -- What a list of objects answers once its handles are others, and what its changes leave of the renaming.
-use Rattle.std.proofs.Common.{◌≡◌, ℕ, ◌≤◌, Bool, true, false, ◌&&◌, cond, List, [], ◌∷◌, Some, refl, sym, ◌∙◌, ap, subst}
+use Rattle.std.proofs.Common.{◌≡◌, ℕ, Bool, true, false, ◌&&◌, cond, List, [], ◌∷◌, Some, refl, sym, ◌∙◌, ap, subst}
 use Rattle.std.specs.Prelude.{◌==◌}
 use Rattle.std.specs.Option.{option_map}
 use Rattle.std.proofs.lemmas.Bool.{eqb-true, eq-eqb}
 use Rattle.mtapi_values.specs.declared.handles.ObjectKind.{ObjectKind}
-use Rattle.handle_pool.specs.Issued.{Listed, live_of, lookup, live_object, any_live, any_listed, first_handle, count_listed, listed, issue, change, change_all}
+use Rattle.handle_pool.specs.Issued.{Listed, live_of, lookup, live_object, any_live, any_listed, first_handle, count_listed, issue, change, change_all}
 use Rattle.handle_pool.specs.Inside.{inside, Apart, Agree}
 use Rattle.handle_pool.specs.Inside.{turned as turned_one}
 use Rattle.handle_pool.proofs.InsideLemmas.{at-inside, count-inside}
 use Rattle.handle_pool.proofs.LiveLemmas.{same_tests}
-use Rattle.handle_pool.proofs.ListedLemmas.{listed-change}
-use Rattle.mtapi_renaming.proofs.Handles.{listed-change_all}
 use Rattle.mtapi_renaming.specs.Renaming.{Renaming, Has, IsOneToOne}
 use Rattle.mtapi_renaming.specs.Renamed.{renamed_list}
-use Rattle.mtapi_renaming.specs.Follows.{HasEach, HasOnly, FollowsList}
+use Rattle.mtapi_renaming.specs.Follows.{HasEach}
 
 -- two handles are told apart by their other ones, where the first has another
 pub same_test : (g : Renaming) → IsOneToOne g → (k : ObjectKind) (a b : ℕ) → Has g k a → (g k a == g k b) ≡ (a == b)
@@ -77,7 +75,27 @@ module _ {T : Type 0} (g : Renaming) (one : IsOneToOne g) (k : ObjectKind) (f : 
         by_test : (b : Bool) → turned_one (g k) (λ i x. f x) (cond (r.live && m r.fields) (F r) r) ≡ cond (r.live && q (f r.fields)) (G (turned_one (g k) (λ i x. f x) r)) (turned_one (g k) (λ i x. f x) r)
         by_test b = by_pass (r.live && m r.fields) ∙ (λ i. cond (r.live && (sym (same r.fields n.0.1) i)) (G (turned_one (g k) (λ i x. f x) r)) (turned_one (g k) (λ i x. f x) r))
 
+-- a handle that is another one's
+pub record IsOther (g : Renaming) (k : ObjectKind) (other : ℕ) : Type 0 where
+  pub own : ℕ
+  pub has : Has g k own
+  pub is : other ≡ g k own
+
 module _ {T : Type 0} (g : Renaming) (k : ObjectKind) (P : T → Type 0) where
+  -- so is each that names a live object of the renamed list
+  pub found-other : (f : T → T) (h : ℕ) (x : T) (l : List (Listed T)) → HasEach g k P l → live_object (renamed_list (g k) f l) h ≡ Some x → IsOther g k h
+  unfolding live_of inside
+  found-other f h x [] n e = absurd (cc)
+  found-other f h x (r ∷ rs) n e = by_live r.live (λ d. found-other f h x rs n.1 d) e
+    where
+      by_handle : (b : Bool) → (g k r.handle == h) ≡ b → (live_object (renamed_list (g k) f rs) h ≡ Some x → IsOther g k h) → cond b (Some (f r.fields)) (live_object (renamed_list (g k) f rs) h) ≡ Some x → IsOther g k h
+      by_handle true i rest d = record { own = r.handle; has = n.0.0; is = sym (eqb-true (g k r.handle) h i) }
+      by_handle false i rest d = rest d
+
+      by_live : (b : Bool) → (live_object (renamed_list (g k) f rs) h ≡ Some x → IsOther g k h) → lookup (cond b ((g k r.handle, f r.fields) ∷ live_of (renamed_list (g k) f rs)) (live_of (renamed_list (g k) f rs))) h ≡ Some x → IsOther g k h
+      by_live true rest d = by_handle (g k r.handle == h) refl rest d
+      by_live false rest d = rest d
+
   -- the live object of a handle, and the handle
   pub found-has : (h : ℕ) (x : T) (l : List (Listed T)) → HasEach g k P l → live_object l h ≡ Some x → Has g k h × P x
   unfolding live_of
@@ -108,7 +126,7 @@ module _ {T : Type 0} (g : Renaming) (k : ObjectKind) (P : T → Type 0) where
 
   -- what the changes of a list leave of the renaming
 
-  has-change : (h : ℕ) (F : Listed T → Listed T) → ((r : Listed T) → (F r).handle ≡ r.handle) → ((r : Listed T) → P r.fields → P (F r).fields) → (l : List (Listed T)) → HasEach g k P l → HasEach g k P (change h F l)
+  pub has-change : (h : ℕ) (F : Listed T → Listed T) → ((r : Listed T) → (F r).handle ≡ r.handle) → ((r : Listed T) → P r.fields → P (F r).fields) → (l : List (Listed T)) → HasEach g k P l → HasEach g k P (change h F l)
   unfolding change
   has-change h F same keeps [] n = tt
   has-change h F same keeps (r ∷ rs) n = by_test (r.live && (r.handle == h)) (has-change h F same keeps rs n.1)
@@ -117,7 +135,7 @@ module _ {T : Type 0} (g : Renaming) (k : ObjectKind) (P : T → Type 0) where
       by_test true rest = ((subst (λ (x : ℕ). Has g k x) (sym (same r)) n.0.0, keeps r n.0.1), n.1)
       by_test false rest = (n.0, rest)
 
-  has-change_all : (p : T → Bool) (F : Listed T → Listed T) → ((r : Listed T) → (F r).handle ≡ r.handle) → ((r : Listed T) → P r.fields → P (F r).fields) → (l : List (Listed T)) → HasEach g k P l → HasEach g k P (change_all p F l)
+  pub has-change_all : (p : T → Bool) (F : Listed T → Listed T) → ((r : Listed T) → (F r).handle ≡ r.handle) → ((r : Listed T) → P r.fields → P (F r).fields) → (l : List (Listed T)) → HasEach g k P l → HasEach g k P (change_all p F l)
   unfolding change_all
   has-change_all p F same keeps [] n = tt
   has-change_all p F same keeps (r ∷ rs) n = (by_test (r.live && p r.fields), has-change_all p F same keeps rs n.1)
@@ -130,13 +148,3 @@ module _ {T : Type 0} (g : Renaming) (k : ObjectKind) (P : T → Type 0) where
   unfolding issue
   has-issue h v [] some p n = ((some, p), tt)
   has-issue h v (r ∷ rs) some p n = (n.0, has-issue h v rs some p n.1)
-
-  -- the same handles stay listed
-  pub only_same : (l m : List (Listed T)) → ((h : ℕ) → listed h m ≡ listed h l) → HasOnly g k l → HasOnly g k m
-  only_same l m e o h has = subst (λ (n : ℕ). 1 ≤ n) (sym (e h)) (o h has)
-
-  pub follows-change : (h : ℕ) (F : Listed T → Listed T) → ((r : Listed T) → (F r).handle ≡ r.handle) → ((r : Listed T) → P r.fields → P (F r).fields) → (l : List (Listed T)) → FollowsList g k P l → FollowsList g k P (change h F l)
-  follows-change h F same keeps l v = record { each = has-change h F same keeps l v.each; only = only_same l (change h F l) (λ j. listed-change j h F same l) v.only }
-
-  pub follows-change_all : (p : T → Bool) (F : Listed T → Listed T) → ((r : Listed T) → (F r).handle ≡ r.handle) → ((r : Listed T) → P r.fields → P (F r).fields) → (l : List (Listed T)) → FollowsList g k P l → FollowsList g k P (change_all p F l)
-  follows-change_all p F same keeps l v = record { each = has-change_all p F same keeps l v.each; only = only_same l (change_all p F l) (λ j. listed-change_all j p F same l) v.only }

@@ -18,30 +18,30 @@ use Rattle.mtapi_machine.specs.State.{State, workers, end_tasks}
 use Rattle.mtapi_machine.specs.Moves.{Move, Sort, Groups, Queues, Mutexes, Sems, Rwls, Segments, Fields, all_of, phase_is, released, stops, makes_action, enables, withdraws, starts_task, runs_task, ends_task, ends_waiting, notes, leaves, frees_members, lets_members_go, makes, alters, removes, apply, after_moves}
 use Rattle.mtapi_renaming.specs.Renaming.{Renaming}
 use Rattle.mtapi_renaming.specs.Renamed.{Room, renamed_list, renamed_task, renamed_notes, renamed}
-use Rattle.mtapi_renaming.specs.Follows.{HasNotes, HasTask, NoHandle, FollowsList, Follows}
-use Rattle.mtapi_renaming.proofs.Lists.{apart, same_count, change_all-renamed, follows-change, follows-change_all}
-use Rattle.mtapi_renaming.proofs.Tasks.{SameTest, same_member, same_workers, end_each-renamed, follows-ends}
+use Rattle.mtapi_renaming.specs.Follows.{HasNotes, HasTask, NoHandle, HasEach, Fits}
+use Rattle.mtapi_renaming.proofs.Lists.{apart, same_count, change_all-renamed, has-change, has-change_all}
+use Rattle.mtapi_renaming.proofs.Tasks.{SameTest, same_member, same_workers, end_each-renamed, has-ends}
 
 -- the move is, in the renamed state, this other one
 pub record MoveRenames (g : Renaming) (x : Room) (s : State) (other move : Move) : Type 0 where
   pub same : renamed g x (apply move s) ≡ apply other (renamed g x s)
-  pub follows : Follows g (apply move s)
+  pub fits : Fits g (apply move s)
 
 -- so of several moves, one after the other
 pub record MovesRename (g : Renaming) (x : Room) (s : State) (others moves : List Move) : Type 0 where
   pub same : renamed g x (after_moves moves s) ≡ after_moves others (renamed g x s)
-  pub follows : Follows g (after_moves moves s)
+  pub fits : Fits g (after_moves moves s)
 
-pub no_move : {g : Renaming} {x : Room} {s : State} → Follows g s → MovesRename g x s [] []
-no_move n = record { same = refl; follows = n }
+pub no_move : {g : Renaming} {x : Room} {s : State} → Fits g s → MovesRename g x s [] []
+no_move n = record { same = refl; fits = n }
 
 -- one move
 pub one_move : {g : Renaming} {x : Room} {s : State} {m w : Move} → MoveRenames g x s m w → MovesRename g x s (m ∷ []) (w ∷ [])
-one_move e = record { same = e.same; follows = e.follows }
+one_move e = record { same = e.same; fits = e.fits }
 
 -- a move, and then more of them
-pub then_moves : {g : Renaming} {x : Room} {s : State} {m w : Move} {ms ws : List Move} → MoveRenames g x s m w → (Follows g (apply w s) → MovesRename g x (apply w s) ms ws) → MovesRename g x s (m ∷ ms) (w ∷ ws)
-then_moves {g} {x} {s} {m} {w} {ms} {ws} e f = let r = f e.follows in record { same = r.same ∙ ap (after_moves ms) e.same; follows = r.follows }
+pub then_moves : {g : Renaming} {x : Room} {s : State} {m w : Move} {ms ws : List Move} → MoveRenames g x s m w → (Fits g (apply w s) → MovesRename g x (apply w s) ms ws) → MovesRename g x s (m ∷ ms) (w ∷ ws)
+then_moves {g} {x} {s} {m} {w} {ms} {ws} e f = let r = f e.fits in record { same = r.same ∙ ap (after_moves ms) e.same; fits = r.fits }
 
 -- a new task, with the other handles of its group and its queue
 abbrev pub renamed_new : Renaming → NewTask → NewTask
@@ -68,27 +68,27 @@ sort-with g x Sems l s = refl
 sort-with g x Rwls l s = refl
 sort-with g x Segments l s = refl
 
-pub sort-follows : (g : Renaming) (k : Sort) (s : State) → Follows g s → FollowsList g (all_of k).kind NoHandle ((all_of k).list s)
-sort-follows g Groups s n = n.groups
-sort-follows g Queues s n = n.queues
-sort-follows g Mutexes s n = n.mutexes
-sort-follows g Sems s n = n.sems
-sort-follows g Rwls s n = n.rwls
-sort-follows g Segments s n = n.segments
+pub sort-has : (g : Renaming) (k : Sort) (s : State) → Fits g s → HasEach g (all_of k).kind NoHandle ((all_of k).list s)
+sort-has g Groups s n = n.groups
+sort-has g Queues s n = n.queues
+sort-has g Mutexes s n = n.mutexes
+sort-has g Sems s n = n.sems
+sort-has g Rwls s n = n.rwls
+sort-has g Segments s n = n.segments
 
 -- the state with another list of a kind that no rule of tasks speaks of
-pub follows-with : (g : Renaming) (s : State) → Follows g s → (k : Sort) (l : List (Listed (Fields k))) → FollowsList g (all_of k).kind NoHandle l → Follows g ((all_of k).with_list l s)
-follows-with g s n Groups l v = record { one = n.one; zero = n.zero; actions = n.actions; tasks = n.tasks; groups = v; queues = n.queues; mutexes = n.mutexes; sems = n.sems; rwls = n.rwls; segments = n.segments }
-follows-with g s n Queues l v = record { one = n.one; zero = n.zero; actions = n.actions; tasks = n.tasks; groups = n.groups; queues = v; mutexes = n.mutexes; sems = n.sems; rwls = n.rwls; segments = n.segments }
-follows-with g s n Mutexes l v = record { one = n.one; zero = n.zero; actions = n.actions; tasks = n.tasks; groups = n.groups; queues = n.queues; mutexes = v; sems = n.sems; rwls = n.rwls; segments = n.segments }
-follows-with g s n Sems l v = record { one = n.one; zero = n.zero; actions = n.actions; tasks = n.tasks; groups = n.groups; queues = n.queues; mutexes = n.mutexes; sems = v; rwls = n.rwls; segments = n.segments }
-follows-with g s n Rwls l v = record { one = n.one; zero = n.zero; actions = n.actions; tasks = n.tasks; groups = n.groups; queues = n.queues; mutexes = n.mutexes; sems = n.sems; rwls = v; segments = n.segments }
-follows-with g s n Segments l v = record { one = n.one; zero = n.zero; actions = n.actions; tasks = n.tasks; groups = n.groups; queues = n.queues; mutexes = n.mutexes; sems = n.sems; rwls = n.rwls; segments = v }
+pub has-with : (g : Renaming) (s : State) → Fits g s → (k : Sort) (l : List (Listed (Fields k))) → HasEach g (all_of k).kind NoHandle l → Fits g ((all_of k).with_list l s)
+has-with g s n Groups l v = record { one = n.one; zero = n.zero; actions = n.actions; tasks = n.tasks; groups = v; queues = n.queues; mutexes = n.mutexes; sems = n.sems; rwls = n.rwls; segments = n.segments }
+has-with g s n Queues l v = record { one = n.one; zero = n.zero; actions = n.actions; tasks = n.tasks; groups = n.groups; queues = v; mutexes = n.mutexes; sems = n.sems; rwls = n.rwls; segments = n.segments }
+has-with g s n Mutexes l v = record { one = n.one; zero = n.zero; actions = n.actions; tasks = n.tasks; groups = n.groups; queues = n.queues; mutexes = v; sems = n.sems; rwls = n.rwls; segments = n.segments }
+has-with g s n Sems l v = record { one = n.one; zero = n.zero; actions = n.actions; tasks = n.tasks; groups = n.groups; queues = n.queues; mutexes = n.mutexes; sems = v; rwls = n.rwls; segments = n.segments }
+has-with g s n Rwls l v = record { one = n.one; zero = n.zero; actions = n.actions; tasks = n.tasks; groups = n.groups; queues = n.queues; mutexes = n.mutexes; sems = n.sems; rwls = v; segments = n.segments }
+has-with g s n Segments l v = record { one = n.one; zero = n.zero; actions = n.actions; tasks = n.tasks; groups = n.groups; queues = n.queues; mutexes = n.mutexes; sems = n.sems; rwls = n.rwls; segments = v }
 
 -- the state with other actions and tasks, and what is no object
-pub follows-so : (g : Renaming) (s : State) → Follows g s → (p : Phase) (b : Bool) (marks : List Bool) (starts ends : ℕ) (l : List (Listed Action)) (ts : List (Listed Task)) → FollowsList g kind.Action NoHandle l → FollowsList g kind.Task (HasTask g) ts →
-    Follows g (record s { phase = p; released = b; stopped = marks; starts = starts; ends = ends; actions = l; tasks = ts })
-follows-so g s n p b marks starts ends l ts v w = record { one = n.one; zero = n.zero; actions = v; tasks = w; groups = n.groups; queues = n.queues; mutexes = n.mutexes; sems = n.sems; rwls = n.rwls; segments = n.segments }
+pub has-so : (g : Renaming) (s : State) → Fits g s → (p : Phase) (b : Bool) (marks : List Bool) (starts ends : ℕ) (l : List (Listed Action)) (ts : List (Listed Task)) → HasEach g kind.Action NoHandle l → HasEach g kind.Task (HasTask g) ts →
+    Fits g (record s { phase = p; released = b; stopped = marks; starts = starts; ends = ends; actions = l; tasks = ts })
+has-so g s n p b marks starts ends l ts v w = record { one = n.one; zero = n.zero; actions = v; tasks = w; groups = n.groups; queues = n.queues; mutexes = n.mutexes; sems = n.sems; rwls = n.rwls; segments = n.segments }
 
 -- new objects, whatever the renaming has
 module _ (g : Renaming) (x : Room) (s : State) where
@@ -105,105 +105,105 @@ module _ (g : Renaming) (x : Room) (s : State) where
       sort-with g x k (issue h v ((all_of k).list s)) s
       ∙ ap (λ (l : List (Listed (Fields k))). (all_of k).with_list l (renamed g x s)) (issue-inside (g (all_of k).kind) (λ j y. y) h v ((all_of k).list s) ∙ ap (issue (g (all_of k).kind h) v) (sym (sort-list g x k s)))
 
-module _ (g : Renaming) (x : Room) (s : State) (n : Follows g s) where
-  with_tasks : (starts ends : ℕ) (ts : List (Listed Task)) → FollowsList g kind.Task (HasTask g) ts → Follows g (record s { starts = starts; ends = ends; tasks = ts })
-  with_tasks starts ends ts w = follows-so g s n s.phase s.released s.stopped starts ends s.actions ts n.actions w
+module _ (g : Renaming) (x : Room) (s : State) (n : Fits g s) where
+  with_tasks : (starts ends : ℕ) (ts : List (Listed Task)) → HasEach g kind.Task (HasTask g) ts → Fits g (record s { starts = starts; ends = ends; tasks = ts })
+  with_tasks starts ends ts w = has-so g s n s.phase s.released s.stopped starts ends s.actions ts n.actions w
 
   pub phase-renames : (p : Phase) → MoveRenames g x s (phase_is p) (phase_is p)
-  phase-renames p = record { same = refl; follows = follows-so g s n p s.released s.stopped s.starts s.ends s.actions s.tasks n.actions n.tasks }
+  phase-renames p = record { same = refl; fits = has-so g s n p s.released s.stopped s.starts s.ends s.actions s.tasks n.actions n.tasks }
 
   pub released-renames : MoveRenames g x s released released
-  released-renames = record { same = refl; follows = follows-so g s n s.phase true s.stopped s.starts s.ends s.actions s.tasks n.actions n.tasks }
+  released-renames = record { same = refl; fits = has-so g s n s.phase true s.stopped s.starts s.ends s.actions s.tasks n.actions n.tasks }
 
   pub stops-renames : (w : ℕ) → MoveRenames g x s (stops w) (stops w)
-  stops-renames w = record { same = refl; follows = follows-so g s n s.phase s.released (slice_set s.stopped w true) s.starts s.ends s.actions s.tasks n.actions n.tasks }
+  stops-renames w = record { same = refl; fits = has-so g s n s.phase s.released (slice_set s.stopped w true) s.starts s.ends s.actions s.tasks n.actions n.tasks }
 
   pub enables-renames : (h : ℕ) → MoveRenames g x s (enables (g kind.Action h)) (enables h)
   enables-renames h = record {
-    same = λ i. record (renamed g x s) { actions = update-inside (g kind.Action) (λ j y. y) h (with_enabled true) (with_enabled true) s.actions (λ v. refl) (apart g n.one kind.Action (λ y. y) NoHandle h s.actions n.actions.each) i };
-    follows = follows-so g s n s.phase s.released s.stopped s.starts s.ends _ s.tasks (follows-change g kind.Action NoHandle h (with_fields (with_enabled true)) (λ r. refl) (λ r v. tt) s.actions n.actions) n.tasks;
+    same = λ i. record (renamed g x s) { actions = update-inside (g kind.Action) (λ j y. y) h (with_enabled true) (with_enabled true) s.actions (λ v. refl) (apart g n.one kind.Action (λ y. y) NoHandle h s.actions n.actions) i };
+    fits = has-so g s n s.phase s.released s.stopped s.starts s.ends _ s.tasks (has-change g kind.Action NoHandle h (with_fields (with_enabled true)) (λ r. refl) (λ r v. tt) s.actions n.actions) n.tasks;
   }
 
   task_changes : (h : ℕ) (F G : Task → Task) → ((t : Task) → renamed_task g (F t) ≡ G (renamed_task g t)) → renamed g x (record s { tasks = update h F s.tasks }) ≡ record (renamed g x s) { tasks = update (g kind.Task h) G (renamed g x s).tasks }
-  task_changes h F G to = λ i. record (renamed g x s) { tasks = update-inside (g kind.Task) (λ j y. renamed_task g y) h F G s.tasks to (apart g n.one kind.Task (renamed_task g) (HasTask g) h s.tasks n.tasks.each) i }
+  task_changes h F G to = λ i. record (renamed g x s) { tasks = update-inside (g kind.Task) (λ j y. renamed_task g y) h F G s.tasks to (apart g n.one kind.Task (renamed_task g) (HasTask g) h s.tasks n.tasks) i }
 
   pub runs_task-renames : (h w : ℕ) (k : Kind) → MoveRenames g x s (runs_task (g kind.Task h) w k) (runs_task h w k)
   runs_task-renames h w k = record {
     same = task_changes h (with_state (Running w k)) (with_state (Running w k)) (λ t. refl);
-    follows = with_tasks s.starts s.ends _ (follows-change g kind.Task (HasTask g) h (with_fields (with_state (Running w k))) (λ r. refl) (λ r v. record { queue = v.queue; notes = v.notes }) s.tasks n.tasks);
+    fits = with_tasks s.starts s.ends _ (has-change g kind.Task (HasTask g) h (with_fields (with_state (Running w k))) (λ r. refl) (λ r v. record { queue = v.queue; notes = v.notes }) s.tasks n.tasks);
   }
 
   pub notes-renames : (h : ℕ) (f c : Notes → Notes) → ((y : Notes) → renamed_notes g (f y) ≡ c (renamed_notes g y)) → NoteKeeps g f → MoveRenames g x s (notes (g kind.Task h) c) (notes h f)
   notes-renames h f c to keeps = record {
     same = task_changes h (with_notes f) (with_notes c) (λ t. ap (λ (y : Notes). record (renamed_task g t) { notes = y }) (to t.notes));
-    follows = with_tasks s.starts s.ends _ (follows-change g kind.Task (HasTask g) h (with_fields (with_notes f)) (λ r. refl) (λ r v. record { queue = v.queue; notes = keeps r.fields.notes v.notes }) s.tasks n.tasks);
+    fits = with_tasks s.starts s.ends _ (has-change g kind.Task (HasTask g) h (with_fields (with_notes f)) (λ r. refl) (λ r v. record { queue = v.queue; notes = keeps r.fields.notes v.notes }) s.tasks n.tasks);
   }
 
   pub ends_task-renames : (h : ℕ) (e : TaskEnd) → MoveRenames g x s (ends_task (g kind.Task h) e) (ends_task h e)
   ends_task-renames h e = record {
     same = λ i. record (renamed g x s) {
-      tasks = change-inside (g kind.Task) (λ j y. renamed_task g y) h (ended e s.ends) (ended e s.ends) s.tasks (λ r d. refl) (apart g n.one kind.Task (renamed_task g) (HasTask g) h s.tasks n.tasks.each) i;
+      tasks = change-inside (g kind.Task) (λ j y. renamed_task g y) h (ended e s.ends) (ended e s.ends) s.tasks (λ r d. refl) (apart g n.one kind.Task (renamed_task g) (HasTask g) h s.tasks n.tasks) i;
       ends = s.ends + 1;
     };
-    follows = with_tasks s.starts _ _ (follows-change g kind.Task (HasTask g) h (ended e s.ends) (λ r. refl) (λ r v. record { queue = v.queue; notes = v.notes }) s.tasks n.tasks);
+    fits = with_tasks s.starts _ _ (has-change g kind.Task (HasTask g) h (ended e s.ends) (λ r. refl) (λ r v. record { queue = v.queue; notes = v.notes }) s.tasks n.tasks);
   }
 
   pub leaves-renames : (h : ℕ) → MoveRenames g x s (leaves (g kind.Task h)) (leaves h)
   leaves-renames h = record {
-    same = λ i. record (renamed g x s) { tasks = retire-inside (g kind.Task) (λ j y. renamed_task g y) h s.tasks (apart g n.one kind.Task (renamed_task g) (HasTask g) h s.tasks n.tasks.each) i };
-    follows = with_tasks s.starts s.ends _ (follows-change g kind.Task (HasTask g) h gone (λ r. refl) (λ r v. v) s.tasks n.tasks);
+    same = λ i. record (renamed g x s) { tasks = retire-inside (g kind.Task) (λ j y. renamed_task g y) h s.tasks (apart g n.one kind.Task (renamed_task g) (HasTask g) h s.tasks n.tasks) i };
+    fits = with_tasks s.starts s.ends _ (has-change g kind.Task (HasTask g) h gone (λ r. refl) (λ r v. v) s.tasks n.tasks);
   }
 
   -- every task that passes ends
   ends-same : (q m : Task → Bool) → SameTest g q m → (e : TaskEnd) → renamed g x (end_tasks m e s) ≡ end_tasks q e (renamed g x s)
   ends-same q m same e = λ i. record (renamed g x s) {
-    tasks = end_each-renamed g n.one q m same e s.ends s.tasks n.tasks.each i;
-    ends = s.ends + sym (same_count g n.one kind.Task (renamed_task g) (HasTask g) q m same s.tasks n.tasks.each) i;
+    tasks = end_each-renamed g n.one q m same e s.ends s.tasks n.tasks i;
+    ends = s.ends + sym (same_count g n.one kind.Task (renamed_task g) (HasTask g) q m same s.tasks n.tasks) i;
   }
 
   pub ends_waiting-renames : (q m : Task → Bool) → SameTest g q m → (e : TaskEnd) → MoveRenames g x s (ends_waiting q e) (ends_waiting m e)
   ends_waiting-renames q m same e = record {
     same = ends-same (λ t. is_unstarted t && q t) (λ t. is_unstarted t && m t) (λ t v. ap (λ (b : Bool). is_unstarted t && b) (same t v)) e;
-    follows = with_tasks s.starts _ _ (follows-ends g (λ t. is_unstarted t && m t) e s.ends s.tasks n.tasks);
+    fits = with_tasks s.starts _ _ (has-ends g (λ t. is_unstarted t && m t) e s.ends s.tasks n.tasks);
   }
 
   pub frees_members-renames : (h : ℕ) → MoveRenames g x s (frees_members (g kind.Group h)) (frees_members h)
   frees_members-renames h = record {
     same = λ i. record (renamed g x s) {
       tasks = change_all-renamed g n.one kind.Task (renamed_task g) (HasTask g) (λ t. is_member (g kind.Group h) t && not (is_unended t)) (λ t. is_member h t && not (is_unended t))
-          (λ t v. ap (λ (b : Bool). b && not (is_unended t)) (same_member g n.one h t v)) freed freed (λ r. refl) s.tasks n.tasks.each i;
+          (λ t v. ap (λ (b : Bool). b && not (is_unended t)) (same_member g n.one h t v)) freed freed (λ r. refl) s.tasks n.tasks i;
     };
-    follows = with_tasks s.starts s.ends _ (follows-change_all g kind.Task (HasTask g) (λ t. is_member h t && not (is_unended t)) freed (λ r. refl) (λ r v. record { queue = v.queue; notes = record { group = tt; tally = v.notes.tally } }) s.tasks n.tasks);
+    fits = with_tasks s.starts s.ends _ (has-change_all g kind.Task (HasTask g) (λ t. is_member h t && not (is_unended t)) freed (λ r. refl) (λ r v. record { queue = v.queue; notes = record { group = tt; tally = v.notes.tally } }) s.tasks n.tasks);
   }
 
   pub lets_members_go-renames : (h : ℕ) → MoveRenames g x s (lets_members_go (g kind.Group h)) (lets_members_go h)
   lets_members_go-renames h = record {
     same = λ i. record (renamed g x s) {
-      tasks = change_all-renamed g n.one kind.Task (renamed_task g) (HasTask g) (is_member (g kind.Group h)) (is_member h) (same_member g n.one h) let_go let_go (λ r. refl) s.tasks n.tasks.each i;
+      tasks = change_all-renamed g n.one kind.Task (renamed_task g) (HasTask g) (is_member (g kind.Group h)) (is_member h) (same_member g n.one h) let_go let_go (λ r. refl) s.tasks n.tasks i;
     };
-    follows = with_tasks s.starts s.ends _ (follows-change_all g kind.Task (HasTask g) (is_member h) let_go (λ r. refl) (λ r v. record { queue = v.queue; notes = record { group = tt; tally = v.notes.tally } }) s.tasks n.tasks);
+    fits = with_tasks s.starts s.ends _ (has-change_all g kind.Task (HasTask g) (is_member h) let_go (λ r. refl) (λ r v. record { queue = v.queue; notes = record { group = tt; tally = v.notes.tally } }) s.tasks n.tasks);
   }
 
   -- an action is taken away, or disabled
   module _ (h : ℕ) (f : Listed Action → Listed Action) (same : (r : Listed Action) → (f r).handle ≡ r.handle) (to : (r : Listed Action) → turned_one (g kind.Action) (λ j y. y) (f r) ≡ f (turned_one (g kind.Action) (λ j y. y) r)) where
     others : renamed_list (g kind.Action) (λ y. y) (change h f s.actions) ≡ change (g kind.Action h) f (renamed g x s).actions
-    others = change-inside (g kind.Action) (λ j y. y) h f f s.actions (λ r d. to r) (apart g n.one kind.Action (λ y. y) NoHandle h s.actions n.actions.each)
+    others = change-inside (g kind.Action) (λ j y. y) h f f s.actions (λ r d. to r) (apart g n.one kind.Action (λ y. y) NoHandle h s.actions n.actions)
 
     abbrev is_left : List (Listed Action) → Task → Bool
     is_left l t = is_unstarted t && not (has_worker (workers s) t.job t.cores (live_of l))
 
-    follow : FollowsList g kind.Action NoHandle (change h f s.actions)
-    follow = follows-change g kind.Action NoHandle h f same (λ r p. tt) s.actions n.actions
+    follow : HasEach g kind.Action NoHandle (change h f s.actions)
+    follow = has-change g kind.Action NoHandle h f same (λ r p. tt) s.actions n.actions
 
     same_left : SameTest g (is_left (change (g kind.Action h) f (renamed g x s).actions)) (is_left (change h f s.actions))
     same_left t v =
         ap (λ (b : Bool). is_unstarted t && not b) (ap (λ (l : List (Listed Action)). has_worker (workers s) t.job t.cores (live_of l)) (sym others)
-        ∙ same_workers g n.one (workers s) t.job t.cores (change h f s.actions) follow.each)
+        ∙ same_workers g n.one (workers s) t.job t.cores (change h f s.actions) follow)
 
     pub withdraws-renames : (c : MtapiStatus) → MoveRenames g x s (withdraws (g kind.Action h) f c) (withdraws h f c)
     withdraws-renames c = record {
       same = λ i. record (ends-same (is_left (change (g kind.Action h) f (renamed g x s).actions)) (is_left (change h f s.actions)) same_left (Failed c) i) { actions = others i };
-      follows = follows-so g s n s.phase s.released s.stopped s.starts _ _ _ follow (follows-ends g (is_left (change h f s.actions)) (Failed c) s.ends s.tasks n.tasks);
+      fits = has-so g s n s.phase s.released s.stopped s.starts _ _ _ follow (has-ends g (is_left (change h f s.actions)) (Failed c) s.ends s.tasks n.tasks);
     }
 
   -- objects that no rule of tasks speaks of
@@ -211,14 +211,14 @@ module _ (g : Renaming) (x : Room) (s : State) (n : Follows g s) where
   alters-renames k h f = record {
     same = sort-with g x k (update h f ((all_of k).list s)) s
         ∙ ap (λ (l : List (Listed (Fields k))). (all_of k).with_list l (renamed g x s))
-        (update-inside (g (all_of k).kind) (λ j y. y) h f f ((all_of k).list s) (λ v. refl) (apart g n.one (all_of k).kind (λ y. y) NoHandle h ((all_of k).list s) (sort-follows g k s n).each) ∙ ap (update (g (all_of k).kind h) f) (sym (sort-list g x k s)));
-    follows = follows-with g s n k _ (follows-change g (all_of k).kind NoHandle h (with_fields f) (λ r. refl) (λ r v. tt) ((all_of k).list s) (sort-follows g k s n));
+        (update-inside (g (all_of k).kind) (λ j y. y) h f f ((all_of k).list s) (λ v. refl) (apart g n.one (all_of k).kind (λ y. y) NoHandle h ((all_of k).list s) (sort-has g k s n)) ∙ ap (update (g (all_of k).kind h) f) (sym (sort-list g x k s)));
+    fits = has-with g s n k _ (has-change g (all_of k).kind NoHandle h (with_fields f) (λ r. refl) (λ r v. tt) ((all_of k).list s) (sort-has g k s n));
   }
 
   pub removes-renames : (k : Sort) (h : ℕ) → MoveRenames g x s (removes k (g (all_of k).kind h)) (removes k h)
   removes-renames k h = record {
     same = sort-with g x k (retire h ((all_of k).list s)) s
         ∙ ap (λ (l : List (Listed (Fields k))). (all_of k).with_list l (renamed g x s))
-        (retire-inside (g (all_of k).kind) (λ j y. y) h ((all_of k).list s) (apart g n.one (all_of k).kind (λ y. y) NoHandle h ((all_of k).list s) (sort-follows g k s n).each) ∙ ap (retire (g (all_of k).kind h)) (sym (sort-list g x k s)));
-    follows = follows-with g s n k _ (follows-change g (all_of k).kind NoHandle h gone (λ r. refl) (λ r v. tt) ((all_of k).list s) (sort-follows g k s n));
+        (retire-inside (g (all_of k).kind) (λ j y. y) h ((all_of k).list s) (apart g n.one (all_of k).kind (λ y. y) NoHandle h ((all_of k).list s) (sort-has g k s n)) ∙ ap (retire (g (all_of k).kind h)) (sym (sort-list g x k s)));
+    fits = has-with g s n k _ (has-change g (all_of k).kind NoHandle h gone (λ r. refl) (λ r v. tt) ((all_of k).list s) (sort-has g k s n));
   }

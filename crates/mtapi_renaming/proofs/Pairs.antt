@@ -19,9 +19,9 @@ use Rattle.mtapi_machine.specs.Moves.{Sort, Groups, Queues, Mutexes, Sems, Rwls,
 use Rattle.mtapi_machine.proofs.Made.{snd_true}
 use Rattle.mtapi_renaming.specs.Renaming.{Renaming, Has, IsOneToOne, with_pair}
 use Rattle.mtapi_renaming.specs.Renamed.{Room, renamed_list, renamed_task, renamed}
-use Rattle.mtapi_renaming.specs.Follows.{HasOrNone, HasTask, NoHandle, HasEach, FollowsList, Follows}
+use Rattle.mtapi_renaming.specs.Follows.{HasOrNone, HasTask, NoHandle, HasEach, Fits, listed_in, Only, Follows}
 use Rattle.mtapi_renaming.proofs.Lists.{same_test, has-issue}
-use Rattle.mtapi_renaming.proofs.Moves.{renamed_new, makes_action-renames, starts_task-renames, makes-renames}
+use Rattle.mtapi_renaming.proofs.Moves.{renamed_new, sort-has, has-with, has-so, makes_action-renames, starts_task-renames, makes-renames}
 
 -- a kind is told by its number
 abbrev object_of : ℕ → ObjectKind
@@ -55,7 +55,7 @@ issued-facts last h l e =
     (grind (arith, nat_tests), omega (arith, once))
 
 module _ {T : Type 0} (g : Renaming) (one : IsOneToOne g) (k : ObjectKind) (f : T → T) (P : T → Type 0) where
-  listed-renamed : (h : ℕ) (l : List (Listed T)) → HasEach g k P l → listed (g k h) (renamed_list (g k) f l) ≡ listed h l
+  pub listed-renamed : (h : ℕ) (l : List (Listed T)) → HasEach g k P l → listed (g k h) (renamed_list (g k) f l) ≡ listed h l
   unfolding listed
   listed-renamed h l n = count-inside (g k) (λ i y. f y) (λ r. r.handle == g k h) (λ r. r.handle == h) l (agree l n)
     where
@@ -63,8 +63,8 @@ module _ {T : Type 0} (g : Renaming) (one : IsOneToOne g) (k : ObjectKind) (f : 
       agree [] n = tt
       agree (r ∷ rs) n = (same_test g one k r.handle h n.0.0, agree rs n.1)
 
-  new-pair : (h other : ℕ) (l : List (Listed T)) → FollowsList g k P l → listed h l ≡ 0 → 1 ≤ h → listed other (renamed_list (g k) f l) ≡ 0 → 1 ≤ other → IsNew g k h other
-  new-pair h other l v none some no_other others = record {
+  new-pair : (h other : ℕ) (l : List (Listed T)) → HasEach g k P l → ((a : ℕ) → Has g k a → 1 ≤ listed a l) → listed h l ≡ 0 → 1 ≤ h → listed other (renamed_list (g k) f l) ≡ 0 → 1 ≤ other → IsNew g k h other
+  new-pair h other l v only none some no_other others = record {
     absent = by_number (g k h) refl;
     some = some;
     others = others;
@@ -73,22 +73,22 @@ module _ {T : Type 0} (g : Renaming) (one : IsOneToOne g) (k : ObjectKind) (f : 
     where
       by_number : (m : ℕ) → g k h ≡ m → m ≡ 0
       by_number zero e = refl
-      by_number (suc m) e = let once : 1 ≤ listed h l = v.only h (omega (arith, e)) in absurd (omega (arith, once, none))
+      by_number (suc m) e = let once : 1 ≤ listed h l = only h (omega (arith, e)) in absurd (omega (arith, once, none))
 
       elsewhere : (a : ℕ) → g k a ≡ other → ⊥
       elsewhere a e =
-          let once : 1 ≤ listed a l = v.only a (omega (arith, e, others)) in
-          let same : listed (g k a) (renamed_list (g k) f l) ≡ listed a l = listed-renamed a l v.each in
+          let once : 1 ≤ listed a l = only a (omega (arith, e, others)) in
+          let same : listed (g k a) (renamed_list (g k) f l) ≡ listed a l = listed-renamed a l v in
           let zero : listed (g k a) (renamed_list (g k) f l) ≡ 0 = subst (λ (m : ℕ). listed m (renamed_list (g k) f l) ≡ 0) (sym e) no_other in
           omega (arith, once, same, zero)
 
 -- so of the handles that two states may issue
-pub is_new : {T : Type 0} (g : Renaming) (x : Room) (s : State) → IsOneToOne g → (o : Objects T) (f : T → T) (P : T → Type 0) → o.list (renamed g x s) ≡ renamed_list (g o.kind) f (o.list s) → FollowsList g o.kind P (o.list s) →
+pub is_new : {T : Type 0} (g : Renaming) (x : Room) (s : State) → IsOneToOne g → (o : Objects T) (f : T → T) (P : T → Type 0) → o.list (renamed g x s) ≡ renamed_list (g o.kind) f (o.list s) → HasEach g o.kind P (o.list s) → ((a : ℕ) → Has g o.kind a → 1 ≤ listed a (o.list s)) →
     (h other : ℕ) → is_fresh o s h ≡ true → is_fresh o (renamed g x s) other ≡ true → IsNew g o.kind h other
-is_new g x s one o f P is v h other a b =
+is_new g x s one o f P is v only h other a b =
     let own : (listed h (o.list s) ≡ 0) × (1 ≤ h) = issued-facts s.terms.settings.generations h (o.list s) (snd_true _ _ a) in
     let others : (listed other (o.list (renamed g x s)) ≡ 0) × (1 ≤ other) = issued-facts x.generations other (o.list (renamed g x s)) (snd_true _ _ b) in
-    new-pair g one o.kind f P h other (o.list s) v own.0 own.1 (subst (λ (l : List (Listed _)). listed other l ≡ 0) is others.0) others.1
+    new-pair g one o.kind f P h other (o.list s) v only own.0 own.1 (subst (λ (l : List (Listed _)). listed other l ≡ 0) is others.0) others.1
 
 module _ (g : Renaming) (k : ObjectKind) (h other : ℕ) where
   -- the new pair is the one that is asked for, or another one
@@ -150,28 +150,6 @@ module _ (g : Renaming) (k : ObjectKind) (h other : ℕ) where
     list-same j P c d same [] n = refl
     list-same j P c d same (r ∷ rs) n = λ i. record { handle = extends j r.handle n.0.0 i; live = r.live; fields = same r.fields n.0.1 i } ∷ list-same j P c d same rs n.1 i
 
-    follows_old : {T : Type 0} (j : ObjectKind) (P Q : T → Type 0) → (j ≡ k → ⊥) → ((y : T) → P y → Q y) → (l : List (Listed T)) → FollowsList g j P l → FollowsList (with_pair k h other g) j Q l
-    follows_old j P Q differ keeps l v = record { each = has-more j P Q keeps l v.each; only = λ a has. by_case a has (cases j a) }
-      where
-        by_case : (a : ℕ) → Has (with_pair k h other g) j a → ((j ≡ k) × (a ≡ h)) ⊎ (with_pair k h other g j a ≡ g j a) → 1 ≤ listed a l
-        by_case a has (inl e) = absurd (differ e.0)
-        by_case a has (inr e) = v.only a (subst (λ (m : ℕ). 1 ≤ m) e has)
-
-    follows_new : {T : Type 0} (P Q : T → Type 0) → ((y : T) → P y → Q y) → (w : T) → Q w → (l : List (Listed T)) → FollowsList g k P l → FollowsList (with_pair k h other g) k Q (issue h w l)
-    follows_new P Q keeps w q l v = record {
-      each = has-issue (with_pair k h other g) k Q h w l has_new q (has-more k P Q keeps l v.each);
-      only = λ a has. by_case a has (cases k a);
-    }
-      where
-        more : (a : ℕ) (b : Bool) → listed a (issue h w l) ≡ listed a l + cond b 1 0 → (1 ≤ listed a l) ⊎ (b ≡ true) → 1 ≤ listed a (issue h w l)
-        more a b e (inl d) = omega (arith, e, d)
-        more a true e (inr d) = omega (arith, e)
-        more a false e (inr d) = absurd (cc)
-
-        by_case : (a : ℕ) → Has (with_pair k h other g) k a → ((k ≡ k) × (a ≡ h)) ⊎ (with_pair k h other g k a ≡ g k a) → 1 ≤ listed a (issue h w l)
-        by_case a has (inl e) = more a (h == a) (listed-issue a h w l) (inr (eq-eqb h a (sym e.1)))
-        by_case a has (inr e) = more a (h == a) (listed-issue a h w l) (inl (v.only a (subst (λ (m : ℕ). 1 ≤ m) e has)))
-
     option-same : (j : ObjectKind) (o : Option ℕ) → IfSome o (Has g j) → option_map (with_pair k h other g j) o ≡ option_map (g j) o
     option-same j None n = refl
     option-same j (Some a) n = ap Some (extends j a n)
@@ -212,18 +190,86 @@ module _ (g : Renaming) (k : ObjectKind) (h other : ℕ) where
     new-same : (t : NewTask) → IfSome t.group (Has g kind.Group) → IfSome t.queue (Has g kind.Queue) → renamed_new (with_pair k h other g) t ≡ renamed_new g t
     new-same t a b = λ i. record t { group = option-same kind.Group t.group a i; queue = option-same kind.Queue t.queue b i }
 
-    module _ (x : Room) (s : State) (n : Follows g s) where
+    -- it fits the state still
+    fits-more : (s : State) → Fits g s → Fits (with_pair k h other g) s
+    fits-more s n = record {
+      one = one-pair;
+      zero = λ j. zero-pair j (n.zero j);
+      actions = has-more kind.Action NoHandle NoHandle (λ y v. v) s.actions n.actions;
+      tasks = has-more kind.Task (HasTask g) (HasTask (with_pair k h other g)) task-still s.tasks n.tasks;
+      groups = has-more kind.Group NoHandle NoHandle (λ y v. v) s.groups n.groups;
+      queues = has-more kind.Queue NoHandle NoHandle (λ y v. v) s.queues n.queues;
+      mutexes = has-more kind.Mutex NoHandle NoHandle (λ y v. v) s.mutexes n.mutexes;
+      sems = has-more kind.Sem NoHandle NoHandle (λ y v. v) s.sems n.sems;
+      rwls = has-more kind.Rwl NoHandle NoHandle (λ y v. v) s.rwls n.rwls;
+      segments = has-more kind.Shmem NoHandle NoHandle (λ y v. v) s.segments n.segments;
+    }
+
+    -- and has just what was issued in a state in which the new handle was issued too
+    only-more : (s t : State) → Only g s → ((j : ObjectKind) (a : ℕ) → listed_in j s a ≤ listed_in j t a) → 1 ≤ listed_in k t h → Only (with_pair k h other g) t
+    only-more s t o more there j a has = by_case (cases j a)
+      where
+        by_case : ((j ≡ k) × (a ≡ h)) ⊎ (with_pair k h other g j a ≡ g j a) → 1 ≤ listed_in j t a
+        by_case (inl e) = subst (λ (m : ℕ). 1 ≤ m) (λ i. listed_in (sym e.0 i) t (sym e.1 i)) there
+        by_case (inr e) = let old : 1 ≤ listed_in j s a = o j a (subst (λ (m : ℕ). 1 ≤ m) e has) in let grows : listed_in j s a ≤ listed_in j t a = more j a in omega (arith, old, grows)
+
+    module _ (x : Room) (s : State) (n : Fits g s) where
       state-same : renamed (with_pair k h other g) x s ≡ renamed g x s
       state-same = λ i. record (renamed g x s) {
-        actions = list-same kind.Action NoHandle (λ y. y) (λ y. y) (λ y v. refl) s.actions n.actions.each i;
-        tasks = list-same kind.Task (HasTask g) (renamed_task (with_pair k h other g)) (renamed_task g) (task-same (n.zero kind.Mutex) (n.zero kind.Shmem)) s.tasks n.tasks.each i;
-        groups = list-same kind.Group NoHandle (λ y. y) (λ y. y) (λ y v. refl) s.groups n.groups.each i;
-        queues = list-same kind.Queue NoHandle (λ y. y) (λ y. y) (λ y v. refl) s.queues n.queues.each i;
-        mutexes = list-same kind.Mutex NoHandle (λ y. y) (λ y. y) (λ y v. refl) s.mutexes n.mutexes.each i;
-        sems = list-same kind.Sem NoHandle (λ y. y) (λ y. y) (λ y v. refl) s.sems n.sems.each i;
-        rwls = list-same kind.Rwl NoHandle (λ y. y) (λ y. y) (λ y v. refl) s.rwls n.rwls.each i;
-        segments = list-same kind.Shmem NoHandle (λ y. y) (λ y. y) (λ y v. refl) s.segments n.segments.each i;
+        actions = list-same kind.Action NoHandle (λ y. y) (λ y. y) (λ y v. refl) s.actions n.actions i;
+        tasks = list-same kind.Task (HasTask g) (renamed_task (with_pair k h other g)) (renamed_task g) (task-same (n.zero kind.Mutex) (n.zero kind.Shmem)) s.tasks n.tasks i;
+        groups = list-same kind.Group NoHandle (λ y. y) (λ y. y) (λ y v. refl) s.groups n.groups i;
+        queues = list-same kind.Queue NoHandle (λ y. y) (λ y. y) (λ y v. refl) s.queues n.queues i;
+        mutexes = list-same kind.Mutex NoHandle (λ y. y) (λ y. y) (λ y v. refl) s.mutexes n.mutexes i;
+        sems = list-same kind.Sem NoHandle (λ y. y) (λ y. y) (λ y v. refl) s.sems n.sems i;
+        rwls = list-same kind.Rwl NoHandle (λ y. y) (λ y. y) (λ y v. refl) s.rwls n.rwls i;
+        segments = list-same kind.Shmem NoHandle (λ y. y) (λ y. y) (λ y v. refl) s.segments n.segments i;
       }
+
+-- what is listed after a new object
+
+at_least : (m : ℕ) → m ≤ m
+at_least m = omega arith
+
+issue_more : {T : Type 0} (h a : ℕ) (w : T) (l : List (Listed T)) → listed a l ≤ listed a (issue h w l)
+issue_more h a w l = let e : listed a (issue h w l) ≡ listed a l + cond {A = ℕ} (h == a) 1 0 = listed-issue a h w l in omega (arith, e)
+
+issue_there : {T : Type 0} (h : ℕ) (w : T) (l : List (Listed T)) → 1 ≤ listed h (issue h w l)
+issue_there h w l =
+    let e : listed h (issue h w l) ≡ listed h l + cond {A = ℕ} (h == h) 1 0 = listed-issue h h w l in
+    let d : cond {A = ℕ} (h == h) 1 0 ≡ 1 = ap (λ (b : Bool). cond {A = ℕ} b 1 0) (eq-eqb h h refl) in
+    omega (arith, e, d)
+
+module _ (s : State) (h : ℕ) where
+  action_more : (a : Action) (j : ObjectKind) (b : ℕ) → listed_in j s b ≤ listed_in j (apply (makes_action h a) s) b
+  action_more a kind.Action b = issue_more h b a s.actions
+  action_more a j b = at_least (listed_in j s b)
+
+  task_more : (t : NewTask) (j : ObjectKind) (b : ℕ) → listed_in j s b ≤ listed_in j (apply (starts_task h t) s) b
+  task_more t kind.Task b = issue_more h b (new_task t s.starts) s.tasks
+  task_more t j b = at_least (listed_in j s b)
+
+  sort_more : (t : Sort) (w : Fields t) (j : ObjectKind) (b : ℕ) → listed_in j s b ≤ listed_in j (apply (makes t h w) s) b
+  sort_more Groups w kind.Group b = issue_more h b w s.groups
+  sort_more Groups w j b = at_least (listed_in j s b)
+  sort_more Queues w kind.Queue b = issue_more h b w s.queues
+  sort_more Queues w j b = at_least (listed_in j s b)
+  sort_more Mutexes w kind.Mutex b = issue_more h b w s.mutexes
+  sort_more Mutexes w j b = at_least (listed_in j s b)
+  sort_more Sems w kind.Sem b = issue_more h b w s.sems
+  sort_more Sems w j b = at_least (listed_in j s b)
+  sort_more Rwls w kind.Rwl b = issue_more h b w s.rwls
+  sort_more Rwls w j b = at_least (listed_in j s b)
+  sort_more Segments w kind.Shmem b = issue_more h b w s.segments
+  sort_more Segments w j b = at_least (listed_in j s b)
+
+  sort_there : (t : Sort) (w : Fields t) → 1 ≤ listed_in (all_of t).kind (apply (makes t h w) s) h
+  sort_there Groups w = issue_there h w s.groups
+  sort_there Queues w = issue_there h w s.queues
+  sort_there Mutexes w = issue_there h w s.mutexes
+  sort_there Sems w = issue_there h w s.sems
+  sort_there Rwls w = issue_there h w s.rwls
+  sort_there Segments w = issue_there h w s.segments
 
 -- a new object: the state after it by the longer renaming, and what that renaming has
 pub record MakesPair (g : Renaming) (x : Room) (s : State) (k : ObjectKind) (h other : ℕ) (own others : State) : Type 0 where
@@ -232,117 +278,37 @@ pub record MakesPair (g : Renaming) (x : Room) (s : State) (k : ObjectKind) (h o
 
 module _ (g : Renaming) (x : Room) (s : State) (n : Follows g s) (h other : ℕ) where
   pub makes_action-pair : (a : Action) → IsNew g kind.Action h other → MakesPair g x s kind.Action h other (apply (makes_action h a) s) (apply (makes_action other a) (renamed g x s))
-  makes_action-pair a new = record {
-    same = makes_action-renames (with_pair kind.Action h other g) x s h a ∙ (λ i. apply (makes_action (at-new g kind.Action h other i) a) (state-same g kind.Action h other n.one new x s n i));
-    follows = record {
-      one = one-pair g kind.Action h other n.one new;
-      zero = λ j. zero-pair g kind.Action h other n.one new j (n.zero j);
-      actions = follows_new g kind.Action h other n.one new NoHandle NoHandle (λ y v. v) a tt s.actions n.actions;
-      tasks = follows_old g kind.Action h other n.one new kind.Task (HasTask g) (HasTask (with_pair kind.Action h other g)) (λ e. absurd (cc)) (task-still g kind.Action h other n.one new) s.tasks n.tasks;
-      groups = follows_old g kind.Action h other n.one new kind.Group NoHandle NoHandle (λ e. absurd (cc)) (λ y v. v) s.groups n.groups;
-      queues = follows_old g kind.Action h other n.one new kind.Queue NoHandle NoHandle (λ e. absurd (cc)) (λ y v. v) s.queues n.queues;
-      mutexes = follows_old g kind.Action h other n.one new kind.Mutex NoHandle NoHandle (λ e. absurd (cc)) (λ y v. v) s.mutexes n.mutexes;
-      sems = follows_old g kind.Action h other n.one new kind.Sem NoHandle NoHandle (λ e. absurd (cc)) (λ y v. v) s.sems n.sems;
-      rwls = follows_old g kind.Action h other n.one new kind.Rwl NoHandle NoHandle (λ e. absurd (cc)) (λ y v. v) s.rwls n.rwls;
-      segments = follows_old g kind.Action h other n.one new kind.Shmem NoHandle NoHandle (λ e. absurd (cc)) (λ y v. v) s.segments n.segments;
-    };
-  }
+  makes_action-pair a new =
+      let more : Fits (with_pair kind.Action h other g) s = fits-more g kind.Action h other n.fits.one new s n.fits in
+      record {
+        same = makes_action-renames (with_pair kind.Action h other g) x s h a ∙ (λ i. apply (makes_action (at-new g kind.Action h other i) a) (state-same g kind.Action h other n.fits.one new x s n.fits i));
+        follows = record {
+          fits = has-so (with_pair kind.Action h other g) s more s.phase s.released s.stopped s.starts s.ends _ s.tasks (has-issue (with_pair kind.Action h other g) kind.Action NoHandle h a s.actions (has_new g kind.Action h other n.fits.one new) tt more.actions) more.tasks;
+          only = only-more g kind.Action h other n.fits.one new s (apply (makes_action h a) s) n.only (action_more s h a) (issue_there h a s.actions);
+        };
+      }
 
   pub starts_task-pair : (t : NewTask) → IfSome t.group (Has g kind.Group) → IfSome t.queue (Has g kind.Queue) → IsNew g kind.Task h other →
       MakesPair g x s kind.Task h other (apply (starts_task h t) s) (apply (starts_task other (renamed_new g t)) (renamed g x s))
-  starts_task-pair t a b new = record {
-    same = starts_task-renames (with_pair kind.Task h other g) x s h t (zero-pair g kind.Task h other n.one new kind.Mutex (n.zero kind.Mutex)) (zero-pair g kind.Task h other n.one new kind.Shmem (n.zero kind.Shmem))
-        ∙ (λ i. apply (starts_task (at-new g kind.Task h other i) (new-same g kind.Task h other n.one new t a b i)) (state-same g kind.Task h other n.one new x s n i));
-    follows = record {
-      one = one-pair g kind.Task h other n.one new;
-      zero = λ j. zero-pair g kind.Task h other n.one new j (n.zero j);
-      actions = follows_old g kind.Task h other n.one new kind.Action NoHandle NoHandle (λ e. absurd (cc)) (λ y v. v) s.actions n.actions;
-      tasks = follows_new g kind.Task h other n.one new (HasTask g) (HasTask (with_pair kind.Task h other g)) (task-still g kind.Task h other n.one new) (new_task t s.starts) (new-still g kind.Task h other n.one new t s.starts a b) s.tasks n.tasks;
-      groups = follows_old g kind.Task h other n.one new kind.Group NoHandle NoHandle (λ e. absurd (cc)) (λ y v. v) s.groups n.groups;
-      queues = follows_old g kind.Task h other n.one new kind.Queue NoHandle NoHandle (λ e. absurd (cc)) (λ y v. v) s.queues n.queues;
-      mutexes = follows_old g kind.Task h other n.one new kind.Mutex NoHandle NoHandle (λ e. absurd (cc)) (λ y v. v) s.mutexes n.mutexes;
-      sems = follows_old g kind.Task h other n.one new kind.Sem NoHandle NoHandle (λ e. absurd (cc)) (λ y v. v) s.sems n.sems;
-      rwls = follows_old g kind.Task h other n.one new kind.Rwl NoHandle NoHandle (λ e. absurd (cc)) (λ y v. v) s.rwls n.rwls;
-      segments = follows_old g kind.Task h other n.one new kind.Shmem NoHandle NoHandle (λ e. absurd (cc)) (λ y v. v) s.segments n.segments;
-    };
-  }
-
-  sort_follows : (k : Sort) (w : Fields k) → IsNew g (all_of k).kind h other → Follows (with_pair (all_of k).kind h other g) (apply (makes k h w) s)
-  sort_follows Groups w new = record {
-    one = one-pair g kind.Group h other n.one new;
-    zero = λ j. zero-pair g kind.Group h other n.one new j (n.zero j);
-    actions = follows_old g kind.Group h other n.one new kind.Action NoHandle NoHandle (λ e. absurd (cc)) (λ y v. v) s.actions n.actions;
-    tasks = follows_old g kind.Group h other n.one new kind.Task (HasTask g) (HasTask (with_pair kind.Group h other g)) (λ e. absurd (cc)) (task-still g kind.Group h other n.one new) s.tasks n.tasks;
-    groups = follows_new g kind.Group h other n.one new NoHandle NoHandle (λ y v. v) w tt s.groups n.groups;
-    queues = follows_old g kind.Group h other n.one new kind.Queue NoHandle NoHandle (λ e. absurd (cc)) (λ y v. v) s.queues n.queues;
-    mutexes = follows_old g kind.Group h other n.one new kind.Mutex NoHandle NoHandle (λ e. absurd (cc)) (λ y v. v) s.mutexes n.mutexes;
-    sems = follows_old g kind.Group h other n.one new kind.Sem NoHandle NoHandle (λ e. absurd (cc)) (λ y v. v) s.sems n.sems;
-    rwls = follows_old g kind.Group h other n.one new kind.Rwl NoHandle NoHandle (λ e. absurd (cc)) (λ y v. v) s.rwls n.rwls;
-    segments = follows_old g kind.Group h other n.one new kind.Shmem NoHandle NoHandle (λ e. absurd (cc)) (λ y v. v) s.segments n.segments;
-  }
-  sort_follows Queues w new = record {
-    one = one-pair g kind.Queue h other n.one new;
-    zero = λ j. zero-pair g kind.Queue h other n.one new j (n.zero j);
-    actions = follows_old g kind.Queue h other n.one new kind.Action NoHandle NoHandle (λ e. absurd (cc)) (λ y v. v) s.actions n.actions;
-    tasks = follows_old g kind.Queue h other n.one new kind.Task (HasTask g) (HasTask (with_pair kind.Queue h other g)) (λ e. absurd (cc)) (task-still g kind.Queue h other n.one new) s.tasks n.tasks;
-    groups = follows_old g kind.Queue h other n.one new kind.Group NoHandle NoHandle (λ e. absurd (cc)) (λ y v. v) s.groups n.groups;
-    queues = follows_new g kind.Queue h other n.one new NoHandle NoHandle (λ y v. v) w tt s.queues n.queues;
-    mutexes = follows_old g kind.Queue h other n.one new kind.Mutex NoHandle NoHandle (λ e. absurd (cc)) (λ y v. v) s.mutexes n.mutexes;
-    sems = follows_old g kind.Queue h other n.one new kind.Sem NoHandle NoHandle (λ e. absurd (cc)) (λ y v. v) s.sems n.sems;
-    rwls = follows_old g kind.Queue h other n.one new kind.Rwl NoHandle NoHandle (λ e. absurd (cc)) (λ y v. v) s.rwls n.rwls;
-    segments = follows_old g kind.Queue h other n.one new kind.Shmem NoHandle NoHandle (λ e. absurd (cc)) (λ y v. v) s.segments n.segments;
-  }
-  sort_follows Mutexes w new = record {
-    one = one-pair g kind.Mutex h other n.one new;
-    zero = λ j. zero-pair g kind.Mutex h other n.one new j (n.zero j);
-    actions = follows_old g kind.Mutex h other n.one new kind.Action NoHandle NoHandle (λ e. absurd (cc)) (λ y v. v) s.actions n.actions;
-    tasks = follows_old g kind.Mutex h other n.one new kind.Task (HasTask g) (HasTask (with_pair kind.Mutex h other g)) (λ e. absurd (cc)) (task-still g kind.Mutex h other n.one new) s.tasks n.tasks;
-    groups = follows_old g kind.Mutex h other n.one new kind.Group NoHandle NoHandle (λ e. absurd (cc)) (λ y v. v) s.groups n.groups;
-    queues = follows_old g kind.Mutex h other n.one new kind.Queue NoHandle NoHandle (λ e. absurd (cc)) (λ y v. v) s.queues n.queues;
-    mutexes = follows_new g kind.Mutex h other n.one new NoHandle NoHandle (λ y v. v) w tt s.mutexes n.mutexes;
-    sems = follows_old g kind.Mutex h other n.one new kind.Sem NoHandle NoHandle (λ e. absurd (cc)) (λ y v. v) s.sems n.sems;
-    rwls = follows_old g kind.Mutex h other n.one new kind.Rwl NoHandle NoHandle (λ e. absurd (cc)) (λ y v. v) s.rwls n.rwls;
-    segments = follows_old g kind.Mutex h other n.one new kind.Shmem NoHandle NoHandle (λ e. absurd (cc)) (λ y v. v) s.segments n.segments;
-  }
-  sort_follows Sems w new = record {
-    one = one-pair g kind.Sem h other n.one new;
-    zero = λ j. zero-pair g kind.Sem h other n.one new j (n.zero j);
-    actions = follows_old g kind.Sem h other n.one new kind.Action NoHandle NoHandle (λ e. absurd (cc)) (λ y v. v) s.actions n.actions;
-    tasks = follows_old g kind.Sem h other n.one new kind.Task (HasTask g) (HasTask (with_pair kind.Sem h other g)) (λ e. absurd (cc)) (task-still g kind.Sem h other n.one new) s.tasks n.tasks;
-    groups = follows_old g kind.Sem h other n.one new kind.Group NoHandle NoHandle (λ e. absurd (cc)) (λ y v. v) s.groups n.groups;
-    queues = follows_old g kind.Sem h other n.one new kind.Queue NoHandle NoHandle (λ e. absurd (cc)) (λ y v. v) s.queues n.queues;
-    mutexes = follows_old g kind.Sem h other n.one new kind.Mutex NoHandle NoHandle (λ e. absurd (cc)) (λ y v. v) s.mutexes n.mutexes;
-    sems = follows_new g kind.Sem h other n.one new NoHandle NoHandle (λ y v. v) w tt s.sems n.sems;
-    rwls = follows_old g kind.Sem h other n.one new kind.Rwl NoHandle NoHandle (λ e. absurd (cc)) (λ y v. v) s.rwls n.rwls;
-    segments = follows_old g kind.Sem h other n.one new kind.Shmem NoHandle NoHandle (λ e. absurd (cc)) (λ y v. v) s.segments n.segments;
-  }
-  sort_follows Rwls w new = record {
-    one = one-pair g kind.Rwl h other n.one new;
-    zero = λ j. zero-pair g kind.Rwl h other n.one new j (n.zero j);
-    actions = follows_old g kind.Rwl h other n.one new kind.Action NoHandle NoHandle (λ e. absurd (cc)) (λ y v. v) s.actions n.actions;
-    tasks = follows_old g kind.Rwl h other n.one new kind.Task (HasTask g) (HasTask (with_pair kind.Rwl h other g)) (λ e. absurd (cc)) (task-still g kind.Rwl h other n.one new) s.tasks n.tasks;
-    groups = follows_old g kind.Rwl h other n.one new kind.Group NoHandle NoHandle (λ e. absurd (cc)) (λ y v. v) s.groups n.groups;
-    queues = follows_old g kind.Rwl h other n.one new kind.Queue NoHandle NoHandle (λ e. absurd (cc)) (λ y v. v) s.queues n.queues;
-    mutexes = follows_old g kind.Rwl h other n.one new kind.Mutex NoHandle NoHandle (λ e. absurd (cc)) (λ y v. v) s.mutexes n.mutexes;
-    sems = follows_old g kind.Rwl h other n.one new kind.Sem NoHandle NoHandle (λ e. absurd (cc)) (λ y v. v) s.sems n.sems;
-    rwls = follows_new g kind.Rwl h other n.one new NoHandle NoHandle (λ y v. v) w tt s.rwls n.rwls;
-    segments = follows_old g kind.Rwl h other n.one new kind.Shmem NoHandle NoHandle (λ e. absurd (cc)) (λ y v. v) s.segments n.segments;
-  }
-  sort_follows Segments w new = record {
-    one = one-pair g kind.Shmem h other n.one new;
-    zero = λ j. zero-pair g kind.Shmem h other n.one new j (n.zero j);
-    actions = follows_old g kind.Shmem h other n.one new kind.Action NoHandle NoHandle (λ e. absurd (cc)) (λ y v. v) s.actions n.actions;
-    tasks = follows_old g kind.Shmem h other n.one new kind.Task (HasTask g) (HasTask (with_pair kind.Shmem h other g)) (λ e. absurd (cc)) (task-still g kind.Shmem h other n.one new) s.tasks n.tasks;
-    groups = follows_old g kind.Shmem h other n.one new kind.Group NoHandle NoHandle (λ e. absurd (cc)) (λ y v. v) s.groups n.groups;
-    queues = follows_old g kind.Shmem h other n.one new kind.Queue NoHandle NoHandle (λ e. absurd (cc)) (λ y v. v) s.queues n.queues;
-    mutexes = follows_old g kind.Shmem h other n.one new kind.Mutex NoHandle NoHandle (λ e. absurd (cc)) (λ y v. v) s.mutexes n.mutexes;
-    sems = follows_old g kind.Shmem h other n.one new kind.Sem NoHandle NoHandle (λ e. absurd (cc)) (λ y v. v) s.sems n.sems;
-    rwls = follows_old g kind.Shmem h other n.one new kind.Rwl NoHandle NoHandle (λ e. absurd (cc)) (λ y v. v) s.rwls n.rwls;
-    segments = follows_new g kind.Shmem h other n.one new NoHandle NoHandle (λ y v. v) w tt s.segments n.segments;
-  }
+  starts_task-pair t a b new =
+      let more : Fits (with_pair kind.Task h other g) s = fits-more g kind.Task h other n.fits.one new s n.fits in
+      record {
+        same = starts_task-renames (with_pair kind.Task h other g) x s h t (more.zero kind.Mutex) (more.zero kind.Shmem)
+            ∙ (λ i. apply (starts_task (at-new g kind.Task h other i) (new-same g kind.Task h other n.fits.one new t a b i)) (state-same g kind.Task h other n.fits.one new x s n.fits i));
+        follows = record {
+          fits = has-so (with_pair kind.Task h other g) s more s.phase s.released s.stopped _ s.ends s.actions _ more.actions
+              (has-issue (with_pair kind.Task h other g) kind.Task (HasTask (with_pair kind.Task h other g)) h (new_task t s.starts) s.tasks (has_new g kind.Task h other n.fits.one new) (new-still g kind.Task h other n.fits.one new t s.starts a b) more.tasks);
+          only = only-more g kind.Task h other n.fits.one new s (apply (starts_task h t) s) n.only (task_more s h t) (issue_there h (new_task t s.starts) s.tasks);
+        };
+      }
 
   pub makes-pair : (k : Sort) (w : Fields k) → IsNew g (all_of k).kind h other → MakesPair g x s (all_of k).kind h other (apply (makes k h w) s) (apply (makes k other w) (renamed g x s))
-  makes-pair k w new = record {
-    same = makes-renames (with_pair (all_of k).kind h other g) x s k h w ∙ (λ i. apply (makes k (at-new g (all_of k).kind h other i) w) (state-same g (all_of k).kind h other n.one new x s n i));
-    follows = sort_follows k w new;
-  }
+  makes-pair k w new =
+      let more : Fits (with_pair (all_of k).kind h other g) s = fits-more g (all_of k).kind h other n.fits.one new s n.fits in
+      record {
+        same = makes-renames (with_pair (all_of k).kind h other g) x s k h w ∙ (λ i. apply (makes k (at-new g (all_of k).kind h other i) w) (state-same g (all_of k).kind h other n.fits.one new x s n.fits i));
+        follows = record {
+          fits = has-with (with_pair (all_of k).kind h other g) s more k _ (has-issue (with_pair (all_of k).kind h other g) (all_of k).kind NoHandle h w ((all_of k).list s) (has_new g (all_of k).kind h other n.fits.one new) tt (sort-has (with_pair (all_of k).kind h other g) k s more));
+          only = only-more g (all_of k).kind h other n.fits.one new s (apply (makes k h w) s) n.only (sort_more s h k w) (sort_there s h k w);
+        };
+      }

@@ -7,7 +7,7 @@ use Rattle.mtapi_machine.specs.declared.replies.Reply.TheVariants.{Ok}
 use Rattle.mtapi_machine.specs.State.{State, Objects, actions, tasks}
 use Rattle.mtapi_machine.specs.Moves.{Move, all_of, makes_action, starts_task, makes}
 use Rattle.mtapi_machine.specs.Row.{Row, unless, says, creates}
-use Rattle.mtapi_layouts.proofs.Rows.{is_plain}
+use Rattle.mtapi_renaming.proofs.Rows.{is_plain}
 use Rattle.mtapi_renaming.specs.Kinds.{made_kind, is_handle}
 use Rattle.mtapi_renaming.specs.Refusals.{makes_or_not, refusal_in, refusal_of}
 use Rattle.mtapi_renaming.proofs.CreateRows.{HoldsInParts, create_row}

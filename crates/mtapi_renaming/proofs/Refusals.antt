@@ -27,7 +27,7 @@ use Rattle.mtapi_machine.specs.QueueRows.{new_queue}
 use Rattle.mtapi_machine.specs.Rows.{row}
 use Rattle.mtapi_renaming.specs.Renaming.{Renaming}
 use Rattle.mtapi_renaming.specs.Renamed.{Room, renamed}
-use Rattle.mtapi_renaming.specs.Follows.{Follows}
+use Rattle.mtapi_renaming.specs.Follows.{Fits}
 use Rattle.mtapi_renaming.specs.Ops.{renamed_op}
 use Rattle.mtapi_renaming.specs.Kinds.{full, made_kind, is_handle}
 use Rattle.mtapi_renaming.specs.Refusals.{makes_or_not, refusal_in, refusal_of}
@@ -104,7 +104,7 @@ mrapi_same : (cs : List (Bool × MrapiStatus)) {own other : Row} → SameRefusal
 mrapi_same [] v = v
 mrapi_same (c ∷ cs) v = unless_same refl (mrapi_same cs v)
 
-module _ {g : Renaming} {s : State} (n : Follows g s) (x : Room) (who : ℕ) where
+module _ {g : Renaming} {s : State} (n : Fits g s) (x : Room) (who : ℕ) where
   keyed_same : {t : Sort} (o : Keyed t) (w : Fields t) → SameRefusal (creates_keyed o s Ok w) (creates_keyed o (renamed g x s) Ok w)
   keyed_same {t} o w = unless_same (sort-any n x t (λ y. o.id y == o.id w)) (creates_same (all_of t) s (renamed g x s) (λ b. makes t b w) (λ b. makes t b w))
 

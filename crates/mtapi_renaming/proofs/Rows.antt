@@ -18,13 +18,19 @@ use Rattle.mtapi_machine.specs.State.{State, actions, tasks}
 use Rattle.mtapi_machine.specs.Moves.{Move, Sort, Groups, Queues, Mutexes, Sems, Rwls, Segments, Fields, all_of}
 use Rattle.mtapi_machine.specs.Row.{Row, unless, gives, never, Allows, after_row, says, not_yet, only, live, on, chosen}
 use Rattle.mtapi_machine.specs.KeyedRows.{Keyed, mrapi_unless, found, gets, alters_one, looks_one, deletes}
-use Rattle.mtapi_layouts.proofs.Rows.{is_plain}
 use Rattle.mtapi_renaming.specs.Renaming.{Renaming, Has, IsOneToOne}
 use Rattle.mtapi_renaming.specs.Renamed.{Room, renamed_task, renamed}
-use Rattle.mtapi_renaming.specs.Follows.{HasTask, NoHandle, Follows}
+use Rattle.mtapi_renaming.specs.Follows.{HasTask, NoHandle, Fits}
 use Rattle.mtapi_renaming.specs.Ops.{renamed_answer}
 use Rattle.mtapi_renaming.proofs.Lists.{found-renamed, found-has, first-has, same_any, same_first}
-use Rattle.mtapi_renaming.proofs.Moves.{MovesRename, no_move, one_move, sort-list, sort-follows, alters-renames, removes-renames}
+use Rattle.mtapi_renaming.proofs.Moves.{MovesRename, no_move, one_move, sort-list, sort-has, alters-renames, removes-renames}
+
+-- a reply without a handle
+abbrev pub is_plain : Reply → Bool
+is_plain (Handle h) = false
+is_plain (Given t e) = false
+is_plain (Picked t a x args) = false
+is_plain r = true
 
 -- each handle in the reply has another one, where an object that it answers is of this kind
 abbrev pub HasOf : Renaming → Option ObjectKind → ℕ → Type 0
@@ -49,7 +55,7 @@ plain-has g k (Given t e) p = absurd (cc)
 plain-has g k (Picked t a x args) p = absurd (cc)
 plain-has g k y p = tt
 
-no_plain : (y z : Reply) → is_plain y ≡ true → z ≡ y → is_plain z ≡ false → ⊥
+pub no_plain : (y z : Reply) → is_plain y ≡ true → z ≡ y → is_plain z ≡ false → ⊥
 no_plain y z p e f = let t : is_plain z ≡ true = subst (λ (w : Reply). is_plain w ≡ true) (sym e) p in absurd (cc)
 
 -- no two replies become the same one
@@ -113,19 +119,27 @@ sort-invalid Sems = refl
 sort-invalid Rwls = refl
 sort-invalid Segments = refl
 
--- the first row allows the reply exactly where the other one, in the renamed state, allows the renamed one; then both lead to one state,
--- and the renaming has just what was issued
+-- the reply is another one's, with other handles
+pub record IsRenamed (g : Renaming) (k : Option ObjectKind) (q : Reply) : Type 0 where
+  pub own : Reply
+  pub has : HasAnswer g k own
+  pub is : q ≡ renamed_answer g k own
+
+-- the first row allows the reply exactly where the other one, in the renamed state, allows the renamed one, and that allows no others;
+-- both lead to one state, and each handle in it has another one
 pub record Alike (g : Renaming) (x : Room) (s : State) (k : Option ObjectKind) (r : Reply) (own other : Row) : Type 0 where
   pub allowed : Allows own r ↔ Allows other (renamed_answer g k r)
-  pub leads : Allows own r → renamed g x (after_row s own) ≡ after_row (renamed g x s) other
-  pub follows : Allows own r → Follows g (after_row s own)
+  pub comes : (q : Reply) → Allows other q → IsRenamed g k q
+  pub leads : renamed g x (after_row s own) ≡ after_row (renamed g x s) other
+  pub fits : Fits g (after_row s own)
 
-module _ {g : Renaming} {x : Room} {s : State} (n : Follows g s) {k : Option ObjectKind} {r : Reply} where
+module _ {g : Renaming} {x : Room} {s : State} (n : Fits g s) {k : Option ObjectKind} {r : Reply} where
   pub gives_renamed : {y : Reply} {ms ws : List Move} → HasAnswer g k y → MovesRename g x s ms ws → Alike g x s k r (gives y ws) (gives (renamed_answer g k y) ms)
   gives_renamed {y} has e = record {
     allowed = (λ i. ap (renamed_answer g k) i, λ i. reply_one g n.one k y r has i);
-    leads = λ i. e.same;
-    follows = λ i. e.follows;
+    comes = λ q i. record { own = y; has = has; is = i };
+    leads = e.same;
+    fits = e.fits;
   }
 
   pub gives_alike : {y : Reply} {ms ws : List Move} → is_plain y ≡ true → MovesRename g x s ms ws → Alike g x s k r (gives y ws) (gives y ms)
@@ -135,14 +149,18 @@ module _ {g : Renaming} {x : Room} {s : State} (n : Follows g s) {k : Option Obj
   says_alike p = gives_alike p (no_move n)
 
   pub never_alike : Alike g x s k r never never
-  never_alike = record { allowed = (λ i. i, λ i. i); leads = λ i. absurd i; follows = λ i. absurd i }
+  never_alike = record { allowed = (λ i. i, λ i. i); comes = λ q i. absurd i; leads = refl; fits = n }
+
+  -- what follows a refusal, where its cause doesn't hold
+  pub unless_then : {a b : Bool} {y : Reply} {own other : Row} → b ≡ a → is_plain y ≡ true → (a ≡ false → Alike g x s k r own other) → Alike g x s k r (unless a y own) (unless b y other)
+  unless_then {a} {b} {y} {own} {other} e p w = subst (λ (z : Bool). Alike g x s k r (unless a y own) (unless z y other)) (sym e) (by_test a refl)
+    where
+      by_test : (z : Bool) → a ≡ z → Alike g x s k r (unless z y own) (unless z y other)
+      by_test true d = let v : Alike g x s k r (says y) (says y) = says_alike p in record { allowed = v.allowed; comes = v.comes; leads = v.leads; fits = v.fits }
+      by_test false d = let v : Alike g x s k r own other = w d in record { allowed = v.allowed; comes = v.comes; leads = v.leads; fits = v.fits }
 
   pub unless_alike : {a b : Bool} {y : Reply} {own other : Row} → b ≡ a → is_plain y ≡ true → Alike g x s k r own other → Alike g x s k r (unless a y own) (unless b y other)
-  unless_alike {a} {b} {y} {own} {other} e p w = subst (λ (z : Bool). Alike g x s k r (unless a y own) (unless z y other)) (sym e) (by_test a)
-    where
-      by_test : (z : Bool) → Alike g x s k r (unless z y own) (unless z y other)
-      by_test true = let v : Alike g x s k r (says y) (says y) = says_alike p in record { allowed = v.allowed; leads = v.leads; follows = v.follows }
-      by_test false = record { allowed = w.allowed; leads = w.leads; follows = w.follows }
+  unless_alike e p w = unless_then e p (λ d. w)
 
   pub not_yet_alike : (last : Bool) (late : Reply) → is_plain late ≡ true → Alike g x s k r (not_yet last late) (not_yet last late)
   not_yet_alike true late p = says_alike p
@@ -155,12 +173,12 @@ module _ {g : Renaming} {x : Room} {s : State} (n : Follows g s) {k : Option Obj
       by_test true = i
       by_test false = j
 
-  pub only_alike : {a b : Bool} {own other : Row} → b ≡ a → Alike g x s k r own other → Alike g x s k r (only a own) (only b other)
-  only_alike {a} {b} {own} {other} e w = subst (λ (z : Bool). Alike g x s k r (only a own) (only z other)) (sym e) (by_test a)
+  pub only_alike : {a b : Bool} {own other : Row} → b ≡ a → (a ≡ true → Alike g x s k r own other) → Alike g x s k r (only a own) (only b other)
+  only_alike {a} {b} {own} {other} e w = subst (λ (z : Bool). Alike g x s k r (only a own) (only z other)) (sym e) (by_test a refl)
     where
-      by_test : (z : Bool) → Alike g x s k r (only z own) (only z other)
-      by_test true = w
-      by_test false = never_alike
+      by_test : (z : Bool) → a ≡ z → Alike g x s k r (only z own) (only z other)
+      by_test true d = w d
+      by_test false d = never_alike
 
   pub live_alike : {T : Type 0} (f : T → T) {o p : Option T} {own other : Row} (v w : T → Row) → p ≡ option_map f o → Alike g x s k r own other → ((y : T) → o ≡ Some y → Alike g x s k r (v y) (w (f y))) → Alike g x s k r (live o own v) (live p other w)
   live_alike {T} f {o} {p} {own} {other} v w e i j = subst (λ (z : Option T). Alike g x s k r (live o own v) (live z other w)) (sym e) (by_object o refl)
@@ -174,23 +192,23 @@ module _ {g : Renaming} {x : Room} {s : State} (n : Follows g s) {k : Option Obj
   mrapi_alike (c ∷ cs) w = unless_alike refl refl (mrapi_alike cs w)
 
 -- the objects of a kind that no rule of tasks speaks of, in the renamed state
-module _ {g : Renaming} {s : State} (n : Follows g s) (x : Room) where
+module _ {g : Renaming} {s : State} (n : Fits g s) (x : Room) where
   pub sort-found : (t : Sort) (h : ℕ) → live_object ((all_of t).list (renamed g x s)) (g (all_of t).kind h) ≡ option_map (λ y. y) (live_object ((all_of t).list s) h)
-  sort-found t h = ap (λ (l : List (Listed (Fields t))). live_object l (g (all_of t).kind h)) (sort-list g x t s) ∙ found-renamed g n.one (all_of t).kind (λ y. y) NoHandle h ((all_of t).list s) (sort-follows g t s n).each
+  sort-found t h = ap (λ (l : List (Listed (Fields t))). live_object l (g (all_of t).kind h)) (sort-list g x t s) ∙ found-renamed g n.one (all_of t).kind (λ y. y) NoHandle h ((all_of t).list s) (sort-has g t s n)
 
   pub sort-any : (t : Sort) (p : Fields t → Bool) → any_listed p ((all_of t).list (renamed g x s)) ≡ any_listed p ((all_of t).list s)
-  sort-any t p = ap (any_listed p) (sort-list g x t s) ∙ same_any g n.one (all_of t).kind (λ y. y) NoHandle p p (λ y v. refl) ((all_of t).list s) (sort-follows g t s n).each
+  sort-any t p = ap (any_listed p) (sort-list g x t s) ∙ same_any g n.one (all_of t).kind (λ y. y) NoHandle p p (λ y v. refl) ((all_of t).list s) (sort-has g t s n)
 
   pub sort-first : (t : Sort) (p : Fields t → Bool) → first_handle p (live_of ((all_of t).list (renamed g x s))) ≡ option_map (g (all_of t).kind) (first_handle p (live_of ((all_of t).list s)))
-  sort-first t p = ap (λ (l : List (Listed (Fields t))). first_handle p (live_of l)) (sort-list g x t s) ∙ same_first g n.one (all_of t).kind (λ y. y) NoHandle p p (λ y v. refl) ((all_of t).list s) (sort-follows g t s n).each
+  sort-first t p = ap (λ (l : List (Listed (Fields t))). first_handle p (live_of l)) (sort-list g x t s) ∙ same_first g n.one (all_of t).kind (λ y. y) NoHandle p p (λ y v. refl) ((all_of t).list s) (sort-has g t s n)
 
 -- an op on an object
-module _ {g : Renaming} {x : Room} {s : State} (n : Follows g s) {k : Option ObjectKind} {r : Reply} where
+module _ {g : Renaming} {x : Room} {s : State} (n : Fits g s) {k : Option ObjectKind} {r : Reply} where
   pub on_action : (h : ℕ) (v w : Action → Row) → ((y : Action) → Alike g x s k r (v y) (w y)) → Alike g x s k r (on actions s h v) (on actions (renamed g x s) (g kind.Action h) w)
-  on_action h v w e = live_alike n (λ y. y) _ _ (found-renamed g n.one kind.Action (λ y. y) NoHandle h s.actions n.actions.each) (says_alike n refl) (λ y d. e y)
+  on_action h v w e = live_alike n (λ y. y) _ _ (found-renamed g n.one kind.Action (λ y. y) NoHandle h s.actions n.actions) (says_alike n refl) (λ y d. e y)
 
   pub on_task : (h : ℕ) (v w : Task → Row) → ((y : Task) → HasTask g y → Alike g x s k r (v y) (w (renamed_task g y))) → Alike g x s k r (on tasks s h v) (on tasks (renamed g x s) (g kind.Task h) w)
-  on_task h v w e = live_alike n (renamed_task g) _ _ (found-renamed g n.one kind.Task (renamed_task g) (HasTask g) h s.tasks n.tasks.each) (says_alike n refl) (λ y d. e y (found-has g kind.Task (HasTask g) h y s.tasks n.tasks.each d).1)
+  on_task h v w e = live_alike n (renamed_task g) _ _ (found-renamed g n.one kind.Task (renamed_task g) (HasTask g) h s.tasks n.tasks) (says_alike n refl) (λ y d. e y (found-has g kind.Task (HasTask g) h y s.tasks n.tasks d).1)
 
   pub on_sort : (t : Sort) (h : ℕ) (v w : Fields t → Row) → ((y : Fields t) → Alike g x s k r (v y) (w y)) → Alike g x s k r (on (all_of t) s h v) (on (all_of t) (renamed g x s) (g (all_of t).kind h) w)
   on_sort t h v w e = live_alike n (λ y. y) _ _ (sort-found n x t h) (says_alike n (sort-invalid t)) (λ y d. e y)
@@ -212,11 +230,11 @@ module _ {g : Renaming} {x : Room} {s : State} (n : Follows g s) {k : Option Obj
   deletes_alike t h causes = on_sort t h _ _ (λ y. mrapi_alike n (causes y) (gives_alike n refl (one_move (removes-renames g x s n t h))))
 
 -- the object of an id
-pub gets_alike : {g : Renaming} {x : Room} {s : State} (n : Follows g s) {t : Sort} (o : Keyed t) (id : ℕ) (r : Reply) → is_plain o.absent ≡ true → Alike g x s (Some (all_of t).kind) r (gets o s id) (gets o (renamed g x s) id)
+pub gets_alike : {g : Renaming} {x : Room} {s : State} (n : Fits g s) {t : Sort} (o : Keyed t) (id : ℕ) (r : Reply) → is_plain o.absent ≡ true → Alike g x s (Some (all_of t).kind) r (gets o s id) (gets o (renamed g x s) id)
 gets_alike {g} {x} {s} n {t} o id r e =
     subst (λ (f : Option ℕ). Alike g x s (Some (all_of t).kind) r (gets o s id) (found f o.absent)) (sym (sort-first n x t (λ y. o.id y == id)))
     (by_first (first_handle (λ y. o.id y == id) (live_of ((all_of t).list s))) refl)
   where
     by_first : (f : Option ℕ) → first_handle (λ y. o.id y == id) (live_of ((all_of t).list s)) ≡ f → Alike g x s (Some (all_of t).kind) r (found f o.absent) (found (option_map (g (all_of t).kind) f) o.absent)
     by_first None d = says_alike n e
-    by_first (Some h) d = gives_renamed n (first-has g (all_of t).kind NoHandle (λ y. o.id y == id) ((all_of t).list s) h (sort-follows g t s n).each d) (no_move n)
+    by_first (Some h) d = gives_renamed n (first-has g (all_of t).kind NoHandle (λ y. o.id y == id) ((all_of t).list s) h (sort-has g t s n) d) (no_move n)

@@ -25,10 +25,10 @@ use Rattle.mtapi_machine.specs.KeyedRows.{keyed_queues, keyed_mutexes, keyed_sem
 use Rattle.mtapi_machine.specs.GroupRows.{verdict}
 use Rattle.mtapi_machine.specs.WorkRows.{task_end}
 use Rattle.mtapi_machine.specs.Rows.{row}
-use Rattle.mtapi_layouts.specs.Ops.{answered_kind}
+use Rattle.mtapi_renaming.specs.Ops.{answered_kind}
 use Rattle.mtapi_renaming.specs.Renaming.{Renaming}
 use Rattle.mtapi_renaming.specs.Renamed.{Room, renamed}
-use Rattle.mtapi_renaming.specs.Follows.{Follows}
+use Rattle.mtapi_renaming.specs.Follows.{Fits}
 use Rattle.mtapi_renaming.specs.Ops.{renamed_op, renamed_reply}
 use Rattle.mtapi_renaming.specs.Kinds.{made_kind}
 use Rattle.mtapi_renaming.proofs.Tasks.{same_member, same_unended_member, same_in, endings-renamed, fault-renamed}
@@ -37,7 +37,7 @@ use Rattle.mtapi_renaming.proofs.Rows.{Alike, unless_alike, gives_alike, says_al
 use Rattle.mtapi_renaming.proofs.TaskRows.{is_some-map, verdict_plain, action-any, task-any, same_shut, looks_at_alike, cancels_alike, gives_first_alike, disables_alike}
 use Rattle.mtapi_renaming.proofs.WorkRows.{asked_same, asked_keeps, same_stop, picks_alike, on_tally_alike, locks_alike, gives_back_alike}
 
-module _ {g : Renaming} {s : State} (n : Follows g s) (x : Room) where
+module _ {g : Renaming} {s : State} (n : Fits g s) (x : Room) where
   pub row_alike : (who : ℕ) (o : Op) (r : Reply) → made_kind o ≡ None → Alike g x s (answered_kind o) r (row s who o r) (row (renamed g x s) who (renamed_op g o) (renamed_reply g o r))
   row_alike who op.Initialize r i = unless_alike n refl refl (gives_alike n refl (one_move (phase-renames g x s n _)))
   row_alike who op.Release r i = unless_alike n refl refl (gives_alike n refl (one_move (released-renames g x s n)))
@@ -62,11 +62,11 @@ module _ {g : Renaming} {s : State} (n : Follows g s) (x : Room) where
       unless_alike n refl refl (on_sort n Groups h.0 _ _ (λ y. cond_alike n (any_listed (is_unended_member h.0) s.tasks) (any_listed (is_unended_member (g kind.Group h.0)) (renamed g x s).tasks)
       (task-any n x (is_unended_member (g kind.Group h.0)) (is_unended_member h.0) (same_unended_member g n.one h.0)) (not_yet_alike n last _ refl)
       (subst (λ (c : _). Alike g x s None r (gives (verdict (first_fault (endings h.0 (live_of s.tasks)))) (frees_members h.0 ∷ [])) (gives (verdict c) (frees_members (g kind.Group h.0) ∷ [])))
-      (sym (ap first_fault (endings-renamed g n.one h.0 s.tasks n.tasks.each) ∙ fault-renamed g (endings h.0 (live_of s.tasks))))
+      (sym (ap first_fault (endings-renamed g n.one h.0 s.tasks n.tasks) ∙ fault-renamed g (endings h.0 (live_of s.tasks))))
       (gives_alike n (verdict_plain (first_fault (endings h.0 (live_of s.tasks)))) (one_move (frees_members-renames g x s n h.0))))))
   row_alike who (op.AnyLook h last) r i =
       unless_alike n refl refl (on_sort n Groups h.0 _ _ (λ y. unless_alike n (ap not (task-any n x (is_member (g kind.Group h.0)) (is_member h.0) (same_member g n.one h.0))) refl
-      (gives_first_alike n last (endings h.0 (live_of s.tasks)) (endings (g kind.Group h.0) (live_of (renamed g x s).tasks)) (endings-renamed g n.one h.0 s.tasks n.tasks.each))))
+      (gives_first_alike n last (endings h.0 (live_of s.tasks)) (endings (g kind.Group h.0) (live_of (renamed g x s).tasks)) (endings-renamed g n.one h.0 s.tasks n.tasks))))
   row_alike who (op.QueueCreate id job priority limit ordered retain) r i = absurd (cc)
   row_alike who (op.QueueGet id) r i = unless_alike n refl refl (gets_alike n keyed_queues id r refl)
   row_alike who (op.QueueEnable q) r i = unless_alike n refl refl (on_sort n Queues q.0 _ _ (λ y. gives_alike n refl (one_move (alters-renames g x s n Queues q.0 (opened true)))))

@@ -19,10 +19,10 @@ use Rattle.mtapi_machine.specs.Moves.{Queues, Groups, ends_waiting, alters, is_s
 use Rattle.mtapi_machine.specs.Row.{gives}
 use Rattle.mtapi_machine.specs.TaskRows.{looks_at, cancels}
 use Rattle.mtapi_machine.specs.GroupRows.{verdict, gives_end, gives_first}
-use Rattle.mtapi_layouts.proofs.Rows.{is_plain}
+use Rattle.mtapi_renaming.proofs.Rows.{is_plain}
 use Rattle.mtapi_renaming.specs.Renaming.{Renaming, Has}
 use Rattle.mtapi_renaming.specs.Renamed.{Room, renamed_task, renamed}
-use Rattle.mtapi_renaming.specs.Follows.{HasTask, NoHandle, Follows}
+use Rattle.mtapi_renaming.specs.Follows.{HasTask, NoHandle, Fits}
 use Rattle.mtapi_renaming.proofs.Lists.{found-renamed, found-has, same_any, same_count}
 use Rattle.mtapi_renaming.proofs.Tasks.{SameTest, same_in, same_unended_in, same_workers, renamed_endings}
 use Rattle.mtapi_renaming.proofs.Moves.{one_move, then_moves, notes-renames, leaves-renames, ends_task-renames, ends_waiting-renames, alters-renames}
@@ -41,15 +41,15 @@ verdict_plain None = refl
 verdict_plain (Some c) = refl
 
 -- what is read of the lists
-module _ {g : Renaming} {s : State} (n : Follows g s) (x : Room) where
+module _ {g : Renaming} {s : State} (n : Fits g s) (x : Room) where
   pub action-any : (p : Action → Bool) → any_listed p (renamed g x s).actions ≡ any_listed p s.actions
-  action-any p = same_any g n.one kind.Action (λ y. y) NoHandle p p (λ y v. refl) s.actions n.actions.each
+  action-any p = same_any g n.one kind.Action (λ y. y) NoHandle p p (λ y v. refl) s.actions n.actions
 
   pub task-any : (q m : Task → Bool) → SameTest g q m → any_listed q (renamed g x s).tasks ≡ any_listed m s.tasks
-  task-any q m same = same_any g n.one kind.Task (renamed_task g) (HasTask g) q m same s.tasks n.tasks.each
+  task-any q m same = same_any g n.one kind.Task (renamed_task g) (HasTask g) q m same s.tasks n.tasks
 
   pub served : (job cores : ℕ) → is_served (renamed g x s) job cores ≡ is_served s job cores
-  served job cores = same_workers g n.one (workers s) job cores s.actions n.actions.each
+  served job cores = same_workers g n.one (workers s) job cores s.actions n.actions
 
   pub group_missing : (h : Option ℕ) → holds (λ a. is_none (live_object (renamed g x s).groups a)) (option_map (g kind.Group) h) ≡ holds (λ a. is_none (live_object s.groups a)) h
   group_missing None = refl
@@ -68,9 +68,9 @@ module _ {g : Renaming} {s : State} (n : Follows g s) (x : Room) where
       by_queue (Some h) = ap (holds (λ q. not q.enabled)) (sort-found n x Queues h) ∙ by_object (live_object s.queues h)
 
   pub count-in : (q : ℕ) → count_listed (is_unended_in (g kind.Queue q)) (renamed g x s).tasks ≡ count_listed (is_unended_in q) s.tasks
-  count-in q = same_count g n.one kind.Task (renamed_task g) (HasTask g) (is_unended_in (g kind.Queue q)) (is_unended_in q) (same_unended_in g n.one q) s.tasks n.tasks.each
+  count-in q = same_count g n.one kind.Task (renamed_task g) (HasTask g) (is_unended_in (g kind.Queue q)) (is_unended_in q) (same_unended_in g n.one q) s.tasks n.tasks
 
-module _ {g : Renaming} {x : Room} {s : State} (n : Follows g s) {k : Option ObjectKind} {r : Reply} where
+module _ {g : Renaming} {x : Room} {s : State} (n : Fits g s) {k : Option ObjectKind} {r : Reply} where
   -- Looking and cancelling
 
   pub looks_at_alike : (who h : ℕ) (last : Bool) (y : TaskState) → Alike g x s k r (looks_at who h last y) (looks_at who (g kind.Task h) last y)
@@ -99,8 +99,8 @@ module _ {g : Renaming} {x : Room} {s : State} (n : Follows g s) {k : Option Obj
       by_first : (zs : List Ending) → Alike g x s k r (gives_first s last zs) (gives_first (renamed g x s) last (renamed_endings g zs))
       by_first [] = not_yet_alike n last _ refl
       by_first (z ∷ zs) =
-          live_alike n (renamed_task g) _ _ (found-renamed g n.one kind.Task (renamed_task g) (HasTask g) z.task s.tasks n.tasks.each) (never_alike n)
-          (λ y d. gives_end_alike z.task y.state (found-has g kind.Task (HasTask g) z.task y s.tasks n.tasks.each d).0)
+          live_alike n (renamed_task g) _ _ (found-renamed g n.one kind.Task (renamed_task g) (HasTask g) z.task s.tasks n.tasks) (never_alike n)
+          (λ y d. gives_end_alike z.task y.state (found-has g kind.Task (HasTask g) z.task y s.tasks n.tasks d).0)
 
   -- Queues
 

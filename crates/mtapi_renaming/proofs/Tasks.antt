@@ -15,9 +15,8 @@ use Rattle.mtapi_objects.specs.Groups.{is_member, is_unended_member, Ending, ins
 use Rattle.mtapi_objects.specs.Queues.{is_in, is_unended_in, is_head}
 use Rattle.mtapi_renaming.specs.Renaming.{Renaming, Has, IsOneToOne}
 use Rattle.mtapi_renaming.specs.Renamed.{renamed_list, renamed_task}
-use Rattle.mtapi_renaming.specs.Follows.{HasTask, NoHandle, HasEach, FollowsList}
-use Rattle.mtapi_renaming.proofs.Handles.{listed-same, handles-ends}
-use Rattle.mtapi_renaming.proofs.Lists.{same_test, same_any, only_same}
+use Rattle.mtapi_renaming.specs.Follows.{HasTask, NoHandle, HasEach}
+use Rattle.mtapi_renaming.proofs.Lists.{same_test, same_any}
 
 -- the tasks with their other handles
 abbrev pub renamed_tasks : Renaming → List (Listed Task) → List (Listed Task)
@@ -33,7 +32,7 @@ below_same zero p q same = refl
 below_same (suc n) p q same = λ i. cond (same n i) true (below_same n p q same i)
 
 -- the ends of tasks leave what the renaming has
-has-ends : (g : Renaming) (p : Task → Bool) (e : TaskEnd) (n : ℕ) (l : List (Listed Task)) → HasEach g kind.Task (HasTask g) l → HasEach g kind.Task (HasTask g) (end_each p e n l)
+pub has-ends : (g : Renaming) (p : Task → Bool) (e : TaskEnd) (n : ℕ) (l : List (Listed Task)) → HasEach g kind.Task (HasTask g) l → HasEach g kind.Task (HasTask g) (end_each p e n l)
 unfolding end_each
 has-ends g p e n [] v = tt
 has-ends g p e n (r ∷ rs) v = by_pass (r.live && p r.fields) (has-ends g p e n rs v.1) (has-ends g p e (n + 1) rs v.1)
@@ -41,9 +40,6 @@ has-ends g p e n (r ∷ rs) v = by_pass (r.live && p r.fields) (has-ends g p e n
     by_pass : (b : Bool) → HasEach g kind.Task (HasTask g) (end_each p e n rs) → HasEach g kind.Task (HasTask g) (end_each p e (n + 1) rs) → HasEach g kind.Task (HasTask g) (cond b (ended e n r ∷ end_each p e (n + 1) rs) (r ∷ end_each p e n rs))
     by_pass true x y = ((v.0.0, record { queue = v.0.1.queue; notes = v.0.1.notes }), y)
     by_pass false x y = (v.0, x)
-
-pub follows-ends : (g : Renaming) (p : Task → Bool) (e : TaskEnd) (n : ℕ) (l : List (Listed Task)) → FollowsList g kind.Task (HasTask g) l → FollowsList g kind.Task (HasTask g) (end_each p e n l)
-follows-ends g p e n l v = record { each = has-ends g p e n l v.each; only = only_same g kind.Task (HasTask g) l (end_each p e n l) (λ h. listed-same h l _ (handles-ends p e n l)) v.only }
 
 -- the faults of ended tasks
 abbrev pub renamed_ending : Renaming → Ending → Ending

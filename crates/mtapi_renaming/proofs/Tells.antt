@@ -9,7 +9,7 @@ use Rattle.mtapi_machine.specs.State.{State, Objects, actions, tasks}
 use Rattle.mtapi_machine.specs.Moves.{Move, all_of, makes_action, starts_task, makes, is_fresh}
 use Rattle.mtapi_machine.specs.Row.{Row, unless, Allows, says, handle_of, creates}
 use Rattle.mtapi_machine.specs.Rows.{row}
-use Rattle.mtapi_layouts.proofs.Rows.{is_plain}
+use Rattle.mtapi_renaming.proofs.Rows.{is_plain}
 use Rattle.mtapi_renaming.specs.Kinds.{full, made_kind, is_full_of, is_fresh_of, limit_of, CanBe, is_handle}
 use Rattle.mtapi_renaming.specs.Refusals.{makes_or_not, refusal_in, refusal_of, CanAnswer}
 use Rattle.mtapi_renaming.proofs.Creates.{can_be, full_same, fresh_same, limit_same}

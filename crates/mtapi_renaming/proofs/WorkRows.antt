@@ -22,7 +22,7 @@ use Rattle.mtapi_machine.specs.WorkRows.{is_ready, can_take, has_better, picks}
 use Rattle.mtapi_machine.specs.TallyRows.{on_tally, gives_up, takes_both, locks, gives_back}
 use Rattle.mtapi_renaming.specs.Renaming.{Renaming, Has}
 use Rattle.mtapi_renaming.specs.Renamed.{Room, renamed_task, renamed_notes, renamed}
-use Rattle.mtapi_renaming.specs.Follows.{HasTask, HasNotes, NoHandle, Follows}
+use Rattle.mtapi_renaming.specs.Follows.{HasTask, HasNotes, NoHandle, Fits}
 use Rattle.mtapi_renaming.specs.Ops.{renamed_answer}
 use Rattle.mtapi_renaming.proofs.Lists.{found-renamed, found-has, first-has}
 use Rattle.mtapi_renaming.proofs.Tasks.{SameTest, same_head}
@@ -46,14 +46,14 @@ asked_keeps g y v = by_request y.requested
 
 -- Picking
 
-module _ {g : Renaming} {s : State} (n : Follows g s) (x : Room) where
+module _ {g : Renaming} {s : State} (n : Fits g s) (x : Room) where
   queue_lets : (t : Task) (o : Option ℕ) → holds (λ h. holds (lets h (renamed_task g t) (live_of (renamed g x s).tasks)) (live_object (renamed g x s).queues h)) (option_map (g kind.Queue) o) ≡ holds (λ h. holds (lets h t (live_of s.tasks)) (live_object s.queues h)) o
   queue_lets t None = refl
   queue_lets t (Some h) = ap (holds (lets (g kind.Queue h) (renamed_task g t) (live_of (renamed g x s).tasks))) (sort-found n x Queues h) ∙ by_object (live_object s.queues h)
     where
       by_object : (o : Option Queue) → holds (lets (g kind.Queue h) (renamed_task g t) (live_of (renamed g x s).tasks)) (option_map (λ y. y) o) ≡ holds (lets h t (live_of s.tasks)) o
       by_object None = refl
-      by_object (Some q) = ap (λ (b : Bool). q.enabled && (not q.ordered || b)) (same_head g n.one h t s.tasks n.tasks.each)
+      by_object (Some q) = ap (λ (b : Bool). q.enabled && (not q.ordered || b)) (same_head g n.one h t s.tasks n.tasks)
 
   is_none-queue : (o : Option ℕ) → is_none (option_map (g kind.Queue) o) ≡ is_none o
   is_none-queue None = refl
@@ -80,15 +80,15 @@ module _ {g : Renaming} {s : State} (n : Follows g s) (x : Room) where
 
   pub picks_alike : (w : ℕ) (r : Reply) → Alike g x s None r (picks s w r) (picks (renamed g x s) w (renamed_answer g None r))
   picks_alike w (Picked t a k args) =
-      live_alike n (renamed_task g) _ _ (found-renamed g n.one kind.Task (renamed_task g) (HasTask g) t.0 s.tasks n.tasks.each) (never_alike n) (λ y d.
-      let has : Has g kind.Task t.0 × HasTask g y = found-has g kind.Task (HasTask g) t.0 y s.tasks n.tasks.each d in
-      live_alike n (λ z. z) _ _ (found-renamed g n.one kind.Action (λ z. z) NoHandle a.0 s.actions n.actions.each) (never_alike n) (λ z e.
-      only_alike n (same_may w y z has.1) (gives_renamed n (has.0, (found-has g kind.Action NoHandle a.0 z s.actions n.actions.each e).0) (one_move (runs_task-renames g x s n t.0 w z.kind)))))
-  picks_alike w r = only_alike n (ap not (task-any n x (can_take (renamed g x s) w) (can_take s w) (same_take w))) (says_alike n refl)
+      live_alike n (renamed_task g) _ _ (found-renamed g n.one kind.Task (renamed_task g) (HasTask g) t.0 s.tasks n.tasks) (never_alike n) (λ y d.
+      let has : Has g kind.Task t.0 × HasTask g y = found-has g kind.Task (HasTask g) t.0 y s.tasks n.tasks d in
+      live_alike n (λ z. z) _ _ (found-renamed g n.one kind.Action (λ z. z) NoHandle a.0 s.actions n.actions) (never_alike n) (λ z e.
+      only_alike n (same_may w y z has.1) (λ c. gives_renamed n (has.0, (found-has g kind.Action NoHandle a.0 z s.actions n.actions e).0) (one_move (runs_task-renames g x s n t.0 w z.kind)))))
+  picks_alike w r = only_alike n (ap not (task-any n x (can_take (renamed g x s) w) (can_take s w) (same_take w))) (λ c. says_alike n refl)
 
 -- Tallies
 
-module _ {g : Renaming} {x : Room} {s : State} (n : Follows g s) {k : Option ObjectKind} {r : Reply} where
+module _ {g : Renaming} {x : Room} {s : State} (n : Fits g s) {k : Option ObjectKind} {r : Reply} where
   pub on_tally_alike : (who h : ℕ) (v w : Task → Row) → ((y : Task) → HasTask g y → Alike g x s k r (v y) (w (renamed_task g y))) → Alike g x s k r (on_tally s who h v) (on_tally (renamed g x s) who (g kind.Task h) w)
   on_tally_alike who h v w e = unless_alike n refl refl (on_task n h _ _ (λ y m. unless_alike n refl refl (e y m)))
 
@@ -112,7 +112,7 @@ module _ {g : Renaming} {x : Room} {s : State} (n : Follows g s) {k : Option Obj
       subst (λ (o : Option ℕ). Alike g x s k r (locks s who h args (Some y)) (takes_both (renamed g x s) who (g kind.Task h) y.cell o (first_handle segment_of (live_of (renamed g x s).segments)))) (sym (sort-first n x Mutexes mutex_of))
       (subst (λ (o : Option ℕ). Alike g x s k r (locks s who h args (Some y)) (takes_both (renamed g x s) who (g kind.Task h) y.cell (option_map (g kind.Mutex) (first_handle mutex_of (live_of s.mutexes))) o)) (sym (sort-first n x Segments segment_of))
       (takes_both_alike who h y.cell (first_handle mutex_of (live_of s.mutexes)) (first_handle segment_of (live_of s.segments))
-      (λ i e. first-has g kind.Mutex NoHandle mutex_of s.mutexes i n.mutexes.each e) (λ i e. first-has g kind.Shmem NoHandle segment_of s.segments i n.segments.each e)))
+      (λ i e. first-has g kind.Mutex NoHandle mutex_of s.mutexes i n.mutexes e) (λ i e. first-has g kind.Shmem NoHandle segment_of s.segments i n.segments e)))
     where
       mutex_of : Mutex → Bool
       mutex_of m = m.id == y.mutex

@@ -36,24 +36,35 @@ abbrev pub HasEach : {T : Type 0} → Renaming → ObjectKind → (T → Type 0)
 HasEach g k P [] = Unit {0}
 HasEach g k P (r ∷ rs) = (Has g k r.handle × P r.fields) × HasEach g k P rs
 
--- no other handle of the kind has another one
-abbrev pub HasOnly : {T : Type 0} → Renaming → ObjectKind → List (Listed T) → Type 0
-HasOnly g k l = (h : ℕ) → Has g k h → 1 ≤ listed h l
-
--- the handles of a kind that have other ones are those that were issued
-pub record FollowsList {T : Type 0} (g : Renaming) (k : ObjectKind) (P : T → Type 0) (l : List (Listed T)) : Type 0 where
-  pub each : HasEach g k P l
-  pub only : HasOnly g k l
-
--- of each kind; no two of them have the same other one, and 0, which is never issued, stays 0
-pub record Follows (g : Renaming) (s : State) : Type 0 where
+-- each handle in the state has another one; no two have the same, and 0, which is never issued, stays 0
+pub record Fits (g : Renaming) (s : State) : Type 0 where
   pub one : IsOneToOne g
   pub zero : (k : ObjectKind) → g k 0 ≡ 0
-  pub actions : FollowsList g kind.Action NoHandle s.actions
-  pub tasks : FollowsList g kind.Task (HasTask g) s.tasks
-  pub groups : FollowsList g kind.Group NoHandle s.groups
-  pub queues : FollowsList g kind.Queue NoHandle s.queues
-  pub mutexes : FollowsList g kind.Mutex NoHandle s.mutexes
-  pub sems : FollowsList g kind.Sem NoHandle s.sems
-  pub rwls : FollowsList g kind.Rwl NoHandle s.rwls
-  pub segments : FollowsList g kind.Shmem NoHandle s.segments
+  pub actions : HasEach g kind.Action NoHandle s.actions
+  pub tasks : HasEach g kind.Task (HasTask g) s.tasks
+  pub groups : HasEach g kind.Group NoHandle s.groups
+  pub queues : HasEach g kind.Queue NoHandle s.queues
+  pub mutexes : HasEach g kind.Mutex NoHandle s.mutexes
+  pub sems : HasEach g kind.Sem NoHandle s.sems
+  pub rwls : HasEach g kind.Rwl NoHandle s.rwls
+  pub segments : HasEach g kind.Shmem NoHandle s.segments
+
+-- how often a handle of the kind was issued
+abbrev pub listed_in : ObjectKind → State → ℕ → ℕ
+listed_in kind.Action s h = listed h s.actions
+listed_in kind.Task s h = listed h s.tasks
+listed_in kind.Group s h = listed h s.groups
+listed_in kind.Queue s h = listed h s.queues
+listed_in kind.Mutex s h = listed h s.mutexes
+listed_in kind.Sem s h = listed h s.sems
+listed_in kind.Rwl s h = listed h s.rwls
+listed_in kind.Shmem s h = listed h s.segments
+
+-- no handle has another one but those that were issued
+abbrev pub Only : Renaming → State → Type 0
+Only g s = (k : ObjectKind) (h : ℕ) → Has g k h → 1 ≤ listed_in k s h
+
+-- the handles that have other ones are those that were issued
+pub record Follows (g : Renaming) (s : State) : Type 0 where
+  pub fits : Fits g s
+  pub only : Only g s

@@ -4,9 +4,8 @@ use Rattle.std.specs.Ordering.{nat_cmp}
 use Rattle.std.specs.BTreeMap.{BTreeMap, get}
 use Rattle.mtapi_values.specs.declared.handles.ObjectKind.{ObjectKind}
 use Rattle.mtapi_values.specs.declared.handles.ObjectKind.TheVariants.{Action, Task, Group, Queue, Mutex, Sem, Rwl, Shmem}
-use Rattle.mtapi_layouts.specs.Inward.{or_zero}
 use Rattle.mtapi_renaming.specs.declared.maps.OtherHandles.{OtherHandles}
-use Rattle.mtapi_renaming.specs.Renaming.{Renaming}
+use Rattle.mtapi_renaming.specs.Renaming.{or_zero, Renaming}
 
 -- the map of a kind
 abbrev pub map_of : OtherHandles → ObjectKind → BTreeMap ℕ ℕ

@@ -11,10 +11,9 @@ use Rattle.mtapi_values.specs.declared.handles.ShmemHandle.{ShmemHandle}
 use Rattle.mtapi_values.specs.declared.handles.ObjectKind.{ObjectKind}
 use Rattle.mtapi_values.specs.declared.handles.ObjectKind.TheVariants as kind
 use Rattle.mtapi_machine.specs.declared.ops.Op.{Op}
-use Rattle.mtapi_machine.specs.declared.ops.Op.TheVariants.{ActionDelete, ActionDisable, ActionEnable, TaskStart, TaskEnqueue, TaskLook, TaskCancel, GroupDelete, AllLook, AnyLook, QueueEnable, QueueDisable, QueueDelete, Finish, Asked, WatchEnd, TallyLock, TallyRead, TallyWrite, TallyEnd, MutexDelete, MutexLook, MutexUnlock, SemDelete, SemLook, SemUnlock, RwlDelete, RwlLook, RwlUnlock, ShmemDelete, ShmemAttach, ShmemDetach, ShmemRead, ShmemWrite}
+use Rattle.mtapi_machine.specs.declared.ops.Op.TheVariants.{ActionCreate, ActionDelete, ActionDisable, ActionEnable, TaskStart, TaskEnqueue, TaskLook, TaskCancel, GroupCreate, GroupDelete, AllLook, AnyLook, QueueCreate, QueueGet, QueueEnable, QueueDisable, QueueDelete, Finish, Asked, WatchEnd, TallyLock, TallyRead, TallyWrite, TallyEnd, MutexCreate, MutexGet, MutexDelete, MutexLook, MutexUnlock, SemCreate, SemGet, SemDelete, SemLook, SemUnlock, RwlCreate, RwlGet, RwlDelete, RwlLook, RwlUnlock, ShmemCreate, ShmemGet, ShmemDelete, ShmemAttach, ShmemDetach, ShmemRead, ShmemWrite}
 use Rattle.mtapi_machine.specs.declared.replies.Reply.{Reply}
 use Rattle.mtapi_machine.specs.declared.replies.Reply.TheVariants.{Handle, Given, Picked}
-use Rattle.mtapi_layouts.specs.Ops.{answered_kind}
 use Rattle.mtapi_renaming.specs.Renaming.{Renaming}
 
 -- the other handles of those that an op names
@@ -79,6 +78,24 @@ renamed_op g (ShmemDetach x) = ShmemDetach (other_shmem g x)
 renamed_op g (ShmemRead x cell) = ShmemRead (other_shmem g x) cell
 renamed_op g (ShmemWrite x cell value) = ShmemWrite (other_shmem g x) cell value
 renamed_op g op = op
+
+-- the kind of the object whose handle the op answers
+abbrev pub answered_kind : Op → Option ObjectKind
+answered_kind (ActionCreate job x cores) = Some kind.Action
+answered_kind (TaskStart job args priority cores detached group) = Some kind.Task
+answered_kind (TaskEnqueue q args cores detached group) = Some kind.Task
+answered_kind GroupCreate = Some kind.Group
+answered_kind (QueueCreate id job priority limit ordered retain) = Some kind.Queue
+answered_kind (QueueGet id) = Some kind.Queue
+answered_kind (MutexCreate id recursive) = Some kind.Mutex
+answered_kind (MutexGet id) = Some kind.Mutex
+answered_kind (SemCreate id limit) = Some kind.Sem
+answered_kind (SemGet id) = Some kind.Sem
+answered_kind (RwlCreate id limit) = Some kind.Rwl
+answered_kind (RwlGet id) = Some kind.Rwl
+answered_kind (ShmemCreate id cells) = Some kind.Shmem
+answered_kind (ShmemGet id) = Some kind.Shmem
+answered_kind op = None
 
 -- the other handle of an object of this kind, if the reply is to an op that answers one
 abbrev pub other_of : Renaming → Option ObjectKind → ℕ → ℕ

@@ -1,7 +1,12 @@
 -- Other handles for the objects of a node.
-use Rattle.std.specs.Prelude.{◌≡◌, ℕ, ◌≤◌, ◌&&◌, ◌==◌, if◌then◌else◌}
+use Rattle.std.specs.Prelude.{◌≡◌, ℕ, ◌≤◌, ◌&&◌, ◌==◌, Option, Some, None, if◌then◌else◌}
 use Rattle.mtapi_values.specs.declared.handles.ObjectKind.{ObjectKind}
 use Rattle.mtapi_values.specs.Layouts.{object_number}
+
+-- 0, which no pool issues, where there is none
+abbrev pub or_zero : Option ℕ → ℕ
+or_zero None = 0
+or_zero (Some h) = h
 
 -- another handle for each handle of each kind; 0 where there is none
 abbrev pub Renaming : Type 0

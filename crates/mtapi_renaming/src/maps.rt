@@ -3,7 +3,7 @@
 ghost use Rattle.std.specs.Prelude.{◌≡◌, ℕ, OnOk, OnErr, IfOk, Some, ◌==◌, if◌then◌else◌};
 ghost use Rattle.std.specs.Ordering.{nat_cmp};
 ghost use Rattle.std.specs.BTreeMap.{get};
-ghost use Rattle.mtapi_layouts.specs.Inward.{or_zero};
+ghost use Rattle.mtapi_renaming.specs.Renaming.{or_zero};
 ghost use Rattle.mtapi_renaming.specs.Renaming.{nothing, with_pair};
 ghost use Rattle.mtapi_renaming.specs.Maps.{renaming_of};
 

@@ -16,8 +16,7 @@ use Rattle.mtapi_layouts.specs.Turned.{in_layout_one, turned}
 use Rattle.mtapi_layouts.specs.Named.{Named}
 use Rattle.mtapi_layouts.specs.Ops.{inward_op, outward_reply, IssuesSmall, IsSmall}
 use Rattle.mtapi_layouts.specs.Turns.{inner_entries, outer_entries, AllIssueSmall}
-use Rattle.mtapi_layouts.proofs.TaskRows.{pends_turned}
-use Rattle.mtapi_layouts.proofs.Histories.{all_stay, step_turns, opening_turns, history_turns, history_named}
+use Rattle.mtapi_layouts.proofs.Histories.{all_stay, step_turns, opening_turns, history_turns, history_named, pends_turned}
 
 -- Lists of entries
 

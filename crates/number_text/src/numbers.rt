@@ -7,6 +7,7 @@ ghost use Rattle.std.specs.Str.Parse.{digits_value};
 ghost use Rattle.std.specs.Fmt.{decimal, signed_decimal};
 ghost use Rattle.number_text.specs.Numbers.{is_decimal, number, number_within, whole};
 
+use itoa::Buffer;
 use std::alloc::{AllocError, Global};
 use std::str;
 
@@ -145,8 +146,9 @@ pub fn signed_text(alloc: Global, number: i128) -> Result<String, AllocError>
 pub fn push_number(alloc: Global, out: &mut Vec<u8>, number: u64) -> Result<(), AllocError>
     ensures { OnOk result (out.new.items ≡ out.old.items ++ decimal number) }
 {
-    let text = decimal_text(alloc, number)?;
-    out.extend_from_slice(text.as_bytes())
+    let _ = alloc;
+    let mut buffer = Buffer::new();
+    out.extend_from_slice(buffer.format(number).as_bytes())
 }
 
 /// Appends a number of i64.
@@ -157,6 +159,7 @@ pub fn push_number(alloc: Global, out: &mut Vec<u8>, number: u64) -> Result<(), 
 pub fn push_whole(alloc: Global, out: &mut Vec<u8>, number: i64) -> Result<(), AllocError>
     ensures { OnOk result (out.new.items ≡ out.old.items ++ signed_decimal number) }
 {
-    let text = signed_text(alloc, i128::from(number))?;
-    out.extend_from_slice(text.as_bytes())
+    let _ = alloc;
+    let mut buffer = Buffer::new();
+    out.extend_from_slice(buffer.format(number).as_bytes())
 }

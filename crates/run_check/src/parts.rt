@@ -124,7 +124,7 @@ fn is_work(op: &Op, reply: &Reply) -> bool
     ensures { result ≡ is_work op.now reply.now }
 {
     match op {
-        Op::Pick => matches!(reply, Reply::Picked { .. }),
+        Op::Pick => matches!(reply, Reply::Picked { .. } | Reply::Idle),
         Op::Finish { .. } | Op::TallyWrite { .. } => matches!(reply, Reply::Ok),
         Op::Asked { .. } => matches!(reply, Reply::Asked(_)),
         Op::WatchEnd { .. } | Op::TallyEnd { .. } => matches!(reply, Reply::Ended(_)),

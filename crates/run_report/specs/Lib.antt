@@ -9,3 +9,4 @@ pub mod Standings
 pub mod Worked
 pub mod Summary
 pub mod RunReplies
+pub mod ShortEnds

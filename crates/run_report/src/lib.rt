@@ -8,6 +8,7 @@ mod deciding;
 mod laws;
 mod page;
 mod places;
+mod short_ends;
 mod sorts;
 mod standings;
 mod summary;
@@ -21,6 +22,7 @@ mod worked;
 
 pub use changes::{Change, LiveAction, LiveQueue, Unstarted};
 pub use laws::law_report_reads_the_run;
+pub use short_ends::ShortEnd;
 pub use sorts::Shown;
 pub use standings::{Passing, Standings};
 pub use summary::summary_of;

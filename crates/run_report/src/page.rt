@@ -9,10 +9,10 @@ ghost use Rattle.run_report.specs.Report.{parts_told, report_by};
 
 use crate::call_lines::push_call_lines;
 use crate::deciding::{calls_before, decided, replies_to};
+use crate::short_ends::ShortEnd;
 use crate::standings::standings_of;
 use crate::task_lines::push_task_lines;
 use mtapi_machine::Entry;
-use mtapi_values::TaskEnd;
 use std::alloc::{AllocError, Global};
 use std::collections::HashMap;
 use workload_file::{Part, Workload};
@@ -33,7 +33,7 @@ fn push_part(
     before: usize,
     part: &Part,
     entries: &[Entry],
-    ended: &HashMap<u64, TaskEnd>,
+    ended: &HashMap<u64, ShortEnd>,
 ) -> Result<(), AllocError>
     ensures tasks { OnOk result (page.new.tasks.items ≡ page.old.tasks.items ++ task_lines (get nat_eq ended.now) (reported who before entries.now part.now)) }
     ensures calls { OnOk result (page.new.calls.items ≡ page.old.calls.items ++ call_lines (reported who before entries.now part.now)) }
@@ -54,7 +54,7 @@ fn push_further(
     who: u32,
     parts: &[Part],
     entries: &[Entry],
-    ended: &HashMap<u64, TaskEnd>,
+    ended: &HashMap<u64, ShortEnd>,
 ) -> Result<(), AllocError>
     requires { who + length parts.now < 2 ^ 32 }
     ensures tasks { OnOk result (page.new.tasks.items ≡ page.old.tasks.items ++ flat_map (task_lines (get nat_eq ended.now)) (further_told who entries.now parts.now)) }
@@ -76,7 +76,7 @@ fn push_all(
     main: u32,
     parts: &[Part],
     entries: &[Entry],
-    ended: &HashMap<u64, TaskEnd>,
+    ended: &HashMap<u64, ShortEnd>,
 ) -> Result<(), AllocError>
     requires { main + length parts.now < 2 ^ 32 }
     ensures tasks { OnOk result (page.new.tasks.items ≡ page.old.tasks.items ++ flat_map (task_lines (get nat_eq ended.now)) (all_told main entries.now parts.now)) }

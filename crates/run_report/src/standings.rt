@@ -9,6 +9,7 @@ ghost use Rattle.run_report.specs.Standings.{seen_in, SameAs, passes};
 
 use crate::actions::{has_worker, set_enabled, take_out};
 use crate::changes::{Change, LiveAction, LiveQueue, Unstarted, change_of};
+use crate::short_ends::ShortEnd;
 use mtapi_machine::Entry;
 use mtapi_values::{Mask, MtapiStatus, TaskEnd};
 use std::alloc::{AllocError, Global};
@@ -20,7 +21,7 @@ use std::collections::HashMap;
 /// The handles are the node's, so that no workload can choose them to have the same hash.
 #[derive(Drop)]
 pub struct Standings {
-    pub ended: HashMap<u64, TaskEnd>,
+    pub ended: HashMap<u64, ShortEnd>,
     pub unstarted: HashMap<u64, Unstarted>,
     pub actions: Vec<LiveAction>,
     pub queues: HashMap<u64, LiveQueue>,
@@ -97,15 +98,22 @@ fn is_passing(table: &Standings, workers: u32, which: &Passing, handle: u64) -> 
     }
 }
 
-fn end_one(table: &mut Standings, handle: u64, end: TaskEnd) -> Result<(), AllocError>
+fn end_one(
+    alloc: Global,
+    table: &mut Standings,
+    handle: u64,
+    end: TaskEnd,
+) -> Result<(), AllocError>
     ensures { OnOk result (SameAs (seen_in table.new) (with_end handle end (seen_in table.old))) }
 {
+    let end = ShortEnd::new(alloc, end)?;
     table.unstarted.remove(&handle);
     table.ended.insert(handle, end)?;
     Ok(())
 }
 
 fn end_if_passing(
+    alloc: Global,
     table: &mut Standings,
     workers: u32,
     which: &Passing,
@@ -116,7 +124,7 @@ fn end_if_passing(
     ensures { OnOk result (SameAs (seen_in table.new) (if holds (passes workers which.now (seen_in table.old)) (get nat_eq table.old.unstarted handle) then with_end handle end.now (seen_in table.old) else seen_in table.old)) }
 {
     if is_passing(table, workers, which, handle) {
-        return end_one(table, handle, end.again());
+        return end_one(alloc, table, handle, end.again());
     }
     Ok(())
 }
@@ -140,16 +148,16 @@ fn end_where(
 {
     let handles = handles_of(alloc, &table.unstarted)?;
     for handle in handles.iter() {
-        end_if_passing(table, workers, which, *handle, end)?;
+        end_if_passing(alloc, table, workers, which, *handle, end)?;
     }
     Ok(())
 }
 
-fn cancel(table: &mut Standings, handle: u64) -> Result<(), AllocError>
+fn cancel(alloc: Global, table: &mut Standings, handle: u64) -> Result<(), AllocError>
     ensures { OnOk result (SameAs (seen_in table.new) (cancelled handle (seen_in table.old))) }
 {
     if table.unstarted.contains_key(&handle) {
-        return end_one(table, handle, TaskEnd::Cancelled);
+        return end_one(alloc, table, handle, TaskEnd::Cancelled);
     }
     Ok(())
 }
@@ -270,8 +278,8 @@ fn note(
         Change::BeginsTask(handle) => {
             table.unstarted.remove(&handle);
         }
-        Change::EndsTask(handle, end) => end_one(table, handle, end)?,
-        Change::CancelsTask(handle) => cancel(table, handle)?,
+        Change::EndsTask(handle, end) => end_one(alloc, table, handle, end)?,
+        Change::CancelsTask(handle) => cancel(alloc, table, handle)?,
         Change::MakesQueue(handle, queue) => {
             table.queues.insert(handle, queue)?;
         }

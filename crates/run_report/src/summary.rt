@@ -11,10 +11,10 @@ ghost use Rattle.run_report.specs.Seen.{nothing_seen, seen_from};
 ghost use Rattle.run_report.specs.Summary.{no_totals, with_tasks, with_parts, counted, totals_text, summary, statements_in, AreTotals};
 
 use crate::deciding::{calls_before, decided, replies_to};
+use crate::short_ends::ShortEnd;
 use crate::standings::standings_of;
 use crate::totals::{Totals, no_totals, with_tasks};
 use mtapi_machine::Entry;
-use mtapi_values::TaskEnd;
 use node_core::Journal;
 use number_text::{push_number, signed_text};
 use std::alloc::{AllocError, Global};
@@ -30,7 +30,7 @@ fn with_part(
     before: usize,
     part: &Part,
     entries: &[Entry],
-    ended: &HashMap<u64, TaskEnd>,
+    ended: &HashMap<u64, ShortEnd>,
 ) -> Result<Totals, AllocError>
     requires totals { AreTotals totals.tasks totals }
     requires few { totals.tasks + length part.now.statements ≤ 20000 }
@@ -52,7 +52,7 @@ fn with_further(
     who: u32,
     parts: &[Part],
     entries: &[Entry],
-    ended: &HashMap<u64, TaskEnd>,
+    ended: &HashMap<u64, ShortEnd>,
 ) -> Result<Totals, AllocError>
     requires seats { who + length parts.now < 2 ^ 32 }
     requires totals { AreTotals totals.tasks totals }
@@ -75,7 +75,7 @@ fn all_totals(
     main: u32,
     parts: &[Part],
     entries: &[Entry],
-    ended: &HashMap<u64, TaskEnd>,
+    ended: &HashMap<u64, ShortEnd>,
 ) -> Result<Totals, AllocError>
     requires seats { main + length parts.now < 2 ^ 32 }
     requires few { statements_in parts.now ≤ 20000 }

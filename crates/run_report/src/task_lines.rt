@@ -5,10 +5,10 @@ ghost use Rattle.run_report.specs.Replies.{nows};
 ghost use Rattle.run_report.specs.Calls.{shown_of, is_task, task_line, task_lines_of};
 ghost use Rattle.std.specs.HashMap.{get};
 
+use crate::short_ends::ShortEnd;
 use crate::sorts::{Shown, shown_of};
 use crate::text::{name_of, push_end};
 use mtapi_machine::Reply;
-use mtapi_values::TaskEnd;
 use std::alloc::{AllocError, Global};
 use std::collections::HashMap;
 use workload_file::Statement;
@@ -17,14 +17,14 @@ use workload_file::Statement;
 fn push_task(
     alloc: Global,
     out: &mut Vec<u8>,
-    ended: &HashMap<u64, TaskEnd>,
+    ended: &HashMap<u64, ShortEnd>,
     reply: &Reply,
 ) -> Result<(), AllocError>
     ensures { OnOk result (out.new.items ≡ out.old.items ++ task_text (get nat_eq ended.now) reply.now) }
 {
     match reply {
         Reply::Handle(handle) => match ended.get(handle) {
-            Some(end) => push_end(alloc, out, end),
+            Some(end) => push_end(alloc, out, &end.full()),
             _ => Ok(()),
         },
         Reply::Mtapi(status) => {
@@ -39,7 +39,7 @@ fn push_task_line(
     alloc: Global,
     out: &mut Vec<u8>,
     part: &[u8],
-    ended: &HashMap<u64, TaskEnd>,
+    ended: &HashMap<u64, ShortEnd>,
     statement: &Statement,
     reply: &Reply,
 ) -> Result<(), AllocError>
@@ -58,7 +58,7 @@ fn push_if_task(
     alloc: Global,
     out: &mut Vec<u8>,
     part: &[u8],
-    ended: &HashMap<u64, TaskEnd>,
+    ended: &HashMap<u64, ShortEnd>,
     statement: &Statement,
     reply: &Reply,
 ) -> Result<(), AllocError>
@@ -75,7 +75,7 @@ pub fn push_task_lines(
     alloc: Global,
     out: &mut Vec<u8>,
     part: &[u8],
-    ended: &HashMap<u64, TaskEnd>,
+    ended: &HashMap<u64, ShortEnd>,
     statements: &[Statement],
     replies: &[&Reply],
 ) -> Result<(), AllocError>

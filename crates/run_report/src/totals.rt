@@ -5,6 +5,7 @@ ghost use Rattle.run_report.specs.Replies.{nows};
 ghost use Rattle.run_report.specs.Calls.{shown_of, is_task};
 ghost use Rattle.run_report.specs.Summary.{no_totals, with_number, with_numbers, with_end, with_fate, with_task, with_tasks, IsNear, AreTotals};
 
+use crate::short_ends::ShortEnd;
 use crate::sorts::{Shown, shown_of};
 use mtapi_machine::Reply;
 use mtapi_values::TaskEnd;
@@ -82,7 +83,7 @@ fn with_end(totals: Totals, end: &TaskEnd) -> Totals
 }
 
 /// With what became of a task, by the reply to its statement.
-fn with_fate(totals: Totals, ended: &HashMap<u64, TaskEnd>, reply: &Reply) -> Totals
+fn with_fate(totals: Totals, ended: &HashMap<u64, ShortEnd>, reply: &Reply) -> Totals
     requires totals { AreTotals totals.tasks totals }
     requires few { totals.tasks < 20000 }
     ensures value { result ≡ with_fate (get nat_eq ended.now) totals reply.now }
@@ -91,7 +92,7 @@ fn with_fate(totals: Totals, ended: &HashMap<u64, TaskEnd>, reply: &Reply) -> To
 {
     match reply {
         Reply::Handle(handle) => match ended.get(handle) {
-            Some(end) => with_end(totals, end),
+            Some(end) => with_end(totals, &end.full()),
             _ => totals,
         },
         Reply::Mtapi(_) => Totals {
@@ -103,7 +104,7 @@ fn with_fate(totals: Totals, ended: &HashMap<u64, TaskEnd>, reply: &Reply) -> To
 }
 
 /// With a task.
-fn with_task(totals: Totals, ended: &HashMap<u64, TaskEnd>, reply: &Reply) -> Totals
+fn with_task(totals: Totals, ended: &HashMap<u64, ShortEnd>, reply: &Reply) -> Totals
     requires totals { AreTotals totals.tasks totals }
     requires few { totals.tasks < 20000 }
     ensures value { result ≡ with_task (get nat_eq ended.now) totals reply.now }
@@ -120,7 +121,7 @@ fn with_task(totals: Totals, ended: &HashMap<u64, TaskEnd>, reply: &Reply) -> To
 /// With a statement, where it is of a task.
 fn with_statement(
     totals: Totals,
-    ended: &HashMap<u64, TaskEnd>,
+    ended: &HashMap<u64, ShortEnd>,
     statement: &Statement,
     reply: &Reply,
 ) -> Totals
@@ -140,7 +141,7 @@ fn with_statement(
 #[tactic(auto, unfolding(crate::specs::Summary::with_tasks))]
 pub fn with_tasks(
     totals: Totals,
-    ended: &HashMap<u64, TaskEnd>,
+    ended: &HashMap<u64, ShortEnd>,
     statements: &[Statement],
     replies: &[&Reply],
 ) -> Totals

@@ -5,6 +5,7 @@ use std::sync::Wait;
 use std::sync::atomic::AtomicU64;
 use std::thread;
 use std::time::Duration;
+use turn_cell::Bell;
 
 // So often it spins before it gives its time away once and then sleeps. Each look takes a turn for which others wait, so they are few.
 const SPINS: u32 = 3;
@@ -27,6 +28,8 @@ pub(crate) struct Pause {
     left: u64,
     // Nobody wakes it, so that a sleep ends by its length.
     asleep: AtomicU64,
+    // How often the bell had rung when it was last heard, while it listens.
+    heard: Option<u64>,
 }
 
 impl Pause {
@@ -47,6 +50,7 @@ impl Pause {
             micros: 1,
             left,
             asleep: AtomicU64::new(0),
+            heard: None,
         }
     }
 
@@ -55,6 +59,34 @@ impl Pause {
         self.backoff.reset();
         self.short = 0;
         self.micros = 1;
+    }
+
+    /// Waits once for a bell: it spins, then listens, and then sleeps until it rings. True where it begins to listen.
+    pub(crate) fn wait_for<R: Wait>(&mut self, rt: &R, bell: &Bell) -> bool {
+        if self.short < SPINS {
+            self.short += 1;
+            self.backoff.spin();
+            return false;
+        }
+        match self.heard {
+            None => {
+                self.heard = Some(bell.listen());
+                true
+            }
+            Some(rings) => {
+                self.heard = Some(bell.sleep(rt, rings));
+                false
+            }
+        }
+    }
+
+    /// Waits for the bell no more.
+    pub(crate) fn leave(&mut self, bell: &Bell) {
+        if self.heard.is_some() {
+            bell.leave();
+        }
+        self.heard = None;
+        self.reset();
     }
 
     /// Waits once.

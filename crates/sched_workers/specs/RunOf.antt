@@ -13,6 +13,7 @@ use Rattle.sched_workers.specs.Parts.{PartsRan}
 -- what a worker does before it stops: it takes tasks and ends them, and no reply is a status
 abbrev pub is_work : Op → Reply → Bool
 is_work op.Pick (reply.Picked t a k args) = true
+is_work op.Pick reply.Idle = true
 is_work (op.Finish t done) reply.Ok = true
 is_work (op.Asked t) (reply.Asked requested) = true
 is_work (op.WatchEnd t) (reply.Ended end) = true

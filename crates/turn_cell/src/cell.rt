@@ -3,6 +3,7 @@ ghost use Rattle.std.specs.Prelude.{◌≡◌, ℕ, ◌<◌, List, [], IfOk};
 ghost use Rattle.turn_cell.specs.Seats.{fresh_seats};
 ghost use Rattle.turn_cell.specs.Turns.{fresh_parts};
 
+use crate::bells::Bell;
 use crate::parts::Parts;
 use crate::seats::TurnSeat;
 use crate::steps::{CutRest, TurnRule};
@@ -22,6 +23,9 @@ pub struct TurnCell<O: Object> {
         TurnRule,
         Global,
     >,
+    // Rung where there is work, and where a worker finds none any more.
+    pub(crate) work: Bell,
+    pub(crate) ends: Bell,
 }
 
 impl<O: Object> Model for TurnCell<O> {
@@ -56,9 +60,23 @@ impl<O: Object> TurnCell<O> {
         let Ok((table, token)) = Table::new(alloc, &[0, 0], slots, &terms) else {
             return Err(AllocError);
         };
-        let cell = TurnCell { table };
+        let cell = TurnCell {
+            table,
+            work: Bell::new(),
+            ends: Bell::new(),
+        };
         let seats = cell.deal(alloc, token, count)?;
         Ok((cell, seats))
+    }
+
+    /// The bell for those that look for work.
+    pub fn work(&self) -> &Bell {
+        &self.work
+    }
+
+    /// The bell for those that wait for ends.
+    pub fn ends(&self) -> &Bell {
+        &self.ends
     }
 
     // Cuts the token of all seats into one for each.

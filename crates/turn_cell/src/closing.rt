@@ -48,7 +48,11 @@ impl<O: Object> TurnCell<O> {
         ensures history { (h : List (Entry O.Op O.Reply)) × O.legal self.terms h × O.stands result h × all_of (IsSeatOf self.terms h) seats.items }
     {
         let token = self.gather(seats);
-        let TurnCell { table } = self;
+        let TurnCell {
+            table,
+            work: _,
+            ends: _,
+        } = self;
         let mut closed = table.close_with(token);
         let slot = closed.take(0);
         closed.free();

@@ -4,6 +4,7 @@
 //! the seat has seen it. `meet` brings two seats to one history, and `close` gives the object back with the history that it stands for.
 #![tactic(auto)]
 
+mod bells;
 pub mod calls;
 pub mod cell;
 pub mod closing;
@@ -14,6 +15,7 @@ mod steps;
 mod threads;
 pub mod tickets;
 
+pub use bells::Bell;
 pub use cell::TurnCell;
 pub use closing::Closed;
 pub use history::{Entry, Object};

@@ -1,7 +1,6 @@
 use Rattle.mtapi_machine.specs.State.{opening}
 use Rattle.mtapi_layouts.proofs.Handles.{outer-inward}
-use Rattle.mtapi_layouts.proofs.TaskRows.{pends_turned}
-use Rattle.mtapi_layouts.proofs.Histories.{step_turns, opening_turns, history_turns, history_named}
+use Rattle.mtapi_layouts.proofs.Histories.{step_turns, opening_turns, history_turns, history_named, pends_turned}
 use Rattle.mtapi_layouts.proofs.laws.law_layouts.Goals as goal
 
 pub returns-clause-step : goal.returns-clause-step

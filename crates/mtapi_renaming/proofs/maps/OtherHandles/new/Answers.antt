@@ -4,7 +4,7 @@ use Rattle.std.specs.BTreeMap.{is_at}
 use Rattle.std.specs.Map.{lookup}
 use Rattle.mtapi_values.specs.declared.handles.ObjectKind.{ObjectKind}
 use Rattle.mtapi_values.specs.declared.handles.ObjectKind.TheVariants.{Action, Task, Group, Queue, Mutex, Sem, Rwl, Shmem}
-use Rattle.mtapi_layouts.specs.Inward.{or_zero}
+use Rattle.mtapi_renaming.specs.Renaming.{or_zero}
 use Rattle.mtapi_renaming.specs.declared.maps.OtherHandles.{OtherHandles}
 use Rattle.mtapi_renaming.specs.Renaming.{nothing}
 use Rattle.mtapi_renaming.specs.Maps.{map_of, renaming_of}

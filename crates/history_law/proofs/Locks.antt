@@ -1,0 +1,239 @@
+-- Locks that seats get and give back: what each entry does to one, and so every list of entries. A kind of lock says what is counted of it.
+use Rattle.std.proofs.Common.{◌≡◌, ℕ, ◌+◌, ◌<◌, ◌≤◌, Bool, true, false, List, [], ◌∷◌, ◌++◌, Option, Some, None, refl, sym, ◌∙◌, ap, subst, arith}
+use Rattle.std.specs.Prelude.{◌==◌, ◌&&◌}
+use Rattle.std.proofs.lemmas.Bool.{eqb-true}
+use Rattle.mtapi_values.specs.declared.statuses.MrapiStatus.{MrapiStatus}
+use Rattle.mtapi_values.specs.declared.statuses.MrapiStatus.TheVariants as c
+use Rattle.handle_pool.specs.Issued.{Listed, live_object, listed, issue, change, with_fields, gone}
+use Rattle.mtapi_machine.specs.declared.replies.Reply.{Reply}
+use Rattle.mtapi_machine.specs.declared.replies.Reply.TheVariants.{Ok, Handle, Pending, Mrapi}
+use Rattle.mtapi_machine.specs.declared.terms.Terms.{Terms}
+use Rattle.mtapi_machine.specs.State.{State, opening, seats}
+use Rattle.mtapi_machine.specs.Moves.{Move, Sort, Groups, Queues, Mutexes, Sems, Rwls, Segments, Fields, all_of, is_fresh, makes, alters, removes, after_moves}
+use Rattle.mtapi_machine.specs.Row.{Row, Allows, after_row}
+use Rattle.mtapi_machine.specs.KeyedRows.{Keyed, mrapi, mrapi_open, mrapi_unless, creates_keyed, alters_one, looks_one, deletes}
+use Rattle.mtapi_machine.specs.Legal.{NodeEntry, IsNext, next, LegalFrom, Legal, after_from, after}
+use Rattle.mtapi_machine.proofs.Lists.{Legal-front, Legal-rest}
+use Rattle.mtapi_machine.proofs.Changes.{at-update}
+use Rattle.history_law.specs.Words.{entries_that}
+use Rattle.history_law.specs.Seats.{says_ok}
+use Rattle.history_law.specs.Exclusion.{by_seat}
+use Rattle.history_law.proofs.Accepted.{stands_after}
+use Rattle.history_law.proofs.AtHandles.{at_change_other, at_issue_here, at_retired}
+use Rattle.history_law.proofs.Counts.{one_if, counts_along}
+use Rattle.history_law.proofs.Handles.{OnceIn}
+use Rattle.history_law.proofs.Objects.{some_issued}
+use Rattle.history_law.proofs.Reuse.{terms_next, unlisted_if}
+use Rattle.history_law.proofs.Said.{said, Unmet, says_only, says_unless, says_look, says_alter, says_delete}
+
+-- what always holds of a lock, how often it is held in a mode, and how often by one seat
+pub record Lock (M T : Type 0) : Type 1 where
+  pub Fit : T → Type 0
+  pub count : M → T → ℕ
+  pub has : M → ℕ → T → ℕ
+
+module _ {M T : Type 0} (K : Lock M T) where
+  abbrev pub FitIn : Option T → Type 0
+  FitIn None = Unit {0}
+  FitIn (Some x) = K.Fit x
+
+  abbrev pub count_in : M → Option T → ℕ
+  count_in m None = 0
+  count_in m (Some x) = K.count m x
+
+  abbrev pub has_in : M → ℕ → Option T → ℕ
+  has_in m w None = 0
+  has_in m w (Some x) = K.has m w x
+
+  -- what an entry by this seat does to the lock: in which modes it gets it, and gives it back
+  pub record LockStep (who : ℕ) (o p : Option T) (x y : M → Bool) : Type 0 where
+    pub fit : FitIn p
+    pub all : (m : M) → count_in m p + one_if (y m) ≡ count_in m o + one_if (x m)
+    pub each : (m : M) (w : ℕ) → has_in m w p + one_if ((who == w) && y m) ≡ has_in m w o + one_if ((who == w) && x m)
+
+  pub as_step : (who : ℕ) (o p : Option T) (x y v w : M → Bool) → ((m : M) → v m ≡ x m) → ((m : M) → w m ≡ y m) → LockStep who o p v w → LockStep who o p x y
+  as_step who o p x y v w i j t = record {
+    fit = t.fit;
+    all = λ m. subst (λ (b : Bool). count_in m p + one_if (y m) ≡ count_in m o + one_if b) (i m) (subst (λ (b : Bool). count_in m p + one_if b ≡ count_in m o + one_if (v m)) (j m) (t.all m));
+    each = λ m z. subst (λ (b : Bool). has_in m z p + one_if ((who == z) && y m) ≡ has_in m z o + one_if ((who == z) && b)) (i m)
+        (subst (λ (b : Bool). has_in m z p + one_if ((who == z) && b) ≡ has_in m z o + one_if ((who == z) && v m)) (j m) (t.each m z));
+  }
+
+  pub step_same : (who : ℕ) (o p : Option T) → p ≡ o → FitIn o → LockStep who o p (λ m. false) (λ m. false)
+  step_same who o p e f = subst (λ (q : Option T). LockStep who o q (λ m. false) (λ m. false)) (sym e) (record { fit = f; all = λ m. refl; each = λ m w. refl })
+
+off : (b c : Bool) → c ≡ false → false ≡ (b && c)
+off true c e = sym e
+off false c e = refl
+
+never_so : (b c : Bool) → ((b && false) && c) ≡ false
+never_so true c = refl
+never_so false c = refl
+
+sort_list : (k : Sort) (l : List (Listed (Fields k))) (s : State) → (all_of k).list ((all_of k).with_list l s) ≡ l
+sort_list Groups l s = refl
+sort_list Queues l s = refl
+sort_list Mutexes l s = refl
+sort_list Sems l s = refl
+sort_list Rwls l s = refl
+sort_list Segments l s = refl
+
+-- There are at most 25 seats
+
+pub seats_next : (s : State) (e : NodeEntry) → seats s ≤ 25 → seats (next s e) ≤ 25
+seats_next s e n = subst (λ (t : Terms). t.settings.workers + t.callers ≤ 25) (sym (terms_next s.terms s e refl)) n
+
+pub seats_after : (terms : Terms) (L : List NodeEntry) → Legal terms L → seats (after terms L) ≤ 25
+seats_after terms L l =
+    let same : (after terms L).terms ≡ terms = (stands_after terms L).0 in
+    let w : terms.settings.workers ≤ 16 = l.fits.settings.workers.1 in
+    let d : terms.callers ≤ 9 = l.fits.callers in
+    let n : terms.settings.workers + terms.callers ≤ 25 = omega arith in
+    subst (λ (t : Terms). t.settings.workers + t.callers ≤ 25) (sym same) n
+
+-- The rows of a kind of lock
+
+module _ (k : Sort) {M : Type 0} (K : Lock M (Fields k)) (s : State) (who h : ℕ) (fit : FitIn K (live_object ((all_of k).list s) h)) (invalid : says_ok (all_of k).invalid ≡ false) where
+  abbrev Step : List (Listed (Fields k)) → (M → Bool) → (M → Bool) → Type 0
+  Step l x y = LockStep K who (live_object ((all_of k).list s) h) (live_object l h) x y
+
+  abbrev After : (M → Bool) → (M → Bool) → Reply → List Move → Type 0
+  After x y r ms = Step ((all_of k).list (after_moves ms s)) (λ m. x m && says_ok r) (λ m. y m && says_ok r)
+
+  refused : (x y : M → Bool) (r : Reply) → says_ok r ≡ false → After x y r []
+  refused x y r e = as_step K who _ _ _ _ (λ m. false) (λ m. false) (λ m. off (x m) (says_ok r) e) (λ m. off (y m) (says_ok r) e) (step_same K who _ _ refl fit)
+
+  -- the lock of the handle j changes, where it was v; another one stays
+  hit : (x y : M → Bool) (j : ℕ) (f : Fields k → Fields k) (v : Fields k) → live_object ((all_of k).list s) j ≡ Some v → (K.Fit v → LockStep K who (Some v) (Some (f v)) x y) → After (λ m. (j == h) && x m) (λ m. (j == h) && y m) Ok (alters k j f ∷ [])
+  hit x y j f v e g = subst (λ (l : List (Listed (Fields k))). Step l (λ m. ((j == h) && x m) && true) (λ m. ((j == h) && y m) && true)) (sym (sort_list k _ s)) (by_same (j == h) refl)
+    where
+      last : (b : Bool) → b ≡ (b && true)
+      last true = refl
+      last false = refl
+
+      by_same : (b : Bool) → (j == h) ≡ b → Step (change j (with_fields f) ((all_of k).list s)) (λ m. (b && x m) && true) (λ m. (b && y m) && true)
+      by_same true i =
+          let same : j ≡ h = eqb-true j h i in
+          let was : live_object ((all_of k).list s) h ≡ Some v = ap (live_object ((all_of k).list s)) (sym same) ∙ e in
+          let now : live_object (change j (with_fields f) ((all_of k).list s)) h ≡ Some (f v) = ap (live_object (change j (with_fields f) ((all_of k).list s))) (sym same) ∙ at-update j f v ((all_of k).list s) e in
+          subst (λ (q : Option (Fields k)). LockStep K who q (live_object (change j (with_fields f) ((all_of k).list s)) h) (λ m. x m && true) (λ m. y m && true)) (sym was)
+          (subst (λ (q : Option (Fields k)). LockStep K who (Some v) q (λ m. x m && true) (λ m. y m && true)) (sym now) (as_step K who _ _ _ _ x y (λ m. last (x m)) (λ m. last (y m)) (g (subst (FitIn K) was fit))))
+      by_same false i = step_same K who _ _ (at_change_other j h (with_fields f) ((all_of k).list s) (λ r. refl) i) fit
+
+  left : (j : ℕ) (v : Fields k) → OnceIn ((all_of k).list s) → live_object ((all_of k).list s) j ≡ Some v → LockStep K who (Some v) None (λ m. false) (λ m. false) → After (λ m. false) (λ m. false) Ok (removes k j ∷ [])
+  left j v o e g = subst (λ (l : List (Listed (Fields k))). Step l (λ m. false) (λ m. false)) (sym (sort_list k _ s)) (by_same (j == h) refl)
+    where
+      by_same : (b : Bool) → (j == h) ≡ b → Step (change j gone ((all_of k).list s)) (λ m. false) (λ m. false)
+      by_same true i =
+          let same : j ≡ h = eqb-true j h i in
+          subst (λ (q : Option (Fields k)). LockStep K who q (live_object (change j gone ((all_of k).list s)) h) (λ m. false) (λ m. false)) (sym (ap (live_object ((all_of k).list s)) (sym same) ∙ e))
+          (subst (λ (q : Option (Fields k)). LockStep K who (Some v) q (λ m. false) (λ m. false)) (sym (ap (live_object (change j gone ((all_of k).list s))) (sym same) ∙ at_retired j ((all_of k).list s) o)) g)
+      by_same false i = step_same K who _ _ (at_change_other j h gone ((all_of k).list s) (λ r. refl) i) fit
+
+  abbrev Does : Row → (Reply → M → Bool) → (Reply → M → Bool) → Type 0
+  Does w x y = (r : Reply) → Allows w r → Step ((all_of k).list (after_row s w)) (x r) (y r)
+
+  pub on_look : (x : M → Bool) (j : ℕ) (last : Bool) (causes : Fields k → List (Bool × MrapiStatus)) (busy : Fields k → Bool) (f : Fields k → Fields k)
+      → ((v : Fields k) → K.Fit v → Unmet (causes v) → busy v ≡ false → LockStep K who (Some v) (Some (f v)) x (λ m. false))
+      → Does (mrapi s who (looks_one k s j last causes busy (λ v. Ok) f)) (λ r m. ((j == h) && x m) && says_ok r) (λ r m. false)
+  on_look x j last causes busy f g r a =
+      let Q : Reply → List Move → Type 0 = After (λ m. (j == h) && x m) (λ m. (j == h) && false) in
+      let no : (z : Reply) → says_ok z ≡ false → Q z [] = refused (λ m. (j == h) && x m) (λ m. (j == h) && false) in
+      as_step K who _ _ _ _ (λ m. ((j == h) && x m) && says_ok r) (λ m. ((j == h) && false) && says_ok r) (λ m. refl) (λ m. never_so (j == h) (says_ok r))
+      (said Q (mrapi s who (looks_one k s j last causes busy (λ v. Ok) f)) r
+      (says_look Q (λ z. no (Mrapi z) refl) k s who j last causes busy (λ v. Ok) f (no (all_of k).invalid invalid) (no Pending refl) (λ v b e u n. hit x (λ m. false) j f v e (λ t. g v t u n))) a)
+
+  pub on_unlock : (y : M → Bool) (j : ℕ) (causes : Fields k → List (Bool × MrapiStatus)) (f : Fields k → Fields k) → ((v : Fields k) → K.Fit v → Unmet (causes v) → LockStep K who (Some v) (Some (f v)) (λ m. false) y)
+      → Does (mrapi s who (alters_one k s j causes (λ v. Ok) f)) (λ r m. false) (λ r m. ((j == h) && y m) && says_ok r)
+  on_unlock y j causes f g r a =
+      let Q : Reply → List Move → Type 0 = After (λ m. (j == h) && false) (λ m. (j == h) && y m) in
+      let no : (z : Reply) → says_ok z ≡ false → Q z [] = refused (λ m. (j == h) && false) (λ m. (j == h) && y m) in
+      as_step K who _ _ _ _ (λ m. ((j == h) && false) && says_ok r) (λ m. ((j == h) && y m) && says_ok r) (λ m. never_so (j == h) (says_ok r)) (λ m. refl)
+      (said Q (mrapi s who (alters_one k s j causes (λ v. Ok) f)) r
+      (says_alter Q (λ z. no (Mrapi z) refl) k s who j causes (λ v. Ok) f (no (all_of k).invalid invalid) (λ v b e u. hit (λ m. false) y j f v e (λ t. g v t u))) a)
+
+  pub on_delete : (j : ℕ) (causes : Fields k → List (Bool × MrapiStatus)) → OnceIn ((all_of k).list s) → ((v : Fields k) → Unmet (causes v) → LockStep K who (Some v) None (λ m. false) (λ m. false))
+      → Does (mrapi_open s who (deletes k s j causes)) (λ r m. false) (λ r m. false)
+  on_delete j causes o g r a =
+      let Q : Reply → List Move → Type 0 = After (λ m. false) (λ m. false) in
+      let no : (z : Reply) → says_ok z ≡ false → Q z [] = refused (λ m. false) (λ m. false) in
+      said Q (mrapi_open s who (deletes k s j causes)) r (says_delete Q (λ z. no (Mrapi z) refl) k s who j causes (no (all_of k).invalid invalid) (λ v e u. left j v o e (g v u))) a
+
+-- A new lock
+
+abbrev Made : (k : Sort) → ℕ → Fields k → State → Type 0
+Made k h x t = (live_object ((all_of k).list t) h ≡ Some x) × (1 ≤ listed h ((all_of k).list t))
+
+-- a create that answers with a handle has made it
+pub on_create : (k : Sort) (key : Keyed k) (s : State) (who h : ℕ) (causes : List (Bool × MrapiStatus)) (x : Fields k) → (key.exists ≡ Handle h → ⊥) → ((all_of k).limit ≡ Handle h → ⊥)
+    → Allows (mrapi_open s who (mrapi_unless causes (creates_keyed key s (Handle h) x))) (Handle h) → Made k h x (after_row s (mrapi_open s who (mrapi_unless causes (creates_keyed key s (Handle h) x))))
+on_create k key s who h causes x a b l =
+    let Q : Reply → List Move → Type 0 = λ r ms. r ≡ Handle h → Made k h x (after_moves ms s) in
+    let no : (z : MrapiStatus) → Q (Mrapi z) [] = λ z e. absurd (cc) in
+    let made : is_fresh (all_of k) s h ≡ true → Q (Handle h) (makes k h x ∷ []) = λ e i.
+    subst (λ (l : List (Listed (Fields k))). (live_object l h ≡ Some x) × (1 ≤ listed h l)) (sym (sort_list k (issue h x ((all_of k).list s)) s))
+    (at_issue_here h x ((all_of k).list s) (unlisted_if (all_of k) s h e), some_issued h x ((all_of k).list s)) in
+    said Q (mrapi_open s who (mrapi_unless causes (creates_keyed key s (Handle h) x))) (Handle h) (
+      no c.ErrNodeNotinit,
+      λ d. (
+        no c.ErrParameter,
+        λ e. says_unless Q no causes (creates_keyed key s (Handle h) x) (λ u.
+            ((λ i. absurd (a i)), λ f. ((λ i. absurd (b i)), λ g. says_only Q (is_fresh (all_of k) s h) (Handle h) (makes k h x ∷ []) made))),
+      ),
+    ) l refl
+
+-- Along the entries
+
+module _ {M T : Type 0} (K : Lock M T) (l : State → List (Listed T)) (gets gives : M → NodeEntry → Bool) (h : ℕ)
+    (keeps_once : (s : State) (e : NodeEntry) → OnceIn (l s) → OnceIn (l (next s e))) (keeps_listed : (s : State) (e : NodeEntry) → 1 ≤ listed h (l s) → 1 ≤ listed h (l (next s e)))
+    (step : (s : State) (e : NodeEntry) → IsNext s e → e.who < 25 → OnceIn (l s) → 1 ≤ listed h (l s) → FitIn K (live_object (l s) h) → LockStep K e.who (live_object (l s) h) (live_object (l (next s e)) h) (λ m. gets m e) (λ m. gives m e)) where
+  record Good (s : State) : Type 0 where
+    seats : seats s ≤ 25
+    once : OnceIn (l s)
+    some : 1 ≤ listed h (l s)
+    fit : FitIn K (live_object (l s) h)
+
+  good_step : (s : State) (e : NodeEntry) → IsNext s e → Good s → LockStep K e.who (live_object (l s) h) (live_object (l (next s e)) h) (λ m. gets m e) (λ m. gives m e)
+  good_step s e i g =
+      let less : e.who < seats s = i.seat in
+      let room : seats s ≤ 25 = g.seats in
+      step s e i (omega arith) g.once g.some g.fit
+
+  good_next : (s : State) (e : NodeEntry) → IsNext s e → Good s → Good (next s e)
+  good_next s e i g = record { seats = seats_next s e g.seats; once = keeps_once s e g.once; some = keeps_listed s e g.some; fit = (good_step s e i g).fit }
+
+  -- what a new lock has, and what holds after further entries
+  pub record New (s : State) : Type 0 where
+    pub some : 1 ≤ listed h (l s)
+    pub fit : FitIn K (live_object (l s) h)
+    pub none : (m : M) → count_in K m (live_object (l s) h) ≡ 0
+    pub free : (m : M) (w : ℕ) → has_in K m w (live_object (l s) h) ≡ 0
+
+  pub record Counts (B : List NodeEntry) (p : Option T) : Type 0 where
+    pub fit : FitIn K p
+    pub all : (m : M) → entries_that (gives m) B + count_in K m p ≡ entries_that (gets m) B
+    pub each : (m : M) (w : ℕ) → entries_that (by_seat w (gives m)) B + has_in K m w p ≡ entries_that (by_seat w (gets m)) B
+
+  pub counts_after : (terms : Terms) (es A B R : List NodeEntry) (e : NodeEntry) → Legal terms es → es ≡ A ++ e ∷ (B ++ R) → OnceIn (l (after terms A)) → (IsNext (after terms A) e → New (next (after terms A) e))
+      → Counts B (live_object (l (after_from (next (after terms A) e) B)) h)
+  unfolding LegalFrom after_from
+  counts_after terms es A B R e legal cut one make =
+      let whole : LegalFrom (opening terms) (A ++ e ∷ (B ++ R)) = subst (λ (L : List NodeEntry). LegalFrom (opening terms) L) cut legal.from in
+      let rest : LegalFrom (after terms A) (e ∷ (B ++ R)) = Legal-rest (opening terms) A (e ∷ (B ++ R)) whole in
+      let now : State = next (after terms A) e in
+      let made : New now = make rest.0 in
+      let prefix : Legal terms A = record { fits = legal.fits; from = Legal-front (opening terms) A (e ∷ (B ++ R)) whole } in
+      let good : Good now = record { seats = seats_next (after terms A) e (seats_after terms A prefix); once = keeps_once (after terms A) e one; some = made.some; fit = made.fit } in
+      let some : LegalFrom now B = Legal-front now B R rest.1 in
+      let along : (V : State → ℕ) (x y : NodeEntry → Bool) → ((t : State) (f : NodeEntry) → IsNext t f → Good t → V (next t f) + one_if (y f) ≡ V t + one_if (x f)) → Good (after_from now B) × (entries_that y B + V (after_from now B) ≡ V now + entries_that x B) =
+      λ V x y k. counts_along V x y Good (λ t f i g. (good_next t f i g, k t f i g)) now B some good in record {
+        fit = (along (λ t. 0) (λ f. false) (λ f. false) (λ t f i g. refl)).0.fit;
+        all = λ m.
+            let z : count_in K m (live_object (l now) h) ≡ 0 = made.none m in
+            let c = (along (λ t. count_in K m (live_object (l t) h)) (gets m) (gives m) (λ t f i g. (good_step t f i g).all m)).1 in
+            omega arith;
+        each = λ m w.
+            let z : has_in K m w (live_object (l now) h) ≡ 0 = made.free m w in
+            let c = (along (λ t. has_in K m w (live_object (l t) h)) (by_seat w (gets m)) (by_seat w (gives m)) (λ t f i g. (good_step t f i g).each m w)).1 in
+            omega arith;
+      }

@@ -1,0 +1,13 @@
+-- The short form in which the report keeps the end of a task.
+use Rattle.std.specs.Prelude.{List, [], ◌∷◌, ℤ}
+use Rattle.mtapi_values.specs.declared.ends.TaskEnd.{TaskEnd}
+use Rattle.mtapi_values.specs.declared.ends.TaskEnd.TheVariants.{Completed, Cancelled, Failed}
+use Rattle.run_report.specs.declared.short_ends.Short.{Short}
+use Rattle.run_report.specs.declared.short_ends.Short.TheVariants as short
+
+-- the end that a short form stands for
+abbrev pub in_full : Short → TaskEnd
+in_full (short.Number z) = Completed (z ∷ [])
+in_full short.Cancelled = Cancelled
+in_full (short.Failed status) = Failed status
+in_full (short.Full end) = end.value
