@@ -1,4 +1,4 @@
-//! Groups through their calls: the order of ends, the counts, and places that are used again.
+//! Groups through their calls: the order of ends, and the counts.
 
 use super::*;
 use std::test::Fail;
@@ -92,39 +92,5 @@ fn two_members(rt: HostRuntime) -> Result<(), Fail> {
         }
         groups.is_kept();
     }
-    Ok(())
-}
-
-#[test]
-fn one_group_at_a_time(rt: HostRuntime) -> Result<(), Fail> {
-    let mut groups = Groups::new(rt.alloc(), 1, 5, 2)?;
-    let g = groups.create().ok().ok_or("no group")?;
-    assert_eq!(rt; groups.create(), Err(MtapiStatus::ErrGroupLimit));
-    assert_eq!(rt; groups.left(g), Some((0, 0)));
-    assert_eq!(rt; groups.delete(g), Ok(()));
-    assert_eq!(rt; groups.delete(g), Err(MtapiStatus::ErrGroupInvalid));
-    assert_eq!(rt; groups.left(g), None);
-    assert_eq!(rt; groups.take(g), None);
-    Ok(())
-}
-
-// The new group has the slot of the old one, and its member the slot of a member of the old one.
-#[test]
-fn a_new_group_has_no_member_of_the_old_one(rt: HostRuntime) -> Result<(), Fail> {
-    let mut groups = Groups::new(rt.alloc(), 1, 5, 2)?;
-    let Ok(old) = groups.create() else {
-        return Err("no group")?;
-    };
-    groups.enter(old, FIRST);
-    groups.ended(old, FIRST);
-    let Ok(()) = groups.delete(old) else {
-        return Err("not deleted")?;
-    };
-    let Ok(new) = groups.create() else {
-        return Err("no second group")?;
-    };
-    assert_eq!(rt; groups.left(new), Some((0, 0)));
-    assert_eq!(rt; groups.take(new), None);
-    assert_eq!(rt; groups.left(old), None);
     Ok(())
 }
