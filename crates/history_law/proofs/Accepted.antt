@@ -3,7 +3,6 @@ use Rattle.std.proofs.Common.{◌≡◌, ℕ, ◌+◌, ◌≤◌, Bool, true, fa
 use Rattle.std.specs.Prelude.{◌==◌, ◌&&◌, not, IsSome}
 use Rattle.std.specs.Bool.{MatchBool}
 use Rattle.std.proofs.lemmas.List.{append-nil}
-use Rattle.std.proofs.lemmas.Bool.{eq-eqb}
 use Rattle.mtapi_values.specs.declared.ends.TaskEnd.{TaskEnd}
 use Rattle.mtapi_values.specs.declared.statuses.MtapiStatus.TheVariants as m
 use Rattle.mtapi_values.specs.Seats.{all_marked}
@@ -26,9 +25,11 @@ use Rattle.mtapi_machine.proofs.Made.{AllGives, on_only, on_live}
 use Rattle.mtapi_machine.proofs.Ends.{after_grows}
 use Rattle.mtapi_machine.specs.Ends.{end_at}
 use Rattle.history_law.specs.Accepted.{accepted_by, accepted, TasksEndOnce}
-use Rattle.history_law.proofs.Held.{AllEnded, listed_issue, all_first}
+use Rattle.history_law.proofs.Held.{AllEnded, all_first}
 use Rattle.history_law.proofs.Moves.{Stands, after_stands, Stopped, after_stopped}
 use Rattle.history_law.proofs.Ends.{grows_listed, all_end, end_later}
+use Rattle.history_law.proofs.Handles.{some_issued}
+use Rattle.history_law.proofs.Answered.{true_false}
 
 -- The entry that accepts a task lists it
 
@@ -43,10 +44,7 @@ RefusesAll (gives x ms) = Unit {0}
 RefusesAll never = Unit {0}
 
 pub no_handle : (h : ℕ) (x : Reply) → is_handle x ≡ false → Handle h ≡ x → ⊥
-no_handle h x n e = true_false (ap is_handle e ∙ n)
-  where
-    true_false : true ≡ false → ⊥
-    true_false k = cc
+no_handle h x n e = true_false refl (ap is_handle e ∙ n)
 
 -- what holds of the moves that the row gives with a handle holds after one
 pub granted : (P : List Move → Type 0) (w : Row) (h : ℕ) → RefusesAll w → AllGives (λ x ms. Handle h ≡ x → P ms) w → Allows w (Handle h) → P (moves_of w)
@@ -63,10 +61,6 @@ pub refuses_only : (b : Bool) (x : Reply) (ms : List Move) → RefusesAll (only 
 refuses_only true x ms = tt
 refuses_only false x ms = tt
 
-pub issue_lists : (h : ℕ) (t : Task) (l : List (Listed Task)) → 1 ≤ listed h (issue h t l)
-issue_lists h t l = let e : listed h (issue h t l) ≡ listed h l + cond (h == h) 1 0 = listed_issue h h t l in
-    let k : cond {A = ℕ} (h == h) 1 0 ≡ 1 = ap (λ (b : Bool). cond {A = ℕ} b 1 0) (eq-eqb h h refl) in omega arith
-
 abbrev Lists : ℕ → State → Type 0
 Lists h s = 1 ≤ listed h s.tasks
 
@@ -75,7 +69,7 @@ abbrev ListsBy : State → ℕ → Reply → List Move → Type 0
 ListsBy s k x ms = Handle k ≡ x → Lists k (after_moves ms s)
 
 on_create : (s : State) (k : ℕ) (b : Bool) (t : NewTask) → AllGives (ListsBy s k) (only b (gives (Handle k) (starts_task k t ∷ [])))
-on_create s k b t = on_only (ListsBy s k) b (Handle k) (starts_task k t ∷ []) (λ m i. issue_lists k (new_task t s.starts) s.tasks)
+on_create s k b t = on_only (ListsBy s k) b (Handle k) (starts_task k t ∷ []) (λ m i. some_issued k (new_task t s.starts) s.tasks)
 
 start_lists : (s : State) (who : ℕ) (o : Op) (r : Reply) (h : ℕ) → accepted_by o r ≡ Some h → Allows (row s who o r) r → Lists h (after_row s (row s who o r))
 start_lists s who (op.TaskStart job args priority cores detached group) (Handle k) h e a =
@@ -102,10 +96,7 @@ is_ok Ok = true
 is_ok _ = false
 
 not_ok : (x : Reply) → is_ok x ≡ false → Ok ≡ x → ⊥
-not_ok x n e = true_false (ap is_ok e ∙ n)
-  where
-    true_false : true ≡ false → ⊥
-    true_false k = cc
+not_ok x n e = true_false refl (ap is_ok e ∙ n)
 
 final_reads : (a b : Bool) (x y : Reply) (X : Type 0) → is_ok x ≡ false → is_ok y ≡ false → MatchBool (not a) (Ok ≡ x) (MatchBool (not b) (Ok ≡ y) X) → b ≡ true
 final_reads a true x y X n m k = refl

@@ -36,6 +36,7 @@ use Rattle.history_law.proofs.Handles.{listed_change, listed_all, listed_ends, l
 use Rattle.history_law.proofs.Objects.{MadeAs, started_as, made_as, task_then, action_then, cut_from, has_behind}
 use Rattle.history_law.proofs.Answered.{true_false}
 use Rattle.mtapi_machine.proofs.Changes.{some_same}
+use Rattle.history_law.proofs.Reuse.{listed_new, listed_same, was_issued}
 
 -- What a pick had to find
 
@@ -51,10 +52,7 @@ is_picked (Picked t a k args) = true
 is_picked _ = false
 
 other_reply : (t : TaskHandle) (a : ActionHandle) (k : Kind) (args : List ℤ) (x : Reply) → is_picked x ≡ false → Picked t a k args ≡ x → ⊥
-other_reply t a k args x n e = true_false (ap is_picked e ∙ n)
-  where
-    true_false : true ≡ false → ⊥
-    true_false i = cc
+other_reply t a k args x n e = true_false refl (ap is_picked e ∙ n)
 
 through : (c : Bool) (x : Reply) (w : Row) (t : TaskHandle) (a : ActionHandle) (k : Kind) (args : List ℤ) → is_picked x ≡ false → Allows (unless c x w) (Picked t a k args) → Allows w (Picked t a k args)
 through true x w t a k args n e = absurd (other_reply t a k args x n e)
@@ -113,44 +111,6 @@ made_behind _ h s A B e v = absurd v
 
 -- What is listed was issued by an entry
 
-no_start : (o : Op) (x : NewTask) → makes_kind kind.Task o ≡ false → StartsTask x o → ⊥
-no_start (op.TaskStart job args priority cores detached group) x n b = true_false refl n
-no_start (op.TaskEnqueue q args cores detached group) x n b = true_false refl n
-no_start _ x n b = absurd b
-
-no_action : (o : Op) (x : Action) → makes_kind kind.Action o ≡ false → MakesAction x o → ⊥
-no_action (op.ActionCreate job k cores) x n b = true_false refl n
-no_action _ x n b = absurd b
-
-task_move : (h n : ℕ) (o : Op) → makes_kind kind.Task o ≡ false → (s : State) (m : Move) → IsMade s o m → listed h s.tasks ≡ n → listed h (apply m s).tasks ≡ n
-task_move h n o z s (starts_task j x) e v = absurd (no_start o x z e.by)
-task_move h n o z s (runs_task j w k) e v = listed_change h j (with_fields (with_state (Running w k))) s.tasks (λ r. refl) ∙ v
-task_move h n o z s (ends_task j x) e v = listed_change h j (ended x s.ends) s.tasks (λ r. refl) ∙ v
-task_move h n o z s (ends_waiting p x) e v = listed_ends h _ x s.ends s.tasks ∙ v
-task_move h n o z s (withdraws j f c) e v = listed_ends h _ (Failed c) s.ends s.tasks ∙ v
-task_move h n o z s (notes j f) e v = listed_change h j (with_fields (with_notes f)) s.tasks (λ r. refl) ∙ v
-task_move h n o z s (leaves j) e v = listed_change h j gone s.tasks (λ r. refl) ∙ v
-task_move h n o z s (frees_members g) e v = listed_all h _ freed s.tasks (λ r. refl) ∙ v
-task_move h n o z s (lets_members_go g) e v = listed_all h (is_member g) let_go s.tasks (λ r. refl) ∙ v
-task_move h n o z s (makes k j x) e v = sorts_keep (λ u. listed h u.tasks ≡ n) (λ u g q m c r y p. p) k _ s v
-task_move h n o z s (alters k j f) e v = sorts_keep (λ u. listed h u.tasks ≡ n) (λ u g q m c r y p. p) k _ s v
-task_move h n o z s (removes k j) e v = sorts_keep (λ u. listed h u.tasks ≡ n) (λ u g q m c r y p. p) k _ s v
-task_move h n o z s _ e v = v
-
-withdrawn_handle : (j : ℕ) (f : Listed Action → Listed Action) (o : Op) → WithdrawsAction j f o → (r : Listed Action) → (f r).handle ≡ r.handle
-withdrawn_handle j f (op.ActionDelete a) w r = ap (λ (g : Listed Action → Listed Action). (g r).handle) w.1
-withdrawn_handle j f (op.ActionDisable a) w r = ap (λ (g : Listed Action → Listed Action). (g r).handle) w.1
-withdrawn_handle j f _ w r = absurd w
-
-action_move : (h n : ℕ) (o : Op) → makes_kind kind.Action o ≡ false → (s : State) (m : Move) → IsMade s o m → listed h s.actions ≡ n → listed h (apply m s).actions ≡ n
-action_move h n o z s (makes_action j x) e v = absurd (no_action o x z e.by)
-action_move h n o z s (enables j) e v = listed_change h j (with_fields (with_enabled true)) s.actions (λ r. refl) ∙ v
-action_move h n o z s (withdraws j f c) e v = listed_change h j f s.actions (withdrawn_handle j f o e.by) ∙ v
-action_move h n o z s (makes k j x) e v = sorts_keep (λ u. listed h u.actions ≡ n) (λ u g q m c r y p. p) k _ s v
-action_move h n o z s (alters k j f) e v = sorts_keep (λ u. listed h u.actions ≡ n) (λ u g q m c r y p. p) k _ s v
-action_move h n o z s (removes k j) e v = sorts_keep (λ u. listed h u.actions ≡ n) (λ u g q m c r y p. p) k _ s v
-action_move h n o z s _ e v = v
-
 -- the reply is allowed with these moves: what holds of those moves, and of none
 by_reply : (P : List Move → Type 0) (w : Row) (r : Reply) → P [] → AllGives (λ x ms. r ≡ x → P ms) w → Allows w r → P (moves_of w)
 by_reply P w r p g a = given (λ x ms. r ≡ x → P ms) w r (λ x i. p) g a refl
@@ -165,55 +125,26 @@ module _ (s : State) (who h : ℕ) where
   another : (r : Reply) → is_handle h r ≡ false → r ≡ Handle (handle_of r) → (handle_of r == h) ≡ false
   another r n i = ap (is_handle h) (sym i) ∙ n
 
-  one_more : {T : Type 0} (j : ℕ) (x : T) (l : List (Listed T)) → (j == h) ≡ false → listed h (issue j x l) ≡ listed h l
-  one_more j x l n = let e = listed_more h j x l in let z : cond {A = ℕ} (j == h) 1 0 ≡ 0 = ap (λ (b : Bool). cond {A = ℕ} b 1 0) n in omega arith
-
   task_listed : (o : Op) (r : Reply) → (makes_kind kind.Task o && is_handle h r) ≡ false → Allows (row s who o r) r → SameTasks (moves_of (row s who o r))
   task_listed (op.TaskStart job args priority cores detached group) r n a =
       by_reply SameTasks (row s who (op.TaskStart job args priority cores detached group) r) r refl
-      (λ c0 c1 c2 c3 c4 c5 c6. on_only (λ x ms. r ≡ x → SameTasks ms) _ _ _ (λ m i. one_more (handle_of r) (new_task (asked_for job args priority cores detached group) s.starts) s.tasks (another r n i))) a
+      (λ c0 c1 c2 c3 c4 c5 c6. on_only (λ x ms. r ≡ x → SameTasks ms) _ _ _ (λ m i. listed_new h (handle_of r) (new_task (asked_for job args priority cores detached group) s.starts) s.tasks (another r n i))) a
   task_listed (op.TaskEnqueue q args cores detached group) r n a =
       by_reply SameTasks (row s who (op.TaskEnqueue q args cores detached group) r) r refl
       (λ c d. on_live (λ x ms. r ≡ x → SameTasks ms) (live_object s.queues q.0) _ _ (λ i. refl) (λ x f c0 c1 c2 c3 c4 c5 c6.
-      on_only (λ x ms. r ≡ x → SameTasks ms) _ _ _ (λ m i. one_more (handle_of r) (new_task (asked_of q.0 x args cores detached group) s.starts) s.tasks (another r n i)))) a
-  task_listed o r n a = by_moves (λ t. listed h t.tasks ≡ listed h s.tasks) s (entry who o r) (λ t m e v. task_move h (listed h s.tasks) o refl t m e v) refl
+      on_only (λ x ms. r ≡ x → SameTasks ms) _ _ _ (λ m i. listed_new h (handle_of r) (new_task (asked_of q.0 x args cores detached group) s.starts) s.tasks (another r n i)))) a
+  task_listed o r n a = listed_same kind.Task h s (entry who o r) refl
 
   action_listed : (o : Op) (r : Reply) → (makes_kind kind.Action o && is_handle h r) ≡ false → Allows (row s who o r) r → SameActions (moves_of (row s who o r))
   action_listed (op.ActionCreate job k cores) r n a =
       by_reply SameActions (row s who (op.ActionCreate job k cores) r) r refl
-      (λ c0 c1 c2. on_only (λ x ms. r ≡ x → SameActions ms) _ _ _ (λ m i. one_more (handle_of r) (new_action job k cores.0) s.actions (another r n i))) a
-  action_listed o r n a = by_moves (λ t. listed h t.actions ≡ listed h s.actions) s (entry who o r) (λ t m e v. action_move h (listed h s.actions) o refl t m e v) refl
-
-issued_task : (h : ℕ) (s : State) (L : List NodeEntry) → LegalFrom s L → listed h s.tasks ≡ 0 → 1 ≤ listed h (after_from s L).tasks → some_entry (issues kind.Task h) L ≡ true
-unfolding LegalFrom after_from
-issued_task h s [] l z k = absurd (omega arith)
-issued_task h s (e ∷ es) l z k = by_entry (issues kind.Task h e) refl (λ i. issued_task h (next s e) es l.1 (i ∙ z) k)
-  where
-    by_entry : (b : Bool) → issues kind.Task h e ≡ b → (listed h (next s e).tasks ≡ listed h s.tasks → some_entry (issues kind.Task h) es ≡ true) → cond b true (some_entry (issues kind.Task h) es) ≡ true
-    by_entry true i f = refl
-    by_entry false i f = f (task_listed s e.who h e.op e.reply i l.0.allowed)
-
-issued_action : (h : ℕ) (s : State) (L : List NodeEntry) → LegalFrom s L → listed h s.actions ≡ 0 → 1 ≤ listed h (after_from s L).actions → some_entry (issues kind.Action h) L ≡ true
-unfolding LegalFrom after_from
-issued_action h s [] l z k = absurd (omega arith)
-issued_action h s (e ∷ es) l z k = by_entry (issues kind.Action h e) refl (λ i. issued_action h (next s e) es l.1 (i ∙ z) k)
-  where
-    by_entry : (b : Bool) → issues kind.Action h e ≡ b → (listed h (next s e).actions ≡ listed h s.actions → some_entry (issues kind.Action h) es ≡ true) → cond b true (some_entry (issues kind.Action h) es) ≡ true
-    by_entry true i f = refl
-    by_entry false i f = f (action_listed s e.who h e.op e.reply i l.0.allowed)
-
-none_task : (h : ℕ) → listed {T = Task} h [] ≡ 0
-unfolding listed
-none_task h = refl
-
-none_action : (h : ℕ) → listed {T = Action} h [] ≡ 0
-unfolding listed
-none_action h = refl
+      (λ c0 c1 c2. on_only (λ x ms. r ≡ x → SameActions ms) _ _ _ (λ m i. listed_new h (handle_of r) (new_action job k cores.0) s.actions (another r n i))) a
+  action_listed o r n a = listed_same kind.Action h s (entry who o r) refl
 
 pub obeys_masks : (terms : Terms) (es : List NodeEntry) (place : ℕ) → Legal terms es → ObeysMasks es place
 obeys_masks terms es place legal P R w t a k args cut at_place = record {
-  started = issued_task t.0 (opening terms) P legal_front (none_task t.0) (live_listed t.0 (after terms P).tasks (ap is_some found.task_found));
-  made = issued_action a.0 (opening terms) P legal_front (none_action a.0) (live_listed a.0 (after terms P).actions (ap is_some found.action_found));
+  started = was_issued kind.Task t.0 (λ s e n i. task_listed s e.who t.0 e.op e.reply i n.allowed) terms P legal_front (live_listed t.0 (after terms P).tasks (ap is_some found.task_found));
+  made = was_issued kind.Action a.0 (λ s e n i. action_listed s e.who a.0 e.op e.reply i n.allowed) terms P legal_front (live_listed a.0 (after terms P).actions (ap is_some found.action_found));
   task = λ A B e m c i q. task A B e m c i q;
   action = λ A B e m c i q. action A B e m c i q;
 }

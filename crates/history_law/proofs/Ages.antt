@@ -11,14 +11,14 @@ use Rattle.mtapi_machine.specs.declared.ops.Op.TheVariants as op
 use Rattle.handle_pool.specs.Issued.{Listed, live_of, live_object, listed, change, change_all, issue, with_fields, gone}
 use Rattle.mtapi_objects.specs.Actions.{Action, with_enabled}
 use Rattle.mtapi_objects.specs.Queues.{Queue, opened}
-use Rattle.mtapi_objects.specs.Tasks.{Task, Notes, TaskState, Ended, Running, with_state, with_notes, ended, end_each, new_task}
+use Rattle.mtapi_objects.specs.Tasks.{Task, Notes, TaskState, Ended, Running, with_state, with_notes, ended, end_each, new_task, NewTask}
 use Rattle.mtapi_objects.specs.Groups.{is_member, freed, let_go}
 use Rattle.mtapi_machine.specs.State.{State, is_open}
 use Rattle.mtapi_machine.specs.Moves.{Sort, Fields, all_of, Move, Groups, Queues, Mutexes, Sems, Rwls, Segments, makes_action, enables, withdraws, starts_task, runs_task, ends_task, ends_waiting, notes, leaves, frees_members, lets_members_go, makes, alters, removes, is_fresh, apply}
-use Rattle.mtapi_machine.specs.Laws.{IsMade, WithdrawsAction, AltersObject}
+use Rattle.mtapi_machine.specs.Laws.{IsMade, WithdrawsAction, AltersObject, MakesAction, StartsTask, makes_kind}
 use Rattle.mtapi_machine.proofs.Made.{snd_true}
 use Rattle.mtapi_machine.proofs.Moves.{sorts_keep}
-use Rattle.history_law.specs.Words.{FieldsOf, objects_of}
+use Rattle.history_law.specs.Words.{FieldsOf, objects_of, makes as makes_object}
 use Rattle.history_law.proofs.Moves.{opens_fresh}
 use Rattle.history_law.proofs.Sorts.{sort_move}
 use Rattle.mtapi_machine.proofs.Changes.{some_same}
@@ -145,25 +145,53 @@ altered_same h f _ w x = absurd w
 
 -- so it is of the kinds that no rule of tasks speaks of
 sort_ages : (k : Sort) (K : Fields k → Fields k → Type 0) → ((x : Fields k) → K x x) → (s : State) (o : Op) → ((j : ℕ) (f : Fields k → Fields k) → AltersObject k j f o → (x : Fields k) → K x (f x)) → (Q : List (Listed (Fields k)) → Type 0)
-    → ((h : ℕ) (x : Fields k) → is_fresh (all_of k) s h ≡ true → Q ((all_of k).list s) → Q (issue h x ((all_of k).list s)))
+    → ((h : ℕ) (x : Fields k) → makes_kind k o ≡ true → is_fresh (all_of k) s h ≡ true → Q ((all_of k).list s) → Q (issue h x ((all_of k).list s)))
     → ((m : List (Listed (Fields k))) → AgesEach K ((all_of k).list s) m → Q ((all_of k).list s) → Q m)
     → (m : Move) → IsMade s o m → Q ((all_of k).list s) → Q ((all_of k).list (apply m s))
 sort_ages k K same s o alter Q new old m e v =
-    sort_move k s o Q (λ j x z. new j x z.may) (λ j f w. old _ (each_change K same j (with_fields f) ((all_of k).list s) (fields_age K f (alter j f w)))) (λ j w. old _ (each_change K same j gone ((all_of k).list s) (gone_ages K same))) m e v
+    sort_move k s o Q (λ j x z. new j x z.by z.may) (λ j f w. old _ (each_change K same j (with_fields f) ((all_of k).list s) (fields_age K f (alter j f w)))) (λ j w. old _ (each_change K same j gone ((all_of k).list s) (gone_ages K same))) m e v
 
--- what a new object and ageing keep, each move keeps
+-- an op whose move makes an object is one that makes it
+
+makes_task : (t : NewTask) (o : Op) → StartsTask t o → makes_object kind.Task o ≡ true
+makes_task t (op.TaskStart job args priority cores detached group) b = refl
+makes_task t (op.TaskEnqueue q args cores detached group) b = refl
+makes_task t _ b = absurd b
+
+makes_this : (a : Action) (o : Op) → MakesAction a o → makes_object kind.Action o ≡ true
+makes_this a (op.ActionCreate job x cores) b = refl
+makes_this a _ b = absurd b
+
+abbrev kind_of : Sort → ObjectKind
+kind_of Groups = kind.Group
+kind_of Queues = kind.Queue
+kind_of Mutexes = kind.Mutex
+kind_of Sems = kind.Sem
+kind_of Rwls = kind.Rwl
+kind_of Segments = kind.Shmem
+
+makes_sort : (k : Sort) (o : Op) → makes_kind k o ≡ true → makes_object (kind_of k) o ≡ true
+makes_sort Groups op.GroupCreate b = refl
+makes_sort Queues (op.QueueCreate id job priority limit ordered retain) b = refl
+makes_sort Mutexes (op.MutexCreate id recursive) b = refl
+makes_sort Sems (op.SemCreate id limit) b = refl
+makes_sort Rwls (op.RwlCreate id limit) b = refl
+makes_sort Segments (op.ShmemCreate id cells) b = refl
+makes_sort _ _ b = true_false b refl
+
+-- what a new object, by an op that makes it, and ageing keep, each move keeps
 pub kind_move : (k : ObjectKind) (s : State) (o : Op) (Q : List (Listed (FieldsOf k)) → Type 0)
-    → ((h : ℕ) (x : FieldsOf k) → is_fresh (objects_of k) s h ≡ true → Q ((objects_of k).list s) → Q (issue h x ((objects_of k).list s)))
+    → ((h : ℕ) (x : FieldsOf k) → makes_object k o ≡ true → is_fresh (objects_of k) s h ≡ true → Q ((objects_of k).list s) → Q (issue h x ((objects_of k).list s)))
     → ((m : List (Listed (FieldsOf k))) → AgesEach (SameFields k) ((objects_of k).list s) m → Q ((objects_of k).list s) → Q m)
     → (m : Move) → IsMade s o m → Q ((objects_of k).list s) → Q ((objects_of k).list (apply m s))
-kind_move kind.Action s o Q new old (makes_action h a) e v = new h a e.may v
+kind_move kind.Action s o Q new old (makes_action h a) e v = new h a (makes_this a o e.by) e.may v
 kind_move kind.Action s o Q new old (enables h) e v = old _ (each_change SameAction same_action h _ s.actions (fields_age SameAction (with_enabled true) (enabled_same true))) v
 kind_move kind.Action s o Q new old (withdraws h f c) e v = old _ (each_change SameAction same_action h f s.actions (withdrawn_ages h f o e.by)) v
 kind_move kind.Action s o Q new old (makes j h x) e v = sorts_keep (λ t. Q t.actions) (λ t g q m c r y p. p) j _ s v
 kind_move kind.Action s o Q new old (alters j h f) e v = sorts_keep (λ t. Q t.actions) (λ t g q m c r y p. p) j _ s v
 kind_move kind.Action s o Q new old (removes j h) e v = sorts_keep (λ t. Q t.actions) (λ t g q m c r y p. p) j _ s v
 kind_move kind.Action s o Q new old _ e v = v
-kind_move kind.Task s o Q new old (starts_task h t) e v = new h (new_task t s.starts) (snd_true (is_open s.phase) _ (opens_fresh s h t e.may)) v
+kind_move kind.Task s o Q new old (starts_task h t) e v = new h (new_task t s.starts) (makes_task t o e.by) (snd_true (is_open s.phase) _ (opens_fresh s h t e.may)) v
 kind_move kind.Task s o Q new old (runs_task h w k) e v = old _ (each_change SameTask same_task h _ s.tasks (fields_age SameTask (with_state (Running w k)) (state_same (Running w k)))) v
 kind_move kind.Task s o Q new old (ends_task h x) e v = old _ (each_change SameTask same_task h _ s.tasks (ended_ages x s.ends)) v
 kind_move kind.Task s o Q new old (ends_waiting p x) e v = old _ (each_ends _ x s.ends s.tasks) v
@@ -176,12 +204,12 @@ kind_move kind.Task s o Q new old (makes j h x) e v = sorts_keep (λ t. Q t.task
 kind_move kind.Task s o Q new old (alters j h f) e v = sorts_keep (λ t. Q t.tasks) (λ t g q m c r y p. p) j _ s v
 kind_move kind.Task s o Q new old (removes j h) e v = sorts_keep (λ t. Q t.tasks) (λ t g q m c r y p. p) j _ s v
 kind_move kind.Task s o Q new old _ e v = v
-kind_move kind.Group s o Q new old m e v = sort_ages Groups (SameFields kind.Group) nothing_same s o (λ j f w x. tt) Q new old m e v
-kind_move kind.Queue s o Q new old m e v = sort_ages Queues SameQueue same_queue s o (λ j f w x. altered_same j f o w x) Q new old m e v
-kind_move kind.Mutex s o Q new old m e v = sort_ages Mutexes (SameFields kind.Mutex) nothing_same s o (λ j f w x. tt) Q new old m e v
-kind_move kind.Sem s o Q new old m e v = sort_ages Sems (SameFields kind.Sem) nothing_same s o (λ j f w x. tt) Q new old m e v
-kind_move kind.Rwl s o Q new old m e v = sort_ages Rwls (SameFields kind.Rwl) nothing_same s o (λ j f w x. tt) Q new old m e v
-kind_move kind.Shmem s o Q new old m e v = sort_ages Segments (SameFields kind.Shmem) nothing_same s o (λ j f w x. tt) Q new old m e v
+kind_move kind.Group s o Q new old m e v = sort_ages Groups (SameFields kind.Group) nothing_same s o (λ j f w x. tt) Q (λ h x b i. new h x (makes_sort Groups o b) i) old m e v
+kind_move kind.Queue s o Q new old m e v = sort_ages Queues SameQueue same_queue s o (λ j f w x. altered_same j f o w x) Q (λ h x b i. new h x (makes_sort Queues o b) i) old m e v
+kind_move kind.Mutex s o Q new old m e v = sort_ages Mutexes (SameFields kind.Mutex) nothing_same s o (λ j f w x. tt) Q (λ h x b i. new h x (makes_sort Mutexes o b) i) old m e v
+kind_move kind.Sem s o Q new old m e v = sort_ages Sems (SameFields kind.Sem) nothing_same s o (λ j f w x. tt) Q (λ h x b i. new h x (makes_sort Sems o b) i) old m e v
+kind_move kind.Rwl s o Q new old m e v = sort_ages Rwls (SameFields kind.Rwl) nothing_same s o (λ j f w x. tt) Q (λ h x b i. new h x (makes_sort Rwls o b) i) old m e v
+kind_move kind.Shmem s o Q new old m e v = sort_ages Segments (SameFields kind.Shmem) nothing_same s o (λ j f w x. tt) Q (λ h x b i. new h x (makes_sort Segments o b) i) old m e v
 
 -- How often a handle is listed, and whether it is live
 

@@ -9,6 +9,9 @@ use Rattle.mtapi_machine.proofs.Made.{AllGives}
 pub true_false : {A : Type 0} {b : Bool} → b ≡ true → b ≡ false → A
 true_false e f = absurd (cc)
 
+pub none_some : {A B : Type 0} {x : A} → None ≡ Some x → B
+none_some e = absurd (cc)
+
 -- where an alternative isn't met, neither part is
 pub first_false : (a b : Bool) → (a || b) ≡ false → a ≡ false
 first_false true b e = e

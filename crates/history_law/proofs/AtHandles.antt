@@ -5,7 +5,7 @@ use Rattle.std.proofs.lemmas.Bool.{eqb-true, eq-eqb, cond_both}
 use Rattle.handle_pool.specs.Issued.{Listed, live_of, live_object, listed, change, issue, gone}
 use Rattle.mtapi_machine.proofs.Made.{snd_true}
 use Rattle.history_law.proofs.Found.{at_head, at_past, at_skip, at_dead, at_here}
-use Rattle.history_law.proofs.Handles.{OnceIn, once_rest}
+use Rattle.history_law.proofs.Handles.{OnceIn, once_rest, head_apart}
 
 module _ {T : Type 0} where
   pub head_alike : (h : ℕ) (r : Listed T) (k l : List (Listed T)) → live_object k h ≡ live_object l h → live_object (r ∷ k) h ≡ live_object (r ∷ l) h
@@ -28,20 +28,12 @@ module _ {T : Type 0} where
   pub at_issue_here : (h : ℕ) (x : T) (l : List (Listed T)) → listed h l ≡ 0 → live_object (issue h x l) h ≡ Some x
   unfolding issue listed
   at_issue_here h x [] n = at_here (record { handle = h; live = true; fields = x }) [] h refl (eq-eqb h h refl)
-  at_issue_here h x (r ∷ rs) n = by_hand (r.handle == h) refl n (λ m. at_issue_here h x rs m)
-    where
-      by_hand : (b : Bool) → (r.handle == h) ≡ b → cond b 1 0 + listed h rs ≡ 0 → (listed h rs ≡ 0 → live_object (issue h x rs) h ≡ Some x) → live_object (r ∷ issue h x rs) h ≡ Some x
-      by_hand true i m k = absurd (omega arith)
-      by_hand false i m k = at_skip r (issue h x rs) h i ∙ k (omega arith)
+  at_issue_here h x (r ∷ rs) n = let a = head_apart h r rs n in at_skip r (issue h x rs) h a.0 ∙ at_issue_here h x rs a.1
 
   pub at_unlisted : (h : ℕ) (l : List (Listed T)) → listed h l ≡ 0 → live_object l h ≡ None
   unfolding listed live_of
   at_unlisted h [] n = refl
-  at_unlisted h (r ∷ rs) n = by_hand (r.handle == h) refl n (at_unlisted h rs)
-    where
-      by_hand : (b : Bool) → (r.handle == h) ≡ b → cond b 1 0 + listed h rs ≡ 0 → (listed h rs ≡ 0 → live_object rs h ≡ None) → live_object (r ∷ rs) h ≡ None
-      by_hand true i m k = absurd (omega arith)
-      by_hand false i m k = at_skip r rs h i ∙ k (omega arith)
+  at_unlisted h (r ∷ rs) n = let a = head_apart h r rs n in at_skip r rs h a.0 ∙ at_unlisted h rs a.1
 
   pub at_retired : (h : ℕ) (l : List (Listed T)) → OnceIn l → live_object (change h gone l) h ≡ None
   unfolding change listed live_of

@@ -40,6 +40,7 @@ use Rattle.history_law.proofs.Ties.{has_both, Owns, id_in, Tied, stage_some, non
 use Rattle.history_law.proofs.MutexSteps.{is_ending}
 use Rattle.history_law.proofs.Exclusive.{Good, good_next, good_opening, end_count, quiet_end, one_runner, less_of, held_next, no_ending}
 use Rattle.history_law.proofs.Attached.{Step, HasMarks, marks_step, attached_step, mark_here, taken, segment_step}
+use Rattle.std.proofs.lemmas.Bool.{false_from_ne_true}
 
 -- a task that hasn't begun has nothing; a running one that has its segment runs on a worker that is attached to it
 pub record Attends (n : ℕ) (l : List (Listed Segment)) (t : Task) : Type 0 where
@@ -71,13 +72,9 @@ module _ (n : ℕ) (l : List (Listed Segment)) where
 
   noted : (f : Notes → Notes) (t : Task) → Follows t.notes.tally (f t.notes).tally → Attends n l t → Attends n l (with_notes f t)
   noted f t k i = record {
-    early = λ u. by_both (has_both (f t.notes).tally) refl u;
+    early = λ u. false_from_ne_true (has_both (f t.notes).tally) (λ e. true_false (k.before e) (i.early u));
     attends = λ w r b. let x = i.attends w r (k.before b) in (x.0, subst (λ (h : ℕ). IsAttached w (live_object l h)) (sym (k.segment b)) x.1);
   }
-    where
-      by_both : (b : Bool) → has_both (f t.notes).tally ≡ b → is_unstarted t ≡ true → b ≡ false
-      by_both true e u = true_false (k.before e) (i.early u)
-      by_both false e u = refl
 
   same_notes : (t : Task) (f : Task → Task) → (f t).state ≡ t.state → (f t).notes.tally ≡ t.notes.tally → Attends n l t → Attends n l (f t)
   same_notes t f s e i = record {

@@ -2,7 +2,7 @@
 use Rattle.std.proofs.Common.{◌≡◌, ℕ, zero, suc, ◌<◌, Bool, true, false, cond, List, [], ◌∷◌, ◌++◌, refl, ◌∙◌, ap, arith}
 use Rattle.std.specs.Prelude.{◌==◌, ◌&&◌, not, slice_set, replicate}
 use Rattle.std.specs.Bool.{MatchBool}
-use Rattle.std.proofs.lemmas.Bool.{eq-eqb}
+use Rattle.std.proofs.lemmas.Bool.{eq-eqb, true_from_ne_false}
 use Rattle.std.proofs.lemmas.Bool.Decides.{nat_tests}
 use Rattle.mtapi_values.specs.Seats.{marked, all_marked}
 use Rattle.mtapi_values.specs.declared.statuses.MtapiStatus.TheVariants as m
@@ -73,15 +73,11 @@ unreleased s (e ∷ es) l n =
     unreleased (next s e) es l.1 both.1 ∙ next_released s e l.0 both.0
 
 pub enter_behind : (terms : Terms) (A B : List NodeEntry) (who : ℕ) → Legal terms (A ++ entry who op.Enter Ok ∷ B) → some_entry is_released A ≡ true
-enter_behind terms A B who l = by_test (some_entry is_released A) refl
-  where
-    by_test : (b : Bool) → some_entry is_released A ≡ b → b ≡ true
-    by_test true i = refl
-    by_test false i =
-        let n : IsNext (after terms A) (entry who op.Enter Ok) = cut_from (opening terms) A B (entry who op.Enter Ok) l.from in
-        let r : (after terms A).released ≡ true = enter_reads (is_past_open (after terms A).phase) (after terms A).released _ n.allowed in
-        let u : (after terms A).released ≡ false = unreleased (opening terms) A (Legal-front (opening terms) A (entry who op.Enter Ok ∷ B) l.from) i in
-        true_false r u
+enter_behind terms A B who l = true_from_ne_false (some_entry is_released A) (λ i.
+    let n : IsNext (after terms A) (entry who op.Enter Ok) = cut_from (opening terms) A B (entry who op.Enter Ok) l.from in
+    let r : (after terms A).released ≡ true = enter_reads (is_past_open (after terms A).phase) (after terms A).released _ n.allowed in
+    let u : (after terms A).released ≡ false = unreleased (opening terms) A (Legal-front (opening terms) A (entry who op.Enter Ok ∷ B) l.from) i in
+    true_false r u)
 
 -- Stops
 
@@ -156,13 +152,9 @@ none_marked (suc n) zero = refl
 none_marked (suc n) (suc w) = none_marked n w
 
 pub final_behind : (terms : Terms) (A B : List NodeEntry) (who w : ℕ) → Legal terms (A ++ entry who op.Final Ok ∷ B) → w < terms.settings.workers → some_entry (is_stop_of w) A ≡ true
-final_behind terms A B who w l less = by_test (some_entry (is_stop_of w) A) refl
-  where
-    by_test : (b : Bool) → some_entry (is_stop_of w) A ≡ b → b ≡ true
-    by_test true i = refl
-    by_test false i =
-        let n : IsNext (after terms A) (entry who op.Final Ok) = cut_from (opening terms) A B (entry who op.Final Ok) l.from in
-        let same : workers (after terms A) ≡ terms.settings.workers = ap (λ (t : Terms). t.settings.workers) (stands_after terms A).0 in
-        let r : marked w (after terms A).stopped ≡ true = each_marked (workers (after terms A)) w (after terms A).stopped (final_marked (after terms A) who n) (omega arith) in
-        let u : marked w (after terms A).stopped ≡ false = unstopped (opening terms) A w (Legal-front (opening terms) A (entry who op.Final Ok ∷ B) l.from) i ∙ none_marked 25 w in
-        true_false r u
+final_behind terms A B who w l less = true_from_ne_false (some_entry (is_stop_of w) A) (λ i.
+    let n : IsNext (after terms A) (entry who op.Final Ok) = cut_from (opening terms) A B (entry who op.Final Ok) l.from in
+    let same : workers (after terms A) ≡ terms.settings.workers = ap (λ (t : Terms). t.settings.workers) (stands_after terms A).0 in
+    let r : marked w (after terms A).stopped ≡ true = each_marked (workers (after terms A)) w (after terms A).stopped (final_marked (after terms A) who n) (omega arith) in
+    let u : marked w (after terms A).stopped ≡ false = unstopped (opening terms) A w (Legal-front (opening terms) A (entry who op.Final Ok ∷ B) l.from) i ∙ none_marked 25 w in
+    true_false r u)

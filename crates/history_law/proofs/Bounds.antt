@@ -14,6 +14,7 @@ use Rattle.mtapi_machine.proofs.Moves.{sorts_keep}
 use Rattle.history_law.specs.Seats.{closes, NoClose, BySeats}
 use Rattle.history_law.proofs.SeatMoves.{May, by_moves}
 use Rattle.history_law.proofs.Others.{phase_stays, terms_stay}
+use Rattle.history_law.proofs.Answered.{true_false}
 
 -- The marks of stopped workers
 
@@ -34,9 +35,6 @@ stopped_room terms L l = room_stays (opening terms) L l refl
 
 -- The phase
 
-true_false : {A : Type 0} → true ≡ false → A
-true_false e = absurd (cc)
-
 early_next : (s : State) (who : ℕ) (o : Op) (r : Reply) → IsNext s (entry who o r) → closes o ≡ false → is_past_open s.phase ≡ false → is_past_open (next s (entry who o r)).phase ≡ false
 unfolding LegalFrom after_from
 early_next s who Initialize r n c l = by_new (not (is_new s.phase))
@@ -44,8 +42,8 @@ early_next s who Initialize r n c l = by_new (not (is_new s.phase))
     by_new : (b : Bool) → is_past_open (after_moves (cond b [] (phase_is Open ∷ [])) s).phase ≡ false
     by_new true = l
     by_new false = refl
-early_next s who Close r n c l = true_false c
-early_next s who Final r n c l = true_false c
+early_next s who Close r n c l = true_false refl c
+early_next s who Final r n c l = true_false refl c
 early_next s who o r n c l = ap is_past_open (phase_stays s (entry who o r ∷ []) (n, tt) (refl, tt)) ∙ l
 
 pub early_stays : (s : State) (L : List NodeEntry) → LegalFrom s L → NoClose L → is_past_open s.phase ≡ false → is_past_open (after_from s L).phase ≡ false

@@ -1,8 +1,8 @@
 -- How often entries pass one test and another, beside a number that a state has.
-use Rattle.std.proofs.Common.{◌≡◌, ℕ, ◌+◌, Bool, cond, List, [], ◌∷◌, arith}
+use Rattle.std.proofs.Common.{◌≡◌, ℕ, ◌+◌, Bool, true, false, cond, List, [], ◌∷◌, ◌++◌, refl, ap, arith}
 use Rattle.mtapi_machine.specs.State.{State}
 use Rattle.mtapi_machine.specs.Legal.{NodeEntry, IsNext, next, LegalFrom, after_from}
-use Rattle.history_law.specs.Words.{entries_that}
+use Rattle.history_law.specs.Words.{some_entry, entries_that}
 
 abbrev pub one_if : Bool → ℕ
 one_if b = cond b 1 0
@@ -18,3 +18,24 @@ counts_along V x y G k s (e ∷ es) l g =
     let r = counts_along V x y G k (next s e) es l.1 n.0 in
     let b : entries_that y es + V (after_from (next s e) es) ≡ V (next s e) + entries_that x es = r.1 in
     (r.0, omega arith)
+
+-- entries behind those of which none passes are counted alone
+pub counts_behind : (p : NodeEntry → Bool) (A B : List NodeEntry) (e : NodeEntry) → entries_that p A ≡ 0 → p e ≡ false → entries_that p (A ++ e ∷ B) ≡ entries_that p B
+counts_behind p [] B e n i = let z : one_if (p e) ≡ 0 = ap one_if i in omega arith
+counts_behind p (x ∷ A) B e n i = let k : entries_that p (A ++ e ∷ B) ≡ entries_that p B = counts_behind p A B e (omega arith) i in omega arith
+
+-- the first entry that passes, where one does
+pub record Passes (p : NodeEntry → Bool) (L : List NodeEntry) : Type 0 where
+  pub before : List NodeEntry
+  pub by : NodeEntry
+  pub behind : List NodeEntry
+  pub cut : L ≡ before ++ by ∷ behind
+  pub is : p by ≡ true
+
+pub passes : (p : NodeEntry → Bool) (L : List NodeEntry) → some_entry p L ≡ true → Passes p L
+passes p [] i = absurd (cc)
+passes p (e ∷ es) i = by_head (p e) refl i (passes p es)
+  where
+    by_head : (b : Bool) → p e ≡ b → cond b true (some_entry p es) ≡ true → (some_entry p es ≡ true → Passes p es) → Passes p (e ∷ es)
+    by_head true j c g = record { before = []; by = e; behind = es; cut = refl; is = j }
+    by_head false j c g = let r = g c in record { before = e ∷ r.before; by = r.by; behind = r.behind; cut = ap (λ (l : List NodeEntry). e ∷ l) r.cut; is = r.is }

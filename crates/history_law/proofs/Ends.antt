@@ -11,6 +11,7 @@ use Rattle.mtapi_machine.proofs.Ends.{after_grows}
 use Rattle.mtapi_machine.proofs.Lists.{after-append}
 use Rattle.mtapi_machine.specs.Ends.{end_in, end_at}
 use Rattle.history_law.proofs.Held.{HasEnded, AllEnded}
+use Rattle.std.proofs.lemmas.Bool.{cond_both}
 
 -- an end stays an end
 end_stays : (x y : TaskState) (e : TaskEnd) → ((e : TaskEnd) (n : ℕ) → end_of x ≡ Some (e, n) → end_of y ≡ Some (e, n)) → end_in x ≡ Some e → end_in y ≡ Some e
@@ -44,10 +45,7 @@ pub grows_listed : (h : ℕ) (l m : List (Listed Task)) → Grows l m → listed
 unfolding listed
 grows_listed h [] m g = omega arith
 grows_listed h (r ∷ rs) [] g = absurd g
-grows_listed h (r ∷ rs) (q ∷ qs) g = by_handle q.handle g.0.handle (grows_listed h rs qs g.1)
-  where
-    by_handle : (n : ℕ) → n ≡ r.handle → listed h rs ≤ listed h qs → cond (r.handle == h) 1 0 + listed h rs ≤ cond (n == h) 1 0 + listed h qs
-    by_handle n s k = let e : cond {A = ℕ} (n == h) 1 0 ≡ cond {A = ℕ} (r.handle == h) 1 0 = ap (λ (x : ℕ). cond {A = ℕ} (x == h) 1 0) s in omega arith
+grows_listed h (r ∷ rs) (q ∷ qs) g = let k = grows_listed h rs qs g.1 in let e : cond {A = ℕ} (q.handle == h) 1 0 ≡ cond {A = ℕ} (r.handle == h) 1 0 = ap (λ (x : ℕ). cond {A = ℕ} (x == h) 1 0) g.0.handle in omega arith
 
 ended_end : (t : Task) → HasEnded t → (e : TaskEnd) × (end_in t.state ≡ Some e)
 ended_end t h = by_state t.state h
@@ -61,11 +59,8 @@ ended_end t h = by_state t.state h
 pub all_end : (h : ℕ) (l : List (Listed Task)) → AllEnded l → 1 ≤ listed h l → (e : TaskEnd) × (end_at l h ≡ Some e)
 unfolding end_at listed
 all_end h [] a i = absurd (omega arith)
-all_end h (r ∷ rs) a i = by_handle (r.handle == h) (all_end h rs a.1) i
-  where
-    by_handle : (b : Bool) → (1 ≤ listed h rs → (e : TaskEnd) × (end_at rs h ≡ Some e)) → 1 ≤ cond b 1 0 + listed h rs → (e : TaskEnd) × (cond b (end_in r.fields.state) (end_at rs h) ≡ Some e)
-    by_handle true rest k = ended_end r.fields a.0
-    by_handle false rest k = rest (omega arith)
+all_end h (r ∷ rs) a i = cond_both (r.handle == h) (end_in r.fields.state) (end_at rs h) (λ o. (e : TaskEnd) × (o ≡ Some e)) (λ c. ended_end r.fields a.0)
+    (λ c. let z : cond {A = ℕ} (r.handle == h) 1 0 ≡ 0 = ap (λ (b : Bool). cond {A = ℕ} b 1 0) c in all_end h rs a.1 (omega arith))
 
 -- between two prefixes of a list the tasks have grown
 pub fronts_grow : (s : State) (P M : List NodeEntry) → Grows (after_from s P).tasks (after_from s (P ++ M)).tasks

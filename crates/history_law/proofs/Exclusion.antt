@@ -12,25 +12,24 @@ use Rattle.mtapi_machine.specs.declared.replies.Reply.{Reply}
 use Rattle.mtapi_machine.specs.declared.replies.Reply.TheVariants.{Handle}
 use Rattle.handle_pool.specs.Issued.{live_object, listed}
 use Rattle.mtapi_objects.specs.Sems.{Sem, new_sem, total, sem_create_refusals, sem_delete_refusals, sem_unlock_refusals, sem_busy, sem_taken, sem_given}
-use Rattle.mtapi_machine.specs.State.{State, opening}
+use Rattle.mtapi_machine.specs.State.{State}
 use Rattle.mtapi_machine.specs.Moves.{Sems}
 use Rattle.mtapi_machine.specs.Row.{Allows, after_row}
 use Rattle.mtapi_machine.specs.Rows.{row}
 use Rattle.mtapi_machine.specs.KeyedRows.{keyed_sems}
-use Rattle.mtapi_machine.specs.Legal.{NodeEntry, next, Legal, after_from, after}
+use Rattle.mtapi_machine.specs.Legal.{NodeEntry, Legal}
 use Rattle.mtapi_machine.proofs.Changes.{some_same}
-use Rattle.mtapi_machine.proofs.Moves.{along}
-use Rattle.history_law.specs.Words.{entries_that, makes as makes_object}
+use Rattle.history_law.specs.Words.{entries_that, makes as makes_object, is_handle}
 use Rattle.history_law.specs.Seats.{says_ok}
-use Rattle.history_law.specs.Exclusion.{looks_at_sem, unlocks_sem, gets_sem, gives_sem, by_seat, sem_limit, SemsKeepTo}
+use Rattle.history_law.specs.Exclusion.{looks_at_sem, unlocks_sem, gets_sem, gives_sem, by_seat, SemsKeepTo, limit_of}
 use Rattle.history_law.proofs.Answered.{true_false}
 use Rattle.history_law.proofs.Counts.{one_if}
 use Rattle.history_law.proofs.Handles.{OnceIn}
-use Rattle.history_law.proofs.Locks.{Lock, LockStep, FitIn, count_in, has_in, as_step, step_same, on_look, on_unlock, on_delete, on_create, New, counts_after}
-use Rattle.history_law.proofs.OnceIssued.{once_none, once_move, once_next, listed_next}
-use Rattle.history_law.proofs.Reuse.{issued_as}
+use Rattle.history_law.proofs.Locks.{Lock, LockStep, FitIn, count_in, has_in, as_step, step_same, on_look, on_unlock, on_delete, on_create, New, Kind, create_lists, look_misses, unlock_misses, none_got, counts_with, counts_any}
 use Rattle.history_law.proofs.Slots.{set_apart}
 use Rattle.history_law.proofs.Unmoved.{live_stays}
+use Rattle.mtapi_machine.proofs.Lists.{Legal-prefix}
+use Rattle.history_law.proofs.Reuse.{listed_same}
 
 -- Numbers in a list
 
@@ -134,29 +133,48 @@ sem_step top h s who (op.SemUnlock x) r a k o l fit =
 sem_step top h s who (op.SemDelete x) r a k o l fit = on_delete Sems (sem_lock top) s who h fit refl x.0 sem_delete_refusals o (λ v u. left top who v u.0) r a
 sem_step top h s who q r a k o l fit = step_same (sem_lock top) who _ _ (live_stays Sems s (record { who = who; op = q; reply = r }) h (λ j f w. w) (λ j w. w) l) fit
 
+sem_misses : (h : ℕ) (s : State) (who : ℕ) (o : Op) (r : Reply) → Allows (row s who o r) r → live_object s.sems h ≡ None → ((looks_at_sem h o && says_ok r) ≡ false) × ((unlocks_sem h o && says_ok r) ≡ false)
+sem_misses h s who (op.SemLook x last) r a n = (look_misses Sems s who h refl n x.0 last (λ v. []) sem_busy (sem_taken who) r a, refl)
+sem_misses h s who (op.SemUnlock x) r a n = (refl, unlock_misses Sems s who h refl n x.0 (sem_unlock_refusals who) (sem_given who) r a)
+sem_misses h s who _ r a n = (refl, refl)
+
+make_sem : (top h : ℕ) (s : State) (who : ℕ) (o : Op) → makes_object kind.Sem o ≡ true → Allows (row s who o (Handle h)) (Handle h) → limit_of o ≡ Some top → New (sem_lock top) h (after_row s (row s who o (Handle h))).sems
+make_sem top h s who (op.SemCreate id limit) e a i = let v = on_create Sems keyed_sems s who h (sem_create_refusals limit) (new_sem id limit) (λ j. absurd (cc)) (λ j. absurd (cc)) a in record {
+  some = v.1;
+  fit = subst (FitIn (sem_lock top)) (sym v.0) (record { limit = some_same i; size = refl; most = omega arith });
+  none = λ m. ap (λ (p : Option Sem). count_in (sem_lock top) m p) v.0;
+  free = λ m w. ap (λ (p : Option Sem). has_in (sem_lock top) m w p) v.0 ∙ none_held 25 w;
+}
+make_sem top h s who _ e a i = true_false e refl
+
+unissued_sem : (h : ℕ) (s : State) (who : ℕ) (o : Op) (r : Reply) → Allows (row s who o r) r → (makes_object kind.Sem o && is_handle h r) ≡ false → listed h (after_row s (row s who o r)).sems ≡ listed h s.sems
+unissued_sem h s who (op.SemCreate id limit) r a n = create_lists Sems keyed_sems s who h (sem_create_refusals limit) (new_sem id limit) r n a
+unissued_sem h s who o r a n = listed_same kind.Sem h s (record { who = who; op = o; reply = r }) refl
+
+sem_limited : (o : Op) → makes_object kind.Sem o ≡ true → (n : ℕ) × (limit_of o ≡ Some n)
+sem_limited (op.SemCreate id limit) e = (limit, refl)
+sem_limited _ e = true_false e refl
+
 -- The law
 
-abbrev NewSem : ℕ → ℕ → State → Type 0
-NewSem top h t = New (sem_lock top) (λ s. s.sems) (λ m. gets_sem h) (λ m. gives_sem h) h (once_next kind.Sem) (λ s e. listed_next kind.Sem s e h) (λ s e i. sem_step top h s e.who e.op e.reply i.allowed) t
-
-abbrev MadeSem : ℕ → Op → State → Type 0
-MadeSem h o t = (top : ℕ) → sem_limit o ≡ Some top → NewSem top h t
-
-make_sem : (h : ℕ) (s : State) (who : ℕ) (o : Op) → makes_object kind.Sem o ≡ true → Allows (row s who o (Handle h)) (Handle h) → MadeSem h o (after_row s (row s who o (Handle h)))
-make_sem h s who (op.SemCreate id limit) e a =
-    λ top i. let v = on_create Sems keyed_sems s who h (sem_create_refusals limit) (new_sem id limit) (λ j. absurd (cc)) (λ j. absurd (cc)) a in record {
-      some = v.1;
-      fit = subst (FitIn (sem_lock top)) (sym v.0) (record { limit = some_same i; size = refl; most = omega arith });
-      none = λ m. ap (λ (p : Option Sem). count_in (sem_lock top) m p) v.0;
-      free = λ m w. ap (λ (p : Option Sem). has_in (sem_lock top) m w p) v.0 ∙ none_held 25 w;
-    }
-make_sem h s who _ e a = true_false e refl
+sem_kind : (h : ℕ) → Kind kind.Sem sem_lock (λ m. gets_sem h) (λ m. gives_sem h) h
+sem_kind h = record {
+  step = λ top s e i. sem_step top h s e.who e.op e.reply i.allowed;
+  make = λ top. make_sem top h;
+  quiet = λ s e i n m. sem_misses h s e.who e.op e.reply i.allowed n;
+  unissued = λ s e i n. unissued_sem h s e.who e.op e.reply i.allowed n;
+  limited = sem_limited;
+}
 
 pub sems_keep_to : (terms : Terms) (es : List NodeEntry) → Legal terms es → SemsKeepTo es
-sems_keep_to terms es legal A B R e h limit cut i l =
-    let end : Option Sem = live_object (after_from (next (after terms A) e) B).sems h in
-    let k = counts_after (sem_lock limit) (λ s. s.sems) (λ m. gets_sem h) (λ m. gives_sem h) h (once_next kind.Sem) (λ s e. listed_next kind.Sem s e h) (λ s e i. sem_step limit h s e.who e.op e.reply i.allowed)
-    terms es A B R e legal cut (along (λ t. OnceIn t.sems) (once_move kind.Sem) (opening terms) A (once_none Sem)) (λ n. issued_as kind.Sem h (after terms A) (MadeSem h) (make_sem h (after terms A)) e n i limit l) in record {
-      each = λ w. let c : entries_that (by_seat w (gives_sem h)) B + has_in (sem_lock limit) tt w end ≡ entries_that (by_seat w (gets_sem h)) B = k.each tt w in omega arith;
-      most = let m = in_bounds limit end k.fit in let c : entries_that (gives_sem h) B + count_in (sem_lock limit) tt end ≡ entries_that (gets_sem h) B = k.all tt in omega arith;
-    }
+sems_keep_to terms es legal L R h cut = record {
+  each = λ w. let k = counts_any kind.Sem sem_lock (λ m. gets_sem h) (λ m. gives_sem h) h (sem_kind h) terms L front in
+      let e : entries_that (by_seat w (gives_sem h)) L + has_in (sem_lock k.0) tt w k.1 ≡ entries_that (by_seat w (gets_sem h)) L = k.2.each tt w in omega arith;
+  unmade = λ n. none_got kind.Sem sem_lock (λ m. gets_sem h) (λ m. gives_sem h) h (sem_kind h) terms L front n tt;
+  most = λ limit d. let k = counts_with kind.Sem sem_lock (λ m. gets_sem h) (λ m. gives_sem h) h (sem_kind h) terms L limit front d in
+      let m = in_bounds limit k.0 k.1.fit in
+      let e : entries_that (gives_sem h) L + count_in (sem_lock limit) tt k.0 ≡ entries_that (gets_sem h) L = k.1.all tt in omega arith;
+}
+  where
+    front : Legal terms L
+    front = Legal-prefix terms L R (subst (Legal terms) cut legal)

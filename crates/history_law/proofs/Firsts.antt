@@ -7,7 +7,7 @@ use Rattle.mtapi_machine.proofs.Changes.{some_same}
 use Rattle.history_law.proofs.Answered.{true_false}
 use Rattle.history_law.proofs.Handles.{OnceIn, once_rest}
 use Rattle.history_law.proofs.Ages.{live_listed}
-use Rattle.history_law.proofs.Found.{at_skip, at_dead, at_here}
+use Rattle.history_law.proofs.Found.{at_skip, at_dead, at_here, at_head, at_past}
 
 handle_same : {a b : ℕ} → Some a ≡ Some b → a ≡ b
 handle_same i = cc
@@ -27,16 +27,12 @@ module _ {T : Type 0} where
   first_there p [] h f = absurd (cc)
   first_there p (r ∷ rs) h f = by_live r.live refl f (first_there p rs h)
     where
-      later : r.live ≡ true → is_some (live_object rs h) ≡ true → is_some (live_object (r ∷ rs) h) ≡ true
-      later a k = by_hand (r.handle == h) refl
-        where
-          by_hand : (b : Bool) → (r.handle == h) ≡ b → is_some (live_object (r ∷ rs) h) ≡ true
-          by_hand true i = ap is_some (at_here r rs h a i)
-          by_hand false i = ap is_some (at_skip r rs h i) ∙ k
+      later : is_some (live_object rs h) ≡ true → is_some (live_object (r ∷ rs) h) ≡ true
+      later k = at_head r h (λ a b. ap is_some (at_here r rs h a b)) (λ c. ap is_some (at_past r rs h c) ∙ k)
 
       by_pass : r.live ≡ true → (b : Bool) → cond b (Some r.handle) (first_handle p (live_of rs)) ≡ Some h → (first_handle p (live_of rs) ≡ Some h → is_some (live_object rs h) ≡ true) → is_some (live_object (r ∷ rs) h) ≡ true
       by_pass a true f k = ap is_some (at_here r rs h a (eq-eqb r.handle h (handle_same f)))
-      by_pass a false f k = later a (k f)
+      by_pass a false f k = later (k f)
 
       by_live : (b : Bool) → r.live ≡ b → first_handle p (cond b ((r.handle, r.fields) ∷ live_of rs) (live_of rs)) ≡ Some h → (first_handle p (live_of rs) ≡ Some h → is_some (live_object rs h) ≡ true) → is_some (live_object (r ∷ rs) h) ≡ true
       by_live true a f k = by_pass a (p r.fields) f k
@@ -62,22 +58,12 @@ module _ {T : Type 0} where
   pub found_count : (p : T → Bool) (l : List (Listed T)) (h : ℕ) (x : T) → live_object l h ≡ Some x → p x ≡ true → 1 ≤ count_listed p l
   unfolding live_of
   found_count p [] h x e i = absurd (cc)
-  found_count p (r ∷ rs) h x e i = by_live r.live refl (λ j. found_count p rs h x j i)
-    where
-      more : (b : Bool) → 1 ≤ count_listed p rs → 1 ≤ cond {A = ℕ} b 1 0 + count_listed p rs
-      more b k = omega arith
-
-      by_hand : r.live ≡ true → (b : Bool) → (r.handle == h) ≡ b → (live_object rs h ≡ Some x → 1 ≤ count_listed p rs) → 1 ≤ cond {A = ℕ} (r.live && p r.fields) 1 0 + count_listed p rs
-      by_hand a true j k =
-          let same : r.fields ≡ x = some_same (sym (at_here r rs h a j) ∙ e) in
-          let pass : (r.live && p r.fields) ≡ true = (λ z. a z && p (same z)) ∙ i in
-          let n : cond {A = ℕ} (r.live && p r.fields) 1 0 ≡ 1 = ap (λ (c : Bool). cond {A = ℕ} c 1 0) pass in
-          omega arith
-      by_hand a false j k = more (r.live && p r.fields) (k (sym (at_skip r rs h j) ∙ e))
-
-      by_live : (b : Bool) → r.live ≡ b → (live_object rs h ≡ Some x → 1 ≤ count_listed p rs) → 1 ≤ cond {A = ℕ} (r.live && p r.fields) 1 0 + count_listed p rs
-      by_live true a k = by_hand a (r.handle == h) refl k
-      by_live false a k = more (r.live && p r.fields) (k (sym (at_dead r rs h a) ∙ e))
+  found_count p (r ∷ rs) h x e i = at_head r h
+      (λ a j.
+      let same : r.fields ≡ x = some_same (sym (at_here r rs h a j) ∙ e) in
+      let pass : (r.live && p r.fields) ≡ true = (λ z. a z && p (same z)) ∙ i in
+      let n : cond {A = ℕ} (r.live && p r.fields) 1 0 ≡ 1 = ap (λ (c : Bool). cond {A = ℕ} c 1 0) pass in
+      omega arith) (λ c. let k = found_count p rs h x (sym (at_past r rs h c) ∙ e) i in omega arith)
 
   -- where at most one passes, two that do are one
   pub one_passes : (p : T → Bool) (l : List (Listed T)) (h k : ℕ) (x y : T) → count_listed p l ≤ 1 → live_object l h ≡ Some x → live_object l k ≡ Some y → p x ≡ true → p y ≡ true → x ≡ y
@@ -90,22 +76,15 @@ module _ {T : Type 0} where
 
       -- the head passes, so that it is both
       is_head : (g : ℕ) (z : T) → r.live ≡ true → p r.fields ≡ true → live_object (r ∷ rs) g ≡ Some z → p z ≡ true → cond {A = ℕ} (r.live && p r.fields) 1 0 + count_listed p rs ≤ 1 → r.fields ≡ z
-      is_head g z a b q t d = by_hand (r.handle == g) refl
-        where
-          by_hand : (v : Bool) → (r.handle == g) ≡ v → r.fields ≡ z
-          by_hand true u = some_same (sym (at_here r rs g a u) ∙ q)
-          by_hand false u =
-              let n : 1 ≤ count_listed p rs = found_count p rs g z (sym (at_skip r rs g u) ∙ q) t in
-              let o : cond {A = ℕ} (r.live && p r.fields) 1 0 ≡ 1 = (λ w. cond {A = ℕ} (a w && b w) 1 0) in
-              absurd (omega arith)
+      is_head g z a b q t d = at_head r g (λ i u. some_same (sym (at_here r rs g i u) ∙ q))
+          (λ u.
+          let n : 1 ≤ count_listed p rs = found_count p rs g z (sym (at_past r rs g u) ∙ q) t in
+          let o : cond {A = ℕ} (r.live && p r.fields) 1 0 ≡ 1 = (λ w. cond {A = ℕ} (a w && b w) 1 0) in
+          absurd (omega arith))
 
       -- it doesn't, so that both are behind it
       behind : (g : ℕ) (z : T) → r.live ≡ true → p r.fields ≡ false → live_object (r ∷ rs) g ≡ Some z → p z ≡ true → live_object rs g ≡ Some z
-      behind g z a b q t = by_hand (r.handle == g) refl
-        where
-          by_hand : (v : Bool) → (r.handle == g) ≡ v → live_object rs g ≡ Some z
-          by_hand true u = true_false t (subst (λ (w : T). p w ≡ false) (some_same (sym (at_here r rs g a u) ∙ q)) b)
-          by_hand false u = sym (at_skip r rs g u) ∙ q
+      behind g z a b q t = at_head r g (λ i u. true_false t (subst (λ (w : T). p w ≡ false) (some_same (sym (at_here r rs g i u) ∙ q)) b)) (λ u. sym (at_past r rs g u) ∙ q)
 
       by_pass : r.live ≡ true → (b : Bool) → p r.fields ≡ b → cond {A = ℕ} (r.live && p r.fields) 1 0 + count_listed p rs ≤ 1 → (count_listed p rs ≤ 1 → live_object rs h ≡ Some x → live_object rs k ≡ Some y → x ≡ y) → x ≡ y
       by_pass a true b d g = sym (is_head h x a b e i d) ∙ is_head k y a b f j d

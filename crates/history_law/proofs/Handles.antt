@@ -1,7 +1,7 @@
 -- How often a handle is listed, after a change of the list.
 use Rattle.std.proofs.Common.{◌≡◌, ℕ, ◌+◌, ◌≤◌, Bool, true, false, cond, List, [], ◌∷◌, refl, sym, ap, subst, arith}
 use Rattle.std.specs.Prelude.{◌==◌, ◌&&◌}
-use Rattle.std.proofs.lemmas.Bool.{eqb-true, cond_both}
+use Rattle.std.proofs.lemmas.Bool.{eqb-true, cond_both, eq-eqb, false_from_ne_true}
 use Rattle.handle_pool.specs.Issued.{Listed, change, change_all, issue, listed}
 use Rattle.mtapi_values.specs.declared.ends.TaskEnd.{TaskEnd}
 use Rattle.mtapi_objects.specs.Tasks.{Task, ended, end_each}
@@ -25,6 +25,15 @@ module _ {T : Type 0} where
   unfolding listed issue
   listed_more j h v [] = omega arith
   listed_more j h v (r ∷ rs) = let k : listed j (issue h v rs) ≡ listed j rs + cond (h == j) 1 0 = listed_more j h v rs in omega arith
+
+  -- where a handle isn't listed, the head has another one
+  pub head_apart : (h : ℕ) (r : Listed T) (rs : List (Listed T)) → listed h (r ∷ rs) ≡ 0 → ((r.handle == h) ≡ false) × (listed h rs ≡ 0)
+  unfolding listed
+  head_apart h r rs n = (false_from_ne_true (r.handle == h) (λ c. let k : cond {A = ℕ} (r.handle == h) 1 0 ≡ 1 = ap (λ (b : Bool). cond {A = ℕ} b 1 0) c in omega arith), omega arith)
+
+  -- an issued handle is listed
+  pub some_issued : (h : ℕ) (x : T) (l : List (Listed T)) → 1 ≤ listed h (issue h x l)
+  some_issued h x l = let e = listed_more h h x l in let k : cond {A = ℕ} (h == h) 1 0 ≡ 1 = ap (λ (b : Bool). cond {A = ℕ} b 1 0) (eq-eqb h h refl) in omega arith
 
   -- each handle is listed at most once
   abbrev pub OnceIn : List (Listed T) → Type 0

@@ -1,7 +1,7 @@
 -- What holds after every legal list of the tasks, the phase and the marks of stopped workers, and the changes that keep it.
 use Rattle.std.proofs.Common.{◌≡◌, ℕ, zero, suc, ◌+◌, ◌≤◌, Bool, true, false, cond, List, [], ◌∷◌, ◌++◌, Some, refl, ◌∙◌, ap, subst, arith}
 use Rattle.std.specs.Prelude.{◌==◌, ◌&&◌, is_none, slice_set}
-use Rattle.std.proofs.lemmas.Bool.{eqb-true}
+use Rattle.std.proofs.lemmas.Bool.{eqb-true, cond_both}
 use Rattle.mtapi_values.specs.declared.ends.TaskEnd.{TaskEnd}
 use Rattle.mtapi_values.specs.Seats.{all_marked}
 use Rattle.mtapi_machine.specs.declared.terms.Phase.{Phase}
@@ -9,6 +9,10 @@ use Rattle.mtapi_machine.specs.declared.terms.Phase.TheVariants.{New, Open, Clos
 use Rattle.handle_pool.specs.Issued.{Listed, live_of, live_object, any_listed, any_live, change, issue, listed, with_fields, gone}
 use Rattle.mtapi_objects.specs.Tasks.{Task, TaskState, end_of, is_unended, ended, end_each}
 use Rattle.mtapi_machine.specs.State.{is_new, is_open, is_past_open}
+use Rattle.mtapi_machine.proofs.Made.{fst_true, snd_true}
+use Rattle.history_law.proofs.Found.{at_here, at_past}
+use Rattle.history_law.proofs.Handles.{once_more}
+use Rattle.history_law.proofs.Answered.{true_false}
 
 -- the task has ended
 abbrev pub HasEnded : Task → Type 0
@@ -62,9 +66,6 @@ alters f r e = let k : is_unended (f r.fields) ≡ is_unended r.fields = ap (λ 
 pub goes : (r : Listed Task) → HasEnded r.fields → Keeps r (gone r)
 goes r e = record { handle = refl; over = λ h. h; dead = λ d h. e }
 
-true_false : {b : Bool} → b ≡ true → b ≡ false → ⊥
-true_false e f = cc
-
 pub begins : (f : Task → Task) (r : Listed Task) → is_unended r.fields ≡ true → Keeps r (with_fields f r)
 begins f r e = record { handle = refl; over = λ h. absurd (true_false e h); dead = λ d h. absurd (true_false e (d h)) }
 
@@ -77,28 +78,13 @@ keeps_same (r ∷ rs) = (same r, keeps_same rs)
 pub keeps_change : (h : ℕ) (f : Listed Task → Listed Task) (l : List (Listed Task)) → ((r : Listed Task) → live_object l h ≡ Some r.fields → Keeps r (f r)) → KeepsEach l (change h f l)
 unfolding change live_of
 keeps_change h f [] k = tt
-keeps_change h f (r ∷ rs) k = by_live (λ m. keeps_change h f rs m) r.live k
-  where
-    by_handle : (((q : Listed Task) → live_object rs h ≡ Some q.fields → Keeps q (f q)) → KeepsEach rs (change h f rs)) → (b : Bool) →
-        ((q : Listed Task) → cond b (Some r.fields) (live_object rs h) ≡ Some q.fields → Keeps q (f q)) →
-        KeepsEach (record { handle = r.handle; live = true; fields = r.fields } ∷ rs) (cond b (f (record { handle = r.handle; live = true; fields = r.fields }) ∷ rs) (record { handle = r.handle; live = true; fields = r.fields } ∷ change h f rs))
-    by_handle rest true m = (m (record { handle = r.handle; live = true; fields = r.fields }) refl, keeps_same rs)
-    by_handle rest false m = (same _, rest m)
-
-    by_live : (((q : Listed Task) → live_object rs h ≡ Some q.fields → Keeps q (f q)) → KeepsEach rs (change h f rs)) → (a : Bool) →
-        ((q : Listed Task) → live_object (record { handle = r.handle; live = a; fields = r.fields } ∷ rs) h ≡ Some q.fields → Keeps q (f q)) →
-        KeepsEach (record { handle = r.handle; live = a; fields = r.fields } ∷ rs) (change h f (record { handle = r.handle; live = a; fields = r.fields } ∷ rs))
-    by_live rest true m = by_handle rest (r.handle == h) m
-    by_live rest false m = (same _, rest m)
+keeps_change h f (r ∷ rs) k = cond_both (r.live && (r.handle == h)) (f r ∷ rs) (r ∷ change h f rs) (KeepsEach (r ∷ rs))
+    (λ c. (k r (at_here r rs h (fst_true r.live _ c) (snd_true r.live _ c)), keeps_same rs)) (λ c. (same r, keeps_change h f rs (λ q e. k q (at_past r rs h c ∙ e))))
 
 pub keeps_ends : (p : Task → Bool) (e : TaskEnd) (n : ℕ) (l : List (Listed Task)) → KeepsEach l (end_each p e n l)
 unfolding end_each
 keeps_ends p e n [] = tt
-keeps_ends p e n (r ∷ rs) = by_test (r.live && p r.fields) (keeps_ends p e n rs) (keeps_ends p e (n + 1) rs)
-  where
-    by_test : (b : Bool) → KeepsEach rs (end_each p e n rs) → KeepsEach rs (end_each p e (n + 1) rs) → KeepsEach (r ∷ rs) (cond b (ended e n r ∷ end_each p e (n + 1) rs) (r ∷ end_each p e n rs))
-    by_test true g m = (ends e n r, m)
-    by_test false g m = (same r, g)
+keeps_ends p e n (r ∷ rs) = cond_both (r.live && p r.fields) (ended e n r ∷ end_each p e (n + 1) rs) (r ∷ end_each p e n rs) (KeepsEach (r ∷ rs)) (λ c. (ends e n r, keeps_ends p e (n + 1) rs)) (λ c. (same r, keeps_ends p e n rs))
 
 -- What such a change keeps
 
@@ -119,10 +105,7 @@ unfolding listed
 listed_each h [] [] g = refl
 listed_each h [] (q ∷ qs) g = absurd g
 listed_each h (r ∷ rs) [] g = absurd g
-listed_each h (r ∷ rs) (q ∷ qs) g = by_head q.handle r.handle g.0.handle (listed_each h rs qs g.1)
-  where
-    by_head : (a b : ℕ) → a ≡ b → listed h qs ≡ listed h rs → cond (a == h) 1 0 + listed h qs ≡ cond (b == h) 1 0 + listed h rs
-    by_head a b e k = cc
+listed_each h (r ∷ rs) (q ∷ qs) g = let k = listed_each h rs qs g.1 in let d : cond {A = ℕ} (q.handle == h) 1 0 ≡ cond (r.handle == h) 1 0 = ap (λ (n : ℕ). cond {A = ℕ} (n == h) 1 0) g.0.handle in omega arith
 
 once_each : (l k : List (Listed Task)) → KeepsEach l k → ((h : ℕ) → listed h l ≤ 1) → (h : ℕ) → listed h k ≤ 1
 once_each l k g o h = let e = listed_each h l k g in let u : listed h l ≤ 1 = o h in omega arith
@@ -165,24 +148,12 @@ dead_issue : (h : ℕ) (t : Task) (l : List (Listed Task)) → DeadEnded l → D
 dead_issue h t [] d = ((λ e. absurd (true_false refl e)), tt)
 dead_issue h t (r ∷ rs) d = (d.0, dead_issue h t rs d.1)
 
-pub listed_issue : (j h : ℕ) (t : Task) (l : List (Listed Task)) → listed j (issue h t l) ≡ listed j l + cond (h == j) 1 0
-unfolding listed issue
-listed_issue j h t [] = omega arith
-listed_issue j h t (r ∷ rs) = let k : listed j (issue h t rs) ≡ listed j rs + cond (h == j) 1 0 = listed_issue j h t rs in omega arith
-
-once_issue : (h : ℕ) (t : Task) (l : List (Listed Task)) → listed h l ≡ 0 → ((j : ℕ) → listed j l ≤ 1) → (j : ℕ) → listed j (issue h t l) ≤ 1
-once_issue h t l n o j = let e = listed_issue j h t l in by_same (h == j) refl e
-  where
-    by_same : (b : Bool) → (h == j) ≡ b → listed j (issue h t l) ≡ listed j l + cond b 1 0 → listed j (issue h t l) ≤ 1
-    by_same true s e = let k : h ≡ j = eqb-true h j s in let z : listed j l ≡ 0 = subst (λ (x : ℕ). listed x l ≡ 0) k n in omega arith
-    by_same false s e = let u : listed j l ≤ 1 = o j in omega arith
-
 pub held_issue : (p : Phase) (m : List Bool) (h : ℕ) (t : Task) (l : List (Listed Task)) → is_open p ≡ true → listed h l ≡ 0 → Held p m l → Held p m (issue h t l)
 unfolding issue
 held_issue p m h t l o n v = record {
   dead = dead_issue h t l v.dead;
   stopped = λ f. absurd (open_late p o (v.stopped f).0);
-  once = once_issue h t l n v.once;
+  once = once_more h t l n v.once;
 }
 
 -- a worker stops

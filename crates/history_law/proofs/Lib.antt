@@ -45,6 +45,5 @@ pub mod AtHandles
 pub mod Sorts
 pub mod Unmoved
 pub mod WorkedSum
-pub mod WorkedLegal
 pub mod Attached
 pub mod Attends

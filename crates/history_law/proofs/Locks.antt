@@ -1,7 +1,7 @@
 -- Locks that seats get and give back: what each entry does to one, and so every list of entries. A kind of lock says what is counted of it.
-use Rattle.std.proofs.Common.{◌≡◌, ℕ, ◌+◌, ◌<◌, ◌≤◌, Bool, true, false, List, [], ◌∷◌, ◌++◌, Option, Some, None, refl, sym, ◌∙◌, ap, subst, arith}
+use Rattle.std.proofs.Common.{◌≡◌, ℕ, ◌+◌, ◌<◌, ◌≤◌, Bool, true, false, List, [], ◌∷◌, ◌++◌, Option, Some, None, refl, sym, ◌∙◌, ap, subst, arith, zero, suc, cond}
 use Rattle.std.specs.Prelude.{◌==◌, ◌&&◌}
-use Rattle.std.proofs.lemmas.Bool.{eqb-true}
+use Rattle.std.proofs.lemmas.Bool.{eqb-true, false_from_ne_true}
 use Rattle.mtapi_values.specs.declared.statuses.MrapiStatus.{MrapiStatus}
 use Rattle.mtapi_values.specs.declared.statuses.MrapiStatus.TheVariants as c
 use Rattle.handle_pool.specs.Issued.{Listed, live_object, listed, issue, change, with_fields, gone}
@@ -10,21 +10,29 @@ use Rattle.mtapi_machine.specs.declared.replies.Reply.TheVariants.{Ok, Handle, P
 use Rattle.mtapi_machine.specs.declared.terms.Terms.{Terms}
 use Rattle.mtapi_machine.specs.State.{State, opening, seats}
 use Rattle.mtapi_machine.specs.Moves.{Move, Sort, Groups, Queues, Mutexes, Sems, Rwls, Segments, Fields, all_of, is_fresh, makes, alters, removes, after_moves}
-use Rattle.mtapi_machine.specs.Row.{Row, Allows, after_row}
+use Rattle.mtapi_machine.specs.Row.{Row, Allows, after_row, handle_of}
 use Rattle.mtapi_machine.specs.KeyedRows.{Keyed, mrapi, mrapi_open, mrapi_unless, creates_keyed, alters_one, looks_one, deletes}
 use Rattle.mtapi_machine.specs.Legal.{NodeEntry, IsNext, next, LegalFrom, Legal, after_from, after}
 use Rattle.mtapi_machine.proofs.Lists.{Legal-front, Legal-rest}
 use Rattle.mtapi_machine.proofs.Changes.{at-update}
-use Rattle.history_law.specs.Words.{entries_that}
+use Rattle.history_law.specs.Words.{entries_that, FieldsOf, objects_of, some_entry, makes as makes_object, is_handle, issues}
 use Rattle.history_law.specs.Seats.{says_ok}
-use Rattle.history_law.specs.Exclusion.{by_seat}
+use Rattle.history_law.specs.Exclusion.{by_seat, limit_of, MadeWith}
 use Rattle.history_law.proofs.Accepted.{stands_after}
-use Rattle.history_law.proofs.AtHandles.{at_change_other, at_issue_here, at_retired}
-use Rattle.history_law.proofs.Counts.{one_if, counts_along}
-use Rattle.history_law.proofs.Handles.{OnceIn}
-use Rattle.history_law.proofs.Objects.{some_issued}
-use Rattle.history_law.proofs.Reuse.{terms_next, unlisted_if}
+use Rattle.history_law.proofs.AtHandles.{at_change_other, at_issue_here, at_retired, at_unlisted}
+use Rattle.history_law.proofs.Counts.{one_if, counts_along, counts_behind, passes}
+use Rattle.history_law.proofs.Handles.{OnceIn, listed_change, some_issued}
+use Rattle.history_law.proofs.Reuse.{terms_next, unlisted_if, Listed1, listed_move, listed_new, none_times, fresh_unlisted, issues_fresh, issued_as, ListsIssued, none_listed}
 use Rattle.history_law.proofs.Said.{said, Unmet, says_only, says_unless, says_look, says_alter, says_delete}
+use Rattle.mtapi_values.specs.declared.handles.ObjectKind.{ObjectKind}
+use Rattle.mtapi_machine.specs.declared.ops.Op.{Op}
+use Rattle.mtapi_machine.specs.Rows.{row}
+use Rattle.mtapi_machine.specs.Laws.{makes_kind}
+use Rattle.mtapi_machine.proofs.Made.{fst_true}
+use Rattle.mtapi_machine.proofs.Moves.{along, by_moves}
+use Rattle.history_law.proofs.Answered.{true_false, none_first, none_some}
+use Rattle.history_law.proofs.OnceIssued.{once_move, once_next, listed_next}
+use Rattle.history_law.proofs.Sorts.{sort_move}
 
 -- what always holds of a lock, how often it is held in a mode, and how often by one seat
 pub record Lock (M T : Type 0) : Type 1 where
@@ -182,58 +190,170 @@ on_create k key s who h causes x a b l =
       ),
     ) l refl
 
+-- a create lists no handle but the one that it answers with
+pub create_lists : (k : Sort) (key : Keyed k) (s : State) (who h : ℕ) (causes : List (Bool × MrapiStatus)) (x : Fields k) (r : Reply) → is_handle h r ≡ false → Allows (mrapi_open s who (mrapi_unless causes (creates_keyed key s r x))) r
+    → listed h ((all_of k).list (after_row s (mrapi_open s who (mrapi_unless causes (creates_keyed key s r x))))) ≡ listed h ((all_of k).list s)
+create_lists k key s who h causes x r n a =
+    let Q : Reply → List Move → Type 0 = λ z ms. is_handle h z ≡ false → listed h ((all_of k).list (after_moves ms s)) ≡ listed h ((all_of k).list s) in
+    said Q (mrapi_open s who (mrapi_unless causes (creates_keyed key s r x))) r (
+      (λ i. refl),
+      λ c. (
+        (λ i. refl),
+        λ d. says_unless Q (λ z i. refl) causes (creates_keyed key s r x) (λ u.
+            ((λ i. refl), λ e. ((λ i. refl), λ f. says_only Q (is_fresh (all_of k) s (handle_of r)) (Handle (handle_of r)) (makes k (handle_of r) x ∷ []) (λ g i. ap (listed h) (sort_list k _ s) ∙ listed_new h (handle_of r) x _ i)))),
+      ),
+    ) a n
+
+-- No look gets a lock that isn't there, and nothing gives it back
+
+module _ (k : Sort) (s : State) (who h : ℕ) (invalid : says_ok (all_of k).invalid ≡ false) (none : live_object ((all_of k).list s) h ≡ None) where
+  apart : (j : ℕ) (v : Fields k) → live_object ((all_of k).list s) j ≡ Some v → (j == h) ≡ false
+  apart j v e = false_from_ne_true (j == h) (λ i. none_some (sym none ∙ (ap (live_object ((all_of k).list s)) (sym (eqb-true j h i)) ∙ e)))
+
+  abbrev Missed : ℕ → Reply → List Move → Type 0
+  Missed j r ms = ((j == h) && says_ok r) ≡ false
+
+  pub look_misses : (j : ℕ) (last : Bool) (causes : Fields k → List (Bool × MrapiStatus)) (busy : Fields k → Bool) (f : Fields k → Fields k) (r : Reply) → Allows (mrapi s who (looks_one k s j last causes busy (λ v. Ok) f)) r → ((j == h) && says_ok r) ≡ false
+  look_misses j last causes busy f r a =
+      said (Missed j) (mrapi s who (looks_one k s j last causes busy (λ v. Ok) f)) r
+      (says_look (Missed j) (λ z. sym (off (j == h) _ refl)) k s who j last causes busy (λ v. Ok) f (sym (off (j == h) _ invalid)) (sym (off (j == h) _ refl)) (λ v b e u n. ap (λ (c : Bool). c && true) (apart j v e))) a
+
+  pub unlock_misses : (j : ℕ) (causes : Fields k → List (Bool × MrapiStatus)) (f : Fields k → Fields k) (r : Reply) → Allows (mrapi s who (alters_one k s j causes (λ v. Ok) f)) r → ((j == h) && says_ok r) ≡ false
+  unlock_misses j causes f r a =
+      said (Missed j) (mrapi s who (alters_one k s j causes (λ v. Ok) f)) r (says_alter (Missed j) (λ z. sym (off (j == h) _ refl)) k s who j causes (λ v. Ok) f (sym (off (j == h) _ invalid)) (λ v b e u. ap (λ (c : Bool). c && true) (apart j v e))) a
+
+-- in a mode it is missed too
+pub missed_in : (a b c : Bool) → (a && c) ≡ false → ((a && b) && c) ≡ false
+missed_in true true c e = e
+missed_in true false c e = refl
+missed_in false b c e = refl
+
 -- Along the entries
 
-module _ {M T : Type 0} (K : Lock M T) (l : State → List (Listed T)) (gets gives : M → NodeEntry → Bool) (h : ℕ)
-    (keeps_once : (s : State) (e : NodeEntry) → OnceIn (l s) → OnceIn (l (next s e))) (keeps_listed : (s : State) (e : NodeEntry) → 1 ≤ listed h (l s) → 1 ≤ listed h (l (next s e)))
-    (step : (s : State) (e : NodeEntry) → IsNext s e → e.who < 25 → OnceIn (l s) → 1 ≤ listed h (l s) → FitIn K (live_object (l s) h) → LockStep K e.who (live_object (l s) h) (live_object (l (next s e)) h) (λ m. gets m e) (λ m. gives m e)) where
-  record Good (s : State) : Type 0 where
-    seats : seats s ≤ 25
-    once : OnceIn (l s)
-    some : 1 ≤ listed h (l s)
-    fit : FitIn K (live_object (l s) h)
+-- what a new lock has, and what holds after these entries of a lock as it then is
+module _ {M T : Type 0} (K : Lock M T) where
+  pub record New (h : ℕ) (l : List (Listed T)) : Type 0 where
+    pub some : 1 ≤ listed h l
+    pub fit : FitIn K (live_object l h)
+    pub none : (m : M) → count_in K m (live_object l h) ≡ 0
+    pub free : (m : M) (w : ℕ) → has_in K m w (live_object l h) ≡ 0
 
-  good_step : (s : State) (e : NodeEntry) → IsNext s e → Good s → LockStep K e.who (live_object (l s) h) (live_object (l (next s e)) h) (λ m. gets m e) (λ m. gives m e)
-  good_step s e i g =
-      let less : e.who < seats s = i.seat in
-      let room : seats s ≤ 25 = g.seats in
-      step s e i (omega arith) g.once g.some g.fit
-
-  good_next : (s : State) (e : NodeEntry) → IsNext s e → Good s → Good (next s e)
-  good_next s e i g = record { seats = seats_next s e g.seats; once = keeps_once s e g.once; some = keeps_listed s e g.some; fit = (good_step s e i g).fit }
-
-  -- what a new lock has, and what holds after further entries
-  pub record New (s : State) : Type 0 where
-    pub some : 1 ≤ listed h (l s)
-    pub fit : FitIn K (live_object (l s) h)
-    pub none : (m : M) → count_in K m (live_object (l s) h) ≡ 0
-    pub free : (m : M) (w : ℕ) → has_in K m w (live_object (l s) h) ≡ 0
-
-  pub record Counts (B : List NodeEntry) (p : Option T) : Type 0 where
+  pub record Counts (gets gives : M → NodeEntry → Bool) (L : List NodeEntry) (p : Option T) : Type 0 where
     pub fit : FitIn K p
-    pub all : (m : M) → entries_that (gives m) B + count_in K m p ≡ entries_that (gets m) B
-    pub each : (m : M) (w : ℕ) → entries_that (by_seat w (gives m)) B + has_in K m w p ≡ entries_that (by_seat w (gets m)) B
+    pub all : (m : M) → entries_that (gives m) L + count_in K m p ≡ entries_that (gets m) L
+    pub each : (m : M) (w : ℕ) → entries_that (by_seat w (gives m)) L + has_in K m w p ≡ entries_that (by_seat w (gets m)) L
 
-  pub counts_after : (terms : Terms) (es A B R : List NodeEntry) (e : NodeEntry) → Legal terms es → es ≡ A ++ e ∷ (B ++ R) → OnceIn (l (after terms A)) → (IsNext (after terms A) e → New (next (after terms A) e))
-      → Counts B (live_object (l (after_from (next (after terms A) e) B)) h)
-  unfolding LegalFrom after_from
-  counts_after terms es A B R e legal cut one make =
-      let whole : LegalFrom (opening terms) (A ++ e ∷ (B ++ R)) = subst (λ (L : List NodeEntry). LegalFrom (opening terms) L) cut legal.from in
-      let rest : LegalFrom (after terms A) (e ∷ (B ++ R)) = Legal-rest (opening terms) A (e ∷ (B ++ R)) whole in
-      let now : State = next (after terms A) e in
-      let made : New now = make rest.0 in
-      let prefix : Legal terms A = record { fits = legal.fits; from = Legal-front (opening terms) A (e ∷ (B ++ R)) whole } in
-      let good : Good now = record { seats = seats_next (after terms A) e (seats_after terms A prefix); once = keeps_once (after terms A) e one; some = made.some; fit = made.fit } in
-      let some : LegalFrom now B = Legal-front now B R rest.1 in
-      let along : (V : State → ℕ) (x y : NodeEntry → Bool) → ((t : State) (f : NodeEntry) → IsNext t f → Good t → V (next t f) + one_if (y f) ≡ V t + one_if (x f)) → Good (after_from now B) × (entries_that y B + V (after_from now B) ≡ V now + entries_that x B) =
-      λ V x y k. counts_along V x y Good (λ t f i g. (good_next t f i g, k t f i g)) now B some good in record {
-        fit = (along (λ t. 0) (λ f. false) (λ f. false) (λ t f i g. refl)).0.fit;
-        all = λ m.
-            let z : count_in K m (live_object (l now) h) ≡ 0 = made.none m in
-            let c = (along (λ t. count_in K m (live_object (l t) h)) (gets m) (gives m) (λ t f i g. (good_step t f i g).all m)).1 in
-            omega arith;
-        each = λ m w.
-            let z : has_in K m w (live_object (l now) h) ≡ 0 = made.free m w in
-            let c = (along (λ t. has_in K m w (live_object (l t) h)) (by_seat w (gets m)) (by_seat w (gives m)) (λ t f i g. (good_step t f i g).each m w)).1 in
-            omega arith;
-      }
+module _ (k : ObjectKind) {M : Type 0} (K : ℕ → Lock M (FieldsOf k)) (gets gives : M → NodeEntry → Bool) (h : ℕ) where
+  abbrev l : State → List (Listed (FieldsOf k))
+  l s = (objects_of k).list s
+
+  -- what each entry does to the lock of the handle: how it makes it, gets it and gives it back, and that none does so before it is made
+  pub record Kind : Type 0 where
+    pub step : (top : ℕ) (s : State) (e : NodeEntry) → IsNext s e → e.who < 25 → OnceIn (l s) → 1 ≤ listed h (l s) → FitIn (K top) (live_object (l s) h)
+        → LockStep (K top) e.who (live_object (l s) h) (live_object (l (next s e)) h) (λ m. gets m e) (λ m. gives m e)
+    pub make : (top : ℕ) (s : State) (who : ℕ) (o : Op) → makes_object k o ≡ true → Allows (row s who o (Handle h)) (Handle h) → limit_of o ≡ Some top → New (K top) h (l (after_row s (row s who o (Handle h))))
+    pub quiet : (s : State) (e : NodeEntry) → IsNext s e → live_object (l s) h ≡ None → (m : M) → (gets m e ≡ false) × (gives m e ≡ false)
+    pub unissued : ListsIssued k h
+    pub limited : (o : Op) → makes_object k o ≡ true → (n : ℕ) × (limit_of o ≡ Some n)
+
+  module _ (c : Kind) where
+    record Good (top : ℕ) (s : State) : Type 0 where
+      seats : seats s ≤ 25
+      once : OnceIn (l s)
+      some : 1 ≤ listed h (l s)
+      fit : FitIn (K top) (live_object (l s) h)
+
+    good_step : (top : ℕ) (s : State) (e : NodeEntry) → IsNext s e → Good top s → LockStep (K top) e.who (live_object (l s) h) (live_object (l (next s e)) h) (λ m. gets m e) (λ m. gives m e)
+    good_step top s e i g =
+        let less : e.who < seats s = i.seat in
+        let room : seats s ≤ 25 = g.seats in
+        c.step top s e i (omega arith) g.once g.some g.fit
+
+    good_next : (top : ℕ) (s : State) (e : NodeEntry) → IsNext s e → Good top s → Good top (next s e)
+    good_next top s e i g = record { seats = seats_next s e g.seats; once = once_next k s e g.once; some = listed_next k s e h g.some; fit = (good_step top s e i g).fit }
+
+    -- no entry passes that needs the lock, where that isn't listed in the end
+    abbrev Needs : (NodeEntry → Bool) → Type 0
+    Needs p = (s : State) (e : NodeEntry) → IsNext s e → live_object (l s) h ≡ None → p e ≡ false
+
+    none_counted : (p : NodeEntry → Bool) → Needs p → (s : State) (L : List NodeEntry) → LegalFrom s L → listed h (l (after_from s L)) ≡ 0 → entries_that p L ≡ 0
+    unfolding LegalFrom after_from
+    none_counted p q s [] legal z = refl
+    none_counted p q s (e ∷ es) legal z =
+        let head : one_if (p e) ≡ 0 = ap one_if (q s e legal.0 (at_unlisted h (l s) (unlisted (listed h (l s)) refl))) in
+        let rest : entries_that p es ≡ 0 = none_counted p q (next s e) es legal.1 z in
+        omega arith
+      where
+        stays : 1 ≤ listed h (l s) → 1 ≤ listed h (l (after_from (next s e) es))
+        stays n = along (Listed1 k h) (λ o t m y. listed_move k h t o m y) (next s e) es (listed_next k s e h n)
+
+        unlisted : (n : ℕ) → listed h (l s) ≡ n → n ≡ 0
+        unlisted zero i = refl
+        unlisted (suc n) i = let some : 1 ≤ listed h (l (after_from (next s e) es)) = stays (omega arith) in absurd (omega arith)
+
+    unmade : (terms : Terms) (L : List NodeEntry) → Legal terms L → some_entry (issues k h) L ≡ false → (p : NodeEntry → Bool) → Needs p → entries_that p L ≡ 0
+    unmade terms L legal n p q = none_counted p q (opening terms) L legal.from (none_listed k h c.unissued (opening terms) L legal.from (none_times k h terms) n)
+
+    pub none_got : (terms : Terms) (L : List NodeEntry) → Legal terms L → some_entry (issues k h) L ≡ false → (m : M) → entries_that (gets m) L ≡ 0
+    none_got terms L legal n m = unmade terms L legal n (gets m) (λ s e i v. (c.quiet s e i v m).0)
+
+    counts_made : (terms : Terms) (A B : List NodeEntry) (e : NodeEntry) (top : ℕ) → Legal terms (A ++ e ∷ B) → issues k h e ≡ true → limit_of e.op ≡ Some top
+        → Counts (K top) gets gives (A ++ e ∷ B) (live_object (l (after_from (next (after terms A) e) B)) h)
+    unfolding LegalFrom after_from
+    counts_made terms A B e top legal i limit =
+        let rest : LegalFrom (after terms A) (e ∷ B) = Legal-rest (opening terms) A (e ∷ B) legal.from in
+        let now : State = next (after terms A) e in
+        let made : New (K top) h (l now) = issued_as k h (after terms A) (λ o t. limit_of o ≡ Some top → New (K top) h (l t)) (λ who o y a z. c.make top (after terms A) who o y a z) e rest.0 i limit in
+        let front : LegalFrom (opening terms) A = Legal-front (opening terms) A (e ∷ B) legal.from in
+        let zero_there : listed h (l (after terms A)) ≡ 0 = fresh_unlisted k (after terms A) h (issues_fresh k (after terms A) e h rest.0 i) in
+        let once : OnceIn (l (after terms A)) = along (λ t. OnceIn (l t)) (once_move k) (opening terms) A (λ j. let z : listed j (l (opening terms)) ≡ 0 = none_times k j terms in omega arith) in
+        let good : Good top now = record { seats = seats_next (after terms A) e (seats_after terms A (record { fits = legal.fits; from = front })); once = once_next k (after terms A) e once; some = made.some; fit = made.fit } in
+        let before : (p : NodeEntry → Bool) → Needs p → entries_that p (A ++ e ∷ B) ≡ entries_that p B =
+        λ p q. counts_behind p A B e (none_counted p q (opening terms) A front zero_there) (q (after terms A) e rest.0 (at_unlisted h (l (after terms A)) zero_there)) in
+        let behind : (V : State → ℕ) (x y : NodeEntry → Bool) → ((t : State) (f : NodeEntry) → IsNext t f → Good top t → V (next t f) + one_if (y f) ≡ V t + one_if (x f)) → Good top (after_from now B) × (entries_that y B + V (after_from now B) ≡ V now + entries_that x B) =
+        λ V x y d. counts_along V x y (Good top) (λ t f j g. (good_next top t f j g, d t f j g)) now B rest.1 good in record {
+          fit = (behind (λ t. 0) (λ f. false) (λ f. false) (λ t f j g. refl)).0.fit;
+          all = λ m.
+              let z : count_in (K top) m (live_object (l now) h) ≡ 0 = made.none m in
+              let x : entries_that (gets m) (A ++ e ∷ B) ≡ entries_that (gets m) B = before (gets m) (λ s f j v. (c.quiet s f j v m).0) in
+              let y : entries_that (gives m) (A ++ e ∷ B) ≡ entries_that (gives m) B = before (gives m) (λ s f j v. (c.quiet s f j v m).1) in
+              let d = (behind (λ t. count_in (K top) m (live_object (l t) h)) (gets m) (gives m) (λ t f j g. (good_step top t f j g).all m)).1 in
+              omega arith;
+          each = λ m w.
+              let z : has_in (K top) m w (live_object (l now) h) ≡ 0 = made.free m w in
+              let x : entries_that (by_seat w (gets m)) (A ++ e ∷ B) ≡ entries_that (by_seat w (gets m)) B = before (by_seat w (gets m)) (λ s f j v. sym (off (f.who == w) _ (c.quiet s f j v m).0)) in
+              let y : entries_that (by_seat w (gives m)) (A ++ e ∷ B) ≡ entries_that (by_seat w (gives m)) B = before (by_seat w (gives m)) (λ s f j v. sym (off (f.who == w) _ (c.quiet s f j v m).1)) in
+              let d = (behind (λ t. has_in (K top) m w (live_object (l t) h)) (by_seat w (gets m)) (by_seat w (gives m)) (λ t f j g. (good_step top t f j g).each m w)).1 in
+              omega arith;
+        }
+
+    -- what is counted of a lock that was made with this limit, and of any
+    pub counts_with : (terms : Terms) (L : List NodeEntry) (top : ℕ) → Legal terms L → MadeWith k L h top → (p : Option (FieldsOf k)) × Counts (K top) gets gives L p
+    counts_with terms L top legal d =
+        let whole : Legal terms (d.before ++ d.by ∷ d.behind) = subst (Legal terms) d.cut legal in
+        (_, subst (λ (P : List NodeEntry). Counts (K top) gets gives P (live_object (l (after_from (next (after terms d.before) d.by) d.behind)) h)) (sym d.cut) (counts_made terms d.before d.behind d.by top whole d.issued d.limited))
+
+    pub counts_any : (terms : Terms) (L : List NodeEntry) → Legal terms L → (top : ℕ) × (p : Option (FieldsOf k)) × Counts (K top) gets gives L p
+    counts_any terms L legal = by_made (some_entry (issues k h) L) refl
+      where
+        by_made : (b : Bool) → some_entry (issues k h) L ≡ b → (top : ℕ) × (p : Option (FieldsOf k)) × Counts (K top) gets gives L p
+        by_made true i =
+            let d = passes (issues k h) L i in
+            let n = c.limited d.by.op (fst_true (makes_object k d.by.op) _ d.is) in
+            let r = counts_with terms L n.0 legal (record { before = d.before; by = d.by; behind = d.behind; cut = d.cut; issued = d.is; limited = n.1 }) in
+            (n.0, r.0, r.1)
+        by_made false i = (
+          0,
+          None,
+          record {
+            fit = tt;
+            all = λ m.
+                let x : entries_that (gets m) L ≡ 0 = none_got terms L legal i m in
+                let y : entries_that (gives m) L ≡ 0 = unmade terms L legal i (gives m) (λ s f j v. (c.quiet s f j v m).1) in
+                omega arith;
+            each = λ m w.
+                let x : entries_that (by_seat w (gets m)) L ≡ 0 = unmade terms L legal i (by_seat w (gets m)) (λ s f j v. sym (off (f.who == w) _ (c.quiet s f j v m).0)) in
+                let y : entries_that (by_seat w (gives m)) L ≡ 0 = unmade terms L legal i (by_seat w (gives m)) (λ s f j v. sym (off (f.who == w) _ (c.quiet s f j v m).1)) in
+                omega arith;
+          },
+        )

@@ -1,7 +1,7 @@
 -- The members of a group that have ended, as the machine finds them.
 use Rattle.std.proofs.Common.{◌≡◌, ℕ, ◌+◌, ◌≤◌, Bool, true, false, cond, List, [], ◌∷◌, Option, Some, None, refl, sym, ◌∙◌, ap, subst, arith}
 use Rattle.std.specs.Prelude.{◌==◌, nat_lt}
-use Rattle.std.proofs.lemmas.Bool.{eq-eqb}
+use Rattle.std.proofs.lemmas.Bool.{eq-eqb, cond_both}
 use Rattle.mtapi_values.specs.declared.ends.TaskEnd.{TaskEnd}
 use Rattle.handle_pool.specs.Issued.{Listed, live_of, live_object, listed}
 use Rattle.mtapi_objects.specs.Tasks.{Task, end_of}
@@ -17,11 +17,7 @@ AllOf P (e ∷ es) = P e × AllOf P es
 
 pub all_insert : (P : Ending → Type 0) (e : Ending) (es : List Ending) → P e → AllOf P es → AllOf P (insert e es)
 all_insert P e [] p a = (p, tt)
-all_insert P e (f ∷ fs) p a = by_test (nat_lt e.number f.number) (all_insert P e fs p a.1)
-  where
-    by_test : (b : Bool) → AllOf P (insert e fs) → AllOf P (cond b (e ∷ f ∷ fs) (f ∷ insert e fs))
-    by_test true k = (p, a)
-    by_test false k = (a.0, k)
+all_insert P e (f ∷ fs) p a = cond_both (nat_lt e.number f.number) (e ∷ f ∷ fs) (f ∷ insert e fs) (AllOf P) (λ i. (p, a)) (λ i. (a.0, all_insert P e fs p a.1))
 
 all_more : (P Q : Ending → Type 0) (es : List Ending) → ((e : Ending) → P e → Q e) → AllOf P es → AllOf Q es
 all_more P Q [] f a = tt

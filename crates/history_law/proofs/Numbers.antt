@@ -1,7 +1,7 @@
 -- No two ends have one number, and every number is below the next one.
 use Rattle.std.proofs.Common.{◌≡◌, ℕ, ◌+◌, ◌≤◌, ◌<◌, Bool, true, false, cond, List, [], ◌∷◌, refl, ap, arith}
 use Rattle.std.specs.Prelude.{◌==◌, ◌&&◌, nat_lt}
-use Rattle.std.proofs.lemmas.Bool.{eqb-true}
+use Rattle.std.proofs.lemmas.Bool.{eqb-true, cond_both}
 use Rattle.std.proofs.lemmas.Bool.Decides.{nat_tests}
 use Rattle.mtapi_values.specs.declared.ends.TaskEnd.{TaskEnd}
 use Rattle.mtapi_values.specs.declared.ends.TaskEnd.TheVariants.{Failed}
@@ -29,20 +29,18 @@ has_number n l = how_many (λ r. is_number n r.fields.state) l
 change_number : (n d h : ℕ) (f : Listed Task → Listed Task) (l : List (Listed Task)) → ((r : Listed Task) → bit (is_number n (f r).fields.state) ≤ bit (is_number n r.fields.state) + d) → has_number n (change h f l) ≤ has_number n l + d
 unfolding change
 change_number n d h f [] k = omega arith
-change_number n d h f (r ∷ rs) k = by_test (r.live && (r.handle == h)) (change_number n d h f rs k)
-  where
-    by_test : (b : Bool) → has_number n (change h f rs) ≤ has_number n rs + d → has_number n (cond b (f r ∷ rs) (r ∷ change h f rs)) ≤ has_number n (r ∷ rs) + d
-    by_test true e = let m : bit (is_number n (f r).fields.state) ≤ bit (is_number n r.fields.state) + d = k r in omega arith
-    by_test false e = omega arith
+change_number n d h f (r ∷ rs) k =
+    let e : has_number n (change h f rs) ≤ has_number n rs + d = change_number n d h f rs k in
+    let m : bit (is_number n (f r).fields.state) ≤ bit (is_number n r.fields.state) + d = k r in
+    cond_both (r.live && (r.handle == h)) (f r ∷ rs) (r ∷ change h f rs) (λ q. has_number n q ≤ has_number n (r ∷ rs) + d) (λ c. omega arith) (λ c. omega arith)
 
 all_number : (n : ℕ) (p : Task → Bool) (f : Listed Task → Listed Task) (l : List (Listed Task)) → ((r : Listed Task) → bit (is_number n (f r).fields.state) ≡ bit (is_number n r.fields.state)) → has_number n (change_all p f l) ≤ has_number n l
 unfolding change_all
 all_number n p f [] k = omega arith
-all_number n p f (r ∷ rs) k = by_test (r.live && p r.fields) (all_number n p f rs k)
-  where
-    by_test : (b : Bool) → has_number n (change_all p f rs) ≤ has_number n rs → has_number n (cond b (f r) r ∷ change_all p f rs) ≤ has_number n (r ∷ rs)
-    by_test true e = let m : bit (is_number n (f r).fields.state) ≡ bit (is_number n r.fields.state) = k r in omega arith
-    by_test false e = omega arith
+all_number n p f (r ∷ rs) k =
+    let e : has_number n (change_all p f rs) ≤ has_number n rs = all_number n p f rs k in
+    let m : bit (is_number n (f r).fields.state) ≡ bit (is_number n r.fields.state) = k r in
+    cond_both (r.live && p r.fields) (f r) r (λ q. has_number n (q ∷ change_all p f rs) ≤ has_number n (r ∷ rs)) (λ c. omega arith) (λ c. omega arith)
 
 issue_number : (n h : ℕ) (x : Task) (l : List (Listed Task)) → is_number n x.state ≡ false → has_number n (issue h x l) ≡ has_number n l
 unfolding issue
@@ -63,41 +61,37 @@ at_most_one false = omega arith
 ends_low : (n : ℕ) (p : Task → Bool) (e : TaskEnd) (k : ℕ) (l : List (Listed Task)) → n < k → has_number n (end_each p e k l) ≤ has_number n l
 unfolding end_each
 ends_low n p e k [] i = omega arith
-ends_low n p e k (r ∷ rs) i = by_test (r.live && p r.fields) (ends_low n p e k rs i) (ends_low n p e (k + 1) rs (omega arith))
-  where
-    by_test : (b : Bool) → has_number n (end_each p e k rs) ≤ has_number n rs → has_number n (end_each p e (k + 1) rs) ≤ has_number n rs → has_number n (cond b (ended e k r ∷ end_each p e (k + 1) rs) (r ∷ end_each p e k rs)) ≤ has_number n (r ∷ rs)
-    by_test true x y = let z : bit (k == n) ≡ 0 = ap bit (lower_number k n i) in omega arith
-    by_test false x y = omega arith
+ends_low n p e k (r ∷ rs) i =
+    let x : has_number n (end_each p e k rs) ≤ has_number n rs = ends_low n p e k rs i in
+    let y : has_number n (end_each p e (k + 1) rs) ≤ has_number n rs = ends_low n p e (k + 1) rs (omega arith) in
+    let z : bit (k == n) ≡ 0 = ap bit (lower_number k n i) in
+    cond_both (r.live && p r.fields) (ended e k r ∷ end_each p e (k + 1) rs) (r ∷ end_each p e k rs) (λ q. has_number n q ≤ has_number n (r ∷ rs)) (λ c. omega arith) (λ c. omega arith)
 
 -- a number that none had is given at most once
 ends_high : (n : ℕ) (p : Task → Bool) (e : TaskEnd) (k : ℕ) (l : List (Listed Task)) → has_number n l ≡ 0 → has_number n (end_each p e k l) ≤ 1
 unfolding end_each
 ends_high n p e k [] z = omega arith
-ends_high n p e k (r ∷ rs) z = by_test (r.live && p r.fields) (ends_high n p e k rs (omega arith)) (ends_high n p e (k + 1) rs (omega arith)) (λ i. ends_low n p e (k + 1) rs i)
+ends_high n p e k (r ∷ rs) z =
+    let x : has_number n (end_each p e k rs) ≤ 1 = ends_high n p e k rs (omega arith) in
+    cond_both (r.live && p r.fields) (ended e k r ∷ end_each p e (k + 1) rs) (r ∷ end_each p e k rs) (λ q. has_number n q ≤ 1) (λ c. by_same (k == n) refl (ends_high n p e (k + 1) rs (omega arith))) (λ c. omega arith)
   where
-    by_test : (b : Bool) → has_number n (end_each p e k rs) ≤ 1 → has_number n (end_each p e (k + 1) rs) ≤ 1 → (n < k + 1 → has_number n (end_each p e (k + 1) rs) ≤ has_number n rs) → has_number n (cond b (ended e k r ∷ end_each p e (k + 1) rs) (r ∷ end_each p e k rs)) ≤ 1
-    by_test true x y low = by_same (k == n) refl
-      where
-        by_same : (c : Bool) → (k == n) ≡ c → bit c + has_number n (end_each p e (k + 1) rs) ≤ 1
-        by_same true i =
-            let same : k ≡ n = eqb-true k n i in
-            let u : has_number n (end_each p e (k + 1) rs) ≤ has_number n rs = low (omega arith) in
-            omega arith
-        by_same false i = omega arith
-    by_test false x y low = omega arith
+    by_same : (b : Bool) → (k == n) ≡ b → has_number n (end_each p e (k + 1) rs) ≤ 1 → bit b + has_number n (end_each p e (k + 1) rs) ≤ 1
+    by_same true i y =
+        let same : k ≡ n = eqb-true k n i in
+        let u : has_number n (end_each p e (k + 1) rs) ≤ has_number n rs = ends_low n p e (k + 1) rs (omega arith) in
+        omega arith
+    by_same false i y = omega arith
 
 -- and none from the last one on
 ends_above : (n : ℕ) (p : Task → Bool) (e : TaskEnd) (k : ℕ) (l : List (Listed Task)) → k + count_listed p l ≤ n → has_number n l ≡ 0 → has_number n (end_each p e k l) ≡ 0
 unfolding end_each
 ends_above n p e k [] i z = refl
-ends_above n p e k (r ∷ rs) i z = by_test (r.live && p r.fields) i (λ j. ends_above n p e k rs j (omega arith)) (λ j. ends_above n p e (k + 1) rs j (omega arith))
-  where
-    by_test : (b : Bool) → k + (bit b + count_listed p rs) ≤ n → (k + count_listed p rs ≤ n → has_number n (end_each p e k rs) ≡ 0) → (k + 1 + count_listed p rs ≤ n → has_number n (end_each p e (k + 1) rs) ≡ 0) → has_number n (cond b (ended e k r ∷ end_each p e (k + 1) rs) (r ∷ end_each p e k rs)) ≡ 0
-    by_test true i x y =
-        let c : bit (k == n) ≡ 0 = ap bit (other_number k n (omega arith)) in
-        let u : has_number n (end_each p e (k + 1) rs) ≡ 0 = y (omega arith) in
-        omega arith
-    by_test false i x y = let u : has_number n (end_each p e k rs) ≡ 0 = x (omega arith) in omega arith
+ends_above n p e k (r ∷ rs) i z = cond_both (r.live && p r.fields) (ended e k r ∷ end_each p e (k + 1) rs) (r ∷ end_each p e k rs) (λ q. has_number n q ≡ 0)
+    (λ c.
+    let d : bit (r.live && p r.fields) ≡ 1 = ap bit c in
+    let o : bit (k == n) ≡ 0 = ap bit (other_number k n (omega arith)) in
+    let u : has_number n (end_each p e (k + 1) rs) ≡ 0 = ends_above n p e (k + 1) rs (omega arith) (omega arith) in
+    omega arith) (λ c. let u : has_number n (end_each p e k rs) ≡ 0 = ends_above n p e k rs (omega arith) (omega arith) in omega arith)
 
 -- no two ends have one number, and each number is below the next one
 pub record Numbered (s : State) : Type 0 where

@@ -1,7 +1,6 @@
 -- What an entry says of a new object, its record keeps.
 use Rattle.std.proofs.Common.{◌≡◌, ℕ, ◌≤◌, Bool, true, cond, List, [], ◌∷◌, ◌++◌, refl, sym, ◌∙◌, ap, subst, arith}
 use Rattle.std.specs.Prelude.{◌==◌, ◌+◌}
-use Rattle.std.proofs.lemmas.Bool.{eq-eqb}
 use Rattle.mtapi_values.specs.declared.handles.ObjectKind.{ObjectKind}
 use Rattle.mtapi_values.specs.declared.handles.ObjectKind.TheVariants as kind
 use Rattle.mtapi_values.specs.declared.statuses.MtapiStatus.TheVariants as m
@@ -28,6 +27,7 @@ use Rattle.history_law.proofs.Accepted.{granted, refuses_only, refuses_live, no_
 use Rattle.history_law.proofs.Ages.{SameFields, SameAction, SameTask, SameQueue, kind_move, listed_ages, Under, under_issue, under_none, under_ages}
 use Rattle.history_law.proofs.Reuse.{fresh_unlisted, fresh_apart, listed_issue_some, issued_as}
 use Rattle.history_law.proofs.Answered.{true_false}
+use Rattle.history_law.proofs.Handles.{some_issued}
 
 -- an object was issued under the handle, and F holds of each that was
 pub record Has {T : Type 0} (h : ℕ) (F : T → Type 0) (l : List (Listed T)) : Type 0 where
@@ -40,16 +40,11 @@ HasObject k h F s = Has h F ((objects_of k).list s)
 pub has_move : (k : ObjectKind) (h : ℕ) (F : FieldsOf k → Type 0) → ((x y : FieldsOf k) → SameFields k x y → F x → F y) → (s : State) (o : Op) (m : Move) → IsMade s o m → HasObject k h F s → HasObject k h F (apply m s)
 has_move k h F c s o m e v =
     kind_move k s o (Has h F)
-    (λ j x i w. record { some = listed_issue_some h j x _ w.some; under = under_issue h F j x _ (λ d. true_false d (fresh_apart k s h j w.some i)) w.under })
+    (λ j x b i w. record { some = listed_issue_some h j x _ w.some; under = under_issue h F j x _ (λ d. true_false d (fresh_apart k s h j w.some i)) w.under })
     (λ l a w. record { some = subst (λ (n : ℕ). 1 ≤ n) (sym (listed_ages (SameFields k) h _ l a)) w.some; under = under_ages (SameFields k) h F c _ l a w.under }) m e v
 
 pub has_along : (k : ObjectKind) (h : ℕ) (F : FieldsOf k → Type 0) → ((x y : FieldsOf k) → SameFields k x y → F x → F y) → (s : State) (L : List NodeEntry) → HasObject k h F s → HasObject k h F (after_from s L)
 has_along k h F c s L v = along (HasObject k h F) (λ o t m e. has_move k h F c t o m e) s L v
-
-pub some_issued : {T : Type 0} (h : ℕ) (x : T) (l : List (Listed T)) → 1 ≤ listed h (issue h x l)
-unfolding listed issue
-some_issued h x [] = let e : cond {A = ℕ} (h == h) 1 0 ≡ 1 = ap (λ (b : Bool). cond {A = ℕ} b 1 0) (eq-eqb h h refl) in omega arith
-some_issued h x (r ∷ rs) = let k : 1 ≤ listed h (issue h x rs) = some_issued h x rs in omega arith
 
 -- a new object, under a handle that was fresh
 pub has_new : {T : Type 0} (h : ℕ) (F : T → Type 0) (x : T) (l : List (Listed T)) → listed h l ≡ 0 → F x → Has h F (issue h x l)

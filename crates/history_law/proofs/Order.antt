@@ -1,7 +1,7 @@
 -- A group gives its members in the order of their ends.
 use Rattle.std.proofs.Common.{◌≡◌, ℕ, ◌+◌, ◌≤◌, ◌<◌, Bool, true, false, cond, List, [], ◌∷◌, ◌++◌, Option, Some, None, ◌⊎◌, inl, inr, refl, sym, ◌∙◌, ap, subst, arith}
 use Rattle.std.specs.Prelude.{◌==◌, ◌&&◌, nat_lt, is_some}
-use Rattle.std.proofs.lemmas.Bool.{eqb-true, eq-eqb}
+use Rattle.std.proofs.lemmas.Bool.{eqb-true, eq-eqb, cond_both}
 use Rattle.std.proofs.lemmas.Bool.Decides.{nat_tests}
 use Rattle.mtapi_values.specs.Conditions.{holds}
 use Rattle.mtapi_values.specs.declared.ends.TaskEnd.{TaskEnd}
@@ -39,8 +39,9 @@ use Rattle.history_law.proofs.SeatMoves.{Noted, May, by_moves}
 use Rattle.history_law.proofs.Ages.{dead_none, none_dead, live_listed}
 use Rattle.history_law.proofs.AtHandles.{at_retired}
 use Rattle.history_law.proofs.Reuse.{Gone, stays_gone}
-use Rattle.history_law.proofs.Answered.{true_false, NoRefusal, answered_by, no_live}
+use Rattle.history_law.proofs.Answered.{true_false, NoRefusal, answered_by, no_live, none_some}
 use Rattle.mtapi_machine.proofs.Changes.{some_same}
+use Rattle.history_law.proofs.Found.{at_head, at_here, at_past}
 
 -- Sorted endings
 
@@ -57,16 +58,9 @@ from_lower m n (e ∷ es) l a = (let k : n ≤ e.number = a.0 in omega arith, fr
 
 sorted_insert : (e : Ending) (es : List Ending) → Sorted es → Sorted (insert e es)
 sorted_insert e [] s = (tt, tt)
-sorted_insert e (f ∷ fs) s = by_test (nat_lt e.number f.number) refl (sorted_insert e fs s.1)
-  where
-    by_test : (b : Bool) → nat_lt e.number f.number ≡ b → Sorted (insert e fs) → Sorted (cond b (e ∷ f ∷ fs) (f ∷ insert e fs))
-    by_test true i k =
-        let less : e.number < f.number = grind (arith, nat_tests) in
-        let l : e.number ≤ f.number = omega arith in
-        ((l, from_lower e.number f.number fs l s.0), s)
-    by_test false i k =
-        let l : f.number ≤ e.number = grind (arith, nat_tests) in
-        (all_insert (FromNumber f.number) e fs l s.0, k)
+sorted_insert e (f ∷ fs) s = cond_both (nat_lt e.number f.number) (e ∷ f ∷ fs) (f ∷ insert e fs) Sorted
+    (λ i. let less : e.number < f.number = grind (arith, nat_tests) in let l : e.number ≤ f.number = omega arith in ((l, from_lower e.number f.number fs l s.0), s))
+    (λ i. let l : f.number ≤ e.number = grind (arith, nat_tests) in (all_insert (FromNumber f.number) e fs l s.0, sorted_insert e fs s.1))
 
 sorted_endings : (g : ℕ) (l : List (ℕ × Task)) → Sorted (endings g l)
 unfolding endings
@@ -174,37 +168,19 @@ AllFrom g n (r ∷ rs) = From g n r × AllFrom g n rs
 
 from_issue : (g n h : ℕ) (x : Task) (l : List (Listed Task)) → end_of x.state ≡ None → AllFrom g n l → AllFrom g n (issue h x l)
 unfolding issue
-from_issue g n h x [] e a = ((λ i j p k. absurd (none (sym e ∙ k))), tt)
-  where
-    none : {A : Type 0} {y : A} → None ≡ Some y → ⊥
-    none i = cc
+from_issue g n h x [] e a = ((λ i j p k. none_some (sym e ∙ k)), tt)
 from_issue g n h x (r ∷ rs) e a = (a.0, from_issue g n h x rs e a.1)
 
 from_change : (g n h : ℕ) (f : Listed Task → Listed Task) (l : List (Listed Task)) → ((r : Listed Task) → live_object l h ≡ Some r.fields → From g n r → From g n (f r)) → AllFrom g n l → AllFrom g n (change h f l)
 unfolding change live_of
 from_change g n h f [] k a = tt
-from_change g n h f (r ∷ rs) k a = by_live (λ m. from_change g n h f rs m a.1) r.live a.0 k
-  where
-    by_hand : (((q : Listed Task) → live_object rs h ≡ Some q.fields → From g n q → From g n (f q)) → AllFrom g n (change h f rs)) → (b : Bool) → From g n (record { handle = r.handle; live = true; fields = r.fields })
-        → ((q : Listed Task) → cond b (Some r.fields) (live_object rs h) ≡ Some q.fields → From g n q → From g n (f q))
-        → AllFrom g n (cond b (f (record { handle = r.handle; live = true; fields = r.fields }) ∷ rs) (record { handle = r.handle; live = true; fields = r.fields } ∷ change h f rs))
-    by_hand rest true u k = (k (record { handle = r.handle; live = true; fields = r.fields }) refl u, a.1)
-    by_hand rest false u k = (u, rest k)
-
-    by_live : (((q : Listed Task) → live_object rs h ≡ Some q.fields → From g n q → From g n (f q)) → AllFrom g n (change h f rs)) → (b : Bool) → From g n (record { handle = r.handle; live = b; fields = r.fields })
-        → ((q : Listed Task) → live_object (record { handle = r.handle; live = b; fields = r.fields } ∷ rs) h ≡ Some q.fields → From g n q → From g n (f q))
-        → AllFrom g n (change h f (record { handle = r.handle; live = b; fields = r.fields } ∷ rs))
-    by_live rest true u k = by_hand rest (r.handle == h) u k
-    by_live rest false u k = (u, rest k)
+from_change g n h f (r ∷ rs) k a = cond_both (r.live && (r.handle == h)) (f r ∷ rs) (r ∷ change h f rs) (AllFrom g n)
+    (λ c. (k r (at_here r rs h (fst_true r.live _ c) (snd_true r.live _ c)) a.0, a.1)) (λ c. (a.0, from_change g n h f rs (λ q e. k q (at_past r rs h c ∙ e)) a.1))
 
 from_all : (g n : ℕ) (p : Task → Bool) (f : Listed Task → Listed Task) (l : List (Listed Task)) → ((r : Listed Task) → From g n (f r)) → AllFrom g n l → AllFrom g n (change_all p f l)
 unfolding change_all
 from_all g n p f [] k a = tt
-from_all g n p f (r ∷ rs) k a = (by_test (r.live && p r.fields), from_all g n p f rs k a.1)
-  where
-    by_test : (b : Bool) → From g n (cond b (f r) r)
-    by_test true = k r
-    by_test false = a.0
+from_all g n p f (r ∷ rs) k a = (cond_both (r.live && p r.fields) (f r) r (From g n) (λ c. k r) (λ c. a.0), from_all g n p f rs k a.1)
 
 over_from : (g n k : ℕ) (e : TaskEnd) (r : Listed Task) → n ≤ k → From g n (ended e k r)
 unfolding number_told
@@ -213,11 +189,8 @@ over_from g n k e r l = λ i j p q. let s : k ≡ p.1 = ap (number_told k) q in 
 from_ends : (g n : ℕ) (p : Task → Bool) (e : TaskEnd) (k : ℕ) (l : List (Listed Task)) → n ≤ k → AllFrom g n l → AllFrom g n (end_each p e k l)
 unfolding end_each
 from_ends g n p e k [] i a = tt
-from_ends g n p e k (r ∷ rs) i a = by_test (r.live && p r.fields) (from_ends g n p e k rs i a.1) (from_ends g n p e (k + 1) rs (omega arith) a.1)
-  where
-    by_test : (b : Bool) → AllFrom g n (end_each p e k rs) → AllFrom g n (end_each p e (k + 1) rs) → AllFrom g n (cond b (ended e k r ∷ end_each p e (k + 1) rs) (r ∷ end_each p e k rs))
-    by_test true x y = (over_from g n k e r i, y)
-    by_test false x y = (a.0, x)
+from_ends g n p e k (r ∷ rs) i a = cond_both (r.live && p r.fields) (ended e k r ∷ end_each p e (k + 1) rs) (r ∷ end_each p e k rs) (AllFrom g n)
+    (λ c. (over_from g n k e r i, from_ends g n p e (k + 1) rs (omega arith) a.1)) (λ c. (a.0, from_ends g n p e k rs i a.1))
 
 -- the next number, and the members
 record Left (g n : ℕ) (s : State) : Type 0 where
@@ -236,10 +209,7 @@ noted_from g n who f r x k = by_group x.group
 
 left_move : (g n who : ℕ) (o : Op) (s : State) (x : Move) → May s who o x → Left g n s → Left g n (apply x s)
 left_move g n who o s (starts_task h t) k v = record { next = v.next; all = from_issue g n h (new_task t s.starts) s.tasks refl v.all }
-left_move g n who o s (runs_task h w z) k v = record { next = v.next; all = from_change g n h (with_fields (with_state (Running w z))) s.tasks (λ r e u i j p q. absurd (none q)) v.all }
-  where
-    none : {A : Type 0} {y : A} → None ≡ Some y → ⊥
-    none i = cc
+left_move g n who o s (runs_task h w z) k v = record { next = v.next; all = from_change g n h (with_fields (with_state (Running w z))) s.tasks (λ r e u i j p q. none_some q) v.all }
 left_move g n who o s (ends_task h e) k v = record { next = let l : n ≤ s.ends = v.next in omega arith; all = from_change g n h (ended e s.ends) s.tasks (λ r f u. over_from g n s.ends e r v.next) v.all }
 left_move g n who o s (ends_waiting p e) k v = record { next = let l : n ≤ s.ends = v.next in omega arith; all = from_ends g n _ e s.ends s.tasks v.next v.all }
 left_move g n who o s (withdraws h f c) k v = record { next = let l : n ≤ s.ends = v.next in omega arith; all = from_ends g n _ (Failed c) s.ends s.tasks v.next v.all }
@@ -267,10 +237,7 @@ from_endings g n [] a = tt
 from_endings g n (r ∷ rs) a = by_live r.live refl a (from_endings g n rs)
   where
     here : (x : Option (TaskEnd × ℕ)) → end_of r.fields.state ≡ x → AllOf (FromNumber n) (insert_ended r.handle x (endings g (live_of rs))) → (AllOf (FromNumber n) (endings g (live_of rs)) → AllFrom g n rs) → AllFrom g n (r ∷ rs)
-    here None e a k = ((λ i j p q. absurd (none (sym e ∙ q))), k a)
-      where
-        none : {A : Type 0} {y : A} → None ≡ Some y → ⊥
-        none i = cc
+    here None e a k = ((λ i j p q. none_some (sym e ∙ q)), k a)
     here (Some y) e a k =
         let b = all_inserted (FromNumber n) (record { task = r.handle; end = y.0; number = y.1 }) (endings g (live_of rs)) a in
         ((λ i j p q. subst (λ (z : TaskEnd × ℕ). n ≤ z.1) (some_same (sym e ∙ q)) b.0), k b.1)
@@ -287,15 +254,8 @@ from_endings g n (r ∷ rs) a = by_live r.live refl a (from_endings g n rs)
 from_at : (g n : ℕ) (l : List (Listed Task)) (h : ℕ) (t : Task) → AllFrom g n l → live_object l h ≡ Some t → is_member g t ≡ true → (p : TaskEnd × ℕ) → end_of t.state ≡ Some p → n ≤ p.1
 unfolding live_of
 from_at g n [] h t a e m p q = absurd (cc)
-from_at g n (r ∷ rs) h t a e m p q = by_live r.live refl e (λ i. from_at g n rs h t a.1 i m p q)
-  where
-    by_hand : (b : Bool) → r.live ≡ true → cond b (Some r.fields) (live_object rs h) ≡ Some t → (live_object rs h ≡ Some t → n ≤ p.1) → n ≤ p.1
-    by_hand true i e k = let s : r.fields ≡ t = some_same e in a.0 i (ap (is_member g) s ∙ m) p (ap (λ (x : Task). end_of x.state) s ∙ q)
-    by_hand false i e k = k e
-
-    by_live : (b : Bool) → r.live ≡ b → lookup (cond b ((r.handle, r.fields) ∷ live_of rs) (live_of rs)) h ≡ Some t → (live_object rs h ≡ Some t → n ≤ p.1) → n ≤ p.1
-    by_live true i e k = by_hand (r.handle == h) i e k
-    by_live false i e k = k e
+from_at g n (r ∷ rs) h t a e m p q = at_head r h (λ i j. let s : r.fields ≡ t = some_same (sym (at_here r rs h i j) ∙ e) in a.0 i (ap (is_member g) s ∙ m) p (ap (λ (x : Task). end_of x.state) s ∙ q))
+    (λ c. from_at g n rs h t a.1 (sym (at_past r rs h c) ∙ e) m p q)
 
 -- The numbers in the records
 

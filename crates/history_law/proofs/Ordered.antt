@@ -1,7 +1,7 @@
 -- The runs of an ordered queue.
 use Rattle.std.proofs.Common.{◌≡◌, ℕ, ◌+◌, ◌≤◌, ◌<◌, Bool, true, false, cond, List, [], ◌∷◌, ◌++◌, Option, Some, None, refl, sym, ◌∙◌, ap, subst, arith}
 use Rattle.std.specs.Prelude.{◌==◌, ◌&&◌, ◌||◌, not, nat_lt, is_none, IsSome}
-use Rattle.std.proofs.lemmas.Bool.{eqb-true, eq-eqb}
+use Rattle.std.proofs.lemmas.Bool.{eqb-true, eq-eqb, false_from_ne_true}
 use Rattle.std.proofs.lemmas.Bool.Decides.{nat_tests}
 use Rattle.mtapi_values.specs.Conditions.{holds}
 use Rattle.mtapi_values.specs.declared.ends.TaskEnd.{TaskEnd}
@@ -37,7 +37,7 @@ use Rattle.history_law.proofs.Ends.{grows_end}
 use Rattle.history_law.proofs.Ages.{SameTask, SameQueue, Under, under_at}
 use Rattle.history_law.proofs.Objects.{HasObject, QueueAs, started_as, queued_as, task_then, has_along}
 use Rattle.history_law.proofs.Affinity.{Took, row_took}
-use Rattle.history_law.proofs.Answered.{true_false}
+use Rattle.history_law.proofs.Answered.{true_false, none_some}
 use Rattle.mtapi_machine.proofs.Changes.{some_same}
 use Rattle.history_law.proofs.SeatMoves.{ready_unstarted}
 
@@ -126,17 +126,10 @@ unstarted_none t h = by_state t.state h
     by_state (Ended e n) d = absurd (cc)
 
 not_picked : (s : State) (z : NodeEntry) (h : ℕ) (e : TaskEnd) → OnceIn s.tasks → end_at s.tasks h ≡ Some e → IsNext s z → picks h z ≡ false
-not_picked s z h e o i n = by_test (picks h z) refl
-  where
-    none : {A : Type 0} {y : A} → None ≡ Some y → ⊥
-    none i = cc
-
-    by_test : (b : Bool) → picks h z ≡ b → b ≡ false
-    by_test false j = refl
-    by_test true j =
-        let t = picks_took s z h n j in
-        let u : is_unstarted t.1.task ≡ true = ready_unstarted s t.1.task (took_ready s z.who h t.0 t.1) in
-        absurd (none (sym (unstarted_none t.1.task u) ∙ (sym (end_found s.tasks h t.1.task o t.1.task_found) ∙ i)))
+not_picked s z h e o i n = false_from_ne_true (picks h z) (λ j.
+    let t = picks_took s z h n j in
+    let u : is_unstarted t.1.task ≡ true = ready_unstarted s t.1.task (took_ready s z.who h t.0 t.1) in
+    none_some (sym (unstarted_none t.1.task u) ∙ (sym (end_found s.tasks h t.1.task o t.1.task_found) ∙ i)))
 
 never_picked : (s : State) (L : List NodeEntry) (h : ℕ) (e : TaskEnd) → LegalFrom s L → OnceIn s.tasks → end_at s.tasks h ≡ Some e → some_entry (picks h) L ≡ false
 unfolding LegalFrom after_from

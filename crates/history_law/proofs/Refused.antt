@@ -24,7 +24,7 @@ use Rattle.mtapi_machine.specs.Worked.{usual, main, worker, first_handle, next_h
 use Rattle.history_law.specs.Words.{some_entry, is_live}
 use Rattle.history_law.specs.Ends.{EndsAfterClose}
 use Rattle.history_law.specs.Affinity.{ObeysMasks}
-use Rattle.history_law.specs.Exclusion.{HasMutex, MutexesKeepTo, SemsKeepTo, OneWriter, ReadersAlone, RwlsKeepTo, tally_got}
+use Rattle.history_law.specs.Exclusion.{HasMutex, MutexesKeepTo, MadeWith, SemsKeepTo, OneWriter, ReadersAlone, RwlsKeepTo, tally_got}
 use Rattle.mtapi_machine.specs.Tables.{h1}
 use Rattle.history_law.specs.WorkedSum.{two_workers, gets_both, begins}
 use Rattle.history_law.specs.Tally.{record_of, number_added, sum_of, writes_to, HoldsTheSum}
@@ -33,7 +33,7 @@ use Rattle.history_law.specs.Ordered.{RunsInOrder}
 use Rattle.history_law.specs.Told.{TellsItsEnd}
 use Rattle.mtapi_values.specs.declared.ends.TaskEnd.TheVariants.{Cancelled, Completed}
 use Rattle.history_law.specs.Reuse.{NeverAgain, NotInBoth}
-use Rattle.history_law.specs.Refused.{second_core, makes_action, too_early, up_to_the_end, leaves, again, one_for_two, on_another_core, given_twice, gives_first, puts_one, two_put, picks_second, final_first, cancelled_first, completed_then, two_ends, makes_sem, both_hold, both_own, makes_rwl, reads_beside, written_untold, caller_gets, beside_a_tally, LawsRefuse}
+use Rattle.history_law.specs.Refused.{second_core, makes_action, too_early, up_to_the_end, leaves, again, one_for_two, on_another_core, given_twice, gives_first, puts_one, two_put, picks_second, final_first, cancelled_first, completed_then, two_ends, makes_sem, both_hold, both_own, makes_rwl, reads_beside, written_untold, caller_gets, beside_a_tally, LawsRefuse, three_read, one_reads_twice, gives_back_unread, reads_none, gives_anothers, gets_none, gives_unlocked}
 use Rattle.mtapi_machine.proofs.Changes.{some_same}
 
 pub not_some : {A : Type 0} {x : A} → None ≡ Some x → ⊥
@@ -105,10 +105,12 @@ refuses_final f = not_ok f.legal.from.0.allowed
     not_ok : {x : _} → reply.Ok ≡ reply.Mtapi x → ⊥
     not_ok e = cc
 
+sem_made : MadeWith object.Sem (makes_sem ∷ both_hold) first_handle 1
+sem_made = record { before = []; by = makes_sem; behind = both_hold; cut = refl; issued = refl; limited = refl }
+
 refuses_both : SemsKeepTo (makes_sem ∷ both_hold) → ⊥
 refuses_both f =
-    let x = f [] both_hold [] makes_sem first_handle 1 refl refl refl in
-    let most : 2 ≤ 1 = x.most in
+    let most : 2 ≤ 1 = (f (makes_sem ∷ both_hold) [] first_handle refl).most 1 sem_made in
     omega arith
 
 apart : Some Cancelled ≡ Some (Completed []) → ⊥
@@ -138,11 +140,36 @@ refuses_tally_mutex f =
     ((f beside_a_tally [] h1 refl).one 0 2 (inr (record { task = task h1; before = begins; since = caller_gets; cut = refl; got = tally_has_it; unended = refl })) (inl held))
 
 refuses_beside : RwlsKeepTo (makes_rwl ∷ reads_beside) → ⊥
-refuses_beside f = by_holders (f [] reads_beside [] makes_rwl first_handle 2 refl refl refl).held
+refuses_beside f = by_holders ((f (makes_rwl ∷ reads_beside) [] first_handle refl).held 2 (record { before = []; by = makes_rwl; behind = reads_beside; cut = refl; issued = refl; limited = refl }))
   where
-    by_holders : OneWriter reads_beside first_handle ⊎ ReadersAlone reads_beside first_handle 2 → ⊥
+    by_holders : OneWriter (makes_rwl ∷ reads_beside) first_handle ⊎ ReadersAlone (makes_rwl ∷ reads_beside) first_handle 2 → ⊥
     by_holders (inl x) = apart_seats 0 1 (omega arith) (sym x.readers)
     by_holders (inr x) = apart_seats 0 1 (omega arith) (sym x.writer)
+
+refuses_unlocked : MutexesKeepTo usual gives_unlocked → ⊥
+refuses_unlocked f = let each : 1 ≤ 0 = (f gives_unlocked [] first_handle refl).each 1 in omega arith
+
+refuses_anothers : SemsKeepTo gives_anothers → ⊥
+refuses_anothers f = let each : 1 ≤ 0 = (f gives_anothers [] first_handle refl).each 2 in omega arith
+
+refuses_none : SemsKeepTo gets_none → ⊥
+refuses_none f = apart_seats 0 1 (omega arith) (sym ((f gets_none [] first_handle refl).unmade refl))
+
+refuses_readers : RwlsKeepTo three_read → ⊥
+refuses_readers f = by_holders ((f three_read [] first_handle refl).held 2 (record { before = []; by = makes_rwl; behind = _; cut = refl; issued = refl; limited = refl }))
+  where
+    by_holders : OneWriter three_read first_handle ⊎ ReadersAlone three_read first_handle 2 → ⊥
+    by_holders (inl x) = apart_seats 0 1 (omega arith) x.writer
+    by_holders (inr x) = let most : 3 ≤ 2 = x.readers in omega arith
+
+refuses_reader_twice : RwlsKeepTo one_reads_twice → ⊥
+refuses_reader_twice f = let once : 2 ≤ 1 = (f one_reads_twice [] first_handle refl).once false 1 in omega arith
+
+refuses_unread : RwlsKeepTo gives_back_unread → ⊥
+refuses_unread f = let each : 1 ≤ 0 = (f gives_back_unread [] first_handle refl).each false 2 in omega arith
+
+refuses_none_read : RwlsKeepTo reads_none → ⊥
+refuses_none_read f = apart_seats 0 1 (omega arith) (sym ((f reads_none [] first_handle refl).unmade refl false))
 
 -- a cell of that segment holds 9
 abbrev nine : Segment
@@ -200,8 +227,15 @@ laws_refuse = record {
   ordered = refuses_order;
   mutexes = refuses_own;
   tally_mutex = refuses_tally_mutex;
+  mutex_each = refuses_unlocked;
   sems = refuses_both;
+  sem_each = refuses_anothers;
+  sem_unmade = refuses_none;
   rwls = refuses_beside;
+  rwl_readers = refuses_readers;
+  rwl_once = refuses_reader_twice;
+  rwl_each = refuses_unread;
+  rwl_unmade = refuses_none_read;
   tally = refuses_sum;
   drop = refuses_final;
 }

@@ -1,8 +1,8 @@
 -- What the laws of a run refuse, by computing.
-use Rattle.std.proofs.Common.{◌≡◌, ℕ, zero, suc, ◌≤◌, false, List, [], ◌∷◌, ◌++◌, Option, Some, None, refl, sym, ◌∙◌, ap, arith}
-use Rattle.std.specs.Prelude.{pos}
+use Rattle.std.proofs.Common.{◌≡◌, ℕ, zero, suc, ◌≤◌, false, List, [], ◌∷◌, ◌++◌, Option, Some, None, refl, sym, ◌∙◌, ap, arith, Bool, true, cond, ◌+◌}
+use Rattle.std.specs.Prelude.{pos, ◌==◌}
 use Rattle.mtapi_values.specs.declared.kinds.Kind.TheVariants as kind
-use Rattle.mtapi_values.specs.declared.statuses.MtapiStatus.TheVariants.{Timeout}
+use Rattle.mtapi_values.specs.declared.statuses.MtapiStatus.TheVariants.{Timeout, ErrTaskInvalid}
 use Rattle.mtapi_values.specs.declared.ends.TaskEnd.TheVariants.{Failed}
 use Rattle.mtapi_values.specs.Seats.{is_seat}
 use Rattle.mtapi_machine.specs.declared.ops.Op.TheVariants as op
@@ -14,12 +14,15 @@ use Rattle.mtapi_machine.specs.WorkRows.{is_ready, can_take, has_better}
 use Rattle.mtapi_machine.specs.State.{opening, seats}
 use Rattle.mtapi_machine.specs.Legal.{NodeEntry, after_from, after}
 use Rattle.mtapi_machine.specs.Ends.{end_at}
-use Rattle.mtapi_machine.specs.Worked.{usual, main, first_handle, add_task}
+use Rattle.mtapi_machine.specs.Worked.{usual, main, first_handle, add_task, task}
 use Rattle.history_law.specs.Accepted.{TasksEndOnce}
-use Rattle.history_law.specs.Seats.{OnceListed, Waits, KeepsWaiter, Work, Holds, WorkerKeeps, EndsInTime, KeepsPhase, KeepsRelease, KeepsEarly, AreUntouched, KeepsStops, BySeats, EntersBehindRelease, FinalsBehindStops}
+use Rattle.history_law.specs.Seats.{OnceListed, Waits, KeepsWaiter, Holds, WorkerKeeps, EndsInTime, KeepsPhase, KeepsRelease, KeepsEarly, AreUntouched, KeepsStops, BySeats, EntersBehindRelease, FinalsBehindStops, KeepsOnce, HasMarks}
 use Rattle.history_law.specs.Refused.{makes_action, too_early, final_first}
-use Rattle.history_law.specs.RefusedRuns.{started, waits, looks_last, takes, ends, ends_late, opens, releases, closes_it, enters_first, by_no_seat, with_tasks, a_task, listed_once, has_looked, has_stopped, RunLawsRefuse}
+use Rattle.history_law.specs.RefusedRuns.{started, waits, looks_last, takes, ends, ends_late, opens, releases, closes_it, enters_first, by_no_seat, with_tasks, a_task, listed_once, has_looked, has_stopped, RunLawsRefuse, has_no_marks, adding, finishes_it, has_got_both}
 use Rattle.history_law.proofs.Refused.{not_some, no_end, true_false}
+use Rattle.mtapi_machine.specs.Tables.{h1}
+use Rattle.history_law.specs.Served.{Serves}
+use Rattle.history_law.specs.TallyHolds.{TalliesHold, got_both}
 
 refuses_accepted : TasksEndOnce usual too_early → ⊥
 unfolding too_early
@@ -56,11 +59,8 @@ refuses_waiter f =
     true_false (sym x.2.mark ∙ ap (is_seat 1) (sym (ap waiter_at x.1) ∙ no_waiter))
 
 -- the worker has a task, and then none
-adding : Work
-adding = record { kind = kind.Add; args = pos 2 ∷ pos 3 ∷ []; looks = 0; seen = false; tally = no_tally }
-
 running : Holds (after usual (started ++ takes)) 0 first_handle adding
-unfolding started adding after_from live_of issue change listed issued_at retired is_full may_issue has_worker is_ready can_take has_better
+unfolding started after_from live_of issue change listed issued_at retired is_full may_issue has_worker is_ready can_take has_better
 running = record { task = _; found = refl; runs = record { state = refl; arguments = refl; looked = refl; reported = refl; did = refl }; alone = refl }
 
 none_runs : count_listed (runs_on 0) (after usual (started ++ (takes ++ ends))).tasks ≡ 0
@@ -105,12 +105,44 @@ refuses_enter f = true_false (sym (f [] [] 2 refl))
 refuses_stops : FinalsBehindStops usual final_first → ⊥
 refuses_stops f = true_false (sym (f [] [] 1 0 refl (omega arith)))
 
+refuses_second : KeepsOnce (with_tasks (listed_once a_task ∷ [])) (with_tasks (listed_once a_task ∷ listed_once a_task ∷ [])) → ⊥
+unfolding listed
+refuses_second f = refuses_twice (f (λ h. one (first_handle == h)))
+  where
+    one : (b : Bool) → cond {A = ℕ} b 1 0 + 0 ≤ 1
+    one true = omega arith
+    one false = omega arith
+
+refuses_reply : Serves (after usual (started ++ takes)) 0 (task first_handle) adding finishes_it (reply.Mtapi ErrTaskInvalid) → ⊥
+refuses_reply f = differ (f running (refl, refl, refl))
+  where
+    differ : reply.Mtapi ErrTaskInvalid ≡ reply.Ok → ⊥
+    differ e = cc
+
+refuses_no_marks : HasMarks has_no_marks → ⊥
+refuses_no_marks e = omega arith
+
+-- the tally's task, and that it has got both
+tally_runs : (t : Task) × (live_object has_got_both.tasks h1 ≡ Some t) × (runs_on 0 t ≡ true) × (got_both t.notes.tally ≡ true)
+unfolding after_from live_of issue change listed issued_at retired is_full may_issue has_worker is_ready can_take has_better
+tally_runs = (_, refl, refl, refl)
+
+refuses_no_mutex : TalliesHold (record has_got_both { mutexes = [] }) → ⊥
+unfolding live_of
+refuses_no_mutex f = (f h1 0 tally_runs.0 tally_runs.1 tally_runs.2 tally_runs.3).mutex
+
+refuses_no_segment : TalliesHold (record has_got_both { segments = [] }) → ⊥
+unfolding live_of
+refuses_no_segment f = (f h1 0 tally_runs.0 tally_runs.1 tally_runs.2 tally_runs.3).segment
+
 pub run_laws_refuse : RunLawsRefuse
 run_laws_refuse = record {
   accepted = refuses_accepted;
   once = refuses_twice;
+  once_stays = refuses_second;
   waiter = refuses_waiter;
   work = refuses_work;
+  served = refuses_reply;
   untouched = refuses_untouched;
   seats = refuses_seats;
   late = refuses_late;
@@ -118,6 +150,9 @@ run_laws_refuse = record {
   release = refuses_release;
   early = refuses_early;
   stopped = refuses_stopped;
+  room = refuses_no_marks;
   enter = refuses_enter;
   final_step = refuses_stops;
+  tally_mutex = refuses_no_mutex;
+  tally_segment = refuses_no_segment;
 }

@@ -1,7 +1,7 @@
 -- No handle is used again, and in layout two none names objects of two kinds.
 use Rattle.std.proofs.Common.{◌≡◌, ℕ, ◌+◌, ◌≤◌, Bool, true, false, cond, List, [], ◌∷◌, ◌++◌, refl, sym, ◌∙◌, ap, subst, arith}
 use Rattle.std.specs.Prelude.{◌==◌}
-use Rattle.std.proofs.lemmas.Bool.{eqb-true, eq-eqb}
+use Rattle.std.proofs.lemmas.Bool.{eqb-true, eq-eqb, false_from_ne_true, true_from_ne_false}
 use Rattle.mtapi_values.specs.declared.handles.ObjectKind.{ObjectKind}
 use Rattle.mtapi_values.specs.declared.handles.ObjectKind.TheVariants as kind
 use Rattle.mtapi_values.specs.declared.handles.Layout.{Layout}
@@ -27,7 +27,7 @@ use Rattle.history_law.specs.Words.{FieldsOf, objects_of, some_entry, times, is_
 use Rattle.history_law.specs.Reuse.{NeverAgain, NotInBoth}
 use Rattle.history_law.proofs.Accepted.{granted, refuses_only, refuses_live, no_handle}
 use Rattle.history_law.proofs.Ages.{SameFields, kind_move, listed_ages, Dead, dead_ages, dead_issue, dead_none, none_dead, live_listed}
-use Rattle.history_law.proofs.Answered.{true_false}
+use Rattle.history_law.proofs.Answered.{true_false, none_first}
 
 -- A fresh handle is listed nowhere
 
@@ -36,15 +36,8 @@ unfolding may_issue
 unlisted_if o s h e = eqb-true (listed h (o.list s)) 0 (fst_true _ _ (fst_true _ _ (snd_true (names_kind s.terms.layout o.kind h) _ e)))
 
 pub apart_if : {T : Type 0} (o : Objects T) (s : State) (h j : ℕ) → 1 ≤ listed h (o.list s) → is_fresh o s j ≡ true → (j == h) ≡ false
-apart_if o s h j l e = by_test (j == h) refl
-  where
-    by_test : (b : Bool) → (j == h) ≡ b → b ≡ false
-    by_test false i = refl
-    by_test true i =
-        let same : j ≡ h = eqb-true j h i in
-        let none : listed j (o.list s) ≡ 0 = unlisted_if o s j e in
-        let here : listed h (o.list s) ≡ 0 = subst (λ (n : ℕ). listed n (o.list s) ≡ 0) same none in
-        absurd (omega arith)
+apart_if o s h j l e =
+    false_from_ne_true (j == h) (λ i. let here : listed h (o.list s) ≡ 0 = subst (λ (n : ℕ). listed n (o.list s) ≡ 0) (eqb-true j h i) (unlisted_if o s j e) in omega arith)
 
 pub fresh_unlisted : (k : ObjectKind) (s : State) (h : ℕ) → is_fresh (objects_of k) s h ≡ true → times k h s ≡ 0
 fresh_unlisted k s h e = unlisted_if (objects_of k) s h e
@@ -72,12 +65,12 @@ pub record Gone (k : ObjectKind) (h : ℕ) (l : List (Listed (FieldsOf k))) : Ty
 
 pub listed_move : (k : ObjectKind) (h : ℕ) (s : State) (o : Op) (m : Move) → IsMade s o m → Listed1 k h s → Listed1 k h (apply m s)
 listed_move k h s o m e v =
-    kind_move k s o (λ l. 1 ≤ listed h l) (λ j x i w. listed_issue_some h j x _ w) (λ l a w. subst (λ (n : ℕ). 1 ≤ n) (sym (listed_ages (SameFields k) h _ l a)) w) m e v
+    kind_move k s o (λ l. 1 ≤ listed h l) (λ j x b i w. listed_issue_some h j x _ w) (λ l a w. subst (λ (n : ℕ). 1 ≤ n) (sym (listed_ages (SameFields k) h _ l a)) w) m e v
 
 gone_move : (k : ObjectKind) (h : ℕ) (s : State) (o : Op) (m : Move) → IsMade s o m → Gone k h ((objects_of k).list s) → Gone k h ((objects_of k).list (apply m s))
 gone_move k h s o m e v =
     kind_move k s o (Gone k h)
-    (λ j x i w. record { some = listed_issue_some h j x _ w.some; dead = dead_issue h j x _ (fresh_apart k s h j w.some i) w.dead })
+    (λ j x b i w. record { some = listed_issue_some h j x _ w.some; dead = dead_issue h j x _ (fresh_apart k s h j w.some i) w.dead })
     (λ l a w. record { some = subst (λ (n : ℕ). 1 ≤ n) (sym (listed_ages (SameFields k) h _ l a)) w.some; dead = dead_ages (SameFields k) h _ l a w.dead }) m e v
 
 -- An entry that issues a handle finds it unlisted
@@ -132,11 +125,40 @@ pub issues_fresh : (k : ObjectKind) (s : State) (e : NodeEntry) (h : ℕ) → Is
 issues_fresh k s e h n i = issued_as k h s (λ o t. is_fresh (objects_of k) s h ≡ true) (λ who o. issue_fresh k s who o h) e n i
 
 not_issued : (k : ObjectKind) (s : State) (e : NodeEntry) (h : ℕ) → IsNext s e → 1 ≤ times k h s → issues k h e ≡ false
-not_issued k s e h n l = by_test (issues k h e) refl
-  where
-    by_test : (b : Bool) → issues k h e ≡ b → b ≡ false
-    by_test false i = refl
-    by_test true i = let none : times k h s ≡ 0 = fresh_unlisted k s h (issues_fresh k s e h n i) in absurd (omega arith)
+not_issued k s e h n l = false_from_ne_true (issues k h e) (λ i. let none : times k h s ≡ 0 = fresh_unlisted k s h (issues_fresh k s e h n i) in omega arith)
+
+-- What is listed was issued by an entry
+
+pub none_times : (k : ObjectKind) (h : ℕ) (terms : Terms) → times k h (opening terms) ≡ 0
+unfolding listed
+none_times kind.Action h terms = refl
+none_times kind.Task h terms = refl
+none_times kind.Group h terms = refl
+none_times kind.Queue h terms = refl
+none_times kind.Mutex h terms = refl
+none_times kind.Sem h terms = refl
+none_times kind.Rwl h terms = refl
+none_times kind.Shmem h terms = refl
+
+-- an entry whose op makes no object of the kind lists none
+pub listed_same : (k : ObjectKind) (h : ℕ) (s : State) (e : NodeEntry) → makes_kind k e.op ≡ false → times k h (next s e) ≡ times k h s
+listed_same k h s e z =
+    by_moves (λ t. times k h t ≡ times k h s) s e
+    (λ t m y w. kind_move k t e.op (λ l. listed h l ≡ times k h s) (λ j x b i u. true_false b z) (λ l a u. listed_ages (SameFields k) h _ l a ∙ u) m y w) refl
+
+-- no entry of a kind lists the handle but the one that issues it
+abbrev pub ListsIssued : ObjectKind → ℕ → Type 0
+ListsIssued k h = (s : State) (e : NodeEntry) → IsNext s e → issues k h e ≡ false → times k h (next s e) ≡ times k h s
+
+pub none_listed : (k : ObjectKind) (h : ℕ) → ListsIssued k h → (s : State) (L : List NodeEntry) → LegalFrom s L → times k h s ≡ 0 → some_entry (issues k h) L ≡ false → times k h (after_from s L) ≡ 0
+unfolding LegalFrom after_from
+none_listed k h c s [] legal z n = z
+none_listed k h c s (e ∷ es) legal z n =
+    let both : (issues k h e ≡ false) × (some_entry (issues k h) es ≡ false) = none_first (issues k h e) _ n in
+    none_listed k h c (next s e) es legal.1 (c s e legal.0 both.0 ∙ z) both.1
+
+pub was_issued : (k : ObjectKind) (h : ℕ) → ListsIssued k h → (terms : Terms) (L : List NodeEntry) → LegalFrom (opening terms) L → 1 ≤ times k h (after terms L) → some_entry (issues k h) L ≡ true
+was_issued k h c terms L legal n = true_from_ne_false (some_entry (issues k h) L) (λ i. let z : times k h (after terms L) ≡ 0 = none_listed k h c (opening terms) L legal (none_times k h terms) i in omega arith)
 
 -- The law
 
@@ -171,7 +193,7 @@ terms_move T s (alters z j f) v = sorts_keep (λ t. t.terms ≡ T) (λ t g q m c
 terms_move T s (removes z j) v = sorts_keep (λ t. t.terms ≡ T) (λ t g q m c r y p. p) z _ s v
 terms_move T s _ v = v
 
-listed_new : {T : Type 0} (h j : ℕ) (x : T) (l : List (Listed T)) → (j == h) ≡ false → listed h (issue j x l) ≡ listed h l
+pub listed_new : {T : Type 0} (h j : ℕ) (x : T) (l : List (Listed T)) → (j == h) ≡ false → listed h (issue j x l) ≡ listed h l
 unfolding listed issue
 listed_new h j x [] e = ap (λ (b : Bool). cond {A = ℕ} b 1 0 + 0) e
 listed_new h j x (r ∷ rs) e = ap (λ (n : ℕ). cond {A = ℕ} (r.handle == h) 1 0 + n) (listed_new h j x rs e)
@@ -179,7 +201,7 @@ listed_new h j x (r ∷ rs) e = ap (λ (n : ℕ). cond {A = ℕ} (r.handle == h)
 named_move : (T : Terms) (k : ObjectKind) (h : ℕ) (s : State) (o : Op) (m : Move) → IsMade s o m → Named T k h s → Named T k h (apply m s)
 named_move T k h s o m e v = record {
   terms = terms_move T s m v.terms;
-  named = kind_move k s o (λ l. 1 ≤ listed h l → names_kind T.layout (objects_of k).kind h ≡ true) (λ j x i w. by_new j x i w (j == h) refl) (λ l a w u. w (subst (λ (n : ℕ). 1 ≤ n) (listed_ages (SameFields k) h _ l a) u)) m e v.named;
+  named = kind_move k s o (λ l. 1 ≤ listed h l → names_kind T.layout (objects_of k).kind h ≡ true) (λ j x b i w. by_new j x i w (j == h) refl) (λ l a w u. w (subst (λ (n : ℕ). 1 ≤ n) (listed_ages (SameFields k) h _ l a) u)) m e v.named;
 }
   where
     by_new : (j : ℕ) (x : FieldsOf k) → is_fresh (objects_of k) s j ≡ true → (1 ≤ times k h s → names_kind T.layout (objects_of k).kind h ≡ true) → (b : Bool) → (j == h) ≡ b
@@ -188,17 +210,6 @@ named_move T k h s o m e v = record {
         let n : names_kind s.terms.layout (objects_of k).kind j ≡ true = fst_true _ (may_issue s.terms.settings.generations j ((objects_of k).list s)) i in
         subst (λ (t : Terms). names_kind t.layout (objects_of k).kind h ≡ true) v.terms (subst (λ (y : ℕ). names_kind s.terms.layout (objects_of k).kind y ≡ true) (eqb-true j h c) n)
     by_new j x i w false c u = w (subst (λ (n : ℕ). 1 ≤ n) (listed_new h j x _ c) u)
-
-none_times : (k : ObjectKind) (h : ℕ) (terms : Terms) → times k h (opening terms) ≡ 0
-unfolding listed
-none_times kind.Action h terms = refl
-none_times kind.Task h terms = refl
-none_times kind.Group h terms = refl
-none_times kind.Queue h terms = refl
-none_times kind.Mutex h terms = refl
-none_times kind.Sem h terms = refl
-none_times kind.Rwl h terms = refl
-none_times kind.Shmem h terms = refl
 
 own_kind : (k : ObjectKind) → (objects_of k).kind ≡ k
 own_kind kind.Action = refl

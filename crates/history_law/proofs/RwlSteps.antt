@@ -1,6 +1,6 @@
 -- What each entry does to a reader-writer lock, and so every list of entries.
-use Rattle.std.proofs.Common.{◌≡◌, ℕ, ◌+◌, ◌<◌, ◌≤◌, Bool, true, false, List, Option, Some, None, ◌⊎◌, inl, inr, refl, sym, ◌∙◌, ap, subst, arith}
-use Rattle.std.specs.Prelude.{◌&&◌, is_some}
+use Rattle.std.proofs.Common.{◌≡◌, ℕ, ◌+◌, ◌<◌, ◌≤◌, Bool, true, false, List, Option, Some, None, ◌⊎◌, inl, inr, refl, sym, ◌∙◌, ap, subst, arith, [], ◌∷◌}
+use Rattle.std.specs.Prelude.{◌&&◌, is_some, ◌==◌}
 use Rattle.mtapi_values.specs.Seats.{is_seat, marked}
 use Rattle.mtapi_values.specs.declared.handles.ObjectKind.TheVariants as kind
 use Rattle.mtapi_machine.specs.declared.terms.Terms.{Terms}
@@ -10,26 +10,25 @@ use Rattle.mtapi_machine.specs.declared.replies.Reply.{Reply}
 use Rattle.mtapi_machine.specs.declared.replies.Reply.TheVariants.{Handle}
 use Rattle.handle_pool.specs.Issued.{live_object, listed}
 use Rattle.mtapi_objects.specs.Rwls.{Rwl, new_rwl, rwl_create_refusals, rwl_delete_refusals, rwl_look_refusals, rwl_unlock_refusals, rwl_busy, rwl_taken, rwl_given}
-use Rattle.mtapi_machine.specs.State.{State, opening}
+use Rattle.mtapi_machine.specs.State.{State}
 use Rattle.mtapi_machine.specs.Moves.{Rwls}
 use Rattle.mtapi_machine.specs.Row.{Allows, after_row}
 use Rattle.mtapi_machine.specs.Rows.{row}
 use Rattle.mtapi_machine.specs.KeyedRows.{keyed_rwls}
-use Rattle.mtapi_machine.specs.Legal.{NodeEntry, next, Legal, after_from, after}
+use Rattle.mtapi_machine.specs.Legal.{NodeEntry, Legal}
 use Rattle.mtapi_machine.proofs.Made.{not_false}
 use Rattle.mtapi_machine.proofs.Changes.{some_same}
-use Rattle.mtapi_machine.proofs.Moves.{along}
-use Rattle.history_law.specs.Words.{entries_that, makes as makes_object}
+use Rattle.history_law.specs.Words.{entries_that, makes as makes_object, is_handle}
 use Rattle.history_law.specs.Seats.{says_ok}
-use Rattle.history_law.specs.Exclusion.{by_seat, looks_at_rwl, unlocks_rwl, gets_rwl, gives_rwl, rwl_limit, OneWriter, ReadersAlone, RwlsKeepTo}
+use Rattle.history_law.specs.Exclusion.{by_seat, looks_at_rwl, unlocks_rwl, gets_rwl, gives_rwl, OneWriter, ReadersAlone, RwlsKeepTo, limit_of}
 use Rattle.history_law.proofs.Answered.{true_false}
 use Rattle.history_law.proofs.Counts.{one_if}
 use Rattle.history_law.proofs.Handles.{OnceIn}
-use Rattle.history_law.proofs.Locks.{LockStep, FitIn, count_in, has_in, step_same, on_look, on_unlock, on_delete, on_create, New, counts_after}
-use Rattle.history_law.proofs.OnceIssued.{once_none, once_move, once_next, listed_next}
-use Rattle.history_law.proofs.Reuse.{issued_as}
+use Rattle.history_law.proofs.Locks.{LockStep, FitIn, count_in, has_in, step_same, on_look, on_unlock, on_delete, on_create, New, Counts, Kind, create_lists, look_misses, unlock_misses, none_got, counts_with, counts_any, missed_in}
 use Rattle.history_law.proofs.Rwls.{Fit, rwl_lock, in_mode, get_step, give_step, leave_step, new_fit, new_free}
 use Rattle.history_law.proofs.Unmoved.{live_stays}
+use Rattle.mtapi_machine.proofs.Lists.{Legal-prefix}
+use Rattle.history_law.proofs.Reuse.{listed_same}
 
 -- The ops on reader-writer locks
 
@@ -42,23 +41,38 @@ rwl_step top h s who (op.RwlUnlock x writer) r a k o l fit =
 rwl_step top h s who (op.RwlDelete x) r a k o l fit = on_delete Rwls (rwl_lock top) s who h fit refl x.0 rwl_delete_refusals o (λ v u. leave_step top who v u.0) r a
 rwl_step top h s who q r a k o l fit = step_same (rwl_lock top) who _ _ (live_stays Rwls s (record { who = who; op = q; reply = r }) h (λ j f w. w) (λ j w. w) l) fit
 
+rwl_misses : (h : ℕ) (m : Bool) (s : State) (who : ℕ) (o : Op) (r : Reply) → Allows (row s who o r) r → live_object s.rwls h ≡ None → ((looks_at_rwl h m o && says_ok r) ≡ false) × ((unlocks_rwl h m o && says_ok r) ≡ false)
+rwl_misses h m s who (op.RwlLook x writer last) r a n = (missed_in (x.0 == h) _ _ (look_misses Rwls s who h refl n x.0 last (rwl_look_refusals who) (rwl_busy writer) (rwl_taken who writer) r a), refl)
+rwl_misses h m s who (op.RwlUnlock x writer) r a n = (refl, missed_in (x.0 == h) _ _ (unlock_misses Rwls s who h refl n x.0 (rwl_unlock_refusals who writer) (rwl_given who writer) r a))
+rwl_misses h m s who _ r a n = (refl, refl)
+
+make_rwl : (top h : ℕ) (s : State) (who : ℕ) (o : Op) → makes_object kind.Rwl o ≡ true → Allows (row s who o (Handle h)) (Handle h) → limit_of o ≡ Some top → New (rwl_lock top) h (after_row s (row s who o (Handle h))).rwls
+make_rwl top h s who (op.RwlCreate id limit) e a i = let v = on_create Rwls keyed_rwls s who h (rwl_create_refusals limit) (new_rwl id limit) (λ j. absurd (cc)) (λ j. absurd (cc)) a in record {
+  some = v.1;
+  fit = subst (FitIn (rwl_lock top)) (sym v.0) (subst (λ (n : ℕ). Fit n (new_rwl id limit)) (some_same i) (new_fit id limit));
+  none = λ m. ap (λ (p : Option Rwl). count_in (rwl_lock top) m p) v.0 ∙ (new_free m 0 id limit).0;
+  free = λ m w. ap (λ (p : Option Rwl). has_in (rwl_lock top) m w p) v.0 ∙ (new_free m w id limit).1;
+}
+make_rwl top h s who _ e a i = true_false e refl
+
+unissued_rwl : (h : ℕ) (s : State) (who : ℕ) (o : Op) (r : Reply) → Allows (row s who o r) r → (makes_object kind.Rwl o && is_handle h r) ≡ false → listed h (after_row s (row s who o r)).rwls ≡ listed h s.rwls
+unissued_rwl h s who (op.RwlCreate id limit) r a n = create_lists Rwls keyed_rwls s who h (rwl_create_refusals limit) (new_rwl id limit) r n a
+unissued_rwl h s who o r a n = listed_same kind.Rwl h s (record { who = who; op = o; reply = r }) refl
+
+rwl_limited : (o : Op) → makes_object kind.Rwl o ≡ true → (n : ℕ) × (limit_of o ≡ Some n)
+rwl_limited (op.RwlCreate id limit) e = (limit, refl)
+rwl_limited _ e = true_false e refl
+
 -- The law
 
-abbrev NewRwl : ℕ → ℕ → State → Type 0
-NewRwl top h t = New (rwl_lock top) (λ s. s.rwls) (λ m. gets_rwl h m) (λ m. gives_rwl h m) h (once_next kind.Rwl) (λ s e. listed_next kind.Rwl s e h) (λ s e i. rwl_step top h s e.who e.op e.reply i.allowed) t
-
-abbrev MadeRwl : ℕ → Op → State → Type 0
-MadeRwl h o t = (top : ℕ) → rwl_limit o ≡ Some top → NewRwl top h t
-
-make_rwl : (h : ℕ) (s : State) (who : ℕ) (o : Op) → makes_object kind.Rwl o ≡ true → Allows (row s who o (Handle h)) (Handle h) → MadeRwl h o (after_row s (row s who o (Handle h)))
-make_rwl h s who (op.RwlCreate id limit) e a =
-    λ top i. let v = on_create Rwls keyed_rwls s who h (rwl_create_refusals limit) (new_rwl id limit) (λ j. absurd (cc)) (λ j. absurd (cc)) a in record {
-      some = v.1;
-      fit = subst (FitIn (rwl_lock top)) (sym v.0) (subst (λ (n : ℕ). Fit n (new_rwl id limit)) (some_same i) (new_fit id limit));
-      none = λ m. ap (λ (p : Option Rwl). count_in (rwl_lock top) m p) v.0 ∙ (new_free m 0 id limit).0;
-      free = λ m w. ap (λ (p : Option Rwl). has_in (rwl_lock top) m w p) v.0 ∙ (new_free m w id limit).1;
-    }
-make_rwl h s who _ e a = true_false e refl
+rwl_kind : (h : ℕ) → Kind kind.Rwl rwl_lock (gets_rwl h) (gives_rwl h) h
+rwl_kind h = record {
+  step = λ top s e i. rwl_step top h s e.who e.op e.reply i.allowed;
+  make = λ top. make_rwl top h;
+  quiet = λ s e i n m. rwl_misses h m s e.who e.op e.reply i.allowed n;
+  unissued = λ s e i n. unissued_rwl h s e.who e.op e.reply i.allowed n;
+  limited = rwl_limited;
+}
 
 one_most : (b : Bool) → one_if b ≤ 1
 one_most true = omega arith
@@ -85,11 +99,18 @@ by_lock top h B (Some x) f k = by_writer (is_some x.writer) refl
         inr (record { writer = let e : entries_that (gives_rwl h true) B + one_if (is_some x.writer) ≡ entries_that (gets_rwl h true) B = k true in omega arith; readers = let e = k false in omega arith })
 
 pub rwls_keep_to : (terms : Terms) (es : List NodeEntry) → Legal terms es → RwlsKeepTo es
-rwls_keep_to terms es legal A B R e h limit cut i l =
-    let end : Option Rwl = live_object (after_from (next (after terms A) e) B).rwls h in
-    let k = counts_after (rwl_lock limit) (λ s. s.rwls) (λ m. gets_rwl h m) (λ m. gives_rwl h m) h (once_next kind.Rwl) (λ s e. listed_next kind.Rwl s e h) (λ s e i. rwl_step limit h s e.who e.op e.reply i.allowed)
-    terms es A B R e legal cut (along (λ t. OnceIn t.rwls) (once_move kind.Rwl) (opening terms) A (once_none Rwl)) (λ n. issued_as kind.Rwl h (after terms A) (MadeRwl h) (make_rwl h (after terms A)) e n i limit l) in record {
-      each = λ m w. let c : entries_that (by_seat w (gives_rwl h m)) B + has_in (rwl_lock limit) m w end ≡ entries_that (by_seat w (gets_rwl h m)) B = k.each m w in omega arith;
-      once = λ m w. let n = at_most_one limit m w end in let c : entries_that (by_seat w (gives_rwl h m)) B + has_in (rwl_lock limit) m w end ≡ entries_that (by_seat w (gets_rwl h m)) B = k.each m w in omega arith;
-      held = by_lock limit h B end k.fit (λ m. k.all m);
-    }
+rwls_keep_to terms es legal L R h cut = record {
+  each = λ m w. let k = any in
+      let e : entries_that (by_seat w (gives_rwl h m)) L + has_in (rwl_lock k.0) m w k.1 ≡ entries_that (by_seat w (gets_rwl h m)) L = k.2.each m w in omega arith;
+  once = λ m w. let k = any in
+      let n = at_most_one k.0 m w k.1 in
+      let e : entries_that (by_seat w (gives_rwl h m)) L + has_in (rwl_lock k.0) m w k.1 ≡ entries_that (by_seat w (gets_rwl h m)) L = k.2.each m w in omega arith;
+  unmade = λ n m. none_got kind.Rwl rwl_lock (gets_rwl h) (gives_rwl h) h (rwl_kind h) terms L front n m;
+  held = λ limit d. let k = counts_with kind.Rwl rwl_lock (gets_rwl h) (gives_rwl h) h (rwl_kind h) terms L limit front d in by_lock limit h L k.0 k.1.fit (λ m. k.1.all m);
+}
+  where
+    front : Legal terms L
+    front = Legal-prefix terms L R (subst (Legal terms) cut legal)
+
+    any : (top : ℕ) × (p : Option Rwl) × Counts (rwl_lock top) (gets_rwl h) (gives_rwl h) L p
+    any = counts_any kind.Rwl rwl_lock (gets_rwl h) (gives_rwl h) h (rwl_kind h) terms L front

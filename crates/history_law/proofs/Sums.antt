@@ -1,7 +1,7 @@
 -- Sums over listed tasks, and the records of handles, after a change of the list.
 use Rattle.std.proofs.Common.{◌≡◌, ℕ, ◌+◌, suc, zero, Bool, true, false, cond, List, [], ◌∷◌, Option, Some, None, refl, sym, ◌∙◌, ap, arith}
 use Rattle.std.specs.Prelude.{◌==◌, ◌&&◌, is_some, ℤ, pos, ◌+ℤ◌, slice_index_or, replicate, option_map}
-use Rattle.std.proofs.lemmas.Bool.{eqb-true, eq-eqb}
+use Rattle.std.proofs.lemmas.Bool.{eqb-true, eq-eqb, cond_both}
 use Rattle.std.proofs.Math.IntN.{+ℤ_comm, +ℤ_assoc}
 use Rattle.mtapi_values.specs.declared.ends.TaskEnd.{TaskEnd}
 use Rattle.handle_pool.specs.Issued.{Listed, live_of, live_object, listed, change, change_all, issue, update, with_fields}
@@ -9,10 +9,11 @@ use Rattle.mtapi_objects.specs.Tasks.{Task, Ended, with_state, ended, end_each}
 use Rattle.mtapi_machine.proofs.Changes.{some_same, at-update}
 use Rattle.history_law.specs.Tally.{record_of, sum_of}
 use Rattle.history_law.proofs.Answered.{true_false}
-use Rattle.history_law.proofs.Handles.{OnceIn, once_rest, listed_change, once_same}
+use Rattle.history_law.proofs.Handles.{OnceIn, once_rest, listed_change, once_same, head_apart}
 use Rattle.history_law.proofs.Every.{Every}
-use Rattle.history_law.proofs.Found.{at_skip, at_dead, at_here}
+use Rattle.history_law.proofs.Found.{at_skip, at_dead, at_here, at_head, at_past}
 use Rattle.history_law.proofs.Firsts.{head_alone}
+use Rattle.mtapi_machine.proofs.Made.{fst_true, snd_true}
 
 -- Sums
 
@@ -28,52 +29,28 @@ head_more a b d s e = ap (λ (z : ℤ). z +ℤ s) e ∙ (+ℤ_assoc b d s ∙ (a
 pub sum_more : (f : Task → ℤ) (d : ℤ) (j : ℕ) (g : Listed Task → Listed Task) (l : List (Listed Task)) (x : Task) → live_object l j ≡ Some x → ((r : Listed Task) → r.fields ≡ x → f (g r).fields ≡ f r.fields +ℤ d) → sum_of f (change j g l) ≡ sum_of f l +ℤ d
 unfolding live_of change
 sum_more f d j g [] x e k = absurd (cc)
-sum_more f d j g (r ∷ rs) x e k = by_live r.live refl (λ i. sum_more f d j g rs x i k)
-  where
-    rest : sum_of f (change j g rs) ≡ sum_of f rs +ℤ d → f r.fields +ℤ sum_of f (change j g rs) ≡ (f r.fields +ℤ sum_of f rs) +ℤ d
-    rest i = ap (λ (z : ℤ). f r.fields +ℤ z) i ∙ sym (+ℤ_assoc (f r.fields) (sum_of f rs) d)
-
-    by_hand : r.live ≡ true → (b : Bool) → (r.handle == j) ≡ b → (live_object rs j ≡ Some x → sum_of f (change j g rs) ≡ sum_of f rs +ℤ d) → sum_of f (cond b (g r ∷ rs) (r ∷ change j g rs)) ≡ (f r.fields +ℤ sum_of f rs) +ℤ d
-    by_hand a true i h = head_more _ (f r.fields) d (sum_of f rs) (k r (some_same (sym (at_here r rs j a i) ∙ e)))
-    by_hand a false i h = rest (h (sym (at_skip r rs j i) ∙ e))
-
-    by_live : (b : Bool) → r.live ≡ b → (live_object rs j ≡ Some x → sum_of f (change j g rs) ≡ sum_of f rs +ℤ d) → sum_of f (cond (b && (r.handle == j)) (g r ∷ rs) (r ∷ change j g rs)) ≡ (f r.fields +ℤ sum_of f rs) +ℤ d
-    by_live true a h = by_hand a (r.handle == j) refl h
-    by_live false a h = rest (h (sym (at_dead r rs j a) ∙ e))
+sum_more f d j g (r ∷ rs) x e k = cond_both (r.live && (r.handle == j)) (g r ∷ rs) (r ∷ change j g rs) (λ m. sum_of f m ≡ (f r.fields +ℤ sum_of f rs) +ℤ d)
+    (λ c. head_more _ (f r.fields) d (sum_of f rs) (k r (some_same (sym (at_here r rs j (fst_true r.live _ c) (snd_true r.live _ c)) ∙ e))))
+    (λ c. ap (λ (z : ℤ). f r.fields +ℤ z) (sum_more f d j g rs x (sym (at_past r rs j c) ∙ e) k) ∙ sym (+ℤ_assoc (f r.fields) (sum_of f rs) d))
 
 pub sum_change : (f : Task → ℤ) (j : ℕ) (g : Listed Task → Listed Task) (l : List (Listed Task)) → ((r : Listed Task) → live_object l j ≡ Some r.fields → f (g r).fields ≡ f r.fields) → sum_of f (change j g l) ≡ sum_of f l
 unfolding live_of change
 sum_change f j g [] k = refl
-sum_change f j g (r ∷ rs) k = by_live r.live refl (λ h. sum_change f j g rs h)
-  where
-    later : (live_object rs j ≡ live_object (r ∷ rs) j) → (((q : Listed Task) → live_object rs j ≡ Some q.fields → f (g q).fields ≡ f q.fields) → sum_of f (change j g rs) ≡ sum_of f rs) → f r.fields +ℤ sum_of f (change j g rs) ≡ f r.fields +ℤ sum_of f rs
-    later i h = ap (λ (z : ℤ). f r.fields +ℤ z) (h (λ q a. k q (sym i ∙ a)))
-
-    by_hand : r.live ≡ true → (b : Bool) → (r.handle == j) ≡ b → (((q : Listed Task) → live_object rs j ≡ Some q.fields → f (g q).fields ≡ f q.fields) → sum_of f (change j g rs) ≡ sum_of f rs) → sum_of f (cond b (g r ∷ rs) (r ∷ change j g rs)) ≡ f r.fields +ℤ sum_of f rs
-    by_hand a true i h = ap (λ (z : ℤ). z +ℤ sum_of f rs) (k r (at_here r rs j a i))
-    by_hand a false i h = later (sym (at_skip r rs j i)) h
-
-    by_live : (b : Bool) → r.live ≡ b → (((q : Listed Task) → live_object rs j ≡ Some q.fields → f (g q).fields ≡ f q.fields) → sum_of f (change j g rs) ≡ sum_of f rs) → sum_of f (cond (b && (r.handle == j)) (g r ∷ rs) (r ∷ change j g rs)) ≡ f r.fields +ℤ sum_of f rs
-    by_live true a h = by_hand a (r.handle == j) refl h
-    by_live false a h = later (sym (at_dead r rs j a)) h
+sum_change f j g (r ∷ rs) k = cond_both (r.live && (r.handle == j)) (g r ∷ rs) (r ∷ change j g rs) (λ m. sum_of f m ≡ f r.fields +ℤ sum_of f rs)
+    (λ c. ap (λ (z : ℤ). z +ℤ sum_of f rs) (k r (at_here r rs j (fst_true r.live _ c) (snd_true r.live _ c)))) (λ c. ap (λ (z : ℤ). f r.fields +ℤ z) (sum_change f j g rs (λ q a. k q (at_past r rs j c ∙ a))))
 
 pub sum_all : (f : Task → ℤ) (p : Task → Bool) (g : Listed Task → Listed Task) (l : List (Listed Task)) → ((r : Listed Task) → f (g r).fields ≡ f r.fields) → sum_of f (change_all p g l) ≡ sum_of f l
 unfolding change_all
 sum_all f p g [] k = refl
-sum_all f p g (r ∷ rs) k = by_test (r.live && p r.fields) ∙ ap (λ (z : ℤ). f r.fields +ℤ z) (sum_all f p g rs k)
-  where
-    by_test : (b : Bool) → f (cond b (g r) r).fields +ℤ sum_of f (change_all p g rs) ≡ f r.fields +ℤ sum_of f (change_all p g rs)
-    by_test true = ap (λ (z : ℤ). z +ℤ sum_of f (change_all p g rs)) (k r)
-    by_test false = refl
+sum_all f p g (r ∷ rs) k =
+    cond_both (r.live && p r.fields) (g r) r (λ q. f q.fields +ℤ sum_of f (change_all p g rs) ≡ f r.fields +ℤ sum_of f (change_all p g rs)) (λ c. ap (λ (z : ℤ). z +ℤ sum_of f (change_all p g rs)) (k r)) (λ c. refl)
+    ∙ ap (λ (z : ℤ). f r.fields +ℤ z) (sum_all f p g rs k)
 
 pub sum_ends : (f : Task → ℤ) (p : Task → Bool) (e : TaskEnd) (n : ℕ) (l : List (Listed Task)) → ((t : Task) (k : ℕ) → f (with_state (Ended e k) t) ≡ f t) → sum_of f (end_each p e n l) ≡ sum_of f l
 unfolding end_each
 sum_ends f p e n [] k = refl
-sum_ends f p e n (r ∷ rs) k = by_test (r.live && p r.fields) (sum_ends f p e n rs k) (sum_ends f p e (n + 1) rs k)
-  where
-    by_test : (b : Bool) → sum_of f (end_each p e n rs) ≡ sum_of f rs → sum_of f (end_each p e (n + 1) rs) ≡ sum_of f rs → sum_of f (cond b (ended e n r ∷ end_each p e (n + 1) rs) (r ∷ end_each p e n rs)) ≡ f r.fields +ℤ sum_of f rs
-    by_test true x y = ap (λ (z : ℤ). z +ℤ sum_of f (end_each p e (n + 1) rs)) (k r.fields n) ∙ ap (λ (z : ℤ). f r.fields +ℤ z) y
-    by_test false x y = ap (λ (z : ℤ). f r.fields +ℤ z) x
+sum_ends f p e n (r ∷ rs) k = cond_both (r.live && p r.fields) (ended e n r ∷ end_each p e (n + 1) rs) (r ∷ end_each p e n rs) (λ m. sum_of f m ≡ f r.fields +ℤ sum_of f rs)
+    (λ c. ap (λ (z : ℤ). z +ℤ sum_of f (end_each p e (n + 1) rs)) (k r.fields n) ∙ ap (λ (z : ℤ). f r.fields +ℤ z) (sum_ends f p e (n + 1) rs k)) (λ c. ap (λ (z : ℤ). f r.fields +ℤ z) (sum_ends f p e n rs k))
 
 pub sum_none : (f : Task → ℤ) (l : List (Listed Task)) → Every (λ t. f t ≡ pos 0) l → sum_of f l ≡ pos 0
 sum_none f [] a = refl
@@ -89,20 +66,12 @@ module _ {T : Type 0} where
   pub record_none : (h : ℕ) (l : List (Listed T)) → listed h l ≡ 0 → record_of l h ≡ None
   unfolding listed record_of
   record_none h [] n = refl
-  record_none h (r ∷ rs) n = by_hand (r.handle == h) n (record_none h rs)
-    where
-      by_hand : (b : Bool) → cond {A = ℕ} b 1 0 + listed h rs ≡ 0 → (listed h rs ≡ 0 → record_of rs h ≡ None) → cond b (Some r.fields) (record_of rs h) ≡ None
-      by_hand true n k = absurd (omega arith)
-      by_hand false n k = k (omega arith)
+  record_none h (r ∷ rs) n = let a = head_apart h r rs n in ap (λ (b : Bool). cond b (Some r.fields) (record_of rs h)) a.0 ∙ record_none h rs a.1
 
   pub record_new : (h : ℕ) (v : T) (l : List (Listed T)) → listed h l ≡ 0 → record_of (issue h v l) h ≡ Some v
   unfolding listed record_of issue
   record_new h v [] n = ap (λ (b : Bool). cond b (Some v) None) (eq-eqb h h refl)
-  record_new h v (r ∷ rs) n = by_hand (r.handle == h) n (record_new h v rs)
-    where
-      by_hand : (b : Bool) → cond {A = ℕ} b 1 0 + listed h rs ≡ 0 → (listed h rs ≡ 0 → record_of (issue h v rs) h ≡ Some v) → cond b (Some r.fields) (record_of (issue h v rs) h) ≡ Some v
-      by_hand true n k = absurd (omega arith)
-      by_hand false n k = k (omega arith)
+  record_new h v (r ∷ rs) n = let a = head_apart h r rs n in ap (λ (b : Bool). cond b (Some r.fields) (record_of (issue h v rs) h)) a.0 ∙ record_new h v rs a.1
 
   pub record_beside : (j h : ℕ) (v : T) (l : List (Listed T)) → (j == h) ≡ false → record_of (issue j v l) h ≡ record_of l h
   unfolding record_of issue
@@ -113,33 +82,17 @@ module _ {T : Type 0} where
   pub record_other : (j h : ℕ) (f : Listed T → Listed T) (l : List (Listed T)) → ((r : Listed T) → (f r).handle ≡ r.handle) → (j == h) ≡ false → record_of (change j f l) h ≡ record_of l h
   unfolding record_of change
   record_other j h f [] k n = refl
-  record_other j h f (r ∷ rs) k n = by_test (r.live && (r.handle == j)) refl (record_other j h f rs k n)
-    where
-      snd : (a b : Bool) → (a && b) ≡ true → b ≡ true
-      snd true b e = e
-      snd false b e = true_false e refl
-
-      by_test : (b : Bool) → (r.live && (r.handle == j)) ≡ b → record_of (change j f rs) h ≡ record_of rs h → record_of (cond b (f r ∷ rs) (r ∷ change j f rs)) h ≡ cond (r.handle == h) (Some r.fields) (record_of rs h)
-      by_test true i e =
-          let a : (r.handle == h) ≡ false = ap (λ (z : ℕ). z == h) (eqb-true r.handle j (snd r.live _ i)) ∙ n in
-          ap (λ (b : Bool). cond b (Some (f r).fields) (record_of rs h)) (ap (λ (z : ℕ). z == h) (k r) ∙ a) ∙ sym (ap (λ (b : Bool). cond b (Some r.fields) (record_of rs h)) a)
-      by_test false i e = ap (λ (o : Option T). cond (r.handle == h) (Some r.fields) o) e
+  record_other j h f (r ∷ rs) k n = cond_both (r.live && (r.handle == j)) (f r ∷ rs) (r ∷ change j f rs) (λ m. record_of m h ≡ record_of (r ∷ rs) h)
+      (λ c.
+      let a : (r.handle == h) ≡ false = ap (λ (z : ℕ). z == h) (eqb-true r.handle j (snd_true r.live _ c)) ∙ n in
+      ap (λ (b : Bool). cond b (Some (f r).fields) (record_of rs h)) (ap (λ (z : ℕ). z == h) (k r) ∙ a) ∙ sym (ap (λ (b : Bool). cond b (Some r.fields) (record_of rs h)) a))
+      (λ c. ap (λ (o : Option T). cond (r.handle == h) (Some r.fields) o) (record_other j h f rs k n))
 
   pub record_at : (h : ℕ) (x : T) (l : List (Listed T)) → OnceIn l → live_object l h ≡ Some x → record_of l h ≡ Some x
   unfolding record_of live_of
   record_at h x [] o e = absurd (cc)
-  record_at h x (r ∷ rs) o e = by_live r.live refl (record_at h x rs (once_rest r rs o))
-    where
-      behind : live_object rs h ≡ Some x → (live_object rs h ≡ Some x → record_of rs h ≡ Some x) → cond (r.handle == h) (Some r.fields) (record_of rs h) ≡ Some x
-      behind i k = ap (λ (b : Bool). cond b (Some r.fields) (record_of rs h)) (head_alone r rs h o (ap is_some i)) ∙ k i
-
-      by_hand : r.live ≡ true → (b : Bool) → (r.handle == h) ≡ b → (live_object rs h ≡ Some x → record_of rs h ≡ Some x) → cond b (Some r.fields) (record_of rs h) ≡ Some x
-      by_hand a true i k = sym (at_here r rs h a i) ∙ e
-      by_hand a false i k = k (sym (at_skip r rs h i) ∙ e)
-
-      by_live : (b : Bool) → r.live ≡ b → (live_object rs h ≡ Some x → record_of rs h ≡ Some x) → cond (r.handle == h) (Some r.fields) (record_of rs h) ≡ Some x
-      by_live true a k = by_hand a (r.handle == h) refl k
-      by_live false a k = behind (sym (at_dead r rs h a) ∙ e) k
+  record_at h x (r ∷ rs) o e = at_head r h (λ a b. ap (λ (c : Bool). cond c (Some r.fields) (record_of rs h)) b ∙ (sym (at_here r rs h a b) ∙ e))
+      (λ n. let i : live_object rs h ≡ Some x = sym (at_past r rs h n) ∙ e in ap (λ (b : Bool). cond b (Some r.fields) (record_of rs h)) (head_alone r rs h o (ap is_some i)) ∙ record_at h x rs (once_rest r rs o) i)
 
   pub record_updated : (h : ℕ) (f : T → T) (x : T) (l : List (Listed T)) → OnceIn l → live_object l h ≡ Some x → record_of (update h f l) h ≡ Some (f x)
   record_updated h f x l o e = record_at h (f x) (update h f l) (once_same l (update h f l) (λ j. listed_change j h (with_fields f) l (λ r. refl)) o) (at-update h f x l e)
@@ -149,7 +102,8 @@ module _ {T : Type 0} where
       → option_map V (record_of (change j f l) h) ≡ option_map V (record_of l h)
   unfolding record_of change
   record_view V j h f [] k v = refl
-  record_view V j h f (r ∷ rs) k v = by_test (r.live && (r.handle == j)) (record_view V j h f rs k v)
+  record_view V j h f (r ∷ rs) k v = cond_both (r.live && (r.handle == j)) (f r ∷ rs) (r ∷ change j f rs) (λ m. option_map V (record_of m h) ≡ option_map V (record_of (r ∷ rs) h))
+      (λ c. ap (λ (z : ℕ). option_map V (cond (z == h) (Some (f r).fields) (record_of rs h))) (k r) ∙ by_head (r.handle == h)) (λ c. by_hand (r.handle == h) (record_view V j h f rs k v))
     where
       by_hand : (b : Bool) → option_map V (record_of (change j f rs) h) ≡ option_map V (record_of rs h) → option_map V (cond b (Some r.fields) (record_of (change j f rs) h)) ≡ option_map V (cond b (Some r.fields) (record_of rs h))
       by_hand true e = refl
@@ -158,10 +112,6 @@ module _ {T : Type 0} where
       by_head : (b : Bool) → option_map V (cond b (Some (f r).fields) (record_of rs h)) ≡ option_map V (cond b (Some r.fields) (record_of rs h))
       by_head true = ap Some (v r)
       by_head false = refl
-
-      by_test : (b : Bool) → option_map V (record_of (change j f rs) h) ≡ option_map V (record_of rs h) → option_map V (record_of (cond b (f r ∷ rs) (r ∷ change j f rs)) h) ≡ option_map V (cond (r.handle == h) (Some r.fields) (record_of rs h))
-      by_test true e = ap (λ (z : ℕ). option_map V (cond (z == h) (Some (f r).fields) (record_of rs h))) (k r) ∙ by_head (r.handle == h)
-      by_test false e = by_hand (r.handle == h) e
 
 -- Cells
 

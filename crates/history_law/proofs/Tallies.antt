@@ -1,7 +1,7 @@
 -- The sum that a cell holds after tallies.
 use Rattle.std.proofs.Common.{◌≡◌, ℕ, ◌+◌, ◌<◌, ◌≤◌, Bool, true, false, cond, List, [], ◌∷◌, Option, Some, None, refl, sym, ◌∙◌, ap, subst, arith}
 use Rattle.std.specs.Prelude.{◌==◌, ◌&&◌, not, nat_lt, is_some, is_none, length, ℤ, pos, slice_set, slice_index_or, replicate, option_map}
-use Rattle.std.proofs.lemmas.Bool.{eqb-true, eq-eqb}
+use Rattle.std.proofs.lemmas.Bool.{eqb-true, eq-eqb, cond_both, false_from_ne_true, true_from_ne_false}
 use Rattle.mtapi_values.specs.Conditions.{holds}
 use Rattle.mtapi_values.specs.declared.handles.TaskHandle.{TaskHandle}
 use Rattle.mtapi_values.specs.declared.statuses.MtapiStatus.{MtapiStatus}
@@ -20,12 +20,12 @@ use Rattle.mtapi_machine.specs.Row.{Allows, moves_of}
 use Rattle.mtapi_machine.specs.Rows.{row}
 use Rattle.mtapi_machine.specs.TallyRows.{takes_both, locks}
 use Rattle.mtapi_machine.specs.Laws.{IsMade}
-use Rattle.mtapi_machine.proofs.Made.{AllGives, given, on_live}
+use Rattle.mtapi_machine.proofs.Made.{AllGives, given, on_live, fst_true, snd_true}
 use Rattle.mtapi_machine.proofs.Changes.{at-update, some_same}
 use Rattle.history_law.specs.Tally.{record_of, adds_to, sum_of}
 use Rattle.history_law.proofs.Accepted.{shown}
 use Rattle.history_law.proofs.Handles.{OnceIn}
-use Rattle.history_law.proofs.Found.{at_skip, at_dead, at_here, count_changed, count_issued}
+use Rattle.history_law.proofs.Found.{at_skip, at_dead, at_here, count_changed, count_issued, at_past}
 use Rattle.history_law.proofs.Held.{DeadEnded}
 use Rattle.history_law.proofs.Every.{Every, every_change, every_map, always}
 use Rattle.history_law.proofs.SeatMoves.{May}
@@ -45,39 +45,25 @@ pub every_alone : (P Q : Task → Type 0) (w j : ℕ) (f : Listed Task → Liste
     → ((u : Task) → runs_on w u ≡ false → P u → Q u) → ((r : Listed Task) → r.fields ≡ x → P r.fields → Q (f r).fields) → Every P l → Every Q (change j f l)
 unfolding live_of change
 every_alone P Q w j f [] x e k c d g h a = tt
-every_alone P Q w j f (r ∷ rs) x e k c d g h a = by_live r.live refl d.0 c (λ i n. every_alone P Q w j f rs x i k n d.1 g h a.1)
+every_alone P Q w j f (r ∷ rs) x e k c d g h a = cond_both (r.live && (r.handle == j)) (f r ∷ rs) (r ∷ change j f rs) (Every Q)
+    (λ i.
+    let v : r.live ≡ true = fst_true r.live _ i in
+    let same : r.fields ≡ x = some_same (sym (at_here r rs j v (snd_true r.live _ i)) ∙ e) in
+    let o : cond {A = ℕ} (r.live && runs_on w r.fields) 1 0 ≡ 1 = (λ z. cond {A = ℕ} (v z && runs_on w (same z)) 1 0) ∙ ap (λ (b : Bool). cond {A = ℕ} b 1 0) k in
+    let z : count_listed (runs_on w) rs ≡ 0 = omega arith in
+    (h r same a.0, every_map (λ u. runs_on w u ≡ false) P Q rs (λ u b q. g u b q) (none_runs w rs d.1 z) a.1))
+    (λ i. let behind : live_object rs j ≡ Some x = sym (at_past r rs j i) ∙ e in (g r.fields (past behind) a.0, every_alone P Q w j f rs x behind k (omega arith) d.1 g h a.1))
   where
-    rest : (b : Bool) → cond {A = ℕ} b 1 0 + count_listed (runs_on w) rs ≤ 1 → count_listed (runs_on w) rs ≤ 1
-    rest b n = omega arith
-
     -- the head is another one than the one that is found behind it
-    past : r.live ≡ true → live_object rs j ≡ Some x → cond {A = ℕ} (r.live && runs_on w r.fields) 1 0 + count_listed (runs_on w) rs ≤ 1 → runs_on w r.fields ≡ false
-    past v i n = by_runs (runs_on w r.fields) refl
+    past : live_object rs j ≡ Some x → runs_on w r.fields ≡ false
+    past i = false_from_ne_true (runs_on w r.fields) (by_live r.live refl)
       where
-        by_runs : (b : Bool) → runs_on w r.fields ≡ b → b ≡ false
-        by_runs false q = refl
-        by_runs true q =
+        by_live : (b : Bool) → r.live ≡ b → runs_on w r.fields ≡ true → ⊥
+        by_live true v q =
             let m : 1 ≤ count_listed (runs_on w) rs = found_count (runs_on w) rs j x i k in
             let o : cond {A = ℕ} (r.live && runs_on w r.fields) 1 0 ≡ 1 = (λ z. cond {A = ℕ} (v z && q z) 1 0) in
-            absurd (omega arith)
-
-    by_hand : r.live ≡ true → (b : Bool) → (r.handle == j) ≡ b → cond {A = ℕ} (r.live && runs_on w r.fields) 1 0 + count_listed (runs_on w) rs ≤ 1 → (live_object rs j ≡ Some x → count_listed (runs_on w) rs ≤ 1 → Every Q (change j f rs)) → Every Q (cond b (f r ∷ rs) (r ∷ change j f rs))
-    by_hand v true i n m =
-        let same : r.fields ≡ x = some_same (sym (at_here r rs j v i) ∙ e) in
-        let o : cond {A = ℕ} (r.live && runs_on w r.fields) 1 0 ≡ 1 = (λ z. cond {A = ℕ} (v z && runs_on w (same z)) 1 0) ∙ ap (λ (b : Bool). cond {A = ℕ} b 1 0) k in
-        let z : count_listed (runs_on w) rs ≡ 0 = omega arith in
-        (h r same a.0, every_map (λ u. runs_on w u ≡ false) P Q rs (λ u b c. g u b c) (none_runs w rs d.1 z) a.1)
-    by_hand v false i n m =
-        let behind : live_object rs j ≡ Some x = sym (at_skip r rs j i) ∙ e in
-        (g r.fields (past v behind n) a.0, m behind (rest _ n))
-
-    by_live : (b : Bool) → r.live ≡ b → (r.live ≡ false → is_unended r.fields ≡ false) → cond {A = ℕ} (r.live && runs_on w r.fields) 1 0 + count_listed (runs_on w) rs ≤ 1 → (live_object rs j ≡ Some x → count_listed (runs_on w) rs ≤ 1 → Every Q (change j f rs)) → Every Q (cond (b && (r.handle == j)) (f r ∷ rs) (r ∷ change j f rs))
-    by_live true v o n m = by_hand v (r.handle == j) refl n m
-    by_live false v o n m = (g r.fields (runs_over w r.fields (o v)) a.0, m (sym (at_dead r rs j v) ∙ e) (rest _ n))
-
-pub off_when : (b : Bool) → (b ≡ true → ⊥) → b ≡ false
-off_when true f = absurd (f refl)
-off_when false f = refl
+            omega arith
+        by_live false v q = true_false q (runs_over w r.fields (d.0 v))
 
 -- a task that has begun and hasn't ended runs
 pub some_worker : (t : Task) → is_unended t ≡ true → is_unstarted t ≡ false → (w : ℕ) × (runs_on w t ≡ true)
@@ -89,11 +75,7 @@ some_worker t = by_state t.state
     by_state (Ended e n) a b = true_false a refl
 
 pub runs_unended : (w : ℕ) (t : Task) → runs_on w t ≡ true → is_unended t ≡ true
-runs_unended w t r = by_bool (is_unended t) refl
-  where
-    by_bool : (b : Bool) → is_unended t ≡ b → b ≡ true
-    by_bool true e = refl
-    by_bool false e = true_false r (runs_over w t e)
+runs_unended w t r = true_from_ne_false (is_unended t) (λ e. true_false r (runs_over w t e))
 
 abbrev pub HasId : ℕ → Mutex → Bool
 HasId i y = y.id == i
@@ -198,7 +180,7 @@ module _ (S C : ℕ) where
           let same : h ≡ S = eqb-true h S i in
           let none : listed S s.segments ≡ 0 = subst (λ (j : ℕ). listed j s.segments ≡ 0) same z in
           let now : cells_of S C (issue h x s.segments) ≡ Some (replicate k (pos 0)) = ap (λ (o : Option Segment). option_map (λ (y : Segment). y.cells) o) (subst (λ (j : ℕ). record_of (issue h x s.segments) j ≡ Some x) same (record_new h x s.segments z)) ∙ ap Some q in
-          let apart : Every (λ t. adds S C t.notes.tally t.args ≡ false) s.tasks = every_map (Each S C (λ a. 1 ≤ listed S s.segments)) (λ t. Unit {0}) (λ t. adds S C t.notes.tally t.args ≡ false) s.tasks (λ t a u. off_when _ (λ y. none_some (a y) none)) known (always s.tasks) in
+          let apart : Every (λ t. adds S C t.notes.tally t.args ≡ false) s.tasks = every_map (Each S C (λ a. 1 ≤ listed S s.segments)) (λ t. Unit {0}) (λ t. adds S C t.notes.tally t.args ≡ false) s.tasks (λ t a u. false_from_ne_true _ (λ y. none_some (a y) none)) known (always s.tasks) in
           let zero : sum_of (weight S C) s.tasks ≡ pos 0 = sum_none (weight S C) s.tasks (every_map (λ t. adds S C t.notes.tally t.args ≡ false) (λ t. Unit {0}) (λ t. weight S C t ≡ pos 0) s.tasks (λ t a u. weigh_off S C t.notes.tally t.args a) apart (always s.tasks)) in
           sum_cells s _ _ s.tasks (sym now)
           (λ j. (cell_new k C ∙ sym zero, every_map (λ t. adds S C t.notes.tally t.args ≡ false) (λ t. Unit {0}) (HasRead S C (sum_of (weight S C) s.tasks)) s.tasks (λ t a u b c d. true_false b a) apart (always s.tasks)))

@@ -1,7 +1,7 @@
 -- What each entry leaves of the sum that a cell holds, and so every list of entries.
 use Rattle.std.proofs.Common.{◌≡◌, ℕ, ◌<◌, ◌≤◌, Bool, true, false, cond, List, [], ◌∷◌, ◌++◌, Option, Some, None, refl, sym, ◌∙◌, ap, subst, arith}
 use Rattle.std.specs.Prelude.{◌==◌, ◌&&◌, ◌||◌, not, nat_lt, is_some, length, ℤ, pos, ◌+ℤ◌, slice_set, slice_index_or, option_map}
-use Rattle.std.proofs.lemmas.Bool.{eqb-true}
+use Rattle.std.proofs.lemmas.Bool.{eqb-true, false_from_ne_true}
 use Rattle.std.proofs.lemmas.Bool.Decides.{nat_tests, Decides-int_eq}
 use Rattle.std.proofs.lemmas.List.{append_assoc}
 use Rattle.std.proofs.Math.IntN.{+ℤ_idl}
@@ -43,7 +43,7 @@ use Rattle.history_law.proofs.Ties.{has_both, Owns, Tied, as_on}
 use Rattle.history_law.proofs.Exclusive.{Good, good_next, good_opening}
 use Rattle.history_law.proofs.Sums.{sum_more, sum_change, sum_same, record_at, record_updated}
 use Rattle.history_law.proofs.TallyMoves.{adds, past_read, weight, written, both_of, weigh_off, weigh_early, written_move, Each, each_move, HasRead, read_move, EndsRight, right_move, RightTies, cells_of, cells_move}
-use Rattle.history_law.proofs.Tallies.{every_alone, off_when, some_worker, runs_unended, HasId, one_owner, ids_move, asked_true, lock_each, cell_value, Sum, sum_keep, sum_cells, create_sum, other_cell}
+use Rattle.history_law.proofs.Tallies.{every_alone, some_worker, runs_unended, HasId, one_owner, ids_move, asked_true, lock_each, cell_value, Sum, sum_keep, sum_cells, create_sum, other_cell}
 use Rattle.std.proofs.lemmas.List.{length-set, get_or-set_same}
 
 module _ (S C id n : ℕ) where
@@ -190,7 +190,7 @@ module _ (S C id n : ℕ) where
         → runs_on who u ≡ false → Tied n s.mutexes u × Each S C (λ a. mutex_in (tally_args a) ≡ id) u → adds S C u.notes.tally u.args ≡ true → is_unended u ≡ true → ⊥
     alone x u a k i p q r b c =
         let both : has_both u.notes.tally ≡ true = both_of S C u.notes.tally u.args b in
-        let begun = off_when _ (λ e. true_false both (r.0.early e)) in
+        let begun = false_from_ne_true _ (λ e. true_false both (r.0.early e)) in
         let w = some_worker u c begun in
         let own : Owns w.0 id (live_object s.mutexes u.notes.tally.mutex) = subst (λ (j : ℕ). Owns w.0 j (live_object s.mutexes u.notes.tally.mutex)) (r.1 b) (r.0.tied w.0 w.1 both).1 in
         let owns : Owns who id (live_object s.mutexes x.notes.tally.mutex) = subst (λ (j : ℕ). Owns who j (live_object s.mutexes x.notes.tally.mutex)) p (i.tied who k (both_of S C x.notes.tally x.args a)).1 in
@@ -269,7 +269,7 @@ module _ (S C id n : ℕ) where
     sum_row (op.ShmemWrite x c value) r i f = by_ok (says_ok r) refl
       where
         other : ((x.0 == S) && (c == C)) && true ≡ false → ((x.0 == S) && (c == C)) ≡ false
-        other e = off_when _ (λ b. true_false (λ j. b j && true) e)
+        other e = false_from_ne_true _ (λ b. true_false (λ j. b j && true) e)
 
         by_ok : (b : Bool) → says_ok r ≡ b → Sum S C (cells_of S C (after_row s (row s who (op.ShmemWrite x c value) r)).segments) (after_row s (row s who (op.ShmemWrite x c value) r)).tasks
         by_ok false k = subst SumAfter (sym (given (Quiet says_ok) (row s who (op.ShmemWrite x c value) r) r (λ z j. refl) (write_quiet x c value r) i.allowed k)) v.sum

@@ -1,7 +1,7 @@
 -- A running tally that has its mutex owns it, and at most one task runs on a worker.
 use Rattle.std.proofs.Common.{◌≡◌, ℕ, ◌+◌, ◌<◌, ◌≤◌, Bool, true, false, cond, List, [], ◌∷◌, Option, Some, None, inl, inr, refl, sym, ◌∙◌, ap, subst, arith}
 use Rattle.std.specs.Prelude.{◌==◌, ◌&&◌, not, ℤ}
-use Rattle.std.proofs.lemmas.Bool.{eqb-true}
+use Rattle.std.proofs.lemmas.Bool.{eqb-true, false_from_ne_true}
 use Rattle.mtapi_values.specs.declared.kinds.Kind.{Kind}
 use Rattle.mtapi_values.specs.declared.kinds.Kind.TheVariants as kind
 use Rattle.mtapi_values.specs.declared.ends.TaskEnd.{TaskEnd}
@@ -87,14 +87,10 @@ module _ (n : ℕ) (ms : List (Listed Mutex)) where
 
   pub noted_tied : (f : Notes → Notes) (t : Task) → Follows t.notes.tally (f t.notes).tally → Tied n ms t → Tied n ms (with_notes f t)
   noted_tied f t k i = record {
-    early = λ u. by_both (has_both (f t.notes).tally) refl u;
+    early = λ u. false_from_ne_true (has_both (f t.notes).tally) (λ e. true_false (k.before e) (i.early u));
     tied = λ w r b. let x = i.tied w r (k.before b) in (x.0, subst (λ (h : ℕ). Owns w (id_in t) (live_object ms h)) (sym (k.mutex b)) x.1);
     kind = λ w r b. i.kind w r (k.before b);
   }
-    where
-      by_both : (b : Bool) → has_both (f t.notes).tally ≡ b → is_unstarted t ≡ true → b ≡ false
-      by_both true e u = true_false (k.before e) (i.early u)
-      by_both false e u = refl
 
   same_notes : (t : Task) (f : Task → Task) → (f t).state ≡ t.state → (f t).notes.tally ≡ t.notes.tally → (f t).args ≡ t.args → Tied n ms t → Tied n ms (f t)
   same_notes t f s e a i = record {

@@ -32,10 +32,7 @@ use Rattle.history_law.proofs.Ends.{grows_end}
 use Rattle.history_law.proofs.Records.{read_changed}
 use Rattle.history_law.proofs.Ordered.{end_found}
 use Rattle.history_law.proofs.Objects.{cut_from}
-use Rattle.history_law.proofs.Answered.{NoRefusal, answered_by, no_live, no_cond, gives_cond}
-
-none_some : {A B : Type 0} {x : A} → None ≡ Some x → B
-none_some e = absurd (cc)
+use Rattle.history_law.proofs.Answered.{NoRefusal, answered_by, no_live, no_cond, gives_cond, none_some}
 
 -- What a row answers with an end, where no refusal of it is one
 

@@ -1,5 +1,6 @@
 -- Mutexes, semaphores and reader-writer locks: how often looks got them, less how often they were given back.
 use Rattle.std.specs.Prelude.{◌≡◌, ℕ, ◌+◌, ◌≤◌, ◌<◌, Bool, true, false, not, ◌==◌, ◌&&◌, List, [], ◌∷◌, ◌++◌, Option, Some, None, ◌⊎◌, if◌then◌else◌}
+use Rattle.mtapi_values.specs.declared.handles.ObjectKind.{ObjectKind}
 use Rattle.mtapi_values.specs.declared.handles.ObjectKind.TheVariants as kind
 use Rattle.mtapi_values.specs.declared.handles.TaskHandle.{TaskHandle}
 use Rattle.history.specs.Histories.{entry}
@@ -108,19 +109,31 @@ gets_sem h e = looks_at_sem h e.op && says_ok e.reply
 abbrev pub gives_sem : ℕ → NodeEntry → Bool
 gives_sem h e = unlocks_sem h e.op && says_ok e.reply
 
--- the limit with which an op makes a semaphore
-abbrev pub sem_limit : Op → Option ℕ
-sem_limit (SemCreate id limit) = Some limit
-sem_limit _ = None
+-- the limit with which an op makes a semaphore or a reader-writer lock
+abbrev pub limit_of : Op → Option ℕ
+limit_of (SemCreate id limit) = Some limit
+limit_of (RwlCreate id limit) = Some limit
+limit_of _ = None
 
--- of these entries: no seat gives the semaphore back more often than its looks got it, and those that hold it are at most as many as the limit
-pub record SemKeepsTo (L : List NodeEntry) (h limit : ℕ) : Type 0 where
+-- one of these entries makes the object of this kind and handle, with this limit
+pub record MadeWith (k : ObjectKind) (L : List NodeEntry) (h limit : ℕ) : Type 0 where
+  pub before : List NodeEntry
+  pub by : NodeEntry
+  pub behind : List NodeEntry
+  pub cut : L ≡ before ++ by ∷ behind
+  pub issued : issues k h by ≡ true
+  pub limited : limit_of by.op ≡ Some limit
+
+-- after these entries: no seat gave the semaphore back more often than its looks got it; where none of them made it no look got it, and
+-- those that hold it are at most as many as the limit with which it was made
+pub record SemKeepsTo (L : List NodeEntry) (h : ℕ) : Type 0 where
   pub each : (w : ℕ) → entries_that (by_seat w (gives_sem h)) L ≤ entries_that (by_seat w (gets_sem h)) L
-  pub most : entries_that (gets_sem h) L ≤ limit + entries_that (gives_sem h) L
+  pub unmade : some_entry (issues kind.Sem h) L ≡ false → entries_that (gets_sem h) L ≡ 0
+  pub most : (limit : ℕ) → MadeWith kind.Sem L h limit → entries_that (gets_sem h) L ≤ limit + entries_that (gives_sem h) L
 
--- so it is at every moment after the entry that makes the semaphore
+-- so it is of every handle after every prefix
 abbrev pub SemsKeepTo : List NodeEntry → Type 0
-SemsKeepTo es = (A B R : List NodeEntry) (c : NodeEntry) (h limit : ℕ) → es ≡ A ++ c ∷ (B ++ R) → issues kind.Sem h c ≡ true → sem_limit c.op ≡ Some limit → SemKeepsTo B h limit
+SemsKeepTo es = (L R : List NodeEntry) (h : ℕ) → es ≡ L ++ R → SemKeepsTo L h
 
 -- Reader-writer locks: where `writer` is true it is asked of writers, else of readers
 
@@ -140,11 +153,6 @@ gets_rwl h writer e = looks_at_rwl h writer e.op && says_ok e.reply
 abbrev pub gives_rwl : ℕ → Bool → NodeEntry → Bool
 gives_rwl h writer e = unlocks_rwl h writer e.op && says_ok e.reply
 
--- the limit with which an op makes a reader-writer lock
-abbrev pub rwl_limit : Op → Option ℕ
-rwl_limit (RwlCreate id limit) = Some limit
-rwl_limit _ = None
-
 -- one writer holds the lock after these entries, and no reader
 pub record OneWriter (L : List NodeEntry) (h : ℕ) : Type 0 where
   pub writer : entries_that (gets_rwl h true) L ≡ entries_that (gives_rwl h true) L + 1
@@ -155,13 +163,14 @@ pub record ReadersAlone (L : List NodeEntry) (h limit : ℕ) : Type 0 where
   pub writer : entries_that (gets_rwl h true) L ≡ entries_that (gives_rwl h true) L
   pub readers : entries_that (gets_rwl h false) L ≤ limit + entries_that (gives_rwl h false) L
 
--- of these entries: in each mode no seat gives the lock back more often than its looks got it, nor holds it more than once; and it has
--- one writer or readers alone
-pub record RwlKeepsTo (L : List NodeEntry) (h limit : ℕ) : Type 0 where
+-- after these entries: in each mode no seat gave the lock back more often than its looks got it, nor holds it more than once; where none of
+-- them made it no look got it, and it has one writer or readers alone
+pub record RwlKeepsTo (L : List NodeEntry) (h : ℕ) : Type 0 where
   pub each : (writer : Bool) (w : ℕ) → entries_that (by_seat w (gives_rwl h writer)) L ≤ entries_that (by_seat w (gets_rwl h writer)) L
   pub once : (writer : Bool) (w : ℕ) → entries_that (by_seat w (gets_rwl h writer)) L ≤ entries_that (by_seat w (gives_rwl h writer)) L + 1
-  pub held : OneWriter L h ⊎ ReadersAlone L h limit
+  pub unmade : some_entry (issues kind.Rwl h) L ≡ false → (writer : Bool) → entries_that (gets_rwl h writer) L ≡ 0
+  pub held : (limit : ℕ) → MadeWith kind.Rwl L h limit → OneWriter L h ⊎ ReadersAlone L h limit
 
--- so it is at every moment after the entry that makes the lock
+-- so it is of every handle after every prefix
 abbrev pub RwlsKeepTo : List NodeEntry → Type 0
-RwlsKeepTo es = (A B R : List NodeEntry) (c : NodeEntry) (h limit : ℕ) → es ≡ A ++ c ∷ (B ++ R) → issues kind.Rwl h c ≡ true → rwl_limit c.op ≡ Some limit → RwlKeepsTo B h limit
+RwlsKeepTo es = (L R : List NodeEntry) (h : ℕ) → es ≡ L ++ R → RwlKeepsTo L h

@@ -1,5 +1,5 @@
 -- For each law a list that isn't legal, and that what the law says refuses.
-use Rattle.std.specs.Prelude.{Bool, true, false, List, [], ◌∷◌, ◌++◌, None, pos}
+use Rattle.std.specs.Prelude.{Bool, true, false, List, [], ◌∷◌, ◌++◌, None, pos, ℕ}
 use Rattle.mtapi_values.specs.declared.kinds.Kind.TheVariants as kind
 use Rattle.mtapi_values.specs.declared.handles.ObjectKind.TheVariants as object
 use Rattle.mtapi_values.specs.declared.handles.Layout.TheVariants.{Two}
@@ -137,6 +137,31 @@ looks_at_rwl writer = op.RwlLook (record { 0 = first_handle }) writer false
 abbrev pub reads_beside : List NodeEntry
 reads_beside = main (looks_at_rwl true) reply.Ok ∷ second (looks_at_rwl false) reply.Ok ∷ []
 
+-- three seats read in a lock of limit 2; one seat reads twice; a seat gives back what another got, or what nobody got; nobody has made it
+abbrev pub reads_by : ℕ → NodeEntry
+reads_by who = entry who (looks_at_rwl false) reply.Ok
+
+abbrev pub three_read : List NodeEntry
+three_read = makes_rwl ∷ reads_by 1 ∷ reads_by 2 ∷ reads_by 3 ∷ []
+
+abbrev pub one_reads_twice : List NodeEntry
+one_reads_twice = makes_rwl ∷ reads_by 1 ∷ reads_by 1 ∷ []
+
+abbrev pub gives_back_unread : List NodeEntry
+gives_back_unread = makes_rwl ∷ second (op.RwlUnlock (record { 0 = first_handle }) false) reply.Ok ∷ []
+
+abbrev pub reads_none : List NodeEntry
+reads_none = reads_by 1 ∷ []
+
+abbrev pub gives_anothers : List NodeEntry
+gives_anothers = makes_sem ∷ main looks_at_it reply.Ok ∷ second (op.SemUnlock (record { 0 = first_handle })) reply.Ok ∷ []
+
+abbrev pub gets_none : List NodeEntry
+gets_none = main looks_at_it reply.Ok ∷ []
+
+abbrev pub gives_unlocked : List NodeEntry
+gives_unlocked = main (op.MutexUnlock (record { 0 = first_handle }) 1) reply.Ok ∷ []
+
 -- a caller writes 9 to a cell, and is told that it has to wait; no tally has run
 abbrev pub the_segment : ShmemHandle
 the_segment = record { 0 = first_handle }
@@ -160,7 +185,14 @@ pub record LawsRefuse : Type 0 where
   pub ordered : RunsInOrder usual (two_put ++ picks_second) first_handle → ⊥
   pub mutexes : MutexesKeepTo usual both_own → ⊥
   pub tally_mutex : MutexesKeepTo two_workers beside_a_tally → ⊥
+  pub mutex_each : MutexesKeepTo usual gives_unlocked → ⊥
   pub sems : SemsKeepTo (makes_sem ∷ both_hold) → ⊥
+  pub sem_each : SemsKeepTo gives_anothers → ⊥
+  pub sem_unmade : SemsKeepTo gets_none → ⊥
   pub rwls : RwlsKeepTo (makes_rwl ∷ reads_beside) → ⊥
+  pub rwl_readers : RwlsKeepTo three_read → ⊥
+  pub rwl_once : RwlsKeepTo one_reads_twice → ⊥
+  pub rwl_each : RwlsKeepTo gives_back_unread → ⊥
+  pub rwl_unmade : RwlsKeepTo reads_none → ⊥
   pub tally : HoldsTheSum usual (written_untold ++ final_first) first_handle 0 → ⊥
   pub drop : DropsToSame usual final_first → ⊥

@@ -1,11 +1,11 @@
 -- For each law that serves the run in threads a list that it refuses. Some lists are legal and have what the law leaves out: the op that
--- moves the phase, or the entry of the seat itself. Three laws refuse a state.
+-- moves the phase, or the entry of the seat itself. Some laws refuse a state, or a reply.
 use Rattle.std.specs.Prelude.{true, false, List, [], ◌∷◌, ◌++◌, None, pos, replicate, slice_set}
 use Rattle.mtapi_values.specs.declared.kinds.Kind.TheVariants as kind
-use Rattle.mtapi_values.specs.declared.statuses.MtapiStatus.TheVariants.{Timeout}
+use Rattle.mtapi_values.specs.declared.statuses.MtapiStatus.TheVariants.{Timeout, ErrTaskInvalid}
 use Rattle.action_fn.specs.declared.finished.ActEnd.TheVariants.{Fails}
 use Rattle.handle_pool.specs.Issued.{Listed}
-use Rattle.mtapi_objects.specs.Tasks.{Task, new_task, with_notes}
+use Rattle.mtapi_objects.specs.Tasks.{Task, new_task, with_notes, no_tally}
 use Rattle.mtapi_machine.specs.declared.ops.Op.TheVariants as op
 use Rattle.mtapi_machine.specs.declared.replies.Reply.TheVariants as reply
 use Rattle.history.specs.Histories.{entry}
@@ -13,8 +13,13 @@ use Rattle.mtapi_machine.specs.State.{State, opening, seats}
 use Rattle.mtapi_machine.specs.Legal.{NodeEntry, after}
 use Rattle.mtapi_machine.specs.Worked.{usual, main, worker, first_handle, task, add_task, picks_first, finishes_first}
 use Rattle.history_law.specs.Accepted.{TasksEndOnce}
-use Rattle.history_law.specs.Seats.{OnceListed, KeepsWaiter, WorkerKeeps, EndsInTime, KeepsPhase, KeepsRelease, KeepsEarly, AreUntouched, KeepsStops, BySeats, EntersBehindRelease, FinalsBehindStops}
+use Rattle.history_law.specs.Seats.{OnceListed, KeepsWaiter, WorkerKeeps, EndsInTime, KeepsPhase, KeepsRelease, KeepsEarly, AreUntouched, KeepsStops, BySeats, EntersBehindRelease, FinalsBehindStops, KeepsOnce, Work, HasMarks}
 use Rattle.history_law.specs.Refused.{makes_action, too_early, final_first}
+use Rattle.mtapi_machine.specs.declared.ops.Op.{Op}
+use Rattle.history_law.specs.Served.{Serves}
+use Rattle.history_law.specs.TallyHolds.{TalliesHold}
+use Rattle.history_law.specs.WorkedSum.{two_workers, gets_both, begins}
+use Rattle.mtapi_machine.specs.Tables.{h1}
 
 -- a node with a task
 unfoldable pub started : List NodeEntry
@@ -69,12 +74,29 @@ has_looked = with_notes (λ n. record n { looks = 1 }) a_task
 abbrev pub has_stopped : State
 has_stopped = record (opening usual) { stopped = slice_set (replicate 25 false) 0 true }
 
+-- a state with no mark of a worker
+abbrev pub has_no_marks : State
+has_no_marks = record (opening usual) { stopped = [] }
+
+-- what the worker has of the task that it took, and the op that finishes it
+abbrev pub adding : Work
+adding = record { kind = kind.Add; args = pos 2 ∷ pos 3 ∷ []; looks = 0; seen = false; tally = no_tally }
+
+abbrev pub finishes_it : Op
+finishes_it = finishes_first.op
+
+-- a tally runs that has got its mutex and its segment
+abbrev pub has_got_both : State
+has_got_both = after two_workers (begins ++ gets_both 0 h1 ∷ [])
+
 -- each law refuses its list or state
 pub record RunLawsRefuse : Type 0 where
   pub accepted : TasksEndOnce usual too_early → ⊥
   pub once : OnceListed (with_tasks (listed_once a_task ∷ listed_once a_task ∷ [])) → ⊥
+  pub once_stays : KeepsOnce (with_tasks (listed_once a_task ∷ [])) (with_tasks (listed_once a_task ∷ listed_once a_task ∷ [])) → ⊥
   pub waiter : KeepsWaiter (after usual (started ++ waits)) looks_last 1 first_handle → ⊥
   pub work : WorkerKeeps (after usual (started ++ takes)) (after usual (started ++ (takes ++ ends))) 0 → ⊥
+  pub served : Serves (after usual (started ++ takes)) 0 (task first_handle) adding finishes_it (reply.Mtapi ErrTaskInvalid) → ⊥
   pub untouched : AreUntouched (with_tasks (listed_once has_looked ∷ [])) → ⊥
   pub seats : BySeats (seats (opening usual)) by_no_seat → ⊥
   pub late : EndsInTime (after usual (started ++ (takes ++ ends_late))) → ⊥
@@ -82,5 +104,8 @@ pub record RunLawsRefuse : Type 0 where
   pub release : KeepsRelease (opening usual) releases → ⊥
   pub early : KeepsEarly (opening usual) closes_it → ⊥
   pub stopped : KeepsStops has_stopped (opening usual) → ⊥
+  pub room : HasMarks has_no_marks → ⊥
   pub enter : EntersBehindRelease enters_first → ⊥
   pub final_step : FinalsBehindStops usual final_first → ⊥
+  pub tally_mutex : TalliesHold (record has_got_both { mutexes = [] }) → ⊥
+  pub tally_segment : TalliesHold (record has_got_both { segments = [] }) → ⊥

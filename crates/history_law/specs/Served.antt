@@ -28,6 +28,10 @@ abbrev pub IsServed : Op → Reply → Type 0
 IsServed (Finish u done) r = r ≡ Ok
 IsServed _ r = r ≡ Mtapi ErrTaskInvalid → ⊥
 
+-- what the worker asks of the task that it has is served by this reply
+abbrev pub Serves : State → ℕ → TaskHandle → Work → Op → Reply → Type 0
+Serves s w t x o r = Holds s w t.0 x → AsksOf t x o → IsServed o r
+
 -- so it is of every worker and the task that it has
 abbrev pub WorkIsServed : Type 0
-WorkIsServed = (s : State) (w : ℕ) (t : TaskHandle) (x : Work) (o : Op) (r : Reply) → w < workers s → Holds s w t.0 x → AsksOf t x o → IsNext s (entry w o r) → IsServed o r
+WorkIsServed = (s : State) (w : ℕ) (t : TaskHandle) (x : Work) (o : Op) (r : Reply) → w < workers s → IsNext s (entry w o r) → Serves s w t x o r

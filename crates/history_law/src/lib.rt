@@ -21,11 +21,6 @@ ghost use Rattle.history_law.specs.Served.{WorkIsServed};
 ghost use Rattle.history_law.specs.Worked.{OneTaskEnds};
 ghost use Rattle.history_law.specs.WorkedSum.{TalliesAddUp};
 
-#[cfg(test)]
-mod histories;
-#[cfg(test)]
-mod tests;
-
 use mtapi_machine::Entry;
 use mtapi_values::{
     GroupHandle, Layout, NodeAttr, ObjectKind, QueueHandle, ShmemHandle, TaskHandle,

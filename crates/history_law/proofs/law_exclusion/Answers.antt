@@ -7,7 +7,7 @@ pub returns-clause-mutexes : goal.returns-clause-mutexes
 returns-clause-mutexes c L R h cut = mutexes_keep_to _ _ c.requires L R h cut
 
 pub returns-clause-semaphores : goal.returns-clause-semaphores
-returns-clause-semaphores c A B R e h limit cut i l = sems_keep_to _ _ c.requires A B R e h limit cut i l
+returns-clause-semaphores c L R h cut = sems_keep_to _ _ c.requires L R h cut
 
 pub returns-clause-reader_writer_locks : goal.returns-clause-reader_writer_locks
-returns-clause-reader_writer_locks c A B R e h limit cut i l = rwls_keep_to _ _ c.requires A B R e h limit cut i l
+returns-clause-reader_writer_locks c L R h cut = rwls_keep_to _ _ c.requires L R h cut
