@@ -8,4 +8,6 @@ mod ops;
 mod tests;
 
 pub use laws::law_layouts;
-pub use ops::{answered_kind, inward_op, outward_reply};
+pub use ops::{
+    answered_kind, inward_member, inward_op, inward_queue, inward_task, outward_reply, turn_outward,
+};

@@ -17,7 +17,7 @@ use Rattle.node_core.specs.declared.journaled.Log.{Log}
 use Rattle.node_core.specs.declared.node.Node.{Node}
 use Rattle.node_core.specs.Journals.{KeptEntries, kept_of, skipped_of}
 use Rattle.node_core.specs.Stands.{Stands, terms_of, seat_count, history_of}
-use Rattle.node_core.specs.Logs.{keeps, lost, AddsTo, Logs, KeepsOf, LoggedFrom, HasTerms, KeptAs, IsJournal, copy_for}
+use Rattle.node_core.specs.Logs.{keeps, lost, AddsTo, Logs, KeepsOf, LoggedFrom, HasTerms, KeptAs, IsJournal}
 use Rattle.node_core.proofs.KeptLemmas.{kept-append, skipped-append, counts-append, number_le}
 
 -- what is kept of a list is kept of the longer one, with what the entry adds
@@ -53,12 +53,6 @@ logged s g k L e false old d new = record {
   kept = added s L e g.kept k.kept (slice_index g.counts e.who) old.kept new.kept d (ap (λ (c : List ℕ). slice_index c e.who) old.counts);
   counts = new.counts ∙ ((λ i. counted (sym d i) (is_pending e.reply) (old.counts i) e.who) ∙ sym (counts-append s no_counts L e));
 }
-
--- where nothing is kept, nothing is added
-pub none_added : (k : Kept) (op : Op) (e : NodeEntry) (n : ℕ) → None ≡ copy_for k op → AddsTo k e n k
-none_added Nothing op e n c = refl
-none_added Lost op e n c = refl
-none_added (Entries k) op e n c = absurd (cc)
 
 -- the node goes on with the list, and so does the log
 pub journal_goes_on : (n m : Node) (g k : Log) (L : List NodeEntry) (who : ℕ) (op : Op) (r : Reply) (alike : Bool) → LoggedFrom (opening (terms_of n)) g L → terms_of m ≡ terms_of n → pends_alike (after (terms_of n) L) who op ≡ alike → Logs g (drops alike r) (entry who op r) k → LoggedFrom (opening (terms_of m)) k (L ++ entry who op r ∷ [])

@@ -3,7 +3,6 @@ use Rattle.std.specs.Prelude.{◌≡◌, ℕ, Bool, true, false, List, ◌∷◌
 use Rattle.std.specs.Bool.{MatchBool}
 use Rattle.std.specs.declared.alloc.AllocError.{AllocError}
 use Rattle.mtapi_machine.specs.declared.terms.Terms.{Terms}
-use Rattle.mtapi_machine.specs.declared.ops.Op.{Op}
 use Rattle.mtapi_machine.specs.State.{State, opening}
 use Rattle.mtapi_machine.specs.Legal.{NodeEntry, Legal, after}
 use Rattle.mtapi_machine.specs.Kept.{kept, skipped, counted, counts_after, no_counts, is_pending}
@@ -27,12 +26,6 @@ abbrev pub lost : Kept → Bool
 lost Nothing = false
 lost Lost = true
 lost (Entries k) = false
-
--- the op, where entries are kept
-abbrev pub copy_for : Kept → Op → Option Op
-copy_for Nothing op = None
-copy_for Lost op = None
-copy_for (Entries k) op = Some op
 
 -- what is kept once this entry was added, with this number beside it
 abbrev pub AddsTo : Kept → NodeEntry → ℕ → Kept → Type 0

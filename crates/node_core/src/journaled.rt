@@ -3,11 +3,10 @@
 ghost use Rattle.std.specs.Prelude.{◌≡◌, ◌<◌, ◌^◌, ◌+◌, ◌↔◌, [], ◌∷◌, ◌++◌, List, length, true, false, slice_index, Ok, None, IfOk, IfSome, IsErr};
 ghost use Rattle.std.specs.Bool.{OnTrue, OnFalse};
 ghost use Rattle.history.specs.Histories.{entry};
-ghost use Rattle.mtapi_machine.specs.declared.ops.Op.{Op as OpAsked};
 ghost use Rattle.mtapi_machine.specs.Legal.{NodeEntry};
 ghost use Rattle.mtapi_machine.specs.Kept.{drops, is_pending};
 ghost use Rattle.node_core.specs.Stands.{Stands, terms_of};
-ghost use Rattle.node_core.specs.Logs.{copy_for, AddsTo, Logs, StandsKept, HasTerms, KeptAs, IsJournal, keeps, journal_terms, is_lost};
+ghost use Rattle.node_core.specs.Logs.{AddsTo, Logs, StandsKept, HasTerms, KeptAs, IsJournal, keeps, journal_terms, is_lost};
 
 use crate::entries::{EntryList, Journal};
 use crate::node::Node;
@@ -42,35 +41,26 @@ enum Kept {
     Entries(EntryList),
 }
 
-impl Kept {
-    // The op once more, where entries are kept.
-    fn copy_for(&self, op: &Op) -> Option<Op>
-        ensures { result ≡ copy_for self.now op.now }
-    {
-        match self {
-            Kept::Entries(_) => Some(op.again()),
-            Kept::Nothing | Kept::Lost => None,
-        }
-    }
-}
-
 // Adds an entry and its number where a journal is kept. False where memory was short.
-fn push_to(kept: &mut Kept, entry: Entry, number: u64) -> bool
-    ensures pushed { OnTrue result (AddsTo kept.old entry number kept.new) }
+fn push_to(kept: &mut Kept, who: u32, op: Op, reply: &Reply, number: u64) -> bool
+    ensures pushed { OnTrue result (AddsTo kept.old (entry who op reply.now) number kept.new) }
     ensures short { OnFalse result (keeps kept.old ≡ true) }
 {
     match kept {
         Kept::Nothing => true,
         Kept::Lost => true,
-        Kept::Entries(entries) => entries.push(entry, number).is_ok(),
+        Kept::Entries(entries) => {
+            let reply = reply.again();
+            entries.push(Entry { who, op, reply }, number).is_ok()
+        }
     }
 }
 
 // The same; the entries are lost where memory was short.
-fn add_to(kept: &mut Kept, entry: Entry, number: u64)
-    ensures { AddsTo kept.old entry number kept.new }
+fn add_to(kept: &mut Kept, who: u32, op: Op, reply: &Reply, number: u64)
+    ensures { AddsTo kept.old (entry who op reply.now) number kept.new }
 {
-    if !push_to(kept, entry, number) {
+    if !push_to(kept, who, op, reply, number) {
         *kept = Kept::Lost;
     }
 }
@@ -83,11 +73,11 @@ struct Log {
 }
 
 impl Log {
-    // Takes note of an entry. The op is at hand where entries are kept, and nowhere else.
-    fn add(&mut self, who: u32, copy: Option<Op>, reply: &Reply, alike: bool)
+    // Takes note of an entry.
+    fn add(&mut self, who: u32, op: Op, reply: &Reply, alike: bool)
         requires seat { who < 25 }
         requires room { slice_index self.old.counts who < 2 ^ 63 }
-        ensures { (op : OpAsked) → copy ≡ copy_for self.old.kept op → Logs self.old (drops alike reply.now) (entry who op reply.now) self.new }
+        ensures { Logs self.old (drops alike reply.now) (entry who op reply.now) self.new }
     {
         let place = who as usize;
         let number = self.counts[place];
@@ -98,11 +88,7 @@ impl Log {
             return;
         }
         self.counts[place] = 0;
-        let Some(op) = copy else {
-            return;
-        };
-        let reply = reply.again();
-        add_to(&mut self.kept, Entry { who, op, reply }, number);
+        add_to(&mut self.kept, who, op, reply, number);
     }
 }
 
@@ -160,9 +146,8 @@ impl Object for Journaled {
 
     fn apply(&mut self, who: u32, op: Op) -> Reply {
         let alike = self.node.pends_alike(who, &op);
-        let copy = self.log.kept.copy_for(&op);
-        let reply = self.node.step(who, op);
-        self.log.add(who, copy, &reply, alike);
+        let reply = self.node.execute(who, &op);
+        self.log.add(who, op, &reply, alike);
         reply
     }
 }

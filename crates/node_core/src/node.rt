@@ -9,7 +9,7 @@ ghost use Rattle.node_core.specs.Stands.{Stands, terms_of, seat_count};
 ghost use Rattle.node_core.specs.Parts.{Agrees};
 
 use history::Object;
-use mtapi_layouts::{answered_kind, inward_op, outward_reply};
+use mtapi_layouts::{answered_kind, inward_op, turn_outward};
 use mtapi_machine::{Op, Reply, Terms};
 use mtapi_values::{Layout, NodeAttr};
 use std::alloc::{AllocError, Global};
@@ -97,9 +97,20 @@ impl Node {
         ensures terms { terms_of self.new ≡ terms_of self.old }
         ensures stands { (L : List NodeEntry) → Stands self.old L → Stands self.new (L ++ entry who op result ∷ []) }
     {
-        let kind = answered_kind(&op);
-        let reply = self.inner.step(who, inward_op(op));
-        outward_reply(kind, reply)
+        self.execute(who, &op)
+    }
+
+    // The same. The op is read where it stands.
+    pub(crate) fn execute(&mut self, who: u32, op: &Op) -> Reply
+        requires seat { who < seat_count (terms_of self.old) }
+        requires room { (L : List NodeEntry) × Stands self.old L × (length L < 2 ^ 62 + 16) }
+        ensures terms { terms_of self.new ≡ terms_of self.old }
+        ensures stands { (L : List NodeEntry) → Stands self.old L → Stands self.new (L ++ entry who op.now result ∷ []) }
+    {
+        let kind = answered_kind(op);
+        let mut reply = self.inner.step_inward(who, op);
+        turn_outward(kind, &mut reply);
+        reply
     }
 
     /// What a node is that stands for a list: it agrees with the state that its callers see, kind by kind and index by index. It

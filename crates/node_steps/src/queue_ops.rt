@@ -246,13 +246,13 @@ impl Node {
     pub(crate) fn task_enqueue(
         &mut self,
         queue: QueueHandle,
-        args: Args,
+        args: &Args,
         cores: Mask,
         detached: bool,
         group: Option<GroupHandle>,
     ) -> Reply
         requires { self.old.board.tasks.starts < 2 ^ 63 }
-        ensures { (l : Lists) (who : ℕ) → Live self.old l → Steps self.old l who (op.TaskEnqueue queue args cores detached group) result self.new }
+        ensures { (l : Lists) (who : ℕ) → Live self.old l → Steps self.old l who (op.TaskEnqueue queue args.now cores detached group) result self.new }
     {
         self.board.is_kept();
         let facts = match self.enqueue_facts(queue, cores, detached, group) {
@@ -261,7 +261,7 @@ impl Node {
         };
         let task = NewTask {
             job: facts.job,
-            args,
+            args: args.again(),
             priority: facts.priority,
             cores,
             detached,

@@ -4,11 +4,13 @@ ghost use Rattle.std.specs.Prelude.{◌≡◌, ◌+◌, ◌^◌, ◌<◌, List, 
 ghost use Rattle.history.specs.Histories.{entry};
 ghost use Rattle.mtapi_machine.specs.Legal.{NodeEntry, after};
 ghost use Rattle.mtapi_machine.specs.Kept.{pends_alike};
-ghost use Rattle.mtapi_layouts.specs.Ops.{IssuesSmall};
-ghost use Rattle.node_steps.specs.Stands.{Lists, Live, Stands, state_of, terms_of, seat_count};
+ghost use Rattle.mtapi_layouts.specs.Ops.{IssuesSmall, inward_op};
+ghost use Rattle.node_steps.specs.Stands.{Lists, Live, Stands, Steps, state_of, terms_of, seat_count};
+ghost use Rattle.node_steps.specs.Sound.{Sound};
 
 use crate::node::Node;
 use crate::walks::is_seat;
+use mtapi_layouts::{inward_member, inward_op, inward_queue, inward_task};
 use mtapi_machine::{Op, Reply, Terms};
 use mtapi_values::Layout;
 
@@ -44,6 +46,62 @@ impl Node {
         let reply = self.dispatch(who, op);
         self.board.is_kept();
         reply
+    }
+
+    /// Executes the op that a caller asked, with each handle as the pool of its kind has it: it does
+    /// what `step` does with that op. The op is read where it stands.
+    pub fn step_inward(&mut self, who: u32, op: &Op) -> Reply
+        requires seat { who < seat_count (terms_of self.old) }
+        requires room { (L : List NodeEntry) × Stands self.old L × (length L < 2 ^ 62 + 16) }
+        ensures terms { terms_of self.new ≡ terms_of self.old }
+        ensures stands { (L : List NodeEntry) → Stands self.old L → Stands self.new (L ++ entry who (inward_op op.now) result ∷ []) }
+        ensures small { IssuesSmall (inward_op op.now) result }
+    {
+        let reply = self.dispatch_inward(who, op);
+        self.board.is_kept();
+        reply
+    }
+
+    // The same, by its own method. What is asked for most is done without a copy of the op.
+    fn dispatch_inward(&mut self, who: u32, op: &Op) -> Reply
+        requires few_starts { self.old.board.tasks.starts < 2 ^ 63 }
+        requires seat { who < 25 }
+        ensures { (l : Lists) → Live self.old l → Sound (state_of self.old l) → Steps self.old l who (inward_op op.now) result self.new }
+    {
+        match op {
+            Op::TaskStart {
+                job,
+                args,
+                priority,
+                cores,
+                detached,
+                group,
+            } => self.task_start(
+                *job,
+                args,
+                *priority,
+                *cores,
+                *detached,
+                inward_member(*group),
+            ),
+            Op::TaskEnqueue {
+                queue,
+                args,
+                cores,
+                detached,
+                group,
+            } => self.task_enqueue(
+                inward_queue(*queue),
+                args,
+                *cores,
+                *detached,
+                inward_member(*group),
+            ),
+            Op::TaskLook { task, last } => self.task_look(who, inward_task(*task), *last),
+            Op::Pick => self.pick(who),
+            Op::Finish { task, done } => self.finish(who, inward_task(*task), done),
+            _ => self.dispatch(who, inward_op(op.again())),
+        }
     }
 
     /// Tells whether the state would stay as it is, were this op answered Pending.

@@ -91,21 +91,21 @@ impl Node {
     pub(crate) fn task_start(
         &mut self,
         job: u32,
-        args: Args,
+        args: &Args,
         priority: u32,
         cores: Mask,
         detached: bool,
         group: Option<GroupHandle>,
     ) -> Reply
         requires { self.old.board.tasks.starts < 2 ^ 63 }
-        ensures { (l : Lists) (who : ℕ) → Live self.old l → Steps self.old l who (op.TaskStart job args priority cores detached group) result self.new }
+        ensures { (l : Lists) (who : ℕ) → Live self.old l → Steps self.old l who (op.TaskStart job args.now priority cores detached group) result self.new }
     {
         if let Some(status) = self.task_refusal(job, priority, cores, detached, group) {
             return Reply::Mtapi(status);
         }
         let task = NewTask {
             job,
-            args,
+            args: args.again(),
             priority,
             cores,
             detached,

@@ -5,6 +5,7 @@ ghost use Rattle.std.specs.Ordering.{int_eq};
 ghost use Rattle.std.specs.Cmp.Lexicographic.{pointwise};
 ghost use Rattle.mtapi_objects.specs.Tasks.{kind_number, runs_as};
 ghost use Rattle.mtapi_values.specs.Seats.{is_seat};
+ghost use Rattle.action_fn.specs.Answers.{IsAnswered};
 
 use action_fn::Finished;
 use mtapi_values::Kind;
@@ -48,6 +49,14 @@ pub(crate) fn runs_as(task: &TaskRecord, worker: u32, kind: Kind) -> bool
         } => on == worker && kind_number(with) == kind_number(kind),
         TaskState::Scheduled | TaskState::Ended => false,
     }
+}
+
+// What was finished has the answer of its kind to its arguments. It does nothing.
+pub(crate) fn is_answered(done: &Finished)
+    ensures { IsAnswered done.now }
+{
+    let _ = done.kind();
+    let _ = done.args();
 }
 
 // Whether the task runs on the worker, with the kind and the arguments of what was finished.

@@ -18,19 +18,19 @@ ghost use Rattle.mtapi_machine.specs.declared.replies.Reply.TheVariants as reply
 
 use crate::node::Node;
 use crate::phase_ops::{is_new, is_past_open};
-use crate::walks::runs_so;
+use crate::walks::{is_answered, runs_so};
 use action_fn::{ActEnd, Finished};
 use mtapi_machine::Reply;
 use mtapi_values::{ActionHandle, MtapiStatus, TaskEnd, TaskHandle};
 use task_board::Choice;
 
 // How a task ends whose action answered so.
-fn task_end(end: &ActEnd) -> TaskEnd
-    ensures { result ≡ task_end end.now }
+fn task_end(end: ActEnd) -> TaskEnd
+    ensures { result ≡ task_end end }
 {
     match end {
-        ActEnd::Done(args) => TaskEnd::Completed(args.again()),
-        ActEnd::Fails(status) => TaskEnd::Failed(*status),
+        ActEnd::Done(args) => TaskEnd::Completed(args),
+        ActEnd::Fails(status) => TaskEnd::Failed(status),
     }
 }
 
@@ -109,26 +109,26 @@ impl Node {
         requires choice { IsChoice self.old.board.actions self.old.board.tasks.pool self.old.board.queues.pool who choice }
         ensures { Takes self.old who choice result self.new }
     {
-        let args = self.board.take(who, choice);
         Reply::Picked {
             task: choice.task,
             action: choice.action,
             kind: choice.kind,
-            args,
+            args: self.board.take(who, choice),
         }
     }
 
-    pub(crate) fn finish(&mut self, who: u32, task: TaskHandle, done: Finished) -> Reply
-        ensures { (l : Lists) → Live self.old l → Steps self.old l who (op.Finish task done) result self.new }
+    pub(crate) fn finish(&mut self, who: u32, task: TaskHandle, done: &Finished) -> Reply
+        ensures { (l : Lists) → Live self.old l → Steps self.old l who (op.Finish task done.now) result self.new }
     {
+        is_answered(done);
         if who >= self.board.workers() {
             return Reply::Mtapi(MtapiStatus::ErrParameter);
         }
         match self.board.task(task) {
-            Some(found) if runs_so(found, who, &done) => {}
+            Some(found) if runs_so(found, who, done) => {}
             _ => return Reply::Mtapi(MtapiStatus::ErrTaskInvalid),
         }
-        self.board.end_with(task, task_end(&done.end()));
+        self.board.end_with(task, task_end(done.end()));
         Reply::Ok
     }
 

@@ -538,11 +538,10 @@ impl Board {
         ensures new { Becomes self.old self.new self.old.actions (record self.old.tasks { pool = changed self.old.tasks.pool choice.task.0 (with_state (Running worker choice.kind)) }) }
     {
         let _ = self.settings.workers();
-        let args = self.tasks.run_on(choice.task, worker, choice.kind);
         self.waiting.remove(0, choice.task.0);
         clear(&mut self.ready, slot_of(choice.task.0));
         self.running[worker as usize] = Some(choice.task);
-        args
+        self.tasks.run_on(choice.task, worker, choice.kind)
     }
 
     /// Ends a task, as `Tasks::end_with` says it.

@@ -1,4 +1,4 @@
-use Rattle.std.proofs.Common.{◌≡◌, Result, Ok, Err, Some, None, refl, subst}
+use Rattle.std.proofs.Common.{◌≡◌, ℤ, List, Result, Ok, Err, Some, None, refl, subst}
 use Rattle.mtapi_values.specs.declared.handles.TaskHandle.{TaskHandle}
 use Rattle.mtapi_values.specs.declared.handles.ObjectKind.TheVariants as kind
 use Rattle.mtapi_values.specs.declared.statuses.MtapiStatus.{MtapiStatus}
@@ -14,8 +14,8 @@ use Rattle.node_steps.proofs.node.Node.task_enqueue.Goals as goal
 
 pub returns-in-Err : goal.returns-in-Err
 returns-in-Err c l who v =
-    refused c.args.self.now l who (op.TaskEnqueue c.args.queue c.args.args c.args.cores c.args.detached c.args.group) kind.Task c.in-Err.status v refl tt
-    (c.in-Err.ensures.refused l who c.args.args v)
+    refused c.args.self.now l who (op.TaskEnqueue c.args.queue c.args.args.now c.args.cores c.args.detached c.args.group) kind.Task c.in-Err.status v refl tt
+    (c.in-Err.ensures.refused l who c.args.args.now v)
 
 pub returns-in-Ok-enqueue : goal.returns-in-Ok-enqueue
 returns-in-Ok-enqueue c l who v =
@@ -23,12 +23,12 @@ returns-in-Ok-enqueue c l who v =
     let f = c.in-Ok.facts in
     let may = c.in-Ok.ensures.may in
     let x = facts_found (slot_value n.board.queues.pool c.args.queue.0) f may.found in
-    let y : NewTask = record { job = f.job; args = c.args.args; priority = f.priority; cores = c.args.cores.0; detached = c.args.detached; group = number_of c.args.group; queue = Some c.args.queue.0 } in
-    let same : y ≡ asked_of c.args.queue.0 x.0.queue c.args.args c.args.cores c.args.detached c.args.group = (λ i. record { job = (x.2 i).job; args = c.args.args; priority = (x.2 i).priority; cores = c.args.cores.0; detached = c.args.detached; group = number_of c.args.group; queue = Some c.args.queue.0 }) in
-    let none = causes_are n l who c.args.queue c.args.args c.args.cores c.args.detached c.args.group v may.opened c.is_kept.ensures may.alone x.0 x.1 f None x.2 (may.none l c.args.args f.priority v) in
+    let y : NewTask = record { job = f.job; args = c.args.args.now; priority = f.priority; cores = c.args.cores.0; detached = c.args.detached; group = number_of c.args.group; queue = Some c.args.queue.0 } in
+    let same : y ≡ asked_of c.args.queue.0 x.0.queue c.args.args.now c.args.cores c.args.detached c.args.group = (λ i. record { job = (x.2 i).job; args = c.args.args.now; priority = (x.2 i).priority; cores = c.args.cores.0; detached = c.args.detached; group = number_of c.args.group; queue = Some c.args.queue.0 }) in
+    let none = causes_are n l who c.args.queue c.args.args.now c.args.cores c.args.detached c.args.group v may.opened c.is_kept.ensures may.alone x.0 x.1 f None x.2 (may.none l c.args.args.now f.priority v) in
     lands n l who _ _ c.enqueue.new.self _ c.enqueue.new.self.tasks c.enqueue.ensures.new
-    (enqueue_steps n l who c.args.queue c.args.args c.args.cores c.args.detached c.args.group v may.opened c.is_kept.ensures may.alone x.0 x.1 none c.enqueue.new.self.tasks (Ok c.in-Ok-enqueue.task) y same
-    (subst (λ (r : Result TaskHandle MtapiStatus). Adds n.board.tasks y r c.enqueue.new.self.tasks) c.in-Ok-enqueue.is c.enqueue.ensures.adds))
+    (enqueue_steps n l who c.args.queue c.args.args.now c.args.cores c.args.detached c.args.group v may.opened c.is_kept.ensures may.alone x.0 x.1 none c.enqueue.new.self.tasks (Ok c.in-Ok-enqueue.task) y same
+    (subst (λ (r : Result TaskHandle MtapiStatus). Adds n.board.tasks y r c.enqueue.new.self.tasks) c.in-Ok-enqueue.is (subst (λ (a : List ℤ). Adds n.board.tasks (record y { args = a }) c.enqueue.result c.enqueue.new.self.tasks) c.again.ensures c.enqueue.ensures.adds)))
 
 pub returns-in-Err-enqueue : goal.returns-in-Err-enqueue
 returns-in-Err-enqueue c l who v =
@@ -36,9 +36,9 @@ returns-in-Err-enqueue c l who v =
     let f = c.in-Ok.facts in
     let may = c.in-Ok.ensures.may in
     let x = facts_found (slot_value n.board.queues.pool c.args.queue.0) f may.found in
-    let y : NewTask = record { job = f.job; args = c.args.args; priority = f.priority; cores = c.args.cores.0; detached = c.args.detached; group = number_of c.args.group; queue = Some c.args.queue.0 } in
-    let same : y ≡ asked_of c.args.queue.0 x.0.queue c.args.args c.args.cores c.args.detached c.args.group = (λ i. record { job = (x.2 i).job; args = c.args.args; priority = (x.2 i).priority; cores = c.args.cores.0; detached = c.args.detached; group = number_of c.args.group; queue = Some c.args.queue.0 }) in
-    let none = causes_are n l who c.args.queue c.args.args c.args.cores c.args.detached c.args.group v may.opened c.is_kept.ensures may.alone x.0 x.1 f None x.2 (may.none l c.args.args f.priority v) in
+    let y : NewTask = record { job = f.job; args = c.args.args.now; priority = f.priority; cores = c.args.cores.0; detached = c.args.detached; group = number_of c.args.group; queue = Some c.args.queue.0 } in
+    let same : y ≡ asked_of c.args.queue.0 x.0.queue c.args.args.now c.args.cores c.args.detached c.args.group = (λ i. record { job = (x.2 i).job; args = c.args.args.now; priority = (x.2 i).priority; cores = c.args.cores.0; detached = c.args.detached; group = number_of c.args.group; queue = Some c.args.queue.0 }) in
+    let none = causes_are n l who c.args.queue c.args.args.now c.args.cores c.args.detached c.args.group v may.opened c.is_kept.ensures may.alone x.0 x.1 f None x.2 (may.none l c.args.args.now f.priority v) in
     lands n l who _ _ c.enqueue.new.self _ c.enqueue.new.self.tasks c.enqueue.ensures.new
-    (enqueue_steps n l who c.args.queue c.args.args c.args.cores c.args.detached c.args.group v may.opened c.is_kept.ensures may.alone x.0 x.1 none c.enqueue.new.self.tasks (Err c.in-Err-enqueue.status) y same
-    (subst (λ (r : Result TaskHandle MtapiStatus). Adds n.board.tasks y r c.enqueue.new.self.tasks) c.in-Err-enqueue.is c.enqueue.ensures.adds))
+    (enqueue_steps n l who c.args.queue c.args.args.now c.args.cores c.args.detached c.args.group v may.opened c.is_kept.ensures may.alone x.0 x.1 none c.enqueue.new.self.tasks (Err c.in-Err-enqueue.status) y same
+    (subst (λ (r : Result TaskHandle MtapiStatus). Adds n.board.tasks y r c.enqueue.new.self.tasks) c.in-Err-enqueue.is (subst (λ (a : List ℤ). Adds n.board.tasks (record y { args = a }) c.enqueue.result c.enqueue.new.self.tasks) c.again.ensures c.enqueue.ensures.adds)))

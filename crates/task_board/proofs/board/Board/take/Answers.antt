@@ -23,7 +23,7 @@ invariant_of-self c =
     let x = subst (λ (b : BoardTable). IsChoice b.actions b.tasks.pool b.queues.pool c.args.worker c.args.choice) (sym c.self.view_is) c.requires.choice in
     let less = subst (λ (b : BoardTable). c.args.worker < b.settings.workers) (sym c.self.view_is) c.requires.worker in
     let free = not-running b c.args.worker c.self.invariant (subst (λ (k : BoardTable). NoneLive (slot_value k.tasks.pool) (Passes (runs_on c.args.worker))) (sym c.self.view_is) c.requires.free) in
-    take-board b c.run_on-args.new.self c.clear.new.ready c.remove.new.self c.args.choice.task.0 c.args.worker c.args.choice.kind x.t c.self.invariant x.task x.runs.unstarted
-    (ap (λ (q : TaskTable). q.pool) c.run_on-args.ensures.new) (ap (λ (q : TaskTable). q.starts) c.run_on-args.ensures.new) less free c.remove.ensures.new c.remove.ensures.gone
+    take-board b c.run_on.new.self c.clear.new.ready c.remove.new.self c.args.choice.task.0 c.args.worker c.args.choice.kind x.t c.self.invariant x.task x.runs.unstarted
+    (ap (λ (q : TaskTable). q.pool) c.run_on.ensures.new) (ap (λ (q : TaskTable). q.starts) c.run_on.ensures.new) less free c.remove.ensures.new c.remove.ensures.gone
     (subst (λ (place : ℕ). c.clear.new.ready ≡ record c.self.inside.ready { marks = slice_set c.self.inside.ready.marks place None }) c.slot_of.ensures c.clear.ensures)
-    (ap (λ (q : TaskTable). q.ends) c.run_on-args.ensures.new)
+    (ap (λ (q : TaskTable). q.ends) c.run_on.ensures.new)
