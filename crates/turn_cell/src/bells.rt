@@ -51,10 +51,15 @@ impl Bell {
 
     /// Sleeps where it hasn't rung since, for a millisecond at most, and tells how often it has rung.
     pub fn sleep<R: Wait>(&self, rt: &R, rings: u64) -> u64 {
+        self.sleep_for(rt, rings, LONGEST)
+    }
+
+    /// Sleeps where it hasn't rung since, for so many microseconds at most, and tells how often it has rung.
+    pub(crate) fn sleep_for<R: Wait>(&self, rt: &R, rings: u64, micros: u64) -> u64 {
         self.rings.park_timeout(
             rt,
             (rings % 0x1_0000_0000) as u32,
-            Duration::from_micros(LONGEST),
+            Duration::from_micros(micros),
         );
         self.rings.load(Ordering::SeqCst)
     }

@@ -7,6 +7,7 @@ ghost use Rattle.turn_cell.specs.declared.parts.Stage.TheVariants.{Idle, Waits, 
 ghost use Rattle.turn_cell.specs.Turns.{after_draw, after_pass, part_entry, Took, boxed_terms, boxed_stands};
 
 use crate::cell::TurnCell;
+use crate::lines::Waiting;
 use crate::parts::{GhostArgument, Part};
 use crate::seats::{Token, TurnSeat};
 use crate::steps::{Draw, Look, Pass};
@@ -28,7 +29,7 @@ impl<O: Object> TurnCell<O> {
     // Waits until every drawn ticket was served, but for no more than so many looks: it spins, then yields, and then sleeps for
     // microseconds, so that few threads at a time pass the object around. Says how many looks are left.
     fn wait_until_free<R: Wait>(&self, rt: &R, backoff: &Backoff, looks: u32) -> u32 {
-        // Nobody wakes it, so that a sleep ends by its length.
+        // Nobody wakes it, so that a sleep ends by its length at the latest.
         let asleep = AtomicU64::new(0);
         for done in 0..looks {
             if self.table.shared.peek(0) == self.table.shared.peek(1) {
@@ -45,7 +46,7 @@ impl<O: Object> TurnCell<O> {
 
     // Tries until it has a ticket. At first it draws one only where it is served at once: so the others seldom wait for a thread that has
     // no processor, and a thread may have several turns one after another. Where it looked in vain for long it draws all the same, and is
-    // then served in its order.
+    // then served in its order. After a try that another seat was quicker at it pauses, longer each time.
     fn draw<R: Wait>(&self, rt: &R, token: &mut Token<O>, shown: u64) -> Result<u64, u64>
         requires own { token.old.table_id ≡ self.now.id }
         requires idle { (p : Part O.Terms O.Op O.Reply) × (token.old.me ≡ (p ∷ [], [])) × (p.stage ≡ Idle) × (p.shown ≡ shown) }
@@ -54,6 +55,7 @@ impl<O: Object> TurnCell<O> {
         ensures spent { IfErr result (λ n. (2 ^ 62 ≤ n) × ((p : Part O.Terms O.Op O.Reply) → token.old.me ≡ (p ∷ [], []) → token.new.me ≡ (after_draw p n false ∷ [], []))) }
     {
         let backoff = Backoff::new();
+        let tries = Backoff::new();
         let mut looks = LOOKS;
         let mut shown = shown;
         for _ in rt.forever() {
@@ -70,23 +72,25 @@ impl<O: Object> TurnCell<O> {
                 return Ok(guess);
             }
             shown = found;
+            tries.snooze();
         }
         unreachable!()
     }
 
-    // Tries until the ticket is served, and takes the object out of its slot.
+    // Tries until the ticket is served, and takes the object out of its slot. Between two tries it spins, then yields, and then sleeps.
     fn look<R: Wait>(&self, rt: &R, token: &mut Token<O>, ticket: u64) -> Box<O>
         requires own { token.old.table_id ≡ self.now.id }
         requires waits { (p : Part O.Terms O.Op O.Reply) × (token.old.me ≡ (p ∷ [], [])) × (p.stage ≡ Waits ticket) }
         ensures own { token.new.table_id ≡ token.old.table_id }
         ensures took { (p : Part O.Terms O.Op O.Reply) → token.old.me ≡ (p ∷ [], []) → p.stage ≡ Waits ticket → Took (boxed_terms O.terms) O.seat_count O.legal (boxed_stands O.stands) p ticket result None token.new.me }
     {
-        let backoff = Backoff::new();
+        let mut waiting = Waiting::new(self.line.bell(ticket));
         for _ in rt.forever() {
             if self.table.shared.load::<Look>(token, 0) == ticket {
+                waiting.end();
                 return self.take(token, ticket);
             }
-            backoff.snooze();
+            waiting.pause(rt);
         }
         unreachable!()
     }
@@ -174,7 +178,9 @@ impl<O: Object> TurnCell<O> {
                 seat.shown = ticket;
                 let object = self.look(rt, &mut seat.token, ticket);
                 let number = seat.number;
-                Ok(self.turn::<Brand>(&mut seat.token, number, object, op))
+                let reply = self.turn::<Brand>(&mut seat.token, number, object, op);
+                self.line.wake(ticket + 1);
+                Ok(reply)
             }
             Err(drawn) => {
                 seat.shown = drawn;

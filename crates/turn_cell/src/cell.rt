@@ -4,6 +4,7 @@ ghost use Rattle.turn_cell.specs.Seats.{fresh_seats};
 ghost use Rattle.turn_cell.specs.Turns.{fresh_parts};
 
 use crate::bells::Bell;
+use crate::lines::Line;
 use crate::parts::Parts;
 use crate::seats::TurnSeat;
 use crate::steps::{CutRest, TurnRule};
@@ -26,6 +27,8 @@ pub struct TurnCell<O: Object> {
     // Rung where there is work, and where a worker finds none any more.
     pub(crate) work: Bell,
     pub(crate) ends: Bell,
+    // Where those sleep whose tickets aren't served yet.
+    pub(crate) line: Line,
 }
 
 impl<O: Object> Model for TurnCell<O> {
@@ -64,6 +67,7 @@ impl<O: Object> TurnCell<O> {
             table,
             work: Bell::new(),
             ends: Bell::new(),
+            line: Line::new(),
         };
         let seats = cell.deal(alloc, token, count)?;
         Ok((cell, seats))

@@ -52,6 +52,7 @@ impl<O: Object> TurnCell<O> {
             table,
             work: _,
             ends: _,
+            line: _,
         } = self;
         let mut closed = table.close_with(token);
         let slot = closed.take(0);

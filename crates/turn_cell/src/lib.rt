@@ -8,6 +8,7 @@ mod bells;
 pub mod calls;
 pub mod cell;
 pub mod closing;
+mod lines;
 pub mod meetings;
 mod parts;
 pub mod seats;
