@@ -48,3 +48,7 @@ pub mod WorkedSum
 pub mod WorkedLegal
 pub mod Attached
 pub mod Attends
+pub mod KindNumbers
+pub mod Quiet
+pub mod RowRest
+pub mod WorkerTurns

@@ -1,0 +1,293 @@
+-- In a quiet history a task ends as the kind of an action of its job answers.
+use Rattle.std.proofs.Common.{◌≡◌, ℕ, Bool, true, false, cond, List, [], ◌∷◌, Option, Some, None, refl, sym, ◌∙◌, ap, subst, ℤ}
+use Rattle.std.specs.Prelude.{◌==◌, ◌&&◌, not, nat_lt}
+use Rattle.std.specs.Ordering.{int_eq}
+use Rattle.std.specs.Cmp.Lexicographic.{pointwise}
+use Rattle.std.proofs.lemmas.Bool.{eqb-true}
+use Rattle.std.proofs.lemmas.Bool.Decides.{Decides-int_eq}
+use Rattle.std.proofs.lemmas.Slice.Eq.{slice_eq-Decides}
+use Rattle.mtapi_values.specs.Conditions.{holds}
+use Rattle.mtapi_values.specs.Masks.{in_mask}
+use Rattle.mtapi_values.specs.declared.kinds.Kind.{Kind}
+use Rattle.mtapi_values.specs.declared.kinds.Kind.TheVariants as kind
+use Rattle.mtapi_values.specs.declared.ends.TaskEnd.{TaskEnd}
+use Rattle.mtapi_values.specs.declared.ends.TaskEnd.TheVariants.{Cancelled}
+use Rattle.action_fn.specs.Answers.{is_pure, answer_of, Answered, IsAnswered}
+use Rattle.handle_pool.specs.Issued.{Listed, live_object, any_listed, issue, change, with_fields, gone}
+use Rattle.mtapi_objects.specs.Actions.{Action, with_enabled, has_enabled_job, is_eligible}
+use Rattle.mtapi_objects.specs.Tasks.{Task, TaskState, Scheduled, Running, Ended, runner, runs_as, kind_number, is_unstarted, with_state, with_notes, ended}
+use Rattle.mtapi_objects.specs.Groups.{is_member, freed, let_go}
+use Rattle.mtapi_objects.specs.Queues.{Queue, is_shut_in}
+use Rattle.mtapi_machine.specs.declared.ops.Op.{Op}
+use Rattle.mtapi_machine.specs.declared.ops.Op.TheVariants as op
+use Rattle.mtapi_machine.specs.declared.replies.Reply.{Reply}
+use Rattle.mtapi_machine.specs.declared.replies.Reply.TheVariants.{Ok, Picked, Stop}
+use Rattle.mtapi_machine.specs.declared.terms.Terms.{Terms}
+use Rattle.mtapi_machine.specs.State.{State, opening, workers, is_stop}
+use Rattle.mtapi_machine.specs.Moves.{Move, Groups, Queues, Mutexes, Sems, Rwls, Segments, phase_is, released, stops, makes_action, enables, withdraws, starts_task, runs_task, ends_task, ends_waiting, notes, leaves, frees_members, lets_members_go, makes, alters, removes, apply, after_moves}
+use Rattle.mtapi_machine.specs.Row.{Row, gives}
+use Rattle.mtapi_machine.specs.Rows.{row}
+use Rattle.mtapi_machine.specs.WorkRows.{is_ready, can_take, picks, task_end}
+use Rattle.mtapi_machine.specs.Legal.{NodeEntry, IsNext, IsHonest, row_of, next, LegalFrom, after_from}
+use Rattle.mtapi_machine.specs.Laws.{IsMade, MakesAction, WithdrawsAction, EndsTask, AltersObject, is_pick, ends_many, makes_kind}
+use Rattle.mtapi_machine.specs.Ends.{end_in}
+use Rattle.mtapi_machine.proofs.Changes.{some_same}
+use Rattle.mtapi_machine.proofs.Made.{AllGives, moves_given, on_only, on_live, fst_true, snd_true, not_false}
+use Rattle.mtapi_machine.proofs.Moves.{by_moves}
+use Rattle.history_law.proofs.Answered.{true_false}
+use Rattle.history_law.proofs.Every.{Every, every_issue, every_change, every_all, every_map, every_at, every_passing, always}
+use Rattle.history_law.proofs.Found.{found_changed, found_issued}
+use Rattle.history_law.specs.Quiet.{is_quiet, AreQuiet, HasPure, task_at, IsPlain, QuietTasksEndPlainly}
+use Rattle.history_law.proofs.KindNumbers.{same_kind}
+
+-- What such a history keeps
+
+-- how far a task of this job and with these arguments is: it runs with the kind of an action of its job, or has ended as one answers
+abbrev pub GoesIn : List (Listed Action) → ℕ → List ℤ → TaskState → Type 0
+GoesIn actions job args Scheduled = Unit {0}
+GoesIn actions job args (Running w k) = HasPure actions job k
+GoesIn actions job args (Ended e n) = IsPlain actions job args e
+
+abbrev pub Goes : List (Listed Action) → Task → Type 0
+Goes actions t = GoesIn actions t.job t.args t.state
+
+abbrev IsPure : Action → Type 0
+IsPure a = is_pure a.kind ≡ true
+
+abbrev IsOn : Queue → Type 0
+IsOn q = q.enabled ≡ true
+
+-- each action is of a pure kind, each queue is enabled, and each task goes so
+pub record Calm (actions : List (Listed Action)) (queues : List (Listed Queue)) (tasks : List (Listed Task)) : Type 0 where
+  pub pure : Every IsPure actions
+  pub on : Every IsOn queues
+  pub goes : Every (Goes actions) tasks
+
+abbrev pub IsCalm : State → Type 0
+IsCalm s = Calm s.actions s.queues s.tasks
+
+-- Further actions, and actions that change nothing but whether they are enabled
+
+pure_more : (h : ℕ) (a : Action) (l : List (Listed Action)) (job : ℕ) (k : Kind) → HasPure l job k → HasPure (issue h a l) job k
+pure_more h a l job k p =
+    let x = found_issued (λ y. y ≡ p.action) h p.handle a l p.action p.found refl in
+    record { handle = p.handle; action = x.0; found = x.1; of_job = ap (λ (y : Action). y.job) x.2 ∙ p.of_job; of_kind = ap (λ (y : Action). y.kind) x.2 ∙ p.of_kind; pure = p.pure }
+
+pure_enabled : (h : ℕ) (l : List (Listed Action)) (job : ℕ) (k : Kind) → HasPure l job k → HasPure (change h (with_fields (with_enabled true)) l) job k
+pure_enabled h l job k p =
+    let x = found_changed (λ y. (y.job ≡ job) × (y.kind ≡ k)) h p.handle (with_fields (with_enabled true)) (λ r. refl) l p.action p.found (p.of_job, p.of_kind)
+    (λ r i a e. (a, (ap (λ (y : Action). y.job) e ∙ p.of_job, ap (λ (y : Action). y.kind) e ∙ p.of_kind))) in
+    record { handle = p.handle; action = x.0; found = x.1; of_job = x.2.0; of_kind = x.2.1; pure = p.pure }
+
+goes_in : (l m : List (Listed Action)) (job : ℕ) (args : List ℤ) → ((k : Kind) → HasPure l job k → HasPure m job k) → (x : TaskState) → GoesIn l job args x → GoesIn m job args x
+goes_in l m job args f Scheduled g = tt
+goes_in l m job args f (Running w k) g = f k g
+goes_in l m job args f (Ended e n) g = (g.0, f g.0 g.1, g.2)
+
+goes_all : (l m : List (Listed Action)) (tasks : List (Listed Task)) → ((job : ℕ) (k : Kind) → HasPure l job k → HasPure m job k) → Every (Goes l) tasks → Every (Goes m) tasks
+goes_all l m tasks f g = every_map (Goes l) (λ t. Unit {0}) (Goes m) tasks (λ t x u. goes_in l m t.job t.args (f t.job) t.state x) g (always tasks)
+
+-- The moves of an op that neither takes nor ends tasks by itself, and makes no queue
+
+abbrev is_special : Op → Bool
+is_special op.Pick = true
+is_special (op.Finish t done) = true
+is_special (op.WatchEnd t) = true
+is_special (op.TallyEnd t) = true
+is_special op.Close = true
+is_special (op.QueueCreate id job priority limit ordered retain) = true
+is_special _ = false
+
+made_pure : (a : Action) (o : Op) → is_quiet o ≡ true → MakesAction a o → is_pure a.kind ≡ true
+made_pure a (op.ActionCreate job kind cores) q b = ap (λ (x : Action). is_pure x.kind) b ∙ q
+made_pure a _ q b = absurd b
+
+pub none_withdrawn : (h : ℕ) (f : Listed Action → Listed Action) (o : Op) → is_quiet o ≡ true → WithdrawsAction h f o → ⊥
+none_withdrawn h f (op.ActionDelete a) q b = true_false q refl
+none_withdrawn h f (op.ActionDisable a) q b = true_false q refl
+none_withdrawn h f _ q b = b
+
+pick_special : (o : Op) → is_pick o ≡ true → is_special o ≡ true
+pick_special op.Pick e = refl
+pick_special _ e = true_false e refl
+
+end_special : (h : ℕ) (o : Op) → is_quiet o ≡ true → EndsTask h o → is_special o ≡ true
+end_special h (op.TaskCancel t) q e = true_false q refl
+end_special h (op.Finish t done) q e = refl
+end_special h (op.WatchEnd t) q e = refl
+end_special h (op.TallyEnd t) q e = refl
+end_special h _ q e = absurd e
+
+many_special : (o : Op) → is_quiet o ≡ true → ends_many o ≡ true → is_special o ≡ true
+many_special op.Close q e = refl
+many_special (op.QueueDisable x) q e = true_false q refl
+many_special (op.QueueDelete x) q e = true_false q refl
+many_special _ q e = true_false e refl
+
+queue_special : (o : Op) → makes_kind Queues o ≡ true → is_special o ≡ true
+queue_special (op.QueueCreate id job priority limit ordered retain) e = refl
+queue_special _ e = true_false e refl
+
+queue_opened : (h : ℕ) (f : Queue → Queue) (o : Op) → is_quiet o ≡ true → AltersObject Queues h f o → (x : Queue) → (f x).enabled ≡ true
+queue_opened h f (op.QueueEnable q) c e x = ap (λ (g : Queue → Queue). (g x).enabled) e.1
+queue_opened h f (op.QueueDisable q) c e x = true_false c refl
+queue_opened h f _ c e x = absurd e
+
+calm_move : (o : Op) → is_quiet o ≡ true → is_special o ≡ false → (s : State) (m : Move) → IsMade s o m → IsCalm s → IsCalm (apply m s)
+calm_move o q n s (makes_action h a) e v =
+    record { pure = every_issue IsPure h a s.actions (made_pure a o q e.by) v.pure; on = v.on; goes = goes_all s.actions (issue h a s.actions) s.tasks (λ job k p. pure_more h a s.actions job k p) v.goes }
+calm_move o q n s (enables h) e v =
+    record { pure = every_change IsPure h (with_fields (with_enabled true)) s.actions (λ r d p. p) v.pure; on = v.on; goes = goes_all s.actions _ s.tasks (λ job k p. pure_enabled h s.actions job k p) v.goes }
+calm_move o q n s (withdraws h f c) e v = absurd (none_withdrawn h f o q e.by)
+calm_move o q n s (starts_task h t) e v = record { pure = v.pure; on = v.on; goes = every_issue (Goes s.actions) h _ s.tasks tt v.goes }
+calm_move o q n s (runs_task h w k) e v = true_false (pick_special o e.by) n
+calm_move o q n s (ends_task h x) e v = true_false (end_special h o q e.by) n
+calm_move o q n s (ends_waiting p x) e v = true_false (many_special o q e.by) n
+calm_move o q n s (notes h f) e v = record { pure = v.pure; on = v.on; goes = every_change (Goes s.actions) h (with_fields (with_notes f)) s.tasks (λ r d g. g) v.goes }
+calm_move o q n s (leaves h) e v = record { pure = v.pure; on = v.on; goes = every_change (Goes s.actions) h gone s.tasks (λ r d g. g) v.goes }
+calm_move o q n s (frees_members g) e v = record { pure = v.pure; on = v.on; goes = every_all (Goes s.actions) _ freed s.tasks (λ r y. y) v.goes }
+calm_move o q n s (lets_members_go g) e v = record { pure = v.pure; on = v.on; goes = every_all (Goes s.actions) (is_member g) let_go s.tasks (λ r y. y) v.goes }
+calm_move o q n s (makes Queues h x) e v = true_false (queue_special o e.by) n
+calm_move o q n s (alters Queues h f) e v = record { pure = v.pure; on = every_change IsOn h (with_fields f) s.queues (λ r d p. queue_opened h f o q e.by r.fields) v.on; goes = v.goes }
+calm_move o q n s (removes Queues h) e v = record { pure = v.pure; on = every_change IsOn h gone s.queues (λ r d p. p) v.on; goes = v.goes }
+calm_move o q n s (makes Groups h x) e v = v
+calm_move o q n s (makes Mutexes h x) e v = v
+calm_move o q n s (makes Sems h x) e v = v
+calm_move o q n s (makes Rwls h x) e v = v
+calm_move o q n s (makes Segments h x) e v = v
+calm_move o q n s (alters Groups h f) e v = v
+calm_move o q n s (alters Mutexes h f) e v = v
+calm_move o q n s (alters Sems h f) e v = v
+calm_move o q n s (alters Rwls h f) e v = v
+calm_move o q n s (alters Segments h f) e v = v
+calm_move o q n s (removes Groups h) e v = v
+calm_move o q n s (removes Mutexes h) e v = v
+calm_move o q n s (removes Sems h) e v = v
+calm_move o q n s (removes Rwls h) e v = v
+calm_move o q n s (removes Segments h) e v = v
+calm_move o q n s (phase_is p) e v = v
+calm_move o q n s released e v = v
+calm_move o q n s (stops w) e v = v
+
+-- The other ops, by their rows
+
+abbrev Then : State → Reply → List Move → Type 0
+Then s x ms = IsCalm (after_moves ms s)
+
+-- a task that is taken
+takes : (s : State) (w t a : ℕ) (x : Task) (y : Action) → IsCalm s → live_object s.tasks t ≡ Some x → live_object s.actions a ≡ Some y → is_eligible (workers s) w x.job x.cores y ≡ true → IsCalm (apply (runs_task t w y.kind) s)
+takes s w t a x y v e d m = record {
+  pure = v.pure;
+  on = v.on;
+  goes = every_change (Goes s.actions) t (with_fields (with_state (Running w y.kind))) s.tasks (λ r i g. runs r (some_same (sym e ∙ i))) v.goes;
+}
+  where
+    job : y.job ≡ x.job
+    job = eqb-true y.job x.job (snd_true y.enabled _ (fst_true (has_enabled_job x.job y) _ (fst_true (has_enabled_job x.job y && nat_lt w (workers s)) _ (fst_true (has_enabled_job x.job y && nat_lt w (workers s) && in_mask w y.cores) _ m))))
+
+    runs : (r : Listed Task) → x ≡ r.fields → HasPure s.actions r.fields.job y.kind
+    runs r i = record { handle = a; action = y; found = d; of_job = job ∙ ap (λ (z : Task). z.job) i; of_kind = refl; pure = every_at IsPure s.actions a y v.pure d }
+
+on_picks : (s : State) (w : ℕ) (r : Reply) → IsCalm s → AllGives (Then s) (picks s w r)
+on_picks s w (Picked t a k args) v =
+    on_live (Then s) (live_object s.tasks t.0) _ _ tt (λ x e. on_live (Then s) (live_object s.actions a.0) _ _ tt (λ y d. on_only (Then s) _ _ _ (λ m.
+    takes s w t.0 a.0 x y v e d (snd_true (is_ready s x) _ (fst_true (is_ready s x && is_eligible (workers s) w x.job x.cores y) _ m)))))
+on_picks s w _ v = on_only (Then s) (not (any_listed (can_take s w) s.tasks)) _ [] (λ m. v)
+
+on_stops : (b : Bool) (s : State) (w : ℕ) (z : Row) → IsCalm s → AllGives (Then s) z → AllGives (Then s) (cond b (gives Stop (stops w ∷ [])) z)
+on_stops true s w z v h = v
+on_stops false s w z v h = h
+
+-- a task that runs as this kind has the kind of an action of its job
+running : (actions : List (Listed Action)) (w : ℕ) (k : Kind) (t : Task) → Goes actions t → runs_as w k t ≡ true → HasPure actions t.job k
+running actions w k t g e = by_state t.state g e
+  where
+    by_state : (x : TaskState) → GoesIn actions t.job t.args x → holds (λ r. (r.0 == w) && (kind_number r.1 == kind_number k)) (runner x) ≡ true → HasPure actions t.job k
+    by_state Scheduled g e = true_false e refl
+    by_state (Running v j) g e = subst (HasPure actions t.job) (same_kind j k (eqb-true (kind_number j) (kind_number k) (snd_true (v == w) _ e))) g
+    by_state (Ended d n) g e = true_false e refl
+
+-- a task that ends as such a kind answers
+ends : (s : State) (t : ℕ) (x : Task) (d : Answered) → IsCalm s → live_object s.tasks t ≡ Some x → HasPure s.actions x.job d.kind → x.args ≡ d.args → IsAnswered d → IsCalm (apply (ends_task t (task_end d.end)) s)
+ends s t x d v e p same i = record {
+  pure = v.pure;
+  on = v.on;
+  goes = every_change (Goes s.actions) t (ended (task_end d.end) s.ends) s.tasks (λ r f g. over r (some_same (sym e ∙ f))) v.goes;
+}
+  where
+    over : (r : Listed Task) → x ≡ r.fields → IsPlain s.actions r.fields.job r.fields.args (task_end d.end)
+    over r f = (d.kind, subst (λ (z : Task). HasPure s.actions z.job d.kind) f p, ap task_end (i.answer ∙ ap (answer_of d.kind) (sym same ∙ ap (λ (z : Task). z.args) f)))
+
+same_args : (xs ys : List ℤ) → pointwise int_eq xs ys ≡ true → xs ≡ ys
+same_args xs ys e = (slice_eq-Decides Decides-int_eq xs ys (pointwise int_eq xs ys) refl).0 e
+
+on_finish : (s : State) (who t : ℕ) (d : Answered) (x : Task) → IsCalm s → IsAnswered d → live_object s.tasks t ≡ Some x → (runs_as who d.kind x && pointwise int_eq x.args d.args) ≡ true → Then s Ok (ends_task t (task_end d.end) ∷ [])
+on_finish s who t d x v i e m =
+    ends s t x d v e (running s.actions who d.kind x (every_at (Goes s.actions) s.tasks t x v.goes e) (fst_true (runs_as who d.kind x) _ m)) (same_args x.args d.args (snd_true (runs_as who d.kind x) _ m)) i
+
+-- no task runs as a watch or a tally
+pub none_impure : (s : State) (who t : ℕ) (k : Kind) (x : Task) → IsCalm s → is_pure k ≡ false → live_object s.tasks t ≡ Some x → not (runs_as who k x) ≡ false → ⊥
+none_impure s who t k x v n e m = true_false (running s.actions who k x (every_at (Goes s.actions) s.tasks t x v.goes e) (not_false _ m)).pure n
+
+none_shut : (queues : List (Listed Queue)) (t : Task) → Every IsOn queues → is_shut_in queues t ≡ false
+none_shut queues t v = by_queue t.queue
+  where
+    by_found : (h : ℕ) (o : Option Queue) → live_object queues h ≡ o → holds (λ (q : Queue). not q.enabled) o ≡ false
+    by_found h None e = refl
+    by_found h (Some q) e = ap not (every_at IsOn queues h q v e)
+
+    by_queue : (o : Option ℕ) → holds (λ h. holds (λ (q : Queue). not q.enabled) (live_object queues h)) o ≡ false
+    by_queue None = refl
+    by_queue (Some h) = by_found h (live_object queues h) refl
+
+on_close : (s : State) → IsCalm s → IsCalm (apply (ends_waiting (is_shut_in s.queues) Cancelled) s)
+on_close s v = record {
+  pure = v.pure;
+  on = v.on;
+  goes = every_passing (Goes s.actions) (λ t. is_unstarted t && is_shut_in s.queues t) Cancelled s.ends s.tasks (λ t k p g. true_false (snd_true (is_unstarted t) _ p) (none_shut s.queues t v.on)) v.goes;
+}
+
+row_calm : (s : State) (who : ℕ) (o : Op) (r : Reply) → IsHonest o → IsCalm s → is_special o ≡ true → AllGives (Then s) (row s who o r)
+row_calm s who op.Pick r i v n = λ a b c. on_stops (is_stop s) s who _ v (on_picks s who r v)
+row_calm s who (op.Finish t d) r i v n = λ c. on_live (Then s) (live_object s.tasks t.0) _ _ v (λ x e a. on_finish s who t.0 d x v i e (not_false _ a))
+row_calm s who (op.WatchEnd t) r i v n = λ c. on_live (Then s) (live_object s.tasks t.0) _ _ v (λ x e a. absurd (none_impure s who t.0 kind.Watch x v refl e a))
+row_calm s who (op.TallyEnd t) r i v n = λ c. on_live (Then s) (live_object s.tasks t.0) _ _ v (λ x e a. absurd (none_impure s who t.0 kind.Tally x v refl e a))
+row_calm s who op.Close r i v n = λ c. on_close s v
+row_calm s who (op.QueueCreate id job priority limit ordered retain) r i v n = λ a b c d e. on_only (Then s) _ _ _ (λ m. record { pure = v.pure; on = every_issue IsOn _ _ s.queues refl v.on; goes = v.goes })
+row_calm s who _ r i v n = true_false n refl
+
+pub calm_next : (s : State) (e : NodeEntry) → IsNext s e → is_quiet e.op ≡ true → IsCalm s → IsCalm (next s e)
+calm_next s e i q v = by_special (is_special e.op) refl
+  where
+    by_special : (b : Bool) → is_special e.op ≡ b → IsCalm (next s e)
+    by_special true n = moves_given (λ ms. IsCalm (after_moves ms s)) (row_of s e) v (row_calm s e.who e.op e.reply i.honest v n)
+    by_special false n = by_moves IsCalm s e (λ t m a c. calm_move e.op q n t m a c) v
+
+pub calm_along : (s : State) (L : List NodeEntry) → LegalFrom s L → AreQuiet L → IsCalm s → IsCalm (after_from s L)
+unfolding LegalFrom after_from
+calm_along s [] l q v = v
+calm_along s (e ∷ es) l q v = calm_along (next s e) es l.1 q.1 (calm_next s e l.0 q.0 v)
+
+pub calm_opening : (terms : Terms) → IsCalm (opening terms)
+calm_opening terms = record { pure = tt; on = tt; goes = tt }
+
+-- The record of a task by its handle
+
+every_task : (P : Task → Type 0) (l : List (Listed Task)) (h : ℕ) (t : Task) → Every P l → task_at l h ≡ Some t → P t
+unfolding task_at
+every_task P [] h t v e = absurd (cc)
+every_task P (r ∷ rs) h t v e = by_handle (r.handle == h) (every_task P rs h t v.1) e
+  where
+    by_handle : (b : Bool) → (task_at rs h ≡ Some t → P t) → cond b (Some r.fields) (task_at rs h) ≡ Some t → P t
+    by_handle true rest d = subst P (some_same d) v.0
+    by_handle false rest d = rest d
+
+plain_end : (actions : List (Listed Action)) (job : ℕ) (args : List ℤ) (x : TaskState) (e : TaskEnd) → GoesIn actions job args x → end_in x ≡ Some e → IsPlain actions job args e
+plain_end actions job args Scheduled e g i = absurd (cc)
+plain_end actions job args (Running w k) e g i = absurd (cc)
+plain_end actions job args (Ended d n) e g i = subst (IsPlain actions job args) (some_same i) g
+
+pub quiet_tasks_end_plainly : QuietTasksEndPlainly
+quiet_tasks_end_plainly terms L h legal quiet t e found over =
+    let v : IsCalm (after_from (opening terms) L) = calm_along (opening terms) L legal.from quiet (calm_opening terms) in
+    plain_end (after_from (opening terms) L).actions t.job t.args t.state e (every_task (Goes (after_from (opening terms) L).actions) (after_from (opening terms) L).tasks h t v.goes found) over
