@@ -47,3 +47,7 @@ pub mod Unmoved
 pub mod WorkedSum
 pub mod Attached
 pub mod Attends
+pub mod KindNumbers
+pub mod Quiet
+pub mod RowRest
+pub mod WorkerTurns

@@ -15,3 +15,4 @@ pub mod Told
 pub mod Tally
 pub mod WorkedSum
 pub mod TallyHolds
+pub mod Quiet

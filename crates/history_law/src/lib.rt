@@ -15,6 +15,7 @@ ghost use Rattle.history_law.specs.Exclusion.{MutexesKeepTo, SemsKeepTo, RwlsKee
 ghost use Rattle.history_law.specs.Told.{TellsItsEnd};
 ghost use Rattle.history_law.specs.Tally.{HoldsTheSum};
 ghost use Rattle.history_law.specs.TallyHolds.{RunningTalliesHold};
+ghost use Rattle.history_law.specs.Quiet.{QuietTasksEndPlainly};
 ghost use Rattle.history_law.specs.Reuse.{NeverAgain, NotInBoth};
 ghost use Rattle.history_law.specs.Seats.{OnceAfter, OnceStays, WaiterStays, WorkStays, NoLateEnd, PhaseStays, ReleaseStays, EnterBehindRelease, FinalBehindStops, EarlyStays, StoppedStays, StoppedRoom, UnstartedAreUntouched, EntriesBySeats};
 ghost use Rattle.history_law.specs.Served.{WorkIsServed};
@@ -225,4 +226,10 @@ pub fn law_tally(
 /// segment.
 pub fn law_tally_holds()
     ensures { RunningTalliesHold }
+{}
+
+/// Where nobody cancels, deletes or disables anything, and every action is of a pure kind, each task that has ended ended as the kind of
+/// an action of its job answers to its arguments.
+pub fn law_quiet_ends()
+    ensures { QuietTasksEndPlainly }
 {}

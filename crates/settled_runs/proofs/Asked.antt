@@ -26,7 +26,7 @@ use Rattle.sched_workers.specs.RunOf.{is_work, all_work, WorkerRan, RunOf}
 use Rattle.history_law.specs.Seats.{BySeats}
 use Rattle.mtapi_machine.proofs.Made.{fst_true, snd_true, both_true}
 use Rattle.history_law.proofs.Answered.{true_false}
-use Rattle.settled_runs.specs.Quiet.{is_quiet}
+use Rattle.history_law.specs.Quiet.{is_quiet}
 use Rattle.settled_runs.specs.Plain.{all_statements, action_in, actions_in}
 use Rattle.settled_runs.specs.Settled.{is_settled_deed, are_settled, is_settled_further, are_settled_parts, is_settled}
 

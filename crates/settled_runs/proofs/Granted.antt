@@ -35,7 +35,7 @@ use Rattle.history_law.specs.Seats.{closes, NoClose}
 use Rattle.history_law.proofs.Answered.{true_false}
 use Rattle.history_law.proofs.Objects.{cut_from, cut_after}
 use Rattle.history_law.proofs.Others.{terms_stay}
-use Rattle.settled_runs.specs.Quiet.{AreQuiet}
+use Rattle.history_law.specs.Quiet.{AreQuiet}
 use Rattle.settled_runs.specs.Granted.{IsOpened, HasRoom, IsServed, GroupIsMade, Asks, IsGranted}
 use Rattle.settled_runs.proofs.Sizes.{GrowsBy, tasks_grow, actions_grow, groups_grow, has_room}
 use Rattle.settled_runs.proofs.Stays.{made_objects_stay}

@@ -20,7 +20,7 @@ use Rattle.mtapi_machine.proofs.Made.{fst_true}
 use Rattle.mtapi_machine.proofs.Moves.{sorts_keep}
 use Rattle.history_law.proofs.Answered.{true_false}
 use Rattle.history_law.proofs.Found.{FoundAs, found_changed, found_issued, found_ends, found_all}
-use Rattle.settled_runs.specs.Quiet.{is_quiet}
+use Rattle.history_law.specs.Quiet.{is_quiet}
 use Rattle.settled_runs.specs.Verdicts.{starts_member, looks_at_all}
 use Rattle.settled_runs.proofs.Waits.{notes_tasks, noting, taking}
 

@@ -1,6 +1,4 @@
 pub mod Computed
-pub mod KindNumbers
-pub mod Quiet
 pub mod PlainReplies
 pub mod Stays
 pub mod Sizes

@@ -29,7 +29,7 @@ use Rattle.history_law.specs.Seats.{closes, NoClose, BySeats, is_release, is_rel
 use Rattle.history_law.proofs.Answered.{true_false}
 use Rattle.history_law.proofs.Bounds.{by_seats}
 use Rattle.run_report.specs.Report.{run_terms}
-use Rattle.settled_runs.specs.Quiet.{AreQuiet}
+use Rattle.history_law.specs.Quiet.{AreQuiet}
 use Rattle.settled_runs.specs.Granted.{IsOpened}
 use Rattle.settled_runs.specs.Plain.{all_statements, actions_in}
 use Rattle.settled_runs.specs.RunGranted.{SettledRun}

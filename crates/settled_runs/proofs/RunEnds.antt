@@ -38,12 +38,12 @@ use Rattle.history_law.proofs.Objects.{StartedAs, started_as, task_then, cut_fro
 use Rattle.history_law.proofs.Bounds.{by_seats}
 use Rattle.sched_workers.specs.RunOf.{RunOf}
 use Rattle.run_report.specs.Report.{run_terms}
-use Rattle.settled_runs.specs.Quiet.{is_quiet, AreQuiet, task_at, IsPlain}
+use Rattle.history_law.specs.Quiet.{is_quiet, AreQuiet, task_at, IsPlain}
 use Rattle.settled_runs.specs.Plain.{all_statements, actions_in, plain_end}
 use Rattle.settled_runs.specs.Settled.{are_alike, are_settled_parts, has_one_kind_a_job, has_different_ids, has_room, keep_limits, has_one_fault_a_group, is_settled}
 use Rattle.settled_runs.specs.RunEnds.{SettledTasksEndAsPlanned}
-use Rattle.settled_runs.proofs.KindNumbers.{same_kind}
-use Rattle.settled_runs.proofs.Quiet.{none_withdrawn, quiet_tasks_end_plainly}
+use Rattle.history_law.proofs.KindNumbers.{same_kind}
+use Rattle.history_law.proofs.Quiet.{none_withdrawn, quiet_tasks_end_plainly}
 use Rattle.settled_runs.proofs.Asked.{is_listed, is_planned, ArePlanned, run_planned}
 
 -- What is planned is quiet, and each action is one of those of the workload

@@ -28,8 +28,8 @@ use Rattle.history_law.proofs.AtHandles.{at_issue_here, at_issue_other}
 use Rattle.history_law.proofs.Objects.{cut_from, cut_after}
 use Rattle.history_law.proofs.Reuse.{fresh_unlisted, fresh_apart, issued_as}
 use Rattle.history_law.proofs.Unmoved.{live_stays}
-use Rattle.settled_runs.specs.Quiet.{is_quiet, AreQuiet}
-use Rattle.settled_runs.proofs.Quiet.{none_withdrawn}
+use Rattle.history_law.specs.Quiet.{is_quiet, AreQuiet}
+use Rattle.history_law.proofs.Quiet.{none_withdrawn}
 use Rattle.settled_runs.specs.Granted.{IsThere, MadeObjectsStay}
 
 -- The entry that makes it

@@ -41,10 +41,10 @@ use Rattle.history_law.proofs.Found.{FoundAs, found_changed, found_issued}
 use Rattle.history_law.proofs.Handles.{OnceIn}
 use Rattle.history_law.proofs.Ordered.{end_found}
 use Rattle.history_law.proofs.Reuse.{fresh_unlisted}
-use Rattle.settled_runs.specs.Quiet.{is_quiet, AreQuiet}
+use Rattle.history_law.specs.Quiet.{is_quiet, AreQuiet}
 use Rattle.settled_runs.specs.Granted.{is_handle}
 use Rattle.settled_runs.specs.Verdicts.{starts_member, looks_at_all, with_new, members_behind, members_of, goes_on, GoOn, IsVerdict, QuietVerdicts}
-use Rattle.settled_runs.proofs.Quiet.{IsCalm, none_impure, calm_next, calm_along, calm_opening}
+use Rattle.history_law.proofs.Quiet.{IsCalm, none_impure, calm_next, calm_along, calm_opening}
 use Rattle.settled_runs.proofs.Granted.{any_found, open_move}
 use Rattle.settled_runs.proofs.Stays.{there_next, made_there}
 use Rattle.settled_runs.proofs.Named.{IsNamed, Named, named_along}

@@ -30,7 +30,7 @@ use Rattle.history_law.proofs.Accepted.{front_stays}
 use Rattle.history_law.proofs.Answered.{true_false}
 use Rattle.run_report.specs.Report.{run_terms}
 use Rattle.settled_runs.specs.Plain.{all_statements, actions_in, no_faults}
-use Rattle.settled_runs.specs.Quiet.{AreQuiet}
+use Rattle.history_law.specs.Quiet.{AreQuiet}
 use Rattle.settled_runs.specs.RunGranted.{AllGranted, SettledRun}
 use Rattle.settled_runs.specs.Settled.{are_settled, have_one_fault_a_group}
 use Rattle.settled_runs.specs.Verdicts.{members_of, GoOn, IsVerdict}

@@ -39,9 +39,9 @@ use Rattle.history_law.proofs.AtHandles.{at_issue_here}
 use Rattle.history_law.proofs.Found.{FoundAs, found_changed, found_issued, found_ends, found_all}
 use Rattle.history_law.proofs.Objects.{cut_from, cut_after}
 use Rattle.history_law.proofs.Reuse.{fresh_unlisted, issued_as}
-use Rattle.settled_runs.specs.Quiet.{is_quiet, AreQuiet}
+use Rattle.history_law.specs.Quiet.{is_quiet, AreQuiet}
 use Rattle.settled_runs.specs.Waits.{starts_alone, looks_at, AreLeft, QuietLooksAreAnswered}
-use Rattle.settled_runs.proofs.Quiet.{IsCalm, calm_next, calm_along, calm_opening, none_impure}
+use Rattle.history_law.proofs.Quiet.{IsCalm, calm_next, calm_along, calm_opening, none_impure}
 use Rattle.settled_runs.proofs.Stays.{quiet_rest, quiet_front}
 use Rattle.settled_runs.proofs.Granted.{before, is_up as open_now, allowed}
 

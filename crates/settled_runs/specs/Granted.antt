@@ -21,7 +21,7 @@ use Rattle.mtapi_machine.specs.QueueRows.{new_queue}
 use Rattle.mtapi_machine.specs.Legal.{NodeEntry, Legal, after}
 use Rattle.history_law.specs.Words.{objects_of, makes, some_entry, entries_that}
 use Rattle.history_law.specs.Seats.{NoClose}
-use Rattle.settled_runs.specs.Quiet.{AreQuiet}
+use Rattle.history_law.specs.Quiet.{AreQuiet}
 
 -- What was made
 

@@ -1,7 +1,6 @@
 pub mod Plain
 pub mod Settled
 pub mod Worked
-pub mod Quiet
 pub mod PlainReplies
 pub mod Granted
 pub mod Waits

@@ -18,7 +18,7 @@ use Rattle.mtapi_machine.specs.Legal.{NodeEntry, Legal, after}
 use Rattle.mtapi_machine.specs.Ends.{end_at}
 use Rattle.history.specs.Histories.{entry}
 use Rattle.history_law.specs.Seats.{closes}
-use Rattle.settled_runs.specs.Quiet.{AreQuiet}
+use Rattle.history_law.specs.Quiet.{AreQuiet}
 
 -- the op asks for a task of this group
 abbrev pub starts_member : ℕ → Op → Bool

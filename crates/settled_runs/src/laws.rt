@@ -1,6 +1,5 @@
 //! Laws that follow from the definitions alone. Each function does nothing: its contract is the law.
 
-ghost use Rattle.settled_runs.specs.Quiet.{QuietTasksEndPlainly};
 ghost use Rattle.settled_runs.specs.PlainReplies.{PlainRepliesShowPlainReport};
 ghost use Rattle.settled_runs.specs.Granted.{MadeObjectsStay, QuietCallsAreGranted};
 ghost use Rattle.settled_runs.specs.RunGranted.{SettledStatementsAreGranted};
@@ -11,11 +10,10 @@ ghost use Rattle.settled_runs.specs.RunEnds.{SettledTasksEndAsPlanned};
 ghost use Rattle.settled_runs.specs.Waits.{QuietLooksAreAnswered};
 ghost use Rattle.settled_runs.specs.Verdicts.{QuietVerdicts};
 
-/// Where nobody cancels, deletes or disables anything, and every action is of a pure kind, each task ends as the kind of an action of its
-/// job answers to its arguments; and the actions, queues and groups that were made stay as they were made. No call
-/// is refused for which there is room and all that it needs; nor is a look at a task that its caller alone looks at.
+/// Where nobody cancels, deletes or disables anything, and every action is of a pure kind, the actions, queues and groups that were made
+/// stay as they were made. No call is refused for which there is room and all that it needs; nor is a look at a task that its caller
+/// alone looks at. How the tasks end says `history_law::law_quiet_ends`.
 pub fn law_quiet()
-    ensures ends { QuietTasksEndPlainly }
     ensures stays { MadeObjectsStay }
     ensures granted { QuietCallsAreGranted }
     ensures answered { QuietLooksAreAnswered }

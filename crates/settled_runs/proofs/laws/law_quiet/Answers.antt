@@ -1,12 +1,8 @@
-use Rattle.settled_runs.proofs.Quiet.{quiet_tasks_end_plainly}
 use Rattle.settled_runs.proofs.Verdicts.{quiet_verdicts}
 use Rattle.settled_runs.proofs.Calls.{quiet_calls_are_granted}
 use Rattle.settled_runs.proofs.Stays.{made_objects_stay}
 use Rattle.settled_runs.proofs.Waits.{quiet_looks_are_answered}
 use Rattle.settled_runs.proofs.laws.law_quiet.Goals as goal
-
-pub returns-clause-ends : goal.returns-clause-ends
-returns-clause-ends c = quiet_tasks_end_plainly
 
 pub returns-clause-stays : goal.returns-clause-stays
 returns-clause-stays c = made_objects_stay

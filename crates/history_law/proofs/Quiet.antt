@@ -37,8 +37,8 @@ use Rattle.mtapi_machine.proofs.Moves.{by_moves}
 use Rattle.history_law.proofs.Answered.{true_false}
 use Rattle.history_law.proofs.Every.{Every, every_issue, every_change, every_all, every_map, every_at, every_passing, always}
 use Rattle.history_law.proofs.Found.{found_changed, found_issued}
-use Rattle.settled_runs.specs.Quiet.{is_quiet, AreQuiet, HasPure, task_at, IsPlain, QuietTasksEndPlainly}
-use Rattle.settled_runs.proofs.KindNumbers.{same_kind}
+use Rattle.history_law.specs.Quiet.{is_quiet, AreQuiet, HasPure, task_at, IsPlain, QuietTasksEndPlainly}
+use Rattle.history_law.proofs.KindNumbers.{same_kind}
 
 -- What such a history keeps
 
