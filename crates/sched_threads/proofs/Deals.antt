@@ -98,17 +98,15 @@ crew_complete z w m parts ss a c c' d i e t n clean = came_complete z w m parts 
 -- The journal of a closed cell is a run of the workload
 
 -- a number stands beside each kept entry
+both_or_none : (b : Bool) (es : List NodeEntry) (e : NodeEntry) (ns : List ℕ) (n : ℕ) → length es ≡ length ns → length (if b then es else e ∷ es) ≡ length (if b then ns else n ∷ ns)
+both_or_none true es e ns n rest = rest
+both_or_none false es e ns n rest = ap suc rest
+
 beside_each : (s : State) (counts : List ℕ) (L : List NodeEntry) → length (kept s L) ≡ length (skipped s counts L)
 unfolding kept skipped
 beside_each s counts [] = refl
-beside_each s counts (e ∷ L) = by_drop (is_dropped s e)
-  where
-    rest : length (kept (next s e) L) ≡ length (skipped (next s e) (counts_next s counts e) L)
-    rest = beside_each (next s e) (counts_next s counts e) L
-
-    by_drop : (b : Bool) → length (if b then kept (next s e) L else e ∷ kept (next s e) L) ≡ length (let others = skipped (next s e) (counts_next s counts e) L in if b then others else slice_index counts e.who ∷ others)
-    by_drop true = rest
-    by_drop false = ap suc rest
+beside_each s counts (e ∷ L) =
+    both_or_none (is_dropped s e) (kept (next s e) L) e (skipped (next s e) (counts_next s counts e) L) (slice_index counts e.who) (beside_each (next s e) (counts_next s counts e) L)
 
 -- the close and the final call stand at the end
 last : (xs : List NodeEntry) (x : NodeEntry) (ys zs : List NodeEntry) → xs ++ x ∷ (ys ++ zs) ≡ (xs ++ x ∷ ys) ++ zs
