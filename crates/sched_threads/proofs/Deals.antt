@@ -1,6 +1,6 @@
 -- The seats of a new cell, dealt; and what a whole run begins and ends with.
-use Rattle.std.proofs.Common.{◌≡◌, ℕ, zero, suc, ◌+◌, ◌<◌, ◌≤◌, List, [], ◌∷◌, ◌++◌, length, get_or, take, drop, true, Result, refl, sym, ◌∙◌, ap, subst, arith}
-use Rattle.std.specs.Prelude.{◌-◌, All, IfOk}
+use Rattle.std.proofs.Common.{◌≡◌, ℕ, zero, suc, ◌+◌, ◌<◌, ◌≤◌, Bool, List, [], ◌∷◌, ◌++◌, length, get_or, take, drop, true, false, Result, refl, sym, ◌∙◌, ap, subst, arith, append_assoc}
+use Rattle.std.specs.Prelude.{◌-◌, All, IfOk, slice_index, if◌then◌else◌}
 use Rattle.std.proofs.lemmas.Result.{IfOk-weaker}
 use Rattle.std.proofs.lemmas.List.Elements.{All-nil, All-cons, All-push}
 use Rattle.turn_cell.specs.Lists.{all_of}
@@ -10,21 +10,25 @@ use Rattle.workload_file.specs.declared.workload.Statement.{Statement}
 use Rattle.workload_file.specs.declared.workload.Part.{Part}
 use Rattle.workload_file.specs.declared.workload.Workload.{Workload}
 use Rattle.mtapi_machine.specs.declared.terms.Terms.{Terms}
-use Rattle.mtapi_machine.specs.declared.ops.Op.TheVariants.{Final}
-use Rattle.mtapi_machine.specs.State.{opening}
-use Rattle.mtapi_machine.specs.Legal.{NodeEntry, Legal}
-use Rattle.mtapi_machine.specs.Kept.{kept}
+use Rattle.history.specs.Histories.{entry}
+use Rattle.mtapi_machine.specs.declared.ops.Op.TheVariants.{Close, Final}
+use Rattle.mtapi_machine.specs.declared.replies.Reply.TheVariants.{Ok}
+use Rattle.mtapi_machine.specs.State.{State, opening}
+use Rattle.mtapi_machine.specs.Legal.{NodeEntry, Legal, next}
+use Rattle.mtapi_machine.specs.Kept.{kept, skipped, is_dropped, counts_next, no_counts}
 use Rattle.node_core.specs.declared.entries.Journal.{Journal}
 use Rattle.node_core.specs.declared.journaled.JournaledTerms.{JournaledTerms}
-use Rattle.node_core.specs.Logs.{journal_seats}
+use Rattle.node_core.specs.Logs.{journal_seats, KeptAs}
 use Rattle.sched_workers.specs.RunOf.{RunOf}
+use Rattle.sched_workers.specs.Whole.{RunBy}
+use Rattle.history_law.proofs.Accepted.{accepted_end}
 use Rattle.sched_workers.proofs.Joins.{journal_run}
 use Rattle.sched_threads.specs.declared.crew.back.Crew.{Crew}
 use Rattle.sched_threads.specs.declared.crew.back.AllHands.{AllHands}
 use Rattle.sched_threads.specs.Turns.{Seat}
 use Rattle.sched_threads.specs.declared.run.RunError.{RunError}
 use Rattle.sched_threads.specs.Crews.{Cell, HasPart, IsIdle, AreAllReady, IsOf, IsClean, IsWholeCrewOf, IsEnded, AllDid}
-use Rattle.sched_threads.specs.Runs.{terms_for, IsRunOf, Dealt, JournalOf}
+use Rattle.sched_threads.specs.Runs.{terms_for, IsRun, Dealt, JournalOf}
 use Rattle.sched_threads.proofs.Meets.{each_of}
 use Rattle.sched_threads.proofs.Starts.{new_at_rest}
 use Rattle.sched_threads.proofs.Came.{Came, came, came_complete, came_known}
@@ -93,7 +97,22 @@ crew_complete z w m parts ss a c c' d i e t n clean = came_complete z w m parts 
 
 -- The journal of a closed cell is a run of the workload
 
-pub run_is : (load : Workload) (z : Cell) (m : ℕ) (p : Part) (ps : List Part) (c : Crew) (j : Journal) → load.parts ≡ p ∷ ps → m ≡ length ps → z.terms.node ≡ terms_for load → Came z load.settings.workers m (p ∷ ps) p.statements c → JournalOf z c j → IsRunOf load j
+-- a number stands beside each kept entry
+both_or_none : (b : Bool) (es : List NodeEntry) (e : NodeEntry) (ns : List ℕ) (n : ℕ) → length es ≡ length ns → length (if b then es else e ∷ es) ≡ length (if b then ns else n ∷ ns)
+both_or_none true es e ns n rest = rest
+both_or_none false es e ns n rest = ap suc rest
+
+beside_each : (s : State) (counts : List ℕ) (L : List NodeEntry) → length (kept s L) ≡ length (skipped s counts L)
+unfolding kept skipped
+beside_each s counts [] = refl
+beside_each s counts (e ∷ L) =
+    both_or_none (is_dropped s e) (kept (next s e) L) e (skipped (next s e) (counts_next s counts e) L) (slice_index counts e.who) (beside_each (next s e) (counts_next s counts e) L)
+
+-- the close and the final call stand at the end
+last : (xs : List NodeEntry) (x : NodeEntry) (ys zs : List NodeEntry) → xs ++ x ∷ (ys ++ zs) ≡ (xs ++ x ∷ ys) ++ zs
+last xs x ys zs = sym (append_assoc xs (x ∷ ys) zs)
+
+pub run_is : (load : Workload) (z : Cell) (m : ℕ) (p : Part) (ps : List Part) (c : Crew) (j : Journal) → load.parts ≡ p ∷ ps → m ≡ length ps → z.terms.node ≡ terms_for load → Came z load.settings.workers m (p ∷ ps) p.statements c → JournalOf z c j → IsRun load j
 run_is load z m p ps c j e n t x k =
     let parts_count : length load.parts ≡ length (p ∷ ps) = ap (λ (l : List Part). length l) e in
     let workers_are : z.terms.node.settings.workers ≡ load.settings.workers = ap (λ (u : Terms). u.settings.workers) t in
@@ -103,14 +122,25 @@ run_is load z m p ps c j e n t x k =
     let some_callers = fits.callers in
     let known = came_known z load.settings.workers m (p ∷ ps) p.statements c x k.history k.legal k.seats workers_are (omega arith) (omega arith) in
     let total : load.settings.workers + (m + 1) ≡ load.settings.workers + length (p ∷ ps) = omega arith in
-    let run = run_by load z.terms.node p ps k.history (subst (λ (i : ℕ). Known z.terms.node load.settings.workers i (p ∷ ps) p.statements k.history) total known) e in
-    let is_run = journal_run load z.terms.node k.history (omega arith, omega arith) run in
+    let whole = run_by load z.terms.node p ps k.history (subst (λ (i : ℕ). Known z.terms.node load.settings.workers i (p ∷ ps) p.statements k.history) total known) e in
+    let told = journal_run load z.terms.node k.history (omega arith, omega arith) whole in
+    let run = subst (λ (es : List NodeEntry). RunOf load es j.entries.skipped) (sym k.kept.entries) (subst (λ (ns : List ℕ). RunOf load (kept (opening z.terms.node) k.history) ns) (sym k.kept.numbers) told) in
+    let legal = subst (λ (u : Terms). Legal u j.entries.entries) t k.kept.legal in
+    let main = load.settings.workers in
+    let ends = run.ends in
     record {
       settings = k.kept.settings ∙ ap (λ (u : Terms). u.settings) t;
       callers = k.kept.callers ∙ callers_are;
       layout = k.kept.layout ∙ ap (λ (u : Terms). u.layout) t;
-      legal = subst (λ (u : Terms). Legal u j.entries.entries) t k.kept.legal;
-      run = subst (λ (es : List NodeEntry). RunOf load es j.entries.skipped) (sym k.kept.entries) (subst (λ (ns : List ℕ). RunOf load (kept (opening z.terms.node) k.history) ns) (sym k.kept.numbers) is_run);
+      beside = ap (λ (es : List NodeEntry). length es) k.kept.entries ∙ (beside_each (opening z.terms.node) no_counts k.history ∙ ap (λ (ns : List ℕ). length ns) (sym k.kept.numbers));
+      history = k.history;
+      answered = subst (λ (u : Terms). Legal u k.history) t k.legal;
+      made = subst (λ (u : Terms). RunBy load (opening u) k.history) t whole;
+      kept = subst (λ (u : Terms). KeptAs u j k.history) t k.kept;
+      legal = legal;
+      run = run;
+      tasks = accepted_end (terms_for load) j.entries.entries (ends.before ++ entry main Close Ok ∷ ends.behind) main legal
+          (ends.closes ∙ last ends.before (entry main Close Ok) ends.behind (entry main Final Ok ∷ []));
     }
 
 pub of_cell : (z : Cell) (c : Crew) → IsOf z c → all_of (λ (s : Seat). s.cell ≡ z.id) (c.others.items ++ c.main ∷ [])
@@ -142,8 +172,8 @@ first_part (q ∷ qs) p l e = (qs, ap (λ (x : Part). x ∷ qs) (sym e))
 
 -- and what it gives
 pub ran : (load : Workload) (z : Cell) (w m : ℕ) (parts : List Part) (ss : List Statement) (p : Part) (qs : List Part) (a : AllHands) (c c' : Crew) (r : Result Journal RunError) → w ≡ load.settings.workers → parts ≡ p ∷ qs → load.parts ≡ p ∷ qs → ss ≡ p.statements → m ≡ length qs → z.terms.node ≡ terms_for load
-    → Dealt z w m a → IsWholeCrewOf z parts ss a c → IsEnded Final c c' → IfOk r (JournalOf z c') → IfOk r (IsRunOf load)
-ran load z w m parts ss p qs a c c' r we pe le se me te d i e h = IfOk-weaker r (JournalOf z c') (IsRunOf load) (λ j k. run_is load z m p qs c' j le me te (shown k.clean) k) h
+    → Dealt z w m a → IsWholeCrewOf z parts ss a c → IsEnded Final c c' → IfOk r (JournalOf z c') → IfOk r (IsRun load)
+ran load z w m parts ss p qs a c c' r we pe le se me te d i e h = IfOk-weaker r (JournalOf z c') (IsRun load) (λ j k. run_is load z m p qs c' j le me te (shown k.clean) k) h
   where
     shown : IsClean c' → Came z load.settings.workers m (p ∷ qs) p.statements c'
     shown clean =

@@ -5,11 +5,13 @@ use Rattle.turn_cell.specs.Seats.{fresh_seat, fresh_seats, IsSeatOf}
 use Rattle.workload_file.specs.declared.workload.Workload.{Workload}
 use Rattle.mtapi_values.specs.declared.handles.Layout.TheVariants.{Two}
 use Rattle.mtapi_machine.specs.declared.terms.Terms.{Terms}
-use Rattle.mtapi_machine.specs.State.{terms_with}
+use Rattle.mtapi_machine.specs.State.{terms_with, opening}
 use Rattle.mtapi_machine.specs.Legal.{NodeEntry, Legal}
 use Rattle.node_core.specs.declared.entries.Journal.{Journal}
 use Rattle.node_core.specs.Logs.{KeptAs}
 use Rattle.sched_workers.specs.RunOf.{RunOf}
+use Rattle.sched_workers.specs.Whole.{RunBy}
+use Rattle.history_law.specs.Accepted.{TasksEndOnce}
 use Rattle.sched_threads.specs.declared.crew.back.Crew.{Crew}
 use Rattle.sched_threads.specs.declared.crew.back.AllHands.{AllHands}
 use Rattle.sched_threads.specs.declared.run.RunError.{RunError}
@@ -21,13 +23,27 @@ use Rattle.sched_threads.specs.Crews.{Cell, IsClean}
 abbrev pub terms_for : Workload → Terms
 terms_for load = terms_with Two load.settings (length load.parts)
 
--- the journal has these terms, is legal, and is a run of the workload
-pub record IsRunOf (load : Workload) (j : Journal) : Type 0 where
+-- The journal is that of a run of the workload.
+pub record IsRun (load : Workload) (j : Journal) : Type 0 where
+  -- it was made with the workload's settings, one caller for each part, and handles of layout two
   pub settings : j.settings ≡ load.settings
   pub callers : j.callers ≡ length load.parts
   pub layout : j.layout ≡ Two
+  -- it has a number beside each entry
+  pub beside : length j.entries.entries ≡ length j.entries.skipped
+  -- all calls made one history, and each was answered as the one-thread machine allows
+  pub history : List NodeEntry
+  pub answered : Legal (terms_for load) history
+  -- they are each caller's calls once, in that caller's order, and the workers' rounds
+  pub made : RunBy load (opening (terms_for load)) history
+  -- the journal is what is kept of that history
+  pub kept : KeptAs (terms_for load) j history
+  -- it is by itself a legal history of the one-thread machine
   pub legal : Legal (terms_for load) j.entries.entries
+  -- it holds each caller's calls once, in that caller's order
   pub run : RunOf load j.entries.entries j.entries.skipped
+  -- every accepted task stands in exactly one of completed, cancelled and error, for good
+  pub tasks : TasksEndOnce (terms_for load) j.entries.entries
 
 -- where a run was refused, the count of refused threads rose; `Spent` shows a ticket word of at least 2^62
 abbrev pub Causes : ℕ → ℕ → RunError → Type 0

@@ -5,7 +5,7 @@ ghost use Rattle.node_core.specs.Stands.{Stands, terms_of};
 ghost use Rattle.node_core.specs.Logs.{journal_seats};
 ghost use Rattle.sched_threads.specs.Pairs.{Rose};
 ghost use Rattle.sched_threads.specs.Crews.{IsOf, IsClean};
-ghost use Rattle.sched_threads.specs.Runs.{terms_for, IsRunOf, Causes, Dealt, JournalOf};
+ghost use Rattle.sched_threads.specs.Runs.{terms_for, IsRun, Causes, Dealt, JournalOf};
 
 use crate::beside::Beside;
 use crate::crew::back::{AllHands, Crew, Hands};
@@ -124,7 +124,7 @@ pub fn run_node<S: ActionSource, B: Beside, R: StartsThreads + Wait + Sync>(
 ) -> Result<RunJournal, RunError>
     requires new { Stands node [] }
     requires terms { terms_of node ≡ terms_for load.now }
-    ensures run { IfOk result (IsRunOf load.now) }
+    ensures run { IfOk result (IsRun load.now) }
     ensures causes { IfErr result (Causes (B.refusals beside.old) (B.refusals beside.new)) }
 {
     let parts = load.parts.as_slice();
