@@ -1,11 +1,11 @@
 #!/usr/bin/env python3
 """What `mtapi check` costs, in processor time and in memory. Prints a line for each figure.
 
-Judges the journals of runs of generated workloads, of about 15,000 and 60,000 entries, and journals that are made to cost much: a group
-of 20,000 members, a queue of 20,000 tasks, 1,000 actions of one job beside 20,000 tasks that wait, 1,000 disables beside them that
-end nothing (of an action whose cores another one covers, and of one that has a core of its own), and 20,000 slots that are used once or
-twice. Fails where a verdict is another one than expected, or where four times the entries take more than 4.6 times the time.
-The command has to be built: run `./mtapi` once before.
+Judges the journals of runs of generated workloads, of about 15,000 and 60,000 entries, and journals that are made to
+cost much: a group of 20,000 members, a queue of 20,000 tasks, 1,000 actions of one job beside 20,000 tasks that wait,
+1,000 disables beside them that end nothing (of an action whose cores another one covers, and of one that has a core of
+its own), and 20,000 slots that are used once or twice. Fails where a verdict is another one than expected, or where
+four times the entries take more than 4.6 times the time. The command has to be built: run `./mtapi prove` before.
 """
 
 import os
@@ -50,8 +50,8 @@ def made(lines):
 
 
 def cut(lines, generations):
-    """A journal of these entries behind the first ones, of a node whose slots are used so often and which may have as many tasks as there
-    are in the other journals. It ends before the tasks do."""
+    """A journal of these entries behind the first ones, of a node whose slots are used so often and which may have as
+    many tasks as there are in the other journals. It ends before the tasks do."""
     head = HEAD.replace("tasks=65536", f"tasks={MANY}").replace("generations=4294967295", f"generations={generations}")
     return "".join(line + "\n" for line in [head] + START + [ACTION] + lines)
 

@@ -28,11 +28,12 @@ fn words(rt: &HostRuntime) -> u64 {
 def need_command():
     """Ends the script where the command hasn't been built."""
     if not os.access(COMMAND, os.X_OK):
-        sys.exit("build the command first: ./mtapi")
+        sys.exit("build the command first: ./mtapi prove")
 
 
 def with_crate(folder, name, libraries, files):
-    """Makes a copy of the repository in this folder, with a further crate of these files over these libraries. The crate's folder.
+    """Makes a copy of the repository in this folder, with a further crate of these files over these libraries. The
+    crate's folder.
 
     A file without a folder stands in `src`."""
     shutil.copytree(os.path.join(TOP, "crates"), os.path.join(folder, "crates"), ignore=shutil.ignore_patterns("out", "must-fail"))

@@ -1,8 +1,9 @@
 #!/usr/bin/env python3
-"""Writes a workload of N tasks on W workers to standard output: `bench/generated.py N [W]`, where W is 4 unless it is given.
+"""Writes a workload of N tasks on W workers to standard output: `bench/generated.py N [W]`, where W is 4 unless it is
+given.
 
-Tasks of even number add two numbers, and those of odd number sum the numbers up to one below 64. All are in one group, and the workload waits
-for it.
+Tasks of even number add two numbers, and those of odd number sum the numbers up to one below 64. All are in one group,
+and the workload waits for it.
 """
 
 import sys

@@ -1,10 +1,11 @@
 #!/usr/bin/env python3
-"""Input that means harm, given to `mtapi`: `bench/hostile.py [WORD]`, where only cases with this word in their name are run.
+"""Input that means harm, given to `mtapi`: `bench/hostile.py [WORD]`, where only cases with this word in their name are
+run.
 
-Prints for each case its status, its seconds and what it wrote, and fails where one takes longer than the limit, hangs, is ended by a
-signal, or has another status than the case allows. The seconds are those on the clock or those of the processors, whichever are fewer,
-so that other work on the machine counts less; a case that takes too long is tried again. The command has to be built: run `./mtapi`
-once before.
+Prints for each case its status, its seconds and what it wrote, and fails where one takes longer than the limit, hangs,
+is ended by a signal, or has another status than the case allows. The seconds are those on the clock or those of the
+processors, whichever are fewer, so that other work on the machine counts less; a case that takes too long is tried
+again. The command has to be built: run `./mtapi prove` before.
 """
 
 import os
@@ -189,7 +190,8 @@ def tried(name, allowed, command, data=None):
 
 
 def redirected(name, allowed, line, room):
-    """A case that a shell sets up: `line` is its command, where PROGRAM stands for the program, and SMALL for a file with a workload."""
+    """A case that a shell sets up: `line` is its command, where PROGRAM stands for the program, and SMALL for a file
+    with a workload."""
     small = os.path.join(room, "small.workload")
     with open(small, "wb") as file:
         file.write(SMALL)

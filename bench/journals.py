@@ -1,9 +1,10 @@
 #!/usr/bin/env python3
 """What reading and writing journals as text costs, in processor time and in memory. Prints a line for each figure.
 
-Builds the program below over a copy of the repository in a folder of its own, which takes long where the crates below `journal_text`
-have not been proved on this machine. Each text is written back and compared. Fails where 60,000 entries take a second or more to be
-read or to be written, or where four times the entries or bytes take more than 4.6 times the time or the memory.
+Builds the program below over a copy of the repository in a folder of its own, which takes long where the crates below
+`journal_text` have not been proved on this machine. Each text is written back and compared. Fails where 60,000 entries
+take a second or more to be read or to be written, or where four times the entries or bytes take more than 4.6 times the
+time or the memory.
 """
 
 import os

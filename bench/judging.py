@@ -1,10 +1,11 @@
 #!/usr/bin/env python3
 """Compares what `mtapi check` says of many journals with the judge of `reference.py`: `bench/judging.py [SEED]`.
 
-The journals are those of runs of the examples, of some short workloads and of twenty generated ones, in both texts, each with one thing
-changed; histories that the reference machine walks by itself, through all ops and most refusals, with one reply changed; and the table
-of changed journals that stands among the tests. Prints a line for each kind of change, with how many journals were judged in which way,
-and each difference in full, and ends with 1 where there is one. The command has to be built: run `./mtapi` once before.
+The journals are those of runs of the examples, of some short workloads and of twenty generated ones, in both texts,
+each with one thing changed; histories that the reference machine walks by itself, through all ops and most refusals,
+with one reply changed; and the table of changed journals that stands among the tests. Prints a line for each kind of
+change, with how many journals were judged in which way, and each difference in full, and ends with 1 where there is
+one. The command has to be built: run `./mtapi prove` before.
 """
 
 import os
@@ -32,7 +33,7 @@ def answers(words, inputs):
         yield done.stdout + done.stderr
 
 
-# --- Changed journals --------------------------------------------------------------------------------------------------------------
+# --- Changed journals ------------------------------------------------------------------------------------------------
 
 HANDLE = re.compile(r"(?<=[ ])[atgqmsrh][0-9]+\.[0-9]+(?=[ ]|$)|(?<=[ ])[0-9]{10,14}(?=[ ]|$)")
 
@@ -250,7 +251,7 @@ def changed(rng, workload, text):
             yield "another workload", other, text
 
 
-# --- Both judges -------------------------------------------------------------------------------------------------------------------
+# --- Both judges -----------------------------------------------------------------------------------------------------
 
 
 def text_of(literal):

@@ -1,8 +1,9 @@
 #!/usr/bin/env python3
 """Whether each relative link of the pages leads somewhere: of the *.md files at the top, in docs/ and in examples/.
 
-A link has to name a file or a folder of the repository, and behind a `#` the heading of a page. Prints a line for each link that doesn't, and
-then fails. Links to other places (`https:` and the like) are not looked at, and neither is what stands in code.
+A link has to name a file or a folder of the repository, and behind a `#` the heading of a page. Prints a line for each
+link that doesn't, and then fails. Links to other places (`https:` and the like) are not looked at, and neither is what
+stands in code.
 """
 
 import glob

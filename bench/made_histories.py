@@ -1,4 +1,5 @@
-"""Histories for `judging.py`: walks of the reference machine through all ops and most refusals, some others, and wrong replies in them."""
+"""Histories for `judging.py`: walks of the reference machine through all ops and most refusals, some others, and wrong
+replies in them."""
 
 from types import SimpleNamespace
 
@@ -100,7 +101,7 @@ c0 final -> ok
 
 
 class Walk:
-    """A history that the reference machine walks: a seat, an op and fields by chance, and a reply that the machine allows."""
+    """A history that the reference machine walks: a seat, an op and fields by chance, and a reply that it allows."""
 
     def __init__(self, rng):
         self.rng = rng

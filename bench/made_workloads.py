@@ -29,8 +29,8 @@ SHORT = [
 class Part:
     """A caller's part that is being made: its lines, and its names by what they are bound to.
 
-    Nothing in it waits for good: what another caller may withhold is waited for with a number of looks, a lock is given up again, and
-    nobody waits while holding one."""
+    Nothing in it waits for good: what another caller may withhold is waited for with a number of looks, a lock is given
+    up again, and nobody waits while holding one."""
 
     def __init__(self, rng, workers):
         self.rng, self.workers = rng, workers

@@ -1,10 +1,12 @@
 #!/usr/bin/env python3
-"""What memory a node takes, and when. Proves nothing: it tries a small program over `node_core`, in a copy of the repository.
+"""What memory a node takes, and when. Proves nothing: it tries a small program over `node_core`, in a copy of the
+repository.
 
-1. A program makes a node and then takes memory once itself; another one asks the node every op, thousands of times, in between. The
-   number of the allocation that has to fail for the last one to fail is the same in both. So no call after `Node::init` takes memory.
-2. The largest node: the seconds in which it is made, and the kilobytes that the process held at most. The
-   program is built with run-time checks, which take memory and time of their own: both are upper bounds.
+1. A program makes a node and then takes memory once itself; another one asks the node every op, thousands of times,
+   in between. The number of the allocation that has to fail for the last one to fail is the same in both. So no call
+   after `Node::init` takes memory.
+2. The largest node: the seconds in which it is made, and the kilobytes that the process held at most. The program is
+   built with run-time checks, which take memory and time of their own: both are upper bounds.
 
 Fails where the numbers of 1 differ. About five minutes.
 """

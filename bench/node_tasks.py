@@ -1,14 +1,16 @@
 #!/usr/bin/env python3
-"""What one task costs a node, beside few waiting tasks and beside many; what an action costs beside waiting tasks; how large an entry is.
+"""What one task costs a node, beside few waiting tasks and beside many; what an action costs beside waiting tasks; how
+large an entry is.
 
-One thread asks a node: start, pick, finish and look of one task together, while 10 other tasks wait and while 60,000 do, each node with
-room for 65,536. And action_create for one job, while 9,000 and 60,000 tasks of another job wait. Prints processor time, the least of
-some runs each, without the time in which the node is made and filled. Then the largest node: the time in which it is made, with the
-start of the process, and the memory that the process held at most. An entry is that of a journal. Where the system allows it, the
-program runs before all other work of the machine (`SCHED_RR`).
+One thread asks a node: start, pick, finish and look of one task together, while 10 other tasks wait and while 60,000
+do, each node with room for 65,536. And action_create for one job, while 9,000 and 60,000 tasks of another job wait.
+Prints processor time, the least of some runs each, without the time in which the node is made and filled. Then the
+largest node: the time in which it is made, with the start of the process, and the memory that the process held at most.
+An entry is that of a journal. Where the system allows it, the program runs before all other work of the machine
+(`SCHED_RR`).
 
-Builds the program below over a copy of the repository's crates, and begins with what checks kept on this machine. To prove it takes
-some minutes; a word behind the script's name is the path of the program, where it was built before.
+Builds the program below over a copy of the repository's crates, and begins with what checks kept on this machine. To
+prove it takes some minutes; a word behind the script's name is the path of the program, where it was built before.
 """
 
 import os

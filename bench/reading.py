@@ -2,8 +2,8 @@
 """How long the command takes to read a workload. Each text is faulty in its last line alone, so it is read whole, and
 reading is all that is done.
 
-Prints a line for each text, and fails where one takes longer than its limit, or where twice the bytes take more than 2.2 times
-the time. The command has to be built: run `./mtapi` once before.
+Prints a line for each text, and fails where one takes longer than its limit, or where twice the bytes take more than
+2.2 times the time. The command has to be built: run `./mtapi prove` before.
 """
 
 import subprocess

@@ -1,8 +1,9 @@
 """A judge of journals of its own: `verdict` answers what `mtapi check` has to write of an input.
 
-Written in the plainest way from what the runtime is required to do, and without a look at its definitions (`crates/*/specs`) or its
-code, so that it shares nothing with the command that it judges. The text of a journal stands in `reference_text.py`, the machine of one
-thread in `reference_machine.py`; here are workloads, and what a run of one leaves. A workload is read as one that has no faults.
+Written in the plainest way from what the runtime is required to do, and without a look at its definitions
+(`crates/*/specs`) or its code, so that it shares nothing with the command that it judges. The text of a journal stands
+in `reference_text.py`, the machine of one thread in `reference_machine.py`; here are workloads, and what a run of one
+leaves. A workload is read as one that has no faults.
 """
 
 from types import SimpleNamespace
@@ -10,8 +11,8 @@ from types import SimpleNamespace
 from reference_machine import WORK, legal
 from reference_text import DEFAULTS, read_journal
 
-# Each statement: the op that it asks for, and the op's fields, in order. `NAME` is the object of the name behind the statement's word,
-# `last` is that of a look, and every other word is an option.
+# Each statement: the op that it asks for, and the op's fields, in order. `NAME` is the object of the name behind the
+# statement's word, `last` is that of a look, and every other word is an option.
 STATEMENTS = {
     "begin": "release",
     "action": "action_create job kind cores",
@@ -63,7 +64,8 @@ NODE_KEYS = {f"max_{kind}": kind for kind in ("tasks", "actions", "groups", "que
 
 
 def read_workload(text):
-    """The settings and the parts of a workload without faults; a part is a list of statements: word, name, and options by key."""
+    """The settings and the parts of a workload without faults; a part is a list of statements: word, name, and options
+    by key."""
     settings, parts = dict(DEFAULTS), [[]]
     for line in text.split("\n"):
         words = line.split()

@@ -28,9 +28,9 @@ PENDING = ("pending",)
 class Machine:
     """The state of a node, and the row of each op.
 
-    A row is a method. It takes the seat, the reply that is offered (or None, where it may choose one by itself), and the fields of the
-    op. It answers the reply that has to come, or None where none may, and what changes then. The offered reply is read only where the
-    node may choose: the handle of a new object, and what a worker takes."""
+    A row is a method. It takes the seat, the reply that is offered (or None, where it may choose one by itself), and
+    the fields of the op. It answers the reply that has to come, or None where none may, and what changes then. The
+    offered reply is read only where the node may choose: the handle of a new object, and what a worker takes."""
 
     def __init__(self, text, settings, chooses=None):
         self.text = text

@@ -32,8 +32,8 @@ DEFAULTS = {
     "generations": 4_294_967_295,
 }  # fmt: skip
 
-# The fields of each op: n a number, i a whole number, c a mask of cores, b 1 or 0, k a kind, l a list, h a handle, o a handle or none,
-# e an end. A + marks those that only an open node takes.
+# The fields of each op: n a number, i a whole number, c a mask of cores, b 1 or 0, k a kind, l a list, h a handle, o a
+# handle or none, e an end. A + marks those that only an open node takes.
 OPS = {
     "initialize": "", "release": "+", "enter": "", "close": "", "final": "", "job_get": "n",
     "action_create": "nkc+", "action_delete": "h+", "action_disable": "h+", "action_enable": "h+",

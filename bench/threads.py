@@ -1,10 +1,11 @@
 #!/usr/bin/env python3
 """How long `mtapi run` takes for generated workloads, beside a peer in plain Rust with one lock (`bench/peer`).
 
-The peer reads the same text, keeps a journal and writes the same report: the bytes are compared first. The bare peer runs the tasks alone.
-Prints for each number of workers and of tasks the least of some runs of each: the nanoseconds a task on the clock and of the processors;
-and then how far the times are from the bounds that are aimed at. Where the system allows it, all run before the other work of the machine
-(`SCHED_RR`). The command has to be built; another program is measured where it is named: `bench/threads.py [PROGRAM]`.
+The peer reads the same text, keeps a journal and writes the same report: the bytes are compared first. The bare peer
+runs the tasks alone. Prints for each number of workers and of tasks the least of some runs of each: the nanoseconds a
+task on the clock and of the processors; and then how far the times are from the bounds that are aimed at. Where the
+system allows it, all run before the other work of the machine (`SCHED_RR`). The command has to be built; another
+program is measured where it is named: `bench/threads.py [PROGRAM]`.
 """
 
 import os
@@ -42,7 +43,8 @@ def same_report(program, peer, text):
 
 
 def measured(program, peer):
-    """The times on the clock of the program and of the peer, by workers and tasks. Prints each, and those of the bare peer."""
+    """The times on the clock of the program and of the peer, by workers and tasks. Prints each, and those of the bare
+    peer."""
     print("ns a task           mtapi                  the peer               the bare peer")
     print("workers   tasks   on the clock processors   on the clock processors   on the clock processors")
     ours, theirs = {}, {}

@@ -1,0 +1,169 @@
+#!/usr/bin/env python3
+"""What a newcomer's first commands answer, and what they take: `bench/first_answer.py [all] [prove]`.
+
+Clones the repository as it is committed into a folder of its own, runs `./mtapi run < examples/first.workload` there
+before anything is proved, and prints the seconds of the processors and those on the clock. With `all` further calls of
+the unproved program follow: each kind of input and output, faults, two at once and a stop in the middle. With `prove`
+the clone is proved and built over what checks kept on this machine, stopped once on the way, and the proved program
+answers too; then a source changes. Prints a line for each call, and fails where an answer is another one than expected,
+where the first one takes longer than its bounds, or where a process is left.
+"""
+
+import os
+import pty
+import re
+import signal
+import subprocess
+import sys
+import tempfile
+import time
+
+from common import TOP
+
+MOST_PROCESSORS, MOST_CLOCK = 60.0, 90.0  # seconds of the first answer
+WITHIN = 600  # seconds after which an unproved run is stopped
+USAGE = re.search(r'^message end\.Usage = codes "(.*)" \+\+', open(f"{TOP}/crates/mtapi_top/specs/Command.antt").read(), re.M)[1]
+FIRST = "examples/first.workload"
+ACTION = "action a job=1 kind=add\n"
+# A call: its name, the command line of a shell, and the status, the output and what the error output says.
+NO_INPUT = [
+    ("no words", "./mtapi", 2, "", USAGE),
+    ("help", "./mtapi --help", 2, "", USAGE),
+    ("too many words", "./mtapi prove it", 2, "", USAGE),
+]
+CALLS = [
+    ("a pipe that pauses", f"(head -n 1 {FIRST}; sleep 3; tail -n +2 {FIRST}) | ./mtapi run", 0, "main.t completed 6\n", ""),
+    ("generated", "./mtapi gen 64 2", 0, "tasks 64 completed 64 cancelled 0 error 0 refused 0 sum ", ""),
+    ("many generated", "./mtapi gen 19000", 0, "tasks 19000 completed 19000 cancelled 0 error 0 refused 0 sum 96938214\n", ""),
+    ("faulty words", "./mtapi gen 0", 2, "", USAGE),
+    ("no workload", "echo nothing | ./mtapi run", 3, "", "mtapi: line 1: "),
+    ("empty input", "./mtapi run </dev/null", 0, "", ""),
+    ("closed input", "./mtapi run <&-", 4, "", "mtapi: read fault"),
+    ("a folder as input", "./mtapi run <docs", 4, "", "mtapi: read fault"),
+    ("a full disk", f"./mtapi run <{FIRST} >/dev/full", 5, "", "mtapi: write fault"),
+    ("a closed output", f"./mtapi run <{FIRST} >&-", 5, "", "mtapi: write fault"),
+    ("a journal that is judged", f"cat {FIRST} journal | ./mtapi check", 0, "yes\n", ""),
+    ("a journal of another run", f"(printf '{ACTION}'; cat journal) | ./mtapi check", 9, "no: not a run\n", ""),
+    ("more output than is shown", "bench/generated.py 19000 >many; ./mtapi run <many", 126, "", "mtapi: no answer: "),
+]
+faults = []
+
+
+def report(name, right, seconds, more=""):
+    """Prints the line of a call, and keeps its name where it was wrong."""
+    print(f"{'ok   ' if right else 'WRONG'} {name:28} {seconds:6.1f} s {more}", flush=True)
+    if not right:
+        faults.append(name)
+
+
+def call(clone, name, line, status, output, errors):
+    """Runs one call in the clone, and reports it."""
+    begin = time.monotonic()
+    done = subprocess.run(["bash", "-c", line], cwd=clone, capture_output=True, text=True, timeout=WITHIN)
+    same = done.stdout.startswith(output) if output else done.stdout == ""
+    right = done.returncode == status and same and errors in done.stderr
+    report(name, right, time.monotonic() - begin, "" if right else f"{done.returncode} {done.stdout[:200]!r} {done.stderr!r}")
+    return done
+
+
+def first_answer(clone):
+    """The first call in a fresh clone, with what it takes; the compiler's processes are counted with it."""
+    with open(f"{clone}/{FIRST}", "rb") as given, open(f"{clone}/examples/first.report", "rb") as wanted:
+        before, begin = os.times(), time.monotonic()
+        done = subprocess.run(["./mtapi", "run"], cwd=clone, stdin=given, capture_output=True)
+        clock, after = time.monotonic() - begin, os.times()
+        processors = after.children_user + after.children_system - before.children_user - before.children_system
+        right = done.returncode == 0 and done.stdout == wanted.read() and done.stderr.count(b"\n") == 1
+    report("the first answer", right, clock, f"of the processors {processors:.1f} s")
+    if processors > MOST_PROCESSORS or clock > MOST_CLOCK:
+        report("its bounds", False, clock, f"{MOST_PROCESSORS} s of the processors, {MOST_CLOCK} s on the clock")
+
+
+def processes_of(clone):
+    """The processes that work in the clone."""
+    found = []
+    for pid in filter(str.isdigit, os.listdir("/proc")):
+        try:
+            if os.readlink(f"/proc/{pid}/cwd").startswith(clone):
+                found.append(pid)
+        except OSError:
+            pass
+    return found
+
+
+def stopped(clone, words, after, signal_number, status):
+    """Stops a call, so long after its begin; a terminal sends the signal to the whole group. Nothing may be left of it."""
+    begin = time.monotonic()
+    with open(f"{clone}/{FIRST}", "rb") as given:
+        run = subprocess.Popen(["./mtapi", *words], cwd=clone, stdin=given, stderr=subprocess.PIPE, stdout=subprocess.PIPE,
+                               start_new_session=True)
+        time.sleep(after)
+        (os.killpg if signal_number == signal.SIGINT else os.kill)(run.pid, signal_number)
+        run.communicate(timeout=60)
+    time.sleep(1)
+    left = processes_of(clone)
+    report(f"{' '.join(words)}, stopped", run.returncode == status and not left, time.monotonic() - begin, f"left: {left}")
+
+
+def from_a_terminal(clone):
+    """A workload that is typed at a terminal."""
+    begin = time.monotonic()
+    outer, inner = pty.openpty()
+    run = subprocess.Popen(["./mtapi", "run"], cwd=clone, stdin=inner, stdout=subprocess.PIPE, stderr=subprocess.PIPE)
+    with open(f"{clone}/{FIRST}", "rb") as given:
+        os.write(outer, given.read() + b"\x04")
+    output, _ = run.communicate(timeout=WITHIN)
+    report("a terminal", run.returncode == 0 and output == b"main.t completed 6\n", time.monotonic() - begin)
+
+
+def two_at_once(clone):
+    """Two calls side by side."""
+    begin = time.monotonic()
+    runs = [subprocess.Popen(["./mtapi", "gen", str(n)], cwd=clone, stdout=subprocess.PIPE, stderr=subprocess.PIPE) for n in (5, 6)]
+    outputs = [it.communicate(timeout=WITHIN)[0] for it in runs]
+    right = [it.startswith(b"tasks %d completed %d " % (n, n)) for it, n in zip(outputs, (5, 6))]
+    report("two at once", all(right) and not any(it.returncode for it in runs), time.monotonic() - begin)
+
+
+def unproved(clone):
+    """Every call of the unproved program."""
+    journal = call(clone, "a journal", f"./mtapi run --journal <{FIRST}", 0, "main.t completed 6\nmtapi-journal ", "")
+    with open(f"{clone}/journal", "w") as kept:
+        kept.write(journal.stdout.split("\n", 1)[-1])
+    for it in CALLS:
+        call(clone, *it)
+    from_a_terminal(clone)
+    two_at_once(clone)
+    stopped(clone, ["run"], 10, signal.SIGINT, 130)
+    stopped(clone, ["run"], 10, signal.SIGTERM, 143)
+
+
+def proved(clone):
+    """Proves, is stopped, goes on, answers; and answers unproved once a source has changed."""
+    stopped(clone, ["prove"], 30, signal.SIGINT, 130)
+    call(clone, "prove", "./mtapi prove", 0, "", "proved and built")
+    call(clone, "prove again", "./mtapi prove", 0, "", "proved and built")
+    answer = call(clone, "the proved program", f"./mtapi run <{FIRST}", 0, "main.t completed 6\n", "")
+    report("nothing told of it", answer.stderr == "", 0.0)
+    line = f"echo '// changed' >>crates/byte_io/src/lib.rt; ./mtapi run <{FIRST}"
+    call(clone, "a changed source", line, 0, "main.t completed 6\n", "a source has changed")
+
+
+def main():
+    words = set(sys.argv[1:])
+    if words - {"all", "prove"}:
+        sys.exit(__doc__)
+    with tempfile.TemporaryDirectory(prefix="first_answer-") as folder:
+        clone = os.path.join(os.path.realpath(folder), "clone")
+        subprocess.run(["git", "clone", "-q", TOP, clone], check=True)
+        for it in NO_INPUT:
+            call(clone, *it)
+        first_answer(clone)
+        if "all" in words:
+            unproved(clone)
+        if "prove" in words:
+            proved(clone)
+    sys.exit(f"wrong: {', '.join(faults)}" if faults else 0)
+
+
+main()
