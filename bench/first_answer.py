@@ -44,7 +44,7 @@ CALLS = [
     ("a closed output", f"./mtapi run <{FIRST} >&-", 5, "", "mtapi: write fault"),
     ("a journal that is judged", f"cat {FIRST} journal | ./mtapi check", 0, "yes\n", ""),
     ("a journal of another run", f"(printf '{ACTION}'; cat journal) | ./mtapi check", 9, "no: not a run\n", ""),
-    ("more output than is shown", "bench/generated.py 19000 >many; ./mtapi run <many", 126, "", "mtapi: no answer: "),
+    ("more output than is shown", "python3 bench/generated.py 19000 >many; ./mtapi run --journal <many", 126, "", "mtapi: no answer: "),
 ]
 faults = []
 
@@ -102,7 +102,7 @@ def stopped(clone, words, after, signal_number, status):
         run.communicate(timeout=60)
     time.sleep(1)
     left = processes_of(clone)
-    report(f"{' '.join(words)}, stopped", run.returncode == status and not left, time.monotonic() - begin, f"left: {left}")
+    report(f"{' '.join(words)}, {signal_number.name}", run.returncode == status and not left, time.monotonic() - begin, f"left: {left}")
 
 
 def from_a_terminal(clone):
