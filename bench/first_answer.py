@@ -22,6 +22,7 @@ from common import TOP
 
 MOST_PROCESSORS, MOST_CLOCK = 60.0, 90.0  # seconds of the first answer
 WITHIN = 600  # seconds after which an unproved run is stopped
+PROVED_WITHIN = 7200  # and a proof
 USAGE = re.search(r'^message end\.Usage = codes "(.*)" \+\+', open(f"{TOP}/crates/mtapi_top/specs/Command.antt").read(), re.M)[1]
 FIRST = "examples/first.workload"
 ACTION = "action a job=1 kind=add\n"
@@ -56,10 +57,10 @@ def report(name, right, seconds, more=""):
         faults.append(name)
 
 
-def call(clone, name, line, status, output, errors):
+def call(clone, name, line, status, output, errors, within=WITHIN):
     """Runs one call in the clone, and reports it."""
     begin = time.monotonic()
-    done = subprocess.run(["bash", "-c", line], cwd=clone, capture_output=True, text=True, timeout=WITHIN)
+    done = subprocess.run(["bash", "-c", line], cwd=clone, capture_output=True, text=True, timeout=within)
     same = done.stdout.startswith(output) if output else done.stdout == ""
     right = done.returncode == status and same and errors in done.stderr
     report(name, right, time.monotonic() - begin, "" if right else f"{done.returncode} {done.stdout[:200]!r} {done.stderr!r}")
@@ -141,7 +142,7 @@ def unproved(clone):
 def proved(clone):
     """Proves, is stopped, goes on, answers; and answers unproved once a source has changed."""
     stopped(clone, ["prove"], 30, signal.SIGINT, 130)
-    call(clone, "prove", "./mtapi prove", 0, "", "proved and built")
+    call(clone, "prove", "./mtapi prove", 0, "", "proved and built", PROVED_WITHIN)
     call(clone, "prove again", "./mtapi prove", 0, "", "proved and built")
     answer = call(clone, "the proved program", f"./mtapi run <{FIRST}", 0, "main.t completed 6\n", "")
     report("nothing told of it", answer.stderr == "", 0.0)
