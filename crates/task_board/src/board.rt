@@ -491,6 +491,19 @@ impl Board {
         ensures adds { Adds self.old.tasks (asked_task task) result self.new.tasks }
         ensures new { Becomes self.old self.new self.old.actions self.new.tasks }
     {
+        self.keep_cover(task.job);
+        self.add_task(task)
+    }
+
+    // The same. It asks for what the actions of the job cover, which is kept while tasks of one job are added.
+    fn add_task(&mut self, task: NewTask) -> Result<TaskHandle, MtapiStatus>
+        requires few { self.old.tasks.starts < 2 ^ 63 }
+        requires priority { task.priority < self.old.settings.priorities }
+        requires no_queue { task.queue ≡ None }
+        requires member { MayJoin self.old.groups.pool task.detached (group_number task.group) }
+        ensures adds { Adds self.old.tasks (asked_task task) result self.new.tasks }
+        ensures new { Becomes self.old self.new self.old.actions self.new.tasks }
+    {
         let group = task.group;
         match self.tasks.add(task) {
             Ok(task) => {
@@ -512,6 +525,18 @@ impl Board {
     /// Adds a scheduled task to a live queue that takes it, as `Tasks::add` says it. It enters the
     /// group that it names. That the queue takes it is for the caller to see first.
     pub fn enqueue(&mut self, queue: QueueHandle, task: NewTask) -> Result<TaskHandle, MtapiStatus>
+        requires few { self.old.tasks.starts < 2 ^ 63 }
+        requires queue { IsRoomFor self.old.queues.pool queue.0 (asked_task task) }
+        requires member { MayJoin self.old.groups.pool task.detached (group_number task.group) }
+        ensures adds { Adds self.old.tasks (asked_task task) result self.new.tasks }
+        ensures new { Becomes self.old self.new self.old.actions self.new.tasks }
+    {
+        self.keep_cover(task.job);
+        self.enqueue_task(queue, task)
+    }
+
+    // The same, as for a task of no queue.
+    fn enqueue_task(&mut self, queue: QueueHandle, task: NewTask) -> Result<TaskHandle, MtapiStatus>
         requires few { self.old.tasks.starts < 2 ^ 63 }
         requires queue { IsRoomFor self.old.queues.pool queue.0 (asked_task task) }
         requires member { MayJoin self.old.groups.pool task.detached (group_number task.group) }
