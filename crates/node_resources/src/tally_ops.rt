@@ -1,10 +1,12 @@
 //! What the node does with a mutex and a segment for a tally.
 
-ghost use Rattle.std.specs.Prelude.{◌≡◌, ◌<◌, true, false, Some, is_some, nat_lt, length, [], ◌∷◌};
+ghost use Rattle.std.specs.Prelude.{◌≡◌, ◌<◌, true, false, Some, None, pos, is_some, nat_lt, length, [], ◌∷◌};
 ghost use Rattle.handle_pool.specs.Slots.{slot_value, changed};
 ghost use Rattle.handle_pool.specs.Issued.{live_object};
 ghost use Rattle.mtapi_objects.specs.Mutexes.{Mutex, locked_by, unlocked};
 ghost use Rattle.mtapi_objects.specs.Segments.{Segment, cell_of, with_attached, with_cell};
+ghost use Rattle.mrapi_mutex.specs.Calls.{after_unlock};
+ghost use Rattle.mrapi_shmem.specs.Calls.{after_detach};
 ghost use Rattle.mtapi_machine.specs.State.{State};
 ghost use Rattle.mtapi_machine.specs.Moves.{Mutexes, Segments, alters, after_moves};
 ghost use Rattle.node_resources.specs.Holds.{Stands};
@@ -76,9 +78,11 @@ impl Resources {
         let _ = self.segments.attach(segment, who);
     }
 
-    /// The number in a cell of a tally's segment.
+    /// The number in a cell of a tally's segment; 0 where the segment isn't live.
     pub fn tally_read(&self, segment: ShmemHandle, cell: u64) -> i64
-        ensures { (s : State) (y : Segment) → Stands s self.now → live_object s.segments segment.0 ≡ Some y → result ≡ cell_of cell y }
+        ensures live { (y : Segment) → slot_value self.now.segments segment.0 ≡ Some y → result ≡ cell_of cell y }
+        ensures gone { slot_value self.now.segments segment.0 ≡ None → result ≡ pos 0 }
+        ensures reads { (s : State) (y : Segment) → Stands s self.now → live_object s.segments segment.0 ≡ Some y → result ≡ cell_of cell y }
     {
         match self.segments.number(segment, cell) {
             Some(number) => number,
@@ -93,10 +97,12 @@ impl Resources {
         self.segments.set_number(segment, cell, value);
     }
 
-    /// Takes the mutex and the segment of a tally back from the worker `who`, below 25, which owns the mutex once.
+    /// Takes the mutex and the segment of a tally back from the worker `who`, below 25, which owns the mutex once. What the worker
+    /// doesn't have stays as it was.
     pub fn tally_end(&mut self, who: u32, mutex: MutexHandle, segment: ShmemHandle)
         requires seat { who < 25 }
-        ensures { (s : State) (x : Mutex) → Stands s self.old → live_object s.mutexes mutex.0 ≡ Some x → x.owner ≡ Some who → x.depth ≡ 1 → Stands (after_moves (alters Segments segment.0 (with_attached who false) ∷ alters Mutexes mutex.0 unlocked ∷ []) s) self.new }
+        ensures new { self.new ≡ record self.old { mutexes = changed self.old.mutexes mutex.0 (after_unlock who 1); segments = changed self.old.segments segment.0 (after_detach who) } }
+        ensures ends { (s : State) (x : Mutex) → Stands s self.old → live_object s.mutexes mutex.0 ≡ Some x → x.owner ≡ Some who → x.depth ≡ 1 → Stands (after_moves (alters Segments segment.0 (with_attached who false) ∷ alters Mutexes mutex.0 unlocked ∷ []) s) self.new }
     {
         let _ = self.segments.detach(segment, who);
         let _ = self.mutexes.unlock(mutex, who, 1);

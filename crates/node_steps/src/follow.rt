@@ -75,7 +75,6 @@ impl Node {
     /// Tells why an op that makes an object is refused, whether there is room or not. None where
     /// only want of room can refuse it.
     pub fn refusal(&self, who: u32, op: &Op) -> Option<Reply>
-        requires seat { who < seat_count (terms_of self.now) }
         requires makes { IsSome (made_kind op.now) }
         ensures { (L : List NodeEntry) → Stands self.now L → refusal_of (after (terms_of self.now) L) who op.now ≡ result }
     {

@@ -92,3 +92,8 @@ mark-known p h t n None g r u e = tt
 mark-known p h t n (Some m) g r u e =
     let s = unstarted-seen t t.state u in
     subst (λ (k : ℕ). k < n) ((seen-as t t.state s.0 s.1).priority ∙ sym e) (r.known h s.0 (ap seen g ∙ s.1))
+
+-- what holds anyway
+pub if_some-any : {A P : Type 0} (o : Option A) → P → IfSome o (λ x. P)
+if_some-any None p = tt
+if_some-any (Some x) p = p

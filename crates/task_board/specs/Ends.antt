@@ -1,5 +1,5 @@
 -- Ends of waiting tasks, many at once.
-use Rattle.std.specs.Prelude.{◌≡◌, ℕ, ◌+◌, Bool, true, false, not, ◌&&◌, ◌==◌, List, [], ◌∷◌, Option, Some, if◌then◌else◌}
+use Rattle.std.specs.Prelude.{◌≡◌, ◌⊎◌, ℕ, ◌+◌, Bool, true, false, not, ◌&&◌, ◌==◌, List, [], ◌∷◌, Option, Some, if◌then◌else◌}
 use Rattle.mtapi_values.specs.declared.ends.TaskEnd.{TaskEnd}
 use Rattle.mtapi_values.specs.declared.masks.Mask.{Mask}
 use Rattle.mtapi_values.specs.Conditions.{holds}
@@ -57,3 +57,7 @@ pub record EndsUnserved (workers : ℕ) (actions : Slots Action) (job : ℕ) (e 
   pub mask : Mask
   pub covered : IsUnion actions job mask.0
   pub ends : EndsWaiting (is_unserved workers job mask.0) e old new
+
+-- the same; or the actions of the job cover these cores, and the tasks are as they were
+abbrev pub EndsUnless : ℕ → Slots Action → ℕ → ℕ → TaskEnd → TaskTable → TaskTable → Type 0
+EndsUnless workers actions job before e old new = EndsUnserved workers actions job e old new ⊎ (IsUnion actions job before × (new ≡ old))

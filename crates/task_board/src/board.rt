@@ -24,11 +24,12 @@ ghost use Rattle.task_board.specs.Members.{MayJoin};
 ghost use Rattle.task_board.specs.GroupMoves.{Regroups, TakesFirst, LeavesFirst};
 ghost use Rattle.task_board.specs.Board.{IsBoard, Becomes, BecomesWith};
 
+use crate::covered::CoveredActions;
 use crate::ends::{cores_beside, covered_cores};
 use crate::marks::{clear, leave_queue, may_run, refresh, remark, remark_where_changed, slot_of};
 use crate::members::{join, note_end};
 use group_core::Groups;
-use job_table::{Actions, Cover};
+use job_table::Cover;
 use linked_places::LinkedLists;
 use mtapi_values::{
     ActionHandle, Args, GroupHandle, Kind, Mask, MtapiStatus, NodeAttr, QueueAttr, QueueHandle,
@@ -57,7 +58,7 @@ pub struct Choice {
 #[derive(Drop)]
 pub struct Board {
     settings: NodeAttr,
-    actions: Actions,
+    actions: CoveredActions,
     tasks: Tasks,
     queues: Queues,
     // The tasks that a worker may take.
@@ -99,7 +100,7 @@ impl Model for Board {
 }
 
 // The tables that say what there is. Two functions of three calls each leave less to free on each way out than one of six.
-fn new_tables(alloc: Global, attr: NodeAttr) -> Result<(Actions, Tasks, Queues), AllocError>
+fn new_tables(alloc: Global, attr: NodeAttr) -> Result<(CoveredActions, Tasks, Queues), AllocError>
     ensures action_turns { IfOk result (λ t. t.0.generations ≡ attr.generations) }
     ensures action_slots { IfOk result (λ t. t.0.slots ≡ replicate attr.actions (free_slot 1)) }
     ensures task_turns { IfOk result (λ t. t.1.pool.generations ≡ attr.generations) }
@@ -110,7 +111,7 @@ fn new_tables(alloc: Global, attr: NodeAttr) -> Result<(Actions, Tasks, Queues),
     ensures queue_slots { IfOk result (λ t. t.2.pool.slots ≡ replicate attr.queues (free_slot 1)) }
     ensures queue_tasks { IfOk result (λ t. t.2.tasks ≡ attr.tasks) }
 {
-    let actions = Actions::new(alloc, attr.actions(), attr.generations())?;
+    let actions = CoveredActions::new(alloc, attr.actions(), attr.generations())?;
     let tasks = Tasks::new(alloc, attr.tasks(), attr.generations())?;
     let queues = Queues::new(alloc, attr.queues(), attr.generations(), attr.tasks())?;
     Ok((actions, tasks, queues))
@@ -236,6 +237,13 @@ impl Board {
         ensures { Covers self.now.actions job result }
     {
         self.actions.cover(job)
+    }
+
+    // Keeps what the actions of a job cover at hand, until an action changes or another job is asked for.
+    pub(crate) fn keep_cover(&mut self, job: u32)
+        ensures { self.new ≡ self.old }
+    {
+        self.actions.keep_cover(job);
     }
 
     /// How many tasks haven't ended.
@@ -376,9 +384,10 @@ impl Board {
         self.tasks.note_tally(t, tally);
     }
 
-    /// The cores that the enabled actions of an action's job cover.
+    /// The cores that the enabled actions of an action's job cover, and none where the action isn't live.
     pub fn covered(&self, a: ActionHandle) -> Mask
-        ensures { (x : Action) → slot_value self.now.actions a.0 ≡ Some x → IsUnion self.now.actions x.job result.0 }
+        ensures live { (x : Action) → slot_value self.now.actions a.0 ≡ Some x → IsUnion self.now.actions x.job result.0 }
+        ensures gone { slot_value self.now.actions a.0 ≡ None → result.0 ≡ 0 }
     {
         cores_beside(&self.actions, a)
     }
@@ -482,6 +491,19 @@ impl Board {
         ensures adds { Adds self.old.tasks (asked_task task) result self.new.tasks }
         ensures new { Becomes self.old self.new self.old.actions self.new.tasks }
     {
+        self.keep_cover(task.job);
+        self.add_task(task)
+    }
+
+    // The same. It asks for what the actions of the job cover, which is kept while tasks of one job are added.
+    fn add_task(&mut self, task: NewTask) -> Result<TaskHandle, MtapiStatus>
+        requires few { self.old.tasks.starts < 2 ^ 63 }
+        requires priority { task.priority < self.old.settings.priorities }
+        requires no_queue { task.queue ≡ None }
+        requires member { MayJoin self.old.groups.pool task.detached (group_number task.group) }
+        ensures adds { Adds self.old.tasks (asked_task task) result self.new.tasks }
+        ensures new { Becomes self.old self.new self.old.actions self.new.tasks }
+    {
         let group = task.group;
         match self.tasks.add(task) {
             Ok(task) => {
@@ -503,6 +525,18 @@ impl Board {
     /// Adds a scheduled task to a live queue that takes it, as `Tasks::add` says it. It enters the
     /// group that it names. That the queue takes it is for the caller to see first.
     pub fn enqueue(&mut self, queue: QueueHandle, task: NewTask) -> Result<TaskHandle, MtapiStatus>
+        requires few { self.old.tasks.starts < 2 ^ 63 }
+        requires queue { IsRoomFor self.old.queues.pool queue.0 (asked_task task) }
+        requires member { MayJoin self.old.groups.pool task.detached (group_number task.group) }
+        ensures adds { Adds self.old.tasks (asked_task task) result self.new.tasks }
+        ensures new { Becomes self.old self.new self.old.actions self.new.tasks }
+    {
+        self.keep_cover(task.job);
+        self.enqueue_task(queue, task)
+    }
+
+    // The same, as for a task of no queue.
+    fn enqueue_task(&mut self, queue: QueueHandle, task: NewTask) -> Result<TaskHandle, MtapiStatus>
         requires few { self.old.tasks.starts < 2 ^ 63 }
         requires queue { IsRoomFor self.old.queues.pool queue.0 (asked_task task) }
         requires member { MayJoin self.old.groups.pool task.detached (group_number task.group) }

@@ -1,6 +1,6 @@
 //! Ends of waiting tasks, many at once.
 
-ghost use Rattle.std.specs.Prelude.{◌≡◌, ◌==◌, ℕ, Some, true, ◌<◌};
+ghost use Rattle.std.specs.Prelude.{◌≡◌, ◌==◌, ℕ, Some, None, true, ◌<◌};
 ghost use Rattle.mtapi_values.specs.Conditions.{holds};
 ghost use Rattle.handle_pool.specs.Slots.{Slots, slot_value};
 ghost use Rattle.mtapi_values.specs.declared.ends.TaskEnd.TheVariants.{Failed, Cancelled};
@@ -11,11 +11,12 @@ ghost use Rattle.task_core.specs.Table.{IsLiveAnd};
 ghost use Rattle.mtapi_objects.specs.Queues.{is_in};
 ghost use Rattle.task_core.specs.Records.{queue_number};
 ghost use Rattle.task_board.specs.Board.{IsBoard, Becomes, records_of};
-ghost use Rattle.task_board.specs.Ends.{is_shut, passes, ended_if, AreServed, EndsWaiting, EndsUnserved};
+ghost use Rattle.task_board.specs.Ends.{is_shut, passes, ended_if, AreServed, EndsWaiting, EndsUnserved, EndsUnless};
 
 use crate::board::Board;
 use crate::cores::share_core;
-use job_table::{Actions, Cover};
+use crate::covered::CoveredActions;
+use job_table::Cover;
 use mtapi_values::{ActionHandle, Mask, MtapiStatus, QueueHandle, TaskEnd, TaskHandle};
 use task_core::TaskRecord;
 
@@ -50,9 +51,10 @@ pub(crate) fn covered_cores(cover: Cover) -> Mask
     }
 }
 
-// The cores that the enabled actions of an action's job cover.
-pub(crate) fn cores_beside(actions: &Actions, a: ActionHandle) -> Mask
-    ensures { (x : Action) → slot_value actions.now a.0 ≡ Some x → IsUnion actions.now x.job result.0 }
+// The cores that the enabled actions of an action's job cover, and none where the action isn't live.
+pub(crate) fn cores_beside(actions: &CoveredActions, a: ActionHandle) -> Mask
+    ensures live { (x : Action) → slot_value actions.now a.0 ≡ Some x → IsUnion actions.now x.job result.0 }
+    ensures gone { slot_value actions.now a.0 ≡ None → result.0 ≡ 0 }
 {
     match actions.job(a) {
         Ok(job) => covered_cores(actions.cover(job)),
@@ -116,13 +118,24 @@ impl Board {
         }
     }
 
+    // Keeps what the actions of a queue's job cover at hand, where the queue is live.
+    fn keep_cover_in(&mut self, queue: QueueHandle)
+        ensures { self.new ≡ self.old }
+    {
+        if let Some(facts) = self.queue(queue) {
+            self.keep_cover(facts.job);
+        }
+    }
+
     /// Ends the tasks of a job that haven't begun and that no worker can take, in the order of their starts. While its actions
     /// covered the cores `before`, each of its tasks had a worker: where they still do, no task is visited.
     pub fn end_unserved(&mut self, job: u32, before: Mask, status: MtapiStatus)
         ensures new { Becomes self.old self.new self.old.actions self.new.tasks }
         ensures ends { AreServed self.old.settings.workers job before.0 self.old.tasks.pool → EndsUnserved self.old.settings.workers self.old.actions job (Failed status) self.old.tasks self.new.tasks }
+        ensures unless { EndsUnless self.old.settings.workers self.old.actions job before.0 (Failed status) self.old.tasks self.new.tasks }
     {
         self.is_kept();
+        self.keep_cover(job);
         let cores = covered_cores(self.cover(job));
         if cores.0 == before.0 {
             return;
@@ -138,6 +151,7 @@ impl Board {
         ensures new { Becomes self.old self.new self.old.actions self.new.tasks }
         ensures ends { EndsWaiting (is_in queue.0) end.now self.old.tasks self.new.tasks }
     {
+        self.keep_cover_in(queue);
         self.end_waiting(WaitingTest::InQueue { queue }, end);
     }
 

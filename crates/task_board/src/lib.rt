@@ -4,6 +4,7 @@
 
 pub mod board;
 pub mod cores;
+pub mod covered;
 pub mod ends;
 pub mod marks;
 pub mod members;

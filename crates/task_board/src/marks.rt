@@ -1,6 +1,6 @@
 //! The mark of one task.
 
-ghost use Rattle.std.specs.Prelude.{◌≡◌, ◌<◌, ◌==◌, ℕ, Some, None, IfSome, length, slice_set, true, ◌&&◌, bit_and};
+ghost use Rattle.std.specs.Prelude.{◌≡◌, ◌<◌, ◌==◌, ℕ, Bool, Option, Some, None, IfSome, length, slice_set, true, ◌&&◌, bit_and};
 ghost use Rattle.handle_pool.specs.Slots.{Slots, slot_of, slot_value, max_of};
 ghost use Rattle.mtapi_objects.specs.Actions.{Action};
 ghost use Rattle.job_table.specs.Answers.{Covers};
@@ -15,8 +15,9 @@ ghost use Rattle.task_board.specs.Queued.{begins_in, left_queue, head_of};
 ghost use Rattle.task_board.specs.Board.{IsMarkOf, AreRanked, AreWaiting, IsFresh, IsFreshAt, IsFreshFor, Remarked, RemarkedUnless};
 
 use crate::cores::has_core;
+use crate::covered::CoveredActions;
 use crate::ends::covered_cores;
-use job_table::{Actions, Cover};
+use job_table::Cover;
 use linked_places::LinkedLists;
 use mtapi_values::{Mask, QueueHandle, TaskHandle};
 use queue_core::Queues;
@@ -100,15 +101,11 @@ fn both(a: Mask, b: Mask) -> Mask
     Mask(a.0 & b.0)
 }
 
-// The mark that is right for a task, by what the actions of its job cover.
-fn mark_by(cover: Cover, queues: &Queues, task: TaskHandle, found: &TaskRecord) -> Option<Mark>
-    ensures right { (actions : Slots Action) → Covers actions found.now.job cover → IsMarkOf actions (begins_in queues.now.pool task.0) (seen (Some found.now)) result }
-    ensures unstarted { IfSome result (λ m. is_unstarted found.now ≡ true) }
+// The mark of a task that hasn't begun and may, by what the actions of its job cover.
+fn mark_of(cover: Cover, found: &TaskRecord) -> Option<Mark>
+    ensures right { (actions : Slots Action) (lets : Option ℕ → Bool) → is_unstarted found.now ≡ true → lets found.now.queue ≡ true → Covers actions found.now.job cover → IsMarkOf actions lets (seen (Some found.now)) result }
     ensures priority { IfSome result (λ m. m.priority ≡ found.now.priority) }
 {
-    if !is_ready(queues, task, found) {
-        return None;
-    }
     match cover {
         Cover::NoAction | Cover::AllDisabled => None,
         Cover::Cores(mask) => Some(Mark {
@@ -118,21 +115,41 @@ fn mark_by(cover: Cover, queues: &Queues, task: TaskHandle, found: &TaskRecord) 
     }
 }
 
-// The mark that is right for a handle, live or not.
-fn fresh_mark(actions: &Actions, tasks: &Tasks, queues: &Queues, task: TaskHandle) -> Option<Mark>
+// The mark that is right for a task, by what the actions of its job cover.
+fn mark_by(cover: Cover, queues: &Queues, task: TaskHandle, found: &TaskRecord) -> Option<Mark>
+    ensures right { (actions : Slots Action) → Covers actions found.now.job cover → IsMarkOf actions (begins_in queues.now.pool task.0) (seen (Some found.now)) result }
+    ensures unstarted { IfSome result (λ m. is_unstarted found.now ≡ true) }
+    ensures priority { IfSome result (λ m. m.priority ≡ found.now.priority) }
+{
+    if !is_ready(queues, task, found) {
+        return None;
+    }
+    mark_of(cover, found)
+}
+
+// The mark that is right for a handle, live or not. What the actions of its job cover is asked for only where the task may begin.
+fn fresh_mark(
+    actions: &CoveredActions,
+    tasks: &Tasks,
+    queues: &Queues,
+    task: TaskHandle,
+) -> Option<Mark>
     ensures right { IsMarkOf actions.now (begins_in queues.now.pool task.0) (seen_in tasks.now.pool task.0) result }
     ensures known { (n : ℕ) → AreRanked (seen_in tasks.now.pool) n → IfSome result (λ m. m.priority < n) }
 {
-    match tasks.get(task) {
-        Some(record) => mark_by(actions.cover(record.job()), queues, task, record),
-        None => None,
+    let Some(record) = tasks.get(task) else {
+        return None;
+    };
+    if !is_ready(queues, task, record) {
+        return None;
     }
+    mark_of(actions.cover(record.job()), record)
 }
 
 // Marks the slot of a task anew.
 pub(crate) fn refresh(
     ready: &mut ReadyIndex,
-    actions: &Actions,
+    actions: &CoveredActions,
     tasks: &Tasks,
     queues: &Queues,
     task: TaskHandle,
@@ -151,7 +168,7 @@ pub(crate) fn refresh(
 // Takes an ended task out of the queue that it names, if that is live, and marks the first task of this queue anew.
 pub(crate) fn leave_queue(
     ready: &mut ReadyIndex,
-    actions: &Actions,
+    actions: &CoveredActions,
     tasks: &Tasks,
     queues: &mut Queues,
     queue: Option<QueueHandle>,
@@ -202,7 +219,7 @@ pub(crate) fn remark(
     waiting: &LinkedLists,
     tasks: &Tasks,
     queues: &Queues,
-    actions: &Actions,
+    actions: &CoveredActions,
     job: u32,
 )
     requires lists { length waiting.now.lists ≡ 1 }
@@ -227,7 +244,7 @@ pub(crate) fn remark_where_changed(
     waiting: &LinkedLists,
     tasks: &Tasks,
     queues: &Queues,
-    actions: &Actions,
+    actions: &CoveredActions,
     job: u32,
     before: Mask,
 )

@@ -1,16 +1,28 @@
-use Rattle.std.proofs.Common.{sym, subst}
+use Rattle.std.proofs.Common.{◌≡◌, sym, subst}
 use Rattle.std.specs.Prelude.{[], ◌∷◌, false}
+use Rattle.handle_pool.specs.Slots.{changed}
 use Rattle.mtapi_objects.specs.Mutexes.{unlocked}
 use Rattle.mtapi_objects.specs.Segments.{with_attached}
+use Rattle.mrapi_mutex.specs.Calls.{after_unlock}
+use Rattle.mrapi_shmem.specs.Calls.{after_detach}
 use Rattle.mtapi_machine.specs.Moves.{Mutexes, Segments, alters, after_moves}
 use Rattle.node_resources.specs.Holds.{ResourceTable, Stands}
 use Rattle.node_resources.specs.contracts.Resources.{the_view}
 use Rattle.node_resources.proofs.TallyLemmas.{gives_stand}
 use Rattle.node_resources.proofs.Resources.tally_end.Goals as goal
 
-pub returns : goal.returns
-returns c s x v f o d =
+pub returns-clause-ends : goal.returns-clause-ends
+returns-clause-ends c s x v f o d =
     let p = c.self.inside in
     let w = subst (λ (t : ResourceTable). Stands s t) (sym c.self.view_is) v in
     subst (λ (t : ResourceTable). Stands (after_moves (alters Segments c.args.segment.0 (with_attached c.args.who false) ∷ alters Mutexes c.args.mutex.0 unlocked ∷ []) s) t)
     (λ i. record (the_view p) { mutexes = sym c.unlock.ensures.new i; segments = sym c.detach.ensures.new i }) (gives_stand s (the_view p) c.args.who c.args.mutex.0 c.args.segment.0 x w f o d)
+
+pub returns-clause-new : goal.returns-clause-new
+returns-clause-new c =
+    let p = c.self.inside in
+    subst
+    (λ (t : ResourceTable).
+    the_view (record { mutexes = c.unlock.new.self; sems = p.sems; rwls = p.rwls; segments = c.detach.new.self })
+    ≡ record t { mutexes = changed t.mutexes c.args.mutex.0 (after_unlock c.args.who 1); segments = changed t.segments c.args.segment.0 (after_detach c.args.who) }) c.self.view_is
+    (λ i. record (the_view p) { mutexes = c.unlock.ensures.new i; segments = c.detach.ensures.new i })

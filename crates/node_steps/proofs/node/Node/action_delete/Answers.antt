@@ -9,4 +9,4 @@ returns-in-Ok c l who v k =
     lands n l who _ _ c.end_unserved.new.self _ c.end_unserved.new.self.tasks (becomes-twice n.board c.delete_action.new.self c.end_unserved.new.self _ c.in-Ok.ensures.ok c.end_unserved.ensures.new)
     (delete_steps n l who c.in-Ok.job c.args.action v k (sym c.if-not-is_open.ensures) (sym c.in-Ok.is ∙ c.delete_action.ensures.reply) c.end_unserved.new.self.tasks
     (unserved-before n.board c.delete_action.new.self _ _ _ _ c.in-Ok.ensures.ok
-    (c.end_unserved.ensures.ends (served-after n l c.in-Ok.job c.args.action c.covered-before.result c.delete_action.new.self _ v k (sym c.in-Ok.is ∙ c.delete_action.ensures.reply) c.covered-before.ensures c.in-Ok.ensures.ok))))
+    (c.end_unserved.ensures.ends (served-after n l c.in-Ok.job c.args.action c.covered-before.result c.delete_action.new.self _ v k (sym c.in-Ok.is ∙ c.delete_action.ensures.reply) c.covered-before.ensures.live c.in-Ok.ensures.ok))))

@@ -12,7 +12,7 @@ returns-in-Ok c l who v k =
     lands n l who _ _ c.end_unserved.new.self _ c.end_unserved.new.self.tasks (becomes-twice n.board c.disable_action.new.self c.end_unserved.new.self _ c.disable_action.ensures.new c.end_unserved.ensures.new)
     (disable_steps n l who c.in-Ok.job c.args.action v k (sym c.if-not-is_open.ensures) (sym c.in-Ok.is ∙ c.disable_action.ensures.reply) c.end_unserved.new.self.tasks
     (unserved-before n.board c.disable_action.new.self _ _ _ _ c.disable_action.ensures.new
-    (c.end_unserved.ensures.ends (served-after n l c.in-Ok.job c.args.action c.covered-before.result c.disable_action.new.self _ v k (sym c.in-Ok.is ∙ c.disable_action.ensures.reply) c.covered-before.ensures c.disable_action.ensures.new))))
+    (c.end_unserved.ensures.ends (served-after n l c.in-Ok.job c.args.action c.covered-before.result c.disable_action.new.self _ v k (sym c.in-Ok.is ∙ c.disable_action.ensures.reply) c.covered-before.ensures.live c.disable_action.ensures.new))))
 
 pub returns-in-Err : goal.returns-in-Err
 returns-in-Err c l who v k =

@@ -12,7 +12,7 @@ invariant_of-self c =
     let b : BoardTable = record { settings = c.self.inside.settings; actions = c.self.inside.actions; tasks = c.self.inside.tasks; queues = c.self.inside.queues; ready = c.self.inside.ready; waiting = c.self.inside.waiting; running = c.self.inside.running; groups = c.self.inside.groups } in
     let x = job-found _ c.in-Ok.job (sym c.in-Ok.is ∙ c.enable.ensures.reply) in
     changed-board b c.enable.new.self c.remark_where_changed.new.ready c.in-Ok.job c.cores_beside-before.result.0 c.self.invariant
-    (subst (λ (p : Slots Action). SameBut c.in-Ok.job c.self.inside.actions p) (sym c.enable.ensures.new) (same-changed c.self.inside.actions c.args.a.0 c.in-Ok.job true x.0 x.1 x.2)) (subst (λ (j : ℕ). IsUnion c.self.inside.actions j c.cores_beside-before.result.0) x.2 (c.cores_beside-before.ensures x.0 x.1)) c.remark_where_changed.ensures
+    (subst (λ (p : Slots Action). SameBut c.in-Ok.job c.self.inside.actions p) (sym c.enable.ensures.new) (same-changed c.self.inside.actions c.args.a.0 c.in-Ok.job true x.0 x.1 x.2)) (subst (λ (j : ℕ). IsUnion c.self.inside.actions j c.cores_beside-before.result.0) x.2 (c.cores_beside-before.ensures.live x.0 x.1)) c.remark_where_changed.ensures
 
 pub invariant_of-self-in-Err : goal.invariant_of-self-in-Err
 invariant_of-self-in-Err c =

@@ -1,69 +1,22 @@
-use Rattle.std.proofs.Common.{refl, ◌<◌, ◌∙◌, ℕ, sym, ap, subst, arith}
+use Rattle.std.proofs.Common.{◌<◌, ◌^◌, sym, subst}
 use Rattle.task_core.specs.Records.{asked_task, group_number}
-use Rattle.queue_core.specs.Held.{QueueTable, with_task}
-use Rattle.task_board.specs.Seen.{seen_in}
+use Rattle.task_core.specs.Table.{Adds}
+use Rattle.task_board.specs.Board.{BoardTable, Becomes}
 use Rattle.task_board.specs.Queued.{IsRoomFor}
-use Rattle.task_board.specs.Board.{BoardTable, AreRanked, records_of, group_slots}
 use Rattle.task_board.specs.Members.{MayJoin}
-use Rattle.task_board.proofs.TaskMemberLemmas.{may-join, no-member}
-use Rattle.task_board.proofs.BoardLemmas.{nowhere, new-slot, new-ranked, no-task, enqueue-board}
-use Rattle.task_board.proofs.RecordLemmas.{records-same}
 use Rattle.task_board.proofs.board.Board.enqueue.Goals as goal
 
-pub push-requires-clause-nowhere : goal.push-requires-clause-nowhere
-push-requires-clause-nowhere c =
-    let b : BoardTable = record { settings = c.self.inside.settings; actions = c.self.inside.actions; tasks = c.self.inside.tasks; queues = c.self.inside.queues; ready = c.self.inside.ready; waiting = c.self.inside.waiting; running = c.self.inside.running; groups = c.self.inside.groups } in
-    nowhere b c.add.new.self.pool c.in-Ok.task.0 _ c.self.invariant c.in-Ok.ensures.1
+pub enqueue_task-requires-clause-few : goal.enqueue_task-requires-clause-few
+enqueue_task-requires-clause-few c = subst (λ (b : BoardTable). b.tasks.starts < 2 ^ 63) (sym c.keep_cover.ensures) c.requires.few
 
-pub put_in-requires-clause-slot : goal.put_in-requires-clause-slot
-put_in-requires-clause-slot c =
-    let b : BoardTable = record { settings = c.self.inside.settings; actions = c.self.inside.actions; tasks = c.self.inside.tasks; queues = c.self.inside.queues; ready = c.self.inside.ready; waiting = c.self.inside.waiting; running = c.self.inside.running; groups = c.self.inside.groups } in
-    omega (arith, new-slot b c.add.new.self.pool c.in-Ok.task.0 _ c.in-Ok.ensures.1, c.self.invariant.room)
+pub enqueue_task-requires-clause-queue : goal.enqueue_task-requires-clause-queue
+enqueue_task-requires-clause-queue c = subst (λ (b : BoardTable). IsRoomFor b.queues.pool c.args.queue.0 (asked_task c.args.task)) (sym c.keep_cover.ensures) c.requires.queue
 
-pub put_in-requires-clause-alone : goal.put_in-requires-clause-alone
-put_in-requires-clause-alone c =
-    let b : BoardTable = record { settings = c.self.inside.settings; actions = c.self.inside.actions; tasks = c.self.inside.tasks; queues = c.self.inside.queues; ready = c.self.inside.ready; waiting = c.self.inside.waiting; running = c.self.inside.running; groups = c.self.inside.groups } in
-    no-task b c.add.new.self.pool c.in-Ok.task.0 _ c.self.invariant c.in-Ok.ensures.1
+pub enqueue_task-requires-clause-member : goal.enqueue_task-requires-clause-member
+enqueue_task-requires-clause-member c = subst (λ (b : BoardTable). MayJoin b.groups.pool c.args.task.detached (group_number c.args.task.group)) (sym c.keep_cover.ensures) c.requires.member
 
-pub refresh-requires-clause-place : goal.refresh-requires-clause-place
-refresh-requires-clause-place c =
-    let b : BoardTable = record { settings = c.self.inside.settings; actions = c.self.inside.actions; tasks = c.self.inside.tasks; queues = c.self.inside.queues; ready = c.self.inside.ready; waiting = c.self.inside.waiting; running = c.self.inside.running; groups = c.self.inside.groups } in
-    omega (arith, new-slot b c.add.new.self.pool c.in-Ok.task.0 _ c.in-Ok.ensures.1, c.self.invariant.slots)
+pub returns-clause-adds : goal.returns-clause-adds
+returns-clause-adds c = subst (λ (b : BoardTable). Adds b.tasks (asked_task c.args.task) c.enqueue_task.result c.enqueue_task.new.self.tasks) c.keep_cover.ensures c.enqueue_task.ensures.adds
 
-pub refresh-requires-clause-ranked : goal.refresh-requires-clause-ranked
-refresh-requires-clause-ranked c =
-    let b : BoardTable = record { settings = c.self.inside.settings; actions = c.self.inside.actions; tasks = c.self.inside.tasks; queues = c.self.inside.queues; ready = c.self.inside.ready; waiting = c.self.inside.waiting; running = c.self.inside.running; groups = c.self.inside.groups } in
-    let r = subst (λ (b : BoardTable). IsRoomFor b.queues.pool c.args.queue.0 (asked_task c.args.task)) (sym c.self.view_is) c.requires.queue in
-    subst (λ (n : ℕ). AreRanked (seen_in c.add.new.self.pool) n) (sym c.self.invariant.priorities)
-    (new-ranked b c.add.new.self.pool c.in-Ok.task.0 c.self.inside.tasks.starts (asked_task c.args.task) c.self.invariant c.in-Ok.ensures.1 (subst (λ (n : ℕ). n < b.settings.priorities) (sym r.priority) (c.self.invariant.queued.ranked c.args.queue.0 r.x r.live)))
-
-pub invariant_of-self : goal.invariant_of-self
-invariant_of-self c =
-    let b : BoardTable = record { settings = c.self.inside.settings; actions = c.self.inside.actions; tasks = c.self.inside.tasks; queues = c.self.inside.queues; ready = c.self.inside.ready; waiting = c.self.inside.waiting; running = c.self.inside.running; groups = c.self.inside.groups } in
-    let r = subst (λ (b : BoardTable). IsRoomFor b.queues.pool c.args.queue.0 (asked_task c.args.task)) (sym c.self.view_is) c.requires.queue in
-    let may = subst (λ (b : BoardTable). MayJoin b.groups.pool c.args.task.detached (group_number c.args.task.group)) (sym c.self.view_is) c.requires.member in
-    enqueue-board b c.add.new.self c.put_in.new.queues c.refresh.new.ready c.push.new.self c.join.new.groups c.in-Ok.task.0 c.self.inside.tasks.starts c.args.queue.0 (asked_task c.args.task) r.x c.self.invariant c.in-Ok.ensures.1 refl c.in-Ok.ensures.2 r.live r.names r.job r.priority c.push.ensures c.put_in.ensures c.refresh.ensures c.in-Ok.ensures.3 may c.join.ensures.new
-
-pub returns-in-Ok-clause-new : goal.returns-in-Ok-clause-new
-returns-in-Ok-clause-new c =
-    let is = c.self.view_is in
-    record {
-      settings = ap (λ (b : BoardTable). b.settings) is;
-      actions_are = ap (λ (b : BoardTable). b.actions) is;
-      tasks_are = refl;
-      queues_are = ap (λ (z : QueueTable). records_of z.pool) c.put_in.ensures ∙ records-same c.self.inside.queues.pool c.args.queue.0 (with_task c.in-Ok.task.0) (λ x. refl) c.is_kept.ensures ∙ ap (λ (b : BoardTable). records_of b.queues.pool) is;
-      groups_are = c.join.ensures.slots ∙ ap (λ (b : BoardTable). group_slots b) is;
-    }
-
-pub join-requires-clause-live : goal.join-requires-clause-live
-join-requires-clause-live c =
-    may-join c.self.inside.groups.pool c.args.task.detached c.args.task.group (subst (λ (b : BoardTable). MayJoin b.groups.pool c.args.task.detached (group_number c.args.task.group)) (sym c.self.view_is) c.requires.member)
-
-pub join-requires-clause-slot : goal.join-requires-clause-slot
-join-requires-clause-slot c =
-    let b : BoardTable = record { settings = c.self.inside.settings; actions = c.self.inside.actions; tasks = c.self.inside.tasks; queues = c.self.inside.queues; ready = c.self.inside.ready; waiting = c.self.inside.waiting; running = c.self.inside.running; groups = c.self.inside.groups } in
-    omega (arith, new-slot b c.add.new.self.pool c.in-Ok.task.0 _ c.in-Ok.ensures.1, c.self.invariant.task_slots)
-
-pub join-requires-clause-alone : goal.join-requires-clause-alone
-join-requires-clause-alone c =
-    no-member c.self.inside.tasks.pool c.add.new.self.pool c.in-Ok.task.0 _ c.self.inside.groups.pool c.self.inside.tasks.starts c.self.inside.tasks.ends c.self.invariant.members c.in-Ok.ensures.1
+pub returns-clause-new : goal.returns-clause-new
+returns-clause-new c = subst (λ (b : BoardTable). Becomes b c.enqueue_task.new.self b.actions c.enqueue_task.new.self.tasks) c.keep_cover.ensures c.enqueue_task.ensures.new
