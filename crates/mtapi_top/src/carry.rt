@@ -99,7 +99,7 @@ fn carry_out<R: Threads + Wait + Sync, S: Source, W: Sink, A: ActionSource, B: B
     };
     let (journal, text) = match run_and_output(rt, alloc, &asked, &load, acts, beside) {
         Ok(both) => both,
-        Err(RunError::Refused) => return End::NoThread,
+        Err(RunError::Refused(_)) => return End::NoThread,
         Err(RunError::Spent(spent)) => return End::Spent(spent),
         Err(RunError::Memory) => return End::Memory,
     };

@@ -1,6 +1,6 @@
 -- The seats of a new cell, dealt; and what a whole run begins and ends with.
-use Rattle.std.proofs.Common.{◌≡◌, ℕ, zero, suc, ◌+◌, ◌<◌, ◌≤◌, Bool, List, [], ◌∷◌, ◌++◌, length, get_or, take, drop, true, false, Result, refl, sym, ◌∙◌, ap, subst, arith, append_assoc}
-use Rattle.std.specs.Prelude.{◌-◌, All, IfOk, slice_index, if◌then◌else◌}
+use Rattle.std.proofs.Common.{◌≡◌, ℕ, zero, suc, ◌+◌, ◌<◌, ◌≤◌, Bool, List, [], ◌∷◌, ◌++◌, length, get_or, take, drop, true, false, Result, Ok, Err, inl, inr, refl, sym, ◌∙◌, ap, subst, arith, append_assoc}
+use Rattle.std.specs.Prelude.{◌-◌, All, IfOk, IfErr, slice_index, if◌then◌else◌}
 use Rattle.std.proofs.lemmas.Result.{IfOk-weaker}
 use Rattle.std.proofs.lemmas.List.Elements.{All-nil, All-cons, All-push}
 use Rattle.turn_cell.specs.Lists.{all_of}
@@ -12,7 +12,7 @@ use Rattle.workload_file.specs.declared.workload.Workload.{Workload}
 use Rattle.mtapi_machine.specs.declared.terms.Terms.{Terms}
 use Rattle.history.specs.Histories.{entry}
 use Rattle.mtapi_machine.specs.declared.ops.Op.TheVariants.{Close, Final}
-use Rattle.mtapi_machine.specs.declared.replies.Reply.TheVariants.{Ok}
+use Rattle.mtapi_machine.specs.declared.replies.Reply.TheVariants as reply
 use Rattle.mtapi_machine.specs.State.{State, opening}
 use Rattle.mtapi_machine.specs.Legal.{NodeEntry, Legal, next}
 use Rattle.mtapi_machine.specs.Kept.{kept, skipped, is_dropped, counts_next, no_counts}
@@ -26,9 +26,11 @@ use Rattle.sched_workers.proofs.Joins.{journal_run}
 use Rattle.sched_threads.specs.declared.crew.back.Crew.{Crew}
 use Rattle.sched_threads.specs.declared.crew.back.AllHands.{AllHands}
 use Rattle.sched_threads.specs.Turns.{Seat}
+use Rattle.sched_threads.specs.Pairs.{Counts}
 use Rattle.sched_threads.specs.declared.run.RunError.{RunError}
-use Rattle.sched_threads.specs.Crews.{Cell, HasPart, IsIdle, AreAllReady, IsOf, IsClean, IsWholeCrewOf, IsEnded, AllDid}
-use Rattle.sched_threads.specs.Runs.{terms_for, IsRun, Dealt, JournalOf}
+use Rattle.sched_threads.specs.declared.run.RunError.TheVariants as error
+use Rattle.sched_threads.specs.Crews.{Cell, HasPart, IsIdle, AreAllReady, IsOf, IsClean, IsWholeCrewOf, IsEnded, AllDid, GaveUp}
+use Rattle.sched_threads.specs.Runs.{terms_for, IsRun, Dealt, JournalOf, RefusedAs, MadeNone, GivesMain, is_refused}
 use Rattle.sched_threads.proofs.Meets.{each_of}
 use Rattle.sched_threads.proofs.Starts.{new_at_rest}
 use Rattle.sched_threads.proofs.Came.{Came, came, came_complete, came_known}
@@ -139,12 +141,39 @@ run_is load z m p ps c j e n t x k =
       kept = subst (λ (u : Terms). KeptAs u j k.history) t k.kept;
       legal = legal;
       run = run;
-      tasks = accepted_end (terms_for load) j.entries.entries (ends.before ++ entry main Close Ok ∷ ends.behind) main legal
-          (ends.closes ∙ last ends.before (entry main Close Ok) ends.behind (entry main Final Ok ∷ []));
+      tasks = accepted_end (terms_for load) j.entries.entries (ends.before ++ entry main Close reply.Ok ∷ ends.behind) main legal
+          (ends.closes ∙ last ends.before (entry main Close reply.Ok) ends.behind (entry main Final reply.Ok ∷ []));
     }
 
 pub of_cell : (z : Cell) (c : Crew) → IsOf z c → all_of (λ (s : Seat). s.cell ≡ z.id) (c.others.items ++ c.main ∷ [])
 of_cell z c i = each_of (λ (s : Seat). s.cell ≡ z.id) (c.others.items ++ c.main ∷ []) (All-push (λ (s : Seat). s.cell ≡ z.id) c.others.items c.main i.others i.main)
+
+-- A run that was refused
+
+pub refused_is : (c : Crew) (r : Result Journal RunError) → RefusedAs c r → is_refused r ≡ c.refused
+refused_is c (Ok j) x = sym x
+refused_is c (Err (error.Refused main)) x = sym x.0
+refused_is c (Err (error.Spent s)) x = sym x
+refused_is c (Err error.Memory) x = sym x
+
+pub counts_as : (b d : Bool) (before after : ℕ) → b ≡ d → Counts d before after → Counts b before after
+counts_as b d before after e x = subst (λ (i : Bool). Counts i before after) (sym e) x
+
+made_none : (z : Cell) (w : ℕ) (main : Seat) → GaveUp (fresh_seat z.terms z.id w) main → (main.number ≡ w) × MadeNone main
+made_none z w main g = elim g [
+  | inl t ↦ (t.1.same.number, inr (t.0, t.1.mine ∙ ap (λ (k : ℕ). entry k Close t.0 ∷ []) (sym t.1.same.number)))
+  | inr u ↦ (u.same.number, inl u.mine)
+]
+
+pub gives_main : (z : Cell) (w m n : ℕ) (parts : List Part) (ss : List Statement) (a : AllHands) (c c' : Crew) (r : Result Journal RunError) → w ≡ n → Dealt z w m a → IsWholeCrewOf z parts ss a c → (c.refused ≡ true → c' ≡ c) → c'.refused ≡ c.refused → RefusedAs c' r → IfErr r (GivesMain n)
+gives_main z w m n parts ss a c c' (Ok j) e d i u s x = tt
+gives_main z w m n parts ss a c c' (Err (error.Refused main)) e d i u s x =
+    let was : c.refused ≡ true = sym s ∙ x.0 in
+    let same : main ≡ c.main = x.1 ∙ ap (λ (b : Crew). b.main) (u was) in
+    subst (λ (k : ℕ). (main.number ≡ k) × MadeNone main) e
+    (subst (λ (t : Seat). (t.number ≡ w) × MadeNone t) (sym same) (made_none z w c.main (subst (λ (t : Seat). GaveUp t c.main) d.main (i.gave_up was))))
+gives_main z w m n parts ss a c c' (Err (error.Spent s)) e d i u f x = tt
+gives_main z w m n parts ss a c c' (Err error.Memory) e d i u f x = tt
 
 -- How a run begins
 

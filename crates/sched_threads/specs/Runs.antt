@@ -1,10 +1,13 @@
 -- What a run gives back, and what it begins with.
-use Rattle.std.specs.Prelude.{◌≡◌, ℕ, ◌+◌, ◌≤◌, ◌^◌, List, [], ◌∷◌, ◌++◌, length, vec_len, vec_capacity}
+use Rattle.std.specs.Prelude.{◌≡◌, ℕ, ◌+◌, ◌≤◌, ◌^◌, ◌⊎◌, Bool, true, false, List, [], ◌∷◌, ◌++◌, length, Result, Err, vec_len, vec_capacity}
+use Rattle.history.specs.Histories.{entry}
 use Rattle.turn_cell.specs.Lists.{all_of}
 use Rattle.turn_cell.specs.Seats.{fresh_seat, fresh_seats, IsSeatOf}
 use Rattle.workload_file.specs.declared.workload.Workload.{Workload}
 use Rattle.mtapi_values.specs.declared.handles.Layout.TheVariants.{Two}
 use Rattle.mtapi_machine.specs.declared.terms.Terms.{Terms}
+use Rattle.mtapi_machine.specs.declared.ops.Op.TheVariants.{Close}
+use Rattle.mtapi_machine.specs.declared.replies.Reply.{Reply}
 use Rattle.mtapi_machine.specs.State.{terms_with, opening}
 use Rattle.mtapi_machine.specs.Legal.{NodeEntry, Legal}
 use Rattle.node_core.specs.declared.entries.Journal.{Journal}
@@ -16,6 +19,7 @@ use Rattle.sched_threads.specs.declared.crew.back.Crew.{Crew}
 use Rattle.sched_threads.specs.declared.crew.back.AllHands.{AllHands}
 use Rattle.sched_threads.specs.declared.run.RunError.{RunError}
 use Rattle.sched_threads.specs.declared.run.RunError.TheVariants as error
+use Rattle.sched_threads.specs.Turns.{Seat}
 use Rattle.sched_threads.specs.Pairs.{Rose}
 use Rattle.sched_threads.specs.Crews.{Cell, IsClean}
 
@@ -47,9 +51,28 @@ pub record IsRun (load : Workload) (j : Journal) : Type 0 where
 
 -- where a run was refused, the count of refused threads rose; `Spent` shows a ticket word of at least 2^62
 abbrev pub Causes : ℕ → ℕ → RunError → Type 0
-Causes before after error.Refused = Rose before after
+Causes before after (error.Refused main) = Rose before after
 Causes before after (error.Spent s) = 2 ^ 62 ≤ s
 Causes before after error.Memory = Unit {0}
+
+-- the answer is that a thread was refused
+abbrev pub is_refused : Result Journal RunError → Bool
+is_refused (Err (error.Refused main)) = true
+is_refused _ = false
+
+-- the seat's own calls have no statement among them: it closed, or made no call
+abbrev pub MadeNone : Seat → Type 0
+MadeNone s = (s.mine ≡ []) ⊎ ((r : Reply) × (s.mine ≡ entry s.number Close r ∷ []))
+
+-- a run that was refused gives main's seat back, the one behind w workers, which made no statement
+abbrev pub GivesMain : ℕ → RunError → Type 0
+GivesMain w (error.Refused main) = (main.number ≡ w) × MadeNone main
+GivesMain w _ = Unit {0}
+
+-- a run is refused exactly where its crew was, and gives the crew's main seat back
+abbrev pub RefusedAs : Crew → Result Journal RunError → Type 0
+RefusedAs c (Err (error.Refused main)) = (c.refused ≡ true) × (main ≡ c.main)
+RefusedAs c _ = c.refused ≡ false
 
 -- the seats of a new cell: those of w workers, main's, and those of m further callers; and room for all that come back
 pub record Dealt (z : Cell) (w m : ℕ) (a : AllHands) : Type 0 where

@@ -3,9 +3,9 @@ ghost use Rattle.std.specs.Prelude.{◌≡◌, ◌+◌, ◌-◌, ◌<◌, ◌≤
 ghost use Rattle.turn_cell.specs.Seats.{IsComplete, fresh_seats};
 ghost use Rattle.node_core.specs.Stands.{Stands, terms_of};
 ghost use Rattle.node_core.specs.Logs.{journal_seats};
-ghost use Rattle.sched_threads.specs.Pairs.{Rose};
+ghost use Rattle.sched_threads.specs.Pairs.{Counts};
 ghost use Rattle.sched_threads.specs.Crews.{IsOf, IsClean};
-ghost use Rattle.sched_threads.specs.Runs.{terms_for, IsRun, Causes, Dealt, JournalOf};
+ghost use Rattle.sched_threads.specs.Runs.{terms_for, IsRun, Causes, Dealt, JournalOf, RefusedAs, GivesMain, is_refused};
 
 use crate::beside::Beside;
 use crate::crew::back::{AllHands, Crew, Hands};
@@ -20,10 +20,10 @@ use turn_cell::{Spent, TurnCell, TurnSeat};
 use workload_file::Workload;
 
 /// Why a run gave no journal.
-#[derive(Debug, Drop)]
+#[derive(Drop)]
 pub enum RunError {
-    /// A thread was refused.
-    Refused,
+    /// A thread was refused. Main's seat tells the calls that main made.
+    Refused(TurnSeat<Journaled>),
     /// The tickets ran out.
     Spent(Spent),
     /// Want of memory.
@@ -80,7 +80,7 @@ fn journal_after(cell: TurnCell<Journaled>, crew: Crew) -> Result<RunJournal, Ru
     requires room { vec_len crew.others < vec_capacity crew.others }
     requires complete { IsClean crew → IsComplete (journal_seats cell.terms) (crew.others.items ++ crew.main ∷ []) }
     ensures journal { IfOk result (JournalOf cell crew) }
-    ensures refused { IfErr result (λ e. e ≡ RunError.Refused → crew.refused ≡ true) }
+    ensures refused { RefusedAs crew result }
 {
     let Crew {
         main,
@@ -89,7 +89,7 @@ fn journal_after(cell: TurnCell<Journaled>, crew: Crew) -> Result<RunJournal, Ru
         stop,
     } = crew;
     if refused {
-        return Err(RunError::Refused);
+        return Err(RunError::Refused(main));
     }
     match stop {
         Some(Stop::Spent(spent)) => return Err(RunError::Spent(spent)),
@@ -110,8 +110,8 @@ fn journal_after(cell: TurnCell<Journaled>, crew: Crew) -> Result<RunJournal, Ru
 ///
 /// # Errors
 ///
-/// - `Refused`: a thread was refused. No statement was executed, and all threads that were started
-///   have ended.
+/// - `Refused`: a thread was refused. Main made no statement, and all threads that were started
+///   have ended. No other answer is given where a thread was refused.
 /// - `Spent`: the tickets of the cell ran out.
 /// - `Memory`: there was no memory for the cell, for the handles of a caller, or for the journal.
 pub fn run_node<S: ActionSource, B: Beside, R: StartsThreads + Wait + Sync>(
@@ -126,6 +126,8 @@ pub fn run_node<S: ActionSource, B: Beside, R: StartsThreads + Wait + Sync>(
     requires terms { terms_of node ≡ terms_for load.now }
     ensures run { IfOk result (IsRun load.now) }
     ensures causes { IfErr result (Causes (B.refusals beside.old) (B.refusals beside.new)) }
+    ensures counts { Counts (is_refused result) (B.refusals beside.old) (B.refusals beside.new) }
+    ensures unbegun { IfErr result (GivesMain load.now.settings.workers) }
 {
     let parts = load.parts.as_slice();
     let [main, ..] = parts else { unreachable!() };

@@ -5,7 +5,8 @@ use Rattle.node_core.specs.Stands.{history_of}
 use Rattle.node_core.specs.Logs.{journal_terms, journal_seats}
 use Rattle.mtapi_machine.specs.declared.terms.Terms.{Terms}
 use Rattle.workload_file.specs.declared.workload.Part.{Part}
-use Rattle.sched_threads.proofs.Deals.{begun, first_part, all_ready, crew_complete, ran}
+use Rattle.sched_threads.specs.Runs.{is_refused}
+use Rattle.sched_threads.proofs.Deals.{begun, first_part, all_ready, crew_complete, ran, refused_is, counts_as, gives_main}
 use Rattle.sched_threads.proofs.run.run_node.Goals as goal
 
 pub deal-requires-clause-fresh : goal.deal-requires-clause-fresh
@@ -67,3 +68,13 @@ returns-clause-run g c =
     let j = ap (λ (ps : List Part). length ps) f.1 in
     let size : vec_len c.in-Ok.seats - w - 1 ≡ length f.0 = omega arith in
     ran c.args.load.now c.in-Ok.cell w (vec_len c.in-Ok.seats - w - 1) c.as_slice-parts.result.now c.as_slice-statements.result.now p f.0 c.in-Ok-deal.all c.start_workers-crew.result c.end_with-crew.result c.journal_after.result v f.1 (sym c.as_slice-parts.ensures ∙ f.1) c.as_slice-statements.ensures size b.terms c.in-Ok-deal.ensures c.start_workers-crew.ensures.crew c.end_with-crew.ensures.ended c.journal_after.ensures.journal
+
+pub returns-clause-counts : goal.returns-clause-counts
+returns-clause-counts g c =
+    counts_as (is_refused c.journal_after.result) c.start_workers-crew.result.refused (g.B.Beside.refusals c.args.beside.now) (g.B.Beside.refusals c.start_workers-crew.new.beside)
+    (refused_is c.end_with-crew.result c.journal_after.result c.journal_after.ensures.refused ∙ c.end_with-crew.ensures.ended.refused) c.start_workers-crew.ensures.counts
+
+pub returns-clause-unbegun : goal.returns-clause-unbegun
+returns-clause-unbegun g c =
+    gives_main c.in-Ok.cell c.workers-workers.result (vec_len c.in-Ok.seats - c.workers-workers.result - 1) c.args.load.now.settings.workers c.as_slice-parts.result.now c.as_slice-statements.result.now c.in-Ok-deal.all c.start_workers-crew.result c.end_with-crew.result c.journal_after.result
+    c.workers-workers.ensures.value c.in-Ok-deal.ensures c.start_workers-crew.ensures.crew c.end_with-crew.ensures.untouched c.end_with-crew.ensures.ended.refused c.journal_after.ensures.refused
