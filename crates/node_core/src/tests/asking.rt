@@ -1,15 +1,15 @@
-//! How the tests ask a node: rows of a seat, what it asks, and the reply in short.
+//! How the tests ask a node: rows of a seat, what it asks, and the reply.
 
 ghost use Rattle.std.specs.Prelude.{◌≡◌, ◌≤◌, true};
 
 use crate::journaled::Journaled;
 use crate::node::Node;
-use action_fn::{Finished, act_add, act_div, act_echo, act_fail};
+use action_fn::{Finished, act_add, act_echo};
 use history::Object;
 use mtapi_machine::{Op, Reply};
 use mtapi_values::{
-    ActionHandle, Args, GroupHandle, Kind, Layout, Mask, MrapiStatus, MtapiStatus, MutexHandle,
-    NodeAttr, ObjectKind, QueueHandle, RwlHandle, SemHandle, ShmemHandle, TaskEnd, TaskHandle,
+    ActionHandle, Args, GroupHandle, Kind, Mask, MrapiStatus, MtapiStatus, MutexHandle, NodeAttr,
+    QueueHandle, RwlHandle, SemHandle, ShmemHandle, TaskEnd, TaskHandle,
 };
 use std::alloc::Global;
 use std::marker::Model;
@@ -21,439 +21,326 @@ const MOST: u64 = 100_000;
 /// Every core.
 pub(crate) const ALL: u64 = u64::MAX;
 
-/// An object of a kind, by its handle's generation and slot.
-pub(crate) type Which = (u32, u32);
+/// How many handles there are of a generation.
+pub(crate) const GENERATION: u64 = 0x1_0000_0000;
 
-/// What stands in the first slot of its kind, in the second, and in the first once more.
-pub(crate) const FIRST: Which = (1, 0);
+// How many of them name a kind.
+const KIND: u64 = 0x100_0000;
 
-pub(crate) const SECOND: Which = (1, 1);
+// The first handle of each kind: generation 1, the number of the kind, slot 0.
+pub(crate) const ACTION: u64 = GENERATION + KIND;
 
-pub(crate) const THIRD: Which = (1, 2);
+pub(crate) const TASK: u64 = GENERATION + 2 * KIND;
 
-pub(crate) const AGAIN: Which = (2, 0);
+pub(crate) const GROUP: u64 = GENERATION + 3 * KIND;
 
-/// No object: what the number 0 names.
-pub(crate) const NONE: Which = (0, 0);
+pub(crate) const QUEUE: u64 = GENERATION + 4 * KIND;
 
-/// The handle of this object, as a node of this layout gives it. The slot has 24 bits; NONE is 0.
-pub(crate) fn handle(layout: Layout, kind: ObjectKind, which: Which) -> u64 {
-    let (generation, slot) = which;
-    let inside = u64::from(generation) << 32 | u64::from(slot & 0xff_ffff);
-    match layout {
-        Layout::Two if which != NONE => inside | u64::from(kind.number()) << 24,
-        _ => inside,
-    }
-}
+pub(crate) const MUTEX: u64 = GENERATION + 5 * KIND;
 
-/// The object of this handle, and NONE where it isn't one of this kind.
-pub(crate) fn object_of(layout: Layout, kind: ObjectKind, handle: u64) -> Which {
-    let slot = match layout {
-        Layout::One => handle & 0xffff_ffff,
-        Layout::Two if handle >> 24 & 0xff == u64::from(kind.number()) => handle & 0xff_ffff,
-        Layout::Two => return NONE,
-    };
-    ((handle >> 32) as u32, slot as u32)
-}
+pub(crate) const SEM: u64 = GENERATION + 6 * KIND;
 
-/// The arguments of a task.
-#[derive(Clone, Copy, Debug, Drop, PartialEq, Eq)]
-pub(crate) enum Numbers {
-    No,
-    One(i64),
-    Two(i64, i64),
-}
+pub(crate) const RWL: u64 = GENERATION + 7 * KIND;
 
-fn args_of(numbers: Numbers) -> Args {
-    let mut args = Args::new();
-    match numbers {
-        Numbers::No => {}
-        Numbers::One(first) => {
-            let _ = args.push(first);
-        }
-        Numbers::Two(first, second) => {
-            let _ = args.push(first);
-            let _ = args.push(second);
-        }
-    }
-    args
-}
+pub(crate) const SHMEM: u64 = GENERATION + 8 * KIND;
 
-// What a worker says of a task of these arguments that it ran by this kind. Where it isn't one of those that the tests have, `fail`.
-fn finished(kind: Kind, numbers: Numbers) -> Finished {
-    let args = args_of(numbers);
-    match kind {
-        Kind::Add => {
-            let end = act_add(&args);
-            Finished::new(Kind::Add, args, end)
-        }
-        Kind::Div => {
-            let end = act_div(&args);
-            Finished::new(Kind::Div, args, end)
-        }
-        Kind::Echo => {
-            let end = act_echo(&args);
-            Finished::new(Kind::Echo, args, end)
-        }
-        _ => {
-            let end = act_fail(&args);
-            Finished::new(Kind::Fail, args, end)
-        }
-    }
-}
-
-/// What is asked of one object. A `bool` of a look says whether it is the last; of a lock it says whether the seat writes.
-#[derive(Clone, Copy, Debug, Drop, PartialEq, Eq)]
-pub(crate) enum Deed {
-    ActionDelete,
-    ActionDisable,
-    ActionEnable,
-    StartIn(Numbers),
-    DetachedIn,
-    Look(bool),
-    Cancel,
-    Finish(Kind, Numbers),
-    Asked,
-    WatchEnd,
-    TallyLock,
-    TallyRead,
-    TallyWrite(i64),
-    TallyEnd,
-    GroupDelete,
-    All(bool),
-    Any(bool),
-    Enqueue(Numbers),
-    EnqueueDetached(Numbers),
-    EnqueueIn(Which, Numbers),
-    QueueEnable,
-    QueueDisable,
-    QueueDelete,
-    MutexDelete,
-    MutexLook(bool),
-    MutexUnlock(u32),
-    SemDelete,
-    SemLook(bool),
-    SemUnlock,
-    RwlDelete,
-    RwlLook(bool, bool),
-    RwlUnlock(bool),
-    ShmemDelete,
-    ShmemAttach,
-    ShmemDetach,
-    ShmemRead(u32),
-    ShmemWrite(u32, i64),
-}
-
-/// What is asked.
-#[derive(Clone, Copy, Debug, Drop, PartialEq, Eq)]
+/// What is asked. An object is named by its handle, and a `bool` behind it says that the look is the last one.
+#[derive(Clone, Copy, Drop)]
 pub(crate) enum Ask {
     Initialize,
     Release,
     Enter,
     Close,
     Final,
-    JobGet(u32),
-    /// An action of this job, of this kind, on these cores. There is none of the kind `tally`.
-    Action(u32, Kind, u64),
+    /// An action of job 1, of this kind, on these cores. There is none of the kind `tally`.
+    Action(Kind, u64),
+    ActionDisable(u64),
+    ActionDelete(u64),
     /// A task of job 1 with these arguments, of this priority, on these cores.
-    Start(Numbers, u32, u64),
-    /// A detached task of this job.
-    Detached(u32),
-    Group,
-    /// A queue of this id, for tasks of this job and priority, of this limit, ordered or not, retaining or not.
-    Queue(u32, u32, u32, u32, bool, bool),
-    QueueGet(u32),
+    Start(&'static [i64], u32, u64),
+    /// The same in a group, of priority 0, on every core.
+    StartIn(u64, &'static [i64]),
+    Look(u64, bool),
+    Cancel(u64),
     Pick,
+    /// The worker ran the task by `echo`, or else by `add`.
+    Finish(u64, Kind, &'static [i64]),
+    Asked(u64),
+    WatchEnd(u64),
+    Group,
+    Any(u64, bool),
+    /// A queue of this id, for tasks of job 1, of this limit, ordered or not, retaining or not.
+    Queue(u32, u32, bool, bool),
+    QueueDisable(u64),
+    QueueDelete(u64),
+    Enqueue(u64, &'static [i64]),
+    /// A task of this queue in this group.
+    EnqueueIn(u64, u64, &'static [i64]),
     Mutex(u32, bool),
     MutexGet(u32),
+    MutexLook(u64, bool),
+    MutexUnlock(u64, u32),
     Sem(u32, u32),
     SemGet(u32),
+    SemLook(u64, bool),
+    SemUnlock(u64),
     Rwl(u32, u32),
     RwlGet(u32),
+    /// A look of a writer, or else of a reader, and whether it is the last one.
+    RwlLook(u64, bool, bool),
     Shmem(u32, u32),
     ShmemGet(u32),
-    /// What is asked of an object.
-    On(Deed, Which),
+    ShmemDelete(u64),
+    ShmemAttach(u64),
+    ShmemDetach(u64),
+    ShmemRead(u64, u32),
+    ShmemWrite(u64, u32, i64),
 }
 
-/// The kind of object that the deed is done to.
-pub(crate) fn kind_of(deed: Deed) -> ObjectKind {
-    match deed {
-        Deed::ActionDelete | Deed::ActionDisable | Deed::ActionEnable => ObjectKind::Action,
-        Deed::Look(_)
-        | Deed::Cancel
-        | Deed::Finish(_, _)
-        | Deed::Asked
-        | Deed::WatchEnd
-        | Deed::TallyLock
-        | Deed::TallyRead
-        | Deed::TallyWrite(_)
-        | Deed::TallyEnd => ObjectKind::Task,
-        Deed::StartIn(_) | Deed::DetachedIn | Deed::GroupDelete | Deed::All(_) | Deed::Any(_) =>
-            ObjectKind::Group,
-        Deed::Enqueue(_)
-        | Deed::EnqueueDetached(_)
-        | Deed::EnqueueIn(_, _)
-        | Deed::QueueEnable
-        | Deed::QueueDisable
-        | Deed::QueueDelete => ObjectKind::Queue,
-        Deed::MutexDelete | Deed::MutexLook(_) | Deed::MutexUnlock(_) => ObjectKind::Mutex,
-        Deed::SemDelete | Deed::SemLook(_) | Deed::SemUnlock => ObjectKind::Sem,
-        Deed::RwlDelete | Deed::RwlLook(_, _) | Deed::RwlUnlock(_) => ObjectKind::Rwl,
-        _ => ObjectKind::Shmem,
+fn args_of(numbers: &[i64]) -> Args {
+    let mut args = Args::new();
+    for number in numbers {
+        let _ = args.push(*number);
     }
+    args
 }
 
-/// The kind of object whose handle is the reply.
-pub(crate) fn kind_told(ask: Ask) -> ObjectKind {
-    match ask {
-        Ask::Action(_, _, _) => ObjectKind::Action,
-        Ask::Group => ObjectKind::Group,
-        Ask::Queue(_, _, _, _, _, _) | Ask::QueueGet(_) => ObjectKind::Queue,
-        Ask::Mutex(_, _) | Ask::MutexGet(_) => ObjectKind::Mutex,
-        Ask::Sem(_, _) | Ask::SemGet(_) => ObjectKind::Sem,
-        Ask::Rwl(_, _) | Ask::RwlGet(_) => ObjectKind::Rwl,
-        Ask::Shmem(_, _) | Ask::ShmemGet(_) => ObjectKind::Shmem,
-        _ => ObjectKind::Task,
+// What a worker says of a task of these arguments that it ran.
+fn finished(kind: Kind, numbers: &[i64]) -> Finished {
+    let args = args_of(numbers);
+    if kind == Kind::Echo {
+        let end = act_echo(&args);
+        return Finished::new(Kind::Echo, args, end);
     }
+    let end = act_add(&args);
+    Finished::new(Kind::Add, args, end)
 }
 
-// A task of this job.
-fn start(job: u32, numbers: Numbers, priority: u32, cores: u64, detached: bool) -> Op {
-    Op::TaskStart {
-        job,
-        args: args_of(numbers),
-        priority,
+// An action of job 1. A tally would be one of the kind `fail`.
+fn action(kind: Kind, cores: u64) -> Op {
+    let kind = if kind == Kind::Tally {
+        Kind::Fail
+    } else {
+        kind
+    };
+    Op::ActionCreate {
+        job: 1,
+        kind,
         cores: Mask(cores),
-        detached,
-        group: None,
     }
 }
 
-// A task of job 1 in a group.
-fn start_in(group: u64, numbers: Numbers, detached: bool) -> Op {
+fn start(numbers: &[i64], priority: u32, cores: u64, group: Option<GroupHandle>) -> Op {
     Op::TaskStart {
         job: 1,
         args: args_of(numbers),
-        priority: 0,
-        cores: Mask(ALL),
-        detached,
-        group: Some(GroupHandle(group)),
-    }
-}
-
-// A task of a queue.
-fn enqueue(queue: u64, numbers: Numbers, detached: bool, group: Option<GroupHandle>) -> Op {
-    Op::TaskEnqueue {
-        queue: QueueHandle(queue),
-        args: args_of(numbers),
-        cores: Mask(ALL),
-        detached,
+        priority,
+        cores: Mask(cores),
+        detached: false,
         group,
     }
 }
 
-/// The op that does this to the object of this number. A group beside it is one of this layout.
-pub(crate) fn op_on(layout: Layout, deed: Deed, number: u64) -> Op {
-    match deed {
-        Deed::StartIn(numbers) => start_in(number, numbers, false),
-        Deed::DetachedIn => start_in(number, Numbers::No, true),
-        Deed::GroupDelete => Op::GroupDelete {
-            group: GroupHandle(number),
-        },
-        Deed::All(last) => Op::AllLook {
-            group: GroupHandle(number),
-            last,
-        },
-        Deed::Any(last) => Op::AnyLook {
-            group: GroupHandle(number),
-            last,
-        },
-        Deed::EnqueueIn(group, numbers) => {
-            let group = GroupHandle(handle(layout, ObjectKind::Group, group));
-            enqueue(number, numbers, false, Some(group))
-        }
-        Deed::Enqueue(numbers) => enqueue(number, numbers, false, None),
-        Deed::EnqueueDetached(numbers) => enqueue(number, numbers, true, None),
-        deed => on_object(deed, number),
+fn enqueue(queue: u64, numbers: &[i64], group: Option<GroupHandle>) -> Op {
+    Op::TaskEnqueue {
+        queue: QueueHandle(queue),
+        args: args_of(numbers),
+        cores: Mask(ALL),
+        detached: false,
+        group,
     }
 }
 
-// The same for what is done to an action, a queue or a task.
-fn on_object(deed: Deed, number: u64) -> Op {
-    let task = TaskHandle(number);
-    let action = ActionHandle(number);
-    let queue = QueueHandle(number);
-    match deed {
-        Deed::ActionDelete => Op::ActionDelete { action },
-        Deed::ActionDisable => Op::ActionDisable { action },
-        Deed::ActionEnable => Op::ActionEnable { action },
-        Deed::QueueEnable => Op::QueueEnable { queue },
-        Deed::QueueDisable => Op::QueueDisable { queue },
-        Deed::QueueDelete => Op::QueueDelete { queue },
-        Deed::Look(last) => Op::TaskLook { task, last },
-        Deed::Cancel => Op::TaskCancel { task },
-        Deed::Finish(kind, numbers) => Op::Finish {
-            task,
-            done: finished(kind, numbers),
-        },
-        Deed::Asked => Op::Asked { task },
-        Deed::WatchEnd => Op::WatchEnd { task },
-        Deed::TallyLock => Op::TallyLock { task },
-        Deed::TallyRead => Op::TallyRead { task },
-        Deed::TallyWrite(value) => Op::TallyWrite { task, value },
-        Deed::TallyEnd => Op::TallyEnd { task },
-        deed => on_lock(deed, number),
-    }
-}
-
-// The same for what is done to a mutex, a semaphore or a reader-writer lock.
-fn on_lock(deed: Deed, number: u64) -> Op {
-    let mutex = MutexHandle(number);
-    let sem = SemHandle(number);
-    let rwl = RwlHandle(number);
-    match deed {
-        Deed::MutexDelete => Op::MutexDelete { mutex },
-        Deed::MutexLook(last) => Op::MutexLook { mutex, last },
-        Deed::MutexUnlock(key) => Op::MutexUnlock { mutex, key },
-        Deed::SemDelete => Op::SemDelete { sem },
-        Deed::SemLook(last) => Op::SemLook { sem, last },
-        Deed::SemUnlock => Op::SemUnlock { sem },
-        Deed::RwlDelete => Op::RwlDelete { rwl },
-        Deed::RwlLook(writer, last) => Op::RwlLook { rwl, writer, last },
-        Deed::RwlUnlock(writer) => Op::RwlUnlock { rwl, writer },
-        deed => on_segment(deed, number),
-    }
-}
-
-// The same for what is done to a segment.
-fn on_segment(deed: Deed, number: u64) -> Op {
-    let shmem = ShmemHandle(number);
-    match deed {
-        Deed::ShmemDelete => Op::ShmemDelete { shmem },
-        Deed::ShmemAttach => Op::ShmemAttach { shmem },
-        Deed::ShmemDetach => Op::ShmemDetach { shmem },
-        Deed::ShmemRead(cell) => Op::ShmemRead { shmem, cell },
-        Deed::ShmemWrite(cell, value) => Op::ShmemWrite { shmem, cell, value },
-        _ => Op::Pick,
-    }
-}
-
-// An action of this job. A tally would be one of the kind `fail`.
-fn action(job: u32, kind: Kind, cores: u64) -> Op {
-    let cores = Mask(cores);
-    match kind {
-        Kind::Tally => Op::ActionCreate {
-            job,
-            kind: Kind::Fail,
-            cores,
-        },
-        kind => Op::ActionCreate { job, kind, cores },
-    }
-}
-
-/// The op that is asked of a node of this layout.
-pub(crate) fn op_of(layout: Layout, ask: Ask) -> Op {
+// The op that is asked.
+fn op_of(ask: Ask) -> Op {
     match ask {
         Ask::Initialize => Op::Initialize,
         Ask::Release => Op::Release,
         Ask::Enter => Op::Enter,
         Ask::Close => Op::Close,
         Ask::Final => Op::Final,
-        Ask::JobGet(job) => Op::JobGet { job },
-        Ask::Action(job, kind, cores) => action(job, kind, cores),
-        Ask::Start(numbers, priority, cores) => start(1, numbers, priority, cores, false),
-        Ask::Detached(job) => start(job, Numbers::No, 0, ALL, true),
+        Ask::Action(kind, cores) => action(kind, cores),
+        Ask::ActionDisable(action) => Op::ActionDisable {
+            action: ActionHandle(action),
+        },
+        Ask::ActionDelete(action) => Op::ActionDelete {
+            action: ActionHandle(action),
+        },
+        Ask::Pick => Op::Pick,
+        ask => on_task(ask),
+    }
+}
+
+// The op that makes a task or is asked of one.
+fn on_task(ask: Ask) -> Op {
+    match ask {
+        Ask::Start(numbers, priority, cores) => start(numbers, priority, cores, None),
+        Ask::StartIn(group, numbers) => start(numbers, 0, ALL, Some(GroupHandle(group))),
+        Ask::Enqueue(queue, numbers) => enqueue(queue, numbers, None),
+        Ask::EnqueueIn(queue, group, numbers) => enqueue(queue, numbers, Some(GroupHandle(group))),
+        Ask::Look(task, last) => Op::TaskLook {
+            task: TaskHandle(task),
+            last,
+        },
+        Ask::Cancel(task) => Op::TaskCancel {
+            task: TaskHandle(task),
+        },
+        Ask::Finish(task, kind, numbers) => Op::Finish {
+            task: TaskHandle(task),
+            done: finished(kind, numbers),
+        },
+        Ask::Asked(task) => Op::Asked {
+            task: TaskHandle(task),
+        },
+        Ask::WatchEnd(task) => Op::WatchEnd {
+            task: TaskHandle(task),
+        },
+        ask => on_holder(ask),
+    }
+}
+
+// The op that makes a group or a queue or is asked of one.
+fn on_holder(ask: Ask) -> Op {
+    match ask {
         Ask::Group => Op::GroupCreate,
-        Ask::Queue(id, job, priority, limit, ordered, retain) => Op::QueueCreate {
+        Ask::Any(group, last) => Op::AnyLook {
+            group: GroupHandle(group),
+            last,
+        },
+        Ask::Queue(id, limit, ordered, retain) => Op::QueueCreate {
             id,
-            job,
-            priority,
+            job: 1,
+            priority: 0,
             limit,
             ordered,
             retain,
         },
-        Ask::QueueGet(id) => Op::QueueGet { id },
-        Ask::Pick => Op::Pick,
-        Ask::On(done, which) => op_on(layout, done, handle(layout, kind_of(done), which)),
-        ask => on_resources(ask),
+        Ask::QueueDisable(queue) => Op::QueueDisable {
+            queue: QueueHandle(queue),
+        },
+        Ask::QueueDelete(queue) => Op::QueueDelete {
+            queue: QueueHandle(queue),
+        },
+        ask => on_lock(ask),
     }
 }
 
-// The op that makes a resource, or asks for one by its id.
-fn on_resources(ask: Ask) -> Op {
+// The op that makes a mutex, a semaphore or a reader-writer lock or is asked of one.
+fn on_lock(ask: Ask) -> Op {
     match ask {
         Ask::Mutex(id, recursive) => Op::MutexCreate { id, recursive },
         Ask::MutexGet(id) => Op::MutexGet { id },
+        Ask::MutexLook(mutex, last) => Op::MutexLook {
+            mutex: MutexHandle(mutex),
+            last,
+        },
+        Ask::MutexUnlock(mutex, key) => Op::MutexUnlock {
+            mutex: MutexHandle(mutex),
+            key,
+        },
         Ask::Sem(id, limit) => Op::SemCreate { id, limit },
         Ask::SemGet(id) => Op::SemGet { id },
+        Ask::SemLook(sem, last) => Op::SemLook {
+            sem: SemHandle(sem),
+            last,
+        },
+        Ask::SemUnlock(sem) => Op::SemUnlock {
+            sem: SemHandle(sem),
+        },
         Ask::Rwl(id, limit) => Op::RwlCreate { id, limit },
         Ask::RwlGet(id) => Op::RwlGet { id },
+        Ask::RwlLook(rwl, writer, last) => Op::RwlLook {
+            rwl: RwlHandle(rwl),
+            writer,
+            last,
+        },
+        ask => on_segment(ask),
+    }
+}
+
+// The op that makes a segment or is asked of one.
+fn on_segment(ask: Ask) -> Op {
+    match ask {
         Ask::Shmem(id, cells) => Op::ShmemCreate { id, cells },
         Ask::ShmemGet(id) => Op::ShmemGet { id },
+        Ask::ShmemDelete(shmem) => Op::ShmemDelete {
+            shmem: ShmemHandle(shmem),
+        },
+        Ask::ShmemAttach(shmem) => Op::ShmemAttach {
+            shmem: ShmemHandle(shmem),
+        },
+        Ask::ShmemDetach(shmem) => Op::ShmemDetach {
+            shmem: ShmemHandle(shmem),
+        },
+        Ask::ShmemRead(shmem, cell) => Op::ShmemRead {
+            shmem: ShmemHandle(shmem),
+            cell,
+        },
+        Ask::ShmemWrite(shmem, cell, value) => Op::ShmemWrite {
+            shmem: ShmemHandle(shmem),
+            cell,
+            value,
+        },
         _ => Op::Pick,
     }
 }
 
-/// How a task ended, in short: the first number of its result, and 0 where it has none.
-#[derive(Clone, Copy, Debug, Drop, PartialEq, Eq)]
-pub(crate) enum End {
-    Completed(i64),
-    Cancelled,
-    Failed(MtapiStatus),
-}
-
-fn end_of(end: &TaskEnd) -> End {
-    match end {
-        TaskEnd::Completed(args) => End::Completed(args.as_slice().first().copied().unwrap_or(0)),
-        TaskEnd::Cancelled => End::Cancelled,
-        TaskEnd::Failed(status) => End::Failed(*status),
-    }
-}
-
-/// A reply in short. NoSeat stands for none: the seat isn't one of the node's.
-#[derive(Clone, Copy, Debug, Drop, PartialEq, Eq)]
+/// A reply. Completed is the end of a task by its result, Given the handle of a member that completed and its result, and Picked a
+/// task and its arguments.
+#[derive(Clone, Copy, Drop)]
 pub(crate) enum Told {
     Ok,
-    Handle(Which),
+    Handle(u64),
     Number(i64),
-    Ended(End),
-    Given(Which, End),
+    Completed(&'static [i64]),
+    Cancelled,
+    Failed(MtapiStatus),
+    Given(u64, &'static [i64]),
     Pending,
-    Picked(Which, Which, Kind),
+    Picked(u64, &'static [i64]),
     Idle,
     Stop,
     Asked(bool),
     Mtapi(MtapiStatus),
     Mrapi(MrapiStatus),
-    NoSeat,
 }
 
-/// The reply in short, where a handle is one of this kind.
-pub(crate) fn in_short(layout: Layout, kind: ObjectKind, reply: &Reply) -> Told {
-    match reply {
-        Reply::Ok => Told::Ok,
-        Reply::Handle(handle) => Told::Handle(object_of(layout, kind, *handle)),
-        Reply::Number(number) => Told::Number(*number),
-        Reply::Ended(end) => Told::Ended(end_of(end)),
-        Reply::Given(task, end) => {
-            Told::Given(object_of(layout, ObjectKind::Task, task.0), end_of(end))
-        }
-        Reply::Pending => Told::Pending,
-        Reply::Picked {
-            task,
-            action,
-            kind,
-            ..
-        } => {
-            let task = object_of(layout, ObjectKind::Task, task.0);
-            Told::Picked(task, object_of(layout, ObjectKind::Action, action.0), *kind)
-        }
-        Reply::Idle => Told::Idle,
-        Reply::Stop => Told::Stop,
-        Reply::Asked(requested) => Told::Asked(*requested),
-        Reply::Mtapi(status) => Told::Mtapi(*status),
-        Reply::Mrapi(status) => Told::Mrapi(*status),
+// Whether a task ended so, by its own end or by that of a member.
+fn is_end(end: &TaskEnd, told: Told) -> bool {
+    match end {
+        TaskEnd::Completed(args) => match told {
+            Told::Completed(numbers) | Told::Given(_, numbers) => args.as_slice() == numbers,
+            _ => false,
+        },
+        TaskEnd::Cancelled => matches!(told, Told::Cancelled),
+        TaskEnd::Failed(status) => matches!(told, Told::Failed(wanted) if *status == wanted),
+    }
+}
+
+// Whether this was the reply.
+fn is_told(reply: &Reply, told: Told) -> bool {
+    match told {
+        Told::Ok => matches!(reply, Reply::Ok),
+        Told::Handle(wanted) => matches!(reply, Reply::Handle(handle) if *handle == wanted),
+        Told::Number(wanted) => matches!(reply, Reply::Number(number) if *number == wanted),
+        Told::Completed(_) | Told::Cancelled | Told::Failed(_) => match reply {
+            Reply::Ended(end) => is_end(end, told),
+            _ => false,
+        },
+        Told::Given(member, _) => match reply {
+            Reply::Given(task, end) => task.0 == member && is_end(end, told),
+            _ => false,
+        },
+        Told::Pending => matches!(reply, Reply::Pending),
+        Told::Picked(wanted, numbers) => match reply {
+            Reply::Picked { task, args, .. } => task.0 == wanted && args.as_slice() == numbers,
+            _ => false,
+        },
+        Told::Idle => matches!(reply, Reply::Idle),
+        Told::Stop => matches!(reply, Reply::Stop),
+        Told::Asked(wanted) => matches!(reply, Reply::Asked(requested) if *requested == wanted),
+        Told::Mtapi(wanted) => matches!(reply, Reply::Mtapi(status) if *status == wanted),
+        Told::Mrapi(wanted) => matches!(reply, Reply::Mrapi(status) if *status == wanted),
     }
 }
 
@@ -461,7 +348,7 @@ pub(crate) fn in_short(layout: Layout, kind: ObjectKind, reply: &Reply) -> Told 
 pub(crate) type Row = (u32, Ask, Told);
 
 /// How large a node is: its workers, callers, tasks, and objects of every other kind, and how often a slot is used.
-#[derive(Clone, Copy, Debug, Drop, PartialEq, Eq)]
+#[derive(Clone, Copy, Drop)]
 pub(crate) struct Size {
     pub(crate) workers: u64,
     pub(crate) callers: u32,
@@ -483,7 +370,6 @@ pub(crate) const SMALL: Size = Size {
 #[derive(Drop)]
 pub(crate) struct Called {
     pub(crate) node: Journaled,
-    pub(crate) layout: Layout,
     calls: u64,
 }
 
@@ -518,24 +404,15 @@ fn attributes(size: Size) -> Option<NodeAttr> {
 }
 
 impl Called {
-    /// A new node of this size, with two priorities and with a journal.
+    /// A new node of this size, with two priorities and with a journal, for 1 to 9 callers.
     pub(crate) fn new(alloc: Global, size: Size) -> Result<Called, Fail> {
         let attr = attributes(size).ok_or("a setting")?;
-        Called::with(alloc, attr, size.callers)
-    }
-
-    /// A new node with these settings and with a journal, for 1 to 9 callers.
-    pub(crate) fn with(alloc: Global, attr: NodeAttr, callers: u32) -> Result<Called, Fail> {
+        let callers = size.callers;
         if callers < 1 || callers > 9 {
             return Err("callers".into());
         }
         let node = Journaled::with(alloc, Node::init(alloc, attr, callers)?);
-        let layout = node.told_terms().node.layout;
-        Ok(Called {
-            node,
-            layout,
-            calls: 0,
-        })
+        Ok(Called { node, calls: 0 })
     }
 
     /// One call. None where the seat isn't one, or after too many calls.
@@ -548,20 +425,20 @@ impl Called {
         Some(reply)
     }
 
-    /// The reply to this, in short.
-    pub(crate) fn ask(&mut self, who: u32, ask: Ask) -> Told {
-        match self.call(who, op_of(self.layout, ask)) {
-            Some(reply) => in_short(self.layout, kind_told(ask), &reply),
-            None => Told::NoSeat,
+    // Whether the reply is this one.
+    fn answers(&mut self, row: &Row) -> bool {
+        let (who, ask, told) = row;
+        match self.call(*who, op_of(*ask)) {
+            Some(reply) => is_told(&reply, *told),
+            None => false,
         }
     }
 
-    /// Asks each row in turn. The place of the first with another reply, and that reply.
-    pub(crate) fn first_other(&mut self, rows: &[Row]) -> Option<(usize, Told)> {
-        for (place, (who, ask, want)) in rows.iter().enumerate() {
-            let told = self.ask(*who, *ask);
-            if told != *want {
-                return Some((place, told));
+    /// Asks each row in turn. The place of the first with another reply.
+    pub(crate) fn first_other(&mut self, rows: &[Row]) -> Option<usize> {
+        for (place, row) in rows.iter().enumerate() {
+            if !self.answers(row) {
+                return Some(place);
             }
         }
         None
@@ -569,10 +446,6 @@ impl Called {
 }
 
 /// The first row, on a new node of this size, that is answered otherwise.
-pub(crate) fn first_other(
-    alloc: Global,
-    size: Size,
-    rows: &[Row],
-) -> Result<Option<(usize, Told)>, Fail> {
+pub(crate) fn first_other(alloc: Global, size: Size, rows: &[Row]) -> Result<Option<usize>, Fail> {
     Ok(Called::new(alloc, size)?.first_other(rows))
 }

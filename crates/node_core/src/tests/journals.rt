@@ -1,145 +1,60 @@
-//! What a journal keeps of a short history, and the number beside each entry.
+//! What a journal keeps: of looks that are made again and again, of a cell that is closed, and of many calls.
 
-use crate::entries::EntryList;
 use crate::journaled::Journaled;
 use crate::node::Node;
 use crate::run_journals::journal_of;
-use crate::tests::asking::Called;
-use crate::tests::handles::TASK;
+use crate::tests::asking::Ask::{Action, Close, Enqueue, Initialize, Look, Queue, QueueDisable};
+use crate::tests::asking::Told::{Cancelled, Handle, Mtapi, Pending};
+use crate::tests::asking::{ACTION, ALL, Called, QUEUE, SMALL, TASK, Told};
 use history::Object;
-use mtapi_machine::{Entry, Op, Reply};
-use mtapi_values::{Args, Kind, Layout, Mask, NodeAttr, TaskEnd, TaskHandle};
+use mtapi_machine::{Op, Reply};
+use mtapi_values::{Kind, Layout, MtapiStatus, NodeAttr};
 use std::test::Fail;
 use turn_cell::TurnCell;
 
-// One call, in a word. None where the seat isn't one.
-fn call(called: &mut Called, who: u32, op: Op) -> Option<&'static str> {
-    match called.call(who, op) {
-        Some(reply) => Some(word(&reply)),
-        None => None,
-    }
-}
-
-fn word(reply: &Reply) -> &'static str {
-    match reply {
-        Reply::Ok => "ok",
-        Reply::Handle(_) => "handle",
-        Reply::Ended(TaskEnd::Cancelled) => "cancelled",
-        Reply::Pending => "pending",
-        Reply::Idle => "idle",
-        Reply::Stop => "stop",
-        _ => "other",
-    }
-}
-
-fn look(last: bool) -> Op {
-    Op::TaskLook {
-        task: TaskHandle(TASK),
-        last,
-    }
-}
-
-fn cancel() -> Op {
-    Op::TaskCancel {
-        task: TaskHandle(TASK),
-    }
-}
-
-fn action() -> Op {
-    Op::ActionCreate {
-        job: 1,
-        kind: Kind::Add,
-        cores: Mask(1),
-    }
-}
-
-fn start() -> Op {
-    Op::TaskStart {
-        job: 1,
-        args: Args::new(),
-        priority: 0,
-        cores: Mask(1),
-        detached: false,
-        group: None,
-    }
-}
-
+// Of four looks the first and the last are kept, and two stand beside the last.
 #[test]
-fn pending_looks_are_counted_and_idle_picks_are_left_out(rt: HostRuntime) -> Result<(), Fail> {
-    let mut called = Called::with(rt.alloc(), NodeAttr::new(), 2)?;
-    for (who, op, reply) in [
-        (1, Op::Initialize, "ok"),
-        (2, Op::Enter, "pending"),
-        (2, Op::Enter, "pending"),
-        (0, Op::Pick, "idle"),
-        (1, Op::Release, "ok"),
-        (2, Op::Enter, "ok"),
-        (1, action(), "handle"),
-        (0, Op::Pick, "idle"),
-        (1, start(), "handle"),
-        (2, look(false), "pending"),
-        (2, look(false), "pending"),
-        (2, look(false), "pending"),
-        (1, cancel(), "ok"),
-        (0, Op::Pick, "idle"),
-        (2, look(true), "cancelled"),
-        (1, Op::Close, "ok"),
-        (0, Op::Pick, "stop"),
-        (1, Op::Final, "ok"),
-    ] {
-        assert_eq!(rt; call(&mut called, who, op), Some(reply));
-    }
-    let journal = called.node.into_journal()?.ok_or("no journal")?;
-    assert_eq!(rt; (journal.callers, journal.settings), (2, NodeAttr::new()));
-    let kept = [
-        (1, "ok"),
-        (1, "ok"),
-        (2, "ok"),
-        (1, "handle"),
-        (1, "handle"),
-        (2, "pending"),
-        (1, "ok"),
-        (2, "cancelled"),
-        (1, "ok"),
-        (0, "stop"),
-        (1, "ok"),
+fn looks_until_the_last(rt: HostRuntime) -> Result<(), Fail> {
+    let mut node = Called::new(rt.alloc(), SMALL)?;
+    let rows = [
+        (1, Initialize, Told::Ok),
+        (1, Action(Kind::Add, ALL), Handle(ACTION)),
+        (1, Queue(1, 65536, false, true), Handle(QUEUE)),
+        (1, QueueDisable(QUEUE), Told::Ok),
+        (1, Enqueue(QUEUE, &[1]), Handle(TASK)),
+        (1, Look(TASK, false), Pending),
+        (1, Look(TASK, false), Pending),
+        (1, Look(TASK, false), Pending),
+        (1, Look(TASK, true), Mtapi(MtapiStatus::Timeout)),
+        (1, Close, Told::Ok),
+        (1, Look(TASK, false), Cancelled),
     ];
-    let entries = journal.entries.as_slice();
-    assert_eq!(rt; entries.len(), kept.len());
-    for (entry, (who, reply)) in entries.iter().zip(kept) {
-        assert_eq!(rt; (entry.who, word(&entry.reply)), (who, reply));
-    }
+    assert_eq!(rt; node.first_other(&rows), None);
+    let journal = node.node.into_journal()?.ok_or("no journal")?;
     assert_eq!(rt;
         journal.entries.skipped(),
-        [0, 0, 2, 0, 0, 0, 0, 2, 0, 0, 0].as_slice()
+        [0, 0, 0, 0, 0, 0, 2, 0, 0].as_slice()
     );
     Ok(())
 }
 
-#[test]
-fn a_list_that_grows(rt: HostRuntime) -> Result<(), Fail> {
-    let mut list = EntryList::new(rt.alloc());
-    assert_eq!(rt; list.as_slice().len(), 0);
-    for number in 0..3 {
-        let entry = Entry {
-            who: 1,
-            op: Op::Pick,
-            reply: Reply::Stop,
-        };
-        list.push(entry, number)?;
-    }
-    assert_eq!(rt; list.as_slice().len(), 3);
-    assert_eq!(rt; list.skipped(), [0, 1, 2].as_slice());
-    Ok(())
-}
+/// More entries than a slot has numbers of 16 bits.
+const MANY: u32 = 70_000;
 
+// Each call is refused and kept, and its job tells it from the others.
 #[test]
-fn none_is_kept_without(rt: HostRuntime) -> Result<(), Fail> {
-    let node = Node::init(rt.alloc(), NodeAttr::new(), 1)?;
-    let mut node = Journaled::without(node);
-    assert!(rt; !node.told_terms().keeps);
-    assert!(rt; matches!(node.apply(1, Op::Initialize), Reply::Ok));
-    assert!(rt; matches!(node.into_journal(), Ok(None)));
+fn many_calls_are_kept(rt: HostRuntime) -> Result<(), Fail> {
+    let mut called = Called::new(rt.alloc(), SMALL)?;
+    for job in 0..MANY {
+        assert!(rt; matches!(called.call(1, Op::JobGet { job }), Some(Reply::Mtapi(_))));
+    }
+    let journal = called.node.into_journal()?.ok_or("no journal")?;
+    assert_eq!(rt; journal.entries.as_slice().len(), 70_000);
+    let mut next = 0u32;
+    for entry in journal.entries.as_slice() {
+        assert!(rt; matches!(entry.op, Op::JobGet { job } if job == next));
+        next = next.wrapping_add(1);
+    }
     Ok(())
 }
 
@@ -168,7 +83,7 @@ fn a_closed_cell_gives_its_journal(rt: HostRuntime) -> Result<(), Fail> {
     assert_eq!(rt; entries.len(), 1);
     for entry in entries {
         assert!(rt; matches!(entry.op, Op::Initialize));
-        assert_eq!(rt; (entry.who, word(&entry.reply)), (1, "ok"));
+        assert!(rt; entry.who == 1 && matches!(entry.reply, Reply::Ok));
     }
     assert_eq!(rt; journal.entries.skipped(), [0].as_slice());
     Ok(())
