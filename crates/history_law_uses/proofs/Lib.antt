@@ -1,0 +1,2 @@
+pub mod WorkedLegal
+pub mod Journals
