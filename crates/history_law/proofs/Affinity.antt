@@ -1,5 +1,5 @@
 -- Who picks a task is in the mask of the task, and in that of the action.
-use Rattle.std.proofs.Common.{◌≡◌, ℕ, ◌≤◌, arith, sym, Bool, true, false, cond, List, [], ◌∷◌, ◌++◌, Option, Some, None, refl, ◌∙◌, ap, subst}
+use Rattle.std.proofs.Common.{◌≡◌, ℕ, sym, Bool, true, false, cond, List, [], ◌∷◌, ◌++◌, Option, Some, None, refl, ◌∙◌, ap, subst}
 use Rattle.std.specs.Prelude.{◌==◌, ◌&&◌, is_some, ℤ, nat_lt, not}
 use Rattle.mtapi_values.specs.declared.kinds.Kind.{Kind}
 use Rattle.mtapi_values.specs.declared.handles.ObjectKind.TheVariants as kind
@@ -13,26 +13,22 @@ use Rattle.mtapi_machine.specs.declared.ops.Op.TheVariants as op
 use Rattle.mtapi_machine.specs.declared.replies.Reply.{Reply}
 use Rattle.mtapi_machine.specs.declared.replies.Reply.TheVariants.{Handle, Idle, Stop, Picked, Mtapi}
 use Rattle.mtapi_values.specs.declared.statuses.MtapiStatus.TheVariants as m
-use Rattle.mtapi_values.specs.declared.ends.TaskEnd.TheVariants.{Failed}
-use Rattle.handle_pool.specs.Issued.{Listed, live_object, any_listed, listed, issue, with_fields, gone}
-use Rattle.mtapi_objects.specs.Actions.{Action, new_action, with_enabled, is_eligible, has_enabled_job}
-use Rattle.mtapi_objects.specs.Tasks.{Task, NewTask, Running, runs_on, new_task, with_state, with_notes, ended}
-use Rattle.mtapi_objects.specs.Groups.{is_member, freed, let_go}
+use Rattle.handle_pool.specs.Issued.{live_object, any_listed, listed}
+use Rattle.mtapi_objects.specs.Actions.{Action, new_action, is_eligible, has_enabled_job}
+use Rattle.mtapi_objects.specs.Tasks.{Task, NewTask, runs_on, new_task}
 use Rattle.mtapi_machine.specs.State.{State, opening, workers, is_new, is_stop}
-use Rattle.mtapi_machine.specs.Moves.{Move, stops, makes_action, enables, withdraws, starts_task, runs_task, ends_task, ends_waiting, notes, leaves, frees_members, lets_members_go, makes, alters, removes, apply, after_moves}
+use Rattle.mtapi_machine.specs.Moves.{Move, stops, runs_task, after_moves}
 use Rattle.mtapi_machine.specs.Row.{Row, unless, gives, never, Allows, only, live, handle_of, moves_of}
 use Rattle.mtapi_machine.specs.TaskRows.{asked_for, asked_of}
 use Rattle.mtapi_machine.specs.Rows.{row}
 use Rattle.mtapi_machine.specs.WorkRows.{is_ready, has_better, picks}
 use Rattle.mtapi_machine.specs.Legal.{NodeEntry, IsNext, next, LegalFrom, Legal, after_from, after}
-use Rattle.mtapi_machine.specs.Laws.{IsMade, StartsTask, MakesAction, WithdrawsAction}
+use Rattle.mtapi_machine.specs.Laws.{StartsTask}
 use Rattle.mtapi_machine.proofs.Lists.{Legal-front}
 use Rattle.mtapi_machine.proofs.Made.{AllGives, given, on_only, on_live, fst_true, snd_true}
-use Rattle.mtapi_machine.proofs.Moves.{by_moves, sorts_keep}
-use Rattle.history_law.specs.Words.{some_entry, makes as makes_kind, is_handle, issues}
+use Rattle.history_law.specs.Words.{makes as makes_kind, is_handle, issues}
 use Rattle.history_law.specs.Affinity.{task_mask, action_mask, ObeysMasks}
 use Rattle.history_law.proofs.Ages.{SameTask, SameAction, under_at, live_listed}
-use Rattle.history_law.proofs.Handles.{listed_change, listed_all, listed_ends, listed_more}
 use Rattle.history_law.proofs.Objects.{MadeAs, started_as, made_as, task_then, action_then, cut_from, has_behind}
 use Rattle.history_law.proofs.Answered.{true_false}
 use Rattle.mtapi_machine.proofs.Changes.{some_same}

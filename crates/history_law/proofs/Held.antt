@@ -1,7 +1,7 @@
 -- What holds after every legal list of the tasks, the phase and the marks of stopped workers, and the changes that keep it.
-use Rattle.std.proofs.Common.{◌≡◌, ℕ, zero, suc, ◌+◌, ◌≤◌, Bool, true, false, cond, List, [], ◌∷◌, ◌++◌, Some, refl, ◌∙◌, ap, subst, arith}
+use Rattle.std.proofs.Common.{◌≡◌, ℕ, zero, suc, ◌+◌, ◌≤◌, Bool, true, false, cond, List, [], ◌∷◌, ◌++◌, Some, refl, ◌∙◌, ap, arith}
 use Rattle.std.specs.Prelude.{◌==◌, ◌&&◌, is_none, slice_set}
-use Rattle.std.proofs.lemmas.Bool.{eqb-true, cond_both}
+use Rattle.std.proofs.lemmas.Bool.{cond_both}
 use Rattle.mtapi_values.specs.declared.ends.TaskEnd.{TaskEnd}
 use Rattle.mtapi_values.specs.Seats.{all_marked}
 use Rattle.mtapi_machine.specs.declared.terms.Phase.{Phase}

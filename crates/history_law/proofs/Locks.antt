@@ -1,5 +1,5 @@
 -- Locks that seats get and give back: what each entry does to one, and so every list of entries. A kind of lock says what is counted of it.
-use Rattle.std.proofs.Common.{◌≡◌, ℕ, ◌+◌, ◌<◌, ◌≤◌, Bool, true, false, List, [], ◌∷◌, ◌++◌, Option, Some, None, refl, sym, ◌∙◌, ap, subst, arith, zero, suc, cond}
+use Rattle.std.proofs.Common.{◌≡◌, ℕ, ◌+◌, ◌<◌, ◌≤◌, Bool, true, false, List, [], ◌∷◌, ◌++◌, Option, Some, None, refl, sym, ◌∙◌, ap, subst, arith, zero, suc}
 use Rattle.std.specs.Prelude.{◌==◌, ◌&&◌}
 use Rattle.std.proofs.lemmas.Bool.{eqb-true, false_from_ne_true}
 use Rattle.mtapi_values.specs.declared.statuses.MrapiStatus.{MrapiStatus}
@@ -21,18 +21,16 @@ use Rattle.history_law.specs.Exclusion.{by_seat, limit_of, MadeWith}
 use Rattle.history_law.proofs.Accepted.{stands_after}
 use Rattle.history_law.proofs.AtHandles.{at_change_other, at_issue_here, at_retired, at_unlisted}
 use Rattle.history_law.proofs.Counts.{one_if, counts_along, counts_behind, passes}
-use Rattle.history_law.proofs.Handles.{OnceIn, listed_change, some_issued}
+use Rattle.history_law.proofs.Handles.{OnceIn, some_issued}
 use Rattle.history_law.proofs.Reuse.{terms_next, unlisted_if, Listed1, listed_move, listed_new, none_times, fresh_unlisted, issues_fresh, issued_as, ListsIssued, none_listed}
 use Rattle.history_law.proofs.Said.{said, Unmet, says_only, says_unless, says_look, says_alter, says_delete}
 use Rattle.mtapi_values.specs.declared.handles.ObjectKind.{ObjectKind}
 use Rattle.mtapi_machine.specs.declared.ops.Op.{Op}
 use Rattle.mtapi_machine.specs.Rows.{row}
-use Rattle.mtapi_machine.specs.Laws.{makes_kind}
 use Rattle.mtapi_machine.proofs.Made.{fst_true}
-use Rattle.mtapi_machine.proofs.Moves.{along, by_moves}
-use Rattle.history_law.proofs.Answered.{true_false, none_first, none_some}
+use Rattle.mtapi_machine.proofs.Moves.{along}
+use Rattle.history_law.proofs.Answered.{none_some}
 use Rattle.history_law.proofs.OnceIssued.{once_move, once_next, listed_next}
-use Rattle.history_law.proofs.Sorts.{sort_move}
 
 -- what always holds of a lock, how often it is held in a mode, and how often by one seat
 pub record Lock (M T : Type 0) : Type 1 where

@@ -10,7 +10,7 @@ use Rattle.mtapi_values.specs.declared.statuses.MtapiStatus.TheVariants as m
 use Rattle.mtapi_values.specs.declared.handles.TaskHandle.{TaskHandle}
 use Rattle.mtapi_values.specs.declared.handles.GroupHandle.{GroupHandle}
 use Rattle.mtapi_values.specs.declared.handles.ObjectKind.TheVariants as kind
-use Rattle.handle_pool.specs.Issued.{Listed, live_of, lookup, live_object, listed, change, change_all, issue, with_fields, gone}
+use Rattle.handle_pool.specs.Issued.{Listed, live_of, live_object, listed, change, change_all, issue, with_fields, gone}
 use Rattle.mtapi_objects.specs.Tasks.{Task, Notes, TaskState, Scheduled, Running, Ended, end_of, with_state, with_notes, ended, end_each, new_task}
 use Rattle.mtapi_objects.specs.Groups.{is_member, Ending, insert, insert_ended, endings, in_no_group, freed, let_go}
 use Rattle.mtapi_machine.specs.declared.terms.Terms.{Terms}

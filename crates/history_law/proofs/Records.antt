@@ -4,7 +4,7 @@ use Rattle.std.specs.Prelude.{◌==◌, ◌&&◌, is_some}
 use Rattle.handle_pool.specs.Issued.{Listed, live_of, live_object, listed, change}
 use Rattle.mtapi_machine.proofs.Made.{snd_true}
 use Rattle.history_law.proofs.Ages.{live_listed}
-use Rattle.history_law.proofs.Found.{at_skip, at_dead, at_here, change_here, change_past, at_head, at_past}
+use Rattle.history_law.proofs.Found.{at_here, change_here, change_past, at_head, at_past}
 use Rattle.history_law.proofs.Handles.{OnceIn, once_rest}
 use Rattle.mtapi_machine.proofs.Changes.{some_same}
 use Rattle.std.proofs.lemmas.Bool.{false_from_ne_true}

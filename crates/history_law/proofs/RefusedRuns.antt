@@ -1,7 +1,6 @@
 -- What the laws of a run refuse, by computing.
 use Rattle.std.proofs.Common.{◌≡◌, ℕ, zero, suc, ◌≤◌, false, List, [], ◌∷◌, ◌++◌, Option, Some, None, refl, sym, ◌∙◌, ap, arith, Bool, true, cond, ◌+◌}
-use Rattle.std.specs.Prelude.{pos, ◌==◌}
-use Rattle.mtapi_values.specs.declared.kinds.Kind.TheVariants as kind
+use Rattle.std.specs.Prelude.{◌==◌}
 use Rattle.mtapi_values.specs.declared.statuses.MtapiStatus.TheVariants.{Timeout, ErrTaskInvalid}
 use Rattle.mtapi_values.specs.declared.ends.TaskEnd.TheVariants.{Failed}
 use Rattle.mtapi_values.specs.Seats.{is_seat}
@@ -9,7 +8,7 @@ use Rattle.mtapi_machine.specs.declared.ops.Op.TheVariants as op
 use Rattle.mtapi_machine.specs.declared.replies.Reply.TheVariants as reply
 use Rattle.handle_pool.specs.Issued.{live_of, live_object, count_listed, issue, change, listed, issued_at, retired, is_full, may_issue}
 use Rattle.mtapi_objects.specs.Actions.{has_worker}
-use Rattle.mtapi_objects.specs.Tasks.{Task, no_tally, runs_on}
+use Rattle.mtapi_objects.specs.Tasks.{Task, runs_on}
 use Rattle.mtapi_machine.specs.WorkRows.{is_ready, can_take, has_better}
 use Rattle.mtapi_machine.specs.State.{opening, seats}
 use Rattle.mtapi_machine.specs.Legal.{NodeEntry, after_from, after}

@@ -1,5 +1,5 @@
 -- What each entry does to a reader-writer lock, and so every list of entries.
-use Rattle.std.proofs.Common.{◌≡◌, ℕ, ◌+◌, ◌<◌, ◌≤◌, Bool, true, false, List, Option, Some, None, ◌⊎◌, inl, inr, refl, sym, ◌∙◌, ap, subst, arith, [], ◌∷◌}
+use Rattle.std.proofs.Common.{◌≡◌, ℕ, ◌+◌, ◌<◌, ◌≤◌, Bool, true, false, List, Option, Some, None, ◌⊎◌, inl, inr, refl, sym, ◌∙◌, ap, subst, arith}
 use Rattle.std.specs.Prelude.{◌&&◌, is_some, ◌==◌}
 use Rattle.mtapi_values.specs.Seats.{is_seat, marked}
 use Rattle.mtapi_values.specs.declared.handles.ObjectKind.TheVariants as kind

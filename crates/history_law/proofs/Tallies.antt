@@ -25,7 +25,7 @@ use Rattle.mtapi_machine.proofs.Changes.{at-update, some_same}
 use Rattle.history_law.specs.Tally.{record_of, adds_to, sum_of}
 use Rattle.history_law.proofs.Accepted.{shown}
 use Rattle.history_law.proofs.Handles.{OnceIn}
-use Rattle.history_law.proofs.Found.{at_skip, at_dead, at_here, count_changed, count_issued, at_past}
+use Rattle.history_law.proofs.Found.{at_here, count_changed, count_issued, at_past}
 use Rattle.history_law.proofs.Held.{DeadEnded}
 use Rattle.history_law.proofs.Every.{Every, every_change, every_map, always}
 use Rattle.history_law.proofs.SeatMoves.{May}
