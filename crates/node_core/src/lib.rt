@@ -9,9 +9,11 @@ pub mod node;
 pub mod run_journals;
 #[cfg(test)]
 mod tests;
+mod worked;
 
 pub use entries::{EntryList, Journal};
 pub use journaled::{Journaled, JournaledTerms};
 pub use mtapi_machine::{Entry, Op, Phase, Reply, Terms};
 pub use node::Node;
 pub use run_journals::{RunJournal, journal_of};
+pub use worked::worked_agreement;
