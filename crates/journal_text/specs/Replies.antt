@@ -48,6 +48,11 @@ reply_spelled (reply.Asked b) = (word.Asked, value.Flag b ∷ [])
 reply_spelled (reply.Mtapi s) = (word.Status, value.Status (status.Mtapi s) ∷ [])
 reply_spelled (reply.Mrapi s) = (word.Status, value.Status (status.Mrapi s) ∷ [])
 
+-- a status as a reply
+abbrev pub status_reply : Status → Reply
+status_reply (status.Mtapi s) = reply.Mtapi s
+status_reply (status.Mrapi s) = reply.Mrapi s
+
 -- the reply of a word with these values
 unfoldable pub reply_of : ReplyWord → List Value → Option Reply
 reply_of word.Ok [] = Some reply.Ok
@@ -60,6 +65,5 @@ reply_of word.Picked (value.Handle task ∷ value.Handle action ∷ value.Kind k
 reply_of word.Idle [] = Some reply.Idle
 reply_of word.Stop [] = Some reply.Stop
 reply_of word.Asked (value.Flag b ∷ []) = Some (reply.Asked b)
-reply_of word.Status (value.Status (status.Mtapi s) ∷ []) = Some (reply.Mtapi s)
-reply_of word.Status (value.Status (status.Mrapi s) ∷ []) = Some (reply.Mrapi s)
+reply_of word.Status (value.Status s ∷ []) = Some (status_reply s)
 reply_of _ _ = None

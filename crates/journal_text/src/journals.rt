@@ -65,6 +65,7 @@ fn text_of(alloc: Global, journal: &Journal) -> Result<Vec<u8>, AllocError>
     ensures parts { IfOk result (λ text. AllPartsFit journal.now.entries.entries journal.now.entries.skipped) }
 {
     settings_fit(journal.settings);
+    let skipped = journal.entries.skipped();
     let head = Head {
         layout: journal.layout,
         settings: journal.settings,
@@ -73,7 +74,6 @@ fn text_of(alloc: Global, journal: &Journal) -> Result<Vec<u8>, AllocError>
     let mut out = Vec::new(alloc);
     push_head(alloc, &mut out, &head)?;
     out.push(b'\n')?;
-    let skipped = journal.entries.skipped();
     push_entries(alloc, &mut out, &head, journal.entries.as_slice(), skipped)?;
     Ok(out)
 }

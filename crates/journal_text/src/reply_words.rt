@@ -1,6 +1,6 @@
 //! The replies as words: the word of each reply, the shapes of its fields in order, and their values.
 ghost use Rattle.std.specs.Prelude.{◌≡◌, IfOk};
-ghost use Rattle.journal_text.specs.Replies.{reply_row, reply_word_of, reply_spelled, reply_of};
+ghost use Rattle.journal_text.specs.Replies.{reply_row, reply_word_of, reply_spelled, status_reply, reply_of};
 
 use crate::values::{Shape, Status, Value, spelled};
 use mtapi_machine::Reply;
@@ -81,25 +81,35 @@ pub fn reply_spelled(alloc: Global, reply: &Reply) -> Result<(ReplyWord, Vec<Val
     }
 }
 
+fn status_reply(status: Status) -> Reply
+    ensures { result ≡ status_reply status }
+{
+    match status {
+        Status::Mtapi(status) => Reply::Mtapi(status),
+        Status::Mrapi(status) => Reply::Mrapi(status),
+    }
+}
+
 /// The reply of a word with these values.
 #[rattlefmt::skip]
 #[tactic(auto, unfolding(crate::specs::Replies::reply_of))]
 pub fn reply_of(word: ReplyWord, values: &[Value]) -> Option<Reply>
     ensures { result ≡ reply_of word values.now }
 {
-    match (word, values) {
-        (ReplyWord::Ok, []) => Some(Reply::Ok),
-        (ReplyWord::Handle, [Value::Handle(handle)]) => Some(Reply::Handle(*handle)),
-        (ReplyWord::Number, [Value::Whole(number)]) => Some(Reply::Number(*number)),
-        (ReplyWord::Ended, [Value::End(end)]) => Some(Reply::Ended(end.again())),
-        (ReplyWord::Given, [Value::Handle(task), Value::End(end)]) => Some(Reply::Given(TaskHandle(*task), end.again())),
-        (ReplyWord::Pending, []) => Some(Reply::Pending),
-        (ReplyWord::Picked, [Value::Handle(task), Value::Handle(action), Value::Kind(kind), Value::Args(args)]) => Some(Reply::Picked { task: TaskHandle(*task), action: ActionHandle(*action), kind: *kind, args: args.again() }),
-        (ReplyWord::Idle, []) => Some(Reply::Idle),
-        (ReplyWord::Stop, []) => Some(Reply::Stop),
-        (ReplyWord::Asked, [Value::Flag(requested)]) => Some(Reply::Asked(*requested)),
-        (ReplyWord::Status, [Value::Status(Status::Mtapi(status))]) => Some(Reply::Mtapi(*status)),
-        (ReplyWord::Status, [Value::Status(Status::Mrapi(status))]) => Some(Reply::Mrapi(*status)),
-        _ => None,
+    match word {
+        ReplyWord::Ok => match values { [] => Some(Reply::Ok), _ => None },
+        ReplyWord::Handle => match values { [Value::Handle(handle)] => Some(Reply::Handle(*handle)), _ => None },
+        ReplyWord::Number => match values { [Value::Whole(number)] => Some(Reply::Number(*number)), _ => None },
+        ReplyWord::Ended => match values { [Value::End(end)] => Some(Reply::Ended(end.again())), _ => None },
+        ReplyWord::Given => match values { [Value::Handle(task), Value::End(end)] => Some(Reply::Given(TaskHandle(*task), end.again())), _ => None },
+        ReplyWord::Pending => match values { [] => Some(Reply::Pending), _ => None },
+        ReplyWord::Picked => match values {
+            [Value::Handle(task), Value::Handle(action), Value::Kind(kind), Value::Args(args)] => Some(Reply::Picked { task: TaskHandle(*task), action: ActionHandle(*action), kind: *kind, args: args.again() }),
+            _ => None,
+        },
+        ReplyWord::Idle => match values { [] => Some(Reply::Idle), _ => None },
+        ReplyWord::Stop => match values { [] => Some(Reply::Stop), _ => None },
+        ReplyWord::Asked => match values { [Value::Flag(requested)] => Some(Reply::Asked(*requested)), _ => None },
+        ReplyWord::Status => match values { [Value::Status(status)] => Some(status_reply(*status)), _ => None },
     }
 }
