@@ -1,7 +1,9 @@
 -- A journal that was written is read as the same.
-use Rattle.std.proofs.Common.{◌≡◌, ℕ, ◌+◌, List, [], ◌∷◌, ◌++◌, Result, Ok, Err, refl, sym, ap, ◌∙◌, append_assoc}
+use Rattle.std.proofs.Common.{◌≡◌, ℕ, ◌+◌, List, [], ◌∷◌, ◌++◌, Result, Ok, Err, refl, sym, ap, ◌∙◌, append_assoc, length, arith}
 use Rattle.std.specs.Global.{Vec}
 use Rattle.std.specs.Prelude.{IfOk}
+use Rattle.std.specs.List.{AllByRecursion}
+use Rattle.mtapi_values.specs.Attributes.{AreNodeSettings}
 use Rattle.std.proofs.lemmas.List.{append-nil}
 use Rattle.mtapi_machine.specs.Legal.{NodeEntry}
 use Rattle.node_core.specs.Journals.{KeptEntries}
@@ -11,7 +13,7 @@ use Rattle.journal_text.specs.declared.heads.Head.{Head}
 use Rattle.journal_text.specs.Heads.{head_text}
 use Rattle.journal_text.specs.Lines.{entry_text}
 use Rattle.journal_text.specs.Journals.{head_for, entry_lines, lines_text, journal_text, in_line, with_kept, line_adds, entries_from, no_entries, journal_from, journal_of, ◌>>=◌}
-use Rattle.journal_text.specs.Fits.{HeadFits, EntryFits, EntriesFit, JournalFits}
+use Rattle.journal_text.specs.Fits.{HeadFits, EntryFits, EntriesFit, AllPartsFit, HasPlace, JournalFits, IsWritable}
 use Rattle.journal_text.proofs.Reading.{with_entries}
 use Rattle.journal_text.proofs.Steps.{step_is, lines_are}
 use Rattle.journal_text.proofs.Plain.{between_line}
@@ -84,6 +86,20 @@ text_again j f =
     ap journal_from (between_line (head_text head) (lines_text (entry_lines head es ns)) (head_above head f.head) ∙ ap (λ l. head_text head ∷ l) (lines_again head es ns f.head f.entries))
     ∙ whole_again head es ns f.head f.entries
 
-pub again_from : {E : Type 0} (j : Journal) (r : Result (Vec ℕ) E) → IfOk r (λ t. t.items ≡ journal_text j) → JournalFits j → IfOk r (λ t. journal_of t.items ≡ Ok j)
-again_from j (Ok v) e f = ap journal_of e ∙ text_again j f
-again_from j (Err x) e f = tt
+-- ---- what the types keep, beside what makes a journal one that can be written
+
+entries_fit : (head : Head) (es : List NodeEntry) (ns : List ℕ) → length ns ≡ length es → AllPartsFit es ns → AllByRecursion (HasPlace head) es → EntriesFit head es ns
+entries_fit head [] [] same parts places = tt
+entries_fit head [] (n ∷ ns) same parts places = absurd cc
+entries_fit head (e ∷ es) [] same parts places = absurd cc
+entries_fit head (e ∷ es) (n ∷ ns) same parts places = (record { place = places.0; parts = parts.0 }, entries_fit head es ns (omega (arith, same)) parts.1 places.1)
+
+writable_fits : (j : Journal) → AreNodeSettings j.settings → length j.entries.skipped ≡ length j.entries.entries → AllPartsFit j.entries.entries j.entries.skipped → IsWritable j → JournalFits j
+writable_fits j settings same parts w = record {
+  head = record { settings = settings; some = w.some; few = w.few };
+  entries = entries_fit (head_for j) j.entries.entries j.entries.skipped same parts w.places;
+}
+
+pub again_from : {E : Type 0} (j : Journal) (r : Result (Vec ℕ) E) → IfOk r (λ t. t.items ≡ journal_text j) → AreNodeSettings j.settings → length j.entries.skipped ≡ length j.entries.entries → IfOk r (λ t. AllPartsFit j.entries.entries j.entries.skipped) → IsWritable j → IfOk r (λ t. journal_of t.items ≡ Ok j)
+again_from j (Ok v) e settings same parts w = ap journal_of e ∙ text_again j (writable_fits j settings same parts w)
+again_from j (Err x) e settings same parts w = tt

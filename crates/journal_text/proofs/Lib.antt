@@ -9,10 +9,4 @@ pub mod Plain
 pub mod LinesAgain
 pub mod HeadsAgain
 pub mod JournalsAgain
-pub mod ValuesFit
-pub mod AnswersFit
-pub mod OpsFit
-pub mod HeadsFit
-pub mod LinesFit
-pub mod JournalsFit
 pub mod Taken

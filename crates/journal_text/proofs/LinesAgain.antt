@@ -59,10 +59,10 @@ unfolding reply_from
 reply_from_again l r ws f =
     let w = (reply_spelled r).0 in
     let vs = (reply_spelled r).1 in
-    ap (λ o. o >>= λ x. values_onto [] (reply_row x).1 (values_words l vs ++ ws) >>= λ values. Some (reply_of x values.0, values.1)) (reply_word_again w)
-    ∙ ap (λ ss. values_onto [] ss (values_words l vs ++ ws) >>= λ values. Some (reply_of w values.0, values.1)) (reply_shapes r)
-    ∙ ap (λ o. o >>= λ values. Some (reply_of w values.0, values.1)) (values_again l [] vs ws f)
-    ∙ ap (λ x. Some (x, ws)) (reply_again r)
+    ap (λ o. o >>= λ x. values_onto [] (reply_row x).1 (values_words l vs ++ ws) >>= λ values. reply_of x values.0 >>= λ y. Some (y, values.1)) (reply_word_again w)
+    ∙ ap (λ ss. values_onto [] ss (values_words l vs ++ ws) >>= λ values. reply_of w values.0 >>= λ y. Some (y, values.1)) (reply_shapes r)
+    ∙ ap (λ o. o >>= λ values. reply_of w values.0 >>= λ y. Some (y, values.1)) (values_again l [] vs ws f)
+    ∙ ap (λ o. o >>= λ y. Some (y, ws)) (reply_again r)
 
 skipped_again : (n : ℕ) → n < 2 ^ 64 → skipped_from (skipped_texts n) ≡ Some n
 unfolding skipped_from
@@ -80,10 +80,10 @@ entry_from_again head e n g f =
     let l = head.layout in
     let ws = entry_texts l e n in
     let behind = codes "->" ∷ (reply_texts l e.reply ++ skipped_texts n) in
-    ap (λ r. r >>= λ who. op_from ws >>= λ o. reply_from (drop 1 o.1) >>= λ a. skipped_from a.1 >>= λ m. Some (record { who = who; op = o.0; reply = a.0 }, m)) (seat_again head e.who g f.seat)
-    ∙ ap (λ r. r >>= λ o. reply_from (drop 1 o.1) >>= λ a. skipped_from a.1 >>= λ m. Some (record { who = e.who; op = o.0; reply = a.0 }, m)) (op_from_again l e.op behind f.honest f.op)
-    ∙ ap (λ r. r >>= λ a. skipped_from a.1 >>= λ m. Some (record { who = e.who; op = e.op; reply = a.0 }, m)) (reply_from_again l e.reply (skipped_texts n) f.reply)
-    ∙ ap (λ r. r >>= λ m. Some (record { who = e.who; op = e.op; reply = e.reply }, m)) (skipped_again n f.number)
+    ap (λ r. r >>= λ who. op_from ws >>= λ o. reply_from (drop 1 o.1) >>= λ a. skipped_from a.1 >>= λ m. Some (record { who = who; op = o.0; reply = a.0 }, m)) (seat_again head e.who g f.place.seat)
+    ∙ ap (λ r. r >>= λ o. reply_from (drop 1 o.1) >>= λ a. skipped_from a.1 >>= λ m. Some (record { who = e.who; op = o.0; reply = a.0 }, m)) (op_from_again l e.op behind f.parts.honest f.parts.op)
+    ∙ ap (λ r. r >>= λ a. skipped_from a.1 >>= λ m. Some (record { who = e.who; op = e.op; reply = a.0 }, m)) (reply_from_again l e.reply (skipped_texts n) f.parts.reply)
+    ∙ ap (λ r. r >>= λ m. Some (record { who = e.who; op = e.op; reply = e.reply }, m)) (skipped_again n f.parts.number)
 
 seat_plain : (workers who : ℕ) → who < 2 ^ 64 → is_plain (seat_text workers who) ≡ true
 seat_plain workers who f =
@@ -103,9 +103,9 @@ entry_plain : (head : Head) (e : NodeEntry) (n : ℕ) → HeadFits head → Entr
 entry_plain head e n g f =
     let l = head.layout in
     let workers = g.settings.workers.1 in
-    let replies = all_append is_plain (reply_texts l e.reply) (skipped_texts n) (and_from _ _ (reply_plain (reply_spelled e.reply).0) (values_plain l (reply_spelled e.reply).1 f.reply)) (skipped_plain n f.number) in
-    let ops = and_from _ _ (op_plain (op_spelled e.op).0) (values_plain l (op_spelled e.op).1 f.op) in
-    and_from _ _ (seat_plain head.settings.workers e.who (omega (arith, f.seat, workers, g.few))) (all_append is_plain (op_texts l e.op) (codes "->" ∷ (reply_texts l e.reply ++ skipped_texts n)) ops replies)
+    let replies = all_append is_plain (reply_texts l e.reply) (skipped_texts n) (and_from _ _ (reply_plain (reply_spelled e.reply).0) (values_plain l (reply_spelled e.reply).1 f.parts.reply)) (skipped_plain n f.parts.number) in
+    let ops = and_from _ _ (op_plain (op_spelled e.op).0) (values_plain l (op_spelled e.op).1 f.parts.op) in
+    and_from _ _ (seat_plain head.settings.workers e.who (omega (arith, f.place.seat, workers, g.few))) (all_append is_plain (op_texts l e.op) (codes "->" ∷ (reply_texts l e.reply ++ skipped_texts n)) ops replies)
 
 if_spelled_again : (head : Head) (line : List ℕ) (e : NodeEntry) (n : ℕ) → has_words head.layout e ≡ true → is_seated head e ≡ true → entry_text head e n ≡ line → if_spelled head line (e, n) ≡ Some (e, n)
 if_spelled_again head line e n a b same = rw (a, b, same, bytes_same line) refl
@@ -118,7 +118,7 @@ entry_again head e n g f =
     let line = join_with_byte 32 (seat ∷ ws) in
     ap (λ t. entry_from head t >>= if_spelled head line) (between_words seat ws (entry_plain head e n g f))
     ∙ ap (λ r. r >>= if_spelled head line) (entry_from_again head e n g f)
-    ∙ if_spelled_again head line e n f.words (lt-ltb e.who _ f.seat) refl
+    ∙ if_spelled_again head line e n f.place.words (lt-ltb e.who _ f.place.seat) refl
 
 -- a line has no line feed
 pub entry_above : (head : Head) (e : NodeEntry) (n : ℕ) → HeadFits head → EntryFits head e n → is_above 10 (entry_text head e n) ≡ true

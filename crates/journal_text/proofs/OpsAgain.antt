@@ -11,7 +11,7 @@ use Rattle.journal_text.specs.declared.op_words.OpWord.{OpWord}
 use Rattle.journal_text.specs.declared.op_words.OpWord.TheVariants as word
 use Rattle.journal_text.specs.declared.reply_words.ReplyWord.{ReplyWord}
 use Rattle.journal_text.specs.declared.reply_words.ReplyWord.TheVariants as answer
-use Rattle.journal_text.specs.Ops.{op_row, op_word_of, op_spelled, op_of, finished_of}
+use Rattle.journal_text.specs.Ops.{op_row, op_word_of, op_spelled, node_op, task_op, queue_op, work_op, lock_op, segment_op, op_of, or_op, finished_of}
 use Rattle.journal_text.specs.Replies.{reply_row, reply_word_of, reply_spelled, reply_of}
 use Rattle.journal_text.proofs.ValuesAgain.{shape_of}
 
@@ -29,8 +29,8 @@ finished_again : (d : Answered) → IsAnswered d → finished_of d.kind d.args �
 finished_again d h = rw h.pure (ap (λ e. Some (record { kind = d.kind; args = d.args; end = e })) (sym h.answer))
 
 pub op_again : (o : Op) → IsHonest o → op_of (op_spelled o).0 (op_spelled o).1 ≡ Some o
-unfolding op_of op_spelled
-op_again (op.Finish task done) h = ap (option_map (op.Finish task)) (finished_again done h)
+unfolding op_of op_spelled node_op task_op queue_op work_op lock_op segment_op
+op_again (op.Finish task done) h = ap (λ d. or_op (option_map (op.Finish task) d) None) (finished_again done h)
 op_again (op.TaskStart job args priority cores detached None) h = refl
 op_again (op.TaskStart job args priority cores detached (Some g)) h = refl
 op_again (op.TaskEnqueue queue args cores detached None) h = refl
@@ -47,7 +47,7 @@ unfolding reply_row reply_spelled
 reply_shapes reply.Ok = refl
 reply_shapes _ = refl
 
-pub reply_again : (r : Reply) → reply_of (reply_spelled r).0 (reply_spelled r).1 ≡ r
+pub reply_again : (r : Reply) → reply_of (reply_spelled r).0 (reply_spelled r).1 ≡ Some r
 unfolding reply_of reply_spelled
 reply_again reply.Ok = refl
 reply_again _ = refl

@@ -30,14 +30,27 @@ ValueFits (given.Group (Some h)) = h < 2 ^ 64
 ValueFits (given.End (end.Completed zs)) = AreArgs zs
 ValueFits _ = Unit {0}
 
--- the entry is by a seat, each value is in its range, a finished task has its kind's answer, and the text has its words
-pub record EntryFits (head : Head) (e : NodeEntry) (n : ℕ) : Type 0 where
-  pub seat : e.who < head.settings.workers + head.callers
+-- what is written of an entry is in its range, and a finished task has its kind's answer
+pub record PartsFit (e : NodeEntry) (n : ℕ) : Type 0 where
   pub op : AllByRecursion ValueFits (op_spelled e.op).1
   pub reply : AllByRecursion ValueFits (reply_spelled e.reply).1
   pub honest : IsHonest e.op
-  pub words : has_words head.layout e ≡ true
   pub number : n < 2 ^ 64
+
+-- the same of each entry that has a number beside it
+abbrev pub AllPartsFit : List NodeEntry → List ℕ → Type 0
+AllPartsFit (e ∷ es) (n ∷ ns) = PartsFit e n × AllPartsFit es ns
+AllPartsFit _ _ = Unit {0}
+
+-- the entry is by a seat, and the text of the layout has its words
+pub record HasPlace (head : Head) (e : NodeEntry) : Type 0 where
+  pub seat : e.who < head.settings.workers + head.callers
+  pub words : has_words head.layout e ≡ true
+
+-- both
+pub record EntryFits (head : Head) (e : NodeEntry) (n : ℕ) : Type 0 where
+  pub place : HasPlace head e
+  pub parts : PartsFit e n
 
 -- the settings are in their ranges, and there are 1 to 9 callers
 pub record HeadFits (head : Head) : Type 0 where
@@ -51,7 +64,13 @@ EntriesFit head [] [] = Unit {0}
 EntriesFit head (e ∷ es) (n ∷ ns) = EntryFits head e n × EntriesFit head es ns
 EntriesFit head _ _ = ⊥
 
--- the journal can be written
+-- the journal can be written, and its values are in the ranges of their types
 pub record JournalFits (j : Journal) : Type 0 where
   pub head : HeadFits (head_for j)
   pub entries : EntriesFit (head_for j) j.entries.entries j.entries.skipped
+
+-- The journal can be written: there are 1 to 9 callers, each entry is by a seat, and where the layout is one no entry is of a tally.
+pub record IsWritable (j : Journal) : Type 0 where
+  pub some : 1 ≤ j.callers
+  pub few : j.callers ≤ 9
+  pub places : AllByRecursion (HasPlace (head_for j)) j.entries.entries

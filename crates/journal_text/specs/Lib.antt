@@ -1,7 +1,6 @@
 pub mod Found
 pub mod Handles
 pub mod Values
-pub mod Places
 pub mod Ops
 pub mod Replies
 pub mod Heads

@@ -68,7 +68,8 @@ reply_from [] = None
 reply_from (w ∷ ws) = do
   word ← reply_word_of w
   values ← values_onto [] (reply_row word).1 ws
-  Some (reply_of word values.0, values.1)
+  r ← reply_of word values.0
+  Some (r, values.1)
 
 -- the number behind a reply
 unfoldable pub skipped_from : List (List ℕ) → Option ℕ

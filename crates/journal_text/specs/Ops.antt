@@ -16,7 +16,7 @@ use Rattle.journal_text.specs.declared.values.Shape.{Shape}
 use Rattle.journal_text.specs.declared.values.Shape.TheVariants as shape
 use Rattle.journal_text.specs.declared.values.Value.{Value}
 use Rattle.journal_text.specs.declared.values.Value.TheVariants as given
-use Rattle.journal_text.specs.Places.{number_at, whole_at, flag_at, kind_at, cores_at, args_at, handle_at, group_at}
+use Rattle.journal_text.specs.declared.op_words.TheConstants.{OP_WORDS}
 
 -- the word of an op, and the shapes of its fields
 unfoldable pub op_row : OpWord → List ℕ × List Shape
@@ -74,13 +74,9 @@ op_row word.ShmemDetach = (codes "shmem_detach", shape.Handle ∷ [])
 op_row word.ShmemRead = (codes "shmem_read", shape.Handle ∷ shape.Number ∷ [])
 op_row word.ShmemWrite = (codes "shmem_write", shape.Handle ∷ shape.Number ∷ shape.Whole ∷ [])
 
--- every word once
-abbrev pub op_words : List OpWord
-op_words = word.Initialize ∷ word.Release ∷ word.Enter ∷ word.Close ∷ word.Final ∷ word.JobGet ∷ word.ActionCreate ∷ word.ActionDelete ∷ word.ActionDisable ∷ word.ActionEnable ∷ word.TaskStart ∷ word.TaskEnqueue ∷ word.TaskLook ∷ word.TaskCancel ∷ word.GroupCreate ∷ word.GroupDelete ∷ word.AllLook ∷ word.AnyLook ∷ word.QueueCreate ∷ word.QueueGet ∷ word.QueueEnable ∷ word.QueueDisable ∷ word.QueueDelete ∷ word.Pick ∷ word.Finish ∷ word.Asked ∷ word.WatchEnd ∷ word.TallyLock ∷ word.TallyRead ∷ word.TallyWrite ∷ word.TallyEnd ∷ word.MutexCreate ∷ word.MutexGet ∷ word.MutexDelete ∷ word.MutexLook ∷ word.MutexUnlock ∷ word.SemCreate ∷ word.SemGet ∷ word.SemDelete ∷ word.SemLook ∷ word.SemUnlock ∷ word.RwlCreate ∷ word.RwlGet ∷ word.RwlDelete ∷ word.RwlLook ∷ word.RwlUnlock ∷ word.ShmemCreate ∷ word.ShmemGet ∷ word.ShmemDelete ∷ word.ShmemAttach ∷ word.ShmemDetach ∷ word.ShmemRead ∷ word.ShmemWrite ∷ []
-
 -- the op that a text names
 unfoldable pub op_word_of : List ℕ → Option OpWord
-op_word_of text = find (λ w. bytes_eq (op_row w).0 text) op_words
+op_word_of text = find (λ w. bytes_eq (op_row w).0 text) OP_WORDS
 
 -- the end of a task by this answer
 abbrev pub end_of_answer : ActEnd → TaskEnd
@@ -147,58 +143,88 @@ op_spelled (op.ShmemWrite shmem cell value) = (word.ShmemWrite, given.Handle shm
 abbrev pub finished_of : Kind → List ℤ → Option Answered
 finished_of kind args = if is_pure kind then Some (record { kind = kind; args = args; end = answer_of kind args }) else None
 
+-- an op on the node, its jobs or its actions, by its word and its values
+unfoldable pub node_op : OpWord → List Value → Option Op
+node_op word.Initialize [] = Some op.Initialize
+node_op word.Release [] = Some op.Release
+node_op word.Enter [] = Some op.Enter
+node_op word.Close [] = Some op.Close
+node_op word.Final [] = Some op.Final
+node_op word.JobGet (given.Number job ∷ []) = Some (op.JobGet job)
+node_op word.ActionCreate (given.Number job ∷ given.Kind kind ∷ given.Cores cores ∷ []) = Some (op.ActionCreate job kind cores)
+node_op word.ActionDelete (given.Handle action ∷ []) = Some (op.ActionDelete (record { 0 = action }))
+node_op word.ActionDisable (given.Handle action ∷ []) = Some (op.ActionDisable (record { 0 = action }))
+node_op word.ActionEnable (given.Handle action ∷ []) = Some (op.ActionEnable (record { 0 = action }))
+node_op _ _ = None
+
+-- an op on tasks or groups, by its word and its values
+unfoldable pub task_op : OpWord → List Value → Option Op
+task_op word.TaskStart (given.Number job ∷ given.Args args ∷ given.Number priority ∷ given.Cores cores ∷ given.Flag detached ∷ given.Group group ∷ []) = Some (op.TaskStart job args priority cores detached (option_map (λ g. record { 0 = g }) group))
+task_op word.TaskEnqueue (given.Handle queue ∷ given.Args args ∷ given.Cores cores ∷ given.Flag detached ∷ given.Group group ∷ []) = Some (op.TaskEnqueue (record { 0 = queue }) args cores detached (option_map (λ g. record { 0 = g }) group))
+task_op word.TaskLook (given.Handle task ∷ given.Flag last ∷ []) = Some (op.TaskLook (record { 0 = task }) last)
+task_op word.TaskCancel (given.Handle task ∷ []) = Some (op.TaskCancel (record { 0 = task }))
+task_op word.GroupCreate [] = Some op.GroupCreate
+task_op word.GroupDelete (given.Handle group ∷ []) = Some (op.GroupDelete (record { 0 = group }))
+task_op word.AllLook (given.Handle group ∷ given.Flag last ∷ []) = Some (op.AllLook (record { 0 = group }) last)
+task_op word.AnyLook (given.Handle group ∷ given.Flag last ∷ []) = Some (op.AnyLook (record { 0 = group }) last)
+task_op _ _ = None
+
+-- an op on queues, by its word and its values
+unfoldable pub queue_op : OpWord → List Value → Option Op
+queue_op word.QueueCreate (given.Number id ∷ given.Number job ∷ given.Number priority ∷ given.Number limit ∷ given.Flag ordered ∷ given.Flag retain ∷ []) = Some (op.QueueCreate id job priority limit ordered retain)
+queue_op word.QueueGet (given.Number id ∷ []) = Some (op.QueueGet id)
+queue_op word.QueueEnable (given.Handle queue ∷ []) = Some (op.QueueEnable (record { 0 = queue }))
+queue_op word.QueueDisable (given.Handle queue ∷ []) = Some (op.QueueDisable (record { 0 = queue }))
+queue_op word.QueueDelete (given.Handle queue ∷ []) = Some (op.QueueDelete (record { 0 = queue }))
+queue_op _ _ = None
+
+-- an op of a worker, by its word and its values
+unfoldable pub work_op : OpWord → List Value → Option Op
+work_op word.Pick [] = Some op.Pick
+work_op word.Finish (given.Handle task ∷ given.Kind kind ∷ given.Args args ∷ end ∷ []) = option_map (op.Finish (record { 0 = task })) (finished_of kind args)
+work_op word.Asked (given.Handle task ∷ []) = Some (op.Asked (record { 0 = task }))
+work_op word.WatchEnd (given.Handle task ∷ []) = Some (op.WatchEnd (record { 0 = task }))
+work_op word.TallyLock (given.Handle task ∷ []) = Some (op.TallyLock (record { 0 = task }))
+work_op word.TallyRead (given.Handle task ∷ []) = Some (op.TallyRead (record { 0 = task }))
+work_op word.TallyWrite (given.Handle task ∷ given.Whole value ∷ []) = Some (op.TallyWrite (record { 0 = task }) value)
+work_op word.TallyEnd (given.Handle task ∷ []) = Some (op.TallyEnd (record { 0 = task }))
+work_op _ _ = None
+
+-- an op on a mutex, a semaphore or a reader-writer lock, by its word and its values
+unfoldable pub lock_op : OpWord → List Value → Option Op
+lock_op word.MutexCreate (given.Number id ∷ given.Flag recursive ∷ []) = Some (op.MutexCreate id recursive)
+lock_op word.MutexGet (given.Number id ∷ []) = Some (op.MutexGet id)
+lock_op word.MutexDelete (given.Handle mutex ∷ []) = Some (op.MutexDelete (record { 0 = mutex }))
+lock_op word.MutexLook (given.Handle mutex ∷ given.Flag last ∷ []) = Some (op.MutexLook (record { 0 = mutex }) last)
+lock_op word.MutexUnlock (given.Handle mutex ∷ given.Number key ∷ []) = Some (op.MutexUnlock (record { 0 = mutex }) key)
+lock_op word.SemCreate (given.Number id ∷ given.Number limit ∷ []) = Some (op.SemCreate id limit)
+lock_op word.SemGet (given.Number id ∷ []) = Some (op.SemGet id)
+lock_op word.SemDelete (given.Handle sem ∷ []) = Some (op.SemDelete (record { 0 = sem }))
+lock_op word.SemLook (given.Handle sem ∷ given.Flag last ∷ []) = Some (op.SemLook (record { 0 = sem }) last)
+lock_op word.SemUnlock (given.Handle sem ∷ []) = Some (op.SemUnlock (record { 0 = sem }))
+lock_op word.RwlCreate (given.Number id ∷ given.Number limit ∷ []) = Some (op.RwlCreate id limit)
+lock_op word.RwlGet (given.Number id ∷ []) = Some (op.RwlGet id)
+lock_op word.RwlDelete (given.Handle rwl ∷ []) = Some (op.RwlDelete (record { 0 = rwl }))
+lock_op word.RwlLook (given.Handle rwl ∷ given.Flag writer ∷ given.Flag last ∷ []) = Some (op.RwlLook (record { 0 = rwl }) writer last)
+lock_op word.RwlUnlock (given.Handle rwl ∷ given.Flag writer ∷ []) = Some (op.RwlUnlock (record { 0 = rwl }) writer)
+lock_op _ _ = None
+
+-- an op on a segment, by its word and its values
+unfoldable pub segment_op : OpWord → List Value → Option Op
+segment_op word.ShmemCreate (given.Number id ∷ given.Number cells ∷ []) = Some (op.ShmemCreate id cells)
+segment_op word.ShmemGet (given.Number id ∷ []) = Some (op.ShmemGet id)
+segment_op word.ShmemDelete (given.Handle shmem ∷ []) = Some (op.ShmemDelete (record { 0 = shmem }))
+segment_op word.ShmemAttach (given.Handle shmem ∷ []) = Some (op.ShmemAttach (record { 0 = shmem }))
+segment_op word.ShmemDetach (given.Handle shmem ∷ []) = Some (op.ShmemDetach (record { 0 = shmem }))
+segment_op word.ShmemRead (given.Handle shmem ∷ given.Number cell ∷ []) = Some (op.ShmemRead (record { 0 = shmem }) cell)
+segment_op word.ShmemWrite (given.Handle shmem ∷ given.Number cell ∷ given.Whole value ∷ []) = Some (op.ShmemWrite (record { 0 = shmem }) cell value)
+segment_op _ _ = None
+
+-- the first of two that is there
+abbrev pub or_op : Option Op → Option Op → Option Op
+or_op (Some o) other = Some o
+or_op None other = other
+
 -- the op of a word with these values
 unfoldable pub op_of : OpWord → List Value → Option Op
-op_of word.Initialize vs = Some op.Initialize
-op_of word.Release vs = Some op.Release
-op_of word.Enter vs = Some op.Enter
-op_of word.Close vs = Some op.Close
-op_of word.Final vs = Some op.Final
-op_of word.JobGet vs = Some (op.JobGet (number_at 0 vs))
-op_of word.ActionCreate vs = Some (op.ActionCreate (number_at 0 vs) (kind_at 1 vs) (cores_at 2 vs))
-op_of word.ActionDelete vs = Some (op.ActionDelete (record { 0 = handle_at 0 vs }))
-op_of word.ActionDisable vs = Some (op.ActionDisable (record { 0 = handle_at 0 vs }))
-op_of word.ActionEnable vs = Some (op.ActionEnable (record { 0 = handle_at 0 vs }))
-op_of word.TaskStart vs = Some (op.TaskStart (number_at 0 vs) (args_at 1 vs) (number_at 2 vs) (cores_at 3 vs) (flag_at 4 vs) (option_map (λ g. record { 0 = g }) (group_at 5 vs)))
-op_of word.TaskEnqueue vs = Some (op.TaskEnqueue (record { 0 = handle_at 0 vs }) (args_at 1 vs) (cores_at 2 vs) (flag_at 3 vs) (option_map (λ g. record { 0 = g }) (group_at 4 vs)))
-op_of word.TaskLook vs = Some (op.TaskLook (record { 0 = handle_at 0 vs }) (flag_at 1 vs))
-op_of word.TaskCancel vs = Some (op.TaskCancel (record { 0 = handle_at 0 vs }))
-op_of word.GroupCreate vs = Some op.GroupCreate
-op_of word.GroupDelete vs = Some (op.GroupDelete (record { 0 = handle_at 0 vs }))
-op_of word.AllLook vs = Some (op.AllLook (record { 0 = handle_at 0 vs }) (flag_at 1 vs))
-op_of word.AnyLook vs = Some (op.AnyLook (record { 0 = handle_at 0 vs }) (flag_at 1 vs))
-op_of word.QueueCreate vs = Some (op.QueueCreate (number_at 0 vs) (number_at 1 vs) (number_at 2 vs) (number_at 3 vs) (flag_at 4 vs) (flag_at 5 vs))
-op_of word.QueueGet vs = Some (op.QueueGet (number_at 0 vs))
-op_of word.QueueEnable vs = Some (op.QueueEnable (record { 0 = handle_at 0 vs }))
-op_of word.QueueDisable vs = Some (op.QueueDisable (record { 0 = handle_at 0 vs }))
-op_of word.QueueDelete vs = Some (op.QueueDelete (record { 0 = handle_at 0 vs }))
-op_of word.Pick vs = Some op.Pick
-op_of word.Finish vs = option_map (op.Finish (record { 0 = handle_at 0 vs })) (finished_of (kind_at 1 vs) (args_at 2 vs))
-op_of word.Asked vs = Some (op.Asked (record { 0 = handle_at 0 vs }))
-op_of word.WatchEnd vs = Some (op.WatchEnd (record { 0 = handle_at 0 vs }))
-op_of word.TallyLock vs = Some (op.TallyLock (record { 0 = handle_at 0 vs }))
-op_of word.TallyRead vs = Some (op.TallyRead (record { 0 = handle_at 0 vs }))
-op_of word.TallyWrite vs = Some (op.TallyWrite (record { 0 = handle_at 0 vs }) (whole_at 1 vs))
-op_of word.TallyEnd vs = Some (op.TallyEnd (record { 0 = handle_at 0 vs }))
-op_of word.MutexCreate vs = Some (op.MutexCreate (number_at 0 vs) (flag_at 1 vs))
-op_of word.MutexGet vs = Some (op.MutexGet (number_at 0 vs))
-op_of word.MutexDelete vs = Some (op.MutexDelete (record { 0 = handle_at 0 vs }))
-op_of word.MutexLook vs = Some (op.MutexLook (record { 0 = handle_at 0 vs }) (flag_at 1 vs))
-op_of word.MutexUnlock vs = Some (op.MutexUnlock (record { 0 = handle_at 0 vs }) (number_at 1 vs))
-op_of word.SemCreate vs = Some (op.SemCreate (number_at 0 vs) (number_at 1 vs))
-op_of word.SemGet vs = Some (op.SemGet (number_at 0 vs))
-op_of word.SemDelete vs = Some (op.SemDelete (record { 0 = handle_at 0 vs }))
-op_of word.SemLook vs = Some (op.SemLook (record { 0 = handle_at 0 vs }) (flag_at 1 vs))
-op_of word.SemUnlock vs = Some (op.SemUnlock (record { 0 = handle_at 0 vs }))
-op_of word.RwlCreate vs = Some (op.RwlCreate (number_at 0 vs) (number_at 1 vs))
-op_of word.RwlGet vs = Some (op.RwlGet (number_at 0 vs))
-op_of word.RwlDelete vs = Some (op.RwlDelete (record { 0 = handle_at 0 vs }))
-op_of word.RwlLook vs = Some (op.RwlLook (record { 0 = handle_at 0 vs }) (flag_at 1 vs) (flag_at 2 vs))
-op_of word.RwlUnlock vs = Some (op.RwlUnlock (record { 0 = handle_at 0 vs }) (flag_at 1 vs))
-op_of word.ShmemCreate vs = Some (op.ShmemCreate (number_at 0 vs) (number_at 1 vs))
-op_of word.ShmemGet vs = Some (op.ShmemGet (number_at 0 vs))
-op_of word.ShmemDelete vs = Some (op.ShmemDelete (record { 0 = handle_at 0 vs }))
-op_of word.ShmemAttach vs = Some (op.ShmemAttach (record { 0 = handle_at 0 vs }))
-op_of word.ShmemDetach vs = Some (op.ShmemDetach (record { 0 = handle_at 0 vs }))
-op_of word.ShmemRead vs = Some (op.ShmemRead (record { 0 = handle_at 0 vs }) (number_at 1 vs))
-op_of word.ShmemWrite vs = Some (op.ShmemWrite (record { 0 = handle_at 0 vs }) (number_at 1 vs) (whole_at 2 vs))
+op_of w vs = or_op (node_op w vs) (or_op (task_op w vs) (or_op (queue_op w vs) (or_op (work_op w vs) (or_op (lock_op w vs) (segment_op w vs)))))

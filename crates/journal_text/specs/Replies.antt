@@ -1,7 +1,7 @@
 -- The replies as words: the word of each reply, the shapes of its fields in order, and their values.
 use Rattle.std.specs.Prelude.{ℕ, List, [], ◌∷◌, codes}
 use Rattle.std.specs.List.{find}
-use Rattle.std.specs.Prelude.{Option}
+use Rattle.std.specs.Prelude.{Option, Some, None}
 use Rattle.std.specs.Str.{bytes_eq}
 use Rattle.mtapi_machine.specs.declared.replies.Reply.{Reply}
 use Rattle.mtapi_machine.specs.declared.replies.Reply.TheVariants as reply
@@ -13,7 +13,7 @@ use Rattle.journal_text.specs.declared.values.Shape.{Shape}
 use Rattle.journal_text.specs.declared.values.Shape.TheVariants as shape
 use Rattle.journal_text.specs.declared.values.Value.{Value}
 use Rattle.journal_text.specs.declared.values.Value.TheVariants as value
-use Rattle.journal_text.specs.Places.{whole_at, flag_at, kind_at, args_at, handle_at, end_at, status_at}
+use Rattle.journal_text.specs.declared.reply_words.TheConstants.{REPLY_WORDS}
 
 -- the word of a reply, and the shapes of its fields
 unfoldable pub reply_row : ReplyWord → List ℕ × List Shape
@@ -29,13 +29,9 @@ reply_row word.Stop = (codes "stop", [])
 reply_row word.Asked = (codes "asked", shape.Flag ∷ [])
 reply_row word.Status = (codes "status", shape.Status ∷ [])
 
--- every word once
-abbrev pub reply_words : List ReplyWord
-reply_words = word.Ok ∷ word.Handle ∷ word.Number ∷ word.Ended ∷ word.Given ∷ word.Pending ∷ word.Picked ∷ word.Idle ∷ word.Stop ∷ word.Asked ∷ word.Status ∷ []
-
 -- the reply that a text names
 unfoldable pub reply_word_of : List ℕ → Option ReplyWord
-reply_word_of text = find (λ w. bytes_eq (reply_row w).0 text) reply_words
+reply_word_of text = find (λ w. bytes_eq (reply_row w).0 text) REPLY_WORDS
 
 -- a reply's word, and the values of its fields
 unfoldable pub reply_spelled : Reply → ReplyWord × List Value
@@ -58,15 +54,16 @@ status_reply (status.Mtapi s) = reply.Mtapi s
 status_reply (status.Mrapi s) = reply.Mrapi s
 
 -- the reply of a word with these values
-unfoldable pub reply_of : ReplyWord → List Value → Reply
-reply_of word.Ok vs = reply.Ok
-reply_of word.Handle vs = reply.Handle (handle_at 0 vs)
-reply_of word.Number vs = reply.Number (whole_at 0 vs)
-reply_of word.Ended vs = reply.Ended (end_at 0 vs)
-reply_of word.Given vs = reply.Given (record { 0 = handle_at 0 vs }) (end_at 1 vs)
-reply_of word.Pending vs = reply.Pending
-reply_of word.Picked vs = reply.Picked (record { 0 = handle_at 0 vs }) (record { 0 = handle_at 1 vs }) (kind_at 2 vs) (args_at 3 vs)
-reply_of word.Idle vs = reply.Idle
-reply_of word.Stop vs = reply.Stop
-reply_of word.Asked vs = reply.Asked (flag_at 0 vs)
-reply_of word.Status vs = status_reply (status_at 0 vs)
+unfoldable pub reply_of : ReplyWord → List Value → Option Reply
+reply_of word.Ok [] = Some reply.Ok
+reply_of word.Handle (value.Handle h ∷ []) = Some (reply.Handle h)
+reply_of word.Number (value.Whole z ∷ []) = Some (reply.Number z)
+reply_of word.Ended (value.End e ∷ []) = Some (reply.Ended e)
+reply_of word.Given (value.Handle task ∷ value.End e ∷ []) = Some (reply.Given (record { 0 = task }) e)
+reply_of word.Pending [] = Some reply.Pending
+reply_of word.Picked (value.Handle task ∷ value.Handle action ∷ value.Kind kind ∷ value.Args args ∷ []) = Some (reply.Picked (record { 0 = task }) (record { 0 = action }) kind args)
+reply_of word.Idle [] = Some reply.Idle
+reply_of word.Stop [] = Some reply.Stop
+reply_of word.Asked (value.Flag b ∷ []) = Some (reply.Asked b)
+reply_of word.Status (value.Status s ∷ []) = Some (status_reply s)
+reply_of _ _ = None

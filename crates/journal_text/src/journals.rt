@@ -3,11 +3,13 @@ ghost use Rattle.std.specs.Prelude.{◌≡◌, ◌<◌, ◌≤◌, ◌^◌, ◌+
 ghost use Rattle.number_text.specs.Lists.{between};
 ghost use Rattle.byte_io.specs.Causes.{Rose};
 ghost use Rattle.journal_text.specs.Heads.{head_of};
-ghost use Rattle.journal_text.specs.Fits.{JournalFits};
+ghost use Rattle.mtapi_values.specs.Attributes.{AreNodeSettings};
+ghost use Rattle.journal_text.specs.Fits.{PartsFit, AllPartsFit, IsWritable};
 ghost use Rattle.journal_text.specs.Lines.{entry_text};
 ghost use Rattle.journal_text.specs.Journals.{head_for, entry_lines, lines_text, journal_text, in_line, line_adds, at_end, entries_from, no_entries, no_line, journal_of, ReadsAs, Loads, ReadsClean, HoldsBut};
 
 use crate::faults::{JournalError, LineError, TextError};
+use crate::fits::settings_fit;
 use crate::heads::{Head, head_of, push_head};
 use crate::lines::{entry_of, push_entry};
 use byte_io::{ReadAllError, Source, read_all};
@@ -25,7 +27,8 @@ fn push_line(
     entry: &Entry,
     skipped: u64,
 ) -> Result<(), AllocError>
-    ensures { OnOk result (out.new.items ≡ out.old.items ++ lines_text (entry_text head.now entry.now skipped ∷ [])) }
+    ensures text { OnOk result (out.new.items ≡ out.old.items ++ lines_text (entry_text head.now entry.now skipped ∷ [])) }
+    ensures parts { OnOk result (PartsFit entry.now skipped) }
 {
     push_entry(alloc, out, head, entry, skipped)?;
     Ok(out.push(b'\n')?)
@@ -38,7 +41,8 @@ fn push_entries(
     entries: &[Entry],
     skipped: &[u64],
 ) -> Result<(), AllocError>
-    ensures { OnOk result (out.new.items ≡ out.old.items ++ lines_text (entry_lines head.now entries.now skipped.now)) }
+    ensures text { OnOk result (out.new.items ≡ out.old.items ++ lines_text (entry_lines head.now entries.now skipped.now)) }
+    ensures parts { OnOk result (AllPartsFit entries.now skipped.now) }
 {
     let mut entries = entries;
     let mut skipped = skipped;
@@ -55,8 +59,13 @@ fn push_entries(
 
 #[tactic(auto, unfolding(crate::specs::Journals::journal_text))]
 fn text_of(alloc: Global, journal: &Journal) -> Result<Vec<u8>, AllocError>
-    ensures { IfOk result (λ text. text.items ≡ journal_text journal.now) }
+    ensures text { IfOk result (λ text. text.items ≡ journal_text journal.now) }
+    ensures settings { AreNodeSettings journal.now.settings }
+    ensures beside { length journal.now.entries.skipped ≡ length journal.now.entries.entries }
+    ensures parts { IfOk result (λ text. AllPartsFit journal.now.entries.entries journal.now.entries.skipped) }
 {
+    settings_fit(journal.settings);
+    let skipped = journal.entries.skipped();
     let head = Head {
         layout: journal.layout,
         settings: journal.settings,
@@ -65,23 +74,22 @@ fn text_of(alloc: Global, journal: &Journal) -> Result<Vec<u8>, AllocError>
     let mut out = Vec::new(alloc);
     push_head(alloc, &mut out, &head)?;
     out.push(b'\n')?;
-    let entries = journal.entries.as_slice();
-    push_entries(alloc, &mut out, &head, entries, journal.entries.skipped())?;
+    push_entries(alloc, &mut out, &head, journal.entries.as_slice(), skipped)?;
     Ok(out)
 }
 
 /// The text of a journal: text 1 for layout one, and text 2 for layout two. Its length is in proportion to the entries: a line
 /// for each, behind the head line.
 ///
-/// The text is read again as the same journal where the journal fits: its settings are in their ranges, its callers are 1 to 9,
-/// each entry is by one of its seats, and a journal of layout one has no tally.
+/// The text is read again as the same journal where the journal can be written: its callers are 1 to 9, each entry is by one of
+/// its seats, and a journal of layout one has no tally.
 ///
 /// # Errors
 /// `AllocError` where memory runs out.
 pub fn write_journal(alloc: Global, journal: &Journal) -> Result<Vec<u8>, AllocError>
     ensures text { IfOk result (λ text. text.items ≡ journal_text journal.now) }
     // Reading this text gives the same journal.
-    ensures again { JournalFits journal.now → IfOk result (λ text. journal_of text.items ≡ Ok journal.now) }
+    ensures again { IsWritable journal.now → IfOk result (λ text. journal_of text.items ≡ Ok journal.now) }
 {
     text_of(alloc, journal)
 }
@@ -165,11 +173,10 @@ fn head_line(alloc: Global, text: &[u8]) -> Result<Head, TextError>
     }
 }
 
-/// The journal that a text is. It can be written.
+/// The journal that a text is.
 fn journal_of(alloc: Global, bytes: &[u8]) -> Result<Journal, TextError>
     requires { length bytes.now < 2 ^ 62 }
     ensures value { ReadsAs result (journal_of bytes.now) }
-    ensures fits { IfOk result JournalFits }
     ensures same { IfOk result (λ j. journal_text j ≡ bytes.now) }
 {
     let (first, after) = cut_at(bytes, b'\n');
@@ -192,8 +199,7 @@ fn journal_of(alloc: Global, bytes: &[u8]) -> Result<Journal, TextError>
 }
 
 /// Reads a journal from a source, to its end or to one byte past 67,108,864 bytes. Ok exactly where the bytes are the text of a
-/// journal and memory suffices; then the journal can be written, and gives the bytes that were read. Whether the history is
-/// legal isn't asked.
+/// journal and memory suffices; then the journal's text is the bytes that were read. Whether the history is legal isn't asked.
 ///
 /// # Errors
 /// In this order:
@@ -206,7 +212,6 @@ fn journal_of(alloc: Global, bytes: &[u8]) -> Result<Journal, TextError>
 #[tactic(auto, using(crate::proofs::Taken::long_clean, crate::proofs::Taken::text_same))]
 pub fn read_journal<S: Source>(alloc: Global, src: &mut S) -> Result<Journal, JournalError>
     ensures exact { IfSome (S.left src.old) (λ bytes. Loads bytes (S.left src.new) result) }
-    ensures fits { IfOk result JournalFits }
     ensures same { IfSome (S.left src.old) (λ bytes. IfOk result (λ j. journal_text j ≡ bytes)) }
     // An answer other than Read and Memory comes without a fault.
     ensures clean { HoldsBut (ReadsClean (S.faults src.old) (S.faults src.new) (S.left src.old) (S.left src.new)) result }

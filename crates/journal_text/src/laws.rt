@@ -11,11 +11,9 @@ ghost use Rattle.journal_text.specs.Fits.{HeadFits, EntryFits, JournalFits};
 ghost use Rattle.journal_text.specs.Lines.{entry_text, entry_of};
 ghost use Rattle.journal_text.specs.Journals.{journal_text, journal_of};
 
-/// What is read is written as it was read: each journal has one text, and no other bytes are read as it. And what is read can be
-/// written.
+/// What is read is written as it was read: each journal has one text, and no other bytes are read as it.
 pub fn law_read()
-    ensures same { (bytes : List ℕ) (j : Journal) → journal_of bytes ≡ Ok j → journal_text j ≡ bytes }
-    ensures fits { (bytes : List ℕ) (j : Journal) → journal_of bytes ≡ Ok j → JournalFits j }
+    ensures { (bytes : List ℕ) (j : Journal) → journal_of bytes ≡ Ok j → journal_text j ≡ bytes }
 {}
 
 /// What can be written is read as the same, and each journal that fits its types can be written.
@@ -31,5 +29,5 @@ pub fn law_lines()
 /// The word and the values by which an op or a reply is written give the same one back.
 pub fn law_spelled()
     ensures op { (o : Op) → IsHonest o → op_of (op_spelled o).0 (op_spelled o).1 ≡ Some o }
-    ensures reply { (r : Reply) → reply_of (reply_spelled r).0 (reply_spelled r).1 ≡ r }
+    ensures reply { (r : Reply) → reply_of (reply_spelled r).0 (reply_spelled r).1 ≡ Some r }
 {}

@@ -2,13 +2,13 @@
 #![tactic(auto)]
 
 mod faults;
+mod fits;
 mod handles;
 mod heads;
 mod journals;
 mod laws;
 mod lines;
 mod op_words;
-mod places;
 mod reply_words;
 mod texts;
 mod values;

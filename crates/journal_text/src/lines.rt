@@ -1,10 +1,16 @@
 //! The lines of entries.
 ghost use Rattle.std.specs.Prelude.{◌≡◌, ◌≤◌, ◌+◌, ◌++◌, ◌∷◌, [], drop, codes, Some, OnOk, IfOk};
 ghost use Rattle.number_text.specs.Lists.{led, pieces_of, between};
+ghost use Rattle.std.specs.List.{AllByRecursion};
+ghost use Rattle.mtapi_machine.specs.Legal.{IsHonest};
+ghost use Rattle.journal_text.specs.Ops.{op_spelled};
+ghost use Rattle.journal_text.specs.Replies.{reply_spelled};
+ghost use Rattle.journal_text.specs.Fits.{ValueFits, PartsFit};
 ghost use Rattle.journal_text.specs.Found.{Gives, left_texts};
 ghost use Rattle.journal_text.specs.Lines.{seat_text, op_texts, reply_texts, skipped_texts, entry_texts, entry_text, seat_of, op_from, reply_from, skipped_from, entry_by, entry_from, is_tally_op, is_tally_reply, has_words, is_seated, if_spelled, entry_of};
 
 use crate::faults::LineError;
+use crate::fits::{is_honest, values_fit};
 use crate::heads::Head;
 use crate::op_words::{OpWord, op_of, op_spelled};
 use crate::reply_words::{ReplyWord, reply_of, reply_spelled};
@@ -30,9 +36,13 @@ fn push_seat(alloc: Global, out: &mut Vec<u8>, workers: u32, who: u32) -> Result
 }
 
 fn push_op(alloc: Global, out: &mut Vec<u8>, layout: Layout, op: &Op) -> Result<(), AllocError>
-    ensures { OnOk result (out.new.items ≡ out.old.items ++ led 32 (op_texts layout op.now)) }
+    ensures text { OnOk result (out.new.items ≡ out.old.items ++ led 32 (op_texts layout op.now)) }
+    ensures fits { OnOk result (AllByRecursion ValueFits (op_spelled op.now).1) }
+    ensures honest { IsHonest op.now }
 {
+    is_honest(op);
     let (word, values) = op_spelled(alloc, op)?;
+    values_fit(&values);
     push_word(out, word.row().0)?;
     push_values(alloc, out, layout, &values)
 }
@@ -43,9 +53,11 @@ fn push_reply(
     layout: Layout,
     reply: &Reply,
 ) -> Result<(), AllocError>
-    ensures { OnOk result (out.new.items ≡ out.old.items ++ led 32 (reply_texts layout reply.now)) }
+    ensures text { OnOk result (out.new.items ≡ out.old.items ++ led 32 (reply_texts layout reply.now)) }
+    ensures fits { OnOk result (AllByRecursion ValueFits (reply_spelled reply.now).1) }
 {
     let (word, values) = reply_spelled(alloc, reply)?;
+    values_fit(&values);
     push_word(out, word.row().0)?;
     push_values(alloc, out, layout, &values)
 }
@@ -70,7 +82,8 @@ fn push_words(
     entry: &Entry,
     skipped: u64,
 ) -> Result<(), AllocError>
-    ensures { OnOk result (out.new.items ≡ out.old.items ++ led 32 (entry_texts layout entry.now skipped)) }
+    ensures text { OnOk result (out.new.items ≡ out.old.items ++ led 32 (entry_texts layout entry.now skipped)) }
+    ensures parts { OnOk result (PartsFit entry.now skipped) }
 {
     push_op(alloc, out, layout, &entry.op)?;
     push_word(out, b"->")?;
@@ -87,7 +100,8 @@ pub fn push_entry(
     entry: &Entry,
     skipped: u64,
 ) -> Result<(), AllocError>
-    ensures { OnOk result (out.new.items ≡ out.old.items ++ entry_text head.now entry.now skipped) }
+    ensures text { OnOk result (out.new.items ≡ out.old.items ++ entry_text head.now entry.now skipped) }
+    ensures parts { OnOk result (PartsFit entry.now skipped) }
 {
     push_seat(alloc, out, head.settings.workers(), entry.who)?;
     push_words(alloc, out, head.layout, entry, skipped)
@@ -140,7 +154,10 @@ fn reply_from(alloc: Global, left: Option<&[u8]>) -> Result<(Reply, Option<&[u8]
         return Err(LineError::Outside);
     };
     let (values, left) = values_onto(Vec::new(alloc), word.row().1, left)?;
-    Ok((reply_of(word, &values), left))
+    match reply_of(word, &values) {
+        Some(reply) => Ok((reply, left)),
+        None => Err(LineError::Outside),
+    }
 }
 
 #[tactic(auto, unfolding(crate::specs::Lines::skipped_from))]

@@ -1,42 +1,24 @@
 //! The replies as words: the word of each reply, the shapes of its fields in order, and their values.
 ghost use Rattle.std.specs.Prelude.{◌≡◌, IfOk};
-ghost use Rattle.journal_text.specs.Replies.{reply_row, reply_words, reply_word_of, reply_spelled, status_reply, reply_of};
+ghost use Rattle.journal_text.specs.Replies.{reply_row, reply_word_of, reply_spelled, status_reply, reply_of};
 
-use crate::places::{args_at, end_at, flag_at, handle_at, kind_at, status_at, whole_at};
-use crate::values::{Shape, Status, Value};
+use crate::values::{Shape, Status, Value, spelled};
 use mtapi_machine::Reply;
 use mtapi_values::{ActionHandle, TaskHandle};
 use std::alloc::{AllocError, Global};
 
 /// The word of a reply.
+#[rattlefmt::skip]
 #[derive(Clone, Copy, PartialEq, Eq, Debug)]
 pub enum ReplyWord {
-    Ok,
-    Handle,
-    Number,
-    Ended,
-    Given,
-    Pending,
-    Picked,
-    Idle,
-    Stop,
-    Asked,
-    Status,
+    Ok, Handle, Number, Ended, Given, Pending, Picked, Idle, Stop, Asked, Status,
 }
 
 /// Each word once.
-const REPLY_WORDS: [ReplyWord; 11] = [
-    ReplyWord::Ok,
-    ReplyWord::Handle,
-    ReplyWord::Number,
-    ReplyWord::Ended,
-    ReplyWord::Given,
-    ReplyWord::Pending,
-    ReplyWord::Picked,
-    ReplyWord::Idle,
-    ReplyWord::Stop,
-    ReplyWord::Asked,
-    ReplyWord::Status,
+#[rattlefmt::skip]
+pub const REPLY_WORDS: [ReplyWord; 11] = [
+    ReplyWord::Ok, ReplyWord::Handle, ReplyWord::Number, ReplyWord::Ended, ReplyWord::Given, ReplyWord::Pending, ReplyWord::Picked,
+    ReplyWord::Idle, ReplyWord::Stop, ReplyWord::Asked, ReplyWord::Status,
 ];
 
 impl ReplyWord {
@@ -77,46 +59,25 @@ impl ReplyWord {
 }
 
 /// A reply's word, and the values of its fields.
+#[rattlefmt::skip]
 #[tactic(auto, unfolding(crate::specs::Replies::reply_spelled))]
 pub fn reply_spelled(alloc: Global, reply: &Reply) -> Result<(ReplyWord, Vec<Value>), AllocError>
     ensures word { IfOk result (λ x. x.0 ≡ (reply_spelled reply.now).0) }
     ensures values { IfOk result (λ x. x.1.items ≡ (reply_spelled reply.now).1) }
 {
     match reply {
-        Reply::Ok => Ok((ReplyWord::Ok, Vec::new(alloc))),
-        Reply::Handle(handle) => Ok((ReplyWord::Handle, vec![in alloc; Value::Handle(*handle)]?)),
-        Reply::Number(number) => Ok((ReplyWord::Number, vec![in alloc; Value::Whole(*number)]?)),
-        Reply::Ended(end) => Ok((ReplyWord::Ended, vec![in alloc; Value::End(end.again())]?)),
-        Reply::Given(task, end) => Ok((
-            ReplyWord::Given,
-            vec![in alloc; Value::Handle(task.0), Value::End(end.again())]?,
-        )),
-        Reply::Pending => Ok((ReplyWord::Pending, Vec::new(alloc))),
-        Reply::Picked {
-            task,
-            action,
-            kind,
-            args,
-        } => Ok((
-            ReplyWord::Picked,
-            vec![in alloc;
-                Value::Handle(task.0),
-                Value::Handle(action.0),
-                Value::Kind(*kind),
-                Value::Args(args.again()),
-            ]?,
-        )),
-        Reply::Idle => Ok((ReplyWord::Idle, Vec::new(alloc))),
-        Reply::Stop => Ok((ReplyWord::Stop, Vec::new(alloc))),
-        Reply::Asked(requested) => Ok((ReplyWord::Asked, vec![in alloc; Value::Flag(*requested)]?)),
-        Reply::Mtapi(status) => Ok((
-            ReplyWord::Status,
-            vec![in alloc; Value::Status(Status::Mtapi(*status))]?,
-        )),
-        Reply::Mrapi(status) => Ok((
-            ReplyWord::Status,
-            vec![in alloc; Value::Status(Status::Mrapi(*status))]?,
-        )),
+        Reply::Ok => spelled(alloc, ReplyWord::Ok, []),
+        Reply::Handle(handle) => spelled(alloc, ReplyWord::Handle, [Value::Handle(*handle)]),
+        Reply::Number(number) => spelled(alloc, ReplyWord::Number, [Value::Whole(*number)]),
+        Reply::Ended(end) => spelled(alloc, ReplyWord::Ended, [Value::End(end.again())]),
+        Reply::Given(task, end) => spelled(alloc, ReplyWord::Given, [Value::Handle(task.0), Value::End(end.again())]),
+        Reply::Pending => spelled(alloc, ReplyWord::Pending, []),
+        Reply::Picked { task, action, kind, args } => spelled(alloc, ReplyWord::Picked, [Value::Handle(task.0), Value::Handle(action.0), Value::Kind(*kind), Value::Args(args.again())]),
+        Reply::Idle => spelled(alloc, ReplyWord::Idle, []),
+        Reply::Stop => spelled(alloc, ReplyWord::Stop, []),
+        Reply::Asked(requested) => spelled(alloc, ReplyWord::Asked, [Value::Flag(*requested)]),
+        Reply::Mtapi(status) => spelled(alloc, ReplyWord::Status, [Value::Status(Status::Mtapi(*status))]),
+        Reply::Mrapi(status) => spelled(alloc, ReplyWord::Status, [Value::Status(Status::Mrapi(*status))]),
     }
 }
 
@@ -130,26 +91,25 @@ fn status_reply(status: Status) -> Reply
 }
 
 /// The reply of a word with these values.
+#[rattlefmt::skip]
 #[tactic(auto, unfolding(crate::specs::Replies::reply_of))]
-pub fn reply_of(word: ReplyWord, values: &[Value]) -> Reply
+pub fn reply_of(word: ReplyWord, values: &[Value]) -> Option<Reply>
     ensures { result ≡ reply_of word values.now }
 {
     match word {
-        ReplyWord::Ok => Reply::Ok,
-        ReplyWord::Handle => Reply::Handle(handle_at(values, 0)),
-        ReplyWord::Number => Reply::Number(whole_at(values, 0)),
-        ReplyWord::Ended => Reply::Ended(end_at(values, 0)),
-        ReplyWord::Given => Reply::Given(TaskHandle(handle_at(values, 0)), end_at(values, 1)),
-        ReplyWord::Pending => Reply::Pending,
-        ReplyWord::Picked => Reply::Picked {
-            task: TaskHandle(handle_at(values, 0)),
-            action: ActionHandle(handle_at(values, 1)),
-            kind: kind_at(values, 2),
-            args: args_at(values, 3),
+        ReplyWord::Ok => match values { [] => Some(Reply::Ok), _ => None },
+        ReplyWord::Handle => match values { [Value::Handle(handle)] => Some(Reply::Handle(*handle)), _ => None },
+        ReplyWord::Number => match values { [Value::Whole(number)] => Some(Reply::Number(*number)), _ => None },
+        ReplyWord::Ended => match values { [Value::End(end)] => Some(Reply::Ended(end.again())), _ => None },
+        ReplyWord::Given => match values { [Value::Handle(task), Value::End(end)] => Some(Reply::Given(TaskHandle(*task), end.again())), _ => None },
+        ReplyWord::Pending => match values { [] => Some(Reply::Pending), _ => None },
+        ReplyWord::Picked => match values {
+            [Value::Handle(task), Value::Handle(action), Value::Kind(kind), Value::Args(args)] => Some(Reply::Picked { task: TaskHandle(*task), action: ActionHandle(*action), kind: *kind, args: args.again() }),
+            _ => None,
         },
-        ReplyWord::Idle => Reply::Idle,
-        ReplyWord::Stop => Reply::Stop,
-        ReplyWord::Asked => Reply::Asked(flag_at(values, 0)),
-        ReplyWord::Status => status_reply(status_at(values, 0)),
+        ReplyWord::Idle => match values { [] => Some(Reply::Idle), _ => None },
+        ReplyWord::Stop => match values { [] => Some(Reply::Stop), _ => None },
+        ReplyWord::Asked => match values { [Value::Flag(requested)] => Some(Reply::Asked(*requested)), _ => None },
+        ReplyWord::Status => match values { [Value::Status(status)] => Some(status_reply(*status)), _ => None },
     }
 }

@@ -64,6 +64,21 @@ pub enum Value {
 
 // ---- written
 
+/// A word, and the values of its fields.
+pub fn spelled<W: Copy, const N: usize>(
+    alloc: Global,
+    word: W,
+    values: [Value; N],
+) -> Result<(W, Vec<Value>), AllocError>
+    ensures word { IfOk result (λ x. x.0 ≡ word) }
+    ensures values { IfOk result (λ x. x.1.items ≡ values.entry) }
+{
+    match Vec::from_array(alloc, values) {
+        Ok(list) => Ok((word, list)),
+        Err(_) => Err(AllocError),
+    }
+}
+
 fn push_args(alloc: Global, out: &mut Vec<u8>, args: &[i64]) -> Result<(), AllocError>
     ensures { OnOk result (out.new.items ≡ out.old.items ++ args_text args.now) }
 {

@@ -1,5 +1,4 @@
 use Rattle.std.proofs.Common.{◌∙◌}
-use Rattle.journal_text.proofs.JournalsFit.{text_fits}
 use Rattle.journal_text.proofs.Reading.{text_spelled}
 use Rattle.journal_text.proofs.Steps.{journal_none, journal_headless, journal_fails, journal_read, fails_from}
 use Rattle.journal_text.proofs.journals.journal_of.Goals as goal
@@ -18,7 +17,7 @@ pub returns-in-Ok-entries_from : goal.returns-in-Ok-entries_from
 returns-in-Ok-entries_from c =
     let first = rw c.in-Some.is at c.cut_at.ensures.parts in
     let read = journal_read c.args.bytes.now c.cut_at.result.0.now c.in-Some.rest.now c.in-Ok.head c.in-Ok-entries_from.entries first c.in-Ok.ensures.value c.in-Ok-entries_from.ensures in
-    record { value = read; fits = text_fits c.args.bytes.now _ read; same = text_spelled c.args.bytes.now _ read }
+    record { value = read; same = text_spelled c.args.bytes.now _ read }
 
 pub returns-in-Err-entries_from-clause-value : goal.returns-in-Err-entries_from-clause-value
 returns-in-Err-entries_from-clause-value c =
