@@ -3,7 +3,7 @@
 
 The journals are those of runs of the examples, of some short workloads and of twenty generated ones, in both texts,
 each with one thing changed; histories that the reference machine walks by itself, through all ops and most refusals,
-with one reply changed; and the table of changed journals that stands among the tests. Prints a line for each kind of
+with one reply changed; and the table of changed journals of `crates/mtapi_cases`. Prints a line for each kind of
 change, with how many journals were judged in which way, and each difference in full, and ends with 1 where there is
 one. The command has to be built: run `./mtapi prove` before.
 """
@@ -23,7 +23,7 @@ from reference_text import MRAPI, MTAPI, OPS, read_journal
 
 HANG = 60.0  # seconds after which a run or a check is stopped
 TRIES = 12  # changes of each kind for each journal
-TABLE = os.path.join(TOP, "crates", "mtapi_top", "src", "tests", "changed_journals.rt")
+TABLE = os.path.join(TOP, "crates", "mtapi_cases", "data")
 
 
 def answers(words, inputs):
@@ -254,24 +254,22 @@ def changed(rng, workload, text):
 # --- Both judges -----------------------------------------------------------------------------------------------------
 
 
-def text_of(literal):
-    """The text of a literal of a test."""
-    return re.sub(r"\\\n\s*", "", literal).replace("\\n", "\n")
+def stored(name):
+    """The text of a file of the table."""
+    with open(os.path.join(TABLE, name)) as file:
+        return file.read()
 
 
 def table():
-    """The rows of the table of the tests: the kind of change, the workload, the text, and what the test wants."""
-    literal = r'"((?:[^"\\]|\\n|\\\n)*)"'
-    with open(TABLE) as file:
-        pieces = re.split(r"\nconst \w+_LOAD: &str = ", file.read())
-    for piece in pieces[1:]:
-        front, _, rows = piece.partition("#[test]")
-        workload, *lines = [text_of(one) for one in re.findall(literal, front)]
-        for change, line, texts in re.findall(r'(\w+)\(\s*(\d+),\s*((?:"[^"]*",?\s*)+)\)', rows):
-            place, texts = int(line), [text_of(one) for one in re.findall(literal, texts)]
-            ways = {"left_out": left_out, "doubled": doubled, "exchanged": exchanged}
-            made = replaced(lines, place, texts[0]) if change == "replaced" else ways[change](None, lines, place)
-            yield "a row of the table", workload, "".join(made), texts[-1]
+    """The rows of the stored table: the kind of change, the workload, the text, and what the row wants."""
+    ways = {"left out": left_out, "doubled": doubled, "exchanged": exchanged}
+    for name in ("locks", "queue", "tally"):
+        workload, lines = stored(f"{name}.workload"), stored(f"{name}.journal").splitlines(keepends=True)
+        for row in stored(f"{name}.changes").splitlines():
+            line, change, wanted = row.split(" | ")
+            place = int(line)
+            made = ways[change](None, lines, place) if change in ways else replaced(lines, place, change + "\n")
+            yield "a row of the table", workload, "".join(made), wanted + "\n"
 
 
 def family(line):
@@ -301,7 +299,7 @@ def main():
     need_command()
     rows = list(table())
     others = [row for row in rows if verdict(row[1], row[2]) + "\n" != row[3]]
-    print(f"{len(rows)} rows of the table of the tests, of which the reference says another thing of {len(others)}")
+    print(f"{len(rows)} rows of the stored table, of which the reference says another thing of {len(others)}")
     rng = random.Random(int(sys.argv[1]) if len(sys.argv) > 1 else 1)
     loads = workloads(rng)
     journals = [row[:3] for row in rows]

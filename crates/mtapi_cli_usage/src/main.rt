@@ -1,4 +1,4 @@
-//! The program `mtapi` again, for a second stored run: words that it doesn't take, and the status 2.
+//! The program `mtapi` again, for a further stored run: three words of which the third is out of range, and the status 2.
 #![tactic(auto)]
 
 use mtapi_program::program;

@@ -41,7 +41,8 @@ fn agrees<R: Threads + Wait + Sync>(host: &HostRuntime, rt: &R, name: &str) -> i
         &mut out,
         &mut err,
         &mut beside,
-    );
+    )
+    .status;
     Ok(status == 0 && out.bytes() == report.as_slice())
 }
 

@@ -2,24 +2,21 @@
 //! be it: each has one stored run.
 #![tactic(auto)]
 
-ghost use Rattle.std.specs.Prelude.{◌≡◌, ◌⊎◌, ◌↔◌, true, false, None, IfSome};
+ghost use Rattle.std.specs.Prelude.{◌≡◌, ◌⊎◌, true, false, IfSome};
+ghost use Rattle.std.specs.Process.{exit_status};
 ghost use Rattle.std.specs.Io.KnownBytes.{Appends};
 ghost use Rattle.byte_io.specs.Causes.{Rose, AppendsFront};
-ghost use Rattle.node_core.specs.declared.entries.Journal.{Journal};
-ghost use Rattle.mtapi_top.specs.Command.{IsRefused, IsWorkload};
+ghost use Rattle.mtapi_top.specs.Command.{IsWorkload};
+ghost use Rattle.mtapi_top.specs.Ended.{HasEnded, IsReadFor};
 ghost use Rattle.mtapi_top.specs.Headline.{Ran};
 ghost use Rattle.mtapi_top.specs.Words.{texts, asked_of, reads, judges};
-ghost use Rattle.mtapi_top.specs.Check.{IsJudged, IsRefusedInput, verdict_line};
-ghost use Rattle.journal_check.specs.declared.verdicts.Verdict.{Verdict};
-ghost use Rattle.journal_check.specs.declared.verdicts.Verdict.TheVariants.{Yes};
-ghost use Rattle.mtapi_program.specs.Program.{Ended, CheckEnded};
 
 use action_fn::{
     FnTable, StoredFn, act_add, act_div, act_echo, act_fail, act_gcd, act_max, act_mul,
     act_triangle,
 };
 pub use mtapi_top::Threads;
-use mtapi_top::{Beside, End, command, tell};
+use mtapi_top::{Beside, End, Outcome, command, tell};
 use mtapi_values::Kind;
 use std::alloc::{AllocError, Global};
 use std::env;
@@ -47,8 +44,8 @@ fn words_of(rt: &HostRuntime) -> Result<Vec<String>, AllocError> {
     Ok(words)
 }
 
-/// Runs the command with exactly these words, with threads that `beside` starts, and with the function of each pure kind. Answers its
-/// status.
+/// Runs the command with exactly these words, with threads that `beside` starts, and with the function of each pure kind. Answers what
+/// the command answers.
 pub fn run_words<R: StartsThreads + Wait + Sync, S: Source, W: Sink, E: Sink, B: Beside>(
     rt: &R,
     alloc: Global,
@@ -57,43 +54,28 @@ pub fn run_words<R: StartsThreads + Wait + Sync, S: Source, W: Sink, E: Sink, B:
     out: &mut W,
     err: &mut E,
     beside: &mut B,
-) -> u8
-    // The headline of the command. With 0 what was written is the whole output of a run of the workload that was asked for, and with 5
-    // a prefix of it.
-    ensures headline { judges (asked_of (texts words.now)) ≡ false → result ≡ 0 → (journal : Journal) × Ran (asked_of (texts words.now)) (S.left src.old) journal (Appends (W.held out.old) (W.held out.new)) }
-    ensures headline_cut { judges (asked_of (texts words.now)) ≡ false → result ≡ 5 → (journal : Journal) × Ran (asked_of (texts words.now)) (S.left src.old) journal (AppendsFront (W.held out.old) (W.held out.new)) }
+) -> Outcome
+    // The headline of the command: where a run finished, the journal is that of a run of the workload that was asked for, and what was
+    // written is the whole output of that journal with 0, and a prefix of it with 5.
+    ensures headline { result.status ≡ 0 → IfSome result.journal (λ journal. Ran (asked_of (texts words.now)) (S.left src.old) journal (Appends (W.held out.old) (W.held out.new))) }
+    ensures headline_cut { result.status ≡ 5 → IfSome result.journal (λ journal. Ran (asked_of (texts words.now)) (S.left src.old) journal (AppendsFront (W.held out.old) (W.held out.new))) }
 
-    // Each status has its cause.
-    ensures usage { (result ≡ 2) ↔ (asked_of (texts words.now) ≡ None) }
-    ensures refused { judges (asked_of (texts words.now)) ≡ false → result ≡ 3 → IfSome (S.left src.old) IsRefused }
-    ensures read_fault { result ≡ 4 → Rose (S.faults src.old) (S.faults src.new) }
-    ensures write_fault { result ≡ 5 → Rose (W.faults out.old) (W.faults out.new) }
-    ensures no_thread { result ≡ 7 → Rose (B.refusals beside.old) (B.refusals beside.new) }
-    ensures nothing { (result ≡ 0 → ⊥) → (result ≡ 5 → ⊥) → (result ≡ 9 → ⊥) → W.held out.new ≡ W.held out.old }
-
-    // A workload, without a fault of reading and of writing, ends with 0, with 6 when out of memory, with 7 where a thread is refused,
-    // or with spent tickets.
+    // A workload, without a fault and with a thread for everyone, ends with 0, with 6 when out of memory, or with spent tickets; and an
+    // input that is judged, without a fault, with 0, 3, 6 or 9.
     ensures complete { reads (asked_of (texts words.now)) ≡ true → (Rose (S.faults src.old) (S.faults src.new) → ⊥) → (Rose (W.faults out.old) (W.faults out.new) → ⊥)
-        → IfSome (S.left src.old) (λ bytes. IsWorkload bytes → (result ≡ 0) ⊎ (result ≡ 6) ⊎ (result ≡ 7) ⊎ (result ≡ 8)) }
-
-    // A journal that is judged. With 0 the verdict `yes` on it was written, and with 9 another one; with 5 a prefix of a verdict's line.
-    ensures check_yes { judges (asked_of (texts words.now)) ≡ true → result ≡ 0
-        → IsJudged (S.left src.old) Yes × Appends (W.held out.old) (W.held out.new) (verdict_line Yes) }
-    ensures check_no { judges (asked_of (texts words.now)) ≡ true → result ≡ 9
-        → (v : Verdict) × (v ≡ Yes → ⊥) × IsJudged (S.left src.old) v × Appends (W.held out.old) (W.held out.new) (verdict_line v) }
-    ensures check_cut { judges (asked_of (texts words.now)) ≡ true → result ≡ 5
-        → (v : Verdict) × IsJudged (S.left src.old) v × AppendsFront (W.held out.old) (W.held out.new) (verdict_line v) }
-    ensures check_refused { judges (asked_of (texts words.now)) ≡ true → result ≡ 3 → IfSome (S.left src.old) IsRefusedInput }
+        → (Rose (B.refusals beside.old) (B.refusals beside.new) → ⊥)
+        → IfSome (S.left src.old) (λ bytes. IsWorkload bytes → (result.status ≡ 0) ⊎ (result.status ≡ 6) ⊎ (result.status ≡ 8)) }
     ensures check_complete { judges (asked_of (texts words.now)) ≡ true → (Rose (S.faults src.old) (S.faults src.new) → ⊥)
-        → (Rose (W.faults out.old) (W.faults out.new) → ⊥) → (result ≡ 0) ⊎ (result ≡ 3) ⊎ (result ≡ 6) ⊎ (result ≡ 9) }
+        → (Rose (W.faults out.old) (W.faults out.new) → ⊥)
+        → (result.status ≡ 0) ⊎ (result.status ≡ 3) ⊎ (result.status ≡ 6) ⊎ (result.status ≡ 9) }
 
-    // The status, what was written and what was said are those of one end of the command.
-    ensures ended { judges (asked_of (texts words.now)) ≡ false → Ended (asked_of (texts words.now)) (S.left src.old)
-        (record { reads = S.faults src.old; writes = W.faults out.old; threads = B.refusals beside.old; held = W.held out.old; says = E.faults err.old; said = E.held err.old })
-        (record { reads = S.faults src.new; writes = W.faults out.new; threads = B.refusals beside.new; held = W.held out.new; says = E.faults err.new; said = E.held err.new }) result }
-    ensures check_ended { judges (asked_of (texts words.now)) ≡ true → CheckEnded (S.left src.old)
-        (record { reads = S.faults src.old; writes = W.faults out.old; threads = B.refusals beside.old; held = W.held out.old; says = E.faults err.old; said = E.held err.old })
-        (record { reads = S.faults src.new; writes = W.faults out.new; threads = B.refusals beside.new; held = W.held out.new; says = E.faults err.new; said = E.held err.new }) result }
+    // The status with its cause, the journal, what shows that the tickets ran out, what was written and what was said are those of one
+    // end of the command; and no more is read than it takes.
+    ensures ended { HasEnded (asked_of (texts words.now))
+        (record { left = S.left src.old; reads = S.faults src.old; writes = W.faults out.old; held = W.held out.old; threads = B.refusals beside.old; says = E.faults err.old; said = E.held err.old })
+        (record { left = S.left src.new; reads = S.faults src.new; writes = W.faults out.new; held = W.held out.new; threads = B.refusals beside.new; says = E.faults err.new; said = E.held err.new })
+        result }
+    ensures read { IsReadFor (asked_of (texts words.now)) (S.left src.old) (S.left src.new) (S.faults src.old) (S.faults src.new) result.status result.journal }
 {
     let mut acts = FnTable::new(
         StoredFn::new(Kind::Add, act_add),
@@ -105,11 +87,11 @@ pub fn run_words<R: StartsThreads + Wait + Sync, S: Source, W: Sink, E: Sink, B:
         StoredFn::new(Kind::Triangle, act_triangle),
         StoredFn::new(Kind::Fail, act_fail),
     );
-    command(rt, alloc, words, src, out, err, &mut acts, beside).status
+    command(rt, alloc, words, src, out, err, &mut acts, beside)
 }
 
 /// Runs the command over the standard input and outputs of the host, with threads of `rt`.
-fn run<R: StartsThreads + Wait + Sync>(host: &HostRuntime, rt: &R) -> Result<u8, AllocError> {
+fn run<R: StartsThreads + Wait + Sync>(host: &HostRuntime, rt: &R) -> Result<Outcome, AllocError> {
     let alloc = host.alloc();
     let owned = words_of(host)?;
     let mut words = Vec::new(alloc);
@@ -123,12 +105,19 @@ fn run<R: StartsThreads + Wait + Sync>(host: &HostRuntime, rt: &R) -> Result<u8,
     Ok(run_words(rt, alloc, &words, &mut src, &mut out, &mut err, &mut beside))
 }
 
+/// The status of the process: that of the command.
+fn exit_code_of(outcome: &Outcome) -> ExitCode
+    ensures { exit_status result ≡ outcome.now.status }
+{
+    ExitCode::from(outcome.status)
+}
+
 /// The whole program: what `main` does. `host` and `rt` are the one runtime that it takes.
 pub fn program<R: StartsThreads + Wait + Sync>(host: &HostRuntime, rt: &R) -> ExitCode {
-    let status = match run(host, rt) {
-        Ok(status) => status,
+    let outcome = match run(host, rt) {
+        Ok(outcome) => outcome,
         // There was no memory for the words.
-        Err(_) => tell(host.alloc(), End::Memory, &mut StdSink::new(host.stderr())).status,
+        Err(_) => tell(host.alloc(), End::Memory, &mut StdSink::new(host.stderr())),
     };
-    ExitCode::from(status)
+    exit_code_of(&outcome)
 }

@@ -1,17 +1,19 @@
--- A run of the workload is what the headline promises.
-use Rattle.std.proofs.Common.{◌≡◌, ◌≤◌, List, [], ◌∷◌, ◌++◌, length, refl, ◌∙◌, ap, arith}
-use Rattle.history.specs.Histories.{entry}
+-- What the runs of workloads need, and what is known of their journals.
+use Rattle.std.proofs.Common.{◌≡◌, ◌≤◌, ℕ, List, [], ◌∷◌, ◌++◌, length, sym, ap, subst, arith}
+use Rattle.std.specs.Prelude.{codes}
+use Rattle.std.specs.List.{join_with_byte}
+use Rattle.mtapi_values.specs.declared.handles.Layout.{Layout}
 use Rattle.mtapi_values.specs.declared.handles.Layout.TheVariants.{Two}
 use Rattle.workload_file.specs.declared.workload.Part.{Part}
 use Rattle.workload_file.specs.declared.workload.Workload.{Workload}
 use Rattle.workload_file.specs.Formed.{WellFormed, MainFirst}
-use Rattle.mtapi_machine.specs.declared.ops.Op.TheVariants as op
-use Rattle.mtapi_machine.specs.declared.replies.Reply.TheVariants as reply
-use Rattle.mtapi_machine.specs.Legal.{NodeEntry, Legal}
+use Rattle.mtapi_machine.specs.State.{terms_with}
+use Rattle.mtapi_machine.specs.Legal.{Legal}
 use Rattle.node_core.specs.declared.entries.Journal.{Journal}
-use Rattle.sched_threads.specs.Runs.{terms_for, IsRunOf}
-use Rattle.history_law.proofs.Accepted.{accepted_end}
-use Rattle.mtapi_top.specs.Headline.{IsRun, told_terms}
+use Rattle.journal_text.specs.Heads.{head_text, version, first_texts, last_texts}
+use Rattle.journal_text.specs.Journals.{journal_text, head_for, entry_lines, lines_text}
+use Rattle.sched_threads.specs.Runs.{IsRun}
+use Rattle.mtapi_top.specs.Headline.{IsTextTwo}
 
 some_part : (ps : List Part) → MainFirst ps → 1 ≤ length ps
 some_part [] f = absurd f
@@ -21,26 +23,17 @@ some_part (p ∷ ps) f = omega arith
 pub has_part : (load : Workload) → WellFormed load → 1 ≤ length load.parts
 has_part load formed = some_part load.parts formed.main
 
--- a run of the workload is what the headline promises
-pub is_run : (load : Workload) (j : Journal) → IsRunOf load j → length j.entries.entries ≡ length j.entries.skipped → IsRun load j
-is_run load j r beside =
-    let same : told_terms j ≡ terms_for load = reported j load r.layout r.settings r.callers in
-    let legal : Legal (told_terms j) j.entries.entries = rw same r.legal in
-    let main = load.settings.workers in
-    let ends = r.run.ends in
-    record {
-      settings = r.settings;
-      callers = r.callers;
-      beside = beside;
-      legal = legal;
-      run = r.run;
-      tasks = accepted_end (told_terms j) j.entries.entries (ends.before ++ entry main op.Close reply.Ok ∷ ends.behind) main legal
-          (ends.closes ∙ last ends.before (entry main op.Close reply.Ok) ends.behind (entry main op.Final reply.Ok ∷ []));
-    }
-  where
-    reported : (j : Journal) (load : Workload) → j.layout ≡ Two → j.settings ≡ load.settings → j.callers ≡ length load.parts → told_terms j ≡ terms_for load
-    reported j load l s c = rw (l, s, c) refl
+-- the journal of a run is legal by its own terms
+pub told_legal : (load : Workload) (j : Journal) → IsRun load j → Legal (terms_with j.layout j.settings j.callers) j.entries.entries
+told_legal load j r =
+    subst (λ (n : ℕ). Legal (terms_with j.layout j.settings n) j.entries.entries) (sym r.callers)
+    (subst (λ x. Legal (terms_with j.layout x (length load.parts)) j.entries.entries) (sym r.settings)
+    (subst (λ (x : Layout). Legal (terms_with x load.settings (length load.parts)) j.entries.entries) (sym r.layout) r.legal))
 
-    last : (xs : List NodeEntry) (x : NodeEntry) (ys zs : List NodeEntry) → xs ++ x ∷ (ys ++ zs) ≡ (xs ++ x ∷ ys) ++ zs
-    last [] x ys zs = refl
-    last (y ∷ xs) x ys zs = ap (λ l. y ∷ l) (last xs x ys zs)
+-- and it is written as text 2
+pub text_two : (j : Journal) → j.layout ≡ Two → IsTextTwo (journal_text j)
+unfolding journal_text head_text
+text_two j l =
+    let settings = join_with_byte 32 (first_texts (head_for j) ++ last_texts (head_for j)) in
+    let behind = 10 ∷ lines_text (entry_lines (head_for j) j.entries.entries j.entries.skipped) in
+    (settings ++ behind, ap (λ (x : Layout). (codes "mtapi-journal" ++ 32 ∷ (version x ++ 32 ∷ settings)) ++ behind) l)

@@ -12,13 +12,8 @@ use Rattle.mtapi_top.specs.declared.ends.End.TheVariants as end
 use Rattle.mtapi_top.specs.declared.ends.Outcome.{Outcome}
 use Rattle.mtapi_top.specs.Command.{status_of, verdict_status}
 use Rattle.mtapi_top.specs.Check.{Channels, Checks, IsInput, IsRefusedInput}
-use Rattle.mtapi_top.proofs.Refused.{Told}
+use Rattle.mtapi_top.proofs.Refused.{Told, told_status}
 use Rattle.mtapi_top.proofs.Judged.{input_not_refused, same_load, same_journal, same_verdict, unjudged_refused}
-
--- What holds of the status of the end, and of 6, holds of the status that was told.
-told_status : (Q : ℕ → Type 0) (e : End) (f f' : ℕ) (p p' : Option (List ℕ)) (outcome : Outcome) → Q (status_of e) → Q 6 → Told e f f' p p' outcome → Q outcome.status
-told_status Q e f f' p p' outcome q six (inl t) = subst Q (sym t.status) q
-told_status Q e f f' p p' outcome q six (inr t) = subst Q (sym t.1.status) six
 
 -- with 3 the input is refused
 abbrev SaysRefused : Option (List ℕ) → ℕ → Type 0

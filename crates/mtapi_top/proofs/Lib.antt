@@ -6,3 +6,5 @@ mod SettledOutput
 mod InputSplit
 mod Judged
 mod CheckTold
+mod Ended
+mod Kept

@@ -1,5 +1,5 @@
 -- A status of 3 is a refusal, and what is refused has it.
-use Rattle.std.proofs.Common.{◌≡◌, ◌⊎◌, ℕ, true, List, Option, Some, None, refl, sym, ap, ◌∙◌, inl, inr, arith}
+use Rattle.std.proofs.Common.{◌≡◌, ◌⊎◌, ℕ, true, List, Option, Some, None, refl, sym, ap, subst, ◌∙◌, inl, inr, arith}
 use Rattle.std.specs.Prelude.{IfSome}
 use Rattle.byte_io.specs.Causes.{Rose}
 use Rattle.workload_file.specs.declared.workload.Workload.{Workload}
@@ -11,11 +11,21 @@ use Rattle.mtapi_top.specs.declared.ends.End.TheVariants as end
 use Rattle.mtapi_top.specs.declared.ends.Outcome.{Outcome}
 use Rattle.mtapi_top.specs.Words.{reads}
 use Rattle.mtapi_top.specs.Headline.{Ran, IsRead, IsLoadOf}
-use Rattle.mtapi_top.specs.Command.{Outside, Ends, IsWorkload, IsRefused, status_of, has_line, IsTold}
+use Rattle.mtapi_top.specs.Command.{Outside, Ends, IsWorkload, IsRefused, status_of, journal_of, has_line, IsTold}
 
 -- what was told of an end
 abbrev pub Told : End → ℕ → ℕ → Option (List ℕ) → Option (List ℕ) → Outcome → Type 0
 Told e f f' p p' outcome = IsTold e f f' p p' outcome ⊎ ((has_line e ≡ true) × IsTold end.Memory f f' p p' outcome)
+
+-- What holds of the status of the end, and of 6, holds of the status that was told.
+pub told_status : (Q : ℕ → Type 0) (e : End) (f f' : ℕ) (p p' : Option (List ℕ)) (outcome : Outcome) → Q (status_of e) → Q 6 → Told e f f' p p' outcome → Q outcome.status
+told_status Q e f f' p p' outcome q six (inl t) = subst Q (sym t.status) q
+told_status Q e f f' p p' outcome q six (inr t) = subst Q (sym t.1.status) six
+
+-- What holds of the journal of the end, and of none, holds of the one that was told.
+pub told_journal : (Q : Option Journal → Type 0) (e : End) (f f' : ℕ) (p p' : Option (List ℕ)) (outcome : Outcome) → Q (journal_of e) → Q None → Told e f f' p p' outcome → Q outcome.journal
+told_journal Q e f f' p p' outcome q none (inl t) = subst Q (sym t.journal) q
+told_journal Q e f f' p p' outcome q none (inr t) = subst Q (sym t.1.journal) none
 
 refused_end : (words : Option Asked) (bytes : Option (List ℕ)) (a b : Outside) (e : End) → Ends words bytes a b e → status_of e ≡ 3 → IfSome bytes IsRefused
 refused_end words None a b e h q = tt
@@ -76,8 +86,3 @@ pub refused_has : (words : Option Asked) (bytes : Option (List ℕ)) (a b : Outs
 refused_has words None a b e f f' p p' outcome h t r n = tt
 refused_has words (Some x) a b e f f' p p' outcome h (inl t) r n = λ i. one_of outcome.status (status_of e) t.status (refused_status words x a b e h r n i)
 refused_has words (Some x) a b e f f' p p' outcome h (inr t) r n = λ i. inr t.1.status
-
--- what holds of an end with the status 3 holds of what was told with it
-pub clean_told : (P : Type 0) (e : End) (f f' : ℕ) (p p' : Option (List ℕ)) (outcome : Outcome) → (status_of e ≡ 3 → P) → Told e f f' p p' outcome → outcome.status ≡ 3 → P
-clean_told P e f f' p p' outcome h (inl t) q = h (sym t.status ∙ q)
-clean_told P e f f' p p' outcome h (inr t) q = absurd (let m = sym t.1.status ∙ q in cc)

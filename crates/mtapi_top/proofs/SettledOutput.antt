@@ -1,8 +1,9 @@
 -- What the command writes of a settled workload is told by the workload's statements alone.
-use Rattle.std.proofs.Common.{◌≡◌, ℕ, true, List, ◌++◌, Option, Some, None, refl, sym, ◌∙◌, ap, subst, inl, inr}
+use Rattle.std.proofs.Common.{◌≡◌, ℕ, true, List, length, ◌++◌, Option, Some, None, refl, sym, ◌∙◌, ap, subst, inl, inr}
 use Rattle.std.specs.Prelude.{IfSome, Result, Ok}
 use Rattle.std.specs.Io.KnownBytes.{Appends}
 use Rattle.byte_io.specs.Causes.{AppendsFront}
+use Rattle.mtapi_values.specs.declared.handles.Layout.{Layout}
 use Rattle.workload_file.specs.declared.faults.Fault.{Fault}
 use Rattle.workload_file.specs.declared.workload.Workload.{Workload}
 use Rattle.workload_file.specs.Reading.{workload_of}
@@ -24,7 +25,8 @@ use Rattle.mtapi_top.specs.declared.ends.End.TheVariants as end
 use Rattle.mtapi_top.specs.declared.ends.Outcome.{Outcome}
 use Rattle.mtapi_top.specs.Words.{InRange}
 use Rattle.mtapi_top.specs.Generated.{generated}
-use Rattle.mtapi_top.specs.Headline.{Ran, IsRun, IsLoadOf, output}
+use Rattle.sched_threads.specs.Runs.{IsRun}
+use Rattle.mtapi_top.specs.Headline.{Ran, IsLoadOf, output}
 use Rattle.mtapi_top.specs.Settled.{generated_summary, IsPlainOutput}
 use Rattle.mtapi_top.specs.Command.{Outside, Ends, status_of, journal_of}
 use Rattle.mtapi_top.proofs.GeneratedSettled.{generated_settled}
@@ -34,7 +36,7 @@ settled_run : (load : Workload) (j : Journal) → WellFormed load → IsRun load
 settled_run load j f r e = record {
   settled = e;
   formed = f;
-  legal = subst (λ (n : ℕ). Legal (terms_with j.layout load.settings n) j.entries.entries) r.callers (subst (λ x. Legal (terms_with j.layout x j.callers) j.entries.entries) r.settings r.legal);
+  legal = subst (λ (x : Layout). Legal (terms_with x load.settings (length load.parts)) j.entries.entries) (sym r.layout) r.legal;
   same = r.beside;
   run = r.run;
 }

@@ -4,3 +4,4 @@ pub mod Command
 pub mod Generated
 pub mod Settled
 pub mod Check
+pub mod Ended

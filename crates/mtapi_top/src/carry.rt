@@ -2,22 +2,22 @@
 ghost use Rattle.std.specs.Prelude.{◌≡◌, ◌≤◌, ◌⊎◌, ◌↔◌, ◌^◌, IfOk, IfErr, IfSome, IsSome, is_some, true, false, None, Some};
 ghost use Rattle.std.specs.Io.KnownBytes.{Appends, IsAtEnd};
 ghost use Rattle.byte_io.specs.Causes.{Rose, AppendsFront};
-ghost use Rattle.mtapi_top.specs.Command.{Ends, HasNone, HasRead, IsTold, IsRefused, IsWorkload, journal_of, status_of};
+ghost use Rattle.mtapi_top.specs.Command.{Ends, HasNone, HasRead, IsRefused, IsWorkload, journal_of, status_of};
 ghost use Rattle.workload_file.specs.Formed.{WellFormed};
 ghost use Rattle.workload_file.specs.Loading.{HoldsBut, ReadsClean};
 ghost use Rattle.mtapi_top.specs.Generated.{generated};
-ghost use Rattle.mtapi_top.specs.Headline.{IsLoadOf, Ran};
+ghost use Rattle.mtapi_top.specs.Headline.{IsLoadOf, IsTextTwo, Ran};
 ghost use Rattle.mtapi_top.specs.Settled.{IsPlainOutput};
-ghost use Rattle.mtapi_top.specs.Check.{IsJudged, IsInput, IsRefusedInput, Checks, verdict_line};
+ghost use Rattle.mtapi_top.specs.Check.{IsJudged, IsInput, IsRefusedInput, verdict_line};
 ghost use Rattle.mtapi_top.specs.Command.{verdict_status};
-ghost use Rattle.journal_text.specs.Journals.{ReadsClean as ReadsInput};
+ghost use Rattle.mtapi_top.specs.Ended.{HasEnded, IsReadFor, IsPastReading, StartsNothing};
+ghost use Rattle.journal_text.specs.Journals.{journal_text};
 ghost use Rattle.journal_check.specs.Verdicts.{IsVerdict};
 ghost use Rattle.journal_check.specs.declared.verdicts.Verdict.{Verdict};
 ghost use Rattle.journal_check.specs.declared.verdicts.Verdict.TheVariants.{Yes};
 ghost use Rattle.workload_file.specs.declared.workload.Workload.{Workload};
 ghost use Rattle.node_core.specs.declared.entries.Journal.{Journal};
 ghost use Rattle.mtapi_top.specs.Words.{texts, asked_of, reads, judges, InRange};
-ghost use Rattle.mtapi_top.specs.declared.ends.End.{End};
 
 use crate::checking::check_input;
 use crate::ends::{End, Outcome};
@@ -80,11 +80,13 @@ fn carry_out<R: Threads + Wait + Sync, S: Source, W: Sink, A: ActionSource, B: B
     ensures end { Ends (asked_of (texts words.now)) (S.left src.old)
         (record { reads = S.faults src.old; writes = W.faults out.old; threads = B.refusals beside.old; held = W.held out.old })
         (record { reads = S.faults src.new; writes = W.faults out.new; threads = B.refusals beside.new; held = W.held out.new }) result }
-    ensures clean { status_of result ≡ 3 → ReadsClean (S.faults src.old) (S.faults src.new) (S.left src.old) (S.left src.new) }
-    ensures later { (S.faults src.old ≤ S.faults src.new) × (W.faults out.old ≤ W.faults out.new) }
-    ensures unread { reads (asked_of (texts words.now)) ≡ false → (S.left src.new ≡ S.left src.old) × (S.faults src.new ≡ S.faults src.old) }
+    ensures clean { reads (asked_of (texts words.now)) ≡ true → IsPastReading (status_of result)
+        → ReadsClean (S.faults src.old) (S.faults src.new) (S.left src.old) (S.left src.new) }
     ensures whole { reads (asked_of (texts words.now)) ≡ true
         → IfSome (journal_of result) (λ journal. IfSome (S.left src.old) (λ bytes. IsAtEnd (S.left src.new))) }
+    ensures unread { reads (asked_of (texts words.now)) ≡ false → (S.left src.new ≡ S.left src.old) × (S.faults src.new ≡ S.faults src.old) }
+    ensures idle { StartsNothing (status_of result) → (acts.new ≡ acts.old) × (beside.new ≡ beside.old) }
+    ensures later { (S.faults src.old ≤ S.faults src.new) × (W.faults out.old ≤ W.faults out.new) }
     ensures range { IfSome (asked_of (texts words.now)) InRange }
 {
     let Some(asked) = asked_of(words) else {
@@ -151,6 +153,9 @@ pub fn command<R: Threads + Wait + Sync, S: Source, W: Sink, E: Sink, A: ActionS
     ensures headline { result.status ≡ 0 → IfSome result.journal (λ journal. Ran (asked_of (texts words.now)) (S.left src.old) journal (Appends (W.held out.old) (W.held out.new))) }
     ensures headline_cut { result.status ≡ 5 → IfSome result.journal (λ journal. Ran (asked_of (texts words.now)) (S.left src.old) journal (AppendsFront (W.held out.old) (W.held out.new))) }
 
+    // The journal of a run is written as text 2.
+    ensures text_two { IfSome result.journal (λ journal. IsTextTwo (journal_text journal)) }
+
     // Of a settled workload the statements alone tell what is written, for every number of workers: its plain report; and of the generated
     // ones, which are settled, a summary that is the same for every number of workers.
     ensures settled { result.status ≡ 0 → IfSome result.journal (λ journal. IsPlainOutput (asked_of (texts words.now)) (S.left src.old) journal (Appends (W.held out.old) (W.held out.new))) }
@@ -161,8 +166,6 @@ pub fn command<R: Threads + Wait + Sync, S: Source, W: Sink, E: Sink, A: ActionS
     // Each status has its cause.
     ensures usage { (result.status ≡ 2) ↔ (asked_of (texts words.now) ≡ None) }
     ensures refused { judges (asked_of (texts words.now)) ≡ false → result.status ≡ 3 → IfSome (S.left src.old) IsRefused }
-    ensures refused_clean { judges (asked_of (texts words.now)) ≡ false → result.status ≡ 3
-        → ReadsClean (S.faults src.old) (S.faults src.new) (S.left src.old) (S.left src.new) }
     ensures refused_where { reads (asked_of (texts words.now)) ≡ true → (Rose (S.faults src.old) (S.faults src.new) → ⊥)
         → IfSome (S.left src.old) (λ bytes. IsRefused bytes → (result.status ≡ 3) ⊎ (result.status ≡ 6)) }
     ensures reading { (result.status ≡ 3) ⊎ (result.status ≡ 4)
@@ -171,13 +174,6 @@ pub fn command<R: Threads + Wait + Sync, S: Source, W: Sink, E: Sink, A: ActionS
     ensures write_fault { result.status ≡ 5 → Rose (W.faults out.old) (W.faults out.new) }
     ensures no_thread { result.status ≡ 7 → Rose (B.refusals beside.old) (B.refusals beside.new) }
     ensures turns_spent { IfSome result.spent (λ shown. 2 ^ 62 ≤ shown) }
-
-    // Where the words are `gen`, or none of the command, nothing is read; where the run of what is read finished, the input was read
-    // to its end.
-    ensures unread { reads (asked_of (texts words.now)) ≡ false → judges (asked_of (texts words.now)) ≡ false
-        → (S.left src.new ≡ S.left src.old) × (S.faults src.new ≡ S.faults src.old) }
-    ensures whole { reads (asked_of (texts words.now)) ≡ true
-        → IfSome result.journal (λ journal. IfSome (S.left src.old) (λ bytes. IsAtEnd (S.left src.new))) }
 
     // Nothing is written with another status.
     ensures nothing { (result.status ≡ 0 → ⊥) → (result.status ≡ 5 → ⊥) → (result.status ≡ 9 → ⊥) → W.held out.new ≡ W.held out.old }
@@ -199,12 +195,10 @@ pub fn command<R: Threads + Wait + Sync, S: Source, W: Sink, E: Sink, A: ActionS
         → (v : Verdict) × IsJudged (S.left src.old) v × AppendsFront (W.held out.old) (W.held out.new) (verdict_line v) }
     ensures check_nine { result.status ≡ 9 → judges (asked_of (texts words.now)) ≡ true }
 
-    // What is refused in place of being judged; it was read without a fault.
+    // What is refused in place of being judged.
     ensures check_refused { judges (asked_of (texts words.now)) ≡ true → result.status ≡ 3 → IfSome (S.left src.old) IsRefusedInput }
     ensures check_refused_where { judges (asked_of (texts words.now)) ≡ true → (Rose (S.faults src.old) (S.faults src.new) → ⊥)
         → IfSome (S.left src.old) (λ bytes. IsRefusedInput bytes → (result.status ≡ 3) ⊎ (result.status ≡ 6)) }
-    ensures check_clean { judges (asked_of (texts words.now)) ≡ true → (result.status ≡ 4 → ⊥) → (result.status ≡ 6 → ⊥)
-        → ReadsInput (S.faults src.old) (S.faults src.new) (S.left src.old) (S.left src.new) }
 
     // Without a fault it ends with 0, with 9, with 3, or with 6 when out of memory; and but for 6 the input alone tells with which.
     ensures check_complete { judges (asked_of (texts words.now)) ≡ true → (Rose (S.faults src.old) (S.faults src.new) → ⊥)
@@ -215,16 +209,15 @@ pub fn command<R: Threads + Wait + Sync, S: Source, W: Sink, E: Sink, A: ActionS
         → IfSome (S.left src.old) (λ bytes. (load : Workload) (j : Journal) (v : Verdict) → IsInput bytes load j → IsVerdict load j v
         → (result.status ≡ verdict_status v) ⊎ (result.status ≡ 6)) }
 
-    // The outcome and the text on `err` are of the way it ended.
-    ensures ends { judges (asked_of (texts words.now)) ≡ false → (end : End)
-        × Ends (asked_of (texts words.now)) (S.left src.old)
-        (record { reads = S.faults src.old; writes = W.faults out.old; threads = B.refusals beside.old; held = W.held out.old })
-        (record { reads = S.faults src.new; writes = W.faults out.new; threads = B.refusals beside.new; held = W.held out.new }) end
-        × IsTold end (E.faults err.old) (E.faults err.new) (E.held err.old) (E.held err.new) result }
-    ensures check_ends { judges (asked_of (texts words.now)) ≡ true → (end : End)
-        × Checks (S.left src.old) (record { reads = S.faults src.old; writes = W.faults out.old; held = W.held out.old })
-        (record { reads = S.faults src.new; writes = W.faults out.new; held = W.held out.new }) end
-        × IsTold end (E.faults err.old) (E.faults err.new) (E.held err.old) (E.held err.new) result }
+    // The status, the journal, what was written and what was said are those of one end of the command; and no more is read than it takes.
+    ensures ended { HasEnded (asked_of (texts words.now))
+        (record { left = S.left src.old; reads = S.faults src.old; writes = W.faults out.old; held = W.held out.old; threads = B.refusals beside.old; says = E.faults err.old; said = E.held err.old })
+        (record { left = S.left src.new; reads = S.faults src.new; writes = W.faults out.new; held = W.held out.new; threads = B.refusals beside.new; says = E.faults err.new; said = E.held err.new })
+        result }
+    ensures read { IsReadFor (asked_of (texts words.now)) (S.left src.old) (S.left src.new) (S.faults src.old) (S.faults src.new) result.status result.journal }
+
+    // Where no run is made, no thread is asked for, and no action.
+    ensures idle { (judges (asked_of (texts words.now)) ≡ true) ⊎ StartsNothing result.status → (acts.new ≡ acts.old) × (beside.new ≡ beside.old) }
     ensures later { (S.faults src.old ≤ S.faults src.new) × (W.faults out.old ≤ W.faults out.new) × (E.faults err.old ≤ E.faults err.new) }
 {
     if judges(words) {

@@ -3,6 +3,7 @@ ghost use Rattle.std.specs.Prelude.{◌≡◌, ◌≤◌, true, length, IfOk, If
 ghost use Rattle.std.specs.Io.KnownBytes.{IsAtEnd};
 ghost use Rattle.journal_text.specs.Journals.{ReadsClean};
 ghost use Rattle.mtapi_top.specs.Command.{status_of};
+ghost use Rattle.mtapi_top.specs.Ended.{IsPastReading};
 ghost use Rattle.mtapi_top.specs.Check.{IsJudged, IsUnjudged, Checks, verdict_line, WritesVerdict};
 
 use crate::ends::End;
@@ -62,7 +63,7 @@ fn write_verdict<W: Sink>(alloc: Global, verdict: Verdict, out: &mut W) -> End
 pub(crate) fn check_input<S: Source, W: Sink>(alloc: Global, src: &mut S, out: &mut W) -> End
     ensures end { Checks (S.left src.old) (record { reads = S.faults src.old; writes = W.faults out.old; held = W.held out.old })
         (record { reads = S.faults src.new; writes = W.faults out.new; held = W.held out.new }) result }
-    ensures clean { (status_of result ≡ 4 → ⊥) → (status_of result ≡ 6 → ⊥)
+    ensures clean { IsPastReading (status_of result)
         → ReadsClean (S.faults src.old) (S.faults src.new) (S.left src.old) (S.left src.new) }
     ensures later { (S.faults src.old ≤ S.faults src.new) × (W.faults out.old ≤ W.faults out.new) }
 {

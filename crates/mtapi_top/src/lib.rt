@@ -10,8 +10,6 @@ mod input;
 pub mod laws;
 mod pieces;
 mod telling;
-#[cfg(test)]
-mod tests;
 mod words;
 
 pub use carry::command;

@@ -1,8 +1,8 @@
 //! The run of a workload, and its output.
 ghost use Rattle.std.specs.Prelude.{◌≡◌, ◌≤◌, IfOk, IfErr, Some, false, length};
 ghost use Rattle.workload_file.specs.Formed.{WellFormed};
-ghost use Rattle.sched_threads.specs.Runs.{Causes};
-ghost use Rattle.mtapi_top.specs.Headline.{IsRun, output};
+ghost use Rattle.sched_threads.specs.Runs.{Causes, IsRun};
+ghost use Rattle.mtapi_top.specs.Headline.{output};
 ghost use Rattle.mtapi_top.specs.Words.{judges};
 
 use crate::words::Asked;
@@ -25,13 +25,6 @@ fn callers_of(load: &Workload) -> u32
     load.parts.as_slice().len() as u32
 }
 
-// Each entry of a journal has a number beside it, which its list says to a caller of the numbers alone.
-fn see_numbers(journal: &Journal)
-    ensures { length journal.now.entries.entries ≡ length journal.now.entries.skipped }
-{
-    let _ = journal.entries.skipped();
-}
-
 /// Makes the run of a workload, with a thread for each worker and for each further caller.
 fn run_of<R: Threads + Wait + Sync, A: ActionSource, B: Beside>(
     rt: &R,
@@ -47,13 +40,7 @@ fn run_of<R: Threads + Wait + Sync, A: ActionSource, B: Beside>(
     let Ok(node) = Node::init(alloc, load.settings, callers_of(load)) else {
         return Err(RunError::Memory);
     };
-    match run_node(rt, alloc, node, load, acts, beside) {
-        Ok(run) => {
-            see_numbers(run.journal());
-            Ok(run)
-        }
-        Err(error) => Err(error),
-    }
+    run_node(rt, alloc, node, load, acts, beside)
 }
 
 /// The output that was asked for, of a run of this workload that left this journal.
