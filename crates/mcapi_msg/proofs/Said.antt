@@ -45,7 +45,7 @@ on_only P false w a = tt
 -- the turn's entry is one that may come next
 next_at : (old new : Seat) (o : MsgOp) (r : MsgReply) (t : Turned Legal old o r new) → IsNext (state_at old new o r t) (entry old.number o r)
 next_at old new o r t =
-    first-legal _ _ (Legal-rest (opening new.terms) (old.seen ++ t.between) (entry old.number o r ∷ []) (subst (λ (l : List MsgEntry). LegalFrom (opening new.terms) l) t.seen t.lawful.from))
+    first-legal _ _ (Legal-rest (opening new.terms) (old.seen ++ t.between) (entry old.number o r ∷ []) (subst (λ (l : List MsgEntry). LegalFrom (opening new.terms) l) t.seen t.legal.from))
 
 pub by_row : (old new : Seat) (o : MsgOp) (r : MsgReply) (t : Turned Legal old o r new) → Allows (row (state_at old new o r t) old.number o r) r
 by_row old new o r t = (next_at old new o r t).allowed

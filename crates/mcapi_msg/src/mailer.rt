@@ -87,6 +87,13 @@ fn handed(reply: Result<MsgReply, Spent>) -> Result<(u32, u32, Msg), MsgStatus>
     }
 }
 
+// Wakes those that wait for a message.
+fn wake(cell: &TurnCell<Post>) {
+    if cell.ends().is_heard() {
+        cell.ends().ring_all();
+    }
+}
+
 /// A caller of the endpoints of a post. Contracts see its seat.
 #[derive(Drop)]
 pub struct Mailer<'a> {
@@ -178,7 +185,9 @@ impl<'a> Mailer<'a> {
         ensures same { SameSeat self.old self.new }
         ensures spent { result ≡ Err status.Spent → Unturned self.old self.new }
     {
-        done(self.once(rt, MsgOp::Send { to, priority, msg }))
+        let reply = self.once(rt, MsgOp::Send { to, priority, msg });
+        wake(self.cell);
+        done(reply)
     }
 
     /// Takes the message that goes first from an endpoint of this seat, and gives its sender, its priority and its bytes.

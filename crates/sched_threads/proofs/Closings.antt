@@ -25,7 +25,7 @@ use Rattle.mtapi_machine.specs.Kept.{is_pending}
 use Rattle.mtapi_machine.proofs.Lists.{Legal-front, after-append}
 use Rattle.history_law.proofs.Others.{stopped_stays}
 use Rattle.history_law.proofs.Bounds.{stopped_room}
-use Rattle.sched_workers.proofs.Rows.{pass, skip}
+use Rattle.history_law.proofs.RowRest.{pass, skip}
 use Rattle.sched_threads.proofs.TurnMarks.{Cut, first_own, first_next}
 use Rattle.sched_threads.proofs.OwnParts.{Split, own_split}
 

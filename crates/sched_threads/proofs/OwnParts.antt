@@ -11,7 +11,7 @@ use Rattle.mtapi_machine.specs.declared.replies.Reply.{Reply}
 use Rattle.mtapi_machine.specs.Legal.{NodeEntry}
 use Rattle.history_law.specs.Seats.{BySeats}
 use Rattle.sched_threads.specs.Turns.{Seat, Turned}
-use Rattle.sched_threads.proofs.OwnEntries.{entries-append, self_is}
+use Rattle.turn_looks.proofs.OwnEntries.{entries-append, self_is}
 use Rattle.sched_threads.proofs.TurnMarks.{Cut, first_own}
 
 pub own_one : (w : ℕ) (e : NodeEntry) → e.who ≡ w → entries_of w (e ∷ []) ≡ e ∷ []

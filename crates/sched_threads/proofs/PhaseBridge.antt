@@ -19,8 +19,8 @@ use Rattle.mtapi_machine.specs.Legal.{NodeEntry, LegalFrom, after_from}
 use Rattle.mtapi_machine.proofs.Lists.{Legal-front}
 use Rattle.history_law.specs.Seats.{NoPhase, Others}
 use Rattle.history_law.proofs.Others.{phase_stays}
-use Rattle.sched_workers.proofs.Rows.{pass}
-use Rattle.sched_threads.proofs.OwnEntries.{entries-append, self_is}
+use Rattle.history_law.proofs.RowRest.{pass}
+use Rattle.turn_looks.proofs.OwnEntries.{entries-append, self_is}
 use Rattle.sched_threads.proofs.TurnMarks.{Cut, first_own, first_next}
 
 front_quiet : (L M : List NodeEntry) → NoPhase (L ++ M) → NoPhase L

@@ -20,7 +20,7 @@ use Rattle.sched_workers.specs.Wants.{op_of}
 use Rattle.sched_workers.proofs.Shapes.{Shaped, shaped}
 use Rattle.sched_threads.specs.Rounds.{Round, Rested, Ran, Watched, Tallied, Tallying, GivesUp, Reads, Writes, retries, tally_steps, asks, entries_in, all_in}
 use Rattle.sched_threads.specs.Carries.{MadeAs}
-use Rattle.sched_threads.proofs.OwnEntries.{self_is}
+use Rattle.turn_looks.proofs.OwnEntries.{self_is}
 
 pub quiet_append : (xs ys : List NodeEntry) → NoPhase xs → NoPhase ys → NoPhase (xs ++ ys)
 quiet_append [] ys a b = b

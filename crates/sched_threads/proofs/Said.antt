@@ -35,7 +35,8 @@ use Rattle.sched_threads.specs.Looks.{Looked, StillLooking}
 use Rattle.sched_workers.specs.Wants.{op_of, IsTimed}
 use Rattle.sched_threads.specs.Answers.{AnsweredBy, Called, Waited}
 use Rattle.sched_threads.specs.Replies.{Standard, mtapi, mrapi, done, key, says, fits, found}
-use Rattle.sched_threads.proofs.OwnEntries.{turned_next, state_at, self_is}
+use Rattle.sched_threads.proofs.OwnEntries.{turned_next, state_at}
+use Rattle.turn_looks.proofs.OwnEntries.{self_is}
 use Rattle.sched_threads.proofs.Depths.{Shallow}
 use Rattle.sched_threads.proofs.WantedRows.{on_cond, AllEarly, endings_early, wanted_decides}
 use Rattle.std.proofs.lemmas.Result.{IfOk-weaker}

@@ -27,8 +27,8 @@ use Rattle.mtapi_machine.specs.Legal.{IsNext, next}
 use Rattle.mtapi_machine.proofs.Changes.{at-update}
 use Rattle.history_law.specs.Seats.{Work, Holds, Free}
 use Rattle.history_law.proofs.Found.{count_changed}
-use Rattle.sched_workers.proofs.Rows.{Goes, pass, goes_then}
-use Rattle.sched_threads.proofs.WorkLemmas.{runs_as_its, runs_on_its, ends_free, own_goes}
+use Rattle.history_law.proofs.RowRest.{Goes, pass, goes_then}
+use Rattle.history_law.proofs.WorkerTurns.{runs_as_its, runs_on_its, ends_free, own_goes}
 
 -- the work with what its tally has done then
 abbrev pub with_done : (TallyNotes → TallyNotes) → Work → Work

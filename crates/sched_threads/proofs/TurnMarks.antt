@@ -25,9 +25,9 @@ use Rattle.history_law.proofs.Others.{waiter_stays, once_stays}
 use Rattle.sched_workers.specs.Turns.{Turn, stayed, turn_of, turns_of}
 use Rattle.sched_workers.specs.Whole.{none_of, first_alone, pended}
 use Rattle.sched_workers.proofs.Rows.{look_reply}
-use Rattle.sched_workers.proofs.Rows.{skip}
+use Rattle.history_law.proofs.RowRest.{skip}
 use Rattle.sched_workers.proofs.TurnLists.{turns_append}
-use Rattle.sched_threads.proofs.OwnEntries.{self_is}
+use Rattle.turn_looks.proofs.OwnEntries.{self_is}
 
 -- the seat's first entry, with what others did before it
 pub record Cut (w : ℕ) (H : List NodeEntry) (e : NodeEntry) (es : List NodeEntry) : Type 0 where

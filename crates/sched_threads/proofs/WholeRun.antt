@@ -30,7 +30,7 @@ use Rattle.sched_threads.specs.Carries.{MadeAs}
 use Rattle.sched_threads.specs.Crews.{is_ok}
 use Rattle.sched_threads.specs.Parts.{MainAs, CallerAs, WorkerAs}
 use Rattle.sched_threads.specs.Bridges.{lets}
-use Rattle.sched_threads.proofs.OwnEntries.{entries-append}
+use Rattle.turn_looks.proofs.OwnEntries.{entries-append}
 use Rattle.sched_threads.proofs.TurnMarks.{Cut, first_own, first_next}
 use Rattle.sched_threads.proofs.SeatBridge.{caller_turns, worker_turns}
 use Rattle.sched_threads.proofs.MainBridge.{main_turns}

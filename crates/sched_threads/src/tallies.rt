@@ -8,12 +8,11 @@ ghost use Rattle.mtapi_machine.specs.declared.replies.Reply.TheVariants as said;
 ghost use Rattle.sched_threads.specs.Rounds.{AtWork, Stranded};
 ghost use Rattle.sched_threads.specs.Steps.{work_of, sum_with, LocksOnce, TakesBoth, MayRead, MayWrite, ReadsCell, WritesCell, MayEndTally, EndsTally, AddsToCell, Sums, Tallies, IsTallyAnswer, answer_in};
 
-use crate::pauses::Pause;
-use crate::turns::turn;
 use mtapi_values::{Args, TaskHandle};
 use node_core::{Journaled, Op, Reply};
 use std::sync::Wait;
 use turn_cell::{Spent, TurnCell, TurnSeat};
+use turn_looks::{Pause, turn};
 
 // The sum of what was read and of the number that a tally with these arguments adds, where it fits.
 fn sum_of(args: &Args, kept: i64) -> Option<i64>

@@ -1,7 +1,5 @@
 -- Reading the rows of the machine: which reply a row allows, and which state it gives.
 use Rattle.std.proofs.Common.{◌≡◌, ℕ, ◌<◌, Bool, true, false, not, List, [], ◌∷◌, Option, Some, None, ℤ, refl, sym, ◌∙◌, ap, subst}
-use Rattle.std.specs.Prelude.{nat_lt}
-use Rattle.std.proofs.lemmas.Bool.{lt-ltb}
 use Rattle.mtapi_values.specs.declared.statuses.MtapiStatus.{MtapiStatus}
 use Rattle.mtapi_values.specs.declared.statuses.MrapiStatus.{MrapiStatus}
 use Rattle.mtapi_machine.specs.declared.replies.Reply.{Reply}
@@ -17,7 +15,7 @@ use Rattle.mtapi_objects.specs.Segments.{new_segment, with_attached, with_cell, 
 use Rattle.handle_pool.specs.Issued.{live_object}
 use Rattle.mtapi_machine.specs.State.{State}
 use Rattle.mtapi_machine.specs.Moves.{Move, Sort, Groups, Queues, Mutexes, Sems, Rwls, Segments, Fields, all_of, makes, alters, removes}
-use Rattle.mtapi_machine.specs.Row.{Row, unless, gives, never, Allows, after_row, only, live, on, says, creates}
+use Rattle.mtapi_machine.specs.Row.{Row, unless, gives, never, Allows, only, live, on, says, creates}
 use Rattle.mtapi_machine.specs.KeyedRows.{Keyed, keyed_queues, keyed_mutexes, keyed_sems, keyed_rwls, keyed_segments, found, creates_keyed, gets, alters_one, deletes, mrapi_unless}
 use Rattle.mtapi_machine.specs.TaskRows.{looks_at, cancels}
 use Rattle.mtapi_machine.specs.QueueRows.{new_queue}
@@ -195,25 +193,3 @@ pub look_reply : (s : State) (who h : ℕ) (last : Bool) (r : Reply) → Allows 
 look_reply s who h last r a =
     said (Looks last) (row s who (op.TaskLook (record { 0 = h }) last) r) r
     (looks_code last _ refl, on_live (Looks last) (live_object s.tasks h) _ _ (looks_code last _ refl) (λ x. (looks_code last _ refl, (looks_code last _ refl, look_says who h last x)))) a
-
--- what is left of a row
-
--- a row's conditions before its effect weren't met
-pub record Goes (s : State) (w : Row) (r : Reply) (v : Row) : Type 0 where
-  pub allowed : Allows v r
-  pub leads : after_row s w ≡ after_row s v
-
-pub skip : (c : Bool) (x r : Reply) (w : Row) (s : State) → (r ≡ x → ⊥) → Allows (unless c x w) r → Goes s (unless c x w) r w
-skip true x r w s n a = absurd (n a)
-skip false x r w s n a = record { allowed = a; leads = refl }
-
-pub goes_then : (s : State) (u v w : Row) (r : Reply) → Goes s u r v → Goes s v r w → Goes s u r w
-goes_then s u v w r g h = record { allowed = h.allowed; leads = g.leads ∙ h.leads }
-
--- a condition that is known not to be met
-pub pass : (c : Bool) (x r : Reply) (w : Row) (s : State) → c ≡ false → Allows (unless c x w) r → Goes s (unless c x w) r w
-pass true x r w s e a = absurd (cc)
-pass false x r w s e a = record { allowed = a; leads = refl }
-
-pub small_not : (w n : ℕ) → w < n → not (nat_lt w n) ≡ false
-small_not w n l = ap not (lt-ltb w n l)

@@ -1,2 +1,2 @@
-mod OwnEntries
-mod LookLemmas
+pub mod OwnEntries
+pub mod LookLemmas

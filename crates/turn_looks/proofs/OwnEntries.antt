@@ -7,7 +7,7 @@ use Rattle.history.specs.Histories.{entry, entries_of, Extends}
 use Rattle.turn_cell.specs.Seats.{SeatView}
 use Rattle.turn_looks.specs.Turns.{SameSeat, Turned}
 
-self_is : (w : ℕ) → (w == w) ≡ true
+pub self_is : (w : ℕ) → (w == w) ≡ true
 self_is w = grind (arith, nat_tests)
 
 empty : {A : Type 0} (l : List A) → length l ≡ 0 → l ≡ []
@@ -37,11 +37,12 @@ module _ {P Q : Type 0} where
       → entries_of new.number new.seen ≡ new.mine → legal new.terms new.seen → Turned legal old op reply new
   turned legal old new op reply same was x mine own lawful = record {
     same = same;
+    before = was;
     mine = mine;
     between = x.0;
     others =
         between_others old.number old.seen x.0 old.mine (entry old.number op reply) refl was
         (ap (λ (l : List (Entry P Q)). entries_of old.number l) (sym x.1) ∙ (ap (λ (n : ℕ). entries_of n new.seen) (sym same.number) ∙ (own ∙ mine)));
     seen = x.1;
-    lawful = lawful;
+    legal = lawful;
   }

@@ -12,13 +12,14 @@ module _ {T P Q : Type 0} where
     pub terms : new.terms ≡ old.terms
 
   -- the seat made one turn: the op and its reply come behind what other seats did since its last one, and the list is legal
-  pub record Turned (legal : T → List (Entry P Q) → Type 0) (old : SeatView T P Q) (op : P) (reply : Q) (new : SeatView T P Q) : Type 0 where
+  pub record Turned (is_legal : T → List (Entry P Q) → Type 0) (old : SeatView T P Q) (op : P) (reply : Q) (new : SeatView T P Q) : Type 0 where
     pub same : SameSeat old new
+    pub before : entries_of old.number old.seen ≡ old.mine
     pub mine : new.mine ≡ old.mine ++ entry old.number op reply ∷ []
     pub between : List (Entry P Q)
     pub others : entries_of old.number between ≡ []
     pub seen : new.seen ≡ (old.seen ++ between) ++ entry old.number op reply ∷ []
-    pub lawful : legal new.terms new.seen
+    pub legal : is_legal new.terms new.seen
 
   -- the tickets had run out, and nothing was added
   pub record Unturned (old new : SeatView T P Q) : Type 0 where

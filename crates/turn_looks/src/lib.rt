@@ -1,11 +1,16 @@
-//! The one loop of looks, for every call that waits for a thing of an object in a turn cell.
+//! Turns, looks and pauses of a seat of a turn cell, over every object.
 //!
-//! A [`Wanted`] says what one look asks and which reply means "not yet". [`look`] makes one turn for each look, with a pause that
-//! grows between two, until there is an answer or the looks are used up.
+//! [`turn`] makes one turn. A [`Wanted`] says what one look asks and which reply means "not yet"; [`look`] makes one turn for each look
+//! until there is an answer or the looks are used up. Between two looks it waits by a [`Pause`]: it spins a few times, and then sleeps
+//! until the cell's bell for ends rings, for a millisecond at most.
 #![tactic(auto)]
 
 pub mod looks;
+pub mod pauses;
+pub mod services;
 pub mod turns;
 
 pub use looks::{Wanted, look};
+pub use pauses::Pause;
+pub use services::ServeEnd;
 pub use turns::turn;

@@ -4,8 +4,8 @@ ghost use Rattle.std.specs.Prelude.{◌≡◌, ◌<◌, ◌↔◌, Bool, Some, N
 ghost use Rattle.mtapi_values.specs.Timeouts.{looks_of};
 ghost use Rattle.turn_looks.specs.Looks.{Looked, StillLooking};
 
+use crate::pauses::Pause;
 use crate::turns::turn;
-use crossbeam_utils::Backoff;
 use history::Object;
 use mtapi_values::Timeout;
 use std::sync::Wait;
@@ -41,7 +41,7 @@ fn look_within<O: Object, W: Wanted<O>, R: Wait>(
     ensures answered { IfOk result (λ r. Looked O.legal (W.op_of wanted.now) W.waits (Some most) seat.old seat.new r) }
     ensures spent { OnErr result (StillLooking O.legal (W.op_of wanted.now) W.waits (Some most) seat.old seat.new) }
 {
-    let backoff = Backoff::new();
+    let mut pause = Pause::within_limit();
     for i in 0..most {
         let last = i + 1 == most;
         match turn(rt, cell, seat, wanted.op(last)) {
@@ -55,7 +55,7 @@ fn look_within<O: Object, W: Wanted<O>, R: Wait>(
             }
             Err(spent) => return Err(spent),
         }
-        backoff.snooze();
+        pause.wait(rt);
     }
     unreachable!()
 }
@@ -71,22 +71,27 @@ fn look_on<O: Object, W: Wanted<O>, R: Wait>(
     ensures answered { IfOk result (λ r. Looked O.legal (W.op_of wanted.now) W.waits None seat.old seat.new r) }
     ensures spent { OnErr result (StillLooking O.legal (W.op_of wanted.now) W.waits None seat.old seat.new) }
 {
-    let backoff = Backoff::new();
+    let mut pause = Pause::new();
     for _ in rt.forever() {
         match turn(rt, cell, seat, wanted.op(false)) {
             Ok(reply) => {
                 if !wanted.is_waiting(&reply) {
+                    pause.leave(cell.ends());
                     return Ok(reply);
                 }
             }
-            Err(spent) => return Err(spent),
+            Err(spent) => {
+                pause.leave(cell.ends());
+                return Err(spent);
+            }
         }
-        backoff.snooze();
+        let _ = pause.wait_for(rt, cell.ends());
     }
     unreachable!()
 }
 
-/// Looks until there is an answer, or until the looks are used up. Each look is one turn.
+/// Looks until there is an answer, or until the looks are used up. Each look is one turn. Without a limit it sleeps between two looks
+/// until the cell's bell for ends rings, or for a millisecond.
 ///
 /// # Errors
 ///

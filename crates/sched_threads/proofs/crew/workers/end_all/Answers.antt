@@ -3,7 +3,7 @@ use Rattle.sched_threads.proofs.Meets.{ended_turn, ended_spent, of_met}
 use Rattle.sched_threads.proofs.crew.workers.end_all.Goals as goal
 
 pub turn-requires : goal.turn-requires
-turn-requires g c = record { cell = c.meet_all.ensures.met.main.cell ∙ c.requires.of_crew.main }
+turn-requires g c = c.meet_all.ensures.met.main.cell ∙ c.requires.of_crew.main
 
 pub returns-in-Ok-clause-ended : goal.returns-in-Ok-clause-ended
 returns-in-Ok-clause-ended g c = ended_turn c.args.op c.args.crew _ c.meet_all.new.main _ c.meet_all.ensures.met c.in-Ok.ensures.turned c.meet_all.ensures.room.0 c.meet_all.ensures.room.1 refl refl

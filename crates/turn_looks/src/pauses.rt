@@ -1,4 +1,4 @@
-//! How a thread waits between two looks.
+//! How a thread waits between two looks. No clause speaks of it.
 
 use crossbeam_utils::Backoff;
 use std::sync::Wait;
@@ -18,7 +18,7 @@ const FEW: u64 = 2_000;
 
 /// It spins, then gives its time away, and then sleeps, twice as long each time, up to a millisecond.
 #[derive(Drop)]
-pub(crate) struct Pause {
+pub struct Pause {
     backoff: Backoff,
     // How often it has waited without a sleep, at most once more than it spins.
     short: u32,
@@ -34,12 +34,12 @@ pub(crate) struct Pause {
 
 impl Pause {
     /// For looks without a limit.
-    pub(crate) fn new() -> Pause {
+    pub fn new() -> Pause {
         Pause::with(u64::MAX)
     }
 
     /// For looks with a limit, which may be many.
-    pub(crate) fn within_limit() -> Pause {
+    pub fn within_limit() -> Pause {
         Pause::with(FEW)
     }
 
@@ -55,14 +55,14 @@ impl Pause {
     }
 
     /// Begins anew, after there was something to do.
-    pub(crate) fn reset(&mut self) {
+    pub fn reset(&mut self) {
         self.backoff.reset();
         self.short = 0;
         self.micros = 1;
     }
 
     /// Waits once for a bell: it spins, then listens, and then sleeps until it rings. True where it begins to listen.
-    pub(crate) fn wait_for<R: Wait>(&mut self, rt: &R, bell: &Bell) -> bool {
+    pub fn wait_for<R: Wait>(&mut self, rt: &R, bell: &Bell) -> bool {
         if self.short < SPINS {
             self.short += 1;
             self.backoff.spin();
@@ -81,7 +81,7 @@ impl Pause {
     }
 
     /// Waits for the bell no more.
-    pub(crate) fn leave(&mut self, bell: &Bell) {
+    pub fn leave(&mut self, bell: &Bell) {
         if self.heard.is_some() {
             bell.leave();
         }
@@ -90,7 +90,7 @@ impl Pause {
     }
 
     /// Waits once.
-    pub(crate) fn wait<R: Wait>(&mut self, rt: &R) {
+    pub fn wait<R: Wait>(&mut self, rt: &R) {
         if self.short < SPINS {
             self.short += 1;
             self.backoff.spin();
