@@ -1,0 +1,46 @@
+-- A worker's seat that has made no entry is at rest.
+use Rattle.std.proofs.Common.{◌≡◌, ℕ, ◌<◌, ◌==◌, Bool, true, false, cond, List, [], ◌∷◌, ◌++◌, refl, ◌∙◌, ap, arith}
+use Rattle.std.proofs.lemmas.Bool.Decides.{nat_tests}
+use Rattle.history.specs.Histories.{entry, entries_of}
+use Rattle.mtapi_values.specs.declared.kinds.Kind.{Kind}
+use Rattle.mtapi_values.specs.declared.handles.ActionHandle.{ActionHandle}
+use Rattle.mtapi_machine.specs.declared.ops.Op.TheVariants as op
+use Rattle.mtapi_machine.specs.declared.replies.Reply.TheVariants as reply
+use Rattle.mtapi_machine.specs.State.{opening}
+use Rattle.mtapi_machine.specs.Legal.{NodeEntry}
+use Rattle.history_law.proofs.Others.{work_stays}
+use Rattle.turn_looks.proofs.OwnEntries.{entries-append}
+use Rattle.node_bridge.specs.Jobs.{job_of, pure_kinds, all_cores}
+use Rattle.node_bridge.specs.Image.{images, creates, opening_entries, image}
+use Rattle.node_bridge.specs.Rounds.{UnusedWorkersRest}
+use Rattle.node_bridge.proofs.Images.{images_own}
+
+apart : (w who : ℕ) → w < who → (who == w) ≡ false
+apart w who l = grind (arith, nat_tests)
+
+none_of : (b : Bool) (x : NodeEntry) (l : List NodeEntry) → b ≡ false → l ≡ [] → cond b (x ∷ l) l ≡ []
+none_of true x l e r = absurd (cc)
+none_of false x l e r = r
+
+no_creates : (w who : ℕ) (ks : List Kind) (hs : List ActionHandle) → (who == w) ≡ false → entries_of w (creates who ks hs) ≡ []
+no_creates w who [] hs e = refl
+no_creates w who (k ∷ ks) [] e = refl
+no_creates w who (k ∷ ks) (h ∷ hs) e =
+    none_of (who == w) (entry who (op.ActionCreate (job_of k) k all_cores) (reply.Handle h.0)) (entries_of w (creates who ks hs)) e (no_creates w who ks hs e)
+
+no_opening : (w who : ℕ) (hs : List ActionHandle) → (who == w) ≡ false → entries_of w (opening_entries who hs) ≡ []
+unfolding opening_entries
+no_opening w who hs e = none_of (who == w) (entry who op.Initialize reply.Ok) (entries_of w (creates who pure_kinds hs)) e (no_creates w who pure_kinds hs e)
+
+pub unused_workers_rest : UnusedWorkersRest
+unfolding images
+unused_workers_rest s legal own w = record {
+  worker = w;
+  free = (work_stays (opening s.terms.node) (image s.terms s.seen) s.number legal.image.from others).free refl;
+}
+  where
+    others : entries_of s.number (image s.terms s.seen) ≡ []
+    others =
+        entries-append s.number (opening_entries s.terms.node.settings.workers s.terms.opened) (images s.terms.opened s.seen)
+        ∙ (ap (λ (l : List NodeEntry). l ++ entries_of s.number (images s.terms.opened s.seen)) (no_opening s.number s.terms.node.settings.workers s.terms.opened (apart s.number s.terms.node.settings.workers w))
+        ∙ (images_own s.terms.opened s.number s.seen ∙ ap (λ l. images s.terms.opened l) own))
