@@ -10,8 +10,8 @@ use Rattle.mtapi_renaming.specs.Ops.{renamed_op}
 use Rattle.journal_check.proofs.Creates.{makes_some, refusal_here, judged_refused}
 use Rattle.journal_check.proofs.following.Following.create.Goals as goal
 
-pub refusal-requires-clause-makes : goal.refusal-requires-clause-makes
-refusal-requires-clause-makes c =
+pub refusal-requires : goal.refusal-requires
+refusal-requires c =
     let f = c.args.self.now in
     let e = c.args.entry.now in
     let op : renamed_op (renaming_of f.names) e.op ≡ c.renamed_op-op.result = cc in
