@@ -15,7 +15,7 @@ refusal-requires c =
     let f = c.args.self.now in
     let e = c.args.entry.now in
     let op : renamed_op (renaming_of f.names) e.op ≡ c.renamed_op-op.result = cc in
-    subst (λ (o : Op). IsSome (made_kind o)) op (makes_some (renaming_of f.names) e.op c.args.kind c.requires.makes)
+    record { makes = subst (λ (o : Op). IsSome (made_kind o)) op (makes_some (renaming_of f.names) e.op c.args.kind c.requires.makes) }
 
 pub returns-in-Some : goal.returns-in-Some
 returns-in-Some c =
