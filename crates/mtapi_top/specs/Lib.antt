@@ -5,3 +5,4 @@ pub mod Generated
 pub mod Settled
 pub mod Check
 pub mod Ended
+pub mod Reasons

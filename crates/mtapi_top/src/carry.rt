@@ -22,11 +22,11 @@ ghost use Rattle.mtapi_top.specs.Words.{texts, asked_of, reads, judges, InRange}
 use crate::checking::check_input;
 use crate::ends::{End, Outcome};
 use crate::generator::generated;
-use crate::pieces::run_and_output;
+use crate::pieces::{NoRun, run_and_output};
 use crate::telling::tell;
 use crate::words::{Asked, asked_of, judges};
 use action_fn::ActionSource;
-use sched_threads::{Beside, RunError};
+use sched_threads::Beside;
 use std::alloc::Global;
 use std::sync::Wait;
 use std::thread::Threads;
@@ -101,9 +101,9 @@ fn carry_out<R: Threads + Wait + Sync, S: Source, W: Sink, A: ActionSource, B: B
     };
     let (journal, text) = match run_and_output(rt, alloc, &asked, &load, acts, beside) {
         Ok(both) => both,
-        Err(RunError::Refused(_)) => return End::NoThread,
-        Err(RunError::Spent(spent)) => return End::Spent(spent),
-        Err(RunError::Memory) => return End::Memory,
+        Err(NoRun::Refused) => return End::NoThread,
+        Err(NoRun::Spent(spent)) => return End::Spent(spent),
+        Err(NoRun::Memory) => return End::Memory,
     };
     match write_all(out, &text) {
         Ok(()) => End::Done(journal),

@@ -1,20 +1,51 @@
 //! The run of a workload, and its output.
-ghost use Rattle.std.specs.Prelude.{◌≡◌, ◌≤◌, IfOk, IfErr, Some, false, length};
+ghost use Rattle.std.specs.Prelude.{ℕ, ◌≡◌, ◌≤◌, IfOk, IfErr, Some, false, length};
 ghost use Rattle.workload_file.specs.Formed.{WellFormed};
 ghost use Rattle.sched_threads.specs.Runs.{Causes, IsRun};
 ghost use Rattle.mtapi_top.specs.Headline.{output};
+ghost use Rattle.mtapi_top.specs.Reasons.{HasReason};
 ghost use Rattle.mtapi_top.specs.Words.{judges};
 
 use crate::words::Asked;
 use action_fn::ActionSource;
 use journal_text::write_journal;
-use node_core::{Journal, Node, RunJournal};
+use node_core::{Journal, Journaled, Node, RunJournal};
 use run_report::{report_of, summary_of};
 use sched_threads::{Beside, RunError, run_node};
 use std::alloc::{AllocError, Global};
 use std::sync::Wait;
 use std::thread::Threads;
+use turn_cell::{Spent, TurnSeat};
 use workload_file::Workload;
+
+/// Why there is no journal of a run.
+#[derive(Drop)]
+pub(crate) enum NoRun {
+    /// A thread was refused.
+    Refused,
+    /// The tickets ran out.
+    Spent(Spent),
+    /// Want of memory.
+    Memory,
+}
+
+fn no_thread(main: TurnSeat<Journaled>) -> NoRun
+    ensures { result ≡ NoRun.Refused }
+{
+    let _ = main;
+    NoRun::Refused
+}
+
+// The reason without the seat of main, which tells nothing more of the command.
+fn without_seat(error: RunError) -> NoRun
+    ensures { (before after : ℕ) → Causes before after error → HasReason before after result }
+{
+    match error {
+        RunError::Refused(main) => no_thread(main),
+        RunError::Spent(spent) => NoRun::Spent(spent),
+        RunError::Memory => NoRun::Memory,
+    }
+}
 
 // How many callers there are, main included.
 fn callers_of(load: &Workload) -> u32
@@ -32,15 +63,18 @@ fn run_of<R: Threads + Wait + Sync, A: ActionSource, B: Beside>(
     load: &Workload,
     acts: &mut A,
     beside: &mut B,
-) -> Result<RunJournal, RunError>
+) -> Result<RunJournal, NoRun>
     requires formed { WellFormed load.now }
     ensures run { IfOk result (λ j. IsRun load.now j) }
-    ensures causes { IfErr result (Causes (B.refusals beside.old) (B.refusals beside.new)) }
+    ensures causes { IfErr result (HasReason (B.refusals beside.old) (B.refusals beside.new)) }
 {
     let Ok(node) = Node::init(alloc, load.settings, callers_of(load)) else {
-        return Err(RunError::Memory);
+        return Err(NoRun::Memory);
     };
-    run_node(rt, alloc, node, load, acts, beside)
+    match run_node(rt, alloc, node, load, acts, beside) {
+        Ok(run) => Ok(run),
+        Err(error) => Err(without_seat(error)),
+    }
 }
 
 /// The output that was asked for, of a run of this workload that left this journal.
@@ -76,12 +110,12 @@ pub(crate) fn run_and_output<R: Threads + Wait + Sync, A: ActionSource, B: Besid
     load: &Workload,
     acts: &mut A,
     beside: &mut B,
-) -> Result<(RunJournal, Vec<u8>), RunError>
+) -> Result<(RunJournal, Vec<u8>), NoRun>
     requires formed { WellFormed load.now }
     requires asked { judges (Some asked.now) ≡ false }
     ensures is_run { IfOk result (λ r. IsRun load.now r.0) }
     ensures output { IfOk result (λ r. r.1.items ≡ output asked.now load.now r.0) }
-    ensures causes { IfErr result (Causes (B.refusals beside.old) (B.refusals beside.new)) }
+    ensures causes { IfErr result (HasReason (B.refusals beside.old) (B.refusals beside.new)) }
 {
     let run = match run_of(rt, alloc, load, acts, beside) {
         Ok(run) => run,
@@ -89,6 +123,6 @@ pub(crate) fn run_and_output<R: Threads + Wait + Sync, A: ActionSource, B: Besid
     };
     match output_of(alloc, asked, load, run.journal()) {
         Ok(text) => Ok((run, text)),
-        Err(_) => Err(RunError::Memory),
+        Err(_) => Err(NoRun::Memory),
     }
 }
