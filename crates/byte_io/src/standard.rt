@@ -58,7 +58,8 @@ impl<R: Read> Source for StdSource<R> {
 }
 
 /// A writer of std as a sink: it holds the bytes that the writer tells, and counts its failed writes. A write that takes
-/// nothing of a piece that isn't empty is one.
+/// nothing of a piece that isn't empty is one. Nothing is flushed: each write of standard output and standard error goes to the
+/// system before it returns, and no buffer is kept between two writes. A writer with a buffer is flushed by who made it.
 #[derive(Drop)]
 pub struct StdSink<W: Write> {
     inner: W,

@@ -6,7 +6,7 @@ ghost use Rattle.std.specs.Borrow.{sem};
 ghost use Rattle.handle_pool.specs.RowOwns.{row_owns, row_lent, Fits};
 
 use std::alloc::{AllocError, Allocator, Global};
-use std::marker::{Model, Send};
+use std::marker::{Model, Send, Sync};
 use std::mem::{align_of, size_of};
 use std::slice;
 
@@ -24,6 +24,8 @@ impl<X> Model for Row<X> {
 }
 
 unsafe impl<X: Send> Send for Row<X> {}
+
+unsafe impl<X: Sync> Sync for Row<X> {}
 
 // How many bytes an item takes. More than a word can say counts as the most that it can.
 fn item_size<X>() -> usize

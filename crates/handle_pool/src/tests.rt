@@ -25,22 +25,6 @@ fn one_slot_of_two_generations(rt: HostRuntime) -> Result<(), Fail> {
 }
 
 #[test]
-fn a_place_is_used_again(rt: HostRuntime) -> Result<(), Fail> {
-    let mut pool = Pool::new(rt.alloc(), 2, 2)?;
-    let first = pool.insert(1).ok().ok_or("full")?;
-    assert_eq!(rt; pool.insert(2).is_ok(), true);
-    assert_eq!(rt; pool.insert(3), Err(3));
-    assert_eq!(rt; pool.live(), 2);
-    assert_eq!(rt; pool.retired(), 0);
-    assert_eq!(rt; pool.remove(first), Some(1));
-    assert_eq!(rt;
-        pool.insert(3).ok().map(u128::from),
-        Some(u128::from(first) + u128::from(SPAN))
-    );
-    Ok(())
-}
-
-#[test]
 fn a_used_place_has_another_handle(rt: HostRuntime) -> Result<(), Fail> {
     let mut pool = Pool::new(rt.alloc(), 3, 2)?;
     assert_eq!(rt; pool.insert(1).is_ok(), true);
@@ -96,19 +80,25 @@ fn many_turns_answer_as_a_plain_list_does(rt: HostRuntime) -> Result<(), Fail> {
     Ok(())
 }
 
-// A pool may go to another thread where its values may.
+// A pool may go to another thread where its values may, and may be shared where these may.
 fn goes<S: Send>(value: S) -> S {
     value
 }
+
+fn is_shared<S: Sync>(_value: &S) {}
 
 fn pool_goes<T: Send>(pool: Pool<T>) -> Pool<T> {
     goes(pool)
 }
 
+fn pool_is_shared<T: Sync>(pool: &Pool<T>) {
+    is_shared(pool);
+}
+
 #[test]
-fn a_pool_goes_to_another_thread(rt: HostRuntime) -> Result<(), Fail> {
-    let mut pool = pool_goes(Pool::new(rt.alloc(), 1, 1)?);
-    assert_eq!(rt; pool.insert(5), Ok(handle_of(0, 1)));
+fn a_pool_may_cross_threads(rt: HostRuntime) -> Result<(), Fail> {
+    let pool = pool_goes(Pool::<u64>::new(rt.alloc(), 1, 1)?);
+    pool_is_shared(&pool);
     Ok(())
 }
 
@@ -125,13 +115,7 @@ impl Drop for Counted<'_> {
 // The slots end as: in use, retired, empty again, never used.
 #[test]
 fn the_end_of_a_pool_drops_each_live_value_once(rt: HostRuntime) -> Result<(), Fail> {
-    let drops = [
-        Cell::new(0),
-        Cell::new(0),
-        Cell::new(0),
-        Cell::new(0),
-        Cell::new(0),
-    ];
+    let drops = [Cell::new(0), Cell::new(0), Cell::new(0), Cell::new(0)];
     {
         let mut pool = Pool::new(rt.alloc(), 4, 2)?;
         let kept = pool.insert(Counted(&drops[0])).ok().ok_or("full")?;
@@ -145,42 +129,11 @@ fn the_end_of_a_pool_drops_each_live_value_once(rt: HostRuntime) -> Result<(), F
         let second = pool.insert(Counted(&drops[3])).ok().ok_or("full")?;
         drop(pool.remove(second));
         drop(pool.remove(other));
-        assert_eq!(rt; pool.remove(second).is_none(), true);
-        assert_eq!(rt; pool.get(kept).is_some(), true);
-        assert_eq!(rt; (pool.live(), pool.retired()), (1, 1));
+        assert_eq!(rt; pool.is_live(kept), true);
         assert_eq!(rt; drops[0].get(), 0);
     }
-    for count in &drops[..4] {
+    for count in &drops {
         assert_eq!(rt; count.get(), 1);
     }
-
-    // A value that a full pool gives back is dropped by its caller alone, and an end in mid-way drops what is live.
-    {
-        let mut pool = Pool::new(rt.alloc(), 1, 1)?;
-        assert_eq!(rt; pool.insert(Counted(&drops[0])).is_ok(), true);
-        let back = pool.insert(Counted(&drops[4]));
-        assert_eq!(rt; (back.is_err(), drops[4].get()), (true, 0));
-        drop(back);
-        assert_eq!(rt; (drops[0].get(), drops[4].get()), (1, 1));
-    }
-    assert_eq!(rt; (drops[0].get(), drops[4].get()), (2, 1));
-    Ok(())
-}
-
-#[test]
-fn a_value_is_changed_in_place(rt: HostRuntime) -> Result<(), Fail> {
-    let mut pool = Pool::new(rt.alloc(), 2, 2)?;
-    let handle = pool.insert(1).ok().ok_or("full")?;
-    if let Some(value) = pool.get_mut(handle) {
-        *value = 5;
-    }
-    assert_eq!(rt; pool.get(handle).copied(), Some(5));
-    assert_eq!(rt; pool.max(), 2);
-    assert_eq!(rt; pool.generations(), 2);
-    assert_eq!(rt;
-        pool.slot_at(0).map(|found| (found.0, *found.1)),
-        Some((handle, 5))
-    );
-    law_pool::<u32>();
     Ok(())
 }

@@ -2,7 +2,7 @@
 use Rattle.std.proofs.Common.{◌≡◌, ℕ, zero, suc, ◌≤◌, false, List, [], ◌∷◌, ◌++◌, Option, Some, None, refl, sym, ◌∙◌, ap, arith, Bool, true, cond, ◌+◌}
 use Rattle.std.specs.Prelude.{◌==◌}
 use Rattle.mtapi_values.specs.declared.statuses.MtapiStatus.TheVariants.{Timeout, ErrTaskInvalid}
-use Rattle.mtapi_values.specs.declared.ends.TaskEnd.TheVariants.{Failed}
+use Rattle.mtapi_values.specs.declared.ends.TaskEnd.TheVariants.{Failed, Cancelled}
 use Rattle.mtapi_values.specs.Seats.{is_seat}
 use Rattle.mtapi_machine.specs.declared.ops.Op.TheVariants as op
 use Rattle.mtapi_machine.specs.declared.replies.Reply.TheVariants as reply
@@ -17,9 +17,10 @@ use Rattle.mtapi_machine.specs.Worked.{usual, main, first_handle, add_task, task
 use Rattle.history_law.specs.Accepted.{TasksEndOnce}
 use Rattle.history_law.specs.Seats.{OnceListed, Waits, KeepsWaiter, Holds, WorkerKeeps, EndsInTime, KeepsPhase, KeepsRelease, KeepsEarly, AreUntouched, KeepsStops, BySeats, EntersBehindRelease, FinalsBehindStops, KeepsOnce, HasMarks}
 use Rattle.history_law.specs.Refused.{makes_action, too_early, final_first}
-use Rattle.history_law.specs.RefusedRuns.{started, waits, looks_last, takes, ends, ends_late, opens, releases, closes_it, enters_first, by_no_seat, with_tasks, a_task, listed_once, has_looked, has_stopped, RunLawsRefuse, has_no_marks, adding, finishes_it, has_got_both}
+use Rattle.history_law.specs.RefusedRuns.{started, waits, looks_last, takes, ends, ends_late, opens, releases, closes_it, enters_first, by_no_seat, with_tasks, a_task, listed_once, has_looked, has_stopped, RunLawsRefuse, has_no_marks, was_cancelled, adding, finishes_it, has_got_both}
 use Rattle.history_law.proofs.Refused.{not_some, no_end, true_false}
 use Rattle.mtapi_machine.specs.Tables.{h1}
+use Rattle.history_law.specs.Quiet.{EndsPlainly, task_at}
 use Rattle.history_law.specs.Served.{Serves}
 use Rattle.history_law.specs.TallyHolds.{TalliesHold, got_both}
 
@@ -121,6 +122,11 @@ refuses_reply f = differ (f running (refl, refl, refl))
 refuses_no_marks : HasMarks has_no_marks → ⊥
 refuses_no_marks e = omega arith
 
+-- no action is there whose kind might have answered so
+refuses_cancelled : EndsPlainly (with_tasks (listed_once was_cancelled ∷ [])) first_handle → ⊥
+unfolding task_at live_of
+refuses_cancelled f = let x = f was_cancelled Cancelled refl refl in not_some x.1.found
+
 -- the tally's task, and that it has got both
 tally_runs : (t : Task) × (live_object has_got_both.tasks h1 ≡ Some t) × (runs_on 0 t ≡ true) × (got_both t.notes.tally ≡ true)
 unfolding after_from live_of issue change listed issued_at retired is_full may_issue has_worker is_ready can_take has_better
@@ -152,6 +158,7 @@ run_laws_refuse = record {
   room = refuses_no_marks;
   enter = refuses_enter;
   final_step = refuses_stops;
+  quiet_ends = refuses_cancelled;
   tally_mutex = refuses_no_mutex;
   tally_segment = refuses_no_segment;
 }

@@ -2,10 +2,11 @@
 -- moves the phase, or the entry of the seat itself. Some laws refuse a state, or a reply.
 use Rattle.std.specs.Prelude.{true, false, List, [], ◌∷◌, ◌++◌, None, pos, replicate, slice_set}
 use Rattle.mtapi_values.specs.declared.kinds.Kind.TheVariants as kind
+use Rattle.mtapi_values.specs.declared.ends.TaskEnd.TheVariants.{Cancelled}
 use Rattle.mtapi_values.specs.declared.statuses.MtapiStatus.TheVariants.{Timeout, ErrTaskInvalid}
 use Rattle.action_fn.specs.declared.finished.ActEnd.TheVariants.{Fails}
 use Rattle.handle_pool.specs.Issued.{Listed}
-use Rattle.mtapi_objects.specs.Tasks.{Task, new_task, with_notes, no_tally}
+use Rattle.mtapi_objects.specs.Tasks.{Task, Ended, new_task, with_notes, with_state, no_tally}
 use Rattle.mtapi_machine.specs.declared.ops.Op.TheVariants as op
 use Rattle.mtapi_machine.specs.declared.replies.Reply.TheVariants as reply
 use Rattle.history.specs.Histories.{entry}
@@ -16,6 +17,7 @@ use Rattle.history_law.specs.Accepted.{TasksEndOnce}
 use Rattle.history_law.specs.Seats.{OnceListed, KeepsWaiter, WorkerKeeps, EndsInTime, KeepsPhase, KeepsRelease, KeepsEarly, AreUntouched, KeepsStops, BySeats, EntersBehindRelease, FinalsBehindStops, KeepsOnce, Work, HasMarks}
 use Rattle.history_law.specs.Refused.{makes_action, too_early, final_first}
 use Rattle.mtapi_machine.specs.declared.ops.Op.{Op}
+use Rattle.history_law.specs.Quiet.{EndsPlainly}
 use Rattle.history_law.specs.Served.{Serves}
 use Rattle.history_law.specs.TallyHolds.{TalliesHold}
 use Rattle.history_law.specs.WorkedSum.{two_workers, gets_both, begins}
@@ -78,6 +80,10 @@ has_stopped = record (opening usual) { stopped = slice_set (replicate 25 false) 
 abbrev pub has_no_marks : State
 has_no_marks = record (opening usual) { stopped = [] }
 
+-- a state whose task was cancelled
+abbrev pub was_cancelled : Task
+was_cancelled = with_state (Ended Cancelled 0) a_task
+
 -- what the worker has of the task that it took, and the op that finishes it
 abbrev pub adding : Work
 adding = record { kind = kind.Add; args = pos 2 ∷ pos 3 ∷ []; looks = 0; seen = false; tally = no_tally }
@@ -107,5 +113,6 @@ pub record RunLawsRefuse : Type 0 where
   pub room : HasMarks has_no_marks → ⊥
   pub enter : EntersBehindRelease enters_first → ⊥
   pub final_step : FinalsBehindStops usual final_first → ⊥
+  pub quiet_ends : EndsPlainly (with_tasks (listed_once was_cancelled ∷ [])) first_handle → ⊥
   pub tally_mutex : TalliesHold (record has_got_both { mutexes = [] }) → ⊥
   pub tally_segment : TalliesHold (record has_got_both { segments = [] }) → ⊥

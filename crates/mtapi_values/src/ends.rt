@@ -6,7 +6,7 @@ use crate::lists::Args;
 use crate::statuses::MtapiStatus;
 
 /// How a task ended.
-#[derive(Drop)]
+#[derive(Debug, Drop, PartialEq, Eq)]
 pub enum TaskEnd {
     /// Its action answered these numbers.
     Completed(Args),

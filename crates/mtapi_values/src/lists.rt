@@ -2,8 +2,13 @@
 
 ghost use Rattle.std.specs.Prelude.{◌≡◌, ◌<◌, ◌≤◌, ◌↔◌, [], ◌∷◌, ◌++◌, length, IsTrue};
 ghost use Rattle.std.specs.Bool.{OnTrue, OnFalse};
+ghost use Rattle.std.specs.Cmp.Lexicographic.{pointwise};
+ghost use Rattle.std.specs.Cmp.Rules.{comparing};
+ghost use Rattle.std.specs.Ordering.{int_eq};
+ghost use Rattle.std.proofs.Common.{rules};
 
 use arrayvec::ArrayVec;
+use std::fmt;
 use std::marker::Model;
 
 /// A list of at most 16 numbers, held in place: no call takes memory.
@@ -56,5 +61,27 @@ impl Args {
         let mut values = ArrayVec::new();
         let _ = values.try_extend_from_slice(self.values.as_slice());
         Args { values }
+    }
+}
+
+/// Equal where the same numbers stand in the same order.
+impl PartialEq for Args {
+    ghost eq = { pointwise int_eq };
+
+    ghost laws = { Prim.search (comparing, rules) };
+
+    fn eq(&self, other: &Args) -> bool {
+        self.as_slice() == other.as_slice()
+    }
+}
+
+impl Eq for Args {
+    ghost laws = { Prim.search (comparing, rules) };
+}
+
+/// Writes the numbers as a list.
+impl fmt::Debug for Args {
+    fn fmt<W: fmt::Write>(&self, f: &mut fmt::Formatter<W>) -> fmt::Result {
+        fmt::Debug::fmt(&self.as_slice(), f)
     }
 }

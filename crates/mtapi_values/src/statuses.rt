@@ -1,11 +1,14 @@
 //! The statuses of both interfaces, each with its number and its name.
 
 ghost use Rattle.std.specs.Prelude.{◌≡◌, ◌≢◌, ◌↔◌, Option, Some, None, IsNone};
+ghost use Rattle.std.specs.Fmt.{padded};
 ghost use Rattle.mtapi_values.specs.declared.statuses.MtapiStatus.{MtapiStatus};
 ghost use Rattle.mtapi_values.specs.declared.statuses.MrapiStatus.{MrapiStatus};
 ghost use Rattle.mtapi_values.specs.Statuses.{mtapi_number, mtapi_name, mrapi_number, mrapi_name};
 
 use crate::names::{Named, value_named};
+use std::error::Error;
+use std::fmt;
 
 /// What a call of the MTAPI part answers.
 #[derive(Clone, Copy, Debug, Drop, PartialEq, Eq)]
@@ -230,6 +233,19 @@ impl MtapiStatus {
     }
 }
 
+/// Writes the status's name.
+impl fmt::Display for MtapiStatus {
+    ghost output = { λ status. Some (mtapi_name status) };
+
+    ghost styled_output = { λ status spec. Some (padded spec (mtapi_name status)) };
+
+    fn fmt<W: fmt::Write>(&self, f: &mut fmt::Formatter<W>) -> fmt::Result {
+        f.pad(self.name())
+    }
+}
+
+impl Error for MtapiStatus {}
+
 impl Named for MtapiStatus {
     ghost named = { mtapi_name };
 
@@ -334,6 +350,19 @@ impl MrapiStatus {
         value_named(&ALL_MRAPI, text)
     }
 }
+
+/// Writes the status's name.
+impl fmt::Display for MrapiStatus {
+    ghost output = { λ status. Some (mrapi_name status) };
+
+    ghost styled_output = { λ status spec. Some (padded spec (mrapi_name status)) };
+
+    fn fmt<W: fmt::Write>(&self, f: &mut fmt::Formatter<W>) -> fmt::Result {
+        f.pad(self.name())
+    }
+}
+
+impl Error for MrapiStatus {}
 
 impl Named for MrapiStatus {
     ghost named = { mrapi_name };

@@ -1,25 +1,9 @@
-//! Every number and name, and every range at both ends and one past them.
+//! The tables of statuses and attributes: every number and name, and every range at both ends and one past them.
 
 use crate::{
-    ActionAttr, Args, Kind, Look, Mask, MrapiStatus, MtapiStatus, MutexAttr, NodeAttr, ObjectKind,
-    QueueAttr, TaskAttr, TaskEnd, Timeout, inner, outer,
+    ActionAttr, Args, Look, MrapiStatus, MtapiStatus, MutexAttr, NodeAttr, QueueAttr, TaskAttr,
+    TaskEnd,
 };
-
-/// Whether the status has this number and this name, by which it is found, and which the other table lacks.
-fn mtapi_goes_by(status: MtapiStatus, number: u32, name: &str) -> bool {
-    status.number() == number
-        && status.name() == name
-        && MtapiStatus::from_name(name) == Some(status)
-        && MrapiStatus::from_name(name).is_none()
-}
-
-/// The same of the other table.
-fn mrapi_goes_by(status: MrapiStatus, number: u32, name: &str) -> bool {
-    status.number() == number
-        && status.name() == name
-        && MrapiStatus::from_name(name) == Some(status)
-        && MtapiStatus::from_name(name).is_none()
-}
 
 #[test]
 fn mtapi_statuses_have_their_numbers_and_names(rt: HostRuntime) {
@@ -71,7 +55,11 @@ fn mtapi_statuses_have_their_numbers_and_names(rt: HostRuntime) {
         (MtapiStatus::ErrSpent, 29, "MTAPI_ERR_SPENT"),
     ];
     for (status, number, name) in mtapi {
-        assert!(rt; mtapi_goes_by(status, number, name), "at {number}");
+        assert!(rt;
+            status.number() == number && status.name() == name,
+            "at {number}"
+        );
+        assert!(rt; MtapiStatus::from_name(name) == Some(status), "at {number}");
     }
 }
 
@@ -127,126 +115,41 @@ fn mrapi_statuses_have_their_numbers_and_names(rt: HostRuntime) {
         (MrapiStatus::ErrSemLimit, 30, "MRAPI_ERR_SEM_LIMIT"),
     ];
     for (status, number, name) in mrapi {
-        assert!(rt; mrapi_goes_by(status, number, name), "at {number}");
+        assert!(rt;
+            status.number() == number && status.name() == name,
+            "at {number}"
+        );
+        assert!(rt; MrapiStatus::from_name(name) == Some(status), "at {number}");
     }
 }
 
-#[test]
-fn other_texts_are_no_names(rt: HostRuntime) {
-    for text in [
-        "",
-        "MTAPI_",
-        "mtapi_timeout",
-        "MTAPI_TIMEOUT ",
-        " MTAPI_TIMEOUT",
-        "MTAPI_TIMEOU",
-        "ErrTaskLimit",
-        "15",
-    ] {
-        assert!(rt; MtapiStatus::from_name(text).is_none());
-        assert!(rt; MrapiStatus::from_name(text).is_none());
+/// The attributes of one of the five types.
+#[derive(Clone, Copy, Drop)]
+enum Attributes {
+    Node(NodeAttr),
+    Action(ActionAttr),
+    Task(TaskAttr),
+    Queue(QueueAttr),
+    Mutex(MutexAttr),
+}
+
+fn set(attributes: &mut Attributes, number: u32, value: u64) -> Result<(), MtapiStatus> {
+    match attributes {
+        Attributes::Node(node) => node.set(number, value),
+        Attributes::Action(action) => action.set(number, value),
+        Attributes::Task(task) => task.set(number, value),
+        Attributes::Queue(queue) => queue.set(number, value),
+        Attributes::Mutex(mutex) => mutex.set(number, value),
     }
 }
 
-#[test]
-fn kinds_have_their_words(rt: HostRuntime) {
-    let kinds = [
-        (Kind::Add, "add"),
-        (Kind::Mul, "mul"),
-        (Kind::Max, "max"),
-        (Kind::Div, "div"),
-        (Kind::Gcd, "gcd"),
-        (Kind::Echo, "echo"),
-        (Kind::Triangle, "triangle"),
-        (Kind::Fail, "fail"),
-        (Kind::Watch, "watch"),
-        (Kind::Tally, "tally"),
-    ];
-    for (kind, word) in kinds {
-        assert!(rt; kind.word() == word && Kind::from_word(word) == Some(kind));
-    }
-    for text in ["", "Add", "ad", "adds", "tallies"] {
-        assert!(rt; Kind::from_word(text).is_none());
-    }
-}
-
-#[test]
-fn handles_name_their_kinds(rt: HostRuntime) {
-    // Generation 3, slot 5.
-    let handle = 12_884_901_893;
-    let rows = [
-        (ObjectKind::Action, 1, 12_901_679_109),
-        (ObjectKind::Task, 2, 12_918_456_325),
-        (ObjectKind::Group, 3, 12_935_233_541),
-        (ObjectKind::Queue, 4, 12_952_010_757),
-        (ObjectKind::Mutex, 5, 12_968_787_973),
-        (ObjectKind::Sem, 6, 12_985_565_189),
-        (ObjectKind::Rwl, 7, 13_002_342_405),
-        (ObjectKind::Shmem, 8, 13_019_119_621),
-    ];
-    for (kind, number, seen) in rows {
-        assert_eq!(rt; kind.number(), number);
-        assert_eq!(rt; outer(kind, handle), seen);
-        assert_eq!(rt; inner(kind, seen), Some(handle));
-    }
-    assert_eq!(rt; inner(ObjectKind::Group, 12_918_456_325), None);
-    assert_eq!(rt; inner(ObjectKind::Action, handle), None);
-}
-
-/// What the five attribute types have in common.
-trait Attributes {
-    fn set(&mut self, number: u32, value: u64) -> Result<(), MtapiStatus>;
-
-    fn get(&self, number: u32) -> Result<u64, MtapiStatus>;
-}
-
-impl Attributes for NodeAttr {
-    fn set(&mut self, number: u32, value: u64) -> Result<(), MtapiStatus> {
-        NodeAttr::set(self, number, value)
-    }
-
-    fn get(&self, number: u32) -> Result<u64, MtapiStatus> {
-        NodeAttr::get(self, number)
-    }
-}
-
-impl Attributes for ActionAttr {
-    fn set(&mut self, number: u32, value: u64) -> Result<(), MtapiStatus> {
-        ActionAttr::set(self, number, value)
-    }
-
-    fn get(&self, number: u32) -> Result<u64, MtapiStatus> {
-        ActionAttr::get(self, number)
-    }
-}
-
-impl Attributes for TaskAttr {
-    fn set(&mut self, number: u32, value: u64) -> Result<(), MtapiStatus> {
-        TaskAttr::set(self, number, value)
-    }
-
-    fn get(&self, number: u32) -> Result<u64, MtapiStatus> {
-        TaskAttr::get(self, number)
-    }
-}
-
-impl Attributes for QueueAttr {
-    fn set(&mut self, number: u32, value: u64) -> Result<(), MtapiStatus> {
-        QueueAttr::set(self, number, value)
-    }
-
-    fn get(&self, number: u32) -> Result<u64, MtapiStatus> {
-        QueueAttr::get(self, number)
-    }
-}
-
-impl Attributes for MutexAttr {
-    fn set(&mut self, number: u32, value: u64) -> Result<(), MtapiStatus> {
-        MutexAttr::set(self, number, value)
-    }
-
-    fn get(&self, number: u32) -> Result<u64, MtapiStatus> {
-        MutexAttr::get(self, number)
+fn get(attributes: &Attributes, number: u32) -> Result<u64, MtapiStatus> {
+    match attributes {
+        Attributes::Node(node) => node.get(number),
+        Attributes::Action(action) => action.get(number),
+        Attributes::Task(task) => task.get(number),
+        Attributes::Queue(queue) => queue.get(number),
+        Attributes::Mutex(mutex) => mutex.get(number),
     }
 }
 
@@ -272,17 +175,17 @@ fn fixed(default: u64) -> Row {
 }
 
 /// The first attribute, counted from 1, that does not go by its row, or the number after the last where that one isn't unknown.
-fn first_wrong<A: Attributes>(attr: &mut A, rows: &[Row]) -> Option<u32> {
+fn first_wrong(mut attributes: Attributes, rows: &[Row]) -> Option<u32> {
     let mut number = 1;
     for row in rows {
-        if !goes_by(attr, number, *row) {
+        if !goes_by(&mut attributes, number, *row) {
             return Some(number);
         }
         number = number.saturating_add(1);
     }
     for other in [0, number, u32::MAX] {
-        if attr.get(other) != Err(MtapiStatus::ErrAttrNum)
-            || attr.set(other, 1) != Err(MtapiStatus::ErrAttrNum)
+        if get(&attributes, other) != Err(MtapiStatus::ErrAttrNum)
+            || set(&mut attributes, other, 1) != Err(MtapiStatus::ErrAttrNum)
         {
             return Some(other);
         }
@@ -293,33 +196,33 @@ fn first_wrong<A: Attributes>(attr: &mut A, rows: &[Row]) -> Option<u32> {
 /// A number that is this much above another has the same lower 32 bits.
 const PAST_32_BITS: u64 = 4294967296;
 
-fn goes_by<A: Attributes>(attr: &mut A, number: u32, row: Row) -> bool {
-    let begins = attr.get(number) == Ok(row.default);
+fn goes_by(attributes: &mut Attributes, number: u32, row: Row) -> bool {
+    let begins = get(attributes, number) == Ok(row.default);
     let Some((least, greatest)) = row.range else {
         return begins
-            && attr.set(number, row.default) == Err(MtapiStatus::ErrAttrReadonly)
-            && attr.set(number, 1) == Err(MtapiStatus::ErrAttrReadonly)
-            && attr.get(number) == Ok(row.default);
+            && set(attributes, number, row.default) == Err(MtapiStatus::ErrAttrReadonly)
+            && set(attributes, number, 1) == Err(MtapiStatus::ErrAttrReadonly)
+            && get(attributes, number) == Ok(row.default);
     };
     begins
-        && takes(attr, number, least)
-        && keeps(attr, number, greatest.checked_add(1))
-        && keeps(attr, number, greatest.checked_add(PAST_32_BITS))
-        && takes(attr, number, greatest)
-        && keeps(attr, number, least.checked_sub(1))
+        && takes(attributes, number, least)
+        && keeps(attributes, number, greatest.checked_add(1))
+        && keeps(attributes, number, greatest.checked_add(PAST_32_BITS))
+        && takes(attributes, number, greatest)
+        && keeps(attributes, number, least.checked_sub(1))
 }
 
 /// Whether this value is taken.
-fn takes<A: Attributes>(attr: &mut A, number: u32, value: u64) -> bool {
-    attr.set(number, value) == Ok(()) && attr.get(number) == Ok(value)
+fn takes(attributes: &mut Attributes, number: u32, value: u64) -> bool {
+    set(attributes, number, value) == Ok(()) && get(attributes, number) == Ok(value)
 }
 
 /// Whether this value, where there is one, is refused and the one before stays.
-fn keeps<A: Attributes>(attr: &mut A, number: u32, value: Option<u64>) -> bool {
-    let before = attr.get(number);
+fn keeps(attributes: &mut Attributes, number: u32, value: Option<u64>) -> bool {
+    let before = get(attributes, number);
     match value {
-        Some(value) => attr.set(number, value) == Err(MtapiStatus::ErrParameter)
-            && attr.get(number) == before,
+        Some(value) => set(attributes, number, value) == Err(MtapiStatus::ErrParameter)
+            && get(attributes, number) == before,
         None => true,
     }
 }
@@ -336,16 +239,19 @@ fn attributes_keep_their_ranges(rt: HostRuntime) {
         ranged(4, 1, 8),
         ranged(4294967295, 1, 4294967295),
     ];
-    assert_eq!(rt; first_wrong(&mut NodeAttr::new(), &node), None);
+    assert_eq!(rt; first_wrong(Attributes::Node(NodeAttr::new()), &node), None);
     let action = [fixed(0), ranged(u64::MAX, 0, u64::MAX), fixed(0)];
-    assert_eq!(rt; first_wrong(&mut ActionAttr::new(), &action), None);
+    assert_eq!(rt;
+        first_wrong(Attributes::Action(ActionAttr::new()), &action),
+        None
+    );
     let task = [
         ranged(0, 0, 1),
         ranged(1, 1, 1),
         ranged(0, 0, 7),
         ranged(u64::MAX, 0, u64::MAX),
     ];
-    assert_eq!(rt; first_wrong(&mut TaskAttr::new(), &task), None);
+    assert_eq!(rt; first_wrong(Attributes::Task(TaskAttr::new()), &task), None);
     let queue = [
         fixed(0),
         ranged(0, 0, 7),
@@ -354,100 +260,14 @@ fn attributes_keep_their_ranges(rt: HostRuntime) {
         ranged(0, 0, 1),
         fixed(0),
     ];
-    assert_eq!(rt; first_wrong(&mut QueueAttr::new(), &queue), None);
     assert_eq!(rt;
-        first_wrong(&mut MutexAttr::new(), &[ranged(0, 0, 1)]),
+        first_wrong(Attributes::Queue(QueueAttr::new()), &queue),
         None
     );
-}
-
-#[test]
-fn readers_give_the_defaults(rt: HostRuntime) {
-    let node = NodeAttr::new();
     assert_eq!(rt;
-        (node.workers(), node.tasks(), node.actions(), node.groups()),
-        (1, 1024, 64, 128)
+        first_wrong(Attributes::Mutex(MutexAttr::new()), &[ranged(0, 0, 1)]),
+        None
     );
-    assert_eq!(rt;
-        (
-            node.queues(),
-            node.objects(),
-            node.priorities(),
-            node.generations()
-        ),
-        (16, 16, 4, 4294967295)
-    );
-    let action = ActionAttr::new();
-    assert_eq!(rt;
-        (action.global(), action.affinity(), action.domain_shared()),
-        (false, Mask(u64::MAX), false)
-    );
-    let task = TaskAttr::new();
-    assert_eq!(rt;
-        (
-            task.detached(),
-            task.instances(),
-            task.priority(),
-            task.affinity()
-        ),
-        (false, 1, 0, Mask(u64::MAX))
-    );
-    let queue = QueueAttr::new();
-    assert_eq!(rt;
-        (queue.global(), queue.priority(), queue.limit()),
-        (false, 0, 65536)
-    );
-    assert_eq!(rt;
-        (queue.ordered(), queue.retain(), queue.domain_shared()),
-        (false, false, false)
-    );
-    assert!(rt; !MutexAttr::new().recursive());
-}
-
-#[test]
-fn masks_hold_the_cores_0_to_63(rt: HostRuntime) {
-    let mut mask = Mask::init(false);
-    assert_eq!(rt; mask, Mask(0));
-    assert_eq!(rt; Mask::init(true), Mask(u64::MAX));
-    assert_eq!(rt; mask.set(63, true), Ok(()));
-    assert_eq!(rt; mask.set(0, true), Ok(()));
-    assert_eq!(rt; mask, Mask(9223372036854775809));
-    assert_eq!(rt;
-        (mask.get(0), mask.get(1), mask.get(63)),
-        (Ok(true), Ok(false), Ok(true))
-    );
-    assert_eq!(rt; mask.set(63, false), Ok(()));
-    assert_eq!(rt; mask, Mask(1));
-    assert_eq!(rt; mask.set(64, true), Err(MtapiStatus::ErrCoreNum));
-    assert_eq!(rt; mask.get(64), Err(MtapiStatus::ErrCoreNum));
-    assert_eq!(rt; mask.get(u32::MAX), Err(MtapiStatus::ErrCoreNum));
-    assert_eq!(rt; mask, Mask(1));
-}
-
-#[test]
-fn lists_hold_16_numbers(rt: HostRuntime) {
-    let mut args = Args::new();
-    for value in 0..16 {
-        assert!(rt; args.push(value));
-    }
-    assert!(rt; !args.push(16));
-    assert_eq!(rt;
-        args.as_slice(),
-        [0, 1, 2, 3, 4, 5, 6, 7, 8, 9, 10, 11, 12, 13, 14, 15].as_slice()
-    );
-    match TaskEnd::Completed(args.again()).again() {
-        TaskEnd::Completed(equal) => assert_eq!(rt; equal.as_slice(), args.as_slice()),
-        TaskEnd::Cancelled | TaskEnd::Failed(_) => assert!(rt; false),
-    }
-}
-
-#[test]
-fn timeouts_allow_their_looks(rt: HostRuntime) {
-    assert_eq!(rt; Timeout::NoWait.looks(), Some(1));
-    assert_eq!(rt; Timeout::Looks(0).looks(), Some(1));
-    assert_eq!(rt; Timeout::Looks(u32::MAX).looks(), Some(4294967296));
-    assert_eq!(rt; Timeout::Infinite.looks(), None);
-    assert_eq!(rt; Look::Got(3), Look::Got(3));
 }
 
 /// Takes what may go to other threads and be shared by them.

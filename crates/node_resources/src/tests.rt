@@ -6,8 +6,6 @@ use mtapi_machine::{Op, Phase, Reply};
 use mtapi_values::{MrapiStatus, MutexHandle, RwlHandle, SemHandle, ShmemHandle};
 use std::test::Fail;
 
-const WORKER: u32 = 1;
-
 const MAIN: u32 = 2;
 
 /// How many ops there are: five of each kind, and seven of segments.
@@ -79,10 +77,8 @@ fn with_room_for_one(rt: HostRuntime) -> Result<Resources, Fail> {
     Ok(Resources::init(rt.alloc(), settings)?)
 }
 
-// The handle under which the first object of a kind stands, and then the second one.
+// The handle under which the first object of a kind stands.
 const FIRST: u64 = 0x1_0000_0000;
-
-const SECOND: u64 = 0x2_0000_0000;
 
 // The kind of an op, by its place in this table.
 fn kind_of(op: u32) -> usize
@@ -151,25 +147,6 @@ fn a_handle_that_names_nothing_is_invalid_in_every_op(rt: HostRuntime) -> Result
                 let got = ask(&mut resources, gate(phase), MAIN, op, handle);
                 assert!(rt; is_status(&got, want));
             }
-        }
-    }
-    Ok(())
-}
-
-#[test]
-fn a_phase_comes_first_and_then_the_seat(rt: HostRuntime) -> Result<(), Fail> {
-    let mut resources = with_room_for_one(rt)?;
-    second_objects(&mut resources);
-    for phase in PHASES {
-        for op in 0..OPS {
-            let want = if is_carried_out(op, phase) {
-                MrapiStatus::ErrParameter
-            } else {
-                MrapiStatus::ErrNodeNotinit
-            };
-            let handle = SECOND;
-            let got = ask(&mut resources, gate(phase), WORKER, op, handle);
-            assert!(rt; is_status(&got, want));
         }
     }
     Ok(())

@@ -89,9 +89,9 @@ impl ReadyIndex {
     }
 
     /// The least priority of the marks for this worker, and a slot that has such a mark;
-    /// none exactly where no mark is for it. At most three words are read for each priority, by
-    /// the caller's counter. Reads on a counter that a body made for itself, as `first_for` does,
-    /// aren't bounded.
+    /// none exactly where no mark is for it. The steps bind reads of the words of bitmaps alone: at most
+    /// three are read for each priority by the caller's counter. Any other work, and reads on a
+    /// counter that a body made for itself, as `first_for` does, aren't bounded.
     pub fn first<L: Ledger>(&self, worker: u32, steps: &mut Steps<L>) -> Option<(u32, u32)>
         requires { worker < self.now.workers }
         ensures none { IsNone result ↔ HasNoneFor worker self.now.marks }
