@@ -1,7 +1,7 @@
 //! A source read whole.
 
-ghost use Rattle.std.specs.Prelude.{◌≡◌, ◌≤◌, ◌<◌, ◌^◌, length, IfOk, OnOk, IfSome, IsErrOf};
-ghost use Rattle.byte_io.specs.Causes.{Rose, ReadsWhole};
+ghost use Rattle.std.specs.Prelude.{◌≡◌, ◌≤◌, ◌<◌, ◌^◌, ◌+◌, length, IfOk, OnOk, IfSome, IsErrOf};
+ghost use Rattle.byte_io.specs.Causes.{Rose, ReadsWhole, TakesAtMost};
 
 use crate::{Failed, Source};
 use std::alloc::{AllocError, Global};
@@ -59,9 +59,12 @@ pub fn read_all<S: Source>(
     // Where the source tells its bytes, they decide between Ok and TooLong, however the reads cut them.
     ensures whole { IfSome (S.left src.old) (λ bytes. ReadsWhole limit bytes (S.left src.new) result) }
     ensures bound { IfOk result (λ bytes. length bytes.items ≤ limit) }
-    // An answer other than Read and Memory comes without a fault.
+    // An answer other than Read comes without a fault.
     ensures clean { OnOk result (S.faults src.new ≡ S.faults src.old) }
     ensures clean_long { IsErrOf result ReadAllError.TooLong → S.faults src.new ≡ S.faults src.old }
+    ensures clean_memory { IsErrOf result ReadAllError.Memory → S.faults src.new ≡ S.faults src.old }
+    // Whatever the answer is, no more is taken than a byte past the limit.
+    ensures taken { TakesAtMost (limit + 1) (S.left src.old) (S.left src.new) }
     ensures later { S.faults src.old ≤ S.faults src.new }
     ensures cause { IsErrOf result ReadAllError.Read → Rose (S.faults src.old) (S.faults src.new) }
 {

@@ -1,7 +1,7 @@
 //! Journals as texts.
 ghost use Rattle.std.specs.Prelude.{◌≡◌, ◌<◌, ◌≤◌, ◌^◌, ◌++◌, ◌∷◌, [], Ok, Err, length, OnOk, IfOk, IfSome, IsErrOf};
 ghost use Rattle.number_text.specs.Lists.{between};
-ghost use Rattle.byte_io.specs.Causes.{Rose};
+ghost use Rattle.byte_io.specs.Causes.{Rose, TakesAtMost};
 ghost use Rattle.journal_text.specs.Heads.{head_of};
 ghost use Rattle.mtapi_values.specs.Attributes.{AreNodeSettings};
 ghost use Rattle.journal_text.specs.Fits.{PartsFit, AllPartsFit, IsWritable};
@@ -213,8 +213,10 @@ fn journal_of(alloc: Global, bytes: &[u8]) -> Result<Journal, TextError>
 pub fn read_journal<S: Source>(alloc: Global, src: &mut S) -> Result<Journal, JournalError>
     ensures exact { IfSome (S.left src.old) (λ bytes. Loads bytes (S.left src.new) result) }
     ensures same { IfSome (S.left src.old) (λ bytes. IfOk result (λ j. journal_text j ≡ bytes)) }
-    // An answer other than Read and Memory comes without a fault.
     ensures clean { HoldsBut (ReadsClean (S.faults src.old) (S.faults src.new) (S.left src.old) (S.left src.new)) result }
+    // Whatever the answer is, at most one byte past the limit is taken; and only a failed read is a fault.
+    ensures taken { TakesAtMost 67108865 (S.left src.old) (S.left src.new) }
+    ensures faultless { (IsErrOf result JournalError.Read → ⊥) → S.faults src.new ≡ S.faults src.old }
     ensures later { S.faults src.old ≤ S.faults src.new }
     ensures read { IsErrOf result JournalError.Read → Rose (S.faults src.old) (S.faults src.new) }
 {

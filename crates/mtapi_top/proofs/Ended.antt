@@ -2,6 +2,7 @@
 use Rattle.std.proofs.Common.{◌≡◌, ◌⊎◌, ℕ, true, false, List, Option, Some, None, refl, sym, subst, ◌∙◌, inl, inr}
 use Rattle.std.specs.Prelude.{IfSome, is_some}
 use Rattle.std.specs.Io.KnownBytes.{IsAtEnd}
+use Rattle.byte_io.specs.Causes.{TakesAtMost}
 use Rattle.workload_file.specs.Loading.{ReadsClean}
 use Rattle.journal_text.specs.Journals.{ReadsClean as ReadsInput, journal_text}
 use Rattle.node_core.specs.declared.entries.Journal.{Journal}
@@ -65,27 +66,47 @@ module _ (words : Option Asked) (a b : Streams) (e : End) (outcome : Outcome) wh
     told = t.1;
   }
 
+-- What holds but with a status that no message names a line of
+
+named_is_three : (e : End) → has_line e ≡ true → status_of e ≡ 3
+named_is_three (end.Refused line cause) l = refl
+named_is_three (end.JournalLine line) l = refl
+named_is_three _ l = absurd (cc)
+
+module _ (k : ℕ) (other : 3 ≡ k → ⊥) (P : Type 0) (e : End) (f f' : ℕ) (p p' : Option (List ℕ)) (outcome : Outcome) where
+  pub told_but : ((status_of e ≡ k → ⊥) → P) → Told e f f' p p' outcome → (outcome.status ≡ k → ⊥) → P
+  told_but holds (inl t) n = holds (λ q. n (t.status ∙ q))
+  told_but holds (inr t) n = holds (λ q. other (sym (named_is_three e t.0) ∙ q))
+
 -- What was read
 
 module _ (words : Option Asked) (old new : Option (List ℕ)) (before now : ℕ) (e : End) (f f' : ℕ) (p p' : Option (List ℕ)) (outcome : Outcome) where
   pub run_read : judges words ≡ false → (reads words ≡ false → (new ≡ old) × (now ≡ before))
       → (reads words ≡ true → IsPastReading (status_of e) → ReadsClean before now old new)
       → (reads words ≡ true → IfSome (journal_of e) (λ j. IfSome old (λ bytes. IsAtEnd new)))
+      → (reads words ≡ true → TakesAtMost 1048577 old new) → ((status_of e ≡ 4 → ⊥) → now ≡ before)
       → Told e f f' p p' outcome → IsReadFor words old new before now outcome.status outcome.journal
-  run_read j unread clean whole t = record {
+  run_read j unread clean whole taken faultless t = record {
     unread = λ r k. unread r;
     clean = λ r. told_status (λ (n : ℕ). IsPastReading n → ReadsClean before now old new) e f f' p p' outcome (clean r) (λ past. absurd (past.1 refl)) t;
     whole = λ r. told_journal (λ (x : Option Journal). IfSome x (λ j. IfSome old (λ bytes. IsAtEnd new))) e f f' p p' outcome (whole r) tt t;
     input = λ k. absurd (judges_one words j k);
+    few = taken;
+    few_judged = λ k. absurd (judges_one words j k);
+    faultless = told_but 4 (λ q. cc) (now ≡ before) e f f' p p' outcome faultless t;
   }
 
   pub check_read : judges words ≡ true → (IsPastReading (status_of e) → ReadsInput before now old new)
+      → TakesAtMost 67108865 old new → ((status_of e ≡ 4 → ⊥) → now ≡ before)
       → Told e f f' p p' outcome → IsReadFor words old new before now outcome.status outcome.journal
-  check_read j clean t = record {
+  check_read j clean taken faultless t = record {
     unread = λ r k. absurd (judges_one words k j);
     clean = λ r. absurd (not_both words r j);
     whole = λ r. absurd (not_both words r j);
     input = λ k. told_status (λ (n : ℕ). IsPastReading n → ReadsInput before now old new) e f f' p p' outcome clean (λ past. absurd (past.1 refl)) t;
+    few = λ r. absurd (not_both words r j);
+    few_judged = λ k. taken;
+    faultless = told_but 4 (λ q. cc) (now ≡ before) e f f' p p' outcome faultless t;
   }
 
 -- What holds where nothing was started

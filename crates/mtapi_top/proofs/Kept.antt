@@ -1,20 +1,29 @@
--- The journal of a run, written and read again, is judged yes.
-use Rattle.std.proofs.Common.{◌≡◌, ℕ, ◌≤◌, List, length, refl}
+-- The journal of a run can be written, and is judged yes.
+use Rattle.std.proofs.Common.{◌≡◌, ℕ, ◌≤◌, ◌+◌, List, [], ◌∷◌, length, refl, sym, ap, subst, arith}
 use Rattle.std.specs.Prelude.{Ok}
+use Rattle.std.specs.List.{AllByRecursion}
+use Rattle.mtapi_values.specs.declared.handles.Layout.{Layout}
+use Rattle.mtapi_values.specs.declared.handles.Layout.TheVariants.{Two}
 use Rattle.workload_file.specs.declared.workload.Workload.{Workload}
+use Rattle.workload_file.specs.Formed.{WellFormed}
 use Rattle.workload_file.specs.Reading.{workload_of}
+use Rattle.mtapi_machine.specs.State.{opening}
+use Rattle.mtapi_machine.specs.Legal.{NodeEntry}
+use Rattle.history_law.specs.Seats.{BySeats}
+use Rattle.history_law.proofs.Bounds.{by_seats}
 use Rattle.node_core.specs.declared.entries.Journal.{Journal}
-use Rattle.journal_text.specs.Fits.{JournalFits}
-use Rattle.journal_text.specs.Journals.{journal_text, journal_of}
-use Rattle.journal_text.proofs.JournalsAgain.{text_again}
+use Rattle.journal_text.specs.declared.heads.Head.{Head}
+use Rattle.journal_text.specs.Fits.{HasPlace, IsWritable}
+use Rattle.journal_text.specs.Lines.{has_words}
+use Rattle.journal_text.specs.Journals.{journal_text, journal_of, head_for}
 use Rattle.journal_check.specs.declared.verdicts.Verdict.TheVariants.{Yes, Illegal, NotRun}
 use Rattle.journal_check.specs.Verdicts.{IsVerdict, IsLegal, terms_of}
 use Rattle.journal_check.proofs.Prefixes.{legal_front}
-use Rattle.sched_threads.specs.Runs.{IsRun}
+use Rattle.sched_threads.specs.Runs.{IsRun, terms_for}
 use Rattle.mtapi_top.specs.Check.{IsSplit, IsInput}
-use Rattle.mtapi_top.proofs.Carried.{told_legal}
+use Rattle.mtapi_top.proofs.Carried.{has_part, told_legal}
 
-judged_yes : (load : Workload) (j : Journal) → IsRun load j → IsVerdict load j Yes
+pub judged_yes : (load : Workload) (j : Journal) → IsRun load j → IsVerdict load j Yes
 judged_yes load j r =
     let legal : IsLegal j = told_legal load j r in
     record {
@@ -23,9 +32,23 @@ judged_yes load j r =
       not_run = (λ q. absurd (cc), λ p. absurd (p.1 (record { settings = r.settings; callers = r.callers; run = r.run })));
     }
 
-pub kept_again : (load : Workload) (j : Journal) → IsRun load j → JournalFits j → (journal_of (journal_text j) ≡ Ok j) × IsVerdict load j Yes
-kept_again load j r f = (text_again j f, judged_yes load j r)
+-- entries by seats have their places in text 2
+all_placed : (head : Head) (es : List NodeEntry) → head.layout ≡ Two → BySeats (head.settings.workers + head.callers) es → AllByRecursion (HasPlace head) es
+all_placed head [] l b = tt
+all_placed head (e ∷ es) l b = (record { seat = b.0; words = ap (λ (x : Layout). has_words x e) l }, all_placed head es l b.1)
+
+seats_are : (load : Workload) (j : Journal) → IsRun load j → BySeats (j.settings.workers + j.callers) j.entries.entries
+seats_are load j r =
+    subst (λ (n : ℕ). BySeats (j.settings.workers + n) j.entries.entries) (sym r.callers)
+    (subst (λ x. BySeats (x.workers + length load.parts) j.entries.entries) (sym r.settings) (by_seats (opening (terms_for load)) j.entries.entries r.legal.from))
+
+pub writable : (load : Workload) (j : Journal) → WellFormed load → IsRun load j → IsWritable j
+writable load j f r =
+    let some = has_part load f in
+    let few = f.count in
+    let same = r.callers in
+    record { some = omega (arith, some, same); few = omega (arith, few, same); places = all_placed (head_for j) j.entries.entries r.layout (seats_are load j r) }
 
 pub kept_input : (bytes front : List ℕ) (load : Workload) (j : Journal) → length bytes ≤ 67108864 → IsSplit bytes front (journal_text j)
-    → length front ≤ 1048576 → workload_of front ≡ Ok load → JournalFits j → IsInput bytes load j
-kept_input bytes front load j short split few same f = (short, record { front = front; rest = journal_text j; split = split; holds = (few, same, text_again j f) })
+    → length front ≤ 1048576 → workload_of front ≡ Ok load → journal_of (journal_text j) ≡ Ok j → IsInput bytes load j
+kept_input bytes front load j short split few same again = (short, record { front = front; rest = journal_text j; split = split; holds = (few, same, again) })

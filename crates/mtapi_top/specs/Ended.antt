@@ -1,6 +1,7 @@
 -- How the command ended: one relation between its words, what stood outside it before and after, and what it answered.
 use Rattle.std.specs.Prelude.{◌≡◌, ◌⊎◌, ℕ, List, Bool, true, false, Option, IfSome}
 use Rattle.std.specs.Io.KnownBytes.{IsAtEnd}
+use Rattle.byte_io.specs.Causes.{TakesAtMost}
 use Rattle.workload_file.specs.Loading.{ReadsClean}
 use Rattle.node_core.specs.declared.entries.Journal.{Journal}
 use Rattle.journal_text.specs.Journals.{ReadsClean as ReadsInput}
@@ -35,13 +36,16 @@ abbrev pub IsPastReading : ℕ → Type 0
 IsPastReading status = (status ≡ 4 → ⊥) × (status ≡ 6 → ⊥)
 
 -- What was read, where the command ends with this status. Words that ask for no workload and for no journal to be judged read nothing. With
--- the other ones, and each status but those of a failed read and of want of memory, the source counted no fault and gave at most one byte
--- past the limit; and it was read to its end where a run came back.
+-- the other ones the source gave at most one byte past the limit, and but for the status of a failed read it counted no fault. But for
+-- that and want of memory it was read to its end, or to that byte; and to its end where a run came back.
 pub record IsReadFor (words : Option Asked) (old new : Option (List ℕ)) (before now : ℕ) (status : ℕ) (journal : Option Journal) : Type 0 where
   pub unread : reads words ≡ false → judges words ≡ false → (new ≡ old) × (now ≡ before)
   pub clean : reads words ≡ true → IsPastReading status → ReadsClean before now old new
   pub whole : reads words ≡ true → IfSome journal (λ j. IfSome old (λ bytes. IsAtEnd new))
   pub input : judges words ≡ true → IsPastReading status → ReadsInput before now old new
+  pub few : reads words ≡ true → TakesAtMost 1048577 old new
+  pub few_judged : judges words ≡ true → TakesAtMost 67108865 old new
+  pub faultless : (status ≡ 4 → ⊥) → now ≡ before
 
 -- the statuses with which no run was begun: of words that are none of the command, of a refused text and of a failed read
 abbrev pub StartsNothing : ℕ → Type 0

@@ -8,6 +8,7 @@ use Rattle.sched_threads.specs.Runs.{IsRun}
 use Rattle.run_report.specs.Report.{report}
 use Rattle.run_report.specs.Summary.{summary}
 use Rattle.journal_text.specs.Journals.{journal_text}
+use Rattle.journal_text.specs.Journals.{journal_of as journal_read}
 use Rattle.mtapi_top.specs.declared.words.Asked.{Asked}
 use Rattle.mtapi_top.specs.declared.words.Asked.TheVariants as asks
 use Rattle.mtapi_top.specs.Generated.{generated}
@@ -34,6 +35,11 @@ output asks.Check load j = []
 abbrev pub IsTextTwo : List ℕ → Type 0
 IsTextTwo text = (rest : List ℕ) × (text ≡ codes "mtapi-journal 2 " ++ rest)
 
+-- where its text is part of the output, that text is read again as the same journal
+abbrev pub IsReadAgain : Asked → Journal → Type 0
+IsReadAgain asks.Journal j = journal_read (journal_text j) ≡ Ok j
+IsReadAgain _ j = Unit {0}
+
 -- The journal is that of a run of the workload that was asked for, and P holds of the output of that run.
 pub record Ran (words : Option Asked) (bytes : Option (List ℕ)) (j : Journal) (P : List ℕ → Type 0) : Type 0 where
   pub asked : Asked
@@ -42,4 +48,5 @@ pub record Ran (words : Option Asked) (bytes : Option (List ℕ)) (j : Journal) 
   pub is : IsLoadOf asked bytes load
   pub formed : WellFormed load
   pub is_run : IsRun load j
+  pub again : IsReadAgain asked j
   pub written : P (output asked load j)

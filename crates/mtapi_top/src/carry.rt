@@ -1,7 +1,7 @@
 //! The command, from words to a status.
-ghost use Rattle.std.specs.Prelude.{◌≡◌, ◌≤◌, ◌⊎◌, ◌↔◌, ◌^◌, IfOk, IfErr, IfSome, IsSome, is_some, true, false, None, Some};
+ghost use Rattle.std.specs.Prelude.{◌≡◌, ◌≤◌, ◌⊎◌, ◌↔◌, ◌^◌, IfOk, IfErr, IfSome, IsSome, IsErrOf, is_some, true, false, None, Some};
 ghost use Rattle.std.specs.Io.KnownBytes.{Appends, IsAtEnd};
-ghost use Rattle.byte_io.specs.Causes.{Rose, AppendsFront};
+ghost use Rattle.byte_io.specs.Causes.{Rose, AppendsFront, TakesAtMost};
 ghost use Rattle.mtapi_top.specs.Command.{Ends, HasNone, HasRead, IsRefused, IsWorkload, journal_of, status_of};
 ghost use Rattle.workload_file.specs.Formed.{WellFormed};
 ghost use Rattle.workload_file.specs.Loading.{HoldsBut, ReadsClean};
@@ -57,6 +57,8 @@ fn load_for<S: Source>(alloc: Global, asked: &Asked, src: &mut S) -> Result<Work
     ensures clean { reads (Some asked.now) ≡ true → HoldsBut (ReadsClean (S.faults src.old) (S.faults src.new) (S.left src.old) (S.left src.new)) result }
     ensures whole { reads (Some asked.now) ≡ true → IfOk result (λ load. IfSome (S.left src.old) (λ bytes. IsAtEnd (S.left src.new))) }
     ensures unread { reads (Some asked.now) ≡ false → (S.left src.new ≡ S.left src.old) × (S.faults src.new ≡ S.faults src.old) }
+    ensures taken { reads (Some asked.now) ≡ true → TakesAtMost 1048577 (S.left src.old) (S.left src.new) }
+    ensures faultless { (IsErrOf result LoadError.Read → ⊥) → S.faults src.new ≡ S.faults src.old }
     ensures later { S.faults src.old ≤ S.faults src.new }
 {
     match asked {
@@ -85,7 +87,10 @@ fn carry_out<R: Threads + Wait + Sync, S: Source, W: Sink, A: ActionSource, B: B
     ensures whole { reads (asked_of (texts words.now)) ≡ true
         → IfSome (journal_of result) (λ journal. IfSome (S.left src.old) (λ bytes. IsAtEnd (S.left src.new))) }
     ensures unread { reads (asked_of (texts words.now)) ≡ false → (S.left src.new ≡ S.left src.old) × (S.faults src.new ≡ S.faults src.old) }
+    ensures taken { reads (asked_of (texts words.now)) ≡ true → TakesAtMost 1048577 (S.left src.old) (S.left src.new) }
+    ensures faultless { (status_of result ≡ 4 → ⊥) → S.faults src.new ≡ S.faults src.old }
     ensures idle { StartsNothing (status_of result) → (acts.new ≡ acts.old) × (beside.new ≡ beside.old) }
+    ensures counts { (status_of result ≡ 7 → ⊥) → B.refusals beside.new ≡ B.refusals beside.old }
     ensures later { (S.faults src.old ≤ S.faults src.new) × (W.faults out.old ≤ W.faults out.new) }
     ensures range { IfSome (asked_of (texts words.now)) InRange }
 {
@@ -173,6 +178,7 @@ pub fn command<R: Threads + Wait + Sync, S: Source, W: Sink, E: Sink, A: ActionS
     ensures read_fault { result.status ≡ 4 → Rose (S.faults src.old) (S.faults src.new) }
     ensures write_fault { result.status ≡ 5 → Rose (W.faults out.old) (W.faults out.new) }
     ensures no_thread { result.status ≡ 7 → Rose (B.refusals beside.old) (B.refusals beside.new) }
+    ensures all_threads { (result.status ≡ 7 → ⊥) → B.refusals beside.new ≡ B.refusals beside.old }
     ensures turns_spent { IfSome result.spent (λ shown. 2 ^ 62 ≤ shown) }
 
     // Nothing is written with another status.

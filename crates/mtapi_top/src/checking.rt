@@ -1,6 +1,7 @@
 //! The word `check`: a journal that was kept is judged, beside the workload that stands before it.
 ghost use Rattle.std.specs.Prelude.{◌≡◌, ◌≤◌, true, length, IfOk, IfErr, IfSome, string_bytes};
 ghost use Rattle.std.specs.Io.KnownBytes.{IsAtEnd};
+ghost use Rattle.byte_io.specs.Causes.{TakesAtMost};
 ghost use Rattle.journal_text.specs.Journals.{ReadsClean};
 ghost use Rattle.mtapi_top.specs.Command.{status_of};
 ghost use Rattle.mtapi_top.specs.Ended.{IsPastReading};
@@ -65,6 +66,8 @@ pub(crate) fn check_input<S: Source, W: Sink>(alloc: Global, src: &mut S, out: &
         (record { reads = S.faults src.new; writes = W.faults out.new; held = W.held out.new }) result }
     ensures clean { IsPastReading (status_of result)
         → ReadsClean (S.faults src.old) (S.faults src.new) (S.left src.old) (S.left src.new) }
+    ensures taken { TakesAtMost 67108865 (S.left src.old) (S.left src.new) }
+    ensures faultless { (status_of result ≡ 4 → ⊥) → S.faults src.new ≡ S.faults src.old }
     ensures later { (S.faults src.old ≤ S.faults src.new) × (W.faults out.old ≤ W.faults out.new) }
 {
     let bytes = match read_all(alloc, src, 67_108_864) {

@@ -5,7 +5,8 @@ ghost use Rattle.std.specs.Prelude.{◌≡◌, ◌≤◌, ℕ, List, Ok, length}
 ghost use Rattle.workload_file.specs.declared.workload.Workload.{Workload};
 ghost use Rattle.workload_file.specs.Reading.{workload_of};
 ghost use Rattle.node_core.specs.declared.entries.Journal.{Journal};
-ghost use Rattle.journal_text.specs.Fits.{JournalFits};
+ghost use Rattle.workload_file.specs.Formed.{WellFormed};
+ghost use Rattle.journal_text.specs.Fits.{IsWritable};
 ghost use Rattle.journal_text.specs.Journals.{journal_of, journal_text};
 ghost use Rattle.journal_check.specs.Verdicts.{IsVerdict};
 ghost use Rattle.journal_check.specs.declared.verdicts.Verdict.TheVariants.{Yes};
@@ -24,10 +25,11 @@ pub fn law_split()
     ensures one { (bytes front rest front' rest' : List ℕ) → IsSplit bytes front rest → IsSplit bytes front' rest' → (front ≡ front') × (rest ≡ rest') }
 {}
 
-/// The journal of a run, written and read again, is the same one, and the verdict on it beside the workload of the run is `yes`, where its
-/// values are in the ranges of their types. So `check` says `yes` of an input that is that workload and the text of this journal.
+/// The verdict on the journal of a run, beside the workload of the run, is `yes`, and the journal is one that is read again as it was
+/// written. So `check` says `yes` of an input that is that workload and a text that is read as this journal.
 pub fn law_run_is_yes()
-    ensures again { (load : Workload) (j : Journal) → IsRun load j → JournalFits j → (journal_of (journal_text j) ≡ Ok j) × IsVerdict load j Yes }
+    ensures verdict { (load : Workload) (j : Journal) → IsRun load j → IsVerdict load j Yes }
+    ensures writable { (load : Workload) (j : Journal) → WellFormed load → IsRun load j → IsWritable j }
     ensures input { (bytes front : List ℕ) (load : Workload) (j : Journal) → length bytes ≤ 67108864 → IsSplit bytes front (journal_text j)
-        → length front ≤ 1048576 → workload_of front ≡ Ok load → JournalFits j → IsInput bytes load j }
+        → length front ≤ 1048576 → workload_of front ≡ Ok load → journal_of (journal_text j) ≡ Ok j → IsInput bytes load j }
 {}

@@ -1,8 +1,10 @@
 //! The run of a workload, and its output.
-ghost use Rattle.std.specs.Prelude.{ℕ, ◌≡◌, ◌≤◌, IfOk, IfErr, Some, false, length};
+ghost use Rattle.std.specs.Prelude.{ℕ, ◌≡◌, ◌≤◌, IfOk, IfErr, Some, Err, false, length};
 ghost use Rattle.workload_file.specs.Formed.{WellFormed};
-ghost use Rattle.sched_threads.specs.Runs.{Causes, IsRun};
-ghost use Rattle.mtapi_top.specs.Headline.{output};
+ghost use Rattle.sched_threads.specs.Pairs.{Counts};
+ghost use Rattle.sched_threads.specs.Runs.{Causes, IsRun, is_refused};
+ghost use Rattle.node_core.specs.declared.entries.Journal.{Journal};
+ghost use Rattle.mtapi_top.specs.Headline.{output, IsReadAgain};
 ghost use Rattle.mtapi_top.specs.Reasons.{HasReason};
 ghost use Rattle.mtapi_top.specs.Words.{judges};
 
@@ -38,7 +40,7 @@ fn no_thread(main: TurnSeat<Journaled>) -> NoRun
 
 // The reason without the seat of main, which tells nothing more of the command.
 fn without_seat(error: RunError) -> NoRun
-    ensures { (before after : ℕ) → Causes before after error → HasReason before after result }
+    ensures { (before after : ℕ) → Causes before after error → Counts (is_refused (Err error)) before after → HasReason before after result }
 {
     match error {
         RunError::Refused(main) => no_thread(main),
@@ -66,6 +68,7 @@ fn run_of<R: Threads + Wait + Sync, A: ActionSource, B: Beside>(
 ) -> Result<RunJournal, NoRun>
     requires formed { WellFormed load.now }
     ensures run { IfOk result (λ j. IsRun load.now j) }
+    ensures counts { IfOk result (λ j. B.refusals beside.new ≡ B.refusals beside.old) }
     ensures causes { IfErr result (HasReason (B.refusals beside.old) (B.refusals beside.new)) }
 {
     let Ok(node) = Node::init(alloc, load.settings, callers_of(load)) else {
@@ -87,7 +90,8 @@ fn output_of(
     requires formed { WellFormed load.now }
     requires run { IsRun load.now journal.now }
     requires asked { judges (Some asked.now) ≡ false }
-    ensures { IfOk result (λ text. text.items ≡ output asked.now load.now journal.now) }
+    ensures text { IfOk result (λ text. text.items ≡ output asked.now load.now journal.now) }
+    ensures again { IfOk result (λ text. IsReadAgain asked.now journal.now) }
 {
     match asked {
         Asked::Report => report_of(alloc, load, journal),
@@ -115,6 +119,8 @@ pub(crate) fn run_and_output<R: Threads + Wait + Sync, A: ActionSource, B: Besid
     requires asked { judges (Some asked.now) ≡ false }
     ensures is_run { IfOk result (λ r. IsRun load.now r.0) }
     ensures output { IfOk result (λ r. r.1.items ≡ output asked.now load.now r.0) }
+    ensures again { IfOk result (λ r. IsReadAgain asked.now r.0) }
+    ensures counts { IfOk result (λ r. B.refusals beside.new ≡ B.refusals beside.old) }
     ensures causes { IfErr result (HasReason (B.refusals beside.old) (B.refusals beside.new)) }
 {
     let run = match run_of(rt, alloc, load, acts, beside) {

@@ -5,7 +5,7 @@ ghost use Rattle.workload_file.specs.Reading.{line_adds, lines_add, start, workl
 ghost use Rattle.workload_file.specs.Indexed.{IsReader, said_of, said_then};
 ghost use Rattle.workload_file.specs.Loading.{Loads, ReadsClean, HoldsBut};
 ghost use Rattle.workload_file.specs.Formed.{WellFormed};
-ghost use Rattle.byte_io.specs.Causes.{Rose};
+ghost use Rattle.byte_io.specs.Causes.{Rose, TakesAtMost};
 
 use crate::changes::with_change;
 use crate::faults::{Fault, LineError, LoadError};
@@ -131,6 +131,9 @@ pub fn read_workload<S: Source>(alloc: Global, src: &mut S) -> Result<Workload, 
     ensures exact { IfSome (S.left src.old) (λ bytes. Loads bytes (S.left src.new) result) }
     ensures formed { IfOk result WellFormed }
     ensures clean { HoldsBut (ReadsClean (S.faults src.old) (S.faults src.new) (S.left src.old) (S.left src.new)) result }
+    // Whatever the answer is, at most one byte past the limit is taken; and only a failed read is a fault.
+    ensures taken { TakesAtMost 1048577 (S.left src.old) (S.left src.new) }
+    ensures faultless { (IsErrOf result LoadError.Read → ⊥) → S.faults src.new ≡ S.faults src.old }
     ensures later { S.faults src.old ≤ S.faults src.new }
     ensures read { IsErrOf result LoadError.Read → Rose (S.faults src.old) (S.faults src.new) }
 {

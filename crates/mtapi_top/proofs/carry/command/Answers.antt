@@ -2,7 +2,7 @@ use Rattle.mtapi_top.specs.Words.{texts, asked_of}
 use Rattle.mtapi_top.specs.Command.{Outside}
 use Rattle.mtapi_top.specs.Check.{Channels}
 use Rattle.mtapi_top.specs.Ended.{Streams}
-use Rattle.mtapi_top.proofs.Ended.{run_ended, check_ended, run_read, check_read, idle_told, run_text_two, check_text_two}
+use Rattle.mtapi_top.proofs.Ended.{run_ended, check_ended, run_read, check_read, idle_told, told_but, run_text_two, check_text_two}
 use Rattle.mtapi_top.proofs.Refused.{refused_told, refused_has}
 use Rattle.mtapi_top.proofs.CheckTold.{refused_told as input_refused, refused_where as input_refused_where, check_decides}
 use Rattle.mtapi_top.proofs.SettledOutput.{written_plainly, cut_off_plainly}
@@ -60,7 +60,7 @@ returns-clause-ended g c =
 pub returns-clause-read : goal.returns-clause-read
 returns-clause-read g c =
     let words = asked_of (texts c.args.words.now) in
-    run_read words _ _ _ _ c.carry_out-end.result _ _ _ _ c.tell-2.result (cc) c.carry_out-end.ensures.unread c.carry_out-end.ensures.clean c.carry_out-end.ensures.whole c.tell-2.ensures.reported
+    run_read words _ _ _ _ c.carry_out-end.result _ _ _ _ c.tell-2.result (cc) c.carry_out-end.ensures.unread c.carry_out-end.ensures.clean c.carry_out-end.ensures.whole c.carry_out-end.ensures.taken c.carry_out-end.ensures.faultless c.tell-2.ensures.reported
 
 pub returns-clause-idle : goal.returns-clause-idle
 returns-clause-idle g c =
@@ -76,7 +76,7 @@ returns-then-judges-clause-ended g c =
 pub returns-then-judges-clause-read : goal.returns-then-judges-clause-read
 returns-then-judges-clause-read g c =
     let words = asked_of (texts c.args.words.now) in
-    check_read words _ _ _ _ c.check_input-verdict.result _ _ _ _ c.tell.result (cc) c.check_input-verdict.ensures.clean c.tell.ensures.reported
+    check_read words _ _ _ _ c.check_input-verdict.result _ _ _ _ c.tell.result (cc) c.check_input-verdict.ensures.clean c.check_input-verdict.ensures.taken c.check_input-verdict.ensures.faultless c.tell.ensures.reported
 
 pub returns-clause-text_two : goal.returns-clause-text_two
 returns-clause-text_two g c =
@@ -89,3 +89,6 @@ returns-then-judges-clause-text_two g c =
     let a : Channels = record { reads = g.S.Source.faults c.args.src.now; writes = g.W.Sink.faults c.args.out.now; held = g.W.Sink.held c.args.out.now } in
     let b : Channels = record { reads = g.S.Source.faults c.check_input-verdict.new.src; writes = g.W.Sink.faults c.check_input-verdict.new.out; held = g.W.Sink.held c.check_input-verdict.new.out } in
     check_text_two c.check_input-verdict.result _ _ _ _ c.tell.result _ a b c.check_input-verdict.ensures.end c.tell.ensures.reported
+
+pub returns-clause-all_threads : goal.returns-clause-all_threads
+returns-clause-all_threads g c = told_but 7 (λ q. cc) _ c.carry_out-end.result _ _ _ _ c.tell-2.result c.carry_out-end.ensures.counts c.tell-2.ensures.reported
