@@ -1,8 +1,9 @@
 -- How many entries of a run ask for an op of some class: the statements bound it.
 use Rattle.std.proofs.Common.{◌≡◌, ℕ, zero, suc, ◌+◌, ◌≤◌, ◌<◌, Bool, true, false, cond, List, [], ◌∷◌, ◌++◌, length, Option, Some, None, refl, sym, ◌∙◌, ap, subst, arith}
-use Rattle.std.specs.Prelude.{◌==◌}
-use Rattle.std.specs.List.{flat_map}
+use Rattle.std.specs.Prelude.{◌==◌, map}
+use Rattle.std.specs.List.{flat_map, AllByRecursion as Each}
 use Rattle.std.proofs.lemmas.Bool.Decides.{nat_tests}
+use Rattle.std.proofs.lemmas.Bool.{eq-eqb}
 use Rattle.handle_pool.specs.Issued.{how_many}
 use Rattle.workload_file.specs.declared.workload.Deed.{Deed}
 use Rattle.workload_file.specs.declared.workload.Statement.{Statement}
@@ -11,16 +12,17 @@ use Rattle.workload_file.specs.declared.workload.Workload.{Workload}
 use Rattle.mtapi_machine.specs.declared.ops.Op.{Op}
 use Rattle.mtapi_machine.specs.declared.ops.Op.TheVariants as op
 use Rattle.mtapi_machine.specs.declared.replies.Reply.{Reply}
-use Rattle.mtapi_machine.specs.declared.replies.Reply.TheVariants as reply
 use Rattle.mtapi_machine.specs.Row.{handle_of}
 use Rattle.mtapi_machine.specs.Legal.{NodeEntry}
 use Rattle.sched_workers.specs.Calls.{Call, Once, Looking, call_of}
 use Rattle.sched_workers.specs.Lines.{Line, line, lines_of, before_it, Made, head_of, tail_of_main, in_lines}
 use Rattle.sched_workers.specs.Parts.{has_begin, Carried, MainRan, CallerRan, CallersRan, PartsRan}
-use Rattle.sched_workers.specs.RunOf.{is_work, all_work, WorkerRan, RunOf}
+use Rattle.sched_workers.specs.RunOf.{WorkerRan, RunOf}
 use Rattle.history_law.specs.Words.{entries_that}
 use Rattle.history_law.specs.Seats.{BySeats}
-use Rattle.mtapi_machine.proofs.Made.{fst_true, snd_true}
+use Rattle.history_law.proofs.Answered.{true_false}
+use Rattle.settled_runs.proofs.Each.{CallEach, OnlyBy, each_map, is_at_work, worker_each}
+use Rattle.settled_runs.proofs.Along.{Step, along}
 
 -- Entries and lines that ask for such an op
 
@@ -110,44 +112,64 @@ by_seat p n (e ∷ es) (m ∷ ns) l b =
 -- how often a call may ask for it
 abbrev pub CallAsks : (Op → Bool) → ℕ → Call → Type 0
 CallAsks p n (Once o) = bit (p o) ≤ n
-CallAsks p n (Looking waits o timeout) = (last : Bool) → p (o last) ≡ false
+CallAsks p n (Looking waits o timeout) = bit (p (o false)) + bit (p (o true)) ≡ 0
 
 -- but for the ops that main asks for at its begin and at its end, only statements of the second class ask for ops of the first, one each
 pub record IsClass (p : Op → Bool) (q : Deed → Bool) : Type 0 where
   pub calls : (bound : List ℕ) (d : Deed) → CallAsks p (bit (q d)) (call_of bound d)
   pub enter : p op.Enter ≡ false
-  pub work : (o : Op) (r : Reply) → is_work o r ≡ true → p o ≡ false
-  pub pick : p op.Pick ≡ false
+  pub work : (o : Op) → is_at_work o ≡ true → p o ≡ false
 
 zero_bit : (b : Bool) → b ≡ false → bit b ≡ 0
 zero_bit b e = ap bit e
 
 module _ (p : Op → Bool) where
-  before_asks : (o : Op) (first : Option ℕ) → p o ≡ false → asked p (before_it o first) ≡ 0
+  before_asks : (o : Op) (first : Option ℕ) → bit (p o) ≡ 0 → asked p (before_it o first) ≡ 0
   before_asks o None e = refl
-  before_asks o (Some n) e = let z : bit (p o) ≡ 0 = zero_bit (p o) e in omega arith
+  before_asks o (Some n) e = omega arith
+
+  look_asks : (o : Bool → Op) (last : Bool) → bit (p (o false)) + bit (p (o true)) ≡ 0 → bit (p (o last)) ≡ 0
+  look_asks o true e = omega arith
+  look_asks o false e = omega arith
 
   pub made_asks : (c : Call) (n : ℕ) (ls : List Line) (r : Reply) → CallAsks p n c → Made c ls r → asked p ls ≤ n
   made_asks (Once o) n ls r a m = subst (λ (x : List Line). asked p x ≤ n) (sym m.0) (let b : bit (p o) ≤ n = a in omega arith)
   made_asks (Looking waits o timeout) n ls r a m =
       subst (λ (x : List Line). asked p x ≤ n) (sym m.is)
-      (let b : asked p (before_it (o false) m.first) ≡ 0 = before_asks (o false) m.first (a false) in
-      let c : bit (p (o m.last)) ≡ 0 = zero_bit (p (o m.last)) (a m.last) in
+      (let b : asked p (before_it (o false) m.first) ≡ 0 = before_asks (o false) m.first (look_asks o false a) in
+      let c : bit (p (o m.last)) ≡ 0 = look_asks o m.last a in
       let d : asked p (before_it (o false) m.first ++ line (o m.last) r m.beside ∷ []) ≡ asked p (before_it (o false) m.first) + asked p (line (o m.last) r m.beside ∷ []) = asked_append p (before_it (o false) m.first) (line (o m.last) r m.beside ∷ []) in
       omega arith)
 
+  pub none_asked : (ls : List Line) → Each (λ l. p l.op ≡ false) ls → asked p ls ≡ 0
+  none_asked [] a = refl
+  none_asked (l ∷ ls) a = let x : bit (p l.op) ≡ 0 = zero_bit (p l.op) a.0 in let y : asked p ls ≡ 0 = none_asked ls a.1 in omega arith
+
+  -- where each statement of a class asks for it once at most, and no other does
+  pub statements_ask : (q : Deed → Bool) (all : List Statement) (ls : List Line) (rs : List Reply) → Carried Made [] all ls rs
+      → ((before : List Statement) (l1 : List Line) (r1 : List Reply) (s : Statement) (front : List Line) (r : Reply) → Step all ls rs before l1 r1 s front r → CallAsks p (bit (q s.deed)) (call_of (map handle_of r1) s.deed)) → asked p ls ≤ how_many (λ s. q s.deed) all
+  statements_ask q all ls rs c per =
+      along all ls rs (λ b l r. asked p l ≤ how_many (λ s. q s.deed) b)
+      (λ b l1 r1 s front r x i. more b l1 s front (made_asks (call_of (map handle_of r1) s.deed) (bit (q s.deed)) front r (per b l1 r1 s front r x) x.made) i) c (omega arith)
+    where
+      more : (b : List Statement) (l1 : List Line) (s : Statement) (front : List Line) → asked p front ≤ bit (q s.deed) → asked p l1 ≤ how_many (λ z. q z.deed) b → asked p (l1 ++ front) ≤ how_many (λ z. q z.deed) (b ++ s ∷ [])
+      more b l1 s front i j =
+          let x : asked p (l1 ++ front) ≡ asked p l1 + asked p front = asked_append p l1 front in
+          let y : how_many (λ z. q z.deed) (b ++ s ∷ []) ≡ how_many (λ z. q z.deed) b + (bit (q s.deed) + 0) = many_append (λ z. q z.deed) b (s ∷ []) in
+          omega arith
+
+pub no_bit : (b : Bool) → bit b ≡ 0 → b ≡ false
+no_bit true e = absurd (omega arith)
+no_bit false e = refl
+
+-- a call that may not ask for it does not
+pub calls_none : (p : Op → Bool) (c : Call) (b : Bool) → CallAsks p (bit b) c → b ≡ false → CallEach (λ o. p o ≡ false) c
+calls_none p (Once o) b a e = no_bit (p o) (let x : bit (p o) ≤ bit b = a in let y : bit b ≡ 0 = ap bit e in omega arith)
+calls_none p (Looking waits o timeout) b a e = λ last. no_bit (p (o last)) (look_asks p o last a)
+
 module _ (p : Op → Bool) (q : Deed → Bool) (k : IsClass p q) where
-  pub carried_asks : (bound : List ℕ) (ss : List Statement) (ls : List Line) (rs : List Reply) → Carried Made bound ss ls rs → asked p ls ≤ how_many (λ s. q s.deed) ss
-  unfolding Carried
-  carried_asks bound [] ls [] c = subst (λ (x : List Line). asked p x ≤ 0) (sym c) (omega arith)
-  carried_asks bound [] ls (r ∷ rs) c = absurd c
-  carried_asks bound (s ∷ ss) ls [] c = absurd c
-  carried_asks bound (s ∷ ss) ls (r ∷ rs) c =
-      subst (λ (x : List Line). asked p x ≤ bit (q s.deed) + how_many (λ z. q z.deed) ss) (sym c.2)
-      (let a : asked p c.0 ≤ bit (q s.deed) = made_asks p (call_of bound s.deed) (bit (q s.deed)) c.0 r (k.calls bound s.deed) c.3 in
-      let b : asked p c.1 ≤ how_many (λ z. q z.deed) ss = carried_asks (bound ++ handle_of r ∷ []) ss c.1 rs c.4 in
-      let d : asked p (c.0 ++ c.1) ≡ asked p c.0 + asked p c.1 = asked_append p c.0 c.1 in
-      omega arith)
+  pub class_asks : (ss : List Statement) (ls : List Line) (rs : List Reply) → Carried Made [] ss ls rs → asked p ls ≤ how_many (λ s. q s.deed) ss
+  class_asks ss ls rs c = statements_ask p q ss ls rs c (λ b l1 r1 s front r x. k.calls (map handle_of r1) s.deed)
 
   -- what main asks for at its begin and at its end
   abbrev pub ends : ℕ
@@ -161,7 +183,7 @@ module _ (p : Op → Bool) (q : Deed → Bool) (k : IsClass p q) where
   main_asks ss ls rs x =
       subst (λ (y : List Line). asked p y ≤ how_many (λ s. q s.deed) ss + ends) (sym x.is)
       (let a : asked p (head_of (has_begin ss)) ≤ bit (p op.Initialize) + bit (p op.Release) = head_asks (has_begin ss) in
-      let b : asked p x.body ≤ how_many (λ s. q s.deed) ss = carried_asks [] ss x.body rs x.carried in
+      let b : asked p x.body ≤ how_many (λ s. q s.deed) ss = class_asks ss x.body rs x.carried in
       let e : asked p (head_of (has_begin ss) ++ (x.body ++ tail_of_main)) ≡ asked p (head_of (has_begin ss)) + asked p (x.body ++ tail_of_main) = asked_append p (head_of (has_begin ss)) (x.body ++ tail_of_main) in
       let f : asked p (x.body ++ tail_of_main) ≡ asked p x.body + asked p tail_of_main = asked_append p x.body tail_of_main in
       omega arith)
@@ -169,22 +191,12 @@ module _ (p : Op → Bool) (q : Deed → Bool) (k : IsClass p q) where
   pub caller_asks : (ss : List Statement) (ls : List Line) (rs : List Reply) → CallerRan in_lines ss ls rs → asked p ls ≤ how_many (λ s. q s.deed) ss
   caller_asks ss ls rs x =
       subst (λ (y : List Line). asked p y ≤ how_many (λ s. q s.deed) ss) (sym (x.is ∙ ap (λ (l : List Line). l ++ x.body) x.entered.1))
-      (let b : asked p x.body ≤ how_many (λ s. q s.deed) ss = carried_asks [] ss x.body rs x.carried in
+      (let b : asked p x.body ≤ how_many (λ s. q s.deed) ss = class_asks ss x.body rs x.carried in
       let c : bit (p op.Enter) ≡ 0 = zero_bit _ k.enter in
       omega arith)
 
-  work_asks : (ls : List Line) → all_work ls ≡ true → asked p ls ≡ 0
-  unfolding all_work
-  work_asks [] e = refl
-  work_asks (l ∷ ls) e = let a : bit (p l.op) ≡ 0 = zero_bit (p l.op) (k.work l.op l.reply (fst_true _ (all_work ls) e)) in let b : asked p ls ≡ 0 = work_asks ls (snd_true (is_work l.op l.reply) _ e) in omega arith
-
   pub worker_asks : (ls : List Line) → WorkerRan ls → asked p ls ≡ 0
-  worker_asks ls x =
-      subst (λ (y : List Line). asked p y ≡ 0) (sym x.is)
-      (let a : asked p x.work ≡ 0 = work_asks x.work x.works in
-      let b : bit (p op.Pick) ≡ 0 = zero_bit _ k.pick in
-      let c : asked p (x.work ++ line op.Pick reply.Stop x.beside ∷ []) ≡ asked p x.work + asked p (line op.Pick reply.Stop x.beside ∷ []) = asked_append p x.work (line op.Pick reply.Stop x.beside ∷ []) in
-      omega arith)
+  worker_asks ls x = none_asked p ls (each_map (λ (l : Line). is_at_work l.op ≡ true) (λ (l : Line). p l.op ≡ false) (λ l e. k.work l.op e) ls (worker_each ls x))
 
   abbrev lines : List NodeEntry → List ℕ → ℕ → List Line
   lines es ns who = lines_of who es ns
@@ -233,6 +245,18 @@ seat_asks p who (e ∷ es) (n ∷ ns) = by (e.who == who) (seat_asks p who es ns
     by : (b : Bool) → asked p (lines_of who es ns) ≤ asks p es → asked p (cond b (line e.op e.reply n ∷ lines_of who es ns) (lines_of who es ns)) ≤ bit (p e.op) + asks p es
     by true k = omega arith
     by false k = omega arith
+
+-- and where only this seat asks, no less often
+pub only_asks : (who : ℕ) (p : Op → Bool) (L : List NodeEntry) (ks : List ℕ) → length L ≡ length ks → OnlyBy who p L → asks p L ≤ asked p (lines_of who L ks)
+unfolding lines_of
+only_asks who p [] ks l o = omega arith
+only_asks who p (e ∷ es) [] l o = absurd (omega arith)
+only_asks who p (e ∷ es) (m ∷ ks) l o = by (e.who == who) refl (p e.op) refl (only_asks who p es ks (omega arith) o.1)
+  where
+    by : (b : Bool) → (e.who == who) ≡ b → (c : Bool) → p e.op ≡ c → asks p es ≤ asked p (lines_of who es ks) → bit c + asks p es ≤ asked p (cond b (line e.op e.reply m ∷ lines_of who es ks) (lines_of who es ks))
+    by true i c j r = let x : bit (p e.op) ≡ bit c = ap bit j in omega arith
+    by false i true j r = true_false (eq-eqb e.who who (o.0 j)) i
+    by false i false j r = omega arith
 
 -- a line that does
 pub record Asking (p : Op → Bool) (ls : List Line) : Type 0 where

@@ -1,7 +1,10 @@
 -- No two statements of a run are given one handle of one kind of object.
-use Rattle.std.proofs.Common.{◌≡◌, ℕ, zero, suc, ◌+◌, ◌≤◌, Bool, true, false, cond, List, [], ◌∷◌, ◌++◌, Some, refl, sym, ◌∙◌, ap, subst, arith}
-use Rattle.std.specs.Prelude.{◌==◌, ◌&&◌, slice_get, is_some}
+use Rattle.std.proofs.Common.{◌≡◌, ℕ, ◌+◌, ◌≤◌, Bool, true, false, cond, List, [], ◌∷◌, ◌++◌, refl, sym, ◌∙◌, ap, subst, arith, length, ◌<◌}
+use Rattle.std.specs.Prelude.{◌==◌, ◌&&◌, is_some, map, nat_lt}
 use Rattle.std.proofs.lemmas.Bool.{eq-eqb, eqb-true}
+use Rattle.std.proofs.lemmas.Bool.Decides.{nat_tests}
+use Rattle.std.specs.Option.{option_map}
+use Rattle.workload_file.specs.declared.table.Sort.{Sort}
 use Rattle.mtapi_values.specs.declared.handles.ObjectKind.{ObjectKind}
 use Rattle.mtapi_values.specs.declared.handles.ObjectKind.TheVariants as kinds
 use Rattle.history.specs.Histories.{entry}
@@ -12,11 +15,10 @@ use Rattle.mtapi_machine.specs.declared.ops.Op.TheVariants as op
 use Rattle.mtapi_machine.specs.declared.replies.Reply.{Reply}
 use Rattle.mtapi_machine.specs.declared.replies.Reply.TheVariants as reply
 use Rattle.mtapi_machine.specs.Row.{handle_of}
-use Rattle.mtapi_machine.specs.State.{State}
-use Rattle.mtapi_machine.specs.Legal.{NodeEntry, IsNext, next, LegalFrom}
-use Rattle.mtapi_machine.proofs.Changes.{some_same}
+use Rattle.mtapi_machine.specs.State.{State, opening}
+use Rattle.mtapi_machine.specs.Legal.{NodeEntry, IsNext, next, LegalFrom, Legal}
 use Rattle.mtapi_machine.proofs.Made.{fst_true, snd_true, both_true}
-use Rattle.sched_workers.specs.Calls.{Call, Once, call_of}
+use Rattle.sched_workers.specs.Calls.{call_of, group_at, handle_at}
 use Rattle.sched_workers.specs.Lines.{Line, line, lines_of, Made}
 use Rattle.sched_workers.specs.Parts.{Carried}
 use Rattle.history_law.specs.Words.{makes, is_handle, issues, entries_that, times}
@@ -25,8 +27,15 @@ use Rattle.history_law.proofs.Answered.{true_false}
 use Rattle.history_law.proofs.Objects.{started_as}
 use Rattle.history_law.proofs.Reuse.{issues_fresh, fresh_unlisted}
 use Rattle.history_law.proofs.OnceIssued.{listed_next}
+use Rattle.mtapi_machine.specs.declared.terms.Terms.{Terms}
+use Rattle.workload_file.specs.Deeds.{binds}
+use Rattle.workload_file.specs.declared.workload.Deed.TheVariants as deed
+use Rattle.workload_file.specs.declared.table.Sort.TheVariants as sort
 use Rattle.settled_runs.proofs.Stays.{made_there}
 use Rattle.settled_runs.proofs.Counted.{bit}
+use Rattle.settled_runs.specs.RunGranted.{AllGranted, GrantedTo}
+use Rattle.settled_runs.proofs.Along.{BoundBy, Found, bound_shorter, found_bound, found_granted, handles_front, step_granted, found}
+use Rattle.settled_runs.specs.Granted.{IsGranted}
 
 -- how many of these lines were given the handle for an object of the kind
 abbrev pub issued : ObjectKind → ℕ → List Line → ℕ
@@ -92,53 +101,95 @@ issued_once k h y s (e ∷ es) l = by (issues k h e) refl (issued_once k h y (ne
 
 -- Statements
 
--- each call of the statement makes an object of the kind
-abbrev pub MakesOne : ObjectKind → Deed → Type 0
-MakesOne k d = (bound : List ℕ) → (o : Op) × (call_of bound d ≡ Once o) × (makes k o ≡ true)
+-- the one line of a statement that made an object of the kind
+pub record MadeOne (k : ObjectKind) (front : List Line) (r : Reply) : Type 0 where
+  pub op : Op
+  pub handle : ℕ
+  pub makes_it : makes k op ≡ true
+  pub told : r ≡ reply.Handle handle
+  pub is : front ≡ line op (reply.Handle handle) 0 ∷ []
 
-head_issued : (k : ObjectKind) (h : ℕ) (c : Call) (o : Op) (front : List Line) (r : Reply) → Made c front r → c ≡ Once o → makes k o ≡ true → r ≡ reply.Handle h → issued k h front ≡ 1
-head_issued k h c o front r m e i j =
-    let x : front ≡ line o r 0 ∷ [] = (subst (λ (y : Call). Made y front r) e m).0 in
-    let b : (makes k o && is_handle h r) ≡ true = both_true _ _ i (ap (is_handle h) j ∙ eq-eqb h h refl) in
-    let n : issued k h (line o r 0 ∷ []) ≡ 1 = (let z : bit (makes k o && is_handle h r) ≡ 1 = ap bit b in omega arith) in
-    ap (issued k h) x ∙ n
+-- each statement that binds the sort makes an object of the kind
+abbrev pub Binds : ObjectKind → Sort → Type 0
+Binds k t = (d : Deed) (bound : List ℕ) (front : List Line) (r : Reply) → binds t d ≡ true → GrantedTo d r → Made (call_of bound d) front r → MadeOne k front r
 
-module _ (k : ObjectKind) (h : ℕ) where
-  pub one_issued : (bound : List ℕ) (ss : List Statement) (ls : List Line) (rs : List Reply) (a : ℕ) (s : Statement) → Carried Made bound ss ls rs → slice_get ss a ≡ Some s → slice_get rs a ≡ Some (reply.Handle h) → MakesOne k s.deed → 1 ≤ issued k h ls
-  unfolding Carried
-  one_issued bound [] ls rs a s c e f m = absurd (cc)
-  one_issued bound (x ∷ ss) ls [] a s c e f m = absurd c
-  one_issued bound (x ∷ ss) ls (r ∷ rs) zero s c e f m =
-      let y : MakesOne k x.deed = subst (λ (z : Statement). MakesOne k z.deed) (sym (some_same e)) m in
-      let i : issued k h c.0 ≡ 1 = head_issued k h (call_of bound x.deed) (y bound).0 c.0 r c.3 (y bound).1 (y bound).2 (some_same f) in
-      let j : issued k h ls ≡ issued k h c.0 + issued k h c.1 = ap (issued k h) c.2 ∙ issued_append k h c.0 c.1 in
+made_one : (k : ObjectKind) (o : Op) (front : List Line) (r : Reply) → front ≡ line o r 0 ∷ [] → IsGranted r → makes k o ≡ true → MadeOne k front r
+made_one k o front r e g m = record { op = o; handle = g.0; makes_it = m; told = g.1; is = e ∙ ap (λ (x : Reply). line o x 0 ∷ []) g.1 }
+
+pub binds_queue : Binds kinds.Queue sort.Queue
+unfolding binds
+binds_queue (deed.Queue id job priority limit ordered retain) bound front r b g m = made_one kinds.Queue (op.QueueCreate id job priority limit ordered retain) front r m.0 g refl
+binds_queue (deed.QueueGet id) bound front r b g m = absurd g
+binds_queue _ bound front r b g m = true_false b refl
+
+pub binds_task : Binds kinds.Task sort.Task
+unfolding binds
+binds_task (deed.Start job args priority cores detached group) bound front r b g m = made_one kinds.Task (op.TaskStart job args priority cores detached (option_map (group_at bound) group)) front r m.0 g refl
+binds_task (deed.Enqueue queue args cores detached group) bound front r b g m = made_one kinds.Task (op.TaskEnqueue (record { 0 = handle_at bound queue }) args cores detached (option_map (group_at bound) group)) front r m.0 g refl
+binds_task _ bound front r b g m = true_false b refl
+
+pub binds_group : Binds kinds.Group sort.Group
+unfolding binds
+binds_group deed.Group bound front r b g m = made_one kinds.Group op.GroupCreate front r m.0 g refl
+binds_group _ bound front r b g m = true_false b refl
+
+front_issued : (k : ObjectKind) (h : ℕ) (front : List Line) (r : Reply) (x : MadeOne k front r) → x.handle ≡ h → issued k h front ≡ 1
+front_issued k h front r x e =
+    let z : bit (makes k x.op && is_handle h (reply.Handle x.handle)) ≡ 1 = ap bit (both_true _ _ x.makes_it (eq-eqb x.handle h e)) in
+    let n : issued k h (line x.op (reply.Handle x.handle) 0 ∷ []) ≡ 1 = omega arith in
+    ap (issued k h) x.is ∙ n
+
+module _ (k : ObjectKind) (t : Sort) (y : Binds k t) where
+  pub made_there_one : (ss : List Statement) (ls : List Line) (rs : List Reply) → AllGranted ss rs → (place : ℕ) (b : BoundBy t ss place) (f : Found ss ls rs place b.statement) → MadeOne k f.front f.reply
+  made_there_one ss ls rs g place b f = y b.statement.deed (map handle_of f.replies) f.front f.reply b.binding (found_granted ss ls rs place b.statement f g) f.step.made
+
+  found_issued : (ss : List Statement) (ls : List Line) (rs : List Reply) → AllGranted ss rs → (place : ℕ) (b : BoundBy t ss place) (f : Found ss ls rs place b.statement) (h : ℕ) → handle_at (map handle_of rs) place ≡ h → (issued k h ls ≡ issued k h f.first + (1 + issued k h f.step.more))
+  found_issued ss ls rs g place b f h e =
+      let x : MadeOne k f.front f.reply = made_there_one ss ls rs g place b f in
+      let i : issued k h f.front ≡ 1 = front_issued k h f.front f.reply x (sym (found_bound ss ls rs place b.statement f ∙ ap handle_of x.told) ∙ e) in
+      let a : issued k h ls ≡ issued k h f.first + issued k h (f.front ++ f.step.more) = ap (issued k h) f.step.is ∙ issued_append k h f.first (f.front ++ f.step.more) in
+      let d : issued k h (f.front ++ f.step.more) ≡ issued k h f.front + issued k h f.step.more = issued_append k h f.front f.step.more in
       omega arith
-  one_issued bound (x ∷ ss) ls (r ∷ rs) (suc a) s c e f m =
-      let i : 1 ≤ issued k h c.1 = one_issued (bound ++ handle_of r ∷ []) ss c.1 rs a s c.4 e f m in
-      let j : issued k h ls ≡ issued k h c.0 + issued k h c.1 = ap (issued k h) c.2 ∙ issued_append k h c.0 c.1 in
+
+  -- the handle of a place was given
+  pub bound_issued : (ss : List Statement) (ls : List Line) (rs : List Reply) → Carried Made [] ss ls rs → AllGranted ss rs → (place : ℕ) → BoundBy t ss place → (h : ℕ) → handle_at (map handle_of rs) place ≡ h → 1 ≤ issued k h ls
+  bound_issued ss ls rs c g place b h e =
+      let f : Found ss ls rs place b.statement = found ss ls rs c place b.statement b.found in
+      let i : issued k h ls ≡ issued k h f.first + (1 + issued k h f.step.more) = found_issued ss ls rs g place b f h e in
       omega arith
 
-  two_issued : (bound : List ℕ) (x : Statement) (ss : List Statement) (ls : List Line) (r : Reply) (rs : List Reply) (b : ℕ) (s : Statement) → (c : Carried Made bound (x ∷ ss) ls (r ∷ rs)) → r ≡ reply.Handle h → MakesOne k x.deed
-      → slice_get ss b ≡ Some s → slice_get rs b ≡ Some (reply.Handle h) → MakesOne k s.deed → 2 ≤ issued k h ls
-  unfolding Carried
-  two_issued bound x ss ls r rs b s c f y e g m =
-      let i : issued k h c.0 ≡ 1 = head_issued k h (call_of bound x.deed) (y bound).0 c.0 r c.3 (y bound).1 (y bound).2 f in
-      let n : 1 ≤ issued k h c.1 = one_issued (bound ++ handle_of r ∷ []) ss c.1 rs b s c.4 e g m in
-      let j : issued k h ls ≡ issued k h c.0 + issued k h c.1 = ap (issued k h) c.2 ∙ issued_append k h c.0 c.1 in
-      omega arith
+  -- and is that of no other place, where none is given twice
+  pub one_bound : (ss : List Statement) (ls : List Line) (rs : List Reply) → Carried Made [] ss ls rs → AllGranted ss rs → ((h : ℕ) → issued k h ls ≤ 1) → (a b : ℕ) → BoundBy t ss a → BoundBy t ss b → handle_at (map handle_of rs) a ≡ handle_at (map handle_of rs) b → a ≡ b
+  one_bound ss ls rs c g n a b x z e = by (nat_lt a b) refl (nat_lt b a) refl
+    where
+      clash : (a b : ℕ) → a < b → BoundBy t ss a → BoundBy t ss b → handle_at (map handle_of rs) a ≡ handle_at (map handle_of rs) b → ⊥
+      clash a b l x z e =
+          let f : Found ss ls rs b z.statement = found ss ls rs c b z.statement z.found in
+          let m : length f.replies ≡ length f.before = f.step.many in
+          let v : length f.before ≡ b = f.early in
+          let same : handle_at (map handle_of f.replies) a ≡ handle_at (map handle_of rs) b = sym (handles_front f.replies (f.reply ∷ f.step.others) a (omega arith)) ∙ ap (λ (q : List Reply). handle_at (map handle_of q) a) (sym f.step.told) ∙ e in
+          let i : 1 ≤ issued k (handle_at (map handle_of rs) b) f.first =
+          bound_issued f.before f.first f.replies f.step.carried (step_granted ss ls rs f.before f.first f.replies z.statement f.front f.reply f.step g).0 a (bound_shorter t f.before (z.statement ∷ f.step.rest) a (omega arith) (subst (λ (w : List Statement). BoundBy t w a) f.step.parted x)) (handle_at (map handle_of rs) b) same in
+          let j : issued k (handle_at (map handle_of rs) b) ls ≡ issued k (handle_at (map handle_of rs) b) f.first + (1 + issued k (handle_at (map handle_of rs) b) f.step.more) = found_issued ss ls rs g b z f (handle_at (map handle_of rs) b) refl in
+          let o : issued k (handle_at (map handle_of rs) b) ls ≤ 1 = n (handle_at (map handle_of rs) b) in
+          absurd (omega arith)
 
-  pub one_place : (bound : List ℕ) (ss : List Statement) (ls : List Line) (rs : List Reply) (a b : ℕ) (s t : Statement) → Carried Made bound ss ls rs → issued k h ls ≤ 1 → slice_get ss a ≡ Some s → slice_get rs a ≡ Some (reply.Handle h) → MakesOne k s.deed
-      → slice_get ss b ≡ Some t → slice_get rs b ≡ Some (reply.Handle h) → MakesOne k t.deed → a ≡ b
-  unfolding Carried
-  one_place bound [] ls rs a b s t c n e f m g i j = absurd (cc)
-  one_place bound (x ∷ ss) ls [] a b s t c n e f m g i j = absurd c
-  one_place bound (x ∷ ss) ls (r ∷ rs) zero zero s t c n e f m g i j = refl
-  one_place bound (x ∷ ss) ls (r ∷ rs) zero (suc b) s t c n e f m g i j =
-      let z : 2 ≤ issued k h ls = two_issued bound x ss ls r rs b t c (some_same f) (subst (λ (y : Statement). MakesOne k y.deed) (sym (some_same e)) m) g i j in
-      absurd (omega arith)
-  one_place bound (x ∷ ss) ls (r ∷ rs) (suc a) zero s t c n e f m g i j =
-      let z : 2 ≤ issued k h ls = two_issued bound x ss ls r rs a s c (some_same i) (subst (λ (y : Statement). MakesOne k y.deed) (sym (some_same g)) j) e f m in
-      absurd (omega arith)
-  one_place bound (x ∷ ss) ls (r ∷ rs) (suc a) (suc b) s t c n e f m g i j =
-      let z : issued k h ls ≡ issued k h c.0 + issued k h c.1 = ap (issued k h) c.2 ∙ issued_append k h c.0 c.1 in
-      ap suc (one_place (bound ++ handle_of r ∷ []) ss c.1 rs a b s t c.4 (omega arith) e f m g i j)
+      by : (p : Bool) → nat_lt a b ≡ p → (q : Bool) → nat_lt b a ≡ q → a ≡ b
+      by true i q j = absurd (clash a b (grind (arith, nat_tests)) x z e)
+      by false i true j = absurd (clash b a (grind (arith, nat_tests)) z x (sym e))
+      by false i false j = grind (arith, nat_tests)
+
+-- the lines of a part give no handle twice
+pub part_once : (k : ObjectKind) → IsListedKind k → (terms : Terms) (es : List NodeEntry) (ns : List ℕ) → Legal terms es → (who : ℕ) (start ls more : List Line) → lines_of who es ns ≡ (start ++ ls) ++ more → (h : ℕ) → issued k h ls ≤ 1
+part_once k y terms es ns legal who start ls more at h =
+    let a : entries_that (issues k h) es ≤ 1 = issued_once k h y (opening terms) es legal.from in
+    let b : issued k h (lines_of who es ns) ≤ entries_that (issues k h) es = seat_issued k h who es ns in
+    let d : issued k h (lines_of who es ns) ≡ issued k h (start ++ ls) + issued k h more = ap (issued k h) at ∙ issued_append k h (start ++ ls) more in
+    let e : issued k h (start ++ ls) ≡ issued k h start + issued k h ls = issued_append k h start ls in
+    omega arith
+
+pub part_within : (k : ObjectKind) (es : List NodeEntry) (ns : List ℕ) (who : ℕ) (start ls more : List Line) → lines_of who es ns ≡ (start ++ ls) ++ more → (h : ℕ) → 1 ≤ issued k h ls → 1 ≤ issued k h (lines_of who es ns)
+part_within k es ns who start ls more at h m =
+    let d : issued k h (lines_of who es ns) ≡ issued k h (start ++ ls) + issued k h more = ap (issued k h) at ∙ issued_append k h (start ++ ls) more in
+    let e : issued k h (start ++ ls) ≡ issued k h start + issued k h ls = issued_append k h start ls in
+    omega arith

@@ -1,11 +1,10 @@
 -- In a run of a settled workload each further caller is given what it asks for.
 use Rattle.std.proofs.Common.{◌≡◌, inl, inr, ℕ, suc, ◌+◌, ◌≤◌, ◌<◌, Bool, true, false, cond, List, [], ◌∷◌, ◌++◌, length, refl, sym, ◌∙◌, ap, subst, arith, append_assoc}
-use Rattle.std.specs.Prelude.{◌||◌, not, map}
-use Rattle.std.specs.List.{list_any, list_all, AllByRecursion}
+use Rattle.std.specs.Prelude.{◌||◌, not, map, slice_get}
+use Rattle.std.specs.List.{list_any, list_all, AllByRecursion as Each, flat_map}
 use Rattle.std.proofs.lemmas.List.{append-nil}
 use Rattle.mtapi_values.specs.declared.handles.Layout.{Layout}
 use Rattle.history.specs.Histories.{entry}
-use Rattle.handle_pool.specs.Issued.{how_many}
 use Rattle.mtapi_objects.specs.Actions.{Action}
 use Rattle.workload_file.specs.declared.workload.Deed.{Deed}
 use Rattle.workload_file.specs.declared.workload.Deed.TheVariants as deed
@@ -13,7 +12,7 @@ use Rattle.workload_file.specs.declared.workload.Statement.{Statement}
 use Rattle.workload_file.specs.declared.workload.Part.{Part}
 use Rattle.workload_file.specs.declared.workload.Workload.{Workload}
 use Rattle.workload_file.specs.Deeds.{is_begin}
-use Rattle.workload_file.specs.Formed.{IsPart}
+use Rattle.workload_file.specs.Formed.{IsPart, begins}
 use Rattle.mtapi_machine.specs.declared.ops.Op.TheVariants as op
 use Rattle.mtapi_machine.specs.declared.replies.Reply.{Reply}
 use Rattle.mtapi_machine.specs.declared.replies.Reply.TheVariants as reply
@@ -22,22 +21,23 @@ use Rattle.mtapi_machine.specs.Legal.{NodeEntry, Legal}
 use Rattle.mtapi_machine.proofs.Made.{fst_true, snd_true, not_true}
 use Rattle.sched_workers.specs.Calls.{call_of}
 use Rattle.sched_workers.specs.Lines.{Line, line, lines_of, Made, head_of, tail_of_main, in_lines}
-use Rattle.sched_workers.specs.Parts.{has_begin, Carried, CallerRan, CallersRan}
+use Rattle.sched_workers.specs.Parts.{has_begin, Carried, CallersRan}
 use Rattle.history_law.specs.Seats.{is_release, is_released}
 use Rattle.history_law.proofs.Answered.{true_false}
 use Rattle.history_law.proofs.Behind.{enter_behind}
 use Rattle.run_report.specs.Report.{run_terms}
 use Rattle.settled_runs.specs.Granted.{IsOpened}
-use Rattle.settled_runs.specs.Plain.{action_in, actions_in}
+use Rattle.settled_runs.specs.Plain.{action_in, actions_in, all_statements}
 use Rattle.settled_runs.specs.Settled.{sets_up, set_up, sets_up_first, is_settled_part, is_settled_further, keep_limits}
 use Rattle.settled_runs.specs.RunGranted.{AllGranted, SettledRun, PartsGranted, SettledStatementsAreGranted}
-use Rattle.settled_runs.proofs.Asked.{actions_append}
+use Rattle.settled_runs.proofs.Each.{actions_append, AllSeats, OnlyBy, Within, caller_at, made_each, map_seats, statements_each, within_behind, within_front, each_front}
 use Rattle.settled_runs.proofs.Cuts.{Placed, placed, lines_append, Cut, cut}
-use Rattle.settled_runs.proofs.Counted.{bit, asks, asked, asked_append, carried_asks, Asking, some_asks}
-use Rattle.settled_runs.proofs.Opened.{legal_before, further_unclosed, is_opened, first_of, Front, front_lines, front_releases, some_entry_asks, releases_op, release_class}
-use Rattle.settled_runs.proofs.Places.{Has, has_more, Split, carried_split, HasAction, action_has}
-use Rattle.settled_runs.proofs.Walk.{MadeAction, Finds, walk}
-use Rattle.settled_runs.proofs.MainGranted.{settled_parts, all_parts, all_limits, nothing, main_granted}
+use Rattle.settled_runs.proofs.Counted.{bit, asks, asked, asked_append, Asking, some_asks, calls_none, none_asked, only_asks}
+use Rattle.settled_runs.proofs.Opened.{legal_before, further_unclosed, is_opened, first_of, Front, front_lines, some_entry_asks, releases_op, begin_none, release_calls, releases_main}
+use Rattle.settled_runs.proofs.Places.{Has, has_more, HasAction, action_has}
+use Rattle.settled_runs.proofs.Walk.{MadeAction, Finds, Seat, seat_granted}
+use Rattle.settled_runs.proofs.MainGranted.{settled_parts, all_parts, all_limits, main_granted, main_seat}
+use Rattle.settled_runs.proofs.Along.{Found, get_at, same_front, step_granted, found}
 
 -- Statements that set up before they begin
 
@@ -46,9 +46,9 @@ pub record SetUp (ss : List Statement) : Type 0 where
   pub begin : Statement
   pub behind : List Statement
   pub is : ss ≡ before ++ begin ∷ behind
-  pub begins : is_begin begin.deed ≡ true
+  pub starts : is_begin begin.deed ≡ true
   pub none : set_up behind ≡ false
-  pub first : how_many (λ s. is_begin s.deed) before ≡ 0
+  pub first : begins before ≡ 0
 
 pub set_up_split : (ss : List Statement) → sets_up_first ss ≡ true → SetUp ss
 unfolding sets_up_first
@@ -56,12 +56,12 @@ set_up_split [] e = true_false e refl
 set_up_split (s ∷ ss) e = by (is_begin s.deed) refl e (set_up_split ss)
   where
     by : (b : Bool) → is_begin s.deed ≡ b → cond b (not (set_up ss)) (sets_up_first ss) ≡ true → (sets_up_first ss ≡ true → SetUp ss) → SetUp (s ∷ ss)
-    by true i f k = record { before = []; begin = s; behind = ss; is = refl; begins = i; none = not_true _ f; first = refl }
+    by true i f k = record { before = []; begin = s; behind = ss; is = refl; starts = i; none = not_true _ f; first = refl }
     by false i f k =
         let x = k f in
         let z : bit (is_begin s.deed) ≡ 0 = ap bit i in
-        let n : how_many (λ t. is_begin t.deed) x.before ≡ 0 = x.first in
-        record { before = s ∷ x.before; begin = x.begin; behind = x.behind; is = λ j. s ∷ x.is j; begins = x.begins; none = x.none; first = omega arith }
+        let n : begins x.before ≡ 0 = x.first in
+        record { before = s ∷ x.before; begin = x.begin; behind = x.behind; is = λ j. s ∷ x.is j; starts = x.starts; none = x.none; first = omega arith }
 
 -- the actions of the statements are those before `begin`
 no_actions : (ss : List Statement) → set_up ss ≡ false → actions_in ss ≡ []
@@ -85,7 +85,7 @@ begin_acts _ e = true_false e refl
 pub first_actions : (ss : List Statement) (x : SetUp ss) → actions_in ss ≡ actions_in x.before
 first_actions ss x =
     ap actions_in x.is ∙ actions_append x.before (x.begin ∷ x.behind)
-    ∙ ap (λ (z : List Action). actions_in x.before ++ z) ((λ i. begin_acts x.begin.deed x.begins i ++ actions_in x.behind) ∙ no_actions x.behind x.none) ∙ append-nil (actions_in x.before)
+    ∙ ap (λ (z : List Action). actions_in x.before ++ z) ((λ i. begin_acts x.begin.deed x.starts i ++ actions_in x.behind) ∙ no_actions x.behind x.none) ∙ append-nil (actions_in x.before)
 
 pub has_one_begin : (before : List Statement) (s : Statement) (behind : List Statement) → is_begin s.deed ≡ true → has_begin (before ++ s ∷ behind) ≡ true
 unfolding has_begin
@@ -95,18 +95,6 @@ has_one_begin (t ∷ before) s behind e = by (is_begin t.deed) (has_one_begin be
     by : (b : Bool) → list_any (λ z. is_begin z.deed) (before ++ s ∷ behind) ≡ true → (b || list_any (λ z. is_begin z.deed) (before ++ s ∷ behind)) ≡ true
     by true k = refl
     by false k = k
-
-granted_front : (ss ts : List Statement) (rs qs : List Reply) → length rs ≡ length ss → AllGranted (ss ++ ts) (rs ++ qs) → AllGranted ss rs
-granted_front [] ts rs qs l a = tt
-granted_front (s ∷ ss) ts [] qs l a = absurd (omega arith)
-granted_front (s ∷ ss) ts (r ∷ rs) qs l a = (a.0, granted_front ss ts rs qs (omega arith) a.1)
-
-pub as_many : (bound : List ℕ) (ss : List Statement) (ls : List Line) (rs : List Reply) → Carried Made bound ss ls rs → length rs ≡ length ss
-unfolding Carried
-as_many bound [] ls [] c = refl
-as_many bound [] ls (r ∷ rs) c = absurd c
-as_many bound (s ∷ ss) ls [] c = absurd c
-as_many bound (s ∷ ss) ls (r ∷ rs) c = ap suc (as_many (bound ++ handle_of r ∷ []) ss c.1 rs c.4)
 
 -- What main's lines are until it lets the others begin
 
@@ -128,38 +116,29 @@ unfolding is_begin
 begin_released deed.Begin bound front r e m = m.0
 begin_released _ bound front r e m = true_false e refl
 
--- the first of these statements makes the release
-pub record Released (rest : List Line) : Type 0 where
-  pub told : Reply
-  pub behind : List Line
-  pub is : rest ≡ line op.Release told 0 ∷ behind
-
-released : (bound : List ℕ) (s : Statement) (ss : List Statement) (rest : List Line) (rs : List Reply) → is_begin s.deed ≡ true → Carried Made bound (s ∷ ss) rest rs → Released rest
-unfolding Carried
-released bound s ss rest [] b c = absurd c
-released bound s ss rest (r ∷ rs) b c = record { told = r; behind = c.1; is = c.2 ∙ ap (λ (z : List Line). z ++ c.1) (begin_released s.deed bound c.0 r b c.3) }
-
-none_asked : (first : List Line) (bound : List ℕ) (ss : List Statement) (rs : List Reply) → Carried Made bound ss first rs → how_many (λ t. is_begin t.deed) ss ≡ 0 → asked is_release first ≡ 0
-none_asked first bound ss rs c n =
-    let a : asked is_release first ≤ how_many (λ t. is_begin t.deed) ss = carried_asks is_release is_begin release_class bound ss first rs c in
-    let b : how_many (λ t. is_begin t.deed) ss ≡ 0 = n in
-    omega arith
-
 began : (ss : List Statement) (x : SetUp ss) (M body : List Line) (rs : List Reply) → M ≡ head_of (has_begin ss) ++ (body ++ tail_of_main) → Carried Made [] ss body rs → AllGranted ss rs → Began ss x M
-began ss x M body rs i c g =
-    let sp : Split [] x.before (x.begin ∷ x.behind) body rs = carried_split [] x.before (x.begin ∷ x.behind) body rs (subst (λ (z : List Statement). Carried Made [] z body rs) x.is c) in
-    let r : Released sp.rest = released (map handle_of sp.replies) x.begin x.behind sp.rest sp.others x.begins sp.behind in
-    record {
-      first = sp.first;
-      replies = sp.replies;
-      release = line op.Release r.told 0;
-      rest = r.behind ++ tail_of_main;
-      is = i ∙ (λ j. head_of ((ap has_begin x.is ∙ has_one_begin x.before x.begin x.behind x.begins) j) ++ ((sp.is ∙ ap (λ (z : List Line). sp.first ++ z) r.is) j ++ tail_of_main))
-          ∙ ap (λ (z : List Line). opening_line ∷ z) (append_assoc sp.first (line op.Release r.told 0 ∷ r.behind) tail_of_main);
-      carried = sp.before;
-      granted = granted_front x.before (x.begin ∷ x.behind) sp.replies sp.others (as_many [] x.before sp.first sp.replies sp.before) (subst (AllGranted (x.before ++ x.begin ∷ x.behind)) sp.told (subst (λ (z : List Statement). AllGranted z rs) x.is g));
-      none = none_asked sp.first [] x.before sp.replies sp.before x.first;
-    }
+began ss x M body rs i c g = record {
+  first = f.first;
+  replies = f.replies;
+  release = line op.Release f.reply 0;
+  rest = f.step.more ++ tail_of_main;
+  is = i ∙ (λ j. head_of ((ap has_begin x.is ∙ has_one_begin x.before x.begin x.behind x.starts) j) ++ ((f.step.is ∙ ap (λ (z : List Line). f.first ++ (z ++ f.step.more)) (begin_released x.begin.deed (map handle_of f.replies) f.front f.reply x.starts f.step.made)) j ++ tail_of_main))
+      ∙ ap (λ (z : List Line). opening_line ∷ z) (append_assoc f.first (line op.Release f.reply 0 ∷ f.step.more) tail_of_main);
+  carried = carried;
+  granted = subst (λ (z : List Statement). AllGranted z f.replies) same (step_granted ss body rs f.before f.first f.replies x.begin f.front f.reply f.step g).0;
+  none = none_asked is_release f.first (statements_each (λ o. is_release o ≡ false) x.before f.first f.replies carried
+      (λ b l1 r1 s front r y. made_each (λ o. is_release o ≡ false) (call_of (map handle_of r1) s.deed) front r
+      (calls_none is_release (call_of (map handle_of r1) s.deed) (is_begin s.deed) (release_calls (map handle_of r1) s.deed) (begin_none b s y.rest (ap begins (sym y.parted) ∙ x.first))) y.made));
+}
+  where
+    f : Found ss body rs (length x.before) x.begin
+    f = found ss body rs c (length x.before) x.begin (ap (λ (z : List Statement). slice_get z (length x.before)) x.is ∙ get_at x.before x.begin x.behind)
+
+    same : f.before ≡ x.before
+    same = same_front f.before x.begin f.step.rest x.before x.begin x.behind (sym f.step.parted ∙ x.is) f.early
+
+    carried : Carried Made [] x.before f.first f.replies
+    carried = subst (λ (z : List Statement). Carried Made [] z f.first f.replies) same f.step.carried
 
 -- A front of the list in which somebody has released
 
@@ -214,11 +193,16 @@ module _ (layout : Layout) (load : Workload) (es : List NodeEntry) (ns : List �
       some_release : 1 ≤ asks is_release entered.before
       some_release = some_entry_asks is_released is_release releases_op entered.before (enter_behind (run_terms layout load) entered.before entered.behind who legal_cut)
 
+      only_main_released : OnlyBy main is_release entered.before
+      only_main_released =
+          each_front (λ (e : NodeEntry). is_release e.op ≡ true → e.who ≡ main) entered.before (entry who op.Enter reply.Ok ∷ entered.behind)
+          (subst (OnlyBy main is_release) entered.is (each_front (λ (e : NodeEntry). is_release e.op ≡ true → e.who ≡ main) c.before (entry who l.op l.reply ∷ c.behind) (subst (OnlyBy main is_release) c.is (releases_main layout load es ns u))))
+
       -- main's lines before the caller entered
       seen : (Z : List Line) × (lines_of main entered.before entered.first ≡ (opening_line ∷ (main_began x).first) ++ Z)
       unfolding front
       seen = begun_lines (main_began x).first (main_began x).release (main_began x).rest (lines_of main entered.before entered.first) (lines_of main front.rest front.left) (main_began x).none
-          (sym (front_lines layout load es ns u main entered.before front) ∙ (main_began x).is) (let a : asks is_release entered.before ≤ asked is_release (lines_of main entered.before entered.first) = front_releases layout load es ns u entered.before front in let b : 1 ≤ asks is_release entered.before = some_release in omega arith)
+          (sym (front_lines layout load es ns u main entered.before front) ∙ (main_began x).is) (let a : asks is_release entered.before ≤ asked is_release (lines_of main entered.before entered.first) = only_asks main is_release entered.before entered.first entered.same only_main_released in let b : 1 ≤ asks is_release entered.before = some_release in omega arith)
 
       -- and before the line
       later : List Line
@@ -235,42 +219,53 @@ module _ (layout : Layout) (load : Workload) (es : List NodeEntry) (ns : List �
 
       pub made_late : (p : Action → Bool) → list_any p (actions_in part.statements) ≡ true → MadeAction c.before p
       made_late p e =
-          let y : HasAction (main_began x).first p = action_has [] x.before (main_began x).first (main_began x).replies p (main_began x).carried (main_began x).granted (subst (λ (z : List Action). list_any p z ≡ true) (first_actions part.statements x) e) in
+          let y : HasAction (main_began x).first p = action_has x.before (main_began x).first (main_began x).replies p (main_began x).carried (main_began x).granted (subst (λ (z : List Action). list_any p z ≡ true) (first_actions part.statements x) e) in
           let h : Has (lines_of main c.before c.first) (op.ActionCreate y.job y.kind y.mask) y.handle = subst (λ (z : List Line). Has z (op.ActionCreate y.job y.kind y.mask) y.handle) (sym all_seen) (has_more (opening_line ∷ []) (main_began x).first (seen.0 ++ later) _ _ y.made) in
           let d : Cut main c.before c.first h.before (line (op.ActionCreate y.job y.kind y.mask) (reply.Handle y.handle) h.beside) h.behind = cut main c.before c.first h.before (line (op.ActionCreate y.job y.kind y.mask) (reply.Handle y.handle) h.beside) h.behind h.is in
           record { job = y.job; kind = y.kind; mask = y.mask; handle = y.handle; made = record { before = d.before; who = main; behind = d.behind; is = d.is }; passes = y.passes }
 
     pub further_finds : (all : List Statement) → set_up all ≡ false → Finds layout load es ns who entrance [] all (actions_in part.statements)
-    further_finds all n = record { opened = λ A l B c. opened_late A l B c; unclosed = λ A l B c. further_unclosed layout load es ns u who (entrance ++ A) l (B ++ []) c late; acts = λ A l B c p e. made_late A l B c p e; alone = inl n }
+    further_finds all n = record { opened = λ A l B c. opened_late A l B c; unclosed = λ A l B c. further_unclosed layout load es ns u who (entrance ++ A) l (B ++ []) c late; outside = (refl, tt); acts = λ A l B c p e. made_late A l B c p e; alone = inl n }
 
   -- The further callers
 
-  callers_granted : (x : SetUp part.statements) (first : ℕ) → main < first → (ps : List Part) (rss : List (List Reply)) → CallersRan in_lines (λ who. lines_of who es ns) first ps rss → list_all (is_settled_further load.settings (actions_in part.statements)) ps ≡ true
-      → list_all (λ p. keep_limits p.statements 0 p.statements) ps ≡ true → AllByRecursion IsPart ps → PartsGranted ps rss
+  callers_seats : (x : SetUp part.statements) (first : ℕ) → main < first → (ps : List Part) (rss : List (List Reply)) → CallersRan in_lines (λ who. lines_of who es ns) first ps rss → list_all (is_settled_further load.settings (actions_in part.statements)) ps ≡ true
+      → list_all (λ p. keep_limits p.statements 0 p.statements) ps ≡ true → Each IsPart ps → Within (actions_in (flat_map (λ p. p.statements) ps)) (actions_in (all_statements load)) → AllSeats (Seat layout load es ns) first ps rss
   unfolding CallersRan
-  callers_granted x first late [] rss c e l a = tt
-  callers_granted x first late (p ∷ ps) [] c e l a = absurd c
-  callers_granted x first late (p ∷ ps) (rs ∷ rss) c e l a =
-      let ran : CallerRan in_lines p.statements (lines_of first es ns) rs = c.0 in
+  callers_seats x first late [] rss c e l a w = tt
+  callers_seats x first late (p ∷ ps) [] c e l a w = absurd c
+  callers_seats x first late (p ∷ ps) (rs ∷ rss) c e l a w =
       let here : is_settled_further load.settings (actions_in part.statements) p ≡ true = fst_true _ (list_all (is_settled_further load.settings (actions_in part.statements)) ps) e in (
-        walk layout load es ns u first (line op.Enter reply.Ok ran.entered.0 ∷ []) [] p.statements (actions_in part.statements)
-            (further_finds x first late ran.entered.0 p.statements (not_true _ (fst_true _ (is_settled_part load.settings (actions_in part.statements) p) here)))
-            (fst_true _ (list_all (λ y. keep_limits y.statements 0 y.statements) ps) l)
-            [] [] [] p.statements ran.body rs (nothing layout load es ns u) tt refl tt ran.carried
-            (ran.is ∙ (λ i. ran.entered.1 i ++ sym (append-nil ran.body) i))
-            refl (snd_true (not (set_up p.statements)) _ here) a.0.statements,
-        callers_granted x (suc first) (omega arith) ps rss c.1 (snd_true (is_settled_further load.settings (actions_in part.statements) p) _ e) (snd_true (keep_limits p.statements 0 p.statements) _ l) a.1,
+        record {
+          at = caller_at load es ns (actions_in part.statements) first p rs c.0 here (within_front p.statements (flat_map (λ q. q.statements) ps) _ w);
+          finds = further_finds x first late c.0.entered.0 p.statements (not_true _ (fst_true _ (is_settled_part load.settings (actions_in part.statements) p) here));
+          limits = fst_true _ (list_all (λ y. keep_limits y.statements 0 y.statements) ps) l;
+          are = a.0.statements;
+        },
+        callers_seats x (suc first) (omega arith) ps rss c.1 (snd_true (is_settled_further load.settings (actions_in part.statements) p) _ e) (snd_true (keep_limits p.statements 0 p.statements) _ l) a.1 (within_behind p.statements (flat_map (λ q. q.statements) ps) _ w),
       )
 
-  pub all_granted : PartsGranted (part ∷ (first_of layout load es ns u).others) ((first_of layout load es ns u).replies ∷ (first_of layout load es ns u).further)
-  all_granted = (main_granted layout load es ns u, by (first_of layout load es ns u).others refl)
+  seats_of_parts : AllSeats (Seat layout load es ns) main (part ∷ (first_of layout load es ns u).others) ((first_of layout load es ns u).replies ∷ (first_of layout load es ns u).further)
+  seats_of_parts = (main_seat layout load es ns u, by (first_of layout load es ns u).others refl)
     where
-      by : (ps : List Part) → (first_of layout load es ns u).others ≡ ps → PartsGranted (first_of layout load es ns u).others (first_of layout load es ns u).further
-      by [] i = subst (λ (z : List Part). PartsGranted z (first_of layout load es ns u).further) (sym i) tt
+      by : (ps : List Part) → (first_of layout load es ns u).others ≡ ps → AllSeats (Seat layout load es ns) (suc main) (first_of layout load es ns u).others (first_of layout load es ns u).further
+      by [] i = subst (λ (z : List Part). AllSeats (Seat layout load es ns) (suc main) z (first_of layout load es ns u).further) (sym i) tt
       by (p ∷ ps) i =
-          callers_granted (set_up_split part.statements ((settled_parts layout load es ns u).first p ps i)) (suc main) (omega arith) (first_of layout load es ns u).others (first_of layout load es ns u).further (first_of layout load es ns u).callers
+          callers_seats (set_up_split part.statements ((settled_parts layout load es ns u).first p ps i)) (suc main) (omega arith) (first_of layout load es ns u).others (first_of layout load es ns u).further (first_of layout load es ns u).callers
           (settled_parts layout load es ns u).further (snd_true (keep_limits part.statements 0 part.statements) _ (all_limits layout load es ns u)) (all_parts layout load es ns u).1
+          (within_behind part.statements (flat_map (λ q. q.statements) (first_of layout load es ns u).others) _ (λ q k. subst (λ (z : List Part). list_any q (actions_in (flat_map (λ v. v.statements) z)) ≡ true) (sym (first_of layout load es ns u).are) k))
+
+  pub seats : AllSeats (Seat layout load es ns) main load.parts u.run.replies
+  seats =
+      subst (λ (ps : List Part). AllSeats (Seat layout load es ns) main ps u.run.replies) (sym (first_of layout load es ns u).are)
+      (subst (AllSeats (Seat layout load es ns) main (part ∷ (first_of layout load es ns u).others)) (sym (first_of layout load es ns u).told) seats_of_parts)
+
+granted_seats : (first : ℕ) (ps : List Part) (rss : List (List Reply)) → AllSeats (λ w p rs. AllGranted p.statements rs) first ps rss → PartsGranted ps rss
+granted_seats first [] rss a = tt
+granted_seats first (p ∷ ps) [] a = absurd a
+granted_seats first (p ∷ ps) (rs ∷ rss) a = (a.0, granted_seats (suc first) ps rss a.1)
 
 pub settled_statements_are_granted : SettledStatementsAreGranted
 settled_statements_are_granted layout load es ns u =
-    subst (PartsGranted load.parts) (sym (first_of layout load es ns u).told) (subst (λ (ps : List Part). PartsGranted ps ((first_of layout load es ns u).replies ∷ (first_of layout load es ns u).further)) (sym (first_of layout load es ns u).are) (all_granted layout load es ns u))
+    granted_seats load.settings.workers load.parts u.run.replies
+    (map_seats (Seat layout load es ns) (λ w p rs. AllGranted p.statements rs) 0 (λ w p rs l x. seat_granted layout load es ns u w p rs x) load.settings.workers load.parts u.run.replies (omega arith) (seats layout load es ns u))

@@ -1,5 +1,5 @@
 -- Along the statements of a part, the tasks that were put into a group have the fault that the plain report tells of it.
-use Rattle.std.proofs.Common.{◌≡◌, ℕ, suc, ◌+◌, ◌≤◌, ◌<◌, Bool, true, false, cond, List, [], ◌∷◌, ◌++◌, length, Option, Some, None, refl, sym, ◌∙◌, ap, subst, arith, append_assoc, ℤ}
+use Rattle.std.proofs.Common.{◌≡◌, ℕ, ◌+◌, Bool, true, false, cond, List, [], ◌∷◌, ◌++◌, length, Option, Some, None, refl, sym, ◌∙◌, ap, subst, arith, append_assoc, ℤ}
 use Rattle.std.specs.Prelude.{◌==◌, ◌||◌, map, option_and_then, IfSome}
 use Rattle.std.specs.Option.{option_map, option_or}
 use Rattle.std.specs.List.{flat_map}
@@ -31,17 +31,15 @@ use Rattle.sched_workers.specs.Calls.{handle_at, group_at, call_of}
 use Rattle.sched_workers.specs.Lines.{Line, line, before_it, Made, Looked}
 use Rattle.sched_workers.specs.Parts.{Carried}
 use Rattle.history_law.proofs.Answered.{true_false}
-use Rattle.settled_runs.specs.Plain.{queue_at, task_in, plain_end, plain_fault, Faults, with_member, with_task, faults_behind}
-use Rattle.settled_runs.specs.PlainReplies.{IsPlainTask}
+use Rattle.settled_runs.specs.Plain.{queue_at, task_in, plain_end, plain_fault, Faults, with_member, with_task, faults_behind, no_faults}
+use Rattle.settled_runs.specs.PlainReplies.{IsPlainTask, ArePlain, IsPlainReply}
 use Rattle.settled_runs.specs.Settled.{fault_in}
 use Rattle.settled_runs.specs.Verdicts.{members_behind}
 use Rattle.settled_runs.proofs.GroupMembers.{has}
 use Rattle.settled_runs.proofs.MemberFaults.{Matches, no_member, more_member}
 use Rattle.settled_runs.proofs.OneFault.{has_fault, fault_there}
-use Rattle.settled_runs.proofs.Puts.{at_front, BoundBy, bound_by, bound_longer}
+use Rattle.settled_runs.proofs.Along.{BoundBy, along, step_bound, step_statement}
 use Rattle.settled_runs.proofs.SeatMembers.{members_in, members_append}
-use Rattle.settled_runs.proofs.SettledReplies.{IsSettledReply, AreSettledReplies}
-use Rattle.settled_runs.proofs.Walk.{snoc}
 
 module _ (actions : List Action) (all : List Statement) where
   -- the faults behind statements
@@ -53,41 +51,20 @@ module _ (actions : List Action) (all : List Statement) where
   after_both faults [] ts = refl
   after_both faults (s ∷ ss) ts = after_both (faults_behind actions all faults s.deed) ss ts
 
-  -- A group that is bound behind statements has no fault behind them
+  -- plain replies, with one more, and the one of a place
+  pub plain_more : (ends : ℕ → Option TaskEnd) (faults : Faults) (ss : List Statement) (rs : List Reply) (s : Statement) (r : Reply) → length rs ≡ length ss → ArePlain actions all ends faults ss rs → IsPlainReply actions all ends (faults_after faults ss) s.deed r → ArePlain actions all ends faults (ss ++ s ∷ []) (rs ++ r ∷ [])
+  unfolding ArePlain
+  plain_more ends faults [] [] s r l a x = (x, tt)
+  plain_more ends faults [] (q ∷ rs) s r l a x = absurd (omega arith)
+  plain_more ends faults (t ∷ ss) [] s r l a x = absurd (omega arith)
+  plain_more ends faults (t ∷ ss) (q ∷ rs) s r l a x = (a.0, plain_more ends (faults_behind actions all faults t.deed) ss rs s r (omega arith) a.1 x)
 
-  module _ (before : List Statement) (faults : Faults) (g : ℕ) (late : length before ≤ g) (none : faults g ≡ None) where
-    by_group : (group : Option ℕ) (fault : Option MtapiStatus) → IfSome group (IsBoundAt sort.Group before) → with_member group fault faults g ≡ None
-    by_group None fault o = none
-    by_group (Some x) fault o = by (g == x) refl
-      where
-        by : (b : Bool) → (g == x) ≡ b → cond b (option_or (faults x) fault) (faults g) ≡ None
-        by false i = none
-        by true i = let same : g ≡ x = eqb-true g x i in let k : x < length before = o.0 in absurd (omega arith)
-
-    cleared : (b : Bool) → cond b None (faults g) ≡ None
-    cleared true = refl
-    cleared false = none
-
-    untouched_by : (s : Statement) → IsStatement before s → faults_behind actions all faults s.deed g ≡ None
-    unfolding faults_behind task_in row deed_spelled
-    untouched_by s st = by s.deed st.options
-      where
-        by_queue : (queue : ℕ) (args : List ℤ) (cores : Mask) (detached : Bool) (group : Option ℕ) (q : Option Queue) → IfSome group (IsBoundAt sort.Group before)
-            → with_task actions (option_map (λ x. record { job = x.job; args = args; priority = x.priority; cores = cores.0; detached = detached; group = group; queue = Some queue }) q) faults g ≡ None
-        by_queue queue args cores detached group None o = none
-        by_queue queue args cores detached group (Some x) o = by_group group (plain_fault actions (record { job = x.job; args = args; priority = x.priority; cores = cores.0; detached = detached; group = group; queue = Some queue })) o
-
-        by : (d : Deed) → AllFit before (fields (word_for d)) (values d) → faults_behind actions all faults d g ≡ None
-        by (deed.Start job args priority cores detached group) o = by_group group (plain_fault actions (record { job = job; args = args; priority = priority; cores = cores.0; detached = detached; group = group; queue = None })) o.1.1.1.1.1.0
-        by (deed.Enqueue queue args cores detached group) o = by_queue queue args cores detached group (queue_at all queue) o.1.1.1.1.0
-        by (deed.WaitAll x t) o = cleared (g == x)
-        by _ o = none
-
-  pub untouched : (before ss : List Statement) (faults : Faults) (g : ℕ) → AreStatements before ss → length before + length ss ≤ suc g → faults g ≡ None → faults_after faults ss g ≡ None
-  untouched before [] faults g a l e = e
-  untouched before (s ∷ ss) faults g a l e =
-      untouched (before ++ s ∷ []) ss (faults_behind actions all faults s.deed) g a.1 (let n : length (before ++ s ∷ []) ≡ suc (length before) = snoc before s in omega arith)
-      (untouched_by before faults g (omega arith) e s a.0)
+  plain_at : (ends : ℕ → Option TaskEnd) (faults : Faults) (ss : List Statement) (s : Statement) (ts : List Statement) (rs : List Reply) (r : Reply) (qs : List Reply) → length rs ≡ length ss → ArePlain actions all ends faults (ss ++ s ∷ ts) (rs ++ r ∷ qs) → IsPlainReply actions all ends (faults_after faults ss) s.deed r
+  unfolding ArePlain
+  plain_at ends faults [] s ts [] r qs l a = a.0
+  plain_at ends faults [] s ts (q ∷ rs) r qs l a = absurd (omega arith)
+  plain_at ends faults (t ∷ ss) s ts [] r qs l a = absurd (omega arith)
+  plain_at ends faults (t ∷ ss) s ts (q ∷ rs) r qs l a = plain_at ends (faults_behind actions all faults t.deed) ss s ts rs r qs (omega arith) a.1
 
 -- the faults of all tasks of the part that are in groups
 abbrev pub faults_of : List Action → List Statement → List (ℕ × MtapiStatus)
@@ -192,8 +169,8 @@ module _ (actions : List Action) (all : List Statement) (ends : ℕ → Option T
         (task_fits u j e n (subst (λ (x : NewTask). IfSome x.group (IsBoundAt sort.Group before)) q b)))))
 
     -- the statement keeps the group fit
-    pub statement_fits : (front : List Line) (r : Reply) → IsStatement before s → Made (call_of bound s.deed) front r → IsSettledReply actions all ends s.deed r → Fits (members_in h hs front) (faults_behind actions all faults s.deed place)
-    unfolding faults_behind task_in row deed_spelled
+    pub statement_fits : (front : List Line) (r : Reply) → IsStatement before s → Made (call_of bound s.deed) front r → IsPlainReply actions all ends faults s.deed r → Fits (members_in h hs front) (faults_behind actions all faults s.deed place)
+    unfolding IsPlainReply faults_behind task_in row deed_spelled
     statement_fits front r st m p = by s.deed refl st.options st.uses m p
       where
         by_queue : (queue : ℕ) (args : List ℤ) (cores : Mask) (detached : Bool) (group : Option ℕ) (q : Option Queue) → IfSome group (IsBoundAt sort.Group before)
@@ -209,7 +186,7 @@ module _ (actions : List Action) (all : List Statement) (ends : ℕ → Option T
             asked_fits (op.TaskEnqueue (record { 0 = handle_at bound queue }) args cores detached (option_map (group_at bound) group)) front r
             (record { job = x.job; args = args; priority = x.priority; cores = cores.0; detached = detached; group = group; queue = Some queue }) w.0 (i ∙ w.1) (some_same w.1) w.2 w.3 w.4 o n refl
 
-        by : (d : Deed) → s.deed ≡ d → AllFit before (fields (word_for d)) (values d) → IfSome (place_used d) (λ v. IsBoundAt v.0 before v.1) → Made (call_of bound d) front r → IsSettledReply actions all ends d r → Fits (members_in h hs front) (faults_behind actions all faults d place)
+        by : (d : Deed) → s.deed ≡ d → AllFit before (fields (word_for d)) (values d) → IfSome (place_used d) (λ v. IsBoundAt v.0 before v.1) → Made (call_of bound d) front r → IsPlainReply actions all ends faults d r → Fits (members_in h hs front) (faults_behind actions all faults d place)
         by (deed.Start job args priority cores detached group) i o v n w =
             asked_fits (op.TaskStart job args priority cores detached (option_map (group_at bound) group)) front r
             (record { job = job; args = args; priority = priority; cores = cores.0; detached = detached; group = group; queue = None }) w.0 (ap (task_in all) i ∙ w.1) (some_same w.1) w.2 w.3 w.4 o.1.1.1.1.1.0 n.0 refl
@@ -224,31 +201,21 @@ module _ (actions : List Action) (all : List Statement) (ends : ℕ → Option T
 
   -- Statements
 
-  module _ (whole rest : List Statement) (full : List ℕ) (within : all ≡ whole ++ rest) (own : handle_at full place ≡ h) (only : (other : ℕ) → BoundBy sort.Group whole other → handle_at full other ≡ h → other ≡ place) where
-    same_group : (before behind : List Statement) (bound more : List ℕ) → whole ≡ before ++ behind → full ≡ bound ++ more → length bound ≡ length before → (g : ℕ) → IsBoundAt sort.Group before g → (handle_at bound g == h) ≡ (place == g)
-    same_group before behind bound more i j l g o = by (handle_at bound g == h) refl (place == g) refl
-      where
-        at : handle_at full g ≡ handle_at bound g
-        at = ap (λ (x : List ℕ). handle_at x g) j ∙ at_front bound more g (let z : g < length before = o.0 in omega arith)
+  both_ways : (a b : Bool) → (a ≡ true → b ≡ true) → (b ≡ true → a ≡ true) → a ≡ b
+  both_ways true b f k = sym (f refl)
+  both_ways false true f k = k refl
+  both_ways false false f k = refl
 
-        b : BoundBy sort.Group whole g
-        b = subst (λ (x : List Statement). BoundBy sort.Group x g) (sym i) (bound_longer sort.Group before behind g (bound_by sort.Group before g o))
-
-        by : (a : Bool) → (handle_at bound g == h) ≡ a → (c : Bool) → (place == g) ≡ c → a ≡ c
-        by true x true y = refl
-        by false x false y = refl
-        by true x false y = true_false (eq-eqb place g (sym (only g b (at ∙ eqb-true (handle_at bound g) h x)))) y
-        by false x true y = true_false (eq-eqb (handle_at bound g) h (sym at ∙ ap (handle_at full) (sym (eqb-true place g y)) ∙ own)) x
-
-    pub walk : (before ss : List Statement) (bound : List ℕ) (faults : Faults) (hs : List ℕ) (ls : List Line) (rs : List Reply) → Carried Made bound ss ls rs → AreSettledReplies actions all ends ss rs → whole ≡ before ++ ss → full ≡ bound ++ map handle_of rs → length bound ≡ length before → AreStatements before ss
-        → Fits hs (faults place) → Fits (members_in h hs ls) (faults_after actions all faults ss place)
-    unfolding Carried
-    walk before [] bound faults hs ls [] c p i j l a f = subst (λ (x : List Line). Fits (members_in h hs x) (faults place)) (sym c) f
-    walk before [] bound faults hs ls (r ∷ rs) c p i j l a f = absurd c
-    walk before (s ∷ ss) bound faults hs ls [] c p i j l a f = absurd c
-    walk before (s ∷ ss) bound faults hs ls (r ∷ rs) c p i j l a f =
-        subst (λ (x : List ℕ). Fits x (faults_after actions all (faults_behind actions all faults s.deed) ss place)) (sym (ap (members_in h hs) c.2 ∙ members_append h hs c.0 c.1))
-        (walk (before ++ s ∷ []) ss (bound ++ handle_of r ∷ []) (faults_behind actions all faults s.deed) (members_in h hs c.0) c.1 rs c.4 p.1
-        (i ∙ sym (append_assoc before (s ∷ []) ss)) (j ∙ sym (append_assoc bound (handle_of r ∷ []) (map handle_of rs)))
-        (snoc bound (handle_of r) ∙ ap suc l ∙ sym (snoc before s)) a.1
-        (statement_fits before (ss ++ rest) s bound (within ∙ ap (λ (x : List Statement). x ++ rest) i ∙ append_assoc before (s ∷ ss) rest) (same_group before (s ∷ ss) bound (handle_of r ∷ map handle_of rs) i j l) faults hs f c.0 r a.0 c.3 p.0))
+  pub fits_along : (ss : List Statement) (ls : List Line) (rs : List Reply) → Carried Made [] ss ls rs → AreStatements [] ss → (rest : List Statement) → all ≡ ss ++ rest → handle_at (map handle_of rs) place ≡ h → ((other : ℕ) → BoundBy sort.Group ss other → handle_at (map handle_of rs) other ≡ h → other ≡ place)
+      → ArePlain actions all ends no_faults ss rs → Fits (members_in h [] ls) (faults_after actions all no_faults ss place)
+  fits_along ss ls rs c a rest within own only p =
+      along ss ls rs (λ b l r. Fits (members_in h [] l) (faults_after actions all no_faults b place))
+      (λ b l1 r1 s front r x i.
+      subst (λ (y : List ℕ). Fits y (faults_after actions all no_faults (b ++ s ∷ []) place)) (sym (members_append h [] l1 front))
+      (subst (λ (y : Faults). Fits (members_in h (members_in h [] l1) front) (y place)) (sym (after_both actions all no_faults b (s ∷ [])))
+      (statement_fits b (x.rest ++ rest) s (map handle_of r1) (within ∙ ap (λ (z : List Statement). z ++ rest) x.parted ∙ append_assoc b (s ∷ x.rest) rest)
+      (λ g o. let v = step_bound ss ls rs b l1 r1 s front r x sort.Group g o in
+      both_ways (handle_at (map handle_of r1) g == h) (place == g) (λ e. eq-eqb place g (sym (only g v.0 (v.1 ∙ eqb-true (handle_at (map handle_of r1) g) h e))))
+      (λ e. eq-eqb (handle_at (map handle_of r1) g) h (sym v.1 ∙ ap (handle_at (map handle_of rs)) (sym (eqb-true place g e)) ∙ own)))
+      (faults_after actions all no_faults b) (members_in h [] l1) i front r (step_statement ss ls rs b l1 r1 s front r x a) x.made
+      (plain_at actions all ends no_faults b s x.rest r1 r x.others x.many (subst (λ (z : List Statement). ArePlain actions all ends no_faults z (r1 ++ r ∷ x.others)) x.parted (subst (λ (z : List Reply). ArePlain actions all ends no_faults ss z) x.told p)))))) c (fit_none actions all F place)

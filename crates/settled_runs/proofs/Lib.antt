@@ -13,6 +13,8 @@ pub mod Verdicts
 pub mod Asked
 pub mod RunEnds
 pub mod Cuts
+pub mod Along
+pub mod Each
 pub mod Counted
 pub mod Opened
 pub mod Places
@@ -26,16 +28,12 @@ pub mod ReplyWalk
 pub mod RunReplies
 pub mod Owners
 pub mod Waited
-pub mod GroupOwners
 pub mod SeatMembers
 pub mod MemberFaults
-pub mod SettledReplies
 pub mod StatusNumbers
 pub mod OneFault
 pub mod GoesOn
 pub mod GroupWalk
-pub mod GroupPlaces
 pub mod WaitAll
-pub mod PlainWalk
 pub mod RunReport
 pub mod PlainSummary

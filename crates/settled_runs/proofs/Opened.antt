@@ -1,7 +1,7 @@
 -- In a run of a settled workload the node is open before each statement's entry.
 use Rattle.std.proofs.Common.{◌≡◌, inl, inr, ℕ, suc, ◌+◌, ◌≤◌, ◌<◌, Bool, true, false, cond, List, [], ◌∷◌, ◌++◌, length, refl, sym, ◌∙◌, ap, subst, arith, append_assoc}
-use Rattle.std.specs.Prelude.{◌==◌, ◌&&◌}
-use Rattle.std.specs.List.{flat_map, AllByRecursion}
+use Rattle.std.specs.Prelude.{◌==◌, ◌&&◌, map}
+use Rattle.std.specs.List.{flat_map, AllByRecursion as Each}
 use Rattle.std.proofs.lemmas.Bool.{eq-eqb}
 use Rattle.mtapi_values.specs.declared.handles.Layout.{Layout}
 use Rattle.history.specs.Histories.{entry, entries_of}
@@ -23,20 +23,23 @@ use Rattle.mtapi_machine.proofs.Lists.{Legal-prefix}
 use Rattle.sched_workers.specs.Calls.{call_of}
 use Rattle.sched_workers.specs.Lines.{Line, line, lines_of, head_of, tail_of_main, in_lines}
 use Rattle.sched_workers.specs.Parts.{MainRan, CallersRan, PartsRan}
-use Rattle.sched_workers.specs.RunOf.{is_work, RunOf}
+use Rattle.sched_workers.specs.RunOf.{RunOf}
 use Rattle.history_law.specs.Words.{some_entry}
 use Rattle.history_law.specs.Seats.{closes, NoClose, BySeats, is_release, is_released, says_ok}
 use Rattle.history_law.proofs.Answered.{true_false}
 use Rattle.history_law.proofs.Bounds.{by_seats}
 use Rattle.run_report.specs.Report.{run_terms}
 use Rattle.history_law.specs.Quiet.{AreQuiet}
+use Rattle.mtapi_machine.specs.Row.{handle_of}
 use Rattle.settled_runs.specs.Granted.{IsOpened}
 use Rattle.settled_runs.specs.Plain.{all_statements, actions_in}
 use Rattle.settled_runs.specs.RunGranted.{SettledRun}
 use Rattle.settled_runs.proofs.Asked.{run_planned}
 use Rattle.settled_runs.proofs.RunEnds.{all_quiet}
 use Rattle.settled_runs.proofs.Cuts.{Placed, placed, lines_append, Cut, cut}
-use Rattle.settled_runs.proofs.Counted.{bit, asks, asked, asks_append, asked_append, many_append, total, total_none, total_split, by_seat, CallAsks, IsClass, worker_asks, callers_ask, run_asks, seat_asks}
+use Rattle.settled_runs.proofs.Counted.{bit, asks, asked, asks_append, asked_append, CallAsks, IsClass, run_asks, seat_asks, calls_none, no_bit}
+use Rattle.settled_runs.proofs.Each.{AllSeats, OnlyBy, PartAt, each_behind, each_front, is_at_work, made_each, map_seats, only_by, parts_settled, run_parts, seat_each, with_each}
+use Rattle.settled_runs.proofs.Stays.{quiet_front}
 
 -- Which ops close, and which release
 
@@ -44,22 +47,12 @@ abbrev pub no_deed : Deed → Bool
 no_deed d = false
 
 close_calls : (bound : List ℕ) (d : Deed) → CallAsks closes (bit (no_deed d)) (call_of bound d)
-close_calls bound (deed.Wait place timeout) = λ last. refl
-close_calls bound (deed.WaitAll place timeout) = λ last. refl
-close_calls bound (deed.WaitAny place timeout) = λ last. refl
-close_calls bound (deed.Lock place timeout) = λ last. refl
-close_calls bound (deed.SemLock place timeout) = λ last. refl
-close_calls bound (deed.RwlLock place writer timeout) = λ last. refl
+close_calls bound deed.Begin = omega arith
 close_calls bound _ = omega arith
 
-release_calls : (bound : List ℕ) (d : Deed) → CallAsks is_release (bit (is_begin d)) (call_of bound d)
+pub release_calls : (bound : List ℕ) (d : Deed) → CallAsks is_release (bit (is_begin d)) (call_of bound d)
 unfolding is_begin
-release_calls bound (deed.Wait place timeout) = λ last. refl
-release_calls bound (deed.WaitAll place timeout) = λ last. refl
-release_calls bound (deed.WaitAny place timeout) = λ last. refl
-release_calls bound (deed.Lock place timeout) = λ last. refl
-release_calls bound (deed.SemLock place timeout) = λ last. refl
-release_calls bound (deed.RwlLock place writer timeout) = λ last. refl
+release_calls bound deed.Begin = omega arith
 release_calls bound _ = omega arith
 
 pub none_many : (ss : List Statement) → how_many (λ s. false) ss ≡ 0
@@ -74,17 +67,17 @@ no_close (e ∷ es) k = by (closes e.op) refl k (no_close es)
     by true i j r = absurd (omega arith)
     by false i j r = (i, r (omega arith))
 
-close_work : (o : Op) (r : Reply) → is_work o r ≡ true → closes o ≡ false
-close_work op.Close r e = true_false e refl
-close_work op.Final r e = true_false e refl
-close_work _ r e = refl
+close_work : (o : Op) → is_at_work o ≡ true → closes o ≡ false
+close_work op.Close e = true_false e refl
+close_work op.Final e = true_false e refl
+close_work _ e = refl
 
-release_work : (o : Op) (r : Reply) → is_work o r ≡ true → is_release o ≡ false
-release_work op.Release r e = true_false e refl
-release_work _ r e = refl
+release_work : (o : Op) → is_at_work o ≡ true → is_release o ≡ false
+release_work op.Release e = true_false e refl
+release_work _ e = refl
 
 close_class : IsClass closes no_deed
-close_class = record { calls = close_calls; enter = refl; work = close_work; pick = refl }
+close_class = record { calls = close_calls; enter = refl; work = close_work }
 
 -- no statement closes, and main closes twice
 closed_twice : (load : Workload) (es : List NodeEntry) (ns : List ℕ) → length es ≡ length ns → RunOf load es ns → BySeats (load.settings.workers + length load.parts) es → asks closes es ≤ 2
@@ -109,13 +102,6 @@ releases_op e i = by (is_release e.op) i
     by : (b : Bool) → (b && says_ok e.reply) ≡ true → b ≡ true
     by true j = refl
     by false j = j
-
-fewer : (n : ℕ) → n ≤ 0 → n ≡ 0
-fewer n k = omega arith
-
-quiet_front : (L M : List NodeEntry) → AreQuiet (L ++ M) → AreQuiet L
-quiet_front [] M q = tt
-quiet_front (e ∷ L) M q = (q.0, quiet_front L M q.1)
 
 -- an entry of the seat stands in no list without any
 none_of_seat : (who : ℕ) (X Y : List NodeEntry) (e : NodeEntry) → e.who ≡ who → entries_of who (X ++ e ∷ Y) ≡ [] → ⊥
@@ -151,20 +137,12 @@ main_of f main [] rss x = absurd x
 main_of f main (p ∷ ps) [] x = absurd x
 main_of f main (p ∷ ps) (rs ∷ rss) x = record { part = p; others = ps; replies = rs; further = rss; are = refl; told = refl; ran = x.0; callers = x.1 }
 
-begins_many : (ss : List Statement) → how_many (λ s. is_begin s.deed) ss ≡ begins ss
-begins_many [] = refl
-begins_many (s ∷ ss) = ap (λ (n : ℕ). bit (is_begin s.deed) + n) (begins_many ss)
-
-no_begins : (ps : List Part) → AllByRecursion IsFurther ps → how_many (λ s. is_begin s.deed) (flat_map (λ x. x.statements) ps) ≡ 0
-no_begins [] a = refl
-no_begins (p ∷ ps) a =
-    let b : how_many (λ s. is_begin s.deed) (p.statements ++ flat_map (λ x. x.statements) ps) ≡ how_many (λ s. is_begin s.deed) p.statements + how_many (λ s. is_begin s.deed) (flat_map (λ x. x.statements) ps) = many_append (λ s. is_begin s.deed) p.statements _ in
-    let c : how_many (λ s. is_begin s.deed) p.statements ≡ 0 = begins_many p.statements ∙ a.0.begin in
-    let d : how_many (λ s. is_begin s.deed) (flat_map (λ x. x.statements) ps) ≡ 0 = no_begins ps a.1 in
-    omega arith
+pub begin_none : (before : List Statement) (s : Statement) (rest : List Statement) → begins (before ++ s ∷ rest) ≡ 0 → is_begin s.deed ≡ false
+begin_none [] s rest e = no_bit (is_begin s.deed) (omega arith)
+begin_none (t ∷ before) s rest e = begin_none before s rest (omega arith)
 
 pub release_class : IsClass is_release is_begin
-release_class = record { calls = release_calls; enter = refl; work = release_work; pick = refl }
+release_class = record { calls = release_calls; enter = refl; work = release_work }
 
 pub first_head : (b : Bool) (X : List Line) → (R : List Line) × (head_of b ++ X ≡ line op.Initialize reply.Ok 0 ∷ R)
 first_head true X = (X, refl)
@@ -241,27 +219,32 @@ module _ (layout : Layout) (load : Workload) (es : List NodeEntry) (ns : List �
   pub first_of : MainOf (λ who. lines_of who es ns) main load.parts u.run.replies
   first_of = main_of (λ who. lines_of who es ns) main load.parts u.run.replies u.run.parts
 
-  pub further_are : AllByRecursion IsFurther first_of.others
+  pub all_at : AllSeats (PartAt load es ns) main (first_of.part ∷ first_of.others) (first_of.replies ∷ first_of.further)
+  all_at =
+      subst (AllSeats (PartAt load es ns) main (first_of.part ∷ first_of.others)) first_of.told
+      (subst (λ (ps : List Part). AllSeats (PartAt load es ns) main ps u.run.replies) first_of.are (run_parts load es ns u.same u.run seats_are (parts_settled load u.settled)))
+
+  pub further_are : Each IsFurther first_of.others
   further_are = (subst MainFirst first_of.are u.formed.main).1
 
   -- what no further caller asks for, main alone asks for
-  pub only_main : (p : Op → Bool) (q : Deed → Bool) → IsClass p q → how_many (λ s. q s.deed) (flat_map (λ x. x.statements) first_of.others) ≡ 0 → asks p es ≤ asked p (lines_of main es ns)
-  only_main p q k g =
-      let a : asks p es ≡ total 0 (load.settings.workers + length load.parts) (λ w. asked p (lines_of w es ns)) = by_seat p (load.settings.workers + length load.parts) es ns u.same seats_are in
-      let b : total 0 (load.settings.workers + length load.parts) (λ w. asked p (lines_of w es ns)) ≡ total 0 load.settings.workers (λ w. asked p (lines_of w es ns)) + total (0 + load.settings.workers) (length load.parts) (λ w. asked p (lines_of w es ns)) =
-      total_split 0 load.settings.workers (length load.parts) (λ w. asked p (lines_of w es ns)) in
-      let c : total 0 load.settings.workers (λ w. asked p (lines_of w es ns)) ≡ 0 = total_none 0 load.settings.workers (λ w. asked p (lines_of w es ns)) (λ w i j. worker_asks p q k (lines_of w es ns) (u.run.workers w (omega arith))) in
-      let d : total (0 + load.settings.workers) (length load.parts) (λ w. asked p (lines_of w es ns)) ≡ total load.settings.workers (length load.parts) (λ w. asked p (lines_of w es ns)) =
-      ap (λ (j : ℕ). total j (length load.parts) (λ w. asked p (lines_of w es ns))) (let x : 0 + load.settings.workers ≡ load.settings.workers = omega arith in x) in
-      let e : total load.settings.workers (length load.parts) (λ w. asked p (lines_of w es ns)) ≡ asked p (lines_of main es ns) + total (suc main) (length first_of.others) (λ w. asked p (lines_of w es ns)) =
-      ap (λ (x : List Part). total load.settings.workers (length x) (λ w. asked p (lines_of w es ns))) first_of.are in
-      let f : total (suc main) (length first_of.others) (λ w. asked p (lines_of w es ns)) ≤ how_many (λ s. q s.deed) (flat_map (λ x. x.statements) first_of.others) =
-      callers_ask p q k es ns (suc main) first_of.others first_of.further first_of.callers in
-      let z : how_many (λ s. q s.deed) (flat_map (λ x. x.statements) first_of.others) ≡ 0 = g in
-      omega arith
+  pub only_main : (p : Op → Bool) → ((o : Op) → is_at_work o ≡ true → p o ≡ false) → ((w : ℕ) (q : Part) (rs : List Reply) → main < w → PartAt load es ns w q rs × IsFurther q → Each (λ l. p l.op ≡ false) (lines_of w es ns)) → OnlyBy main p es
+  only_main p out further =
+      only_by load es ns u.same u.run seats_are main p out
+      (subst (λ (ps : List Part). AllSeats Others main ps u.run.replies) (sym first_of.are) (subst (AllSeats Others main (first_of.part ∷ first_of.others)) (sym first_of.told)
+      ((λ i. true_false (eq-eqb main main refl) i),
+      map_seats (λ w q rs. PartAt load es ns w q rs × IsFurther q) Others (suc main) (λ w q rs l x i. further w q rs l x) (suc main) first_of.others first_of.further (omega arith)
+      (with_each (PartAt load es ns) IsFurther (suc main) first_of.others first_of.further all_at.1 further_are))))
+    where
+      Others : ℕ → Part → List Reply → Type 0
+      Others w q rs = (w == main) ≡ false → Each (λ l. p l.op ≡ false) (lines_of w es ns)
 
-  releases_main : asks is_release es ≤ asked is_release (lines_of main es ns)
-  releases_main = only_main is_release is_begin release_class (no_begins first_of.others further_are)
+  pub releases_main : OnlyBy main is_release es
+  releases_main =
+      only_main is_release release_work
+      (λ w q rs l x. seat_each load es ns (λ o. is_release o ≡ false) w q rs x.0 (each_front (λ (k : Line). is_release k.op ≡ false) x.0.start x.0.finish (x.0.unreleased l)) (each_behind (λ (k : Line). is_release k.op ≡ false) x.0.start x.0.finish (x.0.unreleased l))
+      (λ b l1 r1 s front r y. made_each (λ o. is_release o ≡ false) (call_of (map handle_of r1) s.deed) front r
+      (calls_none is_release (call_of (map handle_of r1) s.deed) (is_begin s.deed) (release_calls (map handle_of r1) s.deed) (begin_none b s y.rest (ap begins (sym y.parted) ∙ x.1.begin))) y.made))
 
   -- a front of the list, with its numbers
   pub record Front (L : List NodeEntry) : Type 0 where
@@ -274,16 +257,6 @@ module _ (layout : Layout) (load : Workload) (es : List NodeEntry) (ns : List �
 
   pub front_lines : (who : ℕ) (L : List NodeEntry) (f : Front L) → lines_of who es ns ≡ lines_of who L f.numbers ++ lines_of who f.rest f.left
   front_lines who L f = (λ i. lines_of who (f.is i) (f.are i)) ∙ lines_append who L f.rest f.numbers f.left f.same
-
-  pub front_releases : (L : List NodeEntry) (f : Front L) → asks is_release L ≤ asked is_release (lines_of main L f.numbers)
-  front_releases L f =
-      let a : asks is_release es ≤ asked is_release (lines_of main es ns) = releases_main in
-      let b : asks is_release es ≡ asks is_release (L ++ f.rest) = ap (asks is_release) f.is in
-      let c : asks is_release (L ++ f.rest) ≡ asks is_release L + asks is_release f.rest = asks_append (λ e. is_release e.op) L f.rest in
-      let d : asked is_release (lines_of main es ns) ≡ asked is_release (lines_of main L f.numbers ++ lines_of main f.rest f.left) = ap (asked is_release) (front_lines main L f) in
-      let e : asked is_release (lines_of main L f.numbers ++ lines_of main f.rest f.left) ≡ asked is_release (lines_of main L f.numbers) + asked is_release (lines_of main f.rest f.left) = asked_append is_release (lines_of main L f.numbers) (lines_of main f.rest f.left) in
-      let g : asked is_release (lines_of main f.rest f.left) ≤ asks is_release f.rest = seat_asks is_release main f.rest f.left in
-      omega arith
 
 -- An opened node
 

@@ -1,9 +1,8 @@
 -- In a run of a settled workload each statement, other than a wait for all tasks of a group, gets its plain reply.
-use Rattle.std.proofs.Common.{◌≡◌, ℕ, suc, Bool, true, false, List, [], ◌∷◌, ◌++◌, length, Option, Some, None, refl, sym, ◌∙◌, ap, subst, append_assoc, ℤ}
+use Rattle.std.proofs.Common.{◌≡◌, ℕ, Bool, true, false, List, [], ◌∷◌, ◌++◌, Option, Some, None, refl, sym, ◌∙◌, ap, subst, append_assoc, ℤ, ◌+◌}
 use Rattle.std.specs.Prelude.{◌&&◌, not, map, slice_get, option_and_then, IfSome}
 use Rattle.std.specs.List.{list_any}
 use Rattle.std.specs.Option.{option_map}
-use Rattle.std.proofs.lemmas.List.{append-nil}
 use Rattle.std.proofs.lemmas.Bool.{eq-eqb}
 use Rattle.mtapi_values.specs.declared.ends.TaskEnd.{TaskEnd}
 use Rattle.mtapi_values.specs.declared.timeouts.Timeout.{Timeout}
@@ -51,24 +50,26 @@ use Rattle.history_law.proofs.Ages.{SameTask}
 use Rattle.history_law.proofs.Objects.{StartedAs, HasObject, started_as, has_new, cut_from}
 use Rattle.history_law.proofs.Reuse.{fresh_unlisted}
 use Rattle.run_report.specs.Report.{run_terms}
-use Rattle.settled_runs.specs.Plain.{all_statements, actions_in, queue_in, queue_at, task_in, plain_end}
-use Rattle.settled_runs.specs.PlainReplies.{IsPlainTask}
+use Rattle.workload_file.specs.declared.workload.Part.{Part}
+use Rattle.mtapi_machine.specs.GroupRows.{verdict}
+use Rattle.settled_runs.specs.Plain.{all_statements, actions_in, queue_in, queue_at, task_in, plain_end, no_faults}
+use Rattle.settled_runs.specs.PlainReplies.{IsPlainTask, ArePlain, IsPlainReply}
 use Rattle.settled_runs.specs.RunGranted.{GrantedTo, AllGranted, SettledRun}
 use Rattle.settled_runs.specs.Granted.{Asks}
-use Rattle.settled_runs.specs.Waits.{looks_at}
-use Rattle.settled_runs.specs.Settled.{is_infinite, is_alone, waits_for, is_startable, is_settled_deed, are_settled}
-use Rattle.settled_runs.proofs.SettledReplies.{IsSettledReply, AreSettledReplies}
+use Rattle.settled_runs.specs.Settled.{is_infinite, is_alone, waits_for, is_startable, is_settled_deed, are_settled, has_one_fault_a_group, have_one_fault_a_group}
 use Rattle.settled_runs.proofs.Stays.{made_objects_stay}
 use Rattle.settled_runs.proofs.RunEnds.{at_entry, ends_as_asked}
 use Rattle.settled_runs.proofs.Cuts.{Cut, cut}
 use Rattle.settled_runs.proofs.Opened.{legal_here, legal_before, quiet_before}
-use Rattle.settled_runs.proofs.Places.{carried_more, HasQueue, queue_has}
-use Rattle.settled_runs.proofs.Puts.{get_front, BoundBy, bound_by}
-use Rattle.settled_runs.proofs.Walk.{Finds, made_before, granted_more, are_more, snoc, map_more}
+use Rattle.settled_runs.proofs.Places.{HasQueue, queue_has}
+use Rattle.settled_runs.proofs.Along.{get_front, BoundBy, bound_by, along, are_front, step_granted, step_settled, step_statement}
+use Rattle.settled_runs.proofs.Walk.{Finds, made_before, Seat, seat_granted}
 use Rattle.settled_runs.proofs.Waited.{pending_before, unrefused}
-use Rattle.settled_runs.proofs.Counted.{asked}
 use Rattle.settled_runs.proofs.Granted.{is_up, allowed}
 use Rattle.settled_runs.proofs.Waits.{passed}
+use Rattle.settled_runs.proofs.GroupWalk.{faults_after, faults_of, plain_more}
+use Rattle.settled_runs.proofs.Each.{step_lines}
+use Rattle.settled_runs.proofs.WaitAll.{group_told}
 
 -- An accepted task of a queue is as the queue says
 
@@ -118,8 +119,8 @@ module _ (layout : Layout) (load : Workload) (es : List NodeEntry) (ns : List �
         let n : IsNext s e = cut_from (opening terms) c.before c.behind e (at_entry layout load es ns u.settled u.legal u.same u.run c.before c.behind e h c.is refl) in
         ends_as_asked layout load es ns u.settled u.legal u.same u.run c.before c.behind e h c.is refl (asked_of q.0 y args cores detached group) s.starts (queued s who q args cores detached group h y i n.allowed)
 
-  module _ (finish : List Line) (all : List Statement) (known : List Action) (f : Finds layout load es ns who start finish all known) (outside : (h : ℕ) → asked (looks_at h) start ≡ 0) (whole : are_settled load.settings known all [] all ≡ true) where
-    module _ (before : List Statement) (l1 : List Line) (r1 : List Reply) (c1 : Carried Made [] before l1 r1) (g1 : AllGranted before r1) (s : Statement) (more : List Statement) (split : all ≡ before ++ s ∷ more) (st : IsStatement before s) (are : AreStatements [] before)
+  module _ (finish : List Line) (all : List Statement) (known : List Action) (f : Finds layout load es ns who start finish all known) (whole : are_settled load.settings known all [] all ≡ true) (one : have_one_fault_a_group (faults_of actions all) ≡ true) where
+    module _ (before : List Statement) (l1 : List Line) (r1 : List Reply) (c1 : Carried Made [] before l1 r1) (g1 : AllGranted before r1) (p1 : ArePlain actions all (λ h. end_at (after terms es).tasks h) no_faults before r1) (s : Statement) (more : List Statement) (split : all ≡ before ++ s ∷ more) (st : IsStatement before s) (are : AreStatements [] before)
         (ok : is_settled_deed load.settings (known ++ actions_in before) before all s.deed ≡ true) where
       one_line : (o : Op) (front : List Line) (r : Reply) (h : ℕ) (B : List Line) → lines_of who es ns ≡ (start ++ l1) ++ (front ++ (B ++ finish)) → front ≡ line o r 0 ∷ [] → r ≡ reply.Handle h → lines_of who es ns ≡ (start ++ l1) ++ line o (reply.Handle h) 0 ∷ (B ++ finish)
       one_line o front r h B at e i = at ∙ ap (λ (z : List Line). (start ++ l1) ++ (z ++ (B ++ finish))) (e ∙ ap (λ (x : Reply). line o x 0 ∷ []) i)
@@ -129,7 +130,7 @@ module _ (layout : Layout) (load : Workload) (es : List NodeEntry) (ns : List �
       queue_there queue i x e l B c =
           let b : BoundBy sort.Queue before queue = bound_by sort.Queue before queue i in
           let q : queue_in b.statement.deed ≡ Some x = sym (ap (option_and_then (λ z. queue_in z.deed)) (ap (λ (z : List Statement). slice_get z queue) split ∙ get_front before (s ∷ more) queue b.early ∙ b.found)) ∙ e in
-          let y : HasQueue [] before l1 r1 c1 g1 queue x = queue_has [] before l1 r1 c1 g1 queue b.statement x b.found q in
+          let y : HasQueue before l1 r1 c1 g1 queue x = queue_has before l1 r1 c1 g1 queue b.statement x b.found q in
           made_objects_stay terms c.before (op.QueueCreate y.id y.job y.priority y.limit y.ordered y.retain) (handle_at (map handle_of r1) queue) (legal_before layout load es ns u who (start ++ l1) l B c) (quiet_before layout load es ns u who (start ++ l1) l B c)
           (made_before es ns who start l1 l B c (op.QueueCreate y.id y.job y.priority y.limit y.ordered y.retain) (handle_at (map handle_of r1) queue) y.made)
           ∙ ap Some y.same
@@ -148,7 +149,7 @@ module _ (layout : Layout) (load : Workload) (es : List NodeEntry) (ns : List �
           let a : (true && is_alone (option_and_then (λ z. task_in all z.deed) (slice_get all place))) ≡ true = fst_true _ (not (list_any (λ z. waits_for place z.deed) before)) e in
           let o : Bool → Op = λ last. op.TaskLook (record { 0 = handle_at (map handle_of r1) place }) last in
           let bi : List Line = before_it (op.TaskLook (record { 0 = handle_at (map handle_of r1) place }) false) k.first in
-          unrefused layout load es ns u who start finish all known f outside whole before l1 r1 c1 g1 are s more split place i (snd_true true _ a) (not_true _ (snd_true (true && is_alone (option_and_then (λ z. task_in all z.deed) (slice_get all place))) _ e))
+          unrefused layout load es ns u who start finish all known f whole before l1 r1 c1 g1 are s more split place i (snd_true true _ a) (not_true _ (snd_true (true && is_alone (option_and_then (λ z. task_in all z.deed) (slice_get all place))) _ e)) (front ++ (B ++ finish)) at
           bi k.beside r B (pending_before (handle_at (map handle_of r1) place) (op.TaskLook (record { 0 = handle_at (map handle_of r1) place }) false) k.first)
           (at ∙ ap (λ (z : List Line). (start ++ l1) ++ (z ++ (B ++ finish))) (k.is ∙ ap (λ (w : Bool). bi ++ line (op.TaskLook (record { 0 = handle_at (map handle_of r1) place }) w) r k.beside ∷ []) k.within)
           ∙ ap (λ (z : List Line). (start ++ l1) ++ z) (append_assoc bi (line (op.TaskLook (record { 0 = handle_at (map handle_of r1) place }) false) r k.beside ∷ []) (B ++ finish))
@@ -157,8 +158,22 @@ module _ (layout : Layout) (load : Workload) (es : List NodeEntry) (ns : List �
       wait_told place timeout.NoWait e i front r B at k = true_false e refl
       wait_told place (timeout.Looks n) e i front r B at k = true_false e refl
 
-      pub plain_reply : (front : List Line) (r : Reply) (B : List Line) → lines_of who es ns ≡ (start ++ l1) ++ (front ++ (B ++ finish)) → Made (call_of (map handle_of r1) s.deed) front r → GrantedTo s.deed r → IsSettledReply actions all (λ h. end_at (after terms es).tasks h) s.deed r
-      unfolding is_settled_deed task_in row_of deed_spelled plain_end
+      -- the wait for all tasks of a group
+      wait_all : (place : ℕ) (t : Timeout) → is_infinite t ≡ true → IsBoundAt sort.Group before place → (front : List Line) (r : Reply) (B : List Line) → lines_of who es ns ≡ (start ++ l1) ++ (front ++ (B ++ finish))
+          → Looked false (λ last. op.AllLook (record { 0 = handle_at (map handle_of r1) place }) last) t front r → r ≡ verdict (faults_after actions all no_faults before place)
+      wait_all place timeout.Infinite e i front r B at k =
+          group_told layout load es ns u who start finish all known f whole one before l1 r1 c1 g1 are (s ∷ more) split place i (front ++ (B ++ finish)) at p1 k.beside r B (at ∙ ap (λ (z : List Line). (start ++ l1) ++ (z ++ (B ++ finish))) front_is) k.decides
+        where
+          front_is : front ≡ line (op.AllLook (record { 0 = handle_at (map handle_of r1) place }) false) r k.beside ∷ []
+          front_is =
+              k.is
+              ∙ ap (λ (x : Option ℕ). before_it (op.AllLook (record { 0 = handle_at (map handle_of r1) place }) false) x ++ line (op.AllLook (record { 0 = handle_at (map handle_of r1) place }) k.last) r k.beside ∷ []) (k.none_kept refl)
+              ∙ ap (λ (w : Bool). line (op.AllLook (record { 0 = handle_at (map handle_of r1) place }) w) r k.beside ∷ []) k.within
+      wait_all place timeout.NoWait e i front r B at k = true_false e refl
+      wait_all place (timeout.Looks n) e i front r B at k = true_false e refl
+
+      pub plain_reply : (front : List Line) (r : Reply) (B : List Line) → lines_of who es ns ≡ (start ++ l1) ++ (front ++ (B ++ finish)) → Made (call_of (map handle_of r1) s.deed) front r → GrantedTo s.deed r → IsPlainReply actions all (λ h. end_at (after terms es).tasks h) (faults_after actions all no_faults before) s.deed r
+      unfolding IsPlainReply is_settled_deed task_in row_of deed_spelled plain_end
       plain_reply front r B at m g = by s.deed ok st.options st.uses m g
         where
           by_queue : (queue : ℕ) (args : List ℤ) (cores : Mask) (detached : Bool) (group : Option ℕ) → (q : Option Queue) → queue_at all queue ≡ q
@@ -176,7 +191,7 @@ module _ (layout : Layout) (load : Workload) (es : List NodeEntry) (ns : List �
                 enqueue_ends (start ++ l1) (B ++ finish) (record { 0 = handle_at (map handle_of r1) queue }) x args cores detached (option_map (group_at (map handle_of r1)) group) h c (queue_there queue o x e _ (B ++ finish) c),
               )
 
-          by : (d : Deed) → is_settled_deed load.settings (known ++ actions_in before) before all d ≡ true → AllFit before (fields (word_for d)) (values d) → IfSome (place_used d) (λ v. IsBoundAt v.0 before v.1) → Made (call_of (map handle_of r1) d) front r → GrantedTo d r → IsSettledReply actions all (λ h. end_at (after terms es).tasks h) d r
+          by : (d : Deed) → is_settled_deed load.settings (known ++ actions_in before) before all d ≡ true → AllFit before (fields (word_for d)) (values d) → IfSome (place_used d) (λ v. IsBoundAt v.0 before v.1) → Made (call_of (map handle_of r1) d) front r → GrantedTo d r → IsPlainReply actions all (λ h. end_at (after terms es).tasks h) (faults_after actions all no_faults before) d r
           by (deed.Start job args priority cores detached group) e o v n y = (
             record { job = job; args = args; priority = priority; cores = cores.0; detached = detached; group = group; queue = None },
             refl,
@@ -192,25 +207,16 @@ module _ (layout : Layout) (load : Workload) (es : List NodeEntry) (ns : List �
           by deed.Group e o v n y = ap is_status y.1
           by (deed.Queue id job priority limit ordered retain) e o v n y = ap is_status y.1
           by (deed.Wait place timeout) e o v n y = wait_told place timeout e v front r B at n
-          by (deed.WaitAll place timeout) e o v n y = tt
+          by (deed.WaitAll place timeout) e o v n y = wait_all place timeout e v front r B at n
           by _ e o v n y = true_false e refl
 
-    pub plain_walk : (before : List Statement) (l1 : List Line) (r1 : List Reply) (ss : List Statement) (ls : List Line) (rs : List Reply) → Carried Made [] before l1 r1 → AllGranted before r1 → length r1 ≡ length before → AreStatements [] before
-        → Carried Made (map handle_of r1) ss ls rs → AllGranted ss rs → lines_of who es ns ≡ (start ++ l1) ++ (ls ++ finish) → all ≡ before ++ ss → are_settled load.settings known all before ss ≡ true → AreStatements before ss
-        → AreSettledReplies actions all (λ h. end_at (after terms es).tasks h) ss rs
-    unfolding Carried are_settled
-    plain_walk before l1 r1 [] ls rs c1 g1 n a1 c g at split ok a = tt
-    plain_walk before l1 r1 (s ∷ ss) ls [] c1 g1 n a1 c g at split ok a = absurd c
-    plain_walk before l1 r1 (s ∷ ss) ls (r ∷ rs) c1 g1 n a1 c g at split ok a = (
-      plain_reply before l1 r1 c1 g1 s ss split a.0 a1 (fst_true _ (are_settled load.settings known all (before ++ s ∷ []) ss) ok) c.0 r c.1 at2 c.3 g.0,
-      plain_walk (before ++ s ∷ []) (l1 ++ c.0) (r1 ++ r ∷ []) ss c.1 rs
-          (carried_more [] before (s ∷ []) l1 c.0 r1 (r ∷ []) c1 (c.0, [], sym (append-nil c.0), c.3, refl))
-          (granted_more before r1 s r g1 n g.0) (snoc r1 r ∙ ap suc n ∙ sym (snoc before s)) (are_more [] before s a1 a.0)
-          (subst (λ (x : List ℕ). Carried Made x ss c.1 rs) (map_more r1 r) c.4) g.1
-          (at2 ∙ sym (append_assoc (start ++ l1) c.0 (c.1 ++ finish)) ∙ ap (λ (z : List Line). z ++ (c.1 ++ finish)) (append_assoc start l1 c.0))
-          (split ∙ sym (append_assoc before (s ∷ []) ss))
-          (snd_true (is_settled_deed load.settings (known ++ actions_in before) before all s.deed) _ ok) a.1,
-    )
-      where
-        at2 : lines_of who es ns ≡ (start ++ l1) ++ (c.0 ++ (c.1 ++ finish))
-        at2 = at ∙ ap (λ (z : List Line). (start ++ l1) ++ z) (ap (λ (z : List Line). z ++ finish) c.2 ∙ append_assoc c.0 c.1 finish)
+-- the replies to the statements of a seat's part
+pub seat_plain : (layout : Layout) (load : Workload) (es : List NodeEntry) (ns : List ℕ) (u : SettledRun layout load es ns) (w : ℕ) (p : Part) (rs : List Reply) → Seat layout load es ns w p rs → has_one_fault_a_group (actions_in (all_statements load)) p ≡ true
+    → ArePlain (actions_in (all_statements load)) p.statements (λ h. end_at (after (run_terms layout load) es).tasks h) no_faults p.statements rs
+unfolding ArePlain
+seat_plain layout load es ns u w p rs x one =
+    along p.statements x.at.body rs (λ b l r. ArePlain (actions_in (all_statements load)) p.statements (λ h. end_at (after (run_terms layout load) es).tasks h) no_faults b r)
+    (λ b l1 r1 s front r y i. let g = step_granted p.statements x.at.body rs b l1 r1 s front r y (seat_granted layout load es ns u w p rs x) in
+    plain_more (actions_in (all_statements load)) p.statements (λ h. end_at (after (run_terms layout load) es).tasks h) no_faults b r1 s r y.many i
+    (plain_reply layout load es ns u w x.at.start x.at.finish p.statements x.at.known x.finds x.at.settled one b l1 r1 y.carried g.0 i s y.rest y.parted (step_statement p.statements x.at.body rs b l1 r1 s front r y x.are)
+    (are_front [] b (s ∷ y.rest) (subst (AreStatements []) y.parted x.are)) (step_settled p.statements x.at.body rs b l1 r1 s front r y load.settings x.at.known x.at.settled) front r y.more (step_lines load es ns w p rs x.at b l1 r1 s front r y) y.made g.1)) x.at.carried tt

@@ -1,7 +1,7 @@
 -- In a run of a settled workload there is room for each object that is asked for, and the ids of queues are new.
 use Rattle.std.proofs.Common.{◌≡◌, ℕ, ◌+◌, ◌≤◌, ◌<◌, Bool, true, false, cond, List, [], ◌∷◌, ◌++◌, Option, Some, None, refl, ap, subst, arith}
 use Rattle.std.specs.Prelude.{◌==◌, ◌&&◌, ◌||◌, nat_le, is_some}
-use Rattle.std.specs.List.{list_any, list_all}
+use Rattle.std.specs.List.{list_any}
 use Rattle.std.proofs.lemmas.Bool.{eqb-true}
 use Rattle.std.proofs.lemmas.Bool.Decides.{nat_tests}
 use Rattle.mtapi_values.specs.Attributes.{NodeSettings}
@@ -18,28 +18,23 @@ use Rattle.workload_file.specs.declared.workload.Statement.{Statement}
 use Rattle.workload_file.specs.declared.workload.Workload.{Workload}
 use Rattle.mtapi_machine.specs.declared.ops.Op.{Op}
 use Rattle.mtapi_machine.specs.declared.ops.Op.TheVariants as op
-use Rattle.mtapi_machine.specs.declared.replies.Reply.{Reply}
 use Rattle.mtapi_machine.specs.Legal.{NodeEntry}
 use Rattle.mtapi_machine.proofs.Made.{fst_true, snd_true, not_true}
 use Rattle.sched_workers.specs.Calls.{call_of}
 use Rattle.sched_workers.specs.Lines.{Line}
-use Rattle.sched_workers.specs.RunOf.{is_work}
 use Rattle.history_law.specs.Words.{makes, some_entry, entries_that}
 use Rattle.history_law.proofs.Answered.{true_false}
 use Rattle.run_report.specs.Report.{run_terms}
 use Rattle.settled_runs.specs.Granted.{is_handle, makes_one, HasRoom, makes_queue}
-use Rattle.settled_runs.specs.Plain.{all_statements, actions_in, queue_in}
-use Rattle.settled_runs.specs.Settled.{are_settled_parts, has_one_kind_a_job, has_new_id, has_different_ids, makes_action, makes_group, makes_task, has_room, keep_limits, has_one_fault_a_group, is_settled}
+use Rattle.settled_runs.specs.Plain.{all_statements, queue_in}
+use Rattle.settled_runs.specs.Settled.{has_new_id, has_different_ids, makes_action, makes_group, makes_task, has_room}
 use Rattle.settled_runs.specs.RunGranted.{SettledRun}
 use Rattle.settled_runs.proofs.Cuts.{Cut}
 use Rattle.settled_runs.proofs.Counted.{bit, asks, asks_append, CallAsks, IsClass, run_asks}
 use Rattle.settled_runs.proofs.Opened.{seats_are}
+use Rattle.settled_runs.proofs.Each.{different_ids, has_all_room, is_at_work}
 
 -- The ops that make objects, and the statements that do
-
-abbrev pub is_enqueue : Op → Bool
-is_enqueue (op.TaskEnqueue q args cores detached group) = true
-is_enqueue _ = false
 
 abbrev pub is_put : Deed → Bool
 is_put (deed.Enqueue queue args cores detached group) = true
@@ -52,125 +47,62 @@ abbrev pub has_id : ℕ → Deed → Bool
 has_id id d = holds (λ y. y.id == id) (queue_in d)
 
 actions_calls : (bound : List ℕ) (d : Deed) → CallAsks (makes kinds.Action) (bit (makes_action d)) (call_of bound d)
-actions_calls bound (deed.Wait place timeout) = λ last. refl
-actions_calls bound (deed.WaitAll place timeout) = λ last. refl
-actions_calls bound (deed.WaitAny place timeout) = λ last. refl
-actions_calls bound (deed.Lock place timeout) = λ last. refl
-actions_calls bound (deed.SemLock place timeout) = λ last. refl
-actions_calls bound (deed.RwlLock place writer timeout) = λ last. refl
+actions_calls bound deed.Begin = omega arith
 actions_calls bound _ = omega arith
 
-actions_work : (o : Op) (r : Reply) → is_work o r ≡ true → (makes kinds.Action) o ≡ false
-actions_work (op.ActionCreate job kind cores) r e = true_false e refl
-actions_work _ r e = refl
+actions_work : (o : Op) → is_at_work o ≡ true → (makes kinds.Action) o ≡ false
+actions_work (op.ActionCreate job kind cores) e = true_false e refl
+actions_work _ e = refl
 
 pub actions_class : IsClass (makes kinds.Action) makes_action
-actions_class = record { calls = actions_calls; enter = refl; work = actions_work; pick = refl }
+actions_class = record { calls = actions_calls; enter = refl; work = actions_work }
 
 groups_calls : (bound : List ℕ) (d : Deed) → CallAsks (makes kinds.Group) (bit (makes_group d)) (call_of bound d)
-groups_calls bound (deed.Wait place timeout) = λ last. refl
-groups_calls bound (deed.WaitAll place timeout) = λ last. refl
-groups_calls bound (deed.WaitAny place timeout) = λ last. refl
-groups_calls bound (deed.Lock place timeout) = λ last. refl
-groups_calls bound (deed.SemLock place timeout) = λ last. refl
-groups_calls bound (deed.RwlLock place writer timeout) = λ last. refl
+groups_calls bound deed.Begin = omega arith
 groups_calls bound _ = omega arith
 
-groups_work : (o : Op) (r : Reply) → is_work o r ≡ true → (makes kinds.Group) o ≡ false
-groups_work op.GroupCreate r e = true_false e refl
-groups_work _ r e = refl
+groups_work : (o : Op) → is_at_work o ≡ true → (makes kinds.Group) o ≡ false
+groups_work op.GroupCreate e = true_false e refl
+groups_work _ e = refl
 
 pub groups_class : IsClass (makes kinds.Group) makes_group
-groups_class = record { calls = groups_calls; enter = refl; work = groups_work; pick = refl }
+groups_class = record { calls = groups_calls; enter = refl; work = groups_work }
 
 queues_calls : (bound : List ℕ) (d : Deed) → CallAsks (makes kinds.Queue) (bit (makes_some_queue d)) (call_of bound d)
-queues_calls bound (deed.Wait place timeout) = λ last. refl
-queues_calls bound (deed.WaitAll place timeout) = λ last. refl
-queues_calls bound (deed.WaitAny place timeout) = λ last. refl
-queues_calls bound (deed.Lock place timeout) = λ last. refl
-queues_calls bound (deed.SemLock place timeout) = λ last. refl
-queues_calls bound (deed.RwlLock place writer timeout) = λ last. refl
+queues_calls bound deed.Begin = omega arith
 queues_calls bound _ = omega arith
 
-queues_work : (o : Op) (r : Reply) → is_work o r ≡ true → (makes kinds.Queue) o ≡ false
-queues_work (op.QueueCreate id job priority limit ordered retain) r e = true_false e refl
-queues_work _ r e = refl
+queues_work : (o : Op) → is_at_work o ≡ true → (makes kinds.Queue) o ≡ false
+queues_work (op.QueueCreate id job priority limit ordered retain) e = true_false e refl
+queues_work _ e = refl
 
 pub queues_class : IsClass (makes kinds.Queue) makes_some_queue
-queues_class = record { calls = queues_calls; enter = refl; work = queues_work; pick = refl }
+queues_class = record { calls = queues_calls; enter = refl; work = queues_work }
 
 tasks_calls : (bound : List ℕ) (d : Deed) → CallAsks (makes kinds.Task) (bit (makes_task d)) (call_of bound d)
-tasks_calls bound (deed.Wait place timeout) = λ last. refl
-tasks_calls bound (deed.WaitAll place timeout) = λ last. refl
-tasks_calls bound (deed.WaitAny place timeout) = λ last. refl
-tasks_calls bound (deed.Lock place timeout) = λ last. refl
-tasks_calls bound (deed.SemLock place timeout) = λ last. refl
-tasks_calls bound (deed.RwlLock place writer timeout) = λ last. refl
+tasks_calls bound deed.Begin = omega arith
 tasks_calls bound _ = omega arith
 
-tasks_work : (o : Op) (r : Reply) → is_work o r ≡ true → (makes kinds.Task) o ≡ false
-tasks_work (op.TaskStart job args priority cores detached group) r e = true_false e refl
-tasks_work (op.TaskEnqueue q args cores detached group) r e = true_false e refl
-tasks_work _ r e = refl
+tasks_work : (o : Op) → is_at_work o ≡ true → (makes kinds.Task) o ≡ false
+tasks_work (op.TaskStart job args priority cores detached group) e = true_false e refl
+tasks_work (op.TaskEnqueue q args cores detached group) e = true_false e refl
+tasks_work _ e = refl
 
 pub tasks_class : IsClass (makes kinds.Task) makes_task
-tasks_class = record { calls = tasks_calls; enter = refl; work = tasks_work; pick = refl }
+tasks_class = record { calls = tasks_calls; enter = refl; work = tasks_work }
 
 ids_calls : (id : ℕ) → (bound : List ℕ) (d : Deed) → CallAsks (makes_queue id) (bit (has_id id d)) (call_of bound d)
-ids_calls id bound (deed.Wait place timeout) = λ last. refl
-ids_calls id bound (deed.WaitAll place timeout) = λ last. refl
-ids_calls id bound (deed.WaitAny place timeout) = λ last. refl
-ids_calls id bound (deed.Lock place timeout) = λ last. refl
-ids_calls id bound (deed.SemLock place timeout) = λ last. refl
-ids_calls id bound (deed.RwlLock place writer timeout) = λ last. refl
+ids_calls id bound deed.Begin = omega arith
 ids_calls id bound _ = omega arith
 
-ids_work : (id : ℕ) → (o : Op) (r : Reply) → is_work o r ≡ true → (makes_queue id) o ≡ false
-ids_work id (op.QueueCreate other job priority limit ordered retain) r e = true_false e refl
-ids_work id _ r e = refl
+ids_work : (id : ℕ) → (o : Op) → is_at_work o ≡ true → (makes_queue id) o ≡ false
+ids_work id (op.QueueCreate other job priority limit ordered retain) e = true_false e refl
+ids_work id _ e = refl
 
 pub ids_class : (id : ℕ) → IsClass (makes_queue id) (has_id id)
-ids_class id = record { calls = ids_calls id; enter = refl; work = ids_work id; pick = refl }
+ids_class id = record { calls = ids_calls id; enter = refl; work = ids_work id }
 
-enqueues_calls : (bound : List ℕ) (d : Deed) → CallAsks is_enqueue (bit (is_put d)) (call_of bound d)
-enqueues_calls bound (deed.Wait place timeout) = λ last. refl
-enqueues_calls bound (deed.WaitAll place timeout) = λ last. refl
-enqueues_calls bound (deed.WaitAny place timeout) = λ last. refl
-enqueues_calls bound (deed.Lock place timeout) = λ last. refl
-enqueues_calls bound (deed.SemLock place timeout) = λ last. refl
-enqueues_calls bound (deed.RwlLock place writer timeout) = λ last. refl
-enqueues_calls bound _ = omega arith
-
-enqueues_work : (o : Op) (r : Reply) → is_work o r ≡ true → is_enqueue o ≡ false
-enqueues_work (op.TaskEnqueue q args cores detached group) r e = true_false e refl
-enqueues_work _ r e = refl
-
-pub enqueues_class : IsClass is_enqueue is_put
-enqueues_class = record { calls = enqueues_calls; enter = refl; work = enqueues_work; pick = refl }
-
--- What a settled workload keeps
-
-module _ (load : Workload) (e : is_settled load ≡ true) where
-  ids_and : (are_settled_parts load.settings load.parts && has_one_kind_a_job (actions_in (all_statements load)) && has_different_ids (all_statements load) && has_room load.settings (all_statements load)) ≡ true
-  unfolding is_settled
-  ids_and = fst_true _ (list_all (λ p. keep_limits p.statements 0 p.statements) load.parts) (fst_true _ (list_all (has_one_fault_a_group (actions_in (all_statements load))) load.parts) e)
-
-  pub has_all_room : has_room load.settings (all_statements load) ≡ true
-  has_all_room = snd_true (are_settled_parts load.settings load.parts && has_one_kind_a_job (actions_in (all_statements load)) && has_different_ids (all_statements load)) _ ids_and
-
-  pub different_ids : has_different_ids (all_statements load) ≡ true
-  different_ids = snd_true (are_settled_parts load.settings load.parts && has_one_kind_a_job (actions_in (all_statements load))) _ (fst_true _ (has_room load.settings (all_statements load)) ids_and)
-
-  pub parts_settled : are_settled_parts load.settings load.parts ≡ true
-  parts_settled = fst_true _ (has_one_kind_a_job (actions_in (all_statements load))) (fst_true _ (has_different_ids (all_statements load)) (fst_true _ (has_room load.settings (all_statements load)) ids_and))
-
-  pub limits_kept : list_all (λ p. keep_limits p.statements 0 p.statements) load.parts ≡ true
-  unfolding is_settled
-  limits_kept = snd_true _ (list_all (λ p. keep_limits p.statements 0 p.statements) load.parts) (fst_true _ (list_all (has_one_fault_a_group (actions_in (all_statements load))) load.parts) e)
-
-  pub one_fault : list_all (has_one_fault_a_group (actions_in (all_statements load))) load.parts ≡ true
-  unfolding is_settled
-  one_fault = snd_true _ (list_all (has_one_fault_a_group (actions_in (all_statements load))) load.parts) e
+-- What a settled workload has room for
 
 low_enough : (n m : ℕ) → nat_le n m ≡ true → n ≤ m
 low_enough n m e = grind (arith, nat_tests)

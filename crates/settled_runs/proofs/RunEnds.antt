@@ -1,5 +1,5 @@
 -- In a run of a settled workload each task has its plain end.
-use Rattle.std.proofs.Common.{◌≡◌, ℕ, Bool, true, false, cond, List, [], ◌∷◌, ◌++◌, Some, refl, sym, ◌∙◌, ap, subst, ℤ, append_assoc, length}
+use Rattle.std.proofs.Common.{◌≡◌, ℕ, Bool, true, false, cond, List, [], ◌∷◌, ◌++◌, Some, refl, sym, ◌∙◌, ap, subst, ℤ, append_assoc, length, ◌+◌}
 use Rattle.std.specs.Prelude.{◌==◌, ◌&&◌, ◌||◌, not}
 use Rattle.std.specs.Option.{option_map}
 use Rattle.std.specs.List.{find, list_all}
@@ -39,12 +39,13 @@ use Rattle.history_law.proofs.Bounds.{by_seats}
 use Rattle.sched_workers.specs.RunOf.{RunOf}
 use Rattle.run_report.specs.Report.{run_terms}
 use Rattle.history_law.specs.Quiet.{is_quiet, AreQuiet, task_at, IsPlain}
+use Rattle.history_law.proofs.KindNumbers.{same_kind}
+use Rattle.history_law.proofs.Quiet.{none_withdrawn, quiet_tasks_end_plainly}
 use Rattle.settled_runs.specs.Plain.{all_statements, actions_in, plain_end}
 use Rattle.settled_runs.specs.Settled.{are_alike, are_settled_parts, has_one_kind_a_job, has_different_ids, has_room, keep_limits, has_one_fault_a_group, is_settled}
 use Rattle.settled_runs.specs.RunEnds.{SettledTasksEndAsPlanned}
-use Rattle.history_law.proofs.KindNumbers.{same_kind}
-use Rattle.history_law.proofs.Quiet.{none_withdrawn, quiet_tasks_end_plainly}
 use Rattle.settled_runs.proofs.Asked.{is_listed, is_planned, ArePlanned, run_planned}
+use Rattle.settled_runs.proofs.Counted.{asked}
 
 -- What is planned is quiet, and each action is one of those of the workload
 

@@ -1,14 +1,16 @@
 -- Which tasks were put into a group is told by the lines of its own seat.
-use Rattle.std.proofs.Common.{◌≡◌, ℕ, ◌+◌, ◌≤◌, Bool, true, false, cond, List, [], ◌∷◌, ◌++◌, length, refl, ◌∙◌, ap, arith}
+use Rattle.std.proofs.Common.{◌≡◌, ℕ, ◌+◌, Bool, true, false, cond, List, [], ◌∷◌, ◌++◌, length, refl, ◌∙◌, ap, arith}
 use Rattle.std.specs.Prelude.{◌==◌, ◌||◌}
+use Rattle.std.specs.List.{AllByRecursion as Each}
+use Rattle.std.proofs.lemmas.Bool.{eq-eqb}
 use Rattle.history.specs.Histories.{entry}
 use Rattle.mtapi_machine.specs.Kept.{is_pending}
 use Rattle.mtapi_machine.specs.Legal.{NodeEntry}
 use Rattle.sched_workers.specs.Lines.{Line, line, lines_of}
 use Rattle.history_law.proofs.Answered.{true_false}
 use Rattle.settled_runs.specs.Verdicts.{starts_member, looks_at_all, with_new, members_behind, members_of}
-use Rattle.settled_runs.proofs.Counted.{bit, asks, asked, seat_asks}
-use Rattle.settled_runs.proofs.GroupOwners.{uses}
+use Rattle.settled_runs.proofs.Owners.{uses}
+use Rattle.settled_runs.proofs.Each.{OnlyBy}
 
 -- the tasks that lines of the seat put into the group
 abbrev pub members_in : ℕ → List ℕ → List Line → List ℕ
@@ -27,21 +29,20 @@ unused g hs e i = by (starts_member g e.op) (looks_at_all g e.op) i
     by false true j = true_false refl j
     by false false j = refl
 
+-- lines that don't use it put none in
+pub unused_lines : (g : ℕ) (hs : List ℕ) (ls : List Line) → Each (λ l. uses g l.op ≡ false) ls → members_in g hs ls ≡ hs
+unused_lines g hs [] a = refl
+unused_lines g hs (l ∷ ls) a = ap (λ (x : List ℕ). members_in g x ls) (unused g hs (entry 0 l.op l.reply) a.0) ∙ unused_lines g hs ls a.1
+
 -- where no other seat uses the group
-pub members_lines : (who g : ℕ) (hs : List ℕ) (L : List NodeEntry) (ks : List ℕ) → length L ≡ length ks → asks (uses g) L ≤ asked (uses g) (lines_of who L ks) → members_of g hs L ≡ members_in g hs (lines_of who L ks)
+pub members_lines : (who g : ℕ) (hs : List ℕ) (L : List NodeEntry) (ks : List ℕ) → length L ≡ length ks → OnlyBy who (uses g) L → members_of g hs L ≡ members_in g hs (lines_of who L ks)
 unfolding lines_of members_of
-members_lines who g hs [] ks l n = refl
-members_lines who g hs (e ∷ es) [] l n = absurd (omega arith)
-members_lines who g hs (e ∷ es) (k ∷ ks) l n = by (e.who == who) n (λ hs2 i. members_lines who g hs2 es ks (omega arith) i)
+members_lines who g hs [] ks l o = refl
+members_lines who g hs (e ∷ es) [] l o = absurd (omega arith)
+members_lines who g hs (e ∷ es) (k ∷ ks) l o = by (e.who == who) refl (uses g e.op) refl (λ hs2. members_lines who g hs2 es ks (omega arith) o.1)
   where
-    by : (b : Bool) → bit (uses g e.op) + asks (uses g) es ≤ asked (uses g) (cond b (line e.op e.reply k ∷ lines_of who es ks) (lines_of who es ks))
-        → ((hs2 : List ℕ) → asks (uses g) es ≤ asked (uses g) (lines_of who es ks) → members_of g hs2 es ≡ members_in g hs2 (lines_of who es ks))
+    by : (b : Bool) → (e.who == who) ≡ b → (c : Bool) → uses g e.op ≡ c → ((hs2 : List ℕ) → members_of g hs2 es ≡ members_in g hs2 (lines_of who es ks))
         → members_of g (members_behind g hs e) es ≡ members_in g hs (cond b (line e.op e.reply k ∷ lines_of who es ks) (lines_of who es ks))
-    by true m f = f (members_behind g hs e) (omega arith)
-    by false m f =
-        let z : asked (uses g) (lines_of who es ks) ≤ asks (uses g) es = seat_asks (uses g) who es ks in
-        ap (λ (x : List ℕ). members_of g x es) (unused g hs e (never (uses g e.op) refl m z)) ∙ f hs (omega arith)
-      where
-        never : (b : Bool) → uses g e.op ≡ b → bit b + asks (uses g) es ≤ asked (uses g) (lines_of who es ks) → asked (uses g) (lines_of who es ks) ≤ asks (uses g) es → uses g e.op ≡ false
-        never true i x y = absurd (omega arith)
-        never false i x y = i
+    by true i c j f = f (members_behind g hs e)
+    by false i true j f = true_false (eq-eqb e.who who (o.0 j)) i
+    by false i false j f = ap (λ (x : List ℕ). members_of g x es) (unused g hs e j) ∙ f hs

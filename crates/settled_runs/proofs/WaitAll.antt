@@ -1,7 +1,8 @@
 -- In a run of a settled workload each wait for all tasks of a group is told the fault that the plain report tells of it.
-use Rattle.std.proofs.Common.{◌≡◌, ◌⊎◌, inl, inr, ℕ, suc, ◌+◌, ◌≤◌, Bool, true, false, List, [], ◌∷◌, ◌++◌, length, Option, Some, refl, sym, ◌∙◌, ap, subst, arith, append_assoc}
+use Rattle.std.proofs.Common.{◌≡◌, ◌⊎◌, inl, inr, ℕ, suc, ◌+◌, true, false, List, [], ◌∷◌, ◌++◌, length, Option, Some, refl, sym, ◌∙◌, ap, subst, arith, append_assoc, ◌<◌}
 use Rattle.std.specs.Prelude.{map, option_and_then}
 use Rattle.std.proofs.lemmas.List.{append-nil}
+use Rattle.std.specs.List.{AllByRecursion as Each}
 use Rattle.mtapi_values.specs.declared.handles.Layout.{Layout}
 use Rattle.mtapi_values.specs.declared.ends.TaskEnd.{TaskEnd}
 use Rattle.mtapi_values.specs.declared.statuses.MtapiStatus.{MtapiStatus}
@@ -12,7 +13,6 @@ use Rattle.workload_file.specs.declared.table.Sort.TheVariants as sort
 use Rattle.workload_file.specs.declared.workload.Statement.{Statement}
 use Rattle.workload_file.specs.declared.workload.Workload.{Workload}
 use Rattle.workload_file.specs.Formed.{IsBoundAt, AreStatements}
-use Rattle.mtapi_machine.specs.declared.ops.Op.{Op}
 use Rattle.mtapi_machine.specs.declared.ops.Op.TheVariants as op
 use Rattle.mtapi_machine.specs.declared.replies.Reply.{Reply}
 use Rattle.mtapi_machine.specs.declared.replies.Reply.TheVariants as reply
@@ -22,63 +22,43 @@ use Rattle.mtapi_machine.specs.Kept.{is_pending}
 use Rattle.mtapi_machine.specs.GroupRows.{verdict}
 use Rattle.mtapi_machine.specs.Legal.{NodeEntry, Legal, after}
 use Rattle.mtapi_machine.specs.Ends.{end_at}
-use Rattle.sched_workers.specs.Calls.{handle_at}
+use Rattle.sched_workers.specs.Calls.{handle_at, call_of}
 use Rattle.sched_workers.specs.Lines.{Line, line, lines_of, Made}
 use Rattle.sched_workers.specs.Parts.{Carried}
 use Rattle.history_law.specs.Seats.{closes, NoClose}
 use Rattle.history_law.proofs.Accepted.{front_stays}
 use Rattle.history_law.proofs.Answered.{true_false}
 use Rattle.run_report.specs.Report.{run_terms}
-use Rattle.settled_runs.specs.Plain.{all_statements, actions_in, no_faults}
 use Rattle.history_law.specs.Quiet.{AreQuiet}
+use Rattle.mtapi_values.specs.declared.handles.ObjectKind.TheVariants as kinds
+use Rattle.settled_runs.specs.Plain.{all_statements, actions_in, no_faults}
 use Rattle.settled_runs.specs.RunGranted.{AllGranted, SettledRun}
 use Rattle.settled_runs.specs.Settled.{are_settled, have_one_fault_a_group}
-use Rattle.settled_runs.specs.Verdicts.{members_of, GoOn, IsVerdict}
+use Rattle.settled_runs.specs.Verdicts.{members_of, GoOn, IsVerdict, goes_on}
 use Rattle.settled_runs.proofs.Stays.{quiet_front, quiet_rest}
 use Rattle.settled_runs.proofs.Verdicts.{quiet_verdicts}
 use Rattle.settled_runs.proofs.Cuts.{Cut, cut}
-use Rattle.settled_runs.proofs.Counted.{bit, asks, asked, asks_append, asked_append, seat_asks}
+use Rattle.settled_runs.proofs.Counted.{asks, asks_append}
 use Rattle.settled_runs.proofs.Opened.{legal_here, quiet_before, no_close}
 use Rattle.settled_runs.proofs.GroupMembers.{has}
-use Rattle.settled_runs.proofs.GroupOwners.{uses, group_issued, one_group, one_uses}
-use Rattle.settled_runs.proofs.GroupPlaces.{Found, at_group, front_is, groups_once, group_within, map_both, length_map, are_front, are_behind}
-use Rattle.settled_runs.proofs.GroupWalk.{faults_after, after_both, untouched, faults_of, Fit, fit_none, walk}
-use Rattle.settled_runs.proofs.GoesOn.{LinesGoOn, go_behind, go_on, statements_go, settled_front}
+use Rattle.settled_runs.proofs.Owners.{uses, one_uses, uses_call}
+use Rattle.settled_runs.proofs.Along.{Found, are_front, BoundBy, bound_by, bound_longer, deed_in, handles_front, step_bound, step_statement}
+use Rattle.settled_runs.proofs.Places.{at_group, group_front}
+use Rattle.settled_runs.proofs.GroupWalk.{faults_after, faults_of, Fit, fits_along}
+use Rattle.settled_runs.proofs.GoesOn.{LinesGoOn, go_on, statement_goes}
 use Rattle.settled_runs.proofs.MemberFaults.{one_verdict}
 use Rattle.settled_runs.proofs.OneFault.{one_status}
-use Rattle.settled_runs.proofs.Puts.{BoundBy, bound_by}
-use Rattle.settled_runs.proofs.SeatMembers.{members_in, members_lines}
-use Rattle.settled_runs.proofs.SettledReplies.{AreSettledReplies, settled_behind}
-use Rattle.settled_runs.proofs.Walk.{Finds, snoc}
+use Rattle.settled_runs.proofs.SeatMembers.{members_in, members_lines, members_append, unused_lines}
+use Rattle.settled_runs.proofs.Walk.{Finds}
+use Rattle.settled_runs.specs.PlainReplies.{ArePlain}
+use Rattle.settled_runs.proofs.Each.{OnlyBy, each_behind, each_front, made_each, statements_each}
+use Rattle.settled_runs.proofs.Distinct.{binds_group, bound_issued, groups_list, one_bound, part_once, part_within}
 
 -- Lines of a seat, before an entry and behind it
 
 longer : {X : Type 0} (xs : List X) (x : X) (ys : List X) → length (xs ++ x ∷ ys) ≡ length xs + suc (length ys)
 longer [] x ys = omega arith
 longer (y ∷ xs) x ys = let k : length (xs ++ x ∷ ys) ≡ length xs + suc (length ys) = longer xs x ys in omega arith
-
-module _ (p : Op → Bool) (who : ℕ) (es : List NodeEntry) (ns : List ℕ) (A : List Line) (l : Line) (B : List Line) (at : lines_of who es ns ≡ A ++ l ∷ B) (c : Cut who es ns A l B) (few : asks p es ≤ asked p (lines_of who es ns)) where
-  parted : (asks p es ≡ asks p c.before + (bit (p l.op) + asks p c.behind)) × (asked p (lines_of who es ns) ≡ asked p (lines_of who c.before c.first) + (bit (p l.op) + asked p (lines_of who c.behind c.rest)))
-  parted = (
-    ap (asks p) c.is ∙ asks_append (λ e. p e.op) c.before (entry who l.op l.reply ∷ c.behind),
-    ap (asked p) at ∙ asked_append p A (l ∷ B) ∙ (λ i. asked p (sym c.done i) + (bit (p l.op) + asked p (sym c.left i))),
-  )
-
-  pub few_before : asks p c.before ≤ asked p (lines_of who c.before c.first)
-  few_before =
-      let a : asks p es ≡ asks p c.before + (bit (p l.op) + asks p c.behind) = parted.0 in
-      let b : asked p (lines_of who es ns) ≡ asked p (lines_of who c.before c.first) + (bit (p l.op) + asked p (lines_of who c.behind c.rest)) = parted.1 in
-      let d : asked p (lines_of who c.behind c.rest) ≤ asks p c.behind = seat_asks p who c.behind c.rest in
-      let e : asks p es ≤ asked p (lines_of who es ns) = few in
-      omega arith
-
-  pub few_behind : asks p c.behind ≤ asked p (lines_of who c.behind c.rest)
-  few_behind =
-      let a : asks p es ≡ asks p c.before + (bit (p l.op) + asks p c.behind) = parted.0 in
-      let b : asked p (lines_of who es ns) ≡ asked p (lines_of who c.before c.first) + (bit (p l.op) + asked p (lines_of who c.behind c.rest)) = parted.1 in
-      let d : asked p (lines_of who c.before c.first) ≤ asks p c.before = seat_asks p who c.before c.first in
-      let e : asks p es ≤ asked p (lines_of who es ns) = few in
-      omega arith
 
 same_behind : (who : ℕ) (es : List NodeEntry) (ns : List ℕ) (A : List Line) (l : Line) (B : List Line) (c : Cut who es ns A l B) → length es ≡ length ns → length c.behind ≡ length c.rest
 same_behind who es ns A l B c e =
@@ -111,45 +91,45 @@ module _ (layout : Layout) (load : Workload) (es : List NodeEntry) (ns : List �
   b : BoundBy sort.Group before place
   b = bound_by sort.Group before place bound
 
-  here : Found [] before l1 r1 place b.statement
+  here : Found before l1 r1 place b.statement
   here = at_group before l1 r1 c1 g1 place b
 
   abbrev made_line : Line
   made_line = line op.GroupCreate (reply.Handle h) 0
 
-  lines_are : l1 ≡ here.first ++ made_line ∷ here.rest
+  lines_are : l1 ≡ here.first ++ made_line ∷ here.step.more
   unfolding here
-  lines_are = here.is ∙ ap (λ (z : List Line). here.first ++ (z ++ here.rest)) (front_is before l1 r1 c1 g1 place b)
+  lines_are = here.step.is ∙ ap (λ (z : List Line). here.first ++ (z ++ here.step.more)) (group_front before l1 r1 c1 g1 place b)
 
   -- the tasks that were put into the group, and the fault that the plain report tells
 
-  module _ (X : List Line) (at1 : lines_of who es ns ≡ (start ++ l1) ++ X) (p1 : AreSettledReplies actions all ends before r1) where
-    first_statements : List Statement
-    first_statements = here.before ++ b.statement ∷ []
+  module _ (X : List Line) (at1 : lines_of who es ns ≡ (start ++ l1) ++ X) (p1 : ArePlain actions all ends no_faults before r1) where
+    only : (other : ℕ) → BoundBy sort.Group before other → handle_at (map handle_of r1) other ≡ h → other ≡ place
+    only other y e = one_bound kinds.Group sort.Group binds_group before l1 r1 c1 g1 (part_once kinds.Group groups_list terms es ns u.legal who start l1 X at1) other place y b e
 
-    count : length here.replies ≡ length here.before
-    count = here.same
-
-    fits : Fit actions all F place (members_in h [] here.rest) (faults_after actions all no_faults before place)
-    fits =
-        subst (λ (x : Option MtapiStatus). Fit actions all F place (members_in h [] here.rest) x)
-        (ap (λ (z : ℕ → Option MtapiStatus). z place) (sym (after_both actions all no_faults (here.before ++ b.statement ∷ []) here.behind)) ∙ ap (λ (z : List Statement). faults_after actions all no_faults z place) (sym parts))
-        (walk actions all ends place h before more (map handle_of r1) split refl
-        (λ other y e. one_group before l1 r1 c1 g1 (groups_once layout load es ns u who start l1 X at1) other place y b e)
-        (here.before ++ b.statement ∷ []) here.behind (map handle_of here.replies ++ handle_of here.told ∷ []) (faults_after actions all no_faults (here.before ++ b.statement ∷ [])) [] here.rest here.others here.carried
-        (settled_behind actions all ends (here.before ++ b.statement ∷ []) here.behind (here.replies ++ here.told ∷ []) here.others (snoc here.replies here.told ∙ ap suc here.same ∙ sym (snoc here.before b.statement))
-        (subst (λ (x : List Statement). AreSettledReplies actions all ends x ((here.replies ++ here.told ∷ []) ++ here.others)) parts (subst (λ (x : List Reply). AreSettledReplies actions all ends before x) replies_are p1)))
-        parts (ap (map handle_of) here.are ∙ map_both here.replies (here.told ∷ here.others) ∙ sym (append_assoc (map handle_of here.replies) (handle_of here.told ∷ []) (map handle_of here.others)))
-        (snoc (map handle_of here.replies) (handle_of here.told) ∙ ap suc (length_map here.replies ∙ here.same) ∙ sym (snoc here.before b.statement))
-        (are_behind [] (here.before ++ b.statement ∷ []) here.behind (subst (AreStatements []) parts are))
-        (subst (λ (x : Option MtapiStatus). Fit actions all F place [] x) (sym (untouched actions all [] (here.before ++ b.statement ∷ []) no_faults place (are_front [] (here.before ++ b.statement ∷ []) here.behind (subst (AreStatements []) parts are))
-        (let n : length (here.before ++ b.statement ∷ []) ≡ suc (length here.before) = snoc here.before b.statement in let m : length here.before ≡ place = here.early in omega arith) refl)) (fit_none actions all F place)))
+    -- the statements before it don't use the group
+    first_unused : Each (λ l. uses h l.op ≡ false) here.first
+    first_unused =
+        statements_each (λ o. uses h o ≡ false) here.before here.first here.replies here.step.carried
+        (λ pre k1 q1 t front r z. made_each (λ o. uses h o ≡ false) (call_of (map handle_of q1) t.deed) front r
+        (uses_call h pre t (map handle_of q1) (step_statement here.before here.first here.replies pre k1 q1 t front r z (are_front [] here.before (b.statement ∷ here.step.rest) (subst (AreStatements []) here.step.parted are)))
+        (λ g o e. let v = step_bound here.before here.first here.replies pre k1 q1 t front r z sort.Group g o in early g v.0 (v.1 ∙ e))) z.made)
       where
-        parts : before ≡ (here.before ++ b.statement ∷ []) ++ here.behind
-        parts = here.parted ∙ sym (append_assoc here.before (b.statement ∷ []) here.behind)
+        early : (g : ℕ) → BoundBy sort.Group here.before g → handle_at (map handle_of here.replies) g ≡ h → ⊥
+        early g y e =
+            let l : g < length here.before = y.early in
+            let n : length here.replies ≡ length here.before = here.step.many in
+            let m : length here.before ≡ place = here.early in
+            let same : g ≡ place =
+            only g (subst (λ (z : List Statement). BoundBy sort.Group z g) (sym here.step.parted) (bound_longer sort.Group here.before (b.statement ∷ here.step.rest) g y))
+            (ap (λ (z : List Reply). handle_at (map handle_of z) g) here.step.told ∙ handles_front here.replies (here.reply ∷ here.step.others) g (omega arith) ∙ e) in
+            absurd (omega arith)
 
-        replies_are : r1 ≡ (here.replies ++ here.told ∷ []) ++ here.others
-        replies_are = here.are ∙ sym (append_assoc here.replies (here.told ∷ []) here.others)
+    fits : Fit actions all F place (members_in h [] here.step.more) (faults_after actions all no_faults before place)
+    fits =
+        subst (λ (x : List ℕ). Fit actions all F place x (faults_after actions all no_faults before place))
+        (ap (members_in h []) lines_are ∙ members_append h [] here.first (made_line ∷ here.step.more) ∙ ap (λ (x : List ℕ). members_in h x here.step.more) (unused_lines h [] here.first first_unused))
+        (fits_along actions all ends place h before l1 r1 c1 are more split refl only p1)
 
     -- the look that decides
 
@@ -166,11 +146,11 @@ module _ (layout : Layout) (load : Workload) (es : List NodeEntry) (ns : List �
       c : Cut who es ns (start ++ l1) look (B ++ finish)
       c = cut who es ns (start ++ l1) look (B ++ finish) at
 
-      inner : lines_of who c.before c.first ≡ (start ++ here.first) ++ made_line ∷ here.rest
-      inner = c.done ∙ ap (λ (z : List Line). start ++ z) lines_are ∙ sym (append_assoc start here.first (made_line ∷ here.rest))
+      inner : lines_of who c.before c.first ≡ (start ++ here.first) ++ made_line ∷ here.step.more
+      inner = c.done ∙ ap (λ (z : List Line). start ++ z) lines_are ∙ sym (append_assoc start here.first (made_line ∷ here.step.more))
 
-      d : Cut who c.before c.first (start ++ here.first) made_line here.rest
-      d = cut who c.before c.first (start ++ here.first) made_line here.rest inner
+      d : Cut who c.before c.first (start ++ here.first) made_line here.step.more
+      d = cut who c.before c.first (start ++ here.first) made_line here.step.more inner
 
       legal : Legal terms (d.before ++ e0 ∷ (d.behind ++ e1 ∷ []))
       legal = subst (Legal terms) (ap (λ (z : List NodeEntry). z ++ e1 ∷ []) d.is ∙ append_assoc d.before (e0 ∷ d.behind) (e1 ∷ [])) (legal_here layout load es ns u who (start ++ l1) look (B ++ finish) c)
@@ -182,17 +162,19 @@ module _ (layout : Layout) (load : Workload) (es : List NodeEntry) (ns : List �
       quiet_behind = (quiet_rest d.before (e0 ∷ d.behind) quiet).1
 
       -- no other seat uses the group
-      mine : asks (uses h) es ≤ asked (uses h) (lines_of who es ns)
-      mine = one_uses layout load es ns u who h (group_within who es ns start l1 X at1 h (group_issued before l1 r1 c1 g1 place b h refl))
-
-      few : asks (uses h) d.behind ≤ asked (uses h) (lines_of who d.behind d.rest)
-      few = few_behind (uses h) who c.before c.first (start ++ here.first) made_line here.rest inner d (few_before (uses h) who es ns (start ++ l1) look (B ++ finish) at c mine)
+      mine : OnlyBy who (uses h) d.behind
+      mine =
+          (each_behind by_who d.before (e0 ∷ d.behind)
+          (subst (OnlyBy who (uses h)) d.is (each_front by_who c.before (e1 ∷ c.behind) (subst (OnlyBy who (uses h)) c.is (one_uses layout load es ns u who h (part_within kinds.Group es ns who start l1 X at1 h (bound_issued kinds.Group sort.Group binds_group before l1 r1 c1 g1 place b h refl))))))).1
+        where
+          by_who : NodeEntry → Type 0
+          by_who e = uses h e.op ≡ true → e.who ≡ who
 
       same : length d.behind ≡ length d.rest
-      same = same_behind who c.before c.first (start ++ here.first) made_line here.rest d c.same
+      same = same_behind who c.before c.first (start ++ here.first) made_line here.step.more d c.same
 
-      members : members_of h [] d.behind ≡ members_in h [] here.rest
-      members = members_lines who h [] d.behind d.rest same few ∙ ap (members_in h []) d.left
+      members : members_of h [] d.behind ≡ members_in h [] here.step.more
+      members = members_lines who h [] d.behind d.rest same mine ∙ ap (members_in h []) d.left
 
       unclosed : NoClose d.behind
       unclosed =
@@ -201,14 +183,15 @@ module _ (layout : Layout) (load : Workload) (es : List NodeEntry) (ns : List �
           let y : asks closes (d.before ++ e0 ∷ d.behind) ≡ asks closes d.before + (0 + asks closes d.behind) = asks_append (λ e. closes e.op) d.before (e0 ∷ d.behind) in
           no_close d.behind (omega arith)
 
-      lines_go : LinesGoOn h here.rest
+      lines_go : LinesGoOn h here.step.more
       lines_go =
-          go_behind h (here.first ++ made_line ∷ []) here.rest
-          (subst (LinesGoOn h) (lines_are ∙ sym (append_assoc here.first (made_line ∷ []) here.rest))
-          (statements_go h load.settings known all [] before [] l1 r1 (settled_front load.settings known all [] before more (subst (λ (x : List Statement). are_settled load.settings known all [] x ≡ true) split whole)) c1))
+          (each_behind (λ (l : Line). goes_on h l.op ≡ true) here.first (made_line ∷ here.step.more)
+          (subst (LinesGoOn h) lines_are
+          (statements_each (λ o. goes_on h o ≡ true) before l1 r1 c1
+          (λ pre k1 q1 t front r2 z. statement_goes h load.settings (known ++ actions_in pre) all pre (map handle_of q1) t.deed front r2 (deed_in load.settings known all before more split whole pre t z.rest z.parted) z.made)))).1
 
       going : GoOn h d.behind
-      going = go_on who h d.behind d.rest same few unclosed (subst (LinesGoOn h) (sym d.left) lines_go)
+      going = go_on who h d.behind d.rest same mine unclosed (subst (LinesGoOn h) (sym d.left) lines_go)
 
       told : (r ≡ reply.Pending) ⊎ IsVerdict (after terms (d.before ++ e0 ∷ d.behind)) (members_of h [] d.behind) r
       told = quiet_verdicts terms d.before d.behind who who (record { 0 = h }) r legal (quiet_front d.before (e0 ∷ d.behind) quiet) quiet_behind going
@@ -222,8 +205,8 @@ module _ (layout : Layout) (load : Workload) (es : List NodeEntry) (ns : List �
           ap (λ (L : List NodeEntry). end_at (after terms L).tasks j) (parted_here ∙ ap (λ (z : List NodeEntry). (d.before ++ e0 ∷ d.behind) ++ z) (append-nil (e1 ∷ c.behind)))
           ∙ front_stays terms es (d.before ++ e0 ∷ d.behind) (e1 ∷ c.behind) [] j e u.legal parted_here i
 
-      pub wait_told : is_pending r ≡ false → r ≡ verdict (faults_after actions all no_faults before place)
-      wait_told decides = by told
+      pub group_told : is_pending r ≡ false → r ≡ verdict (faults_after actions all no_faults before place)
+      group_told decides = by told
         where
           by : (r ≡ reply.Pending) ⊎ IsVerdict (after terms (d.before ++ e0 ∷ d.behind)) (members_of h [] d.behind) r → r ≡ verdict (faults_after actions all no_faults before place)
           by (inl i) = true_false (ap is_pending i) decides

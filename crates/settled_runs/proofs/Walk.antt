@@ -1,8 +1,8 @@
 -- In a run of a settled workload each statement that makes an object is given its handle.
-use Rattle.std.proofs.Common.{◌≡◌, ◌⊎◌, inl, inr, ℕ, zero, suc, ◌+◌, ◌≤◌, ◌<◌, Bool, true, false, cond, List, [], ◌∷◌, ◌++◌, length, Option, Some, None, refl, sym, ◌∙◌, ap, subst, arith, append_assoc, ℤ}
+use Rattle.std.proofs.Common.{◌≡◌, ◌⊎◌, inl, inr, ℕ, zero, suc, ◌+◌, ◌≤◌, ◌<◌, Bool, true, false, cond, List, [], ◌∷◌, ◌++◌, Option, Some, None, refl, sym, ◌∙◌, ap, subst, arith, ℤ}
 use Rattle.std.specs.Prelude.{◌==◌, ◌&&◌, ◌||◌, not, nat_lt, nat_le, map, slice_get, option_and_then, IfSome}
 use Rattle.std.specs.Option.{option_map}
-use Rattle.std.specs.List.{list_any}
+use Rattle.std.specs.List.{list_any, AllByRecursion as Each}
 use Rattle.std.proofs.lemmas.Bool.{eq-eqb, eqb-true}
 use Rattle.std.proofs.lemmas.Bool.Decides.{nat_tests}
 use Rattle.std.proofs.lemmas.List.{append-nil}
@@ -29,7 +29,6 @@ use Rattle.mtapi_machine.specs.declared.replies.Reply.{Reply}
 use Rattle.mtapi_machine.specs.declared.replies.Reply.TheVariants as reply
 use Rattle.mtapi_machine.specs.declared.terms.Terms.{Terms}
 use Rattle.mtapi_machine.specs.Row.{handle_of}
-use Rattle.mtapi_machine.specs.State.{opening}
 use Rattle.mtapi_machine.specs.Legal.{NodeEntry}
 use Rattle.mtapi_machine.proofs.Changes.{some_same}
 use Rattle.mtapi_machine.proofs.Made.{fst_true, snd_true, both_true, not_true}
@@ -37,22 +36,25 @@ use Rattle.sched_workers.specs.Calls.{handle_at, group_at, call_of}
 use Rattle.sched_workers.specs.Lines.{Line, line, lines_of, Made}
 use Rattle.sched_workers.specs.Parts.{Carried}
 use Rattle.history_law.specs.Seats.{closes}
-use Rattle.history_law.specs.Words.{issues, entries_that}
+use Rattle.history_law.specs.Words.{entries_that}
 use Rattle.history_law.proofs.Answered.{true_false}
 use Rattle.run_report.specs.Report.{run_terms}
+use Rattle.workload_file.specs.declared.workload.Part.{Part}
 use Rattle.settled_runs.specs.Granted.{Made as MadeBy, IsOpened, HasAction, IsServed, GroupIsMade, Asks, IsGranted, is_handle, puts, puts_into as puts_entry, IsQueued}
 use Rattle.settled_runs.specs.Plain.{actions_in, queue_in, queue_at, task_in}
-use Rattle.settled_runs.specs.Settled.{serves, is_startable, is_settled_deed, are_settled, sets_up, set_up, puts_into, keep_limits}
+use Rattle.settled_runs.specs.Settled.{serves, is_startable, is_settled_deed, sets_up, set_up, puts_into, keep_limits}
 use Rattle.settled_runs.specs.RunGranted.{GrantedTo, AllGranted, SettledRun}
 use Rattle.settled_runs.proofs.Granted.{action_granted, group_granted, start_granted}
 use Rattle.settled_runs.proofs.Queued.{queue_granted, enqueue_granted}
 use Rattle.settled_runs.proofs.Cuts.{Cut, cut}
-use Rattle.settled_runs.proofs.Counted.{bit, asks, asked, asks_append, asked_append, many_append, seat_asks}
+use Rattle.settled_runs.proofs.Counted.{bit, asks, asked, asked_append, many_append, none_asked, only_asks}
 use Rattle.settled_runs.proofs.Opened.{legal_here, quiet_before}
 use Rattle.settled_runs.proofs.Rooms.{room_for_action, room_for_group, room_for_queue, room_for_task, new_id}
-use Rattle.settled_runs.proofs.Distinct.{issued, issued_append, seat_issued, issued_once, queues_list}
-use Rattle.settled_runs.proofs.Places.{Has, has_more, carried_more, group_has, HasQueue, queue_has, HasAction as HasLine, action_has}
-use Rattle.settled_runs.proofs.Puts.{get_front, BoundBy, bound_by, one_queue, puts_carried, limit_at}
+use Rattle.settled_runs.proofs.Distinct.{queues_list, binds_queue, one_bound, part_once}
+use Rattle.settled_runs.proofs.Places.{Has, has_more, group_has, HasQueue, queue_has, HasAction as HasLine, action_has, either}
+use Rattle.settled_runs.proofs.Along.{get_front, BoundBy, bound_by, along, are_front, granted_more, step_settled, step_statement, found}
+use Rattle.settled_runs.proofs.Puts.{puts_carried, limit_at, puts_outside}
+use Rattle.settled_runs.proofs.Each.{OnlyBy, PartAt, each_front, each_map, is_outside, step_lines}
 
 -- an action that passes was made before
 pub record MadeAction (L : List NodeEntry) (p : Action → Bool) : Type 0 where
@@ -68,8 +70,9 @@ pub record MadeAction (L : List NodeEntry) (p : Action → Bool) : Type 0 where
 pub record Finds (layout : Layout) (load : Workload) (es : List NodeEntry) (ns : List ℕ) (who : ℕ) (start finish : List Line) (all : List Statement) (known : List Action) : Type 0 where
   pub opened : (A : List Line) (l : Line) (B : List Line) (c : Cut who es ns (start ++ A) l (B ++ finish)) → IsOpened c.before
   pub unclosed : (A : List Line) (l : Line) (B : List Line) (c : Cut who es ns (start ++ A) l (B ++ finish)) → asks closes c.before ≡ 0
+  pub outside : Each (λ l. is_outside l.op ≡ true) start
   pub acts : (A : List Line) (l : Line) (B : List Line) (c : Cut who es ns (start ++ A) l (B ++ finish)) (p : Action → Bool) → list_any p known ≡ true → MadeAction c.before p
-  pub alone : (set_up all ≡ false) ⊎ ((h : ℕ) → (asks (puts h) es ≤ asked (puts h) (lines_of who es ns)) × (asked (puts h) start ≡ 0))
+  pub alone : (set_up all ≡ false) ⊎ ((h : ℕ) → OnlyBy who (puts h) es)
 
 -- what a line of the part before it made
 pub made_before : (es : List NodeEntry) (ns : List ℕ) (who : ℕ) (start l1 : List Line) (l : Line) (B : List Line) (c : Cut who es ns (start ++ l1) l B) (p : Op) (h : ℕ) → Has l1 p h → MadeBy p h c.before
@@ -79,14 +82,6 @@ made_before es ns who start l1 l B c p h x =
     record { before = d.before; who = who; behind = d.behind; is = d.is }
 
 -- Small facts
-
-either : {X : Type 0} (p : X → Bool) (xs ys : List X) → list_any p (xs ++ ys) ≡ true → (list_any p xs ≡ true) ⊎ (list_any p ys ≡ true)
-either p [] ys e = inr e
-either p (x ∷ xs) ys e = by (p x) e (either p xs ys)
-  where
-    by : (b : Bool) → (b || list_any p (xs ++ ys)) ≡ true → (list_any p (xs ++ ys) ≡ true → (list_any p xs ≡ true) ⊎ (list_any p ys ≡ true)) → ((b || list_any p xs) ≡ true) ⊎ (list_any p ys ≡ true)
-    by true i k = inl refl
-    by false i k = k i
 
 some_worker : (n : ℕ) (p : ℕ → Bool) → some_below n p ≡ true → (w : ℕ) × (w < n) × (p w ≡ true)
 some_worker zero p e = true_false e refl
@@ -150,7 +145,7 @@ module _ (layout : Layout) (load : Workload) (es : List NodeEntry) (ns : List �
           by : (list_any p known ≡ true) ⊎ (list_any p (actions_in before) ≡ true) → MadeAction c.before p
           by (inl i) = f.acts l1 (line o r n) B c p i
           by (inr i) =
-              let x : HasLine l1 p = action_has [] before l1 r1 p c1 g1 i in
+              let x : HasLine l1 p = action_has before l1 r1 p c1 g1 i in
               record { job = x.job; kind = x.kind; mask = x.mask; handle = x.handle; made = made (op.ActionCreate x.job x.kind x.mask) x.handle x.made; passes = x.passes }
 
       has_action : (job : ℕ) → list_any (has_job job) (known ++ actions_in before) ≡ true → HasAction c.before job
@@ -181,16 +176,7 @@ module _ (layout : Layout) (load : Workload) (es : List NodeEntry) (ns : List �
       group_made None i = tt
       group_made (Some g) i =
           let b : BoundBy sort.Group before g = bound_by sort.Group before g i in
-          made op.GroupCreate (handle_at (map handle_of r1) g) (group_has [] before l1 r1 c1 g1 g b.statement b.found b.binding)
-
-    -- the lines of the part make no handle twice
-    once : (X : List Line) → lines_of who es ns ≡ (start ++ l1) ++ X → (h : ℕ) → issued kinds.Queue h l1 ≤ 1
-    once X at h =
-        let a : entries_that (issues kinds.Queue h) es ≤ 1 = issued_once kinds.Queue h queues_list (opening terms) es u.legal.from in
-        let b : issued kinds.Queue h (lines_of who es ns) ≤ entries_that (issues kinds.Queue h) es = seat_issued kinds.Queue h who es ns in
-        let d : issued kinds.Queue h (lines_of who es ns) ≡ issued kinds.Queue h (start ++ l1) + issued kinds.Queue h X = ap (issued kinds.Queue h) at ∙ issued_append kinds.Queue h (start ++ l1) X in
-        let e : issued kinds.Queue h (start ++ l1) ≡ issued kinds.Queue h start + issued kinds.Queue h l1 = issued_append kinds.Queue h start l1 in
-        omega arith
+          made op.GroupCreate (handle_at (map handle_of r1) g) (group_has before l1 r1 c1 g1 g b)
 
     module _ (o : Op) (r : Reply) (n : ℕ) (B : List Line) (at : lines_of who es ns ≡ (start ++ l1) ++ line o r n ∷ (B ++ finish)) where
       abbrev c : Cut who es ns (start ++ l1) (line o r n) (B ++ finish)
@@ -204,24 +190,18 @@ module _ (layout : Layout) (load : Workload) (es : List NodeEntry) (ns : List �
           found = ap (λ (z : List Statement). slice_get z queue) split ∙ get_front before (s ∷ more) queue b.early ∙ b.found
 
           in_part : asked (puts (handle_at (map handle_of r1) queue)) l1 ≤ how_many (λ e. puts_into queue e.deed) before
-          in_part = puts_carried before (map handle_of r1) (handle_at (map handle_of r1) queue) queue
-              (λ other y e. one_queue [] before l1 r1 c1 g1 other queue (once (line o r n ∷ (B ++ finish)) at) y b e)
-              r1 l1 c1 refl are
+          in_part = puts_carried (handle_at (map handle_of r1) queue) queue before l1 r1 c1 are
+              (λ other y e. one_bound kinds.Queue sort.Queue binds_queue before l1 r1 c1 g1 (part_once kinds.Queue queues_list terms es ns u.legal who start l1 (line o r n ∷ (B ++ finish)) at) other queue y b e)
 
-          by : (set_up all ≡ false) ⊎ ((k : ℕ) → (asks (puts k) es ≤ asked (puts k) (lines_of who es ns)) × (asked (puts k) start ≡ 0)) → entries_that (puts_entry (handle_at (map handle_of r1) queue)) c.before < x.limit
+          by : (set_up all ≡ false) ⊎ ((k : ℕ) → OnlyBy who (puts k) es) → entries_that (puts_entry (handle_at (map handle_of r1) queue)) c.before < x.limit
           by (inl i) = true_false (sets_all all queue b.statement x found q) i
           by (inr k) = few (handle_at (map handle_of r1) queue) in_part (k (handle_at (map handle_of r1) queue))
             where
-              few : (j : ℕ) → asked (puts j) l1 ≤ how_many (λ e. puts_into queue e.deed) before → (asks (puts j) es ≤ asked (puts j) (lines_of who es ns)) × (asked (puts j) start ≡ 0) → entries_that (puts_entry j) c.before < x.limit
+              few : (j : ℕ) → asked (puts j) l1 ≤ how_many (λ e. puts_into queue e.deed) before → OnlyBy who (puts j) es → entries_that (puts_entry j) c.before < x.limit
               few j i k2 =
-                  let a : asks (puts j) es ≤ asked (puts j) (lines_of who es ns) = k2.0 in
-                  let z : asked (puts j) start ≡ 0 = k2.1 in
-                  let d : asked (puts j) (lines_of who es ns) ≡ asked (puts j) (start ++ l1) + (bit (puts j o) + asked (puts j) (B ++ finish)) = ap (asked (puts j)) at ∙ asked_append (puts j) (start ++ l1) (line o r n ∷ (B ++ finish)) in
-                  let e : asked (puts j) (start ++ l1) ≡ asked (puts j) start + asked (puts j) l1 = asked_append (puts j) start l1 in
-                  let g : asked (puts j) (lines_of who c.behind c.rest) ≤ asks (puts j) c.behind = seat_asks (puts j) who c.behind c.rest in
-                  let v : asked (puts j) (lines_of who c.behind c.rest) ≡ asked (puts j) (B ++ finish) = ap (asked (puts j)) c.left in
-                  let w : asks (puts j) es ≡ asks (puts j) (c.before ++ entry who o r ∷ c.behind) = ap (asks (puts j)) c.is in
-                  let y : asks (puts j) (c.before ++ entry who o r ∷ c.behind) ≡ asks (puts j) c.before + (bit (puts j o) + asks (puts j) c.behind) = asks_append (λ e0. puts j e0.op) c.before (entry who o r ∷ c.behind) in
+                  let a : asks (puts j) c.before ≤ asked (puts j) (lines_of who c.before c.first) = only_asks who (puts j) c.before c.first c.same (each_front (λ (e : NodeEntry). puts j e.op ≡ true → e.who ≡ who) c.before (entry who o r ∷ c.behind) (subst (OnlyBy who (puts j)) c.is k2)) in
+                  let d : asked (puts j) (lines_of who c.before c.first) ≡ asked (puts j) start + asked (puts j) l1 = ap (asked (puts j)) c.done ∙ asked_append (puts j) start l1 in
+                  let z : asked (puts j) start ≡ 0 = none_asked (puts j) start (each_map (λ (l : Line). is_outside l.op ≡ true) (λ (l : Line). puts j l.op ≡ false) (λ l e. puts_outside j l.op e) start f.outside) in
                   let t : entries_that (puts_entry j) c.before ≤ asks (puts j) c.before = puts_asks j c.before in
                   let p : how_many (λ e0. puts_into queue e0.deed) all ≤ x.limit = limit_at all queue b.statement x limits found q in
                   let p2 : how_many (λ e0. puts_into queue e0.deed) all ≡ how_many (λ e0. puts_into queue e0.deed) before + (1 + how_many (λ e0. puts_into queue e0.deed) more) = parts in
@@ -246,11 +226,8 @@ module _ (layout : Layout) (load : Workload) (es : List NodeEntry) (ns : List �
           q : queue_in b.statement.deed ≡ Some x
           q = sym (ap (option_and_then (λ z. queue_in z.deed)) (ap (λ (z : List Statement). slice_get z queue) split ∙ get_front before (s ∷ more) queue b.early ∙ b.found)) ∙ e
 
-          y : HasQueue [] before l1 r1 c1 g1 queue x
-          y = queue_has [] before l1 r1 c1 g1 queue b.statement x b.found q
-
-    abbrev Granting : Deed → Type 0
-    Granting d = (front : List Line) (r : Reply) (B : List Line) → lines_of who es ns ≡ (start ++ l1) ++ (front ++ (B ++ finish)) → Made (call_of (map handle_of r1) d) front r → GrantedTo d r
+          y : HasQueue before l1 r1 c1 g1 queue x
+          y = queue_has before l1 r1 c1 g1 queue b.statement x b.found q
 
     one_line : (o : Op) (front : List Line) (r : Reply) (B : List Line) → lines_of who es ns ≡ (start ++ l1) ++ (front ++ (B ++ finish)) → front ≡ line o r 0 ∷ [] → lines_of who es ns ≡ (start ++ l1) ++ line o r 0 ∷ (B ++ finish)
     one_line o front r B at e = at ∙ ap (λ (z : List Line). (start ++ l1) ++ (z ++ (B ++ finish))) e
@@ -323,47 +300,19 @@ module _ (layout : Layout) (load : Workload) (es : List NodeEntry) (ns : List �
         by (deed.WaitAll place timeout) e o p n = tt
         by _ e o p n = true_false e refl
 
--- A part, with one more statement
-
-pub granted_more : (before : List Statement) (r1 : List Reply) (s : Statement) (r : Reply) → AllGranted before r1 → length r1 ≡ length before → GrantedTo s.deed r → AllGranted (before ++ s ∷ []) (r1 ++ r ∷ [])
-granted_more [] [] s r a l g = (g, tt)
-granted_more [] (x ∷ r1) s r a l g = absurd (omega arith)
-granted_more (t ∷ before) [] s r a l g = absurd a
-granted_more (t ∷ before) (x ∷ r1) s r a l g = (a.0, granted_more before r1 s r a.1 (omega arith) g)
-
-pub are_more : (pre before : List Statement) (s : Statement) → AreStatements pre before → IsStatement (pre ++ before) s → AreStatements pre (before ++ s ∷ [])
-are_more pre [] s a i = (subst (λ (x : List Statement). IsStatement x s) (append-nil pre) i, tt)
-are_more pre (t ∷ before) s a i = (a.0, are_more (pre ++ t ∷ []) before s a.1 (subst (λ (x : List Statement). IsStatement x s) (sym (append_assoc pre (t ∷ []) before)) i))
-
-pub snoc : {X : Type 0} (xs : List X) (x : X) → length (xs ++ x ∷ []) ≡ suc (length xs)
-snoc [] x = refl
-snoc (y ∷ xs) x = ap suc (snoc xs x)
-
-pub map_more : (rs : List Reply) (r : Reply) → map handle_of rs ++ handle_of r ∷ [] ≡ map handle_of (rs ++ r ∷ [])
-map_more [] r = refl
-map_more (x ∷ rs) r = ap (λ (z : List ℕ). handle_of x ∷ z) (map_more rs r)
-
 -- A part
 
-module _ (layout : Layout) (load : Workload) (es : List NodeEntry) (ns : List ℕ) (u : SettledRun layout load es ns) (who : ℕ) (start finish : List Line) (all : List Statement) (known : List Action) (f : Finds layout load es ns who start finish all known) (limits : keep_limits all 0 all ≡ true) where
-  pub walk : (before : List Statement) (l1 : List Line) (r1 : List Reply) (ss : List Statement) (ls : List Line) (rs : List Reply) → Carried Made [] before l1 r1 → AllGranted before r1 → length r1 ≡ length before → AreStatements [] before
-      → Carried Made (map handle_of r1) ss ls rs → lines_of who es ns ≡ (start ++ l1) ++ (ls ++ finish) → all ≡ before ++ ss → are_settled load.settings known all before ss ≡ true → AreStatements before ss → AllGranted ss rs
-  unfolding Carried are_settled
-  walk before l1 r1 [] ls rs c1 g1 n a1 c at split ok a = tt
-  walk before l1 r1 (s ∷ ss) ls [] c1 g1 n a1 c at split ok a = absurd c
-  walk before l1 r1 (s ∷ ss) ls (r ∷ rs) c1 g1 n a1 c at split ok a = (
-    here,
-    walk (before ++ s ∷ []) (l1 ++ c.0) (r1 ++ r ∷ []) ss c.1 rs
-        (carried_more [] before (s ∷ []) l1 c.0 r1 (r ∷ []) c1 (c.0, [], sym (append-nil c.0), c.3, refl))
-        (granted_more before r1 s r g1 n here) (snoc r1 r ∙ ap suc n ∙ sym (snoc before s)) (are_more [] before s a1 a.0)
-        (subst (λ (x : List ℕ). Carried Made x ss c.1 rs) (map_more r1 r) c.4)
-        (at2 ∙ sym (append_assoc (start ++ l1) c.0 (c.1 ++ finish)) ∙ ap (λ (z : List Line). z ++ (c.1 ++ finish)) (append_assoc start l1 c.0))
-        (split ∙ sym (append_assoc before (s ∷ []) ss))
-        (snd_true (is_settled_deed load.settings (known ++ actions_in before) before all s.deed) _ ok) a.1,
-  )
-    where
-      at2 : lines_of who es ns ≡ (start ++ l1) ++ (c.0 ++ (c.1 ++ finish))
-      at2 = at ∙ ap (λ (z : List Line). (start ++ l1) ++ z) (ap (λ (z : List Line). z ++ finish) c.2 ∙ append_assoc c.0 c.1 finish)
+-- a seat that runs a part of the workload
+pub record Seat (layout : Layout) (load : Workload) (es : List NodeEntry) (ns : List ℕ) (w : ℕ) (p : Part) (rs : List Reply) : Type 0 where
+  pub at : PartAt load es ns w p rs
+  pub finds : Finds layout load es ns w at.start at.finish p.statements at.known
+  pub limits : keep_limits p.statements 0 p.statements ≡ true
+  pub are : AreStatements [] p.statements
 
-      here : GrantedTo s.deed r
-      here = given layout load es ns u who start finish all known f before l1 r1 c1 g1 s ss split a.0 (fst_true _ (are_settled load.settings known all (before ++ s ∷ []) ss) ok) limits a1 c.0 r c.1 at2 c.3
+pub seat_granted : (layout : Layout) (load : Workload) (es : List NodeEntry) (ns : List ℕ) (u : SettledRun layout load es ns) (w : ℕ) (p : Part) (rs : List Reply) → Seat layout load es ns w p rs → AllGranted p.statements rs
+seat_granted layout load es ns u w p rs x =
+    along p.statements x.at.body rs (λ b l r. AllGranted b r)
+    (λ b l1 r1 s front r y g.
+    granted_more b r1 s r g y.many
+    (given layout load es ns u w x.at.start x.at.finish p.statements x.at.known x.finds b l1 r1 y.carried g s y.rest y.parted (step_statement p.statements x.at.body rs b l1 r1 s front r y x.are)
+    (step_settled p.statements x.at.body rs b l1 r1 s front r y load.settings x.at.known x.at.settled) x.limits (are_front [] b (s ∷ y.rest) (subst (AreStatements []) y.parted x.are)) front r y.more (step_lines load es ns w p rs x.at b l1 r1 s front r y) y.made)) x.at.carried tt

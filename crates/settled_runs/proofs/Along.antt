@@ -1,0 +1,229 @@
+-- One walk along the statements of a part, with their lines and replies.
+use Rattle.std.specs.Prelude.{IfSome, map, slice_get}
+use Rattle.std.proofs.lemmas.List.{append-nil}
+use Rattle.std.proofs.Common.{append_assoc, arith, inl, inr, refl, suc, sym, zero, ◌∙◌, List, Option, Some, [], length, true, ℕ, ◌++◌, ◌+◌, ◌<◌, ◌∷◌, ◌≡◌, ◌⊎◌, ap, subst}
+use Rattle.sched_workers.specs.Lines.{Made, Line}
+use Rattle.workload_file.specs.declared.table.Sort.{Sort}
+use Rattle.mtapi_objects.specs.Actions.{Action}
+use Rattle.workload_file.specs.Formed.{AreStatements, IsBoundAt, IsStatement}
+use Rattle.sched_workers.specs.Parts.{Carried}
+use Rattle.mtapi_values.specs.Attributes.{NodeSettings}
+use Rattle.mtapi_machine.specs.declared.replies.Reply.{Reply}
+use Rattle.workload_file.specs.declared.workload.Statement.{Statement}
+use Rattle.workload_file.specs.Deeds.{binds}
+use Rattle.sched_workers.specs.Calls.{call_of, handle_at}
+use Rattle.mtapi_machine.proofs.Made.{fst_true, snd_true}
+use Rattle.mtapi_machine.specs.Row.{handle_of}
+use Rattle.mtapi_machine.proofs.Changes.{some_same}
+use Rattle.settled_runs.specs.RunGranted.{AllGranted, GrantedTo}
+use Rattle.settled_runs.specs.Plain.{actions_in}
+use Rattle.settled_runs.specs.Settled.{are_settled, is_settled_deed}
+use Rattle.settled_runs.proofs.Cuts.{same_head, same_tail}
+
+-- Lists
+
+pub snoc : {X : Type 0} (xs : List X) (x : X) → length (xs ++ x ∷ []) ≡ suc (length xs)
+snoc [] x = refl
+snoc (y ∷ xs) x = ap suc (snoc xs x)
+
+pub get_front : {X : Type 0} (xs ys : List X) (n : ℕ) → n < length xs → slice_get (xs ++ ys) n ≡ slice_get xs n
+get_front [] ys n l = absurd (omega arith)
+get_front (x ∷ xs) ys zero l = refl
+get_front (x ∷ xs) ys (suc n) l = get_front xs ys n (omega arith)
+
+pub get_at : {X : Type 0} (xs : List X) (y : X) (ys : List X) → slice_get (xs ++ y ∷ ys) (length xs) ≡ Some y
+get_at [] y ys = refl
+get_at (x ∷ xs) y ys = get_at xs y ys
+
+-- fronts of one length are one
+pub same_front : {X : Type 0} (A : List X) (x : X) (B C : List X) (y : X) (D : List X) → A ++ x ∷ B ≡ C ++ y ∷ D → length A ≡ length C → A ≡ C
+same_front [] x B [] y D e l = refl
+same_front [] x B (c ∷ C) y D e l = absurd (omega arith)
+same_front (a ∷ A) x B [] y D e l = absurd (omega arith)
+same_front (a ∷ A) x B (c ∷ C) y D e l = λ i. same_head a c _ _ e i ∷ same_front A x B C y D (same_tail a c _ _ e) (omega arith) i
+
+-- what stands at a place of a list with one more
+get_last : {X : Type 0} (xs : List X) (x y : X) (n : ℕ) → slice_get (xs ++ x ∷ []) n ≡ Some y → (slice_get xs n ≡ Some y) ⊎ ((x ≡ y) × (length xs ≡ n))
+get_last [] x y zero e = inr (some_same e, refl)
+get_last [] x y (suc n) e = inl e
+get_last (z ∷ xs) x y zero e = inl e
+get_last (z ∷ xs) x y (suc n) e = deeper (get_last xs x y n e)
+  where
+    deeper : (slice_get xs n ≡ Some y) ⊎ ((x ≡ y) × (length xs ≡ n)) → (slice_get xs n ≡ Some y) ⊎ ((x ≡ y) × (suc (length xs) ≡ suc n))
+    deeper (inl k) = inl k
+    deeper (inr k) = inr (k.0, ap suc k.1)
+
+map_more : (rs : List Reply) (r : Reply) → map handle_of rs ++ handle_of r ∷ [] ≡ map handle_of (rs ++ r ∷ [])
+map_more [] r = refl
+map_more (x ∷ rs) r = ap (λ (z : List ℕ). handle_of x ∷ z) (map_more rs r)
+
+-- the handle that a reply binds is that of its place
+bound_here : (rs : List Reply) (r : Reply) (qs : List Reply) (n : ℕ) → length rs ≡ n → handle_at (map handle_of (rs ++ r ∷ qs)) n ≡ handle_of r
+bound_here [] r qs zero e = refl
+bound_here [] r qs (suc n) e = absurd (omega arith)
+bound_here (x ∷ rs) r qs zero e = absurd (omega arith)
+bound_here (x ∷ rs) r qs (suc n) e = bound_here rs r qs n (omega arith)
+
+pub handles_front : (rs : List Reply) (qs : List Reply) (n : ℕ) → n < length rs → handle_at (map handle_of (rs ++ qs)) n ≡ handle_at (map handle_of rs) n
+handles_front [] qs n l = absurd (omega arith)
+handles_front (x ∷ rs) qs zero l = refl
+handles_front (x ∷ rs) qs (suc n) l = handles_front rs qs n (omega arith)
+
+-- Carried lists in pieces
+
+pub carried_more : (bound : List ℕ) (ss ts : List Statement) (ls ks : List Line) (rs qs : List Reply) → Carried Made bound ss ls rs → Carried Made (bound ++ map handle_of rs) ts ks qs → Carried Made bound (ss ++ ts) (ls ++ ks) (rs ++ qs)
+unfolding Carried
+carried_more bound [] ts ls ks [] qs a b = subst (λ (x : List Line). Carried Made bound ts (x ++ ks) qs) (sym a) (subst (λ (x : List ℕ). Carried Made x ts ks qs) (append-nil bound) b)
+carried_more bound [] ts ls ks (r ∷ rs) qs a b = absurd a
+carried_more bound (s ∷ ss) ts ls ks [] qs a b = absurd a
+carried_more bound (s ∷ ss) ts ls ks (r ∷ rs) qs a b = (
+  a.0,
+  a.1 ++ ks,
+  (ap (λ (x : List Line). x ++ ks) a.2 ∙ append_assoc a.0 a.1 ks),
+  a.3,
+  carried_more (bound ++ handle_of r ∷ []) ss ts a.1 ks rs qs a.4 (subst (λ (x : List ℕ). Carried Made x ts ks qs) (sym (append_assoc bound (handle_of r ∷ []) (map handle_of rs))) b),
+)
+
+-- a statement of a part, with its lines and its reply, and what stands before it
+pub record Step (all : List Statement) (ls : List Line) (rs : List Reply) (before : List Statement) (l1 : List Line) (r1 : List Reply) (s : Statement) (front : List Line) (r : Reply) : Type 0 where
+  pub rest : List Statement
+  pub more : List Line
+  pub others : List Reply
+  pub parted : all ≡ before ++ s ∷ rest
+  pub is : ls ≡ l1 ++ (front ++ more)
+  pub told : rs ≡ r1 ++ r ∷ others
+  pub carried : Carried Made [] before l1 r1
+  pub many : length r1 ≡ length before
+  pub made : Made (call_of (map handle_of r1) s.deed) front r
+
+-- what holds before all statements, and is kept by each, holds behind them
+module _ (all : List Statement) (ls : List Line) (rs : List Reply) (I : List Statement → List Line → List Reply → Type 0)
+    (step : (before : List Statement) (l1 : List Line) (r1 : List Reply) (s : Statement) (front : List Line) (r : Reply) → Step all ls rs before l1 r1 s front r → I before l1 r1 → I (before ++ s ∷ []) (l1 ++ front) (r1 ++ r ∷ [])) where
+  along_from : (before : List Statement) (l1 : List Line) (r1 : List Reply) (ss : List Statement) (ks : List Line) (qs : List Reply) → Carried Made [] before l1 r1 → length r1 ≡ length before → Carried Made (map handle_of r1) ss ks qs → all ≡ before ++ ss → ls ≡ l1 ++ ks → rs ≡ r1 ++ qs
+      → I before l1 r1 → I all ls rs
+  unfolding Carried
+  along_from before l1 r1 [] ks [] c1 n c a e t i =
+      subst (λ (x : List Statement). I x ls rs) (sym (a ∙ append-nil before))
+      (subst (λ (x : List Line). I before x rs) (sym (e ∙ ap (λ (z : List Line). l1 ++ z) c ∙ append-nil l1)) (subst (λ (x : List Reply). I before l1 x) (sym (t ∙ append-nil r1)) i))
+  along_from before l1 r1 [] ks (r ∷ qs) c1 n c a e t i = absurd c
+  along_from before l1 r1 (s ∷ ss) ks [] c1 n c a e t i = absurd c
+  along_from before l1 r1 (s ∷ ss) ks (r ∷ qs) c1 n c a e t i =
+      along_from (before ++ s ∷ []) (l1 ++ c.0) (r1 ++ r ∷ []) ss c.1 qs
+      (carried_more [] before (s ∷ []) l1 c.0 r1 (r ∷ []) c1 (c.0, [], sym (append-nil c.0), c.3, refl))
+      (snoc r1 r ∙ ap suc n ∙ sym (snoc before s)) (subst (λ (x : List ℕ). Carried Made x ss c.1 qs) (map_more r1 r) c.4)
+      (a ∙ sym (append_assoc before (s ∷ []) ss)) (e2 ∙ sym (append_assoc l1 c.0 c.1)) (t ∙ sym (append_assoc r1 (r ∷ []) qs))
+      (step before l1 r1 s c.0 r (record { rest = ss; more = c.1; others = qs; parted = a; is = e2; told = t; carried = c1; many = n; made = c.3 }) i)
+    where
+      e2 : ls ≡ l1 ++ (c.0 ++ c.1)
+      e2 = e ∙ ap (λ (z : List Line). l1 ++ z) c.2
+
+  pub along : Carried Made [] all ls rs → I [] [] [] → I all ls rs
+  unfolding Carried
+  along c i = along_from [] [] [] all ls rs refl refl c refl refl refl i
+
+-- What holds of all statements holds of the one of a step
+
+pub are_front : (pre ss ts : List Statement) → AreStatements pre (ss ++ ts) → AreStatements pre ss
+are_front pre [] ts a = tt
+are_front pre (s ∷ ss) ts a = (a.0, are_front (pre ++ s ∷ []) ss ts a.1)
+
+pub statement_at : (pre before : List Statement) (s : Statement) (rest : List Statement) → AreStatements pre (before ++ s ∷ rest) → IsStatement (pre ++ before) s
+statement_at pre [] s rest a = subst (λ (x : List Statement). IsStatement x s) (sym (append-nil pre)) a.0
+statement_at pre (t ∷ before) s rest a = subst (λ (x : List Statement). IsStatement x s) (append_assoc pre (t ∷ []) before) (statement_at (pre ++ t ∷ []) before s rest a.1)
+
+pub deed_at : (settings : NodeSettings) (known : List Action) (all pre before : List Statement) (s : Statement) (rest : List Statement) → are_settled settings known all pre (before ++ s ∷ rest) ≡ true → is_settled_deed settings (known ++ actions_in (pre ++ before)) (pre ++ before) all s.deed ≡ true
+unfolding are_settled
+deed_at settings known all pre [] s rest e = subst (λ (x : List Statement). is_settled_deed settings (known ++ actions_in x) x all s.deed ≡ true) (sym (append-nil pre)) (fst_true _ (are_settled settings known all (pre ++ s ∷ []) rest) e)
+deed_at settings known all pre (t ∷ before) s rest e =
+    subst (λ (x : List Statement). is_settled_deed settings (known ++ actions_in x) x all s.deed ≡ true) (append_assoc pre (t ∷ []) before)
+    (deed_at settings known all (pre ++ t ∷ []) before s rest (snd_true (is_settled_deed settings (known ++ actions_in pre) pre all t.deed) _ e))
+
+-- and so it is of the statements before a place
+pub deed_in : (settings : NodeSettings) (known : List Action) (all before more : List Statement) → all ≡ before ++ more → are_settled settings known all [] all ≡ true → (b : List Statement) (t : Statement) (rest : List Statement) → before ≡ b ++ t ∷ rest → is_settled_deed settings (known ++ actions_in b) b all t.deed ≡ true
+deed_in settings known all before more i e b t rest j =
+    deed_at settings known all [] b t (rest ++ more) (subst (λ (z : List Statement). are_settled settings known all [] z ≡ true) (i ∙ ap (λ (z : List Statement). z ++ more) j ∙ append_assoc b (t ∷ rest) more) e)
+
+pub granted_at : (before : List Statement) (s : Statement) (rest : List Statement) (r1 : List Reply) (r : Reply) (others : List Reply) → length r1 ≡ length before → AllGranted (before ++ s ∷ rest) (r1 ++ r ∷ others) → AllGranted before r1 × GrantedTo s.deed r
+granted_at [] s rest [] r others n a = (tt, a.0)
+granted_at [] s rest (q ∷ r1) r others n a = absurd (omega arith)
+granted_at (t ∷ before) s rest [] r others n a = absurd (omega arith)
+granted_at (t ∷ before) s rest (q ∷ r1) r others n a = let x = granted_at before s rest r1 r others (omega arith) a.1 in ((a.0, x.0), x.1)
+
+pub granted_more : (before : List Statement) (r1 : List Reply) (s : Statement) (r : Reply) → AllGranted before r1 → length r1 ≡ length before → GrantedTo s.deed r → AllGranted (before ++ s ∷ []) (r1 ++ r ∷ [])
+granted_more [] [] s r a l g = (g, tt)
+granted_more [] (x ∷ r1) s r a l g = absurd (omega arith)
+granted_more (t ∷ before) [] s r a l g = absurd a
+granted_more (t ∷ before) (x ∷ r1) s r a l g = (a.0, granted_more before r1 s r a.1 (omega arith) g)
+
+module _ (all : List Statement) (ls : List Line) (rs : List Reply) (before : List Statement) (l1 : List Line) (r1 : List Reply) (s : Statement) (front : List Line) (r : Reply) (x : Step all ls rs before l1 r1 s front r) where
+  pub step_granted : AllGranted all rs → AllGranted before r1 × GrantedTo s.deed r
+  step_granted g = granted_at before s x.rest r1 r x.others x.many (subst (λ (z : List Statement). AllGranted z (r1 ++ r ∷ x.others)) x.parted (subst (AllGranted all) x.told g))
+
+  pub step_statement : AreStatements [] all → IsStatement before s
+  step_statement a = statement_at [] before s x.rest (subst (AreStatements []) x.parted a)
+
+  pub step_settled : (settings : NodeSettings) (known : List Action) → are_settled settings known all [] all ≡ true → is_settled_deed settings (known ++ actions_in before) before all s.deed ≡ true
+  step_settled settings known e = deed_in settings known all all [] (sym (append-nil all)) e before s x.rest x.parted
+
+-- The statement that a place stands for
+
+pub record BoundBy (t : Sort) (before : List Statement) (place : ℕ) : Type 0 where
+  pub statement : Statement
+  pub found : slice_get before place ≡ Some statement
+  pub binding : binds t statement.deed ≡ true
+  pub early : place < length before
+
+some_within : {X : Type 0} (xs : List X) (n : ℕ) → n < length xs → (x : X) × (slice_get xs n ≡ Some x)
+some_within [] n l = absurd (omega arith)
+some_within (x ∷ xs) zero l = (x, refl)
+some_within (x ∷ xs) (suc n) l = some_within xs n (omega arith)
+
+pub bound_by : (t : Sort) (before : List Statement) (place : ℕ) → IsBoundAt t before place → BoundBy t before place
+bound_by t before place b =
+    let x = some_within before place b.0 in
+    record { statement = x.0; found = x.1; binding = subst (λ (o : Option Statement). IfSome o (λ s. binds t s.deed ≡ true)) x.1 b.1; early = b.0 }
+
+pub bound_longer : (t : Sort) (before more : List Statement) (place : ℕ) → BoundBy t before place → BoundBy t (before ++ more) place
+bound_longer t before more place b = record { statement = b.statement; found = get_front before more place b.early ∙ b.found; binding = b.binding; early = within before place b.early }
+  where
+    within : (xs : List Statement) (n : ℕ) → n < length xs → n < length (xs ++ more)
+    within [] n l = absurd (omega arith)
+    within (x ∷ xs) zero l = omega arith
+    within (x ∷ xs) (suc n) l = let k : n < length (xs ++ more) = within xs n (omega arith) in omega arith
+
+pub bound_shorter : (t : Sort) (before more : List Statement) (place : ℕ) → place < length before → BoundBy t (before ++ more) place → BoundBy t before place
+bound_shorter t before more place l b = record { statement = b.statement; found = sym (get_front before more place l) ∙ b.found; binding = b.binding; early = l }
+
+-- a place that is bound behind some statements is bound behind all, with the same handle
+pub step_bound : (all : List Statement) (ls : List Line) (rs : List Reply) (before : List Statement) (l1 : List Line) (r1 : List Reply) (s : Statement) (front : List Line) (r : Reply) → Step all ls rs before l1 r1 s front r → (t : Sort) (place : ℕ) → IsBoundAt t before place
+    → BoundBy t all place × (handle_at (map handle_of rs) place ≡ handle_at (map handle_of r1) place)
+step_bound all ls rs before l1 r1 s front r x t place b = (
+  subst (λ (z : List Statement). BoundBy t z place) (sym x.parted) (bound_longer t before (s ∷ x.rest) place (bound_by t before place b)),
+  ap (λ (z : List Reply). handle_at (map handle_of z) place) x.told ∙ handles_front r1 (r ∷ x.others) place (let k : place < length before = b.0 in let n : length r1 ≡ length before = x.many in omega arith),
+)
+
+pub record Found (all : List Statement) (ls : List Line) (rs : List Reply) (place : ℕ) (s : Statement) : Type 0 where
+  pub before : List Statement
+  pub first : List Line
+  pub replies : List Reply
+  pub front : List Line
+  pub reply : Reply
+  pub step : Step all ls rs before first replies s front reply
+  pub early : length before ≡ place
+
+pub found : (all : List Statement) (ls : List Line) (rs : List Reply) → Carried Made [] all ls rs → (place : ℕ) (s : Statement) → slice_get all place ≡ Some s → Found all ls rs place s
+found all ls rs c =
+    along all ls rs (λ b l r. (place : ℕ) (s : Statement) → slice_get b place ≡ Some s → Found all ls rs place s)
+    (λ b l r t front q x i place s e. by b l r t front q x place s (i place s) (get_last b t s place e)) c (λ place s e. absurd (cc))
+  where
+    by : (b : List Statement) (l : List Line) (r : List Reply) (t : Statement) (front : List Line) (q : Reply) → Step all ls rs b l r t front q → (place : ℕ) (s : Statement) → (slice_get b place ≡ Some s → Found all ls rs place s)
+        → (slice_get b place ≡ Some s) ⊎ ((t ≡ s) × (length b ≡ place)) → Found all ls rs place s
+    by b l r t front q x place s i (inl k) = i k
+    by b l r t front q x place s i (inr k) = record { before = b; first = l; replies = r; front = front; reply = q; step = subst (λ (z : Statement). Step all ls rs b l r z front q) k.0 x; early = k.1 }
+
+module _ (all : List Statement) (ls : List Line) (rs : List Reply) (place : ℕ) (s : Statement) (f : Found all ls rs place s) where
+  pub found_bound : handle_at (map handle_of rs) place ≡ handle_of f.reply
+  found_bound = ap (λ (x : List Reply). handle_at (map handle_of x) place) f.step.told ∙ bound_here f.replies f.reply f.step.others place (f.step.many ∙ f.early)
+
+  pub found_granted : AllGranted all rs → GrantedTo s.deed f.reply
+  found_granted g = (step_granted all ls rs f.before f.first f.replies s f.front f.reply f.step g).1

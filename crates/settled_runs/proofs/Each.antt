@@ -1,0 +1,337 @@
+-- What holds of each line of a seat, and of each entry of a run.
+use Rattle.std.specs.List.{list_any, list_all, flat_map, AllByRecursion as Each}
+use Rattle.std.proofs.Common.{ap, append_assoc, arith, cond, refl, suc, sym, ◌∙◌, Bool, List, None, Option, Some, [], false, length, true, ℕ, ◌++◌, ◌+◌, ◌<◌, ◌∷◌, ◌≡◌, ◌≤◌, subst}
+use Rattle.std.proofs.lemmas.List.{append-nil}
+use Rattle.std.proofs.lemmas.Bool.{eq-eqb, eqb-true, or_left, or_right}
+use Rattle.std.proofs.lemmas.List.Folds.{list_any-append}
+use Rattle.std.specs.Prelude.{nat_lt, not, ◌&&◌, ◌==◌}
+use Rattle.std.proofs.lemmas.Bool.Decides.{nat_tests}
+use Rattle.sched_workers.specs.Lines.{Made, line, Line, before_it, head_of, in_lines, lines_of, tail_of_main}
+use Rattle.mtapi_objects.specs.Actions.{Action}
+use Rattle.history_law.specs.Seats.{BySeats, is_release}
+use Rattle.sched_workers.specs.Calls.{Call, Looking, Once}
+use Rattle.sched_workers.specs.Parts.{CallerRan, CallersRan, Carried, MainRan, PartsRan, has_begin}
+use Rattle.mtapi_machine.specs.Legal.{NodeEntry}
+use Rattle.mtapi_values.specs.Attributes.{NodeSettings}
+use Rattle.mtapi_machine.specs.declared.ops.Op.{Op}
+use Rattle.workload_file.specs.declared.workload.Part.{Part}
+use Rattle.mtapi_machine.specs.declared.replies.Reply.{Reply}
+use Rattle.sched_workers.specs.RunOf.{RunOf, WorkerRan, all_work, is_work}
+use Rattle.workload_file.specs.declared.workload.Statement.{Statement}
+use Rattle.workload_file.specs.declared.workload.Workload.{Workload}
+use Rattle.history.specs.Histories.{entry}
+use Rattle.mtapi_machine.proofs.Made.{fst_true, not_true, snd_true}
+use Rattle.mtapi_machine.specs.declared.ops.Op.TheVariants as op
+use Rattle.mtapi_machine.specs.declared.replies.Reply.TheVariants as reply
+use Rattle.history_law.proofs.Answered.{true_false}
+use Rattle.settled_runs.specs.Settled.{has_room, are_settled, are_settled_parts, has_different_ids, has_one_fault_a_group, has_one_kind_a_job, is_settled, is_settled_further, is_settled_part, keep_limits, set_up, sets_up_first}
+use Rattle.settled_runs.proofs.Along.{Step, along}
+use Rattle.settled_runs.specs.Plain.{action_in, actions_in, all_statements}
+
+module _ {X : Type 0} (P : X → Type 0) where
+  pub each_both : (xs ys : List X) → Each P xs → Each P ys → Each P (xs ++ ys)
+  each_both [] ys a b = b
+  each_both (x ∷ xs) ys a b = (a.0, each_both xs ys a.1 b)
+
+  pub each_front : (xs ys : List X) → Each P (xs ++ ys) → Each P xs
+  each_front [] ys a = tt
+  each_front (x ∷ xs) ys a = (a.0, each_front xs ys a.1)
+
+  pub each_behind : (xs ys : List X) → Each P (xs ++ ys) → Each P ys
+  each_behind [] ys a = a
+  each_behind (x ∷ xs) ys a = each_behind xs ys a.1
+
+  pub each_of : ((x : X) → P x) → (xs : List X) → Each P xs
+  each_of f [] = tt
+  each_of f (x ∷ xs) = (f x, each_of f xs)
+
+pub each_map : {X : Type 0} (P Q : X → Type 0) → ((x : X) → P x → Q x) → (xs : List X) → Each P xs → Each Q xs
+each_map P Q f [] a = tt
+each_map P Q f (x ∷ xs) a = (f x a.0, each_map P Q f xs a.1)
+
+-- Calls
+
+-- each op of the call
+abbrev pub CallEach : (Op → Type 0) → Call → Type 0
+CallEach P (Once o) = P o
+CallEach P (Looking waits o timeout) = (last : Bool) → P (o last)
+
+module _ (P : Op → Type 0) where
+  pub before_each : (o : Op) (first : Option ℕ) → P o → Each (λ l. P l.op) (before_it o first)
+  before_each o None e = tt
+  before_each o (Some n) e = (e, tt)
+
+  pub made_each : (c : Call) (ls : List Line) (r : Reply) → CallEach P c → Made c ls r → Each (λ l. P l.op) ls
+  made_each (Once o) ls r p x = subst (Each (λ (l : Line). P l.op)) (sym x.0) (p, tt)
+  made_each (Looking waits o timeout) ls r p x =
+      subst (Each (λ (l : Line). P l.op)) (sym x.is) (each_both (λ (l : Line). P l.op) (before_it (o false) x.first) (line (o x.last) r x.beside ∷ []) (before_each (o false) x.first (p false)) (p x.last, tt))
+
+  -- the lines of statements
+  pub statements_each : (all : List Statement) (ls : List Line) (rs : List Reply) → Carried Made [] all ls rs
+      → ((before : List Statement) (l1 : List Line) (r1 : List Reply) (s : Statement) (front : List Line) (r : Reply) → Step all ls rs before l1 r1 s front r → Each (λ l. P l.op) front) → Each (λ l. P l.op) ls
+  statements_each all ls rs c per = along all ls rs (λ b l r. Each (λ k. P k.op) l) (λ b l1 r1 s front r x i. each_both (λ (k : Line). P k.op) l1 front i (per b l1 r1 s front r x)) c tt
+
+-- Workers
+
+-- the op is one of a worker
+abbrev pub is_at_work : Op → Bool
+is_at_work op.Pick = true
+is_at_work (op.Finish t done) = true
+is_at_work (op.Asked t) = true
+is_at_work (op.WatchEnd t) = true
+is_at_work (op.TallyLock t) = true
+is_at_work (op.TallyRead t) = true
+is_at_work (op.TallyWrite t value) = true
+is_at_work (op.TallyEnd t) = true
+is_at_work _ = false
+
+-- the op is one of a worker, or one that moves the phase
+abbrev pub is_outside : Op → Bool
+is_outside op.Initialize = true
+is_outside op.Release = true
+is_outside op.Enter = true
+is_outside op.Close = true
+is_outside op.Final = true
+is_outside o = is_at_work o
+
+at_work : (o : Op) (r : Reply) → is_work o r ≡ true → is_at_work o ≡ true
+at_work op.Pick r e = refl
+at_work (op.Finish t done) r e = refl
+at_work (op.Asked t) r e = refl
+at_work (op.WatchEnd t) r e = refl
+at_work (op.TallyLock t) r e = refl
+at_work (op.TallyRead t) r e = refl
+at_work (op.TallyWrite t value) r e = refl
+at_work (op.TallyEnd t) r e = refl
+at_work _ r e = true_false e refl
+
+all_at_work : (ls : List Line) → all_work ls ≡ true → Each (λ l. is_at_work l.op ≡ true) ls
+unfolding all_work
+all_at_work [] e = tt
+all_at_work (l ∷ ls) e = (at_work l.op l.reply (fst_true _ (all_work ls) e), all_at_work ls (snd_true (is_work l.op l.reply) _ e))
+
+pub worker_each : (ls : List Line) → WorkerRan ls → Each (λ l. is_at_work l.op ≡ true) ls
+worker_each ls x = subst (Each (λ (l : Line). is_at_work l.op ≡ true)) (sym x.is) (each_both (λ (l : Line). is_at_work l.op ≡ true) x.work (line op.Pick reply.Stop x.beside ∷ []) (all_at_work x.work x.works) (refl, tt))
+
+-- Entries
+
+-- what each seat's lines are, the entries are
+entries_each : (Q : NodeEntry → Type 0) (n : ℕ) (es : List NodeEntry) (ns : List ℕ) → length es ≡ length ns → BySeats n es → ((w : ℕ) → w < n → Each (λ l. Q (entry w l.op l.reply)) (lines_of w es ns)) → Each Q es
+unfolding lines_of
+entries_each Q n [] ns l b k = tt
+entries_each Q n (e ∷ es) [] l b k = absurd (omega arith)
+entries_each Q n (e ∷ es) (m ∷ ns) l b k = (head (e.who == e.who) (eq-eqb e.who e.who refl) (k e.who b.0), entries_each Q n es ns (omega arith) b.1 (λ w i. tail w (e.who == w) (k w i)))
+  where
+    head : (c : Bool) → c ≡ true → Each (λ x. Q (entry e.who x.op x.reply)) (cond c (line e.op e.reply m ∷ lines_of e.who es ns) (lines_of e.who es ns)) → Q e
+    head true i p = p.0
+    head false i p = true_false i refl
+
+    tail : (w : ℕ) (c : Bool) → Each (λ x. Q (entry w x.op x.reply)) (cond c (line e.op e.reply m ∷ lines_of w es ns) (lines_of w es ns)) → Each (λ x. Q (entry w x.op x.reply)) (lines_of w es ns)
+    tail w true p = p.1
+    tail w false p = p
+
+-- only this seat asks for such an op
+abbrev pub OnlyBy : ℕ → (Op → Bool) → List NodeEntry → Type 0
+OnlyBy who p es = Each (λ e. p e.op ≡ true → e.who ≡ who) es
+
+-- so what its lines are, the entries are, if those are that don't ask for it
+pub own_each : (who : ℕ) (p : Op → Bool) (Q : NodeEntry → Type 0) (L : List NodeEntry) (ks : List ℕ) → length L ≡ length ks → OnlyBy who p L → ((e : NodeEntry) → p e.op ≡ false → Q e) → Each (λ l. Q (entry who l.op l.reply)) (lines_of who L ks) → Each Q L
+unfolding lines_of
+own_each who p Q [] ks n o f k = tt
+own_each who p Q (e ∷ es) [] n o f k = absurd (omega arith)
+own_each who p Q (e ∷ es) (m ∷ ks) n o f k = by (e.who == who) refl (p e.op) refl k (own_each who p Q es ks (omega arith) o.1 f)
+  where
+    by : (b : Bool) → (e.who == who) ≡ b → (c : Bool) → p e.op ≡ c → Each (λ l. Q (entry who l.op l.reply)) (cond b (line e.op e.reply m ∷ lines_of who es ks) (lines_of who es ks)) → (Each (λ l. Q (entry who l.op l.reply)) (lines_of who es ks) → Each Q es) → Q e × Each Q es
+    by true i c j x r = (subst (λ (w : ℕ). Q (entry w e.op e.reply)) (sym (eqb-true e.who who i)) x.0, r x.1)
+    by false i true j x r = true_false (eq-eqb e.who who (o.0 j)) i
+    by false i false j x r = (f e j, r x)
+
+-- The seats of parts
+
+abbrev pub AllSeats : (ℕ → Part → List Reply → Type 0) → ℕ → List Part → List (List Reply) → Type 0
+AllSeats R first [] rss = Unit {0}
+AllSeats R first (p ∷ ps) [] = ⊥
+AllSeats R first (p ∷ ps) (rs ∷ rss) = R first p rs × AllSeats R (suc first) ps rss
+
+pub map_seats : (R S : ℕ → Part → List Reply → Type 0) (base : ℕ) → ((w : ℕ) (p : Part) (rs : List Reply) → base ≤ w → R w p rs → S w p rs) → (first : ℕ) (ps : List Part) (rss : List (List Reply)) → base ≤ first → AllSeats R first ps rss → AllSeats S first ps rss
+map_seats R S base f first [] rss l a = tt
+map_seats R S base f first (p ∷ ps) [] l a = absurd a
+map_seats R S base f first (p ∷ ps) (rs ∷ rss) l a = (f first p rs l a.0, map_seats R S base f (suc first) ps rss (omega arith) a.1)
+
+pub with_each : (R : ℕ → Part → List Reply → Type 0) (P : Part → Type 0) (first : ℕ) (ps : List Part) (rss : List (List Reply)) → AllSeats R first ps rss → Each P ps → AllSeats (λ w p rs. R w p rs × P p) first ps rss
+with_each R P first [] rss a e = tt
+with_each R P first (p ∷ ps) [] a e = absurd a
+with_each R P first (p ∷ ps) (rs ∷ rss) a e = ((a.0, e.0), with_each R P (suc first) ps rss a.1 e.1)
+
+seat_of : (R : ℕ → Type 0) (first : ℕ) (ps : List Part) (rss : List (List Reply)) → AllSeats (λ w p rs. R w) first ps rss → (w : ℕ) → first ≤ w → w < first + length ps → R w
+seat_of R first [] rss a w l k = absurd (omega arith)
+seat_of R first (p ∷ ps) [] a w l k = absurd a
+seat_of R first (p ∷ ps) (rs ∷ rss) a w l k = by (w == first) refl (λ i. seat_of R (suc first) ps rss a.1 w i (omega arith))
+  where
+    by : (b : Bool) → (w == first) ≡ b → (suc first ≤ w → R w) → R w
+    by true i rest = subst R (sym (grind (arith, nat_tests))) a.0
+    by false i rest = rest (grind (arith, nat_tests))
+
+-- each action that passes among the first passes among the second
+abbrev pub Within : List Action → List Action → Type 0
+Within xs ys = (p : Action → Bool) → list_any p xs ≡ true → list_any p ys ≡ true
+
+pub any_left : {X : Type 0} (p : X → Bool) (xs ys : List X) → list_any p xs ≡ true → list_any p (xs ++ ys) ≡ true
+any_left p xs ys e = list_any-append p xs ys ∙ or_left _ _ e
+
+any_right : {X : Type 0} (p : X → Bool) (xs ys : List X) → list_any p ys ≡ true → list_any p (xs ++ ys) ≡ true
+any_right p xs ys e = list_any-append p xs ys ∙ or_right _ _ e
+
+pub actions_append : (ss ts : List Statement) → actions_in (ss ++ ts) ≡ actions_in ss ++ actions_in ts
+actions_append [] ts = refl
+actions_append (s ∷ ss) ts = ap (λ x. action_in s.deed ++ x) (actions_append ss ts) ∙ sym (append_assoc (action_in s.deed) (actions_in ss) (actions_in ts))
+
+pub within_front : (ss ts : List Statement) (ys : List Action) → Within (actions_in (ss ++ ts)) ys → Within (actions_in ss) ys
+within_front ss ts ys w p e = w p (ap (list_any p) (actions_append ss ts) ∙ any_left p (actions_in ss) (actions_in ts) e)
+
+pub within_behind : (ss ts : List Statement) (ys : List Action) → Within (actions_in (ss ++ ts)) ys → Within (actions_in ts) ys
+within_behind ss ts ys w p e = w p (ap (list_any p) (actions_append ss ts) ∙ any_right p (actions_in ss) (actions_in ts) e)
+
+-- What a settled workload keeps
+
+module _ (load : Workload) (e : is_settled load ≡ true) where
+  ids_and : (are_settled_parts load.settings load.parts && has_one_kind_a_job (actions_in (all_statements load)) && has_different_ids (all_statements load) && has_room load.settings (all_statements load)) ≡ true
+  unfolding is_settled
+  ids_and = fst_true _ (list_all (λ p. keep_limits p.statements 0 p.statements) load.parts) (fst_true _ (list_all (has_one_fault_a_group (actions_in (all_statements load))) load.parts) e)
+
+  pub has_all_room : has_room load.settings (all_statements load) ≡ true
+  has_all_room = snd_true (are_settled_parts load.settings load.parts && has_one_kind_a_job (actions_in (all_statements load)) && has_different_ids (all_statements load)) _ ids_and
+
+  pub different_ids : has_different_ids (all_statements load) ≡ true
+  different_ids = snd_true (are_settled_parts load.settings load.parts && has_one_kind_a_job (actions_in (all_statements load))) _ (fst_true _ (has_room load.settings (all_statements load)) ids_and)
+
+  pub parts_settled : are_settled_parts load.settings load.parts ≡ true
+  parts_settled = fst_true _ (has_one_kind_a_job (actions_in (all_statements load))) (fst_true _ (has_different_ids (all_statements load)) (fst_true _ (has_room load.settings (all_statements load)) ids_and))
+
+  pub limits_kept : list_all (λ p. keep_limits p.statements 0 p.statements) load.parts ≡ true
+  unfolding is_settled
+  limits_kept = snd_true _ (list_all (λ p. keep_limits p.statements 0 p.statements) load.parts) (fst_true _ (list_all (has_one_fault_a_group (actions_in (all_statements load))) load.parts) e)
+
+  pub one_fault : list_all (has_one_fault_a_group (actions_in (all_statements load))) load.parts ≡ true
+  unfolding is_settled
+  one_fault = snd_true _ (list_all (has_one_fault_a_group (actions_in (all_statements load))) load.parts) e
+
+-- the settled parts
+pub record Parts (settings : NodeSettings) (p : Part) (ps : List Part) : Type 0 where
+  pub main : are_settled settings [] p.statements [] p.statements ≡ true
+  pub first : (x : Part) (xs : List Part) → ps ≡ x ∷ xs → sets_up_first p.statements ≡ true
+  pub further : list_all (is_settled_further settings (actions_in p.statements)) ps ≡ true
+
+pub parts_are : (settings : NodeSettings) (p : Part) (ps : List Part) → are_settled_parts settings (p ∷ ps) ≡ true → Parts settings p ps
+parts_are settings p [] e = record { main = e; first = λ x xs i. absurd (empty x xs i); further = refl }
+  where
+    empty : (x : Part) (xs : List Part) → [] ≡ x ∷ xs → ⊥
+    empty x xs i = cc
+parts_are settings p (q ∷ ps) e =
+    let a : (sets_up_first p.statements && is_settled_part settings [] p) ≡ true = fst_true _ (list_all (is_settled_further settings (actions_in p.statements)) (q ∷ ps)) e in
+    record { main = snd_true (sets_up_first p.statements) _ a; first = λ x xs i. fst_true _ (is_settled_part settings [] p) a; further = snd_true (sets_up_first p.statements && is_settled_part settings [] p) _ e }
+
+module _ (load : Workload) (es : List NodeEntry) (ns : List ℕ) where
+  -- the lines of a seat that runs a part
+  pub record PartAt (w : ℕ) (p : Part) (rs : List Reply) : Type 0 where
+    pub start : List Line
+    pub body : List Line
+    pub finish : List Line
+    pub known : List Action
+    pub is : lines_of w es ns ≡ start ++ (body ++ finish)
+    pub carried : Carried Made [] p.statements body rs
+    pub first : Each (λ l. is_outside l.op ≡ true) start
+    pub last : Each (λ l. is_outside l.op ≡ true) finish
+    -- only main releases outside its statements
+    pub unreleased : load.settings.workers < w → Each (λ l. is_release l.op ≡ false) (start ++ finish)
+    pub settled : are_settled load.settings known p.statements [] p.statements ≡ true
+    pub no_set_up : load.settings.workers < w → set_up p.statements ≡ false
+    pub within : Within (actions_in p.statements) (actions_in (all_statements load))
+
+  pub main_first : (b : Bool) → Each (λ l. is_outside l.op ≡ true) (head_of b)
+  main_first true = (refl, tt)
+  main_first false = (refl, (refl, tt))
+
+  abbrev pub main_at : (p : Part) (rs : List Reply) → MainRan in_lines p.statements (lines_of load.settings.workers es ns) rs → are_settled load.settings [] p.statements [] p.statements ≡ true → Within (actions_in p.statements) (actions_in (all_statements load)) → PartAt load.settings.workers p rs
+  main_at p rs x e w = record {
+    start = head_of (has_begin p.statements);
+    body = x.body;
+    finish = tail_of_main;
+    known = [];
+    is = x.is;
+    carried = x.carried;
+    first = main_first (has_begin p.statements);
+    last = (refl, (refl, tt));
+    unreleased = λ k. absurd (omega arith);
+    settled = e;
+    no_set_up = λ k. absurd (omega arith);
+    within = w;
+  }
+
+  abbrev pub caller_at : (known : List Action) (w : ℕ) (p : Part) (rs : List Reply) → CallerRan in_lines p.statements (lines_of w es ns) rs → is_settled_further load.settings known p ≡ true → Within (actions_in p.statements) (actions_in (all_statements load)) → PartAt w p rs
+  caller_at known w p rs x e v = record {
+    start = line op.Enter reply.Ok x.entered.0 ∷ [];
+    body = x.body;
+    finish = [];
+    known = known;
+    is = x.is ∙ (λ i. x.entered.1 i ++ sym (append-nil x.body) i);
+    carried = x.carried;
+    first = (refl, tt);
+    last = tt;
+    unreleased = λ k. (refl, tt);
+    settled = snd_true (not (set_up p.statements)) _ e;
+    no_set_up = λ k. not_true _ (fst_true _ (is_settled_part load.settings known p) e);
+    within = v;
+  }
+
+  pub callers_at : (known : List Action) (first : ℕ) (ps : List Part) (rss : List (List Reply)) → CallersRan in_lines (λ who. lines_of who es ns) first ps rss → list_all (is_settled_further load.settings known) ps ≡ true → Within (actions_in (flat_map (λ p. p.statements) ps)) (actions_in (all_statements load)) → AllSeats PartAt first ps rss
+  unfolding CallersRan
+  callers_at known first [] rss c e w = tt
+  callers_at known first (p ∷ ps) [] c e w = absurd c
+  callers_at known first (p ∷ ps) (rs ∷ rss) c e w = (
+    caller_at known first p rs c.0 (fst_true _ (list_all (is_settled_further load.settings known) ps) e) (within_front p.statements (flat_map (λ q. q.statements) ps) _ w),
+    callers_at known (suc first) ps rss c.1 (snd_true (is_settled_further load.settings known p) _ e) (within_behind p.statements (flat_map (λ q. q.statements) ps) _ w),
+  )
+
+  parts_at : (ps : List Part) (rss : List (List Reply)) → PartsRan in_lines (λ who. lines_of who es ns) load.settings.workers ps rss → are_settled_parts load.settings ps ≡ true → Within (actions_in (flat_map (λ p. p.statements) ps)) (actions_in (all_statements load)) → AllSeats PartAt load.settings.workers ps rss
+  parts_at [] rss c e w = absurd c
+  parts_at (p ∷ ps) [] c e w = absurd c
+  parts_at (p ∷ ps) (rs ∷ rss) c e w =
+      let x : Parts load.settings p ps = parts_are load.settings p ps e in (
+        main_at p rs c.0 x.main (within_front p.statements (flat_map (λ q. q.statements) ps) _ w),
+        callers_at (actions_in p.statements) (suc load.settings.workers) ps rss c.1 x.further (within_behind p.statements (flat_map (λ q. q.statements) ps) _ w),
+      )
+
+  -- where the lines of a step stand among the seat's
+  pub step_lines : (w : ℕ) (p : Part) (rs : List Reply) (x : PartAt w p rs) (before : List Statement) (l1 : List Line) (r1 : List Reply) (s : Statement) (front : List Line) (r : Reply) (y : Step p.statements x.body rs before l1 r1 s front r) → lines_of w es ns ≡ (x.start ++ l1) ++ (front ++ (y.more ++ x.finish))
+  step_lines w p rs x before l1 r1 s front r y =
+      x.is ∙ ap (λ (z : List Line). x.start ++ (z ++ x.finish)) y.is ∙ ap (λ (z : List Line). x.start ++ z) (append_assoc l1 (front ++ y.more) x.finish ∙ ap (λ (z : List Line). l1 ++ z) (append_assoc front y.more x.finish))
+      ∙ sym (append_assoc x.start l1 (front ++ (y.more ++ x.finish)))
+
+  -- what holds of the lines outside the statements, and of each statement's, holds of the seat's
+  pub seat_each : (P : Op → Type 0) (w : ℕ) (p : Part) (rs : List Reply) (x : PartAt w p rs) → Each (λ l. P l.op) x.start → Each (λ l. P l.op) x.finish
+      → ((before : List Statement) (l1 : List Line) (r1 : List Reply) (s : Statement) (front : List Line) (r : Reply) → Step p.statements x.body rs before l1 r1 s front r → Each (λ l. P l.op) front) → Each (λ l. P l.op) (lines_of w es ns)
+  seat_each P w p rs x a b per =
+      subst (Each (λ (l : Line). P l.op)) (sym x.is)
+      (each_both (λ (l : Line). P l.op) x.start (x.body ++ x.finish) a (each_both (λ (l : Line). P l.op) x.body x.finish (statements_each P p.statements x.body rs x.carried per) b))
+
+  module _ (same : length es ≡ length ns) (run : RunOf load es ns) (b : BySeats (load.settings.workers + length load.parts) es) where
+    pub run_parts : are_settled_parts load.settings load.parts ≡ true → AllSeats PartAt load.settings.workers load.parts run.replies
+    run_parts e = parts_at load.parts run.replies run.parts e (λ p i. i)
+
+    pub run_each : (Q : NodeEntry → Type 0) → ((w : ℕ) (o : Op) (r : Reply) → is_at_work o ≡ true → Q (entry w o r)) → AllSeats (λ w p rs. Each (λ l. Q (entry w l.op l.reply)) (lines_of w es ns)) load.settings.workers load.parts run.replies → Each Q es
+    run_each Q out parts = entries_each Q (load.settings.workers + length load.parts) es ns same b (λ w i. by w i (nat_lt w load.settings.workers) refl)
+      where
+        by : (w : ℕ) → w < load.settings.workers + length load.parts → (c : Bool) → nat_lt w load.settings.workers ≡ c → Each (λ l. Q (entry w l.op l.reply)) (lines_of w es ns)
+        by w i true j = each_map (λ (l : Line). is_at_work l.op ≡ true) (λ (l : Line). Q (entry w l.op l.reply)) (λ l k. out w l.op l.reply k) (lines_of w es ns) (worker_each (lines_of w es ns) (run.workers w (grind (arith, nat_tests))))
+        by w i false j = seat_of (λ v. Each (λ l. Q (entry v l.op l.reply)) (lines_of v es ns)) load.settings.workers load.parts run.replies parts w (grind (arith, nat_tests)) i
+
+    -- where no other seat's lines ask for it, only this seat does
+    pub only_by : (who : ℕ) (p : Op → Bool) → ((o : Op) → is_at_work o ≡ true → p o ≡ false) → AllSeats (λ w q rs. (w == who) ≡ false → Each (λ l. p l.op ≡ false) (lines_of w es ns)) load.settings.workers load.parts run.replies → OnlyBy who p es
+    only_by who p out parts =
+        run_each (λ e. p e.op ≡ true → e.who ≡ who) (λ w o r k i. true_false i (out o k))
+        (map_seats (λ w q rs. (w == who) ≡ false → Each (λ l. p l.op ≡ false) (lines_of w es ns)) (λ w q rs. Each (λ l. p l.op ≡ true → w ≡ who) (lines_of w es ns)) 0 (λ w q rs l x. by w (w == who) refl x) load.settings.workers load.parts run.replies (omega arith) parts)
+      where
+        by : (w : ℕ) (c : Bool) → (w == who) ≡ c → ((w == who) ≡ false → Each (λ l. p l.op ≡ false) (lines_of w es ns)) → Each (λ l. p l.op ≡ true → w ≡ who) (lines_of w es ns)
+        by w true i x = each_of (λ (l : Line). p l.op ≡ true → w ≡ who) (λ l j. eqb-true w who i) (lines_of w es ns)
+        by w false i x = each_map (λ (l : Line). p l.op ≡ false) (λ (l : Line). p l.op ≡ true → w ≡ who) (λ l k j. true_false j k) (lines_of w es ns) (x i)
