@@ -1,7 +1,7 @@
 -- One walk along the statements of a part, with their lines and replies.
 use Rattle.std.specs.Prelude.{IfSome, map, slice_get}
 use Rattle.std.proofs.lemmas.List.{append-nil}
-use Rattle.std.proofs.Common.{append_assoc, arith, inl, inr, refl, suc, sym, zero, ◌∙◌, List, Option, Some, [], length, true, ℕ, ◌++◌, ◌+◌, ◌<◌, ◌∷◌, ◌≡◌, ◌⊎◌, ap, subst}
+use Rattle.std.proofs.Common.{append_assoc, arith, inl, inr, refl, suc, sym, zero, ◌∙◌, List, Option, Some, [], length, true, ℕ, ◌++◌, ◌<◌, ◌∷◌, ◌≡◌, ◌⊎◌, ap, subst}
 use Rattle.sched_workers.specs.Lines.{Made, Line}
 use Rattle.workload_file.specs.declared.table.Sort.{Sort}
 use Rattle.mtapi_objects.specs.Actions.{Action}

@@ -30,7 +30,6 @@ use Rattle.history_law.specs.Words.{issues, entries_that}
 use Rattle.history_law.proofs.Answered.{true_false}
 use Rattle.run_report.specs.Report.{run_terms}
 use Rattle.mtapi_values.specs.Conditions.{holds}
-use Rattle.handle_pool.specs.Issued.{listed}
 use Rattle.settled_runs.specs.Waits.{looks_at}
 use Rattle.settled_runs.specs.Settled.{waits_for}
 use Rattle.settled_runs.specs.RunGranted.{SettledRun}

@@ -1,5 +1,5 @@
 -- In a run of a settled workload each statement, other than a wait for all tasks of a group, gets its plain reply.
-use Rattle.std.proofs.Common.{◌≡◌, ℕ, Bool, true, false, List, [], ◌∷◌, ◌++◌, Option, Some, None, refl, sym, ◌∙◌, ap, subst, append_assoc, ℤ, ◌+◌}
+use Rattle.std.proofs.Common.{◌≡◌, ℕ, Bool, true, false, List, [], ◌∷◌, ◌++◌, Option, Some, None, refl, sym, ◌∙◌, ap, subst, append_assoc, ℤ}
 use Rattle.std.specs.Prelude.{◌&&◌, not, map, slice_get, option_and_then, IfSome}
 use Rattle.std.specs.List.{list_any}
 use Rattle.std.specs.Option.{option_map}

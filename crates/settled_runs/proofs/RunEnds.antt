@@ -1,5 +1,5 @@
 -- In a run of a settled workload each task has its plain end.
-use Rattle.std.proofs.Common.{◌≡◌, ℕ, Bool, true, false, cond, List, [], ◌∷◌, ◌++◌, Some, refl, sym, ◌∙◌, ap, subst, ℤ, append_assoc, length, ◌+◌}
+use Rattle.std.proofs.Common.{◌≡◌, ℕ, Bool, true, false, cond, List, [], ◌∷◌, ◌++◌, Some, refl, sym, ◌∙◌, ap, subst, ℤ, append_assoc, length}
 use Rattle.std.specs.Prelude.{◌==◌, ◌&&◌, ◌||◌, not}
 use Rattle.std.specs.Option.{option_map}
 use Rattle.std.specs.List.{find, list_all}
@@ -45,7 +45,6 @@ use Rattle.settled_runs.specs.Plain.{all_statements, actions_in, plain_end}
 use Rattle.settled_runs.specs.Settled.{are_alike, are_settled_parts, has_one_kind_a_job, has_different_ids, has_room, keep_limits, has_one_fault_a_group, is_settled}
 use Rattle.settled_runs.specs.RunEnds.{SettledTasksEndAsPlanned}
 use Rattle.settled_runs.proofs.Asked.{is_listed, is_planned, ArePlanned, run_planned}
-use Rattle.settled_runs.proofs.Counted.{asked}
 
 -- What is planned is quiet, and each action is one of those of the workload
 

@@ -52,7 +52,7 @@ use Rattle.settled_runs.proofs.Opened.{legal_here, quiet_before}
 use Rattle.settled_runs.proofs.Rooms.{room_for_action, room_for_group, room_for_queue, room_for_task, new_id}
 use Rattle.settled_runs.proofs.Distinct.{queues_list, binds_queue, one_bound, part_once}
 use Rattle.settled_runs.proofs.Places.{Has, has_more, group_has, HasQueue, queue_has, HasAction as HasLine, action_has, either}
-use Rattle.settled_runs.proofs.Along.{get_front, BoundBy, bound_by, along, are_front, granted_more, step_settled, step_statement, found}
+use Rattle.settled_runs.proofs.Along.{get_front, BoundBy, bound_by, along, are_front, granted_more, step_settled, step_statement}
 use Rattle.settled_runs.proofs.Puts.{puts_carried, limit_at, puts_outside}
 use Rattle.settled_runs.proofs.Each.{OnlyBy, PartAt, each_front, each_map, is_outside, step_lines}
 
