@@ -1,22 +1,7 @@
 -- One walk along the statements of a part, with their lines and replies.
-use Rattle.std.specs.Prelude.{IfSome, map, slice_get}
-use Rattle.std.proofs.lemmas.List.{append-nil}
-use Rattle.std.proofs.Common.{append_assoc, arith, inl, inr, refl, suc, sym, zero, ◌∙◌, List, Option, Some, [], length, true, ℕ, ◌++◌, ◌<◌, ◌∷◌, ◌≡◌, ◌⊎◌, ap, subst}
-use Rattle.sched_workers.specs.Lines.{Made, Line}
-use Rattle.workload_file.specs.declared.table.Sort.{Sort}
-use Rattle.mtapi_objects.specs.Actions.{Action}
-use Rattle.workload_file.specs.Formed.{AreStatements, IsBoundAt, IsStatement}
+use Rattle.settled_runs.proofs.Names.{IfSome, map, slice_get, append-nil, append_assoc, arith, inl, inr, refl, suc, sym, zero, ◌∙◌, List, Option, Some, [], length, true, ℕ, ◌++◌, ◌<◌, ◌∷◌, ◌≡◌, ◌⊎◌, ap, subst, Made, Line, Sort, Action, AreStatements, IsBoundAt, IsStatement, NodeSettings, Reply, Statement, call_of, handle_at, fst_true, snd_true, handle_of, some_same, AllGranted, GrantedTo, actions_in}
 use Rattle.sched_workers.specs.Parts.{Carried}
-use Rattle.mtapi_values.specs.Attributes.{NodeSettings}
-use Rattle.mtapi_machine.specs.declared.replies.Reply.{Reply}
-use Rattle.workload_file.specs.declared.workload.Statement.{Statement}
 use Rattle.workload_file.specs.Deeds.{binds}
-use Rattle.sched_workers.specs.Calls.{call_of, handle_at}
-use Rattle.mtapi_machine.proofs.Made.{fst_true, snd_true}
-use Rattle.mtapi_machine.specs.Row.{handle_of}
-use Rattle.mtapi_machine.proofs.Changes.{some_same}
-use Rattle.settled_runs.specs.RunGranted.{AllGranted, GrantedTo}
-use Rattle.settled_runs.specs.Plain.{actions_in}
 use Rattle.settled_runs.specs.Settled.{are_settled, is_settled_deed}
 use Rattle.settled_runs.proofs.Cuts.{same_head, same_tail}
 

@@ -1,31 +1,9 @@
 -- What the callers and workers of a run of a settled workload ask for: this is all that is read of the definition of a run.
-use Rattle.std.proofs.Common.{◌≡◌, ℕ, ◌+◌, Bool, true, false, List, ◌∷◌, ◌++◌, refl, subst, arith, length}
-use Rattle.std.specs.Prelude.{◌==◌, ◌&&◌, map}
-use Rattle.std.specs.List.{list_any, AllByRecursion as Each}
-use Rattle.std.proofs.lemmas.Bool.{eq-eqb, or_left}
-use Rattle.mtapi_values.specs.Attributes.{NodeSettings}
-use Rattle.mtapi_values.specs.declared.kinds.Kind.{Kind}
-use Rattle.action_fn.specs.Answers.{is_pure}
-use Rattle.mtapi_objects.specs.Actions.{Action}
-use Rattle.mtapi_objects.specs.Tasks.{kind_number}
-use Rattle.workload_file.specs.declared.workload.Deed.{Deed}
+use Rattle.settled_runs.proofs.Names.{◌≡◌, ℕ, ◌+◌, Bool, true, false, List, ◌∷◌, ◌++◌, refl, subst, arith, length, ◌==◌, ◌&&◌, map, list_any, eq-eqb, or_left, NodeSettings, Kind, is_pure, Action, kind_number, Deed, Statement, Part, Workload, Op, Reply, handle_of, NodeEntry, call_of, Line, RunOf, BySeats, both_true, true_false, is_quiet, all_statements, action_in, actions_in}
+use Rattle.std.specs.List.{AllByRecursion as Each}
 use Rattle.workload_file.specs.declared.workload.Deed.TheVariants as deed
-use Rattle.workload_file.specs.declared.workload.Statement.{Statement}
-use Rattle.workload_file.specs.declared.workload.Part.{Part}
-use Rattle.workload_file.specs.declared.workload.Workload.{Workload}
-use Rattle.mtapi_machine.specs.declared.ops.Op.{Op}
 use Rattle.mtapi_machine.specs.declared.ops.Op.TheVariants as op
-use Rattle.mtapi_machine.specs.declared.replies.Reply.{Reply}
-use Rattle.mtapi_machine.specs.Row.{handle_of}
-use Rattle.mtapi_machine.specs.Legal.{NodeEntry}
-use Rattle.sched_workers.specs.Calls.{call_of}
-use Rattle.sched_workers.specs.Lines.{Line, lines_of}
-use Rattle.sched_workers.specs.RunOf.{RunOf}
-use Rattle.history_law.specs.Seats.{BySeats}
-use Rattle.mtapi_machine.proofs.Made.{both_true}
-use Rattle.history_law.proofs.Answered.{true_false}
-use Rattle.history_law.specs.Quiet.{is_quiet}
-use Rattle.settled_runs.specs.Plain.{all_statements, action_in, actions_in}
+use Rattle.sched_workers.specs.Lines.{lines_of}
 use Rattle.settled_runs.specs.Settled.{is_settled_deed, is_settled}
 use Rattle.settled_runs.proofs.Each.{CallEach, PartAt, Within, any_left, each_map, is_at_work, is_outside, made_each, map_seats, parts_settled, run_each, run_parts, seat_each, within_behind}
 use Rattle.settled_runs.proofs.Along.{step_settled}

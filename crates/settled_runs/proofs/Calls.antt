@@ -1,5 +1,5 @@
 -- What a quiet history grants.
-use Rattle.settled_runs.specs.Granted.{QuietCallsAreGranted}
+use Rattle.settled_runs.proofs.Names.{QuietCallsAreGranted}
 use Rattle.settled_runs.proofs.Granted.{action_granted, group_granted, start_granted}
 use Rattle.settled_runs.proofs.Queued.{queue_granted, enqueue_granted}
 

@@ -1,5 +1,5 @@
 -- The worked workloads, computed.
-use Rattle.std.proofs.Common.{refl}
+use Rattle.settled_runs.proofs.Names.{refl}
 use Rattle.std.specs.Fmt.{digits}
 use Rattle.action_fn.specs.Answers.{fits, answer_of}
 use Rattle.run_report.specs.Tasks.{numbers_text, end_text}

@@ -1,26 +1,9 @@
 -- How many entries of a run ask for an op of some class: the statements bound it.
-use Rattle.std.proofs.Common.{◌≡◌, ℕ, zero, suc, ◌+◌, ◌≤◌, ◌<◌, Bool, true, false, cond, List, [], ◌∷◌, ◌++◌, length, Option, Some, None, refl, sym, ◌∙◌, ap, subst, arith}
-use Rattle.std.specs.Prelude.{◌==◌, map}
-use Rattle.std.specs.List.{flat_map, AllByRecursion as Each}
-use Rattle.std.proofs.lemmas.Bool.Decides.{nat_tests}
-use Rattle.std.proofs.lemmas.Bool.{eq-eqb}
-use Rattle.handle_pool.specs.Issued.{how_many}
-use Rattle.workload_file.specs.declared.workload.Deed.{Deed}
-use Rattle.workload_file.specs.declared.workload.Statement.{Statement}
-use Rattle.workload_file.specs.declared.workload.Part.{Part}
-use Rattle.workload_file.specs.declared.workload.Workload.{Workload}
-use Rattle.mtapi_machine.specs.declared.ops.Op.{Op}
+use Rattle.settled_runs.proofs.Names.{◌≡◌, ℕ, zero, suc, ◌+◌, ◌≤◌, ◌<◌, Bool, true, false, cond, List, [], ◌∷◌, ◌++◌, length, Option, Some, None, refl, sym, ◌∙◌, ap, subst, arith, ◌==◌, map, flat_map, nat_tests, eq-eqb, how_many, Deed, Statement, Part, Workload, Op, Reply, handle_of, NodeEntry, Call, Once, Looking, call_of, Line, line, before_it, Made, head_of, tail_of_main, in_lines, MainRan, CallerRan, PartsRan, WorkerRan, RunOf, entries_that, BySeats, true_false}
+use Rattle.std.specs.List.{AllByRecursion as Each}
 use Rattle.mtapi_machine.specs.declared.ops.Op.TheVariants as op
-use Rattle.mtapi_machine.specs.declared.replies.Reply.{Reply}
-use Rattle.mtapi_machine.specs.Row.{handle_of}
-use Rattle.mtapi_machine.specs.Legal.{NodeEntry}
-use Rattle.sched_workers.specs.Calls.{Call, Once, Looking, call_of}
-use Rattle.sched_workers.specs.Lines.{Line, line, lines_of, before_it, Made, head_of, tail_of_main, in_lines}
-use Rattle.sched_workers.specs.Parts.{has_begin, Carried, MainRan, CallerRan, CallersRan, PartsRan}
-use Rattle.sched_workers.specs.RunOf.{WorkerRan, RunOf}
-use Rattle.history_law.specs.Words.{entries_that}
-use Rattle.history_law.specs.Seats.{BySeats}
-use Rattle.history_law.proofs.Answered.{true_false}
+use Rattle.sched_workers.specs.Lines.{lines_of}
+use Rattle.sched_workers.specs.Parts.{has_begin, Carried, CallersRan}
 use Rattle.settled_runs.proofs.Each.{CallEach, OnlyBy, each_map, is_at_work, worker_each}
 use Rattle.settled_runs.proofs.Along.{Step, along}
 

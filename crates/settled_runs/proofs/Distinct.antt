@@ -1,41 +1,19 @@
 -- No two statements of a run are given one handle of one kind of object.
-use Rattle.std.proofs.Common.{◌≡◌, ℕ, ◌+◌, ◌≤◌, Bool, true, false, cond, List, [], ◌∷◌, ◌++◌, refl, sym, ◌∙◌, ap, subst, arith, length, ◌<◌}
-use Rattle.std.specs.Prelude.{◌==◌, ◌&&◌, is_some, map, nat_lt}
-use Rattle.std.proofs.lemmas.Bool.{eq-eqb, eqb-true}
-use Rattle.std.proofs.lemmas.Bool.Decides.{nat_tests}
-use Rattle.std.specs.Option.{option_map}
-use Rattle.workload_file.specs.declared.table.Sort.{Sort}
-use Rattle.mtapi_values.specs.declared.handles.ObjectKind.{ObjectKind}
+use Rattle.settled_runs.proofs.Names.{◌≡◌, ℕ, ◌+◌, ◌≤◌, Bool, true, false, cond, List, [], ◌∷◌, ◌++◌, refl, sym, ◌∙◌, ap, subst, arith, length, ◌<◌, ◌==◌, ◌&&◌, is_some, map, nat_lt, eq-eqb, eqb-true, nat_tests, option_map, Sort, ObjectKind, entry, Deed, Statement, Op, Reply, handle_of, State, opening, NodeEntry, IsNext, next, Legal, fst_true, snd_true, both_true, call_of, group_at, handle_at, Line, line, Made, issues, entries_that, times, live_listed, true_false, started_as, issues_fresh, fresh_unlisted, Terms, AllGranted, GrantedTo, IsGranted}
 use Rattle.mtapi_values.specs.declared.handles.ObjectKind.TheVariants as kinds
-use Rattle.history.specs.Histories.{entry}
-use Rattle.workload_file.specs.declared.workload.Deed.{Deed}
-use Rattle.workload_file.specs.declared.workload.Statement.{Statement}
-use Rattle.mtapi_machine.specs.declared.ops.Op.{Op}
 use Rattle.mtapi_machine.specs.declared.ops.Op.TheVariants as op
-use Rattle.mtapi_machine.specs.declared.replies.Reply.{Reply}
 use Rattle.mtapi_machine.specs.declared.replies.Reply.TheVariants as reply
-use Rattle.mtapi_machine.specs.Row.{handle_of}
-use Rattle.mtapi_machine.specs.State.{State, opening}
-use Rattle.mtapi_machine.specs.Legal.{NodeEntry, IsNext, next, LegalFrom, Legal}
-use Rattle.mtapi_machine.proofs.Made.{fst_true, snd_true, both_true}
-use Rattle.sched_workers.specs.Calls.{call_of, group_at, handle_at}
-use Rattle.sched_workers.specs.Lines.{Line, line, lines_of, Made}
+use Rattle.mtapi_machine.specs.Legal.{LegalFrom}
+use Rattle.sched_workers.specs.Lines.{lines_of}
 use Rattle.sched_workers.specs.Parts.{Carried}
-use Rattle.history_law.specs.Words.{makes, is_handle, issues, entries_that, times}
-use Rattle.history_law.proofs.Ages.{live_listed}
-use Rattle.history_law.proofs.Answered.{true_false}
-use Rattle.history_law.proofs.Objects.{started_as}
-use Rattle.history_law.proofs.Reuse.{issues_fresh, fresh_unlisted}
+use Rattle.history_law.specs.Words.{makes, is_handle}
 use Rattle.history_law.proofs.OnceIssued.{listed_next}
-use Rattle.mtapi_machine.specs.declared.terms.Terms.{Terms}
 use Rattle.workload_file.specs.Deeds.{binds}
 use Rattle.workload_file.specs.declared.workload.Deed.TheVariants as deed
 use Rattle.workload_file.specs.declared.table.Sort.TheVariants as sort
 use Rattle.settled_runs.proofs.Stays.{made_there}
 use Rattle.settled_runs.proofs.Counted.{bit}
-use Rattle.settled_runs.specs.RunGranted.{AllGranted, GrantedTo}
 use Rattle.settled_runs.proofs.Along.{BoundBy, Found, bound_shorter, found_bound, found_granted, handles_front, step_granted, found}
-use Rattle.settled_runs.specs.Granted.{IsGranted}
 
 -- how many of these lines were given the handle for an object of the kind
 abbrev pub issued : ObjectKind → ℕ → List Line → ℕ

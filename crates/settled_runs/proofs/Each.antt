@@ -1,32 +1,13 @@
 -- What holds of each line of a seat, and of each entry of a run.
-use Rattle.std.specs.List.{list_any, list_all, flat_map, AllByRecursion as Each}
-use Rattle.std.proofs.Common.{ap, append_assoc, arith, cond, refl, suc, sym, ◌∙◌, Bool, List, None, Option, Some, [], false, length, true, ℕ, ◌++◌, ◌+◌, ◌<◌, ◌∷◌, ◌≡◌, ◌≤◌, subst}
-use Rattle.std.proofs.lemmas.List.{append-nil}
-use Rattle.std.proofs.lemmas.Bool.{eq-eqb, eqb-true, or_left, or_right}
-use Rattle.std.proofs.lemmas.List.Folds.{list_any-append}
-use Rattle.std.specs.Prelude.{nat_lt, not, ◌&&◌, ◌==◌}
-use Rattle.std.proofs.lemmas.Bool.Decides.{nat_tests}
-use Rattle.sched_workers.specs.Lines.{Made, line, Line, before_it, head_of, in_lines, lines_of, tail_of_main}
-use Rattle.mtapi_objects.specs.Actions.{Action}
-use Rattle.history_law.specs.Seats.{BySeats, is_release}
-use Rattle.sched_workers.specs.Calls.{Call, Looking, Once}
-use Rattle.sched_workers.specs.Parts.{CallerRan, CallersRan, Carried, MainRan, PartsRan, has_begin}
-use Rattle.mtapi_machine.specs.Legal.{NodeEntry}
-use Rattle.mtapi_values.specs.Attributes.{NodeSettings}
-use Rattle.mtapi_machine.specs.declared.ops.Op.{Op}
-use Rattle.workload_file.specs.declared.workload.Part.{Part}
-use Rattle.mtapi_machine.specs.declared.replies.Reply.{Reply}
-use Rattle.sched_workers.specs.RunOf.{RunOf, WorkerRan, all_work, is_work}
-use Rattle.workload_file.specs.declared.workload.Statement.{Statement}
-use Rattle.workload_file.specs.declared.workload.Workload.{Workload}
-use Rattle.history.specs.Histories.{entry}
-use Rattle.mtapi_machine.proofs.Made.{fst_true, not_true, snd_true}
+use Rattle.settled_runs.proofs.Names.{list_any, list_all, flat_map, ap, append_assoc, arith, cond, refl, suc, sym, ◌∙◌, Bool, List, None, Option, Some, [], false, length, true, ℕ, ◌++◌, ◌+◌, ◌<◌, ◌∷◌, ◌≡◌, ◌≤◌, subst, append-nil, eq-eqb, eqb-true, or_left, or_right, list_any-append, nat_lt, not, ◌&&◌, ◌==◌, nat_tests, Made, line, Line, before_it, head_of, in_lines, tail_of_main, Action, BySeats, is_release, Call, Looking, Once, CallerRan, MainRan, PartsRan, NodeEntry, NodeSettings, Op, Part, Reply, RunOf, WorkerRan, is_work, Statement, Workload, entry, fst_true, not_true, snd_true, true_false, has_room, are_settled_parts, has_one_fault_a_group, is_settled_further, is_settled_part, set_up, action_in, actions_in, all_statements}
+use Rattle.std.specs.List.{AllByRecursion as Each}
+use Rattle.sched_workers.specs.Lines.{lines_of}
+use Rattle.sched_workers.specs.Parts.{CallersRan, Carried, has_begin}
+use Rattle.sched_workers.specs.RunOf.{all_work}
 use Rattle.mtapi_machine.specs.declared.ops.Op.TheVariants as op
 use Rattle.mtapi_machine.specs.declared.replies.Reply.TheVariants as reply
-use Rattle.history_law.proofs.Answered.{true_false}
-use Rattle.settled_runs.specs.Settled.{has_room, are_settled, are_settled_parts, has_different_ids, has_one_fault_a_group, has_one_kind_a_job, is_settled, is_settled_further, is_settled_part, keep_limits, set_up, sets_up_first}
+use Rattle.settled_runs.specs.Settled.{are_settled, has_different_ids, has_one_kind_a_job, is_settled, keep_limits, sets_up_first}
 use Rattle.settled_runs.proofs.Along.{Step, along}
-use Rattle.settled_runs.specs.Plain.{action_in, actions_in, all_statements}
 
 module _ {X : Type 0} (P : X → Type 0) where
   pub each_both : (xs ys : List X) → Each P xs → Each P ys → Each P (xs ++ ys)

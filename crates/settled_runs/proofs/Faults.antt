@@ -1,18 +1,7 @@
 -- The first fault of the endings of a group: there is one exactly where a live member has one.
-use Rattle.std.proofs.Common.{◌≡◌, ◌⊎◌, inl, inr, ℕ, ◌+◌, ◌≤◌, Bool, true, false, cond, List, [], ◌∷◌, Option, Some, None, refl, ◌∙◌, ap, subst, arith}
-use Rattle.std.specs.Prelude.{◌==◌, nat_lt, is_some, option_and_then}
-use Rattle.std.specs.Option.{option_or}
-use Rattle.std.proofs.lemmas.Bool.{eq-eqb}
-use Rattle.mtapi_values.specs.declared.statuses.MtapiStatus.{MtapiStatus}
-use Rattle.handle_pool.specs.Issued.{Listed, live_of, lookup, live_object, listed}
-use Rattle.mtapi_objects.specs.Tasks.{Task, TaskState, Scheduled, Running, Ended, end_of}
-use Rattle.mtapi_objects.specs.Groups.{is_member, Ending, insert, insert_ended, endings, fault_of, first_fault}
-use Rattle.mtapi_machine.specs.Ends.{end_in}
-use Rattle.mtapi_machine.proofs.Changes.{some_same}
-use Rattle.history_law.proofs.Ages.{live_listed}
-use Rattle.history_law.proofs.Answered.{true_false}
-use Rattle.history_law.proofs.Found.{at_skip, at_here}
-use Rattle.history_law.proofs.Handles.{OnceIn, once_rest}
+use Rattle.settled_runs.proofs.Names.{◌≡◌, ◌⊎◌, inl, inr, ℕ, ◌+◌, ◌≤◌, Bool, true, false, cond, List, [], ◌∷◌, Option, Some, None, refl, ◌∙◌, ap, subst, arith, ◌==◌, nat_lt, is_some, option_and_then, option_or, eq-eqb, MtapiStatus, Listed, lookup, live_object, Task, TaskState, Scheduled, Running, Ended, end_of, is_member, Ending, insert, insert_ended, fault_of, first_fault, end_in, some_same, live_listed, true_false, at_skip, at_here, OnceIn, once_rest}
+use Rattle.handle_pool.specs.Issued.{live_of, listed}
+use Rattle.mtapi_objects.specs.Groups.{endings}
 
 -- The first fault of the endings
 

@@ -1,24 +1,11 @@
 -- In a settled workload no look at a whole group is a last one, and main closes behind all statements.
-use Rattle.std.proofs.Common.{◌≡◌, ℕ, Bool, true, false, List, [], ◌∷◌, length, refl, sym, ap, subst}
-use Rattle.std.specs.Prelude.{◌==◌, ◌&&◌, not}
+use Rattle.settled_runs.proofs.Names.{◌≡◌, ℕ, Bool, true, false, List, [], ◌∷◌, length, refl, sym, ap, subst, ◌==◌, ◌&&◌, not, NodeSettings, Timeout, Action, Deed, Statement, Op, Reply, NodeEntry, handle_at, call_of, Line, line, before_it, Made, Looked, closes, NoClose, true_false, goes_on, GoOn}
 use Rattle.std.specs.List.{AllByRecursion as Each}
-use Rattle.mtapi_values.specs.Attributes.{NodeSettings}
-use Rattle.mtapi_values.specs.declared.timeouts.Timeout.{Timeout}
 use Rattle.mtapi_values.specs.declared.timeouts.Timeout.TheVariants as timeout
-use Rattle.mtapi_objects.specs.Actions.{Action}
-use Rattle.workload_file.specs.declared.workload.Deed.{Deed}
 use Rattle.workload_file.specs.declared.workload.Deed.TheVariants as deed
-use Rattle.workload_file.specs.declared.workload.Statement.{Statement}
-use Rattle.mtapi_machine.specs.declared.ops.Op.{Op}
 use Rattle.mtapi_machine.specs.declared.ops.Op.TheVariants as op
-use Rattle.mtapi_machine.specs.declared.replies.Reply.{Reply}
-use Rattle.mtapi_machine.specs.Legal.{NodeEntry}
-use Rattle.sched_workers.specs.Calls.{handle_at, call_of}
-use Rattle.sched_workers.specs.Lines.{Line, line, lines_of, before_it, Made, Looked}
-use Rattle.history_law.specs.Seats.{closes, NoClose}
-use Rattle.history_law.proofs.Answered.{true_false}
+use Rattle.sched_workers.specs.Lines.{lines_of}
 use Rattle.settled_runs.specs.Settled.{is_settled_deed}
-use Rattle.settled_runs.specs.Verdicts.{goes_on, GoOn}
 use Rattle.settled_runs.proofs.Owners.{uses}
 use Rattle.settled_runs.proofs.Each.{OnlyBy, before_each, each_both, each_map, own_each}
 

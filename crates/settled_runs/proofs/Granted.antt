@@ -1,42 +1,13 @@
 -- In a quiet history a call isn't refused for which there is room and all that it needs.
-use Rattle.std.proofs.Common.{◌≡◌, ℕ, zero, suc, ◌<◌, Bool, true, false, cond, List, [], ◌∷◌, ◌++◌, Option, Some, None, refl, sym, ◌∙◌, ap, subst, arith, ℤ}
-use Rattle.std.specs.Prelude.{◌==◌, ◌&&◌, ◌||◌, not, nat_lt, is_none, is_some}
-use Rattle.std.proofs.lemmas.Bool.{eq-eqb, eqb-true}
-use Rattle.std.proofs.lemmas.Bool.Decides.{nat_tests}
-use Rattle.mtapi_values.specs.Conditions.{holds}
-use Rattle.mtapi_values.specs.declared.kinds.Kind.{Kind}
-use Rattle.mtapi_values.specs.declared.masks.Mask.{Mask}
-use Rattle.mtapi_values.specs.declared.handles.GroupHandle.{GroupHandle}
+use Rattle.settled_runs.proofs.Names.{◌≡◌, ℕ, zero, suc, ◌<◌, Bool, true, false, cond, List, [], ◌∷◌, ◌++◌, Option, Some, None, refl, sym, ◌∙◌, ap, subst, arith, ℤ, ◌==◌, ◌&&◌, ◌||◌, not, nat_lt, is_none, is_some, eq-eqb, eqb-true, nat_tests, holds, Kind, Mask, GroupHandle, ObjectKind, entry, Listed, lookup, live_object, any_live, any_listed, Action, new_action, is_job, has_job, has_enabled_job, is_eligible, some_below, Op, Reply, Ok, Handle, Mtapi, Terms, Phase, New, Open, Closing, Closed, State, opening, workers, is_open, Move, phase_is, makes, alters, removes, is_served, apply, Row, unless, gives, never, Allows, only, after_row, number_of, NodeEntry, IsNext, next, Legal, after, IsMade, turns, Legal-front, some_same, by_moves, sorts_keep, objects_of, closes, NoClose, true_false, cut_from, cut_after, AreQuiet, IsOpened, HasRoom, IsServed, GroupIsMade, Asks, IsGranted}
 use Rattle.mtapi_values.specs.declared.handles.ObjectKind.TheVariants as kinds
-use Rattle.mtapi_values.specs.declared.handles.ObjectKind.{ObjectKind}
 use Rattle.mtapi_values.specs.declared.statuses.MtapiStatus.TheVariants as m
-use Rattle.history.specs.Histories.{entry}
-use Rattle.handle_pool.specs.Issued.{Listed, live_of, lookup, live_object, any_live, any_listed, is_full}
-use Rattle.mtapi_objects.specs.Actions.{Action, new_action, is_job, has_job, has_enabled_job, is_eligible, some_below, has_worker}
-use Rattle.mtapi_machine.specs.declared.ops.Op.{Op}
+use Rattle.handle_pool.specs.Issued.{live_of, is_full}
+use Rattle.mtapi_objects.specs.Actions.{has_worker}
 use Rattle.mtapi_machine.specs.declared.ops.Op.TheVariants as op
-use Rattle.mtapi_machine.specs.declared.replies.Reply.{Reply}
-use Rattle.mtapi_machine.specs.declared.replies.Reply.TheVariants.{Ok, Handle, Mtapi}
-use Rattle.mtapi_machine.specs.declared.terms.Terms.{Terms}
-use Rattle.mtapi_machine.specs.declared.terms.Phase.{Phase}
-use Rattle.mtapi_machine.specs.declared.terms.Phase.TheVariants.{New, Open, Closing, Closed}
-use Rattle.mtapi_machine.specs.State.{State, opening, workers, is_open}
-use Rattle.mtapi_machine.specs.Moves.{Move, phase_is, makes, alters, removes, is_served, apply}
-use Rattle.mtapi_machine.specs.Row.{Row, unless, gives, never, Allows, only, after_row}
 use Rattle.mtapi_machine.specs.Rows.{row}
-use Rattle.mtapi_machine.specs.TaskRows.{number_of}
-use Rattle.mtapi_machine.specs.Legal.{NodeEntry, IsNext, next, LegalFrom, Legal, after_from, after}
-use Rattle.mtapi_machine.specs.Laws.{IsMade, turns}
-use Rattle.mtapi_machine.proofs.Lists.{Legal-front}
-use Rattle.mtapi_machine.proofs.Changes.{some_same}
-use Rattle.mtapi_machine.proofs.Moves.{by_moves, sorts_keep}
-use Rattle.history_law.specs.Words.{objects_of}
-use Rattle.history_law.specs.Seats.{closes, NoClose}
-use Rattle.history_law.proofs.Answered.{true_false}
-use Rattle.history_law.proofs.Objects.{cut_from, cut_after}
+use Rattle.mtapi_machine.specs.Legal.{LegalFrom, after_from}
 use Rattle.history_law.proofs.Others.{terms_stay}
-use Rattle.history_law.specs.Quiet.{AreQuiet}
-use Rattle.settled_runs.specs.Granted.{IsOpened, HasRoom, IsServed, GroupIsMade, Asks, IsGranted}
 use Rattle.settled_runs.proofs.Sizes.{GrowsBy, tasks_grow, actions_grow, groups_grow, has_room}
 use Rattle.settled_runs.proofs.Stays.{made_objects_stay}
 

@@ -1,27 +1,8 @@
 -- In a quiet history the live members of a group are the tasks that were put into it since the last verdict.
-use Rattle.std.proofs.Common.{◌≡◌, ℕ, ◌+◌, Bool, true, false, cond, List, [], ◌∷◌, Option, Some, None, refl, sym, ◌∙◌, ap, subst}
-use Rattle.std.specs.Prelude.{◌==◌, ◌&&◌, not}
-use Rattle.std.specs.List.{list_any}
-use Rattle.std.proofs.lemmas.Bool.{eq-eqb, eqb-true}
-use Rattle.mtapi_values.specs.Conditions.{holds}
-use Rattle.mtapi_values.specs.declared.ends.TaskEnd.{TaskEnd}
-use Rattle.mtapi_values.specs.declared.ends.TaskEnd.TheVariants.{Failed}
-use Rattle.mtapi_values.specs.declared.handles.GroupHandle.{GroupHandle}
-use Rattle.handle_pool.specs.Issued.{Listed, change, change_all, issue, with_fields}
-use Rattle.mtapi_objects.specs.Tasks.{Task, NewTask, Running, is_unstarted, new_task, with_state, ended, end_each}
-use Rattle.mtapi_objects.specs.Groups.{is_member, freed}
-use Rattle.mtapi_machine.specs.declared.ops.Op.{Op}
+use Rattle.settled_runs.proofs.Names.{◌≡◌, ℕ, ◌+◌, Bool, true, false, cond, List, [], ◌∷◌, Option, Some, None, refl, sym, ◌∙◌, ap, subst, ◌==◌, ◌&&◌, not, list_any, eq-eqb, eqb-true, holds, TaskEnd, Failed, GroupHandle, Listed, with_fields, Task, NewTask, Running, is_unstarted, new_task, with_state, ended, is_member, freed, Op, State, Move, starts_task, runs_task, ends_task, ends_waiting, withdraws, notes, leaves, frees_members, lets_members_go, makes, alters, removes, apply, number_of, IsMade, StartsTask, FreesMembers, DeletesGroup, fst_true, sorts_keep, true_false, FoundAs, found_changed, found_issued, found_ends, found_all, is_quiet, starts_member, looks_at_all}
+use Rattle.handle_pool.specs.Issued.{change, change_all, issue}
+use Rattle.mtapi_objects.specs.Tasks.{end_each}
 use Rattle.mtapi_machine.specs.declared.ops.Op.TheVariants as op
-use Rattle.mtapi_machine.specs.State.{State}
-use Rattle.mtapi_machine.specs.Moves.{Move, starts_task, runs_task, ends_task, ends_waiting, withdraws, notes, leaves, frees_members, lets_members_go, makes, alters, removes, apply}
-use Rattle.mtapi_machine.specs.TaskRows.{number_of}
-use Rattle.mtapi_machine.specs.Laws.{IsMade, StartsTask, FreesMembers, DeletesGroup}
-use Rattle.mtapi_machine.proofs.Made.{fst_true}
-use Rattle.mtapi_machine.proofs.Moves.{sorts_keep}
-use Rattle.history_law.proofs.Answered.{true_false}
-use Rattle.history_law.proofs.Found.{FoundAs, found_changed, found_issued, found_ends, found_all}
-use Rattle.history_law.specs.Quiet.{is_quiet}
-use Rattle.settled_runs.specs.Verdicts.{starts_member, looks_at_all}
 use Rattle.settled_runs.proofs.Waits.{notes_tasks, noting, taking}
 
 abbrev pub has : List ℕ → ℕ → Bool

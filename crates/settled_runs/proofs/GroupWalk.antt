@@ -1,40 +1,14 @@
 -- Along the statements of a part, the tasks that were put into a group have the fault that the plain report tells of it.
-use Rattle.std.proofs.Common.{◌≡◌, ℕ, Bool, true, false, cond, List, [], ◌∷◌, ◌++◌, length, Option, Some, None, refl, sym, ◌∙◌, ap, subst, arith, append_assoc, ℤ}
-use Rattle.std.specs.Prelude.{◌==◌, ◌||◌, map, option_and_then, IfSome}
-use Rattle.std.specs.Option.{option_map, option_or}
-use Rattle.std.specs.List.{flat_map}
-use Rattle.std.proofs.lemmas.Bool.{eq-eqb, eqb-true}
-use Rattle.mtapi_values.specs.Conditions.{holds}
-use Rattle.mtapi_values.specs.declared.ends.TaskEnd.{TaskEnd}
-use Rattle.mtapi_values.specs.declared.masks.Mask.{Mask}
-use Rattle.mtapi_values.specs.declared.timeouts.Timeout.{Timeout}
-use Rattle.mtapi_values.specs.declared.statuses.MtapiStatus.{MtapiStatus}
-use Rattle.history.specs.Histories.{entry}
-use Rattle.mtapi_objects.specs.Actions.{Action}
-use Rattle.mtapi_objects.specs.Tasks.{NewTask}
-use Rattle.mtapi_objects.specs.Groups.{fault_of}
-use Rattle.mtapi_objects.specs.Queues.{Queue}
+use Rattle.settled_runs.proofs.Names.{◌≡◌, ℕ, Bool, true, false, cond, List, [], ◌∷◌, ◌++◌, length, Option, Some, None, refl, sym, ◌∙◌, ap, subst, arith, append_assoc, ℤ, ◌==◌, ◌||◌, map, option_and_then, IfSome, option_map, option_or, flat_map, eq-eqb, eqb-true, holds, TaskEnd, Mask, Timeout, MtapiStatus, entry, Action, NewTask, fault_of, Queue, Deed, Statement, fields, word_for, values, place_used, AllFit, IsBoundAt, IsStatement, AreStatements, Op, Reply, handle_of, some_same, handle_at, group_at, call_of, Line, line, before_it, Made, Looked, true_false, queue_at, Faults, with_member, with_task, no_faults, IsPlainTask, fault_in, members_behind}
 use Rattle.workload_file.specs.declared.table.Sort.TheVariants as sort
-use Rattle.workload_file.specs.declared.workload.Deed.{Deed}
 use Rattle.workload_file.specs.declared.workload.Deed.TheVariants as deed
-use Rattle.workload_file.specs.declared.workload.Statement.{Statement}
-use Rattle.workload_file.specs.Table.{fields, row}
-use Rattle.workload_file.specs.Deeds.{deed_spelled, word_for, values, place_used}
-use Rattle.workload_file.specs.Formed.{AllFit, IsBoundAt, IsStatement, AreStatements}
-use Rattle.mtapi_machine.specs.declared.ops.Op.{Op}
+use Rattle.workload_file.specs.Table.{row}
+use Rattle.workload_file.specs.Deeds.{deed_spelled}
 use Rattle.mtapi_machine.specs.declared.ops.Op.TheVariants as op
-use Rattle.mtapi_machine.specs.declared.replies.Reply.{Reply}
 use Rattle.mtapi_machine.specs.declared.replies.Reply.TheVariants as reply
-use Rattle.mtapi_machine.specs.Row.{handle_of}
-use Rattle.mtapi_machine.proofs.Changes.{some_same}
-use Rattle.sched_workers.specs.Calls.{handle_at, group_at, call_of}
-use Rattle.sched_workers.specs.Lines.{Line, line, before_it, Made, Looked}
 use Rattle.sched_workers.specs.Parts.{Carried}
-use Rattle.history_law.proofs.Answered.{true_false}
-use Rattle.settled_runs.specs.Plain.{queue_at, task_in, plain_end, plain_fault, Faults, with_member, with_task, faults_behind, no_faults}
-use Rattle.settled_runs.specs.PlainReplies.{IsPlainTask, ArePlain, IsPlainReply}
-use Rattle.settled_runs.specs.Settled.{fault_in}
-use Rattle.settled_runs.specs.Verdicts.{members_behind}
+use Rattle.settled_runs.specs.Plain.{task_in, plain_end, plain_fault, faults_behind}
+use Rattle.settled_runs.specs.PlainReplies.{ArePlain, IsPlainReply}
 use Rattle.settled_runs.proofs.GroupMembers.{has}
 use Rattle.settled_runs.proofs.MemberFaults.{Matches, no_member, more_member}
 use Rattle.settled_runs.proofs.OneFault.{has_fault, fault_there}

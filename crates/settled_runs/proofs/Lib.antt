@@ -1,3 +1,4 @@
+mod Names
 pub mod Computed
 pub mod PlainReplies
 pub mod Stays

@@ -1,29 +1,10 @@
 -- In a run of a settled workload main is given what it asks for.
-use Rattle.std.proofs.Common.{◌≡◌, inr, ℕ, ◌≤◌, Bool, true, false, List, ◌∷◌, ◌++◌, Option, Some, None, refl, ◌∙◌, subst, arith}
-use Rattle.std.specs.Prelude.{◌==◌, slice_get, option_and_then, map}
-use Rattle.std.specs.Option.{option_map}
-use Rattle.std.specs.List.{list_all, AllByRecursion as Each}
-use Rattle.mtapi_values.specs.Attributes.{NodeSettings}
-use Rattle.mtapi_values.specs.declared.handles.Layout.{Layout}
-use Rattle.mtapi_objects.specs.Actions.{Action}
-use Rattle.mtapi_objects.specs.Queues.{Queue}
-use Rattle.workload_file.specs.declared.workload.Deed.{Deed}
+use Rattle.settled_runs.proofs.Names.{◌≡◌, inr, ℕ, ◌≤◌, Bool, true, false, List, ◌∷◌, ◌++◌, Option, Some, None, refl, ◌∙◌, subst, arith, ◌==◌, slice_get, option_and_then, map, option_map, list_all, NodeSettings, Layout, Action, Queue, Deed, Statement, Part, Workload, IsPart, NodeEntry, fst_true, handle_at, call_of, Line, head_of, tail_of_main, true_false, handle_of, puts, actions_in, queue_in, queue_at, is_startable, set_up, are_settled_parts, AllGranted, SettledRun}
+use Rattle.std.specs.List.{AllByRecursion as Each}
 use Rattle.workload_file.specs.declared.workload.Deed.TheVariants as deed
-use Rattle.workload_file.specs.declared.workload.Statement.{Statement}
-use Rattle.workload_file.specs.declared.workload.Part.{Part}
-use Rattle.workload_file.specs.declared.workload.Workload.{Workload}
-use Rattle.workload_file.specs.Formed.{IsPart}
-use Rattle.mtapi_machine.specs.Legal.{NodeEntry}
-use Rattle.mtapi_machine.proofs.Made.{fst_true}
-use Rattle.sched_workers.specs.Calls.{handle_at, call_of}
-use Rattle.sched_workers.specs.Lines.{Line, head_of, tail_of_main}
 use Rattle.sched_workers.specs.Parts.{has_begin}
-use Rattle.history_law.proofs.Answered.{true_false}
-use Rattle.mtapi_machine.specs.Row.{handle_of}
-use Rattle.settled_runs.specs.Granted.{puts}
-use Rattle.settled_runs.specs.Plain.{actions_in, queue_in, queue_at, task_in}
-use Rattle.settled_runs.specs.Settled.{is_startable, is_settled_deed, set_up, are_settled_parts, keep_limits}
-use Rattle.settled_runs.specs.RunGranted.{AllGranted, SettledRun}
+use Rattle.settled_runs.specs.Plain.{task_in}
+use Rattle.settled_runs.specs.Settled.{is_settled_deed, keep_limits}
 use Rattle.settled_runs.proofs.Counted.{bit, CallAsks, calls_none}
 use Rattle.settled_runs.proofs.Opened.{main_unclosed, first_head, is_opened, first_of, only_main, all_at}
 use Rattle.settled_runs.proofs.Rooms.{is_put}

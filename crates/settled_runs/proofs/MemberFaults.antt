@@ -1,14 +1,5 @@
 -- The fault of a group, told as its members are put into it, is the one that a verdict tells.
-use Rattle.std.proofs.Common.{◌≡◌, ℕ, Bool, true, false, List, [], ◌∷◌, Option, Some, None, refl, sym, ◌∙◌, ap, subst}
-use Rattle.std.specs.Prelude.{◌==◌, ◌||◌}
-use Rattle.std.specs.Option.{option_or}
-use Rattle.std.proofs.lemmas.Bool.{eq-eqb, eqb-true}
-use Rattle.mtapi_values.specs.declared.statuses.MtapiStatus.{MtapiStatus}
-use Rattle.mtapi_machine.specs.GroupRows.{verdict}
-use Rattle.mtapi_machine.specs.State.{State}
-use Rattle.mtapi_machine.specs.declared.replies.Reply.{Reply}
-use Rattle.history_law.proofs.Answered.{true_false}
-use Rattle.settled_runs.specs.Verdicts.{fault_at, IsVerdict}
+use Rattle.settled_runs.proofs.Names.{◌≡◌, ℕ, Bool, true, false, List, [], ◌∷◌, Option, Some, None, refl, sym, ◌∙◌, ap, subst, ◌==◌, ◌||◌, option_or, eq-eqb, eqb-true, MtapiStatus, verdict, State, Reply, true_false, fault_at, IsVerdict}
 use Rattle.settled_runs.proofs.GroupMembers.{has}
 use Rattle.settled_runs.proofs.Verdicts.{has_more}
 

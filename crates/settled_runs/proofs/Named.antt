@@ -1,25 +1,8 @@
 -- A group that a task names was made.
-use Rattle.std.proofs.Common.{◌≡◌, ◌⊎◌, inl, inr, ℕ, ◌≤◌, true, false, List, [], ◌∷◌, Option, Some, None, refl, sym, ◌∙◌, ap, subst}
-use Rattle.std.specs.Prelude.{◌==◌, ◌&&◌, is_none, is_some}
-use Rattle.std.proofs.lemmas.Bool.{eqb-true}
-use Rattle.mtapi_values.specs.Conditions.{holds}
-use Rattle.mtapi_values.specs.declared.ends.TaskEnd.TheVariants.{Failed}
+use Rattle.settled_runs.proofs.Names.{◌≡◌, ◌⊎◌, inl, inr, ℕ, ◌≤◌, true, false, List, [], ◌∷◌, Option, Some, None, refl, sym, ◌∙◌, ap, subst, ◌==◌, ◌&&◌, is_none, is_some, eqb-true, holds, Failed, Listed, live_object, with_fields, gone, Task, Running, with_state, with_notes, ended, new_task, Group, is_member, freed, let_go, Op, State, is_open, tasks, Move, starts_task, runs_task, ends_task, ends_waiting, withdraws, notes, leaves, frees_members, lets_members_go, makes, alters, removes, is_fresh, is_served, apply, NodeEntry, IsNext, next, IsMade, all_live, some_same, fst_true, snd_true, not_true, sorts_keep, live_listed, true_false, Every, every_issue, every_change, every_all, every_map, every_ends, always, listed_move}
 use Rattle.mtapi_values.specs.declared.handles.ObjectKind.TheVariants as kinds
-use Rattle.handle_pool.specs.Issued.{Listed, live_object, listed, with_fields, gone}
-use Rattle.mtapi_objects.specs.Tasks.{Task, Running, with_state, with_notes, ended, new_task}
-use Rattle.mtapi_objects.specs.Groups.{Group, is_member, freed, let_go}
-use Rattle.mtapi_machine.specs.declared.ops.Op.{Op}
-use Rattle.mtapi_machine.specs.State.{State, is_open, tasks}
-use Rattle.mtapi_machine.specs.Moves.{Move, starts_task, runs_task, ends_task, ends_waiting, withdraws, notes, leaves, frees_members, lets_members_go, makes, alters, removes, is_fresh, is_served, apply}
-use Rattle.mtapi_machine.specs.Legal.{NodeEntry, IsNext, next, LegalFrom, after_from}
-use Rattle.mtapi_machine.specs.Laws.{IsMade, all_live}
-use Rattle.mtapi_machine.proofs.Changes.{some_same}
-use Rattle.mtapi_machine.proofs.Made.{fst_true, snd_true, not_true}
-use Rattle.mtapi_machine.proofs.Moves.{sorts_keep}
-use Rattle.history_law.proofs.Ages.{live_listed}
-use Rattle.history_law.proofs.Answered.{true_false}
-use Rattle.history_law.proofs.Every.{Every, every_issue, every_change, every_all, every_map, every_ends, always}
-use Rattle.history_law.proofs.Reuse.{listed_move}
+use Rattle.handle_pool.specs.Issued.{listed}
+use Rattle.mtapi_machine.specs.Legal.{LegalFrom, after_from}
 use Rattle.history_law.proofs.SeatMoves.{May, by_made_moves}
 
 -- a group that the task names is one of these

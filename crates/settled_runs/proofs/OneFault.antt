@@ -1,18 +1,7 @@
 -- Where the faults of each group of a part have one status, so do those of any two of its tasks.
-use Rattle.std.proofs.Common.{◌≡◌, ℕ, Bool, true, false, List, [], ◌∷◌, ◌++◌, Option, Some, refl, sym, ◌∙◌, subst}
-use Rattle.std.specs.Prelude.{◌==◌, ◌&&◌, ◌||◌, not}
-use Rattle.std.specs.List.{list_any, list_all, flat_map}
-use Rattle.std.proofs.lemmas.Bool.{eq-eqb, eqb-true}
-use Rattle.std.proofs.lemmas.List.Folds.{list_any-append}
-use Rattle.mtapi_values.specs.declared.statuses.MtapiStatus.{MtapiStatus}
-use Rattle.mtapi_values.specs.Statuses.{mtapi_number}
-use Rattle.mtapi_objects.specs.Actions.{Action}
-use Rattle.mtapi_objects.specs.Tasks.{NewTask}
-use Rattle.mtapi_machine.proofs.Made.{fst_true, snd_true, both_true}
-use Rattle.workload_file.specs.declared.workload.Statement.{Statement}
-use Rattle.history_law.proofs.Answered.{true_false}
+use Rattle.settled_runs.proofs.Names.{◌≡◌, ℕ, Bool, true, false, List, [], ◌∷◌, ◌++◌, Option, Some, refl, sym, ◌∙◌, subst, ◌==◌, ◌&&◌, ◌||◌, not, list_any, list_all, flat_map, eq-eqb, eqb-true, list_any-append, MtapiStatus, mtapi_number, Action, NewTask, fst_true, snd_true, both_true, Statement, true_false, both, fault_in}
 use Rattle.settled_runs.specs.Plain.{task_in, plain_fault}
-use Rattle.settled_runs.specs.Settled.{both, fault_in, have_one_fault_a_group}
+use Rattle.settled_runs.specs.Settled.{have_one_fault_a_group}
 use Rattle.settled_runs.proofs.StatusNumbers.{same_status}
 
 -- the group has a fault of this status

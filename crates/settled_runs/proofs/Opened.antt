@@ -1,39 +1,12 @@
 -- In a run of a settled workload the node is open before each statement's entry.
-use Rattle.std.proofs.Common.{◌≡◌, inl, inr, ℕ, suc, ◌+◌, ◌≤◌, ◌<◌, Bool, true, false, cond, List, [], ◌∷◌, ◌++◌, length, refl, sym, ◌∙◌, ap, subst, arith, append_assoc}
-use Rattle.std.specs.Prelude.{◌==◌, ◌&&◌, map}
-use Rattle.std.specs.List.{flat_map, AllByRecursion as Each}
-use Rattle.std.proofs.lemmas.Bool.{eq-eqb}
-use Rattle.mtapi_values.specs.declared.handles.Layout.{Layout}
-use Rattle.history.specs.Histories.{entry, entries_of}
-use Rattle.handle_pool.specs.Issued.{how_many}
-use Rattle.workload_file.specs.declared.workload.Deed.{Deed}
+use Rattle.settled_runs.proofs.Names.{◌≡◌, inl, inr, ℕ, suc, ◌+◌, ◌≤◌, ◌<◌, Bool, true, false, cond, List, [], ◌∷◌, ◌++◌, length, refl, sym, ◌∙◌, ap, subst, arith, append_assoc, ◌==◌, ◌&&◌, map, flat_map, eq-eqb, Layout, entry, entries_of, how_many, Deed, Statement, Part, Workload, begins, IsFurther, MainFirst, Op, Reply, opening, NodeEntry, Legal, Legal-prefix, call_of, Line, line, head_of, tail_of_main, in_lines, MainRan, PartsRan, RunOf, some_entry, closes, NoClose, BySeats, is_release, is_released, says_ok, true_false, by_seats, run_terms, AreQuiet, handle_of, IsOpened, all_statements, actions_in, SettledRun}
+use Rattle.std.specs.List.{AllByRecursion as Each}
 use Rattle.workload_file.specs.declared.workload.Deed.TheVariants as deed
-use Rattle.workload_file.specs.declared.workload.Statement.{Statement}
-use Rattle.workload_file.specs.declared.workload.Part.{Part}
-use Rattle.workload_file.specs.declared.workload.Workload.{Workload}
 use Rattle.workload_file.specs.Deeds.{is_begin}
-use Rattle.workload_file.specs.Formed.{begins, IsFurther, MainFirst}
-use Rattle.mtapi_machine.specs.declared.ops.Op.{Op}
 use Rattle.mtapi_machine.specs.declared.ops.Op.TheVariants as op
-use Rattle.mtapi_machine.specs.declared.replies.Reply.{Reply}
 use Rattle.mtapi_machine.specs.declared.replies.Reply.TheVariants as reply
-use Rattle.mtapi_machine.specs.State.{opening}
-use Rattle.mtapi_machine.specs.Legal.{NodeEntry, Legal}
-use Rattle.mtapi_machine.proofs.Lists.{Legal-prefix}
-use Rattle.sched_workers.specs.Calls.{call_of}
-use Rattle.sched_workers.specs.Lines.{Line, line, lines_of, head_of, tail_of_main, in_lines}
-use Rattle.sched_workers.specs.Parts.{MainRan, CallersRan, PartsRan}
-use Rattle.sched_workers.specs.RunOf.{RunOf}
-use Rattle.history_law.specs.Words.{some_entry}
-use Rattle.history_law.specs.Seats.{closes, NoClose, BySeats, is_release, is_released, says_ok}
-use Rattle.history_law.proofs.Answered.{true_false}
-use Rattle.history_law.proofs.Bounds.{by_seats}
-use Rattle.run_report.specs.Report.{run_terms}
-use Rattle.history_law.specs.Quiet.{AreQuiet}
-use Rattle.mtapi_machine.specs.Row.{handle_of}
-use Rattle.settled_runs.specs.Granted.{IsOpened}
-use Rattle.settled_runs.specs.Plain.{all_statements, actions_in}
-use Rattle.settled_runs.specs.RunGranted.{SettledRun}
+use Rattle.sched_workers.specs.Lines.{lines_of}
+use Rattle.sched_workers.specs.Parts.{CallersRan}
 use Rattle.settled_runs.proofs.Asked.{run_planned}
 use Rattle.settled_runs.proofs.RunEnds.{all_quiet}
 use Rattle.settled_runs.proofs.Cuts.{Placed, placed, lines_append, Cut, cut}

@@ -1,44 +1,18 @@
 -- No seat of a run uses a handle that another seat was given.
-use Rattle.std.proofs.Common.{◌≡◌, ℕ, ◌+◌, ◌≤◌, Bool, true, false, cond, List, [], ◌∷◌, ◌++◌, Some, refl, ◌∙◌, ap, arith, None, Option}
-use Rattle.std.specs.Prelude.{◌==◌, map, IfSome, ◌||◌}
-use Rattle.std.specs.Option.{option_map}
-use Rattle.std.proofs.lemmas.Bool.{eq-eqb, eqb-true, false_from_ne_true, or_from}
-use Rattle.std.proofs.lemmas.Bool.Decides.{nat_tests}
+use Rattle.settled_runs.proofs.Names.{◌≡◌, ℕ, ◌+◌, ◌≤◌, Bool, true, false, cond, List, [], ◌∷◌, ◌++◌, Some, refl, ◌∙◌, ap, arith, None, Option, ◌==◌, map, IfSome, ◌||◌, option_map, eq-eqb, eqb-true, false_from_ne_true, or_from, nat_tests, Layout, ObjectKind, Sort, Deed, fields, place_used, values, word_for, Statement, Part, Workload, IsBoundAt, IsStatement, AllFit, Op, Reply, handle_of, opening, NodeEntry, handle_at, group_at, call_of, Line, line, issues, entries_that, true_false, run_terms, holds, looks_at, waits_for, SettledRun, looks_at_all, starts_member}
 use Rattle.std.specs.List.{AllByRecursion as Each}
-use Rattle.mtapi_values.specs.declared.handles.Layout.{Layout}
-use Rattle.mtapi_values.specs.declared.handles.ObjectKind.{ObjectKind}
 use Rattle.mtapi_values.specs.declared.handles.ObjectKind.TheVariants as kinds
-use Rattle.workload_file.specs.declared.table.Sort.{Sort}
 use Rattle.workload_file.specs.declared.table.Sort.TheVariants as sort
-use Rattle.workload_file.specs.declared.workload.Deed.{Deed}
 use Rattle.workload_file.specs.declared.workload.Deed.TheVariants as deed
-use Rattle.workload_file.specs.Table.{row, fields}
-use Rattle.workload_file.specs.Deeds.{deed_spelled, place_used, values, word_for}
-use Rattle.workload_file.specs.declared.workload.Statement.{Statement}
-use Rattle.workload_file.specs.declared.workload.Part.{Part}
-use Rattle.workload_file.specs.declared.workload.Workload.{Workload}
-use Rattle.workload_file.specs.Formed.{IsBoundAt, IsStatement, AllFit}
-use Rattle.mtapi_machine.specs.declared.ops.Op.{Op}
+use Rattle.workload_file.specs.Table.{row}
+use Rattle.workload_file.specs.Deeds.{deed_spelled}
 use Rattle.mtapi_machine.specs.declared.ops.Op.TheVariants as op
-use Rattle.mtapi_machine.specs.declared.replies.Reply.{Reply}
-use Rattle.mtapi_machine.specs.Row.{handle_of}
-use Rattle.mtapi_machine.specs.State.{opening}
-use Rattle.mtapi_machine.specs.Legal.{NodeEntry}
-use Rattle.sched_workers.specs.Calls.{handle_at, group_at, call_of}
-use Rattle.sched_workers.specs.Lines.{Line, line, lines_of}
-use Rattle.history_law.specs.Words.{issues, entries_that}
-use Rattle.history_law.proofs.Answered.{true_false}
-use Rattle.run_report.specs.Report.{run_terms}
-use Rattle.mtapi_values.specs.Conditions.{holds}
-use Rattle.settled_runs.specs.Waits.{looks_at}
-use Rattle.settled_runs.specs.Settled.{waits_for}
-use Rattle.settled_runs.specs.RunGranted.{SettledRun}
+use Rattle.sched_workers.specs.Lines.{lines_of}
 use Rattle.settled_runs.proofs.Counted.{bit}
 use Rattle.settled_runs.proofs.Opened.{seats_are}
 use Rattle.settled_runs.proofs.Distinct.{issued, issued_append, issued_once, tasks_list, Binds, IsListedKind, binds_group, binds_task, bound_issued, groups_list}
 use Rattle.settled_runs.proofs.Each.{CallEach, OnlyBy, each_map, is_outside, made_each, map_seats, only_by, seat_each}
 use Rattle.settled_runs.proofs.Walk.{Seat, seat_granted}
-use Rattle.settled_runs.specs.Verdicts.{looks_at_all, starts_member}
 use Rattle.settled_runs.proofs.FurtherGranted.{seats}
 use Rattle.settled_runs.proofs.Along.{step_bound, step_statement}
 use Rattle.settled_runs.proofs.Asked.{work_outside}

@@ -1,31 +1,11 @@
 -- The lines of the statements of a part, found by the places of the statements.
-use Rattle.std.proofs.Common.{◌≡◌, ℕ, Bool, true, false, List, [], ◌∷◌, ◌++◌, Some, None, refl, sym, ◌∙◌, ap, subst, append_assoc, inl, inr, ◌⊎◌}
-use Rattle.std.specs.Prelude.{◌||◌, map, slice_get}
-use Rattle.std.specs.List.{list_any}
-use Rattle.std.proofs.lemmas.List.{append-nil}
-use Rattle.std.proofs.lemmas.List.Folds.{list_any-append}
-use Rattle.mtapi_values.specs.declared.kinds.Kind.{Kind}
-use Rattle.mtapi_values.specs.declared.masks.Mask.{Mask}
-use Rattle.mtapi_objects.specs.Actions.{Action, new_action}
-use Rattle.mtapi_objects.specs.Queues.{Queue}
+use Rattle.settled_runs.proofs.Names.{◌≡◌, ℕ, Bool, true, false, List, [], ◌∷◌, ◌++◌, Some, None, refl, sym, ◌∙◌, ap, subst, append_assoc, inl, inr, ◌⊎◌, ◌||◌, map, slice_get, list_any, append-nil, list_any-append, Kind, Mask, Action, new_action, Queue, Deed, Statement, Op, Reply, handle_of, new_queue, some_same, handle_at, call_of, Line, line, Made, true_false, GrantedTo, AllGranted, action_in, actions_in, queue_in}
 use Rattle.workload_file.specs.declared.table.Sort.TheVariants as sort
-use Rattle.workload_file.specs.declared.workload.Deed.{Deed}
 use Rattle.workload_file.specs.declared.workload.Deed.TheVariants as deed
-use Rattle.workload_file.specs.declared.workload.Statement.{Statement}
 use Rattle.workload_file.specs.Deeds.{binds}
-use Rattle.mtapi_machine.specs.declared.ops.Op.{Op}
 use Rattle.mtapi_machine.specs.declared.ops.Op.TheVariants as op
-use Rattle.mtapi_machine.specs.declared.replies.Reply.{Reply}
 use Rattle.mtapi_machine.specs.declared.replies.Reply.TheVariants as reply
-use Rattle.mtapi_machine.specs.Row.{handle_of}
-use Rattle.mtapi_machine.specs.QueueRows.{new_queue}
-use Rattle.mtapi_machine.proofs.Changes.{some_same}
-use Rattle.sched_workers.specs.Calls.{handle_at, call_of}
-use Rattle.sched_workers.specs.Lines.{Line, line, Made}
 use Rattle.sched_workers.specs.Parts.{Carried}
-use Rattle.history_law.proofs.Answered.{true_false}
-use Rattle.settled_runs.specs.RunGranted.{GrantedTo, AllGranted}
-use Rattle.settled_runs.specs.Plain.{action_in, actions_in, queue_in}
 use Rattle.settled_runs.proofs.Along.{BoundBy, Found, along, found_bound, found_granted, step_granted, found}
 use Rattle.settled_runs.proofs.Each.{actions_append}
 

@@ -1,27 +1,11 @@
 -- The report of plain replies is the plain report.
-use Rattle.std.proofs.Common.{◌≡◌, ℕ, false, cond, List, [], ◌∷◌, ◌++◌, Option, Some, None, refl, sym, ◌∙◌, ap}
-use Rattle.std.specs.Option.{option_map}
-use Rattle.std.specs.List.{flat_map}
-use Rattle.std.proofs.lemmas.List.{append-nil}
-use Rattle.mtapi_values.specs.declared.ends.TaskEnd.{TaskEnd}
-use Rattle.mtapi_values.specs.declared.statuses.MtapiStatus.{MtapiStatus}
-use Rattle.mtapi_values.specs.Statuses.{mtapi_name}
-use Rattle.mtapi_objects.specs.Actions.{Action}
-use Rattle.mtapi_objects.specs.Tasks.{NewTask}
-use Rattle.mtapi_machine.specs.declared.replies.Reply.{Reply}
+use Rattle.settled_runs.proofs.Names.{◌≡◌, ℕ, false, cond, List, [], ◌∷◌, ◌++◌, Option, Some, None, refl, sym, ◌∙◌, ap, option_map, flat_map, append-nil, TaskEnd, MtapiStatus, mtapi_name, Action, NewTask, Reply, verdict, is_status, Deed, Statement, Part, Told, ended_text, is_task, task_line, task_lines, status_of, marked_line, call_line, call_lines, all_statements, actions_in, Faults, no_faults, plain_task_line, plain_task_lines, plain_call_lines, IsPlainTask, PlainRepliesShowPlainReport}
 use Rattle.mtapi_machine.specs.declared.replies.Reply.TheVariants as reply
-use Rattle.mtapi_machine.specs.GroupRows.{verdict}
-use Rattle.mtapi_machine.specs.Laws.{is_status}
-use Rattle.workload_file.specs.declared.workload.Deed.{Deed}
 use Rattle.workload_file.specs.declared.workload.Deed.TheVariants as deed
-use Rattle.workload_file.specs.declared.workload.Statement.{Statement}
-use Rattle.workload_file.specs.declared.workload.Part.{Part}
 use Rattle.workload_file.specs.Reading.{name_text}
-use Rattle.run_report.specs.Replies.{Told}
-use Rattle.run_report.specs.Tasks.{ended_text}
-use Rattle.run_report.specs.Calls.{shown_of, is_task, task_line, task_lines_of, task_lines, task_name, status_of, marked_line, call_line, call_lines_of, call_lines}
-use Rattle.settled_runs.specs.Plain.{all_statements, actions_in, task_in, Faults, no_faults, faults_behind, plain_task_line, plain_task_lines, plain_call_line, plain_calls_from, plain_call_lines, plain_report}
-use Rattle.settled_runs.specs.PlainReplies.{IsPlainTask, IsPlainReply, ArePlain, PartsArePlain, PlainRepliesShowPlainReport}
+use Rattle.run_report.specs.Calls.{shown_of, task_lines_of, task_name, call_lines_of}
+use Rattle.settled_runs.specs.Plain.{task_in, faults_behind, plain_call_line, plain_calls_from, plain_report}
+use Rattle.settled_runs.specs.PlainReplies.{IsPlainReply, ArePlain, PartsArePlain}
 
 module _ (actions : List Action) (all : List Statement) (ends : ℕ → Option TaskEnd) (part : List ℕ) where
   -- Lines of tasks

@@ -1,23 +1,13 @@
 -- The summary of plain replies is the plain summary.
-use Rattle.std.proofs.Common.{◌≡◌, ℕ, ◌+◌, cond, List, [], ◌∷◌, Option, refl, sym, ◌∙◌, ap}
-use Rattle.mtapi_values.specs.declared.ends.TaskEnd.{TaskEnd}
-use Rattle.mtapi_objects.specs.Actions.{Action}
-use Rattle.mtapi_objects.specs.Tasks.{NewTask}
-use Rattle.mtapi_machine.specs.declared.replies.Reply.{Reply}
-use Rattle.mtapi_machine.specs.Legal.{after}
+use Rattle.settled_runs.proofs.Names.{◌≡◌, ℕ, ◌+◌, cond, List, [], ◌∷◌, Option, refl, sym, ◌∙◌, ap, TaskEnd, Action, NewTask, Reply, after, Deed, Statement, Part, is_task, Told, run_terms, parts_told, no_totals, with_end, all_statements, actions_in, Faults, no_faults, IsPlainTask, with_plain_task, SettledSummariesArePlain}
 use Rattle.mtapi_machine.specs.Ends.{end_at}
-use Rattle.workload_file.specs.declared.workload.Deed.{Deed}
 use Rattle.workload_file.specs.declared.workload.Deed.TheVariants as deed
-use Rattle.workload_file.specs.declared.workload.Statement.{Statement}
-use Rattle.workload_file.specs.declared.workload.Part.{Part}
 use Rattle.run_report.specs.declared.totals.Totals.{Totals}
-use Rattle.run_report.specs.Calls.{shown_of, is_task}
-use Rattle.run_report.specs.Replies.{Told}
-use Rattle.run_report.specs.Report.{run_terms, parts_told}
-use Rattle.run_report.specs.Summary.{no_totals, with_end, with_task, with_tasks, with_parts, totals, totals_text}
-use Rattle.settled_runs.specs.Plain.{all_statements, actions_in, task_in, Faults, no_faults, faults_behind}
-use Rattle.settled_runs.specs.PlainReplies.{IsPlainTask, IsPlainReply, ArePlain, PartsArePlain}
-use Rattle.settled_runs.specs.PlainSummary.{with_plain_task, with_plain_tasks, with_plain_parts, plain_summary, SettledSummariesArePlain}
+use Rattle.run_report.specs.Calls.{shown_of}
+use Rattle.run_report.specs.Summary.{with_task, with_tasks, with_parts, totals, totals_text}
+use Rattle.settled_runs.specs.Plain.{task_in, faults_behind}
+use Rattle.settled_runs.specs.PlainReplies.{IsPlainReply, ArePlain, PartsArePlain}
+use Rattle.settled_runs.specs.PlainSummary.{with_plain_tasks, with_plain_parts, plain_summary}
 use Rattle.settled_runs.proofs.RunReport.{told_plainly}
 
 module _ (actions : List Action) (ends : ℕ → Option TaskEnd) where

@@ -1,31 +1,12 @@
 -- How many tasks a part puts into one of its queues.
-use Rattle.std.proofs.Common.{◌≡◌, ℕ, zero, suc, ◌+◌, ◌≤◌, Bool, true, false, List, [], ◌∷◌, Option, Some, refl, ◌∙◌, ap, subst, arith}
-use Rattle.std.specs.Prelude.{◌==◌, not, nat_lt, map, slice_get}
-use Rattle.std.proofs.lemmas.Bool.{eq-eqb, eqb-true}
-use Rattle.std.proofs.lemmas.Bool.Decides.{nat_tests}
-use Rattle.mtapi_values.specs.Conditions.{holds}
-use Rattle.handle_pool.specs.Issued.{how_many}
-use Rattle.mtapi_objects.specs.Queues.{Queue}
+use Rattle.settled_runs.proofs.Names.{◌≡◌, ℕ, zero, suc, ◌+◌, ◌≤◌, Bool, true, false, List, [], ◌∷◌, Option, Some, refl, ◌∙◌, ap, subst, arith, ◌==◌, not, nat_lt, map, slice_get, eq-eqb, eqb-true, nat_tests, holds, how_many, Queue, Deed, Statement, fields, word_for, values, AllFit, IsBoundAt, IsStatement, AreStatements, Op, Reply, handle_of, some_same, fst_true, snd_true, handle_at, call_of, Line, Made, true_false, puts, queue_in, puts_into}
 use Rattle.workload_file.specs.declared.table.Sort.TheVariants as sort
-use Rattle.workload_file.specs.declared.workload.Deed.{Deed}
 use Rattle.workload_file.specs.declared.workload.Deed.TheVariants as deed
-use Rattle.workload_file.specs.declared.workload.Statement.{Statement}
-use Rattle.workload_file.specs.Table.{fields, row}
-use Rattle.workload_file.specs.Deeds.{deed_spelled, word_for, values}
-use Rattle.workload_file.specs.Formed.{AllFit, IsBoundAt, IsStatement, AreStatements}
-use Rattle.mtapi_machine.specs.declared.ops.Op.{Op}
+use Rattle.workload_file.specs.Table.{row}
+use Rattle.workload_file.specs.Deeds.{deed_spelled}
 use Rattle.mtapi_machine.specs.declared.ops.Op.TheVariants as op
-use Rattle.mtapi_machine.specs.declared.replies.Reply.{Reply}
-use Rattle.mtapi_machine.specs.Row.{handle_of}
-use Rattle.mtapi_machine.proofs.Changes.{some_same}
-use Rattle.mtapi_machine.proofs.Made.{fst_true, snd_true}
-use Rattle.sched_workers.specs.Calls.{handle_at, call_of}
-use Rattle.sched_workers.specs.Lines.{Line, Made}
 use Rattle.sched_workers.specs.Parts.{Carried}
-use Rattle.history_law.proofs.Answered.{true_false}
-use Rattle.settled_runs.specs.Granted.{puts}
-use Rattle.settled_runs.specs.Plain.{queue_in}
-use Rattle.settled_runs.specs.Settled.{puts_into, keep_limits}
+use Rattle.settled_runs.specs.Settled.{keep_limits}
 use Rattle.settled_runs.proofs.Counted.{bit, asked, CallAsks, statements_ask}
 use Rattle.settled_runs.proofs.Along.{BoundBy, step_bound, step_statement}
 use Rattle.settled_runs.proofs.Each.{is_outside}

@@ -1,41 +1,14 @@
 -- In a quiet history a queue and a task of a queue aren't refused for which there is room and all that they need.
-use Rattle.std.proofs.Common.{◌≡◌, ℕ, ◌+◌, ◌≤◌, ◌<◌, Bool, true, false, cond, List, [], ◌∷◌, Option, Some, refl, sym, ◌∙◌, ap, subst, arith, ℤ}
-use Rattle.std.specs.Prelude.{◌==◌, ◌&&◌, ◌||◌, not, nat_lt, nat_le}
-use Rattle.std.proofs.lemmas.Bool.{eq-eqb}
-use Rattle.std.proofs.lemmas.Bool.Decides.{nat_tests}
-use Rattle.mtapi_values.specs.Conditions.{holds}
-use Rattle.mtapi_values.specs.declared.masks.Mask.{Mask}
-use Rattle.mtapi_values.specs.declared.ends.TaskEnd.{TaskEnd}
-use Rattle.mtapi_values.specs.declared.ends.TaskEnd.TheVariants.{Failed}
-use Rattle.mtapi_values.specs.declared.handles.GroupHandle.{GroupHandle}
-use Rattle.mtapi_values.specs.declared.handles.QueueHandle.{QueueHandle}
+use Rattle.settled_runs.proofs.Names.{◌≡◌, ℕ, ◌+◌, ◌≤◌, ◌<◌, Bool, true, false, cond, List, [], ◌∷◌, Option, Some, refl, sym, ◌∙◌, ap, subst, arith, ℤ, ◌==◌, ◌&&◌, ◌||◌, not, nat_lt, nat_le, eq-eqb, nat_tests, holds, Mask, TaskEnd, Failed, GroupHandle, QueueHandle, entry, Listed, live_object, any_live, any_listed, how_many, count_listed, with_fields, gone, has_job, new_action, Task, Running, is_unended, with_state, with_notes, ended, is_member, freed, let_go, Queue, is_in, is_unended_in, Op, Reply, Handle, Mtapi, Terms, State, opening, queues, Move, Queues, withdraws, starts_task, runs_task, ends_task, ends_waiting, notes, leaves, frees_members, lets_members_go, makes, alters, removes, is_fresh, apply, after_moves, Row, Allows, after_row, handle_of, live, new_queue, NodeEntry, next, Legal, after, IsMade, AltersObject, makes_kind, given, on_only, on_live, by_moves, sorts_keep, some_entry, entries_that, true_false, none_first, Every, every_issue, every_change, sort_move, is_handle, HasRoom, HasAction, IsServed, GroupIsMade, makes_queue, puts, IsQueued, Asks, IsGranted}
 use Rattle.mtapi_values.specs.declared.handles.ObjectKind.TheVariants as kinds
 use Rattle.mtapi_values.specs.declared.statuses.MtapiStatus.TheVariants as m
-use Rattle.history.specs.Histories.{entry}
-use Rattle.handle_pool.specs.Issued.{Listed, live_of, live_object, any_live, any_listed, how_many, count_listed, change, change_all, issue, with_fields, gone}
-use Rattle.mtapi_objects.specs.Actions.{has_job, new_action}
-use Rattle.mtapi_objects.specs.Tasks.{Task, Running, is_unended, with_state, with_notes, ended, end_each}
-use Rattle.mtapi_objects.specs.Groups.{is_member, freed, let_go}
-use Rattle.mtapi_objects.specs.Queues.{Queue, is_in, is_unended_in}
-use Rattle.mtapi_machine.specs.declared.ops.Op.{Op}
+use Rattle.handle_pool.specs.Issued.{live_of, change, change_all, issue}
+use Rattle.mtapi_objects.specs.Tasks.{end_each}
 use Rattle.mtapi_machine.specs.declared.ops.Op.TheVariants as op
-use Rattle.mtapi_machine.specs.declared.replies.Reply.{Reply}
-use Rattle.mtapi_machine.specs.declared.replies.Reply.TheVariants.{Handle, Mtapi}
-use Rattle.mtapi_machine.specs.declared.terms.Terms.{Terms}
-use Rattle.mtapi_machine.specs.State.{State, opening, queues}
-use Rattle.mtapi_machine.specs.Moves.{Move, Queues, withdraws, starts_task, runs_task, ends_task, ends_waiting, notes, leaves, frees_members, lets_members_go, makes, alters, removes, is_fresh, apply, after_moves}
-use Rattle.mtapi_machine.specs.Row.{Row, Allows, after_row, handle_of, live}
 use Rattle.mtapi_machine.specs.Rows.{row}
-use Rattle.mtapi_machine.specs.QueueRows.{new_queue}
-use Rattle.mtapi_machine.specs.Legal.{NodeEntry, next, LegalFrom, Legal, after_from, after}
-use Rattle.mtapi_machine.specs.Laws.{IsMade, AltersObject, makes_kind}
-use Rattle.mtapi_machine.proofs.Made.{given, on_only, on_live}
-use Rattle.mtapi_machine.proofs.Moves.{by_moves, sorts_keep}
-use Rattle.history_law.specs.Words.{some_entry, entries_that, makes as makes_object}
-use Rattle.history_law.proofs.Answered.{true_false, none_first}
-use Rattle.history_law.proofs.Every.{Every, every_issue, every_change}
-use Rattle.history_law.proofs.Sorts.{sort_move}
-use Rattle.settled_runs.specs.Granted.{is_handle, HasRoom, HasAction, IsServed, GroupIsMade, makes_queue, puts, puts_into, IsQueued, Asks, IsGranted}
+use Rattle.mtapi_machine.specs.Legal.{LegalFrom, after_from}
+use Rattle.history_law.specs.Words.{makes as makes_object}
+use Rattle.settled_runs.specs.Granted.{puts_into}
 use Rattle.settled_runs.proofs.Sizes.{no_start, queues_grow, tasks_grow}
 use Rattle.settled_runs.proofs.Stays.{made_objects_stay}
 use Rattle.settled_runs.proofs.Granted.{Passes, passes, passes_only, any_found, Serves, served, group_there, before, is_up, same_terms, allowed, room}

@@ -1,62 +1,22 @@
 -- In a run of a settled workload each statement, other than a wait for all tasks of a group, gets its plain reply.
-use Rattle.std.proofs.Common.{◌≡◌, ℕ, Bool, true, false, List, [], ◌∷◌, ◌++◌, Option, Some, None, refl, sym, ◌∙◌, ap, subst, append_assoc, ℤ}
-use Rattle.std.specs.Prelude.{◌&&◌, not, map, slice_get, option_and_then, IfSome}
-use Rattle.std.specs.List.{list_any}
-use Rattle.std.specs.Option.{option_map}
-use Rattle.std.proofs.lemmas.Bool.{eq-eqb}
-use Rattle.mtapi_values.specs.declared.ends.TaskEnd.{TaskEnd}
-use Rattle.mtapi_values.specs.declared.timeouts.Timeout.{Timeout}
+use Rattle.settled_runs.proofs.Names.{◌≡◌, ℕ, Bool, true, false, List, [], ◌∷◌, ◌++◌, Option, Some, None, refl, sym, ◌∙◌, ap, subst, append_assoc, ℤ, ◌&&◌, not, map, slice_get, option_and_then, IfSome, list_any, option_map, eq-eqb, TaskEnd, Timeout, Mask, Layout, GroupHandle, QueueHandle, entry, live_object, Action, NewTask, new_task, Queue, Deed, Statement, Workload, fields, word_for, values, place_used, AllFit, IsBoundAt, IsStatement, AreStatements, Op, Reply, Terms, State, opening, tasks, is_open, released, starts_task, is_fresh, after_moves, gives, handle_of, Allows, after_row, asked_for, asked_of, is_status, NodeEntry, IsNext, next, after, some_same, fst_true, snd_true, on_only, on_live, not_true, handle_at, group_at, call_of, Line, line, before_it, Made, Looked, granted, refuses_only, refuses_live, no_handle, true_false, SameTask, StartedAs, HasObject, started_as, has_new, cut_from, fresh_unlisted, run_terms, Part, verdict, all_statements, actions_in, queue_in, queue_at, no_faults, IsPlainTask, GrantedTo, AllGranted, SettledRun, Asks, is_infinite, is_alone, waits_for, is_startable, has_one_fault_a_group}
 use Rattle.mtapi_values.specs.declared.timeouts.Timeout.TheVariants as timeout
-use Rattle.mtapi_values.specs.declared.masks.Mask.{Mask}
-use Rattle.mtapi_values.specs.declared.handles.Layout.{Layout}
-use Rattle.mtapi_values.specs.declared.handles.GroupHandle.{GroupHandle}
-use Rattle.mtapi_values.specs.declared.handles.QueueHandle.{QueueHandle}
 use Rattle.mtapi_values.specs.declared.handles.ObjectKind.TheVariants as kinds
 use Rattle.mtapi_values.specs.declared.statuses.MtapiStatus.TheVariants as m
-use Rattle.history.specs.Histories.{entry}
-use Rattle.handle_pool.specs.Issued.{live_object}
-use Rattle.mtapi_objects.specs.Actions.{Action}
-use Rattle.mtapi_objects.specs.Tasks.{NewTask, new_task}
-use Rattle.mtapi_objects.specs.Queues.{Queue}
 use Rattle.workload_file.specs.declared.table.Sort.TheVariants as sort
-use Rattle.workload_file.specs.declared.workload.Deed.{Deed}
 use Rattle.workload_file.specs.declared.workload.Deed.TheVariants as deed
-use Rattle.workload_file.specs.declared.workload.Statement.{Statement}
-use Rattle.workload_file.specs.declared.workload.Workload.{Workload}
-use Rattle.workload_file.specs.Table.{fields, row as row_of}
-use Rattle.workload_file.specs.Deeds.{deed_spelled, word_for, values, place_used}
-use Rattle.workload_file.specs.Formed.{AllFit, IsBoundAt, IsStatement, AreStatements}
-use Rattle.mtapi_machine.specs.declared.ops.Op.{Op}
+use Rattle.workload_file.specs.Table.{row as row_of}
+use Rattle.workload_file.specs.Deeds.{deed_spelled}
 use Rattle.mtapi_machine.specs.declared.ops.Op.TheVariants as op
-use Rattle.mtapi_machine.specs.declared.replies.Reply.{Reply}
 use Rattle.mtapi_machine.specs.declared.replies.Reply.TheVariants as reply
-use Rattle.mtapi_machine.specs.declared.terms.Terms.{Terms}
-use Rattle.mtapi_machine.specs.State.{State, opening, tasks, is_open}
-use Rattle.mtapi_machine.specs.Moves.{released, starts_task, is_fresh, after_moves}
-use Rattle.mtapi_machine.specs.Row.{gives, handle_of, Allows, after_row}
 use Rattle.mtapi_machine.specs.Rows.{row}
-use Rattle.mtapi_machine.specs.TaskRows.{asked_for, asked_of}
-use Rattle.mtapi_machine.specs.Laws.{is_status}
-use Rattle.mtapi_machine.specs.Legal.{NodeEntry, IsNext, next, after_from, after}
+use Rattle.mtapi_machine.specs.Legal.{after_from}
 use Rattle.mtapi_machine.specs.Ends.{end_at}
-use Rattle.mtapi_machine.proofs.Changes.{some_same}
-use Rattle.mtapi_machine.proofs.Made.{fst_true, snd_true, on_only, on_live, not_true}
-use Rattle.sched_workers.specs.Calls.{handle_at, group_at, call_of}
-use Rattle.sched_workers.specs.Lines.{Line, line, lines_of, before_it, Made, Looked}
+use Rattle.sched_workers.specs.Lines.{lines_of}
 use Rattle.sched_workers.specs.Parts.{Carried}
-use Rattle.history_law.proofs.Accepted.{granted, refuses_only, refuses_live, no_handle}
-use Rattle.history_law.proofs.Answered.{true_false}
-use Rattle.history_law.proofs.Ages.{SameTask}
-use Rattle.history_law.proofs.Objects.{StartedAs, HasObject, started_as, has_new, cut_from}
-use Rattle.history_law.proofs.Reuse.{fresh_unlisted}
-use Rattle.run_report.specs.Report.{run_terms}
-use Rattle.workload_file.specs.declared.workload.Part.{Part}
-use Rattle.mtapi_machine.specs.GroupRows.{verdict}
-use Rattle.settled_runs.specs.Plain.{all_statements, actions_in, queue_in, queue_at, task_in, plain_end, no_faults}
-use Rattle.settled_runs.specs.PlainReplies.{IsPlainTask, ArePlain, IsPlainReply}
-use Rattle.settled_runs.specs.RunGranted.{GrantedTo, AllGranted, SettledRun}
-use Rattle.settled_runs.specs.Granted.{Asks}
-use Rattle.settled_runs.specs.Settled.{is_infinite, is_alone, waits_for, is_startable, is_settled_deed, are_settled, has_one_fault_a_group, have_one_fault_a_group}
+use Rattle.settled_runs.specs.Plain.{task_in, plain_end}
+use Rattle.settled_runs.specs.PlainReplies.{ArePlain, IsPlainReply}
+use Rattle.settled_runs.specs.Settled.{is_settled_deed, are_settled, have_one_fault_a_group}
 use Rattle.settled_runs.proofs.Stays.{made_objects_stay}
 use Rattle.settled_runs.proofs.RunEnds.{at_entry, ends_as_asked}
 use Rattle.settled_runs.proofs.Cuts.{Cut, cut}

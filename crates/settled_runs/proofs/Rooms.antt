@@ -1,34 +1,10 @@
 -- In a run of a settled workload there is room for each object that is asked for, and the ids of queues are new.
-use Rattle.std.proofs.Common.{◌≡◌, ℕ, ◌+◌, ◌≤◌, ◌<◌, Bool, true, false, cond, List, [], ◌∷◌, ◌++◌, Option, Some, None, refl, ap, subst, arith}
-use Rattle.std.specs.Prelude.{◌==◌, ◌&&◌, ◌||◌, nat_le, is_some}
-use Rattle.std.specs.List.{list_any}
-use Rattle.std.proofs.lemmas.Bool.{eqb-true}
-use Rattle.std.proofs.lemmas.Bool.Decides.{nat_tests}
-use Rattle.mtapi_values.specs.Attributes.{NodeSettings}
-use Rattle.mtapi_values.specs.Conditions.{holds}
-use Rattle.mtapi_values.specs.declared.handles.Layout.{Layout}
-use Rattle.mtapi_values.specs.declared.handles.ObjectKind.{ObjectKind}
+use Rattle.settled_runs.proofs.Names.{◌≡◌, ℕ, ◌+◌, ◌≤◌, ◌<◌, Bool, true, false, cond, List, [], ◌∷◌, ◌++◌, Option, Some, None, refl, ap, subst, arith, ◌==◌, ◌&&◌, ◌||◌, nat_le, is_some, list_any, eqb-true, nat_tests, NodeSettings, holds, Layout, ObjectKind, entry, how_many, Queue, Deed, Statement, Workload, Op, NodeEntry, fst_true, snd_true, not_true, call_of, Line, some_entry, entries_that, true_false, run_terms, is_handle, makes_one, HasRoom, makes_queue, all_statements, queue_in, has_new_id, makes_group, makes_task, has_room, SettledRun}
 use Rattle.mtapi_values.specs.declared.handles.ObjectKind.TheVariants as kinds
-use Rattle.history.specs.Histories.{entry}
-use Rattle.handle_pool.specs.Issued.{how_many}
-use Rattle.mtapi_objects.specs.Queues.{Queue}
-use Rattle.workload_file.specs.declared.workload.Deed.{Deed}
 use Rattle.workload_file.specs.declared.workload.Deed.TheVariants as deed
-use Rattle.workload_file.specs.declared.workload.Statement.{Statement}
-use Rattle.workload_file.specs.declared.workload.Workload.{Workload}
-use Rattle.mtapi_machine.specs.declared.ops.Op.{Op}
 use Rattle.mtapi_machine.specs.declared.ops.Op.TheVariants as op
-use Rattle.mtapi_machine.specs.Legal.{NodeEntry}
-use Rattle.mtapi_machine.proofs.Made.{fst_true, snd_true, not_true}
-use Rattle.sched_workers.specs.Calls.{call_of}
-use Rattle.sched_workers.specs.Lines.{Line}
-use Rattle.history_law.specs.Words.{makes, some_entry, entries_that}
-use Rattle.history_law.proofs.Answered.{true_false}
-use Rattle.run_report.specs.Report.{run_terms}
-use Rattle.settled_runs.specs.Granted.{is_handle, makes_one, HasRoom, makes_queue}
-use Rattle.settled_runs.specs.Plain.{all_statements, queue_in}
-use Rattle.settled_runs.specs.Settled.{has_new_id, has_different_ids, makes_action, makes_group, makes_task, has_room}
-use Rattle.settled_runs.specs.RunGranted.{SettledRun}
+use Rattle.history_law.specs.Words.{makes}
+use Rattle.settled_runs.specs.Settled.{has_different_ids, makes_action}
 use Rattle.settled_runs.proofs.Cuts.{Cut}
 use Rattle.settled_runs.proofs.Counted.{bit, asks, asks_append, CallAsks, IsClass, run_asks}
 use Rattle.settled_runs.proofs.Opened.{seats_are}

@@ -1,48 +1,17 @@
 -- In a run of a settled workload each task has its plain end.
-use Rattle.std.proofs.Common.{◌≡◌, ℕ, Bool, true, false, cond, List, [], ◌∷◌, ◌++◌, Some, refl, sym, ◌∙◌, ap, subst, ℤ, append_assoc, length}
-use Rattle.std.specs.Prelude.{◌==◌, ◌&&◌, ◌||◌, not}
-use Rattle.std.specs.Option.{option_map}
-use Rattle.std.specs.List.{find, list_all}
-use Rattle.std.proofs.lemmas.Bool.{eq-eqb, eqb-true}
-use Rattle.mtapi_values.specs.declared.kinds.Kind.{Kind}
-use Rattle.mtapi_values.specs.declared.handles.Layout.{Layout}
-use Rattle.mtapi_values.specs.declared.ends.TaskEnd.{TaskEnd}
+use Rattle.settled_runs.proofs.Names.{◌≡◌, ℕ, Bool, true, false, cond, List, [], ◌∷◌, ◌++◌, Some, refl, sym, ◌∙◌, ap, subst, ℤ, append_assoc, length, ◌==◌, ◌&&◌, ◌||◌, not, option_map, find, list_all, eq-eqb, eqb-true, Kind, Layout, TaskEnd, entry, Listed, with_fields, Action, with_enabled, has_job, Task, NewTask, new_task, kind_number, Workload, Op, Reply, Terms, State, opening, Move, makes_action, enables, withdraws, makes, alters, removes, apply, task_end, NodeEntry, next, Legal, after, IsMade, MakesAction, end_in, some_same, fst_true, snd_true, by_moves, sorts_keep, accepted_end, SameTask, Under, true_false, Every, every_issue, every_change, every_at, StartedAs, started_as, task_then, cut_from, has_behind, HasObject, by_seats, RunOf, run_terms, is_quiet, AreQuiet, IsPlain, none_withdrawn, quiet_tasks_end_plainly, all_statements, actions_in, are_alike, are_settled_parts, has_room, has_one_fault_a_group}
 use Rattle.mtapi_values.specs.declared.handles.ObjectKind.TheVariants as kinds
 use Rattle.action_fn.specs.Answers.{answer_of}
-use Rattle.history.specs.Histories.{entry}
-use Rattle.handle_pool.specs.Issued.{Listed, with_fields}
-use Rattle.mtapi_objects.specs.Actions.{Action, with_enabled, has_job}
-use Rattle.mtapi_objects.specs.Tasks.{Task, NewTask, new_task, kind_number}
-use Rattle.workload_file.specs.declared.workload.Workload.{Workload}
-use Rattle.mtapi_machine.specs.declared.ops.Op.{Op}
 use Rattle.mtapi_machine.specs.declared.ops.Op.TheVariants as op
-use Rattle.mtapi_machine.specs.declared.replies.Reply.{Reply}
 use Rattle.mtapi_machine.specs.declared.replies.Reply.TheVariants as reply
-use Rattle.mtapi_machine.specs.declared.terms.Terms.{Terms}
-use Rattle.mtapi_machine.specs.State.{State, opening}
-use Rattle.mtapi_machine.specs.Moves.{Move, makes_action, enables, withdraws, makes, alters, removes, apply}
-use Rattle.mtapi_machine.specs.WorkRows.{task_end}
-use Rattle.mtapi_machine.specs.Legal.{NodeEntry, next, LegalFrom, Legal, after_from, after}
-use Rattle.mtapi_machine.specs.Laws.{IsMade, MakesAction}
-use Rattle.mtapi_machine.specs.Ends.{end_in, end_at}
-use Rattle.mtapi_machine.proofs.Changes.{some_same}
-use Rattle.mtapi_machine.proofs.Made.{fst_true, snd_true}
-use Rattle.mtapi_machine.proofs.Moves.{by_moves, sorts_keep}
+use Rattle.mtapi_machine.specs.Legal.{LegalFrom, after_from}
+use Rattle.mtapi_machine.specs.Ends.{end_at}
 use Rattle.history_law.specs.Words.{makes as makes_object, is_handle}
 use Rattle.history_law.specs.Accepted.{accepted_by, accepted, EndsOnce}
-use Rattle.history_law.proofs.Accepted.{accepted_end}
-use Rattle.history_law.proofs.Ages.{SameTask, Under}
-use Rattle.history_law.proofs.Answered.{true_false}
-use Rattle.history_law.proofs.Every.{Every, every_issue, every_change, every_at}
-use Rattle.history_law.proofs.Objects.{StartedAs, started_as, task_then, cut_from, has_behind, HasObject}
-use Rattle.history_law.proofs.Bounds.{by_seats}
-use Rattle.sched_workers.specs.RunOf.{RunOf}
-use Rattle.run_report.specs.Report.{run_terms}
-use Rattle.history_law.specs.Quiet.{is_quiet, AreQuiet, task_at, IsPlain}
+use Rattle.history_law.specs.Quiet.{task_at}
 use Rattle.history_law.proofs.KindNumbers.{same_kind}
-use Rattle.history_law.proofs.Quiet.{none_withdrawn, quiet_tasks_end_plainly}
-use Rattle.settled_runs.specs.Plain.{all_statements, actions_in, plain_end}
-use Rattle.settled_runs.specs.Settled.{are_alike, are_settled_parts, has_one_kind_a_job, has_different_ids, has_room, keep_limits, has_one_fault_a_group, is_settled}
+use Rattle.settled_runs.specs.Plain.{plain_end}
+use Rattle.settled_runs.specs.Settled.{has_one_kind_a_job, has_different_ids, keep_limits, is_settled}
 use Rattle.settled_runs.specs.RunEnds.{SettledTasksEndAsPlanned}
 use Rattle.settled_runs.proofs.Asked.{is_listed, is_planned, ArePlanned, run_planned}
 

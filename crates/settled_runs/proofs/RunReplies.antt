@@ -1,18 +1,8 @@
 -- In a run of a settled workload the statements of each part get their plain replies.
-use Rattle.std.proofs.Common.{◌≡◌, ℕ, suc, Bool, true, arith, List, [], ◌∷◌, Option}
-use Rattle.std.specs.List.{list_all, AllByRecursion as Each}
-use Rattle.workload_file.specs.declared.workload.Part.{Part}
-use Rattle.mtapi_machine.specs.declared.replies.Reply.{Reply}
-use Rattle.mtapi_machine.specs.Legal.{after}
+use Rattle.settled_runs.proofs.Names.{◌≡◌, ℕ, suc, Bool, true, arith, List, [], ◌∷◌, Option, list_all, Part, Reply, after, fst_true, snd_true, run_terms, Action, TaskEnd, all_statements, actions_in, no_faults, has_one_fault_a_group, PartsReplyPlainly, SettledRepliesArePlain}
+use Rattle.std.specs.List.{AllByRecursion as Each}
 use Rattle.mtapi_machine.specs.Ends.{end_at}
-use Rattle.mtapi_machine.proofs.Made.{fst_true, snd_true}
-use Rattle.run_report.specs.Report.{run_terms}
-use Rattle.mtapi_objects.specs.Actions.{Action}
-use Rattle.mtapi_values.specs.declared.ends.TaskEnd.{TaskEnd}
-use Rattle.settled_runs.specs.Plain.{all_statements, actions_in, no_faults}
 use Rattle.settled_runs.specs.PlainReplies.{ArePlain}
-use Rattle.settled_runs.specs.Settled.{has_one_fault_a_group}
-use Rattle.settled_runs.specs.RunReplies.{PartsReplyPlainly, SettledRepliesArePlain}
 use Rattle.settled_runs.proofs.Each.{one_fault, AllSeats, map_seats, with_each}
 use Rattle.settled_runs.proofs.Walk.{Seat}
 use Rattle.settled_runs.proofs.ReplyWalk.{seat_plain}

@@ -1,21 +1,11 @@
 -- The report of a run of a settled workload is the plain one.
-use Rattle.std.proofs.Common.{◌≡◌, ℕ, ◌+◌, List, [], ◌∷◌, ◌++◌, Option, refl, sym, ◌∙◌, ap, subst}
-use Rattle.std.specs.Prelude.{map}
-use Rattle.std.specs.List.{flat_map}
-use Rattle.mtapi_values.specs.declared.ends.TaskEnd.{TaskEnd}
-use Rattle.mtapi_objects.specs.Actions.{Action}
-use Rattle.mtapi_values.specs.declared.handles.Layout.{Layout}
-use Rattle.workload_file.specs.declared.workload.Part.{Part}
-use Rattle.workload_file.specs.declared.workload.Workload.{Workload}
-use Rattle.mtapi_machine.specs.Legal.{NodeEntry, after}
+use Rattle.settled_runs.proofs.Names.{◌≡◌, ℕ, ◌+◌, List, [], ◌∷◌, ◌++◌, Option, refl, sym, ◌∙◌, ap, subst, map, flat_map, TaskEnd, Action, Layout, Part, Workload, NodeEntry, after, all_told, run_terms, parts_told, all_statements, actions_in, plain_task_lines, plain_call_lines, SettledRun, PartsReplyPlainly}
 use Rattle.mtapi_machine.specs.Ends.{end_at}
-use Rattle.run_report.specs.Replies.{further_told, all_told}
-use Rattle.run_report.specs.Report.{run_terms, parts_told, report}
+use Rattle.run_report.specs.Replies.{further_told}
+use Rattle.run_report.specs.Report.{report}
 use Rattle.run_report.proofs.RunReplies.{reads_the_run}
-use Rattle.settled_runs.specs.Plain.{all_statements, actions_in, plain_task_lines, plain_call_lines, plain_report}
+use Rattle.settled_runs.specs.Plain.{plain_report}
 use Rattle.settled_runs.specs.PlainReplies.{PartsArePlain}
-use Rattle.settled_runs.specs.RunGranted.{SettledRun}
-use Rattle.settled_runs.specs.RunReplies.{PartsReplyPlainly}
 use Rattle.settled_runs.specs.RunReport.{SettledReportsArePlain, SettledReportsAreAlike}
 use Rattle.settled_runs.proofs.PlainReplies.{plain_replies}
 use Rattle.settled_runs.proofs.RunReplies.{settled_replies_are_plain}

@@ -1,14 +1,8 @@
 -- Which tasks were put into a group is told by the lines of its own seat.
-use Rattle.std.proofs.Common.{◌≡◌, ℕ, Bool, true, false, cond, List, [], ◌∷◌, ◌++◌, length, refl, ◌∙◌, ap, arith}
-use Rattle.std.specs.Prelude.{◌==◌, ◌||◌}
+use Rattle.settled_runs.proofs.Names.{◌≡◌, ℕ, Bool, true, false, cond, List, [], ◌∷◌, ◌++◌, length, refl, ◌∙◌, ap, arith, ◌==◌, ◌||◌, eq-eqb, entry, is_pending, NodeEntry, Line, line, true_false, starts_member, looks_at_all, with_new, members_behind}
 use Rattle.std.specs.List.{AllByRecursion as Each}
-use Rattle.std.proofs.lemmas.Bool.{eq-eqb}
-use Rattle.history.specs.Histories.{entry}
-use Rattle.mtapi_machine.specs.Kept.{is_pending}
-use Rattle.mtapi_machine.specs.Legal.{NodeEntry}
-use Rattle.sched_workers.specs.Lines.{Line, line, lines_of}
-use Rattle.history_law.proofs.Answered.{true_false}
-use Rattle.settled_runs.specs.Verdicts.{starts_member, looks_at_all, with_new, members_behind, members_of}
+use Rattle.sched_workers.specs.Lines.{lines_of}
+use Rattle.settled_runs.specs.Verdicts.{members_of}
 use Rattle.settled_runs.proofs.Owners.{uses}
 use Rattle.settled_runs.proofs.Each.{OnlyBy}
 

@@ -1,35 +1,15 @@
 -- How many objects a history made, and that there is room for another.
-use Rattle.std.proofs.Common.{◌≡◌, ℕ, ◌+◌, ◌≤◌, ◌<◌, Bool, true, false, cond, List, [], ◌∷◌, refl, ◌∙◌, arith, length}
-use Rattle.std.specs.Prelude.{◌==◌, ◌&&◌, not}
-use Rattle.std.proofs.lemmas.Bool.Decides.{nat_tests}
-use Rattle.mtapi_values.specs.declared.handles.ObjectKind.{ObjectKind}
+use Rattle.settled_runs.proofs.Names.{◌≡◌, ℕ, ◌+◌, ◌≤◌, ◌<◌, Bool, true, false, cond, List, [], ◌∷◌, refl, ◌∙◌, arith, length, ◌==◌, ◌&&◌, not, nat_tests, ObjectKind, TaskEnd, Failed, entry, Listed, with_fields, gone, live_object, Action, with_enabled, Task, NewTask, Running, with_state, with_notes, ended, is_member, freed, let_go, Op, Reply, Mtapi, Terms, State, opening, Move, Groups, Queues, all_of, makes_action, enables, withdraws, starts_task, runs_task, ends_task, ends_waiting, notes, leaves, frees_members, lets_members_go, makes, alters, removes, apply, after_moves, Allows, after_row, NodeEntry, next, after, IsMade, MakesAction, StartsTask, makes_kind, given, on_only, on_live, by_moves, sorts_keep, objects_of, entries_that, sort_move, true_false, is_handle, makes_one, HasRoom}
 use Rattle.mtapi_values.specs.declared.handles.ObjectKind.TheVariants as kind
-use Rattle.mtapi_values.specs.declared.ends.TaskEnd.{TaskEnd}
-use Rattle.mtapi_values.specs.declared.ends.TaskEnd.TheVariants.{Failed}
 use Rattle.mtapi_values.specs.declared.statuses.MtapiStatus.TheVariants as m
-use Rattle.history.specs.Histories.{entry}
-use Rattle.handle_pool.specs.Issued.{Listed, live_of, change, change_all, issue, retired, is_full, with_fields, gone, live_object}
+use Rattle.handle_pool.specs.Issued.{live_of, change, change_all, issue, retired, is_full}
 use Rattle.handle_pool.specs.Slots.{generation_of}
-use Rattle.mtapi_objects.specs.Actions.{Action, with_enabled}
-use Rattle.mtapi_objects.specs.Tasks.{Task, NewTask, Running, with_state, with_notes, ended, end_each}
-use Rattle.mtapi_objects.specs.Groups.{is_member, freed, let_go}
-use Rattle.mtapi_machine.specs.declared.ops.Op.{Op}
+use Rattle.mtapi_objects.specs.Tasks.{end_each}
 use Rattle.mtapi_machine.specs.declared.ops.Op.TheVariants as op
-use Rattle.mtapi_machine.specs.declared.replies.Reply.{Reply}
-use Rattle.mtapi_machine.specs.declared.replies.Reply.TheVariants.{Mtapi}
-use Rattle.mtapi_machine.specs.declared.terms.Terms.{Terms}
-use Rattle.mtapi_machine.specs.State.{State, opening}
-use Rattle.mtapi_machine.specs.Moves.{Move, Sort, Groups, Queues, all_of, makes_action, enables, withdraws, starts_task, runs_task, ends_task, ends_waiting, notes, leaves, frees_members, lets_members_go, makes, alters, removes, apply, after_moves}
-use Rattle.mtapi_machine.specs.Row.{Allows, after_row}
+use Rattle.mtapi_machine.specs.Moves.{Sort}
 use Rattle.mtapi_machine.specs.Rows.{row}
-use Rattle.mtapi_machine.specs.Legal.{NodeEntry, next, LegalFrom, after_from, after}
-use Rattle.mtapi_machine.specs.Laws.{IsMade, MakesAction, StartsTask, makes_kind}
-use Rattle.mtapi_machine.proofs.Made.{given, on_only, on_live}
-use Rattle.mtapi_machine.proofs.Moves.{by_moves, sorts_keep}
-use Rattle.history_law.specs.Words.{objects_of, makes as makes_object, entries_that}
-use Rattle.history_law.proofs.Sorts.{sort_move}
-use Rattle.history_law.proofs.Answered.{true_false}
-use Rattle.settled_runs.specs.Granted.{is_handle, makes_one, HasRoom}
+use Rattle.mtapi_machine.specs.Legal.{LegalFrom, after_from}
+use Rattle.history_law.specs.Words.{makes as makes_object}
 
 -- how many objects of the kind there are
 abbrev pub size : ObjectKind → State → ℕ

@@ -1,9 +1,6 @@
 -- Statuses that are compared by number.
-use Rattle.std.proofs.Common.{◌≡◌, ℕ, cond, refl, sym, ◌∙◌, ap}
-use Rattle.std.specs.Prelude.{◌==◌}
-use Rattle.mtapi_values.specs.declared.statuses.MtapiStatus.{MtapiStatus}
+use Rattle.settled_runs.proofs.Names.{◌≡◌, ℕ, cond, refl, sym, ◌∙◌, ap, ◌==◌, MtapiStatus, mtapi_number}
 use Rattle.mtapi_values.specs.declared.statuses.MtapiStatus.TheVariants as t
-use Rattle.mtapi_values.specs.Statuses.{mtapi_number}
 
 status_from : ℕ → MtapiStatus
 status_from n =

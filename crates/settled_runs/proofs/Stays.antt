@@ -1,36 +1,11 @@
 -- In a quiet history what was made stays as it was made.
-use Rattle.std.proofs.Common.{◌≡◌, ℕ, true, List, [], ◌∷◌, ◌++◌, Some, refl, sym, ◌∙◌, ap, subst}
-use Rattle.std.specs.Prelude.{is_some}
-use Rattle.std.proofs.lemmas.Bool.{eq-eqb}
+use Rattle.settled_runs.proofs.Names.{◌≡◌, ℕ, true, List, [], ◌∷◌, ◌++◌, Some, refl, sym, ◌∙◌, ap, subst, is_some, eq-eqb, entry, live_object, Action, new_action, Group, new_group, Queue, Op, Handle, State, opening, Move, Groups, Queues, makes_action, enables, withdraws, makes, alters, removes, apply, after_moves, Allows, after_row, new_queue, NodeEntry, IsNext, next, after, IsMade, EnablesAction, AltersObject, RemovesObject, on_only, by_moves, sorts_keep, granted, refuses_only, live_listed, true_false, at_issue_here, at_issue_other, cut_from, cut_after, fresh_unlisted, fresh_apart, issued_as, is_quiet, AreQuiet, none_withdrawn, IsThere, MadeObjectsStay}
 use Rattle.mtapi_values.specs.declared.handles.ObjectKind.TheVariants as kind
-use Rattle.history.specs.Histories.{entry}
-use Rattle.handle_pool.specs.Issued.{live_object}
-use Rattle.mtapi_objects.specs.Actions.{Action, new_action}
-use Rattle.mtapi_objects.specs.Groups.{Group, new_group}
-use Rattle.mtapi_objects.specs.Queues.{Queue}
-use Rattle.mtapi_machine.specs.declared.ops.Op.{Op}
 use Rattle.mtapi_machine.specs.declared.ops.Op.TheVariants as op
-use Rattle.mtapi_machine.specs.declared.replies.Reply.TheVariants.{Handle}
-use Rattle.mtapi_machine.specs.State.{State, opening}
-use Rattle.mtapi_machine.specs.Moves.{Move, Groups, Queues, makes_action, enables, withdraws, makes, alters, removes, apply, after_moves}
-use Rattle.mtapi_machine.specs.Row.{Allows, after_row}
 use Rattle.mtapi_machine.specs.Rows.{row}
-use Rattle.mtapi_machine.specs.QueueRows.{new_queue}
-use Rattle.mtapi_machine.specs.Legal.{NodeEntry, IsNext, next, LegalFrom, after_from, after}
-use Rattle.mtapi_machine.specs.Laws.{IsMade, EnablesAction, AltersObject, RemovesObject}
-use Rattle.mtapi_machine.proofs.Made.{on_only}
-use Rattle.mtapi_machine.proofs.Moves.{by_moves, sorts_keep}
+use Rattle.mtapi_machine.specs.Legal.{LegalFrom, after_from}
 use Rattle.history_law.specs.Words.{makes as makes_kind}
-use Rattle.history_law.proofs.Accepted.{granted, refuses_only}
-use Rattle.history_law.proofs.Ages.{live_listed}
-use Rattle.history_law.proofs.Answered.{true_false}
-use Rattle.history_law.proofs.AtHandles.{at_issue_here, at_issue_other}
-use Rattle.history_law.proofs.Objects.{cut_from, cut_after}
-use Rattle.history_law.proofs.Reuse.{fresh_unlisted, fresh_apart, issued_as}
 use Rattle.history_law.proofs.Unmoved.{live_stays}
-use Rattle.history_law.specs.Quiet.{is_quiet, AreQuiet}
-use Rattle.history_law.proofs.Quiet.{none_withdrawn}
-use Rattle.settled_runs.specs.Granted.{IsThere, MadeObjectsStay}
 
 -- The entry that makes it
 

@@ -1,40 +1,15 @@
 -- In a run of a settled workload each wait for all tasks of a group is told the fault that the plain report tells of it.
-use Rattle.std.proofs.Common.{◌≡◌, ◌⊎◌, inl, inr, ℕ, suc, ◌+◌, true, false, List, [], ◌∷◌, ◌++◌, length, Option, Some, refl, sym, ◌∙◌, ap, subst, arith, append_assoc, ◌<◌}
-use Rattle.std.specs.Prelude.{map, option_and_then}
-use Rattle.std.proofs.lemmas.List.{append-nil}
+use Rattle.settled_runs.proofs.Names.{◌≡◌, ◌⊎◌, inl, inr, ℕ, suc, ◌+◌, true, false, List, [], ◌∷◌, ◌++◌, length, Option, Some, refl, sym, ◌∙◌, ap, subst, arith, append_assoc, ◌<◌, map, option_and_then, append-nil, Layout, TaskEnd, MtapiStatus, Action, fault_of, entry, Statement, Workload, IsBoundAt, AreStatements, Reply, Terms, handle_of, is_pending, verdict, NodeEntry, Legal, after, handle_at, call_of, Line, line, Made, closes, NoClose, front_stays, true_false, run_terms, AreQuiet, all_statements, actions_in, no_faults, AllGranted, SettledRun, GoOn, IsVerdict, goes_on}
 use Rattle.std.specs.List.{AllByRecursion as Each}
-use Rattle.mtapi_values.specs.declared.handles.Layout.{Layout}
-use Rattle.mtapi_values.specs.declared.ends.TaskEnd.{TaskEnd}
-use Rattle.mtapi_values.specs.declared.statuses.MtapiStatus.{MtapiStatus}
-use Rattle.mtapi_objects.specs.Actions.{Action}
-use Rattle.mtapi_objects.specs.Groups.{fault_of}
-use Rattle.history.specs.Histories.{entry}
 use Rattle.workload_file.specs.declared.table.Sort.TheVariants as sort
-use Rattle.workload_file.specs.declared.workload.Statement.{Statement}
-use Rattle.workload_file.specs.declared.workload.Workload.{Workload}
-use Rattle.workload_file.specs.Formed.{IsBoundAt, AreStatements}
 use Rattle.mtapi_machine.specs.declared.ops.Op.TheVariants as op
-use Rattle.mtapi_machine.specs.declared.replies.Reply.{Reply}
 use Rattle.mtapi_machine.specs.declared.replies.Reply.TheVariants as reply
-use Rattle.mtapi_machine.specs.declared.terms.Terms.{Terms}
-use Rattle.mtapi_machine.specs.Row.{handle_of}
-use Rattle.mtapi_machine.specs.Kept.{is_pending}
-use Rattle.mtapi_machine.specs.GroupRows.{verdict}
-use Rattle.mtapi_machine.specs.Legal.{NodeEntry, Legal, after}
 use Rattle.mtapi_machine.specs.Ends.{end_at}
-use Rattle.sched_workers.specs.Calls.{handle_at, call_of}
-use Rattle.sched_workers.specs.Lines.{Line, line, lines_of, Made}
+use Rattle.sched_workers.specs.Lines.{lines_of}
 use Rattle.sched_workers.specs.Parts.{Carried}
-use Rattle.history_law.specs.Seats.{closes, NoClose}
-use Rattle.history_law.proofs.Accepted.{front_stays}
-use Rattle.history_law.proofs.Answered.{true_false}
-use Rattle.run_report.specs.Report.{run_terms}
-use Rattle.history_law.specs.Quiet.{AreQuiet}
 use Rattle.mtapi_values.specs.declared.handles.ObjectKind.TheVariants as kinds
-use Rattle.settled_runs.specs.Plain.{all_statements, actions_in, no_faults}
-use Rattle.settled_runs.specs.RunGranted.{AllGranted, SettledRun}
 use Rattle.settled_runs.specs.Settled.{are_settled, have_one_fault_a_group}
-use Rattle.settled_runs.specs.Verdicts.{members_of, GoOn, IsVerdict, goes_on}
+use Rattle.settled_runs.specs.Verdicts.{members_of}
 use Rattle.settled_runs.proofs.Stays.{quiet_front, quiet_rest}
 use Rattle.settled_runs.proofs.Verdicts.{quiet_verdicts}
 use Rattle.settled_runs.proofs.Cuts.{Cut, cut}

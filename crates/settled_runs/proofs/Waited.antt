@@ -1,41 +1,17 @@
 -- In a run of a settled workload each wait for a task is told its end.
-use Rattle.std.proofs.Common.{◌≡◌, ◌⊎◌, inl, inr, ℕ, Bool, true, false, List, [], ◌∷◌, ◌++◌, Option, Some, None, refl, sym, ◌∙◌, ap, subst}
-use Rattle.std.specs.Prelude.{◌||◌, not, is_none, nat_lt, map, slice_get, option_and_then}
-use Rattle.std.specs.Option.{option_map}
-use Rattle.std.specs.List.{list_any, AllByRecursion as Each}
-use Rattle.mtapi_values.specs.Attributes.{NodeSettings}
-use Rattle.mtapi_values.specs.declared.handles.Layout.{Layout}
+use Rattle.settled_runs.proofs.Names.{◌≡◌, ◌⊎◌, inl, inr, ℕ, Bool, true, false, List, [], ◌∷◌, ◌++◌, Option, Some, None, refl, sym, ◌∙◌, ap, subst, ◌||◌, not, is_none, nat_lt, map, slice_get, option_and_then, option_map, list_any, NodeSettings, Layout, TaskEnd, entry, Action, Queue, Deed, Statement, Workload, IsBoundAt, AreStatements, Op, Reply, handle_of, is_status, is_pending, NodeEntry, fst_true, both_true, handle_at, group_at, call_of, Line, line, before_it, Made, true_false, run_terms, starts_alone, looks_at, AreLeft, actions_in, queue_at, serves, is_alone, is_startable, waits_for, AllGranted, SettledRun}
+use Rattle.std.specs.List.{AllByRecursion as Each}
 use Rattle.mtapi_values.specs.declared.handles.ObjectKind.TheVariants as kinds
-use Rattle.mtapi_values.specs.declared.ends.TaskEnd.{TaskEnd}
-use Rattle.history.specs.Histories.{entry}
-use Rattle.mtapi_objects.specs.Actions.{Action}
-use Rattle.mtapi_objects.specs.Queues.{Queue}
 use Rattle.workload_file.specs.declared.table.Sort.TheVariants as sort
-use Rattle.workload_file.specs.declared.workload.Deed.{Deed}
 use Rattle.workload_file.specs.declared.workload.Deed.TheVariants as deed
-use Rattle.workload_file.specs.declared.workload.Statement.{Statement}
-use Rattle.workload_file.specs.declared.workload.Workload.{Workload}
 use Rattle.workload_file.specs.Deeds.{binds}
-use Rattle.workload_file.specs.Formed.{IsBoundAt, AreStatements}
-use Rattle.mtapi_machine.specs.declared.ops.Op.{Op}
 use Rattle.mtapi_machine.specs.declared.ops.Op.TheVariants as op
-use Rattle.mtapi_machine.specs.declared.replies.Reply.{Reply}
 use Rattle.mtapi_machine.specs.declared.replies.Reply.TheVariants as reply
-use Rattle.mtapi_machine.specs.Row.{handle_of}
-use Rattle.mtapi_machine.specs.Laws.{is_status}
-use Rattle.mtapi_machine.specs.Kept.{is_pending}
-use Rattle.mtapi_machine.specs.Legal.{NodeEntry}
-use Rattle.mtapi_machine.proofs.Made.{fst_true, both_true}
-use Rattle.sched_workers.specs.Calls.{handle_at, group_at, call_of}
-use Rattle.sched_workers.specs.Lines.{Line, line, lines_of, before_it, Made}
+use Rattle.sched_workers.specs.Lines.{lines_of}
 use Rattle.sched_workers.specs.Parts.{Carried}
-use Rattle.history_law.proofs.Answered.{true_false}
-use Rattle.run_report.specs.Report.{run_terms}
 use Rattle.settled_runs.specs.Granted.{Made as MadeBy}
-use Rattle.settled_runs.specs.Waits.{starts_alone, looks_at, AreLeft}
-use Rattle.settled_runs.specs.Plain.{actions_in, queue_at, task_in}
-use Rattle.settled_runs.specs.Settled.{serves, is_alone, is_startable, waits_for, is_settled_deed, are_settled}
-use Rattle.settled_runs.specs.RunGranted.{AllGranted, SettledRun}
+use Rattle.settled_runs.specs.Plain.{task_in}
+use Rattle.settled_runs.specs.Settled.{is_settled_deed, are_settled}
 use Rattle.settled_runs.proofs.Waits.{quiet_looks_are_answered}
 use Rattle.settled_runs.proofs.Cuts.{Cut, cut}
 use Rattle.settled_runs.proofs.Opened.{legal_here, quiet_before}

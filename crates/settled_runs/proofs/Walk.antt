@@ -1,49 +1,19 @@
 -- In a run of a settled workload each statement that makes an object is given its handle.
-use Rattle.std.proofs.Common.{◌≡◌, ◌⊎◌, inl, inr, ℕ, zero, suc, ◌+◌, ◌≤◌, ◌<◌, Bool, true, false, cond, List, [], ◌∷◌, ◌++◌, Option, Some, None, refl, sym, ◌∙◌, ap, subst, arith, ℤ}
-use Rattle.std.specs.Prelude.{◌==◌, ◌&&◌, ◌||◌, not, nat_lt, nat_le, map, slice_get, option_and_then, IfSome}
-use Rattle.std.specs.Option.{option_map}
-use Rattle.std.specs.List.{list_any, AllByRecursion as Each}
-use Rattle.std.proofs.lemmas.Bool.{eq-eqb, eqb-true}
-use Rattle.std.proofs.lemmas.Bool.Decides.{nat_tests}
-use Rattle.std.proofs.lemmas.List.{append-nil}
-use Rattle.mtapi_values.specs.declared.kinds.Kind.{Kind}
-use Rattle.mtapi_values.specs.declared.masks.Mask.{Mask}
+use Rattle.settled_runs.proofs.Names.{◌≡◌, ◌⊎◌, inl, inr, ℕ, zero, suc, ◌+◌, ◌≤◌, ◌<◌, Bool, true, false, cond, List, [], ◌∷◌, ◌++◌, Option, Some, None, refl, sym, ◌∙◌, ap, subst, arith, ℤ, ◌==◌, ◌&&◌, ◌||◌, not, nat_lt, nat_le, map, slice_get, option_and_then, IfSome, option_map, list_any, eq-eqb, eqb-true, nat_tests, append-nil, Kind, Mask, Layout, entry, how_many, Action, new_action, is_job, has_job, has_enabled_job, is_eligible, some_below, Queue, Deed, Statement, Workload, fields, word_for, values, AllFit, IsBoundAt, IsStatement, AreStatements, Op, Reply, Terms, handle_of, NodeEntry, some_same, fst_true, snd_true, both_true, not_true, handle_at, group_at, call_of, Line, line, Made, closes, entries_that, true_false, run_terms, Part, IsOpened, HasAction, IsServed, GroupIsMade, Asks, IsGranted, is_handle, puts, IsQueued, actions_in, queue_in, queue_at, serves, is_startable, sets_up, set_up, puts_into, GrantedTo, AllGranted, SettledRun}
+use Rattle.std.specs.List.{AllByRecursion as Each}
 use Rattle.mtapi_values.specs.Masks.{in_mask}
-use Rattle.mtapi_values.specs.declared.handles.Layout.{Layout}
 use Rattle.mtapi_values.specs.declared.handles.ObjectKind.TheVariants as kinds
-use Rattle.history.specs.Histories.{entry}
-use Rattle.handle_pool.specs.Issued.{how_many}
-use Rattle.mtapi_objects.specs.Actions.{Action, new_action, is_job, has_job, has_enabled_job, is_eligible, some_below}
-use Rattle.mtapi_objects.specs.Queues.{Queue}
 use Rattle.workload_file.specs.declared.table.Sort.TheVariants as sort
-use Rattle.workload_file.specs.declared.workload.Deed.{Deed}
 use Rattle.workload_file.specs.declared.workload.Deed.TheVariants as deed
-use Rattle.workload_file.specs.declared.workload.Statement.{Statement}
-use Rattle.workload_file.specs.declared.workload.Workload.{Workload}
-use Rattle.workload_file.specs.Table.{fields, row}
-use Rattle.workload_file.specs.Deeds.{deed_spelled, word_for, values}
-use Rattle.workload_file.specs.Formed.{AllFit, IsBoundAt, IsStatement, AreStatements}
-use Rattle.mtapi_machine.specs.declared.ops.Op.{Op}
+use Rattle.workload_file.specs.Table.{row}
+use Rattle.workload_file.specs.Deeds.{deed_spelled}
 use Rattle.mtapi_machine.specs.declared.ops.Op.TheVariants as op
-use Rattle.mtapi_machine.specs.declared.replies.Reply.{Reply}
 use Rattle.mtapi_machine.specs.declared.replies.Reply.TheVariants as reply
-use Rattle.mtapi_machine.specs.declared.terms.Terms.{Terms}
-use Rattle.mtapi_machine.specs.Row.{handle_of}
-use Rattle.mtapi_machine.specs.Legal.{NodeEntry}
-use Rattle.mtapi_machine.proofs.Changes.{some_same}
-use Rattle.mtapi_machine.proofs.Made.{fst_true, snd_true, both_true, not_true}
-use Rattle.sched_workers.specs.Calls.{handle_at, group_at, call_of}
-use Rattle.sched_workers.specs.Lines.{Line, line, lines_of, Made}
+use Rattle.sched_workers.specs.Lines.{lines_of}
 use Rattle.sched_workers.specs.Parts.{Carried}
-use Rattle.history_law.specs.Seats.{closes}
-use Rattle.history_law.specs.Words.{entries_that}
-use Rattle.history_law.proofs.Answered.{true_false}
-use Rattle.run_report.specs.Report.{run_terms}
-use Rattle.workload_file.specs.declared.workload.Part.{Part}
-use Rattle.settled_runs.specs.Granted.{Made as MadeBy, IsOpened, HasAction, IsServed, GroupIsMade, Asks, IsGranted, is_handle, puts, puts_into as puts_entry, IsQueued}
-use Rattle.settled_runs.specs.Plain.{actions_in, queue_in, queue_at, task_in}
-use Rattle.settled_runs.specs.Settled.{serves, is_startable, is_settled_deed, sets_up, set_up, puts_into, keep_limits}
-use Rattle.settled_runs.specs.RunGranted.{GrantedTo, AllGranted, SettledRun}
+use Rattle.settled_runs.specs.Granted.{Made as MadeBy, puts_into as puts_entry}
+use Rattle.settled_runs.specs.Plain.{task_in}
+use Rattle.settled_runs.specs.Settled.{is_settled_deed, keep_limits}
 use Rattle.settled_runs.proofs.Granted.{action_granted, group_granted, start_granted}
 use Rattle.settled_runs.proofs.Queued.{queue_granted, enqueue_granted}
 use Rattle.settled_runs.proofs.Cuts.{Cut, cut}

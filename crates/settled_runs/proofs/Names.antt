@@ -1,0 +1,91 @@
+-- The names that the proofs of this crate cite, passed on from one place. Declares nothing.
+pub use Rattle.std.proofs.Common.{◌++◌, ◌+◌, ◌<◌, ◌∙◌, ◌∷◌, ◌≡◌, ◌≤◌, ◌⊎◌, Bool, List, None, Option, Some, [], ap, append_assoc, arith, cond, false, inl, inr, length, refl, subst, suc, sym, true, zero, ℕ, ℤ}
+pub use Rattle.std.proofs.lemmas.Bool.{eq-eqb, eqb-true, false_from_ne_true, or_from, or_left, or_right}
+pub use Rattle.std.proofs.lemmas.Bool.Decides.{nat_tests}
+pub use Rattle.std.proofs.lemmas.List.{append-nil}
+pub use Rattle.std.proofs.lemmas.List.Folds.{list_any-append}
+pub use Rattle.std.specs.List.{find, flat_map, list_all, list_any}
+pub use Rattle.std.specs.Option.{option_map, option_or}
+pub use Rattle.std.specs.Prelude.{◌&&◌, ◌==◌, ◌||◌, IfSome, is_none, is_some, map, nat_le, nat_lt, not, option_and_then, slice_get}
+pub use Rattle.action_fn.specs.Answers.{is_pure}
+pub use Rattle.handle_pool.specs.Issued.{Listed, any_listed, any_live, count_listed, gone, how_many, live_object, lookup, with_fields}
+pub use Rattle.history.specs.Histories.{entries_of, entry}
+pub use Rattle.history_law.proofs.Accepted.{accepted_end, front_stays, granted, no_handle, refuses_live, refuses_only}
+pub use Rattle.history_law.proofs.Ages.{SameTask, Under, live_listed}
+pub use Rattle.history_law.proofs.Answered.{none_first, second_false, true_false}
+pub use Rattle.history_law.proofs.AtHandles.{at_issue_here, at_issue_other}
+pub use Rattle.history_law.proofs.Bounds.{by_seats}
+pub use Rattle.history_law.proofs.Every.{Every, always, every_all, every_at, every_change, every_ends, every_issue, every_map}
+pub use Rattle.history_law.proofs.Found.{FoundAs, at_here, at_skip, found_all, found_changed, found_ends, found_issued}
+pub use Rattle.history_law.proofs.Handles.{OnceIn, once_rest}
+pub use Rattle.history_law.proofs.Objects.{HasObject, StartedAs, cut_after, cut_from, has_behind, has_new, started_as, task_then}
+pub use Rattle.history_law.proofs.Quiet.{IsCalm, calm_along, calm_next, calm_opening, none_impure, none_withdrawn, quiet_tasks_end_plainly}
+pub use Rattle.history_law.proofs.Reuse.{fresh_apart, fresh_unlisted, issued_as, issues_fresh, listed_move}
+pub use Rattle.history_law.proofs.Sorts.{sort_move}
+pub use Rattle.history_law.specs.Quiet.{AreQuiet, IsPlain, is_quiet}
+pub use Rattle.history_law.specs.Seats.{BySeats, NoClose, closes, is_release, is_released, says_ok}
+pub use Rattle.history_law.specs.Words.{entries_that, issues, objects_of, some_entry, times}
+pub use Rattle.mtapi_machine.proofs.Changes.{some_same}
+pub use Rattle.mtapi_machine.proofs.Lists.{Legal-front, Legal-prefix, Legal-rest}
+pub use Rattle.mtapi_machine.proofs.Made.{AllGives, both_true, fst_true, given, not_false, not_true, on_live, on_only, snd_true}
+pub use Rattle.mtapi_machine.proofs.Moves.{by_moves, sorts_keep}
+pub use Rattle.mtapi_machine.specs.Ends.{end_in}
+pub use Rattle.mtapi_machine.specs.GroupRows.{verdict}
+pub use Rattle.mtapi_machine.specs.Kept.{is_pending}
+pub use Rattle.mtapi_machine.specs.Laws.{AltersObject, DeletesGroup, EnablesAction, FreesMembers, IsMade, MakesAction, NotesTask, RemovesObject, StartsTask, TakesEnded, all_live, is_status, makes_kind, turns}
+pub use Rattle.mtapi_machine.specs.Legal.{IsNext, Legal, NodeEntry, after, next}
+pub use Rattle.mtapi_machine.specs.Moves.{Groups, Move, Queues, after_moves, all_of, alters, apply, enables, ends_task, ends_waiting, frees_members, is_fresh, is_served, leaves, lets_members_go, makes, makes_action, notes, phase_is, released, removes, runs_task, starts_task, withdraws}
+pub use Rattle.mtapi_machine.specs.QueueRows.{new_queue}
+pub use Rattle.mtapi_machine.specs.Row.{Allows, Row, after_row, gives, handle_of, live, moves_of, never, only, unless}
+pub use Rattle.mtapi_machine.specs.State.{State, groups, is_open, is_up, opening, queues, tasks, workers}
+pub use Rattle.mtapi_machine.specs.TaskRows.{asked_for, asked_of, is_detached_member, number_of}
+pub use Rattle.mtapi_machine.specs.WorkRows.{task_end}
+pub use Rattle.mtapi_machine.specs.declared.ops.Op.{Op}
+pub use Rattle.mtapi_machine.specs.declared.replies.Reply.{Reply}
+pub use Rattle.mtapi_machine.specs.declared.replies.Reply.TheVariants.{Handle, Mtapi, Ok}
+pub use Rattle.mtapi_machine.specs.declared.terms.Phase.{Phase}
+pub use Rattle.mtapi_machine.specs.declared.terms.Phase.TheVariants.{Closed, Closing, New, Open}
+pub use Rattle.mtapi_machine.specs.declared.terms.Terms.{Terms}
+pub use Rattle.mtapi_objects.specs.Actions.{Action, has_enabled_job, has_job, is_eligible, is_job, new_action, some_below, with_enabled}
+pub use Rattle.mtapi_objects.specs.Groups.{Ending, Group, fault_of, first_fault, freed, insert, insert_ended, is_member, is_unended_member, let_go, new_group}
+pub use Rattle.mtapi_objects.specs.Queues.{Queue, is_in, is_unended_in}
+pub use Rattle.mtapi_objects.specs.Tasks.{Ended, NewTask, Running, Scheduled, Task, TaskState, end_of, ended, is_unended, is_unstarted, kind_number, new_task, with_notes, with_state, with_waiter}
+pub use Rattle.mtapi_values.specs.Attributes.{NodeSettings}
+pub use Rattle.mtapi_values.specs.Conditions.{holds}
+pub use Rattle.mtapi_values.specs.Statuses.{mtapi_name, mtapi_number}
+pub use Rattle.mtapi_values.specs.declared.ends.TaskEnd.{TaskEnd}
+pub use Rattle.mtapi_values.specs.declared.ends.TaskEnd.TheVariants.{Failed}
+pub use Rattle.mtapi_values.specs.declared.handles.GroupHandle.{GroupHandle}
+pub use Rattle.mtapi_values.specs.declared.handles.Layout.{Layout}
+pub use Rattle.mtapi_values.specs.declared.handles.ObjectKind.{ObjectKind}
+pub use Rattle.mtapi_values.specs.declared.handles.QueueHandle.{QueueHandle}
+pub use Rattle.mtapi_values.specs.declared.kinds.Kind.{Kind}
+pub use Rattle.mtapi_values.specs.declared.masks.Mask.{Mask}
+pub use Rattle.mtapi_values.specs.declared.statuses.MtapiStatus.{MtapiStatus}
+pub use Rattle.mtapi_values.specs.declared.timeouts.Timeout.{Timeout}
+pub use Rattle.run_report.specs.Calls.{call_line, call_lines, is_task, marked_line, status_of, task_line, task_lines}
+pub use Rattle.run_report.specs.Replies.{Told, all_told}
+pub use Rattle.run_report.specs.Report.{parts_told, run_terms}
+pub use Rattle.run_report.specs.Summary.{no_totals, with_end}
+pub use Rattle.run_report.specs.Tasks.{ended_text}
+pub use Rattle.sched_workers.specs.Calls.{Call, Looking, Once, call_of, group_at, handle_at}
+pub use Rattle.sched_workers.specs.Lines.{Line, Looked, Made, before_it, head_of, in_lines, line, tail_of_main}
+pub use Rattle.sched_workers.specs.Parts.{CallerRan, MainRan, PartsRan}
+pub use Rattle.sched_workers.specs.RunOf.{RunOf, WorkerRan, is_work}
+pub use Rattle.workload_file.specs.Deeds.{place_used, values, word_for}
+pub use Rattle.workload_file.specs.Formed.{AllFit, AreStatements, IsBoundAt, IsFurther, IsPart, IsStatement, MainFirst, begins}
+pub use Rattle.workload_file.specs.Table.{fields}
+pub use Rattle.workload_file.specs.declared.table.Sort.{Sort}
+pub use Rattle.workload_file.specs.declared.workload.Deed.{Deed}
+pub use Rattle.workload_file.specs.declared.workload.Part.{Part}
+pub use Rattle.workload_file.specs.declared.workload.Statement.{Statement}
+pub use Rattle.workload_file.specs.declared.workload.Workload.{Workload}
+pub use Rattle.settled_runs.specs.Granted.{Asks, GroupIsMade, HasAction, HasRoom, IsGranted, IsOpened, IsQueued, IsServed, IsThere, MadeObjectsStay, QuietCallsAreGranted, is_handle, makes_one, makes_queue, puts}
+pub use Rattle.settled_runs.specs.Plain.{Faults, action_in, actions_in, all_statements, no_faults, plain_call_lines, plain_task_line, plain_task_lines, queue_at, queue_in, with_member, with_task}
+pub use Rattle.settled_runs.specs.PlainReplies.{IsPlainTask, PlainRepliesShowPlainReport}
+pub use Rattle.settled_runs.specs.PlainSummary.{SettledSummariesArePlain, with_plain_task}
+pub use Rattle.settled_runs.specs.RunGranted.{AllGranted, GrantedTo, PartsGranted, SettledRun, SettledStatementsAreGranted}
+pub use Rattle.settled_runs.specs.RunReplies.{PartsReplyPlainly, SettledRepliesArePlain}
+pub use Rattle.settled_runs.specs.Settled.{are_alike, are_settled_parts, both, fault_in, has_new_id, has_one_fault_a_group, has_room, is_alone, is_infinite, is_settled_further, is_settled_part, is_startable, makes_group, makes_task, puts_into, serves, set_up, sets_up, waits_for}
+pub use Rattle.settled_runs.specs.Verdicts.{GoOn, IsVerdict, QuietVerdicts, fault_at, goes_on, looks_at_all, members_behind, starts_member, with_new}
+pub use Rattle.settled_runs.specs.Waits.{AreLeft, QuietLooksAreAnswered, looks_at, starts_alone}
