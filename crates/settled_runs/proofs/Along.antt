@@ -1,8 +1,5 @@
 -- One walk along the statements of a part, with their lines and replies.
-use Rattle.settled_runs.proofs.Names.{IfSome, map, slice_get, append-nil, append_assoc, arith, inl, inr, refl, suc, sym, zero, ◌∙◌, List, Option, Some, [], length, true, ℕ, ◌++◌, ◌<◌, ◌∷◌, ◌≡◌, ◌⊎◌, ap, subst, Made, Line, Sort, Action, AreStatements, IsBoundAt, IsStatement, NodeSettings, Reply, Statement, call_of, handle_at, fst_true, snd_true, handle_of, some_same, AllGranted, GrantedTo, actions_in}
-use Rattle.sched_workers.specs.Parts.{Carried}
-use Rattle.workload_file.specs.Deeds.{binds}
-use Rattle.settled_runs.specs.Settled.{are_settled, is_settled_deed}
+use Rattle.settled_runs.proofs.Names.{IfSome, map, slice_get, append-nil, append_assoc, arith, inl, inr, refl, suc, sym, zero, ◌∙◌, List, Option, Some, [], length, true, ℕ, ◌++◌, ◌<◌, ◌∷◌, ◌≡◌, ◌⊎◌, ap, subst, Made, Line, Sort, Action, AreStatements, IsBoundAt, IsStatement, NodeSettings, Reply, Statement, call_of, handle_at, fst_true, snd_true, handle_of, some_same, AllGranted, GrantedTo, actions_in, Carried, binds, are_settled, is_settled_deed}
 use Rattle.settled_runs.proofs.Cuts.{same_head, same_tail}
 
 -- Lists

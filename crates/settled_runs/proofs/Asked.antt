@@ -1,10 +1,7 @@
 -- What the callers and workers of a run of a settled workload ask for: this is all that is read of the definition of a run.
-use Rattle.settled_runs.proofs.Names.{◌≡◌, ℕ, ◌+◌, Bool, true, false, List, ◌∷◌, ◌++◌, refl, subst, arith, length, ◌==◌, ◌&&◌, map, list_any, eq-eqb, or_left, NodeSettings, Kind, is_pure, Action, kind_number, Deed, Statement, Part, Workload, Op, Reply, handle_of, NodeEntry, call_of, Line, RunOf, BySeats, both_true, true_false, is_quiet, all_statements, action_in, actions_in}
-use Rattle.std.specs.List.{AllByRecursion as Each}
+use Rattle.settled_runs.proofs.Names.{Each, ◌≡◌, ℕ, ◌+◌, Bool, true, false, List, ◌∷◌, ◌++◌, refl, subst, arith, length, ◌==◌, ◌&&◌, map, list_any, eq-eqb, or_left, NodeSettings, Kind, is_pure, Action, kind_number, Deed, Statement, Part, Workload, Op, Reply, handle_of, NodeEntry, call_of, Line, RunOf, BySeats, both_true, true_false, is_quiet, all_statements, action_in, actions_in, lines_of, is_settled_deed, is_settled}
 use Rattle.workload_file.specs.declared.workload.Deed.TheVariants as deed
 use Rattle.mtapi_machine.specs.declared.ops.Op.TheVariants as op
-use Rattle.sched_workers.specs.Lines.{lines_of}
-use Rattle.settled_runs.specs.Settled.{is_settled_deed, is_settled}
 use Rattle.settled_runs.proofs.Each.{CallEach, PartAt, Within, any_left, each_map, is_at_work, is_outside, made_each, map_seats, parts_settled, run_each, run_parts, seat_each, within_behind}
 use Rattle.settled_runs.proofs.Along.{step_settled}
 

@@ -1,24 +1,5 @@
 -- The worked workloads, computed.
-use Rattle.settled_runs.proofs.Names.{refl}
-use Rattle.std.specs.Fmt.{digits}
-use Rattle.action_fn.specs.Answers.{fits, answer_of}
-use Rattle.run_report.specs.Tasks.{numbers_text, end_text}
-use Rattle.settled_runs.specs.Plain.{task_in, plain_end, plain_fault, faults_behind, plain_call_line, plain_calls_from, plain_report}
-use Rattle.settled_runs.specs.Settled.{is_settled_deed, are_settled, sets_up_first, has_one_kind_a_job, has_different_ids, keep_limits, have_one_fault_a_group, is_settled}
-use Rattle.workload_file.specs.Deeds.{is_begin}
-use Rattle.sched_workers.specs.Parts.{has_begin}
-use Rattle.handle_pool.specs.Issued.{live_of, issue, change, listed, issued_at, retired, is_full, may_issue}
-use Rattle.mtapi_objects.specs.Actions.{has_worker}
-use Rattle.mtapi_objects.specs.Tasks.{end_each}
-use Rattle.mtapi_machine.specs.WorkRows.{is_ready, can_take, has_better}
-use Rattle.mtapi_machine.specs.Legal.{after_from}
-use Rattle.mtapi_machine.specs.Ends.{end_at}
-use Rattle.mtapi_machine.specs.Worked.{one_task}
-use Rattle.run_report.specs.Replies.{decided, further_told}
-use Rattle.run_report.specs.Calls.{shown_of, task_lines_of, task_name, call_lines_of}
-use Rattle.run_report.specs.Report.{report}
-use Rattle.run_report.specs.Summary.{with_tasks, with_parts, totals_text, totals}
-use Rattle.settled_runs.specs.PlainSummary.{with_plain_tasks, with_plain_parts, plain_summary}
+use Rattle.settled_runs.proofs.Names.{refl, digits, fits, answer_of, numbers_text, end_text, task_in, plain_end, plain_fault, faults_behind, plain_call_line, plain_calls_from, plain_report, is_settled_deed, are_settled, sets_up_first, has_one_kind_a_job, has_different_ids, keep_limits, have_one_fault_a_group, is_settled, is_begin, has_begin, live_of, issue, change, listed, issued_at, retired, is_full, may_issue, has_worker, end_each, is_ready, can_take, has_better, after_from, end_at, one_task, decided, further_told, shown_of, task_lines_of, task_name, call_lines_of, report, with_tasks, with_parts, totals_text, totals, with_plain_tasks, with_plain_parts, plain_summary}
 use Rattle.settled_runs.specs.Worked.{WorkedSettled, WorkedUnsettled}
 
 pub worked_settled : WorkedSettled

@@ -1,9 +1,6 @@
 -- How many entries of a run ask for an op of some class: the statements bound it.
-use Rattle.settled_runs.proofs.Names.{◌≡◌, ℕ, zero, suc, ◌+◌, ◌≤◌, ◌<◌, Bool, true, false, cond, List, [], ◌∷◌, ◌++◌, length, Option, Some, None, refl, sym, ◌∙◌, ap, subst, arith, ◌==◌, map, flat_map, nat_tests, eq-eqb, how_many, Deed, Statement, Part, Workload, Op, Reply, handle_of, NodeEntry, Call, Once, Looking, call_of, Line, line, before_it, Made, head_of, tail_of_main, in_lines, MainRan, CallerRan, PartsRan, WorkerRan, RunOf, entries_that, BySeats, true_false}
-use Rattle.std.specs.List.{AllByRecursion as Each}
+use Rattle.settled_runs.proofs.Names.{Each, ◌≡◌, ℕ, zero, suc, ◌+◌, ◌≤◌, ◌<◌, Bool, true, false, cond, List, [], ◌∷◌, ◌++◌, length, Option, Some, None, refl, sym, ◌∙◌, ap, subst, arith, ◌==◌, map, flat_map, nat_tests, eq-eqb, how_many, Deed, Statement, Part, Workload, Op, Reply, handle_of, NodeEntry, Call, Once, Looking, call_of, Line, line, before_it, Made, head_of, tail_of_main, in_lines, MainRan, CallerRan, PartsRan, WorkerRan, RunOf, entries_that, BySeats, true_false, lines_of, has_begin, Carried, CallersRan}
 use Rattle.mtapi_machine.specs.declared.ops.Op.TheVariants as op
-use Rattle.sched_workers.specs.Lines.{lines_of}
-use Rattle.sched_workers.specs.Parts.{has_begin, Carried, CallersRan}
 use Rattle.settled_runs.proofs.Each.{CallEach, OnlyBy, each_map, is_at_work, worker_each}
 use Rattle.settled_runs.proofs.Along.{Step, along}
 

@@ -1,6 +1,5 @@
 -- Where a line of a seat stands among the entries of a run.
-use Rattle.settled_runs.proofs.Names.{◌≡◌, ◌⊎◌, inl, inr, ℕ, Bool, true, false, cond, List, [], ◌∷◌, ◌++◌, length, refl, sym, ◌∙◌, ap, arith, ◌==◌, eqb-true, entry, NodeEntry, Line, line}
-use Rattle.sched_workers.specs.Lines.{lines_of}
+use Rattle.settled_runs.proofs.Names.{◌≡◌, ◌⊎◌, inl, inr, ℕ, Bool, true, false, cond, List, [], ◌∷◌, ◌++◌, length, refl, sym, ◌∙◌, ap, arith, ◌==◌, eqb-true, entry, NodeEntry, Line, line, lines_of}
 
 -- Lists
 

@@ -1,14 +1,10 @@
 -- No two statements of a run are given one handle of one kind of object.
-use Rattle.settled_runs.proofs.Names.{◌≡◌, ℕ, ◌+◌, ◌≤◌, Bool, true, false, cond, List, [], ◌∷◌, ◌++◌, refl, sym, ◌∙◌, ap, subst, arith, length, ◌<◌, ◌==◌, ◌&&◌, is_some, map, nat_lt, eq-eqb, eqb-true, nat_tests, option_map, Sort, ObjectKind, entry, Deed, Statement, Op, Reply, handle_of, State, opening, NodeEntry, IsNext, next, Legal, fst_true, snd_true, both_true, call_of, group_at, handle_at, Line, line, Made, issues, entries_that, times, live_listed, true_false, started_as, issues_fresh, fresh_unlisted, Terms, AllGranted, GrantedTo, IsGranted}
+use Rattle.settled_runs.proofs.Names.{◌≡◌, ℕ, ◌+◌, ◌≤◌, Bool, true, false, cond, List, [], ◌∷◌, ◌++◌, refl, sym, ◌∙◌, ap, subst, arith, length, ◌<◌, ◌==◌, ◌&&◌, is_some, map, nat_lt, eq-eqb, eqb-true, nat_tests, option_map, Sort, ObjectKind, entry, Deed, Statement, Op, Reply, handle_of, State, opening, NodeEntry, IsNext, next, Legal, fst_true, snd_true, both_true, call_of, group_at, handle_at, Line, line, Made, issues, entries_that, times, live_listed, true_false, started_as, issues_fresh, fresh_unlisted, Terms, AllGranted, GrantedTo, IsGranted, LegalFrom, lines_of, Carried, binds}
 use Rattle.mtapi_values.specs.declared.handles.ObjectKind.TheVariants as kinds
 use Rattle.mtapi_machine.specs.declared.ops.Op.TheVariants as op
 use Rattle.mtapi_machine.specs.declared.replies.Reply.TheVariants as reply
-use Rattle.mtapi_machine.specs.Legal.{LegalFrom}
-use Rattle.sched_workers.specs.Lines.{lines_of}
-use Rattle.sched_workers.specs.Parts.{Carried}
 use Rattle.history_law.specs.Words.{makes, is_handle}
 use Rattle.history_law.proofs.OnceIssued.{listed_next}
-use Rattle.workload_file.specs.Deeds.{binds}
 use Rattle.workload_file.specs.declared.workload.Deed.TheVariants as deed
 use Rattle.workload_file.specs.declared.table.Sort.TheVariants as sort
 use Rattle.settled_runs.proofs.Stays.{made_there}

@@ -1,12 +1,7 @@
 -- What holds of each line of a seat, and of each entry of a run.
-use Rattle.settled_runs.proofs.Names.{list_any, list_all, flat_map, ap, append_assoc, arith, cond, refl, suc, sym, ◌∙◌, Bool, List, None, Option, Some, [], false, length, true, ℕ, ◌++◌, ◌+◌, ◌<◌, ◌∷◌, ◌≡◌, ◌≤◌, subst, append-nil, eq-eqb, eqb-true, or_left, or_right, list_any-append, nat_lt, not, ◌&&◌, ◌==◌, nat_tests, Made, line, Line, before_it, head_of, in_lines, tail_of_main, Action, BySeats, is_release, Call, Looking, Once, CallerRan, MainRan, PartsRan, NodeEntry, NodeSettings, Op, Part, Reply, RunOf, WorkerRan, is_work, Statement, Workload, entry, fst_true, not_true, snd_true, true_false, has_room, are_settled_parts, has_one_fault_a_group, is_settled_further, is_settled_part, set_up, action_in, actions_in, all_statements}
-use Rattle.std.specs.List.{AllByRecursion as Each}
-use Rattle.sched_workers.specs.Lines.{lines_of}
-use Rattle.sched_workers.specs.Parts.{CallersRan, Carried, has_begin}
-use Rattle.sched_workers.specs.RunOf.{all_work}
+use Rattle.settled_runs.proofs.Names.{Each, list_any, list_all, flat_map, ap, append_assoc, arith, cond, refl, suc, sym, ◌∙◌, Bool, List, None, Option, Some, [], false, length, true, ℕ, ◌++◌, ◌+◌, ◌<◌, ◌∷◌, ◌≡◌, ◌≤◌, subst, append-nil, eq-eqb, eqb-true, or_left, or_right, list_any-append, nat_lt, not, ◌&&◌, ◌==◌, nat_tests, Made, line, Line, before_it, head_of, in_lines, tail_of_main, Action, BySeats, is_release, Call, Looking, Once, CallerRan, MainRan, PartsRan, NodeEntry, NodeSettings, Op, Part, Reply, RunOf, WorkerRan, is_work, Statement, Workload, entry, fst_true, not_true, snd_true, true_false, has_room, are_settled_parts, has_one_fault_a_group, is_settled_further, is_settled_part, set_up, action_in, actions_in, all_statements, lines_of, CallersRan, Carried, has_begin, all_work, are_settled, has_different_ids, has_one_kind_a_job, is_settled, keep_limits, sets_up_first}
 use Rattle.mtapi_machine.specs.declared.ops.Op.TheVariants as op
 use Rattle.mtapi_machine.specs.declared.replies.Reply.TheVariants as reply
-use Rattle.settled_runs.specs.Settled.{are_settled, has_different_ids, has_one_kind_a_job, is_settled, keep_limits, sets_up_first}
 use Rattle.settled_runs.proofs.Along.{Step, along}
 
 module _ {X : Type 0} (P : X → Type 0) where
@@ -77,14 +72,7 @@ is_outside o = is_at_work o
 
 at_work : (o : Op) (r : Reply) → is_work o r ≡ true → is_at_work o ≡ true
 at_work op.Pick r e = refl
-at_work (op.Finish t done) r e = refl
-at_work (op.Asked t) r e = refl
-at_work (op.WatchEnd t) r e = refl
-at_work (op.TallyLock t) r e = refl
-at_work (op.TallyRead t) r e = refl
-at_work (op.TallyWrite t value) r e = refl
-at_work (op.TallyEnd t) r e = refl
-at_work _ r e = true_false e refl
+at_work _ r e = cc
 
 all_at_work : (ls : List Line) → all_work ls ≡ true → Each (λ l. is_at_work l.op ≡ true) ls
 unfolding all_work

@@ -1,7 +1,5 @@
 -- The first fault of the endings of a group: there is one exactly where a live member has one.
-use Rattle.settled_runs.proofs.Names.{◌≡◌, ◌⊎◌, inl, inr, ℕ, ◌+◌, ◌≤◌, Bool, true, false, cond, List, [], ◌∷◌, Option, Some, None, refl, ◌∙◌, ap, subst, arith, ◌==◌, nat_lt, is_some, option_and_then, option_or, eq-eqb, MtapiStatus, Listed, lookup, live_object, Task, TaskState, Scheduled, Running, Ended, end_of, is_member, Ending, insert, insert_ended, fault_of, first_fault, end_in, some_same, live_listed, true_false, at_skip, at_here, OnceIn, once_rest}
-use Rattle.handle_pool.specs.Issued.{live_of, listed}
-use Rattle.mtapi_objects.specs.Groups.{endings}
+use Rattle.settled_runs.proofs.Names.{◌≡◌, ◌⊎◌, inl, inr, ℕ, ◌+◌, ◌≤◌, Bool, true, false, cond, List, [], ◌∷◌, Option, Some, None, refl, ◌∙◌, ap, subst, arith, ◌==◌, nat_lt, is_some, option_and_then, option_or, eq-eqb, MtapiStatus, Listed, lookup, live_object, Task, TaskState, Scheduled, Running, Ended, end_of, is_member, Ending, insert, insert_ended, fault_of, first_fault, end_in, some_same, live_listed, true_false, at_skip, at_here, OnceIn, once_rest, live_of, listed, endings}
 
 -- The first fault of the endings
 

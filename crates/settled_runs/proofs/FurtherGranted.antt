@@ -1,14 +1,9 @@
 -- In a run of a settled workload each further caller is given what it asks for.
-use Rattle.settled_runs.proofs.Names.{◌≡◌, inl, inr, ℕ, suc, ◌+◌, ◌≤◌, ◌<◌, Bool, true, false, cond, List, [], ◌∷◌, ◌++◌, length, refl, sym, ◌∙◌, ap, subst, arith, append_assoc, ◌||◌, not, map, slice_get, list_any, list_all, flat_map, append-nil, Layout, entry, Action, Deed, Statement, Part, Workload, IsPart, begins, Reply, handle_of, NodeEntry, Legal, fst_true, snd_true, not_true, call_of, Line, line, Made, head_of, tail_of_main, in_lines, is_release, is_released, true_false, run_terms, IsOpened, action_in, actions_in, all_statements, sets_up, set_up, is_settled_part, is_settled_further, AllGranted, SettledRun, PartsGranted, SettledStatementsAreGranted}
-use Rattle.std.specs.List.{AllByRecursion as Each}
+use Rattle.settled_runs.proofs.Names.{Each, ◌≡◌, inl, inr, ℕ, suc, ◌+◌, ◌≤◌, ◌<◌, Bool, true, false, cond, List, [], ◌∷◌, ◌++◌, length, refl, sym, ◌∙◌, ap, subst, arith, append_assoc, ◌||◌, not, map, slice_get, list_any, list_all, flat_map, append-nil, Layout, entry, Action, Deed, Statement, Part, Workload, IsPart, begins, Reply, handle_of, NodeEntry, Legal, fst_true, snd_true, not_true, call_of, Line, line, Made, head_of, tail_of_main, in_lines, is_release, is_released, true_false, run_terms, IsOpened, action_in, actions_in, all_statements, sets_up, set_up, is_settled_part, is_settled_further, AllGranted, SettledRun, PartsGranted, SettledStatementsAreGranted, is_begin, lines_of, has_begin, Carried, CallersRan, sets_up_first, keep_limits}
 use Rattle.workload_file.specs.declared.workload.Deed.TheVariants as deed
-use Rattle.workload_file.specs.Deeds.{is_begin}
 use Rattle.mtapi_machine.specs.declared.ops.Op.TheVariants as op
 use Rattle.mtapi_machine.specs.declared.replies.Reply.TheVariants as reply
-use Rattle.sched_workers.specs.Lines.{lines_of}
-use Rattle.sched_workers.specs.Parts.{has_begin, Carried, CallersRan}
 use Rattle.history_law.proofs.Behind.{enter_behind}
-use Rattle.settled_runs.specs.Settled.{sets_up_first, keep_limits}
 use Rattle.settled_runs.proofs.Each.{actions_append, AllSeats, OnlyBy, Within, caller_at, made_each, map_seats, statements_each, within_behind, within_front, each_front}
 use Rattle.settled_runs.proofs.Cuts.{Placed, placed, lines_append, Cut, cut}
 use Rattle.settled_runs.proofs.Counted.{bit, asks, asked, asked_append, Asking, some_asks, calls_none, none_asked, only_asks}

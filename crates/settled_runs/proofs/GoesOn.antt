@@ -1,11 +1,8 @@
 -- In a settled workload no look at a whole group is a last one, and main closes behind all statements.
-use Rattle.settled_runs.proofs.Names.{◌≡◌, ℕ, Bool, true, false, List, [], ◌∷◌, length, refl, sym, ap, subst, ◌==◌, ◌&&◌, not, NodeSettings, Timeout, Action, Deed, Statement, Op, Reply, NodeEntry, handle_at, call_of, Line, line, before_it, Made, Looked, closes, NoClose, true_false, goes_on, GoOn}
-use Rattle.std.specs.List.{AllByRecursion as Each}
+use Rattle.settled_runs.proofs.Names.{Each, ◌≡◌, ℕ, Bool, true, false, List, [], ◌∷◌, length, refl, sym, ap, subst, ◌==◌, ◌&&◌, not, NodeSettings, Timeout, Action, Deed, Statement, Op, Reply, NodeEntry, handle_at, call_of, Line, line, before_it, Made, Looked, closes, NoClose, true_false, goes_on, GoOn, lines_of, is_settled_deed}
 use Rattle.mtapi_values.specs.declared.timeouts.Timeout.TheVariants as timeout
 use Rattle.workload_file.specs.declared.workload.Deed.TheVariants as deed
 use Rattle.mtapi_machine.specs.declared.ops.Op.TheVariants as op
-use Rattle.sched_workers.specs.Lines.{lines_of}
-use Rattle.settled_runs.specs.Settled.{is_settled_deed}
 use Rattle.settled_runs.proofs.Owners.{uses}
 use Rattle.settled_runs.proofs.Each.{OnlyBy, before_each, each_both, each_map, own_each}
 

@@ -1,12 +1,8 @@
 -- In a quiet history a call isn't refused for which there is room and all that it needs.
-use Rattle.settled_runs.proofs.Names.{◌≡◌, ℕ, zero, suc, ◌<◌, Bool, true, false, cond, List, [], ◌∷◌, ◌++◌, Option, Some, None, refl, sym, ◌∙◌, ap, subst, arith, ℤ, ◌==◌, ◌&&◌, ◌||◌, not, nat_lt, is_none, is_some, eq-eqb, eqb-true, nat_tests, holds, Kind, Mask, GroupHandle, ObjectKind, entry, Listed, lookup, live_object, any_live, any_listed, Action, new_action, is_job, has_job, has_enabled_job, is_eligible, some_below, Op, Reply, Ok, Handle, Mtapi, Terms, Phase, New, Open, Closing, Closed, State, opening, workers, is_open, Move, phase_is, makes, alters, removes, is_served, apply, Row, unless, gives, never, Allows, only, after_row, number_of, NodeEntry, IsNext, next, Legal, after, IsMade, turns, Legal-front, some_same, by_moves, sorts_keep, objects_of, closes, NoClose, true_false, cut_from, cut_after, AreQuiet, IsOpened, HasRoom, IsServed, GroupIsMade, Asks, IsGranted}
+use Rattle.settled_runs.proofs.Names.{◌≡◌, ℕ, zero, suc, ◌<◌, Bool, true, false, cond, List, [], ◌∷◌, ◌++◌, Option, Some, None, refl, sym, ◌∙◌, ap, subst, arith, ℤ, ◌==◌, ◌&&◌, ◌||◌, not, nat_lt, is_none, is_some, eq-eqb, eqb-true, nat_tests, holds, Kind, Mask, GroupHandle, ObjectKind, entry, Listed, lookup, live_object, any_live, any_listed, Action, new_action, is_job, has_job, has_enabled_job, is_eligible, some_below, Op, Reply, Ok, Handle, Mtapi, Terms, Phase, New, Open, Closing, Closed, State, opening, workers, is_open, Move, phase_is, makes, alters, removes, is_served, apply, Row, unless, gives, never, Allows, only, after_row, number_of, NodeEntry, IsNext, next, Legal, after, IsMade, turns, Legal-front, some_same, by_moves, sorts_keep, objects_of, closes, NoClose, true_false, cut_from, cut_after, AreQuiet, IsOpened, HasRoom, IsServed, GroupIsMade, Asks, IsGranted, live_of, is_full, has_worker, row, LegalFrom, after_from}
 use Rattle.mtapi_values.specs.declared.handles.ObjectKind.TheVariants as kinds
 use Rattle.mtapi_values.specs.declared.statuses.MtapiStatus.TheVariants as m
-use Rattle.handle_pool.specs.Issued.{live_of, is_full}
-use Rattle.mtapi_objects.specs.Actions.{has_worker}
 use Rattle.mtapi_machine.specs.declared.ops.Op.TheVariants as op
-use Rattle.mtapi_machine.specs.Rows.{row}
-use Rattle.mtapi_machine.specs.Legal.{LegalFrom, after_from}
 use Rattle.history_law.proofs.Others.{terms_stay}
 use Rattle.settled_runs.proofs.Sizes.{GrowsBy, tasks_grow, actions_grow, groups_grow, has_room}
 use Rattle.settled_runs.proofs.Stays.{made_objects_stay}

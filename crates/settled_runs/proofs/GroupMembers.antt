@@ -1,7 +1,5 @@
 -- In a quiet history the live members of a group are the tasks that were put into it since the last verdict.
-use Rattle.settled_runs.proofs.Names.{◌≡◌, ℕ, ◌+◌, Bool, true, false, cond, List, [], ◌∷◌, Option, Some, None, refl, sym, ◌∙◌, ap, subst, ◌==◌, ◌&&◌, not, list_any, eq-eqb, eqb-true, holds, TaskEnd, Failed, GroupHandle, Listed, with_fields, Task, NewTask, Running, is_unstarted, new_task, with_state, ended, is_member, freed, Op, State, Move, starts_task, runs_task, ends_task, ends_waiting, withdraws, notes, leaves, frees_members, lets_members_go, makes, alters, removes, apply, number_of, IsMade, StartsTask, FreesMembers, DeletesGroup, fst_true, sorts_keep, true_false, FoundAs, found_changed, found_issued, found_ends, found_all, is_quiet, starts_member, looks_at_all}
-use Rattle.handle_pool.specs.Issued.{change, change_all, issue}
-use Rattle.mtapi_objects.specs.Tasks.{end_each}
+use Rattle.settled_runs.proofs.Names.{◌≡◌, ℕ, ◌+◌, Bool, true, false, cond, List, [], ◌∷◌, Option, Some, None, refl, sym, ◌∙◌, ap, subst, ◌==◌, ◌&&◌, not, list_any, eq-eqb, eqb-true, holds, TaskEnd, Failed, GroupHandle, Listed, with_fields, Task, NewTask, Running, is_unstarted, new_task, with_state, ended, is_member, freed, Op, State, Move, starts_task, runs_task, ends_task, ends_waiting, withdraws, notes, leaves, frees_members, lets_members_go, makes, alters, removes, apply, number_of, IsMade, StartsTask, FreesMembers, DeletesGroup, fst_true, sorts_keep, true_false, FoundAs, found_changed, found_issued, found_ends, found_all, is_quiet, starts_member, looks_at_all, change, change_all, issue, end_each}
 use Rattle.mtapi_machine.specs.declared.ops.Op.TheVariants as op
 use Rattle.settled_runs.proofs.Waits.{notes_tasks, noting, taking}
 

@@ -1,14 +1,10 @@
 -- Along the statements of a part, the tasks that were put into a group have the fault that the plain report tells of it.
-use Rattle.settled_runs.proofs.Names.{◌≡◌, ℕ, Bool, true, false, cond, List, [], ◌∷◌, ◌++◌, length, Option, Some, None, refl, sym, ◌∙◌, ap, subst, arith, append_assoc, ℤ, ◌==◌, ◌||◌, map, option_and_then, IfSome, option_map, option_or, flat_map, eq-eqb, eqb-true, holds, TaskEnd, Mask, Timeout, MtapiStatus, entry, Action, NewTask, fault_of, Queue, Deed, Statement, fields, word_for, values, place_used, AllFit, IsBoundAt, IsStatement, AreStatements, Op, Reply, handle_of, some_same, handle_at, group_at, call_of, Line, line, before_it, Made, Looked, true_false, queue_at, Faults, with_member, with_task, no_faults, IsPlainTask, fault_in, members_behind}
+use Rattle.settled_runs.proofs.Names.{◌≡◌, ℕ, Bool, true, false, cond, List, [], ◌∷◌, ◌++◌, length, Option, Some, None, refl, sym, ◌∙◌, ap, subst, arith, append_assoc, ℤ, ◌==◌, ◌||◌, map, option_and_then, IfSome, option_map, option_or, flat_map, eq-eqb, eqb-true, holds, TaskEnd, Mask, Timeout, MtapiStatus, entry, Action, NewTask, fault_of, Queue, Deed, Statement, fields, word_for, values, place_used, AllFit, IsBoundAt, IsStatement, AreStatements, Op, Reply, handle_of, some_same, handle_at, group_at, call_of, Line, line, before_it, Made, Looked, true_false, queue_at, Faults, with_member, with_task, no_faults, IsPlainTask, fault_in, members_behind, deed_spelled, Carried, task_in, plain_end, plain_fault, faults_behind, ArePlain, IsPlainReply}
 use Rattle.workload_file.specs.declared.table.Sort.TheVariants as sort
 use Rattle.workload_file.specs.declared.workload.Deed.TheVariants as deed
 use Rattle.workload_file.specs.Table.{row}
-use Rattle.workload_file.specs.Deeds.{deed_spelled}
 use Rattle.mtapi_machine.specs.declared.ops.Op.TheVariants as op
 use Rattle.mtapi_machine.specs.declared.replies.Reply.TheVariants as reply
-use Rattle.sched_workers.specs.Parts.{Carried}
-use Rattle.settled_runs.specs.Plain.{task_in, plain_end, plain_fault, faults_behind}
-use Rattle.settled_runs.specs.PlainReplies.{ArePlain, IsPlainReply}
 use Rattle.settled_runs.proofs.GroupMembers.{has}
 use Rattle.settled_runs.proofs.MemberFaults.{Matches, no_member, more_member}
 use Rattle.settled_runs.proofs.OneFault.{has_fault, fault_there}
@@ -97,9 +93,6 @@ module _ (actions : List Action) (all : List Statement) (ends : ℕ → Option T
     wait_fits : (g : ℕ) (t : Timeout) (front : List Line) (r : Reply) → IsBoundAt sort.Group before g → Looked false (λ last. op.AllLook (record { 0 = handle_at bound g }) last) t front r → Fits (members_in h hs front) (cond (place == g) None (faults place))
     wait_fits g t front r o m = subst (λ (x : List ℕ). Fits x (cond (place == g) None (faults place))) (sym told) (choose (handle_at bound g == h) (place == g) (same g o) [] hs None (faults place) (λ y. fit_none actions all F place) f)
       where
-        o1 : Bool → Op
-        o1 last = op.AllLook (record { 0 = handle_at bound g }) last
-
         kept : (b : Bool) → cond b hs hs ≡ hs
         kept true = refl
         kept false = refl

@@ -1,10 +1,6 @@
 -- In a run of a settled workload main is given what it asks for.
-use Rattle.settled_runs.proofs.Names.{◌≡◌, inr, ℕ, ◌≤◌, Bool, true, false, List, ◌∷◌, ◌++◌, Option, Some, None, refl, ◌∙◌, subst, arith, ◌==◌, slice_get, option_and_then, map, option_map, list_all, NodeSettings, Layout, Action, Queue, Deed, Statement, Part, Workload, IsPart, NodeEntry, fst_true, handle_at, call_of, Line, head_of, tail_of_main, true_false, handle_of, puts, actions_in, queue_in, queue_at, is_startable, set_up, are_settled_parts, AllGranted, SettledRun}
-use Rattle.std.specs.List.{AllByRecursion as Each}
+use Rattle.settled_runs.proofs.Names.{Each, ◌≡◌, inr, ℕ, ◌≤◌, Bool, true, false, List, ◌∷◌, ◌++◌, Option, Some, None, refl, ◌∙◌, subst, arith, ◌==◌, slice_get, option_and_then, map, option_map, list_all, NodeSettings, Layout, Action, Queue, Deed, Statement, Part, Workload, IsPart, NodeEntry, fst_true, handle_at, call_of, Line, head_of, tail_of_main, true_false, handle_of, puts, actions_in, queue_in, queue_at, is_startable, set_up, are_settled_parts, AllGranted, SettledRun, has_begin, task_in, is_settled_deed, keep_limits}
 use Rattle.workload_file.specs.declared.workload.Deed.TheVariants as deed
-use Rattle.sched_workers.specs.Parts.{has_begin}
-use Rattle.settled_runs.specs.Plain.{task_in}
-use Rattle.settled_runs.specs.Settled.{is_settled_deed, keep_limits}
 use Rattle.settled_runs.proofs.Counted.{bit, CallAsks, calls_none}
 use Rattle.settled_runs.proofs.Opened.{main_unclosed, first_head, is_opened, first_of, only_main, all_at}
 use Rattle.settled_runs.proofs.Rooms.{is_put}

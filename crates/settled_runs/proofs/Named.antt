@@ -1,8 +1,6 @@
 -- A group that a task names was made.
-use Rattle.settled_runs.proofs.Names.{◌≡◌, ◌⊎◌, inl, inr, ℕ, ◌≤◌, true, false, List, [], ◌∷◌, Option, Some, None, refl, sym, ◌∙◌, ap, subst, ◌==◌, ◌&&◌, is_none, is_some, eqb-true, holds, Failed, Listed, live_object, with_fields, gone, Task, Running, with_state, with_notes, ended, new_task, Group, is_member, freed, let_go, Op, State, is_open, tasks, Move, starts_task, runs_task, ends_task, ends_waiting, withdraws, notes, leaves, frees_members, lets_members_go, makes, alters, removes, is_fresh, is_served, apply, NodeEntry, IsNext, next, IsMade, all_live, some_same, fst_true, snd_true, not_true, sorts_keep, live_listed, true_false, Every, every_issue, every_change, every_all, every_map, every_ends, always, listed_move}
+use Rattle.settled_runs.proofs.Names.{◌≡◌, ◌⊎◌, inl, inr, ℕ, ◌≤◌, true, false, List, [], ◌∷◌, Option, Some, None, refl, sym, ◌∙◌, ap, subst, ◌==◌, ◌&&◌, is_none, is_some, eqb-true, holds, Failed, Listed, live_object, with_fields, gone, Task, Running, with_state, with_notes, ended, new_task, Group, is_member, freed, let_go, Op, State, is_open, tasks, Move, starts_task, runs_task, ends_task, ends_waiting, withdraws, notes, leaves, frees_members, lets_members_go, makes, alters, removes, is_fresh, is_served, apply, NodeEntry, IsNext, next, IsMade, all_live, some_same, fst_true, snd_true, not_true, sorts_keep, live_listed, true_false, Every, every_issue, every_change, every_all, every_map, every_ends, always, listed_move, listed, LegalFrom, after_from}
 use Rattle.mtapi_values.specs.declared.handles.ObjectKind.TheVariants as kinds
-use Rattle.handle_pool.specs.Issued.{listed}
-use Rattle.mtapi_machine.specs.Legal.{LegalFrom, after_from}
 use Rattle.history_law.proofs.SeatMoves.{May, by_made_moves}
 
 -- a group that the task names is one of these

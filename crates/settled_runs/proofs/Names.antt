@@ -4,7 +4,7 @@ pub use Rattle.std.proofs.lemmas.Bool.{eq-eqb, eqb-true, false_from_ne_true, or_
 pub use Rattle.std.proofs.lemmas.Bool.Decides.{nat_tests}
 pub use Rattle.std.proofs.lemmas.List.{append-nil}
 pub use Rattle.std.proofs.lemmas.List.Folds.{list_any-append}
-pub use Rattle.std.specs.List.{find, flat_map, list_all, list_any}
+pub use Rattle.std.specs.List.{find, flat_map, list_all, list_any, AllByRecursion as Each}
 pub use Rattle.std.specs.Option.{option_map, option_or}
 pub use Rattle.std.specs.Prelude.{◌&&◌, ◌==◌, ◌||◌, IfSome, is_none, is_some, map, nat_le, nat_lt, not, option_and_then, slice_get}
 pub use Rattle.action_fn.specs.Answers.{is_pure}
@@ -89,3 +89,29 @@ pub use Rattle.settled_runs.specs.RunReplies.{PartsReplyPlainly, SettledRepliesA
 pub use Rattle.settled_runs.specs.Settled.{are_alike, are_settled_parts, both, fault_in, has_new_id, has_one_fault_a_group, has_room, is_alone, is_infinite, is_settled_further, is_settled_part, is_startable, makes_group, makes_task, puts_into, serves, set_up, sets_up, waits_for}
 pub use Rattle.settled_runs.specs.Verdicts.{GoOn, IsVerdict, QuietVerdicts, fault_at, goes_on, looks_at_all, members_behind, starts_member, with_new}
 pub use Rattle.settled_runs.specs.Waits.{AreLeft, QuietLooksAreAnswered, looks_at, starts_alone}
+unfoldable pub use Rattle.action_fn.specs.Answers.{answer_of, fits}
+unfoldable pub use Rattle.handle_pool.specs.Issued.{change, change_all, is_full, issue, issued_at, listed, live_of, may_issue, retired}
+unfoldable pub use Rattle.history_law.specs.Quiet.{task_at}
+unfoldable pub use Rattle.mtapi_machine.specs.Ends.{end_at}
+unfoldable pub use Rattle.mtapi_machine.specs.Legal.{LegalFrom, after_from}
+pub use Rattle.mtapi_machine.specs.Rows.{row}
+unfoldable pub use Rattle.mtapi_machine.specs.WorkRows.{can_take, has_better, is_ready}
+unfoldable pub use Rattle.mtapi_machine.specs.Worked.{one_task}
+unfoldable pub use Rattle.mtapi_objects.specs.Actions.{has_worker}
+unfoldable pub use Rattle.mtapi_objects.specs.Groups.{endings}
+unfoldable pub use Rattle.mtapi_objects.specs.Tasks.{end_each}
+unfoldable pub use Rattle.run_report.specs.Calls.{call_lines_of, shown_of, task_lines_of, task_name}
+unfoldable pub use Rattle.run_report.specs.Replies.{decided, further_told}
+unfoldable pub use Rattle.run_report.specs.Report.{report}
+unfoldable pub use Rattle.run_report.specs.Summary.{totals, totals_text, with_parts, with_tasks}
+unfoldable pub use Rattle.run_report.specs.Tasks.{end_text, numbers_text}
+unfoldable pub use Rattle.sched_workers.specs.Lines.{lines_of}
+unfoldable pub use Rattle.sched_workers.specs.Parts.{CallersRan, Carried, has_begin}
+unfoldable pub use Rattle.sched_workers.specs.RunOf.{all_work}
+unfoldable pub use Rattle.settled_runs.specs.Plain.{faults_behind, plain_call_line, plain_calls_from, plain_end, plain_fault, plain_report, task_in}
+unfoldable pub use Rattle.settled_runs.specs.PlainReplies.{ArePlain, IsPlainReply, PartsArePlain}
+unfoldable pub use Rattle.settled_runs.specs.PlainSummary.{plain_summary, with_plain_parts, with_plain_tasks}
+unfoldable pub use Rattle.settled_runs.specs.Settled.{are_settled, has_different_ids, has_one_kind_a_job, have_one_fault_a_group, is_settled, is_settled_deed, keep_limits, sets_up_first}
+unfoldable pub use Rattle.settled_runs.specs.Verdicts.{members_of}
+unfoldable pub use Rattle.std.specs.Fmt.{digits}
+unfoldable pub use Rattle.workload_file.specs.Deeds.{binds, deed_spelled, is_begin}

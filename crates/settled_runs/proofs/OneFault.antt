@@ -1,7 +1,5 @@
 -- Where the faults of each group of a part have one status, so do those of any two of its tasks.
-use Rattle.settled_runs.proofs.Names.{◌≡◌, ℕ, Bool, true, false, List, [], ◌∷◌, ◌++◌, Option, Some, refl, sym, ◌∙◌, subst, ◌==◌, ◌&&◌, ◌||◌, not, list_any, list_all, flat_map, eq-eqb, eqb-true, list_any-append, MtapiStatus, mtapi_number, Action, NewTask, fst_true, snd_true, both_true, Statement, true_false, both, fault_in}
-use Rattle.settled_runs.specs.Plain.{task_in, plain_fault}
-use Rattle.settled_runs.specs.Settled.{have_one_fault_a_group}
+use Rattle.settled_runs.proofs.Names.{◌≡◌, ℕ, Bool, true, false, List, [], ◌∷◌, ◌++◌, Option, Some, refl, sym, ◌∙◌, subst, ◌==◌, ◌&&◌, ◌||◌, not, list_any, list_all, flat_map, eq-eqb, eqb-true, list_any-append, MtapiStatus, mtapi_number, Action, NewTask, fst_true, snd_true, both_true, Statement, true_false, both, fault_in, task_in, plain_fault, have_one_fault_a_group}
 use Rattle.settled_runs.proofs.StatusNumbers.{same_status}
 
 -- the group has a fault of this status

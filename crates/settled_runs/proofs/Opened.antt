@@ -1,12 +1,8 @@
 -- In a run of a settled workload the node is open before each statement's entry.
-use Rattle.settled_runs.proofs.Names.{◌≡◌, inl, inr, ℕ, suc, ◌+◌, ◌≤◌, ◌<◌, Bool, true, false, cond, List, [], ◌∷◌, ◌++◌, length, refl, sym, ◌∙◌, ap, subst, arith, append_assoc, ◌==◌, ◌&&◌, map, flat_map, eq-eqb, Layout, entry, entries_of, how_many, Deed, Statement, Part, Workload, begins, IsFurther, MainFirst, Op, Reply, opening, NodeEntry, Legal, Legal-prefix, call_of, Line, line, head_of, tail_of_main, in_lines, MainRan, PartsRan, RunOf, some_entry, closes, NoClose, BySeats, is_release, is_released, says_ok, true_false, by_seats, run_terms, AreQuiet, handle_of, IsOpened, all_statements, actions_in, SettledRun}
-use Rattle.std.specs.List.{AllByRecursion as Each}
+use Rattle.settled_runs.proofs.Names.{Each, ◌≡◌, inl, inr, ℕ, suc, ◌+◌, ◌≤◌, ◌<◌, Bool, true, false, cond, List, [], ◌∷◌, ◌++◌, length, refl, sym, ◌∙◌, ap, subst, arith, append_assoc, ◌==◌, ◌&&◌, map, flat_map, eq-eqb, Layout, entry, entries_of, how_many, Deed, Statement, Part, Workload, begins, IsFurther, MainFirst, Op, Reply, opening, NodeEntry, Legal, Legal-prefix, call_of, Line, line, head_of, tail_of_main, in_lines, MainRan, PartsRan, RunOf, some_entry, closes, NoClose, BySeats, is_release, is_released, says_ok, true_false, by_seats, run_terms, AreQuiet, handle_of, IsOpened, all_statements, actions_in, SettledRun, is_begin, lines_of, CallersRan}
 use Rattle.workload_file.specs.declared.workload.Deed.TheVariants as deed
-use Rattle.workload_file.specs.Deeds.{is_begin}
 use Rattle.mtapi_machine.specs.declared.ops.Op.TheVariants as op
 use Rattle.mtapi_machine.specs.declared.replies.Reply.TheVariants as reply
-use Rattle.sched_workers.specs.Lines.{lines_of}
-use Rattle.sched_workers.specs.Parts.{CallersRan}
 use Rattle.settled_runs.proofs.Asked.{run_planned}
 use Rattle.settled_runs.proofs.RunEnds.{all_quiet}
 use Rattle.settled_runs.proofs.Cuts.{Placed, placed, lines_append, Cut, cut}
@@ -114,9 +110,6 @@ pub begin_none : (before : List Statement) (s : Statement) (rest : List Statemen
 begin_none [] s rest e = no_bit (is_begin s.deed) (omega arith)
 begin_none (t ∷ before) s rest e = begin_none before s rest (omega arith)
 
-pub release_class : IsClass is_release is_begin
-release_class = record { calls = release_calls; enter = refl; work = release_work }
-
 pub first_head : (b : Bool) (X : List Line) → (R : List Line) × (head_of b ++ X ≡ line op.Initialize reply.Ok 0 ∷ R)
 first_head true X = (X, refl)
 first_head false X = (line op.Release reply.Ok 0 ∷ X, refl)
@@ -204,10 +197,11 @@ module _ (layout : Layout) (load : Workload) (es : List NodeEntry) (ns : List �
   pub only_main : (p : Op → Bool) → ((o : Op) → is_at_work o ≡ true → p o ≡ false) → ((w : ℕ) (q : Part) (rs : List Reply) → main < w → PartAt load es ns w q rs × IsFurther q → Each (λ l. p l.op ≡ false) (lines_of w es ns)) → OnlyBy main p es
   only_main p out further =
       only_by load es ns u.same u.run seats_are main p out
-      (subst (λ (ps : List Part). AllSeats Others main ps u.run.replies) (sym first_of.are) (subst (AllSeats Others main (first_of.part ∷ first_of.others)) (sym first_of.told)
-      ((λ i. true_false (eq-eqb main main refl) i),
-      map_seats (λ w q rs. PartAt load es ns w q rs × IsFurther q) Others (suc main) (λ w q rs l x i. further w q rs l x) (suc main) first_of.others first_of.further (omega arith)
-      (with_each (PartAt load es ns) IsFurther (suc main) first_of.others first_of.further all_at.1 further_are))))
+      (subst (λ (ps : List Part). AllSeats Others main ps u.run.replies) (sym first_of.are) (subst (AllSeats Others main (first_of.part ∷ first_of.others)) (sym first_of.told) (
+        (λ i. true_false (eq-eqb main main refl) i),
+        map_seats (λ w q rs. PartAt load es ns w q rs × IsFurther q) Others (suc main) (λ w q rs l x i. further w q rs l x) (suc main) first_of.others first_of.further (omega arith)
+            (with_each (PartAt load es ns) IsFurther (suc main) first_of.others first_of.further all_at.1 further_are),
+      )))
     where
       Others : ℕ → Part → List Reply → Type 0
       Others w q rs = (w == main) ≡ false → Each (λ l. p l.op ≡ false) (lines_of w es ns)

@@ -1,13 +1,10 @@
 -- No seat of a run uses a handle that another seat was given.
-use Rattle.settled_runs.proofs.Names.{◌≡◌, ℕ, ◌+◌, ◌≤◌, Bool, true, false, cond, List, [], ◌∷◌, ◌++◌, Some, refl, ◌∙◌, ap, arith, None, Option, ◌==◌, map, IfSome, ◌||◌, option_map, eq-eqb, eqb-true, false_from_ne_true, or_from, nat_tests, Layout, ObjectKind, Sort, Deed, fields, place_used, values, word_for, Statement, Part, Workload, IsBoundAt, IsStatement, AllFit, Op, Reply, handle_of, opening, NodeEntry, handle_at, group_at, call_of, Line, line, issues, entries_that, true_false, run_terms, holds, looks_at, waits_for, SettledRun, looks_at_all, starts_member}
-use Rattle.std.specs.List.{AllByRecursion as Each}
+use Rattle.settled_runs.proofs.Names.{Each, ◌≡◌, ℕ, ◌+◌, ◌≤◌, Bool, true, false, cond, List, [], ◌∷◌, ◌++◌, Some, refl, ◌∙◌, ap, arith, None, Option, ◌==◌, map, IfSome, ◌||◌, option_map, eq-eqb, eqb-true, false_from_ne_true, or_from, nat_tests, Layout, ObjectKind, Sort, Deed, fields, place_used, values, word_for, Statement, Part, Workload, IsBoundAt, IsStatement, AllFit, Op, Reply, handle_of, opening, NodeEntry, handle_at, group_at, call_of, Line, line, issues, entries_that, true_false, run_terms, holds, looks_at, waits_for, SettledRun, looks_at_all, starts_member, deed_spelled, lines_of}
 use Rattle.mtapi_values.specs.declared.handles.ObjectKind.TheVariants as kinds
 use Rattle.workload_file.specs.declared.table.Sort.TheVariants as sort
 use Rattle.workload_file.specs.declared.workload.Deed.TheVariants as deed
 use Rattle.workload_file.specs.Table.{row}
-use Rattle.workload_file.specs.Deeds.{deed_spelled}
 use Rattle.mtapi_machine.specs.declared.ops.Op.TheVariants as op
-use Rattle.sched_workers.specs.Lines.{lines_of}
 use Rattle.settled_runs.proofs.Counted.{bit}
 use Rattle.settled_runs.proofs.Opened.{seats_are}
 use Rattle.settled_runs.proofs.Distinct.{issued, issued_append, issued_once, tasks_list, Binds, IsListedKind, binds_group, binds_task, bound_issued, groups_list}

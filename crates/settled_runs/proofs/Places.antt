@@ -1,11 +1,9 @@
 -- The lines of the statements of a part, found by the places of the statements.
-use Rattle.settled_runs.proofs.Names.{◌≡◌, ℕ, Bool, true, false, List, [], ◌∷◌, ◌++◌, Some, None, refl, sym, ◌∙◌, ap, subst, append_assoc, inl, inr, ◌⊎◌, ◌||◌, map, slice_get, list_any, append-nil, list_any-append, Kind, Mask, Action, new_action, Queue, Deed, Statement, Op, Reply, handle_of, new_queue, some_same, handle_at, call_of, Line, line, Made, true_false, GrantedTo, AllGranted, action_in, actions_in, queue_in}
+use Rattle.settled_runs.proofs.Names.{◌≡◌, ℕ, Bool, true, false, List, [], ◌∷◌, ◌++◌, Some, None, refl, sym, ◌∙◌, ap, subst, append_assoc, inl, inr, ◌⊎◌, ◌||◌, map, slice_get, list_any, append-nil, list_any-append, Kind, Mask, Action, new_action, Queue, Deed, Statement, Op, Reply, handle_of, new_queue, some_same, handle_at, call_of, Line, line, Made, true_false, GrantedTo, AllGranted, action_in, actions_in, queue_in, binds, Carried}
 use Rattle.workload_file.specs.declared.table.Sort.TheVariants as sort
 use Rattle.workload_file.specs.declared.workload.Deed.TheVariants as deed
-use Rattle.workload_file.specs.Deeds.{binds}
 use Rattle.mtapi_machine.specs.declared.ops.Op.TheVariants as op
 use Rattle.mtapi_machine.specs.declared.replies.Reply.TheVariants as reply
-use Rattle.sched_workers.specs.Parts.{Carried}
 use Rattle.settled_runs.proofs.Along.{BoundBy, Found, along, found_bound, found_granted, step_granted, found}
 use Rattle.settled_runs.proofs.Each.{actions_append}
 

@@ -1,11 +1,8 @@
 -- The report of plain replies is the plain report.
-use Rattle.settled_runs.proofs.Names.{◌≡◌, ℕ, false, cond, List, [], ◌∷◌, ◌++◌, Option, Some, None, refl, sym, ◌∙◌, ap, option_map, flat_map, append-nil, TaskEnd, MtapiStatus, mtapi_name, Action, NewTask, Reply, verdict, is_status, Deed, Statement, Part, Told, ended_text, is_task, task_line, task_lines, status_of, marked_line, call_line, call_lines, all_statements, actions_in, Faults, no_faults, plain_task_line, plain_task_lines, plain_call_lines, IsPlainTask, PlainRepliesShowPlainReport}
+use Rattle.settled_runs.proofs.Names.{◌≡◌, ℕ, false, cond, List, [], ◌∷◌, ◌++◌, Option, Some, None, refl, sym, ◌∙◌, ap, option_map, flat_map, append-nil, TaskEnd, MtapiStatus, mtapi_name, Action, NewTask, Reply, verdict, is_status, Deed, Statement, Part, Told, ended_text, is_task, task_line, task_lines, status_of, marked_line, call_line, call_lines, all_statements, actions_in, Faults, no_faults, plain_task_line, plain_task_lines, plain_call_lines, IsPlainTask, PlainRepliesShowPlainReport, shown_of, task_lines_of, task_name, call_lines_of, task_in, faults_behind, plain_call_line, plain_calls_from, plain_report, IsPlainReply, ArePlain, PartsArePlain}
 use Rattle.mtapi_machine.specs.declared.replies.Reply.TheVariants as reply
 use Rattle.workload_file.specs.declared.workload.Deed.TheVariants as deed
 use Rattle.workload_file.specs.Reading.{name_text}
-use Rattle.run_report.specs.Calls.{shown_of, task_lines_of, task_name, call_lines_of}
-use Rattle.settled_runs.specs.Plain.{task_in, faults_behind, plain_call_line, plain_calls_from, plain_report}
-use Rattle.settled_runs.specs.PlainReplies.{IsPlainReply, ArePlain, PartsArePlain}
 
 module _ (actions : List Action) (all : List Statement) (ends : ℕ → Option TaskEnd) (part : List ℕ) where
   -- Lines of tasks
@@ -20,13 +17,7 @@ module _ (actions : List Action) (all : List Statement) (ends : ℕ → Option T
   unfolding IsPlainReply shown_of task_in
   task_shown faults s (deed.Start job args priority cores detached group) r p = shows_task s (task_in all (deed.Start job args priority cores detached group)) r p
   task_shown faults s (deed.Enqueue queue args cores detached group) r p = shows_task s (task_in all (deed.Enqueue queue args cores detached group)) r p
-  task_shown faults s deed.Begin r p = refl
-  task_shown faults s (deed.Action job kind cores) r p = refl
-  task_shown faults s (deed.Wait place timeout) r p = refl
-  task_shown faults s deed.Group r p = refl
-  task_shown faults s (deed.WaitAll group timeout) r p = refl
-  task_shown faults s (deed.Queue id job priority limit ordered retain) r p = refl
-  task_shown faults s _ r p = absurd p
+  task_shown faults s _ r p = cc
 
   pub tasks_shown : (faults : Faults) (ss : List Statement) (rs : List Reply) → ArePlain actions all ends faults ss rs
       → task_lines_of part ends ss rs ≡ flat_map (λ s. plain_task_line actions part s (task_in all s.deed)) ss

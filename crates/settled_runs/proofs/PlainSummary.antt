@@ -1,13 +1,8 @@
 -- The summary of plain replies is the plain summary.
-use Rattle.settled_runs.proofs.Names.{◌≡◌, ℕ, ◌+◌, cond, List, [], ◌∷◌, Option, refl, sym, ◌∙◌, ap, TaskEnd, Action, NewTask, Reply, after, Deed, Statement, Part, is_task, Told, run_terms, parts_told, no_totals, with_end, all_statements, actions_in, Faults, no_faults, IsPlainTask, with_plain_task, SettledSummariesArePlain}
-use Rattle.mtapi_machine.specs.Ends.{end_at}
+use Rattle.settled_runs.proofs.Names.{◌≡◌, ℕ, ◌+◌, cond, List, [], ◌∷◌, Option, refl, sym, ◌∙◌, ap, TaskEnd, Action, NewTask, Reply, after, Deed, Statement, Part, is_task, Told, run_terms, parts_told, no_totals, with_end, all_statements, actions_in, Faults, no_faults, IsPlainTask, with_plain_task, SettledSummariesArePlain, end_at, shown_of, with_tasks, with_parts, totals, totals_text, task_in, faults_behind, IsPlainReply, ArePlain, PartsArePlain, with_plain_tasks, with_plain_parts, plain_summary}
 use Rattle.workload_file.specs.declared.workload.Deed.TheVariants as deed
 use Rattle.run_report.specs.declared.totals.Totals.{Totals}
-use Rattle.run_report.specs.Calls.{shown_of}
-use Rattle.run_report.specs.Summary.{with_task, with_tasks, with_parts, totals, totals_text}
-use Rattle.settled_runs.specs.Plain.{task_in, faults_behind}
-use Rattle.settled_runs.specs.PlainReplies.{IsPlainReply, ArePlain, PartsArePlain}
-use Rattle.settled_runs.specs.PlainSummary.{with_plain_tasks, with_plain_parts, plain_summary}
+use Rattle.run_report.specs.Summary.{with_task}
 use Rattle.settled_runs.proofs.RunReport.{told_plainly}
 
 module _ (actions : List Action) (ends : ℕ → Option TaskEnd) where
@@ -18,13 +13,7 @@ module _ (actions : List Action) (ends : ℕ → Option TaskEnd) where
   unfolding IsPlainReply shown_of task_in
   task_counted all faults t (deed.Start job args priority cores detached group) r p = counts_task t (task_in all (deed.Start job args priority cores detached group)) r p
   task_counted all faults t (deed.Enqueue queue args cores detached group) r p = counts_task t (task_in all (deed.Enqueue queue args cores detached group)) r p
-  task_counted all faults t deed.Begin r p = refl
-  task_counted all faults t (deed.Action job kind cores) r p = refl
-  task_counted all faults t (deed.Wait place timeout) r p = refl
-  task_counted all faults t deed.Group r p = refl
-  task_counted all faults t (deed.WaitAll group timeout) r p = refl
-  task_counted all faults t (deed.Queue id job priority limit ordered retain) r p = refl
-  task_counted all faults t _ r p = absurd p
+  task_counted all faults t _ r p = cc
 
   tasks_counted : (all : List Statement) (faults : Faults) (t : Totals) (ss : List Statement) (rs : List Reply) → ArePlain actions all ends faults ss rs → with_tasks ends t ss rs ≡ with_plain_tasks actions all t ss
   unfolding ArePlain with_tasks with_plain_tasks

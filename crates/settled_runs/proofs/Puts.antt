@@ -1,12 +1,9 @@
 -- How many tasks a part puts into one of its queues.
-use Rattle.settled_runs.proofs.Names.{◌≡◌, ℕ, zero, suc, ◌+◌, ◌≤◌, Bool, true, false, List, [], ◌∷◌, Option, Some, refl, ◌∙◌, ap, subst, arith, ◌==◌, not, nat_lt, map, slice_get, eq-eqb, eqb-true, nat_tests, holds, how_many, Queue, Deed, Statement, fields, word_for, values, AllFit, IsBoundAt, IsStatement, AreStatements, Op, Reply, handle_of, some_same, fst_true, snd_true, handle_at, call_of, Line, Made, true_false, puts, queue_in, puts_into}
+use Rattle.settled_runs.proofs.Names.{◌≡◌, ℕ, zero, suc, ◌+◌, ◌≤◌, Bool, true, false, List, [], ◌∷◌, Option, Some, refl, ◌∙◌, ap, subst, arith, ◌==◌, not, nat_lt, map, slice_get, eq-eqb, eqb-true, nat_tests, holds, how_many, Queue, Deed, Statement, fields, word_for, values, AllFit, IsBoundAt, IsStatement, AreStatements, Op, Reply, handle_of, some_same, fst_true, snd_true, handle_at, call_of, Line, Made, true_false, puts, queue_in, puts_into, deed_spelled, Carried, keep_limits}
 use Rattle.workload_file.specs.declared.table.Sort.TheVariants as sort
 use Rattle.workload_file.specs.declared.workload.Deed.TheVariants as deed
 use Rattle.workload_file.specs.Table.{row}
-use Rattle.workload_file.specs.Deeds.{deed_spelled}
 use Rattle.mtapi_machine.specs.declared.ops.Op.TheVariants as op
-use Rattle.sched_workers.specs.Parts.{Carried}
-use Rattle.settled_runs.specs.Settled.{keep_limits}
 use Rattle.settled_runs.proofs.Counted.{bit, asked, CallAsks, statements_ask}
 use Rattle.settled_runs.proofs.Along.{BoundBy, step_bound, step_statement}
 use Rattle.settled_runs.proofs.Each.{is_outside}

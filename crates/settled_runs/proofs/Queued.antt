@@ -1,12 +1,8 @@
 -- In a quiet history a queue and a task of a queue aren't refused for which there is room and all that they need.
-use Rattle.settled_runs.proofs.Names.{◌≡◌, ℕ, ◌+◌, ◌≤◌, ◌<◌, Bool, true, false, cond, List, [], ◌∷◌, Option, Some, refl, sym, ◌∙◌, ap, subst, arith, ℤ, ◌==◌, ◌&&◌, ◌||◌, not, nat_lt, nat_le, eq-eqb, nat_tests, holds, Mask, TaskEnd, Failed, GroupHandle, QueueHandle, entry, Listed, live_object, any_live, any_listed, how_many, count_listed, with_fields, gone, has_job, new_action, Task, Running, is_unended, with_state, with_notes, ended, is_member, freed, let_go, Queue, is_in, is_unended_in, Op, Reply, Handle, Mtapi, Terms, State, opening, queues, Move, Queues, withdraws, starts_task, runs_task, ends_task, ends_waiting, notes, leaves, frees_members, lets_members_go, makes, alters, removes, is_fresh, apply, after_moves, Row, Allows, after_row, handle_of, live, new_queue, NodeEntry, next, Legal, after, IsMade, AltersObject, makes_kind, given, on_only, on_live, by_moves, sorts_keep, some_entry, entries_that, true_false, none_first, Every, every_issue, every_change, sort_move, is_handle, HasRoom, HasAction, IsServed, GroupIsMade, makes_queue, puts, IsQueued, Asks, IsGranted}
+use Rattle.settled_runs.proofs.Names.{◌≡◌, ℕ, ◌+◌, ◌≤◌, ◌<◌, Bool, true, false, cond, List, [], ◌∷◌, Option, Some, refl, sym, ◌∙◌, ap, subst, arith, ℤ, ◌==◌, ◌&&◌, ◌||◌, not, nat_lt, nat_le, eq-eqb, nat_tests, holds, Mask, TaskEnd, Failed, GroupHandle, QueueHandle, entry, Listed, live_object, any_live, any_listed, how_many, count_listed, with_fields, gone, has_job, new_action, Task, Running, is_unended, with_state, with_notes, ended, is_member, freed, let_go, Queue, is_in, is_unended_in, Op, Reply, Handle, Mtapi, Terms, State, opening, queues, Move, Queues, withdraws, starts_task, runs_task, ends_task, ends_waiting, notes, leaves, frees_members, lets_members_go, makes, alters, removes, is_fresh, apply, after_moves, Row, Allows, after_row, handle_of, live, new_queue, NodeEntry, next, Legal, after, IsMade, AltersObject, makes_kind, given, on_only, on_live, by_moves, sorts_keep, some_entry, entries_that, true_false, none_first, Every, every_issue, every_change, sort_move, is_handle, HasRoom, HasAction, IsServed, GroupIsMade, makes_queue, puts, IsQueued, Asks, IsGranted, live_of, change, change_all, issue, end_each, row, LegalFrom, after_from}
 use Rattle.mtapi_values.specs.declared.handles.ObjectKind.TheVariants as kinds
 use Rattle.mtapi_values.specs.declared.statuses.MtapiStatus.TheVariants as m
-use Rattle.handle_pool.specs.Issued.{live_of, change, change_all, issue}
-use Rattle.mtapi_objects.specs.Tasks.{end_each}
 use Rattle.mtapi_machine.specs.declared.ops.Op.TheVariants as op
-use Rattle.mtapi_machine.specs.Rows.{row}
-use Rattle.mtapi_machine.specs.Legal.{LegalFrom, after_from}
 use Rattle.history_law.specs.Words.{makes as makes_object}
 use Rattle.settled_runs.specs.Granted.{puts_into}
 use Rattle.settled_runs.proofs.Sizes.{no_start, queues_grow, tasks_grow}

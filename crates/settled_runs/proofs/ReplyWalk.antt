@@ -1,22 +1,13 @@
 -- In a run of a settled workload each statement, other than a wait for all tasks of a group, gets its plain reply.
-use Rattle.settled_runs.proofs.Names.{◌≡◌, ℕ, Bool, true, false, List, [], ◌∷◌, ◌++◌, Option, Some, None, refl, sym, ◌∙◌, ap, subst, append_assoc, ℤ, ◌&&◌, not, map, slice_get, option_and_then, IfSome, list_any, option_map, eq-eqb, TaskEnd, Timeout, Mask, Layout, GroupHandle, QueueHandle, entry, live_object, Action, NewTask, new_task, Queue, Deed, Statement, Workload, fields, word_for, values, place_used, AllFit, IsBoundAt, IsStatement, AreStatements, Op, Reply, Terms, State, opening, tasks, is_open, released, starts_task, is_fresh, after_moves, gives, handle_of, Allows, after_row, asked_for, asked_of, is_status, NodeEntry, IsNext, next, after, some_same, fst_true, snd_true, on_only, on_live, not_true, handle_at, group_at, call_of, Line, line, before_it, Made, Looked, granted, refuses_only, refuses_live, no_handle, true_false, SameTask, StartedAs, HasObject, started_as, has_new, cut_from, fresh_unlisted, run_terms, Part, verdict, all_statements, actions_in, queue_in, queue_at, no_faults, IsPlainTask, GrantedTo, AllGranted, SettledRun, Asks, is_infinite, is_alone, waits_for, is_startable, has_one_fault_a_group}
+use Rattle.settled_runs.proofs.Names.{◌≡◌, ℕ, Bool, true, false, List, [], ◌∷◌, ◌++◌, Option, Some, None, refl, sym, ◌∙◌, ap, subst, append_assoc, ℤ, ◌&&◌, not, map, slice_get, option_and_then, IfSome, list_any, option_map, eq-eqb, TaskEnd, Timeout, Mask, Layout, GroupHandle, QueueHandle, entry, live_object, Action, NewTask, new_task, Queue, Deed, Statement, Workload, fields, word_for, values, place_used, AllFit, IsBoundAt, IsStatement, AreStatements, Op, Reply, Terms, State, opening, tasks, is_open, released, starts_task, is_fresh, after_moves, gives, handle_of, Allows, after_row, asked_for, asked_of, is_status, NodeEntry, IsNext, next, after, some_same, fst_true, snd_true, on_only, on_live, not_true, handle_at, group_at, call_of, Line, line, before_it, Made, Looked, granted, refuses_only, refuses_live, no_handle, true_false, SameTask, StartedAs, HasObject, started_as, has_new, cut_from, fresh_unlisted, run_terms, Part, verdict, all_statements, actions_in, queue_in, queue_at, no_faults, IsPlainTask, GrantedTo, AllGranted, SettledRun, Asks, is_infinite, is_alone, waits_for, is_startable, has_one_fault_a_group, deed_spelled, row, after_from, end_at, lines_of, Carried, task_in, plain_end, ArePlain, IsPlainReply, is_settled_deed, are_settled, have_one_fault_a_group}
 use Rattle.mtapi_values.specs.declared.timeouts.Timeout.TheVariants as timeout
 use Rattle.mtapi_values.specs.declared.handles.ObjectKind.TheVariants as kinds
 use Rattle.mtapi_values.specs.declared.statuses.MtapiStatus.TheVariants as m
 use Rattle.workload_file.specs.declared.table.Sort.TheVariants as sort
 use Rattle.workload_file.specs.declared.workload.Deed.TheVariants as deed
 use Rattle.workload_file.specs.Table.{row as row_of}
-use Rattle.workload_file.specs.Deeds.{deed_spelled}
 use Rattle.mtapi_machine.specs.declared.ops.Op.TheVariants as op
 use Rattle.mtapi_machine.specs.declared.replies.Reply.TheVariants as reply
-use Rattle.mtapi_machine.specs.Rows.{row}
-use Rattle.mtapi_machine.specs.Legal.{after_from}
-use Rattle.mtapi_machine.specs.Ends.{end_at}
-use Rattle.sched_workers.specs.Lines.{lines_of}
-use Rattle.sched_workers.specs.Parts.{Carried}
-use Rattle.settled_runs.specs.Plain.{task_in, plain_end}
-use Rattle.settled_runs.specs.PlainReplies.{ArePlain, IsPlainReply}
-use Rattle.settled_runs.specs.Settled.{is_settled_deed, are_settled, have_one_fault_a_group}
 use Rattle.settled_runs.proofs.Stays.{made_objects_stay}
 use Rattle.settled_runs.proofs.RunEnds.{at_entry, ends_as_asked}
 use Rattle.settled_runs.proofs.Cuts.{Cut, cut}

@@ -1,10 +1,10 @@
 -- In a run of a settled workload there is room for each object that is asked for, and the ids of queues are new.
-use Rattle.settled_runs.proofs.Names.{◌≡◌, ℕ, ◌+◌, ◌≤◌, ◌<◌, Bool, true, false, cond, List, [], ◌∷◌, ◌++◌, Option, Some, None, refl, ap, subst, arith, ◌==◌, ◌&&◌, ◌||◌, nat_le, is_some, list_any, eqb-true, nat_tests, NodeSettings, holds, Layout, ObjectKind, entry, how_many, Queue, Deed, Statement, Workload, Op, NodeEntry, fst_true, snd_true, not_true, call_of, Line, some_entry, entries_that, true_false, run_terms, is_handle, makes_one, HasRoom, makes_queue, all_statements, queue_in, has_new_id, makes_group, makes_task, has_room, SettledRun}
+use Rattle.settled_runs.proofs.Names.{◌≡◌, ℕ, ◌+◌, ◌≤◌, ◌<◌, Bool, true, false, cond, List, [], ◌∷◌, ◌++◌, Option, Some, None, refl, ap, subst, arith, ◌==◌, ◌&&◌, ◌||◌, nat_le, is_some, list_any, eqb-true, nat_tests, NodeSettings, holds, Layout, ObjectKind, entry, how_many, Queue, Deed, Statement, Workload, Op, NodeEntry, fst_true, snd_true, not_true, call_of, Line, some_entry, entries_that, true_false, run_terms, is_handle, makes_one, HasRoom, makes_queue, all_statements, queue_in, has_new_id, makes_group, makes_task, has_room, SettledRun, has_different_ids}
 use Rattle.mtapi_values.specs.declared.handles.ObjectKind.TheVariants as kinds
 use Rattle.workload_file.specs.declared.workload.Deed.TheVariants as deed
 use Rattle.mtapi_machine.specs.declared.ops.Op.TheVariants as op
 use Rattle.history_law.specs.Words.{makes}
-use Rattle.settled_runs.specs.Settled.{has_different_ids, makes_action}
+use Rattle.settled_runs.specs.Settled.{makes_action}
 use Rattle.settled_runs.proofs.Cuts.{Cut}
 use Rattle.settled_runs.proofs.Counted.{bit, asks, asks_append, CallAsks, IsClass, run_asks}
 use Rattle.settled_runs.proofs.Opened.{seats_are}

@@ -1,17 +1,11 @@
 -- In a run of a settled workload each task has its plain end.
-use Rattle.settled_runs.proofs.Names.{◌≡◌, ℕ, Bool, true, false, cond, List, [], ◌∷◌, ◌++◌, Some, refl, sym, ◌∙◌, ap, subst, ℤ, append_assoc, length, ◌==◌, ◌&&◌, ◌||◌, not, option_map, find, list_all, eq-eqb, eqb-true, Kind, Layout, TaskEnd, entry, Listed, with_fields, Action, with_enabled, has_job, Task, NewTask, new_task, kind_number, Workload, Op, Reply, Terms, State, opening, Move, makes_action, enables, withdraws, makes, alters, removes, apply, task_end, NodeEntry, next, Legal, after, IsMade, MakesAction, end_in, some_same, fst_true, snd_true, by_moves, sorts_keep, accepted_end, SameTask, Under, true_false, Every, every_issue, every_change, every_at, StartedAs, started_as, task_then, cut_from, has_behind, HasObject, by_seats, RunOf, run_terms, is_quiet, AreQuiet, IsPlain, none_withdrawn, quiet_tasks_end_plainly, all_statements, actions_in, are_alike, are_settled_parts, has_room, has_one_fault_a_group}
+use Rattle.settled_runs.proofs.Names.{◌≡◌, ℕ, Bool, true, false, cond, List, [], ◌∷◌, ◌++◌, Some, refl, sym, ◌∙◌, ap, subst, ℤ, append_assoc, length, ◌==◌, ◌&&◌, ◌||◌, not, option_map, find, list_all, eq-eqb, eqb-true, Kind, Layout, TaskEnd, entry, Listed, with_fields, Action, with_enabled, has_job, Task, NewTask, new_task, kind_number, Workload, Op, Reply, Terms, State, opening, Move, makes_action, enables, withdraws, makes, alters, removes, apply, task_end, NodeEntry, next, Legal, after, IsMade, MakesAction, end_in, some_same, fst_true, snd_true, by_moves, sorts_keep, accepted_end, SameTask, Under, true_false, Every, every_issue, every_change, every_at, StartedAs, started_as, task_then, cut_from, has_behind, HasObject, by_seats, RunOf, run_terms, is_quiet, AreQuiet, IsPlain, none_withdrawn, quiet_tasks_end_plainly, all_statements, actions_in, are_alike, are_settled_parts, has_room, has_one_fault_a_group, answer_of, LegalFrom, after_from, end_at, task_at, plain_end, has_one_kind_a_job, has_different_ids, keep_limits, is_settled}
 use Rattle.mtapi_values.specs.declared.handles.ObjectKind.TheVariants as kinds
-use Rattle.action_fn.specs.Answers.{answer_of}
 use Rattle.mtapi_machine.specs.declared.ops.Op.TheVariants as op
 use Rattle.mtapi_machine.specs.declared.replies.Reply.TheVariants as reply
-use Rattle.mtapi_machine.specs.Legal.{LegalFrom, after_from}
-use Rattle.mtapi_machine.specs.Ends.{end_at}
 use Rattle.history_law.specs.Words.{makes as makes_object, is_handle}
 use Rattle.history_law.specs.Accepted.{accepted_by, accepted, EndsOnce}
-use Rattle.history_law.specs.Quiet.{task_at}
 use Rattle.history_law.proofs.KindNumbers.{same_kind}
-use Rattle.settled_runs.specs.Plain.{plain_end}
-use Rattle.settled_runs.specs.Settled.{has_one_kind_a_job, has_different_ids, keep_limits, is_settled}
 use Rattle.settled_runs.specs.RunEnds.{SettledTasksEndAsPlanned}
 use Rattle.settled_runs.proofs.Asked.{is_listed, is_planned, ArePlanned, run_planned}
 

@@ -1,8 +1,5 @@
 -- In a run of a settled workload the statements of each part get their plain replies.
-use Rattle.settled_runs.proofs.Names.{◌≡◌, ℕ, suc, Bool, true, arith, List, [], ◌∷◌, Option, list_all, Part, Reply, after, fst_true, snd_true, run_terms, Action, TaskEnd, all_statements, actions_in, no_faults, has_one_fault_a_group, PartsReplyPlainly, SettledRepliesArePlain}
-use Rattle.std.specs.List.{AllByRecursion as Each}
-use Rattle.mtapi_machine.specs.Ends.{end_at}
-use Rattle.settled_runs.specs.PlainReplies.{ArePlain}
+use Rattle.settled_runs.proofs.Names.{Each, ◌≡◌, ℕ, suc, Bool, true, arith, List, [], ◌∷◌, Option, list_all, Part, Reply, after, fst_true, snd_true, run_terms, Action, TaskEnd, all_statements, actions_in, no_faults, has_one_fault_a_group, PartsReplyPlainly, SettledRepliesArePlain, end_at, ArePlain}
 use Rattle.settled_runs.proofs.Each.{one_fault, AllSeats, map_seats, with_each}
 use Rattle.settled_runs.proofs.Walk.{Seat}
 use Rattle.settled_runs.proofs.ReplyWalk.{seat_plain}

@@ -1,11 +1,6 @@
 -- The report of a run of a settled workload is the plain one.
-use Rattle.settled_runs.proofs.Names.{◌≡◌, ℕ, ◌+◌, List, [], ◌∷◌, ◌++◌, Option, refl, sym, ◌∙◌, ap, subst, map, flat_map, TaskEnd, Action, Layout, Part, Workload, NodeEntry, after, all_told, run_terms, parts_told, all_statements, actions_in, plain_task_lines, plain_call_lines, SettledRun, PartsReplyPlainly}
-use Rattle.mtapi_machine.specs.Ends.{end_at}
-use Rattle.run_report.specs.Replies.{further_told}
-use Rattle.run_report.specs.Report.{report}
+use Rattle.settled_runs.proofs.Names.{◌≡◌, ℕ, ◌+◌, List, [], ◌∷◌, ◌++◌, Option, refl, sym, ◌∙◌, ap, subst, map, flat_map, TaskEnd, Action, Layout, Part, Workload, NodeEntry, after, all_told, run_terms, parts_told, all_statements, actions_in, plain_task_lines, plain_call_lines, SettledRun, PartsReplyPlainly, end_at, further_told, report, plain_report, PartsArePlain}
 use Rattle.run_report.proofs.RunReplies.{reads_the_run}
-use Rattle.settled_runs.specs.Plain.{plain_report}
-use Rattle.settled_runs.specs.PlainReplies.{PartsArePlain}
 use Rattle.settled_runs.specs.RunReport.{SettledReportsArePlain, SettledReportsAreAlike}
 use Rattle.settled_runs.proofs.PlainReplies.{plain_replies}
 use Rattle.settled_runs.proofs.RunReplies.{settled_replies_are_plain}

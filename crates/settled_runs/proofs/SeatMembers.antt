@@ -1,8 +1,5 @@
 -- Which tasks were put into a group is told by the lines of its own seat.
-use Rattle.settled_runs.proofs.Names.{◌≡◌, ℕ, Bool, true, false, cond, List, [], ◌∷◌, ◌++◌, length, refl, ◌∙◌, ap, arith, ◌==◌, ◌||◌, eq-eqb, entry, is_pending, NodeEntry, Line, line, true_false, starts_member, looks_at_all, with_new, members_behind}
-use Rattle.std.specs.List.{AllByRecursion as Each}
-use Rattle.sched_workers.specs.Lines.{lines_of}
-use Rattle.settled_runs.specs.Verdicts.{members_of}
+use Rattle.settled_runs.proofs.Names.{Each, ◌≡◌, ℕ, Bool, true, false, cond, List, [], ◌∷◌, ◌++◌, length, refl, ◌∙◌, ap, arith, ◌==◌, ◌||◌, eq-eqb, entry, is_pending, NodeEntry, Line, line, true_false, starts_member, looks_at_all, with_new, members_behind, lines_of, members_of}
 use Rattle.settled_runs.proofs.Owners.{uses}
 use Rattle.settled_runs.proofs.Each.{OnlyBy}
 

@@ -1,14 +1,10 @@
 -- How many objects a history made, and that there is room for another.
-use Rattle.settled_runs.proofs.Names.{◌≡◌, ℕ, ◌+◌, ◌≤◌, ◌<◌, Bool, true, false, cond, List, [], ◌∷◌, refl, ◌∙◌, arith, length, ◌==◌, ◌&&◌, not, nat_tests, ObjectKind, TaskEnd, Failed, entry, Listed, with_fields, gone, live_object, Action, with_enabled, Task, NewTask, Running, with_state, with_notes, ended, is_member, freed, let_go, Op, Reply, Mtapi, Terms, State, opening, Move, Groups, Queues, all_of, makes_action, enables, withdraws, starts_task, runs_task, ends_task, ends_waiting, notes, leaves, frees_members, lets_members_go, makes, alters, removes, apply, after_moves, Allows, after_row, NodeEntry, next, after, IsMade, MakesAction, StartsTask, makes_kind, given, on_only, on_live, by_moves, sorts_keep, objects_of, entries_that, sort_move, true_false, is_handle, makes_one, HasRoom}
+use Rattle.settled_runs.proofs.Names.{◌≡◌, ℕ, ◌+◌, ◌≤◌, ◌<◌, Bool, true, false, cond, List, [], ◌∷◌, refl, ◌∙◌, arith, length, ◌==◌, ◌&&◌, not, nat_tests, ObjectKind, TaskEnd, Failed, entry, Listed, with_fields, gone, live_object, Action, with_enabled, Task, NewTask, Running, with_state, with_notes, ended, is_member, freed, let_go, Op, Reply, Mtapi, Terms, State, opening, Move, Groups, Queues, all_of, makes_action, enables, withdraws, starts_task, runs_task, ends_task, ends_waiting, notes, leaves, frees_members, lets_members_go, makes, alters, removes, apply, after_moves, Allows, after_row, NodeEntry, next, after, IsMade, MakesAction, StartsTask, makes_kind, given, on_only, on_live, by_moves, sorts_keep, objects_of, entries_that, sort_move, true_false, is_handle, makes_one, HasRoom, live_of, change, change_all, issue, retired, is_full, end_each, row, LegalFrom, after_from}
 use Rattle.mtapi_values.specs.declared.handles.ObjectKind.TheVariants as kind
 use Rattle.mtapi_values.specs.declared.statuses.MtapiStatus.TheVariants as m
-use Rattle.handle_pool.specs.Issued.{live_of, change, change_all, issue, retired, is_full}
 use Rattle.handle_pool.specs.Slots.{generation_of}
-use Rattle.mtapi_objects.specs.Tasks.{end_each}
 use Rattle.mtapi_machine.specs.declared.ops.Op.TheVariants as op
 use Rattle.mtapi_machine.specs.Moves.{Sort}
-use Rattle.mtapi_machine.specs.Rows.{row}
-use Rattle.mtapi_machine.specs.Legal.{LegalFrom, after_from}
 use Rattle.history_law.specs.Words.{makes as makes_object}
 
 -- how many objects of the kind there are

@@ -13,34 +13,7 @@ status_from n =
 back : (c : MtapiStatus) → status_from (mtapi_number c) ≡ c
 unfolding status_from
 back t.Success = refl
-back t.Timeout = refl
-back t.GroupCompleted = refl
-back t.ErrParameter = refl
-back t.ErrNodeInitialized = refl
-back t.ErrNodeNotinit = refl
-back t.ErrActionInvalid = refl
-back t.ErrActionLimit = refl
-back t.ErrActionFailed = refl
-back t.ErrActionDeleted = refl
-back t.ErrActionDisabled = refl
-back t.ErrArgSize = refl
-back t.ErrJobInvalid = refl
-back t.ErrNoCore = refl
-back t.ErrTaskInvalid = refl
-back t.ErrTaskLimit = refl
-back t.ErrTaskCancelled = refl
-back t.ErrGroupInvalid = refl
-back t.ErrGroupLimit = refl
-back t.ErrQueueInvalid = refl
-back t.ErrQueueLimit = refl
-back t.ErrQueueDeleted = refl
-back t.ErrQueueDisabled = refl
-back t.ErrQueueExists = refl
-back t.ErrWaitPending = refl
-back t.ErrAttrNum = refl
-back t.ErrAttrReadonly = refl
-back t.ErrCoreNum = refl
-back t.ErrSpent = refl
+back _ = refl
 
 -- statuses of one number are one status
 pub same_status : (c d : MtapiStatus) → mtapi_number c ≡ mtapi_number d → c ≡ d

@@ -1,9 +1,7 @@
 -- In a quiet history what was made stays as it was made.
-use Rattle.settled_runs.proofs.Names.{◌≡◌, ℕ, true, List, [], ◌∷◌, ◌++◌, Some, refl, sym, ◌∙◌, ap, subst, is_some, eq-eqb, entry, live_object, Action, new_action, Group, new_group, Queue, Op, Handle, State, opening, Move, Groups, Queues, makes_action, enables, withdraws, makes, alters, removes, apply, after_moves, Allows, after_row, new_queue, NodeEntry, IsNext, next, after, IsMade, EnablesAction, AltersObject, RemovesObject, on_only, by_moves, sorts_keep, granted, refuses_only, live_listed, true_false, at_issue_here, at_issue_other, cut_from, cut_after, fresh_unlisted, fresh_apart, issued_as, is_quiet, AreQuiet, none_withdrawn, IsThere, MadeObjectsStay}
+use Rattle.settled_runs.proofs.Names.{◌≡◌, ℕ, true, List, [], ◌∷◌, ◌++◌, Some, refl, sym, ◌∙◌, ap, subst, is_some, eq-eqb, entry, live_object, Action, new_action, Group, new_group, Queue, Op, Handle, State, opening, Move, Groups, Queues, makes_action, enables, withdraws, makes, alters, removes, apply, after_moves, Allows, after_row, new_queue, NodeEntry, IsNext, next, after, IsMade, EnablesAction, AltersObject, RemovesObject, on_only, by_moves, sorts_keep, granted, refuses_only, live_listed, true_false, at_issue_here, at_issue_other, cut_from, cut_after, fresh_unlisted, fresh_apart, issued_as, is_quiet, AreQuiet, none_withdrawn, IsThere, MadeObjectsStay, row, LegalFrom, after_from}
 use Rattle.mtapi_values.specs.declared.handles.ObjectKind.TheVariants as kind
 use Rattle.mtapi_machine.specs.declared.ops.Op.TheVariants as op
-use Rattle.mtapi_machine.specs.Rows.{row}
-use Rattle.mtapi_machine.specs.Legal.{LegalFrom, after_from}
 use Rattle.history_law.specs.Words.{makes as makes_kind}
 use Rattle.history_law.proofs.Unmoved.{live_stays}
 

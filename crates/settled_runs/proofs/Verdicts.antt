@@ -1,18 +1,13 @@
 -- What a look at a whole group tells in a quiet history.
-use Rattle.settled_runs.proofs.Names.{◌≡◌, ◌⊎◌, inl, inr, ℕ, ◌≤◌, Bool, true, false, cond, List, [], ◌∷◌, ◌++◌, Option, Some, None, refl, sym, ◌∙◌, ap, subst, arith, ◌==◌, ◌&&◌, ◌||◌, not, is_none, is_some, option_and_then, eq-eqb, eqb-true, holds, TaskEnd, MtapiStatus, GroupHandle, entry, Listed, lookup, live_object, any_live, any_listed, with_fields, gone, Task, NewTask, TaskState, Scheduled, Running, Ended, is_unended, end_of, new_task, with_notes, with_waiter, Group, new_group, is_member, is_unended_member, freed, first_fault, fault_of, Op, Reply, State, opening, is_open, tasks, groups, Move, Groups, makes, starts_task, notes, leaves, frees_members, is_fresh, apply, after_moves, Row, unless, gives, never, Allows, live, moves_of, after_row, asked_for, asked_of, number_of, is_detached_member, verdict, is_pending, end_in, NodeEntry, IsNext, next, after, some_same, AllGives, given, on_only, on_live, not_false, both_true, Legal-front, by_moves, granted, refuses_only, refuses_live, no_handle, true_false, second_false, none_first, at_issue_here, closes, Every, cut_from, cut_after, FoundAs, found_changed, found_issued, OnceIn, fresh_unlisted, is_quiet, AreQuiet, is_handle, starts_member, looks_at_all, with_new, members_behind, goes_on, GoOn, IsVerdict, QuietVerdicts, IsCalm, none_impure, calm_next, calm_along, calm_opening}
+use Rattle.settled_runs.proofs.Names.{◌≡◌, ◌⊎◌, inl, inr, ℕ, ◌≤◌, Bool, true, false, cond, List, [], ◌∷◌, ◌++◌, Option, Some, None, refl, sym, ◌∙◌, ap, subst, arith, ◌==◌, ◌&&◌, ◌||◌, not, is_none, is_some, option_and_then, eq-eqb, eqb-true, holds, TaskEnd, MtapiStatus, GroupHandle, entry, Listed, lookup, live_object, any_live, any_listed, with_fields, gone, Task, NewTask, TaskState, Scheduled, Running, Ended, is_unended, end_of, new_task, with_notes, with_waiter, Group, new_group, is_member, is_unended_member, freed, first_fault, fault_of, Op, Reply, State, opening, is_open, tasks, groups, Move, Groups, makes, starts_task, notes, leaves, frees_members, is_fresh, apply, after_moves, Row, unless, gives, never, Allows, live, moves_of, after_row, asked_for, asked_of, number_of, is_detached_member, verdict, is_pending, end_in, NodeEntry, IsNext, next, after, some_same, AllGives, given, on_only, on_live, not_false, both_true, Legal-front, by_moves, granted, refuses_only, refuses_live, no_handle, true_false, second_false, none_first, at_issue_here, closes, Every, cut_from, cut_after, FoundAs, found_changed, found_issued, OnceIn, fresh_unlisted, is_quiet, AreQuiet, is_handle, starts_member, looks_at_all, with_new, members_behind, goes_on, GoOn, IsVerdict, QuietVerdicts, IsCalm, none_impure, calm_next, calm_along, calm_opening, live_of, listed, change_all, endings, row, LegalFrom, after_from, members_of}
 use Rattle.mtapi_values.specs.declared.kinds.Kind.TheVariants as kind
 use Rattle.mtapi_values.specs.declared.statuses.MtapiStatus.TheVariants as m
 use Rattle.mtapi_values.specs.declared.handles.ObjectKind.TheVariants as kinds
-use Rattle.handle_pool.specs.Issued.{live_of, listed, change_all}
-use Rattle.mtapi_objects.specs.Groups.{endings}
 use Rattle.mtapi_machine.specs.declared.ops.Op.TheVariants as op
 use Rattle.mtapi_machine.specs.declared.replies.Reply.TheVariants as reply
-use Rattle.mtapi_machine.specs.Rows.{row}
 use Rattle.mtapi_machine.specs.TaskRows.{looks_at as looks_row}
-use Rattle.mtapi_machine.specs.Legal.{LegalFrom, after_from}
 use Rattle.history_law.proofs.Moves.{once_from}
 use Rattle.history_law.proofs.Ordered.{end_found}
-use Rattle.settled_runs.specs.Verdicts.{members_of}
 use Rattle.settled_runs.proofs.Granted.{any_found, open_move}
 use Rattle.settled_runs.proofs.Stays.{there_next, made_there}
 use Rattle.settled_runs.proofs.Named.{IsNamed, Named, named_along}

@@ -1,15 +1,9 @@
 -- In a run of a settled workload each wait for all tasks of a group is told the fault that the plain report tells of it.
-use Rattle.settled_runs.proofs.Names.{◌≡◌, ◌⊎◌, inl, inr, ℕ, suc, ◌+◌, true, false, List, [], ◌∷◌, ◌++◌, length, Option, Some, refl, sym, ◌∙◌, ap, subst, arith, append_assoc, ◌<◌, map, option_and_then, append-nil, Layout, TaskEnd, MtapiStatus, Action, fault_of, entry, Statement, Workload, IsBoundAt, AreStatements, Reply, Terms, handle_of, is_pending, verdict, NodeEntry, Legal, after, handle_at, call_of, Line, line, Made, closes, NoClose, front_stays, true_false, run_terms, AreQuiet, all_statements, actions_in, no_faults, AllGranted, SettledRun, GoOn, IsVerdict, goes_on}
-use Rattle.std.specs.List.{AllByRecursion as Each}
+use Rattle.settled_runs.proofs.Names.{Each, ◌≡◌, ◌⊎◌, inl, inr, ℕ, suc, ◌+◌, true, false, List, [], ◌∷◌, ◌++◌, length, Option, Some, refl, sym, ◌∙◌, ap, subst, arith, append_assoc, ◌<◌, map, option_and_then, append-nil, Layout, TaskEnd, MtapiStatus, Action, fault_of, entry, Statement, Workload, IsBoundAt, AreStatements, Reply, Terms, handle_of, is_pending, verdict, NodeEntry, Legal, after, handle_at, call_of, Line, line, Made, closes, NoClose, front_stays, true_false, run_terms, AreQuiet, all_statements, actions_in, no_faults, AllGranted, SettledRun, GoOn, IsVerdict, goes_on, end_at, lines_of, Carried, are_settled, have_one_fault_a_group, members_of, ArePlain}
 use Rattle.workload_file.specs.declared.table.Sort.TheVariants as sort
 use Rattle.mtapi_machine.specs.declared.ops.Op.TheVariants as op
 use Rattle.mtapi_machine.specs.declared.replies.Reply.TheVariants as reply
-use Rattle.mtapi_machine.specs.Ends.{end_at}
-use Rattle.sched_workers.specs.Lines.{lines_of}
-use Rattle.sched_workers.specs.Parts.{Carried}
 use Rattle.mtapi_values.specs.declared.handles.ObjectKind.TheVariants as kinds
-use Rattle.settled_runs.specs.Settled.{are_settled, have_one_fault_a_group}
-use Rattle.settled_runs.specs.Verdicts.{members_of}
 use Rattle.settled_runs.proofs.Stays.{quiet_front, quiet_rest}
 use Rattle.settled_runs.proofs.Verdicts.{quiet_verdicts}
 use Rattle.settled_runs.proofs.Cuts.{Cut, cut}
@@ -25,7 +19,6 @@ use Rattle.settled_runs.proofs.MemberFaults.{one_verdict}
 use Rattle.settled_runs.proofs.OneFault.{one_status}
 use Rattle.settled_runs.proofs.SeatMembers.{members_in, members_lines, members_append, unused_lines}
 use Rattle.settled_runs.proofs.Walk.{Finds}
-use Rattle.settled_runs.specs.PlainReplies.{ArePlain}
 use Rattle.settled_runs.proofs.Each.{OnlyBy, each_behind, each_front, made_each, statements_each}
 use Rattle.settled_runs.proofs.Distinct.{binds_group, bound_issued, groups_list, one_bound, part_once, part_within}
 

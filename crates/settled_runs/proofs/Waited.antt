@@ -1,17 +1,11 @@
 -- In a run of a settled workload each wait for a task is told its end.
-use Rattle.settled_runs.proofs.Names.{◌≡◌, ◌⊎◌, inl, inr, ℕ, Bool, true, false, List, [], ◌∷◌, ◌++◌, Option, Some, None, refl, sym, ◌∙◌, ap, subst, ◌||◌, not, is_none, nat_lt, map, slice_get, option_and_then, option_map, list_any, NodeSettings, Layout, TaskEnd, entry, Action, Queue, Deed, Statement, Workload, IsBoundAt, AreStatements, Op, Reply, handle_of, is_status, is_pending, NodeEntry, fst_true, both_true, handle_at, group_at, call_of, Line, line, before_it, Made, true_false, run_terms, starts_alone, looks_at, AreLeft, actions_in, queue_at, serves, is_alone, is_startable, waits_for, AllGranted, SettledRun}
-use Rattle.std.specs.List.{AllByRecursion as Each}
+use Rattle.settled_runs.proofs.Names.{Each, ◌≡◌, ◌⊎◌, inl, inr, ℕ, Bool, true, false, List, [], ◌∷◌, ◌++◌, Option, Some, None, refl, sym, ◌∙◌, ap, subst, ◌||◌, not, is_none, nat_lt, map, slice_get, option_and_then, option_map, list_any, NodeSettings, Layout, TaskEnd, entry, Action, Queue, Deed, Statement, Workload, IsBoundAt, AreStatements, Op, Reply, handle_of, is_status, is_pending, NodeEntry, fst_true, both_true, handle_at, group_at, call_of, Line, line, before_it, Made, true_false, run_terms, starts_alone, looks_at, AreLeft, actions_in, queue_at, serves, is_alone, is_startable, waits_for, AllGranted, SettledRun, binds, lines_of, Carried, task_in, is_settled_deed, are_settled}
 use Rattle.mtapi_values.specs.declared.handles.ObjectKind.TheVariants as kinds
 use Rattle.workload_file.specs.declared.table.Sort.TheVariants as sort
 use Rattle.workload_file.specs.declared.workload.Deed.TheVariants as deed
-use Rattle.workload_file.specs.Deeds.{binds}
 use Rattle.mtapi_machine.specs.declared.ops.Op.TheVariants as op
 use Rattle.mtapi_machine.specs.declared.replies.Reply.TheVariants as reply
-use Rattle.sched_workers.specs.Lines.{lines_of}
-use Rattle.sched_workers.specs.Parts.{Carried}
 use Rattle.settled_runs.specs.Granted.{Made as MadeBy}
-use Rattle.settled_runs.specs.Plain.{task_in}
-use Rattle.settled_runs.specs.Settled.{is_settled_deed, are_settled}
 use Rattle.settled_runs.proofs.Waits.{quiet_looks_are_answered}
 use Rattle.settled_runs.proofs.Cuts.{Cut, cut}
 use Rattle.settled_runs.proofs.Opened.{legal_here, quiet_before}

@@ -1,14 +1,12 @@
 -- In a quiet history a task that its own caller alone looks at stays until it has ended and told its end.
-use Rattle.settled_runs.proofs.Names.{◌≡◌, ◌⊎◌, inl, inr, ℕ, Bool, true, false, List, [], ◌∷◌, ◌++◌, Option, Some, None, refl, sym, ◌∙◌, ap, subst, arith, ◌==◌, ◌&&◌, ◌||◌, not, is_none, is_some, eq-eqb, nat_tests, holds, TaskEnd, Failed, GroupHandle, entry, Listed, live_object, with_fields, gone, Task, NewTask, TaskState, Scheduled, Running, Ended, is_unstarted, new_task, with_state, with_notes, with_waiter, ended, is_member, freed, let_go, Op, Reply, Phase, New, Open, Closing, Closed, State, opening, is_open, is_up, tasks, Move, starts_task, runs_task, ends_task, ends_waiting, withdraws, notes, leaves, frees_members, lets_members_go, makes, alters, removes, is_fresh, apply, after_moves, Row, unless, gives, Allows, live, after_row, asked_for, asked_of, number_of, NodeEntry, IsNext, next, after, IsMade, NotesTask, TakesEnded, some_same, Legal-front, Legal-rest, AllGives, given, on_only, on_live, fst_true, by_moves, sorts_keep, granted, refuses_only, refuses_live, no_handle, true_false, at_issue_here, FoundAs, found_changed, found_issued, found_ends, found_all, cut_from, cut_after, fresh_unlisted, issued_as, is_quiet, AreQuiet, starts_alone, looks_at, AreLeft, QuietLooksAreAnswered, IsCalm, calm_next, calm_along, calm_opening, none_impure}
+use Rattle.settled_runs.proofs.Names.{◌≡◌, ◌⊎◌, inl, inr, ℕ, Bool, true, false, List, [], ◌∷◌, ◌++◌, Option, Some, None, refl, sym, ◌∙◌, ap, subst, arith, ◌==◌, ◌&&◌, ◌||◌, not, is_none, is_some, eq-eqb, nat_tests, holds, TaskEnd, Failed, GroupHandle, entry, Listed, live_object, with_fields, gone, Task, NewTask, TaskState, Scheduled, Running, Ended, is_unstarted, new_task, with_state, with_notes, with_waiter, ended, is_member, freed, let_go, Op, Reply, Phase, New, Open, Closing, Closed, State, opening, is_open, is_up, tasks, Move, starts_task, runs_task, ends_task, ends_waiting, withdraws, notes, leaves, frees_members, lets_members_go, makes, alters, removes, is_fresh, apply, after_moves, Row, unless, gives, Allows, live, after_row, asked_for, asked_of, number_of, NodeEntry, IsNext, next, after, IsMade, NotesTask, TakesEnded, some_same, Legal-front, Legal-rest, AllGives, given, on_only, on_live, fst_true, by_moves, sorts_keep, granted, refuses_only, refuses_live, no_handle, true_false, at_issue_here, FoundAs, found_changed, found_issued, found_ends, found_all, cut_from, cut_after, fresh_unlisted, issued_as, is_quiet, AreQuiet, starts_alone, looks_at, AreLeft, QuietLooksAreAnswered, IsCalm, calm_next, calm_along, calm_opening, none_impure, row, LegalFrom, after_from}
 use Rattle.mtapi_values.specs.Seats.{is_other}
 use Rattle.mtapi_values.specs.declared.kinds.Kind.TheVariants as kind
 use Rattle.mtapi_values.specs.declared.handles.ObjectKind.TheVariants as kinds
 use Rattle.mtapi_values.specs.declared.statuses.MtapiStatus.TheVariants as m
 use Rattle.mtapi_machine.specs.declared.ops.Op.TheVariants as op
 use Rattle.mtapi_machine.specs.declared.replies.Reply.TheVariants as reply
-use Rattle.mtapi_machine.specs.Rows.{row}
 use Rattle.mtapi_machine.specs.TaskRows.{looks_at as looks_row}
-use Rattle.mtapi_machine.specs.Legal.{LegalFrom, after_from}
 use Rattle.history_law.specs.Words.{makes as makes_object}
 use Rattle.settled_runs.proofs.Stays.{quiet_rest, quiet_front}
 use Rattle.settled_runs.proofs.Granted.{before, is_up as open_now, allowed}

@@ -1,19 +1,13 @@
 -- In a run of a settled workload each statement that makes an object is given its handle.
-use Rattle.settled_runs.proofs.Names.{◌≡◌, ◌⊎◌, inl, inr, ℕ, zero, suc, ◌+◌, ◌≤◌, ◌<◌, Bool, true, false, cond, List, [], ◌∷◌, ◌++◌, Option, Some, None, refl, sym, ◌∙◌, ap, subst, arith, ℤ, ◌==◌, ◌&&◌, ◌||◌, not, nat_lt, nat_le, map, slice_get, option_and_then, IfSome, option_map, list_any, eq-eqb, eqb-true, nat_tests, append-nil, Kind, Mask, Layout, entry, how_many, Action, new_action, is_job, has_job, has_enabled_job, is_eligible, some_below, Queue, Deed, Statement, Workload, fields, word_for, values, AllFit, IsBoundAt, IsStatement, AreStatements, Op, Reply, Terms, handle_of, NodeEntry, some_same, fst_true, snd_true, both_true, not_true, handle_at, group_at, call_of, Line, line, Made, closes, entries_that, true_false, run_terms, Part, IsOpened, HasAction, IsServed, GroupIsMade, Asks, IsGranted, is_handle, puts, IsQueued, actions_in, queue_in, queue_at, serves, is_startable, sets_up, set_up, puts_into, GrantedTo, AllGranted, SettledRun}
-use Rattle.std.specs.List.{AllByRecursion as Each}
+use Rattle.settled_runs.proofs.Names.{Each, ◌≡◌, ◌⊎◌, inl, inr, ℕ, zero, suc, ◌+◌, ◌≤◌, ◌<◌, Bool, true, false, cond, List, [], ◌∷◌, ◌++◌, Option, Some, None, refl, sym, ◌∙◌, ap, subst, arith, ℤ, ◌==◌, ◌&&◌, ◌||◌, not, nat_lt, nat_le, map, slice_get, option_and_then, IfSome, option_map, list_any, eq-eqb, eqb-true, nat_tests, append-nil, Kind, Mask, Layout, entry, how_many, Action, new_action, is_job, has_job, has_enabled_job, is_eligible, some_below, Queue, Deed, Statement, Workload, fields, word_for, values, AllFit, IsBoundAt, IsStatement, AreStatements, Op, Reply, Terms, handle_of, NodeEntry, some_same, fst_true, snd_true, both_true, not_true, handle_at, group_at, call_of, Line, line, Made, closes, entries_that, true_false, run_terms, Part, IsOpened, HasAction, IsServed, GroupIsMade, Asks, IsGranted, is_handle, puts, IsQueued, actions_in, queue_in, queue_at, serves, is_startable, sets_up, set_up, puts_into, GrantedTo, AllGranted, SettledRun, deed_spelled, lines_of, Carried, task_in, is_settled_deed, keep_limits}
 use Rattle.mtapi_values.specs.Masks.{in_mask}
 use Rattle.mtapi_values.specs.declared.handles.ObjectKind.TheVariants as kinds
 use Rattle.workload_file.specs.declared.table.Sort.TheVariants as sort
 use Rattle.workload_file.specs.declared.workload.Deed.TheVariants as deed
 use Rattle.workload_file.specs.Table.{row}
-use Rattle.workload_file.specs.Deeds.{deed_spelled}
 use Rattle.mtapi_machine.specs.declared.ops.Op.TheVariants as op
 use Rattle.mtapi_machine.specs.declared.replies.Reply.TheVariants as reply
-use Rattle.sched_workers.specs.Lines.{lines_of}
-use Rattle.sched_workers.specs.Parts.{Carried}
 use Rattle.settled_runs.specs.Granted.{Made as MadeBy, puts_into as puts_entry}
-use Rattle.settled_runs.specs.Plain.{task_in}
-use Rattle.settled_runs.specs.Settled.{is_settled_deed, keep_limits}
 use Rattle.settled_runs.proofs.Granted.{action_granted, group_granted, start_granted}
 use Rattle.settled_runs.proofs.Queued.{queue_granted, enqueue_granted}
 use Rattle.settled_runs.proofs.Cuts.{Cut, cut}
