@@ -5,7 +5,6 @@ pub mod Stays
 pub mod Sizes
 pub mod Granted
 pub mod Queued
-pub mod Calls
 pub mod Waits
 pub mod Faults
 pub mod GroupMembers
@@ -31,7 +30,6 @@ pub mod Owners
 pub mod Waited
 pub mod SeatMembers
 pub mod MemberFaults
-pub mod StatusNumbers
 pub mod OneFault
 pub mod GoesOn
 pub mod GroupWalk

@@ -1,5 +1,5 @@
 -- In a quiet history a queue and a task of a queue aren't refused for which there is room and all that they need.
-use Rattle.settled_runs.proofs.Names.{◌≡◌, ℕ, ◌+◌, ◌≤◌, ◌<◌, Bool, true, false, cond, List, [], ◌∷◌, Option, Some, refl, sym, ◌∙◌, ap, subst, arith, ℤ, ◌==◌, ◌&&◌, ◌||◌, not, nat_lt, nat_le, eq-eqb, nat_tests, holds, Mask, TaskEnd, Failed, GroupHandle, QueueHandle, entry, Listed, live_object, any_live, any_listed, how_many, count_listed, with_fields, gone, has_job, new_action, Task, Running, is_unended, with_state, with_notes, ended, is_member, freed, let_go, Queue, is_in, is_unended_in, Op, Reply, Handle, Mtapi, Terms, State, opening, queues, Move, Queues, withdraws, starts_task, runs_task, ends_task, ends_waiting, notes, leaves, frees_members, lets_members_go, makes, alters, removes, is_fresh, apply, after_moves, Row, Allows, after_row, handle_of, live, new_queue, NodeEntry, next, Legal, after, IsMade, AltersObject, makes_kind, given, on_only, on_live, by_moves, sorts_keep, some_entry, entries_that, true_false, none_first, Every, every_issue, every_change, sort_move, is_handle, HasRoom, HasAction, IsServed, GroupIsMade, makes_queue, puts, IsQueued, Asks, IsGranted, live_of, change, change_all, issue, end_each, row, LegalFrom, after_from}
+use Rattle.settled_runs.proofs.Names.{QuietCallsAreGranted, ◌≡◌, ℕ, ◌+◌, ◌≤◌, ◌<◌, Bool, true, false, cond, List, [], ◌∷◌, Option, Some, refl, sym, ◌∙◌, ap, subst, arith, ℤ, ◌==◌, ◌&&◌, ◌||◌, not, nat_lt, nat_le, eq-eqb, nat_tests, holds, Mask, TaskEnd, Failed, GroupHandle, QueueHandle, entry, Listed, live_object, any_live, any_listed, how_many, count_listed, with_fields, gone, has_job, new_action, Task, Running, is_unended, with_state, with_notes, ended, is_member, freed, let_go, Queue, is_in, is_unended_in, Op, Reply, Handle, Mtapi, Terms, State, opening, queues, Move, Queues, withdraws, starts_task, runs_task, ends_task, ends_waiting, notes, leaves, frees_members, lets_members_go, makes, alters, removes, is_fresh, apply, after_moves, Row, Allows, after_row, handle_of, live, new_queue, NodeEntry, next, Legal, after, IsMade, AltersObject, makes_kind, given, on_only, on_live, by_moves, sorts_keep, some_entry, entries_that, true_false, none_first, Every, every_issue, every_change, sort_move, is_handle, HasRoom, HasAction, IsServed, GroupIsMade, makes_queue, puts, IsQueued, Asks, IsGranted, live_of, change, change_all, issue, end_each, row, LegalFrom, after_from}
 use Rattle.mtapi_values.specs.declared.handles.ObjectKind.TheVariants as kinds
 use Rattle.mtapi_values.specs.declared.statuses.MtapiStatus.TheVariants as m
 use Rattle.mtapi_machine.specs.declared.ops.Op.TheVariants as op
@@ -7,7 +7,7 @@ use Rattle.history_law.specs.Words.{makes as makes_object}
 use Rattle.settled_runs.specs.Granted.{puts_into}
 use Rattle.settled_runs.proofs.Sizes.{no_start, queues_grow, tasks_grow}
 use Rattle.settled_runs.proofs.Stays.{made_objects_stay}
-use Rattle.settled_runs.proofs.Granted.{Passes, passes, passes_only, any_found, Serves, served, group_there, before, is_up, same_terms, allowed, room}
+use Rattle.settled_runs.proofs.Granted.{action_granted, group_granted, start_granted, Passes, passes, passes_only, any_found, Serves, served, group_there, before, is_up, same_terms, allowed, room}
 
 -- No queue has an id for which none was made
 
@@ -215,3 +215,14 @@ enqueue_granted terms L who r q job priority args cores group x k h v g =
         let b : given_to q.0 s.tasks ≤ 0 + entries_that (puts_into q.0) L = gets_along q.0 (opening terms) L legal.from in
         let c : entries_that (puts_into q.0) L < k.limit = k.few in
         grind (arith, nat_tests)
+
+-- What a quiet history grants
+
+pub quiet_calls_are_granted : QuietCallsAreGranted
+quiet_calls_are_granted terms L who r = record {
+  action = λ job kind cores x j h. action_granted terms L who r job kind cores x j h;
+  group = λ x h. group_granted terms L who r x h;
+  start = λ job args priority cores group x p h v g. start_granted terms L who r job args priority cores group x p h v g;
+  queue = λ id job priority limit ordered retain x p l h v n. queue_granted terms L who r id job priority limit ordered retain x p l h v n;
+  enqueue = λ q job priority args cores group x k h v g. enqueue_granted terms L who r q job priority args cores group x k h v g;
+}
