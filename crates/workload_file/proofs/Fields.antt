@@ -56,7 +56,7 @@ made line w name d = record { line = line; name = bound_name (naming w) name; de
 
 -- what a statement that was read says, by its kind
 pub data Says (r : Reading) (line : ℕ) (w : Word) (name : Option (List ℕ)) (options : List (List ℕ)) (c : Change) : Type 0 where
-  says_node : (vs : List Value) (s : NodeSettings) → w ≡ word.Node → values_in (here r) options (fields w) ≡ Some vs → settings_by (slice_get vs) ≡ Some s → c ≡ change.Node s → Says r line w name options c
+  says_node : (vs : List Value) (s : NodeSettings) → w ≡ word.Node → values_in (here r) options (fields w) ≡ Some vs → settings_by vs ≡ Some s → c ≡ change.Node s → Says r line w name options c
   says_caller : (n : List ℕ) → w ≡ word.Caller → name ≡ Some n → c ≡ change.Caller n → Says r line w name options c
   says_deed : (place : Option ℕ) (vs : List Value) (d : Deed) → is_deed w ≡ true → use_in (here r) (naming w) name ≡ Some place → values_in (here r) options (fields w) ≡ Some vs → deed_with w place vs ≡ Some d → c ≡ change.Statement (made line w name d) → Says r line w name options c
 
@@ -84,7 +84,7 @@ deed_same r line word.Caller name values h = absurd cc
 deed_same r line _ name values h = refl
 
 -- and the other way round
-pub node_change : (r : Reading) (line : ℕ) (w : Word) (name : Option (List ℕ)) (options : List (List ℕ)) (vs : List Value) (s : NodeSettings) → w ≡ word.Node → values_in (here r) options (fields w) ≡ Some vs → settings_by (slice_get vs) ≡ Some s → change_of r line w name options ≡ Some (change.Node s)
+pub node_change : (r : Reading) (line : ℕ) (w : Word) (name : Option (List ℕ)) (options : List (List ℕ)) (vs : List Value) (s : NodeSettings) → w ≡ word.Node → values_in (here r) options (fields w) ≡ Some vs → settings_by vs ≡ Some s → change_of r line w name options ≡ Some (change.Node s)
 unfolding change_with
 node_change r line w name options vs s is v e = rw v (rw (is, e) refl)
 

@@ -276,7 +276,7 @@ unfolding with_setting
 set_generations v s h = rw (le-leb 1 v h.0, le-leb v 4294967295 h.1) refl
 
 -- the settings whose values fit are given by their values
-pub node_settings : (before : List Statement) (s : NodeSettings) → AllFit before (fields word.Node) (setting_values s) → settings_by (slice_get (setting_values s)) ≡ Some s
+pub node_settings : (before : List Statement) (s : NodeSettings) → AllFit before (fields word.Node) (setting_values s) → settings_by (setting_values s) ≡ Some s
 unfolding row settings_by
 node_settings before s h =
     let e1 = set_workers s.workers usual_settings h.0 in
@@ -297,11 +297,11 @@ node_settings before s h =
     rw (e1, e2, e3, e4, e5, e6, e7, e8) refl
 
 -- the settings of a node line fit, and their values are those of its options
-pub node_given : (before : List Statement) (options : List (List ℕ)) (vs : List Value) (s : NodeSettings) → values_in before options (fields word.Node) ≡ Some vs → settings_by (slice_get vs) ≡ Some s → (setting_values s ≡ vs) × AllFit before (fields word.Node) (setting_values s)
+pub node_given : (before : List Statement) (options : List (List ℕ)) (vs : List Value) (s : NodeSettings) → values_in before options (fields word.Node) ≡ Some vs → settings_by vs ≡ Some s → (setting_values s ≡ vs) × AllFit before (fields word.Node) (setting_values s)
 node_given before options vs s v e =
     let are = values_are before options (fields word.Node) vs (fields_good word.Node) v in
     let n = node_values vs are.1 in
     let fit : AllFit before (fields word.Node) (setting_values n.0) = rw n.1 are.0 in
-    let set : settings_by (slice_get vs) ≡ Some n.0 = rw n.1 at (node_settings before n.0 fit) in
+    let set : settings_by vs ≡ Some n.0 = rw n.1 at (node_settings before n.0 fit) in
     let same : n.0 ≡ s = some_is n.0 s (sym set ∙ e) in
     rw (← same) (n.1, fit)

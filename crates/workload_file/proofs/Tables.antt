@@ -14,7 +14,7 @@ use Rattle.workload_file.specs.declared.workload.Deed.TheVariants as deed
 use Rattle.workload_file.specs.declared.values.Value.{Value}
 use Rattle.workload_file.specs.Table.{row, words, word_text, key_text, naming, fields}
 use Rattle.workload_file.specs.Options.{key_of, value_of}
-use Rattle.workload_file.specs.Deeds.{deed_spelled, word_for, used_place, values, deed_by, deed_with, setting_values}
+use Rattle.workload_file.specs.Deeds.{deed_spelled, word_for, used_place, values, task_deed, queue_deed, lock_deed, segment_deed, deed_with, setting_values}
 use Rattle.workload_file.specs.Reading.{is_comment}
 use Rattle.workload_file.proofs.Facts.{some_is}
 use Rattle.workload_file.proofs.Fields.{is_deed, not_true, are_filled}
@@ -69,7 +69,7 @@ pub record IsSpelled (d : Deed) : Type 0 where
   pub again : deed_with (word_for d) (used_place d) (values d) ≡ Some d
 
 pub deed_facts : (d : Deed) → IsSpelled d
-unfolding row deed_spelled deed_by
+unfolding row deed_spelled deed_with task_deed queue_deed lock_deed segment_deed
 deed_facts deed.Begin = record { filled = refl; used = refl; word = refl; again = refl }
 deed_facts _ = record { filled = refl; used = refl; word = refl; again = refl }
 
@@ -82,7 +82,7 @@ pub record IsDeed (w : Word) (place : Option ℕ) (vs : List Value) : Type 0 whe
   pub values : values deed ≡ vs
 
 deed_held : (w : Word) (place : Option ℕ) (x : AllHeld (fields w)) → is_deed w ≡ true → is_used_at (naming w) place ≡ true → IsDeed w place (all_with (fields w) x)
-unfolding row deed_spelled deed_by
+unfolding row deed_spelled deed_with task_deed queue_deed lock_deed segment_deed
 deed_held word.Begin None _ h u = record { deed = deed.Begin; gives = refl; word = refl; used = refl; values = refl }
 deed_held word.Action None (job, (kind, (cores, _))) h u = record { deed = (deed.Action job kind cores); gives = refl; word = refl; used = refl; values = refl }
 deed_held word.ActionDelete (Some place) _ h u = record { deed = (deed.ActionDelete place); gives = refl; word = refl; used = refl; values = refl }

@@ -1,5 +1,5 @@
 -- What a statement adds: the values of its options, and what it does with them.
-use Rattle.std.specs.Prelude.{ℕ, ◌-◌, ◌^◌, List, [], ◌∷◌, false, Option, Some, None, slice_get}
+use Rattle.std.specs.Prelude.{ℕ, ◌-◌, ◌^◌, List, [], ◌∷◌, false, Option, Some, None}
 use Rattle.std.specs.Option.{option_map}
 use Rattle.mtapi_values.specs.Attributes.{NodeSettings}
 use Rattle.mtapi_values.specs.AttributeTables.{node_attributes, after_set}
@@ -25,7 +25,7 @@ use Rattle.workload_file.specs.Table.{fields, naming}
 use Rattle.workload_file.specs.Values.{number_within, cores_of, flag_of, mode_of, timeout_of}
 use Rattle.workload_file.specs.Names.{place_of}
 use Rattle.workload_file.specs.Options.{text_of}
-use Rattle.workload_file.specs.Deeds.{as_number, deed_with}
+use Rattle.workload_file.specs.Deeds.{deed_with}
 
 -- ---- options
 
@@ -88,24 +88,17 @@ usual_settings = record { workers = 1; tasks = 1024; actions = 64; groups = 128;
 unfoldable pub with_setting : ℕ → ℕ → NodeSettings → NodeSettings
 with_setting number value settings = after_set node_attributes number value settings
 
--- the settings that these values of a node line give, by their places
-unfoldable pub settings_by : (ℕ → Option Value) → Option NodeSettings
-settings_by v = do
-  a ← as_number (v 0)
-  b ← as_number (v 1)
-  c ← as_number (v 2)
-  d ← as_number (v 3)
-  e ← as_number (v 4)
-  f ← as_number (v 5)
-  g ← as_number (v 6)
-  h ← as_number (v 7)
-  Some (with_setting 8 h (with_setting 7 g (with_setting 6 f (with_setting 5 e (with_setting 4 d (with_setting 3 c (with_setting 2 b (with_setting 1 a usual_settings))))))))
+-- the settings that these values of a node line give
+unfoldable pub settings_by : List Value → Option NodeSettings
+settings_by (given.Number a ∷ given.Number b ∷ given.Number c ∷ given.Number d ∷ given.Number e ∷ given.Number f ∷ given.Number g ∷ given.Number h ∷ []) =
+    Some (with_setting 8 h (with_setting 7 g (with_setting 6 f (with_setting 5 e (with_setting 4 d (with_setting 3 c (with_setting 2 b (with_setting 1 a usual_settings))))))))
+settings_by _ = None
 
 -- what a statement with these values of its options adds, where the names that it uses are bound
 unfoldable pub change_with : List Statement → ℕ → Word → Option (List ℕ) → Option (List Value) → Option Change
 change_with before line word.Node name values = do
   vs ← values
-  settings ← settings_by (slice_get vs)
+  settings ← settings_by vs
   Some (change.Node settings)
 change_with before line word.Caller name values = option_map change.Caller name
 change_with before line w name values = do

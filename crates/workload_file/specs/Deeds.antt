@@ -1,5 +1,5 @@
 -- What each deed is in the text, and back.
-use Rattle.std.specs.Prelude.{ℕ, ℤ, List, [], ◌∷◌, Bool, true, false, Option, Some, None, slice_get}
+use Rattle.std.specs.Prelude.{ℕ, List, [], ◌∷◌, Bool, true, false, Option, Some, None}
 use Rattle.std.specs.Option.{option_map}
 use Rattle.mtapi_values.specs.Attributes.{NodeSettings}
 use Rattle.mtapi_values.specs.declared.kinds.Kind.{Kind}
@@ -76,89 +76,70 @@ used_place d = (deed_spelled d).place
 abbrev pub values : Deed → List Value
 values d = (deed_spelled d).values
 
--- the value of an option, where it is of this sort
-abbrev pub as_number : Option Value → Option ℕ
-as_number (Some (given.Number n)) = Some n
-as_number _ = None
+-- a deed on actions, tasks or groups, of its word, the place of the name that it uses, and the values of its options
+unfoldable pub task_deed : Word → Option ℕ → List Value → Option Deed
+task_deed word.Begin None [] = Some deed.Begin
+task_deed word.Action None (given.Number job ∷ given.Kind kind ∷ given.Cores cores ∷ []) = Some (deed.Action job kind cores)
+task_deed word.ActionDelete (Some place) [] = Some (deed.ActionDelete place)
+task_deed word.ActionEnable (Some place) [] = Some (deed.ActionEnable place)
+task_deed word.ActionDisable (Some place) [] = Some (deed.ActionDisable place)
+task_deed word.Start None (given.Number job ∷ given.Args args ∷ given.Number priority ∷ given.Cores cores ∷ given.Flag detached ∷ given.Place group ∷ []) = Some (deed.Start job args priority cores detached group)
+task_deed word.Enqueue None (given.Place (Some queue) ∷ given.Args args ∷ given.Cores cores ∷ given.Flag detached ∷ given.Place group ∷ []) = Some (deed.Enqueue queue args cores detached group)
+task_deed word.Wait (Some place) (given.Timeout timeout ∷ []) = Some (deed.Wait place timeout)
+task_deed word.Cancel (Some place) [] = Some (deed.Cancel place)
+task_deed word.Group None [] = Some deed.Group
+task_deed word.WaitAll (Some place) (given.Timeout timeout ∷ []) = Some (deed.WaitAll place timeout)
+task_deed word.WaitAny (Some place) (given.Timeout timeout ∷ []) = Some (deed.WaitAny place timeout)
+task_deed word.GroupDelete (Some place) [] = Some (deed.GroupDelete place)
+task_deed _ _ _ = None
 
-abbrev pub as_whole : Option Value → Option ℤ
-as_whole (Some (given.Whole z)) = Some z
-as_whole _ = None
+-- a deed on queues, of its word, the place of the name that it uses, and the values of its options
+unfoldable pub queue_deed : Word → Option ℕ → List Value → Option Deed
+queue_deed word.Queue None (given.Number id ∷ given.Number job ∷ given.Number priority ∷ given.Number limit ∷ given.Flag ordered ∷ given.Flag retain ∷ []) = Some (deed.Queue id job priority limit ordered retain)
+queue_deed word.QueueGet None (given.Number id ∷ []) = Some (deed.QueueGet id)
+queue_deed word.QueueEnable (Some place) [] = Some (deed.QueueEnable place)
+queue_deed word.QueueDisable (Some place) [] = Some (deed.QueueDisable place)
+queue_deed word.QueueDelete (Some place) [] = Some (deed.QueueDelete place)
+queue_deed _ _ _ = None
 
-abbrev pub as_args : Option Value → Option Args
-as_args (Some (given.Args zs)) = Some zs
-as_args _ = None
+-- a deed on mutexes, semaphores or reader-writer locks, of its word, the place of the name that it uses, and the values of its options
+unfoldable pub lock_deed : Word → Option ℕ → List Value → Option Deed
+lock_deed word.Mutex None (given.Number id ∷ given.Flag recursive ∷ []) = Some (deed.Mutex id recursive)
+lock_deed word.MutexGet None (given.Number id ∷ []) = Some (deed.MutexGet id)
+lock_deed word.MutexDelete (Some place) [] = Some (deed.MutexDelete place)
+lock_deed word.Lock (Some place) (given.Timeout timeout ∷ []) = Some (deed.Lock place timeout)
+lock_deed word.Unlock (Some place) (given.Number key ∷ []) = Some (deed.Unlock place key)
+lock_deed word.Sem None (given.Number id ∷ given.Number limit ∷ []) = Some (deed.Sem id limit)
+lock_deed word.SemGet None (given.Number id ∷ []) = Some (deed.SemGet id)
+lock_deed word.SemDelete (Some place) [] = Some (deed.SemDelete place)
+lock_deed word.SemLock (Some place) (given.Timeout timeout ∷ []) = Some (deed.SemLock place timeout)
+lock_deed word.SemUnlock (Some place) [] = Some (deed.SemUnlock place)
+lock_deed word.Rwl None (given.Number id ∷ given.Number limit ∷ []) = Some (deed.Rwl id limit)
+lock_deed word.RwlGet None (given.Number id ∷ []) = Some (deed.RwlGet id)
+lock_deed word.RwlDelete (Some place) [] = Some (deed.RwlDelete place)
+lock_deed word.RwlLock (Some place) (given.Mode writer ∷ given.Timeout timeout ∷ []) = Some (deed.RwlLock place writer timeout)
+lock_deed word.RwlUnlock (Some place) (given.Mode writer ∷ []) = Some (deed.RwlUnlock place writer)
+lock_deed _ _ _ = None
 
-abbrev pub as_cores : Option Value → Option Mask
-as_cores (Some (given.Cores mask)) = Some mask
-as_cores _ = None
+-- a deed on segments, of its word, the place of the name that it uses, and the values of its options
+unfoldable pub segment_deed : Word → Option ℕ → List Value → Option Deed
+segment_deed word.Shmem None (given.Number id ∷ given.Number cells ∷ []) = Some (deed.Shmem id cells)
+segment_deed word.ShmemGet None (given.Number id ∷ []) = Some (deed.ShmemGet id)
+segment_deed word.ShmemDelete (Some place) [] = Some (deed.ShmemDelete place)
+segment_deed word.Attach (Some place) [] = Some (deed.Attach place)
+segment_deed word.Detach (Some place) [] = Some (deed.Detach place)
+segment_deed word.Read (Some place) (given.Number cell ∷ []) = Some (deed.Read place cell)
+segment_deed word.Write (Some place) (given.Number cell ∷ given.Whole value ∷ []) = Some (deed.Write place cell value)
+segment_deed _ _ _ = None
 
-abbrev pub as_kind : Option Value → Option Kind
-as_kind (Some (given.Kind k)) = Some k
-as_kind _ = None
+-- the first of two that is there
+abbrev pub or_deed : Option Deed → Option Deed → Option Deed
+or_deed (Some d) other = Some d
+or_deed None other = other
 
-abbrev pub as_flag : Option Value → Option Bool
-as_flag (Some (given.Flag b)) = Some b
-as_flag _ = None
-
-abbrev pub as_mode : Option Value → Option Bool
-as_mode (Some (given.Mode b)) = Some b
-as_mode _ = None
-
-abbrev pub as_timeout : Option Value → Option Timeout
-as_timeout (Some (given.Timeout t)) = Some t
-as_timeout _ = None
-
-abbrev pub as_place : Option Value → Option (Option ℕ)
-as_place (Some (given.Place place)) = Some place
-as_place _ = None
-
--- the deed of the statement with this word, this place of the name that it uses, and these values of its options by their places
-unfoldable pub deed_by : Word → Option ℕ → (ℕ → Option Value) → Option Deed
-deed_by word.Begin _ _ = Some deed.Begin
-deed_by word.Action _ v = as_number (v 0) >>= λ job. as_kind (v 1) >>= λ kind. as_cores (v 2) >>= λ cores. Some (deed.Action job kind cores)
-deed_by word.ActionDelete place _ = option_map deed.ActionDelete place
-deed_by word.ActionEnable place _ = option_map deed.ActionEnable place
-deed_by word.ActionDisable place _ = option_map deed.ActionDisable place
-deed_by word.Start _ v = as_number (v 0) >>= λ job. as_args (v 1) >>= λ args. as_number (v 2) >>= λ priority. as_cores (v 3) >>= λ cores. as_flag (v 4) >>= λ detached. as_place (v 5) >>= λ group. Some (deed.Start job args priority cores detached group)
-deed_by word.Enqueue _ v = as_place (v 0) >>= λ place. place >>= λ queue. as_args (v 1) >>= λ args. as_cores (v 2) >>= λ cores. as_flag (v 3) >>= λ detached. as_place (v 4) >>= λ group. Some (deed.Enqueue queue args cores detached group)
-deed_by word.Wait place v = place >>= λ place. as_timeout (v 0) >>= λ timeout. Some (deed.Wait place timeout)
-deed_by word.Cancel place _ = option_map deed.Cancel place
-deed_by word.Group _ _ = Some deed.Group
-deed_by word.WaitAll place v = place >>= λ place. as_timeout (v 0) >>= λ timeout. Some (deed.WaitAll place timeout)
-deed_by word.WaitAny place v = place >>= λ place. as_timeout (v 0) >>= λ timeout. Some (deed.WaitAny place timeout)
-deed_by word.GroupDelete place _ = option_map deed.GroupDelete place
-deed_by word.Queue _ v = as_number (v 0) >>= λ id. as_number (v 1) >>= λ job. as_number (v 2) >>= λ priority. as_number (v 3) >>= λ limit. as_flag (v 4) >>= λ ordered. as_flag (v 5) >>= λ retain. Some (deed.Queue id job priority limit ordered retain)
-deed_by word.QueueGet _ v = as_number (v 0) >>= λ id. Some (deed.QueueGet id)
-deed_by word.QueueEnable place _ = option_map deed.QueueEnable place
-deed_by word.QueueDisable place _ = option_map deed.QueueDisable place
-deed_by word.QueueDelete place _ = option_map deed.QueueDelete place
-deed_by word.Mutex _ v = as_number (v 0) >>= λ id. as_flag (v 1) >>= λ recursive. Some (deed.Mutex id recursive)
-deed_by word.MutexGet _ v = as_number (v 0) >>= λ id. Some (deed.MutexGet id)
-deed_by word.MutexDelete place _ = option_map deed.MutexDelete place
-deed_by word.Lock place v = place >>= λ place. as_timeout (v 0) >>= λ timeout. Some (deed.Lock place timeout)
-deed_by word.Unlock place v = place >>= λ place. as_number (v 0) >>= λ key. Some (deed.Unlock place key)
-deed_by word.Sem _ v = as_number (v 0) >>= λ id. as_number (v 1) >>= λ limit. Some (deed.Sem id limit)
-deed_by word.SemGet _ v = as_number (v 0) >>= λ id. Some (deed.SemGet id)
-deed_by word.SemDelete place _ = option_map deed.SemDelete place
-deed_by word.SemLock place v = place >>= λ place. as_timeout (v 0) >>= λ timeout. Some (deed.SemLock place timeout)
-deed_by word.SemUnlock place _ = option_map deed.SemUnlock place
-deed_by word.Rwl _ v = as_number (v 0) >>= λ id. as_number (v 1) >>= λ limit. Some (deed.Rwl id limit)
-deed_by word.RwlGet _ v = as_number (v 0) >>= λ id. Some (deed.RwlGet id)
-deed_by word.RwlDelete place _ = option_map deed.RwlDelete place
-deed_by word.RwlLock place v = place >>= λ place. as_mode (v 0) >>= λ writer. as_timeout (v 1) >>= λ timeout. Some (deed.RwlLock place writer timeout)
-deed_by word.RwlUnlock place v = place >>= λ place. as_mode (v 0) >>= λ writer. Some (deed.RwlUnlock place writer)
-deed_by word.Shmem _ v = as_number (v 0) >>= λ id. as_number (v 1) >>= λ cells. Some (deed.Shmem id cells)
-deed_by word.ShmemGet _ v = as_number (v 0) >>= λ id. Some (deed.ShmemGet id)
-deed_by word.ShmemDelete place _ = option_map deed.ShmemDelete place
-deed_by word.Attach place _ = option_map deed.Attach place
-deed_by word.Detach place _ = option_map deed.Detach place
-deed_by word.Read place v = place >>= λ place. as_number (v 0) >>= λ cell. Some (deed.Read place cell)
-deed_by word.Write place v = place >>= λ place. as_number (v 0) >>= λ cell. as_whole (v 1) >>= λ value. Some (deed.Write place cell value)
-deed_by _ _ _ = None
-
-abbrev pub deed_with : Word → Option ℕ → List Value → Option Deed
-deed_with w place values = deed_by w place (slice_get values)
+-- the deed of a word, the place of the name that it uses, and the values of its options
+unfoldable pub deed_with : Word → Option ℕ → List Value → Option Deed
+deed_with w place vs = or_deed (task_deed w place vs) (or_deed (queue_deed w place vs) (or_deed (lock_deed w place vs) (segment_deed w place vs)))
 
 -- the settings of a node, in the order of the table
 abbrev pub setting_values : NodeSettings → List Value

@@ -1,121 +1,39 @@
-//! The statements: their words, their names and their options.
+//! The statements: their words, their names and their options, all by one table.
 ghost use Rattle.std.specs.Prelude.{◌≡◌, Option};
-ghost use Rattle.workload_file.specs.Table.{word_text, word_of, key_text, naming, fields};
+ghost use Rattle.workload_file.specs.Table.{row, word_text, word_of, key_text, naming, fields};
 
 /// The word of a statement.
+#[rattlefmt::skip]
 #[derive(Clone, Copy, PartialEq, Eq, Debug)]
 pub enum Word {
-    Node,
-    Caller,
-    Begin,
-    Action,
-    ActionDelete,
-    ActionEnable,
-    ActionDisable,
-    Start,
-    Enqueue,
-    Wait,
-    Cancel,
-    Group,
-    WaitAll,
-    WaitAny,
-    GroupDelete,
-    Queue,
-    QueueGet,
-    QueueEnable,
-    QueueDisable,
-    QueueDelete,
-    Mutex,
-    MutexGet,
-    MutexDelete,
-    Lock,
-    Unlock,
-    Sem,
-    SemGet,
-    SemDelete,
-    SemLock,
-    SemUnlock,
-    Rwl,
-    RwlGet,
-    RwlDelete,
-    RwlLock,
-    RwlUnlock,
-    Shmem,
-    ShmemGet,
-    ShmemDelete,
-    Attach,
-    Detach,
-    Read,
+    Node, Caller, Begin, Action, ActionDelete, ActionEnable, ActionDisable, Start, Enqueue, Wait, Cancel, Group, WaitAll, WaitAny,
+    GroupDelete, Queue, QueueGet, QueueEnable, QueueDisable, QueueDelete, Mutex, MutexGet, MutexDelete, Lock, Unlock, Sem, SemGet,
+    SemDelete, SemLock, SemUnlock, Rwl, RwlGet, RwlDelete, RwlLock, RwlUnlock, Shmem, ShmemGet, ShmemDelete, Attach, Detach, Read,
     Write,
 }
 
 /// The key of an option.
+#[rattlefmt::skip]
 #[derive(Clone, Copy, PartialEq, Eq, Debug)]
 pub enum Key {
-    Workers,
-    MaxTasks,
-    MaxActions,
-    MaxGroups,
-    MaxQueues,
-    MaxObjects,
-    Priorities,
-    Generations,
-    Job,
-    Kind,
-    Cores,
-    Args,
-    Priority,
-    Detached,
-    Group,
-    Queue,
-    Timeout,
-    Id,
-    Limit,
-    Ordered,
-    Retain,
-    Recursive,
-    Key,
-    Mode,
-    Cells,
-    Cell,
-    Value,
+    Workers, MaxTasks, MaxActions, MaxGroups, MaxQueues, MaxObjects, Priorities, Generations, Job, Kind, Cores, Args, Priority,
+    Detached, Group, Queue, Timeout, Id, Limit, Ordered, Retain, Recursive, Key, Mode, Cells, Cell, Value,
 }
 
 /// What a name is bound to.
+#[rattlefmt::skip]
 #[derive(Clone, Copy, PartialEq, Eq, Debug)]
-pub enum Sort {
-    Action,
-    Task,
-    Group,
-    Queue,
-    Mutex,
-    Sem,
-    Rwl,
-    Shmem,
-}
+pub enum Sort { Action, Task, Group, Queue, Mutex, Sem, Rwl, Shmem }
 
 /// What the value of an option is.
+#[rattlefmt::skip]
 #[derive(Clone, Copy, PartialEq, Eq, Debug)]
-pub enum Shape {
-    Number(u32, u32),
-    Whole,
-    Args,
-    Cores,
-    Kind,
-    Flag,
-    Mode,
-    Timeout,
-    Named(Sort),
-}
+pub enum Shape { Number(u32, u32), Whole, Args, Cores, Kind, Flag, Mode, Timeout, Named(Sort) }
 
 /// Whether a statement has a name, and what for.
+#[rattlefmt::skip]
 #[derive(Clone, Copy, PartialEq, Eq, Debug)]
-pub enum Naming {
-    Bare,
-    Caller,
-    Binds(Sort),
-    Uses(Sort),
-}
+pub enum Naming { Bare, Caller, Binds(Sort), Uses(Sort) }
 
 /// What it means that an option is absent.
 #[derive(Clone, Copy, PartialEq, Eq, Debug)]
@@ -136,75 +54,6 @@ pub struct Field {
     pub absent: Absent,
 }
 
-const WORDS: [Word; 42] = [
-    Word::Node,
-    Word::Caller,
-    Word::Begin,
-    Word::Action,
-    Word::ActionDelete,
-    Word::ActionEnable,
-    Word::ActionDisable,
-    Word::Start,
-    Word::Enqueue,
-    Word::Wait,
-    Word::Cancel,
-    Word::Group,
-    Word::WaitAll,
-    Word::WaitAny,
-    Word::GroupDelete,
-    Word::Queue,
-    Word::QueueGet,
-    Word::QueueEnable,
-    Word::QueueDisable,
-    Word::QueueDelete,
-    Word::Mutex,
-    Word::MutexGet,
-    Word::MutexDelete,
-    Word::Lock,
-    Word::Unlock,
-    Word::Sem,
-    Word::SemGet,
-    Word::SemDelete,
-    Word::SemLock,
-    Word::SemUnlock,
-    Word::Rwl,
-    Word::RwlGet,
-    Word::RwlDelete,
-    Word::RwlLock,
-    Word::RwlUnlock,
-    Word::Shmem,
-    Word::ShmemGet,
-    Word::ShmemDelete,
-    Word::Attach,
-    Word::Detach,
-    Word::Read,
-    Word::Write,
-];
-
-macro_rules! row {
-    ($text:expr, $naming:ident$(($sort:expr))?, [$($field:expr),* $(,)?]) => {
-        Row { text: $text, naming: Naming::$naming$(($sort))?, fields: &[$($field),*] }
-    };
-}
-
-macro_rules! needs {
-    ($key:ident, $shape:expr) => {
-        Field { key: Key::$key, shape: $shape, absent: Absent::Refused }
-    };
-}
-
-macro_rules! may {
-    ($key:ident, $shape:expr) => {
-        Field { key: Key::$key, shape: $shape, absent: Absent::Usual }
-    };
-}
-
-macro_rules! number {
-    ($key:ident, $low:literal, $high:literal, $number:literal) => {
-        Field { key: Key::$key, shape: Shape::Number($low, $high), absent: Absent::Number($number) }
-    };
-}
-
 /// A statement: its word, what its second word is, and its options in order.
 #[derive(Clone, Copy)]
 struct Row {
@@ -212,6 +61,96 @@ struct Row {
     naming: Naming,
     fields: &'static [Field],
 }
+
+/// The table, handed to a macro. A line is a statement: its word, the word's text, what its name is, the place of the name that it
+/// uses, and its options in order: the field of its deed, its key, the values that it takes, and what its absence means. The first
+/// two statements are no deeds; the others stand by families.
+#[rattlefmt::skip]
+macro_rules! statements {
+    ($then:ident $args:tt) => { $then! { $args
+        heads {
+            Node b"node" Bare [] { workers: Workers Number(1, 16) Number(1), max_tasks: MaxTasks Number(1, 65536) Number(1024), max_actions: MaxActions Number(1, 1024) Number(64), max_groups: MaxGroups Number(1, 1024) Number(128), max_queues: MaxQueues Number(1, 256) Number(16), max_objects: MaxObjects Number(1, 256) Number(16), priorities: Priorities Number(1, 8) Number(4), generations: Generations Number(1, 4294967295) Number(4294967295) }
+            Caller b"caller" Caller [] {}
+        }
+        tasks {
+            Begin b"begin" Bare [] {}
+            Action b"action" Binds(Action) [] { job: Job Number(1, 65535) Refused, kind: Kind Kind Refused, cores: Cores Cores Usual }
+            ActionDelete b"action_delete" Uses(Action) [place] {}
+            ActionEnable b"action_enable" Uses(Action) [place] {}
+            ActionDisable b"action_disable" Uses(Action) [place] {}
+            Start b"start" Binds(Task) [] { job: Job Number(1, 65535) Refused, args: Args Args Usual, priority: Priority Number(0, 7) Number(0), cores: Cores Cores Usual, detached: Detached Flag Usual, group: Group Named(Group) Usual }
+            Enqueue b"enqueue" Binds(Task) [] { queue: Queue Named(Queue) Refused, args: Args Args Usual, cores: Cores Cores Usual, detached: Detached Flag Usual, group: Group Named(Group) Usual }
+            Wait b"wait" Uses(Task) [place] { timeout: Timeout Timeout Refused }
+            Cancel b"cancel" Uses(Task) [place] {}
+            Group b"group" Binds(Group) [] {}
+            WaitAll b"wait_all" Uses(Group) [place] { timeout: Timeout Timeout Refused }
+            WaitAny b"wait_any" Uses(Group) [place] { timeout: Timeout Timeout Refused }
+            GroupDelete b"group_delete" Uses(Group) [place] {}
+        }
+        queues {
+            Queue b"queue" Binds(Queue) [] { id: Id Number(0, 4294967295) Refused, job: Job Number(1, 65535) Refused, priority: Priority Number(0, 7) Number(0), limit: Limit Number(1, 65536) Number(65536), ordered: Ordered Flag Usual, retain: Retain Flag Usual }
+            QueueGet b"queue_get" Binds(Queue) [] { id: Id Number(0, 4294967295) Refused }
+            QueueEnable b"queue_enable" Uses(Queue) [place] {}
+            QueueDisable b"queue_disable" Uses(Queue) [place] {}
+            QueueDelete b"queue_delete" Uses(Queue) [place] {}
+        }
+        locks {
+            Mutex b"mutex" Binds(Mutex) [] { id: Id Number(0, 4294967295) Refused, recursive: Recursive Flag Usual }
+            MutexGet b"mutex_get" Binds(Mutex) [] { id: Id Number(0, 4294967295) Refused }
+            MutexDelete b"mutex_delete" Uses(Mutex) [place] {}
+            Lock b"lock" Uses(Mutex) [place] { timeout: Timeout Timeout Refused }
+            Unlock b"unlock" Uses(Mutex) [place] { key: Key Number(0, 4294967295) Refused }
+            Sem b"sem" Binds(Sem) [] { id: Id Number(0, 4294967295) Refused, limit: Limit Number(1, 65535) Refused }
+            SemGet b"sem_get" Binds(Sem) [] { id: Id Number(0, 4294967295) Refused }
+            SemDelete b"sem_delete" Uses(Sem) [place] {}
+            SemLock b"sem_lock" Uses(Sem) [place] { timeout: Timeout Timeout Refused }
+            SemUnlock b"sem_unlock" Uses(Sem) [place] {}
+            Rwl b"rwl" Binds(Rwl) [] { id: Id Number(0, 4294967295) Refused, limit: Limit Number(1, 32) Refused }
+            RwlGet b"rwl_get" Binds(Rwl) [] { id: Id Number(0, 4294967295) Refused }
+            RwlDelete b"rwl_delete" Uses(Rwl) [place] {}
+            RwlLock b"rwl_lock" Uses(Rwl) [place] { writer: Mode Mode Refused, timeout: Timeout Timeout Refused }
+            RwlUnlock b"rwl_unlock" Uses(Rwl) [place] { writer: Mode Mode Refused }
+        }
+        segments {
+            Shmem b"shmem" Binds(Shmem) [] { id: Id Number(0, 4294967295) Refused, cells: Cells Number(1, 4096) Refused }
+            ShmemGet b"shmem_get" Binds(Shmem) [] { id: Id Number(0, 4294967295) Refused }
+            ShmemDelete b"shmem_delete" Uses(Shmem) [place] {}
+            Attach b"attach" Uses(Shmem) [place] {}
+            Detach b"detach" Uses(Shmem) [place] {}
+            Read b"read" Uses(Shmem) [place] { cell: Cell Number(0, 4095) Refused }
+            Write b"write" Uses(Shmem) [place] { cell: Cell Number(0, 4095) Refused, value: Value Whole Refused }
+        }
+    } };
+}
+
+pub(crate) use statements;
+
+macro_rules! words {
+    (() $($family:ident { $($word:ident $text:literal $naming:ident$(($sort:ident))? [$($place:ident)?] $options:tt)* })*) => { [$($(Word::$word,)*)*] };
+}
+
+macro_rules! shape {
+    (Number($low:literal, $high:literal)) => { Shape::Number($low, $high) };
+    (Named($sort:ident)) => { Shape::Named(Sort::$sort) };
+    ($shape:ident) => { Shape::$shape };
+}
+
+macro_rules! options {
+    ({ $($field:ident: $key:ident $shape:ident$(($($bound:tt)*))? $absent:ident$(($usual:literal))?),* }) => {
+        &[$(Field { key: Key::$key, shape: shape!($shape$(($($bound)*))?), absent: Absent::$absent$(($usual))? }),*]
+    };
+}
+
+macro_rules! rows {
+    (($self:ident) $($family:ident { $($word:ident $text:literal $naming:ident$(($sort:ident))? [$($place:ident)?] $options:tt)* })*) => {
+        match $self {
+            $($(Word::$word => Row { text: $text, naming: Naming::$naming$((Sort::$sort))?, fields: options!($options) },)*)*
+        }
+    };
+}
+
+/// Each statement once.
+const WORDS: [Word; 42] = statements!(words());
 
 impl Word {
     /// The row of the table.
@@ -221,186 +160,8 @@ impl Word {
         ensures naming { result.naming ≡ naming self }
         ensures fields { result.fields.now ≡ fields self }
     {
-        match self {
-            Word::Node => row!(
-                b"node",
-                Bare,
-                [
-                    number!(Workers, 1, 16, 1),
-                    number!(MaxTasks, 1, 65536, 1024),
-                    number!(MaxActions, 1, 1024, 64),
-                    number!(MaxGroups, 1, 1024, 128),
-                    number!(MaxQueues, 1, 256, 16),
-                    number!(MaxObjects, 1, 256, 16),
-                    number!(Priorities, 1, 8, 4),
-                    number!(Generations, 1, 4294967295, 4294967295),
-                ]
-            ),
-            Word::Caller => row!(b"caller", Caller, []),
-            Word::Begin => row!(b"begin", Bare, []),
-            Word::Action => row!(
-                b"action",
-                Binds(Sort::Action),
-                [
-                    needs!(Job, Shape::Number(1, 65535)),
-                    needs!(Kind, Shape::Kind),
-                    may!(Cores, Shape::Cores),
-                ]
-            ),
-            Word::ActionDelete => row!(b"action_delete", Uses(Sort::Action), []),
-            Word::ActionEnable => row!(b"action_enable", Uses(Sort::Action), []),
-            Word::ActionDisable => row!(b"action_disable", Uses(Sort::Action), []),
-            Word::Start => row!(
-                b"start",
-                Binds(Sort::Task),
-                [
-                    needs!(Job, Shape::Number(1, 65535)),
-                    may!(Args, Shape::Args),
-                    number!(Priority, 0, 7, 0),
-                    may!(Cores, Shape::Cores),
-                    may!(Detached, Shape::Flag),
-                    may!(Group, Shape::Named(Sort::Group)),
-                ]
-            ),
-            Word::Enqueue => row!(
-                b"enqueue",
-                Binds(Sort::Task),
-                [
-                    needs!(Queue, Shape::Named(Sort::Queue)),
-                    may!(Args, Shape::Args),
-                    may!(Cores, Shape::Cores),
-                    may!(Detached, Shape::Flag),
-                    may!(Group, Shape::Named(Sort::Group)),
-                ]
-            ),
-            Word::Wait => row!(b"wait", Uses(Sort::Task), [needs!(Timeout, Shape::Timeout)]),
-            Word::Cancel => row!(b"cancel", Uses(Sort::Task), []),
-            Word::Group => row!(b"group", Binds(Sort::Group), []),
-            Word::WaitAll => row!(
-                b"wait_all",
-                Uses(Sort::Group),
-                [needs!(Timeout, Shape::Timeout),]
-            ),
-            Word::WaitAny => row!(
-                b"wait_any",
-                Uses(Sort::Group),
-                [needs!(Timeout, Shape::Timeout),]
-            ),
-            Word::GroupDelete => row!(b"group_delete", Uses(Sort::Group), []),
-            Word::Queue => row!(
-                b"queue",
-                Binds(Sort::Queue),
-                [
-                    needs!(Id, Shape::Number(0, 4294967295)),
-                    needs!(Job, Shape::Number(1, 65535)),
-                    number!(Priority, 0, 7, 0),
-                    number!(Limit, 1, 65536, 65536),
-                    may!(Ordered, Shape::Flag),
-                    may!(Retain, Shape::Flag),
-                ]
-            ),
-            Word::QueueGet => row!(
-                b"queue_get",
-                Binds(Sort::Queue),
-                [needs!(Id, Shape::Number(0, 4294967295)),]
-            ),
-            Word::QueueEnable => row!(b"queue_enable", Uses(Sort::Queue), []),
-            Word::QueueDisable => row!(b"queue_disable", Uses(Sort::Queue), []),
-            Word::QueueDelete => row!(b"queue_delete", Uses(Sort::Queue), []),
-            Word::Mutex => row!(
-                b"mutex",
-                Binds(Sort::Mutex),
-                [
-                    needs!(Id, Shape::Number(0, 4294967295)),
-                    may!(Recursive, Shape::Flag),
-                ]
-            ),
-            Word::MutexGet => row!(
-                b"mutex_get",
-                Binds(Sort::Mutex),
-                [needs!(Id, Shape::Number(0, 4294967295)),]
-            ),
-            Word::MutexDelete => row!(b"mutex_delete", Uses(Sort::Mutex), []),
-            Word::Lock => row!(
-                b"lock",
-                Uses(Sort::Mutex),
-                [needs!(Timeout, Shape::Timeout)]
-            ),
-            Word::Unlock => row!(
-                b"unlock",
-                Uses(Sort::Mutex),
-                [needs!(Key, Shape::Number(0, 4294967295)),]
-            ),
-            Word::Sem => row!(
-                b"sem",
-                Binds(Sort::Sem),
-                [
-                    needs!(Id, Shape::Number(0, 4294967295)),
-                    needs!(Limit, Shape::Number(1, 65535)),
-                ]
-            ),
-            Word::SemGet => row!(
-                b"sem_get",
-                Binds(Sort::Sem),
-                [needs!(Id, Shape::Number(0, 4294967295)),]
-            ),
-            Word::SemDelete => row!(b"sem_delete", Uses(Sort::Sem), []),
-            Word::SemLock => row!(
-                b"sem_lock",
-                Uses(Sort::Sem),
-                [needs!(Timeout, Shape::Timeout)]
-            ),
-            Word::SemUnlock => row!(b"sem_unlock", Uses(Sort::Sem), []),
-            Word::Rwl => row!(
-                b"rwl",
-                Binds(Sort::Rwl),
-                [
-                    needs!(Id, Shape::Number(0, 4294967295)),
-                    needs!(Limit, Shape::Number(1, 32)),
-                ]
-            ),
-            Word::RwlGet => row!(
-                b"rwl_get",
-                Binds(Sort::Rwl),
-                [needs!(Id, Shape::Number(0, 4294967295)),]
-            ),
-            Word::RwlDelete => row!(b"rwl_delete", Uses(Sort::Rwl), []),
-            Word::RwlLock => row!(
-                b"rwl_lock",
-                Uses(Sort::Rwl),
-                [needs!(Mode, Shape::Mode), needs!(Timeout, Shape::Timeout),]
-            ),
-            Word::RwlUnlock => row!(b"rwl_unlock", Uses(Sort::Rwl), [needs!(Mode, Shape::Mode)]),
-            Word::Shmem => row!(
-                b"shmem",
-                Binds(Sort::Shmem),
-                [
-                    needs!(Id, Shape::Number(0, 4294967295)),
-                    needs!(Cells, Shape::Number(1, 4096)),
-                ]
-            ),
-            Word::ShmemGet => row!(
-                b"shmem_get",
-                Binds(Sort::Shmem),
-                [needs!(Id, Shape::Number(0, 4294967295)),]
-            ),
-            Word::ShmemDelete => row!(b"shmem_delete", Uses(Sort::Shmem), []),
-            Word::Attach => row!(b"attach", Uses(Sort::Shmem), []),
-            Word::Detach => row!(b"detach", Uses(Sort::Shmem), []),
-            Word::Read => row!(
-                b"read",
-                Uses(Sort::Shmem),
-                [needs!(Cell, Shape::Number(0, 4095))]
-            ),
-            Word::Write => row!(
-                b"write",
-                Uses(Sort::Shmem),
-                [
-                    needs!(Cell, Shape::Number(0, 4095)),
-                    needs!(Value, Shape::Whole),
-                ]
-            ),
-        }
+        let word = self;
+        statements!(rows(word))
     }
 
     /// The word itself.

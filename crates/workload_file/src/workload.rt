@@ -7,156 +7,49 @@ use std::alloc::{AllocError, Global};
 use std::marker::Model;
 
 /// What a statement does. `place`, `queue` and `group` are places of the statements, counted from 0 in the same part, that bound the names used.
+#[rattlefmt::skip]
 #[derive(Drop)]
 pub enum Deed {
     Begin,
-    Action {
-        job: u32,
-        kind: Kind,
-        cores: Mask,
-    },
-    ActionDelete {
-        place: u32,
-    },
-    ActionEnable {
-        place: u32,
-    },
-    ActionDisable {
-        place: u32,
-    },
-    Start {
-        job: u32,
-        args: Args,
-        priority: u32,
-        cores: Mask,
-        detached: bool,
-        group: Option<u32>,
-    },
-    Enqueue {
-        queue: u32,
-        args: Args,
-        cores: Mask,
-        detached: bool,
-        group: Option<u32>,
-    },
-    Wait {
-        place: u32,
-        timeout: Timeout,
-    },
-    Cancel {
-        place: u32,
-    },
+    Action { job: u32, kind: Kind, cores: Mask },
+    ActionDelete { place: u32 },
+    ActionEnable { place: u32 },
+    ActionDisable { place: u32 },
+    Start { job: u32, args: Args, priority: u32, cores: Mask, detached: bool, group: Option<u32> },
+    Enqueue { queue: u32, args: Args, cores: Mask, detached: bool, group: Option<u32> },
+    Wait { place: u32, timeout: Timeout },
+    Cancel { place: u32 },
     Group,
-    WaitAll {
-        place: u32,
-        timeout: Timeout,
-    },
-    WaitAny {
-        place: u32,
-        timeout: Timeout,
-    },
-    GroupDelete {
-        place: u32,
-    },
-    Queue {
-        id: u32,
-        job: u32,
-        priority: u32,
-        limit: u32,
-        ordered: bool,
-        retain: bool,
-    },
-    QueueGet {
-        id: u32,
-    },
-    QueueEnable {
-        place: u32,
-    },
-    QueueDisable {
-        place: u32,
-    },
-    QueueDelete {
-        place: u32,
-    },
-    Mutex {
-        id: u32,
-        recursive: bool,
-    },
-    MutexGet {
-        id: u32,
-    },
-    MutexDelete {
-        place: u32,
-    },
-    Lock {
-        place: u32,
-        timeout: Timeout,
-    },
-    Unlock {
-        place: u32,
-        key: u32,
-    },
-    Sem {
-        id: u32,
-        limit: u32,
-    },
-    SemGet {
-        id: u32,
-    },
-    SemDelete {
-        place: u32,
-    },
-    SemLock {
-        place: u32,
-        timeout: Timeout,
-    },
-    SemUnlock {
-        place: u32,
-    },
-    Rwl {
-        id: u32,
-        limit: u32,
-    },
-    RwlGet {
-        id: u32,
-    },
-    RwlDelete {
-        place: u32,
-    },
-    RwlLock {
-        place: u32,
-        writer: bool,
-        timeout: Timeout,
-    },
-    RwlUnlock {
-        place: u32,
-        writer: bool,
-    },
-    Shmem {
-        id: u32,
-        cells: u32,
-    },
-    ShmemGet {
-        id: u32,
-    },
-    ShmemDelete {
-        place: u32,
-    },
-    Attach {
-        place: u32,
-    },
-    Detach {
-        place: u32,
-    },
-    Read {
-        place: u32,
-        cell: u32,
-    },
-    Write {
-        place: u32,
-        cell: u32,
-        value: i64,
-    },
+    WaitAll { place: u32, timeout: Timeout },
+    WaitAny { place: u32, timeout: Timeout },
+    GroupDelete { place: u32 },
+    Queue { id: u32, job: u32, priority: u32, limit: u32, ordered: bool, retain: bool },
+    QueueGet { id: u32 },
+    QueueEnable { place: u32 },
+    QueueDisable { place: u32 },
+    QueueDelete { place: u32 },
+    Mutex { id: u32, recursive: bool },
+    MutexGet { id: u32 },
+    MutexDelete { place: u32 },
+    Lock { place: u32, timeout: Timeout },
+    Unlock { place: u32, key: u32 },
+    Sem { id: u32, limit: u32 },
+    SemGet { id: u32 },
+    SemDelete { place: u32 },
+    SemLock { place: u32, timeout: Timeout },
+    SemUnlock { place: u32 },
+    Rwl { id: u32, limit: u32 },
+    RwlGet { id: u32 },
+    RwlDelete { place: u32 },
+    RwlLock { place: u32, writer: bool, timeout: Timeout },
+    RwlUnlock { place: u32, writer: bool },
+    Shmem { id: u32, cells: u32 },
+    ShmemGet { id: u32 },
+    ShmemDelete { place: u32 },
+    Attach { place: u32 },
+    Detach { place: u32 },
+    Read { place: u32, cell: u32 },
+    Write { place: u32, cell: u32, value: i64 },
 }
 
 /// A statement: its line, counted from 1, the name that it binds, where it binds one, and what it does.
