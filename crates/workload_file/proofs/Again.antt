@@ -17,7 +17,7 @@ use Rattle.workload_file.specs.Cuts.{words_of}
 use Rattle.workload_file.specs.Names.{is_misplaced}
 use Rattle.workload_file.specs.Reading.{with_change, line_gives, line_adds, lines_add, start, finished, workload_of}
 use Rattle.workload_file.specs.Formed.{statement_lines, line_if_any, part_lines}
-use Rattle.workload_file.specs.Written.{Line, if_any, node_text, caller_text, statement_text, statement_lines_behind, lines_of_part, lines_of, laid_out, canonical, AreShort}
+use Rattle.workload_file.specs.Written.{Line, if_any, node_text, caller_text, statement_text, statement_lines_behind, lines_of_part, lines_of, laid_out, canonical}
 use Rattle.number_text.specs.Lists.{led}
 use Rattle.workload_file.proofs.Facts.{bind_ok, ok_is, at_line_ok, IsRead, line_facts, words_facts, statement_facts}
 use Rattle.workload_file.proofs.Fields.{made, Says, says_node, says_caller, says_deed, says}
@@ -25,7 +25,7 @@ use Rattle.workload_file.proofs.Laid.{statements_push, statements_none, laid_non
 use Rattle.workload_file.proofs.Invariant.{IsFormed, not_not}
 use Rattle.workload_file.proofs.Keeping.{adds_keeps, start_formed}
 use Rattle.workload_file.proofs.Phrases.{text_led}
-use Rattle.workload_file.proofs.Rewriting.{text_of_change, line_shorter}
+use Rattle.workload_file.proofs.Rewriting.{text_of_change, line_again}
 
 -- ---- the lines of what is read so far
 
@@ -159,7 +159,7 @@ record IsReread (r s : Reading) (line : ℕ) (texts : List (List ℕ)) : Type 0 
   lines : List Line
   shows : shown s ≡ shown r ++ lines
   from : From line lines
-  each : AreShort lines
+  read : lines_add r line (between 10 (laid_out line lines)) ≡ Ok s
   short : (length (laid_out line lines) + 1 ≤ length (led 10 texts)) ⊎ ((texts ≡ []) × (lines ≡ []))
 
 -- how long the lines behind one line are
@@ -178,17 +178,17 @@ skipped r mid s line text texts e h = record {
   lines = h.lines;
   shows = rw e h.shows;
   from = from_less line h.lines h.from;
-  each = h.each;
+  read = next_adds r mid s line [] h.lines nothing_lacks h.from (empty_adds r line ∙ ap Ok e) h.read;
   short = inl (behind line text [] texts h.lines h.from (omega arith) h.short);
 }
 
-given_line : (r mid s : Reading) (line : ℕ) (text written : List ℕ) (texts : List (List ℕ)) → shown mid ≡ shown r ++ (line, written) ∷ [] → length written ≤ length text → length written ≤ 512 → IsReread mid s (line + 1) texts → IsReread r s line (text ∷ texts)
+given_line : (r mid s : Reading) (line : ℕ) (text written : List ℕ) (texts : List (List ℕ)) → shown mid ≡ shown r ++ (line, written) ∷ [] → length written ≤ length text → line_adds r line written ≡ Ok mid → All (λ b. eqb b 10 ≡ false) written → IsReread mid s (line + 1) texts → IsReread r s line (text ∷ texts)
 unfolding From
-given_line r mid s line text written texts here le short h = record {
+given_line r mid s line text written texts here le adds lacks h = record {
   lines = (line, written) ∷ h.lines;
   shows = h.shows ∙ (ap (λ (l : List Line). l ++ h.lines) here ∙ append_assoc (shown r) ((line, written) ∷ []) h.lines);
   from = omega arith;
-  each = (short, h.each);
+  read = subst (λ (t : List ℕ). lines_add r line (between 10 t) ≡ Ok s) (sym (laid_here line written h.lines)) (next_adds r mid s line written h.lines lacks h.from adds h.read);
   short = inl (subst (λ (t : List ℕ). length t + 1 ≤ length (led 10 (text ∷ texts))) (sym (laid_here line written h.lines)) (behind line text written texts h.lines h.from le h.short));
 }
 
@@ -199,13 +199,16 @@ none_is r line = refl
 by_change : (r mid s : Reading) (line : ℕ) (text : List ℕ) (texts : List (List ℕ)) (c : Option Change) → IsFormed r line → 1 ≤ line → line_gives r line text ≡ Ok c → with_change r line c ≡ mid → IsReread mid s (line + 1) texts → IsReread r s line (text ∷ texts)
 by_change r mid s line text texts None f le e is h = skipped r mid s line text texts (sym (none_is r line) ∙ is) h
 by_change r mid s line text texts (Some c) f le e is h =
-    let again = line_shorter r line text c e in
+    let again = line_again r line text c e in
     let here = change_shown r line text c f le e in
-    given_line r mid s line text (text_of_change r c) texts (ap shown (sym is) ∙ here) again.shorter again.short h
+    given_line r mid s line text (text_of_change r c) texts (ap shown (sym is) ∙ here) again.shorter (again.adds ∙ ap Ok is) again.lacks h
+
+nothing_read : (r s : Reading) (line : ℕ) → r ≡ s → lines_add r line (between 10 (laid_out line [])) ≡ Ok s
+nothing_read r s line e = subst (λ (t : List ℕ). lines_add r line (between 10 t) ≡ Ok s) (sym (laid_none line)) (one_adds r s line [] (empty_adds r line ∙ ap Ok e))
 
 reread : (texts : List (List ℕ)) (r s : Reading) (line : ℕ) → IsFormed r line → 1 ≤ line → lines_add r line texts ≡ Ok s → IsReread r s line texts
 unfolding lines_add line_adds From
-reread [] r s line f le e = record { lines = []; shows = ap shown (sym (ok_is r s e)) ∙ sym (append-nil (shown r)); from = tt; each = tt; short = inr (refl, refl) }
+reread [] r s line f le e = record { lines = []; shows = ap shown (sym (ok_is r s e)) ∙ sym (append-nil (shown r)); from = tt; read = nothing_read r s line (ok_is r s e); short = inr (refl, refl) }
 reread (text ∷ texts) r s line f le e =
     let b = bind_ok (line_adds r line text) _ s e in
     let d = bind_ok (line_gives r line text) _ b.0 (at_line_ok line _ b.0 b.1) in
@@ -216,10 +219,10 @@ nothing_shown : shown start ≡ []
 unfolding start statement_lines_behind
 nothing_shown = refl
 
--- the canonical text is no longer than the text, and each of its lines is short
-pub record IsShort (bytes : List ℕ) (load : Workload) : Type 0 where
-  pub each : AreShort (lines_of load)
-  pub short : length (canonical load) ≤ length bytes
+-- the canonical text gives the same workload, and is no longer than the text
+record IsSame (bytes : List ℕ) (load : Workload) : Type 0 where
+  again : workload_of (canonical load) ≡ Ok load
+  short : length (canonical load) ≤ length bytes
 
 whole_short : (bytes : List ℕ) (lines : List Line) → (length (laid_out 1 lines) + 1 ≤ length (led 10 (between 10 bytes))) ⊎ ((between 10 bytes ≡ []) × (lines ≡ [])) → length (laid_out 1 lines) ≤ length bytes
 whole_short bytes lines (inl h) = omega (arith, h, text_led 10 bytes)
@@ -228,16 +231,23 @@ whole_short bytes lines (inr h) =
     let zero_long : length (laid_out 1 lines) ≡ 0 = ap (λ (l : List ℕ). length l) none in
     omega (arith, zero_long)
 
-pub all_short : (bytes : List ℕ) (load : Workload) → workload_of bytes ≡ Ok load → IsShort bytes load
+read_whole : (lines : List Line) (end : Reading) → lines_add start 1 (between 10 (laid_out 1 lines)) ≡ Ok end → workload_of (laid_out 1 lines) ≡ Ok (finished end)
 unfolding workload_of
-all_short bytes load e =
+read_whole lines end e = rw e refl
+
+same_load : (bytes : List ℕ) (load : Workload) → workload_of bytes ≡ Ok load → IsSame bytes load
+unfolding workload_of
+same_load bytes load e =
     let b = bind_ok (lines_add start 1 (between 10 bytes)) _ load e in
     let h = reread (between 10 bytes) start b.0 1 start_formed (omega arith) b.1 in
     let shows : shown b.0 ≡ h.lines = h.shows ∙ ap (λ (l : List Line). l ++ h.lines) nothing_shown in
-    subst (λ (l : Workload). IsShort bytes l) (ok_is (finished b.0) load b.2) (record {
-      each = subst AreShort (sym shows) h.each;
+    subst (λ (l : Workload). IsSame bytes l) (ok_is (finished b.0) load b.2) (record {
+      again = subst (λ (l : List Line). workload_of (laid_out 1 l) ≡ Ok (finished b.0)) (sym shows) (read_whole h.lines b.0 h.read);
       short = subst (λ (l : List Line). length (laid_out 1 l) ≤ length bytes) (sym shows) (whole_short bytes h.lines h.short);
     })
 
 pub canonical_short : (bytes : List ℕ) (load : Workload) → workload_of bytes ≡ Ok load → length (canonical load) ≤ length bytes
-canonical_short bytes load e = (all_short bytes load e).short
+canonical_short bytes load e = (same_load bytes load e).short
+
+pub canonical_again : (bytes : List ℕ) (load : Workload) → workload_of bytes ≡ Ok load → workload_of (canonical load) ≡ Ok load
+canonical_again bytes load e = (same_load bytes load e).again

@@ -93,7 +93,7 @@ word_field all f options word field e =
     rw key field
 
 -- the value of a word that gives a field is one of the field
-word_valued : (all : List Field) (f : Field) (options : List (List ℕ)) (word : List ℕ) → IsField all f → find (λ w. bytes_eq (key_of w) (key_text f.key)) options ≡ Some word → list_all (has_value all) options ≡ true → is_value f.shape (value_of word) ≡ true
+pub word_valued : (all : List Field) (f : Field) (options : List (List ℕ)) (word : List ℕ) → IsField all f → find (λ w. bytes_eq (key_of w) (key_text f.key)) options ≡ Some word → list_all (has_value all) options ≡ true → is_value f.shape (value_of word) ≡ true
 word_valued all f options word field e valued = valued_is _ f (rw (word_field all f options word field e) at (find_all (λ w. bytes_eq (key_of w) (key_text f.key)) (has_value all) options word e valued))
 
 -- ---- a value that is none of its option's

@@ -64,7 +64,7 @@ node_says : (r : Reading) (line : ℕ) (w : Word) (name : Option (List ℕ)) (op
 unfolding change_with
 node_says r line w name options c is e =
     let a = bind_some (values_in (here r) options (fields word.Node)) _ c (rw is at e) in
-    let b = bind_some (settings_by (slice_get a.0)) _ c a.2 in
+    let b = bind_some (settings_by a.0) _ c a.2 in
     says_node a.0 b.0 is (rw is a.1) b.1 (sym (some_is _ c b.2))
 
 caller_says : (r : Reading) (line : ℕ) (w : Word) (name : Option (List ℕ)) (options : List (List ℕ)) (c : Change) → w ≡ word.Caller → change_of r line w name options ≡ Some c → Says r line w name options c

@@ -126,7 +126,7 @@ pair_is a b xs ys e =
 abbrev split_word : List ℕ → List (List ℕ) → Option (Option (List ℕ) × List (List ℕ))
 split_word x xs = cond (is_name x) (Some (pair (Some x) xs)) None
 
-split_parts : (x : List ℕ) (xs : List (List ℕ)) (name : Option (List ℕ)) (options : List (List ℕ)) → split_word x xs ≡ Some (pair name options) → (is_name x ≡ true) × (name ≡ Some x) × (xs ≡ options)
+pub split_parts : (x : List ℕ) (xs : List (List ℕ)) (name : Option (List ℕ)) (options : List (List ℕ)) → split_word x xs ≡ Some (pair name options) → (is_name x ≡ true) × (name ≡ Some x) × (xs ≡ options)
 split_parts x xs name options e =
     let g = some_cond (is_name x) (pair (Some x) xs) (pair name options) e in
     (g.0, sym (ap (λ (y : Option (List ℕ) × List (List ℕ)). y.0) g.1), ap (λ (y : Option (List ℕ) × List (List ℕ)). y.1) g.1)

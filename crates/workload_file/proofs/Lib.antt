@@ -22,8 +22,4 @@ pub mod Again
 pub mod Taken
 pub mod FirstMet
 pub mod Tables
-pub mod Letters
-pub mod Valued
 pub mod Optioned
-pub mod Stated
-pub mod Converse

@@ -1,7 +1,8 @@
 -- The options that are written of values are options of the statement, and give the values.
-use Rattle.std.proofs.Common.{◌≡◌, ℕ, ◌<◌, List, [], ◌∷◌, ◌++◌, Bool, true, false, cond, Option, Some, None, refl, sym, ap, subst, inl, inr, append_assoc, arith, length, length-append}
-use Rattle.std.specs.Prelude.{is_some, option_and_then}
-use Rattle.std.specs.List.{AllByRecursion, list_any, list_all}
+use Rattle.std.proofs.Common.{◌≡◌, ℕ, ◌<◌, List, [], ◌∷◌, ◌++◌, Bool, true, false, cond, eqb, Option, Some, None, refl, sym, ap, subst, inl, inr, append_assoc, arith, length, length-append}
+use Rattle.std.specs.Prelude.{is_some, nat_lt, option_and_then}
+use Rattle.std.specs.Option.{option_map}
+use Rattle.std.specs.List.{AllByRecursion, find, list_any, list_all}
 use Rattle.std.specs.Str.{bytes_eq}
 use Rattle.std.proofs.lemmas.Bool.{and_from, and_parts, or_parts, or_from, eqb-true, cases_Bool, lt-ltb}
 use Rattle.workload_file.specs.declared.table.Shape.{Shape}
@@ -14,21 +15,27 @@ use Rattle.workload_file.specs.declared.values.Value.{Value}
 use Rattle.workload_file.specs.declared.values.Value.TheVariants as given
 use Rattle.workload_file.specs.declared.workload.Statement.{Statement}
 use Rattle.workload_file.specs.Table.{key_text}
-use Rattle.workload_file.specs.Options.{key_of, field_of, is_known, has_twice, is_value, has_value, gives, is_missing, is_refused, text_of}
-use Rattle.workload_file.specs.Changes.{value_absent, value_at, values_in}
+use Rattle.workload_file.specs.Options.{key_of, value_of, field_of, is_known, has_twice, is_value, has_value, gives, is_missing, is_refused, text_of}
+use Rattle.workload_file.specs.Changes.{value_given, value_absent, value_at, values_in}
 use Rattle.workload_file.specs.Written.{value_text, is_default, options_words}
-use Rattle.workload_file.specs.Formed.{Fits, AllFit}
-use Rattle.workload_file.proofs.Facts.{some}
-use Rattle.workload_file.proofs.Fields.{AreApart, IsField, is_good, is_shaped, is_filled, are_filled}
-use Rattle.workload_file.proofs.Finds.{any_in}
-use Rattle.workload_file.proofs.Letters.{inner_append}
-use Rattle.workload_file.proofs.Phrases.{is_inner, is_word}
+use Rattle.workload_file.proofs.Facts.{some, some_is, bind_some}
+use Rattle.workload_file.proofs.Fields.{AreApart, IsField, is_good, is_shaped}
+use Rattle.workload_file.proofs.Finds.{find_all, any_in}
+use Rattle.workload_file.proofs.Agreed.{word_valued}
+use Rattle.workload_file.proofs.Phrases.{is_inner, is_word, all_append, all_parts}
+use Rattle.workload_file.proofs.Picks.{value_is, absent_is}
+use Rattle.workload_file.proofs.Spelling.{spelled}
 use Rattle.workload_file.proofs.Places.{bytes_same}
 use Rattle.workload_file.proofs.Rereading.{left_out_may, and_false, usual_args, usual_flag, usual_place, usual_cores, Free, free_push, text_skip, text_nothing}
 use Rattle.workload_file.proofs.Tables.{option_is, key_good}
-use Rattle.workload_file.proofs.Valued.{IsSpelled, Names, spelled}
 
--- ---- each value is left out or spelled
+-- ---- each value that is read is left out, or was spelled by a word that was read
+
+-- how a value is written, and what reading that gives
+pub record IsSpelled (before : List Statement) (s : Shape) (v : Value) : Type 0 where
+  pub valued : is_value s (value_text before v) ≡ true
+  pub inner : list_all is_inner (value_text before v) ≡ true
+  pub reads : value_given before s (value_text before v) ≡ Some v
 
 -- how a value of a field is written
 pub data IsWritten (before : List Statement) (f : Field) (v : Value) : Type 0 where
@@ -41,21 +48,38 @@ AllWritten before (f ∷ fs) (v ∷ vs) = IsWritten before f v × AllWritten bef
 AllWritten before [] (v ∷ vs) = ⊥
 AllWritten before (f ∷ fs) [] = ⊥
 
-written : (before : List Statement) (f : Field) (v : Value) → Names before → is_good f.absent f.shape ≡ true → is_filled f v ≡ true → Fits before f.shape v → IsWritten before f v
-written before f v names good filled fit =
-    let both = and_parts _ _ filled in
+value_inner : (own : List ℕ) → list_any (λ b. eqb b 61) own ≡ true → is_word own ≡ true → list_all is_inner (value_of own) ≡ true
+value_inner own k h =
+    let inner = (and_parts (nat_lt 0 (length own)) (list_all is_inner own) h).1 in
+    let whole = subst (λ (x : List ℕ). list_all is_inner x ≡ true) (spelled own k) inner in
+    let behind = (all_parts is_inner (key_of own) (61 ∷ value_of own) whole).1 in
+    (and_parts (is_inner 61) (list_all is_inner (value_of own)) behind).1
+
+field_read : (before : List Statement) (all : List Field) (options : List (List ℕ)) (f : Field) (v : Value) (o : Option (List ℕ)) → IsField all f → is_good f.absent f.shape ≡ true → list_all (is_known all) options ≡ true → list_all (has_value all) options ≡ true → list_all is_word options ≡ true → find (λ w. bytes_eq (key_of w) (key_text f.key)) options ≡ o → value_at before f (option_map value_of o) ≡ Some v → IsWritten before f v
+field_read before all options f v None field good known valued words is e =
+    let u = absent_is before f.absent f.shape v good e in
+    left u.default u.shaped
+field_read before all options f v (Some own) field good known valued words is e =
+    let i = value_is before f.shape (value_of own) v e in
     elim (cases_Bool (is_default f.absent v)) [
-      | inl t ↦ left t both.0
-      | inr d ↦ word d (spelled before f.absent f.shape v names good both.1 fit d)
+      | inl t ↦ left t i.shaped
+      | inr d ↦
+          let text = i.written f.absent good d in
+          let k = and_parts (list_any (λ b. eqb b 61) own) (is_some (field_of all own)) (find_all (λ w. bytes_eq (key_of w) (key_text f.key)) (is_known all) options own is known) in
+          let whole = find_all (λ w. bytes_eq (key_of w) (key_text f.key)) is_word options own is words in
+          word d (record { valued = rw text (word_valued all f options own field is valued); inner = rw text (value_inner own k.0 whole); reads = rw text e })
     ]
 
-pub all_written : (before : List Statement) (fs : List Field) (vs : List Value) → Names before → AllByRecursion (λ f. is_good f.absent f.shape ≡ true) fs → are_filled fs vs ≡ true → AllFit before fs vs → AllWritten before fs vs
-all_written before [] [] names good filled fit = tt
-all_written before (f ∷ fs) (v ∷ vs) names good filled fit =
-    let both = and_parts (is_filled f v) (are_filled fs vs) filled in
-    (written before f v names good.0 both.0 fit.0, all_written before fs vs names good.1 both.1 fit.1)
-all_written before [] (v ∷ vs) names good filled fit = absurd fit
-all_written before (f ∷ fs) [] names good filled fit = absurd fit
+-- each value that options give is left out, or is spelled as it was read
+pub all_read : (before : List Statement) (all : List Field) (options : List (List ℕ)) (fs : List Field) (vs : List Value) → AllByRecursion (IsField all) fs → AllByRecursion (λ f. is_good f.absent f.shape ≡ true) fs → list_all (is_known all) options ≡ true → list_all (has_value all) options ≡ true → list_all is_word options ≡ true → values_in before options fs ≡ Some vs → AllWritten before fs vs
+unfolding values_in text_of
+all_read before all options [] vs fields good known valued words e = subst (AllWritten before []) (some_is [] vs e) tt
+all_read before all options (f ∷ fs) vs fields good known valued words e =
+    let a = bind_some (value_at before f (text_of f.key options)) _ vs e in
+    let b = bind_some (values_in before options fs) _ vs a.2 in
+    let here = field_read before all options f a.0 (find (λ w. bytes_eq (key_of w) (key_text f.key)) options) fields.0 good.0 known valued words refl a.1 in
+    let rest = all_read before all options fs b.0 fields.1 good.1 known valued words b.1 in
+    subst (AllWritten before (f ∷ fs)) (some_is (a.0 ∷ b.0) vs b.2) (here, rest)
 
 -- ---- the words
 
@@ -104,7 +128,7 @@ valued_here all f text h v =
 word_here : (k : Key) (text : List ℕ) → list_all is_inner text ≡ true → is_word (key_text k ++ 61 ∷ text) ≡ true
 word_here k text h =
     let some : 0 < length (key_text k ++ 61 ∷ text) = omega (arith, length-append (key_text k) (61 ∷ text)) in
-    and_from _ _ (lt-ltb 0 (length (key_text k ++ 61 ∷ text)) some) (inner_append (key_text k) (61 ∷ text) (key_good k) h)
+    and_from _ _ (lt-ltb 0 (length (key_text k ++ 61 ∷ text)) some) (all_append is_inner (key_text k) (61 ∷ text) (key_good k) h)
 
 pub opts_known : (all : List Field) (before : List Statement) (fs : List Field) (vs : List Value) → AllByRecursion (IsField all) fs → AllWritten before fs vs → list_all (is_known all) (opts before fs vs) ≡ true
 opts_known all before fs vs p h = all_opts (is_known all) (IsField all) before fs vs (λ f v i s. known_here all f (value_text before v) i) p h

@@ -1,7 +1,7 @@
 -- Words that are joined are cut into the same words, and a line of fewer words is shorter.
-use Rattle.std.proofs.Common.{◌≡◌, ℕ, ◌+◌, ◌≤◌, List, [], ◌∷◌, ◌++◌, length, Bool, true, false, not, ◌&&◌, eqb, refl, ap, ◌∙◌, arith, inl, inr, length-append, All}
+use Rattle.std.proofs.Common.{◌≡◌, ℕ, ◌+◌, ◌≤◌, List, [], ◌∷◌, ◌++◌, length, Bool, true, false, not, cond, ◌&&◌, eqb, refl, ap, ◌∙◌, arith, inl, inr, length-append, All}
 use Rattle.std.specs.Prelude.{nat_lt, filter}
-use Rattle.std.specs.List.{AllByRecursion, list_all, join_with_byte}
+use Rattle.std.specs.List.{AllByRecursion, list_all, join_with_byte, onto_first}
 use Rattle.std.proofs.lemmas.Bool.{and_parts, and_from, cases_Bool, eq-eqb, eqb-true}
 use Rattle.std.proofs.lemmas.List.Elements.{All-from_recursion}
 use Rattle.std.proofs.lemmas.List.Splits.{slice_split_at, slice_split_none, length-slice_split, join_with_byte-slice_split}
@@ -65,9 +65,16 @@ words_again first rest h = ap (filter (λ w. nat_lt 0 (length w))) (between_join
 
 -- ---- what joined words consist of
 
-all_append : (q : ℕ → Bool) (xs ys : List ℕ) → list_all q xs ≡ true → list_all q ys ≡ true → list_all q (xs ++ ys) ≡ true
+pub all_append : {X : Type 0} (q : X → Bool) (xs ys : List X) → list_all q xs ≡ true → list_all q ys ≡ true → list_all q (xs ++ ys) ≡ true
 all_append q [] ys h k = k
 all_append q (x ∷ xs) ys h k = let both = and_parts (q x) (list_all q xs) h in and_from _ _ both.0 (all_append q xs ys both.1 k)
+
+pub all_parts : {X : Type 0} (q : X → Bool) (xs ys : List X) → list_all q (xs ++ ys) ≡ true → (list_all q xs ≡ true) × (list_all q ys ≡ true)
+all_parts q [] ys h = (refl, h)
+all_parts q (x ∷ xs) ys h =
+    let both = and_parts (q x) (list_all q (xs ++ ys)) h in
+    let rest = all_parts q xs ys both.1 in
+    (and_from _ _ both.0 rest.0, rest.1)
 
 inner_printable : (w : List ℕ) → list_all is_inner w ≡ true → list_all is_printable w ≡ true
 inner_printable [] h = refl
@@ -102,6 +109,38 @@ printable_each (b ∷ bs) h = let both = and_parts (is_printable b) (list_all is
 
 pub printable_lacks : (text : List ℕ) → list_all is_printable text ≡ true → All (λ b. eqb b 10 ≡ false) text
 printable_lacks text h = All-from_recursion (λ (b : ℕ). eqb b 10 ≡ false) text (printable_each text h)
+
+-- ---- the words of a line
+
+onto_inner : (b : ℕ) (parts : List (List ℕ)) → is_inner b ≡ true → list_all (λ w. list_all is_inner w) parts ≡ true → list_all (λ w. list_all is_inner w) (onto_first b parts) ≡ true
+onto_inner b [] i h = and_from _ _ (and_from _ _ i refl) refl
+onto_inner b (w ∷ ws) i h = let both = and_parts (list_all is_inner w) (list_all (λ w. list_all is_inner w) ws) h in and_from _ _ (and_from _ _ i both.0) both.1
+
+-- one byte more, which ends a piece or stands before the first one
+one_more : (b : ℕ) (parts : List (List ℕ)) (ends : Bool) → (ends ≡ false → is_inner b ≡ true) → list_all (λ w. list_all is_inner w) parts ≡ true → list_all (λ w. list_all is_inner w) (cond ends ([] ∷ parts) (onto_first b parts)) ≡ true
+one_more b parts true i h = h
+one_more b parts false i h = onto_inner b parts (i refl) h
+
+pieces_inner : (text : List ℕ) → list_all is_printable text ≡ true → list_all (λ w. list_all is_inner w) (between 32 text) ≡ true
+pieces_inner [] h = refl
+pieces_inner (b ∷ bs) h =
+    let both = and_parts (is_printable b) (list_all is_printable bs) h in
+    one_more b (between 32 bs) (eqb b 32) (λ (f : eqb b 32 ≡ false). and_from _ _ both.0 (ap not f)) (pieces_inner bs both.1)
+
+kept_word : (w : List ℕ) (ws : List (List ℕ)) (keep : Bool) → (keep ≡ true → is_word w ≡ true) → list_all is_word ws ≡ true → list_all is_word (cond keep (w ∷ ws) ws) ≡ true
+kept_word w ws true g h = and_from _ _ (g refl) h
+kept_word w ws false g h = h
+
+kept_words : (ws : List (List ℕ)) → list_all (λ w. list_all is_inner w) ws ≡ true → list_all is_word (filter (λ w. nat_lt 0 (length w)) ws) ≡ true
+kept_words [] h = refl
+kept_words (w ∷ ws) h =
+    let both = and_parts (list_all is_inner w) (list_all (λ w. list_all is_inner w) ws) h in
+    kept_word w (filter (λ w. nat_lt 0 (length w)) ws) (nat_lt 0 (length w)) (λ (t : nat_lt 0 (length w) ≡ true). and_from _ _ t both.0) (kept_words ws both.1)
+
+-- the words of a printable line
+pub words_good : (text : List ℕ) → list_all is_printable text ≡ true → list_all is_word (words_of text) ≡ true
+unfolding words_of
+words_good text h = kept_words (between 32 text) (pieces_inner text h)
 
 -- ---- lengths
 

@@ -35,11 +35,11 @@ use Rattle.workload_file.proofs.Spelling.{spelled, within_is, cores_is, kind_tex
 -- ---- one value
 
 -- what a value that was read of a text is
-record IsValue (before : List Statement) (s : Shape) (text : List ℕ) (v : Value) : Type 0 where
-  fits : Fits before s v
-  shaped : is_shaped s v ≡ true
-  there : is_there v ≡ true
-  written : (a : Absent) → is_good a s ≡ true → is_default a v ≡ false → value_text before v ≡ text
+pub record IsValue (before : List Statement) (s : Shape) (text : List ℕ) (v : Value) : Type 0 where
+  pub fits : Fits before s v
+  pub shaped : is_shaped s v ≡ true
+  pub there : is_there v ≡ true
+  pub written : (a : Absent) → is_good a s ≡ true → is_default a v ≡ false → value_text before v ≡ text
 
 -- all cores are the usual ones
 cores_usual : (a : Absent) (mask : ℕ) → is_good a shape.Cores ≡ true → is_default a (given.Cores (record { 0 = mask })) ≡ false → mask ≡ 2 ^ 64 - 1 → ⊥
@@ -48,7 +48,7 @@ cores_usual absent.Refused mask good d e = cc
 cores_usual absent.Usual mask good d e = let t = eq-eqb mask (2 ^ 64 - 1) e in cc (t, d)
 cores_usual (absent.Number n) mask good d e = cc
 
-value_is : (before : List Statement) (s : Shape) (text : List ℕ) (v : Value) → value_given before s text ≡ Some v → IsValue before s text v
+pub value_is : (before : List Statement) (s : Shape) (text : List ℕ) (v : Value) → value_given before s text ≡ Some v → IsValue before s text v
 unfolding value_given value_text
 value_is before (shape.Number low high) text v e =
     let m = map_some given.Number (number_within low high text) v e in
@@ -84,13 +84,13 @@ value_is before (shape.Named sort) text v e =
     subst (IsValue before (shape.Named sort) text) m.2 (record { fits = p.0; shaped = refl; there = refl; written = λ a good d. p.1 })
 
 -- what the value of an absent option is
-record IsUsual (before : List Statement) (a : Absent) (s : Shape) (v : Value) : Type 0 where
-  fits : Fits before s v
-  shaped : is_shaped s v ≡ true
-  may : is_refused a ≡ false
-  default : is_default a v ≡ true
+pub record IsUsual (before : List Statement) (a : Absent) (s : Shape) (v : Value) : Type 0 where
+  pub fits : Fits before s v
+  pub shaped : is_shaped s v ≡ true
+  pub may : is_refused a ≡ false
+  pub default : is_default a v ≡ true
 
-absent_is : (before : List Statement) (a : Absent) (s : Shape) (v : Value) → is_good a s ≡ true → value_absent a s ≡ Some v → IsUsual before a s v
+pub absent_is : (before : List Statement) (a : Absent) (s : Shape) (v : Value) → is_good a s ≡ true → value_absent a s ≡ Some v → IsUsual before a s v
 unfolding value_absent is_default
 absent_is before (absent.Number d) (shape.Number low high) v good e =
     let both = and_parts _ _ (and_parts _ _ good).1 in

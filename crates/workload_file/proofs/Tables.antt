@@ -22,17 +22,6 @@ use Rattle.workload_file.proofs.Held.{AllHeld, all_with, all_held}
 use Rattle.workload_file.proofs.Phrases.{is_inner, is_word}
 use Rattle.workload_file.proofs.Rows.{each_word}
 
--- ---- words
-
-every_word_good : list_all (λ w. is_word (word_text w) && not (is_comment (word_text w))) words ≡ true
-unfolding row
-every_word_good = refl
-
-pub word_good : (w : Word) → (is_word (word_text w) ≡ true) × (is_comment (word_text w) ≡ false)
-word_good w =
-    let both = and_parts (is_word (word_text w)) (not (is_comment (word_text w))) (each_word (λ w. is_word (word_text w) && not (is_comment (word_text w))) every_word_good w) in
-    (both.0, not_true (is_comment (word_text w)) both.1)
-
 -- ---- keys
 
 -- a word `key=value` has this key and this value
@@ -60,18 +49,6 @@ is_used_at rule.Bare None = true
 is_used_at rule.Caller None = true
 is_used_at (rule.Binds sort) None = true
 is_used_at _ _ = false
-
--- what holds of each deed: its values are those of its statement, it uses a name where its statement does, its word is one of a deed, and it is the deed of all these
-pub record IsSpelled (d : Deed) : Type 0 where
-  pub filled : are_filled (fields (word_for d)) (values d) ≡ true
-  pub used : is_used_at (naming (word_for d)) (used_place d) ≡ true
-  pub word : is_deed (word_for d) ≡ true
-  pub again : deed_with (word_for d) (used_place d) (values d) ≡ Some d
-
-pub deed_facts : (d : Deed) → IsSpelled d
-unfolding row deed_spelled deed_with task_deed queue_deed lock_deed segment_deed
-deed_facts deed.Begin = record { filled = refl; used = refl; word = refl; again = refl }
-deed_facts _ = record { filled = refl; used = refl; word = refl; again = refl }
 
 -- there is a deed of a word, a place and values
 pub record IsDeed (w : Word) (place : Option ℕ) (vs : List Value) : Type 0 where

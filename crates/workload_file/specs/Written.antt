@@ -126,10 +126,6 @@ lines_of_part p = if_any p.line (caller_text p.name) ++ statement_lines_behind [
 abbrev pub lines_of : Workload → List Line
 lines_of load = if_any load.node_line (node_text load.settings) ++ flat_map lines_of_part load.parts
 
--- each line has at most 512 bytes
-abbrev pub AreShort : List Line → Type 0
-AreShort lines = AllByRecursion (λ l. length l.1 ≤ 512) lines
-
 -- ---- the text
 
 -- from a line on: line feeds up to the next line that has a text, and that text

@@ -6,7 +6,7 @@ ghost use Rattle.workload_file.specs.declared.reading.Reading.{Reading};
 ghost use Rattle.workload_file.specs.Faulty.{first_met, refused_for, IsFirstFault};
 ghost use Rattle.workload_file.specs.declared.faults.Fault.{Fault};
 ghost use Rattle.workload_file.specs.Formed.{WellFormed};
-ghost use Rattle.workload_file.specs.Written.{canonical, lines_of, AreShort};
+ghost use Rattle.workload_file.specs.Written.{canonical};
 
 use crate::workload::Workload;
 
@@ -32,9 +32,4 @@ pub fn law_again()
 pub fn law_causes()
     ensures text { (bytes : List ℕ) (fault : Fault) → workload_of bytes ≡ Err fault → IsFirstFault bytes fault }
     ensures line { (r : Reading) (line : ℕ) (text : List ℕ) → refused_for (line_gives r line text) ≡ first_met r text }
-{}
-
-/// Each well-formed workload whose canonical lines have at most 512 bytes is what its canonical text gives.
-pub fn law_converse()
-    ensures { (load : Workload) → WellFormed load → AreShort (lines_of load) → workload_of (canonical load) ≡ Ok load }
 {}

@@ -1,5 +1,5 @@
 use Rattle.workload_file.proofs.Again.{canonical_short}
-use Rattle.workload_file.proofs.Converse.{canonical_again}
+use Rattle.workload_file.proofs.Again.{canonical_again}
 use Rattle.workload_file.proofs.laws.law_again.Goals as goal
 
 pub returns-clause-same : goal.returns-clause-same
