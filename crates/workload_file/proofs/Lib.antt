@@ -23,3 +23,4 @@ pub mod Taken
 pub mod FirstMet
 pub mod Tables
 pub mod Optioned
+pub mod Alike

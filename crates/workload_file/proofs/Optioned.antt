@@ -112,13 +112,13 @@ all_opts q P before (f ∷ fs) [] each p h = absurd h
 field_here : (all : List Field) (f : Field) (text : List ℕ) → IsField all f → field_of all (key_text f.key ++ 61 ∷ text) ≡ Some f
 field_here all f text h = let o = option_is f.key text in rw o.key h
 
-known_here : (all : List Field) (f : Field) (text : List ℕ) → IsField all f → is_known all (key_text f.key ++ 61 ∷ text) ≡ true
+pub known_here : (all : List Field) (f : Field) (text : List ℕ) → IsField all f → is_known all (key_text f.key ++ 61 ∷ text) ≡ true
 known_here all f text h = and_from _ _ (option_is f.key text).equals (ap is_some (field_here all f text h))
 
 abbrev value_test : List ℕ → Field → Option Field
 value_test text f = cond (is_value f.shape text) (Some f) None
 
-valued_here : (all : List Field) (f : Field) (text : List ℕ) → IsField all f → is_value f.shape text ≡ true → has_value all (key_text f.key ++ 61 ∷ text) ≡ true
+pub valued_here : (all : List Field) (f : Field) (text : List ℕ) → IsField all f → is_value f.shape text ≡ true → has_value all (key_text f.key ++ 61 ∷ text) ≡ true
 valued_here all f text h v =
     let o = option_is f.key text in
     let t : is_some (option_and_then (value_test text) (Some f)) ≡ true = rw v refl in

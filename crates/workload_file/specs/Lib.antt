@@ -14,3 +14,4 @@ pub mod Faulty
 pub mod Formed
 pub mod Written
 pub mod Led
+pub mod Alike

@@ -1,7 +1,8 @@
 //! Laws of the workload text.
-ghost use Rattle.std.specs.Prelude.{◌≡◌, ◌≤◌, List, ℕ, Ok, Err, length};
+ghost use Rattle.std.specs.Prelude.{◌≡◌, ◌≤◌, ◌++◌, ◌∷◌, [], List, ℕ, Ok, Err, length, replicate};
 ghost use Rattle.workload_file.specs.declared.workload.Workload.{Workload};
-ghost use Rattle.workload_file.specs.Reading.{workload_of, line_gives};
+ghost use Rattle.workload_file.specs.Reading.{workload_of, line_gives, line_adds};
+ghost use Rattle.workload_file.specs.Alike.{IsPlain, IsSwapped, IsWrittenOut, AddsAlike, DifferAt};
 ghost use Rattle.workload_file.specs.declared.reading.Reading.{Reading};
 ghost use Rattle.workload_file.specs.Faulty.{first_met, refused_for, IsFirstFault};
 ghost use Rattle.workload_file.specs.declared.faults.Fault.{Fault};
@@ -32,4 +33,16 @@ pub fn law_again()
 pub fn law_causes()
     ensures text { (bytes : List ℕ) (fault : Fault) → workload_of bytes ≡ Err fault → IsFirstFault bytes fault }
     ensures line { (r : Reading) (line : ℕ) (text : List ℕ) → refused_for (line_gives r line text) ≡ first_met r text }
+{}
+
+/// Comments, spaces, the order of options and written-out defaults leave what a line adds, and so the workload.
+pub fn law_lexing()
+    ensures blank { (r : Reading) (line n : ℕ) → n ≤ 512 → line_adds r line (replicate n 32) ≡ Ok r }
+    ensures comment { (r : Reading) (line n : ℕ) (text : List ℕ) → IsPlain (replicate n 32 ++ 35 ∷ text) → line_adds r line (replicate n 32 ++ 35 ∷ text) ≡ Ok r }
+    ensures between { (r : Reading) (line : ℕ) (a b : List ℕ) → length (a ++ 32 ∷ 32 ∷ b) ≤ 512 → line_adds r line (a ++ 32 ∷ 32 ∷ b) ≡ line_adds r line (a ++ 32 ∷ b) }
+    ensures first { (r : Reading) (line : ℕ) (a : List ℕ) → length (32 ∷ a) ≤ 512 → line_adds r line (32 ∷ a) ≡ line_adds r line a }
+    ensures last { (r : Reading) (line : ℕ) (a : List ℕ) → length (a ++ 32 ∷ []) ≤ 512 → line_adds r line (a ++ 32 ∷ []) ≡ line_adds r line a }
+    ensures order { (text other : List ℕ) → IsSwapped text other → IsPlain other → AddsAlike text other }
+    ensures default { (text other : List ℕ) → IsWrittenOut text other → IsPlain other → AddsAlike text other }
+    ensures whole { (bytes others text other : List ℕ) (load : Workload) → DifferAt bytes others text other → AddsAlike text other → workload_of bytes ≡ Ok load → workload_of others ≡ Ok load }
 {}
