@@ -183,8 +183,8 @@ record IsInstead (before : List Statement) (fs : List Field) (ps qs : List (List
 statement_instead : (r : Reading) (line : ℕ) (first : List ℕ) (rest others : List (List ℕ)) (w : Word) (name : Option (List ℕ)) (ps qs : List (List ℕ)) (c : Change) → IsRead r first rest w name ps → change_of r line w name ps ≡ Some c → split_name (naming w) others ≡ Some (name, qs) → IsInstead (here r) (fields w) ps qs → statement_of r line first others ≡ Ok c
 statement_instead r line first rest others w name ps qs c read e split q =
     statement_read r line first others w name qs c
-      (record { word = read.word; few = read.few; callers = read.callers; placed = read.placed; split = split; known = q.known; once = q.once; valued = q.valued; present = q.present; free = read.free })
-      (ap (λ (vs : Option (List Value)). change_with (here r) line w name vs) q.values ∙ e)
+    (record { word = read.word; few = read.few; callers = read.callers; placed = read.placed; split = split; known = q.known; once = q.once; valued = q.valued; present = q.present; free = read.free })
+    (ap (λ (vs : Option (List Value)). change_with (here r) line w name vs) q.values ∙ e)
 
 -- ---- two options in the other order
 
@@ -311,7 +311,7 @@ swapped_statement r line first front x y back c h e =
 pub swapped_adds : (text other : List ℕ) → IsSwapped text other → IsPlain other → AddsAlike text other
 swapped_adds text other w plain = λ r line s e.
     line_instead r line text other w.first (w.front ++ w.one ∷ (w.two ∷ w.back)) (w.front ++ w.two ∷ (w.one ∷ w.back)) s w.words w.others plain
-      (λ c h. swapped_statement r line w.first w.front w.one w.two w.back c w.option h) e
+    (λ c h. swapped_statement r line w.first w.front w.one w.two w.back c w.option h) e
 
 -- ---- a default that is written out
 
@@ -440,7 +440,7 @@ out_statement r line first rest w f value v c word field absent usual reads e =
 pub written_adds : (text other : List ℕ) → IsWrittenOut text other → IsPlain other → AddsAlike text other
 written_adds text other w plain = λ r line s e.
     line_instead r line text other w.first w.rest (w.rest ++ (key_text w.field.key ++ 61 ∷ w.value) ∷ []) s w.words w.others plain
-      (λ c h. out_statement r line w.first w.rest w.word w.field w.value w.given c w.statement w.option w.absent w.usual (w.reads (here r)) h) e
+    (λ c h. out_statement r line w.first w.rest w.word w.field w.value w.given c w.statement w.option w.absent w.usual (w.reads (here r)) h) e
 
 -- ---- texts
 
