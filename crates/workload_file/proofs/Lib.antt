@@ -24,3 +24,4 @@ pub mod FirstMet
 pub mod Tables
 pub mod Optioned
 pub mod Alike
+pub mod Inserted

@@ -1,5 +1,5 @@
 -- Lines that say the same.
-use Rattle.std.specs.Prelude.{◌≡◌, ℕ, ◌≤◌, ◌==◌, List, [], ◌∷◌, ◌++◌, length, Bool, true, false, Some, Ok}
+use Rattle.std.specs.Prelude.{◌≡◌, ℕ, ◌≤◌, ◌==◌, List, [], ◌∷◌, ◌++◌, length, map, Bool, true, false, Some, Ok}
 use Rattle.std.specs.List.{find, list_any, list_all}
 use Rattle.std.specs.Str.{bytes_eq}
 use Rattle.number_text.specs.Lists.{between}
@@ -7,12 +7,14 @@ use Rattle.workload_file.specs.declared.table.Word.{Word}
 use Rattle.workload_file.specs.declared.table.Field.{Field}
 use Rattle.workload_file.specs.declared.reading.Reading.{Reading}
 use Rattle.workload_file.specs.declared.workload.Statement.{Statement}
+use Rattle.workload_file.specs.declared.workload.Part.{Part}
+use Rattle.workload_file.specs.declared.workload.Workload.{Workload}
 use Rattle.workload_file.specs.declared.values.Value.{Value}
 use Rattle.workload_file.specs.Cuts.{words_of}
 use Rattle.workload_file.specs.Table.{word_of, key_text, fields}
 use Rattle.workload_file.specs.Options.{gives}
 use Rattle.workload_file.specs.Changes.{value_given, value_absent}
-use Rattle.workload_file.specs.Reading.{is_printable, line_adds}
+use Rattle.workload_file.specs.Reading.{is_printable, line_adds, workload_of}
 
 -- a line of at most 512 printable bytes
 pub record IsPlain (text : List ℕ) : Type 0 where
@@ -60,3 +62,32 @@ pub record DifferAt (bytes others text other : List ℕ) : Type 0 where
   pub after : List (List ℕ)
   pub lines : between 10 bytes ≡ before ++ text ∷ after
   pub other_lines : between 10 others ≡ before ++ other ∷ after
+
+-- a line that adds nothing, wherever it stands
+abbrev pub AddsNothing : List ℕ → Type 0
+AddsNothing text = (r : Reading) (line : ℕ) → line_adds r line text ≡ Ok r
+
+-- the other text has one line more
+pub record IsInserted (bytes others text : List ℕ) : Type 0 where
+  pub before : List (List ℕ)
+  pub after : List (List ℕ)
+  pub lines : between 10 bytes ≡ before ++ after
+  pub other_lines : between 10 others ≡ before ++ text ∷ after
+
+-- without the numbers of the lines
+abbrev pub still : Statement → Statement
+still s = record s { line = 0 }
+
+abbrev pub still_part : Part → Part
+still_part p = record { line = 0; name = p.name; statements = map still p.statements }
+
+-- two workloads that are the same but for the numbers of their lines
+pub record AreStill (load other : Workload) : Type 0 where
+  pub settings : load.settings ≡ other.settings
+  pub parts : map still_part load.parts ≡ map still_part other.parts
+
+-- the text gives a workload that is the same but for the numbers of its lines
+pub record GivesStill (bytes : List ℕ) (load : Workload) : Type 0 where
+  pub given : Workload
+  pub gives : workload_of bytes ≡ Ok given
+  pub same : AreStill load given

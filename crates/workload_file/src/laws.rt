@@ -2,7 +2,7 @@
 ghost use Rattle.std.specs.Prelude.{◌≡◌, ◌≤◌, ◌++◌, ◌∷◌, [], List, ℕ, Ok, Err, length, replicate};
 ghost use Rattle.workload_file.specs.declared.workload.Workload.{Workload};
 ghost use Rattle.workload_file.specs.Reading.{workload_of, line_gives, line_adds};
-ghost use Rattle.workload_file.specs.Alike.{IsPlain, IsSwapped, IsWrittenOut, AddsAlike, DifferAt};
+ghost use Rattle.workload_file.specs.Alike.{IsPlain, IsSwapped, IsWrittenOut, AddsAlike, DifferAt, AddsNothing, IsInserted, GivesStill};
 ghost use Rattle.workload_file.specs.declared.reading.Reading.{Reading};
 ghost use Rattle.workload_file.specs.Faulty.{first_met, refused_for, IsFirstFault};
 ghost use Rattle.workload_file.specs.declared.faults.Fault.{Fault};
@@ -45,4 +45,9 @@ pub fn law_lexing()
     ensures order { (text other : List ℕ) → IsSwapped text other → IsPlain other → AddsAlike text other }
     ensures default { (text other : List ℕ) → IsWrittenOut text other → IsPlain other → AddsAlike text other }
     ensures whole { (bytes others text other : List ℕ) (load : Workload) → DifferAt bytes others text other → AddsAlike text other → workload_of bytes ≡ Ok load → workload_of others ≡ Ok load }
+{}
+
+/// A further line that adds nothing, as a comment, leaves the workload but for the numbers of the lines behind it.
+pub fn law_inserted()
+    ensures { (bytes others text : List ℕ) (load : Workload) → IsInserted bytes others text → AddsNothing text → workload_of bytes ≡ Ok load → GivesStill others load }
 {}
