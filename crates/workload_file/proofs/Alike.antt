@@ -1,5 +1,5 @@
 -- Comments, spaces, the order of options and written-out defaults.
-use Rattle.std.proofs.Common.{◌≡◌, ℕ, ◌≤◌, List, [], ◌∷◌, ◌++◌, length, replicate, Bool, true, false, not, cond, eqb, ◌&&◌, ◌||◌, Option, Some, None, Result, Ok, refl, sym, ap, subst, ◌∙◌, arith, inl, inr, zero, suc, ◌+◌}
+use Rattle.std.proofs.Common.{◌≡◌, ℕ, ◌≤◌, List, [], ◌∷◌, ◌++◌, length, replicate, Bool, true, false, not, cond, eqb, ◌&&◌, ◌||◌, Option, Some, None, Ok, refl, sym, ap, subst, ◌∙◌, arith, inl, inr, zero, suc, ◌+◌}
 use Rattle.std.specs.Prelude.{nat_le, nat_lt, filter, is_some}
 use Rattle.std.specs.Option.{option_map}
 use Rattle.std.specs.List.{find, list_any, list_all, onto_first}
@@ -32,7 +32,7 @@ use Rattle.workload_file.specs.Table.{naming, fields, key_text, word_of}
 use Rattle.workload_file.specs.Options.{key_of, value_of, is_known, has_twice, has_value, is_value, gives, is_missing, is_refused, text_of}
 use Rattle.workload_file.specs.Names.{split_name, place_of}
 use Rattle.workload_file.specs.Changes.{value_given, value_absent, value_at, values_in, change_with, change_of}
-use Rattle.workload_file.specs.Reading.{is_printable, is_comment, line_gives, line_adds, lines_add, statement_of, words_give, at_line, start, finished, workload_of, with_change}
+use Rattle.workload_file.specs.Reading.{is_printable, is_comment, line_gives, line_adds, lines_add, statement_of, words_give, at_line, start, workload_of, with_change}
 use Rattle.workload_file.specs.Written.{bound_words}
 use Rattle.workload_file.specs.Alike.{IsPlain, has_equals, IsSwapped, IsWrittenOut, AddsAlike, DifferAt}
 use Rattle.workload_file.proofs.Facts.{IsRead, bind_ok, at_line_ok, some_is, map_some, line_facts, line_read, statement_facts, statement_read}

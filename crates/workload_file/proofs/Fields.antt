@@ -1,6 +1,6 @@
 -- The fields of a statement, the kinds of statements, and what each kind says.
 use Rattle.std.proofs.Common.{◌≡◌, ℕ, List, [], ◌∷◌, Bool, true, false, Option, Some, None, refl, sym, ◌∙◌, ◌&&◌, ◌||◌, not}
-use Rattle.std.specs.Prelude.{nat_le, slice_get}
+use Rattle.std.specs.Prelude.{nat_le}
 use Rattle.std.specs.List.{AllByRecursion, find, list_any, list_all}
 use Rattle.std.specs.Str.{bytes_eq}
 use Rattle.std.proofs.lemmas.Bool.{and_parts, or_parts}

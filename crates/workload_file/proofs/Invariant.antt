@@ -1,6 +1,6 @@
 -- Each line keeps what is read well formed.
 use Rattle.std.proofs.Common.{◌≡◌, ℕ, ◌+◌, ◌≤◌, ◌<◌, List, [], ◌∷◌, ◌++◌, length, Bool, true, false, not, cond, eqb, Option, Some, None, refl, sym, ap, subst, ◌∙◌, arith, inl, inr, append_assoc}
-use Rattle.std.specs.Prelude.{is_some, IfSome, slice_get}
+use Rattle.std.specs.Prelude.{is_some, IfSome}
 use Rattle.std.specs.List.{AllByRecursion, list_any, flat_map, position_or_len}
 use Rattle.std.specs.Str.{bytes_eq}
 use Rattle.std.proofs.lemmas.Bool.{or_parts, or_from, eqb-true, cases_Bool, lt-ltb, le-leb}

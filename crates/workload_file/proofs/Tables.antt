@@ -1,7 +1,6 @@
 -- What the table says of each word, each key and each deed, read off case by case.
-use Rattle.std.proofs.Common.{◌≡◌, ℕ, List, ◌∷◌, ◌++◌, Bool, true, false, ◌&&◌, not, eqb, Option, Some, None, refl, sym, ◌∙◌}
+use Rattle.std.proofs.Common.{◌≡◌, ℕ, List, ◌∷◌, ◌++◌, Bool, true, false, eqb, Option, Some, None, refl, sym, ◌∙◌}
 use Rattle.std.specs.List.{list_any, list_all}
-use Rattle.std.proofs.lemmas.Bool.{and_parts}
 use Rattle.mtapi_values.specs.Attributes.{NodeSettings}
 use Rattle.workload_file.specs.declared.table.Word.{Word}
 use Rattle.workload_file.specs.declared.table.Word.TheVariants as word
@@ -12,15 +11,13 @@ use Rattle.workload_file.specs.declared.table.Naming.TheVariants as rule
 use Rattle.workload_file.specs.declared.workload.Deed.{Deed}
 use Rattle.workload_file.specs.declared.workload.Deed.TheVariants as deed
 use Rattle.workload_file.specs.declared.values.Value.{Value}
-use Rattle.workload_file.specs.Table.{row, words, word_text, key_text, naming, fields}
+use Rattle.workload_file.specs.Table.{row, key_text, naming, fields}
 use Rattle.workload_file.specs.Options.{key_of, value_of}
 use Rattle.workload_file.specs.Deeds.{deed_spelled, word_for, used_place, values, task_deed, queue_deed, lock_deed, segment_deed, deed_with, setting_values}
-use Rattle.workload_file.specs.Reading.{is_comment}
 use Rattle.workload_file.proofs.Facts.{some_is}
-use Rattle.workload_file.proofs.Fields.{is_deed, not_true, are_filled}
+use Rattle.workload_file.proofs.Fields.{is_deed, are_filled}
 use Rattle.workload_file.proofs.Held.{AllHeld, all_with, all_held}
-use Rattle.workload_file.proofs.Phrases.{is_inner, is_word}
-use Rattle.workload_file.proofs.Rows.{each_word}
+use Rattle.workload_file.proofs.Phrases.{is_inner}
 
 -- ---- keys
 

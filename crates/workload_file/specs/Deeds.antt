@@ -1,12 +1,6 @@
 -- What each deed is in the text, and back.
 use Rattle.std.specs.Prelude.{ℕ, List, [], ◌∷◌, Bool, true, false, Option, Some, None}
-use Rattle.std.specs.Option.{option_map}
 use Rattle.mtapi_values.specs.Attributes.{NodeSettings}
-use Rattle.mtapi_values.specs.declared.kinds.Kind.{Kind}
-use Rattle.mtapi_values.specs.declared.timeouts.Timeout.{Timeout}
-use Rattle.mtapi_values.specs.declared.lists.Args.{Args}
-use Rattle.mtapi_values.specs.declared.masks.Mask.{Mask}
-use Rattle.number_text.specs.Lists.{◌>>=◌}
 use Rattle.workload_file.specs.declared.table.Word.{Word}
 use Rattle.workload_file.specs.declared.table.Word.TheVariants as word
 use Rattle.workload_file.specs.declared.table.Sort.{Sort}
