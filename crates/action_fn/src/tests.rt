@@ -1,4 +1,4 @@
-//! A table of stored functions, asked each kind.
+//! A table of stored functions, asked each kind at its edges.
 
 use crate::{
     ActEnd, ActionSet, ActionSource, FnTable, StoredFn, act_add, act_div, act_echo, act_fail,
@@ -8,6 +8,23 @@ use mtapi_values::{Args, Kind, MtapiStatus};
 
 /// The numbers from 1 to 16, as many as a list holds.
 const SIXTEEN: [i64; 16] = [1, 2, 3, 4, 5, 6, 7, 8, 9, 10, 11, 12, 13, 14, 15, 16];
+
+/// Kinds, arguments, and what they answer: none where they fail.
+const EDGES: [(Kind, &[i64], &[i64]); 13] = [
+    (Kind::Add, &[], &[0]),
+    (Kind::Add, &[i64::MAX, 1, -1], &[]),
+    (Kind::Mul, &[i64::MIN, 1], &[i64::MIN]),
+    (Kind::Mul, &[4611686018427387904, 4, 0], &[]),
+    (Kind::Max, &[-5, -2, -9], &[-2]),
+    (Kind::Div, &[-7, 2], &[-3]),
+    (Kind::Div, &[i64::MIN, -1], &[]),
+    (Kind::Gcd, &[0, -7], &[7]),
+    (Kind::Gcd, &[12, -18], &[6]),
+    (Kind::Gcd, &[i64::MIN, 0], &[]),
+    (Kind::Triangle, &[1000000], &[500000500000]),
+    (Kind::Triangle, &[1000001], &[]),
+    (Kind::Fail, &[], &[]),
+];
 
 /// The first 16 of these numbers.
 fn args_of(values: &[i64]) -> Args {
@@ -39,23 +56,13 @@ fn a_table_runs_each_kind(rt: HostRuntime) {
         StoredFn::new(Kind::Fail, act_fail),
     );
     let mut table = source.for_worker(0);
-    for (kind, wanted) in [
-        (Kind::Add, -6),
-        (Kind::Mul, -216),
-        (Kind::Max, 12),
-        (Kind::Div, 0),
-        (Kind::Gcd, 6),
-    ] {
-        let done = table.run(&rt, kind, args_of(&[12, -18]));
-        assert!(rt; done.kind() == kind && answers(done.end(), &[wanted]));
+    for (kind, args, wanted) in EDGES {
+        let done = table.run(&rt, kind, args_of(args));
+        assert!(rt; done.kind() == kind && answers(done.end(), wanted));
     }
-    let triangle = table.run(&rt, Kind::Triangle, args_of(&[4]));
-    assert!(rt; answers(triangle.end(), &[10]));
     let echo = table.run(&rt, Kind::Echo, args_of(&SIXTEEN)).again();
     assert_eq!(rt; echo.args().as_slice(), SIXTEEN.as_slice());
     assert!(rt; answers(echo.end(), &SIXTEEN));
-    let fail = table.run(&rt, Kind::Fail, args_of(&[]));
-    assert!(rt; answers(fail.end(), &[]));
 }
 
 /// Takes what may go to other threads and be shared by them.
