@@ -1,0 +1,65 @@
+//! One task, and five hundred of all kinds.
+
+use crate::kinds::{TASKS, report, text};
+use crate::runs::{Counts, run_beside};
+use crate::seats::{one_bridge, two_bridges};
+use node_bridge::Served;
+use std::sync::atomic::{AtomicU64, Ordering};
+use std::test::Fail;
+use turn_cell::TurnCell;
+
+const ONE_TASK: &[u8] = b"action a job=1 kind=add
+start t job=1 args=1,2,3
+wait t timeout=inf
+";
+
+/// Room for one task: the start that comes after the run is the second one of that slot.
+#[test]
+fn one_task(rt: HostRuntime) -> Result<(), Fail> {
+    let alloc = rt.alloc();
+    let counts = Counts {
+        far: AtomicU64::new(0),
+        near: AtomicU64::new(0),
+    };
+    let served = Served::new(alloc, 2, 2, 1)?;
+    let (cell, seats) = TurnCell::new(alloc, served)?;
+    let holders = one_bridge(alloc, &cell, seats, &counts.near)?;
+    let bytes = ONE_TASK.to_vec(alloc)?;
+    let (said, stopped) = run_beside(&rt, alloc, &cell, holders, &counts, bytes, 1);
+    let said = said?;
+    assert_eq!(rt; said.status, 0);
+    assert_eq!(rt; said.out.bytes(), b"main.t completed 6\n".as_slice());
+    assert_eq!(rt; said.handles.as_slice(), [8_623_489_024].as_slice());
+    assert!(rt; stopped);
+    // The task of the run, and that of the last start.
+    assert_eq!(rt; counts.far.load(Ordering::SeqCst), 2);
+    assert_eq!(rt; counts.near.load(Ordering::SeqCst), 0);
+    Ok(())
+}
+
+/// The generation of a handle says how often its slot was issued. With room for two tasks, two starts afterwards tell how many there
+/// were before.
+#[test]
+fn tasks_of_all_kinds(rt: HostRuntime) -> Result<(), Fail> {
+    let alloc = rt.alloc();
+    let counts = Counts {
+        far: AtomicU64::new(0),
+        near: AtomicU64::new(0),
+    };
+    let served = Served::new(alloc, 2, 3, 2)?;
+    let (cell, seats) = TurnCell::new(alloc, served)?;
+    let holders = two_bridges(alloc, &cell, seats, &counts.near)?;
+    let (said, stopped) = run_beside(&rt, alloc, &cell, holders, &counts, text(alloc)?, 2);
+    let said = said?;
+    assert_eq!(rt; said.status, 0);
+    assert_eq!(rt; said.out.bytes(), report(alloc)?.as_slice());
+    assert!(rt; stopped);
+    let mut issued = 0;
+    for handle in said.handles.iter() {
+        issued += *handle >> 32;
+    }
+    assert_eq!(rt; issued, u64::from(TASKS) + 2);
+    assert_eq!(rt; counts.far.load(Ordering::SeqCst), u64::from(TASKS) + 2);
+    assert_eq!(rt; counts.near.load(Ordering::SeqCst), 0);
+    Ok(())
+}
