@@ -54,9 +54,9 @@ fn tasks_of_all_kinds(rt: HostRuntime) -> Result<(), Fail> {
     assert_eq!(rt; said.status, 0);
     assert_eq!(rt; said.out.bytes(), report(alloc)?.as_slice());
     assert!(rt; stopped);
-    let mut issued = 0;
+    let mut issued: u64 = 0;
     for handle in said.handles.iter() {
-        issued += *handle >> 32;
+        issued = issued.saturating_add(*handle >> 32);
     }
     assert_eq!(rt; issued, u64::from(TASKS) + 2);
     assert_eq!(rt; counts.far.load(Ordering::SeqCst), u64::from(TASKS) + 2);
