@@ -5,7 +5,7 @@ ghost use Rattle.std.specs.Prelude.{◌≤◌, ◌<◌};
 use std::alloc::{AllocError, Global};
 
 /// How many tasks there are.
-pub(crate) const TASKS: u32 = 500;
+const TASKS: u32 = 500;
 
 const HEAD: &str = "node workers=2
 action a job=1 kind=add
