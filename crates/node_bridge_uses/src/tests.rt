@@ -37,7 +37,7 @@ fn one_task(rt: HostRuntime) -> Result<(), Fail> {
     Ok(())
 }
 
-// The sum of the generations of these handles: of slots that were issued as often each.
+// The sum of the generations of these handles.
 fn issues(handles: &[u64]) -> u64 {
     let mut sum: u64 = 0;
     for handle in handles.iter() {
