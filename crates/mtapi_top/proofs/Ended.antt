@@ -23,7 +23,7 @@ is_asked : (words : Option Asked) → reads words ≡ true → is_some words ≡
 is_asked None r = absurd (cc)
 is_asked (Some asked) r = refl
 
-not_both : (words : Option Asked) → reads words ≡ true → judges words ≡ true → ⊥
+pub not_both : (words : Option Asked) → reads words ≡ true → judges words ≡ true → ⊥
 not_both None r j = cc
 not_both (Some asks.Report) r j = cc
 not_both (Some asks.Journal) r j = cc

@@ -2,7 +2,7 @@ use Rattle.mtapi_top.specs.Words.{texts, asked_of}
 use Rattle.mtapi_top.specs.Command.{Outside}
 use Rattle.mtapi_top.specs.Check.{Channels}
 use Rattle.mtapi_top.specs.Ended.{Streams}
-use Rattle.mtapi_top.proofs.Ended.{run_ended, check_ended, run_read, check_read, idle_told, told_but, run_text_two, check_text_two}
+use Rattle.mtapi_top.proofs.Ended.{run_ended, check_ended, run_read, check_read, idle_told, told_but, not_both, run_text_two, check_text_two}
 use Rattle.mtapi_top.proofs.Refused.{refused_told, refused_has}
 use Rattle.mtapi_top.proofs.CheckTold.{refused_told as input_refused, refused_where as input_refused_where, check_decides}
 use Rattle.mtapi_top.proofs.SettledOutput.{written_plainly, cut_off_plainly}
@@ -92,3 +92,6 @@ returns-then-judges-clause-text_two g c =
 
 pub returns-clause-all_threads : goal.returns-clause-all_threads
 returns-clause-all_threads g c = told_but 7 (λ q. cc) _ c.carry_out-end.result _ _ _ _ c.tell-2.result c.carry_out-end.ensures.counts c.tell-2.ensures.reported
+
+pub returns-then-judges-clause-refused_where : goal.returns-then-judges-clause-refused_where
+returns-then-judges-clause-refused_where g c = λ r. absurd (not_both (asked_of (texts c.args.words.now)) r (cc))
