@@ -1,0 +1,127 @@
+//! What the program does, over any source and sinks.
+
+use crate::input::{InputPart, journal_part};
+use byte_io::{ReadAllError, Sink, Source, read_all, write_all};
+use journal_text::{JournalError, read_journal};
+use node_core::Journal;
+use run_picture::{picture_of, svg_of};
+use std::alloc::{AllocError, Global};
+
+/// How the program ends.
+#[derive(Clone, Copy, Drop)]
+pub enum End {
+    /// The picture was written.
+    Done,
+    /// There were words, and it takes none.
+    Usage,
+    /// There are more bytes than an input may have.
+    TooLong,
+    /// This line of the journal is outside the grammar, counted from 1 at its first.
+    BadLine(u64),
+    /// The last line of the journal has no line feed.
+    CutShort,
+    /// A read failed.
+    ReadFault,
+    /// A write failed.
+    WriteFault,
+    /// Memory ran out.
+    Memory,
+}
+
+/// The journal of an input, or how the program ends without one.
+fn journal_in(alloc: Global, bytes: &[u8]) -> Result<Journal, End> {
+    let mut part = InputPart {
+        left: journal_part(bytes),
+    };
+    match read_journal(alloc, &mut part) {
+        Ok(journal) => Ok(journal),
+        Err(JournalError::Memory) => Err(End::Memory),
+        Err(JournalError::Read) => Err(End::ReadFault),
+        Err(JournalError::TooLong) => Err(End::TooLong),
+        Err(JournalError::BadLine { line }) => Err(End::BadLine(line)),
+        Err(JournalError::PartialEnd) => Err(End::CutShort),
+    }
+}
+
+/// The SVG of a journal.
+fn svg_in(alloc: Global, journal: &Journal) -> Result<String, AllocError> {
+    let workers = journal.settings.workers().min(16);
+    let seats = workers + journal.callers.min(9);
+    let skipped = journal.entries.skipped();
+    let picture = picture_of(alloc, seats, journal.entries.as_slice(), skipped)?;
+    svg_of(alloc, workers, seats, &picture)
+}
+
+/// The SVG of the journal of an input, or how the program ends without one.
+fn picture_in(alloc: Global, bytes: &[u8]) -> Result<String, End> {
+    let journal = match journal_in(alloc, bytes) {
+        Ok(journal) => journal,
+        Err(end) => return Err(end),
+    };
+    match svg_in(alloc, &journal) {
+        Ok(svg) => Ok(svg),
+        Err(_) => Err(End::Memory),
+    }
+}
+
+/// Reads a journal, and writes the picture of its run.
+pub fn draw<S: Source, W: Sink>(alloc: Global, src: &mut S, out: &mut W) -> End {
+    let bytes = match read_all(alloc, src, 67_108_864) {
+        Ok(bytes) => bytes,
+        Err(ReadAllError::Memory) => return End::Memory,
+        Err(ReadAllError::Read) => return End::ReadFault,
+        Err(ReadAllError::TooLong) => return End::TooLong,
+    };
+    match picture_in(alloc, &bytes) {
+        Ok(svg) => match write_all(out, svg.as_bytes()) {
+            Ok(()) => End::Done,
+            Err(_) => End::WriteFault,
+        },
+        Err(end) => end,
+    }
+}
+
+/// The status of an end.
+fn status_of(end: End) -> u8 {
+    match end {
+        End::Done => 0,
+        End::Usage => 2,
+        End::TooLong | End::BadLine(_) | End::CutShort => 3,
+        End::ReadFault => 4,
+        End::WriteFault => 5,
+        End::Memory => 6,
+    }
+}
+
+/// The message of an end that names no line.
+fn plain_text(end: End) -> &'static str {
+    match end {
+        End::Done | End::BadLine(_) => "",
+        End::Usage => "usage: mtapi picture\n",
+        End::TooLong => "mtapi: input too long\n",
+        End::CutShort => "mtapi: journal cut short\n",
+        End::ReadFault => "mtapi: read fault\n",
+        End::WriteFault => "mtapi: write fault\n",
+        End::Memory => "mtapi: out of memory\n",
+    }
+}
+
+/// Says on `err` how it ended, and answers the status. A fault of `err` changes nothing else.
+pub fn tell<E: Sink>(alloc: Global, end: End, err: &mut E) -> u8 {
+    match end {
+        End::BadLine(line) => match format!(in alloc; "mtapi: journal line {line}\n") {
+            Ok(text) => {
+                let _ = write_all(err, text.as_bytes());
+                status_of(end)
+            }
+            Err(_) => {
+                let _ = write_all(err, plain_text(End::Memory).as_bytes());
+                status_of(End::Memory)
+            }
+        },
+        _ => {
+            let _ = write_all(err, plain_text(end).as_bytes());
+            status_of(end)
+        }
+    }
+}

@@ -1,0 +1,35 @@
+//! The program behind `mtapi picture`: it reads what `mtapi run --journal` writes, or a journal alone, and writes an SVG of the run.
+//! Its stored run draws a run of two workers and two callers with a queue and a group.
+#![tactic(auto)]
+
+mod command;
+mod input;
+
+use byte_io::{StdSink, StdSource};
+use command::{End, draw, tell};
+use std::env;
+use std::io::ErrorKind;
+use std::process::ExitCode;
+
+/// Whether there are words behind the program's name: it takes none.
+fn has_words(rt: &HostRuntime) -> Result<bool, End> {
+    match env::args(rt) {
+        Ok(words) => Ok(words.skip(1).next().is_some()),
+        Err(error) => {
+            if error.kind() == ErrorKind::OutOfMemory {
+                return Err(End::Memory);
+            }
+            Ok(true)
+        }
+    }
+}
+
+fn main(rt: HostRuntime) -> ExitCode {
+    let mut out = StdSink::new(rt.stdout());
+    let end = match has_words(&rt) {
+        Ok(false) => draw(rt.alloc(), &mut StdSource::new(rt.stdin()), &mut out),
+        Ok(true) => End::Usage,
+        Err(end) => end,
+    };
+    ExitCode::from(tell(rt.alloc(), end, &mut StdSink::new(rt.stderr())))
+}
