@@ -1,8 +1,10 @@
 -- A status of 3 is a refusal, and what is refused has it.
 use Rattle.std.proofs.Common.{◌≡◌, ◌⊎◌, ℕ, true, List, Option, Some, None, refl, sym, ap, subst, ◌∙◌, inl, inr, arith}
-use Rattle.std.specs.Prelude.{IfSome}
+use Rattle.std.specs.Prelude.{IfSome, IfOk, Result, Ok, Err}
 use Rattle.byte_io.specs.Causes.{Rose}
+use Rattle.workload_file.specs.declared.faults.LoadError.{LoadError}
 use Rattle.workload_file.specs.declared.workload.Workload.{Workload}
+use Rattle.workload_file.specs.Loading.{Loads}
 use Rattle.node_core.specs.declared.entries.Journal.{Journal}
 use Rattle.mtapi_top.specs.declared.words.Asked.{Asked}
 use Rattle.mtapi_top.specs.declared.words.Asked.TheVariants as asks
@@ -11,7 +13,7 @@ use Rattle.mtapi_top.specs.declared.ends.End.TheVariants as end
 use Rattle.mtapi_top.specs.declared.ends.Outcome.{Outcome}
 use Rattle.mtapi_top.specs.Words.{reads}
 use Rattle.mtapi_top.specs.Headline.{Ran, IsRead, IsLoadOf}
-use Rattle.mtapi_top.specs.Command.{Outside, Ends, IsWorkload, IsRefused, status_of, journal_of, has_line, IsTold}
+use Rattle.mtapi_top.specs.Command.{Outside, Ends, HasRead, IsWorkload, IsRefused, status_of, journal_of, has_line, IsTold}
 
 -- what was told of an end
 abbrev pub Told : End → ℕ → ℕ → Option (List ℕ) → Option (List ℕ) → Outcome → Type 0
@@ -86,3 +88,9 @@ pub refused_has : (words : Option Asked) (bytes : Option (List ℕ)) (a b : Outs
 refused_has words None a b e f f' p p' outcome h t r n = tt
 refused_has words (Some x) a b e f f' p p' outcome h (inl t) r n = λ i. one_of outcome.status (status_of e) t.status (refused_status words x a b e h r n i)
 refused_has words (Some x) a b e f f' p p' outcome h (inr t) r n = λ i. inr t.1.status
+
+-- and what was read as a workload is one
+pub read_is_workload : (words : Option Asked) (bytes left : Option (List ℕ)) (result : Result Workload LoadError) → IfSome bytes (λ t. Loads t left result) → IfOk result (λ load. HasRead words bytes)
+read_is_workload words bytes left (Err e) h = tt
+read_is_workload words None left (Ok load) h = λ r. tt
+read_is_workload words (Some t) left (Ok load) h = λ r. (h.0, load, h.1)
