@@ -7,8 +7,6 @@ pub mod laws;
 pub mod sets;
 pub mod stored;
 pub mod table;
-#[cfg(test)]
-mod tests;
 
 pub use actions::{act_add, act_div, act_echo, act_fail, act_gcd, act_max, act_mul, act_triangle};
 pub use finished::{ActEnd, Finished};

@@ -1,8 +1,6 @@
 //! Groups of tasks, in the order of their ends.
 #![tactic(auto)]
 
-#[cfg(test)]
-mod tests;
 mod worked;
 
 ghost use Rattle.std.specs.Prelude.{◌≡◌, ◌≤◌, ◌<◌, replicate, IfOk, IfNone, OnOk, OnErr, OnSome, IsSome};
@@ -10,15 +8,12 @@ ghost use Rattle.std.specs.Option.{option_map};
 ghost use Rattle.handle_pool.specs.Slots.{slot_value, slot_of, free_slot, without, changed, live_count};
 ghost use Rattle.group_core.specs.Members.{with_member, with_ended, without_first, Creates, delete_reply, NoMemberAt, IsUnendedMember, LiveAreUsed, counts_of, first_ended, first_unended, without_first_unended};
 
-use handle_pool::Pool;
+use handle_pool::{Pool, slot_of};
 use linked_places::LinkedLists;
 use mtapi_values::{GroupHandle, MtapiStatus, TaskHandle};
 use std::alloc::{AllocError, Global};
 use std::marker::Model;
 pub use worked::worked_members;
-
-/// How many slots a handle can name: a handle is its generation times this, and its slot.
-const SPAN: u64 = 0x1_0000_0000;
 
 /// Groups, each under a handle, with their members.
 #[derive(Drop)]
@@ -38,13 +33,6 @@ impl Model for Groups {
     ghost view = { λ g. table_of g.pool g.unended g.ended };
 
     ghost invariant = { λ g. AreGroups g.pool g.unended g.ended };
-}
-
-// The slot that a handle names.
-fn slot_of(handle: u64) -> u32
-    ensures { result ≡ slot_of handle }
-{
-    (handle % SPAN) as u32
 }
 
 impl Groups {

@@ -13,15 +13,20 @@ ghost use Rattle.handle_pool.specs.Place.{slot_in};
 
 mod places;
 mod row;
-#[cfg(test)]
-mod tests;
 
 use places::{Place, Places};
 use std::alloc::{AllocError, Global};
 use std::marker::Model;
 
 /// How many slots a handle can name: a handle is its generation times this, and its slot.
-const SPAN: u64 = 0x1_0000_0000;
+pub const SPAN: u64 = 0x1_0000_0000;
+
+/// The slot that a handle names.
+pub fn slot_of(handle: u64) -> u32
+    ensures { result ≡ slot_of handle }
+{
+    (handle % SPAN) as u32
+}
 
 /// Slots that are used again, each time under a handle that was never issued before.
 #[derive(Drop)]

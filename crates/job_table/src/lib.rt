@@ -3,8 +3,6 @@
 
 mod action;
 pub mod cover;
-#[cfg(test)]
-mod tests;
 
 ghost use Rattle.std.specs.Prelude.{◌≡◌, ◌+◌, ◌≤◌, ◌<◌, ℕ, List, true, false, replicate, Some, slice_get, is_some, IsSome, IfSome, IfNone, IfOk, OnOk, OnErr};
 ghost use Rattle.handle_pool.specs.Slots.{slot_value, free_slot, without, changed, live_count};

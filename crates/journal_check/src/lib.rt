@@ -7,8 +7,6 @@ mod judged;
 mod laws;
 mod made;
 mod room;
-#[cfg(test)]
-mod tests;
 mod verdicts;
 
 pub use check::check_run;

@@ -16,6 +16,3 @@ mod values;
 pub use faults::JournalError;
 pub use journals::{read_journal, write_journal};
 pub use laws::{law_lines, law_read, law_spelled, law_written};
-
-#[cfg(test)]
-mod tests;

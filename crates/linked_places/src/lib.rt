@@ -6,14 +6,9 @@ ghost use Rattle.handle_pool.specs.Slots.{slot_of};
 ghost use Rattle.linked_places.specs.Links.{links_followed, links_following, IsBelow};
 ghost use Rattle.linked_places.specs.Lists.{list_at, stands_at, has_handle, without_handle, NowhereAt, with_list};
 
-#[cfg(test)]
-mod tests;
-
+use handle_pool::SPAN;
 use std::alloc::{AllocError, Global};
 use std::marker::Model;
-
-/// How many slots a handle can name: a handle is its generation times this, and its slot.
-const SPAN: u64 = 0x1_0000_0000;
 
 /// One place: the handle that stands there, and the places before and after it in its list.
 #[derive(Clone, Copy, Debug, Drop)]

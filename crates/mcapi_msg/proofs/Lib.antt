@@ -6,5 +6,5 @@ mod RingLemmas
 mod PostSteps
 pub mod Histories
 mod PostStands
-mod Said
+pub mod Said
 mod FifoLemmas

@@ -19,6 +19,3 @@ pub use messages::{EndpointHandle, Msg, Waiting};
 pub use ops::{MsgEntry, MsgOp, MsgReply};
 pub use post::{Post, PostTerms};
 pub use statuses::MsgStatus;
-
-#[cfg(test)]
-mod tests;

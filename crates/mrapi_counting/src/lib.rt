@@ -8,8 +8,6 @@ mod rwl_state;
 mod rwlocks;
 mod sem_state;
 mod semaphores;
-#[cfg(test)]
-mod tests;
 
 pub use rwlocks::Rwls;
 pub use semaphores::Sems;

@@ -5,8 +5,6 @@
 #![tactic(auto)]
 
 mod state;
-#[cfg(test)]
-mod tests;
 
 ghost use Rattle.std.specs.Prelude.{◌≡◌, ◌≤◌, false, is_some, replicate, IfSome, IsNone, IfOk, IfErr, OnOk, OnErr};
 ghost use Rattle.std.specs.Option.{option_map};

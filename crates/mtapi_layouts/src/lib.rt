@@ -4,8 +4,6 @@
 
 mod laws;
 mod ops;
-#[cfg(test)]
-mod tests;
 
 pub use laws::law_layouts;
 pub use ops::{

@@ -9,8 +9,6 @@ pub mod ops;
 pub mod replies;
 pub mod tables;
 pub mod terms;
-#[cfg(test)]
-mod tests;
 
 pub use ops::Op;
 pub use replies::Reply;

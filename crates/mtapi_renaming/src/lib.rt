@@ -6,8 +6,6 @@ mod equal;
 mod laws;
 mod maps;
 mod ops;
-#[cfg(test)]
-mod tests;
 
 pub use equal::same_reply;
 pub use laws::{

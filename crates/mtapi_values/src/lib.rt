@@ -11,8 +11,6 @@ pub mod masks;
 mod names;
 pub mod seats;
 pub mod statuses;
-#[cfg(test)]
-mod tests;
 pub mod timeouts;
 
 pub use attributes::{ActionAttr, MutexAttr, NodeAttr, QueueAttr, TaskAttr};

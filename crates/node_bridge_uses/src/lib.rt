@@ -6,6 +6,8 @@ mod actions;
 #[cfg(test)]
 mod kinds;
 #[cfg(test)]
+mod on_one_thread;
+#[cfg(test)]
 mod runs;
 #[cfg(test)]
 mod seats;

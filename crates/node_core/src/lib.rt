@@ -7,8 +7,6 @@ pub mod entries;
 pub mod journaled;
 pub mod node;
 pub mod run_journals;
-#[cfg(test)]
-mod tests;
 mod worked;
 
 pub use entries::{EntryList, Journal};

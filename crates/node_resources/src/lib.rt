@@ -11,8 +11,6 @@ mod rwl_ops;
 mod sem_ops;
 mod shmem_ops;
 pub mod tally_ops;
-#[cfg(test)]
-mod tests;
 
 ghost use Rattle.std.specs.Prelude.{◌≡◌, IfOk, is_some};
 ghost use Rattle.handle_pool.specs.Slots.{slot_value, live_count};

@@ -18,6 +18,3 @@ pub use lists::{list_of, push_list};
 pub use numbers::{
     decimal_text, number, number_within, push_number, push_whole, signed_text, whole,
 };
-
-#[cfg(test)]
-mod tests;

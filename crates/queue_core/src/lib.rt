@@ -3,8 +3,6 @@
 
 pub mod facts;
 mod queue;
-#[cfg(test)]
-mod tests;
 mod worked;
 
 ghost use Rattle.std.specs.Prelude.{◌≡◌, ◌≤◌, ◌<◌, true, false, replicate, IfSome, IsNone, IfOk, OnOk, OnErr};
@@ -15,16 +13,13 @@ ghost use Rattle.handle_pool.specs.Slots.{slot_value, slot_of, free_slot, withou
 ghost use Rattle.queue_core.specs.Held.{new_queue, Creates, Finds, live_reply, with_opened, with_task, without_task, put_reply, NoTaskAt, IsUnendedTask, first_task, facts_of, FindsIn, AreRetiredEmpty, HasId};
 
 pub use facts::QueueFacts;
-use handle_pool::Pool;
+use handle_pool::{Pool, slot_of};
 use linked_places::LinkedLists;
 use mtapi_values::{MtapiStatus, QueueAttr, QueueHandle, TaskHandle};
 use queue::StoredQueue;
 use std::alloc::{AllocError, Global};
 use std::marker::Model;
 pub use worked::worked_puts;
-
-/// How many slots a handle can name: a handle is its generation times this, and its slot.
-const SPAN: u64 = 0x1_0000_0000;
 
 /// Queues, each under a handle, with their unended tasks.
 #[derive(Drop)]
@@ -42,13 +37,6 @@ impl Model for Queues {
     ghost view = { λ q. table_of q.pool q.tasks };
 
     ghost invariant = { λ q. AreQueues q.pool q.tasks };
-}
-
-// The slot that a handle names.
-fn slot_of(handle: u64) -> u32
-    ensures { result ≡ slot_of handle }
-{
-    (handle % SPAN) as u32
 }
 
 impl Queues {

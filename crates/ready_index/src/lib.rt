@@ -5,8 +5,6 @@ pub mod bitmaps;
 pub mod index;
 pub mod marks;
 pub mod steps;
-#[cfg(test)]
-mod tests;
 pub mod words;
 pub mod workers;
 

@@ -5,8 +5,6 @@ mod asked;
 mod lines;
 mod made;
 mod parts;
-#[cfg(test)]
-mod tests;
 mod whole;
 
 pub use whole::is_run;

@@ -13,8 +13,6 @@ mod sorts;
 mod standings;
 mod summary;
 mod task_lines;
-#[cfg(test)]
-mod tests;
 mod text;
 mod totals;
 mod whole;
@@ -25,7 +23,7 @@ pub use laws::law_report_reads_the_run;
 pub use short_ends::ShortEnd;
 pub use sorts::Shown;
 pub use standings::{Passing, Standings};
-pub use summary::summary_of;
-pub use totals::Totals;
+pub use summary::{line_of, summary_of};
+pub use totals::{Totals, no_totals, with_tasks};
 pub use whole::{report_of, report_of_entries};
 pub use worked::worked_reports;

@@ -137,7 +137,7 @@ fn sum_text(alloc: Global, totals: &Totals) -> Result<String, AllocError>
 
 /// The line of totals.
 #[tactic(auto, unfolding(crate::specs::Summary::totals_text))]
-pub(crate) fn line_of(alloc: Global, totals: &Totals) -> Result<Vec<u8>, AllocError>
+pub fn line_of(alloc: Global, totals: &Totals) -> Result<Vec<u8>, AllocError>
     ensures { IfOk result (λ text. text.items ≡ totals_text totals.now) }
 {
     let sum = sum_text(alloc, totals)?;

@@ -26,9 +26,10 @@ ghost use Rattle.task_board.specs.Board.{IsBoard, Becomes, BecomesWith};
 
 use crate::covered::CoveredActions;
 use crate::ends::{cores_beside, covered_cores};
-use crate::marks::{clear, leave_queue, may_run, refresh, remark, remark_where_changed, slot_of};
+use crate::marks::{clear, leave_queue, may_run, refresh, remark, remark_where_changed};
 use crate::members::{join, note_end};
 use group_core::Groups;
+use handle_pool::slot_of;
 use job_table::Cover;
 use linked_places::LinkedLists;
 use mtapi_values::{

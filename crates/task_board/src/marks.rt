@@ -17,22 +17,13 @@ ghost use Rattle.task_board.specs.Board.{IsMarkOf, AreRanked, AreWaiting, IsFres
 use crate::cores::has_core;
 use crate::covered::CoveredActions;
 use crate::ends::covered_cores;
+use handle_pool::slot_of;
 use job_table::Cover;
 use linked_places::LinkedLists;
 use mtapi_values::{Mask, QueueHandle, TaskHandle};
 use queue_core::Queues;
 use ready_index::{Mark, ReadyIndex};
 use task_core::{TaskRecord, TaskState, Tasks};
-
-/// How many slots a handle can name: a handle is its generation times this, and its slot.
-const SPAN: u64 = 0x1_0000_0000;
-
-// The slot that a handle names.
-pub(crate) fn slot_of(handle: u64) -> u32
-    ensures { result ≡ slot_of handle }
-{
-    (handle % SPAN) as u32
-}
 
 // Takes the mark of a slot away, if it has one.
 pub(crate) fn clear(ready: &mut ReadyIndex, place: u32)

@@ -287,6 +287,3 @@ fn ask(pool: &mut Pool<TaskRecord>, handle: u64, worker: u32) -> Result<bool, Mt
         None => Err(MtapiStatus::ErrTaskInvalid),
     }
 }
-
-#[cfg(test)]
-mod tests;

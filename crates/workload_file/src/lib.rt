@@ -29,6 +29,3 @@ pub use name::Name;
 pub use names::has_begin;
 pub use page::text_of;
 pub use workload::{Deed, Part, PartList, Statement, StatementList, Workload};
-
-#[cfg(test)]
-mod tests;

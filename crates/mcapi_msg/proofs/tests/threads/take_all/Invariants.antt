@@ -1,5 +1,0 @@
-use Rattle.turn_looks.specs.Turns.{SameSeat}
-use Rattle.mcapi_msg.proofs.tests.threads.take_all.Given as goal
-
-abbrev pub invariant-loop : goal.invariant-loop
-invariant-loop g l = SameSeat l.fn.seat l.mailer

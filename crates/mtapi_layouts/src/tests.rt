@@ -1,8 +1,0 @@
-//! The law, once.
-
-use crate::law_layouts;
-
-#[test]
-fn law_holds(_rt: HostRuntime) {
-    law_layouts();
-}

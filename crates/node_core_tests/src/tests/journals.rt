@@ -1,0 +1,90 @@
+//! What a journal keeps: of looks that are made again and again, of a cell that is closed, and of many calls.
+
+use crate::tests::asking::Ask::{Action, Close, Enqueue, Initialize, Look, Queue, QueueDisable};
+use crate::tests::asking::Told::{Cancelled, Handle, Mtapi, Pending};
+use crate::tests::asking::{ACTION, ALL, Called, QUEUE, SMALL, TASK, Told};
+use history::Object;
+use mtapi_machine::{Op, Reply};
+use mtapi_values::{Kind, Layout, MtapiStatus, NodeAttr};
+use node_core::journaled::Journaled;
+use node_core::node::Node;
+use node_core::run_journals::journal_of;
+use std::test::Fail;
+use turn_cell::TurnCell;
+
+// Of four looks the first and the last are kept, and two stand beside the last.
+#[test]
+fn looks_until_the_last(rt: HostRuntime) -> Result<(), Fail> {
+    let mut node = Called::new(rt.alloc(), SMALL)?;
+    let rows = [
+        (1, Initialize, Told::Ok),
+        (1, Action(Kind::Add, ALL), Handle(ACTION)),
+        (1, Queue(1, 65536, false, true), Handle(QUEUE)),
+        (1, QueueDisable(QUEUE), Told::Ok),
+        (1, Enqueue(QUEUE, &[1]), Handle(TASK)),
+        (1, Look(TASK, false), Pending),
+        (1, Look(TASK, false), Pending),
+        (1, Look(TASK, false), Pending),
+        (1, Look(TASK, true), Mtapi(MtapiStatus::Timeout)),
+        (1, Close, Told::Ok),
+        (1, Look(TASK, false), Cancelled),
+    ];
+    assert_eq!(rt; node.first_other(&rows), None);
+    let journal = node.node.into_journal()?.ok_or("no journal")?;
+    assert_eq!(rt;
+        journal.entries.skipped(),
+        [0, 0, 0, 0, 0, 0, 2, 0, 0].as_slice()
+    );
+    Ok(())
+}
+
+/// More entries than a slot has numbers of 16 bits.
+const MANY: u32 = 70_000;
+
+// Each call is refused and kept, and its job tells it from the others.
+#[test]
+fn many_calls_are_kept(rt: HostRuntime) -> Result<(), Fail> {
+    let mut called = Called::new(rt.alloc(), SMALL)?;
+    for job in 0..MANY {
+        assert!(rt; matches!(called.call(1, Op::JobGet { job }), Some(Reply::Mtapi(_))));
+    }
+    let journal = called.node.into_journal()?.ok_or("no journal")?;
+    assert_eq!(rt; journal.entries.as_slice().len(), 70_000);
+    let mut next = 0u32;
+    for entry in journal.entries.as_slice() {
+        assert!(rt; matches!(entry.op, Op::JobGet { job } if job == next));
+        next = next.wrapping_add(1);
+    }
+    Ok(())
+}
+
+#[test]
+fn a_closed_cell_gives_its_journal(rt: HostRuntime) -> Result<(), Fail> {
+    let node = Node::init(rt.alloc(), NodeAttr::new(), 1)?;
+    let object = Journaled::with(rt.alloc(), node);
+    let (cell, mut seats) = TurnCell::new(rt.alloc(), object)?;
+    let Some(mut main) = seats.pop() else {
+        unreachable!()
+    };
+    let Some(mut worker) = seats.pop() else {
+        unreachable!()
+    };
+    let opened = cell.call(&rt, &mut main, Op::Initialize);
+    assert!(rt; matches!(opened, Ok(Reply::Ok)));
+    let idle = cell.call(&rt, &mut worker, Op::Pick);
+    assert!(rt; matches!(idle, Ok(Reply::Idle)));
+    seats.push(worker)?;
+    seats.push(main)?;
+    let run = journal_of(cell.close(seats))?;
+    let journal = run.journal();
+    assert_eq!(rt; (journal.callers, journal.settings), (1, NodeAttr::new()));
+    assert_eq!(rt; journal.layout, Layout::Two);
+    let entries = journal.entries.as_slice();
+    assert_eq!(rt; entries.len(), 1);
+    for entry in entries {
+        assert!(rt; matches!(entry.op, Op::Initialize));
+        assert!(rt; entry.who == 1 && matches!(entry.reply, Reply::Ok));
+    }
+    assert_eq!(rt; journal.entries.skipped(), [0].as_slice());
+    Ok(())
+}
