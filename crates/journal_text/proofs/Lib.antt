@@ -10,3 +10,4 @@ pub mod LinesAgain
 pub mod HeadsAgain
 pub mod JournalsAgain
 pub mod Taken
+pub mod Splits

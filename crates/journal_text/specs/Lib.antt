@@ -7,3 +7,4 @@ pub mod Heads
 pub mod Lines
 pub mod Journals
 pub mod Fits
+pub mod Splits

@@ -1,8 +1,7 @@
 //! What the program does, over any source and sinks.
 
-use crate::input::{InputPart, journal_part};
 use byte_io::{ReadAllError, Sink, Source, read_all, write_all};
-use journal_text::{JournalError, read_journal};
+use journal_text::{InputPart, JournalError, parts_of, read_journal};
 use node_core::Journal;
 use run_picture::{picture_of, svg_of};
 use std::alloc::{AllocError, Global};
@@ -30,9 +29,8 @@ pub enum End {
 
 /// The journal of an input, or how the program ends without one.
 fn journal_in(alloc: Global, bytes: &[u8]) -> Result<Journal, End> {
-    let mut part = InputPart {
-        left: journal_part(bytes),
-    };
+    let (_, rest) = parts_of(bytes);
+    let mut part = InputPart { left: rest };
     match read_journal(alloc, &mut part) {
         Ok(journal) => Ok(journal),
         Err(JournalError::Memory) => Err(End::Memory),

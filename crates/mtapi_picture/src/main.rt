@@ -3,7 +3,6 @@
 #![tactic(auto)]
 
 mod command;
-mod input;
 
 use byte_io::{StdSink, StdSource};
 use command::{End, draw, tell};

@@ -15,7 +15,7 @@ use Rattle.mtapi_top.specs.declared.ends.End.TheVariants as end
 use Rattle.mtapi_top.specs.Command.{IsWorkload, IsRefused, status_of}
 use Rattle.mtapi_top.specs.Check.{IsInput, IsRefusedInput, IsUnjudged, FrontFails, RestFails}
 use Rattle.mtapi_top.proofs.Refused.{not_workload}
-use Rattle.mtapi_top.proofs.InputSplit.{same_split}
+use Rattle.journal_text.proofs.Splits.{same_split}
 
 pub one_value : {A E : Type 0} (r : Result A E) (x y : A) → r ≡ Ok x → r ≡ Ok y → x ≡ y
 one_value r x y i k = let both = sym i ∙ k in cc

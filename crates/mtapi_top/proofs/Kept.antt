@@ -20,7 +20,8 @@ use Rattle.journal_check.specs.declared.verdicts.Verdict.TheVariants.{Yes, Illeg
 use Rattle.journal_check.specs.Verdicts.{IsVerdict, IsLegal, terms_of}
 use Rattle.journal_check.proofs.Prefixes.{legal_front}
 use Rattle.sched_threads.specs.Runs.{IsRun, terms_for}
-use Rattle.mtapi_top.specs.Check.{IsSplit, IsInput}
+use Rattle.journal_text.specs.Splits.{IsSplit}
+use Rattle.mtapi_top.specs.Check.{IsInput}
 use Rattle.mtapi_top.proofs.Carried.{has_part, told_legal}
 
 pub judged_yes : (load : Workload) (j : Journal) → IsRun load j → IsVerdict load j Yes

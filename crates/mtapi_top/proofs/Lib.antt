@@ -3,7 +3,6 @@ mod Carried
 mod GeneratedFormed
 mod GeneratedSettled
 mod SettledOutput
-mod InputSplit
 mod Judged
 mod CheckTold
 mod Ended

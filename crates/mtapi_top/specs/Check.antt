@@ -11,6 +11,7 @@ use Rattle.node_core.specs.declared.entries.Journal.{Journal}
 use Rattle.journal_text.specs.declared.faults.TextError.{TextError}
 use Rattle.journal_text.specs.declared.faults.TextError.TheVariants as errors
 use Rattle.journal_text.specs.Journals.{journal_of}
+use Rattle.journal_text.specs.Splits.{OfParts}
 use Rattle.journal_check.specs.declared.verdicts.Verdict.{Verdict}
 use Rattle.journal_check.specs.declared.verdicts.Verdict.TheVariants as verdict
 use Rattle.journal_check.specs.Verdicts.{IsVerdict}
@@ -19,28 +20,6 @@ use Rattle.mtapi_top.specs.declared.ends.End.TheVariants as end
 use Rattle.mtapi_top.specs.Command.{IsWorkload, IsRefused}
 
 -- ---- the input
-
--- a line begins behind the first n bytes: it is the first one, or stands behind a line feed
-abbrev pub begins_line : List ℕ → ℕ → Bool
-begins_line bytes n = (n == 0) || (slice_index bytes (n - 1) == 10)
-
--- a line begins there, and it begins as the first line of a journal does
-abbrev pub begins_journal : List ℕ → ℕ → Bool
-begins_journal bytes n = begins_line bytes n && starts_with (λ a b. a == b) (drop n bytes) (codes "mtapi-journal ")
-
--- The input is a first part and a rest. The rest begins with the first line that begins as a journal does, and is empty where there is
--- none.
-pub record IsSplit (bytes front rest : List ℕ) : Type 0 where
-  pub whole : bytes ≡ front ++ rest
-  pub begins : (rest ≡ []) ⊎ (begins_journal bytes (length front) ≡ true)
-  pub first : (n : ℕ) → n < length front → begins_journal bytes n ≡ false
-
--- P holds of the first part and the rest of the input.
-pub record OfParts (bytes : List ℕ) (P : List ℕ → List ℕ → Type 0) : Type 0 where
-  pub front : List ℕ
-  pub rest : List ℕ
-  pub split : IsSplit bytes front rest
-  pub holds : P front rest
 
 -- the input is a workload, and behind it a journal
 abbrev pub IsInput : List ℕ → Workload → Journal → Type 0

@@ -8,9 +8,10 @@ ghost use Rattle.mtapi_top.specs.Ended.{IsPastReading};
 ghost use Rattle.mtapi_top.specs.Check.{IsJudged, IsUnjudged, Checks, verdict_line, WritesVerdict};
 
 use crate::ends::End;
-use crate::input::{journal_in, parts_of, workload_in};
+use crate::input::{journal_in, workload_in};
 use byte_io::{ReadAllError, Sink, Source, read_all, write_all};
 use journal_check::{Verdict, check_run};
+use journal_text::parts_of;
 use std::alloc::{AllocError, Global};
 
 /// The verdict on the journal of an input, or how the command ends without one.

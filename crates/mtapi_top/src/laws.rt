@@ -11,7 +11,8 @@ ghost use Rattle.journal_text.specs.Journals.{journal_of, journal_text};
 ghost use Rattle.journal_check.specs.Verdicts.{IsVerdict};
 ghost use Rattle.journal_check.specs.declared.verdicts.Verdict.TheVariants.{Yes};
 ghost use Rattle.sched_threads.specs.Runs.{IsRun};
-ghost use Rattle.mtapi_top.specs.Check.{IsInput, IsSplit, OfParts};
+ghost use Rattle.journal_text.specs.Splits.{IsSplit, OfParts};
+ghost use Rattle.mtapi_top.specs.Check.{IsInput};
 ghost use Rattle.mtapi_top.specs.Settled.{GeneratedIsSettled};
 
 /// The generated workload is settled, for each number of tasks and of workers that it may have.

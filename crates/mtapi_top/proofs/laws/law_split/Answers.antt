@@ -1,4 +1,4 @@
-use Rattle.mtapi_top.proofs.InputSplit.{some_split, same_split}
+use Rattle.journal_text.proofs.Splits.{some_split, same_split}
 use Rattle.mtapi_top.proofs.laws.law_split.Goals as goal
 
 pub returns-clause-some : goal.returns-clause-some

@@ -1,25 +1,30 @@
-//! The input: a journal, before which there may be a report.
-ghost use Rattle.std.specs.Prelude.{◌≤◌, ◌<◌, length};
+//! The journal in an input that has something else before it: a workload, or a report.
+ghost use Rattle.std.specs.Prelude.{◌≡◌, ◌≤◌, ◌<◌, ◌⊎◌, ℕ, true, false, length};
+ghost use Rattle.journal_text.specs.Splits.{begins_line, begins_journal, IsSplit};
 
 use byte_io::{Failed, Source};
 
-/// Whether a line begins at this place.
+// Whether a line begins at this place.
 fn begins_line(bytes: &[u8], at: usize) -> bool
     requires { at < length bytes.now }
+    ensures { result ≡ begins_line bytes.now at }
 {
     at == 0 || bytes[at - 1] == b'\n'
 }
 
-/// Whether a line begins at this place, and begins as the first line of a journal does.
+// Whether a line begins at this place, and begins as the first line of a journal does.
 fn begins_journal(bytes: &[u8], at: usize) -> bool
     requires { at < length bytes.now }
+    ensures { result ≡ begins_journal bytes.now at }
 {
     begins_line(bytes, at) && bytes[at..].starts_with(b"mtapi-journal ")
 }
 
-/// Where the journal begins: past the last byte where there is none.
+// Where the journal begins: past the last byte where there is none.
 fn journal_place(bytes: &[u8]) -> usize
-    ensures { result ≤ length bytes.now }
+    ensures within { result ≤ length bytes.now }
+    ensures begins { (result ≡ length bytes.now) ⊎ (begins_journal bytes.now result ≡ true) }
+    ensures first { (n : ℕ) → n < result → begins_journal bytes.now n ≡ false }
 {
     for at in 0..bytes.len() {
         if begins_journal(bytes, at) {
@@ -29,15 +34,18 @@ fn journal_place(bytes: &[u8]) -> usize
     bytes.len()
 }
 
-/// The bytes from the first line on that begins as a journal does; none where there is no such line.
-pub fn journal_part(bytes: &[u8]) -> &[u8] {
+/// The part before the journal, and the journal, which is empty where there is none.
+pub fn parts_of(bytes: &[u8]) -> (&[u8], &[u8])
+    ensures { IsSplit bytes.now result.0.now result.1.now }
+{
     let at = journal_place(bytes);
-    &bytes[at..]
+    (&bytes[..at], &bytes[at..])
 }
 
 /// A part of the input, as a source. It doesn't fail, and nothing is copied to make it.
 #[derive(Drop)]
 pub struct InputPart<'a> {
+    /// What wasn't read yet.
     pub left: &'a [u8],
 }
 

@@ -2,7 +2,7 @@
 use Rattle.std.proofs.Common.{◌≡◌, ◌⊎◌, ℕ, zero, suc, ◌+◌, ◌<◌, ◌≤◌, Bool, true, false, List, [], ◌++◌, length, take, drop, refl, sym, ap, subst, ◌∙◌, inl, inr, arith, length-append, length-take-le, take-append-drop, append-nil, drop_of_length-le}
 use Rattle.std.proofs.lemmas.Bool.{cases_order}
 use Rattle.std.proofs.Math.Seq.{take-append_seam, drop-append_seam}
-use Rattle.mtapi_top.specs.Check.{begins_journal, IsSplit, OfParts}
+use Rattle.journal_text.specs.Splits.{begins_journal, IsSplit, OfParts}
 
 -- A split at a place: past the last byte, or at the first journal
 
