@@ -4,6 +4,10 @@ ghost use Rattle.std.specs.Prelude.{◌≡◌, ◌≤◌, ◌∷◌, [], length,
 ghost use Rattle.action_fn.specs.declared.finished.ActEnd.TheVariants.{Done};
 ghost use Rattle.action_fn.specs.Answers.{answer_of, is_pure};
 ghost use Rattle.action_fn.specs.Shorts.{in_full};
+ghost use Rattle.std.specs.Cmp.Lexicographic.{pointwise};
+ghost use Rattle.std.specs.Cmp.Rules.{comparing};
+ghost use Rattle.std.specs.Ordering.{int_eq, on, eq_of_both};
+ghost use Rattle.std.proofs.Common.{rules};
 
 use mtapi_values::{Args, Kind, MtapiStatus};
 use std::marker::Model;
@@ -31,7 +35,7 @@ impl ActEnd {
 
 // An end in short. A pure kind answers one number or, where it echoes, its arguments, so that an end beside its arguments needs no
 // room for a list of its own.
-#[derive(Clone, Copy, Drop)]
+#[derive(Clone, Copy, Debug, Drop)]
 enum Short {
     Number(i64),
     TheArgs,
@@ -65,7 +69,7 @@ fn short_of(kind: Kind, _args: &Args, end: &ActEnd) -> Short
 
 /// A pure kind, arguments, and the answer of this kind to them. No value holds another end. It takes little more room than the
 /// arguments alone.
-#[derive(Drop)]
+#[derive(Debug, Drop)]
 pub struct Finished {
     kind: Kind,
     args: Args,
@@ -133,4 +137,19 @@ impl Finished {
             end: self.end,
         }
     }
+}
+
+/// Equal where the kinds and the arguments are: they say what the answer is.
+impl PartialEq for Finished {
+    ghost eq = { eq_of_both (on (λ f. f.kind) ⟦<Kind as PartialEq>⟧.eq) (on (λ f. f.args) (pointwise int_eq)) };
+
+    ghost laws = { Prim.search (comparing, rules) };
+
+    fn eq(&self, other: &Finished) -> bool {
+        self.kind == other.kind && self.args == other.args
+    }
+}
+
+impl Eq for Finished {
+    ghost laws = { Prim.search (comparing, rules) };
 }
