@@ -21,6 +21,7 @@ from generated import workload
 PEER = os.path.join(common.TOP, "bench", "peer", "main.rs")
 WORKERS = (1, 2, 4, 16)
 TASKS = (4_750, 19_000)
+PAIRS = 9_000
 RUNS = 7
 
 
@@ -34,6 +35,14 @@ def best(command, text):
         clock.append(took)
         processors.append(after.ru_utime + after.ru_stime - before.ru_utime - before.ru_stime)
     return min(clock), min(processors)
+
+
+def pairs(count, workers):
+    """The lines of a workload in which main waits for each task before it starts the next one."""
+    yield from list(workload(count, workers))[:4]
+    for i in range(count):
+        yield f"start t{i} job=1 args={i},7 group=g"
+        yield "wait_all g timeout=inf"
 
 
 def same_report(program, peer, text):
@@ -66,6 +75,20 @@ def measured(program, peer):
     return ours, theirs
 
 
+def measured_pairs(program, peer):
+    """Prints what a pair of a start and the wait for its end takes, beside the peer."""
+    for workers in (1, 2, 4):
+        text = "".join(f"{line}\n" for line in pairs(PAIRS, workers)).encode()
+        if not same_report(program, peer, text):
+            sys.exit(f"the reports of {PAIRS} pairs on {workers} workers differ")
+        (ours, busy), (theirs, their_busy) = best([program, "run"], text), best([peer, "run"], text)
+        print(
+            f"{workers} workers: a start and the wait for its end take {ours * 1e9 / PAIRS:.0f} ns ({busy * 1e9 / PAIRS:.0f} of the processors),"
+            f" {ours / theirs:.2f} times as long as the peer's {theirs * 1e9 / PAIRS:.0f} ({their_busy * 1e9 / PAIRS:.0f}; at most 2)",
+            flush=True,
+        )
+
+
 def main():
     program = sys.argv[1] if len(sys.argv) > 1 else common.COMMAND
     first = common.go_first()
@@ -74,6 +97,7 @@ def main():
         peer = os.path.join(room, "peer")
         subprocess.run(["rustc", "-O", "--edition", "2021", "-o", peer, PEER], check=True)
         ours, theirs = measured(program, peer)
+        measured_pairs(program, peer)
     few, many = TASKS
     for workers in WORKERS:
         print(
