@@ -7,6 +7,7 @@
 mod state;
 
 ghost use Rattle.std.specs.Prelude.{◌≡◌, ◌≤◌, false, is_some, replicate, IfSome, IsNone, IfOk, IfErr, OnOk, OnErr};
+ghost use Rattle.std.specs.Bool.{OnTrue};
 ghost use Rattle.std.specs.Option.{option_map};
 ghost use Rattle.std.specs.Result.{result_err};
 ghost use Rattle.handle_pool.specs.Slots.{slot_value, free_slot, without, changed, Inserts, IsFull, live_count};
@@ -140,6 +141,31 @@ impl Mutexes {
             }
         }
         None
+    }
+
+    /// Finds the same, where an earlier call found `last`. If that mutex is live and has the id, no place is walked.
+    pub fn find_again(&self, last: Option<MutexHandle>, id: u64) -> Option<MutexHandle>
+        ensures found { IfSome result (λ m. HasLive self.now m.0 (HasId id)) }
+        ensures absent { IsNone result → NoneLive (slot_value self.now) (HasId id) }
+        ensures only { OneEach (λ x. x.id) self.now }
+    {
+        if let Some(last) = last {
+            if self.has_id(last, id) {
+                return Some(last);
+            }
+        }
+        self.find(id)
+    }
+
+    // Whether a handle names a live mutex of this id.
+    fn has_id(&self, m: MutexHandle, id: u64) -> bool
+        ensures found { OnTrue result (HasLive self.now m.0 (HasId id)) }
+        ensures only { OneEach (λ x. x.id) self.now }
+    {
+        match self.pool.get(m.0) {
+            Some(mutex) => u64::from(mutex.id()) == id,
+            None => false,
+        }
     }
 
     /// Whether some seat owns the mutex of a handle: none exactly where the handle isn't live.

@@ -8,6 +8,7 @@ mod room;
 mod state;
 
 ghost use Rattle.std.specs.Prelude.{◌≡◌, ◌⊎◌, ◌+◌, ◌≤◌, ◌<◌, None, Some, is_some, length, replicate, IfSome, IsNone, IfOk, IfErr, OnOk, OnErr};
+ghost use Rattle.std.specs.Bool.{OnTrue};
 ghost use Rattle.std.specs.Option.{option_map};
 ghost use Rattle.std.specs.Result.{result_err};
 ghost use Rattle.mtapi_values.specs.declared.statuses.MrapiStatus.TheVariants.{ErrShmIdInvalid, ErrShmExists};
@@ -177,6 +178,31 @@ impl Segments {
             }
         }
         None
+    }
+
+    /// Finds the same, where an earlier call found `last`. If that segment is live and has the id, no place is walked.
+    pub fn find_again(&self, last: Option<ShmemHandle>, id: u64) -> Option<ShmemHandle>
+        ensures found { IfSome result (λ s. HasLive self.now s.0 (HasId id)) }
+        ensures absent { IsNone result → NoneLive (slot_value self.now) (HasId id) }
+        ensures only { OneEach (λ x. x.id) self.now }
+    {
+        if let Some(last) = last {
+            if self.has_id(last, id) {
+                return Some(last);
+            }
+        }
+        self.find(id)
+    }
+
+    // Whether a handle names a live segment of this id.
+    fn has_id(&self, s: ShmemHandle, id: u64) -> bool
+        ensures found { OnTrue result (HasLive self.now s.0 (HasId id)) }
+        ensures only { OneEach (λ x. x.id) self.now }
+    {
+        match self.pool.get(s.0) {
+            Some(segment) => u64::from(segment.id()) == id,
+            None => false,
+        }
     }
 
     /// How many cells the segment of a handle has, 1 to 4,096: none exactly where the handle isn't live.

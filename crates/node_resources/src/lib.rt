@@ -34,6 +34,9 @@ pub struct Resources {
     sems: Sems,
     rwls: Rwls,
     segments: Segments,
+    // The mutex and the segment that a tally on each seat found last.
+    tally_mutexes: [Option<MutexHandle>; 25],
+    tally_segments: [Option<ShmemHandle>; 25],
 }
 
 impl Model for Resources {
@@ -68,6 +71,8 @@ impl Resources {
             sems: Sems::new(alloc, max, generations)?,
             rwls: Rwls::new(alloc, max, generations)?,
             segments: Segments::new(alloc, max, generations)?,
+            tally_mutexes: [None; 25],
+            tally_segments: [None; 25],
         })
     }
 

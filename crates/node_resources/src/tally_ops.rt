@@ -1,7 +1,8 @@
 //! What the node does with a mutex and a segment for a tally.
 
-ghost use Rattle.std.specs.Prelude.{◌≡◌, ◌<◌, true, false, Some, None, pos, is_some, nat_lt, length, [], ◌∷◌};
+ghost use Rattle.std.specs.Prelude.{◌≡◌, ◌<◌, true, false, Some, None, pos, is_some, nat_lt, length, IfSome, IsNone, [], ◌∷◌};
 ghost use Rattle.handle_pool.specs.Slots.{slot_value, changed};
+ghost use Rattle.handle_pool.specs.Walks.{NoneLive, HasLive, OneEach};
 ghost use Rattle.handle_pool.specs.Issued.{live_object};
 ghost use Rattle.mtapi_objects.specs.Mutexes.{Mutex, locked_by, unlocked};
 ghost use Rattle.mtapi_objects.specs.Segments.{Segment, cell_of, with_attached, with_cell};
@@ -32,10 +33,10 @@ impl Resources {
         requires seat { who < 25 }
         ensures { (s : State) → Stands s self.old → Locks s who mutex_id segment_id cell result self.new }
     {
-        let Some(mutex) = self.mutexes.find(mutex_id) else {
+        let Some(mutex) = self.tally_mutex(who, mutex_id) else {
             return TallyLock::Absent;
         };
-        let Some(segment) = self.segments.find(segment_id) else {
+        let Some(segment) = self.tally_segment(who, segment_id) else {
             return TallyLock::Absent;
         };
         if !self.has_cell(segment, cell) {
@@ -46,6 +47,36 @@ impl Resources {
         }
         self.take(who, mutex, segment);
         TallyLock::Both(mutex, segment)
+    }
+
+    // The live mutex of an id. Where a tally on the seat found it last, no place is walked.
+    fn tally_mutex(&mut self, who: u32, id: u64) -> Option<MutexHandle>
+        requires seat { who < 25 }
+        ensures same { self.new ≡ self.old }
+        ensures found { IfSome result (λ m. HasLive self.old.mutexes m.0 (λ x. x.id ≡ id)) }
+        ensures absent { IsNone result → NoneLive (slot_value self.old.mutexes) (λ x. x.id ≡ id) }
+        ensures only { OneEach (λ x. x.id) self.old.mutexes }
+    {
+        let mutex = self
+            .mutexes
+            .find_again(self.tally_mutexes[who as usize], id);
+        self.tally_mutexes[who as usize] = mutex;
+        mutex
+    }
+
+    // The same of a segment.
+    fn tally_segment(&mut self, who: u32, id: u64) -> Option<ShmemHandle>
+        requires seat { who < 25 }
+        ensures same { self.new ≡ self.old }
+        ensures found { IfSome result (λ s. HasLive self.old.segments s.0 (λ y. y.id ≡ id)) }
+        ensures absent { IsNone result → NoneLive (slot_value self.old.segments) (λ y. y.id ≡ id) }
+        ensures only { OneEach (λ y. y.id) self.old.segments }
+    {
+        let segment = self
+            .segments
+            .find_again(self.tally_segments[who as usize], id);
+        self.tally_segments[who as usize] = segment;
+        segment
     }
 
     // Whether a live segment has the cell.

@@ -1,9 +1,9 @@
 -- What each move of the slots and the lists is for the queues that they are seen as.
-use Rattle.std.proofs.Common.{◌≡◌, ◌≢◌, ℕ, ◌<◌, ◌≤◌, Bool, true, false, List, [], length, replicate, Option, Some, None, Ok, Err, refl, sym, ap, subst, ◌∙◌, slice_get, arith}
+use Rattle.std.proofs.Common.{◌≡◌, ◌≢◌, ℕ, ◌<◌, ◌≤◌, true, List, [], length, replicate, Option, Some, None, Ok, Err, refl, sym, ap, subst, ◌∙◌, slice_get, arith}
 use Rattle.std.specs.Prelude.{◌==◌}
 use Rattle.std.specs.Option.{option_map}
 use Rattle.std.proofs.lemmas.Bool.Decides.{nat_tests}
-use Rattle.std.proofs.lemmas.Bool.{false≢true, eq-eqb, ne_eqb}
+use Rattle.std.proofs.lemmas.Bool.{eq-eqb, ne_eqb}
 use Rattle.mtapi_values.specs.declared.statuses.MtapiStatus.{MtapiStatus}
 use Rattle.mtapi_values.specs.declared.statuses.MtapiStatus.TheVariants.{ErrQueueLimit}
 use Rattle.mtapi_values.specs.Conditions.{first}
@@ -15,7 +15,7 @@ use Rattle.linked_places.specs.Lists.{HandleLists, list_at, has_handle, NowhereA
 use Rattle.linked_places.specs.Beside.{slot_beside, pool_beside}
 use Rattle.linked_places.proofs.BesideLemmas.{slice_get-beside, get-beside, list-beside, with_value-beside, without-beside, beside-fresh, IsFull-beside, Inserts-beside, AreBeside-new, AreBeside-insert, AreBeside-value, AreBeside-list, AreBeside-remove, NowhereAt-beside}
 use Rattle.mtapi_objects.specs.Queues.{Queue, put_refusals}
-use Rattle.queue_core.specs.Held.{HeldQueue, QueueTable, held, has_id, HasId, Finds, FindsIn, put_reply, NoTaskAt, IsUnendedTask, table_of, AreQueues, AreRetiredEmpty}
+use Rattle.queue_core.specs.Held.{HeldQueue, QueueTable, held, has_id, HasId, Finds, FindsIn, put_reply, NoTaskAt, IsUnendedTask, tasks_of, table_of, AreQueues, AreRetiredEmpty}
 
 -- an unended task is one of a live queue
 pub record Unended (pool : Slots Queue) (tasks : HandleLists) (q task : ℕ) : Type 0 where
@@ -40,6 +40,18 @@ module _ (pool : Slots Queue) (tasks : HandleLists) (q : ℕ) where
       by_value : (o : Option Queue) → slot_value pool q ≡ o → Unended pool tasks q task
       by_value (Some v) live = record { queue = v; live = live; has = rw (get-live old v is live) at unended }
       by_value None dead = absurd (rw (get-dead old is dead) at unended)
+
+  -- the list of the queue, where it has a task
+  pub tasks-listed : (old : QueueTable) (i task : ℕ) → table_of pool tasks ≡ old → slice_get (tasks_of (slot_value old.pool q)) i ≡ Some task → tasks_of (slot_value old.pool q) ≡ list_at tasks.lists (slot_of q)
+  tasks-listed old i task is at = by_value (slot_value pool q) refl
+    where
+      none : (o : Option HeldQueue) → o ≡ None → slice_get (tasks_of o) i ≡ Some task → ⊥
+      none None e f = cc
+      none (Some h) e f = cc
+
+      by_value : (o : Option Queue) → slot_value pool q ≡ o → tasks_of (slot_value old.pool q) ≡ list_at tasks.lists (slot_of q)
+      by_value (Some v) live = ap tasks_of (get-live old v is live)
+      by_value None dead = absurd (none (slot_value old.pool q) (get-dead old is dead) at)
 
   module _ (are : AreQueues pool tasks) (v : Queue) (live : slot_value pool q ≡ Some v) where
     pub within : slot_of q < length tasks.lists

@@ -91,6 +91,11 @@ abbrev pub first_task : Option HeldQueue → Option ℕ
 first_task None = None
 first_task (Some h) = slice_get h.tasks 0
 
+-- the unended tasks, and none where there is no queue
+abbrev pub tasks_of : Option HeldQueue → List ℕ
+tasks_of None = []
+tasks_of (Some h) = h.tasks
+
 -- a queue at a glance, with so many unended tasks
 abbrev pub facts_with : Queue → ℕ → QueueFacts
 facts_with q unended = record { job = q.job; priority = q.priority; enabled = q.enabled; ordered = q.ordered; retain = q.retain; limit = q.limit; unended = unended }

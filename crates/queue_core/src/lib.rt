@@ -5,12 +5,12 @@ pub mod facts;
 mod queue;
 mod worked;
 
-ghost use Rattle.std.specs.Prelude.{◌≡◌, ◌≤◌, ◌<◌, true, false, replicate, IfSome, IsNone, IfOk, OnOk, OnErr};
+ghost use Rattle.std.specs.Prelude.{◌≡◌, ◌≤◌, ◌<◌, ◌+◌, ℕ, Some, true, false, replicate, slice_get, IfSome, IsNone, IfOk, OnOk, OnErr};
 ghost use Rattle.mtapi_values.specs.declared.statuses.MtapiStatus.TheVariants.{ErrQueueExists};
 ghost use Rattle.handle_pool.specs.Walks.{SomeLive, NoneLive};
 ghost use Rattle.std.specs.Option.{option_map};
 ghost use Rattle.handle_pool.specs.Slots.{slot_value, slot_of, free_slot, without, changed, live_count};
-ghost use Rattle.queue_core.specs.Held.{new_queue, Creates, Finds, live_reply, with_opened, with_task, without_task, put_reply, NoTaskAt, IsUnendedTask, first_task, facts_of, FindsIn, AreRetiredEmpty, HasId};
+ghost use Rattle.queue_core.specs.Held.{new_queue, Creates, Finds, live_reply, with_opened, with_task, without_task, put_reply, NoTaskAt, IsUnendedTask, first_task, tasks_of, facts_of, FindsIn, AreRetiredEmpty, HasId};
 
 pub use facts::QueueFacts;
 use handle_pool::{Pool, slot_of};
@@ -148,7 +148,12 @@ impl Queues {
         self.set_enabled(q, false)
     }
 
-    fn set_enabled(&mut self, q: QueueHandle, enabled: bool) -> Result<(), MtapiStatus>
+    /// Enables or disables a queue, as `enable` and `disable` say it.
+    ///
+    /// # Errors
+    ///
+    /// - `ErrQueueInvalid`: the queue isn't live.
+    pub fn set_enabled(&mut self, q: QueueHandle, enabled: bool) -> Result<(), MtapiStatus>
         ensures reply { result ≡ live_reply (slot_value self.old.pool q.0) }
         ensures new { self.new ≡ record self.old { pool = changed self.old.pool q.0 (with_opened enabled) } }
     {
@@ -225,6 +230,17 @@ impl Queues {
             return None;
         };
         match self.tasks.first(slot_of(q.0)) {
+            Some(task) => Some(TaskHandle(task)),
+            None => None,
+        }
+    }
+
+    /// Finds the unended task that was put next after this one of the same live queue. None exactly where this one was put last.
+    pub fn next(&self, t: TaskHandle) -> Option<TaskHandle>
+        requires { (q : ℕ) × IsUnendedTask t.0 (slot_value self.now.pool q) }
+        ensures { (q i : ℕ) → slice_get (tasks_of (slot_value self.now.pool q)) i ≡ Some t.0 → option_map (λ (t : TaskHandle). t.0) result ≡ slice_get (tasks_of (slot_value self.now.pool q)) (i + 1) }
+    {
+        match self.tasks.next(t.0) {
             Some(task) => Some(TaskHandle(task)),
             None => None,
         }

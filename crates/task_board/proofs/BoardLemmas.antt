@@ -1,9 +1,9 @@
 -- What each call keeps of a board.
-use Rattle.std.proofs.Common.{◌≡◌, ◌≢◌, ◌≤◌, ◌+◌, ℕ, zero, suc, ◌<◌, Bool, true, false, List, [], ◌∷◌, ◌++◌, length, length-set, Option, Some, None, Result, Ok, Err, set, slice_get, refl, sym, ◌∙◌, ap, subst, inl, inr, arith}
-use Rattle.std.specs.Prelude.{is_some, is_none}
+use Rattle.std.proofs.Common.{◌≡◌, ◌≢◌, ◌⊎◌, ◌≤◌, ◌+◌, ℕ, zero, suc, ◌<◌, Bool, true, false, List, [], ◌∷◌, length, length-set, Option, Some, None, Result, Ok, Err, set, slice_get, refl, sym, ◌∙◌, ap, subst, inl, inr, arith}
+use Rattle.std.specs.Prelude.{◌%◌, is_some, is_none}
 use Rattle.std.specs.Option.{option_map}
 use Rattle.std.specs.Result.{OnOk, OnErr}
-use Rattle.std.proofs.lemmas.Bool.{false≢true, cases_Bool}
+use Rattle.std.proofs.lemmas.Bool.{false≢true, cases_eq, cases_Bool}
 use Rattle.mtapi_values.specs.declared.kinds.Kind.{Kind}
 use Rattle.mtapi_values.specs.declared.handles.TaskHandle.{TaskHandle}
 use Rattle.mtapi_values.specs.declared.statuses.MtapiStatus.{MtapiStatus}
@@ -11,7 +11,7 @@ use Rattle.handle_pool.specs.Slots.{without, Slots, slot_of, generation_of, free
 use Rattle.handle_pool.proofs.StandsLemmas.{value_at-none}
 use Rattle.handle_pool.proofs.GetLemmas.{get-insert_same, get-insert_before}
 use Rattle.handle_pool.proofs.WalkLemmas.{slot_of-live}
-use Rattle.linked_places.specs.Lists.{HandleLists, list_at, has_handle, without_handle, stands_at, NowhereAt, with_list}
+use Rattle.linked_places.specs.Lists.{list_at, has_handle, without_handle, stands_at, NowhereAt}
 use Rattle.linked_places.proofs.HandleLemmas.{list_at-set_same}
 use Rattle.ready_index.specs.declared.marks.Mark.{Mark}
 use Rattle.ready_index.specs.Marks.{ReadyMarks}
@@ -23,15 +23,18 @@ use Rattle.task_core.specs.Table.{TaskTable}
 use Rattle.group_core.specs.Members.{GroupTable}
 use Rattle.task_board.specs.Members.{members_in, AreMembers, MayJoin, joined, ended_member}
 use Rattle.task_board.specs.Seen.{Seen, seen_as, seen, seen_in}
-use Rattle.queue_core.specs.Held.{HeldQueue, QueueTable, NoTaskAt, Creates as CreatesQueue, live_reply, held, facts_of, with_opened, with_task}
+use Rattle.queue_core.specs.Held.{HeldQueue, QueueTable, NoTaskAt, Creates as CreatesQueue, live_reply, held, facts_of, tasks_of, with_opened, with_task}
 use Rattle.queue_core.specs.declared.facts.QueueFacts.{QueueFacts}
 use Rattle.mtapi_values.specs.declared.handles.QueueHandle.{QueueHandle}
 use Rattle.mtapi_values.specs.declared.statuses.MtapiStatus.TheVariants.{ErrQueueExists, ErrQueueLimit}
 use Rattle.task_board.specs.Queued.{begins_in, AreQueued, NoneWaitsIn}
+use Rattle.task_board.specs.Waiting.{WaitingTable, job_list, with_waiting, without_waiting}
+use Rattle.task_board.specs.Walks.{AreSeen, AreByJob}
+use Rattle.task_board.proofs.ByJobLemmas.{by-job-push, by-job-leave, by-job-has}
 use Rattle.task_board.specs.Board.{BoardTable, IsBoard, IsMarkOf, Marked, AreWaiting, AreRunning, AreRanked, running_on, IsFresh, Remarked, RemarkedUnless}
 use Rattle.task_board.proofs.SeenLemmas.{some_same, SeenAs, seen-as, seen-live, unstarted-seen}
 use Rattle.task_board.proofs.MoveLemmas.{started-put, Put, Alone, Steady, alone-old, alone-new, put-insert, put-changed, max-insert, max-changed, marked-put, marked-steady, ranked-put, waiting-push, waiting-leave, running-begin, running-same, stands-handle}
-use Rattle.task_board.proofs.RemarkLemmas.{SameBut, SteadyBut, marked-anew, marked-over}
+use Rattle.task_board.proofs.RemarkLemmas.{SameBut, TakenBy, taken-other, taken-steady, marked-anew, marked-over}
 use Rattle.task_board.proofs.GivenLemmas.{put-queue_changed, put-queue_insert, put-queue_without}
 use Rattle.task_board.proofs.QueuedLemmas.{queued-apart, queued-enqueue, queued-run, queued-with, queued-new, queued-gone, begins-same, begins-enqueue}
 use Rattle.task_board.proofs.MemberLemmas.{members-same}
@@ -54,8 +57,8 @@ sizes-set old new place m is = record {
 }
 
 -- a move of one handle
-pub put-board : (b : BoardTable) (q : TaskTable) (queues : QueueTable) (ready : ReadyMarks) (waiting : HandleLists) (running : List (Option TaskHandle)) (groups : GroupTable) (h : ℕ) (x : Option Seen) → IsBoard b → Put (seen_in b.tasks.pool) h x (seen_in q.pool) → max_of q.pool ≡ max_of b.tasks.pool → SameSizes b.ready ready → Marked b.actions (begins_in queues.pool) (seen_in q.pool) ready.marks → AreQueued (seen_in q.pool) queues.pool b.settings.priorities → queues.tasks ≡ b.queues.tasks → waiting.places ≡ b.waiting.places → length waiting.lists ≡ 1 → length running ≡ 25 → AreWaiting (seen_in q.pool) (list_at waiting.lists 0) → AreRunning (seen_in q.pool) running → ((s : Seen) → x ≡ Some s → s.priority < b.settings.priorities) → ((s : Seen) → x ≡ Some s → s.start < q.starts) → b.tasks.starts ≤ q.starts → groups.tasks ≡ b.groups.tasks → AreMembers (members_in q.pool) (slot_value groups.pool) q.starts q.ends → IsBoard (record b { tasks = q; queues = queues; ready = ready; waiting = waiting; running = running; groups = groups })
-put-board b q queues ready waiting running groups h x k move max sizes marked queued room places lists seats waits runs ranks begins grows many members = record {
+pub put-board : (b : BoardTable) (q : TaskTable) (queues : QueueTable) (ready : ReadyMarks) (waiting : WaitingTable) (running : List (Option TaskHandle)) (groups : GroupTable) (h : ℕ) (x : Option Seen) → IsBoard b → Put (seen_in b.tasks.pool) h x (seen_in q.pool) → max_of q.pool ≡ max_of b.tasks.pool → SameSizes b.ready ready → Marked b.actions (begins_in queues.pool) (seen_in q.pool) ready.marks → AreQueued (seen_in q.pool) queues.pool b.settings.priorities → queues.tasks ≡ b.queues.tasks → waiting.places ≡ b.waiting.places → length waiting.lists ≡ 1 → length running ≡ 25 → AreWaiting (seen_in q.pool) (list_at waiting.lists 0) → AreByJob b.settings.actions (seen_in q.pool) waiting.by_job → AreRunning (seen_in q.pool) running → ((s : Seen) → x ≡ Some s → s.priority < b.settings.priorities) → ((s : Seen) → x ≡ Some s → s.start < q.starts) → b.tasks.starts ≤ q.starts → groups.tasks ≡ b.groups.tasks → AreMembers (members_in q.pool) (slot_value groups.pool) q.starts q.ends → IsBoard (record b { tasks = q; queues = queues; ready = ready; waiting = waiting; running = running; groups = groups })
+put-board b q queues ready waiting running groups h x k move max sizes marked queued room places lists seats waits jobs runs ranks begins grows many members = record {
   members = members;
   task_slots = many ∙ k.task_slots ∙ sym max;
   started = started-put (seen_in b.tasks.pool) (seen_in q.pool) h x b.tasks.starts q.starts move begins grows k.started;
@@ -69,6 +72,7 @@ put-board b q queues ready waiting running groups h x k move max sizes marked qu
   room = room ∙ k.room ∙ sym max;
   marked = marked;
   waiting_are = waits;
+  by_job = jobs;
   running_are = runs;
   ranked = ranked-put (seen_in b.tasks.pool) (seen_in q.pool) h x b.settings.priorities move ranks k.ranked;
   queued = queued;
@@ -86,10 +90,10 @@ unfolding Steady
 steady-same queues at h k s d e n = refl
 
 -- the one list, after a change
-pub one-list : (ls : HandleLists) (list : List ℕ) → length ls.lists ≡ 1 → list_at (with_list ls 0 list).lists 0 ≡ list
+pub one-list : (ls : WaitingTable) (list : List ℕ) → length ls.lists ≡ 1 → list_at (set ls.lists 0 list) 0 ≡ list
 one-list ls list e = list_at-set_same ls.lists 0 list (omega (arith, e))
 
-pub one-length : (ls : HandleLists) (list : List ℕ) → length ls.lists ≡ 1 → length (with_list ls 0 list).lists ≡ 1
+pub one-length : (ls : WaitingTable) (list : List ℕ) → length ls.lists ≡ 1 → length (set ls.lists 0 list) ≡ 1
 one-length ls list e = length-set ls.lists 0 list ∙ e
 
 -- Adding
@@ -115,6 +119,23 @@ nowhere b q h t k i number = elim (cases_Bool (stands_at (slot_of h) (list_at b.
         none-some (sym free ∙ t.1)
     at_number (suc n) on = false≢true (sym (ap (stands_at (slot_of h)) (at_none b.waiting.lists n k.lists)) ∙ on)
 
+-- nor in the lists by jobs
+pub nowhere-by-job : (b : BoardTable) (q : Slots Task) (h : ℕ) (t : Task) → IsBoard b → Inserts b.tasks.pool q h t → NowhereAt (slot_of h) b.waiting.by_job
+nowhere-by-job b q h t k i number = elim (cases_Bool (stands_at (slot_of h) (list_at b.waiting.by_job number))) [
+  | inl on ↦
+      let w = stands-handle (slot_of h) (list_at b.waiting.by_job number) on in
+      let s = (k.by_job.each number (has-number b.waiting.by_job number w.0 w.1)).is_seen w.0 w.1 in
+      let t = seen-live b.tasks.pool w.0 s.0 s.1 in
+      let free : slot_value b.tasks.pool w.0 ≡ None = ap (λ (place : ℕ). value_at (slice_get b.tasks.pool.slots place) (generation_of w.0)) w.2 ∙ (ap (λ (o : Option _). value_at o (generation_of w.0)) i.was_free ∙ value_at-none (free_slot (generation_of h)) (generation_of w.0) refl) in
+      none-some (sym free ∙ t.1)
+  | inr off ↦ off
+]
+  where
+    has-number : (ls : List (List ℕ)) (n w : ℕ) → has_handle w (list_at ls n) ≡ true → n < length ls
+    has-number [] n w e = absurd (false≢true e)
+    has-number (l ∷ ls) zero w e = omega arith
+    has-number (l ∷ ls) (suc n) w e = let more = has-number ls n w e in omega (arith, more)
+
 -- nothing was seen by a new handle
 unseen : (b : BoardTable) (q : Slots Task) (h : ℕ) (t : Task) → Inserts b.tasks.pool q h t → seen_in b.tasks.pool h ≡ None
 unseen b q h t i = ap (λ (o : Option _). seen (value_at o (generation_of h))) i.was_free ∙ ap seen (value_at-none (free_slot (generation_of h)) (generation_of h) refl)
@@ -136,17 +157,19 @@ over-tasks t None h = refl
 over-tasks t (Some g) h = refl
 
 -- what a new task is of a board: `queues` has it in its queue, if any, and `groups` in its group
-add-with : (b : BoardTable) (q : TaskTable) (queues : QueueTable) (ready : ReadyMarks) (waiting : HandleLists) (groups : GroupTable) (h n : ℕ) (a : NewTask) → IsBoard b → Inserts b.tasks.pool q.pool h (new_task a n) → n ≡ b.tasks.starts → q.starts ≡ b.tasks.starts + 1 → a.priority < b.settings.priorities → waiting ≡ with_list b.waiting 0 (list_at b.waiting.lists 0 ++ h ∷ []) → queues.tasks ≡ b.queues.tasks → Steady (begins_in b.queues.pool) (begins_in queues.pool) (seen_in b.tasks.pool) h → AreQueued (seen_in q.pool) queues.pool b.settings.priorities → IsFresh b.actions (begins_in queues.pool) (seen_in q.pool) h b.ready ready → q.ends ≡ b.tasks.ends → MayJoin b.groups.pool a.detached a.group → groups ≡ joined b.groups a.group h → IsBoard (record b { tasks = q; queues = queues; ready = ready; waiting = waiting; groups = groups })
+add-with : (b : BoardTable) (q : TaskTable) (queues : QueueTable) (ready : ReadyMarks) (waiting : WaitingTable) (groups : GroupTable) (h n : ℕ) (a : NewTask) → IsBoard b → Inserts b.tasks.pool q.pool h (new_task a n) → n ≡ b.tasks.starts → q.starts ≡ b.tasks.starts + 1 → a.priority < b.settings.priorities → waiting ≡ with_waiting b.waiting a.job h → queues.tasks ≡ b.queues.tasks → Steady (begins_in b.queues.pool) (begins_in queues.pool) (seen_in b.tasks.pool) h → AreQueued (seen_in q.pool) queues.pool b.settings.priorities → IsFresh b.actions (begins_in queues.pool) (seen_in q.pool) h b.ready ready → q.ends ≡ b.tasks.ends → MayJoin b.groups.pool a.detached a.group → groups ≡ joined b.groups a.group h → IsBoard (record b { tasks = q; queues = queues; ready = ready; waiting = waiting; groups = groups })
 add-with b q queues ready waiting groups h n a k i next count less is room steady queued f ends may enters =
     let move = put-insert b.tasks.pool q.pool h (new_task a n) i in
     put-board b q queues ready waiting b.running groups h (seen (Some (new_task a n))) k move (max-insert b.tasks.pool q.pool h (new_task a n) i) (sizes-set b.ready ready (slot_of h) f.mark f.now)
     (put-marked b q queues.pool ready h (seen (Some (new_task a n))) f.mark k move steady (alone-new q.pool h (new_task a n) (get-insert_same b.tasks.pool q.pool h (new_task a n) i))
     (new-slot b q.pool h (new_task a n) i) (subst (λ (o : Option Seen). IsMarkOf b.actions (begins_in queues.pool h) o f.mark) move.here f.right) f.now)
     queued room
-    (ap (λ (l : HandleLists). l.places) is) (ap (λ (l : HandleLists). length l.lists) is ∙ one-length b.waiting _ k.lists) k.seats
-    (subst (λ (hs : List ℕ). AreWaiting (seen_in q.pool) hs) (sym (ap (λ (l : HandleLists). list_at l.lists 0) is ∙ one-list b.waiting _ k.lists)) (waiting-push (seen_in b.tasks.pool) (seen_in q.pool) h _ (list_at b.waiting.lists 0) move refl
+    (ap (λ (l : WaitingTable). l.places) is) (ap (λ (l : WaitingTable). length l.lists) is ∙ one-length b.waiting _ k.lists) k.seats
+    (subst (λ (hs : List ℕ). AreWaiting (seen_in q.pool) hs) (sym (ap (λ (l : WaitingTable). list_at l.lists 0) is ∙ one-list b.waiting _ k.lists)) (waiting-push (seen_in b.tasks.pool) (seen_in q.pool) h _ (list_at b.waiting.lists 0) move refl
     (λ j e is. let s = k.waiting_are.waits j e in none-some (sym (unseen b q.pool h (new_task a n) i) ∙ (ap (seen_in b.tasks.pool) (sym is) ∙ s.1)))
     (λ j u e. subst (λ (m : ℕ). u.start < m) (sym next) (k.started.before j u e)) k.waiting_are))
+    (subst (λ (ls : List (List ℕ)). AreByJob b.settings.actions (seen_in q.pool) ls) (sym (ap (λ (l : WaitingTable). l.by_job) is))
+    (by-job-push (seen_in b.tasks.pool) (seen_in q.pool) h _ b.waiting.by_job move (unseen b q.pool h (new_task a n) i) refl (λ j u e. subst (λ (m : ℕ). u.start < m) (sym next) (k.started.before j u e)) k.by_job))
     (running-same (seen_in b.tasks.pool) (seen_in q.pool) h _ b.running move
     (λ s w e on. none-some (sym (unseen b q.pool h (new_task a n) i) ∙ e)) (λ s w e on. none-some (ap (λ (u : Seen). u.on) (some_same e) ∙ on)) k.running_are)
     (λ s e. subst (λ (u : Seen). u.priority < b.settings.priorities) (some_same e) less)
@@ -154,12 +177,12 @@ add-with b q queues ready waiting groups h n a k i next count less is room stead
     (ap (λ (t : GroupTable). t.tasks) enters ∙ joined-tasks b.groups a.group h)
     (subst (λ (t : GroupTable). AreMembers (members_in q.pool) (slot_value t.pool) q.starts q.ends) (sym enters) (members-add b.tasks.pool q.pool h a b.groups b.tasks.starts b.tasks.ends q.starts q.ends k.members (subst (λ (m : ℕ). Inserts b.tasks.pool q.pool h (new_task a m)) next i) count ends may))
 
-pub add-board : (b : BoardTable) (q : TaskTable) (ready : ReadyMarks) (waiting : HandleLists) (groups : GroupTable) (h n : ℕ) (a : NewTask) → IsBoard b → Inserts b.tasks.pool q.pool h (new_task a n) → n ≡ b.tasks.starts → q.starts ≡ b.tasks.starts + 1 → a.priority < b.settings.priorities → a.queue ≡ None → waiting ≡ with_list b.waiting 0 (list_at b.waiting.lists 0 ++ h ∷ []) → IsFresh b.actions (begins_in b.queues.pool) (seen_in q.pool) h b.ready ready → q.ends ≡ b.tasks.ends → MayJoin b.groups.pool a.detached a.group → groups ≡ joined b.groups a.group h → IsBoard (record b { tasks = q; ready = ready; waiting = waiting; groups = groups })
+pub add-board : (b : BoardTable) (q : TaskTable) (ready : ReadyMarks) (waiting : WaitingTable) (groups : GroupTable) (h n : ℕ) (a : NewTask) → IsBoard b → Inserts b.tasks.pool q.pool h (new_task a n) → n ≡ b.tasks.starts → q.starts ≡ b.tasks.starts + 1 → a.priority < b.settings.priorities → a.queue ≡ None → waiting ≡ with_waiting b.waiting a.job h → IsFresh b.actions (begins_in b.queues.pool) (seen_in q.pool) h b.ready ready → q.ends ≡ b.tasks.ends → MayJoin b.groups.pool a.detached a.group → groups ≡ joined b.groups a.group h → IsBoard (record b { tasks = q; ready = ready; waiting = waiting; groups = groups })
 add-board b q ready waiting groups h n a k i next count less apart is f ends may enters =
     add-with b q b.queues ready waiting groups h n a k i next count less is refl (steady-same b.queues.pool (seen_in b.tasks.pool) h)
     (queued-apart (seen_in b.tasks.pool) (seen_in q.pool) h _ b.queues.pool b.settings.priorities (put-insert b.tasks.pool q.pool h (new_task a n) i) (unseen b q.pool h (new_task a n) i) apart k.queued) f ends may enters
 
-pub enqueue-board : (b : BoardTable) (q : TaskTable) (queues : QueueTable) (ready : ReadyMarks) (waiting : HandleLists) (groups : GroupTable) (h n p : ℕ) (a : NewTask) (v : HeldQueue) → IsBoard b → Inserts b.tasks.pool q.pool h (new_task a n) → n ≡ b.tasks.starts → q.starts ≡ b.tasks.starts + 1 → slot_value b.queues.pool p ≡ Some v → a.queue ≡ Some p → a.job ≡ v.queue.job → a.priority ≡ v.queue.priority → waiting ≡ with_list b.waiting 0 (list_at b.waiting.lists 0 ++ h ∷ []) → queues ≡ record b.queues { pool = changed b.queues.pool p (with_task h) } → IsFresh b.actions (begins_in queues.pool) (seen_in q.pool) h b.ready ready → q.ends ≡ b.tasks.ends → MayJoin b.groups.pool a.detached a.group → groups ≡ joined b.groups a.group h → IsBoard (record b { tasks = q; queues = queues; ready = ready; waiting = waiting; groups = groups })
+pub enqueue-board : (b : BoardTable) (q : TaskTable) (queues : QueueTable) (ready : ReadyMarks) (waiting : WaitingTable) (groups : GroupTable) (h n p : ℕ) (a : NewTask) (v : HeldQueue) → IsBoard b → Inserts b.tasks.pool q.pool h (new_task a n) → n ≡ b.tasks.starts → q.starts ≡ b.tasks.starts + 1 → slot_value b.queues.pool p ≡ Some v → a.queue ≡ Some p → a.job ≡ v.queue.job → a.priority ≡ v.queue.priority → waiting ≡ with_waiting b.waiting a.job h → queues ≡ record b.queues { pool = changed b.queues.pool p (with_task h) } → IsFresh b.actions (begins_in queues.pool) (seen_in q.pool) h b.ready ready → q.ends ≡ b.tasks.ends → MayJoin b.groups.pool a.detached a.group → groups ≡ joined b.groups a.group h → IsBoard (record b { tasks = q; queues = queues; ready = ready; waiting = waiting; groups = groups })
 unfolding Steady
 enqueue-board b q queues ready waiting groups h n p a v k i next count live names job rank is put f ends may enters =
     add-with b q queues ready waiting groups h n a k i next count (subst (λ (m : ℕ). m < b.settings.priorities) (sym rank) (k.queued.ranked p v live)) is (ap (λ (z : QueueTable). z.tasks) put) steady
@@ -208,15 +231,27 @@ unstarted-unended Scheduled e = refl
 unstarted-unended (Running w k) e = refl
 unstarted-unended (Ended y n) e = absurd (false≢true e)
 
-pub take-board : (b : BoardTable) (q : TaskTable) (ready : ReadyMarks) (waiting : HandleLists) (h w : ℕ) (kind : Kind) (t : Task) → IsBoard b → slot_value b.tasks.pool h ≡ Some t → is_unstarted t ≡ true → q.pool ≡ changed b.tasks.pool h (with_state (Running w kind)) → q.starts ≡ b.tasks.starts → w < b.settings.workers → is_some (running_on b.running w) ≡ false → waiting ≡ with_list b.waiting 0 (without_handle h (list_at b.waiting.lists 0)) → NowhereAt (slot_of h) waiting.lists → ready ≡ record b.ready { marks = set b.ready.marks (slot_of h) None } → q.ends ≡ b.tasks.ends → IsBoard (record b { tasks = q; ready = ready; waiting = waiting; running = set b.running w (Some (record { 0 = h })) })
-take-board b q ready waiting h w kind t k g u pool count less free is gone marks ends =
+-- the lists by jobs once a waiting task has left
+pub left-jobs : (b : BoardTable) (waiting : WaitingTable) (after : ℕ → Option Seen) (h job : ℕ) (s : Seen) (x : Option Seen) → Put (seen_in b.tasks.pool) h x after → seen_in b.tasks.pool h ≡ Some s → s.job ≡ job → ((u : Seen) → x ≡ Some u → u.on ≡ None → ⊥) → waiting ≡ without_waiting b.waiting job h → NowhereAt (slot_of h) waiting.by_job → IsBoard b → AreByJob b.settings.actions after waiting.by_job
+left-jobs b waiting after h job s x move was same left is apart k =
+    let mine : waiting.by_job ≡ set b.waiting.by_job (s.job % length b.waiting.by_job) (without_handle h (list_at b.waiting.by_job (s.job % length b.waiting.by_job))) =
+    ap (λ (l : WaitingTable). l.by_job) is ∙ ap (λ (j : ℕ). set b.waiting.by_job (j % length b.waiting.by_job) (without_handle h (list_at b.waiting.by_job (j % length b.waiting.by_job)))) (sym same)
+    in
+    let less : s.job % length b.waiting.by_job < length b.waiting.by_job = omega (arith, k.by_job.some) in
+    subst (λ (ls : List (List ℕ)). AreByJob b.settings.actions after ls) (sym mine)
+    (by-job-leave (seen_in b.tasks.pool) after h s x b.waiting.by_job move was left
+    (ap (stands_at (slot_of h)) (sym (ap (λ (ls : List (List ℕ)). list_at ls (s.job % length b.waiting.by_job)) mine ∙ list_at-set_same b.waiting.by_job (s.job % length b.waiting.by_job) _ less)) ∙ apart (s.job % length b.waiting.by_job)) k.by_job)
+
+pub take-board : (b : BoardTable) (q : TaskTable) (ready : ReadyMarks) (waiting : WaitingTable) (h w : ℕ) (kind : Kind) (t : Task) → IsBoard b → slot_value b.tasks.pool h ≡ Some t → is_unstarted t ≡ true → q.pool ≡ changed b.tasks.pool h (with_state (Running w kind)) → q.starts ≡ b.tasks.starts → w < b.settings.workers → is_some (running_on b.running w) ≡ false → waiting ≡ without_waiting b.waiting t.job h → NowhereAt (slot_of h) waiting.lists → NowhereAt (slot_of h) waiting.by_job → ready ≡ record b.ready { marks = set b.ready.marks (slot_of h) None } → q.ends ≡ b.tasks.ends → IsBoard (record b { tasks = q; ready = ready; waiting = waiting; running = set b.running w (Some (record { 0 = h })) })
+take-board b q ready waiting h w kind t k g u pool count less free is gone apart marks ends =
     put-board b q b.queues ready waiting (set b.running w (Some (record { 0 = h }))) b.groups h (seen (Some (with_state (Running w kind) t))) k move (ap max_of pool ∙ max-changed b.tasks.pool h (with_state (Running w kind)))
     (sizes-set b.ready ready (slot_of h) None marks)
     (put-marked b q b.queues.pool ready h _ None k move (steady-same b.queues.pool (seen_in b.tasks.pool) h) (alone-old b.tasks.pool h t _ (seen_in q.pool) g move) (slot_of-live b.tasks.pool h t g) (unmarked b.actions (begins_in b.queues.pool h) _ w refl) marks)
     (queued-run (seen_in b.tasks.pool) (seen_in q.pool) h w was.0 _ b.queues.pool b.settings.priorities move (ap seen g ∙ was.1) like.queue like.job like.start refl k.queued) refl
-    (ap (λ (l : HandleLists). l.places) is) (ap (λ (l : HandleLists). length l.lists) is ∙ one-length b.waiting _ k.lists) (length-set b.running w _ ∙ k.seats)
+    (ap (λ (l : WaitingTable). l.places) is) (ap (λ (l : WaitingTable). length l.lists) is ∙ one-length b.waiting _ k.lists) (length-set b.running w _ ∙ k.seats)
     (subst (λ (hs : List ℕ). AreWaiting (seen_in q.pool) hs) (sym list)
     (waiting-leave (seen_in b.tasks.pool) (seen_in q.pool) h _ (list_at b.waiting.lists 0) move (λ s e n. none-some (sym n ∙ ap (λ (z : Seen). z.on) (sym (some_same e)))) (ap (stands_at (slot_of h)) (sym list) ∙ gone 0) k.waiting_are))
+    (left-jobs b waiting (seen_in q.pool) h t.job was.0 _ move (ap seen g ∙ was.1) like.job (λ s e n. none-some (sym n ∙ ap (λ (z : Seen). z.on) (sym (some_same e)))) is apart k)
     (running-begin (seen_in b.tasks.pool) (seen_in q.pool) h w _ b.running move refl free
     (λ s e. ap (λ (z : Seen). z.on) (some_same (sym e ∙ ap seen g ∙ was.1)) ∙ was.2) (omega (arith, less, k.few, k.seats)) k.running_are)
     (λ s e. subst (λ (n : ℕ). n < b.settings.priorities) (rank ∙ ap (λ (z : Seen). z.priority) (some_same e)) (k.ranked.known h was.0 (ap seen g ∙ was.1)))
@@ -231,7 +266,7 @@ take-board b q ready waiting h w kind t k g u pool count less free is gone marks
     move = subst (λ (p : Slots Task). Put (seen_in b.tasks.pool) h (seen (Some (with_state (Running w kind) t))) (seen_in p)) (sym pool) (put-changed b.tasks.pool h (with_state (Running w kind)) t g)
 
     list : list_at waiting.lists 0 ≡ without_handle h (list_at b.waiting.lists 0)
-    list = ap (λ (l : HandleLists). list_at l.lists 0) is ∙ one-list b.waiting _ k.lists
+    list = ap (λ (l : WaitingTable). list_at l.lists 0) is ∙ one-list b.waiting _ k.lists
 
     like : SeenAs t t.state was.0
     like = seen-as t t.state was.0 was.1
@@ -255,7 +290,7 @@ seat-below b h w kind t k g x = subst (λ (n : ℕ). w < n) k.seats (within b.ru
 
 -- Other actions
 
-pub remark-board : (b : BoardTable) (new : Slots Action) (ready : ReadyMarks) (job : ℕ) → IsBoard b → SameBut job b.actions new → Remarked new (begins_in b.queues.pool) (seen_in b.tasks.pool) job (list_at b.waiting.lists 0) (length (list_at b.waiting.lists 0)) b.ready ready → IsBoard (record b { actions = new; ready = ready })
+pub remark-board : (b : BoardTable) (new : Slots Action) (ready : ReadyMarks) (job : ℕ) → IsBoard b → SameBut job b.actions new → Remarked new (begins_in b.queues.pool) (seen_in b.tasks.pool) job (job_list b.waiting job) (length (job_list b.waiting job)) b.ready ready → IsBoard (record b { actions = new; ready = ready })
 remark-board b new ready job k same r = record {
   few = k.few;
   workers = r.workers ∙ k.workers;
@@ -265,8 +300,12 @@ remark-board b new ready job k same r = record {
   lists = k.lists;
   seats = k.seats;
   room = k.room;
-  marked = marked-anew b.actions new (begins_in b.queues.pool) (begins_in b.queues.pool) b.tasks.pool job (list_at b.waiting.lists 0) b.ready ready same (λ h s e d n. refl) k.waiting_are r k.marked;
+  marked = marked-anew b.actions new (begins_in b.queues.pool) (begins_in b.queues.pool) b.tasks.pool job (job_list b.waiting job) b.ready ready (λ h s e n. elim (cases_eq s.job job) [
+    | inl mine ↦ inl (by-job-has (seen_in b.tasks.pool) h job s b.waiting.by_job k.by_job e n mine, mine)
+    | inr other ↦ inr (taken-other job b.actions new (begins_in b.queues.pool h) s same other)
+  ]) r k.marked;
   waiting_are = k.waiting_are;
+  by_job = k.by_job;
   running_are = k.running_are;
   ranked = k.ranked;
   started = k.started;
@@ -276,7 +315,7 @@ remark-board b new ready job k same r = record {
 }
 
 -- the same where the waiting tasks of the job are marked anew unless its actions cover the cores that they covered
-pub changed-board : (b : BoardTable) (new : Slots Action) (ready : ReadyMarks) (job mask : ℕ) → IsBoard b → SameBut job b.actions new → IsUnion b.actions job mask → RemarkedUnless new (begins_in b.queues.pool) (seen_in b.tasks.pool) job mask (list_at b.waiting.lists 0) b.ready ready → IsBoard (record b { actions = new; ready = ready })
+pub changed-board : (b : BoardTable) (new : Slots Action) (ready : ReadyMarks) (job mask : ℕ) → IsBoard b → SameBut job b.actions new → IsUnion b.actions job mask → RemarkedUnless new (begins_in b.queues.pool) (seen_in b.tasks.pool) job mask (job_list b.waiting job) b.ready ready → IsBoard (record b { actions = new; ready = ready })
 changed-board b new ready job mask k same was r = elim r [
   | inl anew ↦ remark-board b new ready job k same anew
   | inr u ↦ subst (λ (m : ReadyMarks). IsBoard (record b { actions = new; ready = m })) (sym u.1) (record {
@@ -290,6 +329,7 @@ changed-board b new ready job mask k same was r = elim r [
     room = k.room;
     marked = marked-over job mask b.actions new (begins_in b.queues.pool) (seen_in b.tasks.pool) b.ready.marks same was u.0 k.marked;
     waiting_are = k.waiting_are;
+    by_job = k.by_job;
     running_are = k.running_are;
     ranked = k.ranked;
     started = k.started;
@@ -301,12 +341,37 @@ changed-board b new ready job mask k same was r = elim r [
 
 -- Other queues
 
--- the actions are as they were
-same-actions : (p : Slots Action) (job : ℕ) → SameBut job p p
-same-actions p job = record { there = λ h a d e. e; back = λ h a d e. e }
+-- a queue keeps its tasks where it is enabled or disabled
+pub opened-tasks : (b : BoardTable) (queues : QueueTable) (q : ℕ) (on : Bool) → queues ≡ record b.queues { pool = changed b.queues.pool q (with_opened on) } → tasks_of (slot_value queues.pool q) ≡ tasks_of (slot_value b.queues.pool q)
+opened-tasks b queues q on is = ap (λ (z : QueueTable). tasks_of (slot_value z.pool q)) is ∙ by_found (slot_value b.queues.pool q) refl
+  where
+    by_found : (o : Option HeldQueue) → slot_value b.queues.pool q ≡ o → tasks_of (slot_value (changed b.queues.pool q (with_opened on)) q) ≡ tasks_of (slot_value b.queues.pool q)
+    by_found None e = ap (λ (o : Option HeldQueue). tasks_of (slot_value (put b.queues.pool q (option_map (with_opened on) o)) q)) e
+    by_found (Some v) e = ap tasks_of (put-queue_changed b.queues.pool q (with_opened on) v e).here ∙ ap tasks_of (sym e)
 
--- a queue is enabled or disabled, and the waiting tasks of its job are marked anew
-pub opened-board : (b : BoardTable) (queues : QueueTable) (ready : ReadyMarks) (q : ℕ) (v : HeldQueue) (on : Bool) → IsBoard b → slot_value b.queues.pool q ≡ Some v → queues ≡ record b.queues { pool = changed b.queues.pool q (with_opened on) } → Remarked b.actions (begins_in queues.pool) (seen_in b.tasks.pool) v.queue.job (list_at b.waiting.lists 0) (length (list_at b.waiting.lists 0)) b.ready ready → IsBoard (record b { queues = queues; ready = ready })
+-- the tasks of a queue are seen
+pub queue-seen : (b : BoardTable) (q : ℕ) → IsBoard b → AreSeen (seen_in b.tasks.pool) (tasks_of (slot_value b.queues.pool q))
+queue-seen b q k h has = by_found (slot_value b.queues.pool q) refl has
+  where
+    by_found : (o : Option HeldQueue) → slot_value b.queues.pool q ≡ o → has_handle h (tasks_of o) ≡ true → (s : Seen) × (seen_in b.tasks.pool h ≡ Some s)
+    by_found None e f = absurd (false≢true f)
+    by_found (Some x) e f = let s = k.queued.names h q x e f in (s.0, s.1)
+
+pub opened-seen : (b : BoardTable) (queues : QueueTable) (q : ℕ) (on : Bool) → IsBoard b → queues ≡ record b.queues { pool = changed b.queues.pool q (with_opened on) } → AreSeen (seen_in b.tasks.pool) (tasks_of (slot_value queues.pool q))
+opened-seen b queues q on k is = subst (λ (hs : List ℕ). AreSeen (seen_in b.tasks.pool) hs) (sym (opened-tasks b queues q on is)) (queue-seen b q k)
+
+-- the waiting tasks of a job are seen
+pub job-seen : (b : BoardTable) (job : ℕ) → IsBoard b → AreSeen (seen_in b.tasks.pool) (job_list b.waiting job)
+job-seen b job k h has = let less : job % length b.waiting.by_job < length b.waiting.by_job = omega (arith, k.by_job.some) in let s = (k.by_job.each (job % length b.waiting.by_job) less).is_seen h has in (s.0, s.1)
+
+-- a live task that hasn't begun is in the list of its job
+pub waits-in-job : (b : BoardTable) (h job : ℕ) (t : Task) → IsBoard b → slot_value b.tasks.pool h ≡ Some t → is_unstarted t ≡ true → t.job ≡ job → has_handle h (job_list b.waiting job) ≡ true
+waits-in-job b h job t k g u is =
+    let s = unstarted-seen t t.state u in
+    by-job-has (seen_in b.tasks.pool) h job s.0 b.waiting.by_job k.by_job (ap seen g ∙ s.1) s.2 ((seen-as t t.state s.0 s.1).job ∙ is)
+
+-- a queue is enabled or disabled, and its tasks are marked anew
+pub opened-board : (b : BoardTable) (queues : QueueTable) (ready : ReadyMarks) (q : ℕ) (v : HeldQueue) (on : Bool) → IsBoard b → slot_value b.queues.pool q ≡ Some v → queues ≡ record b.queues { pool = changed b.queues.pool q (with_opened on) } → Remarked b.actions (begins_in queues.pool) (seen_in b.tasks.pool) v.queue.job v.tasks (length v.tasks) b.ready ready → IsBoard (record b { queues = queues; ready = ready })
 opened-board b queues ready q v on k live is r = record {
   few = k.few;
   workers = r.workers ∙ k.workers;
@@ -316,8 +381,9 @@ opened-board b queues ready q v on k live is r = record {
   lists = k.lists;
   seats = k.seats;
   room = ap (λ (z : QueueTable). z.tasks) is ∙ k.room;
-  marked = marked-anew b.actions b.actions (begins_in b.queues.pool) (begins_in queues.pool) b.tasks.pool v.queue.job (list_at b.waiting.lists 0) b.ready ready (same-actions b.actions v.queue.job) steady k.waiting_are r k.marked;
+  marked = marked-anew b.actions b.actions (begins_in b.queues.pool) (begins_in queues.pool) b.tasks.pool v.queue.job v.tasks b.ready ready others r k.marked;
   waiting_are = k.waiting_are;
+  by_job = k.by_job;
   running_are = k.running_are;
   ranked = k.ranked;
   started = k.started;
@@ -326,16 +392,22 @@ opened-board b queues ready q v on k live is r = record {
   queued = subst (λ (z : QueueTable). AreQueued (seen_in b.tasks.pool) z.pool b.settings.priorities) (sym is) (queued-with (seen_in b.tasks.pool) q b.queues.pool b.settings.priorities v on live k.queued);
 }
   where
-    -- the tasks of the queue have its job
-    by_queue : (h : ℕ) (s : Seen) (o : Option ℕ) → s.queue ≡ o → seen_in b.tasks.pool h ≡ Some s → (s.job ≡ v.queue.job → ⊥) → begins_in (changed b.queues.pool q (with_opened on)) h o ≡ begins_in b.queues.pool h o
-    by_queue h s None e f d = refl
-    by_queue h s (Some p) e f d = begins-same b.queues.pool (changed b.queues.pool q (with_opened on)) h p
-        ((put-queue_changed b.queues.pool q (with_opened on) v live).others p (λ here.
-        let u = k.queued.names h q v live (k.queued.listed h q s v f (e ∙ ap Some here) live) in
-        d (ap (λ (z : Seen). z.job) (some_same (sym f ∙ u.1)) ∙ u.3)))
+    -- each task is one of the queue, or its queue is as it was
+    by_queue : (h : ℕ) (s : Seen) (o : Option ℕ) → s.queue ≡ o → seen_in b.tasks.pool h ≡ Some s → ((has_handle h v.tasks ≡ true) × (s.job ≡ v.queue.job)) ⊎ (begins_in (changed b.queues.pool q (with_opened on)) h o ≡ begins_in b.queues.pool h o)
+    by_queue h s None e f = inr refl
+    by_queue h s (Some p) e f = elim (cases_eq p q) [
+      | inl here ↦
+          let has = k.queued.listed h q s v f (e ∙ ap Some here) live in
+          let u = k.queued.names h q v live has in
+          inl (has, ap (λ (z : Seen). z.job) (some_same (sym f ∙ u.1)) ∙ u.3)
+      | inr away ↦ inr (begins-same b.queues.pool (changed b.queues.pool q (with_opened on)) h p ((put-queue_changed b.queues.pool q (with_opened on) v live).others p away))
+    ]
 
-    steady : SteadyBut v.queue.job (begins_in b.queues.pool) (begins_in queues.pool) (seen_in b.tasks.pool)
-    steady h s e d n = ap (λ (z : QueueTable). begins_in z.pool h s.queue) is ∙ by_queue h s s.queue refl e d
+    others : (h : ℕ) (s : Seen) → seen_in b.tasks.pool h ≡ Some s → s.on ≡ None → ((has_handle h v.tasks ≡ true) × (s.job ≡ v.queue.job)) ⊎ TakenBy b.actions b.actions (begins_in b.queues.pool h) (begins_in queues.pool h) s
+    others h s e n = elim (by_queue h s s.queue refl e) [
+      | inl mine ↦ inl mine
+      | inr same ↦ inr (taken-steady b.actions (begins_in b.queues.pool h) (begins_in queues.pool h) s (ap (λ (z : QueueTable). begins_in z.pool h s.queue) is ∙ same))
+    ]
 
 -- a queue that is made has no tasks
 pub created-board : (b : BoardTable) (queues : QueueTable) (q : ℕ) (x : Queue) → IsBoard b → Inserts b.queues.pool queues.pool q (held x []) → queues.tasks ≡ b.queues.tasks → x.priority < b.settings.priorities → IsBoard (record b { queues = queues })
@@ -350,6 +422,7 @@ created-board b queues q x k i room rank = record {
   room = room ∙ k.room;
   marked = marked-steady b.actions (begins_in b.queues.pool) (begins_in queues.pool) (seen_in b.tasks.pool) b.ready.marks (λ h s e n. by_queue h s s.queue refl e n) k.marked;
   waiting_are = k.waiting_are;
+  by_job = k.by_job;
   running_are = k.running_are;
   ranked = k.ranked;
   started = k.started;
@@ -377,6 +450,7 @@ deleted-board b queues q v k none live is = record {
   room = ap (λ (z : QueueTable). z.tasks) is ∙ k.room;
   marked = marked-steady b.actions (begins_in b.queues.pool) (begins_in queues.pool) (seen_in b.tasks.pool) b.ready.marks (λ h s e n. ap (λ (z : QueueTable). begins_in z.pool h s.queue) is ∙ by_queue h s s.queue refl e n) k.marked;
   waiting_are = k.waiting_are;
+  by_job = k.by_job;
   running_are = k.running_are;
   ranked = k.ranked;
   started = k.started;

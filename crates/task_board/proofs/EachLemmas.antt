@@ -1,11 +1,10 @@
 -- What the walks over the members of a group keep.
 use Rattle.std.proofs.Common.{◌≡◌, ℕ, ◌+◌, ◌<◌, Bool, true, false, not, cond, List, [], ◌∷◌, ◌++◌, length, Option, Some, None, IsSome, refl, sym, ◌∙◌, ap, subst, inl, inr, arith}
-use Rattle.std.specs.Prelude.{◌&&◌, ◌==◌, is_none}
+use Rattle.std.specs.Prelude.{◌&&◌, is_none}
 use Rattle.std.specs.Option.{option_or}
 use Rattle.std.proofs.lemmas.Bool.{false≢true, cases_eq}
 use Rattle.mtapi_values.specs.declared.ends.TaskEnd.{TaskEnd}
 use Rattle.mtapi_values.specs.declared.statuses.MtapiStatus.{MtapiStatus}
-use Rattle.mtapi_values.specs.Conditions.{holds}
 use Rattle.handle_pool.specs.Slots.{Slots, slot_value, with_value, without}
 use Rattle.handle_pool.specs.Walks.{NoneLive}
 use Rattle.linked_places.specs.Lists.{has_handle}
@@ -20,7 +19,7 @@ use Rattle.task_board.specs.Board.{BoardTable, IsBoard, Becomes}
 use Rattle.task_board.specs.GroupMoves.{is_ended_member, end_at, ending_of, endings_of, Each, frees, lets_go, Takes, Leaves, FreesAll, LetsUnendedGo, LetsAllGo, Freed, Left}
 use Rattle.task_board.proofs.SeenLemmas.{some_same}
 use Rattle.task_board.proofs.MoveLemmas.{slot-without}
-use Rattle.task_board.proofs.MarkLemmas.{same-number}
+use Rattle.task_board.proofs.MarkLemmas.{named-is}
 use Rattle.task_board.proofs.MemberLemmas.{start-here, end-here, unnamed}
 
 none-some : {A : Type 0} {P : Type 0} {x : A} → None ≡ Some x → P
@@ -254,10 +253,6 @@ pub live-group : (o : Option Members) → IsSome o → (m : Members) × (o ≡ S
 live-group None e = absurd (false≢true e)
 live-group (Some m) e = (m, refl)
 
-named-group : (g : ℕ) (o : Option ℕ) → holds (λ h. h == g) o ≡ true → o ≡ Some g
-named-group g None e = absurd (false≢true e)
-named-group g (Some h) e = ap Some (same-number h g e)
-
 number-of : (x : TaskState) → is_none (end_of x) ≡ false → (n : ℕ) × (number_in (end_of x) ≡ Some n)
 number-of Scheduled e = absurd (false≢true (sym e))
 number-of (Running w k) e = absurd (false≢true (sym e))
@@ -265,7 +260,7 @@ number-of (Ended y n) e = (n, refl)
 
 pub none-ended-left : (b : BoardTable) (g : ℕ) (m : Members) → IsBoard b → slot_value b.groups.pool g ≡ Some m → m.ended ≡ [] → NoneLive (slot_value b.tasks.pool) (λ t. is_ended_member g t ≡ true)
 none-ended-left b g m k live none h t is passes =
-    let group = named-group g t.notes.group (and-left (is_member g t) (not (is_unended t)) passes) in
+    let group = named-is g t.notes.group (and-left (is_member g t) (not (is_unended t)) passes) in
     let n = number-of t.state (not-false (is_unended t) (and-right (is_member g t) (not (is_unended t)) passes)) in
     let here : members_in b.tasks.pool h ≡ Some (record { group = g; detached = t.notes.detached; start = t.start; end = number_in (end_of t.state) }) = ap membership is ∙ ap (member_as t) group in
     false≢true (sym (ap (has_handle h) none) ∙ (k.members.ended g m live).listed h n.0 (ap (end_in g) here ∙ end-here g n.0 (record { group = g; detached = t.notes.detached; start = t.start; end = number_in (end_of t.state) }) refl n.1))
@@ -277,14 +272,14 @@ unended-number (Ended y n) e = absurd (false≢true e)
 
 pub none-unended-left : (b : BoardTable) (g : ℕ) (m : Members) → IsBoard b → slot_value b.groups.pool g ≡ Some m → m.unended ≡ [] → NoneLive (slot_value b.tasks.pool) (λ t. is_unended_member g t ≡ true)
 none-unended-left b g m k live none h t is passes =
-    let group = named-group g t.notes.group (and-left (is_member g t) (is_unended t) passes) in
+    let group = named-is g t.notes.group (and-left (is_member g t) (is_unended t) passes) in
     let here : members_in b.tasks.pool h ≡ Some (record { group = g; detached = t.notes.detached; start = t.start; end = number_in (end_of t.state) }) = ap membership is ∙ ap (member_as t) group in
     false≢true (sym (ap (has_handle h) none) ∙ (k.members.unended g m live).listed h t.start (ap (start_in g) here ∙ start-here g (record { group = g; detached = t.notes.detached; start = t.start; end = number_in (end_of t.state) }) refl (unended-number t.state (and-right (is_member g t) (is_unended t) passes))))
 
 pub none-left-in : (b : BoardTable) (g : ℕ) → IsBoard b → slot_value b.groups.pool g ≡ Some no_members → NoneLive (slot_value b.tasks.pool) (λ t. is_member g t ≡ true)
 none-left-in b g k live h t is passes =
     unnamed (members_in b.tasks.pool) (slot_value b.groups.pool) h g b.tasks.starts b.tasks.ends (record { group = g; detached = t.notes.detached; start = t.start; end = number_in (end_of t.state) }) k.members live
-    (ap membership is ∙ ap (member_as t) (named-group g t.notes.group passes)) refl
+    (ap membership is ∙ ap (member_as t) (named-is g t.notes.group passes)) refl
 
 pub freed-group : (old now : BoardTable) (g : ℕ) (fault : Option MtapiStatus) → FreesAll old now g fault → IsBoard now → NoneLive (slot_value now.tasks.pool) (λ t. is_ended_member g t ≡ true)
 freed-group old now g fault f k = none-ended-left now g (record f.members { ended = [] }) k f.group_now refl

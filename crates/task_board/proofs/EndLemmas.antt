@@ -3,26 +3,35 @@ use Rattle.std.proofs.Common.{◌≡◌, ℕ, ◌<◌, ◌+◌, Bool, true, fals
 use Rattle.std.proofs.lemmas.Bool.{false≢true}
 use Rattle.std.proofs.lemmas.Bool.Decides.{nat_tests}
 use Rattle.std.proofs.lemmas.Nat.Bits.{bit_at-zero}
-use Rattle.std.specs.Prelude.{◌==◌, ◌||◌}
+use Rattle.std.specs.Prelude.{◌==◌, ◌||◌, ◌&&◌, IsSome}
 use Rattle.mtapi_values.specs.declared.ends.TaskEnd.{TaskEnd}
+use Rattle.mtapi_values.specs.Attributes.{NodeSettings}
 use Rattle.mtapi_values.specs.Conditions.{holds}
 use Rattle.mtapi_values.specs.Masks.{in_mask}
 use Rattle.handle_pool.specs.Slots.{Slots, slot_value}
 use Rattle.linked_places.specs.Lists.{list_at, has_handle}
 use Rattle.mtapi_objects.specs.Actions.{Action, has_enabled_job}
 use Rattle.mtapi_objects.specs.Tasks.{Task, is_unstarted}
-use Rattle.mtapi_objects.specs.Queues.{is_in}
+use Rattle.mtapi_objects.specs.Queues.{Queue, is_in}
+use Rattle.queue_core.specs.Held.{HeldQueue, tasks_of}
 use Rattle.job_table.specs.Answers.{Covers, IsUnion}
 use Rattle.job_table.specs.declared.cover.Cover.TheVariants.{NoAction, AllDisabled}
-use Rattle.task_core.specs.Table.{TaskTable, ended_in, IsLiveAnd}
-use Rattle.task_board.specs.Seen.{Seen, seen_in}
+use Rattle.task_core.specs.Table.{TaskTable, ended_in}
+use Rattle.task_board.specs.Seen.{Seen, seen, seen_in}
 use Rattle.task_board.specs.Queued.{NoneWaitsIn}
 use Rattle.task_board.specs.Board.{BoardTable, IsBoard, Becomes, AreWaiting, records_of, group_slots}
-use Rattle.task_board.specs.Ends.{ended_next, ended_if, ended_each, EndsWaiting}
-use Rattle.task_board.proofs.SeenLemmas.{some_same, seen-as, seen-live}
-use Rattle.task_board.proofs.MarkLemmas.{and_left, and_right}
+use Rattle.task_board.specs.declared.ends.WaitingTest.{WaitingTest}
+use Rattle.task_board.specs.declared.ends.WaitingTest.TheVariants.{Unserved, InQueue, Shut}
+use Rattle.task_board.specs.declared.walks.Walk.{Walk}
+use Rattle.task_board.specs.declared.walks.Walk.TheVariants.{Waiting}
+use Rattle.task_board.specs.Walks.{AreIn, is_walked}
+use Rattle.task_board.specs.Ends.{passes, walk_of, ends_by, ended_next, ended_if, ended_each, EndsWaiting}
+use Rattle.task_board.proofs.SeenLemmas.{some_same, seen-as, seen-live, unstarted-seen}
+use Rattle.task_board.proofs.MarkLemmas.{and_left, and_right, same-number, named-is}
 use Rattle.task_board.proofs.MoveLemmas.{Put, put-ended, or-right}
-use Rattle.task_board.proofs.OrderLemmas.{waiting-once, waiting-beside, has-itself, at-middle, past-middle, append-middle}
+use Rattle.task_board.proofs.BoardLemmas.{waits-in, waits-in-job}
+use Rattle.task_board.proofs.WalkedLemmas.{list_of, walk-are, ends-same}
+use Rattle.task_board.proofs.OrderLemmas.{walked-once, walked-beside, has-itself, at-middle, past-middle, append-middle}
 
 -- a waiting task is live and hasn't begun
 pub waits-live : (p : Slots Task) (hs : List ℕ) (h : ℕ) → AreWaiting (seen_in p) hs → has_handle h hs ≡ true → (t : Task) × (slot_value p h ≡ Some t) × (is_unstarted t ≡ true)
@@ -31,8 +40,8 @@ waits-live p hs h w e =
     let t = seen-live p h s.0 s.1 in
     (t.0, t.1, (seen-as t.0 t.0.state s.0 t.2).unstarted s.2)
 
--- of the waiting tasks those in front have had their turn and wait on, and the rest is still to come
-pub record Going (p : Task → Bool) (e : TaskEnd) (first now : BoardTable) (index : ℕ) (next : Option ℕ) : Type 0 where
+-- of the tasks of a walk those in front have had their turn and stay in it, and the rest is still to come
+pub record Going (walk : Walk) (p : Task → Bool) (e : TaskEnd) (first now : BoardTable) (index : ℕ) (next : Option ℕ) : Type 0 where
   pub front : List ℕ
   pub rest : List ℕ
   pub board : IsBoard now
@@ -40,22 +49,22 @@ pub record Going (p : Task → Bool) (e : TaskEnd) (first now : BoardTable) (ind
   pub actions : now.actions ≡ first.actions
   pub records : records_of now.queues.pool ≡ records_of first.queues.pool
   pub groups : group_slots now ≡ group_slots first
-  pub list : list_at now.waiting.lists 0 ≡ front ++ rest
-  pub left : index + length rest ≡ length (list_at first.waiting.lists 0)
+  pub list : list_of walk now ≡ front ++ rest
+  pub left : index + length rest ≡ length (list_of walk first)
   pub next_is : next ≡ slice_get rest 0
-  pub ends : ended_each p e rest now.tasks ≡ ended_each p e (list_at first.waiting.lists 0) first.tasks
+  pub ends : ended_each p e rest now.tasks ≡ ended_each p e (list_of walk first) first.tasks
 
-pub going-first : (p : Task → Bool) (e : TaskEnd) (b : BoardTable) (next : Option ℕ) → IsBoard b → next ≡ slice_get (list_at b.waiting.lists 0) 0 → Going p e b b 0 next
-going-first p e b next k is = record { front = []; rest = list_at b.waiting.lists 0; board = k; settings = refl; actions = refl; records = refl; groups = refl; list = refl; left = omega arith; next_is = is; ends = refl }
+pub going-first : (walk : Walk) (p : Task → Bool) (e : TaskEnd) (b : BoardTable) (next : Option ℕ) → IsBoard b → next ≡ slice_get (list_of walk b) 0 → Going walk p e b b 0 next
+going-first walk p e b next k is = record { front = []; rest = list_of walk b; board = k; settings = refl; actions = refl; records = refl; groups = refl; list = refl; left = omega arith; next_is = is; ends = refl }
 
-module _ (p : Task → Bool) (e : TaskEnd) (first now : BoardTable) (index : ℕ) (next : Option ℕ) (g : Going p e first now index next) where
-  pub going-some : index < length (list_at first.waiting.lists 0) → next ≡ None → ⊥
+module _ (walk : Walk) (p : Task → Bool) (e : TaskEnd) (first now : BoardTable) (index : ℕ) (next : Option ℕ) (g : Going walk p e first now index next) where
+  pub going-some : index < length (list_of walk first) → next ≡ None → ⊥
   going-some less none = by_rest g.rest g.left g.next_is
     where
       no : {h : ℕ} → None ≡ Some h → ⊥
       no d = cc
 
-      by_rest : (rest : List ℕ) → index + length rest ≡ length (list_at first.waiting.lists 0) → next ≡ slice_get rest 0 → ⊥
+      by_rest : (rest : List ℕ) → index + length rest ≡ length (list_of walk first) → next ≡ slice_get rest 0 → ⊥
       by_rest [] l n = omega (arith, less, l)
       by_rest (x ∷ rest) l n = no (sym none ∙ n)
 
@@ -70,34 +79,42 @@ module _ (p : Task → Bool) (e : TaskEnd) (first now : BoardTable) (index : ℕ
       by_rest [] n = absurd (no (sym is ∙ n))
       by_rest (x ∷ rest) n = (rest, ap (λ (k : ℕ). k ∷ rest) (some_same (sym n ∙ is)))
 
-  pub going-has : (h : ℕ) → next ≡ Some h → has_handle h (list_at now.waiting.lists 0) ≡ true
+  pub going-has : (h : ℕ) → next ≡ Some h → has_handle h (list_of walk now) ≡ true
   going-has h is =
       let r = going-next h is in
       ap (has_handle h) (g.list ∙ ap (λ (l : List ℕ). g.front ++ l) r.1) ∙ has-itself h g.front r.0
 
-  pub going-live : (h : ℕ) → next ≡ Some h → IsLiveAnd is_unstarted (slot_value now.tasks.pool h)
+  -- what the list has
+  are : (b : BoardTable) → IsBoard b → b.settings ≡ first.settings → records_of b.queues.pool ≡ records_of first.queues.pool → AreIn (is_walked first.settings.actions walk (records_of first.queues.pool)) (seen_in b.tasks.pool) (list_of walk b)
+  are b k kept same =
+      subst (λ (r : Slots Queue). AreIn (is_walked first.settings.actions walk r) (seen_in b.tasks.pool) (list_of walk b)) same
+      (subst (λ (s : NodeSettings). AreIn (is_walked s.actions walk (records_of b.queues.pool)) (seen_in b.tasks.pool) (list_of walk b)) kept (walk-are b walk k))
+
+  pub going-live : (h : ℕ) → next ≡ Some h → IsSome (slot_value now.tasks.pool h)
   going-live h is =
-      let t = waits-live now.tasks.pool (list_at now.waiting.lists 0) h g.board.waiting_are (going-has h is) in
-      subst (λ (o : Option Task). IsLiveAnd is_unstarted o) (sym t.1) t.2
+      let s = (are now g.board g.settings g.records).is_seen h (going-has h is) in
+      let t = seen-live now.tasks.pool h s.0 s.1 in
+      subst (λ (o : Option Task). IsSome o) (sym t.1) refl
 
   -- the list once the next task has had its turn
-  listed-on : (h : ℕ) (rest : List ℕ) (new : BoardTable) (b : Bool) → holds p (slot_value now.tasks.pool h) ≡ b → list_at now.waiting.lists 0 ≡ g.front ++ h ∷ rest → IsBoard new → new.tasks ≡ cond b (ended_next e h now.tasks) now.tasks → (front : List ℕ) × (list_at new.waiting.lists 0 ≡ front ++ rest)
-  listed-on h rest new true test is k becomes =
-      let old = subst (λ (l : List ℕ). AreWaiting (seen_in now.tasks.pool) l) is g.board.waiting_are in
-      let t = waits-live now.tasks.pool (g.front ++ h ∷ rest) h old (has-itself h g.front rest) in
+  listed-on : (h : ℕ) (rest : List ℕ) (new : BoardTable) (b : Bool) → holds p (slot_value now.tasks.pool h) ≡ b → list_of walk now ≡ g.front ++ h ∷ rest → IsBoard new → new.settings ≡ first.settings → records_of new.queues.pool ≡ records_of first.queues.pool → new.tasks ≡ cond b (ended_next e h now.tasks) now.tasks → (front : List ℕ) × (list_of walk new ≡ front ++ rest)
+  listed-on h rest new true test is k kept same becomes =
+      let old = subst (λ (l : List ℕ). AreIn (is_walked first.settings.actions walk (records_of first.queues.pool)) (seen_in now.tasks.pool) l) is (are now g.board g.settings g.records) in
+      let s = old.is_seen h (has-itself h g.front rest) in
+      let t = seen-live now.tasks.pool h s.0 s.1 in
       let pool : new.tasks.pool ≡ ended_in now.tasks.pool h e now.tasks.ends (Some t.0) = ap (λ (q : TaskTable). q.pool) becomes ∙ ap (λ (o : Option Task). ended_in now.tasks.pool h e now.tasks.ends o) t.1 in
       let move = subst (λ (q : Slots Task). Put (seen_in now.tasks.pool) h None (seen_in q)) (sym pool) (put-ended now.tasks.pool h e now.tasks.ends t.0 t.1) in
-      (g.front, waiting-once (seen_in new.tasks.pool) _ (g.front ++ rest) k.waiting_are (waiting-beside (seen_in now.tasks.pool) (seen_in new.tasks.pool) h g.front rest move old))
-  listed-on h rest new false test is k becomes =
-      let old = subst (λ (q : TaskTable). AreWaiting (seen_in q.pool) (list_at now.waiting.lists 0)) (sym becomes) g.board.waiting_are in
-      (g.front ++ h ∷ [], waiting-once (seen_in new.tasks.pool) _ _ k.waiting_are old ∙ is ∙ append-middle h g.front rest)
+      (g.front, walked-once _ (seen_in new.tasks.pool) _ (g.front ++ rest) (are new k kept same) (walked-beside _ (seen_in now.tasks.pool) (seen_in new.tasks.pool) h g.front rest move old))
+  listed-on h rest new false test is k kept same becomes =
+      let old = subst (λ (q : TaskTable). AreIn (is_walked first.settings.actions walk (records_of first.queues.pool)) (seen_in q.pool) (list_of walk now)) (sym becomes) (are now g.board g.settings g.records) in
+      (g.front ++ h ∷ [], walked-once _ (seen_in new.tasks.pool) _ _ (are new k kept same) old ∙ is ∙ append-middle h g.front rest)
 
-  pub going-on : (h : ℕ) (new : BoardTable) (after : Option ℕ) → next ≡ Some h → ((i : ℕ) → slice_get (list_at now.waiting.lists 0) i ≡ Some h → after ≡ slice_get (list_at now.waiting.lists 0) (i + 1)) → Becomes now new now.actions (ended_if p e h now.tasks) → IsBoard new → Going p e first new (index + 1) after
+  pub going-on : (h : ℕ) (new : BoardTable) (after : Option ℕ) → next ≡ Some h → ((i : ℕ) → slice_get (list_of walk now) i ≡ Some h → after ≡ slice_get (list_of walk now) (i + 1)) → Becomes now new now.actions (ended_if p e h now.tasks) → IsBoard new → Going walk p e first new (index + 1) after
   going-on h new after is follows becomes k =
       let r = going-next h is in
-      let list : list_at now.waiting.lists 0 ≡ g.front ++ h ∷ r.0 = g.list ∙ ap (λ (l : List ℕ). g.front ++ l) r.1 in
-      let l = listed-on h r.0 new (holds p (slot_value now.tasks.pool h)) refl list k becomes.tasks_are in
-      let size : index + length (h ∷ r.0) ≡ length (list_at first.waiting.lists 0) = ap (λ (x : List ℕ). index + length x) (sym r.1) ∙ g.left in
+      let list : list_of walk now ≡ g.front ++ h ∷ r.0 = g.list ∙ ap (λ (l : List ℕ). g.front ++ l) r.1 in
+      let l = listed-on h r.0 new (holds p (slot_value now.tasks.pool h)) refl list k (becomes.settings ∙ g.settings) (becomes.queues_are ∙ g.records) becomes.tasks_are in
+      let size : index + length (h ∷ r.0) ≡ length (list_of walk first) = ap (λ (x : List ℕ). index + length x) (sym r.1) ∙ g.left in
       record {
         front = l.0;
         rest = r.0;
@@ -114,12 +131,39 @@ module _ (p : Task → Bool) (e : TaskEnd) (first now : BoardTable) (index : ℕ
         ends = ap (ended_each p e r.0) becomes.tasks_are ∙ ap (λ (x : List ℕ). ended_each p e x now.tasks) (sym r.1) ∙ g.ends;
       }
 
-  pub going-last : IsBoard first → index ≡ length (list_at first.waiting.lists 0) → EndsWaiting p e first.tasks now.tasks
-  going-last k all = record { list = list_at first.waiting.lists 0; waiting = k.waiting_are; now = by_rest g.rest g.left g.ends }
+  pub going-last : index ≡ length (list_of walk first) → now.tasks ≡ ended_each p e (list_of walk first) first.tasks
+  going-last all = by_rest g.rest g.left g.ends
     where
-      by_rest : (rest : List ℕ) → index + length rest ≡ length (list_at first.waiting.lists 0) → ended_each p e rest now.tasks ≡ ended_each p e (list_at first.waiting.lists 0) first.tasks → now.tasks ≡ ended_each p e (list_at first.waiting.lists 0) first.tasks
+      by_rest : (rest : List ℕ) → index + length rest ≡ length (list_of walk first) → ended_each p e rest now.tasks ≡ ended_each p e (list_of walk first) first.tasks → now.tasks ≡ ended_each p e (list_of walk first) first.tasks
       by_rest [] l n = n
       by_rest (x ∷ rest) l n = absurd (omega (arith, all, l))
+
+-- the walk of a test has each task that hasn't begun and passes
+walk-has : (b : BoardTable) (workers : ℕ) (test : WaitingTest) (h : ℕ) (t : Task) → IsBoard b → slot_value b.tasks.pool h ≡ Some t → is_unstarted t ≡ true → passes workers (records_of b.queues.pool) test t ≡ true → has_handle h (list_of (walk_of test) b) ≡ true
+walk-has b workers (Unserved job cores) h t k g u p = waits-in-job b h job t k g u (same-number t.job job (and_left (t.job == job) _ p))
+walk-has b workers Shut h t k g u p = waits-in b h t k g u
+walk-has b workers (InQueue q) h t k g u p =
+    let s = unstarted-seen t t.state u in
+    let names = (seen-as t t.state s.0 s.1).queue ∙ named-is q.0 t.queue p in
+    let x = k.queued.live h q.0 s.0 (ap seen g ∙ s.1) s.2 names in
+    ap (λ (o : Option HeldQueue). has_handle h (tasks_of o)) x.1 ∙ k.queued.listed h q.0 s.0 x.0 (ap seen g ∙ s.1) names x.1
+
+-- once those that pass have ended along the walk of the test, they have along all tasks that haven't begun
+pub walk-ends : (b : BoardTable) (workers : ℕ) (test : WaitingTest) (e : TaskEnd) (new : TaskTable) → IsBoard b → new ≡ ended_each (ends_by workers (records_of b.queues.pool) test) e (list_of (walk_of test) b) b.tasks → EndsWaiting (passes workers (records_of b.queues.pool) test) e b.tasks new
+walk-ends b workers test e new k is = record {
+  list = list_at b.waiting.lists 0;
+  waiting = k.waiting_are;
+  now =
+      is ∙ sym (ends-same _ _ p (ends_by workers (records_of b.queues.pool) test) e b.tasks (list_at b.waiting.lists 0) (list_of (walk_of test) b) (walk-are b Waiting k) (walk-are b (walk_of test) k)
+      (λ h t g has f.
+      let u = waits-live b.tasks.pool (list_at b.waiting.lists 0) h k.waiting_are has in
+      let begun : is_unstarted t ≡ true = subst (λ (z : Task). is_unstarted z ≡ true) (some_same (sym u.1 ∙ g)) u.2 in
+      (walk-has b workers test h t k g begun f, (λ i. begun i && f i)))
+      (λ h t g has f. (waits-in b h t k g (and_left (is_unstarted t) (p t) f), and_right (is_unstarted t) (p t) f)));
+}
+  where
+    p : Task → Bool
+    p t = passes workers (records_of b.queues.pool) test t
 
 -- No task of a queue waits on
 

@@ -6,7 +6,7 @@ use Rattle.mtapi_values.specs.declared.kinds.Kind.{Kind}
 use Rattle.mtapi_values.specs.declared.ends.TaskEnd.{TaskEnd}
 use Rattle.handle_pool.specs.Slots.{Slots, slot_of, slot_value, max_of, changed}
 use Rattle.handle_pool.proofs.WalkLemmas.{slot_of-live}
-use Rattle.linked_places.specs.Lists.{HandleLists, list_at, has_handle, without_handle, stands_at, NowhereAt, with_list}
+use Rattle.linked_places.specs.Lists.{list_at, has_handle, without_handle, stands_at, NowhereAt}
 use Rattle.linked_places.proofs.HandleLemmas.{has-first}
 use Rattle.ready_index.specs.Marks.{ReadyMarks}
 use Rattle.mtapi_objects.specs.Tasks.{Task, TaskState, Scheduled, Running, Ended, end_of, is_unended}
@@ -20,11 +20,13 @@ use Rattle.task_board.specs.Members.{members_in, AreMembers, ended_member}
 use Rattle.task_board.specs.Queued.{begins_in, AreQueued, left_queue, head_of}
 use Rattle.task_board.specs.Board.{BoardTable, IsBoard, Marked, AreWaiting, AreRanked, IsFreshAt}
 use Rattle.task_board.proofs.SeenLemmas.{some_same}
+use Rattle.task_board.specs.Waiting.{WaitingTable, without_waiting}
+use Rattle.task_board.proofs.ByJobLemmas.{by-job-same}
 use Rattle.task_board.proofs.MoveLemmas.{has-sub, ranked-put, Put, Alone, Steady, alone, alone-old, put-ended, max-ended, marked-steady, marked-again, waiting-leave, waiting-same, running-end, running-same}
 use Rattle.task_board.proofs.RemarkLemmas.{seen-slot}
 use Rattle.task_board.proofs.GivenLemmas.{dead-queue, put-queue_changed}
 use Rattle.task_board.proofs.QueuedLemmas.{queued-out, queued-leave, begins-leave}
-use Rattle.task_board.proofs.BoardLemmas.{SameSizes, sizes-set, put-board, put-marked, steady-same, unmarked-none, one-list, one-length, seat-below, over-tasks}
+use Rattle.task_board.proofs.BoardLemmas.{left-jobs, SameSizes, sizes-set, put-board, put-marked, steady-same, unmarked-none, one-list, one-length, seat-below, over-tasks}
 use Rattle.task_board.proofs.TaskMemberLemmas.{members-over}
 
 none-some : {A : Type 0} {P : Type 0} {x : A} → None ≡ Some x → P
@@ -196,13 +198,14 @@ module _ (b : BoardTable) (q : TaskTable) (queues : QueueTable) (cleared ready :
           let none = ap (head_of queues.pool) apart in
           (queued-was out same none, marked-was out same none)
 
-pub end-waiting : (b : BoardTable) (q : TaskTable) (queues : QueueTable) (cleared ready : ReadyMarks) (waiting : HandleLists) (groups : GroupTable) (h : ℕ) (e : TaskEnd) (t : Task) → IsBoard b → slot_value b.tasks.pool h ≡ Some t → t.state ≡ Scheduled → q.pool ≡ ended_in b.tasks.pool h e b.tasks.ends (Some t) → q.starts ≡ b.tasks.starts → waiting ≡ with_list b.waiting 0 (without_handle h (list_at b.waiting.lists 0)) → NowhereAt (slot_of h) waiting.lists → Leaves b q queues cleared ready h t.queue → q.ends ≡ b.tasks.ends + 1 → groups ≡ ended_member b.groups t.notes.group h → IsBoard (record b { tasks = q; queues = queues; ready = ready; waiting = waiting; groups = groups })
-end-waiting b q queues cleared ready waiting groups h e t k g x pool count is gone l ends notes =
+pub end-waiting : (b : BoardTable) (q : TaskTable) (queues : QueueTable) (cleared ready : ReadyMarks) (waiting : WaitingTable) (groups : GroupTable) (h : ℕ) (e : TaskEnd) (t : Task) → IsBoard b → slot_value b.tasks.pool h ≡ Some t → t.state ≡ Scheduled → q.pool ≡ ended_in b.tasks.pool h e b.tasks.ends (Some t) → q.starts ≡ b.tasks.starts → waiting ≡ without_waiting b.waiting t.job h → NowhereAt (slot_of h) waiting.lists → NowhereAt (slot_of h) waiting.by_job → Leaves b q queues cleared ready h t.queue → q.ends ≡ b.tasks.ends + 1 → groups ≡ ended_member b.groups t.notes.group h → IsBoard (record b { tasks = q; queues = queues; ready = ready; waiting = waiting; groups = groups })
+end-waiting b q queues cleared ready waiting groups h e t k g x pool count is gone apart l ends notes =
     put-board b q queues ready waiting b.running groups h None k move (ap max_of pool ∙ max-ended b.tasks.pool h e b.tasks.ends (Some t))
     (sizes-left b q queues cleared ready h seen_as_was t k move (ap max_of pool ∙ max-ended b.tasks.pool h e b.tasks.ends (Some t)) g was l) both.1 both.0 (ap (λ (z : QueueTable). z.tasks) l.left)
-    (ap (λ (z : HandleLists). z.places) is) (ap (λ (z : HandleLists). length z.lists) is ∙ one-length b.waiting _ k.lists) k.seats
+    (ap (λ (z : WaitingTable). z.places) is) (ap (λ (z : WaitingTable). length z.lists) is ∙ one-length b.waiting _ k.lists) k.seats
     (subst (λ (hs : List ℕ). AreWaiting (seen_in q.pool) hs) (sym list)
     (waiting-leave (seen_in b.tasks.pool) (seen_in q.pool) h _ (list_at b.waiting.lists 0) move (λ s f o. none-some f) (ap (stands_at (slot_of h)) (sym list) ∙ gone 0) k.waiting_are))
+    (left-jobs b waiting (seen_in q.pool) h t.job seen_as_was None move was refl (λ s f o. none-some f) is apart k)
     (running-same (seen_in b.tasks.pool) (seen_in q.pool) h _ b.running move (λ s w f on. none-some (ap (λ (z : Seen). z.on) (some_same (sym was ∙ f)) ∙ on)) (λ s w f on. none-some f) k.running_are)
     (λ s f. none-some f) (λ s f. none-some f) (omega (arith, count))
     (ap (λ (z : GroupTable). z.tasks) notes ∙ over-tasks b.groups t.notes.group h)
@@ -218,7 +221,7 @@ end-waiting b q queues cleared ready waiting groups h e t k g x pool count is go
     was = ap seen g ∙ ap (seen_as t) x
 
     list : list_at waiting.lists 0 ≡ without_handle h (list_at b.waiting.lists 0)
-    list = ap (λ (z : HandleLists). list_at z.lists 0) is ∙ one-list b.waiting _ k.lists
+    list = ap (λ (z : WaitingTable). list_at z.lists 0) is ∙ one-list b.waiting _ k.lists
 
     both : AreQueued (seen_in q.pool) queues.pool b.settings.priorities × Marked b.actions (begins_in queues.pool) (seen_in q.pool) ready.marks
     both = left-both b q queues cleared ready h seen_as_was t k move (ap max_of pool ∙ max-ended b.tasks.pool h e b.tasks.ends (Some t)) g was l
@@ -229,6 +232,7 @@ end-running b q queues cleared ready groups h w kind e t k g x pool count l ends
     (sizes-left b q queues cleared ready h seen_as_was t k move (ap max_of pool ∙ max-ended b.tasks.pool h e b.tasks.ends (Some t)) g was l) both.1 both.0 (ap (λ (z : QueueTable). z.tasks) l.left)
     refl k.lists (length-set b.running w None ∙ k.seats)
     (waiting-same (seen_in b.tasks.pool) (seen_in q.pool) h _ (list_at b.waiting.lists 0) move (λ s f o. none-some (sym o ∙ ap (λ (z : Seen). z.on) (some_same (sym f ∙ was)))) (λ s f o. none-some f) k.waiting_are)
+    (by-job-same (seen_in b.tasks.pool) (seen_in q.pool) h _ b.waiting.by_job move (λ s f o. none-some (sym o ∙ ap (λ (z : Seen). z.on) (some_same (sym f ∙ was)))) (λ s f o. none-some f) k.by_job)
     (running-end (seen_in b.tasks.pool) (seen_in q.pool) h w _ b.running move was refl (omega (arith, seat-below b h w kind t k g x, k.seats)) k.running_are)
     (λ s f. none-some f) (λ s f. none-some f) (omega (arith, count))
     (ap (λ (z : GroupTable). z.tasks) notes ∙ over-tasks b.groups t.notes.group h)

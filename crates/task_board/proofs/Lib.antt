@@ -2,6 +2,7 @@ pub mod SeenLemmas
 pub mod MarkLemmas
 pub mod NewLemmas
 pub mod MoveLemmas
+pub mod ByJobLemmas
 pub mod RemarkLemmas
 pub mod BoardLemmas
 pub mod RecordLemmas
@@ -12,6 +13,7 @@ pub mod GivenLemmas
 pub mod QueuedLemmas
 pub mod BelowLemmas
 pub mod OrderLemmas
+pub mod WalkedLemmas
 pub mod EndLemmas
 pub mod KeyedLemmas
 pub mod MemberLemmas

@@ -4,6 +4,7 @@ use Rattle.std.specs.Prelude.{◌&&◌, ◌==◌, is_none}
 use Rattle.std.proofs.lemmas.Bool.{false≢true, cases_Bool}
 use Rattle.std.proofs.lemmas.Bool.Decides.{nat_tests}
 use Rattle.std.proofs.lemmas.Nat.Bits.{bit_at_and, bit_at-lt}
+use Rattle.mtapi_values.specs.Conditions.{holds}
 use Rattle.mtapi_values.specs.Masks.{in_mask}
 use Rattle.mtapi_values.specs.declared.masks.Mask.{Mask}
 use Rattle.handle_pool.specs.Slots.{Slots, slot_of, slot_value, used_at}
@@ -49,6 +50,11 @@ in_mask-right w a b x = grind (arith, nat_tests, bit_at_and a b w, bit_at-lt a w
 
 pub same-number : (a b : ℕ) → (a == b) ≡ true → a ≡ b
 same-number a b e = grind (arith, nat_tests)
+
+-- what names this number
+pub named-is : (g : ℕ) (o : Option ℕ) → holds (λ h. h == g) o ≡ true → o ≡ Some g
+named-is g None e = absurd (false≢true e)
+named-is g (Some h) e = ap Some (same-number h g e)
 
 pub number-same : (a b : ℕ) → a ≡ b → (a == b) ≡ true
 number-same a b e = grind (arith, nat_tests)

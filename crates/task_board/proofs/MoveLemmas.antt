@@ -22,6 +22,7 @@ use Rattle.task_core.specs.Answers.{after_asked, waiter_after}
 use Rattle.task_core.specs.Table.{TaskTable, ended_in, looked_in}
 use Rattle.task_board.specs.Seen.{Seen, seen_as, seen, seen_in, Takes}
 use Rattle.task_board.specs.Queued.{InOrder, begins_in, AreQueued}
+use Rattle.task_board.specs.Walks.{AreByJob}
 use Rattle.task_board.specs.Board.{BoardTable, IsBoard, IsMarkOf, Marked, AreWaiting, AreRunning, AreRanked, AreStarted, running_on}
 use Rattle.group_core.specs.Members.{GroupTable}
 use Rattle.task_board.specs.Members.{members_in, AreMembers}
@@ -168,6 +169,7 @@ regrouped b q groups same max count sizes members k = record {
   room = k.room ∙ sym max;
   marked = subst (λ (f : ℕ → Option Seen). Marked b.actions (begins_in b.queues.pool) f b.ready.marks) all k.marked;
   waiting_are = subst (λ (f : ℕ → Option Seen). AreWaiting f (list_at b.waiting.lists 0)) all k.waiting_are;
+  by_job = subst (λ (f : ℕ → Option Seen). AreByJob b.settings.actions f b.waiting.by_job) all k.by_job;
   running_are = subst (λ (f : ℕ → Option Seen). AreRunning f b.running) all k.running_are;
   ranked = subst (λ (f : ℕ → Option Seen). AreRanked f b.settings.priorities) all k.ranked;
   started = subst (λ (n : ℕ). AreStarted (seen_in q.pool) n) (sym count) (subst (λ (f : ℕ → Option Seen). AreStarted f b.tasks.starts) all k.started);

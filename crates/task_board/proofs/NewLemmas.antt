@@ -14,6 +14,7 @@ use Rattle.group_core.specs.Members.{Members}
 use Rattle.task_board.specs.Seen.{seen, seen_in}
 use Rattle.queue_core.specs.Held.{HeldQueue}
 use Rattle.task_board.specs.Queued.{InOrder}
+use Rattle.task_board.specs.Walks.{AreIn, waits_at}
 use Rattle.task_board.specs.Board.{BoardTable, IsBoard, running_on}
 use Rattle.task_board.specs.Members.{membership, members_in}
 
@@ -37,8 +38,8 @@ no-some o x n e = no (sym n ∙ e)
 unmarked : (marks : List (Option Mark)) (max w p place : ℕ) → marks ≡ replicate max None → is_for_at w p (mark_at marks place) ≡ true → ⊥
 unmarked marks max w p place e f = false≢true (sym (ap (λ (l : List (Option Mark)). is_for_at w p (mark_at l place)) e ∙ ap (is_for_at w p) (none-at max place)) ∙ f)
 
-pub new-board : (b : BoardTable) (max many : ℕ) → b.settings.workers ≤ 16 → b.ready ≡ record { workers = b.settings.workers; priorities = b.settings.priorities; marks = replicate max None } → b.tasks.pool.slots ≡ replicate max (free_slot 1) → b.waiting.places ≡ max → b.waiting.lists ≡ replicate 1 [] → b.running ≡ replicate 25 None → b.queues.tasks ≡ max → b.queues.pool.slots ≡ replicate many (free_slot 1) → (count : ℕ) → b.groups.pool.slots ≡ replicate count (free_slot 1) → b.groups.tasks ≡ max → IsBoard b
-new-board b max many few ready slots places lists running room queues count groups sizes = record {
+pub new-board : (b : BoardTable) (max many : ℕ) → b.settings.workers ≤ 16 → b.ready ≡ record { workers = b.settings.workers; priorities = b.settings.priorities; marks = replicate max None } → b.tasks.pool.slots ≡ replicate max (free_slot 1) → b.waiting.places ≡ max → b.waiting.lists ≡ replicate 1 [] → 1 ≤ b.settings.actions → b.waiting.by_job ≡ replicate b.settings.actions [] → b.running ≡ replicate 25 None → b.queues.tasks ≡ max → b.queues.pool.slots ≡ replicate many (free_slot 1) → (count : ℕ) → b.groups.pool.slots ≡ replicate count (free_slot 1) → b.groups.tasks ≡ max → IsBoard b
+new-board b max many few ready slots places lists some by_job running room queues count groups sizes = record {
   members = record {
     named = λ h e f. absurd (no-some _ e (no_member h) f);
     attached = λ h e f. absurd (no-some _ e (no_member h) f);
@@ -64,6 +65,15 @@ new-board b max many few ready slots places lists running room queues count grou
     listed = λ h s e n. absurd (no-some _ s (none h) e);
     waits = λ h e. absurd (false≢true (sym (ap (λ (l : List (List ℕ)). has_handle h (list_at l 0)) lists) ∙ e));
     ordered = subst (λ (l : List (List ℕ)). InOrder (seen_in b.tasks.pool) (list_at l 0)) (sym lists) tt;
+  };
+  by_job = record {
+    some = subst (λ (n : ℕ). 1 ≤ n) (sym (ap length by_job ∙ length-replicate b.settings.actions [])) some;
+    count = ap length by_job ∙ length-replicate b.settings.actions [];
+    each = λ r less. subst (λ (l : List ℕ). AreIn (waits_at (length b.waiting.by_job) r) (seen_in b.tasks.pool) l) (sym (ap (λ (l : List (List ℕ)). list_at l r) by_job ∙ empty b.settings.actions r)) (record {
+      listed = λ h s e n. absurd (no-some _ s (none h) e);
+      is_seen = λ h e. absurd (false≢true e);
+      ordered = tt;
+    });
   };
   running_are = record {
     found = λ h w s e n. absurd (no-some _ s (none h) e);
@@ -95,3 +105,8 @@ new-board b max many few ready slots places lists running room queues count grou
 
     no_group : (g : ℕ) → slot_value b.groups.pool g ≡ None
     no_group g = ap (λ (l : List (Slot Members)). value_at (slice_get l (slot_of g)) (generation_of g)) groups ∙ get-fresh count (slot_of g) (generation_of g)
+
+    empty : (n r : ℕ) → list_at (replicate n []) r ≡ []
+    empty zero r = refl
+    empty (suc n) zero = refl
+    empty (suc n) (suc r) = empty n r

@@ -5,6 +5,7 @@ use Rattle.std.proofs.lemmas.Bool.{false≢true, cases_eq}
 use Rattle.linked_places.specs.Lists.{has_handle}
 use Rattle.task_board.specs.Seen.{Seen}
 use Rattle.task_board.specs.Queued.{InOrder}
+use Rattle.task_board.specs.Walks.{AreIn}
 use Rattle.task_board.specs.Board.{AreWaiting}
 use Rattle.task_board.proofs.MoveLemmas.{Put, or-right, or-only, eq-other, has-self, order-same}
 
@@ -12,7 +13,7 @@ use Rattle.task_board.proofs.MoveLemmas.{Put, or-right, or-only, eq-other, has-s
 behind : (k x : ℕ) (xs : List ℕ) → x ≢ k → has_handle k (x ∷ xs) ≡ true → has_handle k xs ≡ true
 behind k x xs d e = or-only (x == k) (has_handle k xs) (eq-other x k (λ z. d (sym z))) e
 
-not-twice : (at : ℕ → Option Seen) (x : ℕ) (xs : List ℕ) (s : Seen) → at x ≡ Some s → InOrder at (x ∷ xs) → has_handle x xs ≡ true → ⊥
+pub not-twice : (at : ℕ → Option Seen) (x : ℕ) (xs : List ℕ) (s : Seen) → at x ≡ Some s → InOrder at (x ∷ xs) → has_handle x xs ≡ true → ⊥
 not-twice at x xs s a o e = let less = o.0 x s s e a a in omega (arith, less)
 
 -- two lists in the order of starts that have the same handles are the same
@@ -57,6 +58,12 @@ waiting-once at xs ys a b =
     same-order at xs ys (λ h e. let s = a.waits h e in (s.0, s.1)) a.ordered b.ordered
     (λ h e. let s = a.waits h e in b.listed h s.0 s.1 s.2) (λ h e. let s = b.waits h e in a.listed h s.0 s.1 s.2)
 
+-- and so have the tasks that are seen so
+pub walked-once : (m : Seen → Bool) (at : ℕ → Option Seen) (xs ys : List ℕ) → AreIn m at xs → AreIn m at ys → xs ≡ ys
+walked-once m at xs ys a b =
+    same-order at xs ys (λ h e. let s = a.is_seen h e in (s.0, s.1)) a.ordered b.ordered
+    (λ h e. let s = a.is_seen h e in b.listed h s.0 s.1 s.2) (λ h e. let s = b.is_seen h e in a.listed h s.0 s.1 s.2)
+
 -- One of them leaves
 
 has-middle : (k h : ℕ) (kept rest : List ℕ) → has_handle k (kept ++ rest) ≡ true → has_handle k (kept ++ h ∷ rest) ≡ true
@@ -90,15 +97,15 @@ order-beside : (at : ℕ → Option Seen) (h : ℕ) (kept rest : List ℕ) → I
 order-beside at h [] rest o = o.1
 order-beside at h (x ∷ kept) rest o = (λ k s u e f g. o.0 k s u (has-middle k h kept rest e) f g, order-beside at h kept rest o.1)
 
-pub waiting-beside : (at after : ℕ → Option Seen) (h : ℕ) (kept rest : List ℕ) → Put at h None after → AreWaiting at (kept ++ h ∷ rest) → AreWaiting after (kept ++ rest)
-waiting-beside at after h kept rest move old = record {
+pub walked-beside : (m : Seen → Bool) (at after : ℕ → Option Seen) (h : ℕ) (kept rest : List ℕ) → Put at h None after → AreIn m at (kept ++ h ∷ rest) → AreIn m after (kept ++ rest)
+walked-beside m at after h kept rest move old = record {
   listed = λ k u e n. elim (cases_eq k h) [
     | inl here ↦ absurd (gone u (sym move.here ∙ ap after (sym here) ∙ e))
     | inr away ↦ has-beside k h kept rest away (old.listed k u (sym (move.others k away) ∙ e) n)
   ];
-  waits = λ k e. elim (cases_eq k h) [
+  is_seen = λ k e. elim (cases_eq k h) [
     | inl here ↦ absurd (apart (ap (λ (z : ℕ). has_handle z (kept ++ rest)) (sym here) ∙ e))
-    | inr away ↦ let was = old.waits k (has-middle k h kept rest e) in (was.0, move.others k away ∙ was.1, was.2)
+    | inr away ↦ let was = old.is_seen k (has-middle k h kept rest e) in (was.0, move.others k away ∙ was.1, was.2)
   ];
   ordered = order-same at after (kept ++ rest) (λ k e. move.others k (λ here. apart (ap (λ (z : ℕ). has_handle z (kept ++ rest)) (sym here) ∙ e))) (order-beside at h kept rest old.ordered);
 }
@@ -106,8 +113,8 @@ waiting-beside at after h kept rest move old = record {
     gone : (u : Seen) → None ≡ Some u → ⊥
     gone u e = cc
 
-    mine : (s : Seen) × (at h ≡ Some s) × (s.on ≡ None)
-    mine = old.waits h (has-itself h kept rest)
+    mine : (s : Seen) × (at h ≡ Some s) × (m s ≡ true)
+    mine = old.is_seen h (has-itself h kept rest)
 
     apart : has_handle h (kept ++ rest) ≡ true → ⊥
     apart e = not-beside at h mine.0 kept rest mine.1 old.ordered e

@@ -1,5 +1,5 @@
 -- Marks made anew for the waiting tasks of one job.
-use Rattle.std.proofs.Common.{◌≡◌, ◌≢◌, ℕ, zero, suc, ◌<◌, ◌+◌, Bool, true, List, [], ◌∷◌, length, length-set, Option, Some, None, set, slice_get, refl, sym, ◌∙◌, ap, subst, inl, inr, arith}
+use Rattle.std.proofs.Common.{◌≡◌, ◌≢◌, ◌⊎◌, ℕ, zero, suc, ◌<◌, ◌+◌, Bool, true, List, [], ◌∷◌, length, length-set, Option, Some, None, set, slice_get, refl, sym, ◌∙◌, ap, subst, inl, inr, arith}
 use Rattle.std.specs.Prelude.{◌==◌}
 use Rattle.std.proofs.lemmas.Bool.{cases_eq, cases_Bool}
 use Rattle.std.proofs.lemmas.List.{get_or-set_same, get_or-set_other}
@@ -9,6 +9,7 @@ use Rattle.handle_pool.specs.Slots.{Slots, slot_of, slot_value, max_of, Inserts,
 use Rattle.handle_pool.proofs.WalkLemmas.{slot_of-live}
 use Rattle.handle_pool.proofs.GetLemmas.{get-with_value_same, get-with_value_other, get-insert_same, get-insert_before, get-insert_other, get-without_same, get-without_other}
 use Rattle.std.specs.Option.{option_map}
+use Rattle.linked_places.specs.Lists.{has_handle}
 use Rattle.linked_places.proofs.NextLemmas.{has-index, index-has}
 use Rattle.ready_index.specs.declared.marks.Mark.{Mark}
 use Rattle.ready_index.specs.Marks.{ReadyMarks, mark_at, is_for_at}
@@ -18,7 +19,8 @@ use Rattle.mtapi_values.specs.Masks.{in_mask}
 use Rattle.job_table.specs.Answers.{runs_job_on, IsUnion, Passes}
 use Rattle.mtapi_objects.specs.Tasks.{Task}
 use Rattle.task_board.specs.Seen.{Seen, seen_in, Takes}
-use Rattle.task_board.specs.Board.{IsMarkOf, Marked, AreWaiting, IsFresh, IsFreshFor, StandsBefore, Remarked}
+use Rattle.task_board.specs.Walks.{AreSeen}
+use Rattle.task_board.specs.Board.{IsMarkOf, Marked, IsFresh, IsFreshFor, StandsBefore, Remarked}
 use Rattle.task_board.proofs.SeenLemmas.{some_same, seen-live}
 use Rattle.task_board.proofs.MarkLemmas.{and_left, and_right, same-number}
 use Rattle.task_board.proofs.MoveLemmas.{alone}
@@ -27,8 +29,8 @@ use Rattle.task_board.proofs.MoveLemmas.{alone}
 pub seen-slot : (p : Slots Task) (h : ℕ) (s : Seen) → seen_in p h ≡ Some s → slot_of h < max_of p
 seen-slot p h s e = let t = seen-live p h s e in slot_of-live p h t.0 t.1
 
-pub waiting-slot : (p : Slots Task) (hs : List ℕ) (i h : ℕ) → AreWaiting (seen_in p) hs → slice_get hs i ≡ Some h → slot_of h < max_of p
-waiting-slot p hs i h w e = let s = w.waits h (index-has h i hs e) in seen-slot p h s.0 s.1
+pub walked-slot : (p : Slots Task) (hs : List ℕ) (i h : ℕ) → AreSeen (seen_in p) hs → slice_get hs i ≡ Some h → slot_of h < max_of p
+walked-slot p hs i h w e = let s = w h (index-has h i hs e) in seen-slot p h s.0 s.1
 
 mark-here : (marks : List (Option Mark)) (place : ℕ) (m : Option Mark) → place < length marks → mark_at (set marks place m) place ≡ m
 mark-here marks place m less = get_or-set_same marks place m None less
@@ -46,7 +48,7 @@ remarked-none actions lets at job hs r = record {
 }
 
 -- a handle more
-module _ (actions : Slots Action) (lets : ℕ → Option ℕ → Bool) (p : Slots Task) (job : ℕ) (hs : List ℕ) (index h : ℕ) (old now new : ReadyMarks) (waits : AreWaiting (seen_in p) hs) (is : slice_get hs index ≡ Some h) (less : slot_of h < length now.marks) (done : Remarked actions lets (seen_in p) job hs index old now) where
+module _ (actions : Slots Action) (lets : ℕ → Option ℕ → Bool) (p : Slots Task) (job : ℕ) (hs : List ℕ) (index h : ℕ) (old now new : ReadyMarks) (waits : AreSeen (seen_in p) hs) (is : slice_get hs index ≡ Some h) (less : slot_of h < length now.marks) (done : Remarked actions lets (seen_in p) job hs index old now) where
   wider : (place : ℕ) → StandsBefore (seen_in p) job hs index place → StandsBefore (seen_in p) job hs (index + 1) place
   wider place b = record { i = b.i; h = b.h; s = b.s; before = omega (arith, b.before); stands = b.stands; is = b.is; has_job = b.has_job; slot = b.slot }
 
@@ -72,7 +74,7 @@ module _ (actions : Slots Action) (lets : ℕ → Option ℕ → Bool) (p : Slot
     slots = length-set now.marks (slot_of h) f.mark ∙ done.slots;
     fresh = λ i k s before e g j. elim (cases_eq (slot_of k) (slot_of h)) [
       | inl beside ↦
-          let s_is = waits.waits h (index-has h index hs is) in
+          let s_is = waits h (index-has h index hs is) in
           let same = alone p h k s_is.0 s s_is.1 g beside in
           subst (λ (m : Option Mark). IsMarkOf actions (lets k) (seen_in p k) m) (sym (ap (mark_at (set now.marks (slot_of h) f.mark)) beside ∙ mark-here now.marks (slot_of h) f.mark less))
           (subst (λ (j : ℕ). IsMarkOf actions (lets j) (seen_in p j) f.mark) (sym same) f.right)
@@ -83,7 +85,7 @@ module _ (actions : Slots Action) (lets : ℕ → Option ℕ → Bool) (p : Slot
     ];
     others = λ place. elim (cases_eq place (slot_of h)) [
       | inl here ↦
-          let s = waits.waits h (index-has h index hs is) in
+          let s = waits h (index-has h index hs is) in
           inr (record { i = index; h = h; s = s.0; before = omega arith; stands = is; is = s.1; has_job = mine s.0 s.1; slot = sym here })
       | inr away ↦ elim (done.others place) [
         | inl e ↦ inl (mark-away now.marks (slot_of h) place f.mark away ∙ e)
@@ -167,42 +169,59 @@ takes-back job old new lets now w s same d steady k = record {
   action = (k.action.0, k.action.1, same.back k.action.0 k.action.1 (λ e. d (sym (runs-job s.job w k.action.1 k.action.3) ∙ e)) k.action.2, k.action.3);
 }
 
--- the queues let the same tasks of all other jobs begin
-abbrev pub SteadyBut : ℕ → (ℕ → Option ℕ → Bool) → (ℕ → Option ℕ → Bool) → (ℕ → Option Seen) → Type 0
-SteadyBut job lets now at = (h : ℕ) (s : Seen) → at h ≡ Some s → (s.job ≡ job → ⊥) → s.on ≡ None → now h s.queue ≡ lets h s.queue
+-- the same workers may take the task
+pub record TakenBy (old new : Slots Action) (lets now : Option ℕ → Bool) (s : Seen) : Type 0 where
+  pub there : (w : ℕ) → Takes old lets w s → Takes new now w s
+  pub back : (w : ℕ) → Takes new now w s → Takes old lets w s
 
--- the marks are right for the other actions and queues once the waiting tasks of the job are marked anew
-pub marked-anew : (old new : Slots Action) (lets now : ℕ → Option ℕ → Bool) (p : Slots Task) (job : ℕ) (hs : List ℕ) (was after : ReadyMarks) → SameBut job old new → SteadyBut job lets now (seen_in p) → AreWaiting (seen_in p) hs → Remarked new now (seen_in p) job hs (length hs) was after → Marked old lets (seen_in p) was.marks → Marked new now (seen_in p) after.marks
-marked-anew old new lets now p job hs was after same steady waits done m = record {
+-- a task of another job
+pub taken-other : (job : ℕ) (old new : Slots Action) (lets : Option ℕ → Bool) (s : Seen) → SameBut job old new → (s.job ≡ job → ⊥) → TakenBy old new lets lets s
+taken-other job old new lets s same d = record {
+  there = λ w k. takes-there job old new lets lets w s same d refl k;
+  back = λ w k. takes-back job old new lets lets w s same d refl k;
+}
+
+-- a task whose queue lets it begin as before
+pub taken-steady : (actions : Slots Action) (lets now : Option ℕ → Bool) (s : Seen) → now s.queue ≡ lets s.queue → TakenBy actions actions lets now s
+taken-steady actions lets now s steady = record {
+  there = λ w k. record { waits = k.waits; queue = steady ∙ k.queue; core = k.core; action = k.action };
+  back = λ w k. record { waits = k.waits; queue = sym steady ∙ k.queue; core = k.core; action = k.action };
+}
+
+-- the marks are right for the other actions and queues once the tasks of the job in this list are marked anew, where all others may be
+-- taken as before
+pub marked-anew : (old new : Slots Action) (lets now : ℕ → Option ℕ → Bool) (p : Slots Task) (job : ℕ) (hs : List ℕ) (was after : ReadyMarks) → ((h : ℕ) (s : Seen) → seen_in p h ≡ Some s → s.on ≡ None → ((has_handle h hs ≡ true) × (s.job ≡ job)) ⊎ TakenBy old new (lets h) (now h) s) → Remarked new now (seen_in p) job hs (length hs) was after → Marked old lets (seen_in p) was.marks → Marked new now (seen_in p) after.marks
+marked-anew old new lets now p job hs was after others done m = record {
   sound = λ w q place e. elim (done.others place) [
     | inl kept ↦
         let s = m.sound w q place (ap (is_for_at w q) (sym kept) ∙ e) in
-        elim (cases_eq s.1.job job) [
+        elim (others s.0 s.1 s.3 s.5.waits) [
           | inl mine ↦
-              let f = (fresh s.0 s.1 s.3 mine s.5.waits).sound w q (ap (λ (k : ℕ). is_for_at w q (mark_at after.marks k)) s.2 ∙ e) in
+              let f = (fresh s.0 s.1 s.3 mine.0 mine.1).sound w q (ap (λ (k : ℕ). is_for_at w q (mark_at after.marks k)) s.2 ∙ e) in
               (s.0, f.0, s.2, f.1, f.2, f.3)
-          | inr other ↦ (s.0, s.1, s.2, s.3, s.4, takes-there job old new (lets s.0) (now s.0) w s.1 same other (steady s.0 s.1 s.3 other s.5.waits) s.5)
+          | inr other ↦ (s.0, s.1, s.2, s.3, s.4, other.there w s.5)
         ]
     | inr b ↦
         let f = (done.fresh b.i b.h b.s b.before b.stands b.is b.has_job).sound w q (ap (λ (k : ℕ). is_for_at w q (mark_at after.marks k)) b.slot ∙ e) in
         (b.h, f.0, b.slot, f.1, f.2, f.3)
   ];
-  whole = λ w h s e k. elim (cases_eq s.job job) [
-    | inl mine ↦ (fresh h s e mine k.waits).whole w s e k
+  whole = λ w h s e k. elim (others h s e k.waits) [
+    | inl mine ↦ (fresh h s e mine.0 mine.1).whole w s e k
     | inr other ↦
-        let kept = m.whole w h s e (takes-back job old new (lets h) (now h) w s same other (steady h s e other k.waits) k) in
+        let kept = m.whole w h s e (other.back w k) in
         elim (done.others (slot_of h)) [
           | inl as_was ↦ ap (is_for_at w s.priority) as_was ∙ kept
           | inr b ↦
               let is = alone p b.h h b.s s b.is e (sym b.slot) in
-              absurd (other (ap (λ (x : Seen). x.job) (some_same (sym e ∙ ap (seen_in p) is ∙ b.is)) ∙ b.has_job))
+              let f = subst (λ (j : ℕ). IsMarkOf new (now j) (seen_in p j) (mark_at after.marks (slot_of j))) (sym is) (done.fresh b.i b.h b.s b.before b.stands b.is b.has_job) in
+              f.whole w s e k
         ]
   ];
 }
   where
-    fresh : (h : ℕ) (s : Seen) → seen_in p h ≡ Some s → s.job ≡ job → s.on ≡ None → IsMarkOf new (now h) (seen_in p h) (mark_at after.marks (slot_of h))
-    fresh h s e j n =
-        let i = has-index h hs (waits.listed h s e n) in
+    fresh : (h : ℕ) (s : Seen) → seen_in p h ≡ Some s → has_handle h hs ≡ true → s.job ≡ job → IsMarkOf new (now h) (seen_in p h) (mark_at after.marks (slot_of h))
+    fresh h s e has j =
+        let i = has-index h hs has in
         done.fresh i.0 h s (slice_get_within hs i.0 h i.1) i.1 e j
 
 -- The same cores

@@ -3,7 +3,7 @@ use Rattle.std.specs.Prelude.{◌≡◌, ◌⊎◌, ℕ, ◌<◌, ◌≤◌, Boo
 use Rattle.mtapi_values.specs.Attributes.{NodeSettings}
 use Rattle.mtapi_values.specs.declared.handles.TaskHandle.{TaskHandle}
 use Rattle.handle_pool.specs.Slots.{Slots, slot_of, slot_value, max_of}
-use Rattle.linked_places.specs.Lists.{HandleLists, list_at, has_handle}
+use Rattle.linked_places.specs.Lists.{list_at, has_handle}
 use Rattle.ready_index.specs.declared.marks.Mark.{Mark}
 use Rattle.ready_index.specs.Marks.{ReadyMarks, mark_at, is_for_at}
 use Rattle.mtapi_objects.specs.Actions.{Action}
@@ -17,6 +17,8 @@ use Rattle.task_board.specs.Members.{without_members, members_in, AreMembers}
 use Rattle.task_board.specs.Seen.{Seen, seen_in, Takes}
 use Rattle.task_board.specs.Queued.{InOrder, begins_in, AreQueued}
 use Rattle.task_board.specs.Mapped.{mapped}
+use Rattle.task_board.specs.Waiting.{WaitingTable}
+use Rattle.task_board.specs.Walks.{AreByJob}
 
 pub record BoardTable : Type 0 where
   pub settings : NodeSettings
@@ -24,7 +26,7 @@ pub record BoardTable : Type 0 where
   pub tasks : TaskTable
   pub queues : QueueTable
   pub ready : ReadyMarks
-  pub waiting : HandleLists
+  pub waiting : WaitingTable
   pub running : List (Option TaskHandle)
   pub groups : GroupTable
 
@@ -76,6 +78,7 @@ pub record IsBoard (b : BoardTable) : Type 0 where
   pub room : b.queues.tasks ≡ max_of b.tasks.pool
   pub marked : Marked b.actions (begins_in b.queues.pool) (seen_in b.tasks.pool) b.ready.marks
   pub waiting_are : AreWaiting (seen_in b.tasks.pool) (list_at b.waiting.lists 0)
+  pub by_job : AreByJob b.settings.actions (seen_in b.tasks.pool) b.waiting.by_job
   pub running_are : AreRunning (seen_in b.tasks.pool) b.running
   pub ranked : AreRanked (seen_in b.tasks.pool) b.settings.priorities
   pub started : AreStarted (seen_in b.tasks.pool) b.tasks.starts

@@ -12,6 +12,8 @@ use Rattle.job_table.specs.Answers.{IsUnion}
 use Rattle.task_core.specs.Table.{TaskTable, ended_in}
 use Rattle.task_board.specs.declared.ends.WaitingTest.{WaitingTest}
 use Rattle.task_board.specs.declared.ends.WaitingTest.TheVariants.{Unserved, InQueue, Shut}
+use Rattle.task_board.specs.declared.walks.Walk.{Walk}
+use Rattle.task_board.specs.declared.walks.Walk.TheVariants.{Waiting, OfJob, Queued}
 use Rattle.task_board.specs.Seen.{seen_in}
 use Rattle.task_board.specs.Board.{AreWaiting}
 
@@ -32,6 +34,16 @@ abbrev pub passes : ℕ → Slots Queue → WaitingTest → Task → Bool
 passes workers queues (Unserved job cores) t = is_unserved workers job cores.0 t
 passes workers queues (InQueue queue) t = is_in queue.0 t
 passes workers queues Shut t = is_shut queues t.queue
+
+-- the task hasn't begun, and passes the test
+abbrev pub ends_by : ℕ → Slots Queue → WaitingTest → Task → Bool
+ends_by workers queues test t = is_unstarted t && passes workers queues test t
+
+-- a walk that has each task that hasn't begun and passes the test
+abbrev pub walk_of : WaitingTest → Walk
+walk_of (Unserved job cores) = OfJob job
+walk_of (InQueue queue) = Queued queue
+walk_of Shut = Waiting
 
 -- the tasks once this one has ended, with the next number of an end
 abbrev pub ended_next : TaskEnd → ℕ → TaskTable → TaskTable

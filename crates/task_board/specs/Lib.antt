@@ -1,6 +1,8 @@
 pub mod Picks
 pub mod Seen
 pub mod Queued
+pub mod Waiting
+pub mod Walks
 pub mod Board
 pub mod Mapped
 pub mod Ends

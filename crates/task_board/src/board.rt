@@ -23,15 +23,17 @@ ghost use Rattle.task_board.specs.Queued.{IsRoomFor, NoneWaitsIn};
 ghost use Rattle.task_board.specs.Members.{MayJoin};
 ghost use Rattle.task_board.specs.GroupMoves.{Regroups, TakesFirst, LeavesFirst};
 ghost use Rattle.task_board.specs.Board.{IsBoard, Becomes, BecomesWith};
+ghost use Rattle.task_board.specs.Walks.{walked};
 
 use crate::covered::CoveredActions;
 use crate::ends::{cores_beside, covered_cores};
 use crate::marks::{clear, leave_queue, may_run, refresh, remark, remark_where_changed};
 use crate::members::{join, note_end};
+use crate::waiting::WaitingTasks;
+use crate::walks::{Walk, count_in, first_in, next_in};
 use group_core::Groups;
 use handle_pool::slot_of;
 use job_table::Cover;
-use linked_places::LinkedLists;
 use mtapi_values::{
     ActionHandle, Args, GroupHandle, Kind, Mask, MtapiStatus, NodeAttr, QueueAttr, QueueHandle,
     TaskEnd, TaskHandle,
@@ -64,8 +66,8 @@ pub struct Board {
     queues: Queues,
     // The tasks that a worker may take.
     ready: ReadyIndex,
-    // One list: the tasks that haven't begun.
-    waiting: LinkedLists,
+    // The tasks that haven't begun.
+    waiting: WaitingTasks,
     // The task that runs on each worker.
     running: [Option<TaskHandle>; 25],
     // The groups, each with its members.
@@ -122,17 +124,19 @@ fn new_tables(alloc: Global, attr: NodeAttr) -> Result<(CoveredActions, Tasks, Q
 fn new_places(
     alloc: Global,
     attr: NodeAttr,
-) -> Result<(ReadyIndex, LinkedLists, Groups), AllocError>
+) -> Result<(ReadyIndex, WaitingTasks, Groups), AllocError>
     ensures few { attr.workers ≤ 16 }
+    ensures some { 1 ≤ attr.actions }
     ensures ready { IfOk result (λ t. t.0 ≡ record { workers = attr.workers; priorities = attr.priorities; marks = replicate attr.tasks None }) }
     ensures places { IfOk result (λ t. t.1.places ≡ attr.tasks) }
     ensures lists { IfOk result (λ t. t.1.lists ≡ replicate 1 []) }
+    ensures by_job { IfOk result (λ t. t.1.by_job ≡ replicate attr.actions []) }
     ensures group_turns { IfOk result (λ t. t.2.pool.generations ≡ attr.generations) }
     ensures group_slots { IfOk result (λ t. t.2.pool.slots ≡ replicate attr.groups (free_slot 1)) }
     ensures group_tasks { IfOk result (λ t. t.2.tasks ≡ attr.tasks) }
 {
     let ready = ReadyIndex::new(alloc, attr.tasks(), attr.workers(), attr.priorities())?;
-    let waiting = LinkedLists::new(alloc, 1, attr.tasks())?;
+    let waiting = WaitingTasks::new(alloc, attr.actions(), attr.tasks())?;
     let groups = Groups::new(alloc, attr.groups(), attr.generations(), attr.tasks())?;
     Ok((ready, waiting, groups))
 }
@@ -275,26 +279,26 @@ impl Board {
         self.tasks.watch_end(t, worker)
     }
 
-    // How many tasks haven't begun.
-    pub(crate) fn waiting_count(&self) -> u32
-        ensures { result ≡ length (list_at self.now.waiting.lists 0) }
+    // How many tasks a walk has.
+    pub(crate) fn walked_count(&self, walk: Walk) -> u32
+        ensures { result ≡ length (walked walk self.now.waiting self.now.queues.pool) }
     {
-        self.waiting.len(0)
+        count_in(&self.waiting, &self.queues, walk)
     }
 
-    // The first of the tasks that haven't begun.
-    pub(crate) fn first_waiting(&self) -> Option<u64>
-        ensures { result ≡ slice_get (list_at self.now.waiting.lists 0) 0 }
+    // The first task of a walk.
+    pub(crate) fn first_walked(&self, walk: Walk) -> Option<u64>
+        ensures { result ≡ slice_get (walked walk self.now.waiting self.now.queues.pool) 0 }
     {
-        self.waiting.first(0)
+        first_in(&self.waiting, &self.queues, walk)
     }
 
-    // The task after this one, of those that haven't begun.
-    pub(crate) fn next_waiting(&self, task: u64) -> Option<u64>
-        requires { has_handle task (list_at self.now.waiting.lists 0) ≡ true }
-        ensures { (i : ℕ) → slice_get (list_at self.now.waiting.lists 0) i ≡ Some task → result ≡ slice_get (list_at self.now.waiting.lists 0) (i + 1) }
+    // The task after this one of a walk.
+    pub(crate) fn next_walked(&self, walk: Walk, task: u64) -> Option<u64>
+        requires { has_handle task (walked walk self.now.waiting self.now.queues.pool) ≡ true }
+        ensures { (i : ℕ) → slice_get (walked walk self.now.waiting self.now.queues.pool) i ≡ Some task → result ≡ slice_get (walked walk self.now.waiting self.now.queues.pool) (i + 1) }
     {
-        self.waiting.next(task)
+        next_in(&self.waiting, &self.queues, walk, task)
     }
 
     /// Whether a task runs on the worker.
@@ -506,9 +510,10 @@ impl Board {
         ensures new { Becomes self.old self.new self.old.actions self.new.tasks }
     {
         let group = task.group;
+        let job = task.job;
         match self.tasks.add(task) {
             Ok(task) => {
-                self.waiting.push(0, task.0);
+                self.waiting.push(job, task.0);
                 refresh(
                     &mut self.ready,
                     &self.actions,
@@ -545,10 +550,11 @@ impl Board {
         ensures new { Becomes self.old self.new self.old.actions self.new.tasks }
     {
         let group = task.group;
+        let job = task.job;
         self.queues.is_kept();
         match self.tasks.add(task) {
             Ok(task) => {
-                self.waiting.push(0, task.0);
+                self.waiting.push(job, task.0);
                 put_in(&mut self.queues, queue, task);
                 refresh(
                     &mut self.ready,
@@ -573,7 +579,10 @@ impl Board {
         ensures new { Becomes self.old self.new self.old.actions (record self.old.tasks { pool = changed self.old.tasks.pool choice.task.0 (with_state (Running worker choice.kind)) }) }
     {
         let _ = self.settings.workers();
-        self.waiting.remove(0, choice.task.0);
+        let Some(task) = self.tasks.get(choice.task) else {
+            unreachable!()
+        };
+        self.waiting.remove(task.job(), choice.task.0);
         clear(&mut self.ready, slot_of(choice.task.0));
         self.running[worker as usize] = Some(choice.task);
         self.tasks.run_on(choice.task, worker, choice.kind)
@@ -588,6 +597,7 @@ impl Board {
             unreachable!()
         };
         let state = task.state();
+        let job = task.job();
         let queue = task.queue();
         let group = task.group();
         self.queues.is_kept();
@@ -603,7 +613,7 @@ impl Board {
         );
         note_end(&mut self.groups, group, t);
         match state {
-            TaskState::Scheduled => self.waiting.remove(0, t.0),
+            TaskState::Scheduled => self.waiting.remove(job, t.0),
             TaskState::Running { worker, .. } => self.running[worker as usize] = None,
             TaskState::Ended => unreachable!(),
         }
@@ -650,19 +660,7 @@ impl Board {
         ensures reply { result ≡ live_reply (slot_value self.old.queues.pool q.0) }
         ensures new { BecomesWith self.old self.new (changed self.old.queues.pool q.0 (with_opened true)) }
     {
-        let Some(facts) = self.queues.facts(q) else {
-            return Err(MtapiStatus::ErrQueueInvalid);
-        };
-        let result = self.queues.enable(q);
-        remark(
-            &mut self.ready,
-            &self.waiting,
-            &self.tasks,
-            &self.queues,
-            &self.actions,
-            facts.job,
-        );
-        result
+        self.open_queue(q, true)
     }
 
     /// Has no further task of a queue begin, as `Queues::disable` says it.
@@ -670,16 +668,25 @@ impl Board {
         ensures reply { result ≡ live_reply (slot_value self.old.queues.pool q.0) }
         ensures new { BecomesWith self.old self.new (changed self.old.queues.pool q.0 (with_opened false)) }
     {
+        self.open_queue(q, false)
+    }
+
+    // Enables or disables a queue, and marks its tasks anew.
+    fn open_queue(&mut self, q: QueueHandle, enabled: bool) -> Result<(), MtapiStatus>
+        ensures reply { result ≡ live_reply (slot_value self.old.queues.pool q.0) }
+        ensures new { BecomesWith self.old self.new (changed self.old.queues.pool q.0 (with_opened enabled)) }
+    {
         let Some(facts) = self.queues.facts(q) else {
             return Err(MtapiStatus::ErrQueueInvalid);
         };
-        let result = self.queues.disable(q);
+        let result = self.queues.set_enabled(q, enabled);
         remark(
             &mut self.ready,
             &self.waiting,
             &self.tasks,
             &self.queues,
             &self.actions,
+            Walk::Queued(q),
             facts.job,
         );
         result

@@ -1,24 +1,23 @@
 //! Ends of waiting tasks, many at once.
 
-ghost use Rattle.std.specs.Prelude.{◌≡◌, ◌==◌, ℕ, Some, None, true, ◌<◌};
+ghost use Rattle.std.specs.Prelude.{◌≡◌, ◌==◌, ℕ, Some, None, IsSome};
 ghost use Rattle.mtapi_values.specs.Conditions.{holds};
 ghost use Rattle.handle_pool.specs.Slots.{Slots, slot_value};
 ghost use Rattle.mtapi_values.specs.declared.ends.TaskEnd.TheVariants.{Failed, Cancelled};
 ghost use Rattle.mtapi_objects.specs.Actions.{Action};
-ghost use Rattle.mtapi_objects.specs.Tasks.{is_unstarted};
 ghost use Rattle.job_table.specs.Answers.{Covers, IsUnion};
-ghost use Rattle.task_core.specs.Table.{IsLiveAnd};
 ghost use Rattle.mtapi_objects.specs.Queues.{is_in};
 ghost use Rattle.task_core.specs.Records.{queue_number};
 ghost use Rattle.task_board.specs.Board.{IsBoard, Becomes, records_of};
-ghost use Rattle.task_board.specs.Ends.{is_shut, passes, ended_if, AreServed, EndsWaiting, EndsUnserved, EndsUnless};
+ghost use Rattle.task_board.specs.Ends.{is_shut, passes, walk_of, ends_by, ended_if, AreServed, EndsWaiting, EndsUnserved, EndsUnless};
 
 use crate::board::Board;
 use crate::cores::share_core;
 use crate::covered::CoveredActions;
+use crate::walks::Walk;
 use job_table::Cover;
 use mtapi_values::{ActionHandle, Mask, MtapiStatus, QueueHandle, TaskEnd, TaskHandle};
-use task_core::TaskRecord;
+use task_core::{TaskRecord, TaskState};
 
 /// Which of the tasks that haven't begun a call ends.
 #[derive(Clone, Copy, Drop)]
@@ -29,6 +28,19 @@ pub enum WaitingTest {
     InQueue { queue: QueueHandle },
     /// Those that name a queue that is disabled.
     Shut,
+}
+
+impl WaitingTest {
+    // A walk that has each task that hasn't begun and passes.
+    fn walk(self) -> Walk
+        ensures { result ≡ walk_of self }
+    {
+        match self {
+            WaitingTest::InQueue { queue } => Walk::Queued(queue),
+            WaitingTest::Unserved { job, .. } => Walk::OfJob(job),
+            WaitingTest::Shut => Walk::Waiting,
+        }
+    }
 }
 
 // Whether there is a queue, and it is this one.
@@ -89,31 +101,32 @@ impl Board {
         }
     }
 
-    // Ends a task that hasn't begun, if it passes.
+    // Ends a live task, if it hasn't begun and passes.
     fn end_if(&mut self, task: TaskHandle, test: WaitingTest, end: &TaskEnd)
-        requires { IsLiveAnd is_unstarted (slot_value self.old.tasks.pool task.0) }
-        ensures new { Becomes self.old self.new self.old.actions (ended_if (passes self.old.settings.workers (records_of self.old.queues.pool) test) end.now task.0 self.old.tasks) }
+        requires { IsSome (slot_value self.old.tasks.pool task.0) }
+        ensures new { Becomes self.old self.new self.old.actions (ended_if (ends_by self.old.settings.workers (records_of self.old.queues.pool) test) end.now task.0 self.old.tasks) }
         ensures kept { IsBoard self.new }
     {
         let Some(record) = self.task(task) else {
             unreachable!()
         };
-        if self.passes(test, record) {
+        if matches!(record.state(), TaskState::Scheduled) && self.passes(test, record) {
             self.end_with(task, end.again());
         }
         self.is_kept();
     }
 
-    // Ends each task that hasn't begun and passes, in the order of their starts. It visits each of those that haven't begun once.
+    // Ends each task that hasn't begun and passes, in the order of their starts. It visits each of the list that the test asks for once.
     fn end_waiting(&mut self, test: WaitingTest, end: &TaskEnd)
         ensures new { Becomes self.old self.new self.old.actions self.new.tasks }
         ensures ends { EndsWaiting (passes self.old.settings.workers (records_of self.old.queues.pool) test) end.now self.old.tasks self.new.tasks }
     {
         self.is_kept();
-        let mut next = self.first_waiting();
-        for _index in 0..self.waiting_count() {
+        let walk = test.walk();
+        let mut next = self.first_walked(walk);
+        for _index in 0..self.walked_count(walk) {
             let Some(task) = next else { unreachable!() };
-            next = self.next_waiting(task);
+            next = self.next_walked(walk, task);
             self.end_if(TaskHandle(task), test, end);
         }
     }

@@ -8,6 +8,8 @@ pub mod covered;
 pub mod ends;
 pub mod marks;
 pub mod members;
+pub mod waiting;
+pub mod walks;
 
 pub use board::{Board, Choice};
 pub use cores::share_core;

@@ -4,7 +4,7 @@ ghost use Rattle.std.specs.Prelude.{◌≡◌, ◌<◌, ◌==◌, ℕ, Bool, Opt
 ghost use Rattle.handle_pool.specs.Slots.{Slots, slot_of, slot_value, max_of};
 ghost use Rattle.mtapi_objects.specs.Actions.{Action};
 ghost use Rattle.job_table.specs.Answers.{Covers};
-ghost use Rattle.linked_places.specs.Lists.{list_at, has_handle};
+ghost use Rattle.linked_places.specs.Lists.{has_handle};
 ghost use Rattle.mtapi_objects.specs.Tasks.{is_unstarted};
 ghost use Rattle.task_core.specs.Records.{queue_number};
 ghost use Rattle.queue_core.specs.Held.{HeldQueue, first_task};
@@ -12,14 +12,17 @@ ghost use Rattle.mtapi_values.specs.Conditions.{holds};
 ghost use Rattle.mtapi_values.specs.Masks.{in_mask};
 ghost use Rattle.task_board.specs.Seen.{seen, seen_in};
 ghost use Rattle.task_board.specs.Queued.{begins_in, left_queue, head_of};
-ghost use Rattle.task_board.specs.Board.{IsMarkOf, AreRanked, AreWaiting, IsFresh, IsFreshAt, IsFreshFor, Remarked, RemarkedUnless};
+ghost use Rattle.task_board.specs.Board.{IsMarkOf, AreRanked, IsFresh, IsFreshAt, IsFreshFor, Remarked, RemarkedUnless};
+ghost use Rattle.task_board.specs.Walks.{walked, AreSeen};
+ghost use Rattle.task_board.specs.Waiting.{job_list};
 
 use crate::cores::has_core;
 use crate::covered::CoveredActions;
 use crate::ends::covered_cores;
+use crate::waiting::WaitingTasks;
+use crate::walks::{Walk, count_in, first_in, next_in};
 use handle_pool::slot_of;
 use job_table::Cover;
-use linked_places::LinkedLists;
 use mtapi_values::{Mask, QueueHandle, TaskHandle};
 use queue_core::Queues;
 use ready_index::{Mark, ReadyIndex};
@@ -204,27 +207,27 @@ fn refresh_for(
     }
 }
 
-// Marks the slots of the waiting tasks of a job anew.
+// Marks the slots of the tasks of a job that a walk has anew.
 pub(crate) fn remark(
     ready: &mut ReadyIndex,
-    waiting: &LinkedLists,
+    waiting: &WaitingTasks,
     tasks: &Tasks,
     queues: &Queues,
     actions: &CoveredActions,
+    walk: Walk,
     job: u32,
 )
-    requires lists { length waiting.now.lists ≡ 1 }
     requires places { length ready.old.marks ≡ max_of tasks.now.pool }
-    requires waits { AreWaiting (seen_in tasks.now.pool) (list_at waiting.now.lists 0) }
+    requires live { AreSeen (seen_in tasks.now.pool) (walked walk waiting.now queues.now.pool) }
     requires ranked { AreRanked (seen_in tasks.now.pool) ready.old.priorities }
-    ensures { Remarked actions.now (begins_in queues.now.pool) (seen_in tasks.now.pool) job (list_at waiting.now.lists 0) (length (list_at waiting.now.lists 0)) ready.old ready.new }
+    ensures { Remarked actions.now (begins_in queues.now.pool) (seen_in tasks.now.pool) job (walked walk waiting.now queues.now.pool) (length (walked walk waiting.now queues.now.pool)) ready.old ready.new }
 {
     let cover = actions.cover(job);
-    let mut next = waiting.first(0);
-    for _index in 0..waiting.len(0) {
+    let mut next = first_in(waiting, queues, walk);
+    for _index in 0..count_in(waiting, queues, walk) {
         let Some(task) = next else { unreachable!() };
         refresh_for(ready, cover, tasks, queues, job, TaskHandle(task));
-        next = waiting.next(task);
+        next = next_in(waiting, queues, walk, task);
     }
 }
 
@@ -232,21 +235,28 @@ pub(crate) fn remark(
 // they cover the same ones, every task has the workers that it had.
 pub(crate) fn remark_where_changed(
     ready: &mut ReadyIndex,
-    waiting: &LinkedLists,
+    waiting: &WaitingTasks,
     tasks: &Tasks,
     queues: &Queues,
     actions: &CoveredActions,
     job: u32,
     before: Mask,
 )
-    requires lists { length waiting.now.lists ≡ 1 }
     requires places { length ready.old.marks ≡ max_of tasks.now.pool }
-    requires waits { AreWaiting (seen_in tasks.now.pool) (list_at waiting.now.lists 0) }
+    requires live { AreSeen (seen_in tasks.now.pool) (job_list waiting.now job) }
     requires ranked { AreRanked (seen_in tasks.now.pool) ready.old.priorities }
-    ensures { RemarkedUnless actions.now (begins_in queues.now.pool) (seen_in tasks.now.pool) job before.0 (list_at waiting.now.lists 0) ready.old ready.new }
+    ensures { RemarkedUnless actions.now (begins_in queues.now.pool) (seen_in tasks.now.pool) job before.0 (job_list waiting.now job) ready.old ready.new }
 {
     if covered_cores(actions.cover(job)).0 == before.0 {
         return;
     }
-    remark(ready, waiting, tasks, queues, actions, job);
+    remark(
+        ready,
+        waiting,
+        tasks,
+        queues,
+        actions,
+        Walk::OfJob(job),
+        job,
+    );
 }

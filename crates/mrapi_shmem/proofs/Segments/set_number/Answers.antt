@@ -1,4 +1,4 @@
-use Rattle.std.proofs.Common.{ap, refl, sym, ◌∙◌, vec_len, vec_capacity}
+use Rattle.std.proofs.Common.{ap, sym, ◌∙◌, vec_len, vec_capacity}
 use Rattle.std.specs.Option.{option_copied_mut}
 use Rattle.mrapi_shmem.proofs.Stores.{IsStore-with_value}
 use Rattle.mrapi_shmem.proofs.Segments.set_number.Goals as goal

@@ -20,6 +20,6 @@ returns c =
     let gs = c.attach.ensures.new ∙ changed_as p.segments c.args.segment.0 (after_attach c.args.who) (with_attached c.args.who true) (λ y e. attach_marks c.args.who y) in
     subst
     (λ (t : ResourceTable).
-    the_view (record { mutexes = c.look.new.self; sems = p.sems; rwls = p.rwls; segments = c.attach.new.self })
+    the_view (record p { mutexes = c.look.new.self; segments = c.attach.new.self })
     ≡ record t { mutexes = changed t.mutexes c.args.mutex.0 (locked_by c.args.who); segments = changed t.segments c.args.segment.0 (with_attached c.args.who true) }) c.self.view_is
     (λ i. record (the_view p) { mutexes = ms i; segments = gs i })

@@ -23,6 +23,6 @@ returns-clause-new c =
     let p = c.self.inside in
     subst
     (λ (t : ResourceTable).
-    the_view (record { mutexes = c.unlock.new.self; sems = p.sems; rwls = p.rwls; segments = c.detach.new.self })
+    the_view (record p { mutexes = c.unlock.new.self; segments = c.detach.new.self })
     ≡ record t { mutexes = changed t.mutexes c.args.mutex.0 (after_unlock c.args.who 1); segments = changed t.segments c.args.segment.0 (after_detach c.args.who) }) c.self.view_is
     (λ i. record (the_view p) { mutexes = c.unlock.ensures.new i; segments = c.detach.ensures.new i })

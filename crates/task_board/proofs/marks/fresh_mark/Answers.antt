@@ -1,5 +1,5 @@
 use Rattle.std.proofs.Common.{Option, sym, subst}
-use Rattle.mtapi_objects.specs.Tasks.{Task, is_unstarted}
+use Rattle.mtapi_objects.specs.Tasks.{Task}
 use Rattle.job_table.specs.Answers.{Covers}
 use Rattle.task_board.specs.Seen.{seen}
 use Rattle.task_board.specs.Queued.{begins_in}

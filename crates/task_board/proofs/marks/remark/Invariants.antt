@@ -1,11 +1,11 @@
 use Rattle.std.proofs.Common.{◌≡◌, slice_get}
-use Rattle.linked_places.specs.Lists.{list_at}
 use Rattle.task_board.specs.Seen.{seen_in}
 use Rattle.task_board.specs.Queued.{begins_in}
+use Rattle.task_board.specs.Walks.{walked}
 use Rattle.task_board.specs.Board.{Remarked}
 use Rattle.task_board.proofs.marks.remark.Given as goal
 
 abbrev pub invariant-loop-index : goal.invariant-loop-index
 invariant-loop-index l =
-    (l.next ≡ slice_get (list_at l.waiting.lists 0) l._index)
-    × Remarked l.actions (begins_in l.queues.pool) (seen_in l.tasks.pool) l.job (list_at l.waiting.lists 0) l._index l.fn.ready l.ready
+    (l.next ≡ slice_get (walked l.walk l.waiting l.queues.pool) l._index)
+    × Remarked l.actions (begins_in l.queues.pool) (seen_in l.tasks.pool) l.job (walked l.walk l.waiting l.queues.pool) l._index l.fn.ready l.ready

@@ -1,7 +1,7 @@
 use Rattle.task_board.specs.Board.{records_of}
-use Rattle.task_board.specs.Ends.{passes}
+use Rattle.task_board.specs.Ends.{ends_by}
 use Rattle.task_board.proofs.EndLemmas.{Going}
 use Rattle.task_board.proofs.board.Board.end_waiting.Given as goal
 
 abbrev pub invariant-loop-index : goal.invariant-loop-index
-invariant-loop-index l = Going (passes l.fn.self.settings.workers (records_of l.fn.self.queues.pool) l.test) l.end l.fn.self l.self l._index l.next
+invariant-loop-index l = Going l.walk (ends_by l.fn.self.settings.workers (records_of l.fn.self.queues.pool) l.test) l.end l.fn.self l.self l._index l.next

@@ -6,9 +6,14 @@ use Rattle.task_board.specs.Queued.{IsRoomFor}
 use Rattle.task_board.specs.Board.{BoardTable, AreRanked, records_of, group_slots}
 use Rattle.task_board.specs.Members.{MayJoin}
 use Rattle.task_board.proofs.TaskMemberLemmas.{may-join, no-member}
-use Rattle.task_board.proofs.BoardLemmas.{nowhere, new-slot, new-ranked, no-task, enqueue-board}
+use Rattle.task_board.proofs.BoardLemmas.{nowhere, nowhere-by-job, new-slot, new-ranked, no-task, enqueue-board}
 use Rattle.task_board.proofs.RecordLemmas.{records-same}
 use Rattle.task_board.proofs.board.Board.enqueue_task.Goals as goal
+
+pub push-requires-clause-apart : goal.push-requires-clause-apart
+push-requires-clause-apart c =
+    let b : BoardTable = record { settings = c.self.inside.settings; actions = c.self.inside.actions; tasks = c.self.inside.tasks; queues = c.self.inside.queues; ready = c.self.inside.ready; waiting = c.self.inside.waiting; running = c.self.inside.running; groups = c.self.inside.groups } in
+    nowhere-by-job b c.add.new.self.pool c.in-Ok.task.0 _ c.self.invariant c.in-Ok.ensures.1
 
 pub push-requires-clause-nowhere : goal.push-requires-clause-nowhere
 push-requires-clause-nowhere c =
