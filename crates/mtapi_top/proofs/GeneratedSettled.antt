@@ -17,7 +17,7 @@ use Rattle.workload_file.specs.declared.workload.Statement.{Statement}
 use Rattle.settled_runs.specs.Plain.{action_in, actions_in, queue_in, task_in, plain_end, plain_fault}
 use Rattle.settled_runs.specs.Settled.{serves, is_settled_deed, are_settled, has_one_kind_a_job, has_new_id, has_different_ids, has_room, puts_into, keep_limits, both, fault_in, have_one_fault_a_group, makes_action, makes_group, makes_task, is_settled}
 use Rattle.settled_runs.proofs.Granted.{below_found}
-use Rattle.mtapi_top.specs.Generated.{all_cores, first_statements, start, task_deed, task_statement, tasks, last_statement, generated_settings, generated}
+use Rattle.generated_workload.specs.Generated.{all_cores, first_statements, start, task_deed, task_statement, tasks, last_statement, generated_settings, generated}
 use Rattle.mtapi_top.specs.Settled.{GeneratedIsSettled}
 
 -- What a task's statement asks for

@@ -1,6 +1,5 @@
 mod Refused
 mod Carried
-mod GeneratedFormed
 mod GeneratedSettled
 mod SettledOutput
 mod Judged

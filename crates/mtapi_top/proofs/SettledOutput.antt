@@ -24,7 +24,7 @@ use Rattle.mtapi_top.specs.declared.ends.End.{End}
 use Rattle.mtapi_top.specs.declared.ends.End.TheVariants as end
 use Rattle.mtapi_top.specs.declared.ends.Outcome.{Outcome}
 use Rattle.mtapi_top.specs.Words.{InRange}
-use Rattle.mtapi_top.specs.Generated.{generated}
+use Rattle.generated_workload.specs.Generated.{generated}
 use Rattle.sched_threads.specs.Runs.{IsRun}
 use Rattle.mtapi_top.specs.Headline.{Ran, IsLoadOf, output}
 use Rattle.mtapi_top.specs.Settled.{generated_summary, IsPlainOutput}

@@ -11,7 +11,7 @@ use Rattle.journal_text.specs.Journals.{journal_text}
 use Rattle.journal_text.specs.Journals.{journal_of as journal_read}
 use Rattle.mtapi_top.specs.declared.words.Asked.{Asked}
 use Rattle.mtapi_top.specs.declared.words.Asked.TheVariants as asks
-use Rattle.mtapi_top.specs.Generated.{generated}
+use Rattle.generated_workload.specs.Generated.{generated}
 
 -- the workload is that of the bytes read, where the source tells them
 abbrev pub IsRead : Option (List ℕ) → Workload → Type 0

@@ -1,7 +1,6 @@
 pub mod Words
 pub mod Headline
 pub mod Command
-pub mod Generated
 pub mod Settled
 pub mod Check
 pub mod Ended

@@ -9,7 +9,7 @@ use Rattle.settled_runs.specs.PlainSummary.{plain_summary}
 use Rattle.settled_runs.specs.Settled.{is_settled}
 use Rattle.mtapi_top.specs.declared.words.Asked.{Asked}
 use Rattle.mtapi_top.specs.declared.words.Asked.TheVariants as asks
-use Rattle.mtapi_top.specs.Generated.{generated}
+use Rattle.generated_workload.specs.Generated.{generated}
 
 -- of each number of tasks and of workers
 abbrev pub GeneratedIsSettled : Type 0

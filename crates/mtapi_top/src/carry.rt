@@ -5,7 +5,7 @@ ghost use Rattle.byte_io.specs.Causes.{Rose, AppendsFront, TakesAtMost};
 ghost use Rattle.mtapi_top.specs.Command.{Ends, HasNone, HasRead, IsRefused, IsWorkload, journal_of, status_of};
 ghost use Rattle.workload_file.specs.Formed.{WellFormed};
 ghost use Rattle.workload_file.specs.Loading.{HoldsBut, ReadsClean};
-ghost use Rattle.mtapi_top.specs.Generated.{generated};
+ghost use Rattle.generated_workload.specs.Generated.{generated};
 ghost use Rattle.mtapi_top.specs.Headline.{IsLoadOf, IsTextTwo, Ran};
 ghost use Rattle.mtapi_top.specs.Settled.{IsPlainOutput};
 ghost use Rattle.mtapi_top.specs.Check.{IsJudged, IsInput, IsRefusedInput, verdict_line};
@@ -21,11 +21,11 @@ ghost use Rattle.mtapi_top.specs.Words.{texts, asked_of, reads, judges, InRange}
 
 use crate::checking::check_input;
 use crate::ends::{End, Outcome};
-use crate::generator::generated;
 use crate::pieces::{NoRun, run_and_output};
 use crate::telling::tell;
 use crate::words::{Asked, asked_of, judges};
 use action_fn::ActionSource;
+use generated_workload::generated;
 use sched_threads::Beside;
 use std::alloc::Global;
 use std::sync::Wait;

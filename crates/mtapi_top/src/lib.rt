@@ -5,7 +5,6 @@
 mod carry;
 mod checking;
 mod ends;
-mod generator;
 mod input;
 pub mod laws;
 mod pieces;
@@ -14,7 +13,6 @@ mod words;
 
 pub use carry::command;
 pub use ends::{End, Outcome};
-pub use generator::generated;
 pub use run_report::report_of;
 pub use sched_threads::{Beside, FewThreads, Threads, run_node};
 pub use telling::tell;

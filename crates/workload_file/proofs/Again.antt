@@ -1,7 +1,7 @@
 -- The canonical text of what a text gives, read again.
 use Rattle.std.proofs.Common.{◌≡◌, ℕ, ◌+◌, ◌-◌, ◌≤◌, List, [], ◌∷◌, ◌++◌, length, false, Option, Some, None, Ok, refl, sym, ap, subst, ◌∙◌, arith, ◌⊎◌, inl, inr, map, append_assoc, length-append, All, eqb, suc}
 use Rattle.std.specs.List.{flat_map}
-use Rattle.std.proofs.lemmas.Bool.{ne_eqb, eqb-true, cases_Bool, eq-eqb}
+use Rattle.std.proofs.lemmas.Bool.{ne_eqb, eqb-true, cases_Bool, eq-eqb, not-false}
 use Rattle.std.proofs.lemmas.List.{append-nil}
 use Rattle.std.proofs.lemmas.List.Splits.{slice_split_at, slice_split_none}
 use Rattle.workload_file.specs.declared.reading.Reading.{Reading}
@@ -22,7 +22,7 @@ use Rattle.number_text.specs.Lists.{led}
 use Rattle.workload_file.proofs.Facts.{bind_ok, ok_is, at_line_ok, IsRead, line_facts, words_facts, statement_facts}
 use Rattle.workload_file.proofs.Fields.{made, Says, says_node, says_caller, says_deed, says}
 use Rattle.workload_file.proofs.Laid.{statements_push, statements_none, laid_none}
-use Rattle.workload_file.proofs.Invariant.{IsFormed, not_not}
+use Rattle.workload_file.proofs.Invariant.{IsFormed}
 use Rattle.workload_file.proofs.Keeping.{adds_keeps, start_formed}
 use Rattle.workload_file.proofs.Phrases.{text_led}
 use Rattle.workload_file.proofs.Rewriting.{text_of_change, line_again}
@@ -85,7 +85,7 @@ node_shown r line settings f le none =
 
 count_zero : (r : Reading) → is_misplaced r word.Node ≡ false → r.count ≡ 0
 unfolding is_misplaced
-count_zero r h = eqb-true r.count 0 (not_not _ h)
+count_zero r h = eqb-true r.count 0 (not-false _ h)
 
 -- what a line gave, by its kind: a node line is the first one, and a statement has its number
 change_at : (r : Reading) (line : ℕ) (first : List ℕ) (rest : List (List ℕ)) (w : Word) (name : Option (List ℕ)) (options : List (List ℕ)) (c : Change) → IsFormed r line → 1 ≤ line → IsRead r first rest w name options → Says r line w name options c → shown (with_change r line (Some c)) ≡ shown r ++ (line, text_of_change r c) ∷ []

@@ -29,7 +29,7 @@ use Rattle.number_text.specs.Numbers.{whole}
 use Rattle.number_text.specs.Lists.{list_of}
 use Rattle.workload_file.specs.Cuts.{words_of}
 use Rattle.workload_file.specs.Table.{naming, fields, key_text, word_of}
-use Rattle.workload_file.specs.Options.{key_of, value_of, is_known, has_twice, has_value, is_value, gives, is_missing, is_refused, text_of}
+use Rattle.workload_file.specs.Options.{key_of, value_of, is_known, has_twice, is_bad, is_value, gives, is_missing, is_refused, text_of}
 use Rattle.workload_file.specs.Names.{split_name, place_of}
 use Rattle.workload_file.specs.Changes.{value_given, value_absent, value_at, values_in, change_with, change_of}
 use Rattle.workload_file.specs.Reading.{is_printable, is_comment, line_gives, line_adds, lines_add, statement_of, words_give, at_line, start, workload_of, with_change}
@@ -42,7 +42,7 @@ use Rattle.workload_file.proofs.Phrases.{all_append}
 use Rattle.workload_file.proofs.Places.{bytes_are, bytes_same, apart_sym}
 use Rattle.workload_file.proofs.Rereading.{text_skip, text_nothing}
 use Rattle.workload_file.proofs.Tables.{option_is}
-use Rattle.workload_file.proofs.Optioned.{known_here, valued_here}
+use Rattle.workload_file.proofs.Optioned.{known_here}
 
 -- ---- lines that say nothing
 
@@ -176,7 +176,7 @@ line_instead r line text other first rest others s w v plain each e =
 record IsInstead (before : List Statement) (fs : List Field) (ps qs : List (List ℕ)) : Type 0 where
   known : list_all (is_known fs) qs ≡ true
   once : has_twice qs ≡ false
-  valued : list_all (has_value fs) qs ≡ true
+  valued : list_any (is_bad qs) fs ≡ false
   present : list_any (is_missing qs) fs ≡ false
   values : values_in before qs fs ≡ values_in before ps fs
 
@@ -248,6 +248,10 @@ unfolding values_in
 values_same before ps qs [] e = refl
 values_same before ps qs (f ∷ fs) e = rw (e f.key, values_same before ps qs fs e) refl
 
+bad_same : (ps qs : List (List ℕ)) (fs : List Field) → ((k : Key) → text_of k qs ≡ text_of k ps) → list_any (is_bad qs) fs ≡ list_any (is_bad ps) fs
+bad_same ps qs [] e = refl
+bad_same ps qs (f ∷ fs) e = rw (e f.key, bad_same ps qs fs e) refl
+
 missing_same : (ps qs : List (List ℕ)) (fs : List Field) → ((k : Key) → gives k qs ≡ gives k ps) → list_any (is_missing qs) fs ≡ list_any (is_missing ps) fs
 missing_same ps qs [] e = refl
 missing_same ps qs (f ∷ fs) e =
@@ -282,12 +286,8 @@ record IsBehind (n : Naming) (front : List (List ℕ)) (x y : List ℕ) (back : 
 behind : (n : Naming) (front : List (List ℕ)) (x y : List ℕ) (back : List (List ℕ)) (name : Option (List ℕ)) (options : List (List ℕ)) → has_equals x ≡ true → split_name n (front ++ x ∷ (y ∷ back)) ≡ Some (name, options) → IsBehind n front x y back name options
 unfolding split_name
 behind rule.Bare front x y back name options h e = let p = pair_is None name (front ++ x ∷ (y ∷ back)) options e in record { ahead = front; are = sym p.1; again = rw (← p.0) refl }
-behind rule.Caller [] x y back name options h e = absurd (no_name x h (split_parts x (y ∷ back) name options e).0)
-behind rule.Caller (z ∷ zs) x y back name options h e = let p = split_parts z (zs ++ x ∷ (y ∷ back)) name options e in record { ahead = zs; are = sym p.2; again = rw (p.1, p.0) refl }
-behind (rule.Binds s) [] x y back name options h e = absurd (no_name x h (split_parts x (y ∷ back) name options e).0)
-behind (rule.Binds s) (z ∷ zs) x y back name options h e = let p = split_parts z (zs ++ x ∷ (y ∷ back)) name options e in record { ahead = zs; are = sym p.2; again = rw (p.1, p.0) refl }
-behind (rule.Uses s) [] x y back name options h e = absurd (no_name x h (split_parts x (y ∷ back) name options e).0)
-behind (rule.Uses s) (z ∷ zs) x y back name options h e = let p = split_parts z (zs ++ x ∷ (y ∷ back)) name options e in record { ahead = zs; are = sym p.2; again = rw (p.1, p.0) refl }
+behind _ [] x y back name options h e = absurd (no_name x h (split_parts x (y ∷ back) name options e).0)
+behind _ (z ∷ zs) x y back name options h e = let p = split_parts z (zs ++ x ∷ (y ∷ back)) name options e in record { ahead = zs; are = sym p.2; again = rw (p.1, p.0) refl }
 
 swapped_options : (r : Reading) (line : ℕ) (first : List ℕ) (front : List (List ℕ)) (x y : List ℕ) (back : List (List ℕ)) (w : Word) (name : Option (List ℕ)) (ahead : List (List ℕ)) (c : Change) → IsRead r first (front ++ x ∷ (y ∷ back)) w name (ahead ++ x ∷ (y ∷ back)) → change_of r line w name (ahead ++ x ∷ (y ∷ back)) ≡ Some c → split_name (naming w) (front ++ y ∷ (x ∷ back)) ≡ Some (name, ahead ++ y ∷ (x ∷ back)) → statement_of r line first (front ++ y ∷ (x ∷ back)) ≡ Ok c
 swapped_options r line first front x y back w name ahead c read e split =
@@ -297,7 +297,7 @@ swapped_options r line first front x y back w name ahead c read e split =
     statement_instead r line first (front ++ x ∷ (y ∷ back)) (front ++ y ∷ (x ∷ back)) w name ps qs c read e split (record {
       known = sym (all_swap (is_known (fields w)) ahead x y back) ∙ read.known;
       once = once.0;
-      valued = sym (all_swap (has_value (fields w)) ahead x y back) ∙ read.valued;
+      valued = bad_same ps qs (fields w) (λ k. text_swap k ahead x y back once.1) ∙ read.valued;
       present = missing_same ps qs (fields w) (λ k. sym (any_swap (λ v. bytes_eq (key_of v) (key_text k)) ahead x y back)) ∙ read.present;
       values = values_same (here r) ps qs (fields w) (λ k. text_swap k ahead x y back once.1);
     })
@@ -318,12 +318,8 @@ swapped_adds text other w plain = λ r line s e.
 split_push : (n : Naming) (rest : List (List ℕ)) (name : Option (List ℕ)) (options : List (List ℕ)) (o : List ℕ) → split_name n rest ≡ Some (name, options) → split_name n (rest ++ o ∷ []) ≡ Some (name, options ++ o ∷ [])
 unfolding split_name
 split_push rule.Bare rest name options o e = let p = pair_is None name rest options e in rw (← p.0, ← p.1) refl
-split_push rule.Caller [] name options o e = absurd cc
-split_push rule.Caller (x ∷ xs) name options o e = let p = split_parts x xs name options e in rw (p.1, p.0, ← p.2) refl
-split_push (rule.Binds s) [] name options o e = absurd cc
-split_push (rule.Binds s) (x ∷ xs) name options o e = let p = split_parts x xs name options e in rw (p.1, p.0, ← p.2) refl
-split_push (rule.Uses s) [] name options o e = absurd cc
-split_push (rule.Uses s) (x ∷ xs) name options o e = let p = split_parts x xs name options e in rw (p.1, p.0, ← p.2) refl
+split_push _ [] name options o e = absurd cc
+split_push _ (x ∷ xs) name options o e = let p = split_parts x xs name options e in rw (p.1, p.0, ← p.2) refl
 
 any_named : (q : List ℕ → Bool) (name : Option (List ℕ)) (options : List (List ℕ)) → list_any q (bound_words name ++ options) ≡ false → list_any q options ≡ false
 any_named q None options h = h
@@ -375,29 +371,33 @@ record IsOut (f : Field) (ps : List (List ℕ)) (o value : List ℕ) (v : Value)
   absent : gives f.key ps ≡ false
   usual : value_absent f.absent f.shape ≡ Some v
 
-values_other : (before : List Statement) (ps : List (List ℕ)) (o : List ℕ) (k : Key) (fs : List Field) → key_of o ≡ key_text k → list_any (λ g. bytes_eq (key_text g.key) (key_text k)) fs ≡ false → values_in before (ps ++ o ∷ []) fs ≡ values_in before ps fs
+values_other : (before : List Statement) (ps : List (List ℕ)) (o : List ℕ) (k : Key) (fs : List Field) → key_of o ≡ key_text k → list_any (λ g. bytes_eq (key_text g.key) (key_text k)) fs ≡ false → (values_in before (ps ++ o ∷ []) fs ≡ values_in before ps fs) × (list_any (is_bad (ps ++ o ∷ [])) fs ≡ list_any (is_bad ps) fs)
 unfolding values_in
-values_other before ps o k [] e h = refl
+values_other before ps o k [] e h = (refl, refl)
 values_other before ps o k (g ∷ gs) e h =
     let both = or_parts (bytes_eq (key_text g.key) (key_text k)) (list_any (λ g. bytes_eq (key_text g.key) (key_text k)) gs) h in
     let other : bytes_eq (key_of o) (key_text g.key) ≡ false = rw e (apart_sym (key_text g.key) (key_text k) both.0) in
-    rw (text_other g.key ps o other, values_other before ps o k gs e both.1) refl
+    let rest = values_other before ps o k gs e both.1 in
+    (rw (text_other g.key ps o other, rest.0) refl, rw (text_other g.key ps o other, rest.1) refl)
 
-values_out : (before : List Statement) (ps : List (List ℕ)) (o value : List ℕ) (v : Value) (f : Field) (fs : List Field) → IsOut f ps o value v → value_given before f.shape value ≡ Some v → AreApart fs → find (λ g. bytes_eq (key_text g.key) (key_text f.key)) fs ≡ Some f → values_in before (ps ++ o ∷ []) fs ≡ values_in before ps fs
+values_out : (before : List Statement) (ps : List (List ℕ)) (o value : List ℕ) (v : Value) (f : Field) (fs : List Field) → IsOut f ps o value v → value_given before f.shape value ≡ Some v → is_value f.shape value ≡ true → AreApart fs → find (λ g. bytes_eq (key_text g.key) (key_text f.key)) fs ≡ Some f → list_any (is_bad ps) fs ≡ false → (values_in before (ps ++ o ∷ []) fs ≡ values_in before ps fs) × (list_any (is_bad (ps ++ o ∷ [])) fs ≡ false)
 unfolding values_in
-values_out before ps o value v f [] out e apart is = absurd cc
-values_out before ps o value v f (g ∷ gs) out e apart is =
+values_out before ps o value v f [] out e valued apart is none = absurd cc
+values_out before ps o value v f (g ∷ gs) out e valued apart is none =
+    let bad = or_parts (is_bad ps g) (list_any (is_bad ps) gs) none in
     elim (cases_Bool (bytes_eq (key_text g.key) (key_text f.key))) [
       | inl t ↦
           let found = rw t at is in
           let same : g ≡ f = cc in
-          let here : value_at before f (text_of f.key (ps ++ o ∷ [])) ≡ Some v = rw (text_skip f.key ps [] o value out.absent out.key out.text) e in
+          let text = text_skip f.key ps [] o value out.absent out.key out.text in
+          let here : value_at before f (text_of f.key (ps ++ o ∷ [])) ≡ Some v = rw text e in
           let there : value_at before f (text_of f.key ps) ≡ Some v = rw (text_absent f.key ps out.absent) out.usual in
           let rest = values_other before ps o f.key gs out.key (subst (λ (x : Field). list_any (λ h. bytes_eq (key_text h.key) (key_text x.key)) gs ≡ false) same apart.0) in
-          rw (same, here, there, rest) refl
+          (rw (same, here, there, rest.0) refl, rw (same, text, valued) (rest.1 ∙ bad.1))
       | inr n ↦
           let other : bytes_eq (key_of o) (key_text g.key) ≡ false = rw out.key (apart_sym (key_text g.key) (key_text f.key) n) in
-          rw (text_other g.key ps o other, values_out before ps o value v f gs out e apart.1 (rw n at is)) refl
+          let rest = values_out before ps o value v f gs out e valued apart.1 (rw n at is) bad.1 in
+          (rw (text_other g.key ps o other, rest.0) refl, rw (text_other g.key ps o other) (or_from _ _ bad.0 rest.1))
     ]
 
 -- what is read as the default is a value of its option
@@ -429,12 +429,13 @@ out_statement r line first rest w f value v c word field absent usual reads e =
     let is = option_is f.key value in
     let free = any_named (λ v. bytes_eq (key_of v) (key_text f.key)) st.name st.options (subst (λ (ws : List (List ℕ)). gives f.key ws ≡ false) (splits (naming st.word) rest st.name st.options st.read.split) absent) in
     let out : IsOut f st.options o value v = record { key = is.key; text = is.value; absent = free; usual = usual } in
+    let read = values_out (here r) st.options o value v f fs out reads (default_valued (here r) f.absent f.shape value v reads usual) (fields_apart st.word) known st.read.valued in
     statement_instead r line first rest (rest ++ o ∷ []) st.word st.name st.options (st.options ++ o ∷ []) c st.read st.change (split_push (naming st.word) rest st.name st.options o st.read.split) (record {
       known = all_append (is_known fs) st.options (o ∷ []) st.read.known (and_from _ _ (known_here fs f value known) refl);
       once = twice_push f.key st.options o is.key st.read.once free;
-      valued = all_append (has_value fs) st.options (o ∷ []) st.read.valued (and_from _ _ (valued_here fs f value known (default_valued (here r) f.absent f.shape value v reads usual)) refl);
+      valued = read.1;
       present = missing_push st.options o fs st.read.present;
-      values = values_out (here r) st.options o value v f fs out reads (fields_apart st.word) known;
+      values = read.0;
     })
 
 pub written_adds : (text other : List ℕ) → IsWrittenOut text other → IsPlain other → AddsAlike text other

@@ -9,12 +9,12 @@ use Rattle.workload_file.specs.declared.faults.Cause.TheVariants.{LineTooLong, B
 use Rattle.workload_file.specs.declared.reading.Reading.{Reading}
 use Rattle.workload_file.specs.declared.reading.Change.{Change}
 use Rattle.workload_file.specs.Table.{naming, fields, word_of}
-use Rattle.workload_file.specs.Options.{is_known, has_twice, has_value, is_missing}
+use Rattle.workload_file.specs.Options.{is_known, has_twice, is_bad, is_missing}
 use Rattle.workload_file.specs.Names.{split_name, is_taken, is_misplaced, is_ninth_caller}
 use Rattle.workload_file.specs.Cuts.{words_of}
 use Rattle.workload_file.specs.Reading.{◌>>=◌, refuse, or_cause, heading, check_options, name_text, statement_of, words_give, is_comment, is_printable, line_gives, at_line}
 use Rattle.workload_file.specs.Changes.{change_of}
-use Rattle.number_text.specs.Lists as maybe
+use Rattle.std.proofs.lemmas.Bool.{not-false}
 
 -- ---- steps that did not fail
 
@@ -46,10 +46,6 @@ pub at_line_ok : {A : Type 0} (line : ℕ) (x : Result A Cause) (y : A) → at_l
 at_line_ok line (Ok x) y e = ap Ok (ok_is x y e)
 at_line_ok line (Err c) y e = absurd cc
 
-pub bind_some : {A B : Type 0} (o : Option A) (f : A → Option B) (y : B) → maybe.◌>>=◌ o f ≡ Some y → (x : A) × (o ≡ Some x) × (f x ≡ Some y)
-bind_some (Some x) f y e = (x, refl, e)
-bind_some None f y e = absurd cc
-
 pub map_some : {A B : Type 0} (f : A → B) (o : Option A) (y : B) → option_map f o ≡ Some y → (x : A) × (o ≡ Some x) × (f x ≡ y)
 map_some f (Some x) y e = (x, refl, some_is (f x) y e)
 map_some f None y e = absurd cc
@@ -65,7 +61,7 @@ pub record IsRead (r : Reading) (first : List ℕ) (rest : List (List ℕ)) (w :
   pub split : split_name (naming w) rest ≡ Some (name, options)
   pub known : list_all (is_known (fields w)) options ≡ true
   pub once : has_twice options ≡ false
-  pub valued : list_all (has_value (fields w)) options ≡ true
+  pub valued : list_any (is_bad options) (fields w) ≡ false
   pub present : list_any (is_missing options) (fields w) ≡ false
   pub free : is_taken r (naming w) (name_text name) ≡ false
 
@@ -75,10 +71,6 @@ pub record Statement (r : Reading) (line : ℕ) (first : List ℕ) (rest : List 
   pub options : List (List ℕ)
   pub read : IsRead r first rest word name options
   pub change : change_of r line word name options ≡ Some c
-
-pub not_false : (b : Bool) → not b ≡ false → b ≡ true
-not_false true h = refl
-not_false false h = absurd cc
 
 pub record IsHeading (r : Reading) (first : List ℕ) (rest : List (List ℕ)) (h : Word × Option (List ℕ) × List (List ℕ)) : Type 0 where
   pub word : word_of first ≡ Some h.0
@@ -113,7 +105,7 @@ statement_facts r line first rest c e =
     let n = bind_ok (refuse (is_taken r (naming h.0.0) (name_text h.0.1)) NameTaken) _ c o.2 in
     let o1 = bind_ok (refuse (not (list_all (is_known (fields h.0.0)) h.0.2)) UnknownOption) _ o.0 o.1 in
     let o2 = bind_ok (refuse (has_twice h.0.2) OptionTwice) _ o.0 o1.2 in
-    let o3 = bind_ok (refuse (not (list_all (has_value (fields h.0.0)) h.0.2)) BadValue) _ o.0 o2.2 in
+    let o3 = bind_ok (refuse (list_any (is_bad h.0.2) (fields h.0.0)) BadValue) _ o.0 o2.2 in
     record {
       word = h.0.0;
       name = h.0.1;
@@ -124,9 +116,9 @@ statement_facts r line first rest c e =
         callers = k.callers;
         placed = k.placed;
         split = k.split;
-        known = not_false _ (refuse_ok _ _ o1.0 o1.1);
+        known = not-false _ (refuse_ok _ _ o1.0 o1.1);
         once = refuse_ok _ _ o2.0 o2.1;
-        valued = not_false _ (refuse_ok _ _ o3.0 o3.1);
+        valued = refuse_ok _ _ o3.0 o3.1;
         present = refuse_ok _ _ o.0 o3.2;
         free = refuse_ok _ _ n.0 n.1;
       };
@@ -151,7 +143,7 @@ unfolding line_gives
 line_facts r line text c e =
     let a = bind_ok (refuse (nat_lt 512 (length text)) LineTooLong) _ c e in
     let b = bind_ok (refuse (not (list_all is_printable text)) BadByte) _ c a.2 in
-    record { short = refuse_ok _ _ a.0 a.1; printable = not_false _ (refuse_ok _ _ b.0 b.1); words = b.2 }
+    record { short = refuse_ok _ _ a.0 a.1; printable = not-false _ (refuse_ok _ _ b.0 b.1); words = b.2 }
 
 pub line_read : (r : Reading) (line : ℕ) (text : List ℕ) (c : Option Change) → IsLine r line text c → line_gives r line text ≡ Ok c
 unfolding line_gives

@@ -3,7 +3,7 @@ use Rattle.std.proofs.Common.{◌≡◌, ℕ, List, [], ◌∷◌, Bool, true, f
 use Rattle.std.specs.Prelude.{nat_le}
 use Rattle.std.specs.List.{AllByRecursion, find, list_any, list_all}
 use Rattle.std.specs.Str.{bytes_eq}
-use Rattle.std.proofs.lemmas.Bool.{and_parts, or_parts}
+use Rattle.std.proofs.lemmas.Bool.{and_parts, or_parts, not-true}
 use Rattle.mtapi_values.specs.Attributes.{NodeSettings}
 use Rattle.number_text.specs.Lists.{◌>>=◌}
 use Rattle.workload_file.specs.declared.table.Word.{Word}
@@ -24,9 +24,10 @@ use Rattle.workload_file.specs.Table.{row, words, naming, fields, key_text}
 use Rattle.workload_file.specs.Options.{is_refused}
 use Rattle.workload_file.specs.Deeds.{deed_with}
 use Rattle.workload_file.specs.Changes.{values_in, use_in, bound_name, settings_by, change_with, change_of}
-use Rattle.workload_file.proofs.Facts.{some_is, bind_some, map_some}
+use Rattle.workload_file.proofs.Facts.{some_is, map_some}
 use Rattle.workload_file.proofs.Places.{bytes_same, apart_sym}
 use Rattle.workload_file.proofs.Rows.{each_word, each_field}
+use Rattle.number_text.proofs.Reading.{bind_some}
 
 -- a statement that is a deed
 abbrev pub is_deed : Word → Bool
@@ -121,15 +122,11 @@ abbrev are_apart : List Field → Bool
 are_apart [] = true
 are_apart (f ∷ fs) = not (list_any (λ g. bytes_eq (key_text g.key) (key_text f.key)) fs) && are_apart fs
 
-pub not_true : (b : Bool) → not b ≡ true → b ≡ false
-not_true true h = absurd cc
-not_true false h = refl
-
 apart_from : (fs : List Field) → are_apart fs ≡ true → AreApart fs
 apart_from [] h = tt
 apart_from (f ∷ fs) h =
     let both = and_parts (not (list_any (λ g. bytes_eq (key_text g.key) (key_text f.key)) fs)) (are_apart fs) h in
-    (not_true _ both.0, apart_from fs both.1)
+    (not-true _ both.0, apart_from fs both.1)
 
 every_apart : list_all (λ w. are_apart (fields w)) words ≡ true
 unfolding row key_text

@@ -1,12 +1,11 @@
 -- Reading refuses a line for the first cause that it meets.
-use Rattle.std.proofs.Common.{◌≡◌, ℕ, ◌+◌, List, [], ◌∷◌, ◌++◌, Bool, true, false, not, cond, ◌&&◌, ◌||◌, eqb, Option, Some, None, Result, Ok, Err, refl, sym, ap, subst, ◌∙◌, inl, inr, arith}
-use Rattle.std.specs.Prelude.{nat_le, nat_lt, length, is_some, option_and_then}
+use Rattle.std.proofs.Common.{◌≡◌, ℕ, ◌+◌, List, [], ◌∷◌, ◌++◌, Bool, true, false, not, cond, ◌&&◌, ◌||◌, Option, Some, None, Result, Ok, Err, refl, sym, ap, subst, ◌∙◌, inl, inr, arith}
+use Rattle.std.specs.Prelude.{nat_le, nat_lt, length, is_some}
 use Rattle.std.specs.List.{find, list_any, list_all}
-use Rattle.std.proofs.lemmas.Bool.{and_parts, cases_Bool}
+use Rattle.std.proofs.lemmas.Bool.{cases_Bool}
 use Rattle.workload_file.specs.declared.table.Word.{Word}
 use Rattle.workload_file.specs.declared.table.Naming.{Naming}
 use Rattle.workload_file.specs.declared.table.Naming.TheVariants as rule
-use Rattle.workload_file.specs.declared.table.Field.{Field}
 use Rattle.workload_file.specs.declared.reading.Reading.{Reading}
 use Rattle.workload_file.specs.declared.reading.Change.{Change}
 use Rattle.workload_file.specs.declared.workload.Workload.{Workload}
@@ -17,12 +16,12 @@ use Rattle.number_text.specs.Lists.{between}
 use Rattle.workload_file.specs.Values.{is_name}
 use Rattle.workload_file.specs.Cuts.{words_of}
 use Rattle.workload_file.specs.Table.{word_of, naming, fields}
-use Rattle.workload_file.specs.Options.{value_of, field_of, is_known, has_twice, is_value, has_value, is_missing}
+use Rattle.workload_file.specs.Options.{is_known, has_twice, is_bad, is_missing}
 use Rattle.workload_file.specs.Names.{split_name, is_taken, is_unbound, has_unbound, is_misplaced, is_ninth_caller}
 use Rattle.workload_file.specs.Reading.{◌>>=◌, refuse, or_cause, heading, check_options, name_text, statement_of, words_give, is_comment, is_printable, line_gives, with_change, at_line, line_adds, lines_add, start, finished, workload_of}
 use Rattle.workload_file.specs.Changes.{change_of}
 use Rattle.workload_file.proofs.Agreed.{not_all, change_there}
-use Rattle.workload_file.specs.Faulty.{statement_word, is_statement, second, has_second, options_in, bad_at, has_bad_value, is_faulty, is_faulty_of, first_met, refused_for, IsFirstFault}
+use Rattle.workload_file.specs.Faulty.{statement_word, is_statement, second, has_second, options_in, is_faulty, is_faulty_of, first_met, refused_for, IsFirstFault}
 
 -- ---- one step of reading
 
@@ -37,28 +36,6 @@ inner_same : {A B : Type 0} (b : Bool) (c : Cause) (f : Unit {0} → Result A Ca
 inner_same true c f g o h = refl
 inner_same false c f g o h = h
 
--- ---- values of known options
-
-bad_one : (o : Option Field) (text : List ℕ) → is_some o ≡ true → not (is_some (option_and_then (λ f. cond (is_value f.shape text) (Some f) None) o)) ≡ bad_at o text
-bad_one None text h = absurd cc
-bad_one (Some f) text h =
-    elim (cases_Bool (is_value f.shape text)) [
-      | inl t ↦ rw t refl
-      | inr g ↦ rw g refl
-    ]
-
-bad_values : (fs : List Field) (ws : List (List ℕ)) → list_all (is_known fs) ws ≡ true → not (list_all (has_value fs) ws) ≡ list_any (has_bad_value fs) ws
-bad_values fs [] h = refl
-bad_values fs (w ∷ ws) h =
-    let both = and_parts (is_known fs w) (list_all (is_known fs) ws) h in
-    let known = and_parts (list_any (λ b. eqb b 61) w) (is_some (field_of fs w)) both.0 in
-    let here = bad_one (field_of fs w) (value_of w) known.1 in
-    let rest = bad_values fs ws both.1 in
-    elim (cases_Bool (has_value fs w)) [
-      | inl t ↦ let good : has_bad_value fs w ≡ false = sym here ∙ rw t refl in rw (t, good) rest
-      | inr f ↦ let bad : has_bad_value fs w ≡ true = sym here ∙ rw f refl in rw (f, bad) refl
-    ]
-
 -- ---- names and options
 
 name_unknown : (o : Option Change) (b : Bool) → is_some o ≡ not b → refused_for (or_cause o cause.NameUnknown) ≡ cond b (Some cause.NameUnknown) None
@@ -68,32 +45,24 @@ name_unknown None true e = refl
 name_unknown None false e = absurd cc
 
 abbrev names_met : Reading → Word → List ℕ → List (List ℕ) → Option Cause
-names_met r w name options = cond (is_taken r (naming w) name) (Some cause.NameTaken) (cond (is_unbound r (naming w) name || list_any (has_unbound r (fields w)) options) (Some cause.NameUnknown) None)
+names_met r w name options = cond (is_taken r (naming w) name) (Some cause.NameTaken) (cond (is_unbound r (naming w) name || list_any (has_unbound r options) (fields w)) (Some cause.NameUnknown) None)
 
 abbrev names_read : Reading → ℕ → Word → Option (List ℕ) → List (List ℕ) → Result Change Cause
 names_read r line w name options = refuse (is_taken r (naming w) (name_text name)) cause.NameTaken >>= λ b. or_cause (change_of r line w name options) cause.NameUnknown
 
 -- the four steps of the options, and what comes behind them where none is refused
-chain : (k t v m : Bool) (names : Result Change Cause) (o : Option Cause) → (k ≡ true → t ≡ false → v ≡ true → m ≡ false → refused_for names ≡ o) → refused_for ((refuse (not k) cause.UnknownOption >>= λ a. refuse t cause.OptionTwice >>= λ b. refuse (not v) cause.BadValue >>= λ d. refuse m cause.OptionMissing) >>= λ e. names) ≡ cond (not k) (Some cause.UnknownOption) (cond t (Some cause.OptionTwice) (cond (not v) (Some cause.BadValue) (cond m (Some cause.OptionMissing) o)))
+chain : (k t v m : Bool) (names : Result Change Cause) (o : Option Cause) → (k ≡ true → v ≡ false → m ≡ false → refused_for names ≡ o) → refused_for ((refuse (not k) cause.UnknownOption >>= λ a. refuse t cause.OptionTwice >>= λ b. refuse v cause.BadValue >>= λ d. refuse m cause.OptionMissing) >>= λ e. names) ≡ cond (not k) (Some cause.UnknownOption) (cond t (Some cause.OptionTwice) (cond v (Some cause.BadValue) (cond m (Some cause.OptionMissing) o)))
 chain false t v m names o h = refl
 chain true true v m names o h = refl
-chain true false false m names o h = refl
-chain true false true true names o h = refl
-chain true false true false names o h = h refl refl refl refl
-
-met_same : (fs : List Field) (options : List (List ℕ)) (t : Bool) (o : Option Cause) → cond (not (list_all (is_known fs) options)) (Some cause.UnknownOption) (cond t (Some cause.OptionTwice) (cond (not (list_all (has_value fs) options)) (Some cause.BadValue) o)) ≡ cond (list_any (λ word. not (is_known fs word)) options) (Some cause.UnknownOption) (cond t (Some cause.OptionTwice) (cond (list_any (has_bad_value fs) options) (Some cause.BadValue) o))
-met_same fs options t o =
-    let same = not_all (is_known fs) options in
-    elim (cases_Bool (list_all (is_known fs) options)) [
-      | inl k ↦ rw (← same, bad_values fs options k) refl
-      | inr f ↦ rw (← same, f) refl
-    ]
+chain true false true m names o h = refl
+chain true false false true names o h = refl
+chain true false false false names o h = h refl refl refl
 
 abbrev options_met : Reading → Word → List ℕ → List (List ℕ) → Option Cause
 options_met r w name options =
     cond (list_any (λ word. not (is_known (fields w) word)) options) (Some cause.UnknownOption)
     (cond (has_twice options) (Some cause.OptionTwice)
-    (cond (list_any (has_bad_value (fields w)) options) (Some cause.BadValue)
+    (cond (list_any (is_bad options) (fields w)) (Some cause.BadValue)
     (cond (list_any (is_missing options) (fields w)) (Some cause.OptionMissing)
     (names_met r w name options))))
 
@@ -102,10 +71,11 @@ unfolding check_options
 options_refused r line w name rest options split =
     let fs = fields w in
     let missing = list_any (is_missing options) fs in
-    let unbound = is_unbound r (naming w) (name_text name) || list_any (has_unbound r fs) options in
-    chain (list_all (is_known fs) options) (has_twice options) (list_all (has_value fs) options) missing (names_read r line w name options) (names_met r w (name_text name) options)
-    (λ k t v m. step_same (is_taken r (naming w) (name_text name)) cause.NameTaken _ _ (name_unknown (change_of r line w name options) unbound (change_there r line rest w name options (record { split = split; once = t; valued = v; present = m }))))
-    ∙ met_same fs options (has_twice options) (cond missing (Some cause.OptionMissing) (names_met r w (name_text name) options))
+    let behind : Option Cause = cond (has_twice options) (Some cause.OptionTwice) (cond (list_any (is_bad options) fs) (Some cause.BadValue) (cond missing (Some cause.OptionMissing) (names_met r w (name_text name) options))) in
+    let unbound = is_unbound r (naming w) (name_text name) || list_any (has_unbound r options) fs in
+    chain (list_all (is_known fs) options) (has_twice options) (list_any (is_bad options) fs) missing (names_read r line w name options) (names_met r w (name_text name) options)
+    (λ k v m. step_same (is_taken r (naming w) (name_text name)) cause.NameTaken _ _ (name_unknown (change_of r line w name options) unbound (change_there r line rest w name options (record { split = split; valued = v; present = m }))))
+    ∙ ap (λ (t : Bool). cond t (Some cause.UnknownOption) behind) (not_all (is_known fs) options)
 
 -- ---- the name
 
@@ -157,12 +127,8 @@ data Split (w : Word) (rest : List (List ℕ)) : Type 0 where
 split_as : (w : Word) (n : Naming) (rest : List (List ℕ)) → naming w ≡ n → Split w rest
 unfolding split_name
 split_as w rule.Bare rest e = bare e (rw e refl)
-split_as w rule.Caller [] e = nameless (rw e refl) refl (rw e refl)
-split_as w rule.Caller (x ∷ xs) e = named x xs (rw e refl) refl (rw e refl)
-split_as w (rule.Binds s) [] e = nameless (rw e refl) refl (rw e refl)
-split_as w (rule.Binds s) (x ∷ xs) e = named x xs (rw e refl) refl (rw e refl)
-split_as w (rule.Uses s) [] e = nameless (rw e refl) refl (rw e refl)
-split_as w (rule.Uses s) (x ∷ xs) e = named x xs (rw e refl) refl (rw e refl)
+split_as w _ [] e = nameless (rw e refl) refl (rw e refl)
+split_as w _ (x ∷ xs) e = named x xs (rw e refl) refl (rw e refl)
 
 name_refused : (r : Reading) (line : ℕ) (w : Word) (first : List ℕ) (rest : List (List ℕ)) → refused_for (from_split w (split_name (naming w) rest) >>= with_head r line) ≡ name_met r w (first ∷ rest)
 name_refused r line w first rest =

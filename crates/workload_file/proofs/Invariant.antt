@@ -3,7 +3,7 @@ use Rattle.std.proofs.Common.{◌≡◌, ℕ, ◌+◌, ◌≤◌, ◌<◌, List,
 use Rattle.std.specs.Prelude.{is_some, IfSome}
 use Rattle.std.specs.List.{AllByRecursion, list_any, flat_map, position_or_len}
 use Rattle.std.specs.Str.{bytes_eq}
-use Rattle.std.proofs.lemmas.Bool.{or_parts, or_from, eqb-true, cases_Bool, lt-ltb, le-leb}
+use Rattle.std.proofs.lemmas.Bool.{or_parts, or_from, eqb-true, cases_Bool, lt-ltb, le-leb, not-false}
 use Rattle.std.proofs.lemmas.List.{append-nil}
 use Rattle.mtapi_values.specs.Attributes.{NodeSettings}
 use Rattle.workload_file.specs.declared.table.Word.{Word}
@@ -135,23 +135,15 @@ split_parts x xs name options e =
 pub splits : (n : Naming) (rest : List (List ℕ)) (name : Option (List ℕ)) (options : List (List ℕ)) → split_name n rest ≡ Some (name, options) → rest ≡ bound_words name ++ options
 unfolding split_name
 splits rule.Bare rest name options e = let p = pair_is None name rest options e in rw (← p.0) p.1
-splits rule.Caller [] name options e = absurd cc
-splits rule.Caller (x ∷ xs) name options e = let p = split_parts x xs name options e in rw (p.1, p.2) refl
-splits (rule.Binds s) [] name options e = absurd cc
-splits (rule.Binds s) (x ∷ xs) name options e = let p = split_parts x xs name options e in rw (p.1, p.2) refl
-splits (rule.Uses s) [] name options e = absurd cc
-splits (rule.Uses s) (x ∷ xs) name options e = let p = split_parts x xs name options e in rw (p.1, p.2) refl
+splits _ [] name options e = absurd cc
+splits _ (x ∷ xs) name options e = let p = split_parts x xs name options e in rw (p.1, p.2) refl
 
 -- the name of a statement that has one
 pub named_by : (n : Naming) (rest : List (List ℕ)) (name : Option (List ℕ)) (options : List (List ℕ)) → split_name n rest ≡ Some (name, options) → (n ≡ rule.Bare → ⊥) → (text : List ℕ) × (name ≡ Some text) × (is_name text ≡ true)
 unfolding split_name
 named_by rule.Bare rest name options e h = absurd (h refl)
-named_by rule.Caller [] name options e h = absurd cc
-named_by rule.Caller (x ∷ xs) name options e h = let g = split_parts x xs name options e in (x, g.1, g.0)
-named_by (rule.Binds s) [] name options e h = absurd cc
-named_by (rule.Binds s) (x ∷ xs) name options e h = let g = split_parts x xs name options e in (x, g.1, g.0)
-named_by (rule.Uses s) [] name options e h = absurd cc
-named_by (rule.Uses s) (x ∷ xs) name options e h = let g = split_parts x xs name options e in (x, g.1, g.0)
+named_by _ [] name options e h = absurd cc
+named_by _ (x ∷ xs) name options e h = let g = split_parts x xs name options e in (x, g.1, g.0)
 
 unbound_any : (name : List ℕ) (xs : List Statement) → is_some (bound_at name xs) ≡ false → list_any (λ s. is_called name s.name) xs ≡ false
 unbound_any name xs h =
@@ -171,20 +163,16 @@ pub caller_name : (rest : List (List ℕ)) (name : List ℕ) (options : List (Li
 caller_name rest name options e = let g = caller_named rest (Some name) options e in rw (some_is name g.0 g.1) g.2
 
 bound_named : (r : Reading) (n : Naming) (name : Option (List ℕ)) (rest options : List (List ℕ)) → split_name n rest ≡ Some (name, options) → is_some (bound_name n name) ≡ has_name n
-bound_named r rule.Bare name rest options e = refl
-bound_named r rule.Caller name rest options e = refl
-bound_named r (rule.Uses s) name rest options e = refl
 bound_named r (rule.Binds s) name rest options e = let g = named_by (rule.Binds s) rest name options e (λ (x : rule.Binds s ≡ rule.Bare). cc) in rw g.1 refl
+bound_named r _ name rest options e = refl
 
 new_name : (r : Reading) (n : Naming) (name : Option (List ℕ)) (rest options : List (List ℕ)) → split_name n rest ≡ Some (name, options) → is_taken r n (name_text name) ≡ false → IfSome (bound_name n name) (IsNew r.current.statements)
 unfolding is_taken
-new_name r rule.Bare name rest options e f = tt
-new_name r rule.Caller name rest options e f = tt
-new_name r (rule.Uses s) name rest options e f = tt
 new_name r (rule.Binds s) name rest options e f =
     let g = named_by (rule.Binds s) rest name options e (λ (x : rule.Binds s ≡ rule.Bare). cc) in
     let free = rw g.1 at f in
     rw g.1 (g.2, unbound_any g.0 r.current.statements free)
+new_name r _ name rest options e f = tt
 
 abbrev UseOf : List Statement → Naming → Option ℕ → Type 0
 UseOf before n place = (is_used_at n place ≡ true) × IfSome (used_with n place) (λ u. IsBoundAt u.0 before u.1)
@@ -192,13 +180,11 @@ UseOf before n place = (is_used_at n place ≡ true) × IfSome (used_with n plac
 -- the name that a statement uses is bound
 pub use_is : (before : List Statement) (n : Naming) (name : Option (List ℕ)) (place : Option ℕ) → use_in before n name ≡ Some place → UseOf before n place
 unfolding use_in
-use_is before rule.Bare name place e = subst (UseOf before rule.Bare) (some_is None place e) (refl, tt)
-use_is before rule.Caller name place e = subst (UseOf before rule.Caller) (some_is None place e) (refl, tt)
-use_is before (rule.Binds s) name place e = subst (UseOf before (rule.Binds s)) (some_is None place e) (refl, tt)
 use_is before (rule.Uses s) None place e = absurd cc
 use_is before (rule.Uses s) (Some text) place e =
     let m = map_some some (place_of s text before) place e in
     subst (UseOf before (rule.Uses s)) m.2 (refl, (place_is s text before m.0 m.1).0)
+use_is before n name place e = subst (UseOf before n) (some_is None place e) (refl, tt)
 
 -- what is known of the deed of a statement that was read
 pub record IsGiven (before : List Statement) (w : Word) (place : Option ℕ) (d : Deed) : Type 0 where
@@ -229,16 +215,12 @@ unfolding is_begin deed_spelled
 begin_word deed.Begin h = refl
 begin_word _ h = absurd cc
 
-pub not_not : (b : Bool) → not b ≡ false → b ≡ true
-not_not true h = refl
-not_not false h = absurd cc
-
 pub begin_free : (r : Reading) (w : Word) → w ≡ word.Begin → is_misplaced r w ≡ false → (length r.before ≡ 0) × (begins r.current.statements ≡ 0)
 unfolding is_misplaced
 begin_free r w e h =
     let g = rw e at h in
     let both = or_parts (not (eqb (length r.before) 0)) (list_any (λ s. is_begin s.deed) r.current.statements) g in
-    (eqb-true (length r.before) 0 (not_not _ both.0), no_begins r.current.statements both.1)
+    (eqb-true (length r.before) 0 (not-false _ both.0), no_begins r.current.statements both.1)
 
 -- ---- node
 
@@ -278,23 +260,7 @@ set_generations v s h = rw (le-leb 1 v h.0, le-leb v 4294967295 h.1) refl
 -- the settings whose values fit are given by their values
 pub node_settings : (before : List Statement) (s : NodeSettings) → AllFit before (fields word.Node) (setting_values s) → settings_by (setting_values s) ≡ Some s
 unfolding row settings_by
-node_settings before s h =
-    let e1 = set_workers s.workers usual_settings h.0 in
-    let s1 : NodeSettings = record usual_settings { workers = s.workers } in
-    let e2 = set_tasks s.tasks s1 h.1.0 in
-    let s2 : NodeSettings = record s1 { tasks = s.tasks } in
-    let e3 = set_actions s.actions s2 h.1.1.0 in
-    let s3 : NodeSettings = record s2 { actions = s.actions } in
-    let e4 = set_groups s.groups s3 h.1.1.1.0 in
-    let s4 : NodeSettings = record s3 { groups = s.groups } in
-    let e5 = set_queues s.queues s4 h.1.1.1.1.0 in
-    let s5 : NodeSettings = record s4 { queues = s.queues } in
-    let e6 = set_objects s.objects s5 h.1.1.1.1.1.0 in
-    let s6 : NodeSettings = record s5 { objects = s.objects } in
-    let e7 = set_priorities s.priorities s6 h.1.1.1.1.1.1.0 in
-    let s7 : NodeSettings = record s6 { priorities = s.priorities } in
-    let e8 = set_generations s.generations s7 h.1.1.1.1.1.1.1.0 in
-    rw (e1, e2, e3, e4, e5, e6, e7, e8) refl
+node_settings before s (a, (b, (c, (d, (e, (f, (g, (h, _)))))))) = rw (set_workers, set_tasks, set_actions, set_groups, set_queues, set_objects, set_priorities, set_generations) refl
 
 -- the settings of a node line fit, and their values are those of its options
 pub node_given : (before : List Statement) (options : List (List ℕ)) (vs : List Value) (s : NodeSettings) → values_in before options (fields word.Node) ≡ Some vs → settings_by vs ≡ Some s → (setting_values s ≡ vs) × AllFit before (fields word.Node) (setting_values s)

@@ -2,7 +2,7 @@
 use Rattle.std.proofs.Common.{◌≡◌, ℕ, ◌+◌, ◌≤◌, List, [], ◌∷◌, ◌++◌, length, false, Option, Some, None, Ok, refl, sym, subst, ◌∙◌, arith, ◌⊎◌, inl, inr, map, append_assoc}
 use Rattle.std.specs.List.{list_any, flat_map}
 use Rattle.std.specs.Str.{bytes_eq}
-use Rattle.std.proofs.lemmas.Bool.{or_parts, leb-false, eqb-true, ne_eqb, cases_Bool}
+use Rattle.std.proofs.lemmas.Bool.{or_parts, leb-false, eqb-true, ne_eqb, cases_Bool, not-false}
 use Rattle.std.proofs.lemmas.List.{append-nil, length_push, map-append}
 use Rattle.mtapi_values.specs.Attributes.{NodeSettings}
 use Rattle.workload_file.specs.declared.table.Word.{Word}
@@ -22,7 +22,7 @@ use Rattle.workload_file.specs.Cuts.{words_of}
 use Rattle.workload_file.specs.Reading.{with_change, line_gives, line_adds, lines_add, start, finished, workload_of}
 use Rattle.workload_file.specs.Changes.{usual_settings}
 use Rattle.workload_file.specs.Formed.{AllFit, begins, IsPart, IsMain, IsFurther, line_if_any, part_lines, statement_lines, WellFormed}
-use Rattle.workload_file.proofs.Invariant.{IsFormed, below_more, below_push, rise_push, push_all, last_all, push_statement, main_last, main_push, any_push, names_last, names_push, begins_push, flat_push, caller_name, IsGiven, deed_given, statement_formed, begin_word, begin_free, node_given, not_not}
+use Rattle.workload_file.proofs.Invariant.{IsFormed, below_more, below_push, rise_push, push_all, last_all, push_statement, main_last, main_push, any_push, names_last, names_push, begins_push, flat_push, caller_name, IsGiven, deed_given, statement_formed, begin_word, begin_free, node_given}
 use Rattle.workload_file.proofs.Facts.{IsRead, bind_ok, ok_is, at_line_ok, line_facts, words_facts, statement_facts}
 use Rattle.workload_file.proofs.Fields.{made, Says, says_node, says_caller, says_deed, says}
 
@@ -129,7 +129,7 @@ node_fits before settings h = h
 node_keeps : (r : Reading) (line : ℕ) (settings : NodeSettings) → IsFormed r line → 1 ≤ line → is_misplaced r word.Node ≡ false → AllFit r.current.statements (fields word.Node) (setting_values settings) → IsFormed (with_node r line settings) (line + 1)
 unfolding is_misplaced
 node_keeps r line settings f le placed fit =
-    let none : r.count ≡ 0 = eqb-true r.count 0 (not_not _ placed) in
+    let none : r.count ≡ 0 = eqb-true r.count 0 (not-false _ placed) in
     let empty = empty_parts (line_if_any r.node_line) (flat_map part_lines (r.before ++ r.current ∷ [])) (f.count ∙ none) in
     let lines : lines_so_far (with_node r line settings) ≡ line ∷ [] = rw (line_there line le, empty) refl in
     record {

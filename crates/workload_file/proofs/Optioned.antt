@@ -1,10 +1,10 @@
 -- The options that are written of values are options of the statement, and give the values.
-use Rattle.std.proofs.Common.{◌≡◌, ℕ, ◌<◌, List, [], ◌∷◌, ◌++◌, Bool, true, false, cond, eqb, Option, Some, None, refl, sym, ap, subst, inl, inr, append_assoc, arith, length, length-append}
-use Rattle.std.specs.Prelude.{is_some, nat_lt, option_and_then}
+use Rattle.std.proofs.Common.{◌≡◌, ℕ, ◌<◌, List, [], ◌∷◌, ◌++◌, Bool, true, false, eqb, Option, Some, None, refl, sym, ap, subst, inl, inr, append_assoc, arith, length, length-append}
+use Rattle.std.specs.Prelude.{is_some, nat_lt}
 use Rattle.std.specs.Option.{option_map}
 use Rattle.std.specs.List.{AllByRecursion, find, list_any, list_all}
 use Rattle.std.specs.Str.{bytes_eq}
-use Rattle.std.proofs.lemmas.Bool.{and_from, and_parts, or_parts, or_from, eqb-true, cases_Bool, lt-ltb}
+use Rattle.std.proofs.lemmas.Bool.{and_from, and_parts, or_parts, or_from, eqb-true, cases_Bool, lt-ltb, not-false}
 use Rattle.workload_file.specs.declared.table.Shape.{Shape}
 use Rattle.workload_file.specs.declared.table.Shape.TheVariants as shape
 use Rattle.workload_file.specs.declared.table.Absent.{Absent}
@@ -15,19 +15,19 @@ use Rattle.workload_file.specs.declared.values.Value.{Value}
 use Rattle.workload_file.specs.declared.values.Value.TheVariants as given
 use Rattle.workload_file.specs.declared.workload.Statement.{Statement}
 use Rattle.workload_file.specs.Table.{key_text}
-use Rattle.workload_file.specs.Options.{key_of, value_of, field_of, is_known, has_twice, is_value, has_value, gives, is_missing, is_refused, text_of}
+use Rattle.workload_file.specs.Options.{key_of, value_of, field_of, is_known, has_twice, is_value, gives, is_missing, is_refused, text_of, is_bad_text, is_bad}
 use Rattle.workload_file.specs.Changes.{value_given, value_absent, value_at, values_in}
 use Rattle.workload_file.specs.Written.{value_text, is_default, options_words}
-use Rattle.workload_file.proofs.Facts.{some, some_is, bind_some}
+use Rattle.workload_file.proofs.Facts.{some, some_is}
 use Rattle.workload_file.proofs.Fields.{AreApart, IsField, is_good, is_shaped}
 use Rattle.workload_file.proofs.Finds.{find_all, any_in}
-use Rattle.workload_file.proofs.Agreed.{word_valued}
 use Rattle.workload_file.proofs.Phrases.{is_inner, is_word, all_append, all_parts}
 use Rattle.workload_file.proofs.Picks.{value_is, absent_is}
 use Rattle.workload_file.proofs.Spelling.{spelled}
 use Rattle.workload_file.proofs.Places.{bytes_same}
 use Rattle.workload_file.proofs.Rereading.{left_out_may, and_false, usual_args, usual_flag, usual_place, usual_cores, Free, free_push, text_skip, text_nothing}
 use Rattle.workload_file.proofs.Tables.{option_is, key_good}
+use Rattle.number_text.proofs.Reading.{bind_some}
 
 -- ---- each value that is read is left out, or was spelled by a word that was read
 
@@ -55,11 +55,11 @@ value_inner own k h =
     let behind = (all_parts is_inner (key_of own) (61 ∷ value_of own) whole).1 in
     (and_parts (is_inner 61) (list_all is_inner (value_of own)) behind).1
 
-field_read : (before : List Statement) (all : List Field) (options : List (List ℕ)) (f : Field) (v : Value) (o : Option (List ℕ)) → IsField all f → is_good f.absent f.shape ≡ true → list_all (is_known all) options ≡ true → list_all (has_value all) options ≡ true → list_all is_word options ≡ true → find (λ w. bytes_eq (key_of w) (key_text f.key)) options ≡ o → value_at before f (option_map value_of o) ≡ Some v → IsWritten before f v
-field_read before all options f v None field good known valued words is e =
+field_read : (before : List Statement) (all : List Field) (options : List (List ℕ)) (f : Field) (v : Value) (o : Option (List ℕ)) → is_good f.absent f.shape ≡ true → list_all (is_known all) options ≡ true → is_bad_text f.shape (option_map value_of o) ≡ false → list_all is_word options ≡ true → find (λ w. bytes_eq (key_of w) (key_text f.key)) options ≡ o → value_at before f (option_map value_of o) ≡ Some v → IsWritten before f v
+field_read before all options f v None good known valued words is e =
     let u = absent_is before f.absent f.shape v good e in
     left u.default u.shaped
-field_read before all options f v (Some own) field good known valued words is e =
+field_read before all options f v (Some own) good known valued words is e =
     let i = value_is before f.shape (value_of own) v e in
     elim (cases_Bool (is_default f.absent v)) [
       | inl t ↦ left t i.shaped
@@ -67,18 +67,19 @@ field_read before all options f v (Some own) field good known valued words is e 
           let text = i.written f.absent good d in
           let k = and_parts (list_any (λ b. eqb b 61) own) (is_some (field_of all own)) (find_all (λ w. bytes_eq (key_of w) (key_text f.key)) (is_known all) options own is known) in
           let whole = find_all (λ w. bytes_eq (key_of w) (key_text f.key)) is_word options own is words in
-          word d (record { valued = rw text (word_valued all f options own field is valued); inner = rw text (value_inner own k.0 whole); reads = rw text e })
+          word d (record { valued = rw text (not-false _ valued); inner = rw text (value_inner own k.0 whole); reads = rw text e })
     ]
 
 -- each value that options give is left out, or is spelled as it was read
-pub all_read : (before : List Statement) (all : List Field) (options : List (List ℕ)) (fs : List Field) (vs : List Value) → AllByRecursion (IsField all) fs → AllByRecursion (λ f. is_good f.absent f.shape ≡ true) fs → list_all (is_known all) options ≡ true → list_all (has_value all) options ≡ true → list_all is_word options ≡ true → values_in before options fs ≡ Some vs → AllWritten before fs vs
+pub all_read : (before : List Statement) (all : List Field) (options : List (List ℕ)) (fs : List Field) (vs : List Value) → AllByRecursion (λ f. is_good f.absent f.shape ≡ true) fs → list_all (is_known all) options ≡ true → list_any (is_bad options) fs ≡ false → list_all is_word options ≡ true → values_in before options fs ≡ Some vs → AllWritten before fs vs
 unfolding values_in text_of
-all_read before all options [] vs fields good known valued words e = subst (AllWritten before []) (some_is [] vs e) tt
-all_read before all options (f ∷ fs) vs fields good known valued words e =
+all_read before all options [] vs good known valued words e = subst (AllWritten before []) (some_is [] vs e) tt
+all_read before all options (f ∷ fs) vs good known valued words e =
+    let both = or_parts (is_bad options f) (list_any (is_bad options) fs) valued in
     let a = bind_some (value_at before f (text_of f.key options)) _ vs e in
     let b = bind_some (values_in before options fs) _ vs a.2 in
-    let here = field_read before all options f a.0 (find (λ w. bytes_eq (key_of w) (key_text f.key)) options) fields.0 good.0 known valued words refl a.1 in
-    let rest = all_read before all options fs b.0 fields.1 good.1 known valued words b.1 in
+    let here = field_read before all options f a.0 (find (λ w. bytes_eq (key_of w) (key_text f.key)) options) good.0 known both.0 words refl a.1 in
+    let rest = all_read before all options fs b.0 good.1 known both.1 words b.1 in
     subst (AllWritten before (f ∷ fs)) (some_is (a.0 ∷ b.0) vs b.2) (here, rest)
 
 -- ---- the words
@@ -115,16 +116,6 @@ field_here all f text h = let o = option_is f.key text in rw o.key h
 pub known_here : (all : List Field) (f : Field) (text : List ℕ) → IsField all f → is_known all (key_text f.key ++ 61 ∷ text) ≡ true
 known_here all f text h = and_from _ _ (option_is f.key text).equals (ap is_some (field_here all f text h))
 
-abbrev value_test : List ℕ → Field → Option Field
-value_test text f = cond (is_value f.shape text) (Some f) None
-
-pub valued_here : (all : List Field) (f : Field) (text : List ℕ) → IsField all f → is_value f.shape text ≡ true → has_value all (key_text f.key ++ 61 ∷ text) ≡ true
-valued_here all f text h v =
-    let o = option_is f.key text in
-    let t : is_some (option_and_then (value_test text) (Some f)) ≡ true = rw v refl in
-    subst (λ (x : List ℕ). is_some (option_and_then (value_test x) (field_of all (key_text f.key ++ 61 ∷ text))) ≡ true) (sym o.value)
-    (subst (λ (x : Option Field). is_some (option_and_then (value_test text) x) ≡ true) (sym (field_here all f text h)) t)
-
 word_here : (k : Key) (text : List ℕ) → list_all is_inner text ≡ true → is_word (key_text k ++ 61 ∷ text) ≡ true
 word_here k text h =
     let some : 0 < length (key_text k ++ 61 ∷ text) = omega (arith, length-append (key_text k) (61 ∷ text)) in
@@ -132,9 +123,6 @@ word_here k text h =
 
 pub opts_known : (all : List Field) (before : List Statement) (fs : List Field) (vs : List Value) → AllByRecursion (IsField all) fs → AllWritten before fs vs → list_all (is_known all) (opts before fs vs) ≡ true
 opts_known all before fs vs p h = all_opts (is_known all) (IsField all) before fs vs (λ f v i s. known_here all f (value_text before v) i) p h
-
-pub opts_valued : (all : List Field) (before : List Statement) (fs : List Field) (vs : List Value) → AllByRecursion (IsField all) fs → AllWritten before fs vs → list_all (has_value all) (opts before fs vs) ≡ true
-opts_valued all before fs vs p h = all_opts (has_value all) (IsField all) before fs vs (λ f v i s. valued_here all f (value_text before v) i s.valued) p h
 
 pub opts_words : (all : List Field) (before : List Statement) (fs : List Field) (vs : List Value) → AllByRecursion (IsField all) fs → AllWritten before fs vs → list_all is_word (opts before fs vs) ≡ true
 opts_words all before fs vs p h = all_opts is_word (IsField all) before fs vs (λ f v i s. word_here f.key (value_text before v) s.inner) p h
@@ -191,21 +179,25 @@ default_value absent.Usual (shape.Named sort) (given.Place place) good d shaped 
 default_value (absent.Number n) (shape.Number low high) (given.Number m) good d shaped = ap (λ (x : ℕ). some (given.Number x)) (sym (eqb-true m n d))
 default_value _ _ _ good d shaped = absurd cc
 
--- the values that are written are read again
-pub values_from : (before : List Statement) (ws : List (List ℕ)) (fs : List Field) (vs : List Value) → AllWritten before fs vs → AreApart fs → AllByRecursion (λ f. is_good f.absent f.shape ≡ true) fs → Free ws fs → values_in before (ws ++ opts before fs vs) fs ≡ Some vs
+-- the options give these values, and none is bad
+abbrev pub Reads : List Statement → List (List ℕ) → List Field → List Value → Type 0
+Reads before options fs vs = (values_in before options fs ≡ Some vs) × (list_any (is_bad options) fs ≡ false)
+
+-- the values that are written are read again, and none is bad
+pub values_from : (before : List Statement) (ws : List (List ℕ)) (fs : List Field) (vs : List Value) → AllWritten before fs vs → AreApart fs → AllByRecursion (λ f. is_good f.absent f.shape ≡ true) fs → Free ws fs → Reads before (ws ++ opts before fs vs) fs vs
 unfolding values_in
-values_from before ws [] [] h a good free = refl
+values_from before ws [] [] h a good free = (refl, refl)
 values_from before ws (f ∷ fs) (v ∷ vs) (left d shaped, h) a good free =
     let none = text_nothing f.key ws (opts before fs vs) free.0 (no_key f.key before fs vs a.0 h) in
     let here : value_at before f (text_of f.key (ws ++ opts before fs vs)) ≡ Some v = rw none (default_value f.absent f.shape v good.0 d shaped) in
     let rest = values_from before ws fs vs h a.1 good.1 free.1 in
-    subst (λ (ps : List (List ℕ)). values_in before (ws ++ ps) (f ∷ fs) ≡ Some (v ∷ vs)) (sym (opts_left before f fs v vs d)) (rw (here, rest) refl)
+    subst (λ (ps : List (List ℕ)). Reads before (ws ++ ps) (f ∷ fs) (v ∷ vs)) (sym (opts_left before f fs v vs d)) (rw (here, rest.0) refl, rw none rest.1)
 values_from before ws (f ∷ fs) (v ∷ vs) (word d s, h) a good free =
     let o = option_is f.key (value_text before v) in
     let text = text_skip f.key ws (opts before fs vs) (opt before f v) (value_text before v) free.0 o.key o.value in
     let here : value_at before f (text_of f.key (ws ++ opt before f v ∷ opts before fs vs)) ≡ Some v = rw text s.reads in
     let rest = values_from before (ws ++ opt before f v ∷ []) fs vs h a.1 good.1 (free_push ws (opt before f v) f.key fs o.key a.0 free.1) in
-    let moved = subst (λ (ps : List (List ℕ)). values_in before ps fs ≡ Some vs) (append_assoc ws (opt before f v ∷ []) (opts before fs vs)) rest in
-    subst (λ (ps : List (List ℕ)). values_in before (ws ++ ps) (f ∷ fs) ≡ Some (v ∷ vs)) (sym (opts_word before f fs v vs d)) (rw (here, moved) refl)
+    let moved = subst (λ (ps : List (List ℕ)). Reads before ps fs vs) (append_assoc ws (opt before f v ∷ []) (opts before fs vs)) rest in
+    subst (λ (ps : List (List ℕ)). Reads before (ws ++ ps) (f ∷ fs) (v ∷ vs)) (sym (opts_word before f fs v vs d)) (rw (here, moved.0) refl, rw (text, s.valued) moved.1)
 values_from before ws [] (v ∷ vs) h a good free = absurd h
 values_from before ws (f ∷ fs) [] h a good free = absurd h

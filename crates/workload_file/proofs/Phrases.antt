@@ -2,7 +2,7 @@
 use Rattle.std.proofs.Common.{◌≡◌, ℕ, ◌+◌, ◌≤◌, List, [], ◌∷◌, ◌++◌, length, Bool, true, false, not, cond, ◌&&◌, eqb, refl, ap, ◌∙◌, arith, inl, inr, length-append, All}
 use Rattle.std.specs.Prelude.{nat_lt, filter}
 use Rattle.std.specs.List.{AllByRecursion, list_all, join_with_byte, onto_first}
-use Rattle.std.proofs.lemmas.Bool.{and_parts, and_from, cases_Bool, eq-eqb, eqb-true}
+use Rattle.std.proofs.lemmas.Bool.{and_parts, and_from, cases_Bool, eq-eqb, eqb-true, not-true}
 use Rattle.std.proofs.lemmas.List.Elements.{All-from_recursion}
 use Rattle.std.proofs.lemmas.List.Splits.{slice_split_at, slice_split_none, length-slice_split, join_with_byte-slice_split}
 use Rattle.number_text.specs.Lists.{between}
@@ -26,17 +26,13 @@ is_word w = nat_lt 0 (length w) && list_all is_inner w
 pub Lacks : ℕ → List ℕ → Type 0
 Lacks byte text = AllByRecursion (λ b. eqb b byte ≡ false) text
 
-not_true : (b : Bool) → not b ≡ true → b ≡ false
-not_true true h = absurd cc
-not_true false h = refl
-
 inner_lacks : (w : List ℕ) → list_all is_inner w ≡ true → Lacks 32 w
 unfolding Lacks
 inner_lacks [] h = tt
 inner_lacks (b ∷ bs) h =
     let both = and_parts (is_inner b) (list_all is_inner bs) h in
     let parts = and_parts (is_printable b) (not (eqb b 32)) both.0 in
-    (not_true (eqb b 32) parts.1, inner_lacks bs both.1)
+    (not-true (eqb b 32) parts.1, inner_lacks bs both.1)
 
 pub between_joined : (byte : ℕ) (first : List ℕ) (rest : List (List ℕ)) → AllByRecursion (Lacks byte) (first ∷ rest) → between byte (join_with_byte byte (first ∷ rest)) ≡ first ∷ rest
 unfolding Lacks

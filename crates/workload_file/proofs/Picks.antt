@@ -7,7 +7,7 @@ use Rattle.std.proofs.lemmas.Bool.{eq-eqb, cases_Bool, and_parts, and_from, or_p
 use Rattle.mtapi_values.specs.Kinds.{kind_named}
 use Rattle.number_text.specs.Numbers.{whole}
 use Rattle.number_text.specs.Lists.{list_of, led}
-use Rattle.number_text.proofs.Reading.{whole_fits, list_fits}
+use Rattle.number_text.proofs.Reading.{whole_fits, list_fits, bind_some}
 use Rattle.number_text.proofs.Spelling.{whole_spelled, list_spelled}
 use Rattle.number_text.proofs.Pieces.{led_append}
 use Rattle.workload_file.specs.declared.table.Shape.{Shape}
@@ -26,7 +26,7 @@ use Rattle.workload_file.specs.Options.{key_of, value_of, is_known, is_refused, 
 use Rattle.workload_file.specs.Changes.{value_given, value_absent, value_at, values_in}
 use Rattle.workload_file.specs.Written.{value_text, is_default, option_words, options_words}
 use Rattle.workload_file.specs.Formed.{Fits, AllFit}
-use Rattle.workload_file.proofs.Facts.{some_is, bind_some, map_some}
+use Rattle.workload_file.proofs.Facts.{some_is, map_some}
 use Rattle.workload_file.proofs.Fields.{AreApart, is_good, is_shaped, is_there, is_filled, are_filled}
 use Rattle.workload_file.proofs.Finds.{find_passes, find_all}
 use Rattle.workload_file.proofs.Places.{bytes_are, apart_sym}

@@ -25,7 +25,7 @@ use Rattle.number_text.proofs.Pieces.{led_append}
 use Rattle.workload_file.proofs.Facts.{IsRead, line_facts, line_read, words_facts, words_read, statement_facts, statement_read, some, some_is, map_some}
 use Rattle.workload_file.proofs.Fields.{is_deed, here, Says, says_node, says_caller, says_deed, says, node_change, caller_change, deed_change_is, fields_apart, fields_found, fields_good}
 use Rattle.workload_file.proofs.Finds.{find_passes}
-use Rattle.workload_file.proofs.Optioned.{all_read, opts_known, opts_valued, opts_words, opts_once, opts_lack_none, values_from}
+use Rattle.workload_file.proofs.Optioned.{all_read, opts_known, opts_words, opts_once, opts_lack_none, values_from}
 use Rattle.workload_file.proofs.Rereading.{free_none}
 use Rattle.workload_file.proofs.Invariant.{pair_is, split_parts, splits, named_by, deed_given, node_given}
 use Rattle.workload_file.proofs.Phrases.{is_word, all_append, all_parts, words_good, words_again, line_printable, printable_lacks, led_length, words_shorter}
@@ -75,12 +75,8 @@ node_named rest name options e = (pair_is None name rest options e).0
 split_again : (n : Naming) (rest : List (List ℕ)) (name : Option (List ℕ)) (options ps : List (List ℕ)) → split_name n rest ≡ Some (name, options) → split_name n (bound_words name ++ ps) ≡ Some (name, ps)
 unfolding split_name
 split_again rule.Bare rest name options ps e = let p = pair_is None name rest options e in rw (← p.0) refl
-split_again rule.Caller [] name options ps e = absurd cc
-split_again rule.Caller (x ∷ xs) name options ps e = let p = split_parts x xs name options e in rw (p.1, p.0) refl
-split_again (rule.Binds s) [] name options ps e = absurd cc
-split_again (rule.Binds s) (x ∷ xs) name options ps e = let p = split_parts x xs name options e in rw (p.1, p.0) refl
-split_again (rule.Uses s) [] name options ps e = absurd cc
-split_again (rule.Uses s) (x ∷ xs) name options ps e = let p = split_parts x xs name options e in rw (p.1, p.0) refl
+split_again _ [] name options ps e = absurd cc
+split_again _ (x ∷ xs) name options ps e = let p = split_parts x xs name options e in rw (p.1, p.0) refl
 
 -- a caller line has no options
 caller_values : (before : List Statement) (w : Word) (options : List (List ℕ)) → w ≡ word.Caller → values_in before options (fields w) ≡ Some []
@@ -103,7 +99,8 @@ record IsChosen (r : Reading) (first : List ℕ) (w : Word) (name : Option (List
 chosen : (r : Reading) (first : List ℕ) (rest : List (List ℕ)) (w : Word) (name : Option (List ℕ)) (options : List (List ℕ)) (vs : List Value) → IsRead r first rest w name options → list_all is_word options ≡ true → values_in (here r) options (fields w) ≡ Some vs → IsChosen r first w name options vs
 chosen r first rest w name options vs read words v =
     let fs = fields w in
-    let h = all_read (here r) fs options fs vs (fields_found w) (fields_good w) read.known read.valued words v in
+    let h = all_read (here r) fs options fs vs (fields_good w) read.known read.valued words v in
+    let again = values_from (here r) [] fs vs h (fields_apart w) (fields_good w) (free_none fs) in
     record {
       short = picks_short (here r) options fs vs (fields_apart w) (fields_good w) read.known v;
       good = opts_words fs (here r) fs vs (fields_found w) h;
@@ -115,11 +112,11 @@ chosen r first rest w name options vs read words v =
         split = split_again (naming w) rest name options (options_words (here r) fs vs) read.split;
         known = opts_known fs (here r) fs vs (fields_found w) h;
         once = opts_once (here r) fs vs (fields_apart w) h;
-        valued = opts_valued fs (here r) fs vs (fields_found w) h;
+        valued = again.1;
         present = opts_lack_none (here r) fs vs h;
         free = read.free;
       };
-      values = values_from (here r) [] fs vs h (fields_apart w) (fields_good w) (free_none fs);
+      values = again.0;
     }
 
 record IsRewritten (r : Reading) (line : ℕ) (first : List ℕ) (w : Word) (name : Option (List ℕ)) (options : List (List ℕ)) (c : Change) : Type 0 where

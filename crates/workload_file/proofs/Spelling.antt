@@ -14,7 +14,7 @@ use Rattle.mtapi_values.specs.Kinds.{kind_all, kind_word, kind_named}
 use Rattle.number_text.specs.Lists.{◌>>=◌}
 use Rattle.number_text.specs.Cores.{cores_text}
 use Rattle.number_text.specs.Cores.{cores_of as listed_cores}
-use Rattle.number_text.proofs.Reading.{cores_fit}
+use Rattle.number_text.proofs.Reading.{cores_fit, bind_some}
 use Rattle.number_text.proofs.Reading.{within_is as wide_is}
 use Rattle.number_text.proofs.Spelling.{number_spelled, cores_spelled}
 use Rattle.workload_file.specs.declared.table.Sort.{Sort}
@@ -25,7 +25,7 @@ use Rattle.workload_file.specs.Names.{place_of, bound_at, is_called, is_binding}
 use Rattle.workload_file.specs.Reading.{name_text}
 use Rattle.workload_file.specs.Written.{timeout_text, name_at, name_of}
 use Rattle.workload_file.specs.Formed.{IsBoundAt, IsTimeout}
-use Rattle.workload_file.proofs.Facts.{some_is, bind_some}
+use Rattle.workload_file.proofs.Facts.{some_is}
 use Rattle.workload_file.proofs.Finds.{find_passes}
 use Rattle.workload_file.proofs.Places.{bytes_are}
 

@@ -4,7 +4,6 @@ use Rattle.std.specs.List.{list_any, find}
 use Rattle.workload_file.specs.declared.table.Word.{Word}
 use Rattle.workload_file.specs.declared.table.Naming.{Naming}
 use Rattle.workload_file.specs.declared.table.Naming.TheVariants as rule
-use Rattle.workload_file.specs.declared.table.Field.{Field}
 use Rattle.workload_file.specs.declared.reading.Reading.{Reading}
 use Rattle.workload_file.specs.declared.faults.Fault.{Fault}
 use Rattle.workload_file.specs.declared.faults.Cause.{Cause}
@@ -13,7 +12,7 @@ use Rattle.number_text.specs.Lists.{between}
 use Rattle.workload_file.specs.Values.{is_name}
 use Rattle.workload_file.specs.Cuts.{words_of}
 use Rattle.workload_file.specs.Table.{word_of, naming, fields}
-use Rattle.workload_file.specs.Options.{value_of, field_of, is_known, has_twice, is_value, is_missing}
+use Rattle.workload_file.specs.Options.{is_known, has_twice, is_bad, is_missing}
 use Rattle.workload_file.specs.Names.{is_taken, is_unbound, has_unbound, is_misplaced, is_ninth_caller}
 use Rattle.workload_file.specs.Reading.{is_comment, is_printable, lines_add, start}
 
@@ -43,14 +42,6 @@ has_second (rule.Uses sort) = true
 abbrev pub options_in : Naming → List (List ℕ) → List (List ℕ)
 options_in n words = if has_second n then drop 2 words else drop 1 words
 
--- an option of the statement whose value is none of its shape
-abbrev pub bad_at : Option Field → List ℕ → Bool
-bad_at None text = false
-bad_at (Some field) text = not (is_value field.shape text)
-
-abbrev pub has_bad_value : List Field → List ℕ → Bool
-has_bad_value fields word = bad_at (field_of fields word) (value_of word)
-
 -- what is wrong with a statement of this word
 unfoldable pub is_faulty : Reading → Word → List (List ℕ) → Cause → Bool
 is_faulty r w words cause.TooManyCallers = is_ninth_caller r w
@@ -58,10 +49,10 @@ is_faulty r w words cause.Misplaced = is_misplaced r w
 is_faulty r w words cause.BadName = has_second (naming w) && not (is_name (second words))
 is_faulty r w words cause.UnknownOption = list_any (λ word. not (is_known (fields w) word)) (options_in (naming w) words)
 is_faulty r w words cause.OptionTwice = has_twice (options_in (naming w) words)
-is_faulty r w words cause.BadValue = list_any (has_bad_value (fields w)) (options_in (naming w) words)
+is_faulty r w words cause.BadValue = list_any (is_bad (options_in (naming w) words)) (fields w)
 is_faulty r w words cause.OptionMissing = list_any (is_missing (options_in (naming w) words)) (fields w)
 is_faulty r w words cause.NameTaken = is_taken r (naming w) (second words)
-is_faulty r w words cause.NameUnknown = is_unbound r (naming w) (second words) || list_any (has_unbound r (fields w)) (options_in (naming w) words)
+is_faulty r w words cause.NameUnknown = is_unbound r (naming w) (second words) || list_any (has_unbound r (options_in (naming w) words)) (fields w)
 is_faulty r w words _ = false
 
 abbrev pub is_faulty_of : Reading → Option Word → List (List ℕ) → Cause → Bool

@@ -1,6 +1,5 @@
 -- What the reader keeps beside the workload so far.
-use Rattle.std.specs.Prelude.{◌≡◌, ℕ, ◌+◌, ◌*◌, ◌≤◌, List, [], ◌∷◌, ◌++◌, length, Bool, false, not, Option, Some, None, Result, Ok, Err, if◌then◌else◌}
-use Rattle.workload_file.specs.declared.table.Shape.{Shape}
+use Rattle.std.specs.Prelude.{◌≡◌, ℕ, ◌+◌, ◌*◌, ◌≤◌, List, [], ◌∷◌, ◌++◌, length, Bool, not, Option, Some, None, Result, Ok, Err, if◌then◌else◌}
 use Rattle.workload_file.specs.declared.table.Field.{Field}
 use Rattle.workload_file.specs.declared.values.Value.{Value}
 use Rattle.workload_file.specs.declared.found.Found.{Found}
@@ -19,7 +18,7 @@ use Rattle.std.specs.BTreeMap.{get_by}
 use Rattle.std.specs.Ordering.{nat_cmp}
 use Rattle.workload_file.specs.Names.{bound_at, is_called, is_taken}
 use Rattle.workload_file.specs.Values.{is_name}
-use Rattle.workload_file.specs.Options.{is_value, text_of, is_known, has_twice, is_missing}
+use Rattle.workload_file.specs.Options.{is_known, has_twice, is_missing}
 
 -- the first value, or else the second
 abbrev pub first_of_two : Option ℕ → Option ℕ → Option ℕ
@@ -70,15 +69,6 @@ with_value _ _ = None
 abbrev pub ahead : Option (List Value) → Option (List Value) → Option (List Value)
 ahead (Some values) (Some behind) = Some (values ++ behind)
 ahead _ _ = None
-
--- a text that is none of its option's
-abbrev pub is_bad_text : Shape → Option (List ℕ) → Bool
-is_bad_text s None = false
-is_bad_text s (Some text) = not (is_value s text)
-
--- an option that is given such a text
-abbrev pub is_bad : List (List ℕ) → Field → Bool
-is_bad options field = is_bad_text field.shape (text_of field.key options)
 
 -- ---- the steps in which a statement is refused
 

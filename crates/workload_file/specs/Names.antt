@@ -14,7 +14,7 @@ use Rattle.workload_file.specs.declared.workload.Statement.{Statement}
 use Rattle.workload_file.specs.declared.reading.Reading.{Reading}
 use Rattle.workload_file.specs.Values.{is_name}
 use Rattle.workload_file.specs.Deeds.{binds, is_begin}
-use Rattle.workload_file.specs.Options.{field_of, value_of}
+use Rattle.workload_file.specs.Options.{text_of}
 
 -- the name is this one
 abbrev pub is_called : List ℕ → Option (List ℕ) → Bool
@@ -59,14 +59,14 @@ unfoldable pub is_unbound_value : Reading → Shape → List ℕ → Bool
 is_unbound_value r (shape.Named sort) text = not (is_some (place_of sort text r.current.statements))
 is_unbound_value r _ text = false
 
--- the same of the option that a word gives
-abbrev pub has_unbound_at : Reading → Option Field → List ℕ → Bool
-has_unbound_at r None text = false
-has_unbound_at r (Some field) text = is_unbound_value r field.shape text
+-- the same of the text of an option, where it is given
+abbrev pub is_unbound_text : Reading → Shape → Option (List ℕ) → Bool
+is_unbound_text r s None = false
+is_unbound_text r s (Some text) = is_unbound_value r s text
 
--- a word whose value is such a name
-abbrev pub has_unbound : Reading → List Field → List ℕ → Bool
-has_unbound r fields word = has_unbound_at r (field_of fields word) (value_of word)
+-- an option that is given such a name
+abbrev pub has_unbound : Reading → List (List ℕ) → Field → Bool
+has_unbound r options field = is_unbound_text r field.shape (text_of field.key options)
 
 -- a node that is not the first statement; a begin that is not in main's part, or not the first one
 unfoldable pub is_misplaced : Reading → Word → Bool

@@ -1,5 +1,5 @@
 -- The options of a statement: the words `key=value` behind its name.
-use Rattle.std.specs.Prelude.{ℕ, List, [], ◌∷◌, ◌==◌, ◌&&◌, ◌||◌, not, Bool, true, false, Option, Some, None, is_some, option_and_then, if◌then◌else◌}
+use Rattle.std.specs.Prelude.{ℕ, List, [], ◌∷◌, ◌==◌, ◌&&◌, ◌||◌, not, Bool, true, false, Option, Some, None, is_some}
 use Rattle.std.specs.List.{find, list_any, before_first, after_first}
 use Rattle.std.specs.Option.{option_map}
 use Rattle.std.specs.Str.{bytes_eq}
@@ -52,10 +52,6 @@ is_value shape.Kind text = is_some (kind_named text)
 is_value shape.Timeout text = is_some (timeout_of text)
 is_value (shape.Named sort) text = is_name text
 
--- the word gives an option of the statement a value of its shape
-abbrev pub has_value : List Field → List ℕ → Bool
-has_value fields word = is_some (option_and_then (λ f. if is_value f.shape (value_of word) then Some f else None) (field_of fields word))
-
 -- a word gives this option
 abbrev pub gives : Key → List (List ℕ) → Bool
 gives key words = list_any (λ w. bytes_eq (key_of w) (key_text key)) words
@@ -73,3 +69,12 @@ is_missing words field = is_refused field.absent && not (gives field.key words)
 -- the text of an option, where it is given
 unfoldable pub text_of : Key → List (List ℕ) → Option (List ℕ)
 text_of key words = option_map value_of (find (λ w. bytes_eq (key_of w) (key_text key)) words)
+
+-- a text that is none of its option's
+abbrev pub is_bad_text : Shape → Option (List ℕ) → Bool
+is_bad_text s None = false
+is_bad_text s (Some text) = not (is_value s text)
+
+-- an option that is given such a text
+abbrev pub is_bad : List (List ℕ) → Field → Bool
+is_bad words field = is_bad_text field.shape (text_of field.key words)

@@ -15,7 +15,7 @@ use Rattle.workload_file.specs.declared.faults.LineError.TheVariants as errors
 use Rattle.workload_file.specs.Cuts.{words_of}
 use Rattle.number_text.specs.Lists.{between}
 use Rattle.workload_file.specs.Table.{word_of, naming, fields}
-use Rattle.workload_file.specs.Options.{is_known, has_twice, has_value, is_missing}
+use Rattle.workload_file.specs.Options.{is_known, has_twice, is_bad, is_missing}
 use Rattle.workload_file.specs.Names.{split_name, is_taken, is_misplaced, is_ninth_caller}
 use Rattle.workload_file.specs.Changes.{usual_settings, change_of}
 
@@ -49,12 +49,12 @@ heading r first rest = do
   parts ← or_cause (split_name (naming word) rest) BadName
   Ok (word, parts.0, parts.1)
 
--- the options are of the statement, none twice, each with a value, and none is missing
+-- the options are of the statement, none twice, none with a bad value, and none is missing
 unfoldable pub check_options : List Field → List (List ℕ) → Result (Unit {0}) Cause
 check_options fields options = do
   a ← refuse (not (list_all (is_known fields) options)) UnknownOption
   b ← refuse (has_twice options) OptionTwice
-  c ← refuse (not (list_all (has_value fields) options)) BadValue
+  c ← refuse (list_any (is_bad options) fields) BadValue
   refuse (list_any (is_missing options) fields) OptionMissing
 
 -- what a statement adds, or its first cause

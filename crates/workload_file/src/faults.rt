@@ -73,14 +73,14 @@ pub enum LoadError {
 }
 
 /// A faulty line, counted from 1, and its first cause.
-#[derive(Clone, Copy, Debug, Drop, PartialEq, Eq)]
+#[derive(Clone, Copy, Drop)]
 pub struct Fault {
     pub line: u64,
     pub cause: Cause,
 }
 
 /// Why lines gave no workload.
-#[derive(Debug, Drop)]
+#[derive(Drop)]
 pub enum LineError {
     Memory,
     Refused(Fault),

@@ -3,9 +3,9 @@ ghost use Rattle.std.specs.Prelude.{◌≡◌, ◌||◌, not, is_some, Option, I
 ghost use Rattle.std.specs.Option.{option_copied};
 ghost use Rattle.std.specs.List.{list_any};
 ghost use Rattle.workload_file.specs.Texts.{texts};
-ghost use Rattle.workload_file.specs.Options.{is_value, text_of};
+ghost use Rattle.workload_file.specs.Options.{is_value, text_of, is_bad_text, is_bad};
 ghost use Rattle.workload_file.specs.Changes.{value_given, value_absent, value_at, values_in};
-ghost use Rattle.workload_file.specs.Indexed.{IsReader, seen, with_value, ahead, is_bad_text, is_bad};
+ghost use Rattle.workload_file.specs.Indexed.{IsReader, seen, with_value, ahead};
 
 use crate::name::is_name;
 use crate::names::place_of;

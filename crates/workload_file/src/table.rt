@@ -1,10 +1,10 @@
 //! The statements: their words, their names and their options, all by one table.
 ghost use Rattle.std.specs.Prelude.{◌≡◌, Option};
-ghost use Rattle.workload_file.specs.Table.{row, word_text, word_of, key_text, naming, fields};
+ghost use Rattle.workload_file.specs.Table.{word_text, word_of, key_text, naming, fields};
 
 /// The word of a statement.
 #[rattlefmt::skip]
-#[derive(Clone, Copy, PartialEq, Eq, Debug)]
+#[derive(Clone, Copy)]
 pub enum Word {
     Node, Caller, Begin, Action, ActionDelete, ActionEnable, ActionDisable, Start, Enqueue, Wait, Cancel, Group, WaitAll, WaitAny,
     GroupDelete, Queue, QueueGet, QueueEnable, QueueDisable, QueueDelete, Mutex, MutexGet, MutexDelete, Lock, Unlock, Sem, SemGet,
@@ -14,7 +14,7 @@ pub enum Word {
 
 /// The key of an option.
 #[rattlefmt::skip]
-#[derive(Clone, Copy, PartialEq, Eq, Debug)]
+#[derive(Clone, Copy)]
 pub enum Key {
     Workers, MaxTasks, MaxActions, MaxGroups, MaxQueues, MaxObjects, Priorities, Generations, Job, Kind, Cores, Args, Priority,
     Detached, Group, Queue, Timeout, Id, Limit, Ordered, Retain, Recursive, Key, Mode, Cells, Cell, Value,
@@ -22,21 +22,21 @@ pub enum Key {
 
 /// What a name is bound to.
 #[rattlefmt::skip]
-#[derive(Clone, Copy, PartialEq, Eq, Debug)]
+#[derive(Clone, Copy)]
 pub enum Sort { Action, Task, Group, Queue, Mutex, Sem, Rwl, Shmem }
 
 /// What the value of an option is.
 #[rattlefmt::skip]
-#[derive(Clone, Copy, PartialEq, Eq, Debug)]
+#[derive(Clone, Copy)]
 pub enum Shape { Number(u32, u32), Whole, Args, Cores, Kind, Flag, Mode, Timeout, Named(Sort) }
 
 /// Whether a statement has a name, and what for.
 #[rattlefmt::skip]
-#[derive(Clone, Copy, PartialEq, Eq, Debug)]
+#[derive(Clone, Copy)]
 pub enum Naming { Bare, Caller, Binds(Sort), Uses(Sort) }
 
 /// What it means that an option is absent.
-#[derive(Clone, Copy, PartialEq, Eq, Debug)]
+#[derive(Clone, Copy)]
 pub enum Absent {
     /// The statement is faulty.
     Refused,
@@ -47,19 +47,11 @@ pub enum Absent {
 }
 
 /// An option of a statement.
-#[derive(Clone, Copy, PartialEq, Eq, Debug)]
+#[derive(Clone, Copy)]
 pub struct Field {
     pub key: Key,
     pub shape: Shape,
     pub absent: Absent,
-}
-
-/// A statement: its word, what its second word is, and its options in order.
-#[derive(Clone, Copy)]
-struct Row {
-    text: &'static [u8],
-    naming: Naming,
-    fields: &'static [Field],
 }
 
 /// The table, handed to a macro. A line is a statement: its word, the word's text, what its name is, the place of the name that it
@@ -141,11 +133,21 @@ macro_rules! options {
     };
 }
 
-macro_rules! rows {
+macro_rules! texts {
     (($self:ident) $($family:ident { $($word:ident $text:literal $naming:ident$(($sort:ident))? [$($place:ident)?] $options:tt)* })*) => {
-        match $self {
-            $($(Word::$word => Row { text: $text, naming: Naming::$naming$((Sort::$sort))?, fields: options!($options) },)*)*
-        }
+        match $self { $($(Word::$word => $text,)*)* }
+    };
+}
+
+macro_rules! namings {
+    (($self:ident) $($family:ident { $($word:ident $text:literal $naming:ident$(($sort:ident))? [$($place:ident)?] $options:tt)* })*) => {
+        match $self { $($(Word::$word => Naming::$naming$((Sort::$sort))?,)*)* }
+    };
+}
+
+macro_rules! lists {
+    (($self:ident) $($family:ident { $($word:ident $text:literal $naming:ident$(($sort:ident))? [$($place:ident)?] $options:tt)* })*) => {
+        match $self { $($(Word::$word => options!($options),)*)* }
     };
 }
 
@@ -153,36 +155,31 @@ macro_rules! rows {
 const WORDS: [Word; 42] = statements!(words());
 
 impl Word {
-    /// The row of the table.
-    #[tactic(auto, unfolding(crate::specs::Table::row))]
-    fn row(self) -> Row
-        ensures text { result.text.now ≡ word_text self }
-        ensures naming { result.naming ≡ naming self }
-        ensures fields { result.fields.now ≡ fields self }
-    {
-        let word = self;
-        statements!(rows(word))
-    }
-
     /// The word itself.
+    #[tactic(auto, unfolding(crate::specs::Table::row))]
     pub fn text(self) -> &'static [u8]
         ensures { result.now ≡ word_text self }
     {
-        self.row().text
+        let word = self;
+        statements!(texts(word))
     }
 
     /// What its second word is.
+    #[tactic(auto, unfolding(crate::specs::Table::row))]
     pub fn naming(self) -> Naming
         ensures { result ≡ naming self }
     {
-        self.row().naming
+        let word = self;
+        statements!(namings(word))
     }
 
     /// Its options, in order.
+    #[tactic(auto, unfolding(crate::specs::Table::row))]
     pub fn fields(self) -> &'static [Field]
         ensures { result.now ≡ fields self }
     {
-        self.row().fields
+        let word = self;
+        statements!(lists(word))
     }
 
     /// The statement with this first word.

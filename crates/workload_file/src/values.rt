@@ -1,6 +1,6 @@
 //! The values of options, and what a deed says of its statement.
 ghost use Rattle.std.specs.Prelude.{◌≡◌, IfOk};
-ghost use Rattle.workload_file.specs.Deeds.{word_for, used_place, values, setting_values};
+ghost use Rattle.workload_file.specs.Deeds.{deed_spelled, setting_values};
 
 use crate::table::{Word, statements};
 use crate::workload::Deed;
@@ -65,9 +65,7 @@ pub fn deed_spelled(
     alloc: Global,
     deed: &Deed,
 ) -> Result<(Word, Option<u32>, Vec<Value>), AllocError>
-    ensures word { IfOk result (λ s. s.0 ≡ word_for deed.now) }
-    ensures place { IfOk result (λ s. s.1 ≡ used_place deed.now) }
-    ensures values { IfOk result (λ s. s.2.items ≡ values deed.now) }
+    ensures { IfOk result (λ s. deed_spelled deed.now ≡ record { word = s.0; place = s.1; values = s.2.items }) }
 {
     statements!(spell (alloc deed))
 }

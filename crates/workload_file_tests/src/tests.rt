@@ -21,40 +21,18 @@ fn told_in_pieces(alloc: Global, text: &[u8], most: usize) -> Result<String, Fai
     }
 }
 
-/// What reading a text tells a user, which is the same whole, by single bytes and in pieces of 7.
+/// What reading a text in pieces of 7 bytes tells a user. That the pieces make no difference is proved.
 fn told(alloc: Global, text: &[u8]) -> Result<String, Fail> {
-    let whole = told_in_pieces(alloc, text, 1_048_577)?;
-    let bytes = told_in_pieces(alloc, text, 1)?;
-    let sevens = told_in_pieces(alloc, text, 7)?;
-    if bytes.as_str() != whole.as_str() || sevens.as_str() != whole.as_str() {
-        return Ok(format!(in alloc; "whole {whole}, by bytes {bytes}, by sevens {sevens}")?);
-    }
-    Ok(whole)
+    told_in_pieces(alloc, text, 7)
 }
 
-/// The text that reading in pieces and writing a text give.
-fn rewritten_in_pieces(alloc: Global, text: &[u8], most: usize) -> Result<Vec<u8>, Fail>
-    requires { 0 < most }
-{
-    let mut src = MemSource::new(text.to_vec(alloc)?, most, Vec::new(alloc));
+/// Whether reading and writing a text gives this text. That it gives this text again is proved.
+fn is_rewritten(alloc: Global, text: &[u8], want: &[u8]) -> Result<bool, Fail> {
+    let mut src = MemSource::new(text.to_vec(alloc)?, 7, Vec::new(alloc));
     match read_workload(alloc, &mut src) {
-        Ok(load) => Ok(text_of(alloc, &load)?),
+        Ok(load) => Ok(text_of(alloc, &load)?.as_slice() == want),
         Err(_) => Err("not read")?,
     }
-}
-
-/// Whether reading and writing a text gives this text, read whole, by single bytes and in pieces of 7, and this text again itself.
-fn is_rewritten(alloc: Global, text: &[u8], want: &[u8]) -> Result<bool, Fail> {
-    let whole = rewritten_in_pieces(alloc, text, 1_048_576)?;
-    let bytes = rewritten_in_pieces(alloc, text, 1)?;
-    let sevens = rewritten_in_pieces(alloc, text, 7)?;
-    let again = rewritten_in_pieces(alloc, &whole, 1_048_576)?;
-    Ok(
-        whole.as_slice() == want
-            && bytes.as_slice() == want
-            && sevens.as_slice() == want
-            && again.as_slice() == want,
-    )
 }
 
 /// The text of a row, in which `;` stands for a line feed.

@@ -1,4 +1,5 @@
-use Rattle.std.proofs.Common.{◌++◌, append_assoc}
+use Rattle.std.proofs.Common.{◌++◌, append_assoc, sym, ap}
+use Rattle.workload_file.specs.Deeds.{Spelled}
 use Rattle.workload_file.specs.Written.{bound_words, used_words, options_words}
 use Rattle.workload_file.proofs.Laid.{on_ok, words_more, led_more}
 use Rattle.workload_file.proofs.page.push_statement.Goals as goal
@@ -12,4 +13,7 @@ returns c =
     let names = led_more first c.push_bound.new.out.items c.push_used.new.out.items bound used c.in_ok-push_bound.ensures c.in_ok-push_used.ensures in
     let options = options_words c.args.before.now c.fields.result.now c.deref.result.now in
     let all = on_ok c.push_options.result _ _ (λ e. words_more out first c.push_options.new.out.items c.text.result.now ((bound ++ used) ++ options) c.in_ok-extend_from_slice.ensures.items (led_more first c.push_used.new.out.items c.push_options.new.out.items (bound ++ used) options names e)) c.push_options.ensures in
-    rw (append_assoc bound used options, c.text.ensures, c.fields.ensures, c.deref.ensures.value, c.in_ok-word.ensures.values, c.in_ok-word.ensures.place, c.in_ok-word.ensures.word) at all
+    let values = ap (λ (s : Spelled). s.values) (sym c.in_ok-word.ensures) in
+    let place = ap (λ (s : Spelled). s.place) (sym c.in_ok-word.ensures) in
+    let word = ap (λ (s : Spelled). s.word) (sym c.in_ok-word.ensures) in
+    rw (append_assoc bound used options, c.text.ensures, c.fields.ensures, c.deref.ensures.value, values, place, word) at all

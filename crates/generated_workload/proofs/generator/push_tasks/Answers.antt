@@ -1,8 +1,8 @@
 use Rattle.std.proofs.Common.{sym, rules, arith}
 use Rattle.std.proofs.lemmas.List.{append-nil}
-use Rattle.mtapi_top.specs.Generated.{tasks}
-use Rattle.mtapi_top.proofs.GeneratedFormed.{one_more}
-use Rattle.mtapi_top.proofs.generator.push_tasks.Goals as goal
+use Rattle.generated_workload.specs.Generated.{tasks}
+use Rattle.generated_workload.proofs.Formed.{one_more}
+use Rattle.generated_workload.proofs.generator.push_tasks.Goals as goal
 
 pub loop-i-init : goal.loop-i-init
 unfolding tasks

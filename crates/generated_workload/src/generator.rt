@@ -2,7 +2,7 @@
 ghost use Rattle.std.specs.Prelude.{◌≡◌, ◌≤◌, ◌<◌, ◌++◌, ◌∷◌, [], ℤ, List, pos, Some, None, OnOk, IfOk, IsTrue};
 ghost use Rattle.workload_file.specs.Values.{is_name};
 ghost use Rattle.workload_file.specs.Formed.{WellFormed};
-ghost use Rattle.mtapi_top.specs.Generated.{binding, all_cores, first_statements, start, task_deed, task_name, task_statement, tasks, last_statement, generated_settings, generated};
+ghost use Rattle.generated_workload.specs.Generated.{binding, all_cores, first_statements, start, task_deed, task_name, task_statement, tasks, last_statement, generated_settings, generated};
 
 use mtapi_values::{Args, Kind, Mask, NodeAttr, Timeout};
 use number_text::push_number;

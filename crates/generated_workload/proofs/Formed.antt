@@ -21,7 +21,7 @@ use Rattle.workload_file.specs.Values.{is_name, is_name_byte, is_letter}
 use Rattle.workload_file.specs.Names.{is_called}
 use Rattle.workload_file.specs.Formed.{IsBoundAt, IsNew, IsStatement, AreStatements, begins, statement_lines, Rise, WellFormed}
 use Rattle.workload_file.proofs.Invariant.{push_statement, begins_push, any_push, Below, below_push, rise_push}
-use Rattle.mtapi_top.specs.Generated.{binding, first_statements, start, task_deed, task_name, task_statement, tasks, last_statement, generated}
+use Rattle.generated_workload.specs.Generated.{binding, first_statements, start, task_deed, task_name, task_statement, tasks, last_statement, generated}
 
 -- ---- names
 
@@ -68,7 +68,7 @@ unbound zero j le few = refl
 unbound (suc i) j le few = any_push (λ s. is_called (task_name j) s.name) (tasks i) (task_statement i) (unbound i j (omega arith) few) (other_name i j (omega arith) few)
 
 -- neither an action nor the group has it
-is_new : (i : ℕ) → i < 19000 → IsNew (first_statements ++ tasks i) (task_name i)
+pub is_new : (i : ℕ) → i < 19000 → IsNew (first_statements ++ tasks i) (task_name i)
 is_new i lt = (is_task_name i lt, unbound i i (omega arith) lt)
 
 -- ---- statements
@@ -95,7 +95,7 @@ group_bound : (xs : List Statement) → IsBoundAt sort.Group (first_statements +
 unfolding binds
 group_bound xs = (omega arith, refl)
 
-fits : (n : ℕ) → n < 2 ^ 63 → FitsSigned w64 (pos n)
+pub fits : (n : ℕ) → n < 2 ^ 63 → FitsSigned w64 (pos n)
 fits n lt = search rules
 
 start_is : (before : List Statement) (line : ℕ) (name : List ℕ) (job : ℕ) (args : List ℤ) → 1 ≤ job → job ≤ 65535 → length args ≤ 16 → AllByRecursion (FitsSigned w64) args → IsNew before name → IsBoundAt sort.Group before 2 → IsStatement before (binding line name (start job args))

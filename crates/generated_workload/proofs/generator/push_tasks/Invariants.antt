@@ -1,6 +1,6 @@
 use Rattle.std.proofs.Common.{◌≡◌, ◌≤◌, ◌-◌, ◌++◌}
-use Rattle.mtapi_top.specs.Generated.{tasks}
-use Rattle.mtapi_top.proofs.generator.push_tasks.Given as goal
+use Rattle.generated_workload.specs.Generated.{tasks}
+use Rattle.generated_workload.proofs.generator.push_tasks.Given as goal
 
 abbrev pub invariant-loop-i : goal.invariant-loop-i
 invariant-loop-i l = record {

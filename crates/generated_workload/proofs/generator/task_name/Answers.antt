@@ -1,8 +1,8 @@
 use Rattle.std.proofs.Common.{subst, sym, rules, List, ℕ}
 use Rattle.std.specs.Prelude.{IsTrue}
 use Rattle.workload_file.specs.Values.{is_name}
-use Rattle.mtapi_top.proofs.GeneratedFormed.{is_task_name}
-use Rattle.mtapi_top.proofs.generator.task_name.Goals as goal
+use Rattle.generated_workload.proofs.Formed.{is_task_name}
+use Rattle.generated_workload.proofs.generator.task_name.Goals as goal
 
 pub named-requires : goal.named-requires
 named-requires c = subst (λ (text : List ℕ). IsTrue (is_name text)) (sym (search rules)) (is_task_name c.args.i c.requires)

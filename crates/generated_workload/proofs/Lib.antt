@@ -1,0 +1,5 @@
+mod Formed
+mod Lines
+mod Heads
+mod Starts
+mod Read

@@ -1,0 +1,95 @@
+-- Lines of words: that they are read, and how long they are.
+use Rattle.std.proofs.Common.{◌≡◌, ℕ, ◌+◌, ◌^◌, ◌≤◌, ◌<◌, List, [], ◌∷◌, ◌++◌, length, true, false, Some, Ok, refl, sym, subst, ◌∙◌, arith, length-append}
+use Rattle.std.specs.List.{list_all, join_with_byte}
+use Rattle.std.specs.Char.{is_ascii_digit}
+use Rattle.std.specs.Fmt.{decimal}
+use Rattle.std.proofs.lemmas.Bool.{and_parts, and_from, le-leb, leb-true, lt-ltb, le-ltb, ne_eqb}
+use Rattle.std.proofs.lemmas.Fmt.{digits_decimal}
+use Rattle.number_text.specs.Lists.{led}
+use Rattle.number_text.proofs.Parsing.{own}
+use Rattle.number_text.proofs.Writing.{within_written}
+use Rattle.workload_file.specs.declared.reading.Reading.{Reading}
+use Rattle.workload_file.specs.declared.reading.Change.{Change}
+use Rattle.workload_file.specs.Reading.{statement_of, is_comment, with_change, line_adds, lines_add}
+use Rattle.workload_file.specs.Written.{line_text}
+use Rattle.workload_file.specs.Values.{number, number_within}
+use Rattle.workload_file.proofs.Facts.{bind_ok, ok_is, line_read, words_read}
+use Rattle.workload_file.proofs.Phrases.{is_inner, is_word, words_again, line_printable, led_length}
+
+-- ---- numbers in words
+
+digit_inner : (b : ℕ) → is_ascii_digit b ≡ true → is_inner b ≡ true
+digit_inner b h =
+    let both = and_parts _ _ h in
+    let low = leb-true 48 b both.0 in
+    let high = leb-true b 57 both.1 in
+    and_from _ _ (and_from _ _ (le-leb 32 b (omega arith)) (le-leb b 126 (omega arith))) (rw (ne_eqb b 32 (λ (e : b ≡ 32). omega arith)) refl)
+
+digits_inner : (ds : List ℕ) → list_all is_ascii_digit ds ≡ true → list_all is_inner ds ≡ true
+digits_inner [] h = refl
+digits_inner (d ∷ ds) h = let both = and_parts (is_ascii_digit d) (list_all is_ascii_digit ds) h in and_from _ _ (digit_inner d both.0) (digits_inner ds both.1)
+
+pub decimal_inner : (n : ℕ) → n < 2 ^ 64 → list_all is_inner (decimal n) ≡ true
+decimal_inner n lt = digits_inner (decimal n) (digits_decimal own n lt)
+
+pub inner_word : (b : ℕ) (bs : List ℕ) → list_all is_inner (b ∷ bs) ≡ true → is_word (b ∷ bs) ≡ true
+inner_word b bs h = and_from _ _ (lt-ltb 0 (length (b ∷ bs)) (omega arith)) h
+
+pub within_decimal : (low high n : ℕ) → low ≤ n → n ≤ high → n ≤ 4294967295 → number_within low high (decimal n) ≡ Some n
+unfolding number_within number
+within_decimal low high n a b c = rw (within_written 0 4294967295 n (omega arith) (omega arith) c, le-leb low n a, le-leb n high b) refl
+
+-- ---- lengths
+
+-- how long these texts are, each with one byte more
+unfoldable pub total : List (List ℕ) → ℕ
+total [] = 0
+total (x ∷ xs) = 1 + (length x + total xs)
+
+pub total_append : (xs ys : List (List ℕ)) → total (xs ++ ys) ≡ total xs + total ys
+unfolding total
+total_append [] ys = omega arith
+total_append (x ∷ xs) ys = let rest = total_append xs ys in omega (arith, rest)
+
+led_total : (byte : ℕ) (xs : List (List ℕ)) → length (led byte xs) ≡ total xs
+unfolding total
+led_total byte [] = refl
+led_total byte (x ∷ xs) = let rest = led_total byte xs in omega (arith, rest, length-append x (led byte xs))
+
+pub joined_total : (byte : ℕ) (x : List ℕ) (xs : List (List ℕ)) → length (join_with_byte byte (x ∷ xs)) + 1 ≡ total (x ∷ xs)
+joined_total byte x xs = sym (led_length byte x xs) ∙ led_total byte (x ∷ xs)
+
+-- ---- lines
+
+-- a statement by its words
+pub words_add : (r : Reading) (line : ℕ) (first : List ℕ) (rest : List (List ℕ)) (c : Change) → list_all is_word (first ∷ rest) ≡ true → total (first ∷ rest) ≤ 513 → is_comment first ≡ false → statement_of r line first rest ≡ Ok c → line_adds r line (line_text (first ∷ rest)) ≡ Ok (with_change r line (Some c))
+unfolding line_adds
+words_add r line first rest c words few comment e =
+    let size = joined_total 32 first rest in
+    let gives = line_read r line (line_text (first ∷ rest)) (Some c) (record {
+      short = le-ltb 512 (length (line_text (first ∷ rest))) (omega (arith, size, few));
+      printable = line_printable first rest words;
+      words = rw (words_again first rest words) (words_read r line first rest c comment e);
+    }) in
+    rw gives refl
+
+pub more : (r mid s : Reading) (line : ℕ) (text : List ℕ) (texts : List (List ℕ)) → line_adds r line text ≡ Ok mid → lines_add mid (line + 1) texts ≡ Ok s → lines_add r line (text ∷ texts) ≡ Ok s
+unfolding lines_add
+more r mid s line text texts e h = rw e h
+
+pub one : (r s : Reading) (line : ℕ) (text : List ℕ) → line_adds r line text ≡ Ok s → lines_add r line (text ∷ []) ≡ Ok s
+unfolding lines_add
+one r s line text e = rw e refl
+
+-- one line more
+pub push : (texts : List (List ℕ)) (r s t : Reading) (line : ℕ) (text : List ℕ) → lines_add r line texts ≡ Ok s → line_adds s (line + length texts) text ≡ Ok t → lines_add r line (texts ++ text ∷ []) ≡ Ok t
+unfolding lines_add
+push [] r s t line text e f =
+    let at : line + 0 ≡ line = omega arith in
+    let here : line_adds s line text ≡ Ok t = subst (λ (k : ℕ). line_adds s k text ≡ Ok t) at f in
+    let same : r ≡ s = ok_is r s e in
+    one r t line text (subst (λ (x : Reading). line_adds x line text ≡ Ok t) (sym same) here)
+push (x ∷ xs) r s t line text e f =
+    let b = bind_ok (line_adds r line x) _ s e in
+    let at : line + length (x ∷ xs) ≡ (line + 1) + length xs = omega arith in
+    more r b.0 t line x (xs ++ text ∷ []) b.1 (push xs b.0 s t (line + 1) text b.2 (subst (λ (k : ℕ). line_adds s k text ≡ Ok t) at f))

@@ -1,0 +1,200 @@
+-- The lines of the generated text that start a task, and the wait for all of them.
+use Rattle.std.proofs.Common.{◌≡◌, ℕ, ℤ, suc, pos, ◌+◌, ◌%◌, ◌^◌, ◌≤◌, ◌<◌, Bool, true, false, cond, eqb, List, [], ◌∷◌, ◌++◌, length, Some, None, Ok, refl, ap, ◌∙◌, arith, length-append}
+use Rattle.std.specs.Prelude.{codes, nat_le, position}
+use Rattle.std.specs.List.{list_all, list_any, position_or_len}
+use Rattle.std.specs.Fmt.{decimal}
+use Rattle.std.proofs.lemmas.Bool.{and_from, or_parts, lt-ltb, le-ltb, lt-leb}
+use Rattle.std.proofs.lemmas.Fmt.{length-decimal-le}
+use Rattle.number_text.specs.Lists.{list_of, list_text}
+use Rattle.number_text.proofs.Writing.{list_written}
+use Rattle.mtapi_values.specs.declared.timeouts.Timeout.TheVariants as timeout
+use Rattle.workload_file.specs.declared.table.Word.TheVariants as word
+use Rattle.workload_file.specs.declared.table.Sort.TheVariants as sort
+use Rattle.workload_file.specs.declared.values.Value.{Value}
+use Rattle.workload_file.specs.declared.values.Value.TheVariants as given
+use Rattle.workload_file.specs.declared.reading.Reading.{Reading}
+use Rattle.workload_file.specs.declared.reading.Change.TheVariants as change
+use Rattle.workload_file.specs.declared.workload.Statement.{Statement}
+use Rattle.workload_file.specs.declared.workload.Deed.TheVariants as deed
+use Rattle.workload_file.specs.Table.{row, fields, naming, key_text, word_of}
+use Rattle.workload_file.specs.Values.{is_name, timeout_of}
+use Rattle.workload_file.specs.Options.{is_value, has_twice, text_of}
+use Rattle.workload_file.specs.Names.{split_name, place_of, bound_at, is_called, is_taken, is_misplaced, is_ninth_caller}
+use Rattle.workload_file.specs.Deeds.{deed_with, binds}
+use Rattle.workload_file.specs.Deeds.{task_deed as deed_of_task}
+use Rattle.workload_file.specs.Changes.{values_in, value_given, value_absent, use_in}
+use Rattle.workload_file.specs.Written.{line_text}
+use Rattle.workload_file.specs.Reading.{with_change, line_adds}
+use Rattle.workload_file.proofs.Facts.{IsRead, statement_read}
+use Rattle.workload_file.proofs.Fields.{deed_change_is, made}
+use Rattle.workload_file.proofs.Phrases.{is_inner, is_word, all_append}
+use Rattle.generated_workload.specs.Generated.{binding, all_cores, first_statements, start, task_name, task_statement, tasks, last_statement}
+use Rattle.generated_workload.specs.Text.{start_words, task_words, last_line}
+use Rattle.generated_workload.proofs.Formed.{is_task_name, is_new, fits}
+use Rattle.generated_workload.proofs.Lines.{decimal_inner, inner_word, within_decimal, total, words_add}
+use Rattle.generated_workload.proofs.Heads.{Good, state}
+
+-- ---- names
+
+nowhere : {X : Type 0} (p : X → Bool) (xs : List X) → list_any p xs ≡ false → position_or_len p xs ≡ length xs
+nowhere p [] h = refl
+nowhere p (x ∷ xs) h =
+    let both = or_parts (p x) (list_any p xs) h in
+    let rest = nowhere p xs both.1 in
+    rw both.0 (omega (arith, rest))
+
+no_position : {X : Type 0} (p : X → Bool) (xs : List X) → list_any p xs ≡ false → position p xs ≡ None
+no_position p xs h = rw (nowhere p xs h, le-ltb (length xs) (length xs) (omega arith)) refl
+
+not_bound : (i : ℕ) → i < 19000 → bound_at (task_name i) (first_statements ++ tasks i) ≡ None
+not_bound i lt = no_position (λ (s : Statement). is_called (task_name i) s.name) (first_statements ++ tasks i) (is_new i lt).1
+
+-- the group is bound by the third statement
+group_place : (xs : List Statement) → place_of sort.Group (codes "g") (first_statements ++ xs) ≡ Some 2
+unfolding place_of binds
+group_place xs = rw (lt-ltb 2 (length (first_statements ++ xs)) (omega arith)) refl
+
+-- ---- a start
+
+abbrev options : ℕ → List ℤ → List (List ℕ)
+options job args = (codes "job=" ++ decimal job) ∷ (codes "args=" ++ list_text args) ∷ codes "group=g" ∷ []
+
+abbrev values : ℕ → List ℤ → List Value
+values job args = given.Number job ∷ given.Args args ∷ given.Number 0 ∷ given.Cores all_cores ∷ given.Flag false ∷ given.Place (Some 2) ∷ []
+
+-- what the numbers and the name of a start have to be
+record Fit (name : List ℕ) (job : ℕ) (args : List ℤ) : Type 0 where
+  low : 1 ≤ job
+  high : job ≤ 65535
+  list : list_of (list_text args) ≡ Some args
+  named : is_name name ≡ true
+
+start_is : (r : Reading) (name : List ℕ) (job : ℕ) (args : List ℤ) → Fit name job args → nat_le 20000 r.count ≡ false → bound_at name r.current.statements ≡ None → IsRead r (codes "start") (name ∷ options job args) word.Start (Some name) (options job args)
+unfolding row key_text word_of is_ninth_caller is_misplaced split_name has_twice is_value is_taken is_name text_of
+start_is r name job args f few new = record {
+  word = refl;
+  few = few;
+  callers = refl;
+  placed = refl;
+  split = rw f.named refl;
+  known = refl;
+  once = refl;
+  valued = rw (within_decimal 1 65535 job f.low f.high (omega (arith, f.high)), f.list) refl;
+  present = refl;
+  free = rw new refl;
+}
+
+start_values : (before : List Statement) (name : List ℕ) (job : ℕ) (args : List ℤ) → Fit name job args → place_of sort.Group (codes "g") before ≡ Some 2 → values_in before (options job args) (fields word.Start) ≡ Some (values job args)
+unfolding row key_text values_in text_of value_given value_absent
+start_values before name job args f group = rw (within_decimal 1 65535 job f.low f.high (omega (arith, f.high)), f.list, group) refl
+
+start_used : (before : List Statement) (name : List ℕ) → use_in before (naming word.Start) (Some name) ≡ Some None
+unfolding row use_in
+start_used before name = refl
+
+start_deed : (job : ℕ) (args : List ℤ) → deed_with word.Start None (values job args) ≡ Some (start job args)
+unfolding deed_with deed_of_task
+start_deed job args = refl
+
+start_bound : (line : ℕ) (name : List ℕ) (job : ℕ) (args : List ℤ) → made line word.Start (Some name) (start job args) ≡ binding line name (start job args)
+unfolding row
+start_bound line name job args = refl
+
+start_adds : (n w i : ℕ) (name : List ℕ) (job : ℕ) (args : List ℤ) → i < 19000 → Fit name job args → bound_at name (first_statements ++ tasks i) ≡ None → list_all is_word (start_words name job args) ≡ true → total (start_words name job args) ≤ 513 → line_adds (state n w (first_statements ++ tasks i) (i + 4)) (i + 5) (line_text (start_words name job args)) ≡ Ok (with_change (state n w (first_statements ++ tasks i) (i + 4)) (i + 5) (Some (change.Statement (binding (i + 5) name (start job args)))))
+start_adds n w i name job args lt f new words few =
+    let r = state n w (first_statements ++ tasks i) (i + 4) in
+    let c = change.Statement (binding (i + 5) name (start job args)) in
+    let room : nat_le 20000 (i + 4) ≡ false = lt-leb 20000 (i + 4) (omega arith) in
+    words_add r (i + 5) (codes "start") (name ∷ options job args) c words few refl
+    (statement_read r (i + 5) (codes "start") (name ∷ options job args) word.Start (Some name) (options job args) c (start_is r name job args f room new)
+    (deed_change_is r (i + 5) word.Start (Some name) (options job args) None (values job args) (start job args) refl (start_used r.current.statements name) (start_values r.current.statements name job args f (group_place (tasks i))) (start_deed job args)
+    ∙ ap (λ (s : Statement). Some (change.Statement s)) (start_bound (i + 5) name job args)))
+
+-- ---- a task
+
+two_numbers : (a b : ℕ) → a < 2 ^ 63 → b < 2 ^ 63 → list_of (list_text (pos a ∷ pos b ∷ [])) ≡ Some (pos a ∷ pos b ∷ [])
+two_numbers a b la lb = list_written (pos a ∷ pos b ∷ []) (omega arith) (omega arith) (fits a la, (fits b lb, tt))
+
+one_number : (a : ℕ) → a < 2 ^ 63 → list_of (list_text (pos a ∷ [])) ≡ Some (pos a ∷ [])
+one_number a la = list_written (pos a ∷ []) (omega arith) (omega arith) (fits a la, tt)
+
+start_good : (i job : ℕ) (args : List ℤ) → i < 19000 → job ≤ 9 → list_all is_inner (list_text args) ≡ true → length (list_text args) ≤ 7 → Good (start_words (task_name i) job args)
+unfolding total
+start_good i job args lt le inner short =
+    let name = inner_word 116 (decimal i) (decimal_inner i (omega arith)) in
+    let work = inner_word 106 (codes "ob=" ++ decimal job) (decimal_inner job (omega arith)) in
+    let list = inner_word 97 (codes "rgs=" ++ list_text args) inner in
+    let a = length-decimal-le 5 i (omega arith) (omega arith) (omega arith) in
+    let b = length-decimal-le 1 job (omega arith) (omega arith) (omega arith) in
+    record { good = and_from _ _ name (and_from _ _ work (and_from _ _ list refl)); few = omega (arith, a, b, short) }
+
+even_good : (i : ℕ) → i < 19000 → Good (start_words (task_name i) 1 (pos i ∷ pos 7 ∷ []))
+even_good i lt =
+    let a = length-decimal-le 5 i (omega arith) (omega arith) (omega arith) in
+    let b = length-decimal-le 1 7 (omega arith) (omega arith) (omega arith) in
+    start_good i 1 (pos i ∷ pos 7 ∷ []) lt (omega arith) (all_append is_inner (decimal i) (44 ∷ decimal 7) (decimal_inner i (omega arith)) (decimal_inner 7 (omega arith))) (omega (arith, a, b, length-append (decimal i) (44 ∷ decimal 7)))
+
+odd_good : (i : ℕ) → i < 19000 → Good (start_words (task_name i) 2 (pos (i % 64) ∷ []))
+odd_good i lt =
+    let a = length-decimal-le 2 (i % 64) (omega arith) (omega arith) (omega arith) in
+    start_good i 2 (pos (i % 64) ∷ []) lt (omega arith) (decimal_inner (i % 64) (omega arith)) (omega (arith, a))
+
+pub task_good : (i : ℕ) → i < 19000 → Good (task_words i)
+task_good i lt = by (eqb (i % 2) 0)
+  where
+    by : (b : Bool) → Good (cond b (start_words (task_name i) 1 (pos i ∷ pos 7 ∷ [])) (start_words (task_name i) 2 (pos (i % 64) ∷ [])))
+    by true = even_good i lt
+    by false = odd_good i lt
+
+next_state : (n w i : ℕ) → with_change (state n w (first_statements ++ tasks i) (i + 4)) (i + 5) (Some (change.Statement (task_statement i))) ≡ state n w (first_statements ++ tasks (suc i)) (suc i + 4)
+unfolding with_change tasks
+next_state n w i = let e : i + 4 + 1 ≡ suc i + 4 = omega arith in ap (λ (c : ℕ). state n w (first_statements ++ (tasks i ++ task_statement i ∷ [])) c) e
+
+task_adds_by : (n w i : ℕ) (b : Bool) → i < 19000 → line_adds (state n w (first_statements ++ tasks i) (i + 4)) (i + 5) (line_text (cond b (start_words (task_name i) 1 (pos i ∷ pos 7 ∷ [])) (start_words (task_name i) 2 (pos (i % 64) ∷ [])))) ≡ Ok (with_change (state n w (first_statements ++ tasks i) (i + 4)) (i + 5) (Some (change.Statement (binding (i + 5) (task_name i) (cond b (start 1 (pos i ∷ pos 7 ∷ [])) (start 2 (pos (i % 64) ∷ [])))))))
+task_adds_by n w i true lt =
+    let g = even_good i lt in
+    start_adds n w i (task_name i) 1 (pos i ∷ pos 7 ∷ []) lt (record { low = omega arith; high = omega arith; list = two_numbers i 7 (omega arith) (omega arith); named = is_task_name i lt }) (not_bound i lt) g.good (omega (arith, g.few))
+task_adds_by n w i false lt =
+    let g = odd_good i lt in
+    start_adds n w i (task_name i) 2 (pos (i % 64) ∷ []) lt (record { low = omega arith; high = omega arith; list = one_number (i % 64) (omega arith); named = is_task_name i lt }) (not_bound i lt) g.good (omega (arith, g.few))
+
+pub task_adds : (n w i : ℕ) → i < 19000 → line_adds (state n w (first_statements ++ tasks i) (i + 4)) (i + 5) (line_text (task_words i)) ≡ Ok (state n w (first_statements ++ tasks (suc i)) (suc i + 4))
+task_adds n w i lt = task_adds_by n w i (eqb (i % 2) 0) lt ∙ ap Ok (next_state n w i)
+
+-- ---- the wait for all tasks
+
+abbrev waits : List (List ℕ)
+waits = codes "timeout=inf" ∷ []
+
+last_is : (r : Reading) → nat_le 20000 r.count ≡ false → IsRead r (codes "wait_all") (codes "g" ∷ waits) word.WaitAll (Some (codes "g")) waits
+unfolding row key_text word_of is_ninth_caller is_misplaced split_name has_twice is_value is_taken is_name timeout_of text_of
+last_is r few = record { word = refl; few = few; callers = refl; placed = refl; split = refl; known = refl; once = refl; valued = refl; present = refl; free = refl }
+
+last_values : (before : List Statement) → values_in before waits (fields word.WaitAll) ≡ Some (given.Timeout timeout.Infinite ∷ [])
+unfolding row key_text values_in text_of value_given timeout_of
+last_values before = refl
+
+last_used : (before : List Statement) → place_of sort.Group (codes "g") before ≡ Some 2 → use_in before (naming word.WaitAll) (Some (codes "g")) ≡ Some (Some 2)
+unfolding row use_in
+last_used before e = rw e refl
+
+last_deed : deed_with word.WaitAll (Some 2) (given.Timeout timeout.Infinite ∷ []) ≡ Some (deed.WaitAll 2 timeout.Infinite)
+unfolding deed_with deed_of_task
+last_deed = refl
+
+last_made : (n : ℕ) → made (n + 5) word.WaitAll (Some (codes "g")) (deed.WaitAll 2 timeout.Infinite) ≡ last_statement n
+unfolding row
+last_made n = refl
+
+last_few : total (codes "wait_all" ∷ codes "g" ∷ waits) ≤ 513
+unfolding total
+last_few = omega arith
+
+pub last_adds : (n w : ℕ) → n ≤ 19000 → line_adds (state n w (first_statements ++ tasks n) (n + 4)) (n + 5) last_line ≡ Ok (with_change (state n w (first_statements ++ tasks n) (n + 4)) (n + 5) (Some (change.Statement (last_statement n))))
+last_adds n w le =
+    let r = state n w (first_statements ++ tasks n) (n + 4) in
+    let c = change.Statement (last_statement n) in
+    words_add r (n + 5) (codes "wait_all") (codes "g" ∷ waits) c refl last_few refl
+    (statement_read r (n + 5) (codes "wait_all") (codes "g" ∷ waits) word.WaitAll (Some (codes "g")) waits c (last_is r (lt-leb 20000 (n + 4) (omega arith)))
+    (deed_change_is r (n + 5) word.WaitAll (Some (codes "g")) waits (Some 2) (given.Timeout timeout.Infinite ∷ []) (deed.WaitAll 2 timeout.Infinite) refl (last_used r.current.statements (group_place (tasks n))) (last_values r.current.statements) last_deed
+    ∙ ap (λ (s : Statement). Some (change.Statement s)) (last_made n)))
