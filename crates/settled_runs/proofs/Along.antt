@@ -1,12 +1,104 @@
--- One walk along the statements of a part, with their lines and replies.
-use Rattle.settled_runs.proofs.Names.{IfSome, map, slice_get, append-nil, append_assoc, arith, inl, inr, refl, suc, sym, zero, ◌∙◌, List, Option, Some, [], length, true, ℕ, ◌++◌, ◌<◌, ◌∷◌, ◌≡◌, ◌⊎◌, ap, subst, Made, Line, Sort, Action, AreStatements, IsBoundAt, IsStatement, NodeSettings, Reply, Statement, call_of, handle_at, fst_true, snd_true, handle_of, some_same, AllGranted, GrantedTo, actions_in, Carried, binds, are_settled, is_settled_deed}
-use Rattle.settled_runs.proofs.Cuts.{same_head, same_tail}
+-- Where a line of a seat stands among the entries of a run, and one walk along the statements of a part, with their lines and replies.
+use Rattle.settled_runs.proofs.Names.{◌≡◌, ◌⊎◌, inl, inr, ℕ, Bool, true, false, cond, List, [], ◌∷◌, ◌++◌, length, refl, sym, ◌∙◌, ap, arith, ◌==◌, eqb-true, entry, NodeEntry, Line, line, lines_of, IfSome, map, slice_get, append-nil, append_assoc, suc, zero, Option, Some, ◌<◌, subst, Made, Sort, Action, AreStatements, IsBoundAt, IsStatement, NodeSettings, Reply, Statement, call_of, handle_at, fst_true, snd_true, handle_of, some_same, AllGranted, GrantedTo, actions_in, Carried, binds, are_settled, is_settled_deed, ◌+◌, length-append, length_push, map_push}
 
 -- Lists
 
-pub snoc : {X : Type 0} (xs : List X) (x : X) → length (xs ++ x ∷ []) ≡ suc (length xs)
-snoc [] x = refl
-snoc (y ∷ xs) x = ap suc (snoc xs x)
+pub same_head : {X : Type 0} (x y : X) (xs ys : List X) → x ∷ xs ≡ y ∷ ys → x ≡ y
+same_head x y xs ys e = cc
+
+pub same_tail : {X : Type 0} (x y : X) (xs ys : List X) → x ∷ xs ≡ y ∷ ys → xs ≡ ys
+same_tail x y xs ys e = cc
+
+-- of two places in one list the first one stands before the other, or they are one, or it stands behind it
+pub record Earlier {X : Type 0} (A : List X) (x : X) (B C : List X) (y : X) (D : List X) : Type 0 where
+  pub between : List X
+  pub front : C ≡ A ++ x ∷ between
+  pub back : B ≡ between ++ y ∷ D
+
+pub record AtOne {X : Type 0} (A : List X) (x : X) (B C : List X) (y : X) (D : List X) : Type 0 where
+  pub front : A ≡ C
+  pub here : x ≡ y
+  pub back : B ≡ D
+
+abbrev pub Placed : {X : Type 0} → List X → X → List X → List X → X → List X → Type 0
+Placed A x B C y D = Earlier A x B C y D ⊎ (AtOne A x B C y D ⊎ Earlier C y D A x B)
+
+pub placed : {X : Type 0} (A : List X) (x : X) (B C : List X) (y : X) (D : List X) → A ++ x ∷ B ≡ C ++ y ∷ D → Placed A x B C y D
+placed [] x B [] y D e = inr (inl (record { front = refl; here = same_head x y B D e; back = same_tail x y B D e }))
+placed [] x B (c ∷ C) y D e = inl (record { between = C; front = λ i. sym (same_head x c B (C ++ y ∷ D) e) i ∷ C; back = same_tail x c B (C ++ y ∷ D) e })
+placed (a ∷ A) x B [] y D e = inr (inr (record { between = A; front = λ i. same_head a y (A ++ x ∷ B) D e i ∷ A; back = sym (same_tail a y (A ++ x ∷ B) D e) }))
+placed (a ∷ A) x B (c ∷ C) y D e = deeper (same_head a c _ _ e) (placed A x B C y D (same_tail a c _ _ e))
+  where
+    deeper : a ≡ c → Placed A x B C y D → Placed (a ∷ A) x B (c ∷ C) y D
+    deeper h (inl p) = inl (record { between = p.between; front = λ i. sym h i ∷ p.front i; back = p.back })
+    deeper h (inr (inl p)) = inr (inl (record { front = λ i. h i ∷ p.front i; here = p.here; back = p.back }))
+    deeper h (inr (inr p)) = inr (inr (record { between = p.between; front = λ i. h i ∷ p.front i; back = p.back }))
+
+-- Lines
+
+pub lines_append : (who : ℕ) (P M : List NodeEntry) (ps ms : List ℕ) → length P ≡ length ps → lines_of who (P ++ M) (ps ++ ms) ≡ lines_of who P ps ++ lines_of who M ms
+unfolding lines_of
+lines_append who [] M [] ms l = refl
+lines_append who [] M (n ∷ ps) ms l = absurd (omega arith)
+lines_append who (e ∷ P) M [] ms l = absurd (omega arith)
+lines_append who (e ∷ P) M (n ∷ ps) ms l =
+    let k = lines_append who P M ps ms (omega arith) in
+    elim (e.who == who) as (λ b. cond b (line e.op e.reply n ∷ lines_of who (P ++ M) (ps ++ ms)) (lines_of who (P ++ M) (ps ++ ms)) ≡ cond b (line e.op e.reply n ∷ lines_of who P ps) (lines_of who P ps) ++ lines_of who M ms) [ true ↦ (λ i. line e.op e.reply n ∷ k i) | false ↦ k ]
+
+-- the entry of a line, with the seat's lines before it and behind it
+pub record Cut (who : ℕ) (es : List NodeEntry) (ns : List ℕ) (A : List Line) (l : Line) (B : List Line) : Type 0 where
+  pub before : List NodeEntry
+  pub behind : List NodeEntry
+  pub first : List ℕ
+  pub rest : List ℕ
+  pub is : es ≡ before ++ entry who l.op l.reply ∷ behind
+  pub numbers : ns ≡ first ++ l.beside ∷ rest
+  pub same : length before ≡ length first
+  pub alike : length es ≡ length ns → length behind ≡ length rest
+  pub done : lines_of who before first ≡ A
+  pub left : lines_of who behind rest ≡ B
+
+pub cut : (who : ℕ) (es : List NodeEntry) (ns : List ℕ) (A : List Line) (l : Line) (B : List Line) → lines_of who es ns ≡ A ++ l ∷ B → Cut who es ns A l B
+unfolding lines_of
+cut who [] ns [] l B i = absurd (cc)
+cut who [] ns (a ∷ A) l B i = absurd (cc)
+cut who (e ∷ es) [] [] l B i = absurd (cc)
+cut who (e ∷ es) [] (a ∷ A) l B i = absurd (cc)
+cut who (e ∷ es) (n ∷ ns) A l B i = by (e.who == who) refl i (cut who es ns)
+  where
+    later : (C : List Line) → lines_of who (e ∷ []) (n ∷ []) ++ C ≡ A → Cut who es ns C l B → Cut who (e ∷ es) (n ∷ ns) A l B
+    later C f c = record {
+      before = e ∷ c.before;
+      behind = c.behind;
+      first = n ∷ c.first;
+      rest = c.rest;
+      is = λ j. e ∷ c.is j;
+      numbers = λ j. n ∷ c.numbers j;
+      same = omega arith;
+      alike = λ k. c.alike (omega arith);
+      done = lines_append who (e ∷ []) c.before (n ∷ []) c.first refl ∙ ap (λ (x : List Line). lines_of who (e ∷ []) (n ∷ []) ++ x) c.done ∙ f;
+      left = c.left;
+    }
+
+    here : (e.who == who) ≡ true → line e.op e.reply n ≡ l → lines_of who es ns ≡ B → A ≡ [] → Cut who (e ∷ es) (n ∷ ns) A l B
+    here w h r a = record { before = []; behind = es; first = []; rest = ns; is = λ j. entry (eqb-true e.who who w j) (h j).op (h j).reply ∷ es; numbers = λ j. (h j).beside ∷ ns; same = refl; alike = λ k. omega arith; done = sym a; left = r }
+
+    by : (b : Bool) → (e.who == who) ≡ b → cond b (line e.op e.reply n ∷ lines_of who es ns) (lines_of who es ns) ≡ A ++ l ∷ B
+        → ((C : List Line) (x : Line) (D : List Line) → lines_of who es ns ≡ C ++ x ∷ D → Cut who es ns C x D) → Cut who (e ∷ es) (n ∷ ns) A l B
+    by false w f k = later A (ap (λ (b : Bool). cond b (line e.op e.reply n ∷ []) [] ++ A) w) (k A l B f)
+    by true w f k = first A refl f
+      where
+        first : (C : List Line) → C ≡ A → line e.op e.reply n ∷ lines_of who es ns ≡ C ++ l ∷ B → Cut who (e ∷ es) (n ∷ ns) A l B
+        first [] c g = here w (same_head _ _ _ _ g) (same_tail _ _ _ _ g) (sym c)
+        first (a ∷ C) c g = later C (ap (λ (b : Bool). cond b (line e.op e.reply n ∷ []) [] ++ C) w ∙ (λ j. same_head _ _ _ _ g j ∷ C) ∙ c) (k C l B (same_tail _ _ _ _ g))
+
+-- the lines of any seat in two, and those of its own
+pub cut_split : (who : ℕ) (es : List NodeEntry) (ns : List ℕ) (A : List Line) (l : Line) (B : List Line) (c : Cut who es ns A l B) (v : ℕ) → lines_of v es ns ≡ lines_of v c.before c.first ++ lines_of v (entry who l.op l.reply ∷ c.behind) (l.beside ∷ c.rest)
+cut_split who es ns A l B c v = (λ i. lines_of v (c.is i) (c.numbers i)) ∙ lines_append v c.before (entry who l.op l.reply ∷ c.behind) c.first (l.beside ∷ c.rest) c.same
+
+-- Statements
+
+-- Lists
 
 pub get_front : {X : Type 0} (xs ys : List X) (n : ℕ) → n < length xs → slice_get (xs ++ ys) n ≡ slice_get xs n
 get_front [] ys n l = absurd (omega arith)
@@ -29,15 +121,7 @@ get_last : {X : Type 0} (xs : List X) (x y : X) (n : ℕ) → slice_get (xs ++ x
 get_last [] x y zero e = inr (some_same e, refl)
 get_last [] x y (suc n) e = inl e
 get_last (z ∷ xs) x y zero e = inl e
-get_last (z ∷ xs) x y (suc n) e = deeper (get_last xs x y n e)
-  where
-    deeper : (slice_get xs n ≡ Some y) ⊎ ((x ≡ y) × (length xs ≡ n)) → (slice_get xs n ≡ Some y) ⊎ ((x ≡ y) × (suc (length xs) ≡ suc n))
-    deeper (inl k) = inl k
-    deeper (inr k) = inr (k.0, ap suc k.1)
-
-map_more : (rs : List Reply) (r : Reply) → map handle_of rs ++ handle_of r ∷ [] ≡ map handle_of (rs ++ r ∷ [])
-map_more [] r = refl
-map_more (x ∷ rs) r = ap (λ (z : List ℕ). handle_of x ∷ z) (map_more rs r)
+get_last (z ∷ xs) x y (suc n) e = elim (get_last xs x y n e) as (λ k. (slice_get xs n ≡ Some y) ⊎ ((x ≡ y) × (suc (length xs) ≡ suc n))) [ inl k ↦ inl k | inr k ↦ inr (k.0, ap suc k.1) ]
 
 -- the handle that a reply binds is that of its place
 bound_here : (rs : List Reply) (r : Reply) (qs : List Reply) (n : ℕ) → length rs ≡ n → handle_at (map handle_of (rs ++ r ∷ qs)) n ≡ handle_of r
@@ -90,14 +174,12 @@ module _ (all : List Statement) (ls : List Line) (rs : List Reply) (I : List Sta
   along_from before l1 r1 [] ks (r ∷ qs) c1 n c a e t i = absurd c
   along_from before l1 r1 (s ∷ ss) ks [] c1 n c a e t i = absurd c
   along_from before l1 r1 (s ∷ ss) ks (r ∷ qs) c1 n c a e t i =
+      let e2 : ls ≡ l1 ++ (c.0 ++ c.1) = e ∙ ap (λ (z : List Line). l1 ++ z) c.2 in
       along_from (before ++ s ∷ []) (l1 ++ c.0) (r1 ++ r ∷ []) ss c.1 qs
       (carried_more [] before (s ∷ []) l1 c.0 r1 (r ∷ []) c1 (c.0, [], sym (append-nil c.0), c.3, refl))
-      (snoc r1 r ∙ ap suc n ∙ sym (snoc before s)) (subst (λ (x : List ℕ). Carried Made x ss c.1 qs) (map_more r1 r) c.4)
+      (length_push r1 r ∙ ap (λ (k : ℕ). k + 1) n ∙ sym (length_push before s)) (subst (λ (x : List ℕ). Carried Made x ss c.1 qs) (sym (map_push handle_of r1 r)) c.4)
       (a ∙ sym (append_assoc before (s ∷ []) ss)) (e2 ∙ sym (append_assoc l1 c.0 c.1)) (t ∙ sym (append_assoc r1 (r ∷ []) qs))
       (step before l1 r1 s c.0 r (record { rest = ss; more = c.1; others = qs; parted = a; is = e2; told = t; carried = c1; many = n; made = c.3 }) i)
-    where
-      e2 : ls ≡ l1 ++ (c.0 ++ c.1)
-      e2 = e ∙ ap (λ (z : List Line). l1 ++ z) c.2
 
   pub along : Carried Made [] all ls rs → I [] [] [] → I all ls rs
   unfolding Carried
@@ -166,12 +248,7 @@ bound_by t before place b =
     record { statement = x.0; found = x.1; binding = subst (λ (o : Option Statement). IfSome o (λ s. binds t s.deed ≡ true)) x.1 b.1; early = b.0 }
 
 pub bound_longer : (t : Sort) (before more : List Statement) (place : ℕ) → BoundBy t before place → BoundBy t (before ++ more) place
-bound_longer t before more place b = record { statement = b.statement; found = get_front before more place b.early ∙ b.found; binding = b.binding; early = within before place b.early }
-  where
-    within : (xs : List Statement) (n : ℕ) → n < length xs → n < length (xs ++ more)
-    within [] n l = absurd (omega arith)
-    within (x ∷ xs) zero l = omega arith
-    within (x ∷ xs) (suc n) l = let k : n < length (xs ++ more) = within xs n (omega arith) in omega arith
+bound_longer t before more place b = record { statement = b.statement; found = get_front before more place b.early ∙ b.found; binding = b.binding; early = (let k : place < length before = b.early in let n : length (before ++ more) ≡ length before + length more = length-append before more in omega arith) }
 
 pub bound_shorter : (t : Sort) (before more : List Statement) (place : ℕ) → place < length before → BoundBy t (before ++ more) place → BoundBy t before place
 bound_shorter t before more place l b = record { statement = b.statement; found = sym (get_front before more place l) ∙ b.found; binding = b.binding; early = l }
@@ -196,12 +273,8 @@ pub record Found (all : List Statement) (ls : List Line) (rs : List Reply) (plac
 pub found : (all : List Statement) (ls : List Line) (rs : List Reply) → Carried Made [] all ls rs → (place : ℕ) (s : Statement) → slice_get all place ≡ Some s → Found all ls rs place s
 found all ls rs c =
     along all ls rs (λ b l r. (place : ℕ) (s : Statement) → slice_get b place ≡ Some s → Found all ls rs place s)
-    (λ b l r t front q x i place s e. by b l r t front q x place s (i place s) (get_last b t s place e)) c (λ place s e. absurd (cc))
-  where
-    by : (b : List Statement) (l : List Line) (r : List Reply) (t : Statement) (front : List Line) (q : Reply) → Step all ls rs b l r t front q → (place : ℕ) (s : Statement) → (slice_get b place ≡ Some s → Found all ls rs place s)
-        → (slice_get b place ≡ Some s) ⊎ ((t ≡ s) × (length b ≡ place)) → Found all ls rs place s
-    by b l r t front q x place s i (inl k) = i k
-    by b l r t front q x place s i (inr k) = record { before = b; first = l; replies = r; front = front; reply = q; step = subst (λ (z : Statement). Step all ls rs b l r z front q) k.0 x; early = k.1 }
+    (λ b l r t front q x i place s e. elim (get_last b t s place e) as (λ k. Found all ls rs place s)
+    [ inl k ↦ i place s k | inr k ↦ record { before = b; first = l; replies = r; front = front; reply = q; step = subst (λ (z : Statement). Step all ls rs b l r z front q) k.0 x; early = k.1 } ]) c (λ place s e. absurd (cc))
 
 module _ (all : List Statement) (ls : List Line) (rs : List Reply) (place : ℕ) (s : Statement) (f : Found all ls rs place s) where
   pub found_bound : handle_at (map handle_of rs) place ≡ handle_of f.reply

@@ -8,40 +8,4 @@ worked_settled = record { failing_settled = refl; failing_report = refl; failing
 
 pub worked_unsettled : WorkedUnsettled
 unfolding has_begin digits fits answer_of report one_task after_from live_of issue change listed issued_at retired is_full may_issue has_worker end_each is_ready can_take has_better decided further_told end_at shown_of task_lines_of task_name call_lines_of numbers_text end_text task_in plain_end plain_fault faults_behind plain_call_line plain_calls_from plain_report is_settled_deed are_settled sets_up_first has_one_kind_a_job has_different_ids keep_limits have_one_fault_a_group is_settled is_begin
-worked_unsettled = record {
-  watch = refl;
-  tally = refl;
-  two_kinds = refl;
-  no_begin = refl;
-  late_action = refl;
-  further_action = refl;
-  no_action = refl;
-  no_action_of_queue = refl;
-  no_core = refl;
-  one_core = refl;
-  priority = refl;
-  queue_priority = refl;
-  detached = refl;
-  ids = refl;
-  bounded = refl;
-  bounded_all = refl;
-  twice = refl;
-  member = refl;
-  tasks = refl;
-  tasks_of_all = refl;
-  groups = refl;
-  actions = refl;
-  queues = refl;
-  limit = refl;
-  faults = refl;
-  faults_apart = refl;
-  cancel = refl;
-  wait_any = refl;
-  mutex = refl;
-  cancelled_unsettled = refl;
-  cancelled_plain = refl;
-  cancelled_report = refl;
-  full_unsettled = refl;
-  full_plain = refl;
-  full_report = refl;
-}
+worked_unsettled = record { watch = refl; tally = refl; two_kinds = refl; no_begin = refl; late_action = refl; further_action = refl; no_action = refl; no_action_of_queue = refl; no_core = refl; one_core = refl; priority = refl; queue_priority = refl; detached = refl; ids = refl; bounded = refl; bounded_all = refl; twice = refl; member = refl; tasks = refl; tasks_of_all = refl; groups = refl; actions = refl; queues = refl; limit = refl; faults = refl; faults_apart = refl; cancel = refl; wait_any = refl; mutex = refl; cancelled_unsettled = refl; cancelled_plain = refl; cancelled_report = refl; full_unsettled = refl; full_plain = refl; full_report = refl }

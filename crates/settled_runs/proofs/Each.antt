@@ -1,5 +1,5 @@
 -- What holds of each line of a seat, and of each entry of a run.
-use Rattle.settled_runs.proofs.Names.{Each, list_any, list_all, flat_map, ap, append_assoc, arith, cond, refl, suc, sym, ◌∙◌, Bool, List, None, Option, Some, [], false, length, true, ℕ, ◌++◌, ◌+◌, ◌<◌, ◌∷◌, ◌≡◌, ◌≤◌, subst, append-nil, eq-eqb, eqb-true, or_left, or_right, list_any-append, nat_lt, not, ◌&&◌, ◌==◌, nat_tests, Made, line, Line, before_it, head_of, in_lines, tail_of_main, Action, BySeats, is_release, Call, Looking, Once, CallerRan, MainRan, PartsRan, NodeEntry, NodeSettings, Op, Part, Reply, RunOf, WorkerRan, is_work, Statement, Workload, entry, fst_true, not_true, snd_true, true_false, has_room, are_settled_parts, has_one_fault_a_group, is_settled_further, is_settled_part, set_up, action_in, actions_in, all_statements, lines_of, CallersRan, Carried, has_begin, all_work, are_settled, has_different_ids, has_one_kind_a_job, is_settled, keep_limits, sets_up_first}
+use Rattle.settled_runs.proofs.Names.{Each, list_any, list_all, flat_map, ap, append_assoc, arith, cond, refl, suc, sym, ◌∙◌, Bool, List, None, Option, Some, [], false, length, true, ℕ, ◌++◌, ◌+◌, ◌<◌, ◌∷◌, ◌≡◌, ◌≤◌, subst, append-nil, eq-eqb, eqb-true, or_left, or_right, list_any-append, nat_lt, not, ◌&&◌, ◌==◌, nat_tests, Made, line, Line, before_it, head_of, in_lines, tail_of_main, Action, BySeats, Call, Looking, Once, CallerRan, MainRan, PartsRan, NodeEntry, NodeSettings, Op, Part, Reply, RunOf, WorkerRan, is_work, Statement, Workload, entry, fst_true, not_true, snd_true, true_false, has_room, are_settled_parts, has_one_fault_a_group, is_settled_further, is_settled_part, set_up, action_in, actions_in, all_statements, lines_of, CallersRan, Carried, has_begin, all_work, are_settled, has_different_ids, has_one_kind_a_job, is_settled, keep_limits, sets_up_first, inl, inr, cases_eq, cond_both, and_parts, Timeout, Looked}
 use Rattle.mtapi_machine.specs.declared.ops.Op.TheVariants as op
 use Rattle.mtapi_machine.specs.declared.replies.Reply.TheVariants as reply
 use Rattle.settled_runs.proofs.Along.{Step, along}
@@ -47,6 +47,10 @@ module _ (P : Op → Type 0) where
       → ((before : List Statement) (l1 : List Line) (r1 : List Reply) (s : Statement) (front : List Line) (r : Reply) → Step all ls rs before l1 r1 s front r → Each (λ l. P l.op) front) → Each (λ l. P l.op) ls
   statements_each all ls rs c per = along all ls rs (λ b l r. Each (λ k. P k.op) l) (λ b l1 r1 s front r x i. each_both (λ (k : Line). P k.op) l1 front i (per b l1 r1 s front r x)) c tt
 
+-- a call that keeps no look has one line
+pub one_look : (o : Bool → Op) (t : Timeout) (ls : List Line) (r : Reply) (m : Looked false o t ls r) → ls ≡ line (o m.last) r m.beside ∷ []
+one_look o t ls r m = m.is ∙ ap (λ (x : Option ℕ). before_it (o false) x ++ line (o m.last) r m.beside ∷ []) (m.none_kept refl)
+
 -- Workers
 
 -- the op is one of a worker
@@ -70,6 +74,10 @@ is_outside op.Close = true
 is_outside op.Final = true
 is_outside o = is_at_work o
 
+pub work_outside : (o : Op) → is_at_work o ≡ true → is_outside o ≡ true
+work_outside op.Initialize e = refl
+work_outside _ e = cc
+
 at_work : (o : Op) (r : Reply) → is_work o r ≡ true → is_at_work o ≡ true
 at_work op.Pick r e = refl
 at_work _ r e = cc
@@ -89,15 +97,10 @@ entries_each : (Q : NodeEntry → Type 0) (n : ℕ) (es : List NodeEntry) (ns : 
 unfolding lines_of
 entries_each Q n [] ns l b k = tt
 entries_each Q n (e ∷ es) [] l b k = absurd (omega arith)
-entries_each Q n (e ∷ es) (m ∷ ns) l b k = (head (e.who == e.who) (eq-eqb e.who e.who refl) (k e.who b.0), entries_each Q n es ns (omega arith) b.1 (λ w i. tail w (e.who == w) (k w i)))
-  where
-    head : (c : Bool) → c ≡ true → Each (λ x. Q (entry e.who x.op x.reply)) (cond c (line e.op e.reply m ∷ lines_of e.who es ns) (lines_of e.who es ns)) → Q e
-    head true i p = p.0
-    head false i p = true_false i refl
-
-    tail : (w : ℕ) (c : Bool) → Each (λ x. Q (entry w x.op x.reply)) (cond c (line e.op e.reply m ∷ lines_of w es ns) (lines_of w es ns)) → Each (λ x. Q (entry w x.op x.reply)) (lines_of w es ns)
-    tail w true p = p.1
-    tail w false p = p
+entries_each Q n (e ∷ es) (m ∷ ns) l b k = (
+  (subst (λ (c : Bool). Each (λ x. Q (entry e.who x.op x.reply)) (cond c (line e.op e.reply m ∷ lines_of e.who es ns) (lines_of e.who es ns))) (eq-eqb e.who e.who refl) (k e.who b.0)).0,
+  entries_each Q n es ns (omega arith) b.1 (λ w i. cond_both (e.who == w) (line e.op e.reply m ∷ lines_of w es ns) (lines_of w es ns) (λ z. Each (λ x. Q (entry w x.op x.reply)) z → Each (λ x. Q (entry w x.op x.reply)) (lines_of w es ns)) (λ j p. p.1) (λ j p. p) (k w i)),
+)
 
 -- only this seat asks for such an op
 abbrev pub OnlyBy : ℕ → (Op → Bool) → List NodeEntry → Type 0
@@ -135,11 +138,7 @@ with_each R P first (p ∷ ps) (rs ∷ rss) a e = ((a.0, e.0), with_each R P (su
 seat_of : (R : ℕ → Type 0) (first : ℕ) (ps : List Part) (rss : List (List Reply)) → AllSeats (λ w p rs. R w) first ps rss → (w : ℕ) → first ≤ w → w < first + length ps → R w
 seat_of R first [] rss a w l k = absurd (omega arith)
 seat_of R first (p ∷ ps) [] a w l k = absurd a
-seat_of R first (p ∷ ps) (rs ∷ rss) a w l k = by (w == first) refl (λ i. seat_of R (suc first) ps rss a.1 w i (omega arith))
-  where
-    by : (b : Bool) → (w == first) ≡ b → (suc first ≤ w → R w) → R w
-    by true i rest = subst R (sym (grind (arith, nat_tests))) a.0
-    by false i rest = rest (grind (arith, nat_tests))
+seat_of R first (p ∷ ps) (rs ∷ rss) a w l k = elim (cases_eq w first) as (λ z. R w) [ inl i ↦ subst R (sym i) a.0 | inr n ↦ seat_of R (suc first) ps rss a.1 w (omega (arith, n)) (omega arith) ]
 
 -- each action that passes among the first passes among the second
 abbrev pub Within : List Action → List Action → Type 0
@@ -163,27 +162,23 @@ within_behind ss ts ys w p e = w p (ap (list_any p) (actions_append ss ts) ∙ a
 
 -- What a settled workload keeps
 
-module _ (load : Workload) (e : is_settled load ≡ true) where
-  ids_and : (are_settled_parts load.settings load.parts && has_one_kind_a_job (actions_in (all_statements load)) && has_different_ids (all_statements load) && has_room load.settings (all_statements load)) ≡ true
-  unfolding is_settled
-  ids_and = fst_true _ (list_all (λ p. keep_limits p.statements 0 p.statements) load.parts) (fst_true _ (list_all (has_one_fault_a_group (actions_in (all_statements load))) load.parts) e)
+pub record Whole (load : Workload) : Type 0 where
+  pub parts : are_settled_parts load.settings load.parts ≡ true
+  pub kinds : has_one_kind_a_job (actions_in (all_statements load)) ≡ true
+  pub ids : has_different_ids (all_statements load) ≡ true
+  pub room : has_room load.settings (all_statements load) ≡ true
+  pub limits : list_all (λ p. keep_limits p.statements 0 p.statements) load.parts ≡ true
+  pub faults : list_all (has_one_fault_a_group (actions_in (all_statements load))) load.parts ≡ true
 
-  pub has_all_room : has_room load.settings (all_statements load) ≡ true
-  has_all_room = snd_true (are_settled_parts load.settings load.parts && has_one_kind_a_job (actions_in (all_statements load)) && has_different_ids (all_statements load)) _ ids_and
-
-  pub different_ids : has_different_ids (all_statements load) ≡ true
-  different_ids = snd_true (are_settled_parts load.settings load.parts && has_one_kind_a_job (actions_in (all_statements load))) _ (fst_true _ (has_room load.settings (all_statements load)) ids_and)
-
-  pub parts_settled : are_settled_parts load.settings load.parts ≡ true
-  parts_settled = fst_true _ (has_one_kind_a_job (actions_in (all_statements load))) (fst_true _ (has_different_ids (all_statements load)) (fst_true _ (has_room load.settings (all_statements load)) ids_and))
-
-  pub limits_kept : list_all (λ p. keep_limits p.statements 0 p.statements) load.parts ≡ true
-  unfolding is_settled
-  limits_kept = snd_true _ (list_all (λ p. keep_limits p.statements 0 p.statements) load.parts) (fst_true _ (list_all (has_one_fault_a_group (actions_in (all_statements load))) load.parts) e)
-
-  pub one_fault : list_all (has_one_fault_a_group (actions_in (all_statements load))) load.parts ≡ true
-  unfolding is_settled
-  one_fault = snd_true _ (list_all (has_one_fault_a_group (actions_in (all_statements load))) load.parts) e
+pub settled_whole : (load : Workload) → is_settled load ≡ true → Whole load
+unfolding is_settled
+settled_whole load e =
+    let a = and_parts (are_settled_parts load.settings load.parts && has_one_kind_a_job (actions_in (all_statements load)) && has_different_ids (all_statements load) && has_room load.settings (all_statements load) && list_all (λ p. keep_limits p.statements 0 p.statements) load.parts) _ e in
+    let b = and_parts (are_settled_parts load.settings load.parts && has_one_kind_a_job (actions_in (all_statements load)) && has_different_ids (all_statements load) && has_room load.settings (all_statements load)) _ a.0 in
+    let c = and_parts (are_settled_parts load.settings load.parts && has_one_kind_a_job (actions_in (all_statements load)) && has_different_ids (all_statements load)) _ b.0 in
+    let d = and_parts (are_settled_parts load.settings load.parts && has_one_kind_a_job (actions_in (all_statements load))) _ c.0 in
+    let f = and_parts (are_settled_parts load.settings load.parts) _ d.0 in
+    record { parts = f.0; kinds = f.1; ids = d.1; room = c.1; limits = b.1; faults = a.1 }
 
 -- the settled parts
 pub record Parts (settings : NodeSettings) (p : Part) (ps : List Part) : Type 0 where
@@ -192,10 +187,7 @@ pub record Parts (settings : NodeSettings) (p : Part) (ps : List Part) : Type 0 
   pub further : list_all (is_settled_further settings (actions_in p.statements)) ps ≡ true
 
 pub parts_are : (settings : NodeSettings) (p : Part) (ps : List Part) → are_settled_parts settings (p ∷ ps) ≡ true → Parts settings p ps
-parts_are settings p [] e = record { main = e; first = λ x xs i. absurd (empty x xs i); further = refl }
-  where
-    empty : (x : Part) (xs : List Part) → [] ≡ x ∷ xs → ⊥
-    empty x xs i = cc
+parts_are settings p [] e = record { main = e; first = λ x xs i. absurd (cc); further = refl }
 parts_are settings p (q ∷ ps) e =
     let a : (sets_up_first p.statements && is_settled_part settings [] p) ≡ true = fst_true _ (list_all (is_settled_further settings (actions_in p.statements)) (q ∷ ps)) e in
     record { main = snd_true (sets_up_first p.statements) _ a; first = λ x xs i. fst_true _ (is_settled_part settings [] p) a; further = snd_true (sets_up_first p.statements && is_settled_part settings [] p) _ e }
@@ -211,8 +203,8 @@ module _ (load : Workload) (es : List NodeEntry) (ns : List ℕ) where
     pub carried : Carried Made [] p.statements body rs
     pub first : Each (λ l. is_outside l.op ≡ true) start
     pub last : Each (λ l. is_outside l.op ≡ true) finish
-    -- only main releases outside its statements
-    pub unreleased : load.settings.workers < w → Each (λ l. is_release l.op ≡ false) (start ++ finish)
+    -- a further caller enters, and asks for nothing else outside its statements
+    pub enters : load.settings.workers < w → Each (λ l. l.op ≡ op.Enter) (start ++ finish)
     pub settled : are_settled load.settings known p.statements [] p.statements ≡ true
     pub no_set_up : load.settings.workers < w → set_up p.statements ≡ false
     pub within : Within (actions_in p.statements) (actions_in (all_statements load))
@@ -222,20 +214,7 @@ module _ (load : Workload) (es : List NodeEntry) (ns : List ℕ) where
   main_first false = (refl, (refl, tt))
 
   abbrev pub main_at : (p : Part) (rs : List Reply) → MainRan in_lines p.statements (lines_of load.settings.workers es ns) rs → are_settled load.settings [] p.statements [] p.statements ≡ true → Within (actions_in p.statements) (actions_in (all_statements load)) → PartAt load.settings.workers p rs
-  main_at p rs x e w = record {
-    start = head_of (has_begin p.statements);
-    body = x.body;
-    finish = tail_of_main;
-    known = [];
-    is = x.is;
-    carried = x.carried;
-    first = main_first (has_begin p.statements);
-    last = (refl, (refl, tt));
-    unreleased = λ k. absurd (omega arith);
-    settled = e;
-    no_set_up = λ k. absurd (omega arith);
-    within = w;
-  }
+  main_at p rs x e w = record { start = head_of (has_begin p.statements); body = x.body; finish = tail_of_main; known = []; is = x.is; carried = x.carried; first = main_first (has_begin p.statements); last = (refl, (refl, tt)); enters = λ k. absurd (omega arith); settled = e; no_set_up = λ k. absurd (omega arith); within = w }
 
   abbrev pub caller_at : (known : List Action) (w : ℕ) (p : Part) (rs : List Reply) → CallerRan in_lines p.statements (lines_of w es ns) rs → is_settled_further load.settings known p ≡ true → Within (actions_in p.statements) (actions_in (all_statements load)) → PartAt w p rs
   caller_at known w p rs x e v = record {
@@ -247,7 +226,7 @@ module _ (load : Workload) (es : List NodeEntry) (ns : List ℕ) where
     carried = x.carried;
     first = (refl, tt);
     last = tt;
-    unreleased = λ k. (refl, tt);
+    enters = λ k. (refl, tt);
     settled = snd_true (not (set_up p.statements)) _ e;
     no_set_up = λ k. not_true _ (fst_true _ (is_settled_part load.settings known p) e);
     within = v;

@@ -1,11 +1,166 @@
 -- In a quiet history a call isn't refused for which there is room and all that it needs.
-use Rattle.settled_runs.proofs.Names.{◌≡◌, ℕ, zero, suc, ◌<◌, Bool, true, false, cond, List, [], ◌∷◌, ◌++◌, Option, Some, None, refl, sym, ◌∙◌, ap, subst, arith, ℤ, ◌==◌, ◌&&◌, ◌||◌, not, nat_lt, is_none, is_some, eq-eqb, eqb-true, nat_tests, holds, Kind, Mask, GroupHandle, ObjectKind, entry, Listed, lookup, live_object, any_live, any_listed, Action, new_action, is_job, has_job, has_enabled_job, is_eligible, some_below, Op, Reply, Ok, Handle, Mtapi, Terms, Phase, New, Open, Closing, Closed, State, opening, workers, is_open, Move, phase_is, makes, alters, removes, is_served, apply, Row, unless, gives, never, Allows, only, after_row, number_of, NodeEntry, IsNext, next, Legal, after, IsMade, turns, Legal-front, some_same, by_moves, sorts_keep, objects_of, closes, NoClose, true_false, cut_from, cut_after, AreQuiet, IsOpened, HasRoom, IsServed, GroupIsMade, Asks, IsGranted, live_of, is_full, has_worker, row, LegalFrom, after_from}
-use Rattle.mtapi_values.specs.declared.handles.ObjectKind.TheVariants as kinds
+use Rattle.settled_runs.proofs.Names.{◌≡◌, ℕ, ◌+◌, ◌≤◌, ◌<◌, Bool, true, false, cond, List, [], ◌∷◌, refl, ◌∙◌, arith, length, ◌==◌, ◌&&◌, not, nat_tests, entry, ObjectKind, how_many, Listed, live_object, Task, NewTask, new_task, Op, Reply, Handle, Mtapi, Terms, State, opening, Move, starts_task, apply, after_moves, Allows, after_row, asked_for, asked_of, NodeEntry, IsNext, next, after, StartsTask, SameTask, given, on_only, on_live, by_moves, objects_of, entries_that, true_false, is_handle, makes_one, HasRoom, live_of, issue, retired, is_full, row, LegalFrom, after_from, zero, suc, ◌++◌, Option, Some, None, sym, ap, subst, ℤ, ◌||◌, nat_lt, is_none, is_some, eq-eqb, holds, Kind, Mask, GroupHandle, lookup, any_live, any_listed, Action, new_action, is_job, has_job, has_enabled_job, is_eligible, some_below, Ok, Phase, New, Open, Closing, Closed, workers, is_open, phase_is, makes, alters, removes, is_served, Row, unless, gives, never, only, number_of, Legal, IsMade, turns, Legal-front, some_same, sorts_keep, closes, NoClose, cut_from, cut_after, AreQuiet, IsOpened, IsServed, GroupIsMade, Asks, IsGranted, has_worker, inl, inr, cases_eq, cond_both, QuietCallsAreGranted, nat_le, QueueHandle, count_listed, with_fields, gone, is_unended, Queue, is_in, is_unended_in, queues, Queues, is_fresh, handle_of, live, new_queue, AltersObject, makes_kind, some_entry, none_first, Every, every_issue, every_change, sort_move, HasAction, makes_queue, puts, IsQueued, both_true}
+use Rattle.handle_pool.specs.Slots.{generation_of}
+use Rattle.history_law.specs.Words.{FieldsOf, makes as makes_object}
+use Rattle.history_law.proofs.Ages.{AgesEach, SameFields, kind_move}
+use Rattle.history_law.proofs.Others.{terms_stay}
+use Rattle.settled_runs.proofs.Stays.{made_objects_stay}
+use Rattle.settled_runs.specs.Granted.{puts_into}
 use Rattle.mtapi_values.specs.declared.statuses.MtapiStatus.TheVariants as m
 use Rattle.mtapi_machine.specs.declared.ops.Op.TheVariants as op
-use Rattle.history_law.proofs.Others.{terms_stay}
-use Rattle.settled_runs.proofs.Sizes.{GrowsBy, tasks_grow, actions_grow, groups_grow, has_room}
-use Rattle.settled_runs.proofs.Stays.{made_objects_stay}
+use Rattle.mtapi_values.specs.declared.handles.ObjectKind.TheVariants as kinds
+
+-- How many objects a history made, and room for another
+
+abbrev pub bit : Bool → ℕ
+bit b = cond b 1 0
+
+pub bit_within : (a b : Bool) → (a ≡ true → b ≡ true) → bit a ≤ bit b
+bit_within false b f = omega arith
+bit_within true true f = omega arith
+bit_within true false f = true_false (f refl) refl
+
+-- how many objects pass that were ever issued
+module _ {T : Type 0} (p : T → Bool) where
+  abbrev pub issued : List (Listed T) → ℕ
+  issued l = how_many (λ r. p r.fields) l
+
+  pub issued_more : (h : ℕ) (x : T) (l : List (Listed T)) → issued (issue h x l) ≡ issued l + bit (p x)
+  unfolding issue
+  issued_more h x [] = omega arith
+  issued_more h x (r ∷ rs) = let k : issued (issue h x rs) ≡ issued rs + bit (p x) = issued_more h x rs in omega arith
+
+  pub issued_ages : (K : T → T → Type 0) → ((x y : T) → K x y → p y ≡ p x) → (l m : List (Listed T)) → AgesEach K l m → issued m ≡ issued l
+  issued_ages K f [] [] a = refl
+  issued_ages K f [] (q ∷ qs) a = absurd a
+  issued_ages K f (r ∷ rs) [] a = absurd a
+  issued_ages K f (r ∷ rs) (q ∷ qs) a = let k = issued_ages K f rs qs a.1 in λ i. bit (f r.fields q.fields a.0.fields i) + k i
+
+abbrev pub any : {T : Type 0} → T → Bool
+any x = true
+
+module _ {T : Type 0} where
+  length_live : (last : ℕ) (l : List (Listed T)) → length (live_of l) + retired last l ≤ issued any l
+  unfolding live_of retired
+  length_live last [] = omega arith
+  length_live last (r ∷ rs) = by_live r.live (generation_of r.handle == last) (length_live last rs)
+    where
+      by_live : (a b : Bool) → length (live_of rs) + retired last rs ≤ issued any rs → length (cond a ((r.handle, r.fields) ∷ live_of rs) (live_of rs)) + (cond (not a && b) 1 0 + retired last rs) ≤ issued any (r ∷ rs)
+      by_live true b k = omega arith
+      by_live false true k = omega arith
+      by_live false false k = omega arith
+
+  -- a list with fewer than its bound isn't full
+  pub not_full : (last max : ℕ) (l : List (Listed T)) → issued any l < max → is_full last max l ≡ false
+  unfolding is_full
+  not_full last max l k = let e : length (live_of l) + retired last l ≤ issued any l = length_live last l in grind (arith, nat_tests)
+
+-- What one entry makes
+
+-- how many objects of the kind pass
+abbrev pub made_of : (k : ObjectKind) → (FieldsOf k → Bool) → State → ℕ
+made_of k p s = issued p ((objects_of k).list s)
+
+-- an entry whose op makes no object of the kind makes none that passes
+pub none_made : (k : ObjectKind) (p : FieldsOf k → Bool) → ((x y : FieldsOf k) → SameFields k x y → p y ≡ p x) → (s : State) (e : NodeEntry) → makes_object k e.op ≡ false → made_of k p (next s e) ≡ made_of k p s
+none_made k p f s e z =
+    by_moves (λ t. made_of k p t ≡ made_of k p s) s e
+    (λ t m i. kind_move k t e.op (λ l. issued p l ≡ made_of k p s) (λ h x b j v. true_false b z) (λ l a v. issued_ages p (SameFields k) f _ l a ∙ v) m i) refl
+
+-- the reply makes at most one more
+abbrev Grows : ObjectKind → State → Op → Reply → List Move → Type 0
+Grows k s o r ms = made_of k any (after_moves ms s) ≤ made_of k any s + bit (makes_object k o && is_handle r)
+
+abbrev pub GrowsBy : ObjectKind → Type 0
+GrowsBy k = (s : State) (who : ℕ) (o : Op) (r : Reply) → Allows (row s who o r) r → made_of k any (after_row s (row s who o r)) ≤ made_of k any s + bit (makes_object k o && is_handle r)
+
+none_more : (k : ObjectKind) (s : State) (who : ℕ) (o : Op) (r : Reply) → makes_object k o ≡ false → made_of k any (after_row s (row s who o r)) ≤ made_of k any s + bit (makes_object k o && is_handle r)
+none_more k s who o r z = let n : made_of k any (next s (entry who o r)) ≡ made_of k any s = none_made k any (λ x y i. refl) s (entry who o r) z in omega arith
+
+more : {T : Type 0} (h : ℕ) (x : T) (l : List (Listed T)) → issued any (issue h x l) ≤ issued any l + 1
+more h x l = let e : issued any (issue h x l) ≡ issued any l + 1 = issued_more any h x l in omega arith
+
+refused : (k : ObjectKind) (s : State) (o : Op) (r : Reply) → Grows k s o r []
+refused k s o r = omega arith
+
+-- and so it is of the tasks that pass, where the ops that start one are among these
+module _ (p : Task → Bool) (same : (x y : Task) → SameTask x y → p y ≡ p x) (b : Op → Bool) (by : (n : NewTask) (k : ℕ) (o : Op) → StartsTask n o → p (new_task n k) ≡ true → b o ≡ true) where
+  abbrev Gets : State → Op → Reply → List Move → Type 0
+  Gets s o r ms = made_of kinds.Task p (after_moves ms s) ≤ made_of kinds.Task p s + bit (b o && is_handle r)
+
+  none_gets : (s : State) (o : Op) (r : Reply) → Gets s o r []
+  none_gets s o r = omega arith
+
+  one_gets : (s : State) (o : Op) (h : ℕ) (n : NewTask) → StartsTask n o → Gets s o (Handle h) (starts_task h n ∷ [])
+  one_gets s o h n i =
+      let a : bit (p (new_task n s.starts)) ≤ bit (b o && true) = bit_within (p (new_task n s.starts)) (b o && true) (λ j. both_true (b o) true (by n s.starts o i j) refl) in
+      let e : made_of kinds.Task p (apply (starts_task h n) s) ≡ made_of kinds.Task p s + bit (p (new_task n s.starts)) = issued_more p h (new_task n s.starts) s.tasks in
+      omega arith
+
+  pub tasks_made : (s : State) (who : ℕ) (o : Op) (r : Reply) → Allows (row s who o r) r → made_of kinds.Task p (after_row s (row s who o r)) ≤ made_of kinds.Task p s + bit (b o && is_handle r)
+  tasks_made s who (op.TaskStart job args priority cores detached group) r a =
+      given (Gets s (op.TaskStart job args priority cores detached group)) (row s who (op.TaskStart job args priority cores detached group) r) r (none_gets s (op.TaskStart job args priority cores detached group))
+      (λ c0 c1 c2 c3 c4 c5 c6. on_only (Gets s (op.TaskStart job args priority cores detached group)) _ _ _ (λ m. one_gets s (op.TaskStart job args priority cores detached group) _ (asked_for job args priority cores detached group) refl)) a
+  tasks_made s who (op.TaskEnqueue q args cores detached group) r a =
+      given (Gets s (op.TaskEnqueue q args cores detached group)) (row s who (op.TaskEnqueue q args cores detached group) r) r (none_gets s (op.TaskEnqueue q args cores detached group))
+      (λ c d. on_live (Gets s (op.TaskEnqueue q args cores detached group)) (live_object s.queues q.0) _ _ (none_gets s (op.TaskEnqueue q args cores detached group) (Mtapi m.ErrQueueInvalid))
+      (λ x f c0 c1 c2 c3 c4 c5 c6. on_only (Gets s (op.TaskEnqueue q args cores detached group)) _ _ _ (λ m. one_gets s (op.TaskEnqueue q args cores detached group) _ (asked_of q.0 x args cores detached group) (x, refl)))) a
+  tasks_made s who o r a = let n : made_of kinds.Task p (next s (entry who o r)) ≡ made_of kinds.Task p s = none_made kinds.Task p same s (entry who o r) refl in omega arith
+
+starts_some : (n : NewTask) (k : ℕ) (o : Op) → StartsTask n o → any (new_task n k) ≡ true → makes_object kinds.Task o ≡ true
+starts_some n k (op.TaskStart job args priority cores detached group) b e = refl
+starts_some n k (op.TaskEnqueue q args cores detached group) b e = refl
+starts_some n k _ b e = absurd b
+
+pub tasks_grow : GrowsBy kinds.Task
+tasks_grow = tasks_made any (λ x y i. refl) (makes_object kinds.Task) starts_some
+
+pub actions_grow : GrowsBy kinds.Action
+actions_grow s who (op.ActionCreate job k cores) r a =
+    given (Grows kinds.Action s (op.ActionCreate job k cores)) (row s who (op.ActionCreate job k cores) r) r (refused kinds.Action s (op.ActionCreate job k cores))
+    (λ c0 c1 c2. on_only (Grows kinds.Action s (op.ActionCreate job k cores)) _ _ _ (λ m. more _ _ s.actions)) a
+actions_grow s who o r a = none_more kinds.Action s who o r refl
+
+pub groups_grow : GrowsBy kinds.Group
+groups_grow s who op.GroupCreate r a = given (Grows kinds.Group s op.GroupCreate) (row s who op.GroupCreate r) r (refused kinds.Group s op.GroupCreate) (λ c0 c1. on_only (Grows kinds.Group s op.GroupCreate) _ _ _ (λ m. more _ _ s.groups)) a
+groups_grow s who o r a = none_more kinds.Group s who o r refl
+
+pub queues_grow : GrowsBy kinds.Queue
+queues_grow s who (op.QueueCreate id job priority limit ordered retain) r a =
+    given (Grows kinds.Queue s (op.QueueCreate id job priority limit ordered retain)) (row s who (op.QueueCreate id job priority limit ordered retain) r) r (refused kinds.Queue s (op.QueueCreate id job priority limit ordered retain))
+    (λ c0 c1 c2 c3 c4. on_only (Grows kinds.Queue s (op.QueueCreate id job priority limit ordered retain)) _ _ _ (λ m. more _ _ s.queues)) a
+queues_grow s who o r a = none_more kinds.Queue s who o r refl
+
+-- What a history makes
+
+-- what grows by an entry that passes and by no other grows by so many
+pub grown_along : (f : State → ℕ) (p : NodeEntry → Bool) → ((s : State) (e : NodeEntry) → IsNext s e → f (next s e) ≤ f s + bit (p e)) → (s : State) (L : List NodeEntry) → LegalFrom s L → f (after_from s L) ≤ f s + entries_that p L
+unfolding LegalFrom after_from
+grown_along f p g s [] l = omega arith
+grown_along f p g s (e ∷ es) l =
+    let m : f (next s e) ≤ f s + bit (p e) = g s e l.0 in
+    let n : f (after_from (next s e) es) ≤ f (next s e) + entries_that p es = grown_along f p g (next s e) es l.1 in
+    omega arith
+
+nothing_yet : (k : ObjectKind) (terms : Terms) → made_of k any (opening terms) ≡ 0
+nothing_yet kinds.Action terms = refl
+nothing_yet kinds.Task terms = refl
+nothing_yet kinds.Group terms = refl
+nothing_yet kinds.Queue terms = refl
+nothing_yet kinds.Mutex terms = refl
+nothing_yet kinds.Sem terms = refl
+nothing_yet kinds.Rwl terms = refl
+nothing_yet kinds.Shmem terms = refl
+
+-- there is room for another where fewer were made than there may be
+pub has_room : (k : ObjectKind) → GrowsBy k → (terms : Terms) (L : List NodeEntry) → LegalFrom (opening terms) L → HasRoom terms k L → (last : ℕ) → is_full last ((objects_of k).max terms.settings) ((objects_of k).list (after terms L)) ≡ false
+has_room k g terms L l r last =
+    let n : made_of k any (after terms L) ≤ made_of k any (opening terms) + entries_that (makes_one k) L = grown_along (made_of k any) (makes_one k) (λ s e i. g s e.who e.op e.reply i.allowed) (opening terms) L l in
+    let z : made_of k any (opening terms) ≡ 0 = nothing_yet k terms in
+    let h : entries_that (makes_one k) L < (objects_of k).max terms.settings = r in
+    not_full last ((objects_of k).max terms.settings) ((objects_of k).list (after terms L)) (omega arith)
+
+-- What a call needs
 
 -- A row whose conditions aren't met
 
@@ -64,28 +219,15 @@ opened terms L l x =
 pub any_found : {T : Type 0} (p : T → Bool) (l : List (Listed T)) (h : ℕ) (x : T) → live_object l h ≡ Some x → p x ≡ true → any_listed p l ≡ true
 unfolding live_of
 any_found p [] h x e i = absurd (cc)
-any_found p (r ∷ rs) h x e i = by_live r.live e (λ d. any_found p rs h x d i)
-  where
-    or : (b : Bool) → any_listed p rs ≡ true → cond b true (any_listed p rs) ≡ true
-    or true k = refl
-    or false k = k
-
-    by_hand : (b : Bool) → cond b (Some r.fields) (live_object rs h) ≡ Some x → (live_object rs h ≡ Some x → any_listed p rs ≡ true) → cond (p r.fields) true (any_listed p rs) ≡ true
-    by_hand true d k = ap (λ (c : Bool). cond c true (any_listed p rs)) (ap p (some_same d) ∙ i)
-    by_hand false d k = or (p r.fields) (k d)
-
-    by_live : (a : Bool) → lookup (cond a ((r.handle, r.fields) ∷ live_of rs) (live_of rs)) h ≡ Some x → (live_object rs h ≡ Some x → any_listed p rs ≡ true) → any_live p (cond a ((r.handle, r.fields) ∷ live_of rs) (live_of rs)) ≡ true
-    by_live true d k = by_hand (r.handle == h) d k
-    by_live false d k = k d
+any_found p (r ∷ rs) h x e i = cond_both r.live ((r.handle, r.fields) ∷ live_of rs) (live_of rs) (λ l. lookup l h ≡ Some x → any_live p l ≡ true)
+    (λ a. cond_both (r.handle == h) (Some r.fields) (live_object rs h) (λ o. o ≡ Some x → cond (p r.fields) true (any_listed p rs) ≡ true)
+    (λ b d. ap (λ (c : Bool). cond c true (any_listed p rs)) (ap p (some_same d) ∙ i)) (λ b d. cond_both (p r.fields) true (any_listed p rs) (λ z. z ≡ true) (λ c. refl) (λ c. any_found p rs h x d i)))
+    (λ a d. any_found p rs h x d i) e
 
 pub below_found : (n w : ℕ) (p : ℕ → Bool) → w < n → p w ≡ true → some_below n p ≡ true
 below_found zero w p l e = absurd (omega arith)
-below_found (suc n) w p l e = by_last (w == n) refl (p n) refl (λ k. below_found n w p k e)
-  where
-    by_last : (a : Bool) → (w == n) ≡ a → (b : Bool) → p n ≡ b → (w < n → some_below n p ≡ true) → cond b true (some_below n p) ≡ true
-    by_last a i true j f = refl
-    by_last true i false j f = true_false (ap p (sym (eqb-true w n i)) ∙ e) j
-    by_last false i false j f = f (grind (arith, nat_tests))
+below_found (suc n) w p l e = cond_both (p n) true (some_below n p) (λ z. z ≡ true) (λ i. refl)
+    (λ i. elim (cases_eq w n) as (λ z. some_below n p ≡ true) [ inl j ↦ true_false (ap p (sym j) ∙ e) i | inr j ↦ below_found n w p (omega (arith, j)) e ])
 
 pub record Serves (s : State) (job cores : ℕ) : Type 0 where
   pub listed : any_listed (has_job job) s.actions ≡ true
@@ -94,28 +236,18 @@ pub record Serves (s : State) (job cores : ℕ) : Type 0 where
 
 pub served : (terms : Terms) (L : List NodeEntry) (job cores : ℕ) → Legal terms L → AreQuiet L → (after terms L).terms ≡ terms → IsServed terms L job cores → Serves (after terms L) job cores
 unfolding has_worker
-served terms L job cores legal quiet same x = record {
-  listed = any_found (has_job job) s.actions x.handle a there (eq-eqb job job refl);
-  enabled = any_found (has_enabled_job job) s.actions x.handle a there (eq-eqb job job refl);
-  served = below_found (workers s) x.worker (λ w. any_listed (is_eligible (workers s) w job cores) s.actions) is_worker
-      (any_found (is_eligible (workers s) x.worker job cores) s.actions x.handle a there eligible);
-}
-  where
-    s : State
-    s = after terms L
-
-    a : Action
-    a = new_action job x.kind x.mask.0
-
-    there : live_object s.actions x.handle ≡ Some a
-    there = made_objects_stay terms L (op.ActionCreate job x.kind x.mask) x.handle legal quiet x.made
-
-    is_worker : x.worker < workers s
-    is_worker = subst (λ (t : Terms). x.worker < t.settings.workers) (sym same) x.is_worker
-
-    eligible : is_eligible (workers s) x.worker job cores a ≡ true
-    eligible = let i : nat_lt x.worker (workers s) ≡ true = grind (arith, nat_tests, is_worker) in
-        λ j. eq-eqb job job refl j && i j && x.in_action j && x.in_task j
+served terms L job cores legal quiet same x =
+    let s : State = after terms L in
+    let a : Action = new_action job x.kind x.mask.0 in
+    let there : live_object s.actions x.handle ≡ Some a = made_objects_stay terms L (op.ActionCreate job x.kind x.mask) x.handle legal quiet x.made in
+    let is_worker : x.worker < workers s = subst (λ (t : Terms). x.worker < t.settings.workers) (sym same) x.is_worker in
+    let eligible : is_eligible (workers s) x.worker job cores a ≡ true = let i : nat_lt x.worker (workers s) ≡ true = grind (arith, nat_tests, is_worker) in λ j. eq-eqb job job refl j && i j && x.in_action j && x.in_task j in
+    record {
+      listed = any_found (has_job job) s.actions x.handle a there (eq-eqb job job refl);
+      enabled = any_found (has_enabled_job job) s.actions x.handle a there (eq-eqb job job refl);
+      served = below_found (workers s) x.worker (λ w. any_listed (is_eligible (workers s) w job cores) s.actions) is_worker
+          (any_found (is_eligible (workers s) x.worker job cores) s.actions x.handle a there eligible);
+    }
 
 -- The group of a new task
 
@@ -159,18 +291,121 @@ group_granted terms L who r x h =
 pub start_granted : (terms : Terms) (L : List NodeEntry) (who : ℕ) (r : Reply) (job : ℕ) (args : List ℤ) (priority : ℕ) (cores : Mask) (group : Option GroupHandle) → Asks terms L who (op.TaskStart job args priority cores false group) r
     → priority < terms.settings.priorities → HasRoom terms kinds.Task L → IsServed terms L job cores.0 → GroupIsMade group L → IsGranted r
 start_granted terms L who r job args priority cores group x p h v g =
+    let o : Op = op.TaskStart job args priority cores false group in
+    let serves : Serves (after terms L) job cores.0 = served terms L job cores.0 (before terms L who o r x) x.quiet (same_terms terms L who o r x) v in
+    let low : priority < (after terms L).terms.settings.priorities = subst (λ (t : Terms). priority < t.settings.priorities) (sym (same_terms terms L who o r x)) p in
+    let in_range : (not (nat_lt priority (after terms L).terms.settings.priorities) || (false && is_some group)) ≡ false = let i : nat_lt priority (after terms L).terms.settings.priorities ≡ true = grind (arith, nat_tests, low) in λ j. not (i j) || false in
     passes (row (after terms L) who (op.TaskStart job args priority cores false group) r) r
     (is_up terms L who o r x, (in_range, (ap not serves.listed, (group_there terms L group (before terms L who o r x) x.quiet g, (ap not serves.enabled, (ap not serves.served, (room terms L who o r x kinds.Task tasks_grow h, passes_only _ _ _)))))))
     (allowed terms L who o r x)
+
+-- Queues and their tasks
+
+-- No queue has an id for which none was made
+
+abbrev Differs : ℕ → Queue → Type 0
+Differs id q = (q.id == id) ≡ false
+
+altered_id : (id h : ℕ) (f : Queue → Queue) (o : Op) → AltersObject Queues h f o → (x : Queue) → Differs id x → Differs id (f x)
+altered_id id h f (op.QueueEnable q) e x d = ap (λ (g : Queue → Queue). (g x).id == id) e.1 ∙ d
+altered_id id h f (op.QueueDisable q) e x d = ap (λ (g : Queue → Queue). (g x).id == id) e.1 ∙ d
+altered_id id h f _ e x d = absurd e
+
+abbrev Differ : ℕ → State → Type 0
+Differ id s = Every (Differs id) s.queues
+
+differ_move : (id : ℕ) (o : Op) → makes_kind Queues o ≡ false → (s : State) (x : Move) → IsMade s o x → Differ id s → Differ id (apply x s)
+differ_move id o z s x e v =
+    sort_move Queues s o (Every (Differs id)) (λ j y i w. true_false i.by z) (λ j f b w. every_change (Differs id) j (with_fields f) _ (λ r c d. altered_id id j f o b r.fields d) w)
+    (λ j b w. every_change (Differs id) j gone _ (λ r c d. d) w) x e v
+
+differ_next : (id : ℕ) (s : State) (who : ℕ) (o : Op) (r : Reply) → makes_queue id o ≡ false → Allows (row s who o r) r → Differ id s → Differ id (after_row s (row s who o r))
+differ_next id s who (op.QueueCreate other job priority limit ordered retain) r n a v =
+    given (λ x ms. Differ id (after_moves ms s)) (row s who (op.QueueCreate other job priority limit ordered retain) r) r (λ x. v)
+    (λ c0 c1 c2 c3 c4. on_only (λ x ms. Differ id (after_moves ms s)) (is_fresh queues s (handle_of r)) (Handle (handle_of r)) (makes Queues (handle_of r) (new_queue other job priority limit ordered retain) ∷ []) (λ i. every_issue (Differs id) (handle_of r) (new_queue other job priority limit ordered retain) s.queues n v)) a
+differ_next id s who o r n a v = by_moves (Differ id) s (entry who o r) (λ t x i u. differ_move id o refl t x i u) v
+
+differ_along : (id : ℕ) (s : State) (L : List NodeEntry) → LegalFrom s L → some_entry (λ e. makes_queue id e.op) L ≡ false → Differ id s → Differ id (after_from s L)
+unfolding LegalFrom after_from
+differ_along id s [] l n v = v
+differ_along id s (e ∷ es) l n v =
+    let both : (makes_queue id e.op ≡ false) × (some_entry (λ x. makes_queue id x.op) es ≡ false) = none_first (makes_queue id e.op) _ n in
+    differ_along id (next s e) es l.1 both.1 (differ_next id s e.who e.op e.reply both.0 l.0.allowed v)
+
+none_found : {T : Type 0} (p : T → Bool) (l : List (Listed T)) → Every (λ x. p x ≡ false) l → any_listed p l ≡ false
+unfolding live_of
+none_found p [] v = refl
+none_found p (r ∷ rs) v = let k = none_found p rs v.1 in cond_both r.live ((r.handle, r.fields) ∷ live_of rs) (live_of rs) (λ l. any_live p l ≡ false) (λ i. (λ j. cond (v.0 j) true (k j))) (λ i. k)
+
+pub queue_granted : (terms : Terms) (L : List NodeEntry) (who : ℕ) (r : Reply) (id job priority limit : ℕ) (ordered retain : Bool) → Asks terms L who (op.QueueCreate id job priority limit ordered retain) r
+    → priority < terms.settings.priorities → (1 ≤ limit) × (limit ≤ 65536) → HasRoom terms kinds.Queue L → HasAction L job → some_entry (λ e. makes_queue id e.op) L ≡ false → IsGranted r
+queue_granted terms L who r id job priority limit ordered retain x p range h v n =
+    let o : Op = op.QueueCreate id job priority limit ordered retain in
+    let s : State = after terms L in
+    let has : any_listed (has_job job) s.actions ≡ true = any_found (has_job job) s.actions v.handle (new_action job v.kind v.mask.0) (made_objects_stay terms L (op.ActionCreate job v.kind v.mask) v.handle (before terms L who o r x) x.quiet v.made) (eq-eqb job job refl) in
+    let low : priority < s.terms.settings.priorities = subst (λ (t : Terms). priority < t.settings.priorities) (sym (same_terms terms L who o r x)) p in
+    let in_range : (not (nat_lt priority s.terms.settings.priorities) || not (nat_le 1 limit && nat_le limit 65536)) ≡ false = let i : nat_lt priority s.terms.settings.priorities ≡ true = grind (arith, nat_tests, low) in let a : 1 ≤ limit = range.0 in let b : limit ≤ 65536 = range.1 in let c : nat_le 1 limit ≡ true = grind (arith, nat_tests) in let d : nat_le limit 65536 ≡ true = grind (arith, nat_tests) in λ j. not (i j) || not (c j && d j) in
+    passes (row s who o r) r
+    (is_up terms L who o r x, (in_range, (ap not has, (none_found (λ y. y.id == id) s.queues (differ_along id (opening terms) L (before terms L who o r x).from n tt), (room terms L who o r x kinds.Queue queues_grow h, passes_only _ _ _)))))
+    (allowed terms L who o r x)
+
+-- How many tasks a queue was given
+
+-- how many tasks that were ever issued name the queue
+abbrev pub given_to : ℕ → State → ℕ
+given_to q s = made_of kinds.Task (is_in q) s
+
+in_same : (q : ℕ) (x y : Task) → SameTask x y → is_in q y ≡ is_in q x
+in_same q x y i = ap (holds (λ h. h == q)) i.queue
+
+puts_some : (q : ℕ) (n : NewTask) (k : ℕ) (o : Op) → StartsTask n o → is_in q (new_task n k) ≡ true → puts q o ≡ true
+puts_some q n k (op.TaskStart job args priority cores detached group) b e = true_false e (ap (λ (x : NewTask). holds (λ h. h == q) x.queue) b)
+puts_some q n k (op.TaskEnqueue y args cores detached group) b e = ap (λ (x : NewTask). holds (λ h. h == q) x.queue) (sym b.1) ∙ e
+puts_some q n k _ b e = absurd b
+
+gets_along : (q : ℕ) (s : State) (L : List NodeEntry) → LegalFrom s L → given_to q (after_from s L) ≤ given_to q s + entries_that (puts_into q) L
+gets_along q = grown_along (given_to q) (puts_into q) (λ s e i. tasks_made (is_in q) (in_same q) (puts q) (puts_some q) s e.who e.op e.reply i.allowed)
+
+unended_given : (q : ℕ) (l : List (Listed Task)) → count_listed (is_unended_in q) l ≤ issued (is_in q) l
+unended_given q [] = omega arith
+unended_given q (r ∷ rs) = by_tests r.live (is_in q r.fields) (is_unended r.fields) (unended_given q rs)
   where
-    o : Op
-    o = op.TaskStart job args priority cores false group
+    by_tests : (a b c : Bool) → count_listed (is_unended_in q) rs ≤ issued (is_in q) rs → bit (a && (b && c)) + count_listed (is_unended_in q) rs ≤ bit b + issued (is_in q) rs
+    by_tests true true true k = omega arith
+    by_tests true true false k = omega arith
+    by_tests true false c k = omega arith
+    by_tests false true c k = omega arith
+    by_tests false false c k = omega arith
 
-    serves : Serves (after terms L) job cores.0
-    serves = served terms L job cores.0 (before terms L who o r x) x.quiet (same_terms terms L who o r x) v
+passes_live : (o : Option Queue) (x : Queue) (v : Row) (w : Queue → Row) → o ≡ Some x → Passes (w x) → Passes (live o v w)
+passes_live o x v w e p = subst (λ (y : Option Queue). Passes (live y v w)) (sym e) p
 
-    low : priority < (after terms L).terms.settings.priorities
-    low = subst (λ (t : Terms). priority < t.settings.priorities) (sym (same_terms terms L who o r x)) p
+pub enqueue_granted : (terms : Terms) (L : List NodeEntry) (who : ℕ) (r : Reply) (q : QueueHandle) (job priority : ℕ) (args : List ℤ) (cores : Mask) (group : Option GroupHandle) → Asks terms L who (op.TaskEnqueue q args cores false group) r
+    → IsQueued L q.0 job priority → HasRoom terms kinds.Task L → IsServed terms L job cores.0 → GroupIsMade group L → IsGranted r
+enqueue_granted terms L who r q job priority args cores group x k h v g =
+    let o : Op = op.TaskEnqueue q args cores false group in
+    let s : State = after terms L in
+    let legal : Legal terms L = before terms L who o r x in
+    let made : Queue = new_queue k.id job priority k.limit k.ordered k.retain in
+    let serves : Serves s job cores.0 = served terms L job cores.0 legal x.quiet (same_terms terms L who o r x) v in
+    let not_many : (count_listed (is_unended_in q.0) s.tasks == k.limit) ≡ false = let a : count_listed (is_unended_in q.0) s.tasks ≤ given_to q.0 s = unended_given q.0 s.tasks in let b : given_to q.0 s ≤ 0 + entries_that (puts_into q.0) L = gets_along q.0 (opening terms) L legal.from in let c : entries_that (puts_into q.0) L < k.limit = k.few in grind (arith, nat_tests) in
+    passes (row s who o r) r (
+      is_up terms L who o r x,
+      (
+        refl,
+        passes_live (live_object s.queues q.0) made _ _ (made_objects_stay terms L (op.QueueCreate k.id job priority k.limit k.ordered k.retain) q.0 legal x.quiet k.made)
+            (refl, (ap not serves.listed, (group_there terms L group legal x.quiet g, (ap not serves.enabled, (ap not serves.served, (not_many, (room terms L who o r x kinds.Task tasks_grow h, passes_only _ _ _))))))),
+      ),
+    )
+    (allowed terms L who o r x)
 
-    in_range : (not (nat_lt priority (after terms L).terms.settings.priorities) || (false && is_some group)) ≡ false
-    in_range = let i : nat_lt priority (after terms L).terms.settings.priorities ≡ true = grind (arith, nat_tests, low) in λ j. not (i j) || false
+-- What a quiet history grants
+
+pub quiet_calls_are_granted : QuietCallsAreGranted
+quiet_calls_are_granted terms L who r = record {
+  action = λ job kind cores x j h. action_granted terms L who r job kind cores x j h;
+  group = λ x h. group_granted terms L who r x h;
+  start = λ job args priority cores group x p h v g. start_granted terms L who r job args priority cores group x p h v g;
+  queue = λ id job priority limit ordered retain x p l h v n. queue_granted terms L who r id job priority limit ordered retain x p l h v n;
+  enqueue = λ q job priority args cores group x k h v g. enqueue_granted terms L who r q job priority args cores group x k h v g;
+}

@@ -1,8 +1,8 @@
 -- The names that the proofs of this crate cite, passed on from one place. Declares nothing.
 pub use Rattle.std.proofs.Common.{◌++◌, ◌+◌, ◌<◌, ◌∙◌, ◌∷◌, ◌≡◌, ◌≤◌, ◌⊎◌, Bool, List, None, Option, Some, [], ap, append_assoc, arith, cond, false, inl, inr, length, refl, subst, suc, sym, true, zero, ℕ, ℤ}
-pub use Rattle.std.proofs.lemmas.Bool.{eq-eqb, eqb-true, false_from_ne_true, or_from, or_left, or_right}
+pub use Rattle.std.proofs.lemmas.Bool.{and_parts, and_right, cases_Bool, cases_eq, cases_order, cond-false, cond-true, cond_both, eq-eqb, eqb-true, false_from_ne_true, or_cases, or_from, or_left, or_parts, or_right}
 pub use Rattle.std.proofs.lemmas.Bool.Decides.{nat_tests}
-pub use Rattle.std.proofs.lemmas.List.{append-nil}
+pub use Rattle.std.proofs.lemmas.List.{append-nil, length-append, length_push, map_push}
 pub use Rattle.std.proofs.lemmas.List.Folds.{list_any-append}
 pub use Rattle.std.specs.List.{find, flat_map, list_all, list_any, AllByRecursion as Each}
 pub use Rattle.std.specs.Option.{option_map, option_or}
@@ -12,18 +12,18 @@ pub use Rattle.handle_pool.specs.Issued.{Listed, any_listed, any_live, count_lis
 pub use Rattle.history.specs.Histories.{entries_of, entry}
 pub use Rattle.history_law.proofs.Accepted.{accepted_end, front_stays, granted, no_handle, refuses_live, refuses_only}
 pub use Rattle.history_law.proofs.Ages.{SameTask, Under, live_listed}
-pub use Rattle.history_law.proofs.Answered.{none_first, second_false, true_false}
+pub use Rattle.history_law.proofs.Answered.{none_first, none_some, second_false, true_false}
 pub use Rattle.history_law.proofs.AtHandles.{at_issue_here, at_issue_other}
 pub use Rattle.history_law.proofs.Bounds.{by_seats}
 pub use Rattle.history_law.proofs.Every.{Every, always, every_all, every_at, every_change, every_ends, every_issue, every_map}
-pub use Rattle.history_law.proofs.Found.{FoundAs, at_here, at_skip, found_all, found_changed, found_ends, found_issued}
+pub use Rattle.history_law.proofs.Found.{FoundAs, at_head, at_here, at_past, at_skip, found_all, found_changed, found_ends, found_issued}
 pub use Rattle.history_law.proofs.Handles.{OnceIn, once_rest}
 pub use Rattle.history_law.proofs.Objects.{HasObject, StartedAs, cut_after, cut_from, has_behind, has_new, started_as, task_then}
 pub use Rattle.history_law.proofs.Quiet.{IsCalm, calm_along, calm_next, calm_opening, none_impure, none_withdrawn, quiet_tasks_end_plainly}
-pub use Rattle.history_law.proofs.Reuse.{fresh_apart, fresh_unlisted, issued_as, issues_fresh, listed_move}
+pub use Rattle.history_law.proofs.Reuse.{fresh_apart, fresh_unlisted, issues_fresh, listed_move}
 pub use Rattle.history_law.proofs.Sorts.{sort_move}
 pub use Rattle.history_law.specs.Quiet.{AreQuiet, IsPlain, is_quiet}
-pub use Rattle.history_law.specs.Seats.{BySeats, NoClose, closes, is_release, is_released, says_ok}
+pub use Rattle.history_law.specs.Seats.{BySeats, NoClose, closes, is_release, is_released}
 pub use Rattle.history_law.specs.Words.{entries_that, issues, objects_of, some_entry, times}
 pub use Rattle.mtapi_machine.proofs.Changes.{some_same}
 pub use Rattle.mtapi_machine.proofs.Lists.{Legal-front, Legal-prefix, Legal-rest}
@@ -34,7 +34,7 @@ pub use Rattle.mtapi_machine.specs.GroupRows.{verdict}
 pub use Rattle.mtapi_machine.specs.Kept.{is_pending}
 pub use Rattle.mtapi_machine.specs.Laws.{AltersObject, DeletesGroup, EnablesAction, FreesMembers, IsMade, MakesAction, NotesTask, RemovesObject, StartsTask, TakesEnded, all_live, is_status, makes_kind, turns}
 pub use Rattle.mtapi_machine.specs.Legal.{IsNext, Legal, NodeEntry, after, next}
-pub use Rattle.mtapi_machine.specs.Moves.{Groups, Move, Queues, after_moves, all_of, alters, apply, enables, ends_task, ends_waiting, frees_members, is_fresh, is_served, leaves, lets_members_go, makes, makes_action, notes, phase_is, released, removes, runs_task, starts_task, withdraws}
+pub use Rattle.mtapi_machine.specs.Moves.{Groups, Move, Queues, after_moves, alters, apply, enables, ends_task, ends_waiting, frees_members, is_fresh, is_served, leaves, lets_members_go, makes, makes_action, notes, phase_is, released, removes, runs_task, starts_task, withdraws}
 pub use Rattle.mtapi_machine.specs.QueueRows.{new_queue}
 pub use Rattle.mtapi_machine.specs.Row.{Allows, Row, after_row, gives, handle_of, live, moves_of, never, only, unless}
 pub use Rattle.mtapi_machine.specs.State.{State, groups, is_open, is_up, opening, queues, tasks, workers}
@@ -49,7 +49,7 @@ pub use Rattle.mtapi_machine.specs.declared.terms.Terms.{Terms}
 pub use Rattle.mtapi_objects.specs.Actions.{Action, has_enabled_job, has_job, is_eligible, is_job, new_action, some_below, with_enabled}
 pub use Rattle.mtapi_objects.specs.Groups.{Ending, Group, fault_of, first_fault, freed, insert, insert_ended, is_member, is_unended_member, let_go, new_group}
 pub use Rattle.mtapi_objects.specs.Queues.{Queue, is_in, is_unended_in}
-pub use Rattle.mtapi_objects.specs.Tasks.{Ended, NewTask, Running, Scheduled, Task, TaskState, end_of, ended, is_unended, is_unstarted, kind_number, new_task, with_notes, with_state, with_waiter}
+pub use Rattle.mtapi_objects.specs.Tasks.{Ended, NewTask, Notes, Running, Scheduled, Task, TaskState, end_of, ended, is_unended, is_unstarted, kind_number, new_task, with_notes, with_state, with_waiter}
 pub use Rattle.mtapi_values.specs.Attributes.{NodeSettings}
 pub use Rattle.mtapi_values.specs.Conditions.{holds}
 pub use Rattle.mtapi_values.specs.Statuses.{mtapi_name, mtapi_number}
@@ -86,7 +86,7 @@ pub use Rattle.settled_runs.specs.PlainReplies.{IsPlainTask, PlainRepliesShowPla
 pub use Rattle.settled_runs.specs.PlainSummary.{SettledSummariesArePlain, with_plain_task}
 pub use Rattle.settled_runs.specs.RunGranted.{AllGranted, GrantedTo, PartsGranted, SettledRun, SettledStatementsAreGranted}
 pub use Rattle.settled_runs.specs.RunReplies.{PartsReplyPlainly, SettledRepliesArePlain}
-pub use Rattle.settled_runs.specs.Settled.{are_alike, are_settled_parts, both, fault_in, has_new_id, has_one_fault_a_group, has_room, is_alone, is_infinite, is_settled_further, is_settled_part, is_startable, makes_group, makes_task, puts_into, serves, set_up, sets_up, waits_for}
+pub use Rattle.settled_runs.specs.Settled.{are_settled_parts, both, fault_in, has_new_id, has_one_fault_a_group, has_room, is_alone, is_infinite, is_settled_further, is_settled_part, is_startable, makes_group, makes_task, puts_into, serves, set_up, sets_up, waits_for}
 pub use Rattle.settled_runs.specs.Verdicts.{GoOn, IsVerdict, QuietVerdicts, fault_at, goes_on, looks_at_all, members_behind, starts_member, with_new}
 pub use Rattle.settled_runs.specs.Waits.{AreLeft, QuietLooksAreAnswered, looks_at, starts_alone}
 unfoldable pub use Rattle.action_fn.specs.Answers.{answer_of, fits}

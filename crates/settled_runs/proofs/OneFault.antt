@@ -1,5 +1,7 @@
--- Where the faults of each group of a part have one status, so do those of any two of its tasks.
-use Rattle.settled_runs.proofs.Names.{◌≡◌, ℕ, Bool, true, false, List, [], ◌∷◌, ◌++◌, Option, Some, refl, sym, ◌∙◌, subst, ◌==◌, ◌&&◌, ◌||◌, not, list_any, list_all, flat_map, eq-eqb, eqb-true, list_any-append, MtapiStatus, mtapi_number, Action, NewTask, fst_true, snd_true, both_true, Statement, true_false, both, fault_in, task_in, plain_fault, have_one_fault_a_group, cond, ap}
+-- Where the faults of each group of a part have one status, the one that is told as its members are put into it is the one of a verdict.
+use Rattle.settled_runs.proofs.Names.{◌≡◌, ℕ, Bool, true, false, List, [], ◌∷◌, ◌++◌, Option, Some, refl, sym, ◌∙◌, subst, ◌==◌, ◌&&◌, ◌||◌, not, list_any, list_all, flat_map, eq-eqb, eqb-true, list_any-append, MtapiStatus, mtapi_number, Action, NewTask, fst_true, snd_true, both_true, Statement, true_false, both, fault_in, task_in, plain_fault, have_one_fault_a_group, cond, ap, ◌⊎◌, inl, inr, or_left, or_right, or_cases, None, option_or, verdict, State, Reply, fault_at, IsVerdict, none_some}
+use Rattle.settled_runs.proofs.Verdicts.{has}
+use Rattle.settled_runs.proofs.Verdicts.{has_more}
 use Rattle.mtapi_values.specs.declared.statuses.MtapiStatus.TheVariants as t
 
 -- Statuses that are compared by number
@@ -21,67 +23,62 @@ back _ = refl
 pub same_status : (c d : MtapiStatus) → mtapi_number c ≡ mtapi_number d → c ≡ d
 same_status c d e = sym (back c) ∙ ap status_from e ∙ back d
 
--- The faults of a group
+-- Numbers of one key
+
+module _ {X : Type 0} (key number : X → ℕ) where
+  -- one of these has the key and the number
+  abbrev pub has_number : ℕ → ℕ → List X → Bool
+  has_number g n xs = list_any (λ x. (key x == g) && (number x == n)) xs
+
+  -- all of these with the key have the number
+  abbrev pub agree : ℕ → ℕ → List X → Bool
+  agree g n xs = list_all (λ y. not (g == key y) || (n == number y)) xs
+
+  alike : (g n m : ℕ) (xs : List X) → agree g n xs ≡ true → has_number g m xs ≡ true → n ≡ m
+  alike g n m [] a f = true_false f refl
+  alike g n m (y ∷ ys) a f = elim (or_cases ((key y == g) && (number y == m)) (has_number g m ys) f) as (λ z. n ≡ m) [ inl i ↦ here i | inr i ↦ alike g n m ys (snd_true _ _ a) i ]
+    where
+      here : ((key y == g) && (number y == m)) ≡ true → n ≡ m
+      here i =
+          let same : (g == key y) ≡ true = eq-eqb g (key y) (sym (eqb-true (key y) g (fst_true _ _ i))) in
+          eqb-true n (number y) (subst (λ (b : Bool). (not b || (n == number y)) ≡ true) same (fst_true _ (agree g n ys) a)) ∙ eqb-true (number y) m (snd_true (key y == g) _ i)
+
+  -- where any two agree
+  pub one_number : (F : List X → Bool) → ((x : X) (xs : List X) → F (x ∷ xs) ≡ (agree (key x) (number x) xs && F xs)) → (g c d : ℕ) (xs : List X) → F xs ≡ true → has_number g c xs ≡ true → has_number g d xs ≡ true → c ≡ d
+  one_number F step g c d [] e a b = true_false a refl
+  one_number F step g c d (x ∷ xs) e a b = by (or_cases _ (has_number g c xs) a) (or_cases _ (has_number g d xs) b) (one_number F step g c d xs (snd_true (agree (key x) (number x) xs) _ (sym (step x xs) ∙ e)))
+    where
+      same : (z : ℕ) → ((key x == g) && (number x == z)) ≡ true → number x ≡ z
+      same z i = eqb-true (number x) z (snd_true (key x == g) _ i)
+
+      others : (y z : ℕ) → ((key x == g) && (number x == y)) ≡ true → has_number g z xs ≡ true → y ≡ z
+      others y z i f = sym (same y i) ∙ alike g (number x) z xs (subst (λ (n : ℕ). agree n (number x) xs ≡ true) (eqb-true (key x) g (fst_true _ _ i)) (fst_true _ (F xs) (sym (step x xs) ∙ e))) f
+
+      by : (((key x == g) && (number x == c)) ≡ true) ⊎ (has_number g c xs ≡ true) → (((key x == g) && (number x == d)) ≡ true) ⊎ (has_number g d xs ≡ true) → (has_number g c xs ≡ true → has_number g d xs ≡ true → c ≡ d) → c ≡ d
+      by (inl i) (inl j) k = sym (same c i) ∙ same d j
+      by (inl i) (inr j) k = others c d i j
+      by (inr i) (inl j) k = sym (others d c j i)
+      by (inr i) (inr j) k = k i j
 
 -- the group has a fault of this status
 abbrev pub has_fault : List (ℕ × MtapiStatus) → ℕ → MtapiStatus → Bool
-has_fault xs g c = list_any (λ x. (x.0 == g) && (mtapi_number x.1 == mtapi_number c)) xs
+has_fault xs g c = has_number (λ x. x.0) (λ x. mtapi_number x.1) g (mtapi_number c) xs
 
--- Two faults of a group
-
-alike : (g n : ℕ) (d : MtapiStatus) (xs : List (ℕ × MtapiStatus)) → list_all (λ y. not (g == y.0) || (n == mtapi_number y.1)) xs ≡ true → has_fault xs g d ≡ true → n ≡ mtapi_number d
-alike g n d [] a f = true_false f refl
-alike g n d (y ∷ ys) a f = by (y.0 == g) refl (mtapi_number y.1 == mtapi_number d) refl f (alike g n d ys (snd_true (not (g == y.0) || (n == mtapi_number y.1)) _ a))
-  where
-    here : (not (g == y.0) || (n == mtapi_number y.1)) ≡ true
-    here = fst_true _ (list_all (λ z. not (g == z.0) || (n == mtapi_number z.1)) ys) a
-
-    by : (p : Bool) → (y.0 == g) ≡ p → (q : Bool) → (mtapi_number y.1 == mtapi_number d) ≡ q → ((p && q) || has_fault ys g d) ≡ true → (has_fault ys g d ≡ true → n ≡ mtapi_number d) → n ≡ mtapi_number d
-    by true i true j h k =
-        let same : (g == y.0) ≡ true = eq-eqb g y.0 (sym (eqb-true y.0 g i)) in
-        let e : (n == mtapi_number y.1) ≡ true = subst (λ (b : Bool). (not b || (n == mtapi_number y.1)) ≡ true) same here in
-        eqb-true n (mtapi_number y.1) e ∙ eqb-true (mtapi_number y.1) (mtapi_number d) j
-    by true i false j h k = k h
-    by false i q j h k = k h
-
-one_number : (g : ℕ) (c d : MtapiStatus) (xs : List (ℕ × MtapiStatus)) → have_one_fault_a_group xs ≡ true → has_fault xs g c ≡ true → has_fault xs g d ≡ true → mtapi_number c ≡ mtapi_number d
-unfolding have_one_fault_a_group
-one_number g c d [] e a b = true_false a refl
-one_number g c d (x ∷ xs) e a b = by (x.0 == g) refl (mtapi_number x.1 == mtapi_number c) refl (mtapi_number x.1 == mtapi_number d) refl a b (one_number g c d xs (snd_true (list_all (λ y. not (x.0 == y.0) || (mtapi_number x.1 == mtapi_number y.1)) xs) _ e))
-  where
-    others : x.0 ≡ g → (z : MtapiStatus) → has_fault xs g z ≡ true → mtapi_number x.1 ≡ mtapi_number z
-    others i z f = alike g (mtapi_number x.1) z xs (subst (λ (n : ℕ). list_all (λ y. not (n == y.0) || (mtapi_number x.1 == mtapi_number y.1)) xs ≡ true) i (fst_true _ (have_one_fault_a_group xs) e)) f
-
-    by : (p : Bool) → (x.0 == g) ≡ p → (q : Bool) → (mtapi_number x.1 == mtapi_number c) ≡ q → (r : Bool) → (mtapi_number x.1 == mtapi_number d) ≡ r → ((p && q) || has_fault xs g c) ≡ true → ((p && r) || has_fault xs g d) ≡ true
-        → (has_fault xs g c ≡ true → has_fault xs g d ≡ true → mtapi_number c ≡ mtapi_number d) → mtapi_number c ≡ mtapi_number d
-    by true i true j true k f h y = sym (eqb-true (mtapi_number x.1) (mtapi_number c) j) ∙ eqb-true (mtapi_number x.1) (mtapi_number d) k
-    by true i true j false k f h y = sym (eqb-true (mtapi_number x.1) (mtapi_number c) j) ∙ others (eqb-true x.0 g i) d h
-    by true i false j true k f h y = sym (others (eqb-true x.0 g i) c f) ∙ eqb-true (mtapi_number x.1) (mtapi_number d) k
-    by true i false j false k f h y = y f h
-    by false i q j r k f h y = y f h
-
--- they have one status
+-- where the faults of each group have one status, two have one
 pub one_status : (g : ℕ) (c d : MtapiStatus) (xs : List (ℕ × MtapiStatus)) → have_one_fault_a_group xs ≡ true → has_fault xs g c ≡ true → has_fault xs g d ≡ true → c ≡ d
-one_status g c d xs e a b = same_status c d (one_number g c d xs e a b)
+unfolding have_one_fault_a_group
+one_status g c d xs e a b = same_status c d (one_number (λ x. x.0) (λ x. mtapi_number x.1) have_one_fault_a_group (λ y ys. refl) g (mtapi_number c) (mtapi_number d) xs e a b)
 
 -- The fault of a statement's task
 
-or_true : (a b : Bool) → b ≡ true → (a || b) ≡ true
-or_true true b e = refl
-or_true false b e = e
-
-or_first : (a b : Bool) → a ≡ true → (a || b) ≡ true
-or_first true b e = refl
-or_first false b e = true_false e refl
-
 in_all : {X Y : Type 0} (p : Y → Bool) (f : X → List Y) (before : List X) (x : X) (behind : List X) → list_any p (f x) ≡ true → list_any p (flat_map f (before ++ x ∷ behind)) ≡ true
-in_all p f [] x behind e = list_any-append p (f x) (flat_map f behind) ∙ or_first _ _ e
-in_all p f (y ∷ before) x behind e = list_any-append p (f y) (flat_map f (before ++ x ∷ behind)) ∙ or_true _ _ (in_all p f before x behind e)
+in_all p f [] x behind e = list_any-append p (f x) (flat_map f behind) ∙ or_left _ _ e
+in_all p f (y ∷ before) x behind e = list_any-append p (f y) (flat_map f (before ++ x ∷ behind)) ∙ or_right _ _ (in_all p f before x behind e)
 
 both_there : (group : Option ℕ) (fault : Option MtapiStatus) (g : ℕ) (c : MtapiStatus) → group ≡ Some g → fault ≡ Some c → has_fault (both group fault) g c ≡ true
 both_there group fault g c i j =
     subst (λ (x : Option ℕ). has_fault (both x fault) g c ≡ true) (sym i)
-    (subst (λ (x : Option MtapiStatus). has_fault (both (Some g) x) g c ≡ true) (sym j) (or_first _ false (both_true (g == g) _ (eq-eqb g g refl) (eq-eqb (mtapi_number c) (mtapi_number c) refl))))
+    (subst (λ (x : Option MtapiStatus). has_fault (both (Some g) x) g c ≡ true) (sym j) (or_left _ false (both_true (g == g) _ (eq-eqb g g refl) (eq-eqb (mtapi_number c) (mtapi_number c) refl))))
 
 -- where it is in a group, the group has it
 pub fault_there : (actions : List Action) (all before : List Statement) (s : Statement) (behind : List Statement) (t : NewTask) (g : ℕ) (c : MtapiStatus) → task_in all s.deed ≡ Some t → t.group ≡ Some g → plain_fault actions t ≡ Some c
@@ -89,3 +86,32 @@ pub fault_there : (actions : List Action) (all before : List Statement) (s : Sta
 fault_there actions all before s behind t g c e i j =
     in_all (λ x. (x.0 == g) && (mtapi_number x.1 == mtapi_number c)) (λ z. fault_in actions (task_in all z.deed)) before s behind
     (subst (λ (o : Option NewTask). has_fault (fault_in actions o) g c ≡ true) (sym e) (both_there t.group (plain_fault actions t) g c i j))
+
+-- The fault that is told
+
+-- none of these tasks has a fault where there is none, and else one of them has this one
+pub record Matches (fault_of_task : ℕ → Option MtapiStatus) (hs : List ℕ) (fault : Option MtapiStatus) : Type 0 where
+  pub none : fault ≡ None → (h : ℕ) → has hs h ≡ true → fault_of_task h ≡ None
+  pub some : (c : MtapiStatus) → fault ≡ Some c → (h : ℕ) × (has hs h ≡ true) × (fault_of_task h ≡ Some c)
+
+module _ (F : ℕ → Option MtapiStatus) where
+  pub no_member : Matches F [] None
+  no_member = record { none = λ e h b. true_false b refl; some = λ c e. none_some e }
+
+  pub more_member : (h : ℕ) (x : Option MtapiStatus) (hs : List ℕ) (fault : Option MtapiStatus) → F h ≡ x → Matches F hs fault → Matches F (h ∷ hs) (option_or fault x)
+  more_member h x hs None e m = record { none = λ i k b. elim (or_cases (h == k) (has hs k) b) as (λ z. F k ≡ None) [ inl j ↦ subst (λ (n : ℕ). F n ≡ None) (eqb-true h k j) (e ∙ i) | inr j ↦ m.none refl k j ]; some = λ c i. (h, or_left (h == h) _ (eq-eqb h h refl), e ∙ i) }
+  more_member h x hs (Some d) e m = record { none = λ i k b. none_some (sym i); some = λ c i. let y = m.some c i in (y.0, has_more h hs y.0 y.1, y.2) }
+
+  -- where the faults of the tasks are one, so are the two
+  pub one_verdict : (s : State) (hs : List ℕ) (r : Reply) (fault : Option MtapiStatus) → IsVerdict s hs r → ((h : ℕ) → has hs h ≡ true → fault_at s h ≡ F h) → Matches F hs fault
+      → ((h j : ℕ) (c d : MtapiStatus) → has hs h ≡ true → has hs j ≡ true → F h ≡ Some c → F j ≡ Some d → c ≡ d) → r ≡ verdict fault
+  one_verdict s hs r fault v same m one = v.is ∙ ap verdict (by v.fault refl fault refl)
+    where
+      by : (a : Option MtapiStatus) → v.fault ≡ a → (b : Option MtapiStatus) → fault ≡ b → a ≡ b
+      by None i None j = refl
+      by None i (Some c) j = let y = m.some c j in none_some (sym (sym (same y.0 y.1) ∙ v.none i y.0 y.1) ∙ y.2)
+      by (Some c) i None j = let y = v.some c i in none_some (sym (m.none j y.0 y.1) ∙ (sym (same y.0 y.1) ∙ y.2))
+      by (Some c) i (Some d) j =
+          let y = v.some c i in
+          let z = m.some d j in
+          ap Some (one y.0 z.0 c d y.1 z.1 (sym (same y.0 y.1) ∙ y.2) z.2)

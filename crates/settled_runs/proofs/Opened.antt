@@ -1,21 +1,21 @@
--- In a run of a settled workload the node is open before each statement's entry.
-use Rattle.settled_runs.proofs.Names.{Each, ◌≡◌, inl, inr, ℕ, suc, ◌+◌, ◌≤◌, ◌<◌, Bool, true, false, cond, List, [], ◌∷◌, ◌++◌, length, refl, sym, ◌∙◌, ap, subst, arith, append_assoc, ◌==◌, ◌&&◌, map, flat_map, eq-eqb, Layout, entry, entries_of, how_many, Deed, Statement, Part, Workload, begins, IsFurther, MainFirst, Op, Reply, opening, NodeEntry, Legal, Legal-prefix, call_of, Line, line, head_of, tail_of_main, in_lines, MainRan, PartsRan, RunOf, some_entry, closes, NoClose, BySeats, is_release, is_released, says_ok, true_false, by_seats, run_terms, AreQuiet, handle_of, IsOpened, all_statements, actions_in, SettledRun, is_begin, lines_of, CallersRan}
+-- In a run of a settled workload the node is open before each statement's entry, there is room for what it asks for, and the ids of queues are new.
+use Rattle.settled_runs.proofs.Names.{Each, ◌≡◌, inl, inr, ℕ, suc, ◌+◌, ◌≤◌, ◌<◌, Bool, true, false, cond, List, [], ◌∷◌, ◌++◌, length, refl, sym, ◌∙◌, ap, subst, arith, append_assoc, ◌==◌, map, eq-eqb, Layout, entry, entries_of, how_many, Deed, Statement, Part, Workload, begins, IsFurther, MainFirst, Op, Reply, opening, NodeEntry, Legal, Legal-prefix, call_of, Line, line, head_of, tail_of_main, in_lines, MainRan, PartsRan, closes, NoClose, BySeats, is_release, true_false, by_seats, run_terms, AreQuiet, handle_of, IsOpened, all_statements, actions_in, SettledRun, is_begin, lines_of, CallersRan, cond_both, has_begin, Option, Some, None, ◌&&◌, nat_le, is_some, list_any, eqb-true, nat_tests, NodeSettings, holds, ObjectKind, Queue, fst_true, snd_true, not_true, some_entry, entries_that, makes_one, HasRoom, makes_queue, queue_in, has_new_id, makes_group, makes_task, has_room, has_different_ids, or_parts, objects_of, and_parts, cases_Bool}
+use Rattle.settled_runs.proofs.RunEnds.{ArePlanned, run_planned, all_quiet}
+use Rattle.settled_runs.proofs.Along.{Placed, placed, Cut, cut}
+use Rattle.settled_runs.proofs.Granted.{bit}
+use Rattle.settled_runs.proofs.Counted.{asks, asked, many_append, many_none, only_asks, seat_asks, CallAsks, calls_none, no_bit, statements_ask, entries_are, many_within, IsClass, run_asks}
+use Rattle.settled_runs.proofs.Each.{AllSeats, OnlyBy, PartAt, each_behind, each_front, each_map, each_of, is_at_work, made_each, map_seats, only_by, settled_whole, run_parts, seat_each, with_each, is_outside}
+use Rattle.settled_runs.proofs.Stays.{quiet_front}
+use Rattle.history_law.specs.Words.{makes}
+use Rattle.settled_runs.specs.Settled.{makes_action}
 use Rattle.workload_file.specs.declared.workload.Deed.TheVariants as deed
 use Rattle.mtapi_machine.specs.declared.ops.Op.TheVariants as op
 use Rattle.mtapi_machine.specs.declared.replies.Reply.TheVariants as reply
-use Rattle.settled_runs.proofs.Asked.{run_planned}
-use Rattle.settled_runs.proofs.RunEnds.{all_quiet}
-use Rattle.settled_runs.proofs.Cuts.{Placed, placed, lines_append, Cut, cut}
-use Rattle.settled_runs.proofs.Counted.{bit, asks, asked, asks_append, asked_append, CallAsks, IsClass, run_asks, seat_asks, calls_none, no_bit}
-use Rattle.settled_runs.proofs.Each.{AllSeats, OnlyBy, PartAt, each_behind, each_front, is_at_work, made_each, map_seats, only_by, parts_settled, run_parts, seat_each, with_each}
-use Rattle.settled_runs.proofs.Stays.{quiet_front}
+use Rattle.mtapi_values.specs.declared.handles.ObjectKind.TheVariants as kinds
 
 -- Which ops close, and which release
 
-abbrev pub no_deed : Deed → Bool
-no_deed d = false
-
-close_calls : (bound : List ℕ) (d : Deed) → CallAsks closes (bit (no_deed d)) (call_of bound d)
+close_calls : (bound : List ℕ) (d : Deed) → CallAsks closes (bit false) (call_of bound d)
 close_calls bound deed.Begin = omega arith
 close_calls bound _ = omega arith
 
@@ -23,18 +23,6 @@ pub release_calls : (bound : List ℕ) (d : Deed) → CallAsks is_release (bit (
 unfolding is_begin
 release_calls bound deed.Begin = omega arith
 release_calls bound _ = omega arith
-
-pub none_many : (ss : List Statement) → how_many (λ s. false) ss ≡ 0
-none_many [] = refl
-none_many (s ∷ ss) = let k : how_many (λ z. false) ss ≡ 0 = none_many ss in omega arith
-
-pub no_close : (L : List NodeEntry) → asks closes L ≡ 0 → NoClose L
-no_close [] k = tt
-no_close (e ∷ es) k = by (closes e.op) refl k (no_close es)
-  where
-    by : (b : Bool) → closes e.op ≡ b → bit b + asks closes es ≡ 0 → (asks closes es ≡ 0 → NoClose es) → (closes e.op ≡ false) × NoClose es
-    by true i j r = absurd (omega arith)
-    by false i j r = (i, r (omega arith))
 
 close_work : (o : Op) → is_at_work o ≡ true → closes o ≡ false
 close_work op.Close e = true_false e refl
@@ -45,45 +33,14 @@ release_work : (o : Op) → is_at_work o ≡ true → is_release o ≡ false
 release_work op.Release e = true_false e refl
 release_work _ e = refl
 
-close_class : IsClass closes no_deed
-close_class = record { calls = close_calls; enter = refl; work = close_work }
-
--- no statement closes, and main closes twice
-closed_twice : (load : Workload) (es : List NodeEntry) (ns : List ℕ) → length es ≡ length ns → RunOf load es ns → BySeats (load.settings.workers + length load.parts) es → asks closes es ≤ 2
-closed_twice load es ns l run b =
-    let a : asks closes es ≤ how_many (λ s. false) (flat_map (λ x. x.statements) load.parts) + (0 + 0 + (1 + 1)) = run_asks closes no_deed close_class load es ns l run b in
-    let c : how_many (λ s. false) (flat_map (λ x. x.statements) load.parts) ≡ 0 = none_many (flat_map (λ x. x.statements) load.parts) in
-    omega arith
-
--- The entries before one
-
-pub some_entry_asks : (p : NodeEntry → Bool) (q : Op → Bool) → ((e : NodeEntry) → p e ≡ true → q e.op ≡ true) → (L : List NodeEntry) → some_entry p L ≡ true → 1 ≤ asks q L
-some_entry_asks p q k [] i = true_false i refl
-some_entry_asks p q k (e ∷ es) i = by (p e) refl i (some_entry_asks p q k es)
-  where
-    by : (b : Bool) → p e ≡ b → cond b true (some_entry p es) ≡ true → (some_entry p es ≡ true → 1 ≤ asks q es) → 1 ≤ bit (q e.op) + asks q es
-    by true j f r = let x : bit (q e.op) ≡ 1 = ap bit (k e j) in omega arith
-    by false j f r = let x : 1 ≤ asks q es = r f in omega arith
-
-pub releases_op : (e : NodeEntry) → is_released e ≡ true → is_release e.op ≡ true
-releases_op e i = by (is_release e.op) i
-  where
-    by : (b : Bool) → (b && says_ok e.reply) ≡ true → b ≡ true
-    by true j = refl
-    by false j = j
+pub no_close : (L : List NodeEntry) → asks closes L ≡ 0 → NoClose L
+no_close [] k = tt
+no_close (e ∷ es) k = (no_bit (closes e.op) (omega arith), no_close es (omega arith))
 
 -- an entry of the seat stands in no list without any
 none_of_seat : (who : ℕ) (X Y : List NodeEntry) (e : NodeEntry) → e.who ≡ who → entries_of who (X ++ e ∷ Y) ≡ [] → ⊥
-none_of_seat who [] Y e w i = by (e.who == who) (eq-eqb e.who who w) i
-  where
-    by : (b : Bool) → b ≡ true → cond b (e ∷ entries_of who Y) (entries_of who Y) ≡ [] → ⊥
-    by true j f = cc
-    by false j f = true_false j refl
-none_of_seat who (x ∷ X) Y e w i = by (x.who == who) i (none_of_seat who X Y e w)
-  where
-    by : (b : Bool) → cond b (x ∷ entries_of who (X ++ e ∷ Y)) (entries_of who (X ++ e ∷ Y)) ≡ [] → (entries_of who (X ++ e ∷ Y) ≡ [] → ⊥) → ⊥
-    by true f r = cc
-    by false f r = r f
+none_of_seat who [] Y e w i = let z : e ∷ entries_of who Y ≡ [] = sym (ap (λ (b : Bool). cond b (e ∷ entries_of who Y) (entries_of who Y)) (eq-eqb e.who who w)) ∙ i in cc
+none_of_seat who (x ∷ X) Y e w i = cond_both (x.who == who) (x ∷ entries_of who (X ++ e ∷ Y)) (entries_of who (X ++ e ∷ Y)) (λ l. l ≡ [] → ⊥) (λ j k. cc) (λ j k. none_of_seat who X Y e w k) i
 
 no_end : {X : Type 0} (A : List X) (x : X) (B : List X) → [] ≡ A ++ x ∷ B → ⊥
 no_end [] x B e = cc
@@ -118,69 +75,14 @@ module _ (layout : Layout) (load : Workload) (es : List NodeEntry) (ns : List �
   pub seats_are : BySeats (load.settings.workers + length load.parts) es
   seats_are = by_seats (opening (run_terms layout load)) es u.legal.from
 
+  pub planned : ArePlanned (actions_in (all_statements load)) es
+  planned = run_planned load es ns u.settled u.same u.run seats_are
+
   pub quiet : AreQuiet es
-  quiet = all_quiet (actions_in (all_statements load)) es (run_planned load es ns u.settled u.same u.run seats_are)
+  quiet = all_quiet (actions_in (all_statements load)) es planned
 
   abbrev pub main : ℕ
   main = load.settings.workers
-
-  module _ (who : ℕ) (A : List Line) (l : Line) (B : List Line) (c : Cut who es ns A l B) where
-    abbrev pub this : NodeEntry
-    this = entry who l.op l.reply
-
-    parted : es ≡ (c.before ++ this ∷ []) ++ c.behind
-    parted = c.is ∙ sym (append_assoc c.before (this ∷ []) c.behind)
-
-    pub legal_here : Legal (run_terms layout load) (c.before ++ this ∷ [])
-    legal_here = Legal-prefix (run_terms layout load) (c.before ++ this ∷ []) c.behind (subst (Legal (run_terms layout load)) parted u.legal)
-
-    pub legal_before : Legal (run_terms layout load) c.before
-    legal_before = Legal-prefix (run_terms layout load) c.before (this ∷ []) legal_here
-
-    pub quiet_before : AreQuiet c.before
-    quiet_before = quiet_front c.before (this ∷ c.behind) (subst AreQuiet c.is quiet)
-
-    closes_parted : asks closes c.before + (bit (closes l.op) + asks closes c.behind) ≤ 2
-    closes_parted =
-        let a : asks closes es ≤ 2 = closed_twice load es ns u.same u.run seats_are in
-        let b : asks closes (c.before ++ this ∷ c.behind) ≡ asks closes c.before + (bit (closes l.op) + asks closes c.behind) = asks_append (λ e. closes e.op) c.before (this ∷ c.behind) in
-        let d : asks closes es ≡ asks closes (c.before ++ this ∷ c.behind) = ap (asks closes) c.is in
-        omega arith
-
-    -- main's close stands behind each entry of its statements
-    pub main_unclosed : (C : List Line) → B ≡ C ++ tail_of_main → asks closes c.before ≡ 0
-    main_unclosed C i =
-        let a : asked closes (lines_of who c.behind c.rest) ≤ asks closes c.behind = seat_asks closes who c.behind c.rest in
-        let b : asked closes (lines_of who c.behind c.rest) ≡ asked closes (C ++ tail_of_main) = ap (asked closes) (c.left ∙ i) in
-        let d : asked closes (C ++ tail_of_main) ≡ asked closes C + 2 = asked_append closes C tail_of_main in
-        let e : asks closes c.before + (bit (closes l.op) + asks closes c.behind) ≤ 2 = closes_parted in
-        omega arith
-
-    -- and each of a further caller's
-    pub further_unclosed : main < who → asks closes c.before ≡ 0
-    further_unclosed k = by (placed c.before this c.behind u.run.ends.before (entry main op.Close reply.Ok) (u.run.ends.behind ++ entry main op.Final reply.Ok ∷ []) (sym c.is ∙ u.run.ends.closes))
-      where
-        other : who ≡ main → ⊥
-        other i = absurd (omega arith)
-
-        late : (Q : List NodeEntry) → u.run.ends.behind ++ entry main op.Final reply.Ok ∷ [] ≡ Q ++ this ∷ c.behind → ⊥
-        late Q i = by_last (placed u.run.ends.behind (entry main op.Final reply.Ok) [] Q this c.behind i)
-          where
-            by_last : Placed u.run.ends.behind (entry main op.Final reply.Ok) [] Q this c.behind → ⊥
-            by_last (inl p) = no_end p.between this c.behind p.back
-            by_last (inr (inl p)) = other (sym (ap (λ (e : NodeEntry). e.who) p.here))
-            by_last (inr (inr p)) = none_of_seat who Q p.between this refl (sym (ap (entries_of who) p.front) ∙ u.run.ends.callers_ended who k)
-
-        by : Placed c.before this c.behind u.run.ends.before (entry main op.Close reply.Ok) (u.run.ends.behind ++ entry main op.Final reply.Ok ∷ []) → asks closes c.before ≡ 0
-        by (inl p) =
-            let a : asks closes c.behind ≡ asks closes (p.between ++ entry main op.Close reply.Ok ∷ (u.run.ends.behind ++ entry main op.Final reply.Ok ∷ [])) = ap (asks closes) p.back in
-            let b : asks closes (p.between ++ entry main op.Close reply.Ok ∷ (u.run.ends.behind ++ entry main op.Final reply.Ok ∷ [])) ≡ asks closes p.between + (1 + asks closes (u.run.ends.behind ++ entry main op.Final reply.Ok ∷ [])) =
-            asks_append (λ e. closes e.op) p.between (entry main op.Close reply.Ok ∷ (u.run.ends.behind ++ entry main op.Final reply.Ok ∷ [])) in
-            let d : asks closes (u.run.ends.behind ++ entry main op.Final reply.Ok ∷ []) ≡ asks closes u.run.ends.behind + (1 + 0) = asks_append (λ e. closes e.op) u.run.ends.behind (entry main op.Final reply.Ok ∷ []) in
-            let e : asks closes c.before + (bit (closes l.op) + asks closes c.behind) ≤ 2 = closes_parted in
-            omega arith
-        by (inr (inl p)) = absurd (other (ap (λ (e : NodeEntry). e.who) p.here))
-        by (inr (inr p)) = absurd (late p.between p.back)
 
   pub first_of : MainOf (λ who. lines_of who es ns) main load.parts u.run.replies
   first_of = main_of (λ who. lines_of who es ns) main load.parts u.run.replies u.run.parts
@@ -188,48 +90,230 @@ module _ (layout : Layout) (load : Workload) (es : List NodeEntry) (ns : List �
   pub all_at : AllSeats (PartAt load es ns) main (first_of.part ∷ first_of.others) (first_of.replies ∷ first_of.further)
   all_at =
       subst (AllSeats (PartAt load es ns) main (first_of.part ∷ first_of.others)) first_of.told
-      (subst (λ (ps : List Part). AllSeats (PartAt load es ns) main ps u.run.replies) first_of.are (run_parts load es ns u.same u.run seats_are (parts_settled load u.settled)))
+      (subst (λ (ps : List Part). AllSeats (PartAt load es ns) main ps u.run.replies) first_of.are (run_parts load es ns u.same u.run seats_are (settled_whole load u.settled).parts))
 
-  pub further_are : Each IsFurther first_of.others
+  further_are : Each IsFurther first_of.others
   further_are = (subst MainFirst first_of.are u.formed.main).1
 
-  -- what no further caller asks for, main alone asks for
-  pub only_main : (p : Op → Bool) → ((o : Op) → is_at_work o ≡ true → p o ≡ false) → ((w : ℕ) (q : Part) (rs : List Reply) → main < w → PartAt load es ns w q rs × IsFurther q → Each (λ l. p l.op ≡ false) (lines_of w es ns)) → OnlyBy main p es
-  only_main p out further =
-      only_by load es ns u.same u.run seats_are main p out
+  -- what no statement of a further caller asks for, main alone asks for
+  pub only_main : (p : Op → Bool) (q : Deed → Bool) → ((bound : List ℕ) (d : Deed) → CallAsks p (bit (q d)) (call_of bound d)) → ((o : Op) → is_at_work o ≡ true → p o ≡ false) → p op.Enter ≡ false
+      → ((w : ℕ) (x : Part) (rs : List Reply) → main < w → PartAt load es ns w x rs × IsFurther x → (b : List Statement) (s : Statement) (rest : List Statement) → x.statements ≡ b ++ s ∷ rest → q s.deed ≡ false) → OnlyBy main p es
+  only_main p q calls work enter further =
+      only_by load es ns u.same u.run seats_are main p work
       (subst (λ (ps : List Part). AllSeats Others main ps u.run.replies) (sym first_of.are) (subst (AllSeats Others main (first_of.part ∷ first_of.others)) (sym first_of.told) (
         (λ i. true_false (eq-eqb main main refl) i),
-        map_seats (λ w q rs. PartAt load es ns w q rs × IsFurther q) Others (suc main) (λ w q rs l x i. further w q rs l x) (suc main) first_of.others first_of.further (omega arith)
+        map_seats (λ w x rs. PartAt load es ns w x rs × IsFurther x) Others (suc main) (λ w x rs l y i. each w x rs l y) (suc main) first_of.others first_of.further (omega arith)
             (with_each (PartAt load es ns) IsFurther (suc main) first_of.others first_of.further all_at.1 further_are),
       )))
     where
       Others : ℕ → Part → List Reply → Type 0
-      Others w q rs = (w == main) ≡ false → Each (λ l. p l.op ≡ false) (lines_of w es ns)
+      Others w x rs = (w == main) ≡ false → Each (λ l. p l.op ≡ false) (lines_of w es ns)
+
+      each : (w : ℕ) (x : Part) (rs : List Reply) → main < w → PartAt load es ns w x rs × IsFurther x → Each (λ l. p l.op ≡ false) (lines_of w es ns)
+      each w x rs l y =
+          let ends : Each (λ k. p k.op ≡ false) (y.0.start ++ y.0.finish) = each_map (λ (k : Line). k.op ≡ op.Enter) (λ (k : Line). p k.op ≡ false) (λ k e. ap p e ∙ enter) (y.0.start ++ y.0.finish) (y.0.enters l) in
+          seat_each load es ns (λ o. p o ≡ false) w x rs y.0 (each_front (λ (k : Line). p k.op ≡ false) y.0.start y.0.finish ends) (each_behind (λ (k : Line). p k.op ≡ false) y.0.start y.0.finish ends)
+          (λ b l1 r1 s front r z. made_each (λ o. p o ≡ false) (call_of (map handle_of r1) s.deed) front r (calls_none p (call_of (map handle_of r1) s.deed) (q s.deed) (calls (map handle_of r1) s.deed) (further w x rs l y b s z.rest z.parted)) z.made)
 
   pub releases_main : OnlyBy main is_release es
-  releases_main =
-      only_main is_release release_work
-      (λ w q rs l x. seat_each load es ns (λ o. is_release o ≡ false) w q rs x.0 (each_front (λ (k : Line). is_release k.op ≡ false) x.0.start x.0.finish (x.0.unreleased l)) (each_behind (λ (k : Line). is_release k.op ≡ false) x.0.start x.0.finish (x.0.unreleased l))
-      (λ b l1 r1 s front r y. made_each (λ o. is_release o ≡ false) (call_of (map handle_of r1) s.deed) front r
-      (calls_none is_release (call_of (map handle_of r1) s.deed) (is_begin s.deed) (release_calls (map handle_of r1) s.deed) (begin_none b s y.rest (ap begins (sym y.parted) ∙ x.1.begin))) y.made))
+  releases_main = only_main is_release is_begin release_calls release_work refl (λ w x rs l y b s rest e. begin_none b s rest (ap begins (sym e) ∙ y.1.begin))
 
-  -- a front of the list, with its numbers
-  pub record Front (L : List NodeEntry) : Type 0 where
-    pub rest : List NodeEntry
-    pub numbers : List ℕ
-    pub left : List ℕ
-    pub is : es ≡ L ++ rest
-    pub are : ns ≡ numbers ++ left
-    pub same : length L ≡ length numbers
+  -- no statement closes, and main closes twice
+  closed_twice : asks closes es ≤ 2
+  closed_twice =
+      let a : asks closes es ≤ asked closes (lines_of main es ns) = only_asks main closes es ns u.same (only_main closes (λ d. false) close_calls close_work refl (λ w x rs l y b s rest e. refl)) in
+      let b : asked closes (lines_of main es ns) ≡ asked closes (head_of (has_begin first_of.part.statements)) + asked closes (first_of.ran.body ++ tail_of_main) = ap (asked closes) first_of.ran.is ∙ many_append (λ l. closes l.op) (head_of (has_begin first_of.part.statements)) (first_of.ran.body ++ tail_of_main) in
+      let c : asked closes (first_of.ran.body ++ tail_of_main) ≡ asked closes first_of.ran.body + 2 = many_append (λ l. closes l.op) first_of.ran.body tail_of_main in
+      let d : asked closes first_of.ran.body ≤ how_many (λ s. false) first_of.part.statements = statements_ask closes (λ d. false) first_of.part.statements first_of.ran.body first_of.replies first_of.ran.carried (λ b l1 r1 s front r z. close_calls (map handle_of r1) s.deed) in
+      let e : how_many (λ s. false) first_of.part.statements ≡ 0 = many_none (λ s. false) first_of.part.statements (each_of (λ s. false ≡ false) (λ s. refl) first_of.part.statements) in
+      let f : asked closes (head_of (has_begin first_of.part.statements)) ≡ 0 = none (has_begin first_of.part.statements) in
+      omega arith
+    where
+      none : (b : Bool) → asked closes (head_of b) ≡ 0
+      none true = refl
+      none false = refl
 
-  pub front_lines : (who : ℕ) (L : List NodeEntry) (f : Front L) → lines_of who es ns ≡ lines_of who L f.numbers ++ lines_of who f.rest f.left
-  front_lines who L f = (λ i. lines_of who (f.is i) (f.are i)) ∙ lines_append who L f.rest f.numbers f.left f.same
+  module _ (who : ℕ) (A : List Line) (l : Line) (B : List Line) (c : Cut who es ns A l B) where
+    abbrev pub this : NodeEntry
+    this = entry who l.op l.reply
+
+    pub legal_here : Legal (run_terms layout load) (c.before ++ this ∷ [])
+    legal_here = Legal-prefix (run_terms layout load) (c.before ++ this ∷ []) c.behind (subst (Legal (run_terms layout load)) (c.is ∙ sym (append_assoc c.before (this ∷ []) c.behind)) u.legal)
+
+    pub legal_before : Legal (run_terms layout load) c.before
+    legal_before = Legal-prefix (run_terms layout load) c.before (this ∷ []) legal_here
+
+    pub quiet_before : AreQuiet c.before
+    quiet_before = quiet_front c.before (this ∷ c.behind) (subst AreQuiet c.is quiet)
+
+    -- where two entries behind it close, none before it does
+    unclosed : 2 ≤ asks closes c.behind → asks closes c.before ≡ 0
+    unclosed k =
+        let a : asks closes es ≡ asks closes c.before + (bit (closes l.op) + asks closes c.behind) = ap (asks closes) c.is ∙ many_append (λ e. closes e.op) c.before (this ∷ c.behind) in
+        let b : asks closes es ≤ 2 = closed_twice in
+        omega arith
+
+    -- main's close stands behind each entry of its statements
+    pub main_unclosed : (C : List Line) → B ≡ C ++ tail_of_main → asks closes c.before ≡ 0
+    main_unclosed C i =
+        let a : asked closes (lines_of who c.behind c.rest) ≤ asks closes c.behind = seat_asks closes who c.behind c.rest (c.alike u.same) in
+        let b : asked closes (lines_of who c.behind c.rest) ≡ asked closes C + 2 = ap (asked closes) (c.left ∙ i) ∙ many_append (λ k. closes k.op) C tail_of_main in
+        unclosed (omega arith)
+
+    -- and each of a further caller's
+    pub further_unclosed : main < who → asks closes c.before ≡ 0
+    further_unclosed k = by (placed c.before this c.behind u.run.ends.before close last (sym c.is ∙ u.run.ends.closes))
+      where
+        close : NodeEntry
+        close = entry main op.Close reply.Ok
+
+        last : List NodeEntry
+        last = u.run.ends.behind ++ entry main op.Final reply.Ok ∷ []
+
+        other : who ≡ main → ⊥
+        other i = absurd (omega arith)
+
+        late : (Q : List NodeEntry) → last ≡ Q ++ this ∷ c.behind → ⊥
+        late Q i = by_last (placed u.run.ends.behind (entry main op.Final reply.Ok) [] Q this c.behind i)
+          where
+            by_last : Placed u.run.ends.behind (entry main op.Final reply.Ok) [] Q this c.behind → ⊥
+            by_last (inl p) = no_end p.between this c.behind p.back
+            by_last (inr (inl p)) = other (sym (ap (λ (e : NodeEntry). e.who) p.here))
+            by_last (inr (inr p)) = none_of_seat who Q p.between this refl (sym (ap (entries_of who) p.front) ∙ u.run.ends.callers_ended who k)
+
+        by : Placed c.before this c.behind u.run.ends.before close last → asks closes c.before ≡ 0
+        by (inl p) =
+            let a : asks closes c.behind ≡ asks closes p.between + (1 + asks closes last) = ap (asks closes) p.back ∙ many_append (λ e. closes e.op) p.between (close ∷ last) in
+            let b : asks closes last ≡ asks closes u.run.ends.behind + (1 + 0) = many_append (λ e. closes e.op) u.run.ends.behind (entry main op.Final reply.Ok ∷ []) in
+            unclosed (omega arith)
+        by (inr (inl p)) = absurd (other (ap (λ (e : NodeEntry). e.who) p.here))
+        by (inr (inr p)) = absurd (late p.between p.back)
 
 -- An opened node
 
 pub is_opened : (who : ℕ) (L : List NodeEntry) (ks : List ℕ) (R : List Line) → lines_of who L ks ≡ line op.Initialize reply.Ok 0 ∷ R → asks closes L ≡ 0 → IsOpened L
 is_opened who L ks R i k =
     let d : Cut who L ks [] (line op.Initialize reply.Ok 0) R = cut who L ks [] (line op.Initialize reply.Ok 0) R i in
-    let a : asks closes L ≡ asks closes (d.before ++ entry who op.Initialize reply.Ok ∷ d.behind) = ap (asks closes) d.is in
-    let b : asks closes (d.before ++ entry who op.Initialize reply.Ok ∷ d.behind) ≡ asks closes d.before + (0 + asks closes d.behind) = asks_append (λ e. closes e.op) d.before (entry who op.Initialize reply.Ok ∷ d.behind) in
+    let a : asks closes L ≡ asks closes d.before + (0 + asks closes d.behind) = ap (asks closes) d.is ∙ many_append (λ e. closes e.op) d.before (entry who op.Initialize reply.Ok ∷ d.behind) in
     record { before = d.before; who = who; behind = d.behind; is = d.is; unclosed = no_close d.behind (let z : asks closes L ≡ 0 = k in omega arith) }
+
+-- The ops that make objects, and the statements that do
+
+makes_outside : (k : ObjectKind) (o : Op) → is_outside o ≡ true → makes k o ≡ false
+makes_outside kinds.Action (op.ActionCreate job kind cores) e = true_false e refl
+makes_outside kinds.Task (op.TaskStart job args priority cores detached group) e = true_false e refl
+makes_outside kinds.Task (op.TaskEnqueue q args cores detached group) e = true_false e refl
+makes_outside kinds.Group op.GroupCreate e = true_false e refl
+makes_outside kinds.Queue (op.QueueCreate id job priority limit ordered retain) e = true_false e refl
+makes_outside kinds.Mutex (op.MutexCreate id recursive) e = true_false e refl
+makes_outside kinds.Sem (op.SemCreate id limit) e = true_false e refl
+makes_outside kinds.Rwl (op.RwlCreate id limit) e = true_false e refl
+makes_outside kinds.Shmem (op.ShmemCreate id cells) e = true_false e refl
+makes_outside _ _ e = refl
+
+actions_call : (bound : List ℕ) (d : Deed) → CallAsks (makes kinds.Action) (bit (makes_action d)) (call_of bound d)
+actions_call bound deed.Begin = omega arith
+actions_call bound _ = omega arith
+
+groups_call : (bound : List ℕ) (d : Deed) → CallAsks (makes kinds.Group) (bit (makes_group d)) (call_of bound d)
+groups_call bound deed.Begin = omega arith
+groups_call bound _ = omega arith
+
+queues_call : (bound : List ℕ) (d : Deed) → CallAsks (makes kinds.Queue) (bit (is_some (queue_in d))) (call_of bound d)
+queues_call bound deed.Begin = omega arith
+queues_call bound _ = omega arith
+
+tasks_call : (bound : List ℕ) (d : Deed) → CallAsks (makes kinds.Task) (bit (makes_task d)) (call_of bound d)
+tasks_call bound deed.Begin = omega arith
+tasks_call bound _ = omega arith
+
+abbrev has_id : ℕ → Deed → Bool
+has_id id d = holds (λ y. y.id == id) (queue_in d)
+
+ids_class : (id : ℕ) → IsClass (makes_queue id) (has_id id)
+ids_class id = record { calls = calls; outside = outside }
+  where
+    calls : (bound : List ℕ) (d : Deed) → CallAsks (makes_queue id) (bit (has_id id d)) (call_of bound d)
+    calls bound deed.Begin = omega arith
+    calls bound _ = omega arith
+
+    outside : (o : Op) → is_outside o ≡ true → makes_queue id o ≡ false
+    outside (op.QueueCreate other job priority limit ordered retain) e = true_false e refl
+    outside _ e = refl
+
+-- What a settled workload has room for
+
+low_enough : (n m : ℕ) → nat_le n m ≡ true → n ≤ m
+low_enough n m e = grind (arith, nat_tests)
+
+record Room (settings : NodeSettings) (ss : List Statement) : Type 0 where
+  actions : how_many (λ s. makes_action s.deed) ss ≤ settings.actions
+  groups : how_many (λ s. makes_group s.deed) ss ≤ settings.groups
+  queues : how_many (λ s. is_some (queue_in s.deed)) ss ≤ settings.queues
+  tasks : how_many (λ s. makes_task s.deed) ss ≤ settings.tasks
+
+few : (settings : NodeSettings) (ss : List Statement) → has_room settings ss ≡ true → Room settings ss
+few settings ss e =
+    let a = and_parts (nat_le (how_many (λ s. makes_action s.deed) ss) settings.actions && nat_le (how_many (λ s. makes_group s.deed) ss) settings.groups && nat_le (how_many (λ s. is_some (queue_in s.deed)) ss) settings.queues) _ e in
+    let b = and_parts (nat_le (how_many (λ s. makes_action s.deed) ss) settings.actions && nat_le (how_many (λ s. makes_group s.deed) ss) settings.groups) _ a.0 in
+    let c = and_parts (nat_le (how_many (λ s. makes_action s.deed) ss) settings.actions) _ b.0 in
+    record { actions = low_enough _ _ c.0; groups = low_enough _ _ c.1; queues = low_enough _ _ b.1; tasks = low_enough _ _ a.1 }
+
+-- no two statements make queues of one id
+one_id : (id : ℕ) (ss : List Statement) → has_different_ids ss ≡ true → how_many (λ s. has_id id s.deed) ss ≤ 1
+unfolding has_different_ids
+one_id id [] e = omega arith
+one_id id (s ∷ ss) e = by (queue_in s.deed) (fst_true (has_new_id (queue_in s.deed) ss) _ e) (one_id id ss (snd_true (has_new_id (queue_in s.deed) ss) _ e))
+  where
+    none : (ts : List Statement) → list_any (λ s. has_id id s.deed) ts ≡ false → Each (λ s. has_id id s.deed ≡ false) ts
+    none [] i = tt
+    none (t ∷ ts) i = let x = or_parts (has_id id t.deed) _ i in (x.0, none ts x.1)
+
+    by : (q : Option Queue) → has_new_id q ss ≡ true → how_many (λ z. has_id id z.deed) ss ≤ 1 → bit (holds (λ y. y.id == id) q) + how_many (λ z. has_id id z.deed) ss ≤ 1
+    by None i k = omega arith
+    by (Some x) i k = elim (cases_Bool (x.id == id)) as (λ z. bit (x.id == id) + how_many (λ z. has_id id z.deed) ss ≤ 1) [
+      | inl j ↦ (let n : how_many (λ z. has_id id z.deed) ss ≡ 0 = many_none (λ z. has_id id z.deed) ss (none ss (subst (λ (n : ℕ). list_any (λ z. has_id n z.deed) ss ≡ false) (eqb-true x.id id j) (not_true _ i))) in let b : bit (x.id == id) ≡ 1 = ap bit j in omega arith)
+      | inr j ↦ (let b : bit (x.id == id) ≡ 0 = ap bit j in omega arith)
+    ]
+
+-- Before an entry
+
+one_made : (k : ObjectKind) (L : List NodeEntry) → entries_that (makes_one k) L ≤ asks (makes k) L
+one_made k L =
+    let a : how_many (makes_one k) L ≤ asks (makes k) L = many_within (makes_one k) (λ e. makes k e.op) L (each_of (λ (e : NodeEntry). makes_one k e ≡ true → makes k e.op ≡ true) (λ e i. fst_true (makes k e.op) _ i) L) in
+    let b : entries_that (makes_one k) L ≡ how_many (makes_one k) L = entries_are (makes_one k) L in
+    omega arith
+
+no_entry : (p : Op → Bool) (L : List NodeEntry) → asks p L ≡ 0 → some_entry (λ e. p e.op) L ≡ false
+no_entry p [] i = refl
+no_entry p (e ∷ es) i = cond_both (p e.op) true (some_entry (λ x. p x.op) es) (λ b. b ≡ false) (λ j. let k : bit (p e.op) ≡ 1 = ap bit j in absurd (omega arith)) (λ j. no_entry p es (let k : bit (p e.op) ≡ 0 = ap bit j in omega arith))
+
+module _ (layout : Layout) (load : Workload) (es : List NodeEntry) (ns : List ℕ) (u : SettledRun layout load es ns) (who : ℕ) (A : List Line) (l : Line) (B : List Line) (c : Cut who es ns A l B) where
+  -- fewer stand before it
+  fewer_before : (p : Op → Bool) (q : Deed → Bool) (n : ℕ) → IsClass p q → how_many (λ s. q s.deed) (all_statements load) ≤ n → p l.op ≡ true → asks p c.before < n
+  fewer_before p q n k h m =
+      let a : asks p es ≤ how_many (λ s. q s.deed) (all_statements load) = run_asks p q k load es ns u.same u.run (seats_are layout load es ns u) u.settled in
+      let b : asks p es ≡ asks p c.before + (bit (p l.op) + asks p c.behind) = ap (asks p) c.is ∙ many_append (λ e. p e.op) c.before (entry who l.op l.reply ∷ c.behind) in
+      let f : bit (p l.op) ≡ 1 = ap bit m in
+      omega arith
+
+  room : (k : ObjectKind) (q : Deed → Bool) → ((bound : List ℕ) (d : Deed) → CallAsks (makes k) (bit (q d)) (call_of bound d)) → how_many (λ s. q s.deed) (all_statements load) ≤ (objects_of k).max load.settings → makes k l.op ≡ true → HasRoom (run_terms layout load) k c.before
+  room k q calls few m =
+      let a : asks (makes k) c.before < (objects_of k).max load.settings = fewer_before (makes k) q ((objects_of k).max load.settings) (record { calls = calls; outside = makes_outside k }) few m in
+      let b : entries_that (makes_one k) c.before ≤ asks (makes k) c.before = one_made k c.before in
+      omega arith
+
+  pub room_for_action : makes kinds.Action l.op ≡ true → HasRoom (run_terms layout load) kinds.Action c.before
+  room_for_action = room kinds.Action makes_action actions_call (few load.settings (all_statements load) (settled_whole load u.settled).room).actions
+
+  pub room_for_group : makes kinds.Group l.op ≡ true → HasRoom (run_terms layout load) kinds.Group c.before
+  room_for_group = room kinds.Group makes_group groups_call (few load.settings (all_statements load) (settled_whole load u.settled).room).groups
+
+  pub room_for_queue : makes kinds.Queue l.op ≡ true → HasRoom (run_terms layout load) kinds.Queue c.before
+  room_for_queue = room kinds.Queue (λ d. is_some (queue_in d)) queues_call (few load.settings (all_statements load) (settled_whole load u.settled).room).queues
+
+  pub room_for_task : makes kinds.Task l.op ≡ true → HasRoom (run_terms layout load) kinds.Task c.before
+  room_for_task = room kinds.Task makes_task tasks_call (few load.settings (all_statements load) (settled_whole load u.settled).room).tasks
+
+  pub new_id : (id : ℕ) → makes_queue id l.op ≡ true → some_entry (λ e. makes_queue id e.op) c.before ≡ false
+  new_id id m = no_entry (makes_queue id) c.before (let a : asks (makes_queue id) c.before < 1 = fewer_before (makes_queue id) (has_id id) 1 (ids_class id) (one_id id (all_statements load) (settled_whole load u.settled).ids) m in omega arith)

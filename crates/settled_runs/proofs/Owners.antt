@@ -1,34 +1,21 @@
--- No seat of a run uses a handle that another seat was given.
-use Rattle.settled_runs.proofs.Names.{Each, ◌≡◌, ℕ, ◌+◌, ◌≤◌, Bool, true, false, cond, List, [], ◌∷◌, ◌++◌, Some, refl, ◌∙◌, ap, arith, None, Option, ◌==◌, map, IfSome, ◌||◌, option_map, eq-eqb, eqb-true, false_from_ne_true, or_from, nat_tests, Layout, ObjectKind, Sort, Deed, fields, place_used, values, word_for, Statement, Part, Workload, IsBoundAt, IsStatement, AllFit, Op, Reply, handle_of, opening, NodeEntry, handle_at, group_at, call_of, Line, line, issues, entries_that, true_false, run_terms, holds, looks_at, waits_for, SettledRun, looks_at_all, starts_member, deed_spelled, lines_of}
+-- No seat of a run uses a handle that another seat was given: so what became of a group is told by the lines of its own seat.
+use Rattle.settled_runs.proofs.Names.{Each, ◌≡◌, ℕ, Bool, true, false, List, Some, refl, ◌∙◌, arith, None, Option, ◌==◌, map, IfSome, ◌||◌, option_map, eq-eqb, eqb-true, false_from_ne_true, or_from, Layout, ObjectKind, Sort, Deed, fields, place_used, values, word_for, Statement, Part, Workload, IsBoundAt, IsStatement, AllFit, Op, Reply, handle_of, NodeEntry, handle_at, group_at, call_of, Line, true_false, run_terms, holds, looks_at, waits_for, SettledRun, looks_at_all, starts_member, deed_spelled, lines_of, append_assoc, sym, ◌≤◌, ap, cond, [], ◌∷◌, ◌++◌, length, entry, is_pending, line, with_new, members_behind, members_of, or_parts}
+use Rattle.workload_file.specs.Table.{row}
+use Rattle.settled_runs.proofs.Opened.{seats_are}
+use Rattle.settled_runs.proofs.Granted.{bit}
+use Rattle.settled_runs.proofs.Counted.{CallAsks, calls_none}
+use Rattle.settled_runs.proofs.Places.{Gave, gave_in, one_seat, tasks_list, Binds, IsListedKind, binds_group, binds_task, bound_gave, groups_list}
+use Rattle.settled_runs.proofs.Each.{CallEach, OnlyBy, each_map, is_outside, made_each, map_seats, only_by, seat_each, work_outside}
+use Rattle.settled_runs.proofs.Walk.{Seat, seat_granted}
+use Rattle.settled_runs.proofs.SeatsGranted.{seats}
+use Rattle.settled_runs.proofs.Along.{step_bound, step_statement}
 use Rattle.mtapi_values.specs.declared.handles.ObjectKind.TheVariants as kinds
 use Rattle.workload_file.specs.declared.table.Sort.TheVariants as sort
 use Rattle.workload_file.specs.declared.workload.Deed.TheVariants as deed
-use Rattle.workload_file.specs.Table.{row}
 use Rattle.mtapi_machine.specs.declared.ops.Op.TheVariants as op
-use Rattle.settled_runs.proofs.Counted.{bit}
-use Rattle.settled_runs.proofs.Opened.{seats_are}
-use Rattle.settled_runs.proofs.Distinct.{issued, issued_append, issued_once, tasks_list, Binds, IsListedKind, binds_group, binds_task, bound_issued, groups_list}
-use Rattle.settled_runs.proofs.Each.{CallEach, OnlyBy, each_map, is_outside, made_each, map_seats, only_by, seat_each}
-use Rattle.settled_runs.proofs.Walk.{Seat, seat_granted}
-use Rattle.settled_runs.proofs.FurtherGranted.{seats}
-use Rattle.settled_runs.proofs.Along.{step_bound, step_statement}
-use Rattle.settled_runs.proofs.Asked.{work_outside}
-
-pub two_seats : (k : ObjectKind) (h a b : ℕ) → (a == b) ≡ false → (es : List NodeEntry) (ns : List ℕ) → issued k h (lines_of a es ns) + issued k h (lines_of b es ns) ≤ entries_that (issues k h) es
-unfolding lines_of
-two_seats k h a b d [] ns = omega arith
-two_seats k h a b d (e ∷ es) [] = omega arith
-two_seats k h a b d (e ∷ es) (n ∷ ns) = by (e.who == a) (e.who == b) refl refl (two_seats k h a b d es ns)
-  where
-    by : (x y : Bool) → (e.who == a) ≡ x → (e.who == b) ≡ y → issued k h (lines_of a es ns) + issued k h (lines_of b es ns) ≤ entries_that (issues k h) es
-        → issued k h (cond x (line e.op e.reply n ∷ lines_of a es ns) (lines_of a es ns)) + issued k h (cond y (line e.op e.reply n ∷ lines_of b es ns) (lines_of b es ns)) ≤ bit (issues k h e) + entries_that (issues k h) es
-    by true true i j r = absurd (grind (arith, nat_tests))
-    by true false i j r = omega arith
-    by false true i j r = omega arith
-    by false false i j r = omega arith
 
 -- where a statement asks for an op of the class only with a handle that its own part bound, only the seat that was given the handle does
-module _ (layout : Layout) (load : Workload) (es : List NodeEntry) (ns : List ℕ) (u : SettledRun layout load es ns) (who h : ℕ) (k : ObjectKind) (t : Sort) (y : Binds k t) (listed : IsListedKind k) (mine : 1 ≤ issued k h (lines_of who es ns)) (p : Op → Bool) (outside : (o : Op) → is_outside o ≡ true → p o ≡ false)
+module _ (layout : Layout) (load : Workload) (es : List NodeEntry) (ns : List ℕ) (u : SettledRun layout load es ns) (who h : ℕ) (k : ObjectKind) (t : Sort) (y : Binds k t) (listed : IsListedKind k) (mine : Gave k h (lines_of who es ns)) (p : Op → Bool) (outside : (o : Op) → is_outside o ≡ true → p o ≡ false)
     (calls : (before : List Statement) (s : Statement) (bound : List ℕ) → IsStatement before s → ((place : ℕ) → IsBoundAt t before place → handle_at bound place ≡ h → ⊥) → CallEach (λ o. p o ≡ false) (call_of bound s.deed)) where
   others : (w : ℕ) (q : Part) (rs : List Reply) → Seat layout load es ns w q rs → (w == who) ≡ false → Each (λ l. p l.op ≡ false) (lines_of w es ns)
   others w q rs x d =
@@ -36,19 +23,13 @@ module _ (layout : Layout) (load : Workload) (es : List NodeEntry) (ns : List �
       (λ b l1 r1 s front r z. made_each (λ o. p o ≡ false) (call_of (map handle_of r1) s.deed) front r
       (calls b s (map handle_of r1) (step_statement q.statements x.at.body rs b l1 r1 s front r z x.are)
       (λ place o e. let v = step_bound q.statements x.at.body rs b l1 r1 s front r z t place o in
-      twice (bound_issued k t y q.statements x.at.body rs x.at.carried (seat_granted layout load es ns u w q rs x) place v.0 h (v.1 ∙ e)))) z.made)
+      twice (bound_gave k t y q.statements x.at.body rs x.at.carried (seat_granted layout load es ns u w q rs x) place v.0 h (v.1 ∙ e)))) z.made)
     where
       out : (ls : List Line) → Each (λ l. is_outside l.op ≡ true) ls → Each (λ l. p l.op ≡ false) ls
       out ls a = each_map (λ (l : Line). is_outside l.op ≡ true) (λ (l : Line). p l.op ≡ false) (λ l e. outside l.op e) ls a
 
-      twice : 1 ≤ issued k h x.at.body → ⊥
-      twice n =
-          let a : issued k h (lines_of w es ns) + issued k h (lines_of who es ns) ≤ entries_that (issues k h) es = two_seats k h w who d es ns in
-          let b : issued k h (lines_of w es ns) ≡ issued k h x.at.start + issued k h (x.at.body ++ x.at.finish) = ap (issued k h) x.at.is ∙ issued_append k h x.at.start (x.at.body ++ x.at.finish) in
-          let c : issued k h (x.at.body ++ x.at.finish) ≡ issued k h x.at.body + issued k h x.at.finish = issued_append k h x.at.body x.at.finish in
-          let e : entries_that (issues k h) es ≤ 1 = issued_once k h listed (opening (run_terms layout load)) es u.legal.from in
-          let f : 1 ≤ issued k h (lines_of who es ns) = mine in
-          absurd (omega arith)
+      twice : Gave k h x.at.body → ⊥
+      twice g = true_false (eq-eqb w who (one_seat k h listed (run_terms layout load) es ns u.legal w who (gave_in k h (lines_of w es ns) x.at.start x.at.body x.at.finish (x.at.is ∙ sym (append_assoc x.at.start x.at.body x.at.finish)) g) mine)) d
 
   one_user : OnlyBy who p es
   one_user =
@@ -63,19 +44,14 @@ looks_outside h _ e = refl
 
 pub looks_call : (h : ℕ) (before : List Statement) (s : Statement) (bound : List ℕ) → IsStatement before s → ((place : ℕ) → waits_for place s.deed ≡ true → IsBoundAt sort.Task before place → handle_at bound place ≡ h → ⊥) → CallEach (λ o. looks_at h o ≡ false) (call_of bound s.deed)
 unfolding row deed_spelled
-looks_call h before s bound st avoid = by s.deed st.uses avoid
+looks_call h before s bound st avoid = calls_none (looks_at h) (call_of bound s.deed) false (by s.deed st.uses avoid) refl
   where
-    by : (d : Deed) → IfSome (place_used d) (λ v. IsBoundAt v.0 before v.1) → ((place : ℕ) → waits_for place d ≡ true → IsBoundAt sort.Task before place → handle_at bound place ≡ h → ⊥) → CallEach (λ o. looks_at h o ≡ false) (call_of bound d)
-    by (deed.Wait place t) o f = λ last. false_from_ne_true (handle_at bound place == h) (λ e. f place (eq-eqb place place refl) o (eqb-true (handle_at bound place) h e))
-    by (deed.WaitAll p t) o f = λ last. refl
-    by (deed.WaitAny p t) o f = λ last. refl
-    by (deed.Lock p t) o f = λ last. refl
-    by (deed.SemLock p t) o f = λ last. refl
-    by (deed.RwlLock p w t) o f = λ last. refl
-    by _ o f = refl
+    by : (d : Deed) → IfSome (place_used d) (λ v. IsBoundAt v.0 before v.1) → ((place : ℕ) → waits_for place d ≡ true → IsBoundAt sort.Task before place → handle_at bound place ≡ h → ⊥) → CallAsks (looks_at h) 0 (call_of bound d)
+    by (deed.Wait place t) o f = let e : bit (handle_at bound place == h) ≡ 0 = ap bit (false_from_ne_true (handle_at bound place == h) (λ e. f place (eq-eqb place place refl) o (eqb-true (handle_at bound place) h e))) in omega arith
+    by _ o f = omega arith
 
 -- only its own seat looks at a task
-pub one_looks : (layout : Layout) (load : Workload) (es : List NodeEntry) (ns : List ℕ) (u : SettledRun layout load es ns) (who h : ℕ) → 1 ≤ issued kinds.Task h (lines_of who es ns) → OnlyBy who (looks_at h) es
+pub one_looks : (layout : Layout) (load : Workload) (es : List NodeEntry) (ns : List ℕ) (u : SettledRun layout load es ns) (who h : ℕ) → Gave kinds.Task h (lines_of who es ns) → OnlyBy who (looks_at h) es
 one_looks layout load es ns u who h mine =
     one_user layout load es ns u who h kinds.Task sort.Task binds_task tasks_list mine (looks_at h) (looks_outside h) (λ b s bound st a. looks_call h b s bound st (λ place w o e. a place o e))
 
@@ -93,26 +69,55 @@ uses_outside h _ e = refl
 
 pub uses_call : (h : ℕ) (before : List Statement) (s : Statement) (bound : List ℕ) → IsStatement before s → ((place : ℕ) → IsBoundAt sort.Group before place → handle_at bound place ≡ h → ⊥) → CallEach (λ o. uses h o ≡ false) (call_of bound s.deed)
 unfolding row deed_spelled
-uses_call h before s bound st avoid = by s.deed st.uses st.options
+uses_call h before s bound st avoid = calls_none (uses h) (call_of bound s.deed) false (by s.deed st.uses st.options) refl
   where
     apart : (place : ℕ) → IsBoundAt sort.Group before place → (handle_at bound place == h) ≡ false
     apart place o = false_from_ne_true (handle_at bound place == h) (λ e. avoid place o (eqb-true (handle_at bound place) h e))
 
-    by_group : (group : Option ℕ) → IfSome group (IsBoundAt sort.Group before) → holds (λ x. x.0 == h) (option_map (group_at bound) group) ≡ false
-    by_group None o = refl
-    by_group (Some g) o = apart g o
+    by_group : (group : Option ℕ) → IfSome group (IsBoundAt sort.Group before) → bit (holds (λ x. x.0 == h) (option_map (group_at bound) group) || false) ≤ 0
+    by_group None o = omega arith
+    by_group (Some g) o = let e : bit ((handle_at bound g == h) || false) ≡ 0 = ap bit (or_from _ false (apart g o) refl) in omega arith
 
-    by : (d : Deed) → IfSome (place_used d) (λ v. IsBoundAt v.0 before v.1) → AllFit before (fields (word_for d)) (values d) → CallEach (λ o. uses h o ≡ false) (call_of bound d)
-    by (deed.Start job args priority cores detached group) v o = or_from _ false (by_group group o.1.1.1.1.1.0) refl
-    by (deed.Enqueue queue args cores detached group) v o = or_from _ false (by_group group o.1.1.1.1.0) refl
-    by (deed.Wait p t) v o = λ last. refl
-    by (deed.WaitAll place t) v o = λ last. apart place v
-    by (deed.WaitAny p t) v o = λ last. refl
-    by (deed.Lock p t) v o = λ last. refl
-    by (deed.SemLock p t) v o = λ last. refl
-    by (deed.RwlLock p w t) v o = λ last. refl
-    by _ v o = refl
+    by : (d : Deed) → IfSome (place_used d) (λ v. IsBoundAt v.0 before v.1) → AllFit before (fields (word_for d)) (values d) → CallAsks (uses h) 0 (call_of bound d)
+    by (deed.Start job args priority cores detached group) v o = by_group group o.1.1.1.1.1.0
+    by (deed.Enqueue queue args cores detached group) v o = by_group group o.1.1.1.1.0
+    by (deed.WaitAll place t) v o = let e : bit (handle_at bound place == h) ≡ 0 = ap bit (apart place v) in omega arith
+    by _ v o = omega arith
 
 -- only its own seat uses a group
-pub one_uses : (layout : Layout) (load : Workload) (es : List NodeEntry) (ns : List ℕ) (u : SettledRun layout load es ns) (who h : ℕ) → 1 ≤ issued kinds.Group h (lines_of who es ns) → OnlyBy who (uses h) es
+pub one_uses : (layout : Layout) (load : Workload) (es : List NodeEntry) (ns : List ℕ) (u : SettledRun layout load es ns) (who h : ℕ) → Gave kinds.Group h (lines_of who es ns) → OnlyBy who (uses h) es
 one_uses layout load es ns u who h mine = one_user layout load es ns u who h kinds.Group sort.Group binds_group groups_list mine (uses h) (uses_outside h) (uses_call h)
+
+-- Which tasks were put into a group is told by the lines of its own seat
+
+-- the tasks that lines of the seat put into the group
+abbrev pub members_in : ℕ → List ℕ → List Line → List ℕ
+members_in g hs [] = hs
+members_in g hs (l ∷ ls) = members_in g (members_behind g hs (entry 0 l.op l.reply)) ls
+
+pub members_append : (g : ℕ) (hs : List ℕ) (ls ks : List Line) → members_in g hs (ls ++ ks) ≡ members_in g (members_in g hs ls) ks
+members_append g hs [] ks = refl
+members_append g hs (l ∷ ls) ks = members_append g (members_behind g hs (entry 0 l.op l.reply)) ls ks
+
+unused : (g : ℕ) (hs : List ℕ) (e : NodeEntry) → uses g e.op ≡ false → members_behind g hs e ≡ hs
+unused g hs e i =
+    let x = or_parts (starts_member g e.op) (looks_at_all g e.op) i in
+    ap (λ (b : Bool). cond b (cond (is_pending e.reply) hs []) (cond (starts_member g e.op) (with_new e.reply hs) hs)) x.1 ∙ ap (λ (b : Bool). cond b (with_new e.reply hs) hs) x.0
+
+-- lines that don't use it put none in
+pub unused_lines : (g : ℕ) (hs : List ℕ) (ls : List Line) → Each (λ l. uses g l.op ≡ false) ls → members_in g hs ls ≡ hs
+unused_lines g hs [] a = refl
+unused_lines g hs (l ∷ ls) a = ap (λ (x : List ℕ). members_in g x ls) (unused g hs (entry 0 l.op l.reply) a.0) ∙ unused_lines g hs ls a.1
+
+-- where no other seat uses the group
+pub members_lines : (who g : ℕ) (hs : List ℕ) (L : List NodeEntry) (ks : List ℕ) → length L ≡ length ks → OnlyBy who (uses g) L → members_of g hs L ≡ members_in g hs (lines_of who L ks)
+unfolding lines_of members_of
+members_lines who g hs [] ks l o = refl
+members_lines who g hs (e ∷ es) [] l o = absurd (omega arith)
+members_lines who g hs (e ∷ es) (k ∷ ks) l o = by (e.who == who) refl (uses g e.op) refl (λ hs2. members_lines who g hs2 es ks (omega arith) o.1)
+  where
+    by : (b : Bool) → (e.who == who) ≡ b → (c : Bool) → uses g e.op ≡ c → ((hs2 : List ℕ) → members_of g hs2 es ≡ members_in g hs2 (lines_of who es ks))
+        → members_of g (members_behind g hs e) es ≡ members_in g hs (cond b (line e.op e.reply k ∷ lines_of who es ks) (lines_of who es ks))
+    by true i c j f = f (members_behind g hs e)
+    by false i true j f = true_false (eq-eqb e.who who (o.0 j)) i
+    by false i false j f = ap (λ (x : List ℕ). members_of g x es) (unused g hs e j) ∙ f hs

@@ -1,26 +1,25 @@
--- In a run of a settled workload each statement, other than a wait for all tasks of a group, gets its plain reply.
-use Rattle.settled_runs.proofs.Names.{◌≡◌, ℕ, Bool, true, false, List, [], ◌∷◌, ◌++◌, Option, Some, None, refl, sym, ◌∙◌, ap, subst, append_assoc, ℤ, ◌&&◌, not, map, slice_get, option_and_then, IfSome, list_any, option_map, eq-eqb, TaskEnd, Timeout, Mask, Layout, GroupHandle, QueueHandle, entry, live_object, Action, NewTask, new_task, Queue, Deed, Statement, Workload, fields, word_for, values, place_used, AllFit, IsBoundAt, IsStatement, AreStatements, Op, Reply, Terms, State, opening, tasks, is_open, released, starts_task, is_fresh, after_moves, gives, handle_of, Allows, after_row, asked_for, asked_of, is_status, NodeEntry, IsNext, next, after, some_same, fst_true, snd_true, on_only, on_live, not_true, handle_at, group_at, call_of, Line, line, before_it, Made, Looked, granted, refuses_only, refuses_live, no_handle, true_false, SameTask, StartedAs, HasObject, started_as, has_new, cut_from, fresh_unlisted, run_terms, Part, verdict, all_statements, actions_in, queue_in, queue_at, no_faults, IsPlainTask, GrantedTo, AllGranted, SettledRun, Asks, is_infinite, is_alone, waits_for, is_startable, has_one_fault_a_group, deed_spelled, row, after_from, end_at, lines_of, Carried, task_in, plain_end, ArePlain, IsPlainReply, is_settled_deed, are_settled, have_one_fault_a_group}
+-- In a run of a settled workload the statements of each part get their plain replies.
+use Rattle.settled_runs.proofs.Names.{◌≡◌, ℕ, Bool, true, false, List, [], ◌∷◌, ◌++◌, Option, Some, None, refl, sym, ◌∙◌, ap, subst, append_assoc, ℤ, ◌&&◌, not, map, slice_get, option_and_then, IfSome, list_any, option_map, eq-eqb, TaskEnd, Timeout, Mask, Layout, GroupHandle, QueueHandle, entry, live_object, Action, NewTask, new_task, Queue, Deed, Statement, Workload, fields, word_for, values, place_used, AllFit, IsBoundAt, IsStatement, AreStatements, Op, Reply, Terms, State, opening, tasks, is_open, released, starts_task, is_fresh, after_moves, gives, handle_of, Allows, after_row, asked_for, asked_of, is_status, NodeEntry, IsNext, next, after, some_same, fst_true, snd_true, on_only, on_live, not_true, handle_at, group_at, call_of, Line, line, before_it, Made, Looked, granted, refuses_only, refuses_live, no_handle, true_false, SameTask, StartedAs, HasObject, started_as, has_new, cut_from, fresh_unlisted, run_terms, Part, verdict, all_statements, actions_in, queue_in, queue_at, no_faults, IsPlainTask, GrantedTo, AllGranted, SettledRun, Asks, is_infinite, is_alone, waits_for, is_startable, has_one_fault_a_group, deed_spelled, row, after_from, end_at, lines_of, Carried, task_in, plain_end, ArePlain, IsPlainReply, is_settled_deed, are_settled, have_one_fault_a_group, Each, suc, arith, list_all, PartsReplyPlainly, SettledRepliesArePlain}
+use Rattle.workload_file.specs.Table.{row as row_of}
+use Rattle.settled_runs.proofs.Stays.{made_objects_stay}
+use Rattle.settled_runs.proofs.RunEnds.{at_entry, ends_as_asked}
+use Rattle.settled_runs.proofs.Along.{Cut, cut, get_front, BoundBy, bound_by, along, are_front, step_granted, step_settled, step_statement}
+use Rattle.settled_runs.proofs.Opened.{legal_here, legal_before, quiet_before}
+use Rattle.settled_runs.proofs.Places.{HasQueue, queue_has}
+use Rattle.settled_runs.proofs.Walk.{Finds, made_before, Seat, seat_granted}
+use Rattle.settled_runs.proofs.Waited.{pending_before, unrefused}
+use Rattle.settled_runs.proofs.Granted.{is_up, allowed}
+use Rattle.settled_runs.proofs.Waits.{passed}
+use Rattle.settled_runs.proofs.WaitAll.{faults_after, faults_of, plain_more, group_told}
+use Rattle.settled_runs.proofs.Each.{step_lines, settled_whole, AllSeats, map_seats, with_each, one_look}
+use Rattle.settled_runs.proofs.SeatsGranted.{seats}
 use Rattle.mtapi_values.specs.declared.timeouts.Timeout.TheVariants as timeout
 use Rattle.mtapi_values.specs.declared.handles.ObjectKind.TheVariants as kinds
 use Rattle.mtapi_values.specs.declared.statuses.MtapiStatus.TheVariants as m
 use Rattle.workload_file.specs.declared.table.Sort.TheVariants as sort
 use Rattle.workload_file.specs.declared.workload.Deed.TheVariants as deed
-use Rattle.workload_file.specs.Table.{row as row_of}
 use Rattle.mtapi_machine.specs.declared.ops.Op.TheVariants as op
 use Rattle.mtapi_machine.specs.declared.replies.Reply.TheVariants as reply
-use Rattle.settled_runs.proofs.Stays.{made_objects_stay}
-use Rattle.settled_runs.proofs.RunEnds.{at_entry, ends_as_asked}
-use Rattle.settled_runs.proofs.Cuts.{Cut, cut}
-use Rattle.settled_runs.proofs.Opened.{legal_here, legal_before, quiet_before}
-use Rattle.settled_runs.proofs.Places.{HasQueue, queue_has}
-use Rattle.settled_runs.proofs.Along.{get_front, BoundBy, bound_by, along, are_front, step_granted, step_settled, step_statement}
-use Rattle.settled_runs.proofs.Walk.{Finds, made_before, Seat, seat_granted}
-use Rattle.settled_runs.proofs.Waited.{pending_before, unrefused}
-use Rattle.settled_runs.proofs.Granted.{is_up, allowed}
-use Rattle.settled_runs.proofs.Waits.{passed}
-use Rattle.settled_runs.proofs.GroupWalk.{faults_after, faults_of, plain_more}
-use Rattle.settled_runs.proofs.Each.{step_lines}
-use Rattle.settled_runs.proofs.WaitAll.{group_told}
 
 -- An accepted task of a queue is as the queue says
 
@@ -113,13 +112,8 @@ module _ (layout : Layout) (load : Workload) (es : List NodeEntry) (ns : List �
       wait_all : (place : ℕ) (t : Timeout) → is_infinite t ≡ true → IsBoundAt sort.Group before place → (front : List Line) (r : Reply) (B : List Line) → lines_of who es ns ≡ (start ++ l1) ++ (front ++ (B ++ finish))
           → Looked false (λ last. op.AllLook (record { 0 = handle_at (map handle_of r1) place }) last) t front r → r ≡ verdict (faults_after actions all no_faults before place)
       wait_all place timeout.Infinite e i front r B at k =
+          let front_is : front ≡ line (op.AllLook (record { 0 = handle_at (map handle_of r1) place }) false) r k.beside ∷ [] = one_look (λ last. op.AllLook (record { 0 = handle_at (map handle_of r1) place }) last) timeout.Infinite front r k ∙ ap (λ (w : Bool). line (op.AllLook (record { 0 = handle_at (map handle_of r1) place }) w) r k.beside ∷ []) k.within in
           group_told layout load es ns u who start finish all known f whole one before l1 r1 c1 g1 are (s ∷ more) split place i (front ++ (B ++ finish)) at p1 k.beside r B (at ∙ ap (λ (z : List Line). (start ++ l1) ++ (z ++ (B ++ finish))) front_is) k.decides
-        where
-          front_is : front ≡ line (op.AllLook (record { 0 = handle_at (map handle_of r1) place }) false) r k.beside ∷ []
-          front_is =
-              k.is
-              ∙ ap (λ (x : Option ℕ). before_it (op.AllLook (record { 0 = handle_at (map handle_of r1) place }) false) x ++ line (op.AllLook (record { 0 = handle_at (map handle_of r1) place }) k.last) r k.beside ∷ []) (k.none_kept refl)
-              ∙ ap (λ (w : Bool). line (op.AllLook (record { 0 = handle_at (map handle_of r1) place }) w) r k.beside ∷ []) k.within
       wait_all place timeout.NoWait e i front r B at k = true_false e refl
       wait_all place (timeout.Looks n) e i front r B at k = true_false e refl
 
@@ -171,3 +165,22 @@ seat_plain layout load es ns u w p rs x one =
     plain_more (actions_in (all_statements load)) p.statements (λ h. end_at (after (run_terms layout load) es).tasks h) no_faults b r1 s r y.many i
     (plain_reply layout load es ns u w x.at.start x.at.finish p.statements x.at.known x.finds x.at.settled one b l1 r1 y.carried g.0 i s y.rest y.parted (step_statement p.statements x.at.body rs b l1 r1 s front r y x.are)
     (are_front [] b (s ∷ y.rest) (subst (AreStatements []) y.parted x.are)) (step_settled p.statements x.at.body rs b l1 r1 s front r y load.settings x.at.known x.at.settled) front r y.more (step_lines load es ns w p rs x.at b l1 r1 s front r y) y.made g.1)) x.at.carried tt
+
+-- All parts
+
+each_part : (p : Part → Bool) (ps : List Part) → list_all p ps ≡ true → Each (λ x. p x ≡ true) ps
+each_part p [] e = tt
+each_part p (x ∷ ps) e = (fst_true _ (list_all p ps) e, each_part p ps (snd_true (p x) _ e))
+
+module _ (actions : List Action) (ends : ℕ → Option TaskEnd) where
+  plain_seats : (first : ℕ) (ps : List Part) (rss : List (List Reply)) → AllSeats (λ w p rs. ArePlain actions p.statements ends no_faults p.statements rs) first ps rss → PartsReplyPlainly actions ends ps rss
+  plain_seats first [] rss a = tt
+  plain_seats first (p ∷ ps) [] a = absurd a
+  plain_seats first (p ∷ ps) (rs ∷ rss) a = (a.0, plain_seats (suc first) ps rss a.1)
+
+pub settled_replies_are_plain : SettledRepliesArePlain
+settled_replies_are_plain layout load es ns u =
+    plain_seats (actions_in (all_statements load)) (λ h. end_at (after (run_terms layout load) es).tasks h) load.settings.workers load.parts u.run.replies
+    (map_seats (λ w p rs. Seat layout load es ns w p rs × (has_one_fault_a_group (actions_in (all_statements load)) p ≡ true)) (λ w p rs. ArePlain (actions_in (all_statements load)) p.statements (λ h. end_at (after (run_terms layout load) es).tasks h) no_faults p.statements rs) 0
+    (λ w p rs l x. seat_plain layout load es ns u w p rs x.0 x.1) load.settings.workers load.parts u.run.replies (omega arith)
+    (with_each (Seat layout load es ns) (λ p. has_one_fault_a_group (actions_in (all_statements load)) p ≡ true) load.settings.workers load.parts u.run.replies (seats layout load es ns u) (each_part (has_one_fault_a_group (actions_in (all_statements load))) load.parts (settled_whole load u.settled).faults)))

@@ -1,23 +1,95 @@
--- In a run of a settled workload each task has its plain end.
-use Rattle.settled_runs.proofs.Names.{◌≡◌, ℕ, Bool, true, false, cond, List, [], ◌∷◌, ◌++◌, Some, refl, sym, ◌∙◌, ap, subst, ℤ, append_assoc, length, ◌==◌, ◌&&◌, ◌||◌, not, option_map, find, list_all, eq-eqb, eqb-true, Kind, Layout, TaskEnd, entry, Listed, with_fields, Action, with_enabled, has_job, Task, NewTask, new_task, kind_number, Workload, Op, Reply, Terms, State, opening, Move, makes_action, enables, withdraws, makes, alters, removes, apply, task_end, NodeEntry, next, Legal, after, IsMade, MakesAction, end_in, some_same, fst_true, snd_true, by_moves, sorts_keep, accepted_end, SameTask, Under, true_false, Every, every_issue, every_change, every_at, StartedAs, started_as, task_then, cut_from, has_behind, HasObject, by_seats, RunOf, run_terms, is_quiet, AreQuiet, IsPlain, none_withdrawn, quiet_tasks_end_plainly, all_statements, actions_in, are_alike, are_settled_parts, has_room, has_one_fault_a_group, answer_of, LegalFrom, after_from, end_at, task_at, plain_end, has_one_kind_a_job, has_different_ids, keep_limits, is_settled}
-use Rattle.mtapi_values.specs.declared.handles.ObjectKind.TheVariants as kinds
-use Rattle.mtapi_machine.specs.declared.ops.Op.TheVariants as op
-use Rattle.mtapi_machine.specs.declared.replies.Reply.TheVariants as reply
+-- What a run of a settled workload asks for, and how its tasks end.
+use Rattle.settled_runs.proofs.Names.{Each, ◌≡◌, ℕ, ◌+◌, Bool, true, false, List, ◌∷◌, ◌++◌, refl, subst, arith, length, ◌==◌, ◌&&◌, map, list_any, eq-eqb, or_left, NodeSettings, Kind, is_pure, Action, kind_number, Deed, Statement, Part, Workload, Op, Reply, handle_of, NodeEntry, call_of, Line, RunOf, BySeats, both_true, true_false, is_quiet, all_statements, action_in, actions_in, lines_of, is_settled_deed, is_settled, cond, [], Some, sym, ◌∙◌, ap, ℤ, append_assoc, ◌||◌, option_map, find, Layout, TaskEnd, entry, Listed, with_fields, with_enabled, has_job, Task, NewTask, new_task, Terms, State, opening, Move, makes_action, enables, withdraws, makes, alters, removes, apply, task_end, next, Legal, after, IsMade, MakesAction, end_in, some_same, fst_true, snd_true, by_moves, sorts_keep, accepted_end, SameTask, Under, Every, every_issue, every_change, every_at, StartedAs, started_as, task_then, cut_from, has_behind, HasObject, by_seats, run_terms, AreQuiet, IsPlain, none_withdrawn, quiet_tasks_end_plainly, answer_of, LegalFrom, after_from, end_at, task_at, plain_end, has_one_kind_a_job, cond-false, cond-true, cond_both, or_right, and_right, not, NoClose, closes, not_true, handle_at, Made, GoOn, goes_on}
+use Rattle.settled_runs.proofs.Each.{one_look, PartAt, Within, any_left, each_map, is_outside, made_each, map_seats, settled_whole, run_each, run_parts, seat_each, within_behind, work_outside}
+use Rattle.settled_runs.proofs.Along.{step_settled}
 use Rattle.history_law.specs.Words.{makes as makes_object, is_handle}
 use Rattle.history_law.specs.Accepted.{accepted_by, accepted, EndsOnce}
 use Rattle.history_law.proofs.KindNumbers.{same_kind}
 use Rattle.settled_runs.specs.RunEnds.{SettledTasksEndAsPlanned}
-use Rattle.settled_runs.proofs.Asked.{is_listed, is_planned, ArePlanned, run_planned}
+use Rattle.settled_runs.proofs.OneFault.{one_number}
+use Rattle.workload_file.specs.declared.workload.Deed.TheVariants as deed
+use Rattle.mtapi_values.specs.declared.timeouts.Timeout.TheVariants as timeout
+use Rattle.mtapi_machine.specs.declared.ops.Op.TheVariants as op
+use Rattle.mtapi_values.specs.declared.handles.ObjectKind.TheVariants as kinds
+use Rattle.mtapi_machine.specs.declared.replies.Reply.TheVariants as reply
+
+-- one of these actions has the job and the kind
+abbrev pub is_listed : List Action → ℕ → Kind → Bool
+is_listed actions job kind = list_any (λ a. (a.job == job) && (kind_number a.kind == kind_number kind)) actions
+
+-- the op is a quiet one and no last look at a whole group, and an action that it makes is one of these
+abbrev pub is_planned : List Action → Op → Bool
+is_planned actions (op.ActionCreate job kind cores) = is_pure kind && is_listed actions job kind
+is_planned actions (op.AllLook g last) = not last
+is_planned actions o = is_quiet o
+
+abbrev pub ArePlanned : List Action → List NodeEntry → Type 0
+ArePlanned actions es = Each (λ e. is_planned actions e.op ≡ true) es
+
+-- Calls, and what workers and the phases ask for
+
+deed_planned : (settings : NodeSettings) (known : List Action) (before all : List Statement) (actions : List Action) (bound : List ℕ) (d : Deed) (front : List Line) (r : Reply) → Within (action_in d) actions → is_settled_deed settings known before all d ≡ true → Made (call_of bound d) front r
+    → Each (λ l. is_planned actions l.op ≡ true) front
+unfolding is_settled_deed
+deed_planned settings known before all actions bound (deed.Action job kind cores) front r w e m =
+    made_each (λ o. is_planned actions o ≡ true) (call_of bound (deed.Action job kind cores)) front r
+    (both_true (is_pure kind) _ e (w (λ a. (a.job == job) && (kind_number a.kind == kind_number kind)) (or_left _ false (both_true (job == job) _ (eq-eqb job job refl) (eq-eqb (kind_number kind) (kind_number kind) refl))))) m
+deed_planned settings known before all actions bound deed.Begin front r w e m = made_each (λ o. is_planned actions o ≡ true) (call_of bound deed.Begin) front r refl m
+deed_planned settings known before all actions bound (deed.Start job args priority cores detached group) front r w e m = made_each (λ o. is_planned actions o ≡ true) (call_of bound (deed.Start job args priority cores detached group)) front r refl m
+deed_planned settings known before all actions bound (deed.Enqueue queue args cores detached group) front r w e m = made_each (λ o. is_planned actions o ≡ true) (call_of bound (deed.Enqueue queue args cores detached group)) front r refl m
+deed_planned settings known before all actions bound (deed.Wait place timeout) front r w e m = made_each (λ o. is_planned actions o ≡ true) (call_of bound (deed.Wait place timeout)) front r (λ last. refl) m
+deed_planned settings known before all actions bound deed.Group front r w e m = made_each (λ o. is_planned actions o ≡ true) (call_of bound deed.Group) front r refl m
+deed_planned settings known before all actions bound (deed.WaitAll place timeout.Infinite) front r w e m =
+    subst (Each (λ (l : Line). is_planned actions l.op ≡ true)) (sym (one_look (λ last. op.AllLook (record { 0 = handle_at bound place }) last) timeout.Infinite front r m)) (ap not m.within, tt)
+deed_planned settings known before all actions bound (deed.WaitAll place timeout.NoWait) front r w e m = true_false e refl
+deed_planned settings known before all actions bound (deed.WaitAll place (timeout.Looks n)) front r w e m = true_false e refl
+deed_planned settings known before all actions bound (deed.Queue id job priority limit ordered retain) front r w e m = made_each (λ o. is_planned actions o ≡ true) (call_of bound (deed.Queue id job priority limit ordered retain)) front r refl m
+deed_planned settings known before all actions bound _ front r w e m = true_false e refl
+
+outside_planned : (actions : List Action) (o : Op) → is_outside o ≡ true → is_planned actions o ≡ true
+outside_planned actions op.Initialize e = refl
+outside_planned actions _ e = cc
+
+-- Seats
+
+seat_planned : (load : Workload) (es : List NodeEntry) (ns : List ℕ) (w : ℕ) (p : Part) (rs : List Reply) → PartAt load es ns w p rs → Each (λ l. is_planned (actions_in (all_statements load)) l.op ≡ true) (lines_of w es ns)
+seat_planned load es ns w p rs x =
+    seat_each load es ns (λ o. is_planned actions o ≡ true) w p rs x (outside x.start x.first) (outside x.finish x.last)
+    (λ b l1 r1 s front r y. deed_planned load.settings (x.known ++ actions_in b) b p.statements actions (map handle_of r1) s.deed front r (within b s y.rest y.parted) (step_settled p.statements x.body rs b l1 r1 s front r y load.settings x.known x.settled) y.made)
+  where
+    actions : List Action
+    actions = actions_in (all_statements load)
+
+    outside : (ls : List Line) → Each (λ l. is_outside l.op ≡ true) ls → Each (λ l. is_planned actions l.op ≡ true) ls
+    outside ls a = each_map (λ (l : Line). is_outside l.op ≡ true) (λ (l : Line). is_planned actions l.op ≡ true) (λ l e. outside_planned actions l.op e) ls a
+
+    within : (b : List Statement) (s : Statement) (rest : List Statement) → p.statements ≡ b ++ s ∷ rest → Within (action_in s.deed) actions
+    within b s rest e q i = within_behind b (s ∷ rest) actions (subst (λ (z : List Statement). Within (actions_in z) actions) e x.within) q (any_left q (action_in s.deed) (actions_in rest) i)
+
+pub run_planned : (load : Workload) (es : List NodeEntry) (ns : List ℕ) → is_settled load ≡ true → length es ≡ length ns → RunOf load es ns → BySeats (load.settings.workers + length load.parts) es → ArePlanned (actions_in (all_statements load)) es
+run_planned load es ns e l run b =
+    run_each load es ns l run b (λ x. is_planned (actions_in (all_statements load)) x.op ≡ true) (λ w o r k. outside_planned (actions_in (all_statements load)) o (work_outside o k))
+    (map_seats (PartAt load es ns) (λ w p rs. Each (λ l. is_planned (actions_in (all_statements load)) l.op ≡ true) (lines_of w es ns)) 0 (λ w p rs i x. seat_planned load es ns w p rs x) load.settings.workers load.parts run.replies (omega arith) (run_parts load es ns l run b (settled_whole load e).parts))
 
 -- What is planned is quiet, and each action is one of those of the workload
 
 planned_quiet : (actions : List Action) (o : Op) → is_planned actions o ≡ true → is_quiet o ≡ true
 planned_quiet actions (op.ActionCreate job kind cores) e = fst_true _ _ e
+planned_quiet actions (op.AllLook g last) e = refl
 planned_quiet actions _ e = e
 
 pub all_quiet : (actions : List Action) (es : List NodeEntry) → ArePlanned actions es → AreQuiet es
 all_quiet actions [] a = tt
 all_quiet actions (e ∷ es) a = (planned_quiet actions e.op a.0, all_quiet actions es a.1)
+
+-- and so a history goes on in which nobody closes
+pub go_on : (actions : List Action) (g : ℕ) (L : List NodeEntry) → ArePlanned actions L → NoClose L → GoOn g L
+go_on actions g [] a c = tt
+go_on actions g (e ∷ es) a c = (by e.op a.0 c.0, go_on actions g es a.1 c.1)
+  where
+    by : (o : Op) → is_planned actions o ≡ true → closes o ≡ false → goes_on g o ≡ true
+    by (op.AllLook x last) i j = ap not (and_right (x.0 == g) last (not_true last i))
+    by _ i j = ap not j
 
 abbrev IsListed : List Action → Action → Type 0
 IsListed actions a = is_listed actions a.job a.kind ≡ true
@@ -45,67 +117,37 @@ listed_along actions s (e ∷ es) a v = listed_along actions (next s e) es a.1 (
 
 -- The kind of a job
 
-one_number : (a : Action) (rest : List Action) (job : ℕ) (kind : Kind) → list_all (are_alike a) rest ≡ true → (a.job == job) ≡ true → is_listed rest job kind ≡ true → kind_number a.kind ≡ kind_number kind
-one_number a [] job kind l j i = true_false i refl
-one_number a (b ∷ rest) job kind l j i = by_first ((b.job == job) && (kind_number b.kind == kind_number kind)) refl i (one_number a rest job kind (snd_true _ _ l) j)
-  where
-    alike : (x : Bool) → (a.job == b.job) ≡ x → (not x || (kind_number a.kind == kind_number b.kind)) ≡ true → x ≡ true → kind_number a.kind ≡ kind_number b.kind
-    alike true e f y = eqb-true _ _ f
-    alike false e f y = true_false y refl
-
-    by_first : (x : Bool) → ((b.job == job) && (kind_number b.kind == kind_number kind)) ≡ x → (x || is_listed rest job kind) ≡ true → (is_listed rest job kind ≡ true → kind_number a.kind ≡ kind_number kind) → kind_number a.kind ≡ kind_number kind
-    by_first true e d k =
-        let same : a.job ≡ b.job = eqb-true a.job job j ∙ sym (eqb-true b.job job (fst_true _ _ e)) in
-        alike (a.job == b.job) refl (fst_true _ _ l) (eq-eqb a.job b.job same) ∙ eqb-true _ _ (snd_true (b.job == job) _ e)
-    by_first false e d k = k d
+-- the first action of a job is one of them
+first_of_job : (actions : List Action) (job : ℕ) (kind : Kind) → is_listed actions job kind ≡ true → (a : Action) × (find (has_job job) actions ≡ Some a) × (is_listed actions job a.kind ≡ true)
+first_of_job [] job kind i = true_false i refl
+first_of_job (a ∷ rest) job kind i = cond_both (a.job == job) (Some a) (find (has_job job) rest) (λ o. (x : Action) × (o ≡ Some x) × (is_listed (a ∷ rest) job x.kind ≡ true))
+    (λ j. (a, refl, or_left _ _ (both_true _ _ j (eq-eqb (kind_number a.kind) (kind_number a.kind) refl))))
+    (λ j. let x = first_of_job rest job kind (sym (ap (λ (b : Bool). (b && (kind_number a.kind == kind_number kind)) || is_listed rest job kind) j) ∙ i) in (x.0, x.1, or_right _ _ x.2))
 
 kind_found : (actions : List Action) (job : ℕ) (kind : Kind) (args : List ℤ) → has_one_kind_a_job actions ≡ true → is_listed actions job kind ≡ true → option_map (λ a. task_end (answer_of a.kind args)) (find (has_job job) actions) ≡ Some (task_end (answer_of kind args))
 unfolding has_one_kind_a_job
-kind_found [] job kind args h i = true_false i refl
-kind_found (a ∷ rest) job kind args h i = by_job (a.job == job) refl i (kind_found rest job kind args (snd_true _ _ h))
-  where
-    same : (a.job == job) ≡ true → (y : Bool) → (kind_number a.kind == kind_number kind) ≡ y → (y || is_listed rest job kind) ≡ true → kind_number a.kind ≡ kind_number kind
-    same j true e d = eqb-true _ _ e
-    same j false e d = one_number a rest job kind (fst_true _ _ h) j d
-
-    by_job : (x : Bool) → (a.job == job) ≡ x → ((x && (kind_number a.kind == kind_number kind)) || is_listed rest job kind) ≡ true
-        → (is_listed rest job kind ≡ true → option_map (λ b. task_end (answer_of b.kind args)) (find (has_job job) rest) ≡ Some (task_end (answer_of kind args)))
-        → option_map (λ b. task_end (answer_of b.kind args)) (cond x (Some a) (find (has_job job) rest)) ≡ Some (task_end (answer_of kind args))
-    by_job true e d k = ap (λ (z : Kind). Some (task_end (answer_of z args))) (same_kind a.kind kind (same e (kind_number a.kind == kind_number kind) refl d))
-    by_job false e d k = k d
+kind_found actions job kind args h i =
+    let x = first_of_job actions job kind i in
+    ap (option_map (λ a. task_end (answer_of a.kind args))) x.1
+    ∙ ap (λ (z : Kind). Some (task_end (answer_of z args))) (same_kind x.0.kind kind (one_number (λ a. a.job) (λ a. kind_number a.kind) has_one_kind_a_job (λ a as1. refl) job (kind_number x.0.kind) (kind_number kind) actions h x.2 i))
 
 -- The record of a task that has ended
 
 end_task_at : (l : List (Listed Task)) (h : ℕ) (end : TaskEnd) → end_at l h ≡ Some end → (t : Task) × (task_at l h ≡ Some t) × (end_in t.state ≡ Some end)
 unfolding end_at task_at
 end_task_at [] h end e = absurd (cc)
-end_task_at (r ∷ rs) h end e = by_hand (r.handle == h) e (end_task_at rs h end)
-  where
-    by_hand : (b : Bool) → cond b (end_in r.fields.state) (end_at rs h) ≡ Some end → (end_at rs h ≡ Some end → (t : Task) × (task_at rs h ≡ Some t) × (end_in t.state ≡ Some end))
-        → (t : Task) × (cond b (Some r.fields) (task_at rs h) ≡ Some t) × (end_in t.state ≡ Some end)
-    by_hand true d k = (r.fields, refl, d)
-    by_hand false d k = k d
+end_task_at (r ∷ rs) h end e = cond_both (r.handle == h) (end_in r.fields.state) (end_at rs h) (λ o. o ≡ Some end → (t : Task) × (cond (r.handle == h) (Some r.fields) (task_at rs h) ≡ Some t) × (end_in t.state ≡ Some end))
+    (λ j d. (r.fields, cond-true (r.handle == h) (Some r.fields) (task_at rs h) j, d)) (λ j d. let x = end_task_at rs h end d in (x.0, cond-false (r.handle == h) (Some r.fields) (task_at rs h) j ∙ x.1, x.2)) e
 
 under_task : (F : Task → Type 0) (l : List (Listed Task)) (h : ℕ) (t : Task) → Under h F l → task_at l h ≡ Some t → F t
 unfolding task_at
 under_task F [] h t u e = absurd (cc)
-under_task F (r ∷ rs) h t u e = by_hand (r.handle == h) refl e (under_task F rs h t u.1)
-  where
-    by_hand : (b : Bool) → (r.handle == h) ≡ b → cond b (Some r.fields) (task_at rs h) ≡ Some t → (task_at rs h ≡ Some t → F t) → F t
-    by_hand true j d k = subst F (some_same d) (u.0 j)
-    by_hand false j d k = k d
+under_task F (r ∷ rs) h t u e = cond_both (r.handle == h) (Some r.fields) (task_at rs h) (λ o. o ≡ Some t → F t) (λ j d. subst F (some_same d) (u.0 j)) (λ j d. under_task F rs h t u.1 d) e
 
 accepted_issues : (o : Op) (r : Reply) (h : ℕ) → accepted_by o r ≡ Some h → (makes_object kinds.Task o && is_handle h r) ≡ true
 accepted_issues (op.TaskStart job args priority cores detached group) (reply.Handle k) h e = eq-eqb k h (some_same e)
 accepted_issues (op.TaskEnqueue q args cores detached group) (reply.Handle k) h e = eq-eqb k h (some_same e)
 accepted_issues _ _ h e = absurd (cc)
-
-one_kind : (load : Workload) → is_settled load ≡ true → has_one_kind_a_job (actions_in (all_statements load)) ≡ true
-unfolding is_settled
-one_kind load e =
-    snd_true (are_settled_parts load.settings load.parts) (has_one_kind_a_job (actions_in (all_statements load)))
-    (fst_true _ (has_different_ids (all_statements load)) (fst_true _ (has_room load.settings (all_statements load)) (fst_true _ (list_all (λ p. keep_limits p.statements 0 p.statements) load.parts)
-    (fst_true _ (list_all (has_one_fault_a_group (actions_in (all_statements load))) load.parts) e))))
 
 -- A task that was accepted as this one ends as the kind of its job answers
 
@@ -126,45 +168,25 @@ module _ (layout : Layout) (load : Workload) (es : List NodeEntry) (ns : List �
   pub at_entry : LegalFrom (opening terms) (before ++ e ∷ behind)
   at_entry = subst (LegalFrom (opening terms)) is legal.from
 
-  last : es ≡ (run.ends.before ++ entry load.settings.workers op.Close reply.Ok ∷ run.ends.behind) ++ entry load.settings.workers op.Final reply.Ok ∷ []
-  last = run.ends.closes ∙ sym (append_assoc run.ends.before (entry load.settings.workers op.Close reply.Ok ∷ run.ends.behind) (entry load.settings.workers op.Final reply.Ok ∷ []))
-
   pub ended_once : EndsOnce terms es h
-  ended_once = accepted_end terms es (run.ends.before ++ entry load.settings.workers op.Close reply.Ok ∷ run.ends.behind) load.settings.workers legal last before behind e h is acc
+  ended_once =
+      let last : es ≡ (run.ends.before ++ entry load.settings.workers op.Close reply.Ok ∷ run.ends.behind) ++ entry load.settings.workers op.Final reply.Ok ∷ [] = run.ends.closes ∙ sym (append_assoc run.ends.before (entry load.settings.workers op.Close reply.Ok ∷ run.ends.behind) (entry load.settings.workers op.Final reply.Ok ∷ [])) in
+      accepted_end terms es (run.ends.before ++ entry load.settings.workers op.Close reply.Ok ∷ run.ends.behind) load.settings.workers legal last before behind e h is acc
 
   module _ (n : NewTask) (k : ℕ) (new : HasObject kinds.Task h (SameTask (new_task n k)) (next (after_from (opening terms) before) e)) where
-    has : HasObject kinds.Task h (SameTask (new_task n k)) s
-    has = subst (λ (M : List NodeEntry). HasObject kinds.Task h (SameTask (new_task n k)) (after terms M)) (sym is)
-        (has_behind kinds.Task h (SameTask (new_task n k)) (task_then (new_task n k)) (opening terms) before behind e new)
-
-    record_of : (t : Task) × (task_at s.tasks h ≡ Some t) × (end_in t.state ≡ Some ended_once.end)
-    record_of = end_task_at s.tasks h ended_once.end ended_once.ended
-
-    same : SameTask (new_task n k) record_of.0
-    same = under_task (SameTask (new_task n k)) s.tasks h record_of.0 has.under record_of.1
-
-    plain : IsPlain s.actions record_of.0.job record_of.0.args ended_once.end
-    plain = quiet_tasks_end_plainly terms es h legal (all_quiet actions es planned) record_of.0 ended_once.end record_of.1 record_of.2
-
-    listed_kind : is_listed actions n.job plain.0 ≡ true
-    listed_kind =
-        let i : is_listed actions plain.1.action.job plain.1.action.kind ≡ true = every_at (IsListed actions) s.actions plain.1.handle plain.1.action (listed_along actions (opening terms) es planned tt) plain.1.found in
-        subst (λ (j : ℕ). is_listed actions j plain.0 ≡ true) (plain.1.of_job ∙ same.job) (subst (λ (x : Kind). is_listed actions plain.1.action.job x ≡ true) plain.1.of_kind i)
-
     pub ends_as_asked : end_at s.tasks h ≡ plain_end actions n
     unfolding plain_end
-    ends_as_asked = ended_once.ended ∙ (ap Some (plain.2 ∙ ap (λ (z : List ℤ). task_end (answer_of plain.0 z)) same.args) ∙ sym (kind_found actions n.job plain.0 n.args (one_kind load settled) listed_kind))
+    ends_as_asked =
+        let has : HasObject kinds.Task h (SameTask (new_task n k)) s = subst (λ (M : List NodeEntry). HasObject kinds.Task h (SameTask (new_task n k)) (after terms M)) (sym is) (has_behind kinds.Task h (SameTask (new_task n k)) (task_then (new_task n k)) (opening terms) before behind e new) in
+        let record_of : (t : Task) × (task_at s.tasks h ≡ Some t) × (end_in t.state ≡ Some ended_once.end) = end_task_at s.tasks h ended_once.end ended_once.ended in
+        let same : SameTask (new_task n k) record_of.0 = under_task (SameTask (new_task n k)) s.tasks h record_of.0 has.under record_of.1 in
+        let plain : IsPlain s.actions record_of.0.job record_of.0.args ended_once.end = quiet_tasks_end_plainly terms es h legal (all_quiet actions es planned) record_of.0 ended_once.end record_of.1 record_of.2 in
+        let listed_kind : is_listed actions n.job plain.0 ≡ true = let i : is_listed actions plain.1.action.job plain.1.action.kind ≡ true = every_at (IsListed actions) s.actions plain.1.handle plain.1.action (listed_along actions (opening terms) es planned tt) plain.1.found in subst (λ (j : ℕ). is_listed actions j plain.0 ≡ true) (plain.1.of_job ∙ same.job) (subst (λ (x : Kind). is_listed actions plain.1.action.job x ≡ true) plain.1.of_kind i) in
+        ended_once.ended ∙ (ap Some (plain.2 ∙ ap (λ (z : List ℤ). task_end (answer_of plain.0 z)) same.args) ∙ sym (kind_found actions n.job plain.0 n.args (settled_whole load settled).kinds listed_kind))
 
 -- The law
 
 pub settled_tasks_end_as_planned : SettledTasksEndAsPlanned
-settled_tasks_end_as_planned layout load es ns settled legal l run before behind e h is acc = record {
-  task = started.0;
-  asked = started.1;
-  ends = ends_as_asked layout load es ns settled legal l run before behind e h is acc started.0 (after_from (opening (run_terms layout load)) before).starts started.2;
-}
-  where
-    started : StartedAs (after_from (opening (run_terms layout load)) before) e.op h (next (after_from (opening (run_terms layout load)) before) e)
-    started =
-        started_as (after_from (opening (run_terms layout load)) before) e h
-        (cut_from (opening (run_terms layout load)) before behind e (at_entry layout load es ns settled legal l run before behind e h is acc)) (accepted_issues e.op e.reply h acc)
+settled_tasks_end_as_planned layout load es ns settled legal l run before behind e h is acc =
+    let started : StartedAs (after_from (opening (run_terms layout load)) before) e.op h (next (after_from (opening (run_terms layout load)) before) e) = started_as (after_from (opening (run_terms layout load)) before) e h (cut_from (opening (run_terms layout load)) before behind e (at_entry layout load es ns settled legal l run before behind e h is acc)) (accepted_issues e.op e.reply h acc) in
+    record { task = started.0; asked = started.1; ends = ends_as_asked layout load es ns settled legal l run before behind e h is acc started.0 (after_from (opening (run_terms layout load)) before).starts started.2 }

@@ -3,7 +3,7 @@ use Rattle.settled_runs.proofs.Names.{◌≡◌, ℕ, ◌+◌, List, [], ◌∷�
 use Rattle.run_report.proofs.RunReplies.{reads_the_run}
 use Rattle.settled_runs.specs.RunReport.{SettledReportsArePlain, SettledReportsAreAlike}
 use Rattle.settled_runs.proofs.PlainReplies.{plain_replies}
-use Rattle.settled_runs.proofs.RunReplies.{settled_replies_are_plain}
+use Rattle.settled_runs.proofs.ReplyWalk.{settled_replies_are_plain}
 
 module _ (actions : List Action) (ends : ℕ → Option TaskEnd) (es : List NodeEntry) where
   further_plain : (who : ℕ) (ps : List Part) → PartsReplyPlainly actions ends ps (map (λ t. t.replies) (further_told who es ps)) → PartsArePlain actions ends ps (further_told who es ps)

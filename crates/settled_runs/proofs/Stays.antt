@@ -1,41 +1,26 @@
 -- In a quiet history what was made stays as it was made.
-use Rattle.settled_runs.proofs.Names.{◌≡◌, ℕ, true, List, [], ◌∷◌, ◌++◌, Some, refl, sym, ◌∙◌, ap, subst, is_some, eq-eqb, entry, live_object, Action, new_action, Group, new_group, Queue, Op, Handle, State, opening, Move, Groups, Queues, makes_action, enables, withdraws, makes, alters, removes, apply, after_moves, Allows, after_row, new_queue, NodeEntry, IsNext, next, after, IsMade, EnablesAction, AltersObject, RemovesObject, on_only, by_moves, sorts_keep, granted, refuses_only, live_listed, true_false, at_issue_here, at_issue_other, cut_from, cut_after, fresh_unlisted, fresh_apart, issued_as, is_quiet, AreQuiet, none_withdrawn, IsThere, MadeObjectsStay, row, LegalFrom, after_from}
+use Rattle.settled_runs.proofs.Names.{◌≡◌, ℕ, true, List, [], ◌∷◌, ◌++◌, Some, refl, sym, ◌∙◌, ap, subst, is_some, entry, live_object, Action, new_action, Group, new_group, Queue, Op, Handle, State, opening, Move, Groups, Queues, makes_action, enables, withdraws, makes, alters, removes, apply, after_moves, new_queue, NodeEntry, IsNext, next, after, IsMade, EnablesAction, AltersObject, RemovesObject, on_only, by_moves, sorts_keep, granted, refuses_only, live_listed, true_false, at_issue_here, at_issue_other, cut_from, cut_after, fresh_unlisted, fresh_apart, is_quiet, AreQuiet, none_withdrawn, IsThere, MadeObjectsStay, row, LegalFrom, after_from}
 use Rattle.mtapi_values.specs.declared.handles.ObjectKind.TheVariants as kind
 use Rattle.mtapi_machine.specs.declared.ops.Op.TheVariants as op
-use Rattle.history_law.specs.Words.{makes as makes_kind}
 use Rattle.history_law.proofs.Unmoved.{live_stays}
 
 -- The entry that makes it
 
-action_there : (s : State) (who : ℕ) (o : Op) (h : ℕ) → makes_kind kind.Action o ≡ true → Allows (row s who o (Handle h)) (Handle h) → IsThere o h (after_row s (row s who o (Handle h)))
-action_there s who (op.ActionCreate job k cores) h e a =
+pub made_there : (s : State) (o : Op) (who h : ℕ) → IsNext s (entry who o (Handle h)) → IsThere o h (next s (entry who o (Handle h)))
+made_there s (op.ActionCreate job k cores) who h n =
     granted (λ ms. IsThere (op.ActionCreate job k cores) h (after_moves ms s)) (row s who (op.ActionCreate job k cores) (Handle h)) h
     (refl, (refl, (refl, refuses_only _ _ _)))
     (λ c0 c1 c2. on_only (λ x ms. Handle h ≡ x → IsThere (op.ActionCreate job k cores) h (after_moves ms s)) _ (Handle h) (makes_action h (new_action job k cores.0) ∷ [])
-    (λ e i. at_issue_here h (new_action job k cores.0) s.actions (fresh_unlisted kind.Action s h e))) a
-action_there s who _ h e a = true_false e refl
-
-queue_there : (s : State) (who : ℕ) (o : Op) (h : ℕ) → makes_kind kind.Queue o ≡ true → Allows (row s who o (Handle h)) (Handle h) → IsThere o h (after_row s (row s who o (Handle h)))
-queue_there s who (op.QueueCreate id job priority limit ordered retain) h e a =
+    (λ e i. at_issue_here h (new_action job k cores.0) s.actions (fresh_unlisted kind.Action s h e))) n.allowed
+made_there s (op.QueueCreate id job priority limit ordered retain) who h n =
     granted (λ ms. IsThere (op.QueueCreate id job priority limit ordered retain) h (after_moves ms s)) (row s who (op.QueueCreate id job priority limit ordered retain) (Handle h)) h
     (refl, (refl, (refl, (refl, (refl, refuses_only _ _ _)))))
     (λ c0 c1 c2 c3 c4. on_only (λ x ms. Handle h ≡ x → IsThere (op.QueueCreate id job priority limit ordered retain) h (after_moves ms s)) _ (Handle h) (makes Queues h (new_queue id job priority limit ordered retain) ∷ [])
-    (λ e i. at_issue_here h (new_queue id job priority limit ordered retain) s.queues (fresh_unlisted kind.Queue s h e))) a
-queue_there s who _ h e a = true_false e refl
-
-group_there : (s : State) (who : ℕ) (o : Op) (h : ℕ) → makes_kind kind.Group o ≡ true → Allows (row s who o (Handle h)) (Handle h) → IsThere o h (after_row s (row s who o (Handle h)))
-group_there s who op.GroupCreate h e a =
+    (λ e i. at_issue_here h (new_queue id job priority limit ordered retain) s.queues (fresh_unlisted kind.Queue s h e))) n.allowed
+made_there s op.GroupCreate who h n =
     granted (λ ms. IsThere op.GroupCreate h (after_moves ms s)) (row s who op.GroupCreate (Handle h)) h
     (refl, (refl, refuses_only _ _ _))
-    (λ c0 c1. on_only (λ x ms. Handle h ≡ x → IsThere op.GroupCreate h (after_moves ms s)) _ (Handle h) (makes Groups h new_group ∷ [])
-    (λ e i. at_issue_here h new_group s.groups (fresh_unlisted kind.Group s h e))) a
-group_there s who _ h e a = true_false e refl
-
-pub made_there : (s : State) (o : Op) (who h : ℕ) → IsNext s (entry who o (Handle h)) → IsThere o h (next s (entry who o (Handle h)))
-made_there s (op.ActionCreate job k cores) who h n = issued_as kind.Action h s (λ o t. IsThere o h t) (λ w o. action_there s w o h) (entry who (op.ActionCreate job k cores) (Handle h)) n (eq-eqb h h refl)
-made_there s (op.QueueCreate id job priority limit ordered retain) who h n =
-    issued_as kind.Queue h s (λ o t. IsThere o h t) (λ w o. queue_there s w o h) (entry who (op.QueueCreate id job priority limit ordered retain) (Handle h)) n (eq-eqb h h refl)
-made_there s op.GroupCreate who h n = issued_as kind.Group h s (λ o t. IsThere o h t) (λ w o. group_there s w o h) (entry who op.GroupCreate (Handle h)) n (eq-eqb h h refl)
+    (λ c0 c1. on_only (λ x ms. Handle h ≡ x → IsThere op.GroupCreate h (after_moves ms s)) _ (Handle h) (makes Groups h new_group ∷ []) (λ e i. at_issue_here h new_group s.groups (fresh_unlisted kind.Group s h e))) n.allowed
 made_there s _ who h n = tt
 
 -- The entries behind it

@@ -1,19 +1,265 @@
--- What a look at a whole group tells in a quiet history.
-use Rattle.settled_runs.proofs.Names.{◌≡◌, ◌⊎◌, inl, inr, ℕ, ◌≤◌, Bool, true, false, cond, List, [], ◌∷◌, ◌++◌, Option, Some, None, refl, sym, ◌∙◌, ap, subst, arith, ◌==◌, ◌&&◌, ◌||◌, not, is_none, is_some, option_and_then, eq-eqb, eqb-true, holds, TaskEnd, MtapiStatus, GroupHandle, entry, Listed, lookup, live_object, any_live, any_listed, with_fields, gone, Task, NewTask, TaskState, Scheduled, Running, Ended, is_unended, end_of, new_task, with_notes, with_waiter, Group, new_group, is_member, is_unended_member, freed, first_fault, fault_of, Op, Reply, State, opening, is_open, tasks, groups, Move, Groups, makes, starts_task, notes, leaves, frees_members, is_fresh, apply, after_moves, Row, unless, gives, never, Allows, live, moves_of, after_row, asked_for, asked_of, number_of, is_detached_member, verdict, is_pending, end_in, NodeEntry, IsNext, next, after, some_same, AllGives, given, on_only, on_live, not_false, both_true, Legal-front, by_moves, granted, refuses_only, refuses_live, no_handle, true_false, second_false, none_first, at_issue_here, closes, Every, cut_from, cut_after, FoundAs, found_changed, found_issued, OnceIn, fresh_unlisted, is_quiet, AreQuiet, is_handle, starts_member, looks_at_all, with_new, members_behind, goes_on, GoOn, IsVerdict, QuietVerdicts, IsCalm, none_impure, calm_next, calm_along, calm_opening, live_of, listed, change_all, endings, row, LegalFrom, after_from, members_of}
-use Rattle.mtapi_values.specs.declared.kinds.Kind.TheVariants as kind
-use Rattle.mtapi_values.specs.declared.statuses.MtapiStatus.TheVariants as m
-use Rattle.mtapi_values.specs.declared.handles.ObjectKind.TheVariants as kinds
-use Rattle.mtapi_machine.specs.declared.ops.Op.TheVariants as op
-use Rattle.mtapi_machine.specs.declared.replies.Reply.TheVariants as reply
+-- What a look at a whole group tells in a quiet history: its live members are the tasks that were put into it since the last verdict.
+use Rattle.settled_runs.proofs.Names.{◌≡◌, ◌⊎◌, inl, inr, ℕ, ◌+◌, ◌≤◌, Bool, true, false, cond, List, [], ◌∷◌, Option, Some, None, refl, ◌∙◌, ap, subst, arith, ◌==◌, nat_lt, is_some, option_and_then, option_or, eq-eqb, MtapiStatus, Listed, live_object, Task, TaskState, Scheduled, Running, Ended, end_of, is_member, Ending, insert, insert_ended, fault_of, first_fault, end_in, some_same, live_listed, true_false, at_skip, at_here, OnceIn, once_rest, live_of, listed, endings, sym, ◌&&◌, is_none, eqb-true, holds, Failed, with_fields, gone, with_state, with_notes, ended, new_task, Group, freed, let_go, Op, State, is_open, tasks, Move, starts_task, runs_task, ends_task, ends_waiting, withdraws, notes, leaves, frees_members, lets_members_go, makes, alters, removes, is_fresh, is_served, apply, NodeEntry, IsNext, next, IsMade, all_live, fst_true, snd_true, not_true, sorts_keep, Every, every_issue, every_change, every_all, every_map, every_ends, always, listed_move, LegalFrom, after_from, list_any, TaskEnd, GroupHandle, NewTask, number_of, StartsTask, FreesMembers, FoundAs, is_quiet, starts_member, looks_at_all, change, change_all, issue, end_each, cond_both, Notes, ◌++◌, ◌||◌, not, entry, any_live, any_listed, is_unended, with_waiter, new_group, is_unended_member, Reply, opening, groups, Groups, after_moves, Row, unless, gives, Allows, live, moves_of, after_row, asked_for, asked_of, is_detached_member, verdict, is_pending, after, AllGives, given, on_only, on_live, not_false, both_true, Legal-front, by_moves, granted, refuses_only, refuses_live, no_handle, second_false, none_first, at_issue_here, closes, cut_from, cut_after, found_changed, found_issued, fresh_unlisted, AreQuiet, is_handle, with_new, members_behind, goes_on, GoOn, IsVerdict, QuietVerdicts, IsCalm, none_impure, calm_next, calm_along, calm_opening, row, members_of, false_from_ne_true, or_right, or_cases, at_head, at_past, is_up}
+use Rattle.history_law.proofs.SeatMoves.{May, by_made_moves}
+use Rattle.settled_runs.proofs.Waits.{no_deletion, notes_stay, notes_tasks, noting, taking, open_up, legal_behind}
 use Rattle.mtapi_machine.specs.TaskRows.{looks_at as looks_row}
 use Rattle.history_law.proofs.Moves.{once_from}
 use Rattle.history_law.proofs.Ordered.{end_found}
 use Rattle.settled_runs.proofs.Granted.{any_found, open_move}
 use Rattle.settled_runs.proofs.Stays.{there_next, made_there}
-use Rattle.settled_runs.proofs.Named.{IsNamed, Named, named_along}
-use Rattle.settled_runs.proofs.Waits.{notes_tasks, open_up, legal_behind}
-use Rattle.settled_runs.proofs.Faults.{IsFaulty, none_faulty, one_faulty}
-use Rattle.settled_runs.proofs.GroupMembers.{has, IsIn, Out, Members, out_change, out_issue, members_move}
+use Rattle.mtapi_values.specs.declared.handles.ObjectKind.TheVariants as kinds
+use Rattle.mtapi_machine.specs.declared.ops.Op.TheVariants as op
+use Rattle.mtapi_values.specs.declared.kinds.Kind.TheVariants as kind
+use Rattle.mtapi_values.specs.declared.statuses.MtapiStatus.TheVariants as m
+use Rattle.mtapi_machine.specs.declared.replies.Reply.TheVariants as reply
+
+-- The first fault of the endings
+
+or_none : {A : Type 0} (x y : Option A) → option_or x y ≡ None → (x ≡ None) × (y ≡ None)
+or_none None y e = (refl, e)
+or_none (Some x) y e = absurd (cc)
+
+or_some : {A : Type 0} (x y : Option A) (c : A) → option_or x y ≡ Some c → (x ≡ Some c) ⊎ (y ≡ Some c)
+or_some None y c e = inr e
+or_some (Some x) y c e = inl e
+
+-- one of the two faults, if there is any
+insert_is : (e : Ending) (es : List Ending) → (first_fault (insert e es) ≡ option_or (fault_of e.end) (first_fault es)) ⊎ (first_fault (insert e es) ≡ option_or (first_fault es) (fault_of e.end))
+insert_is e [] = inl refl
+insert_is e (f ∷ fs) = cond_both (nat_lt e.number f.number) (e ∷ f ∷ fs) (f ∷ insert e fs) (λ l. (first_fault l ≡ option_or (fault_of e.end) (first_fault (f ∷ fs))) ⊎ (first_fault l ≡ option_or (first_fault (f ∷ fs)) (fault_of e.end))) (λ i. inl refl) (λ i. by (fault_of f.end) (insert_is e fs))
+  where
+    by : (x : Option MtapiStatus) → (first_fault (insert e fs) ≡ option_or (fault_of e.end) (first_fault fs)) ⊎ (first_fault (insert e fs) ≡ option_or (first_fault fs) (fault_of e.end))
+        → (option_or x (first_fault (insert e fs)) ≡ option_or (fault_of e.end) (option_or x (first_fault fs))) ⊎ (option_or x (first_fault (insert e fs)) ≡ option_or (option_or x (first_fault fs)) (fault_of e.end))
+    by None k = k
+    by (Some d) k = inr refl
+
+insert_none : (e : Ending) (es : List Ending) → first_fault (insert e es) ≡ None → (fault_of e.end ≡ None) × (first_fault es ≡ None)
+insert_none e es i = elim (insert_is e es) as (λ k. (fault_of e.end ≡ None) × (first_fault es ≡ None)) [ inl k ↦ or_none _ _ (sym k ∙ i) | inr k ↦ (let z = or_none (first_fault es) (fault_of e.end) (sym k ∙ i) in (z.1, z.0)) ]
+
+insert_some : (e : Ending) (es : List Ending) (c : MtapiStatus) → first_fault (insert e es) ≡ Some c → (fault_of e.end ≡ Some c) ⊎ (first_fault es ≡ Some c)
+insert_some e es c i = elim (insert_is e es) as (λ k. (fault_of e.end ≡ Some c) ⊎ (first_fault es ≡ Some c))
+    [ inl k ↦ or_some _ _ c (sym k ∙ i) | inr k ↦ (elim (or_some (first_fault es) (fault_of e.end) c (sym k ∙ i)) as (λ z. (fault_of e.end ≡ Some c) ⊎ (first_fault es ≡ Some c)) [ inl z ↦ inr z | inr z ↦ inl z ]) ]
+
+-- what a live member that has ended has to do with them
+pub record IsFaulty (g : ℕ) (l : List (Listed Task)) (c : MtapiStatus) : Type 0 where
+  pub handle : ℕ
+  pub task : Task
+  pub found : live_object l handle ≡ Some task
+  pub member : is_member g task ≡ true
+  pub fault : option_and_then fault_of (end_in task.state) ≡ Some c
+
+ended_none : (h : ℕ) (x : TaskState) (es : List Ending) → first_fault (insert_ended h (end_of x) es) ≡ None → (option_and_then fault_of (end_in x) ≡ None) × (first_fault es ≡ None)
+ended_none h Scheduled es e = (refl, e)
+ended_none h (Running w k) es e = (refl, e)
+ended_none h (Ended d n) es e = insert_none (record { task = h; end = d; number = n }) es e
+
+ended_some : (h : ℕ) (x : TaskState) (es : List Ending) (c : MtapiStatus) → first_fault (insert_ended h (end_of x) es) ≡ Some c → (option_and_then fault_of (end_in x) ≡ Some c) ⊎ (first_fault es ≡ Some c)
+ended_some h Scheduled es c e = inr e
+ended_some h (Running w k) es c e = inr e
+ended_some h (Ended d n) es c e = insert_some (record { task = h; end = d; number = n }) es c e
+
+-- the endings with one task more
+record Joins (g : ℕ) (r : Listed Task) (rs : List (Listed Task)) : Type 0 where
+  live : r.live ≡ true
+  member : is_member g r.fields ≡ true
+  is : endings g (live_of (r ∷ rs)) ≡ insert_ended r.handle (end_of r.fields.state) (endings g (live_of rs))
+
+record Passes (g : ℕ) (r : Listed Task) (rs : List (Listed Task)) : Type 0 where
+  other : r.live ≡ true → is_member g r.fields ≡ false
+  is : endings g (live_of (r ∷ rs)) ≡ endings g (live_of rs)
+
+one_more : (g : ℕ) (r : Listed Task) (rs : List (Listed Task)) → Joins g r rs ⊎ Passes g r rs
+unfolding live_of endings
+one_more g r rs = by r.live refl (is_member g r.fields) refl
+  where
+    head : (a : Bool) → r.live ≡ a → endings g (live_of (r ∷ rs)) ≡ endings g (cond a ((r.handle, r.fields) ∷ live_of rs) (live_of rs))
+    head a i = ap (λ (b : Bool). endings g (cond b ((r.handle, r.fields) ∷ live_of rs) (live_of rs))) i
+
+    by : (a : Bool) → r.live ≡ a → (m : Bool) → is_member g r.fields ≡ m → Joins g r rs ⊎ Passes g r rs
+    by true i true j = inl (record { live = i; member = j; is = head true i ∙ ap (λ (b : Bool). cond b (insert_ended r.handle (end_of r.fields.state) (endings g (live_of rs))) (endings g (live_of rs))) j })
+    by true i false j = inr (record { other = λ k. j; is = head true i ∙ ap (λ (b : Bool). cond b (insert_ended r.handle (end_of r.fields.state) (endings g (live_of rs))) (endings g (live_of rs))) j })
+    by false i m j = inr (record { other = λ k. true_false k i; is = head false i })
+
+-- without a fault each live member has none
+none_faulty : (g : ℕ) (l : List (Listed Task)) (h : ℕ) (t : Task) → first_fault (endings g (live_of l)) ≡ None → live_object l h ≡ Some t → is_member g t ≡ true → option_and_then fault_of (end_in t.state) ≡ None
+unfolding live_of
+none_faulty g [] h t n e i = absurd (cc)
+none_faulty g (r ∷ rs) h t n e i = by (one_more g r rs) (λ k m. none_faulty g rs h t k (sym (at_past r rs h m) ∙ e) i)
+  where
+    same : r.live ≡ true → (r.handle == h) ≡ true → r.fields ≡ t
+    same a b = some_same (sym (at_here r rs h a b) ∙ e)
+
+    by : Joins g r rs ⊎ Passes g r rs → (first_fault (endings g (live_of rs)) ≡ None → (r.live && (r.handle == h)) ≡ false → option_and_then fault_of (end_in t.state) ≡ None) → option_and_then fault_of (end_in t.state) ≡ None
+    by (inl x) k = let z = ended_none r.handle r.fields.state _ (sym (ap first_fault x.is) ∙ n) in at_head r h (λ a b. subst (λ (y : Task). option_and_then fault_of (end_in y.state) ≡ None) (same a b) z.0) (k z.1)
+    by (inr x) k = at_head r h (λ a b. true_false (ap (is_member g) (same a b) ∙ i) (x.other a)) (k (sym (ap first_fault x.is) ∙ n))
+
+-- and a fault is that of a live member
+one_faulty : (g : ℕ) (l : List (Listed Task)) (c : MtapiStatus) → OnceIn l → first_fault (endings g (live_of l)) ≡ Some c → IsFaulty g l c
+unfolding live_of endings listed
+one_faulty g [] c o f = absurd (cc)
+one_faulty g (r ∷ rs) c o f = by (one_more g r rs) (λ d. later (one_faulty g rs c (once_rest r rs o) d))
+  where
+    later : IsFaulty g rs c → IsFaulty g (r ∷ rs) c
+    later x = record { handle = x.handle; task = x.task; found = at_skip r rs x.handle (false_from_ne_true (r.handle == x.handle) apart) ∙ x.found; member = x.member; fault = x.fault }
+      where
+        apart : (r.handle == x.handle) ≡ true → ⊥
+        apart i =
+            let n : 1 ≤ listed x.handle rs = live_listed x.handle rs (ap is_some x.found) in
+            let k : cond {A = ℕ} (r.handle == x.handle) 1 0 + listed x.handle rs ≤ 1 = o x.handle in
+            let d : cond {A = ℕ} (r.handle == x.handle) 1 0 ≡ 1 = ap (λ (b : Bool). cond {A = ℕ} b 1 0) i in
+            absurd (omega arith)
+
+    by : Joins g r rs ⊎ Passes g r rs → (first_fault (endings g (live_of rs)) ≡ Some c → IsFaulty g (r ∷ rs) c) → IsFaulty g (r ∷ rs) c
+    by (inl x) k = elim (ended_some r.handle r.fields.state _ c (sym (ap first_fault x.is) ∙ f)) as (λ z. IsFaulty g (r ∷ rs) c)
+        [ inl e ↦ record { handle = r.handle; task = r.fields; found = at_here r rs r.handle x.live (eq-eqb r.handle r.handle refl); member = x.member; fault = e } | inr e ↦ k e ]
+    by (inr x) k = k (sym (ap first_fault x.is) ∙ f)
+
+-- The groups that tasks name
+
+-- a group that the task names is one of these
+abbrev pub IsNamed : List (Listed Group) → Task → Type 0
+IsNamed groups t = (g : ℕ) → is_member g t ≡ true → 1 ≤ listed g groups
+
+abbrev pub Named : State → Type 0
+Named s = Every (IsNamed s.groups) s.tasks
+
+live_group : (made : List (Listed Group)) (o : Option ℕ) (g : ℕ) → all_live made o ≡ true → holds (λ h. h == g) o ≡ true → 1 ≤ listed g made
+live_group made None g a e = true_false e refl
+live_group made (Some x) g a e = subst (λ (n : ℕ). 1 ≤ listed n made) (eqb-true x g e) (live_listed x made (by_live (live_object made x) (not_true _ a)))
+  where
+    by_live : (o : Option Group) → is_none o ≡ false → is_some o ≡ true
+    by_live None e = true_false refl e
+    by_live (Some y) e = refl
+
+noted_member : (g : ℕ) (a b : Option ℕ) → (b ≡ a) ⊎ (b ≡ None) → holds (λ h. h == g) b ≡ true → holds (λ h. h == g) a ≡ true
+noted_member g a b (inl e) i = ap (holds (λ h. h == g)) (sym e) ∙ i
+noted_member g a b (inr e) i = true_false i (ap (holds (λ h. h == g)) e)
+
+named_move : (who : ℕ) (o : Op) (s : State) (x : Move) → IsMade s o x → May s who o x → Named s → Every (IsNamed s.groups) (apply x s).tasks
+named_move who o s (starts_task h t) e k v =
+    every_issue (IsNamed s.groups) h (new_task t s.starts) s.tasks
+    (λ g i. live_group s.groups t.group g (snd_true (is_open s.phase && is_fresh tasks s h && is_served s t.job t.cores) _ (fst_true _ (all_live s.queues t.queue) e.may)) i) v
+named_move who o s (runs_task h w k) e m v = every_change (IsNamed s.groups) h (with_fields (with_state (Running w k))) s.tasks (λ r d g. g) v
+named_move who o s (ends_task h y) e k v = every_change (IsNamed s.groups) h (ended y s.ends) s.tasks (λ r d g. g) v
+named_move who o s (ends_waiting p y) e k v = every_ends (IsNamed s.groups) _ y s.ends s.tasks (λ t n g. g) v
+named_move who o s (withdraws h f c) e k v = every_ends (IsNamed s.groups) _ (Failed c) s.ends s.tasks (λ t n g. g) v
+named_move who o s (notes h f) e k v =
+    every_change (IsNamed s.groups) h (with_fields (with_notes f)) s.tasks
+    (λ r d y g i. y g (noted_member g r.fields.notes.group (f r.fields.notes).group (subst (λ (t : Task). ((f t.notes).group ≡ t.notes.group) ⊎ ((f t.notes).group ≡ None)) (some_same (sym k.1 ∙ d)) k.2.group) i)) v
+named_move who o s (leaves h) e k v = every_change (IsNamed s.groups) h gone s.tasks (λ r d g. g) v
+named_move who o s (frees_members j) e k v = every_all (IsNamed s.groups) _ freed s.tasks (λ r y g i. true_false i refl) v
+named_move who o s (lets_members_go j) e k v = every_all (IsNamed s.groups) (is_member j) let_go s.tasks (λ r y g i. true_false i refl) v
+named_move who o s (makes z h y) e k v = sorts_keep (λ t. Every (IsNamed s.groups) t.tasks) (λ t a u c d r y p. p) z _ s v
+named_move who o s (alters z h f) e k v = sorts_keep (λ t. Every (IsNamed s.groups) t.tasks) (λ t a u c d r y p. p) z _ s v
+named_move who o s (removes z h) e k v = sorts_keep (λ t. Every (IsNamed s.groups) t.tasks) (λ t a u c d r y p. p) z _ s v
+named_move who o s _ e k v = v
+
+named_next : (s : State) (e : NodeEntry) → IsNext s e → Named s → Named (next s e)
+named_next s e i v =
+    by_made_moves Named s e i
+    (λ t m x k u. every_map (IsNamed t.groups) (λ y. Unit {0}) (IsNamed (apply m t).groups) (apply m t).tasks (λ y n z g b. listed_move kinds.Group g t e.op m x (n g b)) (named_move e.who e.op t m x k u) (always (apply m t).tasks)) v
+
+pub named_along : (s : State) (L : List NodeEntry) → LegalFrom s L → Named s → Named (after_from s L)
+unfolding LegalFrom after_from
+named_along s [] l v = v
+named_along s (e ∷ es) l v = named_along (next s e) es l.1 (named_next s e l.0 v)
+
+-- Members
+
+abbrev pub has : List ℕ → ℕ → Bool
+has hs h = list_any (λ x. x == h) hs
+
+-- what is noted of a member, which nobody but a look at the group takes away
+pub record IsIn (g : ℕ) (n : Notes) : Type 0 where
+  pub kept : n.detached ≡ false
+  pub member : holds (λ h. h == g) n.group ≡ true
+
+abbrev pub InGroup : ℕ → Task → Type 0
+InGroup g t = IsIn g t.notes
+
+-- each live member is one of these
+unfoldable pub Out : ℕ → List ℕ → List (Listed Task) → Type 0
+Out g hs [] = Unit {0}
+Out g hs (r ∷ rs) = (r.live ≡ true → is_member g r.fields ≡ true → has hs r.handle ≡ true) × Out g hs rs
+
+-- these are the live members
+pub record Members (g : ℕ) (hs : List ℕ) (l : List (Listed Task)) : Type 0 where
+  pub into : (h : ℕ) → has hs h ≡ true → FoundAs (InGroup g) l h
+  pub out : Out g hs l
+
+-- Changes that make no members
+
+pub record Fewer (g : ℕ) (r q : Listed Task) : Type 0 where
+  pub handle : q.handle ≡ r.handle
+  pub alive : q.live ≡ true → r.live ≡ true
+  pub member : is_member g q.fields ≡ true → is_member g r.fields ≡ true
+
+head_out : (g : ℕ) (hs : List ℕ) (r q : Listed Task) → Fewer g r q → (r.live ≡ true → is_member g r.fields ≡ true → has hs r.handle ≡ true) → q.live ≡ true → is_member g q.fields ≡ true → has hs q.handle ≡ true
+head_out g hs r q f k a b = ap (has hs) f.handle ∙ k (f.alive a) (f.member b)
+
+pub out_change : (g : ℕ) (hs : List ℕ) (j : ℕ) (f : Listed Task → Listed Task) (l : List (Listed Task)) → ((r : Listed Task) → Fewer g r (f r)) → Out g hs l → Out g hs (change j f l)
+unfolding change Out
+out_change g hs j f [] k v = tt
+out_change g hs j f (r ∷ rs) k v = cond_both (r.live && (r.handle == j)) (f r ∷ rs) (r ∷ change j f rs) (Out g hs) (λ e. (head_out g hs r (f r) (k r) v.0, v.1)) (λ e. (v.0, out_change g hs j f rs k v.1))
+
+out_all : (g : ℕ) (hs : List ℕ) (p : Task → Bool) (f : Listed Task → Listed Task) (l : List (Listed Task)) → ((r : Listed Task) → Fewer g r (f r)) → Out g hs l → Out g hs (change_all p f l)
+unfolding change_all Out
+out_all g hs p f [] k v = tt
+out_all g hs p f (r ∷ rs) k v = let x = out_all g hs p f rs k v.1 in cond_both (r.live && p r.fields) (f r) r (λ q. Out g hs (q ∷ change_all p f rs)) (λ e. (head_out g hs r (f r) (k r) v.0, x)) (λ e. (v.0, x))
+
+over : (g : ℕ) (e : TaskEnd) (n : ℕ) (r : Listed Task) → Fewer g r (ended e n r)
+over g e n r = record { handle = refl; alive = fst_true r.live _; member = λ b. b }
+
+out_ends : (g : ℕ) (hs : List ℕ) (p : Task → Bool) (e : TaskEnd) (n : ℕ) (l : List (Listed Task)) → Out g hs l → Out g hs (end_each p e n l)
+unfolding end_each Out
+out_ends g hs p e n [] v = tt
+out_ends g hs p e n (r ∷ rs) v = cond_both (r.live && p r.fields) (ended e n r ∷ end_each p e (n + 1) rs) (r ∷ end_each p e n rs) (Out g hs) (λ c. (head_out g hs r (ended e n r) (over g e n r) v.0, out_ends g hs p e (n + 1) rs v.1)) (λ c. (v.0, out_ends g hs p e n rs v.1))
+
+pub out_issue : (g : ℕ) (hs ks : List ℕ) (j : ℕ) (t : Task) (l : List (Listed Task)) → ((h : ℕ) → has hs h ≡ true → has ks h ≡ true) → (is_member g t ≡ true → has ks j ≡ true) → Out g hs l → Out g ks (issue j t l)
+unfolding issue Out
+out_issue g hs ks j t [] f k v = ((λ a b. k b), tt)
+out_issue g hs ks j t (r ∷ rs) f k v = ((λ a b. f r.handle (v.0 a b)), out_issue g hs ks j t rs f k v.1)
+
+-- a member of one group is none of another
+other_group : (g j : ℕ) (t : Task) → is_member g t ≡ true → is_member j t ≡ true → j ≡ g
+other_group g j t a b = by_group t.notes.group a b
+  where
+    by_group : (o : Option ℕ) → holds (λ h. h == g) o ≡ true → holds (λ h. h == j) o ≡ true → j ≡ g
+    by_group None c d = true_false c refl
+    by_group (Some x) c d = sym (eqb-true x j d) ∙ eqb-true x g c
+
+-- The moves of an op that starts no member, looks at no group as a whole, and notes nothing
+
+same_group : (g : ℕ) (o : Option GroupHandle) → holds (λ h. h == g) (number_of o) ≡ holds (λ x. x.0 == g) o
+same_group g None = refl
+same_group g (Some x) = refl
+
+no_member : (g : ℕ) (o : Op) (n : NewTask) (k : ℕ) → starts_member g o ≡ false → StartsTask n o → is_member g (new_task n k) ≡ true → ⊥
+no_member g (op.TaskStart job args priority cores detached group) n k z b i = true_false (sym (same_group g group) ∙ (ap (λ (x : NewTask). holds (λ h. h == g) x.group) (sym b) ∙ i)) z
+no_member g (op.TaskEnqueue q args cores detached group) n k z b i = true_false (sym (same_group g group) ∙ (ap (λ (x : NewTask). holds (λ h. h == g) x.group) (sym b.1) ∙ i)) z
+no_member g _ n k z b i = b
+
+freeing : (g j : ℕ) (o : Op) → FreesMembers j o → j ≡ g → looks_at_all g o ≡ true
+freeing g j (op.AllLook x last) e i = eq-eqb x.0 g (sym e ∙ i)
+freeing g j _ e i = absurd e
+
+out_move : (g : ℕ) (hs : List ℕ) (o : Op) → is_quiet o ≡ true → notes_tasks o ≡ false → starts_member g o ≡ false → (s : State) (x : Move) → IsMade s o x → Out g hs s.tasks → Out g hs (apply x s).tasks
+out_move g hs o q n z s (starts_task j t) e v = out_issue g hs hs j _ s.tasks (λ h i. i) (λ i. absurd (no_member g o t s.starts z e.by i)) v
+out_move g hs o q n z s (runs_task j y k) e v = out_change g hs j (with_fields (with_state (Running y k))) s.tasks (λ r. record { handle = refl; alive = λ a. a; member = λ b. b }) v
+out_move g hs o q n z s (ends_task j y) e v = out_change g hs j (ended y s.ends) s.tasks (over g y s.ends) v
+out_move g hs o q n z s (ends_waiting p y) e v = out_ends g hs _ y s.ends s.tasks v
+out_move g hs o q n z s (withdraws j f c) e v = out_ends g hs _ (Failed c) s.ends s.tasks v
+out_move g hs o q n z s (notes j f) e v = true_false (noting j o q e.by) n
+out_move g hs o q n z s (leaves j) e v = true_false (taking j o q e.by) n
+out_move g hs o q n z s (frees_members j) e v = out_all g hs _ freed s.tasks (λ r. record { handle = refl; alive = λ a. absurd (true_false refl (sym a)); member = λ b. absurd (true_false refl (sym b)) }) v
+out_move g hs o q n z s (lets_members_go j) e v = absurd (no_deletion j o q e.by)
+out_move g hs o q n z s (makes k j y) e v = sorts_keep (λ t. Out g hs t.tasks) (λ t a u c d r y p. p) k _ s v
+out_move g hs o q n z s (alters k j f) e v = sorts_keep (λ t. Out g hs t.tasks) (λ t a u c d r y p. p) k _ s v
+out_move g hs o q n z s (removes k j) e v = sorts_keep (λ t. Out g hs t.tasks) (λ t a u c d r y p. p) k _ s v
+out_move g hs o q n z s _ e v = v
+
+pub members_move : (g : ℕ) (hs : List ℕ) (o : Op) → is_quiet o ≡ true → notes_tasks o ≡ false → starts_member g o ≡ false → looks_at_all g o ≡ false → (s : State) (x : Move) → IsMade s o x → Members g hs s.tasks → Members g hs (apply x s).tasks
+members_move g hs o q n z w s x e v = record { into = λ h i. notes_stay (IsIn g) (λ m k. k.kept) h o q n (λ j t b k d. true_false (freeing g j o b (other_group g j t k.member d)) w) s x e (v.into h i); out = out_move g hs o q n z s x e v.out }
 
 -- A task that is put into the group
 
@@ -21,24 +267,16 @@ abbrev Holds : ℕ → List ℕ → State → Type 0
 Holds g hs s = Members g hs s.tasks
 
 pub has_more : (k : ℕ) (hs : List ℕ) (h : ℕ) → has hs h ≡ true → has (k ∷ hs) h ≡ true
-has_more k hs h e = or (k == h) e
-  where
-    or : (b : Bool) → has hs h ≡ true → (b || has hs h) ≡ true
-    or true e = refl
-    or false e = e
+has_more k hs h e = or_right (k == h) _ e
 
 more_members : (g : ℕ) (hs : List ℕ) (h : ℕ) (n : NewTask) (s : State) → n.detached ≡ false → holds (λ x. x == g) n.group ≡ true → is_fresh tasks s h ≡ true → Holds g hs s → Holds g (h ∷ hs) (apply (starts_task h n) s)
-more_members g hs h n s d i e v = record {
-  into = λ k b. by_hand k (h == k) refl b (v.into k);
-  out = out_issue g hs (h ∷ hs) h (new_task n s.starts) s.tasks (λ k b. has_more h hs k b) (λ b. ap (λ (z : Bool). z || has hs h) (eq-eqb h h refl)) v.out;
-}
-  where
-    here : FoundAs (IsIn g) (apply (starts_task h n) s).tasks h
-    here = (new_task n s.starts, at_issue_here h (new_task n s.starts) s.tasks (fresh_unlisted kinds.Task s h e), record { kept = d; member = i })
-
-    by_hand : (k : ℕ) (b : Bool) → (h == k) ≡ b → (b || has hs k) ≡ true → (has hs k ≡ true → FoundAs (IsIn g) s.tasks k) → FoundAs (IsIn g) (apply (starts_task h n) s).tasks k
-    by_hand k true j b f = subst (λ (x : ℕ). FoundAs (IsIn g) (apply (starts_task h n) s).tasks x) (eqb-true h k j) here
-    by_hand k false j b f = let u = f b in found_issued (IsIn g) h k _ s.tasks u.0 u.1 u.2
+more_members g hs h n s d i e v =
+    let here : FoundAs (InGroup g) (apply (starts_task h n) s).tasks h = (new_task n s.starts, at_issue_here h (new_task n s.starts) s.tasks (fresh_unlisted kinds.Task s h e), record { kept = d; member = i }) in
+    record {
+      into = λ k b. elim (or_cases (h == k) (has hs k) b) as (λ z. FoundAs (InGroup g) (apply (starts_task h n) s).tasks k)
+          [ inl j ↦ subst (λ (x : ℕ). FoundAs (InGroup g) (apply (starts_task h n) s).tasks x) (eqb-true h k j) here | inr j ↦ (let u = v.into k j in found_issued (InGroup g) h k _ s.tasks u.0 u.1 u.2) ];
+      out = out_issue g hs (h ∷ hs) h (new_task n s.starts) s.tasks (λ k b. has_more h hs k b) (λ b. ap (λ (z : Bool). z || has hs h) (eq-eqb h h refl)) v.out;
+    }
 
 of_group : (g : ℕ) (detached : Bool) (group : Option GroupHandle) → holds (λ x. x.0 == g) group ≡ true → is_detached_member detached group ≡ false → (detached ≡ false) × (holds (λ x. x == g) (number_of group) ≡ true)
 of_group g d None e i = true_false e refl
@@ -82,15 +320,12 @@ Kept g hs s r ms = Holds g hs (after_moves ms s)
 
 waits : (g : ℕ) (hs : List ℕ) (s : State) (j : ℕ) (x : Option ℕ) → ((h : ℕ) → has hs h ≡ true → j ≡ h → ⊥) → Holds g hs s → Holds g hs (apply (notes j (with_waiter x)) s)
 waits g hs s j x n v = record {
-  into = λ h b. let u = v.into h b in found_changed (IsIn g) j h (with_fields (with_notes (with_waiter x))) (λ r. refl) s.tasks u.0 u.1 u.2 (λ r e a f. absurd (n h b e));
+  into = λ h b. let u = v.into h b in found_changed (InGroup g) j h (with_fields (with_notes (with_waiter x))) (λ r. refl) s.tasks u.0 u.1 u.2 (λ r e a f. absurd (n h b e));
   out = out_change g hs j (with_fields (with_notes (with_waiter x))) s.tasks (λ r. record { handle = refl; alive = λ a. a; member = λ b. b }) v.out;
 }
 
 goes : (g : ℕ) (hs : List ℕ) (s : State) (j : ℕ) → ((h : ℕ) → has hs h ≡ true → j ≡ h → ⊥) → Holds g hs s → Holds g hs (apply (leaves j) s)
-goes g hs s j n v = record {
-  into = λ h b. let u = v.into h b in found_changed (IsIn g) j h gone (λ r. refl) s.tasks u.0 u.1 u.2 (λ r e a f. absurd (n h b e));
-  out = out_change g hs j gone s.tasks (λ r. record { handle = refl; alive = λ a. true_false a refl; member = λ b. b }) v.out;
-}
+goes g hs s j n v = record { into = λ h b. let u = v.into h b in found_changed (InGroup g) j h gone (λ r. refl) s.tasks u.0 u.1 u.2 (λ r e a f. absurd (n h b e)); out = out_change g hs j gone s.tasks (λ r. record { handle = refl; alive = λ a. true_false a refl; member = λ b. b }) v.out }
 
 on_looks : (g : ℕ) (hs : List ℕ) (s : State) (w t : ℕ) (last : Bool) (x : TaskState) → ((h : ℕ) → has hs h ≡ true → t ≡ h → ⊥) → Holds g hs s → AllGives (Kept g hs s) (looks_row w t last x)
 on_looks g hs s w t true Scheduled n v = waits g hs s t None n v
@@ -128,26 +363,6 @@ noted g hs s w _ r c n a v = true_false n refl
 
 -- A look at the whole group
 
--- what is answered, with the moves that are made: a refusal whose condition is met, or what the row gives
-abbrev Cases : (Reply → List Move → Type 0) → Row → Type 0
-Cases P (unless c x w) = (c ≡ true → P x []) × (c ≡ false → Cases P w)
-Cases P (gives x ms) = P x ms
-Cases P never = Unit {0}
-
-cases : (P : Reply → List Move → Type 0) (w : Row) (r : Reply) → Cases P w → Allows w r → P r (moves_of w)
-cases P (unless true x w) r c a = subst (λ (y : Reply). P y []) (sym a) (c.0 refl)
-cases P (unless false x w) r c a = cases P w r (c.1 refl) a
-cases P (gives x ms) r c a = subst (λ (y : Reply). P y ms) (sym a) c
-cases P never r c a = absurd a
-
-case_live : (P : Reply → List Move → Type 0) {T : Type 0} (o : Option T) (v : Row) (w : T → Row) → (o ≡ None → Cases P v) → ((t : T) → o ≡ Some t → Cases P (w t)) → Cases P (live o v w)
-case_live P None v w f k = f refl
-case_live P (Some t) v w f k = k t refl
-
-case_cond : (P : Reply → List Move → Type 0) (b : Bool) (v w : Row) → (b ≡ true → Cases P v) → (b ≡ false → Cases P w) → Cases P (cond b v w)
-case_cond P true v w f k = f refl
-case_cond P false v w f k = k refl
-
 verdict_decides : (o : Option MtapiStatus) → is_pending (verdict o) ≡ false
 verdict_decides None = refl
 verdict_decides (Some c) = refl
@@ -156,23 +371,14 @@ verdict_decides (Some c) = refl
 none_left : (g : ℕ) (l : List (Listed Task)) → any_listed (is_unended_member g) l ≡ false → Out g [] (change_all (λ t. is_member g t && not (is_unended t)) freed l)
 unfolding live_of change_all Out
 none_left g [] n = tt
-none_left g (r ∷ rs) n = (by_live r.live refl n, by_rest r.live n (none_left g rs))
+none_left g (r ∷ rs) n = (
+  cond_both (r.live && (is_member g r.fields && not (is_unended r.fields))) (freed r) r (λ q. q.live ≡ true → is_member g q.fields ≡ true → false ≡ true) (λ e p k. p)
+      (λ e p k. true_false (both_true _ _ k (not_false (is_unended r.fields) (sym (λ i. p i && (k i && not (is_unended r.fields))) ∙ e))) (none_first (is_unended_member g r.fields) _ (sym (ap head p) ∙ n)).0),
+  none_left g rs (cond_both r.live ((r.handle, r.fields) ∷ live_of rs) (live_of rs) (λ l. any_live (is_unended_member g) l ≡ false → any_listed (is_unended_member g) rs ≡ false) (λ i d. (none_first (is_unended_member g r.fields) _ d).1) (λ i d. d) n),
+)
   where
-    by_rest : (a : Bool) → any_live (is_unended_member g) (cond a ((r.handle, r.fields) ∷ live_of rs) (live_of rs)) ≡ false
-        → (any_listed (is_unended_member g) rs ≡ false → Out g [] (change_all (λ t. is_member g t && not (is_unended t)) freed rs)) → Out g [] (change_all (λ t. is_member g t && not (is_unended t)) freed rs)
-    by_rest true d k = k (none_first (is_unended_member g r.fields) _ d).1
-    by_rest false d k = k d
-
-    by_test : r.live ≡ true → (is_member g r.fields && is_unended r.fields) ≡ false → (b c : Bool) → is_member g r.fields ≡ b → is_unended r.fields ≡ c
-        → (cond (true && (b && not c)) (freed r) r).live ≡ true → is_member g (cond (true && (b && not c)) (freed r) r).fields ≡ true → false ≡ true
-    by_test a d true true i j p q = true_false ((λ z. i z && j z)) d
-    by_test a d true false i j p q = p
-    by_test a d false c i j p q = true_false q i
-
-    by_live : (a : Bool) → r.live ≡ a → any_live (is_unended_member g) (cond a ((r.handle, r.fields) ∷ live_of rs) (live_of rs)) ≡ false
-        → (cond (a && (is_member g r.fields && not (is_unended r.fields))) (freed r) r).live ≡ true → is_member g (cond (a && (is_member g r.fields && not (is_unended r.fields))) (freed r) r).fields ≡ true → false ≡ true
-    by_live true a d p q = by_test a (none_first (is_unended_member g r.fields) _ d).0 (is_member g r.fields) (is_unended r.fields) refl refl p q
-    by_live false a d p q = sym a ∙ p
+    head : Bool → Bool
+    head b = any_live (is_unended_member g) (cond b ((r.handle, r.fields) ∷ live_of rs) (live_of rs))
 
 -- what is told, and what is left
 pub record Tells (g : ℕ) (hs : List ℕ) (s : State) (r : Reply) (ms : List Move) : Type 0 where
@@ -182,18 +388,20 @@ pub record Tells (g : ℕ) (hs : List ℕ) (s : State) (r : Reply) (ms : List Mo
 looked : (g : GroupHandle) (hs : List ℕ) (s : State) (w : ℕ) (r : Reply) → is_open s.phase ≡ true → live_object s.groups g.0 ≡ Some new_group → Allows (row s w (op.AllLook g false) r) r → Holds g.0 hs s
     → Tells g.0 hs s r (moves_of (row s w (op.AllLook g false) r))
 looked g hs s w r o e a v =
-    cases (Tells g.0 hs s) (row s w (op.AllLook g false) r) r (
-      (λ c. true_false c (open_up s.phase (ap not o))),
-      (λ c. case_live (Tells g.0 hs s) (live_object s.groups g.0) _ _ (λ n. absurd (none_some (sym n ∙ e))) (λ x f.
-          case_cond (Tells g.0 hs s) (any_listed (is_unended_member g.0) s.tasks) _ _ (λ d. record { left = v; said = inl refl })
-          (λ d. record {
-            left = subst (λ (b : Bool). Members g.0 (cond b hs []) (apply (frees_members g.0) s).tasks) (sym (verdict_decides (first_fault (endings g.0 (live_of s.tasks))))) (record { into = λ h b. true_false b refl; out = none_left g.0 s.tasks d });
-            said = inr (d, refl);
-          }))),
-    ) a
+    passed_by (not (is_up s.phase)) (reply.Mtapi m.ErrNodeNotinit) (live (live_object s.groups g.0) (gives groups.invalid []) (λ x. body)) (open_up s.phase (ap not o))
+    (subst (λ (y : Option Group). Q (live y (gives groups.invalid []) (λ x. body))) (sym e)
+    (cond_both (any_listed (is_unended_member g.0) s.tasks) _ _ Q (λ d k. record { left = subst (λ (b : Bool). Members g.0 (cond b hs []) s.tasks) (sym (ap is_pending k)) v; said = inl k })
+    (λ d k. record { left = subst (λ (b : Bool). Members g.0 (cond b hs []) (apply (frees_members g.0) s).tasks) (sym (ap is_pending k ∙ verdict_decides (first_fault (endings g.0 (live_of s.tasks))))) (record { into = λ h b. true_false b refl; out = none_left g.0 s.tasks d }); said = inr (d, k) }))) a
   where
-    none_some : {A : Type 0} {x : A} → None ≡ Some x → ⊥
-    none_some k = cc
+    Q : Row → Type 0
+    Q z = Allows z r → Tells g.0 hs s r (moves_of z)
+
+    body : Row
+    body = cond (any_listed (is_unended_member g.0) s.tasks) (gives reply.Pending []) (gives (verdict (first_fault (endings g.0 (live_of s.tasks)))) (frees_members g.0 ∷ []))
+
+    passed_by : (c : Bool) (x : Reply) (z : Row) → c ≡ false → Q z → Q (unless c x z)
+    passed_by true x z i q = true_false refl i
+    passed_by false x z i q = q
 
 -- An entry
 
@@ -234,11 +442,7 @@ fine_along : (g : ℕ) (hs : List ℕ) (s : State) (L : List NodeEntry) → Lega
 unfolding LegalFrom after_from members_of
 fine_along g hs s [] l q c k v = v
 fine_along g hs s (e ∷ es) l q c k v =
-    fine_along g (members_behind g hs e) (next s e) es l.1 q.1 (calm_next s e l.0 q.0 c) k.1 (record {
-      up = by_moves (λ t. is_open t.phase ≡ true) s e (λ t x y u. open_move e.op (unclosed g e.op k.0) t x y u) v.up;
-      group = there_next s e op.GroupCreate g q.0 v.group;
-      members = members_next g hs s e l.0 q.0 c k.0 v;
-    })
+    fine_along g (members_behind g hs e) (next s e) es l.1 q.1 (calm_next s e l.0 q.0 c) k.1 (record { up = by_moves (λ t. is_open t.phase ≡ true) s e (λ t x y u. open_move e.op (unclosed g e.op k.0) t x y u) v.up; group = there_next s e op.GroupCreate g q.0 v.group; members = members_next g hs s e l.0 q.0 c k.0 v })
 
 -- The entry that makes the group
 
@@ -259,15 +463,7 @@ new_group_fine s w h v a =
 out_at : (g : ℕ) (hs : List ℕ) (l : List (Listed Task)) (h : ℕ) (t : Task) → Out g hs l → live_object l h ≡ Some t → is_member g t ≡ true → has hs h ≡ true
 unfolding live_of Out
 out_at g hs [] h t v e i = absurd (cc)
-out_at g hs (r ∷ rs) h t v e i = by_live r.live refl e (λ d. out_at g hs rs h t v.1 d i)
-  where
-    by_hand : r.live ≡ true → (b : Bool) → (r.handle == h) ≡ b → cond b (Some r.fields) (live_object rs h) ≡ Some t → (live_object rs h ≡ Some t → has hs h ≡ true) → has hs h ≡ true
-    by_hand a true j d k = subst (λ (n : ℕ). has hs n ≡ true) (eqb-true r.handle h j) (v.0 a (ap (is_member g) (some_same d) ∙ i))
-    by_hand a false j d k = k d
-
-    by_live : (a : Bool) → r.live ≡ a → lookup (cond a ((r.handle, r.fields) ∷ live_of rs) (live_of rs)) h ≡ Some t → (live_object rs h ≡ Some t → has hs h ≡ true) → has hs h ≡ true
-    by_live true a d k = by_hand a (r.handle == h) refl d k
-    by_live false a d k = k d
+out_at g hs (r ∷ rs) h t v e i = at_head r h (λ a b. subst (λ (n : ℕ). has hs n ≡ true) (eqb-true r.handle h b) (v.0 a (ap (is_member g) (some_same (sym (at_here r rs h a b) ∙ e)) ∙ i))) (λ n. out_at g hs rs h t v.1 (sym (at_past r rs h n) ∙ e) i)
 
 has_ended : (x : TaskState) → is_none (end_of x) ≡ false → (end : TaskEnd) × (end_in x ≡ Some end)
 has_ended Scheduled e = true_false refl e
@@ -280,62 +476,26 @@ is_verdict g hs s r all o v e = record {
   is = e;
   ended = λ h b.
       let u = v.into h b in
-      let d = has_ended u.0.state (ended_member u.0 (λ k. any_found (is_unended_member g) s.tasks h u.0 u.1 (both_true (is_member g u.0) _ u.2.member k))) in
+      let d = has_ended u.0.state (false_from_ne_true (is_unended u.0) (λ k. true_false (any_found (is_unended_member g) s.tasks h u.0 u.1 (both_true (is_member g u.0) _ u.2.member k)) all)) in
       (d.0, end_found s.tasks h u.0 o u.1 ∙ d.1);
   none = λ n h b. let u = v.into h b in ap (option_and_then fault_of) (end_found s.tasks h u.0 o u.1) ∙ none_faulty g s.tasks h u.0 n u.1 u.2.member;
   some = λ c n. let x : IsFaulty g s.tasks c = one_faulty g s.tasks c o n in
       (x.handle, out_at g hs s.tasks x.handle x.task v.out x.found x.member, ap (option_and_then fault_of) (end_found s.tasks x.handle x.task o x.found) ∙ x.fault);
 }
-  where
-    ended_member : (t : Task) → (is_unended t ≡ true → any_listed (is_unended_member g) s.tasks ≡ true) → is_unended t ≡ false
-    ended_member t k = by (is_unended t) k
-      where
-        by : (b : Bool) → (b ≡ true → any_listed (is_unended_member g) s.tasks ≡ true) → b ≡ false
-        by true f = true_false (f refl) all
-        by false f = refl
 
 pub quiet_verdicts : QuietVerdicts
-quiet_verdicts terms before behind maker who g r legal q0 q1 k = by_said told.said
-  where
-    e0 : NodeEntry
-    e0 = entry maker op.GroupCreate (reply.Handle g.0)
-
-    e1 : NodeEntry
-    e1 = entry who (op.AllLook g false) r
-
-    first : State
-    first = after_from (opening terms) before
-
-    step : IsNext first e0
-    step = cut_from (opening terms) before (behind ++ e1 ∷ []) e0 legal.from
-
-    rest : LegalFrom (next first e0) (behind ++ e1 ∷ [])
-    rest = legal_behind (opening terms) before e0 (behind ++ e1 ∷ []) legal.from
-
-    calm : IsCalm (next first e0)
-    calm = calm_next first e0 step refl (calm_along (opening terms) before (Legal-front (opening terms) before _ legal.from) q0 (calm_opening terms))
-
-    named : Named first
-    named = named_along (opening terms) before (Legal-front (opening terms) before _ legal.from) tt
-
-    made : (is_open (next first e0).phase ≡ true) × Members g.0 [] (next first e0).tasks
-    made = new_group_fine first maker g.0 named step.allowed
-
-    fine : Fine g.0 (members_of g.0 [] behind) (after_from (next first e0) behind)
-    fine = fine_along g.0 [] (next first e0) behind (Legal-front (next first e0) behind (e1 ∷ []) rest) q1 calm k (record { up = made.0; group = made_there first op.GroupCreate maker g.0 step; members = made.1 })
-
-    last : IsNext (after_from (next first e0) behind) e1
-    last = cut_from (next first e0) behind [] e1 rest
-
-    same : after_from (opening terms) (before ++ e0 ∷ behind) ≡ after_from (next first e0) behind
-    same = cut_after (opening terms) before behind e0
-
-    told : Tells g.0 (members_of g.0 [] behind) (after_from (next first e0) behind) r (moves_of (row (after_from (next first e0) behind) who (op.AllLook g false) r))
-    told = looked g (members_of g.0 [] behind) (after_from (next first e0) behind) who r fine.up fine.group last.allowed fine.members
-
-    once : OnceIn (after_from (next first e0) behind).tasks
-    once = subst (λ (t : State). OnceIn t.tasks) same (once_from terms (before ++ e0 ∷ behind))
-
-    by_said : (r ≡ reply.Pending) ⊎ ((any_listed (is_unended_member g.0) (after_from (next first e0) behind).tasks ≡ false) × (r ≡ verdict (first_fault (endings g.0 (live_of (after_from (next first e0) behind).tasks))))) → (r ≡ reply.Pending) ⊎ IsVerdict (after terms (before ++ e0 ∷ behind)) (members_of g.0 [] behind) r
-    by_said (inl e) = inl e
-    by_said (inr e) = inr (subst (λ (t : State). IsVerdict t (members_of g.0 [] behind) r) (sym same) (is_verdict g.0 (members_of g.0 [] behind) (after_from (next first e0) behind) r e.0 once fine.members e.1))
+quiet_verdicts terms before behind maker who g r legal q0 q1 k =
+    let e0 : NodeEntry = entry maker op.GroupCreate (reply.Handle g.0) in
+    let e1 : NodeEntry = entry who (op.AllLook g false) r in
+    let first : State = after_from (opening terms) before in
+    let step : IsNext first e0 = cut_from (opening terms) before (behind ++ e1 ∷ []) e0 legal.from in
+    let rest : LegalFrom (next first e0) (behind ++ e1 ∷ []) = legal_behind (opening terms) before e0 (behind ++ e1 ∷ []) legal.from in
+    let calm : IsCalm (next first e0) = calm_next first e0 step refl (calm_along (opening terms) before (Legal-front (opening terms) before _ legal.from) q0 (calm_opening terms)) in
+    let named : Named first = named_along (opening terms) before (Legal-front (opening terms) before _ legal.from) tt in
+    let made : (is_open (next first e0).phase ≡ true) × Members g.0 [] (next first e0).tasks = new_group_fine first maker g.0 named step.allowed in
+    let fine : Fine g.0 (members_of g.0 [] behind) (after_from (next first e0) behind) = fine_along g.0 [] (next first e0) behind (Legal-front (next first e0) behind (e1 ∷ []) rest) q1 calm k (record { up = made.0; group = made_there first op.GroupCreate maker g.0 step; members = made.1 }) in
+    let last : IsNext (after_from (next first e0) behind) e1 = cut_from (next first e0) behind [] e1 rest in
+    let same : after_from (opening terms) (before ++ e0 ∷ behind) ≡ after_from (next first e0) behind = cut_after (opening terms) before behind e0 in
+    let told : Tells g.0 (members_of g.0 [] behind) (after_from (next first e0) behind) r (moves_of (row (after_from (next first e0) behind) who (op.AllLook g false) r)) = looked g (members_of g.0 [] behind) (after_from (next first e0) behind) who r fine.up fine.group last.allowed fine.members in
+    let once : OnceIn (after_from (next first e0) behind).tasks = subst (λ (t : State). OnceIn t.tasks) same (once_from terms (before ++ e0 ∷ behind)) in
+    elim told.said as (λ z. (r ≡ reply.Pending) ⊎ IsVerdict (after terms (before ++ e0 ∷ behind)) (members_of g.0 [] behind) r) [ inl e ↦ inl e | inr e ↦ inr (subst (λ (t : State). IsVerdict t (members_of g.0 [] behind) r) (sym same) (is_verdict g.0 (members_of g.0 [] behind) (after_from (next first e0) behind) r e.0 once fine.members e.1)) ]

@@ -1,39 +1,162 @@
 -- In a run of a settled workload each wait for all tasks of a group is told the fault that the plain report tells of it.
-use Rattle.settled_runs.proofs.Names.{Each, ◌≡◌, ◌⊎◌, inl, inr, ℕ, suc, ◌+◌, true, false, List, [], ◌∷◌, ◌++◌, length, Option, Some, refl, sym, ◌∙◌, ap, subst, arith, append_assoc, ◌<◌, map, option_and_then, append-nil, Layout, TaskEnd, MtapiStatus, Action, fault_of, entry, Statement, Workload, IsBoundAt, AreStatements, Reply, Terms, handle_of, is_pending, verdict, NodeEntry, Legal, after, handle_at, call_of, Line, line, Made, closes, NoClose, front_stays, true_false, run_terms, AreQuiet, all_statements, actions_in, no_faults, AllGranted, SettledRun, GoOn, IsVerdict, goes_on, end_at, lines_of, Carried, are_settled, have_one_fault_a_group, members_of, ArePlain}
+use Rattle.settled_runs.proofs.Names.{◌≡◌, ℕ, Bool, true, false, cond, List, [], ◌∷◌, ◌++◌, length, Option, Some, None, refl, sym, ◌∙◌, ap, subst, arith, append_assoc, ℤ, ◌==◌, map, option_and_then, IfSome, option_map, option_or, flat_map, eq-eqb, eqb-true, holds, TaskEnd, Mask, Timeout, MtapiStatus, entry, Action, NewTask, fault_of, Queue, Deed, Statement, fields, word_for, values, place_used, AllFit, IsBoundAt, IsStatement, AreStatements, Op, Reply, handle_of, some_same, handle_at, group_at, call_of, Line, line, Made, Looked, true_false, queue_at, Faults, with_member, with_task, no_faults, IsPlainTask, fault_in, members_behind, deed_spelled, Carried, task_in, plain_end, plain_fault, faults_behind, ArePlain, IsPlainReply, inl, inr, or_cases, none_some, Call, Each, ◌⊎◌, ◌+◌, ◌<◌, append-nil, Layout, Workload, Terms, is_pending, verdict, NodeEntry, Legal, after, closes, NoClose, front_stays, run_terms, AreQuiet, all_statements, actions_in, AllGranted, SettledRun, GoOn, IsVerdict, end_at, lines_of, are_settled, have_one_fault_a_group, members_of}
+use Rattle.workload_file.specs.Table.{row}
+use Rattle.settled_runs.proofs.Verdicts.{has, quiet_verdicts}
+use Rattle.settled_runs.proofs.OneFault.{has_fault, fault_there, Matches, no_member, more_member, one_status, one_verdict}
+use Rattle.settled_runs.proofs.RunEnds.{ArePlanned, is_planned, go_on}
+use Rattle.settled_runs.proofs.Owners.{uses, members_in, members_append, unused_lines, one_uses, uses_call, members_lines}
+use Rattle.settled_runs.proofs.Each.{CallEach, made_each, OnlyBy, each_behind, each_front, statements_each, one_look}
+use Rattle.settled_runs.proofs.Stays.{quiet_front, quiet_rest}
+use Rattle.settled_runs.proofs.Along.{Cut, cut, BoundBy, along, step_bound, step_statement, Found, are_front, bound_by, bound_longer, handles_front}
+use Rattle.settled_runs.proofs.Counted.{asks, many_append}
+use Rattle.settled_runs.proofs.Opened.{planned, legal_here, quiet_before, no_close}
+use Rattle.settled_runs.proofs.Places.{at_group, group_front, binds_group, bound_gave, gave_in, groups_list, one_bound}
+use Rattle.settled_runs.proofs.Walk.{Finds}
 use Rattle.workload_file.specs.declared.table.Sort.TheVariants as sort
+use Rattle.workload_file.specs.declared.workload.Deed.TheVariants as deed
 use Rattle.mtapi_machine.specs.declared.ops.Op.TheVariants as op
 use Rattle.mtapi_machine.specs.declared.replies.Reply.TheVariants as reply
 use Rattle.mtapi_values.specs.declared.handles.ObjectKind.TheVariants as kinds
-use Rattle.settled_runs.proofs.Stays.{quiet_front, quiet_rest}
-use Rattle.settled_runs.proofs.Verdicts.{quiet_verdicts}
-use Rattle.settled_runs.proofs.Cuts.{Cut, cut}
-use Rattle.settled_runs.proofs.Counted.{asks, asks_append}
-use Rattle.settled_runs.proofs.Opened.{legal_here, quiet_before, no_close}
-use Rattle.settled_runs.proofs.GroupMembers.{has}
-use Rattle.settled_runs.proofs.Owners.{uses, one_uses, uses_call}
-use Rattle.settled_runs.proofs.Along.{Found, are_front, BoundBy, bound_by, bound_longer, deed_in, handles_front, step_bound, step_statement}
-use Rattle.settled_runs.proofs.Places.{at_group, group_front}
-use Rattle.settled_runs.proofs.GroupWalk.{faults_after, faults_of, Fit, fits_along}
-use Rattle.settled_runs.proofs.GoesOn.{LinesGoOn, go_on, statement_goes}
-use Rattle.settled_runs.proofs.MemberFaults.{one_verdict}
-use Rattle.settled_runs.proofs.OneFault.{one_status}
-use Rattle.settled_runs.proofs.SeatMembers.{members_in, members_lines, members_append, unused_lines}
-use Rattle.settled_runs.proofs.Walk.{Finds}
-use Rattle.settled_runs.proofs.Each.{OnlyBy, each_behind, each_front, made_each, statements_each}
-use Rattle.settled_runs.proofs.Distinct.{binds_group, bound_issued, groups_list, one_bound, part_once, part_within}
+use Rattle.std.specs.Cmp.{both_ways}
 
--- Lines of a seat, before an entry and behind it
+-- The tasks that were put into a group, along the statements of a part
 
-longer : {X : Type 0} (xs : List X) (x : X) (ys : List X) → length (xs ++ x ∷ ys) ≡ length xs + suc (length ys)
-longer [] x ys = omega arith
-longer (y ∷ xs) x ys = let k : length (xs ++ x ∷ ys) ≡ length xs + suc (length ys) = longer xs x ys in omega arith
+module _ (actions : List Action) (all : List Statement) where
+  -- the faults behind statements
+  abbrev pub faults_after : Faults → List Statement → Faults
+  faults_after faults [] = faults
+  faults_after faults (s ∷ ss) = faults_after (faults_behind actions all faults s.deed) ss
 
-same_behind : (who : ℕ) (es : List NodeEntry) (ns : List ℕ) (A : List Line) (l : Line) (B : List Line) (c : Cut who es ns A l B) → length es ≡ length ns → length c.behind ≡ length c.rest
-same_behind who es ns A l B c e =
-    let a : length es ≡ length c.before + suc (length c.behind) = ap length c.is ∙ longer c.before (entry who l.op l.reply) c.behind in
-    let b : length ns ≡ length c.first + suc (length c.rest) = ap length c.numbers ∙ longer c.first l.beside c.rest in
-    let d : length c.before ≡ length c.first = c.same in
-    omega arith
+  pub after_both : (faults : Faults) (ss ts : List Statement) → faults_after faults (ss ++ ts) ≡ faults_after (faults_after faults ss) ts
+  after_both faults [] ts = refl
+  after_both faults (s ∷ ss) ts = after_both (faults_behind actions all faults s.deed) ss ts
+
+  -- plain replies, with one more, and the one of a place
+  pub plain_more : (ends : ℕ → Option TaskEnd) (faults : Faults) (ss : List Statement) (rs : List Reply) (s : Statement) (r : Reply) → length rs ≡ length ss → ArePlain actions all ends faults ss rs → IsPlainReply actions all ends (faults_after faults ss) s.deed r → ArePlain actions all ends faults (ss ++ s ∷ []) (rs ++ r ∷ [])
+  unfolding ArePlain
+  plain_more ends faults [] [] s r l a x = (x, tt)
+  plain_more ends faults [] (q ∷ rs) s r l a x = absurd (omega arith)
+  plain_more ends faults (t ∷ ss) [] s r l a x = absurd (omega arith)
+  plain_more ends faults (t ∷ ss) (q ∷ rs) s r l a x = (a.0, plain_more ends (faults_behind actions all faults t.deed) ss rs s r (omega arith) a.1 x)
+
+  plain_at : (ends : ℕ → Option TaskEnd) (faults : Faults) (ss : List Statement) (s : Statement) (ts : List Statement) (rs : List Reply) (r : Reply) (qs : List Reply) → length rs ≡ length ss → ArePlain actions all ends faults (ss ++ s ∷ ts) (rs ++ r ∷ qs) → IsPlainReply actions all ends (faults_after faults ss) s.deed r
+  unfolding ArePlain
+  plain_at ends faults [] s ts [] r qs l a = a.0
+  plain_at ends faults [] s ts (q ∷ rs) r qs l a = absurd (omega arith)
+  plain_at ends faults (t ∷ ss) s ts [] r qs l a = absurd (omega arith)
+  plain_at ends faults (t ∷ ss) s ts (q ∷ rs) r qs l a = plain_at ends (faults_behind actions all faults t.deed) ss s ts rs r qs (omega arith) a.1
+
+-- the faults of all tasks of the part that are in groups
+abbrev pub faults_of : List Action → List Statement → List (ℕ × MtapiStatus)
+faults_of actions all = flat_map (λ z. fault_in actions (task_in all z.deed)) all
+
+-- these tasks of a group have the fault, and each fault of one is one of the part
+pub record Fit (actions : List Action) (all : List Statement) (fault_of_task : ℕ → Option MtapiStatus) (place : ℕ) (hs : List ℕ) (fault : Option MtapiStatus) : Type 0 where
+  pub matches : Matches fault_of_task hs fault
+  pub among : (j : ℕ) (c : MtapiStatus) → has hs j ≡ true → fault_of_task j ≡ Some c → has_fault (faults_of actions all) place c ≡ true
+
+pub fit_none : (actions : List Action) (all : List Statement) (F : ℕ → Option MtapiStatus) (place : ℕ) → Fit actions all F place [] None
+fit_none actions all F place = record { matches = no_member F; among = λ j c h e. true_false h refl }
+
+module _ (actions : List Action) (all : List Statement) (ends : ℕ → Option TaskEnd) (place h : ℕ) where
+  abbrev F : ℕ → Option MtapiStatus
+  F j = option_and_then fault_of (ends j)
+
+  abbrev Fits : List ℕ → Option MtapiStatus → Type 0
+  Fits hs fault = Fit actions all F place hs fault
+
+  choose : (a b : Bool) → a ≡ b → (X Y : List ℕ) (U V : Option MtapiStatus) → (b ≡ true → Fits X U) → Fits Y V → Fits (cond a X Y) (cond b U V)
+  choose a b e X Y U V t f = subst (λ (c : Bool). Fits (cond c X Y) (cond b U V)) (sym e) ((elim b as (λ c. b ≡ c → Fits (cond c X Y) (cond c U V)) [ true ↦ λ i. t i | false ↦ λ i. f ]) refl)
+
+  -- one more task of the group
+  more_fits : (j : ℕ) (x : Option MtapiStatus) (hs : List ℕ) (fault : Option MtapiStatus) → F j ≡ x → ((c : MtapiStatus) → x ≡ Some c → has_fault (faults_of actions all) place c ≡ true) → Fits hs fault → Fits (j ∷ hs) (option_or fault x)
+  more_fits j x hs fault e there f = record { matches = more_member F j x hs fault e f.matches; among = λ k c i y. elim (or_cases (j == k) (has hs k) i) as (λ z. has_fault (faults_of actions all) place c ≡ true) [ inl m ↦ there c (sym e ∙ ap F (eqb-true j k m) ∙ y) | inr m ↦ f.among k c m y ] }
+
+  module _ (before rest : List Statement) (s : Statement) (bound : List ℕ) (within : all ≡ before ++ s ∷ rest) (same : (g : ℕ) → IsBoundAt sort.Group before g → (handle_at bound g == h) ≡ (place == g)) (faults : Faults) (hs : List ℕ) (f : Fits hs (faults place)) where
+    -- a task of the statement
+    task_fits : (t : NewTask) (j : ℕ) → task_in all s.deed ≡ Some t → ends j ≡ plain_end actions t → IfSome t.group (IsBoundAt sort.Group before)
+        → Fits (cond (holds (λ x. x.0 == h) (option_map (group_at bound) t.group)) (j ∷ hs) hs) (with_member t.group (plain_fault actions t) faults place)
+    unfolding plain_fault
+    task_fits t j e k o = by t.group refl o
+      where
+        fault_is : F j ≡ plain_fault actions t
+        fault_is = ap (option_and_then fault_of) k
+
+        by : (group : Option ℕ) → t.group ≡ group → IfSome group (IsBoundAt sort.Group before) → Fits (cond (holds (λ x. x.0 == h) (option_map (group_at bound) group)) (j ∷ hs) hs) (with_member group (plain_fault actions t) faults place)
+        by None i o = f
+        by (Some g) i o =
+            choose (handle_at bound g == h) (place == g) (same g o) (j ∷ hs) hs (option_or (faults g) (plain_fault actions t)) (faults place)
+            (λ y. let q : place ≡ g = eqb-true place g y in
+            more_fits j (plain_fault actions t) hs (faults g) fault_is
+            (λ c z. subst (λ (w : List Statement). has_fault (flat_map (λ v. fault_in actions (task_in all v.deed)) w) place c ≡ true) (sym within) (fault_there actions all before s rest t place c e (i ∙ ap Some (sym q)) z))
+            (subst (λ (n : ℕ). Fits hs (faults n)) q f))
+            f
+
+    -- a wait for all tasks of a group
+    wait_fits : (g : ℕ) (t : Timeout) (front : List Line) (r : Reply) → IsBoundAt sort.Group before g → Looked false (λ last. op.AllLook (record { 0 = handle_at bound g }) last) t front r → Fits (members_in h hs front) (cond (place == g) None (faults place))
+    wait_fits g t front r o m =
+        let told : members_in h hs front ≡ cond (handle_at bound g == h) [] hs = ap (members_in h hs) (one_look (λ last. op.AllLook (record { 0 = handle_at bound g }) last) t front r m) ∙ ap (λ (b : Bool). cond (handle_at bound g == h) (cond b hs []) hs) m.decides in
+        subst (λ (x : List ℕ). Fits x (cond (place == g) None (faults place))) (sym told) (choose (handle_at bound g == h) (place == g) (same g o) [] hs None (faults place) (λ y. fit_none actions all F place) f)
+
+    -- a statement that doesn't use the group
+    kept : (c : Call) (front : List Line) (r : Reply) → Made c front r → CallEach (λ o. uses h o ≡ false) c → Fits (members_in h hs front) (faults place)
+    kept c front r m u = subst (λ (x : List ℕ). Fits x (faults place)) (sym (unused_lines h hs front (made_each (λ o. uses h o ≡ false) c front r u m))) f
+
+    -- a statement that asks for a task
+    asked_fits : (o : Op) (front : List Line) (r : Reply) (t u : NewTask) → task_in all s.deed ≡ Some u → t ≡ u → (j : ℕ) → r ≡ reply.Handle j → ends j ≡ plain_end actions u → IfSome t.group (IsBoundAt sort.Group before) → front ≡ line o r 0 ∷ []
+        → members_behind h hs (entry 0 o (reply.Handle j)) ≡ cond (holds (λ x. x.0 == h) (option_map (group_at bound) t.group)) (j ∷ hs) hs → Fits (members_in h hs front) (with_member t.group (plain_fault actions t) faults place)
+    asked_fits o front r t u e q j k n b i a =
+        subst (λ (y : List Line). Fits (members_in h hs y) (with_member t.group (plain_fault actions t) faults place)) (sym i)
+        (subst (λ (y : Reply). Fits (members_behind h hs (entry 0 o y)) (with_member t.group (plain_fault actions t) faults place)) (sym k)
+        (subst (λ (x : List ℕ). Fits x (with_member t.group (plain_fault actions t) faults place)) (sym a)
+        (subst (λ (x : NewTask). Fits (cond (holds (λ v. v.0 == h) (option_map (group_at bound) x.group)) (j ∷ hs) hs) (with_member x.group (plain_fault actions x) faults place)) (sym q)
+        (task_fits u j e n (subst (λ (x : NewTask). IfSome x.group (IsBoundAt sort.Group before)) q b)))))
+
+    -- the statement keeps the group fit
+    pub statement_fits : (front : List Line) (r : Reply) → IsStatement before s → Made (call_of bound s.deed) front r → IsPlainReply actions all ends faults s.deed r → Fits (members_in h hs front) (faults_behind actions all faults s.deed place)
+    unfolding IsPlainReply faults_behind task_in row deed_spelled
+    statement_fits front r st m p = by s.deed refl st.options st.uses m p
+      where
+        by_queue : (queue : ℕ) (args : List ℤ) (cores : Mask) (detached : Bool) (group : Option ℕ) (q : Option Queue) → IfSome group (IsBoundAt sort.Group before)
+            → task_in all s.deed ≡ option_map (λ x. record { job = x.job; args = args; priority = x.priority; cores = cores.0; detached = detached; group = group; queue = Some queue }) q
+            → IsPlainTask actions ends (option_map (λ x. record { job = x.job; args = args; priority = x.priority; cores = cores.0; detached = detached; group = group; queue = Some queue }) q) r
+            → front ≡ line (op.TaskEnqueue (record { 0 = handle_at bound queue }) args cores detached (option_map (group_at bound) group)) r 0 ∷ []
+            → Fits (members_in h hs front) (with_task actions (option_map (λ x. record { job = x.job; args = args; priority = x.priority; cores = cores.0; detached = detached; group = group; queue = Some queue }) q) faults place)
+        by_queue queue args cores detached group None o i w n = none_some w.1
+        by_queue queue args cores detached group (Some x) o i w n =
+            asked_fits (op.TaskEnqueue (record { 0 = handle_at bound queue }) args cores detached (option_map (group_at bound) group)) front r
+            (record { job = x.job; args = args; priority = x.priority; cores = cores.0; detached = detached; group = group; queue = Some queue }) w.0 (i ∙ w.1) (some_same w.1) w.2 w.3 w.4 o n refl
+
+        by : (d : Deed) → s.deed ≡ d → AllFit before (fields (word_for d)) (values d) → IfSome (place_used d) (λ v. IsBoundAt v.0 before v.1) → Made (call_of bound d) front r → IsPlainReply actions all ends faults d r → Fits (members_in h hs front) (faults_behind actions all faults d place)
+        by (deed.Start job args priority cores detached group) i o v n w =
+            asked_fits (op.TaskStart job args priority cores detached (option_map (group_at bound) group)) front r
+            (record { job = job; args = args; priority = priority; cores = cores.0; detached = detached; group = group; queue = None }) w.0 (ap (task_in all) i ∙ w.1) (some_same w.1) w.2 w.3 w.4 o.1.1.1.1.1.0 n.0 refl
+        by (deed.Enqueue queue args cores detached group) i o v n w = by_queue queue args cores detached group (queue_at all queue) o.1.1.1.1.0 (ap (task_in all) i) w n.0
+        by deed.Begin i o v n w = kept (call_of bound deed.Begin) front r n refl
+        by (deed.Action job kind cores) i o v n w = kept (call_of bound (deed.Action job kind cores)) front r n refl
+        by deed.Group i o v n w = kept (call_of bound deed.Group) front r n refl
+        by (deed.Queue id job priority limit ordered retain) i o v n w = kept (call_of bound (deed.Queue id job priority limit ordered retain)) front r n refl
+        by (deed.Wait p t) i o v n w = kept (call_of bound (deed.Wait p t)) front r n (λ last. refl)
+        by (deed.WaitAll g t) i o v n w = wait_fits g t front r v n
+        by _ i o v n w = absurd w
+
+  -- Statements
+
+  pub fits_along : (ss : List Statement) (ls : List Line) (rs : List Reply) → Carried Made [] ss ls rs → AreStatements [] ss → (rest : List Statement) → all ≡ ss ++ rest → handle_at (map handle_of rs) place ≡ h → ((other : ℕ) → BoundBy sort.Group ss other → handle_at (map handle_of rs) other ≡ h → other ≡ place)
+      → ArePlain actions all ends no_faults ss rs → Fits (members_in h [] ls) (faults_after actions all no_faults ss place)
+  fits_along ss ls rs c a rest within own only p =
+      along ss ls rs (λ b l r. Fits (members_in h [] l) (faults_after actions all no_faults b place))
+      (λ b l1 r1 s front r x i.
+      subst (λ (y : List ℕ). Fits y (faults_after actions all no_faults (b ++ s ∷ []) place)) (sym (members_append h [] l1 front))
+      (subst (λ (y : Faults). Fits (members_in h (members_in h [] l1) front) (y place)) (sym (after_both actions all no_faults b (s ∷ [])))
+      (statement_fits b (x.rest ++ rest) s (map handle_of r1) (within ∙ ap (λ (z : List Statement). z ++ rest) x.parted ∙ append_assoc b (s ∷ x.rest) rest)
+      (λ g o. let v = step_bound ss ls rs b l1 r1 s front r x sort.Group g o in
+      both_ways (handle_at (map handle_of r1) g == h) (place == g) (λ e. eq-eqb place g (sym (only g v.0 (v.1 ∙ eqb-true (handle_at (map handle_of r1) g) h e))))
+      (λ e. eq-eqb (handle_at (map handle_of r1) g) h (sym v.1 ∙ ap (handle_at (map handle_of rs)) (sym (eqb-true place g e)) ∙ own)))
+      (faults_after actions all no_faults b) (members_in h [] l1) i front r (step_statement ss ls rs b l1 r1 s front r x a) x.made
+      (plain_at actions all ends no_faults b s x.rest r1 r x.others x.many (subst (λ (z : List Statement). ArePlain actions all ends no_faults z (r1 ++ r ∷ x.others)) x.parted (subst (λ (z : List Reply). ArePlain actions all ends no_faults ss z) x.told p)))))) c (fit_none actions all F place)
+
+-- The wait for all of them
 
 -- The wait
 
@@ -50,138 +173,47 @@ module _ (layout : Layout) (load : Workload) (es : List NodeEntry) (ns : List �
   abbrev ends : ℕ → Option TaskEnd
   ends j = end_at (after terms es).tasks j
 
-  abbrev F : ℕ → Option MtapiStatus
-  F j = option_and_then fault_of (ends j)
+  abbrev fault_told : ℕ → Option MtapiStatus
+  fault_told j = option_and_then fault_of (ends j)
 
   abbrev h : ℕ
   h = handle_at (map handle_of r1) place
 
-  b : BoundBy sort.Group before place
-  b = bound_by sort.Group before place bound
-
-  here : Found before l1 r1 place b.statement
-  here = at_group before l1 r1 c1 g1 place b
-
-  abbrev made_line : Line
-  made_line = line op.GroupCreate (reply.Handle h) 0
-
-  lines_are : l1 ≡ here.first ++ made_line ∷ here.step.more
-  unfolding here
-  lines_are = here.step.is ∙ ap (λ (z : List Line). here.first ++ (z ++ here.step.more)) (group_front before l1 r1 c1 g1 place b)
-
-  -- the tasks that were put into the group, and the fault that the plain report tells
-
   module _ (X : List Line) (at1 : lines_of who es ns ≡ (start ++ l1) ++ X) (p1 : ArePlain actions all ends no_faults before r1) where
-    only : (other : ℕ) → BoundBy sort.Group before other → handle_at (map handle_of r1) other ≡ h → other ≡ place
-    only other y e = one_bound kinds.Group sort.Group binds_group before l1 r1 c1 g1 (part_once kinds.Group groups_list terms es ns u.legal who start l1 X at1) other place y b e
-
-    -- the statements before it don't use the group
-    first_unused : Each (λ l. uses h l.op ≡ false) here.first
-    first_unused =
-        statements_each (λ o. uses h o ≡ false) here.before here.first here.replies here.step.carried
-        (λ pre k1 q1 t front r z. made_each (λ o. uses h o ≡ false) (call_of (map handle_of q1) t.deed) front r
-        (uses_call h pre t (map handle_of q1) (step_statement here.before here.first here.replies pre k1 q1 t front r z (are_front [] here.before (b.statement ∷ here.step.rest) (subst (AreStatements []) here.step.parted are)))
-        (λ g o e. let v = step_bound here.before here.first here.replies pre k1 q1 t front r z sort.Group g o in early g v.0 (v.1 ∙ e))) z.made)
-      where
-        early : (g : ℕ) → BoundBy sort.Group here.before g → handle_at (map handle_of here.replies) g ≡ h → ⊥
-        early g y e =
-            let l : g < length here.before = y.early in
-            let n : length here.replies ≡ length here.before = here.step.many in
-            let m : length here.before ≡ place = here.early in
-            let same : g ≡ place =
-            only g (subst (λ (z : List Statement). BoundBy sort.Group z g) (sym here.step.parted) (bound_longer sort.Group here.before (b.statement ∷ here.step.rest) g y))
-            (ap (λ (z : List Reply). handle_at (map handle_of z) g) here.step.told ∙ handles_front here.replies (here.reply ∷ here.step.others) g (omega arith) ∙ e) in
-            absurd (omega arith)
-
-    fits : Fit actions all F place (members_in h [] here.step.more) (faults_after actions all no_faults before place)
-    fits =
-        subst (λ (x : List ℕ). Fit actions all F place x (faults_after actions all no_faults before place))
-        (ap (members_in h []) lines_are ∙ members_append h [] here.first (made_line ∷ here.step.more) ∙ ap (λ (x : List ℕ). members_in h x here.step.more) (unused_lines h [] here.first first_unused))
-        (fits_along actions all ends place h before l1 r1 c1 are more split refl only p1)
-
-    -- the look that decides
-
     module _ (n : ℕ) (r : Reply) (B : List Line) (at : lines_of who es ns ≡ (start ++ l1) ++ line (op.AllLook (record { 0 = h }) false) r n ∷ (B ++ finish)) where
-      abbrev look : Line
-      look = line (op.AllLook (record { 0 = h }) false) r n
-
-      abbrev e1 : NodeEntry
-      e1 = entry who (op.AllLook (record { 0 = h }) false) r
-
-      abbrev e0 : NodeEntry
-      e0 = entry who op.GroupCreate (reply.Handle h)
-
-      c : Cut who es ns (start ++ l1) look (B ++ finish)
-      c = cut who es ns (start ++ l1) look (B ++ finish) at
-
-      inner : lines_of who c.before c.first ≡ (start ++ here.first) ++ made_line ∷ here.step.more
-      inner = c.done ∙ ap (λ (z : List Line). start ++ z) lines_are ∙ sym (append_assoc start here.first (made_line ∷ here.step.more))
-
-      d : Cut who c.before c.first (start ++ here.first) made_line here.step.more
-      d = cut who c.before c.first (start ++ here.first) made_line here.step.more inner
-
-      legal : Legal terms (d.before ++ e0 ∷ (d.behind ++ e1 ∷ []))
-      legal = subst (Legal terms) (ap (λ (z : List NodeEntry). z ++ e1 ∷ []) d.is ∙ append_assoc d.before (e0 ∷ d.behind) (e1 ∷ [])) (legal_here layout load es ns u who (start ++ l1) look (B ++ finish) c)
-
-      quiet : AreQuiet (d.before ++ e0 ∷ d.behind)
-      quiet = subst AreQuiet d.is (quiet_before layout load es ns u who (start ++ l1) look (B ++ finish) c)
-
-      quiet_behind : AreQuiet d.behind
-      quiet_behind = (quiet_rest d.before (e0 ∷ d.behind) quiet).1
-
-      -- no other seat uses the group
-      mine : OnlyBy who (uses h) d.behind
-      mine =
-          (each_behind by_who d.before (e0 ∷ d.behind)
-          (subst (OnlyBy who (uses h)) d.is (each_front by_who c.before (e1 ∷ c.behind) (subst (OnlyBy who (uses h)) c.is (one_uses layout load es ns u who h (part_within kinds.Group es ns who start l1 X at1 h (bound_issued kinds.Group sort.Group binds_group before l1 r1 c1 g1 place b h refl))))))).1
-        where
-          by_who : NodeEntry → Type 0
-          by_who e = uses h e.op ≡ true → e.who ≡ who
-
-      same : length d.behind ≡ length d.rest
-      same = same_behind who c.before c.first (start ++ here.first) made_line here.step.more d c.same
-
-      members : members_of h [] d.behind ≡ members_in h [] here.step.more
-      members = members_lines who h [] d.behind d.rest same mine ∙ ap (members_in h []) d.left
-
-      unclosed : NoClose d.behind
-      unclosed =
-          let a : asks closes c.before ≡ 0 = f.unclosed l1 look B c in
-          let x : asks closes c.before ≡ asks closes (d.before ++ e0 ∷ d.behind) = ap (asks closes) d.is in
-          let y : asks closes (d.before ++ e0 ∷ d.behind) ≡ asks closes d.before + (0 + asks closes d.behind) = asks_append (λ e. closes e.op) d.before (e0 ∷ d.behind) in
-          no_close d.behind (omega arith)
-
-      lines_go : LinesGoOn h here.step.more
-      lines_go =
-          (each_behind (λ (l : Line). goes_on h l.op ≡ true) here.first (made_line ∷ here.step.more)
-          (subst (LinesGoOn h) lines_are
-          (statements_each (λ o. goes_on h o ≡ true) before l1 r1 c1
-          (λ pre k1 q1 t front r2 z. statement_goes h load.settings (known ++ actions_in pre) all pre (map handle_of q1) t.deed front r2 (deed_in load.settings known all before more split whole pre t z.rest z.parted) z.made)))).1
-
-      going : GoOn h d.behind
-      going = go_on who h d.behind d.rest same mine unclosed (subst (LinesGoOn h) (sym d.left) lines_go)
-
-      told : (r ≡ reply.Pending) ⊎ IsVerdict (after terms (d.before ++ e0 ∷ d.behind)) (members_of h [] d.behind) r
-      told = quiet_verdicts terms d.before d.behind who who (record { 0 = h }) r legal (quiet_front d.before (e0 ∷ d.behind) quiet) quiet_behind going
-
-      -- an end that is there by now stays
-      parted_here : es ≡ (d.before ++ e0 ∷ d.behind) ++ ((e1 ∷ c.behind) ++ [])
-      parted_here = c.is ∙ ap (λ (z : List NodeEntry). z ++ e1 ∷ c.behind) d.is ∙ ap (λ (z : List NodeEntry). (d.before ++ e0 ∷ d.behind) ++ z) (sym (append-nil (e1 ∷ c.behind)))
-
-      stays : (j : ℕ) (e : TaskEnd) → end_at (after terms (d.before ++ e0 ∷ d.behind)).tasks j ≡ Some e → ends j ≡ Some e
-      stays j e i =
-          ap (λ (L : List NodeEntry). end_at (after terms L).tasks j) (parted_here ∙ ap (λ (z : List NodeEntry). (d.before ++ e0 ∷ d.behind) ++ z) (append-nil (e1 ∷ c.behind)))
-          ∙ front_stays terms es (d.before ++ e0 ∷ d.behind) (e1 ∷ c.behind) [] j e u.legal parted_here i
-
       pub group_told : is_pending r ≡ false → r ≡ verdict (faults_after actions all no_faults before place)
-      group_told decides = by told
-        where
-          by : (r ≡ reply.Pending) ⊎ IsVerdict (after terms (d.before ++ e0 ∷ d.behind)) (members_of h [] d.behind) r → r ≡ verdict (faults_after actions all no_faults before place)
-          by (inl i) = true_false (ap is_pending i) decides
-          by (inr v) =
-              one_verdict F (after terms (d.before ++ e0 ∷ d.behind)) (members_of h [] d.behind) r (faults_after actions all no_faults before place) v
-              (λ j k. let x = v.ended j k in ap (option_and_then fault_of) (x.1 ∙ sym (stays j x.0 x.1)))
-              (subst (λ (x : List ℕ). Fit actions all F place x (faults_after actions all no_faults before place)) (sym members) fits).matches
-              (λ j k x y m o p q.
-              one_status place x y (faults_of actions all) one
-              (fits.among j x (subst (λ (z : List ℕ). has z j ≡ true) members m) p) (fits.among k y (subst (λ (z : List ℕ). has z k ≡ true) members o) q))
+      group_told decides =
+          let b : BoundBy sort.Group before place = bound_by sort.Group before place bound in
+          let here : Found before l1 r1 place b.statement = at_group before l1 r1 c1 g1 place b in
+          let made_line : Line = line op.GroupCreate (reply.Handle h) 0 in
+          let lines_are : l1 ≡ here.first ++ made_line ∷ here.step.more = here.step.is ∙ ap (λ (z : List Line). here.first ++ (z ++ here.step.more)) (group_front before l1 r1 c1 g1 place b) in
+          let only : (other : ℕ) → BoundBy sort.Group before other → handle_at (map handle_of r1) other ≡ h → other ≡ place = λ other y e. one_bound kinds.Group sort.Group binds_group groups_list terms es ns u.legal who start before l1 r1 X at1 c1 g1 other place y b e in
+          let early : (g : ℕ) → BoundBy sort.Group here.before g → handle_at (map handle_of here.replies) g ≡ h → ⊥ = λ g y e. let l : g < length here.before = y.early in let n : length here.replies ≡ length here.before = here.step.many in let m : length here.before ≡ place = here.early in let same : g ≡ place = only g (subst (λ (z : List Statement). BoundBy sort.Group z g) (sym here.step.parted) (bound_longer sort.Group here.before (b.statement ∷ here.step.rest) g y)) (ap (λ (z : List Reply). handle_at (map handle_of z) g) here.step.told ∙ handles_front here.replies (here.reply ∷ here.step.others) g (omega arith) ∙ e) in absurd (omega arith) in
+          let first_unused : Each (λ l. uses h l.op ≡ false) here.first = statements_each (λ o. uses h o ≡ false) here.before here.first here.replies here.step.carried (λ pre k1 q1 t front r z. made_each (λ o. uses h o ≡ false) (call_of (map handle_of q1) t.deed) front r (uses_call h pre t (map handle_of q1) (step_statement here.before here.first here.replies pre k1 q1 t front r z (are_front [] here.before (b.statement ∷ here.step.rest) (subst (AreStatements []) here.step.parted are))) (λ g o e. let v = step_bound here.before here.first here.replies pre k1 q1 t front r z sort.Group g o in early g v.0 (v.1 ∙ e))) z.made) in
+          let fits : Fit actions all fault_told place (members_in h [] here.step.more) (faults_after actions all no_faults before place) = subst (λ (x : List ℕ). Fit actions all fault_told place x (faults_after actions all no_faults before place)) (ap (members_in h []) lines_are ∙ members_append h [] here.first (made_line ∷ here.step.more) ∙ ap (λ (x : List ℕ). members_in h x here.step.more) (unused_lines h [] here.first first_unused)) (fits_along actions all ends place h before l1 r1 c1 are more split refl only p1) in
+          let look : Line = line (op.AllLook (record { 0 = h }) false) r n in
+          let e1 : NodeEntry = entry who (op.AllLook (record { 0 = h }) false) r in
+          let e0 : NodeEntry = entry who op.GroupCreate (reply.Handle h) in
+          let c : Cut who es ns (start ++ l1) look (B ++ finish) = cut who es ns (start ++ l1) look (B ++ finish) at in
+          let inner : lines_of who c.before c.first ≡ (start ++ here.first) ++ made_line ∷ here.step.more = c.done ∙ ap (λ (z : List Line). start ++ z) lines_are ∙ sym (append_assoc start here.first (made_line ∷ here.step.more)) in
+          let d : Cut who c.before c.first (start ++ here.first) made_line here.step.more = cut who c.before c.first (start ++ here.first) made_line here.step.more inner in
+          let legal : Legal terms (d.before ++ e0 ∷ (d.behind ++ e1 ∷ [])) = subst (Legal terms) (ap (λ (z : List NodeEntry). z ++ e1 ∷ []) d.is ∙ append_assoc d.before (e0 ∷ d.behind) (e1 ∷ [])) (legal_here layout load es ns u who (start ++ l1) look (B ++ finish) c) in
+          let quiet : AreQuiet (d.before ++ e0 ∷ d.behind) = subst AreQuiet d.is (quiet_before layout load es ns u who (start ++ l1) look (B ++ finish) c) in
+          let quiet_behind : AreQuiet d.behind = (quiet_rest d.before (e0 ∷ d.behind) quiet).1 in
+          let by_who : NodeEntry → Type 0 = λ e. uses h e.op ≡ true → e.who ≡ who in
+          let mine : OnlyBy who (uses h) d.behind = (each_behind by_who d.before (e0 ∷ d.behind) (subst (OnlyBy who (uses h)) d.is (each_front by_who c.before (e1 ∷ c.behind) (subst (OnlyBy who (uses h)) c.is (one_uses layout load es ns u who h (gave_in kinds.Group h (lines_of who es ns) start l1 X at1 (bound_gave kinds.Group sort.Group binds_group before l1 r1 c1 g1 place b h refl))))))).1 in
+          let same : length d.behind ≡ length d.rest = d.alike c.same in
+          let members : members_of h [] d.behind ≡ members_in h [] here.step.more = members_lines who h [] d.behind d.rest same mine ∙ ap (members_in h []) d.left in
+          let unclosed : NoClose d.behind = let a : asks closes c.before ≡ 0 = f.unclosed l1 look B c in let x : asks closes c.before ≡ asks closes d.before + (0 + asks closes d.behind) = ap (asks closes) d.is ∙ many_append (λ e. closes e.op) d.before (e0 ∷ d.behind) in no_close d.behind (omega arith) in
+          let is_one : NodeEntry → Type 0 = λ e. is_planned actions e.op ≡ true in
+          let going : GoOn h d.behind = go_on actions h d.behind (each_behind is_one d.before (e0 ∷ d.behind) (subst (ArePlanned actions) d.is (each_front is_one c.before (e1 ∷ c.behind) (subst (ArePlanned actions) c.is (planned layout load es ns u))))).1 unclosed in
+          let told : (r ≡ reply.Pending) ⊎ IsVerdict (after terms (d.before ++ e0 ∷ d.behind)) (members_of h [] d.behind) r = quiet_verdicts terms d.before d.behind who who (record { 0 = h }) r legal (quiet_front d.before (e0 ∷ d.behind) quiet) quiet_behind going in
+          let parted_here : es ≡ (d.before ++ e0 ∷ d.behind) ++ ((e1 ∷ c.behind) ++ []) = c.is ∙ ap (λ (z : List NodeEntry). z ++ e1 ∷ c.behind) d.is ∙ ap (λ (z : List NodeEntry). (d.before ++ e0 ∷ d.behind) ++ z) (sym (append-nil (e1 ∷ c.behind))) in
+          let stays : (j : ℕ) (e : TaskEnd) → end_at (after terms (d.before ++ e0 ∷ d.behind)).tasks j ≡ Some e → ends j ≡ Some e = λ j e i. ap (λ (L : List NodeEntry). end_at (after terms L).tasks j) (parted_here ∙ ap (λ (z : List NodeEntry). (d.before ++ e0 ∷ d.behind) ++ z) (append-nil (e1 ∷ c.behind))) ∙ front_stays terms es (d.before ++ e0 ∷ d.behind) (e1 ∷ c.behind) [] j e u.legal parted_here i in
+          elim told as (λ z. r ≡ verdict (faults_after actions all no_faults before place)) [
+            | inl i ↦ true_false (ap is_pending i) decides
+            | inr v ↦ one_verdict fault_told (after terms (d.before ++ e0 ∷ d.behind)) (members_of h [] d.behind) r (faults_after actions all no_faults before place) v
+                (λ j k. let x = v.ended j k in ap (option_and_then fault_of) (x.1 ∙ sym (stays j x.0 x.1)))
+                (subst (λ (x : List ℕ). Fit actions all fault_told place x (faults_after actions all no_faults before place)) (sym members) fits).matches
+                (λ j k x y m o p q. one_status place x y (faults_of actions all) one (fits.among j x (subst (λ (z : List ℕ). has z j ≡ true) members m) p) (fits.among k y (subst (λ (z : List ℕ). has z k ≡ true) members o) q))
+          ]

@@ -1,5 +1,5 @@
 -- In a quiet history a task that its own caller alone looks at stays until it has ended and told its end.
-use Rattle.settled_runs.proofs.Names.{◌≡◌, ◌⊎◌, inl, inr, ℕ, Bool, true, false, List, [], ◌∷◌, ◌++◌, Option, Some, None, refl, sym, ◌∙◌, ap, subst, arith, ◌==◌, ◌&&◌, ◌||◌, not, is_none, is_some, eq-eqb, nat_tests, holds, TaskEnd, Failed, GroupHandle, entry, Listed, live_object, with_fields, gone, Task, NewTask, TaskState, Scheduled, Running, Ended, is_unstarted, new_task, with_state, with_notes, with_waiter, ended, is_member, freed, let_go, Op, Reply, Phase, New, Open, Closing, Closed, State, opening, is_open, is_up, tasks, Move, starts_task, runs_task, ends_task, ends_waiting, withdraws, notes, leaves, frees_members, lets_members_go, makes, alters, removes, is_fresh, apply, after_moves, Row, unless, gives, Allows, live, after_row, asked_for, asked_of, number_of, NodeEntry, IsNext, next, after, IsMade, NotesTask, TakesEnded, some_same, Legal-front, Legal-rest, AllGives, given, on_only, on_live, fst_true, by_moves, sorts_keep, granted, refuses_only, refuses_live, no_handle, true_false, at_issue_here, FoundAs, found_changed, found_issued, found_ends, found_all, cut_from, cut_after, fresh_unlisted, issued_as, is_quiet, AreQuiet, starts_alone, looks_at, AreLeft, QuietLooksAreAnswered, IsCalm, calm_next, calm_along, calm_opening, none_impure, row, LegalFrom, after_from}
+use Rattle.settled_runs.proofs.Names.{◌≡◌, ◌⊎◌, inl, inr, ℕ, Bool, true, false, List, [], ◌∷◌, ◌++◌, Option, Some, None, refl, sym, ap, subst, arith, ◌==◌, ◌&&◌, ◌||◌, not, is_none, is_some, eq-eqb, nat_tests, holds, TaskEnd, Failed, GroupHandle, entry, Listed, live_object, with_fields, gone, Task, NewTask, TaskState, Scheduled, Running, Ended, is_unstarted, new_task, with_state, with_notes, with_waiter, ended, is_member, freed, Op, Reply, Phase, New, Open, Closing, Closed, State, opening, is_open, is_up, tasks, Move, starts_task, runs_task, ends_task, ends_waiting, withdraws, notes, leaves, frees_members, lets_members_go, makes, alters, removes, is_fresh, apply, after_moves, Row, unless, gives, Allows, live, after_row, asked_for, asked_of, number_of, NodeEntry, IsNext, next, after, IsMade, NotesTask, TakesEnded, some_same, Legal-front, Legal-rest, AllGives, given, on_only, on_live, fst_true, by_moves, sorts_keep, granted, refuses_only, refuses_live, no_handle, true_false, at_issue_here, FoundAs, found_changed, found_issued, found_ends, found_all, cut_from, cut_after, fresh_unlisted, is_quiet, AreQuiet, starts_alone, looks_at, AreLeft, QuietLooksAreAnswered, IsCalm, calm_next, calm_along, calm_opening, none_impure, row, LegalFrom, after_from, DeletesGroup, FreesMembers, Notes}
 use Rattle.mtapi_values.specs.Seats.{is_other}
 use Rattle.mtapi_values.specs.declared.kinds.Kind.TheVariants as kind
 use Rattle.mtapi_values.specs.declared.handles.ObjectKind.TheVariants as kinds
@@ -7,18 +7,17 @@ use Rattle.mtapi_values.specs.declared.statuses.MtapiStatus.TheVariants as m
 use Rattle.mtapi_machine.specs.declared.ops.Op.TheVariants as op
 use Rattle.mtapi_machine.specs.declared.replies.Reply.TheVariants as reply
 use Rattle.mtapi_machine.specs.TaskRows.{looks_at as looks_row}
-use Rattle.history_law.specs.Words.{makes as makes_object}
 use Rattle.settled_runs.proofs.Stays.{quiet_rest, quiet_front}
 use Rattle.settled_runs.proofs.Granted.{before, is_up as open_now, allowed}
 
--- the task is neither detached nor in a group, and no other seat waits for it
-pub record IsOwn (who : ℕ) (t : Task) : Type 0 where
-  pub kept : t.notes.detached ≡ false
-  pub alone : t.notes.group ≡ None
-  pub waiter : is_other who t.notes.waiter ≡ false
+-- what is noted of a task that is neither detached nor in a group, and that no other seat waits for
+pub record IsOwn (who : ℕ) (n : Notes) : Type 0 where
+  pub kept : n.detached ≡ false
+  pub alone : n.group ≡ None
+  pub waiter : is_other who n.waiter ≡ false
 
 abbrev Own : ℕ → ℕ → State → Type 0
-Own who h s = FoundAs (IsOwn who) s.tasks h
+Own who h s = FoundAs (λ t. IsOwn who t.notes) s.tasks h
 
 -- The entry that starts it
 
@@ -33,28 +32,19 @@ new_own who h n s b e = (new_task n s.starts, at_issue_here h (new_task n s.star
 abbrev Starts : ℕ → ℕ → Op → State → Type 0
 Starts who h o t = starts_alone o ≡ true → Own who h t
 
-start_own : (who : ℕ) (s : State) (w : ℕ) (o : Op) (h : ℕ) → makes_object kinds.Task o ≡ true → Allows (row s w o (reply.Handle h)) (reply.Handle h) → Starts who h o (after_row s (row s w o (reply.Handle h)))
-start_own who s w (op.TaskStart job args priority cores detached group) h e a =
+started_own : (who h : ℕ) (s : State) (w : ℕ) (o : Op) → IsNext s (entry w o (reply.Handle h)) → Starts who h o (next s (entry w o (reply.Handle h)))
+started_own who h s w (op.TaskStart job args priority cores detached group) n =
     granted (λ ms. Starts who h (op.TaskStart job args priority cores detached group) (after_moves ms s)) (row s w (op.TaskStart job args priority cores detached group) (reply.Handle h)) h
     (refl, (refl, (refl, (refl, (refl, (refl, (refl, refuses_only _ _ _)))))))
     (λ c0 c1 c2 c3 c4 c5 c6. on_only (λ x ms. reply.Handle h ≡ x → Starts who h (op.TaskStart job args priority cores detached group) (after_moves ms s)) (is_fresh tasks s h) (reply.Handle h) (starts_task h (asked_for job args priority cores detached group) ∷ [])
-    (λ f i b. new_own who h (asked_for job args priority cores detached group) s (started_alone detached group b) f)) a
-start_own who s w (op.TaskEnqueue q args cores detached group) h e a =
+    (λ f i b. new_own who h (asked_for job args priority cores detached group) s (started_alone detached group b) f)) n.allowed
+started_own who h s w (op.TaskEnqueue q args cores detached group) n =
     granted (λ ms. Starts who h (op.TaskEnqueue q args cores detached group) (after_moves ms s)) (row s w (op.TaskEnqueue q args cores detached group) (reply.Handle h)) h
     (refl, (refl, refuses_live (live_object s.queues q.0) _ _ tt (λ x. (refl, (refl, (refl, (refl, (refl, (refl, (refl, refuses_only _ _ _))))))))))
     (λ c d. on_live (λ x ms. reply.Handle h ≡ x → Starts who h (op.TaskEnqueue q args cores detached group) (after_moves ms s)) (live_object s.queues q.0) _ _ (λ i. absurd (no_handle h (reply.Mtapi m.ErrQueueInvalid) refl i))
     (λ x f c0 c1 c2 c3 c4 c5 c6. on_only (λ y ms. reply.Handle h ≡ y → Starts who h (op.TaskEnqueue q args cores detached group) (after_moves ms s)) (is_fresh tasks s h) (reply.Handle h) (starts_task h (asked_of q.0 x args cores detached group) ∷ [])
-    (λ k i b. new_own who h (asked_of q.0 x args cores detached group) s (started_alone detached group b) k))) a
-start_own who s w _ h e a = true_false e refl
-
-alone_task : (o : Op) → starts_alone o ≡ true → makes_object kinds.Task o ≡ true
-alone_task (op.TaskStart job args priority cores detached group) e = refl
-alone_task (op.TaskEnqueue q args cores detached group) e = refl
-alone_task _ e = true_false e refl
-
-started_own : (who h : ℕ) (s : State) (w : ℕ) (o : Op) → IsNext s (entry w o (reply.Handle h)) → starts_alone o ≡ true → Own who h (next s (entry w o (reply.Handle h)))
-started_own who h s w o n a =
-    issued_as kinds.Task h s (λ p t. Starts who h p t) (λ v p. start_own who s v p h) (entry w o (reply.Handle h)) n ((λ i. alone_task o a i && eq-eqb h h refl i)) a
+    (λ k i b. new_own who h (asked_of q.0 x args cores detached group) s (started_alone detached group b) k))) n.allowed
+started_own who h s w _ n = λ a. true_false a refl
 
 -- The entries behind it
 
@@ -82,34 +72,35 @@ taking j (op.TaskLook t last) q e = refl
 taking j (op.AnyLook g last) q e = true_false q refl
 taking j _ q e = absurd e
 
-no_member : (g : ℕ) (t : Task) → t.notes.group ≡ None → is_member g t ≡ false
-no_member g t e = ap (holds (λ h. h == g)) e
+pub no_deletion : (j : ℕ) (o : Op) → is_quiet o ≡ true → DeletesGroup j o → ⊥
+no_deletion j (op.GroupDelete x) q b = true_false q refl
+no_deletion j _ q b = b
 
-over : (who : ℕ) (t : Task) (e : TaskEnd) (n : ℕ) (r : Listed Task) → IsOwn who t → r.live ≡ true → r.fields ≡ t → ((ended e n r).live ≡ true) × IsOwn who (ended e n r).fields
-over who t e n r i a s = ((λ j. a j && not ((ap (λ (u : Task). u.notes.detached) s ∙ i.kept) j)), as_it_is)
+-- what is noted of a task that isn't detached stays, where the op notes nothing and doesn't free it
+pub notes_stay : (N : Notes → Type 0) → ((n : Notes) → N n → n.detached ≡ false) → (h : ℕ) (o : Op) → is_quiet o ≡ true → notes_tasks o ≡ false → ((j : ℕ) (t : Task) → FreesMembers j o → N t.notes → is_member j t ≡ true → ⊥)
+    → (s : State) (x : Move) → IsMade s o x → FoundAs (λ t. N t.notes) s.tasks h → FoundAs (λ t. N t.notes) (apply x s).tasks h
+notes_stay N kept h o q n free s x e v = by x e
   where
-    own : IsOwn who r.fields
-    own = subst (IsOwn who) (sym s) i
+    F : Task → Type 0
+    F t = N t.notes
 
-    as_it_is : IsOwn who (ended e n r).fields
-    as_it_is = record { kept = own.kept; alone = own.alone; waiter = own.waiter }
+    over : (y : TaskEnd) (k : ℕ) (r : Listed Task) → r.live ≡ true → r.fields ≡ v.0 → ((ended y k r).live ≡ true) × F (ended y k r).fields
+    over y k r a f = let own : F r.fields = subst F (sym f) v.2 in ((λ j. a j && not (kept r.fields.notes own j)), own)
 
-own_move : (who h : ℕ) (o : Op) → is_quiet o ≡ true → notes_tasks o ≡ false → (s : State) (x : Move) → IsMade s o x → Own who h s → Own who h (apply x s)
-own_move who h o q n s (starts_task j t) e v = found_issued (IsOwn who) j h _ s.tasks v.0 v.1 v.2
-own_move who h o q n s (runs_task j w k) e v =
-    found_changed (IsOwn who) j h (with_fields (with_state (Running w k))) (λ r. refl) s.tasks v.0 v.1 v.2
-    (λ r i a f. (a, (let u : IsOwn who r.fields = subst (IsOwn who) (sym f) v.2 in record { kept = u.kept; alone = u.alone; waiter = u.waiter })))
-own_move who h o q n s (ends_task j y) e v = found_changed (IsOwn who) j h (ended y s.ends) (λ r. refl) s.tasks v.0 v.1 v.2 (λ r i a f. over who v.0 y s.ends r v.2 a f)
-own_move who h o q n s (ends_waiting p y) e v = found_ends (IsOwn who) (λ t. is_unstarted t && p t) y s.ends h s.tasks v.0 v.1 v.2 (λ r k a f d. over who v.0 y k r v.2 a f)
-own_move who h o q n s (withdraws j f c) e v = found_ends (IsOwn who) _ (Failed c) s.ends h s.tasks v.0 v.1 v.2 (λ r k a i d. over who v.0 (Failed c) k r v.2 a i)
-own_move who h o q n s (notes j f) e v = true_false (noting j o q e.by) n
-own_move who h o q n s (leaves j) e v = true_false (taking j o q e.by) n
-own_move who h o q n s (frees_members g) e v = found_all (IsOwn who) _ freed h (λ r. refl) s.tasks v.0 v.1 v.2 (λ r a i d. true_false (fst_true (is_member g v.0) _ d) (no_member g v.0 v.2.alone))
-own_move who h o q n s (lets_members_go g) e v = found_all (IsOwn who) _ let_go h (λ r. refl) s.tasks v.0 v.1 v.2 (λ r a i d. true_false d (no_member g v.0 v.2.alone))
-own_move who h o q n s (makes k j y) e v = sorts_keep (Own who h) (λ t g u c d r z p. p) k _ s v
-own_move who h o q n s (alters k j f) e v = sorts_keep (Own who h) (λ t g u c d r z p. p) k _ s v
-own_move who h o q n s (removes k j) e v = sorts_keep (Own who h) (λ t g u c d r z p. p) k _ s v
-own_move who h o q n s _ e v = v
+    by : (x : Move) → IsMade s o x → FoundAs F (apply x s).tasks h
+    by (starts_task j t) e = found_issued F j h _ s.tasks v.0 v.1 v.2
+    by (runs_task j w k) e = found_changed F j h (with_fields (with_state (Running w k))) (λ r. refl) s.tasks v.0 v.1 v.2 (λ r i a f. (a, subst F (sym f) v.2))
+    by (ends_task j y) e = found_changed F j h (ended y s.ends) (λ r. refl) s.tasks v.0 v.1 v.2 (λ r i a f. over y s.ends r a f)
+    by (ends_waiting p y) e = found_ends F (λ t. is_unstarted t && p t) y s.ends h s.tasks v.0 v.1 v.2 (λ r k a f d. over y k r a f)
+    by (withdraws j f c) e = found_ends F _ (Failed c) s.ends h s.tasks v.0 v.1 v.2 (λ r k a i d. over (Failed c) k r a i)
+    by (notes j f) e = true_false (noting j o q e.by) n
+    by (leaves j) e = true_false (taking j o q e.by) n
+    by (frees_members g) e = found_all F _ freed h (λ r. refl) s.tasks v.0 v.1 v.2 (λ r a i d. absurd (free g v.0 e.by v.2 (fst_true (is_member g v.0) _ d)))
+    by (lets_members_go g) e = absurd (no_deletion g o q e.by)
+    by (makes k j y) e = sorts_keep (λ t. FoundAs F t.tasks h) (λ t g u c d r z p. p) k _ s v
+    by (alters k j f) e = sorts_keep (λ t. FoundAs F t.tasks h) (λ t g u c d r z p. p) k _ s v
+    by (removes k j) e = sorts_keep (λ t. FoundAs F t.tasks h) (λ t g u c d r z p. p) k _ s v
+    by _ e = v
 
 -- a look, by its reply
 abbrev Looks : ℕ → ℕ → State → ℕ → ℕ → Reply → List Move → Type 0
@@ -123,15 +114,15 @@ no_other who w e = subst (λ (x : ℕ). is_other who (Some x) ≡ false) (sym e)
 
 waits : (who h : ℕ) (s : State) (w t : ℕ) (r : Reply) (x : Option ℕ) → Own who h s → ((w ≡ who) → is_other who x ≡ false) → Looks who h s w t r (notes t (with_waiter x) ∷ [])
 waits who h s w t r x v f k =
-    found_changed (IsOwn who) t h (with_fields (with_notes (with_waiter x))) (λ r. refl) s.tasks v.0 v.1 v.2
-    (λ q i a d. (a, (let u : IsOwn who q.fields = subst (IsOwn who) (sym d) v.2 in record { kept = u.kept; alone = u.alone; waiter = f (k (eq-eqb t h i)).0 })))
+    found_changed (λ z. IsOwn who z.notes) t h (with_fields (with_notes (with_waiter x))) (λ r. refl) s.tasks v.0 v.1 v.2
+    (λ q i a d. (a, (let u : IsOwn who q.fields.notes = subst (λ (z : Task). IsOwn who z.notes) (sym d) v.2 in record { kept = u.kept; alone = u.alone; waiter = f (k (eq-eqb t h i)).0 })))
 
 on_looks : (who h : ℕ) (s : State) (w t : ℕ) (last : Bool) (x : TaskState) → Own who h s → AllGives (Looks who h s w t) (looks_row w t last x)
 on_looks who h s w t true Scheduled v = waits who h s w t (reply.Mtapi m.Timeout) None v (λ e. refl)
 on_looks who h s w t false Scheduled v = waits who h s w t reply.Pending (Some w) v (no_other who w)
 on_looks who h s w t true (Running y k) v = waits who h s w t (reply.Mtapi m.Timeout) None v (λ e. refl)
 on_looks who h s w t false (Running y k) v = waits who h s w t reply.Pending (Some w) v (no_other who w)
-on_looks who h s w t last (Ended y n) v = λ k. found_changed (IsOwn who) t h gone (λ r. refl) s.tasks v.0 v.1 v.2 (λ r i a f. absurd (not_pending y (k (eq-eqb t h i)).1))
+on_looks who h s w t last (Ended y n) v = λ k. found_changed (λ z. IsOwn who z.notes) t h gone (λ r. refl) s.tasks v.0 v.1 v.2 (λ r i a f. absurd (not_pending y (k (eq-eqb t h i)).1))
 
 abbrev Keeps : ℕ → ℕ → State → Reply → List Move → Type 0
 Keeps who h s r ms = Own who h (after_moves ms s)
@@ -155,7 +146,7 @@ own_next who h s e i q c k v = by_notes (notes_tasks e.op) refl
   where
     by_notes : (b : Bool) → notes_tasks e.op ≡ b → Own who h (next s e)
     by_notes true n = noted who h s e.who e.op e.reply c n k i.allowed v
-    by_notes false n = by_moves (Own who h) s e (λ t x y u. own_move who h e.op q n t x y u) v
+    by_notes false n = by_moves (Own who h) s e (λ t x y u. notes_stay (IsOwn who) (λ m k. k.kept) h e.op q n (λ j m b k d. true_false d (ap (holds (λ i. i == j)) k.alone)) t x y u) v
 
 own_along : (who h : ℕ) (s : State) (L : List NodeEntry) → LegalFrom s L → AreQuiet L → IsCalm s → AreLeft who h L → Own who h s → Own who h (after_from s L)
 unfolding LegalFrom after_from
@@ -188,41 +179,16 @@ told w h (Running v k) r a = inl a
 told w h (Ended e n) r a = inr (e, a)
 
 pub quiet_looks_are_answered : QuietLooksAreAnswered
-quiet_looks_are_answered terms L who t r x y = told who t.0 own.0.state r looked
-  where
-    o : Op
-    o = op.TaskLook t false
-
-    s : State
-    s = after terms L
-
-    L0 : LegalFrom (opening terms) (y.before ++ entry y.starter y.op (reply.Handle t.0) ∷ y.behind)
-    L0 = subst (LegalFrom (opening terms)) y.is (before terms L who o r x).from
-
-    first : State
-    first = after_from (opening terms) y.before
-
-    quiet : AreQuiet (y.before ++ entry y.starter y.op (reply.Handle t.0) ∷ y.behind)
-    quiet = subst AreQuiet y.is x.quiet
-
-    behind : AreQuiet (entry y.starter y.op (reply.Handle t.0) ∷ y.behind)
-    behind = quiet_rest y.before (entry y.starter y.op (reply.Handle t.0) ∷ y.behind) quiet
-
-    step : IsNext first (entry y.starter y.op (reply.Handle t.0))
-    step = cut_from (opening terms) y.before y.behind (entry y.starter y.op (reply.Handle t.0)) L0
-
-    calm : IsCalm (next first (entry y.starter y.op (reply.Handle t.0)))
-    calm = calm_next first (entry y.starter y.op (reply.Handle t.0)) step behind.0 (calm_along (opening terms) y.before (Legal-front (opening terms) y.before _ L0) (quiet_front y.before _ quiet) (calm_opening terms))
-
-    there : Own who t.0 (after_from (next first (entry y.starter y.op (reply.Handle t.0))) y.behind)
-    there = own_along who t.0 _ y.behind (legal_behind (opening terms) y.before (entry y.starter y.op (reply.Handle t.0)) y.behind L0) behind.1 calm y.left (started_own who t.0 first y.starter y.op step y.alone)
-
-    own : Own who t.0 s
-    own = subst (λ (M : List NodeEntry). Own who t.0 (after terms M)) (sym y.is) (subst (Own who t.0) (sym (cut_after (opening terms) y.before y.behind (entry y.starter y.op (reply.Handle t.0)))) there)
-
-    looked : Allows (looks_row who t.0 false own.0.state) r
-    looked =
-        passed (is_other who own.0.notes.waiter) (reply.Mtapi m.ErrWaitPending) (looks_row who t.0 false own.0.state) r own.2.waiter
-        (passed (own.0.notes.detached || is_some own.0.notes.group) (reply.Mtapi m.ErrParameter) (unless (is_other who own.0.notes.waiter) (reply.Mtapi m.ErrWaitPending) (looks_row who t.0 false own.0.state)) r (λ i. own.2.kept i || is_some (own.2.alone i))
-        (found_live (live_object s.tasks t.0) own.0 (gives tasks.invalid []) (λ z. unless (z.notes.detached || is_some z.notes.group) (reply.Mtapi m.ErrParameter) (unless (is_other who z.notes.waiter) (reply.Mtapi m.ErrWaitPending) (looks_row who t.0 false z.state))) r own.1
-        (passed (not (is_up s.phase)) (reply.Mtapi m.ErrNodeNotinit) (live (live_object s.tasks t.0) (gives tasks.invalid []) (λ z. unless (z.notes.detached || is_some z.notes.group) (reply.Mtapi m.ErrParameter) (unless (is_other who z.notes.waiter) (reply.Mtapi m.ErrWaitPending) (looks_row who t.0 false z.state)))) r (open_up s.phase (open_now terms L who o r x)) (allowed terms L who o r x))))
+quiet_looks_are_answered terms L who t r x y =
+    let o : Op = op.TaskLook t false in
+    let s : State = after terms L in
+    let L0 : LegalFrom (opening terms) (y.before ++ entry y.starter y.op (reply.Handle t.0) ∷ y.behind) = subst (LegalFrom (opening terms)) y.is (before terms L who o r x).from in
+    let first : State = after_from (opening terms) y.before in
+    let quiet : AreQuiet (y.before ++ entry y.starter y.op (reply.Handle t.0) ∷ y.behind) = subst AreQuiet y.is x.quiet in
+    let behind : AreQuiet (entry y.starter y.op (reply.Handle t.0) ∷ y.behind) = quiet_rest y.before (entry y.starter y.op (reply.Handle t.0) ∷ y.behind) quiet in
+    let step : IsNext first (entry y.starter y.op (reply.Handle t.0)) = cut_from (opening terms) y.before y.behind (entry y.starter y.op (reply.Handle t.0)) L0 in
+    let calm : IsCalm (next first (entry y.starter y.op (reply.Handle t.0))) = calm_next first (entry y.starter y.op (reply.Handle t.0)) step behind.0 (calm_along (opening terms) y.before (Legal-front (opening terms) y.before _ L0) (quiet_front y.before _ quiet) (calm_opening terms)) in
+    let there : Own who t.0 (after_from (next first (entry y.starter y.op (reply.Handle t.0))) y.behind) = own_along who t.0 _ y.behind (legal_behind (opening terms) y.before (entry y.starter y.op (reply.Handle t.0)) y.behind L0) behind.1 calm y.left (started_own who t.0 first y.starter y.op step y.alone) in
+    let own : Own who t.0 s = subst (λ (M : List NodeEntry). Own who t.0 (after terms M)) (sym y.is) (subst (Own who t.0) (sym (cut_after (opening terms) y.before y.behind (entry y.starter y.op (reply.Handle t.0)))) there) in
+    let looked : Allows (looks_row who t.0 false own.0.state) r = passed (is_other who own.0.notes.waiter) (reply.Mtapi m.ErrWaitPending) (looks_row who t.0 false own.0.state) r own.2.waiter (passed (own.0.notes.detached || is_some own.0.notes.group) (reply.Mtapi m.ErrParameter) (unless (is_other who own.0.notes.waiter) (reply.Mtapi m.ErrWaitPending) (looks_row who t.0 false own.0.state)) r (λ i. own.2.kept i || is_some (own.2.alone i)) (found_live (live_object s.tasks t.0) own.0 (gives tasks.invalid []) (λ z. unless (z.notes.detached || is_some z.notes.group) (reply.Mtapi m.ErrParameter) (unless (is_other who z.notes.waiter) (reply.Mtapi m.ErrWaitPending) (looks_row who t.0 false z.state))) r own.1 (passed (not (is_up s.phase)) (reply.Mtapi m.ErrNodeNotinit) (live (live_object s.tasks t.0) (gives tasks.invalid []) (λ z. unless (z.notes.detached || is_some z.notes.group) (reply.Mtapi m.ErrParameter) (unless (is_other who z.notes.waiter) (reply.Mtapi m.ErrWaitPending) (looks_row who t.0 false z.state)))) r (open_up s.phase (open_now terms L who o r x)) (allowed terms L who o r x)))) in
+    told who t.0 own.0.state r looked

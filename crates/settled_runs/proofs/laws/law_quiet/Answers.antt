@@ -1,5 +1,5 @@
 use Rattle.settled_runs.proofs.Verdicts.{quiet_verdicts}
-use Rattle.settled_runs.proofs.Queued.{quiet_calls_are_granted}
+use Rattle.settled_runs.proofs.Granted.{quiet_calls_are_granted}
 use Rattle.settled_runs.proofs.Stays.{made_objects_stay}
 use Rattle.settled_runs.proofs.Waits.{quiet_looks_are_answered}
 use Rattle.settled_runs.proofs.laws.law_quiet.Goals as goal

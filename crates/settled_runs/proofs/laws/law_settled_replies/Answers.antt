@@ -1,4 +1,4 @@
-use Rattle.settled_runs.proofs.RunReplies.{settled_replies_are_plain}
+use Rattle.settled_runs.proofs.ReplyWalk.{settled_replies_are_plain}
 use Rattle.settled_runs.proofs.laws.law_settled_replies.Goals as goal
 
 pub returns : goal.returns

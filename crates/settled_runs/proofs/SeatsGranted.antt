@@ -1,0 +1,288 @@
+-- In a run of a settled workload main and each further caller are given what they ask for.
+use Rattle.settled_runs.proofs.Names.{Each, ◌≡◌, inr, ℕ, ◌≤◌, Bool, true, false, List, ◌∷◌, ◌++◌, Option, Some, None, refl, ◌∙◌, subst, arith, ◌==◌, slice_get, option_and_then, option_map, list_all, NodeSettings, Layout, Action, Queue, Deed, Statement, Part, Workload, IsPart, NodeEntry, fst_true, handle_at, call_of, head_of, tail_of_main, true_false, puts, actions_in, queue_in, queue_at, is_startable, set_up, are_settled_parts, AllGranted, SettledRun, has_begin, task_in, is_settled_deed, keep_limits, [], sym, append-nil, none_some, inl, suc, ◌<◌, cond, length, ap, append_assoc, ◌||◌, not, map, list_any, flat_map, entry, begins, Reply, handle_of, Legal, snd_true, not_true, Line, line, Made, in_lines, is_release, is_released, run_terms, IsOpened, action_in, all_statements, sets_up, is_settled_part, is_settled_further, PartsGranted, SettledStatementsAreGranted, is_begin, lines_of, Carried, CallersRan, sets_up_first, eq-eqb, or_left, or_right, some_entry, Op, cond_both, or_parts}
+use Rattle.settled_runs.proofs.Granted.{bit}
+use Rattle.settled_runs.proofs.Counted.{CallAsks, calls_none}
+use Rattle.settled_runs.proofs.Opened.{main_unclosed, first_head, is_opened, first_of, only_main, all_at, legal_before, further_unclosed, begin_none, release_calls, releases_main}
+use Rattle.settled_runs.proofs.Each.{settled_whole, OnlyBy, PartAt, Parts, main_at, parts_are, work_outside, actions_append, AllSeats, Within, caller_at, made_each, map_seats, statements_each, within_behind, within_front, each_front}
+use Rattle.settled_runs.proofs.Walk.{puts_outside, sets_all, Seat, seat_granted, MadeAction, Finds}
+use Rattle.history_law.proofs.Behind.{enter_behind}
+use Rattle.settled_runs.proofs.Along.{same_head, same_tail, Cut, cut, cut_split, deed_in, Found, get_at, same_front, step_granted, found}
+use Rattle.settled_runs.specs.Granted.{Made as MadeBy}
+use Rattle.settled_runs.proofs.Places.{Has, has_more, HasAction, action_map, action_has}
+use Rattle.workload_file.specs.declared.workload.Deed.TheVariants as deed
+use Rattle.mtapi_machine.specs.declared.ops.Op.TheVariants as op
+use Rattle.mtapi_machine.specs.declared.replies.Reply.TheVariants as reply
+
+-- Main
+
+-- Further callers put no task into a queue
+
+abbrev is_put : Deed → Bool
+is_put (deed.Enqueue queue args cores detached group) = true
+is_put _ = false
+
+most : (b : Bool) → bit b ≤ 1
+most true = omega arith
+most false = omega arith
+
+puts_calls : (h : ℕ) (bound : List ℕ) (d : Deed) → CallAsks (puts h) (bit (is_put d)) (call_of bound d)
+puts_calls h bound (deed.Enqueue queue args cores detached group) = most (handle_at bound queue == h)
+puts_calls h bound _ = omega arith
+
+-- where a part sets nothing up, it puts no task into a queue
+not_put : (settings : NodeSettings) (known : List Action) (before all : List Statement) (d : Deed) → set_up all ≡ false → is_settled_deed settings known before all d ≡ true → is_put d ≡ false
+unfolding is_settled_deed task_in
+not_put settings known before all (deed.Enqueue queue args cores detached group) n e = by_queue (slice_get all queue) refl (queue_at all queue) refl _ e
+  where
+    by_queue : (o : Option Statement) → slice_get all queue ≡ o → (q : Option Queue) → option_and_then (λ z. queue_in z.deed) o ≡ q → (f : Queue → _) → is_startable settings known (option_map f q) ≡ true → true ≡ false
+    by_queue o i None j f k = true_false k refl
+    by_queue None i (Some x) j f k = none_some j
+    by_queue (Some z) i (Some x) j f k = true_false (sets_all all queue z x i j) n
+not_put settings known before all _ n e = refl
+
+-- Statements that set up before they begin
+
+pub record SetUp (ss : List Statement) : Type 0 where
+  pub before : List Statement
+  pub begin : Statement
+  pub behind : List Statement
+  pub is : ss ≡ before ++ begin ∷ behind
+  pub starts : is_begin begin.deed ≡ true
+  pub none : set_up behind ≡ false
+  pub first : begins before ≡ 0
+
+pub set_up_split : (ss : List Statement) → sets_up_first ss ≡ true → SetUp ss
+unfolding sets_up_first
+set_up_split [] e = true_false e refl
+set_up_split (s ∷ ss) e = cond_both (is_begin s.deed) (not (set_up ss)) (sets_up_first ss) (λ b. b ≡ true → SetUp (s ∷ ss)) (λ i f. record { before = []; begin = s; behind = ss; is = refl; starts = i; none = not_true _ f; first = refl })
+    (λ i f.
+    let x = set_up_split ss f in
+    let z : bit (is_begin s.deed) ≡ 0 = ap bit i in
+    let n : begins x.before ≡ 0 = x.first in
+    record { before = s ∷ x.before; begin = x.begin; behind = x.behind; is = λ j. s ∷ x.is j; starts = x.starts; none = x.none; first = omega arith }) e
+
+-- the actions of the statements are those before `begin`
+no_actions : (ss : List Statement) → set_up ss ≡ false → actions_in ss ≡ []
+no_actions [] e = refl
+no_actions (s ∷ ss) e = let x = or_parts (sets_up s.deed) (set_up ss) e in by s.deed x.0 (no_actions ss x.1)
+  where
+    by : (d : Deed) → sets_up d ≡ false → actions_in ss ≡ [] → action_in d ++ actions_in ss ≡ []
+    by (deed.Action job kind cores) i k = true_false refl i
+    by _ i k = k
+
+begin_acts : (d : Deed) → is_begin d ≡ true → action_in d ≡ []
+unfolding is_begin
+begin_acts deed.Begin e = refl
+begin_acts _ e = true_false e refl
+
+pub first_actions : (ss : List Statement) (x : SetUp ss) → actions_in ss ≡ actions_in x.before
+first_actions ss x =
+    ap actions_in x.is ∙ actions_append x.before (x.begin ∷ x.behind)
+    ∙ ap (λ (z : List Action). actions_in x.before ++ z) ((λ i. begin_acts x.begin.deed x.starts i ++ actions_in x.behind) ∙ no_actions x.behind x.none) ∙ append-nil (actions_in x.before)
+
+pub has_one_begin : (before : List Statement) (s : Statement) (behind : List Statement) → is_begin s.deed ≡ true → has_begin (before ++ s ∷ behind) ≡ true
+unfolding has_begin
+has_one_begin [] s behind e = or_left _ _ e
+has_one_begin (t ∷ before) s behind e = or_right (is_begin t.deed) _ (has_one_begin before s behind e)
+
+-- What main's lines are until it lets the others begin
+
+abbrev opening_line : Line
+opening_line = line op.Initialize reply.Ok 0
+
+pub record Began (ss : List Statement) (x : SetUp ss) (M : List Line) : Type 0 where
+  pub first : List Line
+  pub replies : List Reply
+  pub release : Line
+  pub rest : List Line
+  pub is : M ≡ (opening_line ∷ first) ++ release ∷ rest
+  pub carried : Carried Made [] x.before first replies
+  pub granted : AllGranted x.before replies
+  pub none : Each (λ l. is_release l.op ≡ false) first
+
+begin_released : (d : Deed) (bound : List ℕ) (front : List Line) (r : Reply) → is_begin d ≡ true → Made (call_of bound d) front r → front ≡ line op.Release r 0 ∷ []
+unfolding is_begin
+begin_released deed.Begin bound front r e m = m.0
+begin_released _ bound front r e m = true_false e refl
+
+began : (ss : List Statement) (x : SetUp ss) (M body : List Line) (rs : List Reply) → M ≡ head_of (has_begin ss) ++ (body ++ tail_of_main) → Carried Made [] ss body rs → AllGranted ss rs → Began ss x M
+began ss x M body rs i c g =
+    let f : Found ss body rs (length x.before) x.begin = found ss body rs c (length x.before) x.begin (ap (λ (z : List Statement). slice_get z (length x.before)) x.is ∙ get_at x.before x.begin x.behind) in
+    let same : f.before ≡ x.before = same_front f.before x.begin f.step.rest x.before x.begin x.behind (sym f.step.parted ∙ x.is) f.early in
+    let carried : Carried Made [] x.before f.first f.replies = subst (λ (z : List Statement). Carried Made [] z f.first f.replies) same f.step.carried in
+    record {
+      first = f.first;
+      replies = f.replies;
+      release = line op.Release f.reply 0;
+      rest = f.step.more ++ tail_of_main;
+      is = i ∙ (λ j. head_of ((ap has_begin x.is ∙ has_one_begin x.before x.begin x.behind x.starts) j) ++ ((f.step.is ∙ ap (λ (z : List Line). f.first ++ (z ++ f.step.more)) (begin_released x.begin.deed (map handle_of f.replies) f.front f.reply x.starts f.step.made)) j ++ tail_of_main))
+          ∙ ap (λ (z : List Line). opening_line ∷ z) (append_assoc f.first (line op.Release f.reply 0 ∷ f.step.more) tail_of_main);
+      carried = carried;
+      granted = subst (λ (z : List Statement). AllGranted z f.replies) same (step_granted ss body rs f.before f.first f.replies x.begin f.front f.reply f.step g).0;
+      none = statements_each (λ o. is_release o ≡ false) x.before f.first f.replies carried
+          (λ b l1 r1 s front r y. made_each (λ o. is_release o ≡ false) (call_of (map handle_of r1) s.deed) front r
+          (calls_none is_release (call_of (map handle_of r1) s.deed) (is_begin s.deed) (release_calls (map handle_of r1) s.deed) (begin_none b s y.rest (ap begins (sym y.parted) ∙ x.first))) y.made);
+    }
+
+-- Lines of which one passes go past those of which none does
+past : (p : Line → Bool) (A X Y R : List Line) → Each (λ l. p l ≡ false) A → list_any p X ≡ true → X ++ Y ≡ A ++ R → (Z : List Line) × (X ≡ A ++ Z)
+past p [] X Y R a e i = (X, refl)
+past p (l ∷ A) [] Y R a e i = true_false e refl
+past p (l ∷ A) (x ∷ X) Y R a e i =
+    let h : x ≡ l = same_head x l _ _ i in
+    let z = past p A X Y R a.1 (ap (λ (b : Bool). b || list_any p X) (sym (ap p h ∙ a.0)) ∙ e) (same_tail x l _ _ i) in
+    (z.0, λ j. h j ∷ z.1 j)
+
+-- where only this seat asks for it and some entry does, some line of the seat does
+some_line : (who : ℕ) (p : Op → Bool) (q : NodeEntry → Bool) → ((e : NodeEntry) → q e ≡ true → p e.op ≡ true) → (L : List NodeEntry) (ks : List ℕ) → length L ≡ length ks → OnlyBy who p L → some_entry q L ≡ true → list_any (λ l. p l.op) (lines_of who L ks) ≡ true
+unfolding lines_of
+some_line who p q f [] ks n o e = true_false e refl
+some_line who p q f (e ∷ es) [] n o k = absurd (omega arith)
+some_line who p q f (e ∷ es) (m ∷ ks) n o k = by (q e) refl k (some_line who p q f es ks (omega arith) o.1)
+  where
+    later : (b : Bool) → list_any (λ l. p l.op) (lines_of who es ks) ≡ true → list_any (λ l. p l.op) (cond b (line e.op e.reply m ∷ lines_of who es ks) (lines_of who es ks)) ≡ true
+    later true i = or_right (p e.op) _ i
+    later false i = i
+
+    by : (b : Bool) → q e ≡ b → cond b true (some_entry q es) ≡ true → (some_entry q es ≡ true → list_any (λ l. p l.op) (lines_of who es ks) ≡ true) → list_any (λ l. p l.op) (cond (e.who == who) (line e.op e.reply m ∷ lines_of who es ks) (lines_of who es ks)) ≡ true
+    by true i j r = ap (λ (b : Bool). list_any (λ l. p l.op) (cond b (line e.op e.reply m ∷ lines_of who es ks) (lines_of who es ks))) (eq-eqb e.who who (o.0 (f e i))) ∙ or_left (p e.op) _ (f e i)
+    by false i j r = later (e.who == who) (r j)
+
+-- Main's part
+
+module _ (layout : Layout) (load : Workload) (es : List NodeEntry) (ns : List ℕ) (u : SettledRun layout load es ns) where
+  abbrev main : ℕ
+  main = load.settings.workers
+
+  abbrev part : Part
+  part = (first_of layout load es ns u).part
+
+  abbrev others : List Part
+  others = (first_of layout load es ns u).others
+
+  pub settled_parts : Parts load.settings (first_of layout load es ns u).part (first_of layout load es ns u).others
+  settled_parts = parts_are load.settings part others (subst (λ (x : List Part). are_settled_parts load.settings x ≡ true) (first_of layout load es ns u).are (settled_whole load u.settled).parts)
+
+  pub all_parts : Each IsPart (part ∷ others)
+  all_parts = subst (Each IsPart) (first_of layout load es ns u).are u.formed.parts
+
+  pub all_limits : list_all (λ p. keep_limits p.statements 0 p.statements) (part ∷ others) ≡ true
+  all_limits = subst (λ (x : List Part). list_all (λ p. keep_limits p.statements 0 p.statements) x ≡ true) (first_of layout load es ns u).are (settled_whole load u.settled).limits
+
+  puts_main : (h : ℕ) → OnlyBy main (puts h) es
+  puts_main h =
+      only_main layout load es ns u (puts h) is_put (puts_calls h) (λ o k. puts_outside h o (work_outside o k)) refl
+      (λ w x rs l y b s rest e. not_put load.settings (y.0.known ++ actions_in b) b x.statements s.deed (y.0.no_set_up l) (deed_in load.settings y.0.known x.statements x.statements [] (sym (append-nil x.statements)) y.0.settled b s rest e))
+
+  abbrev main_part : PartAt load es ns main part (first_of layout load es ns u).replies
+  main_part = main_at load es ns part (first_of layout load es ns u).replies (first_of layout load es ns u).ran settled_parts.main (all_at layout load es ns u).0.within
+
+  pub main_seat : Seat layout load es ns main part (first_of layout load es ns u).replies
+  main_seat = record {
+    at = main_part;
+    finds = record {
+      opened = λ A l B c.
+          let x = first_head (has_begin part.statements) A in
+          is_opened main c.before c.first x.0 (c.done ∙ x.1) (main_unclosed layout load es ns u main (head_of (has_begin part.statements) ++ A) l (B ++ tail_of_main) c B refl);
+      unclosed = λ A l B c. main_unclosed layout load es ns u main (head_of (has_begin part.statements) ++ A) l (B ++ tail_of_main) c B refl;
+      outside = main_part.first;
+      acts = λ A l B c p e. true_false e refl;
+      alone = inr puts_main;
+    };
+    limits = fst_true _ (list_all (λ p. keep_limits p.statements 0 p.statements) others) all_limits;
+    are = all_parts.0.statements;
+  }
+
+  pub main_granted : AllGranted part.statements (first_of layout load es ns u).replies
+  main_granted = seat_granted layout load es ns u main part (first_of layout load es ns u).replies main_seat
+
+  -- The others
+
+  pub main_began : (x : SetUp part.statements) → Began part.statements x (lines_of main es ns)
+  main_began x = began part.statements x (lines_of main es ns) (first_of layout load es ns u).ran.body (first_of layout load es ns u).replies (first_of layout load es ns u).ran.is (first_of layout load es ns u).ran.carried main_granted
+
+  module _ (x : SetUp part.statements) (who : ℕ) (late : main < who) (looks : ℕ) where
+    abbrev entrance : List Line
+    entrance = line op.Enter reply.Ok looks ∷ []
+
+    module _ (A : List Line) (l : Line) (B : List Line) (c : Cut who es ns (entrance ++ A) l (B ++ [])) where
+      abbrev entered : Cut who c.before c.first [] (line op.Enter reply.Ok looks) A
+      entered = cut who c.before c.first [] (line op.Enter reply.Ok looks) A c.done
+
+      legal_cut : Legal (run_terms layout load) (entered.before ++ entry who op.Enter reply.Ok ∷ entered.behind)
+      legal_cut = subst (Legal (run_terms layout load)) entered.is (legal_before layout load es ns u who (entrance ++ A) l (B ++ []) c)
+
+      only_main_released : OnlyBy main is_release entered.before
+      only_main_released =
+          each_front (λ (e : NodeEntry). is_release e.op ≡ true → e.who ≡ main) entered.before (entry who op.Enter reply.Ok ∷ entered.behind)
+          (subst (OnlyBy main is_release) entered.is (each_front (λ (e : NodeEntry). is_release e.op ≡ true → e.who ≡ main) c.before (entry who l.op l.reply ∷ c.behind) (subst (OnlyBy main is_release) c.is (releases_main layout load es ns u))))
+
+      abbrev later : List Line
+      later = lines_of main (entry who op.Enter reply.Ok ∷ entered.behind) (looks ∷ entered.rest)
+
+      -- main's lines before the caller entered
+      seen : (Z : List Line) × (lines_of main entered.before entered.first ≡ (opening_line ∷ (main_began x).first) ++ Z)
+      seen = past (λ l. is_release l.op) (opening_line ∷ (main_began x).first) (lines_of main entered.before entered.first) (later ++ lines_of main (entry who l.op l.reply ∷ c.behind) (l.beside ∷ c.rest)) ((main_began x).release ∷ (main_began x).rest) (refl, (main_began x).none)
+          (some_line main is_release is_released (λ e i. fst_true (is_release e.op) _ i) entered.before entered.first entered.same only_main_released (enter_behind (run_terms layout load) entered.before entered.behind who legal_cut))
+          (sym (append_assoc (lines_of main entered.before entered.first) later _) ∙ ap (λ (z : List Line). z ++ lines_of main (entry who l.op l.reply ∷ c.behind) (l.beside ∷ c.rest)) (sym (cut_split who c.before c.first [] (line op.Enter reply.Ok looks) A entered main)) ∙ sym (cut_split who es ns (entrance ++ A) l (B ++ []) c main) ∙ (main_began x).is)
+
+      -- and before the line
+      all_seen : lines_of main c.before c.first ≡ (opening_line ∷ (main_began x).first) ++ (seen.0 ++ later)
+      all_seen = cut_split who c.before c.first [] (line op.Enter reply.Ok looks) A entered main ∙ ap (λ (z : List Line). z ++ later) seen.1 ∙ append_assoc (opening_line ∷ (main_began x).first) seen.0 later
+
+      pub opened_late : IsOpened c.before
+      opened_late = is_opened main c.before c.first ((main_began x).first ++ (seen.0 ++ later)) all_seen (further_unclosed layout load es ns u who (entrance ++ A) l (B ++ []) c late)
+
+      pub made_late : (p : Action → Bool) → list_any p (actions_in part.statements) ≡ true → MadeAction c.before p
+      made_late p e =
+          let y : HasAction (main_began x).first p = action_has x.before (main_began x).first (main_began x).replies p (main_began x).carried (main_began x).granted (subst (λ (z : List Action). list_any p z ≡ true) (first_actions part.statements x) e) in
+          action_map (Has (main_began x).first) (λ o h. MadeBy o h c.before) p (λ o h v.
+          let z : Has (lines_of main c.before c.first) o h = subst (λ (ls : List Line). Has ls o h) (sym all_seen) (has_more (opening_line ∷ []) (main_began x).first (seen.0 ++ later) o h v) in
+          let d = cut main c.before c.first z.before (line o (reply.Handle h) z.beside) z.behind z.is in
+          record { before = d.before; who = main; behind = d.behind; is = d.is }) y
+
+    pub further_finds : (all : List Statement) → set_up all ≡ false → Finds layout load es ns who entrance [] all (actions_in part.statements)
+    further_finds all n = record { opened = λ A l B c. opened_late A l B c; unclosed = λ A l B c. further_unclosed layout load es ns u who (entrance ++ A) l (B ++ []) c late; outside = (refl, tt); acts = λ A l B c p e. made_late A l B c p e; alone = inl n }
+
+  -- The further callers
+
+  callers_seats : (x : SetUp part.statements) (first : ℕ) → main < first → (ps : List Part) (rss : List (List Reply)) → CallersRan in_lines (λ who. lines_of who es ns) first ps rss → list_all (is_settled_further load.settings (actions_in part.statements)) ps ≡ true
+      → list_all (λ p. keep_limits p.statements 0 p.statements) ps ≡ true → Each IsPart ps → Within (actions_in (flat_map (λ p. p.statements) ps)) (actions_in (all_statements load)) → AllSeats (Seat layout load es ns) first ps rss
+  unfolding CallersRan
+  callers_seats x first late [] rss c e l a w = tt
+  callers_seats x first late (p ∷ ps) [] c e l a w = absurd c
+  callers_seats x first late (p ∷ ps) (rs ∷ rss) c e l a w =
+      let here : is_settled_further load.settings (actions_in part.statements) p ≡ true = fst_true _ (list_all (is_settled_further load.settings (actions_in part.statements)) ps) e in (
+        record {
+          at = caller_at load es ns (actions_in part.statements) first p rs c.0 here (within_front p.statements (flat_map (λ q. q.statements) ps) _ w);
+          finds = further_finds x first late c.0.entered.0 p.statements (not_true _ (fst_true _ (is_settled_part load.settings (actions_in part.statements) p) here));
+          limits = fst_true _ (list_all (λ y. keep_limits y.statements 0 y.statements) ps) l;
+          are = a.0.statements;
+        },
+        callers_seats x (suc first) (omega arith) ps rss c.1 (snd_true (is_settled_further load.settings (actions_in part.statements) p) _ e) (snd_true (keep_limits p.statements 0 p.statements) _ l) a.1 (within_behind p.statements (flat_map (λ q. q.statements) ps) _ w),
+      )
+
+  seats_of_parts : AllSeats (Seat layout load es ns) main (part ∷ others) ((first_of layout load es ns u).replies ∷ (first_of layout load es ns u).further)
+  seats_of_parts = (main_seat, by others refl)
+    where
+      by : (ps : List Part) → others ≡ ps → AllSeats (Seat layout load es ns) (suc main) others (first_of layout load es ns u).further
+      by [] i = subst (λ (z : List Part). AllSeats (Seat layout load es ns) (suc main) z (first_of layout load es ns u).further) (sym i) tt
+      by (p ∷ ps) i =
+          callers_seats (set_up_split part.statements (settled_parts.first p ps i)) (suc main) (omega arith) others (first_of layout load es ns u).further (first_of layout load es ns u).callers
+          settled_parts.further (snd_true (keep_limits part.statements 0 part.statements) _ all_limits) all_parts.1
+          (within_behind part.statements (flat_map (λ q. q.statements) others) _ (λ q k. subst (λ (z : List Part). list_any q (actions_in (flat_map (λ v. v.statements) z)) ≡ true) (sym (first_of layout load es ns u).are) k))
+
+  pub seats : AllSeats (Seat layout load es ns) main load.parts u.run.replies
+  seats =
+      subst (λ (ps : List Part). AllSeats (Seat layout load es ns) main ps u.run.replies) (sym (first_of layout load es ns u).are)
+      (subst (AllSeats (Seat layout load es ns) main (part ∷ others)) (sym (first_of layout load es ns u).told) seats_of_parts)
+
+granted_seats : (first : ℕ) (ps : List Part) (rss : List (List Reply)) → AllSeats (λ w p rs. AllGranted p.statements rs) first ps rss → PartsGranted ps rss
+granted_seats first [] rss a = tt
+granted_seats first (p ∷ ps) [] a = absurd a
+granted_seats first (p ∷ ps) (rs ∷ rss) a = (a.0, granted_seats (suc first) ps rss a.1)
+
+pub settled_statements_are_granted : SettledStatementsAreGranted
+settled_statements_are_granted layout load es ns u =
+    granted_seats load.settings.workers load.parts u.run.replies
+    (map_seats (Seat layout load es ns) (λ w p rs. AllGranted p.statements rs) 0 (λ w p rs l x. seat_granted layout load es ns u w p rs x) load.settings.workers load.parts u.run.replies (omega arith) (seats layout load es ns u))
