@@ -1,4 +1,8 @@
 //! What the program does, over any source and sinks.
+ghost use Rattle.std.specs.Prelude.{◌≡◌, ◌⊎◌, ◌≤◌, length, IfOk, IfErr, IfSome};
+ghost use Rattle.byte_io.specs.Causes.{Rose};
+ghost use Rattle.mtapi_picture.specs.Ends.{RestGives, RestFails, IsJournal, Draws, Writes, status_of};
+ghost use Rattle.mtapi_picture.specs.declared.command.End.TheVariants as end;
 
 use byte_io::{ReadAllError, Sink, Source, read_all, write_all};
 use journal_text::{InputPart, JournalError, parts_of, read_journal};
@@ -27,15 +31,18 @@ pub enum End {
     Memory,
 }
 
-/// The journal of an input, or how the program ends without one.
-fn journal_in(alloc: Global, bytes: &[u8]) -> Result<Journal, End> {
-    let (_, rest) = parts_of(bytes);
+/// The journal that the rest of an input is, or how the program ends where it is none.
+fn journal_in(alloc: Global, rest: &[u8]) -> Result<Journal, End>
+    requires { length rest.now ≤ 67108864 }
+    ensures { RestGives rest.now result }
+{
     let mut part = InputPart { left: rest };
     match read_journal(alloc, &mut part) {
         Ok(journal) => Ok(journal),
         Err(JournalError::Memory) => Err(End::Memory),
-        Err(JournalError::Read) => Err(End::ReadFault),
-        Err(JournalError::TooLong) => Err(End::TooLong),
+        // Such a source doesn't fail, and a journal may be as long as the input.
+        Err(JournalError::Read) => unreachable!(),
+        Err(JournalError::TooLong) => unreachable!(),
         Err(JournalError::BadLine { line }) => Err(End::BadLine(line)),
         Err(JournalError::PartialEnd) => Err(End::CutShort),
     }
@@ -50,9 +57,13 @@ fn svg_in(alloc: Global, journal: &Journal) -> Result<String, AllocError> {
     svg_of(alloc, workers, seats, &picture)
 }
 
-/// The SVG of the journal of an input, or how the program ends without one.
-fn picture_in(alloc: Global, bytes: &[u8]) -> Result<String, End> {
-    let journal = match journal_in(alloc, bytes) {
+/// The SVG of the journal that the rest of an input is, or how the program ends without one.
+fn picture_in(alloc: Global, rest: &[u8]) -> Result<String, End>
+    requires { length rest.now ≤ 67108864 }
+    ensures some { IfOk result (λ svg. IsJournal rest.now) }
+    ensures none { IfErr result (RestFails rest.now) }
+{
+    let journal = match journal_in(alloc, rest) {
         Ok(journal) => journal,
         Err(end) => return Err(end),
     };
@@ -63,14 +74,20 @@ fn picture_in(alloc: Global, bytes: &[u8]) -> Result<String, End> {
 }
 
 /// Reads a journal, and writes the picture of its run.
-pub fn draw<S: Source, W: Sink>(alloc: Global, src: &mut S, out: &mut W) -> End {
+pub fn draw<S: Source, W: Sink>(alloc: Global, src: &mut S, out: &mut W) -> End
+    ensures drawn { IfSome (S.left src.old) (λ bytes. Draws bytes result) }
+    ensures silent { Writes result ⊎ ((W.held out.new ≡ W.held out.old) × (W.faults out.new ≡ W.faults out.old)) }
+    ensures read { result ≡ end.ReadFault → Rose (S.faults src.old) (S.faults src.new) }
+    ensures written { result ≡ end.WriteFault → Rose (W.faults out.old) (W.faults out.new) }
+{
     let bytes = match read_all(alloc, src, 67_108_864) {
         Ok(bytes) => bytes,
         Err(ReadAllError::Memory) => return End::Memory,
         Err(ReadAllError::Read) => return End::ReadFault,
         Err(ReadAllError::TooLong) => return End::TooLong,
     };
-    match picture_in(alloc, &bytes) {
+    let (_, rest) = parts_of(&bytes);
+    match picture_in(alloc, rest) {
         Ok(svg) => match write_all(out, svg.as_bytes()) {
             Ok(()) => End::Done,
             Err(_) => End::WriteFault,
@@ -80,7 +97,9 @@ pub fn draw<S: Source, W: Sink>(alloc: Global, src: &mut S, out: &mut W) -> End 
 }
 
 /// The status of an end.
-fn status_of(end: End) -> u8 {
+fn status_of(end: End) -> u8
+    ensures { result ≡ status_of end }
+{
     match end {
         End::Done => 0,
         End::Usage => 2,
@@ -104,8 +123,10 @@ fn plain_text(end: End) -> &'static str {
     }
 }
 
-/// Says on `err` how it ended, and answers the status. A fault of `err` changes nothing else.
-pub fn tell<E: Sink>(alloc: Global, end: End, err: &mut E) -> u8 {
+/// Says on `err` how it ended, and answers the status: 6 where there is no memory for the text. A fault of `err` changes nothing else.
+pub fn tell<E: Sink>(alloc: Global, end: End, err: &mut E) -> u8
+    ensures { (result ≡ status_of end) ⊎ (result ≡ 6) }
+{
     match end {
         End::BadLine(line) => match format!(in alloc; "mtapi: journal line {line}\n") {
             Ok(text) => {

@@ -92,9 +92,9 @@ pub record Locks : Type 0 where
   pub lanes : List MutexLane
 
 -- the ids with that of a task that was picked
-abbrev pub named_by : ℕ → Reply → List (Option ℕ) → List (Option ℕ)
-named_by who (reply.Picked t a k args) named = slice_set named who (tally_mutex k args)
-named_by who _ named = named
+abbrev pub named_by : ℕ → Op → Reply → List (Option ℕ) → List (Option ℕ)
+named_by who op.Pick (reply.Picked t a k args) named = slice_set named who (tally_mutex k args)
+named_by who _ _ named = named
 
 -- what an entry of a seat says of a mutex
 abbrev pub lock_by : List (Option ℕ) → NodeEntry → Lock
@@ -107,7 +107,7 @@ lanes_after who at looks lock lanes = lanes_with lock (map (lane_after who at lo
 -- what is known after an entry, before which so many looks were left out
 abbrev pub locks_after : ℕ → NodeEntry → ℕ → Locks → Locks
 locks_after at e looks t = record {
-  named = named_by e.who e.reply t.named;
+  named = named_by e.who e.op e.reply t.named;
   lanes = lanes_after e.who at looks (lock_by t.named e) t.lanes;
 }
 

@@ -53,7 +53,7 @@ pub record IsNoted (at : ℕ) (e : NodeEntry) (n : ℕ) (c d : Course) : Type 0 
   pub bars : d.picture.bars.items ≡ c.picture.bars.items ++ bar_by e.who at (work_of e.op e.reply) (slice_index_or c.running.items e.who None)
   pub running : d.running.items ≡ running_by e.who at (work_of e.op e.reply) c.running.items
   pub ticks : d.picture.ticks.items ≡ c.picture.ticks.items ++ tick_of e.who at (sort_of e.op e.reply)
-  pub named : d.named.items ≡ locks.named_by e.who e.reply c.named.items
+  pub named : d.named.items ≡ locks.named_by e.who e.op e.reply c.named.items
   pub mutexes : d.picture.mutexes.items ≡ locks.lanes_after e.who at n (locks.lock_by c.named.items e) c.picture.mutexes.items
   pub spans : d.picture.spans.items ≡ c.picture.spans.items ++ locks.spans_by at e (locks_in c)
   pub waiting : (h : ℕ) → get nat_eq d.waiting h ≡ waits.waiting_by (get nat_eq c.waiting) c.picture.queues.items (wait_of e.op e.reply) h

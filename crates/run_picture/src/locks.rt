@@ -235,11 +235,11 @@ fn add_lane(lanes: &mut Vec<MutexLane>, lock: Lock) -> Result<(), AllocError>
     Ok(())
 }
 
-fn note_named(named: &mut Vec<Option<u64>>, who: u32, reply: &Reply)
-    ensures { named.new.items ≡ named_by who reply.now named.old.items }
+fn note_named(named: &mut Vec<Option<u64>>, who: u32, op: &Op, reply: &Reply)
+    ensures { named.new.items ≡ named_by who op.now reply.now named.old.items }
 {
-    match reply {
-        Reply::Picked { kind, args, .. } => {
+    match (op, reply) {
+        (Op::Pick, Reply::Picked { kind, args, .. }) => {
             let mutex = tally_mutex(*kind, args.as_slice());
             put(named, who, mutex);
         }
@@ -256,12 +256,12 @@ pub fn note_locks(
     entry: &Entry,
     looks: u64,
 ) -> Result<(), AllocError>
-    ensures named { OnOk result (named.new.items ≡ named_by entry.now.who entry.now.reply named.old.items) }
+    ensures named { OnOk result (named.new.items ≡ named_by entry.now.who entry.now.op entry.now.reply named.old.items) }
     ensures lanes { OnOk result (lanes.new.items ≡ lanes_after entry.now.who place looks (lock_by named.old.items entry.now) lanes.old.items) }
     ensures spans { OnOk result (spans.new.items ≡ spans.old.items ++ flat_map (span_by entry.now.who place (lock_by named.old.items entry.now)) lanes.old.items) }
 {
     let lock = lock_of(at(named.as_slice(), entry.who), &entry.op, &entry.reply);
-    note_named(named, entry.who, &entry.reply);
+    note_named(named, entry.who, &entry.op, &entry.reply);
     push_spans_by(spans, lanes.as_slice(), entry.who, place, lock)?;
     change_lanes(lanes.as_mut_slice(), entry.who, place, looks, lock);
     add_lane(lanes, lock)

@@ -1,0 +1,13 @@
+pub mod Bars
+pub mod Runs
+pub mod Did
+pub mod Seen
+pub mod Lanes
+pub mod Spans
+pub mod Worked
+pub mod Tasks
+pub mod Steps
+pub mod Waits
+pub mod Queues
+pub mod Levels
+pub mod Ends

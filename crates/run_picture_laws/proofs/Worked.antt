@@ -1,0 +1,47 @@
+-- The worked pictures, by computing.
+use Rattle.std.proofs.Common.{◌≡◌, [], take, drop, Bool, true, false, Option, Some, None, refl, ap, ◌∙◌, arith}
+use Rattle.handle_pool.specs.Issued.{live_of, issue, change, listed, issued_at, retired, is_full, may_issue}
+use Rattle.mtapi_objects.specs.Actions.{has_worker}
+use Rattle.mtapi_objects.specs.Tasks.{Task, TaskState, Ended, end_each}
+use Rattle.mtapi_machine.specs.WorkRows.{is_ready, can_take, has_better}
+use Rattle.mtapi_machine.specs.Legal.{after_from}
+use Rattle.mtapi_machine.specs.Worked.{one_task}
+use Rattle.history_law.specs.WorkedSum.{two_tallies}
+use Rattle.run_picture.specs.Rows.{bars_from, bars_left}
+use Rattle.run_picture.specs.Locks.{spans_from}
+use Rattle.run_picture.specs.Waits.{lane_after, level_by, levels_from}
+use Rattle.run_picture_laws.specs.Bars.{run_end}
+use Rattle.run_picture_laws.specs.Worked.{OneTaskIsDrawn, TalliesAreDrawn, one_waits, OneWaitIsDrawn}
+
+over : TaskState → Bool
+over (Ended e n) = true
+over _ = false
+
+is_over : Option Task → Bool
+is_over None = false
+is_over (Some t) = over t.state
+
+pub one_task_is_drawn : OneTaskIsDrawn
+unfolding over is_over one_task bars_from bars_left run_end after_from live_of issue change listed issued_at retired is_full may_issue has_worker end_each is_ready can_take has_better
+one_task_is_drawn = record {
+  drawn = refl;
+  missing = λ h. let e = h.each (take 4 one_task) (drop 5 one_task) _ 0 refl (omega arith) in absurd (cc);
+  short = λ h. let e : true ≡ false = h (take 5 one_task) (drop 5 one_task) 0 refl (omega arith) in absurd (cc);
+  long = λ h. let e = h (take 6 one_task) (drop 6 one_task) 0 refl (omega arith) in let z : true ≡ false = ap is_over e.1 ∙ ap over e.2 in absurd (cc);
+}
+
+pub tallies_are_drawn : TalliesAreDrawn
+unfolding two_tallies spans_from after_from live_of issue change listed issued_at retired is_full may_issue has_worker end_each is_ready can_take has_better
+tallies_are_drawn = record {
+  drawn = refl;
+  swapped = λ h. let e = h (take 10 two_tallies) (drop 10 two_tallies) 0 refl (omega arith) in absurd (cc);
+  kept = λ h. let e = h (take 15 two_tallies) (drop 15 two_tallies) 0 refl (omega arith) in absurd (cc);
+}
+
+pub one_wait_is_drawn : OneWaitIsDrawn
+unfolding one_waits levels_from level_by lane_after after_from live_of issue change listed issued_at retired is_full may_issue has_worker end_each is_ready can_take has_better
+one_wait_is_drawn = record {
+  drawn = refl;
+  none = λ h. let n = (h one_waits [] 0 _ refl (omega arith) refl).least in absurd (omega arith);
+  two = λ h. let n : 2 ≡ 1 = (h one_waits [] 0 _ refl (omega arith) refl).exact refl in absurd (omega arith);
+}

@@ -1,0 +1,11 @@
+use Rattle.run_picture_laws.proofs.Worked.{one_task_is_drawn, tallies_are_drawn, one_wait_is_drawn}
+use Rattle.run_picture_laws.proofs.worked_pictures.Goals as goal
+
+pub returns-clause-bars : goal.returns-clause-bars
+returns-clause-bars c = one_task_is_drawn
+
+pub returns-clause-spans : goal.returns-clause-spans
+returns-clause-spans c = tallies_are_drawn
+
+pub returns-clause-levels : goal.returns-clause-levels
+returns-clause-levels c = one_wait_is_drawn

@@ -1,0 +1,4 @@
+pub mod Bars
+pub mod Mutexes
+pub mod Queues
+pub mod Worked
