@@ -2,4 +2,4 @@ use Rattle.sched_threads.proofs.Said.{turn_fits}
 use Rattle.sched_threads.proofs.callers.Caller.once.Goals as goal
 
 pub returns-clause-fits : goal.returns-clause-fits
-returns-clause-fits g c = turn_fits _ _ c.args.op c.turn.result c.turn.ensures.turned
+returns-clause-fits g c = turn_fits _ _ c.args.op c.turn-reply.result c.turn-reply.ensures.turned
