@@ -1,31 +1,17 @@
 -- What the run gives back.
 use Rattle.std.specs.Prelude.{◌≡◌, List}
 use Rattle.history.specs.Histories.{entries_of}
-use Rattle.turn_cell.specs.Seats.{fresh_seat}
 use Rattle.mtapi_machine.specs.declared.terms.Terms.{Terms}
 use Rattle.mtapi_machine.specs.Legal.{NodeEntry, Legal}
 use Rattle.node_core.specs.declared.entries.Journal.{Journal}
 use Rattle.node_core.specs.Logs.{KeptAs}
-use Rattle.sched_threads.specs.Turns.{Seat, SameSeat}
-use Rattle.sched_threads.specs.Crews.{Cell}
 use Rattle.mtapi_embedding.specs.declared.client.Told.{Told}
-use Rattle.mtapi_embedding.specs.declared.crew.Crew.{Crew}
-use Rattle.mtapi_embedding.specs.Told.{AreToldIn, HasCalled}
+use Rattle.mtapi_embedding.specs.Told.{AreToldIn}
 
 -- the node has two workers and one caller
 pub record IsSmall (t : Terms) : Type 0 where
   pub workers : t.settings.workers ≡ 2
   pub callers : t.callers ≡ 1
-
--- the seats of the two workers came back, and the caller went on from main's
-pub record CameBack (first second main : Seat) (c : Crew) : Type 0 where
-  pub one : SameSeat first c.first.seat
-  pub two : SameSeat second c.second.seat
-  pub called : HasCalled main c.main
-
--- the seats of a new cell came back
-abbrev pub AllBack : Cell → Crew → Type 0
-AllBack z c = CameBack (fresh_seat z.terms z.id 0) (fresh_seat z.terms z.id 1) (fresh_seat z.terms z.id 2) c
 
 -- the journal is that of one legal history of such a node, and what the caller was told stands among its entries there
 pub record IsRun (t : Told) (j : Journal) : Type 0 where

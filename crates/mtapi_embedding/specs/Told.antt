@@ -1,5 +1,5 @@
 -- What the caller asked, and what it was told.
-use Rattle.std.specs.Prelude.{◌≡◌, ℕ, ℤ, pos, true, false, List, [], ◌∷◌, ◌++◌, None, IfOk}
+use Rattle.std.specs.Prelude.{ℕ, ℤ, pos, true, false, List, [], ◌∷◌, ◌++◌, None}
 use Rattle.history.specs.Histories.{entry}
 use Rattle.mtapi_values.specs.declared.ends.TaskEnd.{TaskEnd}
 use Rattle.mtapi_values.specs.declared.handles.QueueHandle.{QueueHandle}
@@ -9,22 +9,9 @@ use Rattle.mtapi_machine.specs.declared.ops.Op.TheVariants as op
 use Rattle.mtapi_machine.specs.declared.replies.Reply.TheVariants as reply
 use Rattle.mtapi_machine.specs.Legal.{NodeEntry}
 use Rattle.mtapi_machine.specs.Tables.{every_core}
-use Rattle.sched_threads.specs.Turns.{Seat, SameSeat}
+use Rattle.sched_threads.specs.Turns.{Seat}
+use Rattle.node_with_workers.specs.Told.{InOrder, WentOn}
 use Rattle.mtapi_embedding.specs.declared.client.Told.{Told}
-use Rattle.mtapi_embedding.specs.declared.client.Called.{Called}
-
--- these calls stand among the entries, in this order
-abbrev pub InOrder : List NodeEntry → List NodeEntry → Type 0
-InOrder [] es = Unit {0}
-InOrder (x ∷ xs) es =
-    (before : List NodeEntry) × (after : List NodeEntry) × (es ≡ before ++ x ∷ after) × InOrder xs after
-
--- the same seat, with further entries of its own, among them these calls
-pub record WentOn (calls : List NodeEntry) (old new : Seat) : Type 0 where
-  pub same : SameSeat old new
-  pub more : List NodeEntry
-  pub mine : new.mine ≡ old.mine ++ more
-  pub asked : InOrder calls more
 
 -- The calls, each with its reply
 
@@ -81,8 +68,3 @@ pub record AreToldIn (who : ℕ) (t : Told) (es : List NodeEntry) : Type 0 where
   pub sum : TaskHandle
   pub late : TaskHandle
   pub asked : InOrder (opening who action queue ++ (summing who queue sum t.sum ++ cancelling who queue late t.late)) es
-
--- the caller went on from this seat, and what it was told stands among its own entries
-pub record HasCalled (old : Seat) (c : Called) : Type 0 where
-  pub went : WentOn [] old c.seat
-  pub told : IfOk c.told (λ t. AreToldIn old.number t c.seat.mine)

@@ -1,15 +1,15 @@
 //! What the caller does.
 
-ghost use Rattle.std.specs.Prelude.{◌≡◌, ◌≤◌, [], ◌∷◌, IfOk};
-ghost use Rattle.mtapi_embedding.specs.Told.{WentOn, HasOpened, HasSummed, HasCancelled, AreToldIn, HasCalled};
+ghost use Rattle.std.specs.Prelude.{◌≡◌, [], ◌∷◌, IfOk};
+ghost use Rattle.sched_threads.specs.Turns.{SameSeat};
+ghost use Rattle.mtapi_embedding.specs.Told.{HasOpened, HasSummed, HasCancelled};
 
 use mtapi_values::{
     ActionAttr, Args, Kind, MtapiStatus, QueueAttr, QueueHandle, TaskAttr, TaskEnd, Timeout,
 };
-use node_core::Journaled;
+use node_with_workers::Client;
 use sched_threads::Caller;
 use std::sync::Wait;
-use turn_cell::{TurnCell, TurnSeat};
 
 const JOB: u32 = 1;
 
@@ -27,15 +27,6 @@ pub struct Told {
     pub late: TaskEnd,
 }
 
-/// What came of the calls, and the seat that made them.
-#[derive(Drop)]
-pub struct Called {
-    /// The seat.
-    pub seat: TurnSeat<Journaled>,
-    /// What it was told, or the first status that refused a call.
-    pub told: Result<Told, MtapiStatus>,
-}
-
 fn pair_of(a: i64, b: i64) -> Args
     ensures { result ≡ a ∷ b ∷ [] }
 {
@@ -47,7 +38,7 @@ fn pair_of(a: i64, b: i64) -> Args
 
 // Puts a sum into the queue, and waits for it.
 fn sum<R: Wait>(rt: &R, caller: &mut Caller, queue: QueueHandle) -> Result<TaskEnd, MtapiStatus>
-    ensures went { WentOn [] caller.old caller.new }
+    ensures same { SameSeat caller.old caller.new }
     ensures told { IfOk result (λ end. HasSummed queue end caller.old caller.new) }
 {
     let task = caller.task_enqueue(rt, queue, &pair_of(1, 2), TaskAttr::new(), None)?;
@@ -56,7 +47,7 @@ fn sum<R: Wait>(rt: &R, caller: &mut Caller, queue: QueueHandle) -> Result<TaskE
 
 // Puts a sum into the disabled queue, where no worker takes it, and cancels it.
 fn late<R: Wait>(rt: &R, caller: &mut Caller, queue: QueueHandle) -> Result<TaskEnd, MtapiStatus>
-    ensures went { WentOn [] caller.old caller.new }
+    ensures same { SameSeat caller.old caller.new }
     ensures told { IfOk result (λ end. HasCancelled queue end caller.old caller.new) }
 {
     caller.queue_disable(rt, queue)?;
@@ -65,43 +56,33 @@ fn late<R: Wait>(rt: &R, caller: &mut Caller, queue: QueueHandle) -> Result<Task
     caller.task_wait(rt, task, Timeout::NoWait)
 }
 
-// Opens the node, and makes an action and a queue, which takes and keeps tasks while it is disabled.
+// Makes an action and a queue, which takes and keeps tasks while it is disabled.
 fn open<R: Wait>(rt: &R, caller: &mut Caller) -> Result<QueueHandle, MtapiStatus>
-    ensures went { WentOn [] caller.old caller.new }
+    ensures same { SameSeat caller.old caller.new }
     ensures opened { IfOk result (λ queue. HasOpened queue caller.old caller.new) }
 {
-    caller.initialize(rt)?;
     caller.action_create(rt, JOB, Kind::Add, ActionAttr::new())?;
     let mut attr = QueueAttr::new();
     attr.set(RETAIN, 1)?;
     caller.queue_create(rt, QUEUE, JOB, attr)
 }
 
-// All calls but those that end the node.
-fn work<R: Wait>(rt: &R, caller: &mut Caller) -> Result<Told, MtapiStatus>
-    ensures went { WentOn [] caller.old caller.new }
-    ensures told { IfOk result (λ t. AreToldIn caller.old.number t caller.new.mine) }
-{
-    let queue = open(rt, caller)?;
-    let sum = sum(rt, caller, queue)?;
-    let late = late(rt, caller, queue)?;
-    Ok(Told { sum, late })
-}
+/// Has a sum computed, and cancels another task.
+#[derive(Drop)]
+pub struct Summing;
 
-/// Opens the node, makes the calls, and begins the end of the node, whatever came of them: the workers stop once it has begun.
-pub fn call<R: Wait>(rt: &R, cell: &TurnCell<Journaled>, seat: TurnSeat<Journaled>) -> Called
-    requires cell { seat.cell ≡ cell.now.id }
-    requires caller { seat.terms.node.settings.workers ≤ seat.number }
-    ensures { HasCalled seat result }
-{
-    let mut caller = Caller::new(cell, seat);
-    let told = work(rt, &mut caller);
-    let told = match caller.finalize_begin(rt) {
-        Ok(()) => told,
-        Err(status) => Err(status),
-    };
-    Called {
-        seat: caller.into_seat(),
-        told,
+impl Client for Summing {
+    ghost use Rattle.std.specs.Prelude.{IfOk};
+    ghost use Rattle.mtapi_embedding.specs.Told.{AreToldIn};
+
+    type Told = Result<Told, MtapiStatus>;
+
+    ghost promise = { λ _ old new told. IfOk told (λ t. AreToldIn old.number t new.mine) };
+
+    fn call<R: Wait>(self, rt: &R, caller: &mut Caller) -> Result<Told, MtapiStatus> {
+        let queue = open(rt, caller)?;
+        let sum = sum(rt, caller, queue)?;
+        let late = late(rt, caller, queue)?;
+        Ok(Told { sum, late })
     }
 }

@@ -2,12 +2,9 @@
 #![tactic(auto)]
 
 mod client;
-mod crew;
-mod failure;
 mod run;
 
 use crate::client::Told;
-use crate::failure::Failure;
 use crate::run::run;
 use mtapi_values::TaskEnd;
 use node_core::{Op, RunJournal};
@@ -44,8 +41,6 @@ fn print_all(rt: &HostRuntime, told: &Told, journal: &RunJournal) -> io::Result<
 fn main(rt: HostRuntime) -> io::Result<()> {
     match run(&rt, rt.alloc()) {
         Ok((told, journal)) => print_all(&rt, &told, &journal),
-        Err(Failure::Memory) => println!(rt; "out of memory"),
-        Err(Failure::NoThread) => println!(rt; "a thread was refused"),
-        Err(Failure::Refused(status)) => println!(rt; "refused with {}", status.name()),
+        Err(failure) => println!(rt; "{failure}"),
     }
 }

@@ -1,16 +1,20 @@
-//! Why the run came to no end.
+//! Why a node gave nothing back.
 
 use mtapi_values::MtapiStatus;
 use std::alloc::AllocError;
+use thiserror::Error;
 
-/// Why the run came to no end.
-#[derive(Debug, Drop)]
+/// Why a node gave nothing back.
+#[derive(Debug, Drop, Error)]
 pub enum Failure {
     /// Want of memory.
+    #[error("out of memory")]
     Memory,
     /// A thread was refused.
+    #[error("a thread was refused")]
     NoThread,
-    /// The node refused a call, or the tickets of its cell ran out (`ErrSpent`).
+    /// The node refused to open or to end, or the tickets of its cell ran out (`ErrSpent`).
+    #[error("refused with {0}")]
     Refused(MtapiStatus),
 }
 

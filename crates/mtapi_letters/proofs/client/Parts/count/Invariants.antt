@@ -1,0 +1,5 @@
+use Rattle.sched_threads.specs.Turns.{SameSeat}
+use Rattle.mtapi_letters.proofs.client.Parts.count.Given as goal
+
+abbrev pub invariant-loop-number : goal.invariant-loop-number
+invariant-loop-number g l = SameSeat l.fn.caller l.caller

@@ -1,0 +1,153 @@
+-- What the calls of one seat add up to, for the promise of a client.
+use Rattle.std.proofs.Common.{◌≡◌, ℕ, zero, suc, ◌+◌, ◌<◌, ◌==◌, Bool, true, List, [], ◌∷◌, ◌++◌, Option, Some, None, Result, Ok, Err, inl, inr, refl, sym, ◌∙◌, ap, subst, append_assoc, arith}
+use Rattle.std.specs.Prelude.{IfOk, false}
+use Rattle.std.proofs.lemmas.List.{append-nil}
+use Rattle.history.specs.Histories.{entry}
+use Rattle.mtapi_values.specs.declared.ends.TaskEnd.{TaskEnd}
+use Rattle.mtapi_values.specs.declared.handles.TaskHandle.{TaskHandle}
+use Rattle.mtapi_values.specs.declared.statuses.MtapiStatus.{MtapiStatus}
+use Rattle.mtapi_machine.specs.declared.ops.Op.{Op}
+use Rattle.mtapi_machine.specs.declared.ops.Op.TheVariants.{TaskLook}
+use Rattle.mtapi_machine.specs.declared.replies.Reply.{Reply}
+use Rattle.mtapi_machine.specs.declared.replies.Reply.TheVariants as reply
+use Rattle.mtapi_machine.specs.Legal.{NodeEntry}
+use Rattle.sched_workers.specs.declared.calls.Wanted.{Wanted}
+use Rattle.sched_workers.specs.declared.calls.Wanted.TheVariants.{Task}
+use Rattle.sched_threads.specs.Turns.{Seat, SameSeat}
+use Rattle.sched_threads.specs.Looks.{pends, Looked}
+use Rattle.sched_threads.specs.Answers.{Answers, Called, Waited, with_number}
+use Rattle.sched_threads.specs.Replies.{Standard, mtapi, done, handle, ended}
+use Rattle.node_with_workers.specs.Told.{InOrder, WentOn}
+
+-- Entries in order
+
+pub in_order_behind : (xs before es : List NodeEntry) → InOrder xs es → InOrder xs (before ++ es)
+in_order_behind [] before es o = tt
+in_order_behind (x ∷ xs) before es o = (before ++ o.0, o.1, ap (λ (l : List NodeEntry). before ++ l) o.2 ∙ sym (append_assoc before o.0 (x ∷ o.1)), o.3)
+
+pub in_order_then : (xs ys es fs : List NodeEntry) → InOrder xs es → InOrder ys fs → InOrder (xs ++ ys) (es ++ fs)
+in_order_then [] ys es fs o p = in_order_behind ys es fs p
+in_order_then (x ∷ xs) ys es fs o p = (o.0, o.1 ++ fs, ap (λ (l : List NodeEntry). l ++ fs) o.2 ∙ append_assoc o.0 (x ∷ o.1) fs, in_order_then xs ys o.1 fs o.3 p)
+
+pub in_order_front : (xs es more : List NodeEntry) → InOrder xs es → InOrder xs (es ++ more)
+in_order_front xs es more o = subst (λ (l : List NodeEntry). InOrder l (es ++ more)) (append-nil xs) (in_order_then xs [] es more o tt)
+
+pub in_order_alone : (x : NodeEntry) → InOrder (x ∷ []) (x ∷ [])
+in_order_alone x = ([], [], refl, tt)
+
+-- Further calls
+
+pub went_nowhere : (old new : Seat) → SameSeat old new → new.mine ≡ old.mine → WentOn [] old new
+went_nowhere old new s m = record { same = s; more = []; mine = m ∙ sym (append-nil old.mine); asked = tt }
+
+pub went_then : (xs ys : List NodeEntry) (a b c : Seat) → WentOn xs a b → WentOn ys b c → WentOn (xs ++ ys) a c
+went_then xs ys a b c x y = record {
+  same = record { cell = y.same.cell ∙ x.same.cell; number = y.same.number ∙ x.same.number; terms = y.same.terms ∙ x.same.terms };
+  more = x.more ++ y.more;
+  mine = y.mine ∙ (ap (λ (es : List NodeEntry). es ++ y.more) x.mine ∙ append_assoc a.mine x.more y.more);
+  asked = in_order_then xs ys x.more y.more x.asked y.asked;
+}
+
+-- the same, with nothing said of the calls
+pub went_quietly : (xs : List NodeEntry) (old new : Seat) → WentOn xs old new → WentOn [] old new
+went_quietly xs old new w = record { same = w.same; more = w.more; mine = w.mine; asked = tt }
+
+-- where the calls stand among the entries of the seat
+pub among_mine : (xs : List NodeEntry) (old new : Seat) → WentOn xs old new → InOrder xs new.mine
+among_mine xs old new w = subst (InOrder xs) (sym w.mine) (in_order_behind xs old.mine w.more w.asked)
+
+pub called_went : {S A : Type 0} (standard : Standard S) (read : Reply → Option A) (o : Op) (old new : Seat) (x : Result A S) → Called standard read o old new x → WentOn [] old new
+called_went standard read o old new x (inl c) = record { same = c.1.same; more = entry old.number o c.0 ∷ []; mine = c.1.mine; asked = tt }
+called_went standard read o old new x (inr c) = went_nowhere old new c.0.same c.0.mine
+
+pub done_went : (o : Op) (old new : Seat) (x : Result (Unit {0}) MtapiStatus) → Called mtapi done o old new x → WentOn [] old new
+done_went = called_went mtapi done
+
+pub made_went : (o : Op) (old new : Seat) (x : Result ℕ MtapiStatus) → Called mtapi handle o old new x → WentOn [] old new
+made_went = called_went mtapi handle
+
+pub waited_went : (w : Wanted) (limit : Option ℕ) (old new : Seat) (x : Result TaskEnd MtapiStatus) → Waited mtapi ended w limit old new x → WentOn [] old new
+waited_went w limit old new x (inl c) = record { same = c.1.same; more = pends old.number w c.1.pending ++ _ ∷ []; mine = c.1.mine; asked = tt }
+waited_went w limit old new x (inr c) = record { same = c.0.pended.same; more = pends old.number w c.0.pending; mine = c.0.pended.mine; asked = tt }
+
+-- What was answered
+
+-- the replies from which these answers are read
+
+pub read_done : (r : Reply) (u : Unit {0}) → Answers mtapi done r (Ok u) → r ≡ reply.Ok
+read_done reply.Ok u a = refl
+read_done (reply.Mtapi c) u a = absurd (cc)
+read_done _ u a = absurd a
+
+read_handle : (r : Reply) (h : ℕ) → Answers mtapi handle r (Ok h) → r ≡ reply.Handle h
+read_handle (reply.Handle k) h a = cc
+read_handle (reply.Mtapi c) h a = absurd (cc)
+read_handle reply.Ok h a = absurd a
+read_handle _ h a = absurd a
+
+read_end : (r : Reply) (end : TaskEnd) → Answers mtapi ended r (Ok end) → r ≡ reply.Ended end
+read_end (reply.Ended e) end a = cc
+read_end (reply.Mtapi c) end a = absurd (cc)
+read_end reply.Ok end a = absurd a
+read_end _ end a = absurd a
+
+-- a call that made one turn and was told this
+told_once : (o : Op) (old new : Seat) (r s : Reply) (same : SameSeat old new) → new.mine ≡ old.mine ++ entry old.number o r ∷ [] → r ≡ s → WentOn (entry old.number o s ∷ []) old new
+told_once o old new r s same m is = record {
+  same = same;
+  more = entry old.number o s ∷ [];
+  mine = m ∙ ap (λ (x : Reply). old.mine ++ entry old.number o x ∷ []) is;
+  asked = in_order_alone (entry old.number o s);
+}
+
+pub done_told : (o : Op) (old new : Seat) (x : Result (Unit {0}) MtapiStatus) (u : Unit {0}) → Called mtapi done o old new x → x ≡ Ok u → WentOn (entry old.number o reply.Ok ∷ []) old new
+done_told o old new (Ok v) u (inl c) is = told_once o old new c.0 reply.Ok c.1.same c.1.mine (read_done c.0 v c.2)
+done_told o old new (Ok v) u (inr c) is = absurd (cc)
+done_told o old new (Err e) u c is = absurd (cc)
+
+pub made_told : (o : Op) (old new : Seat) (x : Result ℕ MtapiStatus) (h : ℕ) → Called mtapi handle o old new x → x ≡ Ok h → WentOn (entry old.number o (reply.Handle h) ∷ []) old new
+made_told o old new (Ok k) h (inl c) is = told_once o old new c.0 (reply.Handle h) c.1.same c.1.mine (read_handle c.0 k c.2 ∙ cc)
+made_told o old new (Ok k) h (inr c) is = absurd (cc)
+made_told o old new (Err e) h c is = absurd (cc)
+
+-- a call that gave this handle, by an op that is this one
+pub given_told : {H : Type 0} (number : H → ℕ) (o p : Op) (old new : Seat) (x : Result H MtapiStatus) (h : H)
+    → o ≡ p → Called mtapi handle o old new (with_number number x) → x ≡ Ok h → WentOn (entry old.number p (reply.Handle (number h)) ∷ []) old new
+given_told number o p old new x h same called is =
+    made_told p old new (with_number number x) (number h) (subst (λ (q : Op). Called mtapi handle q old new (with_number number x)) same called) (ap (with_number number) is)
+
+pub looked_told : (t : TaskHandle) (limit : Option ℕ) (last : Bool) (old new : Seat) (r : Reply) (end : TaskEnd) (l : Looked (Task t) limit old new r) → l.last ≡ last → r ≡ reply.Ended end → WentOn (entry old.number (TaskLook t last) (reply.Ended end) ∷ []) old new
+looked_told t limit last old new r end l at is = record {
+  same = l.same;
+  more = pends old.number (Task t) l.pending ++ entry old.number (TaskLook t last) (reply.Ended end) ∷ [];
+  mine = l.mine ∙ (ap (λ (x : Reply). old.mine ++ (pends old.number (Task t) l.pending ++ entry old.number (TaskLook t l.last) x ∷ [])) is
+      ∙ ap (λ (b : Bool). old.mine ++ (pends old.number (Task t) l.pending ++ entry old.number (TaskLook t b) (reply.Ended end) ∷ [])) at);
+  asked = (pends old.number (Task t) l.pending, [], refl, tt);
+}
+
+-- a wait without a limit, whose look is none that no other follows
+pub waited_told : (t : TaskHandle) (old new : Seat) (x : Result TaskEnd MtapiStatus) → Waited mtapi ended (Task t) None old new x → IfOk x (λ end. WentOn (entry old.number (TaskLook t false) (reply.Ended end) ∷ []) old new)
+waited_told t old new (Err c) w = tt
+waited_told t old new (Ok end) (inl w) = looked_told t None false old new w.0 end w.1 w.1.bound (read_end w.0 end w.2)
+waited_told t old new (Ok end) (inr w) = absurd (cc)
+
+-- the one look that there may be has `last`
+only_look : (n : ℕ) (last : Bool) → n < 1 → last ≡ (n + 1 == 1) → last ≡ true
+only_look zero last n is = is
+only_look (suc n) last b is = absurd (omega arith)
+
+-- a wait of one look
+pub look_told : (t : TaskHandle) (old new : Seat) (x : Result TaskEnd MtapiStatus) → Waited mtapi ended (Task t) (Some 1) old new x → IfOk x (λ end. WentOn (entry old.number (TaskLook t true) (reply.Ended end) ∷ []) old new)
+look_told t old new (Err c) w = tt
+look_told t old new (Ok end) (inl w) = looked_told t (Some 1) true old new w.0 end w.1 (only_look w.1.pending w.1.last w.1.bound.0 w.1.bound.1) (read_end w.0 end w.2)
+look_told t old new (Ok end) (inr w) = absurd (cc)
+
+-- Calls one after another
+
+-- calls one after another, each with the number of the seat
+pub then_by : (f g : ℕ → List NodeEntry) (a b c : Seat) → WentOn (f a.number) a b → WentOn (g b.number) b c → WentOn (f a.number ++ g a.number) a c
+then_by f g a b c x y = went_then (f a.number) (g a.number) a b c x (subst (λ (n : ℕ). WentOn (g n) b c) x.same.number y)
+
+-- calls behind others of which nothing is said
+pub then_quiet : (f : ℕ → List NodeEntry) (a b c : Seat) → WentOn [] a b → WentOn (f b.number) b c → WentOn (f a.number) a c
+then_quiet f a b c x y = then_by (λ who. []) f a b c x y

@@ -1,0 +1,15 @@
+//! A node with workers in threads of their own, and a program that calls it, all in one call.
+//!
+//! [`with_workers`] makes the node, starts its workers, opens it, has a [`Client`] call it, ends it, and gives back what the client was told,
+//! the journal and the workers' sets of actions.
+#![tactic(auto)]
+
+pub mod client;
+pub mod crew;
+pub mod failure;
+pub mod jobs;
+pub mod run;
+
+pub use client::Client;
+pub use failure::Failure;
+pub use run::{Done, with_workers};
