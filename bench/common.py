@@ -41,6 +41,7 @@ def with_crate(folder, name, libraries, files):
     with open(os.path.join(TOP, "crates.txt")) as old, open(os.path.join(folder, "crates.txt"), "w") as new:
         new.write(old.read() + f"{name}: {libraries}\n")
     crate = os.path.join(folder, "crates", name)
+    os.makedirs(os.path.join(crate, "src"))
     for file, text in files.items():
         path = os.path.join(crate, file if "/" in file else os.path.join("src", file))
         os.makedirs(os.path.dirname(path), exist_ok=True)
