@@ -13,6 +13,7 @@ mod words;
 
 pub use carry::command;
 pub use ends::{End, Outcome};
+pub use generated_workload::generated;
 pub use run_report::report_of;
 pub use sched_threads::{Beside, FewThreads, Threads, run_node};
 pub use telling::tell;
