@@ -1,12 +1,14 @@
 #!/usr/bin/env python3
-"""What a newcomer's first commands answer, and what they take: `bench/first_answer.py [all] [prove]`.
+"""What a newcomer's first commands answer, and what they take: `bench/first_answer.py [all] [prove] [gate]`.
 
 Clones the repository as it is committed into a folder of its own, runs `./mtapi run < examples/first.workload` there
 before anything is proved, and prints the seconds of the processors and those on the clock. With `all` further calls of
 the unproved program follow: each kind of input and output, faults, two at once and a stop in the middle. With `prove`
 the clone is proved and built over what checks kept on this machine, stopped once on the way, and the proved program
-answers too; then a source changes. Prints a line for each call, and fails where an answer is another one than expected,
-where the first one takes longer than its bounds, or where a process is left.
+answers too; then a source changes. With `gate` the gate runs in a second clone, after which `./mtapi prove` has nothing
+to do; that takes an hour or more where the machine keeps nothing of an earlier gate. Prints a line for each call, and
+fails where an answer is another one than expected, where the first one takes longer than its bounds, or where a process
+is left.
 """
 
 import os
@@ -150,13 +152,29 @@ def proved(clone):
     call(clone, "a changed source", line, 0, "main.t completed 6\n", "a source has changed")
 
 
+def cloned(folder, name):
+    """A fresh clone of what is committed."""
+    clone = os.path.join(os.path.realpath(folder), name)
+    subprocess.run(["git", "clone", "-q", TOP, clone], check=True)
+    return clone
+
+
+def gated(clone):
+    """Runs the gate, and asks for a proof of what it proved."""
+    call(clone, "the gate", ".ci/run >gate.log 2>&1", 0, "", "", PROVED_WITHIN)
+    begin = time.monotonic()
+    done = subprocess.run(["./mtapi", "prove"], cwd=clone, capture_output=True, text=True, timeout=WITHIN)
+    seconds = time.monotonic() - begin
+    report("prove after the gate", done.returncode == 0 and "proving" not in done.stderr and seconds < 10, seconds, done.stderr)
+    call(clone, "the gate's program", f"./mtapi run <{FIRST}", 0, "main.t completed 6\n", "")
+
+
 def main():
     words = set(sys.argv[1:])
-    if words - {"all", "prove"}:
+    if words - {"all", "prove", "gate"}:
         sys.exit(__doc__)
     with tempfile.TemporaryDirectory(prefix="first_answer-") as folder:
-        clone = os.path.join(os.path.realpath(folder), "clone")
-        subprocess.run(["git", "clone", "-q", TOP, clone], check=True)
+        clone = cloned(folder, "clone")
         for it in NO_INPUT:
             call(clone, *it)
         first_answer(clone)
@@ -164,6 +182,8 @@ def main():
             unproved(clone)
         if "prove" in words:
             proved(clone)
+        if "gate" in words:
+            gated(cloned(folder, "gated"))
     sys.exit(f"wrong: {', '.join(faults)}" if faults else 0)
 
 
