@@ -153,8 +153,8 @@ fn generated_settings(n: u32, workers: u32) -> NodeAttr
     ensures { result ≡ generated_settings n workers }
 {
     let mut settings = NodeAttr::new();
-    let _ = settings.set(1, u64::from(workers));
-    let _ = settings.set(2, u64::from(n));
+    let _ = settings.set(NodeAttr::WORKERS, u64::from(workers));
+    let _ = settings.set(NodeAttr::TASKS, u64::from(n));
     settings
 }
 

@@ -109,7 +109,7 @@ impl Following {
     {
         laws();
         let mut own = settings;
-        let _ = own.set(8, 4_294_967_295);
+        let _ = own.set(NodeAttr::GENERATIONS, 4_294_967_295);
         let node = Node::init(alloc, own, callers)?;
         Ok(Following {
             terms: Terms {

@@ -179,8 +179,8 @@ fn room_after_many_ends(rt: HostRuntime) -> Result<(), Fail> {
     let alloc = rt.alloc();
     for (generations, asks, verdict) in ROOM {
         let mut settings = NodeAttr::new();
-        let _ = settings.set(4, 2);
-        let _ = settings.set(8, generations);
+        let _ = settings.set(NodeAttr::GROUPS, 2);
+        let _ = settings.set(NodeAttr::GENERATIONS, generations);
         let mut entries = Vec::new(alloc);
         entries.push(entry_at(0))?;
         for ask in asks {

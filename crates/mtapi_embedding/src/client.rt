@@ -15,9 +15,6 @@ const JOB: u32 = 1;
 
 const QUEUE: u32 = 7;
 
-/// The number of the attribute of a queue by which it takes and keeps tasks while it is disabled.
-const RETAIN: u32 = 5;
-
 /// What the caller was told of its two tasks.
 #[derive(Drop)]
 pub struct Told {
@@ -63,7 +60,7 @@ fn open<R: Wait>(rt: &R, caller: &mut Caller) -> Result<QueueHandle, MtapiStatus
 {
     caller.action_create(rt, JOB, Kind::Add, ActionAttr::new())?;
     let mut attr = QueueAttr::new();
-    attr.set(RETAIN, 1)?;
+    attr.set(QueueAttr::RETAIN, 1)?;
     caller.queue_create(rt, QUEUE, JOB, attr)
 }
 

@@ -11,9 +11,6 @@ use std::alloc::Global;
 use std::sync::Wait;
 use std::thread::Threads;
 
-/// The number of the attribute of a node that says how many workers it has.
-const WORKERS: u32 = 1;
-
 /// Counts the letters of a text by so many workers.
 pub fn count<R: Threads + Wait + Sync>(
     rt: &R,
@@ -24,7 +21,7 @@ pub fn count<R: Threads + Wait + Sync>(
     requires { length text.now < 2 ^ 32 }
 {
     let mut settings = NodeAttr::new();
-    settings.set(WORKERS, workers)?;
+    settings.set(NodeAttr::WORKERS, workers)?;
     let client = Parts {
         length: text.len() as u32,
     };

@@ -35,6 +35,23 @@ impl Model for NodeAttr {
 }
 
 impl NodeAttr {
+    /// The number of `workers`.
+    pub const WORKERS: u32 = 1;
+    /// The number of `tasks`.
+    pub const TASKS: u32 = 2;
+    /// The number of `actions`.
+    pub const ACTIONS: u32 = 3;
+    /// The number of `groups`.
+    pub const GROUPS: u32 = 4;
+    /// The number of `queues`.
+    pub const QUEUES: u32 = 5;
+    /// The number of `objects`.
+    pub const OBJECTS: u32 = 6;
+    /// The number of `priorities`.
+    pub const PRIORITIES: u32 = 7;
+    /// The number of `generations`.
+    pub const GENERATIONS: u32 = 8;
+
     /// The defaults.
     pub fn new() -> NodeAttr
         ensures { result ≡ record { workers = 1; tasks = 1024; actions = 64; groups = 128; queues = 16; objects = 16; priorities = 4; generations = 4294967295 } }
@@ -127,14 +144,14 @@ impl NodeAttr {
         ensures refused { OnErr result (self.new ≡ self.old) }
     {
         match number {
-            1 => set_number(&mut self.workers, value, 1, 16),
-            2 => set_number(&mut self.tasks, value, 1, 65_536),
-            3 => set_number(&mut self.actions, value, 1, 1024),
-            4 => set_number(&mut self.groups, value, 1, 1024),
-            5 => set_number(&mut self.queues, value, 1, 256),
-            6 => set_number(&mut self.objects, value, 1, 256),
-            7 => set_number(&mut self.priorities, value, 1, 8),
-            8 => set_number(&mut self.generations, value, 1, 4_294_967_295),
+            NodeAttr::WORKERS => set_number(&mut self.workers, value, 1, 16),
+            NodeAttr::TASKS => set_number(&mut self.tasks, value, 1, 65_536),
+            NodeAttr::ACTIONS => set_number(&mut self.actions, value, 1, 1024),
+            NodeAttr::GROUPS => set_number(&mut self.groups, value, 1, 1024),
+            NodeAttr::QUEUES => set_number(&mut self.queues, value, 1, 256),
+            NodeAttr::OBJECTS => set_number(&mut self.objects, value, 1, 256),
+            NodeAttr::PRIORITIES => set_number(&mut self.priorities, value, 1, 8),
+            NodeAttr::GENERATIONS => set_number(&mut self.generations, value, 1, 4_294_967_295),
             _ => Err(MtapiStatus::ErrAttrNum),
         }
     }
@@ -148,14 +165,14 @@ impl NodeAttr {
         ensures { result ≡ get_answer node_attributes number self.now }
     {
         match number {
-            1 => Ok(u64::from(self.workers)),
-            2 => Ok(u64::from(self.tasks)),
-            3 => Ok(u64::from(self.actions)),
-            4 => Ok(u64::from(self.groups)),
-            5 => Ok(u64::from(self.queues)),
-            6 => Ok(u64::from(self.objects)),
-            7 => Ok(u64::from(self.priorities)),
-            8 => Ok(u64::from(self.generations)),
+            NodeAttr::WORKERS => Ok(u64::from(self.workers)),
+            NodeAttr::TASKS => Ok(u64::from(self.tasks)),
+            NodeAttr::ACTIONS => Ok(u64::from(self.actions)),
+            NodeAttr::GROUPS => Ok(u64::from(self.groups)),
+            NodeAttr::QUEUES => Ok(u64::from(self.queues)),
+            NodeAttr::OBJECTS => Ok(u64::from(self.objects)),
+            NodeAttr::PRIORITIES => Ok(u64::from(self.priorities)),
+            NodeAttr::GENERATIONS => Ok(u64::from(self.generations)),
             _ => Err(MtapiStatus::ErrAttrNum),
         }
     }
@@ -182,6 +199,13 @@ impl Model for ActionAttr {
 }
 
 impl ActionAttr {
+    /// The number of `global`.
+    pub const GLOBAL: u32 = 1;
+    /// The number of `affinity`.
+    pub const AFFINITY: u32 = 2;
+    /// The number of `domain_shared`.
+    pub const DOMAIN_SHARED: u32 = 3;
+
     /// The defaults.
     pub fn new() -> ActionAttr
         ensures { result ≡ record { global = false; affinity = 18446744073709551615; domain_shared = false } }
@@ -228,11 +252,11 @@ impl ActionAttr {
         ensures refused { OnErr result (self.new ≡ self.old) }
     {
         match number {
-            2 => {
+            ActionAttr::AFFINITY => {
                 self.affinity = Mask(value);
                 Ok(())
             }
-            1 | 3 => Err(MtapiStatus::ErrAttrReadonly),
+            ActionAttr::GLOBAL | ActionAttr::DOMAIN_SHARED => Err(MtapiStatus::ErrAttrReadonly),
             _ => Err(MtapiStatus::ErrAttrNum),
         }
     }
@@ -246,9 +270,9 @@ impl ActionAttr {
         ensures { result ≡ get_answer action_attributes number self.now }
     {
         match number {
-            1 => Ok(u64::from(self.global)),
-            2 => Ok(self.affinity.0),
-            3 => Ok(u64::from(self.domain_shared)),
+            ActionAttr::GLOBAL => Ok(u64::from(self.global)),
+            ActionAttr::AFFINITY => Ok(self.affinity.0),
+            ActionAttr::DOMAIN_SHARED => Ok(u64::from(self.domain_shared)),
             _ => Err(MtapiStatus::ErrAttrNum),
         }
     }
@@ -276,6 +300,15 @@ impl Model for TaskAttr {
 }
 
 impl TaskAttr {
+    /// The number of `detached`.
+    pub const DETACHED: u32 = 1;
+    /// The number of `instances`.
+    pub const INSTANCES: u32 = 2;
+    /// The number of `priority`.
+    pub const PRIORITY: u32 = 3;
+    /// The number of `affinity`.
+    pub const AFFINITY: u32 = 4;
+
     /// The defaults.
     pub fn new() -> TaskAttr
         ensures { result ≡ record { detached = false; instances = 1; priority = 0; affinity = 18446744073709551615 } }
@@ -330,10 +363,10 @@ impl TaskAttr {
         ensures refused { OnErr result (self.new ≡ self.old) }
     {
         match number {
-            1 => set_yes_or_no(&mut self.detached, value),
-            2 => set_number(&mut self.instances, value, 1, 1),
-            3 => set_number(&mut self.priority, value, 0, 7),
-            4 => {
+            TaskAttr::DETACHED => set_yes_or_no(&mut self.detached, value),
+            TaskAttr::INSTANCES => set_number(&mut self.instances, value, 1, 1),
+            TaskAttr::PRIORITY => set_number(&mut self.priority, value, 0, 7),
+            TaskAttr::AFFINITY => {
                 self.affinity = Mask(value);
                 Ok(())
             }
@@ -350,10 +383,10 @@ impl TaskAttr {
         ensures { result ≡ get_answer task_attributes number self.now }
     {
         match number {
-            1 => Ok(u64::from(self.detached)),
-            2 => Ok(u64::from(self.instances)),
-            3 => Ok(u64::from(self.priority)),
-            4 => Ok(self.affinity.0),
+            TaskAttr::DETACHED => Ok(u64::from(self.detached)),
+            TaskAttr::INSTANCES => Ok(u64::from(self.instances)),
+            TaskAttr::PRIORITY => Ok(u64::from(self.priority)),
+            TaskAttr::AFFINITY => Ok(self.affinity.0),
             _ => Err(MtapiStatus::ErrAttrNum),
         }
     }
@@ -383,6 +416,19 @@ impl Model for QueueAttr {
 }
 
 impl QueueAttr {
+    /// The number of `global`.
+    pub const GLOBAL: u32 = 1;
+    /// The number of `priority`.
+    pub const PRIORITY: u32 = 2;
+    /// The number of `limit`.
+    pub const LIMIT: u32 = 3;
+    /// The number of `ordered`.
+    pub const ORDERED: u32 = 4;
+    /// The number of `retain`.
+    pub const RETAIN: u32 = 5;
+    /// The number of `domain_shared`.
+    pub const DOMAIN_SHARED: u32 = 6;
+
     /// The defaults.
     pub fn new() -> QueueAttr
         ensures { result ≡ record { global = false; priority = 0; limit = 65536; ordered = false; retain = false; domain_shared = false } }
@@ -456,11 +502,11 @@ impl QueueAttr {
         ensures refused { OnErr result (self.new ≡ self.old) }
     {
         match number {
-            2 => set_number(&mut self.priority, value, 0, 7),
-            3 => set_number(&mut self.limit, value, 1, 65_536),
-            4 => set_yes_or_no(&mut self.ordered, value),
-            5 => set_yes_or_no(&mut self.retain, value),
-            1 | 6 => Err(MtapiStatus::ErrAttrReadonly),
+            QueueAttr::PRIORITY => set_number(&mut self.priority, value, 0, 7),
+            QueueAttr::LIMIT => set_number(&mut self.limit, value, 1, 65_536),
+            QueueAttr::ORDERED => set_yes_or_no(&mut self.ordered, value),
+            QueueAttr::RETAIN => set_yes_or_no(&mut self.retain, value),
+            QueueAttr::GLOBAL | QueueAttr::DOMAIN_SHARED => Err(MtapiStatus::ErrAttrReadonly),
             _ => Err(MtapiStatus::ErrAttrNum),
         }
     }
@@ -474,12 +520,12 @@ impl QueueAttr {
         ensures { result ≡ get_answer queue_attributes number self.now }
     {
         match number {
-            1 => Ok(u64::from(self.global)),
-            2 => Ok(u64::from(self.priority)),
-            3 => Ok(u64::from(self.limit)),
-            4 => Ok(u64::from(self.ordered)),
-            5 => Ok(u64::from(self.retain)),
-            6 => Ok(u64::from(self.domain_shared)),
+            QueueAttr::GLOBAL => Ok(u64::from(self.global)),
+            QueueAttr::PRIORITY => Ok(u64::from(self.priority)),
+            QueueAttr::LIMIT => Ok(u64::from(self.limit)),
+            QueueAttr::ORDERED => Ok(u64::from(self.ordered)),
+            QueueAttr::RETAIN => Ok(u64::from(self.retain)),
+            QueueAttr::DOMAIN_SHARED => Ok(u64::from(self.domain_shared)),
             _ => Err(MtapiStatus::ErrAttrNum),
         }
     }
@@ -502,6 +548,9 @@ impl Model for MutexAttr {
 }
 
 impl MutexAttr {
+    /// The number of `recursive`.
+    pub const RECURSIVE: u32 = 1;
+
     /// The defaults.
     pub fn new() -> MutexAttr
         ensures { result ≡ record { recursive = false } }
@@ -528,7 +577,7 @@ impl MutexAttr {
         ensures refused { OnErr result (self.new ≡ self.old) }
     {
         match number {
-            1 => set_yes_or_no(&mut self.recursive, value),
+            MutexAttr::RECURSIVE => set_yes_or_no(&mut self.recursive, value),
             _ => Err(MtapiStatus::ErrAttrNum),
         }
     }
@@ -542,7 +591,7 @@ impl MutexAttr {
         ensures { result ≡ get_answer mutex_attributes number self.now }
     {
         match number {
-            1 => Ok(u64::from(self.recursive)),
+            MutexAttr::RECURSIVE => Ok(u64::from(self.recursive)),
             _ => Err(MtapiStatus::ErrAttrNum),
         }
     }

@@ -72,8 +72,8 @@ fn gate(phase: Phase) -> Gate {
 
 fn with_room_for_one(rt: HostRuntime) -> Result<Resources, Fail> {
     let mut settings = NodeAttr::new();
-    let _ = settings.set(6, 1);
-    let _ = settings.set(8, 2);
+    let _ = settings.set(NodeAttr::OBJECTS, 1);
+    let _ = settings.set(NodeAttr::GENERATIONS, 2);
     Ok(Resources::init(rt.alloc(), settings)?)
 }
 

@@ -52,10 +52,10 @@ fn attributes(priority: u32, limit: u32, ordered: bool, retain: bool) -> QueueAt
     ensures retain { result.retain ≡ retain }
 {
     let mut attr = QueueAttr::new();
-    let _ = attr.set(2, u64::from(priority));
-    let _ = attr.set(3, u64::from(limit));
-    let _ = attr.set(4, yes_or_no(ordered));
-    let _ = attr.set(5, yes_or_no(retain));
+    let _ = attr.set(QueueAttr::PRIORITY, u64::from(priority));
+    let _ = attr.set(QueueAttr::LIMIT, u64::from(limit));
+    let _ = attr.set(QueueAttr::ORDERED, yes_or_no(ordered));
+    let _ = attr.set(QueueAttr::RETAIN, yes_or_no(retain));
     attr
 }
 

@@ -20,18 +20,13 @@ use std::sync::Wait;
 use std::test::Fail;
 use turn_cell::{TurnCell, TurnSeat};
 
-// The attributes of a node that say how many workers it has, and how many tasks may live at a time.
-const WORKERS: u32 = 1;
-
-const TASKS: u32 = 2;
-
 // A node with one worker and one task at a time.
 fn settings() -> Result<NodeAttr, MtapiStatus>
     ensures { IfOk result (λ a. a.workers ≡ 1) }
 {
     let mut attr = NodeAttr::new();
-    attr.set(WORKERS, 1)?;
-    attr.set(TASKS, 1)?;
+    attr.set(NodeAttr::WORKERS, 1)?;
+    attr.set(NodeAttr::TASKS, 1)?;
     Ok(attr)
 }
 

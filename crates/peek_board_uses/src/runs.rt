@@ -12,11 +12,8 @@ use crate::crew::{Crew, Jobs, Shared, run_crew};
 use crate::failure::Failure;
 use crate::monitor::{Monitor, Progress};
 use crate::tasks::Tasks;
-use action_fn::{
-    ActionSource, FnTable, StoredFn, act_add, act_div, act_echo, act_fail, act_gcd, act_max,
-    act_mul, act_triangle,
-};
-use mtapi_values::{Kind, MtapiStatus, NodeAttr, TaskHandle};
+use action_fn::FnTable;
+use mtapi_values::{MtapiStatus, NodeAttr, TaskHandle};
 use node_core::{Journal, Journaled, Node, Op};
 use peek_board::{Board, BoardSeat, EndClass, Marks, Peek, Peeker, close_both};
 use sched_threads::WorkerJob;
@@ -24,11 +21,6 @@ use std::alloc::{AllocError, Global};
 use std::sync::Wait;
 use std::thread::Threads as StartsThreads;
 use turn_cell::{TurnCell, TurnSeat};
-
-/// The numbers of the attributes of a node that say how many workers it has, and how many tasks live at a time.
-const WORKERS: u32 = 1;
-
-const TASKS: u32 = 2;
 
 /// What came of a run.
 #[derive(Drop)]
@@ -45,8 +37,8 @@ fn settings() -> Result<NodeAttr, MtapiStatus>
     ensures { IfOk result (λ a. a.workers ≡ 2) }
 {
     let mut attr = NodeAttr::new();
-    attr.set(WORKERS, 2)?;
-    attr.set(TASKS, u64::from(AT_ONCE))?;
+    attr.set(NodeAttr::WORKERS, 2)?;
+    attr.set(NodeAttr::TASKS, u64::from(AT_ONCE))?;
     Ok(attr)
 }
 
@@ -212,16 +204,7 @@ pub fn run<R: StartsThreads + Wait + Sync, P: Progress + Drop + Send>(
         tasks: &tasks,
         count,
     };
-    let mut acts = FnTable::new(
-        StoredFn::new(Kind::Add, act_add),
-        StoredFn::new(Kind::Mul, act_mul),
-        StoredFn::new(Kind::Max, act_max),
-        StoredFn::new(Kind::Div, act_div),
-        StoredFn::new(Kind::Gcd, act_gcd),
-        StoredFn::new(Kind::Echo, act_echo),
-        StoredFn::new(Kind::Triangle, act_triangle),
-        StoredFn::new(Kind::Fail, act_fail),
-    );
+    let mut acts = FnTable::standard();
     let jobs = Jobs {
         first: WorkerJob::new(&cell, first, acts.for_worker(0)),
         second: WorkerJob::new(&cell, second, acts.for_worker(1)),
