@@ -1,4 +1,5 @@
 pub mod ListReads
+mod FreshLemmas
 mod PlaceLemmas
 mod RowSteps
 pub mod LiveLemmas

@@ -1,6 +1,6 @@
 -- How each change of the places keeps the counts and the list of free places.
-use Rattle.std.proofs.Common.{◌≡◌, ◌≢◌, ℕ, true, zero, suc, ◌+◌, ◌-◌, ◌*◌, ◌<◌, ◌≤◌, ◌^◌, Bool, List, [], ◌∷◌, ◌++◌, map, length, replicate, get_or, set, Option, Some, None, count_by, cond, slice_get, IsSome, refl, sym, ap, subst, ◌∙◌, arith, length-set}
-use Rattle.std.proofs.lemmas.List.{map-set, map_push, length-map, length_push, get_or-map, replicate_more}
+use Rattle.std.proofs.Common.{◌≡◌, ◌≢◌, ℕ, true, zero, suc, ◌+◌, ◌-◌, ◌*◌, ◌<◌, ◌≤◌, ◌^◌, Bool, List, [], ◌∷◌, ◌++◌, map, length, get_or, set, Option, Some, None, count_by, cond, slice_get, IsSome, refl, sym, ap, subst, ◌∙◌, arith, length-set}
+use Rattle.std.proofs.lemmas.List.{map-set, map_push, length-map, length_push, get_or-map}
 use Rattle.std.proofs.lemmas.List.Sums.{sum_by-set, sum_by_push}
 use Rattle.std.proofs.lemmas.Option.{slice_get_within, get_or_from_slice_get}
 use Rattle.handle_pool.specs.declared.places.Place.{Place}
@@ -9,18 +9,9 @@ use Rattle.handle_pool.specs.Slots.{Slot, is_live, is_retired, value_at, slot_of
 use Rattle.std.proofs.lemmas.Option.{slice_get-map}
 use Rattle.std.specs.Option.{option_map}
 use Rattle.std.proofs.lemmas.Bool.Decides.{nat_tests}
-use Rattle.handle_pool.specs.Place.{slot_in, value_in, with_value_in, with_value_at, IsFree, fresh, IsFreeList, HasGeneration, HasValue, IsSound}
+use Rattle.handle_pool.specs.Place.{slot_in, value_in, with_value_in, with_value_at, fresh, IsFreeList, HasGeneration, HasValue, IsSound}
+use Rattle.handle_pool.proofs.FreshLemmas.{fresh-length, fresh-push}
 use Rattle.handle_pool.proofs.ListReads.{slice_get-set_same, slice_get-set_other, slice_get-push_old, slice_get-push_last, slice_get-push_cases, slice_get-set_cases, set-same}
-
--- a pool of no places has none
-pub fresh-none : (T : Type 0) → [] ≡ fresh {T = T} 0
-unfolding fresh
-fresh-none T = refl
-
-pub fresh-length : (T : Type 0) (n : ℕ) → length (fresh {T = T} n) ≡ n
-unfolding fresh
-fresh-length T zero = refl
-fresh-length T (suc n) = omega (arith, length_push (fresh {T = T} n) (Free 1 (suc n)), fresh-length T n)
 
 module _ {T : Type 0} where
   IsFreeList-push : (es : List (Place T)) (generation count place : ℕ) → IsFreeList es count place → IsFreeList (es ++ Free generation (length es + 1) ∷ []) (suc count) place
@@ -44,13 +35,6 @@ module _ {T : Type 0} where
         generated = λ place e found. slice_get-push_cases es _ e place found (sound.generated place e) (λ same. subst (HasGeneration generations) same (omega arith, sound.top.0));
       }
 
-  -- one place more at the end
-  pub fresh-push : (n : ℕ) (es : List (Place T)) → es ≡ fresh n → es ++ Free 1 (n + 1) ∷ [] ≡ fresh (n + 1)
-  unfolding fresh
-  fresh-push n es is =
-      let one : suc n ≡ n + 1 = omega arith in
-      subst (λ m. es ++ Free 1 m ∷ [] ≡ fresh m) one (ap (λ xs. xs ++ Free 1 (suc n) ∷ []) is)
-
   IsSound-one : (generations : ℕ) → (1 ≤ generations) × (generations < 2 ^ 32) → IsSound {T = T} (Free 1 1 ∷ []) generations 0 0 0
   IsSound-one generations top = record {
     live_counted = refl;
@@ -69,20 +53,12 @@ module _ {T : Type 0} where
       at (suc place) e found = absurd (cc)
 
   -- the places of a new pool are sound
-  pub IsSound-fresh : (n generations : ℕ) → 1 ≤ n → n ≤ 65536 → (1 ≤ generations) × (generations < 2 ^ 32) → IsSound (fresh {T = T} n) generations 0 0 0
+  pub IsSound-fresh : (n generations : ℕ) → 1 ≤ n → n ≤ 65536 → (1 ≤ generations) × (generations < 2 ^ 32) → IsSound (fresh {T = T} 0 n) generations 0 0 0
   unfolding fresh
   IsSound-fresh zero generations some few top = absurd (omega arith)
   IsSound-fresh (suc zero) generations some few top = IsSound-one generations top
   IsSound-fresh (suc (suc n)) generations some few top =
-      IsSound-push (fresh (suc n)) generations (suc (suc n)) (omega (arith, fresh-length T (suc n))) (omega (arith, fresh-length T (suc n))) (IsSound-fresh (suc n) generations (omega arith) (omega arith) top)
-
-  -- each of them is an empty slot of generation 1
-  pub fresh-slots : (n generations : ℕ) → map (slot_in generations) (fresh {T = T} n) ≡ replicate n (free_slot 1)
-  unfolding fresh
-  fresh-slots zero generations = refl
-  fresh-slots (suc n) generations =
-      let one : n + 1 ≡ suc n = omega arith in
-      rw map_push (subst (λ m. map (slot_in generations) (fresh {T = T} n) ++ free_slot 1 ∷ [] ≡ replicate m (free_slot 1)) one (ap (λ xs. xs ++ free_slot 1 ∷ []) (fresh-slots n generations) ∙ replicate_more n (free_slot 1)))
+      rw (fresh-push 0 (suc (suc n)) (suc n) (omega arith)) (IsSound-push (fresh 0 (suc n)) generations (0 + suc n + 1) (omega (arith, fresh-length T 0 (suc n))) (omega (arith, fresh-length T 0 (suc n))) (IsSound-fresh (suc n) generations (omega arith) (omega arith) top))
 
   -- a place starts one list of free places at most
   pub IsFreeList-count_unique : (es : List (Place T)) (m n place : ℕ) → IsFreeList es m place → IsFreeList es n place → m ≡ n
@@ -210,17 +186,6 @@ module _ {T : Type 0} where
       by_place (Some (Free g next)) is some = grind (arith, nat_tests)
       by_place (Some (Live g value)) is some = grind (arith, nat_tests)
       by_place (Some Retired) is some = grind (arith, nat_tests)
-
-  -- a free place, and a place in use, is there
-  pub free_within : (es : List (Place T)) (place : ℕ) → IsFree (slice_get es place) → place < length es
-  free_within [] place free = absurd free
-  free_within (e ∷ es) zero free = omega arith
-  free_within (e ∷ es) (suc place) free = omega (arith, free_within es place free)
-
-  pub value_within : (es : List (Place T)) (place : ℕ) → HasValue (slice_get es place) → place < length es
-  value_within [] place value = absurd value
-  value_within (e ∷ es) zero value = omega arith
-  value_within (e ∷ es) (suc place) value = omega (arith, value_within es place value)
 
   -- with another value in one of them the places are as many
   pub length-with_value_at : (es : List (Place T)) (place : ℕ) (w : T) → length (with_value_at es place w) ≡ length es

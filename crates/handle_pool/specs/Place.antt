@@ -1,5 +1,5 @@
 -- How a `Pool` lays out its places. No public clause cites this module.
-use Rattle.std.specs.Prelude.{◌≡◌, ℕ, true, zero, suc, ◌+◌, ◌^◌, ◌<◌, ◌≤◌, List, [], ◌∷◌, ◌++◌, map, length, Option, Some, None, count_by, slice_get, slice_set}
+use Rattle.std.specs.Prelude.{◌≡◌, ℕ, true, zero, suc, ◌+◌, ◌^◌, ◌<◌, ◌≤◌, List, [], ◌∷◌, map, length, Option, Some, None, count_by, slice_get, slice_set}
 use Rattle.handle_pool.specs.Slots.{Slot, free_slot, used_slot, is_live, is_retired}
 use Rattle.handle_pool.specs.declared.places.Place.{Place}
 use Rattle.handle_pool.specs.declared.places.Place.TheVariants.{Free, Live, Retired}
@@ -38,10 +38,10 @@ module _ {T : Type 0} where
       written None = es
       written (Some e) = slice_set es place (with_value_in e new)
 
-  -- so many places that were never used, each naming the next
-  unfoldable pub fresh : ℕ → List (Place T)
-  fresh zero = []
-  fresh (suc n) = fresh n ++ Free 1 (suc n) ∷ []
+  -- from this place on so many places that were never used, each naming the next
+  unfoldable pub fresh : ℕ → ℕ → List (Place T)
+  fresh from zero = []
+  fresh from (suc n) = Free 1 (from + 1) ∷ fresh (from + 1) n
 
   -- there is a place, and it is free
   abbrev pub IsFree : Option (Place T) → Type 0

@@ -3,7 +3,7 @@ use Rattle.handle_pool.proofs.places.Places.drop.Given as goal
 
 abbrev pub invariant-loop-place : goal.invariant-loop-place
 invariant-loop-place g l = record {
-  count : l.count ≡ length l.row.items;
+  made : l.made ≡ length l.row.items;
   room : l.count ≡ l.row.room;
   some : 0 < l.count;
 }
