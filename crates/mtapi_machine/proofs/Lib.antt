@@ -20,3 +20,4 @@ pub mod WorkedTallies
 pub mod WorkedResources
 pub mod WorkedLayouts
 pub mod Alone
+pub mod EachKind

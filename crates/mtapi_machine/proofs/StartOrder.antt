@@ -1,16 +1,16 @@
 -- After every legal list the tasks are listed in the order of their starts.
-use Rattle.std.proofs.Common.{◌≡◌, ℕ, ◌+◌, ◌<◌, Bool, true, false, cond, List, [], ◌∷◌, ◌++◌, refl, sym, ◌∙◌, ap, subst, arith}
+use Rattle.std.proofs.Common.{◌≡◌, ℕ, ◌+◌, Bool, true, false, cond, List, [], ◌∷◌, ◌++◌, refl, sym, ap, subst, arith}
 use Rattle.std.specs.Prelude.{◌==◌, ◌&&◌}
 use Rattle.mtapi_values.specs.declared.ends.TaskEnd.{TaskEnd}
 use Rattle.mtapi_values.specs.declared.ends.TaskEnd.TheVariants.{Failed}
-use Rattle.handle_pool.specs.Issued.{Listed, change, change_all, update, retire, issue, with_fields, gone}
+use Rattle.handle_pool.specs.Issued.{Listed, change, change_all, issue, with_fields, gone}
 use Rattle.mtapi_objects.specs.Tasks.{Task, NewTask, new_task, Running, with_state, with_notes, ended, end_each}
 use Rattle.mtapi_objects.specs.Groups.{freed, let_go}
 use Rattle.mtapi_machine.specs.State.{State}
-use Rattle.mtapi_machine.specs.Moves.{Move, withdraws, starts_task, runs_task, ends_task, ends_waiting, notes, leaves, frees_members, lets_members_go, makes, alters, removes, apply}
+use Rattle.mtapi_machine.specs.Moves.{Move, withdraws, starts_task, runs_task, ends_task, ends_waiting, notes, leaves, frees_members, lets_members_go, apply}
 use Rattle.mtapi_machine.specs.Legal.{NodeEntry, after_from}
 use Rattle.mtapi_machine.specs.Laws.{start_numbers, AreAbove, Rises}
-use Rattle.mtapi_machine.proofs.Moves.{along, sorts_keep}
+use Rattle.mtapi_machine.proofs.Moves.{along, rest_keeps}
 
 -- the numbers of the starts so far and of the next one rise
 Numbered : State → Type 0
@@ -84,10 +84,7 @@ numbered_move s (notes h f) v = as-before s _ v (changed-starts h (with_fields (
 numbered_move s (leaves h) v = as-before s _ v (changed-starts h gone s.tasks (λ r. refl))
 numbered_move s (frees_members g) v = as-before s _ v (all-changed-starts _ freed s.tasks (λ r. refl))
 numbered_move s (lets_members_go g) v = as-before s _ v (all-changed-starts _ let_go s.tasks (λ r. refl))
-numbered_move s (makes k h x) v = sorts_keep Numbered (λ t g q m c r y p. p) k _ s v
-numbered_move s (alters k h f) v = sorts_keep Numbered (λ t g q m c r y p. p) k _ s v
-numbered_move s (removes k h) v = sorts_keep Numbered (λ t g q m c r y p. p) k _ s v
-numbered_move s _ v = v
+numbered_move s x v = rest_keeps Numbered (λ t g q m c r y p. p) x s v
 
 pub after_numbered : (s : State) (L : List NodeEntry) → Rises (start_numbers s.tasks ++ s.starts ∷ []) → Rises (start_numbers (after_from s L).tasks ++ (after_from s L).starts ∷ [])
 unfolding Numbered

@@ -188,6 +188,28 @@ segments = record {
   limit = Mrapi c.ErrShmLimit;
 }
 
+-- the fields of an object of each kind
+abbrev pub FieldsOf : ObjectKind → Type 0
+FieldsOf kind.Action = Action
+FieldsOf kind.Task = Task
+FieldsOf kind.Group = Group
+FieldsOf kind.Queue = Queue
+FieldsOf kind.Mutex = Mutex
+FieldsOf kind.Sem = Sem
+FieldsOf kind.Rwl = Rwl
+FieldsOf kind.Shmem = Segment
+
+-- the objects of each kind
+abbrev pub objects_of : (k : ObjectKind) → Objects (FieldsOf k)
+objects_of kind.Action = actions
+objects_of kind.Task = tasks
+objects_of kind.Group = groups
+objects_of kind.Queue = queues
+objects_of kind.Mutex = mutexes
+objects_of kind.Sem = sems
+objects_of kind.Rwl = rwls
+objects_of kind.Shmem = segments
+
 module _ {T : Type 0} where
   -- the state with the fields of the live object of this handle changed
   abbrev pub changed : Objects T → ℕ → (T → T) → State → State
