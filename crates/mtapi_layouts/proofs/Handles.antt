@@ -55,13 +55,7 @@ outer-inward k h some = sym (names_kind k h some).is
 
 number-small : (k : ObjectKind) → object_number k < 256
 number-small Action = omega arith
-number-small Task = omega arith
-number-small Group = omega arith
-number-small Queue = omega arith
-number-small Mutex = omega arith
-number-small Sem = omega arith
-number-small Rwl = omega arith
-number-small Shmem = omega arith
+number-small k = omega arith
 
 names-sum : (h n : ℕ) → h % 2 ^ 32 < 2 ^ 24 → n < 256 → (h + n * 2 ^ 24) / 2 ^ 24 % 256 ≡ n
 names-sum h n small few = omega arith

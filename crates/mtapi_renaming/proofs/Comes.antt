@@ -1,29 +1,8 @@
 -- Every reply that the renamed state allows to an op that makes nothing is the renamed one of a reply; and which rows read the reply.
-use Rattle.std.proofs.Common.{◌≡◌, ℕ, Bool, true, false, cond, List, [], ◌∷◌, Option, Some, None, refl, sym, ◌∙◌, ap, subst}
-use Rattle.std.specs.Prelude.{is_some, not, nat_lt}
+use Rattle.mtapi_renaming.proofs.Names.{◌≡◌, ℕ, Bool, true, false, cond, List, [], ◌∷◌, Option, Some, None, refl, sym, ◌∙◌, ap, subst, is_some, not, nat_lt, TaskHandle, ActionHandle, Kind, live_object, any_listed, runs_on, Op, Reply, Ok, Handle, Given, Picked, Idle, Stop, Mtapi, State, workers, is_new, is_stop, Move, stops, Row, unless, gives, never, says, only, live, work, Allows, can_take, picks, row, answer, answer-allowed, Renaming, Room, renamed_task, renamed, HasTask, NoHandle, Fits, answered_kind, renamed_op, renamed_reply, made_kind, takes_task}
 use Rattle.mtapi_values.specs.declared.handles.ObjectKind.TheVariants as kind
-use Rattle.mtapi_values.specs.declared.handles.TaskHandle.{TaskHandle}
-use Rattle.mtapi_values.specs.declared.handles.ActionHandle.{ActionHandle}
-use Rattle.mtapi_values.specs.declared.kinds.Kind.{Kind}
 use Rattle.mtapi_values.specs.declared.statuses.MtapiStatus.TheVariants as m
-use Rattle.handle_pool.specs.Issued.{live_object, any_listed}
-use Rattle.mtapi_objects.specs.Tasks.{runs_on}
-use Rattle.mtapi_machine.specs.declared.ops.Op.{Op}
 use Rattle.mtapi_machine.specs.declared.ops.Op.TheVariants as op
-use Rattle.mtapi_machine.specs.declared.replies.Reply.{Reply}
-use Rattle.mtapi_machine.specs.declared.replies.Reply.TheVariants.{Ok, Handle, Given, Picked, Idle, Stop, Mtapi}
-use Rattle.mtapi_machine.specs.State.{State, workers, is_new, is_stop}
-use Rattle.mtapi_machine.specs.Moves.{Move, stops}
-use Rattle.mtapi_machine.specs.Row.{Row, unless, gives, never, says, only, live, work, Allows}
-use Rattle.mtapi_machine.specs.WorkRows.{can_take, picks}
-use Rattle.mtapi_machine.specs.Rows.{row}
-use Rattle.mtapi_machine.specs.Replay.{answer}
-use Rattle.mtapi_machine.proofs.Replays.{answer-allowed}
-use Rattle.mtapi_renaming.specs.Renaming.{Renaming}
-use Rattle.mtapi_renaming.specs.Renamed.{Room, renamed_task, renamed}
-use Rattle.mtapi_renaming.specs.Follows.{HasTask, NoHandle, Fits}
-use Rattle.mtapi_renaming.specs.Ops.{answered_kind, renamed_op, renamed_reply}
-use Rattle.mtapi_renaming.specs.Kinds.{made_kind, takes_task}
 use Rattle.mtapi_renaming.proofs.Lists.{IsOther, found-other}
 use Rattle.mtapi_renaming.proofs.Rows.{is_plain, no_plain, IsRenamed}
 use Rattle.mtapi_renaming.proofs.Table.{row_alike}
@@ -54,39 +33,6 @@ allowed_one w q r a b = let e : answer w ≡ Some q = answer-allowed w q a in le
 -- a renamed op chooses where the op does
 pub still : (g : Renaming) (o : Op) → chooses o ≡ false → chooses (renamed_op g o) ≡ false
 still g (op.TaskStart job args priority cores detached group) i = i
-still g (op.TaskEnqueue queue args cores detached group) i = i
-still g (op.ActionDelete a) i = i
-still g (op.ActionDisable a) i = i
-still g (op.ActionEnable a) i = i
-still g (op.TaskLook t last) i = i
-still g (op.TaskCancel t) i = i
-still g (op.GroupDelete a) i = i
-still g (op.AllLook a last) i = i
-still g (op.AnyLook a last) i = i
-still g (op.QueueEnable q) i = i
-still g (op.QueueDisable q) i = i
-still g (op.QueueDelete q) i = i
-still g (op.Finish t done) i = i
-still g (op.Asked t) i = i
-still g (op.WatchEnd t) i = i
-still g (op.TallyLock t) i = i
-still g (op.TallyRead t) i = i
-still g (op.TallyWrite t value) i = i
-still g (op.TallyEnd t) i = i
-still g (op.MutexDelete a) i = i
-still g (op.MutexLook a last) i = i
-still g (op.MutexUnlock a key) i = i
-still g (op.SemDelete a) i = i
-still g (op.SemLook a last) i = i
-still g (op.SemUnlock a) i = i
-still g (op.RwlDelete a) i = i
-still g (op.RwlLook a writer last) i = i
-still g (op.RwlUnlock a writer) i = i
-still g (op.ShmemDelete a) i = i
-still g (op.ShmemAttach a) i = i
-still g (op.ShmemDetach a) i = i
-still g (op.ShmemRead a cell) i = i
-still g (op.ShmemWrite a cell value) i = i
 still g o i = i
 
 -- a pick that takes nothing reads nothing of its reply

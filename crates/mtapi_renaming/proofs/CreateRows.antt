@@ -1,31 +1,10 @@
 -- The rows of the ops that make objects: a refusal, or the limit and then a new object, behind conditions. What holds of these parts
 -- holds of each such row. This is the one proof with a case for each of these ops.
-use Rattle.std.proofs.Common.{◌≡◌, ℕ, Bool, true, false, [], ◌∷◌, ◌++◌, Option, Some, None, refl, sym, subst}
-use Rattle.std.specs.Prelude.{◌==◌}
-use Rattle.mtapi_values.specs.declared.handles.ObjectKind.{ObjectKind}
+use Rattle.mtapi_renaming.proofs.Names.{◌≡◌, ℕ, Bool, true, false, [], ◌∷◌, ◌++◌, Option, Some, None, refl, sym, subst, ◌==◌, ObjectKind, live_object, count_listed, Action, new_action, NewTask, new_group, put_refusals, is_unended_in, new_mutex, new_sem, new_rwl, new_segment, Op, Reply, Handle, Mtapi, State, Objects, actions, tasks, Move, Sort, Groups, Queues, Mutexes, Sems, Rwls, Segments, Fields, all_of, makes_action, starts_task, makes, is_fresh, apply, Row, unless, Allows, after_row, says, mtapi_unless, live, creates, start_refusals, asked_for, asked_of, new_queue, row, full, made_kind}
 use Rattle.mtapi_values.specs.declared.handles.ObjectKind.TheVariants as kind
 use Rattle.mtapi_values.specs.declared.statuses.MtapiStatus.TheVariants as m
-use Rattle.handle_pool.specs.Issued.{live_object, count_listed}
-use Rattle.mtapi_objects.specs.Actions.{Action, new_action}
-use Rattle.mtapi_objects.specs.Tasks.{NewTask}
-use Rattle.mtapi_objects.specs.Groups.{new_group}
-use Rattle.mtapi_objects.specs.Queues.{put_refusals, is_unended_in}
-use Rattle.mtapi_objects.specs.Mutexes.{new_mutex}
-use Rattle.mtapi_objects.specs.Sems.{new_sem}
-use Rattle.mtapi_objects.specs.Rwls.{new_rwl}
-use Rattle.mtapi_objects.specs.Segments.{new_segment}
-use Rattle.mtapi_machine.specs.declared.ops.Op.{Op}
 use Rattle.mtapi_machine.specs.declared.ops.Op.TheVariants as op
-use Rattle.mtapi_machine.specs.declared.replies.Reply.{Reply}
-use Rattle.mtapi_machine.specs.declared.replies.Reply.TheVariants.{Handle, Mtapi}
-use Rattle.mtapi_machine.specs.State.{State, Objects, actions, tasks}
-use Rattle.mtapi_machine.specs.Moves.{Move, Sort, Groups, Queues, Mutexes, Sems, Rwls, Segments, Fields, all_of, makes_action, starts_task, makes, is_fresh, apply}
-use Rattle.mtapi_machine.specs.Row.{Row, unless, Allows, after_row, says, mtapi_unless, live, creates}
-use Rattle.mtapi_machine.specs.TaskRows.{start_refusals, asked_for, asked_of}
-use Rattle.mtapi_machine.specs.QueueRows.{new_queue}
-use Rattle.mtapi_machine.specs.Rows.{row}
 use Rattle.mtapi_renaming.proofs.Rows.{is_plain}
-use Rattle.mtapi_renaming.specs.Kinds.{full, made_kind}
 use Rattle.mtapi_renaming.proofs.Creates.{no_handle, reached, after_given, limit_plain}
 
 -- what holds of the rows of an op for each reply, by the kind that it makes

@@ -1,29 +1,7 @@
 -- Every row of an op that makes an object, in the renamed state: a line an op.
-use Rattle.std.proofs.Common.{◌≡◌, ℕ, Bool, Option, Some, None, refl, ap, subst}
-use Rattle.std.specs.Prelude.{◌==◌, not}
-use Rattle.mtapi_values.specs.declared.handles.ObjectKind.{ObjectKind}
+use Rattle.mtapi_renaming.proofs.Names.{◌≡◌, ℕ, Bool, Option, Some, None, refl, ap, subst, ◌==◌, not, ObjectKind, GroupHandle, QueueHandle, new_action, has_job, new_group, new_mutex, new_sem, sem_create_refusals, new_rwl, rwl_create_refusals, new_segment, shmem_create_refusals, Op, State, Groups, keyed_queues, keyed_mutexes, keyed_sems, keyed_rwls, keyed_segments, asked_for, asked_of, new_queue, row, Renaming, Room, renamed, Follows, renamed_op, made_kind}
 use Rattle.mtapi_values.specs.declared.handles.ObjectKind.TheVariants as kind
-use Rattle.mtapi_values.specs.declared.handles.GroupHandle.{GroupHandle}
-use Rattle.mtapi_values.specs.declared.handles.QueueHandle.{QueueHandle}
-use Rattle.mtapi_objects.specs.Actions.{new_action, has_job}
-use Rattle.mtapi_objects.specs.Groups.{new_group}
-use Rattle.mtapi_objects.specs.Mutexes.{new_mutex}
-use Rattle.mtapi_objects.specs.Sems.{new_sem, sem_create_refusals}
-use Rattle.mtapi_objects.specs.Rwls.{new_rwl, rwl_create_refusals}
-use Rattle.mtapi_objects.specs.Segments.{new_segment, shmem_create_refusals}
-use Rattle.mtapi_machine.specs.declared.ops.Op.{Op}
 use Rattle.mtapi_machine.specs.declared.ops.Op.TheVariants as op
-use Rattle.mtapi_machine.specs.State.{State}
-use Rattle.mtapi_machine.specs.Moves.{Groups}
-use Rattle.mtapi_machine.specs.KeyedRows.{keyed_queues, keyed_mutexes, keyed_sems, keyed_rwls, keyed_segments}
-use Rattle.mtapi_machine.specs.TaskRows.{asked_for, asked_of}
-use Rattle.mtapi_machine.specs.QueueRows.{new_queue}
-use Rattle.mtapi_machine.specs.Rows.{row}
-use Rattle.mtapi_renaming.specs.Renaming.{Renaming}
-use Rattle.mtapi_renaming.specs.Renamed.{Room, renamed}
-use Rattle.mtapi_renaming.specs.Follows.{Follows}
-use Rattle.mtapi_renaming.specs.Ops.{renamed_op}
-use Rattle.mtapi_renaming.specs.Kinds.{made_kind}
 use Rattle.mtapi_renaming.proofs.TaskRows.{action-any, count-in}
 use Rattle.mtapi_renaming.proofs.Creates.{CreateAlike, unless_creates, mrapi_creates, creates_action, creates_task, creates_sort, keyed_creates, starts_creates, on_queue}
 

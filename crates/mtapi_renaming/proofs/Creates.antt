@@ -1,29 +1,7 @@
 -- The rows of the ops that make objects, in the renamed state.
-use Rattle.std.proofs.Common.{◌≡◌, ◌↔◌, ℕ, Bool, true, false, List, [], ◌∷◌, Option, Some, None, refl, sym, ◌∙◌, ap, subst}
-use Rattle.std.specs.Prelude.{◌==◌, not, is_none}
-use Rattle.std.specs.Option.{option_map, IfSome}
-use Rattle.std.specs.Bool.{MatchBool}
-use Rattle.mtapi_values.specs.declared.handles.ObjectKind.{ObjectKind}
+use Rattle.mtapi_renaming.proofs.Names.{◌≡◌, ◌↔◌, ℕ, Bool, true, false, List, [], ◌∷◌, Option, Some, None, refl, sym, ◌∙◌, ap, subst, ◌==◌, not, is_none, option_map, IfSome, MatchBool, ObjectKind, MrapiStatus, holds, live_object, Action, has_job, has_enabled_job, NewTask, Group, Queue, Reply, Handle, State, Objects, actions, tasks, queues, Move, Sort, Groups, Queues, Fields, all_of, makes_action, starts_task, makes, is_fresh, apply, after_moves, of_sort, Row, unless, gives, Allows, after_row, says, only, mtapi_unless, handle_of, live, on, creates, Keyed, mrapi_unless, creates_keyed, start_refusals, Renaming, Has, with_pair, Room, renamed_task, renamed, HasTask, NoHandle, Fits, Follows, full, is_full_of, is_fresh_of, limit_of, CanBe, is_handle}
 use Rattle.mtapi_values.specs.declared.handles.ObjectKind.TheVariants as kind
-use Rattle.mtapi_values.specs.declared.statuses.MrapiStatus.{MrapiStatus}
-use Rattle.mtapi_values.specs.Conditions.{holds}
-use Rattle.handle_pool.specs.Issued.{live_object}
-use Rattle.mtapi_objects.specs.Actions.{Action, has_job, has_enabled_job}
-use Rattle.mtapi_objects.specs.Tasks.{NewTask}
-use Rattle.mtapi_objects.specs.Groups.{Group}
-use Rattle.mtapi_objects.specs.Queues.{Queue}
-use Rattle.mtapi_machine.specs.declared.replies.Reply.{Reply}
-use Rattle.mtapi_machine.specs.declared.replies.Reply.TheVariants.{Handle}
-use Rattle.mtapi_machine.specs.State.{State, Objects, actions, tasks, queues}
-use Rattle.mtapi_machine.specs.Moves.{Move, Sort, Groups, Queues, Mutexes, Sems, Rwls, Segments, Fields, all_of, makes_action, starts_task, makes, is_fresh, apply, after_moves}
-use Rattle.mtapi_machine.specs.Row.{Row, unless, gives, Allows, after_row, says, only, mtapi_unless, handle_of, live, on, creates}
-use Rattle.mtapi_machine.specs.KeyedRows.{Keyed, mrapi_unless, creates_keyed}
-use Rattle.mtapi_machine.specs.TaskRows.{start_refusals}
 use Rattle.mtapi_renaming.proofs.Rows.{is_plain}
-use Rattle.mtapi_renaming.specs.Renaming.{Renaming, Has, with_pair}
-use Rattle.mtapi_renaming.specs.Renamed.{Room, renamed_task, renamed}
-use Rattle.mtapi_renaming.specs.Follows.{HasTask, NoHandle, Fits, Follows}
-use Rattle.mtapi_renaming.specs.Kinds.{full, is_full_of, is_fresh_of, limit_of, CanBe, is_handle}
 use Rattle.mtapi_renaming.proofs.Lists.{found-has}
 use Rattle.mtapi_renaming.proofs.Moves.{sort-list, sort-has, renamed_new}
 use Rattle.mtapi_renaming.proofs.Fits.{sort-only}
@@ -104,36 +82,18 @@ can_be false false limit r ms = (λ i. absurd i, λ i. absurd (cc))
 
 -- the six kinds that no rule of tasks speaks of
 pub full_same : (t : Sort) (u : State) → is_full_of (all_of t).kind u ≡ full (all_of t) u
-full_same Groups u = refl
-full_same Queues u = refl
-full_same Mutexes u = refl
-full_same Sems u = refl
-full_same Rwls u = refl
-full_same Segments u = refl
+full_same t u = of_sort (λ T o. full o u ≡ full (all_of t) u) t refl
 
 pub fresh_same : (t : Sort) (u : State) (a : ℕ) → is_fresh_of (all_of t).kind u a ≡ is_fresh (all_of t) u a
-fresh_same Groups u a = refl
-fresh_same Queues u a = refl
-fresh_same Mutexes u a = refl
-fresh_same Sems u a = refl
-fresh_same Rwls u a = refl
-fresh_same Segments u a = refl
+fresh_same t u a = of_sort (λ T o. is_fresh o u a ≡ is_fresh (all_of t) u a) t refl
 
 pub limit_same : (t : Sort) → limit_of (all_of t).kind ≡ (all_of t).limit
 limit_same Groups = refl
-limit_same Queues = refl
-limit_same Mutexes = refl
-limit_same Sems = refl
-limit_same Rwls = refl
-limit_same Segments = refl
+limit_same t = refl
 
 pub limit_plain : (t : Sort) → is_plain (all_of t).limit ≡ true
 limit_plain Groups = refl
-limit_plain Queues = refl
-limit_plain Mutexes = refl
-limit_plain Sems = refl
-limit_plain Rwls = refl
-limit_plain Segments = refl
+limit_plain t = refl
 
 -- the group of a new task that is not refused
 pub group_has : {g : Renaming} {s : State} → Fits g s → (c : Option ℕ) → holds (λ a. is_none (live_object s.groups a)) c ≡ false → IfSome c (Has g kind.Group)

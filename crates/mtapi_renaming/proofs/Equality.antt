@@ -1,29 +1,8 @@
 -- The tests of equality decide it.
-use Rattle.std.proofs.Common.{◌≡◌, ℕ, Bool, true, false, ◌&&◌, cond, List, refl, sym, ◌∙◌, ap}
-use Rattle.std.specs.Prelude.{◌==◌}
-use Rattle.std.specs.Bool.{beq, Decides}
-use Rattle.std.specs.Ordering.{int_eq}
-use Rattle.std.specs.Cmp.{signed_Decides, booleans_Decides}
-use Rattle.std.specs.Cmp.Rules.{signed_items}
-use Rattle.std.specs.Cmp.Lexicographic.{pointwise}
-use Rattle.std.proofs.lemmas.Bool.Decides.{Decides-eqb}
-use Rattle.mtapi_values.specs.declared.kinds.Kind.{Kind}
+use Rattle.mtapi_renaming.proofs.Names.{◌≡◌, ℕ, Bool, true, false, ◌&&◌, cond, List, refl, sym, ◌∙◌, ap, ◌==◌, beq, Decides, int_eq, signed_Decides, booleans_Decides, signed_items, pointwise, Decides-eqb, Kind, MtapiStatus, MrapiStatus, mtapi_number, mrapi_number, TaskHandle, ActionHandle, TaskEnd, Completed, Cancelled, Failed, ActEnd, Done, Fails, kind_number, Reply, Ok, Handle, Number, Ended, Given, Pending, Picked, Idle, Stop, Asked, Mtapi, Mrapi, same_end, same_act, same_reply}
 use Rattle.mtapi_values.specs.declared.kinds.Kind.TheVariants as k
-use Rattle.mtapi_values.specs.declared.statuses.MtapiStatus.{MtapiStatus}
-use Rattle.mtapi_values.specs.declared.statuses.MrapiStatus.{MrapiStatus}
 use Rattle.mtapi_values.specs.declared.statuses.MtapiStatus.TheVariants as t
 use Rattle.mtapi_values.specs.declared.statuses.MrapiStatus.TheVariants as r
-use Rattle.mtapi_values.specs.Statuses.{mtapi_number, mrapi_number}
-use Rattle.mtapi_values.specs.declared.handles.TaskHandle.{TaskHandle}
-use Rattle.mtapi_values.specs.declared.handles.ActionHandle.{ActionHandle}
-use Rattle.mtapi_values.specs.declared.ends.TaskEnd.{TaskEnd}
-use Rattle.mtapi_values.specs.declared.ends.TaskEnd.TheVariants.{Completed, Cancelled, Failed}
-use Rattle.action_fn.specs.declared.finished.ActEnd.{ActEnd}
-use Rattle.action_fn.specs.declared.finished.ActEnd.TheVariants.{Done, Fails}
-use Rattle.mtapi_objects.specs.Tasks.{kind_number}
-use Rattle.mtapi_machine.specs.declared.replies.Reply.{Reply}
-use Rattle.mtapi_machine.specs.declared.replies.Reply.TheVariants.{Ok, Handle, Number, Ended, Given, Pending, Picked, Idle, Stop, Asked, Mtapi, Mrapi}
-use Rattle.mtapi_renaming.specs.Verdicts.{same_end, same_act, same_reply}
 
 -- both of two tests
 pub both_decide : {P Q : Type 0} (a b : Bool) → Decides a P → Decides b Q → Decides (a && b) (P × Q)
@@ -41,85 +20,21 @@ mtapi_of m = cond (m == 0) t.Success (cond (m == 1) t.Timeout (cond (m == 2) t.G
 
 mtapi-number : (c : MtapiStatus) → mtapi_of (mtapi_number c) ≡ c
 mtapi-number t.Success = refl
-mtapi-number t.Timeout = refl
-mtapi-number t.GroupCompleted = refl
-mtapi-number t.ErrParameter = refl
-mtapi-number t.ErrNodeInitialized = refl
-mtapi-number t.ErrNodeNotinit = refl
-mtapi-number t.ErrActionInvalid = refl
-mtapi-number t.ErrActionLimit = refl
-mtapi-number t.ErrActionFailed = refl
-mtapi-number t.ErrActionDeleted = refl
-mtapi-number t.ErrActionDisabled = refl
-mtapi-number t.ErrArgSize = refl
-mtapi-number t.ErrJobInvalid = refl
-mtapi-number t.ErrNoCore = refl
-mtapi-number t.ErrTaskInvalid = refl
-mtapi-number t.ErrTaskLimit = refl
-mtapi-number t.ErrTaskCancelled = refl
-mtapi-number t.ErrGroupInvalid = refl
-mtapi-number t.ErrGroupLimit = refl
-mtapi-number t.ErrQueueInvalid = refl
-mtapi-number t.ErrQueueLimit = refl
-mtapi-number t.ErrQueueDeleted = refl
-mtapi-number t.ErrQueueDisabled = refl
-mtapi-number t.ErrQueueExists = refl
-mtapi-number t.ErrWaitPending = refl
-mtapi-number t.ErrAttrNum = refl
-mtapi-number t.ErrAttrReadonly = refl
-mtapi-number t.ErrCoreNum = refl
-mtapi-number t.ErrSpent = refl
+mtapi-number c = refl
 
 abbrev mrapi_of : ℕ → MrapiStatus
 mrapi_of m = cond (m == 0) r.Success (cond (m == 1) r.Timeout (cond (m == 2) r.ErrParameter (cond (m == 3) r.ErrNodeNotinit (cond (m == 4) r.ErrMutexInvalid (cond (m == 5) r.ErrMutexIdInvalid (cond (m == 6) r.ErrMutexExists (cond (m == 7) r.ErrMutexLimit (cond (m == 8) r.ErrMutexLocked (cond (m == 9) r.ErrMutexNotlocked (cond (m == 10) r.ErrMutexKey (cond (m == 11) r.ErrMutexLockorder (cond (m == 12) r.ErrSemInvalid (cond (m == 13) r.ErrSemIdInvalid (cond (m == 14) r.ErrSemExists (cond (m == 15) r.ErrSemLocked (cond (m == 16) r.ErrSemNotlocked (cond (m == 17) r.ErrRwlInvalid (cond (m == 18) r.ErrRwlIdInvalid (cond (m == 19) r.ErrRwlExists (cond (m == 20) r.ErrRwlLimit (cond (m == 21) r.ErrRwlLocked (cond (m == 22) r.ErrRwlNotlocked (cond (m == 23) r.ErrShmInvalid (cond (m == 24) r.ErrShmIdInvalid (cond (m == 25) r.ErrShmExists (cond (m == 26) r.ErrShmLimit (cond (m == 27) r.ErrShmAttached (cond (m == 28) r.ErrShmNotattached (cond (m == 29) r.ErrSpent (r.ErrSemLimit))))))))))))))))))))))))))))))
 
 mrapi-number : (c : MrapiStatus) → mrapi_of (mrapi_number c) ≡ c
 mrapi-number r.Success = refl
-mrapi-number r.Timeout = refl
-mrapi-number r.ErrParameter = refl
-mrapi-number r.ErrNodeNotinit = refl
-mrapi-number r.ErrMutexInvalid = refl
-mrapi-number r.ErrMutexIdInvalid = refl
-mrapi-number r.ErrMutexExists = refl
-mrapi-number r.ErrMutexLimit = refl
-mrapi-number r.ErrMutexLocked = refl
-mrapi-number r.ErrMutexNotlocked = refl
-mrapi-number r.ErrMutexKey = refl
-mrapi-number r.ErrMutexLockorder = refl
-mrapi-number r.ErrSemInvalid = refl
-mrapi-number r.ErrSemIdInvalid = refl
-mrapi-number r.ErrSemExists = refl
-mrapi-number r.ErrSemLocked = refl
-mrapi-number r.ErrSemNotlocked = refl
-mrapi-number r.ErrRwlInvalid = refl
-mrapi-number r.ErrRwlIdInvalid = refl
-mrapi-number r.ErrRwlExists = refl
-mrapi-number r.ErrRwlLimit = refl
-mrapi-number r.ErrRwlLocked = refl
-mrapi-number r.ErrRwlNotlocked = refl
-mrapi-number r.ErrShmInvalid = refl
-mrapi-number r.ErrShmIdInvalid = refl
-mrapi-number r.ErrShmExists = refl
-mrapi-number r.ErrShmLimit = refl
-mrapi-number r.ErrShmAttached = refl
-mrapi-number r.ErrShmNotattached = refl
-mrapi-number r.ErrSpent = refl
-mrapi-number r.ErrSemLimit = refl
+mrapi-number c = refl
 
 abbrev kind_of : ℕ → Kind
 kind_of m = cond (m == 1) k.Add (cond (m == 2) k.Mul (cond (m == 3) k.Max (cond (m == 4) k.Div (cond (m == 5) k.Gcd (cond (m == 6) k.Echo (cond (m == 7) k.Triangle (cond (m == 8) k.Fail (cond (m == 9) k.Watch (k.Tally)))))))))
 
 kind-number : (c : Kind) → kind_of (kind_number c) ≡ c
 kind-number k.Add = refl
-kind-number k.Mul = refl
-kind-number k.Max = refl
-kind-number k.Div = refl
-kind-number k.Gcd = refl
-kind-number k.Echo = refl
-kind-number k.Triangle = refl
-kind-number k.Fail = refl
-kind-number k.Watch = refl
-kind-number k.Tally = refl
+kind-number k = refl
 
 mtapi_decides : (a b : MtapiStatus) → Decides (mtapi_number a == mtapi_number b) (a ≡ b)
 mtapi_decides a b = decides_so (mtapi_number a == mtapi_number b) (λ e. sym (mtapi-number a) ∙ ap mtapi_of e ∙ mtapi-number b) (λ e. ap mtapi_number e) (Decides-eqb (mtapi_number a) (mtapi_number b))

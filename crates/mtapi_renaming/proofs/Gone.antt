@@ -1,11 +1,6 @@
 -- The taken slots of a list and those that were the last of theirs: as many as were made at most, and none becomes live again.
-use Rattle.std.proofs.Common.{◌≡◌, ℕ, suc, ◌+◌, ◌≤◌, Bool, true, false, ◌&&◌, cond, List, [], ◌∷◌, length, Some, refl, sym, subst, ap, ◌∙◌, arith}
-use Rattle.std.specs.Prelude.{◌==◌, not, is_some}
-use Rattle.std.proofs.lemmas.Bool.{eqb-true}
-use Rattle.handle_pool.specs.Slots.{generation_of}
-use Rattle.handle_pool.specs.Issued.{Listed, live_of, lookup, live_object, issue, retired}
-use Rattle.handle_pool.proofs.ListedLemmas.{length-issue as lives-issue, retired-issue}
-use Rattle.mtapi_renaming.specs.Lasts.{lasts_in}
+use Rattle.mtapi_renaming.proofs.Names.{◌≡◌, ℕ, suc, ◌+◌, ◌≤◌, Bool, true, false, ◌&&◌, cond, List, [], ◌∷◌, length, Some, refl, sym, subst, ap, ◌∙◌, arith, ◌==◌, not, is_some, eqb-true, generation_of, Listed, live_of, lookup, live_object, issue, retired, retired-issue, lasts_in}
+use Rattle.handle_pool.proofs.ListedLemmas.{length-issue as lives-issue}
 use Rattle.mtapi_renaming.proofs.Handles.{SameHandles, length-same}
 use Rattle.mtapi_renaming.proofs.Counts.{length-issue}
 use Rattle.mtapi_renaming.proofs.Room.{taken, taken-same}

@@ -1,11 +1,5 @@
 -- Lists of the same handles, in the same order: what is read of the handles alone is the same.
-use Rattle.std.proofs.Common.{◌≡◌, ℕ, suc, ◌+◌, Bool, true, false, ◌&&◌, cond, List, [], ◌∷◌, length, refl, ap}
-use Rattle.std.specs.Prelude.{◌==◌, not}
-use Rattle.mtapi_values.specs.declared.ends.TaskEnd.{TaskEnd}
-use Rattle.handle_pool.specs.Slots.{slot_of}
-use Rattle.handle_pool.specs.Issued.{Listed, how_many, change, change_all, with_fields, gone, listed, issued_at}
-use Rattle.mtapi_objects.specs.Tasks.{Task, is_unended, end_each, ended}
-use Rattle.mtapi_objects.specs.Groups.{freed, let_go}
+use Rattle.mtapi_renaming.proofs.Names.{◌≡◌, ℕ, suc, ◌+◌, Bool, true, false, ◌&&◌, cond, List, [], ◌∷◌, length, refl, ap, ◌==◌, not, TaskEnd, slot_of, Listed, how_many, change, change_all, with_fields, gone, listed, issued_at, Task, is_unended, end_each, ended, freed, let_go}
 
 module _ {T : Type 0} where
   -- an object keeps its handle, and isn't live again

@@ -1,3 +1,4 @@
+pub mod Names
 pub mod Handles
 pub mod Lists
 pub mod Tasks

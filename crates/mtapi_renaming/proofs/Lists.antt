@@ -1,17 +1,6 @@
 -- What a list of objects answers once its handles are others, and what its changes leave of the renaming.
-use Rattle.std.proofs.Common.{◌≡◌, ℕ, Bool, true, false, ◌&&◌, cond, List, [], ◌∷◌, Some, refl, sym, ◌∙◌, ap, subst}
-use Rattle.std.specs.Prelude.{◌==◌}
-use Rattle.std.specs.Option.{option_map}
-use Rattle.std.proofs.lemmas.Bool.{eqb-true, eq-eqb}
-use Rattle.mtapi_values.specs.declared.handles.ObjectKind.{ObjectKind}
-use Rattle.handle_pool.specs.Issued.{Listed, live_of, lookup, live_object, any_live, any_listed, first_handle, count_listed, issue, change, change_all}
-use Rattle.handle_pool.specs.Inside.{inside, Apart, Agree}
+use Rattle.mtapi_renaming.proofs.Names.{◌≡◌, ℕ, Bool, true, false, ◌&&◌, cond, List, [], ◌∷◌, Some, refl, sym, ◌∙◌, ap, subst, ◌==◌, option_map, eqb-true, eq-eqb, ObjectKind, Listed, live_of, lookup, live_object, any_live, any_listed, first_handle, count_listed, issue, change, change_all, inside, Apart, Agree, at-inside, count-inside, same_tests, Renaming, Has, IsOneToOne, renamed_list, HasEach}
 use Rattle.handle_pool.specs.Inside.{turned as turned_one}
-use Rattle.handle_pool.proofs.InsideLemmas.{at-inside, count-inside}
-use Rattle.handle_pool.proofs.LiveLemmas.{same_tests}
-use Rattle.mtapi_renaming.specs.Renaming.{Renaming, Has, IsOneToOne}
-use Rattle.mtapi_renaming.specs.Renamed.{renamed_list}
-use Rattle.mtapi_renaming.specs.Follows.{HasEach}
 
 -- two handles are told apart by their other ones, where the first has another
 pub same_test : (g : Renaming) → IsOneToOne g → (k : ObjectKind) (a b : ℕ) → Has g k a → (g k a == g k b) ≡ (a == b)

@@ -1,24 +1,7 @@
 -- Each move of a state is, in the renamed state, the same move with the other handles, and leaves what the renaming has.
-use Rattle.std.proofs.Common.{◌≡◌, ℕ, ◌+◌, Bool, true, ◌&&◌, List, [], ◌∷◌, refl, sym, ◌∙◌, ap}
-use Rattle.std.specs.Prelude.{not, slice_set}
-use Rattle.std.specs.Option.{option_map}
+use Rattle.mtapi_renaming.proofs.Names.{◌≡◌, ℕ, ◌+◌, Bool, true, ◌&&◌, List, [], ◌∷◌, refl, sym, ◌∙◌, ap, not, slice_set, option_map, Kind, TaskEnd, Failed, MtapiStatus, Listed, live_of, change, issue, update, retire, gone, with_fields, change-inside, update-inside, retire-inside, issue-inside, Action, with_enabled, has_worker, Task, NewTask, Notes, new_task, Running, is_unstarted, is_unended, ended, with_state, with_notes, is_member, freed, let_go, Phase, State, workers, end_tasks, Move, Sort, Groups, Queues, Mutexes, Sems, Rwls, Segments, Fields, all_of, phase_is, released, stops, makes_action, enables, withdraws, starts_task, runs_task, ends_task, ends_waiting, notes, leaves, frees_members, lets_members_go, makes, alters, removes, apply, after_moves, Renaming, Room, renamed_list, renamed_task, renamed_notes, renamed, HasNotes, HasTask, NoHandle, HasEach, Fits}
 use Rattle.mtapi_values.specs.declared.handles.ObjectKind.TheVariants as kind
-use Rattle.mtapi_values.specs.declared.kinds.Kind.{Kind}
-use Rattle.mtapi_values.specs.declared.ends.TaskEnd.{TaskEnd}
-use Rattle.mtapi_values.specs.declared.ends.TaskEnd.TheVariants.{Failed}
-use Rattle.mtapi_values.specs.declared.statuses.MtapiStatus.{MtapiStatus}
-use Rattle.handle_pool.specs.Issued.{Listed, live_of, change, issue, update, retire, gone, with_fields}
 use Rattle.handle_pool.specs.Inside.{turned as turned_one}
-use Rattle.handle_pool.proofs.InsideLemmas.{change-inside, update-inside, retire-inside, issue-inside}
-use Rattle.mtapi_objects.specs.Actions.{Action, with_enabled, has_worker}
-use Rattle.mtapi_objects.specs.Tasks.{Task, NewTask, Notes, new_task, Running, is_unstarted, is_unended, ended, with_state, with_notes}
-use Rattle.mtapi_objects.specs.Groups.{is_member, freed, let_go}
-use Rattle.mtapi_machine.specs.declared.terms.Phase.{Phase}
-use Rattle.mtapi_machine.specs.State.{State, workers, end_tasks}
-use Rattle.mtapi_machine.specs.Moves.{Move, Sort, Groups, Queues, Mutexes, Sems, Rwls, Segments, Fields, all_of, phase_is, released, stops, makes_action, enables, withdraws, starts_task, runs_task, ends_task, ends_waiting, notes, leaves, frees_members, lets_members_go, makes, alters, removes, apply, after_moves}
-use Rattle.mtapi_renaming.specs.Renaming.{Renaming}
-use Rattle.mtapi_renaming.specs.Renamed.{Room, renamed_list, renamed_task, renamed_notes, renamed}
-use Rattle.mtapi_renaming.specs.Follows.{HasNotes, HasTask, NoHandle, HasEach, Fits}
 use Rattle.mtapi_renaming.proofs.Lists.{apart, same_count, change_all-renamed, has-change, has-change_all}
 use Rattle.mtapi_renaming.proofs.Tasks.{SameTest, same_member, same_workers, end_each-renamed, has-ends}
 
@@ -54,19 +37,11 @@ NoteKeeps g f = (y : Notes) → HasNotes g y → HasNotes g (f y)
 -- the objects of a kind in the renamed state
 pub sort-list : (g : Renaming) (x : Room) (k : Sort) (s : State) → (all_of k).list (renamed g x s) ≡ renamed_list (g (all_of k).kind) (λ y. y) ((all_of k).list s)
 sort-list g x Groups s = refl
-sort-list g x Queues s = refl
-sort-list g x Mutexes s = refl
-sort-list g x Sems s = refl
-sort-list g x Rwls s = refl
-sort-list g x Segments s = refl
+sort-list g x t s = refl
 
 pub sort-with : (g : Renaming) (x : Room) (k : Sort) (l : List (Listed (Fields k))) (s : State) → renamed g x ((all_of k).with_list l s) ≡ (all_of k).with_list (renamed_list (g (all_of k).kind) (λ y. y) l) (renamed g x s)
 sort-with g x Groups l s = refl
-sort-with g x Queues l s = refl
-sort-with g x Mutexes l s = refl
-sort-with g x Sems l s = refl
-sort-with g x Rwls l s = refl
-sort-with g x Segments l s = refl
+sort-with g x t l s = refl
 
 pub sort-has : (g : Renaming) (k : Sort) (s : State) → Fits g s → HasEach g (all_of k).kind NoHandle ((all_of k).list s)
 sort-has g Groups s n = n.groups

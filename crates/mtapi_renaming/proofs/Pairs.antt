@@ -1,25 +1,6 @@
 -- A renaming with one pair more: what it has, and what a state is by it.
-use Rattle.std.proofs.Common.{◌≡◌, ◌⊎◌, ℕ, zero, suc, ◌+◌, ◌≤◌, Bool, true, false, ◌&&◌, cond, List, [], ◌∷◌, Option, Some, None, inl, inr, refl, sym, ◌∙◌, ap, subst, arith}
-use Rattle.std.specs.Prelude.{◌==◌}
-use Rattle.std.specs.Option.{option_map, IfSome}
-use Rattle.std.proofs.lemmas.Bool.{eqb-true, eq-eqb}
-use Rattle.std.proofs.lemmas.Bool.Decides.{nat_tests}
-use Rattle.mtapi_values.specs.declared.handles.ObjectKind.{ObjectKind}
+use Rattle.mtapi_renaming.proofs.Names.{◌≡◌, ◌⊎◌, ℕ, zero, suc, ◌+◌, ◌≤◌, Bool, true, false, ◌&&◌, cond, List, [], ◌∷◌, Option, Some, None, inl, inr, refl, sym, ◌∙◌, ap, subst, arith, ◌==◌, option_map, IfSome, eqb-true, eq-eqb, nat_tests, ObjectKind, object_number, generation_of, Listed, listed, may_issue, issue, inside, Agree, count-inside, listed-issue, Action, Task, NewTask, new_task, State, Objects, Sort, Fields, all_of, makes_action, starts_task, makes, is_fresh, apply, snd_true, of_sort, sort_at, each_so, each_with, Renaming, Has, IsOneToOne, with_pair, Room, renamed_list, renamed_task, renamed, HasOrNone, HasTask, NoHandle, HasEach, Fits, listed_in, Only, Follows}
 use Rattle.mtapi_values.specs.declared.handles.ObjectKind.TheVariants as kind
-use Rattle.mtapi_values.specs.Layouts.{object_number}
-use Rattle.handle_pool.specs.Slots.{generation_of}
-use Rattle.handle_pool.specs.Issued.{Listed, listed, may_issue, issue}
-use Rattle.handle_pool.specs.Inside.{inside, Agree}
-use Rattle.handle_pool.proofs.InsideLemmas.{count-inside}
-use Rattle.handle_pool.proofs.ListedLemmas.{listed-issue}
-use Rattle.mtapi_objects.specs.Actions.{Action}
-use Rattle.mtapi_objects.specs.Tasks.{Task, NewTask, new_task}
-use Rattle.mtapi_machine.specs.State.{State, Objects}
-use Rattle.mtapi_machine.specs.Moves.{Sort, Groups, Queues, Mutexes, Sems, Rwls, Segments, Fields, all_of, makes_action, starts_task, makes, is_fresh, apply}
-use Rattle.mtapi_machine.proofs.Made.{snd_true}
-use Rattle.mtapi_renaming.specs.Renaming.{Renaming, Has, IsOneToOne, with_pair}
-use Rattle.mtapi_renaming.specs.Renamed.{Room, renamed_list, renamed_task, renamed}
-use Rattle.mtapi_renaming.specs.Follows.{HasOrNone, HasTask, NoHandle, HasEach, Fits, listed_in, Only, Follows}
 use Rattle.mtapi_renaming.proofs.Lists.{same_test, has-issue}
 use Rattle.mtapi_renaming.proofs.Moves.{renamed_new, sort-has, has-with, has-so, makes_action-renames, starts_task-renames, makes-renames}
 
@@ -29,13 +10,7 @@ object_of m = cond (m == 1) kind.Action (cond (m == 2) kind.Task (cond (m == 3) 
 
 object-number : (k : ObjectKind) → object_of (object_number k) ≡ k
 object-number kind.Action = refl
-object-number kind.Task = refl
-object-number kind.Group = refl
-object-number kind.Queue = refl
-object-number kind.Mutex = refl
-object-number kind.Sem = refl
-object-number kind.Rwl = refl
-object-number kind.Shmem = refl
+object-number k = refl
 
 same_kind : (j k : ObjectKind) → object_number j ≡ object_number k → j ≡ k
 same_kind j k e = sym (object-number j) ∙ ap object_of e ∙ object-number k
@@ -240,36 +215,22 @@ issue_there h w l =
     let d : cond {A = ℕ} (h == h) 1 0 ≡ 1 = ap (λ (b : Bool). cond {A = ℕ} b 1 0) (eq-eqb h h refl) in
     omega (arith, e, d)
 
+-- each list of a state with a new object has what it had
+abbrev HasMore : ℕ → (T : Type 0) → Objects T → List (Listed T) → List (Listed T) → Type 0
+HasMore b T o l m = listed b l ≤ listed b m
+
 module _ (s : State) (h : ℕ) where
   action_more : (a : Action) (j : ObjectKind) (b : ℕ) → listed_in j s b ≤ listed_in j (apply (makes_action h a) s) b
-  action_more a kind.Action b = issue_more h b a s.actions
-  action_more a j b = at_least (listed_in j s b)
+  action_more a j b = each_so (HasMore b) (λ T o l. at_least (listed b l)) s s.phase s.released s.stopped s.starts s.ends _ s.tasks (issue_more h b a s.actions) (at_least (listed b s.tasks)) j
 
   task_more : (t : NewTask) (j : ObjectKind) (b : ℕ) → listed_in j s b ≤ listed_in j (apply (starts_task h t) s) b
-  task_more t kind.Task b = issue_more h b (new_task t s.starts) s.tasks
-  task_more t j b = at_least (listed_in j s b)
+  task_more t j b = each_so (HasMore b) (λ T o l. at_least (listed b l)) s s.phase s.released s.stopped (s.starts + 1) s.ends s.actions _ (at_least (listed b s.actions)) (issue_more h b (new_task t s.starts) s.tasks) j
 
   sort_more : (t : Sort) (w : Fields t) (j : ObjectKind) (b : ℕ) → listed_in j s b ≤ listed_in j (apply (makes t h w) s) b
-  sort_more Groups w kind.Group b = issue_more h b w s.groups
-  sort_more Groups w j b = at_least (listed_in j s b)
-  sort_more Queues w kind.Queue b = issue_more h b w s.queues
-  sort_more Queues w j b = at_least (listed_in j s b)
-  sort_more Mutexes w kind.Mutex b = issue_more h b w s.mutexes
-  sort_more Mutexes w j b = at_least (listed_in j s b)
-  sort_more Sems w kind.Sem b = issue_more h b w s.sems
-  sort_more Sems w j b = at_least (listed_in j s b)
-  sort_more Rwls w kind.Rwl b = issue_more h b w s.rwls
-  sort_more Rwls w j b = at_least (listed_in j s b)
-  sort_more Segments w kind.Shmem b = issue_more h b w s.segments
-  sort_more Segments w j b = at_least (listed_in j s b)
+  sort_more t w j b = each_with (HasMore b) (λ T o l. at_least (listed b l)) s t _ (issue_more h b w ((all_of t).list s)) j
 
   sort_there : (t : Sort) (w : Fields t) → 1 ≤ listed_in (all_of t).kind (apply (makes t h w) s) h
-  sort_there Groups w = issue_there h w s.groups
-  sort_there Queues w = issue_there h w s.queues
-  sort_there Mutexes w = issue_there h w s.mutexes
-  sort_there Sems w = issue_there h w s.sems
-  sort_there Rwls w = issue_there h w s.rwls
-  sort_there Segments w = issue_there h w s.segments
+  sort_there t w = of_sort (λ T o. 1 ≤ listed h (o.list (apply (makes t h w) s))) t (subst (λ (l : List (Listed (Fields t))). 1 ≤ listed h l) (sym (sort_at t _ s)) (issue_there h w ((all_of t).list s)))
 
 -- a new object: the state after it by the longer renaming, and what that renaming has
 pub record MakesPair (g : Renaming) (x : Room) (s : State) (k : ObjectKind) (h other : ℕ) (own others : State) : Type 0 where

@@ -1,23 +1,6 @@
 -- A worker that may take a task isn't told anything else.
-use Rattle.std.proofs.Common.{◌≡◌, ℕ, Bool, true, false, ◌&&◌, cond, List, [], ◌∷◌, Option, Some, None, refl, sym, subst}
-use Rattle.std.specs.Prelude.{not, ℤ}
-use Rattle.mtapi_values.specs.declared.kinds.Kind.{Kind}
-use Rattle.mtapi_values.specs.declared.handles.TaskHandle.{TaskHandle}
-use Rattle.mtapi_values.specs.declared.handles.ActionHandle.{ActionHandle}
-use Rattle.handle_pool.specs.Issued.{live_of, live_object, any_listed}
-use Rattle.handle_pool.proofs.LiveLemmas.{any_live-at}
-use Rattle.mtapi_objects.specs.Actions.{Action, is_eligible}
-use Rattle.mtapi_objects.specs.Tasks.{Task}
+use Rattle.mtapi_renaming.proofs.Names.{◌≡◌, ℕ, Bool, true, false, ◌&&◌, cond, List, [], ◌∷◌, Option, Some, None, refl, sym, subst, not, ℤ, Kind, TaskHandle, ActionHandle, live_of, live_object, any_listed, any_live-at, Action, is_eligible, Task, Reply, Picked, Idle, Stop, State, workers, is_stop, stops, runs_task, Row, unless, gives, never, Allows, says, only, live, is_ready, can_take, has_better, picks, row, fst_true, snd_true, takes_task}
 use Rattle.mtapi_machine.specs.declared.ops.Op.TheVariants as op
-use Rattle.mtapi_machine.specs.declared.replies.Reply.{Reply}
-use Rattle.mtapi_machine.specs.declared.replies.Reply.TheVariants.{Picked, Idle, Stop}
-use Rattle.mtapi_machine.specs.State.{State, workers, is_stop}
-use Rattle.mtapi_machine.specs.Moves.{stops, runs_task}
-use Rattle.mtapi_machine.specs.Row.{Row, unless, gives, never, Allows, says, only, live}
-use Rattle.mtapi_machine.specs.WorkRows.{is_ready, can_take, has_better, picks}
-use Rattle.mtapi_machine.specs.Rows.{row}
-use Rattle.mtapi_machine.proofs.Made.{fst_true, snd_true}
-use Rattle.mtapi_renaming.specs.Kinds.{takes_task}
 
 -- where a row takes a task, it allows nothing else
 record OnlyTakes (own : Reply → Row) : Type 0 where

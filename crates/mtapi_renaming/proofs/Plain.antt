@@ -1,15 +1,6 @@
 -- No op that makes an object is refused by a handle.
-use Rattle.std.proofs.Common.{◌≡◌, ℕ, Bool, true, false, cond, Option, Some, None, subst}
-use Rattle.mtapi_values.specs.declared.handles.ObjectKind.{ObjectKind}
-use Rattle.mtapi_machine.specs.declared.ops.Op.{Op}
-use Rattle.mtapi_machine.specs.declared.replies.Reply.{Reply}
-use Rattle.mtapi_machine.specs.declared.replies.Reply.TheVariants.{Ok}
-use Rattle.mtapi_machine.specs.State.{State, Objects, actions, tasks}
-use Rattle.mtapi_machine.specs.Moves.{Move, all_of, makes_action, starts_task, makes}
-use Rattle.mtapi_machine.specs.Row.{Row, unless, says, creates}
+use Rattle.mtapi_renaming.proofs.Names.{◌≡◌, ℕ, Bool, true, false, cond, Option, Some, None, subst, ObjectKind, Op, Reply, Ok, State, Objects, actions, tasks, Move, all_of, makes_action, starts_task, makes, Row, unless, says, creates, made_kind, is_handle, makes_or_not, refusal_in, refusal_of}
 use Rattle.mtapi_renaming.proofs.Rows.{is_plain}
-use Rattle.mtapi_renaming.specs.Kinds.{made_kind, is_handle}
-use Rattle.mtapi_renaming.specs.Refusals.{makes_or_not, refusal_in, refusal_of}
 use Rattle.mtapi_renaming.proofs.CreateRows.{HoldsInParts, create_row}
 use Rattle.mtapi_renaming.proofs.Refusals.{creates_none}
 use Rattle.mtapi_renaming.proofs.Tells.{no_handle_in}

@@ -1,36 +1,6 @@
 -- What an op that makes an object is refused for: in the renamed state the same, and a refusal changes nothing.
-use Rattle.std.proofs.Common.{◌≡◌, ℕ, Bool, true, false, cond, List, [], ◌∷◌, Option, Some, None, refl, sym, ◌∙◌, ap, subst}
-use Rattle.std.specs.Prelude.{◌==◌, not}
-use Rattle.std.specs.Option.{option_map}
-use Rattle.mtapi_values.specs.declared.handles.ObjectKind.{ObjectKind}
-use Rattle.mtapi_values.specs.declared.handles.QueueHandle.{QueueHandle}
-use Rattle.mtapi_values.specs.declared.handles.GroupHandle.{GroupHandle}
-use Rattle.mtapi_values.specs.declared.statuses.MrapiStatus.{MrapiStatus}
-use Rattle.mtapi_objects.specs.Actions.{new_action, has_job, has_enabled_job}
-use Rattle.mtapi_objects.specs.Tasks.{NewTask}
-use Rattle.mtapi_objects.specs.Groups.{new_group}
-use Rattle.mtapi_objects.specs.Queues.{Queue}
-use Rattle.mtapi_objects.specs.Mutexes.{new_mutex}
-use Rattle.mtapi_objects.specs.Sems.{new_sem, sem_create_refusals}
-use Rattle.mtapi_objects.specs.Rwls.{new_rwl, rwl_create_refusals}
-use Rattle.mtapi_objects.specs.Segments.{new_segment, shmem_create_refusals}
-use Rattle.mtapi_machine.specs.declared.ops.Op.{Op}
+use Rattle.mtapi_renaming.proofs.Names.{◌≡◌, ℕ, Bool, true, false, cond, List, [], ◌∷◌, Option, Some, None, refl, sym, ◌∙◌, ap, subst, ◌==◌, not, option_map, ObjectKind, QueueHandle, GroupHandle, MrapiStatus, new_action, has_job, has_enabled_job, NewTask, new_group, Queue, new_mutex, new_sem, sem_create_refusals, new_rwl, rwl_create_refusals, new_segment, shmem_create_refusals, Op, Reply, Ok, Handle, State, Objects, actions, tasks, Move, Sort, Groups, Queues, Fields, all_of, makes_action, starts_task, makes, is_fresh, Row, unless, gives, Allows, after_row, says, only, mtapi_unless, handle_of, live, creates, Keyed, keyed_queues, keyed_mutexes, keyed_sems, keyed_rwls, keyed_segments, mrapi_unless, creates_keyed, start_refusals, asked_for, asked_of, new_queue, row, Renaming, Room, renamed, Fits, renamed_op, full, made_kind, is_handle, makes_or_not, refusal_in, refusal_of}
 use Rattle.mtapi_machine.specs.declared.ops.Op.TheVariants as op
-use Rattle.mtapi_machine.specs.declared.replies.Reply.{Reply}
-use Rattle.mtapi_machine.specs.declared.replies.Reply.TheVariants.{Ok, Handle}
-use Rattle.mtapi_machine.specs.State.{State, Objects, actions, tasks}
-use Rattle.mtapi_machine.specs.Moves.{Move, Sort, Groups, Queues, Fields, all_of, makes_action, starts_task, makes, is_fresh}
-use Rattle.mtapi_machine.specs.Row.{Row, unless, gives, Allows, after_row, says, only, mtapi_unless, handle_of, live, creates}
-use Rattle.mtapi_machine.specs.KeyedRows.{Keyed, keyed_queues, keyed_mutexes, keyed_sems, keyed_rwls, keyed_segments, mrapi_unless, creates_keyed}
-use Rattle.mtapi_machine.specs.TaskRows.{start_refusals, asked_for, asked_of}
-use Rattle.mtapi_machine.specs.QueueRows.{new_queue}
-use Rattle.mtapi_machine.specs.Rows.{row}
-use Rattle.mtapi_renaming.specs.Renaming.{Renaming}
-use Rattle.mtapi_renaming.specs.Renamed.{Room, renamed}
-use Rattle.mtapi_renaming.specs.Follows.{Fits}
-use Rattle.mtapi_renaming.specs.Ops.{renamed_op}
-use Rattle.mtapi_renaming.specs.Kinds.{full, made_kind, is_handle}
-use Rattle.mtapi_renaming.specs.Refusals.{makes_or_not, refusal_in, refusal_of}
 use Rattle.mtapi_renaming.proofs.Moves.{renamed_new}
 use Rattle.mtapi_renaming.proofs.Rows.{sort-found, sort-any}
 use Rattle.mtapi_renaming.proofs.TaskRows.{action-any, served, group_missing, count-in}

@@ -1,11 +1,5 @@
 -- How many slots of a list are taken, by live objects and by those of the last generation that aren't: never more than there may be.
-use Rattle.std.proofs.Common.{◌≡◌, ℕ, ◌+◌, ◌≤◌, Bool, true, false, ◌&&◌, cond, List, [], ◌∷◌, length, refl, sym, subst, arith}
-use Rattle.std.specs.Prelude.{◌==◌, not, is_some}
-use Rattle.std.proofs.lemmas.Bool.Decides.{nat_tests}
-use Rattle.handle_pool.specs.Slots.{generation_of}
-use Rattle.handle_pool.specs.Issued.{Listed, how_many, live_of, live_object, issue, retired, is_full}
-use Rattle.handle_pool.proofs.ListedLemmas.{length-issue, retired-issue}
-use Rattle.mtapi_renaming.specs.Lasts.{lasts_in}
+use Rattle.mtapi_renaming.proofs.Names.{◌≡◌, ℕ, ◌+◌, ◌≤◌, Bool, true, false, ◌&&◌, cond, List, [], ◌∷◌, length, refl, sym, subst, arith, ◌==◌, not, is_some, nat_tests, generation_of, Listed, how_many, live_of, live_object, issue, retired, is_full, length-issue, retired-issue, lasts_in}
 use Rattle.mtapi_renaming.proofs.Handles.{SameHandles}
 use Rattle.mtapi_renaming.proofs.Lasts.{OnceEach, retired-gone}
 

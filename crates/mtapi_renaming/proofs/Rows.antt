@@ -1,27 +1,7 @@
 -- The ways in which a row is made up: where its parts are alike in the renamed state, so is the whole.
-use Rattle.std.proofs.Common.{◌≡◌, ◌↔◌, ℕ, Bool, true, false, List, [], ◌∷◌, Option, Some, None, refl, sym, ◌∙◌, ap, subst}
-use Rattle.std.specs.Prelude.{◌==◌, cond}
-use Rattle.std.specs.Option.{option_map}
-use Rattle.mtapi_values.specs.declared.handles.ObjectKind.{ObjectKind}
+use Rattle.mtapi_renaming.proofs.Names.{◌≡◌, ◌↔◌, ℕ, Bool, true, false, List, [], ◌∷◌, Option, Some, None, refl, sym, ◌∙◌, ap, subst, ◌==◌, option_map, ObjectKind, TaskHandle, ActionHandle, MrapiStatus, TaskEnd, Kind, Listed, live_of, live_object, any_listed, first_handle, Action, Task, Reply, Handle, Given, Picked, State, actions, tasks, Move, Sort, Groups, Fields, all_of, Row, unless, gives, never, Allows, after_row, says, not_yet, only, live, on, chosen, Keyed, mrapi_unless, found, gets, alters_one, looks_one, deletes, Renaming, Has, IsOneToOne, Room, renamed_task, renamed, HasTask, NoHandle, Fits, renamed_answer}
+use Rattle.std.specs.Prelude.{cond}
 use Rattle.mtapi_values.specs.declared.handles.ObjectKind.TheVariants as kind
-use Rattle.mtapi_values.specs.declared.handles.TaskHandle.{TaskHandle}
-use Rattle.mtapi_values.specs.declared.handles.ActionHandle.{ActionHandle}
-use Rattle.mtapi_values.specs.declared.statuses.MrapiStatus.{MrapiStatus}
-use Rattle.mtapi_values.specs.declared.ends.TaskEnd.{TaskEnd}
-use Rattle.mtapi_values.specs.declared.kinds.Kind.{Kind}
-use Rattle.handle_pool.specs.Issued.{Listed, live_of, live_object, any_listed, first_handle}
-use Rattle.mtapi_objects.specs.Actions.{Action}
-use Rattle.mtapi_objects.specs.Tasks.{Task}
-use Rattle.mtapi_machine.specs.declared.replies.Reply.{Reply}
-use Rattle.mtapi_machine.specs.declared.replies.Reply.TheVariants.{Handle, Given, Picked}
-use Rattle.mtapi_machine.specs.State.{State, actions, tasks}
-use Rattle.mtapi_machine.specs.Moves.{Move, Sort, Groups, Queues, Mutexes, Sems, Rwls, Segments, Fields, all_of}
-use Rattle.mtapi_machine.specs.Row.{Row, unless, gives, never, Allows, after_row, says, not_yet, only, live, on, chosen}
-use Rattle.mtapi_machine.specs.KeyedRows.{Keyed, mrapi_unless, found, gets, alters_one, looks_one, deletes}
-use Rattle.mtapi_renaming.specs.Renaming.{Renaming, Has, IsOneToOne}
-use Rattle.mtapi_renaming.specs.Renamed.{Room, renamed_task, renamed}
-use Rattle.mtapi_renaming.specs.Follows.{HasTask, NoHandle, Fits}
-use Rattle.mtapi_renaming.specs.Ops.{renamed_answer}
 use Rattle.mtapi_renaming.proofs.Lists.{found-renamed, found-has, first-has, same_any, same_first}
 use Rattle.mtapi_renaming.proofs.Moves.{MovesRename, no_move, one_move, sort-list, sort-has, alters-renames, removes-renames}
 
@@ -113,11 +93,7 @@ reply_one g one k y r has e = plain_one g k y r refl e
 
 pub sort-invalid : (t : Sort) → is_plain (all_of t).invalid ≡ true
 sort-invalid Groups = refl
-sort-invalid Queues = refl
-sort-invalid Mutexes = refl
-sort-invalid Sems = refl
-sort-invalid Rwls = refl
-sort-invalid Segments = refl
+sort-invalid t = refl
 
 -- the reply is another one's, with other handles
 pub record IsRenamed (g : Renaming) (k : Option ObjectKind) (q : Reply) : Type 0 where

@@ -1,24 +1,8 @@
 -- The laws of one step and of the start.
-use Rattle.std.proofs.Common.{◌≡◌, ◌↔◌, ℕ, suc, Bool, true, false, cond, List, [], ◌∷◌, length, Some, None, refl, sym, ◌∙◌, ap, subst, arith}
-use Rattle.std.specs.Prelude.{is_some}
-use Rattle.mtapi_values.specs.declared.handles.ObjectKind.{ObjectKind}
+use Rattle.mtapi_renaming.proofs.Names.{◌≡◌, ◌↔◌, ℕ, suc, Bool, true, false, cond, List, [], ◌∷◌, length, Some, None, refl, sym, ◌∙◌, ap, subst, arith, is_some, ObjectKind, Listed, live_of, live_object, inside, Terms, Op, Reply, State, Row, Allows, row, Renaming, Room, renamed_list, renamed_task, renamed, HasTask, NoHandle, Follows, renamed_op, renamed_reply, made_kind, live_in, is_live_of, takes_task, row_in, StepRenames, CreateRenames, LiveAlike, StartRenames}
 use Rattle.mtapi_values.specs.declared.handles.ObjectKind.TheVariants as kind
-use Rattle.handle_pool.specs.Issued.{Listed, live_of, live_object}
-use Rattle.handle_pool.specs.Inside.{inside}
-use Rattle.mtapi_machine.specs.declared.terms.Terms.{Terms}
-use Rattle.mtapi_machine.specs.declared.ops.Op.{Op}
 use Rattle.mtapi_machine.specs.declared.ops.Op.TheVariants as op
-use Rattle.mtapi_machine.specs.declared.replies.Reply.{Reply}
-use Rattle.mtapi_machine.specs.State.{State}
-use Rattle.mtapi_machine.specs.Row.{Row, Allows}
-use Rattle.mtapi_machine.specs.Rows.{row}
 use Rattle.mtapi_renaming.proofs.Lists.{found-renamed}
-use Rattle.mtapi_renaming.specs.Renaming.{Renaming}
-use Rattle.mtapi_renaming.specs.Renamed.{Room, renamed_list, renamed_task, renamed}
-use Rattle.mtapi_renaming.specs.Follows.{HasTask, NoHandle, Follows}
-use Rattle.mtapi_renaming.specs.Ops.{renamed_op, renamed_reply}
-use Rattle.mtapi_renaming.specs.Kinds.{made_kind, live_in, is_live_of, takes_task}
-use Rattle.mtapi_renaming.specs.Laws.{row_in, StepRenames, CreateRenames, LiveAlike, StartRenames}
 use Rattle.mtapi_renaming.proofs.TaskRows.{is_some-map}
 use Rattle.mtapi_renaming.proofs.Table.{row_alike}
 use Rattle.mtapi_renaming.proofs.Fits.{follows_after}

@@ -1,36 +1,9 @@
 -- Every row of an op that makes nothing, in the renamed state: a line an op.
-use Rattle.std.proofs.Common.{◌≡◌, ℕ, Bool, true, false, ◌||◌, [], ◌∷◌, None, refl, sym, ◌∙◌, ap, subst}
-use Rattle.std.specs.Prelude.{◌==◌, not, pos, ◌+◌}
+use Rattle.mtapi_renaming.proofs.Names.{◌≡◌, ℕ, Bool, true, false, ◌||◌, [], ◌∷◌, None, refl, sym, ◌∙◌, ap, subst, ◌==◌, not, pos, Cancelled, Failed, live_of, any_listed, with_fields, gone, with_enabled, has_job, runs_on, asked_once, cell_in, tally_args, with_tally, tally_written, is_member, is_unended_member, endings, first_fault, opened, is_in, is_shut_in, mutex_delete_refusals, mutex_look_refusals, mutex_busy, locked_by, mutex_unlock_refusals, unlocked, sem_delete_refusals, sem_busy, sem_taken, sem_unlock_refusals, sem_given, rwl_delete_refusals, rwl_look_refusals, rwl_busy, rwl_taken, rwl_unlock_refusals, rwl_given, shmem_delete_refusals, attach_refusals, detach_refusals, with_attached, cell_refusals, with_cell, Closing, Op, Reply, Ok, Number, State, is_stop, Groups, Queues, Mutexes, Sems, Rwls, Segments, frees_members, gives, keyed_queues, keyed_mutexes, keyed_sems, keyed_rwls, keyed_segments, verdict, task_end, row, answered_kind, Renaming, Room, renamed, Fits, renamed_op, renamed_reply, made_kind}
+use Rattle.std.specs.Prelude.{◌+◌}
 use Rattle.mtapi_values.specs.declared.handles.ObjectKind.TheVariants as kind
 use Rattle.mtapi_values.specs.declared.statuses.MtapiStatus.TheVariants as m
-use Rattle.mtapi_values.specs.declared.ends.TaskEnd.TheVariants.{Cancelled, Failed}
-use Rattle.handle_pool.specs.Issued.{live_of, any_listed, with_fields, gone}
-use Rattle.mtapi_objects.specs.Actions.{with_enabled, has_job}
-use Rattle.mtapi_objects.specs.Tasks.{runs_on, asked_once, cell_in, tally_args, with_tally, tally_written}
-use Rattle.mtapi_objects.specs.Groups.{is_member, is_unended_member, endings, first_fault}
-use Rattle.mtapi_objects.specs.Queues.{opened, is_in, is_shut_in}
-use Rattle.mtapi_objects.specs.Mutexes.{mutex_delete_refusals, mutex_look_refusals, mutex_busy, locked_by, mutex_unlock_refusals, unlocked}
-use Rattle.mtapi_objects.specs.Sems.{sem_delete_refusals, sem_busy, sem_taken, sem_unlock_refusals, sem_given}
-use Rattle.mtapi_objects.specs.Rwls.{rwl_delete_refusals, rwl_look_refusals, rwl_busy, rwl_taken, rwl_unlock_refusals, rwl_given}
-use Rattle.mtapi_objects.specs.Segments.{shmem_delete_refusals, attach_refusals, detach_refusals, with_attached, cell_refusals, with_cell}
-use Rattle.mtapi_machine.specs.declared.terms.Phase.TheVariants.{Closing}
-use Rattle.mtapi_machine.specs.declared.ops.Op.{Op}
 use Rattle.mtapi_machine.specs.declared.ops.Op.TheVariants as op
-use Rattle.mtapi_machine.specs.declared.replies.Reply.{Reply}
-use Rattle.mtapi_machine.specs.declared.replies.Reply.TheVariants.{Ok, Number}
-use Rattle.mtapi_machine.specs.State.{State, is_stop}
-use Rattle.mtapi_machine.specs.Moves.{Groups, Queues, Mutexes, Sems, Rwls, Segments, frees_members}
-use Rattle.mtapi_machine.specs.Row.{gives}
-use Rattle.mtapi_machine.specs.KeyedRows.{keyed_queues, keyed_mutexes, keyed_sems, keyed_rwls, keyed_segments}
-use Rattle.mtapi_machine.specs.GroupRows.{verdict}
-use Rattle.mtapi_machine.specs.WorkRows.{task_end}
-use Rattle.mtapi_machine.specs.Rows.{row}
-use Rattle.mtapi_renaming.specs.Ops.{answered_kind}
-use Rattle.mtapi_renaming.specs.Renaming.{Renaming}
-use Rattle.mtapi_renaming.specs.Renamed.{Room, renamed}
-use Rattle.mtapi_renaming.specs.Follows.{Fits}
-use Rattle.mtapi_renaming.specs.Ops.{renamed_op, renamed_reply}
-use Rattle.mtapi_renaming.specs.Kinds.{made_kind}
 use Rattle.mtapi_renaming.proofs.Tasks.{same_member, same_unended_member, same_in, endings-renamed, fault-renamed}
 use Rattle.mtapi_renaming.proofs.Moves.{one_move, then_moves, phase-renames, released-renames, stops-renames, enables-renames, withdraws-renames, ends_task-renames, notes-renames, ends_waiting-renames, frees_members-renames, lets_members_go-renames, alters-renames, removes-renames}
 use Rattle.mtapi_renaming.proofs.Rows.{Alike, unless_alike, gives_alike, says_alike, not_yet_alike, cond_alike, mrapi_alike, on_action, on_task, on_sort, chosen_sort, alters_alike, looks_alike, deletes_alike, gets_alike}

@@ -1,28 +1,8 @@
 -- The rows of tasks, groups and queues, in the renamed state.
-use Rattle.std.proofs.Common.{◌≡◌, ℕ, Bool, true, false, cond, List, [], ◌∷◌, Option, Some, None, refl, sym, ◌∙◌, ap, subst}
-use Rattle.std.specs.Prelude.{not, is_none, is_some}
-use Rattle.std.specs.Option.{option_map}
-use Rattle.mtapi_values.specs.declared.handles.ObjectKind.{ObjectKind}
+use Rattle.mtapi_renaming.proofs.Names.{◌≡◌, ℕ, Bool, true, false, cond, List, [], ◌∷◌, Option, Some, None, refl, sym, ◌∙◌, ap, subst, not, is_none, is_some, option_map, ObjectKind, MtapiStatus, Cancelled, holds, live_object, any_listed, count_listed, Action, Task, TaskState, Scheduled, Running, Ending, in_no_group, Queue, opened, is_in, is_unended_in, is_shut_in, Reply, Ok, State, workers, Queues, Groups, ends_waiting, alters, is_served, gives, looks_at, cancels, verdict, gives_end, gives_first, Renaming, Has, Room, renamed_task, renamed, HasTask, NoHandle, Fits}
 use Rattle.mtapi_values.specs.declared.handles.ObjectKind.TheVariants as kind
-use Rattle.mtapi_values.specs.declared.statuses.MtapiStatus.{MtapiStatus}
-use Rattle.mtapi_values.specs.declared.ends.TaskEnd.TheVariants.{Cancelled}
-use Rattle.mtapi_values.specs.Conditions.{holds}
-use Rattle.handle_pool.specs.Issued.{live_object, any_listed, count_listed}
-use Rattle.mtapi_objects.specs.Actions.{Action}
-use Rattle.mtapi_objects.specs.Tasks.{Task, TaskState, Scheduled, Running, Ended}
-use Rattle.mtapi_objects.specs.Groups.{Ending, in_no_group}
-use Rattle.mtapi_objects.specs.Queues.{Queue, opened, is_in, is_unended_in, is_shut_in}
-use Rattle.mtapi_machine.specs.declared.replies.Reply.{Reply}
-use Rattle.mtapi_machine.specs.declared.replies.Reply.TheVariants.{Ok}
-use Rattle.mtapi_machine.specs.State.{State, workers}
-use Rattle.mtapi_machine.specs.Moves.{Queues, Groups, ends_waiting, alters, is_served}
-use Rattle.mtapi_machine.specs.Row.{gives}
-use Rattle.mtapi_machine.specs.TaskRows.{looks_at, cancels}
-use Rattle.mtapi_machine.specs.GroupRows.{verdict, gives_end, gives_first}
+use Rattle.mtapi_objects.specs.Tasks.{Ended}
 use Rattle.mtapi_renaming.proofs.Rows.{is_plain}
-use Rattle.mtapi_renaming.specs.Renaming.{Renaming, Has}
-use Rattle.mtapi_renaming.specs.Renamed.{Room, renamed_task, renamed}
-use Rattle.mtapi_renaming.specs.Follows.{HasTask, NoHandle, Fits}
 use Rattle.mtapi_renaming.proofs.Lists.{found-renamed, found-has, same_any, same_count}
 use Rattle.mtapi_renaming.proofs.Tasks.{SameTest, same_in, same_unended_in, same_workers, renamed_endings}
 use Rattle.mtapi_renaming.proofs.Moves.{one_move, then_moves, notes-renames, leaves-renames, ends_task-renames, ends_waiting-renames, alters-renames}

@@ -1,21 +1,7 @@
 -- What is read of a task, and what its list becomes, once its handles are others.
-use Rattle.std.proofs.Common.{◌≡◌, ℕ, zero, suc, ◌+◌, Bool, true, false, ◌&&◌, cond, List, [], ◌∷◌, Option, Some, None, refl, sym, ◌∙◌, ap}
-use Rattle.std.specs.Prelude.{◌==◌, not, nat_lt}
-use Rattle.std.specs.Option.{option_map, option_or, IfSome}
-use Rattle.mtapi_values.specs.declared.handles.ObjectKind.{ObjectKind}
+use Rattle.mtapi_renaming.proofs.Names.{◌≡◌, ℕ, zero, suc, ◌+◌, Bool, true, false, ◌&&◌, cond, List, [], ◌∷◌, Option, Some, None, refl, sym, ◌∙◌, ap, ◌==◌, not, nat_lt, option_map, option_or, IfSome, ObjectKind, TaskEnd, holds, Listed, live_of, inside, Action, some_below, is_eligible, has_worker, Task, is_unended, end_of, ended, end_each, is_member, is_unended_member, Ending, insert, insert_ended, endings, fault_of, first_fault, is_in, is_unended_in, is_head, Renaming, Has, IsOneToOne, renamed_list, renamed_task, HasTask, NoHandle, HasEach}
 use Rattle.mtapi_values.specs.declared.handles.ObjectKind.TheVariants as kind
-use Rattle.mtapi_values.specs.declared.ends.TaskEnd.{TaskEnd}
-use Rattle.mtapi_values.specs.Conditions.{holds}
-use Rattle.handle_pool.specs.Issued.{Listed, live_of}
-use Rattle.handle_pool.specs.Inside.{inside}
 use Rattle.handle_pool.specs.Inside.{turned as turned_one}
-use Rattle.mtapi_objects.specs.Actions.{Action, some_below, is_eligible, has_worker}
-use Rattle.mtapi_objects.specs.Tasks.{Task, is_unended, end_of, ended, end_each}
-use Rattle.mtapi_objects.specs.Groups.{is_member, is_unended_member, Ending, insert, insert_ended, endings, fault_of, first_fault}
-use Rattle.mtapi_objects.specs.Queues.{is_in, is_unended_in, is_head}
-use Rattle.mtapi_renaming.specs.Renaming.{Renaming, Has, IsOneToOne}
-use Rattle.mtapi_renaming.specs.Renamed.{renamed_list, renamed_task}
-use Rattle.mtapi_renaming.specs.Follows.{HasTask, NoHandle, HasEach}
 use Rattle.mtapi_renaming.proofs.Lists.{same_test, same_any}
 
 -- the tasks with their other handles

@@ -1,17 +1,6 @@
 -- What an op that makes an object may answer is told by what it is refused for.
-use Rattle.std.proofs.Common.{◌≡◌, ◌↔◌, ℕ, Bool, true, false, cond, [], ◌∷◌, Option, Some, None, refl, sym, subst}
-use Rattle.std.specs.Bool.{MatchBool}
-use Rattle.mtapi_values.specs.declared.handles.ObjectKind.{ObjectKind}
-use Rattle.mtapi_machine.specs.declared.ops.Op.{Op}
-use Rattle.mtapi_machine.specs.declared.replies.Reply.{Reply}
-use Rattle.mtapi_machine.specs.declared.replies.Reply.TheVariants.{Ok, Handle}
-use Rattle.mtapi_machine.specs.State.{State, Objects, actions, tasks}
-use Rattle.mtapi_machine.specs.Moves.{Move, all_of, makes_action, starts_task, makes, is_fresh}
-use Rattle.mtapi_machine.specs.Row.{Row, unless, Allows, says, handle_of, creates}
-use Rattle.mtapi_machine.specs.Rows.{row}
+use Rattle.mtapi_renaming.proofs.Names.{◌≡◌, ◌↔◌, ℕ, Bool, true, false, cond, [], ◌∷◌, Option, Some, None, refl, sym, subst, MatchBool, ObjectKind, Op, Reply, Ok, Handle, State, Objects, actions, tasks, Move, all_of, makes_action, starts_task, makes, is_fresh, Row, unless, Allows, says, handle_of, creates, row, full, made_kind, is_full_of, is_fresh_of, limit_of, CanBe, is_handle, makes_or_not, refusal_in, refusal_of, CanAnswer}
 use Rattle.mtapi_renaming.proofs.Rows.{is_plain}
-use Rattle.mtapi_renaming.specs.Kinds.{full, made_kind, is_full_of, is_fresh_of, limit_of, CanBe, is_handle}
-use Rattle.mtapi_renaming.specs.Refusals.{makes_or_not, refusal_in, refusal_of, CanAnswer}
 use Rattle.mtapi_renaming.proofs.Creates.{can_be, full_same, fresh_same, limit_same}
 use Rattle.mtapi_renaming.proofs.CreateRows.{HoldsInParts, create_row}
 use Rattle.mtapi_renaming.proofs.Refusals.{creates_none}

@@ -1,18 +1,7 @@
 -- A list is legal exactly where it has no first illegal entry.
-use Rattle.std.proofs.Common.{◌≡◌, ℕ, zero, suc, ◌+◌, ◌≤◌, ◌<◌, Bool, true, false, cond, List, [], ◌∷◌, length, take, Option, Some, None, refl, subst, arith}
-use Rattle.std.specs.Prelude.{nat_lt, nat_le, option_map}
-use Rattle.std.specs.Bool.{Decides}
-use Rattle.std.proofs.lemmas.Bool.Decides.{nat_tests}
-use Rattle.action_fn.specs.Answers.{is_pure, answer_of}
-use Rattle.mtapi_machine.specs.declared.terms.Terms.{Terms}
-use Rattle.mtapi_machine.specs.declared.ops.Op.{Op}
-use Rattle.mtapi_machine.specs.declared.ops.Op.TheVariants.{Finish}
-use Rattle.mtapi_machine.specs.declared.replies.Reply.{Reply}
-use Rattle.mtapi_machine.specs.State.{State, opening, seats}
-use Rattle.mtapi_machine.specs.Row.{Row, unless, gives, never, Allows}
-use Rattle.mtapi_machine.specs.Legal.{NodeEntry, IsHonest, row_of, IsNext, next, LegalFrom, Fits}
-use Rattle.mtapi_machine.specs.Replay.{answer}
-use Rattle.mtapi_renaming.specs.Verdicts.{is_honest, is_answer, may_come, first_illegal, IsJudged}
+use Rattle.mtapi_renaming.proofs.Names.{◌≡◌, ℕ, zero, suc, ◌+◌, ◌≤◌, ◌<◌, Bool, true, false, cond, List, [], ◌∷◌, length, take, Option, Some, None, refl, subst, arith, nat_lt, nat_le, Decides, nat_tests, is_pure, answer_of, Terms, Op, Finish, Reply, State, opening, seats, Row, unless, gives, never, Allows, NodeEntry, IsHonest, row_of, IsNext, next, LegalFrom, answer, is_honest, is_answer, may_come, first_illegal, IsJudged}
+use Rattle.std.specs.Prelude.{option_map}
+use Rattle.mtapi_machine.specs.Legal.{Fits}
 use Rattle.mtapi_renaming.proofs.Equality.{both_decide, decides_so, act_decides, reply_decides}
 
 lt_decides : (a b : ℕ) → Decides (nat_lt a b) (a < b)

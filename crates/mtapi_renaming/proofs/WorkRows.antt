@@ -1,29 +1,7 @@
 -- The rows by which workers take tasks and end them, and those of tallies, in the renamed state.
-use Rattle.std.proofs.Common.{◌≡◌, ℕ, Bool, true, false, ◌&&◌, ◌||◌, cond, List, Option, Some, None, inr, refl, sym, ◌∙◌, ap, subst, length}
-use Rattle.std.specs.Prelude.{◌==◌, ◌+◌, not, nat_lt, is_none, is_some, ℤ}
-use Rattle.std.specs.Option.{option_map}
-use Rattle.mtapi_values.specs.declared.handles.ObjectKind.{ObjectKind}
+use Rattle.mtapi_renaming.proofs.Names.{◌≡◌, ℕ, Bool, true, false, ◌&&◌, ◌||◌, cond, List, Option, Some, None, inr, refl, sym, ◌∙◌, ap, subst, length, ◌==◌, not, nat_lt, is_none, is_some, ℤ, option_map, ObjectKind, MtapiStatus, TaskEnd, holds, live_of, live_object, first_handle, Action, is_eligible, Task, Notes, is_unstarted, is_unended, Adds, asked_once, with_tally, tally_has, Queue, lets, Mutex, locked_by, unlocked, Segment, with_attached, Reply, Picked, State, workers, is_past_open, is_stop, Queues, Mutexes, Segments, Row, is_ready, can_take, has_better, picks, on_tally, gives_up, takes_both, locks, gives_back, Renaming, Has, Room, renamed_task, renamed_notes, renamed, HasTask, HasNotes, NoHandle, Fits, renamed_answer}
+use Rattle.std.specs.Prelude.{◌+◌}
 use Rattle.mtapi_values.specs.declared.handles.ObjectKind.TheVariants as kind
-use Rattle.mtapi_values.specs.declared.statuses.MtapiStatus.{MtapiStatus}
-use Rattle.mtapi_values.specs.declared.ends.TaskEnd.{TaskEnd}
-use Rattle.mtapi_values.specs.Conditions.{holds}
-use Rattle.handle_pool.specs.Issued.{live_of, live_object, first_handle}
-use Rattle.mtapi_objects.specs.Actions.{Action, is_eligible}
-use Rattle.mtapi_objects.specs.Tasks.{Task, Notes, is_unstarted, is_unended, Adds, asked_once, with_tally, tally_has}
-use Rattle.mtapi_objects.specs.Queues.{Queue, lets}
-use Rattle.mtapi_objects.specs.Mutexes.{Mutex, locked_by, unlocked}
-use Rattle.mtapi_objects.specs.Segments.{Segment, with_attached}
-use Rattle.mtapi_machine.specs.declared.replies.Reply.{Reply}
-use Rattle.mtapi_machine.specs.declared.replies.Reply.TheVariants.{Picked}
-use Rattle.mtapi_machine.specs.State.{State, workers, is_past_open, is_stop}
-use Rattle.mtapi_machine.specs.Moves.{Queues, Mutexes, Segments}
-use Rattle.mtapi_machine.specs.Row.{Row}
-use Rattle.mtapi_machine.specs.WorkRows.{is_ready, can_take, has_better, picks}
-use Rattle.mtapi_machine.specs.TallyRows.{on_tally, gives_up, takes_both, locks, gives_back}
-use Rattle.mtapi_renaming.specs.Renaming.{Renaming, Has}
-use Rattle.mtapi_renaming.specs.Renamed.{Room, renamed_task, renamed_notes, renamed}
-use Rattle.mtapi_renaming.specs.Follows.{HasTask, HasNotes, NoHandle, Fits}
-use Rattle.mtapi_renaming.specs.Ops.{renamed_answer}
 use Rattle.mtapi_renaming.proofs.Lists.{found-renamed, found-has, first-has}
 use Rattle.mtapi_renaming.proofs.Tasks.{SameTest, same_head}
 use Rattle.mtapi_renaming.proofs.Moves.{NoteKeeps, one_move, then_moves, runs_task-renames, ends_task-renames, notes-renames, alters-renames}

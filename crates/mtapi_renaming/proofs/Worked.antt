@@ -1,16 +1,5 @@
 -- The worked rows compute.
-use Rattle.std.proofs.Common.{refl}
-use Rattle.action_fn.specs.Answers.{fits, answer_of}
-use Rattle.handle_pool.specs.Issued.{live_of, issue, change, change_all, listed, issued_at, retired, is_full, may_issue}
-use Rattle.handle_pool.specs.Inside.{inside}
-use Rattle.mtapi_objects.specs.Actions.{has_worker}
-use Rattle.mtapi_objects.specs.Tasks.{end_each}
-use Rattle.mtapi_machine.specs.WorkRows.{is_ready, can_take, has_better}
-use Rattle.mtapi_machine.specs.Legal.{after_from}
-use Rattle.mtapi_renaming.specs.Verdicts.{first_illegal}
-use Rattle.mtapi_renaming.specs.Refusals.{refusal_in}
-use Rattle.mtapi_renaming.specs.Lasts.{lasts_in}
-use Rattle.mtapi_renaming.specs.Worked.{WorkedVerdicts, WorkedRenaming, WorkedRefusals, WorkedLasts}
+use Rattle.mtapi_renaming.proofs.Names.{refl, fits, answer_of, live_of, issue, change, change_all, listed, issued_at, retired, is_full, may_issue, inside, has_worker, end_each, is_ready, can_take, has_better, after_from, first_illegal, refusal_in, lasts_in, WorkedVerdicts, WorkedRenaming, WorkedRefusals, WorkedLasts}
 
 pub verdicts : WorkedVerdicts
 unfolding first_illegal live_of issue change change_all listed issued_at retired is_full may_issue fits answer_of has_worker end_each is_ready can_take has_better

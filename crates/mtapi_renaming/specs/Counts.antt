@@ -9,7 +9,7 @@ use Rattle.mtapi_machine.specs.declared.terms.Terms.{Terms}
 use Rattle.mtapi_machine.specs.declared.ops.Op.{Op}
 use Rattle.mtapi_machine.specs.declared.replies.Reply.{Reply}
 use Rattle.mtapi_machine.specs.declared.replies.Reply.TheVariants.{Handle}
-use Rattle.mtapi_machine.specs.State.{State, actions, tasks, groups, queues, mutexes, sems, rwls, segments}
+use Rattle.mtapi_machine.specs.State.{State, objects_of, actions, tasks, groups, queues, mutexes, sems, rwls, segments}
 use Rattle.mtapi_machine.specs.Row.{Allows, after_row}
 use Rattle.mtapi_machine.specs.Rows.{row}
 use Rattle.mtapi_machine.specs.Legal.{NodeEntry, after}
@@ -17,25 +17,11 @@ use Rattle.mtapi_renaming.specs.Kinds.{made_kind, live_in, is_full_of, is_fresh_
 
 -- how many objects of the kind were made
 abbrev pub made_in : ObjectKind → State → ℕ
-made_in Action s = length s.actions
-made_in Task s = length s.tasks
-made_in Group s = length s.groups
-made_in Queue s = length s.queues
-made_in Mutex s = length s.mutexes
-made_in Sem s = length s.sems
-made_in Rwl s = length s.rwls
-made_in Shmem s = length s.segments
+made_in k s = length ((objects_of k).list s)
 
 -- how many of them in the slot of this handle
 abbrev pub made_at : ObjectKind → State → ℕ → ℕ
-made_at Action s h = issued_at h s.actions
-made_at Task s h = issued_at h s.tasks
-made_at Group s h = issued_at h s.groups
-made_at Queue s h = issued_at h s.queues
-made_at Mutex s h = issued_at h s.mutexes
-made_at Sem s h = issued_at h s.sems
-made_at Rwl s h = issued_at h s.rwls
-made_at Shmem s h = issued_at h s.segments
+made_at k s h = issued_at h ((objects_of k).list s)
 
 -- how many objects of the kind there may be
 abbrev pub most_of : ObjectKind → State → ℕ

@@ -5,7 +5,7 @@ use Rattle.mtapi_values.specs.declared.handles.ObjectKind.{ObjectKind}
 use Rattle.mtapi_values.specs.declared.handles.ObjectKind.TheVariants as kind
 use Rattle.handle_pool.specs.Issued.{Listed, listed}
 use Rattle.mtapi_objects.specs.Tasks.{Task, Notes, TallyNotes}
-use Rattle.mtapi_machine.specs.State.{State}
+use Rattle.mtapi_machine.specs.State.{State, objects_of}
 use Rattle.mtapi_renaming.specs.Renaming.{Renaming, Has, IsOneToOne}
 
 -- no handle, or one that has another
@@ -51,14 +51,7 @@ pub record Fits (g : Renaming) (s : State) : Type 0 where
 
 -- how often a handle of the kind was issued
 abbrev pub listed_in : ObjectKind → State → ℕ → ℕ
-listed_in kind.Action s h = listed h s.actions
-listed_in kind.Task s h = listed h s.tasks
-listed_in kind.Group s h = listed h s.groups
-listed_in kind.Queue s h = listed h s.queues
-listed_in kind.Mutex s h = listed h s.mutexes
-listed_in kind.Sem s h = listed h s.sems
-listed_in kind.Rwl s h = listed h s.rwls
-listed_in kind.Shmem s h = listed h s.segments
+listed_in k s h = listed h ((objects_of k).list s)
 
 -- no handle has another one but those that were issued
 abbrev pub Only : Renaming → State → Type 0

@@ -8,7 +8,7 @@ use Rattle.mtapi_machine.specs.declared.ops.Op.{Op}
 use Rattle.mtapi_machine.specs.declared.ops.Op.TheVariants.{Pick, ActionCreate, TaskStart, TaskEnqueue, GroupCreate, QueueCreate, MutexCreate, SemCreate, RwlCreate, ShmemCreate}
 use Rattle.mtapi_machine.specs.declared.replies.Reply.{Reply}
 use Rattle.mtapi_machine.specs.declared.replies.Reply.TheVariants.{Handle, Picked}
-use Rattle.mtapi_machine.specs.State.{State, Objects, actions, tasks, groups, queues, mutexes, sems, rwls, segments}
+use Rattle.mtapi_machine.specs.State.{State, Objects, objects_of, actions, tasks, groups, queues, mutexes, sems, rwls, segments}
 use Rattle.mtapi_machine.specs.Moves.{is_fresh}
 use Rattle.mtapi_machine.specs.Row.{handle_of}
 
@@ -53,25 +53,11 @@ full o s = is_full s.terms.settings.generations (o.max s.terms.settings) (o.list
 
 -- so for each kind
 abbrev pub is_full_of : ObjectKind → State → Bool
-is_full_of Action s = full actions s
-is_full_of Task s = full tasks s
-is_full_of Group s = full groups s
-is_full_of Queue s = full queues s
-is_full_of Mutex s = full mutexes s
-is_full_of Sem s = full sems s
-is_full_of Rwl s = full rwls s
-is_full_of Shmem s = full segments s
+is_full_of k s = full (objects_of k) s
 
 -- the handle may be given to a new object of the kind
 abbrev pub is_fresh_of : ObjectKind → State → ℕ → Bool
-is_fresh_of Action s h = is_fresh actions s h
-is_fresh_of Task s h = is_fresh tasks s h
-is_fresh_of Group s h = is_fresh groups s h
-is_fresh_of Queue s h = is_fresh queues s h
-is_fresh_of Mutex s h = is_fresh mutexes s h
-is_fresh_of Sem s h = is_fresh sems s h
-is_fresh_of Rwl s h = is_fresh rwls s h
-is_fresh_of Shmem s h = is_fresh segments s h
+is_fresh_of k s h = is_fresh (objects_of k) s h
 
 -- what is answered where no further object of the kind can be made
 abbrev pub limit_of : ObjectKind → Reply

@@ -1,14 +1,13 @@
 -- The handles of a kind that were the last of their slots, from which it is told how many slots have retired.
 use Rattle.std.specs.Prelude.{◌≡◌, ℕ, ◌+◌, ◌≤◌, not, ◌==◌, List, [], ◌∷◌, ◌++◌, Some, None, if◌then◌else◌}
 use Rattle.mtapi_values.specs.declared.handles.ObjectKind.{ObjectKind}
-use Rattle.mtapi_values.specs.declared.handles.ObjectKind.TheVariants.{Action, Task, Group, Queue, Mutex, Sem, Rwl, Shmem}
 use Rattle.handle_pool.specs.Slots.{generation_of}
 use Rattle.handle_pool.specs.Issued.{Listed, how_many}
 use Rattle.mtapi_machine.specs.declared.terms.Terms.{Terms}
 use Rattle.mtapi_machine.specs.declared.ops.Op.{Op}
 use Rattle.mtapi_machine.specs.declared.replies.Reply.{Reply}
 use Rattle.mtapi_machine.specs.declared.replies.Reply.TheVariants.{Handle}
-use Rattle.mtapi_machine.specs.State.{State}
+use Rattle.mtapi_machine.specs.State.{State, objects_of}
 use Rattle.mtapi_machine.specs.Row.{Allows, after_row}
 use Rattle.mtapi_machine.specs.Rows.{row}
 use Rattle.mtapi_machine.specs.Legal.{NodeEntry, after}
@@ -22,14 +21,7 @@ lasts_in last (r ∷ rs) = if generation_of r.handle == last then r.handle ∷ l
 
 -- the handles of a kind with the last generation
 abbrev pub lasts_of : ObjectKind → State → List ℕ
-lasts_of Action s = lasts_in s.terms.settings.generations s.actions
-lasts_of Task s = lasts_in s.terms.settings.generations s.tasks
-lasts_of Group s = lasts_in s.terms.settings.generations s.groups
-lasts_of Queue s = lasts_in s.terms.settings.generations s.queues
-lasts_of Mutex s = lasts_in s.terms.settings.generations s.mutexes
-lasts_of Sem s = lasts_in s.terms.settings.generations s.sems
-lasts_of Rwl s = lasts_in s.terms.settings.generations s.rwls
-lasts_of Shmem s = lasts_in s.terms.settings.generations s.segments
+lasts_of k s = lasts_in s.terms.settings.generations ((objects_of k).list s)
 
 -- how many of these aren't live
 abbrev pub gone_of : ObjectKind → State → List ℕ → ℕ
