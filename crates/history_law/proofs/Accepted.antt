@@ -1,32 +1,9 @@
 -- Every task that was accepted ends once.
-use Rattle.std.proofs.Common.{◌≡◌, ℕ, ◌≤◌, Bool, true, false, List, [], ◌∷◌, ◌++◌, Option, Some, None, refl, sym, ◌∙◌, ap, subst, arith}
-use Rattle.std.specs.Prelude.{◌&&◌, not, IsSome}
-use Rattle.std.specs.Bool.{MatchBool}
-use Rattle.std.proofs.lemmas.List.{append-nil}
-use Rattle.mtapi_values.specs.declared.ends.TaskEnd.{TaskEnd}
+use Rattle.history_law.proofs.Names.{◌≡◌, ℕ, ◌≤◌, Bool, true, false, List, [], ◌∷◌, ◌++◌, Option, Some, None, refl, sym, ◌∙◌, ap, subst, arith, ◌&&◌, not, IsSome, MatchBool, append-nil, TaskEnd, all_marked, Terms, Op, Reply, Ok, Handle, Mtapi, entry, live_object, listed, NewTask, new_task, State, opening, workers, is_past_open, Move, starts_task, after_moves, Row, unless, gives, never, Allows, only, live, moves_of, after_row, row, asked_for, asked_of, NodeEntry, IsNext, next, LegalFrom, Legal, after_from, after, Legal-rest, after-append, AllGives, on_only, on_live, after_grows, end_at, accepted_by, accepted, TasksEndOnce, snd_true}
 use Rattle.mtapi_values.specs.declared.statuses.MtapiStatus.TheVariants as m
-use Rattle.mtapi_values.specs.Seats.{all_marked}
-use Rattle.mtapi_machine.specs.declared.terms.Terms.{Terms}
-use Rattle.mtapi_machine.specs.declared.ops.Op.{Op}
 use Rattle.mtapi_machine.specs.declared.ops.Op.TheVariants as op
-use Rattle.mtapi_machine.specs.declared.replies.Reply.{Reply}
-use Rattle.mtapi_machine.specs.declared.replies.Reply.TheVariants.{Ok, Handle, Mtapi}
-use Rattle.history.specs.Histories.{entry}
-use Rattle.handle_pool.specs.Issued.{live_object, listed}
-use Rattle.mtapi_objects.specs.Tasks.{Task, NewTask, new_task}
-use Rattle.mtapi_machine.specs.State.{State, opening, workers, is_past_open}
-use Rattle.mtapi_machine.specs.Moves.{Move, starts_task, after_moves}
-use Rattle.mtapi_machine.specs.Row.{Row, unless, gives, never, Allows, only, live, moves_of, after_row}
-use Rattle.mtapi_machine.specs.Rows.{row}
-use Rattle.mtapi_machine.specs.TaskRows.{asked_for, asked_of}
-use Rattle.mtapi_machine.specs.Legal.{NodeEntry, IsNext, next, LegalFrom, Legal, after_from, after}
-use Rattle.mtapi_machine.proofs.Lists.{Legal-rest, after-append}
-use Rattle.mtapi_machine.proofs.Made.{AllGives, on_only, on_live}
-use Rattle.mtapi_machine.proofs.Ends.{after_grows}
-use Rattle.mtapi_machine.specs.Ends.{end_at}
-use Rattle.history_law.specs.Accepted.{accepted_by, accepted, TasksEndOnce}
 use Rattle.history_law.proofs.Held.{AllEnded, all_first}
-use Rattle.history_law.proofs.Moves.{Stands, after_stands, Stopped, after_stopped}
+use Rattle.history_law.proofs.Moves.{Stands, after_stands, Stopped, after_stopped, none_listed}
 use Rattle.history_law.proofs.Ends.{grows_listed, all_end, end_later}
 use Rattle.history_law.proofs.Handles.{some_issued}
 use Rattle.history_law.proofs.Answered.{true_false}
@@ -103,10 +80,6 @@ final_reads a true x y X n m k = refl
 final_reads true false x y X n m k = absurd (not_ok y m k)
 final_reads false false x y X n m k = absurd (not_ok x n k)
 
-snd_true : (a b : Bool) → (a && b) ≡ true → b ≡ true
-snd_true true b h = h
-snd_true false b h = absurd (cc)
-
 pub final_marked : (s : State) (main : ℕ) → IsNext s (entry main op.Final Ok) → all_marked (workers s) s.stopped ≡ true
 final_marked s main n = snd_true (is_past_open s.phase) _ (final_reads _ (is_past_open s.phase && all_marked (workers s) s.stopped) _ _ _ refl refl n.allowed)
 
@@ -114,10 +87,6 @@ final_stopped : (terms : Terms) (s : State) (main : ℕ) → 1 ≤ terms.setting
 final_stopped terms s main w same n =
     let e : workers s ≡ terms.settings.workers = ap (λ (t : Terms). t.settings.workers) same in
     all_first (workers s) s.stopped (omega arith) (final_marked s main n)
-
-none_listed : (h : ℕ) → listed {T = Task} h [] ≤ 1
-unfolding listed
-none_listed h = omega arith
 
 pub opening_stands : (terms : Terms) → Stands terms (opening terms)
 opening_stands terms = (refl, record { dead = tt; stopped = λ f. absurd (cc); once = none_listed })

@@ -1,37 +1,12 @@
 -- Who picks a task is in the mask of the task, and in that of the action.
-use Rattle.std.proofs.Common.{◌≡◌, ℕ, sym, Bool, true, false, cond, List, [], ◌∷◌, ◌++◌, Option, Some, None, refl, ◌∙◌, ap, subst}
-use Rattle.std.specs.Prelude.{◌==◌, ◌&&◌, is_some, ℤ, nat_lt, not}
-use Rattle.mtapi_values.specs.declared.kinds.Kind.{Kind}
+use Rattle.history_law.proofs.Names.{◌≡◌, ℕ, sym, Bool, true, false, cond, List, [], ◌∷◌, ◌++◌, Option, Some, None, refl, ◌∙◌, ap, subst, ◌==◌, ◌&&◌, is_some, ℤ, nat_lt, not, Kind, TaskHandle, ActionHandle, in_mask, entry, Terms, Op, Reply, Handle, Idle, Stop, Picked, Mtapi, live_object, any_listed, listed, Action, new_action, is_eligible, has_enabled_job, Task, NewTask, runs_on, new_task, State, opening, workers, is_new, is_stop, Move, stops, runs_task, after_moves, Row, unless, gives, never, Allows, only, live, handle_of, moves_of, asked_for, asked_of, row, is_ready, has_better, picks, NodeEntry, IsNext, next, LegalFrom, Legal, after_from, after, StartsTask, Legal-front, AllGives, given, on_only, on_live, fst_true, snd_true, is_handle, issues, task_mask, action_mask, ObeysMasks, some_same}
 use Rattle.mtapi_values.specs.declared.handles.ObjectKind.TheVariants as kind
-use Rattle.mtapi_values.specs.declared.handles.TaskHandle.{TaskHandle}
-use Rattle.mtapi_values.specs.declared.handles.ActionHandle.{ActionHandle}
-use Rattle.mtapi_values.specs.Masks.{in_mask}
-use Rattle.history.specs.Histories.{entry}
-use Rattle.mtapi_machine.specs.declared.terms.Terms.{Terms}
-use Rattle.mtapi_machine.specs.declared.ops.Op.{Op}
 use Rattle.mtapi_machine.specs.declared.ops.Op.TheVariants as op
-use Rattle.mtapi_machine.specs.declared.replies.Reply.{Reply}
-use Rattle.mtapi_machine.specs.declared.replies.Reply.TheVariants.{Handle, Idle, Stop, Picked, Mtapi}
 use Rattle.mtapi_values.specs.declared.statuses.MtapiStatus.TheVariants as m
-use Rattle.handle_pool.specs.Issued.{live_object, any_listed, listed}
-use Rattle.mtapi_objects.specs.Actions.{Action, new_action, is_eligible, has_enabled_job}
-use Rattle.mtapi_objects.specs.Tasks.{Task, NewTask, runs_on, new_task}
-use Rattle.mtapi_machine.specs.State.{State, opening, workers, is_new, is_stop}
-use Rattle.mtapi_machine.specs.Moves.{Move, stops, runs_task, after_moves}
-use Rattle.mtapi_machine.specs.Row.{Row, unless, gives, never, Allows, only, live, handle_of, moves_of}
-use Rattle.mtapi_machine.specs.TaskRows.{asked_for, asked_of}
-use Rattle.mtapi_machine.specs.Rows.{row}
-use Rattle.mtapi_machine.specs.WorkRows.{is_ready, has_better, picks}
-use Rattle.mtapi_machine.specs.Legal.{NodeEntry, IsNext, next, LegalFrom, Legal, after_from, after}
-use Rattle.mtapi_machine.specs.Laws.{StartsTask}
-use Rattle.mtapi_machine.proofs.Lists.{Legal-front}
-use Rattle.mtapi_machine.proofs.Made.{AllGives, given, on_only, on_live, fst_true, snd_true}
-use Rattle.history_law.specs.Words.{makes as makes_kind, is_handle, issues}
-use Rattle.history_law.specs.Affinity.{task_mask, action_mask, ObeysMasks}
+use Rattle.history_law.specs.Words.{makes as makes_kind}
 use Rattle.history_law.proofs.Ages.{SameTask, SameAction, under_at, live_listed}
 use Rattle.history_law.proofs.Objects.{MadeAs, started_as, made_as, task_then, action_then, cut_from, has_behind}
-use Rattle.history_law.proofs.Answered.{true_false}
-use Rattle.mtapi_machine.proofs.Changes.{some_same}
+use Rattle.history_law.proofs.Answered.{true_false, on_test}
 use Rattle.history_law.proofs.Reuse.{listed_new, listed_same, was_issued}
 
 -- What a pick had to find
@@ -58,11 +33,9 @@ took : (s : State) (w : ℕ) (t : TaskHandle) (a : ActionHandle) (k : Kind) (arg
     → Allows (live x never (λ u. live y never (λ v. only (is_ready s u && is_eligible (workers s) w u.job u.cores v && not (has_better s w u.priority)) (gives (Picked t a v.kind u.args) (runs_task t.0 w v.kind ∷ []))))) (Picked t a k args) → Took s w t.0 a.0
 took s w t a k args None y d e f = absurd f
 took s w t a k args (Some u) None d e f = absurd f
-took s w t a k args (Some u) (Some v) d e f = by_test (is_ready s u && is_eligible (workers s) w u.job u.cores v && not (has_better s w u.priority)) refl f
-  where
-    by_test : (b : Bool) → (is_ready s u && is_eligible (workers s) w u.job u.cores v && not (has_better s w u.priority)) ≡ b → Allows (only b (gives (Picked t a v.kind u.args) (runs_task t.0 w v.kind ∷ []))) (Picked t a k args) → Took s w t.0 a.0
-    by_test true i g = record { task = u; action = v; task_found = d; action_found = e; may = i }
-    by_test false i g = absurd g
+took s w t a k args (Some u) (Some v) d e f = on_test (λ b. Allows (only b (gives (Picked t a v.kind u.args) (runs_task t.0 w v.kind ∷ []))) (Picked t a k args) → Took s w t.0 a.0) (is_ready s u && is_eligible (workers s) w u.job u.cores v && not (has_better s w u.priority))
+    (λ i g. record { task = u; action = v; task_found = d; action_found = e; may = i })
+    (λ i g. absurd g) f
 
 pub row_took : (s : State) (w : ℕ) (t : TaskHandle) (a : ActionHandle) (k : Kind) (args : List ℤ) → Allows (row s w op.Pick (Picked t a k args)) (Picked t a k args) → Took s w t.0 a.0
 row_took s w t a k args n = by_stop (is_stop s) third

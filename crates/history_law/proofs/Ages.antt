@@ -1,27 +1,10 @@
 -- What each move does to the objects of one kind: they stay listed, none comes back to life, and a new one has a new handle.
-use Rattle.std.proofs.Common.{◌≡◌, ℕ, ◌+◌, ◌≤◌, Bool, true, false, cond, List, [], ◌∷◌, Some, refl, sym, ◌∙◌, ap, subst, arith}
-use Rattle.std.specs.Prelude.{◌==◌, ◌&&◌, is_some}
-use Rattle.std.proofs.lemmas.Bool.{cond_both}
-use Rattle.mtapi_values.specs.declared.handles.ObjectKind.{ObjectKind}
+use Rattle.history_law.proofs.Names.{◌≡◌, ℕ, ◌+◌, ◌≤◌, Bool, true, false, cond, List, [], ◌∷◌, Some, refl, sym, ◌∙◌, ap, subst, arith, ◌==◌, ◌&&◌, is_some, cond_both, ObjectKind, TaskEnd, Failed, Op, Listed, live_of, live_object, listed, change, change_all, issue, with_fields, gone, Action, with_enabled, Queue, opened, Task, Notes, TaskState, Ended, Running, with_state, with_notes, ended, end_each, new_task, NewTask, is_member, freed, let_go, State, FieldsOf, objects_of, is_open, Sort, Fields, all_of, Move, Groups, Queues, Mutexes, Sems, Rwls, Segments, makes_action, enables, withdraws, starts_task, runs_task, ends_task, ends_waiting, notes, leaves, frees_members, lets_members_go, is_fresh, apply, IsMade, WithdrawsAction, AltersObject, MakesAction, StartsTask, makes_kind, snd_true, rest_keeps, some_same, and_left}
 use Rattle.mtapi_values.specs.declared.handles.ObjectKind.TheVariants as kind
-use Rattle.mtapi_values.specs.declared.ends.TaskEnd.{TaskEnd}
-use Rattle.mtapi_values.specs.declared.ends.TaskEnd.TheVariants.{Failed}
-use Rattle.mtapi_machine.specs.declared.ops.Op.{Op}
 use Rattle.mtapi_machine.specs.declared.ops.Op.TheVariants as op
-use Rattle.handle_pool.specs.Issued.{Listed, live_of, live_object, listed, change, change_all, issue, with_fields, gone}
-use Rattle.mtapi_objects.specs.Actions.{Action, with_enabled}
-use Rattle.mtapi_objects.specs.Queues.{Queue, opened}
-use Rattle.mtapi_objects.specs.Tasks.{Task, Notes, TaskState, Ended, Running, with_state, with_notes, ended, end_each, new_task, NewTask}
-use Rattle.mtapi_objects.specs.Groups.{is_member, freed, let_go}
-use Rattle.mtapi_machine.specs.State.{State, is_open}
-use Rattle.mtapi_machine.specs.Moves.{Sort, Fields, all_of, Move, Groups, Queues, Mutexes, Sems, Rwls, Segments, makes_action, enables, withdraws, starts_task, runs_task, ends_task, ends_waiting, notes, leaves, frees_members, lets_members_go, makes, alters, removes, is_fresh, apply}
-use Rattle.mtapi_machine.specs.Laws.{IsMade, WithdrawsAction, AltersObject, MakesAction, StartsTask, makes_kind}
-use Rattle.mtapi_machine.proofs.Made.{snd_true}
-use Rattle.mtapi_machine.proofs.Moves.{sorts_keep}
-use Rattle.history_law.specs.Words.{FieldsOf, objects_of, makes as makes_object}
+use Rattle.history_law.specs.Words.{makes as makes_object}
 use Rattle.history_law.proofs.Moves.{opens_fresh}
 use Rattle.history_law.proofs.Sorts.{sort_move}
-use Rattle.mtapi_machine.proofs.Changes.{some_same}
 use Rattle.history_law.proofs.Answered.{true_false}
 use Rattle.history_law.proofs.Found.{at_head, at_here, at_past}
 
@@ -58,7 +41,7 @@ SameFields kind.Shmem x y = Unit {0}
 same_action : (x : Action) → SameAction x x
 same_action x = record { job = refl; kind = refl; cores = refl }
 
-same_task : (x : Task) → SameTask x x
+pub same_task : (x : Task) → SameTask x x
 same_task x = record { job = refl; args = refl; priority = refl; cores = refl; queue = refl; start = refl }
 
 same_queue : (x : Queue) → SameQueue x x
@@ -104,9 +87,6 @@ module _ {T : Type 0} (K : T → T → Type 0) where
   fields_age : (f : T → T) → ((x : T) → K x (f x)) → (r : Listed T) → Ages K r (with_fields f r)
   fields_age f k r = record { handle = refl; dead = λ d. d; fields = k r.fields }
 
-and_dead : (a b : Bool) → a ≡ false → (a && b) ≡ false
-and_dead a b e = ap (λ c. c && b) e
-
 state_same : (y : TaskState) (x : Task) → SameTask x (with_state y x)
 state_same y x = record { job = refl; args = refl; priority = refl; cores = refl; queue = refl; start = refl }
 
@@ -114,18 +94,20 @@ notes_same : (f : Notes → Notes) (x : Task) → SameTask x (with_notes f x)
 notes_same f x = record { job = refl; args = refl; priority = refl; cores = refl; queue = refl; start = refl }
 
 ended_ages : (e : TaskEnd) (n : ℕ) (r : Listed Task) → Ages SameTask r (ended e n r)
-ended_ages e n r = record { handle = refl; dead = and_dead r.live _; fields = state_same (Ended e n) r.fields }
+ended_ages e n r = record { handle = refl; dead = and_left r.live _; fields = state_same (Ended e n) r.fields }
 
 each_ends : (p : Task → Bool) (e : TaskEnd) (n : ℕ) (l : List (Listed Task)) → AgesEach SameTask l (end_each p e n l)
 unfolding end_each
 each_ends p e n [] = tt
-each_ends p e n (r ∷ rs) = cond_both (r.live && p r.fields) (ended e n r ∷ end_each p e (n + 1) rs) (r ∷ end_each p e n rs) (AgesEach SameTask (r ∷ rs)) (λ c. (ended_ages e n r, each_ends p e (n + 1) rs)) (λ c. (ages_same SameTask same_task r, each_ends p e n rs))
+each_ends p e n (r ∷ rs) = cond_both (r.live && p r.fields) (ended e n r ∷ end_each p e (n + 1) rs) (r ∷ end_each p e n rs) (AgesEach SameTask (r ∷ rs))
+    (λ c. (ended_ages e n r, each_ends p e (n + 1) rs))
+    (λ c. (ages_same SameTask same_task r, each_ends p e n rs))
 
 freed_ages : (r : Listed Task) → Ages SameTask r (freed r)
 freed_ages r = record { handle = refl; dead = λ d. refl; fields = record { job = refl; args = refl; priority = refl; cores = refl; queue = refl; start = refl } }
 
 let_go_ages : (r : Listed Task) → Ages SameTask r (let_go r)
-let_go_ages r = record { handle = refl; dead = and_dead r.live _; fields = record { job = refl; args = refl; priority = refl; cores = refl; queue = refl; start = refl } }
+let_go_ages r = record { handle = refl; dead = and_left r.live _; fields = record { job = refl; args = refl; priority = refl; cores = refl; queue = refl; start = refl } }
 
 enabled_same : (b : Bool) (x : Action) → SameAction x (with_enabled b x)
 enabled_same b x = record { job = refl; kind = refl; cores = refl }
@@ -187,10 +169,7 @@ pub kind_move : (k : ObjectKind) (s : State) (o : Op) (Q : List (Listed (FieldsO
 kind_move kind.Action s o Q new old (makes_action h a) e v = new h a (makes_this a o e.by) e.may v
 kind_move kind.Action s o Q new old (enables h) e v = old _ (each_change SameAction same_action h _ s.actions (fields_age SameAction (with_enabled true) (enabled_same true))) v
 kind_move kind.Action s o Q new old (withdraws h f c) e v = old _ (each_change SameAction same_action h f s.actions (withdrawn_ages h f o e.by)) v
-kind_move kind.Action s o Q new old (makes j h x) e v = sorts_keep (λ t. Q t.actions) (λ t g q m c r y p. p) j _ s v
-kind_move kind.Action s o Q new old (alters j h f) e v = sorts_keep (λ t. Q t.actions) (λ t g q m c r y p. p) j _ s v
-kind_move kind.Action s o Q new old (removes j h) e v = sorts_keep (λ t. Q t.actions) (λ t g q m c r y p. p) j _ s v
-kind_move kind.Action s o Q new old _ e v = v
+kind_move kind.Action s o Q new old x e v = rest_keeps (λ t. Q t.actions) (λ t g q m c r y p. p) x s v
 kind_move kind.Task s o Q new old (starts_task h t) e v = new h (new_task t s.starts) (makes_task t o e.by) (snd_true (is_open s.phase) _ (opens_fresh s h t e.may)) v
 kind_move kind.Task s o Q new old (runs_task h w k) e v = old _ (each_change SameTask same_task h _ s.tasks (fields_age SameTask (with_state (Running w k)) (state_same (Running w k)))) v
 kind_move kind.Task s o Q new old (ends_task h x) e v = old _ (each_change SameTask same_task h _ s.tasks (ended_ages x s.ends)) v
@@ -200,10 +179,7 @@ kind_move kind.Task s o Q new old (notes h f) e v = old _ (each_change SameTask 
 kind_move kind.Task s o Q new old (leaves h) e v = old _ (each_change SameTask same_task h gone s.tasks (gone_ages SameTask same_task)) v
 kind_move kind.Task s o Q new old (frees_members g) e v = old _ (each_all SameTask same_task _ freed s.tasks freed_ages) v
 kind_move kind.Task s o Q new old (lets_members_go g) e v = old _ (each_all SameTask same_task (is_member g) let_go s.tasks let_go_ages) v
-kind_move kind.Task s o Q new old (makes j h x) e v = sorts_keep (λ t. Q t.tasks) (λ t g q m c r y p. p) j _ s v
-kind_move kind.Task s o Q new old (alters j h f) e v = sorts_keep (λ t. Q t.tasks) (λ t g q m c r y p. p) j _ s v
-kind_move kind.Task s o Q new old (removes j h) e v = sorts_keep (λ t. Q t.tasks) (λ t g q m c r y p. p) j _ s v
-kind_move kind.Task s o Q new old _ e v = v
+kind_move kind.Task s o Q new old x e v = rest_keeps (λ t. Q t.tasks) (λ t g q m c r y p. p) x s v
 kind_move kind.Group s o Q new old m e v = sort_ages Groups (SameFields kind.Group) nothing_same s o (λ j f w x. tt) Q (λ h x b i. new h x (makes_sort Groups o b) i) old m e v
 kind_move kind.Queue s o Q new old m e v = sort_ages Queues SameQueue same_queue s o (λ j f w x. altered_same j f o w x) Q (λ h x b i. new h x (makes_sort Queues o b) i) old m e v
 kind_move kind.Mutex s o Q new old m e v = sort_ages Mutexes (SameFields kind.Mutex) nothing_same s o (λ j f w x. tt) Q (λ h x b i. new h x (makes_sort Mutexes o b) i) old m e v

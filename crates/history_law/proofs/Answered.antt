@@ -1,13 +1,18 @@
 -- What holds after an entry whose reply passes a test.
-use Rattle.std.proofs.Common.{◌≡◌, Bool, true, false, cond, List, [], Option, Some, None, refl, sym, ◌∙◌, ap, subst}
-use Rattle.std.specs.Prelude.{◌||◌}
-use Rattle.mtapi_machine.specs.declared.replies.Reply.{Reply}
-use Rattle.mtapi_machine.specs.Moves.{Move}
-use Rattle.mtapi_machine.specs.Row.{Row, unless, gives, never, Allows, live, moves_of}
-use Rattle.mtapi_machine.proofs.Made.{AllGives}
+use Rattle.history_law.proofs.Names.{◌≡◌, Bool, true, false, cond, List, [], Option, Some, None, refl, sym, ◌∙◌, ap, subst, ◌||◌, Reply, Move, Row, unless, gives, never, Allows, live, moves_of, AllGives}
 
 pub true_false : {A : Type 0} {b : Bool} → b ≡ true → b ≡ false → A
 true_false e f = absurd (cc)
+
+-- by whether a test holds
+pub whether : {A : Type 0} (b : Bool) → (b ≡ true → A) → (b ≡ false → A) → A
+whether true f g = f refl
+whether false f g = g refl
+
+-- the same of what speaks of the test
+pub on_test : (P : Bool → Type 0) (b : Bool) → (b ≡ true → P true) → (b ≡ false → P false) → P b
+on_test P true f g = f refl
+on_test P false f g = g refl
 
 pub none_some : {A B : Type 0} {x : A} → None ≡ Some x → B
 none_some e = absurd (cc)

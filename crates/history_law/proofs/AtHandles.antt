@@ -1,9 +1,5 @@
 -- The live object of a handle, after a change of the list.
-use Rattle.std.proofs.Common.{◌≡◌, ℕ, ◌+◌, ◌≤◌, Bool, true, false, cond, List, [], ◌∷◌, Some, None, refl, sym, ◌∙◌, ap, arith}
-use Rattle.std.specs.Prelude.{◌==◌, ◌&&◌}
-use Rattle.std.proofs.lemmas.Bool.{eqb-true, eq-eqb, cond_both}
-use Rattle.handle_pool.specs.Issued.{Listed, live_of, live_object, listed, change, issue, gone}
-use Rattle.mtapi_machine.proofs.Made.{snd_true}
+use Rattle.history_law.proofs.Names.{◌≡◌, ℕ, ◌+◌, ◌≤◌, Bool, true, false, cond, List, [], ◌∷◌, Some, None, refl, sym, ◌∙◌, ap, arith, ◌==◌, ◌&&◌, eqb-true, eq-eqb, cond_both, Listed, live_of, live_object, listed, change, issue, gone, snd_true}
 use Rattle.history_law.proofs.Found.{at_head, at_past, at_skip, at_dead, at_here}
 use Rattle.history_law.proofs.Handles.{OnceIn, once_rest, head_apart}
 

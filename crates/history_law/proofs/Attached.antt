@@ -1,29 +1,11 @@
 -- What an entry does to the segment of one handle, and what that leaves of the seats that are attached.
-use Rattle.std.proofs.Common.{◌≡◌, ℕ, zero, suc, ◌<◌, Bool, true, false, cond, List, [], ◌∷◌, Option, Some, None, ◌⊎◌, inl, inr, refl, sym, ◌∙◌, ap, subst, arith, length}
-use Rattle.std.specs.Prelude.{◌==◌, not, nat_lt, is_some, ℤ, slice_set}
-use Rattle.std.proofs.lemmas.Bool.{eqb-true, eq-eqb}
-use Rattle.std.proofs.lemmas.Bool.Decides.{nat_tests}
-use Rattle.mtapi_values.specs.Seats.{marked, any_mark}
+use Rattle.history_law.proofs.Names.{◌≡◌, ℕ, zero, suc, ◌<◌, Bool, true, false, cond, List, [], ◌∷◌, Option, Some, None, ◌⊎◌, inl, inr, refl, sym, ◌∙◌, ap, subst, arith, ◌==◌, not, nat_lt, is_some, ℤ, slice_set, eqb-true, eq-eqb, marked, any_mark, Op, Reply, Listed, live_object, listed, change, issue, with_fields, gone, Adds, tally_args, Segment, new_segment, with_attached, with_cell, State, workers, Move, Segments, makes, alters, removes, apply, after_moves, after_row, row, takes_both, locks, IsMade, AltersObject, RemovesObject, makes_kind, AllGives, moves_given, on_live, on_only, at-update, IsAttached, cond_both, lt-ltb, length}
 use Rattle.mtapi_values.specs.declared.handles.ObjectKind.TheVariants as kind
-use Rattle.mtapi_machine.specs.declared.ops.Op.{Op}
 use Rattle.mtapi_machine.specs.declared.ops.Op.TheVariants as op
-use Rattle.mtapi_machine.specs.declared.replies.Reply.{Reply}
-use Rattle.handle_pool.specs.Issued.{Listed, live_object, listed, change, issue, with_fields, gone}
-use Rattle.mtapi_objects.specs.Tasks.{Adds, tally_args}
-use Rattle.mtapi_objects.specs.Segments.{Segment, new_segment, with_attached, with_cell}
-use Rattle.mtapi_machine.specs.State.{State, workers}
-use Rattle.mtapi_machine.specs.Moves.{Move, Segments, makes, alters, removes, apply, after_moves}
-use Rattle.mtapi_machine.specs.Row.{after_row}
-use Rattle.mtapi_machine.specs.Rows.{row}
-use Rattle.mtapi_machine.specs.TallyRows.{takes_both, locks}
-use Rattle.mtapi_machine.specs.Laws.{IsMade, AltersObject, RemovesObject, makes_kind}
-use Rattle.mtapi_machine.proofs.Made.{AllGives, moves_given, on_live, on_only}
-use Rattle.mtapi_machine.proofs.Changes.{at-update}
 use Rattle.mtapi_machine.proofs.Moves.{by_moves as made_moves}
-use Rattle.history_law.specs.TallyHolds.{IsAttached}
 use Rattle.history_law.proofs.Reuse.{fresh_unlisted}
 use Rattle.history_law.proofs.Handles.{OnceIn}
-use Rattle.history_law.proofs.Answered.{true_false, gives_cond}
+use Rattle.history_law.proofs.Answered.{true_false, gives_cond, whether}
 use Rattle.history_law.proofs.AtHandles.{at_change_other, at_issue_other, at_issue_here, at_unlisted, at_retired}
 use Rattle.history_law.proofs.MutexSteps.{is_ending}
 
@@ -56,11 +38,7 @@ more_marks (x ∷ xs) (suc i) (suc j) e = more_marks xs i j e
 some_mark : (l : List Bool) (j : ℕ) → marked j l ≡ true → any_mark l ≡ true
 some_mark [] j e = true_false e refl
 some_mark (x ∷ xs) zero e = ap (λ (b : Bool). cond b true (any_mark xs)) e
-some_mark (x ∷ xs) (suc j) e = by_head x (some_mark xs j e)
-  where
-    by_head : (b : Bool) → any_mark xs ≡ true → cond b true (any_mark xs) ≡ true
-    by_head true k = refl
-    by_head false k = k
+some_mark (x ∷ xs) (suc j) e = cond_both x true (any_mark xs) (λ q. q ≡ true) (λ e. refl) (λ c. some_mark xs j e)
 
 -- One segment
 
@@ -89,9 +67,6 @@ marks_step who n b o p (gone_from y e f d) h = subst HasMarks (sym d) tt
 marks_step who n b o p (got y e d) h = subst HasMarks (sym d) (size_set y.attached who true ∙ subst HasMarks e h)
 marks_step who n b o p (back y f e d) h = subst HasMarks (sym d) (size_set y.attached who false ∙ subst HasMarks e h)
 
-is_less : (w n : ℕ) → w < n → nat_lt w n ≡ true
-is_less w n l = grind (arith, nat_tests)
-
 apart : {i j : ℕ} → (i == j) ≡ false → i ≡ j → ⊥
 apart {i} {j} a e = true_false (eq-eqb i j e) a
 
@@ -99,19 +74,13 @@ apart {i} {j} a e = true_false (eq-eqb i j e) a
 pub attached_step : (who n w : ℕ) (b : Bool) (o p : Option Segment) → Step who n b o p → w < n → IsAttached w o → IsAttached w p ⊎ ((b ≡ true) × (w ≡ who))
 attached_step who n w b o p (stays e) l i = inl (subst (IsAttached w) (sym e) i)
 attached_step who n w b o p (made id cells e d) l i = absurd (subst (IsAttached w) e i)
-attached_step who n w b o p (turned c y e k d) l i = by_same (who == w) refl
-  where
-    by_same : (x : Bool) → (who == w) ≡ x → IsAttached w p ⊎ ((b ≡ true) × (w ≡ who))
-    by_same true a = absurd (true_false (is_less w n l) (subst (λ (z : ℕ). nat_lt z n ≡ false) (eqb-true who w a) k))
-    by_same false a = inl (subst (IsAttached w) (sym d) (other_mark y.attached who w c (apart a) ∙ subst (IsAttached w) e i))
+attached_step who n w b o p (turned c y e k d) l i = whether (who == w)
+    (λ a. absurd (true_false (lt-ltb w n l) (subst (λ (z : ℕ). nat_lt z n ≡ false) (eqb-true who w a) k)))
+    (λ a. inl (subst (IsAttached w) (sym d) (other_mark y.attached who w c (apart a) ∙ subst (IsAttached w) e i)))
 attached_step who n w b o p (written cell value y e d) l i = inl (subst (IsAttached w) (sym d) (subst (IsAttached w) e i))
 attached_step who n w b o p (gone_from y e f d) l i = absurd (true_false (some_mark y.attached w (subst (IsAttached w) e i)) f)
 attached_step who n w b o p (got y e d) l i = inl (subst (IsAttached w) (sym d) (more_marks y.attached who w (subst (IsAttached w) e i)))
-attached_step who n w b o p (back y f e d) l i = by_same (who == w) refl
-  where
-    by_same : (x : Bool) → (who == w) ≡ x → IsAttached w p ⊎ ((b ≡ true) × (w ≡ who))
-    by_same true a = inr (f, sym (eqb-true who w a))
-    by_same false a = inl (subst (IsAttached w) (sym d) (other_mark y.attached who w false (apart a) ∙ subst (IsAttached w) e i))
+attached_step who n w b o p (back y f e d) l i = whether (who == w) (λ a. inr (f, sym (eqb-true who w a))) (λ a. inl (subst (IsAttached w) (sym d) (other_mark y.attached who w false (apart a) ∙ subst (IsAttached w) e i)))
 
 -- Other ops leave the segments
 
@@ -150,9 +119,6 @@ same_move : (l : List (Listed Segment)) (o : Op) → changes_segments o ≡ fals
 same_move l o n t (makes Segments j x) e v = absurd (no_make o n e.by)
 same_move l o n t (alters Segments j f) e v = absurd (no_alter o j f n e.by)
 same_move l o n t (removes Segments j) e v = absurd (no_remove o j n e.by)
-same_move l o n t (makes _ j x) e v = v
-same_move l o n t (alters _ j f) e v = v
-same_move l o n t (removes _ j) e v = v
 same_move l o n t _ e v = v
 
 same_segments : (s : State) (who : ℕ) (o : Op) (r : Reply) → changes_segments o ≡ false → (after_row s (row s who o r)).segments ≡ s.segments
@@ -167,31 +133,21 @@ module _ (n who j : ℕ) (s : State) (b : Bool) where
   -- the segment of a handle changes; where it is another one, this one stays
   hit : (h : ℕ) (f : Segment → Segment) (y : Segment) → live_object s.segments h ≡ Some y → ((o p : Option Segment) → o ≡ Some y → p ≡ Some (f y) → Step who n b o p)
       → Step who n b (live_object s.segments j) (live_object (change h (with_fields f) s.segments) j)
-  hit h f y e k = by_same (h == j) refl
-    where
-      by_same : (c : Bool) → (h == j) ≡ c → Step who n b (live_object s.segments j) (live_object (change h (with_fields f) s.segments) j)
-      by_same true i =
-          let same : h ≡ j = eqb-true h j i in
-          k _ _ (ap (λ (z : ℕ). live_object s.segments z) (sym same) ∙ e) (ap (λ (z : ℕ). live_object (change h (with_fields f) s.segments) z) (sym same) ∙ at-update h f y s.segments e)
-      by_same false i = stays (at_change_other h j (with_fields f) s.segments (λ r. refl) i)
+  hit h f y e k = whether (h == j)
+      (λ i. let same : h ≡ j = eqb-true h j i in k _ _ (ap (λ (z : ℕ). live_object s.segments z) (sym same) ∙ e) (ap (λ (z : ℕ). live_object (change h (with_fields f) s.segments) z) (sym same) ∙ at-update h f y s.segments e))
+      (λ i. stays (at_change_other h j (with_fields f) s.segments (λ r. refl) i))
 
   retired : (h : ℕ) (y : Segment) → OnceIn s.segments → live_object s.segments h ≡ Some y → any_mark y.attached ≡ false → Step who n b (live_object s.segments j) (live_object (change h gone s.segments) j)
-  retired h y o e f = by_same (h == j) refl
-    where
-      by_same : (c : Bool) → (h == j) ≡ c → Step who n b (live_object s.segments j) (live_object (change h gone s.segments) j)
-      by_same true i =
-          let same : h ≡ j = eqb-true h j i in
-          gone_from y (ap (λ (z : ℕ). live_object s.segments z) (sym same) ∙ e) f (ap (λ (z : ℕ). live_object (change h gone s.segments) z) (sym same) ∙ at_retired h s.segments o)
-      by_same false i = stays (at_change_other h j gone s.segments (λ r. refl) i)
+  retired h y o e f = whether (h == j)
+      (λ i. let same : h ≡ j = eqb-true h j i in gone_from y (ap (λ (z : ℕ). live_object s.segments z) (sym same) ∙ e) f (ap (λ (z : ℕ). live_object (change h gone s.segments) z) (sym same) ∙ at_retired h s.segments o))
+      (λ i. stays (at_change_other h j gone s.segments (λ r. refl) i))
 
   issued : (h id cells : ℕ) → listed h s.segments ≡ 0 → Step who n b (live_object s.segments j) (live_object (issue h (new_segment id cells) s.segments) j)
-  issued h id cells e = by_same (h == j) refl
-    where
-      by_same : (c : Bool) → (h == j) ≡ c → Step who n b (live_object s.segments j) (live_object (issue h (new_segment id cells) s.segments) j)
-      by_same true i =
-          let same : h ≡ j = eqb-true h j i in
-          made id cells (ap (λ (z : ℕ). live_object s.segments z) (sym same) ∙ at_unlisted h s.segments e) (ap (λ (z : ℕ). live_object (issue h (new_segment id cells) s.segments) z) (sym same) ∙ at_issue_here h (new_segment id cells) s.segments e)
-      by_same false i = stays (at_issue_other h j (new_segment id cells) s.segments i)
+  issued h id cells e = whether (h == j)
+      (λ i.
+      let same : h ≡ j = eqb-true h j i in
+      made id cells (ap (λ (z : ℕ). live_object s.segments z) (sym same) ∙ at_unlisted h s.segments e) (ap (λ (z : ℕ). live_object (issue h (new_segment id cells) s.segments) z) (sym same) ∙ at_issue_here h (new_segment id cells) s.segments e))
+      (λ i. stays (at_issue_other h j (new_segment id cells) s.segments i))
 
   -- a tally takes its segment
   takes_step : (t cell : ℕ) (x y : Option ℕ) → AllGives (λ r ms. After ms) (takes_both s who t cell x y)

@@ -1,36 +1,10 @@
 -- A running tally that has its mutex and its segment owns the one and is attached to the other.
-use Rattle.std.proofs.Common.{◌≡◌, ℕ, ◌<◌, ◌≤◌, Bool, true, false, List, [], ◌∷◌, Option, Some, None, ◌⊎◌, inl, inr, refl, sym, ◌∙◌, ap, subst, arith, length}
-use Rattle.std.specs.Prelude.{◌==◌, not, nat_lt, is_some}
-use Rattle.mtapi_values.specs.declared.kinds.Kind.{Kind}
+use Rattle.history_law.proofs.Names.{◌≡◌, ℕ, ◌<◌, ◌≤◌, Bool, true, false, List, [], ◌∷◌, Option, Some, None, ◌⊎◌, inl, inr, refl, sym, ◌∙◌, ap, subst, arith, ◌==◌, not, nat_lt, is_some, Kind, TaskHandle, MtapiStatus, TaskEnd, Failed, holds, Terms, Op, Reply, Listed, live_of, live_object, with_fields, change, gone, is_member, freed, let_go, Task, Notes, TallyNotes, TaskState, Running, Ended, scheduled, runner, runs_on, runs_as, is_unstarted, with_state, with_notes, with_tally, tally_failed, tally_has, ended, new_task, Adds, tally_args, Mutex, locked_by, Segment, with_attached, State, opening, Move, Mutexes, Segments, starts_task, runs_task, ends_task, ends_waiting, withdraws, notes, leaves, frees_members, lets_members_go, alters, apply, after_moves, moves_of, after_row, row, takes_both, locks, NodeEntry, IsNext, next, LegalFrom, Legal, after_from, after, AllGives, moves_given, on_live, not_false, rest_keeps, at-update, some_same, says_end, IsOwned, IsAttached, TalliesHold, false_from_ne_true, length}
 use Rattle.mtapi_values.specs.declared.kinds.Kind.TheVariants as kinds
 use Rattle.mtapi_values.specs.declared.handles.ObjectKind.TheVariants as kind
-use Rattle.mtapi_values.specs.declared.handles.TaskHandle.{TaskHandle}
-use Rattle.mtapi_values.specs.declared.statuses.MtapiStatus.{MtapiStatus}
 use Rattle.mtapi_values.specs.declared.statuses.MtapiStatus.TheVariants as m
-use Rattle.mtapi_values.specs.declared.ends.TaskEnd.{TaskEnd}
-use Rattle.mtapi_values.specs.declared.ends.TaskEnd.TheVariants.{Failed}
-use Rattle.mtapi_values.specs.Conditions.{holds}
-use Rattle.mtapi_machine.specs.declared.terms.Terms.{Terms}
-use Rattle.mtapi_machine.specs.declared.ops.Op.{Op}
 use Rattle.mtapi_machine.specs.declared.ops.Op.TheVariants as op
-use Rattle.mtapi_machine.specs.declared.replies.Reply.{Reply}
-use Rattle.handle_pool.specs.Issued.{Listed, live_of, live_object, with_fields, change, gone}
-use Rattle.mtapi_objects.specs.Groups.{is_member, freed, let_go}
-use Rattle.mtapi_objects.specs.Tasks.{Task, Notes, TallyNotes, TaskState, Running, Ended, scheduled, runner, runs_on, runs_as, is_unstarted, with_state, with_notes, with_tally, tally_failed, tally_has, ended, new_task, Adds, tally_args}
-use Rattle.mtapi_objects.specs.Mutexes.{Mutex, locked_by}
-use Rattle.mtapi_objects.specs.Segments.{Segment, with_attached}
-use Rattle.mtapi_machine.specs.State.{State, opening}
-use Rattle.mtapi_machine.specs.Moves.{Move, Mutexes, Segments, starts_task, runs_task, ends_task, ends_waiting, withdraws, notes, leaves, frees_members, lets_members_go, makes, alters, removes, apply, after_moves}
-use Rattle.mtapi_machine.specs.Row.{moves_of, after_row}
-use Rattle.mtapi_machine.specs.Rows.{row}
-use Rattle.mtapi_machine.specs.TallyRows.{takes_both, locks}
-use Rattle.mtapi_machine.specs.Legal.{NodeEntry, IsNext, next, LegalFrom, Legal, after_from, after}
-use Rattle.mtapi_machine.proofs.Made.{AllGives, moves_given, on_live, not_false}
-use Rattle.mtapi_machine.proofs.Moves.{sorts_keep}
-use Rattle.mtapi_machine.proofs.Changes.{at-update, some_same}
-use Rattle.history_law.specs.Exclusion.{says_end}
-use Rattle.history_law.specs.TallyHolds.{IsOwned, IsAttached, TalliesHold}
-use Rattle.history_law.proofs.Answered.{true_false, gives_cond}
+use Rattle.history_law.proofs.Answered.{true_false, gives_cond, whether}
 use Rattle.history_law.proofs.Every.{Every, every_issue, every_change, every_all, every_ends, every_map, every_at, always}
 use Rattle.history_law.proofs.Handles.{OnceIn}
 use Rattle.history_law.proofs.OnceIssued.{once_none, once_next}
@@ -40,7 +14,6 @@ use Rattle.history_law.proofs.Ties.{has_both, Owns, id_in, Tied, stage_some, non
 use Rattle.history_law.proofs.MutexSteps.{is_ending}
 use Rattle.history_law.proofs.Exclusive.{Good, good_next, good_opening, end_count, quiet_end, one_runner, less_of, held_next, no_ending}
 use Rattle.history_law.proofs.Attached.{Step, HasMarks, marks_step, attached_step, mark_here, taken, segment_step}
-use Rattle.std.proofs.lemmas.Bool.{false_from_ne_true}
 
 -- a task that hasn't begun has nothing; a running one that has its segment runs on a worker that is attached to it
 pub record Attends (n : ℕ) (l : List (Listed Segment)) (t : Task) : Type 0 where
@@ -101,10 +74,7 @@ module _ (n : ℕ) (l : List (Listed Segment)) where
   attends_move who o f s (leaves j) k v = every_change (Attends n l) j gone s.tasks (λ r a i. i) v
   attends_move who o f s (frees_members g) k v = every_all (Attends n l) _ freed s.tasks (λ r i. same_notes r.fields (λ t. (freed (record { handle = r.handle; live = r.live; fields = t })).fields) refl refl i) v
   attends_move who o f s (lets_members_go g) k v = every_all (Attends n l) (is_member g) let_go s.tasks (λ r i. same_notes r.fields (λ t. (let_go (record { handle = r.handle; live = r.live; fields = t })).fields) refl refl i) v
-  attends_move who o f s (makes z j x) k v = sorts_keep All (λ t g q m c r y p. p) z _ s v
-  attends_move who o f s (alters z j g) k v = sorts_keep All (λ t g q m c r y p. p) z _ s v
-  attends_move who o f s (removes z j) k v = sorts_keep All (λ t g q m c r y p. p) z _ s v
-  attends_move who o f s _ k v = v
+  attends_move who o f s x k v = rest_keeps All (λ t g q m c r y p. p) x s v
 
 -- What holds after every legal list of a node with n workers
 record Stays (n : ℕ) (s : State) : Type 0 where
@@ -190,17 +160,12 @@ moved_all n s e i g l f =
 
 all_next : (n : ℕ) (s : State) (who : ℕ) (o : Op) (r : Reply) → IsNext s (record { who = who; op = o; reply = r }) → Stays n s → Every (Attends n (after_row s (row s who o r)).segments) (after_row s (row s who o r)).tasks
 all_next n s who (op.TallyLock t) r i g = lock_all n s who g t r (λ b y f j. taken n who j s b y f)
-all_next n s who (op.TallyEnd t) r i g = by_end (says_end r) refl
+all_next n s who (op.TallyEnd t) r i g = whether (says_end r)
+    (λ k. moved_all n s e i g refl (every_map (λ u. runs_on who u ≡ false) (λ u. Unit {0}) (λ u. (true ≡ true) → runs_on who u ≡ false) (next s e).tasks (λ u a b c. a) (none_runs who (next s e).tasks (held_next s e g.good.held).dead (end_count s who t r (g.good.one who) k i.allowed)) (always (next s e).tasks)))
+    (λ k. subst (λ (u : State). Every (Attends n u.segments) u.tasks) (sym (quiet_end s who t r k i.allowed)) g.all)
   where
     e : NodeEntry
     e = record { who = who; op = op.TallyEnd t; reply = r }
-
-    by_end : (b : Bool) → says_end r ≡ b → Every (Attends n (after_row s (row s who (op.TallyEnd t) r)).segments) (after_row s (row s who (op.TallyEnd t) r)).tasks
-    by_end true k =
-        moved_all n s e i g refl
-        (every_map (λ u. runs_on who u ≡ false) (λ u. Unit {0}) (λ u. (true ≡ true) → runs_on who u ≡ false) (next s e).tasks (λ u a b c. a)
-        (none_runs who (next s e).tasks (held_next s e g.good.held).dead (end_count s who t r (g.good.one who) k i.allowed)) (always (next s e).tasks))
-    by_end false k = subst (λ (u : State). Every (Attends n u.segments) u.tasks) (sym (quiet_end s who t r k i.allowed)) g.all
 all_next n s who o r i g = moved_all n s (record { who = who; op = o; reply = r }) i g refl (no_ending o who _ refl)
 
 stays_next : (n : ℕ) (s : State) (e : NodeEntry) → IsNext s e → Stays n s → Stays n (next s e)

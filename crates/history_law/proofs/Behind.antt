@@ -1,31 +1,9 @@
 -- What an Ok `enter` and an Ok `final` stand behind.
-use Rattle.std.proofs.Common.{◌≡◌, ℕ, zero, suc, ◌<◌, Bool, true, false, cond, List, [], ◌∷◌, ◌++◌, refl, ◌∙◌, ap, arith}
-use Rattle.std.specs.Prelude.{◌==◌, ◌&&◌, not, slice_set, replicate}
-use Rattle.std.specs.Bool.{MatchBool}
-use Rattle.std.proofs.lemmas.Bool.{eq-eqb, true_from_ne_false}
-use Rattle.std.proofs.lemmas.Bool.Decides.{nat_tests}
-use Rattle.mtapi_values.specs.Seats.{marked, all_marked}
+use Rattle.history_law.proofs.Names.{◌≡◌, ℕ, zero, suc, ◌<◌, Bool, true, false, cond, List, [], ◌∷◌, ◌++◌, refl, ◌∙◌, ap, arith, ◌==◌, ◌&&◌, not, slice_set, replicate, MatchBool, eq-eqb, true_from_ne_false, nat_tests, marked, all_marked, entry, Terms, Op, Reply, Ok, Stop, Idle, Pending, Picked, Mtapi, State, opening, workers, is_open, is_past_open, is_stop, Move, released, stops, runs_task, apply, after_moves, Row, unless, gives, Allows, after_row, row, can_take, picks, live_object, any_listed, IsMade, is_pick, NodeEntry, IsNext, next, LegalFrom, Legal, after_from, after, Legal-front, AllGives, given, on_live, on_only, fst_true, snd_true, rest_keeps, some_entry, is_release, says_ok, says_stop, is_released, is_stop_of}
 use Rattle.mtapi_values.specs.declared.statuses.MtapiStatus.TheVariants as m
-use Rattle.history.specs.Histories.{entry}
-use Rattle.mtapi_machine.specs.declared.terms.Terms.{Terms}
-use Rattle.mtapi_machine.specs.declared.ops.Op.{Op}
 use Rattle.mtapi_machine.specs.declared.ops.Op.TheVariants as op
-use Rattle.mtapi_machine.specs.declared.replies.Reply.{Reply}
-use Rattle.mtapi_machine.specs.declared.replies.Reply.TheVariants.{Ok, Stop, Idle, Pending, Picked, Mtapi}
-use Rattle.mtapi_machine.specs.State.{State, opening, workers, is_open, is_past_open, is_stop}
-use Rattle.mtapi_machine.specs.Moves.{Move, released, stops, runs_task, makes, alters, removes, apply, after_moves}
-use Rattle.mtapi_machine.specs.Row.{Row, unless, gives, Allows, after_row}
-use Rattle.mtapi_machine.specs.Rows.{row}
-use Rattle.mtapi_machine.specs.WorkRows.{can_take, picks}
-use Rattle.handle_pool.specs.Issued.{live_object, any_listed}
-use Rattle.mtapi_machine.specs.Laws.{IsMade, is_pick}
-use Rattle.mtapi_machine.specs.Legal.{NodeEntry, IsNext, next, LegalFrom, Legal, after_from, after}
-use Rattle.mtapi_machine.proofs.Lists.{Legal-front}
-use Rattle.mtapi_machine.proofs.Made.{AllGives, given, on_live, on_only, fst_true, snd_true}
-use Rattle.mtapi_machine.proofs.Moves.{sorts_keep, by_moves as made_moves}
-use Rattle.history_law.specs.Words.{some_entry}
-use Rattle.history_law.specs.Seats.{is_release, says_ok, says_stop, is_released, is_stop_of}
-use Rattle.history_law.proofs.Answered.{true_false, none_first}
+use Rattle.mtapi_machine.proofs.Moves.{by_moves as made_moves}
+use Rattle.history_law.proofs.Answered.{true_false, none_first, whether, on_test}
 use Rattle.history_law.proofs.Accepted.{stands_after, final_marked}
 use Rattle.history_law.proofs.SeatMoves.{May, by_moves}
 use Rattle.history_law.proofs.Objects.{cut_from}
@@ -45,10 +23,7 @@ enter_reads false false X k = absurd (not_pending k)
 
 other_release : (o : Op) (s : State) (who : ℕ) (v : Bool) (x : Move) → is_release o ≡ false → May s who o x → s.released ≡ v → (apply x s).released ≡ v
 other_release o s who v released n k e = true_false k n
-other_release o s who v (makes z j x) n k e = sorts_keep (λ t. t.released ≡ v) (λ t g q m c r y p. p) z _ s e
-other_release o s who v (alters z j f) n k e = sorts_keep (λ t. t.released ≡ v) (λ t g q m c r y p. p) z _ s e
-other_release o s who v (removes z j) n k e = sorts_keep (λ t. t.released ≡ v) (λ t g q m c r y p. p) z _ s e
-other_release o s who v _ n k e = e
+other_release o s who v x n k e = rest_keeps (λ t. t.released ≡ v) (λ t g q m c r y p. p) x s e
 
 refused_release : (s : State) (b : Bool) (r : Reply) → says_ok r ≡ false → Allows (unless b (Mtapi m.ErrNodeNotinit) (gives Ok (released ∷ []))) r → (after_row s (unless b (Mtapi m.ErrNodeNotinit) (gives Ok (released ∷ [])))).released ≡ s.released
 refused_release s true r n a = refl
@@ -59,11 +34,9 @@ row_release s who op.Release r i n a = refused_release s (not (is_open s.phase))
 row_release s who _ r i n a = true_false i refl
 
 next_released : (s : State) (e : NodeEntry) → IsNext s e → is_released e ≡ false → (next s e).released ≡ s.released
-next_released s e n i = by_op (is_release e.op) refl i
-  where
-    by_op : (b : Bool) → is_release e.op ≡ b → (b && says_ok e.reply) ≡ false → (next s e).released ≡ s.released
-    by_op true j k = row_release s e.who e.op e.reply j k n.allowed
-    by_op false j k = by_moves (λ t. t.released ≡ s.released) s e n (λ t x y z. other_release e.op t e.who s.released x j y z) refl
+next_released s e n i = on_test (λ b. (b && says_ok e.reply) ≡ false → (next s e).released ≡ s.released) (is_release e.op)
+    (λ j k. row_release s e.who e.op e.reply j k n.allowed)
+    (λ j k. by_moves (λ t. t.released ≡ s.released) s e n (λ t x y z. other_release e.op t e.who s.released x j y z) refl) i
 
 unreleased : (s : State) (L : List NodeEntry) → LegalFrom s L → some_entry is_released L ≡ false → (after_from s L).released ≡ s.released
 unfolding LegalFrom after_from
@@ -93,17 +66,11 @@ apart_marks (b ∷ bs) (suc w) (suc v) e = apart_marks bs w v (less_apart v w e)
 
 other_stops : (o : Op) (s : State) (who w : ℕ) (v : Bool) (x : Move) → (who == w) ≡ false → May s who o x → marked w s.stopped ≡ v → marked w (apply x s).stopped ≡ v
 other_stops o s who w v (stops y) n k e = apart_marks s.stopped w y (ap (λ (i : ℕ). i == w) k ∙ n) ∙ e
-other_stops o s who w v (makes z j x) n k e = sorts_keep (λ t. marked w t.stopped ≡ v) (λ t g q m c r y p. p) z _ s e
-other_stops o s who w v (alters z j f) n k e = sorts_keep (λ t. marked w t.stopped ≡ v) (λ t g q m c r y p. p) z _ s e
-other_stops o s who w v (removes z j) n k e = sorts_keep (λ t. marked w t.stopped ≡ v) (λ t g q m c r y p. p) z _ s e
-other_stops o s who w v _ n k e = e
+other_stops o s who w v x n k e = rest_keeps (λ t. marked w t.stopped ≡ v) (λ t g q m c r y p. p) x s e
 
 no_pick : (o : Op) (s : State) (w : ℕ) (v : Bool) (x : Move) → is_pick o ≡ false → IsMade s o x → marked w s.stopped ≡ v → marked w (apply x s).stopped ≡ v
 no_pick o s w v (stops y) n k e = true_false k.by n
-no_pick o s w v (makes z j x) n k e = sorts_keep (λ t. marked w t.stopped ≡ v) (λ t g q m c r y p. p) z _ s e
-no_pick o s w v (alters z j f) n k e = sorts_keep (λ t. marked w t.stopped ≡ v) (λ t g q m c r y p. p) z _ s e
-no_pick o s w v (removes z j) n k e = sorts_keep (λ t. marked w t.stopped ≡ v) (λ t g q m c r y p. p) z _ s e
-no_pick o s w v _ n k e = e
+no_pick o s w v x n k e = rest_keeps (λ t. marked w t.stopped ≡ v) (λ t g q m c r y p. p) x s e
 
 -- a pick with another reply than Stop stops nobody
 abbrev StopsNone : State → ℕ → Reply → List Move → Type 0
@@ -123,15 +90,9 @@ row_stops s w who op.Pick r i n a = given (StopsNone s w) (row s who op.Pick r) 
 row_stops s w who _ r i n a = true_false i refl
 
 next_stops : (s : State) (e : NodeEntry) (w : ℕ) → IsNext s e → is_stop_of w e ≡ false → marked w (next s e).stopped ≡ marked w s.stopped
-next_stops s e w n i = by_seat (e.who == w) refl i
-  where
-    by_op : (b : Bool) → is_pick e.op ≡ b → says_stop e.reply ≡ false → marked w (next s e).stopped ≡ marked w s.stopped
-    by_op true j k = row_stops s w e.who e.op e.reply j k n.allowed
-    by_op false j k = made_moves (λ t. marked w t.stopped ≡ marked w s.stopped) s e (λ t x y z. no_pick e.op t w (marked w s.stopped) x j y z) refl
-
-    by_seat : (b : Bool) → (e.who == w) ≡ b → (b && says_stop e.reply) ≡ false → marked w (next s e).stopped ≡ marked w s.stopped
-    by_seat true j k = by_op (is_pick e.op) refl k
-    by_seat false j k = by_moves (λ t. marked w t.stopped ≡ marked w s.stopped) s e n (λ t x y z. other_stops e.op t e.who w (marked w s.stopped) x j y z) refl
+next_stops s e w n i = on_test (λ b. (b && says_stop e.reply) ≡ false → marked w (next s e).stopped ≡ marked w s.stopped) (e.who == w)
+    (λ j k. whether (is_pick e.op) (λ j. row_stops s w e.who e.op e.reply j k n.allowed) (λ j. made_moves (λ t. marked w t.stopped ≡ marked w s.stopped) s e (λ t x y z. no_pick e.op t w (marked w s.stopped) x j y z) refl))
+    (λ j k. by_moves (λ t. marked w t.stopped ≡ marked w s.stopped) s e n (λ t x y z. other_stops e.op t e.who w (marked w s.stopped) x j y z) refl) i
 
 unstopped : (s : State) (L : List NodeEntry) (w : ℕ) → LegalFrom s L → some_entry (is_stop_of w) L ≡ false → marked w (after_from s L).stopped ≡ marked w s.stopped
 unfolding LegalFrom after_from

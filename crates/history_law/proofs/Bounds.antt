@@ -1,17 +1,6 @@
 -- What bounds a history: its seats, the marks of stopped workers, and the phase before the node is closed.
-use Rattle.std.proofs.Common.{◌≡◌, ℕ, ◌+◌, Bool, true, false, not, cond, List, [], ◌∷◌, length, refl, ◌∙◌, ap, subst}
+use Rattle.history_law.proofs.Names.{◌≡◌, ℕ, ◌+◌, true, false, List, [], ◌∷◌, refl, ◌∙◌, ap, subst, entry, Op, Initialize, Close, Final, Reply, Open, Terms, State, opening, seats, is_new, is_past_open, Move, phase_is, stops, apply, after_moves, NodeEntry, IsNext, LegalFrom, next, after_from, after, rest_keeps, closes, NoClose, BySeats, cond_both, not, length}
 use Rattle.std.proofs.Math.ListN.{length-set}
-use Rattle.history.specs.Histories.{entry}
-use Rattle.mtapi_machine.specs.declared.ops.Op.{Op}
-use Rattle.mtapi_machine.specs.declared.ops.Op.TheVariants.{Initialize, Close, Final}
-use Rattle.mtapi_machine.specs.declared.replies.Reply.{Reply}
-use Rattle.mtapi_machine.specs.declared.terms.Phase.TheVariants.{Open}
-use Rattle.mtapi_machine.specs.declared.terms.Terms.{Terms}
-use Rattle.mtapi_machine.specs.State.{State, opening, seats, is_new, is_past_open}
-use Rattle.mtapi_machine.specs.Moves.{Move, phase_is, stops, makes, alters, removes, apply, after_moves}
-use Rattle.mtapi_machine.specs.Legal.{NodeEntry, IsNext, LegalFrom, next, after_from, after}
-use Rattle.mtapi_machine.proofs.Moves.{sorts_keep}
-use Rattle.history_law.specs.Seats.{closes, NoClose, BySeats}
 use Rattle.history_law.proofs.SeatMoves.{May, by_moves}
 use Rattle.history_law.proofs.Others.{phase_stays, terms_stay}
 use Rattle.history_law.proofs.Answered.{true_false}
@@ -20,10 +9,7 @@ use Rattle.history_law.proofs.Answered.{true_false}
 
 room_move : (who : ℕ) (o : Op) (s : State) (x : Move) → May s who o x → length s.stopped ≡ 25 → length (apply x s).stopped ≡ 25
 room_move who o s (stops y) k v = length-set s.stopped y true ∙ v
-room_move who o s (makes z j x) k v = sorts_keep (λ t. length t.stopped ≡ 25) (λ t g q m c r y p. p) z _ s v
-room_move who o s (alters z j f) k v = sorts_keep (λ t. length t.stopped ≡ 25) (λ t g q m c r y p. p) z _ s v
-room_move who o s (removes z j) k v = sorts_keep (λ t. length t.stopped ≡ 25) (λ t g q m c r y p. p) z _ s v
-room_move who o s _ k v = v
+room_move who o s x k v = rest_keeps (λ t. length t.stopped ≡ 25) (λ t g q m c r y p. p) x s v
 
 room_stays : (s : State) (L : List NodeEntry) → LegalFrom s L → length s.stopped ≡ 25 → length (after_from s L).stopped ≡ 25
 unfolding LegalFrom after_from
@@ -37,11 +23,7 @@ stopped_room terms L l = room_stays (opening terms) L l refl
 
 early_next : (s : State) (who : ℕ) (o : Op) (r : Reply) → IsNext s (entry who o r) → closes o ≡ false → is_past_open s.phase ≡ false → is_past_open (next s (entry who o r)).phase ≡ false
 unfolding LegalFrom after_from
-early_next s who Initialize r n c l = by_new (not (is_new s.phase))
-  where
-    by_new : (b : Bool) → is_past_open (after_moves (cond b [] (phase_is Open ∷ [])) s).phase ≡ false
-    by_new true = l
-    by_new false = refl
+early_next s who Initialize r n c l = cond_both (not (is_new s.phase)) [] (phase_is Open ∷ []) (λ q. is_past_open (after_moves q s).phase ≡ false) (λ e. l) (λ e. refl)
 early_next s who Close r n c l = true_false refl c
 early_next s who Final r n c l = true_false refl c
 early_next s who o r n c l = ap is_past_open (phase_stays s (entry who o r ∷ []) (n, tt) (refl, tt)) ∙ l

@@ -1,8 +1,6 @@
 -- How often entries pass one test and another, beside a number that a state has.
-use Rattle.std.proofs.Common.{◌≡◌, ℕ, ◌+◌, Bool, true, false, cond, List, [], ◌∷◌, ◌++◌, refl, ap, arith}
-use Rattle.mtapi_machine.specs.State.{State}
-use Rattle.mtapi_machine.specs.Legal.{NodeEntry, IsNext, next, LegalFrom, after_from}
-use Rattle.history_law.specs.Words.{some_entry, entries_that}
+use Rattle.history_law.proofs.Names.{◌≡◌, ℕ, ◌+◌, Bool, true, false, cond, List, [], ◌∷◌, ◌++◌, refl, ap, arith, State, NodeEntry, IsNext, next, LegalFrom, after_from, some_entry, entries_that}
+use Rattle.history_law.proofs.Answered.{on_test}
 
 abbrev pub one_if : Bool → ℕ
 one_if b = cond b 1 0
@@ -34,8 +32,6 @@ pub record Passes (p : NodeEntry → Bool) (L : List NodeEntry) : Type 0 where
 
 pub passes : (p : NodeEntry → Bool) (L : List NodeEntry) → some_entry p L ≡ true → Passes p L
 passes p [] i = absurd (cc)
-passes p (e ∷ es) i = by_head (p e) refl i (passes p es)
-  where
-    by_head : (b : Bool) → p e ≡ b → cond b true (some_entry p es) ≡ true → (some_entry p es ≡ true → Passes p es) → Passes p (e ∷ es)
-    by_head true j c g = record { before = []; by = e; behind = es; cut = refl; is = j }
-    by_head false j c g = let r = g c in record { before = e ∷ r.before; by = r.by; behind = r.behind; cut = ap (λ (l : List NodeEntry). e ∷ l) r.cut; is = r.is }
+passes p (e ∷ es) i = on_test (λ b. cond b true (some_entry p es) ≡ true → Passes p (e ∷ es)) (p e)
+    (λ j c. record { before = []; by = e; behind = es; cut = refl; is = j })
+    (λ j c. let r = passes p es c in record { before = e ∷ r.before; by = r.by; behind = r.behind; cut = ap (λ (l : List NodeEntry). e ∷ l) r.cut; is = r.is }) i

@@ -1,17 +1,6 @@
 -- The end of a task, by its handle: it stays, and where all have ended it is there.
-use Rattle.std.proofs.Common.{◌≡◌, ℕ, ◌≤◌, Bool, true, false, cond, List, [], ◌∷◌, ◌++◌, Option, Some, None, refl, sym, ◌∙◌, ap, subst, arith}
-use Rattle.std.specs.Prelude.{◌==◌, is_none}
-use Rattle.mtapi_values.specs.declared.ends.TaskEnd.{TaskEnd}
-use Rattle.handle_pool.specs.Issued.{Listed, listed}
-use Rattle.mtapi_objects.specs.Tasks.{Task, TaskState, Scheduled, Running, Ended, end_of}
-use Rattle.mtapi_machine.specs.State.{State}
-use Rattle.mtapi_machine.specs.Laws.{Grows}
-use Rattle.mtapi_machine.specs.Legal.{NodeEntry, after_from}
-use Rattle.mtapi_machine.proofs.Ends.{after_grows}
-use Rattle.mtapi_machine.proofs.Lists.{after-append}
-use Rattle.mtapi_machine.specs.Ends.{end_in, end_at}
+use Rattle.history_law.proofs.Names.{◌≡◌, ℕ, ◌≤◌, Bool, true, false, cond, List, [], ◌∷◌, ◌++◌, Option, Some, None, refl, sym, ◌∙◌, ap, subst, arith, ◌==◌, is_none, TaskEnd, Listed, listed, Task, TaskState, Scheduled, Running, Ended, end_of, State, Grows, NodeEntry, after_from, after_grows, after-append, end_in, end_at, cond_both}
 use Rattle.history_law.proofs.Held.{HasEnded, AllEnded}
-use Rattle.std.proofs.lemmas.Bool.{cond_both}
 
 -- an end stays an end
 end_stays : (x y : TaskState) (e : TaskEnd) → ((e : TaskEnd) (n : ℕ) → end_of x ≡ Some (e, n) → end_of y ≡ Some (e, n)) → end_in x ≡ Some e → end_in y ≡ Some e

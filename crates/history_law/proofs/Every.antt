@@ -1,12 +1,5 @@
 -- What holds of every task that was ever issued, after a change of the list.
-use Rattle.std.proofs.Common.{◌≡◌, ℕ, ◌+◌, Bool, true, List, [], ◌∷◌, Some, sym, ◌∙◌, subst}
-use Rattle.std.specs.Prelude.{◌==◌, ◌&&◌}
-use Rattle.std.proofs.lemmas.Bool.{cond_both}
-use Rattle.handle_pool.specs.Issued.{Listed, live_of, live_object, change, change_all, issue}
-use Rattle.mtapi_values.specs.declared.ends.TaskEnd.{TaskEnd}
-use Rattle.mtapi_objects.specs.Tasks.{Task, Ended, with_state, ended, end_each}
-use Rattle.mtapi_machine.proofs.Changes.{some_same}
-use Rattle.mtapi_machine.proofs.Made.{fst_true, snd_true}
+use Rattle.history_law.proofs.Names.{◌≡◌, ℕ, ◌+◌, Bool, true, List, [], ◌∷◌, Some, sym, ◌∙◌, subst, ◌==◌, ◌&&◌, cond_both, Listed, live_of, live_object, change, change_all, issue, TaskEnd, Task, Ended, with_state, ended, end_each, some_same, fst_true, snd_true}
 use Rattle.history_law.proofs.Found.{at_head, at_here, at_past}
 
 module _ {T : Type 0} where

@@ -1,34 +1,14 @@
 -- Semaphores are held within their limits.
-use Rattle.std.proofs.Common.{◌≡◌, ℕ, zero, suc, ◌+◌, ◌<◌, ◌≤◌, Bool, true, false, List, [], ◌∷◌, Option, Some, None, refl, sym, ◌∙◌, ap, subst, arith}
-use Rattle.std.specs.Prelude.{◌==◌, ◌-◌, ◌&&◌, nat_lt, length, replicate, slice_index, slice_set}
-use Rattle.std.proofs.lemmas.Bool.{eqb-true}
-use Rattle.std.proofs.lemmas.Bool.Decides.{nat_tests}
-use Rattle.std.proofs.lemmas.List.{length-set, get_or-set_same}
+use Rattle.history_law.proofs.Names.{◌≡◌, ℕ, zero, suc, ◌+◌, ◌<◌, ◌≤◌, Bool, true, false, List, [], ◌∷◌, Option, Some, None, refl, sym, ◌∙◌, ap, subst, arith, ◌==◌, ◌-◌, ◌&&◌, nat_lt, length, replicate, slice_index, slice_set, eqb-true, nat_tests, length-set, get_or-set_same, Terms, Op, Reply, Handle, live_object, listed, Sem, new_sem, total, sem_create_refusals, sem_delete_refusals, sem_unlock_refusals, sem_busy, sem_taken, sem_given, State, Sems, Allows, after_row, row, keyed_sems, NodeEntry, Legal, some_same, entries_that, is_handle, says_ok, looks_at_sem, unlocks_sem, gets_sem, gives_sem, by_seat, SemsKeepTo, limit_of, Legal-prefix}
 use Rattle.mtapi_values.specs.declared.handles.ObjectKind.TheVariants as kind
-use Rattle.mtapi_machine.specs.declared.terms.Terms.{Terms}
-use Rattle.mtapi_machine.specs.declared.ops.Op.{Op}
 use Rattle.mtapi_machine.specs.declared.ops.Op.TheVariants as op
-use Rattle.mtapi_machine.specs.declared.replies.Reply.{Reply}
-use Rattle.mtapi_machine.specs.declared.replies.Reply.TheVariants.{Handle}
-use Rattle.handle_pool.specs.Issued.{live_object, listed}
-use Rattle.mtapi_objects.specs.Sems.{Sem, new_sem, total, sem_create_refusals, sem_delete_refusals, sem_unlock_refusals, sem_busy, sem_taken, sem_given}
-use Rattle.mtapi_machine.specs.State.{State}
-use Rattle.mtapi_machine.specs.Moves.{Sems}
-use Rattle.mtapi_machine.specs.Row.{Allows, after_row}
-use Rattle.mtapi_machine.specs.Rows.{row}
-use Rattle.mtapi_machine.specs.KeyedRows.{keyed_sems}
-use Rattle.mtapi_machine.specs.Legal.{NodeEntry, Legal}
-use Rattle.mtapi_machine.proofs.Changes.{some_same}
-use Rattle.history_law.specs.Words.{entries_that, makes as makes_object, is_handle}
-use Rattle.history_law.specs.Seats.{says_ok}
-use Rattle.history_law.specs.Exclusion.{looks_at_sem, unlocks_sem, gets_sem, gives_sem, by_seat, SemsKeepTo, limit_of}
+use Rattle.history_law.specs.Words.{makes as makes_object}
 use Rattle.history_law.proofs.Answered.{true_false}
 use Rattle.history_law.proofs.Counts.{one_if}
 use Rattle.history_law.proofs.Handles.{OnceIn}
 use Rattle.history_law.proofs.Locks.{Lock, LockStep, FitIn, count_in, has_in, as_step, step_same, on_look, on_unlock, on_delete, on_create, New, Kind, create_lists, look_misses, unlock_misses, none_got, counts_with, counts_any}
 use Rattle.history_law.proofs.Slots.{set_apart}
 use Rattle.history_law.proofs.Unmoved.{live_stays}
-use Rattle.mtapi_machine.proofs.Lists.{Legal-prefix}
 use Rattle.history_law.proofs.Reuse.{listed_same}
 
 -- Numbers in a list

@@ -1,34 +1,10 @@
 -- At most one seat holds a mutex.
-use Rattle.std.proofs.Common.{◌≡◌, ℕ, ◌+◌, ◌<◌, ◌≤◌, Bool, true, false, cond, List, [], ◌∷◌, ◌++◌, Option, Some, None, ◌⊎◌, inl, inr, refl, sym, ◌∙◌, ap, subst, arith}
-use Rattle.std.specs.Prelude.{◌==◌, ◌&&◌, not, nat_lt, is_some, length, ℤ}
+use Rattle.history_law.proofs.Names.{◌≡◌, ℕ, ◌+◌, ◌<◌, ◌≤◌, Bool, true, false, cond, List, [], ◌∷◌, ◌++◌, Option, Some, None, ◌⊎◌, inl, inr, refl, sym, ◌∙◌, ap, subst, arith, ◌==◌, ◌&&◌, not, nat_lt, is_some, length, ℤ, TaskHandle, MtapiStatus, Terms, Op, Reply, Listed, live_of, live_object, count_listed, change, with_fields, eqb-true, nat_tests, holds, Task, TaskState, Scheduled, Running, Ended, runner, is_unstarted, Adds, tally_args, runs_on, runs_as, with_notes, with_tally, tally_failed, tally_has, ended, Mutex, locked_by, with_attached, State, opening, workers, Move, Mutexes, Segments, alters, notes, after_moves, Allows, moves_of, after_row, row, takes_both, locks, NodeEntry, IsNext, next, LegalFrom, Legal, after_from, after, Legal-front, Legal-rest, after-append, after-one, AllGives, given, moves_given, on_live, not_false, at-update, some_same, some_entry, entries_that, by_seat, gets_mutex, gives_mutex, says_end, is_tally_end, ends_tally, HasMutex, tally_got, HoldsByLooks, HoldsByTally, HoldsMutex, MutexesKeepTo, mutex_in, and-false}
 use Rattle.mtapi_values.specs.declared.kinds.Kind.TheVariants as kinds
 use Rattle.mtapi_values.specs.declared.handles.ObjectKind.TheVariants as kind
-use Rattle.mtapi_values.specs.declared.handles.TaskHandle.{TaskHandle}
-use Rattle.mtapi_values.specs.declared.statuses.MtapiStatus.{MtapiStatus}
 use Rattle.mtapi_values.specs.declared.statuses.MtapiStatus.TheVariants as m
-use Rattle.mtapi_machine.specs.declared.terms.Terms.{Terms}
-use Rattle.mtapi_machine.specs.declared.ops.Op.{Op}
 use Rattle.mtapi_machine.specs.declared.ops.Op.TheVariants as op
-use Rattle.mtapi_machine.specs.declared.replies.Reply.{Reply}
 use Rattle.mtapi_machine.specs.declared.replies.Reply.TheVariants as reply
-use Rattle.handle_pool.specs.Issued.{Listed, live_of, live_object, count_listed, change, with_fields}
-use Rattle.std.proofs.lemmas.Bool.{eqb-true}
-use Rattle.std.proofs.lemmas.Bool.Decides.{nat_tests}
-use Rattle.mtapi_values.specs.Conditions.{holds}
-use Rattle.mtapi_objects.specs.Tasks.{Task, TaskState, Scheduled, Running, Ended, runner, is_unstarted, Adds, tally_args, runs_on, runs_as, with_notes, with_tally, tally_failed, tally_has, ended}
-use Rattle.mtapi_objects.specs.Mutexes.{Mutex, locked_by}
-use Rattle.mtapi_objects.specs.Segments.{with_attached}
-use Rattle.mtapi_machine.specs.State.{State, opening, workers}
-use Rattle.mtapi_machine.specs.Moves.{Move, Mutexes, Segments, alters, notes, after_moves}
-use Rattle.mtapi_machine.specs.Row.{Allows, moves_of, after_row}
-use Rattle.mtapi_machine.specs.Rows.{row}
-use Rattle.mtapi_machine.specs.TallyRows.{takes_both, locks}
-use Rattle.mtapi_machine.specs.Legal.{NodeEntry, IsNext, next, LegalFrom, Legal, after_from, after}
-use Rattle.mtapi_machine.proofs.Lists.{Legal-front, Legal-rest, after-append, after-one}
-use Rattle.mtapi_machine.proofs.Made.{AllGives, given, moves_given, on_live, not_false}
-use Rattle.mtapi_machine.proofs.Changes.{at-update, some_same}
-use Rattle.history_law.specs.Words.{some_entry, entries_that}
-use Rattle.history_law.specs.Exclusion.{by_seat, gets_mutex, gives_mutex, says_end, is_tally_end, ends_tally, HasMutex, tally_got, HoldsByLooks, HoldsByTally, HoldsMutex, MutexesKeepTo}
 use Rattle.history_law.proofs.Reuse.{terms_next}
 use Rattle.history_law.proofs.Handles.{OnceIn}
 use Rattle.history_law.proofs.Found.{count_changed}
@@ -39,9 +15,8 @@ use Rattle.history_law.proofs.Every.{Every, every_change, every_map, every_at, a
 use Rattle.history_law.proofs.SeatMoves.{fails, is_tally_lock, by_moves}
 use Rattle.history_law.proofs.Others.{runs_scheduled}
 use Rattle.history_law.proofs.OnceIssued.{once_none, once_next}
-use Rattle.history_law.proofs.Answered.{true_false, none_first, NoRefusal, answered, no_live, no_cond, gives_cond, Quiet}
+use Rattle.history_law.proofs.Answered.{true_false, none_first, NoRefusal, answered, no_live, no_cond, gives_cond, Quiet, whether, on_test}
 use Rattle.history_law.proofs.Counts.{one_if, counts_along}
-use Rattle.history_law.specs.Tally.{mutex_in}
 use Rattle.history_law.proofs.Firsts.{first_at}
 use Rattle.history_law.proofs.Ties.{Owns, id_in, Tied, does_follow, noted_tied, Ties, ties_move, AtMostOne, one_move, none_runs, OnAt, on_move, on_runs, as_on}
 use Rattle.history_law.proofs.Mutexes.{Step, Free, free_step, owns_step, share, share_step, share_owner, got}
@@ -83,13 +58,9 @@ end_count s who t r one i a =
     (λ c. on_live _ (live_object s.tasks t.0) _ _ (λ j. true_false j refl) (λ x e b d. gives_cond _ (x.notes.tally.stage == 4) _ _ (λ f j. none x e (as_on who x.state (not_false _ b)) x.notes.tally.verdict)
     (λ f. on_live _ (live_object s.segments x.notes.tally.segment) _ _ tt (λ y g. on_live _ (live_object s.mutexes x.notes.tally.mutex) _ _ tt (λ z h j. none x e (as_on who x.state (not_false _ b)) _))))) a
   where
-    never : (b : Bool) → (b && false) ≡ false
-    never true = refl
-    never false = refl
-
     none : (x : Task) → live_object s.tasks t.0 ≡ Some x → runs_on who x ≡ true → (e : _) → count_listed (runs_on who) (change t.0 (ended e s.ends) s.tasks) ≡ 0
     none x f k e =
-        let c = count_changed (runs_on who) t.0 (ended e s.ends) false s.tasks x f (λ r a g. never _) in
+        let c = count_changed (runs_on who) t.0 (ended e s.ends) false s.tasks x f (λ r a g. and-false _) in
         let b : cond {A = ℕ} (runs_on who x) 1 0 ≡ 1 = ap one_if k in
         let m : count_listed (runs_on who) s.tasks ≤ 1 = one in
         omega arith
@@ -193,17 +164,12 @@ quiet_end s who t r i a = ap (λ (ms : List Move). after_moves ms s) (given (Qui
 
 ties_next : (n : ℕ) (s : State) (who : ℕ) (o : Op) (r : Reply) → IsNext s (record { who = who; op = o; reply = r }) → Good n s → Ties n (after_row s (row s who o r)).mutexes (after_row s (row s who o r))
 ties_next n s who (op.TallyLock t) r i g = lock_ties n s who g t r
-ties_next n s who (op.TallyEnd t) r i g = by_end (says_end r) refl
+ties_next n s who (op.TallyEnd t) r i g = whether (says_end r)
+    (λ k. moved_ties n s e i g refl (every_map (λ u. runs_on who u ≡ false) (λ u. Unit {0}) (λ u. (true ≡ true) → runs_on who u ≡ false) (next s e).tasks (λ u a b c. a) (none_runs who (next s e).tasks (held_next s e g.held).dead (end_count s who t r (g.one who) k i.allowed)) (always (next s e).tasks)))
+    (λ k. subst (λ (u : State). Ties n u.mutexes u) (sym (quiet_end s who t r k i.allowed)) g.ties)
   where
     e : NodeEntry
     e = record { who = who; op = op.TallyEnd t; reply = r }
-
-    by_end : (b : Bool) → says_end r ≡ b → Ties n (after_row s (row s who (op.TallyEnd t) r)).mutexes (after_row s (row s who (op.TallyEnd t) r))
-    by_end true k =
-        moved_ties n s e i g refl
-        (every_map (λ u. runs_on who u ≡ false) (λ u. Unit {0}) (λ u. (true ≡ true) → runs_on who u ≡ false) (next s e).tasks (λ u a b c. a)
-        (none_runs who (next s e).tasks (held_next s e g.held).dead (end_count s who t r (g.one who) k i.allowed)) (always (next s e).tasks))
-    by_end false k = subst (λ (u : State). Ties n u.mutexes u) (sym (quiet_end s who t r k i.allowed)) g.ties
 ties_next n s who o r i g = moved_ties n s (record { who = who; op = o; reply = r }) i g refl (no_ending o who _ refl)
 
 pub good_next : (n : ℕ) (s : State) (e : NodeEntry) → IsNext s e → Good n s → Good n (next s e)
@@ -294,15 +260,13 @@ lock_got s who t i =
     (λ c. on_live _ (live_object s.tasks t.0) _ _ (λ j. true_false j refl) (λ x e b d. locks_got s who t.0 x x.args (tally_args x.args) e (not_false _ b))) i.allowed
 
 stays_on : (w h i : ℕ) (s : State) (e : NodeEntry) → IsNext s e → ends_tally i e ≡ false → OnAt w h i s → OnAt w h i (next s e)
-stays_on w h i s e n f v = by_op (is_tally_end i e.op) refl f
+stays_on w h i s e n f v = on_test (λ b. (b && says_end e.reply) ≡ false → OnAt w h i (next s e)) (is_tally_end i e.op)
+    (λ d k. quiet e.op e.reply e.who d k n.allowed)
+    (λ d k. by_moves (OnAt w h i) s e n (on_move w h i e.who e.op d) v) f
   where
     quiet : (o : Op) (r : Reply) (who : ℕ) → is_tally_end i o ≡ true → says_end r ≡ false → Allows (row s who o r) r → OnAt w h i (after_row s (row s who o r))
     quiet (op.TallyEnd t) r who d k a = subst (OnAt w h i) (sym (quiet_end s who t r k a)) v
     quiet _ r who d k a = true_false d refl
-
-    by_op : (b : Bool) → is_tally_end i e.op ≡ b → (b && says_end e.reply) ≡ false → OnAt w h i (next s e)
-    by_op true d k = quiet e.op e.reply e.who d k n.allowed
-    by_op false d k = by_moves (OnAt w h i) s e n (on_move w h i e.who e.op d) v
 
 on_along : (w h i : ℕ) (s : State) (L : List NodeEntry) → LegalFrom s L → some_entry (ends_tally i) L ≡ false → OnAt w h i s → OnAt w h i (after_from s L)
 unfolding LegalFrom after_from

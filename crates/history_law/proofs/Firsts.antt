@@ -1,16 +1,10 @@
 -- What is known of the first live object that passes, and of two live ones where at most one passes.
-use Rattle.std.proofs.Common.{◌≡◌, ℕ, ◌+◌, ◌≤◌, Bool, true, false, cond, List, [], ◌∷◌, Some, refl, sym, ◌∙◌, ap, subst, arith}
-use Rattle.std.specs.Prelude.{◌==◌, ◌&&◌, is_some}
-use Rattle.std.proofs.lemmas.Bool.{eq-eqb}
-use Rattle.handle_pool.specs.Issued.{Listed, live_of, live_object, listed, count_listed, first_handle}
-use Rattle.mtapi_machine.proofs.Changes.{some_same}
-use Rattle.history_law.proofs.Answered.{true_false}
+use Rattle.history_law.proofs.Names.{◌≡◌, ℕ, ◌+◌, ◌≤◌, Bool, true, false, cond, List, [], ◌∷◌, Some, refl, sym, ◌∙◌, ap, subst, arith, ◌==◌, ◌&&◌, is_some, eq-eqb, Listed, live_of, live_object, listed, count_listed, some_same}
+use Rattle.handle_pool.specs.Issued.{first_handle}
+use Rattle.history_law.proofs.Answered.{true_false, whether, on_test}
 use Rattle.history_law.proofs.Handles.{OnceIn, once_rest}
 use Rattle.history_law.proofs.Ages.{live_listed}
 use Rattle.history_law.proofs.Found.{at_skip, at_dead, at_here, at_head, at_past}
-
-handle_same : {a b : ℕ} → Some a ≡ Some b → a ≡ b
-handle_same i = cc
 
 module _ {T : Type 0} where
   -- a head that has the handle has it alone
@@ -25,34 +19,30 @@ module _ {T : Type 0} where
   first_there : (p : T → Bool) (l : List (Listed T)) (h : ℕ) → first_handle p (live_of l) ≡ Some h → is_some (live_object l h) ≡ true
   unfolding live_of
   first_there p [] h f = absurd (cc)
-  first_there p (r ∷ rs) h f = by_live r.live refl f (first_there p rs h)
+  first_there p (r ∷ rs) h f = on_test (λ b. first_handle p (cond b ((r.handle, r.fields) ∷ live_of rs) (live_of rs)) ≡ Some h → is_some (live_object (r ∷ rs) h) ≡ true) r.live
+      (λ a f. by_pass a (p r.fields) f (first_there p rs h))
+      (λ a f. ap is_some (at_dead r rs h a) ∙ (first_there p rs h) f) f
     where
       later : is_some (live_object rs h) ≡ true → is_some (live_object (r ∷ rs) h) ≡ true
       later k = at_head r h (λ a b. ap is_some (at_here r rs h a b)) (λ c. ap is_some (at_past r rs h c) ∙ k)
 
       by_pass : r.live ≡ true → (b : Bool) → cond b (Some r.handle) (first_handle p (live_of rs)) ≡ Some h → (first_handle p (live_of rs) ≡ Some h → is_some (live_object rs h) ≡ true) → is_some (live_object (r ∷ rs) h) ≡ true
-      by_pass a true f k = ap is_some (at_here r rs h a (eq-eqb r.handle h (handle_same f)))
+      by_pass a true f k = ap is_some (at_here r rs h a (eq-eqb r.handle h (some_same f)))
       by_pass a false f k = later (k f)
-
-      by_live : (b : Bool) → r.live ≡ b → first_handle p (cond b ((r.handle, r.fields) ∷ live_of rs) (live_of rs)) ≡ Some h → (first_handle p (live_of rs) ≡ Some h → is_some (live_object rs h) ≡ true) → is_some (live_object (r ∷ rs) h) ≡ true
-      by_live true a f k = by_pass a (p r.fields) f k
-      by_live false a f k = ap is_some (at_dead r rs h a) ∙ k f
 
   -- the first live object that passes is the one of its handle
   pub first_at : (p : T → Bool) (l : List (Listed T)) (h : ℕ) (x : T) → OnceIn l → first_handle p (live_of l) ≡ Some h → live_object l h ≡ Some x → p x ≡ true
   unfolding live_of
   first_at p [] h x o f e = absurd (cc)
-  first_at p (r ∷ rs) h x o f e = by_live r.live refl f (λ i j. first_at p rs h x (once_rest r rs o) i j)
+  first_at p (r ∷ rs) h x o f e = on_test (λ b. first_handle p (cond b ((r.handle, r.fields) ∷ live_of rs) (live_of rs)) ≡ Some h → p x ≡ true) r.live
+      (λ a f. by_pass a (p r.fields) refl f (λ i j. first_at p rs h x (once_rest r rs o) i j))
+      (λ a f. first_at p rs h x (once_rest r rs o) f (sym (at_dead r rs h a) ∙ e)) f
     where
       by_pass : r.live ≡ true → (b : Bool) → p r.fields ≡ b → cond b (Some r.handle) (first_handle p (live_of rs)) ≡ Some h → (first_handle p (live_of rs) ≡ Some h → live_object rs h ≡ Some x → p x ≡ true) → p x ≡ true
       by_pass a true i f k =
-          let here : live_object (r ∷ rs) h ≡ Some r.fields = at_here r rs h a (eq-eqb r.handle h (handle_same f)) in
+          let here : live_object (r ∷ rs) h ≡ Some r.fields = at_here r rs h a (eq-eqb r.handle h (some_same f)) in
           subst (λ (y : T). p y ≡ true) (some_same (sym here ∙ e)) i
       by_pass a false i f k = k f (sym (at_skip r rs h (head_alone r rs h o (first_there p rs h f))) ∙ e)
-
-      by_live : (b : Bool) → r.live ≡ b → first_handle p (cond b ((r.handle, r.fields) ∷ live_of rs) (live_of rs)) ≡ Some h → (first_handle p (live_of rs) ≡ Some h → live_object rs h ≡ Some x → p x ≡ true) → p x ≡ true
-      by_live true a f k = by_pass a (p r.fields) refl f k
-      by_live false a f k = k f (sym (at_dead r rs h a) ∙ e)
 
   -- a live object that passes is counted
   pub found_count : (p : T → Bool) (l : List (Listed T)) (h : ℕ) (x : T) → live_object l h ≡ Some x → p x ≡ true → 1 ≤ count_listed p l
@@ -69,7 +59,9 @@ module _ {T : Type 0} where
   pub one_passes : (p : T → Bool) (l : List (Listed T)) (h k : ℕ) (x y : T) → count_listed p l ≤ 1 → live_object l h ≡ Some x → live_object l k ≡ Some y → p x ≡ true → p y ≡ true → x ≡ y
   unfolding live_of
   one_passes p [] h k x y c e f i j = absurd (cc)
-  one_passes p (r ∷ rs) h k x y c e f i j = by_live r.live refl c (λ d a b. one_passes p rs h k x y d a b i j)
+  one_passes p (r ∷ rs) h k x y c e f i j = whether r.live
+      (λ e. by_pass e (p r.fields) refl c (λ d a b. one_passes p rs h k x y d a b i j))
+      (λ z. one_passes p rs h k x y (less _ c) (sym (at_dead r rs h z) ∙ e) (sym (at_dead r rs k z) ∙ f) i j)
     where
       less : (b : Bool) → cond {A = ℕ} b 1 0 + count_listed p rs ≤ 1 → count_listed p rs ≤ 1
       less b d = omega arith
@@ -89,7 +81,3 @@ module _ {T : Type 0} where
       by_pass : r.live ≡ true → (b : Bool) → p r.fields ≡ b → cond {A = ℕ} (r.live && p r.fields) 1 0 + count_listed p rs ≤ 1 → (count_listed p rs ≤ 1 → live_object rs h ≡ Some x → live_object rs k ≡ Some y → x ≡ y) → x ≡ y
       by_pass a true b d g = sym (is_head h x a b e i d) ∙ is_head k y a b f j d
       by_pass a false b d g = g (less _ d) (behind h x a b e i) (behind k y a b f j)
-
-      by_live : (b : Bool) → r.live ≡ b → cond {A = ℕ} (r.live && p r.fields) 1 0 + count_listed p rs ≤ 1 → (count_listed p rs ≤ 1 → live_object rs h ≡ Some x → live_object rs k ≡ Some y → x ≡ y) → x ≡ y
-      by_live true a d g = by_pass a (p r.fields) refl d g
-      by_live false a d g = g (less _ d) (sym (at_dead r rs h a) ∙ e) (sym (at_dead r rs k a) ∙ f)

@@ -1,10 +1,6 @@
 -- How often a handle is listed, after a change of the list.
-use Rattle.std.proofs.Common.{◌≡◌, ℕ, ◌+◌, ◌≤◌, Bool, true, false, cond, List, [], ◌∷◌, refl, sym, ap, subst, arith}
-use Rattle.std.specs.Prelude.{◌==◌, ◌&&◌}
-use Rattle.std.proofs.lemmas.Bool.{eqb-true, cond_both, eq-eqb, false_from_ne_true}
-use Rattle.handle_pool.specs.Issued.{Listed, change, change_all, issue, listed}
-use Rattle.mtapi_values.specs.declared.ends.TaskEnd.{TaskEnd}
-use Rattle.mtapi_objects.specs.Tasks.{Task, ended, end_each}
+use Rattle.history_law.proofs.Names.{◌≡◌, ℕ, ◌+◌, ◌≤◌, Bool, false, cond, List, [], ◌∷◌, refl, sym, ap, subst, arith, ◌==◌, ◌&&◌, eqb-true, cond_both, eq-eqb, false_from_ne_true, Listed, change, change_all, issue, listed, TaskEnd, Task, ended, end_each, listed-issue}
+use Rattle.history_law.proofs.Answered.{on_test}
 
 module _ {T : Type 0} where
   head_listed : (j : ℕ) (q r : Listed T) (qs rs : List (Listed T)) → q.handle ≡ r.handle → listed j qs ≡ listed j rs → listed j (q ∷ qs) ≡ listed j (r ∷ rs)
@@ -14,17 +10,14 @@ module _ {T : Type 0} where
   pub listed_change : (j h : ℕ) (f : Listed T → Listed T) (l : List (Listed T)) → ((r : Listed T) → (f r).handle ≡ r.handle) → listed j (change h f l) ≡ listed j l
   unfolding change
   listed_change j h f [] k = refl
-  listed_change j h f (r ∷ rs) k = cond_both (r.live && (r.handle == h)) (f r ∷ rs) (r ∷ change h f rs) (λ l. listed j l ≡ listed j (r ∷ rs)) (λ e. head_listed j (f r) r rs rs (k r) refl) (λ e. head_listed j r r (change h f rs) rs refl (listed_change j h f rs k))
+  listed_change j h f (r ∷ rs) k = cond_both (r.live && (r.handle == h)) (f r ∷ rs) (r ∷ change h f rs) (λ l. listed j l ≡ listed j (r ∷ rs))
+      (λ e. head_listed j (f r) r rs rs (k r) refl)
+      (λ e. head_listed j r r (change h f rs) rs refl (listed_change j h f rs k))
 
   pub listed_all : (j : ℕ) (p : T → Bool) (f : Listed T → Listed T) (l : List (Listed T)) → ((r : Listed T) → (f r).handle ≡ r.handle) → listed j (change_all p f l) ≡ listed j l
   unfolding change_all
   listed_all j p f [] k = refl
   listed_all j p f (r ∷ rs) k = head_listed j (cond (r.live && p r.fields) (f r) r) r (change_all p f rs) rs (cond_both (r.live && p r.fields) (f r) r (λ q. q.handle ≡ r.handle) (λ e. k r) (λ e. refl)) (listed_all j p f rs k)
-
-  pub listed_more : (j h : ℕ) (v : T) (l : List (Listed T)) → listed j (issue h v l) ≡ listed j l + cond (h == j) 1 0
-  unfolding listed issue
-  listed_more j h v [] = omega arith
-  listed_more j h v (r ∷ rs) = let k : listed j (issue h v rs) ≡ listed j rs + cond (h == j) 1 0 = listed_more j h v rs in omega arith
 
   -- where a handle isn't listed, the head has another one
   pub head_apart : (h : ℕ) (r : Listed T) (rs : List (Listed T)) → listed h (r ∷ rs) ≡ 0 → ((r.handle == h) ≡ false) × (listed h rs ≡ 0)
@@ -33,7 +26,7 @@ module _ {T : Type 0} where
 
   -- an issued handle is listed
   pub some_issued : (h : ℕ) (x : T) (l : List (Listed T)) → 1 ≤ listed h (issue h x l)
-  some_issued h x l = let e = listed_more h h x l in let k : cond {A = ℕ} (h == h) 1 0 ≡ 1 = ap (λ (b : Bool). cond {A = ℕ} b 1 0) (eq-eqb h h refl) in omega arith
+  some_issued h x l = let e = listed-issue h h x l in let k : cond {A = ℕ} (h == h) 1 0 ≡ 1 = ap (λ (b : Bool). cond {A = ℕ} b 1 0) (eq-eqb h h refl) in omega arith
 
   -- each handle is listed at most once
   abbrev pub OnceIn : List (Listed T) → Type 0
@@ -47,11 +40,9 @@ module _ {T : Type 0} where
   once_same l k e o j = subst (λ (n : ℕ). n ≤ 1) (sym (e j)) (o j)
 
   pub once_more : (h : ℕ) (v : T) (l : List (Listed T)) → listed h l ≡ 0 → OnceIn l → OnceIn (issue h v l)
-  once_more h v l n o j = let e = listed_more j h v l in by_same (h == j) refl e
-    where
-      by_same : (b : Bool) → (h == j) ≡ b → listed j (issue h v l) ≡ listed j l + cond b 1 0 → listed j (issue h v l) ≤ 1
-      by_same true s e = let k : h ≡ j = eqb-true h j s in let z : listed j l ≡ 0 = subst (λ (x : ℕ). listed x l ≡ 0) k n in omega arith
-      by_same false s e = let u : listed j l ≤ 1 = o j in omega arith
+  once_more h v l n o j = let e = listed-issue j h v l in (on_test (λ b. listed j (issue h v l) ≡ listed j l + cond b 1 0 → listed j (issue h v l) ≤ 1) (h == j)
+      (λ s e. let k : h ≡ j = eqb-true h j s in let z : listed j l ≡ 0 = subst (λ (x : ℕ). listed x l ≡ 0) k n in omega arith)
+      (λ s e. let u : listed j l ≤ 1 = o j in omega arith) e)
 
 pub listed_ends : (j : ℕ) (p : Task → Bool) (e : TaskEnd) (n : ℕ) (l : List (Listed Task)) → listed j (end_each p e n l) ≡ listed j l
 unfolding end_each

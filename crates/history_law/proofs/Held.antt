@@ -1,18 +1,8 @@
 -- What holds after every legal list of the tasks, the phase and the marks of stopped workers, and the changes that keep it.
-use Rattle.std.proofs.Common.{◌≡◌, ℕ, zero, suc, ◌+◌, ◌≤◌, Bool, true, false, cond, List, [], ◌∷◌, ◌++◌, Some, refl, ◌∙◌, ap, arith}
-use Rattle.std.specs.Prelude.{◌==◌, ◌&&◌, is_none, slice_set}
-use Rattle.std.proofs.lemmas.Bool.{cond_both}
-use Rattle.mtapi_values.specs.declared.ends.TaskEnd.{TaskEnd}
-use Rattle.mtapi_values.specs.Seats.{all_marked}
-use Rattle.mtapi_machine.specs.declared.terms.Phase.{Phase}
-use Rattle.mtapi_machine.specs.declared.terms.Phase.TheVariants.{New, Open, Closing, Closed}
-use Rattle.handle_pool.specs.Issued.{Listed, live_of, live_object, any_listed, any_live, change, issue, listed, with_fields, gone}
-use Rattle.mtapi_objects.specs.Tasks.{Task, TaskState, end_of, is_unended, ended, end_each}
-use Rattle.mtapi_machine.specs.State.{is_new, is_open, is_past_open}
-use Rattle.mtapi_machine.proofs.Made.{fst_true, snd_true}
+use Rattle.history_law.proofs.Names.{◌≡◌, ℕ, zero, suc, ◌+◌, ◌≤◌, Bool, true, false, cond, List, [], ◌∷◌, ◌++◌, Some, refl, ◌∙◌, ap, arith, ◌==◌, ◌&&◌, is_none, slice_set, cond_both, TaskEnd, all_marked, Phase, New, Listed, live_of, live_object, any_listed, any_live, change, issue, listed, with_fields, gone, Task, TaskState, end_of, is_unended, ended, end_each, is_new, is_open, is_past_open, fst_true, snd_true}
 use Rattle.history_law.proofs.Found.{at_here, at_past}
 use Rattle.history_law.proofs.Handles.{once_more}
-use Rattle.history_law.proofs.Answered.{true_false}
+use Rattle.history_law.proofs.Answered.{true_false, none_first}
 
 -- the task has ended
 abbrev pub HasEnded : Task → Type 0
@@ -128,15 +118,11 @@ held_late p q m l k t v g = record {
 
 new_late : (p : Phase) → is_new p ≡ true → is_past_open p ≡ true → ⊥
 new_late New a b = cc
-new_late Open a b = cc
-new_late Closing a b = cc
-new_late Closed a b = cc
+new_late p a b = cc
 
 open_late : (p : Phase) → is_open p ≡ true → is_past_open p ≡ true → ⊥
 open_late New a b = cc
-open_late Open a b = cc
-open_late Closing a b = cc
-open_late Closed a b = cc
+open_late p a b = cc
 
 -- the node opens
 pub held_open : (p q : Phase) (m : List Bool) (l : List (Listed Task)) → is_new p ≡ true → Held p m l → Held q m l
@@ -158,17 +144,13 @@ held_issue p m h t l o n v = record {
 
 -- a worker stops
 
-live_ended : (b c : Bool) → cond b true c ≡ false → (b ≡ false) × (c ≡ false)
-live_ended true c e = absurd (cc)
-live_ended false c e = (refl, e)
-
 all_ended : (l : List (Listed Task)) → any_listed is_unended l ≡ false → DeadEnded l → AllEnded l
 unfolding live_of
 all_ended [] e d = tt
 all_ended (r ∷ rs) e d = by_live r.live e d.0 (λ q. all_ended rs q d.1)
   where
     by_live : (b : Bool) → any_live is_unended (cond b ((r.handle, r.fields) ∷ live_of rs) (live_of rs)) ≡ false → (b ≡ false → HasEnded r.fields) → (any_listed is_unended rs ≡ false → AllEnded rs) → HasEnded r.fields × AllEnded rs
-    by_live true q k rest = let both : (is_unended r.fields ≡ false) × (any_listed is_unended rs ≡ false) = live_ended (is_unended r.fields) (any_listed is_unended rs) q in (both.0, rest both.1)
+    by_live true q k rest = let both : (is_unended r.fields ≡ false) × (any_listed is_unended rs ≡ false) = none_first (is_unended r.fields) (any_listed is_unended rs) q in (both.0, rest both.1)
     by_live false q k rest = (k refl, rest q)
 
 pub held_stop : (p : Phase) (m : List Bool) (w : ℕ) (l : List (Listed Task)) → is_past_open p ≡ true → any_listed is_unended l ≡ false → Held p m l → Held p (slice_set m w true) l

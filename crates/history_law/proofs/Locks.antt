@@ -1,35 +1,14 @@
 -- Locks that seats get and give back: what each entry does to one, and so every list of entries. A kind of lock says what is counted of it.
-use Rattle.std.proofs.Common.{◌≡◌, ℕ, ◌+◌, ◌<◌, ◌≤◌, Bool, true, false, List, [], ◌∷◌, ◌++◌, Option, Some, None, refl, sym, ◌∙◌, ap, subst, arith, zero, suc}
-use Rattle.std.specs.Prelude.{◌==◌, ◌&&◌}
-use Rattle.std.proofs.lemmas.Bool.{eqb-true, false_from_ne_true}
-use Rattle.mtapi_values.specs.declared.statuses.MrapiStatus.{MrapiStatus}
+use Rattle.history_law.proofs.Names.{◌≡◌, ℕ, ◌+◌, ◌<◌, ◌≤◌, Bool, true, false, List, [], ◌∷◌, ◌++◌, Option, Some, None, refl, sym, ◌∙◌, ap, subst, arith, zero, suc, ◌==◌, ◌&&◌, eqb-true, false_from_ne_true, MrapiStatus, Listed, live_object, listed, issue, change, with_fields, gone, Reply, Ok, Handle, Pending, Mrapi, Terms, State, FieldsOf, objects_of, opening, seats, Move, Sort, Fields, all_of, is_fresh, makes, alters, removes, after_moves, Row, Allows, after_row, handle_of, Keyed, mrapi, mrapi_open, mrapi_unless, creates_keyed, alters_one, looks_one, deletes, NodeEntry, IsNext, next, LegalFrom, Legal, after_from, after, Legal-front, Legal-rest, at-update, entries_that, some_entry, is_handle, issues, says_ok, by_seat, limit_of, MadeWith, ObjectKind, Op, row, fst_true, along, sort_at}
 use Rattle.mtapi_values.specs.declared.statuses.MrapiStatus.TheVariants as c
-use Rattle.handle_pool.specs.Issued.{Listed, live_object, listed, issue, change, with_fields, gone}
-use Rattle.mtapi_machine.specs.declared.replies.Reply.{Reply}
-use Rattle.mtapi_machine.specs.declared.replies.Reply.TheVariants.{Ok, Handle, Pending, Mrapi}
-use Rattle.mtapi_machine.specs.declared.terms.Terms.{Terms}
-use Rattle.mtapi_machine.specs.State.{State, opening, seats}
-use Rattle.mtapi_machine.specs.Moves.{Move, Sort, Groups, Queues, Mutexes, Sems, Rwls, Segments, Fields, all_of, is_fresh, makes, alters, removes, after_moves}
-use Rattle.mtapi_machine.specs.Row.{Row, Allows, after_row, handle_of}
-use Rattle.mtapi_machine.specs.KeyedRows.{Keyed, mrapi, mrapi_open, mrapi_unless, creates_keyed, alters_one, looks_one, deletes}
-use Rattle.mtapi_machine.specs.Legal.{NodeEntry, IsNext, next, LegalFrom, Legal, after_from, after}
-use Rattle.mtapi_machine.proofs.Lists.{Legal-front, Legal-rest}
-use Rattle.mtapi_machine.proofs.Changes.{at-update}
-use Rattle.history_law.specs.Words.{entries_that, FieldsOf, objects_of, some_entry, makes as makes_object, is_handle, issues}
-use Rattle.history_law.specs.Seats.{says_ok}
-use Rattle.history_law.specs.Exclusion.{by_seat, limit_of, MadeWith}
+use Rattle.history_law.specs.Words.{makes as makes_object}
 use Rattle.history_law.proofs.Accepted.{stands_after}
 use Rattle.history_law.proofs.AtHandles.{at_change_other, at_issue_here, at_retired, at_unlisted}
 use Rattle.history_law.proofs.Counts.{one_if, counts_along, counts_behind, passes}
 use Rattle.history_law.proofs.Handles.{OnceIn, some_issued}
 use Rattle.history_law.proofs.Reuse.{terms_next, unlisted_if, Listed1, listed_move, listed_new, none_times, fresh_unlisted, issues_fresh, issued_as, ListsIssued, none_listed}
 use Rattle.history_law.proofs.Said.{said, Unmet, says_only, says_unless, says_look, says_alter, says_delete}
-use Rattle.mtapi_values.specs.declared.handles.ObjectKind.{ObjectKind}
-use Rattle.mtapi_machine.specs.declared.ops.Op.{Op}
-use Rattle.mtapi_machine.specs.Rows.{row}
-use Rattle.mtapi_machine.proofs.Made.{fst_true}
-use Rattle.mtapi_machine.proofs.Moves.{along}
-use Rattle.history_law.proofs.Answered.{none_some}
+use Rattle.history_law.proofs.Answered.{none_some, whether, on_test}
 use Rattle.history_law.proofs.OnceIssued.{once_move, once_next, listed_next}
 
 -- what always holds of a lock, how often it is held in a mode, and how often by one seat
@@ -76,14 +55,6 @@ never_so : (b c : Bool) → ((b && false) && c) ≡ false
 never_so true c = refl
 never_so false c = refl
 
-sort_list : (k : Sort) (l : List (Listed (Fields k))) (s : State) → (all_of k).list ((all_of k).with_list l s) ≡ l
-sort_list Groups l s = refl
-sort_list Queues l s = refl
-sort_list Mutexes l s = refl
-sort_list Sems l s = refl
-sort_list Rwls l s = refl
-sort_list Segments l s = refl
-
 -- There are at most 25 seats
 
 pub seats_next : (s : State) (e : NodeEntry) → seats s ≤ 25 → seats (next s e) ≤ 25
@@ -111,30 +82,24 @@ module _ (k : Sort) {M : Type 0} (K : Lock M (Fields k)) (s : State) (who h : �
 
   -- the lock of the handle j changes, where it was v; another one stays
   hit : (x y : M → Bool) (j : ℕ) (f : Fields k → Fields k) (v : Fields k) → live_object ((all_of k).list s) j ≡ Some v → (K.Fit v → LockStep K who (Some v) (Some (f v)) x y) → After (λ m. (j == h) && x m) (λ m. (j == h) && y m) Ok (alters k j f ∷ [])
-  hit x y j f v e g = subst (λ (l : List (Listed (Fields k))). Step l (λ m. ((j == h) && x m) && true) (λ m. ((j == h) && y m) && true)) (sym (sort_list k _ s)) (by_same (j == h) refl)
+  hit x y j f v e g = subst (λ (l : List (Listed (Fields k))). Step l (λ m. ((j == h) && x m) && true) (λ m. ((j == h) && y m) && true)) (sym (sort_at k _ s)) (on_test (λ b. Step (change j (with_fields f) ((all_of k).list s)) (λ m. (b && x m) && true) (λ m. (b && y m) && true)) (j == h)
+      (λ i.
+      let same : j ≡ h = eqb-true j h i in
+      let was : live_object ((all_of k).list s) h ≡ Some v = ap (live_object ((all_of k).list s)) (sym same) ∙ e in
+      let now : live_object (change j (with_fields f) ((all_of k).list s)) h ≡ Some (f v) = ap (live_object (change j (with_fields f) ((all_of k).list s))) (sym same) ∙ at-update j f v ((all_of k).list s) e in
+      subst (λ (q : Option (Fields k)). LockStep K who q (live_object (change j (with_fields f) ((all_of k).list s)) h) (λ m. x m && true) (λ m. y m && true)) (sym was) (subst (λ (q : Option (Fields k)). LockStep K who (Some v) q (λ m. x m && true) (λ m. y m && true)) (sym now) (as_step K who _ _ _ _ x y (λ m. last (x m)) (λ m. last (y m)) (g (subst (FitIn K) was fit)))))
+      (λ i. step_same K who _ _ (at_change_other j h (with_fields f) ((all_of k).list s) (λ r. refl) i) fit))
     where
       last : (b : Bool) → b ≡ (b && true)
       last true = refl
       last false = refl
 
-      by_same : (b : Bool) → (j == h) ≡ b → Step (change j (with_fields f) ((all_of k).list s)) (λ m. (b && x m) && true) (λ m. (b && y m) && true)
-      by_same true i =
-          let same : j ≡ h = eqb-true j h i in
-          let was : live_object ((all_of k).list s) h ≡ Some v = ap (live_object ((all_of k).list s)) (sym same) ∙ e in
-          let now : live_object (change j (with_fields f) ((all_of k).list s)) h ≡ Some (f v) = ap (live_object (change j (with_fields f) ((all_of k).list s))) (sym same) ∙ at-update j f v ((all_of k).list s) e in
-          subst (λ (q : Option (Fields k)). LockStep K who q (live_object (change j (with_fields f) ((all_of k).list s)) h) (λ m. x m && true) (λ m. y m && true)) (sym was)
-          (subst (λ (q : Option (Fields k)). LockStep K who (Some v) q (λ m. x m && true) (λ m. y m && true)) (sym now) (as_step K who _ _ _ _ x y (λ m. last (x m)) (λ m. last (y m)) (g (subst (FitIn K) was fit))))
-      by_same false i = step_same K who _ _ (at_change_other j h (with_fields f) ((all_of k).list s) (λ r. refl) i) fit
-
   left : (j : ℕ) (v : Fields k) → OnceIn ((all_of k).list s) → live_object ((all_of k).list s) j ≡ Some v → LockStep K who (Some v) None (λ m. false) (λ m. false) → After (λ m. false) (λ m. false) Ok (removes k j ∷ [])
-  left j v o e g = subst (λ (l : List (Listed (Fields k))). Step l (λ m. false) (λ m. false)) (sym (sort_list k _ s)) (by_same (j == h) refl)
-    where
-      by_same : (b : Bool) → (j == h) ≡ b → Step (change j gone ((all_of k).list s)) (λ m. false) (λ m. false)
-      by_same true i =
-          let same : j ≡ h = eqb-true j h i in
-          subst (λ (q : Option (Fields k)). LockStep K who q (live_object (change j gone ((all_of k).list s)) h) (λ m. false) (λ m. false)) (sym (ap (live_object ((all_of k).list s)) (sym same) ∙ e))
-          (subst (λ (q : Option (Fields k)). LockStep K who (Some v) q (λ m. false) (λ m. false)) (sym (ap (live_object (change j gone ((all_of k).list s))) (sym same) ∙ at_retired j ((all_of k).list s) o)) g)
-      by_same false i = step_same K who _ _ (at_change_other j h gone ((all_of k).list s) (λ r. refl) i) fit
+  left j v o e g = subst (λ (l : List (Listed (Fields k))). Step l (λ m. false) (λ m. false)) (sym (sort_at k _ s)) (whether (j == h)
+      (λ i.
+      let same : j ≡ h = eqb-true j h i in
+      subst (λ (q : Option (Fields k)). LockStep K who q (live_object (change j gone ((all_of k).list s)) h) (λ m. false) (λ m. false)) (sym (ap (live_object ((all_of k).list s)) (sym same) ∙ e)) (subst (λ (q : Option (Fields k)). LockStep K who (Some v) q (λ m. false) (λ m. false)) (sym (ap (live_object (change j gone ((all_of k).list s))) (sym same) ∙ at_retired j ((all_of k).list s) o)) g))
+      (λ i. step_same K who _ _ (at_change_other j h gone ((all_of k).list s) (λ r. refl) i) fit))
 
   abbrev Does : Row → (Reply → M → Bool) → (Reply → M → Bool) → Type 0
   Does w x y = (r : Reply) → Allows w r → Step ((all_of k).list (after_row s w)) (x r) (y r)
@@ -177,7 +142,7 @@ on_create k key s who h causes x a b l =
     let Q : Reply → List Move → Type 0 = λ r ms. r ≡ Handle h → Made k h x (after_moves ms s) in
     let no : (z : MrapiStatus) → Q (Mrapi z) [] = λ z e. absurd (cc) in
     let made : is_fresh (all_of k) s h ≡ true → Q (Handle h) (makes k h x ∷ []) = λ e i.
-    subst (λ (l : List (Listed (Fields k))). (live_object l h ≡ Some x) × (1 ≤ listed h l)) (sym (sort_list k (issue h x ((all_of k).list s)) s))
+    subst (λ (l : List (Listed (Fields k))). (live_object l h ≡ Some x) × (1 ≤ listed h l)) (sym (sort_at k (issue h x ((all_of k).list s)) s))
     (at_issue_here h x ((all_of k).list s) (unlisted_if (all_of k) s h e), some_issued h x ((all_of k).list s)) in
     said Q (mrapi_open s who (mrapi_unless causes (creates_keyed key s (Handle h) x))) (Handle h) (
       no c.ErrNodeNotinit,
@@ -198,7 +163,7 @@ create_lists k key s who h causes x r n a =
       λ c. (
         (λ i. refl),
         λ d. says_unless Q (λ z i. refl) causes (creates_keyed key s r x) (λ u.
-            ((λ i. refl), λ e. ((λ i. refl), λ f. says_only Q (is_fresh (all_of k) s (handle_of r)) (Handle (handle_of r)) (makes k (handle_of r) x ∷ []) (λ g i. ap (listed h) (sort_list k _ s) ∙ listed_new h (handle_of r) x _ i)))),
+            ((λ i. refl), λ e. ((λ i. refl), λ f. says_only Q (is_fresh (all_of k) s (handle_of r)) (Handle (handle_of r)) (makes k (handle_of r) x ∷ []) (λ g i. ap (listed h) (sort_at k _ s) ∙ listed_new h (handle_of r) x _ i)))),
       ),
     ) a n
 

@@ -1,14 +1,7 @@
 -- The members of a group that have ended, as the machine finds them.
-use Rattle.std.proofs.Common.{◌≡◌, ℕ, ◌+◌, ◌≤◌, Bool, true, false, cond, List, [], ◌∷◌, Option, Some, None, refl, sym, ◌∙◌, ap, subst, arith}
-use Rattle.std.specs.Prelude.{◌==◌, nat_lt}
-use Rattle.std.proofs.lemmas.Bool.{eq-eqb, cond_both}
-use Rattle.mtapi_values.specs.declared.ends.TaskEnd.{TaskEnd}
-use Rattle.handle_pool.specs.Issued.{Listed, live_of, live_object, listed}
-use Rattle.mtapi_objects.specs.Tasks.{Task, end_of}
-use Rattle.mtapi_objects.specs.Groups.{is_member, Ending, insert, insert_ended, endings}
+use Rattle.history_law.proofs.Names.{◌≡◌, ℕ, ◌+◌, ◌≤◌, Bool, true, false, cond, List, [], ◌∷◌, Option, Some, None, refl, sym, ◌∙◌, ap, subst, arith, ◌==◌, nat_lt, eq-eqb, cond_both, TaskEnd, Listed, live_of, live_object, listed, Task, end_of, is_member, Ending, insert, insert_ended, endings, some_same}
 use Rattle.history_law.proofs.Found.{at_skip, at_here}
 use Rattle.history_law.proofs.Handles.{once_rest}
-use Rattle.mtapi_machine.proofs.Changes.{some_same}
 
 -- each of these endings passes
 abbrev pub AllOf : (Ending → Type 0) → List Ending → Type 0
@@ -33,7 +26,9 @@ pub record IsEnding (g : ℕ) (l : List (Listed Task)) (e : Ending) : Type 0 whe
 pub all_endings : (g : ℕ) (l : List (Listed Task)) → ((h : ℕ) → listed h l ≤ 1) → AllOf (IsEnding g l) (endings g (live_of l))
 unfolding endings live_of listed
 all_endings g [] o = tt
-all_endings g (r ∷ rs) o = by_live r.live refl (all_more (IsEnding g rs) (IsEnding g (r ∷ rs)) (endings g (live_of rs)) later (all_endings g rs (once_rest r rs o)))
+all_endings g (r ∷ rs) o = cond_both r.live ((r.handle, r.fields) ∷ live_of rs) (live_of rs) (λ q. AllOf (IsEnding g (r ∷ rs)) (endings g q))
+    (λ a. by_member a (is_member g r.fields) refl (all_more (IsEnding g rs) (IsEnding g (r ∷ rs)) (endings g (live_of rs)) later (all_endings g rs (once_rest r rs o))))
+    (λ a. (all_more (IsEnding g rs) (IsEnding g (r ∷ rs)) (endings g (live_of rs)) later (all_endings g rs (once_rest r rs o))))
   where
     later : (e : Ending) → IsEnding g rs e → IsEnding g (r ∷ rs) e
     later e i = by_handle (r.handle == e.task) refl (o e.task)
@@ -61,7 +56,3 @@ all_endings g (r ∷ rs) o = by_live r.live refl (all_more (IsEnding g rs) (IsEn
     by_member : r.live ≡ true → (b : Bool) → is_member g r.fields ≡ b → AllOf (IsEnding g (r ∷ rs)) (endings g (live_of rs)) → AllOf (IsEnding g (r ∷ rs)) (cond b (insert_ended r.handle (end_of r.fields.state) (endings g (live_of rs))) (endings g (live_of rs)))
     by_member a true m k = here a m (end_of r.fields.state) refl k
     by_member a false m k = k
-
-    by_live : (b : Bool) → r.live ≡ b → AllOf (IsEnding g (r ∷ rs)) (endings g (live_of rs)) → AllOf (IsEnding g (r ∷ rs)) (endings g (cond b ((r.handle, r.fields) ∷ live_of rs) (live_of rs)))
-    by_live true a k = by_member a (is_member g r.fields) refl k
-    by_live false a k = k

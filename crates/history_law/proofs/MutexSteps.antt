@@ -1,31 +1,13 @@
 -- What each entry does to the mutexes, and so every list of entries: at most one seat holds one.
-use Rattle.std.proofs.Common.{◌≡◌, ℕ, ◌≤◌, Bool, true, false, List, [], Option, Some, None, refl, sym, ◌∙◌, ap, subst, arith}
-use Rattle.std.specs.Prelude.{◌==◌, ◌&&◌, ◌||◌, ◌+◌, not, nat_lt, is_some, length, ℤ, pos}
-use Rattle.std.proofs.lemmas.Bool.{eqb-true}
-use Rattle.std.proofs.lemmas.Bool.Decides.{nat_tests}
+use Rattle.history_law.proofs.Names.{◌≡◌, ℕ, ◌≤◌, Bool, true, false, List, [], Option, Some, None, refl, sym, ◌∙◌, ap, subst, arith, ◌==◌, ◌&&◌, ◌||◌, not, nat_lt, is_some, length, ℤ, pos, eqb-true, nat_tests, TaskHandle, Op, Reply, Listed, live_object, listed, change, issue, with_fields, gone, Adds, tally_args, Mutex, new_mutex, mutex_look_refusals, mutex_unlock_refusals, mutex_busy, locked_by, unlocked, State, workers, Move, Mutexes, after_moves, Allows, after_row, row, takes_both, locks, AllGives, moves_given, on_live, on_only, not_false, at-update, says_ok, looks_at_mutex, unlocks_mutex, says_number, says_end, and-false, ◌+◌}
 use Rattle.mtapi_values.specs.declared.handles.ObjectKind.TheVariants as kind
-use Rattle.mtapi_values.specs.declared.handles.TaskHandle.{TaskHandle}
 use Rattle.mtapi_values.specs.declared.statuses.MrapiStatus.TheVariants as c
-use Rattle.mtapi_machine.specs.declared.ops.Op.{Op}
 use Rattle.mtapi_machine.specs.declared.ops.Op.TheVariants as op
-use Rattle.mtapi_machine.specs.declared.replies.Reply.{Reply}
 use Rattle.mtapi_machine.specs.declared.replies.Reply.TheVariants as reply
-use Rattle.handle_pool.specs.Issued.{Listed, live_object, listed, change, issue, with_fields, gone}
-use Rattle.mtapi_objects.specs.Tasks.{Adds, tally_args}
-use Rattle.mtapi_objects.specs.Mutexes.{Mutex, new_mutex, mutex_look_refusals, mutex_unlock_refusals, mutex_busy, locked_by, unlocked}
-use Rattle.mtapi_machine.specs.State.{State, workers}
-use Rattle.mtapi_machine.specs.Moves.{Move, Mutexes, after_moves}
-use Rattle.mtapi_machine.specs.Row.{Allows, after_row}
-use Rattle.mtapi_machine.specs.Rows.{row}
-use Rattle.mtapi_machine.specs.TallyRows.{takes_both, locks}
-use Rattle.mtapi_machine.proofs.Made.{AllGives, moves_given, on_live, on_only, not_false}
-use Rattle.mtapi_machine.proofs.Changes.{at-update}
-use Rattle.history_law.specs.Seats.{says_ok}
-use Rattle.history_law.specs.Exclusion.{looks_at_mutex, unlocks_mutex, says_number, says_end}
 use Rattle.history_law.proofs.Reuse.{fresh_unlisted}
 use Rattle.history_law.proofs.Handles.{OnceIn}
 use Rattle.history_law.proofs.Every.{every_at}
-use Rattle.history_law.proofs.Answered.{true_false, first_false, second_false, gives_cond, Quiet}
+use Rattle.history_law.proofs.Answered.{true_false, first_false, second_false, gives_cond, Quiet, whether, on_test}
 use Rattle.history_law.proofs.AtHandles.{at_change_other, at_issue_other, at_issue_here, at_unlisted, at_retired}
 use Rattle.history_law.proofs.Said.{said, says_look, says_alter}
 use Rattle.history_law.proofs.Unmoved.{list_stays}
@@ -45,31 +27,21 @@ module _ (n who j : ℕ) (s : State) where
   -- the mutex of a handle changes; where it is another one, this one stays
   hit : (b x y : Bool) (h : ℕ) (f : Mutex → Mutex) (v : Mutex) → live_object s.mutexes h ≡ Some v → ((o p : Option Mutex) → o ≡ Some v → p ≡ Some (f v) → Step who n b o p x y)
       → Step who n b (live_object s.mutexes j) (live_object (change h (with_fields f) s.mutexes) j) ((h == j) && x) ((h == j) && y)
-  hit b x y h f v e k = by_same (h == j) refl
-    where
-      by_same : (c : Bool) → (h == j) ≡ c → Step who n b (live_object s.mutexes j) (live_object (change h (with_fields f) s.mutexes) j) (c && x) (c && y)
-      by_same true i =
-          let same : h ≡ j = eqb-true h j i in
-          k _ _ (ap (λ (z : ℕ). live_object s.mutexes z) (sym same) ∙ e) (ap (λ (z : ℕ). live_object (change h (with_fields f) s.mutexes) z) (sym same) ∙ at-update h f v s.mutexes e)
-      by_same false i = stays (at_change_other h j (with_fields f) s.mutexes (λ r. refl) i)
+  hit b x y h f v e k = on_test (λ c. Step who n b (live_object s.mutexes j) (live_object (change h (with_fields f) s.mutexes) j) (c && x) (c && y)) (h == j)
+      (λ i. let same : h ≡ j = eqb-true h j i in k _ _ (ap (λ (z : ℕ). live_object s.mutexes z) (sym same) ∙ e) (ap (λ (z : ℕ). live_object (change h (with_fields f) s.mutexes) z) (sym same) ∙ at-update h f v s.mutexes e))
+      (λ i. stays (at_change_other h j (with_fields f) s.mutexes (λ r. refl) i))
 
   retired : (b : Bool) (h : ℕ) (v : Mutex) → OnceIn s.mutexes → live_object s.mutexes h ≡ Some v → is_some v.owner ≡ false → Step who n b (live_object s.mutexes j) (live_object (change h gone s.mutexes) j) false false
-  retired b h v o e f = by_same (h == j) refl
-    where
-      by_same : (c : Bool) → (h == j) ≡ c → Step who n b (live_object s.mutexes j) (live_object (change h gone s.mutexes) j) false false
-      by_same true i =
-          let same : h ≡ j = eqb-true h j i in
-          left v (ap (λ (z : ℕ). live_object s.mutexes z) (sym same) ∙ e) f (ap (λ (z : ℕ). live_object (change h gone s.mutexes) z) (sym same) ∙ at_retired h s.mutexes o)
-      by_same false i = stays (at_change_other h j gone s.mutexes (λ r. refl) i)
+  retired b h v o e f = whether (h == j)
+      (λ i. let same : h ≡ j = eqb-true h j i in left v (ap (λ (z : ℕ). live_object s.mutexes z) (sym same) ∙ e) f (ap (λ (z : ℕ). live_object (change h gone s.mutexes) z) (sym same) ∙ at_retired h s.mutexes o))
+      (λ i. stays (at_change_other h j gone s.mutexes (λ r. refl) i))
 
   issued : (b : Bool) (h id : ℕ) (recursive : Bool) → listed h s.mutexes ≡ 0 → Step who n b (live_object s.mutexes j) (live_object (issue h (new_mutex id recursive) s.mutexes) j) false false
-  issued b h id recursive e = by_same (h == j) refl
-    where
-      by_same : (c : Bool) → (h == j) ≡ c → Step who n b (live_object s.mutexes j) (live_object (issue h (new_mutex id recursive) s.mutexes) j) false false
-      by_same true i =
-          let same : h ≡ j = eqb-true h j i in
-          made id recursive (ap (λ (z : ℕ). live_object s.mutexes z) (sym same) ∙ at_unlisted h s.mutexes e) (ap (λ (z : ℕ). live_object (issue h (new_mutex id recursive) s.mutexes) z) (sym same) ∙ at_issue_here h (new_mutex id recursive) s.mutexes e)
-      by_same false i = stays (at_issue_other h j (new_mutex id recursive) s.mutexes i)
+  issued b h id recursive e = whether (h == j)
+      (λ i.
+      let same : h ≡ j = eqb-true h j i in
+      made id recursive (ap (λ (z : ℕ). live_object s.mutexes z) (sym same) ∙ at_unlisted h s.mutexes e) (ap (λ (z : ℕ). live_object (issue h (new_mutex id recursive) s.mutexes) z) (sym same) ∙ at_issue_here h (new_mutex id recursive) s.mutexes e))
+      (λ i. stays (at_issue_other h j (new_mutex id recursive) s.mutexes i))
 
   as_step : (b : Bool) (p : Option Mutex) (x y v w : Bool) → v ≡ x → w ≡ y → Step who n b (live_object s.mutexes j) p v w → Step who n b (live_object s.mutexes j) p x y
   as_step b p x y v w i k t = subst (λ (z : Bool). Step who n b (live_object s.mutexes j) p z y) i (subst (λ (z : Bool). Step who n b (live_object s.mutexes j) p v z) k t)
@@ -77,11 +49,7 @@ module _ (n who j : ℕ) (s : State) where
   -- a change that counts for nothing
   pub unseen : (b : Bool) (h : ℕ) (f : Mutex → Mutex) (v : Mutex) → live_object s.mutexes h ≡ Some v → ((o p : Option Mutex) → o ≡ Some v → p ≡ Some (f v) → Step who n b o p false false)
       → Step who n b (live_object s.mutexes j) (live_object (change h (with_fields f) s.mutexes) j) false false
-  unseen b h f v e k = as_step b _ false false ((h == j) && false) ((h == j) && false) (none (h == j)) (none (h == j)) (hit b false false h f v e k)
-    where
-      none : (c : Bool) → (c && false) ≡ false
-      none true = refl
-      none false = refl
+  unseen b h f v e k = as_step b _ false false ((h == j) && false) ((h == j) && false) (and-false (h == j)) (and-false (h == j)) (hit b false false h f v e k)
 
   -- a tally takes its mutex
   takes_step : (t cell : ℕ) (a b : Option ℕ) → nat_lt who n ≡ true → AllGives (λ x ms. After false false false ms) (takes_both s who t cell a b)

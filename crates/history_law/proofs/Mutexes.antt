@@ -1,14 +1,8 @@
 -- What an entry does to the mutex of one handle, and what that leaves of its owner.
-use Rattle.std.proofs.Common.{◌≡◌, ℕ, ◌+◌, ◌<◌, ◌≤◌, Bool, true, false, cond, Option, Some, None, ◌⊎◌, inl, inr, refl, sym, ◌∙◌, ap, subst, arith}
-use Rattle.std.specs.Prelude.{◌==◌, ◌&&◌, ◌-◌, not, nat_lt, is_some}
-use Rattle.std.proofs.lemmas.Bool.{eqb-true, eq-eqb}
-use Rattle.std.proofs.lemmas.Bool.Decides.{nat_tests}
-use Rattle.mtapi_values.specs.Seats.{is_seat, is_other}
-use Rattle.mtapi_objects.specs.Mutexes.{Mutex, new_mutex, locked_by, unlocked}
-use Rattle.history_law.proofs.Answered.{true_false}
+use Rattle.history_law.proofs.Names.{◌≡◌, ℕ, ◌+◌, ◌<◌, ◌≤◌, Bool, true, false, cond, Option, Some, None, ◌⊎◌, inl, inr, refl, sym, ◌∙◌, ap, subst, arith, ◌==◌, ◌&&◌, ◌-◌, not, nat_lt, is_some, eqb-true, eq-eqb, nat_tests, is_seat, is_other, Mutex, new_mutex, locked_by, unlocked, some_same, cond_both, lt-ltb}
+use Rattle.history_law.proofs.Answered.{true_false, on_test}
 use Rattle.history_law.proofs.Counts.{one_if}
 use Rattle.history_law.proofs.Ties.{Owns}
-use Rattle.mtapi_machine.proofs.Changes.{some_same}
 
 -- by an entry of this seat, of a node with n workers: a caller's look got the mutex, or a caller gave it back; and a tally got it, or
 -- gave it back, which only an end of a tally may do (`ending`)
@@ -49,9 +43,6 @@ free_step who n b o p _ _ (back m t e c k l d) f = subst Free (sym d) (unlocked_
 pub self : (w : ℕ) → (w == w) ≡ true
 self w = eq-eqb w w refl
 
-is_less : (w n : ℕ) → w < n → nat_lt w n ≡ true
-is_less w n l = grind (arith, nat_tests)
-
 pub owns_step : (who n w id : ℕ) (b : Bool) (o p : Option Mutex) (x y : Bool) → Step who n b o p x y → w < n → Owns w id o → Owns w id p ⊎ ((b ≡ true) × (w ≡ who))
 owns_step who n w id b o p _ _ (stays e) l i = inl (subst (Owns w id) (sym e) i)
 owns_step who n w id b o p _ _ (made i2 r e d) l i = absurd (subst (Owns w id) e i)
@@ -64,11 +55,11 @@ owns_step who n w id b o p _ _ (taken m e c k d) l i = absurd (by_owner m.owner 
     by_owner q a =
         let other : not (w == who) ≡ false = sym (ap (is_other who) owned) ∙ c in
         let same : w ≡ who = grind (arith, nat_tests) in
-        true_false (subst (λ (z : ℕ). nat_lt z n ≡ true) same (is_less w n l)) k
+        true_false (subst (λ (z : ℕ). nat_lt z n ≡ true) same (lt-ltb w n l)) k
 owns_step who n w id b o p _ _ (given m e c k a d) l i =
     let owned : m.owner ≡ Some w = (subst (Owns w id) e i).0 in
     let same : w ≡ who = eqb-true w who (sym (ap (is_seat who) owned) ∙ c) in
-    absurd (true_false (subst (λ (z : ℕ). nat_lt z n ≡ true) same (is_less w n l)) a)
+    absurd (true_false (subst (λ (z : ℕ). nat_lt z n ≡ true) same (lt-ltb w n l)) a)
 owns_step who n w id b o p _ _ (gone m e c d) l i = absurd (true_false (ap is_some (subst (Owns w id) e i).0) c)
 owns_step who n w id b o p _ _ (got m e c k d) l i = absurd (true_false (ap is_some (subst (Owns w id) e i).0) c)
 owns_step who n w id b o p _ _ (back m t e c k a d) l i = inr (t, some_same (sym (subst (Owns w id) e i).0 ∙ c))
@@ -95,27 +86,18 @@ owned_share : (n w v : ℕ) (m : Mutex) → m.owner ≡ Some v → share_of n w 
 owned_share n w v m e = ap (λ (q : Option ℕ). cond (is_seat w q && not (nat_lt w n)) m.depth 0) e
 
 worker_share : (n w v k : ℕ) → nat_lt v n ≡ true → cond ((v == w) && not (nat_lt w n)) k 0 ≡ 0
-worker_share n w v k l = by_same (v == w) refl
-  where
-    by_same : (b : Bool) → (v == w) ≡ b → cond (b && not (nat_lt w n)) k 0 ≡ 0
-    by_same true e = ap (λ (c : Bool). cond (not c) k 0) (subst (λ (z : ℕ). nat_lt z n ≡ true) (eqb-true v w e) l)
-    by_same false e = refl
+worker_share n w v k l = on_test (λ b. cond (b && not (nat_lt w n)) k 0 ≡ 0) (v == w) (λ e. ap (λ (c : Bool). cond (not c) k 0) (subst (λ (z : ℕ). nat_lt z n ≡ true) (eqb-true v w e) l)) (λ e. refl)
 
 caller_share : (n w v k : ℕ) → nat_lt v n ≡ false → cond ((v == w) && not (nat_lt w n)) k 0 ≡ cond (v == w) k 0
-caller_share n w v k l = by_same (v == w) refl
-  where
-    by_same : (b : Bool) → (v == w) ≡ b → cond (b && not (nat_lt w n)) k 0 ≡ cond b k 0
-    by_same true e = ap (λ (c : Bool). cond (not c) k 0) (subst (λ (z : ℕ). nat_lt z n ≡ false) (eqb-true v w e) l)
-    by_same false e = refl
+caller_share n w v k l = on_test (λ b. cond (b && not (nat_lt w n)) k 0 ≡ cond b k 0) (v == w) (λ e. ap (λ (c : Bool). cond (not c) k 0) (subst (λ (z : ℕ). nat_lt z n ≡ false) (eqb-true v w e) l)) (λ e. refl)
+
+zeros : (b : Bool) (k : ℕ) → k ≡ 0 → 0 ≡ cond b k 0
+zeros b k e = cond_both b k 0 (λ m. 0 ≡ m) (λ c. sym e) (λ c. refl)
 
 -- what a caller sees before it gets the mutex
 taken_share : (who n w : ℕ) (m : Mutex) → (is_some m.owner ≡ false → m.depth ≡ 0) → is_other who m.owner ≡ false → nat_lt who n ≡ false → share_of n w m ≡ cond (who == w) m.depth 0
 taken_share who n w m f c l = by_owner m.owner refl
   where
-    zeros : (b : Bool) (k : ℕ) → k ≡ 0 → 0 ≡ cond b k 0
-    zeros true k e = sym e
-    zeros false k e = refl
-
     by_owner : (q : Option ℕ) → m.owner ≡ q → share_of n w m ≡ cond (who == w) m.depth 0
     by_owner None e = unowned_share n w m (ap is_some e) ∙ zeros (who == w) m.depth (f (ap is_some e))
     by_owner (Some v) e =
@@ -124,15 +106,9 @@ taken_share who n w m f c l = by_owner m.owner refl
         owned_share n w v m e ∙ (ap (λ (z : ℕ). cond ((z == w) && not (nat_lt w n)) m.depth 0) same ∙ caller_share n w who m.depth l)
 
 given_share : (n w who : ℕ) (m : Mutex) → m.owner ≡ Some who → 1 ≤ m.depth → nat_lt who n ≡ false → share_of n w (unlocked m) ≡ cond (who == w) (m.depth - 1) 0
-given_share n w who m e k l = by_depth (m.depth == 1) refl
-  where
-    zeros : (b : Bool) (k : ℕ) → k ≡ 0 → 0 ≡ cond b k 0
-    zeros true k e = sym e
-    zeros false k e = refl
-
-    by_depth : (b : Bool) → (m.depth == 1) ≡ b → cond (is_seat w (cond b None m.owner) && not (nat_lt w n)) (m.depth - 1) 0 ≡ cond (who == w) (m.depth - 1) 0
-    by_depth true d = zeros (who == w) (m.depth - 1) (let z : m.depth ≡ 1 = eqb-true m.depth 1 d in omega arith)
-    by_depth false d = ap (λ (q : Option ℕ). cond (is_seat w q && not (nat_lt w n)) (m.depth - 1) 0) e ∙ caller_share n w who (m.depth - 1) l
+given_share n w who m e k l = cond_both (m.depth == 1) None m.owner (λ q. cond (is_seat w q && not (nat_lt w n)) (m.depth - 1) 0 ≡ cond (who == w) (m.depth - 1) 0)
+    (λ d. zeros (who == w) (m.depth - 1) (let z : m.depth ≡ 1 = eqb-true m.depth 1 d in omega arith))
+    (λ d. ap (λ (q : Option ℕ). cond (is_seat w q && not (nat_lt w n)) (m.depth - 1) 0) e ∙ caller_share n w who (m.depth - 1) l)
 
 back_share : (n w : ℕ) (m : Mutex) → m.depth ≡ 1 → share_of n w (unlocked m) ≡ 0
 back_share n w m e = ap (λ (b : Bool). cond (is_seat w (cond b None m.owner) && not (nat_lt w n)) (m.depth - 1) 0) (eq-eqb m.depth 1 e)
@@ -179,8 +155,6 @@ share_step who n w b o p _ _ f (back m t e c k l d) =
 -- a seat with a share owns it
 pub share_owner : (n w : ℕ) (o : Option Mutex) → 1 ≤ share n w o → (m : Mutex) × (o ≡ Some m) × (m.owner ≡ Some w)
 share_owner n w None k = absurd (omega arith)
-share_owner n w (Some m) k = by_owner (is_seat w m.owner) refl k
-  where
-    by_owner : (b : Bool) → is_seat w m.owner ≡ b → 1 ≤ cond (b && not (nat_lt w n)) m.depth 0 → (m2 : Mutex) × (Some m ≡ Some m2) × (m2.owner ≡ Some w)
-    by_owner true e i = (m, refl, seat_owner w m.owner e)
-    by_owner false e i = absurd (omega arith)
+share_owner n w (Some m) k = on_test (λ b. 1 ≤ cond (b && not (nat_lt w n)) m.depth 0 → (m2 : Mutex) × (Some m ≡ Some m2) × (m2.owner ≡ Some w)) (is_seat w m.owner)
+    (λ e i. (m, refl, seat_owner w m.owner e))
+    (λ e i. absurd (omega arith)) k

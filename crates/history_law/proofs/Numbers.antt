@@ -1,18 +1,5 @@
 -- No two ends have one number, and every number is below the next one.
-use Rattle.std.proofs.Common.{◌≡◌, ℕ, ◌+◌, ◌≤◌, ◌<◌, Bool, true, false, cond, List, [], ◌∷◌, refl, ap, arith}
-use Rattle.std.specs.Prelude.{◌==◌, ◌&&◌, nat_lt}
-use Rattle.std.proofs.lemmas.Bool.{eqb-true, cond_both}
-use Rattle.std.proofs.lemmas.Bool.Decides.{nat_tests}
-use Rattle.mtapi_values.specs.declared.ends.TaskEnd.{TaskEnd}
-use Rattle.mtapi_values.specs.declared.ends.TaskEnd.TheVariants.{Failed}
-use Rattle.handle_pool.specs.Issued.{Listed, how_many, change, change_all, issue, count_listed, with_fields, gone}
-use Rattle.mtapi_objects.specs.Tasks.{Task, TaskState, Scheduled, Running, Ended, with_state, with_notes, ended, end_each, new_task}
-use Rattle.mtapi_objects.specs.Groups.{is_member, freed, let_go}
-use Rattle.mtapi_machine.specs.declared.terms.Terms.{Terms}
-use Rattle.mtapi_machine.specs.State.{State, opening}
-use Rattle.mtapi_machine.specs.Moves.{Move, starts_task, runs_task, ends_task, ends_waiting, withdraws, notes, leaves, frees_members, lets_members_go, makes, alters, removes, apply}
-use Rattle.mtapi_machine.specs.Legal.{NodeEntry, after_from}
-use Rattle.mtapi_machine.proofs.Moves.{along, sorts_keep}
+use Rattle.history_law.proofs.Names.{◌≡◌, ℕ, ◌+◌, ◌≤◌, ◌<◌, Bool, true, false, cond, List, [], ◌∷◌, refl, ap, arith, ◌==◌, ◌&&◌, nat_lt, eqb-true, cond_both, nat_tests, TaskEnd, Failed, Listed, how_many, change, change_all, issue, count_listed, with_fields, gone, Task, TaskState, Scheduled, Running, Ended, with_state, with_notes, ended, end_each, new_task, is_member, freed, let_go, Terms, State, opening, Move, starts_task, runs_task, ends_task, ends_waiting, withdraws, notes, leaves, frees_members, lets_members_go, apply, NodeEntry, after_from, along, rest_keeps}
 
 abbrev pub is_number : ℕ → TaskState → Bool
 is_number n Scheduled = false
@@ -158,10 +145,7 @@ numbered_move s (notes h f) v = kept_numbers s _ v refl (λ n. none_more _ _ (ch
 numbered_move s (leaves h) v = kept_numbers s _ v refl (λ n. none_more _ _ (change_number n 0 h gone s.tasks (λ r. omega arith)))
 numbered_move s (frees_members g) v = kept_numbers s _ v refl (λ n. all_number n _ freed s.tasks (λ r. refl))
 numbered_move s (lets_members_go g) v = kept_numbers s _ v refl (λ n. all_number n (is_member g) let_go s.tasks (λ r. refl))
-numbered_move s (makes k h x) v = sorts_keep Numbered (λ t g q m c r y p. record { once = p.once; above = p.above }) k _ s v
-numbered_move s (alters k h f) v = sorts_keep Numbered (λ t g q m c r y p. record { once = p.once; above = p.above }) k _ s v
-numbered_move s (removes k h) v = sorts_keep Numbered (λ t g q m c r y p. record { once = p.once; above = p.above }) k _ s v
-numbered_move s _ v = record { once = v.once; above = v.above }
+numbered_move s x v = rest_keeps Numbered (λ t g q m c r y p. record { once = p.once; above = p.above }) x s (record { once = v.once; above = v.above })
 
 pub numbered_after : (terms : Terms) (L : List NodeEntry) → Numbered (after_from (opening terms) L)
 numbered_after terms L = along Numbered (λ o t m e v. numbered_move t m v) (opening terms) L (record { once = λ n. omega arith; above = λ n i. refl })

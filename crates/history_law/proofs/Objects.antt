@@ -1,30 +1,11 @@
 -- What an entry says of a new object, its record keeps.
-use Rattle.std.proofs.Common.{◌≡◌, ℕ, ◌≤◌, true, List, [], ◌∷◌, ◌++◌, refl, sym, ◌∙◌, subst}
-use Rattle.std.specs.Prelude.{◌+◌}
-use Rattle.mtapi_values.specs.declared.handles.ObjectKind.{ObjectKind}
+use Rattle.history_law.proofs.Names.{◌≡◌, ℕ, ◌≤◌, true, List, [], ◌∷◌, ◌++◌, refl, sym, ◌∙◌, subst, ObjectKind, Op, Handle, Mtapi, Listed, live_object, listed, issue, Action, new_action, Task, NewTask, new_task, Queue, State, FieldsOf, objects_of, Move, Queues, makes_action, starts_task, makes, is_fresh, apply, after_moves, gives, Allows, only, after_row, row, asked_for, asked_of, new_queue, NodeEntry, IsNext, next, LegalFrom, after_from, IsMade, StartsTask, Legal-rest, after-append, AllGives, on_only, on_live, along, issues, ◌+◌}
 use Rattle.mtapi_values.specs.declared.handles.ObjectKind.TheVariants as kind
 use Rattle.mtapi_values.specs.declared.statuses.MtapiStatus.TheVariants as m
-use Rattle.mtapi_machine.specs.declared.ops.Op.{Op}
 use Rattle.mtapi_machine.specs.declared.ops.Op.TheVariants as op
-use Rattle.mtapi_machine.specs.declared.replies.Reply.TheVariants.{Handle, Mtapi}
-use Rattle.handle_pool.specs.Issued.{Listed, live_object, listed, issue}
-use Rattle.mtapi_objects.specs.Actions.{Action, new_action}
-use Rattle.mtapi_objects.specs.Tasks.{Task, NewTask, new_task}
-use Rattle.mtapi_objects.specs.Queues.{Queue}
-use Rattle.mtapi_machine.specs.State.{State}
-use Rattle.mtapi_machine.specs.Moves.{Move, Queues, makes_action, starts_task, makes, is_fresh, apply, after_moves}
-use Rattle.mtapi_machine.specs.Row.{gives, Allows, only, after_row}
-use Rattle.mtapi_machine.specs.Rows.{row}
-use Rattle.mtapi_machine.specs.TaskRows.{asked_for, asked_of}
-use Rattle.mtapi_machine.specs.QueueRows.{new_queue}
-use Rattle.mtapi_machine.specs.Legal.{NodeEntry, IsNext, next, LegalFrom, after_from}
-use Rattle.mtapi_machine.specs.Laws.{IsMade, StartsTask}
-use Rattle.mtapi_machine.proofs.Lists.{Legal-rest, after-append}
-use Rattle.mtapi_machine.proofs.Made.{AllGives, on_only, on_live}
-use Rattle.mtapi_machine.proofs.Moves.{along}
-use Rattle.history_law.specs.Words.{FieldsOf, objects_of, makes as makes_kind, issues}
+use Rattle.history_law.specs.Words.{makes as makes_kind}
 use Rattle.history_law.proofs.Accepted.{granted, refuses_only, refuses_live, no_handle}
-use Rattle.history_law.proofs.Ages.{SameFields, SameAction, SameTask, SameQueue, kind_move, listed_ages, Under, under_issue, under_none, under_ages}
+use Rattle.history_law.proofs.Ages.{SameFields, SameAction, SameTask, SameQueue, kind_move, listed_ages, Under, under_issue, under_none, under_ages, same_task}
 use Rattle.history_law.proofs.Reuse.{fresh_unlisted, fresh_apart, listed_issue_some, issued_as}
 use Rattle.history_law.proofs.Answered.{true_false}
 use Rattle.history_law.proofs.Handles.{some_issued}
@@ -55,9 +36,6 @@ has_new h F x l n f = record { some = some_issued h x l; under = under_issue h F
 pub task_then : (a : Task) (x y : Task) → SameTask x y → SameTask a x → SameTask a y
 task_then a x y s t = record { job = s.job ∙ t.job; args = s.args ∙ t.args; priority = s.priority ∙ t.priority; cores = s.cores ∙ t.cores; queue = s.queue ∙ t.queue; start = s.start ∙ t.start }
 
-itself : (a : Task) → SameTask a a
-itself a = record { job = refl; args = refl; priority = refl; cores = refl; queue = refl; start = refl }
-
 -- a task that an entry started is listed as it was asked for, with the next number of a start
 abbrev pub StartedAs : State → Op → ℕ → State → Type 0
 StartedAs s o h t = (n : NewTask) × StartsTask n o × HasObject kind.Task h (SameTask (new_task n s.starts)) t × (t.starts ≡ s.starts + 1)
@@ -65,7 +43,7 @@ StartedAs s o h t = (n : NewTask) × StartsTask n o × HasObject kind.Task h (Sa
 on_start : (s : State) (o : Op) (h : ℕ) (n : NewTask) → StartsTask n o → AllGives (λ x ms. Handle h ≡ x → StartedAs s o h (after_moves ms s)) (only (is_fresh (objects_of kind.Task) s h) (gives (Handle h) (starts_task h n ∷ [])))
 on_start s o h n b =
     on_only (λ x ms. Handle h ≡ x → StartedAs s o h (after_moves ms s)) (is_fresh (objects_of kind.Task) s h) (Handle h) (starts_task h n ∷ [])
-    (λ e i. (n, b, has_new h (SameTask (new_task n s.starts)) (new_task n s.starts) s.tasks (fresh_unlisted kind.Task s h e) (itself (new_task n s.starts)), refl))
+    (λ e i. (n, b, has_new h (SameTask (new_task n s.starts)) (new_task n s.starts) s.tasks (fresh_unlisted kind.Task s h e) (same_task (new_task n s.starts)), refl))
 
 start_as : (s : State) (who : ℕ) (o : Op) (h : ℕ) → makes_kind kind.Task o ≡ true → Allows (row s who o (Handle h)) (Handle h) → StartedAs s o h (after_row s (row s who o (Handle h)))
 start_as s who (op.TaskStart job args priority cores detached group) h e a =

@@ -1,14 +1,5 @@
 -- No two objects of a kind are issued under one handle, and what was issued stays listed.
-use Rattle.std.proofs.Common.{ℕ, ◌≤◌, [], sym, subst, arith}
-use Rattle.mtapi_values.specs.declared.handles.ObjectKind.{ObjectKind}
-use Rattle.mtapi_machine.specs.declared.ops.Op.{Op}
-use Rattle.handle_pool.specs.Issued.{listed}
-use Rattle.mtapi_machine.specs.State.{State}
-use Rattle.mtapi_machine.specs.Moves.{Move, apply}
-use Rattle.mtapi_machine.specs.Legal.{NodeEntry, next}
-use Rattle.mtapi_machine.specs.Laws.{IsMade}
-use Rattle.mtapi_machine.proofs.Moves.{by_moves}
-use Rattle.history_law.specs.Words.{objects_of, times}
+use Rattle.history_law.proofs.Names.{ℕ, ◌≤◌, [], sym, subst, arith, ObjectKind, Op, listed, State, objects_of, Move, apply, NodeEntry, next, IsMade, by_moves, times}
 use Rattle.history_law.proofs.Reuse.{fresh_unlisted, listed_issue_some}
 use Rattle.history_law.proofs.Handles.{OnceIn, once_same, once_more}
 use Rattle.history_law.proofs.Ages.{SameFields, kind_move, listed_ages}

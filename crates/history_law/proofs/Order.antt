@@ -1,35 +1,9 @@
 -- A group gives its members in the order of their ends.
-use Rattle.std.proofs.Common.{◌≡◌, ℕ, ◌+◌, ◌≤◌, ◌<◌, Bool, true, false, cond, List, [], ◌∷◌, ◌++◌, Option, Some, None, ◌⊎◌, inl, inr, refl, sym, ◌∙◌, ap, subst, arith}
-use Rattle.std.specs.Prelude.{◌==◌, ◌&&◌, nat_lt, is_some}
-use Rattle.std.proofs.lemmas.Bool.{eqb-true, eq-eqb, cond_both}
-use Rattle.std.proofs.lemmas.Bool.Decides.{nat_tests}
-use Rattle.mtapi_values.specs.Conditions.{holds}
-use Rattle.mtapi_values.specs.declared.ends.TaskEnd.{TaskEnd}
-use Rattle.mtapi_values.specs.declared.ends.TaskEnd.TheVariants.{Failed}
+use Rattle.history_law.proofs.Names.{◌≡◌, ℕ, ◌+◌, ◌≤◌, ◌<◌, Bool, true, false, cond, List, [], ◌∷◌, ◌++◌, Option, Some, None, ◌⊎◌, inl, inr, refl, sym, ◌∙◌, ap, subst, arith, ◌==◌, ◌&&◌, nat_lt, is_some, eqb-true, eq-eqb, cond_both, nat_tests, holds, TaskEnd, Failed, TaskHandle, GroupHandle, Listed, live_of, live_object, listed, change, change_all, issue, with_fields, gone, Task, Notes, TaskState, Scheduled, Running, Ended, end_of, with_state, with_notes, ended, end_each, new_task, is_member, Ending, insert, insert_ended, endings, in_no_group, freed, let_go, Terms, Op, Reply, Given, Pending, Mtapi, State, opening, Move, starts_task, runs_task, ends_task, ends_waiting, withdraws, notes, leaves, frees_members, lets_members_go, apply, after_moves, never, Allows, moves_of, row, gives_end, gives_first, NodeEntry, IsNext, next, LegalFrom, Legal, after_from, after, Grows, Legal-front, Legal-rest, after-append, AllGives, on_live, fst_true, snd_true, rest_keeps, after_grows, looks_for_any, is_given, number_at, EndedBefore, GivenInOrder, some_same}
 use Rattle.mtapi_values.specs.declared.statuses.MtapiStatus.TheVariants as m
-use Rattle.mtapi_values.specs.declared.handles.TaskHandle.{TaskHandle}
-use Rattle.mtapi_values.specs.declared.handles.GroupHandle.{GroupHandle}
 use Rattle.mtapi_values.specs.declared.handles.ObjectKind.TheVariants as kind
-use Rattle.handle_pool.specs.Issued.{Listed, live_of, live_object, listed, change, change_all, issue, with_fields, gone}
-use Rattle.mtapi_objects.specs.Tasks.{Task, Notes, TaskState, Scheduled, Running, Ended, end_of, with_state, with_notes, ended, end_each, new_task}
-use Rattle.mtapi_objects.specs.Groups.{is_member, Ending, insert, insert_ended, endings, in_no_group, freed, let_go}
-use Rattle.mtapi_machine.specs.declared.terms.Terms.{Terms}
-use Rattle.mtapi_machine.specs.declared.ops.Op.{Op}
 use Rattle.mtapi_machine.specs.declared.ops.Op.TheVariants as op
-use Rattle.mtapi_machine.specs.declared.replies.Reply.{Reply}
-use Rattle.mtapi_machine.specs.declared.replies.Reply.TheVariants.{Given, Pending, Mtapi}
-use Rattle.mtapi_machine.specs.State.{State, opening}
-use Rattle.mtapi_machine.specs.Moves.{Move, starts_task, runs_task, ends_task, ends_waiting, withdraws, notes, leaves, frees_members, lets_members_go, makes, alters, removes, apply, after_moves}
-use Rattle.mtapi_machine.specs.Row.{never, Allows, moves_of}
-use Rattle.mtapi_machine.specs.Rows.{row}
-use Rattle.mtapi_machine.specs.GroupRows.{gives_end, gives_first}
-use Rattle.mtapi_machine.specs.Legal.{NodeEntry, IsNext, next, LegalFrom, Legal, after_from, after}
-use Rattle.mtapi_machine.specs.Laws.{Grows}
-use Rattle.mtapi_machine.proofs.Lists.{Legal-front, Legal-rest, after-append}
-use Rattle.mtapi_machine.proofs.Made.{AllGives, on_live, fst_true, snd_true}
-use Rattle.mtapi_machine.proofs.Moves.{sorts_keep}
-use Rattle.mtapi_machine.proofs.Ends.{after_grows}
-use Rattle.history_law.specs.Order.{looks_for_any, is_given, gives as gives_task, number_in, number_at, EndedBefore, GivenInOrder}
+use Rattle.history_law.specs.Order.{gives as gives_task, number_in}
 use Rattle.history_law.proofs.Moves.{once_from}
 use Rattle.history_law.proofs.Handles.{OnceIn, once_same, listed_change}
 use Rattle.history_law.proofs.Records.{read_found}
@@ -39,8 +13,7 @@ use Rattle.history_law.proofs.SeatMoves.{Noted, May, by_moves}
 use Rattle.history_law.proofs.Ages.{dead_none, none_dead, live_listed}
 use Rattle.history_law.proofs.AtHandles.{at_retired}
 use Rattle.history_law.proofs.Reuse.{Gone, stays_gone}
-use Rattle.history_law.proofs.Answered.{true_false, NoRefusal, answered_by, no_live, none_some}
-use Rattle.mtapi_machine.proofs.Changes.{some_same}
+use Rattle.history_law.proofs.Answered.{true_false, NoRefusal, answered_by, no_live, none_some, on_test}
 use Rattle.history_law.proofs.Found.{at_head, at_here, at_past}
 
 -- Sorted endings
@@ -197,9 +170,6 @@ record Left (g n : ℕ) (s : State) : Type 0 where
   next : n ≤ s.ends
   all : AllFrom g n s.tasks
 
-no_group : (g : ℕ) (t : Task) → t.notes.group ≡ None → is_member g t ≡ false
-no_group g t e = ap (holds (λ h. h == g)) e
-
 noted_from : (g n who : ℕ) (f : Notes → Notes) (r : Listed Task) → Noted who f r.fields → From g n r → From g n (with_fields (with_notes f) r)
 noted_from g n who f r x k = by_group x.group
   where
@@ -220,10 +190,7 @@ left_move g n who o s (notes h f) k v = record {
 left_move g n who o s (leaves h) k v = record { next = v.next; all = from_change g n h gone s.tasks (λ r e u i j p q. true_false i refl) v.all }
 left_move g n who o s (frees_members z) k v = record { next = v.next; all = from_all g n _ freed s.tasks (λ r i j p q. true_false i refl) v.all }
 left_move g n who o s (lets_members_go z) k v = record { next = v.next; all = from_all g n (is_member z) let_go s.tasks (λ r i j p q. true_false j refl) v.all }
-left_move g n who o s (makes z j x) k v = sorts_keep (Left g n) (λ t g q m c r y p. record { next = p.next; all = p.all }) z _ s v
-left_move g n who o s (alters z j f) k v = sorts_keep (Left g n) (λ t g q m c r y p. record { next = p.next; all = p.all }) z _ s v
-left_move g n who o s (removes z j) k v = sorts_keep (Left g n) (λ t g q m c r y p. record { next = p.next; all = p.all }) z _ s v
-left_move g n who o s _ k v = record { next = v.next; all = v.all }
+left_move g n who o s x k v = rest_keeps (Left g n) (λ t g q m c r y p. record { next = p.next; all = p.all }) x s (record { next = v.next; all = v.all })
 
 left_along : (g n : ℕ) (s : State) (L : List NodeEntry) → LegalFrom s L → Left g n s → Left g n (after_from s L)
 unfolding LegalFrom after_from
@@ -234,22 +201,15 @@ left_along g n s (e ∷ es) l v = left_along g n (next s e) es l.1 (by_moves (Le
 from_endings : (g n : ℕ) (l : List (Listed Task)) → AllOf (FromNumber n) (endings g (live_of l)) → AllFrom g n l
 unfolding endings live_of
 from_endings g n [] a = tt
-from_endings g n (r ∷ rs) a = by_live r.live refl a (from_endings g n rs)
+from_endings g n (r ∷ rs) a = on_test (λ b. AllOf (FromNumber n) (endings g (cond b ((r.handle, r.fields) ∷ live_of rs) (live_of rs))) → AllFrom g n (r ∷ rs)) r.live
+    (λ e a. on_test (λ b. AllOf (FromNumber n) (cond b (insert_ended r.handle (end_of r.fields.state) (endings g (live_of rs))) (endings g (live_of rs))) → AllFrom g n (r ∷ rs)) (is_member g r.fields) (λ e a. here (end_of r.fields.state) refl a (from_endings g n rs)) (λ e a. ((λ i j p q. true_false j e), (from_endings g n rs) a)) a)
+    (λ e a. ((λ i j p q. true_false i e), (from_endings g n rs) a)) a
   where
     here : (x : Option (TaskEnd × ℕ)) → end_of r.fields.state ≡ x → AllOf (FromNumber n) (insert_ended r.handle x (endings g (live_of rs))) → (AllOf (FromNumber n) (endings g (live_of rs)) → AllFrom g n rs) → AllFrom g n (r ∷ rs)
     here None e a k = ((λ i j p q. none_some (sym e ∙ q)), k a)
     here (Some y) e a k =
         let b = all_inserted (FromNumber n) (record { task = r.handle; end = y.0; number = y.1 }) (endings g (live_of rs)) a in
         ((λ i j p q. subst (λ (z : TaskEnd × ℕ). n ≤ z.1) (some_same (sym e ∙ q)) b.0), k b.1)
-
-    by_member : (b : Bool) → is_member g r.fields ≡ b → AllOf (FromNumber n) (cond b (insert_ended r.handle (end_of r.fields.state) (endings g (live_of rs))) (endings g (live_of rs)))
-        → (AllOf (FromNumber n) (endings g (live_of rs)) → AllFrom g n rs) → AllFrom g n (r ∷ rs)
-    by_member true e a k = here (end_of r.fields.state) refl a k
-    by_member false e a k = ((λ i j p q. true_false j e), k a)
-
-    by_live : (b : Bool) → r.live ≡ b → AllOf (FromNumber n) (endings g (cond b ((r.handle, r.fields) ∷ live_of rs) (live_of rs))) → (AllOf (FromNumber n) (endings g (live_of rs)) → AllFrom g n rs) → AllFrom g n (r ∷ rs)
-    by_live true e a k = by_member (is_member g r.fields) refl a k
-    by_live false e a k = ((λ i j p q. true_false i e), k a)
 
 from_at : (g n : ℕ) (l : List (Listed Task)) (h : ℕ) (t : Task) → AllFrom g n l → live_object l h ≡ Some t → is_member g t ≡ true → (p : TaskEnd × ℕ) → end_of t.state ≡ Some p → n ≤ p.1
 unfolding live_of
@@ -285,18 +245,18 @@ grows_number h n (r ∷ rs) (q ∷ qs) g i = by_handle q.handle g.0.handle (r.ha
     by_handle a s true t rest k = ap (λ (x : ℕ). cond (x == h) (number_in q.fields.state) (number_at qs h)) s ∙ ap (λ (b : Bool). cond b (number_in q.fields.state) (number_at qs h)) t ∙ number_stays r.fields.state q.fields.state n g.0.over k
     by_handle a s false t rest k = ap (λ (x : ℕ). cond (x == h) (number_in q.fields.state) (number_at qs h)) s ∙ ap (λ (b : Bool). cond b (number_in q.fields.state) (number_at qs h)) t ∙ rest k
 
+own_bit : (n : ℕ) (x : TaskState) → number_in x ≡ Some n → bit (is_number n x) ≡ 1
+own_bit n Scheduled i = absurd (cc)
+own_bit n (Running w k) i = absurd (cc)
+own_bit n (Ended z a) i = ap bit (eq-eqb a n (some_same i))
+
 number_counts : (l : List (Listed Task)) (h n : ℕ) → number_at l h ≡ Some n → 1 ≤ has_number n l
 unfolding number_at
 number_counts [] h n e = absurd (cc)
 number_counts (r ∷ rs) h n e = by_hand (r.handle == h) e (number_counts rs h n)
   where
-    own : (x : TaskState) → number_in x ≡ Some n → bit (is_number n x) ≡ 1
-    own Scheduled i = absurd (cc)
-    own (Running w k) i = absurd (cc)
-    own (Ended z a) i = ap bit (eq-eqb a n (some_same i))
-
     by_hand : (b : Bool) → cond b (number_in r.fields.state) (number_at rs h) ≡ Some n → (number_at rs h ≡ Some n → 1 ≤ has_number n rs) → 1 ≤ has_number n (r ∷ rs)
-    by_hand true i k = let z : bit (is_number n r.fields.state) ≡ 1 = own r.fields.state i in omega arith
+    by_hand true i k = let z : bit (is_number n r.fields.state) ≡ 1 = own_bit n r.fields.state i in omega arith
     by_hand false i k = let z : 1 ≤ has_number n rs = k i in omega arith
 
 -- two tasks of one number are one
@@ -305,13 +265,8 @@ unfolding number_at
 same_task [] a b n o i j = absurd (cc)
 same_task (r ∷ rs) a b n o i j = by_hand (r.handle == a) refl (r.handle == b) refl i j (λ x y. same_task rs a b n (omega arith) x y)
   where
-    own : (x : TaskState) → number_in x ≡ Some n → bit (is_number n x) ≡ 1
-    own Scheduled i = absurd (cc)
-    own (Running w k) i = absurd (cc)
-    own (Ended z a) i = ap bit (eq-eqb a n (some_same i))
-
     twice : number_in r.fields.state ≡ Some n → (h : ℕ) → number_at rs h ≡ Some n → ⊥
-    twice i h j = let z : bit (is_number n r.fields.state) ≡ 1 = own r.fields.state i in let y : 1 ≤ has_number n rs = number_counts rs h n j in omega arith
+    twice i h j = let z : bit (is_number n r.fields.state) ≡ 1 = own_bit n r.fields.state i in let y : 1 ≤ has_number n rs = number_counts rs h n j in omega arith
 
     by_hand : (x : Bool) → (r.handle == a) ≡ x → (y : Bool) → (r.handle == b) ≡ y → cond x (number_in r.fields.state) (number_at rs a) ≡ Some n → cond y (number_in r.fields.state) (number_at rs b) ≡ Some n
         → (number_at rs a ≡ Some n → number_at rs b ≡ Some n → a ≡ b) → a ≡ b

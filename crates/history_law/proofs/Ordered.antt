@@ -1,33 +1,9 @@
 -- The runs of an ordered queue.
-use Rattle.std.proofs.Common.{◌≡◌, ℕ, ◌+◌, ◌≤◌, ◌<◌, Bool, true, false, cond, List, [], ◌∷◌, ◌++◌, Option, Some, None, refl, sym, ◌∙◌, ap, subst, arith}
-use Rattle.std.specs.Prelude.{◌==◌, ◌&&◌, ◌||◌, not, nat_lt, is_none, IsSome}
-use Rattle.std.proofs.lemmas.Bool.{eqb-true, eq-eqb, false_from_ne_true}
-use Rattle.std.proofs.lemmas.Bool.Decides.{nat_tests}
-use Rattle.mtapi_values.specs.Conditions.{holds}
-use Rattle.mtapi_values.specs.declared.ends.TaskEnd.{TaskEnd}
+use Rattle.history_law.proofs.Names.{◌≡◌, ℕ, ◌+◌, ◌≤◌, ◌<◌, Bool, true, false, cond, List, [], ◌∷◌, ◌++◌, Option, Some, None, refl, sym, ◌∙◌, ap, subst, arith, ◌==◌, ◌&&◌, ◌||◌, not, nat_lt, is_none, IsSome, eqb-true, eq-eqb, false_from_ne_true, nat_tests, holds, TaskEnd, Listed, live_of, live_object, any_live, listed, Task, NewTask, TaskState, Scheduled, Running, Ended, scheduled, end_of, is_unstarted, is_unended, new_task, Queue, is_in, is_unended_in, is_head, lets, Terms, Op, Reply, Picked, State, opening, Move, starts_task, apply, Allows, row, is_ready, has_better, NodeEntry, IsNext, next, LegalFrom, Legal, after_from, after, StartsTask, end_in, end_at, Legal-front, Legal-rest, after-append, fst_true, snd_true, not_true, along, rest_keeps, after_grows, some_entry, is_handle, issues, asks_ordered, makes_ordered, puts_into, puts, is_picked, RunsInOrder, some_same}
 use Rattle.mtapi_values.specs.declared.handles.ObjectKind.TheVariants as kind
-use Rattle.handle_pool.specs.Issued.{Listed, live_of, live_object, any_live, listed}
-use Rattle.mtapi_objects.specs.Tasks.{Task, NewTask, TaskState, Scheduled, Running, Ended, scheduled, end_of, is_unstarted, is_unended, new_task}
-use Rattle.mtapi_objects.specs.Queues.{Queue, is_in, is_unended_in, is_head, lets}
-use Rattle.mtapi_machine.specs.declared.terms.Terms.{Terms}
-use Rattle.mtapi_machine.specs.declared.ops.Op.{Op}
 use Rattle.mtapi_machine.specs.declared.ops.Op.TheVariants as op
-use Rattle.mtapi_machine.specs.declared.replies.Reply.{Reply}
-use Rattle.mtapi_machine.specs.declared.replies.Reply.TheVariants.{Picked}
-use Rattle.mtapi_machine.specs.State.{State, opening}
-use Rattle.mtapi_machine.specs.Moves.{Move, starts_task, makes, alters, removes, apply}
-use Rattle.mtapi_machine.specs.Row.{Allows}
-use Rattle.mtapi_machine.specs.Rows.{row}
-use Rattle.mtapi_machine.specs.WorkRows.{is_ready, has_better}
-use Rattle.mtapi_machine.specs.Legal.{NodeEntry, IsNext, next, LegalFrom, Legal, after_from, after}
-use Rattle.mtapi_machine.specs.Laws.{StartsTask}
-use Rattle.mtapi_machine.specs.Ends.{end_in, end_at}
-use Rattle.mtapi_machine.proofs.Lists.{Legal-front, Legal-rest, after-append}
-use Rattle.mtapi_machine.proofs.Made.{fst_true, snd_true, not_true}
-use Rattle.mtapi_machine.proofs.Moves.{along, sorts_keep}
-use Rattle.mtapi_machine.proofs.Ends.{after_grows}
-use Rattle.history_law.specs.Words.{some_entry, is_handle, issues, makes as makes_kind}
-use Rattle.history_law.specs.Ordered.{asks_ordered, makes_ordered, puts_into, puts, is_pick, is_picked, picks, RunsInOrder}
+use Rattle.history_law.specs.Words.{makes as makes_kind}
+use Rattle.history_law.specs.Ordered.{is_pick, picks}
 use Rattle.history_law.proofs.Held.{DeadEnded}
 use Rattle.history_law.proofs.Moves.{Stands, once_along, once_from}
 use Rattle.history_law.proofs.Accepted.{stands_after, shown}
@@ -37,18 +13,14 @@ use Rattle.history_law.proofs.Ends.{grows_end}
 use Rattle.history_law.proofs.Ages.{SameTask, SameQueue, Under, under_at}
 use Rattle.history_law.proofs.Objects.{HasObject, QueueAs, started_as, queued_as, task_then, has_along}
 use Rattle.history_law.proofs.Affinity.{Took, row_took}
-use Rattle.history_law.proofs.Answered.{true_false, none_some}
-use Rattle.mtapi_machine.proofs.Changes.{some_same}
+use Rattle.history_law.proofs.Answered.{true_false, none_some, on_test}
 use Rattle.history_law.proofs.SeatMoves.{ready_unstarted}
 
 -- The number of the next start doesn't fall
 
 starts_move : (k : ℕ) (s : State) (m : Move) → k ≤ s.starts → k ≤ (apply m s).starts
 starts_move k s (starts_task h t) v = omega arith
-starts_move k s (makes z j x) v = sorts_keep (λ t. k ≤ t.starts) (λ t g q m c r y p. p) z _ s v
-starts_move k s (alters z j f) v = sorts_keep (λ t. k ≤ t.starts) (λ t g q m c r y p. p) z _ s v
-starts_move k s (removes z j) v = sorts_keep (λ t. k ≤ t.starts) (λ t g q m c r y p. p) z _ s v
-starts_move k s _ v = v
+starts_move k s x v = rest_keeps (λ t. k ≤ t.starts) (λ t g q m c r y p. p) x s v
 
 starts_along : (k : ℕ) (s : State) (L : List NodeEntry) → k ≤ s.starts → k ≤ (after_from s L).starts
 starts_along k s L v = along (λ t. k ≤ t.starts) (λ o t m e w. starts_move k t m w) s L v
@@ -88,7 +60,9 @@ ordered_head q t l (Some x) f h = by_ordered x.ordered (f x refl) (snd_true x.en
 ended_before : (h : ℕ) (F : Task → Type 0) (p : Task → Bool) (l : List (Listed Task)) → ((t : Task) → F t → is_unended t ≡ true → p t ≡ true) → Under h F l → DeadEnded l → any_live p (live_of l) ≡ false → 1 ≤ listed h l → IsSome (end_at l h)
 unfolding live_of listed end_at
 ended_before h F p [] g u d n k = absurd (omega arith)
-ended_before h F p (r ∷ rs) g u d n k = by_hand (r.handle == h) refl k (λ z. ended_before h F p rs g u.1 d.1 (rest r.live n) z)
+ended_before h F p (r ∷ rs) g u d n k = on_test (λ b. 1 ≤ cond b 1 0 + listed h rs → IsSome (cond b (end_in r.fields.state) (end_at rs h))) (r.handle == h)
+    (λ i k. by_state r.fields.state refl (u.0 i))
+    (λ i k. ended_before h F p rs g u.1 d.1 (rest r.live n) (omega arith)) k
   where
     rest_test : (b : Bool) → cond b true (any_live p (live_of rs)) ≡ false → any_live p (live_of rs) ≡ false
     rest_test true e = absurd (cc)
@@ -106,10 +80,6 @@ ended_before h F p (r ∷ rs) g u d n k = by_hand (r.handle == h) refl k (λ z. 
     by_state Scheduled i f = let m : is_unended r.fields ≡ true = ap (λ (y : TaskState). is_none (end_of y)) i in absurd (here r.live refl n (g r.fields f m) m)
     by_state (Running w j) i f = let m : is_unended r.fields ≡ true = ap (λ (y : TaskState). is_none (end_of y)) i in absurd (here r.live refl n (g r.fields f m) m)
     by_state (Ended e j) i f = refl
-
-    by_hand : (b : Bool) → (r.handle == h) ≡ b → 1 ≤ cond b 1 0 + listed h rs → (1 ≤ listed h rs → IsSome (end_at rs h)) → IsSome (cond b (end_in r.fields.state) (end_at rs h))
-    by_hand true i k m = by_state r.fields.state refl (u.0 i)
-    by_hand false i k m = m (omega arith)
 
 -- What has ended isn't picked
 

@@ -1,36 +1,13 @@
 -- What the entries of other seats leave to a seat.
-use Rattle.std.proofs.Common.{◌≡◌, ◌≢◌, ℕ, zero, suc, Bool, true, false, cond, List, [], ◌∷◌, Option, Some, None, ◌⊎◌, inl, inr, refl, sym, ◌∙◌, ap, subst, arith}
-use Rattle.std.specs.Prelude.{◌==◌, ◌&&◌, not, is_none, slice_set}
-use Rattle.std.proofs.lemmas.Bool.Decides.{nat_tests}
-use Rattle.mtapi_values.specs.declared.ends.TaskEnd.{TaskEnd}
-use Rattle.mtapi_values.specs.Seats.{is_seat, is_other, marked}
-use Rattle.mtapi_values.specs.Conditions.{holds}
-use Rattle.mtapi_machine.specs.declared.ops.Op.{Op}
+use Rattle.history_law.proofs.Names.{◌≡◌, ◌≢◌, ℕ, zero, suc, Bool, true, false, cond, List, [], ◌∷◌, Option, Some, None, ◌⊎◌, inl, inr, refl, sym, ◌∙◌, ap, subst, arith, ◌==◌, ◌&&◌, not, is_none, slice_set, nat_tests, TaskEnd, is_seat, is_other, marked, holds, Op, Reply, Failed, Terms, Listed, live_of, live_object, count_listed, change, with_fields, gone, is_member, Ending, endings, in_no_group, freed, let_go, Task, Notes, with_notes, TaskState, Scheduled, Running, Ended, scheduled, end_of, runner, runs_on, is_unstarted, is_unended, with_state, ended, new_task, entries_of, State, opening, NodeEntry, next, LegalFrom, Legal, after_from, after, end_in, end_at, moves_phase, is_release, is_late_end, IsWaiter, Waits, OnceListed, Work, RunsWith, IsUntouched, Others, WorkerKeeps, NoPhase, NoRelease, Move, phase_is, released, stops, starts_task, runs_task, ends_task, ends_waiting, withdraws, notes, leaves, frees_members, lets_members_go, apply, after_moves, after_row, row, gives_end, gives_first, AllGives, moves_given, on_live, fst_true, snd_true, both_true, not_true, rest_keeps, some_same, and-false, eq-eqb}
+use Rattle.history_law.proofs.Reuse.{terms_next}
 use Rattle.mtapi_machine.specs.declared.ops.Op.TheVariants as op
-use Rattle.mtapi_machine.specs.declared.replies.Reply.{Reply}
-use Rattle.mtapi_values.specs.declared.ends.TaskEnd.TheVariants.{Failed}
-use Rattle.mtapi_machine.specs.declared.terms.Terms.{Terms}
-use Rattle.handle_pool.specs.Issued.{Listed, live_of, live_object, count_listed, change, with_fields, gone}
-use Rattle.mtapi_objects.specs.Groups.{is_member, Ending, endings, in_no_group, freed, let_go}
-use Rattle.mtapi_objects.specs.Tasks.{Task, Notes, with_notes, TaskState, Scheduled, Running, Ended, scheduled, end_of, runner, runs_on, is_unstarted, is_unended, with_state, ended, new_task}
-use Rattle.history.specs.Histories.{entries_of}
-use Rattle.mtapi_machine.specs.State.{State, opening}
-use Rattle.mtapi_machine.specs.Legal.{NodeEntry, next, LegalFrom, Legal, after_from, after}
-use Rattle.mtapi_machine.specs.Ends.{end_in, end_at}
-use Rattle.history_law.specs.Seats.{moves_phase, is_release, is_late_end, IsWaiter, Waits, OnceListed, Work, RunsWith, IsUntouched, Others, WorkerKeeps, NoPhase, NoRelease}
-use Rattle.mtapi_machine.specs.Moves.{Move, phase_is, released, stops, starts_task, runs_task, ends_task, ends_waiting, withdraws, notes, leaves, frees_members, lets_members_go, makes, alters, removes, apply, after_moves}
-use Rattle.mtapi_machine.specs.Row.{after_row}
-use Rattle.mtapi_machine.specs.Rows.{row}
-use Rattle.mtapi_machine.specs.GroupRows.{gives_end, gives_first}
-use Rattle.mtapi_machine.proofs.Made.{AllGives, moves_given, on_live, fst_true, snd_true, both_true, not_true}
-use Rattle.mtapi_machine.proofs.Moves.{sorts_keep}
 use Rattle.history_law.proofs.SeatMoves.{SameWork, Noted, May, MayEnd, is_any_look, by_moves}
 use Rattle.history_law.proofs.Moves.{once_along, once_from}
 use Rattle.history_law.proofs.Members.{AllOf, IsEnding, all_endings}
 use Rattle.history_law.proofs.Every.{Every, every_issue, every_change, every_all, every_at, every_ends}
-use Rattle.history_law.proofs.Found.{FoundAs, found_changed, found_issued, count_changed, count_issued, found_ends, count_ends, found_all, count_all}
+use Rattle.history_law.proofs.Found.{FoundAs, found_changed, found_issued, count_changed, count_issued, found_ends, count_ends, found_all, count_all, both}
 use Rattle.history_law.proofs.Answered.{true_false}
-use Rattle.mtapi_machine.proofs.Changes.{some_same}
 
 -- The mark of a waiter
 
@@ -98,10 +75,7 @@ waits_move w h who o n b s (withdraws j f c) k v = found_ends (IsWaiter w) _ (Fa
 waits_move w h who o n b s (frees_members g) k v =
     found_all (IsWaiter w) _ freed h (λ r. refl) s.tasks v.0 v.1 v.2 (λ r a i d. true_false (fst_true (is_member g v.0) _ d) (no_member g v.0 v.2.alone))
 waits_move w h who o n b s (lets_members_go g) k v = found_all (IsWaiter w) _ let_go h (λ r. refl) s.tasks v.0 v.1 v.2 (λ r a i d. true_false d (no_member g v.0 v.2.alone))
-waits_move w h who o n b s (makes z j x) k v = sorts_keep (λ t. Waits t w h) (λ t g q m c r y p. p) z _ s v
-waits_move w h who o n b s (alters z j f) k v = sorts_keep (λ t. Waits t w h) (λ t g q m c r y p. p) z _ s v
-waits_move w h who o n b s (removes z j) k v = sorts_keep (λ t. Waits t w h) (λ t g q m c r y p. p) z _ s v
-waits_move w h who o n b s _ k v = v
+waits_move w h who o n b s x k v = rest_keeps (λ t. Waits t w h) (λ t g q m c r y p. p) x s v
 
 -- The work of a worker
 
@@ -136,20 +110,12 @@ may_end_apart w who t n (inr e) = runs_apart w who t n e
 apart_seats : (y who w : ℕ) → y ≡ who → who ≢ w → (y == w) ≡ false
 apart_seats y who w e n = subst (λ (v : ℕ). (v == w) ≡ false) (sym e) (grind (arith, nat_tests))
 
-never_runs : (w : ℕ) (b : Bool) → (b && false) ≡ false
-never_runs w true = refl
-never_runs w false = refl
-
-live_same : (a b : Bool) → a ≡ true → (a && b) ≡ b
-live_same true b e = refl
-live_same false b e = absurd (cc)
-
 -- a change of a task of which the worker's count knows nothing
 count_alike : (w j : ℕ) (f : Listed Task → Listed Task) (l : List (Listed Task)) (t : Task) → live_object l j ≡ Some t → ((r : Listed Task) → r.live ≡ true → r.fields ≡ t → ((f r).live && runs_on w (f r).fields) ≡ runs_on w t) → count_listed (runs_on w) (change j f l) ≡ count_listed (runs_on w) l
 count_alike w j f l t e g = let n = count_changed (runs_on w) j f (runs_on w t) l t e g in omega arith
 
 state_alike : (w : ℕ) (f : Task → Task) → ((t : Task) → (f t).state ≡ t.state) → (t : Task) (r : Listed Task) → r.live ≡ true → r.fields ≡ t → ((with_fields f r).live && runs_on w (with_fields f r).fields) ≡ runs_on w t
-state_alike w f k t r a s = live_same r.live _ a ∙ (ap (λ (x : TaskState). holds (λ y. y.0 == w) (runner x)) (k r.fields) ∙ ap (runs_on w) s)
+state_alike w f k t r a s = both r.live _ a ∙ (ap (λ (x : TaskState). holds (λ y. y.0 == w) (runner x)) (k r.fields) ∙ ap (runs_on w) s)
 
 -- a member that is let go of runs as before
 goes_alike : (w : ℕ) (r : Listed Task) → r.live ≡ true → ((let_go r).live && runs_on w (let_go r).fields) ≡ runs_on w r.fields
@@ -177,19 +143,16 @@ other_count w who o s (runs_task j y z) n k = true_false refl n
 other_count w who o s (ends_task j e) n k = true_false refl n
 other_count w who o s (notes j f) n k = count_alike w j (with_fields (with_notes f)) s.tasks k.0 k.1 (state_alike w (with_notes f) (λ t. refl) k.0)
 other_count w who o s (leaves j) n k = count_alike w j gone s.tasks k.0 k.1 (λ r a f. sym (runs_over w k.0 k.2))
-other_count w who o s (ends_waiting p e) n k = count_ends (runs_on w) (λ t. is_unstarted t && p t) e s.ends s.tasks (λ r m a f. never_runs w _ ∙ sym (runs_scheduled w r.fields (fst_true _ _ f)))
-other_count w who o s (withdraws j f c) n k = count_ends (runs_on w) _ (Failed c) s.ends s.tasks (λ r m a i. never_runs w _ ∙ sym (runs_scheduled w r.fields (fst_true _ _ i)))
+other_count w who o s (ends_waiting p e) n k = count_ends (runs_on w) (λ t. is_unstarted t && p t) e s.ends s.tasks (λ r m a f. and-false _ ∙ sym (runs_scheduled w r.fields (fst_true _ _ f)))
+other_count w who o s (withdraws j f c) n k = count_ends (runs_on w) _ (Failed c) s.ends s.tasks (λ r m a i. and-false _ ∙ sym (runs_scheduled w r.fields (fst_true _ _ i)))
 other_count w who o s (frees_members g) n k = count_all (runs_on w) _ freed s.tasks (λ r a i. sym (runs_over w r.fields (not_true _ (snd_true (is_member g r.fields) _ i))))
 other_count w who o s (lets_members_go g) n k = count_all (runs_on w) (is_member g) let_go s.tasks (λ r a i. goes_alike w r a)
-other_count w who o s (makes z j x) n k = sorts_keep (λ t. count_listed (runs_on w) t.tasks ≡ count_listed (runs_on w) s.tasks) (λ t g q m c r y p. p) z _ s refl
-other_count w who o s (alters z j f) n k = sorts_keep (λ t. count_listed (runs_on w) t.tasks ≡ count_listed (runs_on w) s.tasks) (λ t g q m c r y p. p) z _ s refl
-other_count w who o s (removes z j) n k = sorts_keep (λ t. count_listed (runs_on w) t.tasks ≡ count_listed (runs_on w) s.tasks) (λ t g q m c r y p. p) z _ s refl
-other_count w who o s _ n k = refl
+other_count w who o s x n k = rest_keeps (λ t. count_listed (runs_on w) t.tasks ≡ count_listed (runs_on w) s.tasks) (λ t g q m c r y p. p) x s refl
 
 work_count : (w who : ℕ) (o : Op) → who ≢ w → (s : State) (x : Move) → May s who o x → count_listed (runs_on w) (apply x s).tasks ≡ count_listed (runs_on w) s.tasks
 work_count w who o n s (runs_task j y z) k =
-    count_alike w j (with_fields (with_state (Running y z))) s.tasks k.0 k.1 (λ r a f. live_same r.live _ a ∙ (apart_seats y who w k.3 n ∙ sym (runs_scheduled w k.0 k.2)))
-work_count w who o n s (ends_task j e) k = count_alike w j (ended e s.ends) s.tasks k.0 k.1 (λ r a f. never_runs w _ ∙ sym (may_end_apart w who k.0 n k.2))
+    count_alike w j (with_fields (with_state (Running y z))) s.tasks k.0 k.1 (λ r a f. both r.live _ a ∙ (apart_seats y who w k.3 n ∙ sym (runs_scheduled w k.0 k.2)))
+work_count w who o n s (ends_task j e) k = count_alike w j (ended e s.ends) s.tasks k.0 k.1 (λ r a f. and-false _ ∙ sym (may_end_apart w who k.0 n k.2))
 work_count w who o n s x k = other_count w who o s x refl k
 
 -- the task of the handle goes on as it is
@@ -197,10 +160,7 @@ runs_set : (w : ℕ) (q : Work) (f : Task → Task) (t : Task) (r : Listed Task)
 runs_set w q f t r i a s = (a, subst (λ (u : Task). RunsWith w q (f u)) (sym s) i)
 
 runs_here : (w : ℕ) (q : Work) (t : Task) → RunsWith w q t → runs_on w t ≡ true
-runs_here w q t i = ap (λ (x : TaskState). holds (λ r. r.0 == w) (runner x)) i.state ∙ same w
-  where
-    same : (w : ℕ) → (w == w) ≡ true
-    same w = grind (arith, nat_tests)
+runs_here w q t i = ap (λ (x : TaskState). holds (λ r. r.0 == w) (runner x)) i.state ∙ eq-eqb w w refl
 
 runs_as_they_are : (s : State) (w j h : ℕ) (q : Work) → j ≡ h → (t u : Task) → live_object s.tasks j ≡ Some t → live_object s.tasks h ≡ Some u → RunsWith w q u → runs_on w t ≡ false → ⊥
 runs_as_they_are s w j h q e t u a b i n = true_false (runs_here w q u i) (ap (runs_on w) (sym (same_found s j h e t u a b)) ∙ n)
@@ -238,10 +198,7 @@ runs_move w h q who o n s (withdraws j f c) k v =
 runs_move w h q who o n s (frees_members g) k v =
     found_all (RunsWith w q) _ freed h (λ r. refl) s.tasks v.0 v.1 v.2 (λ r a i d. true_false (runs_here w q v.0 v.2) (runs_over w v.0 (not_true _ (snd_true (is_member g v.0) _ d))))
 runs_move w h q who o n s (lets_members_go g) k v = found_all (RunsWith w q) (is_member g) let_go h (λ r. refl) s.tasks v.0 v.1 v.2 (λ r a i d. goes_on w q v.0 r v.2 a i)
-runs_move w h q who o n s (makes z j x) k v = sorts_keep (λ t. FoundAs (RunsWith w q) t.tasks h) (λ t g q m c r y p. p) z _ s v
-runs_move w h q who o n s (alters z j f) k v = sorts_keep (λ t. FoundAs (RunsWith w q) t.tasks h) (λ t g q m c r y p. p) z _ s v
-runs_move w h q who o n s (removes z j) k v = sorts_keep (λ t. FoundAs (RunsWith w q) t.tasks h) (λ t g q m c r y p. p) z _ s v
-runs_move w h q who o n s _ k v = v
+runs_move w h q who o n s x k v = rest_keeps (λ t. FoundAs (RunsWith w q) t.tasks h) (λ t g q m c r y p. p) x s v
 
 -- Lists of entries by other seats
 
@@ -319,10 +276,7 @@ work_stays s L w l o = record {
 
 phase_move : (who : ℕ) (o : Op) → moves_phase o ≡ false → (s t : State) (x : Move) → May t who o x → t.phase ≡ s.phase → (apply x t).phase ≡ s.phase
 phase_move who o n s t (phase_is p) k v = true_false k n
-phase_move who o n s t (makes z j x) k v = sorts_keep (λ u. u.phase ≡ s.phase) (λ t g q m c r y p. p) z _ t v
-phase_move who o n s t (alters z j f) k v = sorts_keep (λ u. u.phase ≡ s.phase) (λ t g q m c r y p. p) z _ t v
-phase_move who o n s t (removes z j) k v = sorts_keep (λ u. u.phase ≡ s.phase) (λ t g q m c r y p. p) z _ t v
-phase_move who o n s t _ k v = v
+phase_move who o n s t x k v = rest_keeps (λ u. u.phase ≡ s.phase) (λ t g q m c r y p. p) x t v
 
 pub phase_stays : (s : State) (L : List NodeEntry) → LegalFrom s L → NoPhase L → (after_from s L).phase ≡ s.phase
 unfolding LegalFrom after_from
@@ -331,10 +285,7 @@ phase_stays s (e ∷ es) l n = phase_stays (next s e) es l.1 n.1 ∙ by_moves (�
 
 release_move : (who : ℕ) (o : Op) → is_release o ≡ false → (s t : State) (x : Move) → May t who o x → t.released ≡ s.released → (apply x t).released ≡ s.released
 release_move who o n s t released k v = true_false k n
-release_move who o n s t (makes z j x) k v = sorts_keep (λ u. u.released ≡ s.released) (λ t g q m c r y p. p) z _ t v
-release_move who o n s t (alters z j f) k v = sorts_keep (λ u. u.released ≡ s.released) (λ t g q m c r y p. p) z _ t v
-release_move who o n s t (removes z j) k v = sorts_keep (λ u. u.released ≡ s.released) (λ t g q m c r y p. p) z _ t v
-release_move who o n s t _ k v = v
+release_move who o n s t x k v = rest_keeps (λ u. u.released ≡ s.released) (λ t g q m c r y p. p) x t v
 
 pub release_stays : (s : State) (L : List NodeEntry) → LegalFrom s L → NoRelease L → (after_from s L).released ≡ s.released
 unfolding LegalFrom after_from
@@ -374,10 +325,7 @@ time_move who o s (ends_waiting p e) k v = every_ends InTime (λ t. is_unstarted
 time_move who o s (withdraws j f c) k v = every_ends InTime _ (Failed c) s.ends s.tasks (λ t n i. ended_in_time (Failed c) n t k i) v
 time_move who o s (frees_members g) k v = every_all InTime _ freed s.tasks (λ r i. record { state = i.state; verdict = i.verdict }) v
 time_move who o s (lets_members_go g) k v = every_all InTime (is_member g) let_go s.tasks (λ r i. record { state = i.state; verdict = i.verdict }) v
-time_move who o s (makes z j x) k v = sorts_keep (λ t. Every InTime t.tasks) (λ t g q m c r y p. p) z _ s v
-time_move who o s (alters z j f) k v = sorts_keep (λ t. Every InTime t.tasks) (λ t g q m c r y p. p) z _ s v
-time_move who o s (removes z j) k v = sorts_keep (λ t. Every InTime t.tasks) (λ t g q m c r y p. p) z _ s v
-time_move who o s _ k v = v
+time_move who o s x k v = rest_keeps (λ t. Every InTime t.tasks) (λ t g q m c r y p. p) x s v
 
 pub time_after : (s : State) (L : List NodeEntry) → LegalFrom s L → Every InTime s.tasks → Every InTime (after_from s L).tasks
 unfolding LegalFrom after_from
@@ -433,10 +381,7 @@ clean_move who o s (ends_waiting p e) k v = every_ends Clean (λ t. is_unstarted
 clean_move who o s (withdraws j f c) k v = every_ends Clean _ (Failed c) s.ends s.tasks (λ t n i u. true_false u refl) v
 clean_move who o s (frees_members g) k v = every_all Clean _ freed s.tasks (λ r i. group_clean r.fields r.fields.notes.detached None i) v
 clean_move who o s (lets_members_go g) k v = every_all Clean (is_member g) let_go s.tasks (λ r i. group_clean r.fields true None i) v
-clean_move who o s (makes z j x) k v = sorts_keep (λ t. Every Clean t.tasks) (λ t g q m c r y p. p) z _ s v
-clean_move who o s (alters z j f) k v = sorts_keep (λ t. Every Clean t.tasks) (λ t g q m c r y p. p) z _ s v
-clean_move who o s (removes z j) k v = sorts_keep (λ t. Every Clean t.tasks) (λ t g q m c r y p. p) z _ s v
-clean_move who o s _ k v = v
+clean_move who o s x k v = rest_keeps (λ t. Every Clean t.tasks) (λ t g q m c r y p. p) x s v
 
 clean_after : (s : State) (L : List NodeEntry) → LegalFrom s L → Every Clean s.tasks → Every Clean (after_from s L).tasks
 unfolding LegalFrom after_from
@@ -448,16 +393,10 @@ unstarted_untouched terms L h t l a i = every_at Clean (after terms L).tasks h t
 
 -- The terms stay
 
-terms_move : (T : Terms) (who : ℕ) (o : Op) (s : State) (x : Move) → May s who o x → s.terms ≡ T → (apply x s).terms ≡ T
-terms_move T who o s (makes z j x) k v = sorts_keep (λ t. t.terms ≡ T) (λ t g q m c r y p. p) z _ s v
-terms_move T who o s (alters z j f) k v = sorts_keep (λ t. t.terms ≡ T) (λ t g q m c r y p. p) z _ s v
-terms_move T who o s (removes z j) k v = sorts_keep (λ t. t.terms ≡ T) (λ t g q m c r y p. p) z _ s v
-terms_move T who o s _ k v = v
-
 pub terms_stay : (s : State) (L : List NodeEntry) → LegalFrom s L → (after_from s L).terms ≡ s.terms
 unfolding LegalFrom after_from
 terms_stay s [] l = refl
-terms_stay s (e ∷ es) l = terms_stay (next s e) es l.1 ∙ by_moves (λ t. t.terms ≡ s.terms) s e l.0 (terms_move s.terms e.who e.op) refl
+terms_stay s (e ∷ es) l = terms_stay (next s e) es l.1 ∙ terms_next s.terms s e refl
 
 -- The marks of stopped workers stay
 
@@ -470,10 +409,7 @@ set_keeps (b ∷ bs) (suc w) (suc y) e = set_keeps bs w y e
 
 stopped_move : (w who : ℕ) (o : Op) (s : State) (x : Move) → May s who o x → marked w s.stopped ≡ true → marked w (apply x s).stopped ≡ true
 stopped_move w who o s (stops y) k v = set_keeps s.stopped w y v
-stopped_move w who o s (makes z j x) k v = sorts_keep (λ t. marked w t.stopped ≡ true) (λ t g q m c r y p. p) z _ s v
-stopped_move w who o s (alters z j f) k v = sorts_keep (λ t. marked w t.stopped ≡ true) (λ t g q m c r y p. p) z _ s v
-stopped_move w who o s (removes z j) k v = sorts_keep (λ t. marked w t.stopped ≡ true) (λ t g q m c r y p. p) z _ s v
-stopped_move w who o s _ k v = v
+stopped_move w who o s x k v = rest_keeps (λ t. marked w t.stopped ≡ true) (λ t g q m c r y p. p) x s v
 
 pub stopped_stays : (s : State) (L : List NodeEntry) (w : ℕ) → LegalFrom s L → marked w s.stopped ≡ true → marked w (after_from s L).stopped ≡ true
 unfolding LegalFrom after_from

@@ -1,43 +1,10 @@
 -- In a quiet history a task ends as the kind of an action of its job answers.
-use Rattle.std.proofs.Common.{◌≡◌, ℕ, Bool, true, false, cond, List, [], ◌∷◌, Option, Some, None, refl, sym, ◌∙◌, ap, subst, ℤ}
-use Rattle.std.specs.Prelude.{◌==◌, ◌&&◌, not, nat_lt}
-use Rattle.std.specs.Ordering.{int_eq}
-use Rattle.std.specs.Cmp.Lexicographic.{pointwise}
-use Rattle.std.proofs.lemmas.Bool.{eqb-true}
-use Rattle.std.proofs.lemmas.Bool.Decides.{Decides-int_eq}
-use Rattle.std.proofs.lemmas.Slice.Eq.{slice_eq-Decides}
-use Rattle.mtapi_values.specs.Conditions.{holds}
-use Rattle.mtapi_values.specs.Masks.{in_mask}
-use Rattle.mtapi_values.specs.declared.kinds.Kind.{Kind}
+use Rattle.history_law.proofs.Names.{◌≡◌, ℕ, Bool, true, false, cond, List, [], ◌∷◌, Option, Some, None, refl, sym, ◌∙◌, ap, subst, ◌==◌, ◌&&◌, not, nat_lt, int_eq, pointwise, eqb-true, Decides-int_eq, slice_eq-Decides, holds, in_mask, Kind, TaskEnd, Cancelled, is_pure, answer_of, Answered, IsAnswered, Listed, live_object, any_listed, issue, change, with_fields, gone, Action, with_enabled, has_enabled_job, is_eligible, Task, TaskState, Scheduled, Running, Ended, runner, runs_as, kind_number, is_unstarted, with_state, with_notes, ended, is_member, freed, let_go, Queue, is_shut_in, Op, Reply, Ok, Picked, Stop, Terms, State, opening, workers, is_stop, Move, Queues, stops, makes_action, enables, withdraws, starts_task, runs_task, ends_task, ends_waiting, notes, leaves, frees_members, lets_members_go, makes, alters, removes, apply, after_moves, Row, gives, row, is_ready, can_take, picks, task_end, NodeEntry, IsNext, IsHonest, row_of, next, LegalFrom, after_from, IsMade, MakesAction, WithdrawsAction, EndsTask, AltersObject, is_pick, ends_many, makes_kind, end_in, some_same, AllGives, moves_given, on_only, on_live, fst_true, snd_true, not_false, by_moves, is_quiet, AreQuiet, HasPure, task_at, IsPlain, QuietTasksEndPlainly, ℤ}
 use Rattle.mtapi_values.specs.declared.kinds.Kind.TheVariants as kind
-use Rattle.mtapi_values.specs.declared.ends.TaskEnd.{TaskEnd}
-use Rattle.mtapi_values.specs.declared.ends.TaskEnd.TheVariants.{Cancelled}
-use Rattle.action_fn.specs.Answers.{is_pure, answer_of, Answered, IsAnswered}
-use Rattle.handle_pool.specs.Issued.{Listed, live_object, any_listed, issue, change, with_fields, gone}
-use Rattle.mtapi_objects.specs.Actions.{Action, with_enabled, has_enabled_job, is_eligible}
-use Rattle.mtapi_objects.specs.Tasks.{Task, TaskState, Scheduled, Running, Ended, runner, runs_as, kind_number, is_unstarted, with_state, with_notes, ended}
-use Rattle.mtapi_objects.specs.Groups.{is_member, freed, let_go}
-use Rattle.mtapi_objects.specs.Queues.{Queue, is_shut_in}
-use Rattle.mtapi_machine.specs.declared.ops.Op.{Op}
 use Rattle.mtapi_machine.specs.declared.ops.Op.TheVariants as op
-use Rattle.mtapi_machine.specs.declared.replies.Reply.{Reply}
-use Rattle.mtapi_machine.specs.declared.replies.Reply.TheVariants.{Ok, Picked, Stop}
-use Rattle.mtapi_machine.specs.declared.terms.Terms.{Terms}
-use Rattle.mtapi_machine.specs.State.{State, opening, workers, is_stop}
-use Rattle.mtapi_machine.specs.Moves.{Move, Groups, Queues, Mutexes, Sems, Rwls, Segments, phase_is, released, stops, makes_action, enables, withdraws, starts_task, runs_task, ends_task, ends_waiting, notes, leaves, frees_members, lets_members_go, makes, alters, removes, apply, after_moves}
-use Rattle.mtapi_machine.specs.Row.{Row, gives}
-use Rattle.mtapi_machine.specs.Rows.{row}
-use Rattle.mtapi_machine.specs.WorkRows.{is_ready, can_take, picks, task_end}
-use Rattle.mtapi_machine.specs.Legal.{NodeEntry, IsNext, IsHonest, row_of, next, LegalFrom, after_from}
-use Rattle.mtapi_machine.specs.Laws.{IsMade, MakesAction, WithdrawsAction, EndsTask, AltersObject, is_pick, ends_many, makes_kind}
-use Rattle.mtapi_machine.specs.Ends.{end_in}
-use Rattle.mtapi_machine.proofs.Changes.{some_same}
-use Rattle.mtapi_machine.proofs.Made.{AllGives, moves_given, on_only, on_live, fst_true, snd_true, not_false}
-use Rattle.mtapi_machine.proofs.Moves.{by_moves}
-use Rattle.history_law.proofs.Answered.{true_false}
+use Rattle.history_law.proofs.Answered.{true_false, whether}
 use Rattle.history_law.proofs.Every.{Every, every_issue, every_change, every_all, every_map, every_at, every_passing, always}
 use Rattle.history_law.proofs.Found.{found_changed, found_issued}
-use Rattle.history_law.specs.Quiet.{is_quiet, AreQuiet, HasPure, task_at, IsPlain, QuietTasksEndPlainly}
 use Rattle.history_law.proofs.KindNumbers.{same_kind}
 
 -- What such a history keeps
@@ -150,24 +117,7 @@ calm_move o q n s (lets_members_go g) e v = record { pure = v.pure; on = v.on; g
 calm_move o q n s (makes Queues h x) e v = true_false (queue_special o e.by) n
 calm_move o q n s (alters Queues h f) e v = record { pure = v.pure; on = every_change IsOn h (with_fields f) s.queues (λ r d p. queue_opened h f o q e.by r.fields) v.on; goes = v.goes }
 calm_move o q n s (removes Queues h) e v = record { pure = v.pure; on = every_change IsOn h gone s.queues (λ r d p. p) v.on; goes = v.goes }
-calm_move o q n s (makes Groups h x) e v = v
-calm_move o q n s (makes Mutexes h x) e v = v
-calm_move o q n s (makes Sems h x) e v = v
-calm_move o q n s (makes Rwls h x) e v = v
-calm_move o q n s (makes Segments h x) e v = v
-calm_move o q n s (alters Groups h f) e v = v
-calm_move o q n s (alters Mutexes h f) e v = v
-calm_move o q n s (alters Sems h f) e v = v
-calm_move o q n s (alters Rwls h f) e v = v
-calm_move o q n s (alters Segments h f) e v = v
-calm_move o q n s (removes Groups h) e v = v
-calm_move o q n s (removes Mutexes h) e v = v
-calm_move o q n s (removes Sems h) e v = v
-calm_move o q n s (removes Rwls h) e v = v
-calm_move o q n s (removes Segments h) e v = v
-calm_move o q n s (phase_is p) e v = v
-calm_move o q n s released e v = v
-calm_move o q n s (stops w) e v = v
+calm_move o q n s _ e v = v
 
 -- The other ops, by their rows
 
@@ -257,11 +207,7 @@ row_calm s who (op.QueueCreate id job priority limit ordered retain) r i v n = �
 row_calm s who _ r i v n = true_false n refl
 
 pub calm_next : (s : State) (e : NodeEntry) → IsNext s e → is_quiet e.op ≡ true → IsCalm s → IsCalm (next s e)
-calm_next s e i q v = by_special (is_special e.op) refl
-  where
-    by_special : (b : Bool) → is_special e.op ≡ b → IsCalm (next s e)
-    by_special true n = moves_given (λ ms. IsCalm (after_moves ms s)) (row_of s e) v (row_calm s e.who e.op e.reply i.honest v n)
-    by_special false n = by_moves IsCalm s e (λ t m a c. calm_move e.op q n t m a c) v
+calm_next s e i q v = whether (is_special e.op) (λ n. moves_given (λ ms. IsCalm (after_moves ms s)) (row_of s e) v (row_calm s e.who e.op e.reply i.honest v n)) (λ n. by_moves IsCalm s e (λ t m a c. calm_move e.op q n t m a c) v)
 
 pub calm_along : (s : State) (L : List NodeEntry) → LegalFrom s L → AreQuiet L → IsCalm s → IsCalm (after_from s L)
 unfolding LegalFrom after_from

@@ -1,13 +1,9 @@
 -- The record of a live object, where no handle is listed twice.
-use Rattle.std.proofs.Common.{◌≡◌, ℕ, ◌+◌, ◌≤◌, Bool, true, false, cond, List, [], ◌∷◌, Some, refl, sym, ◌∙◌, ap, arith}
-use Rattle.std.specs.Prelude.{◌==◌, ◌&&◌, is_some}
-use Rattle.handle_pool.specs.Issued.{Listed, live_of, live_object, listed, change}
-use Rattle.mtapi_machine.proofs.Made.{snd_true}
+use Rattle.history_law.proofs.Names.{◌≡◌, ℕ, ◌+◌, ◌≤◌, Bool, true, cond, List, [], ◌∷◌, Some, sym, ◌∙◌, ap, arith, ◌==◌, ◌&&◌, is_some, Listed, live_of, live_object, listed, change, snd_true, some_same, false_from_ne_true}
+use Rattle.history_law.proofs.Answered.{whether}
 use Rattle.history_law.proofs.Ages.{live_listed}
 use Rattle.history_law.proofs.Found.{at_here, change_here, change_past, at_head, at_past}
 use Rattle.history_law.proofs.Handles.{OnceIn, once_rest}
-use Rattle.mtapi_machine.proofs.Changes.{some_same}
-use Rattle.std.proofs.lemmas.Bool.{false_from_ne_true}
 
 module _ {T A : Type 0} (h : ℕ) (at : List (Listed T) → A) (of : T → A) (next : (r : Listed T) (rs : List (Listed T)) → at (r ∷ rs) ≡ cond (r.handle == h) (of r.fields) (at rs)) where
   -- a record that isn't live isn't the one of a live object
@@ -32,12 +28,8 @@ module _ {T A : Type 0} (h : ℕ) (at : List (Listed T) → A) (of : T → A) (n
   pub read_changed : (f : Listed T → Listed T) (a : A) → ((r : Listed T) → (f r).handle ≡ r.handle) → ((r : Listed T) → of (f r).fields ≡ a) → (l : List (Listed T)) (t : T) → OnceIn l → live_object l h ≡ Some t → at (change h f l) ≡ a
   unfolding live_of
   read_changed f a k g [] t o e = absurd (cc)
-  read_changed f a k g (r ∷ rs) t o e = by_test (r.live && (r.handle == h)) refl (λ d. read_changed f a k g rs t (once_rest r rs o) d)
-    where
-      by_test : (b : Bool) → (r.live && (r.handle == h)) ≡ b → (live_object rs h ≡ Some t → at (change h f rs) ≡ a) → at (change h f (r ∷ rs)) ≡ a
-      by_test true d m =
-          ap at (change_here h f r rs d)
-          ∙ (next (f r) rs ∙ (ap (λ (b : Bool). cond b (of (f r).fields) (at rs)) (ap (λ (n : ℕ). n == h) (k r) ∙ snd_true r.live _ d) ∙ g r))
-      by_test false d m =
-          let behind : live_object rs h ≡ Some t = sym (at_past r rs h d) ∙ e in
-          ap at (change_past h f r rs d) ∙ (next r (change h f rs) ∙ (ap (λ (b : Bool). cond b (of r.fields) (at (change h f rs))) (false_from_ne_true (r.handle == h) (no_dead r rs t o behind)) ∙ m behind))
+  read_changed f a k g (r ∷ rs) t o e = whether (r.live && (r.handle == h))
+      (λ d. ap at (change_here h f r rs d) ∙ (next (f r) rs ∙ (ap (λ (b : Bool). cond b (of (f r).fields) (at rs)) (ap (λ (n : ℕ). n == h) (k r) ∙ snd_true r.live _ d) ∙ g r)))
+      (λ c.
+      let behind : live_object rs h ≡ Some t = sym (at_past r rs h c) ∙ e in
+      ap at (change_past h f r rs c) ∙ (next r (change h f rs) ∙ (ap (λ (b : Bool). cond b (of r.fields) (at (change h f rs))) (false_from_ne_true (r.handle == h) (no_dead r rs t o behind)) ∙ read_changed f a k g rs t (once_rest r rs o) behind)))

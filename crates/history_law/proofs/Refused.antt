@@ -1,40 +1,10 @@
 -- The lists that the laws refuse, by computing.
-use Rattle.std.proofs.Common.{◌≡◌, ℕ, ◌<◌, ◌≤◌, Bool, true, false, cond, ◌⊎◌, inl, inr, ap, List, [], ◌∷◌, ◌++◌, Option, Some, None, refl, sym, ◌∙◌, arith}
-use Rattle.std.specs.Prelude.{pos, IsSome, slice_set}
+use Rattle.history_law.proofs.Names.{◌≡◌, ℕ, ◌<◌, ◌≤◌, Bool, true, false, ◌⊎◌, inl, inr, ap, List, [], ◌∷◌, ◌++◌, Option, Some, None, refl, sym, ◌∙◌, arith, pos, IsSome, slice_set, Two, no_marks, TaskHandle, Op, Task, Segment, Listed, live_of, issue, change, listed, issued_at, retired, is_full, may_issue, has_worker, end_each, Terms, is_ready, can_take, has_better, NodeEntry, LegalFrom, after_from, after, kept, DropsToSame, end_at, usual, main, worker, first_handle, next_handle, task, the_action, add_task, some_entry, is_live, EndsAfterClose, ObeysMasks, HasMutex, MutexesKeepTo, MadeWith, SemsKeepTo, OneWriter, ReadersAlone, RwlsKeepTo, tally_got, h1, two_workers, gets_both, begins, record_of, number_added, sum_of, writes_to, HoldsTheSum, GivenInOrder, EndedBefore, RunsInOrder, TellsItsEnd, Cancelled, Completed, NeverAgain, NotInBoth, second_core, too_early, up_to_the_end, again, one_for_two, on_another_core, given_twice, puts_one, two_put, picks_second, final_first, cancelled_first, completed_then, two_ends, makes_sem, both_hold, both_own, makes_rwl, reads_beside, written_untold, caller_gets, beside_a_tally, LawsRefuse, three_read, one_reads_twice, gives_back_unread, reads_none, gives_anothers, gets_none, gives_unlocked, some_same, cond_both}
 use Rattle.mtapi_values.specs.declared.kinds.Kind.TheVariants as kind
 use Rattle.mtapi_values.specs.declared.handles.ObjectKind.TheVariants as object
-use Rattle.mtapi_values.specs.declared.handles.Layout.TheVariants.{Two}
-use Rattle.mtapi_values.specs.Seats.{no_marks}
-use Rattle.mtapi_values.specs.declared.handles.TaskHandle.{TaskHandle}
-use Rattle.mtapi_machine.specs.declared.ops.Op.{Op}
-use Rattle.mtapi_objects.specs.Tasks.{Task}
-use Rattle.mtapi_objects.specs.Segments.{Segment}
-use Rattle.handle_pool.specs.Issued.{Listed, live_of, issue, change, listed, issued_at, retired, is_full, may_issue}
-use Rattle.mtapi_objects.specs.Actions.{has_worker}
-use Rattle.mtapi_objects.specs.Tasks.{end_each}
-use Rattle.mtapi_machine.specs.declared.terms.Terms.{Terms}
 use Rattle.mtapi_machine.specs.declared.ops.Op.TheVariants as op
 use Rattle.mtapi_machine.specs.declared.replies.Reply.TheVariants as reply
-use Rattle.mtapi_machine.specs.WorkRows.{is_ready, can_take, has_better}
-use Rattle.mtapi_machine.specs.Legal.{NodeEntry, LegalFrom, after_from, after}
-use Rattle.mtapi_machine.specs.Kept.{kept}
-use Rattle.mtapi_machine.specs.Laws.{DropsToSame}
-use Rattle.mtapi_machine.specs.Ends.{end_at}
-use Rattle.mtapi_machine.specs.Worked.{usual, main, worker, first_handle, next_handle, task, the_action, add_task}
-use Rattle.history_law.specs.Words.{some_entry, is_live}
-use Rattle.history_law.specs.Ends.{EndsAfterClose}
-use Rattle.history_law.specs.Affinity.{ObeysMasks}
-use Rattle.history_law.specs.Exclusion.{HasMutex, MutexesKeepTo, MadeWith, SemsKeepTo, OneWriter, ReadersAlone, RwlsKeepTo, tally_got}
-use Rattle.mtapi_machine.specs.Tables.{h1}
-use Rattle.history_law.specs.WorkedSum.{two_workers, gets_both, begins}
-use Rattle.history_law.specs.Tally.{record_of, number_added, sum_of, writes_to, HoldsTheSum}
-use Rattle.history_law.specs.Order.{GivenInOrder, EndedBefore}
-use Rattle.history_law.specs.Ordered.{RunsInOrder}
-use Rattle.history_law.specs.Told.{TellsItsEnd}
-use Rattle.mtapi_values.specs.declared.ends.TaskEnd.TheVariants.{Cancelled, Completed}
-use Rattle.history_law.specs.Reuse.{NeverAgain, NotInBoth}
-use Rattle.history_law.specs.Refused.{second_core, makes_action, too_early, up_to_the_end, leaves, again, one_for_two, on_another_core, given_twice, gives_first, puts_one, two_put, picks_second, final_first, cancelled_first, completed_then, two_ends, makes_sem, both_hold, both_own, makes_rwl, reads_beside, written_untold, caller_gets, beside_a_tally, LawsRefuse, three_read, one_reads_twice, gives_back_unread, reads_none, gives_anothers, gets_none, gives_unlocked}
-use Rattle.mtapi_machine.proofs.Changes.{some_same}
+use Rattle.history_law.specs.Refused.{makes_action, leaves, gives_first}
 
 pub not_some : {A : Type 0} {x : A} → None ≡ Some x → ⊥
 not_some e = cc
@@ -193,11 +163,7 @@ is_lock e = by_op e.op
 some_lock : (A B : List NodeEntry) (w : ℕ) (t : TaskHandle) → some_entry is_lock (A ++ tally_got w t ∷ B) ≡ true
 unfolding is_lock
 some_lock [] B w t = refl
-some_lock (e ∷ A) B w t = by_test (is_lock e) (some_lock A B w t)
-  where
-    by_test : (b : Bool) → some_entry is_lock (A ++ tally_got w t ∷ B) ≡ true → cond b true (some_entry is_lock (A ++ tally_got w t ∷ B)) ≡ true
-    by_test true k = refl
-    by_test false k = k
+some_lock (e ∷ A) B w t = cond_both (is_lock e) true (some_entry is_lock (A ++ tally_got w t ∷ B)) (λ q. q ≡ true) (λ e. refl) (λ e. some_lock A B w t)
 
 no_lock : some_entry is_lock (written_untold ++ final_first) ≡ false
 unfolding written_untold is_lock

@@ -1,28 +1,9 @@
 -- What the laws of a run refuse, by computing.
-use Rattle.std.proofs.Common.{◌≡◌, ℕ, zero, suc, ◌≤◌, false, List, [], ◌∷◌, ◌++◌, Option, Some, None, refl, sym, ◌∙◌, ap, arith, Bool, true, cond, ◌+◌}
-use Rattle.std.specs.Prelude.{◌==◌}
-use Rattle.mtapi_values.specs.declared.statuses.MtapiStatus.TheVariants.{Timeout, ErrTaskInvalid}
-use Rattle.mtapi_values.specs.declared.ends.TaskEnd.TheVariants.{Failed, Cancelled}
-use Rattle.mtapi_values.specs.Seats.{is_seat}
+use Rattle.history_law.proofs.Names.{◌≡◌, ℕ, zero, suc, ◌≤◌, List, [], ◌∷◌, ◌++◌, Option, Some, None, refl, sym, ◌∙◌, ap, arith, true, ◌+◌, ◌==◌, Timeout, ErrTaskInvalid, Failed, Cancelled, is_seat, live_of, live_object, count_listed, issue, change, listed, issued_at, retired, is_full, may_issue, has_worker, Task, runs_on, is_ready, can_take, has_better, opening, seats, NodeEntry, after_from, after, end_at, usual, main, first_handle, add_task, task, TasksEndOnce, OnceListed, Waits, KeepsWaiter, Holds, WorkerKeeps, EndsInTime, KeepsPhase, KeepsRelease, KeepsEarly, AreUntouched, KeepsStops, BySeats, EntersBehindRelease, FinalsBehindStops, KeepsOnce, HasMarks, too_early, final_first, started, waits, looks_last, takes, ends, ends_late, opens, releases, closes_it, enters_first, by_no_seat, with_tasks, a_task, listed_once, has_looked, has_stopped, RunLawsRefuse, has_no_marks, was_cancelled, adding, finishes_it, has_got_both, h1, EndsPlainly, task_at, Serves, TalliesHold, got_both, cond_both}
 use Rattle.mtapi_machine.specs.declared.ops.Op.TheVariants as op
 use Rattle.mtapi_machine.specs.declared.replies.Reply.TheVariants as reply
-use Rattle.handle_pool.specs.Issued.{live_of, live_object, count_listed, issue, change, listed, issued_at, retired, is_full, may_issue}
-use Rattle.mtapi_objects.specs.Actions.{has_worker}
-use Rattle.mtapi_objects.specs.Tasks.{Task, runs_on}
-use Rattle.mtapi_machine.specs.WorkRows.{is_ready, can_take, has_better}
-use Rattle.mtapi_machine.specs.State.{opening, seats}
-use Rattle.mtapi_machine.specs.Legal.{NodeEntry, after_from, after}
-use Rattle.mtapi_machine.specs.Ends.{end_at}
-use Rattle.mtapi_machine.specs.Worked.{usual, main, first_handle, add_task, task}
-use Rattle.history_law.specs.Accepted.{TasksEndOnce}
-use Rattle.history_law.specs.Seats.{OnceListed, Waits, KeepsWaiter, Holds, WorkerKeeps, EndsInTime, KeepsPhase, KeepsRelease, KeepsEarly, AreUntouched, KeepsStops, BySeats, EntersBehindRelease, FinalsBehindStops, KeepsOnce, HasMarks}
-use Rattle.history_law.specs.Refused.{makes_action, too_early, final_first}
-use Rattle.history_law.specs.RefusedRuns.{started, waits, looks_last, takes, ends, ends_late, opens, releases, closes_it, enters_first, by_no_seat, with_tasks, a_task, listed_once, has_looked, has_stopped, RunLawsRefuse, has_no_marks, was_cancelled, adding, finishes_it, has_got_both}
+use Rattle.history_law.specs.Refused.{makes_action}
 use Rattle.history_law.proofs.Refused.{not_some, no_end, true_false}
-use Rattle.mtapi_machine.specs.Tables.{h1}
-use Rattle.history_law.specs.Quiet.{EndsPlainly, task_at}
-use Rattle.history_law.specs.Served.{Serves}
-use Rattle.history_law.specs.TallyHolds.{TalliesHold, got_both}
 
 refuses_accepted : TasksEndOnce usual too_early → ⊥
 unfolding too_early
@@ -107,11 +88,7 @@ refuses_stops f = true_false (sym (f [] [] 1 0 refl (omega arith)))
 
 refuses_second : KeepsOnce (with_tasks (listed_once a_task ∷ [])) (with_tasks (listed_once a_task ∷ listed_once a_task ∷ [])) → ⊥
 unfolding listed
-refuses_second f = refuses_twice (f (λ h. one (first_handle == h)))
-  where
-    one : (b : Bool) → cond {A = ℕ} b 1 0 + 0 ≤ 1
-    one true = omega arith
-    one false = omega arith
+refuses_second f = refuses_twice (f (λ h. (cond_both (first_handle == h) 1 0 (λ q. q + 0 ≤ 1) (λ e. omega arith) (λ e. omega arith))))
 
 refuses_reply : Serves (after usual (started ++ takes)) 0 (task first_handle) adding finishes_it (reply.Mtapi ErrTaskInvalid) → ⊥
 refuses_reply f = differ (f running (refl, refl, refl))

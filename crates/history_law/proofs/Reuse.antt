@@ -1,33 +1,12 @@
 -- No handle is used again, and in layout two none names objects of two kinds.
-use Rattle.std.proofs.Common.{◌≡◌, ℕ, ◌+◌, ◌≤◌, Bool, true, false, cond, List, [], ◌∷◌, ◌++◌, refl, sym, ◌∙◌, ap, subst, arith}
-use Rattle.std.specs.Prelude.{◌==◌}
-use Rattle.std.proofs.lemmas.Bool.{eqb-true, eq-eqb, false_from_ne_true, true_from_ne_false}
-use Rattle.mtapi_values.specs.declared.handles.ObjectKind.{ObjectKind}
+use Rattle.history_law.proofs.Names.{◌≡◌, ℕ, ◌+◌, ◌≤◌, Bool, true, false, cond, List, [], ◌∷◌, ◌++◌, refl, sym, ◌∙◌, ap, subst, arith, ◌==◌, eqb-true, eq-eqb, false_from_ne_true, true_from_ne_false, ObjectKind, Layout, Two, object_number, named_kind, names_kind, Terms, Op, Reply, Handle, Mtapi, Listed, live_object, listed, may_issue, issue, Objects, FieldsOf, objects_of, State, opening, Move, is_fresh, apply, Row, gives, Allows, only, live, after_row, row, NodeEntry, IsNext, next, LegalFrom, Legal, after_from, after, IsMade, Legal-front, Legal-rest, after-append, AllGives, on_only, on_live, fst_true, snd_true, own_kind, at_opening, along, by_moves, rest_keeps, some_entry, times, is_live, is_handle, issues, NeverAgain, NotInBoth, released}
 use Rattle.mtapi_values.specs.declared.handles.ObjectKind.TheVariants as kind
-use Rattle.mtapi_values.specs.declared.handles.Layout.{Layout}
-use Rattle.mtapi_values.specs.declared.handles.Layout.TheVariants.{Two}
 use Rattle.mtapi_values.specs.declared.statuses.MtapiStatus.TheVariants as m
-use Rattle.mtapi_values.specs.Layouts.{object_number, named_kind, names_kind}
-use Rattle.mtapi_machine.specs.declared.terms.Terms.{Terms}
-use Rattle.mtapi_machine.specs.declared.ops.Op.{Op}
 use Rattle.mtapi_machine.specs.declared.ops.Op.TheVariants as op
-use Rattle.mtapi_machine.specs.declared.replies.Reply.{Reply}
-use Rattle.mtapi_machine.specs.declared.replies.Reply.TheVariants.{Handle, Mtapi}
-use Rattle.handle_pool.specs.Issued.{Listed, live_object, listed, may_issue, issue}
-use Rattle.mtapi_machine.specs.State.{Objects, State, opening}
-use Rattle.mtapi_machine.specs.Moves.{Move, is_fresh, makes, alters, removes, apply}
-use Rattle.mtapi_machine.specs.Row.{Row, gives, Allows, only, live, after_row}
-use Rattle.mtapi_machine.specs.Rows.{row}
-use Rattle.mtapi_machine.specs.Legal.{NodeEntry, IsNext, next, LegalFrom, Legal, after_from, after}
-use Rattle.mtapi_machine.specs.Laws.{IsMade}
-use Rattle.mtapi_machine.proofs.Lists.{Legal-front, Legal-rest, after-append}
-use Rattle.mtapi_machine.proofs.Made.{AllGives, on_only, on_live, fst_true, snd_true}
-use Rattle.mtapi_machine.proofs.Moves.{along, by_moves, sorts_keep}
-use Rattle.history_law.specs.Words.{FieldsOf, objects_of, some_entry, times, is_live, makes as makes_kind, is_handle, issues}
-use Rattle.history_law.specs.Reuse.{NeverAgain, NotInBoth}
+use Rattle.history_law.specs.Words.{makes as makes_kind}
 use Rattle.history_law.proofs.Accepted.{granted, refuses_only, refuses_live, no_handle}
 use Rattle.history_law.proofs.Ages.{SameFields, kind_move, listed_ages, Dead, dead_ages, dead_issue, dead_none, none_dead, live_listed}
-use Rattle.history_law.proofs.Answered.{true_false, none_first}
+use Rattle.history_law.proofs.Answered.{true_false, none_first, on_test}
 
 -- A fresh handle is listed nowhere
 
@@ -131,14 +110,7 @@ not_issued k s e h n l = false_from_ne_true (issues k h e) (λ i. let none : tim
 
 pub none_times : (k : ObjectKind) (h : ℕ) (terms : Terms) → times k h (opening terms) ≡ 0
 unfolding listed
-none_times kind.Action h terms = refl
-none_times kind.Task h terms = refl
-none_times kind.Group h terms = refl
-none_times kind.Queue h terms = refl
-none_times kind.Mutex h terms = refl
-none_times kind.Sem h terms = refl
-none_times kind.Rwl h terms = refl
-none_times kind.Shmem h terms = refl
+none_times k h terms = at_opening (λ T l. listed h l ≡ 0) (λ T. refl) terms k
 
 -- an entry whose op makes no object of the kind lists none
 pub listed_same : (k : ObjectKind) (h : ℕ) (s : State) (e : NodeEntry) → makes_kind k e.op ≡ false → times k h (next s e) ≡ times k h s
@@ -188,10 +160,8 @@ record Named (T : Terms) (k : ObjectKind) (h : ℕ) (s : State) : Type 0 where
   named : 1 ≤ times k h s → names_kind T.layout (objects_of k).kind h ≡ true
 
 terms_move : (T : Terms) (s : State) (m : Move) → s.terms ≡ T → (apply m s).terms ≡ T
-terms_move T s (makes z j x) v = sorts_keep (λ t. t.terms ≡ T) (λ t g q m c r y p. p) z _ s v
-terms_move T s (alters z j f) v = sorts_keep (λ t. t.terms ≡ T) (λ t g q m c r y p. p) z _ s v
-terms_move T s (removes z j) v = sorts_keep (λ t. t.terms ≡ T) (λ t g q m c r y p. p) z _ s v
-terms_move T s _ v = v
+terms_move T s released v = v
+terms_move T s x v = rest_keeps (λ t. t.terms ≡ T) (λ t g q m c r y p. p) x s v
 
 pub listed_new : {T : Type 0} (h j : ℕ) (x : T) (l : List (Listed T)) → (j == h) ≡ false → listed h (issue j x l) ≡ listed h l
 unfolding listed issue
@@ -210,16 +180,6 @@ named_move T k h s o m e v = record {
         let n : names_kind s.terms.layout (objects_of k).kind j ≡ true = fst_true _ (may_issue s.terms.settings.generations j ((objects_of k).list s)) i in
         subst (λ (t : Terms). names_kind t.layout (objects_of k).kind h ≡ true) v.terms (subst (λ (y : ℕ). names_kind s.terms.layout (objects_of k).kind y ≡ true) (eqb-true j h c) n)
     by_new j x i w false c u = w (subst (λ (n : ℕ). 1 ≤ n) (listed_new h j x _ c) u)
-
-own_kind : (k : ObjectKind) → (objects_of k).kind ≡ k
-own_kind kind.Action = refl
-own_kind kind.Task = refl
-own_kind kind.Group = refl
-own_kind kind.Queue = refl
-own_kind kind.Mutex = refl
-own_kind kind.Sem = refl
-own_kind kind.Rwl = refl
-own_kind kind.Shmem = refl
 
 named_after : (terms : Terms) (es : List NodeEntry) (k : ObjectKind) (h : ℕ) → terms.layout ≡ Two → 1 ≤ times k h (after terms es) → named_kind h ≡ object_number k
 named_after terms es k h two l =
@@ -241,11 +201,9 @@ terms_next T s e v = by_moves (λ t. t.terms ≡ T) s e (λ t m y w. terms_move 
 issued_names : (T : Terms) (k : ObjectKind) (h : ℕ) (s : State) (L : List NodeEntry) → s.terms ≡ T → T.layout ≡ Two → LegalFrom s L → some_entry (issues k h) L ≡ true → named_kind h ≡ object_number k
 unfolding LegalFrom
 issued_names T k h s [] same two l i = absurd (cc)
-issued_names T k h s (e ∷ es) same two l i = by_test (issues k h e) refl i (λ j. issued_names T k h (next s e) es (terms_next T s e same) two l.1 j)
-  where
-    by_test : (b : Bool) → issues k h e ≡ b → cond b true (some_entry (issues k h) es) ≡ true → (some_entry (issues k h) es ≡ true → named_kind h ≡ object_number k) → named_kind h ≡ object_number k
-    by_test true j c g = names_two T k h s same two (issues_fresh k s e h l.0 j)
-    by_test false j c g = g c
+issued_names T k h s (e ∷ es) same two l i = on_test (λ b. cond b true (some_entry (issues k h) es) ≡ true → named_kind h ≡ object_number k) (issues k h e)
+    (λ j c. names_two T k h s same two (issues_fresh k s e h l.0 j))
+    (λ d c. issued_names T k h (next s e) es (terms_next T s e same) two l.1 c) i
 
 pub not_in_both : (terms : Terms) (es : List NodeEntry) (a b : ObjectKind) (h : ℕ) → Legal terms es → NotInBoth terms.layout terms es a b h
 not_in_both terms es a b h legal two apart = record {

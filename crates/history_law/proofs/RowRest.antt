@@ -1,10 +1,5 @@
 -- What is left of a row once conditions before its effect weren't met.
-use Rattle.std.proofs.Common.{◌≡◌, ℕ, ◌<◌, Bool, true, false, not, refl, ◌∙◌, ap}
-use Rattle.std.specs.Prelude.{nat_lt}
-use Rattle.std.proofs.lemmas.Bool.{lt-ltb}
-use Rattle.mtapi_machine.specs.declared.replies.Reply.{Reply}
-use Rattle.mtapi_machine.specs.State.{State}
-use Rattle.mtapi_machine.specs.Row.{Row, unless, Allows, after_row}
+use Rattle.history_law.proofs.Names.{◌≡◌, ℕ, ◌<◌, Bool, true, false, refl, ◌∙◌, ap, nat_lt, lt-ltb, Reply, State, Row, unless, Allows, after_row, not}
 
 -- the reply is allowed by what is left of the row, which leads to the same state
 pub record Goes (s : State) (w : Row) (r : Reply) (v : Row) : Type 0 where

@@ -1,33 +1,14 @@
 -- What each entry does to a reader-writer lock, and so every list of entries.
-use Rattle.std.proofs.Common.{◌≡◌, ℕ, ◌+◌, ◌<◌, ◌≤◌, Bool, true, false, List, Option, Some, None, ◌⊎◌, inl, inr, refl, sym, ◌∙◌, ap, subst, arith}
-use Rattle.std.specs.Prelude.{◌&&◌, is_some, ◌==◌}
-use Rattle.mtapi_values.specs.Seats.{is_seat, marked}
+use Rattle.history_law.proofs.Names.{◌≡◌, ℕ, ◌+◌, ◌<◌, ◌≤◌, Bool, true, false, List, Option, Some, None, ◌⊎◌, inl, inr, refl, sym, ◌∙◌, ap, subst, arith, ◌&&◌, is_some, ◌==◌, is_seat, marked, Terms, Op, Reply, Handle, live_object, listed, Rwl, new_rwl, rwl_create_refusals, rwl_delete_refusals, rwl_look_refusals, rwl_unlock_refusals, rwl_busy, rwl_taken, rwl_given, State, Rwls, Allows, after_row, row, keyed_rwls, NodeEntry, Legal, not_false, some_same, entries_that, is_handle, says_ok, by_seat, looks_at_rwl, unlocks_rwl, gets_rwl, gives_rwl, OneWriter, ReadersAlone, RwlsKeepTo, limit_of, Legal-prefix}
 use Rattle.mtapi_values.specs.declared.handles.ObjectKind.TheVariants as kind
-use Rattle.mtapi_machine.specs.declared.terms.Terms.{Terms}
-use Rattle.mtapi_machine.specs.declared.ops.Op.{Op}
 use Rattle.mtapi_machine.specs.declared.ops.Op.TheVariants as op
-use Rattle.mtapi_machine.specs.declared.replies.Reply.{Reply}
-use Rattle.mtapi_machine.specs.declared.replies.Reply.TheVariants.{Handle}
-use Rattle.handle_pool.specs.Issued.{live_object, listed}
-use Rattle.mtapi_objects.specs.Rwls.{Rwl, new_rwl, rwl_create_refusals, rwl_delete_refusals, rwl_look_refusals, rwl_unlock_refusals, rwl_busy, rwl_taken, rwl_given}
-use Rattle.mtapi_machine.specs.State.{State}
-use Rattle.mtapi_machine.specs.Moves.{Rwls}
-use Rattle.mtapi_machine.specs.Row.{Allows, after_row}
-use Rattle.mtapi_machine.specs.Rows.{row}
-use Rattle.mtapi_machine.specs.KeyedRows.{keyed_rwls}
-use Rattle.mtapi_machine.specs.Legal.{NodeEntry, Legal}
-use Rattle.mtapi_machine.proofs.Made.{not_false}
-use Rattle.mtapi_machine.proofs.Changes.{some_same}
-use Rattle.history_law.specs.Words.{entries_that, makes as makes_object, is_handle}
-use Rattle.history_law.specs.Seats.{says_ok}
-use Rattle.history_law.specs.Exclusion.{by_seat, looks_at_rwl, unlocks_rwl, gets_rwl, gives_rwl, OneWriter, ReadersAlone, RwlsKeepTo, limit_of}
-use Rattle.history_law.proofs.Answered.{true_false}
+use Rattle.history_law.specs.Words.{makes as makes_object}
+use Rattle.history_law.proofs.Answered.{true_false, whether}
 use Rattle.history_law.proofs.Counts.{one_if}
 use Rattle.history_law.proofs.Handles.{OnceIn}
 use Rattle.history_law.proofs.Locks.{LockStep, FitIn, count_in, has_in, step_same, on_look, on_unlock, on_delete, on_create, New, Counts, Kind, create_lists, look_misses, unlock_misses, none_got, counts_with, counts_any, missed_in}
 use Rattle.history_law.proofs.Rwls.{Fit, rwl_lock, in_mode, get_step, give_step, leave_step, new_fit, new_free}
 use Rattle.history_law.proofs.Unmoved.{live_stays}
-use Rattle.mtapi_machine.proofs.Lists.{Legal-prefix}
 use Rattle.history_law.proofs.Reuse.{listed_same}
 
 -- The ops on reader-writer locks
@@ -86,17 +67,15 @@ at_most_one top false w (Some x) = one_most (marked w x.readers)
 -- one writer or readers alone, by what the lock has at the end
 by_lock : (top h : ℕ) (B : List NodeEntry) (o : Option Rwl) → FitIn (rwl_lock top) o → ((m : Bool) → entries_that (gives_rwl h m) B + count_in (rwl_lock top) m o ≡ entries_that (gets_rwl h m) B) → OneWriter B h ⊎ ReadersAlone B h top
 by_lock top h B None f k = inr (record { writer = let e = k true in omega arith; readers = let e = k false in omega arith })
-by_lock top h B (Some x) f k = by_writer (is_some x.writer) refl
-  where
-    by_writer : (b : Bool) → is_some x.writer ≡ b → OneWriter B h ⊎ ReadersAlone B h top
-    by_writer true i =
-        let n : one_if (is_some x.writer) ≡ 1 = ap one_if i in
-        let z : count_in (rwl_lock top) false (Some x) ≡ 0 = f.alone i in
-        inl (record { writer = let e : entries_that (gives_rwl h true) B + one_if (is_some x.writer) ≡ entries_that (gets_rwl h true) B = k true in omega arith; readers = let e = k false in omega arith })
-    by_writer false i =
-        let n : one_if (is_some x.writer) ≡ 0 = ap one_if i in
-        let z : count_in (rwl_lock top) false (Some x) ≤ top = f.most in
-        inr (record { writer = let e : entries_that (gives_rwl h true) B + one_if (is_some x.writer) ≡ entries_that (gets_rwl h true) B = k true in omega arith; readers = let e = k false in omega arith })
+by_lock top h B (Some x) f k = whether (is_some x.writer)
+    (λ i.
+    let n : one_if (is_some x.writer) ≡ 1 = ap one_if i in
+    let z : count_in (rwl_lock top) false (Some x) ≡ 0 = f.alone i in
+    inl (record { writer = let e : entries_that (gives_rwl h true) B + one_if (is_some x.writer) ≡ entries_that (gets_rwl h true) B = k true in omega arith; readers = let e = k false in omega arith }))
+    (λ i.
+    let n : one_if (is_some x.writer) ≡ 0 = ap one_if i in
+    let z : count_in (rwl_lock top) false (Some x) ≤ top = f.most in
+    inr (record { writer = let e : entries_that (gives_rwl h true) B + one_if (is_some x.writer) ≡ entries_that (gets_rwl h true) B = k true in omega arith; readers = let e = k false in omega arith }))
 
 pub rwls_keep_to : (terms : Terms) (es : List NodeEntry) → Legal terms es → RwlsKeepTo es
 rwls_keep_to terms es legal L R h cut = record {

@@ -1,15 +1,8 @@
 -- A reader-writer lock has one writer or readers alone.
-use Rattle.std.proofs.Common.{◌≡◌, ℕ, zero, suc, ◌+◌, ◌<◌, ◌≤◌, Bool, true, false, cond, List, [], ◌∷◌, Option, Some, None, refl, sym, ◌∙◌, ap, subst, arith}
-use Rattle.std.specs.Prelude.{◌==◌, ◌&&◌, ◌||◌, not, is_some, length, replicate, slice_index_or, slice_set}
-use Rattle.std.proofs.lemmas.Bool.{eqb-true}
-use Rattle.std.proofs.lemmas.Bool.Decides.{nat_tests}
-use Rattle.mtapi_values.specs.Seats.{is_seat, marked, any_mark}
-use Rattle.handle_pool.specs.Issued.{how_many}
-use Rattle.mtapi_objects.specs.Rwls.{Rwl, new_rwl, rwl_held, rwl_busy, rwl_taken, rwl_given}
+use Rattle.history_law.proofs.Names.{◌≡◌, ℕ, zero, suc, ◌+◌, ◌<◌, ◌≤◌, Bool, true, false, cond, List, [], ◌∷◌, Option, Some, None, refl, sym, ◌∙◌, ap, subst, arith, ◌==◌, ◌&&◌, ◌||◌, not, is_some, length, replicate, slice_index_or, slice_set, eqb-true, nat_tests, is_seat, marked, any_mark, how_many, Rwl, new_rwl, rwl_held, rwl_busy, rwl_taken, rwl_given, length-set, get_or-set_same}
 use Rattle.history_law.proofs.Answered.{true_false, first_false, second_false}
 use Rattle.history_law.proofs.Counts.{one_if}
 use Rattle.history_law.proofs.Locks.{Lock, LockStep}
-use Rattle.std.proofs.lemmas.List.{length-set, get_or-set_same}
 use Rattle.history_law.proofs.Slots.{set_apart}
 
 -- Marks of seats

@@ -1,15 +1,6 @@
 -- What holds of each reply with the moves that come with it, for a row and for the families of rows.
-use Rattle.std.proofs.Common.{◌≡◌, ℕ, Bool, true, false, cond, List, [], ◌∷◌, Option, Some, None, refl, sym, subst}
-use Rattle.std.specs.Prelude.{nat_lt}
-use Rattle.mtapi_values.specs.declared.statuses.MrapiStatus.{MrapiStatus}
+use Rattle.history_law.proofs.Names.{◌≡◌, ℕ, Bool, true, false, cond, List, [], ◌∷◌, Option, Some, None, refl, sym, subst, nat_lt, MrapiStatus, live_object, Reply, Ok, Pending, Mrapi, State, workers, Move, Sort, Fields, all_of, alters, removes, Row, unless, gives, never, Allows, only, live, moves_of, mrapi, mrapi_open, mrapi_unless, alters_one, looks_one, deletes, cond_both}
 use Rattle.mtapi_values.specs.declared.statuses.MrapiStatus.TheVariants as c
-use Rattle.handle_pool.specs.Issued.{live_object}
-use Rattle.mtapi_machine.specs.declared.replies.Reply.{Reply}
-use Rattle.mtapi_machine.specs.declared.replies.Reply.TheVariants.{Ok, Pending, Mrapi}
-use Rattle.mtapi_machine.specs.State.{State, workers}
-use Rattle.mtapi_machine.specs.Moves.{Move, Sort, Fields, all_of, alters, removes}
-use Rattle.mtapi_machine.specs.Row.{Row, unless, gives, never, Allows, only, live, moves_of}
-use Rattle.mtapi_machine.specs.KeyedRows.{mrapi, mrapi_open, mrapi_unless, alters_one, looks_one, deletes}
 
 -- Q of each refusal with no move, and of what the row gives where the conditions before it aren't met
 abbrev pub Says : (Reply → List Move → Type 0) → Row → Type 0
@@ -51,12 +42,15 @@ module _ (Q : Reply → List Move → Type 0) where
       pub says_look : (h : ℕ) (last : Bool) (causes : Fields k → List (Bool × MrapiStatus)) (busy : Fields k → Bool) (reply : Fields k → Reply) (f : Fields k → Fields k) → Q (all_of k).invalid [] → Q Pending []
           → ((x : Fields k) → nat_lt who (workers s) ≡ false → live_object ((all_of k).list s) h ≡ Some x → Unmet (causes x) → busy x ≡ false → Q (reply x) (alters k h f ∷ []))
           → Says Q (mrapi s who (looks_one k s h last causes busy reply f))
-      says_look h last causes busy reply f i p g =
-          (no c.ErrNodeNotinit, λ a. (no c.ErrParameter, λ b. says_live (live_object ((all_of k).list s) h) _ _ i (λ x e. says_unless (causes x) _ (λ u. says_cond (busy x) _ _ (late last) (g x b e u)))))
-        where
-          late : (last : Bool) → Q (cond last (Mrapi c.Timeout) Pending) []
-          late true = no c.Timeout
-          late false = p
+      says_look h last causes busy reply f i p g = (
+        no c.ErrNodeNotinit,
+        λ a. (
+          no c.ErrParameter,
+          λ b. says_live (live_object ((all_of k).list s) h) _ _ i (λ x e. says_unless (causes x) _ (λ u. says_cond (busy x) _ _ (cond_both last (Mrapi c.Timeout) Pending (λ q. Q q [])
+              (λ e. no c.Timeout)
+              (λ e. p)) (g x b e u))),
+        ),
+      )
 
       pub says_alter : (h : ℕ) (causes : Fields k → List (Bool × MrapiStatus)) (reply : Fields k → Reply) (f : Fields k → Fields k) → Q (all_of k).invalid []
           → ((x : Fields k) → nat_lt who (workers s) ≡ false → live_object ((all_of k).list s) h ≡ Some x → Unmet (causes x) → Q (reply x) (alters k h f ∷ [])) → Says Q (mrapi s who (alters_one k s h causes reply f))

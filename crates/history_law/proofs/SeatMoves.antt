@@ -1,46 +1,10 @@
 -- What the seat and the op of an entry had to know, for each move that they make. A law on what seats leave to one another is shown for each move once.
-use Rattle.std.proofs.Common.{◌≡◌, ℕ, ◌+◌, Bool, true, false, cond, List, [], ◌∷◌, Option, Some, None, ◌⊎◌, inl, inr, refl, ◌∙◌, ap}
-use Rattle.std.specs.Prelude.{◌==◌, ◌&&◌, not, nat_lt, is_none, is_some, length, ℤ, pos}
-use Rattle.std.proofs.lemmas.Bool.{eqb-true, eq-eqb}
-use Rattle.mtapi_values.specs.declared.kinds.Kind.{Kind}
+use Rattle.history_law.proofs.Names.{◌≡◌, ℕ, ◌+◌, Bool, true, false, cond, List, [], ◌∷◌, Option, Some, None, ◌⊎◌, inl, inr, refl, ◌∙◌, ap, ◌==◌, ◌&&◌, not, nat_lt, is_none, is_some, length, ℤ, pos, eqb-true, eq-eqb, Kind, MtapiStatus, MrapiStatus, Cancelled, Completed, Failed, GroupHandle, is_other, is_pure, answer_of, number_end, Answered, IsAnswered, Reply, Ok, Number, Picked, Idle, Stop, Mrapi, Op, live_object, any_listed, live_of, holds, new_action, Task, Notes, TallyNotes, TaskState, Scheduled, Running, Ended, scheduled, end_of, runner, runs_as, runs_on, kind_number, is_unstarted, is_unended, with_notes, with_waiter, asked_once, watch_end, looks_of, Adds, tally_args, cell_in, added, with_tally, tally_failed, tally_has, tally_read, tally_written, new_group, Ending, endings, is_unended_member, in_no_group, opened, is_in, Mutex, mutex_delete_refusals, mutex_look_refusals, mutex_busy, locked_by, mutex_unlock_refusals, unlocked, sem_delete_refusals, sem_busy, sem_taken, sem_unlock_refusals, sem_given, rwl_delete_refusals, rwl_look_refusals, rwl_busy, rwl_taken, rwl_unlock_refusals, rwl_given, Segment, shmem_delete_refusals, attach_refusals, detach_refusals, with_attached, cell_refusals, cell_of, with_cell, State, is_stop, Move, Sort, Groups, Queues, Mutexes, Sems, Rwls, Segments, Fields, all_of, phase_is, released, stops, makes_action, withdraws, starts_task, runs_task, ends_task, ends_waiting, notes, leaves, makes, alters, apply, after_moves, Row, gives, live, handle_of, moves_of, not_yet, mtapi_unless, row, asked_for, asked_of, looks_at, cancels, gives_end, gives_first, Keyed, keyed_queues, keyed_mutexes, keyed_sems, keyed_rwls, keyed_segments, mrapi_unless, found, creates_keyed, gets, alters_one, looks_one, deletes, is_ready, can_take, picks, task_end, gives_up, takes_both, locks, NodeEntry, IsNext, IsHonest, row_of, next, IsMade, AreMade, AllGives, moves_given, on_only, on_live, fst_true, snd_true, not_false, row_made, at-update, moves_phase, is_release, is_late_end, is_tally_end, cond_both, and-false}
 use Rattle.mtapi_values.specs.declared.kinds.Kind.TheVariants as kind
-use Rattle.mtapi_values.specs.declared.statuses.MtapiStatus.{MtapiStatus}
 use Rattle.mtapi_values.specs.declared.statuses.MtapiStatus.TheVariants as m
-use Rattle.mtapi_values.specs.declared.statuses.MrapiStatus.{MrapiStatus}
 use Rattle.mtapi_values.specs.declared.statuses.MrapiStatus.TheVariants as c
-use Rattle.mtapi_values.specs.declared.ends.TaskEnd.TheVariants.{Cancelled, Completed, Failed}
-use Rattle.mtapi_values.specs.declared.handles.GroupHandle.{GroupHandle}
-use Rattle.mtapi_values.specs.Seats.{is_other}
-use Rattle.action_fn.specs.Answers.{is_pure, answer_of, number_end, Answered, IsAnswered}
-use Rattle.mtapi_machine.specs.declared.replies.Reply.{Reply}
-use Rattle.mtapi_machine.specs.declared.replies.Reply.TheVariants.{Ok, Number, Picked, Idle, Stop, Mrapi}
-use Rattle.mtapi_machine.specs.declared.ops.Op.{Op}
 use Rattle.mtapi_machine.specs.declared.ops.Op.TheVariants as op
-use Rattle.handle_pool.specs.Issued.{live_object, any_listed, live_of, first_handle}
-use Rattle.mtapi_values.specs.Conditions.{holds}
-use Rattle.mtapi_objects.specs.Actions.{new_action}
-use Rattle.mtapi_objects.specs.Tasks.{Task, Notes, TallyNotes, TaskState, Scheduled, Running, Ended, scheduled, end_of, runner, runs_as, runs_on, kind_number, is_unstarted, is_unended, with_notes, with_waiter, asked_once, watch_end, looks_of, Adds, tally_args, cell_in, added, with_tally, tally_failed, tally_has, tally_read, tally_written}
-use Rattle.mtapi_objects.specs.Groups.{new_group, Ending, endings, is_unended_member, in_no_group}
-use Rattle.mtapi_objects.specs.Queues.{opened, is_in}
-use Rattle.mtapi_objects.specs.Mutexes.{Mutex, mutex_delete_refusals, mutex_look_refusals, mutex_busy, locked_by, mutex_unlock_refusals, unlocked}
-use Rattle.mtapi_objects.specs.Sems.{sem_delete_refusals, sem_busy, sem_taken, sem_unlock_refusals, sem_given}
-use Rattle.mtapi_objects.specs.Rwls.{rwl_delete_refusals, rwl_look_refusals, rwl_busy, rwl_taken, rwl_unlock_refusals, rwl_given}
-use Rattle.mtapi_objects.specs.Segments.{Segment, shmem_delete_refusals, attach_refusals, detach_refusals, with_attached, cell_refusals, cell_of, with_cell}
-use Rattle.mtapi_machine.specs.State.{State, is_stop}
-use Rattle.mtapi_machine.specs.Moves.{Move, Sort, Groups, Queues, Mutexes, Sems, Rwls, Segments, Fields, all_of, phase_is, released, stops, makes_action, withdraws, starts_task, runs_task, ends_task, ends_waiting, notes, leaves, makes, alters, apply, after_moves}
-use Rattle.mtapi_machine.specs.Row.{Row, gives, live, handle_of, moves_of, not_yet, mtapi_unless}
-use Rattle.mtapi_machine.specs.Rows.{row}
-use Rattle.mtapi_machine.specs.TaskRows.{asked_for, asked_of, looks_at, cancels}
-use Rattle.mtapi_machine.specs.GroupRows.{gives_end, gives_first}
-use Rattle.mtapi_machine.specs.KeyedRows.{Keyed, keyed_queues, keyed_mutexes, keyed_sems, keyed_rwls, keyed_segments, mrapi_unless, found, creates_keyed, gets, alters_one, looks_one, deletes}
-use Rattle.mtapi_machine.specs.WorkRows.{is_ready, can_take, picks, task_end}
-use Rattle.mtapi_machine.specs.TallyRows.{gives_up, takes_both, locks}
-use Rattle.mtapi_machine.specs.Legal.{NodeEntry, IsNext, IsHonest, row_of, next}
-use Rattle.mtapi_machine.specs.Laws.{IsMade, AreMade}
-use Rattle.mtapi_machine.proofs.Made.{AllGives, moves_given, on_only, on_live, fst_true, snd_true, not_false, row_made}
-use Rattle.mtapi_machine.proofs.Changes.{at-update}
-use Rattle.history_law.specs.Seats.{moves_phase, is_release, is_late_end}
-use Rattle.history_law.specs.Exclusion.{is_tally_end}
+use Rattle.handle_pool.specs.Issued.{first_handle}
 use Rattle.history_law.proofs.Answered.{first_false}
 
 abbrev pub is_tally_lock : Op → Bool
@@ -234,22 +198,10 @@ unfolding answer_of
 answer_late kind.Add args = number_late _
 answer_late kind.Mul args = number_late _
 answer_late kind.Max [] = refl
-answer_late kind.Max (x ∷ xs) = refl
-answer_late kind.Div [] = refl
-answer_late kind.Div (x ∷ []) = refl
 answer_late kind.Div (x ∷ y ∷ []) = number_late _
-answer_late kind.Div (x ∷ y ∷ z ∷ zs) = refl
-answer_late kind.Gcd [] = refl
-answer_late kind.Gcd (x ∷ []) = refl
 answer_late kind.Gcd (x ∷ y ∷ []) = number_late _
-answer_late kind.Gcd (x ∷ y ∷ z ∷ zs) = refl
-answer_late kind.Echo args = refl
-answer_late kind.Triangle [] = refl
 answer_late kind.Triangle (x ∷ []) = number_late _
-answer_late kind.Triangle (x ∷ y ∷ ys) = refl
-answer_late kind.Fail args = refl
-answer_late kind.Watch args = refl
-answer_late kind.Tally args = refl
+answer_late k args = refl
 
 done_late : (f : Answered) → IsAnswered f → is_late_end (task_end f.end) ≡ false
 done_late f a = ap (λ e. is_late_end (task_end e)) a.answer ∙ answer_late f.kind f.args
@@ -266,57 +218,34 @@ watch_late t = by_tests (not (length t.args == 1)) (is_none (looks_of t.args)) t
 -- Watches and tallies
 
 asked_notes : (who : ℕ) (t : Task) → runs_on who t ≡ true → Noted who asked_once t
-asked_notes who t k = record { waiter = inr (by_waiter t.notes.requested); work = inl k; detached = by_detached t.notes.requested; group = inl (by_group t.notes.requested); verdict = λ v. by_tally t.notes.requested ∙ v }
-  where
-    by_waiter : (b : Bool) → (cond b (record t.notes { seen = true }) (record t.notes { looks = t.notes.looks + 1 })).waiter ≡ t.notes.waiter
-    by_waiter true = refl
-    by_waiter false = refl
-
-    by_detached : (b : Bool) → (cond b (record t.notes { seen = true }) (record t.notes { looks = t.notes.looks + 1 })).detached ≡ t.notes.detached
-    by_detached true = refl
-    by_detached false = refl
-
-    by_group : (b : Bool) → (cond b (record t.notes { seen = true }) (record t.notes { looks = t.notes.looks + 1 })).group ≡ t.notes.group
-    by_group true = refl
-    by_group false = refl
-
-    by_tally : (b : Bool) → is_late_end (cond b (record t.notes { seen = true }) (record t.notes { looks = t.notes.looks + 1 })).tally.verdict ≡ is_late_end t.notes.tally.verdict
-    by_tally true = refl
-    by_tally false = refl
+asked_notes who t k = record {
+  waiter = inr (cond_both t.notes.requested (record t.notes { seen = true }) (record t.notes { looks = t.notes.looks + 1 }) (λ q. q.waiter ≡ t.notes.waiter)
+      (λ e. refl)
+      (λ e. refl));
+  work = inl k;
+  detached = (cond_both t.notes.requested (record t.notes { seen = true }) (record t.notes { looks = t.notes.looks + 1 }) (λ q. q.detached ≡ t.notes.detached) (λ e. refl) (λ e. refl));
+  group = inl (cond_both t.notes.requested (record t.notes { seen = true }) (record t.notes { looks = t.notes.looks + 1 }) (λ q. q.group ≡ t.notes.group) (λ e. refl) (λ e. refl));
+  verdict = λ v. (cond_both t.notes.requested (record t.notes { seen = true }) (record t.notes { looks = t.notes.looks + 1 }) (λ q. is_late_end q.tally.verdict ≡ is_late_end t.notes.tally.verdict) (λ e. refl) (λ e. refl)) ∙ v;
+}
 
 asked_tally : (o : Op) (t : Task) → Does o t.notes.tally (asked_once t.notes).tally
-asked_tally o t = stays (by_requested t.notes.requested)
-  where
-    by_requested : (b : Bool) → (cond b (record t.notes { seen = true }) (record t.notes { looks = t.notes.looks + 1 })).tally ≡ t.notes.tally
-    by_requested true = refl
-    by_requested false = refl
+asked_tally o t = stays (cond_both t.notes.requested (record t.notes { seen = true }) (record t.notes { looks = t.notes.looks + 1 }) (λ q. q.tally ≡ t.notes.tally) (λ e. refl) (λ e. refl))
 
 -- a task that runs with another kind is no tally
 another_kind : (who w : ℕ) (k : Kind) (t : Task) → (kind_number k == 10) ≡ false → runs_as who k t ≡ true → runs_as w kind.Tally t ≡ false
 another_kind who w k t n = by_state t.state
   where
-    none : (b : Bool) → (b && false) ≡ false
-    none true = refl
-    none false = refl
-
     by_state : (x : TaskState) → holds (λ r. (r.0 == who) && (kind_number r.1 == kind_number k)) (runner x) ≡ true → holds (λ r. (r.0 == w) && (kind_number r.1 == 10)) (runner x) ≡ false
     by_state Scheduled e = refl
     by_state (Running v j) e =
         let same : kind_number j ≡ kind_number k = eqb-true (kind_number j) (kind_number k) (snd_true (v == who) _ e) in
-        ap (λ (c : Bool). (v == w) && c) (ap (λ (i : ℕ). i == 10) same ∙ n) ∙ none (v == w)
+        ap (λ (c : Bool). (v == w) && c) (ap (λ (i : ℕ). i == 10) same ∙ n) ∙ and-false (v == w)
     by_state (Ended e n) i = refl
 
 pure_number : (k : Kind) → is_pure k ≡ true → (kind_number k == 10) ≡ false
-pure_number kind.Add e = refl
-pure_number kind.Mul e = refl
-pure_number kind.Max e = refl
-pure_number kind.Div e = refl
-pure_number kind.Gcd e = refl
-pure_number kind.Echo e = refl
-pure_number kind.Triangle e = refl
-pure_number kind.Fail e = refl
 pure_number kind.Watch e = absurd (cc)
 pure_number kind.Tally e = absurd (cc)
+pure_number k e = refl
 
 -- what a tally does notes nothing else
 does : (who : ℕ) (f : TallyNotes → TallyNotes) (t : Task) → runs_on who t ≡ true → (is_late_end t.notes.tally.verdict ≡ false → is_late_end (f t.notes.tally).verdict ≡ false) → Noted who (with_tally f) t

@@ -1,36 +1,10 @@
 -- What a worker asks of the task that it has isn't refused.
-use Rattle.std.proofs.Common.{◌≡◌, ℕ, ◌<◌, Bool, true, false, cond, List, [], ◌∷◌, Option, Some, None, refl, sym, ◌∙◌, ap, subst, arith, ℤ}
-use Rattle.std.specs.Prelude.{◌==◌, ◌&&◌, ◌||◌, not, nat_lt, is_some, is_none, length}
-use Rattle.std.specs.Ordering.{int_eq}
-use Rattle.std.specs.Cmp.Lexicographic.{pointwise}
-use Rattle.std.proofs.lemmas.Bool.{eq-eqb}
-use Rattle.std.proofs.lemmas.Bool.Decides.{Decides-int_eq, nat_tests}
-use Rattle.std.proofs.lemmas.Slice.Eq.{slice_eq-Decides}
-use Rattle.mtapi_values.specs.Conditions.{holds}
-use Rattle.mtapi_values.specs.declared.kinds.Kind.{Kind}
+use Rattle.history_law.proofs.Names.{◌≡◌, ℕ, ◌<◌, Bool, true, false, cond, List, [], ◌∷◌, Option, Some, None, refl, sym, ◌∙◌, ap, subst, arith, ◌==◌, ◌&&◌, ◌||◌, not, nat_lt, is_some, is_none, length, int_eq, pointwise, nat_tests, holds, Kind, TaskHandle, live_object, Completed, Failed, Answered, fits, Task, runs_as, looks_of, asked_once, watch_end, Adds, tally_args, cell_in, added, with_tally, tally_read, tally_written, cell_of, with_cell, entry, Op, Reply, Mtapi, Segments, ends_task, notes, alters, State, workers, tasks, segments, Row, unless, gives, never, Allows, live, says, chosen, task_end, takes_both, locks, gives_back, IsNext, some_same, Work, Holds, AsksOf, IsServed, ℤ}
+use Rattle.history_law.proofs.WorkerTurns.{same_list, runs_as_its}
 use Rattle.mtapi_values.specs.declared.kinds.Kind.TheVariants as kind
 use Rattle.mtapi_values.specs.declared.statuses.MtapiStatus.TheVariants as m
-use Rattle.mtapi_values.specs.declared.handles.TaskHandle.{TaskHandle}
-use Rattle.handle_pool.specs.Issued.{live_object}
-use Rattle.mtapi_values.specs.declared.ends.TaskEnd.TheVariants.{Completed, Failed}
-use Rattle.action_fn.specs.Answers.{Answered, fits}
-use Rattle.mtapi_objects.specs.Tasks.{Task, runner, runs_as, kind_number, looks_of, asked_once, watch_end, Adds, tally_args, cell_in, added, with_tally, tally_read, tally_written}
-use Rattle.mtapi_objects.specs.Segments.{cell_of, with_cell}
-use Rattle.history.specs.Histories.{entry}
-use Rattle.mtapi_machine.specs.declared.ops.Op.{Op}
 use Rattle.mtapi_machine.specs.declared.ops.Op.TheVariants as op
-use Rattle.mtapi_machine.specs.declared.replies.Reply.{Reply}
-use Rattle.mtapi_machine.specs.declared.replies.Reply.TheVariants.{Mtapi}
 use Rattle.mtapi_machine.specs.declared.replies.Reply.TheVariants as reply
-use Rattle.mtapi_machine.specs.Moves.{Segments, ends_task, notes, alters}
-use Rattle.mtapi_machine.specs.State.{State, workers, tasks, segments}
-use Rattle.mtapi_machine.specs.Row.{Row, unless, gives, never, Allows, live, says, chosen}
-use Rattle.mtapi_machine.specs.WorkRows.{task_end}
-use Rattle.mtapi_machine.specs.TallyRows.{takes_both, locks, gives_back}
-use Rattle.mtapi_machine.specs.Legal.{IsNext}
-use Rattle.mtapi_machine.proofs.Changes.{some_same}
-use Rattle.history_law.specs.Seats.{Work, RunsWith, Holds}
-use Rattle.history_law.specs.Served.{AsksOf, IsServed}
 use Rattle.history_law.proofs.Answered.{true_false}
 
 abbrev is_invalid : Reply → Bool
@@ -67,9 +41,6 @@ found : {T : Type 0} (o : Option T) (t : T) (v : Row) (f : T → Row) (r : Reply
 found None t v f r e a = absurd (cc)
 found (Some y) t v f r e a = subst (λ z. Allows (f z) r) (some_same e) a
 
-runs_its : (w : ℕ) (x : Work) (t : Task) → RunsWith w x t → runs_as w x.kind t ≡ true
-runs_its w x t h = ap (λ y. holds (λ r. (r.0 == w) && (kind_number r.1 == kind_number x.kind)) (runner y)) h.state ∙ ((λ i. eq-eqb w w refl i && (kind_number x.kind == kind_number x.kind)) ∙ eq-eqb (kind_number x.kind) (kind_number x.kind) refl)
-
 module _ (s : State) (w h : ℕ) (x : Work) (v : Holds s w h x) (l : w < workers s) where
   own : (f : Task → Row) (r : Reply) → Allows (unless (not (nat_lt w (workers s))) (Mtapi m.ErrParameter) (live (live_object s.tasks h) (says tasks.invalid) f)) r → Allows (f v.task) r
   own f r a = found (live_object s.tasks h) v.task (says tasks.invalid) f r v.found (past (not (nat_lt w (workers s))) (Mtapi m.ErrParameter) (live (live_object s.tasks h) (says tasks.invalid) f) r (grind (arith, nat_tests)) a)
@@ -78,11 +49,8 @@ module _ (s : State) (w h : ℕ) (x : Work) (v : Holds s w h x) (l : w < workers
   step : (k : Kind) (g : Task → Row) (r : Reply) → x.kind ≡ k → NotSaid (g v.task) → Allows (unless (not (nat_lt w (workers s))) (Mtapi m.ErrParameter) (live (live_object s.tasks h) (says tasks.invalid) (λ y. unless (not (runs_as w k y)) (Mtapi m.ErrTaskInvalid) (g y)))) r
       → r ≡ Mtapi m.ErrTaskInvalid → ⊥
   step k g r e n a i =
-      let runs : runs_as w k v.task ≡ true = ap (λ z. runs_as w z v.task) (sym e) ∙ runs_its w x v.task v.runs in
+      let runs : runs_as w k v.task ≡ true = ap (λ z. runs_as w z v.task) (sym e) ∙ runs_as_its w x v.task v.runs in
       true_false (ap is_invalid i) (not_said (g v.task) r n (past (not (runs_as w k v.task)) (Mtapi m.ErrTaskInvalid) (g v.task) r (λ j. not (runs j)) (own (λ y. unless (not (runs_as w k y)) (Mtapi m.ErrTaskInvalid) (g y)) r a)))
-
-same_list : (xs ys : List ℤ) → ys ≡ xs → pointwise int_eq xs ys ≡ true
-same_list xs ys e = (slice_eq-Decides Decides-int_eq xs ys (pointwise int_eq xs ys) refl).1 (sym e)
 
 both_not : (s : State) (w h cell : ℕ) (a b : Option ℕ) → NotSaid (takes_both s w h cell a b)
 both_not s w h cell (Some a) (Some b) =
@@ -129,7 +97,7 @@ pub work_is_served : (s : State) (w : ℕ) (t : TaskHandle) (x : Work) (o : Op) 
 unfolding asks watches takes reads_cell writes_cell tallied finishes
 work_is_served s w t x (op.Finish u done) r l v a n =
     let here : Holds s w u.0 x = subst (λ (y : TaskHandle). Holds s w y.0 x) (sym a.0) v in
-    let runs : runs_as w done.kind here.task ≡ true = ap (λ z. runs_as w z here.task) a.1 ∙ runs_its w x here.task here.runs in
+    let runs : runs_as w done.kind here.task ≡ true = ap (λ z. runs_as w z here.task) a.1 ∙ runs_as_its w x here.task here.runs in
     let list : pointwise int_eq here.task.args done.args ≡ true = same_list here.task.args done.args (a.2 ∙ sym here.runs.arguments) in
     past (not (runs_as w done.kind here.task && pointwise int_eq here.task.args done.args)) (Mtapi m.ErrTaskInvalid) (gives reply.Ok (ends_task u.0 (task_end done.end) ∷ [])) r (λ i. not (runs i && list i)) (own s w u.0 x here l (finishes s w u done) r n.allowed)
 work_is_served s w t x (op.Asked u) r l v a n =

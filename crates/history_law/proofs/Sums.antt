@@ -1,18 +1,9 @@
 -- Sums over listed tasks, and the records of handles, after a change of the list.
-use Rattle.std.proofs.Common.{◌≡◌, ℕ, ◌+◌, suc, zero, Bool, true, false, cond, List, [], ◌∷◌, Option, Some, None, refl, sym, ◌∙◌, ap}
-use Rattle.std.specs.Prelude.{◌==◌, ◌&&◌, is_some, ℤ, pos, ◌+ℤ◌, slice_index_or, replicate, option_map}
-use Rattle.std.proofs.lemmas.Bool.{eqb-true, eq-eqb, cond_both}
-use Rattle.std.proofs.Math.IntN.{+ℤ_comm, +ℤ_assoc}
-use Rattle.mtapi_values.specs.declared.ends.TaskEnd.{TaskEnd}
-use Rattle.handle_pool.specs.Issued.{Listed, live_of, live_object, listed, change, change_all, issue, update, with_fields}
-use Rattle.mtapi_objects.specs.Tasks.{Task, Ended, with_state, ended, end_each}
-use Rattle.mtapi_machine.proofs.Changes.{some_same, at-update}
-use Rattle.history_law.specs.Tally.{record_of, sum_of}
+use Rattle.history_law.proofs.Names.{◌≡◌, ℕ, ◌+◌, suc, zero, Bool, true, false, cond, List, [], ◌∷◌, Option, Some, None, refl, sym, ◌∙◌, ap, ◌==◌, ◌&&◌, is_some, ℤ, pos, ◌+ℤ◌, slice_index_or, replicate, option_map, eqb-true, eq-eqb, cond_both, +ℤ_comm, +ℤ_assoc, TaskEnd, Listed, live_of, live_object, listed, change, change_all, issue, update, with_fields, Task, Ended, with_state, ended, end_each, some_same, at-update, record_of, sum_of, fst_true, snd_true}
 use Rattle.history_law.proofs.Handles.{OnceIn, once_rest, listed_change, once_same, head_apart}
 use Rattle.history_law.proofs.Every.{Every}
 use Rattle.history_law.proofs.Found.{at_here, at_head, at_past}
 use Rattle.history_law.proofs.Firsts.{head_alone}
-use Rattle.mtapi_machine.proofs.Made.{fst_true, snd_true}
 
 -- Sums
 

@@ -1,28 +1,8 @@
 -- The sum that a cell holds after tallies.
-use Rattle.std.proofs.Common.{◌≡◌, ℕ, ◌+◌, ◌<◌, ◌≤◌, Bool, true, false, cond, List, [], ◌∷◌, Option, Some, None, refl, sym, ◌∙◌, ap, subst, arith}
-use Rattle.std.specs.Prelude.{◌==◌, ◌&&◌, not, nat_lt, is_some, is_none, length, ℤ, pos, slice_set, slice_index_or, replicate, option_map}
-use Rattle.std.proofs.lemmas.Bool.{eqb-true, eq-eqb, cond_both, false_from_ne_true, true_from_ne_false}
-use Rattle.mtapi_values.specs.Conditions.{holds}
-use Rattle.mtapi_values.specs.declared.handles.TaskHandle.{TaskHandle}
-use Rattle.mtapi_values.specs.declared.statuses.MtapiStatus.{MtapiStatus}
+use Rattle.history_law.proofs.Names.{◌≡◌, ℕ, ◌+◌, ◌<◌, ◌≤◌, Bool, true, false, cond, List, [], ◌∷◌, Option, Some, None, refl, sym, ◌∙◌, ap, subst, arith, ◌==◌, ◌&&◌, not, nat_lt, is_some, is_none, length, ℤ, pos, slice_set, slice_index_or, replicate, option_map, eqb-true, eq-eqb, cond_both, false_from_ne_true, true_from_ne_false, holds, TaskHandle, MtapiStatus, Op, Reply, Listed, live_of, live_object, count_listed, listed, change, issue, update, with_fields, gone, Task, TaskState, Scheduled, Running, Ended, runner, end_of, scheduled, Adds, tally_args, runs_on, is_unstarted, is_unended, with_notes, with_tally, tally_failed, tally_has, Mutex, Segment, with_cell, State, Move, Mutexes, makes, alters, removes, notes, apply, after_moves, Allows, moves_of, row, takes_both, locks, IsMade, AllGives, given, on_live, fst_true, snd_true, at-update, some_same, record_of, adds_to, sum_of, length-set}
 use Rattle.mtapi_values.specs.declared.statuses.MtapiStatus.TheVariants as m
-use Rattle.mtapi_machine.specs.declared.ops.Op.{Op}
 use Rattle.mtapi_machine.specs.declared.ops.Op.TheVariants as op
-use Rattle.mtapi_machine.specs.declared.replies.Reply.{Reply}
 use Rattle.mtapi_machine.specs.declared.replies.Reply.TheVariants as reply
-use Rattle.handle_pool.specs.Issued.{Listed, live_of, live_object, count_listed, listed, change, issue, update, with_fields, gone}
-use Rattle.mtapi_objects.specs.Tasks.{Task, TaskState, Scheduled, Running, Ended, runner, end_of, scheduled, Adds, tally_args, runs_on, is_unstarted, is_unended, with_notes, with_tally, tally_failed, tally_has}
-use Rattle.mtapi_objects.specs.Mutexes.{Mutex}
-use Rattle.mtapi_objects.specs.Segments.{Segment, with_cell}
-use Rattle.mtapi_machine.specs.State.{State}
-use Rattle.mtapi_machine.specs.Moves.{Move, Mutexes, makes, alters, removes, notes, apply, after_moves}
-use Rattle.mtapi_machine.specs.Row.{Allows, moves_of}
-use Rattle.mtapi_machine.specs.Rows.{row}
-use Rattle.mtapi_machine.specs.TallyRows.{takes_both, locks}
-use Rattle.mtapi_machine.specs.Laws.{IsMade}
-use Rattle.mtapi_machine.proofs.Made.{AllGives, given, on_live, fst_true, snd_true}
-use Rattle.mtapi_machine.proofs.Changes.{at-update, some_same}
-use Rattle.history_law.specs.Tally.{record_of, adds_to, sum_of}
 use Rattle.history_law.proofs.Accepted.{shown}
 use Rattle.history_law.proofs.Handles.{OnceIn}
 use Rattle.history_law.proofs.Found.{at_here, count_changed, count_issued, at_past}
@@ -30,13 +10,12 @@ use Rattle.history_law.proofs.Held.{DeadEnded}
 use Rattle.history_law.proofs.Every.{Every, every_change, every_map, always}
 use Rattle.history_law.proofs.SeatMoves.{May}
 use Rattle.history_law.proofs.Others.{runs_over}
-use Rattle.history_law.proofs.Answered.{true_false, gives_cond}
+use Rattle.history_law.proofs.Answered.{true_false, gives_cond, whether, on_test}
 use Rattle.history_law.proofs.Firsts.{found_count, one_passes}
 use Rattle.history_law.proofs.Ties.{Owns, none_count, none_runs}
 use Rattle.history_law.proofs.Exclusive.{says_asked}
 use Rattle.history_law.proofs.Sums.{sum_none, record_new, record_beside, record_other, record_at, record_updated, cell_new}
 use Rattle.history_law.proofs.TallyMoves.{adds, weight, weigh_off, Each, HasRead, cells_of}
-use Rattle.std.proofs.lemmas.List.{length-set}
 use Rattle.history_law.proofs.Slots.{set_apart}
 
 -- A change of the one task that runs on a worker
@@ -84,27 +63,22 @@ HasId i y = y.id == i
 pub one_owner : (ms : List (Listed Mutex)) (i v w h k : ℕ) → count_listed (HasId i) ms ≤ 1 → Owns v i (live_object ms h) → Owns w i (live_object ms k) → v ≡ w
 one_owner ms i v w h k c a b = by_both (live_object ms h) (live_object ms k) refl refl a b
   where
-    owner_same : {x y : ℕ} → Some x ≡ Some y → x ≡ y
-    owner_same e = cc
-
     by_both : (o p : Option Mutex) → live_object ms h ≡ o → live_object ms k ≡ p → Owns v i o → Owns w i p → v ≡ w
     by_both None p e f x y = absurd x
     by_both (Some m) None e f x y = absurd y
     by_both (Some m) (Some l) e f x y =
         let same : m ≡ l = one_passes (HasId i) ms h k m l c e f (eq-eqb m.id i x.2) (eq-eqb l.id i y.2) in
-        owner_same (sym x.0 ∙ (ap (λ (z : Mutex). z.owner) same ∙ y.0))
+        some_same (sym x.0 ∙ (ap (λ (z : Mutex). z.owner) same ∙ y.0))
 
 -- No two live mutexes have one id
 
 pub ids_move : (i who : ℕ) (o : Op) (s : State) (x : Move) → IsMade s o x → May s who o x → count_listed (HasId i) s.mutexes ≤ 1 → count_listed (HasId i) (apply x s).mutexes ≤ 1
-ids_move i who o s (makes Mutexes j x) e k v = by_id (x.id == i) refl (count_issued (HasId i) j x s.mutexes)
-  where
-    by_id : (b : Bool) → (x.id == i) ≡ b → count_listed (HasId i) (issue j x s.mutexes) ≡ count_listed (HasId i) s.mutexes + cond b 1 0 → count_listed (HasId i) (issue j x s.mutexes) ≤ 1
-    by_id true q c =
-        let z : count_listed (HasId x.id) s.mutexes ≡ 0 = none_count (HasId x.id) s.mutexes k in
-        let n : count_listed (HasId i) s.mutexes ≡ 0 = subst (λ (d : ℕ). count_listed (HasId d) s.mutexes ≡ 0) (eqb-true x.id i q) z in
-        omega arith
-    by_id false q c = let m : count_listed (HasId i) s.mutexes ≤ 1 = v in omega arith
+ids_move i who o s (makes Mutexes j x) e k v = on_test (λ b. count_listed (HasId i) (issue j x s.mutexes) ≡ count_listed (HasId i) s.mutexes + cond b 1 0 → count_listed (HasId i) (issue j x s.mutexes) ≤ 1) (x.id == i)
+    (λ q c.
+    let z : count_listed (HasId x.id) s.mutexes ≡ 0 = none_count (HasId x.id) s.mutexes k in
+    let n : count_listed (HasId i) s.mutexes ≡ 0 = subst (λ (d : ℕ). count_listed (HasId d) s.mutexes ≡ 0) (eqb-true x.id i q) z in
+    omega arith)
+    (λ q c. let m : count_listed (HasId i) s.mutexes ≤ 1 = v in omega arith) (count_issued (HasId i) j x s.mutexes)
 ids_move i who o s (alters Mutexes j f) e k v =
     let t = shown (live_object s.mutexes j) e.may in
     let c = count_changed (HasId i) j (with_fields f) (HasId i t.0) s.mutexes t.0 t.1 (λ r a q. (λ z. a z && (k r.fields z == i)) ∙ ap (HasId i) q) in
@@ -115,9 +89,6 @@ ids_move i who o s (removes Mutexes j) e k v =
     let c = count_changed (HasId i) j gone false s.mutexes t.0 t.1 (λ r a q. refl) in
     let m : count_listed (HasId i) s.mutexes ≤ 1 = v in
     omega arith
-ids_move i who o s (makes _ j x) e k v = v
-ids_move i who o s (alters _ j f) e k v = v
-ids_move i who o s (removes _ j) e k v = v
 ids_move i who o s _ e k v = v
 
 pub asked_true : (r : Reply) → says_asked r ≡ true → r ≡ reply.Asked true
@@ -191,14 +162,12 @@ module _ (S C : ℕ) where
 
   -- a change of one cell of a segment, where it isn't the cell
   pub other_cell : (s : State) (h c : ℕ) (value : ℤ) (y : Segment) (l : List (Listed Task)) → OnceIn s.segments → live_object s.segments h ≡ Some y → ((h == S) && (c == C)) ≡ false → Sum (cells_of S C s.segments) l → Sum (cells_of S C (update h (with_cell c value) s.segments)) l
-  other_cell s h c value y l o e n v = by_same (h == S) refl
-    where
-      by_same : (b : Bool) → (h == S) ≡ b → Sum (cells_of S C (update h (with_cell c value) s.segments)) l
-      by_same true i =
-          let same : h ≡ S = eqb-true h S i in
-          let apart : (c == C) ≡ false = sym (ap (λ (b : Bool). b && (c == C)) i) ∙ n in
-          let before : cells_of S C s.segments ≡ Some y.cells = ap (λ (q : Option Segment). option_map (λ (z : Segment). z.cells) q) (subst (λ (j : ℕ). record_of s.segments j ≡ Some y) same (record_at h y s.segments o e)) in
-          let now : cells_of S C (update h (with_cell c value) s.segments) ≡ Some (slice_set y.cells c value) = ap (λ (q : Option Segment). option_map (λ (z : Segment). z.cells) q) (subst (λ (j : ℕ). record_of (update h (with_cell c value) s.segments) j ≡ Some (with_cell c value y)) same (record_updated h (with_cell c value) y s.segments o e)) in
-          let w : Sum (Some y.cells) l = sum_cells s _ _ l before v in
-          sum_cells s _ _ l (sym now) (λ j. let x = w (subst (λ (k : ℕ). C < k) (length-set y.cells c value) j) in (set_apart y.cells c C value (pos 0) apart ∙ x.0, x.1))
-      by_same false i = sum_cells s _ _ l (sym (ap (λ (q : Option Segment). option_map (λ (z : Segment). z.cells) q) (record_other h S (with_fields (with_cell c value)) s.segments (λ r. refl) i))) v
+  other_cell s h c value y l o e n v = whether (h == S)
+      (λ i.
+      let same : h ≡ S = eqb-true h S i in
+      let apart : (c == C) ≡ false = sym (ap (λ (b : Bool). b && (c == C)) i) ∙ n in
+      let before : cells_of S C s.segments ≡ Some y.cells = ap (λ (q : Option Segment). option_map (λ (z : Segment). z.cells) q) (subst (λ (j : ℕ). record_of s.segments j ≡ Some y) same (record_at h y s.segments o e)) in
+      let now : cells_of S C (update h (with_cell c value) s.segments) ≡ Some (slice_set y.cells c value) = ap (λ (q : Option Segment). option_map (λ (z : Segment). z.cells) q) (subst (λ (j : ℕ). record_of (update h (with_cell c value) s.segments) j ≡ Some (with_cell c value y)) same (record_updated h (with_cell c value) y s.segments o e)) in
+      let w : Sum (Some y.cells) l = sum_cells s _ _ l before v in
+      sum_cells s _ _ l (sym now) (λ j. let x = w (subst (λ (k : ℕ). C < k) (length-set y.cells c value) j) in (set_apart y.cells c C value (pos 0) apart ∙ x.0, x.1)))
+      (λ i. sum_cells s _ _ l (sym (ap (λ (q : Option Segment). option_map (λ (z : Segment). z.cells) q) (record_other h S (with_fields (with_cell c value)) s.segments (λ r. refl) i))) v)

@@ -1,25 +1,7 @@
 -- What each move leaves of the tallies of a cell: what they wrote, what they read, the mutex that they name, and how they ended.
-use Rattle.std.proofs.Common.{◌≡◌, ℕ, Bool, true, false, cond, List, Option, ◌⊎◌, inl, inr, refl, sym, ◌∙◌, ap, subst}
-use Rattle.std.specs.Prelude.{◌==◌, ◌&&◌, not, ℤ, pos, option_map}
-use Rattle.std.proofs.lemmas.Bool.{eqb-true}
-use Rattle.mtapi_values.specs.declared.ends.TaskEnd.{TaskEnd}
-use Rattle.mtapi_values.specs.declared.ends.TaskEnd.TheVariants.{Failed}
-use Rattle.mtapi_machine.specs.declared.ops.Op.{Op}
+use Rattle.history_law.proofs.Names.{◌≡◌, ℕ, Bool, true, false, cond, List, Option, ◌⊎◌, inl, inr, refl, sym, ◌∙◌, ap, subst, ◌==◌, ◌&&◌, not, ℤ, pos, option_map, eqb-true, TaskEnd, Failed, Op, has_worker, Listed, live_of, change, with_fields, gone, is_member, freed, let_go, Mutex, Segment, Task, Notes, TallyNotes, Running, runs_on, is_unstarted, is_unended, with_state, with_notes, ended, new_task, tally_args, cell_in, number_in, tally_has, tally_read, State, workers, Move, Segments, starts_task, runs_task, ends_task, ends_waiting, withdraws, notes, leaves, frees_members, lets_members_go, makes, alters, removes, apply, IsMade, EndsTask, WithdrawsAction, ends_many, makes_kind, fst_true, unstarted_unended, rest_keeps, is_tally_end, record_of, is_completed, sum_of}
 use Rattle.mtapi_machine.specs.declared.ops.Op.TheVariants as op
-use Rattle.mtapi_objects.specs.Actions.{has_worker}
-use Rattle.handle_pool.specs.Issued.{Listed, live_of, change, with_fields, gone}
-use Rattle.mtapi_objects.specs.Groups.{is_member, freed, let_go}
-use Rattle.mtapi_objects.specs.Mutexes.{Mutex}
-use Rattle.mtapi_objects.specs.Segments.{Segment}
-use Rattle.mtapi_objects.specs.Tasks.{Task, Notes, TallyNotes, Running, runs_on, is_unstarted, is_unended, with_state, with_notes, ended, new_task, tally_args, cell_in, number_in, tally_has, tally_read}
-use Rattle.mtapi_machine.specs.State.{State, workers}
-use Rattle.mtapi_machine.specs.Moves.{Move, Segments, starts_task, runs_task, ends_task, ends_waiting, withdraws, notes, leaves, frees_members, lets_members_go, makes, alters, removes, apply}
-use Rattle.mtapi_machine.specs.Laws.{IsMade, EndsTask, WithdrawsAction, ends_many, makes_kind}
-use Rattle.mtapi_machine.proofs.Made.{fst_true, unstarted_unended}
-use Rattle.mtapi_machine.proofs.Moves.{sorts_keep}
-use Rattle.history_law.specs.Exclusion.{is_tally_end}
-use Rattle.history_law.specs.Tally.{record_of, is_completed, sum_of}
-use Rattle.history_law.proofs.Answered.{true_false}
+use Rattle.history_law.proofs.Answered.{true_false, whether}
 use Rattle.history_law.proofs.Every.{Every, every_issue, every_change, every_all, every_at, every_passing, every_both}
 use Rattle.history_law.proofs.SeatMoves.{May, MayEnd, Noted, SameWork, Does, stays, fails, has, reads, writes, is_tally_lock, is_tally_read, is_tally_write, writes_cells, EndsTally}
 use Rattle.history_law.proofs.Others.{same_found, runs_over}
@@ -82,10 +64,7 @@ module _ (S C : ℕ) where
   written_move v who o n s (leaves j) k e = sum_change weight j gone s.tasks (λ r a. refl) ∙ e
   written_move v who o n s (frees_members g) k e = sum_all weight _ freed s.tasks (λ r. refl) ∙ e
   written_move v who o n s (lets_members_go g) k e = sum_all weight (is_member g) let_go s.tasks (λ r. refl) ∙ e
-  written_move v who o n s (makes z j x) k e = sorts_keep (λ t. written t ≡ v) (λ t g q m c r y p. p) z _ s e
-  written_move v who o n s (alters z j f) k e = sorts_keep (λ t. written t ≡ v) (λ t g q m c r y p. p) z _ s e
-  written_move v who o n s (removes z j) k e = sorts_keep (λ t. written t ≡ v) (λ t g q m c r y p. p) z _ s e
-  written_move v who o n s _ k e = e
+  written_move v who o n s x k e = rest_keeps (λ t. written t ≡ v) (λ t g q m c r y p. p) x s e
 
   -- What holds of the arguments of each task that adds to the cell
 
@@ -111,10 +90,7 @@ module _ (S C : ℕ) where
   each_move R who o n s (leaves j) k v = every_change (Each R) j gone s.tasks (λ r a i. i) v
   each_move R who o n s (frees_members g) k v = every_all (Each R) _ freed s.tasks (λ r i. i) v
   each_move R who o n s (lets_members_go g) k v = every_all (Each R) (is_member g) let_go s.tasks (λ r i. i) v
-  each_move R who o n s (makes z j x) k v = sorts_keep (λ t. Every (Each R) t.tasks) (λ t g q m c r y p. p) z _ s v
-  each_move R who o n s (alters z j f) k v = sorts_keep (λ t. Every (Each R) t.tasks) (λ t g q m c r y p. p) z _ s v
-  each_move R who o n s (removes z j) k v = sorts_keep (λ t. Every (Each R) t.tasks) (λ t g q m c r y p. p) z _ s v
-  each_move R who o n s _ k v = v
+  each_move R who o n s x k v = rest_keeps (λ t. Every (Each R) t.tasks) (λ t g q m c r y p. p) x s v
 
   -- What a tally read that hasn't written yet
 
@@ -142,10 +118,7 @@ module _ (S C : ℕ) where
   read_move w who o m n s (leaves j) k v = every_change (HasRead w) j gone s.tasks (λ r a i. i) v
   read_move w who o m n s (frees_members g) k v = every_all (HasRead w) _ freed s.tasks (λ r i. i) v
   read_move w who o m n s (lets_members_go g) k v = every_all (HasRead w) (is_member g) let_go s.tasks (λ r i. i) v
-  read_move w who o m n s (makes z j x) k v = sorts_keep (λ t. Every (HasRead w) t.tasks) (λ t g q m c r y p. p) z _ s v
-  read_move w who o m n s (alters z j f) k v = sorts_keep (λ t. Every (HasRead w) t.tasks) (λ t g q m c r y p. p) z _ s v
-  read_move w who o m n s (removes z j) k v = sorts_keep (λ t. Every (HasRead w) t.tasks) (λ t g q m c r y p. p) z _ s v
-  read_move w who o m n s _ k v = v
+  read_move w who o m n s x k v = rest_keeps (λ t. Every (HasRead w) t.tasks) (λ t g q m c r y p. p) x s v
 
   -- How it ends: completed exactly where it has written
 
@@ -175,55 +148,38 @@ module _ (S C : ℕ) where
     RightTies o s = (is_tally_lock o ≡ false → Ties n ms s) × Every EndsRight s.tasks
 
     over_ends : (who : ℕ) (o : Op) → NoTallyEnd o → (s : State) (j : ℕ) (e : TaskEnd) → IsMade s o (ends_task j e) → May s who o (ends_task j e) → RightTies o s → Every EndsRight (change j (ended e s.ends) s.tasks)
-    over_ends who o f s j e i k v = by_lock (is_tally_lock o) refl
+    over_ends who o f s j e i k v = whether (is_tally_lock o)
+        (λ l. absurd (no_end o l i.by))
+        (λ l. every_change EndsRight j (ended e s.ends) s.tasks (λ r a q u b. let same : k.0 ≡ r.fields = same_found s j j refl k.0 r.fields k.1 a in absurd (adds_nothing n ms who j o k.0 (f j) (every_at (Tied n ms) s.tasks j k.0 (v.0 l) k.1) k.2 k.4 (subst (λ (t : Task). adds t.notes.tally t.args ≡ true) (sym same) b))) v.1)
       where
         no_end : (o : Op) → is_tally_lock o ≡ true → EndsTask j o → ⊥
         no_end (op.TallyLock t) l b = b
         no_end _ l b = true_false l refl
 
-        by_lock : (b : Bool) → is_tally_lock o ≡ b → Every EndsRight (change j (ended e s.ends) s.tasks)
-        by_lock true l = absurd (no_end o l i.by)
-        by_lock false l =
-            every_change EndsRight j (ended e s.ends) s.tasks
-            (λ r a q u b.
-            let same : k.0 ≡ r.fields = same_found s j j refl k.0 r.fields k.1 a in
-            absurd (adds_nothing n ms who j o k.0 (f j) (every_at (Tied n ms) s.tasks j k.0 (v.0 l) k.1) k.2 k.4 (subst (λ (t : Task). adds t.notes.tally t.args ≡ true) (sym same) b))) v.1
-
     right_each : (who : ℕ) (o : Op) → NoTallyEnd o → (s : State) (x : Move) → IsMade s o x → May s who o x → RightTies o s → Every EndsRight (apply x s).tasks
     right_each who o f s (starts_task j t) i k v = every_issue EndsRight j (new_task t s.starts) s.tasks (λ u a. true_false refl u) v.1
     right_each who o f s (runs_task j y z) i k v = every_change EndsRight j (with_fields (with_state (Running y z))) s.tasks (λ r a q u b. true_false refl u) v.1
     right_each who o f s (ends_task j e) i k v = over_ends who o f s j e i k v
-    right_each who o f s (ends_waiting p e) i k v = by_lock (is_tally_lock o) refl
+    right_each who o f s (ends_waiting p e) i k v = whether (is_tally_lock o)
+        (λ l. absurd (no_many o l i.by))
+        (λ l. every_both (Tied n ms) EndsRight (λ t. is_unstarted t && p t) e s.ends s.tasks (λ t m q z r u a. true_false (both_of t.notes.tally t.args a) (z.early (fst_true _ _ q))) (v.0 l) v.1)
       where
         no_many : (o : Op) → is_tally_lock o ≡ true → ends_many o ≡ true → ⊥
         no_many (op.TallyLock t) l b = true_false b refl
         no_many _ l b = true_false l refl
-
-        by_lock : (b : Bool) → is_tally_lock o ≡ b → Every EndsRight (apply (ends_waiting p e) s).tasks
-        by_lock true l = absurd (no_many o l i.by)
-        by_lock false l =
-            every_both (Tied n ms) EndsRight (λ t. is_unstarted t && p t) e s.ends s.tasks
-            (λ t m q z r u a. true_false (both_of t.notes.tally t.args a) (z.early (fst_true _ _ q))) (v.0 l) v.1
-    right_each who o f s (withdraws j g c) i k v = by_lock (is_tally_lock o) refl
+    right_each who o f s (withdraws j g c) i k v = whether (is_tally_lock o)
+        (λ l. absurd (no_withdraw o l i.by))
+        (λ l. every_both (Tied n ms) EndsRight (λ t. is_unstarted t && not (has_worker (workers s) t.job t.cores (live_of (change j g s.actions)))) (Failed c) s.ends s.tasks (λ t m q z r u a. true_false (both_of t.notes.tally t.args a) (z.early (fst_true _ _ q))) (v.0 l) v.1)
       where
         no_withdraw : (o : Op) → is_tally_lock o ≡ true → WithdrawsAction j g o → ⊥
         no_withdraw (op.TallyLock t) l b = b
         no_withdraw _ l b = true_false l refl
-
-        by_lock : (b : Bool) → is_tally_lock o ≡ b → Every EndsRight (apply (withdraws j g c) s).tasks
-        by_lock true l = absurd (no_withdraw o l i.by)
-        by_lock false l =
-            every_both (Tied n ms) EndsRight (λ t. is_unstarted t && not (has_worker (workers s) t.job t.cores (live_of (change j g s.actions)))) (Failed c) s.ends s.tasks
-            (λ t m q z r u a. true_false (both_of t.notes.tally t.args a) (z.early (fst_true _ _ q))) (v.0 l) v.1
     right_each who o f s (notes j g) i k v =
         every_change EndsRight j (with_fields (with_notes g)) s.tasks (λ r a q. noted_right who g r.fields (subst (λ (t : Task). Noted who g t) (same_found s j j refl k.0 r.fields k.1 a) k.2) q) v.1
     right_each who o f s (leaves j) i k v = every_change EndsRight j gone s.tasks (λ r a q. q) v.1
     right_each who o f s (frees_members g) i k v = every_all EndsRight _ freed s.tasks (λ r q. q) v.1
     right_each who o f s (lets_members_go g) i k v = every_all EndsRight (is_member g) let_go s.tasks (λ r q. q) v.1
-    right_each who o f s (makes z j x) i k v = sorts_keep (λ t. Every EndsRight t.tasks) (λ t g q m c r y p. p) z _ s v.1
-    right_each who o f s (alters z j g) i k v = sorts_keep (λ t. Every EndsRight t.tasks) (λ t g q m c r y p. p) z _ s v.1
-    right_each who o f s (removes z j) i k v = sorts_keep (λ t. Every EndsRight t.tasks) (λ t g q m c r y p. p) z _ s v.1
-    right_each who o f s _ i k v = v.1
+    right_each who o f s x i k v = rest_keeps (λ t. Every EndsRight t.tasks) (λ t g q m c r y p. p) x s v.1
 
     pub right_move : (who : ℕ) (o : Op) → NoTallyEnd o → (s : State) (x : Move) → IsMade s o x → May s who o x → RightTies o s → RightTies o (apply x s)
     right_move who o f s x i k v = ((λ l. ties_move n ms who o l s x k (v.0 l)), right_each who o f s x i k v)
@@ -241,7 +197,4 @@ module _ (S C : ℕ) where
       by_cells (inl w) = true_false w n
       by_cells (inr w) = record_view (λ (x : Segment). x.cells) j S (with_fields f) s.segments (λ r. refl) (λ r. w r.fields) ∙ e
   cells_move v who o m n s (removes Segments j) i k e = record_view (λ (x : Segment). x.cells) j S gone s.segments (λ r. refl) (λ r. refl) ∙ e
-  cells_move v who o m n s (makes _ j x) i k e = e
-  cells_move v who o m n s (alters _ j f) i k e = e
-  cells_move v who o m n s (removes _ j) i k e = e
   cells_move v who o m n s _ i k e = e

@@ -1,35 +1,8 @@
 -- What each entry leaves of the sum that a cell holds, and so every list of entries.
-use Rattle.std.proofs.Common.{◌≡◌, ℕ, ◌<◌, ◌≤◌, Bool, true, false, cond, List, [], ◌∷◌, ◌++◌, Option, Some, None, refl, sym, ◌∙◌, ap, subst, arith}
-use Rattle.std.specs.Prelude.{◌==◌, ◌&&◌, ◌||◌, not, nat_lt, is_some, length, ℤ, pos, ◌+ℤ◌, slice_set, slice_index_or, option_map}
-use Rattle.std.proofs.lemmas.Bool.{eqb-true, false_from_ne_true}
-use Rattle.std.proofs.lemmas.Bool.Decides.{nat_tests, Decides-int_eq}
-use Rattle.std.proofs.lemmas.List.{append_assoc}
-use Rattle.std.proofs.Math.IntN.{+ℤ_idl}
+use Rattle.history_law.proofs.Names.{◌≡◌, ℕ, ◌<◌, ◌≤◌, Bool, true, false, cond, List, [], ◌∷◌, ◌++◌, Option, Some, None, refl, sym, ◌∙◌, ap, subst, arith, ◌==◌, ◌&&◌, ◌||◌, not, nat_lt, is_some, length, ℤ, pos, ◌+ℤ◌, slice_set, slice_index_or, option_map, eqb-true, false_from_ne_true, nat_tests, Decides-int_eq, append_assoc, +ℤ_idl, TaskHandle, TaskEnd, Failed, Completed, entry, Terms, Op, Reply, Listed, live_object, count_listed, listed, change, update, with_fields, Task, tally_args, cell_in, number_in, added, runs_on, is_unended, with_notes, with_tally, tally_read, tally_written, ended, Segment, new_segment, cell_of, with_cell, State, opening, Move, notes, after_moves, handle_of, after_row, row, NodeEntry, IsNext, next, LegalFrom, Legal, after_from, after, after-one, AllGives, given, moves_given, on_live, on_only, not_false, fst_true, snd_true, some_same, some_entry, says_ok, tally_got, record_of, mutex_in, adds_to, completed_in, is_completed, number_added, sum_of, writes_to, NamesOneMutex, HoldsTheSum, length-set, get_or-set_same, cond_both}
 use Rattle.mtapi_values.specs.declared.handles.ObjectKind.TheVariants as kind
-use Rattle.mtapi_values.specs.declared.handles.TaskHandle.{TaskHandle}
-use Rattle.mtapi_values.specs.declared.ends.TaskEnd.{TaskEnd}
-use Rattle.mtapi_values.specs.declared.ends.TaskEnd.TheVariants.{Failed, Completed}
 use Rattle.mtapi_values.specs.declared.statuses.MtapiStatus.TheVariants as m
-use Rattle.history.specs.Histories.{entry}
-use Rattle.mtapi_machine.specs.declared.terms.Terms.{Terms}
-use Rattle.mtapi_machine.specs.declared.ops.Op.{Op}
 use Rattle.mtapi_machine.specs.declared.ops.Op.TheVariants as op
-use Rattle.mtapi_machine.specs.declared.replies.Reply.{Reply}
-use Rattle.handle_pool.specs.Issued.{Listed, live_object, count_listed, listed, change, update, with_fields}
-use Rattle.mtapi_objects.specs.Tasks.{Task, tally_args, cell_in, number_in, added, runs_on, is_unended, with_notes, with_tally, tally_read, tally_written, ended}
-use Rattle.mtapi_objects.specs.Segments.{Segment, new_segment, cell_of, with_cell}
-use Rattle.mtapi_machine.specs.State.{State, opening}
-use Rattle.mtapi_machine.specs.Moves.{Move, notes, after_moves}
-use Rattle.mtapi_machine.specs.Row.{handle_of, after_row}
-use Rattle.mtapi_machine.specs.Rows.{row}
-use Rattle.mtapi_machine.specs.Legal.{NodeEntry, IsNext, next, LegalFrom, Legal, after_from, after}
-use Rattle.mtapi_machine.proofs.Lists.{after-one}
-use Rattle.mtapi_machine.proofs.Made.{AllGives, given, moves_given, on_live, on_only, not_false, fst_true, snd_true}
-use Rattle.mtapi_machine.proofs.Changes.{some_same}
-use Rattle.history_law.specs.Words.{some_entry}
-use Rattle.history_law.specs.Seats.{says_ok}
-use Rattle.history_law.specs.Exclusion.{tally_got}
-use Rattle.history_law.specs.Tally.{record_of, mutex_in, adds_to, completed_in, is_completed, number_added, sum_of, writes_to, NamesOneMutex, HoldsTheSum}
 use Rattle.history_law.proofs.Accepted.{all_after}
 use Rattle.history_law.proofs.Reuse.{fresh_unlisted}
 use Rattle.history_law.proofs.Handles.{OnceIn}
@@ -38,13 +11,12 @@ use Rattle.history_law.proofs.Held.{HasEnded, AllEnded}
 use Rattle.history_law.proofs.Every.{Every, every_change, every_map, every_at, always}
 use Rattle.history_law.proofs.SeatMoves.{by_moves, by_made_moves}
 use Rattle.history_law.proofs.OnceIssued.{once_none, once_next, listed_next}
-use Rattle.history_law.proofs.Answered.{true_false, first_false, second_false, none_first, answered, no_live, gives_cond, Quiet}
+use Rattle.history_law.proofs.Answered.{true_false, first_false, second_false, none_first, answered, no_live, gives_cond, Quiet, whether, on_test}
 use Rattle.history_law.proofs.Ties.{has_both, Owns, Tied, as_on}
 use Rattle.history_law.proofs.Exclusive.{Good, good_next, good_opening}
 use Rattle.history_law.proofs.Sums.{sum_more, sum_change, sum_same, record_at, record_updated}
 use Rattle.history_law.proofs.TallyMoves.{adds, past_read, weight, written, both_of, weigh_off, weigh_early, written_move, Each, each_move, HasRead, read_move, EndsRight, right_move, RightTies, cells_of, cells_move}
 use Rattle.history_law.proofs.Tallies.{every_alone, some_worker, runs_unended, HasId, one_owner, ids_move, asked_true, lock_each, cell_value, Sum, sum_keep, sum_cells, create_sum, other_cell}
-use Rattle.std.proofs.lemmas.List.{length-set, get_or-set_same}
 
 module _ (S C id n : ℕ) where
   -- What holds after every list that the law speaks of
@@ -95,17 +67,15 @@ module _ (S C id n : ℕ) where
         true_false (both_of S C x.notes.tally x.args a) none
 
     back_right : (x : Task) (z : ℤ) (c : Bool) → (nat_lt x.notes.tally.stage 2 || c) ≡ false → past_read S C x.notes.tally ≡ completed_in (cond (x.notes.tally.stage == 2) (Failed m.ErrActionFailed) (Completed (z ∷ [])))
-    back_right x z c e = by_stage (x.notes.tally.stage == 2) refl
+    back_right x z c e = cond_both (x.notes.tally.stage == 2) (Failed m.ErrActionFailed) (Completed (z ∷ [])) (λ q. (not (x.notes.tally.stage == 1) && not (x.notes.tally.stage == 2)) ≡ completed_in q)
+        (λ d. (λ i. not (not_one i) && not (d i)))
+        (λ d. (λ i. not (not_one i) && not (d i)))
       where
         late : nat_lt x.notes.tally.stage 2 ≡ false
         late = first_false (nat_lt x.notes.tally.stage 2) c e
 
         not_one : (x.notes.tally.stage == 1) ≡ false
         not_one = let l : nat_lt x.notes.tally.stage 2 ≡ false = late in grind (arith, nat_tests)
-
-        by_stage : (b : Bool) → (x.notes.tally.stage == 2) ≡ b → (not (x.notes.tally.stage == 1) && not (x.notes.tally.stage == 2)) ≡ completed_in (cond b (Failed m.ErrActionFailed) (Completed (z ∷ [])))
-        by_stage true d = (λ i. not (not_one i) && not (d i))
-        by_stage false d = (λ i. not (not_one i) && not (d i))
 
     right_row : (o : Op) (r : Reply) → IsNext s (entry who o r) → Every (EndsRight S C) (after_row s (row s who o r)).tasks
     right_row (op.TallyEnd t) r i =
@@ -250,14 +220,10 @@ module _ (S C id n : ℕ) where
 
     write_sum : (t : ℕ) (value : ℤ) (x : Task) (y : Segment) → live_object s.tasks t ≡ Some x → runs_on who x ≡ true → (x.notes.tally.stage == 2) ≡ true → value ≡ added x → live_object s.segments x.notes.tally.segment ≡ Some y
         → Sum S C (cells_of S C (update x.notes.tally.segment (with_cell (cell_in (tally_args x.args)) value) s.segments)) (change t (with_fields (with_notes (with_tally tally_written))) s.tasks)
-    write_sum t value x y e k d w f = by_adds ((x.notes.tally.segment == S) && (cell_in (tally_args x.args) == C)) refl
+    write_sum t value x y e k d w f = whether ((x.notes.tally.segment == S) && (cell_in (tally_args x.args) == C)) (λ a. write_here t value x y e k d w f (λ i. both i && a i)) (λ a. write_other t value x y e d f a)
       where
         both : has_both x.notes.tally ≡ true
         both = ap (λ (j : ℕ). not (j == 0) && not (j == 4)) (eqb-true x.notes.tally.stage 2 d)
-
-        by_adds : (b : Bool) → ((x.notes.tally.segment == S) && (cell_in (tally_args x.args) == C)) ≡ b → Sum S C (cells_of S C (update x.notes.tally.segment (with_cell (cell_in (tally_args x.args)) value) s.segments)) (change t (with_fields (with_notes (with_tally tally_written))) s.tasks)
-        by_adds true a = write_here t value x y e k d w f (λ i. both i && a i)
-        by_adds false a = write_other t value x y e d f a
 
     write_quiet : (x : _) (c : ℕ) (value : ℤ) (r : Reply) → AllGives (Quiet says_ok) (row s who (op.ShmemWrite x c value) r)
     write_quiet x c value r = λ p q. on_live (Quiet says_ok) (live_object s.segments x.0) _ _ (λ i. refl) (λ y f b d i. true_false refl i)
@@ -332,11 +298,9 @@ module _ (S C id n : ℕ) where
 
   -- after the end of a task, what it has written is what it adds where it has completed
   same_number : (t : Task) → HasEnded t → EndsRight S C t → weight S C t ≡ number_added S C t
-  same_number t e k = by_adds (adds S C t.notes.tally t.args) refl
-    where
-      by_adds : (b : Bool) → adds S C t.notes.tally t.args ≡ b → cond (b && past_read S C t.notes.tally) (number_in (tally_args t.args)) (pos 0) ≡ cond (b && is_completed t.state) (number_in (tally_args t.args)) (pos 0)
-      by_adds true a = ap (λ (b : Bool). cond b (number_in (tally_args t.args)) (pos 0)) (k e a)
-      by_adds false a = refl
+  same_number t e k = on_test (λ b. cond (b && past_read S C t.notes.tally) (number_in (tally_args t.args)) (pos 0) ≡ cond (b && is_completed t.state) (number_in (tally_args t.args)) (pos 0)) (adds S C t.notes.tally t.args)
+      (λ a. ap (λ (b : Bool). cond b (number_in (tally_args t.args)) (pos 0)) (k e a))
+      (λ a. refl)
 
 no_cells : (S C : ℕ) → cells_of S C [] ≡ None
 unfolding record_of

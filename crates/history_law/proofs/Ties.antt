@@ -1,24 +1,7 @@
 -- A running tally that has its mutex owns it, and at most one task runs on a worker.
-use Rattle.std.proofs.Common.{◌≡◌, ℕ, ◌+◌, ◌<◌, ◌≤◌, Bool, true, false, cond, List, [], ◌∷◌, Option, Some, None, inl, inr, refl, sym, ◌∙◌, ap, subst, arith}
-use Rattle.std.specs.Prelude.{◌==◌, ◌&&◌, not, ℤ}
-use Rattle.std.proofs.lemmas.Bool.{eqb-true, false_from_ne_true}
-use Rattle.mtapi_values.specs.declared.kinds.Kind.{Kind}
+use Rattle.history_law.proofs.Names.{◌≡◌, ℕ, ◌+◌, ◌<◌, ◌≤◌, Bool, true, false, cond, List, [], ◌∷◌, Option, Some, None, inl, inr, refl, sym, ◌∙◌, ap, subst, arith, ◌==◌, ◌&&◌, not, ℤ, eqb-true, false_from_ne_true, Kind, TaskEnd, Failed, holds, Op, Listed, live_of, live_object, any_listed, any_live, count_listed, with_fields, gone, is_member, freed, let_go, Mutex, tally_args, Task, Notes, TallyNotes, TaskState, Scheduled, Running, Ended, scheduled, runner, runs_on, runs_as, kind_number, is_unstarted, is_unended, with_state, with_notes, ended, new_task, State, Move, starts_task, runs_task, ends_task, ends_waiting, withdraws, notes, leaves, frees_members, lets_members_go, apply, fst_true, snd_true, both_true, not_true, rest_keeps, is_tally_end, mutex_in, and-false}
 use Rattle.mtapi_values.specs.declared.kinds.Kind.TheVariants as kind
-use Rattle.mtapi_values.specs.declared.ends.TaskEnd.{TaskEnd}
-use Rattle.mtapi_values.specs.declared.ends.TaskEnd.TheVariants.{Failed}
-use Rattle.mtapi_values.specs.Conditions.{holds}
-use Rattle.mtapi_machine.specs.declared.ops.Op.{Op}
-use Rattle.handle_pool.specs.Issued.{Listed, live_of, live_object, any_listed, any_live, count_listed, with_fields, gone}
-use Rattle.mtapi_objects.specs.Groups.{is_member, freed, let_go}
-use Rattle.mtapi_objects.specs.Mutexes.{Mutex}
-use Rattle.mtapi_objects.specs.Tasks.{tally_args, Task, Notes, TallyNotes, TaskState, Scheduled, Running, Ended, scheduled, runner, runs_on, runs_as, kind_number, is_unstarted, is_unended, with_state, with_notes, ended, new_task}
-use Rattle.mtapi_machine.specs.State.{State}
-use Rattle.mtapi_machine.specs.Moves.{Move, starts_task, runs_task, ends_task, ends_waiting, withdraws, notes, leaves, frees_members, lets_members_go, makes, alters, removes, apply}
-use Rattle.mtapi_machine.proofs.Made.{fst_true, snd_true, both_true, not_true}
-use Rattle.mtapi_machine.proofs.Moves.{sorts_keep}
-use Rattle.history_law.specs.Exclusion.{is_tally_end}
-use Rattle.history_law.specs.Tally.{mutex_in}
-use Rattle.history_law.proofs.Answered.{true_false}
+use Rattle.history_law.proofs.Answered.{true_false, whether}
 use Rattle.history_law.proofs.Every.{Every, every_issue, every_change, every_all, every_ends}
 use Rattle.history_law.proofs.Found.{FoundAs, found_changed, found_issued, count_changed, found_ends, found_all}
 use Rattle.history_law.proofs.Held.{DeadEnded}
@@ -120,10 +103,7 @@ module _ (n : ℕ) (ms : List (Listed Mutex)) where
   ties_move who o l s (leaves j) k v = every_change (Tied n ms) j gone s.tasks (λ r a i. i) v
   ties_move who o l s (frees_members g) k v = every_all (Tied n ms) _ freed s.tasks (λ r i. same_notes r.fields (λ t. (freed (record { handle = r.handle; live = r.live; fields = t })).fields) refl refl refl i) v
   ties_move who o l s (lets_members_go g) k v = every_all (Tied n ms) (is_member g) let_go s.tasks (λ r i. same_notes r.fields (λ t. (let_go (record { handle = r.handle; live = r.live; fields = t })).fields) refl refl refl i) v
-  ties_move who o l s (makes z j x) k v = sorts_keep Ties (λ t g q m c r y p. p) z _ s v
-  ties_move who o l s (alters z j f) k v = sorts_keep Ties (λ t g q m c r y p. p) z _ s v
-  ties_move who o l s (removes z j) k v = sorts_keep Ties (λ t g q m c r y p. p) z _ s v
-  ties_move who o l s _ k v = v
+  ties_move who o l s x k v = rest_keeps Ties (λ t g q m c r y p. p) x s v
 
 -- At most one task runs on a worker
 
@@ -148,26 +128,20 @@ abbrev pub AtMostOne : ℕ → State → Type 0
 AtMostOne w s = count_listed (runs_on w) s.tasks ≤ 1
 
 pub one_move : (w who : ℕ) (o : Op) (s : State) (x : Move) → May s who o x → AtMostOne w s → AtMostOne w (apply x s)
-one_move w who o s (runs_task j y z) k v = by_seat (y == w) refl
+one_move w who o s (runs_task j y z) k v = whether (y == w)
+    (λ e.
+    let same : who ≡ w = sym k.3 ∙ eqb-true y w e in
+    let none : count_listed (runs_on w) s.tasks ≡ 0 = none_count (runs_on w) s.tasks (subst (λ (x : ℕ). any_listed (runs_on x) s.tasks ≡ false) same k.4) in
+    let n = as_runs true e in
+    omega arith)
+    (λ e. let n = as_runs false e in let m : count_listed (runs_on w) s.tasks ≤ 1 = v in omega arith)
   where
     as_runs : (b : Bool) → (y == w) ≡ b → count_listed (runs_on w) (apply (runs_task j y z) s).tasks + cond (runs_on w k.0) 1 0 ≡ count_listed (runs_on w) s.tasks + cond b 1 0
     as_runs b e = count_changed (runs_on w) j (with_fields (with_state (Running y z))) b s.tasks k.0 k.1 (λ r a f. ap (λ (c : Bool). c && (y == w)) a ∙ e)
-
-    by_seat : (b : Bool) → (y == w) ≡ b → count_listed (runs_on w) (apply (runs_task j y z) s).tasks ≤ 1
-    by_seat true e =
-        let same : who ≡ w = sym k.3 ∙ eqb-true y w e in
-        let none : count_listed (runs_on w) s.tasks ≡ 0 = none_count (runs_on w) s.tasks (subst (λ (x : ℕ). any_listed (runs_on x) s.tasks ≡ false) same k.4) in
-        let n = as_runs true e in
-        omega arith
-    by_seat false e = let n = as_runs false e in let m : count_listed (runs_on w) s.tasks ≤ 1 = v in omega arith
 one_move w who o s (ends_task j e) k v =
-    let n = count_changed (runs_on w) j (ended e s.ends) false s.tasks k.0 k.1 (λ r a f. never _) in
+    let n = count_changed (runs_on w) j (ended e s.ends) false s.tasks k.0 k.1 (λ r a f. and-false _) in
     let m : count_listed (runs_on w) s.tasks ≤ 1 = v in
     omega arith
-  where
-    never : (b : Bool) → (b && false) ≡ false
-    never true = refl
-    never false = refl
 one_move w who o s x k v = subst (λ (n : ℕ). n ≤ 1) (sym (other_count w who o s x refl k)) v
 
 -- where one task runs on a worker, after its end none of those that were listed does
@@ -247,7 +221,4 @@ on_move w h i who o n s (withdraws j f c) k v =
 on_move w h i who o n s (frees_members g) k v =
     found_all (On w h) _ freed i (λ r. refl) s.tasks v.0 v.1 v.2 (λ r a y d. absurd (not_over w h v.0 v.2 (not_true _ (snd_true (is_member g v.0) _ d))))
 on_move w h i who o n s (lets_members_go g) k v = found_all (On w h) (is_member g) let_go i (λ r. refl) s.tasks v.0 v.1 v.2 (λ r a y d. on_goes w h v.0 r v.2 a y)
-on_move w h i who o n s (makes z j x) k v = sorts_keep (OnAt w h i) (λ t g q m c r y p. p) z _ s v
-on_move w h i who o n s (alters z j f) k v = sorts_keep (OnAt w h i) (λ t g q m c r y p. p) z _ s v
-on_move w h i who o n s (removes z j) k v = sorts_keep (OnAt w h i) (λ t g q m c r y p. p) z _ s v
-on_move w h i who o n s _ k v = v
+on_move w h i who o n s x k v = rest_keeps (OnAt w h i) (λ t g q m c r y p. p) x s v

@@ -1,38 +1,13 @@
 -- An entry tells the end that the record has.
-use Rattle.std.proofs.Common.{◌≡◌, ℕ, Bool, true, false, cond, List, [], ◌∷◌, Option, Some, None, refl, ◌∙◌, ap, subst}
-use Rattle.std.specs.Prelude.{◌==◌, is_some}
-use Rattle.std.proofs.lemmas.Bool.{eqb-true}
-use Rattle.mtapi_values.specs.declared.ends.TaskEnd.{TaskEnd}
-use Rattle.mtapi_values.specs.declared.handles.TaskHandle.{TaskHandle}
-use Rattle.mtapi_values.specs.declared.handles.GroupHandle.{GroupHandle}
-use Rattle.action_fn.specs.Answers.{Answered}
-use Rattle.handle_pool.specs.Issued.{live_of, live_object, change}
-use Rattle.mtapi_objects.specs.Tasks.{Task, TaskState, Scheduled, Running, Ended, ended, watch_end}
-use Rattle.mtapi_objects.specs.Groups.{Ending, endings}
-use Rattle.mtapi_machine.specs.declared.terms.Terms.{Terms}
-use Rattle.mtapi_machine.specs.declared.ops.Op.{Op}
+use Rattle.history_law.proofs.Names.{◌≡◌, ℕ, Bool, true, false, cond, List, [], ◌∷◌, Option, Some, None, refl, ◌∙◌, ap, subst, ◌==◌, is_some, eqb-true, TaskEnd, TaskHandle, GroupHandle, Answered, live_of, live_object, change, Task, TaskState, Scheduled, Running, Ended, ended, watch_end, Ending, endings, Terms, Op, Reply, State, opening, Move, after_moves, Row, never, Allows, moves_of, row, gives_end, gives_first, looks_at, task_end, NodeEntry, IsNext, next, LegalFrom, Legal, after_from, after, end_in, end_at, after-append, AllGives, all_more, on_live, after_grows, end_told, given_told, done_told, told_by, TellsItsEnd}
 use Rattle.mtapi_machine.specs.declared.ops.Op.TheVariants as op
-use Rattle.mtapi_machine.specs.declared.replies.Reply.{Reply}
-use Rattle.mtapi_machine.specs.State.{State, opening}
-use Rattle.mtapi_machine.specs.Moves.{Move, after_moves}
-use Rattle.mtapi_machine.specs.Row.{Row, never, Allows, moves_of}
-use Rattle.mtapi_machine.specs.Rows.{row}
-use Rattle.mtapi_machine.specs.GroupRows.{gives_end, gives_first}
-use Rattle.mtapi_machine.specs.TaskRows.{looks_at}
-use Rattle.mtapi_machine.specs.WorkRows.{task_end}
-use Rattle.mtapi_machine.specs.Legal.{NodeEntry, IsNext, next, LegalFrom, Legal, after_from, after}
-use Rattle.mtapi_machine.specs.Ends.{end_in, end_at}
-use Rattle.mtapi_machine.proofs.Lists.{after-append}
-use Rattle.mtapi_machine.proofs.Made.{AllGives, all_more, on_live}
-use Rattle.mtapi_machine.proofs.Ends.{after_grows}
-use Rattle.history_law.specs.Told.{end_told, given_told, done_told, told_by, TellsItsEnd}
 use Rattle.history_law.proofs.Moves.{once_from}
 use Rattle.history_law.proofs.Handles.{OnceIn}
 use Rattle.history_law.proofs.Ends.{grows_end}
 use Rattle.history_law.proofs.Records.{read_changed}
 use Rattle.history_law.proofs.Ordered.{end_found}
 use Rattle.history_law.proofs.Objects.{cut_from}
-use Rattle.history_law.proofs.Answered.{NoRefusal, answered_by, no_live, no_cond, gives_cond, none_some}
+use Rattle.history_law.proofs.Answered.{NoRefusal, answered_by, no_live, no_cond, gives_cond, none_some, on_test}
 
 -- What a row answers with an end, where no refusal of it is one
 
@@ -52,16 +27,12 @@ module _ (s : State) (o : OnceIn s.tasks) where
   look_no : (who h : ℕ) (last : Bool) (x : TaskState) → NoRefusal (says end_told) (looks_at who h last x)
   look_no who h true Scheduled = tt
   look_no who h false Scheduled = tt
-  look_no who h true (Running w k) = tt
-  look_no who h false (Running w k) = tt
-  look_no who h last (Ended e n) = tt
+  look_no who h last x = tt
 
   look_tells : (who h : ℕ) (last : Bool) (e : TaskEnd) (t : Task) (x : TaskState) → live_object s.tasks h ≡ Some t → t.state ≡ x → AllGives (λ r ms. end_told r ≡ Some e → Before h e) (looks_at who h last x)
-  look_tells who h true e t Scheduled f d = λ i. none_some i
-  look_tells who h false e t Scheduled f d = λ i. none_some i
-  look_tells who h true e t (Running w k) f d = λ i. none_some i
-  look_tells who h false e t (Running w k) f d = λ i. none_some i
   look_tells who h last e t (Ended z n) f d = λ i. end_found s.tasks h t o f ∙ (ap end_in d ∙ i)
+  look_tells who h true e t x f d = λ i. none_some i
+  look_tells who h false e t x f d = λ i. none_some i
 
   told_look : (who : ℕ) (t : TaskHandle) (last : Bool) (r : Reply) (e : TaskEnd) → end_told r ≡ Some e → Allows (row s who (op.TaskLook t last) r) r → Before t.0 e
   told_look who t last r e i a =
@@ -137,11 +108,7 @@ module _ (s : State) (o : OnceIn s.tasks) where
       (λ c. on_live _ (live_object s.segments x.notes.tally.segment) never _ tt (λ y k. on_live _ (live_object s.mutexes x.notes.tally.mutex) never _ tt (λ z l j. ends_then t.0 _ s.ends x f ∙ j))))) a
 
 of_this : (t h : ℕ) (p : Option TaskEnd) (e : TaskEnd) (P : ℕ → Type 0) → cond (t == h) p None ≡ Some e → (p ≡ Some e → P t) → P h
-of_this t h p e P i k = by_test (t == h) refl i
-  where
-    by_test : (b : Bool) → (t == h) ≡ b → cond b p None ≡ Some e → P h
-    by_test true j d = subst P (eqb-true t h j) (k d)
-    by_test false j d = none_some d
+of_this t h p e P i k = on_test (λ b. cond b p None ≡ Some e → P h) (t == h) (λ j d. subst P (eqb-true t h j) (k d)) (λ j d. none_some d) i
 
 told_as : (s : State) (x : NodeEntry) (h : ℕ) (e : TaskEnd) → OnceIn s.tasks → IsNext s x → told_by h x.op x.reply ≡ Some e → end_at (next s x).tasks h ≡ Some e
 unfolding after_from

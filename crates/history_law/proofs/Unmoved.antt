@@ -1,11 +1,5 @@
 -- What an op leaves that alters and removes no object of a kind.
-use Rattle.std.proofs.Common.{◌≡◌, ℕ, ◌≤◌, true, List, Option, refl, ◌∙◌}
-use Rattle.handle_pool.specs.Issued.{Listed, live_object, listed}
-use Rattle.mtapi_machine.specs.State.{State}
-use Rattle.mtapi_machine.specs.Moves.{Sort, Fields, all_of}
-use Rattle.mtapi_machine.specs.Legal.{NodeEntry, next}
-use Rattle.mtapi_machine.specs.Laws.{AltersObject, RemovesObject, makes_kind}
-use Rattle.mtapi_machine.proofs.Moves.{by_moves}
+use Rattle.history_law.proofs.Names.{◌≡◌, ℕ, ◌≤◌, true, List, Option, refl, ◌∙◌, Listed, live_object, listed, State, Sort, Fields, all_of, NodeEntry, next, AltersObject, RemovesObject, makes_kind, by_moves}
 use Rattle.history_law.proofs.AtHandles.{at_issue_other}
 use Rattle.history_law.proofs.Reuse.{apart_if, listed_issue_some}
 use Rattle.history_law.proofs.Sorts.{sort_move}

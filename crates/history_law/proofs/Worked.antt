@@ -1,21 +1,8 @@
 -- The worked history, by the law and by computing.
-use Rattle.std.proofs.Common.{◌≡◌, List, [], ◌∷◌, ◌++◌, Some, refl, sym, ◌∙◌}
-use Rattle.std.specs.Prelude.{pos, false}
+use Rattle.history_law.proofs.Names.{◌≡◌, List, [], ◌∷◌, ◌++◌, Some, refl, sym, ◌∙◌, pos, TaskEnd, Completed, live_of, issue, change, listed, issued_at, retired, is_full, may_issue, has_worker, end_each, is_ready, can_take, has_better, NodeEntry, after_from, after, usual, first_handle, main, worker, add_task, picks_first, finishes_first, task, every_core, one_task, one_task-legal, end_at, EndsOnce, OneTaskEnds, false}
 use Rattle.mtapi_values.specs.declared.kinds.Kind.TheVariants as kind
-use Rattle.mtapi_values.specs.declared.ends.TaskEnd.{TaskEnd}
-use Rattle.mtapi_values.specs.declared.ends.TaskEnd.TheVariants.{Completed}
 use Rattle.mtapi_machine.specs.declared.ops.Op.TheVariants as op
 use Rattle.mtapi_machine.specs.declared.replies.Reply.TheVariants as reply
-use Rattle.handle_pool.specs.Issued.{live_of, issue, change, listed, issued_at, retired, is_full, may_issue}
-use Rattle.mtapi_objects.specs.Actions.{has_worker}
-use Rattle.mtapi_objects.specs.Tasks.{end_each}
-use Rattle.mtapi_machine.specs.WorkRows.{is_ready, can_take, has_better}
-use Rattle.mtapi_machine.specs.Legal.{NodeEntry, after_from, after}
-use Rattle.mtapi_machine.specs.Worked.{usual, first_handle, main, worker, add_task, picks_first, finishes_first, task, every_core, one_task}
-use Rattle.mtapi_machine.proofs.Worked.{one_task-legal}
-use Rattle.mtapi_machine.specs.Ends.{end_at}
-use Rattle.history_law.specs.Accepted.{EndsOnce}
-use Rattle.history_law.specs.Worked.{OneTaskEnds}
 use Rattle.history_law.proofs.Accepted.{accepted_end}
 
 -- what comes before the start, what follows it, and what comes before the final step

@@ -1,31 +1,6 @@
 -- The worked history of two tallies, by computing.
-use Rattle.std.proofs.Common.{◌≡◌, false, List, [], ◌∷◌, ◌++◌, Some, refl, sym, ◌∙◌, subst, arith}
-use Rattle.std.specs.Prelude.{ℤ, pos}
-use Rattle.std.proofs.lemmas.List.{append_assoc}
-use Rattle.mtapi_values.specs.Seats.{no_marks}
-use Rattle.mtapi_values.specs.declared.ends.TaskEnd.TheVariants.{Failed}
-use Rattle.action_fn.specs.Answers.{fits, answer_of}
-use Rattle.handle_pool.specs.Issued.{live_of, issue, change, change_all, listed, issued_at, retired, is_full, may_issue, with_fields, gone}
-use Rattle.mtapi_objects.specs.Actions.{has_worker}
-use Rattle.mtapi_objects.specs.Groups.{is_member, freed, let_go}
-use Rattle.mtapi_objects.specs.Tasks.{NewTask, Running, tally_args, new_task, with_state, with_notes, ended, end_each}
-use Rattle.mtapi_objects.specs.Segments.{Segment}
-use Rattle.mtapi_machine.specs.declared.ops.Op.{Op}
+use Rattle.history_law.proofs.Names.{◌≡◌, false, List, [], ◌∷◌, ◌++◌, Some, refl, sym, ◌∙◌, subst, arith, ℤ, pos, append_assoc, no_marks, Failed, fits, answer_of, live_of, issue, change, change_all, listed, issued_at, retired, is_full, may_issue, with_fields, gone, has_worker, is_member, freed, let_go, NewTask, Running, tally_args, new_task, with_state, with_notes, ended, end_each, Segment, Op, is_ready, can_take, has_better, State, opening, Move, starts_task, runs_task, ends_task, ends_waiting, withdraws, notes, leaves, frees_members, lets_members_go, apply, NodeEntry, next, Legal, after_from, after, replay, IsMade, StartsTask, h1, fits_of, by_moves, rest_keeps, legal_if, some_entry, tally_got, record_of, mutex_in, sum_of, number_added, writes_to, NamesOneMutex, two_workers, two_tallies, TalliesAddUp}
 use Rattle.mtapi_machine.specs.declared.ops.Op.TheVariants as op
-use Rattle.mtapi_machine.specs.WorkRows.{is_ready, can_take, has_better}
-use Rattle.mtapi_machine.specs.State.{State, opening}
-use Rattle.mtapi_machine.specs.Moves.{Move, starts_task, runs_task, ends_task, ends_waiting, withdraws, notes, leaves, frees_members, lets_members_go, makes, alters, removes, apply}
-use Rattle.mtapi_machine.specs.Legal.{NodeEntry, next, Legal, after_from, after}
-use Rattle.mtapi_machine.specs.Replay.{replay}
-use Rattle.mtapi_machine.specs.Laws.{IsMade, StartsTask}
-use Rattle.mtapi_machine.specs.Tables.{h1}
-use Rattle.mtapi_machine.proofs.Lines.{fits_of}
-use Rattle.mtapi_machine.proofs.Moves.{by_moves, sorts_keep}
-use Rattle.mtapi_machine.proofs.Replays.{legal_if}
-use Rattle.history_law.specs.Words.{some_entry}
-use Rattle.history_law.specs.Exclusion.{tally_got}
-use Rattle.history_law.specs.Tally.{record_of, mutex_in, sum_of, number_added, writes_to, NamesOneMutex}
-use Rattle.history_law.specs.WorkedSum.{two_workers, two_tallies, TalliesAddUp}
 use Rattle.history_law.proofs.Every.{Every, every_issue, every_change, every_all, every_at, every_ends}
 
 module _ (R : List ℤ → Type 0) where
@@ -52,10 +27,7 @@ module _ (R : List ℤ → Type 0) where
   args_move o k s (leaves j) e v = every_change (λ u. R u.args) j gone s.tasks (λ r a i. i) v
   args_move o k s (frees_members g) e v = every_all (λ u. R u.args) _ freed s.tasks (λ r i. i) v
   args_move o k s (lets_members_go g) e v = every_all (λ u. R u.args) (is_member g) let_go s.tasks (λ r i. i) v
-  args_move o k s (makes z j x) e v = sorts_keep (λ t. Every (λ u. R u.args) t.tasks) (λ t g q m c r y p. p) z _ s v
-  args_move o k s (alters z j f) e v = sorts_keep (λ t. Every (λ u. R u.args) t.tasks) (λ t g q m c r y p. p) z _ s v
-  args_move o k s (removes z j) e v = sorts_keep (λ t. Every (λ u. R u.args) t.tasks) (λ t g q m c r y p. p) z _ s v
-  args_move o k s _ e v = v
+  args_move o k s x e v = rest_keeps (λ t. Every (λ u. R u.args) t.tasks) (λ t g q m c r y p. p) x s v
 
   AllStart : List NodeEntry → Type 0
   AllStart [] = Unit {0}

@@ -1,32 +1,8 @@
 -- What a worker's pick and finish do to its task.
-use Rattle.std.proofs.Common.{◌≡◌, ℕ, ◌<◌, Bool, true, false, cond, List, [], ◌∷◌, Option, Some, None, refl, sym, ◌∙◌, ap, subst, arith, ℤ}
-use Rattle.std.specs.Prelude.{◌==◌, ◌&&◌, not, nat_lt}
-use Rattle.std.specs.Ordering.{int_eq}
-use Rattle.std.specs.Cmp.Lexicographic.{pointwise}
-use Rattle.history.specs.Histories.{entry}
-use Rattle.mtapi_values.specs.Conditions.{holds}
-use Rattle.mtapi_values.specs.declared.kinds.Kind.{Kind}
-use Rattle.mtapi_values.specs.declared.ends.TaskEnd.{TaskEnd}
+use Rattle.history_law.proofs.Names.{◌≡◌, ℕ, ◌<◌, Bool, true, false, cond, List, [], ◌∷◌, Option, Some, None, refl, sym, ◌∙◌, ap, subst, arith, ◌==◌, ◌&&◌, not, nat_lt, int_eq, pointwise, entry, holds, Kind, TaskEnd, Answered, eq-eqb, Decides-int_eq, slice_eq-Decides, Reply, Ok, Picked, Idle, Stop, Mtapi, live_object, count_listed, any_listed, change, with_fields, Action, is_eligible, Task, TaskState, Running, runner, runs_on, runs_as, kind_number, is_unstarted, with_state, no_tally, ended, finish_refusals, ActionHandle, State, workers, is_new, is_stop, tasks, changed, Row, unless, says, gives, never, only, Allows, after_row, mtapi_unless, live, is_ready, can_take, has_better, picks, task_end, IsNext, next, at-update, Work, RunsWith, Holds, Free, IsUntouched, and-false, fst_true, ℤ, runs_task, stops, ends_task}
+use Rattle.history_law.proofs.Others.{runs_scheduled}
 use Rattle.mtapi_values.specs.declared.statuses.MtapiStatus.TheVariants as m
-use Rattle.action_fn.specs.Answers.{Answered}
-use Rattle.std.proofs.lemmas.Bool.{eq-eqb}
-use Rattle.std.proofs.lemmas.Bool.Decides.{Decides-int_eq}
-use Rattle.std.proofs.lemmas.Slice.Eq.{slice_eq-Decides}
-use Rattle.mtapi_machine.specs.declared.replies.Reply.{Reply}
-use Rattle.mtapi_machine.specs.declared.replies.Reply.TheVariants.{Ok, Handle, Number, Given, Pending, Picked, Idle, Stop, Asked, Mtapi, Mrapi}
-use Rattle.mtapi_machine.specs.declared.replies.Reply.TheVariants as reply
 use Rattle.mtapi_machine.specs.declared.ops.Op.TheVariants as op
-use Rattle.handle_pool.specs.Issued.{live_object, count_listed, any_listed, change, with_fields}
-use Rattle.mtapi_objects.specs.Actions.{Action, is_eligible}
-use Rattle.mtapi_objects.specs.Tasks.{Task, TaskState, Scheduled, Running, Ended, scheduled, runner, runs_on, runs_as, kind_number, is_unstarted, with_state, no_tally, ended, finish_refusals}
-use Rattle.mtapi_values.specs.declared.handles.ActionHandle.{ActionHandle}
-use Rattle.mtapi_machine.specs.State.{State, workers, is_new, is_stop, tasks, changed}
-use Rattle.mtapi_machine.specs.Moves.{runs_task as runs_task, stops as stops_worker, ends_task as ends_task}
-use Rattle.mtapi_machine.specs.Row.{Row, unless, says, gives, never, only, Allows, after_row, mtapi_unless, live}
-use Rattle.mtapi_machine.specs.WorkRows.{is_ready, can_take, has_better, picks, task_end}
-use Rattle.mtapi_machine.specs.Legal.{IsNext, next}
-use Rattle.mtapi_machine.proofs.Changes.{at-update}
-use Rattle.history_law.specs.Seats.{Work, RunsWith, Holds, Free, IsUntouched}
 use Rattle.history_law.proofs.Found.{count_changed, count_none}
 use Rattle.history_law.proofs.RowRest.{Goes, pass, goes_then, small_not}
 
@@ -44,31 +20,16 @@ PickedAs s w Idle u = u ≡ s
 PickedAs s w Stop u = Unit {0}
 PickedAs s w _ u = ⊥
 
-true_false : {A : Type 0} {b : Bool} → b ≡ true → b ≡ false → A
-true_false e f = absurd (cc)
-
-left : (a b : Bool) → (a && b) ≡ true → a ≡ true
-left true b e = refl
-left false b e = e
-
 unstarted : (s : State) (w : ℕ) (t : Task) (x : Action) → (is_ready s t && is_eligible (workers s) w t.job t.cores x && not (has_better s w t.priority)) ≡ true → is_unstarted t ≡ true
 unfolding is_ready
-unstarted s w t x e = left (is_unstarted t) _ (left (is_ready s t) _ (left _ _ e))
-
-scheduled_apart : (w : ℕ) (t : Task) → is_unstarted t ≡ true → runs_on w t ≡ false
-scheduled_apart w t = by_state t.state
-  where
-    by_state : (x : TaskState) → scheduled x ≡ true → holds (λ r. r.0 == w) (runner x) ≡ false
-    by_state Scheduled e = refl
-    by_state (Running v k) e = absurd (cc)
-    by_state (Ended e n) i = absurd (cc)
+unstarted s w t x e = fst_true (is_unstarted t) _ (fst_true (is_ready s t) _ (fst_true _ _ e))
 
 -- a task that begins is the only one of its worker
 begins : (s : State) (w h : ℕ) (t : Task) (k : Kind) (args : List ℤ) → Untouched s → Free s w → live_object s.tasks h ≡ Some t → is_unstarted t ≡ true → args ≡ t.args → Holds (changed tasks h (with_state (Running w k)) s) w h (work_of k args)
 begins s w h t k args clean free a u e =
     let z = clean h t a u in
     let n = count_changed (runs_on w) h (with_fields (with_state (Running w k))) true s.tasks t a (λ r l i j. l j && (eq-eqb w w refl) j) in
-    let m : cond {A = ℕ} (runs_on w t) 1 0 ≡ 0 = ap (λ (b : Bool). cond {A = ℕ} b 1 0) (scheduled_apart w t u) in
+    let m : cond {A = ℕ} (runs_on w t) 1 0 ≡ 0 = ap (λ (b : Bool). cond {A = ℕ} b 1 0) (runs_scheduled w t u) in
     record {
       task = with_state (Running w k) t;
       found = at-update h (with_state (Running w k)) t s.tasks a;
@@ -119,29 +80,19 @@ idle s w false r a = subst (λ (x : Reply). PickedAs s w x s) (sym a) refl
 
 picks_as : (s : State) (w : ℕ) (r : Reply) → Untouched s → Free s w → Allows (picks s w r) r → PickedAs s w r (after_row s (picks s w r))
 picks_as s w (Picked t a k args) clean free p = chosen s w t.0 a (live_object s.tasks t.0) k args clean free refl p
-picks_as s w Idle clean free p = idle s w (any_listed (can_take s w) s.tasks) Idle p
-picks_as s w Ok clean free p = idle s w (any_listed (can_take s w) s.tasks) Ok p
-picks_as s w (Handle h) clean free p = idle s w (any_listed (can_take s w) s.tasks) (Handle h) p
-picks_as s w (Number h) clean free p = idle s w (any_listed (can_take s w) s.tasks) (Number h) p
-picks_as s w (reply.Ended h) clean free p = idle s w (any_listed (can_take s w) s.tasks) (reply.Ended h) p
-picks_as s w (Given h e) clean free p = idle s w (any_listed (can_take s w) s.tasks) (Given h e) p
-picks_as s w Pending clean free p = idle s w (any_listed (can_take s w) s.tasks) Pending p
-picks_as s w Stop clean free p = idle s w (any_listed (can_take s w) s.tasks) Stop p
-picks_as s w (Asked h) clean free p = idle s w (any_listed (can_take s w) s.tasks) (Asked h) p
-picks_as s w (Mtapi h) clean free p = idle s w (any_listed (can_take s w) s.tasks) (Mtapi h) p
-picks_as s w (Mrapi h) clean free p = idle s w (any_listed (can_take s w) s.tasks) (Mrapi h) p
+picks_as s w r clean free p = idle s w (any_listed (can_take s w) s.tasks) r p
 
-stops_as : (b : Bool) (s : State) (w : ℕ) (r : Reply) → Untouched s → Free s w → Allows (cond b (gives Stop (stops_worker w ∷ [])) (picks s w r)) r → PickedAs s w r (after_row s (cond b (gives Stop (stops_worker w ∷ [])) (picks s w r)))
-stops_as true s w r clean free a = subst (λ (x : Reply). PickedAs s w x (after_row s (gives Stop (stops_worker w ∷ [])))) (sym a) tt
+stops_as : (b : Bool) (s : State) (w : ℕ) (r : Reply) → Untouched s → Free s w → Allows (cond b (gives Stop (stops w ∷ [])) (picks s w r)) r → PickedAs s w r (after_row s (cond b (gives Stop (stops w ∷ [])) (picks s w r)))
+stops_as true s w r clean free a = subst (λ (x : Reply). PickedAs s w x (after_row s (gives Stop (stops w ∷ [])))) (sym a) tt
 stops_as false s w r clean free a = picks_as s w r clean free a
 
-new_as : (b : Bool) (s : State) (w : ℕ) (r : Reply) → Untouched s → Free s w → Allows (unless b Idle (cond (is_stop s) (gives Stop (stops_worker w ∷ [])) (picks s w r))) r → PickedAs s w r (after_row s (unless b Idle (cond (is_stop s) (gives Stop (stops_worker w ∷ [])) (picks s w r))))
+new_as : (b : Bool) (s : State) (w : ℕ) (r : Reply) → Untouched s → Free s w → Allows (unless b Idle (cond (is_stop s) (gives Stop (stops w ∷ [])) (picks s w r))) r → PickedAs s w r (after_row s (unless b Idle (cond (is_stop s) (gives Stop (stops w ∷ [])) (picks s w r))))
 new_as true s w r clean free a = subst (λ (x : Reply). PickedAs s w x s) (sym a) refl
 new_as false s w r clean free a = stops_as (is_stop s) s w r clean free a
 
 pub picked_as : (s : State) (w : ℕ) (r : Reply) → w < workers s → Untouched s → Free s w → IsNext s (entry w op.Pick r) → PickedAs s w r (next s (entry w op.Pick r))
 picked_as s w r l clean free n =
-    let v : Row = unless (is_new s.phase) Idle (cond (is_stop s) (gives Stop (stops_worker w ∷ [])) (picks s w r)) in
+    let v : Row = unless (is_new s.phase) Idle (cond (is_stop s) (gives Stop (stops w ∷ [])) (picks s w r)) in
     let u : Row = unless (any_listed (runs_on w) s.tasks) (Mtapi m.ErrParameter) v in
     let g1 = pass (not (nat_lt w (workers s))) (Mtapi m.ErrParameter) r u s (small_not w (workers s) l) n.allowed in
     let g2 = pass (any_listed (runs_on w) s.tasks) (Mtapi m.ErrParameter) r v s (count_none (runs_on w) s.tasks free) g1.allowed in
@@ -169,15 +120,11 @@ runs_on_its w x t h = ap (λ (y : TaskState). holds (λ r. r.0 == w) (runner y))
 -- a task that ends leaves its worker free
 pub ends_free : (s : State) (w h : ℕ) (x : Work) (v : Holds s w h x) (e : TaskEnd) (n : ℕ) → count_listed (runs_on w) (change h (ended e n) s.tasks) ≡ 0
 ends_free s w h x v e n =
-    let m = count_changed (runs_on w) h (ended e n) false s.tasks v.task v.found (λ r l i. none _) in
+    let m = count_changed (runs_on w) h (ended e n) false s.tasks v.task v.found (λ r l i. and-false _) in
     let o : cond {A = ℕ} (runs_on w v.task) 1 0 ≡ 1 = ap (λ (b : Bool). cond {A = ℕ} b 1 0) (runs_on_its w x v.task v.runs) in
     omega (arith, m, o, v.alone)
-  where
-    none : (b : Bool) → (b && false) ≡ false
-    none true = refl
-    none false = refl
 
-same_list : (xs ys : List ℤ) → ys ≡ xs → pointwise int_eq xs ys ≡ true
+pub same_list : (xs ys : List ℤ) → ys ≡ xs → pointwise int_eq xs ys ≡ true
 same_list xs ys e = (slice_eq-Decides Decides-int_eq xs ys (pointwise int_eq xs ys) refl).1 (sym e)
 
 -- the row's ways to the live task that the worker has

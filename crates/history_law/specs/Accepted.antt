@@ -3,7 +3,7 @@ use Rattle.std.specs.Prelude.{◌≡◌, ℕ, List, [], ◌∷◌, ◌++◌, Opt
 use Rattle.mtapi_values.specs.declared.ends.TaskEnd.{TaskEnd}
 use Rattle.handle_pool.specs.Issued.{listed}
 use Rattle.mtapi_machine.specs.declared.ops.Op.{Op}
-use Rattle.mtapi_machine.specs.declared.ops.Op.TheVariants.{TaskStart, TaskEnqueue, Initialize, Release, Enter, Close, Final, JobGet, ActionCreate, ActionDelete, ActionDisable, ActionEnable, TaskLook, TaskCancel, GroupCreate, GroupDelete, AllLook, AnyLook, QueueCreate, QueueGet, QueueEnable, QueueDisable, QueueDelete, Pick, Finish, Asked, WatchEnd, TallyLock, TallyRead, TallyWrite, TallyEnd, MutexCreate, MutexGet, MutexDelete, MutexLook, MutexUnlock, SemCreate, SemGet, SemDelete, SemLook, SemUnlock, RwlCreate, RwlGet, RwlDelete, RwlLook, RwlUnlock, ShmemCreate, ShmemGet, ShmemDelete, ShmemAttach, ShmemDetach, ShmemRead, ShmemWrite}
+use Rattle.mtapi_machine.specs.declared.ops.Op.TheVariants.{TaskStart, TaskEnqueue, Final}
 use Rattle.mtapi_machine.specs.declared.replies.Reply.{Reply}
 use Rattle.mtapi_machine.specs.declared.replies.Reply.TheVariants.{Ok, Handle}
 use Rattle.mtapi_machine.specs.declared.terms.Terms.{Terms}
@@ -20,57 +20,7 @@ issued_by _ = None
 abbrev pub accepted_by : Op → Reply → Option ℕ
 accepted_by (TaskStart job args priority cores detached group) r = issued_by r
 accepted_by (TaskEnqueue q args cores detached group) r = issued_by r
-accepted_by Initialize r = None
-accepted_by Release r = None
-accepted_by Enter r = None
-accepted_by Close r = None
-accepted_by Final r = None
-accepted_by (JobGet job) r = None
-accepted_by (ActionCreate job kind cores) r = None
-accepted_by (ActionDelete a) r = None
-accepted_by (ActionDisable a) r = None
-accepted_by (ActionEnable a) r = None
-accepted_by (TaskLook t last) r = None
-accepted_by (TaskCancel t) r = None
-accepted_by GroupCreate r = None
-accepted_by (GroupDelete g) r = None
-accepted_by (AllLook g last) r = None
-accepted_by (AnyLook g last) r = None
-accepted_by (QueueCreate id job priority limit ordered retain) r = None
-accepted_by (QueueGet id) r = None
-accepted_by (QueueEnable q) r = None
-accepted_by (QueueDisable q) r = None
-accepted_by (QueueDelete q) r = None
-accepted_by Pick r = None
-accepted_by (Finish t done) r = None
-accepted_by (Asked t) r = None
-accepted_by (WatchEnd t) r = None
-accepted_by (TallyLock t) r = None
-accepted_by (TallyRead t) r = None
-accepted_by (TallyWrite t value) r = None
-accepted_by (TallyEnd t) r = None
-accepted_by (MutexCreate id recursive) r = None
-accepted_by (MutexGet id) r = None
-accepted_by (MutexDelete x) r = None
-accepted_by (MutexLook x last) r = None
-accepted_by (MutexUnlock x key) r = None
-accepted_by (SemCreate id limit) r = None
-accepted_by (SemGet id) r = None
-accepted_by (SemDelete x) r = None
-accepted_by (SemLook x last) r = None
-accepted_by (SemUnlock x) r = None
-accepted_by (RwlCreate id limit) r = None
-accepted_by (RwlGet id) r = None
-accepted_by (RwlDelete x) r = None
-accepted_by (RwlLook x writer last) r = None
-accepted_by (RwlUnlock x writer) r = None
-accepted_by (ShmemCreate id cells) r = None
-accepted_by (ShmemGet id) r = None
-accepted_by (ShmemDelete x) r = None
-accepted_by (ShmemAttach x) r = None
-accepted_by (ShmemDetach x) r = None
-accepted_by (ShmemRead x cell) r = None
-accepted_by (ShmemWrite x cell value) r = None
+accepted_by o r = None
 
 abbrev pub accepted : NodeEntry → Option ℕ
 accepted e = accepted_by e.op e.reply

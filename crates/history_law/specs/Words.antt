@@ -3,19 +3,11 @@ use Rattle.std.specs.Prelude.{ℕ, ◌+◌, Bool, true, false, ◌&&◌, ◌==�
 use Rattle.mtapi_values.specs.declared.handles.ObjectKind.{ObjectKind}
 use Rattle.mtapi_values.specs.declared.handles.ObjectKind.TheVariants as kind
 use Rattle.handle_pool.specs.Issued.{live_object, listed}
-use Rattle.mtapi_objects.specs.Actions.{Action}
-use Rattle.mtapi_objects.specs.Tasks.{Task}
-use Rattle.mtapi_objects.specs.Groups.{Group}
-use Rattle.mtapi_objects.specs.Queues.{Queue}
-use Rattle.mtapi_objects.specs.Mutexes.{Mutex}
-use Rattle.mtapi_objects.specs.Sems.{Sem}
-use Rattle.mtapi_objects.specs.Rwls.{Rwl}
-use Rattle.mtapi_objects.specs.Segments.{Segment}
 use Rattle.mtapi_machine.specs.declared.ops.Op.{Op}
 use Rattle.mtapi_machine.specs.declared.ops.Op.TheVariants.{ActionCreate, TaskStart, TaskEnqueue, GroupCreate, QueueCreate, MutexCreate, SemCreate, RwlCreate, ShmemCreate}
 use Rattle.mtapi_machine.specs.declared.replies.Reply.{Reply}
 use Rattle.mtapi_machine.specs.declared.replies.Reply.TheVariants.{Handle}
-use Rattle.mtapi_machine.specs.State.{State, Objects, actions, tasks, groups, queues, mutexes, sems, rwls, segments}
+use Rattle.mtapi_machine.specs.State.{State, objects_of}
 use Rattle.mtapi_machine.specs.Legal.{NodeEntry}
 
 -- some entry of the list passes
@@ -27,28 +19,6 @@ some_entry p (e ∷ es) = if p e then true else some_entry p es
 abbrev pub entries_that : (NodeEntry → Bool) → List NodeEntry → ℕ
 entries_that p [] = 0
 entries_that p (e ∷ es) = (if p e then 1 else 0) + entries_that p es
-
--- The objects of each kind
-
-abbrev pub FieldsOf : ObjectKind → Type 0
-FieldsOf kind.Action = Action
-FieldsOf kind.Task = Task
-FieldsOf kind.Group = Group
-FieldsOf kind.Queue = Queue
-FieldsOf kind.Mutex = Mutex
-FieldsOf kind.Sem = Sem
-FieldsOf kind.Rwl = Rwl
-FieldsOf kind.Shmem = Segment
-
-abbrev pub objects_of : (k : ObjectKind) → Objects (FieldsOf k)
-objects_of kind.Action = actions
-objects_of kind.Task = tasks
-objects_of kind.Group = groups
-objects_of kind.Queue = queues
-objects_of kind.Mutex = mutexes
-objects_of kind.Sem = sems
-objects_of kind.Rwl = rwls
-objects_of kind.Shmem = segments
 
 -- how many objects of the kind were issued under the handle
 abbrev pub times : ObjectKind → ℕ → State → ℕ

@@ -1,7 +1,8 @@
 -- In a quiet history a call isn't refused for which there is room and all that it needs.
 use Rattle.settled_runs.proofs.Names.{◌≡◌, ℕ, ◌+◌, ◌≤◌, ◌<◌, Bool, true, false, cond, List, [], ◌∷◌, refl, ◌∙◌, arith, length, ◌==◌, ◌&&◌, not, nat_tests, entry, ObjectKind, how_many, Listed, live_object, Task, NewTask, new_task, Op, Reply, Handle, Mtapi, Terms, State, opening, Move, starts_task, apply, after_moves, Allows, after_row, asked_for, asked_of, NodeEntry, IsNext, next, after, StartsTask, SameTask, given, on_only, on_live, by_moves, objects_of, entries_that, true_false, is_handle, makes_one, HasRoom, live_of, issue, retired, is_full, row, LegalFrom, after_from, zero, suc, ◌++◌, Option, Some, None, sym, ap, subst, ℤ, ◌||◌, nat_lt, is_none, is_some, eq-eqb, holds, Kind, Mask, GroupHandle, lookup, any_live, any_listed, Action, new_action, is_job, has_job, has_enabled_job, is_eligible, some_below, Ok, Phase, New, Open, Closing, Closed, workers, is_open, phase_is, makes, alters, removes, is_served, Row, unless, gives, never, only, number_of, Legal, IsMade, turns, Legal-front, some_same, sorts_keep, closes, NoClose, cut_from, cut_after, AreQuiet, IsOpened, IsServed, GroupIsMade, Asks, IsGranted, has_worker, inl, inr, cases_eq, cond_both, QuietCallsAreGranted, nat_le, QueueHandle, count_listed, with_fields, gone, is_unended, Queue, is_in, is_unended_in, queues, Queues, is_fresh, handle_of, live, new_queue, AltersObject, makes_kind, some_entry, none_first, Every, every_issue, every_change, sort_move, HasAction, makes_queue, puts, IsQueued, both_true}
 use Rattle.handle_pool.specs.Slots.{generation_of}
-use Rattle.history_law.specs.Words.{FieldsOf, makes as makes_object}
+use Rattle.history_law.specs.Words.{makes as makes_object}
+use Rattle.mtapi_machine.specs.State.{FieldsOf}
 use Rattle.history_law.proofs.Ages.{AgesEach, SameFields, kind_move}
 use Rattle.history_law.proofs.Others.{terms_stay}
 use Rattle.settled_runs.proofs.Stays.{made_objects_stay}

@@ -24,7 +24,7 @@ pub use Rattle.history_law.proofs.Reuse.{fresh_apart, fresh_unlisted, issues_fre
 pub use Rattle.history_law.proofs.Sorts.{sort_move}
 pub use Rattle.history_law.specs.Quiet.{AreQuiet, IsPlain, is_quiet}
 pub use Rattle.history_law.specs.Seats.{BySeats, NoClose, closes, is_release, is_released}
-pub use Rattle.history_law.specs.Words.{entries_that, issues, objects_of, some_entry, times}
+pub use Rattle.history_law.specs.Words.{entries_that, issues, some_entry, times}
 pub use Rattle.mtapi_machine.proofs.Changes.{some_same}
 pub use Rattle.mtapi_machine.proofs.Lists.{Legal-front, Legal-prefix, Legal-rest}
 pub use Rattle.mtapi_machine.proofs.Made.{AllGives, both_true, fst_true, given, not_false, not_true, on_live, on_only, snd_true}
@@ -37,7 +37,7 @@ pub use Rattle.mtapi_machine.specs.Legal.{IsNext, Legal, NodeEntry, after, next}
 pub use Rattle.mtapi_machine.specs.Moves.{Groups, Move, Queues, after_moves, alters, apply, enables, ends_task, ends_waiting, frees_members, is_fresh, is_served, leaves, lets_members_go, makes, makes_action, notes, phase_is, released, removes, runs_task, starts_task, withdraws}
 pub use Rattle.mtapi_machine.specs.QueueRows.{new_queue}
 pub use Rattle.mtapi_machine.specs.Row.{Allows, Row, after_row, gives, handle_of, live, moves_of, never, only, unless}
-pub use Rattle.mtapi_machine.specs.State.{State, groups, is_open, is_up, opening, queues, tasks, workers}
+pub use Rattle.mtapi_machine.specs.State.{State, groups, is_open, is_up, objects_of, opening, queues, tasks, workers}
 pub use Rattle.mtapi_machine.specs.TaskRows.{asked_for, asked_of, is_detached_member, number_of}
 pub use Rattle.mtapi_machine.specs.WorkRows.{task_end}
 pub use Rattle.mtapi_machine.specs.declared.ops.Op.{Op}

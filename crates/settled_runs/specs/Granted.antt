@@ -16,10 +16,10 @@ use Rattle.mtapi_machine.specs.declared.ops.Op.TheVariants.{Initialize, ActionCr
 use Rattle.mtapi_machine.specs.declared.replies.Reply.{Reply}
 use Rattle.mtapi_machine.specs.declared.replies.Reply.TheVariants.{Ok, Handle}
 use Rattle.mtapi_machine.specs.declared.terms.Terms.{Terms}
-use Rattle.mtapi_machine.specs.State.{State}
+use Rattle.mtapi_machine.specs.State.{State, objects_of}
 use Rattle.mtapi_machine.specs.QueueRows.{new_queue}
 use Rattle.mtapi_machine.specs.Legal.{NodeEntry, Legal, after}
-use Rattle.history_law.specs.Words.{objects_of, makes, some_entry, entries_that}
+use Rattle.history_law.specs.Words.{makes, some_entry, entries_that}
 use Rattle.history_law.specs.Seats.{NoClose}
 use Rattle.history_law.specs.Quiet.{AreQuiet}
 
