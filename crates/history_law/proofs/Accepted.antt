@@ -5,7 +5,7 @@ use Rattle.mtapi_machine.specs.declared.ops.Op.TheVariants as op
 use Rattle.history_law.proofs.Held.{AllEnded, all_first}
 use Rattle.history_law.proofs.Moves.{Stands, after_stands, Stopped, after_stopped, none_listed}
 use Rattle.history_law.proofs.Ends.{grows_listed, all_end, end_later}
-use Rattle.history_law.proofs.Handles.{some_issued}
+use Rattle.history_law.proofs.lists.Handles.{some_issued}
 use Rattle.history_law.proofs.Answered.{true_false}
 
 -- The entry that accepts a task lists it

@@ -5,7 +5,7 @@ use Rattle.mtapi_machine.specs.declared.ops.Op.TheVariants as op
 use Rattle.mtapi_values.specs.declared.statuses.MtapiStatus.TheVariants as m
 use Rattle.history_law.specs.Words.{makes as makes_kind}
 use Rattle.history_law.proofs.Ages.{SameTask, SameAction, under_at, live_listed}
-use Rattle.history_law.proofs.Objects.{MadeAs, started_as, made_as, task_then, action_then, cut_from, has_behind}
+use Rattle.history_law.proofs.lists.Objects.{MadeAs, started_as, made_as, task_then, action_then, cut_from, has_behind}
 use Rattle.history_law.proofs.Answered.{true_false, on_test}
 use Rattle.history_law.proofs.Reuse.{listed_new, listed_same, was_issued}
 

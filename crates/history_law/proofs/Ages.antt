@@ -6,7 +6,7 @@ use Rattle.history_law.specs.Words.{makes as makes_object}
 use Rattle.history_law.proofs.Moves.{opens_fresh}
 use Rattle.history_law.proofs.Sorts.{sort_move}
 use Rattle.history_law.proofs.Answered.{true_false}
-use Rattle.history_law.proofs.Found.{at_head, at_here, at_past}
+use Rattle.history_law.proofs.lists.Found.{at_head, at_here, at_past}
 
 -- What no move changes of an object
 

@@ -6,7 +6,7 @@ use Rattle.mtapi_machine.proofs.Moves.{by_moves as made_moves}
 use Rattle.history_law.proofs.Answered.{true_false, none_first, whether, on_test}
 use Rattle.history_law.proofs.Accepted.{stands_after, final_marked}
 use Rattle.history_law.proofs.SeatMoves.{May, by_moves}
-use Rattle.history_law.proofs.Objects.{cut_from}
+use Rattle.history_law.proofs.lists.Objects.{cut_from}
 
 -- Release
 

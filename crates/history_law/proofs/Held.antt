@@ -1,7 +1,7 @@
 -- What holds after every legal list of the tasks, the phase and the marks of stopped workers, and the changes that keep it.
 use Rattle.history_law.proofs.Names.{◌≡◌, ℕ, zero, suc, ◌+◌, ◌≤◌, Bool, true, false, cond, List, [], ◌∷◌, ◌++◌, Some, refl, ◌∙◌, ap, arith, ◌==◌, ◌&&◌, is_none, slice_set, cond_both, TaskEnd, all_marked, Phase, New, Listed, live_of, live_object, any_listed, any_live, change, issue, listed, with_fields, gone, Task, TaskState, end_of, is_unended, ended, end_each, is_new, is_open, is_past_open, fst_true, snd_true}
-use Rattle.history_law.proofs.Found.{at_here, at_past}
-use Rattle.history_law.proofs.Handles.{once_more}
+use Rattle.history_law.proofs.lists.Found.{at_here, at_past}
+use Rattle.history_law.proofs.lists.Handles.{once_more}
 use Rattle.history_law.proofs.Answered.{true_false, none_first}
 
 -- the task has ended

@@ -5,16 +5,16 @@ use Rattle.mtapi_values.specs.declared.handles.ObjectKind.TheVariants as kind
 use Rattle.mtapi_machine.specs.declared.ops.Op.TheVariants as op
 use Rattle.history_law.specs.Order.{gives as gives_task, number_in}
 use Rattle.history_law.proofs.Moves.{once_from}
-use Rattle.history_law.proofs.Handles.{OnceIn, once_same, listed_change}
-use Rattle.history_law.proofs.Records.{read_found}
-use Rattle.history_law.proofs.Members.{AllOf, IsEnding, all_endings, all_insert}
+use Rattle.history_law.proofs.lists.Handles.{OnceIn, once_same, listed_change}
+use Rattle.history_law.proofs.lists.Records.{read_found}
+use Rattle.history_law.proofs.lists.Members.{AllOf, IsEnding, all_endings, all_insert}
 use Rattle.history_law.proofs.Numbers.{is_number, bit, has_number, Numbered, numbered_after}
 use Rattle.history_law.proofs.SeatMoves.{Noted, May, by_moves}
 use Rattle.history_law.proofs.Ages.{dead_none, none_dead, live_listed}
-use Rattle.history_law.proofs.AtHandles.{at_retired}
+use Rattle.history_law.proofs.lists.AtHandles.{at_retired}
 use Rattle.history_law.proofs.Reuse.{Gone, stays_gone}
 use Rattle.history_law.proofs.Answered.{true_false, NoRefusal, answered_by, no_live, none_some, on_test}
-use Rattle.history_law.proofs.Found.{at_head, at_here, at_past}
+use Rattle.history_law.proofs.lists.Found.{at_head, at_here, at_past}
 
 -- Sorted endings
 

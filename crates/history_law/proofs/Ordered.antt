@@ -7,11 +7,11 @@ use Rattle.history_law.specs.Ordered.{is_pick, picks}
 use Rattle.history_law.proofs.Held.{DeadEnded}
 use Rattle.history_law.proofs.Moves.{Stands, once_along, once_from}
 use Rattle.history_law.proofs.Accepted.{stands_after, shown}
-use Rattle.history_law.proofs.Handles.{OnceIn}
-use Rattle.history_law.proofs.Records.{read_found}
+use Rattle.history_law.proofs.lists.Handles.{OnceIn}
+use Rattle.history_law.proofs.lists.Records.{read_found}
 use Rattle.history_law.proofs.Ends.{grows_end}
 use Rattle.history_law.proofs.Ages.{SameTask, SameQueue, Under, under_at}
-use Rattle.history_law.proofs.Objects.{HasObject, QueueAs, started_as, queued_as, task_then, has_along}
+use Rattle.history_law.proofs.lists.Objects.{HasObject, QueueAs, started_as, queued_as, task_then, has_along}
 use Rattle.history_law.proofs.Affinity.{Took, row_took}
 use Rattle.history_law.proofs.Answered.{true_false, none_some, on_test}
 use Rattle.history_law.proofs.SeatMoves.{ready_unstarted}

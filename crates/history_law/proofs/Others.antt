@@ -4,9 +4,9 @@ use Rattle.history_law.proofs.Reuse.{terms_next}
 use Rattle.mtapi_machine.specs.declared.ops.Op.TheVariants as op
 use Rattle.history_law.proofs.SeatMoves.{SameWork, Noted, May, MayEnd, is_any_look, by_moves}
 use Rattle.history_law.proofs.Moves.{once_along, once_from}
-use Rattle.history_law.proofs.Members.{AllOf, IsEnding, all_endings}
-use Rattle.history_law.proofs.Every.{Every, every_issue, every_change, every_all, every_at, every_ends}
-use Rattle.history_law.proofs.Found.{FoundAs, found_changed, found_issued, count_changed, count_issued, found_ends, count_ends, found_all, count_all, both}
+use Rattle.history_law.proofs.lists.Members.{AllOf, IsEnding, all_endings}
+use Rattle.history_law.proofs.lists.Every.{Every, every_issue, every_change, every_all, every_at, every_ends}
+use Rattle.history_law.proofs.lists.Found.{FoundAs, found_changed, found_issued, count_changed, count_issued, found_ends, count_ends, found_all, count_all, both}
 use Rattle.history_law.proofs.Answered.{true_false}
 
 -- The mark of a waiter

@@ -3,9 +3,9 @@ use Rattle.history_law.proofs.Names.{◌≡◌, ℕ, Bool, true, false, cond, Li
 use Rattle.mtapi_values.specs.declared.kinds.Kind.TheVariants as kind
 use Rattle.mtapi_machine.specs.declared.ops.Op.TheVariants as op
 use Rattle.history_law.proofs.Answered.{true_false, whether}
-use Rattle.history_law.proofs.Every.{Every, every_issue, every_change, every_all, every_map, every_at, every_passing, always}
-use Rattle.history_law.proofs.Found.{found_changed, found_issued}
-use Rattle.history_law.proofs.KindNumbers.{same_kind}
+use Rattle.history_law.proofs.lists.Every.{Every, every_issue, every_change, every_all, every_map, every_at, every_passing, always}
+use Rattle.history_law.proofs.lists.Found.{found_changed, found_issued}
+use Rattle.history_law.proofs.lists.KindNumbers.{same_kind}
 
 -- What such a history keeps
 

@@ -2,11 +2,11 @@
 use Rattle.history_law.proofs.Names.{◌≡◌, ℕ, Bool, true, false, cond, List, [], ◌∷◌, Option, Some, None, refl, ◌∙◌, ap, subst, ◌==◌, is_some, eqb-true, TaskEnd, TaskHandle, GroupHandle, Answered, live_of, live_object, change, Task, TaskState, Scheduled, Running, Ended, ended, watch_end, Ending, endings, Terms, Op, Reply, State, opening, Move, after_moves, Row, never, Allows, moves_of, row, gives_end, gives_first, looks_at, task_end, NodeEntry, IsNext, next, LegalFrom, Legal, after_from, after, end_in, end_at, after-append, AllGives, all_more, on_live, after_grows, end_told, given_told, done_told, told_by, TellsItsEnd}
 use Rattle.mtapi_machine.specs.declared.ops.Op.TheVariants as op
 use Rattle.history_law.proofs.Moves.{once_from}
-use Rattle.history_law.proofs.Handles.{OnceIn}
+use Rattle.history_law.proofs.lists.Handles.{OnceIn}
 use Rattle.history_law.proofs.Ends.{grows_end}
-use Rattle.history_law.proofs.Records.{read_changed}
+use Rattle.history_law.proofs.lists.Records.{read_changed}
 use Rattle.history_law.proofs.Ordered.{end_found}
-use Rattle.history_law.proofs.Objects.{cut_from}
+use Rattle.history_law.proofs.lists.Objects.{cut_from}
 use Rattle.history_law.proofs.Answered.{NoRefusal, answered_by, no_live, no_cond, gives_cond, none_some, on_test}
 
 -- What a row answers with an end, where no refusal of it is one

@@ -3,7 +3,7 @@ use Rattle.history_law.proofs.Names.{◌≡◌, ℕ, ◌<◌, Bool, true, false,
 use Rattle.history_law.proofs.Others.{runs_scheduled}
 use Rattle.mtapi_values.specs.declared.statuses.MtapiStatus.TheVariants as m
 use Rattle.mtapi_machine.specs.declared.ops.Op.TheVariants as op
-use Rattle.history_law.proofs.Found.{count_changed, count_none}
+use Rattle.history_law.proofs.lists.Found.{count_changed, count_none}
 use Rattle.history_law.proofs.RowRest.{Goes, pass, goes_then, small_not}
 
 -- each task that hasn't begun is untouched

@@ -18,7 +18,7 @@ use Rattle.mtapi_machine.specs.State.{State, opening}
 use Rattle.mtapi_machine.specs.Laws.{start_numbers}
 use Rattle.mtapi_machine.proofs.Served.{served, after_served}
 use Rattle.mtapi_machine.proofs.StartOrder.{after_numbered, rises-front}
-use Rattle.history_law.proofs.Attends.{tallies_hold}
+use Rattle.history_law.proofs.tallies.Attends.{tallies_hold}
 use Rattle.node_steps.specs.Sound.{Sound}
 use Rattle.mtapi_machine.specs.Legal.{NodeEntry, IsNext, next, LegalFrom, Legal, after_from, after}
 use Rattle.mtapi_machine.proofs.Lists.{Legal-append, Legal-one, after-one}

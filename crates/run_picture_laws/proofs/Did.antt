@@ -27,13 +27,13 @@ use Rattle.mtapi_machine.specs.TallyRows.{takes_both, locks}
 use Rattle.mtapi_machine.proofs.Made.{not_false}
 use Rattle.mtapi_machine.proofs.Changes.{at-update}
 use Rattle.history_law.proofs.Answered.{true_false, first_false, second_false}
-use Rattle.history_law.proofs.Every.{every_at}
-use Rattle.history_law.proofs.Firsts.{first_at, one_passes}
-use Rattle.history_law.proofs.Found.{FoundAs}
-use Rattle.history_law.proofs.Handles.{OnceIn}
+use Rattle.history_law.proofs.lists.Every.{every_at}
+use Rattle.history_law.proofs.lists.Firsts.{first_at, one_passes}
+use Rattle.history_law.proofs.lists.Found.{FoundAs}
+use Rattle.history_law.proofs.lists.Handles.{OnceIn}
 use Rattle.history_law.proofs.Reuse.{fresh_unlisted}
-use Rattle.history_law.proofs.Said.{Says, said, says_only, says_look, says_alter, says_delete}
-use Rattle.history_law.proofs.Ties.{has_both, Owns, id_in, Tied, Ties, AtMostOne, On, as_on}
+use Rattle.history_law.proofs.RowReplies.{Says, said, says_only, says_look, says_alter, says_delete}
+use Rattle.history_law.proofs.tallies.Ties.{has_both, Owns, id_in, Tied, Ties, AtMostOne, On, as_on}
 use Rattle.history_law.proofs.Unmoved.{list_stays}
 use Rattle.run_picture.specs.declared.locks.Lock.{Lock}
 use Rattle.run_picture.specs.declared.locks.Lock.TheVariants as lock

@@ -32,11 +32,11 @@ use Rattle.history_law.specs.Seats.{says_ok}
 use Rattle.history_law.specs.Exclusion.{says_end}
 use Rattle.history_law.specs.Told.{tells}
 use Rattle.history_law.proofs.Answered.{true_false, answered, no_live}
-use Rattle.history_law.proofs.Firsts.{found_count}
+use Rattle.history_law.proofs.lists.Firsts.{found_count}
 use Rattle.history_law.proofs.Others.{terms_stay}
-use Rattle.history_law.proofs.Ties.{none_count}
+use Rattle.history_law.proofs.tallies.Ties.{none_count}
 use Rattle.history_law.proofs.Told.{tells_its_end}
-use Rattle.history_law.proofs.Found.{at_here, at_head, at_past}
+use Rattle.history_law.proofs.lists.Found.{at_here, at_head, at_past}
 use Rattle.run_picture.specs.declared.shapes.Bar.{Bar}
 use Rattle.run_picture.specs.declared.shapes.BarEnd.{BarEnd}
 use Rattle.run_picture.specs.declared.shapes.BarEnd.TheVariants as barend

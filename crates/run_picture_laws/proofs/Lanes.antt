@@ -23,14 +23,14 @@ use Rattle.mtapi_machine.proofs.Made.{on_live, snd_true, not_false}
 use Rattle.mtapi_machine.proofs.Changes.{some_same}
 use Rattle.history_law.specs.Exclusion.{says_end}
 use Rattle.history_law.proofs.Answered.{true_false, gives_cond, answered, no_live, no_cond}
-use Rattle.history_law.proofs.Exclusive.{Good, good_next, good_opening, one_runner, quiet_end}
-use Rattle.history_law.proofs.Firsts.{found_count, one_passes}
-use Rattle.history_law.proofs.Found.{FoundAs}
-use Rattle.history_law.proofs.KindNumbers.{same_kind}
+use Rattle.history_law.proofs.locks.Exclusive.{Good, good_next, good_opening, one_runner, quiet_end}
+use Rattle.history_law.proofs.lists.Firsts.{found_count, one_passes}
+use Rattle.history_law.proofs.lists.Found.{FoundAs}
+use Rattle.history_law.proofs.lists.KindNumbers.{same_kind}
 use Rattle.history_law.proofs.Others.{terms_stay}
 use Rattle.history_law.proofs.SeatMoves.{by_moves, by_made_moves}
-use Rattle.history_law.proofs.Tallies.{HasId, ids_move}
-use Rattle.history_law.proofs.Ties.{On, OnAt, on_move, as_on}
+use Rattle.history_law.proofs.tallies.Tallies.{HasId, ids_move}
+use Rattle.history_law.proofs.tallies.Ties.{On, OnAt, on_move, as_on}
 use Rattle.run_picture.specs.declared.locks.Lock.{Lock}
 use Rattle.run_picture.specs.declared.locks.Lock.TheVariants as lock
 use Rattle.run_picture.specs.declared.shapes.Running.{Running}

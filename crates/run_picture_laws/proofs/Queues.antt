@@ -23,14 +23,14 @@ use Rattle.mtapi_machine.specs.QueueRows.{new_queue}
 use Rattle.mtapi_machine.specs.Laws.{makes_kind, AltersObject}
 use Rattle.mtapi_machine.proofs.Made.{snd_true}
 use Rattle.mtapi_machine.proofs.Moves.{by_moves}
-use Rattle.history_law.proofs.Said.{said, says_only}
+use Rattle.history_law.proofs.RowReplies.{said, says_only}
 use Rattle.history_law.proofs.Sorts.{sort_move}
 use Rattle.mtapi_machine.specs.Legal.{NodeEntry, IsNext, next, LegalFrom, Legal, after_from, after}
 use Rattle.history_law.specs.Tally.{record_of}
 use Rattle.history_law.specs.Words.{some_entry, issues}
 use Rattle.history_law.proofs.Reuse.{fresh_unlisted, issues_fresh}
 use Rattle.history_law.proofs.Answered.{true_false, none_first}
-use Rattle.history_law.proofs.Handles.{OnceIn, head_apart}
+use Rattle.history_law.proofs.lists.Handles.{OnceIn, head_apart}
 use Rattle.history_law.proofs.OnceIssued.{once_none, once_next, listed_next}
 use Rattle.run_picture.specs.declared.shapes.QueueLane.{QueueLane}
 use Rattle.run_picture.specs.declared.pictures.Picture.{Picture}

@@ -38,11 +38,11 @@ use Rattle.mtapi_machine.proofs.Changes.{some_same}
 use Rattle.history_law.specs.Seats.{says_ok, AreUntouched}
 use Rattle.history_law.specs.Exclusion.{says_end}
 use Rattle.history_law.proofs.Answered.{true_false, gives_cond, answered, no_live}
-use Rattle.history_law.proofs.Found.{FoundAs, found_changed, found_issued, found_ends, found_all, count_changed, count_none}
+use Rattle.history_law.proofs.lists.Found.{FoundAs, found_changed, found_issued, found_ends, found_all, count_changed, count_none}
 use Rattle.history_law.proofs.Others.{other_count, runs_scheduled, runs_over, same_found, work_stays, unstarted_untouched}
 use Rattle.history_law.proofs.SeatMoves.{May, by_made_moves}
-use Rattle.history_law.proofs.Ties.{none_count}
-use Rattle.history_law.proofs.Exclusive.{end_count, quiet_end}
+use Rattle.history_law.proofs.tallies.Ties.{none_count}
+use Rattle.history_law.proofs.locks.Exclusive.{end_count, quiet_end}
 use Rattle.history_law.proofs.WorkerTurns.{picked_as}
 use Rattle.run_picture.specs.declared.shapes.Running.{Running}
 use Rattle.run_picture.specs.declared.rows.Work.{Work}

@@ -11,11 +11,11 @@ use Rattle.mtapi_machine.specs.State.{State}
 use Rattle.mtapi_machine.proofs.Made.{fst_true, snd_true, not_false}
 use Rattle.mtapi_machine.proofs.Changes.{some_same}
 use Rattle.history_law.proofs.Answered.{true_false}
-use Rattle.history_law.proofs.Firsts.{head_alone, found_count, one_passes}
-use Rattle.history_law.proofs.Found.{FoundAs, at_here, at_past}
-use Rattle.history_law.proofs.Handles.{OnceIn, once_rest, head_apart}
-use Rattle.history_law.proofs.Tallies.{HasId}
-use Rattle.history_law.proofs.Ties.{AtMostOne, On, on_runs}
+use Rattle.history_law.proofs.lists.Firsts.{head_alone, found_count, one_passes}
+use Rattle.history_law.proofs.lists.Found.{FoundAs, at_here, at_past}
+use Rattle.history_law.proofs.lists.Handles.{OnceIn, once_rest, head_apart}
+use Rattle.history_law.proofs.tallies.Tallies.{HasId}
+use Rattle.history_law.proofs.tallies.Ties.{AtMostOne, On, on_runs}
 use Rattle.run_picture.specs.declared.locks.Lock.{Lock}
 use Rattle.run_picture.specs.declared.locks.Lock.TheVariants as lock
 use Rattle.run_picture.specs.declared.shapes.MutexLane.{MutexLane}

@@ -31,12 +31,12 @@ use Rattle.mtapi_machine.specs.Legal.{IsNext, next}
 use Rattle.mtapi_machine.proofs.Made.{fst_true, not_false}
 use Rattle.mtapi_machine.proofs.Changes.{at-update, some_same}
 use Rattle.history_law.proofs.Answered.{true_false}
-use Rattle.history_law.proofs.Handles.{OnceIn}
+use Rattle.history_law.proofs.lists.Handles.{OnceIn}
 use Rattle.history_law.specs.Tally.{record_of}
 use Rattle.history_law.proofs.Ages.{live_listed}
 use Rattle.history_law.proofs.Reuse.{fresh_unlisted}
-use Rattle.history_law.proofs.Said.{Says, said, says_only}
-use Rattle.history_law.proofs.Sums.{record_at}
+use Rattle.history_law.proofs.RowReplies.{Says, said, says_only}
+use Rattle.history_law.proofs.lists.Sums.{record_at}
 use Rattle.run_picture.specs.declared.waits.Wait.{Wait}
 use Rattle.run_picture.specs.declared.waits.Wait.TheVariants as wait
 use Rattle.run_picture.specs.Waits.{wait_of}

@@ -16,8 +16,8 @@ use Rattle.mtapi_machine.proofs.Made.{fst_true, snd_true, not_true, found_holds}
 use Rattle.mtapi_machine.proofs.Moves.{by_moves, sorts_keep}
 use Rattle.mtapi_machine.proofs.Changes.{some_same}
 use Rattle.history_law.proofs.Answered.{true_false}
-use Rattle.history_law.proofs.Found.{at_here, at_past, at_head}
-use Rattle.history_law.proofs.Handles.{OnceIn, once_rest, head_apart}
+use Rattle.history_law.proofs.lists.Found.{at_here, at_past, at_head}
+use Rattle.history_law.proofs.lists.Handles.{OnceIn, once_rest, head_apart}
 
 -- the task is live and hasn't begun
 abbrev pub waits : Listed Task → Bool

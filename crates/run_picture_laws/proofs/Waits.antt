@@ -10,7 +10,7 @@ use Rattle.mtapi_objects.specs.Queues.{is_in, is_waiting_in}
 use Rattle.mtapi_machine.specs.State.{State}
 use Rattle.mtapi_machine.proofs.Made.{fst_true, snd_true, both_true, not_true}
 use Rattle.history_law.proofs.Answered.{true_false}
-use Rattle.history_law.proofs.Handles.{OnceIn, head_apart}
+use Rattle.history_law.proofs.lists.Handles.{OnceIn, head_apart}
 use Rattle.run_picture.specs.declared.shapes.QueueLane.{QueueLane}
 use Rattle.run_picture.specs.declared.waits.Wait.TheVariants as wait
 use Rattle.run_picture.specs.declared.waits.Place.{Place}

@@ -21,7 +21,7 @@ use Rattle.mtapi_machine.specs.Legal.{NodeEntry, next, LegalFrom, after_from}
 use Rattle.mtapi_machine.proofs.Made.{AllGives, moves_given, on_live, on_only}
 use Rattle.mtapi_machine.proofs.Moves.{by_moves as made_moves}
 use Rattle.history_law.proofs.Answered.{true_false, second_false, gives_cond}
-use Rattle.history_law.proofs.Every.{Every, every_issue, every_change}
+use Rattle.history_law.proofs.lists.Every.{Every, every_issue, every_change}
 
 -- at most 64 deep, and 0 where nobody owns it
 pub record Shallow (m : Mutex) : Type 0 where

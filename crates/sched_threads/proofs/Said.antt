@@ -25,7 +25,7 @@ use Rattle.mtapi_machine.specs.TaskRows.{looks_at, cancels}
 use Rattle.mtapi_machine.specs.Rows.{row}
 use Rattle.mtapi_machine.specs.Kept.{is_pending}
 use Rattle.history_law.specs.Seats.{is_late_end}
-use Rattle.history_law.proofs.Every.{Every, every_at}
+use Rattle.history_law.proofs.lists.Every.{Every, every_at}
 use Rattle.history_law.proofs.Others.{InTime}
 use Rattle.sched_workers.proofs.Rows.{AllSays, said, on_live, on_only}
 use Rattle.sched_workers.specs.declared.calls.Wanted.{Wanted}

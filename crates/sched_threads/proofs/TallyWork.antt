@@ -26,7 +26,7 @@ use Rattle.mtapi_machine.specs.TallyRows.{takes_both, locks, gives_up, gives_bac
 use Rattle.mtapi_machine.specs.Legal.{IsNext, next}
 use Rattle.mtapi_machine.proofs.Changes.{at-update}
 use Rattle.history_law.specs.Seats.{Work, Holds, Free}
-use Rattle.history_law.proofs.Found.{count_changed}
+use Rattle.history_law.proofs.lists.Found.{count_changed}
 use Rattle.history_law.proofs.RowRest.{Goes, pass, goes_then}
 use Rattle.history_law.proofs.WorkerTurns.{runs_as_its, runs_on_its, ends_free, own_goes}
 

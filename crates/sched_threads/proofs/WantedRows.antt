@@ -22,7 +22,7 @@ use Rattle.mtapi_machine.specs.TaskRows.{looks_at}
 use Rattle.mtapi_machine.specs.Rows.{row}
 use Rattle.mtapi_machine.specs.Kept.{is_pending, drops}
 use Rattle.history_law.specs.Seats.{is_late_end}
-use Rattle.history_law.proofs.Every.{Every}
+use Rattle.history_law.proofs.lists.Every.{Every}
 use Rattle.history_law.proofs.Others.{InTime, in_time}
 use Rattle.sched_workers.specs.Lines.{is_timeout}
 use Rattle.sched_workers.proofs.Rows.{AllSays, said, on_live}

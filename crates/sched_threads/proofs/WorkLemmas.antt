@@ -27,7 +27,7 @@ use Rattle.mtapi_machine.specs.WorkRows.{is_ready, can_take, has_better, picks, 
 use Rattle.mtapi_machine.specs.Legal.{IsNext, next}
 use Rattle.mtapi_machine.proofs.Changes.{at-update}
 use Rattle.history_law.specs.Seats.{Work, RunsWith, Holds, Free, IsUntouched}
-use Rattle.history_law.proofs.Found.{count_changed, count_none}
+use Rattle.history_law.proofs.lists.Found.{count_changed, count_none}
 use Rattle.history_law.proofs.RowRest.{pass}
 use Rattle.history_law.proofs.WorkerTurns.{runs_as_its, runs_on_its, ends_free, own_goes}
 

@@ -13,12 +13,12 @@ pub use Rattle.history.specs.Histories.{entries_of, entry}
 pub use Rattle.history_law.proofs.Accepted.{accepted_end, front_stays, granted, no_handle, refuses_live, refuses_only}
 pub use Rattle.history_law.proofs.Ages.{SameTask, Under, live_listed}
 pub use Rattle.history_law.proofs.Answered.{none_first, none_some, second_false, true_false}
-pub use Rattle.history_law.proofs.AtHandles.{at_issue_here, at_issue_other}
+pub use Rattle.history_law.proofs.lists.AtHandles.{at_issue_here, at_issue_other}
 pub use Rattle.history_law.proofs.Bounds.{by_seats}
-pub use Rattle.history_law.proofs.Every.{Every, always, every_all, every_at, every_change, every_ends, every_issue, every_map}
-pub use Rattle.history_law.proofs.Found.{FoundAs, at_head, at_here, at_past, at_skip, found_all, found_changed, found_ends, found_issued}
-pub use Rattle.history_law.proofs.Handles.{OnceIn, once_rest}
-pub use Rattle.history_law.proofs.Objects.{HasObject, StartedAs, cut_after, cut_from, has_behind, has_new, started_as, task_then}
+pub use Rattle.history_law.proofs.lists.Every.{Every, always, every_all, every_at, every_change, every_ends, every_issue, every_map}
+pub use Rattle.history_law.proofs.lists.Found.{FoundAs, at_head, at_here, at_past, at_skip, found_all, found_changed, found_ends, found_issued}
+pub use Rattle.history_law.proofs.lists.Handles.{OnceIn, once_rest}
+pub use Rattle.history_law.proofs.lists.Objects.{HasObject, StartedAs, cut_after, cut_from, has_behind, has_new, started_as, task_then}
 pub use Rattle.history_law.proofs.Quiet.{IsCalm, calm_along, calm_next, calm_opening, none_impure, none_withdrawn, quiet_tasks_end_plainly}
 pub use Rattle.history_law.proofs.Reuse.{fresh_apart, fresh_unlisted, issues_fresh, listed_move}
 pub use Rattle.history_law.proofs.Sorts.{sort_move}

@@ -4,7 +4,7 @@ use Rattle.settled_runs.proofs.Each.{one_look, PartAt, Within, any_left, each_ma
 use Rattle.settled_runs.proofs.Along.{step_settled}
 use Rattle.history_law.specs.Words.{makes as makes_object, is_handle}
 use Rattle.history_law.specs.Accepted.{accepted_by, accepted, EndsOnce}
-use Rattle.history_law.proofs.KindNumbers.{same_kind}
+use Rattle.history_law.proofs.lists.KindNumbers.{same_kind}
 use Rattle.settled_runs.specs.RunEnds.{SettledTasksEndAsPlanned}
 use Rattle.settled_runs.proofs.OneFault.{one_number}
 use Rattle.workload_file.specs.declared.workload.Deed.TheVariants as deed

@@ -1,6 +1,6 @@
-use Rattle.history_law.proofs.Exclusion.{sems_keep_to}
-use Rattle.history_law.proofs.Exclusive.{mutexes_keep_to}
-use Rattle.history_law.proofs.RwlSteps.{rwls_keep_to}
+use Rattle.history_law.proofs.locks.Exclusion.{sems_keep_to}
+use Rattle.history_law.proofs.locks.Exclusive.{mutexes_keep_to}
+use Rattle.history_law.proofs.locks.RwlSteps.{rwls_keep_to}
 use Rattle.history_law.proofs.law_exclusion.Goals as goal
 
 pub returns-clause-mutexes : goal.returns-clause-mutexes

@@ -1,4 +1,4 @@
-use Rattle.history_law.proofs.TallySteps.{holds_the_sum}
+use Rattle.history_law.proofs.tallies.TallySteps.{holds_the_sum}
 use Rattle.history_law.proofs.law_tally.Goals as goal
 
 pub returns : goal.returns

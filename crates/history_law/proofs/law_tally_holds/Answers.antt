@@ -1,4 +1,4 @@
-use Rattle.history_law.proofs.Attends.{tallies_hold}
+use Rattle.history_law.proofs.tallies.Attends.{tallies_hold}
 use Rattle.history_law.proofs.law_tally_holds.Goals as goal
 
 pub returns : goal.returns

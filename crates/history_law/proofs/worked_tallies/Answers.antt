@@ -1,4 +1,4 @@
-use Rattle.history_law.proofs.WorkedSum.{tallies_add_up}
+use Rattle.history_law.proofs.tallies.WorkedSum.{tallies_add_up}
 use Rattle.history_law.proofs.worked_tallies.Goals as goal
 
 pub returns : goal.returns

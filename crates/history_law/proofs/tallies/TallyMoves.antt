@@ -2,11 +2,11 @@
 use Rattle.history_law.proofs.Names.{◌≡◌, ℕ, Bool, true, false, cond, List, Option, ◌⊎◌, inl, inr, refl, sym, ◌∙◌, ap, subst, ◌==◌, ◌&&◌, not, ℤ, pos, option_map, eqb-true, TaskEnd, Failed, Op, has_worker, Listed, live_of, change, with_fields, gone, is_member, freed, let_go, Mutex, Segment, Task, Notes, TallyNotes, Running, runs_on, is_unstarted, is_unended, with_state, with_notes, ended, new_task, tally_args, cell_in, number_in, tally_has, tally_read, State, workers, Move, Segments, starts_task, runs_task, ends_task, ends_waiting, withdraws, notes, leaves, frees_members, lets_members_go, makes, alters, removes, apply, IsMade, EndsTask, WithdrawsAction, ends_many, makes_kind, fst_true, unstarted_unended, rest_keeps, is_tally_end, record_of, is_completed, sum_of}
 use Rattle.mtapi_machine.specs.declared.ops.Op.TheVariants as op
 use Rattle.history_law.proofs.Answered.{true_false, whether}
-use Rattle.history_law.proofs.Every.{Every, every_issue, every_change, every_all, every_at, every_passing, every_both}
+use Rattle.history_law.proofs.lists.Every.{Every, every_issue, every_change, every_all, every_at, every_passing, every_both}
 use Rattle.history_law.proofs.SeatMoves.{May, MayEnd, Noted, SameWork, Does, stays, fails, has, reads, writes, is_tally_lock, is_tally_read, is_tally_write, writes_cells, EndsTally}
 use Rattle.history_law.proofs.Others.{same_found, runs_over}
-use Rattle.history_law.proofs.Ties.{has_both, Tied, Ties, ties_move, stage_none}
-use Rattle.history_law.proofs.Sums.{sum_issue, sum_change, sum_all, sum_ends, record_view}
+use Rattle.history_law.proofs.tallies.Ties.{has_both, Tied, Ties, ties_move, stage_none}
+use Rattle.history_law.proofs.lists.Sums.{sum_issue, sum_change, sum_all, sum_ends, record_view}
 
 and_off : (b c : Bool) → c ≡ false → (b && c) ≡ false
 and_off true c e = e

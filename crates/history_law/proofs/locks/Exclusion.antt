@@ -4,10 +4,10 @@ use Rattle.mtapi_values.specs.declared.handles.ObjectKind.TheVariants as kind
 use Rattle.mtapi_machine.specs.declared.ops.Op.TheVariants as op
 use Rattle.history_law.specs.Words.{makes as makes_object}
 use Rattle.history_law.proofs.Answered.{true_false}
-use Rattle.history_law.proofs.Counts.{one_if}
-use Rattle.history_law.proofs.Handles.{OnceIn}
-use Rattle.history_law.proofs.Locks.{Lock, LockStep, FitIn, count_in, has_in, as_step, step_same, on_look, on_unlock, on_delete, on_create, New, Kind, create_lists, look_misses, unlock_misses, none_got, counts_with, counts_any}
-use Rattle.history_law.proofs.Slots.{set_apart}
+use Rattle.history_law.proofs.lists.Counts.{one_if}
+use Rattle.history_law.proofs.lists.Handles.{OnceIn}
+use Rattle.history_law.proofs.locks.Locks.{Lock, LockStep, FitIn, count_in, has_in, as_step, step_same, on_look, on_unlock, on_delete, on_create, New, Kind, create_lists, look_misses, unlock_misses, none_got, counts_with, counts_any}
+use Rattle.history_law.proofs.lists.Slots.{set_apart}
 use Rattle.history_law.proofs.Unmoved.{live_stays}
 use Rattle.history_law.proofs.Reuse.{listed_same}
 

@@ -2,8 +2,8 @@
 use Rattle.history_law.proofs.Names.{◌≡◌, ℕ, ◌+◌, ◌<◌, ◌≤◌, Bool, true, false, cond, List, [], ◌∷◌, Option, Some, None, inl, inr, refl, sym, ◌∙◌, ap, subst, arith, ◌==◌, ◌&&◌, not, ℤ, eqb-true, false_from_ne_true, Kind, TaskEnd, Failed, holds, Op, Listed, live_of, live_object, any_listed, any_live, count_listed, with_fields, gone, is_member, freed, let_go, Mutex, tally_args, Task, Notes, TallyNotes, TaskState, Scheduled, Running, Ended, scheduled, runner, runs_on, runs_as, kind_number, is_unstarted, is_unended, with_state, with_notes, ended, new_task, State, Move, starts_task, runs_task, ends_task, ends_waiting, withdraws, notes, leaves, frees_members, lets_members_go, apply, fst_true, snd_true, both_true, not_true, rest_keeps, is_tally_end, mutex_in, and-false}
 use Rattle.mtapi_values.specs.declared.kinds.Kind.TheVariants as kind
 use Rattle.history_law.proofs.Answered.{true_false, whether}
-use Rattle.history_law.proofs.Every.{Every, every_issue, every_change, every_all, every_ends}
-use Rattle.history_law.proofs.Found.{FoundAs, found_changed, found_issued, count_changed, found_ends, found_all}
+use Rattle.history_law.proofs.lists.Every.{Every, every_issue, every_change, every_all, every_ends}
+use Rattle.history_law.proofs.lists.Found.{FoundAs, found_changed, found_issued, count_changed, found_ends, found_all}
 use Rattle.history_law.proofs.Held.{DeadEnded}
 use Rattle.history_law.proofs.SeatMoves.{May, Does, stays, fails, has, reads, writes, is_tally_lock, EndsTally}
 use Rattle.history_law.proofs.Others.{other_count, runs_scheduled, runs_over, same_found}

@@ -4,10 +4,10 @@ use Rattle.mtapi_values.specs.declared.handles.ObjectKind.TheVariants as kind
 use Rattle.mtapi_machine.specs.declared.ops.Op.TheVariants as op
 use Rattle.mtapi_machine.proofs.Moves.{by_moves as made_moves}
 use Rattle.history_law.proofs.Reuse.{fresh_unlisted}
-use Rattle.history_law.proofs.Handles.{OnceIn}
+use Rattle.history_law.proofs.lists.Handles.{OnceIn}
 use Rattle.history_law.proofs.Answered.{true_false, gives_cond, whether}
-use Rattle.history_law.proofs.AtHandles.{at_change_other, at_issue_other, at_issue_here, at_unlisted, at_retired}
-use Rattle.history_law.proofs.MutexSteps.{is_ending}
+use Rattle.history_law.proofs.lists.AtHandles.{at_change_other, at_issue_other, at_issue_here, at_unlisted, at_retired}
+use Rattle.history_law.proofs.locks.MutexSteps.{is_ending}
 
 -- Marks
 

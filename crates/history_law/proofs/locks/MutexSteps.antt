@@ -5,14 +5,14 @@ use Rattle.mtapi_values.specs.declared.statuses.MrapiStatus.TheVariants as c
 use Rattle.mtapi_machine.specs.declared.ops.Op.TheVariants as op
 use Rattle.mtapi_machine.specs.declared.replies.Reply.TheVariants as reply
 use Rattle.history_law.proofs.Reuse.{fresh_unlisted}
-use Rattle.history_law.proofs.Handles.{OnceIn}
-use Rattle.history_law.proofs.Every.{every_at}
+use Rattle.history_law.proofs.lists.Handles.{OnceIn}
+use Rattle.history_law.proofs.lists.Every.{every_at}
 use Rattle.history_law.proofs.Answered.{true_false, first_false, second_false, gives_cond, Quiet, whether, on_test}
-use Rattle.history_law.proofs.AtHandles.{at_change_other, at_issue_other, at_issue_here, at_unlisted, at_retired}
-use Rattle.history_law.proofs.Said.{said, says_look, says_alter}
+use Rattle.history_law.proofs.lists.AtHandles.{at_change_other, at_issue_other, at_issue_here, at_unlisted, at_retired}
+use Rattle.history_law.proofs.RowReplies.{said, says_look, says_alter}
 use Rattle.history_law.proofs.Unmoved.{list_stays}
-use Rattle.history_law.proofs.Ties.{Owns, id_in, Tied, Ties, as_on}
-use Rattle.history_law.proofs.Mutexes.{Step, stays, made, taken, given as gave, gone as left, got, back}
+use Rattle.history_law.proofs.tallies.Ties.{Owns, id_in, Tied, Ties, as_on}
+use Rattle.history_law.proofs.locks.Mutexes.{Step, stays, made, taken, given as gave, gone as left, got, back}
 
 -- The ops on mutexes, and the two of tallies
 

@@ -4,19 +4,19 @@ use Rattle.mtapi_values.specs.declared.statuses.MtapiStatus.TheVariants as m
 use Rattle.mtapi_machine.specs.declared.ops.Op.TheVariants as op
 use Rattle.mtapi_machine.specs.declared.replies.Reply.TheVariants as reply
 use Rattle.history_law.proofs.Accepted.{shown}
-use Rattle.history_law.proofs.Handles.{OnceIn}
-use Rattle.history_law.proofs.Found.{at_here, count_changed, count_issued, at_past}
+use Rattle.history_law.proofs.lists.Handles.{OnceIn}
+use Rattle.history_law.proofs.lists.Found.{at_here, count_changed, count_issued, at_past}
 use Rattle.history_law.proofs.Held.{DeadEnded}
-use Rattle.history_law.proofs.Every.{Every, every_change, every_map, always}
+use Rattle.history_law.proofs.lists.Every.{Every, every_change, every_map, always}
 use Rattle.history_law.proofs.SeatMoves.{May}
 use Rattle.history_law.proofs.Others.{runs_over}
 use Rattle.history_law.proofs.Answered.{true_false, gives_cond, whether, on_test}
-use Rattle.history_law.proofs.Firsts.{found_count, one_passes}
-use Rattle.history_law.proofs.Ties.{Owns, none_count, none_runs}
-use Rattle.history_law.proofs.Exclusive.{says_asked}
-use Rattle.history_law.proofs.Sums.{sum_none, record_new, record_beside, record_other, record_at, record_updated, cell_new}
-use Rattle.history_law.proofs.TallyMoves.{adds, weight, weigh_off, Each, HasRead, cells_of}
-use Rattle.history_law.proofs.Slots.{set_apart}
+use Rattle.history_law.proofs.lists.Firsts.{found_count, one_passes}
+use Rattle.history_law.proofs.tallies.Ties.{Owns, none_count, none_runs}
+use Rattle.history_law.proofs.locks.Exclusive.{says_asked}
+use Rattle.history_law.proofs.lists.Sums.{sum_none, record_new, record_beside, record_other, record_at, record_updated, cell_new}
+use Rattle.history_law.proofs.tallies.TallyMoves.{adds, weight, weigh_off, Each, HasRead, cells_of}
+use Rattle.history_law.proofs.lists.Slots.{set_apart}
 
 -- A change of the one task that runs on a worker
 

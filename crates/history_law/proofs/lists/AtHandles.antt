@@ -1,7 +1,7 @@
 -- The live object of a handle, after a change of the list.
 use Rattle.history_law.proofs.Names.{◌≡◌, ℕ, ◌+◌, ◌≤◌, Bool, true, false, cond, List, [], ◌∷◌, Some, None, refl, sym, ◌∙◌, ap, arith, ◌==◌, ◌&&◌, eqb-true, eq-eqb, cond_both, Listed, live_of, live_object, listed, change, issue, gone, snd_true}
-use Rattle.history_law.proofs.Found.{at_head, at_past, at_skip, at_dead, at_here}
-use Rattle.history_law.proofs.Handles.{OnceIn, once_rest, head_apart}
+use Rattle.history_law.proofs.lists.Found.{at_head, at_past, at_skip, at_dead, at_here}
+use Rattle.history_law.proofs.lists.Handles.{OnceIn, once_rest, head_apart}
 
 module _ {T : Type 0} where
   pub head_alike : (h : ℕ) (r : Listed T) (k l : List (Listed T)) → live_object k h ≡ live_object l h → live_object (r ∷ k) h ≡ live_object (r ∷ l) h

@@ -3,11 +3,11 @@ use Rattle.history_law.proofs.Names.{◌≡◌, ℕ, ◌+◌, ◌<◌, ◌≤◌
 use Rattle.mtapi_values.specs.declared.statuses.MrapiStatus.TheVariants as c
 use Rattle.history_law.specs.Words.{makes as makes_object}
 use Rattle.history_law.proofs.Accepted.{stands_after}
-use Rattle.history_law.proofs.AtHandles.{at_change_other, at_issue_here, at_retired, at_unlisted}
-use Rattle.history_law.proofs.Counts.{one_if, counts_along, counts_behind, passes}
-use Rattle.history_law.proofs.Handles.{OnceIn, some_issued}
+use Rattle.history_law.proofs.lists.AtHandles.{at_change_other, at_issue_here, at_retired, at_unlisted}
+use Rattle.history_law.proofs.lists.Counts.{one_if, counts_along, counts_behind, passes}
+use Rattle.history_law.proofs.lists.Handles.{OnceIn, some_issued}
 use Rattle.history_law.proofs.Reuse.{terms_next, unlisted_if, Listed1, listed_move, listed_new, none_times, fresh_unlisted, issues_fresh, issued_as, ListsIssued, none_listed}
-use Rattle.history_law.proofs.Said.{said, Unmet, says_only, says_unless, says_look, says_alter, says_delete}
+use Rattle.history_law.proofs.RowReplies.{said, Unmet, says_only, says_unless, says_look, says_alter, says_delete}
 use Rattle.history_law.proofs.Answered.{none_some, whether, on_test}
 use Rattle.history_law.proofs.OnceIssued.{once_move, once_next, listed_next}
 

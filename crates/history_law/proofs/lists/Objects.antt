@@ -8,7 +8,7 @@ use Rattle.history_law.proofs.Accepted.{granted, refuses_only, refuses_live, no_
 use Rattle.history_law.proofs.Ages.{SameFields, SameAction, SameTask, SameQueue, kind_move, listed_ages, Under, under_issue, under_none, under_ages, same_task}
 use Rattle.history_law.proofs.Reuse.{fresh_unlisted, fresh_apart, listed_issue_some, issued_as}
 use Rattle.history_law.proofs.Answered.{true_false}
-use Rattle.history_law.proofs.Handles.{some_issued}
+use Rattle.history_law.proofs.lists.Handles.{some_issued}
 
 -- an object was issued under the handle, and F holds of each that was
 pub record Has {T : Type 0} (h : ℕ) (F : T → Type 0) (l : List (Listed T)) : Type 0 where

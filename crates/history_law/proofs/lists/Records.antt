@@ -2,8 +2,8 @@
 use Rattle.history_law.proofs.Names.{◌≡◌, ℕ, ◌+◌, ◌≤◌, Bool, true, cond, List, [], ◌∷◌, Some, sym, ◌∙◌, ap, arith, ◌==◌, ◌&&◌, is_some, Listed, live_of, live_object, listed, change, snd_true, some_same, false_from_ne_true}
 use Rattle.history_law.proofs.Answered.{whether}
 use Rattle.history_law.proofs.Ages.{live_listed}
-use Rattle.history_law.proofs.Found.{at_here, change_here, change_past, at_head, at_past}
-use Rattle.history_law.proofs.Handles.{OnceIn, once_rest}
+use Rattle.history_law.proofs.lists.Found.{at_here, change_here, change_past, at_head, at_past}
+use Rattle.history_law.proofs.lists.Handles.{OnceIn, once_rest}
 
 module _ {T A : Type 0} (h : ℕ) (at : List (Listed T) → A) (of : T → A) (next : (r : Listed T) (rs : List (Listed T)) → at (r ∷ rs) ≡ cond (r.handle == h) (of r.fields) (at rs)) where
   -- a record that isn't live isn't the one of a live object

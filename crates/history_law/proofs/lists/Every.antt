@@ -1,6 +1,6 @@
 -- What holds of every task that was ever issued, after a change of the list.
 use Rattle.history_law.proofs.Names.{◌≡◌, ℕ, ◌+◌, Bool, true, List, [], ◌∷◌, Some, sym, ◌∙◌, subst, ◌==◌, ◌&&◌, cond_both, Listed, live_of, live_object, change, change_all, issue, TaskEnd, Task, Ended, with_state, ended, end_each, some_same, fst_true, snd_true}
-use Rattle.history_law.proofs.Found.{at_head, at_here, at_past}
+use Rattle.history_law.proofs.lists.Found.{at_head, at_here, at_past}
 
 module _ {T : Type 0} where
   -- P of the fields of each object

@@ -5,15 +5,15 @@ use Rattle.mtapi_values.specs.declared.handles.ObjectKind.TheVariants as kind
 use Rattle.mtapi_values.specs.declared.statuses.MtapiStatus.TheVariants as m
 use Rattle.mtapi_machine.specs.declared.ops.Op.TheVariants as op
 use Rattle.history_law.proofs.Answered.{true_false, gives_cond, whether}
-use Rattle.history_law.proofs.Every.{Every, every_issue, every_change, every_all, every_ends, every_map, every_at, always}
-use Rattle.history_law.proofs.Handles.{OnceIn}
+use Rattle.history_law.proofs.lists.Every.{Every, every_issue, every_change, every_all, every_ends, every_map, every_at, always}
+use Rattle.history_law.proofs.lists.Handles.{OnceIn}
 use Rattle.history_law.proofs.OnceIssued.{once_none, once_next}
 use Rattle.history_law.proofs.SeatMoves.{May, Does, stays, fails, has, reads, writes, is_tally_lock, by_moves}
 use Rattle.history_law.proofs.Others.{runs_scheduled, same_found}
-use Rattle.history_law.proofs.Ties.{has_both, Owns, id_in, Tied, stage_some, none_runs, as_on}
-use Rattle.history_law.proofs.MutexSteps.{is_ending}
-use Rattle.history_law.proofs.Exclusive.{Good, good_next, good_opening, end_count, quiet_end, one_runner, less_of, held_next, no_ending}
-use Rattle.history_law.proofs.Attached.{Step, HasMarks, marks_step, attached_step, mark_here, taken, segment_step}
+use Rattle.history_law.proofs.tallies.Ties.{has_both, Owns, id_in, Tied, stage_some, none_runs, as_on}
+use Rattle.history_law.proofs.locks.MutexSteps.{is_ending}
+use Rattle.history_law.proofs.locks.Exclusive.{Good, good_next, good_opening, end_count, quiet_end, one_runner, less_of, held_next, no_ending}
+use Rattle.history_law.proofs.locks.Attached.{Step, HasMarks, marks_step, attached_step, mark_here, taken, segment_step}
 
 -- a task that hasn't begun has nothing; a running one that has its segment runs on a worker that is attached to it
 pub record Attends (n : ℕ) (l : List (Listed Segment)) (t : Task) : Type 0 where

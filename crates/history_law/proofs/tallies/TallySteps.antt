@@ -5,18 +5,18 @@ use Rattle.mtapi_values.specs.declared.statuses.MtapiStatus.TheVariants as m
 use Rattle.mtapi_machine.specs.declared.ops.Op.TheVariants as op
 use Rattle.history_law.proofs.Accepted.{all_after}
 use Rattle.history_law.proofs.Reuse.{fresh_unlisted}
-use Rattle.history_law.proofs.Handles.{OnceIn}
+use Rattle.history_law.proofs.lists.Handles.{OnceIn}
 use Rattle.history_law.proofs.Ages.{live_listed}
 use Rattle.history_law.proofs.Held.{HasEnded, AllEnded}
-use Rattle.history_law.proofs.Every.{Every, every_change, every_map, every_at, always}
+use Rattle.history_law.proofs.lists.Every.{Every, every_change, every_map, every_at, always}
 use Rattle.history_law.proofs.SeatMoves.{by_moves, by_made_moves}
 use Rattle.history_law.proofs.OnceIssued.{once_none, once_next, listed_next}
 use Rattle.history_law.proofs.Answered.{true_false, first_false, second_false, none_first, answered, no_live, gives_cond, Quiet, whether, on_test}
-use Rattle.history_law.proofs.Ties.{has_both, Owns, Tied, as_on}
-use Rattle.history_law.proofs.Exclusive.{Good, good_next, good_opening}
-use Rattle.history_law.proofs.Sums.{sum_more, sum_change, sum_same, record_at, record_updated}
-use Rattle.history_law.proofs.TallyMoves.{adds, past_read, weight, written, both_of, weigh_off, weigh_early, written_move, Each, each_move, HasRead, read_move, EndsRight, right_move, RightTies, cells_of, cells_move}
-use Rattle.history_law.proofs.Tallies.{every_alone, some_worker, runs_unended, HasId, one_owner, ids_move, asked_true, lock_each, cell_value, Sum, sum_keep, sum_cells, create_sum, other_cell}
+use Rattle.history_law.proofs.tallies.Ties.{has_both, Owns, Tied, as_on}
+use Rattle.history_law.proofs.locks.Exclusive.{Good, good_next, good_opening}
+use Rattle.history_law.proofs.lists.Sums.{sum_more, sum_change, sum_same, record_at, record_updated}
+use Rattle.history_law.proofs.tallies.TallyMoves.{adds, past_read, weight, written, both_of, weigh_off, weigh_early, written_move, Each, each_move, HasRead, read_move, EndsRight, right_move, RightTies, cells_of, cells_move}
+use Rattle.history_law.proofs.tallies.Tallies.{every_alone, some_worker, runs_unended, HasId, one_owner, ids_move, asked_true, lock_each, cell_value, Sum, sum_keep, sum_cells, create_sum, other_cell}
 
 module _ (S C id n : ℕ) where
   -- What holds after every list that the law speaks of

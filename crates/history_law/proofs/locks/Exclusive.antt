@@ -6,21 +6,21 @@ use Rattle.mtapi_values.specs.declared.statuses.MtapiStatus.TheVariants as m
 use Rattle.mtapi_machine.specs.declared.ops.Op.TheVariants as op
 use Rattle.mtapi_machine.specs.declared.replies.Reply.TheVariants as reply
 use Rattle.history_law.proofs.Reuse.{terms_next}
-use Rattle.history_law.proofs.Handles.{OnceIn}
-use Rattle.history_law.proofs.Found.{count_changed}
+use Rattle.history_law.proofs.lists.Handles.{OnceIn}
+use Rattle.history_law.proofs.lists.Found.{count_changed}
 use Rattle.history_law.proofs.Held.{Held}
 use Rattle.history_law.proofs.Moves.{after_stands}
 use Rattle.history_law.proofs.Accepted.{opening_stands}
-use Rattle.history_law.proofs.Every.{Every, every_change, every_map, every_at, always}
+use Rattle.history_law.proofs.lists.Every.{Every, every_change, every_map, every_at, always}
 use Rattle.history_law.proofs.SeatMoves.{fails, is_tally_lock, by_moves}
 use Rattle.history_law.proofs.Others.{runs_scheduled}
 use Rattle.history_law.proofs.OnceIssued.{once_none, once_next}
 use Rattle.history_law.proofs.Answered.{true_false, none_first, NoRefusal, answered, no_live, no_cond, gives_cond, Quiet, whether, on_test}
-use Rattle.history_law.proofs.Counts.{one_if, counts_along}
-use Rattle.history_law.proofs.Firsts.{first_at}
-use Rattle.history_law.proofs.Ties.{Owns, id_in, Tied, does_follow, noted_tied, Ties, ties_move, AtMostOne, one_move, none_runs, OnAt, on_move, on_runs, as_on}
-use Rattle.history_law.proofs.Mutexes.{Step, Free, free_step, owns_step, share, share_step, share_owner, got}
-use Rattle.history_law.proofs.MutexSteps.{is_ending, mutex_step, end_quiet, unseen}
+use Rattle.history_law.proofs.lists.Counts.{one_if, counts_along}
+use Rattle.history_law.proofs.lists.Firsts.{first_at}
+use Rattle.history_law.proofs.tallies.Ties.{Owns, id_in, Tied, does_follow, noted_tied, Ties, ties_move, AtMostOne, one_move, none_runs, OnAt, on_move, on_runs, as_on}
+use Rattle.history_law.proofs.locks.Mutexes.{Step, Free, free_step, owns_step, share, share_step, share_owner, got}
+use Rattle.history_law.proofs.locks.MutexSteps.{is_ending, mutex_step, end_quiet, unseen}
 
 -- What holds after every legal list of a node with n workers
 pub record Good (n : ℕ) (s : State) : Type 0 where

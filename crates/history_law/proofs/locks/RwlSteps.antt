@@ -4,10 +4,10 @@ use Rattle.mtapi_values.specs.declared.handles.ObjectKind.TheVariants as kind
 use Rattle.mtapi_machine.specs.declared.ops.Op.TheVariants as op
 use Rattle.history_law.specs.Words.{makes as makes_object}
 use Rattle.history_law.proofs.Answered.{true_false, whether}
-use Rattle.history_law.proofs.Counts.{one_if}
-use Rattle.history_law.proofs.Handles.{OnceIn}
-use Rattle.history_law.proofs.Locks.{LockStep, FitIn, count_in, has_in, step_same, on_look, on_unlock, on_delete, on_create, New, Counts, Kind, create_lists, look_misses, unlock_misses, none_got, counts_with, counts_any, missed_in}
-use Rattle.history_law.proofs.Rwls.{Fit, rwl_lock, in_mode, get_step, give_step, leave_step, new_fit, new_free}
+use Rattle.history_law.proofs.lists.Counts.{one_if}
+use Rattle.history_law.proofs.lists.Handles.{OnceIn}
+use Rattle.history_law.proofs.locks.Locks.{LockStep, FitIn, count_in, has_in, step_same, on_look, on_unlock, on_delete, on_create, New, Counts, Kind, create_lists, look_misses, unlock_misses, none_got, counts_with, counts_any, missed_in}
+use Rattle.history_law.proofs.locks.Rwls.{Fit, rwl_lock, in_mode, get_step, give_step, leave_step, new_fit, new_free}
 use Rattle.history_law.proofs.Unmoved.{live_stays}
 use Rattle.history_law.proofs.Reuse.{listed_same}
 

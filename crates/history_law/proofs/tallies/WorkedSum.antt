@@ -1,7 +1,7 @@
 -- The worked history of two tallies, by computing.
 use Rattle.history_law.proofs.Names.{◌≡◌, false, List, [], ◌∷◌, ◌++◌, Some, refl, sym, ◌∙◌, subst, arith, ℤ, pos, append_assoc, no_marks, Failed, fits, answer_of, live_of, issue, change, change_all, listed, issued_at, retired, is_full, may_issue, with_fields, gone, has_worker, is_member, freed, let_go, NewTask, Running, tally_args, new_task, with_state, with_notes, ended, end_each, Segment, Op, is_ready, can_take, has_better, State, opening, Move, starts_task, runs_task, ends_task, ends_waiting, withdraws, notes, leaves, frees_members, lets_members_go, apply, NodeEntry, next, Legal, after_from, after, replay, IsMade, StartsTask, h1, fits_of, by_moves, rest_keeps, legal_if, some_entry, tally_got, record_of, mutex_in, sum_of, number_added, writes_to, NamesOneMutex, two_workers, two_tallies, TalliesAddUp}
 use Rattle.mtapi_machine.specs.declared.ops.Op.TheVariants as op
-use Rattle.history_law.proofs.Every.{Every, every_issue, every_change, every_all, every_at, every_ends}
+use Rattle.history_law.proofs.lists.Every.{Every, every_issue, every_change, every_all, every_at, every_ends}
 
 module _ (R : List ℤ → Type 0) where
   -- what holds of the arguments of each task that is started holds of those of every task

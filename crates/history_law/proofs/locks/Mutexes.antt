@@ -1,8 +1,8 @@
 -- What an entry does to the mutex of one handle, and what that leaves of its owner.
 use Rattle.history_law.proofs.Names.{◌≡◌, ℕ, ◌+◌, ◌<◌, ◌≤◌, Bool, true, false, cond, Option, Some, None, ◌⊎◌, inl, inr, refl, sym, ◌∙◌, ap, subst, arith, ◌==◌, ◌&&◌, ◌-◌, not, nat_lt, is_some, eqb-true, eq-eqb, nat_tests, is_seat, is_other, Mutex, new_mutex, locked_by, unlocked, some_same, cond_both, lt-ltb}
 use Rattle.history_law.proofs.Answered.{true_false, on_test}
-use Rattle.history_law.proofs.Counts.{one_if}
-use Rattle.history_law.proofs.Ties.{Owns}
+use Rattle.history_law.proofs.lists.Counts.{one_if}
+use Rattle.history_law.proofs.tallies.Ties.{Owns}
 
 -- by an entry of this seat, of a node with n workers: a caller's look got the mutex, or a caller gave it back; and a tally got it, or
 -- gave it back, which only an end of a tally may do (`ending`)
