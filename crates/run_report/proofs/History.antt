@@ -33,7 +33,7 @@ path_same v w e = record { ends = λ h i. (e i).ends h; unstarted = λ h i. (e i
 
 -- One more entry of a list
 
-seen_more : (n : ℕ) (v : Seen) (L : List NodeEntry) (e : NodeEntry) → seen_from n v (L ++ e ∷ []) ≡ with_change n (change_of e.op e.reply) (seen_from n v L)
+pub seen_more : (n : ℕ) (v : Seen) (L : List NodeEntry) (e : NodeEntry) → seen_from n v (L ++ e ∷ []) ≡ with_change n (change_of e.op e.reply) (seen_from n v L)
 unfolding seen_from
 seen_more n v [] e = refl
 seen_more n v (x ∷ L) e = seen_more n (with_change n (change_of x.op x.reply) v) L e

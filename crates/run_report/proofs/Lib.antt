@@ -3,6 +3,7 @@ pub mod Sound
 pub mod Follow
 pub mod Rows
 pub mod History
+pub mod NamedEnds
 pub mod LiveActions
 pub mod EndLoop
 pub mod Zips

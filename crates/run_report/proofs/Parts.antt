@@ -12,7 +12,6 @@ use Rattle.mtapi_machine.specs.Legal.{Legal}
 use Rattle.workload_file.specs.declared.workload.Workload.{Workload}
 use Rattle.run_report.specs.Calls.{task_lines, call_lines}
 use Rattle.run_report.specs.Seen.{Seen, nothing_seen, seen_from}
-use Rattle.run_report.specs.Standings.{SameAs}
 use Rattle.mtapi_values.specs.declared.handles.Layout.{Layout}
 use Rattle.mtapi_machine.specs.State.{terms_with}
 use Rattle.run_report.specs.Report.{run_terms, parts_told, report_by, report}
@@ -54,14 +53,14 @@ if_ok (Ok v) a b e h = h ∙ e
 if_ok (Err x) a b e h = tt
 
 -- the text by the ends that were found and by the lines that were put together
-pub text_is : (load : Workload) (es : List NodeEntry) (v : Seen) (n : ℕ) (parts : List Part) (no_tasks no_calls tasks calls : List ℕ) → SameAs v (seen_from n nothing_seen es)
+pub text_is : (load : Workload) (es : List NodeEntry) (ends : ℕ → Option TaskEnd) (n : ℕ) (parts : List Part) (no_tasks no_calls tasks calls : List ℕ) → ((h : ℕ) → ends h ≡ (seen_from n nothing_seen es).ends h)
     → n ≡ load.settings.workers → parts ≡ load.parts → no_tasks ≡ [] → no_calls ≡ []
-    → tasks ≡ no_tasks ++ flat_map (task_lines v.ends) (all_told n es parts) → calls ≡ no_calls ++ flat_map call_lines (all_told n es parts)
+    → tasks ≡ no_tasks ++ flat_map (task_lines ends) (all_told n es parts) → calls ≡ no_calls ++ flat_map call_lines (all_told n es parts)
     → tasks ++ calls ≡ report_by (seen_from load.settings.workers nothing_seen es).ends (parts_told load es)
-text_is load es v n parts no_tasks no_calls tasks calls is w p nt nc t c =
+text_is load es ends n parts no_tasks no_calls tasks calls is w p nt nc t c =
     (λ j. t j ++ c j)
-    ∙ (λ j. (nt j ++ flat_map (task_lines v.ends) (all_told n es (p j))) ++ (nc j ++ flat_map call_lines (all_told n es (p j))))
-    ∙ ap (λ (f : ℕ → Option TaskEnd). report_by f (all_told n es load.parts)) (λ j h. is.ends h j)
+    ∙ (λ j. (nt j ++ flat_map (task_lines ends) (all_told n es (p j))) ++ (nc j ++ flat_map call_lines (all_told n es (p j))))
+    ∙ ap (λ (f : ℕ → Option TaskEnd). report_by f (all_told n es load.parts)) (λ j h. is h j)
     ∙ ap (λ (k : ℕ). report_by (seen_from k nothing_seen es).ends (all_told k es load.parts)) w
 
 pub report_is : (layout : Layout) (load : Workload) (es : List NodeEntry) → Legal (run_terms layout load) es → report_by (seen_from load.settings.workers nothing_seen es).ends (parts_told load es) ≡ report layout load es

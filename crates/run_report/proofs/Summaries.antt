@@ -69,11 +69,11 @@ pub part_is : (t u : Totals) (by : ℕ → Option TaskEnd) (ss : List Statement)
 part_is t u by ss rs none made = made ∙ ap (λ (x : Totals). with_tasks by x ss rs) none
 
 -- the totals by the ends that were found
-pub totals_are : (load : Workload) (es : List NodeEntry) (v : Seen) (n : ℕ) (parts : List Part) → SameAs v (seen_from n nothing_seen es) → n ≡ load.settings.workers → parts ≡ load.parts
-    → with_parts v.ends no_totals (all_told n es parts) ≡ with_parts (seen_from load.settings.workers nothing_seen es).ends no_totals (parts_told load es)
-totals_are load es v n parts is w p =
-    ap (λ (l : List Part). with_parts v.ends no_totals (all_told n es l)) p
-    ∙ ap (λ (f : ℕ → Option TaskEnd). with_parts f no_totals (all_told n es load.parts)) (λ j h. is.ends h j)
+pub totals_are : (load : Workload) (es : List NodeEntry) (ends : ℕ → Option TaskEnd) (n : ℕ) (parts : List Part) → ((h : ℕ) → ends h ≡ (seen_from n nothing_seen es).ends h) → n ≡ load.settings.workers → parts ≡ load.parts
+    → with_parts ends no_totals (all_told n es parts) ≡ with_parts (seen_from load.settings.workers nothing_seen es).ends no_totals (parts_told load es)
+totals_are load es ends n parts is w p =
+    ap (λ (l : List Part). with_parts ends no_totals (all_told n es l)) p
+    ∙ ap (λ (f : ℕ → Option TaskEnd). with_parts f no_totals (all_told n es load.parts)) (λ j h. is h j)
     ∙ ap (λ (k : ℕ). with_parts (seen_from k nothing_seen es).ends no_totals (all_told k es load.parts)) w
 
 -- for a legal list the ends that entries show are those in the last state

@@ -10,3 +10,4 @@ pub mod Worked
 pub mod Summary
 pub mod RunReplies
 pub mod ShortEnds
+pub mod Ends

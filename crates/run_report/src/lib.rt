@@ -5,6 +5,7 @@ mod actions;
 mod call_lines;
 mod changes;
 mod deciding;
+mod ends;
 mod laws;
 mod page;
 mod places;

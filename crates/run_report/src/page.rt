@@ -9,8 +9,8 @@ ghost use Rattle.run_report.specs.Report.{parts_told, report_by};
 
 use crate::call_lines::push_call_lines;
 use crate::deciding::{calls_before, decided, replies_to};
+use crate::ends::ends_of;
 use crate::short_ends::ShortEnd;
-use crate::standings::standings_of;
 use crate::task_lines::push_task_lines;
 use mtapi_machine::Entry;
 use std::alloc::{AllocError, Global};
@@ -121,7 +121,7 @@ pub fn text_by_entries(
     ensures { IfOk result (λ text. text.items ≡ report_by (seen_from load.now.settings.workers nothing_seen entries.now).ends (parts_told load.now entries.now)) }
 {
     let workers = load.settings.workers();
-    let standings = standings_of(alloc, workers, entries)?;
+    let ended = ends_of(alloc, workers, entries)?;
     let mut page = empty_page(alloc);
     push_all(
         alloc,
@@ -129,7 +129,7 @@ pub fn text_by_entries(
         workers,
         load.parts.as_slice(),
         entries,
-        &standings.ended,
+        &ended,
     )?;
     joined(page)
 }

@@ -11,8 +11,8 @@ ghost use Rattle.run_report.specs.Seen.{nothing_seen, seen_from};
 ghost use Rattle.run_report.specs.Summary.{no_totals, with_tasks, with_parts, counted, totals_text, summary, statements_in, AreTotals};
 
 use crate::deciding::{calls_before, decided, replies_to};
+use crate::ends::ends_of;
 use crate::short_ends::ShortEnd;
-use crate::standings::standings_of;
 use crate::totals::{Totals, no_totals, with_tasks};
 use mtapi_machine::Entry;
 use node_core::Journal;
@@ -110,14 +110,8 @@ fn totals_by_entries(
     ensures { IfOk result (λ t. t ≡ with_parts (seen_from load.now.settings.workers nothing_seen entries.now).ends no_totals (parts_told load.now entries.now)) }
 {
     let workers = load.settings.workers();
-    let standings = standings_of(alloc, workers, entries)?;
-    all_totals(
-        alloc,
-        workers,
-        load.parts.as_slice(),
-        entries,
-        &standings.ended,
-    )
+    let ended = ends_of(alloc, workers, entries)?;
+    all_totals(alloc, workers, load.parts.as_slice(), entries, &ended)
 }
 
 /// A count behind its word.

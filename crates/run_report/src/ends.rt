@@ -1,0 +1,76 @@
+//! How each task ended, by the entries of a journal.
+ghost use Rattle.std.specs.Prelude.{◌≡◌, ◌≤◌, ℕ, IsTrue, IfOk, OnOk, None, nat_eq};
+ghost use Rattle.std.specs.HashMap.{get};
+ghost use Rattle.run_report.specs.Seen.{nothing_seen, seen_from};
+ghost use Rattle.run_report.specs.Ends.{names_each_end, with_named_end, AreEnds};
+
+use crate::changes::{Change, change_of};
+use crate::short_ends::ShortEnd;
+use crate::standings::{Standings, standings_of};
+use mtapi_machine::Entry;
+use std::alloc::{AllocError, Global};
+use std::collections::HashMap;
+
+// Whether the change ends no task but one that it names, where no queue is disabled.
+fn names_each_end(change: &Change) -> bool
+    ensures { result ≡ names_each_end change.now }
+{
+    match change {
+        Change::CancelsTask(_) | Change::DisablesQueue(_) | Change::DeletesQueue(_) => false,
+        Change::DisablesAction(_) | Change::DeletesAction(_) => false,
+        Change::MakesQueue(_, queue) => queue.enabled,
+        _ => true,
+    }
+}
+
+fn note_named_end(
+    alloc: Global,
+    ended: &mut HashMap<u64, ShortEnd>,
+    change: Change,
+) -> Result<(), AllocError>
+    ensures { OnOk result ((h : ℕ) → get nat_eq ended.new h ≡ with_named_end change (get nat_eq ended.old) h) }
+{
+    if let Change::EndsTask(handle, end) = change {
+        ended.insert(handle, ShortEnd::new(alloc, end)?)?;
+    }
+    Ok(())
+}
+
+// Notes each end that an entry names, up to the first entry that may end other tasks. Whether there is none.
+fn note_named_ends(
+    alloc: Global,
+    ended: &mut HashMap<u64, ShortEnd>,
+    entries: &[Entry],
+) -> Result<bool, AllocError>
+    requires { (h : ℕ) → get nat_eq ended.old h ≡ None }
+    ensures { IfOk result (λ all. IsTrue all → (workers : ℕ) → AreEnds (get nat_eq ended.new) (seen_from workers nothing_seen entries.now)) }
+{
+    for entry in entries {
+        let change = change_of(entry);
+        if !names_each_end(&change) {
+            return Ok(false);
+        }
+        note_named_end(alloc, ended, change)?;
+    }
+    Ok(true)
+}
+
+/// How each task ended, by its handle, after these entries of a node with so many workers. It fails for want of memory alone.
+///
+/// What hasn't begun is followed only where an entry may end a task that it doesn't name.
+pub fn ends_of(
+    alloc: Global,
+    workers: u32,
+    entries: &[Entry],
+) -> Result<HashMap<u64, ShortEnd>, AllocError>
+    requires { workers ≤ 64 }
+    ensures { IfOk result (λ ended. AreEnds (get nat_eq ended) (seen_from workers nothing_seen entries.now)) }
+{
+    // A task that ran has three entries: its start, its pick and its end. With room for all, the table doesn't move while it fills.
+    let mut ended = HashMap::with_capacity(alloc, entries.len() / 3)?;
+    if note_named_ends(alloc, &mut ended, entries)? {
+        return Ok(ended);
+    }
+    let Standings { ended, .. } = standings_of(alloc, workers, entries)?;
+    Ok(ended)
+}
