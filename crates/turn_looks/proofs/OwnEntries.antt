@@ -1,11 +1,11 @@
 -- A seat's entries in what it has seen.
-use Rattle.std.proofs.Common.{◌≡◌, ℕ, Bool, true, false, cond, List, [], ◌∷◌, ◌++◌, length, length-append, refl, sym, ◌∙◌, ap, arith}
-use Rattle.std.specs.Prelude.{◌==◌}
+use Rattle.std.proofs.Common.{◌≡◌, ℕ, Bool, true, false, cond, List, [], ◌∷◌, ◌++◌, Result, Ok, Err, length, length-append, refl, sym, ◌∙◌, ap, subst, arith}
+use Rattle.std.specs.Prelude.{◌==◌, ◌≤◌, ◌^◌, IfOk, IfErr, OnErr}
 use Rattle.std.proofs.lemmas.Bool.Decides.{nat_tests}
 use Rattle.history.specs.declared.entries.Entry.{Entry}
 use Rattle.history.specs.Histories.{entry, entries_of, Extends}
 use Rattle.turn_cell.specs.Seats.{SeatView}
-use Rattle.turn_looks.specs.Turns.{SameSeat, Turned}
+use Rattle.turn_looks.specs.Turns.{SameSeat, Turned, Unturned}
 
 pub self_is : (w : ℕ) → (w == w) ≡ true
 self_is w = grind (arith, nat_tests)
@@ -46,3 +46,13 @@ module _ {P Q : Type 0} where
     seen = x.1;
     legal = lawful;
   }
+
+  -- the same of what a call gave, whatever that is
+  pub turned_if : {T E : Type 0} (legal : T → List (Entry P Q) → Type 0) (old new : SeatView T P Q) (op : P) (r : Result Q E) → SameSeat old new → entries_of old.number old.seen ≡ old.mine → IfOk r (λ reply. Extends old.seen (entry old.number op reply) new.seen)
+      → IfOk r (λ reply. new.mine ≡ old.mine ++ entry old.number op reply ∷ []) → entries_of new.number new.seen ≡ new.mine → legal new.terms new.seen → IfOk r (λ reply. Turned legal old op reply new)
+  turned_if legal old new op (Ok reply) same was x mine own lawful = turned legal old new op reply same was x mine own lawful
+  turned_if legal old new op (Err e) same was x mine own lawful = tt
+
+  pub unturned_if : {T : Type 0} (old new : SeatView T P Q) (r : Result Q ℕ) → SameSeat old new → IfErr r (λ spent. (2 ^ 62 ≤ spent) × (spent ≡ new.shown)) → OnErr r ((new.seen ≡ old.seen) × (new.mine ≡ old.mine)) → OnErr r (Unturned old new)
+  unturned_if old new (Ok reply) same spent kept = tt
+  unturned_if old new (Err e) same spent kept = record { same = same; mine = kept.1; seen = kept.0; shown = subst (λ (n : ℕ). 2 ^ 62 ≤ n) spent.1 spent.0 }

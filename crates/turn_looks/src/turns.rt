@@ -23,8 +23,5 @@ pub fn turn<O: Object, R: Wait>(
     ensures spent { OnErr result (Unturned seat.old seat.new) }
 {
     seat.known();
-    match cell.call(rt, seat, op) {
-        Ok(reply) => Ok(reply),
-        Err(spent) => Err(spent),
-    }
+    cell.call(rt, seat, op)
 }

@@ -1,7 +1,12 @@
-use Rattle.turn_looks.proofs.OwnEntries.{turned}
+use Rattle.turn_looks.proofs.OwnEntries.{turned_if, unturned_if}
 use Rattle.turn_looks.proofs.turns.turn.Goals as goal
 
-pub returns-in-Ok-clause-turned : goal.returns-in-Ok-clause-turned
-returns-in-Ok-clause-turned g c =
+pub returns-clause-turned : goal.returns-clause-turned
+returns-clause-turned g c =
     let e = c.call.ensures in
-    turned g.O.Object.legal c.args.seat.now c.call.new.seat c.args.op c.in-Ok.reply (record { cell = e.cell; number = e.number; terms = e.terms }) c.known.ensures.own c.in-Ok.ensures.seen c.in-Ok.ensures.mine e.own e.legal
+    turned_if g.O.Object.legal c.args.seat.now c.call.new.seat c.args.op c.call.result (record { cell = e.cell; number = e.number; terms = e.terms }) c.known.ensures.own e.seen e.mine e.own e.legal
+
+pub returns-clause-spent : goal.returns-clause-spent
+returns-clause-spent g c =
+    let e = c.call.ensures in
+    unturned_if c.args.seat.now c.call.new.seat c.call.result (record { cell = e.cell; number = e.number; terms = e.terms }) e.spent e.unchanged
