@@ -1,12 +1,12 @@
 //! The pure actions. None of them takes memory.
 
-ghost use Rattle.std.specs.Prelude.{◌≡◌, Some, ◌∷◌, [], pos, ◌+ℤ◌, ◌*ℤ◌};
+ghost use Rattle.std.specs.Prelude.{◌≡◌, true, Some, ◌∷◌, [], pos, ◌+ℤ◌, ◌*ℤ◌};
 ghost use Rattle.std.specs.Int.{IsGcd};
 ghost use Rattle.mtapi_values.specs.declared.kinds.Kind.TheVariants.{Add, Mul, Max, Div, Gcd, Echo, Triangle, Fail};
-ghost use Rattle.action_fn.specs.Answers.{answer_of, number_end, fold_fitting, greatest, quotient, gcd, fitting, triangle};
+ghost use Rattle.action_fn.specs.Answers.{is_pure, answer_of, number_end, fold_fitting, greatest, quotient, gcd, fitting, triangle};
 
 use crate::finished::{ActEnd, one_number};
-use mtapi_values::{Args, MtapiStatus};
+use mtapi_values::{Args, Kind, MtapiStatus};
 
 /// The sum, which fails where a partial sum leaves 64 bits.
 #[tactic(auto, unfolding(crate::specs::Answers::answer_of))]
@@ -82,6 +82,24 @@ pub fn act_fail(_args: &Args) -> ActEnd
     ensures { result ≡ answer_of Fail _args.now }
 {
     ActEnd::Fails(MtapiStatus::ErrActionFailed)
+}
+
+/// What the action of a pure kind answers.
+pub fn answer_of(kind: Kind, args: &Args) -> ActEnd
+    requires { is_pure kind ≡ true }
+    ensures { result ≡ answer_of kind args.now }
+{
+    match kind {
+        Kind::Add => act_add(args),
+        Kind::Mul => act_mul(args),
+        Kind::Max => act_max(args),
+        Kind::Div => act_div(args),
+        Kind::Gcd => act_gcd(args),
+        Kind::Echo => act_echo(args),
+        Kind::Triangle => act_triangle(args),
+        Kind::Fail => act_fail(args),
+        Kind::Watch | Kind::Tally => unreachable!(),
+    }
 }
 
 /// One number, or a failure where there is none.

@@ -3,16 +3,13 @@
 ghost use Rattle.std.specs.Prelude.{◌≡◌};
 ghost use Rattle.mtapi_values.specs.declared.kinds.Kind.TheVariants as Kind;
 
-use crate::actions::{
-    act_add, act_div, act_echo, act_fail, act_gcd, act_max, act_mul, act_triangle,
-};
 use crate::finished::Finished;
 use crate::sets::{ActionSet, ActionSource};
 use crate::stored::StoredFn;
 use mtapi_values::{Args, Kind};
 use std::sync::Wait;
 
-/// One stored function for each pure kind: those of this crate (`standard`), or others that answer the same.
+/// One stored function for each pure kind. It is made where the functions are named, in `main` or a test.
 #[derive(Drop)]
 pub struct FnTable {
     add: StoredFn,
@@ -64,20 +61,6 @@ impl FnTable {
             triangle,
             fail,
         }
-    }
-
-    /// The functions of this crate, each in the place of its kind. It takes no memory.
-    pub fn standard() -> FnTable {
-        FnTable::new(
-            StoredFn::new(Kind::Add, act_add),
-            StoredFn::new(Kind::Mul, act_mul),
-            StoredFn::new(Kind::Max, act_max),
-            StoredFn::new(Kind::Div, act_div),
-            StoredFn::new(Kind::Gcd, act_gcd),
-            StoredFn::new(Kind::Echo, act_echo),
-            StoredFn::new(Kind::Triangle, act_triangle),
-            StoredFn::new(Kind::Fail, act_fail),
-        )
     }
 
     /// The same functions again. It takes no memory.

@@ -1,7 +1,11 @@
 //! One run of the command over a source and sinks in memory, and what it said.
 
-use action_fn::{ActionSource, FnTable};
+use action_fn::{
+    ActionSource, FnTable, StoredFn, act_add, act_div, act_echo, act_fail, act_gcd, act_max,
+    act_mul, act_triangle,
+};
 use mtapi_top::{Beside, FewThreads, Threads, command};
+use mtapi_values::Kind;
 use std::alloc::Global;
 use std::process::Abort;
 use std::sync::Wait;
@@ -13,7 +17,16 @@ pub(crate) const ROOM: usize = 65_536;
 
 /// The function of each pure kind.
 pub(crate) fn table() -> FnTable {
-    FnTable::standard()
+    FnTable::new(
+        StoredFn::new(Kind::Add, act_add),
+        StoredFn::new(Kind::Mul, act_mul),
+        StoredFn::new(Kind::Max, act_max),
+        StoredFn::new(Kind::Div, act_div),
+        StoredFn::new(Kind::Gcd, act_gcd),
+        StoredFn::new(Kind::Echo, act_echo),
+        StoredFn::new(Kind::Triangle, act_triangle),
+        StoredFn::new(Kind::Fail, act_fail),
+    )
 }
 
 /// What hinders a run: how many bytes a call moves, and which call fails, counted from 1 (0: none).

@@ -3,9 +3,7 @@ ghost use Rattle.std.specs.Prelude.{◌≡◌, IfOk, option_map};
 ghost use Rattle.journal_text.specs.Ops.{op_row, op_word_of, op_spelled, finished_of, node_op, task_op, queue_op, work_op, lock_op, segment_op, op_of, end_of_answer};
 
 use crate::values::{Shape, Value, spelled};
-use action_fn::{
-    ActEnd, Finished, act_add, act_div, act_echo, act_fail, act_gcd, act_max, act_mul, act_triangle,
-};
+use action_fn::{ActEnd, Finished, answer_of};
 use mtapi_machine::Op;
 use mtapi_values::{
     ActionHandle, Args, GroupHandle, Kind, MutexHandle, QueueHandle, RwlHandle, SemHandle,
@@ -177,17 +175,10 @@ pub fn op_spelled(alloc: Global, op: &Op) -> Result<(OpWord, Vec<Value>), AllocE
 fn finished(kind: Kind, args: Args) -> Option<Finished>
     ensures { result ≡ finished_of kind args }
 {
-    let end = match kind {
-        Kind::Add => act_add(&args),
-        Kind::Mul => act_mul(&args),
-        Kind::Max => act_max(&args),
-        Kind::Div => act_div(&args),
-        Kind::Gcd => act_gcd(&args),
-        Kind::Echo => act_echo(&args),
-        Kind::Triangle => act_triangle(&args),
-        Kind::Fail => act_fail(&args),
-        Kind::Watch | Kind::Tally => return None,
-    };
+    if let Kind::Watch | Kind::Tally = kind {
+        return None;
+    }
+    let end = answer_of(kind, &args);
     Some(Finished::new(kind, args, end))
 }
 

@@ -4,7 +4,7 @@ ghost use Rattle.std.specs.Prelude.{◌≡◌, IfOk};
 ghost use Rattle.mtapi_embedding.specs.Runs.{IsRun};
 
 use crate::client::{Summing, Told};
-use action_fn::FnTable;
+use action_fn::StandardActions;
 use mtapi_values::{MtapiStatus, NodeAttr};
 use node_core::RunJournal;
 use node_with_workers::{Failure, with_workers};
@@ -24,7 +24,7 @@ fn settings() -> Result<NodeAttr, MtapiStatus>
 pub fn run<R: Threads + Wait + Sync>(rt: &R, alloc: Global) -> Result<(Told, RunJournal), Failure>
     ensures { IfOk result (λ r. IsRun r.0 r.1) }
 {
-    let mut acts = FnTable::standard();
+    let mut acts = StandardActions;
     let done = with_workers(rt, alloc, settings()?, &mut acts, Summing)?;
     let told = done.told?;
     Ok((told, done.journal))

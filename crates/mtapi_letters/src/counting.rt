@@ -1,10 +1,7 @@
 //! The work of the workers: each counts the letters of the parts that it takes.
 
 use crate::letters::Letters;
-use action_fn::{
-    ActionSet, ActionSource, Finished, act_add, act_div, act_echo, act_fail, act_gcd, act_max,
-    act_mul, act_triangle,
-};
+use action_fn::{ActionSet, ActionSource, Finished, answer_of};
 use mtapi_values::{Args, Kind};
 use std::sync::Wait;
 
@@ -45,19 +42,10 @@ impl<'a> Counting<'a> {
 
 impl<'a> ActionSet for Counting<'a> {
     fn run<R: Wait>(&mut self, _rt: &R, kind: Kind, args: Args) -> Finished {
-        let end = match kind {
-            Kind::Echo => {
-                self.count(&args);
-                act_echo(&args)
-            }
-            Kind::Add => act_add(&args),
-            Kind::Mul => act_mul(&args),
-            Kind::Max => act_max(&args),
-            Kind::Div => act_div(&args),
-            Kind::Gcd => act_gcd(&args),
-            Kind::Triangle => act_triangle(&args),
-            _ => act_fail(&args),
-        };
+        if let Kind::Echo = kind {
+            self.count(&args);
+        }
+        let end = answer_of(kind, &args);
         Finished::new(kind, args, end)
     }
 }

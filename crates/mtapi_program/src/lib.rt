@@ -11,9 +11,13 @@ ghost use Rattle.mtapi_top.specs.Ended.{HasEnded, IsReadFor};
 ghost use Rattle.mtapi_top.specs.Headline.{Ran};
 ghost use Rattle.mtapi_top.specs.Words.{texts, asked_of, reads, judges};
 
-use action_fn::FnTable;
+use action_fn::{
+    FnTable, StoredFn, act_add, act_div, act_echo, act_fail, act_gcd, act_max, act_mul,
+    act_triangle,
+};
 pub use mtapi_top::Threads;
 use mtapi_top::{Beside, End, Outcome, command, tell};
+use mtapi_values::Kind;
 use std::alloc::{AllocError, Global};
 use std::env;
 use std::io::ErrorKind;
@@ -73,7 +77,16 @@ pub fn run_words<R: StartsThreads + Wait + Sync, S: Source, W: Sink, E: Sink, B:
         result }
     ensures read { IsReadFor (asked_of (texts words.now)) (S.left src.old) (S.left src.new) (S.faults src.old) (S.faults src.new) result.status result.journal }
 {
-    let mut acts = FnTable::standard();
+    let mut acts = FnTable::new(
+        StoredFn::new(Kind::Add, act_add),
+        StoredFn::new(Kind::Mul, act_mul),
+        StoredFn::new(Kind::Max, act_max),
+        StoredFn::new(Kind::Div, act_div),
+        StoredFn::new(Kind::Gcd, act_gcd),
+        StoredFn::new(Kind::Echo, act_echo),
+        StoredFn::new(Kind::Triangle, act_triangle),
+        StoredFn::new(Kind::Fail, act_fail),
+    );
     command(rt, alloc, words, src, out, err, &mut acts, beside)
 }
 

@@ -1,9 +1,6 @@
 //! The actions of both sides, and the bridges that the workers of the first node get.
 
-use action_fn::{
-    ActionSet, ActionSource, Finished, act_add, act_div, act_echo, act_fail, act_gcd, act_max,
-    act_mul, act_triangle,
-};
+use action_fn::{ActionSet, ActionSource, Finished, answer_of};
 use mtapi_values::{Args, Kind};
 use node_bridge::Bridge;
 use std::sync::Wait;
@@ -18,16 +15,7 @@ pub(crate) struct Counted<'a> {
 impl<'a> ActionSet for Counted<'a> {
     fn run<R: Wait>(&mut self, _rt: &R, kind: Kind, args: Args) -> Finished {
         let _before = self.asked.fetch_add(1, Ordering::SeqCst);
-        let end = match kind {
-            Kind::Add => act_add(&args),
-            Kind::Mul => act_mul(&args),
-            Kind::Max => act_max(&args),
-            Kind::Div => act_div(&args),
-            Kind::Gcd => act_gcd(&args),
-            Kind::Echo => act_echo(&args),
-            Kind::Triangle => act_triangle(&args),
-            _ => act_fail(&args),
-        };
+        let end = answer_of(kind, &args);
         Finished::new(kind, args, end)
     }
 }

@@ -3,7 +3,10 @@
 ghost use Rattle.std.specs.Prelude.{◌≡◌};
 ghost use Rattle.turn_cell.specs.Seats.{fresh_seat, fresh_seats};
 
-use action_fn::{ActEnd, Finished, FnTable, act_add};
+use action_fn::{
+    ActEnd, ActionSet, Finished, FnTable, StoredFn, act_add, act_div, act_echo, act_fail, act_gcd,
+    act_max, act_mul, act_triangle,
+};
 use mtapi_values::{Args, Kind, MtapiStatus};
 use node_bridge::{Bridge, BridgeOp, BridgeReply, Served};
 use std::sync::Wait;
@@ -162,7 +165,16 @@ fn one_task(rt: HostRuntime) -> Result<(), Fail> {
 }
 
 fn functions() -> FnTable {
-    FnTable::standard()
+    FnTable::new(
+        StoredFn::new(Kind::Add, act_add),
+        StoredFn::new(Kind::Mul, act_mul),
+        StoredFn::new(Kind::Max, act_max),
+        StoredFn::new(Kind::Div, act_div),
+        StoredFn::new(Kind::Gcd, act_gcd),
+        StoredFn::new(Kind::Echo, act_echo),
+        StoredFn::new(Kind::Triangle, act_triangle),
+        StoredFn::new(Kind::Fail, act_fail),
+    )
 }
 
 /// Where there is no room, the bridge asks its own side and leaves nothing behind.

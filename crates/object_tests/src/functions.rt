@@ -1,6 +1,9 @@
 //! A table of stored functions, asked each kind at its edges.
 
-use action_fn::{ActEnd, FnTable, StoredFn, act_echo};
+use action_fn::{
+    ActEnd, ActionSet, ActionSource, FnTable, StoredFn, act_add, act_div, act_echo, act_fail,
+    act_gcd, act_max, act_mul, act_triangle,
+};
 use mtapi_values::{Args, Kind, MtapiStatus};
 
 /// The numbers from 1 to 16, as many as a list holds.
@@ -42,7 +45,16 @@ fn answers(end: ActEnd, numbers: &[i64]) -> bool {
 
 #[test]
 fn a_table_runs_each_kind(rt: HostRuntime) {
-    let mut source = FnTable::standard();
+    let mut source = FnTable::new(
+        StoredFn::new(Kind::Add, act_add),
+        StoredFn::new(Kind::Mul, act_mul),
+        StoredFn::new(Kind::Max, act_max),
+        StoredFn::new(Kind::Div, act_div),
+        StoredFn::new(Kind::Gcd, act_gcd),
+        StoredFn::new(Kind::Echo, act_echo),
+        StoredFn::new(Kind::Triangle, act_triangle),
+        StoredFn::new(Kind::Fail, act_fail),
+    );
     let mut table = source.for_worker(0);
     for (kind, args, wanted) in EDGES {
         let done = table.run(&rt, kind, args_of(args));

@@ -12,7 +12,7 @@ use crate::crew::{Crew, Jobs, Shared, run_crew};
 use crate::failure::Failure;
 use crate::monitor::{Monitor, Progress};
 use crate::tasks::Tasks;
-use action_fn::FnTable;
+use action_fn::{ActionSource, StandardActions};
 use mtapi_values::{MtapiStatus, NodeAttr, TaskHandle};
 use node_core::{Journal, Journaled, Node, Op};
 use peek_board::{Board, BoardSeat, EndClass, Marks, Peek, Peeker, close_both};
@@ -204,7 +204,7 @@ pub fn run<R: StartsThreads + Wait + Sync, P: Progress + Drop + Send>(
         tasks: &tasks,
         count,
     };
-    let mut acts = FnTable::standard();
+    let mut acts = StandardActions;
     let jobs = Jobs {
         first: WorkerJob::new(&cell, first, acts.for_worker(0)),
         second: WorkerJob::new(&cell, second, acts.for_worker(1)),
