@@ -1,5 +1,5 @@
 -- The lines of the generated text before its first task.
-use Rattle.std.proofs.Common.{◌≡◌, ℕ, ◌≤◌, List, [], ◌∷◌, ◌++◌, true, Some, None, Ok, refl, ◌∙◌, ap, arith}
+use Rattle.std.proofs.Common.{◌≡◌, ℕ, ◌≤◌, List, [], ◌∷◌, ◌++◌, true, Some, Ok, refl, ◌∙◌, ap, arith}
 use Rattle.std.specs.Prelude.{codes}
 use Rattle.std.specs.List.{list_all}
 use Rattle.std.specs.Fmt.{decimal}
@@ -16,20 +16,22 @@ use Rattle.workload_file.specs.Cuts.{words_of}
 use Rattle.workload_file.specs.Table.{row, fields, key_text, word_of}
 use Rattle.number_text.specs.Numbers.{number_within as wide_within, number as wide_number}
 use Rattle.workload_file.specs.Values.{is_name, number_within, number}
-use Rattle.workload_file.specs.Options.{is_value, has_twice, text_of}
-use Rattle.workload_file.specs.Names.{split_name, is_taken, is_misplaced, is_ninth_caller}
-use Rattle.workload_file.specs.Deeds.{setting_values, deed_with, task_deed}
-use Rattle.workload_file.specs.Changes.{values_in, value_given, value_absent, change_with, use_in}
+use Rattle.workload_file.specs.Options.{has_twice, text_of}
+use Rattle.workload_file.specs.Names.{is_taken, is_misplaced, is_ninth_caller}
+use Rattle.workload_file.specs.Deeds.{setting_values, deed_with, number_in, kind_in, cores_in}
+use Rattle.workload_file.specs.Changes.{values_in, value_given, value_absent, change_with, change_of, settings_by}
 use Rattle.workload_file.specs.Written.{line_text}
 use Rattle.workload_file.specs.Formed.{AllFit}
-use Rattle.workload_file.specs.Reading.{statement_of, heading, check_options, line_gives, with_change, line_adds, lines_add, start}
-use Rattle.workload_file.proofs.Facts.{IsRead, statement_read}
-use Rattle.workload_file.proofs.Fields.{node_change}
+use Rattle.workload_file.specs.Reading.{line_gives, with_change, line_adds, lines_add, start}
+use Rattle.workload_file.proofs.Facts.{IsRead}
 use Rattle.workload_file.proofs.Invariant.{node_settings}
 use Rattle.workload_file.proofs.Phrases.{is_word}
 use Rattle.generated_workload.specs.Generated.{binding, all_cores, first_statements, generated_settings}
 use Rattle.generated_workload.specs.Text.{node_words, first_lines}
 use Rattle.generated_workload.proofs.Lines.{decimal_inner, inner_word, within_decimal, total, words_add, more, one}
+use Rattle.workload_file.specs.Faulty.{is_faulty}
+use Rattle.workload_file.specs.declared.reading.Change.{Change}
+use Rattle.workload_file.specs.declared.values.Value.{Value}
 
 -- what was read behind the node's line: these statements, and how many lines were statements
 abbrev pub state : ℕ → ℕ → List Statement → ℕ → Reading
@@ -46,23 +48,26 @@ state n w statements count = record {
 abbrev options : ℕ → ℕ → List (List ℕ)
 options n w = (codes "workers=" ++ decimal w) ∷ (codes "max_tasks=" ++ decimal n) ∷ []
 
-node_is : (n w : ℕ) → 1 ≤ n → n ≤ 19000 → 1 ≤ w → w ≤ 16 → IsRead start (codes "node") (options n w) word.Node None (options n w)
-unfolding start row key_text word_of is_ninth_caller is_misplaced split_name has_twice is_value is_taken text_of
+node_is : (n w : ℕ) → 1 ≤ n → n ≤ 19000 → 1 ≤ w → w ≤ 16 → IsRead start (codes "node") (options n w) word.Node [] (options n w)
+unfolding start row key_text word_of is_ninth_caller is_misplaced has_twice is_taken text_of value_given value_absent
 node_is n w a b c d = record {
+  comment = refl;
   word = refl;
+  name_is = refl;
+  options_are = refl;
   few = refl;
   callers = refl;
   placed = refl;
-  split = refl;
+  named = refl;
   known = refl;
   once = refl;
-  valued = rw (within_decimal 1 16 w c d (omega arith), within_decimal 1 65536 n a (omega arith) (omega arith)) refl;
-  present = refl;
+  sound = rw (within_decimal 1 16 w c d (omega arith), within_decimal 1 65536 n a (omega arith) (omega arith)) refl;
   free = refl;
+  bound = refl;
 }
 
-node_values : (n w : ℕ) → 1 ≤ n → n ≤ 19000 → 1 ≤ w → w ≤ 16 → values_in start.current.statements (options n w) (fields word.Node) ≡ Some (setting_values (generated_settings n w))
-unfolding start row key_text values_in text_of value_given value_absent
+node_values : (n w : ℕ) → 1 ≤ n → n ≤ 19000 → 1 ≤ w → w ≤ 16 → values_in start.current.statements (options n w) (fields word.Node) ≡ setting_values (generated_settings n w)
+unfolding start row key_text text_of value_given value_absent
 node_values n w a b c d = rw (within_decimal 1 16 w c d (omega arith), within_decimal 1 65536 n a (omega arith) (omega arith)) refl
 
 settings_fit : (n w : ℕ) → 1 ≤ n → n ≤ 19000 → 1 ≤ w → w ≤ 16 → AllFit [] (fields word.Node) (setting_values (generated_settings n w))
@@ -87,14 +92,15 @@ node_good n w le most =
     let b = length-decimal-le 2 w (omega arith) (omega arith) (omega arith) in
     record { good = and_from _ _ workers (and_from _ _ tasks refl); few = omega (arith, a, b) }
 
+node_change : (n w : ℕ) → 1 ≤ n → n ≤ 19000 → 1 ≤ w → w ≤ 16 → change_of start 1 word.Node [] (options n w) ≡ change.Node (generated_settings n w)
+unfolding change_with
+node_change n w a b c d = ap (λ (vs : List Value). change.Node (settings_by vs)) (node_values n w a b c d) ∙ ap change.Node (node_settings [] (generated_settings n w) (settings_fit n w a b c d))
+
 node_adds : (n w : ℕ) → 1 ≤ n → n ≤ 19000 → 1 ≤ w → w ≤ 16 → line_adds start 1 (line_text (node_words n w)) ≡ Ok (state n w [] 1)
 node_adds n w a b c d =
     let g = node_good n w b d in
-    let s = generated_settings n w in
-    words_add start 1 (codes "node") (options n w) (change.Node s) g.good (omega (arith, g.few)) refl
-    (statement_read start 1 (codes "node") (options n w) word.Node None (options n w) (change.Node s) (node_is n w a b c d)
-    (node_change start 1 word.Node None (options n w) (setting_values s) s refl (node_values n w a b c d) (node_settings [] s (settings_fit n w a b c d))))
-    ∙ ap Ok (node_state n w)
+    words_add start 1 (codes "node") (options n w) word.Node [] (options n w) g.good (omega (arith, g.few)) (node_is n w a b c d)
+    ∙ ap Ok (ap (λ (x : Change). with_change start 1 (Some x)) (node_change n w a b c d) ∙ node_state n w)
 
 -- ---- the actions and the group
 
@@ -105,15 +111,15 @@ abbrev pub triangle : Statement
 triangle = binding 3 (codes "b") (deed.Action 2 kind.Triangle all_cores)
 
 add_adds : (n w : ℕ) → line_adds (state n w [] 1) 2 (codes "action a job=1 kind=add") ≡ Ok (state n w (add ∷ []) 2)
-unfolding line_adds line_gives words_of statement_of heading check_options row key_text word_of is_ninth_caller is_misplaced split_name is_name has_twice is_value is_taken change_with use_in values_in text_of value_given value_absent deed_with task_deed with_change kind_named number_within number wide_within wide_number
+unfolding line_adds line_gives words_of is_faulty row key_text word_of is_ninth_caller is_misplaced is_name has_twice is_taken change_with text_of value_given value_absent deed_with number_in kind_in cores_in with_change kind_named number_within number wide_within wide_number
 add_adds n w = refl
 
 triangle_adds : (n w : ℕ) → line_adds (state n w (add ∷ []) 2) 3 (codes "action b job=2 kind=triangle") ≡ Ok (state n w (add ∷ triangle ∷ []) 3)
-unfolding line_adds line_gives words_of statement_of heading check_options row key_text word_of is_ninth_caller is_misplaced split_name is_name has_twice is_value is_taken change_with use_in values_in text_of value_given value_absent deed_with task_deed with_change kind_named number_within number wide_within wide_number
+unfolding line_adds line_gives words_of is_faulty row key_text word_of is_ninth_caller is_misplaced is_name has_twice is_taken change_with text_of value_given value_absent deed_with number_in kind_in cores_in with_change kind_named number_within number wide_within wide_number
 triangle_adds n w = refl
 
 group_adds : (n w : ℕ) → line_adds (state n w (add ∷ triangle ∷ []) 3) 4 (codes "group g") ≡ Ok (state n w first_statements 4)
-unfolding line_adds line_gives words_of statement_of heading check_options row key_text word_of is_ninth_caller is_misplaced split_name is_name has_twice is_value is_taken change_with use_in values_in text_of value_given value_absent deed_with task_deed with_change
+unfolding line_adds line_gives words_of is_faulty row key_text word_of is_ninth_caller is_misplaced is_name has_twice is_taken change_with text_of value_given value_absent deed_with number_in kind_in cores_in with_change
 group_adds n w = refl
 
 pub first_add : (n w : ℕ) → 1 ≤ n → n ≤ 19000 → 1 ≤ w → w ≤ 16 → lines_add start 1 (first_lines n w) ≡ Ok (state n w first_statements 4)

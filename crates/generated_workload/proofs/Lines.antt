@@ -1,20 +1,22 @@
 -- Lines of words: that they are read, and how long they are.
-use Rattle.std.proofs.Common.{◌≡◌, ℕ, ◌+◌, ◌^◌, ◌≤◌, ◌<◌, List, [], ◌∷◌, ◌++◌, length, true, false, Some, Ok, refl, sym, subst, ◌∙◌, arith, length-append}
+use Rattle.std.proofs.Common.{◌≡◌, ℕ, ◌+◌, ◌^◌, ◌≤◌, ◌<◌, List, [], ◌∷◌, ◌++◌, length, true, Some, Ok, refl, sym, subst, ◌∙◌, arith, length-append}
 use Rattle.std.specs.List.{list_all, join_with_byte}
 use Rattle.std.specs.Char.{is_ascii_digit}
 use Rattle.std.specs.Fmt.{decimal}
-use Rattle.std.proofs.lemmas.Bool.{and_parts, and_from, le-leb, leb-true, lt-ltb, le-ltb, ne_eqb}
+use Rattle.std.proofs.lemmas.Bool.{and_parts, and_from, le-leb, leb-true, lt-ltb, ne_eqb}
 use Rattle.std.proofs.lemmas.Fmt.{digits_decimal}
 use Rattle.number_text.specs.Lists.{led}
 use Rattle.number_text.proofs.Parsing.{own}
 use Rattle.number_text.proofs.Writing.{within_written}
 use Rattle.workload_file.specs.declared.reading.Reading.{Reading}
-use Rattle.workload_file.specs.declared.reading.Change.{Change}
-use Rattle.workload_file.specs.Reading.{statement_of, is_comment, with_change, line_adds, lines_add}
+use Rattle.workload_file.specs.Reading.{with_change, line_adds, lines_add}
 use Rattle.workload_file.specs.Written.{line_text}
 use Rattle.workload_file.specs.Values.{number, number_within}
-use Rattle.workload_file.proofs.Facts.{bind_ok, ok_is, line_read, words_read}
+use Rattle.workload_file.proofs.Facts.{bind_ok, ok_is, IsRead, states}
 use Rattle.workload_file.proofs.Phrases.{is_inner, is_word, words_again, line_printable, led_length}
+use Rattle.workload_file.specs.Changes.{change_of}
+use Rattle.workload_file.specs.Alike.{IsPlain}
+use Rattle.workload_file.specs.declared.table.Word.{Word}
 
 -- ---- numbers in words
 
@@ -62,16 +64,12 @@ joined_total byte x xs = sym (led_length byte x xs) ∙ led_total byte (x ∷ xs
 -- ---- lines
 
 -- a statement by its words
-pub words_add : (r : Reading) (line : ℕ) (first : List ℕ) (rest : List (List ℕ)) (c : Change) → list_all is_word (first ∷ rest) ≡ true → total (first ∷ rest) ≤ 513 → is_comment first ≡ false → statement_of r line first rest ≡ Ok c → line_adds r line (line_text (first ∷ rest)) ≡ Ok (with_change r line (Some c))
+pub words_add : (r : Reading) (line : ℕ) (first : List ℕ) (rest : List (List ℕ)) (w : Word) (name : List ℕ) (options : List (List ℕ)) → list_all is_word (first ∷ rest) ≡ true → total (first ∷ rest) ≤ 513 → IsRead r first rest w name options → line_adds r line (line_text (first ∷ rest)) ≡ Ok (with_change r line (Some (change_of r line w name options)))
 unfolding line_adds
-words_add r line first rest c words few comment e =
+words_add r line first rest w name options words few read =
     let size = joined_total 32 first rest in
-    let gives = line_read r line (line_text (first ∷ rest)) (Some c) (record {
-      short = le-ltb 512 (length (line_text (first ∷ rest))) (omega (arith, size, few));
-      printable = line_printable first rest words;
-      words = rw (words_again first rest words) (words_read r line first rest c comment e);
-    }) in
-    rw gives refl
+    let plain : IsPlain (line_text (first ∷ rest)) = record { short = omega (arith, size, few); printable = line_printable first rest words } in
+    rw (states r line (line_text (first ∷ rest)) first rest w name options plain (words_again first rest words) read) refl
 
 pub more : (r mid s : Reading) (line : ℕ) (text : List ℕ) (texts : List (List ℕ)) → line_adds r line text ≡ Ok mid → lines_add mid (line + 1) texts ≡ Ok s → lines_add r line (text ∷ texts) ≡ Ok s
 unfolding lines_add

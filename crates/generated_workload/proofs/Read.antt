@@ -10,13 +10,14 @@ use Rattle.number_text.specs.Lists.{between}
 use Rattle.workload_file.specs.declared.reading.Reading.{Reading}
 use Rattle.workload_file.specs.declared.reading.Change.TheVariants as change
 use Rattle.workload_file.specs.Written.{line_text}
-use Rattle.workload_file.specs.Reading.{is_printable, with_change, lines_add, start, finished, workload_of}
+use Rattle.workload_file.specs.Reading.{with_change, lines_add, start, finished, workload_of}
 use Rattle.workload_file.proofs.Phrases.{line_printable, printable_lacks, all_append}
 use Rattle.generated_workload.specs.Generated.{first_statements, tasks, last_statement, generated}
 use Rattle.generated_workload.specs.Text.{node_words, task_words, task_lines, first_lines, last_line, generated_text}
 use Rattle.generated_workload.proofs.Lines.{total, total_append, joined_total, push}
 use Rattle.generated_workload.proofs.Heads.{Good, state, node_good, first_add}
 use Rattle.generated_workload.proofs.Starts.{task_good, task_adds, last_adds}
+use Rattle.workload_file.specs.Faulty.{is_printable}
 
 -- ---- lines one behind the other
 

@@ -1,6 +1,6 @@
 -- The lines of the generated text that start a task, and the wait for all of them.
 use Rattle.std.proofs.Common.{◌≡◌, ℕ, ℤ, suc, pos, ◌+◌, ◌%◌, ◌^◌, ◌≤◌, ◌<◌, Bool, true, false, cond, eqb, List, [], ◌∷◌, ◌++◌, length, Some, None, Ok, refl, ap, ◌∙◌, arith, length-append}
-use Rattle.std.specs.Prelude.{codes, nat_le, position}
+use Rattle.std.specs.Prelude.{codes, nat_le, position, Option}
 use Rattle.std.specs.List.{list_all, list_any, position_or_len}
 use Rattle.std.specs.Fmt.{decimal}
 use Rattle.std.proofs.lemmas.Bool.{and_from, or_parts, lt-ltb, le-ltb, lt-leb}
@@ -15,24 +15,22 @@ use Rattle.workload_file.specs.declared.values.Value.TheVariants as given
 use Rattle.workload_file.specs.declared.reading.Reading.{Reading}
 use Rattle.workload_file.specs.declared.reading.Change.TheVariants as change
 use Rattle.workload_file.specs.declared.workload.Statement.{Statement}
-use Rattle.workload_file.specs.declared.workload.Deed.TheVariants as deed
-use Rattle.workload_file.specs.Table.{row, fields, naming, key_text, word_of}
+use Rattle.workload_file.specs.Table.{row, fields, key_text, word_of, naming}
 use Rattle.workload_file.specs.Values.{is_name, timeout_of}
-use Rattle.workload_file.specs.Options.{is_value, has_twice, text_of}
-use Rattle.workload_file.specs.Names.{split_name, place_of, bound_at, is_called, is_taken, is_misplaced, is_ninth_caller}
-use Rattle.workload_file.specs.Deeds.{deed_with, binds}
-use Rattle.workload_file.specs.Deeds.{task_deed as deed_of_task}
-use Rattle.workload_file.specs.Changes.{values_in, value_given, value_absent, use_in}
+use Rattle.workload_file.specs.Options.{has_twice, text_of}
+use Rattle.workload_file.specs.Names.{place_of, bound_at, is_called, is_taken, is_misplaced, is_ninth_caller, place_used}
+use Rattle.workload_file.specs.Deeds.{deed_with, binds, number_in, args_in, cores_in, flag_in, place_in, timeout_in}
+use Rattle.workload_file.specs.Changes.{values_in, value_given, value_absent, change_of, change_with}
 use Rattle.workload_file.specs.Written.{line_text}
 use Rattle.workload_file.specs.Reading.{with_change, line_adds}
-use Rattle.workload_file.proofs.Facts.{IsRead, statement_read}
-use Rattle.workload_file.proofs.Fields.{deed_change_is, made}
+use Rattle.workload_file.proofs.Facts.{IsRead}
 use Rattle.workload_file.proofs.Phrases.{is_inner, is_word, all_append}
 use Rattle.generated_workload.specs.Generated.{binding, all_cores, first_statements, start, task_name, task_statement, tasks, last_statement}
 use Rattle.generated_workload.specs.Text.{start_words, task_words, last_line}
 use Rattle.generated_workload.proofs.Formed.{is_task_name, is_new, fits}
 use Rattle.generated_workload.proofs.Lines.{decimal_inner, inner_word, within_decimal, total, words_add}
 use Rattle.generated_workload.proofs.Heads.{Good, state}
+use Rattle.workload_file.specs.declared.reading.Change.{Change}
 
 -- ---- names
 
@@ -69,46 +67,44 @@ record Fit (name : List ℕ) (job : ℕ) (args : List ℤ) : Type 0 where
   list : list_of (list_text args) ≡ Some args
   named : is_name name ≡ true
 
-start_is : (r : Reading) (name : List ℕ) (job : ℕ) (args : List ℤ) → Fit name job args → nat_le 20000 r.count ≡ false → bound_at name r.current.statements ≡ None → IsRead r (codes "start") (name ∷ options job args) word.Start (Some name) (options job args)
-unfolding row key_text word_of is_ninth_caller is_misplaced split_name has_twice is_value is_taken is_name text_of
-start_is r name job args f few new = record {
+start_is : (r : Reading) (name : List ℕ) (job : ℕ) (args : List ℤ) → Fit name job args → nat_le 20000 r.count ≡ false → bound_at name r.current.statements ≡ None → place_of sort.Group (codes "g") r.current.statements ≡ Some 2 → IsRead r (codes "start") (name ∷ options job args) word.Start name (options job args)
+unfolding row key_text word_of is_ninth_caller is_misplaced has_twice is_taken is_name text_of value_given value_absent
+start_is r name job args f few new group = record {
+  comment = refl;
   word = refl;
+  name_is = refl;
+  options_are = refl;
   few = few;
   callers = refl;
   placed = refl;
-  split = rw f.named refl;
+  named = rw f.named refl;
   known = refl;
   once = refl;
-  valued = rw (within_decimal 1 65535 job f.low f.high (omega (arith, f.high)), f.list) refl;
-  present = refl;
+  sound = rw (within_decimal 1 65535 job f.low f.high (omega (arith, f.high)), f.list, group) refl;
   free = rw new refl;
+  bound = refl;
 }
 
-start_values : (before : List Statement) (name : List ℕ) (job : ℕ) (args : List ℤ) → Fit name job args → place_of sort.Group (codes "g") before ≡ Some 2 → values_in before (options job args) (fields word.Start) ≡ Some (values job args)
-unfolding row key_text values_in text_of value_given value_absent
+start_values : (before : List Statement) (name : List ℕ) (job : ℕ) (args : List ℤ) → Fit name job args → place_of sort.Group (codes "g") before ≡ Some 2 → values_in before (options job args) (fields word.Start) ≡ values job args
+unfolding row key_text is_name text_of value_given value_absent
 start_values before name job args f group = rw (within_decimal 1 65535 job f.low f.high (omega (arith, f.high)), f.list, group) refl
 
-start_used : (before : List Statement) (name : List ℕ) → use_in before (naming word.Start) (Some name) ≡ Some None
-unfolding row use_in
-start_used before name = refl
+start_made : (line : ℕ) (name : List ℕ) (job : ℕ) (args : List ℤ) (place : Option ℕ) → change_with line word.Start name place (values job args) ≡ change.Statement (binding line name (start job args))
+unfolding row change_with deed_with number_in args_in cores_in flag_in place_in
+start_made line name job args place = refl
 
-start_deed : (job : ℕ) (args : List ℤ) → deed_with word.Start None (values job args) ≡ Some (start job args)
-unfolding deed_with deed_of_task
-start_deed job args = refl
-
-start_bound : (line : ℕ) (name : List ℕ) (job : ℕ) (args : List ℤ) → made line word.Start (Some name) (start job args) ≡ binding line name (start job args)
-unfolding row
-start_bound line name job args = refl
+start_change : (r : Reading) (line : ℕ) (name : List ℕ) (job : ℕ) (args : List ℤ) → values_in r.current.statements (options job args) (fields word.Start) ≡ values job args → change_of r line word.Start name (options job args) ≡ change.Statement (binding line name (start job args))
+start_change r line name job args e =
+    let place = place_used r.current.statements (naming word.Start) name in
+    ap (λ (vs : List Value). change_with line word.Start name place vs) e ∙ start_made line name job args place
 
 start_adds : (n w i : ℕ) (name : List ℕ) (job : ℕ) (args : List ℤ) → i < 19000 → Fit name job args → bound_at name (first_statements ++ tasks i) ≡ None → list_all is_word (start_words name job args) ≡ true → total (start_words name job args) ≤ 513 → line_adds (state n w (first_statements ++ tasks i) (i + 4)) (i + 5) (line_text (start_words name job args)) ≡ Ok (with_change (state n w (first_statements ++ tasks i) (i + 4)) (i + 5) (Some (change.Statement (binding (i + 5) name (start job args)))))
 start_adds n w i name job args lt f new words few =
     let r = state n w (first_statements ++ tasks i) (i + 4) in
-    let c = change.Statement (binding (i + 5) name (start job args)) in
     let room : nat_le 20000 (i + 4) ≡ false = lt-leb 20000 (i + 4) (omega arith) in
-    words_add r (i + 5) (codes "start") (name ∷ options job args) c words few refl
-    (statement_read r (i + 5) (codes "start") (name ∷ options job args) word.Start (Some name) (options job args) c (start_is r name job args f room new)
-    (deed_change_is r (i + 5) word.Start (Some name) (options job args) None (values job args) (start job args) refl (start_used r.current.statements name) (start_values r.current.statements name job args f (group_place (tasks i))) (start_deed job args)
-    ∙ ap (λ (s : Statement). Some (change.Statement s)) (start_bound (i + 5) name job args)))
+    let group = group_place (tasks i) in
+    words_add r (i + 5) (codes "start") (name ∷ options job args) word.Start name (options job args) words few (start_is r name job args f room new group)
+    ∙ ap (λ (x : Change). Ok (with_change r (i + 5) (Some x))) (start_change r (i + 5) name job args (start_values r.current.statements name job args f group))
 
 -- ---- a task
 
@@ -166,25 +162,26 @@ task_adds n w i lt = task_adds_by n w i (eqb (i % 2) 0) lt ∙ ap Ok (next_state
 abbrev waits : List (List ℕ)
 waits = codes "timeout=inf" ∷ []
 
-last_is : (r : Reading) → nat_le 20000 r.count ≡ false → IsRead r (codes "wait_all") (codes "g" ∷ waits) word.WaitAll (Some (codes "g")) waits
-unfolding row key_text word_of is_ninth_caller is_misplaced split_name has_twice is_value is_taken is_name timeout_of text_of
-last_is r few = record { word = refl; few = few; callers = refl; placed = refl; split = refl; known = refl; once = refl; valued = refl; present = refl; free = refl }
+last_is : (r : Reading) → nat_le 20000 r.count ≡ false → place_of sort.Group (codes "g") r.current.statements ≡ Some 2 → IsRead r (codes "wait_all") (codes "g" ∷ waits) word.WaitAll (codes "g") waits
+unfolding row key_text word_of is_ninth_caller is_misplaced has_twice is_taken is_name timeout_of text_of value_given
+last_is r few group = record { comment = refl; word = refl; name_is = refl; options_are = refl; few = few; callers = refl; placed = refl; named = refl; known = refl; once = refl; sound = refl; free = refl; bound = rw group refl }
 
-last_values : (before : List Statement) → values_in before waits (fields word.WaitAll) ≡ Some (given.Timeout timeout.Infinite ∷ [])
-unfolding row key_text values_in text_of value_given timeout_of
+last_values : (before : List Statement) → values_in before waits (fields word.WaitAll) ≡ given.Timeout timeout.Infinite ∷ []
+unfolding row key_text text_of value_given timeout_of
 last_values before = refl
 
-last_used : (before : List Statement) → place_of sort.Group (codes "g") before ≡ Some 2 → use_in before (naming word.WaitAll) (Some (codes "g")) ≡ Some (Some 2)
-unfolding row use_in
-last_used before e = rw e refl
-
-last_deed : deed_with word.WaitAll (Some 2) (given.Timeout timeout.Infinite ∷ []) ≡ Some (deed.WaitAll 2 timeout.Infinite)
-unfolding deed_with deed_of_task
-last_deed = refl
-
-last_made : (n : ℕ) → made (n + 5) word.WaitAll (Some (codes "g")) (deed.WaitAll 2 timeout.Infinite) ≡ last_statement n
+last_used : (before : List Statement) → place_of sort.Group (codes "g") before ≡ Some 2 → place_used before (naming word.WaitAll) (codes "g") ≡ Some 2
 unfolding row
+last_used before e = e
+
+last_made : (n : ℕ) → change_with (n + 5) word.WaitAll (codes "g") (Some 2) (given.Timeout timeout.Infinite ∷ []) ≡ change.Statement (last_statement n)
+unfolding row change_with deed_with timeout_in
 last_made n = refl
+
+last_change : (r : Reading) (n : ℕ) → place_of sort.Group (codes "g") r.current.statements ≡ Some 2 → change_of r (n + 5) word.WaitAll (codes "g") waits ≡ change.Statement (last_statement n)
+last_change r n group =
+    ap (λ (o : Option ℕ). change_with (n + 5) word.WaitAll (codes "g") o (values_in r.current.statements waits (fields word.WaitAll))) (last_used r.current.statements group)
+    ∙ (ap (λ (vs : List Value). change_with (n + 5) word.WaitAll (codes "g") (Some 2) vs) (last_values r.current.statements) ∙ last_made n)
 
 last_few : total (codes "wait_all" ∷ codes "g" ∷ waits) ≤ 513
 unfolding total
@@ -193,8 +190,6 @@ last_few = omega arith
 pub last_adds : (n w : ℕ) → n ≤ 19000 → line_adds (state n w (first_statements ++ tasks n) (n + 4)) (n + 5) last_line ≡ Ok (with_change (state n w (first_statements ++ tasks n) (n + 4)) (n + 5) (Some (change.Statement (last_statement n))))
 last_adds n w le =
     let r = state n w (first_statements ++ tasks n) (n + 4) in
-    let c = change.Statement (last_statement n) in
-    words_add r (n + 5) (codes "wait_all") (codes "g" ∷ waits) c refl last_few refl
-    (statement_read r (n + 5) (codes "wait_all") (codes "g" ∷ waits) word.WaitAll (Some (codes "g")) waits c (last_is r (lt-leb 20000 (n + 4) (omega arith)))
-    (deed_change_is r (n + 5) word.WaitAll (Some (codes "g")) waits (Some 2) (given.Timeout timeout.Infinite ∷ []) (deed.WaitAll 2 timeout.Infinite) refl (last_used r.current.statements (group_place (tasks n))) (last_values r.current.statements) last_deed
-    ∙ ap (λ (s : Statement). Some (change.Statement s)) (last_made n)))
+    let group = group_place (tasks n) in
+    words_add r (n + 5) (codes "wait_all") (codes "g" ∷ waits) word.WaitAll (codes "g") waits refl last_few (last_is r (lt-leb 20000 (n + 4) (omega arith)) group)
+    ∙ ap (λ (x : Change). Ok (with_change r (n + 5) (Some x))) (last_change r n group)

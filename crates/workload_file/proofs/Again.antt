@@ -12,15 +12,14 @@ use Rattle.workload_file.specs.declared.workload.Part.{Part}
 use Rattle.workload_file.specs.declared.workload.Workload.{Workload}
 use Rattle.workload_file.specs.declared.table.Word.{Word}
 use Rattle.workload_file.specs.declared.table.Word.TheVariants as word
-use Rattle.number_text.specs.Lists.{between}
+use Rattle.number_text.specs.Lists.{between, led}
 use Rattle.workload_file.specs.Cuts.{words_of}
 use Rattle.workload_file.specs.Names.{is_misplaced}
 use Rattle.workload_file.specs.Reading.{with_change, line_gives, line_adds, lines_add, start, finished, workload_of}
 use Rattle.workload_file.specs.Formed.{statement_lines, line_if_any, part_lines}
 use Rattle.workload_file.specs.Written.{Line, if_any, node_text, caller_text, statement_text, statement_lines_behind, lines_of_part, lines_of, laid_out, canonical}
-use Rattle.number_text.specs.Lists.{led}
-use Rattle.workload_file.proofs.Facts.{bind_ok, ok_is, at_line_ok, IsRead, line_facts, words_facts, statement_facts}
-use Rattle.workload_file.proofs.Fields.{made, Says, says_node, says_caller, says_deed, says}
+use Rattle.workload_file.proofs.Facts.{bind_ok, ok_is, at_line_ok, IsRead, stated}
+use Rattle.workload_file.proofs.Fields.{made, Says, says_node, says_caller, says_deed, says, deed_said}
 use Rattle.workload_file.proofs.Laid.{statements_push, statements_none, laid_none}
 use Rattle.workload_file.proofs.Invariant.{IsFormed}
 use Rattle.workload_file.proofs.Keeping.{adds_keeps, start_formed}
@@ -88,17 +87,15 @@ unfolding is_misplaced
 count_zero r h = eqb-true r.count 0 (not-false _ h)
 
 -- what a line gave, by its kind: a node line is the first one, and a statement has its number
-change_at : (r : Reading) (line : ℕ) (first : List ℕ) (rest : List (List ℕ)) (w : Word) (name : Option (List ℕ)) (options : List (List ℕ)) (c : Change) → IsFormed r line → 1 ≤ line → IsRead r first rest w name options → Says r line w name options c → shown (with_change r line (Some c)) ≡ shown r ++ (line, text_of_change r c) ∷ []
-change_at r line first rest w name options c f le read (says_node vs s is v e change) = rw change (node_shown r line s f le (count_zero r (rw is at read.placed)))
-change_at r line first rest w name options c f le read (says_caller n is named change) = rw change (caller_shown r line n le)
-change_at r line first rest w name options c f le read (says_deed place vs d h u v e change) = rw change (statement_shown r (made line w name d))
+change_at : (r : Reading) (line : ℕ) (first : List ℕ) (rest : List (List ℕ)) (w : Word) (name : List ℕ) (options : List (List ℕ)) (c : Change) → IsFormed r line → 1 ≤ line → IsRead r first rest w name options → Says r line w name options c → shown (with_change r line (Some c)) ≡ shown r ++ (line, text_of_change r c) ∷ []
+change_at r line first rest w name options c f le read (says_node is change) = rw change (node_shown r line _ f le (count_zero r (rw is at read.placed)))
+change_at r line first rest w name options c f le read (says_caller is change) = rw change (caller_shown r line name le)
+change_at r line first rest w name options c f le read (says_deed h change) = rw change (statement_shown r (made line w name (deed_said r w name options)))
 
 pub change_shown : (r : Reading) (line : ℕ) (text : List ℕ) (c : Change) → IsFormed r line → 1 ≤ line → line_gives r line text ≡ Ok (Some c) → shown (with_change r line (Some c)) ≡ shown r ++ (line, text_of_change r c) ∷ []
 change_shown r line text c f le e =
-    let l = line_facts r line text (Some c) e in
-    let ws = words_facts r line (words_of text) c l.words in
-    let st = statement_facts r line ws.first ws.rest c ws.statement in
-    change_at r line ws.first ws.rest st.word st.name st.options c f le st.read (says r line st.word st.name st.options c st.change)
+    let st = (stated r line text c e).1 in
+    change_at r line st.first st.rest st.word st.name st.options c f le st.read (says r line st.word st.name st.options c st.change)
 
 -- ---- the lines read again
 

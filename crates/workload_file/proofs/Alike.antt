@@ -1,48 +1,40 @@
 -- Comments, spaces, the order of options and written-out defaults.
 use Rattle.std.proofs.Common.{◌≡◌, ℕ, ◌≤◌, List, [], ◌∷◌, ◌++◌, length, replicate, Bool, true, false, not, cond, eqb, ◌&&◌, ◌||◌, Option, Some, None, Ok, refl, sym, ap, subst, ◌∙◌, arith, inl, inr, zero, suc, ◌+◌}
-use Rattle.std.specs.Prelude.{nat_le, nat_lt, filter, is_some}
+use Rattle.std.specs.Prelude.{nat_le, nat_lt, filter}
 use Rattle.std.specs.Option.{option_map}
 use Rattle.std.specs.List.{find, list_any, list_all, onto_first}
 use Rattle.std.specs.Str.{bytes_eq}
-use Rattle.std.proofs.lemmas.Bool.{and_parts, and_from, or_parts, or_from, cases_Bool, eqb-true, lt-ltb, le-ltb}
+use Rattle.std.proofs.lemmas.Bool.{and_parts, and_from, or_parts, or_from, cases_Bool, eqb-true, lt-ltb, le-ltb, not-false}
 use Rattle.std.proofs.lemmas.List.{append-nil}
 use Rattle.std.proofs.lemmas.List.Splits.{length-slice_split}
 use Rattle.number_text.specs.Lists.{between}
 use Rattle.workload_file.specs.declared.table.Word.{Word}
 use Rattle.workload_file.specs.declared.table.Naming.{Naming}
 use Rattle.workload_file.specs.declared.table.Naming.TheVariants as rule
-use Rattle.workload_file.specs.declared.table.Shape.{Shape}
-use Rattle.workload_file.specs.declared.table.Shape.TheVariants as shape
-use Rattle.workload_file.specs.declared.table.Absent.{Absent}
-use Rattle.workload_file.specs.declared.table.Absent.TheVariants as absent
 use Rattle.workload_file.specs.declared.table.Key.{Key}
 use Rattle.workload_file.specs.declared.table.Field.{Field}
 use Rattle.workload_file.specs.declared.values.Value.{Value}
-use Rattle.workload_file.specs.declared.values.Value.TheVariants as given
 use Rattle.workload_file.specs.declared.workload.Statement.{Statement}
 use Rattle.workload_file.specs.declared.workload.Workload.{Workload}
 use Rattle.workload_file.specs.declared.reading.Reading.{Reading}
 use Rattle.workload_file.specs.declared.reading.Change.{Change}
-use Rattle.workload_file.specs.Values.{is_name, is_name_byte, begins_with_letter, number_within, cores_of, flag_of, mode_of, timeout_of}
-use Rattle.mtapi_values.specs.Kinds.{kind_named}
-use Rattle.number_text.specs.Numbers.{whole}
-use Rattle.number_text.specs.Lists.{list_of}
+use Rattle.workload_file.specs.Values.{is_name, is_name_byte, begins_with_letter}
 use Rattle.workload_file.specs.Cuts.{words_of}
 use Rattle.workload_file.specs.Table.{naming, fields, key_text, word_of}
-use Rattle.workload_file.specs.Options.{key_of, value_of, is_known, has_twice, is_bad, is_value, gives, is_missing, is_refused, text_of}
-use Rattle.workload_file.specs.Names.{split_name, place_of}
+use Rattle.workload_file.specs.Options.{key_of, value_of, is_known, has_twice, gives, text_of}
+use Rattle.workload_file.specs.Names.{has_second, name_in, options_in, place_used}
 use Rattle.workload_file.specs.Changes.{value_given, value_absent, value_at, values_in, change_with, change_of}
-use Rattle.workload_file.specs.Reading.{is_printable, is_comment, line_gives, line_adds, lines_add, statement_of, words_give, at_line, start, workload_of, with_change}
-use Rattle.workload_file.specs.Written.{bound_words}
+use Rattle.workload_file.specs.Reading.{line_gives, line_adds, lines_add, at_line, start, workload_of, with_change}
 use Rattle.workload_file.specs.Alike.{IsPlain, has_equals, IsSwapped, IsWrittenOut, AddsAlike, DifferAt}
-use Rattle.workload_file.proofs.Facts.{IsRead, bind_ok, at_line_ok, some_is, map_some, line_facts, line_read, statement_facts, statement_read}
-use Rattle.workload_file.proofs.Fields.{here, AreApart, IsField, fields_apart}
-use Rattle.workload_file.proofs.Invariant.{pair_is, split_parts, splits, any_push}
+use Rattle.workload_file.proofs.Facts.{IsRead, bind_ok, at_line_ok, some_is, here, is_sound, stated, states, silent, silence}
+use Rattle.workload_file.proofs.Fields.{AreApart, IsField, fields_apart}
+use Rattle.workload_file.proofs.Invariant.{any_push}
 use Rattle.workload_file.proofs.Phrases.{all_append}
 use Rattle.workload_file.proofs.Places.{bytes_are, bytes_same, apart_sym}
 use Rattle.workload_file.proofs.Rereading.{text_skip, text_nothing}
 use Rattle.workload_file.proofs.Tables.{option_is}
 use Rattle.workload_file.proofs.Optioned.{known_here}
+use Rattle.workload_file.specs.Faulty.{is_statement, is_printable}
 
 -- ---- lines that say nothing
 
@@ -54,18 +46,18 @@ leads_words : (n : ℕ) (a : List ℕ) → words_of (replicate n 32 ++ a) ≡ wo
 leads_words zero a = refl
 leads_words (suc n) a = lead_words (replicate n 32 ++ a) ∙ leads_words n a
 
-comment_words : (r : Reading) (line : ℕ) (parts : List (List ℕ)) → words_give r line (filter (λ w. nat_lt 0 (length w)) (onto_first 35 parts)) ≡ Ok None
-comment_words r line [] = refl
-comment_words r line (p ∷ ps) = rw (lt-ltb 0 (length (35 ∷ p)) (omega arith)) refl
+comment_words : (parts : List (List ℕ)) → is_statement (filter (λ w. nat_lt 0 (length w)) (onto_first 35 parts)) ≡ false
+comment_words [] = refl
+comment_words (p ∷ ps) = rw (lt-ltb 0 (length (35 ∷ p)) (omega arith)) refl
 
-comment_gives : (r : Reading) (line : ℕ) (text : List ℕ) → words_give r line (words_of (35 ∷ text)) ≡ Ok None
+comment_silent : (text : List ℕ) → is_statement (words_of (35 ∷ text)) ≡ false
 unfolding words_of
-comment_gives r line text = comment_words r line (between 32 text)
+comment_silent text = comment_words (between 32 text)
 
--- a plain line is what its words are
-plain_adds : (r : Reading) (line : ℕ) (text : List ℕ) → IsPlain text → words_give r line (words_of text) ≡ Ok None → line_adds r line text ≡ Ok r
-unfolding line_adds line_gives with_change
-plain_adds r line text plain e = rw (le-ltb 512 (length text) plain.short, plain.printable, e) refl
+-- a plain line without a statement adds nothing
+plain_adds : (r : Reading) (line : ℕ) (text : List ℕ) → IsPlain text → is_statement (words_of text) ≡ false → line_adds r line text ≡ Ok r
+unfolding line_adds with_change
+plain_adds r line text plain h = rw (silence r line text plain h) refl
 
 abbrev spaces : ℕ → List ℕ
 spaces n = replicate n 32
@@ -78,17 +70,17 @@ spaces_printable : (n : ℕ) → list_all is_printable (replicate n 32) ≡ true
 spaces_printable zero = refl
 spaces_printable (suc n) = spaces_printable n
 
-no_words : (r : Reading) (line : ℕ) → words_give r line (words_of []) ≡ Ok None
+no_words : is_statement (words_of []) ≡ false
 unfolding words_of
-no_words r line = refl
+no_words = refl
 
 pub blank_adds : (r : Reading) (line n : ℕ) → n ≤ 512 → line_adds r line (replicate n 32) ≡ Ok r
 blank_adds r line n le =
     let words : words_of (replicate n 32) ≡ words_of [] = ap words_of (sym (append-nil (replicate n 32))) ∙ leads_words n [] in
-    plain_adds r line (replicate n 32) (record { short = omega (arith, le, spaces_long n); printable = spaces_printable n }) (rw words (no_words r line))
+    plain_adds r line (replicate n 32) (record { short = omega (arith, le, spaces_long n); printable = spaces_printable n }) (rw words no_words)
 
 pub comment_adds : (r : Reading) (line n : ℕ) (text : List ℕ) → IsPlain (replicate n 32 ++ 35 ∷ text) → line_adds r line (replicate n 32 ++ 35 ∷ text) ≡ Ok r
-comment_adds r line n text plain = plain_adds r line (replicate n 32 ++ 35 ∷ text) plain (rw (leads_words n (35 ∷ text)) (comment_gives r line text))
+comment_adds r line n text plain = plain_adds r line (replicate n 32 ++ 35 ∷ text) plain (rw (leads_words n (35 ∷ text)) (comment_silent text))
 
 -- ---- spaces
 
@@ -154,37 +146,55 @@ last_space r line a h =
 
 -- ---- other words that give the same
 
-words_instead : (r : Reading) (line : ℕ) (first : List ℕ) (rest others : List (List ℕ)) (c : Option Change) → ((d : Change) → statement_of r line first rest ≡ Ok d → statement_of r line first others ≡ Ok d) → words_give r line (first ∷ rest) ≡ Ok c → words_give r line (first ∷ others) ≡ Ok c
-words_instead r line first rest others c each e =
-    elim (cases_Bool (is_comment first)) [
-      | inl t ↦ rw t (rw t at e)
-      | inr f ↦
-          let b = bind_ok (statement_of r line first rest) (λ d. Ok (Some d)) c (rw f at e) in
-          rw (f, each b.0 b.1) b.2
-    ]
+-- the words behind the first one say the same in place of those
+Instead : Reading → ℕ → List ℕ → List (List ℕ) → List (List ℕ) → Type 0
+Instead r line first rest others = (w : Word) (name : List ℕ) (ps : List (List ℕ)) → IsRead r first rest w name ps → (qs : List (List ℕ)) × IsRead r first others w name qs × (change_of r line w name qs ≡ change_of r line w name ps)
 
-line_instead : (r : Reading) (line : ℕ) (text other first : List ℕ) (rest others : List (List ℕ)) (s : Reading) → words_of text ≡ first ∷ rest → words_of other ≡ first ∷ others → IsPlain other → ((d : Change) → statement_of r line first rest ≡ Ok d → statement_of r line first others ≡ Ok d) → line_adds r line text ≡ Ok s → line_adds r line other ≡ Ok s
+cons_is : (x y : List ℕ) (xs ys : List (List ℕ)) → x ∷ xs ≡ y ∷ ys → (x ≡ y) × (xs ≡ ys)
+cons_is x y xs ys e = (cc, cc)
+
+gives_instead : (r : Reading) (line : ℕ) (text other first : List ℕ) (rest others : List (List ℕ)) (c : Option Change) → words_of text ≡ first ∷ rest → words_of other ≡ first ∷ others → IsPlain other → Instead r line first rest others → line_gives r line text ≡ Ok c → line_gives r line other ≡ Ok c
+unfolding Instead
+gives_instead r line text other first rest others None w v plain each e =
+    let l = silent r line text e in
+    silence r line other plain (rw v (rw w at l.1))
+gives_instead r line text other first rest others (Some c) w v plain each e =
+    let st = (stated r line text c e).1 in
+    let same = cons_is st.first first st.rest rest (sym st.are ∙ w) in
+    let i = each st.word st.name st.options (rw (same.0, same.1) at st.read) in
+    states r line other first others st.word st.name i.0 plain v i.1 ∙ ap (λ (x : Change). Ok (Some x)) (i.2 ∙ st.change)
+
+line_instead : (r : Reading) (line : ℕ) (text other first : List ℕ) (rest others : List (List ℕ)) (s : Reading) → words_of text ≡ first ∷ rest → words_of other ≡ first ∷ others → IsPlain other → Instead r line first rest others → line_adds r line text ≡ Ok s → line_adds r line other ≡ Ok s
 unfolding line_adds
 line_instead r line text other first rest others s w v plain each e =
     let b = bind_ok (line_gives r line text) (λ c. Ok (with_change r line c)) s (at_line_ok line _ s e) in
-    let l = line_facts r line text b.0 b.1 in
-    let words = words_instead r line first rest others b.0 each (rw w at l.words) in
-    let gives = line_read r line other b.0 (record { short = le-ltb 512 (length other) plain.short; printable = plain.printable; words = rw v words }) in
-    rw gives (ap (at_line line) b.2)
+    rw (gives_instead r line text other first rest others b.0 w v plain each b.1) (ap (at_line line) b.2)
 
 -- these options may stand in place of those
 record IsInstead (before : List Statement) (fs : List Field) (ps qs : List (List ℕ)) : Type 0 where
   known : list_all (is_known fs) qs ≡ true
   once : has_twice qs ≡ false
-  valued : list_any (is_bad qs) fs ≡ false
-  present : list_any (is_missing qs) fs ≡ false
   values : values_in before qs fs ≡ values_in before ps fs
 
-statement_instead : (r : Reading) (line : ℕ) (first : List ℕ) (rest others : List (List ℕ)) (w : Word) (name : Option (List ℕ)) (ps qs : List (List ℕ)) (c : Change) → IsRead r first rest w name ps → change_of r line w name ps ≡ Some c → split_name (naming w) others ≡ Some (name, qs) → IsInstead (here r) (fields w) ps qs → statement_of r line first others ≡ Ok c
-statement_instead r line first rest others w name ps qs c read e split q =
-    statement_read r line first others w name qs c
-    (record { word = read.word; few = read.few; callers = read.callers; placed = read.placed; split = split; known = q.known; once = q.once; valued = q.valued; present = q.present; free = read.free })
-    (ap (λ (vs : Option (List Value)). change_with (here r) line w name vs) q.values ∙ e)
+read_instead : (r : Reading) (first : List ℕ) (rest others : List (List ℕ)) (w : Word) (name : List ℕ) (ps qs : List (List ℕ)) → IsRead r first rest w name ps → name_in (naming w) others ≡ name → options_in (naming w) others ≡ qs → IsInstead (here r) (fields w) ps qs → IsRead r first others w name qs
+read_instead r first rest others w name ps qs read n o q = record {
+  comment = read.comment;
+  word = read.word;
+  name_is = n;
+  options_are = o;
+  few = read.few;
+  callers = read.callers;
+  placed = read.placed;
+  named = read.named;
+  known = q.known;
+  once = q.once;
+  sound = ap (list_all is_sound) q.values ∙ read.sound;
+  free = read.free;
+  bound = read.bound;
+}
+
+change_instead : (r : Reading) (line : ℕ) (w : Word) (name : List ℕ) (ps qs : List (List ℕ)) → values_in (here r) qs (fields w) ≡ values_in (here r) ps (fields w) → change_of r line w name qs ≡ change_of r line w name ps
+change_instead r line w name ps qs e = ap (λ (vs : List Value). change_with line w name (place_used (here r) (naming w) name) vs) e
 
 -- ---- two options in the other order
 
@@ -244,19 +254,11 @@ unfolding text_of
 text_swap k front x y back apart = ap (option_map value_of) (sym (find_swap (λ w. bytes_eq (key_of w) (key_text k)) front x y back (not_both (key_of x) (key_of y) (key_text k) apart)))
 
 values_same : (before : List Statement) (ps qs : List (List ℕ)) (fs : List Field) → ((k : Key) → text_of k qs ≡ text_of k ps) → values_in before qs fs ≡ values_in before ps fs
-unfolding values_in
 values_same before ps qs [] e = refl
-values_same before ps qs (f ∷ fs) e = rw (e f.key, values_same before ps qs fs e) refl
-
-bad_same : (ps qs : List (List ℕ)) (fs : List Field) → ((k : Key) → text_of k qs ≡ text_of k ps) → list_any (is_bad qs) fs ≡ list_any (is_bad ps) fs
-bad_same ps qs [] e = refl
-bad_same ps qs (f ∷ fs) e = rw (e f.key, bad_same ps qs fs e) refl
-
-missing_same : (ps qs : List (List ℕ)) (fs : List Field) → ((k : Key) → gives k qs ≡ gives k ps) → list_any (is_missing qs) fs ≡ list_any (is_missing ps) fs
-missing_same ps qs [] e = refl
-missing_same ps qs (f ∷ fs) e =
-    let here : is_missing qs f ≡ is_missing ps f = ap (λ (t : Bool). is_refused f.absent && not t) (e f.key) in
-    ap (λ (t : Bool). t || list_any (is_missing qs) fs) here ∙ ap (λ (t : Bool). is_missing ps f || t) (missing_same ps qs fs e)
+values_same before ps qs (f ∷ fs) e =
+    let first = ap (value_at before f) (e f.key) in
+    let rest = values_same before ps qs fs e in
+    λ i. first i ∷ rest i
 
 byte_equals : (b : ℕ) → is_name_byte b ≡ true → eqb b 61 ≡ false
 byte_equals b h =
@@ -269,6 +271,10 @@ bytes_equals : (bs : List ℕ) → list_all is_name_byte bs ≡ true → list_an
 bytes_equals [] h = refl
 bytes_equals (b ∷ bs) h = let both = and_parts (is_name_byte b) (list_all is_name_byte bs) h in or_from _ _ (byte_equals b both.0) (bytes_equals bs both.1)
 
+nameless : is_name [] ≡ true → ⊥
+unfolding is_name
+nameless e = cc
+
 -- an option is no name
 no_name : (word : List ℕ) → has_equals word ≡ true → is_name word ≡ true → ⊥
 unfolding is_name
@@ -277,53 +283,48 @@ no_name word h n =
     let none = bytes_equals word bytes.1 in
     cc
 
--- the two options stand behind the name
-record IsBehind (n : Naming) (front : List (List ℕ)) (x y : List ℕ) (back : List (List ℕ)) (name : Option (List ℕ)) (options : List (List ℕ)) : Type 0 where
+-- the two options stand behind the name, where the first of them is no name
+record IsBehind (n : Naming) (front : List (List ℕ)) (x y : List ℕ) (back : List (List ℕ)) : Type 0 where
   ahead : List (List ℕ)
-  are : options ≡ ahead ++ x ∷ (y ∷ back)
-  again : split_name n (front ++ y ∷ (x ∷ back)) ≡ Some (name, ahead ++ y ∷ (x ∷ back))
+  are : options_in n (front ++ x ∷ (y ∷ back)) ≡ ahead ++ x ∷ (y ∷ back)
+  named : name_in n (front ++ y ∷ (x ∷ back)) ≡ name_in n (front ++ x ∷ (y ∷ back))
+  again : options_in n (front ++ y ∷ (x ∷ back)) ≡ ahead ++ y ∷ (x ∷ back)
 
-behind : (n : Naming) (front : List (List ℕ)) (x y : List ℕ) (back : List (List ℕ)) (name : Option (List ℕ)) (options : List (List ℕ)) → has_equals x ≡ true → split_name n (front ++ x ∷ (y ∷ back)) ≡ Some (name, options) → IsBehind n front x y back name options
-unfolding split_name
-behind rule.Bare front x y back name options h e = let p = pair_is None name (front ++ x ∷ (y ∷ back)) options e in record { ahead = front; are = sym p.1; again = rw (← p.0) refl }
-behind _ [] x y back name options h e = absurd (no_name x h (split_parts x (y ∷ back) name options e).0)
-behind _ (z ∷ zs) x y back name options h e = let p = split_parts z (zs ++ x ∷ (y ∷ back)) name options e in record { ahead = zs; are = sym p.2; again = rw (p.1, p.0) refl }
+behind : (n : Naming) (front : List (List ℕ)) (x y : List ℕ) (back : List (List ℕ)) → has_equals x ≡ true → (has_second n && not (is_name (name_in n (front ++ x ∷ (y ∷ back))))) ≡ false → IsBehind n front x y back
+behind rule.Bare [] x y back h good = record { ahead = []; are = refl; named = refl; again = refl }
+behind rule.Bare (z ∷ zs) x y back h good = record { ahead = z ∷ zs; are = refl; named = refl; again = refl }
+behind _ [] x y back h good = absurd (no_name x h (not-false (is_name x) good))
+behind _ (z ∷ zs) x y back h good = record { ahead = zs; are = refl; named = refl; again = refl }
 
-swapped_options : (r : Reading) (line : ℕ) (first : List ℕ) (front : List (List ℕ)) (x y : List ℕ) (back : List (List ℕ)) (w : Word) (name : Option (List ℕ)) (ahead : List (List ℕ)) (c : Change) → IsRead r first (front ++ x ∷ (y ∷ back)) w name (ahead ++ x ∷ (y ∷ back)) → change_of r line w name (ahead ++ x ∷ (y ∷ back)) ≡ Some c → split_name (naming w) (front ++ y ∷ (x ∷ back)) ≡ Some (name, ahead ++ y ∷ (x ∷ back)) → statement_of r line first (front ++ y ∷ (x ∷ back)) ≡ Ok c
-swapped_options r line first front x y back w name ahead c read e split =
-    let ps = ahead ++ x ∷ (y ∷ back) in
-    let qs = ahead ++ y ∷ (x ∷ back) in
-    let once = once_swap ahead x y back read.once in
-    statement_instead r line first (front ++ x ∷ (y ∷ back)) (front ++ y ∷ (x ∷ back)) w name ps qs c read e split (record {
-      known = sym (all_swap (is_known (fields w)) ahead x y back) ∙ read.known;
-      once = once.0;
-      valued = bad_same ps qs (fields w) (λ k. text_swap k ahead x y back once.1) ∙ read.valued;
-      present = missing_same ps qs (fields w) (λ k. sym (any_swap (λ v. bytes_eq (key_of v) (key_text k)) ahead x y back)) ∙ read.present;
-      values = values_same (here r) ps qs (fields w) (λ k. text_swap k ahead x y back once.1);
-    })
-
-swapped_statement : (r : Reading) (line : ℕ) (first : List ℕ) (front : List (List ℕ)) (x y : List ℕ) (back : List (List ℕ)) (c : Change) → has_equals x ≡ true → statement_of r line first (front ++ x ∷ (y ∷ back)) ≡ Ok c → statement_of r line first (front ++ y ∷ (x ∷ back)) ≡ Ok c
-swapped_statement r line first front x y back c h e =
-    let st = statement_facts r line first (front ++ x ∷ (y ∷ back)) c e in
-    let b = behind (naming st.word) front x y back st.name st.options h st.read.split in
-    swapped_options r line first front x y back st.word st.name b.ahead c (subst (λ (o : List (List ℕ)). IsRead r first (front ++ x ∷ (y ∷ back)) st.word st.name o) b.are st.read) (subst (λ (o : List (List ℕ)). change_of r line st.word st.name o ≡ Some c) b.are st.change) b.again
+swapped : (r : Reading) (line : ℕ) (first : List ℕ) (front : List (List ℕ)) (x y : List ℕ) (back : List (List ℕ)) → has_equals x ≡ true → Instead r line first (front ++ x ∷ (y ∷ back)) (front ++ y ∷ (x ∷ back))
+unfolding Instead
+swapped r line first front x y back h = λ w name os read.
+    let n = naming w in
+    let b = behind n front x y back h (rw read.name_is read.named) in
+    let ps = b.ahead ++ x ∷ (y ∷ back) in
+    let qs = b.ahead ++ y ∷ (x ∷ back) in
+    let here_ps : os ≡ ps = sym read.options_are ∙ b.are in
+    let known = subst (λ (o : List (List ℕ)). list_all (is_known (fields w)) o ≡ true) here_ps read.known in
+    let once = once_swap b.ahead x y back (subst (λ (o : List (List ℕ)). has_twice o ≡ false) here_ps read.once) in
+    let values : values_in (here r) qs (fields w) ≡ values_in (here r) os (fields w) = values_same (here r) ps qs (fields w) (λ k. text_swap k b.ahead x y back once.1) ∙ ap (λ (o : List (List ℕ)). values_in (here r) o (fields w)) (sym here_ps) in
+    (qs, read_instead r first (front ++ x ∷ (y ∷ back)) (front ++ y ∷ (x ∷ back)) w name os qs read (b.named ∙ read.name_is) b.again (record { known = sym (all_swap (is_known (fields w)) b.ahead x y back) ∙ known; once = once.0; values = values }), change_instead r line w name os qs values)
 
 pub swapped_adds : (text other : List ℕ) → IsSwapped text other → IsPlain other → AddsAlike text other
 swapped_adds text other w plain = λ r line s e.
-    line_instead r line text other w.first (w.front ++ w.one ∷ (w.two ∷ w.back)) (w.front ++ w.two ∷ (w.one ∷ w.back)) s w.words w.others plain
-    (λ c h. swapped_statement r line w.first w.front w.one w.two w.back c w.option h) e
+    line_instead r line text other w.first (w.front ++ w.one ∷ (w.two ∷ w.back)) (w.front ++ w.two ∷ (w.one ∷ w.back)) s w.words w.others plain (swapped r line w.first w.front w.one w.two w.back w.option) e
 
 -- ---- a default that is written out
 
-split_push : (n : Naming) (rest : List (List ℕ)) (name : Option (List ℕ)) (options : List (List ℕ)) (o : List ℕ) → split_name n rest ≡ Some (name, options) → split_name n (rest ++ o ∷ []) ≡ Some (name, options ++ o ∷ [])
-unfolding split_name
-split_push rule.Bare rest name options o e = let p = pair_is None name rest options e in rw (← p.0, ← p.1) refl
-split_push _ [] name options o e = absurd cc
-split_push _ (x ∷ xs) name options o e = let p = split_parts x xs name options e in rw (p.1, p.0, ← p.2) refl
+name_push : (n : Naming) (rest : List (List ℕ)) (o : List ℕ) → (has_second n && not (is_name (name_in n rest))) ≡ false → (name_in n (rest ++ o ∷ []) ≡ name_in n rest) × (options_in n (rest ++ o ∷ []) ≡ options_in n rest ++ o ∷ [])
+name_push rule.Bare [] o h = (refl, refl)
+name_push rule.Bare (x ∷ xs) o h = (refl, refl)
+name_push _ [] o h = absurd (nameless (not-false (is_name []) h))
+name_push _ (x ∷ xs) o h = (refl, refl)
 
-any_named : (q : List ℕ → Bool) (name : Option (List ℕ)) (options : List (List ℕ)) → list_any q (bound_words name ++ options) ≡ false → list_any q options ≡ false
-any_named q None options h = h
-any_named q (Some name) options h = (or_parts _ _ h).1
+any_named : (q : List ℕ → Bool) (n : Naming) (rest : List (List ℕ)) → list_any q rest ≡ false → list_any q (options_in n rest) ≡ false
+any_named q rule.Bare rest h = h
+any_named q _ [] h = h
+any_named q _ (x ∷ xs) h = (or_parts (q x) (list_any q xs) h).1
 
 twice_push : (k : Key) (ps : List (List ℕ)) (o : List ℕ) → key_of o ≡ key_text k → has_twice ps ≡ false → gives k ps ≡ false → has_twice (ps ++ o ∷ []) ≡ false
 unfolding has_twice
@@ -333,25 +334,6 @@ twice_push k (p ∷ ps) o e h g =
     let free = or_parts _ _ g in
     let other : bytes_eq (key_of o) (key_of p) ≡ false = rw e (apart_sym (key_of p) (key_text k) free.0) in
     or_from _ _ (any_push (λ v. bytes_eq (key_of v) (key_of p)) ps o both.0 other) (twice_push k ps o e both.1 free.1)
-
-any_more : (q : List ℕ → Bool) (ps : List (List ℕ)) (o : List ℕ) → list_any q ps ≡ true → list_any q (ps ++ o ∷ []) ≡ true
-any_more q [] o h = absurd cc
-any_more q (p ∷ ps) o h =
-    elim (cases_Bool (q p)) [
-      | inl t ↦ rw t refl
-      | inr f ↦ rw f (any_more q ps o (rw f at h))
-    ]
-
-less_missing : (a g h : Bool) → (a && not g) ≡ false → (g ≡ true → h ≡ true) → (a && not h) ≡ false
-less_missing false g h e f = refl
-less_missing true false h e f = absurd cc
-less_missing true true h e f = ap not (f refl)
-
-missing_push : (ps : List (List ℕ)) (o : List ℕ) (fs : List Field) → list_any (is_missing ps) fs ≡ false → list_any (is_missing (ps ++ o ∷ [])) fs ≡ false
-missing_push ps o [] h = refl
-missing_push ps o (f ∷ fs) h =
-    let both = or_parts (is_missing ps f) (list_any (is_missing ps) fs) h in
-    or_from _ _ (less_missing (is_refused f.absent) (gives f.key ps) (gives f.key (ps ++ o ∷ [])) both.0 (any_more (λ w. bytes_eq (key_of w) (key_text f.key)) ps o)) (missing_push ps o fs both.1)
 
 find_push : (q : List ℕ → Bool) (ps : List (List ℕ)) (o : List ℕ) → q o ≡ false → find q (ps ++ o ∷ []) ≡ find q ps
 find_push q [] o f = rw f refl
@@ -365,83 +347,65 @@ text_absent : (k : Key) (ps : List (List ℕ)) → gives k ps ≡ false → text
 text_absent k ps h = ap (text_of k) (sym (append-nil ps)) ∙ text_nothing k ps [] h refl
 
 -- an option that is written out, and what it gives
-record IsOut (f : Field) (ps : List (List ℕ)) (o value : List ℕ) (v : Value) : Type 0 where
+record IsOut (before : List Statement) (f : Field) (ps : List (List ℕ)) (o value : List ℕ) : Type 0 where
   key : key_of o ≡ key_text f.key
   text : value_of o ≡ value
   absent : gives f.key ps ≡ false
-  usual : value_absent f.absent f.shape ≡ Some v
+  reads : value_given before f.shape value ≡ value_absent f.absent f.shape
 
-values_other : (before : List Statement) (ps : List (List ℕ)) (o : List ℕ) (k : Key) (fs : List Field) → key_of o ≡ key_text k → list_any (λ g. bytes_eq (key_text g.key) (key_text k)) fs ≡ false → (values_in before (ps ++ o ∷ []) fs ≡ values_in before ps fs) × (list_any (is_bad (ps ++ o ∷ [])) fs ≡ list_any (is_bad ps) fs)
-unfolding values_in
-values_other before ps o k [] e h = (refl, refl)
+values_other : (before : List Statement) (ps : List (List ℕ)) (o : List ℕ) (k : Key) (fs : List Field) → key_of o ≡ key_text k → list_any (λ g. bytes_eq (key_text g.key) (key_text k)) fs ≡ false → values_in before (ps ++ o ∷ []) fs ≡ values_in before ps fs
+values_other before ps o k [] e h = refl
 values_other before ps o k (g ∷ gs) e h =
     let both = or_parts (bytes_eq (key_text g.key) (key_text k)) (list_any (λ g. bytes_eq (key_text g.key) (key_text k)) gs) h in
     let other : bytes_eq (key_of o) (key_text g.key) ≡ false = rw e (apart_sym (key_text g.key) (key_text k) both.0) in
+    let first = ap (value_at before g) (text_other g.key ps o other) in
     let rest = values_other before ps o k gs e both.1 in
-    (rw (text_other g.key ps o other, rest.0) refl, rw (text_other g.key ps o other, rest.1) refl)
+    λ i. first i ∷ rest i
 
-values_out : (before : List Statement) (ps : List (List ℕ)) (o value : List ℕ) (v : Value) (f : Field) (fs : List Field) → IsOut f ps o value v → value_given before f.shape value ≡ Some v → is_value f.shape value ≡ true → AreApart fs → find (λ g. bytes_eq (key_text g.key) (key_text f.key)) fs ≡ Some f → list_any (is_bad ps) fs ≡ false → (values_in before (ps ++ o ∷ []) fs ≡ values_in before ps fs) × (list_any (is_bad (ps ++ o ∷ [])) fs ≡ false)
-unfolding values_in
-values_out before ps o value v f [] out e valued apart is none = absurd cc
-values_out before ps o value v f (g ∷ gs) out e valued apart is none =
-    let bad = or_parts (is_bad ps g) (list_any (is_bad ps) gs) none in
+values_out : (before : List Statement) (ps : List (List ℕ)) (o value : List ℕ) (f : Field) (fs : List Field) → IsOut before f ps o value → AreApart fs → IsField fs f → values_in before (ps ++ o ∷ []) fs ≡ values_in before ps fs
+values_out before ps o value f [] out apart is = absurd cc
+values_out before ps o value f (g ∷ gs) out apart is =
     elim (cases_Bool (bytes_eq (key_text g.key) (key_text f.key))) [
       | inl t ↦
           let found = rw t at is in
           let same : g ≡ f = cc in
-          let text = text_skip f.key ps [] o value out.absent out.key out.text in
-          let here : value_at before f (text_of f.key (ps ++ o ∷ [])) ≡ Some v = rw text e in
-          let there : value_at before f (text_of f.key ps) ≡ Some v = rw (text_absent f.key ps out.absent) out.usual in
+          let with_it : value_at before f (text_of f.key (ps ++ o ∷ [])) ≡ value_given before f.shape value = ap (value_at before f) (text_skip f.key ps [] o value out.absent out.key out.text) in
+          let without : value_at before f (text_of f.key ps) ≡ value_absent f.absent f.shape = ap (value_at before f) (text_absent f.key ps out.absent) in
+          let first : value_at before g (text_of g.key (ps ++ o ∷ [])) ≡ value_at before g (text_of g.key ps) = rw same (with_it ∙ (out.reads ∙ sym without)) in
           let rest = values_other before ps o f.key gs out.key (subst (λ (x : Field). list_any (λ h. bytes_eq (key_text h.key) (key_text x.key)) gs ≡ false) same apart.0) in
-          (rw (same, here, there, rest.0) refl, rw (same, text, valued) (rest.1 ∙ bad.1))
+          λ i. first i ∷ rest i
       | inr n ↦
           let other : bytes_eq (key_of o) (key_text g.key) ≡ false = rw out.key (apart_sym (key_text g.key) (key_text f.key) n) in
-          let rest = values_out before ps o value v f gs out e valued apart.1 (rw n at is) bad.1 in
-          (rw (text_other g.key ps o other, rest.0) refl, rw (text_other g.key ps o other) (or_from _ _ bad.0 rest.1))
+          let first = ap (value_at before g) (text_other g.key ps o other) in
+          let rest = values_out before ps o value f gs out apart.1 (rw n at is) in
+          λ i. first i ∷ rest i
     ]
 
--- what is read as the default is a value of its option
-default_valued : (before : List Statement) (a : Absent) (s : Shape) (text : List ℕ) (v : Value) → value_given before s text ≡ Some v → value_absent a s ≡ Some v → is_value s text ≡ true
-unfolding value_given value_absent is_value
-default_valued before a (shape.Number low high) text v e u = let m = map_some given.Number (number_within low high text) v e in ap is_some m.1
-default_valued before a shape.Whole text v e u = let m = map_some given.Whole (whole text) v e in ap is_some m.1
-default_valued before a shape.Args text v e u = let m = map_some given.Args (list_of text) v e in ap is_some m.1
-default_valued before a shape.Cores text v e u = let m = map_some (λ (mask : ℕ). given.Cores (record { 0 = mask })) (cores_of text) v e in ap is_some m.1
-default_valued before a shape.Kind text v e u = let m = map_some given.Kind (kind_named text) v e in ap is_some m.1
-default_valued before a shape.Flag text v e u = let m = map_some given.Flag (flag_of text) v e in ap is_some m.1
-default_valued before a shape.Mode text v e u = let m = map_some given.Mode (mode_of text) v e in ap is_some m.1
-default_valued before a shape.Timeout text v e u = let m = map_some given.Timeout (timeout_of text) v e in ap is_some m.1
-default_valued before absent.Usual (shape.Named sort) text v e u =
-    let m = map_some (λ (i : ℕ). given.Place (Some i)) (place_of sort text before) v e in
-    absurd (let two = m.2 ∙ sym (some_is (given.Place None) v u) in cc)
-default_valued before (absent.Number n) (shape.Named sort) text v e u =
-    let m = map_some (λ (i : ℕ). given.Place (Some i)) (place_of sort text before) v e in
-    absurd (let two = m.2 ∙ sym (some_is (given.Number n) v u) in cc)
-default_valued before absent.Refused (shape.Named sort) text v e u = absurd cc
-
-out_statement : (r : Reading) (line : ℕ) (first : List ℕ) (rest : List (List ℕ)) (w : Word) (f : Field) (value : List ℕ) (v : Value) (c : Change) → word_of first ≡ Some w → IsField (fields w) f → gives f.key rest ≡ false → value_absent f.absent f.shape ≡ Some v → value_given (here r) f.shape value ≡ Some v → statement_of r line first rest ≡ Ok c → statement_of r line first (rest ++ (key_text f.key ++ 61 ∷ value) ∷ []) ≡ Ok c
-out_statement r line first rest w f value v c word field absent usual reads e =
-    let st = statement_facts r line first rest c e in
-    let same : st.word ≡ w = some_is st.word w (sym st.read.word ∙ word) in
+written_out : (r : Reading) (line : ℕ) (first : List ℕ) (rest : List (List ℕ)) (w : Word) (f : Field) (value : List ℕ) → word_of first ≡ Some w → IsField (fields w) f → gives f.key rest ≡ false → value_given (here r) f.shape value ≡ value_absent f.absent f.shape → Instead r line first rest (rest ++ (key_text f.key ++ 61 ∷ value) ∷ [])
+unfolding Instead
+written_out r line first rest w f value word field absent reads = λ v name ps read.
+    let same : w ≡ v = some_is w v (sym word ∙ read.word) in
+    let n = naming v in
+    let fs = fields v in
     let o = key_text f.key ++ 61 ∷ value in
-    let fs = fields st.word in
-    let known : IsField fs f = subst (λ (x : Word). IsField (fields x) f) (sym same) field in
+    let known : IsField fs f = subst (λ (x : Word). IsField (fields x) f) same field in
     let is = option_is f.key value in
-    let free = any_named (λ v. bytes_eq (key_of v) (key_text f.key)) st.name st.options (subst (λ (ws : List (List ℕ)). gives f.key ws ≡ false) (splits (naming st.word) rest st.name st.options st.read.split) absent) in
-    let out : IsOut f st.options o value v = record { key = is.key; text = is.value; absent = free; usual = usual } in
-    let read = values_out (here r) st.options o value v f fs out reads (default_valued (here r) f.absent f.shape value v reads usual) (fields_apart st.word) known st.read.valued in
-    statement_instead r line first rest (rest ++ o ∷ []) st.word st.name st.options (st.options ++ o ∷ []) c st.read st.change (split_push (naming st.word) rest st.name st.options o st.read.split) (record {
-      known = all_append (is_known fs) st.options (o ∷ []) st.read.known (and_from _ _ (known_here fs f value known) refl);
-      once = twice_push f.key st.options o is.key st.read.once free;
-      valued = read.1;
-      present = missing_push st.options o fs st.read.present;
-      values = read.0;
-    })
+    let free : gives f.key ps ≡ false = subst (λ (x : List (List ℕ)). gives f.key x ≡ false) read.options_are (any_named (λ x. bytes_eq (key_of x) (key_text f.key)) n rest absent) in
+    let values = values_out (here r) ps o value f fs (record { key = is.key; text = is.value; absent = free; reads = reads }) (fields_apart v) known in
+    let push = name_push n rest o (rw read.name_is read.named) in (
+      ps ++ o ∷ [],
+      read_instead r first rest (rest ++ o ∷ []) v name ps (ps ++ o ∷ []) read (push.0 ∙ read.name_is) (push.1 ∙ ap (λ (x : List (List ℕ)). x ++ o ∷ []) read.options_are) (record {
+        known = all_append (is_known fs) ps (o ∷ []) read.known (and_from _ _ (known_here fs f value known) refl);
+        once = twice_push f.key ps o is.key read.once free;
+        values = values;
+      }),
+      change_instead r line v name ps (ps ++ o ∷ []) values,
+    )
 
 pub written_adds : (text other : List ℕ) → IsWrittenOut text other → IsPlain other → AddsAlike text other
 written_adds text other w plain = λ r line s e.
     line_instead r line text other w.first w.rest (w.rest ++ (key_text w.field.key ++ 61 ∷ w.value) ∷ []) s w.words w.others plain
-    (λ c h. out_statement r line w.first w.rest w.word w.field w.value w.given c w.statement w.option w.absent w.usual (w.reads (here r)) h) e
+    (written_out r line w.first w.rest w.word w.field w.value w.statement w.option w.absent (w.reads (here r) ∙ sym w.usual)) e
 
 -- ---- texts
 

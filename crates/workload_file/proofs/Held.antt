@@ -10,8 +10,7 @@ use Rattle.workload_file.specs.declared.table.Shape.TheVariants as shape
 use Rattle.workload_file.specs.declared.table.Field.{Field}
 use Rattle.workload_file.specs.declared.values.Value.{Value}
 use Rattle.workload_file.specs.declared.values.Value.TheVariants as given
-use Rattle.workload_file.specs.Options.{is_refused}
-use Rattle.workload_file.proofs.Fields.{is_shaped, is_there, is_filled, are_filled}
+use Rattle.workload_file.proofs.Fields.{is_refused, is_shaped, is_there, is_filled, are_filled}
 
 -- what a value of this shape holds; of a name that has to be there it is the place
 abbrev pub Held : Shape → Bool → Type 0

@@ -2,7 +2,7 @@
 use Rattle.std.proofs.Common.{◌≡◌, ℕ, ◌+◌, List, [], ◌∷◌, ◌++◌, length, map, Bool, cond, ◌||◌, Option, Some, None, Ok, refl, sym, ap, subst, ◌∙◌, inl, inr}
 use Rattle.std.specs.Prelude.{nat_le, is_some, option_and_then, slice_get}
 use Rattle.std.specs.Option.{option_map}
-use Rattle.std.specs.List.{list_any, position_or_len}
+use Rattle.std.specs.List.{list_any, position_or_len, list_all}
 use Rattle.std.specs.Str.{bytes_eq}
 use Rattle.std.proofs.lemmas.Bool.{cases_Bool}
 use Rattle.std.proofs.lemmas.List.{map-append, length-map}
@@ -23,16 +23,16 @@ use Rattle.workload_file.specs.declared.workload.Workload.{Workload}
 use Rattle.workload_file.specs.declared.reading.Reading.{Reading}
 use Rattle.workload_file.specs.declared.reading.Change.{Change}
 use Rattle.workload_file.specs.declared.reading.Change.TheVariants as change
-use Rattle.workload_file.specs.Cuts.{words_of}
 use Rattle.workload_file.specs.Table.{naming, fields}
 use Rattle.workload_file.specs.Deeds.{is_begin}
-use Rattle.workload_file.specs.Names.{is_called, bound_at, is_binding, place_of, is_taken, is_misplaced, is_ninth_caller}
-use Rattle.workload_file.specs.Changes.{value_given, value_at, values_in, use_in}
+use Rattle.workload_file.specs.Names.{is_called, bound_at, is_binding, place_of, is_taken, is_misplaced, is_ninth_caller, place_used, is_unbound}
+use Rattle.workload_file.specs.Changes.{value_given, value_at, values_in, or_unbound, change_with, change_of}
 use Rattle.workload_file.specs.Options.{text_of}
-use Rattle.workload_file.specs.Reading.{is_comment, words_give, line_gives, line_adds, lines_add, start, finished, workload_of, with_change, statement_of, name_text}
+use Rattle.workload_file.specs.Reading.{line_gives, line_adds, lines_add, start, finished, workload_of, with_change}
 use Rattle.workload_file.specs.Alike.{AddsNothing, IsInserted, still, still_part, AreStill, GivesStill}
-use Rattle.workload_file.proofs.Facts.{IsRead, bind_ok, ok_is, at_line_ok, line_facts, line_read, words_facts, words_read, statement_facts, statement_read}
-use Rattle.workload_file.proofs.Fields.{here, made, Says, says_node, says_caller, says_deed, says, node_change, caller_change, deed_change_is}
+use Rattle.workload_file.proofs.Facts.{IsRead, bind_ok, ok_is, at_line_ok, here, is_sound, stated, states, silent, silence}
+use Rattle.workload_file.specs.Values.{is_name}
+use Rattle.workload_file.specs.declared.values.Value.{Value}
 
 -- ---- what is found in statements without their numbers
 
@@ -107,7 +107,7 @@ taken_alike r q (rule.Uses s) name a = refl
 
 given_alike : (r q : Reading) (s : Shape) (text : List ℕ) → AreAlike r q → value_given (here r) s text ≡ value_given (here q) s text
 unfolding value_given
-given_alike r q (shape.Named sort) text a = ap (option_map (λ place. given.Place (Some place))) (place_alike r q a sort text)
+given_alike r q (shape.Named sort) text a = ap (λ (o : Option ℕ). cond (is_name text) (or_unbound o) given.Bad) (place_alike r q a sort text)
 given_alike r q _ text a = refl
 
 value_alike : (r q : Reading) (f : Field) (o : Option (List ℕ)) → AreAlike r q → value_at (here r) f o ≡ value_at (here q) f o
@@ -115,17 +115,15 @@ value_alike r q f None a = refl
 value_alike r q f (Some text) a = given_alike r q f.shape text a
 
 values_alike : (r q : Reading) (options : List (List ℕ)) (fs : List Field) → AreAlike r q → values_in (here r) options fs ≡ values_in (here q) options fs
-unfolding values_in
 values_alike r q options [] a = refl
-values_alike r q options (f ∷ fs) a = rw (value_alike r q f (text_of f.key options) a, values_alike r q options fs a) refl
+values_alike r q options (f ∷ fs) a =
+    let first = value_alike r q f (text_of f.key options) a in
+    let rest = values_alike r q options fs a in
+    λ i. first i ∷ rest i
 
-use_alike : (r q : Reading) (n : Naming) (name : Option (List ℕ)) → AreAlike r q → use_in (here r) n name ≡ use_in (here q) n name
-unfolding use_in
-use_alike r q (rule.Uses s) None a = refl
-use_alike r q (rule.Uses s) (Some name) a = ap (option_map (λ place. Some place)) (place_alike r q a s name)
-use_alike r q rule.Bare name a = refl
-use_alike r q rule.Caller name a = refl
-use_alike r q (rule.Binds s) name a = refl
+used_alike : (r q : Reading) (n : Naming) (name : List ℕ) → AreAlike r q → place_used (here r) n name ≡ place_used (here q) n name
+used_alike r q (rule.Uses s) name a = place_alike r q a s name
+used_alike r q _ name a = refl
 
 -- ---- one line
 
@@ -135,49 +133,45 @@ moved line (change.Node s) = change.Node s
 moved line (change.Caller name) = change.Caller name
 moved line (change.Statement s) = change.Statement (record s { line = line })
 
-read_alike : (r q : Reading) (first : List ℕ) (rest : List (List ℕ)) (w : Word) (name : Option (List ℕ)) (options : List (List ℕ)) → AreAlike r q → IsRead r first rest w name options → IsRead q first rest w name options
+read_alike : (r q : Reading) (first : List ℕ) (rest : List (List ℕ)) (w : Word) (name : List ℕ) (options : List (List ℕ)) → AreAlike r q → IsRead r first rest w name options → IsRead q first rest w name options
 read_alike r q first rest w name options a read = record {
+  comment = read.comment;
   word = read.word;
+  name_is = read.name_is;
+  options_are = read.options_are;
   few = ap (nat_le 20000) (sym a.count) ∙ read.few;
   callers = sym (callers_alike r q w a) ∙ read.callers;
   placed = sym (placed_alike r q w a) ∙ read.placed;
-  split = read.split;
+  named = read.named;
   known = read.known;
   once = read.once;
-  valued = read.valued;
-  present = read.present;
-  free = sym (taken_alike r q (naming w) (name_text name) a) ∙ read.free;
+  sound = ap (list_all is_sound) (sym (values_alike r q options (fields w) a)) ∙ read.sound;
+  free = sym (taken_alike r q (naming w) name a) ∙ read.free;
+  bound = ap (is_unbound (naming w)) (sym (used_alike r q (naming w) name a)) ∙ read.bound;
 }
 
-change_alike : (r q : Reading) (line at : ℕ) (first : List ℕ) (rest : List (List ℕ)) (w : Word) (name : Option (List ℕ)) (options : List (List ℕ)) (c : Change) → AreAlike r q → IsRead r first rest w name options → Says r line w name options c → statement_of q at first rest ≡ Ok (moved at c)
-change_alike r q line at first rest w name options c a read (says_node vs s is v e is_change) =
-    rw is_change (statement_read q at first rest w name options (change.Node s) (read_alike r q first rest w name options a read) (node_change q at w name options vs s is (sym (values_alike r q options (fields w) a) ∙ v) e))
-change_alike r q line at first rest w name options c a read (says_caller n is named is_change) =
-    rw is_change (statement_read q at first rest w name options (change.Caller n) (read_alike r q first rest w name options a read) (caller_change q at w name options n is named))
-change_alike r q line at first rest w name options c a read (says_deed place vs d h u v e is_change) =
-    rw is_change (statement_read q at first rest w name options (change.Statement (made at w name d)) (read_alike r q first rest w name options a read) (deed_change_is q at w name options place vs d h (sym (use_alike r q (naming w) name a) ∙ u) (sym (values_alike r q options (fields w) a) ∙ v) e))
+moved_is : (line at : ℕ) (w : Word) (name : List ℕ) (place : Option ℕ) (vs : List Value) → change_with at w name place vs ≡ moved at (change_with line w name place vs)
+unfolding change_with
+moved_is line at word.Node name place vs = refl
+moved_is line at _ name place vs = refl
 
-some_alike : (r q : Reading) (line at : ℕ) (words : List (List ℕ)) (c : Change) → AreAlike r q → words_give r line words ≡ Ok (Some c) → words_give q at words ≡ Ok (Some (moved at c))
-some_alike r q line at words c a e =
-    let ws = words_facts r line words c e in
-    let st = statement_facts r line ws.first ws.rest c ws.statement in
-    rw ws.are (words_read q at ws.first ws.rest (moved at c) ws.comment (change_alike r q line at ws.first ws.rest st.word st.name st.options c a st.read (says r line st.word st.name st.options c st.change)))
-
-none_alike : (r q : Reading) (line at : ℕ) (words : List (List ℕ)) → words_give r line words ≡ Ok None → words_give q at words ≡ Ok None
-none_alike r q line at [] e = refl
-none_alike r q line at (first ∷ rest) e =
-    elim (cases_Bool (is_comment first)) [
-      | inl t ↦ rw t refl
-      | inr f ↦ absurd (let b = bind_ok (statement_of r line first rest) (λ c. Ok (Some c)) None (rw f at e) in let h = ok_is (Some b.0) None b.2 in cc)
-    ]
+change_alike : (r q : Reading) (line at : ℕ) (w : Word) (name : List ℕ) (options : List (List ℕ)) → AreAlike r q → change_of q at w name options ≡ moved at (change_of r line w name options)
+change_alike r q line at w name options a =
+    let place = used_alike r q (naming w) name a in
+    let vs = values_alike r q options (fields w) a in
+    rw (← place, ← vs) (moved_is line at w name (place_used (here r) (naming w) name) (values_in (here r) options (fields w)))
 
 abbrev moved_if : ℕ → Option Change → Option Change
 moved_if at None = None
 moved_if at (Some c) = Some (moved at c)
 
 gives_alike : (r q : Reading) (line at : ℕ) (text : List ℕ) (c : Option Change) → AreAlike r q → line_gives r line text ≡ Ok c → line_gives q at text ≡ Ok (moved_if at c)
-gives_alike r q line at text None a e = let l = line_facts r line text None e in line_read q at text None (record { short = l.short; printable = l.printable; words = none_alike r q line at (words_of text) l.words })
-gives_alike r q line at text (Some c) a e = let l = line_facts r line text (Some c) e in line_read q at text (Some (moved at c)) (record { short = l.short; printable = l.printable; words = some_alike r q line at (words_of text) c a l.words })
+gives_alike r q line at text None a e = let l = silent r line text e in silence q at text l.0 l.1
+gives_alike r q line at text (Some c) a e =
+    let l = stated r line text c e in
+    let st = l.1 in
+    let same : change_of q at st.word st.name st.options ≡ moved at c = change_alike r q line at st.word st.name st.options a ∙ ap (moved at) st.change in
+    states q at text st.first st.rest st.word st.name st.options l.0 st.are (read_alike r q st.first st.rest st.word st.name st.options a st.read) ∙ ap (λ (x : Change). Ok (Some x)) same
 
 push_alike : (xs ys : List Statement) (s t : Statement) → map still xs ≡ map still ys → still s ≡ still t → map still (xs ++ s ∷ []) ≡ map still (ys ++ t ∷ [])
 push_alike xs ys s t e h = rw (map-append still xs (s ∷ []), map-append still ys (t ∷ []), e, h) refl

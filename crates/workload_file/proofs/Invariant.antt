@@ -1,7 +1,7 @@
 -- Each line keeps what is read well formed.
-use Rattle.std.proofs.Common.{◌≡◌, ℕ, ◌+◌, ◌≤◌, ◌<◌, List, [], ◌∷◌, ◌++◌, length, Bool, true, false, not, cond, eqb, Option, Some, None, refl, sym, ap, subst, ◌∙◌, arith, inl, inr, append_assoc}
+use Rattle.std.proofs.Common.{◌≡◌, ℕ, ◌+◌, ◌≤◌, ◌<◌, List, [], ◌∷◌, ◌++◌, length, Bool, true, false, not, cond, eqb, Option, Some, refl, sym, ap, arith, inl, inr, append_assoc, ◌&&◌}
 use Rattle.std.specs.Prelude.{is_some, IfSome}
-use Rattle.std.specs.List.{AllByRecursion, list_any, flat_map, position_or_len}
+use Rattle.std.specs.List.{AllByRecursion, list_any, flat_map, position_or_len, list_all}
 use Rattle.std.specs.Str.{bytes_eq}
 use Rattle.std.proofs.lemmas.Bool.{or_parts, or_from, eqb-true, cases_Bool, lt-ltb, le-leb, not-false}
 use Rattle.std.proofs.lemmas.List.{append-nil}
@@ -15,20 +15,18 @@ use Rattle.workload_file.specs.declared.workload.Deed.TheVariants as deed
 use Rattle.workload_file.specs.declared.workload.Statement.{Statement}
 use Rattle.workload_file.specs.declared.workload.Part.{Part}
 use Rattle.workload_file.specs.declared.reading.Reading.{Reading}
-use Rattle.workload_file.specs.declared.values.Value.{Value}
 use Rattle.workload_file.specs.Values.{is_name}
 use Rattle.workload_file.specs.Table.{row, naming, fields}
-use Rattle.workload_file.specs.Deeds.{deed_spelled, word_for, used_place, values, used_with, deed_with, setting_values, is_begin}
-use Rattle.workload_file.specs.Names.{split_name, is_called, bound_at, is_taken, is_misplaced, place_of}
-use Rattle.workload_file.specs.Reading.{name_text, finished}
-use Rattle.workload_file.specs.Changes.{with_setting, usual_settings, bound_name, use_in, values_in, settings_by}
+use Rattle.workload_file.specs.Deeds.{deed_spelled, word_for, used_place, values, used_with, setting_values, is_begin, number_in, Spelled}
+use Rattle.workload_file.specs.Names.{is_called, bound_at, is_taken, is_misplaced, place_of, has_second, name_in, options_in, place_used, is_unbound}
+use Rattle.workload_file.specs.Reading.{finished}
+use Rattle.workload_file.specs.Changes.{with_setting, usual_settings, bound_name, values_in, settings_by, or_zero}
 use Rattle.workload_file.specs.Formed.{AllFit, IsBoundAt, has_name, IsNew, IsStatement, AreStatements, begins, IsPart, IsMain, IsFurther, MainFirst, HaveDifferentNames, statement_lines, Rise}
-use Rattle.workload_file.specs.Written.{bound_words}
-use Rattle.workload_file.proofs.Facts.{IsRead, some, some_is, map_some}
-use Rattle.workload_file.proofs.Fields.{is_deed, made, fields_good}
+use Rattle.workload_file.proofs.Facts.{IsRead, here, is_sound}
+use Rattle.workload_file.proofs.Fields.{is_deed, made, fields_good, deed_said}
 use Rattle.workload_file.proofs.Picks.{values_are}
-use Rattle.workload_file.proofs.Spelling.{place_is, any_place, some_cond}
-use Rattle.workload_file.proofs.Tables.{is_used_at, deed_of, deed_is, node_values}
+use Rattle.workload_file.proofs.Spelling.{place_is, any_place, place_found}
+use Rattle.workload_file.proofs.Tables.{deed_is, node_values, place_at}
 
 -- ---- lists that end with a part or a statement
 
@@ -115,35 +113,20 @@ pub record IsFormed (r : Reading) (line : ℕ) : Type 0 where
 
 -- ---- a statement's own points
 
-abbrev pair : Option (List ℕ) → List (List ℕ) → Option (List ℕ) × List (List ℕ)
-pair name options = (name, options)
+-- the words between the first one and the options
+abbrev pub named : Naming → List ℕ → List (List ℕ)
+named n name = cond (has_second n) (name ∷ []) []
 
-pub pair_is : (a b : Option (List ℕ)) (xs ys : List (List ℕ)) → some (pair a xs) ≡ some (pair b ys) → (a ≡ b) × (xs ≡ ys)
-pair_is a b xs ys e =
-    let same = some_is (pair a xs) (pair b ys) e in
-    (ap (λ (x : Option (List ℕ) × List (List ℕ)). x.0) same, ap (λ (x : Option (List ℕ) × List (List ℕ)). x.1) same)
-
-abbrev split_word : List ℕ → List (List ℕ) → Option (Option (List ℕ) × List (List ℕ))
-split_word x xs = cond (is_name x) (Some (pair (Some x) xs)) None
-
-pub split_parts : (x : List ℕ) (xs : List (List ℕ)) (name : Option (List ℕ)) (options : List (List ℕ)) → split_word x xs ≡ Some (pair name options) → (is_name x ≡ true) × (name ≡ Some x) × (xs ≡ options)
-split_parts x xs name options e =
-    let g = some_cond (is_name x) (pair (Some x) xs) (pair name options) e in
-    (g.0, sym (ap (λ (y : Option (List ℕ) × List (List ℕ)). y.0) g.1), ap (λ (y : Option (List ℕ) × List (List ℕ)). y.1) g.1)
+no_name : is_name [] ≡ true → ⊥
+unfolding is_name
+no_name e = cc
 
 -- the words behind the first one are the name and the options
-pub splits : (n : Naming) (rest : List (List ℕ)) (name : Option (List ℕ)) (options : List (List ℕ)) → split_name n rest ≡ Some (name, options) → rest ≡ bound_words name ++ options
-unfolding split_name
-splits rule.Bare rest name options e = let p = pair_is None name rest options e in rw (← p.0) p.1
-splits _ [] name options e = absurd cc
-splits _ (x ∷ xs) name options e = let p = split_parts x xs name options e in rw (p.1, p.2) refl
-
--- the name of a statement that has one
-pub named_by : (n : Naming) (rest : List (List ℕ)) (name : Option (List ℕ)) (options : List (List ℕ)) → split_name n rest ≡ Some (name, options) → (n ≡ rule.Bare → ⊥) → (text : List ℕ) × (name ≡ Some text) × (is_name text ≡ true)
-unfolding split_name
-named_by rule.Bare rest name options e h = absurd (h refl)
-named_by _ [] name options e h = absurd cc
-named_by _ (x ∷ xs) name options e h = let g = split_parts x xs name options e in (x, g.1, g.0)
+pub splits : (n : Naming) (rest : List (List ℕ)) → (has_second n && not (is_name (name_in n rest))) ≡ false → rest ≡ named n (name_in n rest) ++ options_in n rest
+splits rule.Bare [] h = refl
+splits rule.Bare (x ∷ xs) h = refl
+splits _ [] h = absurd (no_name (not-false (is_name []) h))
+splits _ (x ∷ xs) h = refl
 
 unbound_any : (name : List ℕ) (xs : List Statement) → is_some (bound_at name xs) ≡ false → list_any (λ s. is_called name s.name) xs ≡ false
 unbound_any name xs h =
@@ -155,36 +138,19 @@ unbound_any name xs h =
       | inr f ↦ f
     ]
 
-pub caller_named : (rest : List (List ℕ)) (name : Option (List ℕ)) (options : List (List ℕ)) → split_name (naming word.Caller) rest ≡ Some (name, options) → (text : List ℕ) × (name ≡ Some text) × (is_name text ≡ true)
-unfolding row
-caller_named rest name options e = named_by rule.Caller rest name options e (λ (x : rule.Caller ≡ rule.Bare). cc)
+bound_named : (n : Naming) (name : List ℕ) → is_some (bound_name n name) ≡ has_name n
+bound_named (rule.Binds s) name = refl
+bound_named _ name = refl
 
-pub caller_name : (rest : List (List ℕ)) (name : List ℕ) (options : List (List ℕ)) → split_name (naming word.Caller) rest ≡ Some (Some name, options) → is_name name ≡ true
-caller_name rest name options e = let g = caller_named rest (Some name) options e in rw (some_is name g.0 g.1) g.2
-
-bound_named : (r : Reading) (n : Naming) (name : Option (List ℕ)) (rest options : List (List ℕ)) → split_name n rest ≡ Some (name, options) → is_some (bound_name n name) ≡ has_name n
-bound_named r (rule.Binds s) name rest options e = let g = named_by (rule.Binds s) rest name options e (λ (x : rule.Binds s ≡ rule.Bare). cc) in rw g.1 refl
-bound_named r _ name rest options e = refl
-
-new_name : (r : Reading) (n : Naming) (name : Option (List ℕ)) (rest options : List (List ℕ)) → split_name n rest ≡ Some (name, options) → is_taken r n (name_text name) ≡ false → IfSome (bound_name n name) (IsNew r.current.statements)
+new_name : (r : Reading) (n : Naming) (name : List ℕ) → (has_second n && not (is_name name)) ≡ false → is_taken r n name ≡ false → IfSome (bound_name n name) (IsNew r.current.statements)
 unfolding is_taken
-new_name r (rule.Binds s) name rest options e f =
-    let g = named_by (rule.Binds s) rest name options e (λ (x : rule.Binds s ≡ rule.Bare). cc) in
-    let free = rw g.1 at f in
-    rw g.1 (g.2, unbound_any g.0 r.current.statements free)
-new_name r _ name rest options e f = tt
-
-abbrev UseOf : List Statement → Naming → Option ℕ → Type 0
-UseOf before n place = (is_used_at n place ≡ true) × IfSome (used_with n place) (λ u. IsBoundAt u.0 before u.1)
+new_name r (rule.Binds s) name h f = (not-false (is_name name) h, unbound_any name r.current.statements f)
+new_name r _ name h f = tt
 
 -- the name that a statement uses is bound
-pub use_is : (before : List Statement) (n : Naming) (name : Option (List ℕ)) (place : Option ℕ) → use_in before n name ≡ Some place → UseOf before n place
-unfolding use_in
-use_is before (rule.Uses s) None place e = absurd cc
-use_is before (rule.Uses s) (Some text) place e =
-    let m = map_some some (place_of s text before) place e in
-    subst (UseOf before (rule.Uses s)) m.2 (refl, (place_is s text before m.0 m.1).0)
-use_is before n name place e = subst (UseOf before n) (some_is None place e) (refl, tt)
+pub use_is : (before : List Statement) (n : Naming) (name : List ℕ) → is_unbound n (place_used before n name) ≡ false → IfSome (used_with n (place_at n (or_zero (place_used before n name)))) (λ u. IsBoundAt u.0 before u.1)
+use_is before (rule.Uses s) name h = let p = place_found (place_of s name before) h in rw p.1 (place_is s name before p.0 p.1).0
+use_is before _ name h = tt
 
 -- what is known of the deed of a statement that was read
 pub record IsGiven (before : List Statement) (w : Word) (place : Option ℕ) (d : Deed) : Type 0 where
@@ -193,17 +159,18 @@ pub record IsGiven (before : List Statement) (w : Word) (place : Option ℕ) (d 
   pub bound : IfSome (used_with (naming w) place) (λ u. IsBoundAt u.0 before u.1)
   pub fits : AllFit before (fields w) (values d)
 
-pub deed_given : (before : List Statement) (w : Word) (name : Option (List ℕ)) (options : List (List ℕ)) (place : Option ℕ) (vs : List Value) (d : Deed) → is_deed w ≡ true → use_in before (naming w) name ≡ Some place → values_in before options (fields w) ≡ Some vs → deed_with w place vs ≡ Some d → IsGiven before w place d × (values d ≡ vs)
-deed_given before w name options place vs d h u v e =
-    let used = use_is before (naming w) name place u in
-    let are = values_are before options (fields w) vs (fields_good w) v in
-    let is = deed_is w place vs d (deed_of w place vs h used.0 are.1) e in
-    (record { word = is.0; used = is.1; bound = used.1; fits = rw is.2 are.0 }, is.2)
+pub deed_given : (r : Reading) (first : List ℕ) (rest : List (List ℕ)) (w : Word) (name : List ℕ) (options : List (List ℕ)) → is_deed w ≡ true → IsRead r first rest w name options → IsGiven (here r) w (place_at (naming w) (or_zero (place_used (here r) (naming w) name))) (deed_said r w name options) × (values (deed_said r w name options) ≡ values_in (here r) options (fields w))
+deed_given r first rest w name options h read =
+    let vs = values_in (here r) options (fields w) in
+    let are = values_are (here r) options (fields w) (fields_good w) read.sound in
+    let is = deed_is w (or_zero (place_used (here r) (naming w) name)) vs h are.1 in
+    let same : values (deed_said r w name options) ≡ vs = ap (λ (x : Spelled). x.values) is in
+    (record { word = ap (λ (x : Spelled). x.word) is; used = ap (λ (x : Spelled). x.place) is; bound = use_is (here r) (naming w) name read.bound; fits = rw same are.0 }, same)
 
-pub statement_formed : (r : Reading) (line : ℕ) (first : List ℕ) (rest : List (List ℕ)) (w : Word) (name : Option (List ℕ)) (options : List (List ℕ)) (place : Option ℕ) (d : Deed) → IsRead r first rest w name options → IsGiven r.current.statements w place d → IsStatement r.current.statements (made line w name d)
+pub statement_formed : (r : Reading) (line : ℕ) (first : List ℕ) (rest : List (List ℕ)) (w : Word) (name : List ℕ) (options : List (List ℕ)) (place : Option ℕ) (d : Deed) → IsRead r first rest w name options → IsGiven r.current.statements w place d → IsStatement r.current.statements (made line w name d)
 statement_formed r line first rest w name options place d read g = record {
-  named = rw g.word (bound_named r (naming w) name rest options read.split);
-  name = new_name r (naming w) name rest options read.split read.free;
+  named = rw g.word (bound_named (naming w) name);
+  name = new_name r (naming w) name read.named read.free;
   uses = rw (g.word, g.used) g.bound;
   options = rw g.word g.fits;
 }
@@ -258,16 +225,16 @@ unfolding with_setting
 set_generations v s h = rw (le-leb 1 v h.0, le-leb v 4294967295 h.1) refl
 
 -- the settings whose values fit are given by their values
-pub node_settings : (before : List Statement) (s : NodeSettings) → AllFit before (fields word.Node) (setting_values s) → settings_by (setting_values s) ≡ Some s
-unfolding row settings_by
+pub node_settings : (before : List Statement) (s : NodeSettings) → AllFit before (fields word.Node) (setting_values s) → settings_by (setting_values s) ≡ s
+unfolding row settings_by number_in
 node_settings before s (a, (b, (c, (d, (e, (f, (g, (h, _)))))))) = rw (set_workers, set_tasks, set_actions, set_groups, set_queues, set_objects, set_priorities, set_generations) refl
 
 -- the settings of a node line fit, and their values are those of its options
-pub node_given : (before : List Statement) (options : List (List ℕ)) (vs : List Value) (s : NodeSettings) → values_in before options (fields word.Node) ≡ Some vs → settings_by vs ≡ Some s → (setting_values s ≡ vs) × AllFit before (fields word.Node) (setting_values s)
-node_given before options vs s v e =
-    let are = values_are before options (fields word.Node) vs (fields_good word.Node) v in
+pub node_given : (before : List Statement) (options : List (List ℕ)) → list_all is_sound (values_in before options (fields word.Node)) ≡ true → (setting_values (settings_by (values_in before options (fields word.Node))) ≡ values_in before options (fields word.Node)) × AllFit before (fields word.Node) (setting_values (settings_by (values_in before options (fields word.Node))))
+node_given before options sound =
+    let vs = values_in before options (fields word.Node) in
+    let are = values_are before options (fields word.Node) (fields_good word.Node) sound in
     let n = node_values vs are.1 in
     let fit : AllFit before (fields word.Node) (setting_values n.0) = rw n.1 are.0 in
-    let set : settings_by vs ≡ Some n.0 = rw n.1 at (node_settings before n.0 fit) in
-    let same : n.0 ≡ s = some_is n.0 s (sym set ∙ e) in
-    rw (← same) (n.1, fit)
+    let set : settings_by vs ≡ n.0 = rw n.1 at (node_settings before n.0 fit) in
+    rw set (n.1, fit)

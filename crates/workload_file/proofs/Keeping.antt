@@ -1,5 +1,5 @@
 -- Each line keeps the invariant, and what all lines give is well formed.
-use Rattle.std.proofs.Common.{◌≡◌, ℕ, ◌+◌, ◌≤◌, List, [], ◌∷◌, ◌++◌, length, false, Option, Some, None, Ok, refl, sym, subst, ◌∙◌, arith, ◌⊎◌, inl, inr, map, append_assoc}
+use Rattle.std.proofs.Common.{◌≡◌, ℕ, ◌+◌, ◌≤◌, List, [], ◌∷◌, ◌++◌, length, false, Option, Some, None, Ok, refl, sym, subst, ◌∙◌, arith, ◌⊎◌, inl, inr, map, append_assoc, true}
 use Rattle.std.specs.List.{list_any, flat_map}
 use Rattle.std.specs.Str.{bytes_eq}
 use Rattle.std.proofs.lemmas.Bool.{or_parts, leb-false, eqb-true, ne_eqb, cases_Bool, not-false}
@@ -18,12 +18,11 @@ use Rattle.number_text.specs.Lists.{between}
 use Rattle.workload_file.specs.Table.{row, fields}
 use Rattle.workload_file.specs.Deeds.{word_for, setting_values, is_begin}
 use Rattle.workload_file.specs.Names.{is_taken, is_misplaced, is_ninth_caller}
-use Rattle.workload_file.specs.Cuts.{words_of}
 use Rattle.workload_file.specs.Reading.{with_change, line_gives, line_adds, lines_add, start, finished, workload_of}
 use Rattle.workload_file.specs.Changes.{usual_settings}
 use Rattle.workload_file.specs.Formed.{AllFit, begins, IsPart, IsMain, IsFurther, line_if_any, part_lines, statement_lines, WellFormed}
-use Rattle.workload_file.proofs.Invariant.{IsFormed, below_more, below_push, rise_push, push_all, last_all, push_statement, main_last, main_push, any_push, names_last, names_push, begins_push, flat_push, caller_name, IsGiven, deed_given, statement_formed, begin_word, begin_free, node_given}
-use Rattle.workload_file.proofs.Facts.{IsRead, bind_ok, ok_is, at_line_ok, line_facts, words_facts, statement_facts}
+use Rattle.workload_file.proofs.Invariant.{IsFormed, below_more, below_push, rise_push, push_all, last_all, push_statement, main_last, main_push, any_push, names_last, names_push, begins_push, flat_push, IsGiven, deed_given, statement_formed, begin_word, begin_free, node_given}
+use Rattle.workload_file.proofs.Facts.{IsRead, bind_ok, ok_is, at_line_ok, stated}
 use Rattle.workload_file.proofs.Fields.{made, Says, says_node, says_caller, says_deed, says}
 
 -- ---- the lines of the statements so far
@@ -67,7 +66,7 @@ begins_more r w s is placed =
       | inr f ↦ inl (more ∙ rw f (omega arith))
     ]
 
-statement_keeps : (r : Reading) (line : ℕ) (first : List ℕ) (rest : List (List ℕ)) (w : Word) (name : Option (List ℕ)) (options : List (List ℕ)) (place : Option ℕ) (d : Deed) → IsFormed r line → 1 ≤ line → IsRead r first rest w name options → IsGiven r.current.statements w place d → IsFormed (with_statement r (made line w name d)) (line + 1)
+statement_keeps : (r : Reading) (line : ℕ) (first : List ℕ) (rest : List (List ℕ)) (w : Word) (name : List ℕ) (options : List (List ℕ)) (place : Option ℕ) (d : Deed) → IsFormed r line → 1 ≤ line → IsRead r first rest w name options → IsGiven r.current.statements w place d → IsFormed (with_statement r (made line w name d)) (line + 1)
 statement_keeps r line first rest w name options place d f le read g =
     let s = made line w name d in
     let p : Part = record r.current { statements = r.current.statements ++ s ∷ [] } in
@@ -91,10 +90,10 @@ statement_keeps r line first rest w name options place d f le read g =
 
 -- ---- a caller line
 
-caller_keeps : (r : Reading) (line : ℕ) (first : List ℕ) (rest : List (List ℕ)) (name : List ℕ) (options : List (List ℕ)) → IsFormed r line → 1 ≤ line → IsRead r first rest word.Caller (Some name) options → IsFormed (with_caller r line name) (line + 1)
+caller_keeps : (r : Reading) (line : ℕ) (first : List ℕ) (rest : List (List ℕ)) (name : List ℕ) (options : List (List ℕ)) → IsFormed r line → 1 ≤ line → IsRead r first rest word.Caller name options → IsFormed (with_caller r line name) (line + 1)
 unfolding is_taken is_ninth_caller row
 caller_keeps r line first rest name options f le read =
-    let good = caller_name rest name options read.split in
+    let good : is_name name ≡ true = not-false (is_name name) read.named in
     let lines = lines_caller r line name le in
     let fewer = leb-false 20000 r.count read.few in
     let callers = leb-false 8 (length r.before) read.callers in
@@ -147,14 +146,14 @@ node_keeps r line settings f le placed fit =
 
 -- ---- every line
 
-keeps : (r : Reading) (line : ℕ) (first : List ℕ) (rest : List (List ℕ)) (w : Word) (name : Option (List ℕ)) (options : List (List ℕ)) (c : Change) → IsFormed r line → 1 ≤ line → IsRead r first rest w name options → Says r line w name options c → IsFormed (with_change r line (Some c)) (line + 1)
+keeps : (r : Reading) (line : ℕ) (first : List ℕ) (rest : List (List ℕ)) (w : Word) (name : List ℕ) (options : List (List ℕ)) (c : Change) → IsFormed r line → 1 ≤ line → IsRead r first rest w name options → Says r line w name options c → IsFormed (with_change r line (Some c)) (line + 1)
 unfolding with_change
-keeps r line first rest w name options c f le read (says_node vs s is v e change) =
-    rw change (node_keeps r line s f le (rw is at read.placed) (node_given r.current.statements options vs s (rw is at v) e).1)
-keeps r line first rest w name options c f le read (says_caller n is named change) =
-    rw change (caller_keeps r line first rest n options f le (rw (is, named) at read))
-keeps r line first rest w name options c f le read (says_deed place vs d h u v e change) =
-    rw change (statement_keeps r line first rest w name options place d f le read (deed_given r.current.statements w name options place vs d h u v e).0)
+keeps r line first rest w name options c f le read (says_node is change) =
+    rw (change, is) (node_keeps r line _ f le (rw is at read.placed) (node_given r.current.statements options (rw is at read.sound)).1)
+keeps r line first rest w name options c f le read (says_caller is change) =
+    rw change (caller_keeps r line first rest name options f le (rw is at read))
+keeps r line first rest w name options c f le read (says_deed h change) =
+    rw change (statement_keeps r line first rest w name options _ _ f le read (deed_given r first rest w name options h read).0)
 
 none_keeps : (r : Reading) (line : ℕ) → IsFormed r line → IsFormed (with_change r line None) (line + 1)
 unfolding with_change
@@ -163,10 +162,8 @@ none_keeps r line f = record { callers = f.callers; main = f.main; names = f.nam
 pub line_keeps : (r : Reading) (line : ℕ) (text : List ℕ) (c : Option Change) → IsFormed r line → 1 ≤ line → line_gives r line text ≡ Ok c → IsFormed (with_change r line c) (line + 1)
 line_keeps r line text None f le e = none_keeps r line f
 line_keeps r line text (Some c) f le e =
-    let l = line_facts r line text (Some c) e in
-    let ws = words_facts r line (words_of text) c l.words in
-    let st = statement_facts r line ws.first ws.rest c ws.statement in
-    keeps r line ws.first ws.rest st.word st.name st.options c f le st.read (says r line st.word st.name st.options c st.change)
+    let st = (stated r line text c e).1 in
+    keeps r line st.first st.rest st.word st.name st.options c f le st.read (says r line st.word st.name st.options c st.change)
 
 pub adds_keeps : (r s : Reading) (line : ℕ) (text : List ℕ) → IsFormed r line → 1 ≤ line → line_adds r line text ≡ Ok s → IsFormed s (line + 1)
 unfolding line_adds

@@ -10,8 +10,6 @@ pub mod Facts
 pub mod Fields
 pub mod Held
 pub mod Invariant
-pub mod Founds
-pub mod Agreed
 pub mod Keeping
 pub mod Spelling
 pub mod Picks

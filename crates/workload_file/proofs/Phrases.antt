@@ -7,7 +7,7 @@ use Rattle.std.proofs.lemmas.List.Elements.{All-from_recursion}
 use Rattle.std.proofs.lemmas.List.Splits.{slice_split_at, slice_split_none, length-slice_split, join_with_byte-slice_split}
 use Rattle.number_text.specs.Lists.{between}
 use Rattle.workload_file.specs.Cuts.{words_of}
-use Rattle.workload_file.specs.Reading.{is_printable}
+use Rattle.workload_file.specs.Faulty.{is_printable}
 use Rattle.workload_file.specs.Written.{line_text}
 use Rattle.number_text.specs.Lists.{led}
 use Rattle.number_text.proofs.Pieces.{joined}

@@ -1,5 +1,5 @@
 -- The values that options give fit their options, and what is written of them is no longer than the options.
-use Rattle.std.proofs.Common.{◌≡◌, ℕ, ◌+◌, ◌-◌, ◌^◌, ◌≤◌, List, [], ◌∷◌, ◌++◌, length, true, false, not, cond, Option, Some, None, refl, ap, subst, arith, inl, inr, length-append}
+use Rattle.std.proofs.Common.{◌≡◌, ℕ, ◌+◌, ◌-◌, ◌^◌, ◌≤◌, List, [], ◌∷◌, ◌++◌, length, true, false, not, cond, Option, Some, None, refl, ap, arith, inl, inr, length-append, Bool}
 use Rattle.std.specs.Option.{option_map}
 use Rattle.std.specs.List.{AllByRecursion, find, list_any, list_all}
 use Rattle.std.specs.Str.{bytes_eq}
@@ -7,7 +7,7 @@ use Rattle.std.proofs.lemmas.Bool.{eq-eqb, cases_Bool, and_parts, and_from, or_p
 use Rattle.mtapi_values.specs.Kinds.{kind_named}
 use Rattle.number_text.specs.Numbers.{whole}
 use Rattle.number_text.specs.Lists.{list_of, led}
-use Rattle.number_text.proofs.Reading.{whole_fits, list_fits, bind_some}
+use Rattle.number_text.proofs.Reading.{whole_fits, list_fits}
 use Rattle.number_text.proofs.Spelling.{whole_spelled, list_spelled}
 use Rattle.number_text.proofs.Pieces.{led_append}
 use Rattle.workload_file.specs.declared.table.Shape.{Shape}
@@ -20,14 +20,14 @@ use Rattle.workload_file.specs.declared.values.Value.{Value}
 use Rattle.workload_file.specs.declared.values.Value.TheVariants as given
 use Rattle.workload_file.specs.declared.workload.Statement.{Statement}
 use Rattle.workload_file.specs.Table.{key_text}
-use Rattle.workload_file.specs.Values.{number_within, cores_of, timeout_of, flag_of, mode_of}
+use Rattle.workload_file.specs.Values.{number_within, cores_of, timeout_of, flag_of, mode_of, is_name}
 use Rattle.workload_file.specs.Names.{place_of}
-use Rattle.workload_file.specs.Options.{key_of, value_of, is_known, is_refused, text_of}
-use Rattle.workload_file.specs.Changes.{value_given, value_absent, value_at, values_in}
+use Rattle.workload_file.specs.Options.{key_of, value_of, is_known, text_of}
+use Rattle.workload_file.specs.Changes.{or_bad, or_unbound, value_given, value_absent, value_at, values_in}
 use Rattle.workload_file.specs.Written.{value_text, is_default, option_words, options_words}
 use Rattle.workload_file.specs.Formed.{Fits, AllFit}
-use Rattle.workload_file.proofs.Facts.{some_is, map_some}
-use Rattle.workload_file.proofs.Fields.{AreApart, is_good, is_shaped, is_there, is_filled, are_filled}
+use Rattle.workload_file.proofs.Facts.{is_sound}
+use Rattle.workload_file.proofs.Fields.{AreApart, is_good, is_refused, is_shaped, is_there, is_filled, are_filled}
 use Rattle.workload_file.proofs.Finds.{find_passes, find_all}
 use Rattle.workload_file.proofs.Places.{bytes_are, apart_sym}
 use Rattle.workload_file.proofs.Spelling.{spelled, within_is, cores_is, kind_text, flag_text, mode_text, timeout_is, place_is}
@@ -48,40 +48,49 @@ cores_usual absent.Refused mask good d e = cc
 cores_usual absent.Usual mask good d e = let t = eq-eqb mask (2 ^ 64 - 1) e in cc (t, d)
 cores_usual (absent.Number n) mask good d e = cc
 
-pub value_is : (before : List Statement) (s : Shape) (text : List ℕ) (v : Value) → value_given before s text ≡ Some v → IsValue before s text v
+read_some : {A : Type 0} (f : A → Value) (o : Option A) → is_sound (or_bad f o) ≡ true → (x : A) × (o ≡ Some x)
+read_some f (Some x) s = (x, refl)
+read_some f None s = absurd cc
+
+bound_some : (b : Bool) (o : Option ℕ) → is_sound (cond b (or_unbound o) given.Bad) ≡ true → (b ≡ true) × (i : ℕ) × (o ≡ Some i)
+bound_some true (Some i) s = (refl, i, refl)
+bound_some true None s = absurd cc
+bound_some false o s = absurd cc
+
+pub value_is : (before : List Statement) (s : Shape) (text : List ℕ) → is_sound (value_given before s text) ≡ true → IsValue before s text (value_given before s text)
 unfolding value_given value_text
-value_is before (shape.Number low high) text v e =
-    let m = map_some given.Number (number_within low high text) v e in
+value_is before (shape.Number low high) text h =
+    let m = read_some given.Number (number_within low high text) h in
     let w = within_is low high m.0 text m.1 in
-    subst (IsValue before (shape.Number low high) text) m.2 (record { fits = w.0; shaped = refl; there = refl; written = λ a good d. w.1 })
-value_is before shape.Whole text v e =
-    let m = map_some given.Whole (whole text) v e in
-    subst (IsValue before shape.Whole text) m.2 (record { fits = whole_fits text m.0 m.1; shaped = refl; there = refl; written = λ a good d. whole_spelled text m.0 m.1 })
-value_is before shape.Args text v e =
-    let m = map_some given.Args (list_of text) v e in
+    rw m.1 (record { fits = w.0; shaped = refl; there = refl; written = λ a good d. w.1 })
+value_is before shape.Whole text h =
+    let m = read_some given.Whole (whole text) h in
+    rw m.1 (record { fits = whole_fits text m.0 m.1; shaped = refl; there = refl; written = λ a good d. whole_spelled text m.0 m.1 })
+value_is before shape.Args text h =
+    let m = read_some given.Args (list_of text) h in
     let f = list_fits text m.0 m.1 in
-    subst (IsValue before shape.Args text) m.2 (record { fits = (f.1, f.2); shaped = refl; there = refl; written = λ a good d. list_spelled text m.0 m.1 })
-value_is before shape.Cores text v e =
-    let m = map_some (λ (mask : ℕ). given.Cores (record { 0 = mask })) (cores_of text) v e in
+    rw m.1 (record { fits = (f.1, f.2); shaped = refl; there = refl; written = λ a good d. list_spelled text m.0 m.1 })
+value_is before shape.Cores text h =
+    let m = read_some (λ (mask : ℕ). given.Cores (record { 0 = mask })) (cores_of text) h in
     let c = cores_is text m.0 m.1 in
-    subst (IsValue before shape.Cores text) m.2 (record { fits = c.0; shaped = refl; there = refl; written = λ a good d. c.1 (cores_usual a m.0 good d) })
-value_is before shape.Kind text v e =
-    let m = map_some given.Kind (kind_named text) v e in
-    subst (IsValue before shape.Kind text) m.2 (record { fits = tt; shaped = refl; there = refl; written = λ a good d. kind_text text m.0 m.1 })
-value_is before shape.Flag text v e =
-    let m = map_some given.Flag (flag_of text) v e in
-    subst (IsValue before shape.Flag text) m.2 (record { fits = tt; shaped = refl; there = refl; written = λ a good d. flag_text text m.0 m.1 })
-value_is before shape.Mode text v e =
-    let m = map_some given.Mode (mode_of text) v e in
-    subst (IsValue before shape.Mode text) m.2 (record { fits = tt; shaped = refl; there = refl; written = λ a good d. mode_text text m.0 m.1 })
-value_is before shape.Timeout text v e =
-    let m = map_some given.Timeout (timeout_of text) v e in
+    rw m.1 (record { fits = c.0; shaped = refl; there = refl; written = λ a good d. c.1 (cores_usual a m.0 good d) })
+value_is before shape.Kind text h =
+    let m = read_some given.Kind (kind_named text) h in
+    rw m.1 (record { fits = tt; shaped = refl; there = refl; written = λ a good d. kind_text text m.0 m.1 })
+value_is before shape.Flag text h =
+    let m = read_some given.Flag (flag_of text) h in
+    rw m.1 (record { fits = tt; shaped = refl; there = refl; written = λ a good d. flag_text text m.0 m.1 })
+value_is before shape.Mode text h =
+    let m = read_some given.Mode (mode_of text) h in
+    rw m.1 (record { fits = tt; shaped = refl; there = refl; written = λ a good d. mode_text text m.0 m.1 })
+value_is before shape.Timeout text h =
+    let m = read_some given.Timeout (timeout_of text) h in
     let t = timeout_is text m.0 m.1 in
-    subst (IsValue before shape.Timeout text) m.2 (record { fits = t.0; shaped = refl; there = refl; written = λ a good d. t.1 })
-value_is before (shape.Named sort) text v e =
-    let m = map_some (λ (i : ℕ). given.Place (Some i)) (place_of sort text before) v e in
-    let p = place_is sort text before m.0 m.1 in
-    subst (IsValue before (shape.Named sort) text) m.2 (record { fits = p.0; shaped = refl; there = refl; written = λ a good d. p.1 })
+    rw m.1 (record { fits = t.0; shaped = refl; there = refl; written = λ a good d. t.1 })
+value_is before (shape.Named sort) text h =
+    let m = bound_some (is_name text) (place_of sort text before) h in
+    let p = place_is sort text before m.1 m.2 in
+    rw (m.0, m.2) (record { fits = p.0; shaped = refl; there = refl; written = λ a good d. p.1 })
 
 -- what the value of an absent option is
 pub record IsUsual (before : List Statement) (a : Absent) (s : Shape) (v : Value) : Type 0 where
@@ -90,40 +99,38 @@ pub record IsUsual (before : List Statement) (a : Absent) (s : Shape) (v : Value
   pub may : is_refused a ≡ false
   pub default : is_default a v ≡ true
 
-pub absent_is : (before : List Statement) (a : Absent) (s : Shape) (v : Value) → is_good a s ≡ true → value_absent a s ≡ Some v → IsUsual before a s v
+pub absent_is : (before : List Statement) (a : Absent) (s : Shape) → is_good a s ≡ true → is_sound (value_absent a s) ≡ true → IsUsual before a s (value_absent a s)
 unfolding value_absent is_default
-absent_is before (absent.Number d) (shape.Number low high) v good e =
+absent_is before (absent.Number d) (shape.Number low high) good h =
     let both = and_parts _ _ (and_parts _ _ good).1 in
-    subst (IsUsual before (absent.Number d) (shape.Number low high)) (some_is (given.Number d) v e) (record { fits = (leb-true low d both.0, leb-true d high both.1); shaped = refl; may = refl; default = eq-eqb d d refl })
-absent_is before absent.Usual shape.Args v good e = subst (IsUsual before absent.Usual shape.Args) (some_is (given.Args []) v e) (record { fits = (omega arith, tt); shaped = refl; may = refl; default = refl })
-absent_is before absent.Usual shape.Cores v good e = subst (IsUsual before absent.Usual shape.Cores) (some_is (given.Cores (record { 0 = 2 ^ 64 - 1 })) v e) (record { fits = (omega arith, omega arith); shaped = refl; may = refl; default = refl })
-absent_is before absent.Usual shape.Flag v good e = subst (IsUsual before absent.Usual shape.Flag) (some_is (given.Flag false) v e) (record { fits = tt; shaped = refl; may = refl; default = refl })
-absent_is before absent.Usual (shape.Named s) v good e = subst (IsUsual before absent.Usual (shape.Named s)) (some_is (given.Place None) v e) (record { fits = tt; shaped = refl; may = refl; default = refl })
-absent_is before _ _ v good e = absurd cc
+    record { fits = (leb-true low d both.0, leb-true d high both.1); shaped = refl; may = refl; default = eq-eqb d d refl }
+absent_is before absent.Usual shape.Args good h = record { fits = (omega arith, tt); shaped = refl; may = refl; default = refl }
+absent_is before absent.Usual shape.Cores good h = record { fits = (omega arith, omega arith); shaped = refl; may = refl; default = refl }
+absent_is before absent.Usual shape.Flag good h = record { fits = tt; shaped = refl; may = refl; default = refl }
+absent_is before absent.Usual (shape.Named s) good h = record { fits = tt; shaped = refl; may = refl; default = refl }
+absent_is before _ _ good h = absurd cc
 
 -- ---- all values
 
-field_is : (before : List Statement) (f : Field) (o : Option (List ℕ)) (v : Value) → is_good f.absent f.shape ≡ true → value_at before f o ≡ Some v → Fits before f.shape v × (is_filled f v ≡ true)
-field_is before f None v good e =
-    let u = absent_is before f.absent f.shape v good e in
-    (u.fits, and_from _ _ u.shaped (or_left (not (is_refused f.absent)) (is_there v) (ap not u.may)))
-field_is before f (Some text) v good e =
-    let i = value_is before f.shape text v e in
-    (i.fits, and_from _ _ i.shaped (or_right (not (is_refused f.absent)) (is_there v) i.there))
+field_is : (before : List Statement) (f : Field) (o : Option (List ℕ)) → is_good f.absent f.shape ≡ true → is_sound (value_at before f o) ≡ true → Fits before f.shape (value_at before f o) × (is_filled f (value_at before f o) ≡ true)
+field_is before f None good h =
+    let u = absent_is before f.absent f.shape good h in
+    (u.fits, and_from _ _ u.shaped (or_left (not (is_refused f.absent)) (is_there (value_absent f.absent f.shape)) (ap not u.may)))
+field_is before f (Some text) good h =
+    let i = value_is before f.shape text h in
+    (i.fits, and_from _ _ i.shaped (or_right (not (is_refused f.absent)) (is_there (value_given before f.shape text)) i.there))
 
-abbrev AreValues : List Statement → List Field → List Value → Type 0
-AreValues before fs vs = AllFit before fs vs × (are_filled fs vs ≡ true)
+abbrev Good : List Field → Type 0
+Good fs = AllByRecursion (λ f. is_good f.absent f.shape ≡ true) fs
 
 -- values that are read fit their options, and none is missing
-pub values_are : (before : List Statement) (options : List (List ℕ)) (fs : List Field) (vs : List Value) → AllByRecursion (λ f. is_good f.absent f.shape ≡ true) fs → values_in before options fs ≡ Some vs → AllFit before fs vs × (are_filled fs vs ≡ true)
-unfolding values_in
-values_are before options [] vs good e = subst (AreValues before []) (some_is [] vs e) (tt, refl)
-values_are before options (f ∷ fs) vs good e =
-    let a = bind_some (value_at before f (text_of f.key options)) _ vs e in
-    let b = bind_some (values_in before options fs) _ vs a.2 in
-    let here = field_is before f (text_of f.key options) a.0 good.0 a.1 in
-    let rest = values_are before options fs b.0 good.1 b.1 in
-    subst (AreValues before (f ∷ fs)) (some_is (a.0 ∷ b.0) vs b.2) ((here.0, rest.0), and_from _ _ here.1 rest.1)
+pub values_are : (before : List Statement) (options : List (List ℕ)) (fs : List Field) → Good fs → list_all is_sound (values_in before options fs) ≡ true → AllFit before fs (values_in before options fs) × (are_filled fs (values_in before options fs) ≡ true)
+values_are before options [] good h = (tt, refl)
+values_are before options (f ∷ fs) good h =
+    let both = and_parts (is_sound (value_at before f (text_of f.key options))) (list_all is_sound (values_in before options fs)) h in
+    let first = field_is before f (text_of f.key options) good.0 both.0 in
+    let rest = values_are before options fs good.1 both.1 in
+    ((first.0, rest.0), and_from _ _ first.1 rest.1)
 
 -- ---- what is written of them
 
@@ -152,13 +159,13 @@ found_part k (w ∷ ws) word e =
     ]
 
 -- an option is left out, or is the word that gave it
-picked : (before : List Statement) (all : List Field) (options : List (List ℕ)) (f : Field) (v : Value) (o : Option (List ℕ)) → is_good f.absent f.shape ≡ true → list_all (is_known all) options ≡ true → find (λ w. bytes_eq (key_of w) (key_text f.key)) options ≡ o → value_at before f (option_map value_of o) ≡ Some v → length (led 32 (option_words before f v)) ≤ part f.key options
-picked before all options f v None good known is e = rw (absent_is before f.absent f.shape v good e).default (omega arith)
-picked before all options f v (Some word) good known is e =
-    elim (cases_Bool (is_default f.absent v)) [
+picked : (before : List Statement) (all : List Field) (options : List (List ℕ)) (f : Field) (o : Option (List ℕ)) → is_good f.absent f.shape ≡ true → list_all (is_known all) options ≡ true → find (λ w. bytes_eq (key_of w) (key_text f.key)) options ≡ o → is_sound (value_at before f (option_map value_of o)) ≡ true → length (led 32 (option_words before f (value_at before f (option_map value_of o)))) ≤ part f.key options
+picked before all options f None good known is h = rw (absent_is before f.absent f.shape good h).default (omega arith)
+picked before all options f (Some word) good known is h =
+    elim (cases_Bool (is_default f.absent (value_given before f.shape (value_of word)))) [
       | inl t ↦ rw t (omega arith)
       | inr d ↦
-          let text = (value_is before f.shape (value_of word) v e).written f.absent good d in
+          let text = (value_is before f.shape (value_of word) h).written f.absent good d in
           let key : key_of word ≡ key_text f.key = bytes_are (key_of word) (key_text f.key) (find_passes (λ w. bytes_eq (key_of w) (key_text f.key)) options word is) in
           let k = and_parts _ _ (find_all (λ w. bytes_eq (key_of w) (key_text f.key)) (is_known all) options word is known) in
           let whole : word ≡ key_text f.key ++ 61 ∷ value_of word = rw (← key) (spelled word k.0) in
@@ -173,17 +180,17 @@ options_none : (before : List Statement) (vs : List Value) → options_words bef
 unfolding options_words
 options_none before vs = refl
 
-picks_parts : (before : List Statement) (all : List Field) (options : List (List ℕ)) (fs : List Field) (vs : List Value) → AllByRecursion (λ f. is_good f.absent f.shape ≡ true) fs → list_all (is_known all) options ≡ true → values_in before options fs ≡ Some vs → length (led 32 (options_words before fs vs)) ≤ parts fs options
-unfolding parts values_in text_of
-picks_parts before all options [] vs good known e = rw (options_none before vs) (omega arith)
-picks_parts before all options (f ∷ fs) vs good known e =
-    let a = bind_some (value_at before f (text_of f.key options)) _ vs e in
-    let b = bind_some (values_in before options fs) _ vs a.2 in
-    let here = picked before all options f a.0 (find (λ w. bytes_eq (key_of w) (key_text f.key)) options) good.0 known refl a.1 in
-    let rest = picks_parts before all options fs b.0 good.1 known b.1 in
-    let xs = option_words before f a.0 in
-    let ys = options_words before fs b.0 in
-    rw (← some_is (a.0 ∷ b.0) vs b.2, options_cons before f fs a.0 b.0, led_append 32 xs ys) (omega (arith, here, rest, length-append (led 32 xs) (led 32 ys)))
+picks_parts : (before : List Statement) (all : List Field) (options : List (List ℕ)) (fs : List Field) → Good fs → list_all (is_known all) options ≡ true → list_all is_sound (values_in before options fs) ≡ true → length (led 32 (options_words before fs (values_in before options fs))) ≤ parts fs options
+unfolding parts text_of
+picks_parts before all options [] good known h = rw (options_none before []) (omega arith)
+picks_parts before all options (f ∷ fs) good known h =
+    let v = value_at before f (text_of f.key options) in
+    let both = and_parts (is_sound v) (list_all is_sound (values_in before options fs)) h in
+    let first = picked before all options f (find (λ w. bytes_eq (key_of w) (key_text f.key)) options) good.0 known refl both.0 in
+    let rest = picks_parts before all options fs good.1 known both.1 in
+    let xs = option_words before f v in
+    let ys = options_words before fs (values_in before options fs) in
+    rw (options_cons before f fs v (values_in before options fs), led_append 32 xs ys) (omega (arith, first, rest, length-append (led 32 xs) (led 32 ys)))
 
 parts_empty : (fs : List Field) → parts fs [] ≡ 0
 unfolding parts part
@@ -218,5 +225,5 @@ parts_le fs [] a = omega (arith, parts_empty fs)
 parts_le fs (w ∷ ws) a = omega (arith, parts_word fs w ws, ones_le fs w (length w + 1) a, parts_le fs ws a, length-append w (led 32 ws))
 
 -- the options that are written are no longer than those that were read
-pub picks_short : (before : List Statement) (options : List (List ℕ)) (fs : List Field) (vs : List Value) → AreApart fs → AllByRecursion (λ f. is_good f.absent f.shape ≡ true) fs → list_all (is_known fs) options ≡ true → values_in before options fs ≡ Some vs → length (led 32 (options_words before fs vs)) ≤ length (led 32 options)
-picks_short before options fs vs apart good known e = omega (arith, picks_parts before fs options fs vs good known e, parts_le fs options apart)
+pub picks_short : (before : List Statement) (options : List (List ℕ)) (fs : List Field) → AreApart fs → Good fs → list_all (is_known fs) options ≡ true → list_all is_sound (values_in before options fs) ≡ true → length (led 32 (options_words before fs (values_in before options fs))) ≤ length (led 32 options)
+picks_short before options fs apart good known h = omega (arith, picks_parts before fs options fs good known h, parts_le fs options apart)

@@ -1,31 +1,18 @@
 -- What options that are left out or written give.
-use Rattle.std.proofs.Common.{◌≡◌, ℕ, ℤ, ◌-◌, ◌^◌, List, [], ◌∷◌, ◌++◌, Bool, true, false, ◌&&◌, Option, Some, None, refl, sym, ap}
+use Rattle.std.proofs.Common.{◌≡◌, ℕ, ℤ, ◌-◌, ◌^◌, List, [], ◌∷◌, ◌++◌, Bool, true, false, Option, Some, None, refl, sym, ap}
 use Rattle.std.specs.List.{AllByRecursion, list_any}
 use Rattle.std.specs.Str.{bytes_eq}
 use Rattle.std.proofs.lemmas.Bool.{or_parts, eqb-true}
-use Rattle.workload_file.specs.declared.table.Absent.{Absent}
-use Rattle.workload_file.specs.declared.table.Absent.TheVariants as absent
 use Rattle.workload_file.specs.declared.table.Key.{Key}
 use Rattle.workload_file.specs.declared.table.Field.{Field}
-use Rattle.workload_file.specs.declared.values.Value.{Value}
 use Rattle.workload_file.specs.declared.values.Value.TheVariants as given
 use Rattle.workload_file.specs.Table.{key_text}
-use Rattle.workload_file.specs.Options.{key_of, value_of, gives, is_refused, text_of}
-use Rattle.workload_file.specs.Written.{is_default, is_usual}
+use Rattle.workload_file.specs.Options.{key_of, value_of, gives, text_of}
+use Rattle.workload_file.specs.Written.{is_usual}
 use Rattle.workload_file.proofs.Facts.{some}
 use Rattle.workload_file.proofs.Finds.{find_skip, find_nothing}
 use Rattle.workload_file.proofs.Invariant.{any_push}
 use Rattle.workload_file.proofs.Places.{bytes_same, apart_sym}
-
-pub left_out_may : (a : Absent) (v : Value) → is_default a v ≡ true → is_refused a ≡ false
-unfolding is_default
-left_out_may absent.Refused v h = absurd cc
-left_out_may absent.Usual v h = refl
-left_out_may (absent.Number n) v h = refl
-
-pub and_false : (a b : Bool) → b ≡ false → (a && b) ≡ false
-and_false true b h = h
-and_false false b h = refl
 
 pub usual_args : (zs : List ℤ) → is_usual (given.Args zs) ≡ true → given.Args [] ≡ given.Args zs
 usual_args [] h = refl

@@ -1,5 +1,5 @@
 -- What the table says of each word, each key and each deed, read off case by case.
-use Rattle.std.proofs.Common.{◌≡◌, ℕ, List, ◌∷◌, ◌++◌, Bool, true, false, eqb, Option, Some, None, refl, sym, ap, ◌∙◌}
+use Rattle.std.proofs.Common.{◌≡◌, ℕ, List, ◌∷◌, ◌++◌, true, eqb, Option, Some, None, refl}
 use Rattle.std.specs.List.{list_any, list_all}
 use Rattle.mtapi_values.specs.Attributes.{NodeSettings}
 use Rattle.workload_file.specs.declared.table.Word.{Word}
@@ -8,12 +8,10 @@ use Rattle.workload_file.specs.declared.table.Key.{Key}
 use Rattle.workload_file.specs.declared.table.Key.TheVariants as key
 use Rattle.workload_file.specs.declared.table.Naming.{Naming}
 use Rattle.workload_file.specs.declared.table.Naming.TheVariants as rule
-use Rattle.workload_file.specs.declared.workload.Deed.{Deed}
 use Rattle.workload_file.specs.declared.values.Value.{Value}
 use Rattle.workload_file.specs.Table.{row, key_text, naming, fields}
 use Rattle.workload_file.specs.Options.{key_of, value_of}
-use Rattle.workload_file.specs.Deeds.{Spelled, deed_spelled, word_for, used_place, values, task_deed, queue_deed, lock_deed, segment_deed, deed_with, setting_values}
-use Rattle.workload_file.proofs.Facts.{some_is}
+use Rattle.workload_file.specs.Deeds.{deed_spelled, queue_deed, lock_deed, segment_deed, deed_with, setting_values, number_in, whole_in, args_in, cores_in, kind_in, flag_in, mode_in, timeout_in, place_in, place_there}
 use Rattle.workload_file.proofs.Fields.{is_deed, are_filled}
 use Rattle.workload_file.proofs.Held.{AllHeld, all_with, all_held}
 use Rattle.workload_file.proofs.Phrases.{is_inner}
@@ -38,48 +36,22 @@ key_good _ = refl
 
 -- ---- deeds
 
--- a place is there exactly where a name is used
-abbrev pub is_used_at : Naming → Option ℕ → Bool
-is_used_at (rule.Uses sort) (Some place) = true
-is_used_at rule.Bare None = true
-is_used_at rule.Caller None = true
-is_used_at (rule.Binds sort) None = true
-is_used_at _ _ = false
+-- the place of a deed: there is one exactly where a name is used
+abbrev pub place_at : Naming → ℕ → Option ℕ
+place_at (rule.Uses sort) place = Some place
+place_at rule.Bare place = None
+place_at rule.Caller place = None
+place_at (rule.Binds sort) place = None
 
--- there is a deed of a word, a place and values
-pub record IsDeed (w : Word) (place : Option ℕ) (vs : List Value) : Type 0 where
-  pub deed : Deed
-  pub gives : deed_with w place vs ≡ Some deed
-  pub word : word_for deed ≡ w
-  pub used : used_place deed ≡ place
-  pub values : values deed ≡ vs
+deed_held : (w : Word) (place : ℕ) (x : AllHeld (fields w)) → is_deed w ≡ true → deed_spelled (deed_with w place (all_with (fields w) x)) ≡ record { word = w; place = place_at (naming w) place; values = all_with (fields w) x }
+unfolding row deed_spelled deed_with queue_deed lock_deed segment_deed number_in whole_in args_in cores_in kind_in flag_in mode_in timeout_in place_in place_there
+deed_held word.Node place x h = absurd cc
+deed_held word.Caller place x h = absurd cc
+deed_held _ place x h = refl
 
--- a deed is there, and is spelled so
-Spells : Word → Option ℕ → List Value → Option Deed → Type 0
-Spells w place vs None = ⊥
-Spells w place vs (Some d) = deed_spelled d ≡ record { word = w; place = place; values = vs }
-
-deed_held : (w : Word) (place : Option ℕ) (x : AllHeld (fields w)) → is_deed w ≡ true → is_used_at (naming w) place ≡ true → Spells w place (all_with (fields w) x) (deed_with w place (all_with (fields w) x))
-unfolding row deed_spelled deed_with task_deed queue_deed lock_deed segment_deed Spells
-deed_held word.Node _ x h u = absurd cc
-deed_held word.Caller _ x h u = absurd cc
-deed_held _ None x h u = cc
-deed_held _ (Some place) x h u = cc
-
-spells : (w : Word) (place : Option ℕ) (vs : List Value) (o : Option Deed) → deed_with w place vs ≡ o → Spells w place vs o → IsDeed w place vs
-unfolding Spells
-spells w place vs None e s = absurd s
-spells w place vs (Some d) e s = record { deed = d; gives = e; word = ap (λ (x : Spelled). x.word) s; used = ap (λ (x : Spelled). x.place) s; values = ap (λ (x : Spelled). x.values) s }
-
-pub deed_of : (w : Word) (place : Option ℕ) (vs : List Value) → is_deed w ≡ true → is_used_at (naming w) place ≡ true → are_filled (fields w) vs ≡ true → IsDeed w place vs
-deed_of w place vs h u f =
-    let held = all_held (fields w) vs f in
-    rw held.1 (spells w place (all_with (fields w) held.0) _ refl (deed_held w place held.0 h u))
-
-pub deed_is : (w : Word) (place : Option ℕ) (vs : List Value) (d : Deed) → IsDeed w place vs → deed_with w place vs ≡ Some d → (word_for d ≡ w) × (used_place d ≡ place) × (values d ≡ vs)
-deed_is w place vs d is e =
-    let same : is.deed ≡ d = some_is is.deed d (sym is.gives ∙ e) in
-    rw (← same) (is.word, is.used, is.values)
+-- a deed is spelled by the word, the place and the values of which it was made
+pub deed_is : (w : Word) (place : ℕ) (vs : List Value) → is_deed w ≡ true → are_filled (fields w) vs ≡ true → deed_spelled (deed_with w place vs) ≡ record { word = w; place = place_at (naming w) place; values = vs }
+deed_is w place vs h f = let held = all_held (fields w) vs f in rw held.1 (deed_held w place held.0 h)
 
 -- ---- settings
 

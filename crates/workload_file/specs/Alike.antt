@@ -14,7 +14,8 @@ use Rattle.workload_file.specs.Cuts.{words_of}
 use Rattle.workload_file.specs.Table.{word_of, key_text, fields}
 use Rattle.workload_file.specs.Options.{gives}
 use Rattle.workload_file.specs.Changes.{value_given, value_absent}
-use Rattle.workload_file.specs.Reading.{is_printable, line_adds, workload_of}
+use Rattle.workload_file.specs.Faulty.{is_printable}
+use Rattle.workload_file.specs.Reading.{line_adds, workload_of}
 
 -- a line of at most 512 printable bytes
 pub record IsPlain (text : List ℕ) : Type 0 where
@@ -49,8 +50,8 @@ pub record IsWrittenOut (text other : List ℕ) : Type 0 where
   pub statement : word_of first ≡ Some word
   pub option : find (λ f. bytes_eq (key_text f.key) (key_text field.key)) (fields word) ≡ Some field
   pub absent : gives field.key rest ≡ false
-  pub usual : value_absent field.absent field.shape ≡ Some given
-  pub reads : (before : List Statement) → value_given before field.shape value ≡ Some given
+  pub usual : value_absent field.absent field.shape ≡ given
+  pub reads : (before : List Statement) → value_given before field.shape value ≡ given
 
 -- what the one line adds, the other one adds too
 abbrev pub AddsAlike : List ℕ → List ℕ → Type 0

@@ -1,5 +1,10 @@
 -- What each deed is in the text, and back.
-use Rattle.std.specs.Prelude.{ℕ, List, [], ◌∷◌, Bool, true, false, Option, Some, None}
+use Rattle.std.specs.Prelude.{ℕ, ◌-◌, ◌^◌, ℤ, pos, List, [], ◌∷◌, Bool, true, false, Option, Some, None}
+use Rattle.mtapi_values.specs.declared.masks.Mask.{Mask}
+use Rattle.mtapi_values.specs.declared.kinds.Kind.{Kind}
+use Rattle.mtapi_values.specs.declared.kinds.Kind.TheVariants.{Add}
+use Rattle.mtapi_values.specs.declared.timeouts.Timeout.{Timeout}
+use Rattle.mtapi_values.specs.declared.timeouts.Timeout.TheVariants.{NoWait}
 use Rattle.mtapi_values.specs.Attributes.{NodeSettings}
 use Rattle.workload_file.specs.declared.table.Word.{Word}
 use Rattle.workload_file.specs.declared.table.Word.TheVariants as word
@@ -70,70 +75,106 @@ used_place d = (deed_spelled d).place
 abbrev pub values : Deed → List Value
 values d = (deed_spelled d).values
 
--- a deed on actions, tasks or groups, of its word, the place of the name that it uses, and the values of its options
-unfoldable pub task_deed : Word → Option ℕ → List Value → Option Deed
-task_deed word.Begin None [] = Some deed.Begin
-task_deed word.Action None (given.Number job ∷ given.Kind kind ∷ given.Cores cores ∷ []) = Some (deed.Action job kind cores)
-task_deed word.ActionDelete (Some place) [] = Some (deed.ActionDelete place)
-task_deed word.ActionEnable (Some place) [] = Some (deed.ActionEnable place)
-task_deed word.ActionDisable (Some place) [] = Some (deed.ActionDisable place)
-task_deed word.Start None (given.Number job ∷ given.Args args ∷ given.Number priority ∷ given.Cores cores ∷ given.Flag detached ∷ given.Place group ∷ []) = Some (deed.Start job args priority cores detached group)
-task_deed word.Enqueue None (given.Place (Some queue) ∷ given.Args args ∷ given.Cores cores ∷ given.Flag detached ∷ given.Place group ∷ []) = Some (deed.Enqueue queue args cores detached group)
-task_deed word.Wait (Some place) (given.Timeout timeout ∷ []) = Some (deed.Wait place timeout)
-task_deed word.Cancel (Some place) [] = Some (deed.Cancel place)
-task_deed word.Group None [] = Some deed.Group
-task_deed word.WaitAll (Some place) (given.Timeout timeout ∷ []) = Some (deed.WaitAll place timeout)
-task_deed word.WaitAny (Some place) (given.Timeout timeout ∷ []) = Some (deed.WaitAny place timeout)
-task_deed word.GroupDelete (Some place) [] = Some (deed.GroupDelete place)
-task_deed _ _ _ = None
+-- ---- what a value holds: of a value of another shape the default, which no statement without a fault reads
 
--- a deed on queues, of its word, the place of the name that it uses, and the values of its options
-unfoldable pub queue_deed : Word → Option ℕ → List Value → Option Deed
-queue_deed word.Queue None (given.Number id ∷ given.Number job ∷ given.Number priority ∷ given.Number limit ∷ given.Flag ordered ∷ given.Flag retain ∷ []) = Some (deed.Queue id job priority limit ordered retain)
-queue_deed word.QueueGet None (given.Number id ∷ []) = Some (deed.QueueGet id)
-queue_deed word.QueueEnable (Some place) [] = Some (deed.QueueEnable place)
-queue_deed word.QueueDisable (Some place) [] = Some (deed.QueueDisable place)
-queue_deed word.QueueDelete (Some place) [] = Some (deed.QueueDelete place)
-queue_deed _ _ _ = None
+unfoldable pub number_in : Value → ℕ
+number_in (given.Number n) = n
+number_in _ = 0
 
--- a deed on mutexes, semaphores or reader-writer locks, of its word, the place of the name that it uses, and the values of its options
-unfoldable pub lock_deed : Word → Option ℕ → List Value → Option Deed
-lock_deed word.Mutex None (given.Number id ∷ given.Flag recursive ∷ []) = Some (deed.Mutex id recursive)
-lock_deed word.MutexGet None (given.Number id ∷ []) = Some (deed.MutexGet id)
-lock_deed word.MutexDelete (Some place) [] = Some (deed.MutexDelete place)
-lock_deed word.Lock (Some place) (given.Timeout timeout ∷ []) = Some (deed.Lock place timeout)
-lock_deed word.Unlock (Some place) (given.Number key ∷ []) = Some (deed.Unlock place key)
-lock_deed word.Sem None (given.Number id ∷ given.Number limit ∷ []) = Some (deed.Sem id limit)
-lock_deed word.SemGet None (given.Number id ∷ []) = Some (deed.SemGet id)
-lock_deed word.SemDelete (Some place) [] = Some (deed.SemDelete place)
-lock_deed word.SemLock (Some place) (given.Timeout timeout ∷ []) = Some (deed.SemLock place timeout)
-lock_deed word.SemUnlock (Some place) [] = Some (deed.SemUnlock place)
-lock_deed word.Rwl None (given.Number id ∷ given.Number limit ∷ []) = Some (deed.Rwl id limit)
-lock_deed word.RwlGet None (given.Number id ∷ []) = Some (deed.RwlGet id)
-lock_deed word.RwlDelete (Some place) [] = Some (deed.RwlDelete place)
-lock_deed word.RwlLock (Some place) (given.Mode writer ∷ given.Timeout timeout ∷ []) = Some (deed.RwlLock place writer timeout)
-lock_deed word.RwlUnlock (Some place) (given.Mode writer ∷ []) = Some (deed.RwlUnlock place writer)
-lock_deed _ _ _ = None
+unfoldable pub whole_in : Value → ℤ
+whole_in (given.Whole z) = z
+whole_in _ = pos 0
 
--- a deed on segments, of its word, the place of the name that it uses, and the values of its options
-unfoldable pub segment_deed : Word → Option ℕ → List Value → Option Deed
-segment_deed word.Shmem None (given.Number id ∷ given.Number cells ∷ []) = Some (deed.Shmem id cells)
-segment_deed word.ShmemGet None (given.Number id ∷ []) = Some (deed.ShmemGet id)
-segment_deed word.ShmemDelete (Some place) [] = Some (deed.ShmemDelete place)
-segment_deed word.Attach (Some place) [] = Some (deed.Attach place)
-segment_deed word.Detach (Some place) [] = Some (deed.Detach place)
-segment_deed word.Read (Some place) (given.Number cell ∷ []) = Some (deed.Read place cell)
-segment_deed word.Write (Some place) (given.Number cell ∷ given.Whole value ∷ []) = Some (deed.Write place cell value)
-segment_deed _ _ _ = None
+unfoldable pub args_in : Value → List ℤ
+args_in (given.Args zs) = zs
+args_in _ = []
 
--- the first of two that is there
-abbrev pub or_deed : Option Deed → Option Deed → Option Deed
-or_deed (Some d) other = Some d
-or_deed None other = other
+unfoldable pub cores_in : Value → Mask
+cores_in (given.Cores mask) = mask
+cores_in _ = record { 0 = 2 ^ 64 - 1 }
 
--- the deed of a word, the place of the name that it uses, and the values of its options
-unfoldable pub deed_with : Word → Option ℕ → List Value → Option Deed
-deed_with w place vs = or_deed (task_deed w place vs) (or_deed (queue_deed w place vs) (or_deed (lock_deed w place vs) (segment_deed w place vs)))
+unfoldable pub kind_in : Value → Kind
+kind_in (given.Kind kind) = kind
+kind_in _ = Add
+
+unfoldable pub flag_in : Value → Bool
+flag_in (given.Flag b) = b
+flag_in _ = false
+
+unfoldable pub mode_in : Value → Bool
+mode_in (given.Mode b) = b
+mode_in _ = false
+
+unfoldable pub timeout_in : Value → Timeout
+timeout_in (given.Timeout t) = t
+timeout_in _ = NoWait
+
+unfoldable pub place_in : Value → Option ℕ
+place_in (given.Place place) = place
+place_in _ = None
+
+-- the place of a name that has to be there
+unfoldable pub place_there : Value → ℕ
+place_there (given.Place (Some place)) = place
+place_there _ = 0
+
+-- ---- a deed of its word, the place of the name that it uses, and the values of its options
+
+-- the deeds on segments
+unfoldable pub segment_deed : Word → ℕ → List Value → Deed
+segment_deed word.Shmem place (id ∷ cells ∷ []) = deed.Shmem (number_in id) (number_in cells)
+segment_deed word.ShmemGet place (id ∷ []) = deed.ShmemGet (number_in id)
+segment_deed word.ShmemDelete place [] = deed.ShmemDelete place
+segment_deed word.Attach place [] = deed.Attach place
+segment_deed word.Detach place [] = deed.Detach place
+segment_deed word.Read place (cell ∷ []) = deed.Read place (number_in cell)
+segment_deed word.Write place (cell ∷ value ∷ []) = deed.Write place (number_in cell) (whole_in value)
+segment_deed w place values = deed.Begin
+
+-- the deeds on mutexes, semaphores and reader-writer locks, and what follows
+unfoldable pub lock_deed : Word → ℕ → List Value → Deed
+lock_deed word.Mutex place (id ∷ recursive ∷ []) = deed.Mutex (number_in id) (flag_in recursive)
+lock_deed word.MutexGet place (id ∷ []) = deed.MutexGet (number_in id)
+lock_deed word.MutexDelete place [] = deed.MutexDelete place
+lock_deed word.Lock place (timeout ∷ []) = deed.Lock place (timeout_in timeout)
+lock_deed word.Unlock place (key ∷ []) = deed.Unlock place (number_in key)
+lock_deed word.Sem place (id ∷ limit ∷ []) = deed.Sem (number_in id) (number_in limit)
+lock_deed word.SemGet place (id ∷ []) = deed.SemGet (number_in id)
+lock_deed word.SemDelete place [] = deed.SemDelete place
+lock_deed word.SemLock place (timeout ∷ []) = deed.SemLock place (timeout_in timeout)
+lock_deed word.SemUnlock place [] = deed.SemUnlock place
+lock_deed word.Rwl place (id ∷ limit ∷ []) = deed.Rwl (number_in id) (number_in limit)
+lock_deed word.RwlGet place (id ∷ []) = deed.RwlGet (number_in id)
+lock_deed word.RwlDelete place [] = deed.RwlDelete place
+lock_deed word.RwlLock place (writer ∷ timeout ∷ []) = deed.RwlLock place (mode_in writer) (timeout_in timeout)
+lock_deed word.RwlUnlock place (writer ∷ []) = deed.RwlUnlock place (mode_in writer)
+lock_deed w place values = segment_deed w place values
+
+-- the deeds on queues, and what follows
+unfoldable pub queue_deed : Word → ℕ → List Value → Deed
+queue_deed word.Queue place (id ∷ job ∷ priority ∷ limit ∷ ordered ∷ retain ∷ []) = deed.Queue (number_in id) (number_in job) (number_in priority) (number_in limit) (flag_in ordered) (flag_in retain)
+queue_deed word.QueueGet place (id ∷ []) = deed.QueueGet (number_in id)
+queue_deed word.QueueEnable place [] = deed.QueueEnable place
+queue_deed word.QueueDisable place [] = deed.QueueDisable place
+queue_deed word.QueueDelete place [] = deed.QueueDelete place
+queue_deed w place values = lock_deed w place values
+
+-- all deeds: those on actions, tasks and groups, and the others
+unfoldable pub deed_with : Word → ℕ → List Value → Deed
+deed_with word.Begin place [] = deed.Begin
+deed_with word.Action place (job ∷ kind ∷ cores ∷ []) = deed.Action (number_in job) (kind_in kind) (cores_in cores)
+deed_with word.ActionDelete place [] = deed.ActionDelete place
+deed_with word.ActionEnable place [] = deed.ActionEnable place
+deed_with word.ActionDisable place [] = deed.ActionDisable place
+deed_with word.Start place (job ∷ args ∷ priority ∷ cores ∷ detached ∷ group ∷ []) = deed.Start (number_in job) (args_in args) (number_in priority) (cores_in cores) (flag_in detached) (place_in group)
+deed_with word.Enqueue place (queue ∷ args ∷ cores ∷ detached ∷ group ∷ []) = deed.Enqueue (place_there queue) (args_in args) (cores_in cores) (flag_in detached) (place_in group)
+deed_with word.Wait place (timeout ∷ []) = deed.Wait place (timeout_in timeout)
+deed_with word.Cancel place [] = deed.Cancel place
+deed_with word.Group place [] = deed.Group
+deed_with word.WaitAll place (timeout ∷ []) = deed.WaitAll place (timeout_in timeout)
+deed_with word.WaitAny place (timeout ∷ []) = deed.WaitAny place (timeout_in timeout)
+deed_with word.GroupDelete place [] = deed.GroupDelete place
+deed_with w place values = queue_deed w place values
 
 -- the settings of a node, in the order of the table
 abbrev pub setting_values : NodeSettings → List Value

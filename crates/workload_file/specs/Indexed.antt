@@ -1,24 +1,12 @@
 -- What the reader keeps beside the workload so far.
-use Rattle.std.specs.Prelude.{◌≡◌, ℕ, ◌+◌, ◌*◌, ◌≤◌, List, [], ◌∷◌, ◌++◌, length, Bool, not, Option, Some, None, Result, Ok, Err, if◌then◌else◌}
-use Rattle.workload_file.specs.declared.table.Field.{Field}
-use Rattle.workload_file.specs.declared.values.Value.{Value}
-use Rattle.workload_file.specs.declared.found.Found.{Found}
+use Rattle.std.specs.Prelude.{◌≡◌, ℕ, ◌+◌, ◌*◌, ◌≤◌, List, [], ◌∷◌, length, Option, Some, None, Result, Ok, Err, if◌then◌else◌}
 use Rattle.workload_file.specs.declared.reading.Reader.{Reader}
 use Rattle.workload_file.specs.declared.reading.Reading.{Reading}
-use Rattle.workload_file.specs.declared.reading.Change.{Change}
-use Rattle.workload_file.specs.declared.faults.Cause.{Cause}
-use Rattle.workload_file.specs.declared.faults.Cause.TheVariants.{UnknownOption, OptionTwice, BadValue, OptionMissing, NameTaken, NameUnknown}
-use Rattle.workload_file.specs.declared.table.Word.{Word}
-use Rattle.workload_file.specs.Table.{naming, fields}
-use Rattle.workload_file.specs.Changes.{change_with}
-use Rattle.workload_file.specs.Reading.{◌>>=◌, refuse, or_cause, name_text}
 use Rattle.workload_file.specs.declared.index.NameIndex.{NameIndex}
-use Rattle.std.specs.List.{list_any, list_all}
 use Rattle.std.specs.BTreeMap.{get_by}
 use Rattle.std.specs.Ordering.{nat_cmp}
-use Rattle.workload_file.specs.Names.{bound_at, is_called, is_taken}
+use Rattle.workload_file.specs.Names.{bound_at, is_called}
 use Rattle.workload_file.specs.Values.{is_name}
-use Rattle.workload_file.specs.Options.{is_known, has_twice, is_missing}
 
 -- the first value, or else the second
 abbrev pub first_of_two : Option ℕ → Option ℕ → Option ℕ
@@ -53,35 +41,3 @@ said_of (Err e) = Err e
 abbrev pub said_then : {E : Type 0} → Result (Unit {0}) E → Reading → Result Reading E
 said_then (Ok done) r = Ok r
 said_then (Err e) r = Err e
-
--- ---- the values of the options of a statement, found one by one
-
--- the values found, where there is one for each option so far
-abbrev pub seen : Found → Option (List Value)
-seen found = if found.complete then Some found.values.items else None
-
--- with the value of one more option
-abbrev pub with_value : Option (List Value) → Option Value → Option (List Value)
-with_value (Some values) (Some value) = Some (values ++ value ∷ [])
-with_value _ _ = None
-
--- with the values of the options behind
-abbrev pub ahead : Option (List Value) → Option (List Value) → Option (List Value)
-ahead (Some values) (Some behind) = Some (values ++ behind)
-ahead _ _ = None
-
--- ---- the steps in which a statement is refused
-
--- the options are of the statement, and none stands twice
-abbrev pub check_keys : List Field → List (List ℕ) → Result (Unit {0}) Cause
-check_keys fields options = do
-  a ← refuse (not (list_all (is_known fields) options)) UnknownOption
-  refuse (has_twice options) OptionTwice
-
--- what a statement adds, of whether a value is none of its option's and the values, or its first cause from the values on
-abbrev pub settled : Reading → ℕ → Word → Option (List ℕ) → List (List ℕ) → Bool → Option (List Value) → Result Change Cause
-settled r line word name options bad values = do
-  a ← refuse bad BadValue
-  b ← refuse (list_any (is_missing options) (fields word)) OptionMissing
-  c ← refuse (is_taken r (naming word) (name_text name)) NameTaken
-  or_cause (change_with r.current.statements line word name values) NameUnknown

@@ -7,10 +7,10 @@ pub mod Options
 pub mod Deeds
 pub mod Names
 pub mod Changes
+pub mod Faulty
 pub mod Reading
 pub mod Indexed
 pub mod Loading
-pub mod Faulty
 pub mod Formed
 pub mod Written
 pub mod Led

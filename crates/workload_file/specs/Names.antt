@@ -1,20 +1,15 @@
 -- The names of a part, and what they are bound to.
-use Rattle.std.specs.Prelude.{ℕ, List, [], ◌∷◌, ◌==◌, ◌||◌, not, nat_le, length, Bool, false, Option, Some, None, is_some, position, slice_get, option_and_then, if◌then◌else◌}
+use Rattle.std.specs.Prelude.{ℕ, List, [], ◌∷◌, ◌==◌, ◌||◌, not, nat_le, length, drop, Bool, true, false, Option, Some, None, is_some, position, slice_get, option_and_then, if◌then◌else◌}
 use Rattle.std.specs.List.{list_any}
 use Rattle.std.specs.Str.{bytes_eq}
 use Rattle.workload_file.specs.declared.table.Word.{Word}
 use Rattle.workload_file.specs.declared.table.Word.TheVariants as word
 use Rattle.workload_file.specs.declared.table.Sort.{Sort}
-use Rattle.workload_file.specs.declared.table.Shape.{Shape}
-use Rattle.workload_file.specs.declared.table.Shape.TheVariants as shape
 use Rattle.workload_file.specs.declared.table.Naming.{Naming}
 use Rattle.workload_file.specs.declared.table.Naming.TheVariants as rule
-use Rattle.workload_file.specs.declared.table.Field.{Field}
 use Rattle.workload_file.specs.declared.workload.Statement.{Statement}
 use Rattle.workload_file.specs.declared.reading.Reading.{Reading}
-use Rattle.workload_file.specs.Values.{is_name}
 use Rattle.workload_file.specs.Deeds.{binds, is_begin}
-use Rattle.workload_file.specs.Options.{text_of}
 
 -- the name is this one
 abbrev pub is_called : List ℕ → Option (List ℕ) → Bool
@@ -34,11 +29,21 @@ is_binding sort (Some s) = binds sort s.deed
 unfoldable pub place_of : Sort → List ℕ → List Statement → Option ℕ
 place_of sort name statements = option_and_then (λ place. if is_binding sort (slice_get statements place) then Some place else None) (bound_at name statements)
 
--- the name, where there has to be one, and the words behind it
-unfoldable pub split_name : Naming → List (List ℕ) → Option (Option (List ℕ) × List (List ℕ))
-split_name rule.Bare words = Some (None, words)
-split_name _ [] = None
-split_name _ (word ∷ words) = if is_name word then Some (Some word, words) else None
+-- the statement has a name
+abbrev pub has_second : Naming → Bool
+has_second rule.Bare = false
+has_second rule.Caller = true
+has_second (rule.Binds sort) = true
+has_second (rule.Uses sort) = true
+
+-- the name, of the words behind the first: the next word, where there has to be one
+abbrev pub name_in : Naming → List (List ℕ) → List ℕ
+name_in n [] = []
+name_in n (name ∷ rest) = if has_second n then name else []
+
+-- the options: the words behind the name
+abbrev pub options_in : Naming → List (List ℕ) → List (List ℕ)
+options_in n rest = if has_second n then drop 1 rest else rest
 
 -- bound earlier by this caller; for a caller, used earlier
 unfoldable pub is_taken : Reading → Naming → List ℕ → Bool
@@ -47,26 +52,19 @@ is_taken r rule.Caller name = bytes_eq r.current.name name || list_any (λ p. by
 is_taken r rule.Bare name = false
 is_taken r (rule.Uses sort) name = false
 
+-- the place of the name that a statement uses, where it uses one that is bound to such a thing
+abbrev pub place_used : List Statement → Naming → List ℕ → Option ℕ
+place_used before (rule.Uses sort) name = place_of sort name before
+place_used before rule.Caller name = None
+place_used before rule.Bare name = None
+place_used before (rule.Binds sort) name = None
+
 -- used, and not bound earlier by this caller to such a thing
-unfoldable pub is_unbound : Reading → Naming → List ℕ → Bool
-is_unbound r (rule.Uses sort) name = not (is_some (place_of sort name r.current.statements))
-is_unbound r rule.Caller name = false
-is_unbound r rule.Bare name = false
-is_unbound r (rule.Binds sort) name = false
-
--- a value that has to be such a name, and isn't
-unfoldable pub is_unbound_value : Reading → Shape → List ℕ → Bool
-is_unbound_value r (shape.Named sort) text = not (is_some (place_of sort text r.current.statements))
-is_unbound_value r _ text = false
-
--- the same of the text of an option, where it is given
-abbrev pub is_unbound_text : Reading → Shape → Option (List ℕ) → Bool
-is_unbound_text r s None = false
-is_unbound_text r s (Some text) = is_unbound_value r s text
-
--- an option that is given such a name
-abbrev pub has_unbound : Reading → List (List ℕ) → Field → Bool
-has_unbound r options field = is_unbound_text r field.shape (text_of field.key options)
+abbrev pub is_unbound : Naming → Option ℕ → Bool
+is_unbound (rule.Uses sort) place = not (is_some place)
+is_unbound rule.Caller place = false
+is_unbound rule.Bare place = false
+is_unbound (rule.Binds sort) place = false
 
 -- a node that is not the first statement; a begin that is not in main's part, or not the first one
 unfoldable pub is_misplaced : Reading → Word → Bool

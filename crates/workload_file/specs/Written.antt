@@ -49,6 +49,7 @@ value_text before (given.Flag b) = if b then codes "yes" else codes "no"
 value_text before (given.Mode b) = if b then codes "writer" else codes "reader"
 value_text before (given.Timeout t) = timeout_text t
 value_text before (given.Place place) = name_at before place
+value_text before _ = []
 
 -- ---- options
 

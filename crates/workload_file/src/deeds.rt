@@ -1,37 +1,134 @@
-//! What a statement without a fault does, from the values of its options.
+//! What a statement without a fault does, of the values of its options.
 ghost use Rattle.std.specs.Prelude.{◌≡◌};
-ghost use Rattle.workload_file.specs.Deeds.{task_deed, queue_deed, lock_deed, segment_deed, deed_with};
-ghost use Rattle.workload_file.specs.Changes.{with_setting, settings_by};
+ghost use Rattle.workload_file.specs.Deeds.{number_in, whole_in, args_in, cores_in, kind_in, flag_in, mode_in, timeout_in, place_in, place_there, deed_with, queue_deed, lock_deed, segment_deed};
+ghost use Rattle.workload_file.specs.Changes.{usual_settings, with_setting, settings_by};
 
 use crate::table::{Word, statements};
 use crate::values::Value;
 use crate::workload::Deed;
-use mtapi_values::NodeAttr;
+use mtapi_values::{Args, Kind, Mask, NodeAttr, Timeout};
 
-macro_rules! at {
-    () => { None };
-    ($place:ident) => { Some($place) };
+#[tactic(auto, unfolding(crate::specs::Deeds::number_in))]
+fn number_in(value: &Value) -> u32
+    ensures { result ≡ number_in value.now }
+{
+    match value {
+        Value::Number(n) => *n,
+        _ => 0,
+    }
 }
 
-macro_rules! pattern {
-    (Named Refused $field:ident) => { Value::Place(Some($field)) };
-    (Named Usual $field:ident) => { Value::Place($field) };
-    ($shape:ident $absent:ident $field:ident) => { Value::$shape($field) };
+#[tactic(auto, unfolding(crate::specs::Deeds::whole_in))]
+fn whole_in(value: &Value) -> i64
+    ensures { result ≡ whole_in value.now }
+{
+    match value {
+        Value::Whole(z) => *z,
+        _ => 0,
+    }
 }
 
-macro_rules! taken {
-    (Args $field:ident) => { $field.again() };
-    ($shape:ident $field:ident) => { *$field };
+#[tactic(auto, unfolding(crate::specs::Deeds::args_in))]
+fn args_in(value: &Value) -> Args
+    ensures { result ≡ args_in value.now }
+{
+    match value {
+        Value::Args(args) => args.again(),
+        _ => Args::new(),
+    }
+}
+
+#[tactic(auto, unfolding(crate::specs::Deeds::cores_in))]
+fn cores_in(value: &Value) -> Mask
+    ensures { result ≡ cores_in value.now }
+{
+    match value {
+        Value::Cores(mask) => *mask,
+        _ => Mask(u64::MAX),
+    }
+}
+
+#[tactic(auto, unfolding(crate::specs::Deeds::kind_in))]
+fn kind_in(value: &Value) -> Kind
+    ensures { result ≡ kind_in value.now }
+{
+    match value {
+        Value::Kind(kind) => *kind,
+        _ => Kind::Add,
+    }
+}
+
+#[tactic(auto, unfolding(crate::specs::Deeds::flag_in))]
+fn flag_in(value: &Value) -> bool
+    ensures { result ≡ flag_in value.now }
+{
+    match value {
+        Value::Flag(flag) => *flag,
+        _ => false,
+    }
+}
+
+#[tactic(auto, unfolding(crate::specs::Deeds::mode_in))]
+fn mode_in(value: &Value) -> bool
+    ensures { result ≡ mode_in value.now }
+{
+    match value {
+        Value::Mode(writer) => *writer,
+        _ => false,
+    }
+}
+
+#[tactic(auto, unfolding(crate::specs::Deeds::timeout_in))]
+fn timeout_in(value: &Value) -> Timeout
+    ensures { result ≡ timeout_in value.now }
+{
+    match value {
+        Value::Timeout(timeout) => *timeout,
+        _ => Timeout::NoWait,
+    }
+}
+
+#[tactic(auto, unfolding(crate::specs::Deeds::place_in))]
+fn place_in(value: &Value) -> Option<u32>
+    ensures { result ≡ place_in value.now }
+{
+    match value {
+        Value::Place(place) => *place,
+        _ => None,
+    }
+}
+
+#[tactic(auto, unfolding(crate::specs::Deeds::place_there))]
+fn place_there(value: &Value) -> u32
+    ensures { result ≡ place_there value.now }
+{
+    match value {
+        Value::Place(Some(place)) => *place,
+        _ => 0,
+    }
+}
+
+macro_rules! held {
+    (Number $absent:ident $value:ident) => { number_in($value) };
+    (Whole $absent:ident $value:ident) => { whole_in($value) };
+    (Args $absent:ident $value:ident) => { args_in($value) };
+    (Cores $absent:ident $value:ident) => { cores_in($value) };
+    (Kind $absent:ident $value:ident) => { kind_in($value) };
+    (Flag $absent:ident $value:ident) => { flag_in($value) };
+    (Mode $absent:ident $value:ident) => { mode_in($value) };
+    (Timeout $absent:ident $value:ident) => { timeout_in($value) };
+    (Named Refused $value:ident) => { place_there($value) };
+    (Named Usual $value:ident) => { place_in($value) };
 }
 
 macro_rules! built {
-    (($self:ident $at:ident $values:ident) { $($word:ident $text:literal $naming:ident$(($sort:ident))? [$($place:ident)?] { $($field:ident: $key:ident $shape:ident$(($($bound:tt)*))? $absent:ident$(($usual:literal))?),* })* }) => {
+    (($self:ident $at:ident $values:ident $else:expr) { $($word:ident $text:literal $naming:ident$(($sort:ident))? [$($place:ident)?] { $($field:ident: $key:ident $shape:ident$(($($bound:tt)*))? $absent:ident$(($usual:literal))?),* })* }) => {
         match $self {
-            $(Word::$word => match ($at, $values) {
-                (at!($($place)?), [$(pattern!($shape $absent $field)),*]) => Some(Deed::$word { $($place,)? $($field: taken!($shape $field)),* }),
-                _ => None,
+            $(Word::$word => match $values {
+                [$($field),*] => Deed::$word { $($place: $at,)? $($field: held!($shape $absent $field)),* },
+                _ => $else,
             },)*
-            _ => None,
+            _ => $else,
         }
     };
 }
@@ -44,49 +141,33 @@ macro_rules! family {
     ((segments $args:tt) heads $a:tt tasks $b:tt queues $c:tt locks $d:tt segments $rows:tt) => { built! { $args $rows } };
 }
 
-#[tactic(auto, unfolding(crate::specs::Deeds::task_deed))]
-fn task_deed(word: Word, place: Option<u32>, values: &[Value]) -> Option<Deed>
-    ensures { result ≡ task_deed word place values.now }
+#[tactic(auto, unfolding(crate::specs::Deeds::segment_deed))]
+fn segment_deed(word: Word, place: u32, values: &[Value]) -> Deed
+    ensures { result ≡ segment_deed word place values.now }
 {
-    statements!(family (tasks (word place values)))
-}
-
-#[tactic(auto, unfolding(crate::specs::Deeds::queue_deed))]
-fn queue_deed(word: Word, place: Option<u32>, values: &[Value]) -> Option<Deed>
-    ensures { result ≡ queue_deed word place values.now }
-{
-    statements!(family (queues (word place values)))
+    statements!(family (segments (word place values Deed::Begin)))
 }
 
 #[tactic(auto, unfolding(crate::specs::Deeds::lock_deed))]
-fn lock_deed(word: Word, place: Option<u32>, values: &[Value]) -> Option<Deed>
+fn lock_deed(word: Word, place: u32, values: &[Value]) -> Deed
     ensures { result ≡ lock_deed word place values.now }
 {
-    statements!(family (locks (word place values)))
+    statements!(family (locks (word place values segment_deed(word, place, values))))
 }
 
-#[tactic(auto, unfolding(crate::specs::Deeds::segment_deed))]
-fn segment_deed(word: Word, place: Option<u32>, values: &[Value]) -> Option<Deed>
-    ensures { result ≡ segment_deed word place values.now }
+#[tactic(auto, unfolding(crate::specs::Deeds::queue_deed))]
+fn queue_deed(word: Word, place: u32, values: &[Value]) -> Deed
+    ensures { result ≡ queue_deed word place values.now }
 {
-    statements!(family (segments (word place values)))
+    statements!(family (queues (word place values lock_deed(word, place, values))))
 }
 
 /// The deed of a statement, of the place of the name that it uses and the values of its options.
 #[tactic(auto, unfolding(crate::specs::Deeds::deed_with))]
-pub fn deed_with(word: Word, place: Option<u32>, values: &[Value]) -> Option<Deed>
+pub fn deed_with(word: Word, place: u32, values: &[Value]) -> Deed
     ensures { result ≡ deed_with word place values.now }
 {
-    if let Some(deed) = task_deed(word, place, values) {
-        return Some(deed);
-    }
-    if let Some(deed) = queue_deed(word, place, values) {
-        return Some(deed);
-    }
-    if let Some(deed) = lock_deed(word, place, values) {
-        return Some(deed);
-    }
-    segment_deed(word, place, values)
+    statements!(family (tasks (word place values queue_deed(word, place, values))))
 }
 
 #[tactic(auto, unfolding(crate::specs::Changes::with_setting))]
@@ -98,31 +179,29 @@ fn with_setting(settings: NodeAttr, number: u32, value: u32) -> NodeAttr
     settings
 }
 
+/// The settings with these attributes set, by their numbers from 1 on.
+#[rattlefmt::skip]
+fn settings_of(a: u32, b: u32, c: u32, d: u32, e: u32, f: u32, g: u32, h: u32) -> NodeAttr
+    ensures { result ≡ with_setting 8 h (with_setting 7 g (with_setting 6 f (with_setting 5 e (with_setting 4 d (with_setting 3 c (with_setting 2 b (with_setting 1 a usual_settings))))))) }
+{
+    let settings = with_setting(NodeAttr::new(), 1, a);
+    let settings = with_setting(settings, 2, b);
+    let settings = with_setting(settings, 3, c);
+    let settings = with_setting(settings, 4, d);
+    let settings = with_setting(settings, 5, e);
+    let settings = with_setting(settings, 6, f);
+    let settings = with_setting(settings, 7, g);
+    with_setting(settings, 8, h)
+}
+
 /// The settings that the values of a `node` line give.
+#[rattlefmt::skip]
 #[tactic(auto, unfolding(crate::specs::Changes::settings_by))]
-pub fn settings_with(values: &[Value]) -> Option<NodeAttr>
+pub fn settings_with(values: &[Value]) -> NodeAttr
     ensures { result ≡ settings_by values.now }
 {
     match values {
-        [
-            Value::Number(a),
-            Value::Number(b),
-            Value::Number(c),
-            Value::Number(d),
-            Value::Number(e),
-            Value::Number(f),
-            Value::Number(g),
-            Value::Number(h),
-        ] => {
-            let settings = with_setting(NodeAttr::new(), 1, *a);
-            let settings = with_setting(settings, 2, *b);
-            let settings = with_setting(settings, 3, *c);
-            let settings = with_setting(settings, 4, *d);
-            let settings = with_setting(settings, 5, *e);
-            let settings = with_setting(settings, 6, *f);
-            let settings = with_setting(settings, 7, *g);
-            Some(with_setting(settings, 8, *h))
-        }
-        _ => None,
+        [a, b, c, d, e, f, g, h] => settings_of(number_in(a), number_in(b), number_in(c), number_in(d), number_in(e), number_in(f), number_in(g), number_in(h)),
+        _ => NodeAttr::new(),
     }
 }

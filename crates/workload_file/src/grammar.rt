@@ -1,153 +1,168 @@
-//! The grammar: what a line says, or its first fault.
-ghost use Rattle.std.specs.Prelude.{◌≡◌, ◌<◌, ◌≤◌, length, Bool, Ok, Err, Some, None, List, IfOk, IfSome, OnOk, IsSome};
-ghost use Rattle.std.specs.List.{list_any, list_all};
-ghost use Rattle.workload_file.specs.Texts.{texts, result_map};
-ghost use Rattle.std.specs.Option.{option_map};
-ghost use Rattle.workload_file.specs.Reading.{refuse, heading, statement_of, words_give, is_printable, line_gives, is_comment};
-ghost use Rattle.workload_file.specs.Changes.{bound_name, change_with};
-ghost use Rattle.workload_file.specs.Indexed.{IsReader, seen, check_keys, settled};
+//! What a line says, or the first cause that it meets.
+ghost use Rattle.std.specs.Prelude.{◌≡◌, ◌<◌, ◌∷◌, ◌&&◌, not, false, IfOk, OnOk, IsSome};
+ghost use Rattle.std.specs.List.{list_any, list_all, find};
+ghost use Rattle.workload_file.specs.Texts.{texts};
+ghost use Rattle.workload_file.specs.Values.{is_name};
+ghost use Rattle.workload_file.specs.Table.{naming, fields};
+ghost use Rattle.workload_file.specs.Names.{has_second, name_in, options_in, place_used, is_unbound};
+ghost use Rattle.workload_file.specs.Changes.{is_bad, is_missing, names_nothing, values_in, bound_name, change_with, change_of};
+ghost use Rattle.workload_file.specs.Faulty.{is_printable, is_comment, is_faulty, statement_causes, word_causes, words_meet};
+ghost use Rattle.workload_file.specs.Reading.{unless, words_say, line_gives};
+ghost use Rattle.workload_file.specs.Indexed.{IsReader};
 
 use crate::cut::words_of;
 use crate::deeds::{deed_with, settings_with};
 use crate::faults::Cause;
-use crate::found::{Found, values_in};
-use crate::name::Name;
-use crate::names::{is_misplaced, is_ninth_caller, is_taken, split_name, use_in};
-use crate::options::{all_known, has_twice, lacks};
+use crate::given::values_in;
+use crate::name::{Name, is_name};
+use crate::names::{
+    has_second, is_misplaced, is_ninth_caller, is_taken, name_in, options_in, place_used,
+};
+use crate::options::{all_known, has_twice};
 use crate::reading::{Change, Reader};
-use crate::table::{Field, Naming, Word};
-use crate::text::text_of_name;
+use crate::table::{Naming, Word};
 use crate::values::Value;
 use crate::workload::Statement;
 use std::alloc::{AllocError, Global};
 
-fn refuse(faulty: bool, cause: Cause) -> Result<(), Cause>
-    ensures { result ≡ refuse faulty cause }
+/// The causes of a statement, in their order.
+#[rattlefmt::skip]
+const CAUSES: [Cause; 10] = [
+    Cause::TooManyStatements, Cause::TooManyCallers, Cause::Misplaced, Cause::BadName, Cause::UnknownOption, Cause::OptionTwice,
+    Cause::BadValue, Cause::OptionMissing, Cause::NameTaken, Cause::NameUnknown,
+];
+
+fn any_bad(values: &[Value]) -> bool
+    ensures { result ≡ list_any is_bad values.now }
 {
-    if faulty { Err(cause) } else { Ok(()) }
+    values.iter().any(|v| matches!(v, Value::Bad))
 }
 
-/// The word of a statement.
-#[tactic(auto, unfolding(crate::specs::Reading::heading))]
-fn heading<'a, 'b>(
-    r: &Reader,
-    first: &[u8],
-    rest: &'b [&'a [u8]],
-) -> Result<(Word, Option<Name>, &'b [&'a [u8]]), Cause>
-    ensures value { result_map (λ x. (x.0, x.1, texts x.2.now)) result ≡ heading r.now.said first.now (texts rest.now) }
-    ensures few { OnOk result (r.now.said.count < 20000) }
+fn any_missing(values: &[Value]) -> bool
+    ensures { result ≡ list_any is_missing values.now }
 {
-    let word = Word::from_text(first).ok_or(Cause::UnknownWord)?;
-    refuse(20_000 <= r.said.count, Cause::TooManyStatements)?;
-    refuse(is_ninth_caller(r, word), Cause::TooManyCallers)?;
-    refuse(is_misplaced(r, word), Cause::Misplaced)?;
-    match split_name(word.naming(), rest) {
-        Some((name, options)) => Ok((word, name, options)),
-        None => Err(Cause::BadName),
+    values.iter().any(|v| matches!(v, Value::Missing))
+}
+
+fn any_unbound(values: &[Value]) -> bool
+    ensures { result ≡ list_any names_nothing values.now }
+{
+    values.iter().any(|v| matches!(v, Value::Unbound))
+}
+
+fn is_unbound(naming: Naming, place: Option<u32>) -> bool
+    ensures { result ≡ is_unbound naming place }
+{
+    matches!(naming, Naming::Uses(_)) && place.is_none()
+}
+
+/// Whether a statement has this fault.
+#[tactic(auto, unfolding(crate::specs::Faulty::is_faulty))]
+fn is_faulty(
+    r: &Reader,
+    word: Word,
+    name: &[u8],
+    options: &[&[u8]],
+    place: Option<u32>,
+    values: &[Value],
+    cause: Cause,
+) -> bool
+    requires reader { IsReader r.now }
+    requires place { place ≡ place_used r.now.said.current.statements (naming word) name.now }
+    requires values { values.now ≡ values_in r.now.said.current.statements (texts options.now) (fields word) }
+    ensures { result ≡ is_faulty r.now.said word name.now (texts options.now) cause }
+{
+    match cause {
+        Cause::TooManyStatements => 20_000 <= r.said.count,
+        Cause::TooManyCallers => is_ninth_caller(r, word),
+        Cause::Misplaced => is_misplaced(r, word),
+        Cause::BadName => has_second(word.naming()) && !is_name(name),
+        Cause::UnknownOption => !all_known(word.fields(), options),
+        Cause::OptionTwice => has_twice(options),
+        Cause::BadValue => any_bad(values),
+        Cause::OptionMissing => any_missing(values),
+        Cause::NameTaken => is_taken(r, word.naming(), name),
+        Cause::NameUnknown => is_unbound(word.naming(), place) || any_unbound(values),
+        Cause::LineTooLong | Cause::BadByte | Cause::UnknownWord => false,
     }
 }
 
-/// Whether the options are of the statement, and none stands twice.
-fn check_keys(fields: &[Field], options: &[&[u8]]) -> Result<(), Cause>
-    ensures { result ≡ check_keys fields.now (texts options.now) }
+/// The first of these causes that a statement meets.
+fn first_of(
+    causes: &[Cause],
+    r: &Reader,
+    word: Word,
+    name: &[u8],
+    options: &[&[u8]],
+    place: Option<u32>,
+    values: &[Value],
+) -> Option<Cause>
+    requires reader { IsReader r.now }
+    requires place { place ≡ place_used r.now.said.current.statements (naming word) name.now }
+    requires values { values.now ≡ values_in r.now.said.current.statements (texts options.now) (fields word) }
+    ensures { result ≡ find (is_faulty r.now.said word name.now (texts options.now)) causes.now }
 {
-    refuse(!all_known(fields, options), Cause::UnknownOption)?;
-    refuse(has_twice(options), Cause::OptionTwice)
+    match causes {
+        [] => None,
+        [cause, rest @ ..] => {
+            if is_faulty(r, word, name, options, place, values, *cause) {
+                return Some(*cause);
+            }
+            first_of(rest, r, word, name, options, place, values)
+        }
+    }
 }
 
-fn bound_name(naming: Naming, name: Option<Name>) -> Option<Name>
-    ensures { result ≡ bound_name naming name }
+fn bound_name(naming: Naming, name: &[u8]) -> Option<Name>
+    requires { (has_second naming && not (is_name name.now)) ≡ false }
+    ensures { result ≡ bound_name naming name.now }
 {
     match naming {
-        Naming::Binds(_) => name,
+        Naming::Binds(_) => Name::new(name),
         Naming::Bare | Naming::Caller | Naming::Uses(_) => None,
     }
 }
 
-fn all_of(found: &Found) -> Option<&[Value]>
-    ensures { option_map (λ v. v.now) result ≡ seen found.now }
-{
-    if found.complete {
-        Some(&found.values)
-    } else {
-        None
-    }
-}
-
-/// What a statement adds, where the names that it uses are bound.
-#[tactic(auto, unfolding(crate::specs::Changes::change_with))]
-fn change_with(
-    r: &Reader,
-    line: u64,
-    word: Word,
-    name: Option<Name>,
-    found: &Found,
-) -> Option<Change>
-    requires { IsReader r.now }
-    ensures { result ≡ change_with r.now.said.current.statements line word name (seen found.now) }
+/// What a statement without a fault adds.
+#[tactic(auto, unfolding(crate::specs::Changes::change_with, crate::specs::Table::row))]
+fn change_with(line: u64, word: Word, name: &[u8], place: Option<u32>, values: &[Value]) -> Change
+    requires { (has_second (naming word) && not (is_name name.now)) ≡ false }
+    ensures { result ≡ change_with line word name.now place values.now }
 {
     match word {
-        Word::Node => Some(Change::Node(settings_with(all_of(found)?)?)),
-        Word::Caller => match name {
-            Some(name) => Some(Change::Caller(name)),
-            None => None,
-        },
-        _ => {
-            let place = use_in(r, word.naming(), &name)?;
-            let deed = deed_with(word, place, all_of(found)?)?;
-            let name = bound_name(word.naming(), name);
-            Some(Change::Statement(Statement { line, name, deed }))
-        }
+        Word::Node => Change::Node(settings_with(values)),
+        Word::Caller => Change::Caller(Name::new(name).unwrap()),
+        _ => Change::Statement(Statement {
+            line,
+            name: bound_name(word.naming(), name),
+            deed: deed_with(word, place.unwrap_or(0), values),
+        }),
     }
 }
 
-/// What a statement adds, of the values of its options, or its first cause from the values on.
-fn settled(
-    r: &Reader,
-    line: u64,
-    word: Word,
-    name: Option<Name>,
-    options: &[&[u8]],
-    found: &Found,
-) -> Result<Change, Cause>
-    requires { IsReader r.now }
-    ensures { result ≡ settled r.now.said line word name (texts options.now) found.now.bad (seen found.now) }
-{
-    refuse(found.bad, Cause::BadValue)?;
-    refuse(lacks(word.fields(), options), Cause::OptionMissing)?;
-    refuse(
-        is_taken(r, word.naming(), text_of_name(&name)),
-        Cause::NameTaken,
-    )?;
-    change_with(r, line, word, name, found).ok_or(Cause::NameUnknown)
-}
-
-/// What a statement adds, or its first cause.
-#[tactic(auto, unfolding(crate::specs::Reading::statement_of))]
-fn statement_of(
+/// What a statement adds, or the first cause that it meets.
+fn statement_gives(
     alloc: Global,
     r: &Reader,
     line: u64,
-    first: &[u8],
+    word: Word,
     rest: &[&[u8]],
 ) -> Result<Result<Change, Cause>, AllocError>
     requires { IsReader r.now }
-    ensures value { IfOk result (λ found. found ≡ statement_of r.now.said line first.now (texts rest.now)) }
+    ensures value { let name = name_in (naming word) (texts rest.now) in let options = options_in (naming word) (texts rest.now) in IfOk result (λ found. found ≡ unless (find (is_faulty r.now.said word name options) statement_causes) (change_of r.now.said line word name options)) }
     ensures few { IfOk result (λ found. OnOk found (r.now.said.count < 20000)) }
 {
-    let (word, name, options) = match heading(r, first, rest) {
-        Ok(head) => head,
-        Err(cause) => return Ok(Err(cause)),
-    };
-    match check_keys(word.fields(), options) {
-        Ok(()) => {
-            let found = values_in(alloc, r, options, word.fields())?;
-            Ok(settled(r, line, word, name, options, &found))
-        }
-        Err(cause) => Ok(Err(cause)),
+    let name = name_in(word.naming(), rest);
+    let options = options_in(word.naming(), rest);
+    let place = place_used(r, word.naming(), name);
+    let values = values_in(alloc, r, options, word.fields())?;
+    match first_of(&CAUSES, r, word, name, options, place, &values) {
+        Some(cause) => Ok(Err(cause)),
+        None => Ok(Ok(change_with(line, word, name, place, &values))),
     }
 }
 
+/// What words say, or the first cause that they meet.
 fn words_give(
     alloc: Global,
     r: &Reader,
@@ -155,7 +170,7 @@ fn words_give(
     words: &[&[u8]],
 ) -> Result<Result<Option<Change>, Cause>, AllocError>
     requires { IsReader r.now }
-    ensures value { IfOk result (λ found. found ≡ words_give r.now.said line (texts words.now)) }
+    ensures value { IfOk result (λ found. found ≡ unless (find (words_meet r.now.said (texts words.now)) word_causes) (words_say r.now.said line (texts words.now))) }
     ensures few { IfOk result (λ found. IfOk found (λ c. IsSome c → r.now.said.count < 20000)) }
 {
     match words {
@@ -164,9 +179,12 @@ fn words_give(
             if is_comment(first) {
                 return Ok(Ok(None));
             }
-            match statement_of(alloc, r, line, first, rest)? {
-                Ok(change) => Ok(Ok(Some(change))),
-                Err(cause) => Ok(Err(cause)),
+            match Word::from_text(first) {
+                Some(word) => match statement_gives(alloc, r, line, word, rest)? {
+                    Ok(change) => Ok(Ok(Some(change))),
+                    Err(cause) => Ok(Err(cause)),
+                },
+                None => Ok(Err(Cause::UnknownWord)),
             }
         }
     }
@@ -187,7 +205,7 @@ fn all_printable(text: &[u8]) -> bool
     text.iter().all(|b| 32 <= *b && *b <= 126)
 }
 
-/// What a line says, or its first cause.
+/// What a line says, or the first cause that it meets.
 #[tactic(auto, unfolding(crate::specs::Reading::line_gives))]
 pub fn line_gives(
     alloc: Global,

@@ -1,10 +1,10 @@
 //! Laws of the workload text.
 ghost use Rattle.std.specs.Prelude.{◌≡◌, ◌≤◌, ◌++◌, ◌∷◌, [], List, ℕ, Ok, Err, length, replicate};
 ghost use Rattle.workload_file.specs.declared.workload.Workload.{Workload};
-ghost use Rattle.workload_file.specs.Reading.{workload_of, line_gives, line_adds};
+ghost use Rattle.workload_file.specs.Reading.{workload_of, line_gives, line_adds, refused_for, IsFirstFault};
 ghost use Rattle.workload_file.specs.Alike.{IsPlain, IsSwapped, IsWrittenOut, AddsAlike, DifferAt, AddsNothing, IsInserted, GivesStill};
 ghost use Rattle.workload_file.specs.declared.reading.Reading.{Reading};
-ghost use Rattle.workload_file.specs.Faulty.{first_met, refused_for, IsFirstFault};
+ghost use Rattle.workload_file.specs.Faulty.{first_met};
 ghost use Rattle.workload_file.specs.declared.faults.Fault.{Fault};
 ghost use Rattle.workload_file.specs.Formed.{WellFormed};
 ghost use Rattle.workload_file.specs.Written.{canonical};
@@ -29,9 +29,10 @@ pub fn law_again()
     ensures short { (bytes : List ℕ) (load : Workload) → workload_of bytes ≡ Ok load → length (canonical load) ≤ length bytes }
 {}
 
-/// A line is refused for the first of the causes that it meets, and for none exactly where it meets none; and a text at its first such line.
+/// A line is refused for the first of the causes that it meets, and for none exactly where it meets none. A text is refused exactly where it has such a line, at the first one.
 pub fn law_causes()
     ensures text { (bytes : List ℕ) (fault : Fault) → workload_of bytes ≡ Err fault → IsFirstFault bytes fault }
+    ensures refused { (bytes : List ℕ) (fault : Fault) → IsFirstFault bytes fault → workload_of bytes ≡ Err fault }
     ensures line { (r : Reading) (line : ℕ) (text : List ℕ) → refused_for (line_gives r line text) ≡ first_met r text }
 {}
 

@@ -5,7 +5,7 @@ mod changes;
 mod cut;
 mod deeds;
 mod faults;
-mod found;
+mod given;
 mod grammar;
 mod index;
 mod laws;

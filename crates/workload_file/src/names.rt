@@ -1,15 +1,12 @@
 //! The names of a part, and what they are bound to.
 ghost use Rattle.std.specs.Prelude.{◌≡◌, ◌<◌, ◌≤◌, Bool, Some, None, IfSome, slice_get};
-ghost use Rattle.std.specs.Option.{option_map};
 ghost use Rattle.std.specs.List.{list_any};
 ghost use Rattle.std.specs.Str.{bytes_eq};
 ghost use Rattle.workload_file.specs.Texts.{texts};
-ghost use Rattle.workload_file.specs.Changes.{use_in};
 ghost use Rattle.workload_file.specs.Deeds.{binds, is_begin};
-ghost use Rattle.workload_file.specs.Names.{is_binding, place_of, split_name, is_taken, is_misplaced, is_ninth_caller};
+ghost use Rattle.workload_file.specs.Names.{is_binding, place_of, place_used, has_second, name_in, options_in, is_taken, is_misplaced, is_ninth_caller};
 ghost use Rattle.workload_file.specs.Indexed.{IsReader};
 
-use crate::name::Name;
 use crate::reading::Reader;
 use crate::table::{Naming, Sort, Word};
 use crate::workload::{Deed, Part, Statement};
@@ -53,23 +50,30 @@ pub fn place_of(r: &Reader, sort: Sort, name: &[u8]) -> Option<u32>
     }
 }
 
-/// The name, where there has to be one, and the words behind it.
-#[tactic(auto, unfolding(crate::specs::Names::split_name))]
-pub fn split_name<'a, 'b>(
-    naming: Naming,
-    words: &'b [&'a [u8]],
-) -> Option<(Option<Name>, &'b [&'a [u8]])>
-    ensures { option_map (λ x. (x.0, texts x.1.now)) result ≡ split_name naming (texts words.now) }
+/// Whether a statement has a name.
+pub fn has_second(naming: Naming) -> bool
+    ensures { result ≡ has_second naming }
 {
-    match naming {
-        Naming::Bare => Some((None, words)),
-        _ => match words {
-            [] => None,
-            [word, rest @ ..] => match Name::new(word) {
-                Some(name) => Some((Some(name), rest)),
-                None => None,
-            },
-        },
+    !matches!(naming, Naming::Bare)
+}
+
+/// The name, of the words behind the first: the next word, where there has to be one.
+pub fn name_in<'a>(naming: Naming, rest: &[&'a [u8]]) -> &'a [u8]
+    ensures { result.now ≡ name_in naming (texts rest.now) }
+{
+    match rest {
+        [name, ..] if has_second(naming) => name,
+        _ => &[],
+    }
+}
+
+/// The options: the words behind the name.
+pub fn options_in<'a, 'b>(naming: Naming, rest: &'b [&'a [u8]]) -> &'b [&'a [u8]]
+    ensures { texts result.now ≡ options_in naming (texts rest.now) }
+{
+    match rest {
+        [_, options @ ..] if has_second(naming) => options,
+        _ => rest,
     }
 }
 
@@ -101,21 +105,14 @@ pub fn is_taken(r: &Reader, naming: Naming, name: &[u8]) -> bool
     }
 }
 
-/// The place of the statement that bound the name that is used, where one has to be used.
-#[tactic(auto, unfolding(crate::specs::Changes::use_in))]
-pub fn use_in(r: &Reader, naming: Naming, name: &Option<Name>) -> Option<Option<u32>>
+/// The place of the statement that bound the name that is used, where one is used and bound.
+pub fn place_used(r: &Reader, naming: Naming, name: &[u8]) -> Option<u32>
     requires { IsReader r.now }
-    ensures { result ≡ use_in r.now.said.current.statements naming name.now }
+    ensures { result ≡ place_used r.now.said.current.statements naming name.now }
 {
     match naming {
-        Naming::Uses(sort) => match name {
-            Some(name) => match place_of(r, sort, name.as_slice()) {
-                Some(place) => Some(Some(place)),
-                None => None,
-            },
-            None => None,
-        },
-        Naming::Bare | Naming::Caller | Naming::Binds(_) => Some(None),
+        Naming::Uses(sort) => place_of(r, sort, name),
+        _ => None,
     }
 }
 

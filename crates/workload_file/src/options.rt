@@ -3,10 +3,10 @@ ghost use Rattle.std.specs.Prelude.{◌≡◌, ◌==◌, Bool};
 ghost use Rattle.std.specs.Option.{option_copied};
 ghost use Rattle.std.specs.List.{list_any, list_all};
 ghost use Rattle.workload_file.specs.Texts.{texts};
-ghost use Rattle.workload_file.specs.Options.{key_of, value_of, is_known, opens, has_twice, gives, is_refused, is_missing, text_of};
+ghost use Rattle.workload_file.specs.Options.{key_of, value_of, is_known, opens, has_twice, text_of};
 ghost use Rattle.std.specs.Str.{bytes_eq};
 
-use crate::table::{Absent, Field, Key};
+use crate::table::{Field, Key};
 use number_text::cut_at;
 
 fn key_of(word: &[u8]) -> &[u8]
@@ -89,25 +89,6 @@ pub fn has_twice(words: &[&[u8]]) -> bool
         [] => false,
         [word, rest @ ..] => gives_key(rest, key_of(word)) || has_twice(rest),
     }
-}
-
-fn is_refused(absent: Absent) -> bool
-    ensures { result ≡ is_refused absent }
-{
-    matches!(absent, Absent::Refused)
-}
-
-fn is_missing(words: &[&[u8]], field: Field) -> bool
-    ensures { result ≡ is_missing (texts words.now) field }
-{
-    is_refused(field.absent) && !gives_key(words, field.key.text())
-}
-
-/// Whether an option is missing that has to be there.
-pub fn lacks(fields: &[Field], words: &[&[u8]]) -> bool
-    ensures { result ≡ list_any (is_missing (texts words.now)) fields.now }
-{
-    fields.iter().any(|f| is_missing(words, *f))
 }
 
 /// The text of an option, where it is given.

@@ -64,7 +64,7 @@ fn push_value(
         Value::Mode(false) => out.extend_from_slice(b"reader"),
         Value::Timeout(timeout) => push_timeout(alloc, out, *timeout),
         Value::Place(Some(place)) => out.extend_from_slice(name_at(before, *place)),
-        Value::Place(None) => Ok(()),
+        Value::Place(None) | Value::Bad | Value::Missing | Value::Unbound => Ok(()),
     }
 }
 
@@ -76,8 +76,7 @@ fn is_usual(value: &Value) -> bool
         Value::Cores(mask) => mask.0 == u64::MAX,
         Value::Flag(b) => !*b,
         Value::Place(place) => place.is_none(),
-        Value::Number(_) | Value::Whole(_) | Value::Kind(_) | Value::Mode(_) | Value::Timeout(_) =>
-            false,
+        _ => false,
     }
 }
 

@@ -7,18 +7,13 @@ use crate::workload::Deed;
 use mtapi_values::{Args, Kind, Mask, NodeAttr, Timeout};
 use std::alloc::{AllocError, Global};
 
-/// The value of an option. A place is that of the statement that bound the name, where one is given.
+/// What an option gives: a value, or that its text is none of its option's, that it has to be there and isn't, or that its name
+/// isn't bound to such a thing. A place is that of the statement that bound the name, where one is given.
+#[rattlefmt::skip]
 #[derive(Drop)]
 pub enum Value {
-    Number(u32),
-    Whole(i64),
-    Args(Args),
-    Cores(Mask),
-    Kind(Kind),
-    Flag(bool),
-    Mode(bool),
-    Timeout(Timeout),
-    Place(Option<u32>),
+    Number(u32), Whole(i64), Args(Args), Cores(Mask), Kind(Kind), Flag(bool), Mode(bool), Timeout(Timeout), Place(Option<u32>),
+    Bad, Missing, Unbound,
 }
 
 // A word, a place, and the values of the options.

@@ -1,5 +1,5 @@
 use Rattle.std.proofs.Common.{length}
-use Rattle.workload_file.proofs.found.+add_values.Given as goal
+use Rattle.workload_file.proofs.given.+add_values.Given as goal
 
 abbrev pub decreases-add_values : goal.decreases-add_values
 decreases-add_values l = length l.fields.now

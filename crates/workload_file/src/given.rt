@@ -1,0 +1,118 @@
+//! What the options of a statement give.
+ghost use Rattle.std.specs.Prelude.{◌≡◌, ◌++◌, IfOk, OnOk, if◌then◌else◌};
+ghost use Rattle.std.specs.Option.{option_copied};
+ghost use Rattle.workload_file.specs.Texts.{texts};
+ghost use Rattle.workload_file.specs.declared.values.Value.TheVariants as given;
+ghost use Rattle.workload_file.specs.Values.{is_name};
+ghost use Rattle.workload_file.specs.Names.{place_of};
+ghost use Rattle.workload_file.specs.Changes.{or_unbound, value_given, value_absent, value_at, values_in};
+ghost use Rattle.workload_file.specs.Indexed.{IsReader};
+
+use crate::name::is_name;
+use crate::names::place_of;
+use crate::numbers::{cores_of, flag_of, mode_of, number_within, timeout_of};
+use crate::options::text_of;
+use crate::reading::Reader;
+use crate::table::{Absent, Field, Shape, Sort};
+use crate::values::Value;
+use mtapi_values::{Args, Mask};
+use number_text::{kind_of, list_of, whole};
+use std::alloc::{AllocError, Global};
+
+/// The place at which a name was bound to such a thing.
+fn named(r: &Reader, sort: Sort, text: &[u8]) -> Value
+    requires { IsReader r.now }
+    ensures { result ≡ (if is_name text.now then or_unbound (place_of sort text.now r.now.said.current.statements) else given.Bad) }
+{
+    if !is_name(text) {
+        return Value::Bad;
+    }
+    match place_of(r, sort, text) {
+        Some(place) => Value::Place(Some(place)),
+        None => Value::Unbound,
+    }
+}
+
+/// What a text gives, by the shape of its option.
+#[tactic(auto, unfolding(crate::specs::Changes::value_given))]
+fn value_given(r: &Reader, shape: Shape, text: &[u8]) -> Value
+    requires { IsReader r.now }
+    ensures { result ≡ value_given r.now.said.current.statements shape text.now }
+{
+    match shape {
+        Shape::Number(low, high) => {
+            number_within(low, high, text).map_or(Value::Bad, Value::Number)
+        }
+        Shape::Whole => whole(text).map_or(Value::Bad, Value::Whole),
+        Shape::Args => list_of(text).map_or(Value::Bad, Value::Args),
+        Shape::Cores => cores_of(text).map_or(Value::Bad, Value::Cores),
+        Shape::Kind => kind_of(text).map_or(Value::Bad, Value::Kind),
+        Shape::Flag => flag_of(text).map_or(Value::Bad, Value::Flag),
+        Shape::Mode => mode_of(text).map_or(Value::Bad, Value::Mode),
+        Shape::Timeout => timeout_of(text).map_or(Value::Bad, Value::Timeout),
+        Shape::Named(sort) => named(r, sort, text),
+    }
+}
+
+/// What an absent option gives.
+#[tactic(auto, unfolding(crate::specs::Changes::value_absent))]
+fn value_absent(absent: Absent, shape: Shape) -> Value
+    ensures { result ≡ value_absent absent shape }
+{
+    match absent {
+        Absent::Refused => Value::Missing,
+        Absent::Number(n) => Value::Number(n),
+        Absent::Usual => match shape {
+            Shape::Args => Value::Args(Args::new()),
+            Shape::Cores => Value::Cores(Mask(u64::MAX)),
+            Shape::Flag => Value::Flag(false),
+            Shape::Named(_) => Value::Place(None),
+            Shape::Number(_, _) | Shape::Whole | Shape::Kind | Shape::Mode | Shape::Timeout =>
+                Value::Missing,
+        },
+    }
+}
+
+fn value_at(r: &Reader, field: Field, text: Option<&[u8]>) -> Value
+    requires { IsReader r.now }
+    ensures { result ≡ value_at r.now.said.current.statements field (option_copied text.entry) }
+{
+    match text {
+        Some(text) => value_given(r, field.shape, text),
+        None => value_absent(field.absent, field.shape),
+    }
+}
+
+fn add_values(
+    values: &mut Vec<Value>,
+    r: &Reader,
+    options: &[&[u8]],
+    fields: &[Field],
+) -> Result<(), AllocError>
+    requires { IsReader r.now }
+    ensures { OnOk result (values.new.items ≡ values.old.items ++ values_in r.now.said.current.statements (texts options.now) fields.now) }
+{
+    match fields {
+        [] => Ok(()),
+        [field, rest @ ..] => {
+            values.push(value_at(r, *field, text_of(field.key, options)))?;
+            add_values(values, r, options, rest)
+        }
+    }
+}
+
+/// What these options give, in the order of the table. Each text is read once.
+pub fn values_in(
+    alloc: Global,
+    r: &Reader,
+    options: &[&[u8]],
+    fields: &[Field],
+) -> Result<Vec<Value>, AllocError>
+    requires { IsReader r.now }
+    ensures { IfOk result (λ values. values.items ≡ values_in r.now.said.current.statements (texts options.now) fields.now) }
+{
+    // Each option gives one value, so that the list never moves.
+    let mut values = Vec::with_capacity(alloc, fields.len())?;
+    add_values(&mut values, r, options, fields)?;
+    Ok(values)
+}
