@@ -11,7 +11,7 @@ use Rattle.run_picture.specs.Rows.{bars_from, ticks_from, bars_left, running_by,
 use Rattle.run_picture.specs.Locks.{first_of, rest_of, mutex_lanes_from, spans_from, spans_left}
 use Rattle.run_picture.specs.Waits.{queue_lanes_from, levels_from}
 use Rattle.run_picture.specs.Turns.{turns_from, shares_from}
-use Rattle.run_picture.specs.Pictures.{IsPicture, IsNoted, LeadsTo, Begins, locks_in}
+use Rattle.run_picture.specs.Pictures.{IsPicture, IsNoted, LeadsTo, Begins}
 
 grown : {A : Type 0} (c d b more later all : List A) → d ≡ c ++ b → later ≡ more → c ++ (b ++ more) ≡ all → d ++ later ≡ all
 grown c d b more later all p q h = ap (λ z. z ++ later) p ∙ ap (λ z. (c ++ b) ++ z) q ∙ append_assoc c b more ∙ h

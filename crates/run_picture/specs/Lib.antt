@@ -3,3 +3,8 @@ pub mod Locks
 pub mod Waits
 pub mod Turns
 pub mod Pictures
+pub mod Sheet
+pub mod Strokes
+pub mod Elements
+pub mod Drawing
+pub mod Page

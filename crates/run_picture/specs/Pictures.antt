@@ -1,14 +1,8 @@
 -- The picture of a journal.
-use Rattle.std.specs.Prelude.{◌≡◌, ℕ, ◌+◌, ◌++◌, List, [], ◌∷◌, Option, None, length, replicate, nat_eq, slice_set}
+use Rattle.std.specs.Prelude.{◌≡◌, ℕ, ◌++◌, List, [], ◌∷◌, Option, None, length, replicate, nat_eq, slice_set}
 use Rattle.std.specs.List.{slice_index_or}
 use Rattle.std.specs.HashMap.{get}
 use Rattle.mtapi_machine.specs.Legal.{NodeEntry}
-use Rattle.run_picture.specs.declared.shapes.Bar.{Bar}
-use Rattle.run_picture.specs.declared.shapes.Tick.{Tick}
-use Rattle.run_picture.specs.declared.shapes.Span.{Span}
-use Rattle.run_picture.specs.declared.shapes.MutexLane.{MutexLane}
-use Rattle.run_picture.specs.declared.shapes.QueueLane.{QueueLane}
-use Rattle.run_picture.specs.declared.shapes.Level.{Level}
 use Rattle.run_picture.specs.declared.shapes.Running.{Running}
 use Rattle.run_picture.specs.declared.pictures.Picture.{Picture}
 use Rattle.run_picture.specs.declared.pictures.Course.{Course}

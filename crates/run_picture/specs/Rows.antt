@@ -1,7 +1,6 @@
 -- The bars and ticks of a picture: what the rows of workers and callers show.
 use Rattle.std.specs.Prelude.{ℕ, ◌+◌, List, [], ◌∷◌, ◌++◌, Option, Some, None, slice_set}
 use Rattle.std.specs.List.{slice_index_or}
-use Rattle.mtapi_values.specs.declared.kinds.Kind.{Kind}
 use Rattle.mtapi_values.specs.declared.ends.TaskEnd.{TaskEnd}
 use Rattle.mtapi_values.specs.declared.ends.TaskEnd.TheVariants as ended
 use Rattle.action_fn.specs.declared.finished.ActEnd.{ActEnd}

@@ -1,377 +1,355 @@
-//! The SVG of a picture: the rows and lanes.
-ghost use Rattle.std.specs.Prelude.{◌≤◌};
+//! The bars and ticks in the rows of a picture.
+ghost use Rattle.std.specs.Prelude.{◌≡◌, ◌≤◌, ◌++◌, OnOk, IfOk, flat_map, string_bytes};
+ghost use Rattle.run_picture.specs.Sheet.{column, drawn};
+ghost use Rattle.run_picture.specs.Drawing.{end_place, bar_stroke, told_task, told_turns, bar_width, room, bar_name, bar_text, bar_strokes, bar_mark, bar_path, bars_text, tick_stroke, tick_strokes, quarter_top, tick_top, tick_height, thickness, tick_mark, tick_path, ticks_text};
 
-use crate::pictures::Picture;
-use crate::shapes::{Bar, BarEnd, Level, MutexLane, QueueLane, Span, TickSort};
-use crate::sheet::{
-    LEFT, Reached, Sheet, WIDTH, column, is_detailed, lane_top, not_drawn, row_top,
+use crate::elements::{
+    end_word, is_end, is_sort, object_name, push_across, push_box, push_down, push_path,
+    push_words, seat_name, sort_word, turn_at,
 };
+use crate::pictures::Picture;
+use crate::shapes::{Bar, BarEnd, Tick, TickSort};
+use crate::sheet::{Sheet, column, is_detailed, next_column, row_top};
+use crate::strokes::{Stroke, drawn};
 use std::alloc::{AllocError, Global};
 
-/// The word for an end.
-pub fn end_word(end: BarEnd) -> &'static str {
-    match end {
-        BarEnd::Completed => "completed",
-        BarEnd::Cancelled => "cancelled",
-        BarEnd::Failed => "error",
-        BarEnd::Open => "open",
-    }
-}
-
-/// The number of an end, by which ends are compared.
-pub fn end_number(end: BarEnd) -> u32 {
-    match end {
-        BarEnd::Completed => 0,
-        BarEnd::Cancelled => 1,
-        BarEnd::Failed => 2,
-        BarEnd::Open => 3,
-    }
-}
-
-/// The word for a tick.
-pub fn sort_word(sort: TickSort) -> &'static str {
-    match sort {
-        TickSort::Start => "start",
-        TickSort::Enqueue => "enqueue",
-        TickSort::Give => "give",
-        TickSort::Refusal => "refusal",
-    }
-}
-
-/// The number of a sort, by which ticks are compared.
-pub fn sort_number(sort: TickSort) -> u64
-    ensures { result ≤ 3 }
+/// The column at which a bar ends.
+fn end_column(sheet: Sheet, bar: &Bar) -> u64
+    ensures value { result ≡ column sheet (end_place bar.now.end bar.now.to) }
+    ensures within { result ≤ 1310 }
 {
-    match sort {
-        TickSort::Start => 0,
-        TickSort::Enqueue => 1,
-        TickSort::Give => 2,
-        TickSort::Refusal => 3,
+    match bar.end {
+        BarEnd::Open => column(sheet, u128::from(bar.to as u64)),
+        _ => next_column(sheet, bar.to),
     }
 }
 
-/// The columns of a bar: from that in which its pick begins to that in which its end ends.
-fn bar_columns(sheet: Sheet, bar: &Bar) -> (u64, u64)
-    ensures from { result.0 ≤ 1200 }
-    ensures to { result.1 ≤ 1201 }
+/// A bar as a stroke, of one pixel at least.
+#[tactic(auto, unfolding(crate::specs::Drawing::bar_stroke))]
+fn bar_stroke(sheet: Sheet, bar: &Bar) -> Stroke
+    ensures value { result ≡ bar_stroke sheet bar.now }
+    ensures from { result.from ≤ 1310 }
 {
-    let from = column(sheet, bar.from);
-    let to = match bar.end {
-        BarEnd::Open => column(sheet, bar.to),
-        _ => column(sheet, bar.to.saturating_add(1)),
-    };
-    (from, to.max(from + 1))
-}
-
-/// The name of a seat.
-pub fn seat_name(alloc: Global, workers: u32, seat: u32) -> Result<String, AllocError> {
-    if seat < workers {
-        format!(in alloc; "w{seat}")
-    } else {
-        let caller = seat - workers;
-        format!(in alloc; "c{caller}")
+    let from = column(sheet, u128::from(bar.from as u64));
+    Stroke {
+        row: bar.row,
+        owner: bar.row,
+        from,
+        to: end_column(sheet, bar).max(from + 1),
     }
 }
 
-/// The name of an object: the letter of its kind, the generation and the slot of its handle.
-pub fn object_name(alloc: Global, letter: &str, handle: u64) -> Result<String, AllocError> {
-    let generation = handle >> 32;
-    let slot = handle & 0xff_ffff;
-    format!(in alloc; "{letter}{generation}.{slot}")
-}
-
-/// A bar with its names.
-fn push_bar(
+#[tactic(auto, unfolding(crate::specs::Drawing::told_task))]
+fn push_told_task(
     alloc: Global,
     out: &mut String,
-    sheet: Sheet,
-    picture: &Picture,
-    bar: &Bar,
-) -> Result<(), AllocError> {
-    let (from, to) = bar_columns(sheet, bar);
-    let x = LEFT + from;
-    let y = row_top(bar.row) + 4;
-    let width = to.saturating_sub(from).saturating_sub(1).max(1);
-    let word = end_word(bar.end);
-    let task = object_name(alloc, "t", bar.task)?;
-    let kind = bar.kind.word();
-    let worker = seat_name(alloc, sheet.workers, bar.row)?;
-    let first = turn_at(picture, bar.from);
-    let last = turn_at(picture, bar.to);
-    out.push_str(&format!(in alloc;
-        "<g><title>{task} {kind} {word}: {worker}, turns {first} to {last}</title>"
-    )?)?;
-    out.push_str(&format!(in alloc;
-        "<rect class=\"{word}\" x=\"{x}\" y=\"{y}\" width=\"{width}\" height=\"18\" rx=\"2\"/>"
-    )?)?;
-    push_bar_name(alloc, out, x, y, width, task.as_str(), kind)?;
-    out.push_str("</g>\n")
+    task: &str,
+    kind: &str,
+    word: &str,
+) -> Result<(), AllocError>
+    ensures { OnOk result (string_bytes out.new ≡ string_bytes out.old ++ told_task task.now kind.now word.now) }
+{
+    out.push_str(&format!(in alloc; "<g><title>{task} {kind} {word}: ")?)
 }
 
-/// The number of the turn of an entry, or that of the last one.
-pub fn turn_at(picture: &Picture, place: usize) -> u64 {
-    match picture.turns.get(place) {
-        Some(turn) => *turn,
-        None => match picture.turns.last() {
-            Some(turn) => *turn,
-            None => 0,
-        },
-    }
+#[tactic(auto, unfolding(crate::specs::Drawing::told_turns))]
+fn push_told_turns(
+    alloc: Global,
+    out: &mut String,
+    worker: &str,
+    first: u64,
+    last: u64,
+) -> Result<(), AllocError>
+    ensures { OnOk result (string_bytes out.new ≡ string_bytes out.old ++ told_turns worker.now first last) }
+{
+    out.push_str(&format!(in alloc; "{worker}, turns {first} to {last}</title>")?)
 }
 
-/// As much of the names of a bar as there is room for.
+/// How wide a bar is drawn for itself.
+fn bar_width(stroke: Stroke) -> u64
+    ensures { result ≡ bar_width stroke }
+{
+    stroke
+        .to
+        .saturating_sub(stroke.from)
+        .saturating_sub(1)
+        .max(1)
+}
+
+/// The room that a word takes.
+fn room(word: &str) -> u128
+    ensures value { result ≡ room word.now }
+    ensures within { result ≤ 147573952589676412928 }
+{
+    u128::from(word.len() as u64) * 6 + 6
+}
+
+/// The words for which a bar has room.
+#[tactic(auto, unfolding(crate::specs::Drawing::bar_name))]
 fn push_bar_name(
     alloc: Global,
     out: &mut String,
-    x: u64,
-    y: u64,
-    width: u64,
+    stroke: Stroke,
     task: &str,
     kind: &str,
 ) -> Result<(), AllocError>
-    requires x { x ≤ 4294967296 }
-    requires y { y ≤ 1099511627780 }
+    requires { stroke.from ≤ 1310 }
+    ensures { OnOk result (string_bytes out.new ≡ string_bytes out.old ++ bar_name stroke task.now kind.now) }
 {
-    let x = x + 4;
-    let y = y + 13;
-    let short = (task.len() as u64).saturating_mul(6).saturating_add(6);
-    let long = (kind.len() as u64)
-        .saturating_mul(6)
-        .saturating_add(6)
-        .saturating_add(short);
-    if long <= width {
-        out.push_str(&format!(in alloc;
-            "<text class=\"name\" x=\"{x}\" y=\"{y}\">{task} {kind}</text>"
-        )?)
-    } else if short <= width {
-        out.push_str(&format!(in alloc; "<text class=\"name\" x=\"{x}\" y=\"{y}\">{task}</text>")?)
+    let width = u128::from(bar_width(stroke));
+    let x = stroke.from + 4;
+    let y = row_top(stroke.row) + 17;
+    if room(kind) + room(task) <= width {
+        let both = format!(in alloc; "{task} {kind}")?;
+        push_words(alloc, out, " class=\"name\"", x, y, both.as_str())
+    } else if room(task) <= width {
+        push_words(alloc, out, " class=\"name\"", x, y, task)
     } else {
         Ok(())
     }
 }
 
-/// Nothing of any row is drawn.
-fn none_drawn(alloc: Global) -> Result<Reached, AllocError> {
-    Ok(Reached {
-        columns: vec![in alloc; 0u64; 32]?,
-    })
+/// A bar that is drawn for itself.
+#[tactic(auto, unfolding(crate::specs::Drawing::bar_text))]
+fn push_bar(
+    alloc: Global,
+    out: &mut String,
+    sheet: Sheet,
+    turns: &[u64],
+    bar: &Bar,
+) -> Result<(), AllocError>
+    ensures { OnOk result (string_bytes out.new ≡ string_bytes out.old ++ bar_text sheet turns.now bar.now) }
+{
+    let stroke = bar_stroke(sheet, bar);
+    let task = object_name(alloc, "t", bar.task)?;
+    let worker = seat_name(alloc, sheet.workers, bar.row)?;
+    let (kind, word) = (bar.kind.word(), end_word(bar.end));
+    let (first, last) = (turn_at(turns, bar.from), turn_at(turns, bar.to));
+    let (y, width) = (row_top(bar.row) + 4, bar_width(stroke));
+    push_told_task(alloc, out, task.as_str(), kind, word)?;
+    push_told_turns(alloc, out, worker.as_str(), first, last)?;
+    push_box(alloc, out, word, stroke.from, y, width, 18, " rx=\"2\"/>")?;
+    push_bar_name(alloc, out, stroke, task.as_str(), kind)?;
+    out.push_str("</g>\n")
+}
+
+/// Adds the stroke of a bar, if it ends so.
+fn push_bar_stroke(
+    strokes: &mut Vec<Stroke>,
+    sheet: Sheet,
+    end: BarEnd,
+    bar: &Bar,
+) -> Result<(), AllocError>
+    ensures { OnOk result (strokes.new.items ≡ strokes.old.items ++ bar_strokes sheet end bar.now) }
+{
+    if is_end(bar.end, end) {
+        strokes.push(bar_stroke(sheet, bar))?;
+    }
+    Ok(())
+}
+
+fn bar_strokes(
+    alloc: Global,
+    sheet: Sheet,
+    end: BarEnd,
+    bars: &[Bar],
+) -> Result<Vec<Stroke>, AllocError>
+    ensures { IfOk result (λ strokes. strokes.items ≡ flat_map (bar_strokes sheet end) bars.now) }
+{
+    let mut strokes = Vec::new(alloc);
+    for bar in bars {
+        push_bar_stroke(&mut strokes, sheet, end, bar)?;
+    }
+    Ok(strokes)
+}
+
+fn push_bar_marks(alloc: Global, out: &mut String, parts: &[Stroke]) -> Result<(), AllocError>
+    ensures { OnOk result (string_bytes out.new ≡ string_bytes out.old ++ flat_map bar_mark parts.now) }
+{
+    for part in parts {
+        let y = row_top(part.row) + 13;
+        push_across(alloc, out, part.from, y, part.to.saturating_sub(part.from))?;
+    }
+    Ok(())
 }
 
 /// The bars of one end, as one path.
+#[tactic(auto, unfolding(crate::specs::Drawing::bar_path))]
 fn push_bar_path(
     alloc: Global,
     out: &mut String,
     sheet: Sheet,
     bars: &[Bar],
     end: BarEnd,
-) -> Result<(), AllocError> {
-    let word = end_word(end);
-    out.push_str(&format!(in alloc; "<path class=\"{word} line\" d=\"")?)?;
-    let mut reached = none_drawn(alloc)?;
-    for bar in bars {
-        if end_number(bar.end) == end_number(end) {
-            let (from, to) = bar_columns(sheet, bar);
-            if let Some((begin, width)) = not_drawn(&mut reached, bar.row, from, to) {
-                push_stroke(alloc, out, begin, row_top(bar.row) + 13, width)?;
-            }
-        }
-    }
+) -> Result<(), AllocError>
+    ensures { OnOk result (string_bytes out.new ≡ string_bytes out.old ++ bar_path sheet bars.now end) }
+{
+    push_path(alloc, out, end_word(end), " line")?;
+    let strokes = bar_strokes(alloc, sheet, end, bars)?;
+    let parts = drawn(alloc, &strokes)?;
+    push_bar_marks(alloc, out, &parts)?;
     out.push_str("\"/>\n")
 }
 
-/// A horizontal stroke of a path, from this column on.
-fn push_stroke(
+fn push_each_bar(
     alloc: Global,
     out: &mut String,
-    begin: u64,
-    y: u64,
-    width: u64,
-) -> Result<(), AllocError> {
-    let x = begin.saturating_add(LEFT);
-    out.push_str(&format!(in alloc; "M{x} {y}h{width}")?)
+    sheet: Sheet,
+    turns: &[u64],
+    bars: &[Bar],
+) -> Result<(), AllocError>
+    ensures { OnOk result (string_bytes out.new ≡ string_bytes out.old ++ flat_map (bar_text sheet turns.now) bars.now) }
+{
+    for bar in bars {
+        push_bar(alloc, out, sheet, turns, bar)?;
+    }
+    Ok(())
 }
 
 /// All bars: each for itself, or those of each end together.
+#[tactic(auto, unfolding(crate::specs::Drawing::bars_text))]
 pub fn push_bars(
     alloc: Global,
     out: &mut String,
     sheet: Sheet,
     picture: &Picture,
-) -> Result<(), AllocError> {
+) -> Result<(), AllocError>
+    ensures { OnOk result (string_bytes out.new ≡ string_bytes out.old ++ bars_text sheet picture.now) }
+{
+    let bars = picture.bars.as_slice();
     if is_detailed(sheet) {
-        for bar in picture.bars.iter() {
-            push_bar(alloc, out, sheet, picture, bar)?;
-        }
-        return Ok(());
+        push_each_bar(alloc, out, sheet, picture.turns.as_slice(), bars)
+    } else {
+        push_bar_path(alloc, out, sheet, bars, BarEnd::Completed)?;
+        push_bar_path(alloc, out, sheet, bars, BarEnd::Open)?;
+        push_bar_path(alloc, out, sheet, bars, BarEnd::Cancelled)?;
+        push_bar_path(alloc, out, sheet, bars, BarEnd::Failed)
     }
-    push_bar_path(alloc, out, sheet, &picture.bars, BarEnd::Completed)?;
-    push_bar_path(alloc, out, sheet, &picture.bars, BarEnd::Open)?;
-    push_bar_path(alloc, out, sheet, &picture.bars, BarEnd::Cancelled)?;
-    push_bar_path(alloc, out, sheet, &picture.bars, BarEnd::Failed)
 }
 
-/// The ticks of one sort, as one path: of the whole height of a row, or of the quarter that is the sort's.
+/// A tick as a stroke.
+#[tactic(auto, unfolding(crate::specs::Drawing::tick_stroke))]
+fn tick_stroke(sheet: Sheet, tick: &Tick) -> Stroke
+    ensures { result ≡ tick_stroke sheet tick.now }
+{
+    let from = column(sheet, u128::from(tick.at as u64));
+    let middle = from + next_column(sheet, tick.at).saturating_sub(from) / 2;
+    Stroke {
+        row: tick.row,
+        owner: tick.row,
+        from: middle,
+        to: middle + 1,
+    }
+}
+
+/// Adds the stroke of a tick, if it is of this sort.
+fn push_tick_stroke(
+    strokes: &mut Vec<Stroke>,
+    sheet: Sheet,
+    sort: TickSort,
+    tick: &Tick,
+) -> Result<(), AllocError>
+    ensures { OnOk result (strokes.new.items ≡ strokes.old.items ++ tick_strokes sheet sort tick.now) }
+{
+    if is_sort(tick.sort, sort) {
+        strokes.push(tick_stroke(sheet, tick))?;
+    }
+    Ok(())
+}
+
+fn tick_strokes(
+    alloc: Global,
+    sheet: Sheet,
+    sort: TickSort,
+    ticks: &[Tick],
+) -> Result<Vec<Stroke>, AllocError>
+    ensures { IfOk result (λ strokes. strokes.items ≡ flat_map (tick_strokes sheet sort) ticks.now) }
+{
+    let mut strokes = Vec::new(alloc);
+    for tick in ticks {
+        push_tick_stroke(&mut strokes, sheet, sort, tick)?;
+    }
+    Ok(strokes)
+}
+
+/// Where a tick stands in its row.
+fn tick_top(sheet: Sheet, sort: TickSort) -> u64
+    ensures value { result ≡ tick_top sheet sort }
+    ensures within { result ≤ 19 }
+{
+    if is_detailed(sheet) {
+        return 2;
+    }
+    match sort {
+        TickSort::Start => 1,
+        TickSort::Enqueue => 7,
+        TickSort::Give => 13,
+        TickSort::Refusal => 19,
+    }
+}
+
+fn tick_height(sheet: Sheet) -> u64
+    ensures { result ≡ tick_height sheet }
+{
+    if is_detailed(sheet) { 22 } else { 6 }
+}
+
+fn thickness(sheet: Sheet) -> &'static str
+    ensures { result.now ≡ thickness sheet }
+{
+    if is_detailed(sheet) {
+        " thick"
+    } else {
+        " thin"
+    }
+}
+
+fn push_tick_marks(
+    alloc: Global,
+    out: &mut String,
+    sheet: Sheet,
+    sort: TickSort,
+    parts: &[Stroke],
+) -> Result<(), AllocError>
+    ensures { OnOk result (string_bytes out.new ≡ string_bytes out.old ++ flat_map (tick_mark sheet sort) parts.now) }
+{
+    for part in parts {
+        let y = row_top(part.row) + tick_top(sheet, sort);
+        push_down(alloc, out, part.from, y, tick_height(sheet))?;
+    }
+    Ok(())
+}
+
+/// The ticks of one sort, as one path.
+#[tactic(auto, unfolding(crate::specs::Drawing::tick_path))]
+fn push_tick_path(
+    alloc: Global,
+    out: &mut String,
+    sheet: Sheet,
+    ticks: &[Tick],
+    sort: TickSort,
+) -> Result<(), AllocError>
+    ensures { OnOk result (string_bytes out.new ≡ string_bytes out.old ++ tick_path sheet ticks.now sort) }
+{
+    push_path(alloc, out, sort_word(sort), thickness(sheet))?;
+    let strokes = tick_strokes(alloc, sheet, sort, ticks)?;
+    let parts = drawn(alloc, &strokes)?;
+    push_tick_marks(alloc, out, sheet, sort, &parts)?;
+    out.push_str("\"/>\n")
+}
+
+/// The ticks of all sorts.
+#[tactic(auto, unfolding(crate::specs::Drawing::ticks_text))]
 pub fn push_ticks(
     alloc: Global,
     out: &mut String,
     sheet: Sheet,
-    picture: &Picture,
-    sort: TickSort,
-) -> Result<(), AllocError> {
-    let word = sort_word(sort);
-    let detailed = is_detailed(sheet);
-    let height = if detailed { 22 } else { 6 };
-    let shift = if detailed {
-        2
-    } else {
-        sort_number(sort) * 6 + 1
-    };
-    let thick = if detailed { "thick" } else { "thin" };
-    out.push_str(&format!(in alloc; "<path class=\"{word} {thick}\" d=\"")?)?;
-    let mut reached = none_drawn(alloc)?;
-    for tick in picture.ticks.iter() {
-        if sort_number(tick.sort) == sort_number(sort) {
-            let from = column(sheet, tick.at);
-            let middle = from + (column(sheet, tick.at.saturating_add(1)).saturating_sub(from)) / 2;
-            if let Some((begin, _)) = not_drawn(
-                &mut reached,
-                tick.row,
-                middle,
-                middle.min(1_200) + 1,
-            ) {
-                let x = begin.saturating_add(LEFT);
-                let y = row_top(tick.row) + shift;
-                out.push_str(&format!(in alloc; "M{x} {y}v{height}")?)?;
-            }
-        }
-    }
-    out.push_str("\"/>\n")
-}
-
-/// How high a count stands in a lane where the greatest is so high as the lane.
-fn height_of(count: u64, longest: u64) -> u64
-    ensures { result ≤ 20 }
-{
-    let exact = u128::from(count) * 20 / u128::from(longest.max(1));
-    if exact < 20 { exact as u64 } else { 20 }
-}
-
-/// The lane of a queue: how many tasks waited in it. In a column the greatest count is drawn, and the last one.
-pub fn push_queue(
-    alloc: Global,
-    out: &mut String,
-    sheet: Sheet,
-    levels: &[Level],
-    lane: &QueueLane,
-) -> Result<(), AllocError> {
-    let base = lane_top(sheet, u64::from(lane.lane)) + 23;
-    out.push_str(&format!(in alloc; "<path class=\"queue\" d=\"M{LEFT} {base}")?)?;
-    let mut drawn = 0;
-    let mut high = 0;
-    let mut last = 0;
-    for level in levels {
-        if level.lane == lane.lane {
-            let now = column(sheet, level.at);
-            if drawn < now {
-                push_level(
-                    alloc,
-                    out,
-                    drawn,
-                    base.saturating_sub(high),
-                    base.saturating_sub(last),
-                )?;
-                drawn = now;
-                high = last;
-            }
-            last = height_of(level.count, lane.longest);
-            high = high.max(last);
-        }
-    }
-    push_level(
-        alloc,
-        out,
-        drawn,
-        base.saturating_sub(high),
-        base.saturating_sub(last),
-    )?;
-    let end = LEFT + WIDTH;
-    out.push_str(&format!(in alloc; "H{end}V{base}Z\"/>\n")?)
-}
-
-/// A step of the line of a queue.
-fn push_level(
-    alloc: Global,
-    out: &mut String,
-    begin: u64,
-    high: u64,
-    last: u64,
-) -> Result<(), AllocError> {
-    let x = begin.saturating_add(LEFT);
-    if high == last {
-        out.push_str(&format!(in alloc; "H{x}V{last}")?)
-    } else {
-        out.push_str(&format!(in alloc; "H{x}V{high}V{last}")?)
-    }
-}
-
-/// A span of the lane of a mutex, in the colour of its owner.
-fn push_span(
-    alloc: Global,
-    out: &mut String,
-    sheet: Sheet,
-    owner: u32,
-    begin: u64,
-    width: u64,
-    y: u64,
+    ticks: &[Tick],
 ) -> Result<(), AllocError>
-    requires { y ≤ 4398046511104 }
+    ensures { OnOk result (string_bytes out.new ≡ string_bytes out.old ++ ticks_text sheet ticks.now) }
 {
-    let colour = owner % 8;
-    let x = begin.saturating_add(LEFT);
-    out.push_str(&format!(in alloc;
-        "<path class=\"owner{colour} line\" d=\"M{x} {y}h{width}\"/>\n"
-    )?)?;
-    if 24 <= width {
-        let name = seat_name(alloc, sheet.workers, owner)?;
-        let x = x.saturating_add(4);
-        let y = y + 4;
-        out.push_str(&format!(in alloc;
-            "<text class=\"name\" x=\"{x}\" y=\"{y}\">{name}</text>\n"
-        )?)?;
-    }
-    Ok(())
-}
-
-/// The lanes of mutexes: who owned each.
-pub fn push_spans(
-    alloc: Global,
-    out: &mut String,
-    sheet: Sheet,
-    spans: &[Span],
-) -> Result<(), AllocError> {
-    let mut reached = none_drawn(alloc)?;
-    for span in spans {
-        let from = column(sheet, span.from);
-        let to = column(sheet, span.to.saturating_add(1)).max(from + 1);
-        if let Some((begin, width)) = not_drawn(&mut reached, span.lane, from, to) {
-            let lane = sheet.queues.saturating_add(u64::from(span.lane));
-            let y = lane_top(sheet, lane) + 13;
-            push_span(alloc, out, sheet, span.owner, begin, width, y)?;
-        }
-    }
-    Ok(())
-}
-
-/// The name of the lane of a mutex.
-pub fn mutex_name(alloc: Global, lane: &MutexLane) -> Result<String, AllocError> {
-    let name = object_name(alloc, "m", lane.mutex)?;
-    let id = lane.id;
-    format!(in alloc; "mutex {id} {name}")
-}
-
-/// The name of the lane of a queue.
-pub fn queue_name(alloc: Global, lane: &QueueLane) -> Result<String, AllocError> {
-    let name = object_name(alloc, "q", lane.queue)?;
-    let id = lane.id;
-    format!(in alloc; "queue {id} {name}")
+    push_tick_path(alloc, out, sheet, ticks, TickSort::Start)?;
+    push_tick_path(alloc, out, sheet, ticks, TickSort::Enqueue)?;
+    push_tick_path(alloc, out, sheet, ticks, TickSort::Give)?;
+    push_tick_path(alloc, out, sheet, ticks, TickSort::Refusal)
 }

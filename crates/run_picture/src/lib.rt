@@ -2,6 +2,9 @@
 #![tactic(auto)]
 
 mod drawing;
+mod elements;
+mod grounds;
+mod lanes;
 mod locks;
 mod lookups;
 mod page;
@@ -9,6 +12,8 @@ mod pictures;
 mod rows;
 mod shapes;
 mod sheet;
+mod strokes;
+mod table;
 mod waits;
 
 pub use page::svg_of;

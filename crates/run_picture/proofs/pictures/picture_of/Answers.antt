@@ -1,4 +1,4 @@
-use Rattle.std.proofs.Common.{◌≡◌, ◌≤◌, ◌<◌, ℕ, ◌+◌, ◌^◌, [], ◌++◌, length, arith, refl, ap, ◌∙◌}
+use Rattle.std.proofs.Common.{◌≡◌, [], ◌++◌, length, arith, refl, ap, ◌∙◌}
 use Rattle.run_picture.specs.Rows.{bars_left}
 use Rattle.run_picture.specs.Locks.{spans_left}
 use Rattle.run_picture.specs.Pictures.{LeadsTo}
