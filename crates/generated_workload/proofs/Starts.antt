@@ -18,7 +18,7 @@ use Rattle.workload_file.specs.declared.workload.Statement.{Statement}
 use Rattle.workload_file.specs.Table.{row, fields, key_text, word_of, naming}
 use Rattle.workload_file.specs.Values.{is_name, timeout_of}
 use Rattle.workload_file.specs.Options.{has_twice, text_of}
-use Rattle.workload_file.specs.Names.{place_of, bound_at, is_called, is_taken, is_misplaced, is_ninth_caller, place_used}
+use Rattle.workload_file.specs.Names.{place_of, bound_at, is_called, is_taken, is_misplaced, is_ninth_caller, use_in}
 use Rattle.workload_file.specs.Deeds.{deed_with, binds, number_in, args_in, cores_in, flag_in, place_in, timeout_in}
 use Rattle.workload_file.specs.Changes.{values_in, value_given, value_absent, change_of, change_with}
 use Rattle.workload_file.specs.Written.{line_text}
@@ -95,7 +95,7 @@ start_made line name job args place = refl
 
 start_change : (r : Reading) (line : ℕ) (name : List ℕ) (job : ℕ) (args : List ℤ) → values_in r.current.statements (options job args) (fields word.Start) ≡ values job args → change_of r line word.Start name (options job args) ≡ change.Statement (binding line name (start job args))
 start_change r line name job args e =
-    let place = place_used r.current.statements (naming word.Start) name in
+    let place = use_in r.current.statements (naming word.Start) name in
     ap (λ (vs : List Value). change_with line word.Start name place vs) e ∙ start_made line name job args place
 
 start_adds : (n w i : ℕ) (name : List ℕ) (job : ℕ) (args : List ℤ) → i < 19000 → Fit name job args → bound_at name (first_statements ++ tasks i) ≡ None → list_all is_word (start_words name job args) ≡ true → total (start_words name job args) ≤ 513 → line_adds (state n w (first_statements ++ tasks i) (i + 4)) (i + 5) (line_text (start_words name job args)) ≡ Ok (with_change (state n w (first_statements ++ tasks i) (i + 4)) (i + 5) (Some (change.Statement (binding (i + 5) name (start job args)))))
@@ -170,7 +170,7 @@ last_values : (before : List Statement) → values_in before waits (fields word.
 unfolding row key_text text_of value_given timeout_of
 last_values before = refl
 
-last_used : (before : List Statement) → place_of sort.Group (codes "g") before ≡ Some 2 → place_used before (naming word.WaitAll) (codes "g") ≡ Some 2
+last_used : (before : List Statement) → place_of sort.Group (codes "g") before ≡ Some 2 → use_in before (naming word.WaitAll) (codes "g") ≡ Some 2
 unfolding row
 last_used before e = e
 

@@ -1,16 +1,18 @@
 -- The fields of a statement, the kinds of statements, and what each kind says.
-use Rattle.std.proofs.Common.{◌≡◌, ℕ, List, [], ◌∷◌, Bool, true, false, Some, None, refl, subst, ◌&&◌, ◌||◌, not}
-use Rattle.std.specs.Prelude.{nat_le}
-use Rattle.std.specs.List.{AllByRecursion, find, list_any, list_all}
+use Rattle.std.proofs.Common.{◌≡◌, List, [], ◌∷◌, Bool, true, Some, refl, ℕ, false, None, subst, ◌&&◌, ◌||◌, not, ℤ, Option, ◌++◌, eqb}
+use Rattle.std.specs.List.{AllByRecursion, find, list_all, list_any}
 use Rattle.std.specs.Str.{bytes_eq}
 use Rattle.std.proofs.lemmas.Bool.{and_parts, or_parts, not-true}
 use Rattle.workload_file.specs.declared.table.Word.{Word}
 use Rattle.workload_file.specs.declared.table.Word.TheVariants as word
+use Rattle.workload_file.specs.declared.table.Field.{Field}
+use Rattle.workload_file.specs.Table.{row, word_text, words, word_of, naming, fields, key_text}
+use Rattle.workload_file.proofs.Finds.{find_all}
+use Rattle.std.specs.Prelude.{nat_le}
 use Rattle.workload_file.specs.declared.table.Shape.{Shape}
 use Rattle.workload_file.specs.declared.table.Shape.TheVariants as shape
 use Rattle.workload_file.specs.declared.table.Absent.{Absent}
 use Rattle.workload_file.specs.declared.table.Absent.TheVariants as absent
-use Rattle.workload_file.specs.declared.table.Field.{Field}
 use Rattle.workload_file.specs.declared.values.Value.{Value}
 use Rattle.workload_file.specs.declared.values.Value.TheVariants as given
 use Rattle.workload_file.specs.declared.workload.Deed.{Deed}
@@ -18,13 +20,42 @@ use Rattle.workload_file.specs.declared.workload.Statement.{Statement}
 use Rattle.workload_file.specs.declared.reading.Reading.{Reading}
 use Rattle.workload_file.specs.declared.reading.Change.{Change}
 use Rattle.workload_file.specs.declared.reading.Change.TheVariants as change
-use Rattle.workload_file.specs.Table.{row, words, naming, fields, key_text}
-use Rattle.workload_file.specs.Names.{place_used}
-use Rattle.workload_file.specs.Deeds.{deed_with}
+use Rattle.workload_file.specs.Names.{use_in}
+use Rattle.workload_file.specs.Deeds.{deed_with, deed_spelled, queue_deed, lock_deed, segment_deed, setting_values, number_in, whole_in, args_in, cores_in, kind_in, flag_in, mode_in, timeout_in, place_in, place_there}
 use Rattle.workload_file.specs.Changes.{values_in, or_zero, bound_name, settings_by, change_with, change_of}
 use Rattle.workload_file.proofs.Facts.{here}
 use Rattle.workload_file.proofs.Places.{bytes_same, apart_sym}
-use Rattle.workload_file.proofs.Rows.{each_word, each_field}
+use Rattle.mtapi_values.specs.declared.kinds.Kind.{Kind}
+use Rattle.mtapi_values.specs.declared.timeouts.Timeout.{Timeout}
+use Rattle.mtapi_values.specs.declared.lists.Args.{Args}
+use Rattle.mtapi_values.specs.declared.masks.Mask.{Mask}
+use Rattle.mtapi_values.specs.Attributes.{NodeSettings}
+use Rattle.workload_file.specs.declared.table.Key.{Key}
+use Rattle.workload_file.specs.declared.table.Key.TheVariants as key
+use Rattle.workload_file.specs.declared.table.Naming.{Naming}
+use Rattle.workload_file.specs.declared.table.Naming.TheVariants as rule
+use Rattle.workload_file.specs.Options.{key_of, value_of}
+use Rattle.workload_file.proofs.Phrases.{is_inner}
+
+-- ==== what holds of each row of the table, tested row by row
+
+pub word_found : (w : Word) → word_of (word_text w) ≡ Some w
+unfolding word_of row
+word_found word.Node = refl
+word_found _ = refl
+
+first_word : (w : Word) → find (λ x. bytes_eq (word_text x) (word_text w)) words ≡ Some w
+unfolding word_of
+first_word w = word_found w
+
+pub each_word : (q : Word → Bool) → list_all q words ≡ true → (w : Word) → q w ≡ true
+each_word q h w = find_all (λ x. bytes_eq (word_text x) (word_text w)) q words w (first_word w) h
+
+pub each_field : (q : Field → Bool) (fs : List Field) → list_all q fs ≡ true → AllByRecursion (λ f. q f ≡ true) fs
+each_field q [] h = tt
+each_field q (f ∷ fs) h = let both = and_parts (q f) (list_all q fs) h in (both.0, each_field q fs both.1)
+
+-- ==== the fields of a statement, the kinds of statements, and what each kind says
 
 -- a statement that is a deed
 abbrev pub is_deed : Word → Bool
@@ -40,7 +71,7 @@ made line w name d = record { line = line; name = bound_name (naming w) name; de
 
 -- the deed that is said
 abbrev pub deed_said : Reading → Word → List ℕ → List (List ℕ) → Deed
-deed_said r w name options = deed_with w (or_zero (place_used (here r) (naming w) name)) (values_in (here r) options (fields w))
+deed_said r w name options = deed_with w (or_zero (use_in (here r) (naming w) name)) (values_in (here r) options (fields w))
 
 -- what a statement that was read says, by its kind
 pub data Says (r : Reading) (line : ℕ) (w : Word) (name : List ℕ) (options : List (List ℕ)) (c : Change) : Type 0 where
@@ -153,3 +184,118 @@ abbrev pub are_filled : List Field → List Value → Bool
 are_filled [] [] = true
 are_filled (f ∷ fs) (v ∷ vs) = is_filled f v && are_filled fs vs
 are_filled _ _ = false
+
+-- ==== what values hold that fill the fields of a statement: one case for each shape, in place of one for each field of each statement
+
+-- what a value of this shape holds; of a name that has to be there it is the place
+abbrev pub Held : Shape → Bool → Type 0
+Held (shape.Number low high) must = ℕ
+Held shape.Whole must = ℤ
+Held shape.Args must = Args
+Held shape.Cores must = Mask
+Held shape.Kind must = Kind
+Held shape.Flag must = Bool
+Held shape.Mode must = Bool
+Held shape.Timeout must = Timeout
+Held (shape.Named sort) true = ℕ
+Held (shape.Named sort) false = Option ℕ
+
+abbrev pub value_with : (s : Shape) (must : Bool) → Held s must → Value
+value_with (shape.Number low high) must n = given.Number n
+value_with shape.Whole must z = given.Whole z
+value_with shape.Args must zs = given.Args zs
+value_with shape.Cores must mask = given.Cores mask
+value_with shape.Kind must kind = given.Kind kind
+value_with shape.Flag must b = given.Flag b
+value_with shape.Mode must b = given.Mode b
+value_with shape.Timeout must t = given.Timeout t
+value_with (shape.Named sort) true place = given.Place (Some place)
+value_with (shape.Named sort) false place = given.Place place
+
+abbrev IsHeld : Shape → Bool → Value → Type 0
+IsHeld s must v = (x : Held s must) × (v ≡ value_with s must x)
+
+held_in : (s : Shape) (must : Bool) (v : Value) → is_shaped s v ≡ true → (not must || is_there v) ≡ true → IsHeld s must v
+held_in (shape.Number low high) must (given.Number n) is there = (n, refl)
+held_in shape.Whole must (given.Whole z) is there = (z, refl)
+held_in shape.Args must (given.Args zs) is there = (zs, refl)
+held_in shape.Cores must (given.Cores mask) is there = (mask, refl)
+held_in shape.Kind must (given.Kind kind) is there = (kind, refl)
+held_in shape.Flag must (given.Flag b) is there = (b, refl)
+held_in shape.Mode must (given.Mode b) is there = (b, refl)
+held_in shape.Timeout must (given.Timeout t) is there = (t, refl)
+held_in (shape.Named sort) true (given.Place (Some place)) is there = (place, refl)
+held_in (shape.Named sort) true (given.Place None) is there = absurd cc
+held_in (shape.Named sort) false (given.Place place) is there = (place, refl)
+held_in _ _ _ is there = absurd cc
+
+-- ---- all fields
+
+abbrev pub AllHeld : List Field → Type 0
+AllHeld [] = Unit {0}
+AllHeld (f ∷ fs) = Held f.shape (is_refused f.absent) × AllHeld fs
+
+abbrev pub all_with : (fs : List Field) → AllHeld fs → List Value
+all_with [] _ = []
+all_with (f ∷ fs) x = value_with f.shape (is_refused f.absent) x.0 ∷ all_with fs x.1
+
+pub all_held : (fs : List Field) (vs : List Value) → are_filled fs vs ≡ true → (x : AllHeld fs) × (vs ≡ all_with fs x)
+all_held [] [] is = (tt, refl)
+all_held (f ∷ fs) (v ∷ vs) is =
+    let both = and_parts (is_filled f v) (are_filled fs vs) is in
+    let one = and_parts (is_shaped f.shape v) (not (is_refused f.absent) || is_there v) both.0 in
+    let first = held_in f.shape (is_refused f.absent) v one.0 one.1 in
+    let rest = all_held fs vs both.1 in
+    ((first.0, rest.0), λ i. first.1 i ∷ rest.1 i)
+all_held _ _ is = absurd cc
+
+-- ==== what the table says of each word, each key and each deed, read off case by case
+
+-- ---- keys
+
+-- a word `key=value` has this key and this value
+pub record IsOption (word : List ℕ) (k : Key) (text : List ℕ) : Type 0 where
+  pub key : key_of word ≡ key_text k
+  pub value : value_of word ≡ text
+  pub equals : list_any (λ b. eqb b 61) word ≡ true
+
+pub option_is : (k : Key) (text : List ℕ) → IsOption (key_text k ++ 61 ∷ text) k text
+unfolding key_text
+option_is key.Workers text = record { key = refl; value = refl; equals = refl }
+option_is _ text = record { key = refl; value = refl; equals = refl }
+
+pub key_good : (k : Key) → list_all is_inner (key_text k) ≡ true
+unfolding key_text
+key_good key.Workers = refl
+key_good _ = refl
+
+-- ---- deeds
+
+-- the place of a deed: there is one exactly where a name is used
+abbrev pub place_at : Naming → ℕ → Option ℕ
+place_at (rule.Uses sort) place = Some place
+place_at rule.Bare place = None
+place_at rule.Caller place = None
+place_at (rule.Binds sort) place = None
+
+deed_held : (w : Word) (place : ℕ) (x : AllHeld (fields w)) → is_deed w ≡ true → deed_spelled (deed_with w place (all_with (fields w) x)) ≡ record { word = w; place = place_at (naming w) place; values = all_with (fields w) x }
+unfolding row deed_spelled deed_with queue_deed lock_deed segment_deed number_in whole_in args_in cores_in kind_in flag_in mode_in timeout_in place_in place_there
+deed_held word.Node place x h = absurd cc
+deed_held word.Caller place x h = absurd cc
+deed_held _ place x h = refl
+
+-- a deed is spelled by the word, the place and the values of which it was made
+pub deed_is : (w : Word) (place : ℕ) (vs : List Value) → is_deed w ≡ true → are_filled (fields w) vs ≡ true → deed_spelled (deed_with w place vs) ≡ record { word = w; place = place_at (naming w) place; values = vs }
+deed_is w place vs h f = let held = all_held (fields w) vs f in rw held.1 (deed_held w place held.0 h)
+
+-- ---- settings
+
+node_held : (x : AllHeld (fields word.Node)) → (s : NodeSettings) × (setting_values s ≡ all_with (fields word.Node) x)
+unfolding row
+node_held (a, (b, (c, (d, (e, (f, (g, (h, _)))))))) = (record { workers = a; tasks = b; actions = c; groups = d; queues = e; objects = f; priorities = g; generations = h }, refl)
+
+-- there are settings of the values of a node line
+pub node_values : (vs : List Value) → are_filled (fields word.Node) vs ≡ true → (s : NodeSettings) × (setting_values s ≡ vs)
+node_values vs is =
+    let held = all_held (fields word.Node) vs is in
+    rw held.1 (node_held held.0)

@@ -1,31 +1,73 @@
 -- The options that are written of values are options of the statement, and give the values.
-use Rattle.std.proofs.Common.{◌≡◌, ℕ, ◌<◌, List, [], ◌∷◌, ◌++◌, Bool, true, false, eqb, Option, Some, None, refl, sym, ap, subst, inl, inr, append_assoc, arith, length, length-append}
+use Rattle.std.proofs.Common.{◌≡◌, ℕ, ℤ, ◌-◌, ◌^◌, List, [], ◌∷◌, ◌++◌, Bool, true, false, Option, Some, None, refl, sym, ap, ◌<◌, eqb, subst, inl, inr, append_assoc, arith, length, length-append}
+use Rattle.std.specs.List.{AllByRecursion, list_any, find, list_all}
+use Rattle.std.specs.Str.{bytes_eq}
+use Rattle.std.proofs.lemmas.Bool.{or_parts, eqb-true, and_from, and_parts, or_from, cases_Bool, lt-ltb}
+use Rattle.workload_file.specs.declared.table.Key.{Key}
+use Rattle.workload_file.specs.declared.table.Field.{Field}
+use Rattle.workload_file.specs.declared.values.Value.TheVariants as given
+use Rattle.workload_file.specs.Table.{key_text}
+use Rattle.workload_file.specs.Options.{key_of, value_of, gives, text_of, field_of, is_known, has_twice}
+use Rattle.workload_file.specs.Written.{is_usual, value_text, is_default, options_words}
+use Rattle.workload_file.proofs.Facts.{some, is_sound}
+use Rattle.workload_file.proofs.Finds.{find_skip, find_nothing, find_all}
+use Rattle.workload_file.proofs.Invariant.{any_push}
+use Rattle.workload_file.proofs.Places.{bytes_same, apart_sym}
 use Rattle.std.specs.Prelude.{is_some, nat_lt}
 use Rattle.std.specs.Option.{option_map}
-use Rattle.std.specs.List.{AllByRecursion, find, list_any, list_all}
-use Rattle.std.specs.Str.{bytes_eq}
-use Rattle.std.proofs.lemmas.Bool.{and_from, and_parts, or_parts, or_from, eqb-true, cases_Bool, lt-ltb}
 use Rattle.workload_file.specs.declared.table.Shape.{Shape}
 use Rattle.workload_file.specs.declared.table.Shape.TheVariants as shape
 use Rattle.workload_file.specs.declared.table.Absent.{Absent}
 use Rattle.workload_file.specs.declared.table.Absent.TheVariants as absent
-use Rattle.workload_file.specs.declared.table.Key.{Key}
-use Rattle.workload_file.specs.declared.table.Field.{Field}
 use Rattle.workload_file.specs.declared.values.Value.{Value}
-use Rattle.workload_file.specs.declared.values.Value.TheVariants as given
 use Rattle.workload_file.specs.declared.workload.Statement.{Statement}
-use Rattle.workload_file.specs.Table.{key_text}
-use Rattle.workload_file.specs.Options.{key_of, value_of, field_of, is_known, has_twice, gives, text_of}
 use Rattle.workload_file.specs.Changes.{value_given, value_absent, value_at, values_in}
-use Rattle.workload_file.specs.Written.{value_text, is_default, options_words}
-use Rattle.workload_file.proofs.Facts.{is_sound}
-use Rattle.workload_file.proofs.Fields.{AreApart, IsField, is_good, is_shaped}
-use Rattle.workload_file.proofs.Finds.{find_all}
+use Rattle.workload_file.proofs.Fields.{AreApart, IsField, is_good, is_shaped, option_is, key_good}
 use Rattle.workload_file.proofs.Phrases.{is_inner, is_word, all_append, all_parts}
-use Rattle.workload_file.proofs.Picks.{value_is, absent_is}
-use Rattle.workload_file.proofs.Spelling.{spelled}
-use Rattle.workload_file.proofs.Rereading.{usual_args, usual_flag, usual_place, usual_cores, Free, free_push, text_skip, text_nothing}
-use Rattle.workload_file.proofs.Tables.{option_is, key_good}
+use Rattle.workload_file.proofs.Spelling.{value_is, absent_is, spelled}
+
+-- ==== what options that are left out or written give
+
+pub usual_args : (zs : List ℤ) → is_usual (given.Args zs) ≡ true → given.Args [] ≡ given.Args zs
+usual_args [] h = refl
+usual_args (z ∷ zs) h = absurd cc
+
+pub usual_flag : (b : Bool) → is_usual (given.Flag b) ≡ true → given.Flag false ≡ given.Flag b
+usual_flag true h = absurd cc
+usual_flag false h = refl
+
+pub usual_place : (o : Option ℕ) → is_usual (given.Place o) ≡ true → given.Place None ≡ given.Place o
+usual_place None h = refl
+usual_place (Some i) h = absurd cc
+
+pub usual_cores : (m : ℕ) → is_usual (given.Cores (record { 0 = m })) ≡ true → given.Cores (record { 0 = 2 ^ 64 - 1 }) ≡ given.Cores (record { 0 = m })
+usual_cores m h = ap (λ (x : ℕ). given.Cores (record { 0 = x })) (sym (eqb-true m (2 ^ 64 - 1) h))
+
+abbrev pub Free : List (List ℕ) → List Field → Type 0
+Free ws fs = AllByRecursion (λ f. gives f.key ws ≡ false) fs
+
+pub free_push : (ws : List (List ℕ)) (word : List ℕ) (k : Key) (fs : List Field) → key_of word ≡ key_text k → list_any (λ g. bytes_eq (key_text g.key) (key_text k)) fs ≡ false → Free ws fs → Free (ws ++ word ∷ []) fs
+free_push ws word k [] e h f = tt
+free_push ws word k (g ∷ fs) e h f =
+    let both = or_parts _ _ h in
+    let other : bytes_eq (key_of word) (key_text g.key) ≡ false = rw e (apart_sym (key_text g.key) (key_text k) both.0) in
+    (any_push (λ (w : List ℕ). bytes_eq (key_of w) (key_text g.key)) ws word f.0 other, free_push ws word k fs e both.1 f.1)
+
+pub text_skip : (k : Key) (xs ys : List (List ℕ)) (word text : List ℕ) → gives k xs ≡ false → key_of word ≡ key_text k → value_of word ≡ text → text_of k (xs ++ word ∷ ys) ≡ Some text
+unfolding text_of
+text_skip k xs ys word text h e v =
+    let t : bytes_eq (key_of word) (key_text k) ≡ true = rw e (bytes_same (key_text k)) in
+    rw (find_skip (λ (w : List ℕ). bytes_eq (key_of w) (key_text k)) xs ys word h t) (ap some v)
+
+pub text_nothing : (k : Key) (xs ys : List (List ℕ)) → gives k xs ≡ false → gives k ys ≡ false → text_of k (xs ++ ys) ≡ None
+unfolding text_of
+text_nothing k xs ys h g = rw (find_nothing (λ (w : List ℕ). bytes_eq (key_of w) (key_text k)) xs ys h g) refl
+
+pub free_none : (fs : List Field) → Free [] fs
+free_none [] = tt
+free_none (f ∷ fs) = (refl, free_none fs)
+
+-- ==== the options that are written of values are options of the statement, and give the values
 
 -- ---- each value that is read is left out, or was spelled by a word that was read
 

@@ -1,16 +1,26 @@
 -- Words that are joined are cut into the same words, and a line of fewer words is shorter.
-use Rattle.std.proofs.Common.{◌≡◌, ℕ, ◌+◌, ◌≤◌, List, [], ◌∷◌, ◌++◌, length, Bool, true, false, not, cond, ◌&&◌, eqb, refl, ap, ◌∙◌, arith, inl, inr, length-append, All}
-use Rattle.std.specs.Prelude.{nat_lt, filter}
-use Rattle.std.specs.List.{AllByRecursion, list_all, join_with_byte, onto_first}
-use Rattle.std.proofs.lemmas.Bool.{and_parts, and_from, cases_Bool, eq-eqb, eqb-true, not-true}
+use Rattle.std.proofs.Common.{◌≡◌, ℕ, ◌+◌, ◌≤◌, List, [], ◌∷◌, ◌++◌, length, Bool, true, false, not, cond, ◌&&◌, eqb, refl, ap, ◌∙◌, arith, inl, inr, length-append, All, Result, Ok, sym, ◌-◌, replicate, Err, append_assoc, take, get_or, drop, ◌<◌, ◌⊎◌}
+use Rattle.std.specs.Prelude.{nat_lt, filter, OnOk}
+use Rattle.std.specs.List.{AllByRecursion, list_all, join_with_byte, onto_first, flat_map}
+use Rattle.std.proofs.lemmas.Bool.{and_parts, and_from, cases_Bool, eq-eqb, eqb-true, not-true, ne_eqb}
 use Rattle.std.proofs.lemmas.List.Elements.{All-from_recursion}
 use Rattle.std.proofs.lemmas.List.Splits.{slice_split_at, slice_split_none, length-slice_split, join_with_byte-slice_split}
-use Rattle.number_text.specs.Lists.{between}
+use Rattle.number_text.specs.Lists.{between, led}
 use Rattle.workload_file.specs.Cuts.{words_of}
 use Rattle.workload_file.specs.Faulty.{is_printable}
-use Rattle.workload_file.specs.Written.{line_text}
-use Rattle.number_text.specs.Lists.{led}
-use Rattle.number_text.proofs.Pieces.{joined}
+use Rattle.workload_file.specs.Written.{line_text, Line, if_any, laid_out, statement_lines_behind, statement_text, lines_of_part}
+use Rattle.number_text.proofs.Pieces.{joined, led_append}
+use denote.Ref.{Bor}
+use Rattle.std.proofs.lemmas.List.{map-append, append-nil, take_all, take_more, replicate_more}
+use Rattle.workload_file.specs.Texts.{texts}
+use Rattle.workload_file.specs.declared.reading.Reading.{Reading}
+use Rattle.workload_file.specs.declared.faults.Fault.{Fault}
+use Rattle.workload_file.specs.declared.faults.LineError.{LineError}
+use Rattle.workload_file.specs.declared.faults.LineError.TheVariants as errors
+use Rattle.workload_file.specs.Reading.{line_adds, lines_add, Fails}
+use Rattle.workload_file.specs.declared.workload.Statement.{Statement}
+use Rattle.workload_file.specs.declared.workload.Part.{Part}
+use Rattle.workload_file.specs.Led.{last_line}
 
 -- ---- what words consist of
 
@@ -163,3 +173,121 @@ text_led byte text = between_led byte (between byte text) text (omega (arith, le
 pub words_shorter : (text : List ℕ) → length (led 32 (words_of text)) ≤ length text + 1
 unfolding words_of
 words_shorter text = omega (arith, filter_shorter (λ w. nat_lt 0 (length w)) (between 32 text), text_led 32 text)
+
+-- ==== words that are pushed one by one
+
+pub texts_push : (words : List (Bor (List ℕ))) (w : Bor (List ℕ)) → texts (words ++ w ∷ []) ≡ texts words ++ w.now ∷ []
+texts_push words w = map-append (λ w. w.now) words (w ∷ [])
+
+-- ==== the lines of a text, one after the other, as a loop reads them
+
+pub lines_more : (r s : Reading) (line : ℕ) (text : List ℕ) (texts : List (List ℕ)) (total : Result Reading Fault) → line_adds r line text ≡ Ok s → lines_add r line (text ∷ texts) ≡ total → lines_add s (line + 1) texts ≡ total
+unfolding lines_add
+lines_more r s line text texts total e h = rw e at h
+
+pub lines_end : (e : LineError) (r : Reading) (line : ℕ) (text : List ℕ) (texts : List (List ℕ)) (total : Result Reading Fault) → Fails e (line_adds r line text) → lines_add r line (text ∷ texts) ≡ total → Fails e total
+unfolding lines_add
+lines_end errors.Memory r line text texts total f h = tt
+lines_end (errors.Refused x) r line text texts total f h = sym (rw f at h)
+
+pub lines_done : (r : Reading) (line : ℕ) (total : Result Reading Fault) → lines_add r line [] ≡ total → total ≡ Ok r
+unfolding lines_add
+lines_done r line total h = sym h
+
+-- ==== lines laid out one behind the other
+
+pub laid-append : (at : ℕ) (xs ys : List Line) → laid_out at (xs ++ ys) ≡ laid_out at xs ++ laid_out (last_line at xs) ys
+unfolding laid_out
+laid-append at [] ys = refl
+laid-append at (x ∷ xs) ys = rw (laid-append x.0 xs ys) (simp append_assoc)
+
+pub last-append : (at : ℕ) (xs ys : List Line) → last_line at (xs ++ ys) ≡ last_line (last_line at xs) ys
+last-append at [] ys = refl
+last-append at (x ∷ xs) ys = last-append x.0 xs ys
+
+pub laid_one : (at line : ℕ) (text : List ℕ) → laid_out at ((line, text) ∷ []) ≡ replicate (line - at) 10 ++ text
+unfolding laid_out
+laid_one at line text = rw append-nil refl
+
+pub laid_none : (at : ℕ) → laid_out at [] ≡ []
+unfolding laid_out
+laid_none at = refl
+
+pub statements_push : (before xs : List Statement) (s : Statement) → statement_lines_behind before (xs ++ s ∷ []) ≡ statement_lines_behind before xs ++ (s.line, statement_text (before ++ xs) s) ∷ []
+unfolding statement_lines_behind
+statements_push before [] s = rw append-nil refl
+statements_push before (x ∷ xs) s = rw (statements_push (before ++ x ∷ []) xs s, append_assoc) refl
+
+pub statements_none : (before : List Statement) → statement_lines_behind before [] ≡ []
+unfolding statement_lines_behind
+statements_none before = refl
+
+-- one more line
+pub text_more : (first now fed text out : List ℕ) (at line : ℕ) (xs : List Line) → now ≡ first ++ laid_out at xs → fed ≡ now ++ replicate (line - last_line at xs) 10 → out ≡ fed ++ text → out ≡ first ++ laid_out at (xs ++ (line, text) ∷ [])
+text_more first now fed text out at line xs a b c = rw (c, b, a, laid-append at xs ((line, text) ∷ []), laid_one (last_line at xs) line text) (simp append_assoc)
+
+pub line_more : (at line : ℕ) (text : List ℕ) (xs : List Line) → last_line at (xs ++ (line, text) ∷ []) ≡ line
+line_more at line text xs = rw (last-append at xs ((line, text) ∷ [])) refl
+
+pub on_ok : {T E : Type 0} (r : Result T E) (P Q : Type 0) → (P → Q) → OnOk r P → OnOk r Q
+on_ok (Ok x) P Q f h = f h
+on_ok (Err e) P Q f h = tt
+
+-- a line that may be absent
+pub no_line : (now text : List ℕ) (at line : ℕ) → line ≡ 0 → now ≡ now ++ laid_out at (if_any line text)
+unfolding laid_out
+no_line now text at line e = rw e (sym (append-nil now))
+
+pub one_line : (now fed out text : List ℕ) (at line : ℕ) → (line ≡ 0 → ⊥) → fed ≡ now ++ replicate (line - at) 10 → out ≡ fed ++ text → out ≡ now ++ laid_out at (if_any line text)
+one_line now fed out text at line n a b = rw (b, a, ne_eqb line 0 n, laid_one at line text) (append_assoc now (replicate (line - at) 10) text)
+
+-- lines behind other lines
+pub more_lines : (now mid out : List ℕ) (at to : ℕ) (xs ys : List Line) → mid ≡ now ++ laid_out at xs → to ≡ last_line at xs → out ≡ mid ++ laid_out to ys → out ≡ now ++ laid_out at (xs ++ ys)
+more_lines now mid out at to xs ys a b c = rw (c, a, b, laid-append at xs ys) (append_assoc now (laid_out at xs) (laid_out (last_line at xs) ys))
+
+pub more_last : (at to end : ℕ) (xs ys : List Line) → to ≡ last_line at xs → end ≡ last_line to ys → end ≡ last_line at (xs ++ ys)
+more_last at to end xs ys a b = rw (b, a, last-append at xs ys) refl
+
+-- ---- slices as their first and their rest
+
+abbrev pub rest_of : {X : Type 0} → List X → List X
+rest_of xs = take (length xs - 1) (drop 1 xs)
+
+pub first_rest : {X : Type 0} (xs : List X) (d : X) → 1 ≤ length xs → xs ≡ get_or xs 0 d ∷ rest_of xs
+first_rest [] d h = absurd (omega arith)
+first_rest (x ∷ xs) d h =
+    let n : length (x ∷ xs) - 1 ≡ length xs = omega arith in
+    let same : take (length xs) xs ≡ xs = take_all (length xs) xs (omega arith) in
+    rw (n, same) refl
+
+pub none_below : {X : Type 0} (xs : List X) → length xs < 1 → xs ≡ []
+none_below [] h = refl
+none_below (x ∷ xs) h = absurd (omega arith)
+
+pub parts_split : (parts : List Part) (p : Part) → 1 ≤ length parts → p ≡ get_or parts 0 p → flat_map lines_of_part parts ≡ lines_of_part p ++ flat_map lines_of_part (rest_of parts)
+parts_split parts p h is = ap (λ l. flat_map lines_of_part l) (first_rest parts p h) ∙ rw (← is) refl
+
+-- a line of words
+pub words_more : (first mid out word : List ℕ) (words : List (List ℕ)) → mid ≡ first ++ word → out ≡ mid ++ led 32 words → out ≡ first ++ join_with_byte 32 (word ∷ words)
+words_more first mid out word words a b = rw (b, a, joined 32 word words) (append_assoc first word (led 32 words))
+
+pub led_more : (first mid out : List ℕ) (xs ys : List (List ℕ)) → mid ≡ first ++ led 32 xs → out ≡ mid ++ led 32 ys → out ≡ first ++ led 32 (xs ++ ys)
+led_more first mid out xs ys a b = rw (b, a, led_append 32 xs ys) (append_assoc first (led 32 xs) (led 32 ys))
+
+-- the statements up to one more
+pub statements_more : (sts : List Statement) (i : ℕ) (s : Statement) → i < length sts → s ≡ get_or sts i s → statement_lines_behind [] (take (i + 1) sts) ≡ statement_lines_behind [] (take i sts) ++ (s.line, statement_text (take i sts) s) ∷ []
+statements_more sts i s lt is =
+    let more : take (i + 1) sts ≡ take i sts ++ get_or sts i s ∷ [] = take_more sts i s lt in
+    rw (more, ← is) (statements_push [] (take i sts) s)
+
+-- ==== line feeds up to a line
+
+pub fed_more : (first now out : List ℕ) (line at : ℕ) → line ≤ at → now ≡ first ++ replicate (at - line) 10 → out ≡ now ++ 10 ∷ [] → out ≡ first ++ replicate (at + 1 - line) 10
+fed_more first now out line at le a b =
+    let n : at + 1 - line ≡ (at - line) + 1 = omega arith in
+    let more : replicate {A = ℕ} (at - line) 10 ++ 10 ∷ [] ≡ replicate {A = ℕ} ((at - line) + 1) 10 = replicate_more {X = ℕ} (at - line) 10 in
+    rw (b, a, n, ← more) (append_assoc first (replicate (at - line) 10) (10 ∷ []))
+
+pub fed_all : (first now : List ℕ) (line at to : ℕ) → (at ≤ to) ⊎ (at ≡ line) → to ≤ at → line ≤ at → now ≡ first ++ replicate (at - line) 10 → now ≡ first ++ replicate (to - line) 10
+fed_all first now line at to (inl le) ge from a = let n : at - line ≡ to - line = omega arith in rw (← n) a
+fed_all first now line at to (inr same) ge from a = let n : at - line ≡ to - line = omega arith in rw (← n) a

@@ -1,15 +1,18 @@
 -- The index of a part's names, and the places at which the names are bound.
-use Rattle.std.proofs.Common.{◌≡◌, ℕ, ◌+◌, ◌<◌, ◌≤◌, List, [], ◌∷◌, ◌++◌, Bool, true, false, cond, eqb, length, Option, Some, None, refl, ap, arith, inl, inr}
-use Rattle.std.specs.Prelude.{nat_lt, is_some}
+use Rattle.std.proofs.Common.{◌≡◌, ℕ, ◌+◌, ◌<◌, ◌≤◌, List, [], ◌∷◌, ◌++◌, Bool, true, false, cond, eqb, length, Option, Some, None, refl, ap, arith, inl, inr, pow_mono, pow-add, ◌*◌, ◌-◌, ◌^◌, get_or, take, drop, take_all, ◌&&◌, ◌||◌, sym, ◌∙◌}
+use Rattle.std.specs.Prelude.{nat_lt, nat_le, length}
 use Rattle.std.proofs.lemmas.List.{length_push}
-use Rattle.std.specs.List.{position_or_len}
+use Rattle.std.specs.List.{position_or_len, list_all}
 use Rattle.std.specs.Str.{bytes_eq}
 use Rattle.std.proofs.lemmas.Slice.Eq.{bytes_eq-Decides}
 use Rattle.std.proofs.lemmas.List.Folds.{position_or_len_push}
-use Rattle.std.proofs.lemmas.Bool.{cases_Bool, lt-ltb, le-ltb, eq-eqb, ne_eqb, cases_eq}
+use Rattle.std.proofs.lemmas.Bool.{cases_Bool, lt-ltb, le-ltb, eq-eqb, ne_eqb, cases_eq, leb-true, and_parts, or_cases, eqb-true}
 use Rattle.workload_file.specs.declared.workload.Statement.{Statement}
 use Rattle.workload_file.specs.Names.{bound_at, is_called}
-use Rattle.workload_file.specs.Indexed.{first_of_two}
+use Rattle.workload_file.specs.Indexed.{first_of_two, key_of}
+use Rattle.std.specs.Ordering.{nat_cmp, is_eq}
+use Rattle.std.specs.Cmp.{unsigned_tied}
+use Rattle.workload_file.specs.Values.{is_name, is_name_byte, is_letter, begins_with_letter}
 
 pub bytes_are : (xs ys : List ℕ) → bytes_eq xs ys ≡ true → xs ≡ ys
 bytes_are xs ys h = (bytes_eq-Decides xs ys).0 h
@@ -39,13 +42,116 @@ position_le p (x ∷ xs) = elim (cases_Bool (p x)) [ inl t ↦ let e : position_
 pub bound_push : (name : List ℕ) (sts : List Statement) (s : Statement) → first_of_two (bound_at name sts) (cond (is_called name s.name) (Some (length sts)) None) ≡ bound_at name (sts ++ s ∷ [])
 bound_push name sts s = rw (position_or_len_push (λ s. is_called name s.name) sts s, length_push sts s) (push_place (is_called name s.name) (position_or_len (λ s. is_called name s.name) sts) (length sts) (position_le (λ s. is_called name s.name) sts))
 
-pub none_of : (x : Option ℕ) → is_some x ≡ false → x ≡ None
-none_of None h = refl
-none_of (Some a) h = absurd cc
-
 pub apart_sym : (xs ys : List ℕ) → bytes_eq xs ys ≡ false → bytes_eq ys xs ≡ false
 apart_sym xs ys h =
     elim (cases_Bool (bytes_eq ys xs)) [
       | inl t ↦ absurd (let same = bytes_are ys xs t in let t2 : bytes_eq xs ys ≡ true = rw same (bytes_same xs) in cc)
       | inr f ↦ f
+    ]
+
+-- ==== no two names stand at one number, and what the index has after one more
+
+-- ---- the number of a text
+
+pub key_empty : (text : List ℕ) → length text < 1 → 0 ≡ key_of text
+unfolding key_of
+key_empty [] h = refl
+key_empty (b ∷ bs) h = absurd (omega (arith, h))
+
+pub key_more : (text : List ℕ) → 1 ≤ length text → get_or text 0 0 + 256 * key_of (take (length text - 1) (drop 1 text)) ≡ key_of text
+unfolding key_of
+key_more [] h = absurd (omega (arith, h))
+key_more (b ∷ bs) h = ap (λ (rest : List ℕ). b + 256 * key_of rest) (take_all (length (b ∷ bs) - 1) bs (omega arith))
+
+one_less : (text : List ℕ) → 1 ≤ length text → length (take (length text - 1) (drop 1 text)) + 1 ≡ length text
+one_less [] h = absurd (omega (arith, h))
+one_less (b ∷ bs) h = let all : take (length (b ∷ bs) - 1) bs ≡ bs = take_all (length (b ∷ bs) - 1) bs (omega arith) in rw all (omega arith)
+
+-- one digit more
+pub key_next : (text : List ℕ) (first rest : ℕ) → 1 ≤ length text → first < 256 → rest < 2 ^ (8 * length (take (length text - 1) (drop 1 text))) → first + 256 * rest < 2 ^ (8 * length text)
+key_next text first rest low digit fits =
+    let n : ℕ = length (take (length text - 1) (drop 1 text)) in
+    let more : 2 ^ (8 * n + 8) ≡ 2 ^ (8 * n) * 256 = pow-add 2 (8 * n) 8 in
+    let same : 8 * length text ≡ 8 * n + 8 = omega (arith, one_less text low) in
+    rw same (omega (arith, digit, fits, more))
+
+-- up to 16 digits fit 128 bits
+pub key_wide : (n k : ℕ) → n ≤ 16 → k < 2 ^ (8 * n) → k < 2 ^ 128
+key_wide n k high fits = let most : 2 ^ (8 * n) ≤ 2 ^ 128 = pow_mono {i = 8 * n} {j = 128} (omega (arith, high)) in omega (arith, fits, most)
+
+-- ---- a number has one name
+
+pub name_short : (text : List ℕ) → is_name text ≡ true → length text ≤ 16
+unfolding is_name
+name_short text h =
+    let a = and_parts (begins_with_letter text && nat_le (length text) 16) (list_all is_name_byte text) h in
+    leb-true (length text) 16 (and_parts (begins_with_letter text) (nat_le (length text) 16) a.0).1
+
+-- a byte of a name is a digit to base 256, and not 0
+record IsDigit (b : ℕ) : Type 0 where
+  above : 0 < b
+  below : b < 256
+
+digit : (b : ℕ) → is_name_byte b ≡ true → IsDigit b
+digit b h =
+    elim (or_cases (is_letter b || (nat_le 48 b && nat_le b 57)) (eqb b 95) h) [
+      | inl first ↦ elim (or_cases (is_letter b) (nat_le 48 b && nat_le b 57) first) [
+        | inl letter ↦ let both = and_parts (nat_le 97 b) (nat_le b 122) letter in let low = leb-true 97 b both.0 in let high = leb-true b 122 both.1 in record { above = omega arith; below = omega arith }
+        | inr number ↦ let both = and_parts (nat_le 48 b) (nat_le b 57) number in let low = leb-true 48 b both.0 in let high = leb-true b 57 both.1 in record { above = omega arith; below = omega arith }
+      ]
+      | inr line ↦ let e = eqb-true b 95 line in record { above = omega arith; below = omega arith }
+    ]
+
+digits_same : (xs ys : List ℕ) → list_all is_name_byte xs ≡ true → list_all is_name_byte ys ≡ true → key_of xs ≡ key_of ys → xs ≡ ys
+unfolding key_of
+digits_same [] [] h k e = refl
+digits_same [] (y ∷ ys) h k e = let d = digit y (and_parts (is_name_byte y) (list_all is_name_byte ys) k).0 in absurd (omega (arith, d.above, e))
+digits_same (x ∷ xs) [] h k e = let d = digit x (and_parts (is_name_byte x) (list_all is_name_byte xs) h).0 in absurd (omega (arith, d.above, e))
+digits_same (x ∷ xs) (y ∷ ys) h k e =
+    let a = and_parts (is_name_byte x) (list_all is_name_byte xs) h in
+    let b = and_parts (is_name_byte y) (list_all is_name_byte ys) k in
+    let c = digit x a.0 in
+    let d = digit y b.0 in
+    let first : x ≡ y = omega (arith, c.below, d.below, e) in
+    let rest : key_of xs ≡ key_of ys = omega (arith, c.below, d.below, e) in
+    rw (first, digits_same xs ys a.1 b.1 rest) refl
+
+names_same : (xs ys : List ℕ) → is_name xs ≡ true → is_name ys ≡ true → key_of xs ≡ key_of ys → xs ≡ ys
+unfolding is_name
+names_same xs ys h k e =
+    let a = and_parts (begins_with_letter xs && nat_le (length xs) 16) (list_all is_name_byte xs) h in
+    let b = and_parts (begins_with_letter ys && nat_le (length ys) 16) (list_all is_name_byte ys) k in
+    digits_same xs ys a.1 b.1 e
+
+cmp_eq : (k l : ℕ) → is_eq (nat_cmp k l) ≡ true → k ≡ l
+cmp_eq k l h = eqb-true k l (sym (unsigned_tied k l) ∙ h)
+
+cmp_same : (k : ℕ) → is_eq (nat_cmp k k) ≡ true
+cmp_same k = unsigned_tied k k ∙ eq-eqb k k refl
+
+-- keys apart of names apart
+keys_apart : (xs ys : List ℕ) → is_name xs ≡ true → is_name ys ≡ true → bytes_eq xs ys ≡ false → is_eq (nat_cmp (key_of xs) (key_of ys)) ≡ false
+keys_apart xs ys h k apart =
+    elim (cases_Bool (is_eq (nat_cmp (key_of xs) (key_of ys)))) [
+      | inl t ↦ absurd (let same = names_same xs ys h k (cmp_eq (key_of xs) (key_of ys) t) in let yes : bytes_eq xs ys ≡ true = rw same (bytes_same ys) in cc)
+      | inr f ↦ f
+    ]
+
+alone : (x : Option ℕ) → x ≡ first_of_two x None
+alone None = refl
+alone (Some y) = refl
+
+-- the place of each text, after a name that had none got one
+pub put : (name other : List ℕ) (place : ℕ) (before : Option ℕ) → is_name name ≡ true → (bytes_eq name other ≡ true → before ≡ None) → cond (is_name other) (cond (is_eq (nat_cmp (key_of name) (key_of other))) (Some place) before) None ≡ first_of_two (cond (is_name other) before None) (cond (bytes_eq name other) (Some place) None)
+put name other place before named none =
+    elim (cases_Bool (bytes_eq name other)) [
+      | inl t ↦
+          let same : other ≡ name = sym (bytes_are name other t) in
+          let absent = none t in
+          rw (absent, same, named, cmp_same (key_of name), bytes_same name) refl
+      | inr f ↦
+          elim (cases_Bool (is_name other)) [
+            | inl y ↦ rw (y, keys_apart name other named y f, f) (alone before)
+            | inr n ↦ rw (n, f) refl
+          ]
     ]

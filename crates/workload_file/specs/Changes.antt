@@ -22,7 +22,7 @@ use Rattle.workload_file.specs.declared.reading.Change.{Change}
 use Rattle.workload_file.specs.declared.reading.Change.TheVariants as change
 use Rattle.workload_file.specs.Table.{fields, naming}
 use Rattle.workload_file.specs.Values.{number_within, cores_of, flag_of, mode_of, timeout_of, is_name}
-use Rattle.workload_file.specs.Names.{place_of, place_used}
+use Rattle.workload_file.specs.Names.{place_of, use_in}
 use Rattle.workload_file.specs.Options.{text_of}
 use Rattle.workload_file.specs.Deeds.{number_in, deed_with}
 
@@ -119,4 +119,4 @@ change_with line w name place values = change.Statement (record { line = line; n
 
 -- the same of its options, behind what was read before it
 abbrev pub change_of : Reading → ℕ → Word → List ℕ → List (List ℕ) → Change
-change_of r line w name options = change_with line w name (place_used r.current.statements (naming w) name) (values_in r.current.statements options (fields w))
+change_of r line w name options = change_with line w name (use_in r.current.statements (naming w) name) (values_in r.current.statements options (fields w))

@@ -9,7 +9,7 @@ use Rattle.workload_file.specs.Values.{is_name}
 use Rattle.workload_file.specs.Cuts.{words_of}
 use Rattle.workload_file.specs.Table.{word_of, naming, fields}
 use Rattle.workload_file.specs.Options.{is_known, has_twice}
-use Rattle.workload_file.specs.Names.{has_second, name_in, options_in, is_taken, place_used, is_unbound, is_misplaced, is_ninth_caller}
+use Rattle.workload_file.specs.Names.{has_second, name_in, options_in, is_taken, use_in, is_unbound, is_misplaced, is_ninth_caller}
 use Rattle.workload_file.specs.Changes.{values_in, is_bad, is_missing, names_nothing}
 
 -- a byte 0x20 to 0x7E
@@ -41,7 +41,7 @@ is_faulty r w name options cause.OptionTwice = has_twice options
 is_faulty r w name options cause.BadValue = list_any is_bad (values_in r.current.statements options (fields w))
 is_faulty r w name options cause.OptionMissing = list_any is_missing (values_in r.current.statements options (fields w))
 is_faulty r w name options cause.NameTaken = is_taken r (naming w) name
-is_faulty r w name options cause.NameUnknown = is_unbound (naming w) (place_used r.current.statements (naming w) name) || list_any names_nothing (values_in r.current.statements options (fields w))
+is_faulty r w name options cause.NameUnknown = is_unbound (naming w) (use_in r.current.statements (naming w) name) || list_any names_nothing (values_in r.current.statements options (fields w))
 is_faulty r w name options _ = false
 
 -- the same of words that may be no statement

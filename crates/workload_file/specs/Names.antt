@@ -53,11 +53,11 @@ is_taken r rule.Bare name = false
 is_taken r (rule.Uses sort) name = false
 
 -- the place of the name that a statement uses, where it uses one that is bound to such a thing
-abbrev pub place_used : List Statement → Naming → List ℕ → Option ℕ
-place_used before (rule.Uses sort) name = place_of sort name before
-place_used before rule.Caller name = None
-place_used before rule.Bare name = None
-place_used before (rule.Binds sort) name = None
+abbrev pub use_in : List Statement → Naming → List ℕ → Option ℕ
+use_in before (rule.Uses sort) name = place_of sort name before
+use_in before rule.Caller name = None
+use_in before rule.Bare name = None
+use_in before (rule.Binds sort) name = None
 
 -- used, and not bound earlier by this caller to such a thing
 abbrev pub is_unbound : Naming → Option ℕ → Bool

@@ -7,7 +7,7 @@ use number_text::cut_at;
 use std::alloc::{AllocError, Global};
 
 /// The words of a line.
-#[tactic(auto, unfolding(crate::specs::Cuts::words_of), using(crate::proofs::Pieces::texts_push))]
+#[tactic(auto, unfolding(crate::specs::Cuts::words_of), using(crate::proofs::Phrases::texts_push))]
 pub fn words_of(alloc: Global, line: &[u8]) -> Result<Vec<&[u8]>, AllocError>
     ensures { IfOk result (λ v. texts v.items ≡ words_of line.now) }
 {

@@ -37,24 +37,17 @@ pub enum Cause {
 
 impl Cause {
     /// What a user is told.
+    #[rattlefmt::skip]
     #[tactic(auto, unfolding(crate::specs::Causes::cause_text))]
     pub fn text(self) -> &'static str
         ensures { result.now ≡ cause_text self }
     {
         match self {
-            Cause::LineTooLong => "line too long",
-            Cause::BadByte => "bad byte",
-            Cause::UnknownWord => "unknown word",
-            Cause::TooManyStatements => "too many statements",
-            Cause::TooManyCallers => "too many callers",
-            Cause::Misplaced => "misplaced",
-            Cause::BadName => "bad name",
-            Cause::UnknownOption => "unknown option",
-            Cause::OptionTwice => "option twice",
-            Cause::BadValue => "bad value",
-            Cause::OptionMissing => "option missing",
-            Cause::NameTaken => "name taken",
-            Cause::NameUnknown => "name unknown",
+            Cause::LineTooLong => "line too long", Cause::BadByte => "bad byte", Cause::UnknownWord => "unknown word",
+            Cause::TooManyStatements => "too many statements", Cause::TooManyCallers => "too many callers",
+            Cause::Misplaced => "misplaced", Cause::BadName => "bad name", Cause::UnknownOption => "unknown option",
+            Cause::OptionTwice => "option twice", Cause::BadValue => "bad value", Cause::OptionMissing => "option missing",
+            Cause::NameTaken => "name taken", Cause::NameUnknown => "name unknown",
         }
     }
 }

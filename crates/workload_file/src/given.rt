@@ -44,7 +44,10 @@ fn value_given(r: &Reader, shape: Shape, text: &[u8]) -> Value
             number_within(low, high, text).map_or(Value::Bad, Value::Number)
         }
         Shape::Whole => whole(text).map_or(Value::Bad, Value::Whole),
-        Shape::Args => list_of(text).map_or(Value::Bad, Value::Args),
+        Shape::Args => match list_of(text) {
+            Some(args) => Value::Args(args),
+            None => Value::Bad,
+        },
         Shape::Cores => cores_of(text).map_or(Value::Bad, Value::Cores),
         Shape::Kind => kind_of(text).map_or(Value::Bad, Value::Kind),
         Shape::Flag => flag_of(text).map_or(Value::Bad, Value::Flag),

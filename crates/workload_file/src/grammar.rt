@@ -4,7 +4,7 @@ ghost use Rattle.std.specs.List.{list_any, list_all, find};
 ghost use Rattle.workload_file.specs.Texts.{texts};
 ghost use Rattle.workload_file.specs.Values.{is_name};
 ghost use Rattle.workload_file.specs.Table.{naming, fields};
-ghost use Rattle.workload_file.specs.Names.{has_second, name_in, options_in, place_used, is_unbound};
+ghost use Rattle.workload_file.specs.Names.{has_second, name_in, options_in, use_in, is_unbound};
 ghost use Rattle.workload_file.specs.Changes.{is_bad, is_missing, names_nothing, values_in, bound_name, change_with, change_of};
 ghost use Rattle.workload_file.specs.Faulty.{is_printable, is_comment, is_faulty, statement_causes, word_causes, words_meet};
 ghost use Rattle.workload_file.specs.Reading.{unless, words_say, line_gives};
@@ -16,7 +16,7 @@ use crate::faults::Cause;
 use crate::given::values_in;
 use crate::name::{Name, is_name};
 use crate::names::{
-    has_second, is_misplaced, is_ninth_caller, is_taken, name_in, options_in, place_used,
+    has_second, is_misplaced, is_ninth_caller, is_taken, name_in, options_in, use_in,
 };
 use crate::options::{all_known, has_twice};
 use crate::reading::{Change, Reader};
@@ -24,13 +24,6 @@ use crate::table::{Naming, Word};
 use crate::values::Value;
 use crate::workload::Statement;
 use std::alloc::{AllocError, Global};
-
-/// The causes of a statement, in their order.
-#[rattlefmt::skip]
-const CAUSES: [Cause; 10] = [
-    Cause::TooManyStatements, Cause::TooManyCallers, Cause::Misplaced, Cause::BadName, Cause::UnknownOption, Cause::OptionTwice,
-    Cause::BadValue, Cause::OptionMissing, Cause::NameTaken, Cause::NameUnknown,
-];
 
 fn any_bad(values: &[Value]) -> bool
     ensures { result ≡ list_any is_bad values.now }
@@ -68,7 +61,7 @@ fn is_faulty(
     cause: Cause,
 ) -> bool
     requires reader { IsReader r.now }
-    requires place { place ≡ place_used r.now.said.current.statements (naming word) name.now }
+    requires place { place ≡ use_in r.now.said.current.statements (naming word) name.now }
     requires values { values.now ≡ values_in r.now.said.current.statements (texts options.now) (fields word) }
     ensures { result ≡ is_faulty r.now.said word name.now (texts options.now) cause }
 {
@@ -87,30 +80,23 @@ fn is_faulty(
     }
 }
 
-/// The first of these causes that a statement meets.
-fn first_of(
-    causes: &[Cause],
-    r: &Reader,
-    word: Word,
-    name: &[u8],
-    options: &[&[u8]],
-    place: Option<u32>,
-    values: &[Value],
-) -> Option<Cause>
+// One test for each cause of a list, in its order: a walk over the list would pass all that is asked to each step.
+macro_rules! first_of {
+    ($r:ident $word:ident $name:ident $options:ident $place:ident $values:ident: $($cause:ident)*) => {{
+        $(if is_faulty($r, $word, $name, $options, $place, $values, Cause::$cause) { return Some(Cause::$cause); })*
+        None
+    }};
+}
+
+/// The first of the causes of a statement that it meets.
+#[rattlefmt::skip]
+fn first_met(r: &Reader, word: Word, name: &[u8], options: &[&[u8]], place: Option<u32>, values: &[Value]) -> Option<Cause>
     requires reader { IsReader r.now }
-    requires place { place ≡ place_used r.now.said.current.statements (naming word) name.now }
+    requires place { place ≡ use_in r.now.said.current.statements (naming word) name.now }
     requires values { values.now ≡ values_in r.now.said.current.statements (texts options.now) (fields word) }
-    ensures { result ≡ find (is_faulty r.now.said word name.now (texts options.now)) causes.now }
+    ensures { result ≡ find (is_faulty r.now.said word name.now (texts options.now)) statement_causes }
 {
-    match causes {
-        [] => None,
-        [cause, rest @ ..] => {
-            if is_faulty(r, word, name, options, place, values, *cause) {
-                return Some(*cause);
-            }
-            first_of(rest, r, word, name, options, place, values)
-        }
-    }
+    first_of!(r word name options place values: TooManyStatements TooManyCallers Misplaced BadName UnknownOption OptionTwice BadValue OptionMissing NameTaken NameUnknown)
 }
 
 fn bound_name(naming: Naming, name: &[u8]) -> Option<Name>
@@ -154,9 +140,9 @@ fn statement_gives(
 {
     let name = name_in(word.naming(), rest);
     let options = options_in(word.naming(), rest);
-    let place = place_used(r, word.naming(), name);
+    let place = use_in(r, word.naming(), name);
     let values = values_in(alloc, r, options, word.fields())?;
-    match first_of(&CAUSES, r, word, name, options, place, &values) {
+    match first_met(r, word, name, options, place, &values) {
         Some(cause) => Ok(Err(cause)),
         None => Ok(Ok(change_with(line, word, name, place, &values))),
     }

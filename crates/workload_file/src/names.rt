@@ -4,7 +4,7 @@ ghost use Rattle.std.specs.List.{list_any};
 ghost use Rattle.std.specs.Str.{bytes_eq};
 ghost use Rattle.workload_file.specs.Texts.{texts};
 ghost use Rattle.workload_file.specs.Deeds.{binds, is_begin};
-ghost use Rattle.workload_file.specs.Names.{is_binding, place_of, place_used, has_second, name_in, options_in, is_taken, is_misplaced, is_ninth_caller};
+ghost use Rattle.workload_file.specs.Names.{is_binding, place_of, use_in, has_second, name_in, options_in, is_taken, is_misplaced, is_ninth_caller};
 ghost use Rattle.workload_file.specs.Indexed.{IsReader};
 
 use crate::reading::Reader;
@@ -106,9 +106,9 @@ pub fn is_taken(r: &Reader, naming: Naming, name: &[u8]) -> bool
 }
 
 /// The place of the statement that bound the name that is used, where one is used and bound.
-pub fn place_used(r: &Reader, naming: Naming, name: &[u8]) -> Option<u32>
+pub fn use_in(r: &Reader, naming: Naming, name: &[u8]) -> Option<u32>
     requires { IsReader r.now }
-    ensures { result ≡ place_used r.now.said.current.statements naming name.now }
+    ensures { result ≡ use_in r.now.said.current.statements naming name.now }
 {
     match naming {
         Naming::Uses(sort) => place_of(r, sort, name),

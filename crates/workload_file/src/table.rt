@@ -193,38 +193,19 @@ impl Word {
 
 impl Key {
     /// The key as it stands before `=`.
+    #[rattlefmt::skip]
     #[tactic(auto, unfolding(crate::specs::Table::key_text))]
     pub fn text(self) -> &'static [u8]
         ensures { result.now ≡ key_text self }
     {
         match self {
-            Key::Workers => b"workers",
-            Key::MaxTasks => b"max_tasks",
-            Key::MaxActions => b"max_actions",
-            Key::MaxGroups => b"max_groups",
-            Key::MaxQueues => b"max_queues",
-            Key::MaxObjects => b"max_objects",
-            Key::Priorities => b"priorities",
-            Key::Generations => b"generations",
-            Key::Job => b"job",
-            Key::Kind => b"kind",
-            Key::Cores => b"cores",
-            Key::Args => b"args",
-            Key::Priority => b"priority",
-            Key::Detached => b"detached",
-            Key::Group => b"group",
-            Key::Queue => b"queue",
-            Key::Timeout => b"timeout",
-            Key::Id => b"id",
-            Key::Limit => b"limit",
-            Key::Ordered => b"ordered",
-            Key::Retain => b"retain",
-            Key::Recursive => b"recursive",
-            Key::Key => b"key",
-            Key::Mode => b"mode",
-            Key::Cells => b"cells",
-            Key::Cell => b"cell",
-            Key::Value => b"value",
+            Key::Workers => b"workers", Key::MaxTasks => b"max_tasks", Key::MaxActions => b"max_actions",
+            Key::MaxGroups => b"max_groups", Key::MaxQueues => b"max_queues", Key::MaxObjects => b"max_objects",
+            Key::Priorities => b"priorities", Key::Generations => b"generations", Key::Job => b"job", Key::Kind => b"kind",
+            Key::Cores => b"cores", Key::Args => b"args", Key::Priority => b"priority", Key::Detached => b"detached",
+            Key::Group => b"group", Key::Queue => b"queue", Key::Timeout => b"timeout", Key::Id => b"id", Key::Limit => b"limit",
+            Key::Ordered => b"ordered", Key::Retain => b"retain", Key::Recursive => b"recursive", Key::Key => b"key",
+            Key::Mode => b"mode", Key::Cells => b"cells", Key::Cell => b"cell", Key::Value => b"value",
         }
     }
 }

@@ -1,6 +1,6 @@
 use Rattle.std.proofs.Common.{◌+◌, ◌*◌, ◌^◌, ◌<◌, arith, pow_pos}
 use Rattle.std.specs.Prelude.{length}
-use Rattle.workload_file.proofs.Keys.{key_empty, key_more, key_next, key_wide}
+use Rattle.workload_file.proofs.Places.{key_empty, key_more, key_next, key_wide}
 use Rattle.workload_file.proofs.index.+key_of.Goals as goal
 
 -- the number of the whole text

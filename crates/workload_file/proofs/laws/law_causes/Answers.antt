@@ -1,4 +1,4 @@
-use Rattle.workload_file.proofs.FirstMet.{line_refused, text_refused, refused_text}
+use Rattle.workload_file.proofs.Facts.{line_refused, text_refused, refused_text}
 use Rattle.workload_file.proofs.laws.law_causes.Goals as goal
 
 pub returns-clause-line : goal.returns-clause-line

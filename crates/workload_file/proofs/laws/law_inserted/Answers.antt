@@ -1,4 +1,4 @@
-use Rattle.workload_file.proofs.Inserted.{text_inserted}
+use Rattle.workload_file.proofs.Alike.{text_inserted}
 use Rattle.workload_file.proofs.laws.law_inserted.Goals as goal
 
 pub returns : goal.returns

@@ -1,4 +1,4 @@
-use Rattle.workload_file.proofs.Keeping.{workload_formed}
+use Rattle.workload_file.proofs.Invariant.{workload_formed}
 use Rattle.workload_file.proofs.load.formed_workload_of.Goals as goal
 
 pub returns-in-Ok-clause-formed : goal.returns-in-Ok-clause-formed

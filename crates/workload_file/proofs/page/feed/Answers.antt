@@ -1,5 +1,5 @@
 use Rattle.std.proofs.Common.{inl, arith}
-use Rattle.workload_file.proofs.Feeds.{fed_more, fed_all}
+use Rattle.workload_file.proofs.Phrases.{fed_more, fed_all}
 use Rattle.workload_file.proofs.page.feed.Goals as goal
 
 pub loop-at-preserved : goal.loop-at-preserved

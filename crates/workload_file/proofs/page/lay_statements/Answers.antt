@@ -1,6 +1,6 @@
 use Rattle.std.proofs.Common.{[], refl, sym, ◌∙◌, take}
 use Rattle.std.proofs.lemmas.List.{append-nil}
-use Rattle.workload_file.proofs.Laid.{text_more, line_more, statements_more, statements_none, laid_none}
+use Rattle.workload_file.proofs.Phrases.{text_more, line_more, statements_more, statements_none, laid_none}
 use Rattle.workload_file.specs.Written.{statement_lines_behind, statement_text}
 use Rattle.workload_file.proofs.page.lay_statements.Goals as goal
 

@@ -1,4 +1,4 @@
-use Rattle.workload_file.proofs.Laid.{on_ok, words_more}
+use Rattle.workload_file.proofs.Phrases.{on_ok, words_more}
 use Rattle.workload_file.proofs.page.push_node.Goals as goal
 
 pub returns : goal.returns

@@ -3,7 +3,7 @@ use Rattle.std.specs.List.{flat_map}
 use Rattle.workload_file.specs.Written.{if_any, node_text, lines_of_part, canonical}
 use Rattle.workload_file.proofs.Again.{canonical_short}
 use Rattle.workload_file.proofs.Again.{canonical_again}
-use Rattle.workload_file.proofs.Laid.{more_lines}
+use Rattle.workload_file.proofs.Phrases.{more_lines}
 use Rattle.workload_file.proofs.page.text_of.Goals as goal
 
 pub returns : goal.returns

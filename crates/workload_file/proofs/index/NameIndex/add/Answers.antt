@@ -4,7 +4,7 @@ use Rattle.std.specs.Ordering.{nat_cmp}
 use Rattle.workload_file.specs.Values.{is_name}
 use Rattle.workload_file.specs.Indexed.{key_of}
 use Rattle.workload_file.proofs.Places.{bytes_are}
-use Rattle.workload_file.proofs.Keys.{name_short, put}
+use Rattle.workload_file.proofs.Places.{name_short, put}
 use Rattle.workload_file.proofs.index.NameIndex.add.Goals as goal
 
 pub key_of-key-requires : goal.key_of-key-requires
