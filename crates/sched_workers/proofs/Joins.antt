@@ -1,7 +1,6 @@
 -- From a run in a whole history to the run in its journal.
 use Rattle.std.proofs.Common.{◌≡◌, ℕ, suc, ◌+◌, ◌≤◌, Bool, true, false, cond, List, [], ◌∷◌, ◌++◌, length, Some, None, refl, sym, ◌∙◌, ap, subst, arith, append_assoc}
 use Rattle.std.specs.Prelude.{◌==◌, ◌&&◌}
-use Rattle.std.proofs.lemmas.List.{append-nil}
 use Rattle.history.specs.Histories.{entry, entries_of}
 use Rattle.mtapi_values.specs.declared.timeouts.Timeout.{Timeout}
 use Rattle.mtapi_values.specs.Timeouts.{looks_of}
@@ -14,16 +13,16 @@ use Rattle.mtapi_machine.specs.declared.replies.Reply.{Reply}
 use Rattle.mtapi_machine.specs.declared.replies.Reply.TheVariants as reply
 use Rattle.mtapi_machine.specs.declared.terms.Terms.{Terms}
 use Rattle.mtapi_machine.specs.State.{State, opening}
-use Rattle.mtapi_machine.specs.Row.{handle_of}
 use Rattle.mtapi_machine.specs.Legal.{NodeEntry, next, after_from}
 use Rattle.mtapi_machine.specs.Kept.{is_dropped, is_pending, kept, skipped, no_counts}
 use Rattle.sched_workers.specs.Calls.{Call, Once, Looking, call_of}
-use Rattle.sched_workers.specs.Lines.{Line, line, lines_of, KeepsTimeout, is_timeout, Made, head_of, in_lines}
-use Rattle.sched_workers.specs.Parts.{has_begin, Carried, MainRan, CallerRan, CallersRan, PartsRan}
+use Rattle.sched_workers.specs.Lines.{Line, line, lines_of, KeepsTimeout, is_timeout, Made, head_of, tail_of_main, Entered, in_lines}
+use Rattle.sched_workers.specs.Parts.{MainRan, CallerRan, CallersRan, PartsRan}
 use Rattle.sched_workers.specs.RunOf.{is_work, all_work, WorkerRan, ClosesAtEnd, RunOf}
 use Rattle.sched_workers.specs.Turns.{Turn, stayed, turns_of, lines_left}
-use Rattle.sched_workers.specs.Whole.{none_of, first_alone, pended, MadeBy, head_turns, tail_turns, in_turns, all_worked, WorkerBy, RunBy, HasSeats, JournalIsRun}
+use Rattle.sched_workers.specs.Whole.{none_of, first_alone, pended, MadeBy, head_turns, tail_turns, EnteredBy, in_turns, all_worked, WorkerBy, RunBy, HasSeats, JournalIsRun}
 use Rattle.sched_workers.proofs.Left.{journal_lines}
+use Rattle.sched_workers.proofs.Forms.{Told, Tells, main_told, caller_told}
 
 -- Pending looks that no journal keeps are counted
 pended_left : (o : Op) (marks : List Bool) (n : ℕ) (rest : List Turn) → none_of marks ≡ true → lines_left n (pended o marks ++ rest) ≡ lines_left (n + length marks) rest
@@ -32,27 +31,33 @@ pended_left o [] n rest e = ap (λ k. lines_left k rest) (omega arith)
 pended_left o (true ∷ ms) n rest e = absurd (cc)
 pended_left o (false ∷ ms) n rest e = pended_left o ms (n + 1) rest e ∙ ap (λ k. lines_left k rest) (omega arith)
 
+-- turns are left to tell, and these lines are left of them
+abbrev left : List Turn → List Turn → Type 0
+left ts rest = ts ≡ rest
+
 -- the lines of one call, in front of what follows
-pub record Leaves (c : Call) (r : Reply) (ts rest : List Turn) : Type 0 where
-  pub prefix : List Line
-  pub is : lines_left 0 (ts ++ rest) ≡ prefix ++ lines_left 0 rest
-  pub made : Made c prefix r
+abbrev Leaves : Call → Reply → List Turn → List Turn → Type 0
+Leaves c r ts rest = Told left (lines_left 0) (ts ++ rest) rest (λ (ls : List Line). Made c ls r)
 
 -- the facts of a call's looks, at each list of marks
 looks_leave : (waits : Bool) (o : Bool → Op) (timeout : Timeout) (r : Reply) (last : Bool) (marks : List Bool) (rest : List Turn) → first_alone marks ≡ true → (waits ≡ false → none_of marks ≡ true) → is_pending r ≡ false
     → KeepsTimeout (looks_of timeout) last (length marks + 1) → (is_timeout r ≡ true → last ≡ true) → Leaves (Looking waits o timeout) r (pended (o false) marks ++ stayed (o last) r ∷ []) rest
 unfolding none_of lines_left
 looks_leave waits o timeout r last [] rest one none decides within late = record {
-  prefix = line (o last) r 0 ∷ [];
+  front = line (o last) r 0 ∷ [];
+  behind = rest;
+  left_is = refl;
   is = refl;
-  made = record { first = None; beside = 0; last = last; is = refl; none_kept = λ e. refl; decides = decides; within = within; late = late };
+  shows = record { first = None; beside = 0; last = last; is = refl; none_kept = λ e. refl; decides = decides; within = within; late = late };
 }
 looks_leave waits o timeout r last (true ∷ ms) rest one none decides within late = record {
-  prefix = line (o false) reply.Pending 0 ∷ line (o last) r (length ms) ∷ [];
+  front = line (o false) reply.Pending 0 ∷ line (o last) r (length ms) ∷ [];
+  behind = rest;
+  left_is = refl;
   is = ap (λ (l : List Turn). line (o false) reply.Pending 0 ∷ lines_left 0 l) (append_assoc (pended (o false) ms) (stayed (o last) r ∷ []) rest)
       ∙ ap (λ (l : List Line). line (o false) reply.Pending 0 ∷ l) (pended_left (o false) ms 0 (stayed (o last) r ∷ rest) one)
       ∙ ap (λ k. line (o false) reply.Pending 0 ∷ line (o last) r k ∷ lines_left 0 rest) (omega arith);
-  made = record {
+  shows = record {
     first = Some 0;
     beside = length ms;
     last = last;
@@ -64,9 +69,11 @@ looks_leave waits o timeout r last (true ∷ ms) rest one none decides within la
   };
 }
 looks_leave waits o timeout r last (false ∷ ms) rest one none decides within late = record {
-  prefix = line (o last) r (1 + length ms) ∷ [];
+  front = line (o last) r (1 + length ms) ∷ [];
+  behind = rest;
+  left_is = refl;
   is = ap (λ (l : List Turn). lines_left 1 l) (append_assoc (pended (o false) ms) (stayed (o last) r ∷ []) rest) ∙ pended_left (o false) ms 1 (stayed (o last) r ∷ rest) one;
-  made = record {
+  shows = record {
     first = None;
     beside = 1 + length ms;
     last = last;
@@ -80,62 +87,51 @@ looks_leave waits o timeout r last (false ∷ ms) rest one none decides within l
 
 made_leaves : (c : Call) (ts rest : List Turn) (r : Reply) → MadeBy c ts r → Leaves c r ts rest
 unfolding lines_left
-made_leaves (Once o) ts rest r m = record { prefix = line o r 0 ∷ []; is = ap (λ (x : List Turn). lines_left 0 (x ++ rest)) m.0; made = (refl, m.1) }
+made_leaves (Once o) ts rest r m = record { front = line o r 0 ∷ []; behind = rest; left_is = refl; is = ap (λ (x : List Turn). lines_left 0 (x ++ rest)) m.0; shows = (refl, m.1) }
 made_leaves (Looking waits o timeout) ts rest r m =
     subst (λ (x : List Turn). Leaves (Looking waits o timeout) r x rest) (sym m.is) (looks_leave waits o timeout r m.last m.marks rest m.one_kept m.none_kept m.decides m.within m.late)
 
--- the lines of a list of statements, in front of what follows
-pub record CarriedLeaves (bound : List ℕ) (ss : List Statement) (ts rest : List Turn) (rs : List Reply) : Type 0 where
-  pub body : List Line
-  pub is : lines_left 0 (ts ++ rest) ≡ body ++ lines_left 0 rest
-  pub carried : Carried Made bound ss body rs
-
-carried_leaves : (bound : List ℕ) (ss : List Statement) (ts rest : List Turn) (rs : List Reply) → Carried MadeBy bound ss ts rs → CarriedLeaves bound ss ts rest rs
-unfolding Carried
-carried_leaves bound [] ts rest [] c = record { body = []; is = ap (λ (x : List Turn). lines_left 0 (x ++ rest)) c; carried = refl }
-carried_leaves bound [] ts rest (r ∷ rs) c = absurd c
-carried_leaves bound (s ∷ ss) ts rest [] c = absurd c
-carried_leaves bound (s ∷ ss) ts rest (r ∷ rs) (front, back, is, made, more) =
-    let x = made_leaves (call_of bound s.deed) front (back ++ rest) r made in
-    let y = carried_leaves (bound ++ handle_of r ∷ []) ss back rest rs more in
-    record {
-      body = x.prefix ++ y.body;
-      is = ap (λ (l : List Turn). lines_left 0 (l ++ rest)) is ∙ ap (λ (l : List Turn). lines_left 0 l) (append_assoc front back rest) ∙ x.is ∙ ap (λ (l : List Line). x.prefix ++ l) y.is ∙ sym (append_assoc x.prefix y.body (lines_left 0 rest));
-      carried = (x.prefix, y.body, refl, x.made, y.carried);
-    }
-
--- callers
+-- the lines of each piece of a run
 
 head_left : (b : Bool) (rest : List Turn) → lines_left 0 (head_turns b ++ rest) ≡ head_of b ++ lines_left 0 rest
 unfolding lines_left
 head_left true rest = refl
 head_left false rest = refl
 
-main_ran : (ss : List Statement) (ts : List Turn) (rs : List Reply) → MainRan in_turns ss ts rs → MainRan in_lines ss (lines_left 0 ts) rs
+entered_left : (ts rest : List Turn) → EnteredBy ts → Told left (lines_left 0) (ts ++ rest) rest Entered
 unfolding lines_left
-main_ran ss ts rs m =
-    let x = carried_leaves [] ss m.body tail_turns rs m.carried in
-    record {
-      body = x.body;
-      is = ap (λ (l : List Turn). lines_left 0 l) m.is ∙ head_left (has_begin ss) (m.body ++ tail_turns) ∙ ap (λ (l : List Line). head_of (has_begin ss) ++ l) x.is;
-      carried = x.carried;
-    }
-
-caller_ran : (ss : List Statement) (ts : List Turn) (rs : List Reply) → CallerRan in_turns ss ts rs → CallerRan in_lines ss (lines_left 0 ts) rs
-unfolding lines_left
-caller_ran ss ts rs m =
-    let x = carried_leaves [] ss m.body [] rs m.carried in
-    let marks = m.entered.marks in
-    let n = 0 + length marks in
+entered_left ts rest m =
+    let n = 0 + length m.marks in
     record {
       front = line op.Enter reply.Ok n ∷ [];
-      body = x.body;
-      entered = (n, refl);
-      is = ap (λ (l : List Turn). lines_left 0 l) (m.is ∙ ap (λ (l : List Turn). l ++ m.body) m.entered.is ∙ append_assoc (pended op.Enter marks) (stayed op.Enter reply.Ok ∷ []) m.body)
-          ∙ pended_left op.Enter marks 0 (stayed op.Enter reply.Ok ∷ m.body) m.entered.none_kept
-          ∙ ap (λ (l : List Line). line op.Enter reply.Ok n ∷ l) (ap (λ (l : List Turn). lines_left 0 l) (sym (append-nil m.body)) ∙ x.is ∙ append-nil x.body);
-      carried = x.carried;
+      behind = rest;
+      is = ap (λ (l : List Turn). lines_left 0 l) (ap (λ (l : List Turn). l ++ rest) m.is ∙ append_assoc (pended op.Enter m.marks) (stayed op.Enter reply.Ok ∷ []) rest) ∙ pended_left op.Enter m.marks 0 (stayed op.Enter reply.Ok ∷ rest) m.none_kept;
+      shows = (n, refl);
+      left_is = refl;
     }
+
+tail_left : lines_left 0 tail_turns ≡ tail_of_main
+unfolding lines_left
+tail_left = refl
+
+none_left : lines_left 0 [] ≡ []
+unfolding lines_left
+none_left = refl
+
+turns_tell : Tells left (lines_left 0) in_turns in_lines
+turns_tell = record {
+  made = λ bound d ts r m k rest l. subst (λ (u : List Turn). Told left (lines_left 0) u rest (λ (ls : List Line). Made (call_of bound d) ls r)) (sym l) (made_leaves (call_of bound d) ts rest r m);
+  head = λ b k rest l. record { front = head_of b; behind = rest; is = ap (lines_left 0) l ∙ head_left b rest; shows = refl; left_is = refl };
+  tail = λ k l. ap (lines_left 0) l ∙ tail_left;
+  entered = λ ts m k rest l. subst (λ (u : List Turn). Told left (lines_left 0) u rest Entered) (sym l) (entered_left ts rest m);
+  none = λ k l. ap (lines_left 0) l ∙ none_left;
+}
+
+main_ran : (ss : List Statement) (ts : List Turn) (rs : List Reply) → MainRan in_turns ss ts rs → MainRan in_lines ss (lines_left 0 ts) rs
+main_ran ss ts rs m = main_told left (lines_left 0) in_turns in_lines turns_tell ss ts rs m ts refl
+
+caller_ran : (ss : List Statement) (ts : List Turn) (rs : List Reply) → CallerRan in_turns ss ts rs → CallerRan in_lines ss (lines_left 0 ts) rs
+caller_ran ss ts rs m = caller_told left (lines_left 0) in_turns in_lines turns_tell ss ts rs m ts refl
 
 module _ (terms : Terms) (L : List NodeEntry) where
   abbrev turns : ℕ → List Turn

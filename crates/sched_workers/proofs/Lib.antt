@@ -2,4 +2,5 @@ pub mod Shapes
 pub mod Rows
 pub mod TurnLists
 pub mod Left
+pub mod Forms
 pub mod Joins
