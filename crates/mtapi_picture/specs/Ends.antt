@@ -1,9 +1,14 @@
 -- How the program ends, and what each end says of the input.
-use Rattle.std.specs.Prelude.{◌≡◌, ℕ, ◌≤◌, ◌<◌, List, length, Result, Ok, Err}
+use Rattle.std.specs.Prelude.{◌≡◌, ℕ, ◌+◌, ◌≤◌, ◌<◌, List, length, min, Option, Result, Ok, Err}
+use Rattle.std.specs.Io.KnownBytes.{Appends}
+use Rattle.byte_io.specs.Causes.{AppendsFront}
 use Rattle.node_core.specs.declared.entries.Journal.{Journal}
 use Rattle.journal_text.specs.declared.faults.TextError.TheVariants as errors
 use Rattle.journal_text.specs.Journals.{journal_of}
 use Rattle.journal_text.specs.Splits.{OfParts}
+use Rattle.run_picture.specs.declared.pictures.Picture.{Picture}
+use Rattle.run_picture.specs.Pictures.{IsPicture}
+use Rattle.run_picture.specs.Page.{svg_text}
 use Rattle.mtapi_picture.specs.declared.command.End.{End}
 use Rattle.mtapi_picture.specs.declared.command.End.TheVariants as end
 
@@ -19,22 +24,36 @@ abbrev pub RestGives : List ℕ → Result Journal End → Type 0
 RestGives rest (Ok j) = journal_of rest ≡ Ok j
 RestGives rest (Err e) = RestFails rest e
 
--- it is a journal
-abbrev pub IsJournal : List ℕ → Type 0
-IsJournal rest = (j : Journal) × (journal_of rest ≡ Ok j)
+-- the seats that have a row: the first 16 workers, and the first 9 callers
+abbrev pub workers_drawn : Journal → ℕ
+workers_drawn j = min j.settings.workers 16
 
--- what stands in an input that isn't too long is a journal, where a picture is written or a write fails, and else it is refused so
-abbrev pub EndsOf : List ℕ → End → Type 0
-EndsOf rest end.Done = IsJournal rest
-EndsOf rest end.WriteFault = IsJournal rest
-EndsOf rest e = RestFails rest e
+abbrev pub seats_drawn : Journal → ℕ
+seats_drawn j = workers_drawn j + min j.callers 9
 
--- what an end says of the bytes of the input; want of memory and a failed read say nothing
-abbrev pub Draws : List ℕ → End → Type 0
-Draws bytes end.TooLong = 67108864 < length bytes
-Draws bytes end.Memory = Unit {0}
-Draws bytes end.ReadFault = Unit {0}
-Draws bytes e = (length bytes ≤ 67108864) × OfParts bytes (λ front rest. EndsOf rest e)
+-- the text is the SVG of the picture of this journal
+pub record IsDrawing (j : Journal) (svg : List ℕ) : Type 0 where
+  pub picture : Picture
+  pub lists : IsPicture (seats_drawn j) j.entries.entries j.entries.skipped picture
+  pub text : svg ≡ svg_text (workers_drawn j) (seats_drawn j) picture
+
+-- what stands there is a journal, and this is the SVG of its picture
+abbrev pub HasDrawing : List ℕ → List ℕ → Type 0
+HasDrawing rest svg = (j : Journal) × (journal_of rest ≡ Ok j) × IsDrawing j svg
+
+-- What stands in an input that isn't too long is a journal, and what the output held has grown by the SVG of its picture, or by a front of
+-- it where a write failed; or else it is refused so.
+abbrev pub EndsOf : Option (List ℕ) → Option (List ℕ) → List ℕ → End → Type 0
+EndsOf old new rest end.Done = (svg : List ℕ) × HasDrawing rest svg × Appends old new svg
+EndsOf old new rest end.WriteFault = (svg : List ℕ) × HasDrawing rest svg × AppendsFront old new svg
+EndsOf old new rest e = RestFails rest e
+
+-- what an end says of the bytes of the input and of the output before and after; want of memory and a failed read say nothing
+abbrev pub Draws : Option (List ℕ) → Option (List ℕ) → List ℕ → End → Type 0
+Draws old new bytes end.TooLong = 67108864 < length bytes
+Draws old new bytes end.Memory = Unit {0}
+Draws old new bytes end.ReadFault = Unit {0}
+Draws old new bytes e = (length bytes ≤ 67108864) × OfParts bytes (λ front rest. EndsOf old new rest e)
 
 -- the status of an end
 abbrev pub status_of : End → ℕ

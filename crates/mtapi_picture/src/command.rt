@@ -1,7 +1,7 @@
 //! What the program does, over any source and sinks.
-ghost use Rattle.std.specs.Prelude.{◌≡◌, ◌⊎◌, ◌≤◌, length, IfOk, IfErr, IfSome};
+ghost use Rattle.std.specs.Prelude.{◌≡◌, ◌⊎◌, ◌≤◌, length, IfOk, IfErr, IfSome, string_bytes};
 ghost use Rattle.byte_io.specs.Causes.{Rose};
-ghost use Rattle.mtapi_picture.specs.Ends.{RestGives, RestFails, IsJournal, Draws, Writes, status_of};
+ghost use Rattle.mtapi_picture.specs.Ends.{RestGives, RestFails, IsDrawing, HasDrawing, Draws, Writes, status_of};
 ghost use Rattle.mtapi_picture.specs.declared.command.End.TheVariants as end;
 
 use byte_io::{ReadAllError, Sink, Source, read_all, write_all};
@@ -49,7 +49,9 @@ fn journal_in(alloc: Global, rest: &[u8]) -> Result<Journal, End>
 }
 
 /// The SVG of a journal.
-fn svg_in(alloc: Global, journal: &Journal) -> Result<String, AllocError> {
+fn svg_in(alloc: Global, journal: &Journal) -> Result<String, AllocError>
+    ensures { IfOk result (λ svg. IsDrawing journal.now (string_bytes svg)) }
+{
     let workers = journal.settings.workers().min(16);
     let seats = workers + journal.callers.min(9);
     let skipped = journal.entries.skipped();
@@ -60,7 +62,7 @@ fn svg_in(alloc: Global, journal: &Journal) -> Result<String, AllocError> {
 /// The SVG of the journal that the rest of an input is, or how the program ends without one.
 fn picture_in(alloc: Global, rest: &[u8]) -> Result<String, End>
     requires { length rest.now ≤ 67108864 }
-    ensures some { IfOk result (λ svg. IsJournal rest.now) }
+    ensures some { IfOk result (λ svg. HasDrawing rest.now (string_bytes svg)) }
     ensures none { IfErr result (RestFails rest.now) }
 {
     let journal = match journal_in(alloc, rest) {
@@ -75,7 +77,7 @@ fn picture_in(alloc: Global, rest: &[u8]) -> Result<String, End>
 
 /// Reads a journal, and writes the picture of its run.
 pub fn draw<S: Source, W: Sink>(alloc: Global, src: &mut S, out: &mut W) -> End
-    ensures drawn { IfSome (S.left src.old) (λ bytes. Draws bytes result) }
+    ensures drawn { IfSome (S.left src.old) (λ bytes. Draws (W.held out.old) (W.held out.new) bytes result) }
     ensures silent { Writes result ⊎ ((W.held out.new ≡ W.held out.old) × (W.faults out.new ≡ W.faults out.old)) }
     ensures read { result ≡ end.ReadFault → Rose (S.faults src.old) (S.faults src.new) }
     ensures written { result ≡ end.WriteFault → Rose (W.faults out.old) (W.faults out.new) }
