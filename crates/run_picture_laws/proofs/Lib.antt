@@ -11,3 +11,4 @@ pub mod Waits
 pub mod Queues
 pub mod Levels
 pub mod Ends
+pub mod Numbers

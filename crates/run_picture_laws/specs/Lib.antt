@@ -2,3 +2,4 @@ pub mod Bars
 pub mod Mutexes
 pub mod Queues
 pub mod Worked
+pub mod Numbers

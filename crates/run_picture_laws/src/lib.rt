@@ -4,6 +4,7 @@
 ghost use Rattle.run_picture_laws.specs.Worked.{OneTaskIsDrawn, TalliesAreDrawn, OneWaitIsDrawn};
 ghost use Rattle.run_picture_laws.specs.Queues.{PicturesShowQueues, PicturesShowLevels};
 ghost use Rattle.run_picture_laws.specs.Mutexes.{PicturesShowMutexes, PicturesShowOwners};
+ghost use Rattle.run_picture_laws.specs.Numbers.{PicturesMarkEntries, PicturesNumberTurns, PicturesShareTurns};
 ghost use Rattle.run_picture_laws.specs.Bars.{RunsHaveBars, PicturesShowRuns, PicturesDontOverlap, PicturesShowEnds};
 
 /// In a picture of any list of entries each pick has exactly one bar, from its own place to that of the end of its run, and no other bar is
@@ -34,6 +35,15 @@ pub fn law_lanes()
 pub fn law_queues()
     ensures lanes { PicturesShowQueues }
     ensures levels { PicturesShowLevels }
+{}
+
+/// In a picture of any list of entries each start, enqueue, give and refusal has its tick, at its place and on the row of its seat, and no
+/// other tick is drawn. The turn of an entry is the number of all entries and left-out looks up to it, and the share of a seat that of its
+/// own ones, as far as 64 bits go.
+pub fn law_numbers()
+    ensures ticks { PicturesMarkEntries }
+    ensures turns { PicturesNumberTurns }
+    ensures shares { PicturesShareTurns }
 {}
 
 /// Three worked journals: what is drawn of them, and lists of bars, spans and levels that the laws refuse, so that none of them says nothing.

@@ -1,0 +1,19 @@
+use Rattle.std.proofs.Common.{◌≡◌, ℕ, ◌+◌, ◌-◌, ◌^◌, ◌<◌, ◌≤◌, get_or, length, replicate, take, suc, min, arith, ap, ◌∙◌}
+use Rattle.std.proofs.lemmas.List.{length-replicate, get_or-replicate}
+use Rattle.run_picture_laws.specs.Numbers.{turns_taken, turns_by}
+use Rattle.run_picture_laws.proofs.Numbers.{marked, numbered, shared, from_none}
+use Rattle.run_picture_laws.proofs.law_numbers.Goals as goal
+
+pub returns-clause-ticks : goal.returns-clause-ticks
+returns-clause-ticks c seats es ns p is = marked es p.ticks.items is.ticks
+
+pub returns-clause-turns : goal.returns-clause-turns
+returns-clause-turns c seats es ns p is same k within =
+    ap (λ z. get_or z k 0) is.turns ∙ numbered 0 k es ns (omega arith) same within ∙ from_none (turns_taken (take (suc k) ns))
+
+pub returns-clause-shares : goal.returns-clause-shares
+returns-clause-shares c seats es ns p is who within =
+    let none : get_or (replicate seats 0) who 0 ≡ 0 = get_or-replicate seats who 0 0 within in
+    let room : who < length (replicate seats 0) = omega (arith, length-replicate {A = ℕ} seats 0) in
+    ap (λ z. get_or z who 0) is.shares ∙ shared who (replicate seats 0) es ns room (omega (arith, none))
+    ∙ ap (λ z. min (z + turns_by who es ns) (2 ^ 64 - 1)) none ∙ from_none (turns_by who es ns)
