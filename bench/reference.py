@@ -170,8 +170,8 @@ def is_part(entries, part, main):
 
 
 def is_worker(entries):
-    """Whether these are the entries of a worker. A run keeps no pick that found nothing."""
-    if any(entry.op not in WORK or entry.reply[0] in ("status", "idle") for entry in entries):
+    """Whether these are the entries of a worker: any of its ops, with any answer but a status, up to its one stop."""
+    if any(entry.op not in WORK or entry.reply[0] == "status" for entry in entries):
         return False
     stops = [place for place, entry in enumerate(entries) if entry.reply == ("stop",)]
     return stops == [len(entries) - 1]
