@@ -3,8 +3,8 @@ use std::sync::Wait;
 use std::sync::atomic::{AtomicU64, Ordering};
 use std::time::Duration;
 
-// So long a sleep is at most, in microseconds.
-const LONGEST: u64 = 1_000;
+/// So long a sleep is at most, in microseconds, while one of those that belong to the bell may be awake.
+pub const SHORT_SLEEP: u64 = 1_000;
 
 /// A bell, how many threads belong to it, and how many of them listen for it.
 #[derive(Drop)]
@@ -12,6 +12,8 @@ pub struct Bell {
     rings: AtomicU64,
     members: AtomicU64,
     listeners: AtomicU64,
+    // Not 0 where somebody may sleep for longer than `SHORT_SLEEP`.
+    long: AtomicU64,
 }
 
 impl Bell {
@@ -20,6 +22,7 @@ impl Bell {
             rings: AtomicU64::new(0),
             members: AtomicU64::new(0),
             listeners: AtomicU64::new(0),
+            long: AtomicU64::new(0),
         }
     }
 
@@ -44,18 +47,22 @@ impl Bell {
         self.listeners.load(Ordering::SeqCst) > 0
     }
 
-    /// Whether all that belong to it listen.
+    /// Whether threads belong to it, and all of them listen.
     pub fn all_listen(&self) -> bool {
-        self.listeners.load(Ordering::SeqCst) >= self.members.load(Ordering::SeqCst)
+        let members = self.members.load(Ordering::SeqCst);
+        members > 0 && self.listeners.load(Ordering::SeqCst) >= members
     }
 
-    /// Sleeps where it hasn't rung since, for a millisecond at most, and tells how often it has rung.
-    pub fn sleep<R: Wait>(&self, rt: &R, rings: u64) -> u64 {
-        self.sleep_for(rt, rings, LONGEST)
+    /// Whether one has to be woken where there is work: nobody is awake, or somebody may sleep long.
+    pub fn asks_for_ring(&self) -> bool {
+        self.all_listen() || self.long.load(Ordering::SeqCst) != 0
     }
 
     /// Sleeps where it hasn't rung since, for so many microseconds at most, and tells how often it has rung.
-    pub(crate) fn sleep_for<R: Wait>(&self, rt: &R, rings: u64, micros: u64) -> u64 {
+    pub fn sleep<R: Wait>(&self, rt: &R, rings: u64, micros: u64) -> u64 {
+        if micros > SHORT_SLEEP {
+            self.long.store(1, Ordering::SeqCst);
+        }
         self.rings.park_timeout(
             rt,
             (rings % 0x1_0000_0000) as u32,
@@ -64,14 +71,19 @@ impl Bell {
         self.rings.load(Ordering::SeqCst)
     }
 
-    /// Rings, and wakes one thread that sleeps.
+    /// Rings, and wakes one thread that sleeps; all, where somebody may sleep long, so that none comes late.
     pub fn ring(&self) {
+        if self.long.load(Ordering::SeqCst) != 0 {
+            self.ring_all();
+            return;
+        }
         self.rings.fetch_add(1, Ordering::SeqCst);
         self.rings.wake_one();
     }
 
     /// Rings, and wakes all threads that sleep.
     pub fn ring_all(&self) {
+        self.long.store(0, Ordering::SeqCst);
         self.rings.fetch_add(1, Ordering::SeqCst);
         self.rings.wake_all();
     }

@@ -69,7 +69,7 @@ impl<'a> Waiting<'a> {
         match self.heard {
             None => self.heard = Some(self.bell.listen()),
             Some(rings) => {
-                self.heard = Some(self.bell.sleep_for(rt, rings, self.micros));
+                self.heard = Some(self.bell.sleep(rt, rings, self.micros));
                 self.micros = self.micros.saturating_mul(2).min(LONGEST);
             }
         }

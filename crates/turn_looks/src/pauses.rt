@@ -5,13 +5,16 @@ use std::sync::Wait;
 use std::sync::atomic::AtomicU64;
 use std::thread;
 use std::time::Duration;
-use turn_cell::Bell;
+use turn_cell::{Bell, SHORT_SLEEP};
 
 // So often it spins before it gives its time away once and then sleeps. Each look takes a turn for which others wait, so they are few.
 const SPINS: u32 = 3;
 
-// So long the longest sleep is, in microseconds.
+// So long a sleep is at most, in microseconds, that nobody ends.
 const LONGEST: u64 = 1_000;
+
+// So long a sleep is at most, in microseconds, that a bell ends, while nobody that belongs to the bell is awake.
+const IDLE: u64 = 16_000;
 
 // So many sleeps a wait with a limit of looks makes at most: two seconds, whatever the limit is.
 const FEW: u64 = 2_000;
@@ -24,6 +27,8 @@ pub struct Pause {
     short: u32,
     // The length of the next sleep, in microseconds.
     micros: u64,
+    // The length of the next sleep that a bell ends, in microseconds, if nobody that belongs to the bell is awake then.
+    idle: u64,
     // How many sleeps are left; without one it gives its time away.
     left: u64,
     // Nobody wakes it, so that a sleep ends by its length.
@@ -48,6 +53,7 @@ impl Pause {
             backoff: Backoff::new(),
             short: 0,
             micros: 1,
+            idle: SHORT_SLEEP,
             left,
             asleep: AtomicU64::new(0),
             heard: None,
@@ -59,6 +65,19 @@ impl Pause {
         self.backoff.reset();
         self.short = 0;
         self.micros = 1;
+        self.idle = SHORT_SLEEP;
+    }
+
+    // The length of a sleep that this bell ends: a millisecond while somebody that belongs to it is awake, who may not ring for all work,
+    // and else twice as long each time.
+    fn length(&mut self, bell: &Bell) -> u64 {
+        if !bell.all_listen() {
+            self.idle = SHORT_SLEEP;
+            return SHORT_SLEEP;
+        }
+        let length = self.idle;
+        self.idle = length.saturating_mul(2).min(IDLE);
+        length
     }
 
     /// Waits once for a bell: it spins, then listens, and then sleeps until it rings. True where it begins to listen.
@@ -74,7 +93,8 @@ impl Pause {
                 true
             }
             Some(rings) => {
-                self.heard = Some(bell.sleep(rt, rings));
+                let micros = self.length(bell);
+                self.heard = Some(bell.sleep(rt, rings, micros));
                 false
             }
         }
