@@ -1,26 +1,8 @@
 -- The canonical text of what a text gives, read again.
-use Rattle.std.proofs.Common.{◌≡◌, ℕ, ◌+◌, ◌≤◌, List, [], ◌∷◌, ◌++◌, length, true, false, eqb, Some, Ok, refl, sym, ap, subst, ◌∙◌, arith, length-append, All, ◌-◌, Option, None, ◌⊎◌, inl, inr, map, append_assoc, suc}
-use Rattle.std.specs.List.{list_all, flat_map}
-use Rattle.std.specs.Str.{bytes_eq}
-use Rattle.std.proofs.lemmas.Bool.{and_parts, and_from, ne_eqb, eqb-true, cases_Bool, eq-eqb, not-false}
-use Rattle.mtapi_values.specs.Attributes.{NodeSettings}
-use Rattle.workload_file.specs.declared.table.Word.{Word}
+use Rattle.workload_file.proofs.Cited.{◌≡◌, ℕ, ◌+◌, ◌≤◌, List, [], ◌∷◌, ◌++◌, length, true, false, eqb, Some, Ok, refl, sym, ap, subst, ◌∙◌, arith, length-append, All, ◌-◌, Option, None, ◌⊎◌, inl, inr, map, append_assoc, suc, list_all, flat_map, bytes_eq, and_parts, and_from, ne_eqb, eqb-true, cases_Bool, eq-eqb, not-false, NodeSettings, Word, Naming, Value, Statement, Reading, Change, row, word_text, word_of, words, naming, fields, setting_values, place_of, use_in, is_unbound, name_in, options_in, is_misplaced, line_gives, with_change, line_adds, lines_add, start, finished, workload_of, bound_name, values_in, change_of, or_zero, settings_by, change_with, value_text, options_words, bound_words, used_words, line_text, statement_text, node_text, caller_text, Line, if_any, statement_lines_behind, lines_of_part, lines_of, laid_out, canonical, led, between, led_append, append-nil, slice_split_at, slice_split_none, Part, Workload, words_of, statement_lines, line_if_any, part_lines}
 use Rattle.workload_file.specs.declared.table.Word.TheVariants as word
-use Rattle.workload_file.specs.declared.table.Naming.{Naming}
 use Rattle.workload_file.specs.declared.table.Naming.TheVariants as rule
-use Rattle.workload_file.specs.declared.values.Value.{Value}
-use Rattle.workload_file.specs.declared.workload.Statement.{Statement}
-use Rattle.workload_file.specs.declared.reading.Reading.{Reading}
-use Rattle.workload_file.specs.declared.reading.Change.{Change}
 use Rattle.workload_file.specs.declared.reading.Change.TheVariants as change
-use Rattle.workload_file.specs.Table.{row, word_text, word_of, words, naming, fields}
-use Rattle.workload_file.specs.Deeds.{setting_values}
-use Rattle.workload_file.specs.Names.{place_of, use_in, is_unbound, name_in, options_in, is_misplaced}
-use Rattle.workload_file.specs.Reading.{line_gives, with_change, line_adds, lines_add, start, finished, workload_of}
-use Rattle.workload_file.specs.Changes.{bound_name, values_in, change_of, or_zero, settings_by, change_with}
-use Rattle.workload_file.specs.Written.{value_text, options_words, bound_words, used_words, line_text, statement_text, node_text, caller_text, Line, if_any, statement_lines_behind, lines_of_part, lines_of, laid_out, canonical}
-use Rattle.number_text.specs.Lists.{led, between}
-use Rattle.number_text.proofs.Pieces.{led_append}
 use Rattle.workload_file.proofs.Facts.{IsRead, stated, states, here, is_sound, bind_ok, ok_is, at_line_ok, one_more, gives_adds}
 use Rattle.workload_file.proofs.Fields.{is_deed, Says, says_node, says_caller, says_deed, says, fields_apart, fields_found, fields_good, place_at, made, deed_said}
 use Rattle.workload_file.proofs.Finds.{find_passes}
@@ -29,12 +11,6 @@ use Rattle.workload_file.proofs.Invariant.{splits, deed_given, node_given, named
 use Rattle.workload_file.proofs.Phrases.{is_word, all_append, all_parts, words_good, words_again, line_printable, printable_lacks, led_length, words_shorter, statements_push, statements_none, laid_none, text_led}
 use Rattle.workload_file.proofs.Spelling.{picks_short, place_is, place_found}
 use Rattle.workload_file.proofs.Places.{bytes_are}
-use Rattle.std.proofs.lemmas.List.{append-nil}
-use Rattle.std.proofs.lemmas.List.Splits.{slice_split_at, slice_split_none}
-use Rattle.workload_file.specs.declared.workload.Part.{Part}
-use Rattle.workload_file.specs.declared.workload.Workload.{Workload}
-use Rattle.workload_file.specs.Cuts.{words_of}
-use Rattle.workload_file.specs.Formed.{statement_lines, line_if_any, part_lines}
 
 -- ==== a line that is written again is no longer than the line that was read
 

@@ -1,47 +1,16 @@
 -- Comments, spaces, the order of options and written-out defaults.
-use Rattle.std.proofs.Common.{◌≡◌, ℕ, ◌≤◌, List, [], ◌∷◌, ◌++◌, length, replicate, Bool, true, false, not, cond, eqb, ◌&&◌, ◌||◌, Option, Some, None, Ok, refl, sym, ap, subst, ◌∙◌, arith, inl, inr, zero, suc, ◌+◌, map}
-use Rattle.std.specs.Prelude.{nat_le, nat_lt, filter, is_some, option_and_then, slice_get}
-use Rattle.std.specs.Option.{option_map}
-use Rattle.std.specs.List.{find, list_any, list_all, onto_first, position_or_len}
-use Rattle.std.specs.Str.{bytes_eq}
-use Rattle.std.proofs.lemmas.Bool.{and_parts, and_from, or_parts, or_from, cases_Bool, eqb-true, lt-ltb, le-ltb, not-false}
-use Rattle.std.proofs.lemmas.List.{append-nil, map-append, length-map}
-use Rattle.std.proofs.lemmas.List.Splits.{length-slice_split}
-use Rattle.number_text.specs.Lists.{between}
-use Rattle.workload_file.specs.declared.table.Word.{Word}
-use Rattle.workload_file.specs.declared.table.Naming.{Naming}
+use Rattle.workload_file.proofs.Cited.{◌≡◌, ℕ, ◌≤◌, List, [], ◌∷◌, ◌++◌, length, replicate, Bool, true, false, not, cond, eqb, ◌&&◌, ◌||◌, Option, Some, None, Ok, refl, sym, ap, subst, ◌∙◌, arith, inl, inr, zero, suc, ◌+◌, map, nat_le, nat_lt, filter, is_some, option_and_then, slice_get, option_map, find, list_any, list_all, onto_first, position_or_len, bytes_eq, and_parts, and_from, or_parts, or_from, cases_Bool, eqb-true, lt-ltb, le-ltb, not-false, append-nil, map-append, length-map, length-slice_split, between, Word, Naming, Key, Field, Value, Statement, Workload, Reading, Change, is_name, is_name_byte, begins_with_letter, words_of, naming, fields, key_text, word_of, key_of, value_of, is_known, has_twice, gives, text_of, has_second, name_in, options_in, use_in, is_called, bound_at, is_binding, place_of, is_taken, is_misplaced, is_ninth_caller, is_unbound, value_given, value_absent, value_at, values_in, change_with, change_of, or_unbound, line_gives, line_adds, lines_add, at_line, start, workload_of, with_change, finished, IsPlain, has_equals, IsSwapped, IsWrittenOut, AddsAlike, DifferAt, AddsNothing, IsInserted, still, still_part, AreStill, GivesStill, is_statement, is_printable, slice_get-map, Sort, Shape, Part, is_begin}
 use Rattle.workload_file.specs.declared.table.Naming.TheVariants as rule
-use Rattle.workload_file.specs.declared.table.Key.{Key}
-use Rattle.workload_file.specs.declared.table.Field.{Field}
-use Rattle.workload_file.specs.declared.values.Value.{Value}
-use Rattle.workload_file.specs.declared.workload.Statement.{Statement}
-use Rattle.workload_file.specs.declared.workload.Workload.{Workload}
-use Rattle.workload_file.specs.declared.reading.Reading.{Reading}
-use Rattle.workload_file.specs.declared.reading.Change.{Change}
-use Rattle.workload_file.specs.Values.{is_name, is_name_byte, begins_with_letter}
-use Rattle.workload_file.specs.Cuts.{words_of}
-use Rattle.workload_file.specs.Table.{naming, fields, key_text, word_of}
-use Rattle.workload_file.specs.Options.{key_of, value_of, is_known, has_twice, gives, text_of}
-use Rattle.workload_file.specs.Names.{has_second, name_in, options_in, use_in, is_called, bound_at, is_binding, place_of, is_taken, is_misplaced, is_ninth_caller, is_unbound}
-use Rattle.workload_file.specs.Changes.{value_given, value_absent, value_at, values_in, change_with, change_of, or_unbound}
-use Rattle.workload_file.specs.Reading.{line_gives, line_adds, lines_add, at_line, start, workload_of, with_change, finished}
-use Rattle.workload_file.specs.Alike.{IsPlain, has_equals, IsSwapped, IsWrittenOut, AddsAlike, DifferAt, AddsNothing, IsInserted, still, still_part, AreStill, GivesStill}
+use Rattle.workload_file.specs.declared.table.Word.TheVariants as word
+use Rattle.workload_file.specs.declared.table.Shape.TheVariants as shape
+use Rattle.workload_file.specs.declared.values.Value.TheVariants as given
+use Rattle.workload_file.specs.declared.reading.Change.TheVariants as change
 use Rattle.workload_file.proofs.Facts.{IsRead, bind_ok, at_line_ok, some_is, here, is_sound, stated, states, silent, silence, ok_is, one_more, gives_adds}
 use Rattle.workload_file.proofs.Fields.{AreApart, IsField, fields_apart, option_is}
 use Rattle.workload_file.proofs.Invariant.{any_push}
 use Rattle.workload_file.proofs.Phrases.{all_append}
 use Rattle.workload_file.proofs.Places.{bytes_are, bytes_same, apart_sym}
 use Rattle.workload_file.proofs.Optioned.{text_skip, text_nothing, known_here}
-use Rattle.workload_file.specs.Faulty.{is_statement, is_printable}
-use Rattle.std.proofs.lemmas.Option.{slice_get-map}
-use Rattle.workload_file.specs.declared.table.Word.TheVariants as word
-use Rattle.workload_file.specs.declared.table.Sort.{Sort}
-use Rattle.workload_file.specs.declared.table.Shape.{Shape}
-use Rattle.workload_file.specs.declared.table.Shape.TheVariants as shape
-use Rattle.workload_file.specs.declared.values.Value.TheVariants as given
-use Rattle.workload_file.specs.declared.workload.Part.{Part}
-use Rattle.workload_file.specs.declared.reading.Change.TheVariants as change
-use Rattle.workload_file.specs.Deeds.{is_begin}
 
 -- ---- lines that say nothing
 

@@ -1,28 +1,7 @@
 -- What is known of a line that was read without a fault, and the other way round.
-use Rattle.std.proofs.Common.{◌≡◌, ℕ, List, [], ◌∷◌, length, Bool, true, false, not, cond, ◌&&◌, Option, Some, None, Result, Ok, Err, refl, sym, ap, ◌∙◌, inl, inr, ◌||◌, ◌<◌, ◌+◌, ◌++◌, arith}
-use Rattle.std.specs.Prelude.{nat_le, nat_lt}
-use Rattle.std.specs.List.{find, list_all, list_any}
-use Rattle.std.proofs.lemmas.Bool.{not-false, or_parts, or_from, and_parts, and_from, cases_Bool, ltb-false, le-ltb, leb-false}
-use Rattle.workload_file.specs.declared.table.Word.{Word}
-use Rattle.workload_file.specs.declared.values.Value.{Value}
+use Rattle.workload_file.proofs.Cited.{◌≡◌, ℕ, List, [], ◌∷◌, length, Bool, true, false, not, cond, ◌&&◌, Option, Some, None, Result, Ok, Err, refl, sym, ap, ◌∙◌, inl, inr, ◌||◌, ◌<◌, ◌+◌, ◌++◌, arith, nat_le, nat_lt, find, list_all, list_any, not-false, or_parts, or_from, and_parts, and_from, cases_Bool, ltb-false, le-ltb, leb-false, Word, Value, Cause, Reading, Change, Statement, is_name, naming, fields, word_of, is_known, has_twice, has_second, name_in, options_in, use_in, is_taken, is_unbound, is_misplaced, is_ninth_caller, words_of, values_in, is_bad, is_missing, names_nothing, change_of, is_printable, is_comment, is_statement, is_faulty, words_meet, statement_causes, word_causes, first_met, ◌>>=◌, unless, words_say, line_gives, at_line, with_change, line_adds, lines_add, start, finished, workload_of, refused_for, IsFirstFault, IsPlain, Workload, Fault, between}
 use Rattle.workload_file.specs.declared.values.Value.TheVariants as given
-use Rattle.workload_file.specs.declared.faults.Cause.{Cause}
 use Rattle.workload_file.specs.declared.faults.Cause.TheVariants as cause
-use Rattle.workload_file.specs.declared.reading.Reading.{Reading}
-use Rattle.workload_file.specs.declared.reading.Change.{Change}
-use Rattle.workload_file.specs.declared.workload.Statement.{Statement}
-use Rattle.workload_file.specs.Values.{is_name}
-use Rattle.workload_file.specs.Table.{naming, fields, word_of}
-use Rattle.workload_file.specs.Options.{is_known, has_twice}
-use Rattle.workload_file.specs.Names.{has_second, name_in, options_in, use_in, is_taken, is_unbound, is_misplaced, is_ninth_caller}
-use Rattle.workload_file.specs.Cuts.{words_of}
-use Rattle.workload_file.specs.Changes.{values_in, is_bad, is_missing, names_nothing, change_of}
-use Rattle.workload_file.specs.Faulty.{is_printable, is_comment, is_statement, is_faulty, words_meet, statement_causes, word_causes, first_met}
-use Rattle.workload_file.specs.Reading.{◌>>=◌, unless, words_say, line_gives, at_line, with_change, line_adds, lines_add, start, finished, workload_of, refused_for, IsFirstFault}
-use Rattle.workload_file.specs.Alike.{IsPlain}
-use Rattle.workload_file.specs.declared.workload.Workload.{Workload}
-use Rattle.workload_file.specs.declared.faults.Fault.{Fault}
-use Rattle.number_text.specs.Lists.{between}
 
 -- ---- steps that did not fail
 
@@ -42,10 +21,10 @@ some x = Some x
 pub some_is : {A : Type 0} (x y : A) → some x ≡ some y → x ≡ y
 some_is x y e = cc
 
-abbrev nothing : (A : Type 0) → Option A
+abbrev pub nothing : (A : Type 0) → Option A
 nothing A = None
 
-none_some : {A : Type 0} (x : A) → nothing A ≡ Some x → ⊥
+pub none_some : {A : Type 0} (x : A) → nothing A ≡ Some x → ⊥
 none_some x e = cc
 
 pub at_line_ok : {A : Type 0} (line : ℕ) (x : Result A Cause) (y : A) → at_line line x ≡ Ok y → x ≡ Ok y
@@ -159,19 +138,6 @@ read_of r first rest w c e none =
       bound = m.0;
     }
 
--- what is known of a statement that meets none of the causes, before its parts are looked at
-pub met_few : (r : Reading) (w : Word) (name : List ℕ) (options : List (List ℕ)) → statement_met r w name options ≡ None → r.count < 20000
-unfolding is_faulty
-met_few r w name options none = leb-false 20000 r.count (cond_none (nat_le 20000 r.count) cause.TooManyStatements _ none).0
-
-pub met_named : (r : Reading) (w : Word) (name : List ℕ) (options : List (List ℕ)) → statement_met r w name options ≡ None → (has_second (naming w) && not (is_name name)) ≡ false
-unfolding is_faulty
-met_named r w name options none =
-    let a = cond_none (nat_le 20000 r.count) cause.TooManyStatements _ none in
-    let b = cond_none (is_ninth_caller r w) cause.TooManyCallers _ a.1 in
-    let d = cond_none (is_misplaced r w) cause.Misplaced _ b.1 in
-    (cond_none (has_second (naming w) && not (is_name name)) cause.BadName _ d.1).0
-
 of_read : (r : Reading) (w : Word) (name : List ℕ) (options : List (List ℕ)) (first : List ℕ) (rest : List (List ℕ)) → IsRead r first rest w name options → statement_met r w name options ≡ None
 unfolding is_faulty
 of_read r w name options first rest f =
@@ -200,7 +166,7 @@ known_met r first rest w c e = rw (c, e) refl
 known_says : (r : Reading) (line : ℕ) (first : List ℕ) (rest : List (List ℕ)) (w : Word) → is_comment first ≡ false → word_of first ≡ Some w → words_say r line (first ∷ rest) ≡ Some (change_of r line w (name_in (naming w) rest) (options_in (naming w) rest))
 known_says r line first rest w c e = rw (c, e) refl
 
-silent_says : (r : Reading) (line : ℕ) (words : List (List ℕ)) → is_statement words ≡ false → (words_met r words ≡ None) × (words_say r line words ≡ None)
+pub silent_says : (r : Reading) (line : ℕ) (words : List (List ℕ)) → is_statement words ≡ false → (words_met r words ≡ None) × (words_say r line words ≡ None)
 silent_says r line [] h = (refl, refl)
 silent_says r line (first ∷ rest) h = let c = not-false (is_comment first) h in (rw c refl, rw c refl)
 

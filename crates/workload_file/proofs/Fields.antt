@@ -1,40 +1,15 @@
 -- The fields of a statement, the kinds of statements, and what each kind says.
-use Rattle.std.proofs.Common.{◌≡◌, List, [], ◌∷◌, Bool, true, Some, refl, ℕ, false, None, subst, ◌&&◌, ◌||◌, not, ℤ, Option, ◌++◌, eqb}
-use Rattle.std.specs.List.{AllByRecursion, find, list_all, list_any}
-use Rattle.std.specs.Str.{bytes_eq}
-use Rattle.std.proofs.lemmas.Bool.{and_parts, or_parts, not-true}
-use Rattle.workload_file.specs.declared.table.Word.{Word}
+use Rattle.workload_file.proofs.Cited.{◌≡◌, List, [], ◌∷◌, Bool, true, Some, refl, ℕ, false, None, subst, ◌&&◌, ◌||◌, not, ℤ, Option, ◌++◌, eqb, AllByRecursion, find, list_all, list_any, bytes_eq, and_parts, or_parts, not-true, Word, Field, row, word_text, words, word_of, naming, fields, key_text, nat_le, Shape, Absent, Value, Deed, Statement, Reading, Change, use_in, deed_with, deed_spelled, queue_deed, lock_deed, segment_deed, setting_values, number_in, whole_in, args_in, cores_in, kind_in, flag_in, mode_in, timeout_in, place_in, place_there, values_in, or_zero, bound_name, settings_by, change_with, change_of, Kind, Timeout, Args, Mask, NodeSettings, Key, Naming, key_of, value_of}
 use Rattle.workload_file.specs.declared.table.Word.TheVariants as word
-use Rattle.workload_file.specs.declared.table.Field.{Field}
-use Rattle.workload_file.specs.Table.{row, word_text, words, word_of, naming, fields, key_text}
-use Rattle.workload_file.proofs.Finds.{find_all}
-use Rattle.std.specs.Prelude.{nat_le}
-use Rattle.workload_file.specs.declared.table.Shape.{Shape}
 use Rattle.workload_file.specs.declared.table.Shape.TheVariants as shape
-use Rattle.workload_file.specs.declared.table.Absent.{Absent}
 use Rattle.workload_file.specs.declared.table.Absent.TheVariants as absent
-use Rattle.workload_file.specs.declared.values.Value.{Value}
 use Rattle.workload_file.specs.declared.values.Value.TheVariants as given
-use Rattle.workload_file.specs.declared.workload.Deed.{Deed}
-use Rattle.workload_file.specs.declared.workload.Statement.{Statement}
-use Rattle.workload_file.specs.declared.reading.Reading.{Reading}
-use Rattle.workload_file.specs.declared.reading.Change.{Change}
 use Rattle.workload_file.specs.declared.reading.Change.TheVariants as change
-use Rattle.workload_file.specs.Names.{use_in}
-use Rattle.workload_file.specs.Deeds.{deed_with, deed_spelled, queue_deed, lock_deed, segment_deed, setting_values, number_in, whole_in, args_in, cores_in, kind_in, flag_in, mode_in, timeout_in, place_in, place_there}
-use Rattle.workload_file.specs.Changes.{values_in, or_zero, bound_name, settings_by, change_with, change_of}
+use Rattle.workload_file.specs.declared.table.Key.TheVariants as key
+use Rattle.workload_file.specs.declared.table.Naming.TheVariants as rule
+use Rattle.workload_file.proofs.Finds.{find_all}
 use Rattle.workload_file.proofs.Facts.{here}
 use Rattle.workload_file.proofs.Places.{bytes_same, apart_sym}
-use Rattle.mtapi_values.specs.declared.kinds.Kind.{Kind}
-use Rattle.mtapi_values.specs.declared.timeouts.Timeout.{Timeout}
-use Rattle.mtapi_values.specs.declared.lists.Args.{Args}
-use Rattle.mtapi_values.specs.declared.masks.Mask.{Mask}
-use Rattle.mtapi_values.specs.Attributes.{NodeSettings}
-use Rattle.workload_file.specs.declared.table.Key.{Key}
-use Rattle.workload_file.specs.declared.table.Key.TheVariants as key
-use Rattle.workload_file.specs.declared.table.Naming.{Naming}
-use Rattle.workload_file.specs.declared.table.Naming.TheVariants as rule
-use Rattle.workload_file.specs.Options.{key_of, value_of}
 use Rattle.workload_file.proofs.Phrases.{is_inner}
 
 -- ==== what holds of each row of the table, tested row by row

@@ -1,7 +1,5 @@
 -- What is found in a list.
-use Rattle.std.proofs.Common.{◌≡◌, List, [], ◌∷◌, ◌++◌, Bool, true, false, Some, None, refl, inl, inr}
-use Rattle.std.specs.List.{find, list_any, list_all}
-use Rattle.std.proofs.lemmas.Bool.{and_parts, or_parts, or_left, or_right, cases_Bool}
+use Rattle.workload_file.proofs.Cited.{◌≡◌, List, [], ◌∷◌, ◌++◌, Bool, true, false, Some, None, refl, inl, inr, find, list_any, list_all, and_parts, or_parts, or_left, or_right, cases_Bool}
 
 pub find_passes : {X : Type 0} (p : X → Bool) (xs : List X) (x : X) → find p xs ≡ Some x → p x ≡ true
 find_passes p [] x e = absurd cc

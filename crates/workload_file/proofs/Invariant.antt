@@ -1,33 +1,11 @@
 -- Each line keeps what is read well formed.
-use Rattle.std.proofs.Common.{◌≡◌, ℕ, ◌+◌, ◌≤◌, ◌<◌, List, [], ◌∷◌, ◌++◌, length, Bool, true, false, not, cond, eqb, Option, Some, refl, sym, ap, arith, inl, inr, append_assoc, ◌&&◌, None, Ok, subst, ◌∙◌, ◌⊎◌, map}
-use Rattle.std.specs.Prelude.{is_some, IfSome}
-use Rattle.std.specs.List.{AllByRecursion, list_any, flat_map, position_or_len, list_all}
-use Rattle.std.specs.Str.{bytes_eq}
-use Rattle.std.proofs.lemmas.Bool.{or_parts, or_from, eqb-true, cases_Bool, lt-ltb, le-leb, not-false, leb-false, ne_eqb}
-use Rattle.std.proofs.lemmas.List.{append-nil, length_push, map-append}
-use Rattle.mtapi_values.specs.Attributes.{NodeSettings}
-use Rattle.workload_file.specs.declared.table.Word.{Word}
+use Rattle.workload_file.proofs.Cited.{◌≡◌, ℕ, ◌+◌, ◌≤◌, ◌<◌, List, [], ◌∷◌, ◌++◌, length, Bool, true, false, not, cond, eqb, Option, Some, refl, sym, ap, arith, inl, inr, append_assoc, ◌&&◌, None, Ok, subst, ◌∙◌, ◌⊎◌, map, is_some, IfSome, AllByRecursion, list_any, flat_map, position_or_len, list_all, bytes_eq, or_parts, or_from, eqb-true, cases_Bool, lt-ltb, le-leb, not-false, leb-false, ne_eqb, append-nil, length_push, map-append, NodeSettings, Word, Naming, Deed, Statement, Part, Reading, is_name, row, naming, fields, deed_spelled, word_for, used_place, values, used_with, setting_values, is_begin, number_in, Spelled, is_called, bound_at, is_taken, is_misplaced, place_of, has_second, name_in, options_in, use_in, is_unbound, is_ninth_caller, finished, with_change, line_gives, line_adds, lines_add, start, workload_of, with_setting, usual_settings, bound_name, values_in, settings_by, or_zero, AllFit, IsBoundAt, has_name, IsNew, IsStatement, AreStatements, begins, IsPart, IsMain, IsFurther, MainFirst, HaveDifferentNames, statement_lines, Rise, line_if_any, part_lines, WellFormed, Workload, Change, between}
 use Rattle.workload_file.specs.declared.table.Word.TheVariants as word
-use Rattle.workload_file.specs.declared.table.Naming.{Naming}
 use Rattle.workload_file.specs.declared.table.Naming.TheVariants as rule
-use Rattle.workload_file.specs.declared.workload.Deed.{Deed}
 use Rattle.workload_file.specs.declared.workload.Deed.TheVariants as deed
-use Rattle.workload_file.specs.declared.workload.Statement.{Statement}
-use Rattle.workload_file.specs.declared.workload.Part.{Part}
-use Rattle.workload_file.specs.declared.reading.Reading.{Reading}
-use Rattle.workload_file.specs.Values.{is_name}
-use Rattle.workload_file.specs.Table.{row, naming, fields}
-use Rattle.workload_file.specs.Deeds.{deed_spelled, word_for, used_place, values, used_with, setting_values, is_begin, number_in, Spelled}
-use Rattle.workload_file.specs.Names.{is_called, bound_at, is_taken, is_misplaced, place_of, has_second, name_in, options_in, use_in, is_unbound, is_ninth_caller}
-use Rattle.workload_file.specs.Reading.{finished, with_change, line_gives, line_adds, lines_add, start, workload_of}
-use Rattle.workload_file.specs.Changes.{with_setting, usual_settings, bound_name, values_in, settings_by, or_zero}
-use Rattle.workload_file.specs.Formed.{AllFit, IsBoundAt, has_name, IsNew, IsStatement, AreStatements, begins, IsPart, IsMain, IsFurther, MainFirst, HaveDifferentNames, statement_lines, Rise, line_if_any, part_lines, WellFormed}
 use Rattle.workload_file.proofs.Facts.{IsRead, here, is_sound, bind_ok, ok_is, at_line_ok, stated}
 use Rattle.workload_file.proofs.Fields.{is_deed, made, fields_good, deed_said, deed_is, node_values, place_at, Says, says_node, says_caller, says_deed, says}
 use Rattle.workload_file.proofs.Spelling.{values_are, place_is, any_place, place_found}
-use Rattle.workload_file.specs.declared.workload.Workload.{Workload}
-use Rattle.workload_file.specs.declared.reading.Change.{Change}
-use Rattle.number_text.specs.Lists.{between}
 
 -- ---- lists that end with a part or a statement
 

@@ -1,3 +1,4 @@
+pub mod Cited
 pub mod Finds
 pub mod Places
 pub mod Facts
@@ -5,6 +6,7 @@ pub mod Phrases
 pub mod Fields
 pub mod Spelling
 pub mod Invariant
+pub mod Placed
 pub mod Optioned
 pub mod Again
 pub mod Alike

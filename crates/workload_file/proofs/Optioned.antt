@@ -1,27 +1,12 @@
 -- The options that are written of values are options of the statement, and give the values.
-use Rattle.std.proofs.Common.{◌≡◌, ℕ, ℤ, ◌-◌, ◌^◌, List, [], ◌∷◌, ◌++◌, Bool, true, false, Option, Some, None, refl, sym, ap, ◌<◌, eqb, subst, inl, inr, append_assoc, arith, length, length-append}
-use Rattle.std.specs.List.{AllByRecursion, list_any, find, list_all}
-use Rattle.std.specs.Str.{bytes_eq}
-use Rattle.std.proofs.lemmas.Bool.{or_parts, eqb-true, and_from, and_parts, or_from, cases_Bool, lt-ltb}
-use Rattle.workload_file.specs.declared.table.Key.{Key}
-use Rattle.workload_file.specs.declared.table.Field.{Field}
+use Rattle.workload_file.proofs.Cited.{◌≡◌, ℕ, ℤ, ◌-◌, ◌^◌, List, [], ◌∷◌, ◌++◌, Bool, true, false, Option, Some, None, refl, sym, ap, ◌<◌, eqb, subst, inl, inr, append_assoc, arith, length, length-append, AllByRecursion, list_any, find, list_all, bytes_eq, or_parts, eqb-true, and_from, and_parts, or_from, cases_Bool, lt-ltb, Key, Field, key_text, key_of, value_of, gives, text_of, field_of, is_known, has_twice, is_usual, value_text, is_default, options_words, is_some, nat_lt, option_map, Shape, Absent, Value, Statement, value_given, value_absent, value_at, values_in}
 use Rattle.workload_file.specs.declared.values.Value.TheVariants as given
-use Rattle.workload_file.specs.Table.{key_text}
-use Rattle.workload_file.specs.Options.{key_of, value_of, gives, text_of, field_of, is_known, has_twice}
-use Rattle.workload_file.specs.Written.{is_usual, value_text, is_default, options_words}
+use Rattle.workload_file.specs.declared.table.Shape.TheVariants as shape
+use Rattle.workload_file.specs.declared.table.Absent.TheVariants as absent
 use Rattle.workload_file.proofs.Facts.{some, is_sound}
 use Rattle.workload_file.proofs.Finds.{find_skip, find_nothing, find_all}
 use Rattle.workload_file.proofs.Invariant.{any_push}
 use Rattle.workload_file.proofs.Places.{bytes_same, apart_sym}
-use Rattle.std.specs.Prelude.{is_some, nat_lt}
-use Rattle.std.specs.Option.{option_map}
-use Rattle.workload_file.specs.declared.table.Shape.{Shape}
-use Rattle.workload_file.specs.declared.table.Shape.TheVariants as shape
-use Rattle.workload_file.specs.declared.table.Absent.{Absent}
-use Rattle.workload_file.specs.declared.table.Absent.TheVariants as absent
-use Rattle.workload_file.specs.declared.values.Value.{Value}
-use Rattle.workload_file.specs.declared.workload.Statement.{Statement}
-use Rattle.workload_file.specs.Changes.{value_given, value_absent, value_at, values_in}
 use Rattle.workload_file.proofs.Fields.{AreApart, IsField, is_good, is_shaped, option_is, key_good}
 use Rattle.workload_file.proofs.Phrases.{is_inner, is_word, all_append, all_parts}
 use Rattle.workload_file.proofs.Spelling.{value_is, absent_is, spelled}

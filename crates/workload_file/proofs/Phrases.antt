@@ -1,26 +1,6 @@
 -- Words that are joined are cut into the same words, and a line of fewer words is shorter.
-use Rattle.std.proofs.Common.{◌≡◌, ℕ, ◌+◌, ◌≤◌, List, [], ◌∷◌, ◌++◌, length, Bool, true, false, not, cond, ◌&&◌, eqb, refl, ap, ◌∙◌, arith, inl, inr, length-append, All, Result, Ok, sym, ◌-◌, replicate, Err, append_assoc, take, get_or, drop, ◌<◌, ◌⊎◌}
-use Rattle.std.specs.Prelude.{nat_lt, filter, OnOk}
-use Rattle.std.specs.List.{AllByRecursion, list_all, join_with_byte, onto_first, flat_map}
-use Rattle.std.proofs.lemmas.Bool.{and_parts, and_from, cases_Bool, eq-eqb, eqb-true, not-true, ne_eqb}
-use Rattle.std.proofs.lemmas.List.Elements.{All-from_recursion}
-use Rattle.std.proofs.lemmas.List.Splits.{slice_split_at, slice_split_none, length-slice_split, join_with_byte-slice_split}
-use Rattle.number_text.specs.Lists.{between, led}
-use Rattle.workload_file.specs.Cuts.{words_of}
-use Rattle.workload_file.specs.Faulty.{is_printable}
-use Rattle.workload_file.specs.Written.{line_text, Line, if_any, laid_out, statement_lines_behind, statement_text, lines_of_part}
-use Rattle.number_text.proofs.Pieces.{joined, led_append}
-use denote.Ref.{Bor}
-use Rattle.std.proofs.lemmas.List.{map-append, append-nil, take_all, take_more, replicate_more}
-use Rattle.workload_file.specs.Texts.{texts}
-use Rattle.workload_file.specs.declared.reading.Reading.{Reading}
-use Rattle.workload_file.specs.declared.faults.Fault.{Fault}
-use Rattle.workload_file.specs.declared.faults.LineError.{LineError}
+use Rattle.workload_file.proofs.Cited.{◌≡◌, ℕ, ◌+◌, ◌≤◌, List, [], ◌∷◌, ◌++◌, length, Bool, true, false, not, cond, ◌&&◌, eqb, refl, ap, ◌∙◌, arith, inl, inr, length-append, All, Result, Ok, sym, ◌-◌, replicate, Err, append_assoc, take, get_or, drop, ◌<◌, ◌⊎◌, nat_lt, filter, OnOk, AllByRecursion, list_all, join_with_byte, onto_first, flat_map, and_parts, and_from, cases_Bool, eq-eqb, eqb-true, not-true, ne_eqb, All-from_recursion, slice_split_at, slice_split_none, length-slice_split, join_with_byte-slice_split, between, led, words_of, is_printable, line_text, Line, if_any, laid_out, statement_lines_behind, statement_text, lines_of_part, joined, led_append, Bor, map-append, append-nil, take_all, take_more, replicate_more, texts, Reading, Fault, LineError, line_adds, lines_add, Fails, Statement, Part, last_line}
 use Rattle.workload_file.specs.declared.faults.LineError.TheVariants as errors
-use Rattle.workload_file.specs.Reading.{line_adds, lines_add, Fails}
-use Rattle.workload_file.specs.declared.workload.Statement.{Statement}
-use Rattle.workload_file.specs.declared.workload.Part.{Part}
-use Rattle.workload_file.specs.Led.{last_line}
 
 -- ---- what words consist of
 

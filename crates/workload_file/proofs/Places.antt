@@ -1,18 +1,6 @@
 -- The index of a part's names, and the places at which the names are bound.
-use Rattle.std.proofs.Common.{◌≡◌, ℕ, ◌+◌, ◌<◌, ◌≤◌, List, [], ◌∷◌, ◌++◌, Bool, true, false, cond, eqb, length, Option, Some, None, refl, ap, arith, inl, inr, pow_mono, pow-add, ◌*◌, ◌-◌, ◌^◌, get_or, take, drop, take_all, ◌&&◌, ◌||◌, sym, ◌∙◌}
-use Rattle.std.specs.Prelude.{nat_lt, nat_le, length}
-use Rattle.std.proofs.lemmas.List.{length_push}
-use Rattle.std.specs.List.{position_or_len, list_all}
-use Rattle.std.specs.Str.{bytes_eq}
-use Rattle.std.proofs.lemmas.Slice.Eq.{bytes_eq-Decides}
-use Rattle.std.proofs.lemmas.List.Folds.{position_or_len_push}
-use Rattle.std.proofs.lemmas.Bool.{cases_Bool, lt-ltb, le-ltb, eq-eqb, ne_eqb, cases_eq, leb-true, and_parts, or_cases, eqb-true}
-use Rattle.workload_file.specs.declared.workload.Statement.{Statement}
-use Rattle.workload_file.specs.Names.{bound_at, is_called}
-use Rattle.workload_file.specs.Indexed.{first_of_two, key_of}
-use Rattle.std.specs.Ordering.{nat_cmp, is_eq}
-use Rattle.std.specs.Cmp.{unsigned_tied}
-use Rattle.workload_file.specs.Values.{is_name, is_name_byte, is_letter, begins_with_letter}
+use Rattle.workload_file.proofs.Cited.{◌≡◌, ℕ, ◌+◌, ◌<◌, ◌≤◌, List, [], ◌∷◌, ◌++◌, Bool, true, false, cond, eqb, length, Option, Some, None, refl, ap, arith, inl, inr, pow_mono, pow-add, ◌*◌, ◌-◌, ◌^◌, get_or, take, drop, take_all, ◌&&◌, ◌||◌, sym, ◌∙◌, nat_lt, nat_le, length_push, position_or_len, list_all, bytes_eq, bytes_eq-Decides, position_or_len_push, cases_Bool, lt-ltb, le-ltb, eq-eqb, ne_eqb, cases_eq, leb-true, and_parts, or_cases, eqb-true, Statement, bound_at, is_called, first_of_two, nat_cmp, is_eq, unsigned_tied, is_name, is_name_byte, is_letter, begins_with_letter}
+use Rattle.workload_file.specs.Indexed.{key_of}
 
 pub bytes_are : (xs ys : List ℕ) → bytes_eq xs ys ≡ true → xs ≡ ys
 bytes_are xs ys h = (bytes_eq-Decides xs ys).0 h

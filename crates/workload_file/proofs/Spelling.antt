@@ -1,44 +1,15 @@
 -- A value that was read is in its range, and is written as it was read.
-use Rattle.std.proofs.Common.{◌≡◌, ℕ, ◌+◌, ◌-◌, ◌^◌, ◌≤◌, ◌<◌, List, [], ◌∷◌, ◌++◌, length, Bool, true, false, not, cond, ◌&&◌, eqb, Option, Some, None, refl, sym, ap, subst, ◌∙◌, arith, ◌⊎◌, inl, inr, get_or, zero, suc, length-append}
-use Rattle.std.specs.Prelude.{nat_le, is_some, option_and_then, slice_get, codes}
-use Rattle.std.specs.List.{list_any, position_or_len, AllByRecursion, find, list_all}
-use Rattle.std.specs.Fmt.{decimal}
-use Rattle.std.specs.Str.{bytes_eq}
-use Rattle.std.proofs.lemmas.Bool.{eqb-true, and_parts, leb-true, cases_Bool, eq-eqb, and_from, or_parts, or_left, or_right}
-use Rattle.std.proofs.lemmas.List.Quantifiers.{position-Some}
-use Rattle.std.proofs.lemmas.List.Sums.{split_at_first, passes_at_first}
-use Rattle.mtapi_values.specs.declared.kinds.Kind.{Kind}
-use Rattle.mtapi_values.specs.declared.timeouts.Timeout.{Timeout}
+use Rattle.workload_file.proofs.Cited.{◌≡◌, ℕ, ◌+◌, ◌-◌, ◌^◌, ◌≤◌, ◌<◌, List, [], ◌∷◌, ◌++◌, length, Bool, true, false, not, cond, ◌&&◌, eqb, Option, Some, None, refl, sym, ap, subst, ◌∙◌, arith, ◌⊎◌, inl, inr, get_or, zero, suc, length-append, nat_le, is_some, option_and_then, slice_get, codes, list_any, position_or_len, AllByRecursion, find, list_all, decimal, bytes_eq, eqb-true, and_parts, leb-true, cases_Bool, eq-eqb, and_from, or_parts, or_left, or_right, position-Some, split_at_first, passes_at_first, Kind, Timeout, kind_all, kind_word, kind_named, list_of, led, cores_text, cores_fit, bind_some, whole_fits, list_fits, number_spelled, cores_spelled, whole_spelled, list_spelled, Sort, Statement, number, number_within, cores_of, timeout_of, flag_of, mode_of, is_name, key_of, value_of, is_known, text_of, place_of, bound_at, is_called, is_binding, name_text, timeout_text, name_at, name_of, value_text, is_default, option_words, options_words, IsBoundAt, IsTimeout, Fits, AllFit, option_map, whole, led_append, Shape, Absent, Key, Field, Value, key_text, or_bad, or_unbound, value_given, value_absent, value_at, values_in}
+use Rattle.number_text.specs.Lists.{◌>>=◌}
 use Rattle.mtapi_values.specs.declared.timeouts.Timeout.TheVariants as timeout
-use Rattle.mtapi_values.specs.Kinds.{kind_all, kind_word, kind_named}
-use Rattle.number_text.specs.Lists.{◌>>=◌, list_of, led}
-use Rattle.number_text.specs.Cores.{cores_text, cores_of as listed_cores}
-use Rattle.number_text.proofs.Reading.{cores_fit, bind_some, within_is as wide_is, whole_fits, list_fits}
-use Rattle.number_text.proofs.Spelling.{number_spelled, cores_spelled, whole_spelled, list_spelled}
-use Rattle.workload_file.specs.declared.table.Sort.{Sort}
-use Rattle.workload_file.specs.declared.workload.Statement.{Statement}
-use Rattle.workload_file.specs.Values.{number, number_within, cores_of, timeout_of, flag_of, mode_of, is_name}
-use Rattle.workload_file.specs.Options.{key_of, value_of, is_known, text_of}
-use Rattle.workload_file.specs.Names.{place_of, bound_at, is_called, is_binding}
-use Rattle.workload_file.specs.Reading.{name_text}
-use Rattle.workload_file.specs.Written.{timeout_text, name_at, name_of, value_text, is_default, option_words, options_words}
-use Rattle.workload_file.specs.Formed.{IsBoundAt, IsTimeout, Fits, AllFit}
+use Rattle.number_text.specs.Cores.{cores_of as listed_cores}
+use Rattle.number_text.proofs.Reading.{within_is as wide_is}
+use Rattle.workload_file.specs.declared.table.Shape.TheVariants as shape
+use Rattle.workload_file.specs.declared.table.Absent.TheVariants as absent
+use Rattle.workload_file.specs.declared.values.Value.TheVariants as given
 use Rattle.workload_file.proofs.Facts.{some_is, is_sound}
 use Rattle.workload_file.proofs.Finds.{find_passes, find_all}
 use Rattle.workload_file.proofs.Places.{bytes_are, apart_sym}
-use Rattle.std.specs.Option.{option_map}
-use Rattle.number_text.specs.Numbers.{whole}
-use Rattle.number_text.proofs.Pieces.{led_append}
-use Rattle.workload_file.specs.declared.table.Shape.{Shape}
-use Rattle.workload_file.specs.declared.table.Shape.TheVariants as shape
-use Rattle.workload_file.specs.declared.table.Absent.{Absent}
-use Rattle.workload_file.specs.declared.table.Absent.TheVariants as absent
-use Rattle.workload_file.specs.declared.table.Key.{Key}
-use Rattle.workload_file.specs.declared.table.Field.{Field}
-use Rattle.workload_file.specs.declared.values.Value.{Value}
-use Rattle.workload_file.specs.declared.values.Value.TheVariants as given
-use Rattle.workload_file.specs.Table.{key_text}
-use Rattle.workload_file.specs.Changes.{or_bad, or_unbound, value_given, value_absent, value_at, values_in}
 use Rattle.workload_file.proofs.Fields.{AreApart, is_good, is_refused, is_shaped, is_there, is_filled, are_filled}
 
 pub any_place : {X : Type 0} (p : X → Bool) (xs : List X) → list_any p xs ≡ true → position_or_len p xs < length xs

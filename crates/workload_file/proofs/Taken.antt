@@ -1,12 +1,5 @@
 -- What was taken of a source that was read without a fault.
-use Rattle.std.proofs.Common.{◌≡◌, ℕ, ◌≤◌, List, drop, length, Option, Some, None, Ok, Err, sym, ◌∙◌, arith}
-use Rattle.std.specs.Prelude.{IfSome}
-use Rattle.std.specs.Io.KnownBytes.{IsAtEnd}
-use Rattle.std.specs.Global.{Vec}
-use Rattle.std.proofs.Math.ListN.{drop_of_length-le}
-use Rattle.byte_io.specs.Causes.{ReadsWhole}
-use Rattle.byte_io.specs.declared.whole.ReadAllError.TheVariants.{TooLong}
-use Rattle.workload_file.specs.Loading.{ReadsClean}
+use Rattle.workload_file.proofs.Cited.{◌≡◌, ℕ, ◌≤◌, List, drop, length, Option, Some, None, Ok, Err, sym, ◌∙◌, arith, IfSome, IsAtEnd, Vec, drop_of_length-le, ReadsWhole, TooLong, ReadsClean}
 
 at_end : (bytes : List ℕ) (new : Option (List ℕ)) → length bytes ≤ 1048576 → IsAtEnd new → IfSome new (λ rest. rest ≡ drop 1048577 bytes)
 at_end bytes None le e = tt

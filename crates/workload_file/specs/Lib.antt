@@ -7,6 +7,7 @@ pub mod Options
 pub mod Deeds
 pub mod Names
 pub mod Changes
+pub mod Steps
 pub mod Faulty
 pub mod Reading
 pub mod Indexed

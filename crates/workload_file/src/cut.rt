@@ -1,18 +1,17 @@
 //! Words of a line.
-ghost use Rattle.std.specs.Prelude.{◌≡◌, IfOk};
+ghost use Rattle.std.specs.Prelude.{◌≡◌, OnOk};
 ghost use Rattle.workload_file.specs.Cuts.{words_of};
 ghost use Rattle.workload_file.specs.Texts.{texts};
 
 use number_text::cut_at;
-use std::alloc::{AllocError, Global};
+use std::alloc::AllocError;
 
-/// The words of a line.
+/// Makes a list the words of a line. The list keeps its memory from line to line.
 #[tactic(auto, unfolding(crate::specs::Cuts::words_of), using(crate::proofs::Phrases::texts_push))]
-pub fn words_of(alloc: Global, line: &[u8]) -> Result<Vec<&[u8]>, AllocError>
-    ensures { IfOk result (λ v. texts v.items ≡ words_of line.now) }
+pub fn words_of<'a>(words: &mut Vec<&'a [u8]>, line: &'a [u8]) -> Result<(), AllocError>
+    ensures { OnOk result (texts words.new.items ≡ words_of line.now) }
 {
-    // Few lines have more words, so that the list seldom moves.
-    let mut words = Vec::with_capacity(alloc, 8)?;
+    words.clear();
     let mut left = Some(line);
     'cutting: while let Some(text) = left {
         let (word, rest) = cut_at(text, b' ');
@@ -21,5 +20,5 @@ pub fn words_of(alloc: Global, line: &[u8]) -> Result<Vec<&[u8]>, AllocError>
         }
         left = rest;
     }
-    Ok(words)
+    Ok(())
 }

@@ -1,23 +1,22 @@
 //! What the options of a statement give.
-ghost use Rattle.std.specs.Prelude.{◌≡◌, ◌++◌, IfOk, OnOk, if◌then◌else◌};
+ghost use Rattle.std.specs.Prelude.{◌≡◌, ◌++◌, map, OnOk, if◌then◌else◌};
 ghost use Rattle.std.specs.Option.{option_copied};
-ghost use Rattle.workload_file.specs.Texts.{texts};
 ghost use Rattle.workload_file.specs.declared.values.Value.TheVariants as given;
 ghost use Rattle.workload_file.specs.Values.{is_name};
 ghost use Rattle.workload_file.specs.Names.{place_of};
-ghost use Rattle.workload_file.specs.Changes.{or_unbound, value_given, value_absent, value_at, values_in};
+ghost use Rattle.workload_file.specs.Changes.{or_unbound, value_given, value_absent, value_at};
+ghost use Rattle.workload_file.specs.Steps.{values_of};
 ghost use Rattle.workload_file.specs.Indexed.{IsReader};
 
 use crate::name::is_name;
 use crate::names::place_of;
 use crate::numbers::{cores_of, flag_of, mode_of, number_within, timeout_of};
-use crate::options::text_of;
 use crate::reading::Reader;
 use crate::table::{Absent, Field, Shape, Sort};
 use crate::values::Value;
 use mtapi_values::{Args, Mask};
 use number_text::{kind_of, list_of, whole};
-use std::alloc::{AllocError, Global};
+use std::alloc::AllocError;
 
 /// The place at which a name was bound to such a thing.
 fn named(r: &Reader, sort: Sort, text: &[u8]) -> Value
@@ -89,33 +88,34 @@ fn value_at(r: &Reader, field: Field, text: Option<&[u8]>) -> Value
 fn add_values(
     values: &mut Vec<Value>,
     r: &Reader,
-    options: &[&[u8]],
     fields: &[Field],
+    given: &[Option<&[u8]>],
 ) -> Result<(), AllocError>
     requires { IsReader r.now }
-    ensures { OnOk result (values.new.items ≡ values.old.items ++ values_in r.now.said.current.statements (texts options.now) fields.now) }
+    ensures { OnOk result (values.new.items ≡ values.old.items ++ values_of r.now.said.current.statements fields.now (map option_copied given.now)) }
 {
     match fields {
         [] => Ok(()),
-        [field, rest @ ..] => {
-            values.push(value_at(r, *field, text_of(field.key, options)))?;
-            add_values(values, r, options, rest)
-        }
+        [field, fields @ ..] => match given {
+            [] => Ok(()),
+            [text, given @ ..] => {
+                values.push(value_at(r, *field, *text))?;
+                add_values(values, r, fields, given)
+            }
+        },
     }
 }
 
-/// What these options give, in the order of the table. Each text is read once.
-pub fn values_in(
-    alloc: Global,
+/// What options of these texts give, in the order of the table. Each text is read once, and the list keeps its memory.
+pub fn read_values(
+    values: &mut Vec<Value>,
     r: &Reader,
-    options: &[&[u8]],
     fields: &[Field],
-) -> Result<Vec<Value>, AllocError>
+    given: &[Option<&[u8]>],
+) -> Result<(), AllocError>
     requires { IsReader r.now }
-    ensures { IfOk result (λ values. values.items ≡ values_in r.now.said.current.statements (texts options.now) fields.now) }
+    ensures { OnOk result (values.new.items ≡ values_of r.now.said.current.statements fields.now (map option_copied given.now)) }
 {
-    // Each option gives one value, so that the list never moves.
-    let mut values = Vec::with_capacity(alloc, fields.len())?;
-    add_values(&mut values, r, options, fields)?;
-    Ok(values)
+    values.clear();
+    add_values(values, r, fields, given)
 }

@@ -1,5 +1,5 @@
-//! What a line says, or the first cause that it meets.
-ghost use Rattle.std.specs.Prelude.{◌≡◌, ◌<◌, ◌∷◌, ◌&&◌, not, false, IfOk, OnOk, IsSome};
+//! What a line adds, or the first cause that it meets.
+ghost use Rattle.std.specs.Prelude.{◌≡◌, ◌<◌, ◌∷◌, ◌&&◌, not, false, Some, None, IfOk, OnOk};
 ghost use Rattle.std.specs.List.{list_any, list_all, find};
 ghost use Rattle.workload_file.specs.Texts.{texts};
 ghost use Rattle.workload_file.specs.Values.{is_name};
@@ -7,19 +7,21 @@ ghost use Rattle.workload_file.specs.Table.{naming, fields};
 ghost use Rattle.workload_file.specs.Names.{has_second, name_in, options_in, use_in, is_unbound};
 ghost use Rattle.workload_file.specs.Changes.{is_bad, is_missing, names_nothing, values_in, bound_name, change_with, change_of};
 ghost use Rattle.workload_file.specs.Faulty.{is_printable, is_comment, is_faulty, statement_causes, word_causes, words_meet};
-ghost use Rattle.workload_file.specs.Reading.{unless, words_say, line_gives};
-ghost use Rattle.workload_file.specs.Indexed.{IsReader};
+ghost use Rattle.workload_file.specs.Reading.{words_say, line_adds, Gives};
+ghost use Rattle.workload_file.specs.Steps.{late_causes, unless_met};
+ghost use Rattle.workload_file.specs.Indexed.{IsReader, said_then};
 
+use crate::changes::with_change;
 use crate::cut::words_of;
 use crate::deeds::{deed_with, settings_with};
-use crate::faults::Cause;
-use crate::given::values_in;
+use crate::faults::{Cause, Fault, LineError};
+use crate::given::read_values;
 use crate::name::{Name, is_name};
 use crate::names::{
     has_second, is_misplaced, is_ninth_caller, is_taken, name_in, options_in, use_in,
 };
-use crate::options::{all_known, has_twice};
-use crate::reading::{Change, Reader};
+use crate::options::place_texts;
+use crate::reading::{Change, Lists, Reader};
 use crate::table::{Naming, Word};
 use crate::values::Value;
 use crate::workload::Statement;
@@ -49,54 +51,43 @@ fn is_unbound(naming: Naming, place: Option<u32>) -> bool
     matches!(naming, Naming::Uses(_)) && place.is_none()
 }
 
-/// Whether a statement has this fault.
-#[tactic(auto, unfolding(crate::specs::Faulty::is_faulty))]
-fn is_faulty(
-    r: &Reader,
-    word: Word,
-    name: &[u8],
-    options: &[&[u8]],
-    place: Option<u32>,
-    values: &[Value],
-    cause: Cause,
-) -> bool
-    requires reader { IsReader r.now }
-    requires place { place ≡ use_in r.now.said.current.statements (naming word) name.now }
-    requires values { values.now ≡ values_in r.now.said.current.statements (texts options.now) (fields word) }
-    ensures { result ≡ is_faulty r.now.said word name.now (texts options.now) cause }
-{
-    match cause {
-        Cause::TooManyStatements => 20_000 <= r.said.count,
-        Cause::TooManyCallers => is_ninth_caller(r, word),
-        Cause::Misplaced => is_misplaced(r, word),
-        Cause::BadName => has_second(word.naming()) && !is_name(name),
-        Cause::UnknownOption => !all_known(word.fields(), options),
-        Cause::OptionTwice => has_twice(options),
-        Cause::BadValue => any_bad(values),
-        Cause::OptionMissing => any_missing(values),
-        Cause::NameTaken => is_taken(r, word.naming(), name),
-        Cause::NameUnknown => is_unbound(word.naming(), place) || any_unbound(values),
-        Cause::LineTooLong | Cause::BadByte | Cause::UnknownWord => false,
-    }
-}
-
-// One test for each cause of a list, in its order: a walk over the list would pass all that is asked to each step.
-macro_rules! first_of {
-    ($r:ident $word:ident $name:ident $options:ident $place:ident $values:ident: $($cause:ident)*) => {{
-        $(if is_faulty($r, $word, $name, $options, $place, $values, Cause::$cause) { return Some(Cause::$cause); })*
-        None
-    }};
-}
-
-/// The first of the causes of a statement that it meets.
+/// The first of the causes that a statement meets by its values and its names.
 #[rattlefmt::skip]
-fn first_met(r: &Reader, word: Word, name: &[u8], options: &[&[u8]], place: Option<u32>, values: &[Value]) -> Option<Cause>
+#[tactic(auto, unfolding(crate::specs::Faulty::is_faulty))]
+fn late_met(r: &Reader, word: Word, name: &[u8], options: &[&[u8]], place: Option<u32>, values: &[Value]) -> Option<Cause>
     requires reader { IsReader r.now }
     requires place { place ≡ use_in r.now.said.current.statements (naming word) name.now }
     requires values { values.now ≡ values_in r.now.said.current.statements (texts options.now) (fields word) }
-    ensures { result ≡ find (is_faulty r.now.said word name.now (texts options.now)) statement_causes }
+    ensures { result ≡ find (is_faulty r.now.said word name.now (texts options.now)) late_causes }
 {
-    first_of!(r word name options place values: TooManyStatements TooManyCallers Misplaced BadName UnknownOption OptionTwice BadValue OptionMissing NameTaken NameUnknown)
+    if any_bad(values) { return Some(Cause::BadValue); }
+    if any_missing(values) { return Some(Cause::OptionMissing); }
+    if is_taken(r, word.naming(), name) { return Some(Cause::NameTaken); }
+    if is_unbound(word.naming(), place) || any_unbound(values) { return Some(Cause::NameUnknown); }
+    None
+}
+
+macro_rules! met {
+    ($($test:expr => $cause:ident),*) => {$(if $test { return Ok(Some(Cause::$cause)); })*};
+}
+
+/// The first of the causes of a statement that it meets. With none, the list has what its options give.
+#[rattlefmt::skip]
+#[tactic(auto, unfolding(crate::specs::Faulty::is_faulty))]
+fn first_met<'a>(r: &Reader, given: &mut Vec<Option<&'a [u8]>>, values: &mut Vec<Value>, word: Word, name: &[u8], options: &[&'a [u8]], place: Option<u32>) -> Result<Option<Cause>, AllocError>
+    requires reader { IsReader r.now }
+    requires place { place ≡ use_in r.now.said.current.statements (naming word) name.now }
+    ensures value { IfOk result (λ met. met ≡ find (is_faulty r.now.said word name.now (texts options.now)) statement_causes) }
+    ensures few { IfOk result (λ met. met ≡ None → r.now.said.count < 20000) }
+    ensures named { IfOk result (λ met. met ≡ None → (has_second (naming word) && not (is_name name.now)) ≡ false) }
+    ensures values { IfOk result (λ met. met ≡ None → values.new.items ≡ values_in r.now.said.current.statements (texts options.now) (fields word)) }
+{
+    met!(20_000 <= r.said.count => TooManyStatements, is_ninth_caller(r, word) => TooManyCallers, is_misplaced(r, word) => Misplaced);
+    met!(has_second(word.naming()) && !is_name(name) => BadName);
+    let placed = place_texts(given, word, options)?;
+    met!(!placed.known => UnknownOption, placed.twice => OptionTwice);
+    read_values(values, r, word.fields(), given)?;
+    Ok(late_met(r, word, name, options, place, values))
 }
 
 fn bound_name(naming: Naming, name: &[u8]) -> Option<Name>
@@ -126,51 +117,57 @@ fn change_with(line: u64, word: Word, name: &[u8], place: Option<u32>, values: &
     }
 }
 
-/// What a statement adds, or the first cause that it meets.
-fn statement_gives(
+/// What a statement adds, unless it meets a cause.
+fn add_statement<'a>(
     alloc: Global,
-    r: &Reader,
+    r: &mut Reader,
+    given: &mut Vec<Option<&'a [u8]>>,
+    values: &mut Vec<Value>,
     line: u64,
     word: Word,
-    rest: &[&[u8]],
-) -> Result<Result<Change, Cause>, AllocError>
-    requires { IsReader r.now }
-    ensures value { let name = name_in (naming word) (texts rest.now) in let options = options_in (naming word) (texts rest.now) in IfOk result (λ found. found ≡ unless (find (is_faulty r.now.said word name options) statement_causes) (change_of r.now.said line word name options)) }
-    ensures few { IfOk result (λ found. OnOk found (r.now.said.count < 20000)) }
+    rest: &[&'a [u8]],
+) -> Result<(), LineError>
+    requires { IsReader r.old }
+    ensures value { let name = name_in (naming word) (texts rest.now) in let options = options_in (naming word) (texts rest.now) in Gives (said_then result r.new.said) (unless_met r.old.said line (find (is_faulty r.old.said word name options) statement_causes) (Some (change_of r.old.said line word name options))) }
+    ensures reader { OnOk result (IsReader r.new) }
 {
     let name = name_in(word.naming(), rest);
     let options = options_in(word.naming(), rest);
     let place = use_in(r, word.naming(), name);
-    let values = values_in(alloc, r, options, word.fields())?;
-    match first_met(r, word, name, options, place, &values) {
-        Some(cause) => Ok(Err(cause)),
-        None => Ok(Ok(change_with(line, word, name, place, &values))),
+    match first_met(r, given, values, word, name, options, place)? {
+        Some(cause) => Err(LineError::Refused(Fault { line, cause })),
+        None => {
+            with_change(alloc, r, line, change_with(line, word, name, place, values))?;
+            Ok(())
+        }
     }
 }
 
-/// What words say, or the first cause that they meet.
-fn words_give(
+/// What words add, unless they meet a cause.
+fn add_words<'a>(
     alloc: Global,
-    r: &Reader,
+    r: &mut Reader,
+    given: &mut Vec<Option<&'a [u8]>>,
+    values: &mut Vec<Value>,
     line: u64,
-    words: &[&[u8]],
-) -> Result<Result<Option<Change>, Cause>, AllocError>
-    requires { IsReader r.now }
-    ensures value { IfOk result (λ found. found ≡ unless (find (words_meet r.now.said (texts words.now)) word_causes) (words_say r.now.said line (texts words.now))) }
-    ensures few { IfOk result (λ found. IfOk found (λ c. IsSome c → r.now.said.count < 20000)) }
+    words: &[&'a [u8]],
+) -> Result<(), LineError>
+    requires { IsReader r.old }
+    ensures value { Gives (said_then result r.new.said) (unless_met r.old.said line (find (words_meet r.old.said (texts words.now)) word_causes) (words_say r.old.said line (texts words.now))) }
+    ensures reader { OnOk result (IsReader r.new) }
 {
     match words {
-        [] => Ok(Ok(None)),
+        [] => Ok(()),
         [first, rest @ ..] => {
             if is_comment(first) {
-                return Ok(Ok(None));
+                return Ok(());
             }
             match Word::from_text(first) {
-                Some(word) => match statement_gives(alloc, r, line, word, rest)? {
-                    Ok(change) => Ok(Ok(Some(change))),
-                    Err(cause) => Ok(Err(cause)),
-                },
-                None => Ok(Err(Cause::UnknownWord)),
+                Some(word) => add_statement(alloc, r, given, values, line, word, rest),
+                None => Err(LineError::Refused(Fault {
+                    line,
+                    cause: Cause::UnknownWord,
+                })),
             }
         }
     }
@@ -191,24 +188,38 @@ fn all_printable(text: &[u8]) -> bool
     text.iter().all(|b| 32 <= *b && *b <= 126)
 }
 
-/// What a line says, or the first cause that it meets.
-#[tactic(auto, unfolding(crate::specs::Reading::line_gives))]
-pub fn line_gives(
+/// The workload so far with a line, or the first cause that the line meets.
+#[tactic(auto, unfolding(crate::specs::Reading::line_adds, crate::specs::Reading::line_gives))]
+pub fn add_line<'a>(
     alloc: Global,
-    r: &Reader,
+    r: &mut Reader,
+    lists: &mut Lists<'a>,
     line: u64,
-    text: &[u8],
-) -> Result<Result<Option<Change>, Cause>, AllocError>
-    requires { IsReader r.now }
-    ensures value { IfOk result (λ found. found ≡ line_gives r.now.said line text.now) }
-    ensures few { IfOk result (λ found. IfOk found (λ c. IsSome c → r.now.said.count < 20000)) }
+    text: &'a [u8],
+) -> Result<(), LineError>
+    requires { IsReader r.old }
+    ensures value { Gives (said_then result r.new.said) (line_adds r.old.said line text.now) }
+    ensures reader { OnOk result (IsReader r.new) }
 {
     if 512 < text.len() {
-        return Ok(Err(Cause::LineTooLong));
+        return Err(LineError::Refused(Fault {
+            line,
+            cause: Cause::LineTooLong,
+        }));
     }
     if !all_printable(text) {
-        return Ok(Err(Cause::BadByte));
+        return Err(LineError::Refused(Fault {
+            line,
+            cause: Cause::BadByte,
+        }));
     }
-    let words = words_of(alloc, text)?;
-    words_give(alloc, r, line, &words)
+    words_of(&mut lists.words, text)?;
+    add_words(
+        alloc,
+        r,
+        &mut lists.given,
+        &mut lists.values,
+        line,
+        &lists.words,
+    )
 }

@@ -7,33 +7,16 @@ ghost use Rattle.workload_file.specs.Loading.{Loads, ReadsClean, HoldsBut};
 ghost use Rattle.workload_file.specs.Formed.{WellFormed};
 ghost use Rattle.byte_io.specs.Causes.{Rose, TakesAtMost};
 
-use crate::changes::with_change;
-use crate::faults::{Fault, LineError, LoadError};
-use crate::grammar::line_gives;
+use crate::faults::{LineError, LoadError};
+use crate::grammar::add_line;
 use crate::index::NameIndex;
 use crate::name::Name;
-use crate::reading::{Reader, Reading};
+use crate::reading::{Lists, Reader, Reading};
 use crate::workload::{Part, PartList, StatementList, Workload};
 use byte_io::{ReadAllError, Source, read_all};
 use mtapi_values::NodeAttr;
 use number_text::cut_at;
 use std::alloc::Global;
-
-#[tactic(auto, unfolding(crate::specs::Reading::line_adds, crate::specs::Reading::with_change))]
-fn add_line(alloc: Global, r: &mut Reader, line: u64, text: &[u8]) -> Result<(), LineError>
-    requires { IsReader r.old }
-    ensures value { Gives (said_then result r.new.said) (line_adds r.old.said line text.now) }
-    ensures reader { OnOk result (IsReader r.new) }
-{
-    match line_gives(alloc, r, line, text)? {
-        Ok(Some(change)) => {
-            with_change(alloc, r, line, change)?;
-            Ok(())
-        }
-        Ok(None) => Ok(()),
-        Err(cause) => Err(LineError::Refused(Fault { line, cause })),
-    }
-}
 
 #[tactic(auto, unfolding(crate::specs::Reading::start, crate::specs::Values::is_name))]
 fn first_reading(alloc: Global) -> Reading
@@ -71,11 +54,16 @@ fn read_lines(alloc: Global, first: Reader, bytes: &[u8]) -> Result<Reader, Line
     ensures { Gives (said_of result) (lines_add first.said 1 (between 10 bytes.now)) }
 {
     let mut r = first;
+    let mut lists = Lists {
+        words: Vec::new(alloc),
+        given: Vec::new(alloc),
+        values: Vec::new(alloc),
+    };
     let mut line = 1u64;
     let mut left = Some(bytes);
     'lines: while let Some(rest) = left {
         let (text, after) = cut_at(rest, b'\n');
-        add_line(alloc, &mut r, line, text)?;
+        add_line(alloc, &mut r, &mut lists, line, text)?;
         line += 1;
         left = after;
     }

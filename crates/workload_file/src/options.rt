@@ -1,108 +1,104 @@
 //! The options of a statement: the words `key=value` behind its name.
-ghost use Rattle.std.specs.Prelude.{◌≡◌, ◌==◌, Bool};
+ghost use Rattle.std.specs.Prelude.{◌≡◌, [], true, Some, None, IfOk, IfSome, map, is_some, if◌then◌else◌};
 ghost use Rattle.std.specs.Option.{option_copied};
-ghost use Rattle.std.specs.List.{list_any, list_all};
+ghost use Rattle.std.specs.List.{list_all};
 ghost use Rattle.workload_file.specs.Texts.{texts};
-ghost use Rattle.workload_file.specs.Options.{key_of, value_of, is_known, opens, has_twice, text_of};
-ghost use Rattle.std.specs.Str.{bytes_eq};
+ghost use Rattle.workload_file.specs.Table.{fields};
+ghost use Rattle.workload_file.specs.Options.{value_of, is_known, opens, has_twice};
+ghost use Rattle.workload_file.specs.Steps.{texts_in, IsOptionAt};
 
-use crate::table::{Field, Key};
-use number_text::cut_at;
+use crate::table::{Field, Word};
+use std::alloc::AllocError;
 
-fn key_of(word: &[u8]) -> &[u8]
-    ensures { result.now ≡ key_of word.now }
-{
-    cut_at(word, b'=').0
-}
-
-/// Whether a word's key is this one. Most keys differ in their first byte, so that few bytes are looked at.
-fn has_key(word: &[u8], key: &[u8]) -> bool
-    ensures { result ≡ bytes_eq (key_of word.now) key.now }
+/// The value that a word gives, where it is this key, `=` and a value. Most keys differ in their first byte, so that few bytes
+/// are looked at.
+fn value_behind<'a>(word: &'a [u8], key: &[u8]) -> Option<&'a [u8]>
+    ensures { option_copied result ≡ (if opens word.now key.now then Some (value_of word.now) else None) }
 {
     match word {
-        [] => key.is_empty(),
-        [b'=', ..] => key.is_empty(),
-        [a, word @ ..] => match key {
-            [] => false,
-            [b, key @ ..] => *a == *b && has_key(word, key),
-        },
-    }
-}
-
-/// Whether a word is this key, `=` and a value.
-fn opens(word: &[u8], key: &[u8]) -> bool
-    ensures { result ≡ opens word.now key.now }
-{
-    match word {
-        [] => false,
-        [b'=', ..] => key.is_empty(),
-        [a, word @ ..] => match key {
-            [] => false,
-            [b, key @ ..] => *a == *b && opens(word, key),
-        },
-    }
-}
-
-fn value_of(word: &[u8]) -> &[u8]
-    ensures { result.now ≡ value_of word.now }
-{
-    match cut_at(word, b'=').1 {
-        Some(value) => value,
-        None => &[],
-    }
-}
-
-fn is_known(fields: &[Field], word: &[u8]) -> bool
-    ensures { result ≡ is_known fields.now word.now }
-{
-    match fields {
-        [] => false,
-        [field, rest @ ..] => opens(word, field.key.text()) || is_known(rest, word),
-    }
-}
-
-/// Whether each word is an option of the statement.
-pub fn all_known(fields: &[Field], words: &[&[u8]]) -> bool
-    ensures { result ≡ list_all (is_known fields.now) (texts words.now) }
-{
-    match words {
-        [] => true,
-        [word, rest @ ..] => is_known(fields, word) && all_known(fields, rest),
-    }
-}
-
-fn gives_key(words: &[&[u8]], key: &[u8]) -> bool
-    ensures { result ≡ list_any (λ w. bytes_eq (key_of w) key.now) (texts words.now) }
-{
-    match words {
-        [] => false,
-        [word, rest @ ..] => has_key(word, key) || gives_key(rest, key),
-    }
-}
-
-/// Whether two words give one option.
-#[tactic(auto, unfolding(crate::specs::Options::has_twice))]
-pub fn has_twice(words: &[&[u8]]) -> bool
-    ensures { result ≡ has_twice (texts words.now) }
-{
-    match words {
-        [] => false,
-        [word, rest @ ..] => gives_key(rest, key_of(word)) || has_twice(rest),
-    }
-}
-
-/// The text of an option, where it is given.
-#[tactic(auto, unfolding(crate::specs::Options::text_of))]
-pub fn text_of<'a>(key: Key, words: &[&'a [u8]]) -> Option<&'a [u8]>
-    ensures { option_copied result ≡ text_of key (texts words.now) }
-{
-    match words {
         [] => None,
-        [word, rest @ ..] => {
-            if has_key(word, key.text()) {
-                return Some(value_of(word));
+        [b'=', value @ ..] => {
+            if key.is_empty() {
+                return Some(value);
             }
-            text_of(key, rest)
+            None
+        }
+        [a, word @ ..] => match key {
+            [] => None,
+            [b, key @ ..] => {
+                if *a != *b {
+                    return None;
+                }
+                value_behind(word, key)
+            }
+        },
+    }
+}
+
+/// The place of the option that a word gives, and the value.
+fn option_in<'a>(fields: &[Field], word: &'a [u8]) -> Option<(usize, &'a [u8])>
+    ensures known { is_some result ≡ is_known fields.now word.now }
+    ensures place { IfSome result (λ option. IsOptionAt fields.now word.now option.0) }
+    ensures value { IfSome result (λ option. option.1.now ≡ value_of word.now) }
+{
+    for (place, field) in fields.iter().enumerate() {
+        if let Some(value) = value_behind(word, field.key.text()) {
+            return Some((place, value));
         }
     }
+    None
+}
+
+/// Whether words are options of a statement, and whether two give one option.
+#[derive(Clone, Copy)]
+pub struct Placed {
+    pub known: bool,
+    pub twice: bool,
+}
+
+/// Puts what each word gives at the place of its option, the last word first.
+fn place_each<'a>(given: &mut Vec<Option<&'a [u8]>>, word: Word, words: &[&'a [u8]]) -> Placed
+    requires { map option_copied given.old.items ≡ texts_in (fields word) [] }
+    ensures known { result.known ≡ list_all (is_known (fields word)) (texts words.now) }
+    ensures twice { result.known ≡ true → result.twice ≡ has_twice (texts words.now) }
+    ensures given { result.known ≡ true → map option_copied given.new.items ≡ texts_in (fields word) (texts words.now) }
+{
+    match words {
+        [] => Placed {
+            known: true,
+            twice: false,
+        },
+        [first, rest @ ..] => {
+            let placed = place_each(given, word, rest);
+            if !placed.known {
+                return placed;
+            }
+            match option_in(word.fields(), first) {
+                Some((place, value)) => {
+                    let twice = given[place].is_some() || placed.twice;
+                    given[place] = Some(value);
+                    Placed { known: true, twice }
+                }
+                None => Placed {
+                    known: false,
+                    twice: false,
+                },
+            }
+        }
+    }
+}
+
+/// The text of each option of a statement, in the order of the table. Each word is looked at once.
+pub fn place_texts<'a>(
+    given: &mut Vec<Option<&'a [u8]>>,
+    word: Word,
+    words: &[&'a [u8]],
+) -> Result<Placed, AllocError>
+    ensures known { IfOk result (λ placed. placed.known ≡ list_all (is_known (fields word)) (texts words.now)) }
+    ensures twice { IfOk result (λ placed. placed.known ≡ true → placed.twice ≡ has_twice (texts words.now)) }
+    ensures given { IfOk result (λ placed. placed.known ≡ true → map option_copied given.new.items ≡ texts_in (fields word) (texts words.now)) }
+{
+    given.clear();
+    given.resize(word.fields().len(), None)?;
+    Ok(place_each(given, word, words))
 }

@@ -1,6 +1,7 @@
 //! What the lines of a text say.
 use crate::index::NameIndex;
 use crate::name::Name;
+use crate::values::Value;
 use crate::workload::{Part, PartList, Statement};
 use mtapi_values::NodeAttr;
 
@@ -27,4 +28,13 @@ pub enum Change {
 pub struct Reader {
     pub said: Reading,
     pub names: NameIndex,
+}
+
+/// Lists that reading a line fills anew, kept for their memory: its words, the texts of the options of its statement, and what
+/// they give.
+#[derive(Drop)]
+pub struct Lists<'a> {
+    pub words: Vec<&'a [u8]>,
+    pub given: Vec<Option<&'a [u8]>>,
+    pub values: Vec<Value>,
 }

@@ -1,5 +1,4 @@
-use Rattle.std.proofs.Common.{arith}
-use Rattle.std.proofs.lemmas.List.{length_push}
+use Rattle.workload_file.proofs.Cited.{arith, length_push}
 use Rattle.workload_file.proofs.Places.{bound_push}
 use Rattle.workload_file.proofs.changes.with_statement.Goals as goal
 

@@ -1,8 +1,4 @@
-use Rattle.std.proofs.Common.{◌≡◌, ◌++◌, length, filter, nat_lt}
-use Rattle.number_text.specs.Lists.{pieces_of}
-use Rattle.workload_file.specs.Cuts.{words_of}
-use Rattle.workload_file.specs.Texts.{texts}
-use Rattle.number_text.proofs.Pieces.{left_len}
+use Rattle.workload_file.proofs.Cited.{◌≡◌, ◌++◌, length, filter, nat_lt, pieces_of, words_of, texts, left_len}
 use Rattle.workload_file.proofs.cut.words_of.Given as goal
 
 abbrev pub invariant-cutting : goal.invariant-cutting

@@ -1,4 +1,4 @@
-use Rattle.std.proofs.Common.{length}
+use Rattle.workload_file.proofs.Cited.{length}
 use Rattle.workload_file.proofs.given.+add_values.Given as goal
 
 abbrev pub decreases-add_values : goal.decreases-add_values

@@ -1,5 +1,4 @@
-use Rattle.std.proofs.Common.{◌+◌, ◌*◌, ◌^◌, ◌<◌, arith, pow_pos}
-use Rattle.std.specs.Prelude.{length}
+use Rattle.workload_file.proofs.Cited.{◌+◌, ◌*◌, ◌^◌, ◌<◌, arith, pow_pos, length}
 use Rattle.workload_file.proofs.Places.{key_empty, key_more, key_next, key_wide}
 use Rattle.workload_file.proofs.index.+key_of.Goals as goal
 

@@ -1,4 +1,4 @@
-use Rattle.std.proofs.Common.{length}
+use Rattle.workload_file.proofs.Cited.{length}
 use Rattle.workload_file.proofs.index.+key_of.Given as goal
 
 abbrev pub decreases-key_of : goal.decreases-key_of

@@ -1,5 +1,4 @@
-use Rattle.workload_file.proofs.Again.{canonical_short}
-use Rattle.workload_file.proofs.Again.{canonical_again}
+use Rattle.workload_file.proofs.Again.{canonical_short, canonical_again}
 use Rattle.workload_file.proofs.laws.law_again.Goals as goal
 
 pub returns-clause-same : goal.returns-clause-same

@@ -1,6 +1,4 @@
-use Rattle.std.proofs.Common.{arith, length}
-use Rattle.std.proofs.lemmas.Result.{err_from_is_err_and}
-use Rattle.number_text.proofs.Pieces.{after_len}
+use Rattle.workload_file.proofs.Cited.{arith, length, err_from_is_err_and, after_len}
 use Rattle.workload_file.proofs.Phrases.{lines_more, lines_end, lines_done}
 use Rattle.workload_file.proofs.load.read_lines.Goals as goal
 

@@ -1,8 +1,4 @@
-use Rattle.std.proofs.Common.{◌≡◌, ◌+◌, ◌≤◌, length}
-use Rattle.number_text.specs.Lists.{between, pieces_of}
-use Rattle.workload_file.specs.Reading.{lines_add}
-use Rattle.workload_file.specs.Indexed.{IsReader}
-use Rattle.number_text.proofs.Pieces.{left_len}
+use Rattle.workload_file.proofs.Cited.{◌≡◌, ◌+◌, ◌≤◌, length, between, pieces_of, lines_add, IsReader, left_len}
 use Rattle.workload_file.proofs.load.read_lines.Given as goal
 
 abbrev pub invariant-lines : goal.invariant-lines

@@ -1,7 +1,4 @@
-use Rattle.std.proofs.Common.{sym}
-use Rattle.std.proofs.lemmas.List.{append-nil}
-use Rattle.std.specs.List.{flat_map}
-use Rattle.workload_file.specs.Written.{lines_of_part}
+use Rattle.workload_file.proofs.Cited.{sym, append-nil, flat_map, lines_of_part}
 use Rattle.workload_file.proofs.Phrases.{on_ok, more_lines, more_last, parts_split, none_below, rest_of, laid_none}
 use Rattle.workload_file.proofs.page.+lay_parts.Goals as goal
 

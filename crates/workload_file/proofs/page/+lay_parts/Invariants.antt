@@ -1,4 +1,4 @@
-use Rattle.std.proofs.Common.{length}
+use Rattle.workload_file.proofs.Cited.{length}
 use Rattle.workload_file.proofs.page.+lay_parts.Given as goal
 
 abbrev pub decreases-lay_parts : goal.decreases-lay_parts

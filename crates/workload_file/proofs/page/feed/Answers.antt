@@ -1,4 +1,4 @@
-use Rattle.std.proofs.Common.{inl, arith}
+use Rattle.workload_file.proofs.Cited.{inl, arith}
 use Rattle.workload_file.proofs.Phrases.{fed_more, fed_all}
 use Rattle.workload_file.proofs.page.feed.Goals as goal
 

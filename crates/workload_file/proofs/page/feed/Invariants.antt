@@ -1,4 +1,4 @@
-use Rattle.std.proofs.Common.{◌≡◌, ◌≤◌, ◌-◌, ◌++◌, replicate, ◌⊎◌}
+use Rattle.workload_file.proofs.Cited.{◌≡◌, ◌≤◌, ◌-◌, ◌++◌, replicate, ◌⊎◌}
 use Rattle.workload_file.proofs.page.feed.Given as goal
 
 abbrev pub invariant-loop-at : goal.invariant-loop-at

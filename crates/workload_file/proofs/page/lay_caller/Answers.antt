@@ -1,4 +1,4 @@
-use Rattle.workload_file.specs.Written.{caller_text}
+use Rattle.workload_file.proofs.Cited.{caller_text}
 use Rattle.workload_file.proofs.Phrases.{no_line, one_line, on_ok}
 use Rattle.workload_file.proofs.page.lay_caller.Goals as goal
 

@@ -1,5 +1,4 @@
-use Rattle.std.proofs.Common.{[]}
-use Rattle.workload_file.specs.Written.{caller_text, if_any, statement_lines_behind}
+use Rattle.workload_file.proofs.Cited.{[], caller_text, if_any, statement_lines_behind}
 use Rattle.workload_file.proofs.Phrases.{more_lines, on_ok}
 use Rattle.workload_file.proofs.page.lay_part.Goals as goal
 

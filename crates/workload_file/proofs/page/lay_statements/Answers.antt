@@ -1,7 +1,5 @@
-use Rattle.std.proofs.Common.{[], refl, sym, ◌∙◌, take}
-use Rattle.std.proofs.lemmas.List.{append-nil}
+use Rattle.workload_file.proofs.Cited.{[], refl, sym, ◌∙◌, take, append-nil, statement_lines_behind, statement_text}
 use Rattle.workload_file.proofs.Phrases.{text_more, line_more, statements_more, statements_none, laid_none}
-use Rattle.workload_file.specs.Written.{statement_lines_behind, statement_text}
 use Rattle.workload_file.proofs.page.lay_statements.Goals as goal
 
 pub loop-i-init : goal.loop-i-init

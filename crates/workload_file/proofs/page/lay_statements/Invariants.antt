@@ -1,6 +1,4 @@
-use Rattle.std.proofs.Common.{◌≡◌, ◌++◌, take, []}
-use Rattle.workload_file.specs.Written.{laid_out, statement_lines_behind}
-use Rattle.workload_file.specs.Led.{last_line}
+use Rattle.workload_file.proofs.Cited.{◌≡◌, ◌++◌, take, [], laid_out, statement_lines_behind, last_line}
 use Rattle.workload_file.proofs.page.lay_statements.Given as goal
 
 abbrev pub invariant-loop-i : goal.invariant-loop-i

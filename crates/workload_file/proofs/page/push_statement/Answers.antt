@@ -1,6 +1,4 @@
-use Rattle.std.proofs.Common.{◌++◌, append_assoc, sym, ap}
-use Rattle.workload_file.specs.Deeds.{Spelled}
-use Rattle.workload_file.specs.Written.{bound_words, used_words, options_words}
+use Rattle.workload_file.proofs.Cited.{◌++◌, append_assoc, sym, ap, Spelled, bound_words, used_words, options_words}
 use Rattle.workload_file.proofs.Phrases.{on_ok, words_more, led_more}
 use Rattle.workload_file.proofs.page.push_statement.Goals as goal
 

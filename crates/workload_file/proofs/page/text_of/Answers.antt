@@ -1,8 +1,5 @@
-use Rattle.std.proofs.Common.{◌≡◌, []}
-use Rattle.std.specs.List.{flat_map}
-use Rattle.workload_file.specs.Written.{if_any, node_text, lines_of_part, canonical}
-use Rattle.workload_file.proofs.Again.{canonical_short}
-use Rattle.workload_file.proofs.Again.{canonical_again}
+use Rattle.workload_file.proofs.Cited.{◌≡◌, [], flat_map, if_any, node_text, lines_of_part, canonical}
+use Rattle.workload_file.proofs.Again.{canonical_short, canonical_again}
 use Rattle.workload_file.proofs.Phrases.{more_lines}
 use Rattle.workload_file.proofs.page.text_of.Goals as goal
 

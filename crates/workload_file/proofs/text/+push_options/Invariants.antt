@@ -1,4 +1,4 @@
-use Rattle.std.proofs.Common.{length}
+use Rattle.workload_file.proofs.Cited.{length}
 use Rattle.workload_file.proofs.text.+push_options.Given as goal
 
 abbrev pub decreases-push_options : goal.decreases-push_options

@@ -1,10 +1,6 @@
-use Rattle.std.proofs.Common.{◌≡◌, ℕ, List, sym, ◌∙◌, Option, None, true, subst}
-use Rattle.std.specs.BTreeMap.{get_by}
-use Rattle.std.specs.Ordering.{nat_cmp}
-use Rattle.workload_file.specs.Values.{is_name}
+use Rattle.workload_file.proofs.Cited.{◌≡◌, ℕ, List, sym, ◌∙◌, Option, None, true, subst, get_by, nat_cmp, is_name}
 use Rattle.workload_file.specs.Indexed.{key_of}
-use Rattle.workload_file.proofs.Places.{bytes_are}
-use Rattle.workload_file.proofs.Places.{name_short, put}
+use Rattle.workload_file.proofs.Places.{bytes_are, name_short, put}
 use Rattle.workload_file.proofs.index.NameIndex.add.Goals as goal
 
 pub key_of-key-requires : goal.key_of-key-requires

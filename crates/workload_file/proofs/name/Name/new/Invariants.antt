@@ -1,4 +1,4 @@
-use Rattle.std.proofs.Common.{◌≡◌, take}
+use Rattle.workload_file.proofs.Cited.{◌≡◌, take}
 use Rattle.workload_file.proofs.name.Name.new.Given as goal
 
 abbrev pub invariant-loop-b : goal.invariant-loop-b

@@ -1,0 +1,179 @@
+-- Options at their places, and words that add nothing.
+use Rattle.workload_file.proofs.Cited.{◌≡◌, ℕ, zero, suc, ◌<◌, ◌≤◌, ◌+◌, ◌-◌, ◌⊎◌, List, [], ◌∷◌, ◌++◌, length, Bool, true, false, cond, eqb, ◌&&◌, ◌||◌, Option, Some, None, Ok, is_some, refl, sym, ap, ◌∙◌, arith, inl, inr, subst, map, get_or, take, replicate, find, list_any, bytes_eq, option_map, or_parts, and_parts, and_from, cases_Bool, Field, Key, Word, Statement, Value, Reading, fields, key_text, key_of, value_of, text_of, field_of, is_known, has_twice, value_at, values_in, length-map, take_more, take_all, with_change, is_statement, is_comment, words_meet, word_causes, words_say}
+use Rattle.std.specs.Prelude.{set}
+use Rattle.std.proofs.lemmas.List.{map-set}
+use Rattle.std.specs.Option.{option_copied}
+use Rattle.workload_file.specs.Options.{opens}
+use Rattle.workload_file.specs.Texts.{texts}
+use Rattle.workload_file.specs.Steps.{texts_in, IsOptionAt, values_of, unless_met}
+use Rattle.workload_file.proofs.Facts.{some, nothing, none_some, silent_says}
+use Rattle.workload_file.proofs.Fields.{AreApart, fields_apart}
+use Rattle.workload_file.proofs.Invariant.{any_push}
+use Rattle.workload_file.proofs.Phrases.{rest_of, first_rest, none_below}
+use Rattle.workload_file.proofs.Places.{bytes_are, bytes_same, apart_sym}
+use Rattle.workload_file.proofs.Spelling.{some_cond}
+use denote.Ref.{Bor}
+
+-- ---- the place of the option that a word gives
+
+pub option_at : (fs : List Field) (word : List ℕ) (place : ℕ) (d : Field) → place < length fs → bytes_eq (key_text (get_or fs place d).key) (key_of word) ≡ true → (is_some (field_of fs word) ≡ true) × IsOptionAt fs word place
+option_at [] word place d lt e = absurd (omega (arith, lt))
+option_at (f ∷ fs) word zero d lt e = (rw e refl, bytes_are (key_text f.key) (key_of word) e)
+option_at (f ∷ fs) word (suc place) d lt e =
+    let rest = option_at fs word place d (omega (arith, lt)) e in
+    (elim (cases_Bool (bytes_eq (key_text f.key) (key_of word))) [ inl t ↦ rw t refl | inr n ↦ rw n rest.0 ], rest.1)
+
+-- the word that the key opens gives the option at its place
+pub opened : (fs : List Field) (word key value : List ℕ) (place : ℕ) (d : Field) → place < length fs → key ≡ key_text (get_or fs place d).key → some value ≡ cond (opens word key) (Some (value_of word)) None → (true ≡ is_known fs word) × IsOptionAt fs word place
+opened fs word key value place d lt is e =
+    let opens_it = (some_cond (opens word key) (value_of word) value (sym e)).0 in
+    let both = and_parts (list_any (λ b. eqb b 61) word) (bytes_eq key (key_of word)) opens_it in
+    let at = option_at fs word place d lt (rw (← is) both.1) in
+    (sym (and_from (list_any (λ b. eqb b 61) word) (is_some (field_of fs word)) both.0 at.0), at.1)
+
+-- no option before this place opens the word, and neither does this one
+pub not_opened : (fs : List Field) (word key : List ℕ) (place : ℕ) (d : Field) → place < length fs → key ≡ key_text (get_or fs place d).key → list_any (λ f. opens word (key_text f.key)) (take place fs) ≡ false → nothing (List ℕ) ≡ cond (opens word key) (Some (value_of word)) None → list_any (λ f. opens word (key_text f.key)) (take (place + 1) fs) ≡ false
+not_opened fs word key place d lt is before e =
+    let here : opens word (key_text (get_or fs place d).key) ≡ false = rw (← is) (elim (cases_Bool (opens word key)) [ inl t ↦ absurd (none_some (value_of word) (rw t at e)) | inr n ↦ n ]) in
+    rw (take_more fs place d lt) (any_push (λ (f : Field). opens word (key_text f.key)) (take place fs) (get_or fs place d) before here)
+
+pub none_known : (fs : List Field) (word : List ℕ) → list_any (λ f. opens word (key_text f.key)) fs ≡ false → is_known fs word ≡ false
+none_known [] word h = elim (cases_Bool (list_any (λ b. eqb b 61) word)) [ inl t ↦ rw t refl | inr n ↦ rw n refl ]
+none_known (f ∷ fs) word h =
+    let both = or_parts (opens word (key_text f.key)) (list_any (λ g. opens word (key_text g.key)) fs) h in
+    let rest = none_known fs word both.1 in
+    elim (cases_Bool (list_any (λ b. eqb b 61) word)) [
+      | inl t ↦ let a = rw t at both.0 in let b = rw t at rest in rw (t, a) b
+      | inr n ↦ rw n refl
+    ]
+
+pub option_below : (fs : List Field) (word : List ℕ) (place : ℕ) → IsOptionAt fs word place → place < length fs
+option_below [] word place h = absurd h
+option_below (f ∷ fs) word zero h = omega arith
+option_below (f ∷ fs) word (suc place) h = let rest = option_below fs word place h in omega (arith, rest)
+
+-- ---- the texts, with one word more
+
+other_at : (fs : List Field) (word : List ℕ) (place : ℕ) (k : Key) → list_any (λ g. bytes_eq (key_text g.key) (key_text k)) fs ≡ false → IsOptionAt fs word place → bytes_eq (key_of word) (key_text k) ≡ false
+other_at [] word place k h at = absurd at
+other_at (f ∷ fs) word zero k h at = rw (← at) (or_parts _ _ h).0
+other_at (f ∷ fs) word (suc place) k h at = other_at fs word place k (or_parts _ _ h).1 at
+
+others : (word : List ℕ) (ws : List (List ℕ)) (k : Key) (fs : List Field) → key_text k ≡ key_of word → list_any (λ g. bytes_eq (key_text g.key) (key_text k)) fs ≡ false → texts_in fs (word ∷ ws) ≡ texts_in fs ws
+unfolding text_of
+others word ws k [] e h = refl
+others word ws k (f ∷ fs) e h =
+    let both = or_parts (bytes_eq (key_text f.key) (key_text k)) (list_any (λ g. bytes_eq (key_text g.key) (key_text k)) fs) h in
+    let other : bytes_eq (key_of word) (key_text f.key) ≡ false = rw (← e) (apart_sym (key_text f.key) (key_text k) both.0) in
+    let here : text_of f.key (word ∷ ws) ≡ text_of f.key ws = rw other refl in
+    let rest = others word ws k fs e both.1 in
+    λ i. here i ∷ rest i
+
+pub texts_put : (word : List ℕ) (ws : List (List ℕ)) (fs : List Field) (place : ℕ) → AreApart fs → IsOptionAt fs word place → set (texts_in fs ws) place (Some (value_of word)) ≡ texts_in fs (word ∷ ws)
+unfolding text_of
+texts_put word ws [] place apart at = absurd at
+texts_put word ws (f ∷ fs) zero apart at =
+    let same : bytes_eq (key_of word) (key_text f.key) ≡ true = rw at (bytes_same (key_of word)) in
+    let here : Some (value_of word) ≡ text_of f.key (word ∷ ws) = rw same refl in
+    let rest = sym (others word ws f.key fs at apart.0) in
+    λ i. here i ∷ rest i
+texts_put word ws (f ∷ fs) (suc place) apart at =
+    let here : text_of f.key ws ≡ text_of f.key (word ∷ ws) = rw (other_at fs word place f.key apart.0 at) refl in
+    let rest = texts_put word ws fs place apart.1 at in
+    λ i. here i ∷ rest i
+
+-- ---- an option is given already where two words give it
+
+found_any : (p : List ℕ → Bool) (ws : List (List ℕ)) → is_some (option_map value_of (find p ws)) ≡ list_any p ws
+found_any p [] = refl
+found_any p (w ∷ ws) = elim (cases_Bool (p w)) [ inl t ↦ rw t refl | inr n ↦ rw n (found_any p ws) ]
+
+text_at : (fs : List Field) (ws : List (List ℕ)) (word : List ℕ) (place : ℕ) → IsOptionAt fs word place → is_some (get_or (texts_in fs ws) place None) ≡ list_any (λ v. bytes_eq (key_of v) (key_of word)) ws
+unfolding text_of
+text_at [] ws word place at = absurd at
+text_at (f ∷ fs) ws word zero at = rw (← at) (found_any (λ v. bytes_eq (key_of v) (key_text f.key)) ws)
+text_at (f ∷ fs) ws word (suc place) at = text_at fs ws word place at
+
+one_copied : (x : Option (Bor (List ℕ))) → is_some x ≡ is_some (option_copied x)
+one_copied None = refl
+one_copied (Some x) = refl
+
+copied_at : (xs : List (Option (Bor (List ℕ)))) (place : ℕ) (d : Option (Bor (List ℕ))) → place < length xs → is_some (get_or xs place d) ≡ is_some (get_or (map option_copied xs) place None)
+copied_at [] place d lt = absurd (omega (arith, lt))
+copied_at (x ∷ xs) zero d lt = one_copied x
+copied_at (x ∷ xs) (suc place) d lt = copied_at xs place d (omega (arith, lt))
+
+pub texts_long : (xs : List (Option (Bor (List ℕ)))) (fs : List Field) (ws : List (List ℕ)) → map option_copied xs ≡ texts_in fs ws → length xs ≡ length fs
+texts_long xs fs ws e = sym (length-map xs option_copied) ∙ (ap (λ (l : List (Option (List ℕ))). length l) e ∙ length-map fs (λ f. text_of f.key ws))
+
+given_twice : (xs : List (Option (Bor (List ℕ)))) (fs : List Field) (ws : List (List ℕ)) (word : List ℕ) (place : ℕ) (d : Option (Bor (List ℕ))) → map option_copied xs ≡ texts_in fs ws → IsOptionAt fs word place → is_some (get_or xs place d) ≡ list_any (λ v. bytes_eq (key_of v) (key_of word)) ws
+given_twice xs fs ws word place d e at =
+    let below = option_below fs word place at in
+    let long = texts_long xs fs ws e in
+    copied_at xs place d (omega (arith, below, long)) ∙ (ap (λ (l : List (Option (List ℕ))). is_some (get_or l place None)) e ∙ text_at fs ws word place at)
+
+either : (word : List ℕ) (ws : List (List ℕ)) (here twice rest : Bool) → here ≡ list_any (λ v. bytes_eq (key_of v) (key_of word)) ws → rest ≡ has_twice ws → ((here ≡ true) × (twice ≡ true)) ⊎ ((here ≡ false) × (twice ≡ rest)) → twice ≡ has_twice (word ∷ ws)
+unfolding has_twice
+either word ws here twice rest e f (inl h) = rw (h.1, ← e, h.0) refl
+either word ws here twice rest e f (inr h) = rw (h.1, ← e, h.0) f
+
+-- ---- words as references
+
+split : (words : List (Bor (List ℕ))) (d : Bor (List ℕ)) → 1 ≤ length words → texts words ≡ (get_or words 0 d).now ∷ texts (rest_of words)
+split words d h = ap texts (first_rest words d h)
+
+pub place_low : (xs : List (Option (Bor (List ℕ)))) (n : ℕ) (words : List (Bor (List ℕ))) (word : List ℕ) (w : Word) (place : ℕ) → n ≡ length xs → map option_copied xs ≡ texts_in (fields w) (texts words) → IsOptionAt (fields w) word place → place < n
+place_low xs n words word w place e is at =
+    let below = option_below (fields w) word place at in
+    let long = texts_long xs (fields w) (texts words) is in
+    omega (arith, below, long, e)
+
+pub given_more : (xs : List (Option (Bor (List ℕ)))) (words : List (Bor (List ℕ))) (d v : Bor (List ℕ)) (w : Word) (place : ℕ) → 1 ≤ length words → map option_copied xs ≡ texts_in (fields w) (texts (rest_of words)) → IsOptionAt (fields w) (get_or words 0 d).now place → v.now ≡ value_of (get_or words 0 d).now → map option_copied (set xs place (Some v)) ≡ texts_in (fields w) (texts words)
+given_more xs words d v w place some is at value =
+    let word = (get_or words 0 d).now in
+    map-set option_copied xs place (Some v)
+    ∙ (ap (λ (l : List (Option (List ℕ))). set l place (Some v.now)) is
+    ∙ (ap (λ (x : List ℕ). set (texts_in (fields w) (texts (rest_of words))) place (Some x)) value
+    ∙ (texts_put word (texts (rest_of words)) (fields w) place (fields_apart w) at ∙ ap (texts_in (fields w)) (sym (split words d some)))))
+
+pub twice_more : (xs : List (Option (Bor (List ℕ)))) (words : List (Bor (List ℕ))) (d : Bor (List ℕ)) (w : Word) (place : ℕ) (x : Option (Bor (List ℕ))) (here twice rest : Bool) → 1 ≤ length words → map option_copied xs ≡ texts_in (fields w) (texts (rest_of words)) → IsOptionAt (fields w) (get_or words 0 d).now place → rest ≡ has_twice (texts (rest_of words)) → x ≡ get_or xs place x → here ≡ is_some x → ((here ≡ true) × (twice ≡ true)) ⊎ ((here ≡ false) × (twice ≡ rest)) → twice ≡ has_twice (texts words)
+twice_more xs words d w place x here twice rest some is at before found e by =
+    let word = (get_or words 0 d).now in
+    let there : here ≡ list_any (λ v. bytes_eq (key_of v) (key_of word)) (texts (rest_of words)) = e ∙ (ap is_some found ∙ given_twice xs (fields w) (texts (rest_of words)) word place x is at) in
+    rw (split words d some) (either word (texts (rest_of words)) here twice rest there before by)
+
+pub none_twice : (words : List (Bor (List ℕ))) → length words < 1 → false ≡ has_twice (texts words)
+unfolding has_twice
+none_twice words h = rw (none_below words h) refl
+
+-- ---- the texts of no words, and what the texts give
+
+no_texts : (fs : List Field) → map option_copied (replicate {A = Option (Bor (List ℕ))} (length fs) None) ≡ texts_in fs []
+unfolding text_of
+no_texts [] = refl
+no_texts (f ∷ fs) = ap (λ (l : List (Option (List ℕ))). None ∷ l) (no_texts fs)
+
+pub fresh_texts : (xs old : List (Option (Bor (List ℕ)))) (n len : ℕ) (fs : List Field) → old ≡ [] → len ≡ 0 → n ≡ length fs → xs ≡ take n old ++ replicate (n - len) None → map option_copied xs ≡ texts_in fs []
+fresh_texts xs old n len fs none zero_len long e =
+    let all : take {A = Option (Bor (List ℕ))} (length fs) [] ≡ [] = take_all (length fs) [] (omega arith) in
+    let m : length fs - 0 ≡ length fs = omega arith in
+    rw (e, none, zero_len, long, all, m) (no_texts fs)
+
+pub values_given : (before : List Statement) (fs : List Field) (ws : List (List ℕ)) → values_of before fs (texts_in fs ws) ≡ values_in before ws fs
+values_given before [] ws = refl
+values_given before (f ∷ fs) ws = ap (λ (vs : List Value). value_at before f (text_of f.key ws) ∷ vs) (values_given before fs ws)
+
+pub values_read : (before : List Statement) (w : Word) (ws : List (List ℕ)) (given : List (Option (Bor (List ℕ)))) (fs : List Field) (vs : List Value) → fs ≡ fields w → map option_copied given ≡ texts_in (fields w) ws → vs ≡ values_of before fs (map option_copied given) → vs ≡ values_in before ws (fields w)
+values_read before w ws given fs vs e is read = rw (read, e, is) (values_given before (fields w) ws)
+
+-- ---- words that add nothing
+
+silent_adds : (r : Reading) (line : ℕ) (words : List (List ℕ)) → is_statement words ≡ false → unless_met r line (find (words_meet r words) word_causes) (words_say r line words) ≡ Ok r
+unfolding with_change
+silent_adds r line words h = let s = silent_says r line words h in rw (s.0, s.1) refl
+
+pub none_adds : (r : Reading) (line : ℕ) (words : List (Bor (List ℕ))) → length words < 1 → unless_met r line (find (words_meet r (texts words)) word_causes) (words_say r line (texts words)) ≡ Ok r
+none_adds r line words h = rw (none_below words h) (silent_adds r line [] refl)
+
+pub comment_adds : (r : Reading) (line : ℕ) (words : List (Bor (List ℕ))) (d : Bor (List ℕ)) → 1 ≤ length words → is_comment (get_or words 0 d).now ≡ true → unless_met r line (find (words_meet r (texts words)) word_causes) (words_say r line (texts words)) ≡ Ok r
+comment_adds r line words d some c = silent_adds r line (texts words) (rw (split words d some, c) refl)
