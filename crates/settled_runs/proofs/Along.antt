@@ -1,13 +1,15 @@
 -- Where a line of a seat stands among the entries of a run, and one walk along the statements of a part, with their lines and replies.
-use Rattle.settled_runs.proofs.Names.{◌≡◌, ◌⊎◌, inl, inr, ℕ, Bool, true, false, cond, List, [], ◌∷◌, ◌++◌, length, refl, sym, ◌∙◌, ap, arith, ◌==◌, eqb-true, entry, NodeEntry, Line, line, lines_of, IfSome, map, slice_get, append-nil, append_assoc, suc, zero, Option, Some, ◌<◌, subst, Made, Sort, Action, AreStatements, IsBoundAt, IsStatement, NodeSettings, Reply, Statement, call_of, handle_at, fst_true, snd_true, handle_of, some_same, AllGranted, GrantedTo, actions_in, Carried, binds, are_settled, is_settled_deed, ◌+◌, length-append, length_push, map_push}
-
--- Lists
+use Rattle.settled_runs.proofs.Names.{◌≡◌, ◌⊎◌, inl, inr, ℕ, Bool, true, false, cond, List, [], ◌∷◌, ◌++◌, length, refl, sym, ◌∙◌, ap, arith, ◌==◌, eqb-true, entry, NodeEntry, Line, line, lines_of, IfSome, map, slice_get, append-nil, append_assoc, suc, zero, Option, Some, ◌<◌, subst, Made, Sort, Action, AreStatements, IsBoundAt, IsStatement, NodeSettings, Reply, Statement, call_of, handle_at, fst_true, snd_true, handle_of, some_same, AllGranted, GrantedTo, actions_in, Carried, binds, are_settled, is_settled_deed, ◌+◌, length-append, length_push, map_push, map-append, get_or_at, get_or_append_left, length-map, slice_get_cases}
 
 pub same_head : {X : Type 0} (x y : X) (xs ys : List X) → x ∷ xs ≡ y ∷ ys → x ≡ y
 same_head x y xs ys e = cc
 
 pub same_tail : {X : Type 0} (x y : X) (xs ys : List X) → x ∷ xs ≡ y ∷ ys → xs ≡ ys
 same_tail x y xs ys e = cc
+
+pub no_end : {X : Type 0} (A : List X) (x : X) (B : List X) → [] ≡ A ++ x ∷ B → ⊥
+no_end [] x B e = cc
+no_end (a ∷ A) x B e = cc
 
 -- of two places in one list the first one stands before the other, or they are one, or it stands behind it
 pub record Earlier {X : Type 0} (A : List X) (x : X) (B C : List X) (y : X) (D : List X) : Type 0 where
@@ -39,11 +41,10 @@ placed (a ∷ A) x B (c ∷ C) y D e = deeper (same_head a c _ _ e) (placed A x 
 pub lines_append : (who : ℕ) (P M : List NodeEntry) (ps ms : List ℕ) → length P ≡ length ps → lines_of who (P ++ M) (ps ++ ms) ≡ lines_of who P ps ++ lines_of who M ms
 unfolding lines_of
 lines_append who [] M [] ms l = refl
-lines_append who [] M (n ∷ ps) ms l = absurd (omega arith)
-lines_append who (e ∷ P) M [] ms l = absurd (omega arith)
 lines_append who (e ∷ P) M (n ∷ ps) ms l =
     let k = lines_append who P M ps ms (omega arith) in
     elim (e.who == who) as (λ b. cond b (line e.op e.reply n ∷ lines_of who (P ++ M) (ps ++ ms)) (lines_of who (P ++ M) (ps ++ ms)) ≡ cond b (line e.op e.reply n ∷ lines_of who P ps) (lines_of who P ps) ++ lines_of who M ms) [ true ↦ (λ i. line e.op e.reply n ∷ k i) | false ↦ k ]
+lines_append who _ M _ ms l = absurd (omega arith)
 
 -- the entry of a line, with the seat's lines before it and behind it
 pub record Cut (who : ℕ) (es : List NodeEntry) (ns : List ℕ) (A : List Line) (l : Line) (B : List Line) : Type 0 where
@@ -60,10 +61,8 @@ pub record Cut (who : ℕ) (es : List NodeEntry) (ns : List ℕ) (A : List Line)
 
 pub cut : (who : ℕ) (es : List NodeEntry) (ns : List ℕ) (A : List Line) (l : Line) (B : List Line) → lines_of who es ns ≡ A ++ l ∷ B → Cut who es ns A l B
 unfolding lines_of
-cut who [] ns [] l B i = absurd (cc)
-cut who [] ns (a ∷ A) l B i = absurd (cc)
-cut who (e ∷ es) [] [] l B i = absurd (cc)
-cut who (e ∷ es) [] (a ∷ A) l B i = absurd (cc)
+cut who [] ns A l B i = absurd (no_end A l B i)
+cut who (e ∷ es) [] A l B i = absurd (no_end A l B i)
 cut who (e ∷ es) (n ∷ ns) A l B i = by (e.who == who) refl i (cut who es ns)
   where
     later : (C : List Line) → lines_of who (e ∷ []) (n ∷ []) ++ C ≡ A → Cut who es ns C l B → Cut who (e ∷ es) (n ∷ ns) A l B
@@ -98,8 +97,6 @@ cut_split who es ns A l B c v = (λ i. lines_of v (c.is i) (c.numbers i)) ∙ li
 
 -- Statements
 
--- Lists
-
 pub get_front : {X : Type 0} (xs ys : List X) (n : ℕ) → n < length xs → slice_get (xs ++ ys) n ≡ slice_get xs n
 get_front [] ys n l = absurd (omega arith)
 get_front (x ∷ xs) ys zero l = refl
@@ -112,9 +109,8 @@ get_at (x ∷ xs) y ys = get_at xs y ys
 -- fronts of one length are one
 pub same_front : {X : Type 0} (A : List X) (x : X) (B C : List X) (y : X) (D : List X) → A ++ x ∷ B ≡ C ++ y ∷ D → length A ≡ length C → A ≡ C
 same_front [] x B [] y D e l = refl
-same_front [] x B (c ∷ C) y D e l = absurd (omega arith)
-same_front (a ∷ A) x B [] y D e l = absurd (omega arith)
 same_front (a ∷ A) x B (c ∷ C) y D e l = λ i. same_head a c _ _ e i ∷ same_front A x B C y D (same_tail a c _ _ e) (omega arith) i
+same_front _ x B _ y D e l = absurd (omega arith)
 
 -- what stands at a place of a list with one more
 get_last : {X : Type 0} (xs : List X) (x y : X) (n : ℕ) → slice_get (xs ++ x ∷ []) n ≡ Some y → (slice_get xs n ≡ Some y) ⊎ ((x ≡ y) × (length xs ≡ n))
@@ -125,23 +121,16 @@ get_last (z ∷ xs) x y (suc n) e = elim (get_last xs x y n e) as (λ k. (slice_
 
 -- the handle that a reply binds is that of its place
 bound_here : (rs : List Reply) (r : Reply) (qs : List Reply) (n : ℕ) → length rs ≡ n → handle_at (map handle_of (rs ++ r ∷ qs)) n ≡ handle_of r
-bound_here [] r qs zero e = refl
-bound_here [] r qs (suc n) e = absurd (omega arith)
-bound_here (x ∷ rs) r qs zero e = absurd (omega arith)
-bound_here (x ∷ rs) r qs (suc n) e = bound_here rs r qs n (omega arith)
+bound_here rs r qs n e = ap (λ (z : List ℕ). handle_at z n) (map-append handle_of rs (r ∷ qs)) ∙ get_or_at (map handle_of rs) (handle_of r) (map handle_of qs) 0 n (length-map rs handle_of ∙ e)
 
 pub handles_front : (rs : List Reply) (qs : List Reply) (n : ℕ) → n < length rs → handle_at (map handle_of (rs ++ qs)) n ≡ handle_at (map handle_of rs) n
-handles_front [] qs n l = absurd (omega arith)
-handles_front (x ∷ rs) qs zero l = refl
-handles_front (x ∷ rs) qs (suc n) l = handles_front rs qs n (omega arith)
+handles_front rs qs n l = ap (λ (z : List ℕ). handle_at z n) (map-append handle_of rs qs) ∙ get_or_append_left (map handle_of rs) (map handle_of qs) 0 n (let m : length (map handle_of rs) ≡ length rs = length-map rs handle_of in omega arith)
 
 -- Carried lists in pieces
 
 pub carried_more : (bound : List ℕ) (ss ts : List Statement) (ls ks : List Line) (rs qs : List Reply) → Carried Made bound ss ls rs → Carried Made (bound ++ map handle_of rs) ts ks qs → Carried Made bound (ss ++ ts) (ls ++ ks) (rs ++ qs)
 unfolding Carried
 carried_more bound [] ts ls ks [] qs a b = subst (λ (x : List Line). Carried Made bound ts (x ++ ks) qs) (sym a) (subst (λ (x : List ℕ). Carried Made x ts ks qs) (append-nil bound) b)
-carried_more bound [] ts ls ks (r ∷ rs) qs a b = absurd a
-carried_more bound (s ∷ ss) ts ls ks [] qs a b = absurd a
 carried_more bound (s ∷ ss) ts ls ks (r ∷ rs) qs a b = (
   a.0,
   a.1 ++ ks,
@@ -149,6 +138,7 @@ carried_more bound (s ∷ ss) ts ls ks (r ∷ rs) qs a b = (
   a.3,
   carried_more (bound ++ handle_of r ∷ []) ss ts a.1 ks rs qs a.4 (subst (λ (x : List ℕ). Carried Made x ts ks qs) (sym (append_assoc bound (handle_of r ∷ []) (map handle_of rs))) b),
 )
+carried_more bound _ ts ls ks _ qs a b = absurd a
 
 -- a statement of a part, with its lines and its reply, and what stands before it
 pub record Step (all : List Statement) (ls : List Line) (rs : List Reply) (before : List Statement) (l1 : List Line) (r1 : List Reply) (s : Statement) (front : List Line) (r : Reply) : Type 0 where
@@ -171,8 +161,6 @@ module _ (all : List Statement) (ls : List Line) (rs : List Reply) (I : List Sta
   along_from before l1 r1 [] ks [] c1 n c a e t i =
       subst (λ (x : List Statement). I x ls rs) (sym (a ∙ append-nil before))
       (subst (λ (x : List Line). I before x rs) (sym (e ∙ ap (λ (z : List Line). l1 ++ z) c ∙ append-nil l1)) (subst (λ (x : List Reply). I before l1 x) (sym (t ∙ append-nil r1)) i))
-  along_from before l1 r1 [] ks (r ∷ qs) c1 n c a e t i = absurd c
-  along_from before l1 r1 (s ∷ ss) ks [] c1 n c a e t i = absurd c
   along_from before l1 r1 (s ∷ ss) ks (r ∷ qs) c1 n c a e t i =
       let e2 : ls ≡ l1 ++ (c.0 ++ c.1) = e ∙ ap (λ (z : List Line). l1 ++ z) c.2 in
       along_from (before ++ s ∷ []) (l1 ++ c.0) (r1 ++ r ∷ []) ss c.1 qs
@@ -180,6 +168,7 @@ module _ (all : List Statement) (ls : List Line) (rs : List Reply) (I : List Sta
       (length_push r1 r ∙ ap (λ (k : ℕ). k + 1) n ∙ sym (length_push before s)) (subst (λ (x : List ℕ). Carried Made x ss c.1 qs) (sym (map_push handle_of r1 r)) c.4)
       (a ∙ sym (append_assoc before (s ∷ []) ss)) (e2 ∙ sym (append_assoc l1 c.0 c.1)) (t ∙ sym (append_assoc r1 (r ∷ []) qs))
       (step before l1 r1 s c.0 r (record { rest = ss; more = c.1; others = qs; parted = a; is = e2; told = t; carried = c1; many = n; made = c.3 }) i)
+  along_from before l1 r1 _ ks _ c1 n c a e t i = absurd c
 
   pub along : Carried Made [] all ls rs → I [] [] [] → I all ls rs
   unfolding Carried
@@ -209,15 +198,13 @@ deed_in settings known all before more i e b t rest j =
 
 pub granted_at : (before : List Statement) (s : Statement) (rest : List Statement) (r1 : List Reply) (r : Reply) (others : List Reply) → length r1 ≡ length before → AllGranted (before ++ s ∷ rest) (r1 ++ r ∷ others) → AllGranted before r1 × GrantedTo s.deed r
 granted_at [] s rest [] r others n a = (tt, a.0)
-granted_at [] s rest (q ∷ r1) r others n a = absurd (omega arith)
-granted_at (t ∷ before) s rest [] r others n a = absurd (omega arith)
 granted_at (t ∷ before) s rest (q ∷ r1) r others n a = let x = granted_at before s rest r1 r others (omega arith) a.1 in ((a.0, x.0), x.1)
+granted_at _ s rest _ r others n a = absurd (omega arith)
 
 pub granted_more : (before : List Statement) (r1 : List Reply) (s : Statement) (r : Reply) → AllGranted before r1 → length r1 ≡ length before → GrantedTo s.deed r → AllGranted (before ++ s ∷ []) (r1 ++ r ∷ [])
 granted_more [] [] s r a l g = (g, tt)
-granted_more [] (x ∷ r1) s r a l g = absurd (omega arith)
-granted_more (t ∷ before) [] s r a l g = absurd a
 granted_more (t ∷ before) (x ∷ r1) s r a l g = (a.0, granted_more before r1 s r a.1 (omega arith) g)
+granted_more _ _ s r a l g = absurd (omega arith)
 
 module _ (all : List Statement) (ls : List Line) (rs : List Reply) (before : List Statement) (l1 : List Line) (r1 : List Reply) (s : Statement) (front : List Line) (r : Reply) (x : Step all ls rs before l1 r1 s front r) where
   pub step_granted : AllGranted all rs → AllGranted before r1 × GrantedTo s.deed r
@@ -238,9 +225,7 @@ pub record BoundBy (t : Sort) (before : List Statement) (place : ℕ) : Type 0 w
   pub early : place < length before
 
 some_within : {X : Type 0} (xs : List X) (n : ℕ) → n < length xs → (x : X) × (slice_get xs n ≡ Some x)
-some_within [] n l = absurd (omega arith)
-some_within (x ∷ xs) zero l = (x, refl)
-some_within (x ∷ xs) (suc n) l = some_within xs n (omega arith)
+some_within {X} xs n l = elim (slice_get_cases xs n).1 as (λ z. (x : X) × (slice_get xs n ≡ Some x)) [ inl x ↦ (x.0, x.2) | inr x ↦ absurd (omega arith) ]
 
 pub bound_by : (t : Sort) (before : List Statement) (place : ℕ) → IsBoundAt t before place → BoundBy t before place
 bound_by t before place b =

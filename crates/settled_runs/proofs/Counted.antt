@@ -1,8 +1,7 @@
 -- How many entries of a run ask for an op of some class: the statements bound it.
 use Rattle.settled_runs.proofs.Names.{Each, ◌≡◌, ℕ, suc, ◌+◌, ◌≤◌, ◌<◌, Bool, true, false, cond, List, [], ◌∷◌, ◌++◌, length, Option, Some, None, refl, sym, ◌∙◌, ap, subst, arith, ◌==◌, ◌&&◌, ◌||◌, nat_le, map, flat_map, nat_tests, eq-eqb, both_true, snd_true, how_many, Deed, Statement, Part, Workload, Op, Reply, handle_of, NodeEntry, Call, Once, Looking, call_of, Line, line, before_it, Made, RunOf, entries_that, BySeats, true_false, lines_of, Carried, all_statements, is_settled}
-use Rattle.settled_runs.proofs.Granted.{bit, bit_within}
+use Rattle.settled_runs.proofs.{Along.Step, Along.along, Granted.bit, Granted.bit_within}
 use Rattle.settled_runs.proofs.Each.{AllSeats, CallEach, OnlyBy, PartAt, each_map, each_of, is_outside, map_seats, settled_whole, run_each, run_parts, work_outside}
-use Rattle.settled_runs.proofs.Along.{Step, along}
 
 -- How many pass
 
@@ -65,8 +64,6 @@ only_asks who p L ks l o =
     let b : how_many (λ e. (e.who == who) && p e.op) L ≡ asked p (lines_of who L ks) = own_asks p who L ks l in
     omega arith
 
--- Statements
-
 -- how often a call may ask for it
 abbrev pub CallAsks : (Op → Bool) → ℕ → Call → Type 0
 CallAsks p n (Once o) = bit (p o) ≤ n
@@ -111,8 +108,6 @@ module _ (p : Op → Bool) where
           let x : asked p (l1 ++ front) ≡ asked p l1 + asked p front = many_append (λ l. p l.op) l1 front in
           let y : how_many (λ z. q z.deed) (b ++ s ∷ []) ≡ how_many (λ z. q z.deed) b + (bit (q s.deed) + 0) = many_append (λ z. q z.deed) b (s ∷ []) in
           omega arith
-
--- Seats
 
 -- but for the ops at the begin and at the end of a seat, only statements of the second class ask for ops of the first, one each
 pub record IsClass (p : Op → Bool) (q : Deed → Bool) : Type 0 where

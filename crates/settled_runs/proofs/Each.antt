@@ -1,7 +1,5 @@
 -- What holds of each line of a seat, and of each entry of a run.
 use Rattle.settled_runs.proofs.Names.{Each, list_any, list_all, flat_map, ap, append_assoc, arith, cond, refl, suc, sym, ◌∙◌, Bool, List, None, Option, Some, [], false, length, true, ℕ, ◌++◌, ◌+◌, ◌<◌, ◌∷◌, ◌≡◌, ◌≤◌, subst, append-nil, eq-eqb, eqb-true, or_left, or_right, list_any-append, nat_lt, not, ◌&&◌, ◌==◌, nat_tests, Made, line, Line, before_it, head_of, in_lines, tail_of_main, Action, BySeats, Call, Looking, Once, CallerRan, MainRan, PartsRan, NodeEntry, NodeSettings, Op, Part, Reply, RunOf, WorkerRan, is_work, Statement, Workload, entry, fst_true, not_true, snd_true, true_false, has_room, are_settled_parts, has_one_fault_a_group, is_settled_further, is_settled_part, set_up, action_in, actions_in, all_statements, lines_of, CallersRan, Carried, has_begin, all_work, are_settled, has_different_ids, has_one_kind_a_job, is_settled, keep_limits, sets_up_first, inl, inr, cases_eq, cond_both, and_parts, Timeout, Looked}
-use Rattle.mtapi_machine.specs.declared.ops.Op.TheVariants as op
-use Rattle.mtapi_machine.specs.declared.replies.Reply.TheVariants as reply
 use Rattle.settled_runs.proofs.Along.{Step, along}
 
 module _ {X : Type 0} (P : X → Type 0) where
@@ -55,31 +53,31 @@ one_look o t ls r m = m.is ∙ ap (λ (x : Option ℕ). before_it (o false) x ++
 
 -- the op is one of a worker
 abbrev pub is_at_work : Op → Bool
-is_at_work op.Pick = true
-is_at_work (op.Finish t done) = true
-is_at_work (op.Asked t) = true
-is_at_work (op.WatchEnd t) = true
-is_at_work (op.TallyLock t) = true
-is_at_work (op.TallyRead t) = true
-is_at_work (op.TallyWrite t value) = true
-is_at_work (op.TallyEnd t) = true
+is_at_work Op.Pick = true
+is_at_work (Op.Finish t done) = true
+is_at_work (Op.Asked t) = true
+is_at_work (Op.WatchEnd t) = true
+is_at_work (Op.TallyLock t) = true
+is_at_work (Op.TallyRead t) = true
+is_at_work (Op.TallyWrite t value) = true
+is_at_work (Op.TallyEnd t) = true
 is_at_work _ = false
 
 -- the op is one of a worker, or one that moves the phase
 abbrev pub is_outside : Op → Bool
-is_outside op.Initialize = true
-is_outside op.Release = true
-is_outside op.Enter = true
-is_outside op.Close = true
-is_outside op.Final = true
+is_outside Op.Initialize = true
+is_outside Op.Release = true
+is_outside Op.Enter = true
+is_outside Op.Close = true
+is_outside Op.Final = true
 is_outside o = is_at_work o
 
 pub work_outside : (o : Op) → is_at_work o ≡ true → is_outside o ≡ true
-work_outside op.Initialize e = refl
+work_outside Op.Initialize e = refl
 work_outside _ e = cc
 
 at_work : (o : Op) (r : Reply) → is_work o r ≡ true → is_at_work o ≡ true
-at_work op.Pick r e = refl
+at_work Op.Pick r e = refl
 at_work _ r e = cc
 
 all_at_work : (ls : List Line) → all_work ls ≡ true → Each (λ l. is_at_work l.op ≡ true) ls
@@ -88,7 +86,7 @@ all_at_work [] e = tt
 all_at_work (l ∷ ls) e = (at_work l.op l.reply (fst_true _ (all_work ls) e), all_at_work ls (snd_true (is_work l.op l.reply) _ e))
 
 pub worker_each : (ls : List Line) → WorkerRan ls → Each (λ l. is_at_work l.op ≡ true) ls
-worker_each ls x = subst (Each (λ (l : Line). is_at_work l.op ≡ true)) (sym x.is) (each_both (λ (l : Line). is_at_work l.op ≡ true) x.work (line op.Pick reply.Stop x.beside ∷ []) (all_at_work x.work x.works) (refl, tt))
+worker_each ls x = subst (Each (λ (l : Line). is_at_work l.op ≡ true)) (sym x.is) (each_both (λ (l : Line). is_at_work l.op ≡ true) x.work (line Op.Pick Reply.Stop x.beside ∷ []) (all_at_work x.work x.works) (refl, tt))
 
 -- Entries
 
@@ -125,10 +123,15 @@ AllSeats R first [] rss = Unit {0}
 AllSeats R first (p ∷ ps) [] = ⊥
 AllSeats R first (p ∷ ps) (rs ∷ rss) = R first p rs × AllSeats R (suc first) ps rss
 
+-- what holds of no seats, and of one more before others, holds of these
+pub fold_seats : (R : ℕ → Part → List Reply → Type 0) (F : ℕ → List Part → List (List Reply) → Type 0) (base : ℕ) → ((w : ℕ) (rss : List (List Reply)) → F w [] rss)
+    → ((w : ℕ) (p : Part) (rs : List Reply) (ps : List Part) (rss : List (List Reply)) → base ≤ w → R w p rs → F (suc w) ps rss → F w (p ∷ ps) (rs ∷ rss)) → (first : ℕ) (ps : List Part) (rss : List (List Reply)) → base ≤ first → AllSeats R first ps rss → F first ps rss
+fold_seats R F base z f first [] rss l a = z first rss
+fold_seats R F base z f first (p ∷ ps) [] l a = absurd a
+fold_seats R F base z f first (p ∷ ps) (rs ∷ rss) l a = f first p rs ps rss l a.0 (fold_seats R F base z f (suc first) ps rss (omega arith) a.1)
+
 pub map_seats : (R S : ℕ → Part → List Reply → Type 0) (base : ℕ) → ((w : ℕ) (p : Part) (rs : List Reply) → base ≤ w → R w p rs → S w p rs) → (first : ℕ) (ps : List Part) (rss : List (List Reply)) → base ≤ first → AllSeats R first ps rss → AllSeats S first ps rss
-map_seats R S base f first [] rss l a = tt
-map_seats R S base f first (p ∷ ps) [] l a = absurd a
-map_seats R S base f first (p ∷ ps) (rs ∷ rss) l a = (f first p rs l a.0, map_seats R S base f (suc first) ps rss (omega arith) a.1)
+map_seats R S base f = fold_seats R (AllSeats S) base (λ w rss. tt) (λ w p rs ps rss l x a. (f w p rs l x, a))
 
 pub with_each : (R : ℕ → Part → List Reply → Type 0) (P : Part → Type 0) (first : ℕ) (ps : List Part) (rss : List (List Reply)) → AllSeats R first ps rss → Each P ps → AllSeats (λ w p rs. R w p rs × P p) first ps rss
 with_each R P first [] rss a e = tt
@@ -204,7 +207,7 @@ module _ (load : Workload) (es : List NodeEntry) (ns : List ℕ) where
     pub first : Each (λ l. is_outside l.op ≡ true) start
     pub last : Each (λ l. is_outside l.op ≡ true) finish
     -- a further caller enters, and asks for nothing else outside its statements
-    pub enters : load.settings.workers < w → Each (λ l. l.op ≡ op.Enter) (start ++ finish)
+    pub enters : load.settings.workers < w → Each (λ l. l.op ≡ Op.Enter) (start ++ finish)
     pub settled : are_settled load.settings known p.statements [] p.statements ≡ true
     pub no_set_up : load.settings.workers < w → set_up p.statements ≡ false
     pub within : Within (actions_in p.statements) (actions_in (all_statements load))
@@ -218,7 +221,7 @@ module _ (load : Workload) (es : List NodeEntry) (ns : List ℕ) where
 
   abbrev pub caller_at : (known : List Action) (w : ℕ) (p : Part) (rs : List Reply) → CallerRan in_lines p.statements (lines_of w es ns) rs → is_settled_further load.settings known p ≡ true → Within (actions_in p.statements) (actions_in (all_statements load)) → PartAt w p rs
   caller_at known w p rs x e v = record {
-    start = line op.Enter reply.Ok x.entered.0 ∷ [];
+    start = line Op.Enter Reply.Ok x.entered.0 ∷ [];
     body = x.body;
     finish = [];
     known = known;
@@ -242,13 +245,12 @@ module _ (load : Workload) (es : List NodeEntry) (ns : List ℕ) where
   )
 
   parts_at : (ps : List Part) (rss : List (List Reply)) → PartsRan in_lines (λ who. lines_of who es ns) load.settings.workers ps rss → are_settled_parts load.settings ps ≡ true → Within (actions_in (flat_map (λ p. p.statements) ps)) (actions_in (all_statements load)) → AllSeats PartAt load.settings.workers ps rss
-  parts_at [] rss c e w = absurd c
-  parts_at (p ∷ ps) [] c e w = absurd c
   parts_at (p ∷ ps) (rs ∷ rss) c e w =
       let x : Parts load.settings p ps = parts_are load.settings p ps e in (
         main_at p rs c.0 x.main (within_front p.statements (flat_map (λ q. q.statements) ps) _ w),
         callers_at (actions_in p.statements) (suc load.settings.workers) ps rss c.1 x.further (within_behind p.statements (flat_map (λ q. q.statements) ps) _ w),
       )
+  parts_at _ _ c e w = absurd c
 
   -- where the lines of a step stand among the seat's
   pub step_lines : (w : ℕ) (p : Part) (rs : List Reply) (x : PartAt w p rs) (before : List Statement) (l1 : List Line) (r1 : List Reply) (s : Statement) (front : List Line) (r : Reply) (y : Step p.statements x.body rs before l1 r1 s front r) → lines_of w es ns ≡ (x.start ++ l1) ++ (front ++ (y.more ++ x.finish))

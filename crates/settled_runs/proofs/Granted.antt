@@ -1,15 +1,6 @@
 -- In a quiet history a call isn't refused for which there is room and all that it needs.
-use Rattle.settled_runs.proofs.Names.{◌≡◌, ℕ, ◌+◌, ◌≤◌, ◌<◌, Bool, true, false, cond, List, [], ◌∷◌, refl, ◌∙◌, arith, length, ◌==◌, ◌&&◌, not, nat_tests, entry, ObjectKind, how_many, Listed, live_object, Task, NewTask, new_task, Op, Reply, Handle, Mtapi, Terms, State, opening, Move, starts_task, apply, after_moves, Allows, after_row, asked_for, asked_of, NodeEntry, IsNext, next, after, StartsTask, SameTask, given, on_only, on_live, by_moves, objects_of, entries_that, true_false, is_handle, makes_one, HasRoom, live_of, issue, retired, is_full, row, LegalFrom, after_from, zero, suc, ◌++◌, Option, Some, None, sym, ap, subst, ℤ, ◌||◌, nat_lt, is_none, is_some, eq-eqb, holds, Kind, Mask, GroupHandle, lookup, any_live, any_listed, Action, new_action, is_job, has_job, has_enabled_job, is_eligible, some_below, Ok, Phase, New, Open, Closing, Closed, workers, is_open, phase_is, makes, alters, removes, is_served, Row, unless, gives, never, only, number_of, Legal, IsMade, turns, Legal-front, some_same, sorts_keep, closes, NoClose, cut_from, cut_after, AreQuiet, IsOpened, IsServed, GroupIsMade, Asks, IsGranted, has_worker, inl, inr, cases_eq, cond_both, QuietCallsAreGranted, nat_le, QueueHandle, count_listed, with_fields, gone, is_unended, Queue, is_in, is_unended_in, queues, Queues, is_fresh, handle_of, live, new_queue, AltersObject, makes_kind, some_entry, none_first, Every, every_issue, every_change, sort_move, HasAction, makes_queue, puts, IsQueued, both_true}
-use Rattle.handle_pool.specs.Slots.{generation_of}
-use Rattle.history_law.specs.Words.{makes as makes_object}
-use Rattle.mtapi_machine.specs.State.{FieldsOf}
-use Rattle.history_law.proofs.Ages.{AgesEach, SameFields, kind_move}
-use Rattle.history_law.proofs.Others.{terms_stay}
-use Rattle.settled_runs.proofs.Stays.{made_objects_stay}
-use Rattle.settled_runs.specs.Granted.{puts_into}
-use Rattle.mtapi_values.specs.declared.statuses.MtapiStatus.TheVariants as m
-use Rattle.mtapi_machine.specs.declared.ops.Op.TheVariants as op
-use Rattle.mtapi_values.specs.declared.handles.ObjectKind.TheVariants as kinds
+use Rattle.settled_runs.proofs.Names.{◌≡◌, ℕ, ◌+◌, ◌≤◌, ◌<◌, Bool, true, false, cond, List, [], ◌∷◌, refl, ◌∙◌, arith, length, ◌==◌, ◌&&◌, not, nat_tests, entry, ObjectKind, how_many, Listed, live_object, Task, NewTask, new_task, Op, Reply, Handle, Mtapi, Terms, State, opening, Move, starts_task, apply, after_moves, Allows, after_row, NodeEntry, IsNext, next, after, SameTask, given, on_only, by_moves, objects_of, entries_that, true_false, is_handle, makes_one, HasRoom, live_of, issue, retired, is_full, row, LegalFrom, after_from, zero, suc, ◌++◌, Option, Some, None, sym, ap, subst, ℤ, ◌||◌, nat_lt, is_none, is_some, eq-eqb, holds, Kind, Mask, GroupHandle, lookup, any_live, any_listed, Action, new_action, is_job, has_job, has_enabled_job, is_eligible, some_below, Ok, Phase, New, Open, Closing, Closed, workers, is_open, phase_is, makes, alters, removes, is_served, Row, unless, gives, never, only, number_of, Legal, IsMade, turns, Legal-front, some_same, sorts_keep, closes, NoClose, cut_from, cut_after, AreQuiet, IsOpened, IsServed, GroupIsMade, Asks, IsGranted, has_worker, inl, inr, cases_eq, cond_both, QuietCallsAreGranted, nat_le, QueueHandle, count_listed, with_fields, gone, is_unended, Queue, is_in, is_unended_in, queues, Queues, is_fresh, handle_of, live, new_queue, AltersObject, makes_kind, some_entry, none_first, Every, every_issue, every_change, sort_move, HasAction, makes_queue, puts, IsQueued, both_true, generation_of, makes_object, FieldsOf, AgesEach, SameFields, kind_move, terms_stay, puts_entry as puts_into, MtapiStatus, whether}
+use Rattle.settled_runs.proofs.Stays.{made_objects_stay, AskedAs, on_start}
 
 -- How many objects a history made, and room for another
 
@@ -33,9 +24,8 @@ module _ {T : Type 0} (p : T → Bool) where
 
   pub issued_ages : (K : T → T → Type 0) → ((x y : T) → K x y → p y ≡ p x) → (l m : List (Listed T)) → AgesEach K l m → issued m ≡ issued l
   issued_ages K f [] [] a = refl
-  issued_ages K f [] (q ∷ qs) a = absurd a
-  issued_ages K f (r ∷ rs) [] a = absurd a
   issued_ages K f (r ∷ rs) (q ∷ qs) a = let k = issued_ages K f rs qs a.1 in λ i. bit (f r.fields q.fields a.0.fields i) + k i
+  issued_ages K f _ _ a = absurd a
 
 abbrev pub any : {T : Type 0} → T → Bool
 any x = true
@@ -55,8 +45,6 @@ module _ {T : Type 0} where
   pub not_full : (last max : ℕ) (l : List (Listed T)) → issued any l < max → is_full last max l ≡ false
   unfolding is_full
   not_full last max l k = let e : length (live_of l) + retired last l ≤ issued any l = length_live last l in grind (arith, nat_tests)
-
--- What one entry makes
 
 -- how many objects of the kind pass
 abbrev pub made_of : (k : ObjectKind) → (FieldsOf k → Bool) → State → ℕ
@@ -85,54 +73,43 @@ refused : (k : ObjectKind) (s : State) (o : Op) (r : Reply) → Grows k s o r []
 refused k s o r = omega arith
 
 -- and so it is of the tasks that pass, where the ops that start one are among these
-module _ (p : Task → Bool) (same : (x y : Task) → SameTask x y → p y ≡ p x) (b : Op → Bool) (by : (n : NewTask) (k : ℕ) (o : Op) → StartsTask n o → p (new_task n k) ≡ true → b o ≡ true) where
+module _ (p : Task → Bool) (same : (x y : Task) → SameTask x y → p y ≡ p x) (b : Op → Bool) (by : (s : State) (n : NewTask) (k : ℕ) (o : Op) → AskedAs s n o → p (new_task n k) ≡ true → b o ≡ true) where
   abbrev Gets : State → Op → Reply → List Move → Type 0
-  Gets s o r ms = made_of kinds.Task p (after_moves ms s) ≤ made_of kinds.Task p s + bit (b o && is_handle r)
+  Gets s o r ms = made_of ObjectKind.Task p (after_moves ms s) ≤ made_of ObjectKind.Task p s + bit (b o && is_handle r)
 
-  none_gets : (s : State) (o : Op) (r : Reply) → Gets s o r []
-  none_gets s o r = omega arith
-
-  one_gets : (s : State) (o : Op) (h : ℕ) (n : NewTask) → StartsTask n o → Gets s o (Handle h) (starts_task h n ∷ [])
+  one_gets : (s : State) (o : Op) (h : ℕ) (n : NewTask) → AskedAs s n o → Gets s o (Handle h) (starts_task h n ∷ [])
   one_gets s o h n i =
-      let a : bit (p (new_task n s.starts)) ≤ bit (b o && true) = bit_within (p (new_task n s.starts)) (b o && true) (λ j. both_true (b o) true (by n s.starts o i j) refl) in
-      let e : made_of kinds.Task p (apply (starts_task h n) s) ≡ made_of kinds.Task p s + bit (p (new_task n s.starts)) = issued_more p h (new_task n s.starts) s.tasks in
+      let a : bit (p (new_task n s.starts)) ≤ bit (b o && true) = bit_within (p (new_task n s.starts)) (b o && true) (λ j. both_true (b o) true (by s n s.starts o i j) refl) in
+      let e : made_of ObjectKind.Task p (apply (starts_task h n) s) ≡ made_of ObjectKind.Task p s + bit (p (new_task n s.starts)) = issued_more p h (new_task n s.starts) s.tasks in
       omega arith
 
-  pub tasks_made : (s : State) (who : ℕ) (o : Op) (r : Reply) → Allows (row s who o r) r → made_of kinds.Task p (after_row s (row s who o r)) ≤ made_of kinds.Task p s + bit (b o && is_handle r)
-  tasks_made s who (op.TaskStart job args priority cores detached group) r a =
-      given (Gets s (op.TaskStart job args priority cores detached group)) (row s who (op.TaskStart job args priority cores detached group) r) r (none_gets s (op.TaskStart job args priority cores detached group))
-      (λ c0 c1 c2 c3 c4 c5 c6. on_only (Gets s (op.TaskStart job args priority cores detached group)) _ _ _ (λ m. one_gets s (op.TaskStart job args priority cores detached group) _ (asked_for job args priority cores detached group) refl)) a
-  tasks_made s who (op.TaskEnqueue q args cores detached group) r a =
-      given (Gets s (op.TaskEnqueue q args cores detached group)) (row s who (op.TaskEnqueue q args cores detached group) r) r (none_gets s (op.TaskEnqueue q args cores detached group))
-      (λ c d. on_live (Gets s (op.TaskEnqueue q args cores detached group)) (live_object s.queues q.0) _ _ (none_gets s (op.TaskEnqueue q args cores detached group) (Mtapi m.ErrQueueInvalid))
-      (λ x f c0 c1 c2 c3 c4 c5 c6. on_only (Gets s (op.TaskEnqueue q args cores detached group)) _ _ _ (λ m. one_gets s (op.TaskEnqueue q args cores detached group) _ (asked_of q.0 x args cores detached group) (x, refl)))) a
-  tasks_made s who o r a = let n : made_of kinds.Task p (next s (entry who o r)) ≡ made_of kinds.Task p s = none_made kinds.Task p same s (entry who o r) refl in omega arith
+  pub tasks_made : (s : State) (who : ℕ) (o : Op) (r : Reply) → Allows (row s who o r) r → made_of ObjectKind.Task p (after_row s (row s who o r)) ≤ made_of ObjectKind.Task p s + bit (b o && is_handle r)
+  tasks_made s who o r a = whether (makes_object ObjectKind.Task o) (λ z. on_start (Gets s o) s who r (λ c. omega arith) o z (λ h n i f. one_gets s o h n i) a)
+      (λ z. let n : made_of ObjectKind.Task p (next s (entry who o r)) ≡ made_of ObjectKind.Task p s = none_made ObjectKind.Task p same s (entry who o r) z in omega arith)
 
-starts_some : (n : NewTask) (k : ℕ) (o : Op) → StartsTask n o → any (new_task n k) ≡ true → makes_object kinds.Task o ≡ true
-starts_some n k (op.TaskStart job args priority cores detached group) b e = refl
-starts_some n k (op.TaskEnqueue q args cores detached group) b e = refl
-starts_some n k _ b e = absurd b
+starts_some : (s : State) (n : NewTask) (k : ℕ) (o : Op) → AskedAs s n o → any (new_task n k) ≡ true → makes_object ObjectKind.Task o ≡ true
+starts_some s n k (Op.TaskStart job args priority cores detached group) b e = refl
+starts_some s n k (Op.TaskEnqueue q args cores detached group) b e = refl
+starts_some s n k _ b e = absurd b
 
-pub tasks_grow : GrowsBy kinds.Task
-tasks_grow = tasks_made any (λ x y i. refl) (makes_object kinds.Task) starts_some
+pub tasks_grow : GrowsBy ObjectKind.Task
+tasks_grow = tasks_made any (λ x y i. refl) (makes_object ObjectKind.Task) starts_some
 
-pub actions_grow : GrowsBy kinds.Action
-actions_grow s who (op.ActionCreate job k cores) r a =
-    given (Grows kinds.Action s (op.ActionCreate job k cores)) (row s who (op.ActionCreate job k cores) r) r (refused kinds.Action s (op.ActionCreate job k cores))
-    (λ c0 c1 c2. on_only (Grows kinds.Action s (op.ActionCreate job k cores)) _ _ _ (λ m. more _ _ s.actions)) a
-actions_grow s who o r a = none_more kinds.Action s who o r refl
+pub actions_grow : GrowsBy ObjectKind.Action
+actions_grow s who (Op.ActionCreate job k cores) r a =
+    given (Grows ObjectKind.Action s (Op.ActionCreate job k cores)) (row s who (Op.ActionCreate job k cores) r) r (refused ObjectKind.Action s (Op.ActionCreate job k cores))
+    (λ c0 c1 c2. on_only (Grows ObjectKind.Action s (Op.ActionCreate job k cores)) _ _ _ (λ m. more _ _ s.actions)) a
+actions_grow s who o r a = none_more ObjectKind.Action s who o r refl
 
-pub groups_grow : GrowsBy kinds.Group
-groups_grow s who op.GroupCreate r a = given (Grows kinds.Group s op.GroupCreate) (row s who op.GroupCreate r) r (refused kinds.Group s op.GroupCreate) (λ c0 c1. on_only (Grows kinds.Group s op.GroupCreate) _ _ _ (λ m. more _ _ s.groups)) a
-groups_grow s who o r a = none_more kinds.Group s who o r refl
+pub groups_grow : GrowsBy ObjectKind.Group
+groups_grow s who Op.GroupCreate r a = given (Grows ObjectKind.Group s Op.GroupCreate) (row s who Op.GroupCreate r) r (refused ObjectKind.Group s Op.GroupCreate) (λ c0 c1. on_only (Grows ObjectKind.Group s Op.GroupCreate) _ _ _ (λ m. more _ _ s.groups)) a
+groups_grow s who o r a = none_more ObjectKind.Group s who o r refl
 
-pub queues_grow : GrowsBy kinds.Queue
-queues_grow s who (op.QueueCreate id job priority limit ordered retain) r a =
-    given (Grows kinds.Queue s (op.QueueCreate id job priority limit ordered retain)) (row s who (op.QueueCreate id job priority limit ordered retain) r) r (refused kinds.Queue s (op.QueueCreate id job priority limit ordered retain))
-    (λ c0 c1 c2 c3 c4. on_only (Grows kinds.Queue s (op.QueueCreate id job priority limit ordered retain)) _ _ _ (λ m. more _ _ s.queues)) a
-queues_grow s who o r a = none_more kinds.Queue s who o r refl
-
--- What a history makes
+pub queues_grow : GrowsBy ObjectKind.Queue
+queues_grow s who (Op.QueueCreate id job priority limit ordered retain) r a =
+    given (Grows ObjectKind.Queue s (Op.QueueCreate id job priority limit ordered retain)) (row s who (Op.QueueCreate id job priority limit ordered retain) r) r (refused ObjectKind.Queue s (Op.QueueCreate id job priority limit ordered retain))
+    (λ c0 c1 c2 c3 c4. on_only (Grows ObjectKind.Queue s (Op.QueueCreate id job priority limit ordered retain)) _ _ _ (λ m. more _ _ s.queues)) a
+queues_grow s who o r a = none_more ObjectKind.Queue s who o r refl
 
 -- what grows by an entry that passes and by no other grows by so many
 pub grown_along : (f : State → ℕ) (p : NodeEntry → Bool) → ((s : State) (e : NodeEntry) → IsNext s e → f (next s e) ≤ f s + bit (p e)) → (s : State) (L : List NodeEntry) → LegalFrom s L → f (after_from s L) ≤ f s + entries_that p L
@@ -144,14 +121,8 @@ grown_along f p g s (e ∷ es) l =
     omega arith
 
 nothing_yet : (k : ObjectKind) (terms : Terms) → made_of k any (opening terms) ≡ 0
-nothing_yet kinds.Action terms = refl
-nothing_yet kinds.Task terms = refl
-nothing_yet kinds.Group terms = refl
-nothing_yet kinds.Queue terms = refl
-nothing_yet kinds.Mutex terms = refl
-nothing_yet kinds.Sem terms = refl
-nothing_yet kinds.Rwl terms = refl
-nothing_yet kinds.Shmem terms = refl
+nothing_yet ObjectKind.Action terms = refl
+nothing_yet _ terms = refl
 
 -- there is room for another where fewer were made than there may be
 pub has_room : (k : ObjectKind) → GrowsBy k → (terms : Terms) (L : List NodeEntry) → LegalFrom (opening terms) L → HasRoom terms k L → (last : ℕ) → is_full last ((objects_of k).max terms.settings) ((objects_of k).list (after terms L)) ≡ false
@@ -160,8 +131,6 @@ has_room k g terms L l r last =
     let z : made_of k any (opening terms) ≡ 0 = nothing_yet k terms in
     let h : entries_that (makes_one k) L < (objects_of k).max terms.settings = r in
     not_full last ((objects_of k).max terms.settings) ((objects_of k).list (after terms L)) (omega arith)
-
--- What a call needs
 
 -- A row whose conditions aren't met
 
@@ -184,9 +153,9 @@ passes_only false h ms = tt
 
 phase_turns : (p : Phase) (o : Op) → closes o ≡ false → turns p o ≡ true → is_open p ≡ true
 phase_turns Open o c t = refl
-phase_turns Closing op.Close c t = true_false refl c
+phase_turns Closing Op.Close c t = true_false refl c
 phase_turns Closing _ c t = true_false t refl
-phase_turns Closed op.Final c t = true_false refl c
+phase_turns Closed Op.Final c t = true_false refl c
 phase_turns Closed _ c t = true_false t refl
 phase_turns New o c t = true_false t refl
 
@@ -202,17 +171,17 @@ unfolding after_from
 open_along s [] c v = v
 open_along s (e ∷ es) c v = open_along (next s e) es c.1 (by_moves (λ t. is_open t.phase ≡ true) s e (λ t x i u. open_move e.op c.0 t x i u) v)
 
-opens : (s : State) (b : Bool) → Allows (unless b (Mtapi m.ErrNodeInitialized) (gives Ok (phase_is Open ∷ []))) Ok → is_open (after_row s (unless b (Mtapi m.ErrNodeInitialized) (gives Ok (phase_is Open ∷ [])))).phase ≡ true
+opens : (s : State) (b : Bool) → Allows (unless b (Mtapi MtapiStatus.ErrNodeInitialized) (gives Ok (phase_is Open ∷ []))) Ok → is_open (after_row s (unless b (Mtapi MtapiStatus.ErrNodeInitialized) (gives Ok (phase_is Open ∷ [])))).phase ≡ true
 opens s true a = absurd (cc)
 opens s false a = refl
 
 pub opened : (terms : Terms) (L : List NodeEntry) → LegalFrom (opening terms) L → IsOpened L → is_open (after terms L).phase ≡ true
 opened terms L l x =
-    let at : LegalFrom (opening terms) (x.before ++ entry x.who op.Initialize Ok ∷ x.behind) = subst (LegalFrom (opening terms)) x.is l in
-    let n : IsNext (after_from (opening terms) x.before) (entry x.who op.Initialize Ok) = cut_from (opening terms) x.before x.behind (entry x.who op.Initialize Ok) at in
-    let o : is_open (next (after_from (opening terms) x.before) (entry x.who op.Initialize Ok)).phase ≡ true = opens (after_from (opening terms) x.before) _ n.allowed in
+    let at : LegalFrom (opening terms) (x.before ++ entry x.who Op.Initialize Ok ∷ x.behind) = subst (LegalFrom (opening terms)) x.is l in
+    let n : IsNext (after_from (opening terms) x.before) (entry x.who Op.Initialize Ok) = cut_from (opening terms) x.before x.behind (entry x.who Op.Initialize Ok) at in
+    let o : is_open (next (after_from (opening terms) x.before) (entry x.who Op.Initialize Ok)).phase ≡ true = opens (after_from (opening terms) x.before) _ n.allowed in
     subst (λ (M : List NodeEntry). is_open (after terms M).phase ≡ true) (sym x.is)
-    (subst (λ (t : State). is_open t.phase ≡ true) (sym (cut_after (opening terms) x.before x.behind (entry x.who op.Initialize Ok)))
+    (subst (λ (t : State). is_open t.phase ≡ true) (sym (cut_after (opening terms) x.before x.behind (entry x.who Op.Initialize Ok)))
     (open_along _ x.behind x.unclosed o))
 
 -- Actions that serve
@@ -240,7 +209,7 @@ unfolding has_worker
 served terms L job cores legal quiet same x =
     let s : State = after terms L in
     let a : Action = new_action job x.kind x.mask.0 in
-    let there : live_object s.actions x.handle ≡ Some a = made_objects_stay terms L (op.ActionCreate job x.kind x.mask) x.handle legal quiet x.made in
+    let there : live_object s.actions x.handle ≡ Some a = made_objects_stay terms L (Op.ActionCreate job x.kind x.mask) x.handle legal quiet x.made in
     let is_worker : x.worker < workers s = subst (λ (t : Terms). x.worker < t.settings.workers) (sym same) x.is_worker in
     let eligible : is_eligible (workers s) x.worker job cores a ≡ true = let i : nat_lt x.worker (workers s) ≡ true = grind (arith, nat_tests, is_worker) in λ j. eq-eqb job job refl j && i j && x.in_action j && x.in_task j in
     record {
@@ -254,7 +223,7 @@ served terms L job cores legal quiet same x =
 
 pub group_there : (terms : Terms) (L : List NodeEntry) (group : Option GroupHandle) → Legal terms L → AreQuiet L → GroupIsMade group L → holds (λ g. is_none (live_object (after terms L).groups g)) (number_of group) ≡ false
 group_there terms L None legal quiet x = refl
-group_there terms L (Some g) legal quiet x = ap is_none (made_objects_stay terms L op.GroupCreate g.0 legal quiet x)
+group_there terms L (Some g) legal quiet x = ap is_none (made_objects_stay terms L Op.GroupCreate g.0 legal quiet x)
 
 -- The calls
 
@@ -277,30 +246,28 @@ module _ (terms : Terms) (L : List NodeEntry) (who : ℕ) (o : Op) (r : Reply) (
       subst (λ (t : Terms). is_full t.settings.generations ((objects_of k).max t.settings) ((objects_of k).list (after terms L)) ≡ false) (sym same_terms)
       (has_room k g terms L before.from h terms.settings.generations)
 
-pub action_granted : (terms : Terms) (L : List NodeEntry) (who : ℕ) (r : Reply) (job : ℕ) (kind : Kind) (cores : Mask) → Asks terms L who (op.ActionCreate job kind cores) r → is_job job ≡ true → HasRoom terms kinds.Action L → IsGranted r
+pub action_granted : (terms : Terms) (L : List NodeEntry) (who : ℕ) (r : Reply) (job : ℕ) (kind : Kind) (cores : Mask) → Asks terms L who (Op.ActionCreate job kind cores) r → is_job job ≡ true → HasRoom terms ObjectKind.Action L → IsGranted r
 action_granted terms L who r job kind cores x j h =
-    passes (row (after terms L) who (op.ActionCreate job kind cores) r) r
-    (is_up terms L who (op.ActionCreate job kind cores) r x, (ap not j, (room terms L who (op.ActionCreate job kind cores) r x kinds.Action actions_grow h, passes_only _ _ _)))
-    (allowed terms L who (op.ActionCreate job kind cores) r x)
+    passes (row (after terms L) who (Op.ActionCreate job kind cores) r) r
+    (is_up terms L who (Op.ActionCreate job kind cores) r x, (ap not j, (room terms L who (Op.ActionCreate job kind cores) r x ObjectKind.Action actions_grow h, passes_only _ _ _)))
+    (allowed terms L who (Op.ActionCreate job kind cores) r x)
 
-pub group_granted : (terms : Terms) (L : List NodeEntry) (who : ℕ) (r : Reply) → Asks terms L who op.GroupCreate r → HasRoom terms kinds.Group L → IsGranted r
+pub group_granted : (terms : Terms) (L : List NodeEntry) (who : ℕ) (r : Reply) → Asks terms L who Op.GroupCreate r → HasRoom terms ObjectKind.Group L → IsGranted r
 group_granted terms L who r x h =
-    passes (row (after terms L) who op.GroupCreate r) r
-    (is_up terms L who op.GroupCreate r x, (room terms L who op.GroupCreate r x kinds.Group groups_grow h, passes_only _ _ _))
-    (allowed terms L who op.GroupCreate r x)
+    passes (row (after terms L) who Op.GroupCreate r) r
+    (is_up terms L who Op.GroupCreate r x, (room terms L who Op.GroupCreate r x ObjectKind.Group groups_grow h, passes_only _ _ _))
+    (allowed terms L who Op.GroupCreate r x)
 
-pub start_granted : (terms : Terms) (L : List NodeEntry) (who : ℕ) (r : Reply) (job : ℕ) (args : List ℤ) (priority : ℕ) (cores : Mask) (group : Option GroupHandle) → Asks terms L who (op.TaskStart job args priority cores false group) r
-    → priority < terms.settings.priorities → HasRoom terms kinds.Task L → IsServed terms L job cores.0 → GroupIsMade group L → IsGranted r
+pub start_granted : (terms : Terms) (L : List NodeEntry) (who : ℕ) (r : Reply) (job : ℕ) (args : List ℤ) (priority : ℕ) (cores : Mask) (group : Option GroupHandle) → Asks terms L who (Op.TaskStart job args priority cores false group) r
+    → priority < terms.settings.priorities → HasRoom terms ObjectKind.Task L → IsServed terms L job cores.0 → GroupIsMade group L → IsGranted r
 start_granted terms L who r job args priority cores group x p h v g =
-    let o : Op = op.TaskStart job args priority cores false group in
+    let o : Op = Op.TaskStart job args priority cores false group in
     let serves : Serves (after terms L) job cores.0 = served terms L job cores.0 (before terms L who o r x) x.quiet (same_terms terms L who o r x) v in
     let low : priority < (after terms L).terms.settings.priorities = subst (λ (t : Terms). priority < t.settings.priorities) (sym (same_terms terms L who o r x)) p in
     let in_range : (not (nat_lt priority (after terms L).terms.settings.priorities) || (false && is_some group)) ≡ false = let i : nat_lt priority (after terms L).terms.settings.priorities ≡ true = grind (arith, nat_tests, low) in λ j. not (i j) || false in
-    passes (row (after terms L) who (op.TaskStart job args priority cores false group) r) r
-    (is_up terms L who o r x, (in_range, (ap not serves.listed, (group_there terms L group (before terms L who o r x) x.quiet g, (ap not serves.enabled, (ap not serves.served, (room terms L who o r x kinds.Task tasks_grow h, passes_only _ _ _)))))))
+    passes (row (after terms L) who (Op.TaskStart job args priority cores false group) r) r
+    (is_up terms L who o r x, (in_range, (ap not serves.listed, (group_there terms L group (before terms L who o r x) x.quiet g, (ap not serves.enabled, (ap not serves.served, (room terms L who o r x ObjectKind.Task tasks_grow h, passes_only _ _ _)))))))
     (allowed terms L who o r x)
-
--- Queues and their tasks
 
 -- No queue has an id for which none was made
 
@@ -308,8 +275,8 @@ abbrev Differs : ℕ → Queue → Type 0
 Differs id q = (q.id == id) ≡ false
 
 altered_id : (id h : ℕ) (f : Queue → Queue) (o : Op) → AltersObject Queues h f o → (x : Queue) → Differs id x → Differs id (f x)
-altered_id id h f (op.QueueEnable q) e x d = ap (λ (g : Queue → Queue). (g x).id == id) e.1 ∙ d
-altered_id id h f (op.QueueDisable q) e x d = ap (λ (g : Queue → Queue). (g x).id == id) e.1 ∙ d
+altered_id id h f (Op.QueueEnable q) e x d = ap (λ (g : Queue → Queue). (g x).id == id) e.1 ∙ d
+altered_id id h f (Op.QueueDisable q) e x d = ap (λ (g : Queue → Queue). (g x).id == id) e.1 ∙ d
 altered_id id h f _ e x d = absurd e
 
 abbrev Differ : ℕ → State → Type 0
@@ -321,8 +288,8 @@ differ_move id o z s x e v =
     (λ j b w. every_change (Differs id) j gone _ (λ r c d. d) w) x e v
 
 differ_next : (id : ℕ) (s : State) (who : ℕ) (o : Op) (r : Reply) → makes_queue id o ≡ false → Allows (row s who o r) r → Differ id s → Differ id (after_row s (row s who o r))
-differ_next id s who (op.QueueCreate other job priority limit ordered retain) r n a v =
-    given (λ x ms. Differ id (after_moves ms s)) (row s who (op.QueueCreate other job priority limit ordered retain) r) r (λ x. v)
+differ_next id s who (Op.QueueCreate other job priority limit ordered retain) r n a v =
+    given (λ x ms. Differ id (after_moves ms s)) (row s who (Op.QueueCreate other job priority limit ordered retain) r) r (λ x. v)
     (λ c0 c1 c2 c3 c4. on_only (λ x ms. Differ id (after_moves ms s)) (is_fresh queues s (handle_of r)) (Handle (handle_of r)) (makes Queues (handle_of r) (new_queue other job priority limit ordered retain) ∷ []) (λ i. every_issue (Differs id) (handle_of r) (new_queue other job priority limit ordered retain) s.queues n v)) a
 differ_next id s who o r n a v = by_moves (Differ id) s (entry who o r) (λ t x i u. differ_move id o refl t x i u) v
 
@@ -338,31 +305,31 @@ unfolding live_of
 none_found p [] v = refl
 none_found p (r ∷ rs) v = let k = none_found p rs v.1 in cond_both r.live ((r.handle, r.fields) ∷ live_of rs) (live_of rs) (λ l. any_live p l ≡ false) (λ i. (λ j. cond (v.0 j) true (k j))) (λ i. k)
 
-pub queue_granted : (terms : Terms) (L : List NodeEntry) (who : ℕ) (r : Reply) (id job priority limit : ℕ) (ordered retain : Bool) → Asks terms L who (op.QueueCreate id job priority limit ordered retain) r
-    → priority < terms.settings.priorities → (1 ≤ limit) × (limit ≤ 65536) → HasRoom terms kinds.Queue L → HasAction L job → some_entry (λ e. makes_queue id e.op) L ≡ false → IsGranted r
+pub queue_granted : (terms : Terms) (L : List NodeEntry) (who : ℕ) (r : Reply) (id job priority limit : ℕ) (ordered retain : Bool) → Asks terms L who (Op.QueueCreate id job priority limit ordered retain) r
+    → priority < terms.settings.priorities → (1 ≤ limit) × (limit ≤ 65536) → HasRoom terms ObjectKind.Queue L → HasAction L job → some_entry (λ e. makes_queue id e.op) L ≡ false → IsGranted r
 queue_granted terms L who r id job priority limit ordered retain x p range h v n =
-    let o : Op = op.QueueCreate id job priority limit ordered retain in
+    let o : Op = Op.QueueCreate id job priority limit ordered retain in
     let s : State = after terms L in
-    let has : any_listed (has_job job) s.actions ≡ true = any_found (has_job job) s.actions v.handle (new_action job v.kind v.mask.0) (made_objects_stay terms L (op.ActionCreate job v.kind v.mask) v.handle (before terms L who o r x) x.quiet v.made) (eq-eqb job job refl) in
+    let has : any_listed (has_job job) s.actions ≡ true = any_found (has_job job) s.actions v.handle (new_action job v.kind v.mask.0) (made_objects_stay terms L (Op.ActionCreate job v.kind v.mask) v.handle (before terms L who o r x) x.quiet v.made) (eq-eqb job job refl) in
     let low : priority < s.terms.settings.priorities = subst (λ (t : Terms). priority < t.settings.priorities) (sym (same_terms terms L who o r x)) p in
     let in_range : (not (nat_lt priority s.terms.settings.priorities) || not (nat_le 1 limit && nat_le limit 65536)) ≡ false = let i : nat_lt priority s.terms.settings.priorities ≡ true = grind (arith, nat_tests, low) in let a : 1 ≤ limit = range.0 in let b : limit ≤ 65536 = range.1 in let c : nat_le 1 limit ≡ true = grind (arith, nat_tests) in let d : nat_le limit 65536 ≡ true = grind (arith, nat_tests) in λ j. not (i j) || not (c j && d j) in
     passes (row s who o r) r
-    (is_up terms L who o r x, (in_range, (ap not has, (none_found (λ y. y.id == id) s.queues (differ_along id (opening terms) L (before terms L who o r x).from n tt), (room terms L who o r x kinds.Queue queues_grow h, passes_only _ _ _)))))
+    (is_up terms L who o r x, (in_range, (ap not has, (none_found (λ y. y.id == id) s.queues (differ_along id (opening terms) L (before terms L who o r x).from n tt), (room terms L who o r x ObjectKind.Queue queues_grow h, passes_only _ _ _)))))
     (allowed terms L who o r x)
 
 -- How many tasks a queue was given
 
 -- how many tasks that were ever issued name the queue
 abbrev pub given_to : ℕ → State → ℕ
-given_to q s = made_of kinds.Task (is_in q) s
+given_to q s = made_of ObjectKind.Task (is_in q) s
 
 in_same : (q : ℕ) (x y : Task) → SameTask x y → is_in q y ≡ is_in q x
 in_same q x y i = ap (holds (λ h. h == q)) i.queue
 
-puts_some : (q : ℕ) (n : NewTask) (k : ℕ) (o : Op) → StartsTask n o → is_in q (new_task n k) ≡ true → puts q o ≡ true
-puts_some q n k (op.TaskStart job args priority cores detached group) b e = true_false e (ap (λ (x : NewTask). holds (λ h. h == q) x.queue) b)
-puts_some q n k (op.TaskEnqueue y args cores detached group) b e = ap (λ (x : NewTask). holds (λ h. h == q) x.queue) (sym b.1) ∙ e
-puts_some q n k _ b e = absurd b
+puts_some : (q : ℕ) (s : State) (n : NewTask) (k : ℕ) (o : Op) → AskedAs s n o → is_in q (new_task n k) ≡ true → puts q o ≡ true
+puts_some q s n k (Op.TaskStart job args priority cores detached group) b e = true_false e (ap (λ (x : NewTask). holds (λ h. h == q) x.queue) (sym b.0))
+puts_some q s n k (Op.TaskEnqueue y args cores detached group) b e = ap (λ (x : NewTask). holds (λ h. h == q) x.queue) b.2 ∙ e
+puts_some q s n k _ b e = absurd b
 
 gets_along : (q : ℕ) (s : State) (L : List NodeEntry) → LegalFrom s L → given_to q (after_from s L) ≤ given_to q s + entries_that (puts_into q) L
 gets_along q = grown_along (given_to q) (puts_into q) (λ s e i. tasks_made (is_in q) (in_same q) (puts q) (puts_some q) s e.who e.op e.reply i.allowed)
@@ -381,10 +348,10 @@ unended_given q (r ∷ rs) = by_tests r.live (is_in q r.fields) (is_unended r.fi
 passes_live : (o : Option Queue) (x : Queue) (v : Row) (w : Queue → Row) → o ≡ Some x → Passes (w x) → Passes (live o v w)
 passes_live o x v w e p = subst (λ (y : Option Queue). Passes (live y v w)) (sym e) p
 
-pub enqueue_granted : (terms : Terms) (L : List NodeEntry) (who : ℕ) (r : Reply) (q : QueueHandle) (job priority : ℕ) (args : List ℤ) (cores : Mask) (group : Option GroupHandle) → Asks terms L who (op.TaskEnqueue q args cores false group) r
-    → IsQueued L q.0 job priority → HasRoom terms kinds.Task L → IsServed terms L job cores.0 → GroupIsMade group L → IsGranted r
+pub enqueue_granted : (terms : Terms) (L : List NodeEntry) (who : ℕ) (r : Reply) (q : QueueHandle) (job priority : ℕ) (args : List ℤ) (cores : Mask) (group : Option GroupHandle) → Asks terms L who (Op.TaskEnqueue q args cores false group) r
+    → IsQueued L q.0 job priority → HasRoom terms ObjectKind.Task L → IsServed terms L job cores.0 → GroupIsMade group L → IsGranted r
 enqueue_granted terms L who r q job priority args cores group x k h v g =
-    let o : Op = op.TaskEnqueue q args cores false group in
+    let o : Op = Op.TaskEnqueue q args cores false group in
     let s : State = after terms L in
     let legal : Legal terms L = before terms L who o r x in
     let made : Queue = new_queue k.id job priority k.limit k.ordered k.retain in
@@ -394,13 +361,11 @@ enqueue_granted terms L who r q job priority args cores group x k h v g =
       is_up terms L who o r x,
       (
         refl,
-        passes_live (live_object s.queues q.0) made _ _ (made_objects_stay terms L (op.QueueCreate k.id job priority k.limit k.ordered k.retain) q.0 legal x.quiet k.made)
-            (refl, (ap not serves.listed, (group_there terms L group legal x.quiet g, (ap not serves.enabled, (ap not serves.served, (not_many, (room terms L who o r x kinds.Task tasks_grow h, passes_only _ _ _))))))),
+        passes_live (live_object s.queues q.0) made _ _ (made_objects_stay terms L (Op.QueueCreate k.id job priority k.limit k.ordered k.retain) q.0 legal x.quiet k.made)
+            (refl, (ap not serves.listed, (group_there terms L group legal x.quiet g, (ap not serves.enabled, (ap not serves.served, (not_many, (room terms L who o r x ObjectKind.Task tasks_grow h, passes_only _ _ _))))))),
       ),
     )
     (allowed terms L who o r x)
-
--- What a quiet history grants
 
 pub quiet_calls_are_granted : QuietCallsAreGranted
 quiet_calls_are_granted terms L who r = record {

@@ -1,36 +1,30 @@
 -- In a run of a settled workload the node is open before each statement's entry, there is room for what it asks for, and the ids of queues are new.
-use Rattle.settled_runs.proofs.Names.{Each, ◌≡◌, inl, inr, ℕ, suc, ◌+◌, ◌≤◌, ◌<◌, Bool, true, false, cond, List, [], ◌∷◌, ◌++◌, length, refl, sym, ◌∙◌, ap, subst, arith, append_assoc, ◌==◌, map, eq-eqb, Layout, entry, entries_of, how_many, Deed, Statement, Part, Workload, begins, IsFurther, MainFirst, Op, Reply, opening, NodeEntry, Legal, Legal-prefix, call_of, Line, line, head_of, tail_of_main, in_lines, MainRan, PartsRan, closes, NoClose, BySeats, is_release, true_false, by_seats, run_terms, AreQuiet, handle_of, IsOpened, all_statements, actions_in, SettledRun, is_begin, lines_of, CallersRan, cond_both, has_begin, Option, Some, None, ◌&&◌, nat_le, is_some, list_any, eqb-true, nat_tests, NodeSettings, holds, ObjectKind, Queue, fst_true, snd_true, not_true, some_entry, entries_that, makes_one, HasRoom, makes_queue, queue_in, has_new_id, makes_group, makes_task, has_room, has_different_ids, or_parts, objects_of, and_parts, cases_Bool}
+use Rattle.settled_runs.proofs.Names.{Each, ◌≡◌, inl, inr, ℕ, suc, ◌+◌, ◌≤◌, ◌<◌, Bool, true, false, cond, List, [], ◌∷◌, ◌++◌, length, refl, sym, ◌∙◌, ap, subst, arith, append_assoc, ◌==◌, map, eq-eqb, Layout, entry, entries_of, how_many, Deed, Statement, Part, Workload, begins, IsFurther, MainFirst, Op, Reply, opening, NodeEntry, Legal, Legal-prefix, call_of, Line, line, head_of, tail_of_main, in_lines, MainRan, PartsRan, closes, NoClose, BySeats, is_release, true_false, by_seats, run_terms, AreQuiet, handle_of, IsOpened, all_statements, actions_in, SettledRun, is_begin, lines_of, CallersRan, cond_both, has_begin, Option, Some, None, ◌&&◌, nat_le, is_some, list_any, eqb-true, nat_tests, NodeSettings, holds, ObjectKind, Queue, fst_true, snd_true, not_true, some_entry, entries_that, makes_one, HasRoom, makes_queue, queue_in, has_new_id, makes_group, makes_task, has_different_ids, or_parts, objects_of, and_parts, cases_Bool, makes_object as makes, makes_one_action as makes_action, is_settled}
+use Rattle.settled_runs.proofs.{Granted.bit, Stays.quiet_front, Along.Placed, Along.placed, Along.Cut, Along.cut, Along.no_end}
 use Rattle.settled_runs.proofs.RunEnds.{ArePlanned, run_planned, all_quiet}
-use Rattle.settled_runs.proofs.Along.{Placed, placed, Cut, cut}
-use Rattle.settled_runs.proofs.Granted.{bit}
-use Rattle.settled_runs.proofs.Counted.{asks, asked, many_append, many_none, only_asks, seat_asks, CallAsks, calls_none, no_bit, statements_ask, entries_are, many_within, IsClass, run_asks}
 use Rattle.settled_runs.proofs.Each.{AllSeats, OnlyBy, PartAt, each_behind, each_front, each_map, each_of, is_at_work, made_each, map_seats, only_by, settled_whole, run_parts, seat_each, with_each, is_outside}
-use Rattle.settled_runs.proofs.Stays.{quiet_front}
-use Rattle.history_law.specs.Words.{makes}
-use Rattle.settled_runs.specs.Settled.{makes_action}
-use Rattle.workload_file.specs.declared.workload.Deed.TheVariants as deed
-use Rattle.mtapi_machine.specs.declared.ops.Op.TheVariants as op
-use Rattle.mtapi_machine.specs.declared.replies.Reply.TheVariants as reply
-use Rattle.mtapi_values.specs.declared.handles.ObjectKind.TheVariants as kinds
+use Rattle.settled_runs.proofs.Counted.{asks, asked, many_append, many_none, only_asks, seat_asks, CallAsks, calls_none, no_bit, statements_ask, entries_are, many_within, IsClass, run_asks}
 
 -- Which ops close, and which release
 
-close_calls : (bound : List ℕ) (d : Deed) → CallAsks closes (bit false) (call_of bound d)
-close_calls bound deed.Begin = omega arith
-close_calls bound _ = omega arith
+-- what a call may ask for: no op that closes, and one that makes an action, a group, a queue or a task only where its statement makes one
+calls_ask : (bound : List ℕ) (d : Deed) → CallAsks closes (bit false) (call_of bound d) × CallAsks (makes ObjectKind.Action) (bit (makes_action d)) (call_of bound d) × CallAsks (makes ObjectKind.Group) (bit (makes_group d)) (call_of bound d)
+    × CallAsks (makes ObjectKind.Queue) (bit (is_some (queue_in d))) (call_of bound d) × CallAsks (makes ObjectKind.Task) (bit (makes_task d)) (call_of bound d)
+calls_ask bound Deed.Begin = (omega arith, omega arith, omega arith, omega arith, omega arith)
+calls_ask bound _ = (omega arith, omega arith, omega arith, omega arith, omega arith)
 
 pub release_calls : (bound : List ℕ) (d : Deed) → CallAsks is_release (bit (is_begin d)) (call_of bound d)
 unfolding is_begin
-release_calls bound deed.Begin = omega arith
+release_calls bound Deed.Begin = omega arith
 release_calls bound _ = omega arith
 
 close_work : (o : Op) → is_at_work o ≡ true → closes o ≡ false
-close_work op.Close e = true_false e refl
-close_work op.Final e = true_false e refl
+close_work Op.Close e = true_false e refl
+close_work Op.Final e = true_false e refl
 close_work _ e = refl
 
 release_work : (o : Op) → is_at_work o ≡ true → is_release o ≡ false
-release_work op.Release e = true_false e refl
+release_work Op.Release e = true_false e refl
 release_work _ e = refl
 
 pub no_close : (L : List NodeEntry) → asks closes L ≡ 0 → NoClose L
@@ -41,10 +35,6 @@ no_close (e ∷ es) k = (no_bit (closes e.op) (omega arith), no_close es (omega 
 none_of_seat : (who : ℕ) (X Y : List NodeEntry) (e : NodeEntry) → e.who ≡ who → entries_of who (X ++ e ∷ Y) ≡ [] → ⊥
 none_of_seat who [] Y e w i = let z : e ∷ entries_of who Y ≡ [] = sym (ap (λ (b : Bool). cond b (e ∷ entries_of who Y) (entries_of who Y)) (eq-eqb e.who who w)) ∙ i in cc
 none_of_seat who (x ∷ X) Y e w i = cond_both (x.who == who) (x ∷ entries_of who (X ++ e ∷ Y)) (entries_of who (X ++ e ∷ Y)) (λ l. l ≡ [] → ⊥) (λ j k. cc) (λ j k. none_of_seat who X Y e w k) i
-
-no_end : {X : Type 0} (A : List X) (x : X) (B : List X) → [] ≡ A ++ x ∷ B → ⊥
-no_end [] x B e = cc
-no_end (a ∷ A) x B e = cc
 
 -- Main's part, and the others
 
@@ -59,17 +49,16 @@ pub record MainOf (f : ℕ → List Line) (main : ℕ) (ps : List Part) (rss : L
   pub callers : CallersRan in_lines f (suc main) others further
 
 pub main_of : (f : ℕ → List Line) (main : ℕ) (ps : List Part) (rss : List (List Reply)) → PartsRan in_lines f main ps rss → MainOf f main ps rss
-main_of f main [] rss x = absurd x
-main_of f main (p ∷ ps) [] x = absurd x
 main_of f main (p ∷ ps) (rs ∷ rss) x = record { part = p; others = ps; replies = rs; further = rss; are = refl; told = refl; ran = x.0; callers = x.1 }
+main_of f main _ _ x = absurd x
 
 pub begin_none : (before : List Statement) (s : Statement) (rest : List Statement) → begins (before ++ s ∷ rest) ≡ 0 → is_begin s.deed ≡ false
 begin_none [] s rest e = no_bit (is_begin s.deed) (omega arith)
 begin_none (t ∷ before) s rest e = begin_none before s rest (omega arith)
 
-pub first_head : (b : Bool) (X : List Line) → (R : List Line) × (head_of b ++ X ≡ line op.Initialize reply.Ok 0 ∷ R)
+pub first_head : (b : Bool) (X : List Line) → (R : List Line) × (head_of b ++ X ≡ line Op.Initialize Reply.Ok 0 ∷ R)
 first_head true X = (X, refl)
-first_head false X = (line op.Release reply.Ok 0 ∷ X, refl)
+first_head false X = (line Op.Release Reply.Ok 0 ∷ X, refl)
 
 module _ (layout : Layout) (load : Workload) (es : List NodeEntry) (ns : List ℕ) (u : SettledRun layout load es ns) where
   pub seats_are : BySeats (load.settings.workers + length load.parts) es
@@ -96,7 +85,7 @@ module _ (layout : Layout) (load : Workload) (es : List NodeEntry) (ns : List �
   further_are = (subst MainFirst first_of.are u.formed.main).1
 
   -- what no statement of a further caller asks for, main alone asks for
-  pub only_main : (p : Op → Bool) (q : Deed → Bool) → ((bound : List ℕ) (d : Deed) → CallAsks p (bit (q d)) (call_of bound d)) → ((o : Op) → is_at_work o ≡ true → p o ≡ false) → p op.Enter ≡ false
+  pub only_main : (p : Op → Bool) (q : Deed → Bool) → ((bound : List ℕ) (d : Deed) → CallAsks p (bit (q d)) (call_of bound d)) → ((o : Op) → is_at_work o ≡ true → p o ≡ false) → p Op.Enter ≡ false
       → ((w : ℕ) (x : Part) (rs : List Reply) → main < w → PartAt load es ns w x rs × IsFurther x → (b : List Statement) (s : Statement) (rest : List Statement) → x.statements ≡ b ++ s ∷ rest → q s.deed ≡ false) → OnlyBy main p es
   only_main p q calls work enter further =
       only_by load es ns u.same u.run seats_are main p work
@@ -111,7 +100,7 @@ module _ (layout : Layout) (load : Workload) (es : List NodeEntry) (ns : List �
 
       each : (w : ℕ) (x : Part) (rs : List Reply) → main < w → PartAt load es ns w x rs × IsFurther x → Each (λ l. p l.op ≡ false) (lines_of w es ns)
       each w x rs l y =
-          let ends : Each (λ k. p k.op ≡ false) (y.0.start ++ y.0.finish) = each_map (λ (k : Line). k.op ≡ op.Enter) (λ (k : Line). p k.op ≡ false) (λ k e. ap p e ∙ enter) (y.0.start ++ y.0.finish) (y.0.enters l) in
+          let ends : Each (λ k. p k.op ≡ false) (y.0.start ++ y.0.finish) = each_map (λ (k : Line). k.op ≡ Op.Enter) (λ (k : Line). p k.op ≡ false) (λ k e. ap p e ∙ enter) (y.0.start ++ y.0.finish) (y.0.enters l) in
           seat_each load es ns (λ o. p o ≡ false) w x rs y.0 (each_front (λ (k : Line). p k.op ≡ false) y.0.start y.0.finish ends) (each_behind (λ (k : Line). p k.op ≡ false) y.0.start y.0.finish ends)
           (λ b l1 r1 s front r z. made_each (λ o. p o ≡ false) (call_of (map handle_of r1) s.deed) front r (calls_none p (call_of (map handle_of r1) s.deed) (q s.deed) (calls (map handle_of r1) s.deed) (further w x rs l y b s z.rest z.parted)) z.made)
 
@@ -121,10 +110,10 @@ module _ (layout : Layout) (load : Workload) (es : List NodeEntry) (ns : List �
   -- no statement closes, and main closes twice
   closed_twice : asks closes es ≤ 2
   closed_twice =
-      let a : asks closes es ≤ asked closes (lines_of main es ns) = only_asks main closes es ns u.same (only_main closes (λ d. false) close_calls close_work refl (λ w x rs l y b s rest e. refl)) in
+      let a : asks closes es ≤ asked closes (lines_of main es ns) = only_asks main closes es ns u.same (only_main closes (λ d. false) (λ bound d. (calls_ask bound d).0) close_work refl (λ w x rs l y b s rest e. refl)) in
       let b : asked closes (lines_of main es ns) ≡ asked closes (head_of (has_begin first_of.part.statements)) + asked closes (first_of.ran.body ++ tail_of_main) = ap (asked closes) first_of.ran.is ∙ many_append (λ l. closes l.op) (head_of (has_begin first_of.part.statements)) (first_of.ran.body ++ tail_of_main) in
       let c : asked closes (first_of.ran.body ++ tail_of_main) ≡ asked closes first_of.ran.body + 2 = many_append (λ l. closes l.op) first_of.ran.body tail_of_main in
-      let d : asked closes first_of.ran.body ≤ how_many (λ s. false) first_of.part.statements = statements_ask closes (λ d. false) first_of.part.statements first_of.ran.body first_of.replies first_of.ran.carried (λ b l1 r1 s front r z. close_calls (map handle_of r1) s.deed) in
+      let d : asked closes first_of.ran.body ≤ how_many (λ s. false) first_of.part.statements = statements_ask closes (λ d. false) first_of.part.statements first_of.ran.body first_of.replies first_of.ran.carried (λ b l1 r1 s front r z. (calls_ask (map handle_of r1) s.deed).0) in
       let e : how_many (λ s. false) first_of.part.statements ≡ 0 = many_none (λ s. false) first_of.part.statements (each_of (λ s. false ≡ false) (λ s. refl) first_of.part.statements) in
       let f : asked closes (head_of (has_begin first_of.part.statements)) ≡ 0 = none (has_begin first_of.part.statements) in
       omega arith
@@ -165,18 +154,18 @@ module _ (layout : Layout) (load : Workload) (es : List NodeEntry) (ns : List �
     further_unclosed k = by (placed c.before this c.behind u.run.ends.before close last (sym c.is ∙ u.run.ends.closes))
       where
         close : NodeEntry
-        close = entry main op.Close reply.Ok
+        close = entry main Op.Close Reply.Ok
 
         last : List NodeEntry
-        last = u.run.ends.behind ++ entry main op.Final reply.Ok ∷ []
+        last = u.run.ends.behind ++ entry main Op.Final Reply.Ok ∷ []
 
         other : who ≡ main → ⊥
-        other i = absurd (omega arith)
+        other i = omega arith
 
         late : (Q : List NodeEntry) → last ≡ Q ++ this ∷ c.behind → ⊥
-        late Q i = by_last (placed u.run.ends.behind (entry main op.Final reply.Ok) [] Q this c.behind i)
+        late Q i = by_last (placed u.run.ends.behind (entry main Op.Final Reply.Ok) [] Q this c.behind i)
           where
-            by_last : Placed u.run.ends.behind (entry main op.Final reply.Ok) [] Q this c.behind → ⊥
+            by_last : Placed u.run.ends.behind (entry main Op.Final Reply.Ok) [] Q this c.behind → ⊥
             by_last (inl p) = no_end p.between this c.behind p.back
             by_last (inr (inl p)) = other (sym (ap (λ (e : NodeEntry). e.who) p.here))
             by_last (inr (inr p)) = none_of_seat who Q p.between this refl (sym (ap (entries_of who) p.front) ∙ u.run.ends.callers_ended who k)
@@ -184,48 +173,32 @@ module _ (layout : Layout) (load : Workload) (es : List NodeEntry) (ns : List �
         by : Placed c.before this c.behind u.run.ends.before close last → asks closes c.before ≡ 0
         by (inl p) =
             let a : asks closes c.behind ≡ asks closes p.between + (1 + asks closes last) = ap (asks closes) p.back ∙ many_append (λ e. closes e.op) p.between (close ∷ last) in
-            let b : asks closes last ≡ asks closes u.run.ends.behind + (1 + 0) = many_append (λ e. closes e.op) u.run.ends.behind (entry main op.Final reply.Ok ∷ []) in
+            let b : asks closes last ≡ asks closes u.run.ends.behind + (1 + 0) = many_append (λ e. closes e.op) u.run.ends.behind (entry main Op.Final Reply.Ok ∷ []) in
             unclosed (omega arith)
         by (inr (inl p)) = absurd (other (ap (λ (e : NodeEntry). e.who) p.here))
         by (inr (inr p)) = absurd (late p.between p.back)
 
 -- An opened node
 
-pub is_opened : (who : ℕ) (L : List NodeEntry) (ks : List ℕ) (R : List Line) → lines_of who L ks ≡ line op.Initialize reply.Ok 0 ∷ R → asks closes L ≡ 0 → IsOpened L
+pub is_opened : (who : ℕ) (L : List NodeEntry) (ks : List ℕ) (R : List Line) → lines_of who L ks ≡ line Op.Initialize Reply.Ok 0 ∷ R → asks closes L ≡ 0 → IsOpened L
 is_opened who L ks R i k =
-    let d : Cut who L ks [] (line op.Initialize reply.Ok 0) R = cut who L ks [] (line op.Initialize reply.Ok 0) R i in
-    let a : asks closes L ≡ asks closes d.before + (0 + asks closes d.behind) = ap (asks closes) d.is ∙ many_append (λ e. closes e.op) d.before (entry who op.Initialize reply.Ok ∷ d.behind) in
+    let d : Cut who L ks [] (line Op.Initialize Reply.Ok 0) R = cut who L ks [] (line Op.Initialize Reply.Ok 0) R i in
+    let a : asks closes L ≡ asks closes d.before + (0 + asks closes d.behind) = ap (asks closes) d.is ∙ many_append (λ e. closes e.op) d.before (entry who Op.Initialize Reply.Ok ∷ d.behind) in
     record { before = d.before; who = who; behind = d.behind; is = d.is; unclosed = no_close d.behind (let z : asks closes L ≡ 0 = k in omega arith) }
 
 -- The ops that make objects, and the statements that do
 
 makes_outside : (k : ObjectKind) (o : Op) → is_outside o ≡ true → makes k o ≡ false
-makes_outside kinds.Action (op.ActionCreate job kind cores) e = true_false e refl
-makes_outside kinds.Task (op.TaskStart job args priority cores detached group) e = true_false e refl
-makes_outside kinds.Task (op.TaskEnqueue q args cores detached group) e = true_false e refl
-makes_outside kinds.Group op.GroupCreate e = true_false e refl
-makes_outside kinds.Queue (op.QueueCreate id job priority limit ordered retain) e = true_false e refl
-makes_outside kinds.Mutex (op.MutexCreate id recursive) e = true_false e refl
-makes_outside kinds.Sem (op.SemCreate id limit) e = true_false e refl
-makes_outside kinds.Rwl (op.RwlCreate id limit) e = true_false e refl
-makes_outside kinds.Shmem (op.ShmemCreate id cells) e = true_false e refl
+makes_outside ObjectKind.Action (Op.ActionCreate job kind cores) e = true_false e refl
+makes_outside ObjectKind.Task (Op.TaskStart job args priority cores detached group) e = true_false e refl
+makes_outside ObjectKind.Task (Op.TaskEnqueue q args cores detached group) e = true_false e refl
+makes_outside ObjectKind.Group Op.GroupCreate e = true_false e refl
+makes_outside ObjectKind.Queue (Op.QueueCreate id job priority limit ordered retain) e = true_false e refl
+makes_outside ObjectKind.Mutex (Op.MutexCreate id recursive) e = true_false e refl
+makes_outside ObjectKind.Sem (Op.SemCreate id limit) e = true_false e refl
+makes_outside ObjectKind.Rwl (Op.RwlCreate id limit) e = true_false e refl
+makes_outside ObjectKind.Shmem (Op.ShmemCreate id cells) e = true_false e refl
 makes_outside _ _ e = refl
-
-actions_call : (bound : List ℕ) (d : Deed) → CallAsks (makes kinds.Action) (bit (makes_action d)) (call_of bound d)
-actions_call bound deed.Begin = omega arith
-actions_call bound _ = omega arith
-
-groups_call : (bound : List ℕ) (d : Deed) → CallAsks (makes kinds.Group) (bit (makes_group d)) (call_of bound d)
-groups_call bound deed.Begin = omega arith
-groups_call bound _ = omega arith
-
-queues_call : (bound : List ℕ) (d : Deed) → CallAsks (makes kinds.Queue) (bit (is_some (queue_in d))) (call_of bound d)
-queues_call bound deed.Begin = omega arith
-queues_call bound _ = omega arith
-
-tasks_call : (bound : List ℕ) (d : Deed) → CallAsks (makes kinds.Task) (bit (makes_task d)) (call_of bound d)
-tasks_call bound deed.Begin = omega arith
-tasks_call bound _ = omega arith
 
 abbrev has_id : ℕ → Deed → Bool
 has_id id d = holds (λ y. y.id == id) (queue_in d)
@@ -234,11 +207,11 @@ ids_class : (id : ℕ) → IsClass (makes_queue id) (has_id id)
 ids_class id = record { calls = calls; outside = outside }
   where
     calls : (bound : List ℕ) (d : Deed) → CallAsks (makes_queue id) (bit (has_id id d)) (call_of bound d)
-    calls bound deed.Begin = omega arith
+    calls bound Deed.Begin = omega arith
     calls bound _ = omega arith
 
     outside : (o : Op) → is_outside o ≡ true → makes_queue id o ≡ false
-    outside (op.QueueCreate other job priority limit ordered retain) e = true_false e refl
+    outside (Op.QueueCreate other job priority limit ordered retain) e = true_false e refl
     outside _ e = refl
 
 -- What a settled workload has room for
@@ -246,18 +219,23 @@ ids_class id = record { calls = calls; outside = outside }
 low_enough : (n m : ℕ) → nat_le n m ≡ true → n ≤ m
 low_enough n m e = grind (arith, nat_tests)
 
-record Room (settings : NodeSettings) (ss : List Statement) : Type 0 where
-  actions : how_many (λ s. makes_action s.deed) ss ≤ settings.actions
-  groups : how_many (λ s. makes_group s.deed) ss ≤ settings.groups
-  queues : how_many (λ s. is_some (queue_in s.deed)) ss ≤ settings.queues
-  tasks : how_many (λ s. makes_task s.deed) ss ≤ settings.tasks
+-- the statements of a class, by which alone objects of the kind are made, and there is room for those
+pub record Room (settings : NodeSettings) (ss : List Statement) (k : ObjectKind) : Type 0 where
+  q : Deed → Bool
+  calls : (bound : List ℕ) (d : Deed) → CallAsks (makes k) (bit (q d)) (call_of bound d)
+  few : how_many (λ s. q s.deed) ss ≤ (objects_of k).max settings
 
-few : (settings : NodeSettings) (ss : List Statement) → has_room settings ss ≡ true → Room settings ss
-few settings ss e =
-    let a = and_parts (nat_le (how_many (λ s. makes_action s.deed) ss) settings.actions && nat_le (how_many (λ s. makes_group s.deed) ss) settings.groups && nat_le (how_many (λ s. is_some (queue_in s.deed)) ss) settings.queues) _ e in
-    let b = and_parts (nat_le (how_many (λ s. makes_action s.deed) ss) settings.actions && nat_le (how_many (λ s. makes_group s.deed) ss) settings.groups) _ a.0 in
-    let c = and_parts (nat_le (how_many (λ s. makes_action s.deed) ss) settings.actions) _ b.0 in
-    record { actions = low_enough _ _ c.0; groups = low_enough _ _ c.1; queues = low_enough _ _ b.1; tasks = low_enough _ _ a.1 }
+pub rooms : (load : Workload) → is_settled load ≡ true → Room load.settings (all_statements load) ObjectKind.Action × Room load.settings (all_statements load) ObjectKind.Group × Room load.settings (all_statements load) ObjectKind.Queue × Room load.settings (all_statements load) ObjectKind.Task
+rooms load settled =
+    let ss : List Statement = all_statements load in
+    let a = and_parts (nat_le (how_many (λ s. makes_action s.deed) ss) load.settings.actions && nat_le (how_many (λ s. makes_group s.deed) ss) load.settings.groups && nat_le (how_many (λ s. is_some (queue_in s.deed)) ss) load.settings.queues) _ (settled_whole load settled).room in
+    let b = and_parts (nat_le (how_many (λ s. makes_action s.deed) ss) load.settings.actions && nat_le (how_many (λ s. makes_group s.deed) ss) load.settings.groups) _ a.0 in
+    let c = and_parts (nat_le (how_many (λ s. makes_action s.deed) ss) load.settings.actions) _ b.0 in (
+      record { q = makes_action; calls = λ bound d. (calls_ask bound d).1; few = low_enough _ _ c.0 },
+      record { q = makes_group; calls = λ bound d. (calls_ask bound d).2; few = low_enough _ _ c.1 },
+      record { q = λ d. is_some (queue_in d); calls = λ bound d. (calls_ask bound d).3; few = low_enough _ _ b.1 },
+      record { q = makes_task; calls = λ bound d. (calls_ask bound d).4; few = low_enough _ _ a.1 },
+    )
 
 -- no two statements make queues of one id
 one_id : (id : ℕ) (ss : List Statement) → has_different_ids ss ≡ true → how_many (λ s. has_id id s.deed) ss ≤ 1
@@ -275,8 +253,6 @@ one_id id (s ∷ ss) e = by (queue_in s.deed) (fst_true (has_new_id (queue_in s.
       | inl j ↦ (let n : how_many (λ z. has_id id z.deed) ss ≡ 0 = many_none (λ z. has_id id z.deed) ss (none ss (subst (λ (n : ℕ). list_any (λ z. has_id n z.deed) ss ≡ false) (eqb-true x.id id j) (not_true _ i))) in let b : bit (x.id == id) ≡ 1 = ap bit j in omega arith)
       | inr j ↦ (let b : bit (x.id == id) ≡ 0 = ap bit j in omega arith)
     ]
-
--- Before an entry
 
 one_made : (k : ObjectKind) (L : List NodeEntry) → entries_that (makes_one k) L ≤ asks (makes k) L
 one_made k L =
@@ -297,23 +273,11 @@ module _ (layout : Layout) (load : Workload) (es : List NodeEntry) (ns : List �
       let f : bit (p l.op) ≡ 1 = ap bit m in
       omega arith
 
-  room : (k : ObjectKind) (q : Deed → Bool) → ((bound : List ℕ) (d : Deed) → CallAsks (makes k) (bit (q d)) (call_of bound d)) → how_many (λ s. q s.deed) (all_statements load) ≤ (objects_of k).max load.settings → makes k l.op ≡ true → HasRoom (run_terms layout load) k c.before
-  room k q calls few m =
-      let a : asks (makes k) c.before < (objects_of k).max load.settings = fewer_before (makes k) q ((objects_of k).max load.settings) (record { calls = calls; outside = makes_outside k }) few m in
+  pub room : (k : ObjectKind) → Room load.settings (all_statements load) k → makes k l.op ≡ true → HasRoom (run_terms layout load) k c.before
+  room k x m =
+      let a : asks (makes k) c.before < (objects_of k).max load.settings = fewer_before (makes k) x.q ((objects_of k).max load.settings) (record { calls = x.calls; outside = makes_outside k }) x.few m in
       let b : entries_that (makes_one k) c.before ≤ asks (makes k) c.before = one_made k c.before in
       omega arith
-
-  pub room_for_action : makes kinds.Action l.op ≡ true → HasRoom (run_terms layout load) kinds.Action c.before
-  room_for_action = room kinds.Action makes_action actions_call (few load.settings (all_statements load) (settled_whole load u.settled).room).actions
-
-  pub room_for_group : makes kinds.Group l.op ≡ true → HasRoom (run_terms layout load) kinds.Group c.before
-  room_for_group = room kinds.Group makes_group groups_call (few load.settings (all_statements load) (settled_whole load u.settled).room).groups
-
-  pub room_for_queue : makes kinds.Queue l.op ≡ true → HasRoom (run_terms layout load) kinds.Queue c.before
-  room_for_queue = room kinds.Queue (λ d. is_some (queue_in d)) queues_call (few load.settings (all_statements load) (settled_whole load u.settled).room).queues
-
-  pub room_for_task : makes kinds.Task l.op ≡ true → HasRoom (run_terms layout load) kinds.Task c.before
-  room_for_task = room kinds.Task makes_task tasks_call (few load.settings (all_statements load) (settled_whole load u.settled).room).tasks
 
   pub new_id : (id : ℕ) → makes_queue id l.op ≡ true → some_entry (λ e. makes_queue id e.op) c.before ≡ false
   new_id id m = no_entry (makes_queue id) c.before (let a : asks (makes_queue id) c.before < 1 = fewer_before (makes_queue id) (has_id id) 1 (ids_class id) (one_id id (all_statements load) (settled_whole load u.settled).ids) m in omega arith)

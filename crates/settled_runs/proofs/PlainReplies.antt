@@ -1,8 +1,5 @@
 -- The report of plain replies is the plain report.
-use Rattle.settled_runs.proofs.Names.{◌≡◌, ℕ, false, cond, List, [], ◌∷◌, ◌++◌, Option, Some, None, refl, sym, ◌∙◌, ap, option_map, flat_map, append-nil, TaskEnd, MtapiStatus, mtapi_name, Action, NewTask, Reply, verdict, is_status, Deed, Statement, Part, Told, ended_text, is_task, task_line, task_lines, status_of, marked_line, call_line, call_lines, all_statements, actions_in, Faults, no_faults, plain_task_line, plain_task_lines, plain_call_lines, IsPlainTask, PlainRepliesShowPlainReport, shown_of, task_lines_of, task_name, call_lines_of, task_in, faults_behind, plain_call_line, plain_calls_from, plain_report, IsPlainReply, ArePlain, PartsArePlain}
-use Rattle.mtapi_machine.specs.declared.replies.Reply.TheVariants as reply
-use Rattle.workload_file.specs.declared.workload.Deed.TheVariants as deed
-use Rattle.workload_file.specs.Reading.{name_text}
+use Rattle.settled_runs.proofs.Names.{◌≡◌, ℕ, false, cond, List, [], ◌∷◌, ◌++◌, Option, Some, None, refl, sym, ◌∙◌, ap, option_map, flat_map, append-nil, TaskEnd, MtapiStatus, mtapi_name, Action, NewTask, Reply, verdict, is_status, Deed, Statement, Part, Told, ended_text, is_task, task_line, task_lines, status_of, marked_line, call_line, call_lines, all_statements, actions_in, Faults, no_faults, plain_task_line, plain_task_lines, plain_call_lines, IsPlainTask, PlainRepliesShowPlainReport, shown_of, task_lines_of, task_name, call_lines_of, task_in, faults_behind, plain_call_line, plain_calls_from, plain_report, IsPlainReply, ArePlain, PartsArePlain, name_text}
 
 module _ (actions : List Action) (all : List Statement) (ends : ℕ → Option TaskEnd) (part : List ℕ) where
   -- Lines of tasks
@@ -15,8 +12,8 @@ module _ (actions : List Action) (all : List Statement) (ends : ℕ → Option T
 
   task_shown : (faults : Faults) (s : Statement) (d : Deed) (r : Reply) → IsPlainReply actions all ends faults d r → cond (is_task (shown_of d)) (task_line part ends s r) [] ≡ plain_task_line actions part s (task_in all d)
   unfolding IsPlainReply shown_of task_in
-  task_shown faults s (deed.Start job args priority cores detached group) r p = shows_task s (task_in all (deed.Start job args priority cores detached group)) r p
-  task_shown faults s (deed.Enqueue queue args cores detached group) r p = shows_task s (task_in all (deed.Enqueue queue args cores detached group)) r p
+  task_shown faults s (Deed.Start job args priority cores detached group) r p = shows_task s (task_in all (Deed.Start job args priority cores detached group)) r p
+  task_shown faults s (Deed.Enqueue queue args cores detached group) r p = shows_task s (task_in all (Deed.Enqueue queue args cores detached group)) r p
   task_shown faults s _ r p = cc
 
   pub tasks_shown : (faults : Faults) (ss : List Statement) (rs : List Reply) → ArePlain actions all ends faults ss rs
@@ -32,8 +29,8 @@ module _ (actions : List Action) (all : List Statement) (ends : ℕ → Option T
   -- Lines of calls
 
   no_status : (r : Reply) → is_status r ≡ false → status_of r ≡ None
-  no_status (reply.Mtapi c) e = absurd (cc)
-  no_status (reply.Mrapi c) e = absurd (cc)
+  no_status (Reply.Mtapi c) e = absurd (cc)
+  no_status (Reply.Mrapi c) e = absurd (cc)
   no_status _ e = refl
 
   tells : (fault : Option MtapiStatus) → status_of (verdict fault) ≡ option_map mtapi_name fault
@@ -45,14 +42,14 @@ module _ (actions : List Action) (all : List Statement) (ends : ℕ → Option T
 
   call_shown : (faults : Faults) (name : ℕ → List ℕ) (s : Statement) (d : Deed) (r : Reply) → IsPlainReply actions all ends faults d r → call_line part name s.line (shown_of d) r ≡ plain_call_line part faults s d
   unfolding IsPlainReply shown_of plain_call_line
-  call_shown faults name s (deed.Start job args priority cores detached group) r p = refl
-  call_shown faults name s (deed.Enqueue queue args cores detached group) r p = refl
-  call_shown faults name s deed.Begin r p = refl
-  call_shown faults name s (deed.Action job kind cores) r p = unrefused s.line r p
-  call_shown faults name s (deed.Wait place timeout) r p = unrefused s.line r p
-  call_shown faults name s deed.Group r p = unrefused s.line r p
-  call_shown faults name s (deed.Queue id job priority limit ordered retain) r p = unrefused s.line r p
-  call_shown faults name s (deed.WaitAll group timeout) r p =
+  call_shown faults name s (Deed.Start job args priority cores detached group) r p = refl
+  call_shown faults name s (Deed.Enqueue queue args cores detached group) r p = refl
+  call_shown faults name s Deed.Begin r p = refl
+  call_shown faults name s (Deed.Action job kind cores) r p = unrefused s.line r p
+  call_shown faults name s (Deed.Wait place timeout) r p = unrefused s.line r p
+  call_shown faults name s Deed.Group r p = unrefused s.line r p
+  call_shown faults name s (Deed.Queue id job priority limit ordered retain) r p = unrefused s.line r p
+  call_shown faults name s (Deed.WaitAll group timeout) r p =
       append-nil (marked_line 33 part s.line (status_of r)) ∙ ap (marked_line 33 part s.line) (ap status_of p ∙ tells (faults group))
   call_shown faults name s _ r p = absurd p
 
@@ -67,31 +64,19 @@ module _ (actions : List Action) (ends : ℕ → Option TaskEnd) where
       let c = calls_shown p name (faults_behind actions p.statements faults s.deed) ss rs a.1 in
       λ i. b i ++ c i
 
-  all_tasks : (ps : List Part) (ts : List Told) → PartsArePlain actions ends ps ts → flat_map (task_lines ends) ts ≡ flat_map (plain_task_lines actions) ps
+  -- where each part's lines are the plain ones, all are
+  all_parts : (f : Told → List ℕ) (g : Part → List ℕ) → ((p : Part) (t : Told) → t.name ≡ p.name → t.statements ≡ p.statements → ArePlain actions p.statements ends no_faults p.statements t.replies → f t ≡ g p)
+      → (ps : List Part) (ts : List Told) → PartsArePlain actions ends ps ts → flat_map f ts ≡ flat_map g ps
   unfolding PartsArePlain
-  all_tasks [] [] a = refl
-  all_tasks [] (t ∷ ts) a = absurd a
-  all_tasks (p ∷ ps) [] a = absurd a
-  all_tasks (p ∷ ps) (t ∷ ts) a =
-      let b : task_lines_of t.name ends t.statements t.replies ≡ plain_task_lines actions p =
-      (λ i. task_lines_of (a.0 i) ends (a.1 i) t.replies) ∙ tasks_shown actions p.statements ends p.name no_faults p.statements t.replies a.2 in
-      let c = all_tasks ps ts a.3 in
-      λ i. b i ++ c i
-
-  all_calls : (ps : List Part) (ts : List Told) → PartsArePlain actions ends ps ts → flat_map call_lines ts ≡ flat_map (plain_call_lines actions) ps
-  unfolding PartsArePlain
-  all_calls [] [] a = refl
-  all_calls [] (t ∷ ts) a = absurd a
-  all_calls (p ∷ ps) [] a = absurd a
-  all_calls (p ∷ ps) (t ∷ ts) a =
-      let b : call_lines t ≡ plain_call_lines actions p =
-      (λ i. call_lines_of (a.0 i) (task_name t.statements t.replies) (a.1 i) t.replies) ∙ calls_shown p (task_name t.statements t.replies) no_faults p.statements t.replies a.2 in
-      let c = all_calls ps ts a.3 in
-      λ i. b i ++ c i
+  all_parts f g k [] [] a = refl
+  all_parts f g k (p ∷ ps) (t ∷ ts) a = let b = k p t a.0 a.1 a.2 in let c = all_parts f g k ps ts a.3 in λ i. b i ++ c i
+  all_parts f g k _ _ a = absurd a
 
 pub plain_replies : PlainRepliesShowPlainReport
 unfolding plain_report
 plain_replies load ends told a =
-    let b = all_tasks (actions_in (all_statements load)) ends load.parts told a in
-    let c = all_calls (actions_in (all_statements load)) ends load.parts told a in
+    let actions : List Action = actions_in (all_statements load) in
+    let b = all_parts actions ends (task_lines ends) (plain_task_lines actions) (λ p t n s e. (λ i. task_lines_of (n i) ends (s i) t.replies) ∙ tasks_shown actions p.statements ends p.name no_faults p.statements t.replies e) load.parts told a in
+    let c = all_parts actions ends call_lines (plain_call_lines actions)
+    (λ p t n s e. (λ i. call_lines_of (n i) (task_name t.statements t.replies) (s i) t.replies) ∙ calls_shown actions ends p (task_name t.statements t.replies) no_faults p.statements t.replies e) load.parts told a in
     λ i. b i ++ c i

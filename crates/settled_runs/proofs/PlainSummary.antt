@@ -1,8 +1,5 @@
 -- The summary of plain replies is the plain summary.
-use Rattle.settled_runs.proofs.Names.{◌≡◌, ℕ, ◌+◌, cond, List, [], ◌∷◌, Option, refl, sym, ◌∙◌, ap, TaskEnd, Action, NewTask, Reply, after, Deed, Statement, Part, is_task, Told, run_terms, parts_told, no_totals, with_end, all_statements, actions_in, Faults, no_faults, IsPlainTask, with_plain_task, SettledSummariesArePlain, end_at, shown_of, with_tasks, with_parts, totals, totals_text, task_in, faults_behind, IsPlainReply, ArePlain, PartsArePlain, with_plain_tasks, with_plain_parts, plain_summary}
-use Rattle.workload_file.specs.declared.workload.Deed.TheVariants as deed
-use Rattle.run_report.specs.declared.totals.Totals.{Totals}
-use Rattle.run_report.specs.Summary.{with_task}
+use Rattle.settled_runs.proofs.Names.{◌≡◌, ℕ, ◌+◌, cond, List, [], ◌∷◌, Option, refl, sym, ◌∙◌, ap, TaskEnd, Action, NewTask, Reply, after, Deed, Statement, Part, is_task, Told, run_terms, parts_told, no_totals, with_end, all_statements, actions_in, Faults, no_faults, IsPlainTask, with_plain_task, SettledSummariesArePlain, end_at, shown_of, with_tasks, with_parts, totals, totals_text, task_in, faults_behind, IsPlainReply, ArePlain, PartsArePlain, with_plain_tasks, with_plain_parts, plain_summary, Totals, with_counted as with_task}
 use Rattle.settled_runs.proofs.RunReport.{told_plainly}
 
 module _ (actions : List Action) (ends : ℕ → Option TaskEnd) where
@@ -11,8 +8,8 @@ module _ (actions : List Action) (ends : ℕ → Option TaskEnd) where
 
   task_counted : (all : List Statement) (faults : Faults) (t : Totals) (d : Deed) (r : Reply) → IsPlainReply actions all ends faults d r → cond (is_task (shown_of d)) (with_task ends t r) t ≡ with_plain_task actions t (task_in all d)
   unfolding IsPlainReply shown_of task_in
-  task_counted all faults t (deed.Start job args priority cores detached group) r p = counts_task t (task_in all (deed.Start job args priority cores detached group)) r p
-  task_counted all faults t (deed.Enqueue queue args cores detached group) r p = counts_task t (task_in all (deed.Enqueue queue args cores detached group)) r p
+  task_counted all faults t (Deed.Start job args priority cores detached group) r p = counts_task t (task_in all (Deed.Start job args priority cores detached group)) r p
+  task_counted all faults t (Deed.Enqueue queue args cores detached group) r p = counts_task t (task_in all (Deed.Enqueue queue args cores detached group)) r p
   task_counted all faults t _ r p = cc
 
   tasks_counted : (all : List Statement) (faults : Faults) (t : Totals) (ss : List Statement) (rs : List Reply) → ArePlain actions all ends faults ss rs → with_tasks ends t ss rs ≡ with_plain_tasks actions all t ss
@@ -26,11 +23,10 @@ module _ (actions : List Action) (ends : ℕ → Option TaskEnd) where
   parts_counted : (t : Totals) (ps : List Part) (ts : List Told) → PartsArePlain actions ends ps ts → with_parts ends t ts ≡ with_plain_parts actions t ps
   unfolding PartsArePlain with_parts with_plain_parts
   parts_counted t [] [] a = refl
-  parts_counted t [] (x ∷ ts) a = absurd a
-  parts_counted t (p ∷ ps) [] a = absurd a
   parts_counted t (p ∷ ps) (x ∷ ts) a =
       ap (λ (y : Totals). with_parts ends y ts) (ap (λ (ss : List Statement). with_tasks ends t ss x.replies) a.1 ∙ tasks_counted p.statements no_faults t p.statements x.replies a.2)
       ∙ parts_counted (with_plain_tasks actions p.statements t p.statements) ps ts a.3
+  parts_counted t _ _ a = absurd a
 
 pub settled_summaries_are_plain : SettledSummariesArePlain
 unfolding totals plain_summary

@@ -1,17 +1,7 @@
 -- What a run of a settled workload asks for, and how its tasks end.
-use Rattle.settled_runs.proofs.Names.{Each, ◌≡◌, ℕ, ◌+◌, Bool, true, false, List, ◌∷◌, ◌++◌, refl, subst, arith, length, ◌==◌, ◌&&◌, map, list_any, eq-eqb, or_left, NodeSettings, Kind, is_pure, Action, kind_number, Deed, Statement, Part, Workload, Op, Reply, handle_of, NodeEntry, call_of, Line, RunOf, BySeats, both_true, true_false, is_quiet, all_statements, action_in, actions_in, lines_of, is_settled_deed, is_settled, cond, [], Some, sym, ◌∙◌, ap, ℤ, append_assoc, ◌||◌, option_map, find, Layout, TaskEnd, entry, Listed, with_fields, with_enabled, has_job, Task, NewTask, new_task, Terms, State, opening, Move, makes_action, enables, withdraws, makes, alters, removes, apply, task_end, next, Legal, after, IsMade, MakesAction, end_in, some_same, fst_true, snd_true, by_moves, sorts_keep, accepted_end, SameTask, Under, Every, every_issue, every_change, every_at, StartedAs, started_as, task_then, cut_from, has_behind, HasObject, by_seats, run_terms, AreQuiet, IsPlain, none_withdrawn, quiet_tasks_end_plainly, answer_of, LegalFrom, after_from, end_at, task_at, plain_end, has_one_kind_a_job, cond-false, cond-true, cond_both, or_right, and_right, not, NoClose, closes, not_true, handle_at, Made, GoOn, goes_on}
+use Rattle.settled_runs.proofs.Names.{Each, ◌≡◌, ℕ, ◌+◌, Bool, true, false, List, ◌∷◌, ◌++◌, refl, subst, arith, length, ◌==◌, ◌&&◌, map, list_any, eq-eqb, or_left, NodeSettings, Kind, is_pure, Action, kind_number, Deed, Statement, Part, Workload, Op, Reply, handle_of, NodeEntry, call_of, Line, RunOf, BySeats, both_true, true_false, is_quiet, all_statements, action_in, actions_in, lines_of, is_settled_deed, is_settled, cond, [], Some, sym, ◌∙◌, ap, ℤ, append_assoc, ◌||◌, option_map, find, Layout, TaskEnd, entry, Listed, with_fields, with_enabled, has_job, Task, NewTask, new_task, Terms, State, opening, Move, makes_action, enables, withdraws, makes, alters, removes, apply, task_end, next, Legal, after, IsMade, MakesAction, end_in, some_same, fst_true, snd_true, by_moves, sorts_keep, accepted_end, SameTask, Under, Every, every_issue, every_change, every_at, StartedAs, started_as, task_then, cut_from, has_behind, HasObject, by_seats, run_terms, AreQuiet, IsPlain, none_withdrawn, quiet_tasks_end_plainly, answer_of, LegalFrom, after_from, end_at, task_at, plain_end, has_one_kind_a_job, cond-false, cond-true, cond_both, or_right, and_right, not, NoClose, closes, not_true, handle_at, Made, GoOn, goes_on, makes_object, is_that_handle as is_handle, accepted_by, accepted, EndsOnce, same_kind, SettledTasksEndAsPlanned, Timeout, ObjectKind}
+use Rattle.settled_runs.proofs.{Along.step_settled, OneFault.one_number}
 use Rattle.settled_runs.proofs.Each.{one_look, PartAt, Within, any_left, each_map, is_outside, made_each, map_seats, settled_whole, run_each, run_parts, seat_each, within_behind, work_outside}
-use Rattle.settled_runs.proofs.Along.{step_settled}
-use Rattle.history_law.specs.Words.{makes as makes_object, is_handle}
-use Rattle.history_law.specs.Accepted.{accepted_by, accepted, EndsOnce}
-use Rattle.history_law.proofs.lists.KindNumbers.{same_kind}
-use Rattle.settled_runs.specs.RunEnds.{SettledTasksEndAsPlanned}
-use Rattle.settled_runs.proofs.OneFault.{one_number}
-use Rattle.workload_file.specs.declared.workload.Deed.TheVariants as deed
-use Rattle.mtapi_values.specs.declared.timeouts.Timeout.TheVariants as timeout
-use Rattle.mtapi_machine.specs.declared.ops.Op.TheVariants as op
-use Rattle.mtapi_values.specs.declared.handles.ObjectKind.TheVariants as kinds
-use Rattle.mtapi_machine.specs.declared.replies.Reply.TheVariants as reply
 
 -- one of these actions has the job and the kind
 abbrev pub is_listed : List Action → ℕ → Kind → Bool
@@ -19,8 +9,8 @@ is_listed actions job kind = list_any (λ a. (a.job == job) && (kind_number a.ki
 
 -- the op is a quiet one and no last look at a whole group, and an action that it makes is one of these
 abbrev pub is_planned : List Action → Op → Bool
-is_planned actions (op.ActionCreate job kind cores) = is_pure kind && is_listed actions job kind
-is_planned actions (op.AllLook g last) = not last
+is_planned actions (Op.ActionCreate job kind cores) = is_pure kind && is_listed actions job kind
+is_planned actions (Op.AllLook g last) = not last
 is_planned actions o = is_quiet o
 
 abbrev pub ArePlanned : List Action → List NodeEntry → Type 0
@@ -31,26 +21,24 @@ ArePlanned actions es = Each (λ e. is_planned actions e.op ≡ true) es
 deed_planned : (settings : NodeSettings) (known : List Action) (before all : List Statement) (actions : List Action) (bound : List ℕ) (d : Deed) (front : List Line) (r : Reply) → Within (action_in d) actions → is_settled_deed settings known before all d ≡ true → Made (call_of bound d) front r
     → Each (λ l. is_planned actions l.op ≡ true) front
 unfolding is_settled_deed
-deed_planned settings known before all actions bound (deed.Action job kind cores) front r w e m =
-    made_each (λ o. is_planned actions o ≡ true) (call_of bound (deed.Action job kind cores)) front r
+deed_planned settings known before all actions bound (Deed.Action job kind cores) front r w e m =
+    made_each (λ o. is_planned actions o ≡ true) (call_of bound (Deed.Action job kind cores)) front r
     (both_true (is_pure kind) _ e (w (λ a. (a.job == job) && (kind_number a.kind == kind_number kind)) (or_left _ false (both_true (job == job) _ (eq-eqb job job refl) (eq-eqb (kind_number kind) (kind_number kind) refl))))) m
-deed_planned settings known before all actions bound deed.Begin front r w e m = made_each (λ o. is_planned actions o ≡ true) (call_of bound deed.Begin) front r refl m
-deed_planned settings known before all actions bound (deed.Start job args priority cores detached group) front r w e m = made_each (λ o. is_planned actions o ≡ true) (call_of bound (deed.Start job args priority cores detached group)) front r refl m
-deed_planned settings known before all actions bound (deed.Enqueue queue args cores detached group) front r w e m = made_each (λ o. is_planned actions o ≡ true) (call_of bound (deed.Enqueue queue args cores detached group)) front r refl m
-deed_planned settings known before all actions bound (deed.Wait place timeout) front r w e m = made_each (λ o. is_planned actions o ≡ true) (call_of bound (deed.Wait place timeout)) front r (λ last. refl) m
-deed_planned settings known before all actions bound deed.Group front r w e m = made_each (λ o. is_planned actions o ≡ true) (call_of bound deed.Group) front r refl m
-deed_planned settings known before all actions bound (deed.WaitAll place timeout.Infinite) front r w e m =
-    subst (Each (λ (l : Line). is_planned actions l.op ≡ true)) (sym (one_look (λ last. op.AllLook (record { 0 = handle_at bound place }) last) timeout.Infinite front r m)) (ap not m.within, tt)
-deed_planned settings known before all actions bound (deed.WaitAll place timeout.NoWait) front r w e m = true_false e refl
-deed_planned settings known before all actions bound (deed.WaitAll place (timeout.Looks n)) front r w e m = true_false e refl
-deed_planned settings known before all actions bound (deed.Queue id job priority limit ordered retain) front r w e m = made_each (λ o. is_planned actions o ≡ true) (call_of bound (deed.Queue id job priority limit ordered retain)) front r refl m
+deed_planned settings known before all actions bound Deed.Begin front r w e m = made_each (λ o. is_planned actions o ≡ true) (call_of bound Deed.Begin) front r refl m
+deed_planned settings known before all actions bound (Deed.Start job args priority cores detached group) front r w e m = made_each (λ o. is_planned actions o ≡ true) (call_of bound (Deed.Start job args priority cores detached group)) front r refl m
+deed_planned settings known before all actions bound (Deed.Enqueue queue args cores detached group) front r w e m = made_each (λ o. is_planned actions o ≡ true) (call_of bound (Deed.Enqueue queue args cores detached group)) front r refl m
+deed_planned settings known before all actions bound (Deed.Wait place timeout) front r w e m = made_each (λ o. is_planned actions o ≡ true) (call_of bound (Deed.Wait place timeout)) front r (λ last. refl) m
+deed_planned settings known before all actions bound Deed.Group front r w e m = made_each (λ o. is_planned actions o ≡ true) (call_of bound Deed.Group) front r refl m
+deed_planned settings known before all actions bound (Deed.WaitAll place Timeout.Infinite) front r w e m =
+    subst (Each (λ (l : Line). is_planned actions l.op ≡ true)) (sym (one_look (λ last. Op.AllLook (record { 0 = handle_at bound place }) last) Timeout.Infinite front r m)) (ap not m.within, tt)
+deed_planned settings known before all actions bound (Deed.WaitAll place Timeout.NoWait) front r w e m = true_false e refl
+deed_planned settings known before all actions bound (Deed.WaitAll place (Timeout.Looks n)) front r w e m = true_false e refl
+deed_planned settings known before all actions bound (Deed.Queue id job priority limit ordered retain) front r w e m = made_each (λ o. is_planned actions o ≡ true) (call_of bound (Deed.Queue id job priority limit ordered retain)) front r refl m
 deed_planned settings known before all actions bound _ front r w e m = true_false e refl
 
 outside_planned : (actions : List Action) (o : Op) → is_outside o ≡ true → is_planned actions o ≡ true
-outside_planned actions op.Initialize e = refl
+outside_planned actions Op.Initialize e = refl
 outside_planned actions _ e = cc
-
--- Seats
 
 seat_planned : (load : Workload) (es : List NodeEntry) (ns : List ℕ) (w : ℕ) (p : Part) (rs : List Reply) → PartAt load es ns w p rs → Each (λ l. is_planned (actions_in (all_statements load)) l.op ≡ true) (lines_of w es ns)
 seat_planned load es ns w p rs x =
@@ -74,8 +62,8 @@ run_planned load es ns e l run b =
 -- What is planned is quiet, and each action is one of those of the workload
 
 planned_quiet : (actions : List Action) (o : Op) → is_planned actions o ≡ true → is_quiet o ≡ true
-planned_quiet actions (op.ActionCreate job kind cores) e = fst_true _ _ e
-planned_quiet actions (op.AllLook g last) e = refl
+planned_quiet actions (Op.ActionCreate job kind cores) e = fst_true _ _ e
+planned_quiet actions (Op.AllLook g last) e = refl
 planned_quiet actions _ e = e
 
 pub all_quiet : (actions : List Action) (es : List NodeEntry) → ArePlanned actions es → AreQuiet es
@@ -88,14 +76,14 @@ go_on actions g [] a c = tt
 go_on actions g (e ∷ es) a c = (by e.op a.0 c.0, go_on actions g es a.1 c.1)
   where
     by : (o : Op) → is_planned actions o ≡ true → closes o ≡ false → goes_on g o ≡ true
-    by (op.AllLook x last) i j = ap not (and_right (x.0 == g) last (not_true last i))
+    by (Op.AllLook x last) i j = ap not (and_right (x.0 == g) last (not_true last i))
     by _ i j = ap not j
 
 abbrev IsListed : List Action → Action → Type 0
 IsListed actions a = is_listed actions a.job a.kind ≡ true
 
 made_listed : (actions : List Action) (a : Action) (o : Op) → is_planned actions o ≡ true → MakesAction a o → IsListed actions a
-made_listed actions a (op.ActionCreate job kind cores) e b = subst (IsListed actions) (sym b) (snd_true _ _ e)
+made_listed actions a (Op.ActionCreate job kind cores) e b = subst (IsListed actions) (sym b) (snd_true _ _ e)
 made_listed actions a _ e b = absurd b
 
 abbrev AreListed : List Action → State → Type 0
@@ -114,8 +102,6 @@ listed_along : (actions : List Action) (s : State) (es : List NodeEntry) → Are
 unfolding after_from
 listed_along actions s [] a v = v
 listed_along actions s (e ∷ es) a v = listed_along actions (next s e) es a.1 (by_moves (AreListed actions) s e (λ t x y u. listed_move actions e.op a.0 t x y u) v)
-
--- The kind of a job
 
 -- the first action of a job is one of them
 first_of_job : (actions : List Action) (job : ℕ) (kind : Kind) → is_listed actions job kind ≡ true → (a : Action) × (find (has_job job) actions ≡ Some a) × (is_listed actions job a.kind ≡ true)
@@ -144,9 +130,9 @@ unfolding task_at
 under_task F [] h t u e = absurd (cc)
 under_task F (r ∷ rs) h t u e = cond_both (r.handle == h) (Some r.fields) (task_at rs h) (λ o. o ≡ Some t → F t) (λ j d. subst F (some_same d) (u.0 j)) (λ j d. under_task F rs h t u.1 d) e
 
-accepted_issues : (o : Op) (r : Reply) (h : ℕ) → accepted_by o r ≡ Some h → (makes_object kinds.Task o && is_handle h r) ≡ true
-accepted_issues (op.TaskStart job args priority cores detached group) (reply.Handle k) h e = eq-eqb k h (some_same e)
-accepted_issues (op.TaskEnqueue q args cores detached group) (reply.Handle k) h e = eq-eqb k h (some_same e)
+accepted_issues : (o : Op) (r : Reply) (h : ℕ) → accepted_by o r ≡ Some h → (makes_object ObjectKind.Task o && is_handle h r) ≡ true
+accepted_issues (Op.TaskStart job args priority cores detached group) (Reply.Handle k) h e = eq-eqb k h (some_same e)
+accepted_issues (Op.TaskEnqueue q args cores detached group) (Reply.Handle k) h e = eq-eqb k h (some_same e)
 accepted_issues _ _ h e = absurd (cc)
 
 -- A task that was accepted as this one ends as the kind of its job answers
@@ -170,21 +156,19 @@ module _ (layout : Layout) (load : Workload) (es : List NodeEntry) (ns : List �
 
   pub ended_once : EndsOnce terms es h
   ended_once =
-      let last : es ≡ (run.ends.before ++ entry load.settings.workers op.Close reply.Ok ∷ run.ends.behind) ++ entry load.settings.workers op.Final reply.Ok ∷ [] = run.ends.closes ∙ sym (append_assoc run.ends.before (entry load.settings.workers op.Close reply.Ok ∷ run.ends.behind) (entry load.settings.workers op.Final reply.Ok ∷ [])) in
-      accepted_end terms es (run.ends.before ++ entry load.settings.workers op.Close reply.Ok ∷ run.ends.behind) load.settings.workers legal last before behind e h is acc
+      let last : es ≡ (run.ends.before ++ entry load.settings.workers Op.Close Reply.Ok ∷ run.ends.behind) ++ entry load.settings.workers Op.Final Reply.Ok ∷ [] = run.ends.closes ∙ sym (append_assoc run.ends.before (entry load.settings.workers Op.Close Reply.Ok ∷ run.ends.behind) (entry load.settings.workers Op.Final Reply.Ok ∷ [])) in
+      accepted_end terms es (run.ends.before ++ entry load.settings.workers Op.Close Reply.Ok ∷ run.ends.behind) load.settings.workers legal last before behind e h is acc
 
-  module _ (n : NewTask) (k : ℕ) (new : HasObject kinds.Task h (SameTask (new_task n k)) (next (after_from (opening terms) before) e)) where
+  module _ (n : NewTask) (k : ℕ) (new : HasObject ObjectKind.Task h (SameTask (new_task n k)) (next (after_from (opening terms) before) e)) where
     pub ends_as_asked : end_at s.tasks h ≡ plain_end actions n
     unfolding plain_end
     ends_as_asked =
-        let has : HasObject kinds.Task h (SameTask (new_task n k)) s = subst (λ (M : List NodeEntry). HasObject kinds.Task h (SameTask (new_task n k)) (after terms M)) (sym is) (has_behind kinds.Task h (SameTask (new_task n k)) (task_then (new_task n k)) (opening terms) before behind e new) in
+        let has : HasObject ObjectKind.Task h (SameTask (new_task n k)) s = subst (λ (M : List NodeEntry). HasObject ObjectKind.Task h (SameTask (new_task n k)) (after terms M)) (sym is) (has_behind ObjectKind.Task h (SameTask (new_task n k)) (task_then (new_task n k)) (opening terms) before behind e new) in
         let record_of : (t : Task) × (task_at s.tasks h ≡ Some t) × (end_in t.state ≡ Some ended_once.end) = end_task_at s.tasks h ended_once.end ended_once.ended in
         let same : SameTask (new_task n k) record_of.0 = under_task (SameTask (new_task n k)) s.tasks h record_of.0 has.under record_of.1 in
         let plain : IsPlain s.actions record_of.0.job record_of.0.args ended_once.end = quiet_tasks_end_plainly terms es h legal (all_quiet actions es planned) record_of.0 ended_once.end record_of.1 record_of.2 in
         let listed_kind : is_listed actions n.job plain.0 ≡ true = let i : is_listed actions plain.1.action.job plain.1.action.kind ≡ true = every_at (IsListed actions) s.actions plain.1.handle plain.1.action (listed_along actions (opening terms) es planned tt) plain.1.found in subst (λ (j : ℕ). is_listed actions j plain.0 ≡ true) (plain.1.of_job ∙ same.job) (subst (λ (x : Kind). is_listed actions plain.1.action.job x ≡ true) plain.1.of_kind i) in
         ended_once.ended ∙ (ap Some (plain.2 ∙ ap (λ (z : List ℤ). task_end (answer_of plain.0 z)) same.args) ∙ sym (kind_found actions n.job plain.0 n.args (settled_whole load settled).kinds listed_kind))
-
--- The law
 
 pub settled_tasks_end_as_planned : SettledTasksEndAsPlanned
 settled_tasks_end_as_planned layout load es ns settled legal l run before behind e h is acc =

@@ -1,9 +1,6 @@
 -- The report of a run of a settled workload is the plain one.
-use Rattle.settled_runs.proofs.Names.{◌≡◌, ℕ, ◌+◌, List, [], ◌∷◌, ◌++◌, Option, refl, sym, ◌∙◌, ap, subst, map, flat_map, TaskEnd, Action, Layout, Part, Workload, NodeEntry, after, all_told, run_terms, parts_told, all_statements, actions_in, plain_task_lines, plain_call_lines, SettledRun, PartsReplyPlainly, end_at, further_told, report, plain_report, PartsArePlain}
-use Rattle.run_report.proofs.RunReplies.{reads_the_run}
-use Rattle.settled_runs.specs.RunReport.{SettledReportsArePlain, SettledReportsAreAlike}
-use Rattle.settled_runs.proofs.PlainReplies.{plain_replies}
-use Rattle.settled_runs.proofs.ReplyWalk.{settled_replies_are_plain}
+use Rattle.settled_runs.proofs.Names.{◌≡◌, ℕ, ◌+◌, List, [], ◌∷◌, ◌++◌, Option, refl, sym, ◌∙◌, ap, subst, map, flat_map, TaskEnd, Action, Layout, Part, Workload, NodeEntry, after, all_told, run_terms, parts_told, all_statements, actions_in, plain_task_lines, plain_call_lines, SettledRun, PartsReplyPlainly, end_at, further_told, report, plain_report, PartsArePlain, reads_the_run, SettledReportsArePlain, SettledReportsAreAlike}
+use Rattle.settled_runs.proofs.{PlainReplies.plain_replies, ReplyWalk.settled_replies_are_plain}
 
 module _ (actions : List Action) (ends : ℕ → Option TaskEnd) (es : List NodeEntry) where
   further_plain : (who : ℕ) (ps : List Part) → PartsReplyPlainly actions ends ps (map (λ t. t.replies) (further_told who es ps)) → PartsArePlain actions ends ps (further_told who es ps)

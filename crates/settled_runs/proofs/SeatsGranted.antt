@@ -1,24 +1,16 @@
 -- In a run of a settled workload main and each further caller are given what they ask for.
-use Rattle.settled_runs.proofs.Names.{Each, ◌≡◌, inr, ℕ, ◌≤◌, Bool, true, false, List, ◌∷◌, ◌++◌, Option, Some, None, refl, ◌∙◌, subst, arith, ◌==◌, slice_get, option_and_then, option_map, list_all, NodeSettings, Layout, Action, Queue, Deed, Statement, Part, Workload, IsPart, NodeEntry, fst_true, handle_at, call_of, head_of, tail_of_main, true_false, puts, actions_in, queue_in, queue_at, is_startable, set_up, are_settled_parts, AllGranted, SettledRun, has_begin, task_in, is_settled_deed, keep_limits, [], sym, append-nil, none_some, inl, suc, ◌<◌, cond, length, ap, append_assoc, ◌||◌, not, map, list_any, flat_map, entry, begins, Reply, handle_of, Legal, snd_true, not_true, Line, line, Made, in_lines, is_release, is_released, run_terms, IsOpened, action_in, all_statements, sets_up, is_settled_part, is_settled_further, PartsGranted, SettledStatementsAreGranted, is_begin, lines_of, Carried, CallersRan, sets_up_first, eq-eqb, or_left, or_right, some_entry, Op, cond_both, or_parts}
-use Rattle.settled_runs.proofs.Granted.{bit}
-use Rattle.settled_runs.proofs.Counted.{CallAsks, calls_none}
-use Rattle.settled_runs.proofs.Opened.{main_unclosed, first_head, is_opened, first_of, only_main, all_at, legal_before, further_unclosed, begin_none, release_calls, releases_main}
-use Rattle.settled_runs.proofs.Each.{settled_whole, OnlyBy, PartAt, Parts, main_at, parts_are, work_outside, actions_append, AllSeats, Within, caller_at, made_each, map_seats, statements_each, within_behind, within_front, each_front}
-use Rattle.settled_runs.proofs.Walk.{puts_outside, sets_all, Seat, seat_granted, MadeAction, Finds}
-use Rattle.history_law.proofs.Behind.{enter_behind}
-use Rattle.settled_runs.proofs.Along.{same_head, same_tail, Cut, cut, cut_split, deed_in, Found, get_at, same_front, step_granted, found}
-use Rattle.settled_runs.specs.Granted.{Made as MadeBy}
+use Rattle.settled_runs.proofs.Names.{Each, ◌≡◌, inr, ℕ, ◌≤◌, Bool, true, false, List, ◌∷◌, ◌++◌, Option, Some, None, refl, ◌∙◌, subst, arith, ◌==◌, slice_get, option_and_then, option_map, list_all, NodeSettings, Layout, Action, Queue, Deed, Statement, Part, Workload, IsPart, NodeEntry, fst_true, handle_at, call_of, head_of, tail_of_main, true_false, puts, actions_in, queue_in, queue_at, is_startable, set_up, are_settled_parts, AllGranted, SettledRun, has_begin, task_in, is_settled_deed, keep_limits, [], sym, append-nil, none_some, inl, suc, ◌<◌, cond, length, ap, append_assoc, ◌||◌, not, map, list_any, flat_map, entry, begins, Reply, handle_of, Legal, snd_true, not_true, Line, line, Made, in_lines, is_release, is_released, run_terms, IsOpened, action_in, all_statements, sets_up, is_settled_part, is_settled_further, PartsGranted, SettledStatementsAreGranted, is_begin, lines_of, Carried, CallersRan, sets_up_first, eq-eqb, or_left, or_right, some_entry, Op, cond_both, or_parts, enter_behind, MadeBy}
+use Rattle.settled_runs.proofs.{Granted.bit, Counted.CallAsks, Counted.calls_none}
 use Rattle.settled_runs.proofs.Places.{Has, has_more, HasAction, action_map, action_has}
-use Rattle.workload_file.specs.declared.workload.Deed.TheVariants as deed
-use Rattle.mtapi_machine.specs.declared.ops.Op.TheVariants as op
-use Rattle.mtapi_machine.specs.declared.replies.Reply.TheVariants as reply
-
--- Main
+use Rattle.settled_runs.proofs.Walk.{puts_outside, sets_all, Seat, seat_granted, MadeAction, Finds}
+use Rattle.settled_runs.proofs.Along.{same_head, same_tail, Cut, cut, cut_split, deed_in, Found, get_at, same_front, step_granted, found}
+use Rattle.settled_runs.proofs.Opened.{main_unclosed, first_head, is_opened, first_of, only_main, all_at, legal_before, further_unclosed, begin_none, release_calls, releases_main}
+use Rattle.settled_runs.proofs.Each.{settled_whole, OnlyBy, PartAt, Parts, main_at, parts_are, work_outside, actions_append, AllSeats, Within, caller_at, made_each, statements_each, within_behind, within_front, each_front, fold_seats}
 
 -- Further callers put no task into a queue
 
 abbrev is_put : Deed → Bool
-is_put (deed.Enqueue queue args cores detached group) = true
+is_put (Deed.Enqueue queue args cores detached group) = true
 is_put _ = false
 
 most : (b : Bool) → bit b ≤ 1
@@ -26,13 +18,13 @@ most true = omega arith
 most false = omega arith
 
 puts_calls : (h : ℕ) (bound : List ℕ) (d : Deed) → CallAsks (puts h) (bit (is_put d)) (call_of bound d)
-puts_calls h bound (deed.Enqueue queue args cores detached group) = most (handle_at bound queue == h)
+puts_calls h bound (Deed.Enqueue queue args cores detached group) = most (handle_at bound queue == h)
 puts_calls h bound _ = omega arith
 
 -- where a part sets nothing up, it puts no task into a queue
 not_put : (settings : NodeSettings) (known : List Action) (before all : List Statement) (d : Deed) → set_up all ≡ false → is_settled_deed settings known before all d ≡ true → is_put d ≡ false
 unfolding is_settled_deed task_in
-not_put settings known before all (deed.Enqueue queue args cores detached group) n e = by_queue (slice_get all queue) refl (queue_at all queue) refl _ e
+not_put settings known before all (Deed.Enqueue queue args cores detached group) n e = by_queue (slice_get all queue) refl (queue_at all queue) refl _ e
   where
     by_queue : (o : Option Statement) → slice_get all queue ≡ o → (q : Option Queue) → option_and_then (λ z. queue_in z.deed) o ≡ q → (f : Queue → _) → is_startable settings known (option_map f q) ≡ true → true ≡ false
     by_queue o i None j f k = true_false k refl
@@ -67,12 +59,12 @@ no_actions [] e = refl
 no_actions (s ∷ ss) e = let x = or_parts (sets_up s.deed) (set_up ss) e in by s.deed x.0 (no_actions ss x.1)
   where
     by : (d : Deed) → sets_up d ≡ false → actions_in ss ≡ [] → action_in d ++ actions_in ss ≡ []
-    by (deed.Action job kind cores) i k = true_false refl i
+    by (Deed.Action job kind cores) i k = true_false refl i
     by _ i k = k
 
 begin_acts : (d : Deed) → is_begin d ≡ true → action_in d ≡ []
 unfolding is_begin
-begin_acts deed.Begin e = refl
+begin_acts Deed.Begin e = refl
 begin_acts _ e = true_false e refl
 
 pub first_actions : (ss : List Statement) (x : SetUp ss) → actions_in ss ≡ actions_in x.before
@@ -88,7 +80,7 @@ has_one_begin (t ∷ before) s behind e = or_right (is_begin t.deed) _ (has_one_
 -- What main's lines are until it lets the others begin
 
 abbrev opening_line : Line
-opening_line = line op.Initialize reply.Ok 0
+opening_line = line Op.Initialize Reply.Ok 0
 
 pub record Began (ss : List Statement) (x : SetUp ss) (M : List Line) : Type 0 where
   pub first : List Line
@@ -100,9 +92,9 @@ pub record Began (ss : List Statement) (x : SetUp ss) (M : List Line) : Type 0 w
   pub granted : AllGranted x.before replies
   pub none : Each (λ l. is_release l.op ≡ false) first
 
-begin_released : (d : Deed) (bound : List ℕ) (front : List Line) (r : Reply) → is_begin d ≡ true → Made (call_of bound d) front r → front ≡ line op.Release r 0 ∷ []
+begin_released : (d : Deed) (bound : List ℕ) (front : List Line) (r : Reply) → is_begin d ≡ true → Made (call_of bound d) front r → front ≡ line Op.Release r 0 ∷ []
 unfolding is_begin
-begin_released deed.Begin bound front r e m = m.0
+begin_released Deed.Begin bound front r e m = m.0
 begin_released _ bound front r e m = true_false e refl
 
 began : (ss : List Statement) (x : SetUp ss) (M body : List Line) (rs : List Reply) → M ≡ head_of (has_begin ss) ++ (body ++ tail_of_main) → Carried Made [] ss body rs → AllGranted ss rs → Began ss x M
@@ -113,10 +105,10 @@ began ss x M body rs i c g =
     record {
       first = f.first;
       replies = f.replies;
-      release = line op.Release f.reply 0;
+      release = line Op.Release f.reply 0;
       rest = f.step.more ++ tail_of_main;
       is = i ∙ (λ j. head_of ((ap has_begin x.is ∙ has_one_begin x.before x.begin x.behind x.starts) j) ++ ((f.step.is ∙ ap (λ (z : List Line). f.first ++ (z ++ f.step.more)) (begin_released x.begin.deed (map handle_of f.replies) f.front f.reply x.starts f.step.made)) j ++ tail_of_main))
-          ∙ ap (λ (z : List Line). opening_line ∷ z) (append_assoc f.first (line op.Release f.reply 0 ∷ f.step.more) tail_of_main);
+          ∙ ap (λ (z : List Line). opening_line ∷ z) (append_assoc f.first (line Op.Release f.reply 0 ∷ f.step.more) tail_of_main);
       carried = carried;
       granted = subst (λ (z : List Statement). AllGranted z f.replies) same (step_granted ss body rs f.before f.first f.replies x.begin f.front f.reply f.step g).0;
       none = statements_each (λ o. is_release o ≡ false) x.before f.first f.replies carried
@@ -203,32 +195,32 @@ module _ (layout : Layout) (load : Workload) (es : List NodeEntry) (ns : List �
 
   module _ (x : SetUp part.statements) (who : ℕ) (late : main < who) (looks : ℕ) where
     abbrev entrance : List Line
-    entrance = line op.Enter reply.Ok looks ∷ []
+    entrance = line Op.Enter Reply.Ok looks ∷ []
 
     module _ (A : List Line) (l : Line) (B : List Line) (c : Cut who es ns (entrance ++ A) l (B ++ [])) where
-      abbrev entered : Cut who c.before c.first [] (line op.Enter reply.Ok looks) A
-      entered = cut who c.before c.first [] (line op.Enter reply.Ok looks) A c.done
+      abbrev entered : Cut who c.before c.first [] (line Op.Enter Reply.Ok looks) A
+      entered = cut who c.before c.first [] (line Op.Enter Reply.Ok looks) A c.done
 
-      legal_cut : Legal (run_terms layout load) (entered.before ++ entry who op.Enter reply.Ok ∷ entered.behind)
+      legal_cut : Legal (run_terms layout load) (entered.before ++ entry who Op.Enter Reply.Ok ∷ entered.behind)
       legal_cut = subst (Legal (run_terms layout load)) entered.is (legal_before layout load es ns u who (entrance ++ A) l (B ++ []) c)
 
       only_main_released : OnlyBy main is_release entered.before
       only_main_released =
-          each_front (λ (e : NodeEntry). is_release e.op ≡ true → e.who ≡ main) entered.before (entry who op.Enter reply.Ok ∷ entered.behind)
+          each_front (λ (e : NodeEntry). is_release e.op ≡ true → e.who ≡ main) entered.before (entry who Op.Enter Reply.Ok ∷ entered.behind)
           (subst (OnlyBy main is_release) entered.is (each_front (λ (e : NodeEntry). is_release e.op ≡ true → e.who ≡ main) c.before (entry who l.op l.reply ∷ c.behind) (subst (OnlyBy main is_release) c.is (releases_main layout load es ns u))))
 
       abbrev later : List Line
-      later = lines_of main (entry who op.Enter reply.Ok ∷ entered.behind) (looks ∷ entered.rest)
+      later = lines_of main (entry who Op.Enter Reply.Ok ∷ entered.behind) (looks ∷ entered.rest)
 
       -- main's lines before the caller entered
       seen : (Z : List Line) × (lines_of main entered.before entered.first ≡ (opening_line ∷ (main_began x).first) ++ Z)
       seen = past (λ l. is_release l.op) (opening_line ∷ (main_began x).first) (lines_of main entered.before entered.first) (later ++ lines_of main (entry who l.op l.reply ∷ c.behind) (l.beside ∷ c.rest)) ((main_began x).release ∷ (main_began x).rest) (refl, (main_began x).none)
           (some_line main is_release is_released (λ e i. fst_true (is_release e.op) _ i) entered.before entered.first entered.same only_main_released (enter_behind (run_terms layout load) entered.before entered.behind who legal_cut))
-          (sym (append_assoc (lines_of main entered.before entered.first) later _) ∙ ap (λ (z : List Line). z ++ lines_of main (entry who l.op l.reply ∷ c.behind) (l.beside ∷ c.rest)) (sym (cut_split who c.before c.first [] (line op.Enter reply.Ok looks) A entered main)) ∙ sym (cut_split who es ns (entrance ++ A) l (B ++ []) c main) ∙ (main_began x).is)
+          (sym (append_assoc (lines_of main entered.before entered.first) later _) ∙ ap (λ (z : List Line). z ++ lines_of main (entry who l.op l.reply ∷ c.behind) (l.beside ∷ c.rest)) (sym (cut_split who c.before c.first [] (line Op.Enter Reply.Ok looks) A entered main)) ∙ sym (cut_split who es ns (entrance ++ A) l (B ++ []) c main) ∙ (main_began x).is)
 
       -- and before the line
       all_seen : lines_of main c.before c.first ≡ (opening_line ∷ (main_began x).first) ++ (seen.0 ++ later)
-      all_seen = cut_split who c.before c.first [] (line op.Enter reply.Ok looks) A entered main ∙ ap (λ (z : List Line). z ++ later) seen.1 ∙ append_assoc (opening_line ∷ (main_began x).first) seen.0 later
+      all_seen = cut_split who c.before c.first [] (line Op.Enter Reply.Ok looks) A entered main ∙ ap (λ (z : List Line). z ++ later) seen.1 ∙ append_assoc (opening_line ∷ (main_began x).first) seen.0 later
 
       pub opened_late : IsOpened c.before
       opened_late = is_opened main c.before c.first ((main_began x).first ++ (seen.0 ++ later)) all_seen (further_unclosed layout load es ns u who (entrance ++ A) l (B ++ []) c late)
@@ -238,7 +230,7 @@ module _ (layout : Layout) (load : Workload) (es : List NodeEntry) (ns : List �
           let y : HasAction (main_began x).first p = action_has x.before (main_began x).first (main_began x).replies p (main_began x).carried (main_began x).granted (subst (λ (z : List Action). list_any p z ≡ true) (first_actions part.statements x) e) in
           action_map (Has (main_began x).first) (λ o h. MadeBy o h c.before) p (λ o h v.
           let z : Has (lines_of main c.before c.first) o h = subst (λ (ls : List Line). Has ls o h) (sym all_seen) (has_more (opening_line ∷ []) (main_began x).first (seen.0 ++ later) o h v) in
-          let d = cut main c.before c.first z.before (line o (reply.Handle h) z.beside) z.behind z.is in
+          let d = cut main c.before c.first z.before (line o (Reply.Handle h) z.beside) z.behind z.is in
           record { before = d.before; who = main; behind = d.behind; is = d.is }) y
 
     pub further_finds : (all : List Statement) → set_up all ≡ false → Finds layout load es ns who entrance [] all (actions_in part.statements)
@@ -277,12 +269,6 @@ module _ (layout : Layout) (load : Workload) (es : List NodeEntry) (ns : List �
       subst (λ (ps : List Part). AllSeats (Seat layout load es ns) main ps u.run.replies) (sym (first_of layout load es ns u).are)
       (subst (AllSeats (Seat layout load es ns) main (part ∷ others)) (sym (first_of layout load es ns u).told) seats_of_parts)
 
-granted_seats : (first : ℕ) (ps : List Part) (rss : List (List Reply)) → AllSeats (λ w p rs. AllGranted p.statements rs) first ps rss → PartsGranted ps rss
-granted_seats first [] rss a = tt
-granted_seats first (p ∷ ps) [] a = absurd a
-granted_seats first (p ∷ ps) (rs ∷ rss) a = (a.0, granted_seats (suc first) ps rss a.1)
-
 pub settled_statements_are_granted : SettledStatementsAreGranted
 settled_statements_are_granted layout load es ns u =
-    granted_seats load.settings.workers load.parts u.run.replies
-    (map_seats (Seat layout load es ns) (λ w p rs. AllGranted p.statements rs) 0 (λ w p rs l x. seat_granted layout load es ns u w p rs x) load.settings.workers load.parts u.run.replies (omega arith) (seats layout load es ns u))
+    fold_seats (Seat layout load es ns) (λ w ps rss. PartsGranted ps rss) 0 (λ w rss. tt) (λ w p rs ps rss l x a. (seat_granted layout load es ns u w p rs x, a)) load.settings.workers load.parts u.run.replies (omega arith) (seats layout load es ns u)

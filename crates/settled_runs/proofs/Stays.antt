@@ -1,39 +1,60 @@
 -- In a quiet history what was made stays as it was made.
-use Rattle.settled_runs.proofs.Names.{◌≡◌, ℕ, true, List, [], ◌∷◌, ◌++◌, Some, refl, sym, ◌∙◌, ap, subst, is_some, entry, live_object, Action, new_action, Group, new_group, Queue, Op, Handle, State, opening, Move, Groups, Queues, makes_action, enables, withdraws, makes, alters, removes, apply, after_moves, new_queue, NodeEntry, IsNext, next, after, IsMade, EnablesAction, AltersObject, RemovesObject, on_only, by_moves, sorts_keep, granted, refuses_only, live_listed, true_false, at_issue_here, at_issue_other, cut_from, cut_after, fresh_unlisted, fresh_apart, is_quiet, AreQuiet, none_withdrawn, IsThere, MadeObjectsStay, row, LegalFrom, after_from}
-use Rattle.mtapi_values.specs.declared.handles.ObjectKind.TheVariants as kind
-use Rattle.mtapi_machine.specs.declared.ops.Op.TheVariants as op
-use Rattle.history_law.proofs.Unmoved.{live_stays}
+use Rattle.settled_runs.proofs.Names.{◌≡◌, ℕ, true, List, [], ◌∷◌, ◌++◌, Some, refl, sym, ◌∙◌, ap, subst, is_some, entry, live_object, Action, new_action, Group, new_group, Queue, Op, Handle, State, opening, Move, Groups, Queues, makes_action, enables, withdraws, makes, alters, removes, apply, after_moves, new_queue, NodeEntry, IsNext, next, after, IsMade, EnablesAction, AltersObject, RemovesObject, on_only, by_moves, sorts_keep, granted, refuses_only, live_listed, true_false, at_issue_here, at_issue_other, cut_from, cut_after, fresh_unlisted, fresh_apart, is_quiet, AreQuiet, none_withdrawn, IsThere, MadeObjectsStay, row, LegalFrom, after_from, ObjectKind, live_stays, NewTask, asked_for, asked_of, is_detached_member, false, Option, None, Reply, MtapiStatus, Mtapi, Row, gives, live, queues, Says, said, says_only, second_false, makes_object, tasks, is_fresh, starts_task, Allows, moves_of, handle_of}
 
 -- The entry that makes it
 
 pub made_there : (s : State) (o : Op) (who h : ℕ) → IsNext s (entry who o (Handle h)) → IsThere o h (next s (entry who o (Handle h)))
-made_there s (op.ActionCreate job k cores) who h n =
-    granted (λ ms. IsThere (op.ActionCreate job k cores) h (after_moves ms s)) (row s who (op.ActionCreate job k cores) (Handle h)) h
+made_there s (Op.ActionCreate job k cores) who h n =
+    granted (λ ms. IsThere (Op.ActionCreate job k cores) h (after_moves ms s)) (row s who (Op.ActionCreate job k cores) (Handle h)) h
     (refl, (refl, (refl, refuses_only _ _ _)))
-    (λ c0 c1 c2. on_only (λ x ms. Handle h ≡ x → IsThere (op.ActionCreate job k cores) h (after_moves ms s)) _ (Handle h) (makes_action h (new_action job k cores.0) ∷ [])
-    (λ e i. at_issue_here h (new_action job k cores.0) s.actions (fresh_unlisted kind.Action s h e))) n.allowed
-made_there s (op.QueueCreate id job priority limit ordered retain) who h n =
-    granted (λ ms. IsThere (op.QueueCreate id job priority limit ordered retain) h (after_moves ms s)) (row s who (op.QueueCreate id job priority limit ordered retain) (Handle h)) h
+    (λ c0 c1 c2. on_only (λ x ms. Handle h ≡ x → IsThere (Op.ActionCreate job k cores) h (after_moves ms s)) _ (Handle h) (makes_action h (new_action job k cores.0) ∷ [])
+    (λ e i. at_issue_here h (new_action job k cores.0) s.actions (fresh_unlisted ObjectKind.Action s h e))) n.allowed
+made_there s (Op.QueueCreate id job priority limit ordered retain) who h n =
+    granted (λ ms. IsThere (Op.QueueCreate id job priority limit ordered retain) h (after_moves ms s)) (row s who (Op.QueueCreate id job priority limit ordered retain) (Handle h)) h
     (refl, (refl, (refl, (refl, (refl, refuses_only _ _ _)))))
-    (λ c0 c1 c2 c3 c4. on_only (λ x ms. Handle h ≡ x → IsThere (op.QueueCreate id job priority limit ordered retain) h (after_moves ms s)) _ (Handle h) (makes Queues h (new_queue id job priority limit ordered retain) ∷ [])
-    (λ e i. at_issue_here h (new_queue id job priority limit ordered retain) s.queues (fresh_unlisted kind.Queue s h e))) n.allowed
-made_there s op.GroupCreate who h n =
-    granted (λ ms. IsThere op.GroupCreate h (after_moves ms s)) (row s who op.GroupCreate (Handle h)) h
+    (λ c0 c1 c2 c3 c4. on_only (λ x ms. Handle h ≡ x → IsThere (Op.QueueCreate id job priority limit ordered retain) h (after_moves ms s)) _ (Handle h) (makes Queues h (new_queue id job priority limit ordered retain) ∷ [])
+    (λ e i. at_issue_here h (new_queue id job priority limit ordered retain) s.queues (fresh_unlisted ObjectKind.Queue s h e))) n.allowed
+made_there s Op.GroupCreate who h n =
+    granted (λ ms. IsThere Op.GroupCreate h (after_moves ms s)) (row s who Op.GroupCreate (Handle h)) h
     (refl, (refl, refuses_only _ _ _))
-    (λ c0 c1. on_only (λ x ms. Handle h ≡ x → IsThere op.GroupCreate h (after_moves ms s)) _ (Handle h) (makes Groups h new_group ∷ []) (λ e i. at_issue_here h new_group s.groups (fresh_unlisted kind.Group s h e))) n.allowed
+    (λ c0 c1. on_only (λ x ms. Handle h ≡ x → IsThere Op.GroupCreate h (after_moves ms s)) _ (Handle h) (makes Groups h new_group ∷ []) (λ e i. at_issue_here h new_group s.groups (fresh_unlisted ObjectKind.Group s h e))) n.allowed
 made_there s _ who h n = tt
+
+-- The task that an entry starts
+
+-- this is the task that the op asks for, where the queue of an enqueue is as it is here
+abbrev pub AskedAs : State → NewTask → Op → Type 0
+AskedAs s n (Op.TaskStart job args priority cores detached group) = (asked_for job args priority cores detached group ≡ n) × (is_detached_member detached group ≡ false)
+AskedAs s n (Op.TaskEnqueue q args cores detached group) = (x : Queue) × (live_object s.queues q.0 ≡ Some x) × (asked_of q.0 x args cores detached group ≡ n) × (is_detached_member detached group ≡ false)
+AskedAs s n _ = ⊥
+
+-- K of each reply and the moves that come with it, where it holds of each refusal and of the start of a fresh task
+module _ (K : Reply → List Move → Type 0) (s : State) (who : ℕ) (r : Reply) (refused : (c : MtapiStatus) → K (Mtapi c) []) where
+  says_queue : (x : Option Queue) (w : Queue → Row) → ((y : Queue) → x ≡ Some y → Says K (w y)) → Says K (live x (gives queues.invalid []) w)
+  says_queue None w f = refused MtapiStatus.ErrQueueInvalid
+  says_queue (Some y) w f = f y refl
+
+  pub on_start : (o : Op) → makes_object ObjectKind.Task o ≡ true → ((h : ℕ) (n : NewTask) → AskedAs s n o → is_fresh tasks s h ≡ true → K (Handle h) (starts_task h n ∷ [])) → Allows (row s who o r) r → K r (moves_of (row s who o r))
+  on_start (Op.TaskStart job args priority cores detached group) z k a =
+      said K (row s who (Op.TaskStart job args priority cores detached group) r) r
+      (refused _, λ c0. (refused _, λ c1. (refused _, λ c2. (refused _, λ c3. (refused _, λ c4. (refused _, λ c5. (refused _, λ c6. says_only K _ _ _ (k (handle_of r) (asked_for job args priority cores detached group) (refl, second_false _ _ c1))))))))) a
+  on_start (Op.TaskEnqueue q args cores detached group) z k a =
+      said K (row s who (Op.TaskEnqueue q args cores detached group) r) r
+      (refused _, λ c. (refused _, λ d. says_queue (live_object s.queues q.0) _ (λ x e.
+      (refused _, λ c0. (refused _, λ c1. (refused _, λ c2. (refused _, λ c3. (refused _, λ c4. (refused _, λ c5. (refused _, λ c6. says_only K _ _ _ (k (handle_of r) (asked_of q.0 x args cores detached group) (x, e, refl, d)))))))))))) a
+  on_start _ z k a = true_false z refl
 
 -- The entries behind it
 
 no_enabling : (j : ℕ) (o : Op) → is_quiet o ≡ true → EnablesAction j o → ⊥
-no_enabling j (op.ActionEnable a) q b = true_false q refl
+no_enabling j (Op.ActionEnable a) q b = true_false q refl
 no_enabling j _ q b = b
 
 abbrev Same : ℕ → Action → State → Type 0
 Same h x s = live_object s.actions h ≡ Some x
 
 action_stays : (h : ℕ) (x : Action) (o : Op) → is_quiet o ≡ true → (s : State) (m : Move) → IsMade s o m → Same h x s → Same h x (apply m s)
-action_stays h x o q s (makes_action j a) e v = at_issue_other j h a s.actions (fresh_apart kind.Action s h j (live_listed h s.actions (ap is_some v)) e.may) ∙ v
+action_stays h x o q s (makes_action j a) e v = at_issue_other j h a s.actions (fresh_apart ObjectKind.Action s h j (live_listed h s.actions (ap is_some v)) e.may) ∙ v
 action_stays h x o q s (enables j) e v = absurd (no_enabling j o q e.by)
 action_stays h x o q s (withdraws j f c) e v = absurd (none_withdrawn j f o q e.by)
 action_stays h x o q s (makes k j y) e v = sorts_keep (Same h x) (λ t g u n c r z p. p) k _ s v
@@ -42,26 +63,26 @@ action_stays h x o q s (removes k j) e v = sorts_keep (Same h x) (λ t g u n c r
 action_stays h x o q s _ e v = v
 
 no_queue_alters : (j : ℕ) (f : Queue → Queue) (o : Op) → is_quiet o ≡ true → AltersObject Queues j f o → ⊥
-no_queue_alters j f (op.QueueEnable a) q b = true_false q refl
-no_queue_alters j f (op.QueueDisable a) q b = true_false q refl
+no_queue_alters j f (Op.QueueEnable a) q b = true_false q refl
+no_queue_alters j f (Op.QueueDisable a) q b = true_false q refl
 no_queue_alters j f _ q b = b
 
 no_queue_goes : (j : ℕ) (o : Op) → is_quiet o ≡ true → RemovesObject Queues j o → ⊥
-no_queue_goes j (op.QueueDelete a) q b = true_false q refl
+no_queue_goes j (Op.QueueDelete a) q b = true_false q refl
 no_queue_goes j _ q b = b
 
 no_group_alters : (j : ℕ) (f : Group → Group) (o : Op) → AltersObject Groups j f o → ⊥
 no_group_alters j f _ b = b
 
 no_group_goes : (j : ℕ) (o : Op) → is_quiet o ≡ true → RemovesObject Groups j o → ⊥
-no_group_goes j (op.GroupDelete a) q b = true_false q refl
+no_group_goes j (Op.GroupDelete a) q b = true_false q refl
 no_group_goes j _ q b = b
 
 pub there_next : (s : State) (e : NodeEntry) (o : Op) (h : ℕ) → is_quiet e.op ≡ true → IsThere o h s → IsThere o h (next s e)
-there_next s e (op.ActionCreate job k cores) h q v = by_moves (Same h (new_action job k cores.0)) s e (λ t m i u. action_stays h (new_action job k cores.0) e.op q t m i u) v
-there_next s e (op.QueueCreate id job priority limit ordered retain) h q v =
+there_next s e (Op.ActionCreate job k cores) h q v = by_moves (Same h (new_action job k cores.0)) s e (λ t m i u. action_stays h (new_action job k cores.0) e.op q t m i u) v
+there_next s e (Op.QueueCreate id job priority limit ordered retain) h q v =
     live_stays Queues s e h (λ j f z. no_queue_alters j f e.op q z) (λ j z. no_queue_goes j e.op q z) (live_listed h s.queues (ap is_some v)) ∙ v
-there_next s e op.GroupCreate h q v = live_stays Groups s e h (λ j f z. no_group_alters j f e.op z) (λ j z. no_group_goes j e.op q z) (live_listed h s.groups (ap is_some v)) ∙ v
+there_next s e Op.GroupCreate h q v = live_stays Groups s e h (λ j f z. no_group_alters j f e.op z) (λ j z. no_group_goes j e.op q z) (live_listed h s.groups (ap is_some v)) ∙ v
 there_next s e _ h q v = tt
 
 there_along : (s : State) (L : List NodeEntry) (o : Op) (h : ℕ) → AreQuiet L → IsThere o h s → IsThere o h (after_from s L)

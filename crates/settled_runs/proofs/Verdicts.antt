@@ -1,17 +1,7 @@
 -- What a look at a whole group tells in a quiet history: its live members are the tasks that were put into it since the last verdict.
-use Rattle.settled_runs.proofs.Names.{◌≡◌, ◌⊎◌, inl, inr, ℕ, ◌+◌, ◌≤◌, Bool, true, false, cond, List, [], ◌∷◌, Option, Some, None, refl, ◌∙◌, ap, subst, arith, ◌==◌, nat_lt, is_some, option_and_then, option_or, eq-eqb, MtapiStatus, Listed, live_object, Task, TaskState, Scheduled, Running, Ended, end_of, is_member, Ending, insert, insert_ended, fault_of, first_fault, end_in, some_same, live_listed, true_false, at_skip, at_here, OnceIn, once_rest, live_of, listed, endings, sym, ◌&&◌, is_none, eqb-true, holds, Failed, with_fields, gone, with_state, with_notes, ended, new_task, Group, freed, let_go, Op, State, is_open, tasks, Move, starts_task, runs_task, ends_task, ends_waiting, withdraws, notes, leaves, frees_members, lets_members_go, makes, alters, removes, is_fresh, is_served, apply, NodeEntry, IsNext, next, IsMade, all_live, fst_true, snd_true, not_true, sorts_keep, Every, every_issue, every_change, every_all, every_map, every_ends, always, listed_move, LegalFrom, after_from, list_any, TaskEnd, GroupHandle, NewTask, number_of, StartsTask, FreesMembers, FoundAs, is_quiet, starts_member, looks_at_all, change, change_all, issue, end_each, cond_both, Notes, ◌++◌, ◌||◌, not, entry, any_live, any_listed, is_unended, with_waiter, new_group, is_unended_member, Reply, opening, groups, Groups, after_moves, Row, unless, gives, Allows, live, moves_of, after_row, asked_for, asked_of, is_detached_member, verdict, is_pending, after, AllGives, given, on_only, on_live, not_false, both_true, Legal-front, by_moves, granted, refuses_only, refuses_live, no_handle, second_false, none_first, at_issue_here, closes, cut_from, cut_after, found_changed, found_issued, fresh_unlisted, AreQuiet, is_handle, with_new, members_behind, goes_on, GoOn, IsVerdict, QuietVerdicts, IsCalm, none_impure, calm_next, calm_along, calm_opening, row, members_of, false_from_ne_true, or_right, or_cases, at_head, at_past, is_up}
-use Rattle.history_law.proofs.SeatMoves.{May, by_made_moves}
-use Rattle.settled_runs.proofs.Waits.{no_deletion, notes_stay, notes_tasks, noting, taking, open_up, legal_behind}
-use Rattle.mtapi_machine.specs.TaskRows.{looks_at as looks_row}
-use Rattle.history_law.proofs.Moves.{once_from}
-use Rattle.history_law.proofs.Ordered.{end_found}
-use Rattle.settled_runs.proofs.Granted.{any_found, open_move}
-use Rattle.settled_runs.proofs.Stays.{there_next, made_there}
-use Rattle.mtapi_values.specs.declared.handles.ObjectKind.TheVariants as kinds
-use Rattle.mtapi_machine.specs.declared.ops.Op.TheVariants as op
-use Rattle.mtapi_values.specs.declared.kinds.Kind.TheVariants as kind
-use Rattle.mtapi_values.specs.declared.statuses.MtapiStatus.TheVariants as m
-use Rattle.mtapi_machine.specs.declared.replies.Reply.TheVariants as reply
+use Rattle.settled_runs.proofs.Names.{◌≡◌, ◌⊎◌, inl, inr, ℕ, ◌+◌, ◌≤◌, Bool, true, false, cond, List, [], ◌∷◌, Option, Some, None, refl, ◌∙◌, ap, subst, arith, ◌==◌, nat_lt, is_some, option_and_then, option_or, eq-eqb, MtapiStatus, Listed, live_object, Task, TaskState, Scheduled, Running, Ended, end_of, is_member, Ending, insert, insert_ended, fault_of, first_fault, end_in, some_same, live_listed, true_false, at_skip, at_here, OnceIn, once_rest, live_of, listed, endings, sym, ◌&&◌, is_none, eqb-true, holds, Failed, with_fields, gone, with_state, with_notes, ended, new_task, Group, freed, let_go, Op, State, is_open, tasks, Move, starts_task, runs_task, ends_task, ends_waiting, withdraws, notes, leaves, frees_members, lets_members_go, makes, alters, removes, is_fresh, is_served, apply, NodeEntry, IsNext, next, IsMade, all_live, fst_true, snd_true, not_true, sorts_keep, Every, every_issue, every_change, every_all, every_map, every_ends, always, listed_move, LegalFrom, after_from, list_any, TaskEnd, GroupHandle, NewTask, number_of, StartsTask, FreesMembers, FoundAs, is_quiet, starts_member, looks_at_all, change, change_all, issue, end_each, cond_both, Notes, ◌++◌, ◌||◌, not, entry, any_live, any_listed, is_unended, with_waiter, new_group, is_unended_member, Reply, opening, groups, Groups, after_moves, Row, unless, gives, Allows, live, moves_of, after_row, is_detached_member, verdict, is_pending, after, AllGives, given, on_only, on_live, not_false, both_true, Legal-front, by_moves, granted, refuses_only, none_first, at_issue_here, closes, cut_from, cut_after, found_changed, found_issued, fresh_unlisted, AreQuiet, with_new, members_behind, goes_on, GoOn, IsVerdict, QuietVerdicts, IsCalm, calm_next, calm_along, calm_opening, row, members_of, false_from_ne_true, or_right, or_cases, at_head, at_past, is_up, May, by_made_moves, looks_row, once_from, end_found, ObjectKind, makes_object, second_false}
+use Rattle.settled_runs.proofs.{Stays.there_next, Stays.made_there, Granted.any_found, Granted.open_move, Stays.AskedAs, Stays.on_start}
+use Rattle.settled_runs.proofs.Waits.{no_deletion, notes_stay, notes_tasks, noting, taking, open_up, legal_behind, none_noted}
 
 -- The first fault of the endings
 
@@ -23,22 +13,29 @@ or_some : {A : Type 0} (x y : Option A) (c : A) → option_or x y ≡ Some c →
 or_some None y c e = inr e
 or_some (Some x) y c e = inl e
 
--- one of the two faults, if there is any
-insert_is : (e : Ending) (es : List Ending) → (first_fault (insert e es) ≡ option_or (fault_of e.end) (first_fault es)) ⊎ (first_fault (insert e es) ≡ option_or (first_fault es) (fault_of e.end))
+-- the third is the first one, if there is any, of the two, in either order
+abbrev Joined : Option MtapiStatus → Option MtapiStatus → Option MtapiStatus → Type 0
+Joined x y z = (z ≡ option_or x y) ⊎ (z ≡ option_or y x)
+
+joined_none : (x y z : Option MtapiStatus) → Joined x y z → z ≡ None → (x ≡ None) × (y ≡ None)
+joined_none x y z (inl i) e = or_none x y (sym i ∙ e)
+joined_none x y z (inr i) e = let k = or_none y x (sym i ∙ e) in (k.1, k.0)
+
+joined_some : (x y z : Option MtapiStatus) (c : MtapiStatus) → Joined x y z → z ≡ Some c → (x ≡ Some c) ⊎ (y ≡ Some c)
+joined_some x y z c (inl i) e = or_some x y c (sym i ∙ e)
+joined_some x y z c (inr i) e = elim (or_some y x c (sym i ∙ e)) as (λ k. (x ≡ Some c) ⊎ (y ≡ Some c)) [ inl k ↦ inr k | inr k ↦ inl k ]
+
+insert_is : (e : Ending) (es : List Ending) → Joined (fault_of e.end) (first_fault es) (first_fault (insert e es))
 insert_is e [] = inl refl
-insert_is e (f ∷ fs) = cond_both (nat_lt e.number f.number) (e ∷ f ∷ fs) (f ∷ insert e fs) (λ l. (first_fault l ≡ option_or (fault_of e.end) (first_fault (f ∷ fs))) ⊎ (first_fault l ≡ option_or (first_fault (f ∷ fs)) (fault_of e.end))) (λ i. inl refl) (λ i. by (fault_of f.end) (insert_is e fs))
+insert_is e (f ∷ fs) = cond_both (nat_lt e.number f.number) (e ∷ f ∷ fs) (f ∷ insert e fs) (λ l. Joined (fault_of e.end) (first_fault (f ∷ fs)) (first_fault l)) (λ i. inl refl) (λ i. by (fault_of f.end) (insert_is e fs))
   where
-    by : (x : Option MtapiStatus) → (first_fault (insert e fs) ≡ option_or (fault_of e.end) (first_fault fs)) ⊎ (first_fault (insert e fs) ≡ option_or (first_fault fs) (fault_of e.end))
-        → (option_or x (first_fault (insert e fs)) ≡ option_or (fault_of e.end) (option_or x (first_fault fs))) ⊎ (option_or x (first_fault (insert e fs)) ≡ option_or (option_or x (first_fault fs)) (fault_of e.end))
+    by : (x : Option MtapiStatus) → Joined (fault_of e.end) (first_fault fs) (first_fault (insert e fs)) → Joined (fault_of e.end) (option_or x (first_fault fs)) (option_or x (first_fault (insert e fs)))
     by None k = k
     by (Some d) k = inr refl
 
-insert_none : (e : Ending) (es : List Ending) → first_fault (insert e es) ≡ None → (fault_of e.end ≡ None) × (first_fault es ≡ None)
-insert_none e es i = elim (insert_is e es) as (λ k. (fault_of e.end ≡ None) × (first_fault es ≡ None)) [ inl k ↦ or_none _ _ (sym k ∙ i) | inr k ↦ (let z = or_none (first_fault es) (fault_of e.end) (sym k ∙ i) in (z.1, z.0)) ]
-
-insert_some : (e : Ending) (es : List Ending) (c : MtapiStatus) → first_fault (insert e es) ≡ Some c → (fault_of e.end ≡ Some c) ⊎ (first_fault es ≡ Some c)
-insert_some e es c i = elim (insert_is e es) as (λ k. (fault_of e.end ≡ Some c) ⊎ (first_fault es ≡ Some c))
-    [ inl k ↦ or_some _ _ c (sym k ∙ i) | inr k ↦ (elim (or_some (first_fault es) (fault_of e.end) c (sym k ∙ i)) as (λ z. (fault_of e.end ≡ Some c) ⊎ (first_fault es ≡ Some c)) [ inl z ↦ inr z | inr z ↦ inl z ]) ]
+ended_is : (h : ℕ) (x : TaskState) (es : List Ending) → Joined (option_and_then fault_of (end_in x)) (first_fault es) (first_fault (insert_ended h (end_of x) es))
+ended_is h (Ended d n) es = insert_is (record { task = h; end = d; number = n }) es
+ended_is h _ es = inl refl
 
 -- what a live member that has ended has to do with them
 pub record IsFaulty (g : ℕ) (l : List (Listed Task)) (c : MtapiStatus) : Type 0 where
@@ -47,16 +44,6 @@ pub record IsFaulty (g : ℕ) (l : List (Listed Task)) (c : MtapiStatus) : Type 
   pub found : live_object l handle ≡ Some task
   pub member : is_member g task ≡ true
   pub fault : option_and_then fault_of (end_in task.state) ≡ Some c
-
-ended_none : (h : ℕ) (x : TaskState) (es : List Ending) → first_fault (insert_ended h (end_of x) es) ≡ None → (option_and_then fault_of (end_in x) ≡ None) × (first_fault es ≡ None)
-ended_none h Scheduled es e = (refl, e)
-ended_none h (Running w k) es e = (refl, e)
-ended_none h (Ended d n) es e = insert_none (record { task = h; end = d; number = n }) es e
-
-ended_some : (h : ℕ) (x : TaskState) (es : List Ending) (c : MtapiStatus) → first_fault (insert_ended h (end_of x) es) ≡ Some c → (option_and_then fault_of (end_in x) ≡ Some c) ⊎ (first_fault es ≡ Some c)
-ended_some h Scheduled es c e = inr e
-ended_some h (Running w k) es c e = inr e
-ended_some h (Ended d n) es c e = insert_some (record { task = h; end = d; number = n }) es c e
 
 -- the endings with one task more
 record Joins (g : ℕ) (r : Listed Task) (rs : List (Listed Task)) : Type 0 where
@@ -90,7 +77,7 @@ none_faulty g (r ∷ rs) h t n e i = by (one_more g r rs) (λ k m. none_faulty g
     same a b = some_same (sym (at_here r rs h a b) ∙ e)
 
     by : Joins g r rs ⊎ Passes g r rs → (first_fault (endings g (live_of rs)) ≡ None → (r.live && (r.handle == h)) ≡ false → option_and_then fault_of (end_in t.state) ≡ None) → option_and_then fault_of (end_in t.state) ≡ None
-    by (inl x) k = let z = ended_none r.handle r.fields.state _ (sym (ap first_fault x.is) ∙ n) in at_head r h (λ a b. subst (λ (y : Task). option_and_then fault_of (end_in y.state) ≡ None) (same a b) z.0) (k z.1)
+    by (inl x) k = let z = joined_none _ _ _ (ended_is r.handle r.fields.state (endings g (live_of rs))) (sym (ap first_fault x.is) ∙ n) in at_head r h (λ a b. subst (λ (y : Task). option_and_then fault_of (end_in y.state) ≡ None) (same a b) z.0) (k z.1)
     by (inr x) k = at_head r h (λ a b. true_false (ap (is_member g) (same a b) ∙ i) (x.other a)) (k (sym (ap first_fault x.is) ∙ n))
 
 -- and a fault is that of a live member
@@ -110,7 +97,7 @@ one_faulty g (r ∷ rs) c o f = by (one_more g r rs) (λ d. later (one_faulty g 
             absurd (omega arith)
 
     by : Joins g r rs ⊎ Passes g r rs → (first_fault (endings g (live_of rs)) ≡ Some c → IsFaulty g (r ∷ rs) c) → IsFaulty g (r ∷ rs) c
-    by (inl x) k = elim (ended_some r.handle r.fields.state _ c (sym (ap first_fault x.is) ∙ f)) as (λ z. IsFaulty g (r ∷ rs) c)
+    by (inl x) k = elim (joined_some (option_and_then fault_of (end_in r.fields.state)) (first_fault (endings g (live_of rs))) (first_fault (insert_ended r.handle (end_of r.fields.state) (endings g (live_of rs)))) c (ended_is r.handle r.fields.state (endings g (live_of rs))) (sym (ap first_fault x.is) ∙ f)) as (λ z. IsFaulty g (r ∷ rs) c)
         [ inl e ↦ record { handle = r.handle; task = r.fields; found = at_here r rs r.handle x.live (eq-eqb r.handle r.handle refl); member = x.member; fault = e } | inr e ↦ k e ]
     by (inr x) k = k (sym (ap first_fault x.is) ∙ f)
 
@@ -157,7 +144,7 @@ named_move who o s _ e k v = v
 named_next : (s : State) (e : NodeEntry) → IsNext s e → Named s → Named (next s e)
 named_next s e i v =
     by_made_moves Named s e i
-    (λ t m x k u. every_map (IsNamed t.groups) (λ y. Unit {0}) (IsNamed (apply m t).groups) (apply m t).tasks (λ y n z g b. listed_move kinds.Group g t e.op m x (n g b)) (named_move e.who e.op t m x k u) (always (apply m t).tasks)) v
+    (λ t m x k u. every_map (IsNamed t.groups) (λ y. Unit {0}) (IsNamed (apply m t).groups) (apply m t).tasks (λ y n z g b. listed_move ObjectKind.Group g t e.op m x (n g b)) (named_move e.who e.op t m x k u) (always (apply m t).tasks)) v
 
 pub named_along : (s : State) (L : List NodeEntry) → LegalFrom s L → Named s → Named (after_from s L)
 unfolding LegalFrom after_from
@@ -235,12 +222,12 @@ same_group g None = refl
 same_group g (Some x) = refl
 
 no_member : (g : ℕ) (o : Op) (n : NewTask) (k : ℕ) → starts_member g o ≡ false → StartsTask n o → is_member g (new_task n k) ≡ true → ⊥
-no_member g (op.TaskStart job args priority cores detached group) n k z b i = true_false (sym (same_group g group) ∙ (ap (λ (x : NewTask). holds (λ h. h == g) x.group) (sym b) ∙ i)) z
-no_member g (op.TaskEnqueue q args cores detached group) n k z b i = true_false (sym (same_group g group) ∙ (ap (λ (x : NewTask). holds (λ h. h == g) x.group) (sym b.1) ∙ i)) z
+no_member g (Op.TaskStart job args priority cores detached group) n k z b i = true_false (sym (same_group g group) ∙ (ap (λ (x : NewTask). holds (λ h. h == g) x.group) (sym b) ∙ i)) z
+no_member g (Op.TaskEnqueue q args cores detached group) n k z b i = true_false (sym (same_group g group) ∙ (ap (λ (x : NewTask). holds (λ h. h == g) x.group) (sym b.1) ∙ i)) z
 no_member g _ n k z b i = b
 
 freeing : (g j : ℕ) (o : Op) → FreesMembers j o → j ≡ g → looks_at_all g o ≡ true
-freeing g j (op.AllLook x last) e i = eq-eqb x.0 g (sym e ∙ i)
+freeing g j (Op.AllLook x last) e i = eq-eqb x.0 g (sym e ∙ i)
 freeing g j _ e i = absurd e
 
 out_move : (g : ℕ) (hs : List ℕ) (o : Op) → is_quiet o ≡ true → notes_tasks o ≡ false → starts_member g o ≡ false → (s : State) (x : Move) → IsMade s o x → Out g hs s.tasks → Out g hs (apply x s).tasks
@@ -271,7 +258,7 @@ has_more k hs h e = or_right (k == h) _ e
 
 more_members : (g : ℕ) (hs : List ℕ) (h : ℕ) (n : NewTask) (s : State) → n.detached ≡ false → holds (λ x. x == g) n.group ≡ true → is_fresh tasks s h ≡ true → Holds g hs s → Holds g (h ∷ hs) (apply (starts_task h n) s)
 more_members g hs h n s d i e v =
-    let here : FoundAs (InGroup g) (apply (starts_task h n) s).tasks h = (new_task n s.starts, at_issue_here h (new_task n s.starts) s.tasks (fresh_unlisted kinds.Task s h e), record { kept = d; member = i }) in
+    let here : FoundAs (InGroup g) (apply (starts_task h n) s).tasks h = (new_task n s.starts, at_issue_here h (new_task n s.starts) s.tasks (fresh_unlisted ObjectKind.Task s h e), record { kept = d; member = i }) in
     record {
       into = λ k b. elim (or_cases (h == k) (has hs k) b) as (λ z. FoundAs (InGroup g) (apply (starts_task h n) s).tasks k)
           [ inl j ↦ subst (λ (x : ℕ). FoundAs (InGroup g) (apply (starts_task h n) s).tasks x) (eqb-true h k j) here | inr j ↦ (let u = v.into k j in found_issued (InGroup g) h k _ s.tasks u.0 u.1 u.2) ];
@@ -283,35 +270,18 @@ of_group g d None e i = true_false e refl
 of_group g true (Some x) e i = true_false refl i
 of_group g false (Some x) e i = (refl, e)
 
-put : (g : ℕ) (hs : List ℕ) (s : State) (w : ℕ) (o : Op) (h : ℕ) → starts_member g o ≡ true → Allows (row s w o (reply.Handle h)) (reply.Handle h) → Holds g hs s → Holds g (h ∷ hs) (after_row s (row s w o (reply.Handle h)))
-put g hs s w (op.TaskStart job args priority cores detached group) h z a v =
-    granted (λ ms. Holds g (h ∷ hs) (after_moves ms s)) (row s w (op.TaskStart job args priority cores detached group) (reply.Handle h)) h
-    (refl, (refl, (refl, (refl, (refl, (refl, (refl, refuses_only _ _ _)))))))
-    (λ c0 c1 c2 c3 c4 c5 c6. on_only (λ x ms. reply.Handle h ≡ x → Holds g (h ∷ hs) (after_moves ms s)) (is_fresh tasks s h) (reply.Handle h) (starts_task h (asked_for job args priority cores detached group) ∷ [])
-    (λ f i. let b = of_group g detached group z (second_false _ _ c1) in more_members g hs h (asked_for job args priority cores detached group) s b.0 b.1 f v)) a
-put g hs s w (op.TaskEnqueue q args cores detached group) h z a v =
-    granted (λ ms. Holds g (h ∷ hs) (after_moves ms s)) (row s w (op.TaskEnqueue q args cores detached group) (reply.Handle h)) h
-    (refl, (refl, refuses_live (live_object s.queues q.0) _ _ tt (λ x. (refl, (refl, (refl, (refl, (refl, (refl, (refl, refuses_only _ _ _))))))))))
-    (λ c d. on_live (λ x ms. reply.Handle h ≡ x → Holds g (h ∷ hs) (after_moves ms s)) (live_object s.queues q.0) _ _ (λ i. absurd (no_handle h (reply.Mtapi m.ErrQueueInvalid) refl i))
-    (λ x f c0 c1 c2 c3 c4 c5 c6. on_only (λ y ms. reply.Handle h ≡ y → Holds g (h ∷ hs) (after_moves ms s)) (is_fresh tasks s h) (reply.Handle h) (starts_task h (asked_of q.0 x args cores detached group) ∷ [])
-    (λ k i. let b = of_group g detached group z d in more_members g hs h (asked_of q.0 x args cores detached group) s b.0 b.1 k v))) a
-put g hs s w _ h z a v = true_false z refl
+member_start : (g : ℕ) (s : State) (n : NewTask) (o : Op) → starts_member g o ≡ true → AskedAs s n o → (n.detached ≡ false) × (holds (λ x. x == g) n.group ≡ true)
+member_start g s n (Op.TaskStart job args priority cores detached group) z b = subst (λ (x : NewTask). (x.detached ≡ false) × (holds (λ y. y == g) x.group ≡ true)) b.0 (of_group g detached group z b.1)
+member_start g s n (Op.TaskEnqueue q args cores detached group) z b = subst (λ (x : NewTask). (x.detached ≡ false) × (holds (λ y. y == g) x.group ≡ true)) b.2 (of_group g detached group z b.3)
+member_start g s n _ z b = absurd b
 
--- and one that was refused
-abbrev Stays : State → Reply → List Move → Type 0
-Stays s r ms = is_handle r ≡ false → after_moves ms s ≡ s
-
-unput : (g : ℕ) (s : State) (w : ℕ) (o : Op) (r : Reply) → starts_member g o ≡ true → Allows (row s w o r) r → is_handle r ≡ false → after_row s (row s w o r) ≡ s
-unput g s w (op.TaskStart job args priority cores detached group) r z a n =
-    given (Stays s) (row s w (op.TaskStart job args priority cores detached group) r) r (λ x k. refl) (λ c0 c1 c2 c3 c4 c5 c6. on_only (Stays s) _ _ _ (λ b k. true_false refl k)) a n
-unput g s w (op.TaskEnqueue q args cores detached group) r z a n =
-    given (Stays s) (row s w (op.TaskEnqueue q args cores detached group) r) r (λ x k. refl)
-    (λ c d. on_live (Stays s) (live_object s.queues q.0) _ _ (λ k. refl) (λ x f c0 c1 c2 c3 c4 c5 c6. on_only (Stays s) _ _ _ (λ b k. true_false refl k))) a n
-unput g s w _ r z a n = true_false z refl
+member_starts : (g : ℕ) (o : Op) → starts_member g o ≡ true → makes_object ObjectKind.Task o ≡ true
+member_starts g (Op.TaskStart job args priority cores detached group) z = refl
+member_starts g _ z = cc
 
 put_or_not : (g : ℕ) (hs : List ℕ) (s : State) (w : ℕ) (o : Op) (r : Reply) → starts_member g o ≡ true → Allows (row s w o r) r → Holds g hs s → Holds g (with_new r hs) (after_row s (row s w o r))
-put_or_not g hs s w o (reply.Handle h) z a v = put g hs s w o h z a v
-put_or_not g hs s w o _ z a v = subst (Holds g hs) (sym (unput g s w o _ z a refl)) v
+put_or_not g hs s w o r z a v =
+    on_start (λ x ms. Holds g (with_new x hs) (after_moves ms s)) s w r (λ c. v) o (member_starts g o z) (λ h n b f. let m = member_start g s n o z b in more_members g hs h n s m.0 m.1 f v) a
 
 -- What is noted of tasks
 
@@ -349,17 +319,9 @@ apart g hs s t x e a v h b i =
     true_false (ap (λ (y : Task). is_some y.notes.group) same ∙ member_some g u.0 u.2.member) (second_false x.notes.detached _ a)
 
 noted : (g : ℕ) (hs : List ℕ) (s : State) (w : ℕ) (o : Op) (r : Reply) → IsCalm s → notes_tasks o ≡ true → Allows (row s w o r) r → Holds g hs s → Holds g hs (after_row s (row s w o r))
-noted g hs s w (op.TaskLook t last) r c n a v =
-    given (Kept g hs s) (row s w (op.TaskLook t last) r) r (λ x. v) (λ d. on_live (Kept g hs s) (live_object s.tasks t.0) _ _ v (λ x e f b. on_looks g hs s w t.0 last x.state (apart g hs s t.0 x e f v) v)) a
-noted g hs s w (op.Asked t) r c n a v =
-    given (Kept g hs s) (row s w (op.Asked t) r) r (λ x. v) (λ d. on_live (Kept g hs s) (live_object s.tasks t.0) _ _ v (λ x e f. absurd (none_impure s w t.0 kind.Watch x c refl e f))) a
-noted g hs s w (op.TallyLock t) r c n a v =
-    given (Kept g hs s) (row s w (op.TallyLock t) r) r (λ x. v) (λ d. on_live (Kept g hs s) (live_object s.tasks t.0) _ _ v (λ x e f. absurd (none_impure s w t.0 kind.Tally x c refl e f))) a
-noted g hs s w (op.TallyRead t) r c n a v =
-    given (Kept g hs s) (row s w (op.TallyRead t) r) r (λ x. v) (λ d. on_live (Kept g hs s) (live_object s.tasks t.0) _ _ v (λ x e f. absurd (none_impure s w t.0 kind.Tally x c refl e f))) a
-noted g hs s w (op.TallyWrite t value) r c n a v =
-    given (Kept g hs s) (row s w (op.TallyWrite t value) r) r (λ x. v) (λ d. on_live (Kept g hs s) (live_object s.tasks t.0) _ _ v (λ x e f. absurd (none_impure s w t.0 kind.Tally x c refl e f))) a
-noted g hs s w _ r c n a v = true_false n refl
+noted g hs s w (Op.TaskLook t last) r c n a v =
+    given (Kept g hs s) (row s w (Op.TaskLook t last) r) r (λ x. v) (λ d. on_live (Kept g hs s) (live_object s.tasks t.0) _ _ v (λ x e f b. on_looks g hs s w t.0 last x.state (apart g hs s t.0 x e f v) v)) a
+noted g hs s w o r c n a v = none_noted (Kept g hs s) s w o r c n (λ t last e. cc) (λ x. v) a
 
 -- A look at the whole group
 
@@ -383,12 +345,12 @@ none_left g (r ∷ rs) n = (
 -- what is told, and what is left
 pub record Tells (g : ℕ) (hs : List ℕ) (s : State) (r : Reply) (ms : List Move) : Type 0 where
   pub left : Members g (cond (is_pending r) hs []) (after_moves ms s).tasks
-  pub said : (r ≡ reply.Pending) ⊎ ((any_listed (is_unended_member g) s.tasks ≡ false) × (r ≡ verdict (first_fault (endings g (live_of s.tasks)))))
+  pub said : (r ≡ Reply.Pending) ⊎ ((any_listed (is_unended_member g) s.tasks ≡ false) × (r ≡ verdict (first_fault (endings g (live_of s.tasks)))))
 
-looked : (g : GroupHandle) (hs : List ℕ) (s : State) (w : ℕ) (r : Reply) → is_open s.phase ≡ true → live_object s.groups g.0 ≡ Some new_group → Allows (row s w (op.AllLook g false) r) r → Holds g.0 hs s
-    → Tells g.0 hs s r (moves_of (row s w (op.AllLook g false) r))
+looked : (g : GroupHandle) (hs : List ℕ) (s : State) (w : ℕ) (r : Reply) → is_open s.phase ≡ true → live_object s.groups g.0 ≡ Some new_group → Allows (row s w (Op.AllLook g false) r) r → Holds g.0 hs s
+    → Tells g.0 hs s r (moves_of (row s w (Op.AllLook g false) r))
 looked g hs s w r o e a v =
-    passed_by (not (is_up s.phase)) (reply.Mtapi m.ErrNodeNotinit) (live (live_object s.groups g.0) (gives groups.invalid []) (λ x. body)) (open_up s.phase (ap not o))
+    passed_by (not (is_up s.phase)) (Reply.Mtapi MtapiStatus.ErrNodeNotinit) (live (live_object s.groups g.0) (gives groups.invalid []) (λ x. body)) (open_up s.phase (ap not o))
     (subst (λ (y : Option Group). Q (live y (gives groups.invalid []) (λ x. body))) (sym e)
     (cond_both (any_listed (is_unended_member g.0) s.tasks) _ _ Q (λ d k. record { left = subst (λ (b : Bool). Members g.0 (cond b hs []) s.tasks) (sym (ap is_pending k)) v; said = inl k })
     (λ d k. record { left = subst (λ (b : Bool). Members g.0 (cond b hs []) (apply (frees_members g.0) s).tasks) (sym (ap is_pending k ∙ verdict_decides (first_fault (endings g.0 (live_of s.tasks))))) (record { into = λ h b. true_false b refl; out = none_left g.0 s.tasks d }); said = inr (d, k) }))) a
@@ -397,7 +359,7 @@ looked g hs s w r o e a v =
     Q z = Allows z r → Tells g.0 hs s r (moves_of z)
 
     body : Row
-    body = cond (any_listed (is_unended_member g.0) s.tasks) (gives reply.Pending []) (gives (verdict (first_fault (endings g.0 (live_of s.tasks)))) (frees_members g.0 ∷ []))
+    body = cond (any_listed (is_unended_member g.0) s.tasks) (gives Reply.Pending []) (gives (verdict (first_fault (endings g.0 (live_of s.tasks)))) (frees_members g.0 ∷ []))
 
     passed_by : (c : Bool) (x : Reply) (z : Row) → c ≡ false → Q z → Q (unless c x z)
     passed_by true x z i q = true_false refl i
@@ -411,9 +373,9 @@ pub record Fine (g : ℕ) (hs : List ℕ) (s : State) : Type 0 where
   pub members : Members g hs s.tasks
 
 looking : (g : ℕ) (hs : List ℕ) (s : State) (w : ℕ) (o : Op) (r : Reply) → looks_at_all g o ≡ true → goes_on g o ≡ true → Allows (row s w o r) r → Fine g hs s → Members g (cond (is_pending r) hs []) (after_row s (row s w o r)).tasks
-looking g hs s w (op.AllLook x true) r z k a v = true_false k (ap (λ (b : Bool). not (b && true)) z)
-looking g hs s w (op.AllLook x false) r z k a v =
-    subst (λ (n : ℕ). Members n hs s.tasks → live_object s.groups n ≡ Some new_group → Members n (cond (is_pending r) hs []) (after_row s (row s w (op.AllLook x false) r)).tasks) (eqb-true x.0 g z)
+looking g hs s w (Op.AllLook x true) r z k a v = true_false k (ap (λ (b : Bool). not (b && true)) z)
+looking g hs s w (Op.AllLook x false) r z k a v =
+    subst (λ (n : ℕ). Members n hs s.tasks → live_object s.groups n ≡ Some new_group → Members n (cond (is_pending r) hs []) (after_row s (row s w (Op.AllLook x false) r)).tasks) (eqb-true x.0 g z)
     (λ y l. (looked x hs s w r v.up l a y).left) v.members v.group
 looking g hs s w _ r z k a v = true_false z refl
 
@@ -433,16 +395,16 @@ members_next g hs s e i q c k v = by_look (looks_at_all g e.op) refl
     by_look false l = by_start l (starts_member g e.op) refl
 
 unclosed : (g : ℕ) (o : Op) → goes_on g o ≡ true → closes o ≡ false
-unclosed g (op.AllLook x last) e = refl
-unclosed g op.Close e = true_false e refl
-unclosed g op.Final e = true_false e refl
+unclosed g (Op.AllLook x last) e = refl
+unclosed g Op.Close e = true_false e refl
+unclosed g Op.Final e = true_false e refl
 unclosed g _ e = refl
 
 fine_along : (g : ℕ) (hs : List ℕ) (s : State) (L : List NodeEntry) → LegalFrom s L → AreQuiet L → IsCalm s → GoOn g L → Fine g hs s → Fine g (members_of g hs L) (after_from s L)
 unfolding LegalFrom after_from members_of
 fine_along g hs s [] l q c k v = v
 fine_along g hs s (e ∷ es) l q c k v =
-    fine_along g (members_behind g hs e) (next s e) es l.1 q.1 (calm_next s e l.0 q.0 c) k.1 (record { up = by_moves (λ t. is_open t.phase ≡ true) s e (λ t x y u. open_move e.op (unclosed g e.op k.0) t x y u) v.up; group = there_next s e op.GroupCreate g q.0 v.group; members = members_next g hs s e l.0 q.0 c k.0 v })
+    fine_along g (members_behind g hs e) (next s e) es l.1 q.1 (calm_next s e l.0 q.0 c) k.1 (record { up = by_moves (λ t. is_open t.phase ≡ true) s e (λ t x y u. open_move e.op (unclosed g e.op k.0) t x y u) v.up; group = there_next s e Op.GroupCreate g q.0 v.group; members = members_next g hs s e l.0 q.0 c k.0 v })
 
 -- The entry that makes the group
 
@@ -451,12 +413,12 @@ unfolding Out
 no_members g groups [] n v = tt
 no_members g groups (r ∷ rs) n v = ((λ a b. let k : 1 ≤ listed g groups = v.0 g b in absurd (omega arith)), no_members g groups rs n v.1)
 
-new_group_fine : (s : State) (w h : ℕ) → Named s → Allows (row s w op.GroupCreate (reply.Handle h)) (reply.Handle h) → (is_open (after_row s (row s w op.GroupCreate (reply.Handle h))).phase ≡ true) × Members h [] (after_row s (row s w op.GroupCreate (reply.Handle h))).tasks
+new_group_fine : (s : State) (w h : ℕ) → Named s → Allows (row s w Op.GroupCreate (Reply.Handle h)) (Reply.Handle h) → (is_open (after_row s (row s w Op.GroupCreate (Reply.Handle h))).phase ≡ true) × Members h [] (after_row s (row s w Op.GroupCreate (Reply.Handle h))).tasks
 new_group_fine s w h v a =
-    granted (λ ms. (is_open (after_moves ms s).phase ≡ true) × Members h [] (after_moves ms s).tasks) (row s w op.GroupCreate (reply.Handle h)) h
+    granted (λ ms. (is_open (after_moves ms s).phase ≡ true) × Members h [] (after_moves ms s).tasks) (row s w Op.GroupCreate (Reply.Handle h)) h
     (refl, (refl, refuses_only _ _ _))
-    (λ c0 c1. on_only (λ x ms. reply.Handle h ≡ x → (is_open (after_moves ms s).phase ≡ true) × Members h [] (after_moves ms s).tasks) (is_fresh groups s h) (reply.Handle h) (makes Groups h new_group ∷ [])
-    (λ e i. (not_false _ c0, record { into = λ k b. true_false b refl; out = no_members h s.groups s.tasks (fresh_unlisted kinds.Group s h e) v }))) a
+    (λ c0 c1. on_only (λ x ms. Reply.Handle h ≡ x → (is_open (after_moves ms s).phase ≡ true) × Members h [] (after_moves ms s).tasks) (is_fresh groups s h) (Reply.Handle h) (makes Groups h new_group ∷ [])
+    (λ e i. (not_false _ c0, record { into = λ k b. true_false b refl; out = no_members h s.groups s.tasks (fresh_unlisted ObjectKind.Group s h e) v }))) a
 
 -- The verdict
 
@@ -485,17 +447,17 @@ is_verdict g hs s r all o v e = record {
 
 pub quiet_verdicts : QuietVerdicts
 quiet_verdicts terms before behind maker who g r legal q0 q1 k =
-    let e0 : NodeEntry = entry maker op.GroupCreate (reply.Handle g.0) in
-    let e1 : NodeEntry = entry who (op.AllLook g false) r in
+    let e0 : NodeEntry = entry maker Op.GroupCreate (Reply.Handle g.0) in
+    let e1 : NodeEntry = entry who (Op.AllLook g false) r in
     let first : State = after_from (opening terms) before in
     let step : IsNext first e0 = cut_from (opening terms) before (behind ++ e1 ∷ []) e0 legal.from in
     let rest : LegalFrom (next first e0) (behind ++ e1 ∷ []) = legal_behind (opening terms) before e0 (behind ++ e1 ∷ []) legal.from in
     let calm : IsCalm (next first e0) = calm_next first e0 step refl (calm_along (opening terms) before (Legal-front (opening terms) before _ legal.from) q0 (calm_opening terms)) in
     let named : Named first = named_along (opening terms) before (Legal-front (opening terms) before _ legal.from) tt in
     let made : (is_open (next first e0).phase ≡ true) × Members g.0 [] (next first e0).tasks = new_group_fine first maker g.0 named step.allowed in
-    let fine : Fine g.0 (members_of g.0 [] behind) (after_from (next first e0) behind) = fine_along g.0 [] (next first e0) behind (Legal-front (next first e0) behind (e1 ∷ []) rest) q1 calm k (record { up = made.0; group = made_there first op.GroupCreate maker g.0 step; members = made.1 }) in
+    let fine : Fine g.0 (members_of g.0 [] behind) (after_from (next first e0) behind) = fine_along g.0 [] (next first e0) behind (Legal-front (next first e0) behind (e1 ∷ []) rest) q1 calm k (record { up = made.0; group = made_there first Op.GroupCreate maker g.0 step; members = made.1 }) in
     let last : IsNext (after_from (next first e0) behind) e1 = cut_from (next first e0) behind [] e1 rest in
     let same : after_from (opening terms) (before ++ e0 ∷ behind) ≡ after_from (next first e0) behind = cut_after (opening terms) before behind e0 in
-    let told : Tells g.0 (members_of g.0 [] behind) (after_from (next first e0) behind) r (moves_of (row (after_from (next first e0) behind) who (op.AllLook g false) r)) = looked g (members_of g.0 [] behind) (after_from (next first e0) behind) who r fine.up fine.group last.allowed fine.members in
+    let told : Tells g.0 (members_of g.0 [] behind) (after_from (next first e0) behind) r (moves_of (row (after_from (next first e0) behind) who (Op.AllLook g false) r)) = looked g (members_of g.0 [] behind) (after_from (next first e0) behind) who r fine.up fine.group last.allowed fine.members in
     let once : OnceIn (after_from (next first e0) behind).tasks = subst (λ (t : State). OnceIn t.tasks) same (once_from terms (before ++ e0 ∷ behind)) in
-    elim told.said as (λ z. (r ≡ reply.Pending) ⊎ IsVerdict (after terms (before ++ e0 ∷ behind)) (members_of g.0 [] behind) r) [ inl e ↦ inl e | inr e ↦ inr (subst (λ (t : State). IsVerdict t (members_of g.0 [] behind) r) (sym same) (is_verdict g.0 (members_of g.0 [] behind) (after_from (next first e0) behind) r e.0 once fine.members e.1)) ]
+    elim told.said as (λ z. (r ≡ Reply.Pending) ⊎ IsVerdict (after terms (before ++ e0 ∷ behind)) (members_of g.0 [] behind) r) [ inl e ↦ inl e | inr e ↦ inr (subst (λ (t : State). IsVerdict t (members_of g.0 [] behind) r) (sym same) (is_verdict g.0 (members_of g.0 [] behind) (after_from (next first e0) behind) r e.0 once fine.members e.1)) ]

@@ -1,14 +1,6 @@
 -- In a quiet history a task that its own caller alone looks at stays until it has ended and told its end.
-use Rattle.settled_runs.proofs.Names.{◌≡◌, ◌⊎◌, inl, inr, ℕ, Bool, true, false, List, [], ◌∷◌, ◌++◌, Option, Some, None, refl, sym, ap, subst, arith, ◌==◌, ◌&&◌, ◌||◌, not, is_none, is_some, eq-eqb, nat_tests, holds, TaskEnd, Failed, GroupHandle, entry, Listed, live_object, with_fields, gone, Task, NewTask, TaskState, Scheduled, Running, Ended, is_unstarted, new_task, with_state, with_notes, with_waiter, ended, is_member, freed, Op, Reply, Phase, New, Open, Closing, Closed, State, opening, is_open, is_up, tasks, Move, starts_task, runs_task, ends_task, ends_waiting, withdraws, notes, leaves, frees_members, lets_members_go, makes, alters, removes, is_fresh, apply, after_moves, Row, unless, gives, Allows, live, after_row, asked_for, asked_of, number_of, NodeEntry, IsNext, next, after, IsMade, NotesTask, TakesEnded, some_same, Legal-front, Legal-rest, AllGives, given, on_only, on_live, fst_true, by_moves, sorts_keep, granted, refuses_only, refuses_live, no_handle, true_false, at_issue_here, FoundAs, found_changed, found_issued, found_ends, found_all, cut_from, cut_after, fresh_unlisted, is_quiet, AreQuiet, starts_alone, looks_at, AreLeft, QuietLooksAreAnswered, IsCalm, calm_next, calm_along, calm_opening, none_impure, row, LegalFrom, after_from, DeletesGroup, FreesMembers, Notes}
-use Rattle.mtapi_values.specs.Seats.{is_other}
-use Rattle.mtapi_values.specs.declared.kinds.Kind.TheVariants as kind
-use Rattle.mtapi_values.specs.declared.handles.ObjectKind.TheVariants as kinds
-use Rattle.mtapi_values.specs.declared.statuses.MtapiStatus.TheVariants as m
-use Rattle.mtapi_machine.specs.declared.ops.Op.TheVariants as op
-use Rattle.mtapi_machine.specs.declared.replies.Reply.TheVariants as reply
-use Rattle.mtapi_machine.specs.TaskRows.{looks_at as looks_row}
-use Rattle.settled_runs.proofs.Stays.{quiet_rest, quiet_front}
-use Rattle.settled_runs.proofs.Granted.{before, is_up as open_now, allowed}
+use Rattle.settled_runs.proofs.Names.{◌≡◌, ◌⊎◌, inl, inr, ℕ, Bool, true, false, List, [], ◌∷◌, ◌++◌, Option, Some, None, refl, sym, ap, subst, arith, ◌==◌, ◌&&◌, ◌||◌, not, is_none, is_some, eq-eqb, nat_tests, holds, TaskEnd, Failed, GroupHandle, entry, Listed, live_object, with_fields, gone, Task, NewTask, TaskState, Scheduled, Running, Ended, is_unstarted, new_task, with_state, with_notes, with_waiter, ended, is_member, freed, Op, Reply, Phase, New, Open, Closing, Closed, State, opening, is_open, is_up, tasks, Move, starts_task, runs_task, ends_task, ends_waiting, withdraws, notes, leaves, frees_members, lets_members_go, makes, alters, removes, is_fresh, apply, after_moves, Row, unless, gives, Allows, live, after_row, number_of, NodeEntry, IsNext, next, after, IsMade, NotesTask, TakesEnded, some_same, Legal-front, Legal-rest, AllGives, given, on_live, fst_true, by_moves, sorts_keep, true_false, at_issue_here, FoundAs, found_changed, found_issued, found_ends, found_all, cut_from, cut_after, fresh_unlisted, is_quiet, AreQuiet, starts_alone, looks_at, AreLeft, QuietLooksAreAnswered, IsCalm, calm_next, calm_along, calm_opening, none_impure, row, LegalFrom, after_from, DeletesGroup, FreesMembers, Notes, is_other, Kind, ObjectKind, MtapiStatus, looks_row, makes_object, eqb-true, is_that_handle as is_given, TaskHandle, moves_of}
+use Rattle.settled_runs.proofs.{Stays.quiet_rest, Stays.quiet_front, Granted.before, Granted.is_up as open_now, Granted.allowed, Stays.AskedAs, Stays.on_start}
 
 -- what is noted of a task that is neither detached nor in a group, and that no other seat waits for
 pub record IsOwn (who : ℕ) (n : Notes) : Type 0 where
@@ -27,53 +19,50 @@ started_alone false (Some g) e = true_false e refl
 started_alone false None e = (refl, refl)
 
 new_own : (who h : ℕ) (n : NewTask) (s : State) → (n.detached ≡ false) × (n.group ≡ None) → is_fresh tasks s h ≡ true → Own who h (apply (starts_task h n) s)
-new_own who h n s b e = (new_task n s.starts, at_issue_here h (new_task n s.starts) s.tasks (fresh_unlisted kinds.Task s h e), record { kept = b.0; alone = b.1; waiter = refl })
+new_own who h n s b e = (new_task n s.starts, at_issue_here h (new_task n s.starts) s.tasks (fresh_unlisted ObjectKind.Task s h e), record { kept = b.0; alone = b.1; waiter = refl })
 
-abbrev Starts : ℕ → ℕ → Op → State → Type 0
-Starts who h o t = starts_alone o ≡ true → Own who h t
+own_start : (s : State) (n : NewTask) (o : Op) → starts_alone o ≡ true → AskedAs s n o → (n.detached ≡ false) × (n.group ≡ None)
+own_start s n (Op.TaskStart job args priority cores detached group) a b = subst (λ (x : NewTask). (x.detached ≡ false) × (x.group ≡ None)) b.0 (started_alone detached group a)
+own_start s n (Op.TaskEnqueue q args cores detached group) a b = subst (λ (x : NewTask). (x.detached ≡ false) × (x.group ≡ None)) b.2 (started_alone detached group a)
+own_start s n _ a b = absurd b
 
-started_own : (who h : ℕ) (s : State) (w : ℕ) (o : Op) → IsNext s (entry w o (reply.Handle h)) → Starts who h o (next s (entry w o (reply.Handle h)))
-started_own who h s w (op.TaskStart job args priority cores detached group) n =
-    granted (λ ms. Starts who h (op.TaskStart job args priority cores detached group) (after_moves ms s)) (row s w (op.TaskStart job args priority cores detached group) (reply.Handle h)) h
-    (refl, (refl, (refl, (refl, (refl, (refl, (refl, refuses_only _ _ _)))))))
-    (λ c0 c1 c2 c3 c4 c5 c6. on_only (λ x ms. reply.Handle h ≡ x → Starts who h (op.TaskStart job args priority cores detached group) (after_moves ms s)) (is_fresh tasks s h) (reply.Handle h) (starts_task h (asked_for job args priority cores detached group) ∷ [])
-    (λ f i b. new_own who h (asked_for job args priority cores detached group) s (started_alone detached group b) f)) n.allowed
-started_own who h s w (op.TaskEnqueue q args cores detached group) n =
-    granted (λ ms. Starts who h (op.TaskEnqueue q args cores detached group) (after_moves ms s)) (row s w (op.TaskEnqueue q args cores detached group) (reply.Handle h)) h
-    (refl, (refl, refuses_live (live_object s.queues q.0) _ _ tt (λ x. (refl, (refl, (refl, (refl, (refl, (refl, (refl, refuses_only _ _ _))))))))))
-    (λ c d. on_live (λ x ms. reply.Handle h ≡ x → Starts who h (op.TaskEnqueue q args cores detached group) (after_moves ms s)) (live_object s.queues q.0) _ _ (λ i. absurd (no_handle h (reply.Mtapi m.ErrQueueInvalid) refl i))
-    (λ x f c0 c1 c2 c3 c4 c5 c6. on_only (λ y ms. reply.Handle h ≡ y → Starts who h (op.TaskEnqueue q args cores detached group) (after_moves ms s)) (is_fresh tasks s h) (reply.Handle h) (starts_task h (asked_of q.0 x args cores detached group) ∷ [])
-    (λ k i b. new_own who h (asked_of q.0 x args cores detached group) s (started_alone detached group b) k))) n.allowed
-started_own who h s w _ n = λ a. true_false a refl
+alone_starts : (o : Op) → starts_alone o ≡ true → makes_object ObjectKind.Task o ≡ true
+alone_starts (Op.TaskStart job args priority cores detached group) a = refl
+alone_starts _ a = cc
+
+started_own : (who h : ℕ) (s : State) (w : ℕ) (o : Op) → IsNext s (entry w o (Reply.Handle h)) → starts_alone o ≡ true → Own who h (next s (entry w o (Reply.Handle h)))
+started_own who h s w o n a =
+    on_start (λ x ms. is_given h x ≡ true → Own who h (after_moves ms s)) s w (Reply.Handle h) (λ c i. true_false i refl) o (alone_starts o a)
+    (λ k m b f i. subst (λ (j : ℕ). Own who j (apply (starts_task k m) s)) (eqb-true k h i) (new_own who k m s (own_start s m o a b) f)) n.allowed (eq-eqb h h refl)
 
 -- The entries behind it
 
 -- the ops that change what is noted of a task
 abbrev pub notes_tasks : Op → Bool
-notes_tasks (op.TaskLook t last) = true
-notes_tasks (op.Asked t) = true
-notes_tasks (op.TallyLock t) = true
-notes_tasks (op.TallyRead t) = true
-notes_tasks (op.TallyWrite t value) = true
+notes_tasks (Op.TaskLook t last) = true
+notes_tasks (Op.Asked t) = true
+notes_tasks (Op.TallyLock t) = true
+notes_tasks (Op.TallyRead t) = true
+notes_tasks (Op.TallyWrite t value) = true
 notes_tasks _ = false
 
 pub noting : (j : ℕ) (o : Op) → is_quiet o ≡ true → NotesTask j o → notes_tasks o ≡ true
-noting j (op.TaskLook t last) q e = refl
-noting j (op.TaskCancel t) q e = true_false q refl
-noting j (op.AnyLook g last) q e = true_false q refl
-noting j (op.Asked t) q e = refl
-noting j (op.TallyLock t) q e = refl
-noting j (op.TallyRead t) q e = refl
-noting j (op.TallyWrite t value) q e = refl
+noting j (Op.TaskLook t last) q e = refl
+noting j (Op.TaskCancel t) q e = true_false q refl
+noting j (Op.AnyLook g last) q e = true_false q refl
+noting j (Op.Asked t) q e = refl
+noting j (Op.TallyLock t) q e = refl
+noting j (Op.TallyRead t) q e = refl
+noting j (Op.TallyWrite t value) q e = refl
 noting j _ q e = absurd e
 
 pub taking : (j : ℕ) (o : Op) → is_quiet o ≡ true → TakesEnded j o → notes_tasks o ≡ true
-taking j (op.TaskLook t last) q e = refl
-taking j (op.AnyLook g last) q e = true_false q refl
+taking j (Op.TaskLook t last) q e = refl
+taking j (Op.AnyLook g last) q e = true_false q refl
 taking j _ q e = absurd e
 
 pub no_deletion : (j : ℕ) (o : Op) → is_quiet o ≡ true → DeletesGroup j o → ⊥
-no_deletion j (op.GroupDelete x) q b = true_false q refl
+no_deletion j (Op.GroupDelete x) q b = true_false q refl
 no_deletion j _ q b = b
 
 -- what is noted of a task that isn't detached stays, where the op notes nothing and doesn't free it
@@ -104,9 +93,9 @@ notes_stay N kept h o q n free s x e v = by x e
 
 -- a look, by its reply
 abbrev Looks : ℕ → ℕ → State → ℕ → ℕ → Reply → List Move → Type 0
-Looks who h s w t r ms = ((t == h) ≡ true → (w ≡ who) × (r ≡ reply.Pending)) → Own who h (after_moves ms s)
+Looks who h s w t r ms = ((t == h) ≡ true → (w ≡ who) × (r ≡ Reply.Pending)) → Own who h (after_moves ms s)
 
-not_pending : (e : TaskEnd) → reply.Ended e ≡ reply.Pending → ⊥
+not_pending : (e : TaskEnd) → Reply.Ended e ≡ Reply.Pending → ⊥
 not_pending e i = cc
 
 no_other : (who w : ℕ) → w ≡ who → is_other who (Some w) ≡ false
@@ -118,30 +107,28 @@ waits who h s w t r x v f k =
     (λ q i a d. (a, (let u : IsOwn who q.fields.notes = subst (λ (z : Task). IsOwn who z.notes) (sym d) v.2 in record { kept = u.kept; alone = u.alone; waiter = f (k (eq-eqb t h i)).0 })))
 
 on_looks : (who h : ℕ) (s : State) (w t : ℕ) (last : Bool) (x : TaskState) → Own who h s → AllGives (Looks who h s w t) (looks_row w t last x)
-on_looks who h s w t true Scheduled v = waits who h s w t (reply.Mtapi m.Timeout) None v (λ e. refl)
-on_looks who h s w t false Scheduled v = waits who h s w t reply.Pending (Some w) v (no_other who w)
-on_looks who h s w t true (Running y k) v = waits who h s w t (reply.Mtapi m.Timeout) None v (λ e. refl)
-on_looks who h s w t false (Running y k) v = waits who h s w t reply.Pending (Some w) v (no_other who w)
+on_looks who h s w t true Scheduled v = waits who h s w t (Reply.Mtapi MtapiStatus.Timeout) None v (λ e. refl)
+on_looks who h s w t false Scheduled v = waits who h s w t Reply.Pending (Some w) v (no_other who w)
+on_looks who h s w t true (Running y k) v = waits who h s w t (Reply.Mtapi MtapiStatus.Timeout) None v (λ e. refl)
+on_looks who h s w t false (Running y k) v = waits who h s w t Reply.Pending (Some w) v (no_other who w)
 on_looks who h s w t last (Ended y n) v = λ k. found_changed (λ z. IsOwn who z.notes) t h gone (λ r. refl) s.tasks v.0 v.1 v.2 (λ r i a f. absurd (not_pending y (k (eq-eqb t h i)).1))
 
-abbrev Keeps : ℕ → ℕ → State → Reply → List Move → Type 0
-Keeps who h s r ms = Own who h (after_moves ms s)
+-- what holds where nothing is done holds behind the ops that change what is noted of a task that watches or tallies: there is none
+pub none_noted : (K : Reply → List Move → Type 0) (s : State) (w : ℕ) (o : Op) (r : Reply) → IsCalm s → notes_tasks o ≡ true → ((t : TaskHandle) (last : Bool) → o ≡ Op.TaskLook t last → ⊥) → ((x : Reply) → K x []) → Allows (row s w o r) r → K r (moves_of (row s w o r))
+none_noted K s w (Op.TaskLook t last) r c n u z a = absurd (u t last refl)
+none_noted K s w (Op.Asked t) r c n u z a = given K (row s w (Op.Asked t) r) r z (λ d. on_live K (live_object s.tasks t.0) _ _ (z _) (λ x e f. absurd (none_impure s w t.0 Kind.Watch x c refl e f))) a
+none_noted K s w (Op.TallyLock t) r c n u z a = given K (row s w (Op.TallyLock t) r) r z (λ d. on_live K (live_object s.tasks t.0) _ _ (z _) (λ x e f. absurd (none_impure s w t.0 Kind.Tally x c refl e f))) a
+none_noted K s w (Op.TallyRead t) r c n u z a = given K (row s w (Op.TallyRead t) r) r z (λ d. on_live K (live_object s.tasks t.0) _ _ (z _) (λ x e f. absurd (none_impure s w t.0 Kind.Tally x c refl e f))) a
+none_noted K s w (Op.TallyWrite t value) r c n u z a = given K (row s w (Op.TallyWrite t value) r) r z (λ d. on_live K (live_object s.tasks t.0) _ _ (z _) (λ x e f. absurd (none_impure s w t.0 Kind.Tally x c refl e f))) a
+none_noted K s w _ r c n u z a = true_false n refl
 
-noted : (who h : ℕ) (s : State) (w : ℕ) (o : Op) (r : Reply) → IsCalm s → notes_tasks o ≡ true → (looks_at h o ≡ true → (w ≡ who) × (r ≡ reply.Pending)) → Allows (row s w o r) r → Own who h s → Own who h (after_row s (row s w o r))
-noted who h s w (op.TaskLook t last) r c n k a v =
-    given (Looks who h s w t.0) (row s w (op.TaskLook t last) r) r (λ x i. v)
+noted : (who h : ℕ) (s : State) (w : ℕ) (o : Op) (r : Reply) → IsCalm s → notes_tasks o ≡ true → (looks_at h o ≡ true → (w ≡ who) × (r ≡ Reply.Pending)) → Allows (row s w o r) r → Own who h s → Own who h (after_row s (row s w o r))
+noted who h s w (Op.TaskLook t last) r c n k a v =
+    given (Looks who h s w t.0) (row s w (Op.TaskLook t last) r) r (λ x i. v)
     (λ d. on_live (Looks who h s w t.0) (live_object s.tasks t.0) _ _ (λ i. v) (λ x e f g. on_looks who h s w t.0 last x.state v)) a k
-noted who h s w (op.Asked t) r c n k a v =
-    given (Keeps who h s) (row s w (op.Asked t) r) r (λ x. v) (λ d. on_live (Keeps who h s) (live_object s.tasks t.0) _ _ v (λ x e f. absurd (none_impure s w t.0 kind.Watch x c refl e f))) a
-noted who h s w (op.TallyLock t) r c n k a v =
-    given (Keeps who h s) (row s w (op.TallyLock t) r) r (λ x. v) (λ d. on_live (Keeps who h s) (live_object s.tasks t.0) _ _ v (λ x e f. absurd (none_impure s w t.0 kind.Tally x c refl e f))) a
-noted who h s w (op.TallyRead t) r c n k a v =
-    given (Keeps who h s) (row s w (op.TallyRead t) r) r (λ x. v) (λ d. on_live (Keeps who h s) (live_object s.tasks t.0) _ _ v (λ x e f. absurd (none_impure s w t.0 kind.Tally x c refl e f))) a
-noted who h s w (op.TallyWrite t value) r c n k a v =
-    given (Keeps who h s) (row s w (op.TallyWrite t value) r) r (λ x. v) (λ d. on_live (Keeps who h s) (live_object s.tasks t.0) _ _ v (λ x e f. absurd (none_impure s w t.0 kind.Tally x c refl e f))) a
-noted who h s w _ r c n k a v = true_false n refl
+noted who h s w o r c n k a v = none_noted (λ x ms. Own who h (after_moves ms s)) s w o r c n (λ t last e. cc) (λ x. v) a
 
-own_next : (who h : ℕ) (s : State) (e : NodeEntry) → IsNext s e → is_quiet e.op ≡ true → IsCalm s → (looks_at h e.op ≡ true → (e.who ≡ who) × (e.reply ≡ reply.Pending)) → Own who h s → Own who h (next s e)
+own_next : (who h : ℕ) (s : State) (e : NodeEntry) → IsNext s e → is_quiet e.op ≡ true → IsCalm s → (looks_at h e.op ≡ true → (e.who ≡ who) × (e.reply ≡ Reply.Pending)) → Own who h s → Own who h (next s e)
 own_next who h s e i q c k v = by_notes (notes_tasks e.op) refl
   where
     by_notes : (b : Bool) → notes_tasks e.op ≡ b → Own who h (next s e)
@@ -173,22 +160,22 @@ found_live : {T : Type 0} (o : Option T) (t : T) (v : Row) (f : T → Row) (r : 
 found_live None t v f r e a = absurd (cc)
 found_live (Some y) t v f r e a = subst (λ z. Allows (f z) r) (some_same e) a
 
-told : (w h : ℕ) (x : TaskState) (r : Reply) → Allows (looks_row w h false x) r → (r ≡ reply.Pending) ⊎ ((end : TaskEnd) × (r ≡ reply.Ended end))
+told : (w h : ℕ) (x : TaskState) (r : Reply) → Allows (looks_row w h false x) r → (r ≡ Reply.Pending) ⊎ ((end : TaskEnd) × (r ≡ Reply.Ended end))
 told w h Scheduled r a = inl a
 told w h (Running v k) r a = inl a
 told w h (Ended e n) r a = inr (e, a)
 
 pub quiet_looks_are_answered : QuietLooksAreAnswered
 quiet_looks_are_answered terms L who t r x y =
-    let o : Op = op.TaskLook t false in
+    let o : Op = Op.TaskLook t false in
     let s : State = after terms L in
-    let L0 : LegalFrom (opening terms) (y.before ++ entry y.starter y.op (reply.Handle t.0) ∷ y.behind) = subst (LegalFrom (opening terms)) y.is (before terms L who o r x).from in
+    let L0 : LegalFrom (opening terms) (y.before ++ entry y.starter y.op (Reply.Handle t.0) ∷ y.behind) = subst (LegalFrom (opening terms)) y.is (before terms L who o r x).from in
     let first : State = after_from (opening terms) y.before in
-    let quiet : AreQuiet (y.before ++ entry y.starter y.op (reply.Handle t.0) ∷ y.behind) = subst AreQuiet y.is x.quiet in
-    let behind : AreQuiet (entry y.starter y.op (reply.Handle t.0) ∷ y.behind) = quiet_rest y.before (entry y.starter y.op (reply.Handle t.0) ∷ y.behind) quiet in
-    let step : IsNext first (entry y.starter y.op (reply.Handle t.0)) = cut_from (opening terms) y.before y.behind (entry y.starter y.op (reply.Handle t.0)) L0 in
-    let calm : IsCalm (next first (entry y.starter y.op (reply.Handle t.0))) = calm_next first (entry y.starter y.op (reply.Handle t.0)) step behind.0 (calm_along (opening terms) y.before (Legal-front (opening terms) y.before _ L0) (quiet_front y.before _ quiet) (calm_opening terms)) in
-    let there : Own who t.0 (after_from (next first (entry y.starter y.op (reply.Handle t.0))) y.behind) = own_along who t.0 _ y.behind (legal_behind (opening terms) y.before (entry y.starter y.op (reply.Handle t.0)) y.behind L0) behind.1 calm y.left (started_own who t.0 first y.starter y.op step y.alone) in
-    let own : Own who t.0 s = subst (λ (M : List NodeEntry). Own who t.0 (after terms M)) (sym y.is) (subst (Own who t.0) (sym (cut_after (opening terms) y.before y.behind (entry y.starter y.op (reply.Handle t.0)))) there) in
-    let looked : Allows (looks_row who t.0 false own.0.state) r = passed (is_other who own.0.notes.waiter) (reply.Mtapi m.ErrWaitPending) (looks_row who t.0 false own.0.state) r own.2.waiter (passed (own.0.notes.detached || is_some own.0.notes.group) (reply.Mtapi m.ErrParameter) (unless (is_other who own.0.notes.waiter) (reply.Mtapi m.ErrWaitPending) (looks_row who t.0 false own.0.state)) r (λ i. own.2.kept i || is_some (own.2.alone i)) (found_live (live_object s.tasks t.0) own.0 (gives tasks.invalid []) (λ z. unless (z.notes.detached || is_some z.notes.group) (reply.Mtapi m.ErrParameter) (unless (is_other who z.notes.waiter) (reply.Mtapi m.ErrWaitPending) (looks_row who t.0 false z.state))) r own.1 (passed (not (is_up s.phase)) (reply.Mtapi m.ErrNodeNotinit) (live (live_object s.tasks t.0) (gives tasks.invalid []) (λ z. unless (z.notes.detached || is_some z.notes.group) (reply.Mtapi m.ErrParameter) (unless (is_other who z.notes.waiter) (reply.Mtapi m.ErrWaitPending) (looks_row who t.0 false z.state)))) r (open_up s.phase (open_now terms L who o r x)) (allowed terms L who o r x)))) in
+    let quiet : AreQuiet (y.before ++ entry y.starter y.op (Reply.Handle t.0) ∷ y.behind) = subst AreQuiet y.is x.quiet in
+    let behind : AreQuiet (entry y.starter y.op (Reply.Handle t.0) ∷ y.behind) = quiet_rest y.before (entry y.starter y.op (Reply.Handle t.0) ∷ y.behind) quiet in
+    let step : IsNext first (entry y.starter y.op (Reply.Handle t.0)) = cut_from (opening terms) y.before y.behind (entry y.starter y.op (Reply.Handle t.0)) L0 in
+    let calm : IsCalm (next first (entry y.starter y.op (Reply.Handle t.0))) = calm_next first (entry y.starter y.op (Reply.Handle t.0)) step behind.0 (calm_along (opening terms) y.before (Legal-front (opening terms) y.before _ L0) (quiet_front y.before _ quiet) (calm_opening terms)) in
+    let there : Own who t.0 (after_from (next first (entry y.starter y.op (Reply.Handle t.0))) y.behind) = own_along who t.0 _ y.behind (legal_behind (opening terms) y.before (entry y.starter y.op (Reply.Handle t.0)) y.behind L0) behind.1 calm y.left (started_own who t.0 first y.starter y.op step y.alone) in
+    let own : Own who t.0 s = subst (λ (M : List NodeEntry). Own who t.0 (after terms M)) (sym y.is) (subst (Own who t.0) (sym (cut_after (opening terms) y.before y.behind (entry y.starter y.op (Reply.Handle t.0)))) there) in
+    let looked : Allows (looks_row who t.0 false own.0.state) r = passed (is_other who own.0.notes.waiter) (Reply.Mtapi MtapiStatus.ErrWaitPending) (looks_row who t.0 false own.0.state) r own.2.waiter (passed (own.0.notes.detached || is_some own.0.notes.group) (Reply.Mtapi MtapiStatus.ErrParameter) (unless (is_other who own.0.notes.waiter) (Reply.Mtapi MtapiStatus.ErrWaitPending) (looks_row who t.0 false own.0.state)) r (λ i. own.2.kept i || is_some (own.2.alone i)) (found_live (live_object s.tasks t.0) own.0 (gives tasks.invalid []) (λ z. unless (z.notes.detached || is_some z.notes.group) (Reply.Mtapi MtapiStatus.ErrParameter) (unless (is_other who z.notes.waiter) (Reply.Mtapi MtapiStatus.ErrWaitPending) (looks_row who t.0 false z.state))) r own.1 (passed (not (is_up s.phase)) (Reply.Mtapi MtapiStatus.ErrNodeNotinit) (live (live_object s.tasks t.0) (gives tasks.invalid []) (λ z. unless (z.notes.detached || is_some z.notes.group) (Reply.Mtapi MtapiStatus.ErrParameter) (unless (is_other who z.notes.waiter) (Reply.Mtapi MtapiStatus.ErrWaitPending) (looks_row who t.0 false z.state)))) r (open_up s.phase (open_now terms L who o r x)) (allowed terms L who o r x)))) in
     told who t.0 own.0.state r looked

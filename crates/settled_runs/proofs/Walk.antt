@@ -1,44 +1,34 @@
 -- In a run of a settled workload each statement that makes an object is given its handle.
-use Rattle.settled_runs.proofs.Names.{◌≡◌, ℕ, zero, suc, ◌+◌, ◌≤◌, Bool, true, false, List, [], ◌∷◌, Option, Some, refl, ◌∙◌, ap, subst, arith, ◌==◌, not, nat_lt, map, slice_get, eq-eqb, eqb-true, nat_tests, holds, how_many, Queue, Deed, Statement, fields, word_for, values, AllFit, IsBoundAt, IsStatement, AreStatements, Op, Reply, handle_of, some_same, fst_true, snd_true, handle_at, call_of, Line, Made, true_false, puts, queue_in, puts_into, deed_spelled, Carried, keep_limits, not_true, Each, ◌⊎◌, inl, inr, ◌<◌, ◌++◌, None, sym, ℤ, ◌&&◌, nat_le, option_and_then, IfSome, option_map, list_any, append-nil, Mask, Layout, entry, Action, new_action, is_job, has_job, has_enabled_job, is_eligible, some_below, Workload, Terms, NodeEntry, both_true, group_at, line, closes, entries_that, run_terms, Part, IsOpened, HasAction, IsServed, GroupIsMade, Asks, IsGranted, IsQueued, actions_in, queue_at, serves, is_startable, sets_up, set_up, GrantedTo, AllGranted, SettledRun, lines_of, task_in, is_settled_deed, cond_both, or_left, or_right, none_some, GroupHandle}
-use Rattle.workload_file.specs.Table.{row}
-use Rattle.settled_runs.proofs.Granted.{bit, action_granted, group_granted, start_granted, queue_granted, enqueue_granted}
-use Rattle.settled_runs.proofs.Counted.{asked, CallAsks, statements_ask, asks, entries_are, many_append, many_none, many_within, only_asks}
+use Rattle.settled_runs.proofs.Names.{◌≡◌, ℕ, zero, suc, ◌+◌, ◌≤◌, Bool, true, false, List, [], ◌∷◌, Option, Some, refl, ◌∙◌, ap, subst, arith, ◌==◌, not, nat_lt, map, slice_get, eq-eqb, eqb-true, nat_tests, holds, how_many, Queue, Deed, Statement, fields, word_for, values, AllFit, IsBoundAt, IsStatement, AreStatements, Op, Reply, handle_of, some_same, fst_true, snd_true, handle_at, call_of, Line, Made, true_false, puts, queue_in, puts_into, deed_spelled, Carried, keep_limits, not_true, Each, ◌⊎◌, inl, inr, ◌<◌, ◌++◌, None, sym, ℤ, ◌&&◌, nat_le, option_and_then, IfSome, option_map, list_any, append-nil, Mask, Layout, entry, Action, new_action, is_job, has_job, has_enabled_job, is_eligible, some_below, Workload, Terms, NodeEntry, both_true, group_at, line, closes, entries_that, run_terms, Part, IsOpened, HasAction, IsServed, GroupIsMade, Asks, IsGranted, IsQueued, actions_in, queue_at, serves, is_startable, sets_up, set_up, GrantedTo, AllGranted, SettledRun, lines_of, task_in, is_settled_deed, cond_both, or_left, or_right, none_some, GroupHandle, word_row as row, in_mask, MadeBy, puts_entry, Sort, ObjectKind}
 use Rattle.settled_runs.proofs.Each.{is_outside, OnlyBy, PartAt, each_front, each_map, each_of, step_lines}
-use Rattle.mtapi_values.specs.Masks.{in_mask}
-use Rattle.settled_runs.specs.Granted.{Made as MadeBy, puts_into as puts_entry}
+use Rattle.settled_runs.proofs.Granted.{bit, action_granted, group_granted, start_granted, queue_granted, enqueue_granted}
+use Rattle.settled_runs.proofs.Opened.{legal_here, quiet_before, new_id, room, rooms}
+use Rattle.settled_runs.proofs.Counted.{asked, CallAsks, statements_ask, asks, entries_are, many_append, many_none, many_within, only_asks}
 use Rattle.settled_runs.proofs.Along.{Cut, cut, BoundBy, step_bound, step_statement, get_front, bound_by, along, are_front, granted_more, step_settled}
-use Rattle.settled_runs.proofs.Opened.{legal_here, quiet_before, room_for_action, room_for_group, room_for_queue, room_for_task, new_id}
 use Rattle.settled_runs.proofs.Places.{Has, has_more, group_has, HasQueue, queue_has, ActionOf, action_map, action_has, either, queues_list, binds_queue, one_bound}
-use Rattle.workload_file.specs.declared.table.Sort.TheVariants as sort
-use Rattle.workload_file.specs.declared.workload.Deed.TheVariants as deed
-use Rattle.mtapi_machine.specs.declared.ops.Op.TheVariants as op
-use Rattle.mtapi_values.specs.declared.handles.ObjectKind.TheVariants as kinds
-use Rattle.mtapi_machine.specs.declared.replies.Reply.TheVariants as reply
 
 -- How many tasks a part puts into one of its queues
 
--- The statements that put tasks into it
-
 module _ (h place : ℕ) where
-  puts_call : (before : List Statement) (s : Statement) (bound : List ℕ) → IsStatement before s → ((queue : ℕ) → IsBoundAt sort.Queue before queue → handle_at bound queue ≡ h → queue ≡ place) → CallAsks (puts h) (bit (puts_into place s.deed)) (call_of bound s.deed)
+  puts_call : (before : List Statement) (s : Statement) (bound : List ℕ) → IsStatement before s → ((queue : ℕ) → IsBoundAt Sort.Queue before queue → handle_at bound queue ≡ h → queue ≡ place) → CallAsks (puts h) (bit (puts_into place s.deed)) (call_of bound s.deed)
   unfolding row deed_spelled
   puts_call before s bound st only = by s.deed st.options
     where
-      by_place : (queue : ℕ) → IsBoundAt sort.Queue before queue → (b : Bool) → (handle_at bound queue == h) ≡ b → bit b ≤ bit (queue == place)
+      by_place : (queue : ℕ) → IsBoundAt Sort.Queue before queue → (b : Bool) → (handle_at bound queue == h) ≡ b → bit b ≤ bit (queue == place)
       by_place queue o false e = omega arith
       by_place queue o true e = let y : bit (queue == place) ≡ 1 = ap bit (eq-eqb queue place (only queue o (eqb-true (handle_at bound queue) h e))) in omega arith
 
       by : (d : Deed) → AllFit before (fields (word_for d)) (values d) → CallAsks (puts h) (bit (puts_into place d)) (call_of bound d)
-      by (deed.Enqueue queue args cores detached group) o = by_place queue o.0 (handle_at bound queue == h) refl
+      by (Deed.Enqueue queue args cores detached group) o = by_place queue o.0 (handle_at bound queue == h) refl
       by _ o = omega arith
 
-  pub puts_carried : (all : List Statement) (ls : List Line) (rs : List Reply) → Carried Made [] all ls rs → AreStatements [] all → ((other : ℕ) → BoundBy sort.Queue all other → handle_at (map handle_of rs) other ≡ h → other ≡ place) → asked (puts h) ls ≤ how_many (λ s. puts_into place s.deed) all
+  pub puts_carried : (all : List Statement) (ls : List Line) (rs : List Reply) → Carried Made [] all ls rs → AreStatements [] all → ((other : ℕ) → BoundBy Sort.Queue all other → handle_at (map handle_of rs) other ≡ h → other ≡ place) → asked (puts h) ls ≤ how_many (λ s. puts_into place s.deed) all
   puts_carried all ls rs c a only =
       statements_ask (puts h) (puts_into place) all ls rs c
-      (λ b l1 r1 s front r x. puts_call b s (map handle_of r1) (step_statement all ls rs b l1 r1 s front r x a) (λ queue o e. let y = step_bound all ls rs b l1 r1 s front r x sort.Queue queue o in only queue y.0 (y.1 ∙ e)))
+      (λ b l1 r1 s front r x. puts_call b s (map handle_of r1) (step_statement all ls rs b l1 r1 s front r x a) (λ queue o e. let y = step_bound all ls rs b l1 r1 s front r x Sort.Queue queue o in only queue y.0 (y.1 ∙ e)))
 
 pub puts_outside : (h : ℕ) (o : Op) → is_outside o ≡ true → puts h o ≡ false
-puts_outside h (op.TaskEnqueue q args cores detached group) e = true_false e refl
+puts_outside h (Op.TaskEnqueue q args cores detached group) e = true_false e refl
 puts_outside h _ e = refl
 
 -- and the limit of the queue
@@ -79,10 +69,8 @@ pub record Finds (layout : Layout) (load : Workload) (es : List NodeEntry) (ns :
 pub made_before : (es : List NodeEntry) (ns : List ℕ) (who : ℕ) (start l1 : List Line) (l : Line) (B : List Line) (c : Cut who es ns (start ++ l1) l B) (p : Op) (h : ℕ) → Has l1 p h → MadeBy p h c.before
 made_before es ns who start l1 l B c p h x =
     let y : Has (start ++ l1) p h = subst (λ (z : List Line). Has z p h) (ap (λ (z : List Line). start ++ z) (append-nil l1)) (has_more start l1 [] p h x) in
-    let d : Cut who c.before c.first y.before (line p (reply.Handle h) y.beside) y.behind = cut who c.before c.first y.before (line p (reply.Handle h) y.beside) y.behind (c.done ∙ y.is) in
+    let d : Cut who c.before c.first y.before (line p (Reply.Handle h) y.beside) y.behind = cut who c.before c.first y.before (line p (Reply.Handle h) y.beside) y.behind (c.done ∙ y.is) in
     record { before = d.before; who = who; behind = d.behind; is = d.is }
-
--- Small facts
 
 some_worker : (n : ℕ) (p : ℕ → Bool) → some_below n p ≡ true → (w : ℕ) × (w < n) × (p w ≡ true)
 some_worker zero p e = true_false e refl
@@ -106,7 +94,7 @@ sets_all [] place s x e q = absurd (cc)
 sets_all (t ∷ all) zero s x e q = or_left _ _ (by t.deed (ap (λ (z : Statement). queue_in z.deed) (some_same e) ∙ q))
   where
     by : (d : Deed) → queue_in d ≡ Some x → sets_up d ≡ true
-    by (deed.Queue id job priority limit ordered retain) f = refl
+    by (Deed.Queue id job priority limit ordered retain) f = refl
     by _ f = none_some f
 sets_all (t ∷ all) (suc place) s x e q = or_right (sets_up t.deed) _ (sets_all all place s x e q)
 
@@ -133,7 +121,7 @@ module _ (layout : Layout) (load : Workload) (es : List NodeEntry) (ns : List �
       has_action job e =
           let x : MadeAction c.before (has_job job) = action_made (has_job job) e in
           let same : x.job ≡ job = eqb-true x.job job x.passes in
-          record { kind = x.kind; mask = x.mask; handle = x.handle; made = subst (λ (j : ℕ). MadeBy (op.ActionCreate j x.kind x.mask) x.handle c.before) same x.made }
+          record { kind = x.kind; mask = x.mask; handle = x.handle; made = subst (λ (j : ℕ). MadeBy (Op.ActionCreate j x.kind x.mask) x.handle c.before) same x.made }
 
       is_served : (job cores : ℕ) → serves load.settings.workers (known ++ actions_in before) job cores ≡ true → IsServed terms c.before job cores
       is_served job cores e =
@@ -142,19 +130,19 @@ module _ (layout : Layout) (load : Workload) (es : List NodeEntry) (ns : List �
           let a : (has_enabled_job job (new_action x.job x.kind x.mask.0) && nat_lt w.0 load.settings.workers && in_mask w.0 x.mask.0) ≡ true = fst_true _ (in_mask w.0 cores) x.passes in
           let b : (has_enabled_job job (new_action x.job x.kind x.mask.0) && nat_lt w.0 load.settings.workers) ≡ true = fst_true _ (in_mask w.0 x.mask.0) a in
           let same : x.job ≡ job = eqb-true x.job job (fst_true _ (nat_lt w.0 load.settings.workers) b) in
-          record { kind = x.kind; mask = x.mask; handle = x.handle; made = subst (λ (j : ℕ). MadeBy (op.ActionCreate j x.kind x.mask) x.handle c.before) same x.made; worker = w.0; is_worker = w.1; in_action = snd_true _ (in_mask w.0 x.mask.0) a; in_task = snd_true _ (in_mask w.0 cores) x.passes }
+          record { kind = x.kind; mask = x.mask; handle = x.handle; made = subst (λ (j : ℕ). MadeBy (Op.ActionCreate j x.kind x.mask) x.handle c.before) same x.made; worker = w.0; is_worker = w.1; in_action = snd_true _ (in_mask w.0 x.mask.0) a; in_task = snd_true _ (in_mask w.0 cores) x.passes }
 
-      group_made : (group : Option ℕ) → IfSome group (IsBoundAt sort.Group before) → GroupIsMade (option_map (group_at (map handle_of r1)) group) c.before
+      group_made : (group : Option ℕ) → IfSome group (IsBoundAt Sort.Group before) → GroupIsMade (option_map (group_at (map handle_of r1)) group) c.before
       group_made None i = tt
       group_made (Some g) i =
-          let b : BoundBy sort.Group before g = bound_by sort.Group before g i in
-          made op.GroupCreate (handle_at (map handle_of r1) g) (group_has before l1 r1 c1 g1 g b)
+          let b : BoundBy Sort.Group before g = bound_by Sort.Group before g i in
+          made Op.GroupCreate (handle_at (map handle_of r1) g) (group_has before l1 r1 c1 g1 g b)
 
     module _ (o : Op) (r : Reply) (n : ℕ) (B : List Line) (at : lines_of who es ns ≡ (start ++ l1) ++ line o r n ∷ (B ++ finish)) where
       abbrev c : Cut who es ns (start ++ l1) (line o r n) (B ++ finish)
       c = cut who es ns (start ++ l1) (line o r n) (B ++ finish) at
 
-      few_puts : (queue : ℕ) (b : BoundBy sort.Queue before queue) (x : Queue) → queue_in b.statement.deed ≡ Some x → how_many (λ e. puts_into queue e.deed) all ≡ how_many (λ e. puts_into queue e.deed) before + (1 + how_many (λ e. puts_into queue e.deed) more)
+      few_puts : (queue : ℕ) (b : BoundBy Sort.Queue before queue) (x : Queue) → queue_in b.statement.deed ≡ Some x → how_many (λ e. puts_into queue e.deed) all ≡ how_many (λ e. puts_into queue e.deed) before + (1 + how_many (λ e. puts_into queue e.deed) more)
           → entries_that (puts_entry (handle_at (map handle_of r1) queue)) c.before < x.limit
       few_puts queue b x q parts = by f.alone
         where
@@ -163,7 +151,7 @@ module _ (layout : Layout) (load : Workload) (es : List NodeEntry) (ns : List �
 
           in_part : asked (puts (handle_at (map handle_of r1) queue)) l1 ≤ how_many (λ e. puts_into queue e.deed) before
           in_part = puts_carried (handle_at (map handle_of r1) queue) queue before l1 r1 c1 are
-              (λ other y e. one_bound kinds.Queue sort.Queue binds_queue queues_list terms es ns u.legal who start before l1 r1 (line o r n ∷ (B ++ finish)) at c1 g1 other queue y b e)
+              (λ other y e. one_bound ObjectKind.Queue Sort.Queue binds_queue queues_list terms es ns u.legal who start before l1 r1 (line o r n ∷ (B ++ finish)) at c1 g1 other queue y b e)
 
           by : (set_up all ≡ false) ⊎ ((k : ℕ) → OnlyBy who (puts k) es) → entries_that (puts_entry (handle_at (map handle_of r1) queue)) c.before < x.limit
           by (inl i) = true_false (sets_all all queue b.statement x found q) i
@@ -180,10 +168,10 @@ module _ (layout : Layout) (load : Workload) (es : List NodeEntry) (ns : List �
                   let p3 : asked (puts j) l1 ≤ how_many (λ e0. puts_into queue e0.deed) before = i in
                   omega arith
 
-      is_queued : (queue : ℕ) → IsBoundAt sort.Queue before queue → (x : Queue) → queue_at all queue ≡ Some x → how_many (λ e. puts_into queue e.deed) all ≡ how_many (λ e. puts_into queue e.deed) before + (1 + how_many (λ e. puts_into queue e.deed) more)
+      is_queued : (queue : ℕ) → IsBoundAt Sort.Queue before queue → (x : Queue) → queue_at all queue ≡ Some x → how_many (λ e. puts_into queue e.deed) all ≡ how_many (λ e. puts_into queue e.deed) before + (1 + how_many (λ e. puts_into queue e.deed) more)
           → IsQueued c.before (handle_at (map handle_of r1) queue) x.job x.priority
       is_queued queue i x e parts =
-          let b : BoundBy sort.Queue before queue = bound_by sort.Queue before queue i in
+          let b : BoundBy Sort.Queue before queue = bound_by Sort.Queue before queue i in
           let q : queue_in b.statement.deed ≡ Some x = sym (ap (option_and_then (λ z. queue_in z.deed)) (ap (λ (z : List Statement). slice_get z queue) split ∙ get_front before (s ∷ more) queue b.early ∙ b.found)) ∙ e in
           let y : HasQueue before l1 r1 c1 g1 queue x = queue_has before l1 r1 c1 g1 queue b.statement x b.found q in
           subst (λ (z : Queue). IsQueued c.before (handle_at (map handle_of r1) queue) z.job z.priority) y.same (record {
@@ -191,7 +179,7 @@ module _ (layout : Layout) (load : Workload) (es : List NodeEntry) (ns : List �
             limit = y.limit;
             ordered = y.ordered;
             retain = y.retain;
-            made = made o r n B c (op.QueueCreate y.id y.job y.priority y.limit y.ordered y.retain) (handle_at (map handle_of r1) queue) y.made;
+            made = made o r n B c (Op.QueueCreate y.id y.job y.priority y.limit y.ordered y.retain) (handle_at (map handle_of r1) queue) y.made;
             few = (let k : entries_that (puts_entry (handle_at (map handle_of r1) queue)) c.before < x.limit = few_puts queue b x q parts in
                 subst (λ (m : ℕ). entries_that (puts_entry (handle_at (map handle_of r1) queue)) c.before < m) (sym (ap (λ (z : Queue). z.limit) y.same)) k);
           })
@@ -215,43 +203,41 @@ module _ (layout : Layout) (load : Workload) (es : List NodeEntry) (ns : List �
 
         by_queue : (queue : ℕ) (args : List ℤ) (cores : Mask) (detached : Bool) (group : Option ℕ) → (q : Option Queue) → queue_at all queue ≡ q
             → is_startable load.settings (known ++ actions_in before) (option_map (λ x. record { job = x.job; args = args; priority = x.priority; cores = cores.0; detached = detached; group = group; queue = Some queue }) q) ≡ true
-            → AllFit before (fields (word_for (deed.Enqueue queue args cores detached group))) (values (deed.Enqueue queue args cores detached group)) → how_many (λ e. puts_into queue e.deed) all ≡ how_many (λ e. puts_into queue e.deed) before + (bit (queue == queue) + how_many (λ e. puts_into queue e.deed) more)
-            → Made (call_of (map handle_of r1) (deed.Enqueue queue args cores detached group)) front r → IsGranted r
+            → AllFit before (fields (word_for (Deed.Enqueue queue args cores detached group))) (values (Deed.Enqueue queue args cores detached group)) → how_many (λ e. puts_into queue e.deed) all ≡ how_many (λ e. puts_into queue e.deed) before + (bit (queue == queue) + how_many (λ e. puts_into queue e.deed) more)
+            → Made (call_of (map handle_of r1) (Deed.Enqueue queue args cores detached group)) front r → IsGranted r
         by_queue queue args cores detached group None e k o p n = true_false k refl
         by_queue queue args cores detached group (Some x) e k o p n =
             let t = tests detached x.priority x.job cores.0 k in
-            let v : Op = op.TaskEnqueue (record { 0 = handle_at (map handle_of r1) queue }) args cores false (group_of group) in
-            let h = at_line v (n.0 ∙ ap (λ (b : Bool). line (op.TaskEnqueue (record { 0 = handle_at (map handle_of r1) queue }) args cores b (group_of group)) r 0 ∷ []) t.0) in
+            let v : Op = Op.TaskEnqueue (record { 0 = handle_at (map handle_of r1) queue }) args cores false (group_of group) in
+            let h = at_line v (n.0 ∙ ap (λ (b : Bool). line (Op.TaskEnqueue (record { 0 = handle_at (map handle_of r1) queue }) args cores b (group_of group)) r 0 ∷ []) t.0) in
             let one : bit (queue == queue) ≡ 1 = ap bit (eq-eqb queue queue refl) in
             let parts : how_many (λ y. puts_into queue y.deed) all ≡ how_many (λ y. puts_into queue y.deed) before + (1 + how_many (λ y. puts_into queue y.deed) more) = (let z : how_many (λ y. puts_into queue y.deed) all ≡ how_many (λ y. puts_into queue y.deed) before + (bit (queue == queue) + how_many (λ y. puts_into queue y.deed) more) = p in omega arith) in
             enqueue_granted terms (c v r 0 B h).before who r (record { 0 = handle_at (map handle_of r1) queue }) x.job x.priority args cores (group_of group) (asking v r 0 B (c v r 0 B h)) (is_queued v r 0 B h queue o.0 x e parts)
-            (room_for_task layout load es ns u who (start ++ l1) (line v r 0) (B ++ finish) (c v r 0 B h) refl) (is_served v r 0 B (c v r 0 B h) x.job cores.0 t.2) (group_made v r 0 B (c v r 0 B h) group o.1.1.1.1.0)
+            (room layout load es ns u who (start ++ l1) (line v r 0) (B ++ finish) (c v r 0 B h) ObjectKind.Task (rooms load u.settled).3 refl) (is_served v r 0 B (c v r 0 B h) x.job cores.0 t.2) (group_made v r 0 B (c v r 0 B h) group o.1.1.1.1.0)
 
         by : (d : Deed) → is_settled_deed load.settings (known ++ actions_in before) before all d ≡ true → AllFit before (fields (word_for d)) (values d)
             → ((queue : ℕ) → how_many (λ e. puts_into queue e.deed) all ≡ how_many (λ e. puts_into queue e.deed) before + (bit (puts_into queue d) + how_many (λ e. puts_into queue e.deed) more)) → Made (call_of (map handle_of r1) d) front r → GrantedTo d r
-        by (deed.Action job kind cores) e o p n =
-            let v : Op = op.ActionCreate job kind cores in
+        by (Deed.Action job kind cores) e o p n =
+            let v : Op = Op.ActionCreate job kind cores in
             let h = at_line v n.0 in
-            action_granted terms (c v r 0 B h).before who r job kind cores (asking v r 0 B (c v r 0 B h)) (in_jobs job o.0.0 o.0.1) (room_for_action layout load es ns u who (start ++ l1) (line v r 0) (B ++ finish) (c v r 0 B h) refl)
-        by deed.Group e o p n = let h = at_line op.GroupCreate n.0 in group_granted terms (c op.GroupCreate r 0 B h).before who r (asking op.GroupCreate r 0 B (c op.GroupCreate r 0 B h)) (room_for_group layout load es ns u who (start ++ l1) (line op.GroupCreate r 0) (B ++ finish) (c op.GroupCreate r 0 B h) refl)
-        by (deed.Queue id job priority limit ordered retain) e o p n =
-            let v : Op = op.QueueCreate id job priority limit ordered retain in
+            action_granted terms (c v r 0 B h).before who r job kind cores (asking v r 0 B (c v r 0 B h)) (in_jobs job o.0.0 o.0.1) (room layout load es ns u who (start ++ l1) (line v r 0) (B ++ finish) (c v r 0 B h) ObjectKind.Action (rooms load u.settled).0 refl)
+        by Deed.Group e o p n = let h = at_line Op.GroupCreate n.0 in group_granted terms (c Op.GroupCreate r 0 B h).before who r (asking Op.GroupCreate r 0 B (c Op.GroupCreate r 0 B h)) (room layout load es ns u who (start ++ l1) (line Op.GroupCreate r 0) (B ++ finish) (c Op.GroupCreate r 0 B h) ObjectKind.Group (rooms load u.settled).1 refl)
+        by (Deed.Queue id job priority limit ordered retain) e o p n =
+            let v : Op = Op.QueueCreate id job priority limit ordered retain in
             let h = at_line v n.0 in
             queue_granted terms (c v r 0 B h).before who r id job priority limit ordered retain (asking v r 0 B (c v r 0 B h)) (less priority load.settings.priorities (fst_true _ (list_any (has_job job) (known ++ actions_in before)) e)) o.1.1.1.0
-            (room_for_queue layout load es ns u who (start ++ l1) (line v r 0) (B ++ finish) (c v r 0 B h) refl) (has_action v r 0 B (c v r 0 B h) job (snd_true (nat_lt priority load.settings.priorities) _ e)) (new_id layout load es ns u who (start ++ l1) (line v r 0) (B ++ finish) (c v r 0 B h) id (eq-eqb id id refl))
-        by (deed.Start job args priority cores detached group) e o p n =
+            (room layout load es ns u who (start ++ l1) (line v r 0) (B ++ finish) (c v r 0 B h) ObjectKind.Queue (rooms load u.settled).2 refl) (has_action v r 0 B (c v r 0 B h) job (snd_true (nat_lt priority load.settings.priorities) _ e)) (new_id layout load es ns u who (start ++ l1) (line v r 0) (B ++ finish) (c v r 0 B h) id (eq-eqb id id refl))
+        by (Deed.Start job args priority cores detached group) e o p n =
             let t = tests detached priority job cores.0 e in
-            let v : Op = op.TaskStart job args priority cores false (group_of group) in
-            let h = at_line v (n.0 ∙ ap (λ (b : Bool). line (op.TaskStart job args priority cores b (group_of group)) r 0 ∷ []) t.0) in
+            let v : Op = Op.TaskStart job args priority cores false (group_of group) in
+            let h = at_line v (n.0 ∙ ap (λ (b : Bool). line (Op.TaskStart job args priority cores b (group_of group)) r 0 ∷ []) t.0) in
             start_granted terms (c v r 0 B h).before who r job args priority cores (group_of group) (asking v r 0 B (c v r 0 B h)) (less priority load.settings.priorities t.1)
-            (room_for_task layout load es ns u who (start ++ l1) (line v r 0) (B ++ finish) (c v r 0 B h) refl) (is_served v r 0 B (c v r 0 B h) job cores.0 t.2) (group_made v r 0 B (c v r 0 B h) group o.1.1.1.1.1.0)
-        by (deed.Enqueue queue args cores detached group) e o p n = by_queue queue args cores detached group (queue_at all queue) refl e o (p queue) n
-        by deed.Begin e o p n = tt
-        by (deed.Wait place timeout) e o p n = tt
-        by (deed.WaitAll place timeout) e o p n = tt
+            (room layout load es ns u who (start ++ l1) (line v r 0) (B ++ finish) (c v r 0 B h) ObjectKind.Task (rooms load u.settled).3 refl) (is_served v r 0 B (c v r 0 B h) job cores.0 t.2) (group_made v r 0 B (c v r 0 B h) group o.1.1.1.1.1.0)
+        by (Deed.Enqueue queue args cores detached group) e o p n = by_queue queue args cores detached group (queue_at all queue) refl e o (p queue) n
+        by Deed.Begin e o p n = tt
+        by (Deed.Wait place timeout) e o p n = tt
+        by (Deed.WaitAll place timeout) e o p n = tt
         by _ e o p n = true_false e refl
-
--- A part
 
 -- a seat that runs a part of the workload
 pub record Seat (layout : Layout) (load : Workload) (es : List NodeEntry) (ns : List ℕ) (w : ℕ) (p : Part) (rs : List Reply) : Type 0 where
