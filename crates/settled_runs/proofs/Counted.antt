@@ -20,10 +20,8 @@ module _ {X : Type 0} where
   many_or p q r (x ∷ xs) a = let k : how_many p xs ≤ how_many q xs + how_many r xs = many_or p q r xs a.1 in by (p x) (q x) (r x) a.0 k
     where
       by : (a b c : Bool) → (a ≡ true → (b || c) ≡ true) → how_many p xs ≤ how_many q xs + how_many r xs → bit a + how_many p xs ≤ (bit b + how_many q xs) + (bit c + how_many r xs)
-      by false b c f k = omega arith
-      by true true c f k = omega arith
-      by true false true f k = omega arith
       by true false false f k = true_false (f refl) refl
+      by _ _ _ f k = omega arith
 
   pub many_within : (p q : X → Bool) (xs : List X) → Each (λ x. p x ≡ true → q x ≡ true) xs → how_many p xs ≤ how_many q xs
   many_within p q [] a = omega arith
@@ -40,6 +38,13 @@ asks p es = how_many (λ e. p e.op) es
 
 abbrev pub asked : (Op → Bool) → List Line → ℕ
 asked p ls = how_many (λ l. p l.op) ls
+
+-- entries that pass ask for it, so they are no more than those that ask
+pub entries_asks : (p : Op → Bool) (q : NodeEntry → Bool) → ((e : NodeEntry) → q e ≡ true → p e.op ≡ true) → (L : List NodeEntry) → entries_that q L ≤ asks p L
+entries_asks p q f L =
+    let a : how_many q L ≤ asks p L = many_within q (λ e. p e.op) L (each_of (λ (e : NodeEntry). q e ≡ true → p e.op ≡ true) f L) in
+    let b : entries_that q L ≡ how_many q L = entries_are q L in
+    omega arith
 
 -- the lines of a seat are its entries
 own_asks : (p : Op → Bool) (who : ℕ) (es : List NodeEntry) (ns : List ℕ) → length es ≡ length ns → how_many (λ e. (e.who == who) && p e.op) es ≡ asked p (lines_of who es ns)

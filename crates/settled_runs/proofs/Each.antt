@@ -1,5 +1,5 @@
 -- What holds of each line of a seat, and of each entry of a run.
-use Rattle.settled_runs.proofs.Names.{Each, list_any, list_all, flat_map, ap, append_assoc, arith, cond, refl, suc, sym, ◌∙◌, Bool, List, None, Option, Some, [], false, length, true, ℕ, ◌++◌, ◌+◌, ◌<◌, ◌∷◌, ◌≡◌, ◌≤◌, subst, append-nil, eq-eqb, eqb-true, or_left, or_right, list_any-append, nat_lt, not, ◌&&◌, ◌==◌, nat_tests, Made, line, Line, before_it, head_of, in_lines, tail_of_main, Action, BySeats, Call, Looking, Once, CallerRan, MainRan, PartsRan, NodeEntry, NodeSettings, Op, Part, Reply, RunOf, WorkerRan, is_work, Statement, Workload, entry, fst_true, not_true, snd_true, true_false, has_room, are_settled_parts, has_one_fault_a_group, is_settled_further, is_settled_part, set_up, action_in, actions_in, all_statements, lines_of, CallersRan, Carried, has_begin, all_work, are_settled, has_different_ids, has_one_kind_a_job, is_settled, keep_limits, sets_up_first, inl, inr, cases_eq, cond_both, and_parts, Timeout, Looked}
+use Rattle.settled_runs.proofs.Names.{Each, list_any, list_all, flat_map, ap, append_assoc, arith, cond, refl, suc, sym, ◌∙◌, Bool, List, None, Option, Some, [], false, length, true, ℕ, ◌++◌, ◌+◌, ◌<◌, ◌∷◌, ◌≡◌, ◌≤◌, subst, append-nil, eq-eqb, eqb-true, or_left, or_right, list_any-append, nat_lt, not, ◌&&◌, ◌==◌, nat_tests, Made, line, Line, before_it, head_of, in_lines, tail_of_main, Action, BySeats, Call, Looking, Once, CallerRan, MainRan, PartsRan, NodeEntry, NodeSettings, Op, Part, Reply, RunOf, WorkerRan, is_work, Statement, Workload, entry, fst_true, not_true, snd_true, true_false, has_room, are_settled_parts, has_one_fault_a_group, is_settled_further, is_settled_part, set_up, action_in, actions_in, all_statements, lines_of, CallersRan, Carried, has_begin, all_work, are_settled, has_different_ids, has_one_kind_a_job, is_settled, keep_limits, sets_up_first, inl, inr, cases_eq, cond_both, and_parts, Timeout, Looked, whether}
 use Rattle.settled_runs.proofs.Along.{Step, along}
 
 module _ {X : Type 0} (P : X → Type 0) where
@@ -270,18 +270,12 @@ module _ (load : Workload) (es : List NodeEntry) (ns : List ℕ) where
     run_parts e = parts_at load.parts run.replies run.parts e (λ p i. i)
 
     pub run_each : (Q : NodeEntry → Type 0) → ((w : ℕ) (o : Op) (r : Reply) → is_at_work o ≡ true → Q (entry w o r)) → AllSeats (λ w p rs. Each (λ l. Q (entry w l.op l.reply)) (lines_of w es ns)) load.settings.workers load.parts run.replies → Each Q es
-    run_each Q out parts = entries_each Q (load.settings.workers + length load.parts) es ns same b (λ w i. by w i (nat_lt w load.settings.workers) refl)
-      where
-        by : (w : ℕ) → w < load.settings.workers + length load.parts → (c : Bool) → nat_lt w load.settings.workers ≡ c → Each (λ l. Q (entry w l.op l.reply)) (lines_of w es ns)
-        by w i true j = each_map (λ (l : Line). is_at_work l.op ≡ true) (λ (l : Line). Q (entry w l.op l.reply)) (λ l k. out w l.op l.reply k) (lines_of w es ns) (worker_each (lines_of w es ns) (run.workers w (grind (arith, nat_tests))))
-        by w i false j = seat_of (λ v. Each (λ l. Q (entry v l.op l.reply)) (lines_of v es ns)) load.settings.workers load.parts run.replies parts w (grind (arith, nat_tests)) i
+    run_each Q out parts = entries_each Q (load.settings.workers + length load.parts) es ns same b (λ w i. whether (nat_lt w load.settings.workers)
+        (λ j. each_map (λ (l : Line). is_at_work l.op ≡ true) (λ (l : Line). Q (entry w l.op l.reply)) (λ l k. out w l.op l.reply k) (lines_of w es ns) (worker_each (lines_of w es ns) (run.workers w (grind (arith, nat_tests)))))
+        (λ j. seat_of (λ v. Each (λ l. Q (entry v l.op l.reply)) (lines_of v es ns)) load.settings.workers load.parts run.replies parts w (grind (arith, nat_tests)) i))
 
     -- where no other seat's lines ask for it, only this seat does
     pub only_by : (who : ℕ) (p : Op → Bool) → ((o : Op) → is_at_work o ≡ true → p o ≡ false) → AllSeats (λ w q rs. (w == who) ≡ false → Each (λ l. p l.op ≡ false) (lines_of w es ns)) load.settings.workers load.parts run.replies → OnlyBy who p es
     only_by who p out parts =
         run_each (λ e. p e.op ≡ true → e.who ≡ who) (λ w o r k i. true_false i (out o k))
-        (map_seats (λ w q rs. (w == who) ≡ false → Each (λ l. p l.op ≡ false) (lines_of w es ns)) (λ w q rs. Each (λ l. p l.op ≡ true → w ≡ who) (lines_of w es ns)) 0 (λ w q rs l x. by w (w == who) refl x) load.settings.workers load.parts run.replies (omega arith) parts)
-      where
-        by : (w : ℕ) (c : Bool) → (w == who) ≡ c → ((w == who) ≡ false → Each (λ l. p l.op ≡ false) (lines_of w es ns)) → Each (λ l. p l.op ≡ true → w ≡ who) (lines_of w es ns)
-        by w true i x = each_of (λ (l : Line). p l.op ≡ true → w ≡ who) (λ l j. eqb-true w who i) (lines_of w es ns)
-        by w false i x = each_map (λ (l : Line). p l.op ≡ false) (λ (l : Line). p l.op ≡ true → w ≡ who) (λ l k j. true_false j k) (lines_of w es ns) (x i)
+        (map_seats (λ w q rs. (w == who) ≡ false → Each (λ l. p l.op ≡ false) (lines_of w es ns)) (λ w q rs. Each (λ l. p l.op ≡ true → w ≡ who) (lines_of w es ns)) 0 (λ w q rs l x. whether (w == who) (λ i. each_of (λ (l : Line). p l.op ≡ true → w ≡ who) (λ l j. eqb-true w who i) (lines_of w es ns)) (λ i. each_map (λ (l : Line). p l.op ≡ false) (λ (l : Line). p l.op ≡ true → w ≡ who) (λ l k j. true_false j k) (lines_of w es ns) (x i))) load.settings.workers load.parts run.replies (omega arith) parts)

@@ -1,5 +1,5 @@
 -- In a quiet history a call isn't refused for which there is room and all that it needs.
-use Rattle.settled_runs.proofs.Names.{◌≡◌, ℕ, ◌+◌, ◌≤◌, ◌<◌, Bool, true, false, cond, List, [], ◌∷◌, refl, ◌∙◌, arith, length, ◌==◌, ◌&&◌, not, nat_tests, entry, ObjectKind, how_many, Listed, live_object, Task, NewTask, new_task, Op, Reply, Handle, Mtapi, Terms, State, opening, Move, starts_task, apply, after_moves, Allows, after_row, NodeEntry, IsNext, next, after, SameTask, given, on_only, by_moves, objects_of, entries_that, true_false, is_handle, makes_one, HasRoom, live_of, issue, retired, is_full, row, LegalFrom, after_from, zero, suc, ◌++◌, Option, Some, None, sym, ap, subst, ℤ, ◌||◌, nat_lt, is_none, is_some, eq-eqb, holds, Kind, Mask, GroupHandle, lookup, any_live, any_listed, Action, new_action, is_job, has_job, has_enabled_job, is_eligible, some_below, Ok, Phase, New, Open, Closing, Closed, workers, is_open, phase_is, makes, alters, removes, is_served, Row, unless, gives, never, only, number_of, Legal, IsMade, turns, Legal-front, some_same, sorts_keep, closes, NoClose, cut_from, cut_after, AreQuiet, IsOpened, IsServed, GroupIsMade, Asks, IsGranted, has_worker, inl, inr, cases_eq, cond_both, QuietCallsAreGranted, nat_le, QueueHandle, count_listed, with_fields, gone, is_unended, Queue, is_in, is_unended_in, queues, Queues, is_fresh, handle_of, live, new_queue, AltersObject, makes_kind, some_entry, none_first, Every, every_issue, every_change, sort_move, HasAction, makes_queue, puts, IsQueued, both_true, generation_of, makes_object, FieldsOf, AgesEach, SameFields, kind_move, terms_stay, puts_entry as puts_into, MtapiStatus, whether}
+use Rattle.settled_runs.proofs.Names.{◌≡◌, ℕ, ◌+◌, ◌≤◌, ◌<◌, Bool, true, false, cond, List, [], ◌∷◌, refl, ◌∙◌, arith, length, ◌==◌, ◌&&◌, not, nat_tests, entry, ObjectKind, how_many, Listed, live_object, Task, NewTask, new_task, Op, Reply, Handle, Mtapi, Terms, State, opening, Move, starts_task, apply, after_moves, Allows, after_row, NodeEntry, IsNext, next, after, SameTask, given, on_only, by_moves, objects_of, entries_that, true_false, is_handle, makes_one, HasRoom, live_of, issue, retired, is_full, row, LegalFrom, after_from, zero, suc, ◌++◌, Option, Some, None, sym, ap, subst, ℤ, ◌||◌, nat_lt, is_none, is_some, eq-eqb, holds, Kind, Mask, GroupHandle, lookup, any_live, any_listed, Action, new_action, is_job, has_job, has_enabled_job, is_eligible, some_below, Ok, Phase, Open, Closing, Closed, workers, is_open, phase_is, makes, alters, removes, is_served, Row, unless, gives, never, only, number_of, Legal, IsMade, turns, Legal-front, some_same, sorts_keep, closes, NoClose, cut_from, cut_after, AreQuiet, IsOpened, IsServed, GroupIsMade, Asks, IsGranted, has_worker, inl, inr, cases_eq, cond_both, QuietCallsAreGranted, nat_le, QueueHandle, count_listed, with_fields, gone, is_unended, Queue, is_in, is_unended_in, queues, Queues, is_fresh, handle_of, live, new_queue, AltersObject, makes_kind, some_entry, none_first, Every, every_issue, every_change, sort_move, HasAction, makes_queue, puts, IsQueued, both_true, generation_of, makes_object, FieldsOf, AgesEach, SameFields, kind_move, terms_stay, puts_entry as puts_into, MtapiStatus, whether}
 use Rattle.settled_runs.proofs.Stays.{made_objects_stay, AskedAs, on_start}
 
 -- How many objects a history made, and room for another
@@ -37,9 +37,8 @@ module _ {T : Type 0} where
   length_live last (r ∷ rs) = by_live r.live (generation_of r.handle == last) (length_live last rs)
     where
       by_live : (a b : Bool) → length (live_of rs) + retired last rs ≤ issued any rs → length (cond a ((r.handle, r.fields) ∷ live_of rs) (live_of rs)) + (cond (not a && b) 1 0 + retired last rs) ≤ issued any (r ∷ rs)
-      by_live true b k = omega arith
       by_live false true k = omega arith
-      by_live false false k = omega arith
+      by_live _ _ k = omega arith
 
   -- a list with fewer than its bound isn't full
   pub not_full : (last max : ℕ) (l : List (Listed T)) → issued any l < max → is_full last max l ≡ false
@@ -154,10 +153,8 @@ passes_only false h ms = tt
 phase_turns : (p : Phase) (o : Op) → closes o ≡ false → turns p o ≡ true → is_open p ≡ true
 phase_turns Open o c t = refl
 phase_turns Closing Op.Close c t = true_false refl c
-phase_turns Closing _ c t = true_false t refl
 phase_turns Closed Op.Final c t = true_false refl c
-phase_turns Closed _ c t = true_false t refl
-phase_turns New o c t = true_false t refl
+phase_turns _ _ c t = true_false t refl
 
 pub open_move : (o : Op) → closes o ≡ false → (s : State) (x : Move) → IsMade s o x → is_open s.phase ≡ true → is_open (apply x s).phase ≡ true
 open_move o c s (phase_is p) e v = phase_turns p o c e.by
@@ -340,10 +337,7 @@ unended_given q (r ∷ rs) = by_tests r.live (is_in q r.fields) (is_unended r.fi
   where
     by_tests : (a b c : Bool) → count_listed (is_unended_in q) rs ≤ issued (is_in q) rs → bit (a && (b && c)) + count_listed (is_unended_in q) rs ≤ bit b + issued (is_in q) rs
     by_tests true true true k = omega arith
-    by_tests true true false k = omega arith
-    by_tests true false c k = omega arith
-    by_tests false true c k = omega arith
-    by_tests false false c k = omega arith
+    by_tests _ _ _ k = omega arith
 
 passes_live : (o : Option Queue) (x : Queue) (v : Row) (w : Queue → Row) → o ≡ Some x → Passes (w x) → Passes (live o v w)
 passes_live o x v w e p = subst (λ (y : Option Queue). Passes (live y v w)) (sym e) p

@@ -32,7 +32,7 @@ pub use Rattle.mtapi_machine.specs.{Legal.IsNext, Legal.Legal, Legal.NodeEntry, 
 pub use Rattle.mtapi_objects.specs.Actions.{Action, has_enabled_job, has_job, is_eligible, is_job, new_action, some_below, with_enabled}
 pub use Rattle.mtapi_objects.specs.Groups.{Ending, Group, fault_of, first_fault, freed, insert, insert_ended, is_member, is_unended_member, let_go, new_group}
 pub use Rattle.mtapi_objects.specs.Queues.{Queue, is_in, is_unended_in}
-pub use Rattle.mtapi_objects.specs.Tasks.{Ended, NewTask, Notes, Running, Scheduled, Task, TaskState, end_of, ended, is_unended, is_unstarted, kind_number, new_task, with_notes, with_state, with_waiter}
+pub use Rattle.mtapi_objects.specs.Tasks.{Ended, NewTask, Notes, Running, Task, TaskState, end_of, ended, is_unended, is_unstarted, kind_number, new_task, with_notes, with_state, with_waiter}
 pub use Rattle.mtapi_values.specs.{Attributes.NodeSettings, Masks.in_mask, Seats.is_other}
 pub use Rattle.mtapi_values.specs.{Conditions.holds, Statuses.mtapi_all, Statuses.mtapi_name, Statuses.mtapi_number, declared.statuses.MtapiStatus.MtapiStatus}
 pub use Rattle.mtapi_values.specs.{declared.ends.TaskEnd.TaskEnd, declared.handles.Layout.Layout, declared.kinds.Kind.Kind, declared.masks.Mask.Mask}
@@ -56,7 +56,7 @@ pub use Rattle.settled_runs.specs.Verdicts.{GoOn, IsVerdict, QuietVerdicts, faul
 pub use Rattle.settled_runs.specs.{PlainSummary.SettledSummariesArePlain, PlainSummary.with_plain_task, RunEnds.SettledTasksEndAsPlanned}
 pub use Rattle.settled_runs.specs.{Waits.AreLeft, Waits.QuietLooksAreAnswered, Waits.looks_at, Waits.starts_alone, Worked.WorkedSettled, Worked.WorkedUnsettled}
 pub use Rattle.std.proofs.Common.{Bool, List, None, Option, Some, [], ap, append_assoc, arith, cond, false, inl, inr, length, refl, subst, suc, sym, true, zero, ℕ, ℤ, ◌++◌, ◌+◌, ◌<◌, ◌∙◌, ◌∷◌, ◌≡◌, ◌≤◌, ◌⊎◌}
-pub use Rattle.std.proofs.lemmas.Bool.{and_parts, and_right, cases_Bool, cases_eq, cases_order, cond-false, cond-true, cond_both, eq-eqb, eqb-true, false_from_ne_true, or_cases, or_from, or_left, or_parts, or_right}
+pub use Rattle.std.proofs.lemmas.Bool.{and_parts, and_right, cases_Bool, cases_eq, cases_order, cond-false, cond-true, cond_both, eq-eqb, eqb-true, false_from_ne_true, le-leb, leb-true, ltb-true, or_cases, or_from, or_left, or_parts, or_right}
 pub use Rattle.std.proofs.lemmas.List.{append-nil, get_or_append_left, get_or_at, length-append, length-map, length_push, map-append, map_push}
 pub use Rattle.std.proofs.{lemmas.Bool.Decides.nat_tests, lemmas.List.Folds.list_any-append, lemmas.Option.slice_get_cases}
 pub use Rattle.std.specs.Cmp.{both_ways}

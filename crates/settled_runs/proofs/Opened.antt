@@ -1,9 +1,9 @@
 -- In a run of a settled workload the node is open before each statement's entry, there is room for what it asks for, and the ids of queues are new.
-use Rattle.settled_runs.proofs.Names.{Each, ◌≡◌, inl, inr, ℕ, suc, ◌+◌, ◌≤◌, ◌<◌, Bool, true, false, cond, List, [], ◌∷◌, ◌++◌, length, refl, sym, ◌∙◌, ap, subst, arith, append_assoc, ◌==◌, map, eq-eqb, Layout, entry, entries_of, how_many, Deed, Statement, Part, Workload, begins, IsFurther, MainFirst, Op, Reply, opening, NodeEntry, Legal, Legal-prefix, call_of, Line, line, head_of, tail_of_main, in_lines, MainRan, PartsRan, closes, NoClose, BySeats, is_release, true_false, by_seats, run_terms, AreQuiet, handle_of, IsOpened, all_statements, actions_in, SettledRun, is_begin, lines_of, CallersRan, cond_both, has_begin, Option, Some, None, ◌&&◌, nat_le, is_some, list_any, eqb-true, nat_tests, NodeSettings, holds, ObjectKind, Queue, fst_true, snd_true, not_true, some_entry, entries_that, makes_one, HasRoom, makes_queue, queue_in, has_new_id, makes_group, makes_task, has_different_ids, or_parts, objects_of, and_parts, cases_Bool, makes_object as makes, makes_one_action as makes_action, is_settled}
+use Rattle.settled_runs.proofs.Names.{Each, ◌≡◌, inl, inr, ℕ, suc, ◌+◌, ◌≤◌, ◌<◌, Bool, true, false, cond, List, [], ◌∷◌, ◌++◌, length, refl, sym, ◌∙◌, ap, subst, arith, append_assoc, ◌==◌, map, eq-eqb, Layout, entry, entries_of, how_many, Deed, Statement, Part, Workload, begins, IsFurther, MainFirst, Op, Reply, opening, NodeEntry, Legal, Legal-prefix, call_of, Line, line, head_of, tail_of_main, in_lines, MainRan, PartsRan, closes, NoClose, BySeats, is_release, true_false, by_seats, run_terms, AreQuiet, handle_of, IsOpened, all_statements, actions_in, SettledRun, is_begin, lines_of, CallersRan, cond_both, has_begin, Option, Some, None, ◌&&◌, nat_le, is_some, list_any, eqb-true, NodeSettings, holds, ObjectKind, Queue, fst_true, snd_true, not_true, some_entry, entries_that, makes_one, HasRoom, makes_queue, queue_in, has_new_id, makes_group, makes_task, has_different_ids, or_parts, objects_of, and_parts, cases_Bool, makes_object as makes, makes_one_action as makes_action, is_settled, leb-true}
 use Rattle.settled_runs.proofs.{Granted.bit, Stays.quiet_front, Along.Placed, Along.placed, Along.Cut, Along.cut, Along.no_end}
 use Rattle.settled_runs.proofs.RunEnds.{ArePlanned, run_planned, all_quiet}
 use Rattle.settled_runs.proofs.Each.{AllSeats, OnlyBy, PartAt, each_behind, each_front, each_map, each_of, is_at_work, made_each, map_seats, only_by, settled_whole, run_parts, seat_each, with_each, is_outside}
-use Rattle.settled_runs.proofs.Counted.{asks, asked, many_append, many_none, only_asks, seat_asks, CallAsks, calls_none, no_bit, statements_ask, entries_are, many_within, IsClass, run_asks}
+use Rattle.settled_runs.proofs.Counted.{asks, asked, many_append, many_none, only_asks, seat_asks, CallAsks, calls_none, no_bit, statements_ask, IsClass, run_asks, entries_asks}
 
 -- Which ops close, and which release
 
@@ -216,9 +216,6 @@ ids_class id = record { calls = calls; outside = outside }
 
 -- What a settled workload has room for
 
-low_enough : (n m : ℕ) → nat_le n m ≡ true → n ≤ m
-low_enough n m e = grind (arith, nat_tests)
-
 -- the statements of a class, by which alone objects of the kind are made, and there is room for those
 pub record Room (settings : NodeSettings) (ss : List Statement) (k : ObjectKind) : Type 0 where
   q : Deed → Bool
@@ -231,10 +228,10 @@ rooms load settled =
     let a = and_parts (nat_le (how_many (λ s. makes_action s.deed) ss) load.settings.actions && nat_le (how_many (λ s. makes_group s.deed) ss) load.settings.groups && nat_le (how_many (λ s. is_some (queue_in s.deed)) ss) load.settings.queues) _ (settled_whole load settled).room in
     let b = and_parts (nat_le (how_many (λ s. makes_action s.deed) ss) load.settings.actions && nat_le (how_many (λ s. makes_group s.deed) ss) load.settings.groups) _ a.0 in
     let c = and_parts (nat_le (how_many (λ s. makes_action s.deed) ss) load.settings.actions) _ b.0 in (
-      record { q = makes_action; calls = λ bound d. (calls_ask bound d).1; few = low_enough _ _ c.0 },
-      record { q = makes_group; calls = λ bound d. (calls_ask bound d).2; few = low_enough _ _ c.1 },
-      record { q = λ d. is_some (queue_in d); calls = λ bound d. (calls_ask bound d).3; few = low_enough _ _ b.1 },
-      record { q = makes_task; calls = λ bound d. (calls_ask bound d).4; few = low_enough _ _ a.1 },
+      record { q = makes_action; calls = λ bound d. (calls_ask bound d).1; few = leb-true _ _ c.0 },
+      record { q = makes_group; calls = λ bound d. (calls_ask bound d).2; few = leb-true _ _ c.1 },
+      record { q = λ d. is_some (queue_in d); calls = λ bound d. (calls_ask bound d).3; few = leb-true _ _ b.1 },
+      record { q = makes_task; calls = λ bound d. (calls_ask bound d).4; few = leb-true _ _ a.1 },
     )
 
 -- no two statements make queues of one id
@@ -254,12 +251,6 @@ one_id id (s ∷ ss) e = by (queue_in s.deed) (fst_true (has_new_id (queue_in s.
       | inr j ↦ (let b : bit (x.id == id) ≡ 0 = ap bit j in omega arith)
     ]
 
-one_made : (k : ObjectKind) (L : List NodeEntry) → entries_that (makes_one k) L ≤ asks (makes k) L
-one_made k L =
-    let a : how_many (makes_one k) L ≤ asks (makes k) L = many_within (makes_one k) (λ e. makes k e.op) L (each_of (λ (e : NodeEntry). makes_one k e ≡ true → makes k e.op ≡ true) (λ e i. fst_true (makes k e.op) _ i) L) in
-    let b : entries_that (makes_one k) L ≡ how_many (makes_one k) L = entries_are (makes_one k) L in
-    omega arith
-
 no_entry : (p : Op → Bool) (L : List NodeEntry) → asks p L ≡ 0 → some_entry (λ e. p e.op) L ≡ false
 no_entry p [] i = refl
 no_entry p (e ∷ es) i = cond_both (p e.op) true (some_entry (λ x. p x.op) es) (λ b. b ≡ false) (λ j. let k : bit (p e.op) ≡ 1 = ap bit j in absurd (omega arith)) (λ j. no_entry p es (let k : bit (p e.op) ≡ 0 = ap bit j in omega arith))
@@ -276,7 +267,7 @@ module _ (layout : Layout) (load : Workload) (es : List NodeEntry) (ns : List �
   pub room : (k : ObjectKind) → Room load.settings (all_statements load) k → makes k l.op ≡ true → HasRoom (run_terms layout load) k c.before
   room k x m =
       let a : asks (makes k) c.before < (objects_of k).max load.settings = fewer_before (makes k) x.q ((objects_of k).max load.settings) (record { calls = x.calls; outside = makes_outside k }) x.few m in
-      let b : entries_that (makes_one k) c.before ≤ asks (makes k) c.before = one_made k c.before in
+      let b : entries_that (makes_one k) c.before ≤ asks (makes k) c.before = entries_asks (makes k) (makes_one k) (λ e i. fst_true (makes k e.op) _ i) c.before in
       omega arith
 
   pub new_id : (id : ℕ) → makes_queue id l.op ≡ true → some_entry (λ e. makes_queue id e.op) c.before ≡ false

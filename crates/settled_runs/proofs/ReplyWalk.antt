@@ -80,8 +80,7 @@ module _ (layout : Layout) (load : Workload) (es : List NodeEntry) (ns : List �
           ∙ ap (λ (z : List Line). (start ++ l1) ++ z) (append_assoc bi (line (Op.TaskLook (record { 0 = handle_at (map handle_of r1) place }) false) r k.beside ∷ []) (B ++ finish))
           ∙ sym (append_assoc (start ++ l1) bi (line (Op.TaskLook (record { 0 = handle_at (map handle_of r1) place }) false) r k.beside ∷ (B ++ finish)))
           ∙ ap (λ (z : List Line). z ++ line (Op.TaskLook (record { 0 = handle_at (map handle_of r1) place }) false) r k.beside ∷ (B ++ finish)) (append_assoc start l1 bi)) k.decides
-      wait_told place Timeout.NoWait e i front r B at k = true_false e refl
-      wait_told place (Timeout.Looks n) e i front r B at k = true_false e refl
+      wait_told place _ e i front r B at k = true_false e refl
 
       -- the wait for all tasks of a group
       wait_all : (place : ℕ) (t : Timeout) → is_infinite t ≡ true → IsBoundAt Sort.Group before place → (front : List Line) (r : Reply) (B : List Line) → lines_of who es ns ≡ (start ++ l1) ++ (front ++ (B ++ finish))
@@ -89,8 +88,7 @@ module _ (layout : Layout) (load : Workload) (es : List NodeEntry) (ns : List �
       wait_all place Timeout.Infinite e i front r B at k =
           let front_is : front ≡ line (Op.AllLook (record { 0 = handle_at (map handle_of r1) place }) false) r k.beside ∷ [] = one_look (λ last. Op.AllLook (record { 0 = handle_at (map handle_of r1) place }) last) Timeout.Infinite front r k ∙ ap (λ (w : Bool). line (Op.AllLook (record { 0 = handle_at (map handle_of r1) place }) w) r k.beside ∷ []) k.within in
           group_told layout load es ns u who start finish all known f whole one before l1 r1 c1 g1 are (s ∷ more) split place i (front ++ (B ++ finish)) at p1 k.beside r B (at ∙ ap (λ (z : List Line). (start ++ l1) ++ (z ++ (B ++ finish))) front_is) k.decides
-      wait_all place Timeout.NoWait e i front r B at k = true_false e refl
-      wait_all place (Timeout.Looks n) e i front r B at k = true_false e refl
+      wait_all place _ e i front r B at k = true_false e refl
 
       pub plain_reply : (front : List Line) (r : Reply) (B : List Line) → lines_of who es ns ≡ (start ++ l1) ++ (front ++ (B ++ finish)) → Made (call_of (map handle_of r1) s.deed) front r → GrantedTo s.deed r → IsPlainReply actions all (λ h. end_at (after terms es).tasks h) (faults_after actions all no_faults before) s.deed r
       unfolding IsPlainReply is_settled_deed task_in row_of deed_spelled plain_end

@@ -31,8 +31,6 @@ deed_planned settings known before all actions bound (Deed.Wait place timeout) f
 deed_planned settings known before all actions bound Deed.Group front r w e m = made_each (λ o. is_planned actions o ≡ true) (call_of bound Deed.Group) front r refl m
 deed_planned settings known before all actions bound (Deed.WaitAll place Timeout.Infinite) front r w e m =
     subst (Each (λ (l : Line). is_planned actions l.op ≡ true)) (sym (one_look (λ last. Op.AllLook (record { 0 = handle_at bound place }) last) Timeout.Infinite front r m)) (ap not m.within, tt)
-deed_planned settings known before all actions bound (Deed.WaitAll place Timeout.NoWait) front r w e m = true_false e refl
-deed_planned settings known before all actions bound (Deed.WaitAll place (Timeout.Looks n)) front r w e m = true_false e refl
 deed_planned settings known before all actions bound (Deed.Queue id job priority limit ordered retain) front r w e m = made_each (λ o. is_planned actions o ≡ true) (call_of bound (Deed.Queue id job priority limit ordered retain)) front r refl m
 deed_planned settings known before all actions bound _ front r w e m = true_false e refl
 

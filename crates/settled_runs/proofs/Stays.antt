@@ -39,9 +39,14 @@ module _ (K : Reply → List Move → Type 0) (s : State) (who : ℕ) (r : Reply
       said K (row s who (Op.TaskStart job args priority cores detached group) r) r
       (refused _, λ c0. (refused _, λ c1. (refused _, λ c2. (refused _, λ c3. (refused _, λ c4. (refused _, λ c5. (refused _, λ c6. says_only K _ _ _ (k (handle_of r) (asked_for job args priority cores detached group) (refl, second_false _ _ c1))))))))) a
   on_start (Op.TaskEnqueue q args cores detached group) z k a =
-      said K (row s who (Op.TaskEnqueue q args cores detached group) r) r
-      (refused _, λ c. (refused _, λ d. says_queue (live_object s.queues q.0) _ (λ x e.
-      (refused _, λ c0. (refused _, λ c1. (refused _, λ c2. (refused _, λ c3. (refused _, λ c4. (refused _, λ c5. (refused _, λ c6. says_only K _ _ _ (k (handle_of r) (asked_of q.0 x args cores detached group) (x, e, refl, d)))))))))))) a
+      said K (row s who (Op.TaskEnqueue q args cores detached group) r) r (
+        refused _,
+        λ c. (
+          refused _,
+          λ d. says_queue (live_object s.queues q.0) _ (λ x e.
+              (refused _, λ c0. (refused _, λ c1. (refused _, λ c2. (refused _, λ c3. (refused _, λ c4. (refused _, λ c5. (refused _, λ c6. says_only K _ _ _ (k (handle_of r) (asked_of q.0 x args cores detached group) (x, e, refl, d)))))))))),
+        ),
+      ) a
   on_start _ z k a = true_false z refl
 
 -- The entries behind it

@@ -1,5 +1,5 @@
 -- What a look at a whole group tells in a quiet history: its live members are the tasks that were put into it since the last verdict.
-use Rattle.settled_runs.proofs.Names.{◌≡◌, ◌⊎◌, inl, inr, ℕ, ◌+◌, ◌≤◌, Bool, true, false, cond, List, [], ◌∷◌, Option, Some, None, refl, ◌∙◌, ap, subst, arith, ◌==◌, nat_lt, is_some, option_and_then, option_or, eq-eqb, MtapiStatus, Listed, live_object, Task, TaskState, Scheduled, Running, Ended, end_of, is_member, Ending, insert, insert_ended, fault_of, first_fault, end_in, some_same, live_listed, true_false, at_skip, at_here, OnceIn, once_rest, live_of, listed, endings, sym, ◌&&◌, is_none, eqb-true, holds, Failed, with_fields, gone, with_state, with_notes, ended, new_task, Group, freed, let_go, Op, State, is_open, tasks, Move, starts_task, runs_task, ends_task, ends_waiting, withdraws, notes, leaves, frees_members, lets_members_go, makes, alters, removes, is_fresh, is_served, apply, NodeEntry, IsNext, next, IsMade, all_live, fst_true, snd_true, not_true, sorts_keep, Every, every_issue, every_change, every_all, every_map, every_ends, always, listed_move, LegalFrom, after_from, list_any, TaskEnd, GroupHandle, NewTask, number_of, StartsTask, FreesMembers, FoundAs, is_quiet, starts_member, looks_at_all, change, change_all, issue, end_each, cond_both, Notes, ◌++◌, ◌||◌, not, entry, any_live, any_listed, is_unended, with_waiter, new_group, is_unended_member, Reply, opening, groups, Groups, after_moves, Row, unless, gives, Allows, live, moves_of, after_row, is_detached_member, verdict, is_pending, after, AllGives, given, on_only, on_live, not_false, both_true, Legal-front, by_moves, granted, refuses_only, none_first, at_issue_here, closes, cut_from, cut_after, found_changed, found_issued, fresh_unlisted, AreQuiet, with_new, members_behind, goes_on, GoOn, IsVerdict, QuietVerdicts, IsCalm, calm_next, calm_along, calm_opening, row, members_of, false_from_ne_true, or_right, or_cases, at_head, at_past, is_up, May, by_made_moves, looks_row, once_from, end_found, ObjectKind, makes_object, second_false}
+use Rattle.settled_runs.proofs.Names.{◌≡◌, ◌⊎◌, inl, inr, ℕ, ◌+◌, ◌≤◌, Bool, true, false, cond, List, [], ◌∷◌, Option, Some, None, refl, ◌∙◌, ap, subst, arith, ◌==◌, nat_lt, is_some, option_and_then, option_or, eq-eqb, MtapiStatus, Listed, live_object, Task, TaskState, Running, Ended, end_of, is_member, Ending, insert, insert_ended, fault_of, first_fault, end_in, some_same, live_listed, true_false, at_skip, at_here, OnceIn, once_rest, live_of, listed, endings, sym, ◌&&◌, is_none, eqb-true, holds, Failed, with_fields, gone, with_state, with_notes, ended, new_task, Group, freed, let_go, Op, State, is_open, tasks, Move, starts_task, runs_task, ends_task, ends_waiting, withdraws, notes, leaves, frees_members, lets_members_go, makes, alters, removes, is_fresh, is_served, apply, NodeEntry, IsNext, next, IsMade, all_live, fst_true, snd_true, not_true, sorts_keep, Every, every_issue, every_change, every_all, every_map, every_ends, always, listed_move, LegalFrom, after_from, list_any, TaskEnd, GroupHandle, NewTask, number_of, StartsTask, FreesMembers, FoundAs, is_quiet, starts_member, looks_at_all, change, change_all, issue, end_each, cond_both, Notes, ◌++◌, ◌||◌, not, entry, any_live, any_listed, is_unended, with_waiter, new_group, is_unended_member, Reply, opening, groups, Groups, after_moves, Row, unless, gives, Allows, live, moves_of, after_row, is_detached_member, verdict, is_pending, after, AllGives, given, on_only, on_live, not_false, both_true, Legal-front, by_moves, granted, refuses_only, none_first, at_issue_here, closes, cut_from, cut_after, found_changed, found_issued, fresh_unlisted, AreQuiet, with_new, members_behind, goes_on, GoOn, IsVerdict, QuietVerdicts, IsCalm, calm_next, calm_along, calm_opening, row, members_of, false_from_ne_true, or_right, or_cases, at_head, at_past, is_up, May, by_made_moves, looks_row, once_from, end_found, ObjectKind, makes_object, second_false, whether}
 use Rattle.settled_runs.proofs.{Stays.there_next, Stays.made_there, Granted.any_found, Granted.open_move, Stays.AskedAs, Stays.on_start}
 use Rattle.settled_runs.proofs.Waits.{no_deletion, notes_stay, notes_tasks, noting, taking, open_up, legal_behind, none_noted}
 
@@ -208,12 +208,9 @@ out_issue g hs ks j t [] f k v = ((λ a b. k b), tt)
 out_issue g hs ks j t (r ∷ rs) f k v = ((λ a b. f r.handle (v.0 a b)), out_issue g hs ks j t rs f k v.1)
 
 -- a member of one group is none of another
-other_group : (g j : ℕ) (t : Task) → is_member g t ≡ true → is_member j t ≡ true → j ≡ g
-other_group g j t a b = by_group t.notes.group a b
-  where
-    by_group : (o : Option ℕ) → holds (λ h. h == g) o ≡ true → holds (λ h. h == j) o ≡ true → j ≡ g
-    by_group None c d = true_false c refl
-    by_group (Some x) c d = sym (eqb-true x j d) ∙ eqb-true x g c
+other_group : (g j : ℕ) (o : Option ℕ) → holds (λ h. h == g) o ≡ true → holds (λ h. h == j) o ≡ true → j ≡ g
+other_group g j None c d = true_false c refl
+other_group g j (Some x) c d = sym (eqb-true x j d) ∙ eqb-true x g c
 
 -- The moves of an op that starts no member, looks at no group as a whole, and notes nothing
 
@@ -246,7 +243,7 @@ out_move g hs o q n z s (removes k j) e v = sorts_keep (λ t. Out g hs t.tasks) 
 out_move g hs o q n z s _ e v = v
 
 pub members_move : (g : ℕ) (hs : List ℕ) (o : Op) → is_quiet o ≡ true → notes_tasks o ≡ false → starts_member g o ≡ false → looks_at_all g o ≡ false → (s : State) (x : Move) → IsMade s o x → Members g hs s.tasks → Members g hs (apply x s).tasks
-members_move g hs o q n z w s x e v = record { into = λ h i. notes_stay (IsIn g) (λ m k. k.kept) h o q n (λ j t b k d. true_false (freeing g j o b (other_group g j t k.member d)) w) s x e (v.into h i); out = out_move g hs o q n z s x e v.out }
+members_move g hs o q n z w s x e v = record { into = λ h i. notes_stay (IsIn g) (λ m k. k.kept) h o q n (λ j t b k d. true_false (freeing g j o b (other_group g j t.notes.group k.member d)) w) s x e (v.into h i); out = out_move g hs o q n z s x e v.out }
 
 -- A task that is put into the group
 
@@ -298,25 +295,20 @@ goes : (g : ℕ) (hs : List ℕ) (s : State) (j : ℕ) → ((h : ℕ) → has hs
 goes g hs s j n v = record { into = λ h b. let u = v.into h b in found_changed (InGroup g) j h gone (λ r. refl) s.tasks u.0 u.1 u.2 (λ r e a f. absurd (n h b e)); out = out_change g hs j gone s.tasks (λ r. record { handle = refl; alive = λ a. true_false a refl; member = λ b. b }) v.out }
 
 on_looks : (g : ℕ) (hs : List ℕ) (s : State) (w t : ℕ) (last : Bool) (x : TaskState) → ((h : ℕ) → has hs h ≡ true → t ≡ h → ⊥) → Holds g hs s → AllGives (Kept g hs s) (looks_row w t last x)
-on_looks g hs s w t true Scheduled n v = waits g hs s t None n v
-on_looks g hs s w t false Scheduled n v = waits g hs s t (Some w) n v
-on_looks g hs s w t true (Running y k) n v = waits g hs s t None n v
-on_looks g hs s w t false (Running y k) n v = waits g hs s t (Some w) n v
 on_looks g hs s w t last (Ended y k) n v = goes g hs s t n v
+on_looks g hs s w t true _ n v = waits g hs s t None n v
+on_looks g hs s w t false _ n v = waits g hs s t (Some w) n v
 
-member_some : (g : ℕ) (t : Task) → is_member g t ≡ true → is_some t.notes.group ≡ true
-member_some g t e = by_group t.notes.group e
-  where
-    by_group : (o : Option ℕ) → holds (λ h. h == g) o ≡ true → is_some o ≡ true
-    by_group None i = true_false i refl
-    by_group (Some x) i = refl
+member_some : (g : ℕ) (o : Option ℕ) → holds (λ h. h == g) o ≡ true → is_some o ≡ true
+member_some g None i = true_false i refl
+member_some g (Some x) i = refl
 
 -- a task that one may look at by itself is no member
 apart : (g : ℕ) (hs : List ℕ) (s : State) (t : ℕ) (x : Task) → live_object s.tasks t ≡ Some x → (x.notes.detached || is_some x.notes.group) ≡ false → Holds g hs s → (h : ℕ) → has hs h ≡ true → t ≡ h → ⊥
 apart g hs s t x e a v h b i =
     let u = v.into h b in
     let same : x ≡ u.0 = some_same (sym e ∙ (ap (λ (y : ℕ). live_object s.tasks y) i ∙ u.1)) in
-    true_false (ap (λ (y : Task). is_some y.notes.group) same ∙ member_some g u.0 u.2.member) (second_false x.notes.detached _ a)
+    true_false (ap (λ (y : Task). is_some y.notes.group) same ∙ member_some g u.0.notes.group u.2.member) (second_false x.notes.detached _ a)
 
 noted : (g : ℕ) (hs : List ℕ) (s : State) (w : ℕ) (o : Op) (r : Reply) → IsCalm s → notes_tasks o ≡ true → Allows (row s w o r) r → Holds g hs s → Holds g hs (after_row s (row s w o r))
 noted g hs s w (Op.TaskLook t last) r c n a v =
@@ -380,19 +372,10 @@ looking g hs s w (Op.AllLook x false) r z k a v =
 looking g hs s w _ r z k a v = true_false z refl
 
 members_next : (g : ℕ) (hs : List ℕ) (s : State) (e : NodeEntry) → IsNext s e → is_quiet e.op ≡ true → IsCalm s → goes_on g e.op ≡ true → Fine g hs s → Members g (members_behind g hs e) (next s e).tasks
-members_next g hs s e i q c k v = by_look (looks_at_all g e.op) refl
-  where
-    by_notes : looks_at_all g e.op ≡ false → starts_member g e.op ≡ false → (b : Bool) → notes_tasks e.op ≡ b → Members g hs (next s e).tasks
-    by_notes l z true n = noted g hs s e.who e.op e.reply c n i.allowed v.members
-    by_notes l z false n = by_moves (λ t. Members g hs t.tasks) s e (λ t x y u. members_move g hs e.op q n z l t x y u) v.members
-
-    by_start : looks_at_all g e.op ≡ false → (b : Bool) → starts_member g e.op ≡ b → Members g (cond b (with_new e.reply hs) hs) (next s e).tasks
-    by_start l true z = put_or_not g hs s e.who e.op e.reply z i.allowed v.members
-    by_start l false z = by_notes l z (notes_tasks e.op) refl
-
-    by_look : (b : Bool) → looks_at_all g e.op ≡ b → Members g (cond b (cond (is_pending e.reply) hs []) (cond (starts_member g e.op) (with_new e.reply hs) hs)) (next s e).tasks
-    by_look true l = looking g hs s e.who e.op e.reply l k i.allowed v
-    by_look false l = by_start l (starts_member g e.op) refl
+members_next g hs s e i q c k v =
+    cond_both (looks_at_all g e.op) _ _ (λ ks. Members g ks (next s e).tasks) (λ l. looking g hs s e.who e.op e.reply l k i.allowed v)
+    (λ l. cond_both (starts_member g e.op) (with_new e.reply hs) hs (λ ks. Members g ks (next s e).tasks) (λ z. put_or_not g hs s e.who e.op e.reply z i.allowed v.members)
+    (λ z. whether (notes_tasks e.op) (λ n. noted g hs s e.who e.op e.reply c n i.allowed v.members) (λ n. by_moves (λ t. Members g hs t.tasks) s e (λ t x y u. members_move g hs e.op q n z l t x y u) v.members)))
 
 unclosed : (g : ℕ) (o : Op) → goes_on g o ≡ true → closes o ≡ false
 unclosed g (Op.AllLook x last) e = refl
@@ -428,9 +411,8 @@ out_at g hs [] h t v e i = absurd (cc)
 out_at g hs (r ∷ rs) h t v e i = at_head r h (λ a b. subst (λ (n : ℕ). has hs n ≡ true) (eqb-true r.handle h b) (v.0 a (ap (is_member g) (some_same (sym (at_here r rs h a b) ∙ e)) ∙ i))) (λ n. out_at g hs rs h t v.1 (sym (at_past r rs h n) ∙ e) i)
 
 has_ended : (x : TaskState) → is_none (end_of x) ≡ false → (end : TaskEnd) × (end_in x ≡ Some end)
-has_ended Scheduled e = true_false refl e
-has_ended (Running w k) e = true_false refl e
 has_ended (Ended d n) e = (d, refl)
+has_ended _ e = true_false refl e
 
 is_verdict : (g : ℕ) (hs : List ℕ) (s : State) (r : Reply) → any_listed (is_unended_member g) s.tasks ≡ false → OnceIn s.tasks → Members g hs s.tasks → r ≡ verdict (first_fault (endings g (live_of s.tasks))) → IsVerdict s hs r
 is_verdict g hs s r all o v e = record {

@@ -1,5 +1,5 @@
 -- In a quiet history a task that its own caller alone looks at stays until it has ended and told its end.
-use Rattle.settled_runs.proofs.Names.{◌≡◌, ◌⊎◌, inl, inr, ℕ, Bool, true, false, List, [], ◌∷◌, ◌++◌, Option, Some, None, refl, sym, ap, subst, arith, ◌==◌, ◌&&◌, ◌||◌, not, is_none, is_some, eq-eqb, nat_tests, holds, TaskEnd, Failed, GroupHandle, entry, Listed, live_object, with_fields, gone, Task, NewTask, TaskState, Scheduled, Running, Ended, is_unstarted, new_task, with_state, with_notes, with_waiter, ended, is_member, freed, Op, Reply, Phase, New, Open, Closing, Closed, State, opening, is_open, is_up, tasks, Move, starts_task, runs_task, ends_task, ends_waiting, withdraws, notes, leaves, frees_members, lets_members_go, makes, alters, removes, is_fresh, apply, after_moves, Row, unless, gives, Allows, live, after_row, number_of, NodeEntry, IsNext, next, after, IsMade, NotesTask, TakesEnded, some_same, Legal-front, Legal-rest, AllGives, given, on_live, fst_true, by_moves, sorts_keep, true_false, at_issue_here, FoundAs, found_changed, found_issued, found_ends, found_all, cut_from, cut_after, fresh_unlisted, is_quiet, AreQuiet, starts_alone, looks_at, AreLeft, QuietLooksAreAnswered, IsCalm, calm_next, calm_along, calm_opening, none_impure, row, LegalFrom, after_from, DeletesGroup, FreesMembers, Notes, is_other, Kind, ObjectKind, MtapiStatus, looks_row, makes_object, eqb-true, is_that_handle as is_given, TaskHandle, moves_of}
+use Rattle.settled_runs.proofs.Names.{◌≡◌, ◌⊎◌, inl, inr, ℕ, Bool, true, false, List, [], ◌∷◌, ◌++◌, Option, Some, None, refl, sym, ap, subst, arith, ◌==◌, ◌&&◌, ◌||◌, not, is_none, is_some, eq-eqb, nat_tests, holds, TaskEnd, Failed, GroupHandle, entry, Listed, live_object, with_fields, gone, Task, NewTask, TaskState, Running, Ended, is_unstarted, new_task, with_state, with_notes, with_waiter, ended, is_member, freed, Op, Reply, Phase, New, Closed, State, opening, is_open, is_up, tasks, Move, starts_task, runs_task, ends_task, ends_waiting, withdraws, notes, leaves, frees_members, lets_members_go, makes, alters, removes, is_fresh, apply, after_moves, Row, unless, gives, Allows, live, after_row, number_of, NodeEntry, IsNext, next, after, IsMade, NotesTask, TakesEnded, some_same, Legal-front, Legal-rest, AllGives, given, on_live, fst_true, by_moves, sorts_keep, true_false, at_issue_here, FoundAs, found_changed, found_issued, found_ends, found_all, cut_from, cut_after, fresh_unlisted, is_quiet, AreQuiet, starts_alone, looks_at, AreLeft, QuietLooksAreAnswered, IsCalm, calm_next, calm_along, calm_opening, none_impure, row, LegalFrom, after_from, DeletesGroup, FreesMembers, Notes, is_other, Kind, ObjectKind, MtapiStatus, looks_row, makes_object, eqb-true, is_that_handle as is_given, TaskHandle, moves_of, whether}
 use Rattle.settled_runs.proofs.{Stays.quiet_rest, Stays.quiet_front, Granted.before, Granted.is_up as open_now, Granted.allowed, Stays.AskedAs, Stays.on_start}
 
 -- what is noted of a task that is neither detached nor in a group, and that no other seat waits for
@@ -14,9 +14,8 @@ Own who h s = FoundAs (λ t. IsOwn who t.notes) s.tasks h
 -- The entry that starts it
 
 started_alone : (a : Bool) (g : Option GroupHandle) → (not a && is_none g) ≡ true → (a ≡ false) × (number_of g ≡ None)
-started_alone true g e = true_false e refl
-started_alone false (Some g) e = true_false e refl
 started_alone false None e = (refl, refl)
+started_alone _ _ e = true_false e refl
 
 new_own : (who h : ℕ) (n : NewTask) (s : State) → (n.detached ≡ false) × (n.group ≡ None) → is_fresh tasks s h ≡ true → Own who h (apply (starts_task h n) s)
 new_own who h n s b e = (new_task n s.starts, at_issue_here h (new_task n s.starts) s.tasks (fresh_unlisted ObjectKind.Task s h e), record { kept = b.0; alone = b.1; waiter = refl })
@@ -95,9 +94,6 @@ notes_stay N kept h o q n free s x e v = by x e
 abbrev Looks : ℕ → ℕ → State → ℕ → ℕ → Reply → List Move → Type 0
 Looks who h s w t r ms = ((t == h) ≡ true → (w ≡ who) × (r ≡ Reply.Pending)) → Own who h (after_moves ms s)
 
-not_pending : (e : TaskEnd) → Reply.Ended e ≡ Reply.Pending → ⊥
-not_pending e i = cc
-
 no_other : (who w : ℕ) → w ≡ who → is_other who (Some w) ≡ false
 no_other who w e = subst (λ (x : ℕ). is_other who (Some x) ≡ false) (sym e) (grind (arith, nat_tests))
 
@@ -107,11 +103,9 @@ waits who h s w t r x v f k =
     (λ q i a d. (a, (let u : IsOwn who q.fields.notes = subst (λ (z : Task). IsOwn who z.notes) (sym d) v.2 in record { kept = u.kept; alone = u.alone; waiter = f (k (eq-eqb t h i)).0 })))
 
 on_looks : (who h : ℕ) (s : State) (w t : ℕ) (last : Bool) (x : TaskState) → Own who h s → AllGives (Looks who h s w t) (looks_row w t last x)
-on_looks who h s w t true Scheduled v = waits who h s w t (Reply.Mtapi MtapiStatus.Timeout) None v (λ e. refl)
-on_looks who h s w t false Scheduled v = waits who h s w t Reply.Pending (Some w) v (no_other who w)
-on_looks who h s w t true (Running y k) v = waits who h s w t (Reply.Mtapi MtapiStatus.Timeout) None v (λ e. refl)
-on_looks who h s w t false (Running y k) v = waits who h s w t Reply.Pending (Some w) v (no_other who w)
-on_looks who h s w t last (Ended y n) v = λ k. found_changed (λ z. IsOwn who z.notes) t h gone (λ r. refl) s.tasks v.0 v.1 v.2 (λ r i a f. absurd (not_pending y (k (eq-eqb t h i)).1))
+on_looks who h s w t last (Ended y n) v = λ k. found_changed (λ z. IsOwn who z.notes) t h gone (λ r. refl) s.tasks v.0 v.1 v.2 (λ r i a f. let p : Reply.Ended y ≡ Reply.Pending = (k (eq-eqb t h i)).1 in absurd (cc))
+on_looks who h s w t true _ v = waits who h s w t (Reply.Mtapi MtapiStatus.Timeout) None v (λ e. refl)
+on_looks who h s w t false _ v = waits who h s w t Reply.Pending (Some w) v (no_other who w)
 
 -- what holds where nothing is done holds behind the ops that change what is noted of a task that watches or tallies: there is none
 pub none_noted : (K : Reply → List Move → Type 0) (s : State) (w : ℕ) (o : Op) (r : Reply) → IsCalm s → notes_tasks o ≡ true → ((t : TaskHandle) (last : Bool) → o ≡ Op.TaskLook t last → ⊥) → ((x : Reply) → K x []) → Allows (row s w o r) r → K r (moves_of (row s w o r))
@@ -129,11 +123,9 @@ noted who h s w (Op.TaskLook t last) r c n k a v =
 noted who h s w o r c n k a v = none_noted (λ x ms. Own who h (after_moves ms s)) s w o r c n (λ t last e. cc) (λ x. v) a
 
 own_next : (who h : ℕ) (s : State) (e : NodeEntry) → IsNext s e → is_quiet e.op ≡ true → IsCalm s → (looks_at h e.op ≡ true → (e.who ≡ who) × (e.reply ≡ Reply.Pending)) → Own who h s → Own who h (next s e)
-own_next who h s e i q c k v = by_notes (notes_tasks e.op) refl
-  where
-    by_notes : (b : Bool) → notes_tasks e.op ≡ b → Own who h (next s e)
-    by_notes true n = noted who h s e.who e.op e.reply c n k i.allowed v
-    by_notes false n = by_moves (Own who h) s e (λ t x y u. notes_stay (IsOwn who) (λ m k. k.kept) h e.op q n (λ j m b k d. true_false d (ap (holds (λ i. i == j)) k.alone)) t x y u) v
+own_next who h s e i q c k v =
+    whether (notes_tasks e.op) (λ n. noted who h s e.who e.op e.reply c n k i.allowed v)
+    (λ n. by_moves (Own who h) s e (λ t x y u. notes_stay (IsOwn who) (λ m k. k.kept) h e.op q n (λ j m b k d. true_false d (ap (holds (λ i. i == j)) k.alone)) t x y u) v)
 
 own_along : (who h : ℕ) (s : State) (L : List NodeEntry) → LegalFrom s L → AreQuiet L → IsCalm s → AreLeft who h L → Own who h s → Own who h (after_from s L)
 unfolding LegalFrom after_from
@@ -148,9 +140,8 @@ legal_behind s A e B l = (Legal-rest s A (e ∷ B) l).1
 
 pub open_up : (p : Phase) → not (is_open p) ≡ false → not (is_up p) ≡ false
 open_up New e = true_false refl e
-open_up Open e = refl
-open_up Closing e = refl
 open_up Closed e = true_false refl e
+open_up _ e = refl
 
 pub passed : (c : Bool) (x : Reply) (w : Row) (r : Reply) → c ≡ false → Allows (unless c x w) r → Allows w r
 passed true x w r e a = true_false refl e
@@ -161,9 +152,8 @@ found_live None t v f r e a = absurd (cc)
 found_live (Some y) t v f r e a = subst (λ z. Allows (f z) r) (some_same e) a
 
 told : (w h : ℕ) (x : TaskState) (r : Reply) → Allows (looks_row w h false x) r → (r ≡ Reply.Pending) ⊎ ((end : TaskEnd) × (r ≡ Reply.Ended end))
-told w h Scheduled r a = inl a
-told w h (Running v k) r a = inl a
 told w h (Ended e n) r a = inr (e, a)
+told w h _ r a = inl a
 
 pub quiet_looks_are_answered : QuietLooksAreAnswered
 quiet_looks_are_answered terms L who t r x y =

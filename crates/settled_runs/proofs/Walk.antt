@@ -1,9 +1,9 @@
 -- In a run of a settled workload each statement that makes an object is given its handle.
-use Rattle.settled_runs.proofs.Names.{◌≡◌, ℕ, zero, suc, ◌+◌, ◌≤◌, Bool, true, false, List, [], ◌∷◌, Option, Some, refl, ◌∙◌, ap, subst, arith, ◌==◌, not, nat_lt, map, slice_get, eq-eqb, eqb-true, nat_tests, holds, how_many, Queue, Deed, Statement, fields, word_for, values, AllFit, IsBoundAt, IsStatement, AreStatements, Op, Reply, handle_of, some_same, fst_true, snd_true, handle_at, call_of, Line, Made, true_false, puts, queue_in, puts_into, deed_spelled, Carried, keep_limits, not_true, Each, ◌⊎◌, inl, inr, ◌<◌, ◌++◌, None, sym, ℤ, ◌&&◌, nat_le, option_and_then, IfSome, option_map, list_any, append-nil, Mask, Layout, entry, Action, new_action, is_job, has_job, has_enabled_job, is_eligible, some_below, Workload, Terms, NodeEntry, both_true, group_at, line, closes, entries_that, run_terms, Part, IsOpened, HasAction, IsServed, GroupIsMade, Asks, IsGranted, IsQueued, actions_in, queue_at, serves, is_startable, sets_up, set_up, GrantedTo, AllGranted, SettledRun, lines_of, task_in, is_settled_deed, cond_both, or_left, or_right, none_some, GroupHandle, word_row as row, in_mask, MadeBy, puts_entry, Sort, ObjectKind}
-use Rattle.settled_runs.proofs.Each.{is_outside, OnlyBy, PartAt, each_front, each_map, each_of, step_lines}
+use Rattle.settled_runs.proofs.Names.{◌≡◌, ℕ, zero, suc, ◌+◌, ◌≤◌, Bool, true, false, List, [], ◌∷◌, Option, Some, refl, ◌∙◌, ap, subst, arith, ◌==◌, not, nat_lt, map, slice_get, eq-eqb, eqb-true, nat_tests, holds, how_many, Queue, Deed, Statement, fields, word_for, values, AllFit, IsBoundAt, IsStatement, AreStatements, Op, Reply, handle_of, some_same, fst_true, snd_true, handle_at, call_of, Line, Made, true_false, puts, queue_in, puts_into, deed_spelled, Carried, keep_limits, not_true, Each, ◌⊎◌, inl, inr, ◌<◌, ◌++◌, None, sym, ℤ, ◌&&◌, option_and_then, IfSome, option_map, list_any, append-nil, Mask, Layout, entry, Action, new_action, has_job, has_enabled_job, is_eligible, some_below, Workload, Terms, NodeEntry, both_true, group_at, line, closes, entries_that, run_terms, Part, IsOpened, HasAction, IsServed, GroupIsMade, Asks, IsGranted, IsQueued, actions_in, queue_at, serves, is_startable, sets_up, set_up, GrantedTo, AllGranted, SettledRun, lines_of, task_in, is_settled_deed, cond_both, or_left, or_right, none_some, GroupHandle, word_row as row, in_mask, MadeBy, puts_entry, Sort, ObjectKind, ltb-true, le-leb}
+use Rattle.settled_runs.proofs.Each.{is_outside, OnlyBy, PartAt, each_front, each_map, step_lines}
 use Rattle.settled_runs.proofs.Granted.{bit, action_granted, group_granted, start_granted, queue_granted, enqueue_granted}
 use Rattle.settled_runs.proofs.Opened.{legal_here, quiet_before, new_id, room, rooms}
-use Rattle.settled_runs.proofs.Counted.{asked, CallAsks, statements_ask, asks, entries_are, many_append, many_none, many_within, only_asks}
+use Rattle.settled_runs.proofs.Counted.{asked, CallAsks, statements_ask, asks, many_append, many_none, only_asks, entries_asks}
 use Rattle.settled_runs.proofs.Along.{Cut, cut, BoundBy, step_bound, step_statement, get_front, bound_by, along, are_front, granted_more, step_settled}
 use Rattle.settled_runs.proofs.Places.{Has, has_more, group_has, HasQueue, queue_has, ActionOf, action_map, action_has, either, queues_list, binds_queue, one_bound}
 
@@ -75,18 +75,6 @@ made_before es ns who start l1 l B c p h x =
 some_worker : (n : ℕ) (p : ℕ → Bool) → some_below n p ≡ true → (w : ℕ) × (w < n) × (p w ≡ true)
 some_worker zero p e = true_false e refl
 some_worker (suc n) p e = cond_both (p n) true (some_below n p) (λ z. z ≡ true → (w : ℕ) × (w < suc n) × (p w ≡ true)) (λ i f. (n, omega arith, i)) (λ i f. let x = some_worker n p f in (x.0, (let z : x.0 < n = x.1 in omega arith), x.2)) e
-
-less : (n m : ℕ) → nat_lt n m ≡ true → n < m
-less n m e = grind (arith, nat_tests)
-
-in_jobs : (job : ℕ) → 1 ≤ job → job ≤ 65535 → is_job job ≡ true
-in_jobs job a b = both_true _ _ (let i : nat_le 1 job ≡ true = grind (arith, nat_tests) in i) (let i : nat_le job 65535 ≡ true = grind (arith, nat_tests) in i)
-
-puts_asks : (q : ℕ) (L : List NodeEntry) → entries_that (puts_entry q) L ≤ asks (puts q) L
-puts_asks q L =
-    let a : how_many (puts_entry q) L ≤ asks (puts q) L = many_within (puts_entry q) (λ e. puts q e.op) L (each_of (λ (e : NodeEntry). puts_entry q e ≡ true → puts q e.op ≡ true) (λ e i. fst_true (puts q e.op) _ i) L) in
-    let b : entries_that (puts_entry q) L ≡ how_many (puts_entry q) L = entries_are (puts_entry q) L in
-    omega arith
 
 -- a statement that makes a queue sets up
 pub sets_all : (all : List Statement) (place : ℕ) (s : Statement) (x : Queue) → slice_get all place ≡ Some s → queue_in s.deed ≡ Some x → set_up all ≡ true
@@ -162,7 +150,7 @@ module _ (layout : Layout) (load : Workload) (es : List NodeEntry) (ns : List �
                   let a : asks (puts j) c.before ≤ asked (puts j) (lines_of who c.before c.first) = only_asks who (puts j) c.before c.first c.same (each_front (λ (e : NodeEntry). puts j e.op ≡ true → e.who ≡ who) c.before (entry who o r ∷ c.behind) (subst (OnlyBy who (puts j)) c.is k2)) in
                   let d : asked (puts j) (lines_of who c.before c.first) ≡ asked (puts j) start + asked (puts j) l1 = ap (asked (puts j)) c.done ∙ many_append (λ l. puts j l.op) start l1 in
                   let z : asked (puts j) start ≡ 0 = many_none (λ l. puts j l.op) start (each_map (λ (l : Line). is_outside l.op ≡ true) (λ (l : Line). puts j l.op ≡ false) (λ l e. puts_outside j l.op e) start f.outside) in
-                  let t : entries_that (puts_entry j) c.before ≤ asks (puts j) c.before = puts_asks j c.before in
+                  let t : entries_that (puts_entry j) c.before ≤ asks (puts j) c.before = entries_asks (puts j) (puts_entry j) (λ e i. fst_true (puts j e.op) _ i) c.before in
                   let p : how_many (λ e0. puts_into queue e0.deed) all ≤ x.limit = limit_at all queue b.statement x limits found q in
                   let p2 : how_many (λ e0. puts_into queue e0.deed) all ≡ how_many (λ e0. puts_into queue e0.deed) before + (1 + how_many (λ e0. puts_into queue e0.deed) more) = parts in
                   let p3 : asked (puts j) l1 ≤ how_many (λ e0. puts_into queue e0.deed) before = i in
@@ -220,18 +208,18 @@ module _ (layout : Layout) (load : Workload) (es : List NodeEntry) (ns : List �
         by (Deed.Action job kind cores) e o p n =
             let v : Op = Op.ActionCreate job kind cores in
             let h = at_line v n.0 in
-            action_granted terms (c v r 0 B h).before who r job kind cores (asking v r 0 B (c v r 0 B h)) (in_jobs job o.0.0 o.0.1) (room layout load es ns u who (start ++ l1) (line v r 0) (B ++ finish) (c v r 0 B h) ObjectKind.Action (rooms load u.settled).0 refl)
+            action_granted terms (c v r 0 B h).before who r job kind cores (asking v r 0 B (c v r 0 B h)) (both_true _ _ (le-leb 1 job o.0.0) (le-leb job 65535 o.0.1)) (room layout load es ns u who (start ++ l1) (line v r 0) (B ++ finish) (c v r 0 B h) ObjectKind.Action (rooms load u.settled).0 refl)
         by Deed.Group e o p n = let h = at_line Op.GroupCreate n.0 in group_granted terms (c Op.GroupCreate r 0 B h).before who r (asking Op.GroupCreate r 0 B (c Op.GroupCreate r 0 B h)) (room layout load es ns u who (start ++ l1) (line Op.GroupCreate r 0) (B ++ finish) (c Op.GroupCreate r 0 B h) ObjectKind.Group (rooms load u.settled).1 refl)
         by (Deed.Queue id job priority limit ordered retain) e o p n =
             let v : Op = Op.QueueCreate id job priority limit ordered retain in
             let h = at_line v n.0 in
-            queue_granted terms (c v r 0 B h).before who r id job priority limit ordered retain (asking v r 0 B (c v r 0 B h)) (less priority load.settings.priorities (fst_true _ (list_any (has_job job) (known ++ actions_in before)) e)) o.1.1.1.0
+            queue_granted terms (c v r 0 B h).before who r id job priority limit ordered retain (asking v r 0 B (c v r 0 B h)) (ltb-true priority load.settings.priorities (fst_true _ (list_any (has_job job) (known ++ actions_in before)) e)) o.1.1.1.0
             (room layout load es ns u who (start ++ l1) (line v r 0) (B ++ finish) (c v r 0 B h) ObjectKind.Queue (rooms load u.settled).2 refl) (has_action v r 0 B (c v r 0 B h) job (snd_true (nat_lt priority load.settings.priorities) _ e)) (new_id layout load es ns u who (start ++ l1) (line v r 0) (B ++ finish) (c v r 0 B h) id (eq-eqb id id refl))
         by (Deed.Start job args priority cores detached group) e o p n =
             let t = tests detached priority job cores.0 e in
             let v : Op = Op.TaskStart job args priority cores false (group_of group) in
             let h = at_line v (n.0 ∙ ap (λ (b : Bool). line (Op.TaskStart job args priority cores b (group_of group)) r 0 ∷ []) t.0) in
-            start_granted terms (c v r 0 B h).before who r job args priority cores (group_of group) (asking v r 0 B (c v r 0 B h)) (less priority load.settings.priorities t.1)
+            start_granted terms (c v r 0 B h).before who r job args priority cores (group_of group) (asking v r 0 B (c v r 0 B h)) (ltb-true priority load.settings.priorities t.1)
             (room layout load es ns u who (start ++ l1) (line v r 0) (B ++ finish) (c v r 0 B h) ObjectKind.Task (rooms load u.settled).3 refl) (is_served v r 0 B (c v r 0 B h) job cores.0 t.2) (group_made v r 0 B (c v r 0 B h) group o.1.1.1.1.1.0)
         by (Deed.Enqueue queue args cores detached group) e o p n = by_queue queue args cores detached group (queue_at all queue) refl e o (p queue) n
         by Deed.Begin e o p n = tt
