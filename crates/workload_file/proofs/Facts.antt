@@ -1,5 +1,5 @@
 -- What is known of a line that was read without a fault, and the other way round.
-use Rattle.workload_file.proofs.Cited.{◌≡◌, ℕ, List, [], ◌∷◌, length, Bool, true, false, not, cond, ◌&&◌, Option, Some, None, Result, Ok, Err, refl, sym, ap, ◌∙◌, inl, inr, ◌||◌, ◌<◌, ◌+◌, ◌++◌, arith, nat_le, nat_lt, find, list_all, list_any, not-false, or_parts, or_from, and_parts, and_from, cases_Bool, ltb-false, le-ltb, leb-false, Word, Value, Cause, Reading, Change, Statement, is_name, naming, fields, word_of, is_known, has_twice, has_second, name_in, options_in, use_in, is_taken, is_unbound, is_misplaced, is_ninth_caller, words_of, values_in, is_bad, is_missing, names_nothing, change_of, is_printable, is_comment, is_statement, is_faulty, words_meet, statement_causes, word_causes, first_met, ◌>>=◌, unless, words_say, line_gives, at_line, with_change, line_adds, lines_add, start, finished, workload_of, refused_for, IsFirstFault, IsPlain, Workload, Fault, between}
+use Rattle.workload_file.proofs.Cited.{◌≡◌, ℕ, List, [], ◌∷◌, length, Bool, true, false, not, cond, ◌&&◌, Option, Some, None, Result, Ok, Err, refl, sym, ap, ◌∙◌, inl, inr, ◌||◌, ◌+◌, ◌++◌, arith, nat_le, nat_lt, find, list_all, list_any, not-false, or_parts, or_from, and_parts, and_from, cases_Bool, ltb-false, le-ltb, Word, Value, Cause, Reading, Change, Statement, is_name, naming, fields, word_of, is_known, has_twice, has_second, name_in, options_in, use_in, is_taken, is_unbound, is_misplaced, is_ninth_caller, words_of, values_in, is_bad, is_missing, names_nothing, change_of, is_printable, is_comment, is_statement, is_faulty, words_meet, statement_causes, word_causes, first_met, ◌>>=◌, unless, words_say, line_gives, at_line, with_change, line_adds, lines_add, start, finished, workload_of, refused_for, IsFirstFault, IsPlain, Workload, Fault, between}
 use Rattle.workload_file.specs.declared.values.Value.TheVariants as given
 use Rattle.workload_file.specs.declared.faults.Cause.TheVariants as cause
 

@@ -1,18 +1,65 @@
 -- Options at their places, and words that add nothing.
-use Rattle.workload_file.proofs.Cited.{◌≡◌, ℕ, zero, suc, ◌<◌, ◌≤◌, ◌+◌, ◌-◌, ◌⊎◌, List, [], ◌∷◌, ◌++◌, length, Bool, true, false, cond, eqb, ◌&&◌, ◌||◌, Option, Some, None, Ok, is_some, refl, sym, ap, ◌∙◌, arith, inl, inr, subst, map, get_or, take, replicate, find, list_any, bytes_eq, option_map, or_parts, and_parts, and_from, cases_Bool, Field, Key, Word, Statement, Value, Reading, fields, key_text, key_of, value_of, text_of, field_of, is_known, has_twice, value_at, values_in, length-map, take_more, take_all, with_change, is_statement, is_comment, words_meet, word_causes, words_say}
+use Rattle.workload_file.proofs.Cited.{◌≡◌, ℕ, zero, suc, ◌<◌, ◌≤◌, ◌+◌, ◌-◌, ◌⊎◌, List, [], ◌∷◌, ◌++◌, length, Bool, true, false, cond, eqb, Option, Some, None, Ok, is_some, refl, sym, ap, ◌∙◌, arith, inl, inr, map, get_or, take, drop, replicate, find, list_any, bytes_eq, option_map, or_parts, and_parts, and_from, cases_Bool, Field, Key, Word, Statement, Value, Reading, fields, key_text, key_of, value_of, text_of, field_of, is_known, has_twice, value_at, values_in, length-map, length-append, take_more, take_all, with_change, is_statement, is_comment, words_meet, word_causes, words_say}
 use Rattle.std.specs.Prelude.{set}
-use Rattle.std.proofs.lemmas.List.{map-set}
+use Rattle.std.proofs.lemmas.List.{length-drop, map-set}
 use Rattle.std.specs.Option.{option_copied}
 use Rattle.workload_file.specs.Options.{opens}
 use Rattle.workload_file.specs.Texts.{texts}
 use Rattle.workload_file.specs.Steps.{texts_in, IsOptionAt, values_of, unless_met}
 use Rattle.workload_file.proofs.Facts.{some, nothing, none_some, silent_says}
-use Rattle.workload_file.proofs.Fields.{AreApart, fields_apart}
+use Rattle.workload_file.proofs.Fields.{AreApart, fields_apart, option_is}
 use Rattle.workload_file.proofs.Invariant.{any_push}
 use Rattle.workload_file.proofs.Phrases.{rest_of, first_rest, none_below}
 use Rattle.workload_file.proofs.Places.{bytes_are, bytes_same, apart_sym}
-use Rattle.workload_file.proofs.Spelling.{some_cond}
+use Rattle.workload_file.proofs.Spelling.{some_cond, spelled}
 use denote.Ref.{Bor}
+
+-- ---- a word that is a key, = and a value
+
+shut : (b : Bool) (x : List ℕ) → (b ≡ true → ⊥) → nothing (List ℕ) ≡ cond b (Some x) None
+shut true x h = absurd (h refl)
+shut false x h = refl
+
+whole : (k : Key) (word : List ℕ) → opens word (key_text k) ≡ true → word ≡ key_text k ++ 61 ∷ value_of word
+whole k word h =
+    let both = and_parts (list_any (λ b. eqb b 61) word) (bytes_eq (key_text k) (key_of word)) h in
+    rw (bytes_are (key_text k) (key_of word) both.1) (spelled word both.0)
+
+get_middle : (xs ys : List ℕ) (y d : ℕ) → get_or (xs ++ y ∷ ys) (length xs) d ≡ y
+get_middle [] ys y d = refl
+get_middle (x ∷ xs) ys y d = get_middle xs ys y d
+
+take_front : (xs ys : List ℕ) → take (length xs) (xs ++ ys) ≡ xs
+take_front [] ys = refl
+take_front (x ∷ xs) ys = ap (λ (zs : List ℕ). x ∷ zs) (take_front xs ys)
+
+parts : (n : ℕ) (xs : List ℕ) (d : ℕ) → n < length xs → xs ≡ take n xs ++ get_or xs n d ∷ drop (n + 1) xs
+parts n [] d h = absurd (omega (arith, h))
+parts zero (x ∷ xs) d h = refl
+parts (suc n) (x ∷ xs) d h = let next : suc n + 1 ≡ suc (n + 1) = omega arith in rw next (ap (λ (zs : List ℕ). x ∷ zs) (parts n xs d (omega (arith, h))))
+
+pub shut_short : (k : Key) (word : List ℕ) → length word ≤ length (key_text k) → nothing (List ℕ) ≡ cond (opens word (key_text k)) (Some (value_of word)) None
+shut_short k word h = shut (opens word (key_text k)) (value_of word) (λ t.
+    let e : length word ≡ length (key_text k ++ 61 ∷ value_of word) = ap (λ (l : List ℕ). length l) (whole k word t) in
+    omega (arith, h, e, length-append (key_text k) (61 ∷ value_of word)))
+
+pub shut_byte : (k : Key) (word : List ℕ) (d : ℕ) → (get_or word (length (key_text k)) d ≡ 61 → ⊥) → nothing (List ℕ) ≡ cond (opens word (key_text k)) (Some (value_of word)) None
+shut_byte k word d h = shut (opens word (key_text k)) (value_of word) (λ t. h (ap (λ (l : List ℕ). get_or l (length (key_text k)) d) (whole k word t) ∙ get_middle (key_text k) (value_of word) 61 d))
+
+pub shut_key : (k : Key) (word : List ℕ) → bytes_eq (take (length (key_text k)) word) (key_text k) ≡ false → nothing (List ℕ) ≡ cond (opens word (key_text k)) (Some (value_of word)) None
+shut_key k word h = shut (opens word (key_text k)) (value_of word) (λ t.
+    let e = ap (take (length (key_text k))) (whole k word t) ∙ take_front (key_text k) (61 ∷ value_of word) in
+    let same : bytes_eq (take (length (key_text k)) word) (key_text k) ≡ true = rw e (bytes_same (key_text k)) in
+    cc)
+
+gives_rest : (k : Key) (word rest : List ℕ) → word ≡ key_text k ++ 61 ∷ rest → some rest ≡ cond (opens word (key_text k)) (Some (value_of word)) None
+gives_rest k word rest e = let is = option_is k rest in rw (e, is.equals, is.key, is.value, bytes_same (key_text k)) refl
+
+pub opens_key : (k : Key) (word text : List ℕ) (d : ℕ) → text ≡ key_text k → length text < length word → get_or word (length text) d ≡ 61 → bytes_eq (take (length text) word) text ≡ true → some (take (length word - (length text + 1)) (drop (length text + 1) word)) ≡ cond (opens word (key_text k)) (Some (value_of word)) None
+opens_key k word text d is lt byte key =
+    let rest = drop (length text + 1) word in
+    let all : take (length word - (length text + 1)) rest ≡ rest = take_all (length word - (length text + 1)) rest (omega (arith, length-drop (length text + 1) word)) in
+    rw all (gives_rest k word rest (parts (length text) word d lt ∙ rw (byte, bytes_are (take (length text) word) text key) (ap (λ (t : List ℕ). t ++ 61 ∷ rest) is)))
 
 -- ---- the place of the option that a word gives
 
@@ -24,17 +71,17 @@ option_at (f ∷ fs) word (suc place) d lt e =
     (elim (cases_Bool (bytes_eq (key_text f.key) (key_of word))) [ inl t ↦ rw t refl | inr n ↦ rw n rest.0 ], rest.1)
 
 -- the word that the key opens gives the option at its place
-pub opened : (fs : List Field) (word key value : List ℕ) (place : ℕ) (d : Field) → place < length fs → key ≡ key_text (get_or fs place d).key → some value ≡ cond (opens word key) (Some (value_of word)) None → (true ≡ is_known fs word) × IsOptionAt fs word place
-opened fs word key value place d lt is e =
-    let opens_it = (some_cond (opens word key) (value_of word) value (sym e)).0 in
-    let both = and_parts (list_any (λ b. eqb b 61) word) (bytes_eq key (key_of word)) opens_it in
-    let at = option_at fs word place d lt (rw (← is) both.1) in
+pub opened : (fs : List Field) (word value : List ℕ) (place : ℕ) (d : Field) → place < length fs → some value ≡ cond (opens word (key_text (get_or fs place d).key)) (Some (value_of word)) None → (true ≡ is_known fs word) × IsOptionAt fs word place
+opened fs word value place d lt e =
+    let key = key_text (get_or fs place d).key in
+    let both = and_parts (list_any (λ b. eqb b 61) word) (bytes_eq key (key_of word)) (some_cond (opens word key) (value_of word) value (sym e)).0 in
+    let at = option_at fs word place d lt both.1 in
     (sym (and_from (list_any (λ b. eqb b 61) word) (is_some (field_of fs word)) both.0 at.0), at.1)
 
 -- no option before this place opens the word, and neither does this one
-pub not_opened : (fs : List Field) (word key : List ℕ) (place : ℕ) (d : Field) → place < length fs → key ≡ key_text (get_or fs place d).key → list_any (λ f. opens word (key_text f.key)) (take place fs) ≡ false → nothing (List ℕ) ≡ cond (opens word key) (Some (value_of word)) None → list_any (λ f. opens word (key_text f.key)) (take (place + 1) fs) ≡ false
-not_opened fs word key place d lt is before e =
-    let here : opens word (key_text (get_or fs place d).key) ≡ false = rw (← is) (elim (cases_Bool (opens word key)) [ inl t ↦ absurd (none_some (value_of word) (rw t at e)) | inr n ↦ n ]) in
+pub not_opened : (fs : List Field) (word : List ℕ) (place : ℕ) (d : Field) → place < length fs → list_any (λ f. opens word (key_text f.key)) (take place fs) ≡ false → nothing (List ℕ) ≡ cond (opens word (key_text (get_or fs place d).key)) (Some (value_of word)) None → list_any (λ f. opens word (key_text f.key)) (take (place + 1) fs) ≡ false
+not_opened fs word place d lt before e =
+    let here : opens word (key_text (get_or fs place d).key) ≡ false = elim (cases_Bool (opens word (key_text (get_or fs place d).key))) [ inl t ↦ absurd (none_some (value_of word) (rw t at e)) | inr n ↦ n ] in
     rw (take_more fs place d lt) (any_push (λ (f : Field). opens word (key_text f.key)) (take place fs) (get_or fs place d) before here)
 
 pub none_known : (fs : List Field) (word : List ℕ) → list_any (λ f. opens word (key_text f.key)) fs ≡ false → is_known fs word ≡ false

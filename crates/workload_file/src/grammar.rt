@@ -117,6 +117,10 @@ fn change_with(line: u64, word: Word, name: &[u8], place: Option<u32>, values: &
     }
 }
 
+macro_rules! refused {
+    ($line:ident $cause:expr) => { Err(LineError::Refused(Fault { line: $line, cause: $cause })) };
+}
+
 /// What a statement adds, unless it meets a cause.
 fn add_statement<'a>(
     alloc: Global,
@@ -135,7 +139,7 @@ fn add_statement<'a>(
     let options = options_in(word.naming(), rest);
     let place = use_in(r, word.naming(), name);
     match first_met(r, given, values, word, name, options, place)? {
-        Some(cause) => Err(LineError::Refused(Fault { line, cause })),
+        Some(cause) => refused!(line cause),
         None => {
             with_change(alloc, r, line, change_with(line, word, name, place, values))?;
             Ok(())
@@ -164,10 +168,7 @@ fn add_words<'a>(
             }
             match Word::from_text(first) {
                 Some(word) => add_statement(alloc, r, given, values, line, word, rest),
-                None => Err(LineError::Refused(Fault {
-                    line,
-                    cause: Cause::UnknownWord,
-                })),
+                None => refused!(line Cause::UnknownWord),
             }
         }
     }
@@ -202,16 +203,10 @@ pub fn add_line<'a>(
     ensures reader { OnOk result (IsReader r.new) }
 {
     if 512 < text.len() {
-        return Err(LineError::Refused(Fault {
-            line,
-            cause: Cause::LineTooLong,
-        }));
+        return refused!(line Cause::LineTooLong);
     }
     if !all_printable(text) {
-        return Err(LineError::Refused(Fault {
-            line,
-            cause: Cause::BadByte,
-        }));
+        return refused!(line Cause::BadByte);
     }
     words_of(&mut lists.words, text)?;
     add_words(

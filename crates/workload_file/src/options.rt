@@ -3,36 +3,29 @@ ghost use Rattle.std.specs.Prelude.{◌≡◌, [], true, Some, None, IfOk, IfSom
 ghost use Rattle.std.specs.Option.{option_copied};
 ghost use Rattle.std.specs.List.{list_all};
 ghost use Rattle.workload_file.specs.Texts.{texts};
-ghost use Rattle.workload_file.specs.Table.{fields};
+ghost use Rattle.workload_file.specs.Table.{fields, key_text};
 ghost use Rattle.workload_file.specs.Options.{value_of, is_known, opens, has_twice};
 ghost use Rattle.workload_file.specs.Steps.{texts_in, IsOptionAt};
 
-use crate::table::{Field, Word};
+use crate::table::{Field, Key, Word};
 use std::alloc::AllocError;
 
-/// The value that a word gives, where it is this key, `=` and a value. Most keys differ in their first byte, so that few bytes
-/// are looked at.
-fn value_behind<'a>(word: &'a [u8], key: &[u8]) -> Option<&'a [u8]>
-    ensures { option_copied result ≡ (if opens word.now key.now then Some (value_of word.now) else None) }
+/// The value that a word gives, where it is this key, `=` and a value. Few words have a `=` at the place that a wrong key wants.
+fn value_behind<'a>(word: &'a [u8], key: Key) -> Option<&'a [u8]>
+    ensures { option_copied result ≡ (if opens word.now (key_text key) then Some (value_of word.now) else None) }
 {
-    match word {
-        [] => None,
-        [b'=', value @ ..] => {
-            if key.is_empty() {
-                return Some(value);
-            }
-            None
-        }
-        [a, word @ ..] => match key {
-            [] => None,
-            [b, key @ ..] => {
-                if *a != *b {
-                    return None;
-                }
-                value_behind(word, key)
-            }
-        },
+    let text = key.text();
+    let end = text.len();
+    if word.len() <= end {
+        return None;
     }
+    if word[end] != b'=' {
+        return None;
+    }
+    if &word[..end] != text {
+        return None;
+    }
+    Some(&word[end + 1..])
 }
 
 /// The place of the option that a word gives, and the value.
@@ -42,7 +35,7 @@ fn option_in<'a>(fields: &[Field], word: &'a [u8]) -> Option<(usize, &'a [u8])>
     ensures value { IfSome result (λ option. option.1.now ≡ value_of word.now) }
 {
     for (place, field) in fields.iter().enumerate() {
-        if let Some(value) = value_behind(word, field.key.text()) {
+        if let Some(value) = value_behind(word, field.key) {
             return Some((place, value));
         }
     }
@@ -57,6 +50,7 @@ pub struct Placed {
 }
 
 /// Puts what each word gives at the place of its option, the last word first.
+#[rattlefmt::skip]
 fn place_each<'a>(given: &mut Vec<Option<&'a [u8]>>, word: Word, words: &[&'a [u8]]) -> Placed
     requires { map option_copied given.old.items ≡ texts_in (fields word) [] }
     ensures known { result.known ≡ list_all (is_known (fields word)) (texts words.now) }
@@ -64,10 +58,7 @@ fn place_each<'a>(given: &mut Vec<Option<&'a [u8]>>, word: Word, words: &[&'a [u
     ensures given { result.known ≡ true → map option_copied given.new.items ≡ texts_in (fields word) (texts words.now) }
 {
     match words {
-        [] => Placed {
-            known: true,
-            twice: false,
-        },
+        [] => Placed { known: true, twice: false },
         [first, rest @ ..] => {
             let placed = place_each(given, word, rest);
             if !placed.known {
@@ -79,10 +70,7 @@ fn place_each<'a>(given: &mut Vec<Option<&'a [u8]>>, word: Word, words: &[&'a [u
                     given[place] = Some(value);
                     Placed { known: true, twice }
                 }
-                None => Placed {
-                    known: false,
-                    twice: false,
-                },
+                None => Placed { known: false, twice: false },
             }
         }
     }
