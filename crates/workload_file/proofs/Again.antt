@@ -7,7 +7,7 @@ use Rattle.workload_file.proofs.Facts.{IsRead, stated, states, here, is_sound, b
 use Rattle.workload_file.proofs.Fields.{is_deed, Says, says_node, says_caller, says_deed, says, fields_apart, fields_found, fields_good, place_at, made, deed_said}
 use Rattle.workload_file.proofs.Finds.{find_passes}
 use Rattle.workload_file.proofs.Optioned.{all_read, opts_known, opts_words, opts_once, values_from, free_none}
-use Rattle.workload_file.proofs.Invariant.{splits, deed_given, node_given, named, IsFormed, adds_keeps, start_formed}
+use Rattle.workload_file.proofs.Invariant.{flat_push, splits, deed_given, node_given, named, IsFormed, adds_keeps, start_formed}
 use Rattle.workload_file.proofs.Phrases.{is_word, all_append, all_parts, words_good, words_again, line_printable, printable_lacks, led_length, words_shorter, statements_push, statements_none, laid_none, text_led}
 use Rattle.workload_file.proofs.Spelling.{picks_short, place_is, place_found}
 use Rattle.workload_file.proofs.Places.{bytes_are}
@@ -158,10 +158,6 @@ line_again r line text c e =
 
 -- ---- the lines of what is read so far
 
-flat_lines : (xs : List Part) (p : Part) → flat_map lines_of_part (xs ++ p ∷ []) ≡ flat_map lines_of_part xs ++ lines_of_part p
-flat_lines [] p = append-nil (lines_of_part p)
-flat_lines (x ∷ xs) p = rw (flat_lines xs p) (sym (append_assoc (lines_of_part x) (flat_map lines_of_part xs) (lines_of_part p)))
-
 abbrev shown : Reading → List Line
 shown r = lines_of (finished r)
 
@@ -171,15 +167,15 @@ line_shown line text le = let n : line ≡ 0 → ⊥ = λ (e : line ≡ 0). omeg
 statement_shown : (r : Reading) (s : Statement) → shown (with_change r s.line (Some (change.Statement s))) ≡ shown r ++ (s.line, statement_text r.current.statements s) ∷ []
 unfolding with_change
 statement_shown r s =
-    let a = flat_lines r.before r.current in
-    let b = flat_lines r.before (record r.current { statements = r.current.statements ++ s ∷ [] }) in
+    let a = flat_push lines_of_part r.before r.current in
+    let b = flat_push lines_of_part r.before (record r.current { statements = r.current.statements ++ s ∷ [] }) in
     let m = statements_push [] r.current.statements s in
     rw (b, a, m) (simp append_assoc)
 
 caller_shown : (r : Reading) (line : ℕ) (name : List ℕ) → 1 ≤ line → shown (with_change r line (Some (change.Caller name))) ≡ shown r ++ (line, caller_text name) ∷ []
 unfolding with_change
 caller_shown r line name le =
-    let b = flat_lines (r.before ++ r.current ∷ []) (record { line = line; name = name; statements = [] }) in
+    let b = flat_push lines_of_part (r.before ++ r.current ∷ []) (record { line = line; name = name; statements = [] }) in
     rw (b, line_shown line (caller_text name) le, statements_none []) (sym (append_assoc (if_any r.node_line (node_text r.settings)) (flat_map lines_of_part (r.before ++ r.current ∷ [])) ((line, caller_text name) ∷ [])))
 
 -- as many lines as statements

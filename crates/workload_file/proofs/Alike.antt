@@ -1,5 +1,5 @@
 -- Comments, spaces, the order of options and written-out defaults.
-use Rattle.workload_file.proofs.Cited.{◌≡◌, ℕ, ◌≤◌, List, [], ◌∷◌, ◌++◌, length, replicate, Bool, true, false, not, cond, eqb, ◌&&◌, ◌||◌, Option, Some, None, Ok, refl, sym, ap, subst, ◌∙◌, arith, inl, inr, zero, suc, ◌+◌, map, nat_le, nat_lt, filter, is_some, option_and_then, slice_get, option_map, find, list_any, list_all, onto_first, position_or_len, bytes_eq, and_parts, and_from, or_parts, or_from, cases_Bool, eqb-true, lt-ltb, le-ltb, not-false, append-nil, map-append, length-map, length-slice_split, between, Word, Naming, Key, Field, Value, Statement, Workload, Reading, Change, is_name, is_name_byte, begins_with_letter, words_of, naming, fields, key_text, word_of, key_of, value_of, is_known, has_twice, gives, text_of, has_second, name_in, options_in, use_in, is_called, bound_at, is_binding, place_of, is_taken, is_misplaced, is_ninth_caller, is_unbound, value_given, value_absent, value_at, values_in, change_with, change_of, or_unbound, line_gives, line_adds, lines_add, at_line, start, workload_of, with_change, finished, IsPlain, has_equals, IsSwapped, IsWrittenOut, AddsAlike, DifferAt, AddsNothing, IsInserted, still, still_part, AreStill, GivesStill, is_statement, is_printable, slice_get-map, Sort, Shape, Part, is_begin}
+use Rattle.workload_file.proofs.Cited.{◌≡◌, ℕ, ◌≤◌, List, [], ◌∷◌, ◌++◌, length, replicate, Bool, true, false, not, cond, eqb, ◌&&◌, ◌||◌, Option, Some, None, Ok, refl, sym, ap, subst, ◌∙◌, arith, inl, inr, zero, suc, ◌+◌, map, nat_le, nat_lt, filter, is_some, option_and_then, slice_get, option_map, find, list_any, list_all, onto_first, position_or_len, bytes_eq, and_parts, and_from, or_parts, or_from, cases_Bool, eqb-true, lt-ltb, le-ltb, not-false, append-nil, map-append, length-map, length-slice_split, between, Word, Naming, Key, Field, Value, Statement, Workload, Reading, Change, is_name, is_name_byte, begins_with_letter, words_of, naming, fields, key_text, word_of, key_of, value_of, is_known, has_twice, gives, text_of, has_second, name_in, options_in, use_in, is_called, bound_at, is_binding, place_of, is_taken, is_misplaced, is_ninth_caller, is_unbound, value_given, value_absent, value_at, values_in, change_with, change_of, or_unbound, line_gives, line_adds, lines_add, at_line, start, workload_of, with_change, finished, IsPlain, has_equals, IsSwapped, IsWrittenOut, AddsAlike, DifferAt, AddsNothing, IsInserted, still, still_part, AreStill, GivesStill, is_statement, is_printable, slice_get-map, Sort, Shape, Part, is_begin, length-append, length-replicate, filter-append}
 use Rattle.workload_file.specs.declared.table.Naming.TheVariants as rule
 use Rattle.workload_file.specs.declared.table.Word.TheVariants as word
 use Rattle.workload_file.specs.declared.table.Shape.TheVariants as shape
@@ -7,7 +7,7 @@ use Rattle.workload_file.specs.declared.values.Value.TheVariants as given
 use Rattle.workload_file.specs.declared.reading.Change.TheVariants as change
 use Rattle.workload_file.proofs.Facts.{IsRead, bind_ok, at_line_ok, some_is, here, is_sound, stated, states, silent, silence, ok_is, one_more, gives_adds}
 use Rattle.workload_file.proofs.Fields.{AreApart, IsField, fields_apart, option_is}
-use Rattle.workload_file.proofs.Invariant.{any_push}
+use Rattle.workload_file.proofs.Invariant.{any_push, no_name as nameless}
 use Rattle.workload_file.proofs.Phrases.{all_append}
 use Rattle.workload_file.proofs.Places.{bytes_are, bytes_same, apart_sym}
 use Rattle.workload_file.proofs.Optioned.{text_skip, text_nothing, known_here}
@@ -35,25 +35,18 @@ plain_adds : (r : Reading) (line : ℕ) (text : List ℕ) → IsPlain text → i
 unfolding line_adds with_change
 plain_adds r line text plain h = rw (silence r line text plain h) refl
 
-abbrev spaces : ℕ → List ℕ
-spaces n = replicate n 32
-
-spaces_long : (n : ℕ) → length (spaces n) ≡ n
-spaces_long zero = refl
-spaces_long (suc n) = let rest = spaces_long n in omega (arith, rest)
-
 spaces_printable : (n : ℕ) → list_all is_printable (replicate n 32) ≡ true
 spaces_printable zero = refl
 spaces_printable (suc n) = spaces_printable n
 
-no_words : is_statement (words_of []) ≡ false
+end_words : words_of [] ≡ []
 unfolding words_of
-no_words = refl
+end_words = refl
 
 pub blank_adds : (r : Reading) (line n : ℕ) → n ≤ 512 → line_adds r line (replicate n 32) ≡ Ok r
 blank_adds r line n le =
     let words : words_of (replicate n 32) ≡ words_of [] = ap words_of (sym (append-nil (replicate n 32))) ∙ leads_words n [] in
-    plain_adds r line (replicate n 32) (record { short = omega (arith, le, spaces_long n); printable = spaces_printable n }) (rw words no_words)
+    plain_adds r line (replicate n 32) (record { short = omega (arith, le, length-replicate {A = ℕ} n 32); printable = spaces_printable n }) (rw (words, end_words) refl)
 
 pub comment_adds : (r : Reading) (line n : ℕ) (text : List ℕ) → IsPlain (replicate n 32 ++ 35 ∷ text) → line_adds r line (replicate n 32 ++ 35 ∷ text) ≡ Ok r
 comment_adds r line n text plain = plain_adds r line (replicate n 32 ++ 35 ∷ text) plain (rw (leads_words n (35 ∷ text)) (comment_silent text))
@@ -74,17 +67,9 @@ between_append (x ∷ xs) b =
     let some = length-slice_split (λ c. eqb c 32) xs in
     ap (λ (ps : List (List ℕ)). cond (eqb x 32) ([] ∷ ps) (onto_first x ps)) (between_append xs b) ∙ cut_append (eqb x 32) x (between 32 xs) (between 32 b) (omega (arith, some))
 
-kept_append : (keep : Bool) (w : List ℕ) (ws vs : List (List ℕ)) → cond keep (w ∷ (ws ++ vs)) (ws ++ vs) ≡ cond keep (w ∷ ws) ws ++ vs
-kept_append true w ws vs = refl
-kept_append false w ws vs = refl
-
-filter_append : (p : List ℕ → Bool) (ws vs : List (List ℕ)) → filter p (ws ++ vs) ≡ filter p ws ++ filter p vs
-filter_append p [] vs = refl
-filter_append p (w ∷ ws) vs = ap (λ (xs : List (List ℕ)). cond (p w) (w ∷ xs) xs) (filter_append p ws vs) ∙ kept_append (p w) w (filter p ws) (filter p vs)
-
 words_append : (a b : List ℕ) → words_of (a ++ 32 ∷ b) ≡ words_of a ++ words_of b
 unfolding words_of
-words_append a b = ap (filter (λ w. nat_lt 0 (length w))) (between_append a b) ∙ filter_append (λ w. nat_lt 0 (length w)) (between 32 a) (between 32 b)
+words_append a b = ap (filter (λ w. nat_lt 0 (length w))) (between_append a b) ∙ filter-append (λ w. nat_lt 0 (length w)) (between 32 a) (between 32 b)
 
 printable_space : (a b : List ℕ) → list_all is_printable (a ++ 32 ∷ b) ≡ list_all is_printable (a ++ b)
 printable_space [] b = refl
@@ -95,30 +80,19 @@ same_words : (r : Reading) (line : ℕ) (text other : List ℕ) → words_of tex
 unfolding line_adds line_gives
 same_words r line text other w p h k = rw (le-ltb 512 (length text) h, le-ltb 512 (length other) k, p, w) refl
 
-long_append : (a b c : List ℕ) → length b ≤ length c → length (a ++ b) ≤ length (a ++ c)
-long_append [] b c h = h
-long_append (x ∷ xs) b c h = let rest = long_append xs b c h in omega (arith, rest)
-
 pub inner_space : (r : Reading) (line : ℕ) (a b : List ℕ) → length (a ++ 32 ∷ (32 ∷ b)) ≤ 512 → line_adds r line (a ++ 32 ∷ (32 ∷ b)) ≡ line_adds r line (a ++ 32 ∷ b)
 inner_space r line a b h =
     let words : words_of (a ++ 32 ∷ (32 ∷ b)) ≡ words_of (a ++ 32 ∷ b) = words_append a (32 ∷ b) ∙ (ap (λ (ws : List (List ℕ)). words_of a ++ ws) (lead_words b) ∙ sym (words_append a b)) in
-    let le = long_append a (32 ∷ b) (32 ∷ (32 ∷ b)) (omega arith) in
-    same_words r line (a ++ 32 ∷ (32 ∷ b)) (a ++ 32 ∷ b) words (printable_space a (32 ∷ b)) h (omega (arith, h, le))
+    same_words r line (a ++ 32 ∷ (32 ∷ b)) (a ++ 32 ∷ b) words (printable_space a (32 ∷ b)) h (omega (arith, h, length-append a (32 ∷ b), length-append a (32 ∷ (32 ∷ b))))
 
 pub first_space : (r : Reading) (line : ℕ) (a : List ℕ) → length (32 ∷ a) ≤ 512 → line_adds r line (32 ∷ a) ≡ line_adds r line a
 first_space r line a h = same_words r line (32 ∷ a) a (lead_words a) refl h (omega (arith, h))
-
-end_words : words_of [] ≡ []
-unfolding words_of
-end_words = refl
 
 pub last_space : (r : Reading) (line : ℕ) (a : List ℕ) → length (a ++ 32 ∷ []) ≤ 512 → line_adds r line (a ++ 32 ∷ []) ≡ line_adds r line a
 last_space r line a h =
     let words : words_of (a ++ 32 ∷ []) ≡ words_of a = words_append a [] ∙ (ap (λ (ws : List (List ℕ)). words_of a ++ ws) end_words ∙ append-nil (words_of a)) in
     let printable : list_all is_printable (a ++ 32 ∷ []) ≡ list_all is_printable a = printable_space a [] ∙ ap (list_all is_printable) (append-nil a) in
-    let le = long_append a [] (32 ∷ []) (omega arith) in
-    let same : length (a ++ []) ≡ length a = ap (λ (t : List ℕ). length t) (append-nil a) in
-    same_words r line (a ++ 32 ∷ []) a words printable h (omega (arith, h, le, same))
+    same_words r line (a ++ 32 ∷ []) a words printable h (omega (arith, h, length-append a (32 ∷ [])))
 
 -- ---- other words that give the same
 
@@ -246,10 +220,6 @@ byte_equals b h =
 bytes_equals : (bs : List ℕ) → list_all is_name_byte bs ≡ true → list_any (λ b. eqb b 61) bs ≡ false
 bytes_equals [] h = refl
 bytes_equals (b ∷ bs) h = let both = and_parts (is_name_byte b) (list_all is_name_byte bs) h in or_from _ _ (byte_equals b both.0) (bytes_equals bs both.1)
-
-nameless : is_name [] ≡ true → ⊥
-unfolding is_name
-nameless e = cc
 
 -- an option is no name
 no_name : (word : List ℕ) → has_equals word ≡ true → is_name word ≡ true → ⊥

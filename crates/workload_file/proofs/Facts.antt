@@ -1,5 +1,5 @@
 -- What is known of a line that was read without a fault, and the other way round.
-use Rattle.workload_file.proofs.Cited.{◌≡◌, ℕ, List, [], ◌∷◌, length, Bool, true, false, not, cond, ◌&&◌, Option, Some, None, Result, Ok, Err, refl, sym, ap, ◌∙◌, inl, inr, ◌||◌, ◌+◌, ◌++◌, arith, nat_le, nat_lt, find, list_all, list_any, not-false, or_parts, or_from, and_parts, and_from, cases_Bool, ltb-false, le-ltb, Word, Value, Cause, Reading, Change, Statement, is_name, naming, fields, word_of, is_known, has_twice, has_second, name_in, options_in, use_in, is_taken, is_unbound, is_misplaced, is_ninth_caller, words_of, values_in, is_bad, is_missing, names_nothing, change_of, is_printable, is_comment, is_statement, is_faulty, words_meet, statement_causes, word_causes, first_met, ◌>>=◌, unless, words_say, line_gives, at_line, with_change, line_adds, lines_add, start, finished, workload_of, refused_for, IsFirstFault, IsPlain, Workload, Fault, between}
+use Rattle.workload_file.proofs.Cited.{◌≡◌, ℕ, List, [], ◌∷◌, length, Bool, true, false, not, cond, ◌&&◌, Option, Some, None, Result, Ok, Err, refl, sym, ap, ◌∙◌, inl, inr, ◌||◌, ◌+◌, ◌++◌, arith, nat_le, nat_lt, find, list_all, list_any, not-false, or_parts, or_from, and_parts, and_from, cases_Bool, ltb-false, le-ltb, Word, Value, Cause, Reading, Change, Statement, is_name, naming, fields, word_of, is_known, has_twice, has_second, name_in, options_in, use_in, is_taken, is_unbound, is_misplaced, is_ninth_caller, words_of, values_in, is_bad, is_missing, names_nothing, change_of, is_printable, is_comment, is_statement, is_faulty, words_meet, statement_causes, word_causes, first_met, ◌>>=◌, unless, words_say, line_gives, at_line, with_change, line_adds, lines_add, start, finished, workload_of, refused_for, IsFirstFault, IsPlain, Fault, between}
 use Rattle.workload_file.specs.declared.values.Value.TheVariants as given
 use Rattle.workload_file.specs.declared.faults.Cause.TheVariants as cause
 
@@ -264,16 +264,19 @@ pub line_refused : (r : Reading) (line : ℕ) (text : List ℕ) → refused_for 
 unfolding line_gives
 line_refused r line text = unless_refused (first_met r text) (words_say r line (words_of text))
 
+abbrev fails : {E : Type 0} (A : Type 0) → E → Result A E
+fails A e = Err e
+
 abbrev failed : Fault → Result Reading Fault
 failed f = Err f
 
-failed_is : (f g : Fault) → failed f ≡ failed g → f ≡ g
-failed_is f g e = cc
+err_is : {A E : Type 0} (e f : E) → fails A e ≡ fails A f → e ≡ f
+err_is e f h = cc
 
 fault_at : (r : Reading) (line : ℕ) (x : Result (Option Change) Cause) (f : Fault) → at_line line (x >>= λ c. Ok (with_change r line c)) ≡ Err f → (f.line ≡ line) × (refused_for x ≡ Some f.cause)
 fault_at r line (Ok c) f e = absurd cc
 fault_at r line (Err c) f e =
-    let same = failed_is (record { line = line; cause = c }) f e in
+    let same = err_is (record { line = line; cause = c }) f e in
     (sym (ap (λ (g : Fault). g.line) same), ap (λ (g : Fault). Some g.cause) same)
 
 line_fault : (r : Reading) (line : ℕ) (text : List ℕ) (f : Fault) → line_adds r line text ≡ Err f → (f.line ≡ line) × (first_met r text ≡ Some f.cause)
@@ -334,7 +337,7 @@ fault_by text texts r line f (Ok s) each a e =
       cause = h.cause;
     }
 fault_by text texts r line f (Err g) each a e =
-    let same = failed_is g f (sym (here_fails r line text texts g a) ∙ e) in
+    let same = err_is g f (sym (here_fails r line text texts g a) ∙ e) in
     let w = line_fault r line text f (a ∙ ap failed same) in
     record {
       before = [];
@@ -351,13 +354,7 @@ fault_in : (texts : List (List ℕ)) (r : Reading) (line : ℕ) (f : Fault) → 
 fault_in [] r line f e = absurd (nothing_read r line f e)
 fault_in (text ∷ texts) r line f e = fault_by text texts r line f (line_adds r line text) (λ s h. fault_in texts s (line + 1) f h) refl e
 
-abbrev read_as : Reading → Result Reading Fault
-read_as r = Ok r
-
-read_is : (r s : Reading) → read_as r ≡ read_as s → r ≡ s
-read_is r s e = cc
-
-read_fails : (r : Reading) (f : Fault) → failed f ≡ read_as r → ⊥
+read_fails : (r : Reading) (f : Fault) → failed f ≡ done Fault r → ⊥
 read_fails r f e = cc
 
 fails_next : (first text : List ℕ) (before after : List (List ℕ)) (r said : Reading) (line : ℕ) (f : Fault) (x : Result Reading Fault) → ((s : Reading) → lines_add s (line + 1) before ≡ Ok said → lines_add s (line + 1) (before ++ text ∷ after) ≡ Err f) → line_adds r line first ≡ x → lines_add r line (first ∷ before) ≡ Ok said → lines_add r line (first ∷ (before ++ text ∷ after)) ≡ Err f
@@ -366,21 +363,15 @@ fails_next first text before after r said line f (Err g) each e read = absurd (r
 
 fails_behind : (before after : List (List ℕ)) (text : List ℕ) (r said : Reading) (line : ℕ) (f : Fault) → lines_add r line before ≡ Ok said → f.line ≡ line + length before → first_met said text ≡ Some f.cause → lines_add r line (before ++ text ∷ after) ≡ Err f
 fails_behind [] after text r said line f read number met =
-    let same : r ≡ said = read_is r said (sym (no_lines r line) ∙ read) in
+    let same : r ≡ said = ok_is r said (sym (no_lines r line) ∙ read) in
     here_fails r line text after f (met_fault r line text f (omega (arith, number)) (rw same met))
 fails_behind (first ∷ before) after text r said line f read number met = fails_next first text before after r said line f (line_adds r line first) (λ s h. fails_behind before after text s said (line + 1) f h (omega (arith, number)) met) refl read
 
 -- ---- the text
 
-abbrev no_load : Fault → Result Workload Fault
-no_load f = Err f
-
-load_fault : (f g : Fault) → no_load f ≡ no_load g → f ≡ g
-load_fault f g e = cc
-
 kept_fault : (x : Result Reading Fault) (f : Fault) → (x >>= λ r. Ok (finished r)) ≡ Err f → x ≡ Err f
 kept_fault (Ok r) f e = absurd cc
-kept_fault (Err g) f e = ap failed (load_fault g f e)
+kept_fault (Err g) f e = ap failed (err_is g f e)
 
 pub text_refused : (bytes : List ℕ) (fault : Fault) → workload_of bytes ≡ Err fault → IsFirstFault bytes fault
 unfolding workload_of

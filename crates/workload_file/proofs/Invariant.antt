@@ -55,7 +55,7 @@ no_begins : (xs : List Statement) → list_any (λ s. is_begin s.deed) xs ≡ fa
 no_begins [] h = refl
 no_begins (x ∷ xs) h = let both = or_parts (is_begin x.deed) (list_any (λ s. is_begin s.deed) xs) h in let rest = no_begins xs both.1 in rw both.0 (omega (arith, rest))
 
-pub flat_push : (f : Part → List ℕ) (xs : List Part) (p : Part) → flat_map f (xs ++ p ∷ []) ≡ flat_map f xs ++ f p
+pub flat_push : {A : Type 0} (f : Part → List A) (xs : List Part) (p : Part) → flat_map f (xs ++ p ∷ []) ≡ flat_map f xs ++ f p
 flat_push f [] p = append-nil (f p)
 flat_push f (x ∷ xs) p = rw (flat_push f xs p) (sym (append_assoc (f x) (flat_map f xs) (f p)))
 
@@ -96,7 +96,7 @@ pub record IsFormed (r : Reading) (line : ℕ) : Type 0 where
 abbrev pub named : Naming → List ℕ → List (List ℕ)
 named n name = cond (has_second n) (name ∷ []) []
 
-no_name : is_name [] ≡ true → ⊥
+pub no_name : is_name [] ≡ true → ⊥
 unfolding is_name
 no_name e = cc
 
