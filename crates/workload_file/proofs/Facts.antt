@@ -66,17 +66,11 @@ none_in : (p : Value → Bool) (vs : List Value) → ((v : Value) → is_sound v
 none_in p [] h s = refl
 none_in p (v ∷ vs) h s = let both = and_parts (is_sound v) (list_all is_sound vs) s in or_from (p v) (list_any p vs) (h v both.0) (none_in p vs h both.1)
 
-not_bad : (v : Value) → is_sound v ≡ true → is_bad v ≡ false
-not_bad given.Bad s = absurd cc
-not_bad _ s = refl
-
-not_missing : (v : Value) → is_sound v ≡ true → is_missing v ≡ false
-not_missing given.Missing s = absurd cc
-not_missing _ s = refl
-
-not_unbound : (v : Value) → is_sound v ≡ true → names_nothing v ≡ false
-not_unbound given.Unbound s = absurd cc
-not_unbound _ s = refl
+sound_is : (v : Value) → is_sound v ≡ true → (is_bad v ≡ false) × (is_missing v ≡ false) × (names_nothing v ≡ false)
+sound_is given.Bad s = absurd cc
+sound_is given.Missing s = absurd cc
+sound_is given.Unbound s = absurd cc
+sound_is _ s = (refl, refl, refl)
 
 -- ---- a statement
 
@@ -142,7 +136,7 @@ of_read : (r : Reading) (w : Word) (name : List ℕ) (options : List (List ℕ))
 unfolding is_faulty
 of_read r w name options first rest f =
     let vs = values_in (here r) options (fields w) in
-    rw (f.few, f.callers, f.placed, f.named, f.known, f.once, none_in is_bad vs not_bad f.sound, none_in is_missing vs not_missing f.sound, f.free, f.bound, none_in names_nothing vs not_unbound f.sound) refl
+    rw (f.few, f.callers, f.placed, f.named, f.known, f.once, none_in is_bad vs (λ v s. (sound_is v s).0) f.sound, none_in is_missing vs (λ v s. (sound_is v s).1) f.sound, f.free, f.bound, none_in names_nothing vs (λ v s. (sound_is v s).2) f.sound) refl
 
 -- ---- words
 

@@ -1,5 +1,5 @@
 -- The options that are written of values are options of the statement, and give the values.
-use Rattle.workload_file.proofs.Cited.{◌≡◌, ℕ, ℤ, ◌-◌, ◌^◌, List, [], ◌∷◌, ◌++◌, Bool, true, false, Option, Some, None, refl, sym, ap, ◌<◌, eqb, subst, inl, inr, append_assoc, arith, length, length-append, AllByRecursion, list_any, find, list_all, bytes_eq, or_parts, eqb-true, and_from, and_parts, or_from, cases_Bool, lt-ltb, Key, Field, key_text, key_of, value_of, gives, text_of, field_of, is_known, has_twice, is_usual, value_text, is_default, options_words, is_some, nat_lt, option_map, Shape, Absent, Value, Statement, value_given, value_absent, value_at, values_in}
+use Rattle.workload_file.proofs.Cited.{◌≡◌, ℕ, ◌-◌, ◌^◌, List, [], ◌∷◌, ◌++◌, Bool, true, false, Option, Some, None, refl, sym, ap, ◌<◌, eqb, subst, inl, inr, append_assoc, arith, length, length-append, AllByRecursion, list_any, find, list_all, bytes_eq, or_parts, eqb-true, and_from, and_parts, or_from, cases_Bool, lt-ltb, Key, Field, key_text, key_of, value_of, gives, text_of, field_of, is_known, has_twice, value_text, is_default, options_words, is_some, nat_lt, option_map, Shape, Absent, Value, Statement, value_given, value_absent, value_at, values_in}
 use Rattle.workload_file.specs.declared.values.Value.TheVariants as given
 use Rattle.workload_file.specs.declared.table.Shape.TheVariants as shape
 use Rattle.workload_file.specs.declared.table.Absent.TheVariants as absent
@@ -12,21 +12,6 @@ use Rattle.workload_file.proofs.Phrases.{is_inner, is_word, all_append, all_part
 use Rattle.workload_file.proofs.Spelling.{value_is, absent_is, spelled}
 
 -- ==== what options that are left out or written give
-
-pub usual_args : (zs : List ℤ) → is_usual (given.Args zs) ≡ true → given.Args [] ≡ given.Args zs
-usual_args [] h = refl
-usual_args (z ∷ zs) h = absurd cc
-
-pub usual_flag : (b : Bool) → is_usual (given.Flag b) ≡ true → given.Flag false ≡ given.Flag b
-usual_flag true h = absurd cc
-usual_flag false h = refl
-
-pub usual_place : (o : Option ℕ) → is_usual (given.Place o) ≡ true → given.Place None ≡ given.Place o
-usual_place None h = refl
-usual_place (Some i) h = absurd cc
-
-pub usual_cores : (m : ℕ) → is_usual (given.Cores (record { 0 = m })) ≡ true → given.Cores (record { 0 = 2 ^ 64 - 1 }) ≡ given.Cores (record { 0 = m })
-usual_cores m h = ap (λ (x : ℕ). given.Cores (record { 0 = x })) (sym (eqb-true m (2 ^ 64 - 1) h))
 
 abbrev pub Free : List (List ℕ) → List Field → Type 0
 Free ws fs = AllByRecursion (λ f. gives f.key ws ≡ false) fs
@@ -174,10 +159,10 @@ opts_once before (f ∷ fs) [] a h = absurd h
 -- an option that is left out gives its default
 default_value : (a : Absent) (s : Shape) (v : Value) → is_good a s ≡ true → is_default a v ≡ true → is_shaped s v ≡ true → value_absent a s ≡ v
 unfolding value_absent is_default
-default_value absent.Usual shape.Args (given.Args zs) good d shaped = usual_args zs d
-default_value absent.Usual shape.Cores (given.Cores mask) good d shaped = usual_cores mask.0 d
-default_value absent.Usual shape.Flag (given.Flag b) good d shaped = usual_flag b d
-default_value absent.Usual (shape.Named sort) (given.Place place) good d shaped = usual_place place d
+default_value absent.Usual shape.Args (given.Args []) good d shaped = refl
+default_value absent.Usual shape.Cores (given.Cores mask) good d shaped = ap (λ (x : ℕ). given.Cores (record { 0 = x })) (sym (eqb-true mask.0 (2 ^ 64 - 1) d))
+default_value absent.Usual shape.Flag (given.Flag false) good d shaped = refl
+default_value absent.Usual (shape.Named sort) (given.Place None) good d shaped = refl
 default_value (absent.Number n) (shape.Number low high) (given.Number m) good d shaped = ap (λ (x : ℕ). given.Number x) (sym (eqb-true m n d))
 default_value _ _ _ good d shaped = absurd cc
 
