@@ -10,7 +10,8 @@ ghost use Rattle.workload_file.specs.Steps.{texts_in, IsOptionAt};
 use crate::table::{Field, Key, Word};
 use std::alloc::AllocError;
 
-/// The value that a word gives, where it is this key, `=` and a value. Few words have a `=` at the place that a wrong key wants.
+/// The value that a word gives, where it is this key, `=` and a value. Where another key stands, the byte behind as many bytes as
+/// this key has is seldom `=`, so that keys are seldom compared.
 fn value_behind<'a>(word: &'a [u8], key: Key) -> Option<&'a [u8]>
     ensures { option_copied result ≡ (if opens word.now (key_text key) then Some (value_of word.now) else None) }
 {
