@@ -1,21 +1,5 @@
 -- A handle that was written is read as the same.
-use Rattle.std.proofs.Common.{◌≡◌, ℕ, ◌+◌, ◌*◌, ◌/◌, ◌%◌, ◌<◌, ◌≤◌, ◌^◌, List, [], ◌∷◌, ◌++◌, length, take, drop, Bool, true, false, cond, eqb, Option, Some, None, refl, ap, ◌∙◌, arith, inl, inr, zero, suc}
-use Rattle.std.specs.Prelude.{codes, nat_lt, find}
-use Rattle.std.specs.List.{before_first, after_first, position_or_len, list_all}
-use Rattle.std.specs.Char.{is_ascii_digit}
-use Rattle.std.specs.Prelude.{nat_le}
-use Rattle.std.specs.Fmt.{decimal}
-use Rattle.std.proofs.lemmas.Bool.{cases_Bool, leb-true, eqb-true, ne_eqb, and_parts}
-use Rattle.std.proofs.lemmas.Fmt.{digits_decimal}
-use Rattle.mtapi_values.specs.declared.handles.ObjectKind.{ObjectKind}
-use Rattle.mtapi_values.specs.declared.handles.ObjectKind.TheVariants.{Action}
-use Rattle.mtapi_values.specs.declared.handles.Layout.{Layout}
-use Rattle.mtapi_values.specs.declared.handles.Layout.TheVariants.{One, Two}
-use Rattle.mtapi_values.specs.Layouts.{object_number, named_kind}
-use Rattle.number_text.specs.Numbers.{number, number_within}
-use Rattle.number_text.proofs.Parsing.{own}
-use Rattle.number_text.proofs.Writing.{number_written, within_written}
-use Rattle.journal_text.specs.Handles.{kind_letter, kind_lettered, kind_numbered, object_kinds, handle_led, handle_of, handle_named, handle_text, named_text, generation, slot}
+use Rattle.journal_text.proofs.Names.{◌≡◌, ℕ, ◌+◌, ◌*◌, ◌/◌, ◌%◌, ◌<◌, ◌≤◌, ◌^◌, List, [], ◌∷◌, ◌++◌, length, drop, Bool, true, false, eqb, Option, Some, None, refl, ap, ◌∙◌, arith, inl, inr, codes, nat_lt, find, before_first, after_first, position_or_len, list_all, is_ascii_digit, nat_le, decimal, cases_Bool, leb-true, eqb-true, ne_eqb, and_parts, digits_decimal, ObjectKind, Action, Layout, One, Two, object_number, named_kind, number, number_within, own, number_written, within_written, kind_letter, kind_lettered, kind_numbered, object_kinds, handle_led, handle_of, handle_named, handle_text, named_text, generation, slot, length_push, cond_both, subst, sym, append_assoc, drop-append_seam, take-append_seam}
 
 pub dash_no_handle : handle_of (codes "-") ≡ None
 unfolding handle_of number
@@ -59,18 +43,13 @@ dot_place (d ∷ ds) xs h =
     let both = and_parts (is_ascii_digit d) (list_all is_ascii_digit ds) h in
     rw (no_dot d both.0, dot_place ds xs both.1) (omega arith)
 
-take_front : (ds xs : List ℕ) → take (length ds) (ds ++ xs) ≡ ds
-take_front [] xs = refl
-take_front (d ∷ ds) xs = ap (λ l. d ∷ l) (take_front ds xs)
-
 drop_front : (ds xs : List ℕ) (x n : ℕ) → n ≡ length ds + 1 → drop n (ds ++ x ∷ xs) ≡ xs
-drop_front [] xs x zero e = absurd (omega (arith, e))
-drop_front [] xs x (suc n) e = let z : n ≡ 0 = omega (arith, e) in rw z refl
-drop_front (d ∷ ds) xs x zero e = absurd (omega (arith, e))
-drop_front (d ∷ ds) xs x (suc n) e = drop_front ds xs x n (omega (arith, e))
+drop_front ds xs x n e =
+    subst (λ (m : ℕ). drop m (ds ++ x ∷ xs) ≡ xs) (length_push ds x ∙ sym e)
+    (ap (drop (length (ds ++ x ∷ []))) (sym (append_assoc ds (x ∷ []) xs)) ∙ drop-append_seam (ds ++ x ∷ []) xs)
 
 front_is : (ds xs : List ℕ) → list_all is_ascii_digit ds ≡ true → before_first is_dot (ds ++ 46 ∷ xs) ≡ ds
-front_is ds xs h = rw (dot_place ds xs h) (take_front ds (46 ∷ xs))
+front_is ds xs h = rw (dot_place ds xs h) (take-append_seam ds (46 ∷ xs))
 
 back_is : (ds xs : List ℕ) → list_all is_ascii_digit ds ≡ true → after_first is_dot (ds ++ 46 ∷ xs) ≡ xs
 back_is ds xs h = rw (dot_place ds xs h) (drop_front ds xs 46 _ (omega arith))
@@ -109,11 +88,7 @@ named_again k h f n =
 
 found_passes : {X : Type 0} (p : X → Bool) (all : List X) (x : X) → find p all ≡ Some x → p x ≡ true
 found_passes p [] x e = absurd cc
-found_passes p (y ∷ ys) x e =
-    elim (p y) as (λ b. p y ≡ b → cond b (Some y) (find p ys) ≡ Some x → p x ≡ true) [
-      | true ↦ λ is f. cc
-      | false ↦ λ is f. found_passes p ys x f
-    ] refl e
+found_passes p (y ∷ ys) x e = cond_both (p y) (Some y) (find p ys) (λ o. o ≡ Some x → p x ≡ true) (λ is f. cc) (λ is f. found_passes p ys x f) e
 
 kind_again : (h : ℕ) (o : Option ObjectKind) → h < 2 ^ 64 → kind_numbered (named_kind h) ≡ o → handle_of (named_text o h) ≡ Some h
 unfolding handle_of

@@ -1,18 +1,5 @@
 -- A head line that was written is read as the same.
-use Rattle.std.proofs.Common.{◌≡◌, ℕ, ◌<◌, ◌≤◌, ◌^◌, List, [], ◌∷◌, ◌++◌, map, Bool, true, false, cond, ◌&&◌, eqb, Some, None, refl, sym, ap, ◌∙◌, arith}
-use Rattle.std.specs.Prelude.{codes, nat_lt, unwrap_or}
-use Rattle.std.specs.List.{list_all, after_first}
-use Rattle.std.specs.Str.{bytes_eq}
-use Rattle.std.specs.Fmt.{decimal}
-use Rattle.std.proofs.lemmas.Bool.{and_from, le-leb}
-use Rattle.mtapi_values.specs.Attributes.{NodeSettings, AreNodeSettings}
-use Rattle.mtapi_values.specs.declared.handles.Layout.{Layout}
-use Rattle.mtapi_values.specs.declared.handles.Layout.TheVariants as layout
-use Rattle.number_text.specs.Numbers.{number, number_within}
-use Rattle.number_text.proofs.Writing.{within_written}
-use Rattle.journal_text.specs.declared.heads.Head.{Head}
-use Rattle.journal_text.specs.Heads.{version, setting_text, first_texts, last_texts, head_text, number_behind, numbers_behind, with_setting, usual_settings, settings_from, head_from, has_callers, head_in, or_else, head_of}
-use Rattle.journal_text.specs.Fits.{HeadFits}
+use Rattle.journal_text.proofs.Names.{◌≡◌, ℕ, ◌<◌, ◌≤◌, ◌^◌, List, [], ◌∷◌, ◌++◌, map, Bool, true, false, cond, ◌&&◌, eqb, Some, None, refl, sym, ap, ◌∙◌, arith, codes, nat_lt, unwrap_or, list_all, after_first, bytes_eq, decimal, and_from, le-leb, NodeSettings, AreNodeSettings, Layout, number, number_within, within_written, Head, version, setting_text, first_texts, last_texts, head_text, number_behind, numbers_behind, with_setting, usual_settings, settings_from, head_from, has_callers, head_in, or_else, head_of, HeadFits}
 use Rattle.journal_text.proofs.Plain.{is_plain, is_above, between_words, joined_above, decimal_plain, all_append}
 use Rattle.journal_text.proofs.LinesAgain.{bytes_same}
 
@@ -28,8 +15,8 @@ title_none = refl
 
 version_none : (l : Layout) → number_behind (version l) ≡ 0
 unfolding number_behind number number_within
-version_none layout.One = refl
-version_none layout.Two = refl
+version_none Layout.One = refl
+version_none Layout.Two = refl
 
 -- the words of the head line
 abbrev head_words : Head → List (List ℕ)
@@ -55,49 +42,35 @@ numbers_again h f =
     let generations = keyed (setting_text (codes "generations=") s.generations) s.generations refl (omega (arith, f.settings.generations.1)) in
     cons title_none (cons (version_none h.layout) (cons workers (cons callers (cons tasks (cons actions (cons groups (cons queues (cons objects (cons priorities (cons generations refl))))))))))
 
-set_workers : (v : ℕ) (s : NodeSettings) → 1 ≤ v → v ≤ 16 → with_setting 1 v s ≡ record s { workers = v }
+-- a setting takes a value in its range
+set : (v : ℕ) (s : NodeSettings) → 1 ≤ v → (v ≤ 16 → with_setting 1 v s ≡ record s { workers = v })
+    × (v ≤ 65536 → with_setting 2 v s ≡ record s { tasks = v }) × (v ≤ 1024 → with_setting 3 v s ≡ record s { actions = v })
+    × (v ≤ 1024 → with_setting 4 v s ≡ record s { groups = v }) × (v ≤ 256 → with_setting 5 v s ≡ record s { queues = v })
+    × (v ≤ 256 → with_setting 6 v s ≡ record s { objects = v }) × (v ≤ 8 → with_setting 7 v s ≡ record s { priorities = v })
+    × (v ≤ 4294967295 → with_setting 8 v s ≡ record s { generations = v })
 unfolding with_setting
-set_workers v s a b = rw (le-leb 1 v a, le-leb v 16 b) refl
-
-set_tasks : (v : ℕ) (s : NodeSettings) → 1 ≤ v → v ≤ 65536 → with_setting 2 v s ≡ record s { tasks = v }
-unfolding with_setting
-set_tasks v s a b = rw (le-leb 1 v a, le-leb v 65536 b) refl
-
-set_actions : (v : ℕ) (s : NodeSettings) → 1 ≤ v → v ≤ 1024 → with_setting 3 v s ≡ record s { actions = v }
-unfolding with_setting
-set_actions v s a b = rw (le-leb 1 v a, le-leb v 1024 b) refl
-
-set_groups : (v : ℕ) (s : NodeSettings) → 1 ≤ v → v ≤ 1024 → with_setting 4 v s ≡ record s { groups = v }
-unfolding with_setting
-set_groups v s a b = rw (le-leb 1 v a, le-leb v 1024 b) refl
-
-set_queues : (v : ℕ) (s : NodeSettings) → 1 ≤ v → v ≤ 256 → with_setting 5 v s ≡ record s { queues = v }
-unfolding with_setting
-set_queues v s a b = rw (le-leb 1 v a, le-leb v 256 b) refl
-
-set_objects : (v : ℕ) (s : NodeSettings) → 1 ≤ v → v ≤ 256 → with_setting 6 v s ≡ record s { objects = v }
-unfolding with_setting
-set_objects v s a b = rw (le-leb 1 v a, le-leb v 256 b) refl
-
-set_priorities : (v : ℕ) (s : NodeSettings) → 1 ≤ v → v ≤ 8 → with_setting 7 v s ≡ record s { priorities = v }
-unfolding with_setting
-set_priorities v s a b = rw (le-leb 1 v a, le-leb v 8 b) refl
-
-set_generations : (v : ℕ) (s : NodeSettings) → 1 ≤ v → v ≤ 4294967295 → with_setting 8 v s ≡ record s { generations = v }
-unfolding with_setting
-set_generations v s a b = rw (le-leb 1 v a, le-leb v 4294967295 b) refl
+set v s a = (
+  λ b. rw (le-leb 1 v a, le-leb v 16 b) refl,
+  λ b. rw (le-leb 1 v a, le-leb v 65536 b) refl,
+  λ b. rw (le-leb 1 v a, le-leb v 1024 b) refl,
+  λ b. rw (le-leb 1 v a, le-leb v 1024 b) refl,
+  λ b. rw (le-leb 1 v a, le-leb v 256 b) refl,
+  λ b. rw (le-leb 1 v a, le-leb v 256 b) refl,
+  λ b. rw (le-leb 1 v a, le-leb v 8 b) refl,
+  λ b. rw (le-leb 1 v a, le-leb v 4294967295 b) refl,
+)
 
 settings_again : (s : NodeSettings) (callers : ℕ) → AreNodeSettings s → settings_from (setting_numbers s callers) ≡ s
 unfolding settings_from
 settings_again s callers f =
-    let a = set_workers s.workers usual_settings f.workers.0 f.workers.1 in
-    let b = ap (with_setting 2 s.tasks) a ∙ set_tasks s.tasks _ f.tasks.0 f.tasks.1 in
-    let c = ap (with_setting 3 s.actions) b ∙ set_actions s.actions _ f.actions.0 f.actions.1 in
-    let d = ap (with_setting 4 s.groups) c ∙ set_groups s.groups _ f.groups.0 f.groups.1 in
-    let e = ap (with_setting 5 s.queues) d ∙ set_queues s.queues _ f.queues.0 f.queues.1 in
-    let x = ap (with_setting 6 s.objects) e ∙ set_objects s.objects _ f.objects.0 f.objects.1 in
-    let g = ap (with_setting 7 s.priorities) x ∙ set_priorities s.priorities _ f.priorities.0 f.priorities.1 in
-    let h = ap (with_setting 8 s.generations) g ∙ set_generations s.generations _ f.generations.0 f.generations.1 in
+    let a = (set s.workers usual_settings f.workers.0).0 f.workers.1 in
+    let b = ap (with_setting 2 s.tasks) a ∙ (set s.tasks _ f.tasks.0).1 f.tasks.1 in
+    let c = ap (with_setting 3 s.actions) b ∙ (set s.actions _ f.actions.0).2 f.actions.1 in
+    let d = ap (with_setting 4 s.groups) c ∙ (set s.groups _ f.groups.0).3 f.groups.1 in
+    let e = ap (with_setting 5 s.queues) d ∙ (set s.queues _ f.queues.0).4 f.queues.1 in
+    let x = ap (with_setting 6 s.objects) e ∙ (set s.objects _ f.objects.0).5 f.objects.1 in
+    let g = ap (with_setting 7 s.priorities) x ∙ (set s.priorities _ f.priorities.0).6 f.priorities.1 in
+    let h = ap (with_setting 8 s.generations) g ∙ (set s.generations _ f.generations.0).7 f.generations.1 in
     h
 
 -- ---- the line
@@ -106,8 +79,8 @@ setting_plain : (key : List ℕ) (n : ℕ) → is_plain key ≡ true → n < 2 ^
 setting_plain key n k f = all_append (λ b. nat_lt 32 b) key (decimal n) k (decimal_plain n (omega arith))
 
 version_plain : (l : Layout) → is_plain (version l) ≡ true
-version_plain layout.One = refl
-version_plain layout.Two = refl
+version_plain Layout.One = refl
+version_plain Layout.Two = refl
 
 words_plain : (h : Head) → HeadFits h → list_all is_plain (head_words h) ≡ true
 words_plain h f =
@@ -148,20 +121,20 @@ and_false : (a b : Bool) → b ≡ false → (a && b) ≡ false
 and_false true b h = h
 and_false false b h = refl
 
-other_text : (x h : Head) → x.layout ≡ layout.One → h.layout ≡ layout.Two → bytes_eq (head_text x) (head_text h) ≡ false
+other_text : (x h : Head) → x.layout ≡ Layout.One → h.layout ≡ Layout.Two → bytes_eq (head_text x) (head_text h) ≡ false
 unfolding head_text
 other_text x h a b = rw (a, b) refl
 
-not_one : (h : Head) → h.layout ≡ layout.Two → head_in layout.One (head_text h) ≡ None
+not_one : (h : Head) → h.layout ≡ Layout.Two → head_in Layout.One (head_text h) ≡ None
 unfolding head_in head_from
 not_one h e =
-    let x = head_from layout.One (numbers_behind (head_text h)) in
+    let x = head_from Layout.One (numbers_behind (head_text h)) in
     ap (λ b. cond b (Some x) None) (and_false (has_callers x) (bytes_eq (head_text x) (head_text h)) (other_text x h refl e))
 
 layout_again : (h : Head) (l : Layout) → h.layout ≡ l → HeadFits h → head_of (head_text h) ≡ Some h
 unfolding head_of
-layout_again h layout.One e f = ap (λ o. or_else o (head_in layout.Two (head_text h))) (ap (λ l. head_in l (head_text h)) (sym e) ∙ in_again h f)
-layout_again h layout.Two e f = ap (λ o. or_else o (head_in layout.Two (head_text h))) (not_one h e) ∙ ap (λ l. head_in l (head_text h)) (sym e) ∙ in_again h f
+layout_again h Layout.One e f = ap (λ o. or_else o (head_in Layout.Two (head_text h))) (ap (λ l. head_in l (head_text h)) (sym e) ∙ in_again h f)
+layout_again h Layout.Two e f = ap (λ o. or_else o (head_in Layout.Two (head_text h))) (not_one h e) ∙ ap (λ l. head_in l (head_text h)) (sym e) ∙ in_again h f
 
 pub head_again : (h : Head) → HeadFits h → head_of (head_text h) ≡ Some h
 head_again h f = layout_again h h.layout refl f

@@ -1,19 +1,5 @@
 -- A journal that was written is read as the same.
-use Rattle.std.proofs.Common.{◌≡◌, ℕ, ◌+◌, List, [], ◌∷◌, ◌++◌, Result, Ok, Err, refl, sym, ap, ◌∙◌, append_assoc, length, arith}
-use Rattle.std.specs.Global.{Vec}
-use Rattle.std.specs.Prelude.{IfOk}
-use Rattle.std.specs.List.{AllByRecursion}
-use Rattle.mtapi_values.specs.Attributes.{AreNodeSettings}
-use Rattle.std.proofs.lemmas.List.{append-nil}
-use Rattle.mtapi_machine.specs.Legal.{NodeEntry}
-use Rattle.node_core.specs.Journals.{KeptEntries}
-use Rattle.node_core.specs.declared.entries.Journal.{Journal}
-use Rattle.number_text.specs.Lists.{between}
-use Rattle.journal_text.specs.declared.heads.Head.{Head}
-use Rattle.journal_text.specs.Heads.{head_text}
-use Rattle.journal_text.specs.Lines.{entry_text}
-use Rattle.journal_text.specs.Journals.{head_for, entry_lines, lines_text, journal_text, in_line, with_kept, line_adds, entries_from, no_entries, journal_from, journal_of, ◌>>=◌}
-use Rattle.journal_text.specs.Fits.{HeadFits, EntryFits, EntriesFit, AllPartsFit, HasPlace, JournalFits, IsWritable}
+use Rattle.journal_text.proofs.Names.{◌≡◌, ℕ, ◌+◌, List, [], ◌∷◌, ◌++◌, Result, Ok, Err, refl, sym, ap, ◌∙◌, append_assoc, length, arith, Vec, IfOk, AllByRecursion, AreNodeSettings, append-nil, NodeEntry, KeptEntries, Journal, between, Head, head_text, entry_text, head_for, entry_lines, lines_text, journal_text, in_line, with_kept, line_adds, entries_from, no_entries, journal_from, journal_of, ◌>>=◌, HeadFits, EntryFits, EntriesFit, AllPartsFit, HasPlace, JournalFits, IsWritable}
 use Rattle.journal_text.proofs.Reading.{with_entries}
 use Rattle.journal_text.proofs.Steps.{step_is, lines_are}
 use Rattle.journal_text.proofs.Plain.{between_line}

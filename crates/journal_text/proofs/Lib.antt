@@ -1,3 +1,4 @@
+mod Names
 pub mod Pieces
 pub mod PlainNames
 pub mod Reading

@@ -1,24 +1,6 @@
 -- A line that was written is read as the same entry.
-use Rattle.std.proofs.Common.{◌≡◌, ℕ, ◌+◌, ◌-◌, ◌<◌, ◌^◌, List, [], ◌∷◌, ◌++◌, true, cond, eqb, Some, refl, ap, ◌∙◌, arith, inl, inr}
-use Rattle.std.specs.Prelude.{codes, nat_lt, drop}
-use Rattle.std.specs.List.{AllByRecursion, list_all, join_with_byte}
-use Rattle.std.specs.Str.{bytes_eq}
-use Rattle.std.specs.Fmt.{decimal}
-use Rattle.std.proofs.lemmas.Bool.{and_from, cases_Bool, lt-ltb, ltb-false}
-use Rattle.std.proofs.lemmas.Slice.Eq.{bytes_eq-Decides}
-use Rattle.mtapi_values.specs.declared.handles.Layout.{Layout}
-use Rattle.mtapi_machine.specs.Legal.{NodeEntry, IsHonest}
-use Rattle.mtapi_machine.specs.declared.ops.Op.{Op}
-use Rattle.mtapi_machine.specs.declared.replies.Reply.{Reply}
-use Rattle.number_text.specs.Numbers.{number_within}
+use Rattle.journal_text.proofs.Names.{◌≡◌, ℕ, ◌+◌, ◌-◌, ◌<◌, ◌^◌, List, [], ◌∷◌, ◌++◌, true, cond, eqb, Some, refl, ap, ◌∙◌, arith, inl, inr, codes, nat_lt, drop, AllByRecursion, list_all, join_with_byte, bytes_eq, decimal, and_from, cases_Bool, lt-ltb, ltb-false, bytes_eq-Decides, Layout, NodeEntry, IsHonest, Op, Reply, number_within, number_written, within_written, Head, values_words, values_onto, op_row, op_spelled, op_of, reply_row, reply_spelled, reply_of, seat_text, op_texts, reply_texts, skipped_texts, entry_texts, entry_text, seat_of, op_from, reply_from, skipped_from, entry_by, entry_from, has_words, is_seated, if_spelled, entry_of, ValueFits, EntryFits, HeadFits}
 use Rattle.number_text.specs.Lists.{◌>>=◌}
-use Rattle.number_text.proofs.Writing.{number_written, within_written}
-use Rattle.journal_text.specs.declared.heads.Head.{Head}
-use Rattle.journal_text.specs.Values.{values_words, values_onto}
-use Rattle.journal_text.specs.Ops.{op_row, op_spelled, op_of}
-use Rattle.journal_text.specs.Replies.{reply_row, reply_spelled, reply_of}
-use Rattle.journal_text.specs.Lines.{seat_text, op_texts, reply_texts, skipped_texts, entry_texts, entry_text, seat_of, op_from, reply_from, skipped_from, entry_by, entry_from, has_words, is_seated, if_spelled, entry_of}
-use Rattle.journal_text.specs.Fits.{ValueFits, EntryFits, HeadFits}
 use Rattle.journal_text.proofs.OpsAgain.{op_word_again, op_shapes, op_again, reply_word_again, reply_shapes, reply_again}
 use Rattle.journal_text.proofs.ValuesAgain.{values_again}
 use Rattle.journal_text.proofs.Plain.{is_plain, is_above, all_append, between_words, joined_above, decimal_plain, op_plain, reply_plain, values_plain}

@@ -1,10 +1,5 @@
 -- Words that are put behind others.
-use Rattle.std.proofs.Common.{◌≡◌, ℕ, ◌≤◌, List, ◌∷◌, ◌++◌, length, get_or, Result, Ok, Err, ap, append_assoc}
-use Rattle.std.specs.Prelude.{OnOk}
-use Rattle.std.specs.List.{join_with_byte, flat_map}
-use Rattle.number_text.proofs.Pieces.{joined, led_append}
-use Rattle.number_text.proofs.Slices.{first_rest, rest_of}
-use Rattle.number_text.specs.Lists.{led}
+use Rattle.journal_text.proofs.Names.{◌≡◌, ℕ, ◌≤◌, List, ◌∷◌, ◌++◌, length, get_or, Result, Ok, Err, ap, append_assoc, OnOk, join_with_byte, flat_map, joined, led_append, first_rest, rest_of, led}
 
 -- words behind words
 pub words_two : {T E : Type 0} (r : Result T E) (out mid new : List ℕ) (a b : List (List ℕ)) → mid ≡ out ++ led 32 a → OnOk r (new ≡ mid ++ led 32 b) → OnOk r (new ≡ out ++ led 32 (a ++ b))

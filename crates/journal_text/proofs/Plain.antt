@@ -1,42 +1,5 @@
 -- Words that are written have no space, and lines no line feed.
-use Rattle.std.proofs.Common.{◌≡◌, ℕ, ℤ, pos, negsuc, ◌<◌, ◌≤◌, ◌^◌, List, [], ◌∷◌, ◌++◌, map, Bool, true, false, eqb, Option, Some, None, refl, ap, ◌∙◌, arith, inl, inr, suc}
-use Rattle.std.specs.Prelude.{nat_lt, FitsSigned}
-use Rattle.std.specs.List.{AllByRecursion, list_all, join_with_byte}
-use Rattle.std.specs.Char.{is_ascii_digit}
-use Rattle.std.specs.Int.{w64}
-use Rattle.std.specs.Fmt.{decimal, signed_decimal}
-use Rattle.std.proofs.lemmas.Bool.{and_parts, and_from, lt-ltb, ltb-true, ne_eqb, eq-eqb, cases_Bool}
-use Rattle.std.proofs.lemmas.Fmt.{digits_decimal}
-use Rattle.std.proofs.lemmas.List.Elements.{All-from_recursion}
-use Rattle.std.proofs.lemmas.List.Splits.{slice_split_at, slice_split_none}
-use Rattle.mtapi_values.specs.declared.ends.TaskEnd.TheVariants as end
-use Rattle.mtapi_values.specs.declared.handles.ObjectKind.{ObjectKind}
-use Rattle.mtapi_values.specs.declared.handles.ObjectKind.TheVariants.{Action}
-use Rattle.mtapi_values.specs.declared.handles.Layout.{Layout}
-use Rattle.mtapi_values.specs.declared.handles.Layout.TheVariants.{One, Two}
-use Rattle.mtapi_values.specs.declared.kinds.Kind.{Kind}
-use Rattle.mtapi_values.specs.declared.kinds.Kind.TheVariants as kind
-use Rattle.mtapi_values.specs.declared.statuses.MtapiStatus.{MtapiStatus}
-use Rattle.mtapi_values.specs.declared.statuses.MtapiStatus.TheVariants as mtapi
-use Rattle.mtapi_values.specs.declared.statuses.MrapiStatus.{MrapiStatus}
-use Rattle.mtapi_values.specs.declared.statuses.MrapiStatus.TheVariants as mrapi
-use Rattle.mtapi_values.specs.Kinds.{kind_word}
-use Rattle.mtapi_values.specs.Layouts.{named_kind}
-use Rattle.mtapi_values.specs.Statuses.{mtapi_name, mrapi_name}
-use Rattle.number_text.specs.Lists.{between}
-use Rattle.number_text.proofs.Parsing.{own}
-use Rattle.journal_text.specs.declared.values.Status.TheVariants as status
-use Rattle.journal_text.specs.declared.values.Value.{Value}
-use Rattle.journal_text.specs.declared.values.Value.TheVariants as given
-use Rattle.journal_text.specs.declared.op_words.OpWord.{OpWord}
-use Rattle.journal_text.specs.declared.op_words.OpWord.TheVariants as word
-use Rattle.journal_text.specs.declared.reply_words.ReplyWord.{ReplyWord}
-use Rattle.journal_text.specs.declared.reply_words.ReplyWord.TheVariants as answer
-use Rattle.journal_text.specs.Handles.{kind_letter, kind_numbered, named_text, handle_text, generation, slot}
-use Rattle.journal_text.specs.Values.{value_words, values_words, args_text}
-use Rattle.journal_text.specs.Ops.{op_row}
-use Rattle.journal_text.specs.Replies.{reply_row}
-use Rattle.journal_text.specs.Fits.{ValueFits, AreArgs}
+use Rattle.journal_text.proofs.Names.{◌≡◌, ℕ, ℤ, pos, negsuc, ◌<◌, ◌≤◌, ◌^◌, List, [], ◌∷◌, ◌++◌, map, Bool, true, false, eqb, Option, Some, None, refl, ap, ◌∙◌, arith, inl, inr, suc, nat_lt, FitsSigned, AllByRecursion, list_all, join_with_byte, is_ascii_digit, w64, decimal, signed_decimal, and_parts, and_from, lt-ltb, ltb-true, ne_eqb, eq-eqb, cases_Bool, digits_decimal, All-from_recursion, slice_split_at, slice_split_none, TaskEnd, ObjectKind, Action, Layout, One, Two, Kind, MtapiStatus, MrapiStatus, kind_word, named_kind, mtapi_name, mrapi_name, between, own, Status, Value, OpWord, ReplyWord, kind_letter, kind_numbered, named_text, handle_text, generation, slot, value_words, values_words, args_text, op_row, reply_row, ValueFits, AreArgs}
 use Rattle.journal_text.proofs.HandlesAgain.{digit_high, generation_fits, mod_less}
 
 -- each byte is above this one
@@ -107,25 +70,25 @@ args_plain (z ∷ zs) f = commas_plain (map signed_decimal (z ∷ zs)) (wholes_p
 -- ---- names
 
 kind_plain : (k : Kind) → is_plain (kind_word k) ≡ true
-kind_plain kind.Add = refl
+kind_plain Kind.Add = refl
 kind_plain _ = refl
 
 mtapi_plain : (s : MtapiStatus) → is_plain (mtapi_name s) ≡ true
-mtapi_plain mtapi.Success = refl
+mtapi_plain MtapiStatus.Success = refl
 mtapi_plain _ = refl
 
 mrapi_plain : (s : MrapiStatus) → is_plain (mrapi_name s) ≡ true
-mrapi_plain mrapi.Success = refl
+mrapi_plain MrapiStatus.Success = refl
 mrapi_plain _ = refl
 
 pub op_plain : (w : OpWord) → is_plain (op_row w).0 ≡ true
 unfolding op_row
-op_plain word.Initialize = refl
+op_plain OpWord.Initialize = refl
 op_plain _ = refl
 
 pub reply_plain : (w : ReplyWord) → is_plain (reply_row w).0 ≡ true
 unfolding reply_row
-reply_plain answer.Ok = refl
+reply_plain ReplyWord.Ok = refl
 reply_plain _ = refl
 
 -- ---- handles
@@ -157,21 +120,21 @@ single w h = and_from _ _ h refl
 
 value_plain : (l : Layout) (v : Value) → ValueFits v → list_all is_plain (value_words l v) ≡ true
 unfolding value_words
-value_plain l (given.Number n) f = single (decimal n) (decimal_plain n (omega arith))
-value_plain l (given.Whole z) f = single (signed_decimal z) (whole_plain z f)
-value_plain l (given.Flag true) f = refl
-value_plain l (given.Flag false) f = refl
-value_plain l (given.Kind k) f = single (kind_word k) (kind_plain k)
-value_plain l (given.Cores mask) f = single (decimal mask.0) (decimal_plain mask.0 f)
-value_plain l (given.Args zs) f = single (args_text zs) (args_plain zs f)
-value_plain l (given.Handle h) f = single (handle_text l h) (handle_plain l h f)
-value_plain l (given.Group None) f = refl
-value_plain l (given.Group (Some h)) f = single (handle_text l h) (handle_plain l h f)
-value_plain l (given.End (end.Completed zs)) f = single (args_text zs) (args_plain zs f)
-value_plain l (given.End end.Cancelled) f = refl
-value_plain l (given.End (end.Failed s)) f = single (mtapi_name s) (mtapi_plain s)
-value_plain l (given.Status (status.Mtapi s)) f = single (mtapi_name s) (mtapi_plain s)
-value_plain l (given.Status (status.Mrapi s)) f = single (mrapi_name s) (mrapi_plain s)
+value_plain l (Value.Number n) f = single (decimal n) (decimal_plain n (omega arith))
+value_plain l (Value.Whole z) f = single (signed_decimal z) (whole_plain z f)
+value_plain l (Value.Flag true) f = refl
+value_plain l (Value.Flag false) f = refl
+value_plain l (Value.Kind k) f = single (kind_word k) (kind_plain k)
+value_plain l (Value.Cores mask) f = single (decimal mask.0) (decimal_plain mask.0 f)
+value_plain l (Value.Args zs) f = single (args_text zs) (args_plain zs f)
+value_plain l (Value.Handle h) f = single (handle_text l h) (handle_plain l h f)
+value_plain l (Value.Group None) f = refl
+value_plain l (Value.Group (Some h)) f = single (handle_text l h) (handle_plain l h f)
+value_plain l (Value.End (TaskEnd.Completed zs)) f = single (args_text zs) (args_plain zs f)
+value_plain l (Value.End TaskEnd.Cancelled) f = refl
+value_plain l (Value.End (TaskEnd.Failed s)) f = single (mtapi_name s) (mtapi_plain s)
+value_plain l (Value.Status (Status.Mtapi s)) f = single (mtapi_name s) (mtapi_plain s)
+value_plain l (Value.Status (Status.Mrapi s)) f = single (mrapi_name s) (mrapi_plain s)
 
 pub values_plain : (l : Layout) (vs : List Value) → AllByRecursion ValueFits vs → list_all is_plain (values_words l vs) ≡ true
 values_plain l [] f = refl

@@ -1,23 +1,5 @@
 -- A text that is read is the text of the journal that it gives.
-use Rattle.std.proofs.Common.{◌≡◌, ℕ, ◌+◌, List, [], ◌∷◌, ◌++◌, length, true, ◌&&◌, Option, Some, None, Result, Ok, Err, refl, sym, ap, ◌∙◌, arith, append_assoc}
-use Rattle.std.specs.List.{join_with_byte}
-use Rattle.std.specs.Str.{bytes_eq}
-use Rattle.std.proofs.lemmas.Bool.{and_parts}
-use Rattle.std.proofs.lemmas.Option.{cond_some}
-use Rattle.std.proofs.lemmas.List.{append-nil}
-use Rattle.std.proofs.lemmas.List.Splits.{join_with_byte-slice_split}
-use Rattle.std.proofs.lemmas.Slice.Eq.{bytes_eq-Decides}
-use Rattle.mtapi_values.specs.declared.handles.Layout.TheVariants as layout
-use Rattle.mtapi_machine.specs.Legal.{NodeEntry}
-use Rattle.node_core.specs.Journals.{KeptEntries}
-use Rattle.node_core.specs.declared.entries.Journal.{Journal}
-use Rattle.number_text.specs.Lists.{between}
-use Rattle.number_text.proofs.Reading.{bind_some}
-use Rattle.journal_text.specs.declared.heads.Head.{Head}
-use Rattle.journal_text.specs.declared.faults.TextError.{TextError}
-use Rattle.journal_text.specs.Heads.{head_text, head_of, head_in, head_from, numbers_behind, has_callers, or_else}
-use Rattle.journal_text.specs.Lines.{entry_text, entry_of, entry_from, if_spelled, has_words, is_seated}
-use Rattle.journal_text.specs.Journals.{entry_lines, lines_text, journal_text, in_line, with_kept, line_adds, at_end, entries_from, no_entries, journal_from, journal_of, ◌>>=◌}
+use Rattle.journal_text.proofs.Names.{◌≡◌, ℕ, ◌+◌, List, [], ◌∷◌, ◌++◌, length, true, ◌&&◌, Option, Some, None, Result, Ok, Err, refl, sym, ap, ◌∙◌, arith, append_assoc, join_with_byte, bytes_eq, and_parts, cond_some, append-nil, join_with_byte-slice_split, bytes_eq-Decides, Layout, NodeEntry, KeptEntries, Journal, between, bind_some, Head, TextError, head_text, head_of, head_in, head_from, numbers_behind, has_callers, or_else, entry_text, entry_of, entry_from, if_spelled, has_words, is_seated, entry_lines, lines_text, journal_text, in_line, with_kept, line_adds, at_end, entries_from, no_entries, journal_from, journal_of, ◌>>=◌}
 
 -- ---- steps that may fail
 
@@ -58,7 +40,7 @@ or_else_spelled line h None b f g e = g h e
 -- what was read as a head is the head's line
 pub head_spelled : (line : List ℕ) (h : Head) → head_of line ≡ Some h → head_text h ≡ line
 unfolding head_of
-head_spelled line h e = or_else_spelled line h _ _ (head_in_spelled layout.One line) (head_in_spelled layout.Two line) e
+head_spelled line h e = or_else_spelled line h _ _ (head_in_spelled Layout.One line) (head_in_spelled Layout.Two line) e
 
 -- ---- texts
 

@@ -1,8 +1,5 @@
 -- Each input has one first part and one rest.
-use Rattle.std.proofs.Common.{◌≡◌, ◌⊎◌, ℕ, zero, suc, ◌+◌, ◌<◌, ◌≤◌, Bool, true, false, List, [], ◌++◌, length, take, drop, refl, sym, ap, subst, ◌∙◌, inl, inr, arith, length-append, length-take-le, take-append-drop, append-nil, drop_of_length-le}
-use Rattle.std.proofs.lemmas.Bool.{cases_order}
-use Rattle.std.proofs.Math.Seq.{take-append_seam, drop-append_seam}
-use Rattle.journal_text.specs.Splits.{begins_journal, IsSplit, OfParts}
+use Rattle.journal_text.proofs.Names.{◌≡◌, ◌⊎◌, ℕ, zero, suc, ◌+◌, ◌<◌, ◌≤◌, true, false, List, [], ◌++◌, length, take, drop, sym, ap, subst, ◌∙◌, inl, inr, arith, length-append, length-take-le, take-append-drop, append-nil, drop_of_length-le, cases_order, take-append_seam, drop-append_seam, begins_journal, IsSplit, OfParts, cases_Bool}
 
 -- A split at a place: past the last byte, or at the first journal
 
@@ -31,23 +28,16 @@ none_below bytes n first none m less = at (cases_order m n)
     at (inr (inl before)) = first m before
     at (inr (inr behind)) = absurd (omega (arith, less, behind))
 
+parts_at : (bytes : List ℕ) (n : ℕ) → IsSplit bytes (take n bytes) (drop n bytes) → OfParts bytes (λ front rest. Unit {0})
+parts_at bytes n s = record { front = take n bytes; rest = drop n bytes; split = s; holds = tt }
+
 seek : (bytes : List ℕ) (left n : ℕ) → n + left ≡ length bytes → ((m : ℕ) → m < n → begins_journal bytes m ≡ false) → OfParts bytes (λ front rest. Unit {0})
-seek bytes zero n end first = record {
-  front = take n bytes;
-  rest = drop n bytes;
-  split = split_at bytes n (omega (arith, end)) (inl (omega (arith, end))) first;
-  holds = tt;
-}
-seek bytes (suc left) n end first = by (begins_journal bytes n) refl (λ none. seek bytes left (n + 1) (omega (arith, end)) (none_below bytes n first none))
-  where
-    by : (found : Bool) → begins_journal bytes n ≡ found → (begins_journal bytes n ≡ false → OfParts bytes (λ front rest. Unit {0})) → OfParts bytes (λ front rest. Unit {0})
-    by true here more = record {
-      front = take n bytes;
-      rest = drop n bytes;
-      split = split_at bytes n (omega (arith, end)) (inr here) first;
-      holds = tt;
-    }
-    by false none more = more none
+seek bytes zero n end first = parts_at bytes n (split_at bytes n (omega (arith, end)) (inl (omega (arith, end))) first)
+seek bytes (suc left) n end first =
+    elim (cases_Bool (begins_journal bytes n)) [
+      | inl here ↦ parts_at bytes n (split_at bytes n (omega (arith, end)) (inr here) first)
+      | inr none ↦ seek bytes left (n + 1) (omega (arith, end)) (none_below bytes n first none)
+    ]
 
 pub some_split : (bytes : List ℕ) → OfParts bytes (λ front rest. Unit {0})
 some_split bytes = seek bytes (length bytes) 0 (omega arith) (λ m less. absurd (omega (arith, less)))

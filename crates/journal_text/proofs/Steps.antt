@@ -1,14 +1,5 @@
 -- A journal's lines, read one after the other.
-use Rattle.std.proofs.Common.{◌≡◌, ℕ, ◌+◌, List, [], ◌∷◌, eqb, Result, Ok, Err, refl, sym, ap, ◌∙◌, inl, inr}
-use Rattle.std.specs.List.{onto_first}
-use Rattle.std.proofs.lemmas.Bool.{cases_Bool}
-use Rattle.node_core.specs.Journals.{KeptEntries}
-use Rattle.number_text.specs.Lists.{between}
-use Rattle.journal_text.specs.declared.heads.Head.{Head}
-use Rattle.journal_text.specs.declared.faults.TextError.{TextError}
-use Rattle.journal_text.specs.declared.faults.TextError.TheVariants as errors
-use Rattle.journal_text.specs.Heads.{head_of}
-use Rattle.journal_text.specs.Journals.{in_line, line_adds, at_end, entries_from, no_entries, no_line, journal_from, journal_of, FailsAs, ◌>>=◌}
+use Rattle.journal_text.proofs.Names.{◌≡◌, ℕ, ◌+◌, List, [], ◌∷◌, eqb, Result, Ok, Err, refl, sym, ap, ◌∙◌, inl, inr, onto_first, cases_Bool, KeptEntries, between, Head, TextError, head_of, in_line, line_adds, at_end, entries_from, no_entries, no_line, journal_from, journal_of, FailsAs, ◌>>=◌}
 use Rattle.journal_text.proofs.Reading.{with_entries}
 
 onto_some : (x : ℕ) (parts : List (List ℕ)) → (n : List ℕ) × (ns : List (List ℕ)) × (onto_first x parts ≡ n ∷ ns)
@@ -39,9 +30,9 @@ pub entries_more : (head : Head) (line : ℕ) (kept more : KeptEntries) (lines :
 entries_more head line kept more lines text rest total h e a = sym (first_is head line kept lines text rest (Ok more) e a) ∙ h
 
 fails_on : {A B : Type 0} (e : TextError) (a : Result A TextError) (b : Result B TextError) → ((x : TextError) → a ≡ Err x → b ≡ Err x) → FailsAs e a → FailsAs e b
-fails_on errors.Memory a b f h = tt
-fails_on (errors.BadLine line) a b f h = f (errors.BadLine line) h
-fails_on errors.PartialEnd a b f h = f errors.PartialEnd h
+fails_on TextError.Memory a b f h = tt
+fails_on (TextError.BadLine line) a b f h = f (TextError.BadLine line) h
+fails_on TextError.PartialEnd a b f h = f TextError.PartialEnd h
 
 pub entries_fail : (error : TextError) (head : Head) (line : ℕ) (kept : KeptEntries) (lines : List (List ℕ)) (text rest : List ℕ) (total : Result KeptEntries TextError) → entries_from head line kept lines ≡ total → lines ≡ text ∷ between 10 rest → FailsAs error (line_adds head line kept text) → FailsAs error total
 entries_fail error head line kept lines text rest total h e f =
@@ -80,6 +71,6 @@ pub journal_read : (bytes text rest : List ℕ) (head : Head) (kept : KeptEntrie
 journal_read bytes text rest head kept e a b = journal_is bytes text rest (Ok head) e a ∙ entries_are head (between 10 rest) (Ok kept) b
 
 pub fails_from : {A : Type 0} (e : TextError) (r : Result A TextError) → r ≡ Err e → FailsAs e r
-fails_from errors.Memory r h = tt
-fails_from (errors.BadLine line) r h = h
-fails_from errors.PartialEnd r h = h
+fails_from TextError.Memory r h = tt
+fails_from (TextError.BadLine line) r h = h
+fails_from TextError.PartialEnd r h = h

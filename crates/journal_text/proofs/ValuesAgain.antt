@@ -1,44 +1,22 @@
 -- A value that was written is read as the same.
-use Rattle.std.proofs.Common.{◌≡◌, ℕ, ℤ, ◌<◌, ◌^◌, List, [], ◌∷◌, ◌++◌, map, true, false, Option, Some, None, refl, sym, ap, ◌∙◌, arith, inl, inr, append_assoc}
-use Rattle.std.specs.Prelude.{codes, option_map}
-use Rattle.std.specs.List.{AllByRecursion}
-use Rattle.std.specs.Str.{bytes_eq}
-use Rattle.std.proofs.lemmas.Bool.{cases_Bool}
-use Rattle.std.proofs.lemmas.List.{append-nil}
-use Rattle.mtapi_values.specs.declared.ends.TaskEnd.TheVariants as end
-use Rattle.mtapi_values.specs.declared.handles.Layout.{Layout}
-use Rattle.mtapi_values.specs.declared.statuses.MrapiStatus.{MrapiStatus}
-use Rattle.mtapi_values.specs.declared.statuses.MrapiStatus.TheVariants as mrapi
-use Rattle.mtapi_values.specs.Kinds.{kind_named}
-use Rattle.mtapi_values.specs.Statuses.{mtapi_name, mrapi_name}
-use Rattle.mtapi_values.proofs.ValueTables.{kind_finds_each, mtapi_finds_each, mrapi_finds_each}
-use Rattle.number_text.specs.Numbers.{whole}
-use Rattle.number_text.specs.Lists.{list_of, list_text, ◌>>=◌}
+use Rattle.journal_text.proofs.Names.{◌≡◌, ℕ, ℤ, ◌<◌, ◌^◌, List, [], ◌∷◌, ◌++◌, map, true, false, Option, Some, None, refl, sym, ap, ◌∙◌, arith, inl, inr, append_assoc, codes, option_map, AllByRecursion, bytes_eq, cases_Bool, append-nil, TaskEnd, Layout, MrapiStatus, kind_named, mtapi_name, mrapi_name, kind_finds_each, mtapi_finds_each, mrapi_finds_each, whole, list_of, list_text, number_written, within_written, whole_written, list_written, Status, Shape, Value, handle_text, handle_of, value_words, values_words, args_text, args_of, group_of, status_of, status_from, mtapi_of, mrapi_of, completed_of, failed_of, end_of, end_value, word_value, value_of, values_onto, one, ValueFits, AreArgs}
+use Rattle.number_text.specs.Lists.{◌>>=◌}
 use Rattle.number_text.specs.Lists as lists
-use Rattle.number_text.proofs.Writing.{number_written, within_written, whole_written, list_written}
-use Rattle.journal_text.specs.declared.values.Status.TheVariants as status
-use Rattle.journal_text.specs.declared.values.Shape.{Shape}
-use Rattle.journal_text.specs.declared.values.Shape.TheVariants as shape
-use Rattle.journal_text.specs.declared.values.Value.{Value}
-use Rattle.journal_text.specs.declared.values.Value.TheVariants as given
-use Rattle.journal_text.specs.Handles.{handle_text, handle_of}
-use Rattle.journal_text.specs.Values.{value_words, values_words, args_text, args_of, group_of, status_of, status_from, mtapi_of, mrapi_of, completed_of, failed_of, end_of, end_value, word_value, value_of, values_onto, one}
-use Rattle.journal_text.specs.Fits.{ValueFits, AreArgs}
 use Rattle.journal_text.proofs.HandlesAgain.{handle_again, dash_no_handle}
 use Rattle.journal_text.proofs.Reading.{bytes_are}
 
 -- the shape of a value
 abbrev pub shape_of : Value → Shape
-shape_of (given.Number n) = shape.Number
-shape_of (given.Whole z) = shape.Whole
-shape_of (given.Flag b) = shape.Flag
-shape_of (given.Kind k) = shape.Kind
-shape_of (given.Cores mask) = shape.Cores
-shape_of (given.Args zs) = shape.Args
-shape_of (given.Handle h) = shape.Handle
-shape_of (given.Group g) = shape.Group
-shape_of (given.End e) = shape.End
-shape_of (given.Status s) = shape.Status
+shape_of (Value.Number n) = Shape.Number
+shape_of (Value.Whole z) = Shape.Whole
+shape_of (Value.Flag b) = Shape.Flag
+shape_of (Value.Kind k) = Shape.Kind
+shape_of (Value.Cores mask) = Shape.Cores
+shape_of (Value.Args zs) = Shape.Args
+shape_of (Value.Handle h) = Shape.Handle
+shape_of (Value.Group g) = Shape.Group
+shape_of (Value.End e) = Shape.End
+shape_of (Value.Status s) = Shape.Status
 
 dash_no_list : list_of (codes "-") ≡ None
 unfolding list_of lists.wholes whole
@@ -65,33 +43,33 @@ group_again l h f =
 
 no_mtapi : (s : MrapiStatus) → mtapi_of (mrapi_name s) ≡ None
 unfolding mtapi_of
-no_mtapi mrapi.Success = refl
+no_mtapi MrapiStatus.Success = refl
 no_mtapi _ = refl
 
-status_again : (s : _) → status_of (mrapi_name s) ≡ Some (status.Mrapi s)
+status_again : (s : _) → status_of (mrapi_name s) ≡ Some (Status.Mrapi s)
 unfolding status_of mrapi_of
-status_again s = ap (λ o. status_from o (mrapi_of (mrapi_name s))) (no_mtapi s) ∙ ap (option_map status.Mrapi) (mrapi_finds_each.own s)
+status_again s = ap (λ o. status_from o (mrapi_of (mrapi_name s))) (no_mtapi s) ∙ ap (option_map Status.Mrapi) (mrapi_finds_each.own s)
 
 abbrev alone : List (List ℕ) → Option Value → Option (Value × List (List ℕ))
 alone ws o = one (λ v. v) ws o
 
 pub value_again : (l : Layout) (v : Value) (ws : List (List ℕ)) → ValueFits v → value_of (shape_of v) (value_words l v ++ ws) ≡ Some (v, ws)
 unfolding value_of value_words word_value end_of completed_of failed_of status_of mtapi_of group_of kind_named
-value_again l (given.Number n) ws f = ap (λ o. alone ws (option_map given.Number o)) (within_written 0 4294967295 n (omega arith) (omega arith) (omega arith))
-value_again l (given.Whole z) ws f = ap (λ o. alone ws (option_map given.Whole o)) (whole_written z f)
-value_again l (given.Flag true) ws f = refl
-value_again l (given.Flag false) ws f = refl
-value_again l (given.Kind k) ws f = ap (λ o. alone ws (option_map given.Kind o)) (kind_finds_each.own k)
-value_again l (given.Cores mask) ws f = ap (λ o. alone ws (option_map (λ n. given.Cores (record { 0 = n })) o)) (number_written mask.0 f)
-value_again l (given.Args zs) ws f = ap (λ o. alone ws (option_map given.Args o)) (args_again zs f)
-value_again l (given.Handle h) ws f = ap (λ o. alone ws (option_map given.Handle o)) (handle_again l h f)
-value_again l (given.Group None) ws f = refl
-value_again l (given.Group (Some h)) ws f = ap (λ o. alone ws (option_map given.Group o)) (group_again l h f)
-value_again l (given.End (end.Completed zs)) ws f = ap (λ o. end_value (one end.Completed ws o)) (args_again zs f)
-value_again l (given.End end.Cancelled) ws f = refl
-value_again l (given.End (end.Failed s)) ws f = ap (λ o. end_value (one end.Failed ws o)) (mtapi_finds_each.own s)
-value_again l (given.Status (status.Mtapi s)) ws f = ap (λ o. alone ws (option_map given.Status (status_from o (mrapi_of (mtapi_name s))))) (mtapi_finds_each.own s)
-value_again l (given.Status (status.Mrapi s)) ws f = ap (λ o. alone ws (option_map given.Status o)) (status_again s)
+value_again l (Value.Number n) ws f = ap (λ o. alone ws (option_map Value.Number o)) (within_written 0 4294967295 n (omega arith) (omega arith) (omega arith))
+value_again l (Value.Whole z) ws f = ap (λ o. alone ws (option_map Value.Whole o)) (whole_written z f)
+value_again l (Value.Flag true) ws f = refl
+value_again l (Value.Flag false) ws f = refl
+value_again l (Value.Kind k) ws f = ap (λ o. alone ws (option_map Value.Kind o)) (kind_finds_each.own k)
+value_again l (Value.Cores mask) ws f = ap (λ o. alone ws (option_map (λ n. Value.Cores (record { 0 = n })) o)) (number_written mask.0 f)
+value_again l (Value.Args zs) ws f = ap (λ o. alone ws (option_map Value.Args o)) (args_again zs f)
+value_again l (Value.Handle h) ws f = ap (λ o. alone ws (option_map Value.Handle o)) (handle_again l h f)
+value_again l (Value.Group None) ws f = refl
+value_again l (Value.Group (Some h)) ws f = ap (λ o. alone ws (option_map Value.Group o)) (group_again l h f)
+value_again l (Value.End (TaskEnd.Completed zs)) ws f = ap (λ o. end_value (one TaskEnd.Completed ws o)) (args_again zs f)
+value_again l (Value.End TaskEnd.Cancelled) ws f = refl
+value_again l (Value.End (TaskEnd.Failed s)) ws f = ap (λ o. end_value (one TaskEnd.Failed ws o)) (mtapi_finds_each.own s)
+value_again l (Value.Status (Status.Mtapi s)) ws f = ap (λ o. alone ws (option_map Value.Status (status_from o (mrapi_of (mtapi_name s))))) (mtapi_finds_each.own s)
+value_again l (Value.Status (Status.Mrapi s)) ws f = ap (λ o. alone ws (option_map Value.Status o)) (status_again s)
 
 -- the first of the values, and the others behind it
 first_again : (l : Layout) (prefix : List Value) (v : Value) (vs : List Value) (ws : List (List ℕ)) → ValueFits v → values_onto prefix (shape_of v ∷ map shape_of vs) (values_words l (v ∷ vs) ++ ws) ≡ values_onto (prefix ++ v ∷ []) (map shape_of vs) (values_words l vs ++ ws)

@@ -1,18 +1,11 @@
 -- What can be written: values in the ranges of their types.
 use Rattle.std.specs.Prelude.{◌≡◌, ℕ, ℤ, ◌+◌, ◌<◌, ◌≤◌, ◌^◌, true, List, [], ◌∷◌, length, Some, FitsSigned}
-use Rattle.std.specs.List.{AllByRecursion}
-use Rattle.std.specs.Int.{w64}
-use Rattle.mtapi_values.specs.Attributes.{AreNodeSettings}
-use Rattle.mtapi_values.specs.declared.ends.TaskEnd.TheVariants as end
+use Rattle.std.specs.{List.AllByRecursion, Int.w64}
+use Rattle.mtapi_values.specs.{Attributes.AreNodeSettings, declared.ends.TaskEnd.TaskEnd}
 use Rattle.mtapi_machine.specs.Legal.{NodeEntry, IsHonest}
 use Rattle.node_core.specs.declared.entries.Journal.{Journal}
-use Rattle.journal_text.specs.declared.heads.Head.{Head}
-use Rattle.journal_text.specs.declared.values.Value.{Value}
-use Rattle.journal_text.specs.declared.values.Value.TheVariants as given
-use Rattle.journal_text.specs.Ops.{op_spelled}
-use Rattle.journal_text.specs.Replies.{reply_spelled}
-use Rattle.journal_text.specs.Lines.{has_words}
-use Rattle.journal_text.specs.Journals.{head_for}
+use Rattle.journal_text.specs.{declared.heads.Head.Head, declared.values.Value.Value, Ops.op_spelled, Replies.reply_spelled}
+use Rattle.journal_text.specs.{Lines.has_words, Journals.head_for}
 
 -- at most 16 numbers of 64 bits, with sign
 pub record AreArgs (zs : List ℤ) : Type 0 where
@@ -21,13 +14,13 @@ pub record AreArgs (zs : List ℤ) : Type 0 where
 
 -- the value is in its type's range
 abbrev pub ValueFits : Value → Type 0
-ValueFits (given.Number n) = n < 2 ^ 32
-ValueFits (given.Whole z) = FitsSigned w64 z
-ValueFits (given.Cores mask) = mask.0 < 2 ^ 64
-ValueFits (given.Args zs) = AreArgs zs
-ValueFits (given.Handle h) = h < 2 ^ 64
-ValueFits (given.Group (Some h)) = h < 2 ^ 64
-ValueFits (given.End (end.Completed zs)) = AreArgs zs
+ValueFits (Value.Number n) = n < 2 ^ 32
+ValueFits (Value.Whole z) = FitsSigned w64 z
+ValueFits (Value.Cores mask) = mask.0 < 2 ^ 64
+ValueFits (Value.Args zs) = AreArgs zs
+ValueFits (Value.Handle h) = h < 2 ^ 64
+ValueFits (Value.Group (Some h)) = h < 2 ^ 64
+ValueFits (Value.End (TaskEnd.Completed zs)) = AreArgs zs
 ValueFits _ = Unit {0}
 
 -- what is written of an entry is in its range, and a finished task has its kind's answer

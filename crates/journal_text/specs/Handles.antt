@@ -1,14 +1,12 @@
 -- Handles as words. In text 2 a handle that names a kind is the kind's letter, its generation, a dot and its slot.
 use Rattle.std.specs.Prelude.{ℕ, ◌+◌, ◌*◌, ◌/◌, ◌%◌, ◌^◌, ◌==◌, nat_lt, List, [], ◌∷◌, ◌++◌, Option, Some, None, if◌then◌else◌}
-use Rattle.std.specs.List.{find, before_first, after_first}
-use Rattle.std.specs.Fmt.{decimal}
-use Rattle.mtapi_values.specs.declared.handles.ObjectKind.{ObjectKind}
+use Rattle.std.specs.{List.find, List.before_first, List.after_first, Fmt.decimal}
 use Rattle.mtapi_values.specs.declared.handles.ObjectKind.TheVariants.{Action, Task, Group, Queue, Mutex, Sem, Rwl, Shmem}
-use Rattle.mtapi_values.specs.declared.handles.Layout.{Layout}
+use Rattle.mtapi_values.specs.{declared.handles.ObjectKind.ObjectKind, declared.handles.Layout.Layout}
 use Rattle.mtapi_values.specs.declared.handles.Layout.TheVariants.{One, Two}
 use Rattle.mtapi_values.specs.Layouts.{object_number, named_kind}
-use Rattle.number_text.specs.Numbers.{number, number_within}
 use Rattle.number_text.specs.Lists.{◌>>=◌}
+use Rattle.number_text.specs.Numbers.{number, number_within}
 
 -- the letters a, t, g, q, m, s, r and h
 abbrev pub kind_letter : ObjectKind → ℕ

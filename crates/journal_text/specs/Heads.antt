@@ -1,23 +1,17 @@
 -- The head line: the number of the text, and the terms of the node.
-use Rattle.std.specs.Prelude.{ℕ, ◌&&◌, Bool, nat_le, List, [], ◌∷◌, ◌++◌, codes, map, Option, Some, None, unwrap_or, if◌then◌else◌}
-use Rattle.std.specs.List.{join_with_byte, slice_index_or, after_first}
-use Rattle.std.specs.Prelude.{◌==◌}
-use Rattle.std.specs.Str.{bytes_eq}
-use Rattle.std.specs.Fmt.{decimal}
-use Rattle.mtapi_values.specs.Attributes.{NodeSettings}
-use Rattle.mtapi_values.specs.AttributeTables.{after_set, node_attributes}
+use Rattle.std.specs.Prelude.{ℕ, ◌&&◌, Bool, nat_le, List, [], ◌∷◌, ◌++◌, codes, map, Option, Some, None, unwrap_or, if◌then◌else◌, ◌==◌}
+use Rattle.std.specs.{List.join_with_byte, List.slice_index_or, List.after_first, Str.bytes_eq, Fmt.decimal}
+use Rattle.mtapi_values.specs.{Attributes.NodeSettings, AttributeTables.after_set, AttributeTables.node_attributes}
 use Rattle.mtapi_values.specs.declared.handles.Layout.{Layout}
-use Rattle.mtapi_values.specs.declared.handles.Layout.TheVariants as layout
-use Rattle.number_text.specs.Numbers.{number_within}
-use Rattle.number_text.specs.Lists.{between}
+use Rattle.number_text.specs.{Numbers.number_within, Lists.between}
 use Rattle.journal_text.specs.declared.heads.Head.{Head}
 
 -- ---- written
 
 -- the number of the text of a layout
 abbrev pub version : Layout → List ℕ
-version layout.One = codes "1"
-version layout.Two = codes "2"
+version Layout.One = codes "1"
+version Layout.Two = codes "2"
 
 -- a setting, behind its key
 abbrev pub setting_text : List ℕ → ℕ → List ℕ
@@ -95,4 +89,4 @@ or_else (Some h) other = Some h
 or_else None other = other
 
 unfoldable pub head_of : List ℕ → Option Head
-head_of line = or_else (head_in layout.One line) (head_in layout.Two line)
+head_of line = or_else (head_in Layout.One line) (head_in Layout.Two line)

@@ -2,16 +2,10 @@
 use Rattle.std.specs.Prelude.{◌≡◌, ℕ, ◌+◌, ◌≤◌, ◌<◌, List, [], ◌∷◌, ◌++◌, length, drop, Option, Some, None, Result, Ok, Err, IfSome}
 use Rattle.std.specs.Io.KnownBytes.{IsAtEnd}
 use Rattle.mtapi_machine.specs.Legal.{NodeEntry}
-use Rattle.node_core.specs.Journals.{KeptEntries}
-use Rattle.node_core.specs.declared.entries.Journal.{Journal}
+use Rattle.node_core.specs.{Journals.KeptEntries, declared.entries.Journal.Journal}
 use Rattle.number_text.specs.Lists.{between}
-use Rattle.journal_text.specs.declared.heads.Head.{Head}
-use Rattle.journal_text.specs.declared.faults.TextError.{TextError}
-use Rattle.journal_text.specs.declared.faults.TextError.TheVariants as errors
-use Rattle.journal_text.specs.declared.faults.JournalError.{JournalError}
-use Rattle.journal_text.specs.declared.faults.JournalError.TheVariants as answers
-use Rattle.journal_text.specs.Heads.{head_text, head_of}
-use Rattle.journal_text.specs.Lines.{entry_text, entry_of}
+use Rattle.journal_text.specs.{declared.heads.Head.Head, declared.faults.TextError.TextError, declared.faults.JournalError.JournalError}
+use Rattle.journal_text.specs.{Heads.head_text, Heads.head_of, Lines.entry_text, Lines.entry_of}
 
 -- ---- written
 
@@ -44,7 +38,7 @@ abbrev pub ◌>>=◌ : {A B : Type 0} → Result A TextError → (A → Result B
 
 -- what a line is, and else that it is outside the grammar
 abbrev pub in_line : {A : Type 0} → ℕ → Option A → Result A TextError
-in_line line None = Err (errors.BadLine line)
+in_line line None = Err (TextError.BadLine line)
 in_line line (Some x) = Ok x
 
 -- a further entry, and its number
@@ -60,7 +54,7 @@ line_adds head line kept text = do
 -- nothing stands behind the last line feed
 abbrev pub at_end : {A : Type 0} → A → List ℕ → Result A TextError
 at_end x [] = Ok x
-at_end x (b ∷ bs) = Err errors.PartialEnd
+at_end x (b ∷ bs) = Err TextError.PartialEnd
 
 -- the entries with those of lines, from this line on; behind the last line feed stands nothing
 unfoldable pub entries_from : Head → ℕ → KeptEntries → List (List ℕ) → Result KeptEntries TextError
@@ -75,12 +69,12 @@ no_entries = record { entries = []; skipped = [] }
 
 -- a text without a line feed is no journal
 abbrev pub no_line : List ℕ → Result Journal TextError
-no_line [] = Err (errors.BadLine 1)
-no_line (b ∷ bs) = Err errors.PartialEnd
+no_line [] = Err (TextError.BadLine 1)
+no_line (b ∷ bs) = Err TextError.PartialEnd
 
 -- the journal of lines
 unfoldable pub journal_from : List (List ℕ) → Result Journal TextError
-journal_from [] = Err (errors.BadLine 1)
+journal_from [] = Err (TextError.BadLine 1)
 journal_from (text ∷ []) = no_line text
 journal_from (text ∷ next ∷ texts) = do
   head ← in_line 1 (head_of text)
@@ -95,7 +89,7 @@ journal_of text = journal_from (between 10 text)
 
 -- what stands for a failure, where it isn't when out of memory
 abbrev pub FailsAs : {A : Type 0} → TextError → Result A TextError → Type 0
-FailsAs errors.Memory read = Unit {0}
+FailsAs TextError.Memory read = Unit {0}
 FailsAs e read = read ≡ Err e
 
 -- what was returned is what the text gives, unless memory ran out
@@ -107,11 +101,11 @@ ReadsAs (Err e) read = FailsAs e read
 -- The source is read to its end, or to one byte past the limit.
 abbrev pub Loads : List ℕ → Option (List ℕ) → Result Journal JournalError → Type 0
 Loads bytes left (Ok j) = (length bytes ≤ 67108864) × (journal_of bytes ≡ Ok j) × IsAtEnd left
-Loads bytes left (Err (answers.BadLine line)) = (length bytes ≤ 67108864) × (journal_of bytes ≡ Err (errors.BadLine line)) × IsAtEnd left
-Loads bytes left (Err answers.PartialEnd) = (length bytes ≤ 67108864) × (journal_of bytes ≡ Err errors.PartialEnd) × IsAtEnd left
-Loads bytes left (Err answers.TooLong) = (67108864 < length bytes) × IfSome left (λ rest. rest ≡ drop 67108865 bytes)
-Loads bytes left (Err answers.Memory) = Unit {0}
-Loads bytes left (Err answers.Read) = Unit {0}
+Loads bytes left (Err (JournalError.BadLine line)) = (length bytes ≤ 67108864) × (journal_of bytes ≡ Err (TextError.BadLine line)) × IsAtEnd left
+Loads bytes left (Err JournalError.PartialEnd) = (length bytes ≤ 67108864) × (journal_of bytes ≡ Err TextError.PartialEnd) × IsAtEnd left
+Loads bytes left (Err JournalError.TooLong) = (67108864 < length bytes) × IfSome left (λ rest. rest ≡ drop 67108865 bytes)
+Loads bytes left (Err JournalError.Memory) = Unit {0}
+Loads bytes left (Err JournalError.Read) = Unit {0}
 
 -- the source counted no fault, and gave at most one byte past the limit, where it tells its bytes
 pub record ReadsClean (before now : ℕ) (old new : Option (List ℕ)) : Type 0 where
@@ -121,8 +115,8 @@ pub record ReadsClean (before now : ℕ) (old new : Option (List ℕ)) : Type 0 
 -- this holds with each answer but a failed read and `out of memory`
 abbrev pub HoldsBut : Type 0 → Result Journal JournalError → Type 0
 HoldsBut P (Ok j) = P
-HoldsBut P (Err (answers.BadLine line)) = P
-HoldsBut P (Err answers.PartialEnd) = P
-HoldsBut P (Err answers.TooLong) = P
-HoldsBut P (Err answers.Memory) = Unit {0}
-HoldsBut P (Err answers.Read) = Unit {0}
+HoldsBut P (Err (JournalError.BadLine line)) = P
+HoldsBut P (Err JournalError.PartialEnd) = P
+HoldsBut P (Err JournalError.TooLong) = P
+HoldsBut P (Err JournalError.Memory) = Unit {0}
+HoldsBut P (Err JournalError.Read) = Unit {0}

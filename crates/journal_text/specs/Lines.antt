@@ -1,22 +1,12 @@
 -- The lines of entries.
 use Rattle.std.specs.Prelude.{ℕ, ◌+◌, ◌-◌, ◌==◌, ◌&&◌, not, nat_lt, Bool, true, false, List, [], ◌∷◌, ◌++◌, codes, drop, Option, Some, None, if◌then◌else◌}
-use Rattle.std.specs.List.{join_with_byte}
-use Rattle.std.specs.Str.{bytes_eq}
-use Rattle.std.specs.Fmt.{decimal}
-use Rattle.mtapi_values.specs.declared.kinds.Kind.TheVariants as kind
-use Rattle.mtapi_values.specs.declared.handles.Layout.{Layout}
-use Rattle.mtapi_values.specs.declared.handles.Layout.TheVariants as layout
-use Rattle.mtapi_machine.specs.Legal.{NodeEntry}
-use Rattle.mtapi_machine.specs.declared.ops.Op.{Op}
-use Rattle.mtapi_machine.specs.declared.ops.Op.TheVariants as op
-use Rattle.mtapi_machine.specs.declared.replies.Reply.{Reply}
-use Rattle.mtapi_machine.specs.declared.replies.Reply.TheVariants as reply
-use Rattle.number_text.specs.Numbers.{number, number_within}
+use Rattle.std.specs.{List.join_with_byte, Str.bytes_eq, Fmt.decimal}
+use Rattle.mtapi_values.specs.{declared.kinds.Kind.Kind, declared.handles.Layout.Layout}
+use Rattle.mtapi_machine.specs.{Legal.NodeEntry, declared.ops.Op.Op, declared.replies.Reply.Reply}
 use Rattle.number_text.specs.Lists.{between, ◌>>=◌}
-use Rattle.journal_text.specs.declared.heads.Head.{Head}
-use Rattle.journal_text.specs.Values.{values_words, values_onto, Found}
-use Rattle.journal_text.specs.Ops.{op_row, op_spelled, op_word_of, op_of}
-use Rattle.journal_text.specs.Replies.{reply_row, reply_spelled, reply_word_of, reply_of}
+use Rattle.number_text.specs.Numbers.{number, number_within}
+use Rattle.journal_text.specs.{Replies.reply_row, Replies.reply_spelled, Replies.reply_word_of, Replies.reply_of, declared.heads.Head.Head}
+use Rattle.journal_text.specs.{Values.values_words, Values.values_onto, Values.Found, Ops.op_row, Ops.op_spelled, Ops.op_word_of, Ops.op_of}
 
 -- ---- written
 
@@ -92,21 +82,21 @@ entry_from head (w ∷ ws) = seat_of head w >>= λ who. entry_by who ws
 
 -- text 1 has no word and no kind of a tally
 abbrev pub is_tally_op : Op → Bool
-is_tally_op (op.TallyLock task) = true
-is_tally_op (op.TallyRead task) = true
-is_tally_op (op.TallyWrite task value) = true
-is_tally_op (op.TallyEnd task) = true
-is_tally_op (op.ActionCreate job kind.Tally cores) = true
+is_tally_op (Op.TallyLock task) = true
+is_tally_op (Op.TallyRead task) = true
+is_tally_op (Op.TallyWrite task value) = true
+is_tally_op (Op.TallyEnd task) = true
+is_tally_op (Op.ActionCreate job Kind.Tally cores) = true
 is_tally_op _ = false
 
 abbrev pub is_tally_reply : Reply → Bool
-is_tally_reply (reply.Picked task action kind.Tally args) = true
+is_tally_reply (Reply.Picked task action Kind.Tally args) = true
 is_tally_reply _ = false
 
 -- the text of this layout has the entry's words, and there is its seat
 abbrev pub has_words : Layout → NodeEntry → Bool
-has_words layout.One e = not (is_tally_op e.op) && not (is_tally_reply e.reply)
-has_words layout.Two e = true
+has_words Layout.One e = not (is_tally_op e.op) && not (is_tally_reply e.reply)
+has_words Layout.Two e = true
 
 abbrev pub is_seated : Head → NodeEntry → Bool
 is_seated head e = nat_lt e.who (head.settings.workers + head.callers)

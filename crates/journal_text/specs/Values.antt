@@ -1,24 +1,13 @@
 -- The values of fields as words, and the values that words may be. Reading takes more than is written: what was read is written
 -- again and compared, so that each value has one spelling.
 use Rattle.std.specs.Prelude.{ℕ, ℤ, Bool, List, [], ◌∷◌, ◌++◌, codes, Option, Some, None, option_map, if◌then◌else◌}
-use Rattle.std.specs.List.{find, flat_map}
-use Rattle.std.specs.Str.{bytes_eq}
-use Rattle.std.specs.Fmt.{decimal, signed_decimal}
-use Rattle.mtapi_values.specs.declared.handles.Layout.{Layout}
-use Rattle.mtapi_values.specs.declared.statuses.MtapiStatus.{MtapiStatus}
-use Rattle.mtapi_values.specs.declared.statuses.MrapiStatus.{MrapiStatus}
-use Rattle.mtapi_values.specs.declared.ends.TaskEnd.{TaskEnd}
-use Rattle.mtapi_values.specs.declared.ends.TaskEnd.TheVariants as end
-use Rattle.mtapi_values.specs.Kinds.{kind_word, kind_named}
+use Rattle.std.specs.{List.find, List.flat_map, Str.bytes_eq, Fmt.decimal, Fmt.signed_decimal}
+use Rattle.mtapi_values.specs.{declared.handles.Layout.Layout, declared.statuses.MtapiStatus.MtapiStatus}
+use Rattle.mtapi_values.specs.{declared.statuses.MrapiStatus.MrapiStatus, declared.ends.TaskEnd.TaskEnd, Kinds.kind_word, Kinds.kind_named}
 use Rattle.mtapi_values.specs.Statuses.{mtapi_name, mrapi_name, mtapi_all, mrapi_all}
-use Rattle.number_text.specs.Numbers.{number, number_within, whole}
 use Rattle.number_text.specs.Lists.{list_of, list_text, ◌>>=◌}
-use Rattle.journal_text.specs.declared.values.Status.{Status}
-use Rattle.journal_text.specs.declared.values.Status.TheVariants as status
-use Rattle.journal_text.specs.declared.values.Shape.{Shape}
-use Rattle.journal_text.specs.declared.values.Shape.TheVariants as shape
-use Rattle.journal_text.specs.declared.values.Value.{Value}
-use Rattle.journal_text.specs.declared.values.Value.TheVariants as value
+use Rattle.number_text.specs.Numbers.{number, number_within, whole}
+use Rattle.journal_text.specs.{declared.values.Status.Status, declared.values.Shape.Shape, declared.values.Value.Value}
 use Rattle.journal_text.specs.Handles.{handle_text, handle_of}
 
 -- ---- written
@@ -39,27 +28,27 @@ group_text layout (Some h) = handle_text layout h
 
 -- how a task ended
 abbrev pub end_words : TaskEnd → List (List ℕ)
-end_words (end.Completed zs) = codes "completed" ∷ args_text zs ∷ []
-end_words end.Cancelled = codes "cancelled" ∷ []
-end_words (end.Failed s) = codes "error" ∷ mtapi_name s ∷ []
+end_words (TaskEnd.Completed zs) = codes "completed" ∷ args_text zs ∷ []
+end_words TaskEnd.Cancelled = codes "cancelled" ∷ []
+end_words (TaskEnd.Failed s) = codes "error" ∷ mtapi_name s ∷ []
 
 -- the name of a status
 abbrev pub status_name : Status → List ℕ
-status_name (status.Mtapi s) = mtapi_name s
-status_name (status.Mrapi s) = mrapi_name s
+status_name (Status.Mtapi s) = mtapi_name s
+status_name (Status.Mrapi s) = mrapi_name s
 
 -- a value as one word, or an end as one or two
 unfoldable pub value_words : Layout → Value → List (List ℕ)
-value_words layout (value.Number n) = decimal n ∷ []
-value_words layout (value.Whole z) = signed_decimal z ∷ []
-value_words layout (value.Flag b) = flag_text b ∷ []
-value_words layout (value.Kind k) = kind_word k ∷ []
-value_words layout (value.Cores mask) = decimal mask.0 ∷ []
-value_words layout (value.Args zs) = args_text zs ∷ []
-value_words layout (value.Handle h) = handle_text layout h ∷ []
-value_words layout (value.Group group) = group_text layout group ∷ []
-value_words layout (value.End e) = end_words e
-value_words layout (value.Status s) = status_name s ∷ []
+value_words layout (Value.Number n) = decimal n ∷ []
+value_words layout (Value.Whole z) = signed_decimal z ∷ []
+value_words layout (Value.Flag b) = flag_text b ∷ []
+value_words layout (Value.Kind k) = kind_word k ∷ []
+value_words layout (Value.Cores mask) = decimal mask.0 ∷ []
+value_words layout (Value.Args zs) = args_text zs ∷ []
+value_words layout (Value.Handle h) = handle_text layout h ∷ []
+value_words layout (Value.Group group) = group_text layout group ∷ []
+value_words layout (Value.End e) = end_words e
+value_words layout (Value.Status s) = status_name s ∷ []
 
 -- the words of values, one after the other
 abbrev pub values_words : Layout → List Value → List (List ℕ)
@@ -77,8 +66,8 @@ mrapi_of text = find (λ s. bytes_eq (mrapi_name s) text) mrapi_all
 
 -- the status that a word names
 abbrev pub status_from : Option MtapiStatus → Option MrapiStatus → Option Status
-status_from (Some s) other = Some (status.Mtapi s)
-status_from None other = option_map status.Mrapi other
+status_from (Some s) other = Some (Status.Mtapi s)
+status_from None other = option_map Status.Mrapi other
 
 unfoldable pub status_of : List ℕ → Option Status
 status_of text = status_from (mtapi_of text) (mrapi_of text)
@@ -103,40 +92,40 @@ one f ws (Some a) = Some (f a, ws)
 -- what stands behind the first word of an end
 unfoldable pub completed_of : List (List ℕ) → Found TaskEnd
 completed_of [] = None
-completed_of (w ∷ ws) = one end.Completed ws (args_of w)
+completed_of (w ∷ ws) = one TaskEnd.Completed ws (args_of w)
 
 unfoldable pub failed_of : List (List ℕ) → Found TaskEnd
 failed_of [] = None
-failed_of (w ∷ ws) = one end.Failed ws (mtapi_of w)
+failed_of (w ∷ ws) = one TaskEnd.Failed ws (mtapi_of w)
 
 -- the end that words may be
 unfoldable pub end_of : List ℕ → List (List ℕ) → Found TaskEnd
 end_of w ws =
     if bytes_eq w (codes "completed") then completed_of ws
     else (if bytes_eq w (codes "error") then failed_of ws
-    else Some (end.Cancelled, ws))
+    else Some (TaskEnd.Cancelled, ws))
 
 -- an end as a value
 abbrev pub end_value : Found TaskEnd → Found Value
 end_value None = None
-end_value (Some x) = Some (value.End x.0, x.1)
+end_value (Some x) = Some (Value.End x.0, x.1)
 
 -- the value of this shape that one word may be
 unfoldable pub word_value : Shape → List ℕ → Option Value
-word_value shape.Number w = option_map value.Number (number_within 0 4294967295 w)
-word_value shape.Whole w = option_map value.Whole (whole w)
-word_value shape.Flag w = Some (value.Flag (bytes_eq w (codes "1")))
-word_value shape.Kind w = option_map value.Kind (kind_named w)
-word_value shape.Cores w = option_map (λ n. value.Cores (record { 0 = n })) (number w)
-word_value shape.Args w = option_map value.Args (args_of w)
-word_value shape.Handle w = option_map value.Handle (handle_of w)
-word_value shape.Group w = option_map value.Group (group_of w)
-word_value shape.End w = None
-word_value shape.Status w = option_map value.Status (status_of w)
+word_value Shape.Number w = option_map Value.Number (number_within 0 4294967295 w)
+word_value Shape.Whole w = option_map Value.Whole (whole w)
+word_value Shape.Flag w = Some (Value.Flag (bytes_eq w (codes "1")))
+word_value Shape.Kind w = option_map Value.Kind (kind_named w)
+word_value Shape.Cores w = option_map (λ n. Value.Cores (record { 0 = n })) (number w)
+word_value Shape.Args w = option_map Value.Args (args_of w)
+word_value Shape.Handle w = option_map Value.Handle (handle_of w)
+word_value Shape.Group w = option_map Value.Group (group_of w)
+word_value Shape.End w = None
+word_value Shape.Status w = option_map Value.Status (status_of w)
 
 -- the value of this shape that words may begin with
 abbrev pub value_from : Shape → List ℕ → List (List ℕ) → Found Value
-value_from shape.End w ws = end_value (end_of w ws)
+value_from Shape.End w ws = end_value (end_of w ws)
 value_from s w ws = one (λ v. v) ws (word_value s w)
 
 unfoldable pub value_of : Shape → List (List ℕ) → Found Value

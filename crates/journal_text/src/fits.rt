@@ -1,7 +1,6 @@
 //! What the types of written values keep: said where they are written, so that the text is known to be read again.
 ghost use Rattle.std.specs.Prelude.{FitsSigned, ◌<◌, ◌^◌};
-ghost use Rattle.std.specs.Int.{w64};
-ghost use Rattle.std.specs.List.{AllByRecursion};
+ghost use Rattle.std.specs.{Int.w64, List.AllByRecursion};
 ghost use Rattle.mtapi_values.specs.Attributes.{AreNodeSettings};
 ghost use Rattle.mtapi_machine.specs.Legal.{IsHonest};
 ghost use Rattle.journal_text.specs.Fits.{AreArgs, ValueFits};

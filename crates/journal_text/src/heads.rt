@@ -1,10 +1,9 @@
 //! The head line of a journal.
 ghost use Rattle.std.specs.Prelude.{◌≡◌, ◌≤◌, ◌++◌, ◌∷◌, [], OnOk, IfOk, IfSome};
-ghost use Rattle.std.specs.List.{slice_index_or};
-ghost use Rattle.std.specs.Fmt.{decimal};
+ghost use Rattle.std.specs.{List.slice_index_or, Fmt.decimal};
 ghost use Rattle.number_text.specs.Lists.{led};
-ghost use Rattle.journal_text.specs.Found.{Gives};
 ghost use Rattle.journal_text.specs.Heads.{version, setting_text, first_texts, last_texts, head_text, number_behind, numbers_behind, with_setting, settings_from, head_from, has_callers, head_in, or_else, head_of};
+ghost use Rattle.journal_text.specs.Found.{Gives};
 
 use crate::faults::LineError;
 use crate::texts::push_word;

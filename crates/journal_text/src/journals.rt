@@ -2,11 +2,9 @@
 ghost use Rattle.std.specs.Prelude.{◌≡◌, ◌<◌, ◌≤◌, ◌^◌, ◌++◌, ◌∷◌, [], Ok, Err, length, OnOk, IfOk, IfSome, IsErrOf};
 ghost use Rattle.number_text.specs.Lists.{between};
 ghost use Rattle.byte_io.specs.Causes.{Rose, TakesAtMost};
-ghost use Rattle.journal_text.specs.Heads.{head_of};
-ghost use Rattle.mtapi_values.specs.Attributes.{AreNodeSettings};
-ghost use Rattle.journal_text.specs.Fits.{PartsFit, AllPartsFit, IsWritable};
-ghost use Rattle.journal_text.specs.Lines.{entry_text};
 ghost use Rattle.journal_text.specs.Journals.{head_for, entry_lines, lines_text, journal_text, in_line, line_adds, at_end, entries_from, no_entries, no_line, journal_of, ReadsAs, Loads, ReadsClean, HoldsBut};
+ghost use Rattle.journal_text.specs.{Heads.head_of, Fits.PartsFit, Fits.AllPartsFit, Fits.IsWritable, Lines.entry_text};
+ghost use Rattle.mtapi_values.specs.Attributes.{AreNodeSettings};
 
 use crate::faults::{JournalError, LineError, TextError};
 use crate::fits::settings_fit;

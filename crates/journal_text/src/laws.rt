@@ -1,15 +1,10 @@
 //! Laws of the journal text.
 ghost use Rattle.std.specs.Prelude.{◌≡◌, List, ℕ, Ok, Some};
-ghost use Rattle.mtapi_machine.specs.Legal.{IsHonest, NodeEntry};
-ghost use Rattle.mtapi_machine.specs.declared.ops.Op.{Op};
-ghost use Rattle.mtapi_machine.specs.declared.replies.Reply.{Reply};
+ghost use Rattle.mtapi_machine.specs.{Legal.IsHonest, Legal.NodeEntry, declared.ops.Op.Op, declared.replies.Reply.Reply};
 ghost use Rattle.node_core.specs.declared.entries.Journal.{Journal};
-ghost use Rattle.journal_text.specs.Ops.{op_spelled, op_of};
-ghost use Rattle.journal_text.specs.Replies.{reply_spelled, reply_of};
+ghost use Rattle.journal_text.specs.{Fits.HeadFits, Fits.EntryFits, Fits.JournalFits, Journals.journal_text, Journals.journal_of};
+ghost use Rattle.journal_text.specs.{Ops.op_spelled, Ops.op_of, Replies.reply_spelled, Replies.reply_of, Lines.entry_text, Lines.entry_of};
 ghost use Rattle.journal_text.specs.declared.heads.Head.{Head};
-ghost use Rattle.journal_text.specs.Fits.{HeadFits, EntryFits, JournalFits};
-ghost use Rattle.journal_text.specs.Lines.{entry_text, entry_of};
-ghost use Rattle.journal_text.specs.Journals.{journal_text, journal_of};
 
 /// What is read is written as it was read: each journal has one text, and no other bytes are read as it.
 pub fn law_read()

@@ -1,13 +1,10 @@
 //! The lines of entries.
 ghost use Rattle.std.specs.Prelude.{◌≡◌, ◌≤◌, ◌+◌, ◌++◌, ◌∷◌, [], drop, codes, Some, OnOk, IfOk};
-ghost use Rattle.number_text.specs.Lists.{led, pieces_of, between};
 ghost use Rattle.std.specs.List.{AllByRecursion};
+ghost use Rattle.number_text.specs.Lists.{led, pieces_of, between};
 ghost use Rattle.mtapi_machine.specs.Legal.{IsHonest};
-ghost use Rattle.journal_text.specs.Ops.{op_spelled};
-ghost use Rattle.journal_text.specs.Replies.{reply_spelled};
-ghost use Rattle.journal_text.specs.Fits.{ValueFits, PartsFit};
-ghost use Rattle.journal_text.specs.Found.{Gives, left_texts};
 ghost use Rattle.journal_text.specs.Lines.{seat_text, op_texts, reply_texts, skipped_texts, entry_texts, entry_text, seat_of, op_from, reply_from, skipped_from, entry_by, entry_from, is_tally_op, is_tally_reply, has_words, is_seated, if_spelled, entry_of};
+ghost use Rattle.journal_text.specs.{Ops.op_spelled, Replies.reply_spelled, Fits.ValueFits, Fits.PartsFit, Found.Gives, Found.left_texts};
 
 use crate::faults::LineError;
 use crate::fits::{is_honest, values_fit};

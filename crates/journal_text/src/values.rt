@@ -1,7 +1,6 @@
 //! The values of fields as words.
 ghost use Rattle.std.specs.Prelude.{◌≡◌, ◌++◌, OnOk, IfOk, Some, None, option_map};
-ghost use Rattle.number_text.specs.Numbers.{number_within};
-ghost use Rattle.number_text.specs.Lists.{led, pieces_of};
+ghost use Rattle.number_text.specs.{Numbers.number_within, Lists.led, Lists.pieces_of};
 ghost use Rattle.journal_text.specs.Values.{flag_text, args_text, group_text, end_words, status_name, value_words, values_words, mtapi_of, mrapi_of, status_of, status_from, args_of, group_of, completed_of, failed_of, end_of, word_value, value_of, values_onto};
 ghost use Rattle.journal_text.specs.Found.{left_texts, Gives};
 

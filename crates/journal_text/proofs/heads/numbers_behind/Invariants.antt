@@ -1,7 +1,4 @@
-use Rattle.std.proofs.Common.{◌≡◌, ◌++◌, map}
-use Rattle.number_text.specs.Lists.{pieces_of}
-use Rattle.journal_text.specs.Heads.{number_behind, numbers_behind}
-use Rattle.number_text.proofs.Pieces.{left_len}
+use Rattle.journal_text.proofs.Names.{◌≡◌, ◌++◌, map, pieces_of, number_behind, numbers_behind, left_len}
 use Rattle.journal_text.proofs.heads.numbers_behind.Given as goal
 
 abbrev pub invariant-cutting : goal.invariant-cutting

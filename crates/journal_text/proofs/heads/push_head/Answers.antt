@@ -1,6 +1,4 @@
-use Rattle.std.proofs.Common.{[], ◌∷◌, ◌++◌}
-use Rattle.std.specs.Prelude.{codes}
-use Rattle.journal_text.specs.Heads.{version, first_texts, last_texts, head_text}
+use Rattle.journal_text.proofs.Names.{[], ◌∷◌, ◌++◌, codes, version, first_texts, last_texts, head_text}
 use Rattle.journal_text.proofs.Pieces.{words_two, words_joined}
 use Rattle.journal_text.proofs.heads.push_head.Goals as goal
 

@@ -1,6 +1,4 @@
-use Rattle.std.proofs.Common.{[], ◌∷◌}
-use Rattle.std.specs.Prelude.{codes}
-use Rattle.journal_text.specs.Heads.{setting_text}
+use Rattle.journal_text.proofs.Names.{[], ◌∷◌, codes, setting_text}
 use Rattle.journal_text.proofs.Pieces.{words_two}
 use Rattle.journal_text.proofs.heads.push_last.Goals as goal
 

@@ -1,6 +1,4 @@
-use Rattle.std.proofs.Common.{◌≡◌, ◌+◌, ◌≤◌, length}
-use Rattle.number_text.specs.Lists.{between}
-use Rattle.journal_text.specs.Journals.{entries_from, no_entries}
+use Rattle.journal_text.proofs.Names.{◌≡◌, ◌+◌, ◌≤◌, length, between, entries_from, no_entries}
 use Rattle.journal_text.proofs.journals.entries_from.Given as goal
 
 abbrev pub invariant-lines : goal.invariant-lines

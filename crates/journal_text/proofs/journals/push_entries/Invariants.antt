@@ -1,6 +1,4 @@
-use Rattle.std.proofs.Common.{◌≡◌, ◌++◌, length}
-use Rattle.journal_text.specs.Fits.{AllPartsFit}
-use Rattle.journal_text.specs.Journals.{lines_text, entry_lines}
+use Rattle.journal_text.proofs.Names.{◌≡◌, ◌++◌, length, AllPartsFit, lines_text, entry_lines}
 use Rattle.journal_text.proofs.journals.push_entries.Given as goal
 
 -- the text grows by a line an entry, and what was written fits where the rest does

@@ -1,6 +1,4 @@
-use Rattle.std.proofs.Common.{[], ◌∷◌, ◌++◌}
-use Rattle.std.specs.Prelude.{codes}
-use Rattle.journal_text.specs.Lines.{op_texts, reply_texts, skipped_texts}
+use Rattle.journal_text.proofs.Names.{[], ◌∷◌, ◌++◌, codes, op_texts, reply_texts, skipped_texts}
 use Rattle.journal_text.proofs.Pieces.{words_two}
 use Rattle.journal_text.proofs.lines.push_words.Goals as goal
 

@@ -1,5 +1,4 @@
-use Rattle.std.proofs.Common.{◌≡◌, ◌<◌, ℕ, false}
-use Rattle.journal_text.specs.Splits.{begins_journal}
+use Rattle.journal_text.proofs.Names.{◌≡◌, ◌<◌, ℕ, false, begins_journal}
 use Rattle.journal_text.proofs.parts.journal_place.Given as goal
 
 abbrev pub invariant-loop-at : goal.invariant-loop-at

@@ -1,7 +1,5 @@
-use Rattle.mtapi_values.proofs.ValueTables.{mrapi_finds_each}
-use Rattle.number_text.proofs.Names.{named_exact, unnamed_exact}
+use Rattle.journal_text.proofs.Names.{mrapi_finds_each, named_exact, unnamed_exact, mrapi_of}
 use Rattle.journal_text.proofs.PlainNames.{mrapi_plain}
-use Rattle.journal_text.specs.Values.{mrapi_of}
 use Rattle.journal_text.proofs.values.mrapi_of.Goals as goal
 
 pub returns-in-Ok : goal.returns-in-Ok

@@ -1,7 +1,5 @@
-use Rattle.mtapi_values.proofs.ValueTables.{mtapi_finds_each}
-use Rattle.number_text.proofs.Names.{named_exact, unnamed_exact}
+use Rattle.journal_text.proofs.Names.{mtapi_finds_each, named_exact, unnamed_exact, mtapi_of}
 use Rattle.journal_text.proofs.PlainNames.{mtapi_plain}
-use Rattle.journal_text.specs.Values.{mtapi_of}
 use Rattle.journal_text.proofs.values.mtapi_of.Goals as goal
 
 pub returns-in-Ok : goal.returns-in-Ok
