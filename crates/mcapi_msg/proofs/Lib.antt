@@ -6,5 +6,5 @@ mod RingLemmas
 mod PostSteps
 pub mod Histories
 mod PostStands
-pub mod Said
+pub mod CallAnswers
 mod FifoLemmas

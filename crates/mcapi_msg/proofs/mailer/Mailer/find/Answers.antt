@@ -1,6 +1,6 @@
 use Rattle.mcapi_msg.specs.declared.ops.MsgOp.TheVariants as op
 use Rattle.mcapi_msg.specs.Answers.{Names}
-use Rattle.mcapi_msg.proofs.Said.{has_answer, called, called_same, find_says}
+use Rattle.mcapi_msg.proofs.CallAnswers.{has_answer, called, called_same, find_says}
 use Rattle.mcapi_msg.proofs.mailer.Mailer.find.Goals as goal
 
 pub named-requires : goal.named-requires

@@ -5,7 +5,7 @@ use Rattle.turn_looks.specs.Looks.{Looked}
 use Rattle.mcapi_msg.specs.declared.ops.MsgReply.TheVariants.{Pending}
 use Rattle.mcapi_msg.specs.Legal.{Legal}
 use Rattle.mcapi_msg.specs.Answers.{Seat, Received, RanOut, look_for}
-use Rattle.mcapi_msg.proofs.Said.{look_answer, received, received_same, timeout_of, spent_of}
+use Rattle.mcapi_msg.proofs.CallAnswers.{look_answer, received, received_same, timeout_of, spent_of}
 use Rattle.mcapi_msg.proofs.mailer.Mailer.recv.Goals as goal
 
 pub handed-requires : goal.handed-requires

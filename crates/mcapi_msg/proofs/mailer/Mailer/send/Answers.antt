@@ -1,6 +1,6 @@
 use Rattle.mcapi_msg.specs.declared.ops.MsgOp.TheVariants as op
 use Rattle.mcapi_msg.specs.Answers.{Done}
-use Rattle.mcapi_msg.proofs.Said.{has_answer, called, called_same, send_says}
+use Rattle.mcapi_msg.proofs.CallAnswers.{has_answer, called, called_same, send_says}
 use Rattle.mcapi_msg.proofs.mailer.Mailer.send.Goals as goal
 
 pub done-requires : goal.done-requires

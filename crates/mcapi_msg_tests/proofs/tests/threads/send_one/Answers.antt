@@ -1,4 +1,4 @@
-use Rattle.mcapi_msg.proofs.Said.{then_same}
+use Rattle.mcapi_msg.proofs.CallAnswers.{then_same}
 use Rattle.mcapi_msg_tests.proofs.tests.threads.send_one.Goals as goal
 
 pub returns-in-Ok : goal.returns-in-Ok
