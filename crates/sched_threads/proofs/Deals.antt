@@ -1,39 +1,11 @@
 -- The seats of a new cell, dealt; and what a whole run begins and ends with.
-use Rattle.std.proofs.Common.{◌≡◌, ℕ, zero, suc, ◌+◌, ◌<◌, ◌≤◌, Bool, List, [], ◌∷◌, ◌++◌, length, get_or, take, drop, true, false, Result, Ok, Err, inl, inr, refl, sym, ◌∙◌, ap, subst, arith, append_assoc}
-use Rattle.std.specs.Prelude.{◌-◌, All, IfOk, IfErr, slice_index, if◌then◌else◌}
-use Rattle.std.proofs.lemmas.Result.{IfOk-weaker}
-use Rattle.std.proofs.lemmas.List.Elements.{All-nil, All-cons, All-push}
-use Rattle.turn_cell.specs.Lists.{all_of}
-use Rattle.turn_cell.specs.Seats.{fresh_seat, fresh_seats, IsComplete}
-use Rattle.turn_cell.proofs.Complete.{fresh-take, fresh-drop}
-use Rattle.workload_file.specs.declared.workload.Statement.{Statement}
-use Rattle.workload_file.specs.declared.workload.Part.{Part}
-use Rattle.workload_file.specs.declared.workload.Workload.{Workload}
-use Rattle.mtapi_machine.specs.declared.terms.Terms.{Terms}
-use Rattle.history.specs.Histories.{entry}
-use Rattle.mtapi_machine.specs.declared.ops.Op.TheVariants.{Close, Final}
+use Rattle.sched_threads.proofs.Names.{[], ◌++◌, ◌+◌, ◌-◌, ◌<◌, ◌∙◌, ◌∷◌, ◌≡◌, ◌≤◌, All, All-cons, All-nil, All-push, AllDid, AllHands, AreAllReady, Bool, Cell, Close, Counts, Crew, Dealt, Err, Final, GaveUp, GivesMain, HasPart, IfErr, IfOk, IfOk-weaker, IsClean, IsComplete, IsEnded, IsIdle, IsOf, IsRun, IsWholeCrewOf, Journal, JournalOf, JournaledTerms, KeptAs, Legal, List, MadeNone, NodeEntry, Part, RefusedAs, Result, RunBy, RunError, RunOf, Seat, State, Statement, Terms, Workload, accepted_end, all_of, ap, append_assoc, arith, counts_next, drop, entry, false, fresh-drop, fresh-take, fresh_seat, fresh_seats, get_or, if◌then◌else◌, inl, inr, is_dropped, is_refused, journal_run, journal_seats, kept, length, next, no_counts, opening, refl, skipped, slice_index, subst, suc, sym, take, terms_for, true, zero, ℕ}
+use Rattle.std.proofs.Common.{Ok}
 use Rattle.mtapi_machine.specs.declared.replies.Reply.TheVariants as reply
-use Rattle.mtapi_machine.specs.State.{State, opening}
-use Rattle.mtapi_machine.specs.Legal.{NodeEntry, Legal, next}
-use Rattle.mtapi_machine.specs.Kept.{kept, skipped, is_dropped, counts_next, no_counts}
-use Rattle.node_core.specs.declared.entries.Journal.{Journal}
-use Rattle.node_core.specs.declared.journaled.JournaledTerms.{JournaledTerms}
-use Rattle.node_core.specs.Logs.{journal_seats, KeptAs}
-use Rattle.sched_workers.specs.RunOf.{RunOf}
-use Rattle.sched_workers.specs.Whole.{RunBy}
-use Rattle.history_law.proofs.Accepted.{accepted_end}
-use Rattle.sched_workers.proofs.Joins.{journal_run}
-use Rattle.sched_threads.specs.declared.crew.back.Crew.{Crew}
-use Rattle.sched_threads.specs.declared.crew.back.AllHands.{AllHands}
-use Rattle.sched_threads.specs.Turns.{Seat}
-use Rattle.sched_threads.specs.Pairs.{Counts}
-use Rattle.sched_threads.specs.declared.run.RunError.{RunError}
 use Rattle.sched_threads.specs.declared.run.RunError.TheVariants as error
-use Rattle.sched_threads.specs.Crews.{Cell, HasPart, IsIdle, AreAllReady, IsOf, IsClean, IsWholeCrewOf, IsEnded, AllDid, GaveUp}
-use Rattle.sched_threads.specs.Runs.{terms_for, IsRun, Dealt, JournalOf, RefusedAs, MadeNone, GivesMain, is_refused}
 use Rattle.sched_threads.proofs.Meets.{each_of}
 use Rattle.sched_threads.proofs.Starts.{new_at_rest}
-use Rattle.sched_threads.proofs.Came.{Came, came, came_complete, came_known}
+use Rattle.sched_threads.proofs.SeatsBack.{Came, came, came_complete, came_known}
 use Rattle.sched_threads.proofs.WholeRun.{Known, run_by}
 
 -- Dealing

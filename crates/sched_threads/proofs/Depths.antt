@@ -1,27 +1,11 @@
 -- No mutex is deeper than 64, in any state of a legal history.
-use Rattle.std.proofs.Common.{◌≡◌, ℕ, ◌+◌, ◌≤◌, Bool, true, false, cond, List, [], ◌∷◌, Option, Some, None, refl, sym, ◌∙◌, ap, subst, arith}
-use Rattle.std.specs.Prelude.{◌==◌, ◌-◌, ◌&&◌, ◌||◌, not, is_some, length, ℤ, nat_lt}
-use Rattle.std.proofs.lemmas.Bool.{eqb-true}
-use Rattle.std.proofs.lemmas.Bool.Decides.{nat_tests}
-use Rattle.mtapi_values.specs.Seats.{is_seat, is_other}
-use Rattle.mtapi_machine.specs.declared.ops.Op.{Op}
+use Rattle.sched_threads.proofs.Names.{[], ◌&&◌, ◌+◌, ◌-◌, ◌==◌, ◌||◌, ◌∙◌, ◌∷◌, ◌≡◌, ◌≤◌, Adds, AllGives, AltersObject, Bool, Every, IsMade, LegalFrom, List, Move, Mutexes, NodeEntry, None, Op, Option, RemovesObject, Reply, Some, State, after_from, after_moves, alters, ap, apply, arith, change, cond, eqb-true, every_change, every_issue, false, gives_cond, gone, handle_of, is_fresh, is_other, is_seat, is_some, length, live_object, locked_by, locks, makes, makes_kind, moves_given, moves_of, mutex_busy, nat_lt, nat_tests, new_mutex, next, not, refl, removes, row, second_false, subst, sym, takes_both, tally_args, true, true_false, unlocked, with_fields, ℕ, ℤ}
 use Rattle.mtapi_machine.specs.declared.ops.Op.TheVariants as op
-use Rattle.mtapi_machine.specs.declared.replies.Reply.{Reply}
 use Rattle.mtapi_machine.specs.declared.replies.Reply.TheVariants as reply
-use Rattle.handle_pool.specs.Issued.{live_object, change, with_fields, gone}
-use Rattle.mtapi_objects.specs.Tasks.{Adds, tally_args}
-use Rattle.mtapi_objects.specs.Mutexes.{Mutex, new_mutex, mutex_busy, locked_by, unlocked}
-use Rattle.mtapi_machine.specs.State.{State}
-use Rattle.mtapi_machine.specs.Moves.{Move, Mutexes, all_of, is_fresh, makes, alters, removes, apply, after_moves}
-use Rattle.mtapi_machine.specs.Row.{handle_of, moves_of}
-use Rattle.mtapi_machine.specs.Rows.{row}
-use Rattle.mtapi_machine.specs.TallyRows.{takes_both, locks}
-use Rattle.mtapi_machine.specs.Laws.{IsMade, AltersObject, RemovesObject, makes_kind}
-use Rattle.mtapi_machine.specs.Legal.{NodeEntry, next, LegalFrom, after_from}
-use Rattle.mtapi_machine.proofs.Made.{AllGives, moves_given, on_live, on_only}
+use Rattle.mtapi_objects.specs.Mutexes.{Mutex}
+use Rattle.mtapi_machine.specs.Moves.{all_of}
+use Rattle.mtapi_machine.proofs.Made.{on_live, on_only}
 use Rattle.mtapi_machine.proofs.Moves.{by_moves as made_moves}
-use Rattle.history_law.proofs.Answered.{true_false, second_false, gives_cond}
-use Rattle.history_law.proofs.lists.Every.{Every, every_issue, every_change}
 
 -- at most 64 deep, and 0 where nobody owns it
 pub record Shallow (m : Mutex) : Type 0 where

@@ -1,28 +1,6 @@
 -- What a meeting leaves: each seat has the entries that it had.
-use Rattle.std.proofs.Common.{◌≡◌, ℕ, zero, suc, ◌+◌, ◌<◌, ◌≤◌, Bool, true, false, length, get_or, set, List, [], ◌∷◌, ◌++◌, Some, None, refl, sym, ◌∙◌, ap, subst, arith, append_assoc, vec_len, vec_capacity}
-use Rattle.std.specs.Prelude.{All, if◌then◌else◌}
-use Rattle.std.proofs.Math.ListN.{length-set}
-use Rattle.std.proofs.lemmas.List.{append-nil}
-use mathlib.Core.Logic.{dite}
-use native.Mathlib.Decide.{ℕ_discrete}
-use Rattle.std.specs.List.{AllZip}
-use Rattle.history.specs.Histories.{StartsWith, entries_of}
-use Rattle.turn_cell.specs.Lists.{all_of}
-use Rattle.turn_cell.specs.Seats.{HasSeenMore}
-use Rattle.workload_file.specs.declared.workload.Statement.{Statement}
-use Rattle.workload_file.specs.declared.workload.Part.{Part}
-use Rattle.mtapi_machine.specs.Legal.{NodeEntry}
-use Rattle.sched_threads.specs.Turns.{Seat, Turned}
-use Rattle.sched_threads.specs.Rounds.{Served}
-use Rattle.mtapi_machine.specs.declared.replies.Reply.{Reply}
-use Rattle.sched_workers.specs.declared.calls.Wanted.TheVariants.{Entrance}
-use Rattle.sched_threads.specs.Looks.{Looked}
-use Rattle.sched_threads.specs.Carries.{CarriedOut}
-use Rattle.sched_workers.specs.Parts.{Carried}
-use Rattle.mtapi_machine.specs.declared.ops.Op.{Op}
-use Rattle.sched_threads.specs.declared.crew.back.Crew.{Crew}
+use Rattle.sched_threads.proofs.Names.{[], ◌++◌, ◌+◌, ◌<◌, ◌∙◌, ◌∷◌, ◌≡◌, ◌≤◌, All, AllZip, AreMet, Bool, Cell, Crew, HasSeenMore, IsEnded, Knows, List, NodeEntry, None, Op, Reply, Seat, Some, StartsWith, Turned, all_of, ap, append-nil, append_assoc, arith, dite, entries_of, false, get_or, length, length-set, refl, set, subst, suc, sym, true, vec_capacity, vec_len, zero, ℕ, ℕ_discrete}
 use Rattle.sched_threads.specs.declared.statements.Stop.{Stop}
-use Rattle.sched_threads.specs.Crews.{Cell, is_ok, CalledPart, CalledIn, CameBack, Knows, AreMet, IsEnded}
 
 pub seen_nothing_more : (a : Seat) → HasSeenMore a a
 seen_nothing_more a = record { cell = refl; number = refl; terms = refl; seen = ([], sym (append-nil a.seen)); mine = refl; shown = refl }
@@ -61,41 +39,6 @@ each_of F (x ∷ xs) a = (a 0 x (omega arith), each_of F xs (λ k d h. a (suc k)
 
 pub met_zip : {old new : Seat} {before after : List Seat} → AreMet old new before after → AllZip HasSeenMore before after
 met_zip {old} {new} {before} {after} m = zip_of HasSeenMore before after m.len m.others
-
-carried_more : (a b c : Seat) (bound : List ℕ) (ss : List Statement) → CarriedOut a bound ss b → HasSeenMore b c → CarriedOut a bound ss c
-carried_more a b c bound ss x m = record {
-  same = record { cell = m.cell ∙ x.same.cell; number = m.number ∙ x.same.number; terms = m.terms ∙ x.same.terms };
-  own = x.own;
-  replies = x.replies;
-  mine = m.mine ∙ x.mine;
-  carried = x.carried;
-}
-
-pub called_more : (parts : List Part) (main : ℕ) (xs ys zs : List Seat) → AllZip (CalledIn parts main) xs ys → AllZip HasSeenMore ys zs → AllZip (CalledIn parts main) xs zs
-called_more parts main [] [] [] a b = tt
-called_more parts main [] [] (z ∷ zs) a b = absurd b
-called_more parts main [] (y ∷ ys) zs a b = absurd a
-called_more parts main (x ∷ xs) [] zs a b = absurd a
-called_more parts main (x ∷ xs) (y ∷ ys) [] a b = absurd b
-called_more parts main (x ∷ xs) (y ∷ ys) (z ∷ zs) a b = (
-  (a.0.0, a.0.1, record { inside = a.0.2.inside; reply = a.0.2.reply; entered = a.0.2.entered; carried = carried_more a.0.2.inside y z [] _ a.0.2.carried b.0 }),
-  called_more parts main xs ys zs a.1 b.1,
-)
-
-served_more : (a b c : Seat) → Served a b → HasSeenMore b c → Served a c
-served_more a b c x m = record {
-  same = record { cell = m.cell ∙ x.same.cell; number = m.number ∙ x.same.number; terms = m.terms ∙ x.same.terms };
-  rounds = x.rounds;
-  mine = m.mine ∙ x.mine;
-}
-
-pub all_served_more : (xs ys zs : List Seat) → AllZip Served xs ys → AllZip HasSeenMore ys zs → AllZip Served xs zs
-all_served_more [] [] [] a b = tt
-all_served_more [] [] (z ∷ zs) a b = absurd b
-all_served_more [] (y ∷ ys) zs a b = absurd a
-all_served_more (x ∷ xs) [] zs a b = absurd a
-all_served_more (x ∷ xs) (y ∷ ys) [] a b = absurd b
-all_served_more (x ∷ xs) (y ∷ ys) (z ∷ zs) a b = (served_more x y z a.0 b.0, all_served_more xs ys zs a.1 b.1)
 
 -- what main knows of seats, it knows of them after they have met others
 pub known_more : (m : Seat) (ys zs : List Seat) → all_of (Knows m) ys → AllZip HasSeenMore ys zs → all_of (Knows m) zs
@@ -165,28 +108,6 @@ met_more a m m' s s' xs ys zs n x l at more other one own is =
 pub met_all : (a m : Seat) (xs ys : List Seat) (n : ℕ) → length ys ≤ n → MetSoFar a m xs ys n → AreMet a m xs ys
 met_all a m xs ys n l x = record { main = x.main; len = x.len; others = x.others; knows = λ k d h. x.knows k d (omega arith) h }
 
--- a further caller that didn't enter
-
-pub not_entered : (ss : List Statement) (a b : Seat) (r : Reply) → is_ok r ≡ false → Looked Entrance None a b r → CameBack (CalledPart ss) a (record { seat = b; stop = None })
-unfolding Carried
-not_entered ss a b r n l = record {
-  same = l.same;
-  did = λ none. record {
-    inside = b;
-    reply = r;
-    entered = l;
-    carried =
-        subst (λ (q : Bool). CarriedOut b [] (if q then ss else []) b) (sym n)
-        (record { same = record { cell = refl; number = refl; terms = refl }; own = []; replies = []; mine = sym (append-nil b.mine); carried = refl });
-  };
-}
-
-pub entered_part : (ss : List Statement) (a b d : Seat) (r : Reply) → is_ok r ≡ true → Looked Entrance None a b r → CarriedOut b [] ss d → CameBack (CalledPart ss) a (record { seat = d; stop = None })
-entered_part ss a b d r y l c = record {
-  same = record { cell = c.same.cell ∙ l.same.cell; number = c.same.number ∙ l.same.number; terms = c.same.terms ∙ l.same.terms };
-  did = λ none. record { inside = b; reply = r; entered = l; carried = subst (λ (q : Bool). CarriedOut b [] (if q then ss else []) d) (sym y) c };
-}
-
 -- Main met all, and made its call
 
 pub ended_turn : (o : Op) (c c' : Crew) (met : Seat) (r : Reply) → AreMet c.main met c.others.items c'.others.items → Turned met o r c'.main → vec_len c'.others ≡ vec_len c.others → vec_capacity c'.others ≡ vec_capacity c.others → c'.refused ≡ c.refused → c'.stop ≡ c.stop → IsEnded o c c'
@@ -197,12 +118,6 @@ not_none e = absurd (cc)
 
 pub ended_spent : (o : Op) (c c' : Crew) (s : Stop) → vec_len c'.others ≡ vec_len c.others → vec_capacity c'.others ≡ vec_capacity c.others → c'.refused ≡ c.refused → c'.stop ≡ Some s → IsEnded o c c'
 ended_spent o c c' s len capacity refused stop = record { len = len; capacity = capacity; refused = refused; turned = λ e. not_none (sym stop ∙ e); ended = λ clean. not_none (sym stop ∙ clean.turned) }
-
-pub not_ended : (o : Op) (c : Crew) → c.refused ≡ true → IsEnded o c c
-not_ended o c r = record { len = refl; capacity = refl; refused = refl; turned = λ e. e; ended = λ clean. absurd (both r clean.started) }
-  where
-    both : {b : Bool} → b ≡ true → b ≡ false → ⊥
-    both e f = cc
 
 pub of_met : (z : Cell) (a m : Seat) (xs ys : List Seat) → AreMet a m xs ys → All (λ (s : Seat). s.cell ≡ z.id) xs → All (λ (s : Seat). s.cell ≡ z.id) ys
 of_met z a m xs ys x all = λ k d h. let n = x.len in (x.others k d d (omega arith)).cell ∙ all k d (omega arith)

@@ -1,43 +1,17 @@
 -- Where a seat's own entries stand in a history that goes on behind what the seat has seen.
-use Rattle.std.proofs.Common.{◌≡◌, ℕ, ◌<◌, ◌≤◌, false, cond, List, [], ◌∷◌, ◌++◌, refl, sym, ◌∙◌, ap, subst, arith, append_assoc}
-use Rattle.std.specs.Prelude.{◌==◌}
-use Rattle.std.proofs.lemmas.List.{append-nil}
-use Rattle.std.proofs.lemmas.Bool.Decides.{nat_tests}
-use Rattle.history.specs.Histories.{entry, entries_of, StartsWith}
-use Rattle.turn_cell.specs.Seats.{HasSeenMore}
-use Rattle.mtapi_machine.specs.declared.ops.Op.{Op}
-use Rattle.mtapi_machine.specs.declared.ops.Op.TheVariants.{Close, Final}
-use Rattle.mtapi_machine.specs.declared.replies.Reply.{Reply}
-use Rattle.mtapi_machine.specs.Legal.{NodeEntry}
-use Rattle.history_law.specs.Seats.{BySeats}
-use Rattle.sched_threads.specs.Turns.{Seat, Turned}
-use Rattle.turn_looks.proofs.OwnEntries.{entries-append, self_is}
+use Rattle.sched_threads.proofs.Names.{[], ◌++◌, ◌<◌, ◌==◌, ◌∙◌, ◌∷◌, ◌≡◌, ◌≤◌, BySeats, Close, Final, HasSeenMore, List, NodeEntry, Op, Reply, Seat, StartsWith, Turned, ap, append-nil, append_assoc, arith, cond, entries-append, entries_of, entry, false, nat_tests, refl, self_is, subst, sym, ℕ}
 use Rattle.sched_threads.proofs.TurnMarks.{Cut, first_own}
 
 pub own_one : (w : ℕ) (e : NodeEntry) → e.who ≡ w → entries_of w (e ∷ []) ≡ e ∷ []
 own_one w e s = (λ i. cond (s i == w) (e ∷ []) []) ∙ ap (λ c. cond c (e ∷ []) []) (self_is w)
 
--- a prefix of the history has just these entries of the seat, and what is behind it has those
-pub record Split (w : ℕ) (H xs ys : List NodeEntry) : Type 0 where
-  pub prefix : List NodeEntry
-  pub back : List NodeEntry
-  pub is : H ≡ prefix ++ back
-  pub first : entries_of w prefix ≡ xs
-  pub rest : entries_of w back ≡ ys
-
-pub own_split : (w : ℕ) (xs H ys : List NodeEntry) → entries_of w H ≡ xs ++ ys → Split w H xs ys
-own_split w [] H ys k = record { prefix = []; back = H; is = refl; first = refl; rest = k }
-own_split w (x ∷ xs) H ys k =
-    let c : Cut w H x (xs ++ ys) = first_own w H x (xs ++ ys) k in
-    let r = own_split w xs c.behind ys c.rest in
-    let one : entries_of w (c.before ++ x ∷ []) ≡ x ∷ [] = entries-append w c.before (x ∷ []) ∙ (λ i. c.others i ++ own_one w x c.by i) in
-    record {
-      prefix = (c.before ++ x ∷ []) ++ r.prefix;
-      back = r.back;
-      is = c.is ∙ (ap (λ (L : List NodeEntry). c.before ++ x ∷ L) r.is ∙ (sym (append_assoc c.before (x ∷ []) (r.prefix ++ r.back)) ∙ sym (append_assoc (c.before ++ x ∷ []) r.prefix r.back)));
-      first = entries-append w (c.before ++ x ∷ []) r.prefix ∙ (λ i. one i ++ r.first i);
-      rest = r.rest;
-    }
+-- where an entry of the seat stands, behind these of its own
+pub own_at : (w : ℕ) (xs H : List NodeEntry) (e : NodeEntry) (ys : List NodeEntry) → entries_of w H ≡ xs ++ e ∷ ys → (A : List NodeEntry) × (B : List NodeEntry) × (H ≡ A ++ e ∷ B)
+own_at w [] H e ys k = let c : Cut w H e ys = first_own w H e ys k in (c.before, c.behind, c.is)
+own_at w (x ∷ xs) H e ys k =
+    let c : Cut w H x (xs ++ e ∷ ys) = first_own w H x (xs ++ e ∷ ys) k in
+    let r = own_at w xs c.behind e ys c.rest in
+    (c.before ++ x ∷ r.0, r.1, c.is ∙ (ap (λ (L : List NodeEntry). c.before ++ x ∷ L) r.2 ∙ sym (append_assoc c.before (x ∷ r.0) (e ∷ r.1))))
 
 same_back : (xs ys zs : List NodeEntry) → xs ++ ys ≡ xs ++ zs → ys ≡ zs
 same_back [] ys zs e = e

@@ -1,9 +1,5 @@
 -- Where a worker begins.
-use Rattle.std.proofs.Common.{◌≡◌, ◌<◌, List, [], refl, sym, subst}
-use Rattle.mtapi_machine.specs.Legal.{NodeEntry, after, after_from}
-use Rattle.history_law.specs.Seats.{Free}
-use Rattle.sched_threads.specs.Turns.{Seat}
-use Rattle.sched_threads.specs.Rounds.{AtRest}
+use Rattle.sched_threads.proofs.Names.{[], ◌<◌, ◌≡◌, AtRest, Free, List, NodeEntry, Seat, after, after_from, refl, subst, sym}
 
 -- a worker's seat that has seen nothing has no task
 pub new_at_rest : (s : Seat) → s.number < s.terms.node.settings.workers → s.seen ≡ [] → AtRest s

@@ -1,21 +1,11 @@
 -- The turns of a worker that executes a tally, from what its seat has seen to what it has seen then.
-use Rattle.std.proofs.Common.{◌≡◌, ℕ, zero, suc, Bool, true, false, cond, List, [], ◌∷◌, ◌++◌, Option, Some, None, replicate, refl, sym, ◌∙◌, ap, subst, append_assoc, ℤ}
-use Rattle.std.proofs.lemmas.List.{append-nil}
-use Rattle.history.specs.Histories.{entry}
-use Rattle.mtapi_values.specs.declared.handles.TaskHandle.{TaskHandle}
-use Rattle.action_fn.specs.Answers.{fits, fitting}
-use Rattle.mtapi_objects.specs.Tasks.{TallyNotes, no_tally, tally_failed, tally_has, tally_read, tally_written}
+use Rattle.sched_threads.proofs.Names.{[], ◌++◌, ◌∙◌, ◌∷◌, ◌≡◌, Added, AddsToCell, AtWork, Bool, EndsTally, GivesUp, IsTallyAnswer, List, LocksOnce, MayEndTally, MayRead, MayWrite, NodeEntry, None, Option, Reads, ReadsCell, Reply, SameSeat, Seat, Some, Stranded, Sums, TakesBoth, Tallies, TallyNotes, Tallying, TaskHandle, Turned, Works, Writes, WritesCell, answer_in, ap, append-nil, append_assoc, cond, entry, false, fits, fitting, next, no_tally, refl, replicate, retries, subst, suc, sum_with, sym, tally_failed, tally_has, tally_read, tally_steps, tally_written, tallying, true, zero, ℕ, ℤ}
 use Rattle.mtapi_machine.specs.declared.ops.Op.TheVariants as op
-use Rattle.mtapi_machine.specs.declared.replies.Reply.{Reply}
 use Rattle.mtapi_machine.specs.declared.replies.Reply.TheVariants as reply
-use Rattle.mtapi_machine.specs.Legal.{NodeEntry, next}
-use Rattle.sched_threads.specs.Turns.{Seat, SameSeat, Turned}
-use Rattle.sched_threads.specs.Rounds.{Tallying, GivesUp, Reads, Writes, retries, tally_steps, AtWork, Added, Stranded}
-use Rattle.sched_threads.specs.Steps.{Works, tallying, LocksOnce, TakesBoth, sum_with, MayRead, MayWrite, ReadsCell, WritesCell, IsTallyAnswer, answer_in, AddsToCell, MayEndTally, EndsTally, Sums, Tallies}
 use Rattle.sched_threads.proofs.OwnEntries.{state_at, turned_next}
-use Rattle.sched_threads.proofs.LookLemmas.{same_then}
+use Rattle.sched_threads.proofs.Adds.{same_seat, same_then, mine_then}
 use Rattle.sched_threads.proofs.TallyWork.{LockedAs, locked_as, read_as, written_as, tallied_as}
-use Rattle.sched_threads.proofs.SeatSteps.{worker_at, holds_at, rest_then, works_then, stranded_then}
+use Rattle.sched_threads.proofs.SeatSteps.{worker_at, holds_at, rest_then, works_then}
 
 -- Asking for both
 
@@ -26,16 +16,7 @@ locks_once old new r t args a u = by_reply r u (locked_as _ old.number t.0 (tall
     by_reply reply.Pending u p = (tt, works_then old new (op.TallyLock t) reply.Pending u t.0 (tallying args no_tally) a.worker p)
     by_reply (reply.Asked false) u p = (tt, (p.0, works_then old new (op.TallyLock t) (reply.Asked false) u t.0 (tallying args (tally_failed p.0 no_tally)) a.worker p.1))
     by_reply (reply.Asked true) u p = (tt, (p.0, p.1, works_then old new (op.TallyLock t) (reply.Asked true) u t.0 (tallying args (tally_has p.0 p.1 no_tally)) a.worker p.2))
-    by_reply reply.Ok u p = absurd p
-    by_reply (reply.Handle h) u p = absurd p
-    by_reply (reply.Number h) u p = absurd p
-    by_reply (reply.Ended h) u p = absurd p
-    by_reply (reply.Given h x) u p = absurd p
-    by_reply (reply.Picked h x k l) u p = absurd p
-    by_reply reply.Idle u p = absurd p
-    by_reply reply.Stop u p = absurd p
-    by_reply (reply.Mtapi h) u p = absurd p
-    by_reply (reply.Mrapi h) u p = absurd p
+    by_reply _ u p = absurd p
 
 -- the questions so far, each to be asked again
 pub record Retried (old : Seat) (t : TaskHandle) (args : List ℤ) (new : Seat) : Type 0 where
@@ -45,7 +26,7 @@ pub record Retried (old : Seat) (t : TaskHandle) (args : List ℤ) (new : Seat) 
   pub work : AtWork new t.0 (tallying args no_tally)
 
 pub retried_none : (a : Seat) (t : TaskHandle) (args : List ℤ) → AtWork a t.0 (tallying args no_tally) → Retried a t args a
-retried_none a t args w = record { pending = 0; same = record { cell = refl; number = refl; terms = refl }; mine = sym (append-nil a.mine); work = w }
+retried_none a t args w = record { pending = 0; same = same_seat a; mine = sym (append-nil a.mine); work = w }
 
 one_more : (n : ℕ) (e : NodeEntry) → replicate n e ++ e ∷ [] ≡ replicate (suc n) e
 one_more zero e = refl
@@ -53,10 +34,7 @@ one_more (suc n) e = ap (λ (l : List NodeEntry). e ∷ l) (one_more n e)
 
 -- another turn behind the questions so far
 behind : (a b c : Seat) (t : TaskHandle) (n : ℕ) (o : _) (r : Reply) → SameSeat a b → b.mine ≡ a.mine ++ retries a.number t n → c.mine ≡ b.mine ++ entry b.number o r ∷ [] → c.mine ≡ a.mine ++ (retries a.number t n ++ entry a.number o r ∷ [])
-behind a b c t n o r s p q =
-    q
-    ∙ (ap (λ (k : ℕ). b.mine ++ entry k o r ∷ []) s.number ∙ (ap (λ (m : List NodeEntry). m ++ entry a.number o r ∷ []) p
-    ∙ append_assoc a.mine (retries a.number t n) (entry a.number o r ∷ [])))
+behind a b c t n o r s p q = mine_then a b c (λ w. retries w t n) (λ w. entry w o r ∷ []) s p q
 
 pub retried_more : (a b c : Seat) (t : TaskHandle) (args : List ℤ) (g : Option Bool) → g ≡ None → Retried a t args b → LocksOnce b t args g c → Retried a t args c
 retried_more a b c t args None e p q = record {
@@ -88,9 +66,6 @@ takes_both a b c t args (Some true) got e p q =
       does = record { same = same_then a b c p.same q.2.same; mine = behind a b c t p.pending (op.TallyLock t) (reply.Asked true) p.same p.mine q.2.mine; work = q.2.work };
     })
 
-pub retried_stranded : (a b c : Seat) (t : TaskHandle) (args : List ℤ) → Retried a t args b → Stranded b c → Stranded a c
-retried_stranded a b c t args p s = stranded_then a b c p.same s
-
 -- Reading and writing
 
 pub reads_cell : (old new : Seat) (r : Reply) (t : TaskHandle) (args : List ℤ) → MayRead old t args → Turned old (op.TallyRead t) r new → (z : ℤ) × (r ≡ reply.Number z) × ReadsCell old t args z new
@@ -111,9 +86,6 @@ writes_cell old new r t args z value a e u =
     let x = tallying args (tally_read z (tally_has a.0 a.1 no_tally)) in
     let p = written_as _ old.number t.0 x (holds_at old new o r u t.0 x a.2) value r (worker_at old new o r u a.2.worker) refl refl e (turned_next old new o r u) in
     (a.0, a.1, subst (λ (q : Reply). Works old o q t.0 (tallying args (tally_written (tally_read z (tally_has a.0 a.1 no_tally)))) new) p.reply (works_then old new o r u t.0 (tallying args (tally_written (tally_read z (tally_has a.0 a.1 no_tally)))) a.2.worker p.holds))
-
-pub may_write : (old new : Seat) (t : TaskHandle) (args : List ℤ) (z : ℤ) → ReadsCell old t args z new → MayWrite new t args z
-may_write old new t args z x = (x.0, x.1, x.2.work)
 
 -- a sum that doesn't fit
 unfit : (z : ℤ) → None ≡ fitting z → fits z ≡ false
@@ -136,45 +108,10 @@ pub adds_sum : (a b c : Seat) (t : TaskHandle) (args : List ℤ) (z kept value :
 adds_sum a b c t args z kept value x y = record {
   steps = entry a.number (op.TallyRead t) (reply.Number z) ∷ entry a.number (op.TallyWrite t value) reply.Ok ∷ [];
   same = same_then a b c x.2.same y.2.same;
-  mine =
-      y.2.mine
-      ∙ (ap (λ (k : ℕ). b.mine ++ entry k (op.TallyWrite t value) reply.Ok ∷ []) x.2.same.number ∙ (ap (λ (m : List NodeEntry). m ++ entry a.number (op.TallyWrite t value) reply.Ok ∷ []) x.2.mine
-      ∙ append_assoc a.mine (entry a.number (op.TallyRead t) (reply.Number z) ∷ []) (entry a.number (op.TallyWrite t value) reply.Ok ∷ [])));
+  mine = mine_then a b c (λ w. entry w (op.TallyRead t) (reply.Number z) ∷ []) (λ w. entry w (op.TallyWrite t value) reply.Ok ∷ []) x.2.same x.2.mine y.2.mine;
   like = record { steps = Writes z value; is = refl };
   may = (tally_written (tally_read kept (tally_has y.0 y.1 no_tally)), y.2.work, refl);
 }
-
-pub may_read : (a b : Seat) (t : TaskHandle) (args : List ℤ) (got : Bool) → got ≡ true → TakesBoth a t args got b → MayRead b t args
-may_read a b t args true e x = (x.locked.0, x.locked.1, subst (λ (y : TallyNotes). AtWork b t.0 (tallying args y)) x.locked.2 x.does.work)
-may_read a b t args false e x = absurd (cc)
-
-pub sums_none : (a b : Seat) (t : TaskHandle) (args : List ℤ) (got : Bool) → got ≡ false → TakesBoth a t args got b → Sums a t args b
-sums_none a b t args true e x = absurd (cc)
-sums_none a b t args false e x = record {
-  pending = x.pending;
-  steps = GivesUp;
-  same = x.does.same;
-  mine = x.does.mine;
-  may = (tally_failed x.locked.0 no_tally, subst (λ (y : TallyNotes). AtWork b t.0 (tallying args y)) x.locked.1 x.does.work, refl);
-}
-
-pub sums_more : (a b c : Seat) (t : TaskHandle) (args : List ℤ) (got : Bool) → got ≡ true → TakesBoth a t args got b → AddsToCell b t args c → Sums a t args c
-sums_more a b c t args false e x y = absurd (cc)
-sums_more a b c t args true e x y = record {
-  pending = x.pending;
-  steps = y.like.steps;
-  same = same_then a b c x.does.same y.same;
-  mine =
-      y.mine
-      ∙ (ap (λ (m : List NodeEntry). m ++ y.steps) x.does.mine
-      ∙ (append_assoc a.mine (retries a.number t x.pending ++ entry a.number (op.TallyLock t) (reply.Asked true) ∷ []) y.steps
-      ∙ ap (λ (m : List NodeEntry). a.mine ++ m) (append_assoc (retries a.number t x.pending) (entry a.number (op.TallyLock t) (reply.Asked true) ∷ []) y.steps ∙ ap (λ (m : List NodeEntry). retries a.number t x.pending ++ m) (is_steps y.steps y.like.steps y.like.is))));
-  may = y.may;
-}
-  where
-    is_steps : (es : List NodeEntry) (z : Tallying) → tally_steps b.number t z ≡ entry b.number (op.TallyLock t) (reply.Asked true) ∷ es → entry a.number (op.TallyLock t) (reply.Asked true) ∷ es ≡ tally_steps a.number t z
-    is_steps es z e =
-        subst (λ (k : ℕ). entry k (op.TallyLock t) (reply.Asked true) ∷ es ≡ tally_steps k t z) x.does.same.number (sym e)
 
 -- Ending
 
@@ -184,18 +121,3 @@ ends_tally old new r t args a u =
     let x = tallying args a.0 in
     let p = tallied_as _ old.number t.0 x (holds_at old new o r u t.0 x a.1) r (worker_at old new o r u a.1.worker) refl a.2 (turned_next old new o r u) in
     (p.end, subst (λ (q : Reply). Added old (entry old.number o q ∷ []) new) p.reply (rest_then old new o r u a.1.worker p.free))
-
-pub tallies : (a b c : Seat) (t : TaskHandle) (args : List ℤ) → Sums a t args b → EndsTally b t c → Tallies a t c
-tallies a b c t args x y = (
-  x.pending,
-  x.steps,
-  y.0,
-  record {
-    same = same_then a b c x.same y.1.same;
-    mine =
-        y.1.mine
-        ∙ (ap (λ (k : ℕ). b.mine ++ entry k (op.TallyEnd t) (reply.Ended y.0) ∷ []) x.same.number ∙ (ap (λ (m : List NodeEntry). m ++ entry a.number (op.TallyEnd t) (reply.Ended y.0) ∷ []) x.mine
-        ∙ append_assoc a.mine (retries a.number t x.pending ++ tally_steps a.number t x.steps) (entry a.number (op.TallyEnd t) (reply.Ended y.0) ∷ [])));
-    rest = y.1.rest;
-  },
-)

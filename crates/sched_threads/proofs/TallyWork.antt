@@ -1,34 +1,9 @@
 -- What a worker's own turns do to its tally.
-use Rattle.std.proofs.Common.{◌≡◌, ℕ, ◌<◌, Bool, true, false, cond, List, [], ◌∷◌, Option, Some, None, refl, sym, ◌∙◌, ap, subst, arith, ℤ, length}
-use Rattle.std.specs.Prelude.{◌==◌, ◌&&◌, ◌||◌, not, nat_lt, is_some, ◌+ℤ◌}
-use Rattle.std.specs.Ordering.{int_eq}
-use Rattle.std.proofs.lemmas.Bool.Decides.{Decides-int_eq}
-use Rattle.history.specs.Histories.{entry}
-use Rattle.mtapi_values.specs.declared.kinds.Kind.{Kind}
+use Rattle.sched_threads.proofs.Names.{[], ◌&&◌, ◌+ℤ◌, ◌<◌, ◌==◌, ◌||◌, ◌∙◌, ◌∷◌, ◌≡◌, Adds, Allows, Asked, Bool, Completed, Decides-int_eq, Failed, Free, Goes, Holds, IsNext, Kind, List, Listed, Move, Mtapi, MtapiStatus, None, Number, Ok, Option, Pending, Reply, Row, Segments, Some, State, TallyNotes, Task, TaskEnd, Work, added, after_moves, alters, ap, arith, at-update, cell_in, cell_of, cond, count_changed, count_listed, ends_free, ends_task, entry, false, fits, gives, gives_back, gives_up, goes_then, int_eq, is_some, length, live, live_object, locks, moves_of, nat_lt, never, next, not, notes, number_in, own_goes, pass, refl, runs_as, runs_as_its, runs_on, runs_on_its, says, subst, sym, takes_both, tally_args, tally_failed, tally_has, tally_read, tally_written, true, unless, update, with_cell, with_fields, with_notes, with_tally, workers, ℕ, ℤ}
 use Rattle.mtapi_values.specs.declared.kinds.Kind.TheVariants as kind
-use Rattle.mtapi_values.specs.declared.ends.TaskEnd.{TaskEnd}
-use Rattle.mtapi_values.specs.declared.ends.TaskEnd.TheVariants.{Completed, Failed}
-use Rattle.mtapi_values.specs.declared.statuses.MtapiStatus.{MtapiStatus}
 use Rattle.mtapi_values.specs.declared.statuses.MtapiStatus.TheVariants as m
-use Rattle.action_fn.specs.Answers.{fits}
-use Rattle.mtapi_machine.specs.declared.replies.Reply.{Reply}
-use Rattle.mtapi_machine.specs.declared.replies.Reply.TheVariants.{Ok, Number, Pending, Asked, Mtapi}
 use Rattle.mtapi_machine.specs.declared.replies.Reply.TheVariants as reply
 use Rattle.mtapi_machine.specs.declared.ops.Op.TheVariants as op
-use Rattle.handle_pool.specs.Issued.{Listed, live_object, count_listed, update, with_fields}
-use Rattle.mtapi_objects.specs.Tasks.{Task, TallyNotes, runs_on, runs_as, with_notes, with_tally, Adds, tally_args, cell_in, number_in, added, tally_failed, tally_has, tally_read, tally_written}
-use Rattle.mtapi_objects.specs.Mutexes.{Mutex, locked_by, unlocked}
-use Rattle.mtapi_objects.specs.Segments.{Segment, cell_of, with_attached, with_cell}
-use Rattle.mtapi_machine.specs.State.{State, workers}
-use Rattle.mtapi_machine.specs.Moves.{Mutexes, Segments, alters, notes, ends_task, after_moves}
-use Rattle.mtapi_machine.specs.Row.{Row, unless, says, gives, never, Allows, after_row, live}
-use Rattle.mtapi_machine.specs.TallyRows.{takes_both, locks, gives_up, gives_back}
-use Rattle.mtapi_machine.specs.Legal.{IsNext, next}
-use Rattle.mtapi_machine.proofs.Changes.{at-update}
-use Rattle.history_law.specs.Seats.{Work, Holds, Free}
-use Rattle.history_law.proofs.lists.Found.{count_changed}
-use Rattle.history_law.proofs.RowRest.{Goes, pass, goes_then}
-use Rattle.history_law.proofs.WorkerTurns.{runs_as_its, runs_on_its, ends_free, own_goes}
 
 -- the work with what its tally has done then
 abbrev pub with_done : (TallyNotes → TallyNotes) → Work → Work
@@ -57,6 +32,26 @@ tally_goes s w h x v r f l k a =
     let runs : runs_as w kind.Tally v.task ≡ true = ap (λ (z : Kind). runs_as w z v.task) (sym k) ∙ runs_as_its w x v.task v.runs in
     goes_then s _ _ _ r g (pass (not (runs_as w kind.Tally v.task)) (Mtapi m.ErrTaskInvalid) r (f v.task) s (ap not runs) g.allowed)
 
+-- what a row may answer and do
+abbrev Gives : (Reply → List Move → Type 0) → Row → Type 0
+Gives Q (unless c x w) = Q x [] × Gives Q w
+Gives Q (gives x ms) = Q x ms
+Gives Q never = Unit {0}
+
+by_gives : (Q : Reply → List Move → Type 0) (w : Row) (r : Reply) → Gives Q w → Allows w r → Q r (moves_of w)
+by_gives Q (unless true x w) r g a = subst (λ (y : Reply). Q y []) (sym a) g.0
+by_gives Q (unless false x w) r g a = by_gives Q w r g.1 a
+by_gives Q (gives x ms) r g a = subst (λ (y : Reply). Q y ms) (sym a) g
+by_gives Q never r g a = absurd a
+
+gives_live : (Q : Reply → List Move → Type 0) {T : Type 0} (x : Option T) (v : Row) (w : T → Row) → Gives Q v → ((t : T) → Gives Q (w t)) → Gives Q (live x v w)
+gives_live Q None v w g h = g
+gives_live Q (Some t) v w g h = h t
+
+gives_cond : (Q : Reply → List Move → Type 0) (b : Bool) (v w : Row) → Gives Q v → Gives Q w → Gives Q (cond b v w)
+gives_cond Q true v w g h = g
+gives_cond Q false v w g h = h
+
 -- Locking
 
 -- what a question for both may be answered, and what it leaves
@@ -67,33 +62,22 @@ LockedAs (Asked true) w h x u = (a : ℕ) × (b : ℕ) × Holds u w h (with_done
 LockedAs _ w h x u = ⊥
 
 module _ (s : State) (w h : ℕ) (x : Work) (v : Holds s w h x) where
-  given_up : (c : MtapiStatus) (r : Reply) → Allows (gives_up h c) r → LockedAs r w h x (after_row s (gives_up h c))
-  given_up c r a = subst (λ (y : Reply). LockedAs y w h x (after_row s (gives_up h c))) (sym a) (c, noted_holds s _ w h x (tally_failed c) v refl)
+  abbrev Locks : Reply → List Move → Type 0
+  Locks r ms = LockedAs r w h x (after_moves ms s)
 
-  owned_or_got : (b : Bool) (p q : ℕ) (r : Reply) → Allows (cond b (says Pending) (gives (Asked true) (alters Mutexes p (locked_by w) ∷ alters Segments q (with_attached w true) ∷ notes h (with_tally (tally_has p q)) ∷ []))) r
-      → LockedAs r w h x (after_row s (cond b (says Pending) (gives (Asked true) (alters Mutexes p (locked_by w) ∷ alters Segments q (with_attached w true) ∷ notes h (with_tally (tally_has p q)) ∷ []))))
-  owned_or_got true p q r a = subst (λ (y : Reply). LockedAs y w h x s) (sym a) v
-  owned_or_got false p q r a =
-      subst (λ (y : Reply). LockedAs y w h x (after_moves (alters Mutexes p (locked_by w) ∷ alters Segments q (with_attached w true) ∷ notes h (with_tally (tally_has p q)) ∷ []) s)) (sym a)
-      (p, q, noted_holds s _ w h x (tally_has p q) v refl)
+  gave_up : (c : MtapiStatus) → Gives Locks (gives_up h c)
+  gave_up c = (c, noted_holds s _ w h x (tally_failed c) v refl)
 
-  with_cell_or_not : (b : Bool) (c : MtapiStatus) (z : Row) (r : Reply) → (Allows z r → LockedAs r w h x (after_row s z)) → Allows (cond b (gives_up h c) z) r → LockedAs r w h x (after_row s (cond b (gives_up h c) z))
-  with_cell_or_not true c z r k a = given_up c r a
-  with_cell_or_not false c z r k a = k a
+  both_taken : (cell : ℕ) (p q : Option ℕ) → Gives Locks (takes_both s w h cell p q)
+  both_taken cell None q = gave_up _
+  both_taken cell (Some p) None = gave_up _
+  both_taken cell (Some p) (Some q) =
+      gives_live Locks (live_object s.mutexes p) _ _ (gave_up _) (λ y. gives_live Locks (live_object s.segments q) _ _ (gave_up _) (λ z.
+      gives_cond Locks (not (nat_lt cell (length z.cells))) _ _ (gave_up _) (gives_cond Locks (is_some y.owner) _ _ v (p, q, noted_holds s _ w h x (tally_has p q) v refl))))
 
-  found_or_not : {T : Type 0} (o : Option T) (c : MtapiStatus) (z : T → Row) (r : Reply) → ((y : T) → Allows (z y) r → LockedAs r w h x (after_row s (z y))) → Allows (live o (gives_up h c) z) r → LockedAs r w h x (after_row s (live o (gives_up h c) z))
-  found_or_not None c z r k a = given_up c r a
-  found_or_not (Some y) c z r k a = k y a
-
-  taken : (cell : ℕ) (p q : Option ℕ) (r : Reply) → Allows (takes_both s w h cell p q) r → LockedAs r w h x (after_row s (takes_both s w h cell p q))
-  taken cell None q r a = given_up m.ErrActionFailed r a
-  taken cell (Some p) None r a = given_up m.ErrActionFailed r a
-  taken cell (Some p) (Some q) r a =
-      found_or_not (live_object s.mutexes p) m.ErrActionFailed _ r (λ y. found_or_not (live_object s.segments q) m.ErrActionFailed _ r (λ z. with_cell_or_not (not (nat_lt cell (length z.cells))) m.ErrActionFailed _ r (owned_or_got (is_some y.owner) p q r))) a
-
-  locked : (args : List ℤ) (o : Option Adds) (r : Reply) → Allows (locks s w h args o) r → LockedAs r w h x (after_row s (locks s w h args o))
-  locked args None r a = given_up _ r a
-  locked args (Some y) r a = taken y.cell _ _ r a
+  locked : (args : List ℤ) (o : Option Adds) → Gives Locks (locks s w h args o)
+  locked args None = gave_up _
+  locked args (Some y) = both_taken y.cell _ _
 
 -- a tally that has done nothing asks for both
 pub locked_as : (s : State) (w h : ℕ) (x : Work) (v : Holds s w h x) (r : Reply) → w < workers s → x.kind ≡ kind.Tally → (x.tally.stage == 0) ≡ true → IsNext s (entry w (op.TallyLock (record { 0 = h })) r)
@@ -102,7 +86,7 @@ locked_as s w h x v r l k e i =
     let f : Task → Row = λ y. unless (not (y.notes.tally.stage == 0)) (Mtapi m.ErrParameter) (locks s w h y.args (tally_args y.args)) in
     let g = tally_goes s w h x v r f l k i.allowed in
     let p = pass (not (v.task.notes.tally.stage == 0)) (Mtapi m.ErrParameter) r (locks s w h v.task.args (tally_args v.task.args)) s (ap not (ap (λ (y : TallyNotes). y.stage == 0) v.runs.did ∙ e)) g.allowed in
-    subst (λ (u : State). LockedAs r w h x u) (sym (g.leads ∙ p.leads)) (locked s w h x v v.task.args (tally_args v.task.args) r p.allowed)
+    subst (λ (u : State). LockedAs r w h x u) (sym (g.leads ∙ p.leads)) (by_gives (Locks s w h x v) (locks s w h v.task.args (tally_args v.task.args)) r (locked s w h x v v.task.args (tally_args v.task.args)) p.allowed)
 
 -- Reading
 
@@ -111,29 +95,19 @@ pub record ReadAs (r : Reply) (w h : ℕ) (x : Work) (u : State) : Type 0 where
   pub reply : r ≡ Number number
   pub holds : Holds u w h (with_done (tally_read number) x)
 
-read_at : (s : State) (w h : ℕ) (x : Work) (v : Holds s w h x) (cell : ℕ) (o : Option Segment) (r : Reply) → Allows (live o never (λ y. gives (Number (cell_of cell y)) (notes h (with_tally (tally_read (cell_of cell y))) ∷ []))) r
-    → ReadAs r w h x (after_row s (live o never (λ y. gives (Number (cell_of cell y)) (notes h (with_tally (tally_read (cell_of cell y))) ∷ []))))
-read_at s w h x v cell None r a = absurd a
-read_at s w h x v cell (Some y) r a = record { number = cell_of cell y; reply = a; holds = noted_holds s _ w h x (tally_read (cell_of cell y)) v refl }
-
 pub read_as : (s : State) (w h : ℕ) (x : Work) (v : Holds s w h x) (r : Reply) → w < workers s → x.kind ≡ kind.Tally → (x.tally.stage == 1) ≡ true → IsNext s (entry w (op.TallyRead (record { 0 = h })) r)
     → ReadAs r w h x (next s (entry w (op.TallyRead (record { 0 = h })) r))
 read_as s w h x v r l k e i =
     let inside : Task → Row = λ y. live (live_object s.segments y.notes.tally.segment) never (λ z. gives (Number (cell_of (cell_in (tally_args y.args)) z)) (notes h (with_tally (tally_read (cell_of (cell_in (tally_args y.args)) z))) ∷ [])) in
     let g = tally_goes s w h x v r (λ y. unless (not (y.notes.tally.stage == 1)) (Mtapi m.ErrParameter) (inside y)) l k i.allowed in
     let p = pass (not (v.task.notes.tally.stage == 1)) (Mtapi m.ErrParameter) r (inside v.task) s (ap not (ap (λ (y : TallyNotes). y.stage == 1) v.runs.did ∙ e)) g.allowed in
-    subst (λ (u : State). ReadAs r w h x u) (sym (g.leads ∙ p.leads)) (read_at s w h x v (cell_in (tally_args v.task.args)) (live_object s.segments v.task.notes.tally.segment) r p.allowed)
+    subst (λ (u : State). ReadAs r w h x u) (sym (g.leads ∙ p.leads)) (by_gives (λ y ms. ReadAs y w h x (after_moves ms s)) (inside v.task) r (gives_live (λ y ms. ReadAs y w h x (after_moves ms s)) (live_object s.segments v.task.notes.tally.segment) never _ tt (λ z. record { number = _; reply = refl; holds = noted_holds s _ w h x (tally_read (cell_of (cell_in (tally_args v.task.args)) z)) v refl })) p.allowed)
 
 -- Writing
 
 pub record WrittenAs (r : Reply) (w h : ℕ) (x : Work) (u : State) : Type 0 where
   pub reply : r ≡ Ok
   pub holds : Holds u w h (with_done tally_written x)
-
-write_at : (s : State) (w h : ℕ) (x : Work) (v : Holds s w h x) (j cell : ℕ) (value : ℤ) (o : Option Segment) (r : Reply) → Allows (live o never (λ y. gives Ok (alters Segments j (with_cell cell value) ∷ notes h (with_tally tally_written) ∷ []))) r
-    → WrittenAs r w h x (after_row s (live o never (λ (y : Segment). gives Ok (alters Segments j (with_cell cell value) ∷ notes h (with_tally tally_written) ∷ []))))
-write_at s w h x v j cell value None r a = absurd a
-write_at s w h x v j cell value (Some y) r a = record { reply = a; holds = noted_holds s _ w h x tally_written v refl }
 
 pub written_as : (s : State) (w h : ℕ) (x : Work) (v : Holds s w h x) (value : ℤ) (r : Reply) → w < workers s → x.kind ≡ kind.Tally → (x.tally.stage == 2) ≡ true → value ≡ x.tally.kept +ℤ number_in (tally_args x.args)
     → IsNext s (entry w (op.TallyWrite (record { 0 = h }) value) r) → WrittenAs r w h x (next s (entry w (op.TallyWrite (record { 0 = h }) value) r))
@@ -143,7 +117,7 @@ written_as s w h x v value r l k e d i =
     let same : value ≡ added v.task = d ∙ (λ j. (sym v.runs.did j).kept +ℤ number_in (tally_args (sym v.runs.arguments j))) in
     let stage : (v.task.notes.tally.stage == 2) ≡ true = ap (λ (y : TallyNotes). y.stage == 2) v.runs.did ∙ e in
     let p = pass (not (v.task.notes.tally.stage == 2) || not (int_eq value (added v.task))) (Mtapi m.ErrParameter) r (inside v.task) s (λ j. not (stage j) || not ((Decides-int_eq value (added v.task)).1 same j)) g.allowed in
-    subst (λ (u : State). WrittenAs r w h x u) (sym (g.leads ∙ p.leads)) (write_at s w h x v v.task.notes.tally.segment (cell_in (tally_args v.task.args)) value (live_object s.segments v.task.notes.tally.segment) r p.allowed)
+    subst (λ (u : State). WrittenAs r w h x u) (sym (g.leads ∙ p.leads)) (by_gives (λ y ms. WrittenAs y w h x (after_moves ms s)) (inside v.task) r (gives_live (λ y ms. WrittenAs y w h x (after_moves ms s)) (live_object s.segments v.task.notes.tally.segment) never _ tt (λ z. record { reply = refl; holds = noted_holds s _ w h x tally_written v refl })) p.allowed)
 
 -- Ending
 
@@ -152,22 +126,13 @@ pub record TalliedAs (r : Reply) (w : ℕ) (u : State) : Type 0 where
   pub reply : r ≡ reply.Ended end
   pub free : Free u w
 
-module _ (s : State) (w h : ℕ) (x : Work) (v : Holds s w h x) where
-  -- a row that ends the task, beside changes of a mutex and of a segment
-  over : (e : TaskEnd) (r : Reply) → Allows (gives (reply.Ended e) (ends_task h e ∷ [])) r → TalliedAs r w (after_row s (gives (reply.Ended e) (ends_task h e ∷ [])))
-  over e r a = record { end = e; reply = a; free = ends_free s w h x v e s.ends }
-
-  given_back : (t : Task) (e : TaskEnd) (p : Option Segment) (q : Option Mutex) (r : Reply)
-      → Allows (live p never (λ y. live q never (λ z. gives (reply.Ended e) (alters Segments t.notes.tally.segment (with_attached w false) ∷ alters Mutexes t.notes.tally.mutex unlocked ∷ ends_task h e ∷ [])))) r
-      → TalliedAs r w (after_row s (live p never (λ (y : Segment). live q never (λ (z : Mutex). gives (reply.Ended e) (alters Segments t.notes.tally.segment (with_attached w false) ∷ alters Mutexes t.notes.tally.mutex unlocked ∷ ends_task h e ∷ [])))))
-  given_back t e None q r a = absurd a
-  given_back t e (Some y) None r a = absurd a
-  given_back t e (Some y) (Some z) r a = record { end = e; reply = a; free = ends_free s w h x v e s.ends }
-
-  either : (b : Bool) (t : Task) (e : TaskEnd) (r : Reply) → Allows (cond b (gives (reply.Ended t.notes.tally.verdict) (ends_task h t.notes.tally.verdict ∷ [])) (gives_back s w h t e)) r
-      → TalliedAs r w (after_row s (cond b (gives (reply.Ended t.notes.tally.verdict) (ends_task h t.notes.tally.verdict ∷ [])) (gives_back s w h t e)))
-  either true t e r a = over t.notes.tally.verdict r a
-  either false t e r a = given_back t e (live_object s.segments t.notes.tally.segment) (live_object s.mutexes t.notes.tally.mutex) r a
+-- a row that ends the task, beside changes of a mutex and of a segment
+ended : (s : State) (w h : ℕ) (x : Work) (v : Holds s w h x) (b : Bool) (t : Task) (e : TaskEnd)
+    → Gives (λ r ms. TalliedAs r w (after_moves ms s)) (cond b (gives (reply.Ended t.notes.tally.verdict) (ends_task h t.notes.tally.verdict ∷ [])) (gives_back s w h t e))
+ended s w h x v true t e = record { end = _; reply = refl; free = ends_free s w h x v t.notes.tally.verdict s.ends }
+ended s w h x v false t e =
+    gives_live (λ r ms. TalliedAs r w (after_moves ms s)) (live_object s.segments t.notes.tally.segment) never _ tt (λ y.
+    gives_live (λ r ms. TalliedAs r w (after_moves ms s)) (live_object s.mutexes t.notes.tally.mutex) never _ tt (λ z. record { end = e; reply = refl; free = ends_free s w h x v e s.ends }))
 
 pub tallied_as : (s : State) (w h : ℕ) (x : Work) (v : Holds s w h x) (r : Reply) → w < workers s → x.kind ≡ kind.Tally
     → (nat_lt x.tally.stage 2 || ((x.tally.stage == 2) && fits (x.tally.kept +ℤ number_in (tally_args x.args)))) ≡ false
@@ -179,4 +144,4 @@ tallied_as s w h x v r l k d i =
     let may : (nat_lt v.task.notes.tally.stage 2 || ((v.task.notes.tally.stage == 2) && fits (added v.task))) ≡ false =
     (λ j. nat_lt (v.runs.did j).stage 2 || (((v.runs.did j).stage == 2) && fits ((v.runs.did j).kept +ℤ number_in (tally_args (v.runs.arguments j))))) ∙ d in
     let p = pass (nat_lt v.task.notes.tally.stage 2 || ((v.task.notes.tally.stage == 2) && fits (added v.task))) (Mtapi m.ErrParameter) r (inside v.task) s may g.allowed in
-    subst (λ (u : State). TalliedAs r w u) (sym (g.leads ∙ p.leads)) (either s w h x v (v.task.notes.tally.stage == 4) v.task (how v.task) r p.allowed)
+    subst (λ (u : State). TalliedAs r w u) (sym (g.leads ∙ p.leads)) (by_gives (λ y ms. TalliedAs y w (after_moves ms s)) (inside v.task) r (ended s w h x v (v.task.notes.tally.stage == 4) v.task (how v.task)) p.allowed)

@@ -1,33 +1,8 @@
 -- A seat's entries in a legal history, as turns: which of them a journal keeps.
-use Rattle.std.proofs.Common.{◌≡◌, ℕ, zero, suc, Bool, true, false, cond, List, [], ◌∷◌, ◌++◌, length, replicate, Option, Some, None, refl, sym, ◌∙◌, ap, subst, arith, append_assoc}
-use Rattle.std.specs.Prelude.{◌==◌, ◌||◌, ◌&&◌, not, is_some}
-use Rattle.std.proofs.lemmas.Bool.Decides.{nat_tests}
-use Rattle.history.specs.Histories.{entry, entries_of}
-use Rattle.mtapi_values.specs.Conditions.{holds}
-use Rattle.mtapi_values.specs.Seats.{is_seat, is_other}
+use Rattle.sched_threads.proofs.Names.{[], ◌&&◌, ◌++◌, ◌==◌, ◌||◌, ◌∙◌, ◌∷◌, ◌≡◌, Allows, Bool, Ended, IsNext, Legal-front, Legal-rest, LegalFrom, List, Mtapi, NodeEntry, None, OnceListed, Option, Others, Pending, Reply, Row, Running, Scheduled, Some, State, Task, TaskHandle, TaskState, Turn, Waits, after-one, after_from, after_row, ap, append_assoc, arith, at-update, changed, cond, entries_of, entry, false, first_alone, holds, is_dropped, is_other, is_pending, is_seat, is_some, is_up, length, live, live_object, looks_at, nat_tests, next, none_of, not, once_stays, pended, pends_alike, refl, replicate, says, self_is, skip, stayed, subst, suc, sym, tasks, true, turn_of, turns_append, turns_of, unless, waiter_stays, with_notes, with_waiter, zero, ℕ}
 use Rattle.mtapi_values.specs.declared.statuses.MtapiStatus.TheVariants as m
-use Rattle.mtapi_values.specs.declared.handles.TaskHandle.{TaskHandle}
-use Rattle.handle_pool.specs.Issued.{live_object}
-use Rattle.mtapi_objects.specs.Tasks.{Task, TaskState, Scheduled, Running, Ended, with_notes, with_waiter}
 use Rattle.mtapi_machine.specs.declared.ops.Op.TheVariants as op
-use Rattle.mtapi_machine.specs.declared.replies.Reply.{Reply}
-use Rattle.mtapi_machine.specs.declared.replies.Reply.TheVariants.{Pending, Mtapi}
 use Rattle.mtapi_machine.specs.declared.replies.Reply.TheVariants as reply
-use Rattle.mtapi_machine.specs.State.{State, is_up, tasks, changed}
-use Rattle.mtapi_machine.specs.Row.{Row, unless, says, Allows, after_row, live}
-use Rattle.mtapi_machine.specs.TaskRows.{looks_at}
-use Rattle.mtapi_machine.specs.Legal.{NodeEntry, IsNext, LegalFrom, next, after_from}
-use Rattle.mtapi_machine.specs.Kept.{is_dropped, is_pending, pends_alike}
-use Rattle.mtapi_machine.proofs.Lists.{after-one, Legal-front, Legal-rest}
-use Rattle.mtapi_machine.proofs.Changes.{at-update}
-use Rattle.history_law.specs.Seats.{OnceListed, Waits, Others}
-use Rattle.history_law.proofs.Others.{waiter_stays, once_stays}
-use Rattle.sched_workers.specs.Turns.{Turn, stayed, turn_of, turns_of}
-use Rattle.sched_workers.specs.Whole.{none_of, first_alone, pended}
-use Rattle.sched_workers.proofs.Rows.{look_reply}
-use Rattle.history_law.proofs.RowRest.{skip}
-use Rattle.sched_workers.proofs.TurnLists.{turns_append}
-use Rattle.turn_looks.proofs.OwnEntries.{self_is}
 
 -- the seat's first entry, with what others did before it
 pub record Cut (w : ℕ) (H : List NodeEntry) (e : NodeEntry) (es : List NodeEntry) : Type 0 where
@@ -125,79 +100,9 @@ pend_waits s w t n =
 pub waiting_drops : (s : State) (w : ℕ) (t : TaskHandle) → Waits s w t.0 → is_dropped s (entry w (op.TaskLook t false) Pending) ≡ true
 waiting_drops s w t v = ap (λ (o : Option Task). holds (λ x. is_seat w x.notes.waiter) o) v.1 ∙ v.2.mark
 
--- The looks of one wait, in a legal history: of the Pending ones at most the first is kept
-
-pub record Waited (w : ℕ) (t : TaskHandle) (n : ℕ) (last : Bool) (r : Reply) (s : State) (H rest : List NodeEntry) : Type 0 where
-  pub prefix : List NodeEntry
-  pub back : List NodeEntry
-  pub is : H ≡ prefix ++ back
-  pub marks : List Bool
-  pub count : length marks ≡ n
-  pub turns : turns_of w s prefix ≡ pended (op.TaskLook t false) marks ++ stayed (op.TaskLook t last) r ∷ []
-  pub one_kept : first_alone marks ≡ true
-  pub none_kept : Waits s w t.0 → none_of marks ≡ true
-  pub rest_is : entries_of w back ≡ rest
-  pub decides : is_pending r ≡ false
-
 cut_legal : (s : State) (e : NodeEntry) (B : List NodeEntry) → LegalFrom s (e ∷ B) → IsNext s e × LegalFrom (next s e) B
 unfolding LegalFrom
 cut_legal s e B h = h
 
 pub first_next : (s : State) (A : List NodeEntry) (e : NodeEntry) (B : List NodeEntry) → LegalFrom s (A ++ e ∷ B) → IsNext (after_from s A) e × LegalFrom (next (after_from s A) e) B
 first_next s A e B l = cut_legal (after_from s A) e B (Legal-rest s A (e ∷ B) l)
-
-look_settles : (s : State) (w : ℕ) (t : TaskHandle) (last : Bool) (r : Reply) → (last ≡ false → is_pending r ≡ false) → IsNext s (entry w (op.TaskLook t last) r) → is_dropped s (entry w (op.TaskLook t last) r) ≡ false
-look_settles s w t true r d n = let x = look_reply s w t.0 true r n.allowed in x.stays (x.pending refl) (pends_alike s w (op.TaskLook t true))
-look_settles s w t false r d n = let x = look_reply s w t.0 false r n.allowed in x.stays (d refl) (pends_alike s w (op.TaskLook t false))
-
-look_decides : (s : State) (w : ℕ) (t : TaskHandle) (last : Bool) (r : Reply) → (last ≡ false → is_pending r ≡ false) → IsNext s (entry w (op.TaskLook t last) r) → is_pending r ≡ false
-look_decides s w t true r d n = (look_reply s w t.0 true r n.allowed).pending refl
-look_decides s w t false r d n = d refl
-
-pub both_none : (a b : Bool) → a ≡ true → b ≡ true → (not (not a) && b) ≡ true
-both_none a b e f = λ i. not (not (e i)) && f i
-
-pub waits_turns : (n w : ℕ) (t : TaskHandle) (last : Bool) (r : Reply) (s : State) (H rest : List NodeEntry) → OnceListed s → LegalFrom s H → (last ≡ false → is_pending r ≡ false)
-    → entries_of w H ≡ replicate n (entry w (op.TaskLook t false) Pending) ++ entry w (op.TaskLook t last) r ∷ rest → Waited w t n last r s H rest
-unfolding none_of
-waits_turns zero w t last r s H rest once l d k =
-    let e : NodeEntry = entry w (op.TaskLook t last) r in
-    let c : Cut w H e rest = first_own w H e rest k in
-    let x = first_next s c.before e c.behind (subst (λ (L : List NodeEntry). LegalFrom s L) c.is l) in
-    record {
-      prefix = c.before ++ e ∷ [];
-      back = c.behind;
-      is = c.is ∙ sym (append_assoc c.before (e ∷ []) c.behind);
-      marks = [];
-      count = refl;
-      turns = turns_one w s c.before e c.others c.by ∙ ap (λ (b : Bool). record { op = op.TaskLook t last; reply = r; stays = not b } ∷ []) (look_settles (after_from s c.before) w t last r d x.0);
-      one_kept = refl;
-      none_kept = λ v. refl;
-      rest_is = c.rest;
-      decides = look_decides (after_from s c.before) w t last r d x.0;
-    }
-waits_turns (suc n) w t last r s H rest once l d k =
-    let e : NodeEntry = entry w (op.TaskLook t false) Pending in
-    let es : List NodeEntry = replicate n (entry w (op.TaskLook t false) Pending) ++ entry w (op.TaskLook t last) r ∷ rest in
-    let c : Cut w H e es = first_own w H e es k in
-    let whole : LegalFrom s (c.before ++ e ∷ c.behind) = subst (λ (L : List NodeEntry). LegalFrom s L) c.is l in
-    let u : State = after_from s c.before in
-    let x = first_next s c.before e c.behind whole in
-    let v = pend_waits u w t x.0 in
-    let y : Waited w t n last r (next u e) c.behind rest = waits_turns n w t last r (next u e) c.behind rest (subst OnceListed (after-one s c.before e) (once_stays s (c.before ++ e ∷ []) once)) x.1 d c.rest in
-    record {
-      prefix = c.before ++ e ∷ y.prefix;
-      back = y.back;
-      is = c.is ∙ (ap (λ (L : List NodeEntry). c.before ++ e ∷ L) y.is ∙ sym (append_assoc c.before (e ∷ y.prefix) y.back));
-      marks = not (is_dropped u e) ∷ y.marks;
-      count = omega (arith, y.count);
-      turns =
-          ap (λ (L : List NodeEntry). turns_of w s L) (sym (append_assoc c.before (e ∷ []) y.prefix))
-          ∙ (turns_append w s (c.before ++ e ∷ []) y.prefix
-          ∙ (ap (λ (T : List Turn). T ++ turns_of w (after_from s (c.before ++ e ∷ [])) y.prefix) (turns_one w s c.before e c.others c.by)
-          ∙ ap (λ (T : List Turn). turn_of u e ∷ T) (ap (λ (z : State). turns_of w z y.prefix) (after-one s c.before e) ∙ y.turns)));
-      one_kept = y.none_kept v;
-      none_kept = λ q. both_none (is_dropped u e) (none_of y.marks) (waiting_drops u w t (waiter_stays s c.before w t.0 once (Legal-front s c.before (e ∷ c.behind) whole) c.others q)) (y.none_kept v);
-      rest_is = y.rest_is;
-      decides = y.decides;
-    }

@@ -1,127 +1,69 @@
--- What the rows of looks say: when a look decides, and when it tells that the time is over.
-use Rattle.std.proofs.Common.{◌≡◌, ℕ, Bool, true, false, cond, List, [], ◌∷◌, Option, Some, None, refl}
-use Rattle.std.specs.Prelude.{nat_lt, not}
-use Rattle.std.specs.Option.{option_or}
-use Rattle.mtapi_values.specs.declared.statuses.MtapiStatus.{MtapiStatus}
+-- What the rows of looks say: when a look decides, when it tells that the time is over, and that what it decides has an answer.
+use Rattle.sched_threads.proofs.Names.{[], ◌+◌, ◌^◌, ◌∷◌, ◌≡◌, ◌≤◌, AllSays, Allows, Bool, Cancelled, Completed, Ended, Ending, Every, Failed, InTime, IsTimed, List, Listed, MrapiStatus, MtapiStatus, None, Option, Reply, Row, Running, Scheduled, Some, State, Task, TaskEnd, TaskState, Wanted, any_listed, ap, arith, cond, done, drops, end_of, endings, every_at, false, fault_of, first_fault, found, gives_end, gives_first, in_time, insert, insert_ended, is_late_end, is_member, is_pending, is_some, is_timeout, is_unended_member, key, live, live_object, live_of, looks_at, lt-ltb, mrapi, mtapi, mutex_busy, nat_lt, not, not_yet, on_live, op_of, option_or, pos, refl, row, rwl_busy, said, sem_busy, true, verdict, ℕ}
 use Rattle.mtapi_values.specs.declared.statuses.MtapiStatus.TheVariants as m
-use Rattle.mtapi_values.specs.declared.statuses.MrapiStatus.TheVariants as c
-use Rattle.mtapi_values.specs.declared.ends.TaskEnd.{TaskEnd}
-use Rattle.mtapi_values.specs.declared.ends.TaskEnd.TheVariants.{Completed, Cancelled, Failed}
-use Rattle.handle_pool.specs.Issued.{Listed, live_of, live_object, any_listed}
-use Rattle.mtapi_objects.specs.Tasks.{Task, TaskState, Scheduled, Running, Ended, end_of}
-use Rattle.mtapi_objects.specs.Groups.{Ending, insert, insert_ended, endings, fault_of, first_fault, is_member, is_unended_member}
-use Rattle.mtapi_objects.specs.Mutexes.{mutex_busy}
-use Rattle.mtapi_objects.specs.Sems.{sem_busy}
-use Rattle.mtapi_objects.specs.Rwls.{rwl_busy}
-use Rattle.mtapi_machine.specs.declared.replies.Reply.{Reply}
 use Rattle.mtapi_machine.specs.declared.replies.Reply.TheVariants as reply
-use Rattle.mtapi_machine.specs.State.{State}
-use Rattle.mtapi_machine.specs.Row.{Row, not_yet, Allows}
-use Rattle.mtapi_machine.specs.GroupRows.{verdict, gives_end, gives_first}
-use Rattle.mtapi_machine.specs.TaskRows.{looks_at}
-use Rattle.mtapi_machine.specs.Rows.{row}
-use Rattle.mtapi_machine.specs.Kept.{is_pending, drops}
-use Rattle.history_law.specs.Seats.{is_late_end}
-use Rattle.history_law.proofs.lists.Every.{Every}
-use Rattle.history_law.proofs.Others.{InTime, in_time}
-use Rattle.sched_workers.specs.Lines.{is_timeout}
-use Rattle.sched_workers.proofs.Rows.{AllSays, said, on_live}
-use Rattle.sched_workers.specs.declared.calls.Wanted.{Wanted}
-use Rattle.sched_workers.specs.declared.calls.Wanted.TheVariants.{Task as TheEnd, Entrance, AllMembers, FirstMember, Mutex, Sem, Rwl}
-use Rattle.sched_workers.specs.Wants.{op_of, IsTimed}
+use Rattle.sched_workers.specs.declared.calls.Wanted.TheVariants as want
+use Rattle.sched_threads.specs.Replies.{says}
+use Rattle.sched_threads.proofs.Depths.{Shallow}
 
-pub on_cond : (P : Reply → Type 0) (b : Bool) (v w : Row) → AllSays P v → AllSays P w → AllSays P (cond b v w)
+-- what a reply to a look says, where no task of the state has failed late and no mutex is too deep
+pub record Says (w : Wanted) (s : State) (last : Bool) (r : Reply) : Type 0 where
+  -- the last look isn't answered Pending, and what isn't Pending is kept by every journal
+  pub pending : IsTimed w → last ≡ true → is_pending r ≡ false
+  pub stays : is_pending r ≡ false → (alike : Bool) → drops alike r ≡ false
+  -- a look that isn't the last tells no end of the time
+  pub early : Every InTime s.tasks → last ≡ false → is_timeout r ≡ false
+  -- what isn't Pending has an answer
+  pub found : Every InTime s.tasks → Every Shallow s.mutexes → is_pending r ≡ false → found w r ≡ true
+
+on_cond : (P : Reply → Type 0) (b : Bool) (v w : Row) → AllSays P v → AllSays P w → AllSays P (cond b v w)
 on_cond P true v w h k = h
 on_cond P false v w h k = k
 
--- The last look isn't answered Pending, and what isn't Pending is kept by every journal
+-- the live object of a handle, with where it was found
+on_live_at : (P : Reply → Type 0) {T : Type 0} (x : Option T) (v : Row) (w : T → Row) → AllSays P v → ((t : T) → x ≡ Some t → AllSays P (w t)) → AllSays P (live x v w)
+on_live_at P None v w p h = p
+on_live_at P (Some t) v w p h = h t refl
 
-pub record Decides (last : Bool) (r : Reply) : Type 0 where
-  pub pending : last ≡ true → is_pending r ≡ false
-  pub stays : is_pending r ≡ false → (alike : Bool) → drops alike r ≡ false
+module _ {w : Wanted} {s : State} where
+  -- statuses other than that for the end of the time, and that an op was done
 
-code : (last : Bool) (x : MtapiStatus) → Decides last (reply.Mtapi x)
-code last x = record { pending = λ e. refl; stays = λ e b. refl }
+  code : {last : Bool} (c : MtapiStatus) → is_timeout (reply.Mtapi c) ≡ false → found w (reply.Mtapi c) ≡ true → Says w s last (reply.Mtapi c)
+  code c t f = record { pending = λ i e. refl; stays = λ e b. refl; early = λ v e. t; found = λ v d e. f }
 
-mcode : (last : Bool) (x : _) → Decides last (reply.Mrapi x)
-mcode last x = record { pending = λ e. refl; stays = λ e b. refl }
+  mcode : {last : Bool} (c : MrapiStatus) → is_timeout (reply.Mrapi c) ≡ false → found w (reply.Mrapi c) ≡ true → Says w s last (reply.Mrapi c)
+  mcode c t f = record { pending = λ i e. refl; stays = λ e b. refl; early = λ v e. t; found = λ v d e. f }
 
-ok : (last : Bool) → Decides last reply.Ok
-ok last = record { pending = λ e. refl; stays = λ e b. refl }
+  ok : {last : Bool} → found w reply.Ok ≡ true → Says w s last reply.Ok
+  ok f = record { pending = λ i e. refl; stays = λ e b. refl; early = λ v e. refl; found = λ v d e. f }
 
-later : (last : Bool) → AllSays (Decides last) (not_yet last (reply.Mtapi m.Timeout))
-later true = code true _
-later false = record { pending = λ e. absurd (cc); stays = λ e b. absurd (cc) }
+  -- too early, and at the last look too late
 
-mlater : (last : Bool) → AllSays (Decides last) (not_yet last (reply.Mrapi c.Timeout))
-mlater true = mcode true _
-mlater false = record { pending = λ e. absurd (cc); stays = λ e b. absurd (cc) }
+  waits : Says w s false reply.Pending
+  waits = record { pending = λ i e. absurd (cc); stays = λ e b. absurd (cc); early = λ v e. refl; found = λ v d e. absurd (cc) }
 
-verdicts : (last : Bool) (o : Option MtapiStatus) → Decides last (verdict o)
-verdicts last None = ok last
-verdicts last (Some x) = code last x
+  late : (r : Reply) → is_pending r ≡ false → ((alike : Bool) → drops alike r ≡ false) → found w r ≡ true → Says w s true r
+  late r p d f = record { pending = λ i e. p; stays = λ e b. d b; early = λ v e. absurd (cc); found = λ v i e. f }
 
-given : (last : Bool) (h : ℕ) (x : TaskState) → AllSays (Decides last) (gives_end h x)
-given last h Scheduled = tt
-given last h (Running w k) = tt
-given last h (Ended e n) = record { pending = λ i. refl; stays = λ i b. refl }
+  later : (last : Bool) (r : Reply) → is_pending r ≡ false → ((alike : Bool) → drops alike r ≡ false) → found w r ≡ true → AllSays (Says w s last) (not_yet last r)
+  later true r p d f = late r p d f
+  later false r p d f = waits
 
-firsts : (s : State) (last : Bool) (es : List Ending) → AllSays (Decides last) (gives_first s last es)
-firsts s last [] = later last
-firsts s last (e ∷ es) = on_live (Decides last) (live_object s.tasks e.task) _ _ tt (λ x. given last e.task x.state)
+looks_say : (t : _) (s : State) (who h : ℕ) (last : Bool) (x : TaskState) → AllSays (Says (want.Task t) s last) (looks_at who h last x)
+looks_say t s who h true Scheduled = late _ refl (λ b. refl) refl
+looks_say t s who h false Scheduled = waits
+looks_say t s who h true (Running v k) = late _ refl (λ b. refl) refl
+looks_say t s who h false (Running v k) = waits
+looks_say t s who h last (Ended y n) = record { pending = λ i e. refl; stays = λ e b. refl; early = λ v e. refl; found = λ v d e. refl }
 
-tasks_look : (who h : ℕ) (last : Bool) (x : TaskState) → AllSays (Decides last) (looks_at who h last x)
-tasks_look who h true Scheduled = code true _
-tasks_look who h false Scheduled = record { pending = λ e. absurd (cc); stays = λ e b. absurd (cc) }
-tasks_look who h true (Running w k) = code true _
-tasks_look who h false (Running w k) = record { pending = λ e. absurd (cc); stays = λ e b. absurd (cc) }
-tasks_look who h last (Ended e n) = record { pending = λ i. refl; stays = λ i b. refl }
+ends_say : (g : _) (s : State) (last : Bool) (h : ℕ) (x : TaskState) → AllSays (Says (want.FirstMember g) s last) (gives_end h x)
+ends_say g s last h Scheduled = tt
+ends_say g s last h (Running v k) = tt
+ends_say g s last h (Ended e n) = record { pending = λ i e. refl; stays = λ e b. refl; early = λ v e. refl; found = λ v d e. refl }
 
-decides_all : (w : Wanted) (s : State) (who : ℕ) (last : Bool) (r : Reply) → IsTimed w → AllSays (Decides last) (row s who (op_of w last) r)
-decides_all (TheEnd t) s who last r i = (code last _, on_live (Decides last) (live_object s.tasks t.0) _ _ (code last _) (λ x. (code last _, (code last _, tasks_look who t.0 last x.state))))
-decides_all Entrance s who last r i = absurd i
-decides_all (AllMembers g) s who last r i =
-    (code last _, on_live (Decides last) (live_object s.groups g.0) _ _ (code last _) (λ x. on_cond (Decides last) (any_listed (is_unended_member g.0) s.tasks) _ _ (later last) (verdicts last _)))
-decides_all (FirstMember g) s who last r i =
-    (code last _, on_live (Decides last) (live_object s.groups g.0) _ _ (code last _) (λ x. (code last _, firsts s last (endings g.0 (live_of s.tasks)))))
-decides_all (Mutex h) s who last r i =
-    (mcode last _, (mcode last _, on_live (Decides last) (live_object s.mutexes h.0) _ _ (mcode last _) (λ x. (mcode last _, on_cond (Decides last) (mutex_busy who x) _ _ (mlater last) (record { pending = λ e. refl; stays = λ e b. refl })))))
-decides_all (Sem h) s who last r i =
-    (mcode last _, (mcode last _, on_live (Decides last) (live_object s.sems h.0) _ _ (mcode last _) (λ x. on_cond (Decides last) (sem_busy x) _ _ (mlater last) (ok last))))
-decides_all (Rwl h writer) s who last r i =
-    (mcode last _, (mcode last _, on_live (Decides last) (live_object s.rwls h.0) _ _ (mcode last _) (λ x. (mcode last _, on_cond (Decides last) (rwl_busy writer x) _ _ (mlater last) (ok last)))))
-
-pub wanted_decides : (w : Wanted) (s : State) (who : ℕ) (last : Bool) (r : Reply) → IsTimed w → Allows (row s who (op_of w last) r) r → Decides last r
-wanted_decides w s who last r i a = said (Decides last) (row s who (op_of w last) r) r (decides_all w s who last r i) a
-
--- A look that isn't the last tells no end of the time, where no task has failed with TIMEOUT
-
-abbrev Early : Bool → Reply → Type 0
-Early last r = last ≡ false → is_timeout r ≡ false
-
-early_later : (last : Bool) → AllSays (Early last) (not_yet last (reply.Mtapi m.Timeout))
-early_later true = λ e. absurd (cc)
-early_later false = λ e. refl
-
-early_mlater : (last : Bool) → AllSays (Early last) (not_yet last (reply.Mrapi c.Timeout))
-early_mlater true = λ e. absurd (cc)
-early_mlater false = λ e. refl
-
-early_looks : (who h : ℕ) (last : Bool) (x : TaskState) → AllSays (Early last) (looks_at who h last x)
-early_looks who h true Scheduled = λ e. absurd (cc)
-early_looks who h false Scheduled = λ e. refl
-early_looks who h true (Running w k) = λ e. absurd (cc)
-early_looks who h false (Running w k) = λ e. refl
-early_looks who h last (Ended y n) = λ e. refl
-
-early_given : (last : Bool) (h : ℕ) (x : TaskState) → AllSays (Early last) (gives_end h x)
-early_given last h Scheduled = tt
-early_given last h (Running w k) = tt
-early_given last h (Ended e n) = λ i. refl
-
-early_firsts : (s : State) (last : Bool) (es : List Ending) → AllSays (Early last) (gives_first s last es)
-early_firsts s last [] = early_later last
-early_firsts s last (e ∷ es) = on_live (Early last) (live_object s.tasks e.task) _ _ tt (λ x. early_given last e.task x.state)
+firsts_say : (g : _) (s : State) (last : Bool) (es : List Ending) → AllSays (Says (want.FirstMember g) s last) (gives_first s last es)
+firsts_say g s last [] = later last _ refl (λ b. refl) refl
+firsts_say g s last (e ∷ es) = on_live (Says (want.FirstMember g) s last) (live_object s.tasks e.task) _ _ tt (λ x. ends_say g s last e.task x.state)
 
 -- no end of these is late
 abbrev pub AllEarly : List Ending → Type 0
@@ -158,30 +100,68 @@ endings_early g (r ∷ rs) a = by r.live (endings_early g rs a.1)
         member false = more
     by false more = more
 
-early_failed : (last : Bool) (x : MtapiStatus) → is_late_end (Failed x) ≡ false → Early last (reply.Mtapi x)
-early_failed last m.Timeout l = absurd (cc)
-early_failed last _ l = λ e. refl
+-- what all members of a group say: neither the end of the time nor the status for want of tickets
+abbrev IsPlain : Option MtapiStatus → Type 0
+IsPlain o = (is_timeout (verdict o) ≡ false) × (says mtapi done (verdict o) ≡ true)
 
-early_first : (last : Bool) (y : TaskEnd) (o : Option MtapiStatus) → is_late_end y ≡ false → Early last (verdict o) → Early last (verdict (option_or (fault_of y) o))
-early_first last (Completed args) o l more = more
-early_first last Cancelled o l more = λ e. refl
-early_first last (Failed x) o l more = early_failed last x l
+failed_plain : (x : MtapiStatus) → is_late_end (Failed x) ≡ false → IsPlain (Some x)
+failed_plain m.Timeout l = absurd (cc)
+failed_plain m.ErrSpent l = absurd (cc)
+failed_plain _ l = (refl, refl)
 
-early_verdict : (last : Bool) (es : List Ending) → AllEarly es → Early last (verdict (first_fault es))
-early_verdict last [] a = λ e. refl
-early_verdict last (x ∷ es) a = early_first last x.end (first_fault es) a.0 (early_verdict last es a.1)
+first_plain : (y : TaskEnd) (o : Option MtapiStatus) → is_late_end y ≡ false → IsPlain o → IsPlain (option_or (fault_of y) o)
+first_plain (Completed args) o l more = more
+first_plain Cancelled o l more = (refl, refl)
+first_plain (Failed x) o l more = failed_plain x l
 
-early_all : (w : Wanted) (s : State) (who : ℕ) (last : Bool) (r : Reply) → Every InTime s.tasks → AllSays (Early last) (row s who (op_of w last) r)
-early_all (TheEnd t) s who last r v = ((λ e. refl), on_live (Early last) (live_object s.tasks t.0) _ _ (λ e. refl) (λ x. ((λ e. refl), ((λ e. refl), early_looks who t.0 last x.state))))
-early_all Entrance s who last r v = ((λ e. refl), ((λ e. refl), (λ e. refl)))
-early_all (AllMembers g) s who last r v =
-    ((λ e. refl), on_live (Early last) (live_object s.groups g.0) _ _ (λ e. refl) (λ x. on_cond (Early last) (any_listed (is_unended_member g.0) s.tasks) _ _ (early_later last) (early_verdict last _ (endings_early g.0 s.tasks v))))
-early_all (FirstMember g) s who last r v = ((λ e. refl), on_live (Early last) (live_object s.groups g.0) _ _ (λ e. refl) (λ x. ((λ e. refl), early_firsts s last (endings g.0 (live_of s.tasks)))))
-early_all (Mutex h) s who last r v =
-    ((λ e. refl), ((λ e. refl), on_live (Early last) (live_object s.mutexes h.0) _ _ (λ e. refl) (λ x. ((λ e. refl), on_cond (Early last) (mutex_busy who x) _ _ (early_mlater last) (λ e. refl)))))
-early_all (Sem h) s who last r v = ((λ e. refl), ((λ e. refl), on_live (Early last) (live_object s.sems h.0) _ _ (λ e. refl) (λ x. on_cond (Early last) (sem_busy x) _ _ (early_mlater last) (λ e. refl))))
-early_all (Rwl h writer) s who last r v =
-    ((λ e. refl), ((λ e. refl), on_live (Early last) (live_object s.rwls h.0) _ _ (λ e. refl) (λ x. ((λ e. refl), on_cond (Early last) (rwl_busy writer x) _ _ (early_mlater last) (λ e. refl)))))
+faults_plain : (es : List Ending) → AllEarly es → IsPlain (first_fault es)
+faults_plain [] a = (refl, refl)
+faults_plain (x ∷ es) a = first_plain x.end (first_fault es) a.0 (faults_plain es a.1)
 
-pub wanted_early : (w : Wanted) (s : State) (who : ℕ) (last : Bool) (r : Reply) → Every InTime s.tasks → Allows (row s who (op_of w last) r) r → last ≡ false → is_timeout r ≡ false
-wanted_early w s who last r v a = said (Early last) (row s who (op_of w last) r) r (early_all w s who last r v) a
+verdict_says : (g : _) (s : State) (last : Bool) (o : Option MtapiStatus) → (Every InTime s.tasks → IsPlain o) → Says (want.AllMembers g) s last (verdict o)
+verdict_says g s last None p = ok refl
+verdict_says g s last (Some c) p = record { pending = λ i e. refl; stays = λ e b. refl; early = λ v e. (p v).0; found = λ v d e. (p v).1 }
+
+key_found : (n : ℕ) → n ≤ 64 → says mrapi key (reply.Number (pos (n + 1))) ≡ true
+key_found n l = ap (λ (b : Bool). is_some (cond b (Some (n + 1)) None)) (lt-ltb (n + 1) (2 ^ 32) (omega arith))
+
+rows_say : (w : Wanted) (s : State) (who : ℕ) (last : Bool) (r : Reply) → AllSays (Says w s last) (row s who (op_of w last) r)
+rows_say (want.Task t) s who last r =
+    (code _ refl refl, on_live (Says (want.Task t) s last) (live_object s.tasks t.0) _ _ (code _ refl refl) (λ x. (code _ refl refl, (code _ refl refl, looks_say t s who t.0 last x.state))))
+rows_say want.Entrance s who last r = (code _ refl refl, (record { pending = λ i e. absurd i; stays = λ e b. absurd (cc); early = λ v e. refl; found = λ v d e. absurd (cc) }, ok refl))
+rows_say (want.AllMembers g) s who last r = (
+  code _ refl refl,
+  on_live (Says (want.AllMembers g) s last) (live_object s.groups g.0) _ _ (code _ refl refl) (λ x.
+      on_cond (Says (want.AllMembers g) s last) (any_listed (is_unended_member g.0) s.tasks) _ _ (later last _ refl (λ b. refl) refl) (verdict_says g s last _ (λ v. faults_plain _ (endings_early g.0 s.tasks v)))),
+)
+rows_say (want.FirstMember g) s who last r =
+    (code _ refl refl, on_live (Says (want.FirstMember g) s last) (live_object s.groups g.0) _ _ (code _ refl refl) (λ x. (code _ refl refl, firsts_say g s last (endings g.0 (live_of s.tasks)))))
+rows_say (want.Mutex h) s who last r = (
+  mcode _ refl refl,
+  (
+    mcode _ refl refl,
+    on_live_at (Says (want.Mutex h) s last) (live_object s.mutexes h.0) _ _ (mcode _ refl refl) (λ x f. (
+      mcode _ refl refl,
+      on_cond (Says (want.Mutex h) s last) (mutex_busy who x) _ _ (later last _ refl (λ b. refl) refl)
+          (record { pending = λ i e. refl; stays = λ e b. refl; early = λ v e. refl; found = λ v d e. key_found x.depth (every_at Shallow s.mutexes h.0 x d f).deep }),
+    )),
+  ),
+)
+rows_say (want.Sem h) s who last r = (
+  mcode _ refl refl,
+  (
+    mcode _ refl refl,
+    on_live (Says (want.Sem h) s last) (live_object s.sems h.0) _ _ (mcode _ refl refl) (λ x. on_cond (Says (want.Sem h) s last) (sem_busy x) _ _ (later last _ refl (λ b. refl) refl) (ok refl)),
+  ),
+)
+rows_say (want.Rwl h writer) s who last r = (
+  mcode _ refl refl,
+  (
+    mcode _ refl refl,
+    on_live (Says (want.Rwl h writer) s last) (live_object s.rwls h.0) _ _ (mcode _ refl refl) (λ x.
+        (mcode _ refl refl, on_cond (Says (want.Rwl h writer) s last) (rwl_busy writer x) _ _ (later last _ refl (λ b. refl) refl) (ok refl))),
+  ),
+)
+
+pub wanted_says : (w : Wanted) (s : State) (who : ℕ) (last : Bool) (r : Reply) → Allows (row s who (op_of w last) r) r → Says w s last r
+wanted_says w s who last r a = said (Says w s last) (row s who (op_of w last) r) r (rows_say w s who last r) a

@@ -1,55 +1,17 @@
 -- A run of a workload, from what each seat's own entries are.
-use Rattle.std.proofs.Common.{◌≡◌, ℕ, zero, suc, ◌+◌, ◌<◌, ◌≤◌, Bool, true, false, List, [], ◌∷◌, ◌++◌, length, replicate, Some, inl, inr, refl, sym, ◌∙◌, ap, subst, arith, append_assoc}
-use Rattle.std.specs.Prelude.{◌-◌, slice_get, nat_lt, if◌then◌else◌}
-use Rattle.std.specs.Bool.{MatchBool}
-use Rattle.std.proofs.lemmas.Bool.{cases_Bool, ltb-true, ltb-false}
-use Rattle.history.specs.Histories.{entry, entries_of}
-use Rattle.mtapi_values.specs.Seats.{marked, all_marked}
-use Rattle.workload_file.specs.declared.workload.Statement.{Statement}
-use Rattle.workload_file.specs.declared.workload.Part.{Part}
-use Rattle.workload_file.specs.declared.workload.Workload.{Workload}
-use Rattle.mtapi_machine.specs.declared.terms.Terms.{Terms}
-use Rattle.mtapi_machine.specs.declared.terms.Phase.TheVariants.{New, Closing}
+use Rattle.sched_threads.proofs.Names.{[], ◌++◌, ◌+◌, ◌-◌, ◌<◌, ◌∙◌, ◌∷◌, ◌≡◌, ◌≤◌, Bool, BySeats, CallerAs, CallerIn, CallerRan, CallersRan, Carried, ClosesAtEnd, Closing, EntersAs, Legal-front, LegalFrom, List, MadeAs, MainAs, MainRan, MatchBool, New, NoClose, NoPhase, NodeEntry, Ok, OnceListed, Part, PartsRan, Pending, Reply, RunBy, Some, State, Statement, Stop, Terms, Turn, WorkerAs, WorkerBy, Workload, after-append, after_from, all_in, all_marked, ap, append-nil, append_assoc, arith, by_seats, cases_Bool, early_stays, entries-append, entries_of, entry, false, has_begin, head_entries, if◌then◌else◌, in_turns, inl, inr, is_ok, is_past_open, length, listed, ltb-false, ltb-true, marked, nat_lt, next, opening, phase_stays, refl, replicate, slice_get, stopped_room, subst, suc, sym, terms_stay, true, turns_of, workers, zero, ℕ}
 use Rattle.mtapi_machine.specs.declared.ops.Op.TheVariants as op
-use Rattle.mtapi_machine.specs.declared.replies.Reply.{Reply}
-use Rattle.mtapi_machine.specs.declared.replies.Reply.TheVariants.{Ok, Pending, Stop}
-use Rattle.mtapi_machine.specs.State.{State, opening, workers, is_past_open}
-use Rattle.mtapi_machine.specs.Legal.{NodeEntry, LegalFrom, next, after_from}
-use Rattle.mtapi_machine.proofs.Lists.{Legal-front, after-append}
-use Rattle.history_law.specs.Seats.{NoPhase, NoClose, BySeats}
-use Rattle.history_law.proofs.Others.{phase_stays, terms_stay}
-use Rattle.history_law.proofs.Bounds.{by_seats, early_stays, stopped_room}
-use Rattle.sched_workers.specs.Parts.{has_begin, Carried, MainRan, CallerRan, CallersRan, PartsRan}
-use Rattle.sched_workers.specs.RunOf.{ClosesAtEnd}
-use Rattle.sched_workers.specs.Turns.{Turn, turns_of}
-use Rattle.sched_workers.specs.Whole.{in_turns, WorkerBy, RunBy}
-use Rattle.history_law.specs.Seats.{OnceListed}
-use Rattle.handle_pool.specs.Issued.{listed}
-use Rattle.sched_threads.specs.Rounds.{all_in}
-use Rattle.sched_threads.specs.Carries.{MadeAs}
-use Rattle.sched_threads.specs.Crews.{is_ok}
-use Rattle.sched_threads.specs.Parts.{MainAs, CallerAs, WorkerAs}
-use Rattle.sched_threads.specs.Bridges.{lets}
-use Rattle.turn_looks.proofs.OwnEntries.{entries-append}
-use Rattle.sched_threads.proofs.TurnMarks.{Cut, first_own, first_next}
-use Rattle.sched_threads.proofs.SeatBridge.{caller_turns, worker_turns}
-use Rattle.sched_threads.proofs.MainBridge.{main_turns}
-use Rattle.sched_threads.proofs.PhaseBridge.{OthersQuiet, quiet_front, quiet_back, quiet_all, opens_ok, releases_ok}
-use Rattle.sched_threads.proofs.OwnParts.{Split, own_split, own_one, MainCuts, HasAll, others_back, others_front, others_tail, beyond, by_back, nobody}
-use Rattle.sched_threads.proofs.Quiets.{quiet_append, quiet_replicate, carried_quiet, rounds_quiet, open_quiet, open_all, open_front}
-use Rattle.sched_threads.proofs.Closings.{enter_reply, close_reply, close_phase, open_phase, stopped_mark, all_marks, final_reply}
+use Rattle.sched_threads.proofs.TurnMarks.{first_next}
+use Rattle.sched_threads.proofs.Rounds.{rounds_work}
+use Rattle.sched_threads.proofs.EntriesToTurns.{main_turns, caller_turns, worker_turns}
+use Rattle.sched_threads.proofs.OwnParts.{own_at, own_one, MainCuts, HasAll, others_back, others_front, others_tail, beyond, by_back, nobody}
+use Rattle.sched_threads.proofs.NoPhase.{quiet_append, quiet_replicate, carried_quiet, work_quiet, open_quiet, open_all, open_front, OthersQuiet, quiet_front, quiet_back, quiet_all, Next, own_next}
+use Rattle.sched_threads.proofs.PhaseReplies.{init_reply, release_reply, enter_reply, close_reply, close_phase, open_phase, stopped_mark, all_marks, final_reply}
 
--- what is known of a further caller: its part, and that all its entries stand before main closed
-pub record KnownCaller (k w : ℕ) (parts : List Part) (H S R : List NodeEntry) : Type 0 where
-  pub part : Part
-  pub is_part : slice_get parts (k - w) ≡ Some part
-  pub did : CallerAs k part.statements (entries_of k H)
-  pub place : HasAll k S R (entries_of k H)
-
--- what is known of a worker: that all its entries stand before main's final call
-pub record KnownWorker (k : ℕ) (H S R : List NodeEntry) : Type 0 where
-  pub did : WorkerAs k (entries_of k H)
-  pub place : HasAll k S R (entries_of k H)
+-- what is known of a seat: its entries are as R says, and all stand in the front part S
+pub record KnownSeat (R : ℕ → List NodeEntry → Type 0) (k : ℕ) (H S T : List NodeEntry) : Type 0 where
+  pub did : R k (entries_of k H)
+  pub place : HasAll k S T (entries_of k H)
 
 -- what is known of a whole history
 pub record Known (terms : Terms) (w n : ℕ) (parts : List Part) (ss : List Statement) (H : List NodeEntry) : Type 0 where
@@ -62,9 +24,9 @@ pub record Known (terms : Terms) (w n : ℕ) (parts : List Part) (ss : List Stat
   pub a : Reply
   pub b : Reply
   pub cuts : MainCuts w H own a b
-  pub main : MainAs w ss own
-  pub called : (k : ℕ) → w < k → k < n → KnownCaller k w parts H cuts.before (entry w op.Close a ∷ (cuts.behind ++ entry w op.Final b ∷ cuts.rest))
-  pub worked : (k : ℕ) → k < w → KnownWorker k H (cuts.before ++ entry w op.Close a ∷ cuts.behind) (entry w op.Final b ∷ cuts.rest)
+  pub main : MainAs ss w own
+  pub called : (k : ℕ) → w < k → k < n → KnownSeat (CallerIn parts w) k H cuts.before (entry w op.Close a ∷ (cuts.behind ++ entry w op.Final b ∷ cuts.rest))
+  pub worked : (k : ℕ) → k < w → KnownSeat WorkerAs k H (cuts.before ++ entry w op.Close a ∷ cuts.behind) (entry w op.Final b ∷ cuts.rest)
 
 -- a seat is a worker's, main's, a further caller's, or none
 pub data Place (w n k : ℕ) : Type 0 where
@@ -109,9 +71,6 @@ callers_by s L (p ∷ ps) who f =
     let first = subst (λ (n : ℕ). CallerBy p.statements (turns_of n s L)) here (f 0 p refl) in
     let more = callers_by s L ps (suc who) (λ i q e. let n : who + suc i ≡ suc who + i = omega arith in subst (λ (m : ℕ). CallerBy q.statements (turns_of m s L)) n (f (suc i) q e)) in
     (first.0 ∷ more.0, (first.1, more.1))
-
-carried_ok : (k : ℕ) (ss : List Statement) (r : Reply) (es : List NodeEntry) (rs : List Reply) → r ≡ Ok → Carried (MadeAs k) [] (if is_ok r then ss else []) es rs → Carried (MadeAs k) [] ss es rs
-carried_ok k ss r es rs e c = subst (λ (q : Reply). Carried (MadeAs k) [] (if is_ok q then ss else []) es rs) e c
 
 -- before the first entry no task is listed
 once_opening : (terms : Terms) → OnceListed (opening terms)
@@ -158,18 +117,19 @@ module _ (terms : Terms) (w n : ℕ) (parts : List Part) (ss : List Statement) (
       ]
 
   -- no other seat moves the phase
-  caller_quiet : (k : ℕ) (ps : List Statement) (es : List NodeEntry) → CallerAs k ps es → NoPhase es
+  caller_quiet : (k : ℕ) (ps : List Statement) (es : List NodeEntry) → CallerAs ps k es → NoPhase es
   caller_quiet k ps es d =
-      subst NoPhase (sym d.is) (quiet_append (replicate d.pending (entry k op.Enter Pending)) (entry k op.Enter d.reply ∷ d.rest) (quiet_replicate d.pending (entry k op.Enter Pending) refl) (refl, carried_quiet k (if is_ok d.reply then ps else []) [] d.rest d.replies d.carried))
+      let looks = quiet_append (replicate d.enters.pending (entry k op.Enter Pending)) (entry k op.Enter d.reply ∷ []) (quiet_replicate d.enters.pending (entry k op.Enter Pending) refl) (refl, tt) in
+      subst NoPhase (sym d.is) (quiet_append d.front d.own (subst NoPhase (sym d.enters.is) looks) (carried_quiet k (if is_ok d.reply then ps else []) [] d.own d.carried.replies d.carried.carried))
 
   worker_quiet : (k : ℕ) (es : List NodeEntry) → WorkerAs k es → NoPhase es
-  worker_quiet k es d = subst NoPhase (sym d.is) (quiet_append (all_in k d.rounds) (entry k op.Pick Stop ∷ []) (rounds_quiet k d.rounds) (refl, tt))
+  worker_quiet k es d = subst NoPhase (sym d.is) (quiet_append (all_in k d.rounds) (entry k op.Pick Stop ∷ []) (work_quiet (all_in k d.rounds) (rounds_work k d.rounds)) (refl, tt))
 
   others_quiet : OthersQuiet w H
   others_quiet k ne = elim (place_of w n k) [
     | is_worker h ↦ worker_quiet k (entries_of k H) (x.worked k h).did
     | is_main e ↦ absurd (ne e)
-    | is_caller h g ↦ caller_quiet k (x.called k h g).part.statements (entries_of k H) (x.called k h g).did
+    | is_caller h g ↦ caller_quiet k (x.called k h g).did.0.statements (entries_of k H) (x.called k h g).did.2
     | is_none h ↦ subst NoPhase (sym (beyond n k H bound h)) tt
   ]
 
@@ -183,38 +143,40 @@ module _ (terms : Terms) (w n : ℕ) (parts : List Part) (ss : List Statement) (
   legal_before = Legal-front (opening terms) x.cuts.before (C ∷ (x.cuts.behind ++ F ∷ x.cuts.rest)) legal_whole
 
   -- main's first calls
-  own_before : entries_of w x.cuts.before ≡ entry w op.Initialize x.main.first ∷ (x.main.lets ++ x.main.own)
-  own_before = x.cuts.main_before ∙ x.main.is
+  abbrev I : NodeEntry
+  I = entry w op.Initialize x.main.opens.first
 
-  first_is : x.main.first ≡ Ok
-  first_is = opens_ok terms w x.main.first x.cuts.before (x.main.lets ++ x.main.own) legal_before quiet_before own_before
+  abbrev lets : List NodeEntry
+  lets = x.main.opens.lets
 
-  release_is : (r : Reply) → x.main.lets ≡ entry w op.Release r ∷ [] → r ≡ Ok
+  own_before : entries_of w x.cuts.before ≡ I ∷ (lets ++ x.main.own)
+  own_before = x.cuts.main_before ∙ (x.main.is ∙ ap (λ (L : List NodeEntry). L ++ x.main.own) x.main.opens.is)
+
+  first_call : Next w I (opening terms) x.cuts.before (lets ++ x.main.own)
+  first_call = own_next w I (opening terms) x.cuts.before (lets ++ x.main.own) legal_before quiet_before own_before
+
+  first_is : x.main.opens.first ≡ Ok
+  first_is = init_reply (after_from (opening terms) first_call.before) w x.main.opens.first first_call.phase first_call.next_is.allowed
+
+  release_is : (r : Reply) → lets ≡ entry w op.Release r ∷ [] → r ≡ Ok
   release_is r e =
-      let i : NodeEntry = entry w op.Initialize x.main.first in
-      let c : Cut w x.cuts.before i (x.main.lets ++ x.main.own) = first_own w x.cuts.before i (x.main.lets ++ x.main.own) own_before in
-      let l = subst (λ (L : List NodeEntry). LegalFrom (opening terms) L) c.is legal_before in
-      let q = subst (OthersQuiet w) c.is quiet_before in
-      let u : State = after_from (opening terms) c.before in
-      let new : u.phase ≡ New = phase_stays (opening terms) c.before (Legal-front (opening terms) c.before (i ∷ c.behind) l) (quiet_all w c.before (quiet_front w c.before (i ∷ c.behind) q) c.others) in
-      let p = first_next (opening terms) c.before i c.behind l in
-      releases_ok (next u i) w r c.behind x.main.own (open_phase u w x.main.first new) p.1
-      (quiet_back w (c.before ++ i ∷ []) c.behind (subst (OthersQuiet w) (sym (append_assoc c.before (i ∷ []) c.behind)) q))
-      (c.rest ∙ ap (λ (L : List NodeEntry). L ++ x.main.own) e)
+      let u : State = after_from (opening terms) first_call.before in
+      let n = own_next w (entry w op.Release r) (next u I) first_call.behind x.main.own first_call.legal first_call.quiet (first_call.rest_is ∙ ap (λ (L : List NodeEntry). L ++ x.main.own) e) in
+      release_reply (after_from (next u I) n.before) w r (n.phase ∙ open_phase u w x.main.opens.first first_call.phase) n.next_is.allowed
 
-  lets_are : (b : Bool) → MatchBool b (x.main.lets ≡ []) ((r : Reply) × (x.main.lets ≡ entry w op.Release r ∷ [])) → x.main.lets ≡ lets w b
-  lets_are true e = e
-  lets_are false p = p.1 ∙ ap (λ (r : Reply). entry w op.Release r ∷ []) (release_is p.0 p.1)
+  heads_are : (b : Bool) → MatchBool b (lets ≡ []) ((r : Reply) × (lets ≡ entry w op.Release r ∷ [])) → entry w op.Initialize Ok ∷ lets ≡ head_entries w b
+  heads_are true e = ap (λ (L : List NodeEntry). entry w op.Initialize Ok ∷ L) e
+  heads_are false p = ap (λ (L : List NodeEntry). entry w op.Initialize Ok ∷ L) (p.1 ∙ ap (λ (r : Reply). entry w op.Release r ∷ []) (release_is p.0 p.1))
 
   -- before the close the phase isn't late
   main_quiet : NoClose (entries_of w x.cuts.before)
   main_quiet =
-      subst NoClose (sym own_before) (refl, lets_open (has_begin ss) x.main.let_is)
+      subst NoClose (sym own_before) (refl, lets_open (has_begin ss) x.main.opens.let_is)
     where
       own_open : NoClose x.main.own
-      own_open = open_quiet x.main.own (carried_quiet w ss [] x.main.own x.main.replies x.main.carried)
+      own_open = open_quiet x.main.own (carried_quiet w ss [] x.main.own x.main.carried.replies x.main.carried.carried)
 
-      lets_open : (b : Bool) → MatchBool b (x.main.lets ≡ []) ((r : Reply) × (x.main.lets ≡ entry w op.Release r ∷ [])) → NoClose (x.main.lets ++ x.main.own)
+      lets_open : (b : Bool) → MatchBool b (lets ≡ []) ((r : Reply) × (lets ≡ entry w op.Release r ∷ [])) → NoClose (lets ++ x.main.own)
       lets_open true e = subst (λ (L : List NodeEntry). NoClose (L ++ x.main.own)) (sym e) own_open
       lets_open false p = subst (λ (L : List NodeEntry). NoClose (L ++ x.main.own)) (sym p.1) (refl, own_open)
 
@@ -232,25 +194,20 @@ module _ (terms : Terms) (w n : ℕ) (parts : List Part) (ss : List Statement) (
       (open_front P Q (subst NoClose e open_before)) refl
 
   -- a further caller entered
-  entered : (k : ℕ) (l : w < k) (h : k < n) → (x.called k l h).did.reply ≡ Ok
+  entered : (k : ℕ) (l : w < k) (h : k < n) → (x.called k l h).did.2.reply ≡ Ok
   entered k l h =
-      let d = x.called k l h in
-      let e : NodeEntry = entry k op.Enter d.did.reply in
-      let prefix : List NodeEntry = replicate d.did.pending (entry k op.Enter Pending) in
-      let s : Split k x.cuts.before prefix (e ∷ d.did.rest) = own_split k prefix x.cuts.before (e ∷ d.did.rest) (d.place.there ∙ d.did.is) in
-      let c : Cut k s.back e d.did.rest = first_own k s.back e d.did.rest s.rest in
-      let P = s.prefix ++ c.before in
-      let is : x.cuts.before ≡ P ++ e ∷ c.behind = s.is ∙ (ap (λ (L : List NodeEntry). s.prefix ++ L) c.is ∙ sym (append_assoc s.prefix c.before (e ∷ c.behind))) in
-      let p = first_next (opening terms) P e c.behind (subst (λ (L : List NodeEntry). LegalFrom (opening terms) L) is legal_before) in
-      enter_reply (after_from (opening terms) P) k d.did.reply (early_at P (e ∷ c.behind) is) d.did.decides p.0.allowed
+      let place = (x.called k l h).place in
+      let d = (x.called k l h).did.2 in
+      let e : NodeEntry = entry k op.Enter d.reply in
+      let prefix : List NodeEntry = replicate d.enters.pending (entry k op.Enter Pending) in
+      let own = place.there ∙ (d.is ∙ (ap (λ (L : List NodeEntry). L ++ d.own) d.enters.is ∙ append_assoc prefix (e ∷ []) d.own)) in
+      let c = own_at k prefix x.cuts.before e d.own own in
+      let p = first_next (opening terms) c.0 e c.1 (subst (λ (L : List NodeEntry). LegalFrom (opening terms) L) c.2 legal_before) in
+      enter_reply (after_from (opening terms) c.0) k d.reply (early_at c.0 (e ∷ c.1) c.2) d.enters.decides p.0.allowed
 
   -- main closed
   early : is_past_open (after_from (opening terms) x.cuts.before).phase ≡ false
-  early = early_at x.cuts.before [] (nil x.cuts.before)
-    where
-      nil : (L : List NodeEntry) → L ≡ L ++ []
-      nil [] = refl
-      nil (e ∷ L) = ap (λ (K : List NodeEntry). e ∷ K) (nil L)
+  early = early_at x.cuts.before [] (sym (append-nil x.cuts.before))
 
   closed_is : x.a ≡ Ok
   closed_is = close_reply (after_from (opening terms) x.cuts.before) w x.a early (first_next (opening terms) x.cuts.before C (x.cuts.behind ++ F ∷ x.cuts.rest) legal_whole).0.allowed
@@ -278,13 +235,7 @@ module _ (terms : Terms) (w n : ℕ) (parts : List Part) (ss : List Statement) (
       let d = x.worked k l in
       let S = x.cuts.before ++ C ∷ x.cuts.behind in
       let few : k < 25 = (let a = x.main_seat in let b = x.few in omega arith) in
-      let prefix = Legal-front (opening terms) S (F ∷ x.cuts.rest) legal_final in
-      subst (λ (L : List NodeEntry). marked k (after_from (opening terms) L).stopped ≡ true) (nil S)
-      (stopped_mark terms k S [] (all_in k d.did.rounds) few (subst (λ (L : List NodeEntry). LegalFrom (opening terms) L) (sym (nil S)) prefix) (d.place.there ∙ d.did.is))
-    where
-      nil : (L : List NodeEntry) → L ++ [] ≡ L
-      nil [] = refl
-      nil (e ∷ L) = ap (λ (K : List NodeEntry). e ∷ K) (nil L)
+      stopped_mark terms k S (all_in k d.did.rounds) few (Legal-front (opening terms) S (F ∷ x.cuts.rest) legal_final) (d.place.there ∙ d.did.is)
 
   final_is : x.b ≡ Ok
   final_is =
@@ -305,30 +256,37 @@ module _ (terms : Terms) (w n : ℕ) (parts : List Part) (ss : List Statement) (
       let tail : entries_of w (C ∷ (x.cuts.behind ++ F ∷ x.cuts.rest)) ≡ C ∷ F ∷ [] = entries-append w (C ∷ []) (x.cuts.behind ++ F ∷ x.cuts.rest) ∙ (λ i. own_one w C refl i ++ mid i) in
       ap (λ (L : List NodeEntry). entries_of w L) whole ∙ (entries-append w x.cuts.before (C ∷ (x.cuts.behind ++ F ∷ x.cuts.rest)) ∙ (λ i. x.cuts.main_before i ++ tail i))
 
-  main_is : entries_of w H ≡ entry w op.Initialize Ok ∷ (lets w (has_begin ss) ++ (x.main.own ++ entry w op.Close Ok ∷ entry w op.Final Ok ∷ []))
-  main_is =
-      let ls = x.main.lets in
+  pub main_by : MainRan in_turns ss (turns_of w (opening terms) H) x.main.carried.replies
+  main_by =
       let es = x.main.own in
-      let named = lets_are (has_begin ss) x.main.let_is in
-      all_main
-      ∙ (ap (λ (L : List NodeEntry). L ++ C ∷ F ∷ []) x.main.is
-      ∙ ((λ i. entry w op.Initialize (first_is i) ∷ append_assoc ls es (C ∷ F ∷ []) i)
-      ∙ (λ i. entry w op.Initialize Ok ∷ (named i ++ (es ++ entry w op.Close (closed_is i) ∷ entry w op.Final (final_is i) ∷ [])))))
+      let head : x.main.front ≡ head_entries w (has_begin ss) = x.main.opens.is ∙ ((λ i. entry w op.Initialize (first_is i) ∷ lets) ∙ heads_are (has_begin ss) x.main.opens.let_is) in
+      main_turns w ss x.main.carried.replies (opening terms) H (once_opening terms) x.legal (record {
+        body = es;
+        is =
+            all_main
+            ∙ (ap (λ (L : List NodeEntry). L ++ C ∷ F ∷ []) (x.main.is ∙ ap (λ (L : List NodeEntry). L ++ es) head)
+            ∙ (append_assoc (head_entries w (has_begin ss)) es (C ∷ F ∷ [])
+            ∙ (λ i. head_entries w (has_begin ss) ++ (es ++ entry w op.Close (closed_is i) ∷ entry w op.Final (final_is i) ∷ []))));
+        carried = x.main.carried.carried;
+      })
 
-  pub main_by : MainRan in_turns ss (turns_of w (opening terms) H) x.main.replies
-  main_by = main_turns w ss x.main.own x.main.replies (opening terms) H x.main.carried (once_opening terms) x.legal main_is
-
-  pub caller_by : (k : ℕ) (l : w < k) (h : k < n) → CallerBy (x.called k l h).part.statements (turns_of k (opening terms) H)
+  pub caller_by : (k : ℕ) (l : w < k) (h : k < n) → CallerBy (x.called k l h).did.0.statements (turns_of k (opening terms) H)
   caller_by k l h =
-      let d = (x.called k l h).did in
+      let ps = (x.called k l h).did.0.statements in
+      let d = (x.called k l h).did.2 in
       let ok = entered k l h in (
-        d.replies,
-        caller_turns k d.pending (x.called k l h).part.statements d.rest d.replies (opening terms) H (carried_ok k (x.called k l h).part.statements d.reply d.rest d.replies ok d.carried) (once_opening terms) x.legal
-            (d.is ∙ ap (λ (r : Reply). replicate d.pending (entry k op.Enter Pending) ++ entry k op.Enter r ∷ d.rest) ok),
+        d.carried.replies,
+        caller_turns k ps d.carried.replies (opening terms) H (once_opening terms) x.legal (record {
+          front = d.front;
+          body = d.own;
+          entered = subst (λ (r : Reply). EntersAs r k d.front) ok d.enters;
+          is = d.is;
+          carried = subst (λ (r : Reply). Carried (MadeAs k) [] (if is_ok r then ps else []) d.own d.carried.replies) ok d.carried.carried;
+        }),
       )
 
   pub worker_by : (k : ℕ) → k < w → WorkerBy (turns_of k (opening terms) H)
-  worker_by k l = let d = (x.worked k l).did in worker_turns k d.rounds (opening terms) H d.is
+  worker_by k l = worker_turns k (opening terms) H (x.worked k l).did
 
   pub closes_at_end : ClosesAtEnd w H
   closes_at_end = record {
@@ -350,7 +308,7 @@ module _ (load : Workload) (terms : Terms) (p : Part) (ps : List Part) (H : List
       let l : load.settings.workers < load.settings.workers + suc i = omega arith in
       let h : load.settings.workers + suc i < load.settings.workers + length (p ∷ ps) = omega arith in
       let d = x.called (load.settings.workers + suc i) l h in
-      let same : d.part ≡ q = same_part (sym d.is_part ∙ (ap (λ (m : ℕ). slice_get (p ∷ ps) m) (index load.settings.workers i) ∙ g)) in
+      let same : d.did.0 ≡ q = same_part (sym d.did.1 ∙ (ap (λ (m : ℕ). slice_get (p ∷ ps) m) (index load.settings.workers i) ∙ g)) in
       let m : load.settings.workers + suc i ≡ suc load.settings.workers + i = omega arith in
       subst (λ (o : ℕ). CallerBy q.statements (turns_of o (opening terms) H)) m
       (subst (λ (r : Part). CallerBy r.statements (turns_of (load.settings.workers + suc i) (opening terms) H)) same
@@ -362,9 +320,9 @@ module _ (load : Workload) (terms : Terms) (p : Part) (ps : List Part) (H : List
   -- a whole history of these parts is a run of the workload
   pub run_by : load.parts ≡ p ∷ ps → RunBy load (opening terms) H
   run_by e = record {
-    replies = x.main.replies ∷ further.0;
+    replies = x.main.carried.replies ∷ further.0;
     parts =
-        subst (λ (l : List Part). PartsRan in_turns (λ k. turns_of k (opening terms) H) load.settings.workers l (x.main.replies ∷ further.0)) (sym e)
+        subst (λ (l : List Part). PartsRan in_turns (λ k. turns_of k (opening terms) H) load.settings.workers l (x.main.carried.replies ∷ further.0)) (sym e)
         (main_by terms load.settings.workers (load.settings.workers + length (p ∷ ps)) (p ∷ ps) p.statements H x, further.1);
     workers = λ k l. worker_by terms load.settings.workers (load.settings.workers + length (p ∷ ps)) (p ∷ ps) p.statements H x k l;
     ends = closes_at_end terms load.settings.workers (load.settings.workers + length (p ∷ ps)) (p ∷ ps) p.statements H x;

@@ -1,35 +1,11 @@
 -- What a worker's looks at a watch do to its task.
-use Rattle.std.proofs.Common.{◌≡◌, ℕ, ◌+◌, ◌<◌, Bool, true, false, cond, List, [], ◌∷◌, Option, Some, None, refl, sym, ◌∙◌, ap, subst, arith, ℤ}
-use Rattle.std.specs.Prelude.{◌==◌, ◌&&◌, ◌||◌, not, is_none, nat_lt}
-use Rattle.std.specs.Ordering.{int_eq}
-use Rattle.std.specs.Cmp.Lexicographic.{pointwise}
-use Rattle.history.specs.Histories.{entry}
-use Rattle.mtapi_values.specs.Conditions.{holds}
-use Rattle.mtapi_values.specs.declared.kinds.Kind.{Kind}
+use Rattle.sched_threads.proofs.Names.{[], ◌&&◌, ◌+◌, ◌<◌, ◌==◌, ◌||◌, ◌∙◌, ◌∷◌, ◌≡◌, Action, ActionHandle, Allows, Answered, Asked, Bool, Decides-int_eq, Ended, Free, Given, Handle, Holds, Idle, IsNext, IsUntouched, Kind, List, Mrapi, Mtapi, None, Notes, Number, Ok, Option, Pending, Picked, Reply, Row, Running, RunsWith, Scheduled, Some, State, Stop, Task, TaskEnd, TaskState, Work, after_row, any_listed, ap, arith, asked_once, asked_refusals, at-update, can_take, change, changed, cond, count_changed, count_listed, count_none, ended, ends_free, entry, false, finish_refusals, gives, has_better, holds, int_eq, is_eligible, is_new, is_none, is_ready, is_stop, is_unstarted, kind_number, live, live_object, mtapi_unless, nat_lt, never, next, no_tally, not, notes, only, own_goes, pass, picks, pointwise, refl, runner, runs_as, runs_as_its, runs_on, runs_on_its, says, scheduled, slice_eq-Decides, subst, sym, task_end, tasks, true, unless, watch_end, watch_end_refusals, with_fields, with_notes, with_state, workers, ℕ, ℤ}
 use Rattle.mtapi_values.specs.declared.kinds.Kind.TheVariants as kind
-use Rattle.mtapi_values.specs.declared.ends.TaskEnd.{TaskEnd}
 use Rattle.mtapi_values.specs.declared.statuses.MtapiStatus.TheVariants as m
-use Rattle.action_fn.specs.Answers.{Answered}
-use Rattle.std.proofs.lemmas.Bool.Decides.{Decides-int_eq}
-use Rattle.std.proofs.lemmas.Slice.Eq.{slice_eq-Decides}
-use Rattle.mtapi_machine.specs.declared.replies.Reply.{Reply}
-use Rattle.mtapi_machine.specs.declared.replies.Reply.TheVariants.{Ok, Handle, Number, Given, Pending, Picked, Idle, Stop, Asked, Mtapi, Mrapi}
 use Rattle.mtapi_machine.specs.declared.replies.Reply.TheVariants as reply
 use Rattle.mtapi_machine.specs.declared.ops.Op.TheVariants as op
-use Rattle.handle_pool.specs.Issued.{live_object, count_listed, any_listed, change, with_fields}
-use Rattle.mtapi_objects.specs.Actions.{Action, is_eligible}
-use Rattle.mtapi_objects.specs.Tasks.{Task, TaskState, Scheduled, Running, Ended, scheduled, runner, runs_on, runs_as, kind_number, is_unstarted, with_state, with_notes, Notes, no_tally, ended, asked_once, asked_refusals, finish_refusals, watch_end, watch_end_refusals, looks_of}
-use Rattle.mtapi_values.specs.declared.handles.ActionHandle.{ActionHandle}
-use Rattle.mtapi_machine.specs.State.{State, workers, is_new, is_stop, tasks, changed}
-use Rattle.mtapi_machine.specs.Moves.{runs_task as runs_task, stops as stops_worker, ends_task as ends_task, notes}
-use Rattle.mtapi_machine.specs.Row.{Row, unless, says, gives, never, only, Allows, after_row, mtapi_unless, live}
-use Rattle.mtapi_machine.specs.WorkRows.{is_ready, can_take, has_better, picks, task_end}
-use Rattle.mtapi_machine.specs.Legal.{IsNext, next}
-use Rattle.mtapi_machine.proofs.Changes.{at-update}
-use Rattle.history_law.specs.Seats.{Work, RunsWith, Holds, Free, IsUntouched}
-use Rattle.history_law.proofs.lists.Found.{count_changed, count_none}
-use Rattle.history_law.proofs.RowRest.{pass}
-use Rattle.history_law.proofs.WorkerTurns.{runs_as_its, runs_on_its, ends_free, own_goes}
+use Rattle.mtapi_objects.specs.Tasks.{looks_of}
+use Rattle.mtapi_machine.specs.Moves.{runs_task as runs_task, stops as stops_worker, ends_task as ends_task}
 
 -- what an ask leaves of the work
 abbrev pub reported : Bool → Work → Work

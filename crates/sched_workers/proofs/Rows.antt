@@ -36,16 +36,6 @@ said P (unless false x w) r p a = said P w r p.1 a
 said P (gives x ms) r p a = subst P (sym a) p
 said P never r p a = absurd a
 
--- one condition after the other
-
-pub unless_else : (c : Bool) (x r : Reply) (w : Row) → (r ≡ x → ⊥) → Allows (unless c x w) r → (c ≡ false) × Allows w r
-unless_else true x r w n a = absurd (n a)
-unless_else false x r w n a = (refl, a)
-
-pub unless_not : (c : Bool) (x r : Reply) (w : Row) → c ≡ false → Allows (unless c x w) r → Allows w r
-unless_not true x r w e a = absurd (cc)
-unless_not false x r w e a = a
-
 pub on_live : (P : Reply → Type 0) {T : Type 0} (x : Option T) (v : Row) (w : T → Row) → AllSays P v → ((t : T) → AllSays P (w t)) → AllSays P (live x v w)
 on_live P None v w p h = p
 on_live P (Some t) v w p h = h t
@@ -167,29 +157,3 @@ once_says s who _ r i = absurd i
 
 pub once_settles : (s : State) (who : ℕ) (o : Op) (r : Reply) → IsOnce o → Allows (row s who o r) r → Settles r
 once_settles s who o r i a = said Settles (row s who o r) r (once_says s who o r i) a
-
--- looks
-
--- a look that isn't the last says no TIMEOUT, and the last one isn't answered Pending
-pub record Looks (last : Bool) (r : Reply) : Type 0 where
-  pub late : last ≡ false → is_timeout r ≡ false
-  pub pending : last ≡ true → is_pending r ≡ false
-  pub stays : is_pending r ≡ false → (alike : Bool) → drops alike r ≡ false
-
-looks_code : (last : Bool) (c : MtapiStatus) → is_timeout (Mtapi c) ≡ false → Looks last (Mtapi c)
-looks_code last c n = record { late = λ e. n; pending = λ e. refl; stays = λ e b. refl }
-
-looks_at_says : (who h : ℕ) (last : Bool) (x : TaskState) → AllSays (Looks last) (looks_at who h last x)
-looks_at_says who h true Scheduled = record { late = λ e. absurd (cc); pending = λ e. refl; stays = λ e b. refl }
-looks_at_says who h false Scheduled = record { late = λ e. refl; pending = λ e. absurd (cc); stays = λ e b. absurd (cc) }
-looks_at_says who h true (Running w k) = record { late = λ e. absurd (cc); pending = λ e. refl; stays = λ e b. refl }
-looks_at_says who h false (Running w k) = record { late = λ e. refl; pending = λ e. absurd (cc); stays = λ e b. absurd (cc) }
-looks_at_says who h last (Ended y n) = record { late = λ e. refl; pending = λ e. refl; stays = λ e b. refl }
-
-look_says : (who h : ℕ) (last : Bool) (x : Task) → AllSays (Looks last) (looks_at who h last x.state)
-look_says who h last x = looks_at_says who h last x.state
-
-pub look_reply : (s : State) (who h : ℕ) (last : Bool) (r : Reply) → Allows (row s who (op.TaskLook (record { 0 = h }) last) r) r → Looks last r
-look_reply s who h last r a =
-    said (Looks last) (row s who (op.TaskLook (record { 0 = h }) last) r) r
-    (looks_code last _ refl, on_live (Looks last) (live_object s.tasks h) _ _ (looks_code last _ refl) (λ x. (looks_code last _ refl, (looks_code last _ refl, look_says who h last x)))) a

@@ -1,10 +1,5 @@
-use Rattle.std.proofs.lemmas.Result.{IfOk-weaker}
-use Rattle.mtapi_values.specs.Timeouts.{looks_of}
-use Rattle.mtapi_machine.specs.declared.replies.Reply.TheVariants.{Pending}
-use Rattle.node_core.specs.Logs.{journal_legal}
-use Rattle.sched_workers.specs.Wants.{op_of}
+use Rattle.sched_threads.proofs.Names.{IfOk-weaker, Looked, Pending, journal_legal, looks_of, op_of}
 use Rattle.turn_looks.specs.Looks as looks
-use Rattle.sched_threads.specs.Looks.{Looked}
 use Rattle.sched_threads.proofs.LookLemmas.{looked}
 use Rattle.sched_threads.proofs.looks.look.Goals as goal
 

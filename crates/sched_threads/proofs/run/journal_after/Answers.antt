@@ -1,10 +1,4 @@
-use Rattle.std.proofs.Common.{◌≡◌, List, sym, subst}
-use Rattle.turn_cell.specs.Lists.{all_of}
-use Rattle.turn_cell.specs.Seats.{IsComplete, IsSeatOf}
-use Rattle.node_core.specs.Logs.{journal_seats, KeptAs}
-use Rattle.node_core.specs.declared.journaled.JournaledTerms.{JournaledTerms}
-use Rattle.sched_threads.specs.Turns.{Seat}
-use Rattle.sched_threads.specs.Crews.{IsClean}
+use Rattle.sched_threads.proofs.Names.{◌≡◌, IsClean, IsComplete, IsSeatOf, JournaledTerms, KeptAs, List, Seat, all_of, journal_seats, subst, sym}
 use Rattle.sched_threads.proofs.Deals.{of_cell}
 use Rattle.sched_threads.proofs.run.journal_after.Goals as goal
 

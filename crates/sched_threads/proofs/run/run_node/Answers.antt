@@ -1,11 +1,4 @@
-use Rattle.std.proofs.Common.{◌≡◌, ℕ, ◌+◌, List, [], length, sym, ap, ◌∙◌, arith, vec_len}
-use Rattle.std.specs.Prelude.{◌-◌}
-use Rattle.turn_cell.specs.Seats.{fresh_seats}
-use Rattle.node_core.specs.Stands.{history_of}
-use Rattle.node_core.specs.Logs.{journal_terms, journal_seats}
-use Rattle.mtapi_machine.specs.declared.terms.Terms.{Terms}
-use Rattle.workload_file.specs.declared.workload.Part.{Part}
-use Rattle.sched_threads.specs.Runs.{is_refused}
+use Rattle.sched_threads.proofs.Names.{[], ◌+◌, ◌-◌, ◌∙◌, ◌≡◌, List, Part, Terms, ap, arith, fresh_seats, history_of, is_refused, journal_seats, journal_terms, length, sym, vec_len, ℕ}
 use Rattle.sched_threads.proofs.Deals.{begun, first_part, all_ready, crew_complete, ran, refused_is, counts_as, gives_main}
 use Rattle.sched_threads.proofs.run.run_node.Goals as goal
 

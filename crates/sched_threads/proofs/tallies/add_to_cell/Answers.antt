@@ -1,7 +1,4 @@
-use Rattle.std.proofs.Common.{FitsSigned, w64}
-use Rattle.std.proofs.lemmas.Int.{to_z-of_z}
-use Rattle.std.proofs.lemmas.Result.{IfOk-weaker}
-use Rattle.action_fn.proofs.Numbers.{FitsSigned-from}
+use Rattle.sched_threads.proofs.Names.{FitsSigned, FitsSigned-from, IfOk-weaker, to_z-of_z, w64}
 use Rattle.sched_threads.proofs.TallySeat.{adds_sum, adds_nothing}
 use Rattle.sched_threads.proofs.tallies.add_to_cell.Goals as goal
 

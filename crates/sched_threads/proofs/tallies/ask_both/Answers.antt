@@ -1,6 +1,4 @@
-use Rattle.std.proofs.Common.{sym, subst}
-use Rattle.std.specs.Prelude.{Option, Bool}
-use Rattle.sched_threads.specs.Steps.{LocksOnce}
+use Rattle.sched_threads.proofs.Names.{Bool, LocksOnce, Option, subst, sym}
 use Rattle.sched_threads.proofs.TallySeat.{locks_once}
 use Rattle.sched_threads.proofs.tallies.ask_both.Goals as goal
 

@@ -1,9 +1,4 @@
-use Rattle.std.proofs.Common.{◌≡◌, true, sym, subst, FitsSigned, w64}
-use Rattle.std.specs.Prelude.{ℤ}
-use Rattle.std.proofs.lemmas.Int.{to_z-of_z}
-use Rattle.action_fn.specs.Answers.{fits}
-use Rattle.action_fn.proofs.Numbers.{fits_from}
-use Rattle.sched_threads.specs.Steps.{ReadsCell}
+use Rattle.sched_threads.proofs.Names.{◌≡◌, FitsSigned, ReadsCell, fits, fits_from, subst, sym, to_z-of_z, true, w64, ℤ}
 use Rattle.sched_threads.proofs.TallySeat.{reads_cell, reads_cell_is}
 use Rattle.sched_threads.proofs.tallies.read_cell.Goals as goal
 

@@ -1,8 +1,4 @@
-use Rattle.std.proofs.Common.{◌≡◌, subst, FitsSigned, w64}
-use Rattle.std.specs.Prelude.{ℤ, ◌+ℤ◌}
-use Rattle.std.proofs.lemmas.Int.{to_z-of_z}
-use Rattle.action_fn.specs.Answers.{fitting}
-use Rattle.action_fn.proofs.Numbers.{fitting_from}
+use Rattle.sched_threads.proofs.Names.{◌+ℤ◌, ◌≡◌, FitsSigned, fitting, fitting_from, subst, to_z-of_z, w64, ℤ}
 use Rattle.sched_threads.proofs.tallies.sum_of.Goals as goal
 
 pub returns : goal.returns

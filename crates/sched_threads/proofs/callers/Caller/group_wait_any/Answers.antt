@@ -1,7 +1,5 @@
-use Rattle.mtapi_values.specs.Timeouts.{looks_of}
-use Rattle.sched_workers.specs.declared.calls.Wanted.TheVariants.{FirstMember}
-use Rattle.sched_threads.specs.Replies.{mtapi, given}
-use Rattle.sched_threads.proofs.Said.{waited}
+use Rattle.sched_threads.proofs.Names.{FirstMember, given, looks_of, mtapi}
+use Rattle.sched_threads.proofs.CallAnswers.{waited}
 use Rattle.sched_threads.proofs.callers.Caller.group_wait_any.Goals as goal
 
 pub returns : goal.returns

@@ -1,5 +1,5 @@
 use Rattle.sched_threads.specs.Replies.{mrapi, done}
-use Rattle.sched_threads.proofs.Said.{called}
+use Rattle.sched_threads.proofs.CallAnswers.{called}
 use Rattle.sched_threads.proofs.callers.Caller.mrapi_done.Goals as goal
 
 pub returns : goal.returns

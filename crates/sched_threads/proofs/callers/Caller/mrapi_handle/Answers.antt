@@ -1,5 +1,5 @@
 use Rattle.sched_threads.specs.Replies.{mrapi, handle}
-use Rattle.sched_threads.proofs.Said.{called}
+use Rattle.sched_threads.proofs.CallAnswers.{called}
 use Rattle.sched_threads.proofs.callers.Caller.mrapi_handle.Goals as goal
 
 pub returns : goal.returns

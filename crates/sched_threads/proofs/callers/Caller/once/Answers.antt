@@ -1,4 +1,4 @@
-use Rattle.sched_threads.proofs.Said.{turn_fits}
+use Rattle.sched_threads.proofs.CallAnswers.{turn_fits}
 use Rattle.sched_threads.proofs.callers.Caller.once.Goals as goal
 
 pub returns-clause-fits : goal.returns-clause-fits

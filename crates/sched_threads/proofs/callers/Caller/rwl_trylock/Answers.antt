@@ -1,7 +1,5 @@
-use Rattle.std.specs.Prelude.{Some}
-use Rattle.sched_workers.specs.declared.calls.Wanted.TheVariants.{Rwl}
-use Rattle.sched_threads.specs.Replies.{mrapi, done}
-use Rattle.sched_threads.proofs.Said.{waited}
+use Rattle.sched_threads.proofs.Names.{Rwl, Some, done, mrapi}
+use Rattle.sched_threads.proofs.CallAnswers.{waited}
 use Rattle.sched_threads.proofs.callers.Caller.rwl_trylock.Goals as goal
 
 pub returns : goal.returns

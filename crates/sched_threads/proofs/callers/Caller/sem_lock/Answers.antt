@@ -1,7 +1,5 @@
-use Rattle.mtapi_values.specs.Timeouts.{looks_of}
-use Rattle.sched_workers.specs.declared.calls.Wanted.TheVariants.{Sem}
-use Rattle.sched_threads.specs.Replies.{mrapi, done}
-use Rattle.sched_threads.proofs.Said.{waited}
+use Rattle.sched_threads.proofs.Names.{Sem, done, looks_of, mrapi}
+use Rattle.sched_threads.proofs.CallAnswers.{waited}
 use Rattle.sched_threads.proofs.callers.Caller.sem_lock.Goals as goal
 
 pub returns : goal.returns

@@ -1,7 +1,5 @@
-use Rattle.std.specs.Prelude.{Some}
-use Rattle.sched_workers.specs.declared.calls.Wanted.TheVariants.{Sem}
-use Rattle.sched_threads.specs.Replies.{mrapi, done}
-use Rattle.sched_threads.proofs.Said.{waited}
+use Rattle.sched_threads.proofs.Names.{Sem, Some, done, mrapi}
+use Rattle.sched_threads.proofs.CallAnswers.{waited}
 use Rattle.sched_threads.proofs.callers.Caller.sem_trylock.Goals as goal
 
 pub returns : goal.returns

@@ -1,4 +1,4 @@
-use Rattle.sched_threads.proofs.Said.{entrance_found}
+use Rattle.sched_threads.proofs.CallAnswers.{entrance_found}
 use Rattle.sched_threads.proofs.callers.Caller.to_enter.Goals as goal
 
 pub returns-clause-found : goal.returns-clause-found

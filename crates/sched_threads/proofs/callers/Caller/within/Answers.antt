@@ -1,5 +1,5 @@
 use Rattle.mtapi_values.specs.Timeouts.{looks_of}
-use Rattle.sched_threads.proofs.Said.{timed_found}
+use Rattle.sched_threads.proofs.CallAnswers.{timed_found}
 use Rattle.sched_threads.proofs.callers.Caller.within.Goals as goal
 
 pub returns-clause-found : goal.returns-clause-found

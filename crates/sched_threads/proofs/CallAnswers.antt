@@ -1,45 +1,15 @@
 -- What the calls of a caller answer follows from the rows of their ops.
-use Rattle.std.proofs.Common.{◌≡◌, ℕ, Bool, true, false, cond, List, [], ◌∷◌, Option, Some, None, Result, Ok, Err, inl, inr, refl, ap, arith}
-use Rattle.std.specs.Prelude.{IfOk, OnErr, ◌==◌, ◌^◌, ◌+◌, ◌≤◌, is_some, pos}
-use Rattle.std.proofs.lemmas.Bool.{lt-ltb}
-use Rattle.std.specs.Option.{option_or}
-use Rattle.mtapi_values.specs.declared.statuses.MtapiStatus.{MtapiStatus}
+use Rattle.sched_threads.proofs.Names.{[], ◌+◌, ◌==◌, ◌^◌, ◌∷◌, ◌≡◌, ◌≤◌, AllSays, Allows, AnsweredBy, Bool, Called, Cancelled, Completed, Ended, Ending, Err, Every, Failed, IfOk, IfOk-weaker, InTime, IsTimed, List, Looked, MtapiStatus, None, OnErr, Op, Option, Reply, Result, Row, Running, Scheduled, Seat, Some, Standard, State, StillLooking, TaskEnd, TaskState, Turned, Unturned, Waited, Wanted, any_listed, ap, arith, cancels, cond, done, endings, every_at, false, fault_of, first_fault, first_handle, found, gives_end, gives_first, inl, inr, is_late_end, is_pending, is_some, is_unended_member, key, live, live_object, live_of, looks_at, lt-ltb, mrapi, mtapi, mutex_busy, not_yet, on_live, on_only, op_of, option_or, pos, refl, row, rwl_busy, said, self_is, sem_busy, true, verdict, ℕ}
+use Rattle.std.proofs.Common.{Ok}
 use Rattle.mtapi_values.specs.declared.statuses.MtapiStatus.TheVariants as m
-use Rattle.mtapi_values.specs.declared.ends.TaskEnd.{TaskEnd}
-use Rattle.mtapi_values.specs.declared.ends.TaskEnd.TheVariants.{Completed, Cancelled, Failed}
-use Rattle.mtapi_machine.specs.declared.ops.Op.{Op}
 use Rattle.mtapi_machine.specs.declared.ops.Op.TheVariants as op
-use Rattle.mtapi_machine.specs.declared.replies.Reply.{Reply}
 use Rattle.mtapi_machine.specs.declared.replies.Reply.TheVariants as reply
-use Rattle.handle_pool.specs.Issued.{live_of, live_object, any_listed, first_handle}
-use Rattle.mtapi_objects.specs.Tasks.{TaskState, Scheduled, Running, Ended}
-use Rattle.mtapi_objects.specs.Groups.{Ending, endings, first_fault, fault_of, is_unended_member}
-use Rattle.mtapi_objects.specs.Mutexes.{mutex_busy}
-use Rattle.mtapi_objects.specs.Sems.{sem_busy}
-use Rattle.mtapi_objects.specs.Rwls.{rwl_busy}
-use Rattle.mtapi_machine.specs.State.{State}
-use Rattle.mtapi_machine.specs.Row.{Row, live, not_yet, Allows}
 use Rattle.mtapi_machine.specs.KeyedRows.{found as found_object}
-use Rattle.mtapi_machine.specs.GroupRows.{verdict, gives_end, gives_first}
-use Rattle.mtapi_machine.specs.TaskRows.{looks_at, cancels}
-use Rattle.mtapi_machine.specs.Rows.{row}
-use Rattle.mtapi_machine.specs.Kept.{is_pending}
-use Rattle.history_law.specs.Seats.{is_late_end}
-use Rattle.history_law.proofs.lists.Every.{Every, every_at}
-use Rattle.history_law.proofs.Others.{InTime}
-use Rattle.sched_workers.proofs.Rows.{AllSays, said, on_live, on_only}
-use Rattle.sched_workers.specs.declared.calls.Wanted.{Wanted}
 use Rattle.sched_workers.specs.declared.calls.Wanted.TheVariants as want
-use Rattle.sched_threads.specs.Turns.{Seat, Turned, Unturned}
-use Rattle.sched_threads.specs.Looks.{Looked, StillLooking}
-use Rattle.sched_workers.specs.Wants.{op_of, IsTimed}
-use Rattle.sched_threads.specs.Answers.{AnsweredBy, Called, Waited}
-use Rattle.sched_threads.specs.Replies.{Standard, mtapi, mrapi, done, key, says, fits, found}
+use Rattle.sched_threads.specs.Replies.{says, fits}
 use Rattle.sched_threads.proofs.OwnEntries.{turned_next, state_at}
-use Rattle.turn_looks.proofs.OwnEntries.{self_is}
 use Rattle.sched_threads.proofs.Depths.{Shallow}
-use Rattle.sched_threads.proofs.WantedRows.{on_cond, AllEarly, endings_early, wanted_decides}
-use Rattle.std.proofs.lemmas.Result.{IfOk-weaker}
+use Rattle.sched_threads.proofs.WantedRows.{wanted_says}
 
 -- One turn
 
@@ -121,98 +91,13 @@ turn_fits old new o x k =
 
 -- Looks
 
--- a reply that has an answer, or Pending
-abbrev Finds : Wanted → Reply → Type 0
-Finds w r = is_pending r ≡ false → found w r ≡ true
-
-finds_later : (w : Wanted) (last : Bool) (late : Reply) → (found w late ≡ true) → AllSays (Finds w) (not_yet last late)
-finds_later w true late f = λ e. f
-finds_later w false late f = λ e. absurd (cc)
-
-finds_task : (t : _) (who h : ℕ) (last : Bool) (x : TaskState) → AllSays (Finds (want.Task t)) (looks_at who h last x)
-finds_task t who h true Scheduled = λ e. refl
-finds_task t who h false Scheduled = λ e. absurd (cc)
-finds_task t who h true (Running w k) = λ e. refl
-finds_task t who h false (Running w k) = λ e. absurd (cc)
-finds_task t who h last (Ended y n) = λ e. refl
-
--- what a task that failed with it says isn't the status for want of tickets
-finds_failed : (x : MtapiStatus) → is_late_end (Failed x) ≡ false → says mtapi done (reply.Mtapi x) ≡ true
-finds_failed m.ErrSpent l = absurd (cc)
-finds_failed _ l = refl
-
-finds_first : (y : TaskEnd) (o : Option MtapiStatus) → is_late_end y ≡ false → says mtapi done (verdict o) ≡ true → says mtapi done (verdict (option_or (fault_of y) o)) ≡ true
-finds_first (Completed args) o l more = more
-finds_first Cancelled o l more = refl
-finds_first (Failed x) o l more = finds_failed x l
-
-finds_verdict : (es : List Ending) → AllEarly es → says mtapi done (verdict (first_fault es)) ≡ true
-finds_verdict [] a = refl
-finds_verdict (x ∷ es) a = finds_first x.end (first_fault es) a.0 (finds_verdict es a.1)
-
-finds_given : (g : _) (h : ℕ) (x : TaskState) → AllSays (Finds (want.FirstMember g)) (gives_end h x)
-finds_given g h Scheduled = tt
-finds_given g h (Running w k) = tt
-finds_given g h (Ended e n) = λ i. refl
-
-finds_firsts : (g : _) (s : State) (last : Bool) (es : List Ending) → AllSays (Finds (want.FirstMember g)) (gives_first s last es)
-finds_firsts g s last [] = finds_later (want.FirstMember g) last _ refl
-finds_firsts g s last (e ∷ es) = on_live (Finds (want.FirstMember g)) (live_object s.tasks e.task) _ _ tt (λ x. finds_given g e.task x.state)
-
--- the live object of a handle, with where it was found
-on_live_at : (P : Reply → Type 0) {T : Type 0} (x : Option T) (v : Row) (w : T → Row) → AllSays P v → ((t : T) → x ≡ Some t → AllSays P (w t)) → AllSays P (live x v w)
-on_live_at P None v w p h = p
-on_live_at P (Some t) v w p h = h t refl
-
-finds_key : (n : ℕ) → n ≤ 64 → says mrapi key (reply.Number (pos (n + 1))) ≡ true
-finds_key n l = ap (λ (b : Bool). is_some (cond b (Some (n + 1)) None)) (lt-ltb (n + 1) (2 ^ 32) (omega arith))
-
-finds_all : (w : Wanted) (s : State) (who : ℕ) (last : Bool) (r : Reply) → Every InTime s.tasks → Every Shallow s.mutexes → AllSays (Finds w) (row s who (op_of w last) r)
-finds_all (want.Task t) s who last r v m =
-    ((λ e. refl), on_live (Finds (want.Task t)) (live_object s.tasks t.0) _ _ (λ e. refl) (λ x. ((λ e. refl), ((λ e. refl), finds_task t who t.0 last x.state))))
-finds_all want.Entrance s who last r v m = ((λ e. refl), ((λ e. absurd (cc)), (λ e. refl)))
-finds_all (want.AllMembers g) s who last r v m = (
-  (λ e. refl),
-  on_live (Finds (want.AllMembers g)) (live_object s.groups g.0) _ _ (λ e. refl) (λ x.
-      on_cond (Finds (want.AllMembers g)) (any_listed (is_unended_member g.0) s.tasks) _ _ (finds_later (want.AllMembers g) last _ refl) (λ e. finds_verdict _ (endings_early g.0 s.tasks v))),
-)
-finds_all (want.FirstMember g) s who last r v m =
-    ((λ e. refl), on_live (Finds (want.FirstMember g)) (live_object s.groups g.0) _ _ (λ e. refl) (λ x. ((λ e. refl), finds_firsts g s last (endings g.0 (live_of s.tasks)))))
-finds_all (want.Mutex h) s who last r v m = (
-  (λ e. refl),
-  (
-    (λ e. refl),
-    on_live_at (Finds (want.Mutex h)) (live_object s.mutexes h.0) _ _ (λ e. refl) (λ x f.
-        ((λ e. refl), on_cond (Finds (want.Mutex h)) (mutex_busy who x) _ _ (finds_later (want.Mutex h) last _ refl) (λ e. finds_key x.depth (every_at Shallow s.mutexes h.0 x m f).deep))),
-  ),
-)
-finds_all (want.Sem h) s who last r v m = (
-  (λ e. refl),
-  (
-    (λ e. refl),
-    on_live (Finds (want.Sem h)) (live_object s.sems h.0) _ _ (λ e. refl) (λ x.
-        on_cond (Finds (want.Sem h)) (sem_busy x) _ _ (finds_later (want.Sem h) last _ refl) (λ e. refl)),
-  ),
-)
-finds_all (want.Rwl h writer) s who last r v m = (
-  (λ e. refl),
-  (
-    (λ e. refl),
-    on_live (Finds (want.Rwl h writer)) (live_object s.rwls h.0) _ _ (λ e. refl) (λ x.
-        ((λ e. refl), on_cond (Finds (want.Rwl h writer)) (rwl_busy writer x) _ _ (finds_later (want.Rwl h writer) last _ refl) (λ e. refl))),
-  ),
-)
-
-pub wanted_found : (w : Wanted) (s : State) (who : ℕ) (last : Bool) (r : Reply) → Every InTime s.tasks → Every Shallow s.mutexes → Allows (row s who (op_of w last) r) r → is_pending r ≡ false → found w r ≡ true
-wanted_found w s who last r v m a = said (Finds w) (row s who (op_of w last) r) r (finds_all w s who last r v m) a
-
 -- a look with a limit, and one at the entrance without, that came to an answer
 pub timed_found : (w : Wanted) (limit : Option ℕ) (old new : Seat) (x : Result Reply ℕ) → IsTimed w → IfOk x (λ r. Looked w limit old new r) → IfOk x (λ r. found w r ≡ true)
 timed_found w limit old new x i k = IfOk-weaker x (λ r. Looked w limit old new r) (λ r. found w r ≡ true) (λ r l. l.found (decided r l l.last refl)) k
   where
     decided : (r : Reply) (l : Looked w limit old new r) (b : Bool) → l.last ≡ b → is_pending r ≡ false
     decided r l false e = l.decides e
-    decided r l true e = (wanted_decides w l.state old.number l.last r i l.allowed).pending e
+    decided r l true e = (wanted_says w l.state old.number l.last r l.allowed).pending i e
 
 pub entrance_found : (old new : Seat) (x : Result Reply ℕ) → IfOk x (λ r. Looked want.Entrance None old new r) → IfOk x (λ r. found want.Entrance r ≡ true)
 entrance_found old new x k = IfOk-weaker x (λ r. Looked want.Entrance None old new r) (λ r. found want.Entrance r ≡ true) (λ r l. l.found (l.decides l.bound)) k

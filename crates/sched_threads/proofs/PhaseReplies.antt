@@ -1,33 +1,17 @@
--- What the entrance, the close, a stop and the final call were answered, by the states in which they were made.
-use Rattle.std.proofs.Common.{◌≡◌, ℕ, zero, suc, ◌<◌, ◌≤◌, Bool, true, false, not, cond, List, [], ◌∷◌, ◌++◌, length, refl, sym, ◌∙◌, ap, subst, arith, append_assoc}
-use Rattle.std.specs.Prelude.{◌&&◌, slice_set}
-use Rattle.std.specs.Bool.{MatchBool}
-use Rattle.mtapi_values.specs.Seats.{marked, all_marked}
+-- What the calls that move the phase, the entrance and a stop were answered, by the states in which they were made.
+use Rattle.sched_threads.proofs.Names.{[], ◌&&◌, ◌++◌, ◌<◌, ◌∙◌, ◌∷◌, ◌≡◌, ◌≤◌, Allows, Bool, Cancelled, Closed, Closing, Idle, IsNext, Legal-front, LegalFrom, List, MatchBool, Mtapi, New, NodeEntry, Ok, Open, Pending, Phase, Reply, Row, State, Stop, Terms, after-append, after_from, after_moves, after_row, all_marked, any_listed, ap, append_assoc, arith, can_take, cond, ends_waiting, entries_of, entry, false, gives, is_new, is_open, is_past_open, is_pending, is_shut_in, is_stop, is_up, length, marked, next, not, only, opening, pass, phase_is, picks, refl, released, row, runs_on, says, skip, slice_set, stopped_room, stopped_stays, stops, subst, suc, sym, true, unless, workers, zero, ℕ}
 use Rattle.mtapi_values.specs.declared.statuses.MtapiStatus.TheVariants as m
-use Rattle.mtapi_values.specs.declared.ends.TaskEnd.TheVariants.{Cancelled}
-use Rattle.history.specs.Histories.{entry, entries_of}
-use Rattle.handle_pool.specs.Issued.{any_listed}
-use Rattle.mtapi_objects.specs.Tasks.{runs_on}
-use Rattle.mtapi_objects.specs.Queues.{is_shut_in}
-use Rattle.mtapi_machine.specs.declared.terms.Terms.{Terms}
-use Rattle.mtapi_machine.specs.declared.terms.Phase.{Phase}
-use Rattle.mtapi_machine.specs.declared.terms.Phase.TheVariants.{New, Open, Closing, Closed}
 use Rattle.mtapi_machine.specs.declared.ops.Op.TheVariants as op
-use Rattle.mtapi_machine.specs.declared.replies.Reply.{Reply}
-use Rattle.mtapi_machine.specs.declared.replies.Reply.TheVariants.{Ok, Pending, Idle, Stop, Mtapi}
-use Rattle.mtapi_machine.specs.State.{State, opening, workers, is_new, is_up, is_past_open, is_stop}
-use Rattle.mtapi_machine.specs.Moves.{phase_is, stops, ends_waiting, after_moves}
-use Rattle.mtapi_machine.specs.Row.{Row, Allows, unless, gives, says, only, after_row}
-use Rattle.mtapi_machine.specs.WorkRows.{picks, can_take}
-use Rattle.mtapi_machine.specs.Rows.{row}
-use Rattle.mtapi_machine.specs.Legal.{NodeEntry, IsNext, LegalFrom, next, after_from}
-use Rattle.mtapi_machine.specs.Kept.{is_pending}
-use Rattle.mtapi_machine.proofs.Lists.{Legal-front, after-append}
-use Rattle.history_law.proofs.Others.{stopped_stays}
-use Rattle.history_law.proofs.Bounds.{stopped_room}
-use Rattle.history_law.proofs.RowRest.{pass, skip}
-use Rattle.sched_threads.proofs.TurnMarks.{Cut, first_own, first_next}
-use Rattle.sched_threads.proofs.OwnParts.{Split, own_split}
+use Rattle.sched_threads.proofs.TurnMarks.{first_next}
+use Rattle.sched_threads.proofs.OwnParts.{own_at}
+
+-- The first calls
+
+pub init_reply : (u : State) (w : ℕ) (r : Reply) → u.phase ≡ New → Allows (row u w op.Initialize r) r → r ≡ Ok
+init_reply u w r e a = (pass (not (is_new u.phase)) (Mtapi m.ErrNodeInitialized) r (gives Ok (phase_is Open ∷ [])) u (ap (λ (p : Phase). not (is_new p)) e) a).allowed
+
+pub release_reply : (u : State) (w : ℕ) (r : Reply) → u.phase ≡ Open → Allows (row u w op.Release r) r → r ≡ Ok
+release_reply u w r e a = (pass (not (is_open u.phase)) (Mtapi m.ErrNodeNotinit) r (gives Ok (released ∷ [])) u (ap (λ (p : Phase). not (is_open p)) e) a).allowed
 
 -- The entrance
 
@@ -48,8 +32,6 @@ close_reply u w r e a = (pass (is_past_open u.phase) (Mtapi m.ErrNodeNotinit) r 
 
 pub close_phase : (u : State) (w : ℕ) (r : Reply) → is_past_open u.phase ≡ false → (next u (entry w op.Close r)).phase ≡ Closing
 close_phase u w r e = ap (λ (b : Bool). (after_moves (cond b [] (phase_is Closing ∷ ends_waiting (is_shut_in u.queues) Cancelled ∷ [])) u).phase) e
-
--- The release, in the state that main's first call left
 
 pub open_phase : (u : State) (w : ℕ) (r : Reply) → u.phase ≡ New → (next u (entry w op.Initialize r)).phase ≡ Open
 open_phase u w r e = ap (λ (p : Phase). (after_moves (cond (not (is_new p)) [] (phase_is Open ∷ [])) u).phase) e
@@ -87,24 +69,18 @@ after-behind : (s : State) (A : List NodeEntry) (e : NodeEntry) (B : List NodeEn
 unfolding after_from
 after-behind s A e B = after-append s A (e ∷ B)
 
--- a worker whose last entry in a prefix is a stop is marked from then on
-pub stopped_mark : (terms : Terms) (w : ℕ) (S M xs : List NodeEntry) → w < 25 → LegalFrom (opening terms) (S ++ M) → entries_of w S ≡ xs ++ entry w op.Pick Stop ∷ [] → marked w (after_from (opening terms) (S ++ M)).stopped ≡ true
-stopped_mark terms w S M xs few l k =
+-- a worker whose last entry is a stop is marked from then on
+pub stopped_mark : (terms : Terms) (w : ℕ) (S xs : List NodeEntry) → w < 25 → LegalFrom (opening terms) S → entries_of w S ≡ xs ++ entry w op.Pick Stop ∷ [] → marked w (after_from (opening terms) S).stopped ≡ true
+stopped_mark terms w S xs few l k =
     let e : NodeEntry = entry w op.Pick Stop in
-    let x : Split w S xs (e ∷ []) = own_split w xs S (e ∷ []) k in
-    let c : Cut w x.back e [] = first_own w x.back e [] x.rest in
-    let A = x.prefix ++ c.before in
-    let B = c.behind ++ M in
-    let is : S ++ M ≡ A ++ e ∷ B =
-    ap (λ (L : List NodeEntry). L ++ M) (x.is ∙ (ap (λ (L : List NodeEntry). x.prefix ++ L) c.is ∙ sym (append_assoc x.prefix c.before (e ∷ c.behind))))
-    ∙ append_assoc A (e ∷ c.behind) M in
-    let whole : LegalFrom (opening terms) (A ++ e ∷ B) = subst (λ (L : List NodeEntry). LegalFrom (opening terms) L) is l in
-    let n = first_next (opening terms) A e B whole in
-    let u : State = after_from (opening terms) A in
-    let room : length u.stopped ≡ 25 = stopped_room terms A (Legal-front (opening terms) A (e ∷ B) whole) in
+    let c = own_at w xs S e [] k in
+    let whole : LegalFrom (opening terms) (c.0 ++ e ∷ c.1) = subst (λ (L : List NodeEntry). LegalFrom (opening terms) L) c.2 l in
+    let n = first_next (opening terms) c.0 e c.1 whole in
+    let u : State = after_from (opening terms) c.0 in
+    let room : length u.stopped ≡ 25 = stopped_room terms c.0 (Legal-front (opening terms) c.0 (e ∷ c.1) whole) in
     let mark = stop_marks u w (omega (arith, room)) n.0 in
-    subst (λ (L : List NodeEntry). marked w (after_from (opening terms) L).stopped ≡ true) (sym is)
-    (subst (λ (s : State). marked w s.stopped ≡ true) (sym (after-behind (opening terms) A e B)) (stopped_stays (next u e) B w n.1 mark))
+    subst (λ (L : List NodeEntry). marked w (after_from (opening terms) L).stopped ≡ true) (sym c.2)
+    (subst (λ (s : State). marked w s.stopped ≡ true) (sym (after-behind (opening terms) c.0 e c.1)) (stopped_stays (next u e) c.1 w n.1 mark))
 
 -- The final call
 
