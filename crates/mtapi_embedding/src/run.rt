@@ -1,7 +1,8 @@
 //! The run of the node, from its start to its journal.
 
 ghost use Rattle.std.specs.Prelude.{◌≡◌, IfOk};
-ghost use Rattle.mtapi_embedding.specs.Runs.{IsRun};
+ghost use Rattle.node_with_workers.specs.Runs.{Tells};
+ghost use Rattle.mtapi_embedding.specs.Told.{calls};
 
 use crate::client::{Summing, Told};
 use action_fn::StandardActions;
@@ -22,7 +23,7 @@ fn settings() -> Result<NodeAttr, MtapiStatus>
 
 /// Makes a node with two workers, has one caller call it, and ends it. Gives what the caller was told, and the journal.
 pub fn run<R: Threads + Wait + Sync>(rt: &R, alloc: Global) -> Result<(Told, RunJournal), Failure>
-    ensures { IfOk result (λ r. IsRun r.0 r.1) }
+    ensures { IfOk result (λ r. Tells calls 2 r.0 r.1) }
 {
     let mut acts = StandardActions;
     let done = with_workers(rt, alloc, settings()?, &mut acts, Summing)?;

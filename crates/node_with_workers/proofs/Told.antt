@@ -2,7 +2,8 @@
 use Rattle.std.proofs.Common.{◌≡◌, ℕ, zero, suc, ◌+◌, ◌<◌, ◌==◌, Bool, true, List, [], ◌∷◌, ◌++◌, Option, Some, None, Result, Ok, Err, inl, inr, refl, sym, ◌∙◌, ap, subst, append_assoc, arith}
 use Rattle.std.specs.Prelude.{IfOk, false}
 use Rattle.std.proofs.lemmas.List.{append-nil}
-use Rattle.history.specs.Histories.{entry}
+use Rattle.history.specs.Histories.{entry, entries_of}
+use Rattle.mtapi_values.specs.Attributes.{NodeSettings}
 use Rattle.mtapi_values.specs.declared.ends.TaskEnd.{TaskEnd}
 use Rattle.mtapi_values.specs.declared.handles.TaskHandle.{TaskHandle}
 use Rattle.mtapi_values.specs.declared.statuses.MtapiStatus.{MtapiStatus}
@@ -17,7 +18,9 @@ use Rattle.sched_threads.specs.Turns.{Seat, SameSeat}
 use Rattle.sched_threads.specs.Looks.{pends, Looked}
 use Rattle.sched_threads.specs.Answers.{Answers, Called, Waited, with_number}
 use Rattle.sched_threads.specs.Replies.{Standard, mtapi, done, handle, ended}
-use Rattle.node_with_workers.specs.Told.{InOrder, WentOn}
+use Rattle.node_core.specs.declared.entries.Journal.{Journal}
+use Rattle.node_with_workers.specs.Told.{InOrder, WentOn, IsTold}
+use Rattle.node_with_workers.specs.Runs.{IsRun, Tells}
 
 -- Entries in order
 
@@ -151,3 +154,51 @@ then_by f g a b c x y = went_then (f a.number) (g a.number) a b c x (subst (λ (
 -- calls behind others of which nothing is said
 pub then_quiet : (f : ℕ → List NodeEntry) (a b c : Seat) → WentOn [] a b → WentOn (f b.number) b c → WentOn (f a.number) a c
 then_quiet f a b c x y = then_by (λ who. []) f a b c x y
+
+-- One more call behind others, each with the number of the first seat
+
+pub went_none : (a : Seat) → WentOn [] a a
+went_none a = went_nowhere a a (record { cell = refl; number = refl; terms = refl }) refl
+
+one_more : (xs : List NodeEntry) (o : Op) (r : Reply) (a b c : Seat) → WentOn xs a b → WentOn (entry b.number o r ∷ []) b c → WentOn (xs ++ entry a.number o r ∷ []) a c
+one_more xs o r a b c x y = went_then xs (entry a.number o r ∷ []) a b c x (subst (λ (n : ℕ). WentOn (entry n o r ∷ []) b c) x.same.number y)
+
+pub then_done : (xs : List NodeEntry) (o : Op) (a b c : Seat) (x : Result (Unit {0}) MtapiStatus) (u : Unit {0}) → WentOn xs a b → Called mtapi done o b c x → x ≡ Ok u → WentOn (xs ++ entry a.number o reply.Ok ∷ []) a c
+then_done xs o a b c x u w called is = one_more xs o reply.Ok a b c w (done_told o b c x u called is)
+
+pub then_given : {H : Type 0} (number : H → ℕ) (xs : List NodeEntry) (o : Op) (a b c : Seat) (x : Result H MtapiStatus) (h : H)
+    → WentOn xs a b → Called mtapi handle o b c (with_number number x) → x ≡ Ok h → WentOn (xs ++ entry a.number o (reply.Handle (number h)) ∷ []) a c
+then_given number xs o a b c x h w called is = one_more xs o (reply.Handle (number h)) a b c w (given_told number o o b c x h refl called is)
+
+-- a wait without a limit, and a wait of one look
+
+pub then_waited : (xs : List NodeEntry) (t : TaskHandle) (a b c : Seat) (x : Result TaskEnd MtapiStatus) (end : TaskEnd)
+    → WentOn xs a b → Waited mtapi ended (Task t) None b c x → x ≡ Ok end → WentOn (xs ++ entry a.number (TaskLook t false) (reply.Ended end) ∷ []) a c
+then_waited xs t a b c x end w waited is =
+    one_more xs (TaskLook t false) (reply.Ended end) a b c w (waited_told t b c (Ok end) (subst (Waited mtapi ended (Task t) None b c) is waited))
+
+pub then_looked : (xs : List NodeEntry) (t : TaskHandle) (a b c : Seat) (x : Result TaskEnd MtapiStatus) (end : TaskEnd)
+    → WentOn xs a b → Waited mtapi ended (Task t) (Some 1) b c x → x ≡ Ok end → WentOn (xs ++ entry a.number (TaskLook t true) (reply.Ended end) ∷ []) a c
+then_looked xs t a b c x end w waited is =
+    one_more xs (TaskLook t true) (reply.Ended end) a b c w (look_told t b c (Ok end) (subst (Waited mtapi ended (Task t) (Some 1) b c) is waited))
+
+-- What was told
+
+pub told_by : {H T : Type 0} (calls : ℕ → H → T → List NodeEntry) (given : H) (t : T) (a b : Seat) → WentOn (calls a.number given t) a b → IsTold calls a.number t b.mine
+told_by calls given t a b w = record { given = given; asked = among_mine (calls a.number given t) a b w }
+
+-- what a client promises so stands in the history, where main's entries begin with those of the client's seat
+pub tells : {C H T E : Type 0} (calls : ℕ → H → T → List NodeEntry) (client : C) (settings : NodeSettings) (workers : ℕ) (r : Result T E) (t : T) (j : Journal)
+    → IsRun (λ (c : C) (old new : Seat) (told : Result T E). IfOk told (λ x. IsTold calls old.number x new.mine)) client settings r j → settings.workers ≡ workers → r ≡ Ok t → Tells calls workers t j
+tells {T = T} {E = E} calls client settings workers r t j run many is =
+    let mine : IsTold calls run.before.number t run.after.mine = subst (λ (x : Result T E). IfOk x (λ y. IsTold calls run.before.number y run.after.mine)) is run.promised in
+    let main : IsTold calls settings.workers t run.after.mine = subst (λ (n : ℕ). IsTold calls n t run.after.mine) run.number mine in
+    let all : IsTold calls settings.workers t (run.after.mine ++ run.begins.0) = record { given = main.given; asked = in_order_front (calls settings.workers main.given t) run.after.mine run.begins.0 main.asked } in
+    record {
+      settings = settings;
+      number = many;
+      history = run.history;
+      legal = run.legal;
+      kept = run.kept;
+      told = subst (λ (n : ℕ). IsTold calls n t (entries_of n run.history)) many (subst (IsTold calls settings.workers t) (sym run.begins.1) all);
+    }

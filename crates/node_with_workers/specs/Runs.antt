@@ -1,5 +1,5 @@
 -- What a node gives back.
-use Rattle.std.specs.Prelude.{◌≡◌, List, [], ◌∷◌, Ok}
+use Rattle.std.specs.Prelude.{◌≡◌, ℕ, List, [], ◌∷◌, Ok}
 use Rattle.std.specs.List.{AllZip}
 use Rattle.history.specs.Histories.{StartsWith, entry, entries_of}
 use Rattle.turn_cell.specs.Seats.{fresh_seat, fresh_seats}
@@ -16,6 +16,7 @@ use Rattle.sched_threads.specs.Turns.{Seat, SameSeat}
 use Rattle.sched_threads.specs.Crews.{Cell}
 use Rattle.node_with_workers.specs.declared.crew.Crew.{Crew}
 use Rattle.node_with_workers.specs.declared.run.Done.{Done}
+use Rattle.node_with_workers.specs.Told.{IsTold}
 
 -- the terms of a node with these settings and main alone
 abbrev pub terms_for : NodeSettings → Terms
@@ -34,6 +35,16 @@ pub record IsRun {C T : Type 0} (promise : C → Seat → Seat → T → Type 0)
   pub same : SameSeat before after
   pub promised : promise client before after told
   pub begins : StartsWith (entries_of settings.workers history) after.mine
+
+-- There is one legal history of a node with so many workers and main alone. The journal is what is kept of it, and by main's entries in it
+-- this was told by these calls.
+pub record Tells {H T : Type 0} (calls : ℕ → H → T → List NodeEntry) (workers : ℕ) (t : T) (j : Journal) : Type 0 where
+  pub settings : NodeSettings
+  pub number : settings.workers ≡ workers
+  pub history : List NodeEntry
+  pub legal : Legal (terms_for settings) history
+  pub kept : KeptAs (terms_for settings) j history
+  pub told : IsTold calls workers t (entries_of workers history)
 
 -- the crew has the seats of a new cell
 pub record HasAllSeats {T A : Type 0} (z : Cell) (c : Crew T A) : Type 0 where
