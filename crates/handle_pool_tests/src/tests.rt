@@ -13,29 +13,26 @@ fn handle_of(slot: u32, generation: u32) -> u64 {
 #[test]
 fn one_slot_of_two_generations(rt: HostRuntime) -> Result<(), Fail> {
     let mut pool = Pool::new(rt.alloc(), 1, 2)?;
-    assert_eq!(rt; pool.insert(7), Ok(handle_of(0, 1)));
-    assert_eq!(rt; pool.remove(handle_of(0, 1)), Some(7));
-    assert_eq!(rt; pool.insert(8), Ok(handle_of(0, 2)));
-    assert_eq!(rt; pool.get(handle_of(0, 1)).copied(), None);
-    assert_eq!(rt; pool.remove(handle_of(0, 2)), Some(8));
-    assert_eq!(rt; pool.insert(9), Err(9));
-    assert_eq!(rt; pool.live(), 0);
-    assert_eq!(rt; pool.retired(), 1);
+    assert!(rt; pool.insert(7) == Ok(handle_of(0, 1)));
+    assert!(rt; pool.remove(handle_of(0, 1)) == Some(7));
+    assert!(rt; pool.insert(8) == Ok(handle_of(0, 2)));
+    assert!(rt; pool.get(handle_of(0, 1)).copied() == None);
+    assert!(rt; pool.remove(handle_of(0, 2)) == Some(8));
+    assert!(rt; pool.insert(9) == Err(9));
+    assert!(rt; pool.live() == 0);
+    assert!(rt; pool.retired() == 1);
     Ok(())
 }
 
 #[test]
 fn a_used_place_has_another_handle(rt: HostRuntime) -> Result<(), Fail> {
     let mut pool = Pool::new(rt.alloc(), 3, 2)?;
-    assert_eq!(rt; pool.insert(1).is_ok(), true);
+    assert!(rt; pool.insert(1).is_ok() == true);
     let second = pool.insert(2).ok().ok_or("full")?;
-    assert_eq!(rt; pool.insert(3).is_ok(), true);
-    assert_eq!(rt; pool.remove(second), Some(2));
-    assert_eq!(rt;
-        pool.insert(4).ok().map(u128::from),
-        Some(u128::from(second) + u128::from(SPAN))
-    );
-    assert_eq!(rt; pool.get(second).copied(), None);
+    assert!(rt; pool.insert(3).is_ok() == true);
+    assert!(rt; pool.remove(second) == Some(2));
+    assert!(rt; pool.insert(4).ok().map(u128::from) == Some(u128::from(second) + u128::from(SPAN)));
+    assert!(rt; pool.get(second).copied() == None);
     Ok(())
 }
 
@@ -50,9 +47,9 @@ fn many_turns_answer_as_a_plain_list_does(rt: HostRuntime) -> Result<(), Fail> {
         let leaves = i % 3 == 0 || live.len() == 50;
         let oldest = if leaves { live.pop_front() } else { None };
         if let Some((handle, value)) = oldest {
-            assert_eq!(rt; pool.get(handle).copied(), Some(value));
-            assert_eq!(rt; pool.remove(handle), Some(value));
-            assert_eq!(rt; pool.get(handle).copied(), None);
+            assert!(rt; pool.get(handle).copied() == Some(value));
+            assert!(rt; pool.remove(handle) == Some(value));
+            assert!(rt; pool.get(handle).copied() == None);
             if handle / SPAN == 1000 {
                 retired.push(handle)?;
             }
@@ -60,22 +57,22 @@ fn many_turns_answer_as_a_plain_list_does(rt: HostRuntime) -> Result<(), Fail> {
             let full = live.len().wrapping_add(retired.len()) == 50;
             match pool.insert(i) {
                 Ok(handle) => {
-                    assert_eq!(rt; full, false);
-                    assert_eq!(rt; pool.get(handle).copied(), Some(i));
+                    assert!(rt; full == false);
+                    assert!(rt; pool.get(handle).copied() == Some(i));
                     let slot = (handle % SPAN) as usize;
                     let turn = turns.get_mut(slot).ok_or("no such slot")?;
                     *turn = turn.wrapping_add(1);
-                    assert_eq!(rt; handle / SPAN, *turn);
+                    assert!(rt; handle / SPAN == *turn);
                     live.push_back((handle, i))?;
                 }
                 Err(back) => {
-                    assert_eq!(rt; full, true);
-                    assert_eq!(rt; back, i);
+                    assert!(rt; full == true);
+                    assert!(rt; back == i);
                 }
             }
         }
-        assert_eq!(rt; u64::from(pool.live()), live.len() as u64);
-        assert_eq!(rt; u64::from(pool.retired()), retired.len() as u64);
+        assert!(rt; u64::from(pool.live()) == live.len() as u64);
+        assert!(rt; u64::from(pool.retired()) == retired.len() as u64);
     }
     Ok(())
 }
@@ -122,18 +119,18 @@ fn the_end_of_a_pool_drops_each_live_value_once(rt: HostRuntime) -> Result<(), F
         let first = pool.insert(Counted(&drops[1])).ok().ok_or("full")?;
         let other = pool.insert(Counted(&drops[2])).ok().ok_or("full")?;
         let removed = pool.remove(first);
-        assert_eq!(rt; removed.is_some(), true);
-        assert_eq!(rt; drops[1].get(), 0);
+        assert!(rt; removed.is_some() == true);
+        assert!(rt; drops[1].get() == 0);
         drop(removed);
-        assert_eq!(rt; drops[1].get(), 1);
+        assert!(rt; drops[1].get() == 1);
         let second = pool.insert(Counted(&drops[3])).ok().ok_or("full")?;
         drop(pool.remove(second));
         drop(pool.remove(other));
-        assert_eq!(rt; pool.is_live(kept), true);
-        assert_eq!(rt; drops[0].get(), 0);
+        assert!(rt; pool.is_live(kept) == true);
+        assert!(rt; drops[0].get() == 0);
     }
     for count in &drops {
-        assert_eq!(rt; count.get(), 1);
+        assert!(rt; count.get() == 1);
     }
     Ok(())
 }

@@ -21,3 +21,5 @@ pub mod WorkedResources
 pub mod WorkedLayouts
 pub mod Alone
 pub mod EachKind
+pub mod Derived
+pub mod Equal

@@ -11,7 +11,7 @@ use mtapi_values::{
 ///
 /// The machine says for each op when it is refused, in which order, and what it changes. Any seat may ask for any op: where a seat
 /// may not, the answer is a refusal. The replies that stand here come beside the refusals.
-#[derive(Debug, Drop, PartialEq, Eq)]
+#[derive(Drop, PartialEq, Eq)]
 pub enum Op {
     /// Opens a new node. Main asks; `Ok`.
     Initialize,

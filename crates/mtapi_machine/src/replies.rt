@@ -3,7 +3,7 @@
 use mtapi_values::{ActionHandle, Args, Kind, MrapiStatus, MtapiStatus, TaskEnd, TaskHandle};
 
 /// The reply to an op.
-#[derive(Debug, Drop, PartialEq, Eq)]
+#[derive(Drop, PartialEq, Eq)]
 pub enum Reply {
     /// The op was executed.
     Ok,

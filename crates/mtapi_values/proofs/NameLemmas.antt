@@ -1,5 +1,5 @@
 -- What a search by name finds in a list that has each value, with a name of its own.
-use Rattle.std.proofs.Common.{◌≡◌, ◌≢◌, ◌↔◌, ℕ, Bool, true, false, List, [], ◌∷◌, Option, Some, None, IsNone, refl, sym, ◌∙◌, rules}
+use Rattle.std.proofs.Common.{◌≡◌, ◌≢◌, ◌↔◌, ℕ, Bool, true, false, List, [], ◌∷◌, Option, Some, None, IsNone, refl, sym, ap, ◌∙◌, rules}
 use Rattle.std.specs.Prelude.{find, if◌then◌else◌}
 use Rattle.std.specs.Str.{bytes_eq}
 use Rattle.std.proofs.lemmas.Slice.Eq.{bytes_eq-Decides}
@@ -41,3 +41,7 @@ named_contradicts each text (Some y) e none x f = absurd (search rules)
 
 pub unknown_by_name : {X : Type 0} {named : X → List ℕ} {all : List X} (each : FindsEach named all) (text : List ℕ) (r : Option X) → r ≡ found_by named all text → IsNone r ↔ ((x : X) → text ≢ named x)
 unknown_by_name each text r e = (λ none x f. named_contradicts each text r e none x f, none_named each text r e)
+
+-- two values of one name are one
+pub one_name : {X : Type 0} {named : X → List ℕ} {all : List X} (each : FindsEach named all) (x y : X) → named x ≡ named y → x ≡ y
+one_name {X = X} {named = named} {all = all} each x y e = let f : ◌≡◌ {A = Option X} (Some x) (Some y) = sym (each.own x) ∙ ap (found_by named all) e ∙ each.own y in cc

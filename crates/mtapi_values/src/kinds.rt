@@ -51,6 +51,13 @@ impl Kind {
         ensures value { result.now ≡ kind_word self }
         ensures alone { (other : Kind) → kind_word other ≡ result.now → other ≡ self }
     {
+        self.text()
+    }
+
+    // The same, by its table.
+    fn text(self) -> &'static str
+        ensures { result.now ≡ kind_word self }
+    {
         match self {
             Kind::Add => "add",
             Kind::Mul => "mul",

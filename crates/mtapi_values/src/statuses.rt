@@ -187,6 +187,13 @@ impl MtapiStatus {
         ensures value { result.now ≡ mtapi_name self }
         ensures alone { (other : MtapiStatus) → mtapi_name other ≡ result.now → other ≡ self }
     {
+        self.text()
+    }
+
+    // The same, by its table.
+    fn text(self) -> &'static str
+        ensures { result.now ≡ mtapi_name self }
+    {
         match self {
             MtapiStatus::Success => "MTAPI_SUCCESS",
             MtapiStatus::Timeout => "MTAPI_TIMEOUT",
@@ -302,6 +309,13 @@ impl MrapiStatus {
     pub fn name(self) -> &'static str
         ensures value { result.now ≡ mrapi_name self }
         ensures alone { (other : MrapiStatus) → mrapi_name other ≡ result.now → other ≡ self }
+    {
+        self.text()
+    }
+
+    // The same, by its table.
+    fn text(self) -> &'static str
+        ensures { result.now ≡ mrapi_name self }
     {
         match self {
             MrapiStatus::Success => "MRAPI_SUCCESS",

@@ -21,6 +21,6 @@ fn a_disabled_queue_that_does_not_retain(rt: HostRuntime) -> Result<(), Fail> {
     let Ok(()) = queues.disable(q) else {
         return Err("not disabled")?;
     };
-    assert_eq!(rt; queues.put(q, FIRST), Err(MtapiStatus::ErrQueueDisabled));
+    assert!(rt; queues.put(q, FIRST) == Err(MtapiStatus::ErrQueueDisabled));
     Ok(())
 }

@@ -56,14 +56,14 @@ fn the_least_priority_is_found(rt: HostRuntime) -> Result<(), Fail> {
     let mut index = ReadyIndex::new(rt.alloc(), 8, 2, 4)?;
     index.mark(5, 2, mask_of(&[0, 1]));
     index.mark(3, 1, mask_of(&[1]));
-    assert_eq!(rt; index.first_for(0), Some((2, 5)));
-    assert_eq!(rt; index.first_for(1), Some((1, 3)));
+    assert!(rt; index.first_for(0) == Some((2, 5)));
+    assert!(rt; index.first_for(1) == Some((1, 3)));
     index.unmark(3);
-    assert_eq!(rt; index.first_for(1), Some((2, 5)));
+    assert!(rt; index.first_for(1) == Some((2, 5)));
     assert!(rt; index.is_marked(5) && !index.is_marked(3));
     index.unmark(5);
-    assert_eq!(rt; index.first_for(0), None);
-    assert_eq!(rt; index.first_for(1), None);
+    assert!(rt; index.first_for(0) == None);
+    assert!(rt; index.first_for(1) == None);
     Ok(())
 }
 
@@ -71,13 +71,13 @@ fn the_least_priority_is_found(rt: HostRuntime) -> Result<(), Fail> {
 fn the_last_slot_of_a_full_index_is_found(rt: HostRuntime) -> Result<(), Fail> {
     let mut index = ReadyIndex::new(rt.alloc(), 65536, 16, 8)?;
     index.mark(65535, 7, mask_of(&[15]));
-    assert_eq!(rt; first_within_24(&index, 15), Some((7, 65535)));
-    assert_eq!(rt; first_within_24(&index, 14), None);
+    assert!(rt; first_within_24(&index, 15) == Some((7, 65535)));
+    assert!(rt; first_within_24(&index, 14) == None);
     index.mark(64, 7, mask_of(&[15]));
     index.mark(4096, 6, mask_of(&[14, 15]));
-    assert_eq!(rt; index.first_for(15), Some((6, 4096)));
+    assert!(rt; index.first_for(15) == Some((6, 4096)));
     index.unmark(4096);
-    assert_eq!(rt; index.first_for(15), Some((7, 64)));
-    assert_eq!(rt; index.first_for(14), None);
+    assert!(rt; index.first_for(15) == Some((7, 64)));
+    assert!(rt; index.first_for(14) == None);
     Ok(())
 }

@@ -47,13 +47,13 @@ fn is_status(look: TaskLook, status: MtapiStatus) -> bool {
 fn a_watch_that_is_cancelled(rt: HostRuntime) -> Result<(), Fail> {
     let mut tasks = Tasks::new(rt.alloc(), 1, 5)?;
     let h = tasks.add(watch()).ok().ok_or("full")?;
-    assert_eq!(rt; tasks.add(watch()).err(), Some(MtapiStatus::ErrTaskLimit));
-    assert_eq!(rt; tasks.asked(h, 0), Err(MtapiStatus::ErrTaskInvalid));
+    assert!(rt; tasks.add(watch()).err() == Some(MtapiStatus::ErrTaskLimit));
+    assert!(rt; tasks.asked(h, 0) == Err(MtapiStatus::ErrTaskInvalid));
     begin(&mut tasks, h);
     request(&mut tasks, h);
-    assert_eq!(rt; tasks.asked(h, 1), Err(MtapiStatus::ErrTaskInvalid));
-    assert_eq!(rt; tasks.asked(h, 0), Ok(true));
-    assert_eq!(rt; tasks.asked(h, 0), Err(MtapiStatus::ErrParameter));
+    assert!(rt; tasks.asked(h, 1) == Err(MtapiStatus::ErrTaskInvalid));
+    assert!(rt; tasks.asked(h, 0) == Ok(true));
+    assert!(rt; tasks.asked(h, 0) == Err(MtapiStatus::ErrParameter));
     assert!(rt; matches!(tasks.watch_end(h, 0), Ok(TaskEnd::Cancelled)));
     end(&mut tasks, h, TaskEnd::Cancelled);
     assert!(rt; matches!(tasks.look(h, 1, false), TaskLook::Ended(TaskEnd::Cancelled)));

@@ -1,0 +1,11 @@
+-- `==` of ops says whether the two are equal, but for what a worker hands in.
+use Rattle.std.proofs.Common.{◌≡◌, Bool, sym, subst}
+use Rattle.std.specs.Bool.{Decides}
+use Rattle.mtapi_machine.proofs.Equal.{op_decides, no_finish}
+use Rattle.run_check.proofs.asked.same_op.Goals as goal
+
+pub returns-in_default : goal.returns-in_default
+returns-in_default c =
+    let d : Decides c.eq.result (c.args.op.now ≡ c.args.asked.now) =
+        subst (λ (b : Bool). Decides b (c.args.op.now ≡ c.args.asked.now)) (sym c.eq.ensures) (op_decides c.args.op.now c.args.asked.now (no_finish c.args.asked.now c.in_default.not-Finish)) in
+    record { same = d.0; other = λ stated e. d.1 e }
