@@ -1,66 +1,27 @@
 -- Every task that was accepted ends once.
-use Rattle.history_law.proofs.Names.{◌≡◌, ℕ, ◌≤◌, Bool, true, false, List, [], ◌∷◌, ◌++◌, Option, Some, None, refl, sym, ◌∙◌, ap, subst, arith, ◌&&◌, not, IsSome, MatchBool, append-nil, TaskEnd, all_marked, Terms, Op, Reply, Ok, Handle, Mtapi, entry, live_object, listed, NewTask, new_task, State, opening, workers, is_past_open, Move, starts_task, after_moves, Row, unless, gives, never, Allows, only, live, moves_of, after_row, row, asked_for, asked_of, NodeEntry, IsNext, next, LegalFrom, Legal, after_from, after, Legal-rest, after-append, AllGives, on_only, on_live, after_grows, end_at, accepted_by, accepted, TasksEndOnce, snd_true}
-use Rattle.mtapi_values.specs.declared.statuses.MtapiStatus.TheVariants as m
+use Rattle.history_law.proofs.Names.{◌≡◌, ℕ, ◌≤◌, true, false, List, [], ◌∷◌, ◌++◌, Option, Some, None, refl, sym, ◌∙◌, ap, subst, arith, IsSome, append-nil, TaskEnd, all_marked, Terms, Op, Reply, Ok, Handle, entry, listed, State, opening, workers, Move, starts_task, after_moves, Allows, after_row, row, asked_for, asked_of, NodeEntry, IsNext, next, LegalFrom, Legal, after_from, after, Legal-rest, after-append, after_grows, end_at, accepted_by, accepted, TasksEndOnce, some_same}
 use Rattle.mtapi_machine.specs.declared.ops.Op.TheVariants as op
 use Rattle.history_law.proofs.Held.{AllEnded, all_first}
 use Rattle.history_law.proofs.Moves.{Stands, after_stands, Stopped, after_stopped, none_listed}
 use Rattle.history_law.proofs.Ends.{grows_listed, all_end, end_later}
 use Rattle.history_law.proofs.lists.Handles.{some_issued}
-use Rattle.history_law.proofs.Answered.{true_false}
+use Rattle.mtapi_machine.specs.Answers.{Answers}
+use Rattle.mtapi_machine.specs.Answers as is
+use Rattle.mtapi_machine.proofs.Answered.{answered}
 
 -- The entry that accepts a task lists it
-
-abbrev pub is_handle : Reply → Bool
-is_handle (Handle h) = true
-is_handle _ = false
-
--- no refusal of the row is a handle
-abbrev pub RefusesAll : Row → Type 0
-RefusesAll (unless c x w) = (is_handle x ≡ false) × RefusesAll w
-RefusesAll (gives x ms) = Unit {0}
-RefusesAll never = Unit {0}
-
-pub no_handle : (h : ℕ) (x : Reply) → is_handle x ≡ false → Handle h ≡ x → ⊥
-no_handle h x n e = true_false refl (ap is_handle e ∙ n)
-
--- what holds of the moves that the row gives with a handle holds after one
-pub granted : (P : List Move → Type 0) (w : Row) (h : ℕ) → RefusesAll w → AllGives (λ x ms. Handle h ≡ x → P ms) w → Allows w (Handle h) → P (moves_of w)
-granted P (unless true x w) h n g a = absurd (no_handle h x n.0 a)
-granted P (unless false x w) h n g a = granted P w h n.1 (g refl) a
-granted P (gives x ms) h n g a = g a
-granted P never h n g a = absurd a
-
-pub refuses_live : {T : Type 0} (x : Option T) (v : Row) (w : T → Row) → RefusesAll v → ((t : T) → RefusesAll (w t)) → RefusesAll (live x v w)
-refuses_live None v w g h = g
-refuses_live (Some t) v w g h = h t
-
-pub refuses_only : (b : Bool) (x : Reply) (ms : List Move) → RefusesAll (only b (gives x ms))
-refuses_only true x ms = tt
-refuses_only false x ms = tt
 
 abbrev Lists : ℕ → State → Type 0
 Lists h s = 1 ≤ listed h s.tasks
 
--- the moves of a row that answers with this handle
-abbrev ListsBy : State → ℕ → Reply → List Move → Type 0
-ListsBy s k x ms = Handle k ≡ x → Lists k (after_moves ms s)
-
-on_create : (s : State) (k : ℕ) (b : Bool) (t : NewTask) → AllGives (ListsBy s k) (only b (gives (Handle k) (starts_task k t ∷ [])))
-on_create s k b t = on_only (ListsBy s k) b (Handle k) (starts_task k t ∷ []) (λ m i. some_issued k (new_task t s.starts) s.tasks)
+lists_by : (s : State) (who : ℕ) (o : Op) (k : ℕ) (ms : List Move) (h : ℕ) → accepted_by o (Handle k) ≡ Some h → Answers s who o (Handle k) ms → Lists h (after_moves ms s)
+lists_by s who _ _ _ h e (is.starts job args priority cores detached group k f) = subst (λ (j : ℕ). Lists j (after_moves (starts_task k (asked_for job args priority cores detached group) ∷ []) s)) (some_same e) (some_issued k _ s.tasks)
+lists_by s who _ _ _ h e (is.enqueues q args cores detached group k x d p f n) = subst (λ (j : ℕ). Lists j (after_moves (starts_task k (asked_of q.0 x args cores detached group) ∷ []) s)) (some_same e) (some_issued k _ s.tasks)
+lists_by s who _ _ _ h e _ = absurd (cc)
 
 start_lists : (s : State) (who : ℕ) (o : Op) (r : Reply) (h : ℕ) → accepted_by o r ≡ Some h → Allows (row s who o r) r → Lists h (after_row s (row s who o r))
-start_lists s who (op.TaskStart job args priority cores detached group) (Handle k) h e a =
-    let same : k ≡ h = cc in
-    subst (λ (j : ℕ). Lists j (after_row s (row s who (op.TaskStart job args priority cores detached group) (Handle k)))) same
-    (granted (λ ms. Lists k (after_moves ms s)) (row s who (op.TaskStart job args priority cores detached group) (Handle k)) k
-    (refl, (refl, (refl, (refl, (refl, (refl, (refl, refuses_only _ _ _)))))))
-    (λ c0 c1 c2 c3 c4 c5 c6. on_create s k _ (asked_for job args priority cores detached group)) a)
-start_lists s who (op.TaskEnqueue q args cores detached group) (Handle k) h e a =
-    let same : k ≡ h = cc in
-    subst (λ (j : ℕ). Lists j (after_row s (row s who (op.TaskEnqueue q args cores detached group) (Handle k)))) same
-    (granted (λ ms. Lists k (after_moves ms s)) (row s who (op.TaskEnqueue q args cores detached group) (Handle k)) k
-    (refl, (refl, refuses_live (live_object s.queues q.0) _ _ tt (λ x. (refl, (refl, (refl, (refl, (refl, (refl, (refl, refuses_only _ _ _))))))))))
-    (λ c d. on_live (ListsBy s k) (live_object s.queues q.0) _ _ (λ i. absurd (no_handle k (Mtapi m.ErrQueueInvalid) refl i)) (λ x f c0 c1 c2 c3 c4 c5 c6. on_create s k _ (asked_of q.0 x args cores detached group))) a)
+start_lists s who o (Handle k) h e a = lists_by s who o k _ h e (answered s who o (Handle k) a)
+start_lists s who (op.TaskStart job args priority cores detached group) _ h e a = absurd (cc)
 start_lists s who _ _ h e a = absurd (cc)
 
 next_lists : (s : State) (e : NodeEntry) (h : ℕ) → IsNext s e → accepted e ≡ Some h → Lists h (next s e)
@@ -68,20 +29,11 @@ next_lists s e h n i = start_lists s e.who e.op e.reply h i n.allowed
 
 -- After the final step every task has ended
 
-abbrev is_ok : Reply → Bool
-is_ok Ok = true
-is_ok _ = false
-
-not_ok : (x : Reply) → is_ok x ≡ false → Ok ≡ x → ⊥
-not_ok x n e = true_false refl (ap is_ok e ∙ n)
-
-final_reads : (a b : Bool) (x y : Reply) (X : Type 0) → is_ok x ≡ false → is_ok y ≡ false → MatchBool (not a) (Ok ≡ x) (MatchBool (not b) (Ok ≡ y) X) → b ≡ true
-final_reads a true x y X n m k = refl
-final_reads true false x y X n m k = absurd (not_ok y m k)
-final_reads false false x y X n m k = absurd (not_ok x n k)
+marked_by : (s : State) (main : ℕ) (ms : List Move) → Answers s main op.Final Ok ms → all_marked (workers s) s.stopped ≡ true
+marked_by s main _ (is.finals_node a b) = b
 
 pub final_marked : (s : State) (main : ℕ) → IsNext s (entry main op.Final Ok) → all_marked (workers s) s.stopped ≡ true
-final_marked s main n = snd_true (is_past_open s.phase) _ (final_reads _ (is_past_open s.phase && all_marked (workers s) s.stopped) _ _ _ refl refl n.allowed)
+final_marked s main n = marked_by s main _ (answered s main op.Final Ok n.allowed)
 
 final_stopped : (terms : Terms) (s : State) (main : ℕ) → 1 ≤ terms.settings.workers → s.terms ≡ terms → IsNext s (entry main op.Final Ok) → Stopped s
 final_stopped terms s main w same n =

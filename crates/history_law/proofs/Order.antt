@@ -1,8 +1,6 @@
 -- A group gives its members in the order of their ends.
-use Rattle.history_law.proofs.Names.{◌≡◌, ℕ, ◌+◌, ◌≤◌, ◌<◌, Bool, true, false, cond, List, [], ◌∷◌, ◌++◌, Option, Some, None, ◌⊎◌, inl, inr, refl, sym, ◌∙◌, ap, subst, arith, ◌==◌, ◌&&◌, nat_lt, is_some, eqb-true, eq-eqb, cond_both, nat_tests, holds, TaskEnd, Failed, TaskHandle, GroupHandle, Listed, live_of, live_object, listed, change, change_all, issue, with_fields, gone, Task, Notes, TaskState, Scheduled, Running, Ended, end_of, with_state, with_notes, ended, end_each, new_task, is_member, Ending, insert, insert_ended, endings, in_no_group, freed, let_go, Terms, Op, Reply, Given, Pending, Mtapi, State, opening, Move, starts_task, runs_task, ends_task, ends_waiting, withdraws, notes, leaves, frees_members, lets_members_go, apply, after_moves, never, Allows, moves_of, row, gives_end, gives_first, NodeEntry, IsNext, next, LegalFrom, Legal, after_from, after, Grows, Legal-front, Legal-rest, after-append, AllGives, on_live, fst_true, snd_true, rest_keeps, after_grows, looks_for_any, is_given, number_at, EndedBefore, GivenInOrder, some_same}
-use Rattle.mtapi_values.specs.declared.statuses.MtapiStatus.TheVariants as m
+use Rattle.history_law.proofs.Names.{◌≡◌, ℕ, ◌+◌, ◌≤◌, ◌<◌, Bool, true, false, cond, List, [], ◌∷◌, ◌++◌, Option, Some, None, ◌⊎◌, inl, inr, refl, sym, ◌∙◌, ap, subst, arith, ◌==◌, ◌&&◌, nat_lt, is_some, eqb-true, eq-eqb, cond_both, nat_tests, holds, TaskEnd, Failed, Listed, live_of, live_object, listed, change, change_all, issue, with_fields, gone, Task, Notes, TaskState, Scheduled, Running, Ended, end_of, with_state, with_notes, ended, end_each, new_task, is_member, Ending, insert, insert_ended, endings, in_no_group, freed, let_go, Terms, Op, Reply, State, opening, Move, starts_task, runs_task, ends_task, ends_waiting, withdraws, notes, leaves, frees_members, lets_members_go, apply, after_moves, moves_of, row, NodeEntry, IsNext, next, LegalFrom, Legal, after_from, after, Grows, Legal-front, Legal-rest, after-append, fst_true, snd_true, rest_keeps, after_grows, looks_for_any, is_given, number_at, EndedBefore, GivenInOrder, some_same}
 use Rattle.mtapi_values.specs.declared.handles.ObjectKind.TheVariants as kind
-use Rattle.mtapi_machine.specs.declared.ops.Op.TheVariants as op
 use Rattle.history_law.specs.Order.{gives as gives_task, number_in}
 use Rattle.history_law.proofs.Moves.{once_from}
 use Rattle.history_law.proofs.lists.Handles.{OnceIn, once_same, listed_change}
@@ -13,7 +11,10 @@ use Rattle.history_law.proofs.SeatMoves.{Noted, May, by_moves}
 use Rattle.history_law.proofs.Ages.{dead_none, none_dead, live_listed}
 use Rattle.history_law.proofs.lists.AtHandles.{at_retired}
 use Rattle.history_law.proofs.Reuse.{Gone, stays_gone}
-use Rattle.history_law.proofs.Answered.{true_false, NoRefusal, answered_by, no_live, none_some, on_test}
+use Rattle.history_law.proofs.Answered.{true_false, none_some, on_test}
+use Rattle.mtapi_machine.specs.Answers.{Answers}
+use Rattle.mtapi_machine.specs.Answers as is
+use Rattle.mtapi_machine.proofs.Answered.{answered}
 use Rattle.history_law.proofs.lists.Found.{at_head, at_here, at_past}
 
 -- Sorted endings
@@ -58,11 +59,6 @@ all_inserted P e (f ∷ fs) a = by_test (nat_lt e.number f.number) a (all_insert
 
 -- What a Given had to find
 
--- no refusal of the row is a Given
-abbrev given_any : Reply → Bool
-given_any (Given t e) = true
-given_any _ = false
-
 -- the task had ended, with the least number among the ended members, and it leaves
 pub record Gave (s : State) (g h : ℕ) (ms : List Move) : Type 0 where
   pub task : Task
@@ -74,25 +70,6 @@ pub record Gave (s : State) (g h : ℕ) (ms : List Move) : Type 0 where
   pub least : AllOf (FromNumber number) (endings g (live_of s.tasks))
   pub moves : ms ≡ notes h in_no_group ∷ leaves h ∷ []
 
-abbrev GaveTo : State → ℕ → Reply → List Move → Type 0
-GaveTo s g (Given t e) ms = Gave s g t.0 ms
-GaveTo s g _ ms = Unit {0}
-
-end_no : (h : ℕ) (x : TaskState) → NoRefusal given_any (gives_end h x)
-end_no h Scheduled = tt
-end_no h (Running w k) = tt
-end_no h (Ended e n) = tt
-
-first_no : (s : State) (last : Bool) (es : List Ending) → NoRefusal given_any (gives_first s last es)
-first_no s last [] = tt
-first_no s last (e ∷ es) = no_live given_any (live_object s.tasks e.task) never _ tt (λ x. end_no e.task x.state)
-
-end_gave : (s : State) (g h : ℕ) (x : Task) (y : TaskState) → live_object s.tasks h ≡ Some x → x.state ≡ y → is_member g x ≡ true → ((e : TaskEnd) (n : ℕ) → y ≡ Ended e n → AllOf (FromNumber n) (endings g (live_of s.tasks)))
-    → AllGives (λ r ms. given_any r ≡ true → GaveTo s g r ms) (gives_end h y)
-end_gave s g h x Scheduled f e m l = tt
-end_gave s g h x (Running w k) f e m l = tt
-end_gave s g h x (Ended z n) f e m l = λ i. record { task = x; end = z; number = n; found = f; over = e; member = m; least = l z n refl; moves = refl }
-
 number_told : ℕ → Option (TaskEnd × ℕ) → ℕ
 number_told k None = k
 number_told k (Some p) = p.1
@@ -101,34 +78,20 @@ same_number : (x : TaskState) (e z : TaskEnd) (k n : ℕ) → end_of x ≡ Some 
 unfolding number_told
 same_number x e z k n i o = ap (number_told k) (sym i ∙ ap end_of o)
 
-not_late : (last : Bool) (c : _) → given_any (cond last (Mtapi c) Pending) ≡ false
-not_late true c = refl
-not_late false c = refl
-
-first_gave : (s : State) (g : ℕ) (last : Bool) (es : List Ending) → es ≡ endings g (live_of s.tasks) → AllOf (IsEnding g s.tasks) es → Sorted es → AllGives (λ r ms. given_any r ≡ true → GaveTo s g r ms) (gives_first s last es)
-first_gave s g last [] q a o = λ i. true_false i (not_late last m.Timeout)
-first_gave s g last (e ∷ es) q a o =
-    on_live (λ r ms. given_any r ≡ true → GaveTo s g r ms) (live_object s.tasks e.task) never _ tt (λ x f. end_gave s g e.task x x.state f refl (a.0.member x f)
-    (λ z n i.
-    let k : e.number ≡ n = same_number x.state e.end z e.number n (a.0.ended x f) i in
-    let here : e.number ≤ e.number = omega arith in
-    subst (λ (j : ℕ). AllOf (FromNumber j) (endings g (live_of s.tasks))) k (subst (AllOf (FromNumber e.number)) q (here, o.0))))
-
-gave_row : (s : State) (who : ℕ) (g : GroupHandle) (last : Bool) (t : TaskHandle) (e : TaskEnd) → OnceIn s.tasks → Allows (row s who (op.AnyLook g last) (Given t e)) (Given t e) → Gave s g.0 t.0 (moves_of (row s who (op.AnyLook g last) (Given t e)))
-gave_row s who g last t e o a =
-    answered_by given_any (GaveTo s g.0) (row s who (op.AnyLook g last) (Given t e)) (Given t e) refl
-    (refl, no_live given_any (live_object s.groups g.0) _ _ tt (λ x. (refl, first_no s last (endings g.0 (live_of s.tasks)))))
-    (λ c. on_live (λ r ms. given_any r ≡ true → GaveTo s g.0 r ms) (live_object s.groups g.0) _ _ (λ i. true_false i refl) (λ x f d. first_gave s g.0 last (endings g.0 (live_of s.tasks)) refl (all_endings g.0 s.tasks o) (sorted_endings g.0 (live_of s.tasks)))) a
-
-gave_as : (s : State) (who : ℕ) (o : Op) (r : Reply) (g h : ℕ) → looks_for_any g o ≡ true → is_given h r ≡ true → OnceIn s.tasks → Allows (row s who o r) r → Gave s g h (moves_of (row s who o r))
-gave_as s who (op.AnyLook x last) (Given t e) g h i j o a =
-    subst (λ (k : ℕ). Gave s k h (moves_of (row s who (op.AnyLook x last) (Given t e)))) (eqb-true x.0 g i)
-    (subst (λ (k : ℕ). Gave s x.0 k (moves_of (row s who (op.AnyLook x last) (Given t e)))) (eqb-true t.0 h j) (gave_row s who x last t e o a))
-gave_as s who (op.AnyLook x last) _ g h i j o a = true_false j refl
-gave_as s who _ r g h i j o a = true_false i refl
+gave_by : (s : State) (who g h : ℕ) (o : Op) (r : Reply) (ms : List Move) → looks_for_any g o ≡ true → is_given h r ≡ true → OnceIn s.tasks → Answers s who o r ms → Gave s g h ms
+gave_by s who g h _ _ _ i j o (is.any_given x last v y ys t e n a b f d) =
+    let all : AllOf (IsEnding x.0 s.tasks) (y ∷ ys) = subst (AllOf (IsEnding x.0 s.tasks)) b (all_endings x.0 s.tasks o) in
+    let sorted : Sorted (y ∷ ys) = subst Sorted b (sorted_endings x.0 (live_of s.tasks)) in
+    let here : y.number ≤ y.number = omega arith in
+    let k : y.number ≡ n = same_number t.state y.end e y.number n (all.0.ended t f) d in
+    let least : AllOf (FromNumber n) (endings x.0 (live_of s.tasks)) = subst (λ (z : ℕ). AllOf (FromNumber z) (endings x.0 (live_of s.tasks))) k (subst (AllOf (FromNumber y.number)) (sym b) (here, sorted.0)) in
+    subst (λ (z : ℕ). Gave s z h (notes y.task in_no_group ∷ leaves y.task ∷ [])) (eqb-true x.0 g i)
+    (subst (λ (z : ℕ). Gave s x.0 z (notes y.task in_no_group ∷ leaves y.task ∷ [])) (eqb-true y.task h j)
+    (record { task = t; end = e; number = n; found = f; over = d; member = all.0.member t f; least = least; moves = refl }))
+gave_by s who g h _ _ _ i j o _ = true_false j refl
 
 gave : (s : State) (e : NodeEntry) (g h : ℕ) → OnceIn s.tasks → IsNext s e → gives_task g h e ≡ true → Gave s g h (moves_of (row s e.who e.op e.reply))
-gave s e g h o n i = gave_as s e.who e.op e.reply g h (fst_true (looks_for_any g e.op) _ i) (snd_true (looks_for_any g e.op) _ i) o n.allowed
+gave s e g h o n i = gave_by s e.who g h e.op e.reply _ (fst_true (looks_for_any g e.op) _ i) (snd_true (looks_for_any g e.op) _ i) o (answered s e.who e.op e.reply n.allowed)
 
 -- The members that are left have numbers from this one on
 

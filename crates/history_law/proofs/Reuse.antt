@@ -1,10 +1,10 @@
 -- No handle is used again, and in layout two none names objects of two kinds.
-use Rattle.history_law.proofs.Names.{◌≡◌, ℕ, ◌+◌, ◌≤◌, Bool, true, false, cond, List, [], ◌∷◌, ◌++◌, refl, sym, ◌∙◌, ap, subst, arith, ◌==◌, eqb-true, eq-eqb, false_from_ne_true, true_from_ne_false, ObjectKind, Layout, Two, object_number, named_kind, names_kind, Terms, Op, Reply, Handle, Mtapi, Listed, live_object, listed, may_issue, issue, Objects, FieldsOf, objects_of, State, opening, Move, is_fresh, apply, Row, gives, Allows, only, live, after_row, row, NodeEntry, IsNext, next, LegalFrom, Legal, after_from, after, IsMade, Legal-front, Legal-rest, after-append, AllGives, on_only, on_live, fst_true, snd_true, own_kind, at_opening, along, by_moves, rest_keeps, some_entry, times, is_live, is_handle, issues, NeverAgain, NotInBoth, released}
+use Rattle.history_law.proofs.Names.{◌≡◌, ℕ, ◌+◌, ◌≤◌, Bool, true, false, cond, List, [], ◌∷◌, ◌++◌, refl, sym, ◌∙◌, ap, subst, arith, ◌==◌, eqb-true, eq-eqb, false_from_ne_true, true_from_ne_false, ObjectKind, Layout, Two, object_number, named_kind, names_kind, Terms, Op, Reply, Handle, Listed, listed, may_issue, issue, Objects, FieldsOf, objects_of, State, opening, Move, is_fresh, apply, Allows, live, after_row, row, NodeEntry, IsNext, next, LegalFrom, Legal, after_from, after, IsMade, Legal-front, Legal-rest, after-append, fst_true, snd_true, own_kind, at_opening, along, by_moves, rest_keeps, some_entry, times, is_live, is_handle, issues, NeverAgain, NotInBoth, released}
 use Rattle.mtapi_values.specs.declared.handles.ObjectKind.TheVariants as kind
-use Rattle.mtapi_values.specs.declared.statuses.MtapiStatus.TheVariants as m
-use Rattle.mtapi_machine.specs.declared.ops.Op.TheVariants as op
 use Rattle.history_law.specs.Words.{makes as makes_kind}
-use Rattle.history_law.proofs.Accepted.{granted, refuses_only, refuses_live, no_handle}
+use Rattle.mtapi_machine.specs.Answers.{Answers}
+use Rattle.mtapi_machine.specs.Answers as is
+use Rattle.mtapi_machine.proofs.Answered.{answered}
 use Rattle.history_law.proofs.Ages.{SameFields, kind_move, listed_ages, Dead, dead_ages, dead_issue, dead_none, none_dead, live_listed}
 use Rattle.history_law.proofs.Answered.{true_false, none_first, on_test}
 
@@ -54,41 +54,20 @@ gone_move k h s o m e v =
 
 -- An entry that issues a handle finds it unlisted
 
-abbrev FreshBy : ObjectKind → State → ℕ → Row → Type 0
-FreshBy k s h w = AllGives (λ x ms. Handle h ≡ x → is_fresh (objects_of k) s h ≡ true) w
-
-fresh_only : (k : ObjectKind) (s : State) (h : ℕ) (ms : _) → FreshBy k s h (only (is_fresh (objects_of k) s h) (gives (Handle h) ms))
-fresh_only k s h ms = on_only (λ x ns. Handle h ≡ x → is_fresh (objects_of k) s h ≡ true) (is_fresh (objects_of k) s h) (Handle h) ms (λ e i. e)
+fresh_by : (k : ObjectKind) (s : State) (who : ℕ) (o : Op) (h : ℕ) (ms : List Move) → makes_kind k o ≡ true → Answers s who o (Handle h) ms → is_fresh (objects_of k) s h ≡ true
+fresh_by kind.Action s who _ _ _ e (is.creates_action job x cores h f) = f
+fresh_by kind.Task s who _ _ _ e (is.starts job args priority cores detached group h f) = f.fresh
+fresh_by kind.Task s who _ _ _ e (is.enqueues q args cores detached group h x d p f n) = f.fresh
+fresh_by kind.Group s who _ _ _ e (is.creates_group h f) = f
+fresh_by kind.Queue s who _ _ _ e (is.creates_queue id job priority limit ordered retain h n f) = f
+fresh_by kind.Mutex s who _ _ _ e (is.creates_mutex id recursive h n f) = f
+fresh_by kind.Sem s who _ _ _ e (is.creates_sem id limit h n f) = f
+fresh_by kind.Rwl s who _ _ _ e (is.creates_rwl id limit h n f) = f
+fresh_by kind.Shmem s who _ _ _ e (is.creates_segment id cells h n f) = f
+fresh_by _ s who _ _ _ e _ = true_false e refl
 
 issue_fresh : (k : ObjectKind) (s : State) (who : ℕ) (o : Op) (h : ℕ) → makes_kind k o ≡ true → Allows (row s who o (Handle h)) (Handle h) → is_fresh (objects_of k) s h ≡ true
-issue_fresh kind.Action s who (op.ActionCreate job x cores) h e a =
-    granted (λ ms. is_fresh (objects_of kind.Action) s h ≡ true) (row s who (op.ActionCreate job x cores) (Handle h)) h
-    (refl, (refl, (refl, refuses_only _ _ _))) (λ c0 c1 c2. fresh_only kind.Action s h _) a
-issue_fresh kind.Task s who (op.TaskStart job args priority cores detached group) h e a =
-    granted (λ ms. is_fresh (objects_of kind.Task) s h ≡ true) (row s who (op.TaskStart job args priority cores detached group) (Handle h)) h
-    (refl, (refl, (refl, (refl, (refl, (refl, (refl, refuses_only _ _ _))))))) (λ c0 c1 c2 c3 c4 c5 c6. fresh_only kind.Task s h _) a
-issue_fresh kind.Task s who (op.TaskEnqueue q args cores detached group) h e a =
-    granted (λ ms. is_fresh (objects_of kind.Task) s h ≡ true) (row s who (op.TaskEnqueue q args cores detached group) (Handle h)) h
-    (refl, (refl, refuses_live (live_object s.queues q.0) _ _ tt (λ x. (refl, (refl, (refl, (refl, (refl, (refl, (refl, refuses_only _ _ _))))))))))
-    (λ c d. on_live (λ x ms. Handle h ≡ x → is_fresh (objects_of kind.Task) s h ≡ true) (live_object s.queues q.0) _ _ (λ i. absurd (no_handle h (Mtapi m.ErrQueueInvalid) refl i)) (λ x f c0 c1 c2 c3 c4 c5 c6. fresh_only kind.Task s h _)) a
-issue_fresh kind.Group s who op.GroupCreate h e a =
-    granted (λ ms. is_fresh (objects_of kind.Group) s h ≡ true) (row s who op.GroupCreate (Handle h)) h (refl, (refl, refuses_only _ _ _)) (λ c d. fresh_only kind.Group s h _) a
-issue_fresh kind.Queue s who (op.QueueCreate id job priority limit ordered retain) h e a =
-    granted (λ ms. is_fresh (objects_of kind.Queue) s h ≡ true) (row s who (op.QueueCreate id job priority limit ordered retain) (Handle h)) h
-    (refl, (refl, (refl, (refl, (refl, refuses_only _ _ _))))) (λ c0 c1 c2 c3 c4. fresh_only kind.Queue s h _) a
-issue_fresh kind.Mutex s who (op.MutexCreate id recursive) h e a =
-    granted (λ ms. is_fresh (objects_of kind.Mutex) s h ≡ true) (row s who (op.MutexCreate id recursive) (Handle h)) h
-    (refl, (refl, (refl, (refl, refuses_only _ _ _)))) (λ c0 c1 c2 c3. fresh_only kind.Mutex s h _) a
-issue_fresh kind.Sem s who (op.SemCreate id limit) h e a =
-    granted (λ ms. is_fresh (objects_of kind.Sem) s h ≡ true) (row s who (op.SemCreate id limit) (Handle h)) h
-    (refl, (refl, (refl, (refl, (refl, refuses_only _ _ _))))) (λ c0 c1 c2 c3 c4. fresh_only kind.Sem s h _) a
-issue_fresh kind.Rwl s who (op.RwlCreate id limit) h e a =
-    granted (λ ms. is_fresh (objects_of kind.Rwl) s h ≡ true) (row s who (op.RwlCreate id limit) (Handle h)) h
-    (refl, (refl, (refl, (refl, (refl, refuses_only _ _ _))))) (λ c0 c1 c2 c3 c4. fresh_only kind.Rwl s h _) a
-issue_fresh kind.Shmem s who (op.ShmemCreate id cells) h e a =
-    granted (λ ms. is_fresh (objects_of kind.Shmem) s h ≡ true) (row s who (op.ShmemCreate id cells) (Handle h)) h
-    (refl, (refl, (refl, (refl, (refl, refuses_only _ _ _))))) (λ c0 c1 c2 c3 c4. fresh_only kind.Shmem s h _) a
-issue_fresh _ s who _ h e a = true_false e refl
+issue_fresh k s who o h e a = fresh_by k s who o h _ e (answered s who o (Handle h) a)
 
 is_this : (h : ℕ) (r : Reply) → is_handle h r ≡ true → r ≡ Handle h
 is_this h (Handle g) e = ap Handle (eqb-true g h e)

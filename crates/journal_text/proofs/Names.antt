@@ -17,7 +17,7 @@ pub use Rattle.mtapi_values.specs.{Attributes.AreNodeSettings, Attributes.NodeSe
 pub use Rattle.mtapi_values.specs.{Layouts.named_kind, Layouts.object_number, declared.handles.Layout.TheVariants.One, declared.handles.Layout.TheVariants.Two}
 pub use Rattle.mtapi_values.specs.{Statuses.mrapi_name, Statuses.mtapi_name, declared.ends.TaskEnd.TaskEnd, declared.handles.Layout.Layout}
 pub use Rattle.mtapi_values.specs.{declared.handles.ObjectKind.ObjectKind, declared.statuses.MrapiStatus.MrapiStatus, declared.statuses.MtapiStatus.MtapiStatus}
-pub use Rattle.node_core.specs.{Journals.KeptEntries, declared.entries.Journal.Journal}
+pub use Rattle.node_journals.specs.{Journals.KeptEntries, declared.entries.Journal.Journal}
 pub use Rattle.number_text.proofs.{Parsing.own, Reading.bind_some, Writing.list_written, Writing.number_written, Writing.whole_written, Writing.within_written}
 pub use Rattle.number_text.proofs.{Pieces.joined, Pieces.led_append, Slices.first_rest, Slices.rest_of}
 pub use Rattle.number_text.specs.Lists.{between, led, list_text, pieces_of}

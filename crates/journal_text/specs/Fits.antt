@@ -3,7 +3,7 @@ use Rattle.std.specs.Prelude.{◌≡◌, ℕ, ℤ, ◌+◌, ◌<◌, ◌≤◌, 
 use Rattle.std.specs.{List.AllByRecursion, Int.w64}
 use Rattle.mtapi_values.specs.{Attributes.AreNodeSettings, declared.ends.TaskEnd.TaskEnd}
 use Rattle.mtapi_machine.specs.Legal.{NodeEntry, IsHonest}
-use Rattle.node_core.specs.declared.entries.Journal.{Journal}
+use Rattle.node_journals.specs.declared.entries.Journal.{Journal}
 use Rattle.journal_text.specs.{declared.heads.Head.Head, declared.values.Value.Value, Ops.op_spelled, Replies.reply_spelled}
 use Rattle.journal_text.specs.{Lines.has_words, Journals.head_for}
 

@@ -2,7 +2,7 @@
 use Rattle.std.specs.Prelude.{◌≡◌, ℕ, ◌+◌, ◌≤◌, ◌<◌, List, [], ◌∷◌, ◌++◌, length, drop, Option, Some, None, Result, Ok, Err, IfSome}
 use Rattle.std.specs.Io.KnownBytes.{IsAtEnd}
 use Rattle.mtapi_machine.specs.Legal.{NodeEntry}
-use Rattle.node_core.specs.{Journals.KeptEntries, declared.entries.Journal.Journal}
+use Rattle.node_journals.specs.{Journals.KeptEntries, declared.entries.Journal.Journal}
 use Rattle.number_text.specs.Lists.{between}
 use Rattle.journal_text.specs.{declared.heads.Head.Head, declared.faults.TextError.TextError, declared.faults.JournalError.JournalError}
 use Rattle.journal_text.specs.{Heads.head_text, Heads.head_of, Lines.entry_text, Lines.entry_of}

@@ -12,7 +12,7 @@ use crate::heads::{Head, head_of, push_head};
 use crate::lines::{entry_of, push_entry};
 use byte_io::{ReadAllError, Source, read_all};
 use mtapi_machine::Entry;
-use node_core::{EntryList, Journal};
+use node_journals::{EntryList, Journal};
 use number_text::cut_at;
 use std::alloc::{AllocError, Global};
 

@@ -1,7 +1,7 @@
 //! Laws of the journal text.
 ghost use Rattle.std.specs.Prelude.{◌≡◌, List, ℕ, Ok, Some};
 ghost use Rattle.mtapi_machine.specs.{Legal.IsHonest, Legal.NodeEntry, declared.ops.Op.Op, declared.replies.Reply.Reply};
-ghost use Rattle.node_core.specs.declared.entries.Journal.{Journal};
+ghost use Rattle.node_journals.specs.declared.entries.Journal.{Journal};
 ghost use Rattle.journal_text.specs.{Fits.HeadFits, Fits.EntryFits, Fits.JournalFits, Journals.journal_text, Journals.journal_of};
 ghost use Rattle.journal_text.specs.{Ops.op_spelled, Ops.op_of, Replies.reply_spelled, Replies.reply_of, Lines.entry_text, Lines.entry_of};
 ghost use Rattle.journal_text.specs.declared.heads.Head.{Head};

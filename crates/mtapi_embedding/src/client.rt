@@ -4,7 +4,7 @@ ghost use Rattle.std.specs.Prelude.{◌≡◌, [], ◌∷◌};
 
 use mtapi_values::{ActionAttr, Args, Kind, MtapiStatus, QueueAttr, TaskAttr, TaskEnd, Timeout};
 use node_with_workers::Client;
-use sched_threads::Caller;
+use sched_workers::Caller;
 use std::sync::Wait;
 
 const JOB: u32 = 1;

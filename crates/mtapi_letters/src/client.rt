@@ -1,10 +1,10 @@
 //! The caller: a task for each part of the text.
 
-ghost use Rattle.sched_threads.specs.Turns.{SameSeat};
+ghost use Rattle.sched_workers.specs.Turns.{SameSeat};
 
 use mtapi_values::{ActionAttr, Args, GroupHandle, Kind, MtapiStatus, TaskAttr, Timeout};
 use node_with_workers::Client;
-use sched_threads::Caller;
+use sched_workers::Caller;
 use std::sync::Wait;
 
 const JOB: u32 = 1;

@@ -79,26 +79,52 @@ args_decide a b = slice_eq-Decides Decides-int_eq a b (pointwise int_eq a b) ref
 -- the ends of tasks
 pub end_decides : (a b : TaskEnd) → Decides (end_eq.ghosts.eq a b) (a ≡ b)
 end_decides a b = derived_decides end.enum (λ c. Unit {0}) _ (
-    (λ x y q. one_decides args_decide x y),
-    ((λ x y q. none_decide x y),
-    ((λ x y q. one_decides mtapi_decide x y), tt))) a b tt
+  (λ x y q. one_decides args_decide x y),
+  (
+    (λ x y q. none_decide x y),
+    ((λ x y q. one_decides mtapi_decide x y), tt),
+  ),
+) a b tt
 
 -- replies
 pub reply_decides : (a b : Reply) → Decides (reply_eq.ghosts.eq a b) (a ≡ b)
 reply_decides a b = derived_decides reply.enum (λ c. Unit {0}) _ (
-    (λ x y q. none_decide x y),
-    ((λ x y q. one_decides Decides-eqb x y),
-    ((λ x y q. one_decides Decides-int_eq x y),
-    ((λ x y q. one_decides end_decides x y),
-    ((λ x y q. more_decide tasks_decide (one_decides end_decides) x y),
-    ((λ x y q. none_decide x y),
-    ((λ x y q. more_decide tasks_decide (more_decide actions_decide (more_decide kinds_decide (one_decides args_decide))) x y),
-    ((λ x y q. none_decide x y),
-    ((λ x y q. none_decide x y),
-    ((λ x y q. one_decides booleans_Decides x y),
-    ((λ x y q. one_decides mtapi_decide x y),
-    ((λ x y q. one_decides mrapi_decide x y),
-    tt)))))))))))) a b tt
+  (λ x y q. none_decide x y),
+  (
+    (λ x y q. one_decides Decides-eqb x y),
+    (
+      (λ x y q. one_decides Decides-int_eq x y),
+      (
+        (λ x y q. one_decides end_decides x y),
+        (
+          (λ x y q. more_decide tasks_decide (one_decides end_decides) x y),
+          (
+            (λ x y q. none_decide x y),
+            (
+              (λ x y q. more_decide tasks_decide (more_decide actions_decide (more_decide kinds_decide (one_decides args_decide))) x y),
+              (
+                (λ x y q. none_decide x y),
+                (
+                  (λ x y q. none_decide x y),
+                  (
+                    (λ x y q. one_decides booleans_Decides x y),
+                    (
+                      (λ x y q. one_decides mtapi_decide x y),
+                      (
+                        (λ x y q. one_decides mrapi_decide x y),
+                        tt,
+                      ),
+                    ),
+                  ),
+                ),
+              ),
+            ),
+          ),
+        ),
+      ),
+    ),
+  ),
+) a b tt
 
 -- ops, but for the answer that a worker hands in: it is told by its kind and its arguments alone
 abbrev pub IsNoFinish : Op → Type 0
@@ -107,60 +133,165 @@ IsNoFinish _ = Unit {0}
 
 pub op_decides : (a b : Op) → IsNoFinish b → Decides (op_eq.ghosts.eq a b) (a ≡ b)
 op_decides a b q = derived_decides op.enum (λ c. IsNoFinish (op.the_make c)) _ (
+  (λ x y q. none_decide x y),
+  (
     (λ x y q. none_decide x y),
-    ((λ x y q. none_decide x y),
-    ((λ x y q. none_decide x y),
-    ((λ x y q. none_decide x y),
-    ((λ x y q. none_decide x y),
-    ((λ x y q. one_decides Decides-eqb x y),
-    ((λ x y q. more_decide Decides-eqb (more_decide kinds_decide (one_decides masks_decide)) x y),
-    ((λ x y q. one_decides actions_decide x y),
-    ((λ x y q. one_decides actions_decide x y),
-    ((λ x y q. one_decides actions_decide x y),
-    ((λ x y q. more_decide Decides-eqb (more_decide args_decide (more_decide Decides-eqb (more_decide masks_decide (more_decide booleans_Decides (one_decides (option_decides groups_decide)))))) x y),
-    ((λ x y q. more_decide queues_decide (more_decide args_decide (more_decide masks_decide (more_decide booleans_Decides (one_decides (option_decides groups_decide))))) x y),
-    ((λ x y q. more_decide tasks_decide (one_decides booleans_Decides) x y),
-    ((λ x y q. one_decides tasks_decide x y),
-    ((λ x y q. none_decide x y),
-    ((λ x y q. one_decides groups_decide x y),
-    ((λ x y q. more_decide groups_decide (one_decides booleans_Decides) x y),
-    ((λ x y q. more_decide groups_decide (one_decides booleans_Decides) x y),
-    ((λ x y q. more_decide Decides-eqb (more_decide Decides-eqb (more_decide Decides-eqb (more_decide Decides-eqb (more_decide booleans_Decides (one_decides booleans_Decides))))) x y),
-    ((λ x y q. one_decides Decides-eqb x y),
-    ((λ x y q. one_decides queues_decide x y),
-    ((λ x y q. one_decides queues_decide x y),
-    ((λ x y q. one_decides queues_decide x y),
-    ((λ x y q. none_decide x y),
-    ((λ x y q. absurd q),
-    ((λ x y q. one_decides tasks_decide x y),
-    ((λ x y q. one_decides tasks_decide x y),
-    ((λ x y q. one_decides tasks_decide x y),
-    ((λ x y q. one_decides tasks_decide x y),
-    ((λ x y q. more_decide tasks_decide (one_decides Decides-int_eq) x y),
-    ((λ x y q. one_decides tasks_decide x y),
-    ((λ x y q. more_decide Decides-eqb (one_decides booleans_Decides) x y),
-    ((λ x y q. one_decides Decides-eqb x y),
-    ((λ x y q. one_decides mutexes_decide x y),
-    ((λ x y q. more_decide mutexes_decide (one_decides booleans_Decides) x y),
-    ((λ x y q. more_decide mutexes_decide (one_decides Decides-eqb) x y),
-    ((λ x y q. more_decide Decides-eqb (one_decides Decides-eqb) x y),
-    ((λ x y q. one_decides Decides-eqb x y),
-    ((λ x y q. one_decides sems_decide x y),
-    ((λ x y q. more_decide sems_decide (one_decides booleans_Decides) x y),
-    ((λ x y q. one_decides sems_decide x y),
-    ((λ x y q. more_decide Decides-eqb (one_decides Decides-eqb) x y),
-    ((λ x y q. one_decides Decides-eqb x y),
-    ((λ x y q. one_decides rwls_decide x y),
-    ((λ x y q. more_decide rwls_decide (more_decide booleans_Decides (one_decides booleans_Decides)) x y),
-    ((λ x y q. more_decide rwls_decide (one_decides booleans_Decides) x y),
-    ((λ x y q. more_decide Decides-eqb (one_decides Decides-eqb) x y),
-    ((λ x y q. one_decides Decides-eqb x y),
-    ((λ x y q. one_decides segments_decide x y),
-    ((λ x y q. one_decides segments_decide x y),
-    ((λ x y q. one_decides segments_decide x y),
-    ((λ x y q. more_decide segments_decide (one_decides Decides-eqb) x y),
-    ((λ x y q. more_decide segments_decide (more_decide Decides-eqb (one_decides Decides-int_eq)) x y),
-    tt))))))))))))))))))))))))))))))))))))))))))))))))))))) a b (subst IsNoFinish (sym (op.the_eta b)) q)
+    (
+      (λ x y q. none_decide x y),
+      (
+        (λ x y q. none_decide x y),
+        (
+          (λ x y q. none_decide x y),
+          (
+            (λ x y q. one_decides Decides-eqb x y),
+            (
+              (λ x y q. more_decide Decides-eqb (more_decide kinds_decide (one_decides masks_decide)) x y),
+              (
+                (λ x y q. one_decides actions_decide x y),
+                (
+                  (λ x y q. one_decides actions_decide x y),
+                  (
+                    (λ x y q. one_decides actions_decide x y),
+                    (
+                      (λ x y q. more_decide Decides-eqb (more_decide args_decide (more_decide Decides-eqb (more_decide masks_decide (more_decide booleans_Decides (one_decides (option_decides groups_decide)))))) x y),
+                      (
+                        (λ x y q. more_decide queues_decide (more_decide args_decide (more_decide masks_decide (more_decide booleans_Decides (one_decides (option_decides groups_decide))))) x y),
+                        (
+                          (λ x y q. more_decide tasks_decide (one_decides booleans_Decides) x y),
+                          (
+                            (λ x y q. one_decides tasks_decide x y),
+                            (
+                              (λ x y q. none_decide x y),
+                              (
+                                (λ x y q. one_decides groups_decide x y),
+                                (
+                                  (λ x y q. more_decide groups_decide (one_decides booleans_Decides) x y),
+                                  (
+                                    (λ x y q. more_decide groups_decide (one_decides booleans_Decides) x y),
+                                    (
+                                      (λ x y q. more_decide Decides-eqb (more_decide Decides-eqb (more_decide Decides-eqb (more_decide Decides-eqb (more_decide booleans_Decides (one_decides booleans_Decides))))) x y),
+                                      (
+                                        (λ x y q. one_decides Decides-eqb x y),
+                                        (
+                                          (λ x y q. one_decides queues_decide x y),
+                                          (
+                                            (λ x y q. one_decides queues_decide x y),
+                                            (
+                                              (λ x y q. one_decides queues_decide x y),
+                                              (
+                                                (λ x y q. none_decide x y),
+                                                (
+                                                  (λ x y q. absurd q),
+                                                  (
+                                                    (λ x y q. one_decides tasks_decide x y),
+                                                    (
+                                                      (λ x y q. one_decides tasks_decide x y),
+                                                      (
+                                                        (λ x y q. one_decides tasks_decide x y),
+                                                        (
+                                                          (λ x y q. one_decides tasks_decide x y),
+                                                          (
+                                                            (λ x y q. more_decide tasks_decide (one_decides Decides-int_eq) x y),
+                                                            (
+                                                              (λ x y q. one_decides tasks_decide x y),
+                                                              (
+                                                                (λ x y q. more_decide Decides-eqb (one_decides booleans_Decides) x y),
+                                                                (
+                                                                  (λ x y q. one_decides Decides-eqb x y),
+                                                                  (
+                                                                    (λ x y q. one_decides mutexes_decide x y),
+                                                                    (
+                                                                      (λ x y q. more_decide mutexes_decide (one_decides booleans_Decides) x y),
+                                                                      (
+                                                                        (λ x y q. more_decide mutexes_decide (one_decides Decides-eqb) x y),
+                                                                        (
+                                                                          (λ x y q. more_decide Decides-eqb (one_decides Decides-eqb) x y),
+                                                                          (
+                                                                            (λ x y q. one_decides Decides-eqb x y),
+                                                                            (
+                                                                              (λ x y q. one_decides sems_decide x y),
+                                                                              (
+                                                                                (λ x y q. more_decide sems_decide (one_decides booleans_Decides) x y),
+                                                                                (
+                                                                                  (λ x y q. one_decides sems_decide x y),
+                                                                                  (
+                                                                                    (λ x y q. more_decide Decides-eqb (one_decides Decides-eqb) x y),
+                                                                                    (
+                                                                                      (λ x y q. one_decides Decides-eqb x y),
+                                                                                      (
+                                                                                        (λ x y q. one_decides rwls_decide x y),
+                                                                                        (
+                                                                                          (λ x y q. more_decide rwls_decide (more_decide booleans_Decides (one_decides booleans_Decides)) x y),
+                                                                                          (
+                                                                                            (λ x y q. more_decide rwls_decide (one_decides booleans_Decides) x y),
+                                                                                            (
+                                                                                              (λ x y q. more_decide Decides-eqb (one_decides Decides-eqb) x y),
+                                                                                              (
+                                                                                                (λ x y q. one_decides Decides-eqb x y),
+                                                                                                (
+                                                                                                  (λ x y q. one_decides segments_decide x y),
+                                                                                                  (
+                                                                                                    (λ x y q. one_decides segments_decide x y),
+                                                                                                    (
+                                                                                                      (λ x y q. one_decides segments_decide x y),
+                                                                                                      (
+                                                                                                        (λ x y q. more_decide segments_decide (one_decides Decides-eqb) x y),
+                                                                                                        (
+                                                                                                          (λ x y q. more_decide segments_decide (more_decide Decides-eqb (one_decides Decides-int_eq)) x y),
+                                                                                                          tt,
+                                                                                                        ),
+                                                                                                      ),
+                                                                                                    ),
+                                                                                                  ),
+                                                                                                ),
+                                                                                              ),
+                                                                                            ),
+                                                                                          ),
+                                                                                        ),
+                                                                                      ),
+                                                                                    ),
+                                                                                  ),
+                                                                                ),
+                                                                              ),
+                                                                            ),
+                                                                          ),
+                                                                        ),
+                                                                      ),
+                                                                    ),
+                                                                  ),
+                                                                ),
+                                                              ),
+                                                            ),
+                                                          ),
+                                                        ),
+                                                      ),
+                                                    ),
+                                                  ),
+                                                ),
+                                              ),
+                                            ),
+                                          ),
+                                        ),
+                                      ),
+                                    ),
+                                  ),
+                                ),
+                              ),
+                            ),
+                          ),
+                        ),
+                      ),
+                    ),
+                  ),
+                ),
+              ),
+            ),
+          ),
+        ),
+      ),
+    ),
+  ),
+) a b (subst IsNoFinish (sym (op.the_eta b)) q)
 
 pub no_finish : (a : Op) → ((t : TaskHandle) (done : Finished) → a ≡ ops.Finish t done → ⊥) → IsNoFinish a
 no_finish (ops.Finish t done) other = other t done refl

@@ -3,6 +3,7 @@ pub mod Made
 pub mod Moves
 pub mod Lists
 pub mod Refusals
+pub mod Answered
 pub mod Drops
 pub mod Ends
 pub mod Served

@@ -12,6 +12,7 @@ pub mod WorkRows
 pub mod TallyRows
 pub mod ResourceRows
 pub mod Rows
+pub mod Answers
 pub mod Legal
 pub mod Kept
 pub mod Replay

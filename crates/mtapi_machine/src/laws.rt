@@ -1,10 +1,16 @@
 //! Laws that follow from the definitions of the machine alone. Each function does nothing: its contract is the law.
 
+ghost use Rattle.mtapi_machine.specs.Answers.{RowsAnswer};
 ghost use Rattle.mtapi_machine.specs.Laws.{MovesAreMade, PrefixIsLegal, NextIsLegal, StatusStays, StatusIsAlone, DroppedStays, DroppingIsLegal, TasksStay, TasksAreServed, TasksInStartOrder, LegalReplays};
 
 /// Every move of a row is made where it may be.
 pub fn law_made()
     ensures { MovesAreMade }
+{}
+
+/// A reply that a row allows is one of the answers to its op, with the moves of the row: what the rows say, read off once.
+pub fn law_answers()
+    ensures { RowsAnswer }
 {}
 
 /// Every prefix of a legal list is legal.

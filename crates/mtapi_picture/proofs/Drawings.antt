@@ -1,7 +1,7 @@
 -- The SVG that was made is that of the journal.
 use Rattle.std.proofs.Common.{◌≡◌, ℕ, ◌+◌, List, min, subst, ◌∙◌}
 use Rattle.mtapi_machine.specs.Legal.{NodeEntry}
-use Rattle.node_core.specs.declared.entries.Journal.{Journal}
+use Rattle.node_journals.specs.declared.entries.Journal.{Journal}
 use Rattle.run_picture.specs.declared.pictures.Picture.{Picture}
 use Rattle.run_picture.specs.Pictures.{IsPicture}
 use Rattle.run_picture.specs.Page.{svg_text}

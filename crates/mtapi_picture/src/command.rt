@@ -6,7 +6,7 @@ ghost use Rattle.mtapi_picture.specs.declared.command.End.TheVariants as end;
 
 use byte_io::{ReadAllError, Sink, Source, read_all, write_all};
 use journal_text::{InputPart, JournalError, parts_of, read_journal};
-use node_core::Journal;
+use node_journals::Journal;
 use run_picture::{picture_of, svg_of};
 use std::alloc::{AllocError, Global};
 

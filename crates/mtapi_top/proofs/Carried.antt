@@ -9,10 +9,10 @@ use Rattle.workload_file.specs.declared.workload.Workload.{Workload}
 use Rattle.workload_file.specs.Formed.{WellFormed, MainFirst}
 use Rattle.mtapi_machine.specs.State.{terms_with}
 use Rattle.mtapi_machine.specs.Legal.{Legal}
-use Rattle.node_core.specs.declared.entries.Journal.{Journal}
+use Rattle.node_journals.specs.declared.entries.Journal.{Journal}
 use Rattle.journal_text.specs.Heads.{head_text, version, first_texts, last_texts}
 use Rattle.journal_text.specs.Journals.{journal_text, head_for, entry_lines, lines_text}
-use Rattle.sched_threads.specs.Runs.{IsRun}
+use Rattle.sched_workers.specs.Runs.{IsRun}
 use Rattle.mtapi_top.specs.Headline.{IsTextTwo}
 
 some_part : (ps : List Part) → MainFirst ps → 1 ≤ length ps

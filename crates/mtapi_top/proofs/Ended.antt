@@ -5,7 +5,7 @@ use Rattle.std.specs.Io.KnownBytes.{IsAtEnd}
 use Rattle.byte_io.specs.Causes.{TakesAtMost}
 use Rattle.workload_file.specs.Loading.{ReadsClean}
 use Rattle.journal_text.specs.Journals.{ReadsClean as ReadsInput, journal_text}
-use Rattle.node_core.specs.declared.entries.Journal.{Journal}
+use Rattle.node_journals.specs.declared.entries.Journal.{Journal}
 use Rattle.mtapi_top.specs.declared.words.Asked.{Asked}
 use Rattle.mtapi_top.specs.declared.words.Asked.TheVariants as asks
 use Rattle.mtapi_top.specs.declared.ends.End.{End}

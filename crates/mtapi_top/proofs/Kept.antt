@@ -11,7 +11,7 @@ use Rattle.mtapi_machine.specs.State.{opening}
 use Rattle.mtapi_machine.specs.Legal.{NodeEntry}
 use Rattle.history_law.specs.Seats.{BySeats}
 use Rattle.history_law.proofs.Bounds.{by_seats}
-use Rattle.node_core.specs.declared.entries.Journal.{Journal}
+use Rattle.node_journals.specs.declared.entries.Journal.{Journal}
 use Rattle.journal_text.specs.declared.heads.Head.{Head}
 use Rattle.journal_text.specs.Fits.{HasPlace, IsWritable}
 use Rattle.journal_text.specs.Lines.{has_words}
@@ -19,7 +19,7 @@ use Rattle.journal_text.specs.Journals.{journal_text, journal_of, head_for}
 use Rattle.journal_check.specs.declared.verdicts.Verdict.TheVariants.{Yes, Illegal, NotRun}
 use Rattle.journal_check.specs.Verdicts.{IsVerdict, IsLegal, terms_of}
 use Rattle.journal_check.proofs.Prefixes.{legal_front}
-use Rattle.sched_threads.specs.Runs.{IsRun, terms_for}
+use Rattle.sched_workers.specs.Runs.{IsRun, terms_for}
 use Rattle.journal_text.specs.Splits.{IsSplit}
 use Rattle.mtapi_top.specs.Check.{IsInput}
 use Rattle.mtapi_top.proofs.Carried.{has_part, told_legal}

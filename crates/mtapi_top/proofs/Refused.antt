@@ -5,7 +5,7 @@ use Rattle.byte_io.specs.Causes.{Rose}
 use Rattle.workload_file.specs.declared.faults.LoadError.{LoadError}
 use Rattle.workload_file.specs.declared.workload.Workload.{Workload}
 use Rattle.workload_file.specs.Loading.{Loads}
-use Rattle.node_core.specs.declared.entries.Journal.{Journal}
+use Rattle.node_journals.specs.declared.entries.Journal.{Journal}
 use Rattle.mtapi_top.specs.declared.words.Asked.{Asked}
 use Rattle.mtapi_top.specs.declared.words.Asked.TheVariants as asks
 use Rattle.mtapi_top.specs.declared.ends.End.{End}

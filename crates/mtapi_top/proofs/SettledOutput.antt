@@ -9,7 +9,7 @@ use Rattle.workload_file.specs.declared.workload.Workload.{Workload}
 use Rattle.workload_file.specs.Reading.{workload_of}
 use Rattle.workload_file.specs.Formed.{WellFormed}
 use Rattle.mtapi_machine.specs.Legal.{Legal}
-use Rattle.node_core.specs.declared.entries.Journal.{Journal}
+use Rattle.node_journals.specs.declared.entries.Journal.{Journal}
 use Rattle.journal_text.specs.Journals.{journal_text}
 use Rattle.mtapi_machine.specs.State.{terms_with}
 use Rattle.settled_runs.specs.Plain.{plain_report}
@@ -25,7 +25,7 @@ use Rattle.mtapi_top.specs.declared.ends.End.TheVariants as end
 use Rattle.mtapi_top.specs.declared.ends.Outcome.{Outcome}
 use Rattle.mtapi_top.specs.Words.{InRange}
 use Rattle.generated_workload.specs.Generated.{generated}
-use Rattle.sched_threads.specs.Runs.{IsRun}
+use Rattle.sched_workers.specs.Runs.{IsRun}
 use Rattle.mtapi_top.specs.Headline.{Ran, IsLoadOf, output}
 use Rattle.mtapi_top.specs.Settled.{generated_summary, IsPlainOutput}
 use Rattle.mtapi_top.specs.Command.{Outside, Ends, status_of, journal_of}

@@ -9,7 +9,7 @@ use Rattle.workload_file.specs.declared.faults.LoadError.{LoadError}
 use Rattle.workload_file.specs.declared.faults.LoadError.TheVariants as errors
 use Rattle.workload_file.specs.Causes.{cause_text}
 use Rattle.workload_file.specs.Reading.{workload_of}
-use Rattle.node_core.specs.declared.entries.Journal.{Journal}
+use Rattle.node_journals.specs.declared.entries.Journal.{Journal}
 use Rattle.journal_check.specs.declared.verdicts.Verdict.{Verdict}
 use Rattle.journal_check.specs.declared.verdicts.Verdict.TheVariants as verdict
 use Rattle.mtapi_top.specs.declared.ends.End.{End}

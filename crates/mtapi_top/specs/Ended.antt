@@ -3,7 +3,7 @@ use Rattle.std.specs.Prelude.{◌≡◌, ◌⊎◌, ℕ, List, Bool, true, false
 use Rattle.std.specs.Io.KnownBytes.{IsAtEnd}
 use Rattle.byte_io.specs.Causes.{TakesAtMost}
 use Rattle.workload_file.specs.Loading.{ReadsClean}
-use Rattle.node_core.specs.declared.entries.Journal.{Journal}
+use Rattle.node_journals.specs.declared.entries.Journal.{Journal}
 use Rattle.journal_text.specs.Journals.{ReadsClean as ReadsInput}
 use Rattle.mtapi_top.specs.declared.ends.End.{End}
 use Rattle.mtapi_top.specs.declared.ends.Outcome.{Outcome}

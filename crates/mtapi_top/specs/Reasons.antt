@@ -1,6 +1,6 @@
 -- Why there is no journal of a run.
 use Rattle.std.specs.Prelude.{◌≡◌, ℕ, ◌≤◌, ◌^◌}
-use Rattle.sched_threads.specs.Pairs.{Rose}
+use Rattle.sched_workers.specs.Pairs.{Rose}
 use Rattle.mtapi_top.specs.declared.pieces.NoRun.{NoRun}
 use Rattle.mtapi_top.specs.declared.pieces.NoRun.TheVariants as reason
 

@@ -16,7 +16,7 @@ ghost use Rattle.journal_check.specs.Verdicts.{IsVerdict};
 ghost use Rattle.journal_check.specs.declared.verdicts.Verdict.{Verdict};
 ghost use Rattle.journal_check.specs.declared.verdicts.Verdict.TheVariants.{Yes};
 ghost use Rattle.workload_file.specs.declared.workload.Workload.{Workload};
-ghost use Rattle.node_core.specs.declared.entries.Journal.{Journal};
+ghost use Rattle.node_journals.specs.declared.entries.Journal.{Journal};
 ghost use Rattle.mtapi_top.specs.Words.{texts, asked_of, reads, judges, InRange};
 
 use crate::checking::check_input;
@@ -26,7 +26,7 @@ use crate::telling::tell;
 use crate::words::{Asked, asked_of, judges};
 use action_fn::ActionSource;
 use generated_workload::generated;
-use sched_threads::Beside;
+use sched_workers::Beside;
 use std::alloc::Global;
 use std::sync::Wait;
 use std::thread::Threads;

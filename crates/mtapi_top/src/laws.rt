@@ -4,13 +4,13 @@
 ghost use Rattle.std.specs.Prelude.{◌≡◌, ◌≤◌, ℕ, List, Ok, length};
 ghost use Rattle.workload_file.specs.declared.workload.Workload.{Workload};
 ghost use Rattle.workload_file.specs.Reading.{workload_of};
-ghost use Rattle.node_core.specs.declared.entries.Journal.{Journal};
+ghost use Rattle.node_journals.specs.declared.entries.Journal.{Journal};
 ghost use Rattle.workload_file.specs.Formed.{WellFormed};
 ghost use Rattle.journal_text.specs.Fits.{IsWritable};
 ghost use Rattle.journal_text.specs.Journals.{journal_of, journal_text};
 ghost use Rattle.journal_check.specs.Verdicts.{IsVerdict};
 ghost use Rattle.journal_check.specs.declared.verdicts.Verdict.TheVariants.{Yes};
-ghost use Rattle.sched_threads.specs.Runs.{IsRun};
+ghost use Rattle.sched_workers.specs.Runs.{IsRun};
 ghost use Rattle.journal_text.specs.Splits.{IsSplit, OfParts};
 ghost use Rattle.mtapi_top.specs.Check.{IsInput};
 ghost use Rattle.mtapi_top.specs.Settled.{GeneratedIsSettled};

@@ -15,6 +15,6 @@ pub use carry::command;
 pub use ends::{End, Outcome};
 pub use generated_workload::generated;
 pub use run_report::report_of;
-pub use sched_threads::{Beside, FewThreads, Threads, run_node};
+pub use sched_workers::{Beside, FewThreads, Threads, run_node};
 pub use telling::tell;
 pub use words::Asked;

@@ -1,9 +1,9 @@
 //! The run of a workload, and its output.
 ghost use Rattle.std.specs.Prelude.{ℕ, ◌≡◌, ◌≤◌, IfOk, IfErr, Some, Err, false, length};
 ghost use Rattle.workload_file.specs.Formed.{WellFormed};
-ghost use Rattle.sched_threads.specs.Pairs.{Counts};
-ghost use Rattle.sched_threads.specs.Runs.{Causes, IsRun, is_refused};
-ghost use Rattle.node_core.specs.declared.entries.Journal.{Journal};
+ghost use Rattle.sched_workers.specs.Pairs.{Counts};
+ghost use Rattle.sched_workers.specs.Runs.{Causes, IsRun, is_refused};
+ghost use Rattle.node_journals.specs.declared.entries.Journal.{Journal};
 ghost use Rattle.mtapi_top.specs.Headline.{output, IsReadAgain};
 ghost use Rattle.mtapi_top.specs.Reasons.{HasReason};
 ghost use Rattle.mtapi_top.specs.Words.{judges};
@@ -13,7 +13,7 @@ use action_fn::ActionSource;
 use journal_text::write_journal;
 use node_core::{Journal, Journaled, Node, RunJournal};
 use run_report::{report_of, summary_of};
-use sched_threads::{Beside, RunError, run_node};
+use sched_workers::{Beside, RunError, run_node};
 use std::alloc::{AllocError, Global};
 use std::sync::Wait;
 use std::thread::Threads;

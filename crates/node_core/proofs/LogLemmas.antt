@@ -2,7 +2,7 @@
 use Rattle.std.proofs.Common.{◌≡◌, ℕ, ◌<◌, ◌^◌, Bool, true, false, List, [], ◌∷◌, ◌++◌, length, refl, sym, ◌∙◌, ap, subst, arith}
 use Rattle.std.specs.Prelude.{slice_index, Option, None, Result, Ok, IfOk, IfSome, IsErr, ◌↔◌}
 use Rattle.std.specs.declared.alloc.AllocError.{AllocError}
-use Rattle.node_core.specs.declared.entries.Journal.{Journal}
+use Rattle.node_journals.specs.declared.entries.Journal.{Journal}
 use Rattle.history.specs.Histories.{entry}
 use Rattle.mtapi_machine.specs.declared.ops.Op.{Op}
 use Rattle.mtapi_machine.specs.declared.replies.Reply.{Reply}
@@ -15,7 +15,7 @@ use Rattle.node_core.specs.declared.journaled.Kept.{Kept}
 use Rattle.node_core.specs.declared.journaled.Kept.TheVariants.{Nothing, Lost, Entries}
 use Rattle.node_core.specs.declared.journaled.Log.{Log}
 use Rattle.node_core.specs.declared.node.Node.{Node}
-use Rattle.node_core.specs.Journals.{KeptEntries, kept_of, skipped_of}
+use Rattle.node_journals.specs.Journals.{KeptEntries, kept_of, skipped_of}
 use Rattle.node_core.specs.Stands.{Stands, terms_of, seat_count, history_of}
 use Rattle.node_core.specs.Logs.{keeps, lost, AddsTo, Logs, KeepsOf, LoggedFrom, HasTerms, KeptAs, IsJournal}
 use Rattle.node_core.proofs.KeptLemmas.{kept-append, skipped-append, counts-append, number_le}

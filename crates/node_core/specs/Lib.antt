@@ -1,5 +1,4 @@
 pub mod Stands
 pub mod Parts
-pub mod Journals
 pub mod Logs
 pub mod Worked

@@ -6,13 +6,13 @@ use Rattle.mtapi_machine.specs.declared.terms.Terms.{Terms}
 use Rattle.mtapi_machine.specs.State.{State, opening}
 use Rattle.mtapi_machine.specs.Legal.{NodeEntry, Legal, after}
 use Rattle.mtapi_machine.specs.Kept.{kept, skipped, counted, counts_after, no_counts, is_pending}
-use Rattle.node_core.specs.declared.entries.Journal.{Journal}
+use Rattle.node_journals.specs.declared.entries.Journal.{Journal}
 use Rattle.node_core.specs.declared.journaled.Kept.{Kept}
 use Rattle.node_core.specs.declared.journaled.Kept.TheVariants.{Nothing, Lost, Entries}
 use Rattle.node_core.specs.declared.journaled.Log.{Log}
 use Rattle.node_core.specs.declared.journaled.Journaled.{Journaled}
 use Rattle.node_core.specs.declared.journaled.JournaledTerms.{JournaledTerms}
-use Rattle.node_core.specs.Journals.{KeptEntries}
+use Rattle.node_journals.specs.Journals.{KeptEntries}
 use Rattle.node_core.specs.Stands.{Stands, terms_of, seat_count, some_terms}
 
 -- a journal is kept, be it lost by now or not

@@ -8,10 +8,10 @@ ghost use Rattle.mtapi_machine.specs.Kept.{drops, is_pending};
 ghost use Rattle.node_core.specs.Stands.{Stands, terms_of};
 ghost use Rattle.node_core.specs.Logs.{AddsTo, Logs, StandsKept, HasTerms, KeptAs, IsJournal, keeps, journal_terms, is_lost};
 
-use crate::entries::{EntryList, Journal};
 use crate::node::Node;
 use history::Object;
 use mtapi_machine::{Entry, Op, Reply, Terms};
+use node_journals::{EntryList, Journal};
 use std::alloc::{AllocError, Global};
 
 // Whether an entry is left out, where the state stays if the reply is Pending.

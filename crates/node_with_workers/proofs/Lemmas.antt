@@ -18,11 +18,11 @@ use Rattle.mtapi_machine.specs.declared.terms.Terms.{Terms}
 use Rattle.mtapi_machine.specs.Legal.{NodeEntry, Legal}
 use Rattle.node_core.specs.declared.journaled.JournaledTerms.{JournaledTerms}
 use Rattle.node_core.specs.Logs.{journal_seats, KeptAs}
-use Rattle.sched_threads.specs.Turns.{Seat, SameSeat}
-use Rattle.sched_threads.specs.Answers.{Called}
-use Rattle.sched_threads.specs.Replies.{mtapi, done}
-use Rattle.sched_threads.specs.Crews.{Cell, IsIdle, GaveUp}
-use Rattle.sched_threads.proofs.Starts.{new_at_rest}
+use Rattle.sched_workers.specs.Turns.{Seat, SameSeat}
+use Rattle.sched_workers.specs.Answers.{Called}
+use Rattle.sched_workers.specs.Replies.{mtapi, done}
+use Rattle.sched_workers.specs.Crews.{Cell, IsIdle, GaveUp}
+use Rattle.sched_workers.proofs.Starts.{new_at_rest}
 use Rattle.node_with_workers.specs.declared.crew.Crew.{Crew}
 use Rattle.node_with_workers.specs.declared.crew.Hands.{Hands}
 use Rattle.node_with_workers.specs.declared.jobs.Over.{Over}

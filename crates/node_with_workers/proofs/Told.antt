@@ -12,13 +12,13 @@ use Rattle.mtapi_machine.specs.declared.ops.Op.TheVariants.{TaskLook}
 use Rattle.mtapi_machine.specs.declared.replies.Reply.{Reply}
 use Rattle.mtapi_machine.specs.declared.replies.Reply.TheVariants as reply
 use Rattle.mtapi_machine.specs.Legal.{NodeEntry}
-use Rattle.sched_workers.specs.declared.calls.Wanted.{Wanted}
-use Rattle.sched_workers.specs.declared.calls.Wanted.TheVariants.{Task}
-use Rattle.sched_threads.specs.Turns.{Seat, SameSeat}
-use Rattle.sched_threads.specs.Looks.{pends, Looked}
-use Rattle.sched_threads.specs.Answers.{Answers, Called, Waited, with_number}
-use Rattle.sched_threads.specs.Replies.{Standard, mtapi, done, handle, ended}
-use Rattle.node_core.specs.declared.entries.Journal.{Journal}
+use Rattle.workload_runs.specs.declared.calls.Wanted.{Wanted}
+use Rattle.workload_runs.specs.declared.calls.Wanted.TheVariants.{Task}
+use Rattle.sched_workers.specs.Turns.{Seat, SameSeat}
+use Rattle.sched_workers.specs.Looks.{pends, Looked}
+use Rattle.sched_workers.specs.Answers.{Answers, Called, Waited, with_number}
+use Rattle.sched_workers.specs.Replies.{Standard, mtapi, done, handle, ended}
+use Rattle.node_journals.specs.declared.entries.Journal.{Journal}
 use Rattle.node_with_workers.specs.Told.{InOrder, WentOn, IsTold}
 use Rattle.node_with_workers.specs.Runs.{IsRun, Tells}
 

@@ -4,7 +4,7 @@ use Rattle.history.specs.Histories.{entry}
 use Rattle.mtapi_machine.specs.declared.ops.Op.TheVariants.{Initialize}
 use Rattle.mtapi_machine.specs.declared.replies.Reply.TheVariants as reply
 use Rattle.mtapi_machine.specs.Legal.{NodeEntry}
-use Rattle.sched_threads.specs.Turns.{Seat, SameSeat}
+use Rattle.sched_workers.specs.Turns.{Seat, SameSeat}
 
 -- the seat made one more call, which opened the node
 pub record Opened (old new : Seat) : Type 0 where

@@ -1,8 +1,8 @@
 -- What the threads of the workers bring back.
 use Rattle.std.specs.Prelude.{◌≡◌, ◌+◌, ◌≤◌, [], ◌∷◌, ◌++◌, All, IfOk, vec_len}
 use Rattle.std.specs.List.{AllZip}
-use Rattle.sched_threads.specs.Turns.{Seat, SameSeat}
-use Rattle.sched_threads.specs.Crews.{Cell, IsIdle}
+use Rattle.sched_workers.specs.Turns.{Seat, SameSeat}
+use Rattle.sched_workers.specs.Crews.{Cell, IsIdle}
 use Rattle.node_with_workers.specs.declared.crew.Crew.{Crew}
 use Rattle.node_with_workers.specs.declared.crew.Hands.{Hands}
 use Rattle.node_with_workers.specs.declared.jobs.Over.{Over}

@@ -10,10 +10,10 @@ use Rattle.mtapi_machine.specs.declared.replies.Reply.TheVariants as reply
 use Rattle.mtapi_machine.specs.declared.terms.Terms.{Terms}
 use Rattle.mtapi_machine.specs.State.{terms_with}
 use Rattle.mtapi_machine.specs.Legal.{NodeEntry, Legal}
-use Rattle.node_core.specs.declared.entries.Journal.{Journal}
+use Rattle.node_journals.specs.declared.entries.Journal.{Journal}
 use Rattle.node_core.specs.Logs.{KeptAs}
-use Rattle.sched_threads.specs.Turns.{Seat, SameSeat}
-use Rattle.sched_threads.specs.Crews.{Cell}
+use Rattle.sched_workers.specs.Turns.{Seat, SameSeat}
+use Rattle.sched_workers.specs.Crews.{Cell}
 use Rattle.node_with_workers.specs.declared.crew.Crew.{Crew}
 use Rattle.node_with_workers.specs.declared.run.Done.{Done}
 use Rattle.node_with_workers.specs.Told.{IsTold}

@@ -1,13 +1,13 @@
 //! The caller of the node.
 
 ghost use Rattle.std.specs.Prelude.{◌≡◌, ◌≤◌, IfOk};
-ghost use Rattle.sched_threads.specs.Turns.{Seat, SameSeat};
-ghost use Rattle.sched_threads.specs.Crews.{GaveUp};
+ghost use Rattle.sched_workers.specs.Turns.{Seat, SameSeat};
+ghost use Rattle.sched_workers.specs.Crews.{GaveUp};
 ghost use Rattle.node_with_workers.specs.Clients.{Opened, HasCalled};
 
 use mtapi_values::MtapiStatus;
 use node_core::Journaled;
-use sched_threads::Caller;
+use sched_workers::Caller;
 use std::sync::Wait;
 use turn_cell::{TurnCell, TurnSeat};
 

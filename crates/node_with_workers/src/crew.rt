@@ -9,7 +9,7 @@ use crate::failure::Failure;
 use crate::jobs::{Over, Waiting};
 use action_fn::ActionSource;
 use node_core::Journaled;
-use sched_threads::{Threads, pair};
+use sched_workers::{Threads, pair};
 use std::alloc::AllocError;
 use std::sync::Wait;
 use std::thread::Threads as StartsThreads;

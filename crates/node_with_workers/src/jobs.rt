@@ -1,12 +1,12 @@
 //! What a worker's thread does.
 
 ghost use Rattle.std.specs.Prelude.{◌≡◌};
-ghost use Rattle.sched_threads.specs.Rounds.{AtRest};
+ghost use Rattle.sched_workers.specs.Rounds.{AtRest};
 
 use action_fn::ActionSet;
 use node_core::Journaled;
-use sched_threads::Worker;
-use sched_threads::beside::Job;
+use sched_workers::Worker;
+use sched_workers::beside::Job;
 use std::sync::Wait;
 use turn_cell::{TurnCell, TurnSeat};
 
@@ -28,7 +28,7 @@ pub struct Over<A: Drop> {
 }
 
 impl<'a, A: ActionSet + Drop + Send> Job for Waiting<'a, A> {
-    ghost use Rattle.sched_threads.specs.Turns.{SameSeat};
+    ghost use Rattle.sched_workers.specs.Turns.{SameSeat};
 
     type Done = Over<A>;
 

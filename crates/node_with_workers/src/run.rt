@@ -9,7 +9,7 @@ use crate::failure::Failure;
 use action_fn::ActionSource;
 use mtapi_values::NodeAttr;
 use node_core::{Journaled, Node, RunJournal, journal_of};
-use sched_threads::{Caller, Threads};
+use sched_workers::{Caller, Threads};
 use std::alloc::Global;
 use std::sync::Wait;
 use std::thread::Threads as StartsThreads;

@@ -16,9 +16,9 @@ use Rattle.peek_board.specs.Marks.{CellSeat, MarksView, IsMarksOf, seat_of}
 use Rattle.mtapi_machine.specs.Legal.{NodeEntry, Legal}
 use Rattle.node_core.specs.Logs.{KeptAs, journal_seats}
 use Rattle.node_core.specs.declared.journaled.JournaledTerms.{JournaledTerms}
-use Rattle.sched_threads.specs.Turns.{SameSeat}
-use Rattle.sched_threads.specs.Crews.{Cell}
-use Rattle.sched_threads.specs.declared.crew.back.Back.{Back}
+use Rattle.sched_workers.specs.Turns.{SameSeat}
+use Rattle.sched_workers.specs.Crews.{Cell}
+use Rattle.sched_workers.specs.declared.crew.back.Back.{Back}
 use Rattle.peek_board_uses.specs.declared.failure.Failure.{Failure}
 use Rattle.peek_board_uses.specs.declared.monitor.Watch.{Watch}
 use Rattle.peek_board_uses.specs.declared.caller.Called.{Called}

@@ -5,15 +5,15 @@ use Rattle.turn_cell.specs.Seats.{fresh_seat as fresh_cell_seat}
 use Rattle.mtapi_values.specs.declared.handles.TaskHandle.{TaskHandle}
 use Rattle.mtapi_machine.specs.declared.terms.Terms.{Terms}
 use Rattle.mtapi_machine.specs.Legal.{NodeEntry, Legal}
-use Rattle.node_core.specs.declared.entries.Journal.{Journal}
+use Rattle.node_journals.specs.declared.entries.Journal.{Journal}
 use Rattle.node_core.specs.Logs.{KeptAs}
-use Rattle.sched_threads.specs.Turns.{SameSeat}
+use Rattle.sched_workers.specs.Turns.{SameSeat}
 use Rattle.peek_board.specs.declared.classes.Peek.{Peek}
 use Rattle.peek_board.specs.Numbers.{Pair, slot_of, peek_of}
 use Rattle.peek_board.specs.Rule.{Has, heard_of}
 use Rattle.peek_board.specs.Seats.{BoardView, BoardSeatView, ShowsEnd, fresh_seat}
 use Rattle.peek_board.specs.Marks.{CellSeat, MarksView, PeekerView, SameMarks, EndsSo}
-use Rattle.sched_threads.specs.Crews.{Cell}
+use Rattle.sched_workers.specs.Crews.{Cell}
 use Rattle.peek_board_uses.specs.declared.caller.Called.{Called}
 use Rattle.peek_board_uses.specs.declared.crew.Crew.{Crew}
 use Rattle.peek_board_uses.specs.declared.runs.Outcome.{Outcome}

@@ -2,7 +2,7 @@
 
 ghost use Rattle.std.specs.Prelude.{◌≡◌, [], IfOk, OnOk, IsOk};
 ghost use Rattle.std.specs.Thread.{IsSync};
-ghost use Rattle.sched_threads.specs.Turns.{SameSeat};
+ghost use Rattle.sched_workers.specs.Turns.{SameSeat};
 ghost use Rattle.peek_board.specs.Marks.{IsOf};
 ghost use Rattle.peek_board_uses.specs.Watches.{CameBack, CameToPost, CameToWatch};
 
@@ -13,7 +13,7 @@ use crate::tasks::Tasks;
 use action_fn::ActionSet;
 use node_core::{Journaled, Op};
 use peek_board::{Board, Marks, Peeker};
-use sched_threads::{Back, Threads, WorkerJob, pair};
+use sched_workers::{Back, Threads, WorkerJob, pair};
 use std::alloc::Global;
 use std::sync::Wait;
 use std::thread::Threads as StartsThreads;

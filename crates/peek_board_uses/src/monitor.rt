@@ -9,7 +9,7 @@ use crate::crew::Shared;
 use crate::tasks::Tasks;
 use mtapi_values::TaskHandle;
 use peek_board::{Marks, Peek, Peeker};
-use sched_threads::Job;
+use sched_workers::Job;
 use std::alloc::Global;
 use std::marker::Model;
 use std::sync::Wait;

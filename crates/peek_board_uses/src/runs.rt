@@ -16,7 +16,7 @@ use action_fn::{ActionSource, StandardActions};
 use mtapi_values::{MtapiStatus, NodeAttr, TaskHandle};
 use node_core::{Journal, Journaled, Node, Op};
 use peek_board::{Board, BoardSeat, EndClass, Marks, Peek, Peeker, close_both};
-use sched_threads::WorkerJob;
+use sched_workers::WorkerJob;
 use std::alloc::{AllocError, Global};
 use std::sync::Wait;
 use std::thread::Threads as StartsThreads;

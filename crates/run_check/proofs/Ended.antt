@@ -8,7 +8,7 @@ use Rattle.history.specs.Histories.{entry, entries_of}
 use Rattle.mtapi_machine.specs.declared.ops.Op.TheVariants as ops
 use Rattle.mtapi_machine.specs.declared.replies.Reply.TheVariants as replies
 use Rattle.mtapi_machine.specs.Legal.{NodeEntry}
-use Rattle.sched_workers.specs.RunOf.{ClosesAtEnd}
+use Rattle.workload_runs.specs.RunOf.{ClosesAtEnd}
 use Rattle.std.proofs.lemmas.Bool.{false_from_ne_true, cases_lt}
 use Rattle.run_check.specs.Ends.{StaysClosed, Closes}
 

@@ -7,11 +7,11 @@ use Rattle.mtapi_machine.specs.declared.ops.Op.TheVariants.{TaskLook, AllLook, A
 use Rattle.mtapi_machine.specs.declared.replies.Reply.{Reply}
 use Rattle.mtapi_machine.specs.declared.replies.Reply.TheVariants as reply
 use Rattle.mtapi_machine.specs.Kept.{is_pending}
-use Rattle.sched_workers.specs.declared.calls.Wanted.{Wanted}
-use Rattle.sched_workers.specs.declared.calls.Wanted.TheVariants.{Task, Entrance, AllMembers, FirstMember, Mutex, Sem, Rwl}
-use Rattle.sched_workers.specs.Calls.{Looking}
-use Rattle.sched_workers.specs.Wants.{op_of, waits, IsTimed}
-use Rattle.sched_workers.specs.Lines.{Line, line, before_it, looks_before}
+use Rattle.workload_runs.specs.declared.calls.Wanted.{Wanted}
+use Rattle.workload_runs.specs.declared.calls.Wanted.TheVariants.{Task, Entrance, AllMembers, FirstMember, Mutex, Sem, Rwl}
+use Rattle.workload_runs.specs.Calls.{Looking}
+use Rattle.workload_runs.specs.Wants.{op_of, waits, IsTimed}
+use Rattle.workload_runs.specs.Lines.{Line, line, before_it, looks_before}
 use Rattle.run_check.specs.Takes.{Takes, DecidesAs, Decides}
 
 -- whether a look is the last one

@@ -4,7 +4,7 @@ use Rattle.std.specs.Prelude.{◌==◌}
 use Rattle.std.proofs.lemmas.List.{length-take-le}
 use Rattle.std.proofs.lemmas.Grind.{take_at_read}
 use Rattle.mtapi_machine.specs.Legal.{NodeEntry}
-use Rattle.sched_workers.specs.Lines.{Line, line, lines_of}
+use Rattle.workload_runs.specs.Lines.{Line, line, lines_of}
 
 pub own_none : (who : ℕ) → [] ≡ lines_of who [] []
 unfolding lines_of

@@ -8,10 +8,10 @@ use Rattle.mtapi_machine.specs.declared.replies.Reply.{Reply}
 use Rattle.mtapi_machine.specs.declared.replies.Reply.TheVariants as replies
 use Rattle.mtapi_machine.specs.declared.ops.Op.TheVariants as ops
 use Rattle.mtapi_machine.specs.Row.{handle_of}
-use Rattle.sched_workers.specs.Calls.{call_of}
-use Rattle.sched_workers.specs.Parts.{Carried, MainRan, CallerRan, has_begin}
-use Rattle.sched_workers.specs.Lines.{Line, line, Made, head_of, tail_of_main, in_lines}
-use Rattle.sched_workers.specs.RunOf.{is_work, all_work}
+use Rattle.workload_runs.specs.Calls.{call_of}
+use Rattle.workload_runs.specs.Parts.{Carried, MainRan, CallerRan, has_begin}
+use Rattle.workload_runs.specs.Lines.{Line, line, Made, head_of, tail_of_main, in_lines}
+use Rattle.workload_runs.specs.RunOf.{is_work, all_work}
 use Rattle.run_check.specs.Takes.{CarriedTo}
 use Rattle.run_check.specs.Starts.{Enters}
 use Rattle.run_check.proofs.Same.{takes_same}

@@ -4,8 +4,8 @@ use Rattle.std.proofs.lemmas.List.{drop_more, nil_from_length}
 use Rattle.workload_file.specs.declared.workload.Statement.{Statement}
 use Rattle.mtapi_machine.specs.declared.replies.Reply.{Reply}
 use Rattle.mtapi_machine.specs.Row.{handle_of}
-use Rattle.sched_workers.specs.Calls.{call_of}
-use Rattle.sched_workers.specs.Lines.{Line}
+use Rattle.workload_runs.specs.Calls.{call_of}
+use Rattle.workload_runs.specs.Lines.{Line}
 use Rattle.run_check.specs.Takes.{Takes, CarriedTo}
 use Rattle.run_check.proofs.Same.{takes_same}
 

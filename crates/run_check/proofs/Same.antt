@@ -4,8 +4,8 @@ use Rattle.mtapi_machine.specs.declared.ops.Op.{Op}
 use Rattle.mtapi_machine.specs.declared.replies.Reply.{Reply}
 use Rattle.mtapi_machine.specs.declared.replies.Reply.TheVariants as reply
 use Rattle.mtapi_machine.specs.Kept.{is_pending}
-use Rattle.sched_workers.specs.Calls.{Call, Once, Looking}
-use Rattle.sched_workers.specs.Lines.{Line, line, before_it}
+use Rattle.workload_runs.specs.Calls.{Call, Once, Looking}
+use Rattle.workload_runs.specs.Lines.{Line, line, before_it}
 use Rattle.run_check.specs.Takes.{Takes}
 
 -- the same is left, and the reply is the same

@@ -3,8 +3,8 @@ use Rattle.std.proofs.Common.{◌≡◌, ℕ, suc, ◌+◌, Bool, List, [], ◌�
 use Rattle.std.specs.Prelude.{◌↔◌, IsTrue}
 use Rattle.workload_file.specs.declared.workload.Part.{Part}
 use Rattle.mtapi_machine.specs.declared.replies.Reply.{Reply}
-use Rattle.sched_workers.specs.Parts.{CallerRan, CallersRan, MainRan, PartsRan}
-use Rattle.sched_workers.specs.Lines.{Line, in_lines}
+use Rattle.workload_runs.specs.Parts.{CallerRan, CallersRan, MainRan, PartsRan}
+use Rattle.workload_runs.specs.Lines.{Line, in_lines}
 
 module _ (made : ℕ → List Line) where
   abbrev pub Some : ℕ → List Part → Type 0

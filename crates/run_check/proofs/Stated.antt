@@ -1,10 +1,10 @@
 -- Which ops statements ask for.
 use Rattle.mtapi_machine.specs.declared.ops.Op.{Op}
 use Rattle.mtapi_machine.specs.declared.ops.Op.TheVariants as ops
-use Rattle.sched_workers.specs.declared.calls.Wanted.{Wanted}
-use Rattle.sched_workers.specs.declared.calls.Wanted.TheVariants.{Task, Entrance, AllMembers, FirstMember, Mutex, Sem, Rwl}
-use Rattle.sched_workers.specs.Calls.{IsOnce}
-use Rattle.sched_workers.specs.Wants.{op_of, IsTimed}
+use Rattle.workload_runs.specs.declared.calls.Wanted.{Wanted}
+use Rattle.workload_runs.specs.declared.calls.Wanted.TheVariants.{Task, Entrance, AllMembers, FirstMember, Mutex, Sem, Rwl}
+use Rattle.workload_runs.specs.Calls.{IsOnce}
+use Rattle.workload_runs.specs.Wants.{op_of, IsTimed}
 use Rattle.std.proofs.Common.{Bool}
 use Rattle.run_check.specs.Same.{IsStated}
 

@@ -2,7 +2,7 @@
 use Rattle.std.specs.Prelude.{◌≡◌}
 use Rattle.mtapi_machine.specs.declared.ops.Op.TheVariants as ops
 use Rattle.mtapi_machine.specs.declared.replies.Reply.TheVariants as replies
-use Rattle.sched_workers.specs.Lines.{Line}
+use Rattle.workload_runs.specs.Lines.{Line}
 
 -- a further caller enters
 abbrev pub Enters : Line → Type 0

@@ -6,10 +6,10 @@ use Rattle.workload_file.specs.declared.workload.Statement.{Statement}
 use Rattle.mtapi_machine.specs.declared.replies.Reply.{Reply}
 use Rattle.mtapi_machine.specs.Row.{handle_of}
 use Rattle.mtapi_machine.specs.Kept.{is_pending}
-use Rattle.sched_workers.specs.declared.calls.Wanted.{Wanted}
-use Rattle.sched_workers.specs.Calls.{Call, call_of}
-use Rattle.sched_workers.specs.Wants.{op_of}
-use Rattle.sched_workers.specs.Lines.{Line, Made, KeepsTimeout, is_timeout}
+use Rattle.workload_runs.specs.declared.calls.Wanted.{Wanted}
+use Rattle.workload_runs.specs.Calls.{Call, call_of}
+use Rattle.workload_runs.specs.Wants.{op_of}
+use Rattle.workload_runs.specs.Lines.{Line, Made, KeepsTimeout, is_timeout}
 
 -- the front of the lines is made by this call, which comes to this reply, and these are left behind it
 pub record Takes (c : Call) (lines rest : List Line) (r : Reply) : Type 0 where

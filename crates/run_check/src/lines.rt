@@ -1,6 +1,6 @@
 //! The lines of one seat.
 ghost use Rattle.std.specs.Prelude.{◌≡◌, ◌++◌, ◌∷◌, [], ◌==◌, OnOk, IfOk, length, if◌then◌else◌};
-ghost use Rattle.sched_workers.specs.Lines.{line, lines_of};
+ghost use Rattle.workload_runs.specs.Lines.{line, lines_of};
 
 use mtapi_machine::{Entry, Op, Reply};
 use std::alloc::{AllocError, Global};
@@ -15,7 +15,7 @@ pub struct Line {
 }
 
 impl Model for Line {
-    ghost use Rattle.sched_workers.specs.Lines.{Line, line};
+    ghost use Rattle.workload_runs.specs.Lines.{Line, line};
 
     ghost Value = { Line };
 

@@ -4,9 +4,9 @@ ghost use Rattle.mtapi_values.specs.Timeouts.{looks_of};
 ghost use Rattle.mtapi_machine.specs.declared.replies.Reply.{Reply};
 ghost use Rattle.mtapi_machine.specs.Row.{handle_of};
 ghost use Rattle.mtapi_machine.specs.Kept.{is_pending};
-ghost use Rattle.sched_workers.specs.Calls.{Once, Looking, call_of};
-ghost use Rattle.sched_workers.specs.Wants.{op_of, waits, shape, IsTimed, Stated};
-ghost use Rattle.sched_workers.specs.Lines.{Line, KeepsTimeout, is_timeout};
+ghost use Rattle.workload_runs.specs.Calls.{Once, Looking, call_of};
+ghost use Rattle.workload_runs.specs.Wants.{op_of, waits, shape, IsTimed, Stated};
+ghost use Rattle.workload_runs.specs.Lines.{Line, KeepsTimeout, is_timeout};
 ghost use Rattle.run_check.specs.Same.{IsStated};
 ghost use Rattle.run_check.specs.Takes.{Takes, DecidesAs, Decides, CarriedTo};
 
@@ -14,9 +14,9 @@ use crate::asked::same_op;
 use crate::lines::Line;
 use mtapi_machine::{Op, Reply};
 use mtapi_values::{MrapiStatus, MtapiStatus, Timeout};
-use sched_workers::{Call, Wanted, call_of};
 use std::alloc::{AllocError, Global};
 use workload_file::Statement;
+use workload_runs::{Call, Wanted, call_of};
 
 fn is_pending(reply: &Reply) -> bool
     ensures { result ≡ is_pending reply.now }

@@ -3,17 +3,17 @@ ghost use Rattle.std.specs.Prelude.{◌≡◌, ◌↔◌, ◌++◌, ◌∷◌, [
 ghost use Rattle.mtapi_machine.specs.declared.ops.Op.TheVariants as ops;
 ghost use Rattle.mtapi_machine.specs.declared.replies.Reply.{Reply};
 ghost use Rattle.mtapi_machine.specs.declared.replies.Reply.TheVariants as replies;
-ghost use Rattle.sched_workers.specs.Parts.{MainRan, CallerRan};
-ghost use Rattle.sched_workers.specs.Lines.{Line, line, head_of, tail_of_main, in_lines};
-ghost use Rattle.sched_workers.specs.RunOf.{is_work, all_work, WorkerRan};
+ghost use Rattle.workload_runs.specs.Parts.{MainRan, CallerRan};
+ghost use Rattle.workload_runs.specs.Lines.{Line, line, head_of, tail_of_main, in_lines};
+ghost use Rattle.workload_runs.specs.RunOf.{is_work, all_work, WorkerRan};
 ghost use Rattle.run_check.specs.Starts.{Enters, Stops};
 
 use crate::lines::Line;
 use crate::made::carried;
 use mtapi_machine::{Op, Reply};
-use sched_workers::has_begin;
 use std::alloc::{AllocError, Global};
 use workload_file::Statement;
+use workload_runs::has_begin;
 
 fn is_ok(reply: &Reply) -> bool
     ensures { IsTrue result ↔ (reply.now ≡ replies.Ok) }

@@ -2,10 +2,10 @@
 ghost use Rattle.std.specs.Prelude.{◌≡◌, ◌↔◌, ◌+◌, ◌<◌, ◌≤◌, ◌++◌, ◌∷◌, [], ℕ, Bool, List, IsTrue, IfOk, length, if◌then◌else◌};
 ghost use Rattle.workload_file.specs.declared.workload.Part.{Part};
 ghost use Rattle.mtapi_machine.specs.declared.replies.Reply.{Reply};
-ghost use Rattle.sched_workers.specs.Parts.{MainRan, CallerRan, CallersRan, PartsRan};
-ghost use Rattle.sched_workers.specs.Lines.{lines_of, in_lines};
-ghost use Rattle.sched_workers.specs.RunOf.{WorkerRan, ClosesAtEnd, RunOf};
-ghost use Rattle.sched_workers.specs.Whole.{HasSeats};
+ghost use Rattle.workload_runs.specs.Parts.{MainRan, CallerRan, CallersRan, PartsRan};
+ghost use Rattle.workload_runs.specs.Lines.{lines_of, in_lines};
+ghost use Rattle.workload_runs.specs.RunOf.{WorkerRan, ClosesAtEnd, RunOf};
+ghost use Rattle.workload_runs.specs.Whole.{HasSeats};
 ghost use Rattle.history.specs.Histories.{entry};
 ghost use Rattle.mtapi_machine.specs.declared.ops.Op.TheVariants as ops;
 ghost use Rattle.mtapi_machine.specs.declared.replies.Reply.TheVariants as replies;

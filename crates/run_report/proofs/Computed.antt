@@ -9,7 +9,7 @@ use Rattle.mtapi_machine.specs.WorkRows.{is_ready, can_take, has_better}
 use Rattle.mtapi_machine.specs.Legal.{after_from}
 use Rattle.mtapi_machine.specs.Worked.{one_task}
 use Rattle.workload_file.specs.Deeds.{is_begin}
-use Rattle.sched_workers.specs.Parts.{has_begin}
+use Rattle.workload_runs.specs.Parts.{has_begin}
 use Rattle.run_report.specs.Replies.{decided, further_told}
 use Rattle.mtapi_machine.specs.Ends.{end_at}
 use Rattle.run_report.specs.Tasks.{numbers_text, end_text}

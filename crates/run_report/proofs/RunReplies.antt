@@ -9,9 +9,9 @@ use Rattle.mtapi_machine.specs.declared.replies.Reply.{Reply}
 use Rattle.mtapi_machine.specs.Row.{handle_of}
 use Rattle.mtapi_machine.specs.Legal.{NodeEntry}
 use Rattle.mtapi_machine.specs.Kept.{is_pending}
-use Rattle.sched_workers.specs.Calls.{Call, Once, Looking, call_of}
-use Rattle.sched_workers.specs.Lines.{Line, line, lines_of, before_it, Made, head_of, tail_of_main, in_lines}
-use Rattle.sched_workers.specs.Parts.{has_begin, Carried, MainRan, CallerRan, CallersRan, PartsRan}
+use Rattle.workload_runs.specs.Calls.{Call, Once, Looking, call_of}
+use Rattle.workload_runs.specs.Lines.{Line, line, lines_of, before_it, Made, head_of, tail_of_main, in_lines}
+use Rattle.workload_runs.specs.Parts.{has_begin, Carried, MainRan, CallerRan, CallersRan, PartsRan}
 use Rattle.run_report.specs.Replies.{Told, decided, calls_before, further_told, all_told}
 use Rattle.run_report.specs.RunReplies.{ReadsTheRun}
 

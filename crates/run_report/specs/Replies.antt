@@ -6,7 +6,7 @@ use Rattle.workload_file.specs.declared.workload.Part.{Part}
 use Rattle.mtapi_machine.specs.declared.replies.Reply.{Reply}
 use Rattle.mtapi_machine.specs.Kept.{is_pending}
 use Rattle.mtapi_machine.specs.Legal.{NodeEntry}
-use Rattle.sched_workers.specs.Parts.{has_begin}
+use Rattle.workload_runs.specs.Parts.{has_begin}
 
 -- the replies behind a list of references
 abbrev pub nows : List (Bor Reply) → List Reply

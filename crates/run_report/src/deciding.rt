@@ -4,9 +4,9 @@ ghost use Rattle.mtapi_machine.specs.Kept.{is_pending};
 ghost use Rattle.run_report.specs.Replies.{nows, decides, decided, calls_before};
 
 use mtapi_machine::{Entry, Reply};
-use sched_workers::has_begin;
 use std::alloc::{AllocError, Global};
 use workload_file::Part;
+use workload_runs::has_begin;
 
 fn is_pending(reply: &Reply) -> bool
     ensures { result ≡ is_pending reply.now }

@@ -15,7 +15,7 @@ use crate::ends::ends_of;
 use crate::short_ends::ShortEnd;
 use crate::totals::{Totals, no_totals, with_tasks};
 use mtapi_machine::Entry;
-use node_core::Journal;
+use node_journals::Journal;
 use number_text::{push_number, signed_text};
 use std::alloc::{AllocError, Global};
 use std::collections::HashMap;

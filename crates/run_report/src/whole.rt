@@ -7,7 +7,7 @@ ghost use Rattle.run_report.specs.Report.{run_terms, report};
 use crate::page::text_by_entries;
 use mtapi_machine::Entry;
 use mtapi_values::Layout;
-use node_core::Journal;
+use node_journals::Journal;
 use std::alloc::{AllocError, Global};
 use workload_file::Workload;
 

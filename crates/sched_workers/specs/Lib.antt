@@ -1,7 +1,11 @@
-pub mod Calls
-pub mod Wants
-pub mod Parts
-pub mod Lines
-pub mod RunOf
 pub mod Turns
-pub mod Whole
+pub mod Replies
+pub mod Looks
+pub mod Answers
+pub mod Rounds
+pub mod Steps
+pub mod Pairs
+pub mod Carries
+pub mod Crews
+pub mod Bridges
+pub mod Runs

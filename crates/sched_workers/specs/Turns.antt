@@ -1,31 +1,32 @@
--- The turns of one seat in a whole history, and what a journal keeps of them.
-use Rattle.std.specs.Prelude.{ℕ, ◌+◌, Bool, true, not, ◌==◌, List, [], ◌∷◌, if◌then◌else◌}
+-- Turns of a seat of a cell over a node with a journal.
+use Rattle.std.specs.Prelude.{◌≡◌, ℕ, List, ◌++◌}
+use Rattle.turn_cell.specs.Seats.{SeatView}
+use Rattle.turn_looks.specs.Turns as looks
 use Rattle.mtapi_machine.specs.declared.ops.Op.{Op}
 use Rattle.mtapi_machine.specs.declared.replies.Reply.{Reply}
-use Rattle.mtapi_machine.specs.State.{State}
-use Rattle.mtapi_machine.specs.Legal.{NodeEntry, next}
-use Rattle.mtapi_machine.specs.Kept.{is_dropped, is_pending}
-use Rattle.sched_workers.specs.Lines.{Line, line}
+use Rattle.mtapi_machine.specs.Legal.{NodeEntry}
+use Rattle.node_core.specs.Logs.{journal_legal}
+use Rattle.node_core.specs.declared.journaled.JournaledTerms.{JournaledTerms}
 
--- what a seat asked, the reply, and whether a journal keeps the entry
-pub record Turn : Type 0 where
-  pub op : Op
-  pub reply : Reply
-  pub stays : Bool
+-- a seat of such a cell
+abbrev pub Seat : Type 0
+Seat = SeatView JournaledTerms Op Reply
 
--- a turn that a journal keeps
-abbrev pub stayed : Op → Reply → Turn
-stayed o r = record { op = o; reply = r; stays = true }
+-- the same seat of the same cell
+abbrev pub SameSeat : Seat → Seat → Type 0
+SameSeat old new = looks.SameSeat old new
 
-abbrev pub turn_of : State → NodeEntry → Turn
-turn_of s e = record { op = e.op; reply = e.reply; stays = not (is_dropped s e) }
+-- the seat made one turn: the op and its reply come behind what other seats did since its last one, and the list is legal
+abbrev pub Turned : Seat → Op → Reply → Seat → Type 0
+Turned old o r new = looks.Turned journal_legal old o r new
 
--- the turns of a seat, in order, from a state on
-unfoldable pub turns_of : ℕ → State → List NodeEntry → List Turn
-turns_of who s [] = []
-turns_of who s (e ∷ es) = if e.who == who then turn_of s e ∷ turns_of who (next s e) es else turns_of who (next s e) es
+-- the tickets had run out, and nothing was added
+abbrev pub Unturned : Seat → Seat → Type 0
+Unturned old new = looks.Unturned old new
 
--- the lines that are left of them, where so many Pending ones were left out before
-unfoldable pub lines_left : ℕ → List Turn → List Line
-lines_left n [] = []
-lines_left n (t ∷ ts) = if t.stays then line t.op t.reply n ∷ lines_left 0 ts else lines_left (if is_pending t.reply then n + 1 else n) ts
+-- the seat added entries of its own, which for its number are as R says
+pub record AddsOwn (R : ℕ → List NodeEntry → Type 0) (old new : Seat) : Type 0 where
+  pub same : SameSeat old new
+  pub own : List NodeEntry
+  pub mine : new.mine ≡ old.mine ++ own
+  pub is : R old.number own

@@ -1,13 +1,18 @@
-//! Laws of runs that follow from the definitions alone. Each function does nothing: its contract is the law.
+//! What the contracts of callers and workers come to in a legal history. Each function does nothing: its contract is the law.
 
-ghost use Rattle.sched_workers.specs.Whole.{LinesAreLeft, JournalIsRun};
+ghost use Rattle.sched_workers.specs.Bridges.{MainTurns, CallerTurns, WorkerTurns};
 
-/// What a journal shows of a seat is what is left of the seat's turns in the whole history.
-pub fn law_lines_left()
-    ensures { LinesAreLeft }
+/// Where each of its calls was done, what main executed is main's part of a run.
+pub fn law_main_turns()
+    ensures { MainTurns }
 {}
 
-/// Where a whole history is a run of a workload, so is its journal.
-pub fn law_journal_is_run()
-    ensures { JournalIsRun }
+/// What a further caller that entered executed is its part of a run.
+pub fn law_caller_turns()
+    ensures { CallerTurns }
+{}
+
+/// What a worker served is its part of a run.
+pub fn law_worker_turns()
+    ensures { WorkerTurns }
 {}

@@ -1,11 +1,24 @@
-//! What a run of a workload is: the call that each statement makes, the entries of each seat, and what a journal shows of them.
-//!
-//! The definitions stand in `specs/`. The functions of `laws` have no body: each contract is a law that follows from the definitions.
+//! Callers and workers: each holds a seat of a cell over a node with a journal, and makes its calls in turns.
 #![tactic(auto)]
 
-mod calls;
+pub mod beside;
+pub mod callers;
+pub mod crew;
 pub mod laws;
-mod statements;
+pub mod looks;
+pub mod run;
+pub mod statements;
+pub mod tallies;
+pub mod threads;
+pub mod workers;
 
-pub use calls::{Call, Wanted, call_of};
-pub use statements::has_begin;
+pub use beside::{Beside, Job, pair};
+pub use callers::Caller;
+pub use crew::back::Back;
+pub use crew::jobs::WorkerJob;
+pub use run::{RunError, run_node};
+pub use statements::Stop;
+pub use threads::{FewThreads, Threads};
+pub use turn_looks::ServeEnd;
+pub use workers::Worker;
+pub use workload_runs::Wanted;

@@ -42,9 +42,9 @@ pub use Rattle.run_report.proofs.RunReplies.{reads_the_run}
 pub use Rattle.run_report.specs.Calls.{call_line, call_lines, is_task, marked_line, status_of, task_line, task_lines}
 pub use Rattle.run_report.specs.{Replies.Told, Replies.all_told, declared.totals.Totals.Totals}
 pub use Rattle.run_report.specs.{Report.parts_told, Report.run_terms, Summary.no_totals, Summary.with_end, Summary.with_task as with_counted, Tasks.ended_text}
-pub use Rattle.sched_workers.specs.Calls.{Call, Looking, Once, call_of, group_at, handle_at}
-pub use Rattle.sched_workers.specs.Lines.{Line, Looked, Made, before_it, head_of, in_lines, line, tail_of_main}
-pub use Rattle.sched_workers.specs.{Parts.CallerRan, Parts.MainRan, Parts.PartsRan, RunOf.RunOf, RunOf.WorkerRan, RunOf.is_work}
+pub use Rattle.workload_runs.specs.Calls.{Call, Looking, Once, call_of, group_at, handle_at}
+pub use Rattle.workload_runs.specs.Lines.{Line, Looked, Made, before_it, head_of, in_lines, line, tail_of_main}
+pub use Rattle.workload_runs.specs.{Parts.CallerRan, Parts.MainRan, Parts.PartsRan, RunOf.RunOf, RunOf.WorkerRan, RunOf.is_work}
 pub use Rattle.settled_runs.specs.Granted.{Asks, GroupIsMade, HasAction, HasRoom, IsGranted, IsOpened, IsQueued, IsServed, IsThere, Made as MadeBy, MadeObjectsStay, QuietCallsAreGranted, is_handle, makes_one, makes_queue, puts, puts_into as puts_entry}
 pub use Rattle.settled_runs.specs.Plain.{Faults, action_in, actions_in, all_statements, no_faults, plain_call_lines, plain_task_line, plain_task_lines, queue_at, queue_in, with_member, with_task}
 pub use Rattle.settled_runs.specs.PlainReplies.{IsPlainTask, PlainRepliesShowPlainReport}
@@ -74,7 +74,7 @@ unfoldable pub use Rattle.mtapi_objects.specs.{Actions.has_worker, Groups.ending
 unfoldable pub use Rattle.run_report.specs.Report.{report}
 unfoldable pub use Rattle.run_report.specs.{Calls.call_lines_of, Calls.shown_of, Calls.task_lines_of, Calls.task_name, Tasks.end_text, Tasks.numbers_text}
 unfoldable pub use Rattle.run_report.specs.{Replies.decided, Replies.further_told, Summary.totals, Summary.totals_text, Summary.with_parts, Summary.with_tasks}
-unfoldable pub use Rattle.sched_workers.specs.{Lines.lines_of, Parts.CallersRan, Parts.Carried, Parts.has_begin, RunOf.all_work}
+unfoldable pub use Rattle.workload_runs.specs.{Lines.lines_of, Parts.CallersRan, Parts.Carried, Parts.has_begin, RunOf.all_work}
 unfoldable pub use Rattle.settled_runs.specs.Plain.{faults_behind, plain_call_line, plain_calls_from, plain_end, plain_fault, plain_report, task_in}
 unfoldable pub use Rattle.settled_runs.specs.PlainReplies.{ArePlain, IsPlainReply, PartsArePlain}
 unfoldable pub use Rattle.settled_runs.specs.Settled.{are_settled, has_different_ids, has_one_kind_a_job, have_one_fault_a_group, is_settled, is_settled_deed, keep_limits, sets_up_first}

@@ -7,7 +7,7 @@ use Rattle.mtapi_machine.specs.Legal.{NodeEntry, Legal, after}
 use Rattle.mtapi_machine.specs.Laws.{StartsTask}
 use Rattle.mtapi_machine.specs.Ends.{end_at}
 use Rattle.history_law.specs.Accepted.{accepted}
-use Rattle.sched_workers.specs.RunOf.{RunOf}
+use Rattle.workload_runs.specs.RunOf.{RunOf}
 use Rattle.run_report.specs.Report.{run_terms}
 use Rattle.settled_runs.specs.Plain.{all_statements, actions_in, plain_end}
 use Rattle.settled_runs.specs.Settled.{is_settled}

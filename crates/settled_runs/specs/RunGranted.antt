@@ -9,7 +9,7 @@ use Rattle.workload_file.specs.declared.workload.Workload.{Workload}
 use Rattle.workload_file.specs.Formed.{WellFormed}
 use Rattle.mtapi_machine.specs.declared.replies.Reply.{Reply}
 use Rattle.mtapi_machine.specs.Legal.{NodeEntry, Legal}
-use Rattle.sched_workers.specs.RunOf.{RunOf}
+use Rattle.workload_runs.specs.RunOf.{RunOf}
 use Rattle.run_report.specs.Report.{run_terms}
 use Rattle.settled_runs.specs.Granted.{IsGranted}
 use Rattle.settled_runs.specs.Settled.{is_settled}

@@ -1,28 +1,25 @@
 -- How often a handle is listed, after a change of the list.
-use Rattle.history_law.proofs.Names.{◌≡◌, ℕ, ◌+◌, ◌≤◌, Bool, false, cond, List, [], ◌∷◌, refl, sym, ap, subst, arith, ◌==◌, ◌&&◌, eqb-true, cond_both, eq-eqb, false_from_ne_true, Listed, change, change_all, issue, listed, TaskEnd, Task, ended, end_each, listed-issue}
-use Rattle.history_law.proofs.Answered.{on_test}
+use Rattle.history_law.proofs.Names.{◌≡◌, ℕ, ◌+◌, ◌≤◌, Bool, false, cond, List, [], ◌∷◌, refl, sym, ap, subst, arith, ◌==◌, eq-eqb, Listed, change, change_all, issue, listed, TaskEnd, Task, end_each, listed-issue, nat_tests}
 
 module _ {T : Type 0} where
   head_listed : (j : ℕ) (q r : Listed T) (qs rs : List (Listed T)) → q.handle ≡ r.handle → listed j qs ≡ listed j rs → listed j (q ∷ qs) ≡ listed j (r ∷ rs)
   unfolding listed
-  head_listed j q r qs rs e k = let d : cond {A = ℕ} (q.handle == j) 1 0 ≡ cond {A = ℕ} (r.handle == j) 1 0 = ap (λ (n : ℕ). cond {A = ℕ} (n == j) 1 0) e in omega arith
+  head_listed j q r qs rs e k = grind arith
 
   pub listed_change : (j h : ℕ) (f : Listed T → Listed T) (l : List (Listed T)) → ((r : Listed T) → (f r).handle ≡ r.handle) → listed j (change h f l) ≡ listed j l
-  unfolding change
+  unfolding change listed
   listed_change j h f [] k = refl
-  listed_change j h f (r ∷ rs) k = cond_both (r.live && (r.handle == h)) (f r ∷ rs) (r ∷ change h f rs) (λ l. listed j l ≡ listed j (r ∷ rs))
-      (λ e. head_listed j (f r) r rs rs (k r) refl)
-      (λ e. head_listed j r r (change h f rs) rs refl (listed_change j h f rs k))
+  listed_change j h f (r ∷ rs) k = grind (arith, k r, listed_change j h f rs k)
 
   pub listed_all : (j : ℕ) (p : T → Bool) (f : Listed T → Listed T) (l : List (Listed T)) → ((r : Listed T) → (f r).handle ≡ r.handle) → listed j (change_all p f l) ≡ listed j l
-  unfolding change_all
+  unfolding change_all listed
   listed_all j p f [] k = refl
-  listed_all j p f (r ∷ rs) k = head_listed j (cond (r.live && p r.fields) (f r) r) r (change_all p f rs) rs (cond_both (r.live && p r.fields) (f r) r (λ q. q.handle ≡ r.handle) (λ e. k r) (λ e. refl)) (listed_all j p f rs k)
+  listed_all j p f (r ∷ rs) k = grind (arith, k r, listed_all j p f rs k)
 
   -- where a handle isn't listed, the head has another one
   pub head_apart : (h : ℕ) (r : Listed T) (rs : List (Listed T)) → listed h (r ∷ rs) ≡ 0 → ((r.handle == h) ≡ false) × (listed h rs ≡ 0)
   unfolding listed
-  head_apart h r rs n = (false_from_ne_true (r.handle == h) (λ c. let k : cond {A = ℕ} (r.handle == h) 1 0 ≡ 1 = ap (λ (b : Bool). cond {A = ℕ} b 1 0) c in omega arith), omega arith)
+  head_apart h r rs n = (grind arith, grind arith)
 
   -- an issued handle is listed
   pub some_issued : (h : ℕ) (x : T) (l : List (Listed T)) → 1 ≤ listed h (issue h x l)
@@ -34,18 +31,15 @@ module _ {T : Type 0} where
 
   pub once_rest : (r : Listed T) (rs : List (Listed T)) → OnceIn (r ∷ rs) → OnceIn rs
   unfolding listed
-  once_rest r rs o j = let k : cond {A = ℕ} (r.handle == j) 1 0 + listed j rs ≤ 1 = o j in omega arith
+  once_rest r rs o j = grind (arith, o j)
 
   pub once_same : (l k : List (Listed T)) → ((j : ℕ) → listed j k ≡ listed j l) → OnceIn l → OnceIn k
   once_same l k e o j = subst (λ (n : ℕ). n ≤ 1) (sym (e j)) (o j)
 
   pub once_more : (h : ℕ) (v : T) (l : List (Listed T)) → listed h l ≡ 0 → OnceIn l → OnceIn (issue h v l)
-  once_more h v l n o j = let e = listed-issue j h v l in (on_test (λ b. listed j (issue h v l) ≡ listed j l + cond b 1 0 → listed j (issue h v l) ≤ 1) (h == j)
-      (λ s e. let k : h ≡ j = eqb-true h j s in let z : listed j l ≡ 0 = subst (λ (x : ℕ). listed x l ≡ 0) k n in omega arith)
-      (λ s e. let u : listed j l ≤ 1 = o j in omega arith) e)
+  once_more h v l n o j = grind (arith, nat_tests, listed-issue j h v l, o j)
 
 pub listed_ends : (j : ℕ) (p : Task → Bool) (e : TaskEnd) (n : ℕ) (l : List (Listed Task)) → listed j (end_each p e n l) ≡ listed j l
-unfolding end_each
+unfolding end_each listed
 listed_ends j p e n [] = refl
-listed_ends j p e n (r ∷ rs) = cond_both (r.live && p r.fields) (ended e n r ∷ end_each p e (n + 1) rs) (r ∷ end_each p e n rs) (λ l. listed j l ≡ listed j (r ∷ rs))
-    (λ c. head_listed j (ended e n r) r (end_each p e (n + 1) rs) rs refl (listed_ends j p e (n + 1) rs)) (λ c. head_listed j r r (end_each p e n rs) rs refl (listed_ends j p e n rs))
+listed_ends j p e n (r ∷ rs) = grind (arith, listed_ends j p e (n + 1) rs, listed_ends j p e n rs)

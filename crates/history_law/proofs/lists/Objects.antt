@@ -1,10 +1,11 @@
 -- What an entry says of a new object, its record keeps.
-use Rattle.history_law.proofs.Names.{◌≡◌, ℕ, ◌≤◌, true, List, [], ◌∷◌, ◌++◌, refl, sym, ◌∙◌, subst, ObjectKind, Op, Handle, Mtapi, Listed, live_object, listed, issue, Action, new_action, Task, NewTask, new_task, Queue, State, FieldsOf, objects_of, Move, Queues, makes_action, starts_task, makes, is_fresh, apply, after_moves, gives, Allows, only, after_row, row, asked_for, asked_of, new_queue, NodeEntry, IsNext, next, LegalFrom, after_from, IsMade, StartsTask, Legal-rest, after-append, AllGives, on_only, on_live, along, issues, ◌+◌}
+use Rattle.history_law.proofs.Names.{◌≡◌, ℕ, ◌≤◌, true, List, [], ◌∷◌, ◌++◌, refl, sym, ◌∙◌, subst, ObjectKind, Op, Handle, Listed, listed, issue, Action, new_action, Task, NewTask, new_task, Queue, State, FieldsOf, objects_of, Move, starts_task, is_fresh, apply, after_moves, new_queue, NodeEntry, IsNext, next, LegalFrom, after_from, IsMade, StartsTask, Legal-rest, after-append, along, issues, ◌+◌}
 use Rattle.mtapi_values.specs.declared.handles.ObjectKind.TheVariants as kind
-use Rattle.mtapi_values.specs.declared.statuses.MtapiStatus.TheVariants as m
 use Rattle.mtapi_machine.specs.declared.ops.Op.TheVariants as op
 use Rattle.history_law.specs.Words.{makes as makes_kind}
-use Rattle.history_law.proofs.Accepted.{granted, refuses_only, refuses_live, no_handle}
+use Rattle.mtapi_machine.specs.Answers.{Answers}
+use Rattle.mtapi_machine.specs.Answers as is
+use Rattle.mtapi_machine.proofs.Answered.{answered}
 use Rattle.history_law.proofs.Ages.{SameFields, SameAction, SameTask, SameQueue, kind_move, listed_ages, Under, under_issue, under_none, under_ages, same_task}
 use Rattle.history_law.proofs.Reuse.{fresh_unlisted, fresh_apart, listed_issue_some, issued_as}
 use Rattle.history_law.proofs.Answered.{true_false}
@@ -40,24 +41,16 @@ task_then a x y s t = record { job = s.job ∙ t.job; args = s.args ∙ t.args; 
 abbrev pub StartedAs : State → Op → ℕ → State → Type 0
 StartedAs s o h t = (n : NewTask) × StartsTask n o × HasObject kind.Task h (SameTask (new_task n s.starts)) t × (t.starts ≡ s.starts + 1)
 
-on_start : (s : State) (o : Op) (h : ℕ) (n : NewTask) → StartsTask n o → AllGives (λ x ms. Handle h ≡ x → StartedAs s o h (after_moves ms s)) (only (is_fresh (objects_of kind.Task) s h) (gives (Handle h) (starts_task h n ∷ [])))
-on_start s o h n b =
-    on_only (λ x ms. Handle h ≡ x → StartedAs s o h (after_moves ms s)) (is_fresh (objects_of kind.Task) s h) (Handle h) (starts_task h n ∷ [])
-    (λ e i. (n, b, has_new h (SameTask (new_task n s.starts)) (new_task n s.starts) s.tasks (fresh_unlisted kind.Task s h e) (same_task (new_task n s.starts)), refl))
+new_start : (s : State) (o : Op) (h : ℕ) (n : NewTask) → StartsTask n o → is_fresh (objects_of kind.Task) s h ≡ true → StartedAs s o h (after_moves (starts_task h n ∷ []) s)
+new_start s o h n b e = (n, b, has_new h (SameTask (new_task n s.starts)) (new_task n s.starts) s.tasks (fresh_unlisted kind.Task s h e) (same_task (new_task n s.starts)), refl)
 
-start_as : (s : State) (who : ℕ) (o : Op) (h : ℕ) → makes_kind kind.Task o ≡ true → Allows (row s who o (Handle h)) (Handle h) → StartedAs s o h (after_row s (row s who o (Handle h)))
-start_as s who (op.TaskStart job args priority cores detached group) h e a =
-    granted (λ ms. StartedAs s (op.TaskStart job args priority cores detached group) h (after_moves ms s)) (row s who (op.TaskStart job args priority cores detached group) (Handle h)) h
-    (refl, (refl, (refl, (refl, (refl, (refl, (refl, refuses_only _ _ _))))))) (λ c0 c1 c2 c3 c4 c5 c6. on_start s (op.TaskStart job args priority cores detached group) h (asked_for job args priority cores detached group) refl) a
-start_as s who (op.TaskEnqueue q args cores detached group) h e a =
-    granted (λ ms. StartedAs s (op.TaskEnqueue q args cores detached group) h (after_moves ms s)) (row s who (op.TaskEnqueue q args cores detached group) (Handle h)) h
-    (refl, (refl, refuses_live (live_object s.queues q.0) _ _ tt (λ x. (refl, (refl, (refl, (refl, (refl, (refl, (refl, refuses_only _ _ _))))))))))
-    (λ c d. on_live (λ x ms. Handle h ≡ x → StartedAs s (op.TaskEnqueue q args cores detached group) h (after_moves ms s)) (live_object s.queues q.0) _ _ (λ i. absurd (no_handle h (Mtapi m.ErrQueueInvalid) refl i))
-    (λ x f c0 c1 c2 c3 c4 c5 c6. on_start s (op.TaskEnqueue q args cores detached group) h (asked_of q.0 x args cores detached group) (x, refl))) a
-start_as s who _ h e a = true_false e refl
+start_by : (s : State) (who : ℕ) (o : Op) (h : ℕ) (ms : List Move) → makes_kind kind.Task o ≡ true → Answers s who o (Handle h) ms → StartedAs s o h (after_moves ms s)
+start_by s who o _ _ e (is.starts job args priority cores detached group h f) = new_start s o h _ refl f.fresh
+start_by s who o _ _ e (is.enqueues q args cores detached group h x d p f n) = new_start s o h _ (x, refl) f.fresh
+start_by s who _ _ _ e _ = true_false e refl
 
 pub started_as : (s : State) (e : NodeEntry) (h : ℕ) → IsNext s e → issues kind.Task h e ≡ true → StartedAs s e.op h (next s e)
-started_as s e h n i = issued_as kind.Task h s (λ o t. StartedAs s o h t) (λ who o. start_as s who o h) e n i
+started_as s e h n i = issued_as kind.Task h s (λ o t. StartedAs s o h t) (λ who o k a. start_by s who o h _ k (answered s who o (Handle h) a)) e n i
 
 -- Actions
 
@@ -68,16 +61,12 @@ abbrev pub MadeAs : Op → ℕ → State → Type 0
 MadeAs (op.ActionCreate job k cores) h t = HasObject kind.Action h (SameAction (new_action job k cores.0)) t
 MadeAs _ h t = ⊥
 
-make_as : (s : State) (who : ℕ) (o : Op) (h : ℕ) → makes_kind kind.Action o ≡ true → Allows (row s who o (Handle h)) (Handle h) → MadeAs o h (after_row s (row s who o (Handle h)))
-make_as s who (op.ActionCreate job k cores) h e a =
-    granted (λ ms. MadeAs (op.ActionCreate job k cores) h (after_moves ms s)) (row s who (op.ActionCreate job k cores) (Handle h)) h
-    (refl, (refl, (refl, refuses_only _ _ _)))
-    (λ c0 c1 c2. on_only (λ x ms. Handle h ≡ x → MadeAs (op.ActionCreate job k cores) h (after_moves ms s)) (is_fresh (objects_of kind.Action) s h) (Handle h) (makes_action h (new_action job k cores.0) ∷ [])
-    (λ e i. has_new h (SameAction (new_action job k cores.0)) (new_action job k cores.0) s.actions (fresh_unlisted kind.Action s h e) (record { job = refl; kind = refl; cores = refl }))) a
-make_as s who _ h e a = true_false e refl
+make_by : (s : State) (who : ℕ) (o : Op) (h : ℕ) (ms : List Move) → makes_kind kind.Action o ≡ true → Answers s who o (Handle h) ms → MadeAs o h (after_moves ms s)
+make_by s who _ _ _ e (is.creates_action job k cores h f) = has_new h (SameAction (new_action job k cores.0)) (new_action job k cores.0) s.actions (fresh_unlisted kind.Action s h f) (record { job = refl; kind = refl; cores = refl })
+make_by s who _ _ _ e _ = true_false e refl
 
 pub made_as : (s : State) (e : NodeEntry) (h : ℕ) → IsNext s e → issues kind.Action h e ≡ true → MadeAs e.op h (next s e)
-made_as s e h n i = issued_as kind.Action h s (λ o t. MadeAs o h t) (λ who o. make_as s who o h) e n i
+made_as s e h n i = issued_as kind.Action h s (λ o t. MadeAs o h t) (λ who o k a. make_by s who o h _ k (answered s who o (Handle h) a)) e n i
 
 -- Queues
 
@@ -88,16 +77,13 @@ abbrev pub QueueAs : Op → ℕ → State → Type 0
 QueueAs (op.QueueCreate id job priority limit ordered retain) h t = HasObject kind.Queue h (SameQueue (new_queue id job priority limit ordered retain)) t
 QueueAs _ h t = ⊥
 
-queue_as : (s : State) (who : ℕ) (o : Op) (h : ℕ) → makes_kind kind.Queue o ≡ true → Allows (row s who o (Handle h)) (Handle h) → QueueAs o h (after_row s (row s who o (Handle h)))
-queue_as s who (op.QueueCreate id job priority limit ordered retain) h e a =
-    granted (λ ms. QueueAs (op.QueueCreate id job priority limit ordered retain) h (after_moves ms s)) (row s who (op.QueueCreate id job priority limit ordered retain) (Handle h)) h
-    (refl, (refl, (refl, (refl, (refl, refuses_only _ _ _)))))
-    (λ c0 c1 c2 c3 c4. on_only (λ x ms. Handle h ≡ x → QueueAs (op.QueueCreate id job priority limit ordered retain) h (after_moves ms s)) (is_fresh (objects_of kind.Queue) s h) (Handle h) (makes Queues h (new_queue id job priority limit ordered retain) ∷ [])
-    (λ e i. has_new h (SameQueue (new_queue id job priority limit ordered retain)) (new_queue id job priority limit ordered retain) s.queues (fresh_unlisted kind.Queue s h e) (record { job = refl; priority = refl; ordered = refl }))) a
-queue_as s who _ h e a = true_false e refl
+queue_by : (s : State) (who : ℕ) (o : Op) (h : ℕ) (ms : List Move) → makes_kind kind.Queue o ≡ true → Answers s who o (Handle h) ms → QueueAs o h (after_moves ms s)
+queue_by s who _ _ _ e (is.creates_queue id job priority limit ordered retain h n f) =
+    has_new h (SameQueue (new_queue id job priority limit ordered retain)) (new_queue id job priority limit ordered retain) s.queues (fresh_unlisted kind.Queue s h f) (record { job = refl; priority = refl; ordered = refl })
+queue_by s who _ _ _ e _ = true_false e refl
 
 pub queued_as : (s : State) (e : NodeEntry) (h : ℕ) → IsNext s e → issues kind.Queue h e ≡ true → QueueAs e.op h (next s e)
-queued_as s e h n i = issued_as kind.Queue h s (λ o t. QueueAs o h t) (λ who o. queue_as s who o h) e n i
+queued_as s e h n i = issued_as kind.Queue h s (λ o t. QueueAs o h t) (λ who o k a. queue_by s who o h _ k (answered s who o (Handle h) a)) e n i
 
 -- After a prefix that has the entry
 

@@ -4,7 +4,7 @@ use Rattle.turn_cell.specs.Seats.{IsComplete, IsSeatOf}
 use Rattle.mtapi_machine.specs.declared.ops.Op.TheVariants.{Final}
 use Rattle.node_core.specs.Logs.{KeptAs, journal_seats}
 use Rattle.node_core.specs.declared.journaled.JournaledTerms.{JournaledTerms}
-use Rattle.sched_threads.specs.Turns.{Seat}
+use Rattle.sched_workers.specs.Turns.{Seat}
 use Rattle.node_with_workers.proofs.Lemmas.{last_call, all_own, all_complete, main_begins}
 use Rattle.node_with_workers.proofs.run.end.Goals as goal
 

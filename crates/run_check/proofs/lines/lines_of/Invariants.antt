@@ -1,5 +1,5 @@
 use Rattle.std.proofs.Common.{◌≡◌, take}
-use Rattle.sched_workers.specs.Lines.{lines_of}
+use Rattle.workload_runs.specs.Lines.{lines_of}
 use Rattle.run_check.proofs.lines.lines_of.Given as goal
 
 abbrev pub invariant-loop-i : goal.invariant-loop-i

@@ -1,7 +1,7 @@
 use Rattle.std.proofs.Common.{subst, ℕ, List}
 use Rattle.mtapi_machine.specs.declared.replies.Reply.{Reply}
-use Rattle.sched_workers.specs.Calls.{call_of}
-use Rattle.sched_workers.specs.Lines.{Line}
+use Rattle.workload_runs.specs.Calls.{call_of}
+use Rattle.workload_runs.specs.Lines.{Line}
 use Rattle.run_check.specs.Takes.{Takes}
 use Rattle.run_check.proofs.Reached.{one_more, none_more, at_end}
 use Rattle.run_check.proofs.made.carried.Goals as goal

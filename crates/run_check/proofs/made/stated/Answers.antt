@@ -1,5 +1,5 @@
 use Rattle.std.proofs.Common.{sym, subst}
-use Rattle.sched_workers.specs.Calls.{Call}
+use Rattle.workload_runs.specs.Calls.{Call}
 use Rattle.run_check.specs.Takes.{Takes}
 use Rattle.run_check.proofs.made.stated.Goals as goal
 

@@ -1,5 +1,5 @@
 use Rattle.std.proofs.Common.{◌≡◌, ◌++◌, Bool, subst}
-use Rattle.sched_workers.specs.Lines.{head_of}
+use Rattle.workload_runs.specs.Lines.{head_of}
 use Rattle.run_check.proofs.Ran.{main_some, main_none, some_of, none_of}
 use Rattle.run_check.proofs.parts.main_ran.Goals as goal
 

@@ -1,5 +1,5 @@
 use Rattle.mtapi_values.specs.declared.handles.{ActionHandle.ActionHandle, QueueHandle.QueueHandle, TaskHandle.TaskHandle}
-use Rattle.sched_threads.specs.Turns.{Seat}
+use Rattle.sched_workers.specs.Turns.{Seat}
 use Rattle.node_with_workers.proofs.Told.{told_by, then_done, then_given, then_looked, then_waited, went_none}
 use Rattle.mtapi_embedding.specs.Told.{calls}
 use Rattle.mtapi_embedding.proofs.client.SummingClient.call.Goals as goal

@@ -1,4 +1,4 @@
-use Rattle.sched_threads.specs.Turns.{SameSeat}
+use Rattle.sched_workers.specs.Turns.{SameSeat}
 use Rattle.mtapi_letters.proofs.client.Parts.count.Given as goal
 
 abbrev pub invariant-loop-number : goal.invariant-loop-number

@@ -1,6 +1,0 @@
-use Rattle.sched_threads.proofs.Names.{FirstMember, given, looks_of, mtapi}
-use Rattle.sched_threads.proofs.CallAnswers.{waited}
-use Rattle.sched_threads.proofs.callers.Caller.group_wait_any.Goals as goal
-
-pub returns : goal.returns
-returns g c = waited mtapi given (FirstMember c.args.group) (looks_of c.args.timeout) _ _ c.within.result c.given.result c.within.ensures.looked c.within.ensures.spent c.given.ensures

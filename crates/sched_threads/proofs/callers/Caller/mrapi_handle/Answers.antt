@@ -1,6 +1,0 @@
-use Rattle.sched_threads.specs.Replies.{mrapi, handle}
-use Rattle.sched_threads.proofs.CallAnswers.{called}
-use Rattle.sched_threads.proofs.callers.Caller.mrapi_handle.Goals as goal
-
-pub returns : goal.returns
-returns g c = called mrapi handle c.args.op _ _ c.once.result c.resource_handle.result c.once.ensures.turned c.once.ensures.spent c.resource_handle.ensures

@@ -1,6 +1,0 @@
-use Rattle.sched_threads.specs.Replies.{mtapi, done}
-use Rattle.sched_threads.proofs.CallAnswers.{called}
-use Rattle.sched_threads.proofs.callers.Caller.mtapi_done.Goals as goal
-
-pub returns : goal.returns
-returns g c = called mtapi done c.args.op _ _ c.once.result c.done.result c.once.ensures.turned c.once.ensures.spent c.done.ensures

@@ -1,6 +1,0 @@
-use Rattle.sched_threads.specs.Replies.{mtapi, handle}
-use Rattle.sched_threads.proofs.CallAnswers.{called}
-use Rattle.sched_threads.proofs.callers.Caller.mtapi_handle.Goals as goal
-
-pub returns : goal.returns
-returns g c = called mtapi handle c.args.op _ _ c.once.result c.handle.result c.once.ensures.turned c.once.ensures.spent c.handle.ensures

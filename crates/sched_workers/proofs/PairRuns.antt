@@ -1,0 +1,15 @@
+-- How a closure's run is shown, and read by equal counts.
+use Rattle.sched_workers.proofs.Names.{◌≡◌, IfOk, MutBor, Result, subst, ℕ}
+use Rattle.std.specs.Fn.{Once}
+use Rattle.sched_workers.specs.Pairs.{Ran}
+
+module _ {F S C T : Type 0} (g : Once F (MutBor S × (C × Unit {0})) (T × (MutBor S × Unit {0}))) (count : S → ℕ) (b : F) (carry : C) where
+  pub ran_of : (t : T) (p q : MutBor S) (before after : ℕ) → g.post b (p, (carry, tt)) (t, (q, tt)) → count p.now ≡ before → after ≡ count q.now → Ran g count b carry before t after
+  ran_of t p q before after met first then =
+      record { shown = p; first = first; left = q; met = met; then = then }
+
+  -- the same run, read by equal counts
+  pub IfOk-alike : {A E : Type 0} (r : Result (A × T) E) (before mid after after' : ℕ) → mid ≡ before
+      → IfOk r (λ x. Ran g count b carry mid x.1 after) → after ≡ after' → IfOk r (λ x. Ran g count b carry before x.1 after')
+  IfOk-alike r before mid after after' d ran e =
+      subst (λ (n : ℕ). IfOk r (λ x. Ran g count b carry before x.1 n)) e (subst (λ (m : ℕ). IfOk r (λ x. Ran g count b carry m x.1 after)) d ran)

@@ -1,0 +1,54 @@
+-- What the calls of a caller answer.
+use Rattle.std.specs.Prelude.{◌≡◌, ℕ, ℤ, false, List, Option, Some, None, Result, Ok, Err, ◌⊎◌}
+use Rattle.mtapi_values.specs.declared.handles.GroupHandle.{GroupHandle}
+use Rattle.mtapi_values.specs.declared.handles.QueueHandle.{QueueHandle}
+use Rattle.mtapi_values.specs.Attributes.{TaskAttributes, QueueAttributes}
+use Rattle.mtapi_machine.specs.declared.ops.Op.{Op}
+use Rattle.mtapi_machine.specs.declared.ops.Op.TheVariants as op
+use Rattle.mtapi_machine.specs.declared.replies.Reply.{Reply}
+use Rattle.workload_runs.specs.declared.calls.Wanted.{Wanted}
+use Rattle.sched_workers.specs.Replies.{Standard}
+use Rattle.sched_workers.specs.Turns.{Seat, Turned, Unturned}
+use Rattle.sched_workers.specs.Looks.{Looked, StillLooking}
+
+module _ {S A : Type 0} (standard : Standard S) (read : Reply → Option A) where
+  abbrev by_value : Option A → Result A S → Type 0
+  by_value None x = ⊥
+  by_value (Some a) x = x ≡ Ok a
+
+  abbrev by_status : Option S → Option A → Result A S → Type 0
+  by_status (Some c) o x = (x ≡ Err c) × (standard.is_spent c ≡ false)
+  by_status None o x = by_value o x
+
+  -- the answer to a reply: the status that it says, or else what is read from it
+  abbrev pub Answers : Reply → Result A S → Type 0
+  Answers r x = by_status (standard.status r) (read r) x
+
+  -- the answer to a reply, and the one for want of tickets
+  abbrev pub AnsweredBy : Result Reply ℕ → Result A S → Type 0
+  AnsweredBy (Ok r) x = Answers r x
+  AnsweredBy (Err s) x = x ≡ Err standard.spent
+
+  -- the call made one turn, and answers its reply; or it made none, since the tickets had run out
+  abbrev pub Called : Op → Seat → Seat → Result A S → Type 0
+  Called o old new x = ((r : Reply) × Turned old o r new × Answers r x) ⊎ (Unturned old new × (x ≡ Err standard.spent))
+
+  -- the call made these looks, and answers the reply that decided; or the tickets ran out before there was one
+  abbrev pub Waited : Wanted → Option ℕ → Seat → Seat → Result A S → Type 0
+  Waited w limit old new x = ((r : Reply) × Looked w limit old new r × Answers r x) ⊎ (StillLooking w limit old new × (x ≡ Err standard.spent))
+
+-- the answer with the number of the handle that it has
+abbrev pub with_number : {H S : Type 0} → (H → ℕ) → Result H S → Result ℕ S
+with_number f (Ok h) = Ok (f h)
+with_number f (Err c) = Err c
+
+-- The ops whose arguments a caller takes from attributes
+
+abbrev pub start_of : ℕ → List ℤ → TaskAttributes → Option GroupHandle → Op
+start_of job args a group = op.TaskStart job args a.priority (record { 0 = a.affinity }) a.detached group
+
+abbrev pub enqueue_of : QueueHandle → List ℤ → TaskAttributes → Option GroupHandle → Op
+enqueue_of q args a group = op.TaskEnqueue q args (record { 0 = a.affinity }) a.detached group
+
+abbrev pub queue_of : ℕ → ℕ → QueueAttributes → Op
+queue_of id job a = op.QueueCreate id job a.priority a.limit a.ordered a.retain

@@ -1,0 +1,13 @@
+//! Laws of runs that follow from the definitions alone. Each function does nothing: its contract is the law.
+
+ghost use Rattle.workload_runs.specs.Whole.{LinesAreLeft, JournalIsRun};
+
+/// What a journal shows of a seat is what is left of the seat's turns in the whole history.
+pub fn law_lines_left()
+    ensures { LinesAreLeft }
+{}
+
+/// Where a whole history is a run of a workload, so is its journal.
+pub fn law_journal_is_run()
+    ensures { JournalIsRun }
+{}
