@@ -4,3 +4,4 @@ pub mod TurnLists
 pub mod Left
 pub mod Forms
 pub mod Joins
+pub mod Computed

@@ -5,3 +5,4 @@ pub mod Lines
 pub mod RunOf
 pub mod Turns
 pub mod Whole
+pub mod Worked

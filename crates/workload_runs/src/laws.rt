@@ -1,6 +1,7 @@
 //! Laws of runs that follow from the definitions alone. Each function does nothing: its contract is the law.
 
 ghost use Rattle.workload_runs.specs.Whole.{LinesAreLeft, JournalIsRun};
+ghost use Rattle.workload_runs.specs.Worked.{WorkedCalls};
 
 /// What a journal shows of a seat is what is left of the seat's turns in the whole history.
 pub fn law_lines_left()
@@ -10,4 +11,9 @@ pub fn law_lines_left()
 /// Where a whole history is a run of a workload, so is its journal.
 pub fn law_journal_is_run()
     ensures { JournalIsRun }
+{}
+
+/// The call that each kind of statement makes, one by one.
+pub fn worked_calls()
+    ensures { WorkedCalls }
 {}
