@@ -29,3 +29,4 @@ pub mod Unmoved
 pub mod Quiet
 pub mod RowRest
 pub mod WorkerTurns
+pub mod Causes

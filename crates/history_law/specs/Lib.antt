@@ -16,3 +16,4 @@ pub mod Tally
 pub mod WorkedSum
 pub mod TallyHolds
 pub mod Quiet
+pub mod Causes

@@ -7,6 +7,7 @@ ghost use Rattle.mtapi_machine.specs.State.{terms_with};
 ghost use Rattle.history_law.specs.Ends.{OneEnd, EndsAfterClose};
 ghost use Rattle.mtapi_machine.specs.Laws.{DropsToSame};
 ghost use Rattle.history_law.specs.Affinity.{ObeysMasks};
+ghost use Rattle.history_law.specs.Causes.{EndHasItsCause};
 ghost use Rattle.history_law.specs.Order.{GivenInOrder};
 ghost use Rattle.history_law.specs.Ordered.{RunsInOrder};
 ghost use Rattle.history_law.specs.Refused.{LawsRefuse};
@@ -57,6 +58,20 @@ pub fn law_end_after_close(
 )
     requires { Legal (terms_with layout settings.now callers) entries.now }
     ensures { EndsAfterClose (terms_with layout settings.now callers) entries.now t.0 }
+{}
+
+/// Each end of a task has its cause: an entry of the history ended it, and found what its op needs for that. So a task is cancelled only
+/// by a cancel, a disable of its queue or the close before it begins, or as a watch that saw a request; and it fails only as its action,
+/// its watch or its tally does, or by a delete or disable of what it needs.
+pub fn law_end_has_its_cause(
+    layout: Layout,
+    settings: &NodeAttr,
+    callers: u32,
+    entries: &[Entry],
+    t: TaskHandle,
+)
+    requires { Legal (terms_with layout settings.now callers) entries.now }
+    ensures { EndHasItsCause (terms_with layout settings.now callers) entries.now t.0 }
 {}
 
 /// A worked history: its one task ends once, and how.
