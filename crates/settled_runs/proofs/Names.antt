@@ -7,7 +7,7 @@ pub use Rattle.history_law.proofs.Quiet.{IsCalm, calm_along, calm_next, calm_ope
 pub use Rattle.history_law.proofs.lists.Every.{Every, always, every_all, every_at, every_change, every_ends, every_issue, every_map}
 pub use Rattle.history_law.proofs.lists.Found.{FoundAs, at_head, at_here, at_past, at_skip, found_all, found_changed, found_ends, found_issued}
 pub use Rattle.history_law.proofs.lists.Objects.{HasObject, StartedAs, cut_after, cut_from, has_behind, has_new, started_as, task_then}
-pub use Rattle.history_law.proofs.{Accepted.accepted_end, Accepted.front_stays, Accepted.granted, Accepted.refuses_only, SeatMoves.May, SeatMoves.by_made_moves}
+pub use Rattle.history_law.proofs.{Accepted.accepted_end, Accepted.front_stays, SeatMoves.May, SeatMoves.by_made_moves}
 pub use Rattle.history_law.proofs.{Ages.AgesEach, Ages.SameFields, Ages.SameTask, Ages.Under, Ages.kind_move, Ages.live_listed, Ages.same_task, Bounds.by_seats}
 pub use Rattle.history_law.proofs.{Answered.none_first, Answered.none_some, Answered.second_false, Answered.true_false, Answered.whether, Behind.enter_behind}
 pub use Rattle.history_law.proofs.{Moves.once_from, Reuse.fresh_apart, Reuse.fresh_unlisted, Reuse.issues_fresh, Reuse.listed_move, lists.KindNumbers.same_kind}
