@@ -3,7 +3,7 @@
 
 The journals are those of runs of the examples, of some short workloads and of twenty generated ones, in both texts,
 each with one thing changed; histories that the reference machine walks by itself, through all ops and most refusals,
-with one reply changed; and the table of changed journals of `crates/mtapi_cases`. Prints a line for each kind of
+with one reply changed; and the table of changed journals of `crates/mtapi_examples`. Prints a line for each kind of
 change, with how many journals were judged in which way, and each difference in full, and ends with 1 where there is
 one. The command has to be built: run `./mtapi prove` before.
 """
@@ -23,7 +23,7 @@ from reference_text import MRAPI, MTAPI, OPS, read_journal
 
 HANG = 60.0  # seconds after which a run or a check is stopped
 TRIES = 12  # changes of each kind for each journal
-TABLE = os.path.join(TOP, "crates", "mtapi_cases", "data")
+TABLE = os.path.join(TOP, "crates", "mtapi_examples", "data", "cases")
 
 
 def answers(words, inputs):

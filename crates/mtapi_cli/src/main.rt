@@ -1,4 +1,4 @@
-//! The program `mtapi`. Its stored run is a workload and its report.
+//! The program `mtapi`. Its stored run judges a journal that is no run, and ends with the status 9.
 #![tactic(auto)]
 
 use mtapi_program::program;

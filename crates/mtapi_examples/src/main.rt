@@ -1,73 +1,74 @@
-//! Runs each example as the program does, and tells whether it writes what its report says.
+//! Runs the command on the examples and the cases that lie where this runs, and tells which it answers as they say: each example with
+//! its report; words with an input; and journals of three short runs with one line changed each.
 #![tactic(auto)]
 
-use mtapi_program::{Threads as RealThreads, run_words};
+mod asking;
+mod changes;
+mod examples;
+
+use crate::asking::answers_as_said;
+use crate::changes::judged_as_said;
+use crate::examples::{EXAMPLES, all_agree};
+use std::alloc::Global;
 use std::sync::Wait;
 use std::thread::Threads;
 use std::{fs, io};
-use workload_file::{MemSink, MemSource};
 
-/// The examples, which lie where this runs, and how often each is run.
-const EXAMPLES: [(&str, u32); 10] = [
-    ("callers", 10),
-    ("errors", 1),
-    ("first", 1),
-    ("group", 1),
-    ("lock", 10),
-    ("queue", 1),
-    ("realistic", 100),
-    ("refusals", 1),
-    ("tally", 10),
-    ("threads", 10),
-];
-
-/// More bytes than a report of an example has.
-const ROOM: usize = 65_536;
-
-/// Whether one run of the example ends with 0, and writes what its report says.
-fn agrees<R: Threads + Wait + Sync>(host: &HostRuntime, rt: &R, name: &str) -> io::Result<bool> {
-    let alloc = host.alloc();
-    let text = fs::read(host, format!(in alloc; "{name}.workload")?.as_str())?;
-    let report = fs::read(host, format!(in alloc; "{name}.report")?.as_str())?;
-    let mut src = MemSource::new(text, 4096, Vec::new(alloc));
-    let mut out = MemSink::new(alloc, ROOM, 4096, Vec::new(alloc))?;
-    let mut err = MemSink::new(alloc, ROOM, 4096, Vec::new(alloc))?;
-    let mut beside = RealThreads::new();
-    let status = run_words(
-        rt,
-        alloc,
-        &["run"],
-        &mut src,
-        &mut out,
-        &mut err,
-        &mut beside,
-    )
-    .status;
-    Ok(status == 0 && out.bytes() == report.as_slice())
-}
-
-/// Whether all runs of the example do.
-fn all_agree<R: Threads + Wait + Sync>(
+/// Prints each case that is answered in another way, and how many are answered as they say.
+fn run_cases<R: Threads + Wait + Sync>(
     host: &HostRuntime,
     rt: &R,
-    name: &str,
-    times: u32,
-) -> io::Result<bool> {
-    for _ in 0..times {
-        if !agrees(host, rt, name)? {
-            return Ok(false);
+    alloc: Global,
+) -> io::Result<()> {
+    let text = fs::read_to_string(host, "cases/inputs.cases")?;
+    let mut agreeing = 0u64;
+    for case in text.split("== ").skip(1) {
+        if answers_as_said(rt, alloc, case)? {
+            agreeing = agreeing.saturating_add(1);
+        } else {
+            println!(host; "not as it says: {case}")?;
         }
     }
-    Ok(true)
+    println!(host; "inputs: {agreeing} as they say")
 }
 
-fn main(rt: HostRuntime) -> io::Result<()> {
-    for (name, times) in EXAMPLES {
-        if all_agree(&rt, &rt, name, times)? {
-            println!(rt; "{name}: as its report says")?;
+/// The same of the changes of a journal.
+fn run_changes<R: Threads + Wait + Sync>(
+    host: &HostRuntime,
+    rt: &R,
+    alloc: Global,
+    name: &str,
+) -> io::Result<()> {
+    let load = fs::read_to_string(host, format!(in alloc; "cases/{name}.workload")?.as_str())?;
+    let journal = fs::read_to_string(host, format!(in alloc; "cases/{name}.journal")?.as_str())?;
+    let changes = fs::read_to_string(host, format!(in alloc; "cases/{name}.changes")?.as_str())?;
+    let mut agreeing = 0u64;
+    for change in changes.lines() {
+        if judged_as_said(rt, alloc, &load, &journal, change)? {
+            agreeing = agreeing.saturating_add(1);
         } else {
-            println!(rt; "{name}: not as its report says")?;
+            println!(host; "not as it says: {change}")?;
+        }
+    }
+    println!(host; "{name}: {agreeing} as they say")
+}
+
+/// Prints of each example whether it is answered as its report says.
+fn run_examples<R: Threads + Wait + Sync>(host: &HostRuntime, rt: &R) -> io::Result<()> {
+    for (name, times) in EXAMPLES {
+        if all_agree(host, rt, name, times)? {
+            println!(host; "{name}: as its report says")?;
+        } else {
+            println!(host; "{name}: not as its report says")?;
         }
     }
     Ok(())
+}
+
+fn main(rt: HostRuntime) -> io::Result<()> {
+    run_cases(&rt, &rt, rt.alloc())?;
+    for name in ["locks", "queue", "tally"] {
+        run_changes(&rt, &rt, rt.alloc(), name)?;
+    }
+    run_examples(&rt, &rt)
 }
