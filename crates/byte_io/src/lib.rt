@@ -4,8 +4,6 @@
 
 mod memory;
 mod standard;
-#[cfg(test)]
-mod tests;
 mod traits;
 mod whole;
 mod written;

@@ -1,5 +1,5 @@
-//! Tests of each kind of object through its calls: lists, groups, queues, jobs, tasks, the index of ready tasks, mutexes, semaphores and
-//! locks, segments; and of the functions of actions. No product stands on this crate.
+//! Tests of what stands below the node, through its calls: the tables of values, pools, lists, groups, queues, jobs, tasks, the index of
+//! ready tasks, mutexes, semaphores and locks, segments; and of the functions of actions. No product stands on this crate.
 #![tactic(auto)]
 
 #[cfg(test)]
@@ -15,6 +15,8 @@ mod lists;
 #[cfg(test)]
 mod mutexes;
 #[cfg(test)]
+mod pools;
+#[cfg(test)]
 mod queues;
 #[cfg(test)]
 mod ready;
@@ -22,3 +24,5 @@ mod ready;
 mod segments;
 #[cfg(test)]
 mod tasks;
+#[cfg(test)]
+mod values;

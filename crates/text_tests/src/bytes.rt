@@ -1,4 +1,6 @@
-use crate::{
+//! Readers and writers that give and take pieces, and that fail.
+
+use byte_io::{
     Failed, MemSink, MemSource, ReadAllError, Sink, Source, StdSink, StdSource, read_all, write_all,
 };
 

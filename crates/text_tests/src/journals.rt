@@ -1,3 +1,5 @@
+//! Journals in text: lines and texts that are read again, and that are refused.
+
 use byte_io::MemSource;
 use journal_text::*;
 use std::alloc::{AllocError, Global};

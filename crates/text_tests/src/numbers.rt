@@ -1,3 +1,5 @@
+//! Numbers, kinds and lists in texts.
+
 use mtapi_values::Kind;
 use number_text::*;
 use std::test::Fail;
