@@ -1,5 +1,16 @@
-//! Tests of the node: worked histories, and journals, a long one too. No product stands on this crate.
+//! Tests of the node and its cell: worked histories, journals, a long one too, the laws of one that a node kept, resources; objects in a
+//! cell, messages, and ends that are read without a turn. No product stands on this crate.
 #![tactic(auto)]
 
+#[cfg(test)]
+mod cells;
+#[cfg(test)]
+mod laws;
+#[cfg(test)]
+mod messages;
+#[cfg(test)]
+mod peeks;
+#[cfg(test)]
+mod resources;
 #[cfg(test)]
 mod tests;

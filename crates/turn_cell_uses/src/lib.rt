@@ -2,7 +2,5 @@
 #![tactic(auto)]
 
 pub mod counter;
-#[cfg(test)]
-mod tests;
 pub mod threads;
 pub mod total;

@@ -13,7 +13,7 @@ use mtapi_values::{
 };
 
 /// Each law of a list: of the objects with this handle, and of the entry at this place, counted from 0.
-pub fn each_law(
+pub(crate) fn each_law(
     layout: Layout,
     settings: &NodeAttr,
     callers: u32,

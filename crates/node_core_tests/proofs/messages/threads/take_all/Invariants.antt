@@ -1,5 +1,5 @@
 use Rattle.turn_looks.specs.Turns.{SameSeat}
-use Rattle.mcapi_msg_tests.proofs.tests.threads.take_all.Given as goal
+use Rattle.node_core_tests.proofs.messages.threads.take_all.Given as goal
 
 abbrev pub invariant-loop : goal.invariant-loop
 invariant-loop g l = SameSeat l.fn.seat l.mailer

@@ -1,7 +1,9 @@
-use crate::threads::count_together;
-use crate::total::{Change, Total};
+//! Objects in a cell: two threads that count, and a total with its log.
+
 use std::test::Fail;
 use turn_cell::TurnCell;
+use turn_cell_uses::threads::count_together;
+use turn_cell_uses::total::{Change, Total};
 
 #[test]
 fn two_threads_count_and_their_replies_are_all_numbers(rt: HostRuntime) -> Result<(), Fail> {

@@ -4,7 +4,7 @@ use native.Mathlib.Decide.{ℕ_discrete}
 use Rattle.turn_cell.specs.Seats.{IsComplete, numbered}
 use Rattle.turn_cell.proofs.Counting.{one_same}
 use Rattle.peek_board.specs.Marks.{MarksView, seat_of}
-use Rattle.peek_board_tests.proofs.tests.end.Goals as goal
+use Rattle.node_core_tests.proofs.peeks.end.Goals as goal
 
 -- the seats 0 and 1 are all of two
 two_complete : (n : ℕ) (marks : List MarksView) (a b : MarksView) → n ≡ 2 → marks ≡ a ∷ b ∷ [] → a.seat.number ≡ 0 → b.seat.number ≡ 1 → IsComplete n (map seat_of marks)

@@ -1,5 +1,5 @@
 use Rattle.turn_looks.specs.Turns.{SameSeat}
-use Rattle.mcapi_msg_tests.proofs.tests.threads.send_all.Given as goal
+use Rattle.node_core_tests.proofs.messages.threads.send_all.Given as goal
 
 abbrev pub invariant-loop-number : goal.invariant-loop-number
 invariant-loop-number g l = SameSeat l.fn.seat l.mailer

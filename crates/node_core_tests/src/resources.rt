@@ -1,3 +1,5 @@
+//! A handle that names nothing, in every op on a resource and in every phase.
+
 ghost use Rattle.std.specs.Prelude.{◌≡◌, ◌<◌, true};
 ghost use Rattle.node_resources.specs.Steps.{is_resource_op};
 

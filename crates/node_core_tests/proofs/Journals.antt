@@ -7,7 +7,7 @@ use Rattle.mtapi_machine.specs.State.{terms_with}
 use Rattle.mtapi_machine.specs.Legal.{NodeEntry, Legal}
 use Rattle.node_journals.specs.declared.entries.Journal.{Journal}
 use Rattle.node_core.specs.Logs.{KeptAs}
-use Rattle.history_law_uses.specs.Journals.{IsLegal}
+use Rattle.node_core_tests.specs.Journals.{IsLegal}
 
 pub kept_legal : (t : Terms) (j : Journal) (L : List NodeEntry) → KeptAs t j L → IsLegal j
 kept_legal t j L k =

@@ -1,7 +1,7 @@
 //! A node that keeps a journal of what it is asked.
 
 ghost use Rattle.std.specs.Prelude.{IfSome};
-ghost use Rattle.history_law_uses.specs.Journals.{IsLegal};
+ghost use Rattle.node_core_tests.specs.Journals.{IsLegal};
 
 use history::Object;
 use mtapi_machine::{Op, Reply};
@@ -15,7 +15,7 @@ const MOST: u64 = 1000;
 
 /// A node with a journal, and how often it was asked.
 #[derive(Drop)]
-pub struct Asked {
+pub(crate) struct Asked {
     node: Journaled,
     calls: u64,
 }
@@ -34,13 +34,13 @@ impl Model for Asked {
 
 impl Asked {
     /// A new node with these settings and two callers, with an empty journal.
-    pub fn new(alloc: Global, settings: NodeAttr) -> Result<Asked, AllocError> {
+    pub(crate) fn new(alloc: Global, settings: NodeAttr) -> Result<Asked, AllocError> {
         let node = Journaled::with(alloc, Node::init(alloc, settings, 2)?);
         Ok(Asked { node, calls: 0 })
     }
 
     /// Asks it one op by a seat. None where the seat isn't one, or after 1000 calls.
-    pub fn ask(&mut self, who: u32, op: Op) -> Option<Reply> {
+    pub(crate) fn ask(&mut self, who: u32, op: Op) -> Option<Reply> {
         if who >= self.node.seats() || self.calls >= MOST {
             return None;
         }
@@ -50,7 +50,7 @@ impl Asked {
     }
 
     /// Gives the journal, which is a legal history. None where it was lost for lack of memory.
-    pub fn into_journal(self) -> Option<Journal>
+    pub(crate) fn into_journal(self) -> Option<Journal>
         ensures { IfSome result IsLegal }
     {
         match self.node.into_journal() {

@@ -1,2 +1,0 @@
-pub mod WorkedLegal
-pub mod Journals
