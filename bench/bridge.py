@@ -6,7 +6,7 @@ them over a bridge to a second node with two workers. Prints for both the least 
 processors; and how many times as long the bridge takes. Where the system allows it, the program runs before all other work
 of the machine (`SCHED_RR`).
 
-Builds the program below over a copy of the repository's crates, with the modules of `node_bridge_uses`, and begins with what
+Builds the program below over a copy of the repository's crates, with modules of `command_tests`, and begins with what
 checks kept on this machine. To prove it takes some minutes; a word behind the script's name is the path of the program, where
 it was built before.
 """
@@ -94,8 +94,8 @@ def files():
     """The program's files."""
     texts = {"main.rt": PROGRAM}
     for module in MODULES:
-        with open(os.path.join(common.TOP, "crates", "node_bridge_uses", "src", f"{module}.rt")) as file:
-            texts[f"{module}.rt"] = file.read()
+        with open(os.path.join(common.TOP, "crates", "command_tests", "src", "bridges", f"{module}.rt")) as file:
+            texts[f"{module}.rt"] = file.read().replace("crate::bridges::", "crate::")
     return texts
 
 

@@ -3,6 +3,10 @@
 #![tactic(auto)]
 
 #[cfg(test)]
+mod bridges;
+#[cfg(test)]
+mod callers;
+#[cfg(test)]
 mod checks;
 #[cfg(test)]
 mod faults;
@@ -11,9 +15,15 @@ mod generated;
 #[cfg(test)]
 mod journals;
 #[cfg(test)]
+mod judged_journals;
+#[cfg(test)]
+mod judged_runs;
+#[cfg(test)]
 mod malformed;
 #[cfg(test)]
 mod meeting;
+#[cfg(test)]
+mod monitor;
 #[cfg(test)]
 mod reports;
 #[cfg(test)]

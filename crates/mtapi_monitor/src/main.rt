@@ -2,8 +2,6 @@
 #![tactic(auto)]
 
 mod lines;
-#[cfg(test)]
-mod tests;
 
 use crate::lines::Lines;
 use peek_board::EndClass;

@@ -1,8 +1,14 @@
-//! One task, and five hundred of all kinds.
+//! The command whose workers hand their actions to a second node, by bridges: one task, and five hundred of all kinds.
 
-use crate::kinds::{report, text};
-use crate::runs::{Counts, run_beside};
-use crate::seats::{one_bridge, two_bridges};
+mod actions;
+mod kinds;
+mod on_one_thread;
+mod runs;
+mod seats;
+
+use crate::bridges::kinds::{report, text};
+use crate::bridges::runs::{Counts, run_beside};
+use crate::bridges::seats::{one_bridge, two_bridges};
 use node_bridge::Served;
 use std::sync::atomic::{AtomicU64, Ordering};
 use std::test::Fail;

@@ -3,7 +3,7 @@
 ghost use Rattle.std.specs.Prelude.{◌≡◌, ◌<◌, [], IfOk};
 ghost use Rattle.turn_cell.specs.Seats.{fresh_seat, fresh_seats};
 
-use crate::actions::Counted;
+use crate::bridges::actions::Counted;
 use node_bridge::{Bridge, RemoteWorker, Served, law_unused_workers_rest};
 use std::alloc::{AllocError, Global};
 use std::sync::atomic::AtomicU64;

@@ -1,5 +1,5 @@
 use Rattle.std.specs.Prelude.{◌≡◌}
-use Rattle.node_bridge_uses.proofs.runs.start_all.Given as goal
+use Rattle.command_tests.proofs.bridges.runs.start_all.Given as goal
 
 abbrev pub invariant-loop : goal.invariant-loop
 invariant-loop g l = l.seat.cell ≡ l.fn.seat.cell

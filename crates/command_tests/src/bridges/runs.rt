@@ -2,8 +2,8 @@
 
 ghost use Rattle.std.specs.Prelude.{◌≡◌};
 
-use crate::actions::{Bridges, Counted};
-use crate::seats::Holders;
+use crate::bridges::actions::{Bridges, Counted};
+use crate::bridges::seats::Holders;
 use mtapi_top::{Threads, command};
 use mtapi_values::{Args, Kind};
 use node_bridge::{BridgeOp, BridgeReply, RemoteWorker, ServeEnd, Served};
