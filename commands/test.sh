@@ -1,0 +1,147 @@
+# `mtapi test`: every #[test] and every program of the repository, unproved, several at a time. Sourced by `mtapi`.
+# shellcheck shell=bash disable=SC2154,SC2034 # what isn't set here is of the script that sources this
+
+test_seconds=300        # that one crate's tests, or one program, may take once they are compiled
+test_memory=1500000     # kB that one of them may take
+tests_passed=0 tests_failed=0
+declare -A test_of begun_at
+
+# Each crate with tests as NAME:tests and each program as NAME:program, the one with the most code to compile first.
+test_runs() {
+    (cd "$top/crates" && find . -path '*/src/*' -name '*.rt' -printf '%P %s\n') |
+        awk '
+            function visit(name,    found, n, i) {
+                if (name in seen || !(name in below)) return 0
+                seen[name] = 1
+                n = split(below[name], found, " ")
+                sum += size[name]
+                for (i = 1; i <= n; i++) visit(found[i])
+            }
+            NR == FNR { sub(/\/.*/, "", $1); size[$1] += $2; next }
+            { sub(/#.*/, "") }
+            /:/ { name = $1; sub(/:.*/, "", name); sub(/^[^:]*:/, ""); below[name] = $0 }
+            END { for (name in below) { split("", seen); sum = 0; visit(name); print sum, name } }' - "$top/crates.txt" |
+        sort -k 1,1nr -k 2 | while read -r _ name; do
+        if grep -qrs --include='*.rt' '#\[test\]' "$top/crates/$name/src"; then echo "$name:tests"; fi
+        if [ -e "$top/crates/$name/src/main.rt" ]; then echo "$name:program"; fi
+    done
+}
+
+begin_tests_of() {
+    (cd "$top/crates/$1" && exec setsid rt try --test --seconds "$test_seconds") \
+        </dev/null >"$scratch/$1:tests.out" 2>"$scratch/$1:tests.err" &
+}
+
+# A program gets the words, the input and the files that stand beside its sources.
+begin_program() {
+    local words=() data=() file input=/dev/null
+    cd "$top/crates/$1" || return
+    if [ -e args ]; then mapfile -t words <args; fi
+    if [ -e stdin ]; then input=stdin; fi
+    if [ -d data ]; then
+        while IFS= read -r file; do data+=(--data "$file=data/$file"); done < <(cd data && find . -type f -printf '%P\n' | sort)
+    fi
+    setsid rt try --steps 1 --seconds "$test_seconds" "${data[@]}" -- "${words[@]}" \
+        <"$input" >"$scratch/$1:program.out" 2>"$scratch/$1:program.err" &
+    cd "$top" || return
+}
+
+begin_run() {
+    case $1 in
+    *:tests) begin_tests_of "${1%:*}" ;;
+    *) begin_program "${1%:*}" ;;
+    esac
+    processes+=("$!")
+    test_of[$!]=$1 begun_at[$!]=$SECONDS
+    end_the_look_at_names "$!" </dev/null >/dev/null 2>&1 &
+}
+
+# Counts a run that ended: its name, its seconds, how many passed and failed, and what was wrong.
+count_run() {
+    local word=ok
+    if [ "$4" -ne 0 ]; then word=FAILED; fi
+    tests_passed=$((tests_passed + $3)) tests_failed=$((tests_failed + $4))
+    printf '%-6s %4d s  %s: %d passed, %d failed%s\n' "$word" "$2" "$1" "$3" "$4" "${5:+: $5}"
+}
+
+show_run() {
+    { cat "$scratch/$1.out" && cat "$scratch/$1.err"; } | tail -n 60 | sed 's/^/    /'
+}
+
+# A run that ended without an answer counts as one that failed.
+end_tests() {
+    local passed failed status why='no answer'
+    status=$(status_in "$scratch/$1.err")
+    if [ -n "$status" ]; then why="status $status"; fi
+    passed=$(sed -n 's/^test result: .* \([0-9]*\) passed; .*/\1/p' "$scratch/$1.out")
+    failed=$(sed -n 's/^test result: .* \([0-9]*\) failed; .*/\1/p' "$scratch/$1.out")
+    if [ "$status" = 0 ] && [ "${passed:-0}" -gt 0 ] && [ "${failed:-1}" -eq 0 ]; then
+        count_run "$1" "$2" "$passed" 0
+        return
+    fi
+    if [ "${failed:-0}" -eq 0 ]; then failed=1; fi
+    count_run "$1" "$2" "${passed:-0}" "$failed" "$why"
+    show_run "$1"
+}
+
+end_program() {
+    local status wanted=0 folder=$top/crates/${1%:*} stdout=/dev/null why=''
+    if [ -e "$folder/status" ]; then wanted=$(tr -d ' \n' <"$folder/status"); fi
+    if [ -e "$folder/stdout" ]; then stdout=$folder/stdout; fi
+    status=$(status_in "$scratch/$1.err")
+    if [ -z "$status" ]; then
+        why='no answer'
+    elif [ "$status" -ne "$wanted" ]; then
+        why="status $status in place of $wanted"
+    elif ! cmp -s "$stdout" "$scratch/$1.out"; then
+        why='another output than its file stdout'
+    fi
+    if [ -z "$why" ]; then
+        count_run "$1" "$2" 1 0
+        return
+    fi
+    count_run "$1" "$2" 0 1 "$why"
+    show_run "$1"
+}
+
+# Tells of each run that has ended since the last look.
+look_at_ended() {
+    local pid left=()
+    for pid in "${processes[@]}"; do
+        if kill -0 "$pid" 2>/dev/null; then
+            left+=("$pid")
+            continue
+        fi
+        case ${test_of[$pid]} in
+        *:tests) end_tests "${test_of[$pid]}" $((SECONDS - begun_at[$pid])) ;;
+        *) end_program "${test_of[$pid]}" $((SECONDS - begun_at[$pid])) ;;
+        esac
+    done
+    processes=("${left[@]}")
+}
+
+test_all() {
+    local runs most each
+    need_toolchain
+    make_scratch
+    on_signals true
+    mapfile -t runs < <(test_runs)
+    most=$(count_at_once "$test_memory")
+    echo "every test and every program, unproved, $most at a time. This proves nothing: .ci/run does, and runs them again."
+    SECONDS=0
+    for each in "${runs[@]}"; do
+        while [ "${#processes[@]}" -ge "$most" ]; do
+            sleep 0.2
+            look_at_ended
+        done
+        begin_run "$each"
+    done
+    while [ "${#processes[@]}" -gt 0 ]; do
+        sleep 0.2
+        look_at_ended
+    done
+    echo "${#runs[@]} crates and programs in $SECONDS s"
+    echo "$tests_passed passed, $tests_failed failed"
+    if [ "$tests_failed" -ne 0 ] || [ "$tests_passed" -eq 0 ]; then leave 1; fi
+    leave 0
+}
