@@ -1,14 +1,14 @@
 #!/usr/bin/env python3
-"""What a newcomer's first commands answer, and what they take: `bench/first_answer.py [all] [prove] [gate]`.
+"""What a newcomer's first commands answer, and what they take: `bench/first_answer.py [all] [test] [prove] [gate]`.
 
-Clones the repository as it is committed into a folder of its own, runs `./mtapi run < examples/first.workload` there
-before anything is proved, and prints the seconds of the processors and those on the clock. With `all` further calls of
-the unproved program follow: each kind of input and output, faults, two at once and a stop in the middle. With `prove`
-the clone is proved and built over what checks kept on this machine, stopped once on the way, and the proved program
-answers too; then a source changes. With `gate` the gate runs in a second clone, after which `./mtapi prove` has nothing
-to do; that takes an hour or more where the machine keeps nothing of an earlier gate. Prints a line for each call, and
-fails where an answer is another one than expected, where the first one takes longer than its bounds, or where a process
-is left.
+Clones the repository as it is committed into a folder of its own, asks for the usage text, the help and the version,
+runs `./mtapi run < examples/first.workload` there before anything is proved, and prints the seconds on the clock and
+those of the processors. With `all` further calls of the unproved program follow: each kind of input and output, faults,
+files that are verified, compared and bounded, two at once and a stop in the middle. With `test` the tests run, and are
+stopped once before. With `prove` the clone is proved and built, stopped once on the way, and the proved program answers
+too; then a source changes. With `gate` the gate runs in a second clone, after which `./mtapi prove` has nothing to do;
+that takes hours. Prints a line for each call, and fails where an answer is another one than expected, where faulty words,
+the first answer or the tests take longer than their bounds on a machine with no other work, or where a process is left.
 """
 
 import os
@@ -23,22 +23,27 @@ import time
 from common import TOP
 
 MOST_PROCESSORS, MOST_CLOCK = 60.0, 90.0  # seconds of the first answer
+MOST_WORDS = 0.1  # seconds until faulty words are told their usage
+MOST_TEST = 360 if os.cpu_count() >= 4 else 720  # seconds of the tests, with no other work on the machine
 WITHIN = 600  # seconds after which an unproved run is stopped
 PROVED_WITHIN = 7200  # and a proof
 USAGE = re.search(r'^message end\.Usage = codes "(.*)" \+\+', open(f"{TOP}/crates/mtapi_top/specs/Command.antt").read(), re.M)[1]
 FIRST = "examples/first.workload"
 ACTION = "action a job=1 kind=add\n"
 # A call: its name, the command line of a shell, and the status, the output and what the error output says.
-NO_INPUT = [
-    ("no words", "./mtapi", 2, "", USAGE),
-    ("help", "./mtapi --help", 2, "", USAGE),
-    ("too many words", "./mtapi prove it", 2, "", USAGE),
+FAULTY = ["", "it", "Run", "run it", "run --journal it", "gen", "gen 0", "gen 19001", "gen 05", "gen +5", "gen 5 0", "gen 5 17",
+          "gen 5 4 3", "check it", "prove it", "test it", "verify", "expect FILE", "bounded", "bounded FILE 1000001"]
+TOLD = [
+    ("help", "./mtapi --help", 0, USAGE, ""),
+    ("-h", "./mtapi -h", 0, USAGE, ""),
+    ("version", "./mtapi --version", 0, "mtapi ", ""),
+    ("words of the picture", "./mtapi picture it", 2, "", "usage: mtapi picture\n"),
 ]
+HANGS = "mutex m id=1\\nlock m timeout=inf\\nbegin\\ncaller c\\nmutex_get m id=1\\nlock m timeout=inf\\n"
 CALLS = [
     ("a pipe that pauses", f"(head -n 1 {FIRST}; sleep 3; tail -n +2 {FIRST}) | ./mtapi run", 0, "main.t completed 6\n", ""),
     ("generated", "./mtapi gen 64 2", 0, "tasks 64 completed 64 cancelled 0 error 0 refused 0 sum ", ""),
     ("many generated", "./mtapi gen 19000", 0, "tasks 19000 completed 19000 cancelled 0 error 0 refused 0 sum 96938214\n", ""),
-    ("faulty words", "./mtapi gen 0", 2, "", USAGE),
     ("no workload", "echo nothing | ./mtapi run", 3, "", "mtapi: line 1: "),
     ("empty input", "./mtapi run </dev/null", 0, "", ""),
     ("closed input", "./mtapi run <&-", 4, "", "mtapi: read fault"),
@@ -47,6 +52,14 @@ CALLS = [
     ("a closed output", f"./mtapi run <{FIRST} >&-", 5, "", "mtapi: write fault"),
     ("a journal that is judged", f"cat {FIRST} journal | ./mtapi check", 0, "yes\n", ""),
     ("a journal of another run", f"(printf '{ACTION}'; cat journal) | ./mtapi check", 9, "no: not a run\n", ""),
+    ("verify", f"./mtapi verify {FIRST}", 0, "main.t completed 6\nyes\n", ""),
+    ("verify, of a pipe", f"./mtapi verify <(cat {FIRST})", 0, "main.t completed 6\nyes\n", ""),
+    ("verify, of no workload", "./mtapi verify README.md", 3, "", "mtapi: line 1: "),
+    ("verify, of no file", "./mtapi verify nothing", 4, "", "mtapi: read fault: nothing\n"),
+    ("expect", f"./mtapi expect {FIRST} examples/first.report", 0, "", "mtapi: as expected\n"),
+    ("expect another report", f"./mtapi expect {FIRST} /dev/null", 1, "--- /dev/null\n", ""),
+    ("bounded", f"printf '{HANGS}' >hangs; ./mtapi bounded hangs 500", 0, "= main 2 1\n! c 6 MRAPI_TIMEOUT\n",
+     "mtapi: line 6: lock of c ran out of its 500 looks; it waits for the mutex m of line 5 (mutex_get m id=1)\n"),
     ("more output than is shown", "python3 bench/generated.py 19000 >many; ./mtapi run --journal <many", 126, "", "mtapi: no answer: "),
 ]
 faults = []
@@ -69,13 +82,30 @@ def call(clone, name, line, status, output, errors, within=WITHIN):
     return done
 
 
+def told(clone):
+    """Words that need no program: faulty ones at once."""
+    for words in FAULTY:
+        begin = time.monotonic()
+        done = subprocess.run(["./mtapi", *words.split()], cwd=clone, capture_output=True, text=True)
+        seconds = time.monotonic() - begin
+        right = done.returncode == 2 and done.stdout == "" and done.stderr.startswith(USAGE + "\n") and seconds <= MOST_WORDS
+        report(f"words: {words}", right, seconds)
+    for it in TOLD:
+        call(clone, *it)
+
+
+def processor_seconds():
+    """What ended processes have taken so far."""
+    taken = os.times()
+    return taken.children_user + taken.children_system
+
+
 def first_answer(clone):
     """The first call in a fresh clone, with what it takes; the compiler's processes are counted with it."""
     with open(f"{clone}/{FIRST}", "rb") as given, open(f"{clone}/examples/first.report", "rb") as wanted:
-        before, begin = os.times(), time.monotonic()
+        before, begin = processor_seconds(), time.monotonic()
         done = subprocess.run(["./mtapi", "run"], cwd=clone, stdin=given, capture_output=True)
-        clock, after = time.monotonic() - begin, os.times()
-        processors = after.children_user + after.children_system - before.children_user - before.children_system
+        clock, processors = time.monotonic() - begin, processor_seconds() - before
         right = done.returncode == 0 and done.stdout == wanted.read() and done.stderr.count(b"\n") == 1
     report("the first answer", right, clock, f"of the processors {processors:.1f} s")
     if processors > MOST_PROCESSORS or clock > MOST_CLOCK:
@@ -141,10 +171,23 @@ def unproved(clone):
     stopped(clone, ["run"], 10, signal.SIGTERM, 143)
 
 
+def tested(clone):
+    """All tests, with what they take."""
+    stopped(clone, ["test"], 20, signal.SIGINT, 130)
+    before, begin = processor_seconds(), time.monotonic()
+    done = subprocess.run(["./mtapi", "test"], cwd=clone, capture_output=True, text=True, timeout=PROVED_WITHIN)
+    clock, processors = time.monotonic() - begin, processor_seconds() - before
+    last = done.stdout.splitlines()[-1:] or [""]
+    right = done.returncode == 0 and re.fullmatch(r"[1-9][0-9]* passed, 0 failed", last[0]) is not None
+    report("test", right and clock <= MOST_TEST, clock, f"of the processors {processors:.1f} s: {last[0]}")
+
+
 def proved(clone):
     """Proves, is stopped, goes on, answers; and answers unproved once a source has changed."""
     stopped(clone, ["prove"], 30, signal.SIGINT, 130)
+    before = processor_seconds()
     call(clone, "prove", "./mtapi prove", 0, "", "proved and built", PROVED_WITHIN)
+    report("what prove takes", True, 0.0, f"of the processors {processor_seconds() - before:.1f} s")
     call(clone, "prove again", "./mtapi prove", 0, "", "proved and built")
     answer = call(clone, "the proved program", f"./mtapi run <{FIRST}", 0, "main.t completed 6\n", "")
     report("nothing told of it", answer.stderr == "", 0.0)
@@ -171,15 +214,16 @@ def gated(clone):
 
 def main():
     words = set(sys.argv[1:])
-    if words - {"all", "prove", "gate"}:
+    if words - {"all", "test", "prove", "gate"}:
         sys.exit(__doc__)
     with tempfile.TemporaryDirectory(prefix="first_answer-") as folder:
         clone = cloned(folder, "clone")
-        for it in NO_INPUT:
-            call(clone, *it)
+        told(clone)
         first_answer(clone)
         if "all" in words:
             unproved(clone)
+        if "test" in words:
+            tested(clone)
         if "prove" in words:
             proved(clone)
         if "gate" in words:
