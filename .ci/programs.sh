@@ -4,7 +4,7 @@
 
 command_crate=mtapi_cli
 # Further programs, each as WORD:CRATE: the first word that asks for it, and the crate that makes it.
-further=(picture:mtapi_picture)
+further=(picture:mtapi_picture explain:mtapi_explain)
 programs=("$command_crate" "${further[@]#*:}")
 
 program_of() {

@@ -10,6 +10,7 @@ most_looks=1000000                                                   # of a time
 tell_usage() {
     case $1 in
     picture) usage='usage: mtapi picture' ;;
+    explain) usage='usage: mtapi explain [FILE]' ;;
     esac
     echo "$usage" >&2
     echo "a workload comes from standard input: ./mtapi run < FILE" >&2
@@ -37,6 +38,7 @@ are_of_command() {
 are_known() {
     case $1 in
     -h | --help | --version | prove | test | picture) [ $# -eq 1 ] ;;
+    explain) [ $# -eq 1 ] || [ $# -eq 2 ] ;;
     verify) [ $# -eq 2 ] ;;
     expect) [ $# -eq 3 ] ;;
     bounded) [ $# -eq 2 ] || { [ $# -eq 3 ] && is_look_count "$3"; } ;;
@@ -60,6 +62,7 @@ The command, which reads standard input and writes standard output:
   ./mtapi gen N [W]                  runs a workload of N tasks (1 to $most_tasks) with W workers (1 to $most_workers, or 4)
 
 Beside the command:
+  ./mtapi explain [FILE]             tells every mistake for which FILE, or standard input, is no workload
   ./mtapi verify FILE                runs the workload in FILE and checks its journal; prints report and verdict
   ./mtapi expect FILE REPORT         runs the workload in FILE; status 1 and the difference if it doesn't write REPORT
   ./mtapi bounded FILE [LOOKS]       runs it with LOOKS looks ($default_looks if not given) in place of each timeout=inf, and
