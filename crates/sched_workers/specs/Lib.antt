@@ -9,3 +9,4 @@ pub mod Carries
 pub mod Crews
 pub mod Bridges
 pub mod Runs
+pub mod Worked
