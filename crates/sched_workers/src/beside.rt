@@ -19,6 +19,12 @@ pub trait Job: Send + Drop {
         ensures { promise self result };
 }
 
+/// That the system had no thread for a pair. `pair` alone makes one, so that no other call raises the count for that.
+#[derive(Drop)]
+pub struct ThreadRefused {
+    only_by_pair: (),
+}
+
 /// Says which pairs are refused, and counts them.
 pub trait Beside {
     // How many pairs were refused.
@@ -36,7 +42,7 @@ pub trait Beside {
         ensures refused { OnFalse result (Rose (refusals self.old) (refusals self.new)) };
 
     /// Counts a pair for which the system had no thread.
-    fn count_refusal(&mut self)
+    fn count_refusal(&mut self, refused: ThreadRefused)
         ensures same { (n : ℕ) → refuses self.new n ≡ refuses self.old n }
         ensures grows { refusals self.old ≤ refusals self.new }
         ensures rose { Rose (refusals self.old) (refusals self.new) };
@@ -89,7 +95,7 @@ pub fn pair<
                 }
                 Err(refused) => {
                     drop(refused);
-                    beside.count_refusal();
+                    beside.count_refusal(ThreadRefused { only_by_pair: () });
                     (beside, Err((carry, b)))
                 }
             }
