@@ -4,8 +4,8 @@ ghost use Rattle.mtapi_machine.specs.State.{terms_with};
 ghost use Rattle.mtapi_machine.specs.Legal.{Legal};
 
 use history_law::{
-    law_affinity, law_drop, law_end_after_close, law_exclusion, law_group_order, law_kind,
-    law_no_reuse, law_one_end, law_ordered, law_tally,
+    law_affinity, law_drop, law_end_after_close, law_end_has_its_cause, law_exclusion,
+    law_group_order, law_kind, law_no_reuse, law_one_end, law_ordered, law_tally,
 };
 use mtapi_machine::Entry;
 use mtapi_values::{
@@ -26,6 +26,7 @@ pub(crate) fn each_law(
     let task = TaskHandle(handle);
     law_one_end(layout, settings, callers, entries, task);
     law_end_after_close(layout, settings, callers, entries, task);
+    law_end_has_its_cause(layout, settings, callers, entries, task);
     law_ordered(layout, settings, callers, entries, QueueHandle(handle));
     law_affinity(layout, settings, callers, entries, place);
     law_no_reuse(
