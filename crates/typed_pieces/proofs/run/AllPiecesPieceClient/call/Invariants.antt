@@ -1,0 +1,5 @@
+use Rattle.sched_workers.specs.Turns.{SameSeat}
+use Rattle.typed_pieces.proofs.run.AllPiecesPieceClient.call.Given as goal
+
+abbrev pub invariant-loop-place : goal.invariant-loop-place
+invariant-loop-place g l = SameSeat l.fn.caller l.caller

@@ -1,0 +1,16 @@
+//! A piece of work.
+
+use std::sync::Wait;
+
+/// A piece of work, which gives a result.
+pub trait Piece: Drop {
+    /// Its result. That of a piece that may fail is a `Result`.
+    type Done: Drop;
+
+    // What a piece promises of its result.
+    ghost promise: { Self → Self.Done → Type 0 };
+
+    /// Does the work, on the thread of a worker. It may wait. The node can't end before it has returned.
+    fn go<R: Wait>(self, rt: &R) -> Self::Done
+        ensures { promise self result };
+}

@@ -1,0 +1,74 @@
+//! The pieces of a node, as its client sees them.
+
+ghost use Rattle.std.specs.Prelude.{◌≡◌, [], ◌∷◌, pos, IfSome};
+ghost use Rattle.typed_pieces.specs.Places.{IsKeptAt};
+ghost use Rattle.sched_workers.specs.Answers.{Called, with_number, enqueue_of, start_of};
+ghost use Rattle.sched_workers.specs.Replies.{handle, mtapi};
+
+use crate::piece::Piece;
+use crate::table::{Handed, Table};
+use mtapi_values::{Args, GroupHandle, MtapiStatus, QueueHandle, TaskAttr, TaskHandle};
+use sched_workers::Caller;
+use std::sync::{Mutex, Wait};
+
+/// The arguments of a task that runs the piece of this place. Its action has to be of kind `echo`.
+pub fn args_of(place: u32) -> Args
+    ensures { result ≡ pos place ∷ [] }
+{
+    let mut args = Args::new();
+    let _ = args.push(i64::from(place));
+    args
+}
+
+/// The pieces of a node.
+#[derive(Drop)]
+pub struct Pieces<'a, L: Handed<J>, J: Piece> {
+    pub(crate) table: &'a Mutex<Table<L, J>>,
+}
+
+impl<'a, L: Handed<J>, J: Piece> Pieces<'a, L, J> {
+    /// Starts a task of this job that runs the piece of this place. The job's action has to be of kind `echo`.
+    ///
+    /// # Errors
+    ///
+    /// Those of `task_start`.
+    pub fn start<R: Wait>(
+        &self,
+        rt: &R,
+        caller: &mut Caller,
+        place: u32,
+        job: u32,
+        attr: TaskAttr,
+        group: Option<GroupHandle>,
+    ) -> Result<TaskHandle, MtapiStatus>
+        ensures { Called mtapi handle (start_of job (pos place ∷ []) attr group) caller.old caller.new (with_number (λ h. h.0) result) }
+    {
+        caller.task_start(rt, job, &args_of(place), attr, group)
+    }
+
+    /// Puts a task into a queue that runs the piece of this place. The action of the queue's job has to be of kind `echo`.
+    ///
+    /// # Errors
+    ///
+    /// Those of `task_enqueue`.
+    pub fn enqueue<R: Wait>(
+        &self,
+        rt: &R,
+        caller: &mut Caller,
+        place: u32,
+        queue: QueueHandle,
+        attr: TaskAttr,
+        group: Option<GroupHandle>,
+    ) -> Result<TaskHandle, MtapiStatus>
+        ensures { Called mtapi handle (enqueue_of queue (pos place ∷ []) attr group) caller.old caller.new (with_number (λ h. h.0) result) }
+    {
+        caller.task_enqueue(rt, queue, &args_of(place), attr, group)
+    }
+
+    /// Takes the result of this place while the node runs, if its piece has run. It is none of the results in the end.
+    pub fn take_done<R: Wait>(&self, rt: &R, place: usize) -> Option<J::Done>
+        ensures { IfSome result (λ d. ∥ IsKeptAt J.promise L.pieces place d ∥₁) }
+    {
+        self.table.lock(rt).results.take(place)
+    }
+}

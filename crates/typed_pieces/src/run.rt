@@ -1,0 +1,103 @@
+//! Pieces that are all run, and waited for.
+
+ghost use Rattle.std.specs.Prelude.{◌≡◌, Some, IfOk, map, vec_len};
+ghost use Rattle.typed_pieces.specs.Places.{AreKept};
+ghost use Rattle.typed_pieces.specs.Runs.{HasRun};
+
+use crate::client::PieceClient;
+use crate::node::{Worked, with_pieces};
+use crate::piece::Piece;
+use crate::pieces::Pieces;
+use crate::table::Handed;
+use crate::unfinished::Unfinished;
+use mtapi_values::{ActionAttr, Kind, MtapiStatus, NodeAttr, TaskAttr, Timeout};
+use node_with_workers::Failure;
+use sched_workers::Caller;
+use std::alloc::Global;
+use std::sync::Wait;
+use std::thread::Threads;
+
+/// A client that starts a task for each piece, all in one group, and waits for the group.
+#[derive(Drop)]
+pub struct AllPieces {
+    /// How many pieces there are.
+    pub count: u32,
+}
+
+// The job of its action.
+const JOB: u32 = 1;
+
+impl<J: Piece> PieceClient<J> for AllPieces {
+    ghost use Rattle.sched_workers.specs.Turns.{SameSeat};
+
+    type Told = Result<(), MtapiStatus>;
+
+    ghost promise = { λ _ _ _ _ _. Unit {0} };
+
+    fn call<R: Wait, L: Handed<J>>(
+        self,
+        rt: &R,
+        caller: &mut Caller,
+        pieces: &Pieces<L, J>,
+    ) -> Result<(), MtapiStatus> {
+        caller.action_create(rt, JOB, Kind::Echo, ActionAttr::new())?;
+        let group = caller.group_create(rt)?;
+        for place in 0..self.count {
+            pieces.start(rt, caller, place, JOB, TaskAttr::new(), Some(group))?;
+        }
+        caller.group_wait_all(rt, group, Timeout::Infinite)
+    }
+}
+
+// The results, if each is there.
+fn all_there<D: Drop>(alloc: Global, results: Vec<Option<D>>) -> Result<Vec<D>, Unfinished>
+    ensures { IfOk result (λ v. map Some v.items ≡ results.items) }
+{
+    let mut there = Vec::with_capacity(alloc, results.len())?;
+    for result in results {
+        let Some(done) = result else {
+            return Err(Unfinished::NoResult(there.len()));
+        };
+        let Ok(()) = there.push(done) else {
+            return Err(Unfinished::Node(Failure::Memory));
+        };
+    }
+    Ok(there)
+}
+
+/// Makes a node with these settings, has its workers run these pieces, each as a task, waits for all of them, and ends the node. Each result
+/// stands at the place of its piece and keeps what this one promises.
+///
+/// There may be as many pieces as the node has tasks (`NodeAttr::TASKS`).
+///
+/// # Errors
+///
+/// - `Node`: as with `with_pieces`. `Refused` is with `ErrTaskLimit` if there are too many pieces.
+/// - `NoResult`: a task completed without a result of its piece. It doesn't occur, but no clause says so.
+pub fn run_pieces<J: Piece + Send, R: Threads + Wait + Sync>(
+    rt: &R,
+    alloc: Global,
+    settings: NodeAttr,
+    pieces: Vec<J>,
+) -> Result<Worked<(), J::Done>, Unfinished>
+where
+    J::Done: Send,
+    ensures run { IfOk result (λ w. HasRun settings w.journal) }
+    ensures kept { IfOk result (λ w. AreKept J.promise pieces.items (map Some w.results.items)) }
+    ensures places { IfOk result (λ w. vec_len w.results ≡ vec_len pieces) }
+{
+    let count = u32::try_from(pieces.len()).unwrap_or(u32::MAX);
+    let worked = with_pieces(rt, alloc, settings, pieces, AllPieces { count })?;
+    let Worked {
+        told,
+        journal,
+        results,
+    } = worked;
+    let told = told?;
+    let results = all_there(alloc, results)?;
+    Ok(Worked {
+        told,
+        journal,
+        results,
+    })
+}

@@ -1,0 +1,35 @@
+//! Why a run of pieces gave no results.
+
+use mtapi_values::MtapiStatus;
+use node_with_workers::Failure;
+use std::alloc::AllocError;
+use thiserror::Error;
+
+/// Why a run of pieces gave no results.
+#[derive(Debug, Drop, Error)]
+pub enum Unfinished {
+    /// The node failed.
+    #[error("{0}")]
+    Node(Failure),
+    /// The piece of this place has no result. It is the first one.
+    #[error("no result of piece {0}")]
+    NoResult(usize),
+}
+
+impl From<Failure> for Unfinished {
+    fn from(failure: Failure) -> Unfinished {
+        Unfinished::Node(failure)
+    }
+}
+
+impl From<AllocError> for Unfinished {
+    fn from(_error: AllocError) -> Unfinished {
+        Unfinished::Node(Failure::Memory)
+    }
+}
+
+impl From<MtapiStatus> for Unfinished {
+    fn from(status: MtapiStatus) -> Unfinished {
+        Unfinished::Node(Failure::Refused(status))
+    }
+}

@@ -1,0 +1,54 @@
+//! What the workers do: each runs the pieces whose tasks it takes.
+
+use crate::piece::Piece;
+use crate::table::{Handed, Table};
+use action_fn::{ActionSet, ActionSource, Finished, answer_of};
+use mtapi_values::{Args, Kind};
+use std::sync::{Mutex, Wait};
+
+/// Runs the piece whose place the argument of an `echo` names, if it hasn't run, and answers what each kind answers.
+#[derive(Drop)]
+pub struct PieceRunner<'a, L: Handed<J>, J: Piece> {
+    table: &'a Mutex<Table<L, J>>,
+}
+
+impl<'a, L: Handed<J>, J: Piece> PieceRunner<'a, L, J> {
+    // The piece runs outside the lock, so that others run beside it.
+    fn work<R: Wait>(&self, rt: &R, place: usize) {
+        let taken = self.table.lock(rt).take(place);
+        if let Some(piece) = taken {
+            let done = piece.go(rt);
+            self.table.lock(rt).results.put(place, done);
+        }
+    }
+}
+
+impl<'a, L: Handed<J>, J: Piece> ActionSet for PieceRunner<'a, L, J> {
+    fn run<R: Wait>(&mut self, rt: &R, kind: Kind, args: Args) -> Finished {
+        if let (Kind::Echo, [place]) = (kind, args.as_slice()) {
+            if let Ok(place) = usize::try_from(*place) {
+                self.work(rt, place);
+            }
+        }
+        let end = answer_of(kind, &args);
+        Finished::new(kind, args, end)
+    }
+}
+
+/// Gives each worker a runner over the same table.
+#[derive(Drop)]
+pub struct PieceRunners<'a, L: Handed<J>, J: Piece> {
+    /// The table.
+    pub table: &'a Mutex<Table<L, J>>,
+}
+
+impl<'a, L: Handed<J> + Send, J: Piece + Send> ActionSource for PieceRunners<'a, L, J>
+where
+    J::Done: Send,
+{
+    type Set = PieceRunner<'a, L, J>;
+
+    fn for_worker(&mut self, _worker: u32) -> PieceRunner<'a, L, J> {
+        PieceRunner { table: self.table }
+    }
+}
