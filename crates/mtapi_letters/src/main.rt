@@ -1,35 +1,81 @@
-//! Counts how often each letter stands in a text on standard input, in parts, by the workers of a node. The number of workers may be given; it
-//! is 4 else.
+//! Counts how often each letter stands in a text on standard input, in parts, by the workers of a node. The number of workers may be given;
+//! it is 4 else.
 #![tactic(auto)]
 
-mod client;
-mod counting;
-mod letters;
-mod run;
-
-use crate::run::count;
 use byte_io::{StdSource, read_all};
+use mtapi_values::NodeAttr;
+use std::alloc::Global;
+use std::sync::Wait;
+use std::thread::Threads;
 use std::{env, io};
+use typed_pieces::{Piece, Unfinished, run_pieces};
 
-/// A text is at most so long.
-const LIMIT: usize = 1 << 30;
+/// How often each letter from a to z was met, be it large or small.
+type Counts = [u64; 26];
 
-// The number of workers that is asked for; 0, which the node refuses, where the word is no number.
-fn workers(rt: &HostRuntime) -> io::Result<u64> {
-    match env::args(rt)?.skip(1).next() {
-        Some(word) => Ok(word.parse().unwrap_or(0)),
-        None => Ok(4),
+/// A part of the text.
+#[derive(Drop)]
+struct Part<'a>(&'a [u8]);
+
+impl<'a> Piece for Part<'a> {
+    type Done = Counts;
+
+    ghost promise = { λ _ _. Unit {0} };
+
+    fn go<R: Wait>(self, _rt: &R) -> Counts {
+        let mut counts = [0u64; 26];
+        for byte in self.0 {
+            let letter = byte.to_ascii_lowercase();
+            if letter >= b'a' && letter <= b'z' {
+                let count = &mut counts[(letter - b'a') as usize];
+                *count = count.saturating_add(1);
+            }
+        }
+        counts
     }
 }
 
+fn count<R: Threads + Wait + Sync>(
+    rt: &R,
+    alloc: Global,
+    text: &[u8],
+    workers: u64,
+) -> Result<Counts, Unfinished> {
+    let mut settings = NodeAttr::new();
+    settings.set(NodeAttr::WORKERS, workers)?;
+    // At most 64 parts.
+    let parts = text.chunks(text.len() / 64 + 1).map(|part| Part(part));
+    let parts = parts.collect(alloc)?;
+    let mut sum = [0u64; 26];
+    for counts in &run_pieces(rt, alloc, settings, parts)?.results {
+        for letter in 0..26 {
+            sum[letter] = sum[letter].saturating_add(counts[letter]);
+        }
+    }
+    Ok(sum)
+}
+
+fn print(rt: &HostRuntime, counts: &Counts) -> io::Result<()> {
+    for letter in 0..26u8 {
+        let count = counts[letter as usize];
+        if count > 0 {
+            println!(rt; "{}: {count}", (b'a' + letter) as char)?;
+        }
+    }
+    Ok(())
+}
+
 fn main(rt: HostRuntime) -> io::Result<()> {
-    let workers = workers(&rt)?;
-    let text = match read_all(rt.alloc(), &mut StdSource::new(rt.stdin()), LIMIT) {
+    let workers = match env::args(&rt)?.skip(1).next() {
+        Some(word) => word.parse().unwrap_or(0),
+        None => 4,
+    };
+    let text = match read_all(rt.alloc(), &mut StdSource::new(rt.stdin()), 1 << 30) {
         Ok(text) => text,
         Err(error) => return println!(rt; "{error}"),
     };
     match count(&rt, rt.alloc(), &text, workers) {
-        Ok(letters) => letters.print(&rt),
-        Err(failure) => println!(rt; "{failure}"),
+        Ok(counts) => print(&rt, &counts),
+        Err(unfinished) => println!(rt; "{unfinished}"),
     }
 }
