@@ -1,0 +1,13 @@
+use Rattle.std.proofs.Common.{◌≡◌, ◌-◌, length}
+use Rattle.workload_mistakes.specs.Mending.{after}
+use Rattle.workload_mistakes.specs.Told.{AreFaulty}
+use Rattle.workload_mistakes.proofs.search.mistakes_of.Given as goal
+
+abbrev pub invariant-reading : goal.invariant-reading
+invariant-reading l = record {
+  each : AreFaulty l.told.items l.bytes;
+  text : l.text.items ≡ after l.told.items l.bytes;
+}
+
+abbrev pub decreases-reading : goal.decreases-reading
+decreases-reading l = 50 - length l.told.items

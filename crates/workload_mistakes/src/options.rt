@@ -1,0 +1,194 @@
+//! What is wrong with the options of a statement.
+use crate::hints::{Hint, hint_at};
+use crate::reading::{Verdict, verdict_on};
+use crate::table::{KINDS, row_of, value_text};
+use crate::words::{Piece, nearest};
+use std::alloc::{AllocError, Global};
+use workload_file::Cause;
+
+/// The key of an option: what stands before `=`.
+fn key_of(word: &[u8]) -> &[u8] {
+    match word.iter().position(|b| *b == b'=') {
+        Some(at) => word.get(..at).unwrap_or(word),
+        None => word,
+    }
+}
+
+/// The options of a statement.
+fn options_in<'a, 'b>(pieces: &'b [Piece<'a>]) -> &'b [Piece<'a>] {
+    match pieces {
+        [first, _, rest @ ..] if is_named(first) => rest,
+        [_, rest @ ..] => rest,
+        [] => pieces,
+    }
+}
+
+fn is_named(first: &Piece) -> bool {
+    match row_of(first.text) {
+        Some(row) => row.is_named(),
+        None => false,
+    }
+}
+
+/// Whether the reader refuses a statement with this option alone for this cause.
+fn is_refused(
+    alloc: Global,
+    pieces: &[Piece],
+    option: Piece,
+    cause: Cause,
+) -> Result<bool, AllocError> {
+    let mut text = Vec::new(alloc);
+    let [first, rest @ ..] = pieces else {
+        return Ok(false);
+    };
+    text.extend_from_slice(first.text)?;
+    if is_named(first) && !rest.is_empty() {
+        text.extend_from_slice(b" ")?;
+        text.extend_from_slice(rest[0].text)?;
+    }
+    text.extend_from_slice(b" ")?;
+    text.extend_from_slice(option.text)?;
+    match verdict_on(alloc, &text) {
+        Verdict::Faulty(_, found) => Ok(found == cause),
+        _ => Ok(false),
+    }
+}
+
+/// The first option for which the reader refuses a statement so, and the word before it.
+fn refused_option<'a>(
+    alloc: Global,
+    pieces: &[Piece<'a>],
+    cause: Cause,
+) -> Result<(Piece<'a>, Piece<'a>), AllocError> {
+    let none = Piece { at: 0, text: &[] };
+    let mut before = none;
+    for option in options_in(pieces) {
+        if is_refused(alloc, pieces, *option, cause)? {
+            return Ok((*option, before));
+        }
+        before = *option;
+    }
+    Ok((none, before))
+}
+
+/// What a statement takes.
+fn usage_of(pieces: &[Piece]) -> &'static [u8] {
+    match pieces {
+        [first, ..] => match row_of(first.text) {
+            Some(row) => row.usage.as_bytes(),
+            None => b"",
+        },
+        [] => b"",
+    }
+}
+
+/// What is said of a word that is no option of its statement.
+pub fn option_hint(alloc: Global, pieces: &[Piece]) -> Result<Hint, AllocError> {
+    let (option, before) = refused_option(alloc, pieces, Cause::UnknownOption)?;
+    let at = option.at;
+    let word = option.text;
+    let usage = usage_of(pieces);
+    if word.starts_with(b"#") {
+        return hint_at(alloc, at, word, b": a comment has a line of its own", b"");
+    }
+    if before.text.ends_with(b",") {
+        return hint_at(
+            alloc,
+            at,
+            word,
+            b": a space ends a word; a list has commas and no spaces",
+            b"",
+        );
+    }
+    if !word.contains(&b'=') || word.starts_with(b"=") {
+        return hint_at(
+            alloc,
+            at,
+            word,
+            b": an option is key=value without spaces: ",
+            usage,
+        );
+    }
+    hint_at(
+        alloc,
+        at,
+        word,
+        b": not an option of this statement: ",
+        usage,
+    )
+}
+
+/// What is said of an option that stands twice.
+pub fn twice_hint(alloc: Global, pieces: &[Piece]) -> Result<Hint, AllocError> {
+    let options = options_in(pieces);
+    for (i, option) in options.iter().enumerate() {
+        if options[..i]
+            .iter()
+            .any(|other| key_of(other.text) == key_of(option.text))
+        {
+            return hint_at(alloc, option.at, option.text, b": each option once", b"");
+        }
+    }
+    hint_at(alloc, 0, b"", b"", b"")
+}
+
+/// What is said of a value that is none of its option.
+pub fn value_hint(alloc: Global, pieces: &[Piece]) -> Result<Hint, AllocError> {
+    let (option, _) = refused_option(alloc, pieces, Cause::BadValue)?;
+    let key = key_of(option.text);
+    let value = option
+        .text
+        .get(key.len().saturating_add(1)..)
+        .unwrap_or(&[]);
+    if key == b"kind".as_slice() {
+        return match nearest(KINDS, value) {
+            Some(kind) => hint_at(
+                alloc,
+                option.at,
+                option.text,
+                b": perhaps you mean ",
+                kind.as_bytes(),
+            ),
+            None => hint_at(
+                alloc,
+                option.at,
+                option.text,
+                b": one of ten words: ",
+                KINDS.as_bytes(),
+            ),
+        };
+    }
+    hint_at(
+        alloc,
+        option.at,
+        option.text,
+        b": ",
+        value_text(key).as_bytes(),
+    )
+}
+
+/// What is said of a line of this length in which an option is missing.
+pub fn missing_hint(alloc: Global, long: usize, pieces: &[Piece]) -> Result<Hint, AllocError> {
+    let [first, ..] = pieces else {
+        return hint_at(alloc, long, b"", b"", b"");
+    };
+    if let Some(row) = row_of(first.text) {
+        for word in row.usage.split(' ') {
+            if word.ends_with('=')
+                && !pieces
+                    .iter()
+                    .any(|piece| piece.text.starts_with(word.as_bytes()))
+            {
+                let key = key_of(word.as_bytes());
+                return hint_at(
+                    alloc,
+                    long,
+                    word.as_bytes(),
+                    b": has to be there: ",
+                    value_text(key).as_bytes(),
+                );
+            }
+        }
+    }
+    hint_at(alloc, long, b"", b"", b"")
+}
