@@ -7,6 +7,7 @@ ghost use Rattle.mtapi_objects.specs.Rwls.{new_rwl, rwl_held, rwl_busy, rwl_unlo
 ghost use Rattle.mrapi_counting.specs.RwlCalls.{rwl_look_answer, rwl_after_look, rwl_after_unlock};
 
 use crate::marks;
+use keyed_pool::HasId;
 use mtapi_values::seats::{self, SEATS};
 use mtapi_values::{Look, MrapiStatus};
 use std::marker::Model;
@@ -33,6 +34,14 @@ impl Model for RwlState {
     } };
 }
 
+impl HasId for RwlState {
+    ghost id_of = { λ x. x.id };
+
+    fn id(&self) -> u64 {
+        u64::from(self.id)
+    }
+}
+
 impl RwlState {
     pub(crate) fn new(id: u32, limit: u32) -> RwlState
         ensures { result ≡ new_rwl id limit }
@@ -43,12 +52,6 @@ impl RwlState {
             readers: [false; SEATS],
             writer: None,
         }
-    }
-
-    pub(crate) fn id(&self) -> u32
-        ensures { result ≡ self.now.id }
-    {
-        self.id
     }
 
     /// Whether somebody holds it, in either mode.

@@ -11,7 +11,7 @@ ghost use Rattle.mtapi_objects.specs.Rwls.{new_rwl, rwl_create_refusals, rwl_del
 ghost use Rattle.mrapi_counting.specs.RwlCalls.{HasId, RwlCreateRefused, rwl_refusal, rwl_look_at, rwl_after_look, rwl_after_unlock};
 
 use crate::rwl_state::RwlState;
-use handle_pool::Pool;
+use keyed_pool::{InsertError, KeyedPool};
 use mtapi_values::{Look, MrapiStatus, RwlHandle};
 use std::alloc::{AllocError, Global};
 use std::marker::Model;
@@ -22,19 +22,16 @@ const MAX_READERS: u32 = 32;
 /// Reader-writer locks, each under a handle, and seen as the slots of their pool. Live ones have different ids.
 #[derive(Drop)]
 pub struct Rwls {
-    pool: Pool<RwlState>,
+    pool: KeyedPool<RwlState>,
 }
 
 impl Model for Rwls {
     ghost use Rattle.handle_pool.specs.Slots.{Slots};
-    ghost use Rattle.handle_pool.specs.Walks.{OneEach};
     ghost use Rattle.mtapi_objects.specs.Rwls.{Rwl};
 
     ghost Value = { Slots Rwl };
 
     ghost view = { λ r. r.pool };
-
-    ghost invariant = { λ r. OneEach (λ x. x.id) r.pool };
 }
 
 impl Rwls {
@@ -47,7 +44,7 @@ impl Rwls {
         ensures slots { IfOk result (λ p. p.slots ≡ replicate max (free_slot 1)) }
     {
         Ok(Rwls {
-            pool: Pool::new(alloc, max, generations)?,
+            pool: KeyedPool::new(alloc, max, generations)?,
         })
     }
 
@@ -68,17 +65,18 @@ impl Rwls {
         ensures refused { IfErr result (λ c. RwlCreateRefused self.old id limit c) }
         ensures unchanged { OnErr result (self.new ≡ self.old) }
     {
-        if let Some(status) = self.create_refusal(id, limit) {
-            return Err(status);
+        if limit == 0 || limit > MAX_READERS {
+            return Err(MrapiStatus::ErrParameter);
         }
         match self.pool.insert(RwlState::new(id, limit)) {
             Ok(handle) => Ok(RwlHandle(handle)),
-            Err(_) => Err(MrapiStatus::ErrRwlLimit),
+            Err(InsertError::IdTaken) => Err(MrapiStatus::ErrRwlExists),
+            Err(InsertError::Full) => Err(MrapiStatus::ErrRwlLimit),
         }
     }
 
     /// Tells why such a create is refused, whether there is room or not: `ErrParameter` where the limit isn't 1 to 32, and
-    /// then `ErrRwlExists` where a live lock has the id, else None. It walks the places.
+    /// then `ErrRwlExists` where a live lock has the id, else None.
     pub fn create_refusal(&self, id: u32, limit: u32) -> Option<MrapiStatus>
         ensures refused { IfSome result (λ c. (first (rwl_create_refusals limit) ≡ Some c) ⊎ ((first (rwl_create_refusals limit) ≡ None) × (c ≡ ErrRwlExists) × SomeLive (slot_value self.now) (HasId id))) }
         ensures in_range { IsNone result → first (rwl_create_refusals limit) ≡ None }
@@ -107,7 +105,7 @@ impl Rwls {
         self.pool.get(r.0).is_some()
     }
 
-    /// Finds the live lock of an id. It walks the places.
+    /// Finds the live lock of an id.
     ///
     /// Stands for `mrapi_rwl_get`.
     ///
@@ -121,14 +119,10 @@ impl Rwls {
         // An id has one live lock at most.
         ensures only { OneEach (λ x. x.id) self.now }
     {
-        for place in 0..self.pool.max() {
-            if let Some((handle, rwl)) = self.pool.slot_at(place) {
-                if rwl.id() == id {
-                    return Ok(RwlHandle(handle));
-                }
-            }
+        match self.pool.find(u64::from(id)) {
+            Some(handle) => Ok(RwlHandle(handle)),
+            None => Err(MrapiStatus::ErrRwlIdInvalid),
         }
-        Err(MrapiStatus::ErrRwlIdInvalid)
     }
 
     /// Gives up a lock that nobody holds.
@@ -172,9 +166,9 @@ impl Rwls {
         ensures new { self.new ≡ changed self.old r.0 (rwl_after_look who writer) }
         ensures unchanged { is_got result ≡ false → self.new ≡ self.old }
     {
-        match self.pool.get_mut(r.0) {
+        match self.pool.update(r.0, |rwl| rwl.look(who, writer)) {
             None => Look::Refused(MrapiStatus::ErrRwlInvalid),
-            Some(rwl) => rwl.look(who, writer),
+            Some(answer) => answer,
         }
     }
 
@@ -192,9 +186,9 @@ impl Rwls {
         ensures new { self.new ≡ changed self.old r.0 (rwl_after_unlock who writer) }
         ensures unchanged { OnErr result (self.new ≡ self.old) }
     {
-        match self.pool.get_mut(r.0) {
+        match self.pool.update(r.0, |rwl| rwl.unlock(who, writer)) {
             None => Err(MrapiStatus::ErrRwlInvalid),
-            Some(rwl) => rwl.unlock(who, writer),
+            Some(answer) => answer,
         }
     }
 }

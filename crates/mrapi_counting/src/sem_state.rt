@@ -6,6 +6,7 @@ ghost use Rattle.mtapi_values.specs.Conditions.{first};
 ghost use Rattle.mtapi_objects.specs.Sems.{new_sem, total, sem_unlock_refusals};
 ghost use Rattle.mrapi_counting.specs.SemCalls.{sem_look_answer, sem_after_look, sem_after_unlock};
 
+use keyed_pool::HasId;
 use mtapi_values::seats::SEATS;
 use mtapi_values::{Look, MrapiStatus};
 use std::marker::Model;
@@ -33,6 +34,14 @@ impl Model for SemState {
     ghost invariant = { λ s. IsSem s.limit s.holdings };
 }
 
+impl HasId for SemState {
+    ghost id_of = { λ x. x.id };
+
+    fn id(&self) -> u64 {
+        u64::from(self.id)
+    }
+}
+
 #[tactic(auto, using(crate::proofs::Totals::total_is_sum, std::proofs::lemmas::Grind::common_steps))]
 impl SemState {
     pub(crate) fn new(id: u32, limit: u32) -> SemState
@@ -44,12 +53,6 @@ impl SemState {
             limit,
             holdings: [0; SEATS],
         }
-    }
-
-    pub(crate) fn id(&self) -> u32
-        ensures { result ≡ self.now.id }
-    {
-        self.id
     }
 
     /// How often all seats together hold it.

@@ -11,7 +11,7 @@ ghost use Rattle.mtapi_objects.specs.Sems.{new_sem, sem_create_refusals, sem_del
 ghost use Rattle.mrapi_counting.specs.SemCalls.{HasId, SemCreateRefused, sem_refusal, sem_look_at, sem_after_look, sem_after_unlock};
 
 use crate::sem_state::SemState;
-use handle_pool::Pool;
+use keyed_pool::{InsertError, KeyedPool};
 use mtapi_values::{Look, MrapiStatus, SemHandle};
 use std::alloc::{AllocError, Global};
 use std::marker::Model;
@@ -22,19 +22,16 @@ const MAX_LIMIT: u32 = 65535;
 /// Semaphores, each under a handle, and seen as the slots of their pool. Live ones have different ids.
 #[derive(Drop)]
 pub struct Sems {
-    pool: Pool<SemState>,
+    pool: KeyedPool<SemState>,
 }
 
 impl Model for Sems {
     ghost use Rattle.handle_pool.specs.Slots.{Slots};
-    ghost use Rattle.handle_pool.specs.Walks.{OneEach};
     ghost use Rattle.mtapi_objects.specs.Sems.{Sem};
 
     ghost Value = { Slots Sem };
 
     ghost view = { λ s. s.pool };
-
-    ghost invariant = { λ s. OneEach (λ x. x.id) s.pool };
 }
 
 impl Sems {
@@ -47,7 +44,7 @@ impl Sems {
         ensures slots { IfOk result (λ p. p.slots ≡ replicate max (free_slot 1)) }
     {
         Ok(Sems {
-            pool: Pool::new(alloc, max, generations)?,
+            pool: KeyedPool::new(alloc, max, generations)?,
         })
     }
 
@@ -68,17 +65,18 @@ impl Sems {
         ensures refused { IfErr result (λ c. SemCreateRefused self.old id limit c) }
         ensures unchanged { OnErr result (self.new ≡ self.old) }
     {
-        if let Some(status) = self.create_refusal(id, limit) {
-            return Err(status);
+        if limit == 0 || limit > MAX_LIMIT {
+            return Err(MrapiStatus::ErrParameter);
         }
         match self.pool.insert(SemState::new(id, limit)) {
             Ok(handle) => Ok(SemHandle(handle)),
-            Err(_) => Err(MrapiStatus::ErrSemLimit),
+            Err(InsertError::IdTaken) => Err(MrapiStatus::ErrSemExists),
+            Err(InsertError::Full) => Err(MrapiStatus::ErrSemLimit),
         }
     }
 
     /// Tells why such a create is refused, whether there is room or not: `ErrParameter` where the limit isn't 1 to 65,535, and
-    /// then `ErrSemExists` where a live semaphore has the id, else None. It walks the places.
+    /// then `ErrSemExists` where a live semaphore has the id, else None.
     pub fn create_refusal(&self, id: u32, limit: u32) -> Option<MrapiStatus>
         ensures refused { IfSome result (λ c. (first (sem_create_refusals limit) ≡ Some c) ⊎ ((first (sem_create_refusals limit) ≡ None) × (c ≡ ErrSemExists) × SomeLive (slot_value self.now) (HasId id))) }
         ensures in_range { IsNone result → first (sem_create_refusals limit) ≡ None }
@@ -107,7 +105,7 @@ impl Sems {
         self.pool.get(s.0).is_some()
     }
 
-    /// Finds the live semaphore of an id. It walks the places.
+    /// Finds the live semaphore of an id.
     ///
     /// Stands for `mrapi_sem_get`.
     ///
@@ -121,14 +119,10 @@ impl Sems {
         // An id has one live semaphore at most.
         ensures only { OneEach (λ x. x.id) self.now }
     {
-        for place in 0..self.pool.max() {
-            if let Some((handle, sem)) = self.pool.slot_at(place) {
-                if sem.id() == id {
-                    return Ok(SemHandle(handle));
-                }
-            }
+        match self.pool.find(u64::from(id)) {
+            Some(handle) => Ok(SemHandle(handle)),
+            None => Err(MrapiStatus::ErrSemIdInvalid),
         }
-        Err(MrapiStatus::ErrSemIdInvalid)
     }
 
     /// Gives up a semaphore that nobody holds.
@@ -170,9 +164,9 @@ impl Sems {
         ensures new { self.new ≡ changed self.old s.0 (sem_after_look who) }
         ensures unchanged { is_got result ≡ false → self.new ≡ self.old }
     {
-        match self.pool.get_mut(s.0) {
+        match self.pool.update(s.0, |sem| sem.look(who)) {
             None => Look::Refused(MrapiStatus::ErrSemInvalid),
-            Some(sem) => sem.look(who),
+            Some(answer) => answer,
         }
     }
 
@@ -190,9 +184,9 @@ impl Sems {
         ensures new { self.new ≡ changed self.old s.0 (sem_after_unlock who) }
         ensures unchanged { OnErr result (self.new ≡ self.old) }
     {
-        match self.pool.get_mut(s.0) {
+        match self.pool.update(s.0, |sem| sem.unlock(who)) {
             None => Err(MrapiStatus::ErrSemInvalid),
-            Some(sem) => sem.unlock(who),
+            Some(answer) => answer,
         }
     }
 }

@@ -17,7 +17,7 @@ ghost use Rattle.mtapi_values.specs.declared.statuses.MrapiStatus.TheVariants.{E
 ghost use Rattle.mtapi_values.specs.Looks.{is_got};
 ghost use Rattle.mrapi_mutex.specs.Calls.{HasId, CreateRefused, refusal, look_at, after_look, after_unlock};
 
-use handle_pool::Pool;
+use keyed_pool::{HasId, InsertError, KeyedPool};
 use mtapi_values::{Look, MrapiStatus, MutexHandle};
 use state::MutexState;
 use std::alloc::{AllocError, Global};
@@ -26,19 +26,16 @@ use std::marker::Model;
 /// Mutexes, each under a handle, and seen as the slots of their pool. Live ones have different ids.
 #[derive(Drop)]
 pub struct Mutexes {
-    pool: Pool<MutexState>,
+    pool: KeyedPool<MutexState>,
 }
 
 impl Model for Mutexes {
     ghost use Rattle.handle_pool.specs.Slots.{Slots};
-    ghost use Rattle.handle_pool.specs.Walks.{OneEach};
     ghost use Rattle.mtapi_objects.specs.Mutexes.{Mutex};
 
     ghost Value = { Slots Mutex };
 
     ghost view = { λ m. m.pool };
-
-    ghost invariant = { λ m. OneEach (λ x. x.id) m.pool };
 }
 
 impl Mutexes {
@@ -51,7 +48,7 @@ impl Mutexes {
         ensures slots { IfOk result (λ p. p.slots ≡ replicate max (free_slot 1)) }
     {
         Ok(Mutexes {
-            pool: Pool::new(alloc, max, generations)?,
+            pool: KeyedPool::new(alloc, max, generations)?,
         })
     }
 
@@ -70,17 +67,15 @@ impl Mutexes {
         ensures refused { IfErr result (λ c. CreateRefused self.old id c) }
         ensures unchanged { OnErr result (self.new ≡ self.old) }
     {
-        if let Some(status) = self.create_refusal(id) {
-            return Err(status);
-        }
         match self.pool.insert(MutexState::new(id, recursive)) {
             Ok(handle) => Ok(MutexHandle(handle)),
-            Err(_) => Err(MrapiStatus::ErrMutexLimit),
+            Err(InsertError::IdTaken) => Err(MrapiStatus::ErrMutexExists),
+            Err(InsertError::Full) => Err(MrapiStatus::ErrMutexLimit),
         }
     }
 
     /// Tells why a create of this id is refused, whether there is room or not: `ErrMutexExists`
-    /// where a live mutex has the id, else None. It walks the places.
+    /// where a live mutex has the id, else None.
     pub fn create_refusal(&self, id: u32) -> Option<MrapiStatus>
         ensures exists { IfSome result (λ c. (c ≡ ErrMutexExists) × SomeLive (slot_value self.now) (HasId id)) }
         ensures new_id { IsNone result → NoneLive (slot_value self.now) (HasId id) }
@@ -105,7 +100,7 @@ impl Mutexes {
         self.pool.get(m.0).is_some()
     }
 
-    /// Finds the live mutex of an id. It walks the places.
+    /// Finds the live mutex of an id.
     ///
     /// Stands for `mrapi_mutex_get`.
     ///
@@ -133,17 +128,13 @@ impl Mutexes {
         // An id has one live mutex at most.
         ensures only { OneEach (λ x. x.id) self.now }
     {
-        for place in 0..self.pool.max() {
-            if let Some((handle, mutex)) = self.pool.slot_at(place) {
-                if u64::from(mutex.id()) == id {
-                    return Some(MutexHandle(handle));
-                }
-            }
+        match self.pool.find(id) {
+            Some(handle) => Some(MutexHandle(handle)),
+            None => None,
         }
-        None
     }
 
-    /// Finds the same, where an earlier call found `last`. If that mutex is live and has the id, no place is walked.
+    /// Finds the same, where an earlier call found `last`. If that mutex is live and has the id, nothing is searched.
     pub fn find_again(&self, last: Option<MutexHandle>, id: u64) -> Option<MutexHandle>
         ensures found { IfSome result (λ m. HasLive self.now m.0 (HasId id)) }
         ensures absent { IsNone result → NoneLive (slot_value self.now) (HasId id) }
@@ -163,7 +154,7 @@ impl Mutexes {
         ensures only { OneEach (λ x. x.id) self.now }
     {
         match self.pool.get(m.0) {
-            Some(mutex) => u64::from(mutex.id()) == id,
+            Some(mutex) => mutex.id() == id,
             None => false,
         }
     }
@@ -217,9 +208,9 @@ impl Mutexes {
         ensures new { self.new ≡ changed self.old m.0 (after_look who) }
         ensures unchanged { is_got result ≡ false → self.new ≡ self.old }
     {
-        match self.pool.get_mut(m.0) {
+        match self.pool.update(m.0, |mutex| mutex.look(who)) {
             None => Look::Refused(MrapiStatus::ErrMutexInvalid),
-            Some(mutex) => mutex.look(who),
+            Some(look) => look,
         }
     }
 
@@ -238,9 +229,9 @@ impl Mutexes {
         ensures new { self.new ≡ changed self.old m.0 (after_unlock who key) }
         ensures unchanged { OnErr result (self.new ≡ self.old) }
     {
-        match self.pool.get_mut(m.0) {
+        match self.pool.update(m.0, |mutex| mutex.unlock(who, key)) {
             None => Err(MrapiStatus::ErrMutexInvalid),
-            Some(mutex) => mutex.unlock(who, key),
+            Some(answer) => answer,
         }
     }
 }

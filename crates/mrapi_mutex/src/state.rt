@@ -6,6 +6,7 @@ ghost use Rattle.mtapi_values.specs.Conditions.{first};
 ghost use Rattle.mtapi_objects.specs.Mutexes.{new_mutex, mutex_unlock_refusals};
 ghost use Rattle.mrapi_mutex.specs.Calls.{look_answer, after_look, after_unlock};
 
+use keyed_pool::HasId;
 use mtapi_values::{Look, MrapiStatus};
 use std::marker::Model;
 
@@ -37,6 +38,14 @@ impl Model for MutexState {
     ghost invariant = { λ m. IsMutex m.owner m.depth };
 }
 
+impl HasId for MutexState {
+    ghost id_of = { λ m. m.id };
+
+    fn id(&self) -> u64 {
+        u64::from(self.id)
+    }
+}
+
 impl MutexState {
     pub(crate) fn new(id: u32, recursive: bool) -> MutexState
         ensures { result ≡ new_mutex id recursive }
@@ -47,12 +56,6 @@ impl MutexState {
             owner: None,
             depth: 0,
         }
-    }
-
-    pub(crate) fn id(&self) -> u32
-        ensures { result ≡ self.now.id }
-    {
-        self.id
     }
 
     pub(crate) fn is_locked(&self) -> bool

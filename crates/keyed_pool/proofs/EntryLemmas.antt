@@ -1,0 +1,127 @@
+-- Entries in the order of their ids, after an insert and a removal, and what a search finds among them.
+use Rattle.std.proofs.Common.{◌≡◌, ◌≢◌, ◌⊎◌, inl, inr, ℕ, ◌+◌, ◌-◌, ◌<◌, ◌≤◌, List, length, Result, Ok, Err, sym, ap, ◌∙◌, subst, arith}
+use Rattle.std.specs.List.{Contains, insert, remove}
+use Rattle.std.specs.List.Sorted.{IsSearchInRange, IsBinarySearchResult, IsNonDecreasingBy}
+use Rattle.std.specs.Ordering.{nat_cmp, ordering_index}
+use Rattle.std.specs.Prelude.{slice_index_or}
+use Rattle.std.proofs.lemmas.Bool.{cases_eq, cases_lt}
+use Rattle.std.proofs.lemmas.Bool.Decides.{nat_tests}
+use Rattle.std.proofs.lemmas.Cmp.{ranked}
+use Rattle.std.proofs.lemmas.List.Edits.{length-insert, get_or-insert_below, get_or-insert_at, get_or-insert_above, length-remove, get_or-remove_below, get_or-remove_above}
+use Rattle.keyed_pool.specs.Index.{AreRising, Locates}
+use Rattle.keyed_pool.specs.declared.Entry.{Entry}
+
+id_at : List Entry → ℕ → Entry → ℕ
+id_at xs k d = (slice_index_or xs k d).id
+
+module _ (xs : List Entry) (rising : AreRising xs) where
+  -- two places with one id are one place
+  pub same_place : (a b : ℕ) (d : Entry) → a < length xs → b < length xs → (slice_index_or xs a d).id ≡ (slice_index_or xs b d).id → a ≡ b
+  same_place a b d within too same =
+      elim (cases_eq a b) [
+        | inl equal ↦ equal
+        | inr differs ↦ elim (cases_lt a b) [
+          | inl below ↦ absurd (omega (arith, same, rising a b d below too))
+          | inr above ↦ let lower : b < a = omega arith in absurd (omega (arith, same, rising b a d lower within))
+        ]
+      ]
+
+  comparisons_rise : (id : ℕ) → IsNonDecreasingBy (λ (e : Entry). ordering_index (nat_cmp e.id id)) xs
+  comparisons_rise id i j d order within =
+      elim (cases_eq i j) [
+        | inl same ↦ let P : ℕ → Type 0 = λ n. ordering_index (nat_cmp (slice_index_or xs i d).id id) ≤ ordering_index (nat_cmp (slice_index_or xs n d).id id) in subst P same (omega arith)
+        | inr differs ↦
+            let before : i < j = omega arith in
+            by_ids (slice_index_or xs i d).id (slice_index_or xs j d).id (rising i j d before within)
+      ]
+    where
+      by_ids : (m n : ℕ) → m < n → ordering_index (nat_cmp m id) ≤ ordering_index (nat_cmp n id)
+      by_ids m n below = grind (arith, nat_tests)
+
+-- what a binary search by the id finds
+pub searched : (xs : List Entry) (id : ℕ) (r : Result ℕ ℕ) → IsSearchInRange r (length xs) → IsBinarySearchResult (λ (e : Entry). nat_cmp e.id id) xs r → Locates xs id r
+searched xs id (Ok place) within equal = (within, λ d. ranked _ id _ (sym (equal d)))
+searched xs id (Err place) within parted = (
+  within,
+  λ rising. (
+    λ k d below. ranked _ id _ (sym ((parted (comparisons_rise xs rising id)).0 k d (omega arith) below)),
+    λ k d above inside. ranked _ id _ (sym ((parted (comparisons_rise xs rising id)).1 k d above inside)),
+  ),
+)
+
+module _ (xs : List Entry) (place : ℕ) (y : Entry) (within : place ≤ length xs) where
+  pub contains-new : Contains (insert xs place y) y
+  contains-new = (place, omega (arith, length-insert xs place y within), get_or-insert_at xs place y y within)
+
+  pub contains-old : (x : Entry) → Contains xs x → Contains (insert xs place y) x
+  contains-old x there =
+      elim (cases_lt there.0 place) [
+        | inl below ↦ (there.0, omega (arith, there.1, length-insert xs place y within), get_or-insert_below xs place y x there.0 below within ∙ there.2)
+        | inr above ↦ (there.0 + 1, omega (arith, there.1, length-insert xs place y within), get_or-insert_above xs place y x there.0 above within ∙ there.2)
+      ]
+
+  -- what stands at a place then
+  data Stands (k : ℕ) (d : Entry) : Type 0 where
+    New : k ≡ place → slice_index_or (insert xs place y) k d ≡ y → Stands k d
+    Below : k < place → slice_index_or (insert xs place y) k d ≡ slice_index_or xs k d → Stands k d
+    Above : (j : ℕ) → k ≡ j + 1 → place ≤ j → slice_index_or (insert xs place y) k d ≡ slice_index_or xs j d → Stands k d
+
+  stands : (k : ℕ) (d : Entry) → Stands k d
+  stands k d =
+      elim (cases_eq k place) [
+        | inl here ↦ New here (ap (λ n. slice_index_or (insert xs place y) n d) here ∙ get_or-insert_at xs place y d within)
+        | inr differs ↦ elim (cases_lt k place) [
+          | inl below ↦ Below below (get_or-insert_below xs place y d k below within)
+          | inr above ↦ higher (k - 1) (omega arith) (omega arith)
+        ]
+      ]
+    where
+      higher : (j : ℕ) → k ≡ j + 1 → place ≤ j → Stands k d
+      higher j next above = Above j next above (ap (λ n. slice_index_or (insert xs place y) n d) next ∙ get_or-insert_above xs place y d j above within)
+
+  pub contained : (x : Entry) → Contains (insert xs place y) x → (x ≡ y) ⊎ Contains xs x
+  contained x there = by_place (stands there.0 x)
+    where
+      by_place : Stands there.0 x → (x ≡ y) ⊎ Contains xs x
+      by_place (New here is) = inl (sym there.2 ∙ is)
+      by_place (Below below is) = inr (there.0, omega (arith, below, within), sym is ∙ there.2)
+      by_place (Above j next above is) = inr (j, omega (arith, next, there.1, length-insert xs place y within), sym is ∙ there.2)
+
+  pub rising-insert : AreRising xs → ((k : ℕ) (d : Entry) → k < place → (slice_index_or xs k d).id < y.id) → ((k : ℕ) (d : Entry) → place ≤ k → k < length xs → y.id < (slice_index_or xs k d).id) → AreRising (insert xs place y)
+  rising-insert rising lower higher a b d below inside = by_places (stands a d) (stands b d)
+    where
+      long : length (insert xs place y) ≡ length xs + 1
+      long = length-insert xs place y within
+
+      id : Entry → ℕ
+      id e = e.id
+
+      by_places : Stands a d → Stands b d → (slice_index_or (insert xs place y) a d).id < (slice_index_or (insert xs place y) b d).id
+      by_places (New here is) (New too same) = absurd (omega (arith, here, too, below))
+      by_places (New here is) (Below low same) = absurd (omega (arith, here, low, below))
+      by_places (New here is) (Above j next high same) = omega (arith, ap id is, ap id same, higher j d high (omega (arith, next, inside, long)))
+      by_places (Below low is) (New too same) = omega (arith, ap id is, ap id same, lower a d low)
+      by_places (Below low is) (Below under same) = omega (arith, ap id is, ap id same, rising a b d below (omega (arith, under, within)))
+      by_places (Below low is) (Above j next high same) = omega (arith, ap id is, ap id same, rising a j d (omega (arith, low, high)) (omega (arith, next, inside, long)))
+      by_places (Above i after up is) (New too same) = absurd (omega (arith, after, up, too, below))
+      by_places (Above i after up is) (Below under same) = absurd (omega (arith, after, up, under, below))
+      by_places (Above i after up is) (Above j next high same) = omega (arith, ap id is, ap id same, rising i j d (omega (arith, after, next, below)) (omega (arith, next, inside, long)))
+
+module _ (xs : List Entry) (place : ℕ) (within : place < length xs) where
+  -- what is left stood at another place
+  pub kept : (x : Entry) → Contains (remove xs place) x → (k : ℕ) × (k < length xs) × (k ≢ place) × (slice_index_or xs k x ≡ x)
+  kept x there =
+      elim (cases_lt there.0 place) [
+        | inl below ↦ (there.0, omega (arith, below, within), λ same. absurd (omega (arith, same, below)), sym (get_or-remove_below xs place x there.0 below within) ∙ there.2)
+        | inr above ↦ (there.0 + 1, omega (arith, there.1, length-remove xs place within), λ same. absurd (omega (arith, same, above)), sym (get_or-remove_above xs place x there.0 above within) ∙ there.2)
+      ]
+
+  pub contains-left : (x : Entry) (k : ℕ) → k < length xs → k ≢ place → slice_index_or xs k x ≡ x → Contains (remove xs place) x
+  contains-left x k inside differs is =
+      elim (cases_lt k place) [
+        | inl below ↦ (k, omega (arith, below, within, length-remove xs place within), get_or-remove_below xs place x k below within ∙ is)
+        | inr above ↦ lower (k - 1) (omega arith) (omega arith)
+      ]
+    where
+      lower : (j : ℕ) → k ≡ j + 1 → place ≤ j → Contains (remove xs place) x
+      lower j next above = (j, omega (arith, next, inside, length-remove xs place within), get_or-remove_above xs place x j above within ∙ ap (λ n. slice_index_or xs n x) (sym next) ∙ is)

@@ -1,6 +1,0 @@
-use Rattle.handle_pool.specs.Walks.{NoneBelow}
-use Rattle.mrapi_counting.specs.RwlCalls.{HasId}
-use Rattle.mrapi_counting.proofs.rwlocks.Rwls.get.Given as goal
-
-abbrev pub invariant-loop-place : goal.invariant-loop-place
-invariant-loop-place l = NoneBelow l.self l.place (HasId l.id)
