@@ -2,7 +2,7 @@
 #![tactic(auto)]
 
 ghost use Rattle.std.specs.Prelude.{◌≡◌, ◌≤◌, ◌<◌, ◌+◌, ◌↔◌, ℕ, IsTrue, IsNone, IfSome, IfNone, IfOk, IfErr, OnOk, OnErr, OnSome, replicate, vec_len, vec_capacity, option_copied};
-ghost use Rattle.handle_pool.specs.Slots.{slot_value, free_slot, without, Inserts, IsFull, live_count};
+ghost use Rattle.handle_pool.specs.Slots.{slot_value, free_slot, without, Inserts, IsFull, live_count, retired_count, max_of};
 ghost use Rattle.handle_pool.specs.Walks.{NoneLive, HasLive, OneEach};
 ghost use Rattle.keyed_pool.specs.Keyed.{KeepsId, Updates, WhyRefused};
 ghost use Rattle.keyed_pool.specs.Index.{Locates};
@@ -173,7 +173,10 @@ impl<T: HasId + Drop> KeyedPool<T> {
 
     /// Whether every slot is in use or has retired.
     pub fn is_full(&self) -> bool
-        ensures { IsTrue result ↔ IsFull self.now }
+        ensures full { IsTrue result ↔ IsFull self.now }
+
+        // No slot is in use and has retired.
+        ensures fits { live_count self.now + retired_count self.now ≤ max_of self.now }
     {
         u64::from(self.pool.live()) + u64::from(self.pool.retired()) == u64::from(self.pool.max())
     }

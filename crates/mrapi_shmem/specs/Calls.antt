@@ -4,7 +4,7 @@ use Rattle.mtapi_values.specs.declared.statuses.MrapiStatus.{MrapiStatus}
 use Rattle.mtapi_values.specs.declared.statuses.MrapiStatus.TheVariants.{ErrShmInvalid, ErrShmExists, ErrShmLimit}
 use Rattle.mtapi_values.specs.Conditions.{first}
 use Rattle.handle_pool.specs.Slots.{Slots, slot_value, live_count, max_of, IsFull}
-use Rattle.handle_pool.specs.Walks.{SomeLive, NoneLive, OneEach}
+use Rattle.handle_pool.specs.Walks.{SomeLive, NoneLive}
 use Rattle.mtapi_objects.specs.Segments.{Segment, shmem_create_refusals, attach_refusals, detach_refusals, with_attached, cell_refusals, cell_of, with_cell}
 
 -- the segment has this id
@@ -42,8 +42,7 @@ after_detach who s = if is_none (first (detach_refusals who s)) then with_attach
 abbrev pub after_write : ℕ → ℕ → ℤ → Segment → Segment
 after_write who cell value s = if is_none (first (cell_refusals who cell s)) then with_cell cell value s else s
 
--- what segments keep: ids of their own, and memory for each segment that may still be made, which goes back to its place
+-- what segments keep: memory for each segment that may still be made, which goes back to its place
 pub record IsStore (p : Slots Segment) (spare room : ℕ) : Type 0 where
-  pub each : OneEach (λ s. s.id) p
   pub counted : spare + live_count p ≡ max_of p
   pub fits : max_of p ≤ room

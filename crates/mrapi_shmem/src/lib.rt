@@ -18,7 +18,7 @@ ghost use Rattle.handle_pool.specs.Walks.{SomeLive, NoneLive, HasLive, OneEach};
 ghost use Rattle.mtapi_objects.specs.Segments.{new_segment, shmem_create_refusals, shmem_delete_refusals, attach_refusals, detach_refusals, cell_refusals, cell_of, with_cell};
 ghost use Rattle.mrapi_shmem.specs.Calls.{HasId, CreateRefused, refusal, read_at, after_attach, after_detach, after_write};
 
-use handle_pool::Pool;
+use keyed_pool::{HasId, KeyedPool};
 use mtapi_values::{MrapiStatus, ShmemHandle};
 use room::{MAX_CELLS, Room};
 use state::SegmentState;
@@ -28,7 +28,7 @@ use std::marker::Model;
 /// Segments, each under a handle, and seen as the slots of their pool. Live ones have different ids.
 #[derive(Drop)]
 pub struct Segments {
-    pool: Pool<SegmentState>,
+    pool: KeyedPool<SegmentState>,
     // Memory for each segment that isn't live.
     spare: Vec<Room>,
 }
@@ -61,7 +61,7 @@ impl Segments {
             spare.push_reserved(Room::new(alloc)?);
         }
         Ok(Segments {
-            pool: Pool::new(alloc, max, generations)?,
+            pool: KeyedPool::new(alloc, max, generations)?,
             spare,
         })
     }
@@ -87,16 +87,14 @@ impl Segments {
         if let Some(status) = self.create_refusal(id, cells) {
             return Err(status);
         }
-        if u64::from(self.pool.live()) + u64::from(self.pool.retired())
-            == u64::from(self.pool.max())
-        {
+        if self.pool.is_full() {
             return Err(MrapiStatus::ErrShmLimit);
         }
         Ok(ShmemHandle(self.fill(id, cells)))
     }
 
     /// Tells why such a create is refused, whether there is room or not: `ErrParameter` where the cells aren't 1 to 4,096, and
-    /// then `ErrShmExists` where a live segment has the id, else None. It walks the places.
+    /// then `ErrShmExists` where a live segment has the id, else None.
     pub fn create_refusal(&self, id: u32, cells: u32) -> Option<MrapiStatus>
         ensures refused { IfSome result (λ c. (first (shmem_create_refusals cells) ≡ Some c) ⊎ ((first (shmem_create_refusals cells) ≡ None) × (c ≡ ErrShmExists) × SomeLive (slot_value self.now) (HasId id))) }
         ensures in_range { IsNone result → first (shmem_create_refusals cells) ≡ None }
@@ -142,7 +140,7 @@ impl Segments {
         }
     }
 
-    /// Finds the live segment of an id. It walks the places.
+    /// Finds the live segment of an id.
     ///
     /// Stands for `mrapi_shmem_get`.
     ///
@@ -170,17 +168,13 @@ impl Segments {
         // An id has one live segment at most.
         ensures only { OneEach (λ x. x.id) self.now }
     {
-        for place in 0..self.pool.max() {
-            if let Some((handle, segment)) = self.pool.slot_at(place) {
-                if u64::from(segment.id()) == id {
-                    return Some(ShmemHandle(handle));
-                }
-            }
+        match self.pool.find(id) {
+            Some(handle) => Some(ShmemHandle(handle)),
+            None => None,
         }
-        None
     }
 
-    /// Finds the same, where an earlier call found `last`. If that segment is live and has the id, no place is walked.
+    /// Finds the same, where an earlier call found `last`. If that segment is live and has the id, nothing is searched.
     pub fn find_again(&self, last: Option<ShmemHandle>, id: u64) -> Option<ShmemHandle>
         ensures found { IfSome result (λ s. HasLive self.now s.0 (HasId id)) }
         ensures absent { IsNone result → NoneLive (slot_value self.now) (HasId id) }
@@ -200,7 +194,7 @@ impl Segments {
         ensures only { OneEach (λ x. x.id) self.now }
     {
         match self.pool.get(s.0) {
-            Some(segment) => u64::from(segment.id()) == id,
+            Some(segment) => segment.id() == id,
             None => false,
         }
     }
@@ -256,9 +250,9 @@ impl Segments {
         ensures new { self.new ≡ changed self.old s.0 (after_attach who) }
         ensures unchanged { OnErr result (self.new ≡ self.old) }
     {
-        match self.pool.get_mut(s.0) {
+        match self.pool.update(s.0, |segment| segment.attach(who)) {
             None => Err(MrapiStatus::ErrShmInvalid),
-            Some(segment) => segment.attach(who),
+            Some(answer) => answer,
         }
     }
 
@@ -276,9 +270,9 @@ impl Segments {
         ensures new { self.new ≡ changed self.old s.0 (after_detach who) }
         ensures unchanged { OnErr result (self.new ≡ self.old) }
     {
-        match self.pool.get_mut(s.0) {
+        match self.pool.update(s.0, |segment| segment.detach(who)) {
             None => Err(MrapiStatus::ErrShmInvalid),
-            Some(segment) => segment.detach(who),
+            Some(answer) => answer,
         }
     }
 
@@ -322,9 +316,12 @@ impl Segments {
         ensures new { self.new ≡ changed self.old s.0 (after_write who cell value) }
         ensures unchanged { OnErr result (self.new ≡ self.old) }
     {
-        match self.pool.get_mut(s.0) {
+        match self
+            .pool
+            .update(s.0, |segment| segment.write(who, cell, value))
+        {
             None => Err(MrapiStatus::ErrShmInvalid),
-            Some(segment) => segment.write(who, cell, value),
+            Some(answer) => answer,
         }
     }
 
@@ -344,9 +341,8 @@ impl Segments {
     pub fn set_number(&mut self, s: ShmemHandle, cell: u64, value: i64)
         ensures { self.new ≡ changed self.old s.0 (with_cell cell value) }
     {
-        match self.pool.get_mut(s.0) {
-            None => {}
-            Some(segment) => segment.set_number(cell, value),
-        }
+        let _ = self
+            .pool
+            .update(s.0, |segment| segment.set_number(cell, value));
     }
 }

@@ -8,6 +8,7 @@ ghost use Rattle.mtapi_objects.specs.Segments.{new_segment, attach_refusals, det
 ghost use Rattle.mrapi_shmem.specs.Calls.{read_answer, after_attach, after_detach, after_write};
 
 use crate::room::Room;
+use keyed_pool::HasId;
 use mtapi_values::MrapiStatus;
 use mtapi_values::seats::{self, SEATS};
 use std::marker::Model;
@@ -32,6 +33,14 @@ impl Model for SegmentState {
     } };
 }
 
+impl HasId for SegmentState {
+    ghost id_of = { λ s. s.id };
+
+    fn id(&self) -> u64 {
+        u64::from(self.id)
+    }
+}
+
 impl SegmentState {
     /// A segment in this memory, whose cells are all 0.
     pub(crate) fn new(id: u32, cells: u32, room: Room) -> SegmentState
@@ -43,12 +52,6 @@ impl SegmentState {
             room: room.zeroed(cells),
             attached: [false; SEATS],
         }
-    }
-
-    pub(crate) fn id(&self) -> u32
-        ensures { result ≡ self.now.id }
-    {
-        self.id
     }
 
     /// How many cells it has.

@@ -6,7 +6,7 @@ use Rattle.mtapi_values.specs.declared.handles.QueueHandle.{QueueHandle}
 use Rattle.mtapi_values.specs.declared.statuses.MtapiStatus.{MtapiStatus}
 use Rattle.mtapi_values.specs.declared.statuses.MtapiStatus.TheVariants.{ErrQueueInvalid, ErrQueueExists, ErrQueueLimit}
 use Rattle.handle_pool.specs.Slots.{Slot, Slots, slot_value, IsFull, Inserts}
-use Rattle.handle_pool.specs.Walks.{SomeLive, NoneLive, OneEach}
+use Rattle.handle_pool.specs.Walks.{SomeLive, NoneLive}
 use Rattle.linked_places.specs.Lists.{HandleLists, stands_at, has_handle, without_handle}
 use Rattle.linked_places.specs.Beside.{pool_beside, AreBeside}
 use Rattle.mtapi_objects.specs.Queues.{Queue, opened, put_refusals}
@@ -115,9 +115,3 @@ AreRetiredEmpty pool = (place : ℕ) (slot : Slot HeldQueue) → slice_get pool.
 pub record AreQueues (pool : Slots Queue) (tasks : HandleLists) : Type 0 where
   pub beside : AreBeside pool.slots tasks.lists
   pub few : tasks.places ≤ 65536
-  pub ids : OneEach (λ (q : Queue). q.id) pool
-
--- the queue of an id among the slots without their tasks
-abbrev pub FindsIn : Slots Queue → ℕ → Option ℕ → Type 0
-FindsIn pool id None = NoneLive (slot_value pool) (λ q. has_id id q ≡ true)
-FindsIn pool id (Some handle) = (q : Queue) × (slot_value pool handle ≡ Some q) × (has_id id q ≡ true)

@@ -10,10 +10,11 @@ ghost use Rattle.mtapi_values.specs.declared.statuses.MtapiStatus.TheVariants.{E
 ghost use Rattle.handle_pool.specs.Walks.{SomeLive, NoneLive};
 ghost use Rattle.std.specs.Option.{option_map};
 ghost use Rattle.handle_pool.specs.Slots.{slot_value, slot_of, free_slot, without, changed, live_count};
-ghost use Rattle.queue_core.specs.Held.{new_queue, Creates, Finds, live_reply, with_opened, with_task, without_task, put_reply, NoTaskAt, IsUnendedTask, first_task, tasks_of, facts_of, FindsIn, AreRetiredEmpty, HasId};
+ghost use Rattle.queue_core.specs.Held.{new_queue, Creates, Finds, live_reply, with_opened, with_task, without_task, put_reply, NoTaskAt, IsUnendedTask, first_task, tasks_of, facts_of, AreRetiredEmpty, HasId};
 
 pub use facts::QueueFacts;
-use handle_pool::{Pool, slot_of};
+use handle_pool::slot_of;
+use keyed_pool::{InsertError, KeyedPool};
 use linked_places::LinkedLists;
 use mtapi_values::{MtapiStatus, QueueAttr, QueueHandle, TaskHandle};
 use queue::StoredQueue;
@@ -24,7 +25,7 @@ pub use worked::worked_puts;
 /// Queues, each under a handle, with their unended tasks.
 #[derive(Drop)]
 pub struct Queues {
-    pool: Pool<StoredQueue>,
+    pool: KeyedPool<StoredQueue>,
     // The unended tasks of the queue of each slot.
     tasks: LinkedLists,
 }
@@ -53,7 +54,7 @@ impl Queues {
         ensures tasks { IfOk result (λ q. q.tasks ≡ tasks) }
     {
         Ok(Queues {
-            pool: Pool::new(alloc, max, generations)?,
+            pool: KeyedPool::new(alloc, max, generations)?,
             tasks: LinkedLists::new(alloc, max, tasks)?,
         })
     }
@@ -62,7 +63,7 @@ impl Queues {
     pub fn is_kept(&self)
         ensures { AreRetiredEmpty self.now.pool }
     {
-        let _ = self.pool.max();
+        let _ = self.pool.live();
     }
 
     /// Makes an enabled queue with no tasks.
@@ -76,17 +77,15 @@ impl Queues {
     pub fn create(&mut self, id: u32, job: u32, attr: QueueAttr) -> Result<QueueHandle, MtapiStatus>
         ensures { Creates self.old (new_queue id job attr) result self.new }
     {
-        if let Some(refusal) = self.create_refusal(id) {
-            return Err(refusal);
+        match self.pool.insert(StoredQueue::new(id, job, &attr)) {
+            Ok(handle) => Ok(QueueHandle(handle)),
+            Err(InsertError::IdTaken) => Err(MtapiStatus::ErrQueueExists),
+            Err(InsertError::Full) => Err(MtapiStatus::ErrQueueLimit),
         }
-        let Ok(handle) = self.pool.insert(StoredQueue::new(id, job, &attr)) else {
-            return Err(MtapiStatus::ErrQueueLimit);
-        };
-        Ok(QueueHandle(handle))
     }
 
     /// Tells why a create of this id is refused, whether there is room or not: `ErrQueueExists`
-    /// where a live queue has the id, else None. It walks the places of the queues.
+    /// where a live queue has the id, else None.
     pub fn create_refusal(&self, id: u32) -> Option<MtapiStatus>
         ensures exists { IfSome result (λ c. (c ≡ ErrQueueExists) × SomeLive (slot_value self.now.pool) (HasId id)) }
         ensures new_id { IsNone result → NoneLive (slot_value self.now.pool) (HasId id) }
@@ -104,7 +103,7 @@ impl Queues {
         self.pool.live()
     }
 
-    /// Finds the live queue of an id. It walks the places of the queues.
+    /// Finds the live queue of an id.
     ///
     /// Stands for `mtapi_queue_get`.
     ///
@@ -114,7 +113,7 @@ impl Queues {
     pub fn get(&self, id: u32) -> Result<QueueHandle, MtapiStatus>
         ensures { Finds self.now.pool id result }
     {
-        match find(&self.pool, id) {
+        match self.pool.find(u64::from(id)) {
             Some(handle) => Ok(QueueHandle(handle)),
             None => Err(MtapiStatus::ErrQueueInvalid),
         }
@@ -157,11 +156,10 @@ impl Queues {
         ensures reply { result ≡ live_reply (slot_value self.old.pool q.0) }
         ensures new { self.new ≡ record self.old { pool = changed self.old.pool q.0 (with_opened enabled) } }
     {
-        let Some(queue) = self.pool.get_mut(q.0) else {
-            return Err(MtapiStatus::ErrQueueInvalid);
-        };
-        queue.set_enabled(enabled);
-        Ok(())
+        match self.pool.update(q.0, |queue| queue.set_enabled(enabled)) {
+            Some(()) => Ok(()),
+            None => Err(MtapiStatus::ErrQueueInvalid),
+        }
     }
 
     /// Gives up a queue and forgets its tasks.
@@ -255,18 +253,4 @@ impl Queues {
             None => None,
         }
     }
-}
-
-// The handle of the live queue of an id.
-fn find(pool: &Pool<StoredQueue>, id: u32) -> Option<u64>
-    ensures { FindsIn pool.now id result }
-{
-    for place in 0..pool.max() {
-        if let Some((handle, queue)) = pool.slot_at(place) {
-            if queue.id() == id {
-                return Some(handle);
-            }
-        }
-    }
-    None
 }

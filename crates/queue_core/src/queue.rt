@@ -4,6 +4,7 @@ ghost use Rattle.mtapi_objects.specs.Queues.{opened, put_refusals};
 ghost use Rattle.queue_core.specs.Held.{new_queue, facts_with};
 
 use crate::facts::QueueFacts;
+use keyed_pool::HasId;
 use mtapi_values::{MtapiStatus, QueueAttr};
 use std::marker::Model;
 
@@ -35,6 +36,14 @@ impl Model for StoredQueue {
     } };
 }
 
+impl HasId for StoredQueue {
+    ghost id_of = { λ q. q.id };
+
+    fn id(&self) -> u64 {
+        u64::from(self.id)
+    }
+}
+
 impl StoredQueue {
     pub fn new(id: u32, job: u32, attr: &QueueAttr) -> StoredQueue
         ensures { result ≡ new_queue id job attr.now }
@@ -48,12 +57,6 @@ impl StoredQueue {
             retain: attr.retain(),
             enabled: true,
         }
-    }
-
-    pub fn id(&self) -> u32
-        ensures { result ≡ self.now.id }
-    {
-        self.id
     }
 
     pub fn limit(&self) -> u32
