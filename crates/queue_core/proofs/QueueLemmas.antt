@@ -5,17 +5,16 @@ use Rattle.std.specs.Option.{option_map}
 use Rattle.std.proofs.lemmas.Bool.Decides.{nat_tests}
 use Rattle.std.proofs.lemmas.Bool.{eq-eqb, ne_eqb}
 use Rattle.mtapi_values.specs.declared.statuses.MtapiStatus.{MtapiStatus}
-use Rattle.mtapi_values.specs.declared.statuses.MtapiStatus.TheVariants.{ErrQueueLimit}
+use Rattle.mtapi_values.specs.declared.statuses.MtapiStatus.TheVariants.{ErrQueueExists, ErrQueueLimit}
 use Rattle.mtapi_values.specs.Conditions.{first}
 use Rattle.handle_pool.specs.Slots.{Slot, Slots, slot_of, free_slot, slot_value, IsFull, Inserts, with_value, without, changed}
-use Rattle.handle_pool.specs.Walks.{NoneLive}
+use Rattle.handle_pool.specs.Walks.{SomeLive, NoneLive, HasLive, OneEach}
 use Rattle.handle_pool.proofs.WalkLemmas.{slot_of-live}
-use Rattle.handle_pool.proofs.OneEachLemmas.{OneEach-new, OneEach-insert, OneEach-with_value, OneEach-without}
 use Rattle.linked_places.specs.Lists.{HandleLists, list_at, has_handle, NowhereAt, with_list}
 use Rattle.linked_places.specs.Beside.{slot_beside, pool_beside}
 use Rattle.linked_places.proofs.BesideLemmas.{slice_get-beside, get-beside, list-beside, with_value-beside, without-beside, beside-fresh, IsFull-beside, Inserts-beside, AreBeside-new, AreBeside-insert, AreBeside-value, AreBeside-list, AreBeside-remove, NowhereAt-beside}
 use Rattle.mtapi_objects.specs.Queues.{Queue, put_refusals}
-use Rattle.queue_core.specs.Held.{HeldQueue, QueueTable, held, has_id, HasId, Finds, FindsIn, put_reply, NoTaskAt, IsUnendedTask, tasks_of, table_of, AreQueues, AreRetiredEmpty}
+use Rattle.queue_core.specs.Held.{HeldQueue, QueueTable, held, has_id, HasId, Creates, Finds, put_reply, NoTaskAt, IsUnendedTask, tasks_of, table_of, AreQueues, AreRetiredEmpty}
 
 -- an unended task is one of a live queue
 pub record Unended (pool : Slots Queue) (tasks : HandleLists) (q task : ℕ) : Type 0 where
@@ -66,13 +65,13 @@ module _ (pool : Slots Queue) (tasks : HandleLists) (q : ℕ) where
         subst P is (rw (moved, places, is_changed) refl)
 
     pub AreQueues-list : (list : List ℕ) → AreQueues pool (with_list tasks (slot_of q) list)
-    AreQueues-list list = record { beside = AreBeside-list pool tasks.lists q v list live are.beside; few = are.few; ids = are.ids }
+    AreQueues-list list = record { beside = AreBeside-list pool tasks.lists q v list live are.beside; few = are.few }
 
-    pub AreQueues-value : (w : Queue) → w.id ≡ v.id → AreQueues (with_value pool q w) tasks
-    AreQueues-value w same = record { beside = AreBeside-value pool tasks.lists q w are.beside; few = are.few; ids = OneEach-with_value (λ (x : Queue). x.id) pool q v w are.ids live same }
+    pub AreQueues-value : (w : Queue) → AreQueues (with_value pool q w) tasks
+    AreQueues-value w = record { beside = AreBeside-value pool tasks.lists q w are.beside; few = are.few }
 
     pub AreQueues-delete : AreQueues (without pool q) (with_list tasks (slot_of q) [])
-    AreQueues-delete = record { beside = AreBeside-remove pool tasks.lists q v live are.beside; few = are.few; ids = OneEach-without (λ (x : Queue). x.id) pool q v are.ids live }
+    AreQueues-delete = record { beside = AreBeside-remove pool tasks.lists q v live are.beside; few = are.few }
 
     pub list-changed : (list : List ℕ) → pool_beside held pool (with_list tasks (slot_of q) list).lists ≡ with_value (pool_beside held pool tasks.lists) q (held v list)
     list-changed list = list-beside held pool tasks.lists q v list are.beside live
@@ -85,19 +84,10 @@ module _ (pool : Slots Queue) (tasks : HandleLists) (q : ℕ) where
         let P : QueueTable → Type 0 = λ o. table_of (without pool q) (with_list tasks (slot_of q) []) ≡ record o { pool = without o.pool q } in
         subst P is (rw (without-beside held pool tasks.lists q v are.beside live) refl)
 
-module _ (pool : Slots Queue) (tasks : HandleLists) where
-  -- no live queue of the slots has the id, so none has it with its tasks
-  pub none_held : (old : QueueTable) (id : ℕ) → table_of pool tasks ≡ old → FindsIn pool id None → NoneLive (slot_value old.pool) (HasId id)
-  none_held old id is none q h found has = by_value (slot_value pool q) refl
-    where
-      by_value : (o : Option Queue) → slot_value pool q ≡ o → ⊥
-      by_value None dead = let gone = get-dead pool tasks q old is dead in absurd (cc (gone, found))
-      by_value (Some v) live =
-          let there = get-live pool tasks q old v is live in
-          let same : held v (list_at tasks.lists (slot_of q)) ≡ h = cc (there, found) in
-          let P : HeldQueue → Type 0 = λ k. has_id id k.queue ≡ true in
-          none q v live (subst P (sym same) has)
+same_id : (a b : ℕ) → (a == b) ≡ true → a ≡ b
+same_id a b e = grind (arith, nat_tests)
 
+module _ (pool : Slots Queue) (tasks : HandleLists) where
   -- a live queue with its tasks is one of the slots
   pub unheld : (old : QueueTable) (k : ℕ) (h : HeldQueue) → table_of pool tasks ≡ old → slot_value old.pool k ≡ Some h → (v : Queue) × (slot_value pool k ≡ Some v) × (v ≡ h.queue)
   unheld old k h is found = by_value (slot_value pool k) refl
@@ -109,20 +99,20 @@ module _ (pool : Slots Queue) (tasks : HandleLists) where
           let same : held v (list_at tasks.lists (slot_of k)) ≡ h = cc (there, found) in
           (v, live, ap (λ (x : HeldQueue). x.queue) same)
 
-  pub found_held : (old : QueueTable) (id q : ℕ) → AreQueues pool tasks → table_of pool tasks ≡ old → FindsIn pool id (Some q) → Finds old.pool id (Ok (record { 0 = q }))
-  found_held old id q are is found = (
-    (held found.0 (list_at tasks.lists (slot_of q)), get-live pool tasks q old found.0 is found.1, found.2),
+  -- no live queue of the slots has the id, so none has it with its tasks; and a live one with it is one with its tasks
+  pub none_held : (old : QueueTable) (id : ℕ) → table_of pool tasks ≡ old → NoneLive (slot_value pool) (λ (v : Queue). v.id ≡ id) → NoneLive (slot_value old.pool) (HasId id)
+  none_held old id is none q h found has = let v = unheld old q h is found in none q v.0 v.1 (ap (λ (x : Queue). x.id) v.2 ∙ same_id h.queue.id id has)
+
+  pub some_held : (old : QueueTable) (id : ℕ) → table_of pool tasks ≡ old → SomeLive (slot_value pool) (λ (v : Queue). v.id ≡ id) → SomeLive (slot_value old.pool) (HasId id)
+  some_held old id is (q, v, live, same) = (q, held v (list_at tasks.lists (slot_of q)), get-live pool tasks q old v is live, eq-eqb v.id id same)
+
+  pub found_held : (old : QueueTable) (id q : ℕ) → OneEach (λ (x : Queue). x.id) pool → table_of pool tasks ≡ old → HasLive pool q (λ (v : Queue). v.id ≡ id) → Finds old.pool id (Ok (record { 0 = q }))
+  found_held old id q each is found = (
+    (held found.0 (list_at tasks.lists (slot_of q)), get-live pool tasks q old found.0 is found.1, eq-eqb found.0.id id found.2),
     λ k h there has.
         let v = unheld old k h is there in
-        are.ids.only k q v.0 found.0 v.1 found.1 (ap (λ (x : Queue). x.id) v.2 ∙ same_id h.queue.id id has ∙ sym (same_id found.0.id id found.2)),
+        each.only k q v.0 found.0 v.1 found.1 (ap (λ (x : Queue). x.id) v.2 ∙ same_id h.queue.id id has ∙ sym found.2),
   )
-    where
-      same_id : (a b : ℕ) → (a == b) ≡ true → a ≡ b
-      same_id a b e = grind (arith, nat_tests)
-
-  -- no live queue of the slots has an id that none has with its tasks
-  pub none_has : (old : QueueTable) (id : ℕ) → table_of pool tasks ≡ old → NoneLive (slot_value old.pool) (HasId id) → NoneLive (slot_value pool) (λ (v : Queue). v.id ≡ id)
-  none_has old id is none q v live same = none q (held v (list_at tasks.lists (slot_of q))) (get-live pool tasks q old v is live) (eq-eqb v.id id same)
 
   -- a retired slot holds no queue
   pub retired_empty : (old : QueueTable) → AreQueues pool tasks → table_of pool tasks ≡ old → AreRetiredEmpty old.pool
@@ -147,13 +137,26 @@ module _ (pool : Slots Queue) (tasks : HandleLists) where
   pub room_held : (old : QueueTable) → table_of pool tasks ≡ old → (IsFull pool → ⊥) → IsFull old.pool → ⊥
   room_held old is room full = let P : QueueTable → Type 0 = λ o. IsFull o.pool in room (IsFull-held (subst P (sym is) full))
 
-  pub AreQueues-create : (new : Slots Queue) (q : ℕ) (v : Queue) → Inserts pool new q v → NoneLive (slot_value pool) (λ (x : Queue). x.id ≡ v.id) → AreQueues pool tasks → AreQueues new tasks
-  AreQueues-create new q v inserts none are = record { beside = AreBeside-insert pool new tasks.lists q v inserts are.beside; few = are.few; ids = OneEach-insert (λ (x : Queue). x.id) pool new q v are.ids none inserts }
+  pub AreQueues-create : (new : Slots Queue) (q : ℕ) (v : Queue) → Inserts pool new q v → AreQueues pool tasks → AreQueues new tasks
+  AreQueues-create new q v inserts are = record { beside = AreBeside-insert pool new tasks.lists q v inserts are.beside; few = are.few }
 
   pub Inserts-held : (old : QueueTable) (new : Slots Queue) (q : ℕ) (v : Queue) → table_of pool tasks ≡ old → Inserts pool new q v → AreQueues pool tasks → Inserts old.pool (pool_beside held new tasks.lists) q (held v [])
   Inserts-held old new q v is inserts are =
       let P : QueueTable → Type 0 = λ o. Inserts o.pool (pool_beside held new tasks.lists) q (held v []) in
       subst P is (Inserts-beside held pool new tasks.lists q v are.beside inserts)
+
+  -- what an insert into the slots is for a create
+  pub created : (old : QueueTable) (new : Slots Queue) (q : ℕ) (v : Queue) → AreQueues pool tasks → table_of pool tasks ≡ old → NoneLive (slot_value pool) (λ (x : Queue). x.id ≡ v.id) → (IsFull pool → ⊥) → Inserts pool new q v → Creates old v (Ok (record { 0 = q })) (table_of new tasks)
+  created old new q v are is none room inserts = (none_held old v.id is none, room_held old is room, Inserts-held old new q v is inserts are, ap (λ (t : QueueTable). t.tasks) is)
+
+  unchanged : (old : QueueTable) (new : Slots Queue) → table_of pool tasks ≡ old → new ≡ pool → table_of new tasks ≡ old
+  unchanged old new is same = ap (λ p. table_of p tasks) same ∙ is
+
+  pub not_created_taken : (old : QueueTable) (new : Slots Queue) (v : Queue) → table_of pool tasks ≡ old → SomeLive (slot_value pool) (λ (x : Queue). x.id ≡ v.id) → new ≡ pool → Creates old v (Err ErrQueueExists) (table_of new tasks)
+  not_created_taken old new v is some same = (some_held old v.id is some, unchanged old new is same)
+
+  pub not_created_full : (old : QueueTable) (new : Slots Queue) (v : Queue) → table_of pool tasks ≡ old → NoneLive (slot_value pool) (λ (x : Queue). x.id ≡ v.id) × IsFull pool → new ≡ pool → Creates old v (Err ErrQueueLimit) (table_of new tasks)
+  not_created_full old new v is (none, full) same = (none_held old v.id is none, full_held old is full, unchanged old new is same)
 
   -- a slot that no task has stands in no list
   pub nowhere : (old : QueueTable) (slot : ℕ) → table_of pool tasks ≡ old → AreQueues pool tasks → NoTaskAt slot old.pool → NowhereAt slot tasks.lists
@@ -161,7 +164,7 @@ module _ (pool : Slots Queue) (tasks : HandleLists) where
       NowhereAt-beside pool tasks.lists slot are.beside (λ h v live. none h (held v (list_at tasks.lists (slot_of h))) (get-live pool tasks h old v is live))
 
   pub AreQueues-new : (count places : ℕ) → count ≤ 65536 → places ≤ 65536 → pool.slots ≡ replicate count (free_slot 1) → tasks.lists ≡ replicate count [] → tasks.places ≡ places → AreQueues pool tasks
-  AreQueues-new count places few few_places slots lists is = record { beside = AreBeside-new pool.slots tasks.lists count few slots lists; few = rw is few_places; ids = OneEach-new (λ (x : Queue). x.id) pool count slots }
+  AreQueues-new count places few few_places slots lists is = record { beside = AreBeside-new pool.slots tasks.lists count few slots lists; few = rw is few_places }
 
   pub slots-new : (count : ℕ) → pool.slots ≡ replicate count (free_slot 1) → tasks.lists ≡ replicate count [] → (pool_beside held pool tasks.lists).slots ≡ replicate count (free_slot 1)
   slots-new count slots lists = rw (slots, lists) (beside-fresh held count)

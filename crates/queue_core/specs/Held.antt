@@ -111,7 +111,7 @@ table_of pool tasks = record { pool = pool_beside held pool tasks.lists; tasks =
 abbrev pub AreRetiredEmpty : Slots HeldQueue → Type 0
 AreRetiredEmpty pool = (place : ℕ) (slot : Slot HeldQueue) → slice_get pool.slots place ≡ Some slot → slot.retired ≡ true → slot.value ≡ None
 
--- what the lists keep of the slots, and that no two live queues have one id
+-- what the lists keep of the slots
 pub record AreQueues (pool : Slots Queue) (tasks : HandleLists) : Type 0 where
   pub beside : AreBeside pool.slots tasks.lists
   pub few : tasks.places ≤ 65536

@@ -6,6 +6,6 @@ use Rattle.queue_core.proofs.Queues.live.Goals as goal
 
 pub returns : goal.returns
 returns c =
-    c.live.ensures.value
+    c.live.ensures
     ∙ sym (live_count-beside held c.self.inside.pool.slots c.self.inside.tasks.lists)
     ∙ ap (λ (t : QueueTable). live_count t.pool) c.self.view_is
