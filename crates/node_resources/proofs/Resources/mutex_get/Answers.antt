@@ -1,30 +1,16 @@
-use Rattle.std.proofs.Common.{refl, sym, ◌∙◌, subst}
+use Rattle.std.proofs.Common.{refl, sym, ◌∙◌}
 use Rattle.mtapi_values.specs.declared.statuses.MrapiStatus.TheVariants.{ErrMutexIdInvalid}
 use Rattle.mtapi_machine.specs.KeyedRows.{keyed_mutexes}
-use Rattle.mtapi_machine.specs.declared.replies.Reply.TheVariants as reply
 use Rattle.mtapi_machine.specs.Moves.{Mutexes}
 use Rattle.mtapi_machine.specs.declared.ops.Op.TheVariants as op
-use Rattle.node_resources.specs.Holds.{ResourceTable, Stands}
 use Rattle.node_resources.specs.contracts.Resources.{the_view}
-use Rattle.node_resources.proofs.KindSteps.{mutexes_do}
-use Rattle.node_resources.specs.Steps.{Does}
-use Rattle.node_resources.proofs.RowLemmas.{past_up, gets_does, gets_none}
+use Rattle.node_resources.proofs.KindSteps.{got, got_none}
 use Rattle.node_resources.proofs.Resources.mutex_get.Goals as goal
 
 pub returns-in-Ok : goal.returns-in-Ok
 returns-in-Ok c s a v =
-    let w = subst (λ (t : ResourceTable). Stands s t) (sym c.self.view_is) v in
-    let p = c.self.inside.mutexes in
-    subst (λ (t : ResourceTable). Does s c.args.who (op.MutexGet c.args.id) (reply.Handle c.in-Ok.mutex.0) t) c.self.view_is
-    (mutexes_do s c.args.who (op.MutexGet c.args.id) _ (the_view c.self.inside) w (reply.Handle c.in-Ok.mutex.0) p refl
-    (past_up Mutexes s c.args.gate c.args.who a _ _ _ (sym c.in_default.is ∙ c.refusal.ensures)
-    (gets_does Mutexes s keyed_mutexes p w.mutexes c.args.id c.in-Ok.mutex.0 c.in-Ok.ensures.only c.in-Ok.ensures.found)))
+    got Mutexes tt s c.args.who (op.MutexGet c.args.id) keyed_mutexes c.args.gate a (the_view c.self.inside) c.args.self.now c.self.view_is v c.args.id (λ r. refl) (sym c.in_default.is ∙ c.refusal.ensures) c.in-Ok.mutex.0 c.in-Ok.ensures.only c.in-Ok.ensures.found
 
 pub returns-in-Err : goal.returns-in-Err
 returns-in-Err c s a v =
-    let w = subst (λ (t : ResourceTable). Stands s t) (sym c.self.view_is) v in
-    let p = c.self.inside.mutexes in
-    subst (λ (t : ResourceTable). Does s c.args.who (op.MutexGet c.args.id) (reply.Mrapi c.in-Err.status) t) c.self.view_is
-    (mutexes_do s c.args.who (op.MutexGet c.args.id) _ (the_view c.self.inside) w (reply.Mrapi c.in-Err.status) p refl
-    (past_up Mutexes s c.args.gate c.args.who a _ _ _ (sym c.in_default.is ∙ c.refusal.ensures)
-    (gets_none Mutexes s keyed_mutexes p w.mutexes ErrMutexIdInvalid refl c.args.id c.in-Err.status c.in-Err.ensures.absent.0 c.in-Err.ensures.absent.1)))
+    got_none Mutexes tt s c.args.who (op.MutexGet c.args.id) keyed_mutexes c.args.gate a (the_view c.self.inside) c.args.self.now c.self.view_is v c.args.id (λ r. refl) (sym c.in_default.is ∙ c.refusal.ensures) ErrMutexIdInvalid refl c.in-Err.status c.in-Err.ensures.absent

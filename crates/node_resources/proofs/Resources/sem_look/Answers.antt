@@ -7,7 +7,7 @@ use Rattle.mtapi_machine.specs.Moves.{Sems}
 use Rattle.mtapi_machine.specs.declared.ops.Op.TheVariants as op
 use Rattle.node_resources.specs.Holds.{ResourceTable, Stands}
 use Rattle.node_resources.specs.contracts.Resources.{the_view}
-use Rattle.node_resources.proofs.KindSteps.{sems_do}
+use Rattle.node_resources.proofs.KindSteps.{kind_does}
 use Rattle.node_resources.proofs.RowLemmas.{past_up, looks_does}
 use Rattle.node_resources.proofs.Resources.sem_look.Goals as goal
 use Rattle.mtapi_values.specs.Looks.{answer, is_got}
@@ -20,7 +20,7 @@ takes who x false e = refl
 pub returns : goal.returns
 returns c s a v =
     let w = subst (λ (t : ResourceTable). Stands s t) (sym c.self.view_is) v in
-    sems_do s c.args.who (op.SemLook c.args.sem c.args.last) _ (the_view c.self.inside) w c.looked.result c.look.new.self c.looked.ensures
+    kind_does Sems tt s c.args.who (op.SemLook c.args.sem c.args.last) _ (the_view c.self.inside) w c.looked.result c.look.new.self c.looked.ensures
     (past_up Sems s c.args.gate c.args.who a _ _ _ (sym c.in_default.is ∙ c.refusal.ensures)
     (looks_does Sems s c.self.inside.sems w.sems ErrSemInvalid refl c.args.sem.0 (λ u. reply.Ok) (λ x. tt) (λ x. []) sem_busy (sem_taken c.args.who) c.args.last
     (sem_after_look c.args.who) (λ x e. takes c.args.who x (sem_busy x) e)

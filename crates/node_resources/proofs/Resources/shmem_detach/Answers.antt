@@ -5,13 +5,13 @@ use Rattle.mtapi_machine.specs.Moves.{Segments}
 use Rattle.mtapi_machine.specs.declared.ops.Op.TheVariants as op
 use Rattle.node_resources.specs.Holds.{ResourceTable, Stands}
 use Rattle.node_resources.specs.contracts.Resources.{the_view}
-use Rattle.node_resources.proofs.KindSteps.{segments_do}
+use Rattle.node_resources.proofs.KindSteps.{kind_does}
 use Rattle.node_resources.proofs.RowLemmas.{past_up, alters_does}
 use Rattle.node_resources.proofs.Resources.shmem_detach.Goals as goal
 
 pub returns : goal.returns
 returns c s a v =
     let w = subst (λ (t : ResourceTable). Stands s t) (sym c.self.view_is) v in
-    segments_do s c.args.who (op.ShmemDetach c.args.shmem) _ (the_view c.self.inside) w c.done.result c.detach.new.self c.done.ensures
+    kind_does Segments tt s c.args.who (op.ShmemDetach c.args.shmem) _ (the_view c.self.inside) w c.done.result c.detach.new.self c.done.ensures
     (past_up Segments s c.args.gate c.args.who a _ _ _ (sym c.in_default.is ∙ c.refusal.ensures)
     (alters_does Segments s c.self.inside.segments w.segments ErrShmInvalid refl c.args.shmem.0 (detach_refusals c.args.who) (with_attached c.args.who false) c.detach.result c.detach.new.self c.detach.ensures.refused c.detach.ensures.new c.detach.ensures.unchanged))
