@@ -1,12 +1,10 @@
 -- Each call keeps memory for each segment that may still be made.
-use Rattle.std.proofs.Common.{sym, subst, None, Option, ◌≡◌, ℕ, ◌+◌, ◌≤◌, ◌<◌, Bool, true, false, cond, Some, replicate, refl, arith}
+use Rattle.std.proofs.Common.{sym, subst, None, Option, ◌≡◌, ℕ, ◌+◌, ◌≤◌, ◌<◌, Some, replicate, arith}
 use Rattle.std.specs.Borrow.{MutBor}
 use Rattle.std.specs.Fn.{Once}
-use Rattle.mtapi_values.specs.Conditions.{first}
-use Rattle.handle_pool.specs.Slots.{Slots, free_slot, slot_value, live_count, retired_count, max_of, IsFull, Inserts, with_value, without}
-use Rattle.handle_pool.specs.Walks.{NoneLive}
+use Rattle.handle_pool.specs.Slots.{Slots, free_slot, slot_value, live_count, retired_count, max_of, IsFull, Inserts, without}
 use Rattle.handle_pool.proofs.CountLemmas.{live_count-new, max_of-new, live_count-insert, max_of-insert, live_count-with_value, max_of-with_value, live_count-without, max_of-without}
-use Rattle.mtapi_objects.specs.Segments.{Segment, with_attached, with_cell, attach_refusals, detach_refusals, cell_refusals}
+use Rattle.mtapi_objects.specs.Segments.{Segment}
 use Rattle.keyed_pool.specs.Keyed.{Updates}
 use Rattle.mrapi_shmem.specs.Calls.{IsStore}
 

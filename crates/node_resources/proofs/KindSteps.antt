@@ -1,5 +1,5 @@
 -- A step of one kind is a step of all four.
-use Rattle.std.proofs.Common.{◌≡◌, ℕ, List, None, Option, refl, sym, subst, ap, ◌∙◌}
+use Rattle.std.proofs.Common.{◌≡◌, ℕ, List, None, refl, sym, subst, ◌∙◌}
 use Rattle.mtapi_values.specs.Conditions.{first}
 use Rattle.mtapi_values.specs.declared.statuses.MrapiStatus.{MrapiStatus}
 use Rattle.handle_pool.specs.Issued.{Listed}

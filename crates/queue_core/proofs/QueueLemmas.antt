@@ -14,7 +14,7 @@ use Rattle.linked_places.specs.Lists.{HandleLists, list_at, has_handle, NowhereA
 use Rattle.linked_places.specs.Beside.{slot_beside, pool_beside}
 use Rattle.linked_places.proofs.BesideLemmas.{slice_get-beside, get-beside, list-beside, with_value-beside, without-beside, beside-fresh, IsFull-beside, Inserts-beside, AreBeside-new, AreBeside-insert, AreBeside-value, AreBeside-list, AreBeside-remove, NowhereAt-beside}
 use Rattle.mtapi_objects.specs.Queues.{Queue, put_refusals}
-use Rattle.queue_core.specs.Held.{HeldQueue, QueueTable, held, has_id, HasId, Creates, Finds, put_reply, NoTaskAt, IsUnendedTask, tasks_of, table_of, AreQueues, AreRetiredEmpty}
+use Rattle.queue_core.specs.Held.{HeldQueue, QueueTable, held, HasId, Creates, Finds, put_reply, NoTaskAt, IsUnendedTask, tasks_of, table_of, AreQueues, AreRetiredEmpty}
 
 -- an unended task is one of a live queue
 pub record Unended (pool : Slots Queue) (tasks : HandleLists) (q task : ℕ) : Type 0 where
