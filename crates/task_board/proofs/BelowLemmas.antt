@@ -1,9 +1,5 @@
 -- Some number below a bound passes.
-use Rattle.std.proofs.Common.{◌≡◌, ◌⊎◌, inl, inr, ℕ, zero, suc, ◌<◌, Bool, true, false, cond, refl, sym, ◌∙◌, ap, arith}
-use Rattle.std.specs.Prelude.{◌==◌}
-use Rattle.std.proofs.lemmas.Bool.{false≢true}
-use Rattle.std.proofs.lemmas.Bool.Decides.{nat_tests}
-use Rattle.mtapi_objects.specs.Actions.{some_below}
+use Rattle.task_board.proofs.Names.{◌≡◌, ◌⊎◌, inl, inr, ℕ, zero, suc, ◌<◌, Bool, true, false, cond, refl, sym, ◌∙◌, ap, arith, ◌==◌, false≢true, nat_tests, some_below}
 
 pub below_at : (n w : ℕ) (p : ℕ → Bool) → w < n → p w ≡ true → some_below n p ≡ true
 below_at zero w p l e = absurd (omega arith)

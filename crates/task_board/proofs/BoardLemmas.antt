@@ -1,37 +1,9 @@
 -- What each call keeps of a board.
-use Rattle.std.proofs.Common.{◌≡◌, ◌≢◌, ◌⊎◌, ◌≤◌, ◌+◌, ℕ, zero, suc, ◌<◌, Bool, true, false, List, [], ◌∷◌, length, length-set, Option, Some, None, Result, Ok, Err, set, slice_get, refl, sym, ◌∙◌, ap, subst, inl, inr, arith}
-use Rattle.std.specs.Prelude.{◌%◌, is_some, is_none}
-use Rattle.std.specs.Option.{option_map}
+use Rattle.task_board.proofs.Names.{◌≡◌, ◌≢◌, ◌⊎◌, ◌≤◌, ◌+◌, ℕ, zero, suc, ◌<◌, Bool, true, false, List, [], ◌∷◌, length, length-set, Option, Some, None, Result, Ok, Err, set, slice_get, refl, sym, ◌∙◌, ap, subst, inl, inr, arith, ◌%◌, is_some, is_none, option_map, false≢true, cases_eq, cases_Bool, Kind, TaskHandle, MtapiStatus, without, Slots, slot_of, generation_of, free_slot, value_at, slot_value, max_of, Inserts, changed, put, value_at-none, get-insert_same, get-insert_before, slot_of-live, list_at, has_handle, without_handle, stands_at, NowhereAt, list_at-set_same, Mark, ReadyMarks, Action, Queue, job_of, IsUnion, Task, NewTask, new_task, Running, is_unstarted, with_state, TaskState, Scheduled, Ended, scheduled, end_of, TaskTable, GroupTable, members_in, AreMembers, MayJoin, joined, ended_member, Seen, seen_as, seen, seen_in, HeldQueue, QueueTable, NoTaskAt, live_reply, held, facts_of, tasks_of, with_opened, with_task, QueueHandle, ErrQueueExists, ErrQueueLimit, begins_in, AreQueued, NoneWaitsIn, WaitingTable, job_list, with_waiting, without_waiting, AreSeen, AreByJob, BoardTable, IsBoard, IsMarkOf, Marked, AreWaiting, AreRunning, AreRanked, running_on, IsFresh, Remarked, RemarkedUnless}
 use Rattle.std.specs.Result.{OnOk, OnErr}
-use Rattle.std.proofs.lemmas.Bool.{false≢true, cases_eq, cases_Bool}
-use Rattle.mtapi_values.specs.declared.kinds.Kind.{Kind}
-use Rattle.mtapi_values.specs.declared.handles.TaskHandle.{TaskHandle}
-use Rattle.mtapi_values.specs.declared.statuses.MtapiStatus.{MtapiStatus}
-use Rattle.handle_pool.specs.Slots.{without, Slots, slot_of, generation_of, free_slot, value_at, slot_value, max_of, Inserts, changed, put}
-use Rattle.handle_pool.proofs.StandsLemmas.{value_at-none}
-use Rattle.handle_pool.proofs.GetLemmas.{get-insert_same, get-insert_before}
-use Rattle.handle_pool.proofs.WalkLemmas.{slot_of-live}
-use Rattle.linked_places.specs.Lists.{list_at, has_handle, without_handle, stands_at, NowhereAt}
-use Rattle.linked_places.proofs.HandleLemmas.{list_at-set_same}
-use Rattle.ready_index.specs.declared.marks.Mark.{Mark}
-use Rattle.ready_index.specs.Marks.{ReadyMarks}
-use Rattle.mtapi_objects.specs.Actions.{Action}
-use Rattle.mtapi_objects.specs.Queues.{Queue}
-use Rattle.job_table.specs.Answers.{job_of, IsUnion}
-use Rattle.mtapi_objects.specs.Tasks.{Task, NewTask, new_task, Running, is_unstarted, with_state, TaskState, Scheduled, Ended, scheduled, end_of}
-use Rattle.task_core.specs.Table.{TaskTable}
-use Rattle.group_core.specs.Members.{GroupTable}
-use Rattle.task_board.specs.Members.{members_in, AreMembers, MayJoin, joined, ended_member}
-use Rattle.task_board.specs.Seen.{Seen, seen_as, seen, seen_in}
-use Rattle.queue_core.specs.Held.{HeldQueue, QueueTable, NoTaskAt, Creates as CreatesQueue, live_reply, held, facts_of, tasks_of, with_opened, with_task}
+use Rattle.queue_core.specs.Held.{Creates as CreatesQueue}
 use Rattle.queue_core.specs.declared.facts.QueueFacts.{QueueFacts}
-use Rattle.mtapi_values.specs.declared.handles.QueueHandle.{QueueHandle}
-use Rattle.mtapi_values.specs.declared.statuses.MtapiStatus.TheVariants.{ErrQueueExists, ErrQueueLimit}
-use Rattle.task_board.specs.Queued.{begins_in, AreQueued, NoneWaitsIn}
-use Rattle.task_board.specs.Waiting.{WaitingTable, job_list, with_waiting, without_waiting}
-use Rattle.task_board.specs.Walks.{AreSeen, AreByJob}
 use Rattle.task_board.proofs.ByJobLemmas.{by-job-push, by-job-leave, by-job-has}
-use Rattle.task_board.specs.Board.{BoardTable, IsBoard, IsMarkOf, Marked, AreWaiting, AreRunning, AreRanked, running_on, IsFresh, Remarked, RemarkedUnless}
 use Rattle.task_board.proofs.SeenLemmas.{some_same, SeenAs, seen-as, seen-live, unstarted-seen}
 use Rattle.task_board.proofs.MoveLemmas.{started-put, Put, Alone, Steady, alone-old, alone-new, put-insert, put-changed, max-insert, max-changed, marked-put, marked-steady, ranked-put, waiting-push, waiting-leave, running-begin, running-same, stands-handle}
 use Rattle.task_board.proofs.RemarkLemmas.{SameBut, TakenBy, taken-other, taken-steady, marked-anew, marked-over}
@@ -165,8 +137,7 @@ add-with b q queues ready waiting groups h n a k i next count less is room stead
     (new-slot b q.pool h (new_task a n) i) (subst (λ (o : Option Seen). IsMarkOf b.actions (begins_in queues.pool h) o f.mark) move.here f.right) f.now)
     queued room
     (ap (λ (l : WaitingTable). l.places) is) (ap (λ (l : WaitingTable). length l.lists) is ∙ one-length b.waiting _ k.lists) k.seats
-    (subst (λ (hs : List ℕ). AreWaiting (seen_in q.pool) hs) (sym (ap (λ (l : WaitingTable). list_at l.lists 0) is ∙ one-list b.waiting _ k.lists)) (waiting-push (seen_in b.tasks.pool) (seen_in q.pool) h _ (list_at b.waiting.lists 0) move refl
-    (λ j e is. let s = k.waiting_are.waits j e in none-some (sym (unseen b q.pool h (new_task a n) i) ∙ (ap (seen_in b.tasks.pool) (sym is) ∙ s.1)))
+    (subst (λ (hs : List ℕ). AreWaiting (seen_in q.pool) hs) (sym (ap (λ (l : WaitingTable). list_at l.lists 0) is ∙ one-list b.waiting _ k.lists)) (waiting-push (seen_in b.tasks.pool) (seen_in q.pool) h _ (list_at b.waiting.lists 0) move (unseen b q.pool h (new_task a n) i) refl
     (λ j u e. subst (λ (m : ℕ). u.start < m) (sym next) (k.started.before j u e)) k.waiting_are))
     (subst (λ (ls : List (List ℕ)). AreByJob b.settings.actions (seen_in q.pool) ls) (sym (ap (λ (l : WaitingTable). l.by_job) is))
     (by-job-push (seen_in b.tasks.pool) (seen_in q.pool) h _ b.waiting.by_job move (unseen b q.pool h (new_task a n) i) refl (λ j u e. subst (λ (m : ℕ). u.start < m) (sym next) (k.started.before j u e)) k.by_job))
@@ -232,26 +203,24 @@ unstarted-unended (Running w k) e = refl
 unstarted-unended (Ended y n) e = absurd (false≢true e)
 
 -- the lists by jobs once a waiting task has left
-pub left-jobs : (b : BoardTable) (waiting : WaitingTable) (after : ℕ → Option Seen) (h job : ℕ) (s : Seen) (x : Option Seen) → Put (seen_in b.tasks.pool) h x after → seen_in b.tasks.pool h ≡ Some s → s.job ≡ job → ((u : Seen) → x ≡ Some u → u.on ≡ None → ⊥) → waiting ≡ without_waiting b.waiting job h → NowhereAt (slot_of h) waiting.by_job → IsBoard b → AreByJob b.settings.actions after waiting.by_job
-left-jobs b waiting after h job s x move was same left is apart k =
+pub left-jobs : (b : BoardTable) (waiting : WaitingTable) (after : ℕ → Option Seen) (h job : ℕ) (s : Seen) (x : Option Seen) → Put (seen_in b.tasks.pool) h x after → seen_in b.tasks.pool h ≡ Some s → s.job ≡ job → ((u : Seen) → x ≡ Some u → u.on ≡ None → ⊥) → waiting ≡ without_waiting b.waiting job h → IsBoard b → AreByJob b.settings.actions after waiting.by_job
+left-jobs b waiting after h job s x move was same left is k =
     let mine : waiting.by_job ≡ set b.waiting.by_job (s.job % length b.waiting.by_job) (without_handle h (list_at b.waiting.by_job (s.job % length b.waiting.by_job))) =
     ap (λ (l : WaitingTable). l.by_job) is ∙ ap (λ (j : ℕ). set b.waiting.by_job (j % length b.waiting.by_job) (without_handle h (list_at b.waiting.by_job (j % length b.waiting.by_job)))) (sym same)
     in
-    let less : s.job % length b.waiting.by_job < length b.waiting.by_job = omega (arith, k.by_job.some) in
     subst (λ (ls : List (List ℕ)). AreByJob b.settings.actions after ls) (sym mine)
-    (by-job-leave (seen_in b.tasks.pool) after h s x b.waiting.by_job move was left
-    (ap (stands_at (slot_of h)) (sym (ap (λ (ls : List (List ℕ)). list_at ls (s.job % length b.waiting.by_job)) mine ∙ list_at-set_same b.waiting.by_job (s.job % length b.waiting.by_job) _ less)) ∙ apart (s.job % length b.waiting.by_job)) k.by_job)
+    (by-job-leave (seen_in b.tasks.pool) after h s x b.waiting.by_job move was left k.by_job)
 
-pub take-board : (b : BoardTable) (q : TaskTable) (ready : ReadyMarks) (waiting : WaitingTable) (h w : ℕ) (kind : Kind) (t : Task) → IsBoard b → slot_value b.tasks.pool h ≡ Some t → is_unstarted t ≡ true → q.pool ≡ changed b.tasks.pool h (with_state (Running w kind)) → q.starts ≡ b.tasks.starts → w < b.settings.workers → is_some (running_on b.running w) ≡ false → waiting ≡ without_waiting b.waiting t.job h → NowhereAt (slot_of h) waiting.lists → NowhereAt (slot_of h) waiting.by_job → ready ≡ record b.ready { marks = set b.ready.marks (slot_of h) None } → q.ends ≡ b.tasks.ends → IsBoard (record b { tasks = q; ready = ready; waiting = waiting; running = set b.running w (Some (record { 0 = h })) })
-take-board b q ready waiting h w kind t k g u pool count less free is gone apart marks ends =
+pub take-board : (b : BoardTable) (q : TaskTable) (ready : ReadyMarks) (waiting : WaitingTable) (h w : ℕ) (kind : Kind) (t : Task) → IsBoard b → slot_value b.tasks.pool h ≡ Some t → is_unstarted t ≡ true → q.pool ≡ changed b.tasks.pool h (with_state (Running w kind)) → q.starts ≡ b.tasks.starts → w < b.settings.workers → is_some (running_on b.running w) ≡ false → waiting ≡ without_waiting b.waiting t.job h → ready ≡ record b.ready { marks = set b.ready.marks (slot_of h) None } → q.ends ≡ b.tasks.ends → IsBoard (record b { tasks = q; ready = ready; waiting = waiting; running = set b.running w (Some (record { 0 = h })) })
+take-board b q ready waiting h w kind t k g u pool count less free is marks ends =
     put-board b q b.queues ready waiting (set b.running w (Some (record { 0 = h }))) b.groups h (seen (Some (with_state (Running w kind) t))) k move (ap max_of pool ∙ max-changed b.tasks.pool h (with_state (Running w kind)))
     (sizes-set b.ready ready (slot_of h) None marks)
     (put-marked b q b.queues.pool ready h _ None k move (steady-same b.queues.pool (seen_in b.tasks.pool) h) (alone-old b.tasks.pool h t _ (seen_in q.pool) g move) (slot_of-live b.tasks.pool h t g) (unmarked b.actions (begins_in b.queues.pool h) _ w refl) marks)
     (queued-run (seen_in b.tasks.pool) (seen_in q.pool) h w was.0 _ b.queues.pool b.settings.priorities move (ap seen g ∙ was.1) like.queue like.job like.start refl k.queued) refl
     (ap (λ (l : WaitingTable). l.places) is) (ap (λ (l : WaitingTable). length l.lists) is ∙ one-length b.waiting _ k.lists) (length-set b.running w _ ∙ k.seats)
     (subst (λ (hs : List ℕ). AreWaiting (seen_in q.pool) hs) (sym list)
-    (waiting-leave (seen_in b.tasks.pool) (seen_in q.pool) h _ (list_at b.waiting.lists 0) move (λ s e n. none-some (sym n ∙ ap (λ (z : Seen). z.on) (sym (some_same e)))) (ap (stands_at (slot_of h)) (sym list) ∙ gone 0) k.waiting_are))
-    (left-jobs b waiting (seen_in q.pool) h t.job was.0 _ move (ap seen g ∙ was.1) like.job (λ s e n. none-some (sym n ∙ ap (λ (z : Seen). z.on) (sym (some_same e)))) is apart k)
+    (waiting-leave (seen_in b.tasks.pool) (seen_in q.pool) h _ (list_at b.waiting.lists 0) move (λ s e n. none-some (sym n ∙ ap (λ (z : Seen). z.on) (sym (some_same e)))) k.waiting_are))
+    (left-jobs b waiting (seen_in q.pool) h t.job was.0 _ move (ap seen g ∙ was.1) like.job (λ s e n. none-some (sym n ∙ ap (λ (z : Seen). z.on) (sym (some_same e)))) is k)
     (running-begin (seen_in b.tasks.pool) (seen_in q.pool) h w _ b.running move refl free
     (λ s e. ap (λ (z : Seen). z.on) (some_same (sym e ∙ ap seen g ∙ was.1)) ∙ was.2) (omega (arith, less, k.few, k.seats)) k.running_are)
     (λ s e. subst (λ (n : ℕ). n < b.settings.priorities) (rank ∙ ap (λ (z : Seen). z.priority) (some_same e)) (k.ranked.known h was.0 (ap seen g ∙ was.1)))
@@ -359,10 +328,6 @@ queue-seen b q k h has = by_found (slot_value b.queues.pool q) refl has
 
 pub opened-seen : (b : BoardTable) (queues : QueueTable) (q : ℕ) (on : Bool) → IsBoard b → queues ≡ record b.queues { pool = changed b.queues.pool q (with_opened on) } → AreSeen (seen_in b.tasks.pool) (tasks_of (slot_value queues.pool q))
 opened-seen b queues q on k is = subst (λ (hs : List ℕ). AreSeen (seen_in b.tasks.pool) hs) (sym (opened-tasks b queues q on is)) (queue-seen b q k)
-
--- the waiting tasks of a job are seen
-pub job-seen : (b : BoardTable) (job : ℕ) → IsBoard b → AreSeen (seen_in b.tasks.pool) (job_list b.waiting job)
-job-seen b job k h has = let less : job % length b.waiting.by_job < length b.waiting.by_job = omega (arith, k.by_job.some) in let s = (k.by_job.each (job % length b.waiting.by_job) less).is_seen h has in (s.0, s.1)
 
 -- a live task that hasn't begun is in the list of its job
 pub waits-in-job : (b : BoardTable) (h job : ℕ) (t : Task) → IsBoard b → slot_value b.tasks.pool h ≡ Some t → is_unstarted t ≡ true → t.job ≡ job → has_handle h (job_list b.waiting job) ≡ true

@@ -1,69 +1,11 @@
 -- What each move of the tasks keeps of the lists of waiting tasks by jobs.
-use Rattle.std.proofs.Common.{◌≡◌, ◌≢◌, ℕ, ◌<◌, ◌≤◌, Bool, true, false, List, [], ◌∷◌, ◌++◌, length, length-set, Option, Some, None, set, refl, sym, ◌∙◌, ap, subst, inl, inr, arith}
-use Rattle.std.specs.Prelude.{◌==◌, ◌||◌, ◌&&◌, ◌%◌, is_none}
-use Rattle.std.proofs.lemmas.Bool.{false≢true, cases_eq}
-use Rattle.handle_pool.specs.Slots.{slot_of}
-use Rattle.linked_places.specs.Lists.{list_at, has_handle, without_handle, stands_at}
-use Rattle.linked_places.proofs.HandleLemmas.{stands-has, list_at-set_same, list_at-set_other}
-use Rattle.task_board.specs.Seen.{Seen}
-use Rattle.task_board.specs.Walks.{AreIn, AreByJob, waits_at}
+use Rattle.task_board.proofs.Names.{◌≡◌, ℕ, ◌<◌, ◌≤◌, true, List, [], ◌∷◌, ◌++◌, length, length-set, Option, Some, None, set, refl, sym, ◌∙◌, ap, subst, inl, inr, arith, ◌==◌, ◌&&◌, ◌%◌, is_none, false≢true, cases_eq, list_at, has_handle, without_handle, list_at-set_same, list_at-set_other, Seen, AreIn, AreByJob, waits_at}
 use Rattle.task_board.proofs.SeenLemmas.{some_same}
-use Rattle.task_board.proofs.MarkLemmas.{and_left, and_right, same-number}
-use Rattle.task_board.proofs.MoveLemmas.{Put, has-append, or-left, or-right, or-first, eq-self, eq-other, order-same, order-push, order-without, has-without}
+use Rattle.task_board.proofs.MarkLemmas.{and_left, and_right, same-number, number-same}
+use Rattle.task_board.proofs.KeyedLemmas.{Put, lists-push, lists-leave, lists-aside}
 
 none-some : {A : Type 0} {P : Type 0} {x : A} → None ≡ Some x → P
 none-some e = absurd (cc)
-
--- one list
-
-in-push : (m : Seen → Bool) (at after : ℕ → Option Seen) (h : ℕ) (s : Seen) (hs : List ℕ) → Put at h (Some s) after → at h ≡ None → m s ≡ true → ((k : ℕ) (u : Seen) → at k ≡ Some u → u.start < s.start) → AreIn m at hs → AreIn m after (hs ++ h ∷ [])
-in-push m at after h s hs move none is less old = record {
-  ordered = order-push at after h s hs (λ k e. move.others k (apart k e)) move.here (λ k u e f. less k u f) old.ordered;
-  listed = λ k u e n. elim (cases_eq k h) [
-    | inl here ↦ has-append k hs (h ∷ []) ∙ or-right (has_handle k hs) _ (or-left (h == k) false (ap (λ (z : ℕ). h == z) here ∙ eq-self h))
-    | inr away ↦ has-append k hs (h ∷ []) ∙ or-left (has_handle k hs) _ (old.listed k u (sym (move.others k away) ∙ e) n)
-  ];
-  is_seen = λ k e. elim (cases_eq k h) [
-    | inl here ↦ (s, ap after here ∙ move.here, is)
-    | inr away ↦
-        let was = old.is_seen k (or-first (has_handle k hs) _ (ap (λ (b : Bool). b || false) (eq-other h k away)) (sym (has-append k hs (h ∷ [])) ∙ e)) in
-        (was.0, move.others k away ∙ was.1, was.2)
-  ];
-}
-  where
-    apart : (k : ℕ) → has_handle k hs ≡ true → k ≢ h
-    apart k e z = let u = old.is_seen k e in none-some (sym none ∙ ap at (sym z) ∙ u.1)
-
-in-leave : (m : Seen → Bool) (at after : ℕ → Option Seen) (h : ℕ) (x : Option Seen) (hs : List ℕ) → Put at h x after → ((s : Seen) → x ≡ Some s → m s ≡ true → ⊥) → stands_at (slot_of h) (without_handle h hs) ≡ false → AreIn m at hs → AreIn m after (without_handle h hs)
-in-leave m at after h x hs move left off old = record {
-  ordered = order-same at after (without_handle h hs) (λ k e. move.others k (apart k e)) (order-without at h hs old.ordered);
-  listed = λ k u e n. elim (cases_eq k h) [
-    | inl here ↦ absurd (left u (sym move.here ∙ ap after (sym here) ∙ e) n)
-    | inr away ↦ has-without h k hs away ∙ old.listed k u (sym (move.others k away) ∙ e) n
-  ];
-  is_seen = λ k e.
-      let away = apart k e in
-      let was = old.is_seen k (sym (has-without h k hs away) ∙ e) in
-      (was.0, move.others k away ∙ was.1, was.2);
-}
-  where
-    apart : (k : ℕ) → has_handle k (without_handle h hs) ≡ true → k ≢ h
-    apart k e z = false≢true (sym off ∙ stands-has h (without_handle h hs) (ap (λ (j : ℕ). has_handle j (without_handle h hs)) (sym z) ∙ e))
-
-in-same : (m : Seen → Bool) (at after : ℕ → Option Seen) (h : ℕ) (x : Option Seen) (hs : List ℕ) → Put at h x after → ((s : Seen) → at h ≡ Some s → m s ≡ true → ⊥) → ((s : Seen) → x ≡ Some s → m s ≡ true → ⊥) → AreIn m at hs → AreIn m after hs
-in-same m at after h x hs move was is old = record {
-  ordered = order-same at after hs (λ k e. move.others k (apart k e)) old.ordered;
-  listed = λ k u e n. elim (cases_eq k h) [
-    | inl here ↦ absurd (is u (sym move.here ∙ ap after (sym here) ∙ e) n)
-    | inr away ↦ old.listed k u (sym (move.others k away) ∙ e) n
-  ];
-  is_seen = λ k e. let s = old.is_seen k e in (s.0, move.others k (apart k e) ∙ s.1, s.2);
-}
-  where
-    apart : (k : ℕ) → has_handle k hs ≡ true → k ≢ h
-    apart k e z = let s = old.is_seen k e in was s.0 (ap at (sym z) ∙ s.1) s.2
-
--- all lists
 
 remainder : (n job : ℕ) → 1 ≤ n → job % n < n
 remainder n job some = omega (arith, some)
@@ -103,24 +45,24 @@ replaced at after ls job hs old mine others = record {
 -- a new task waits
 pub by-job-push : {n : ℕ} (at after : ℕ → Option Seen) (h : ℕ) (s : Seen) (ls : List (List ℕ)) → Put at h (Some s) after → at h ≡ None → s.on ≡ None → ((k : ℕ) (u : Seen) → at k ≡ Some u → u.start < s.start) → AreByJob n at ls → AreByJob n after (set ls (s.job % length ls) (list_at ls (s.job % length ls) ++ h ∷ []))
 by-job-push at after h s ls move none waits less old =
-    replaced at after ls s.job _ old (in-push _ at after h s _ move none (λ i. is_none (waits i) && eq-self (s.job % length ls) i) less (old.each _ (remainder (length ls) s.job old.some)))
-    (λ r below away. in-same _ at after h (Some s) _ move (λ u e. none-some (sym none ∙ e)) (λ u e m. other-job (length ls) r u (λ z. away (z ∙ ap (λ (v : Seen). v.job % length ls) (sym (some_same e)))) m))
+    replaced at after ls s.job _ old (lists-push (λ s. s.start) _ at after h s _ move none (λ i. is_none (waits i) && number-same (s.job % length ls) _ refl i) less (old.each _ (remainder (length ls) s.job old.some)))
+    (λ r below away. lists-aside (λ s. s.start) _ at after h (Some s) _ move (λ u e. none-some (sym none ∙ e)) (λ u e m. other-job (length ls) r u (λ z. away (z ∙ ap (λ (v : Seen). v.job % length ls) (sym (some_same e)))) m))
 
 -- a waiting task leaves
-pub by-job-leave : {n : ℕ} (at after : ℕ → Option Seen) (h : ℕ) (s : Seen) (x : Option Seen) (ls : List (List ℕ)) → Put at h x after → at h ≡ Some s → ((u : Seen) → x ≡ Some u → u.on ≡ None → ⊥) → stands_at (slot_of h) (without_handle h (list_at ls (s.job % length ls))) ≡ false → AreByJob n at ls → AreByJob n after (set ls (s.job % length ls) (without_handle h (list_at ls (s.job % length ls))))
-by-job-leave at after h s x ls move seen left off old =
-    replaced at after ls s.job _ old (in-leave _ at after h x _ move (λ u e m. left u e (waits-none _ _ u m)) off (old.each _ (remainder (length ls) s.job old.some)))
-    (λ r below away. in-same _ at after h x _ move (λ u e m. other-job (length ls) r u (λ z. away (z ∙ ap (λ (v : Seen). v.job % length ls) (some_same (sym e ∙ seen)))) m) (λ u e m. left u e (waits-none _ _ u m)))
+pub by-job-leave : {n : ℕ} (at after : ℕ → Option Seen) (h : ℕ) (s : Seen) (x : Option Seen) (ls : List (List ℕ)) → Put at h x after → at h ≡ Some s → ((u : Seen) → x ≡ Some u → u.on ≡ None → ⊥) → AreByJob n at ls → AreByJob n after (set ls (s.job % length ls) (without_handle h (list_at ls (s.job % length ls))))
+by-job-leave at after h s x ls move seen left old =
+    replaced at after ls s.job _ old (lists-leave (λ s. s.start) _ at after h x _ move (λ u e m. left u e (waits-none _ _ u m)) (old.each _ (remainder (length ls) s.job old.some)))
+    (λ r below away. lists-aside (λ s. s.start) _ at after h x _ move (λ u e m. other-job (length ls) r u (λ z. away (z ∙ ap (λ (v : Seen). v.job % length ls) (some_same (sym e ∙ seen)))) m) (λ u e m. left u e (waits-none _ _ u m)))
 
 -- a task moves that doesn't wait
 pub by-job-same : {n : ℕ} (at after : ℕ → Option Seen) (h : ℕ) (x : Option Seen) (ls : List (List ℕ)) → Put at h x after → ((s : Seen) → at h ≡ Some s → s.on ≡ None → ⊥) → ((s : Seen) → x ≡ Some s → s.on ≡ None → ⊥) → AreByJob n at ls → AreByJob n after ls
 by-job-same at after h x ls move was is old = record {
   some = old.some;
   count = old.count;
-  each = λ r less. in-same _ at after h x _ move (λ u e m. was u e (waits-none _ r u m)) (λ u e m. is u e (waits-none _ r u m)) (old.each r less);
+  each = λ r less. lists-aside (λ s. s.start) _ at after h x _ move (λ u e m. was u e (waits-none _ r u m)) (λ u e m. is u e (waits-none _ r u m)) (old.each r less);
 }
 
 -- a waiting task is in the list of its job
 pub by-job-has : {n : ℕ} (at : ℕ → Option Seen) (h job : ℕ) (s : Seen) (ls : List (List ℕ)) → AreByJob n at ls → at h ≡ Some s → s.on ≡ None → s.job ≡ job → has_handle h (list_at ls (job % length ls)) ≡ true
 by-job-has at h job s ls k e waits is =
-    (k.each (job % length ls) (remainder (length ls) job k.some)).listed h s e (λ i. is_none (waits i) && ((ap (λ (j : ℕ). j % length ls == job % length ls) is ∙ eq-self (job % length ls)) i))
+    (k.each (job % length ls) (remainder (length ls) job k.some)).listed h s e (λ i. is_none (waits i) && ((ap (λ (j : ℕ). j % length ls == job % length ls) is ∙ number-same (job % length ls) _ refl) i))

@@ -1,22 +1,6 @@
 -- What the walks over the members of a group keep.
-use Rattle.std.proofs.Common.{◌≡◌, ℕ, ◌+◌, ◌<◌, Bool, true, false, not, cond, List, [], ◌∷◌, ◌++◌, length, Option, Some, None, IsSome, refl, sym, ◌∙◌, ap, subst, inl, inr, arith}
-use Rattle.std.specs.Prelude.{◌&&◌, is_none}
-use Rattle.std.specs.Option.{option_or}
-use Rattle.std.proofs.lemmas.Bool.{false≢true, cases_eq}
-use Rattle.mtapi_values.specs.declared.ends.TaskEnd.{TaskEnd}
-use Rattle.mtapi_values.specs.declared.statuses.MtapiStatus.{MtapiStatus}
-use Rattle.handle_pool.specs.Slots.{Slots, slot_value, with_value, without}
-use Rattle.handle_pool.specs.Walks.{NoneLive}
-use Rattle.linked_places.specs.Lists.{has_handle}
-use Rattle.mtapi_objects.specs.Tasks.{Task, TaskState, Scheduled, Running, Ended, end_of, is_unended}
-use Rattle.mtapi_objects.specs.Groups.{is_member, is_unended_member, fault_of, first_fault}
-use Rattle.task_core.specs.Answers.{without_group}
-use Rattle.task_core.specs.Records.{number_in}
-use Rattle.task_core.specs.Table.{TaskTable}
-use Rattle.group_core.specs.Members.{Members, no_members, ended_of, unended_of}
-use Rattle.task_board.specs.Members.{start_in, end_in, member_as, membership, members_in}
-use Rattle.task_board.specs.Board.{BoardTable, IsBoard, Becomes}
-use Rattle.task_board.specs.GroupMoves.{is_ended_member, end_at, ending_of, endings_of, Each, frees, lets_go, Takes, Leaves, FreesAll, LetsUnendedGo, LetsAllGo, Freed, Left}
+use Rattle.task_board.proofs.Names.{◌≡◌, ℕ, ◌+◌, Bool, true, false, not, cond, List, [], ◌∷◌, ◌++◌, length, Option, Some, None, refl, sym, ◌∙◌, ap, subst, inl, inr, arith, ◌&&◌, is_none, option_or, false≢true, cases_eq, TaskEnd, MtapiStatus, Slots, slot_value, with_value, without, NoneLive, has_handle, Task, TaskState, Scheduled, Running, Ended, end_of, is_unended, is_member, is_unended_member, fault_of, first_fault, without_group, number_in, TaskTable, Members, no_members, ended_of, start_in, end_in, member_as, membership, members_in, BoardTable, IsBoard, Becomes, is_ended_member, end_at, ending_of, endings_of, Each, frees, lets_go, Leaves, FreesAll, LetsUnendedGo, LetsAllGo, Freed, Left}
+use Rattle.task_board.specs.GroupMoves.{Takes}
 use Rattle.task_board.proofs.SeenLemmas.{some_same}
 use Rattle.task_board.proofs.MoveLemmas.{slot-without}
 use Rattle.task_board.proofs.MarkLemmas.{named-is}
@@ -100,9 +84,6 @@ fault-next at (x ∷ xs) h n e is = by_end (end_at (at x)) (fault-next at xs h n
 
 -- Freeing
 
-same-becomes : (b : BoardTable) → Becomes b b b.actions (record b.tasks { pool = b.tasks.pool })
-same-becomes b = record { settings = refl; actions_are = refl; tasks_are = refl; queues_are = refl; groups_are = refl }
-
 becomes-next : (old now new : BoardTable) (pool : Slots Task) → Becomes old now old.actions (record old.tasks { pool = now.tasks.pool }) → Becomes now new now.actions (record now.tasks { pool = pool }) → Becomes old new old.actions (record old.tasks { pool = new.tasks.pool })
 becomes-next old now new pool a b = record {
   settings = b.settings ∙ a.settings;
@@ -110,21 +91,6 @@ becomes-next old now new pool a b = record {
   tasks_are = (λ i. record { pool = new.tasks.pool; starts = (ap (λ (q : TaskTable). q.starts) b.tasks_are ∙ ap (λ (q : TaskTable). q.starts) a.tasks_are) i; ends = (ap (λ (q : TaskTable). q.ends) b.tasks_are ∙ ap (λ (q : TaskTable). q.ends) a.tasks_are) i });
   queues_are = b.queues_are ∙ a.queues_are;
   groups_are = b.groups_are ∙ a.groups_are;
-}
-
-pub freed-none : (b : BoardTable) (g : ℕ) (m : Members) → slot_value b.groups.pool g ≡ Some m → Freed b b g 0 None
-freed-none b g m live = record {
-  members = m;
-  done = [];
-  rest = m.ended;
-  list = refl;
-  count = refl;
-  group = live;
-  group_now = live;
-  each = refl;
-  kept = λ h t e. e;
-  fault_is = refl;
-  becomes = same-becomes b;
 }
 
 ended-passes : (g : ℕ) (t : Task) (e : TaskEnd) (n : ℕ) → is_member g t ≡ true → t.state ≡ Ended e n → is_ended_member g t ≡ true
@@ -175,29 +141,7 @@ freed-all old now g index fault f all = record {
     whole : f.members.ended ≡ f.done
     whole = f.list ∙ ap (λ (l : List ℕ). f.done ++ l) none ∙ append-none f.done
 
--- while members are left one is taken
-pub freed-left : (old now : BoardTable) (g index : ℕ) (fault : Option MtapiStatus) → Freed old now g index fault → index < length (ended_of (slot_value old.groups.pool g)) → ((m : Members) → slot_value now.groups.pool g ≡ Some m → m.ended ≡ []) → ⊥
-freed-left old now g index fault f less none =
-    let empty : f.rest ≡ [] = none (record f.members { ended = f.rest }) f.group_now in
-    let whole = f.list ∙ ap (λ (l : List ℕ). f.done ++ l) empty ∙ append-none f.done in
-    let all : length (ended_of (slot_value old.groups.pool g)) ≡ length f.done = ap (λ (o : Option Members). length (ended_of o)) f.group ∙ ap length whole in
-    let n = f.count in
-    omega (arith, less, all, n)
-
 -- Letting go
-
-pub left-none : (b : BoardTable) (g : ℕ) (m : Members) → slot_value b.groups.pool g ≡ Some m → Left b b g 0
-left-none b g m live = record {
-  members = m;
-  done = [];
-  rest = m.unended;
-  list = refl;
-  count = refl;
-  group = live;
-  group_now = live;
-  each = refl;
-  becomes = same-becomes b;
-}
 
 pub left-next : (old now new : BoardTable) (g index h : ℕ) → Left old now g index → Leaves now new g h → Left old new g (index + 1)
 left-next old now new g index h f x = record {
@@ -218,26 +162,6 @@ left-next old now new g index h f x = record {
     rest : f.rest ≡ h ∷ x.rest
     rest = ap (λ (m : Members). m.unended) (sym same) ∙ x.list
 
-pub left-all : (old now : BoardTable) (g index : ℕ) → Left old now g index → index ≡ length (unended_of (slot_value old.groups.pool g)) → LetsUnendedGo old now g
-left-all old now g index f all = record {
-  members = f.members;
-  group = f.group;
-  group_now = f.group_now ∙ ap (λ (l : List ℕ). Some (record f.members { unended = l })) none;
-  each = subst (λ (l : List ℕ). Each (is_member g) lets_go l old.tasks.pool now.tasks.pool) (sym (f.list ∙ ap (λ (l : List ℕ). f.done ++ l) none ∙ append-none f.done)) f.each;
-  becomes = f.becomes;
-}
-  where
-    none : f.rest ≡ []
-    none = none-left f.done f.rest (f.count ∙ all ∙ ap (λ (o : Option Members). length (unended_of o)) f.group ∙ ap length f.list)
-
-pub left-over : (old now : BoardTable) (g index : ℕ) → Left old now g index → index < length (unended_of (slot_value old.groups.pool g)) → ((m : Members) → slot_value now.groups.pool g ≡ Some m → m.unended ≡ []) → ⊥
-left-over old now g index f less none =
-    let empty : f.rest ≡ [] = none (record f.members { unended = f.rest }) f.group_now in
-    let whole = f.list ∙ ap (λ (l : List ℕ). f.done ++ l) empty ∙ append-none f.done in
-    let all : length (unended_of (slot_value old.groups.pool g)) ≡ length f.done = ap (λ (o : Option Members). length (unended_of o)) f.group ∙ ap length whole in
-    let n = f.count in
-    omega (arith, less, all, n)
-
 -- the ended ones are freed, and then the others are let go
 pub all-go : (old now new : BoardTable) (g : ℕ) (fault : Option MtapiStatus) → FreesAll old now g fault → LetsUnendedGo now new g → LetsAllGo old new g
 all-go old now new g fault a b = record {
@@ -248,10 +172,6 @@ all-go old now new g fault a b = record {
 }
 
 -- Who is left
-
-pub live-group : (o : Option Members) → IsSome o → (m : Members) × (o ≡ Some m)
-live-group None e = absurd (false≢true e)
-live-group (Some m) e = (m, refl)
 
 number-of : (x : TaskState) → is_none (end_of x) ≡ false → (n : ℕ) × (number_in (end_of x) ≡ Some n)
 number-of Scheduled e = absurd (false≢true (sym e))

@@ -1,37 +1,14 @@
 -- What is kept while the waiting tasks that pass end, one after the other.
-use Rattle.std.proofs.Common.{◌≡◌, ℕ, ◌<◌, ◌+◌, Bool, true, false, cond, List, [], ◌∷◌, ◌++◌, length, Option, Some, None, slice_get, refl, sym, ◌∙◌, ap, subst, arith}
-use Rattle.std.proofs.lemmas.Bool.{false≢true}
-use Rattle.std.proofs.lemmas.Bool.Decides.{nat_tests}
-use Rattle.std.proofs.lemmas.Nat.Bits.{bit_at-zero}
-use Rattle.std.specs.Prelude.{◌==◌, ◌||◌, ◌&&◌, IsSome}
-use Rattle.mtapi_values.specs.declared.ends.TaskEnd.{TaskEnd}
-use Rattle.mtapi_values.specs.Attributes.{NodeSettings}
-use Rattle.mtapi_values.specs.Conditions.{holds}
-use Rattle.mtapi_values.specs.Masks.{in_mask}
-use Rattle.handle_pool.specs.Slots.{Slots, slot_value}
-use Rattle.linked_places.specs.Lists.{list_at, has_handle}
-use Rattle.mtapi_objects.specs.Actions.{Action, has_enabled_job}
-use Rattle.mtapi_objects.specs.Tasks.{Task, is_unstarted}
-use Rattle.mtapi_objects.specs.Queues.{Queue, is_in}
-use Rattle.queue_core.specs.Held.{HeldQueue, tasks_of}
-use Rattle.job_table.specs.Answers.{Covers, IsUnion}
-use Rattle.job_table.specs.declared.cover.Cover.TheVariants.{NoAction, AllDisabled}
-use Rattle.task_core.specs.Table.{TaskTable, ended_in}
-use Rattle.task_board.specs.Seen.{Seen, seen, seen_in}
-use Rattle.task_board.specs.Queued.{NoneWaitsIn}
-use Rattle.task_board.specs.Board.{BoardTable, IsBoard, Becomes, AreWaiting, records_of, group_slots}
+use Rattle.task_board.proofs.Names.{◌≡◌, ℕ, ◌<◌, ◌+◌, Bool, true, false, cond, List, [], ◌∷◌, ◌++◌, length, Option, Some, None, slice_get, refl, sym, ◌∙◌, ap, subst, arith, false≢true, nat_tests, ◌==◌, ◌||◌, ◌&&◌, IsSome, TaskEnd, NodeSettings, holds, Slots, slot_value, list_at, has_handle, Task, is_unstarted, Queue, is_in, HeldQueue, tasks_of, TaskTable, ended_in, Seen, seen, seen_in, NoneWaitsIn, BoardTable, IsBoard, Becomes, AreWaiting, records_of, group_slots, Walk, Waiting, AreIn, is_walked, passes, walk_of, ends_by, ended_next, ended_if, ended_each, EndsWaiting}
 use Rattle.task_board.specs.declared.ends.WaitingTest.{WaitingTest}
 use Rattle.task_board.specs.declared.ends.WaitingTest.TheVariants.{Unserved, InQueue, Shut}
-use Rattle.task_board.specs.declared.walks.Walk.{Walk}
-use Rattle.task_board.specs.declared.walks.Walk.TheVariants.{Waiting}
-use Rattle.task_board.specs.Walks.{AreIn, is_walked}
-use Rattle.task_board.specs.Ends.{passes, walk_of, ends_by, ended_next, ended_if, ended_each, EndsWaiting}
 use Rattle.task_board.proofs.SeenLemmas.{some_same, seen-as, seen-live, unstarted-seen}
 use Rattle.task_board.proofs.MarkLemmas.{and_left, and_right, same-number, named-is}
-use Rattle.task_board.proofs.MoveLemmas.{Put, put-ended, or-right}
+use Rattle.task_board.proofs.KeyedLemmas.{Put, has-later, has-itself, lists-once, lists-middle}
+use Rattle.task_board.proofs.MoveLemmas.{put-ended}
 use Rattle.task_board.proofs.BoardLemmas.{waits-in, waits-in-job}
 use Rattle.task_board.proofs.WalkedLemmas.{list_of, walk-are, ends-same}
-use Rattle.task_board.proofs.OrderLemmas.{walked-once, walked-beside, has-itself, at-middle, past-middle, append-middle}
+use Rattle.task_board.proofs.OrderLemmas.{at-middle, past-middle, append-middle}
 
 -- a waiting task is live and hasn't begun
 pub waits-live : (p : Slots Task) (hs : List ℕ) (h : ℕ) → AreWaiting (seen_in p) hs → has_handle h hs ≡ true → (t : Task) × (slot_value p h ≡ Some t) × (is_unstarted t ≡ true)
@@ -104,10 +81,10 @@ module _ (walk : Walk) (p : Task → Bool) (e : TaskEnd) (first now : BoardTable
       let t = seen-live now.tasks.pool h s.0 s.1 in
       let pool : new.tasks.pool ≡ ended_in now.tasks.pool h e now.tasks.ends (Some t.0) = ap (λ (q : TaskTable). q.pool) becomes ∙ ap (λ (o : Option Task). ended_in now.tasks.pool h e now.tasks.ends o) t.1 in
       let move = subst (λ (q : Slots Task). Put (seen_in now.tasks.pool) h None (seen_in q)) (sym pool) (put-ended now.tasks.pool h e now.tasks.ends t.0 t.1) in
-      (g.front, walked-once _ (seen_in new.tasks.pool) _ (g.front ++ rest) (are new k kept same) (walked-beside _ (seen_in now.tasks.pool) (seen_in new.tasks.pool) h g.front rest move old))
+      (g.front, lists-once (λ s. s.start) _ (seen_in new.tasks.pool) _ (g.front ++ rest) (are new k kept same) (lists-middle (λ s. s.start) _ (seen_in now.tasks.pool) (seen_in new.tasks.pool) h g.front rest move old))
   listed-on h rest new false test is k kept same becomes =
       let old = subst (λ (q : TaskTable). AreIn (is_walked first.settings.actions walk (records_of first.queues.pool)) (seen_in q.pool) (list_of walk now)) (sym becomes) (are now g.board g.settings g.records) in
-      (g.front ++ h ∷ [], walked-once _ (seen_in new.tasks.pool) _ _ (are new k kept same) old ∙ is ∙ append-middle h g.front rest)
+      (g.front ++ h ∷ [], lists-once (λ s. s.start) _ (seen_in new.tasks.pool) _ _ (are new k kept same) old ∙ is ∙ append-middle h g.front rest)
 
   pub going-on : (h : ℕ) (new : BoardTable) (after : Option ℕ) → next ≡ Some h → ((i : ℕ) → slice_get (list_of walk now) i ≡ Some h → after ≡ slice_get (list_of walk now) (i + 1)) → Becomes now new now.actions (ended_if p e h now.tasks) → IsBoard new → Going walk p e first new (index + 1) after
   going-on h new after is follows becomes k =
@@ -219,28 +196,13 @@ none-left k e old new ends h s is waits names =
 
 -- The cores that a cover has
 
-in_mask-zero : (core : ℕ) → in_mask core 0 ≡ false
-in_mask-zero core = grind (arith, nat_tests, bit_at-zero core)
-
-pub union-none : (actions : Slots Action) (job : ℕ) → Covers actions job NoAction → IsUnion actions job 0
-union-none actions job c = record {
-  covered = λ w e. absurd (false≢true (sym (in_mask-zero w) ∙ e));
-  uncovered = λ w off h a g r. c h a g (and_right a.enabled (a.job == job) (and_left (has_enabled_job job a) _ r));
-}
-
-pub union-disabled : (actions : Slots Action) (job : ℕ) → Covers actions job AllDisabled → IsUnion actions job 0
-union-disabled actions job c = record {
-  covered = λ w e. absurd (false≢true (sym (in_mask-zero w) ∙ e));
-  uncovered = λ w off h a g r. c.1 h a g (and_left (has_enabled_job job a) _ r);
-}
-
 -- Where none passes
 
 each-none : (p : Task → Bool) (e : TaskEnd) (q : TaskTable) (hs : List ℕ) → ((h : ℕ) → has_handle h hs ≡ true → holds p (slot_value q.pool h) ≡ false) → ended_each p e hs q ≡ q
 each-none p e q [] none = refl
 each-none p e q (h ∷ hs) none =
     ap (λ (b : Bool). ended_each p e hs (cond b (ended_next e h q) q)) (none h (has-itself h [] hs))
-    ∙ each-none p e q hs (λ k on. none k (or-right (h == k) _ on))
+    ∙ each-none p e q hs (λ k on. none k (has-later k h hs on))
 
 -- a board on which no task that hasn't begun passes is what it is once those that pass have ended
 pub none-ends : (p : Task → Bool) (e : TaskEnd) (b : BoardTable) → IsBoard b → ((h : ℕ) (t : Task) → slot_value b.tasks.pool h ≡ Some t → is_unstarted t ≡ true → p t ≡ false) → EndsWaiting p e b.tasks b.tasks

@@ -1,14 +1,5 @@
 -- Handles that were given to queues, and one queue that changes.
-use Rattle.std.proofs.Common.{◌≡◌, ◌≢◌, ℕ, ◌+◌, Bool, true, false, Option, Some, None, set, slice_get, refl, sym, ◌∙◌, ap, subst, inl, inr, arith}
-use Rattle.std.specs.Prelude.{◌==◌, if◌then◌else◌}
-use Rattle.std.specs.Option.{option_map}
-use Rattle.std.proofs.lemmas.Bool.{cases_eq}
-use Rattle.handle_pool.specs.Slots.{Slot, Slots, slot_of, generation_of, free_slot, used_slot, slot_after, slot_value, Inserts, without, put, changed}
-use Rattle.handle_pool.proofs.ListReads.{slice_get-set_same, slice_get-set_other}
-use Rattle.handle_pool.proofs.StandsLemmas.{used_at_live}
-use Rattle.handle_pool.proofs.GetLemmas.{get-with_value_same, get-with_value_other, get-insert_same, get-insert_other, get-without_same, get-without_other}
-use Rattle.queue_core.specs.Held.{HeldQueue}
-use Rattle.task_board.specs.Queued.{HasHad, WasGiven}
+use Rattle.task_board.proofs.Names.{◌≡◌, ◌≢◌, ℕ, ◌+◌, Bool, true, false, Option, Some, None, set, slice_get, refl, sym, ◌∙◌, ap, subst, inl, inr, arith, ◌==◌, if◌then◌else◌, option_map, cases_eq, Slot, Slots, slot_of, generation_of, free_slot, used_slot, slot_after, slot_value, Inserts, without, put, changed, slice_get-set_same, slice_get-set_other, used_at_live, get-with_value_same, get-with_value_other, get-insert_same, get-insert_other, get-without_same, get-without_other, HeldQueue, HasHad, WasGiven}
 
 some_same : {A : Type 0} {a b : A} → Some a ≡ Some b → a ≡ b
 some_same h = cc

@@ -1,10 +1,5 @@
 -- Members don't show in the slots of the groups.
-use Rattle.std.proofs.Common.{◌≡◌, ℕ, Option, Some, None, refl, ap, ◌∙◌}
-use Rattle.std.specs.Option.{option_map}
-use Rattle.handle_pool.specs.Slots.{Slots, slot_value, put, changed}
-use Rattle.mtapi_objects.specs.Groups.{new_group}
-use Rattle.group_core.specs.Members.{Members, LiveAreUsed}
-use Rattle.task_board.specs.Members.{without_members}
+use Rattle.task_board.proofs.Names.{◌≡◌, ℕ, Option, Some, None, refl, ap, ◌∙◌, option_map, Slots, slot_value, put, changed, new_group, Members, LiveAreUsed, without_members}
 use Rattle.task_board.proofs.MappedLemmas.{mapped-same}
 
 pub members-unseen : (p : Slots Members) (g : ℕ) (f : Members → Members) → LiveAreUsed p → without_members (changed p g f) ≡ without_members p

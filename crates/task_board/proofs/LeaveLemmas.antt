@@ -1,28 +1,10 @@
 -- What an end is of a board.
-use Rattle.std.proofs.Common.{◌≡◌, ◌≢◌, ◌+◌, ℕ, ◌<◌, true, List, length, length-set, Option, Some, None, set, slice_get, refl, sym, ◌∙◌, ap, subst, arith}
-use Rattle.std.specs.Prelude.{is_none}
-use Rattle.std.proofs.lemmas.Bool.{false≢true}
-use Rattle.mtapi_values.specs.declared.kinds.Kind.{Kind}
-use Rattle.mtapi_values.specs.declared.ends.TaskEnd.{TaskEnd}
-use Rattle.handle_pool.specs.Slots.{Slots, slot_of, slot_value, max_of, changed}
-use Rattle.handle_pool.proofs.WalkLemmas.{slot_of-live}
-use Rattle.linked_places.specs.Lists.{list_at, has_handle, without_handle, stands_at, NowhereAt}
-use Rattle.linked_places.proofs.HandleLemmas.{has-first}
-use Rattle.ready_index.specs.Marks.{ReadyMarks}
-use Rattle.mtapi_objects.specs.Tasks.{Task, TaskState, Scheduled, Running, Ended, end_of, is_unended}
-use Rattle.task_core.specs.Records.{shown_state}
+use Rattle.task_board.proofs.Names.{◌≡◌, ◌≢◌, ◌+◌, ℕ, ◌<◌, true, List, length, length-set, Option, Some, None, set, slice_get, refl, sym, ◌∙◌, ap, subst, arith, is_none, false≢true, Kind, TaskEnd, Slots, slot_of, slot_value, max_of, changed, slot_of-live, list_at, has_handle, without_handle, has-first, ReadyMarks, Task, TaskState, Scheduled, Running, Ended, end_of, is_unended, shown_state, TaskTable, ended_in, IsLiveAnd, HeldQueue, QueueTable, without_task, Seen, seen_as, seen, seen_in, GroupTable, members_in, AreMembers, ended_member, begins_in, AreQueued, left_queue, head_of, BoardTable, IsBoard, Marked, AreWaiting, AreRanked, IsFreshAt, WaitingTable, without_waiting}
 use Rattle.task_core.specs.declared.states.TaskState.TheVariants as shown
-use Rattle.task_core.specs.Table.{TaskTable, ended_in, IsLiveAnd}
-use Rattle.queue_core.specs.Held.{HeldQueue, QueueTable, without_task}
-use Rattle.task_board.specs.Seen.{Seen, seen_as, seen, seen_in}
-use Rattle.group_core.specs.Members.{GroupTable}
-use Rattle.task_board.specs.Members.{members_in, AreMembers, ended_member}
-use Rattle.task_board.specs.Queued.{begins_in, AreQueued, left_queue, head_of}
-use Rattle.task_board.specs.Board.{BoardTable, IsBoard, Marked, AreWaiting, AreRanked, IsFreshAt}
 use Rattle.task_board.proofs.SeenLemmas.{some_same}
-use Rattle.task_board.specs.Waiting.{WaitingTable, without_waiting}
 use Rattle.task_board.proofs.ByJobLemmas.{by-job-same}
-use Rattle.task_board.proofs.MoveLemmas.{has-sub, ranked-put, Put, Alone, Steady, alone, alone-old, put-ended, max-ended, marked-steady, marked-again, waiting-leave, waiting-same, running-end, running-same}
+use Rattle.task_board.proofs.KeyedLemmas.{Put, has-sub}
+use Rattle.task_board.proofs.MoveLemmas.{ranked-put, Alone, Steady, alone, alone-old, put-ended, max-ended, marked-steady, marked-again, waiting-leave, waiting-same, running-end, running-same}
 use Rattle.task_board.proofs.RemarkLemmas.{seen-slot}
 use Rattle.task_board.proofs.GivenLemmas.{dead-queue, put-queue_changed}
 use Rattle.task_board.proofs.QueuedLemmas.{queued-out, queued-leave, begins-leave}
@@ -198,14 +180,14 @@ module _ (b : BoardTable) (q : TaskTable) (queues : QueueTable) (cleared ready :
           let none = ap (head_of queues.pool) apart in
           (queued-was out same none, marked-was out same none)
 
-pub end-waiting : (b : BoardTable) (q : TaskTable) (queues : QueueTable) (cleared ready : ReadyMarks) (waiting : WaitingTable) (groups : GroupTable) (h : ℕ) (e : TaskEnd) (t : Task) → IsBoard b → slot_value b.tasks.pool h ≡ Some t → t.state ≡ Scheduled → q.pool ≡ ended_in b.tasks.pool h e b.tasks.ends (Some t) → q.starts ≡ b.tasks.starts → waiting ≡ without_waiting b.waiting t.job h → NowhereAt (slot_of h) waiting.lists → NowhereAt (slot_of h) waiting.by_job → Leaves b q queues cleared ready h t.queue → q.ends ≡ b.tasks.ends + 1 → groups ≡ ended_member b.groups t.notes.group h → IsBoard (record b { tasks = q; queues = queues; ready = ready; waiting = waiting; groups = groups })
-end-waiting b q queues cleared ready waiting groups h e t k g x pool count is gone apart l ends notes =
+pub end-waiting : (b : BoardTable) (q : TaskTable) (queues : QueueTable) (cleared ready : ReadyMarks) (waiting : WaitingTable) (groups : GroupTable) (h : ℕ) (e : TaskEnd) (t : Task) → IsBoard b → slot_value b.tasks.pool h ≡ Some t → t.state ≡ Scheduled → q.pool ≡ ended_in b.tasks.pool h e b.tasks.ends (Some t) → q.starts ≡ b.tasks.starts → waiting ≡ without_waiting b.waiting t.job h → Leaves b q queues cleared ready h t.queue → q.ends ≡ b.tasks.ends + 1 → groups ≡ ended_member b.groups t.notes.group h → IsBoard (record b { tasks = q; queues = queues; ready = ready; waiting = waiting; groups = groups })
+end-waiting b q queues cleared ready waiting groups h e t k g x pool count is l ends notes =
     put-board b q queues ready waiting b.running groups h None k move (ap max_of pool ∙ max-ended b.tasks.pool h e b.tasks.ends (Some t))
     (sizes-left b q queues cleared ready h seen_as_was t k move (ap max_of pool ∙ max-ended b.tasks.pool h e b.tasks.ends (Some t)) g was l) both.1 both.0 (ap (λ (z : QueueTable). z.tasks) l.left)
     (ap (λ (z : WaitingTable). z.places) is) (ap (λ (z : WaitingTable). length z.lists) is ∙ one-length b.waiting _ k.lists) k.seats
     (subst (λ (hs : List ℕ). AreWaiting (seen_in q.pool) hs) (sym list)
-    (waiting-leave (seen_in b.tasks.pool) (seen_in q.pool) h _ (list_at b.waiting.lists 0) move (λ s f o. none-some f) (ap (stands_at (slot_of h)) (sym list) ∙ gone 0) k.waiting_are))
-    (left-jobs b waiting (seen_in q.pool) h t.job seen_as_was None move was refl (λ s f o. none-some f) is apart k)
+    (waiting-leave (seen_in b.tasks.pool) (seen_in q.pool) h _ (list_at b.waiting.lists 0) move (λ s f o. none-some f) k.waiting_are))
+    (left-jobs b waiting (seen_in q.pool) h t.job seen_as_was None move was refl (λ s f o. none-some f) is k)
     (running-same (seen_in b.tasks.pool) (seen_in q.pool) h _ b.running move (λ s w f on. none-some (ap (λ (z : Seen). z.on) (some_same (sym was ∙ f)) ∙ on)) (λ s w f on. none-some f) k.running_are)
     (λ s f. none-some f) (λ s f. none-some f) (omega (arith, count))
     (ap (λ (z : GroupTable). z.tasks) notes ∙ over-tasks b.groups t.notes.group h)

@@ -1,3 +1,4 @@
+mod Names
 pub mod SeenLemmas
 pub mod MarkLemmas
 pub mod NewLemmas

@@ -1,12 +1,5 @@
 -- What each move of slots is for the mapped slots.
-use Rattle.std.proofs.Common.{◌≡◌, ◌↔◌, ℕ, zero, suc, ◌+◌, Bool, true, false, List, [], ◌∷◌, replicate, map, Option, Some, None, fold, cond, set, slice_get, refl, sym, ap, ◌∙◌, arith}
-use Rattle.std.specs.Prelude.{◌==◌, is_some, if◌then◌else◌}
-use Rattle.std.specs.Option.{option_map}
-use Rattle.std.proofs.lemmas.List.{length-map, map-set}
-use Rattle.std.proofs.lemmas.Option.{slice_get-map}
-use Rattle.handle_pool.specs.Slots.{Slot, Slots, slot_of, generation_of, free_slot, used_slot, slot_after, value_at, slot_value, max_of, is_live, is_retired, live_count, IsFull, Inserts, with_value, without, put, changed}
-use Rattle.handle_pool.proofs.ListReads.{set-same}
-use Rattle.task_board.specs.Mapped.{mapped_slot, mapped}
+use Rattle.task_board.proofs.Names.{◌≡◌, ◌↔◌, ℕ, zero, suc, ◌+◌, Bool, true, false, List, [], ◌∷◌, replicate, map, Option, Some, None, fold, cond, set, slice_get, refl, sym, ap, ◌∙◌, arith, ◌==◌, is_some, if◌then◌else◌, option_map, length-map, map-set, slice_get-map, Slot, Slots, slot_of, generation_of, free_slot, used_slot, slot_after, value_at, slot_value, max_of, is_live, is_retired, IsFull, Inserts, with_value, without, put, changed, set-same, mapped_slot, mapped}
 
 module _ {A B : Type 0} (f : A → B) where
   abbrev slots_of : ℕ → List (Slot B) → Slots B
@@ -69,10 +62,6 @@ module _ {A B : Type 0} (f : A → B) where
       by_value : (o : Option A) → is_some (option_map f o) ≡ is_some o
       by_value None = refl
       by_value (Some v) = refl
-
-  -- as many are live
-  pub live_count-mapped : (p : Slots A) → live_count (mapped f p) ≡ live_count p
-  live_count-mapped p = fold-mapped is_live is_live is_live-mapped p.slots 0
 
   -- no slot may be used in the one exactly where none may be in the other
   pub IsFull-mapped : (p : Slots A) → IsFull (mapped f p) ↔ IsFull p

@@ -1,27 +1,7 @@
 -- Marks that are right, and what they tell.
-use Rattle.std.proofs.Common.{◌≡◌, ℕ, zero, suc, ◌<◌, Bool, true, false, bit_and, List, [], ◌∷◌, Option, Some, None, set, slice_get, refl, sym, ◌∙◌, ap, subst, inl, inr, arith}
-use Rattle.std.specs.Prelude.{◌&&◌, ◌==◌, is_none}
-use Rattle.std.proofs.lemmas.Bool.{false≢true, cases_Bool}
-use Rattle.std.proofs.lemmas.Bool.Decides.{nat_tests}
-use Rattle.std.proofs.lemmas.Nat.Bits.{bit_at_and, bit_at-lt}
-use Rattle.mtapi_values.specs.Conditions.{holds}
-use Rattle.mtapi_values.specs.Masks.{in_mask}
+use Rattle.task_board.proofs.Names.{◌≡◌, ℕ, zero, suc, ◌<◌, Bool, true, false, bit_and, List, [], ◌∷◌, Option, Some, None, set, slice_get, refl, sym, ◌∙◌, ap, subst, inl, inr, arith, ◌&&◌, ◌==◌, false≢true, cases_Bool, nat_tests, bit_at_and, bit_at-lt, holds, in_mask, Slots, slot_of, slot_value, used_at, SomeLive, used_at-live, Mark, is_for, is_for_at, HasNoneFor, IsFirst, Action, Passes, runs_job_on, Covers, Chooses, Cores, Task, is_unstarted, HeldQueue, Takeable, NoneTakeable, NoneBetter, IsBest, seen, seen_in, begins_in, IsMarkOf, Marked}
 use Rattle.mtapi_values.specs.declared.masks.Mask.{Mask}
-use Rattle.handle_pool.specs.Slots.{Slots, slot_of, slot_value, used_at}
-use Rattle.handle_pool.specs.Walks.{SomeLive}
-use Rattle.handle_pool.proofs.WalkLemmas.{used_at-live}
-use Rattle.ready_index.specs.declared.marks.Mark.{Mark}
-use Rattle.ready_index.specs.Marks.{mark_at, is_for, is_for_at, HasNoneFor, IsFirst}
-use Rattle.mtapi_objects.specs.Actions.{Action}
-use Rattle.job_table.specs.Answers.{Passes, runs_job_on, Covers, Chooses}
-use Rattle.job_table.specs.declared.cover.Cover.TheVariants.{NoAction, AllDisabled, Cores}
-use Rattle.mtapi_objects.specs.Tasks.{Task, is_unstarted}
 use Rattle.task_board.specs.declared.board.Choice.{Choice}
-use Rattle.queue_core.specs.Held.{HeldQueue}
-use Rattle.task_board.specs.Picks.{Takeable, NoneTakeable, NoneBetter, IsBest}
-use Rattle.task_board.specs.Seen.{seen, seen_in}
-use Rattle.task_board.specs.Queued.{begins_in}
-use Rattle.task_board.specs.Board.{IsMarkOf, Marked}
 use Rattle.task_board.proofs.SeenLemmas.{some_same, seen-as, unstarted-seen, seen-live, takes-from, takes-to}
 
 pub and_left : (a b : Bool) → (a && b) ≡ true → a ≡ true
@@ -34,10 +14,6 @@ and_right false b e = absurd (false≢true e)
 
 pub and_both : (a b : Bool) → a ≡ true → b ≡ true → (a && b) ≡ true
 and_both a b x y = λ i. x i && y i
-
-pub none-is : {A : Type 0} (o : Option A) → is_none o ≡ true → o ≡ None
-none-is None e = refl
-none-is (Some x) e = absurd (false≢true e)
 
 in_mask-both : (w a b : ℕ) → in_mask w a ≡ true → in_mask w b ≡ true → in_mask w (bit_and a b) ≡ true
 in_mask-both w a b x y = grind (arith, nat_tests, bit_at_and a b w, bit_at-lt a w, bit_at-lt b w)
@@ -58,17 +34,6 @@ named-is g (Some h) e = ap Some (same-number h g e)
 
 pub number-same : (a b : ℕ) → a ≡ b → (a == b) ≡ true
 number-same a b e = grind (arith, nat_tests)
-
--- nobody may take it: no mark is right
-pub no-mark : (actions : Slots Action) (lets : Option ℕ → Bool) (t : Task) → ((w : ℕ) → Takeable actions lets w t → ⊥) → IsMarkOf actions lets (seen (Some t)) None
-no-mark actions lets t none = record {
-  sound = λ w p e. absurd (false≢true e);
-  whole = λ w s e k. absurd (none w (takes-from actions lets w t s e k));
-}
-
--- what is not seen has no mark
-pub no-mark-seen : (actions : Slots Action) (lets : Option ℕ → Bool) → IsMarkOf actions lets None None
-no-mark-seen actions lets = record { sound = λ w p e. absurd (false≢true e); whole = λ w s e k. absurd (cc) }
 
 -- the mark of a task that is scheduled and may begin: its priority, and the cores in its mask that its job's actions cover
 pub mark-right : (actions : Slots Action) (lets : Option ℕ → Bool) (t : Task) (mask : Mask) (m : Mark) → is_unstarted t ≡ true → lets t.queue ≡ true → Covers actions t.job (Cores mask) → m.priority ≡ t.priority → m.mask.0 ≡ bit_and mask.0 t.cores → IsMarkOf actions lets (seen (Some t)) (Some m)
@@ -101,13 +66,6 @@ mark-right actions lets t mask m u q c priority cores = record {
       | inl on ↦ on
       | inr off ↦ absurd (c.1.uncovered w off some.0 some.1 some.2 some.3)
     ]
-
--- no action may run it
-pub no-action : (actions : Slots Action) (lets : Option ℕ → Bool) (t : Task) → Covers actions t.job NoAction → (w : ℕ) → Takeable actions lets w t → ⊥
-no-action actions lets t c w k = c k.0 k.1 k.2 (and_right _ _ (and_left _ _ k.3.action))
-
-pub none-enabled : (actions : Slots Action) (lets : Option ℕ → Bool) (t : Task) → Covers actions t.job AllDisabled → (w : ℕ) → Takeable actions lets w t → ⊥
-none-enabled actions lets t c w k = c.1 k.0 k.1 k.2 (and_left _ _ k.3.action)
 
 -- Reading the first mark
 
@@ -174,8 +132,3 @@ pub set-set : {X : Type 0} (xs : List X) (i : ℕ) (a b : X) → set (set xs i a
 set-set [] i a b = refl
 set-set (x ∷ xs) zero a b = refl
 set-set (x ∷ xs) (suc i) a b = ap (λ (ys : List _). x ∷ ys) (set-set xs i a b)
-
-pub set-none : (marks : List (Option Mark)) (i : ℕ) → mark_at marks i ≡ None → set marks i None ≡ marks
-set-none [] i e = refl
-set-none (x ∷ xs) zero e = ap (λ (y : Option Mark). y ∷ xs) (sym e)
-set-none (x ∷ xs) (suc i) e = ap (λ (ys : List (Option Mark)). x ∷ ys) (set-none xs i e)

@@ -1,14 +1,7 @@
 -- What each move of the tasks and of the groups keeps of the members.
-use Rattle.std.proofs.Common.{◌≡◌, ◌≢◌, ℕ, ◌+◌, ◌<◌, ◌≤◌, Bool, true, false, cond, List, ◌∷◌, Option, Some, None, refl, sym, ◌∙◌, ap, subst, inl, inr, arith}
-use Rattle.std.specs.Prelude.{◌==◌}
-use Rattle.std.proofs.lemmas.Bool.{false≢true, cases_eq}
-use Rattle.std.proofs.lemmas.Bool.Decides.{eqb_tells, nat_tests}
-use Rattle.group_core.specs.Members.{Members, no_members, with_member, with_ended}
-use Rattle.task_board.specs.Keyed.{AreKeyed}
-use Rattle.task_board.specs.Members.{Membership, unless_ended, start_in, end_in, AreMembers}
+use Rattle.task_board.proofs.Names.{◌≡◌, ◌≢◌, ℕ, ◌+◌, ◌<◌, ◌≤◌, Bool, true, false, cond, List, ◌∷◌, Option, Some, None, refl, sym, ◌∙◌, ap, subst, inl, inr, arith, ◌==◌, false≢true, cases_eq, eqb_tells, nat_tests, Members, no_members, with_member, with_ended, AreKeyed, Membership, unless_ended, start_in, end_in, AreMembers}
 use Rattle.task_board.proofs.SeenLemmas.{some_same}
-use Rattle.task_board.proofs.MoveLemmas.{Put, put-by, put-same, has-self}
-use Rattle.task_board.proofs.KeyedLemmas.{keyed-none, keyed-same, keyed-push, keyed-leave, keyed-first}
+use Rattle.task_board.proofs.KeyedLemmas.{Put, put-by, put-same, has-self, keyed-none, keyed-same, keyed-push, keyed-leave, keyed-first}
 
 none-some : {A : Type 0} {P : Type 0} {x : A} → None ≡ Some x → P
 none-some e = absurd (cc)

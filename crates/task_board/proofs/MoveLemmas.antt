@@ -1,38 +1,9 @@
 -- What is seen after each move of the tasks, and what the move keeps of a board.
-use Rattle.std.proofs.Common.{◌≡◌, ◌≢◌, ℕ, zero, suc, ◌<◌, ◌≤◌, Bool, true, false, cond, List, [], ◌∷◌, ◌++◌, length, length-set, Option, Some, None, set, slice_get, refl, sym, ◌∙◌, ap, subst, inl, inr, arith}
-use Rattle.std.specs.Prelude.{◌==◌, ◌||◌, is_some, is_none}
-use Rattle.std.specs.Option.{option_map}
-use Rattle.std.proofs.lemmas.Bool.{false≢true, cases_eq, cases_Bool}
-use Rattle.std.proofs.lemmas.Bool.Decides.{nat_tests}
-use Rattle.std.proofs.lemmas.List.{get_or-set_same, get_or-set_other}
-use Rattle.mtapi_values.specs.declared.ends.TaskEnd.{TaskEnd}
-use Rattle.mtapi_values.specs.declared.handles.TaskHandle.{TaskHandle}
-use Rattle.mtapi_values.specs.Conditions.{first}
-use Rattle.handle_pool.specs.Slots.{Slots, slot_of, generation_of, used_slot, slot_after, slot_value, max_of, Inserts, with_value, without, put, changed}
-use Rattle.handle_pool.proofs.StandsLemmas.{used_at_live, same_handle}
-use Rattle.handle_pool.proofs.GetLemmas.{get-with_value_same, get-with_value_other, get-insert_same, get-insert_other, get-without_same, get-without_other}
-use Rattle.linked_places.specs.Lists.{list_at, has_handle, without_handle, stands_at}
-use Rattle.linked_places.proofs.HandleLemmas.{stands-has}
-use Rattle.linked_places.proofs.NextLemmas.{index-has}
-use Rattle.ready_index.specs.declared.marks.Mark.{Mark}
-use Rattle.ready_index.specs.Marks.{mark_at, is_for_at}
-use Rattle.mtapi_objects.specs.Actions.{Action}
-use Rattle.mtapi_objects.specs.Tasks.{Task, TaskState, Scheduled, Running, Ended, is_unended, Notes, with_state, with_notes, with_waiter, task_look_refusals, asked_refusals, asked_once}
-use Rattle.task_core.specs.Answers.{after_asked, waiter_after}
-use Rattle.task_core.specs.Table.{TaskTable, ended_in, looked_in}
-use Rattle.task_board.specs.Seen.{Seen, seen_as, seen, seen_in, Takes}
-use Rattle.task_board.specs.Queued.{InOrder, begins_in, AreQueued}
-use Rattle.task_board.specs.Walks.{AreByJob}
-use Rattle.task_board.specs.Board.{BoardTable, IsBoard, IsMarkOf, Marked, AreWaiting, AreRunning, AreRanked, AreStarted, running_on}
-use Rattle.group_core.specs.Members.{GroupTable}
-use Rattle.task_board.specs.Members.{members_in, AreMembers}
+use Rattle.task_board.proofs.Names.{ListsBy, ◌≡◌, ◌≢◌, ℕ, zero, suc, ◌<◌, ◌≤◌, Bool, true, false, cond, List, [], ◌∷◌, ◌++◌, length, length-set, Option, Some, None, set, slice_get, refl, sym, ◌∙◌, ap, subst, inl, inr, arith, ◌==◌, ◌||◌, is_some, is_none, option_map, false≢true, cases_eq, nat_tests, get_or-set_same, get_or-set_other, TaskEnd, TaskHandle, first, Slots, slot_of, generation_of, used_slot, slot_after, slot_value, max_of, Inserts, with_value, without, put, changed, used_at_live, same_handle, get-with_value_same, get-with_value_other, get-insert_same, get-insert_other, get-without_same, get-without_other, list_at, has_handle, without_handle, stands_at, index-has, Mark, mark_at, is_for_at, Action, Task, TaskState, Scheduled, Running, Ended, is_unended, Notes, with_state, with_notes, with_waiter, task_look_refusals, asked_refusals, asked_once, after_asked, waiter_after, TaskTable, ended_in, looked_in, Seen, seen_as, seen, seen_in, InOrder, begins_in, AreQueued, AreByJob, BoardTable, IsBoard, IsMarkOf, Marked, AreWaiting, AreRunning, AreRanked, AreStarted, running_on, GroupTable, members_in, AreMembers}
+use Rattle.task_board.specs.Seen.{Takes}
 use Rattle.task_board.proofs.SeenLemmas.{some_same, seen-live}
-use Rattle.task_board.proofs.MarkLemmas.{same-number}
-
--- the value of one handle has become this, and all else is as it was
-pub record Put {A : Type 0} (at : ℕ → A) (h : ℕ) (x : A) (after : ℕ → A) : Type 0 where
-  pub here : after h ≡ x
-  pub others : (k : ℕ) → k ≢ h → after k ≡ at k
+pub use Rattle.task_board.proofs.KeyedLemmas.{Put, put-by, put-same, has-self}
+use Rattle.task_board.proofs.KeyedLemmas.{lists-push, lists-leave, lists-aside}
 
 -- Sizes
 
@@ -84,10 +55,6 @@ module _ {T : Type 0} where
   pub slot-changed : (p : Slots T) (h : ℕ) (f : T → T) (t : T) → slot_value p h ≡ Some t → Put (slot_value p) h (Some (f t)) (slot_value (changed p h f))
   slot-changed p h f t g = subst (λ (o : Option T). Put (slot_value p) h (Some (f t)) (slot_value (put p h (option_map f o)))) (sym g) (slot-value p h t (f t) g)
 
--- what is read of the values
-pub put-by : {A B : Type 0} (f : A → B) (at after : ℕ → A) (h : ℕ) (x : A) → Put at h x after → Put (λ k. f (at k)) h (f x) (λ k. f (after k))
-put-by f at after h x m = record { here = ap f m.here; others = λ k d. ap f (m.others k d) }
-
 -- What is seen
 
 pub put-value : (p : Slots Task) (h : ℕ) (t u : Task) → slot_value p h ≡ Some t → Put (seen_in p) h (seen (Some u)) (seen_in (with_value p h u))
@@ -108,13 +75,6 @@ put-ended p h e n t g = by_test t.notes.detached
 
 pub put-changed : (p : Slots Task) (h : ℕ) (f : Task → Task) (t : Task) → slot_value p h ≡ Some t → Put (seen_in p) h (seen (Some (f t))) (seen_in (changed p h f))
 put-changed p h f t g = put-by seen (slot_value p) _ h (Some (f t)) (slot-changed p h f t g)
-
--- what was there before is put back
-pub put-same : {A : Type 0} (at after : ℕ → A) (h : ℕ) (x : A) → Put at h x after → x ≡ at h → (k : ℕ) → after k ≡ at k
-put-same at after h x m e k = elim (cases_eq k h) [
-  | inl here ↦ ap after here ∙ m.here ∙ e ∙ ap at (sym here)
-  | inr away ↦ m.others k away
-]
 
 pub seen-changed : (p : Slots Task) (h : ℕ) (f : Task → Task) → ((t : Task) → seen (Some (f t)) ≡ seen (Some t)) → (k : ℕ) → seen_in (changed p h f) k ≡ seen_in p k
 seen-changed p h f same k = by_found (slot_value p h) refl
@@ -282,162 +242,36 @@ started-put at after h x m n move less grows old = record {
 
 -- the waiting tasks
 
-pub has-append : (h : ℕ) (xs ys : List ℕ) → has_handle h (xs ++ ys) ≡ (has_handle h xs || has_handle h ys)
-has-append h [] ys = refl
-has-append h (x ∷ xs) ys = by_test (x == h) (has-append h xs ys)
-  where
-    by_test : (b : Bool) → has_handle h (xs ++ ys) ≡ (has_handle h xs || has_handle h ys) → (b || has_handle h (xs ++ ys)) ≡ ((b || has_handle h xs) || has_handle h ys)
-    by_test true e = refl
-    by_test false e = e
-
-pub or-left : (a b : Bool) → a ≡ true → (a || b) ≡ true
-or-left true b e = refl
-or-left false b e = absurd (false≢true e)
-
 pub or-right : (a b : Bool) → b ≡ true → (a || b) ≡ true
 or-right true b e = refl
 or-right false b e = e
 
-pub or-only : (a b : Bool) → a ≡ false → (a || b) ≡ true → b ≡ true
-or-only false b e f = f
-or-only true b e f = absurd (false≢true (sym e))
-
-pub or-first : (a b : Bool) → b ≡ false → (a || b) ≡ true → a ≡ true
-or-first true b e f = refl
-or-first false b e f = absurd (false≢true (sym e ∙ f))
-
-pub eq-self : (h : ℕ) → (h == h) ≡ true
-eq-self h = grind (arith, nat_tests)
-
-pub eq-other : (h k : ℕ) → k ≢ h → (h == k) ≡ false
-eq-other h k d = grind (arith, nat_tests)
-
--- lists in order
-
-pub has-self : (x : ℕ) (xs : List ℕ) → has_handle x (x ∷ xs) ≡ true
-has-self x xs = or-left (x == x) (has_handle x xs) (eq-self x)
-
--- each task is one of the list that was started with this number
-pub order-starts : (at after : ℕ → Option Seen) (hs : List ℕ) → ((k : ℕ) (s : Seen) → has_handle k hs ≡ true → after k ≡ Some s → (u : Seen) × (at k ≡ Some u) × (u.start ≡ s.start)) → InOrder at hs → InOrder after hs
-order-starts at after [] agree o = tt
-order-starts at after (x ∷ xs) agree o = (
-  λ k s u e f g.
-      let a = agree x s (has-self x xs) f in
-      let b = agree k u (or-right (x == k) _ e) g in
-      omega (arith, o.0 k a.0 b.0 e a.1 b.1, a.2, b.2),
-  order-starts at after xs (λ k s e f. agree k s (or-right (x == k) _ e) f) o.1,
-)
-
-pub order-same : (at after : ℕ → Option Seen) (hs : List ℕ) → ((k : ℕ) → has_handle k hs ≡ true → after k ≡ at k) → InOrder at hs → InOrder after hs
-order-same at after [] agree o = tt
-order-same at after (x ∷ xs) agree o = (
-  λ k s u e f g. o.0 k s u e (sym (agree x (has-self x xs)) ∙ f) (sym (agree k (or-right (x == k) _ e)) ∙ g),
-  order-same at after xs (λ k e. agree k (or-right (x == k) _ e)) o.1,
-)
-
-pub has-sub : (k h : ℕ) (hs : List ℕ) → has_handle k (without_handle h hs) ≡ true → has_handle k hs ≡ true
-has-sub k h [] e = e
-has-sub k h (x ∷ xs) e = by_test (x == h) e (has-sub k h xs)
-  where
-    by_or : (b : Bool) → (b || has_handle k (without_handle h xs)) ≡ true → (has_handle k (without_handle h xs) ≡ true → has_handle k xs ≡ true) → (b || has_handle k xs) ≡ true
-    by_or true f rest = refl
-    by_or false f rest = rest f
-
-    by_test : (b : Bool) → has_handle k (cond b xs (x ∷ without_handle h xs)) ≡ true → (has_handle k (without_handle h xs) ≡ true → has_handle k xs ≡ true) → ((x == k) || has_handle k xs) ≡ true
-    by_test true f rest = or-right (x == k) _ f
-    by_test false f rest = by_or (x == k) f rest
-
-pub order-without : (at : ℕ → Option Seen) (h : ℕ) (hs : List ℕ) → InOrder at hs → InOrder at (without_handle h hs)
-order-without at h [] o = tt
-order-without at h (x ∷ xs) o = by_test (x == h) (order-without at h xs o.1)
-  where
-    by_test : (b : Bool) → InOrder at (without_handle h xs) → InOrder at (cond b xs (x ∷ without_handle h xs))
-    by_test true rest = o.1
-    by_test false rest = (λ k s u e f g. o.0 k s u (has-sub k h xs e) f g, rest)
-
-pub order-push : (at after : ℕ → Option Seen) (h : ℕ) (s : Seen) (hs : List ℕ) → ((k : ℕ) → has_handle k hs ≡ true → after k ≡ at k) → after h ≡ Some s → ((k : ℕ) (u : Seen) → has_handle k hs ≡ true → at k ≡ Some u → u.start < s.start) → InOrder at hs → InOrder after (hs ++ h ∷ [])
-order-push at after h s [] agree here below o = (λ k a u e f g. absurd (false≢true e), tt)
-order-push at after h s (x ∷ xs) agree here below o = (
-  λ k a u e f g. elim (cases_Bool (has_handle k xs)) [
-    | inl on ↦ o.0 k a u on (sym (agree x (has-self x xs)) ∙ f) (sym (agree k (or-right (x == k) _ on)) ∙ g)
-    | inr off ↦
-        let last : (h == k) ≡ true = or-first (h == k) false refl (or-only (has_handle k xs) _ off (sym (has-append k xs (h ∷ [])) ∙ e)) in
-        let same : h ≡ k = same-number h k last in
-        let value : s ≡ u = some_same (sym here ∙ ap after same ∙ g) in
-        subst (λ (z : Seen). a.start < z.start) value (below x a (has-self x xs) (sym (agree x (has-self x xs)) ∙ f))
-  ],
-  order-push at after h s xs (λ k e. agree k (or-right (x == k) _ e)) here (λ k u e f. below k u (or-right (x == k) _ e) f) o.1,
-)
-
-pub waiting-push : (at after : ℕ → Option Seen) (h : ℕ) (s : Seen) (hs : List ℕ) → Put at h (Some s) after → s.on ≡ None → ((k : ℕ) → has_handle k hs ≡ true → k ≢ h) → ((k : ℕ) (u : Seen) → at k ≡ Some u → u.start < s.start) → AreWaiting at hs → AreWaiting after (hs ++ h ∷ [])
-waiting-push at after h s hs move waits apart less old = record {
-  ordered = order-push at after h s hs (λ k e. move.others k (apart k e)) move.here (λ k u e f. less k u f) old.ordered;
-  listed = λ k u e n. elim (cases_eq k h) [
-    | inl here ↦ has-append k hs (h ∷ []) ∙ or-right (has_handle k hs) _ (or-left (h == k) false (ap (λ (z : ℕ). h == z) here ∙ eq-self h))
-    | inr away ↦ has-append k hs (h ∷ []) ∙ or-left (has_handle k hs) _ (old.listed k u (sym (move.others k away) ∙ e) n)
-  ];
-  waits = λ k e. elim (cases_eq k h) [
-    | inl here ↦ (s, ap after here ∙ move.here, waits)
-    | inr away ↦
-        let was = old.waits k (or-first (has_handle k hs) _ (ap (λ (b : Bool). b || false) (eq-other h k away)) (sym (has-append k hs (h ∷ [])) ∙ e)) in
-        (was.0, move.others k away ∙ was.1, was.2)
-  ];
-}
-
-pub has-without : (h k : ℕ) (hs : List ℕ) → k ≢ h → has_handle k (without_handle h hs) ≡ has_handle k hs
-has-without h k [] d = refl
-has-without h k (x ∷ xs) d = by_test (x == h) refl (has-without h k xs d)
-  where
-    by_test : (b : Bool) → (x == h) ≡ b → has_handle k (without_handle h xs) ≡ has_handle k xs → has_handle k (cond b xs (x ∷ without_handle h xs)) ≡ ((x == k) || has_handle k xs)
-    by_test true is e = let off : (x == k) ≡ false = let same : x ≡ h = grind (arith, nat_tests) in eq-other x k (λ z. d (z ∙ same)) in ap (λ (b : Bool). b || has_handle k xs) (sym off)
-    by_test false is e = ap (λ (b : Bool). (x == k) || b) e
-
 -- a place that stands in a list is that of a handle in it
 pub stands-handle : (place : ℕ) (hs : List ℕ) → stands_at place hs ≡ true → (k : ℕ) × (has_handle k hs ≡ true) × (slot_of k ≡ place)
-stands-handle place [] e = absurd (false≢true e)
+stands-handle place [] e = absurd (cc)
 stands-handle place (x ∷ hs) e = by_test (slot_of x == place) refl e (stands-handle place hs)
   where
-    self : (x == x) ≡ true
-    self = grind (arith, nat_tests)
-
-    later : (b : Bool) (k : ℕ) → has_handle k hs ≡ true → (b || has_handle k hs) ≡ true
-    later true k e = refl
-    later false k e = e
-
     by_test : (b : Bool) → (slot_of x == place) ≡ b → (b || stands_at place hs) ≡ true → (stands_at place hs ≡ true → (k : ℕ) × (has_handle k hs ≡ true) × (slot_of k ≡ place)) → (k : ℕ) × (has_handle k (x ∷ hs) ≡ true) × (slot_of k ≡ place)
-    by_test true is e rest = let same : slot_of x ≡ place = grind (arith, nat_tests) in (x, ap (λ (b : Bool). b || has_handle x hs) self, same)
-    by_test false is e rest = let k = rest e in (k.0, later (x == k.0) k.0 k.1, k.2)
+    by_test true is f rest = (x, has-self x hs, grind (arith, nat_tests))
+    by_test false is f rest = let k = rest f in (k.0, or-right (x == k.0) _ k.1, k.2)
 
-not-stands : (h : ℕ) (hs : List ℕ) → stands_at (slot_of h) hs ≡ false → has_handle h hs ≡ true → ⊥
-not-stands h hs off on = false≢true (sym off ∙ stands-has h hs on)
+-- the tasks that haven't begun, as a list of what passes
+waiting-list : (at : ℕ → Option Seen) (hs : List ℕ) → AreWaiting at hs → ListsBy (λ s. s.start) (λ s. s.on ≡ None) at hs
+waiting-list at hs old = record { listed = old.listed; is_seen = old.waits; ordered = old.ordered }
+
+list-waiting : (at : ℕ → Option Seen) (hs : List ℕ) → ListsBy (λ s. s.start) (λ s. s.on ≡ None) at hs → AreWaiting at hs
+list-waiting at hs new = record { listed = new.listed; waits = new.is_seen; ordered = new.ordered }
+
+pub waiting-push : (at after : ℕ → Option Seen) (h : ℕ) (s : Seen) (hs : List ℕ) → Put at h (Some s) after → at h ≡ None → s.on ≡ None → ((k : ℕ) (u : Seen) → at k ≡ Some u → u.start < s.start) → AreWaiting at hs → AreWaiting after (hs ++ h ∷ [])
+waiting-push at after h s hs move none waits less old = list-waiting after _ (lists-push (λ s. s.start) (λ s. s.on ≡ None) at after h s hs move none waits less (waiting-list at hs old))
 
 -- the handle leaves the list
-pub waiting-leave : (at after : ℕ → Option Seen) (h : ℕ) (x : Option Seen) (hs : List ℕ) → Put at h x after → ((s : Seen) → x ≡ Some s → s.on ≡ None → ⊥) → stands_at (slot_of h) (without_handle h hs) ≡ false → AreWaiting at hs → AreWaiting after (without_handle h hs)
-waiting-leave at after h x hs move left off old = record {
-  ordered = order-same at after (without_handle h hs) (λ k e. move.others k (λ is. not-stands h (without_handle h hs) off (ap (λ (z : ℕ). has_handle z (without_handle h hs)) (sym is) ∙ e))) (order-without at h hs old.ordered);
-  listed = λ k u e n. elim (cases_eq k h) [
-    | inl here ↦ absurd (left u (sym move.here ∙ ap after (sym here) ∙ e) n)
-    | inr away ↦ has-without h k hs away ∙ old.listed k u (sym (move.others k away) ∙ e) n
-  ];
-  waits = λ k e. elim (cases_eq k h) [
-    | inl here ↦ absurd (not-stands h (without_handle h hs) off (ap (λ (z : ℕ). has_handle z (without_handle h hs)) (sym here) ∙ e))
-    | inr away ↦ let was = old.waits k (sym (has-without h k hs away) ∙ e) in (was.0, move.others k away ∙ was.1, was.2)
-  ];
-}
+pub waiting-leave : (at after : ℕ → Option Seen) (h : ℕ) (x : Option Seen) (hs : List ℕ) → Put at h x after → ((s : Seen) → x ≡ Some s → s.on ≡ None → ⊥) → AreWaiting at hs → AreWaiting after (without_handle h hs)
+waiting-leave at after h x hs move left old = list-waiting after _ (lists-leave (λ s. s.start) (λ s. s.on ≡ None) at after h x hs move left (waiting-list at hs old))
 
 -- a handle that wasn't in the list
 pub waiting-same : (at after : ℕ → Option Seen) (h : ℕ) (x : Option Seen) (hs : List ℕ) → Put at h x after → ((s : Seen) → at h ≡ Some s → s.on ≡ None → ⊥) → ((s : Seen) → x ≡ Some s → s.on ≡ None → ⊥) → AreWaiting at hs → AreWaiting after hs
-waiting-same at after h x hs move was is old = record {
-  ordered = order-same at after hs (λ k e. move.others k (λ here. let s = old.waits k e in was s.0 (ap at (sym here) ∙ s.1) s.2)) old.ordered;
-  listed = λ k u e n. elim (cases_eq k h) [
-    | inl here ↦ absurd (is u (sym move.here ∙ ap after (sym here) ∙ e) n)
-    | inr away ↦ old.listed k u (sym (move.others k away) ∙ e) n
-  ];
-  waits = λ k e. elim (cases_eq k h) [
-    | inl here ↦ let s = old.waits k e in absurd (was s.0 (ap at (sym here) ∙ s.1) s.2)
-    | inr away ↦ let s = old.waits k e in (s.0, move.others k away ∙ s.1, s.2)
-  ];
-}
+waiting-same at after h x hs move was is old = list-waiting after _ (lists-aside (λ s. s.start) (λ s. s.on ≡ None) at after h x hs move was is (waiting-list at hs old))
 
 -- the running tasks
 
@@ -450,9 +284,6 @@ seat-away r w v o d = get_or-set_other r w v o None d
 none-some : {A : Type 0} (o : Option A) (x : A) → is_some o ≡ false → o ≡ Some x → ⊥
 none-some None x e f = cc
 none-some (Some y) x e f = false≢true (sym e)
-
-handle_of : ℕ → TaskHandle
-handle_of h = record { 0 = h }
 
 -- a task begins on a worker that has none
 pub running-begin : (at after : ℕ → Option Seen) (h w : ℕ) (s : Seen) (r : List (Option TaskHandle)) → Put at h (Some s) after → s.on ≡ Some w → is_some (running_on r w) ≡ false → ((u : Seen) → at h ≡ Some u → u.on ≡ None) → w < length r → AreRunning at r → AreRunning after (set r w (Some (record { 0 = h })))

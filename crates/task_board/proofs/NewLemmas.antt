@@ -1,22 +1,5 @@
 -- A new board.
-use Rattle.std.proofs.Common.{subst, ◌≡◌, ℕ, zero, suc, ◌≤◌, true, List, [], length, replicate, Option, Some, None, refl, sym, ◌∙◌, ap}
-use Rattle.std.specs.Prelude.{slice_index_or, slice_get}
-use Rattle.std.proofs.lemmas.Bool.{false≢true}
-use Rattle.std.proofs.lemmas.List.{length-replicate}
-use Rattle.mtapi_values.specs.declared.handles.TaskHandle.{TaskHandle}
-use Rattle.handle_pool.specs.Slots.{Slot, Slots, slot_of, generation_of, free_slot, value_at, slot_value}
-use Rattle.handle_pool.proofs.StandsLemmas.{get-fresh}
-use Rattle.linked_places.specs.Lists.{list_at, has_handle}
-use Rattle.ready_index.specs.declared.marks.Mark.{Mark}
-use Rattle.ready_index.specs.Marks.{ReadyMarks, mark_at, is_for_at}
-use Rattle.mtapi_objects.specs.Tasks.{Task}
-use Rattle.group_core.specs.Members.{Members}
-use Rattle.task_board.specs.Seen.{seen, seen_in}
-use Rattle.queue_core.specs.Held.{HeldQueue}
-use Rattle.task_board.specs.Queued.{InOrder}
-use Rattle.task_board.specs.Walks.{AreIn, waits_at}
-use Rattle.task_board.specs.Board.{BoardTable, IsBoard, running_on}
-use Rattle.task_board.specs.Members.{membership, members_in}
+use Rattle.task_board.proofs.Names.{subst, ◌≡◌, ℕ, zero, suc, ◌≤◌, true, List, [], length, replicate, Option, Some, None, refl, sym, ◌∙◌, ap, slice_index_or, slice_get, false≢true, length-replicate, TaskHandle, Slot, Slots, slot_of, generation_of, free_slot, value_at, slot_value, get-fresh, list_at, has_handle, Mark, ReadyMarks, mark_at, is_for_at, Task, Members, seen, seen_in, HeldQueue, InOrder, AreIn, waits_at, BoardTable, IsBoard, running_on, membership, members_in}
 
 abbrev nones : {X : Type 0} → ℕ → List (Option X)
 nones n = replicate n None

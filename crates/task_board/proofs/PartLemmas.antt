@@ -1,25 +1,8 @@
 -- What a board keeps where a member leaves its group.
-use Rattle.std.proofs.Common.{◌≡◌, ℕ, Bool, true, false, not, cond, List, [], ◌∷◌, Option, Some, None, Result, Ok, Err, IsSome, slice_get, refl, sym, ◌∙◌, ap, subst, inl, inr}
-use Rattle.std.specs.Prelude.{IfSome, OnOk, ◌==◌, is_none}
-use Rattle.std.proofs.lemmas.Bool.Decides.{eqb_tells}
-use Rattle.mtapi_values.specs.declared.ends.TaskEnd.{TaskEnd}
-use Rattle.mtapi_values.specs.declared.handles.GroupHandle.{GroupHandle}
-use Rattle.mtapi_values.specs.declared.statuses.MtapiStatus.{MtapiStatus}
-use Rattle.mtapi_values.specs.declared.statuses.MtapiStatus.TheVariants.{ErrGroupLimit}
-use Rattle.handle_pool.proofs.GetLemmas.{get-insert_before}
-use Rattle.mtapi_values.specs.Conditions.{holds}
-use Rattle.handle_pool.specs.Slots.{Slots, slot_value, with_value, without, max_of, changed}
-use Rattle.linked_places.specs.Lists.{has_handle}
-use Rattle.mtapi_objects.specs.Tasks.{Task, TaskState, Scheduled, Running, Ended, end_of, is_unended}
-use Rattle.mtapi_objects.specs.Groups.{is_member}
-use Rattle.task_core.specs.Records.{end_in as end_told, number_in}
-use Rattle.task_core.specs.Answers.{without_group}
-use Rattle.task_core.specs.Table.{TaskTable, IsLiveAnd, detached_in}
-use Rattle.group_core.specs.Members.{Members, GroupTable, LiveAreUsed, Creates, delete_reply, no_members, rest_of, first_ended, first_unended, without_first, without_first_unended}
-use Rattle.task_board.specs.Seen.{seen, seen_in}
-use Rattle.task_board.specs.Members.{without_members, Membership, member_as, membership, members_in, AreMembers}
-use Rattle.task_board.specs.Board.{BoardTable, IsBoard}
-use Rattle.task_board.specs.GroupMoves.{Takes, Leaves}
+use Rattle.task_board.proofs.Names.{◌≡◌, ℕ, Bool, true, false, not, cond, List, [], ◌∷◌, Option, Some, None, Result, Ok, Err, IsSome, slice_get, refl, sym, ◌∙◌, ap, subst, inl, inr, IfSome, ◌==◌, is_none, eqb_tells, TaskEnd, GroupHandle, MtapiStatus, ErrGroupLimit, get-insert_before, holds, Slots, slot_value, with_value, without, max_of, changed, has_handle, Task, TaskState, Scheduled, Running, Ended, end_of, is_unended, is_member, number_in, without_group, TaskTable, IsLiveAnd, detached_in, Members, GroupTable, LiveAreUsed, Creates, delete_reply, no_members, rest_of, first_ended, first_unended, without_first, without_first_unended, seen, seen_in, without_members, Membership, member_as, membership, members_in, AreMembers, BoardTable, IsBoard, Leaves}
+use Rattle.std.specs.Prelude.{OnOk}
+use Rattle.task_core.specs.Records.{end_in as end_told}
+use Rattle.task_board.specs.GroupMoves.{Takes}
 use Rattle.task_board.proofs.SeenLemmas.{some_same}
 use Rattle.task_board.proofs.MoveLemmas.{Put, put-by, put-same, put-value, put-without, slot-value, slot-without, slot-insert, slot-changed, max-value, max-without, over-unseen, seen-noted, has-self, regrouped}
 use Rattle.task_board.proofs.MemberLemmas.{start-tells, end-tells, members-take, members-leave, members-create, members-delete}
@@ -50,10 +33,6 @@ unended-first (Some m) h e = record { m = m; rest = rest_of m.unended; live = re
 no-head : (l : List ℕ) → slice_get l 0 ≡ None → l ≡ []
 no-head [] e = refl
 no-head (x ∷ xs) e = none-some (sym e)
-
-pub none-ended : (o : Option Members) (m : Members) → first_ended o ≡ None → o ≡ Some m → m.ended ≡ []
-none-ended None m e is = none-some is
-none-ended (Some x) m e is = ap (λ (z : Members). z.ended) (sym (some_same is)) ∙ no-head x.ended e
 
 pub none-unended : (o : Option Members) (m : Members) → first_unended o ≡ None → o ≡ Some m → m.unended ≡ []
 none-unended None m e is = none-some is

@@ -1,18 +1,8 @@
 -- What each move of the tasks and of the queues keeps of the lists of the queues.
-use Rattle.std.proofs.Common.{◌≡◌, ◌≢◌, ℕ, ◌<◌, Bool, true, false, List, [], ◌∷◌, ◌++◌, Option, Some, None, refl, sym, ◌∙◌, ap, subst, inl, inr, arith}
-use Rattle.std.specs.Prelude.{◌==◌, ◌||◌, ◌&&◌, not, slice_get, if◌then◌else◌}
-use Rattle.std.proofs.lemmas.Bool.{false≢true, cases_eq, cases_Bool}
-use Rattle.mtapi_values.specs.Conditions.{holds}
-use Rattle.handle_pool.specs.Slots.{Slots, slot_value, Inserts, without, changed}
-use Rattle.linked_places.specs.Lists.{has_handle, without_handle}
-use Rattle.queue_core.specs.Held.{HeldQueue, held, with_task, without_task, with_opened}
+use Rattle.task_board.proofs.Names.{nat_tests, ListsBy, ◌≡◌, ◌≢◌, ℕ, ◌<◌, Bool, true, false, List, [], ◌∷◌, ◌++◌, Option, Some, None, refl, sym, ◌∙◌, ap, subst, inl, inr, arith, ◌==◌, ◌||◌, ◌&&◌, not, slice_get, if◌then◌else◌, false≢true, cases_eq, cases_Bool, holds, Slots, slot_value, Inserts, without, changed, has_handle, without_handle, HeldQueue, held, with_task, without_task, with_opened, Queue, Seen, InOrder, begins_in, WasGiven, AreQueued}
 use Rattle.queue_ready.specs.Ready.{is_first, may_begin}
-use Rattle.mtapi_objects.specs.Queues.{Queue}
-use Rattle.task_board.specs.Seen.{Seen}
-use Rattle.task_board.specs.Queued.{InOrder, begins_in, WasGiven, AreQueued}
 use Rattle.task_board.proofs.SeenLemmas.{some_same}
-use Rattle.task_board.proofs.MarkLemmas.{same-number}
-use Rattle.task_board.proofs.MoveLemmas.{Put, has-append, or-left, or-right, or-first, or-only, eq-self, eq-other, has-without, order-same, order-starts, order-without, order-push}
+use Rattle.task_board.proofs.KeyedLemmas.{Put, rises-as, rises-same, lists-push, lists-leave}
 use Rattle.task_board.proofs.GivenLemmas.{PutQueue, put-queue_changed, put-queue_insert, put-queue_without, given-live, given-changed, given-insert, given-new, given-without}
 
 none-some : {A : Type 0} {P : Type 0} {x : A} → None ≡ Some x → P
@@ -35,7 +25,7 @@ queued-put at after h x queues n move same live given old = record {
     | inl here ↦ let s = (same q y g).there (ap (λ (z : ℕ). has_handle z y.tasks) (sym here) ∙ e) in (s.0, ap after here ∙ move.here ∙ s.1, s.2, s.3)
     | inr away ↦ let s = old.names k q y g e in (s.0, move.others k away ∙ s.1, s.2, s.3)
   ];
-  ordered = λ q y g. order-starts at after y.tasks
+  ordered = λ q y g. rises-as (λ s. s.start) at after y.tasks
       (λ k u e is. elim (cases_eq k h) [
         | inl here ↦
             let s = (same q y g).there (ap (λ (z : ℕ). has_handle z y.tasks) (sym here) ∙ e) in
@@ -89,13 +79,25 @@ queued-out at after h queues n move out old =
 
 -- One task moves, and the list of its queue with it
 
+-- the list of a live queue
+list-in : (at : ℕ → Option Seen) (q : ℕ) (old : Slots HeldQueue) (n : ℕ) (v : HeldQueue) → AreQueued at old n → slot_value old q ≡ Some v → ListsBy (λ s. s.start) (λ s. s.queue ≡ Some q) at v.tasks
+list-in at q old n v k was = record {
+  listed = λ j s e f. k.listed j q s v e f was;
+  is_seen = λ j e. let s = k.names j q v was e in (s.0, s.1, s.2);
+  ordered = k.ordered q v was;
+}
+
+of-job-in : (at : ℕ → Option Seen) (q : ℕ) (s : Seen) (old : Slots HeldQueue) (n : ℕ) (v : HeldQueue) (j : ℕ) → AreQueued at old n → slot_value old q ≡ Some v → at j ≡ Some s → s.queue ≡ Some q → s.job ≡ v.queue.job
+of-job-in at q s old n v j k was e f =
+    let u = k.names j q v was (k.listed j q s v e f was) in
+    ap (λ (z : Seen). z.job) (some_same (sym e ∙ u.1)) ∙ u.3
+
 -- the lists of all other queues, and what they say
 module _ (at after : ℕ → Option Seen) (h q : ℕ) (x : Option Seen) (old new : Slots HeldQueue) (n : ℕ) (v y : HeldQueue) (move : Put at h x after) (turn : PutQueue old q (Some y) new) (was : slot_value old q ≡ Some v) (same : y.queue ≡ v.queue) (k : AreQueued at old n) where
   -- the queue of another handle
   pub record Lists : Type 0 where
-    pub listed : (j : ℕ) (s : Seen) → after j ≡ Some s → s.queue ≡ Some q → has_handle j y.tasks ≡ true
-    pub names : (j : ℕ) → has_handle j y.tasks ≡ true → (s : Seen) × (after j ≡ Some s) × (s.queue ≡ Some q) × (s.job ≡ v.queue.job)
-    pub ordered : InOrder after y.tasks
+    pub list : ListsBy (λ s. s.start) (λ s. s.queue ≡ Some q) after y.tasks
+    pub job : (s : Seen) → x ≡ Some s → s.job ≡ v.queue.job
     pub apart : (p : ℕ) (z : HeldQueue) → p ≢ q → slot_value old p ≡ Some z → has_handle h z.tasks ≡ false
     pub only : (s : Seen) (p : ℕ) → x ≡ Some s → s.queue ≡ Some p → p ≡ q
     pub given : (p : ℕ) → WasGiven old p → WasGiven new p
@@ -105,7 +107,7 @@ module _ (at after : ℕ → Option Seen) (h q : ℕ) (x : Option Seen) (old new
     listed = λ j p s z e f g. elim (cases_eq p q) [
       | inl here ↦
           let is : y ≡ z = some_same (sym turn.here ∙ ap (slot_value new) (sym here) ∙ g) in
-          ap (λ (u : HeldQueue). has_handle j u.tasks) (sym is) ∙ l.listed j s e (f ∙ ap Some here)
+          ap (λ (u : HeldQueue). has_handle j u.tasks) (sym is) ∙ l.list.listed j s e (f ∙ ap Some here)
       | inr away ↦ elim (cases_eq j h) [
         | inl too ↦ absurd (away (l.only s p (sym move.here ∙ ap after (sym too) ∙ e) f))
         | inr other ↦ k.listed j p s z (sym (move.others j other) ∙ e) f (sym (turn.others p away) ∙ g)
@@ -114,8 +116,12 @@ module _ (at after : ℕ → Option Seen) (h q : ℕ) (x : Option Seen) (old new
     names = λ j p z g e. elim (cases_eq p q) [
       | inl here ↦
           let is : y ≡ z = some_same (sym turn.here ∙ ap (slot_value new) (sym here) ∙ g) in
-          let s = l.names j (ap (λ (u : HeldQueue). has_handle j u.tasks) is ∙ e) in
-          (s.0, s.1, s.2 ∙ ap Some (sym here), s.3 ∙ ap (λ (u : Queue). u.job) (sym same) ∙ ap (λ (u : HeldQueue). u.queue.job) is)
+          let s = l.list.is_seen j (ap (λ (u : HeldQueue). has_handle j u.tasks) is ∙ e) in
+          let job : s.0.job ≡ v.queue.job = elim (cases_eq j h) [
+            | inl too ↦ l.job s.0 (sym move.here ∙ ap after (sym too) ∙ s.1)
+            | inr other ↦ of-job-in at q s.0 old n v j k was (sym (move.others j other) ∙ s.1) s.2
+          ] in
+          (s.0, s.1, s.2 ∙ ap Some (sym here), job ∙ ap (λ (u : Queue). u.job) (sym same) ∙ ap (λ (u : HeldQueue). u.queue.job) is)
       | inr away ↦
           let there = sym (turn.others p away) ∙ g in
           elim (cases_eq j h) [
@@ -124,10 +130,10 @@ module _ (at after : ℕ → Option Seen) (h q : ℕ) (x : Option Seen) (old new
           ]
     ];
     ordered = λ p z g. elim (cases_eq p q) [
-      | inl here ↦ subst (λ (u : HeldQueue). InOrder after u.tasks) (some_same (sym turn.here ∙ ap (slot_value new) (sym here) ∙ g)) l.ordered
+      | inl here ↦ subst (λ (u : HeldQueue). InOrder after u.tasks) (some_same (sym turn.here ∙ ap (slot_value new) (sym here) ∙ g)) l.list.ordered
       | inr away ↦
           let there = sym (turn.others p away) ∙ g in
-          order-same at after z.tasks (λ j e. move.others j (λ too. false≢true (sym (l.apart p z away there) ∙ ap (λ (i : ℕ). has_handle i z.tasks) (sym too) ∙ e))) (k.ordered p z there)
+          rises-same (λ s. s.start) at after z.tasks (λ j e. move.others j (λ too. false≢true (sym (l.apart p z away there) ∙ ap (λ (i : ℕ). has_handle i z.tasks) (sym too) ∙ e))) (k.ordered p z there)
     ];
     live = λ j p s e o f. elim (cases_eq p q) [
       | inl here ↦ (_, ap (slot_value new) here ∙ turn.here)
@@ -152,17 +158,8 @@ module _ (at after : ℕ → Option Seen) (h q : ℕ) (x : Option Seen) (old new
 pub queued-enqueue : (at after : ℕ → Option Seen) (h q : ℕ) (s : Seen) (old : Slots HeldQueue) (n : ℕ) (v : HeldQueue) → Put at h (Some s) after → at h ≡ None → slot_value old q ≡ Some v → s.queue ≡ Some q → s.job ≡ v.queue.job → ((j : ℕ) (u : Seen) → at j ≡ Some u → u.start < s.start) → AreQueued at old n → AreQueued after (changed old q (with_task h)) n
 queued-enqueue at after h q s old n v move none was queue job last k =
     queued-turn at after h q (Some s) old (changed old q (with_task h)) n v (with_task h v) move (put-queue_changed old q (with_task h) v was) was refl k (record {
-      listed = λ j u e f. elim (cases_eq j h) [
-        | inl here ↦ has-append j v.tasks (h ∷ []) ∙ or-right (has_handle j v.tasks) _ (or-left (h == j) false (ap (λ (z : ℕ). h == z) here ∙ eq-self h))
-        | inr away ↦ has-append j v.tasks (h ∷ []) ∙ or-left (has_handle j v.tasks) _ (k.listed j q u v (sym (move.others j away) ∙ e) f was)
-      ];
-      names = λ j e. elim (cases_eq j h) [
-        | inl here ↦ (s, ap after here ∙ move.here, queue, job)
-        | inr away ↦
-            let u = k.names j q v was (or-first (has_handle j v.tasks) _ (ap (λ (b : Bool). b || false) (eq-other h j away)) (sym (has-append j v.tasks (h ∷ [])) ∙ e)) in
-            (u.0, move.others j away ∙ u.1, u.2, u.3)
-      ];
-      ordered = order-push at after h s v.tasks (λ j e. move.others j (λ too. apart q v was (ap (λ (i : ℕ). has_handle i v.tasks) (sym too) ∙ e))) move.here (λ j u e f. last j u f) (k.ordered q v was);
+      list = lists-push (λ s. s.start) (λ s. s.queue ≡ Some q) at after h s v.tasks move none queue last (list-in at q old n v k was);
+      job = λ u e. ap (λ (z : Seen). z.job) (sym (some_same e)) ∙ job;
       apart = λ p z away there. elim (cases_Bool (has_handle h z.tasks)) [
         | inl on ↦ absurd (apart p z there on)
         | inr off ↦ off
@@ -178,15 +175,8 @@ queued-enqueue at after h q s old n v move none was queue job last k =
 pub queued-leave : (at after : ℕ → Option Seen) (h q : ℕ) (s : Seen) (old : Slots HeldQueue) (n : ℕ) (v : HeldQueue) → Put at h None after → at h ≡ Some s → slot_value old q ≡ Some v → s.queue ≡ Some q → AreQueued at old n → AreQueued after (changed old q (without_task h)) n
 queued-leave at after h q s old n v move seen was queue k =
     queued-turn at after h q None old (changed old q (without_task h)) n v (without_task h v) move (put-queue_changed old q (without_task h) v was) was refl k (record {
-      listed = λ j u e f. elim (cases_eq j h) [
-        | inl here ↦ none-some (sym move.here ∙ ap after (sym here) ∙ e)
-        | inr away ↦ has-without h j v.tasks away ∙ k.listed j q u v (sym (move.others j away) ∙ e) f was
-      ];
-      names = λ j e.
-          let away : j ≢ h = λ here. left-out at h s v.tasks seen (k.ordered q v was) (ap (λ (i : ℕ). has_handle i (without_handle h v.tasks)) (sym here) ∙ e) in
-          let u = k.names j q v was (sym (has-without h j v.tasks away) ∙ e) in
-          (u.0, move.others j away ∙ u.1, u.2, u.3);
-      ordered = order-same at after (without_handle h v.tasks) (λ j e. move.others j (λ here. left-out at h s v.tasks seen (k.ordered q v was) (ap (λ (i : ℕ). has_handle i (without_handle h v.tasks)) (sym here) ∙ e))) (order-without at h v.tasks (k.ordered q v was));
+      list = lists-leave (λ s. s.start) (λ s. s.queue ≡ Some q) at after h None v.tasks move (λ u e f. none-some e) (list-in at q old n v k was);
+      job = λ u e. none-some e;
       apart = λ p z away there. elim (cases_Bool (has_handle h z.tasks)) [
         | inl on ↦
             let u = k.names h p z there on in
@@ -197,18 +187,6 @@ queued-leave at after h q s old n v move seen was queue k =
       only = λ u p e f. none-some e;
       given = λ p g. given-changed old q p (without_task h) v was g;
     })
-  where
-    -- a list in order has a handle once
-    left-out : (at : ℕ → Option Seen) (h : ℕ) (s : Seen) (hs : List ℕ) → at h ≡ Some s → InOrder at hs → has_handle h (without_handle h hs) ≡ true → ⊥
-    left-out at h s [] e o f = false≢true f
-    left-out at h s (a ∷ hs) e o f = by_test (a == h) refl f (left-out at h s hs e o.1)
-      where
-        less : s.start < s.start → ⊥
-        less l = omega (arith, l)
-
-        by_test : (b : Bool) → (a == h) ≡ b → has_handle h (if b then hs else a ∷ without_handle h hs) ≡ true → (has_handle h (without_handle h hs) ≡ true → ⊥) → ⊥
-        by_test true is g rest = let same : a ≡ h = same-number a h is in less (o.0 h s s g (ap at same ∙ e) e)
-        by_test false is g rest = rest (or-only (a == h) _ is g)
 
 -- A queue changes, and no task does
 
@@ -313,7 +291,7 @@ begins-list old new h q v y a b same first =
     ∙ ap (λ (o : Option HeldQueue). holds (λ (x : HeldQueue). may_begin h x.queue x.tasks) o) (sym a)
 
 first-push : (h k : ℕ) (hs : List ℕ) → k ≢ h → is_first k (hs ++ h ∷ []) ≡ is_first k hs
-first-push h k [] d = eq-other h k d
+first-push h k [] d = grind (arith, nat_tests)
 first-push h k (a ∷ hs) d = refl
 
 first-leave : (h k : ℕ) (hs : List ℕ) → k ≢ h → ((j : ℕ) → slice_get (without_handle h hs) 0 ≡ Some j → k ≢ j) → is_first k (without_handle h hs) ≡ is_first k hs
@@ -322,10 +300,10 @@ first-leave h k (a ∷ hs) d e = by_test (a == h) refl e
   where
     away : (l : List ℕ) → ((j : ℕ) → slice_get l 0 ≡ Some j → k ≢ j) → is_first k l ≡ false
     away [] f = refl
-    away (b ∷ l) f = eq-other b k (f b refl)
+    away (b ∷ l) f = let apart = f b refl in grind (arith, nat_tests)
 
     by_test : (b : Bool) → (a == h) ≡ b → ((j : ℕ) → slice_get (if b then hs else a ∷ without_handle h hs) 0 ≡ Some j → k ≢ j) → is_first k (if b then hs else a ∷ without_handle h hs) ≡ (a == k)
-    by_test true is f = away hs f ∙ sym (eq-other a k (λ z. d (z ∙ same-number a h is)))
+    by_test true is f = away hs f ∙ grind (arith, nat_tests)
     by_test false is f = refl
 
 pub begins-enqueue : (old : Slots HeldQueue) (h q k p : ℕ) (v : HeldQueue) → slot_value old q ≡ Some v → k ≢ h → begins_in (changed old q (with_task h)) k (Some p) ≡ begins_in old k (Some p)

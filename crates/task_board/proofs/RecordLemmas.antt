@@ -1,15 +1,5 @@
 -- The records of the queues stay where only their tasks change.
-use Rattle.std.proofs.Common.{◌≡◌, ℕ, Bool, true, false, List, Option, Some, None, set, slice_get, map, refl, ◌∙◌, ap}
-use Rattle.std.specs.Option.{option_map}
-use Rattle.std.proofs.lemmas.Option.{slice_get-map}
-use Rattle.handle_pool.specs.Slots.{Slot, Slots, slot_of, generation_of, used_slot, slot_value, put, changed}
-use Rattle.handle_pool.proofs.ListReads.{set-same}
-use Rattle.handle_pool.proofs.StandsLemmas.{used_at_live}
-use Rattle.mtapi_objects.specs.Queues.{Queue}
-use Rattle.queue_core.specs.Held.{HeldQueue, AreRetiredEmpty, without_task}
-use Rattle.task_board.specs.Mapped.{mapped_slot}
-use Rattle.task_board.specs.Queued.{left_queue}
-use Rattle.task_board.specs.Board.{records_of}
+use Rattle.task_board.proofs.Names.{◌≡◌, ℕ, Bool, true, false, List, Option, Some, None, set, slice_get, map, refl, ◌∙◌, ap, option_map, slice_get-map, Slot, Slots, slot_of, generation_of, used_slot, slot_value, put, changed, set-same, used_at_live, Queue, HeldQueue, AreRetiredEmpty, without_task, mapped_slot, left_queue, records_of}
 use Rattle.task_board.proofs.MappedLemmas.{mapped-with_value}
 
 -- a slot in use that hasn't retired

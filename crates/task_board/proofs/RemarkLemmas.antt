@@ -1,26 +1,6 @@
 -- Marks made anew for the waiting tasks of one job.
-use Rattle.std.proofs.Common.{◌≡◌, ◌≢◌, ◌⊎◌, ℕ, zero, suc, ◌<◌, ◌+◌, Bool, true, List, [], ◌∷◌, length, length-set, Option, Some, None, set, slice_get, refl, sym, ◌∙◌, ap, subst, inl, inr, arith}
-use Rattle.std.specs.Prelude.{◌==◌}
-use Rattle.std.proofs.lemmas.Bool.{cases_eq, cases_Bool}
-use Rattle.std.proofs.lemmas.List.{get_or-set_same, get_or-set_other}
-use Rattle.std.proofs.lemmas.Option.{slice_get_within}
-use Rattle.mtapi_values.specs.declared.kinds.Kind.{Kind}
-use Rattle.handle_pool.specs.Slots.{Slots, slot_of, slot_value, max_of, Inserts, changed, put, with_value, without}
-use Rattle.handle_pool.proofs.WalkLemmas.{slot_of-live}
-use Rattle.handle_pool.proofs.GetLemmas.{get-with_value_same, get-with_value_other, get-insert_same, get-insert_before, get-insert_other, get-without_same, get-without_other}
-use Rattle.std.specs.Option.{option_map}
-use Rattle.linked_places.specs.Lists.{has_handle}
-use Rattle.linked_places.proofs.NextLemmas.{has-index, index-has}
-use Rattle.ready_index.specs.declared.marks.Mark.{Mark}
-use Rattle.ready_index.specs.Marks.{ReadyMarks, mark_at, is_for_at}
-use Rattle.mtapi_objects.specs.Actions.{Action, has_enabled_job, new_action, with_enabled}
-use Rattle.handle_pool.specs.Walks.{SomeLive}
-use Rattle.mtapi_values.specs.Masks.{in_mask}
-use Rattle.job_table.specs.Answers.{runs_job_on, IsUnion, Passes}
-use Rattle.mtapi_objects.specs.Tasks.{Task}
-use Rattle.task_board.specs.Seen.{Seen, seen_in, Takes}
-use Rattle.task_board.specs.Walks.{AreSeen}
-use Rattle.task_board.specs.Board.{IsMarkOf, Marked, IsFresh, IsFreshFor, StandsBefore, Remarked}
+use Rattle.task_board.proofs.Names.{◌≡◌, ◌≢◌, ◌⊎◌, ℕ, zero, suc, ◌<◌, ◌+◌, Bool, true, List, [], ◌∷◌, length, length-set, Option, Some, None, set, slice_get, refl, sym, ◌∙◌, ap, subst, inl, inr, arith, ◌==◌, cases_eq, cases_Bool, get_or-set_same, get_or-set_other, slice_get_within, Kind, Slots, slot_of, slot_value, max_of, Inserts, changed, put, with_value, without, slot_of-live, get-with_value_same, get-with_value_other, get-insert_same, get-insert_before, get-insert_other, get-without_same, get-without_other, option_map, has_handle, has-index, index-has, Mark, ReadyMarks, mark_at, is_for_at, Action, has_enabled_job, new_action, with_enabled, SomeLive, in_mask, runs_job_on, IsUnion, Passes, Task, Seen, seen_in, AreSeen, IsMarkOf, Marked, IsFresh, IsFreshFor, StandsBefore, Remarked}
+use Rattle.task_board.specs.Seen.{Takes}
 use Rattle.task_board.proofs.SeenLemmas.{some_same, seen-live}
 use Rattle.task_board.proofs.MarkLemmas.{and_left, and_right, same-number}
 use Rattle.task_board.proofs.MoveLemmas.{alone}

@@ -1,16 +1,5 @@
 -- The running tasks, as their slots show them.
-use Rattle.std.proofs.Common.{◌≡◌, ℕ, Bool, true, false, Option, Some, None, refl, sym, ◌∙◌, ap, arith}
-use Rattle.std.specs.Prelude.{◌==◌, is_some}
-use Rattle.std.specs.Bool.{OnTrue, OnFalse}
-use Rattle.std.proofs.lemmas.Bool.{false≢true}
-use Rattle.std.proofs.lemmas.Bool.Decides.{nat_tests}
-use Rattle.mtapi_values.specs.declared.handles.TaskHandle.{TaskHandle}
-use Rattle.handle_pool.specs.Slots.{slot_value}
-use Rattle.handle_pool.specs.Walks.{SomeLive, NoneLive}
-use Rattle.job_table.specs.Answers.{Passes}
-use Rattle.mtapi_objects.specs.Tasks.{Task, TaskState, Scheduled, Running, Ended, runs_on, with_state}
-use Rattle.task_board.specs.Seen.{Seen, seen_as, seen}
-use Rattle.task_board.specs.Board.{BoardTable, IsBoard, running_on}
+use Rattle.task_board.proofs.Names.{◌≡◌, ℕ, Bool, true, false, Option, Some, None, refl, sym, ◌∙◌, ap, arith, ◌==◌, is_some, OnTrue, OnFalse, false≢true, nat_tests, TaskHandle, slot_value, SomeLive, NoneLive, Passes, Task, TaskState, Scheduled, Running, Ended, runs_on, with_state, Seen, seen_as, seen, BoardTable, IsBoard, running_on}
 use Rattle.task_board.proofs.SeenLemmas.{seen-as, seen-live}
 
 pub self : (w : ℕ) → (w == w) ≡ true

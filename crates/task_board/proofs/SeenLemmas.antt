@@ -1,17 +1,6 @@
 -- What is seen of a task, and which tasks a worker may take.
-use Rattle.std.proofs.Common.{◌≡◌, ℕ, Bool, true, Option, Some, None, refl, sym, ◌∙◌, ap, subst}
-use Rattle.std.proofs.lemmas.Bool.{false≢true}
-use Rattle.mtapi_values.specs.Masks.{in_mask}
-use Rattle.mtapi_values.specs.Conditions.{holds}
-use Rattle.std.specs.Prelude.{◌==◌, ◌<◌, IfSome}
-use Rattle.ready_index.specs.declared.marks.Mark.{Mark}
-use Rattle.task_board.specs.Board.{AreRanked}
-use Rattle.handle_pool.specs.Slots.{Slots, slot_value}
-use Rattle.mtapi_objects.specs.Actions.{Action}
-use Rattle.job_table.specs.Answers.{runs_job_on}
-use Rattle.mtapi_objects.specs.Tasks.{Task, TaskState, Scheduled, Running, Ended, scheduled, runner, is_unstarted}
-use Rattle.task_board.specs.Picks.{Takeable}
-use Rattle.task_board.specs.Seen.{Seen, seen_as, seen, seen_in, Takes}
+use Rattle.task_board.proofs.Names.{◌≡◌, ℕ, Bool, true, Option, Some, None, refl, sym, ◌∙◌, ap, subst, false≢true, in_mask, holds, ◌==◌, ◌<◌, IfSome, Mark, AreRanked, Slots, slot_value, Action, runs_job_on, Task, TaskState, Scheduled, Running, Ended, scheduled, runner, is_unstarted, Takeable, Seen, seen_as, seen, seen_in}
+use Rattle.task_board.specs.Seen.{Takes}
 
 pub some_same : {A : Type 0} {a b : A} → Some a ≡ Some b → a ≡ b
 some_same h = cc

@@ -1,25 +1,7 @@
 -- What each move of the tasks is for the members.
-use Rattle.std.proofs.Common.{◌≡◌, ℕ, ◌+◌, Bool, true, false, cond, List, [], ◌∷◌, Option, Some, None, IsSome, slice_get, refl, sym, ◌∙◌, ap, subst, inl, inr, arith}
-use Rattle.std.specs.Prelude.{IfSome, is_some, is_none}
-use Rattle.std.specs.Option.{option_map}
-use Rattle.std.proofs.lemmas.Bool.{false≢true, cases_Bool}
-use Rattle.mtapi_values.specs.declared.ends.TaskEnd.{TaskEnd}
-use Rattle.mtapi_values.specs.declared.kinds.Kind.{Kind}
-use Rattle.mtapi_values.specs.Conditions.{first}
+use Rattle.task_board.proofs.Names.{◌≡◌, ℕ, ◌+◌, Bool, true, false, cond, List, [], ◌∷◌, Option, Some, None, IsSome, slice_get, refl, sym, ◌∙◌, ap, subst, inl, inr, arith, IfSome, is_some, is_none, option_map, false≢true, cases_Bool, TaskEnd, Kind, first, GroupHandle, ErrWaitPending, Slots, slot_of, generation_of, free_slot, slot_value, value_at, Inserts, with_value, without, put, changed, value_at-none, has_handle, stands_at, Task, TaskState, Scheduled, Running, Ended, NewTask, new_task, Notes, is_unended, end_of, with_state, with_notes, with_tally, with_waiter, cancel_requested, asked_once, asked_refusals, task_look_refusals, group_number, number_in, notes_of, tallied, after_asked, waiter_after, ended_in, looked_in, Members, GroupTable, with_member, with_ended, NoMemberAt, IsUnendedMember, Membership, start_in, member_as, membership, members_in, AreMembers, MayJoin, joined, ended_member}
 use Rattle.mtapi_values.specs.Seats.{is_other}
-use Rattle.mtapi_values.specs.declared.handles.GroupHandle.{GroupHandle}
-use Rattle.mtapi_values.specs.declared.statuses.MtapiStatus.TheVariants.{ErrWaitPending}
-use Rattle.handle_pool.specs.Slots.{Slots, slot_of, generation_of, free_slot, slot_value, value_at, Inserts, with_value, without, put, changed}
-use Rattle.handle_pool.proofs.StandsLemmas.{value_at-none}
-use Rattle.linked_places.specs.Lists.{has_handle, stands_at}
-use Rattle.mtapi_objects.specs.Tasks.{Task, TaskState, Scheduled, Running, Ended, NewTask, new_task, Notes, is_unended, end_of, with_state, with_notes, with_tally, with_waiter, cancel_requested, asked_once, asked_refusals, task_look_refusals}
-use Rattle.task_core.specs.Records.{group_number, number_in}
 use Rattle.task_core.specs.declared.tallies.TallyState.{TallyState}
-use Rattle.task_core.specs.Tallies.{notes_of, tallied}
-use Rattle.task_core.specs.Answers.{after_asked, waiter_after}
-use Rattle.task_core.specs.Table.{ended_in, looked_in}
-use Rattle.group_core.specs.Members.{Members, GroupTable, with_member, with_ended, NoMemberAt, IsUnendedMember}
-use Rattle.task_board.specs.Members.{Membership, start_in, member_as, membership, members_in, AreMembers, MayJoin, joined, ended_member}
 use Rattle.task_board.proofs.MoveLemmas.{Put, put-by, put-same, slot-value, slot-without, slot-insert, slot-changed, stands-handle, or-right}
 use Rattle.task_board.proofs.MemberLemmas.{start-here, start-tells, end-tells, members-same, members-enter, members-end}
 
@@ -77,13 +59,6 @@ member-looked p h who last (Some t) g k = by_tests (first (task_look_refusals wh
     by_tests None e false = put-same (members_in p) _ h None (put-by membership (slot_value p) _ h None (slot-without p h t g)) (sym (ap membership g ∙ ap (member_as t) (not-member who t t.notes.group refl e))) k
 
 -- Starting
-
-member-live : (p : Slots Task) (k : ℕ) (e : Membership) → members_in p k ≡ Some e → (t : Task) × (slot_value p k ≡ Some t) × (membership (Some t) ≡ Some e)
-member-live p k e f = by_found (slot_value p k) refl f
-  where
-    by_found : (o : Option Task) → slot_value p k ≡ o → membership o ≡ Some e → (t : Task) × (slot_value p k ≡ Some t) × (membership (Some t) ≡ Some e)
-    by_found None g f = none-some f
-    by_found (Some t) g f = (t, g, f)
 
 -- no member has a slot that was free
 pub no-member : (p q : Slots Task) (h : ℕ) (t : Task) (groups : Slots Members) (starts ends : ℕ) → AreMembers (members_in p) (slot_value groups) starts ends → Inserts p q h t → NoMemberAt (slot_of h) groups

@@ -1,26 +1,9 @@
 -- What the lists of walks have, and that tasks end alike along two lists which have the same of those that pass.
-use Rattle.std.proofs.Common.{◌≡◌, ◌≢◌, ℕ, Bool, true, false, cond, List, [], ◌∷◌, length, Option, Some, None, refl, sym, ◌∙◌, ap, subst, arith}
-use Rattle.std.specs.Prelude.{◌==◌, ◌||◌, ◌&&◌, ◌%◌, is_none, is_some, if◌then◌else◌}
-use Rattle.std.specs.Option.{option_map}
-use Rattle.std.proofs.lemmas.Bool.{false≢true}
-use Rattle.mtapi_values.specs.declared.ends.TaskEnd.{TaskEnd}
-use Rattle.mtapi_values.specs.Conditions.{holds}
-use Rattle.handle_pool.specs.Slots.{Slots, slot_value, with_value, without}
-use Rattle.linked_places.specs.Lists.{has_handle}
-use Rattle.mtapi_objects.specs.Tasks.{Task, Ended, with_state}
-use Rattle.queue_core.specs.Held.{HeldQueue, tasks_of}
-use Rattle.task_core.specs.Table.{TaskTable, ended_in}
-use Rattle.task_board.specs.declared.walks.Walk.{Walk}
-use Rattle.task_board.specs.declared.walks.Walk.TheVariants.{Waiting, OfJob, Queued}
-use Rattle.task_board.specs.Seen.{Seen, seen_in}
-use Rattle.task_board.specs.Queued.{InOrder}
-use Rattle.task_board.specs.Walks.{walked, AreIn, waits_at, is_walked}
-use Rattle.task_board.specs.Board.{BoardTable, IsBoard, records_of}
-use Rattle.task_board.specs.Ends.{ended_next, ended_each}
-use Rattle.task_board.proofs.MarkLemmas.{and_left, and_right, same-number, named-is}
+use Rattle.task_board.proofs.Names.{◌≡◌, ◌≢◌, ℕ, Bool, true, false, cond, List, [], ◌∷◌, length, Option, Some, None, refl, sym, ◌∙◌, ap, subst, arith, ◌==◌, ◌&&◌, ◌%◌, is_none, is_some, if◌then◌else◌, option_map, false≢true, TaskEnd, holds, Slots, slot_value, with_value, without, has_handle, Task, Ended, with_state, HeldQueue, tasks_of, TaskTable, ended_in, Walk, Waiting, OfJob, Queued, Seen, seen_in, InOrder, walked, AreIn, waits_at, is_walked, BoardTable, IsBoard, records_of, ended_next, ended_each}
+use Rattle.task_board.proofs.MarkLemmas.{and_left, and_right, same-number, number-same, named-is}
 use Rattle.task_board.proofs.MappedLemmas.{value-mapped}
-use Rattle.task_board.proofs.MoveLemmas.{slot-value, slot-without, or-left, or-right, eq-self, has-self}
-use Rattle.task_board.proofs.OrderLemmas.{not-twice, same-order}
+use Rattle.task_board.proofs.KeyedLemmas.{has-self, has-later, not-twice, same-order}
+use Rattle.task_board.proofs.MoveLemmas.{slot-value, slot-without}
 
 -- the list of a walk
 abbrev pub list_of : Walk → BoardTable → List ℕ
@@ -57,7 +40,7 @@ walk-are b (Queued q) k = by_found (slot_value b.queues.pool q.0) refl
       listed = λ h s f m. k.queued.listed h q.0 s x f (named-is q.0 s.queue (and_right live _ m)) e;
       is_seen = λ h f.
           let s = k.queued.names h q.0 x e f in
-          (s.0, s.1, (λ i. is_live (Some x) e i && holds (λ j. j == q.0) (s.2 i)) ∙ eq-self q.0);
+          (s.0, s.1, (λ i. is_live (Some x) e i && holds (λ j. j == q.0) (s.2 i)) ∙ number-same q.0 q.0 refl);
       ordered = k.queued.ordered q.0 x e;
     })
 
@@ -71,27 +54,19 @@ chosen-from : (f : ℕ → Bool) (k : ℕ) (hs : List ℕ) → has_handle k (cho
 chosen-from f k [] e = absurd (false≢true e)
 chosen-from f k (h ∷ hs) e = by_test (f h) refl e (chosen-from f k hs)
   where
-    by_handle : (b : Bool) → (h == k) ≡ b → f h ≡ true → (b || has_handle k (chosen f hs)) ≡ true → (has_handle k (chosen f hs) ≡ true → (has_handle k hs ≡ true) × (f k ≡ true)) → ((b || has_handle k hs) ≡ true) × (f k ≡ true)
-    by_handle true is p g rest = (refl, ap f (sym (same-number h k is)) ∙ p)
-    by_handle false is p g rest = rest g
-
     by_test : (b : Bool) → f h ≡ b → has_handle k (if b then h ∷ chosen f hs else chosen f hs) ≡ true → (has_handle k (chosen f hs) ≡ true → (has_handle k hs ≡ true) × (f k ≡ true)) → (has_handle k (h ∷ hs) ≡ true) × (f k ≡ true)
-    by_test true p g rest = by_handle (h == k) refl p g rest
-    by_test false p g rest = let r = rest g in (or-right (h == k) _ r.0, r.1)
+    by_test true p g rest =
+        let here : (h == k) ≡ true → f k ≡ true = λ is. ap f (sym (same-number h k is)) ∙ p in
+        let on : has_handle k (chosen f hs) ≡ true → has_handle k hs ≡ true = λ i. (rest i).0 in
+        let passes : has_handle k (chosen f hs) ≡ true → f k ≡ true = λ i. (rest i).1 in
+        (grind (arith, on), grind (arith, here, passes))
+    by_test false p g rest = let r = rest g in (has-later k h hs r.0, r.1)
 
 chosen-has : (f : ℕ → Bool) (k : ℕ) (hs : List ℕ) → has_handle k hs ≡ true → f k ≡ true → has_handle k (chosen f hs) ≡ true
 chosen-has f k [] e p = e
-chosen-has f k (h ∷ hs) e p = by_handle (h == k) refl e (chosen-has f k hs)
-  where
-    later : (b : Bool) → has_handle k (chosen f hs) ≡ true → has_handle k (if b then h ∷ chosen f hs else chosen f hs) ≡ true
-    later true g = or-right (h == k) _ g
-    later false g = g
-
-    by_handle : (b : Bool) → (h == k) ≡ b → (b || has_handle k hs) ≡ true → (has_handle k hs ≡ true → f k ≡ true → has_handle k (chosen f hs) ≡ true) → has_handle k (chosen f (h ∷ hs)) ≡ true
-    by_handle true is g rest =
-        ap (λ (b : Bool). has_handle k (if b then h ∷ chosen f hs else chosen f hs)) (ap f (same-number h k is) ∙ p)
-        ∙ or-left (h == k) _ is
-    by_handle false is g rest = later (f h) (rest g p)
+chosen-has f k (h ∷ hs) e p =
+    let here : (h == k) ≡ true → f h ≡ true = λ is. ap f (same-number h k is) ∙ p in
+    grind (arith, here, chosen-has f k hs)
 
 order-chosen : (at : ℕ → Option Seen) (f : ℕ → Bool) (hs : List ℕ) → InOrder at hs → InOrder at (chosen f hs)
 order-chosen at f [] o = tt
@@ -129,7 +104,7 @@ once : (at : ℕ → Option Seen) (hs : List ℕ) → ((h : ℕ) → has_handle 
 once at [] live o = tt
 once at (h ∷ hs) live o =
     let s = live h (has-self h hs) in
-    (not-twice at h hs s.0 s.1 o, once at hs (λ k e. live k (or-right (h == k) _ e)) o.1)
+    (not-twice (λ s. s.start) at h s.0 hs s.1 o, once at hs (λ k e. live k (has-later k h hs e)) o.1)
 
 -- those that pass end, and no others
 each-chosen : (p : Task → Bool) (e : TaskEnd) (f : ℕ → Bool) (hs : List ℕ) (q : TaskTable) → AreOnce hs → ((h : ℕ) → has_handle h hs ≡ true → holds p (slot_value q.pool h) ≡ f h) → ended_each p e hs q ≡ ended_all e (chosen f hs) q
@@ -139,14 +114,14 @@ each-chosen p e f (h ∷ hs) q one same =
     ∙ by_test (f h) (λ r k. each-chosen p e f hs r one.1 k)
   where
     by_test : (b : Bool) → ((r : TaskTable) → ((k : ℕ) → has_handle k hs ≡ true → holds p (slot_value r.pool k) ≡ f k) → ended_each p e hs r ≡ ended_all e (chosen f hs) r) → ended_each p e hs (if b then ended_next e h q else q) ≡ ended_all e (if b then h ∷ chosen f hs else chosen f hs) q
-    by_test true rest = rest (ended_next e h q) (λ k g. ap (holds p) (ended-others q.pool h k q.ends e (λ z. one.0 (ap (λ (j : ℕ). has_handle j hs) (sym z) ∙ g))) ∙ same k (or-right (h == k) _ g))
-    by_test false rest = rest q (λ k g. same k (or-right (h == k) _ g))
+    by_test true rest = rest (ended_next e h q) (λ k g. ap (holds p) (ended-others q.pool h k q.ends e (λ z. one.0 (ap (λ (j : ℕ). has_handle j hs) (sym z) ∙ g))) ∙ same k (has-later k h hs g))
+    by_test false rest = rest q (λ k g. same k (has-later k h hs g))
 
 -- two lists in the order of starts that have the same of the tasks that pass
 pub ends-same : (m n : Seen → Bool) (p r : Task → Bool) (e : TaskEnd) (q : TaskTable) (xs ys : List ℕ) → AreIn m (seen_in q.pool) xs → AreIn n (seen_in q.pool) ys → ((h : ℕ) (t : Task) → slot_value q.pool h ≡ Some t → has_handle h xs ≡ true → p t ≡ true → (has_handle h ys ≡ true) × (r t ≡ true)) → ((h : ℕ) (t : Task) → slot_value q.pool h ≡ Some t → has_handle h ys ≡ true → r t ≡ true → (has_handle h xs ≡ true) × (p t ≡ true)) → ended_each p e xs q ≡ ended_each r e ys q
 ends-same m n p r e q xs ys a b there back =
     each-chosen p e f xs q (once (seen_in q.pool) xs on a.ordered) (λ h g. refl)
-    ∙ ap (λ (hs : List ℕ). ended_all e hs q) (same-order (seen_in q.pool) (chosen f xs) (chosen j ys) (λ h g. on h (chosen-from f h xs g).0) (order-chosen (seen_in q.pool) f xs a.ordered) (order-chosen (seen_in q.pool) j ys b.ordered) to from)
+    ∙ ap (λ (hs : List ℕ). ended_all e hs q) (same-order (λ s. s.start) (seen_in q.pool) (chosen f xs) (chosen j ys) (λ h g. on h (chosen-from f h xs g).0) (order-chosen (seen_in q.pool) f xs a.ordered) (order-chosen (seen_in q.pool) j ys b.ordered) to from)
     ∙ sym (each-chosen r e j ys q (once (seen_in q.pool) ys off b.ordered) (λ h g. refl))
   where
     f : ℕ → Bool

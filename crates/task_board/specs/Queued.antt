@@ -1,5 +1,5 @@
 -- What ties the lists of the queues to the tasks, and which tasks their queues let begin.
-use Rattle.std.specs.Prelude.{◌≡◌, ◌⊎◌, ℕ, ◌<◌, Bool, true, List, [], ◌∷◌, Option, Some, None, Ok, slice_get}
+use Rattle.std.specs.Prelude.{◌≡◌, ◌⊎◌, ℕ, ◌<◌, Bool, true, List, Option, Some, None, Ok, slice_get}
 use Rattle.mtapi_values.specs.Conditions.{holds}
 use Rattle.handle_pool.specs.Slots.{Slot, Slots, slot_of, generation_of, free_slot, slot_value, changed}
 use Rattle.linked_places.specs.Lists.{has_handle}
@@ -7,11 +7,11 @@ use Rattle.mtapi_objects.specs.Tasks.{NewTask}
 use Rattle.queue_core.specs.Held.{HeldQueue, put_reply, without_task}
 use Rattle.queue_ready.specs.Ready.{may_begin}
 use Rattle.task_board.specs.Seen.{Seen}
+use Rattle.task_board.specs.Keyed.{Rises}
 
 -- each task of the list was started before those behind it
 abbrev pub InOrder : (ℕ → Option Seen) → List ℕ → Type 0
-InOrder at [] = Unit {0}
-InOrder at (h ∷ hs) = ((k : ℕ) (s u : Seen) → has_handle k hs ≡ true → at h ≡ Some s → at k ≡ Some u → s.start < u.start) × InOrder at hs
+InOrder at hs = Rises (λ s. s.start) at hs
 
 -- a task that names no queue may begin, and one whose queue is live and lets it
 abbrev pub begins_in : Slots HeldQueue → ℕ → Option ℕ → Bool

@@ -9,7 +9,7 @@ use Rattle.task_board.specs.declared.walks.Walk.{Walk}
 use Rattle.task_board.specs.declared.walks.Walk.TheVariants.{Waiting, OfJob, Queued}
 use Rattle.task_board.specs.Seen.{Seen}
 use Rattle.task_board.specs.Waiting.{WaitingTable, job_list}
-use Rattle.task_board.specs.Queued.{InOrder}
+use Rattle.task_board.specs.Keyed.{ListsBy}
 
 -- the list that is walked, of that of the tasks that haven't begun and those of the queues
 abbrev pub walked : Walk → WaitingTable → Slots HeldQueue → List ℕ
@@ -22,10 +22,8 @@ abbrev pub AreSeen : (ℕ → Option Seen) → List ℕ → Type 0
 AreSeen at hs = (h : ℕ) → has_handle h hs ≡ true → (s : Seen) × (at h ≡ Some s)
 
 -- the list has exactly the handles of the tasks that are seen so, in the order of their starts
-pub record AreIn (m : Seen → Bool) (at : ℕ → Option Seen) (hs : List ℕ) : Type 0 where
-  pub listed : (h : ℕ) (s : Seen) → at h ≡ Some s → m s ≡ true → has_handle h hs ≡ true
-  pub is_seen : (h : ℕ) → has_handle h hs ≡ true → (s : Seen) × (at h ≡ Some s) × (m s ≡ true)
-  pub ordered : InOrder at hs
+abbrev pub AreIn : (Seen → Bool) → (ℕ → Option Seen) → List ℕ → Type 0
+AreIn m at hs = ListsBy (λ s. s.start) (λ s. m s ≡ true) at hs
 
 -- the task hasn't begun, and its job has this remainder
 abbrev pub waits_at : ℕ → ℕ → Seen → Bool

@@ -1,9 +1,4 @@
-use Rattle.std.proofs.Common.{Option, sym, subst}
-use Rattle.mtapi_objects.specs.Tasks.{Task}
-use Rattle.job_table.specs.Answers.{Covers}
-use Rattle.task_board.specs.Seen.{seen}
-use Rattle.task_board.specs.Queued.{begins_in}
-use Rattle.task_board.specs.Board.{IsMarkOf}
+use Rattle.task_board.proofs.Names.{Option, sym, subst, Task, Covers, seen, begins_in, IsMarkOf}
 use Rattle.task_board.proofs.SeenLemmas.{mark-known, if_some-any}
 use Rattle.task_board.proofs.MarkLemmas.{and_left, and_right}
 use Rattle.task_board.proofs.marks.fresh_mark.Goals as goal

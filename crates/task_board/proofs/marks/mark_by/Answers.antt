@@ -1,5 +1,4 @@
-use Rattle.std.proofs.Common.{sym}
-use Rattle.task_board.specs.Queued.{begins_in}
+use Rattle.task_board.proofs.Names.{sym, begins_in}
 use Rattle.task_board.proofs.SeenLemmas.{if_some-any}
 use Rattle.task_board.proofs.MarkLemmas.{and_left, and_right}
 use Rattle.task_board.proofs.marks.mark_by.Goals as goal

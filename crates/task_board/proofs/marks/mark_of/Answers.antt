@@ -1,5 +1,4 @@
-use Rattle.std.proofs.Common.{bit_and, ap, subst, ◌∙◌}
-use Rattle.job_table.specs.Answers.{Covers}
+use Rattle.task_board.proofs.Names.{bit_and, ap, subst, ◌∙◌, Covers}
 use Rattle.job_table.specs.declared.cover.Cover.{Cover}
 use Rattle.task_board.proofs.MarkLemmas.{mark-right}
 use Rattle.task_board.proofs.marks.mark_of.Goals as goal

@@ -1,6 +1,4 @@
-use Rattle.std.proofs.Common.{Option, Some, None, set, sym, ap, ◌∙◌}
-use Rattle.ready_index.specs.declared.marks.Mark.{Mark}
-use Rattle.ready_index.specs.Marks.{ReadyMarks}
+use Rattle.task_board.proofs.Names.{Option, Some, None, set, sym, ap, ◌∙◌, Mark, ReadyMarks}
 use Rattle.task_board.proofs.MarkLemmas.{set-set}
 use Rattle.task_board.proofs.marks.put_mark.Goals as goal
 

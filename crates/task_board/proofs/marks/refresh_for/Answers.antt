@@ -1,10 +1,4 @@
-use Rattle.std.proofs.Common.{◌≡◌, ℕ, Option, inl, sym, ap, subst, ◌∙◌}
-use Rattle.std.specs.Prelude.{slice_set}
-use Rattle.mtapi_objects.specs.Tasks.{Task}
-use Rattle.job_table.specs.Answers.{Covers}
-use Rattle.task_board.specs.Seen.{seen}
-use Rattle.task_board.specs.Queued.{begins_in}
-use Rattle.task_board.specs.Board.{IsMarkOf}
+use Rattle.task_board.proofs.Names.{◌≡◌, ℕ, Option, inl, sym, ap, subst, ◌∙◌, slice_set, Task, Covers, seen, begins_in, IsMarkOf}
 use Rattle.task_board.proofs.SeenLemmas.{mark-known, seen-as}
 use Rattle.task_board.proofs.marks.refresh_for.Goals as goal
 

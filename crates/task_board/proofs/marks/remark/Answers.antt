@@ -1,9 +1,4 @@
-use Rattle.std.proofs.Common.{◌≡◌, ◌<◌, ℕ, length, sym, subst, ◌∙◌, arith}
-use Rattle.linked_places.proofs.NextLemmas.{index-has}
-use Rattle.task_board.specs.Seen.{seen_in}
-use Rattle.task_board.specs.Queued.{begins_in}
-use Rattle.task_board.specs.Walks.{walked}
-use Rattle.task_board.specs.Board.{AreRanked, Remarked}
+use Rattle.task_board.proofs.Names.{◌≡◌, ◌<◌, ℕ, length, sym, subst, ◌∙◌, arith, index-has, seen_in, begins_in, walked, AreRanked, Remarked}
 use Rattle.task_board.proofs.RemarkLemmas.{remarked-none, remarked-next, walked-slot, past-none}
 use Rattle.task_board.proofs.marks.remark.Goals as goal
 

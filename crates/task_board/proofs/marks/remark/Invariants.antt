@@ -1,8 +1,4 @@
-use Rattle.std.proofs.Common.{◌≡◌, slice_get}
-use Rattle.task_board.specs.Seen.{seen_in}
-use Rattle.task_board.specs.Queued.{begins_in}
-use Rattle.task_board.specs.Walks.{walked}
-use Rattle.task_board.specs.Board.{Remarked}
+use Rattle.task_board.proofs.Names.{◌≡◌, slice_get, seen_in, begins_in, walked, Remarked}
 use Rattle.task_board.proofs.marks.remark.Given as goal
 
 abbrev pub invariant-loop-index : goal.invariant-loop-index

@@ -1,8 +1,4 @@
-use Rattle.std.proofs.Common.{◌≡◌, ◌+◌, length, Option, sym, subst, arith}
-use Rattle.handle_pool.specs.Slots.{slot_value}
-use Rattle.mtapi_values.specs.declared.statuses.MtapiStatus.{MtapiStatus}
-use Rattle.group_core.specs.Members.{ended_of}
-use Rattle.task_board.specs.GroupMoves.{Freed}
+use Rattle.task_board.proofs.Names.{◌≡◌, ◌+◌, length, Option, sym, subst, arith, slot_value, MtapiStatus, ended_of, Freed}
 use Rattle.task_board.proofs.EachLemmas.{freed-next, freed-all, freed-group}
 use Rattle.task_board.proofs.members.free_members.Goals as goal
 

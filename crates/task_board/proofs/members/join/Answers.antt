@@ -1,6 +1,4 @@
-use Rattle.std.proofs.Common.{ap, ◌∙◌}
-use Rattle.group_core.specs.Members.{GroupTable, with_member}
-use Rattle.task_board.specs.Members.{without_members}
+use Rattle.task_board.proofs.Names.{ap, ◌∙◌, GroupTable, with_member, without_members}
 use Rattle.task_board.proofs.GroupSlotLemmas.{members-unseen}
 use Rattle.task_board.proofs.members.join.Goals as goal
 

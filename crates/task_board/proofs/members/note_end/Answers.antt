@@ -1,6 +1,4 @@
-use Rattle.std.proofs.Common.{ap, ◌∙◌}
-use Rattle.group_core.specs.Members.{GroupTable, with_ended}
-use Rattle.task_board.specs.Members.{without_members}
+use Rattle.task_board.proofs.Names.{ap, ◌∙◌, GroupTable, with_ended, without_members}
 use Rattle.task_board.proofs.GroupSlotLemmas.{members-unseen}
 use Rattle.task_board.proofs.members.note_end.Goals as goal
 

@@ -1,8 +1,4 @@
-use Rattle.std.proofs.Common.{◌<◌, ◌^◌, sym, subst}
-use Rattle.task_core.specs.Records.{asked_task, group_number}
-use Rattle.task_core.specs.Table.{Adds}
-use Rattle.task_board.specs.Board.{BoardTable, Becomes}
-use Rattle.task_board.specs.Members.{MayJoin}
+use Rattle.task_board.proofs.Names.{◌<◌, ◌^◌, sym, subst, asked_task, group_number, Adds, BoardTable, Becomes, MayJoin}
 use Rattle.task_board.proofs.board.Board.add.Goals as goal
 
 pub add_task-requires-clause-few : goal.add_task-requires-clause-few

@@ -1,9 +1,4 @@
-use Rattle.std.proofs.Common.{refl, ◌<◌, ℕ, Option, sym, ap, subst, arith}
-use Rattle.mtapi_values.specs.declared.handles.QueueHandle.{QueueHandle}
-use Rattle.task_core.specs.Records.{asked_task, queue_number, group_number}
-use Rattle.task_board.specs.Seen.{seen_in}
-use Rattle.task_board.specs.Board.{BoardTable, AreRanked}
-use Rattle.task_board.specs.Members.{MayJoin}
+use Rattle.task_board.proofs.Names.{refl, ◌<◌, ℕ, Option, sym, ap, subst, arith, QueueHandle, asked_task, queue_number, group_number, seen_in, BoardTable, AreRanked, MayJoin}
 use Rattle.task_board.proofs.TaskMemberLemmas.{may-join, no-member}
 use Rattle.task_board.proofs.BoardLemmas.{nowhere, nowhere-by-job, new-slot, new-ranked, add-board}
 use Rattle.task_board.proofs.board.Board.add_task.Goals as goal

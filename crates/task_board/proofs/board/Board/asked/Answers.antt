@@ -1,9 +1,4 @@
-use Rattle.std.proofs.Common.{ap, ◌∙◌}
-use Rattle.handle_pool.specs.Slots.{max_of}
-use Rattle.task_core.specs.Answers.{after_asked}
-use Rattle.task_core.specs.Table.{TaskTable}
-use Rattle.task_board.specs.Seen.{seen_in}
-use Rattle.task_board.specs.Members.{members_in}
+use Rattle.task_board.proofs.Names.{ap, ◌∙◌, max_of, after_asked, TaskTable, seen_in, members_in}
 use Rattle.task_board.proofs.TaskMemberLemmas.{members-quiet, member-asked}
 use Rattle.task_board.proofs.MoveLemmas.{quiet, seen-changed, seen-asked, max-changed}
 use Rattle.task_board.proofs.board.Board.asked.Goals as goal

@@ -1,7 +1,4 @@
-use Rattle.std.proofs.Common.{ℕ, None, Some, refl, sym, subst}
-use Rattle.job_table.specs.Answers.{Chooses}
-use Rattle.task_board.specs.Picks.{IsBest}
-use Rattle.task_board.specs.Board.{BoardTable}
+use Rattle.task_board.proofs.Names.{ℕ, None, Some, refl, sym, subst, Chooses, IsBest, BoardTable}
 use Rattle.task_board.proofs.MarkLemmas.{best-none, found-best}
 use Rattle.task_board.proofs.board.Board.best.Goals as goal
 

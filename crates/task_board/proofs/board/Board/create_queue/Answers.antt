@@ -1,6 +1,4 @@
-use Rattle.std.proofs.Common.{◌<◌, sym, subst}
-use Rattle.queue_core.specs.Held.{new_queue}
-use Rattle.task_board.specs.Board.{BoardTable}
+use Rattle.task_board.proofs.Names.{◌<◌, sym, subst, new_queue, BoardTable}
 use Rattle.task_board.proofs.BoardLemmas.{create-board}
 use Rattle.task_board.proofs.board.Board.create_queue.Goals as goal
 

@@ -1,8 +1,4 @@
-use Rattle.std.proofs.Common.{ℕ, sym, subst}
-use Rattle.handle_pool.specs.Slots.{Slots}
-use Rattle.mtapi_objects.specs.Actions.{Action}
-use Rattle.job_table.specs.Answers.{IsUnion}
-use Rattle.task_board.specs.Board.{BoardTable, IsBoard}
+use Rattle.task_board.proofs.Names.{ℕ, sym, subst, Slots, Action, IsUnion, BoardTable, IsBoard}
 use Rattle.task_board.proofs.RemarkLemmas.{SameBut, same-without}
 use Rattle.task_board.proofs.BoardLemmas.{changed-board, job-found}
 use Rattle.task_board.proofs.board.Board.delete_action.Goals as goal

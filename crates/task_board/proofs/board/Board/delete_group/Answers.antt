@@ -1,7 +1,4 @@
-use Rattle.std.proofs.Common.{◌≡◌, Some, sym, subst}
-use Rattle.handle_pool.specs.Slots.{slot_value}
-use Rattle.group_core.specs.Members.{no_members}
-use Rattle.task_board.specs.Board.{BoardTable}
+use Rattle.task_board.proofs.Names.{◌≡◌, Some, sym, subst, slot_value, no_members, BoardTable}
 use Rattle.task_board.proofs.PartLemmas.{deleted-told, delete-board}
 use Rattle.task_board.proofs.board.Board.delete_group.Goals as goal
 

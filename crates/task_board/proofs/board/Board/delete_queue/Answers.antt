@@ -1,7 +1,4 @@
-use Rattle.std.proofs.Common.{sym, subst}
-use Rattle.task_board.specs.Seen.{seen_in}
-use Rattle.task_board.specs.Queued.{NoneWaitsIn}
-use Rattle.task_board.specs.Board.{BoardTable}
+use Rattle.task_board.proofs.Names.{sym, subst, seen_in, NoneWaitsIn, BoardTable}
 use Rattle.task_board.proofs.BoardLemmas.{delete-board}
 use Rattle.task_board.proofs.board.Board.delete_queue.Goals as goal
 

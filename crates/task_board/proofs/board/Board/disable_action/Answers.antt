@@ -1,8 +1,4 @@
-use Rattle.std.proofs.Common.{ℕ, false, sym, subst, ◌∙◌}
-use Rattle.handle_pool.specs.Slots.{Slots}
-use Rattle.mtapi_objects.specs.Actions.{Action, with_enabled}
-use Rattle.job_table.specs.Answers.{IsUnion}
-use Rattle.task_board.specs.Board.{BoardTable, IsBoard}
+use Rattle.task_board.proofs.Names.{ℕ, false, sym, subst, ◌∙◌, Slots, Action, with_enabled, IsUnion, BoardTable, IsBoard}
 use Rattle.task_board.proofs.RemarkLemmas.{SameBut, same-changed}
 use Rattle.task_board.proofs.BoardLemmas.{changed-board, job-found, unchanged}
 use Rattle.task_board.proofs.board.Board.disable_action.Goals as goal

@@ -1,7 +1,4 @@
-use Rattle.std.proofs.Common.{subst}
-use Rattle.mtapi_objects.specs.Queues.{is_in}
-use Rattle.task_board.specs.Ends.{EndsWaiting}
-use Rattle.task_board.specs.Board.{BoardTable, Becomes}
+use Rattle.task_board.proofs.Names.{subst, is_in, EndsWaiting, BoardTable, Becomes}
 use Rattle.task_board.proofs.board.Board.end_queued.Goals as goal
 
 pub returns-clause-new : goal.returns-clause-new

@@ -1,8 +1,5 @@
-use Rattle.std.proofs.Common.{◌≡◌, ℕ, inl, inr, refl, sym, ap, subst, arith}
+use Rattle.task_board.proofs.Names.{◌≡◌, ℕ, inl, inr, refl, sym, ap, subst, arith, IsUnion, is_unserved, EndsWaiting, BoardTable, Becomes}
 use Rattle.mtapi_values.specs.declared.ends.TaskEnd.TheVariants.{Failed}
-use Rattle.job_table.specs.Answers.{IsUnion}
-use Rattle.task_board.specs.Ends.{is_unserved, EndsWaiting}
-use Rattle.task_board.specs.Board.{BoardTable, Becomes}
 use Rattle.task_board.proofs.EndLemmas.{none-ends}
 use Rattle.task_board.proofs.board.Board.end_unserved.Goals as goal
 

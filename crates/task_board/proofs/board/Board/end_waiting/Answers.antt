@@ -1,12 +1,6 @@
-use Rattle.std.proofs.Common.{◌≡◌, length, subst, arith}
-use Rattle.mtapi_values.specs.Attributes.{NodeSettings}
-use Rattle.handle_pool.specs.Slots.{Slots}
-use Rattle.mtapi_objects.specs.Queues.{Queue}
-use Rattle.task_board.specs.Board.{Becomes, records_of}
-use Rattle.task_board.specs.Ends.{ends_by, ended_if, ended_each}
+use Rattle.task_board.proofs.Names.{◌≡◌, length, subst, arith, NodeSettings, Slots, Queue, Becomes, records_of, ends_by, ended_if, ended_each, Walk}
 use Rattle.task_board.proofs.EndLemmas.{going-first, going-some, going-has, going-live, going-on, going-last, walk-ends}
 use Rattle.task_board.proofs.WalkedLemmas.{list_of}
-use Rattle.task_board.specs.declared.walks.Walk.{Walk}
 use Rattle.task_board.proofs.board.Board.end_waiting.Goals as goal
 
 pub loop-index-init : goal.loop-index-init

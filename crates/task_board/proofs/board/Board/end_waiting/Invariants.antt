@@ -1,5 +1,4 @@
-use Rattle.task_board.specs.Board.{records_of}
-use Rattle.task_board.specs.Ends.{ends_by}
+use Rattle.task_board.proofs.Names.{records_of, ends_by}
 use Rattle.task_board.proofs.EndLemmas.{Going}
 use Rattle.task_board.proofs.board.Board.end_waiting.Given as goal
 

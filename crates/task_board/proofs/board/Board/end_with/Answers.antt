@@ -1,18 +1,8 @@
-use Rattle.std.proofs.Common.{◌≡◌, ◌+◌, ℕ, Option, None, length, length-set, sym, ap, subst, ◌∙◌, arith}
-use Rattle.std.specs.Prelude.{slice_set}
-use Rattle.handle_pool.specs.Slots.{slot_value}
-use Rattle.ready_index.specs.Marks.{ReadyMarks}
-use Rattle.mtapi_objects.specs.Tasks.{Task, scheduled, is_unended, TaskState}
-use Rattle.task_core.specs.Table.{TaskTable, ended_in, IsLiveAnd}
-use Rattle.queue_core.specs.Held.{QueueTable}
-use Rattle.task_board.specs.Seen.{seen_in}
-use Rattle.task_board.specs.Board.{BoardTable, AreRanked, records_of, group_slots}
+use Rattle.task_board.proofs.Names.{◌≡◌, ◌+◌, ℕ, Option, None, length, length-set, sym, ap, subst, ◌∙◌, arith, slice_set, slot_value, ReadyMarks, Task, scheduled, is_unended, TaskState, TaskTable, ended_in, IsLiveAnd, QueueTable, seen_in, BoardTable, AreRanked, records_of, group_slots, ended_member, without_waiting}
 use Rattle.task_board.proofs.BoardLemmas.{waits-in, waits-in-job, seat-below}
 use Rattle.task_board.proofs.LeaveLemmas.{scheduled-is, running-is, member-of, first-slot_of, ended-ranked, leaves, end-waiting, end-running}
 use Rattle.task_board.proofs.RecordLemmas.{records-left}
-use Rattle.task_board.specs.Members.{ended_member}
 use Rattle.task_board.proofs.TaskMemberLemmas.{member-listed}
-use Rattle.task_board.specs.Waiting.{without_waiting}
 use Rattle.task_board.proofs.board.Board.end_with.Goals as goal
 
 pub leave_queue-requires-clause-member : goal.leave_queue-requires-clause-member
@@ -52,7 +42,7 @@ invariant_of-self c =
     let live = sym c.in-Some.ensures in
     let scheduled_is = scheduled-is c.in-Some.task.now.state (sym c.in-Scheduled.is ∙ c.state-state.ensures) in
     end-waiting b c.end_with.new.self c.leave_queue.new.queues c.clear.new.ready c.leave_queue.new.ready c.remove.new.self c.note_end.new.groups c.args.t.0 c.args.end c.in-Some.task.now c.self.invariant live scheduled_is
-    (ap (λ (q : TaskTable). q.pool) c.end_with.ensures ∙ ap (λ (o : Option Task). ended_in c.self.inside.tasks.pool c.args.t.0 c.args.end c.self.inside.tasks.ends o) live) (ap (λ (q : TaskTable). q.starts) c.end_with.ensures) (c.remove.ensures.new ∙ ap (λ (j : ℕ). without_waiting c.self.inside.waiting j c.args.t.0) c.job-job.ensures) c.remove.ensures.gone c.remove.ensures.gone_by_job
+    (ap (λ (q : TaskTable). q.pool) c.end_with.ensures ∙ ap (λ (o : Option Task). ended_in c.self.inside.tasks.pool c.args.t.0 c.args.end c.self.inside.tasks.ends o) live) (ap (λ (q : TaskTable). q.starts) c.end_with.ensures) (c.remove.ensures.new ∙ ap (λ (j : ℕ). without_waiting c.self.inside.waiting j c.args.t.0) c.job-job.ensures)
     (leaves b c.end_with.new.self c.leave_queue.new.queues c.clear.new.ready c.leave_queue.new.ready c.args.t.0 _ c.in-Some.task.now.queue c.queue-queue.ensures c.leave_queue.ensures.left (subst (λ (place : ℕ). c.clear.new.ready ≡ record c.self.inside.ready { marks = slice_set c.self.inside.ready.marks place None }) c.slot_of.ensures c.clear.ensures) c.leave_queue.ensures.marks)
     (ap (λ (q : TaskTable). q.ends) c.end_with.ensures)
     (c.note_end.ensures.new ∙ ap (λ (o : Option ℕ). ended_member c.self.inside.groups o c.args.t.0) c.group-group.ensures)

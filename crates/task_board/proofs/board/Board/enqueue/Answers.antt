@@ -1,9 +1,4 @@
-use Rattle.std.proofs.Common.{◌<◌, ◌^◌, sym, subst}
-use Rattle.task_core.specs.Records.{asked_task, group_number}
-use Rattle.task_core.specs.Table.{Adds}
-use Rattle.task_board.specs.Board.{BoardTable, Becomes}
-use Rattle.task_board.specs.Queued.{IsRoomFor}
-use Rattle.task_board.specs.Members.{MayJoin}
+use Rattle.task_board.proofs.Names.{◌<◌, ◌^◌, sym, subst, asked_task, group_number, Adds, BoardTable, Becomes, IsRoomFor, MayJoin}
 use Rattle.task_board.proofs.board.Board.enqueue.Goals as goal
 
 pub enqueue_task-requires-clause-few : goal.enqueue_task-requires-clause-few

@@ -1,10 +1,4 @@
-use Rattle.std.proofs.Common.{refl, ◌<◌, ◌∙◌, ℕ, sym, ap, subst, arith}
-use Rattle.task_core.specs.Records.{asked_task, group_number}
-use Rattle.queue_core.specs.Held.{QueueTable, with_task}
-use Rattle.task_board.specs.Seen.{seen_in}
-use Rattle.task_board.specs.Queued.{IsRoomFor}
-use Rattle.task_board.specs.Board.{BoardTable, AreRanked, records_of, group_slots}
-use Rattle.task_board.specs.Members.{MayJoin}
+use Rattle.task_board.proofs.Names.{refl, ◌<◌, ◌∙◌, ℕ, sym, ap, subst, arith, asked_task, group_number, QueueTable, with_task, seen_in, IsRoomFor, BoardTable, AreRanked, records_of, group_slots, MayJoin}
 use Rattle.task_board.proofs.TaskMemberLemmas.{may-join, no-member}
 use Rattle.task_board.proofs.BoardLemmas.{nowhere, nowhere-by-job, new-slot, new-ranked, no-task, enqueue-board}
 use Rattle.task_board.proofs.RecordLemmas.{records-same}

@@ -1,10 +1,4 @@
-use Rattle.std.proofs.Common.{refl, sym, subst, ◌∙◌}
-use Rattle.std.specs.Bool.{OnTrue, OnFalse}
-use Rattle.handle_pool.specs.Slots.{slot_value}
-use Rattle.handle_pool.specs.Walks.{SomeLive, NoneLive}
-use Rattle.job_table.specs.Answers.{Passes}
-use Rattle.mtapi_objects.specs.Tasks.{runs_on}
-use Rattle.task_board.specs.Board.{BoardTable, running_on}
+use Rattle.task_board.proofs.Names.{refl, sym, subst, ◌∙◌, OnTrue, OnFalse, slot_value, SomeLive, NoneLive, Passes, runs_on, BoardTable, running_on}
 use Rattle.task_board.proofs.RunningLemmas.{running-tells, running-denies, on-true, on-false}
 use Rattle.task_board.proofs.board.Board.is_running.Goals as goal
 

@@ -1,9 +1,4 @@
-use Rattle.std.proofs.Common.{Option, sym, ap, subst, ◌∙◌}
-use Rattle.handle_pool.specs.Slots.{slot_value}
-use Rattle.mtapi_objects.specs.Tasks.{Task}
-use Rattle.task_core.specs.Table.{detached_in}
-use Rattle.task_board.specs.Board.{BoardTable}
-use Rattle.task_board.specs.GroupMoves.{Leaves}
+use Rattle.task_board.proofs.Names.{Option, sym, ap, subst, ◌∙◌, slot_value, Task, detached_in, BoardTable, Leaves}
 use Rattle.task_board.proofs.PartLemmas.{unended-first, unended-member, is-live, leave-first, leaves-made}
 use Rattle.task_board.proofs.board.Board.leave_first.Goals as goal
 

@@ -1,8 +1,4 @@
-use Rattle.std.proofs.Common.{refl, ap, ◌∙◌}
-use Rattle.handle_pool.specs.Slots.{slot_value, max_of}
-use Rattle.task_core.specs.Table.{TaskTable}
-use Rattle.task_board.specs.Seen.{seen_in}
-use Rattle.task_board.specs.Members.{members_in}
+use Rattle.task_board.proofs.Names.{refl, ap, ◌∙◌, slot_value, max_of, TaskTable, seen_in, members_in}
 use Rattle.task_board.proofs.TaskMemberLemmas.{members-quiet, member-looked}
 use Rattle.task_board.proofs.MoveLemmas.{quiet, seen-looked, max-looked}
 use Rattle.task_board.proofs.board.Board.look.Goals as goal

@@ -1,9 +1,4 @@
-use Rattle.std.proofs.Common.{ℕ, List, length, sym, subst, ap, ◌∙◌}
-use Rattle.handle_pool.specs.Slots.{slot_value}
-use Rattle.queue_core.specs.Held.{tasks_of}
-use Rattle.task_board.specs.Seen.{seen_in}
-use Rattle.task_board.specs.Queued.{begins_in}
-use Rattle.task_board.specs.Board.{BoardTable, Remarked}
+use Rattle.task_board.proofs.Names.{ℕ, List, length, sym, subst, ap, ◌∙◌, slot_value, tasks_of, seen_in, begins_in, BoardTable, Remarked}
 use Rattle.task_board.proofs.BoardLemmas.{opened-board, opened-tasks, opened-seen, queue-found}
 use Rattle.task_board.proofs.board.Board.open_queue.Goals as goal
 

@@ -1,15 +1,6 @@
-use Rattle.std.proofs.Common.{◌≡◌, ◌<◌, ℕ, sym, ◌∙◌, ap, subst}
-use Rattle.std.specs.Prelude.{slice_set, None}
-use Rattle.task_core.specs.Table.{TaskTable}
-use Rattle.task_board.specs.Picks.{IsChoice}
-use Rattle.task_board.specs.Board.{BoardTable}
+use Rattle.task_board.proofs.Names.{◌≡◌, ◌<◌, ℕ, sym, ◌∙◌, ap, subst, slice_set, None, TaskTable, IsChoice, BoardTable, slot_value, NoneLive, Passes, Task, runs_on, without_waiting}
 use Rattle.task_board.proofs.BoardLemmas.{waits-in, waits-in-job, take-board}
 use Rattle.task_board.proofs.RunningLemmas.{not-running}
-use Rattle.handle_pool.specs.Slots.{slot_value}
-use Rattle.handle_pool.specs.Walks.{NoneLive}
-use Rattle.job_table.specs.Answers.{Passes}
-use Rattle.mtapi_objects.specs.Tasks.{Task, runs_on}
-use Rattle.task_board.specs.Waiting.{without_waiting}
 use Rattle.task_board.proofs.SeenLemmas.{some_same}
 use Rattle.task_board.proofs.board.Board.take.Goals as goal
 
@@ -32,6 +23,6 @@ invariant_of-self c =
     let less = subst (λ (b : BoardTable). c.args.worker < b.settings.workers) (sym c.self.view_is) c.requires.worker in
     let free = not-running b c.args.worker c.self.invariant (subst (λ (k : BoardTable). NoneLive (slot_value k.tasks.pool) (Passes (runs_on c.args.worker))) (sym c.self.view_is) c.requires.free) in
     take-board b c.run_on.new.self c.clear.new.ready c.remove.new.self c.args.choice.task.0 c.args.worker c.args.choice.kind x.t c.self.invariant x.task x.runs.unstarted
-    (ap (λ (q : TaskTable). q.pool) c.run_on.ensures.new) (ap (λ (q : TaskTable). q.starts) c.run_on.ensures.new) less free (c.remove.ensures.new ∙ ap (λ (j : ℕ). without_waiting c.self.inside.waiting j c.args.choice.task.0) (c.job.ensures ∙ ap (λ (t : Task). t.job) (sym (some_same (sym x.task ∙ sym c.in-Some.ensures))))) c.remove.ensures.gone c.remove.ensures.gone_by_job
+    (ap (λ (q : TaskTable). q.pool) c.run_on.ensures.new) (ap (λ (q : TaskTable). q.starts) c.run_on.ensures.new) less free (c.remove.ensures.new ∙ ap (λ (j : ℕ). without_waiting c.self.inside.waiting j c.args.choice.task.0) (c.job.ensures ∙ ap (λ (t : Task). t.job) (sym (some_same (sym x.task ∙ sym c.in-Some.ensures)))))
     (subst (λ (place : ℕ). c.clear.new.ready ≡ record c.self.inside.ready { marks = slice_set c.self.inside.ready.marks place None }) c.slot_of.ensures c.clear.ensures)
     (ap (λ (q : TaskTable). q.ends) c.run_on.ensures.new)

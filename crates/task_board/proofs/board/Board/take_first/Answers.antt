@@ -1,6 +1,4 @@
-use Rattle.std.proofs.Common.{sym, subst}
-use Rattle.handle_pool.specs.Slots.{slot_value}
-use Rattle.task_board.specs.Board.{BoardTable}
+use Rattle.task_board.proofs.Names.{sym, subst, slot_value, BoardTable}
 use Rattle.task_board.specs.GroupMoves.{Takes}
 use Rattle.task_board.proofs.PartLemmas.{ended-first, ended-member, may-free, take-first, takes-made}
 use Rattle.task_board.proofs.board.Board.take_first.Goals as goal
