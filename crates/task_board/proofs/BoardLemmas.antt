@@ -4,16 +4,13 @@ use Rattle.std.specs.Result.{OnOk, OnErr}
 use Rattle.queue_core.specs.Held.{Creates as CreatesQueue}
 use Rattle.queue_core.specs.declared.facts.QueueFacts.{QueueFacts}
 use Rattle.task_board.proofs.ByJobLemmas.{by-job-push, by-job-leave, by-job-has}
-use Rattle.task_board.proofs.SeenLemmas.{some_same, SeenAs, seen-as, seen-live, unstarted-seen}
+use Rattle.task_board.proofs.SeenLemmas.{none-some, some_same, SeenAs, seen-as, seen-live, unstarted-seen}
 use Rattle.task_board.proofs.MoveLemmas.{started-put, Put, Alone, Steady, alone-old, alone-new, put-insert, put-changed, max-insert, max-changed, marked-put, marked-steady, ranked-put, waiting-push, waiting-leave, running-begin, running-same, stands-handle}
 use Rattle.task_board.proofs.RemarkLemmas.{SameBut, TakenBy, taken-other, taken-steady, marked-anew, marked-over}
 use Rattle.task_board.proofs.GivenLemmas.{put-queue_changed, put-queue_insert, put-queue_without}
 use Rattle.task_board.proofs.QueuedLemmas.{queued-apart, queued-enqueue, queued-run, queued-with, queued-new, queued-gone, begins-same, begins-enqueue}
 use Rattle.task_board.proofs.MemberLemmas.{members-same}
 use Rattle.task_board.proofs.TaskMemberLemmas.{members-add, member-runs}
-
-none-some : {A : Type 0} {P : Type 0} {x : A} → None ≡ Some x → P
-none-some e = absurd (cc)
 
 -- the marks have the sizes that they had
 pub record SameSizes (old new : ReadyMarks) : Type 0 where
@@ -48,6 +45,28 @@ put-board b q queues ready waiting running groups h x k move max sizes marked qu
   running_are = runs;
   ranked = ranked-put (seen_in b.tasks.pool) (seen_in q.pool) h x b.settings.priorities move ranks k.ranked;
   queued = queued;
+}
+
+-- no task changes
+tasks-stay : (b : BoardTable) (actions : Slots Action) (queues : QueueTable) (ready : ReadyMarks) → IsBoard b → SameSizes b.ready ready → queues.tasks ≡ b.queues.tasks → Marked actions (begins_in queues.pool) (seen_in b.tasks.pool) ready.marks → AreQueued (seen_in b.tasks.pool) queues.pool b.settings.priorities → IsBoard (record b { actions = actions; queues = queues; ready = ready })
+tasks-stay b actions queues ready k sizes room marked queued = record {
+  few = k.few;
+  workers = sizes.workers ∙ k.workers;
+  priorities = sizes.priorities ∙ k.priorities;
+  slots = sizes.slots ∙ k.slots;
+  places = k.places;
+  lists = k.lists;
+  seats = k.seats;
+  room = room ∙ k.room;
+  marked = marked;
+  waiting_are = k.waiting_are;
+  by_job = k.by_job;
+  running_are = k.running_are;
+  ranked = k.ranked;
+  started = k.started;
+  queued = queued;
+  members = k.members;
+  task_slots = k.task_slots;
 }
 
 -- the marks after a move of one handle, where its own is right
@@ -260,52 +279,19 @@ seat-below b h w kind t k g x = subst (λ (n : ℕ). w < n) k.seats (within b.ru
 -- Other actions
 
 pub remark-board : (b : BoardTable) (new : Slots Action) (ready : ReadyMarks) (job : ℕ) → IsBoard b → SameBut job b.actions new → Remarked new (begins_in b.queues.pool) (seen_in b.tasks.pool) job (job_list b.waiting job) (length (job_list b.waiting job)) b.ready ready → IsBoard (record b { actions = new; ready = ready })
-remark-board b new ready job k same r = record {
-  few = k.few;
-  workers = r.workers ∙ k.workers;
-  priorities = r.priorities ∙ k.priorities;
-  slots = r.slots ∙ k.slots;
-  places = k.places;
-  lists = k.lists;
-  seats = k.seats;
-  room = k.room;
-  marked = marked-anew b.actions new (begins_in b.queues.pool) (begins_in b.queues.pool) b.tasks.pool job (job_list b.waiting job) b.ready ready (λ h s e n. elim (cases_eq s.job job) [
-    | inl mine ↦ inl (by-job-has (seen_in b.tasks.pool) h job s b.waiting.by_job k.by_job e n mine, mine)
-    | inr other ↦ inr (taken-other job b.actions new (begins_in b.queues.pool h) s same other)
-  ]) r k.marked;
-  waiting_are = k.waiting_are;
-  by_job = k.by_job;
-  running_are = k.running_are;
-  ranked = k.ranked;
-  started = k.started;
-  queued = k.queued;
-  members = k.members;
-  task_slots = k.task_slots;
-}
+remark-board b new ready job k same r =
+    tasks-stay b new b.queues ready k (record { workers = r.workers; priorities = r.priorities; slots = r.slots }) refl
+    (marked-anew b.actions new (begins_in b.queues.pool) (begins_in b.queues.pool) b.tasks.pool job (job_list b.waiting job) b.ready ready (λ h s e n. elim (cases_eq s.job job) [
+      | inl mine ↦ inl (by-job-has (seen_in b.tasks.pool) h job s b.waiting.by_job k.by_job e n mine, mine)
+      | inr other ↦ inr (taken-other job b.actions new (begins_in b.queues.pool h) s same other)
+    ]) r k.marked)
+    k.queued
 
 -- the same where the waiting tasks of the job are marked anew unless its actions cover the cores that they covered
 pub changed-board : (b : BoardTable) (new : Slots Action) (ready : ReadyMarks) (job mask : ℕ) → IsBoard b → SameBut job b.actions new → IsUnion b.actions job mask → RemarkedUnless new (begins_in b.queues.pool) (seen_in b.tasks.pool) job mask (job_list b.waiting job) b.ready ready → IsBoard (record b { actions = new; ready = ready })
 changed-board b new ready job mask k same was r = elim r [
   | inl anew ↦ remark-board b new ready job k same anew
-  | inr u ↦ subst (λ (m : ReadyMarks). IsBoard (record b { actions = new; ready = m })) (sym u.1) (record {
-    few = k.few;
-    workers = k.workers;
-    priorities = k.priorities;
-    slots = k.slots;
-    places = k.places;
-    lists = k.lists;
-    seats = k.seats;
-    room = k.room;
-    marked = marked-over job mask b.actions new (begins_in b.queues.pool) (seen_in b.tasks.pool) b.ready.marks same was u.0 k.marked;
-    waiting_are = k.waiting_are;
-    by_job = k.by_job;
-    running_are = k.running_are;
-    ranked = k.ranked;
-    started = k.started;
-    queued = k.queued;
-    members = k.members;
-    task_slots = k.task_slots;
-  })
+  | inr u ↦ subst (λ (m : ReadyMarks). IsBoard (record b { actions = new; ready = m })) (sym u.1) (tasks-stay b new b.queues b.ready k (record { workers = refl; priorities = refl; slots = refl }) refl (marked-over job mask b.actions new (begins_in b.queues.pool) (seen_in b.tasks.pool) b.ready.marks same was u.0 k.marked) k.queued)
 ]
 
 -- Other queues
@@ -337,25 +323,10 @@ waits-in-job b h job t k g u is =
 
 -- a queue is enabled or disabled, and its tasks are marked anew
 pub opened-board : (b : BoardTable) (queues : QueueTable) (ready : ReadyMarks) (q : ℕ) (v : HeldQueue) (on : Bool) → IsBoard b → slot_value b.queues.pool q ≡ Some v → queues ≡ record b.queues { pool = changed b.queues.pool q (with_opened on) } → Remarked b.actions (begins_in queues.pool) (seen_in b.tasks.pool) v.queue.job v.tasks (length v.tasks) b.ready ready → IsBoard (record b { queues = queues; ready = ready })
-opened-board b queues ready q v on k live is r = record {
-  few = k.few;
-  workers = r.workers ∙ k.workers;
-  priorities = r.priorities ∙ k.priorities;
-  slots = r.slots ∙ k.slots;
-  places = k.places;
-  lists = k.lists;
-  seats = k.seats;
-  room = ap (λ (z : QueueTable). z.tasks) is ∙ k.room;
-  marked = marked-anew b.actions b.actions (begins_in b.queues.pool) (begins_in queues.pool) b.tasks.pool v.queue.job v.tasks b.ready ready others r k.marked;
-  waiting_are = k.waiting_are;
-  by_job = k.by_job;
-  running_are = k.running_are;
-  ranked = k.ranked;
-  started = k.started;
-  members = k.members;
-  task_slots = k.task_slots;
-  queued = subst (λ (z : QueueTable). AreQueued (seen_in b.tasks.pool) z.pool b.settings.priorities) (sym is) (queued-with (seen_in b.tasks.pool) q b.queues.pool b.settings.priorities v on live k.queued);
-}
+opened-board b queues ready q v on k live is r =
+    tasks-stay b b.actions queues ready k (record { workers = r.workers; priorities = r.priorities; slots = r.slots }) (ap (λ (z : QueueTable). z.tasks) is)
+    (marked-anew b.actions b.actions (begins_in b.queues.pool) (begins_in queues.pool) b.tasks.pool v.queue.job v.tasks b.ready ready others r k.marked)
+    (subst (λ (z : QueueTable). AreQueued (seen_in b.tasks.pool) z.pool b.settings.priorities) (sym is) (queued-with (seen_in b.tasks.pool) q b.queues.pool b.settings.priorities v on live k.queued))
   where
     -- each task is one of the queue, or its queue is as it was
     by_queue : (h : ℕ) (s : Seen) (o : Option ℕ) → s.queue ≡ o → seen_in b.tasks.pool h ≡ Some s → ((has_handle h v.tasks ≡ true) × (s.job ≡ v.queue.job)) ⊎ (begins_in (changed b.queues.pool q (with_opened on)) h o ≡ begins_in b.queues.pool h o)
@@ -376,25 +347,10 @@ opened-board b queues ready q v on k live is r = record {
 
 -- a queue that is made has no tasks
 pub created-board : (b : BoardTable) (queues : QueueTable) (q : ℕ) (x : Queue) → IsBoard b → Inserts b.queues.pool queues.pool q (held x []) → queues.tasks ≡ b.queues.tasks → x.priority < b.settings.priorities → IsBoard (record b { queues = queues })
-created-board b queues q x k i room rank = record {
-  few = k.few;
-  workers = k.workers;
-  priorities = k.priorities;
-  slots = k.slots;
-  places = k.places;
-  lists = k.lists;
-  seats = k.seats;
-  room = room ∙ k.room;
-  marked = marked-steady b.actions (begins_in b.queues.pool) (begins_in queues.pool) (seen_in b.tasks.pool) b.ready.marks (λ h s e n. by_queue h s s.queue refl e n) k.marked;
-  waiting_are = k.waiting_are;
-  by_job = k.by_job;
-  running_are = k.running_are;
-  ranked = k.ranked;
-  started = k.started;
-  members = k.members;
-  task_slots = k.task_slots;
-  queued = queued-new (seen_in b.tasks.pool) q b.queues.pool queues.pool b.settings.priorities x i rank k.queued;
-}
+created-board b queues q x k i room rank =
+    tasks-stay b b.actions queues b.ready k (record { workers = refl; priorities = refl; slots = refl }) room
+    (marked-steady b.actions (begins_in b.queues.pool) (begins_in queues.pool) (seen_in b.tasks.pool) b.ready.marks (λ h s e n. by_queue h s s.queue refl e n) k.marked)
+    (queued-new (seen_in b.tasks.pool) q b.queues.pool queues.pool b.settings.priorities x i rank k.queued)
   where
     by_queue : (h : ℕ) (s : Seen) (o : Option ℕ) → s.queue ≡ o → seen_in b.tasks.pool h ≡ Some s → s.on ≡ None → begins_in queues.pool h o ≡ begins_in b.queues.pool h o
     by_queue h s None e f n = refl
@@ -404,25 +360,10 @@ created-board b queues q x k i room rank = record {
 
 -- a queue goes whose tasks have all begun
 deleted-board : (b : BoardTable) (queues : QueueTable) (q : ℕ) (v : HeldQueue) → IsBoard b → NoneWaitsIn q (seen_in b.tasks.pool) → slot_value b.queues.pool q ≡ Some v → queues ≡ record b.queues { pool = without b.queues.pool q } → IsBoard (record b { queues = queues })
-deleted-board b queues q v k none live is = record {
-  few = k.few;
-  workers = k.workers;
-  priorities = k.priorities;
-  slots = k.slots;
-  places = k.places;
-  lists = k.lists;
-  seats = k.seats;
-  room = ap (λ (z : QueueTable). z.tasks) is ∙ k.room;
-  marked = marked-steady b.actions (begins_in b.queues.pool) (begins_in queues.pool) (seen_in b.tasks.pool) b.ready.marks (λ h s e n. ap (λ (z : QueueTable). begins_in z.pool h s.queue) is ∙ by_queue h s s.queue refl e n) k.marked;
-  waiting_are = k.waiting_are;
-  by_job = k.by_job;
-  running_are = k.running_are;
-  ranked = k.ranked;
-  started = k.started;
-  members = k.members;
-  task_slots = k.task_slots;
-  queued = subst (λ (z : QueueTable). AreQueued (seen_in b.tasks.pool) z.pool b.settings.priorities) (sym is) (queued-gone (seen_in b.tasks.pool) q b.queues.pool b.settings.priorities v live none k.queued);
-}
+deleted-board b queues q v k none live is =
+    tasks-stay b b.actions queues b.ready k (record { workers = refl; priorities = refl; slots = refl }) (ap (λ (z : QueueTable). z.tasks) is)
+    (marked-steady b.actions (begins_in b.queues.pool) (begins_in queues.pool) (seen_in b.tasks.pool) b.ready.marks (λ h s e n. ap (λ (z : QueueTable). begins_in z.pool h s.queue) is ∙ by_queue h s s.queue refl e n) k.marked)
+    (subst (λ (z : QueueTable). AreQueued (seen_in b.tasks.pool) z.pool b.settings.priorities) (sym is) (queued-gone (seen_in b.tasks.pool) q b.queues.pool b.settings.priorities v live none k.queued))
   where
     by_queue : (h : ℕ) (s : Seen) (o : Option ℕ) → s.queue ≡ o → seen_in b.tasks.pool h ≡ Some s → s.on ≡ None → begins_in (without b.queues.pool q) h o ≡ begins_in b.queues.pool h o
     by_queue h s None e f n = refl

@@ -1,11 +1,8 @@
 -- What each move of the tasks keeps of the lists of waiting tasks by jobs.
 use Rattle.task_board.proofs.Names.{◌≡◌, ℕ, ◌<◌, ◌≤◌, true, List, [], ◌∷◌, ◌++◌, length, length-set, Option, Some, None, set, refl, sym, ◌∙◌, ap, subst, inl, inr, arith, ◌==◌, ◌&&◌, ◌%◌, is_none, false≢true, cases_eq, list_at, has_handle, without_handle, list_at-set_same, list_at-set_other, Seen, AreIn, AreByJob, waits_at}
-use Rattle.task_board.proofs.SeenLemmas.{some_same}
+use Rattle.task_board.proofs.SeenLemmas.{none-some, some_same}
 use Rattle.task_board.proofs.MarkLemmas.{and_left, and_right, same-number, number-same}
 use Rattle.task_board.proofs.KeyedLemmas.{Put, lists-push, lists-leave, lists-aside}
-
-none-some : {A : Type 0} {P : Type 0} {x : A} → None ≡ Some x → P
-none-some e = absurd (cc)
 
 remainder : (n job : ℕ) → 1 ≤ n → job % n < n
 remainder n job some = omega (arith, some)

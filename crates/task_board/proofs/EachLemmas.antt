@@ -1,13 +1,10 @@
 -- What the walks over the members of a group keep.
 use Rattle.task_board.proofs.Names.{◌≡◌, ℕ, ◌+◌, Bool, true, false, not, cond, List, [], ◌∷◌, ◌++◌, length, Option, Some, None, refl, sym, ◌∙◌, ap, subst, inl, inr, arith, ◌&&◌, is_none, option_or, false≢true, cases_eq, TaskEnd, MtapiStatus, Slots, slot_value, with_value, without, NoneLive, has_handle, Task, TaskState, Scheduled, Running, Ended, end_of, is_unended, is_member, is_unended_member, fault_of, first_fault, without_group, number_in, TaskTable, Members, no_members, ended_of, start_in, end_in, member_as, membership, members_in, BoardTable, IsBoard, Becomes, is_ended_member, end_at, ending_of, endings_of, Each, frees, lets_go, Leaves, FreesAll, LetsUnendedGo, LetsAllGo, Freed, Left}
 use Rattle.task_board.specs.GroupMoves.{Takes}
-use Rattle.task_board.proofs.SeenLemmas.{some_same}
+use Rattle.task_board.proofs.SeenLemmas.{none-some, some_same}
 use Rattle.task_board.proofs.MoveLemmas.{slot-without}
-use Rattle.task_board.proofs.MarkLemmas.{named-is}
+use Rattle.task_board.proofs.MarkLemmas.{named-is, and_left, and_right, and_both}
 use Rattle.task_board.proofs.MemberLemmas.{start-here, end-here, unnamed}
-
-none-some : {A : Type 0} {P : Type 0} {x : A} → None ≡ Some x → P
-none-some e = absurd (cc)
 
 -- one more task
 each-next : (p : Task → Bool) (move : Slots Task → ℕ → Task → Slots Task) (hs : List ℕ) (old now : Slots Task) (h : ℕ) (t : Task) → Each p move hs old now → slot_value now h ≡ Some t → p t ≡ true → Each p move (hs ++ h ∷ []) old (move now h t)
@@ -18,20 +15,9 @@ each-more : (p : Task → Bool) (move : Slots Task → ℕ → Task → Slots Ta
 each-more p move [] ys old now new a b = subst (λ (q : Slots Task). Each p move ys q new) a b
 each-more p move (x ∷ xs) ys old now new a b = (a.0, a.1, a.2, each-more p move xs ys (move old x a.0) now new a.3 b)
 
-and-left : (a b : Bool) → (a && b) ≡ true → a ≡ true
-and-left true b e = refl
-and-left false b e = e
-
-and-both : (a b : Bool) → a ≡ true → b ≡ true → (a && b) ≡ true
-and-both a b x y = λ i. x i && y i
-
 not-false : (b : Bool) → not b ≡ true → b ≡ false
 not-false true e = absurd (false≢true e)
 not-false false e = refl
-
-and-right : (a b : Bool) → (a && b) ≡ true → b ≡ true
-and-right true b e = e
-and-right false b e = absurd (false≢true e)
 
 -- a member that has ended is let go where it is freed
 each-ended : (g : ℕ) (hs : List ℕ) (old new : Slots Task) → Each (is_ended_member g) frees hs old new → Each (is_member g) lets_go hs old new
@@ -39,8 +25,8 @@ each-ended g [] old new e = e
 each-ended g (h ∷ hs) old new e = (
   e.0,
   e.1,
-  and-left (is_member g e.0) (not (is_unended e.0)) e.2,
-  subst (λ (q : Slots Task). Each (is_member g) lets_go hs q new) (sym (gone (is_unended e.0) (not-false (is_unended e.0) (and-right (is_member g e.0) (not (is_unended e.0)) e.2)))) (each-ended g hs (without old h) new e.3),
+  and_left (is_member g e.0) (not (is_unended e.0)) e.2,
+  subst (λ (q : Slots Task). Each (is_member g) lets_go hs q new) (sym (gone (is_unended e.0) (not-false (is_unended e.0) (and_right (is_member g e.0) (not (is_unended e.0)) e.2)))) (each-ended g hs (without old h) new e.3),
 )
   where
     gone : (b : Bool) → b ≡ false → cond b (with_value old h (without_group e.0)) (without old h) ≡ without old h
@@ -94,7 +80,7 @@ becomes-next old now new pool a b = record {
 }
 
 ended-passes : (g : ℕ) (t : Task) (e : TaskEnd) (n : ℕ) → is_member g t ≡ true → t.state ≡ Ended e n → is_ended_member g t ≡ true
-ended-passes g t e n member is = and-both (is_member g t) (not (is_unended t)) member (ap (λ (x : TaskState). not (is_none (end_of x))) is)
+ended-passes g t e n member is = and_both (is_member g t) (not (is_unended t)) member (ap (λ (x : TaskState). not (is_none (end_of x))) is)
 
 pub freed-next : (old now new : BoardTable) (g index h : ℕ) (fault : Option MtapiStatus) (e : TaskEnd) → Freed old now g index fault → Takes now new g h e → Freed old new g (index + 1) (option_or fault (fault_of e))
 freed-next old now new g index h fault e f x = record {
@@ -180,8 +166,8 @@ number-of (Ended y n) e = (n, refl)
 
 pub none-ended-left : (b : BoardTable) (g : ℕ) (m : Members) → IsBoard b → slot_value b.groups.pool g ≡ Some m → m.ended ≡ [] → NoneLive (slot_value b.tasks.pool) (λ t. is_ended_member g t ≡ true)
 none-ended-left b g m k live none h t is passes =
-    let group = named-is g t.notes.group (and-left (is_member g t) (not (is_unended t)) passes) in
-    let n = number-of t.state (not-false (is_unended t) (and-right (is_member g t) (not (is_unended t)) passes)) in
+    let group = named-is g t.notes.group (and_left (is_member g t) (not (is_unended t)) passes) in
+    let n = number-of t.state (not-false (is_unended t) (and_right (is_member g t) (not (is_unended t)) passes)) in
     let here : members_in b.tasks.pool h ≡ Some (record { group = g; detached = t.notes.detached; start = t.start; end = number_in (end_of t.state) }) = ap membership is ∙ ap (member_as t) group in
     false≢true (sym (ap (has_handle h) none) ∙ (k.members.ended g m live).listed h n.0 (ap (end_in g) here ∙ end-here g n.0 (record { group = g; detached = t.notes.detached; start = t.start; end = number_in (end_of t.state) }) refl n.1))
 
@@ -192,9 +178,9 @@ unended-number (Ended y n) e = absurd (false≢true e)
 
 pub none-unended-left : (b : BoardTable) (g : ℕ) (m : Members) → IsBoard b → slot_value b.groups.pool g ≡ Some m → m.unended ≡ [] → NoneLive (slot_value b.tasks.pool) (λ t. is_unended_member g t ≡ true)
 none-unended-left b g m k live none h t is passes =
-    let group = named-is g t.notes.group (and-left (is_member g t) (is_unended t) passes) in
+    let group = named-is g t.notes.group (and_left (is_member g t) (is_unended t) passes) in
     let here : members_in b.tasks.pool h ≡ Some (record { group = g; detached = t.notes.detached; start = t.start; end = number_in (end_of t.state) }) = ap membership is ∙ ap (member_as t) group in
-    false≢true (sym (ap (has_handle h) none) ∙ (k.members.unended g m live).listed h t.start (ap (start_in g) here ∙ start-here g (record { group = g; detached = t.notes.detached; start = t.start; end = number_in (end_of t.state) }) refl (unended-number t.state (and-right (is_member g t) (is_unended t) passes))))
+    false≢true (sym (ap (has_handle h) none) ∙ (k.members.unended g m live).listed h t.start (ap (start_in g) here ∙ start-here g (record { group = g; detached = t.notes.detached; start = t.start; end = number_in (end_of t.state) }) refl (unended-number t.state (and_right (is_member g t) (is_unended t) passes))))
 
 pub none-left-in : (b : BoardTable) (g : ℕ) → IsBoard b → slot_value b.groups.pool g ≡ Some no_members → NoneLive (slot_value b.tasks.pool) (λ t. is_member g t ≡ true)
 none-left-in b g k live h t is passes =

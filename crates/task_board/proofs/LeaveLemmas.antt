@@ -1,7 +1,7 @@
 -- What an end is of a board.
 use Rattle.task_board.proofs.Names.{◌≡◌, ◌≢◌, ◌+◌, ℕ, ◌<◌, true, List, length, length-set, Option, Some, None, set, slice_get, refl, sym, ◌∙◌, ap, subst, arith, is_none, false≢true, Kind, TaskEnd, Slots, slot_of, slot_value, max_of, changed, slot_of-live, list_at, has_handle, without_handle, has-first, ReadyMarks, Task, TaskState, Scheduled, Running, Ended, end_of, is_unended, shown_state, TaskTable, ended_in, IsLiveAnd, HeldQueue, QueueTable, without_task, Seen, seen_as, seen, seen_in, GroupTable, members_in, AreMembers, ended_member, begins_in, AreQueued, left_queue, head_of, BoardTable, IsBoard, Marked, AreWaiting, AreRanked, IsFreshAt, WaitingTable, without_waiting}
 use Rattle.task_core.specs.declared.states.TaskState.TheVariants as shown
-use Rattle.task_board.proofs.SeenLemmas.{some_same}
+use Rattle.task_board.proofs.SeenLemmas.{none-some, some_same}
 use Rattle.task_board.proofs.ByJobLemmas.{by-job-same}
 use Rattle.task_board.proofs.KeyedLemmas.{Put, has-sub}
 use Rattle.task_board.proofs.MoveLemmas.{ranked-put, Alone, Steady, alone, alone-old, put-ended, max-ended, marked-steady, marked-again, waiting-leave, waiting-same, running-end, running-same}
@@ -10,9 +10,6 @@ use Rattle.task_board.proofs.GivenLemmas.{dead-queue, put-queue_changed}
 use Rattle.task_board.proofs.QueuedLemmas.{queued-out, queued-leave, begins-leave}
 use Rattle.task_board.proofs.BoardLemmas.{left-jobs, SameSizes, sizes-set, put-board, put-marked, steady-same, unmarked-none, one-list, one-length, seat-below, over-tasks}
 use Rattle.task_board.proofs.TaskMemberLemmas.{members-over}
-
-none-some : {A : Type 0} {P : Type 0} {x : A} → None ≡ Some x → P
-none-some e = absurd (cc)
 
 first-of : (queues : Slots HeldQueue) (q : ℕ) (x : HeldQueue) → slot_value queues q ≡ Some x → head_of queues (Some q) ≡ slice_get x.tasks 0
 first-of queues q x e = rw e refl

@@ -1,24 +1,19 @@
 -- What each move of the tasks and of the groups keeps of the members.
 use Rattle.task_board.proofs.Names.{◌≡◌, ◌≢◌, ℕ, ◌+◌, ◌<◌, ◌≤◌, Bool, true, false, cond, List, ◌∷◌, Option, Some, None, refl, sym, ◌∙◌, ap, subst, inl, inr, arith, ◌==◌, false≢true, cases_eq, eqb_tells, nat_tests, Members, no_members, with_member, with_ended, AreKeyed, Membership, unless_ended, start_in, end_in, AreMembers}
-use Rattle.task_board.proofs.SeenLemmas.{some_same}
+use Rattle.task_board.proofs.MarkLemmas.{number-same}
+use Rattle.task_board.proofs.SeenLemmas.{none-some, some_same}
 use Rattle.task_board.proofs.KeyedLemmas.{Put, put-by, put-same, has-self, keyed-none, keyed-same, keyed-push, keyed-leave, keyed-first}
 
-none-some : {A : Type 0} {P : Type 0} {x : A} → None ≡ Some x → P
-none-some e = absurd (cc)
-
 -- The numbers of one member
-
-test-same : (a b : ℕ) → a ≡ b → (a == b) ≡ true
-test-same a b e = grind (arith, nat_tests)
 
 test-other : (a b : ℕ) → a ≢ b → (a == b) ≡ false
 test-other a b d = grind (arith, nat_tests)
 
 pub start-here : (g : ℕ) (e : Membership) → e.group ≡ g → e.end ≡ None → start_in g (Some e) ≡ Some e.start
-start-here g e is un = (λ i. cond (test-same e.group g is i) (unless_ended (un i) e.start) None)
+start-here g e is un = (λ i. cond (number-same e.group g is i) (unless_ended (un i) e.start) None)
 
 pub end-here : (g n : ℕ) (e : Membership) → e.group ≡ g → e.end ≡ Some n → end_in g (Some e) ≡ Some n
-end-here g n e is over = (λ i. cond (test-same e.group g is i) (over i) None)
+end-here g n e is over = (λ i. cond (number-same e.group g is i) (over i) None)
 
 start-over : (g n : ℕ) (e : Membership) → e.end ≡ Some n → start_in g (Some e) ≡ None
 start-over g n e over = (λ i. cond (e.group == g) (unless_ended (over i) e.start) None) ∙ by_test (e.group == g)

@@ -3,13 +3,10 @@ use Rattle.task_board.proofs.Names.{◌≡◌, ℕ, Bool, true, false, not, cond
 use Rattle.std.specs.Prelude.{OnOk}
 use Rattle.task_core.specs.Records.{end_in as end_told}
 use Rattle.task_board.specs.GroupMoves.{Takes}
-use Rattle.task_board.proofs.SeenLemmas.{some_same}
+use Rattle.task_board.proofs.SeenLemmas.{none-some, some_same}
 use Rattle.task_board.proofs.MoveLemmas.{Put, put-by, put-same, put-value, put-without, slot-value, slot-without, slot-insert, slot-changed, max-value, max-without, over-unseen, seen-noted, has-self, regrouped}
 use Rattle.task_board.proofs.MemberLemmas.{start-tells, end-tells, members-take, members-leave, members-create, members-delete}
 use Rattle.task_board.proofs.GroupSlotLemmas.{members-unseen}
-
-none-some : {A : Type 0} {P : Type 0} {x : A} → None ≡ Some x → P
-none-some e = absurd (cc)
 
 -- the first of a list
 pub record FirstIn (o : Option Members) (list : Members → List ℕ) (h : ℕ) : Type 0 where

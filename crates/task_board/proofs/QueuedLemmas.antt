@@ -1,12 +1,9 @@
 -- What each move of the tasks and of the queues keeps of the lists of the queues.
 use Rattle.task_board.proofs.Names.{nat_tests, ListsBy, ◌≡◌, ◌≢◌, ℕ, ◌<◌, Bool, true, false, List, [], ◌∷◌, ◌++◌, Option, Some, None, refl, sym, ◌∙◌, ap, subst, inl, inr, arith, ◌==◌, ◌||◌, ◌&&◌, not, slice_get, if◌then◌else◌, false≢true, cases_eq, cases_Bool, holds, Slots, slot_value, Inserts, without, changed, has_handle, without_handle, HeldQueue, held, with_task, without_task, with_opened, Queue, Seen, InOrder, begins_in, WasGiven, AreQueued}
 use Rattle.queue_ready.specs.Ready.{is_first, may_begin}
-use Rattle.task_board.proofs.SeenLemmas.{some_same}
+use Rattle.task_board.proofs.SeenLemmas.{none-some, some_same}
 use Rattle.task_board.proofs.KeyedLemmas.{Put, rises-as, rises-same, lists-push, lists-leave}
 use Rattle.task_board.proofs.GivenLemmas.{PutQueue, put-queue_changed, put-queue_insert, put-queue_without, given-live, given-changed, given-insert, given-new, given-without}
-
-none-some : {A : Type 0} {P : Type 0} {x : A} → None ≡ Some x → P
-none-some e = absurd (cc)
 
 -- One task moves, and no queue's list changes
 

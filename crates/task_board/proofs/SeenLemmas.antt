@@ -5,6 +5,9 @@ use Rattle.task_board.specs.Seen.{Takes}
 pub some_same : {A : Type 0} {a b : A} → Some a ≡ Some b → a ≡ b
 some_same h = cc
 
+pub none-some : {A : Type 0} {P : Type 0} {x : A} → None ≡ Some x → P
+none-some e = absurd (cc)
+
 -- what is seen of a task is its own
 pub record SeenAs (t : Task) (x : TaskState) (s : Seen) : Type 0 where
   pub job : s.job ≡ t.job

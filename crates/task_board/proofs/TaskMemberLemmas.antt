@@ -1,12 +1,10 @@
 -- What each move of the tasks is for the members.
 use Rattle.task_board.proofs.Names.{◌≡◌, ℕ, ◌+◌, Bool, true, false, cond, List, [], ◌∷◌, Option, Some, None, IsSome, slice_get, refl, sym, ◌∙◌, ap, subst, inl, inr, arith, IfSome, is_some, is_none, option_map, false≢true, cases_Bool, TaskEnd, Kind, first, GroupHandle, ErrWaitPending, Slots, slot_of, generation_of, free_slot, slot_value, value_at, Inserts, with_value, without, put, changed, value_at-none, has_handle, stands_at, Task, TaskState, Scheduled, Running, Ended, NewTask, new_task, Notes, is_unended, end_of, with_state, with_notes, with_tally, with_waiter, cancel_requested, asked_once, asked_refusals, task_look_refusals, group_number, number_in, notes_of, tallied, after_asked, waiter_after, ended_in, looked_in, Members, GroupTable, with_member, with_ended, NoMemberAt, IsUnendedMember, Membership, start_in, member_as, membership, members_in, AreMembers, MayJoin, joined, ended_member}
+use Rattle.task_board.proofs.SeenLemmas.{none-some}
 use Rattle.mtapi_values.specs.Seats.{is_other}
 use Rattle.task_core.specs.declared.tallies.TallyState.{TallyState}
 use Rattle.task_board.proofs.MoveLemmas.{Put, put-by, put-same, slot-value, slot-without, slot-insert, slot-changed, stands-handle, or-right}
 use Rattle.task_board.proofs.MemberLemmas.{start-here, start-tells, end-tells, members-same, members-enter, members-end}
-
-none-some : {A : Type 0} {P : Type 0} {x : A} → None ≡ Some x → P
-none-some e = absurd (cc)
 
 -- Moves that groups don't see
 
