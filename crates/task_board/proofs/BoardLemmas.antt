@@ -1,5 +1,5 @@
 -- What each call keeps of a board.
-use Rattle.task_board.proofs.Names.{◌≡◌, ◌≢◌, ◌⊎◌, ◌≤◌, ◌+◌, ℕ, zero, suc, ◌<◌, Bool, true, false, List, [], ◌∷◌, length, length-set, Option, Some, None, Result, Ok, Err, set, slice_get, refl, sym, ◌∙◌, ap, subst, inl, inr, arith, ◌%◌, is_some, is_none, option_map, false≢true, cases_eq, cases_Bool, Kind, TaskHandle, MtapiStatus, without, Slots, slot_of, generation_of, free_slot, value_at, slot_value, max_of, Inserts, changed, put, value_at-none, get-insert_same, get-insert_before, slot_of-live, list_at, has_handle, without_handle, stands_at, NowhereAt, list_at-set_same, Mark, ReadyMarks, Action, Queue, job_of, IsUnion, Task, NewTask, new_task, Running, is_unstarted, with_state, TaskState, Scheduled, Ended, scheduled, end_of, TaskTable, GroupTable, members_in, AreMembers, MayJoin, joined, ended_member, Seen, seen_as, seen, seen_in, HeldQueue, QueueTable, NoTaskAt, live_reply, held, facts_of, tasks_of, with_opened, with_task, QueueHandle, ErrQueueExists, ErrQueueLimit, begins_in, AreQueued, NoneWaitsIn, WaitingTable, job_list, with_waiting, without_waiting, AreSeen, AreByJob, BoardTable, IsBoard, IsMarkOf, Marked, AreWaiting, AreRunning, AreRanked, running_on, IsFresh, Remarked, RemarkedUnless}
+use Rattle.task_board.proofs.Names.{nat_tests, ◌≡◌, ◌≢◌, ◌⊎◌, ◌≤◌, ◌+◌, ℕ, zero, suc, ◌<◌, Bool, true, false, List, [], ◌∷◌, length, length-set, Option, Some, None, Result, Ok, Err, set, slice_get, refl, sym, ◌∙◌, ap, subst, inl, inr, arith, ◌%◌, is_some, is_none, option_map, false≢true, cases_eq, cases_Bool, Kind, TaskHandle, MtapiStatus, without, Slots, slot_of, generation_of, free_slot, value_at, slot_value, max_of, Inserts, changed, put, value_at-none, get-insert_same, get-insert_before, slot_of-live, list_at, has_handle, without_handle, stands_at, NowhereAt, list_at-set_same, Mark, ReadyMarks, Action, Queue, job_of, IsUnion, Task, NewTask, new_task, Running, is_unstarted, with_state, TaskState, scheduled, end_of, TaskTable, GroupTable, members_in, AreMembers, MayJoin, joined, ended_member, Seen, seen_as, seen, seen_in, HeldQueue, QueueTable, NoTaskAt, live_reply, held, facts_of, tasks_of, with_opened, with_task, QueueHandle, ErrQueueExists, ErrQueueLimit, begins_in, AreQueued, NoneWaitsIn, WaitingTable, job_list, with_waiting, without_waiting, AreSeen, AreByJob, BoardTable, IsBoard, IsMarkOf, Marked, AreWaiting, AreRunning, AreRanked, running_on, IsFresh, Remarked, RemarkedUnless}
 use Rattle.std.specs.Result.{OnOk, OnErr}
 use Rattle.queue_core.specs.Held.{Creates as CreatesQueue}
 use Rattle.queue_core.specs.declared.facts.QueueFacts.{QueueFacts}
@@ -140,12 +140,10 @@ new-ranked b q h n a k i less =
     ranked-put (seen_in b.tasks.pool) (seen_in q) h _ b.settings.priorities (put-insert b.tasks.pool q h (new_task a n) i) (λ s e. subst (λ (u : Seen). u.priority < b.settings.priorities) (some_same e) less) k.ranked
 
 joined-tasks : (t : GroupTable) (o : Option ℕ) (h : ℕ) → (joined t o h).tasks ≡ t.tasks
-joined-tasks t None h = refl
-joined-tasks t (Some g) h = refl
+joined-tasks t o h = grind (arith, nat_tests)
 
 pub over-tasks : (t : GroupTable) (o : Option ℕ) (h : ℕ) → (ended_member t o h).tasks ≡ t.tasks
-over-tasks t None h = refl
-over-tasks t (Some g) h = refl
+over-tasks t o h = grind (arith, nat_tests)
 
 -- what a new task is of a board: `queues` has it in its queue, if any, and `groups` in its group
 add-with : (b : BoardTable) (q : TaskTable) (queues : QueueTable) (ready : ReadyMarks) (waiting : WaitingTable) (groups : GroupTable) (h n : ℕ) (a : NewTask) → IsBoard b → Inserts b.tasks.pool q.pool h (new_task a n) → n ≡ b.tasks.starts → q.starts ≡ b.tasks.starts + 1 → a.priority < b.settings.priorities → waiting ≡ with_waiting b.waiting a.job h → queues.tasks ≡ b.queues.tasks → Steady (begins_in b.queues.pool) (begins_in queues.pool) (seen_in b.tasks.pool) h → AreQueued (seen_in q.pool) queues.pool b.settings.priorities → IsFresh b.actions (begins_in queues.pool) (seen_in q.pool) h b.ready ready → q.ends ≡ b.tasks.ends → MayJoin b.groups.pool a.detached a.group → groups ≡ joined b.groups a.group h → IsBoard (record b { tasks = q; queues = queues; ready = ready; waiting = waiting; groups = groups })
@@ -217,9 +215,7 @@ waits-in b h t k g u =
     k.waiting_are.listed h s.0 (ap seen g ∙ s.1) s.2
 
 unstarted-unended : (x : TaskState) → scheduled x ≡ true → is_none (end_of x) ≡ true
-unstarted-unended Scheduled e = refl
-unstarted-unended (Running w k) e = refl
-unstarted-unended (Ended y n) e = absurd (false≢true e)
+unstarted-unended x e1 = grind (arith, nat_tests)
 
 -- the lists by jobs once a waiting task has left
 pub left-jobs : (b : BoardTable) (waiting : WaitingTable) (after : ℕ → Option Seen) (h job : ℕ) (s : Seen) (x : Option Seen) → Put (seen_in b.tasks.pool) h x after → seen_in b.tasks.pool h ≡ Some s → s.job ≡ job → ((u : Seen) → x ≡ Some u → u.on ≡ None → ⊥) → waiting ≡ without_waiting b.waiting job h → IsBoard b → AreByJob b.settings.actions after waiting.by_job
@@ -396,8 +392,4 @@ job-found (Some x) j e = (x, refl, cc)
 
 -- an action that isn't live doesn't change
 pub unchanged : (p : Slots Action) (h : ℕ) (f : Action → Action) (c : MtapiStatus) → Err c ≡ job_of (slot_value p h) → changed p h f ≡ p
-unchanged p h f c e = by_found (slot_value p h) refl e
-  where
-    by_found : (o : Option Action) → slot_value p h ≡ o → Err c ≡ job_of o → changed p h f ≡ p
-    by_found None g d = ap (λ (o : Option Action). put p h (option_map f o)) g
-    by_found (Some x) g d = absurd (cc)
+unchanged p h f c e1 = grind (arith, nat_tests)

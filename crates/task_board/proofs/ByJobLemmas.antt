@@ -1,7 +1,7 @@
 -- What each move of the tasks keeps of the lists of waiting tasks by jobs.
-use Rattle.task_board.proofs.Names.{◌≡◌, ℕ, ◌<◌, ◌≤◌, true, List, [], ◌∷◌, ◌++◌, length, length-set, Option, Some, None, set, refl, sym, ◌∙◌, ap, subst, inl, inr, arith, ◌==◌, ◌&&◌, ◌%◌, is_none, false≢true, cases_eq, list_at, has_handle, without_handle, list_at-set_same, list_at-set_other, Seen, AreIn, AreByJob, waits_at}
+use Rattle.task_board.proofs.Names.{nat_tests, ◌≡◌, ℕ, ◌<◌, ◌≤◌, true, List, [], ◌∷◌, ◌++◌, length, length-set, Option, Some, None, set, refl, sym, ◌∙◌, ap, subst, inl, inr, arith, ◌==◌, ◌&&◌, ◌%◌, is_none, cases_eq, list_at, has_handle, without_handle, list_at-set_same, list_at-set_other, Seen, AreIn, AreByJob, waits_at}
 use Rattle.task_board.proofs.SeenLemmas.{none-some, some_same}
-use Rattle.task_board.proofs.MarkLemmas.{and_left, and_right, same-number, number-same}
+use Rattle.task_board.proofs.MarkLemmas.{and_right, same-number, number-same}
 use Rattle.task_board.proofs.KeyedLemmas.{Put, lists-push, lists-leave, lists-aside}
 
 remainder : (n job : ℕ) → 1 ≤ n → job % n < n
@@ -11,11 +11,7 @@ other-job : (n r : ℕ) (s : Seen) → (r ≡ s.job % n → ⊥) → waits_at n 
 other-job n r s d e = d (sym (same-number (s.job % n) r (and_right (is_none s.on) (s.job % n == r) e)))
 
 waits-none : (n r : ℕ) (s : Seen) → waits_at n r s ≡ true → s.on ≡ None
-waits-none n r s e = no-some s.on (and_left (is_none s.on) (s.job % n == r) e)
-  where
-    no-some : (o : Option ℕ) → is_none o ≡ true → o ≡ None
-    no-some None f = refl
-    no-some (Some w) f = absurd (false≢true f)
+waits-none n r s e1 = grind (arith, nat_tests)
 
 -- a list with one list replaced
 replaced : {n : ℕ} (at after : ℕ → Option Seen) (ls : List (List ℕ)) (job : ℕ) (hs : List ℕ) → AreByJob n at ls → AreIn (waits_at (length ls) (job % length ls)) after hs → ((r : ℕ) → r < length ls → (r ≡ job % length ls → ⊥) → AreIn (waits_at (length ls) r) at (list_at ls r) → AreIn (waits_at (length ls) r) after (list_at ls r)) → AreByJob n after (set ls (job % length ls) hs)

@@ -1,5 +1,5 @@
 -- What the walks over the members of a group keep.
-use Rattle.task_board.proofs.Names.{◌≡◌, ℕ, ◌+◌, Bool, true, false, not, cond, List, [], ◌∷◌, ◌++◌, length, Option, Some, None, refl, sym, ◌∙◌, ap, subst, inl, inr, arith, ◌&&◌, is_none, option_or, false≢true, cases_eq, TaskEnd, MtapiStatus, Slots, slot_value, with_value, without, NoneLive, has_handle, Task, TaskState, Scheduled, Running, Ended, end_of, is_unended, is_member, is_unended_member, fault_of, first_fault, without_group, number_in, TaskTable, Members, no_members, ended_of, start_in, end_in, member_as, membership, members_in, BoardTable, IsBoard, Becomes, is_ended_member, end_at, ending_of, endings_of, Each, frees, lets_go, Leaves, FreesAll, LetsUnendedGo, LetsAllGo, Freed, Left}
+use Rattle.task_board.proofs.Names.{nat_tests, ◌≡◌, ℕ, ◌+◌, Bool, true, false, not, cond, List, [], ◌∷◌, ◌++◌, length, Option, Some, None, refl, sym, ◌∙◌, ap, subst, inl, inr, arith, is_none, option_or, false≢true, cases_eq, TaskEnd, MtapiStatus, Slots, slot_value, with_value, without, NoneLive, has_handle, Task, TaskState, Scheduled, Running, Ended, end_of, is_unended, is_member, is_unended_member, fault_of, first_fault, without_group, number_in, TaskTable, Members, no_members, ended_of, start_in, end_in, member_as, membership, members_in, BoardTable, IsBoard, Becomes, is_ended_member, end_at, ending_of, endings_of, Each, frees, lets_go, Leaves, FreesAll, LetsUnendedGo, LetsAllGo, Freed, Left}
 use Rattle.task_board.specs.GroupMoves.{Takes}
 use Rattle.task_board.proofs.SeenLemmas.{none-some, some_same}
 use Rattle.task_board.proofs.MoveLemmas.{slot-without}
@@ -16,8 +16,7 @@ each-more p move [] ys old now new a b = subst (λ (q : Slots Task). Each p move
 each-more p move (x ∷ xs) ys old now new a b = (a.0, a.1, a.2, each-more p move xs ys (move old x a.0) now new a.3 b)
 
 not-false : (b : Bool) → not b ≡ true → b ≡ false
-not-false true e = absurd (false≢true e)
-not-false false e = refl
+not-false b e1 = grind (arith, nat_tests)
 
 -- a member that has ended is let go where it is freed
 each-ended : (g : ℕ) (hs : List ℕ) (old new : Slots Task) → Each (is_ended_member g) frees hs old new → Each (is_member g) lets_go hs old new
@@ -52,21 +51,12 @@ none-left [] [] e = refl
 none-left [] (y ∷ ys) e = absurd (omega (arith, e))
 none-left (x ∷ xs) ys e = none-left xs ys (omega (arith, e))
 
-or-assoc : {A : Type 0} (a b c : Option A) → option_or a (option_or b c) ≡ option_or (option_or a b) c
-or-assoc None b c = refl
-or-assoc (Some x) b c = refl
-
 or-none : {A : Type 0} (a : Option A) → option_or a None ≡ a
-or-none None = refl
-or-none (Some x) = refl
+or-none a = grind (arith, nat_tests)
 
 fault-next : (at : ℕ → Option Task) (hs : List ℕ) (h n : ℕ) (e : TaskEnd) → end_at (at h) ≡ Some (e, n) → first_fault (endings_of at (hs ++ h ∷ [])) ≡ option_or (first_fault (endings_of at hs)) (fault_of e)
 fault-next at [] h n e is = ap (λ (o : Option _). first_fault (ending_of h o [])) is ∙ or-none (fault_of e)
-fault-next at (x ∷ xs) h n e is = by_end (end_at (at x)) (fault-next at xs h n e is)
-  where
-    by_end : (o : Option (TaskEnd × ℕ)) → first_fault (endings_of at (xs ++ h ∷ [])) ≡ option_or (first_fault (endings_of at xs)) (fault_of e) → first_fault (ending_of x o (endings_of at (xs ++ h ∷ []))) ≡ option_or (first_fault (ending_of x o (endings_of at xs))) (fault_of e)
-    by_end None rest = rest
-    by_end (Some y) rest = ap (λ (z : Option MtapiStatus). option_or (fault_of y.0) z) rest ∙ or-assoc (fault_of y.0) (first_fault (endings_of at xs)) (fault_of e)
+fault-next at (x ∷ xs) h n e is = grind (arith, nat_tests, fault-next at xs h n e is)
 
 -- Freeing
 
@@ -172,9 +162,7 @@ none-ended-left b g m k live none h t is passes =
     false≢true (sym (ap (has_handle h) none) ∙ (k.members.ended g m live).listed h n.0 (ap (end_in g) here ∙ end-here g n.0 (record { group = g; detached = t.notes.detached; start = t.start; end = number_in (end_of t.state) }) refl n.1))
 
 unended-number : (x : TaskState) → is_none (end_of x) ≡ true → number_in (end_of x) ≡ None
-unended-number Scheduled e = refl
-unended-number (Running w k) e = refl
-unended-number (Ended y n) e = absurd (false≢true e)
+unended-number x e1 = grind (arith, nat_tests)
 
 pub none-unended-left : (b : BoardTable) (g : ℕ) (m : Members) → IsBoard b → slot_value b.groups.pool g ≡ Some m → m.unended ≡ [] → NoneLive (slot_value b.tasks.pool) (λ t. is_unended_member g t ≡ true)
 none-unended-left b g m k live none h t is passes =

@@ -1,5 +1,5 @@
 -- Handles that were given to queues, and one queue that changes.
-use Rattle.task_board.proofs.Names.{◌≡◌, ◌≢◌, ℕ, ◌+◌, Bool, true, false, Option, Some, None, set, slice_get, refl, sym, ◌∙◌, ap, subst, inl, inr, arith, ◌==◌, if◌then◌else◌, option_map, cases_eq, Slot, Slots, slot_of, generation_of, free_slot, used_slot, slot_after, slot_value, Inserts, without, put, changed, slice_get-set_same, slice_get-set_other, used_at_live, get-with_value_same, get-with_value_other, get-insert_same, get-insert_other, get-without_same, get-without_other, HeldQueue, HasHad, WasGiven}
+use Rattle.task_board.proofs.Names.{nat_tests, ◌≡◌, ◌≢◌, ℕ, ◌+◌, Bool, true, false, Option, Some, None, set, slice_get, refl, sym, ◌∙◌, ap, subst, inl, inr, arith, ◌==◌, if◌then◌else◌, option_map, cases_eq, Slot, Slots, slot_of, generation_of, free_slot, used_slot, slot_after, slot_value, Inserts, without, put, changed, slice_get-set_same, slice_get-set_other, used_at_live, get-with_value_same, get-with_value_other, get-insert_same, get-insert_other, get-without_same, get-without_other, HeldQueue, HasHad, WasGiven}
 
 some_same : {A : Type 0} {a b : A} → Some a ≡ Some b → a ≡ b
 some_same h = cc
@@ -27,10 +27,7 @@ dead-queue p q f g = ap (λ (o : Option HeldQueue). put p q (option_map f o)) g
 -- Handles that were given
 
 used-not_free : (generation other : ℕ) (x : HeldQueue) → used_slot generation x ≡ free_slot other → ⊥
-used-not_free generation other x e = no (ap (λ (s : Slot HeldQueue). s.value) e)
-  where
-    no : Some x ≡ None → ⊥
-    no d = cc
+used-not_free generation other x e1 = grind (arith, nat_tests)
 
 -- the live handle's slot before
 was-live : (p : Slots HeldQueue) (h : ℕ) (x : HeldQueue) → slot_value p h ≡ Some x → (s : Slot HeldQueue) × (slice_get p.slots (slot_of h) ≡ Some s) × (s.generation ≡ generation_of h)
@@ -72,10 +69,7 @@ given-insert p new h q x i old =
 
 -- a handle that is given now wasn't given before
 pub given-new : (p new : Slots HeldQueue) (q : ℕ) (x : HeldQueue) → Inserts p new q x → WasGiven p q → ⊥
-given-new p new q x i given = elim (given (free_slot (generation_of q)) i.was_free) [
-  | inl before ↦ omega (arith, before)
-  | inr at ↦ at.1 refl
-]
+given-new p new q x e1 e2 = grind (arith, nat_tests)
 
 pub given-without : (p : Slots HeldQueue) (h q : ℕ) (x : HeldQueue) → slot_value p h ≡ Some x → WasGiven p q → WasGiven (without p h) q
 given-without p h q x g old =

@@ -12,10 +12,7 @@ put-by f at after h x m = record { here = ap f m.here; others = λ k d. ap f (m.
 
 -- what was there before is put back
 pub put-same : {A : Type 0} (at after : ℕ → A) (h : ℕ) (x : A) → Put at h x after → x ≡ at h → (k : ℕ) → after k ≡ at k
-put-same at after h x m e k = elim (cases_eq k h) [
-  | inl here ↦ ap after here ∙ m.here ∙ e ∙ ap at (sym here)
-  | inr away ↦ m.others k away
-]
+put-same at after h x e1 e2 k = grind (arith, nat_tests)
 
 -- Handles in a list
 

@@ -1,5 +1,5 @@
 -- What an end is of a board.
-use Rattle.task_board.proofs.Names.{◌≡◌, ◌≢◌, ◌+◌, ℕ, ◌<◌, true, List, length, length-set, Option, Some, None, set, slice_get, refl, sym, ◌∙◌, ap, subst, arith, is_none, false≢true, Kind, TaskEnd, Slots, slot_of, slot_value, max_of, changed, slot_of-live, list_at, has_handle, without_handle, has-first, ReadyMarks, Task, TaskState, Scheduled, Running, Ended, end_of, is_unended, shown_state, TaskTable, ended_in, IsLiveAnd, HeldQueue, QueueTable, without_task, Seen, seen_as, seen, seen_in, GroupTable, members_in, AreMembers, ended_member, begins_in, AreQueued, left_queue, head_of, BoardTable, IsBoard, Marked, AreWaiting, AreRanked, IsFreshAt, WaitingTable, without_waiting}
+use Rattle.task_board.proofs.Names.{nat_tests, ◌≡◌, ◌≢◌, ◌+◌, ℕ, ◌<◌, true, List, length, length-set, Option, Some, None, set, slice_get, refl, sym, ◌∙◌, ap, subst, arith, is_none, false≢true, Kind, TaskEnd, Slots, slot_of, slot_value, max_of, changed, slot_of-live, list_at, has_handle, without_handle, has-first, ReadyMarks, Task, TaskState, Scheduled, Running, Ended, end_of, is_unended, shown_state, TaskTable, ended_in, IsLiveAnd, HeldQueue, QueueTable, without_task, Seen, seen_as, seen, seen_in, GroupTable, members_in, AreMembers, ended_member, begins_in, AreQueued, left_queue, head_of, BoardTable, IsBoard, Marked, AreWaiting, AreRanked, IsFreshAt, WaitingTable, without_waiting}
 use Rattle.task_core.specs.declared.states.TaskState.TheVariants as shown
 use Rattle.task_board.proofs.SeenLemmas.{none-some, some_same}
 use Rattle.task_board.proofs.ByJobLemmas.{by-job-same}
@@ -29,14 +29,10 @@ leaves b q queues cleared ready h o named is left cleared_is fresh = subst (λ (
 -- The state of the task
 
 pub scheduled-is : (x : TaskState) → shown.Scheduled ≡ shown_state x → x ≡ Scheduled
-scheduled-is Scheduled f = refl
-scheduled-is (Running v k) f = absurd (cc)
-scheduled-is (Ended y n) f = absurd (cc)
+scheduled-is x e1 = grind (arith, nat_tests)
 
 pub running-is : (x : TaskState) (w : ℕ) (kind : Kind) → shown.Running w kind ≡ shown_state x → x ≡ Running w kind
-running-is Scheduled w kind f = absurd (cc)
-running-is (Running v k) w kind f = cc
-running-is (Ended y n) w kind f = absurd (cc)
+running-is x w kind e1 = grind (arith, nat_tests)
 
 -- a task that hasn't ended is seen, with its queue
 unended-seen : (t : Task) (x : TaskState) → is_none (end_of x) ≡ true → (s : Seen) × (seen_as t x ≡ Some s) × (s.queue ≡ t.queue)

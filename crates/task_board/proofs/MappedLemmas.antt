@@ -1,5 +1,5 @@
 -- What each move of slots is for the mapped slots.
-use Rattle.task_board.proofs.Names.{◌≡◌, ◌↔◌, ℕ, zero, suc, ◌+◌, Bool, true, false, List, [], ◌∷◌, replicate, map, Option, Some, None, fold, cond, set, slice_get, refl, sym, ap, ◌∙◌, arith, ◌==◌, is_some, if◌then◌else◌, option_map, length-map, map-set, slice_get-map, Slot, Slots, slot_of, generation_of, free_slot, used_slot, slot_after, value_at, slot_value, max_of, is_live, is_retired, IsFull, Inserts, with_value, without, put, changed, set-same, mapped_slot, mapped}
+use Rattle.task_board.proofs.Names.{nat_tests, ◌≡◌, ◌↔◌, ℕ, zero, suc, ◌+◌, Bool, true, false, List, [], ◌∷◌, replicate, map, Option, Some, None, fold, cond, set, slice_get, refl, sym, ap, ◌∙◌, arith, ◌==◌, if◌then◌else◌, option_map, length-map, map-set, slice_get-map, Slot, Slots, slot_of, generation_of, free_slot, used_slot, slot_after, value_at, slot_value, max_of, is_live, is_retired, IsFull, Inserts, with_value, without, put, changed, set-same, mapped_slot, mapped}
 
 module _ {A B : Type 0} (f : A → B) where
   abbrev slots_of : ℕ → List (Slot B) → Slots B
@@ -57,11 +57,7 @@ module _ {A B : Type 0} (f : A → B) where
   fold-mapped t u same (s ∷ ss) n = ap (λ (b : Bool). fold (λ a x. a + cond (t x) 1 0) (n + cond b 1 0) (map (mapped_slot f) ss)) (same s) ∙ fold-mapped t u same ss (n + cond (u s) 1 0)
 
   is_live-mapped : (s : Slot A) → is_live (mapped_slot f s) ≡ is_live s
-  is_live-mapped s = by_value s.value
-    where
-      by_value : (o : Option A) → is_some (option_map f o) ≡ is_some o
-      by_value None = refl
-      by_value (Some v) = refl
+  is_live-mapped s = grind (arith, nat_tests)
 
   -- no slot may be used in the one exactly where none may be in the other
   pub IsFull-mapped : (p : Slots A) → IsFull (mapped f p) ↔ IsFull p

@@ -1,16 +1,14 @@
 -- Marks that are right, and what they tell.
-use Rattle.task_board.proofs.Names.{◌≡◌, ℕ, zero, suc, ◌<◌, Bool, true, false, bit_and, List, [], ◌∷◌, Option, Some, None, set, slice_get, refl, sym, ◌∙◌, ap, subst, inl, inr, arith, ◌&&◌, ◌==◌, false≢true, cases_Bool, nat_tests, bit_at_and, bit_at-lt, holds, in_mask, Slots, slot_of, slot_value, used_at, SomeLive, used_at-live, Mark, is_for, is_for_at, HasNoneFor, IsFirst, Action, Passes, runs_job_on, Covers, Chooses, Cores, Task, is_unstarted, HeldQueue, Takeable, NoneTakeable, NoneBetter, IsBest, seen, seen_in, begins_in, IsMarkOf, Marked}
+use Rattle.task_board.proofs.Names.{◌≡◌, ℕ, zero, suc, ◌<◌, Bool, true, bit_and, List, [], ◌∷◌, Option, Some, set, slice_get, refl, sym, ◌∙◌, ap, subst, inl, inr, arith, ◌&&◌, ◌==◌, false≢true, cases_Bool, nat_tests, bit_at_and, bit_at-lt, holds, in_mask, Slots, slot_of, slot_value, used_at, SomeLive, used_at-live, Mark, is_for, is_for_at, HasNoneFor, IsFirst, Action, Passes, runs_job_on, Covers, Chooses, Cores, Task, is_unstarted, HeldQueue, Takeable, NoneTakeable, NoneBetter, IsBest, seen, seen_in, begins_in, IsMarkOf, Marked}
 use Rattle.mtapi_values.specs.declared.masks.Mask.{Mask}
 use Rattle.task_board.specs.declared.board.Choice.{Choice}
 use Rattle.task_board.proofs.SeenLemmas.{some_same, seen-as, unstarted-seen, seen-live, takes-from, takes-to}
 
 pub and_left : (a b : Bool) → (a && b) ≡ true → a ≡ true
-and_left true b e = refl
-and_left false b e = e
+and_left a b e1 = grind (arith, nat_tests)
 
 pub and_right : (a b : Bool) → (a && b) ≡ true → b ≡ true
-and_right true b e = e
-and_right false b e = absurd (false≢true e)
+and_right a b e1 = grind (arith, nat_tests)
 
 pub and_both : (a b : Bool) → a ≡ true → b ≡ true → (a && b) ≡ true
 and_both a b x y = λ i. x i && y i
@@ -29,8 +27,7 @@ same-number a b e = grind (arith, nat_tests)
 
 -- what names this number
 pub named-is : (g : ℕ) (o : Option ℕ) → holds (λ h. h == g) o ≡ true → o ≡ Some g
-named-is g None e = absurd (false≢true e)
-named-is g (Some h) e = ap Some (same-number h g e)
+named-is g o e1 = grind (arith, nat_tests)
 
 pub number-same : (a b : ℕ) → a ≡ b → (a == b) ≡ true
 number-same a b e = grind (arith, nat_tests)
@@ -70,8 +67,7 @@ mark-right actions lets t mask m u q c priority cores = record {
 -- Reading the first mark
 
 for-some : (w p : ℕ) (o : Option Mark) → is_for_at w p o ≡ true → is_for w o ≡ true
-for-some w p None e = e
-for-some w p (Some m) e = and_left _ _ e
+for-some w p o e1 = grind (arith, nat_tests)
 
 module _ (actions : Slots Action) (p : Slots Task) (queues : Slots HeldQueue) (marks : List (Option Mark)) (m : Marked actions (begins_in queues) (seen_in p) marks) (w : ℕ) where
   pub best-none : HasNoneFor w marks → NoneTakeable actions p queues w

@@ -1,13 +1,10 @@
 -- What each move of the tasks and of the groups keeps of the members.
-use Rattle.task_board.proofs.Names.{◌≡◌, ◌≢◌, ℕ, ◌+◌, ◌<◌, ◌≤◌, Bool, true, false, cond, List, ◌∷◌, Option, Some, None, refl, sym, ◌∙◌, ap, subst, inl, inr, arith, ◌==◌, false≢true, cases_eq, eqb_tells, nat_tests, Members, no_members, with_member, with_ended, AreKeyed, Membership, unless_ended, start_in, end_in, AreMembers}
+use Rattle.task_board.proofs.Names.{◌≡◌, ◌≢◌, ℕ, ◌+◌, ◌<◌, ◌≤◌, false, cond, List, ◌∷◌, Option, Some, None, refl, sym, ◌∙◌, ap, subst, inl, inr, arith, false≢true, cases_eq, eqb_tells, nat_tests, Members, no_members, with_member, with_ended, AreKeyed, Membership, unless_ended, start_in, end_in, AreMembers}
 use Rattle.task_board.proofs.MarkLemmas.{number-same}
 use Rattle.task_board.proofs.SeenLemmas.{none-some, some_same}
 use Rattle.task_board.proofs.KeyedLemmas.{Put, put-by, put-same, has-self, keyed-none, keyed-same, keyed-push, keyed-leave, keyed-first}
 
 -- The numbers of one member
-
-test-other : (a b : ℕ) → a ≢ b → (a == b) ≡ false
-test-other a b d = grind (arith, nat_tests)
 
 pub start-here : (g : ℕ) (e : Membership) → e.group ≡ g → e.end ≡ None → start_in g (Some e) ≡ Some e.start
 start-here g e is un = (λ i. cond (number-same e.group g is i) (unless_ended (un i) e.start) None)
@@ -16,27 +13,17 @@ pub end-here : (g n : ℕ) (e : Membership) → e.group ≡ g → e.end ≡ Some
 end-here g n e is over = (λ i. cond (number-same e.group g is i) (over i) None)
 
 start-over : (g n : ℕ) (e : Membership) → e.end ≡ Some n → start_in g (Some e) ≡ None
-start-over g n e over = (λ i. cond (e.group == g) (unless_ended (over i) e.start) None) ∙ by_test (e.group == g)
-  where
-    by_test : (b : Bool) → ◌≡◌ {A = Option ℕ} (cond b None None) None
-    by_test true = refl
-    by_test false = refl
+start-over g n e e1 = grind (arith, nat_tests)
 
 end-not : (g : ℕ) (e : Membership) → e.end ≡ None → end_in g (Some e) ≡ None
-end-not g e un = (λ i. cond (e.group == g) (un i) None) ∙ by_test (e.group == g)
-  where
-    by_test : (b : Bool) → ◌≡◌ {A = Option ℕ} (cond b None None) None
-    by_test true = refl
-    by_test false = refl
+end-not g e e1 = grind (arith, nat_tests)
 
 -- what is of another group
 start-other : (g k : ℕ) (o : Option Membership) → ((e : Membership) → o ≡ Some e → e.group ≡ g) → k ≢ g → start_in k o ≡ None
-start-other g k None in_g d = refl
-start-other g k (Some e) in_g d = λ i. cond (test-other e.group k (λ is. d (sym is ∙ in_g e refl)) i) (unless_ended e.end e.start) None
+start-other g k o e1 e2 = grind (arith, nat_tests)
 
 end-other : (g k : ℕ) (o : Option Membership) → ((e : Membership) → o ≡ Some e → e.group ≡ g) → k ≢ g → end_in k o ≡ None
-end-other g k None in_g d = refl
-end-other g k (Some e) in_g d = λ i. cond (test-other e.group k (λ is. d (sym is ∙ in_g e refl)) i) e.end None
+end-other g k o e1 e2 = grind (arith, nat_tests)
 
 -- what a number tells of the member
 pub record Starts (g a : ℕ) (o : Option Membership) : Type 0 where

@@ -1,5 +1,5 @@
 -- What is seen after each move of the tasks, and what the move keeps of a board.
-use Rattle.task_board.proofs.Names.{ListsBy, ◌≡◌, ◌≢◌, ℕ, zero, suc, ◌<◌, ◌≤◌, Bool, true, false, cond, List, [], ◌∷◌, ◌++◌, length, length-set, Option, Some, None, set, slice_get, refl, sym, ◌∙◌, ap, subst, inl, inr, arith, ◌==◌, ◌||◌, is_some, is_none, option_map, false≢true, cases_eq, nat_tests, get_or-set_same, get_or-set_other, TaskEnd, TaskHandle, first, Slots, slot_of, generation_of, used_slot, slot_after, slot_value, max_of, Inserts, with_value, without, put, changed, used_at_live, same_handle, get-with_value_same, get-with_value_other, get-insert_same, get-insert_other, get-without_same, get-without_other, list_at, has_handle, without_handle, stands_at, index-has, Mark, mark_at, is_for_at, Action, Task, TaskState, Scheduled, Running, Ended, is_unended, Notes, with_state, with_notes, with_waiter, task_look_refusals, asked_refusals, asked_once, after_asked, waiter_after, TaskTable, ended_in, looked_in, Seen, seen_as, seen, seen_in, InOrder, begins_in, AreQueued, AreByJob, BoardTable, IsBoard, IsMarkOf, Marked, AreWaiting, AreRunning, AreRanked, AreStarted, running_on, GroupTable, members_in, AreMembers}
+use Rattle.task_board.proofs.Names.{ListsBy, ◌≡◌, ◌≢◌, ℕ, zero, suc, ◌<◌, ◌≤◌, Bool, true, false, cond, List, [], ◌∷◌, ◌++◌, length, length-set, Option, Some, None, set, slice_get, refl, sym, ◌∙◌, ap, subst, inl, inr, arith, ◌==◌, ◌||◌, is_some, option_map, cases_eq, nat_tests, get_or-set_same, get_or-set_other, TaskEnd, TaskHandle, first, Slots, slot_of, generation_of, used_slot, slot_after, slot_value, max_of, Inserts, with_value, without, put, changed, get-with_value_same, get-with_value_other, get-insert_same, get-insert_other, get-without_same, get-without_other, list_at, has_handle, without_handle, stands_at, index-has, Mark, mark_at, is_for_at, Action, Task, TaskState, Ended, is_unended, Notes, with_state, with_notes, with_waiter, task_look_refusals, after_asked, waiter_after, TaskTable, ended_in, looked_in, Seen, seen_as, seen, seen_in, InOrder, begins_in, AreQueued, AreByJob, BoardTable, IsBoard, IsMarkOf, Marked, AreWaiting, AreRunning, AreRanked, AreStarted, running_on, GroupTable, members_in, AreMembers}
 use Rattle.task_board.specs.Seen.{Takes}
 use Rattle.task_board.proofs.SeenLemmas.{some_same, seen-live}
 pub use Rattle.task_board.proofs.KeyedLemmas.{Put, put-by, put-same, has-self}
@@ -84,25 +84,17 @@ seen-changed p h f same k = by_found (slot_value p h) refl
     by_found (Some t) g = put-same (seen_in p) (seen_in (changed p h f)) h _ (put-changed p h f t g) (same t ∙ ap seen (sym g)) k
 
 notes-same : (f : Notes → Notes) (t : Task) (x : TaskState) → seen_as (with_notes f t) x ≡ seen_as t x
-notes-same f t Scheduled = refl
-notes-same f t (Running w k) = refl
-notes-same f t (Ended e n) = refl
+notes-same f t x = grind (arith, nat_tests)
 
 -- what is noted of a task isn't seen
 pub seen-noted : (f : Notes → Notes) (t : Task) → seen (Some (with_notes f t)) ≡ seen (Some t)
 seen-noted f t = notes-same f t t.state
 
 pub seen-asked : (w : ℕ) (t : Task) → seen (Some (after_asked w t)) ≡ seen (Some t)
-seen-asked w t = by_refusal (is_none (first (asked_refusals w t)))
-  where
-    by_refusal : (b : Bool) → seen (Some (cond b (with_notes asked_once t) t)) ≡ seen (Some t)
-    by_refusal true = seen-noted asked_once t
-    by_refusal false = refl
+seen-asked w t = grind (arith, nat_tests)
 
 pub over-unseen : (t : Task) (x : TaskState) → t.state ≡ x → is_unended t ≡ false → seen (Some t) ≡ None
-over-unseen t Scheduled e f = absurd (false≢true (sym f ∙ ap (λ (y : TaskState). is_unended (with_state y t)) e))
-over-unseen t (Running w k) e f = absurd (false≢true (sym f ∙ ap (λ (y : TaskState). is_unended (with_state y t)) e))
-over-unseen t (Ended y n) e f = ap (seen_as t) e
+over-unseen t x e1 e2 = grind (arith, nat_tests)
 
 pub seen-looked : (p : Slots Task) (h who : ℕ) (last : Bool) (o : Option Task) → slot_value p h ≡ o → (k : ℕ) → seen_in (looked_in p h who last o) k ≡ seen_in p k
 seen-looked p h who last None g k = refl
@@ -145,17 +137,10 @@ quiet b q same max count members k = regrouped b q b.groups same max count refl 
 -- One handle a slot
 
 pub live-alone : (p : Slots Task) (h k : ℕ) (t v : Task) → slot_value p h ≡ Some t → slot_value p k ≡ Some v → slot_of k ≡ slot_of h → k ≡ h
-live-alone p h k t v a b e =
-    let x = used_at_live (slice_get p.slots (slot_of h)) (generation_of h) t a in
-    let y = used_at_live (slice_get p.slots (slot_of k)) (generation_of k) v b in
-    let same : x.0 ≡ y.0 = some_same (sym x.1 ∙ ap (slice_get p.slots) (sym e) ∙ y.1) in
-    same_handle k h e (sym y.2 ∙ ap (λ (z : _). z.generation) (sym same) ∙ x.2)
+live-alone p h k t v e1 e2 e3 = grind (arith, nat_tests)
 
 pub alone : (p : Slots Task) (h k : ℕ) (s u : Seen) → seen_in p h ≡ Some s → seen_in p k ≡ Some u → slot_of k ≡ slot_of h → k ≡ h
-alone p h k s u a b e =
-    let t = seen-live p h s a in
-    let v = seen-live p k u b in
-    live-alone p h k t.0 v.0 t.1 v.1 e
+alone p h k s u e1 e2 e3 = grind (arith, nat_tests)
 
 -- after the move no other handle of this slot is seen
 unfoldable pub Alone : (ℕ → Option Seen) → ℕ → Type 0
@@ -243,8 +228,7 @@ started-put at after h x m n move less grows old = record {
 -- the waiting tasks
 
 pub or-right : (a b : Bool) → b ≡ true → (a || b) ≡ true
-or-right true b e = refl
-or-right false b e = e
+or-right a b e1 = grind (arith, nat_tests)
 
 -- a place that stands in a list is that of a handle in it
 pub stands-handle : (place : ℕ) (hs : List ℕ) → stands_at place hs ≡ true → (k : ℕ) × (has_handle k hs ≡ true) × (slot_of k ≡ place)
@@ -282,8 +266,7 @@ seat-away : (r : List (Option TaskHandle)) (w v : ℕ) (o : Option TaskHandle) �
 seat-away r w v o d = get_or-set_other r w v o None d
 
 none-some : {A : Type 0} (o : Option A) (x : A) → is_some o ≡ false → o ≡ Some x → ⊥
-none-some None x e f = cc
-none-some (Some y) x e f = false≢true (sym e)
+none-some o x e1 e2 = grind (arith, nat_tests)
 
 -- a task begins on a worker that has none
 pub running-begin : (at after : ℕ → Option Seen) (h w : ℕ) (s : Seen) (r : List (Option TaskHandle)) → Put at h (Some s) after → s.on ≡ Some w → is_some (running_on r w) ≡ false → ((u : Seen) → at h ≡ Some u → u.on ≡ None) → w < length r → AreRunning at r → AreRunning after (set r w (Some (record { 0 = h })))

@@ -1,5 +1,5 @@
 -- A new board.
-use Rattle.task_board.proofs.Names.{subst, ◌≡◌, ℕ, zero, suc, ◌≤◌, true, List, [], length, replicate, Option, Some, None, refl, sym, ◌∙◌, ap, slice_index_or, slice_get, false≢true, length-replicate, TaskHandle, Slot, Slots, slot_of, generation_of, free_slot, value_at, slot_value, get-fresh, list_at, has_handle, Mark, ReadyMarks, mark_at, is_for_at, Task, Members, seen, seen_in, HeldQueue, InOrder, AreIn, waits_at, BoardTable, IsBoard, running_on, membership, members_in}
+use Rattle.task_board.proofs.Names.{nat_tests, arith, subst, ◌≡◌, ℕ, zero, suc, ◌≤◌, true, List, [], length, replicate, Option, Some, None, refl, sym, ◌∙◌, ap, slice_index_or, slice_get, false≢true, length-replicate, TaskHandle, Slot, Slots, slot_of, generation_of, free_slot, value_at, slot_value, get-fresh, list_at, has_handle, Mark, ReadyMarks, mark_at, is_for_at, Task, Members, seen, seen_in, HeldQueue, InOrder, AreIn, waits_at, BoardTable, IsBoard, running_on, membership, members_in}
 
 abbrev nones : {X : Type 0} → ℕ → List (Option X)
 nones n = replicate n None
@@ -13,10 +13,7 @@ unseen : (p : Slots Task) (max h : ℕ) → p.slots ≡ replicate max (free_slot
 unseen p max h e = ap (λ (l : List (Slot Task)). seen (value_at (slice_get l (slot_of h)) (generation_of h))) e ∙ ap seen (get-fresh max (slot_of h) (generation_of h))
 
 no-some : {A : Type 0} (o : Option A) (x : A) → o ≡ None → o ≡ Some x → ⊥
-no-some o x n e = no (sym n ∙ e)
-  where
-    no : None ≡ Some x → ⊥
-    no d = cc
+no-some o x e1 e2 = grind (arith, nat_tests)
 
 unmarked : (marks : List (Option Mark)) (max w p place : ℕ) → marks ≡ replicate max None → is_for_at w p (mark_at marks place) ≡ true → ⊥
 unmarked marks max w p place e f = false≢true (sym (ap (λ (l : List (Option Mark)). is_for_at w p (mark_at l place)) e ∙ ap (is_for_at w p) (none-at max place)) ∙ f)

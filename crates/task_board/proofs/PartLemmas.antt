@@ -1,5 +1,5 @@
 -- What a board keeps where a member leaves its group.
-use Rattle.task_board.proofs.Names.{◌≡◌, ℕ, Bool, true, false, not, cond, List, [], ◌∷◌, Option, Some, None, Result, Ok, Err, IsSome, slice_get, refl, sym, ◌∙◌, ap, subst, inl, inr, IfSome, ◌==◌, is_none, eqb_tells, TaskEnd, GroupHandle, MtapiStatus, ErrGroupLimit, get-insert_before, holds, Slots, slot_value, with_value, without, max_of, changed, has_handle, Task, TaskState, Scheduled, Running, Ended, end_of, is_unended, is_member, number_in, without_group, TaskTable, IsLiveAnd, detached_in, Members, GroupTable, LiveAreUsed, Creates, delete_reply, no_members, rest_of, first_ended, first_unended, without_first, without_first_unended, seen, seen_in, without_members, Membership, member_as, membership, members_in, AreMembers, BoardTable, IsBoard, Leaves}
+use Rattle.task_board.proofs.Names.{nat_tests, arith, ◌≡◌, ℕ, Bool, true, false, not, cond, List, [], ◌∷◌, Option, Some, None, Result, Ok, Err, IsSome, slice_get, refl, sym, ◌∙◌, ap, subst, inl, inr, IfSome, ◌==◌, is_none, eqb_tells, TaskEnd, GroupHandle, MtapiStatus, ErrGroupLimit, get-insert_before, holds, Slots, slot_value, with_value, without, max_of, changed, has_handle, Task, TaskState, Scheduled, Running, Ended, end_of, is_unended, is_member, number_in, without_group, TaskTable, IsLiveAnd, detached_in, Members, GroupTable, LiveAreUsed, Creates, delete_reply, no_members, rest_of, first_ended, first_unended, without_first, without_first_unended, seen, seen_in, without_members, Membership, member_as, membership, members_in, AreMembers, BoardTable, IsBoard, Leaves}
 use Rattle.std.specs.Prelude.{OnOk}
 use Rattle.task_core.specs.Records.{end_in as end_told}
 use Rattle.task_board.specs.GroupMoves.{Takes}
@@ -16,8 +16,7 @@ pub record FirstIn (o : Option Members) (list : Members → List ℕ) (h : ℕ) 
   pub is : list m ≡ h ∷ rest
 
 head-of : (l : List ℕ) (h : ℕ) → slice_get l 0 ≡ Some h → l ≡ h ∷ rest_of l
-head-of [] h e = none-some e
-head-of (x ∷ xs) h e = ap (λ (z : ℕ). z ∷ xs) (some_same e)
+head-of l h e1 = grind (arith, nat_tests)
 
 pub ended-first : (o : Option Members) (h : ℕ) → first_ended o ≡ Some h → FirstIn o (λ m. m.ended) h
 ended-first None h e = none-some e
@@ -85,9 +84,7 @@ ended-so (Running w k) n e = none-some e
 ended-so (Ended y k) n e = record { e = y; is = ap (Ended y) (some_same e) }
 
 pub unended-so : (x : TaskState) → number_in (end_of x) ≡ None → is_none (end_of x) ≡ true
-unended-so Scheduled e = refl
-unended-so (Running w k) e = refl
-unended-so (Ended y k) e = none-some (sym e)
+unended-so x e1 = grind (arith, nat_tests)
 
 -- the member that ended first is freed
 pub take-first : (b : BoardTable) (q : TaskTable) (t : GroupTable) (g h n : ℕ) (m : Members) (rest : List ℕ) (x : Member b.tasks.pool g h (Some n)) → IsBoard b → slot_value b.groups.pool g ≡ Some m → m.ended ≡ h ∷ rest → q ≡ record b.tasks { pool = without b.tasks.pool h } → t ≡ record b.groups { pool = changed b.groups.pool g without_first } → IsBoard (record b { tasks = q; groups = t })

@@ -1,11 +1,10 @@
 -- The records of the queues stay where only their tasks change.
-use Rattle.task_board.proofs.Names.{◌≡◌, ℕ, Bool, true, false, List, Option, Some, None, set, slice_get, map, refl, ◌∙◌, ap, option_map, slice_get-map, Slot, Slots, slot_of, generation_of, used_slot, slot_value, put, changed, set-same, used_at_live, Queue, HeldQueue, AreRetiredEmpty, without_task, mapped_slot, left_queue, records_of}
+use Rattle.task_board.proofs.Names.{nat_tests, arith, ◌≡◌, ℕ, Bool, true, List, Option, Some, None, set, slice_get, map, refl, ◌∙◌, ap, option_map, slice_get-map, Slot, Slots, slot_of, generation_of, used_slot, slot_value, put, changed, set-same, used_at_live, Queue, HeldQueue, AreRetiredEmpty, without_task, mapped_slot, left_queue, records_of}
 use Rattle.task_board.proofs.MappedLemmas.{mapped-with_value}
 
 -- a slot in use that hasn't retired
 used-slot : (s : Slot HeldQueue) (generation : ℕ) (x : HeldQueue) (b : Bool) → s.retired ≡ b → s.generation ≡ generation → s.value ≡ Some x → (s.retired ≡ true → s.value ≡ None) → mapped_slot (λ (y : HeldQueue). y.queue) s ≡ used_slot generation x.queue
-used-slot s generation x true is turn value empty = absurd (cc (empty is, value))
-used-slot s generation x false is turn value empty = rw (is, turn, value) refl
+used-slot s generation x b e1 e2 e3 e4 = grind (arith, nat_tests)
 
 pub records-same : (p : Slots HeldQueue) (q : ℕ) (f : HeldQueue → HeldQueue) → ((x : HeldQueue) → (f x).queue ≡ x.queue) → AreRetiredEmpty p → records_of (changed p q f) ≡ records_of p
 records-same p q f same empty = by_value (slot_value p q) refl

@@ -1,5 +1,5 @@
 -- Marks made anew for the waiting tasks of one job.
-use Rattle.task_board.proofs.Names.{◌≡◌, ◌≢◌, ◌⊎◌, ℕ, zero, suc, ◌<◌, ◌+◌, Bool, true, List, [], ◌∷◌, length, length-set, Option, Some, None, set, slice_get, refl, sym, ◌∙◌, ap, subst, inl, inr, arith, ◌==◌, cases_eq, cases_Bool, get_or-set_same, get_or-set_other, slice_get_within, Kind, Slots, slot_of, slot_value, max_of, Inserts, changed, put, with_value, without, slot_of-live, get-with_value_same, get-with_value_other, get-insert_same, get-insert_before, get-insert_other, get-without_same, get-without_other, option_map, has_handle, has-index, index-has, Mark, ReadyMarks, mark_at, is_for_at, Action, has_enabled_job, new_action, with_enabled, SomeLive, in_mask, runs_job_on, IsUnion, Passes, Task, Seen, seen_in, AreSeen, IsMarkOf, Marked, IsFresh, IsFreshFor, StandsBefore, Remarked}
+use Rattle.task_board.proofs.Names.{nat_tests, ◌≡◌, ◌≢◌, ◌⊎◌, ℕ, zero, suc, ◌<◌, ◌+◌, Bool, true, List, [], ◌∷◌, length, length-set, Option, Some, None, set, slice_get, refl, sym, ◌∙◌, ap, subst, inl, inr, arith, ◌==◌, cases_eq, cases_Bool, get_or-set_same, get_or-set_other, slice_get_within, Kind, Slots, slot_of, slot_value, max_of, Inserts, changed, put, with_value, without, slot_of-live, get-with_value_same, get-with_value_other, get-insert_same, get-insert_before, get-insert_other, get-without_same, get-without_other, option_map, has_handle, has-index, index-has, Mark, ReadyMarks, mark_at, is_for_at, Action, has_enabled_job, new_action, with_enabled, SomeLive, in_mask, runs_job_on, IsUnion, Passes, Task, Seen, seen_in, AreSeen, IsMarkOf, Marked, IsFresh, IsFreshFor, StandsBefore, Remarked}
 use Rattle.task_board.specs.Seen.{Takes}
 use Rattle.task_board.proofs.SeenLemmas.{some_same, seen-live}
 use Rattle.task_board.proofs.MarkLemmas.{and_left, and_right, same-number}
@@ -237,8 +237,5 @@ marked-over job mask old new lets at marks same was now m = record {
 -- the list has something at each index below its length
 pub past-none : (hs : List ℕ) (i : ℕ) → i < length hs → slice_get hs i ≡ None → ⊥
 past-none [] i less none = omega arith
-past-none (x ∷ hs) zero less none = no none
-  where
-    no : Some x ≡ None → ⊥
-    no e = cc
+past-none (x ∷ hs) zero less none = grind (arith, nat_tests)
 past-none (x ∷ hs) (suc i) less none = past-none hs i (omega arith) none

@@ -1,19 +1,14 @@
 -- What each move of the tasks is for the members.
-use Rattle.task_board.proofs.Names.{◌≡◌, ℕ, ◌+◌, Bool, true, false, cond, List, [], ◌∷◌, Option, Some, None, IsSome, slice_get, refl, sym, ◌∙◌, ap, subst, inl, inr, arith, IfSome, is_some, is_none, option_map, false≢true, cases_Bool, TaskEnd, Kind, first, GroupHandle, ErrWaitPending, Slots, slot_of, generation_of, free_slot, slot_value, value_at, Inserts, with_value, without, put, changed, value_at-none, has_handle, stands_at, Task, TaskState, Scheduled, Running, Ended, NewTask, new_task, Notes, is_unended, end_of, with_state, with_notes, with_tally, with_waiter, cancel_requested, asked_once, asked_refusals, task_look_refusals, group_number, number_in, notes_of, tallied, after_asked, waiter_after, ended_in, looked_in, Members, GroupTable, with_member, with_ended, NoMemberAt, IsUnendedMember, Membership, start_in, member_as, membership, members_in, AreMembers, MayJoin, joined, ended_member}
+use Rattle.task_board.proofs.Names.{nat_tests, ◌≡◌, ℕ, ◌+◌, Bool, true, false, cond, List, Option, Some, None, IsSome, slice_get, refl, sym, ◌∙◌, ap, subst, inl, inr, arith, IfSome, is_some, is_none, option_map, false≢true, cases_Bool, TaskEnd, Kind, first, GroupHandle, Slots, slot_of, generation_of, free_slot, slot_value, value_at, Inserts, with_value, without, put, changed, value_at-none, has_handle, stands_at, Task, TaskState, Running, Ended, NewTask, new_task, Notes, is_unended, end_of, with_state, with_notes, with_tally, with_waiter, cancel_requested, asked_once, asked_refusals, task_look_refusals, group_number, number_in, notes_of, tallied, after_asked, waiter_after, ended_in, looked_in, Members, GroupTable, with_member, with_ended, NoMemberAt, IsUnendedMember, Membership, start_in, member_as, membership, members_in, AreMembers, MayJoin, joined, ended_member}
 use Rattle.task_board.proofs.SeenLemmas.{none-some}
-use Rattle.mtapi_values.specs.Seats.{is_other}
 use Rattle.task_core.specs.declared.tallies.TallyState.{TallyState}
-use Rattle.task_board.proofs.MoveLemmas.{Put, put-by, put-same, slot-value, slot-without, slot-insert, slot-changed, stands-handle, or-right}
+use Rattle.task_board.proofs.MoveLemmas.{Put, put-by, put-same, slot-value, slot-without, slot-insert, slot-changed, stands-handle}
 use Rattle.task_board.proofs.MemberLemmas.{start-here, start-tells, end-tells, members-same, members-enter, members-end}
 
 -- Moves that groups don't see
 
 member-noted : (f : Notes → Notes) (t : Task) → (f t.notes).group ≡ t.notes.group → (f t.notes).detached ≡ t.notes.detached → membership (Some (with_notes f t)) ≡ membership (Some t)
-member-noted f t g d = ap (member_as (with_notes f t)) g ∙ by_group t.notes.group
-  where
-    by_group : (o : Option ℕ) → member_as (with_notes f t) o ≡ member_as t o
-    by_group None = refl
-    by_group (Some k) = λ i. Some (record { group = k; detached = d i; start = t.start; end = number_in (end_of t.state) })
+member-noted f t e1 e2 = grind (arith, nat_tests)
 
 member-changed : (p : Slots Task) (h : ℕ) (f : Task → Task) → ((t : Task) → membership (Some (f t)) ≡ membership (Some t)) → (k : ℕ) → members_in (changed p h f) k ≡ members_in p k
 member-changed p h f same k = by_found (slot_value p h) refl
@@ -39,13 +34,8 @@ member-asked p h w k = member-changed p h (after_asked w) (λ t. by_refusal t (i
     by_refusal t true = let o = once t.notes t.notes.requested in member-noted asked_once t o.0 o.1
     by_refusal t false = refl
 
-hit : {C : Type 0} (b : Bool) (c : C) (cs : List (Bool × C)) → b ≡ true → first ((b, c) ∷ cs) ≡ Some c
-hit true c cs e = refl
-hit false c cs e = absurd (false≢true e)
-
 not-member : (who : ℕ) (t : Task) (g : Option ℕ) → t.notes.group ≡ g → first (task_look_refusals who t) ≡ None → g ≡ None
-not-member who t None f r = refl
-not-member who t (Some g) f r = none-some (sym r ∙ hit _ _ ((is_other who t.notes.waiter, ErrWaitPending) ∷ []) (or-right t.notes.detached (is_some t.notes.group) (ap is_some f)))
+not-member who t g e1 e2 = grind (arith, nat_tests)
 
 pub member-looked : (p : Slots Task) (h who : ℕ) (last : Bool) (o : Option Task) → slot_value p h ≡ o → (k : ℕ) → members_in (looked_in p h who last o) k ≡ members_in p k
 member-looked p h who last None g k = refl
@@ -107,9 +97,7 @@ members-add p q h a t starts ends more later old i next same may = subst (λ (n 
 -- Running and ending
 
 unended-state : (x : TaskState) → is_none (end_of x) ≡ true → end_of x ≡ None
-unended-state Scheduled e = refl
-unended-state (Running w k) e = refl
-unended-state (Ended y n) e = absurd (false≢true e)
+unended-state x e1 = grind (arith, nat_tests)
 
 pub member-runs : (p : Slots Task) (h w : ℕ) (kind : Kind) (t : Task) → slot_value p h ≡ Some t → is_unended t ≡ true → (k : ℕ) → members_in (changed p h (with_state (Running w kind))) k ≡ members_in p k
 member-runs p h w kind t g un k = put-same (members_in p) _ h _ (put-by membership (slot_value p) _ h (Some (with_state (Running w kind) t)) (slot-changed p h (with_state (Running w kind)) t g)) (by_group t.notes.group ∙ sym (ap membership g)) k

@@ -1,5 +1,5 @@
 -- What the lists of walks have, and that tasks end alike along two lists which have the same of those that pass.
-use Rattle.task_board.proofs.Names.{◌≡◌, ◌≢◌, ℕ, Bool, true, false, cond, List, [], ◌∷◌, length, Option, Some, None, refl, sym, ◌∙◌, ap, subst, arith, ◌==◌, ◌&&◌, ◌%◌, is_none, is_some, if◌then◌else◌, option_map, false≢true, TaskEnd, holds, Slots, slot_value, with_value, without, has_handle, Task, Ended, with_state, HeldQueue, tasks_of, TaskTable, ended_in, Walk, Waiting, OfJob, Queued, Seen, seen_in, InOrder, walked, AreIn, waits_at, is_walked, BoardTable, IsBoard, records_of, ended_next, ended_each}
+use Rattle.task_board.proofs.Names.{nat_tests, ◌≡◌, ◌≢◌, ℕ, Bool, true, false, cond, List, [], ◌∷◌, length, Option, Some, None, refl, sym, ◌∙◌, ap, subst, arith, ◌==◌, ◌&&◌, ◌%◌, is_none, is_some, if◌then◌else◌, option_map, false≢true, TaskEnd, holds, Slots, slot_value, with_value, without, has_handle, Task, Ended, with_state, HeldQueue, tasks_of, TaskTable, ended_in, Walk, Waiting, OfJob, Queued, Seen, seen_in, InOrder, walked, AreIn, waits_at, is_walked, BoardTable, IsBoard, records_of, ended_next, ended_each}
 use Rattle.task_board.proofs.MarkLemmas.{and_left, and_right, same-number, number-same, named-is}
 use Rattle.task_board.proofs.MappedLemmas.{value-mapped}
 use Rattle.task_board.proofs.KeyedLemmas.{has-self, has-later, not-twice, same-order}
@@ -64,9 +64,7 @@ chosen-from f k (h ∷ hs) e = by_test (f h) refl e (chosen-from f k hs)
 
 chosen-has : (f : ℕ → Bool) (k : ℕ) (hs : List ℕ) → has_handle k hs ≡ true → f k ≡ true → has_handle k (chosen f hs) ≡ true
 chosen-has f k [] e p = e
-chosen-has f k (h ∷ hs) e p =
-    let here : (h == k) ≡ true → f h ≡ true = λ is. ap f (same-number h k is) ∙ p in
-    grind (arith, here, chosen-has f k hs)
+chosen-has f k (h ∷ hs) e p = grind (arith, nat_tests, chosen-has f k hs)
 
 order-chosen : (at : ℕ → Option Seen) (f : ℕ → Bool) (hs : List ℕ) → InOrder at hs → InOrder at (chosen f hs)
 order-chosen at f [] o = tt
