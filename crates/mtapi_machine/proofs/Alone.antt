@@ -1,18 +1,6 @@
 -- Where a row allows a status, it allows no other reply of the same entry: a reply is read only for what it chooses, and whether a
 -- status answers doesn't hang on that.
-use Rattle.std.proofs.Common.{◌≡◌, ℕ, Bool, true, false, List, Option, Some, None, refl, sym, ◌∙◌, ap}
-use Rattle.std.specs.Prelude.{if◌then◌else◌}
-use Rattle.handle_pool.specs.Issued.{live_object}
-use Rattle.mtapi_machine.specs.declared.ops.Op.{Op}
-use Rattle.mtapi_machine.specs.declared.ops.Op.TheVariants.{ActionCreate, TaskStart, TaskEnqueue, GroupCreate, QueueCreate, Pick, MutexCreate, SemCreate, RwlCreate, ShmemCreate}
-use Rattle.mtapi_machine.specs.declared.replies.Reply.{Reply}
-use Rattle.mtapi_machine.specs.declared.replies.Reply.TheVariants.{Handle, Picked, Idle}
-use Rattle.mtapi_machine.specs.State.{State, is_stop}
-use Rattle.mtapi_machine.specs.Moves.{Move}
-use Rattle.mtapi_machine.specs.Row.{Row, unless, gives, never, Allows, only, live}
-use Rattle.mtapi_machine.specs.WorkRows.{picks}
-use Rattle.mtapi_machine.specs.Rows.{row}
-use Rattle.mtapi_machine.specs.Laws.{is_status}
+use Rattle.mtapi_machine.proofs.Names.{◌≡◌, ℕ, Bool, true, false, List, Option, Some, None, refl, sym, ◌∙◌, ap, if◌then◌else◌, live_object, Op, ActionCreate, TaskStart, TaskEnqueue, GroupCreate, QueueCreate, Pick, MutexCreate, SemCreate, RwlCreate, ShmemCreate, Reply, Handle, Picked, Idle, State, is_stop, Move, Row, unless, gives, never, Allows, only, live, picks, row, is_status}
 
 -- where the first row allows a status, the second one allows nothing else
 record Alone (v w : Row) (x y : Reply) : Type 0 where

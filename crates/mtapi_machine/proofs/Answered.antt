@@ -1,37 +1,11 @@
 -- The rows of the machine, walked over once: a reply that a row allows is one of its answers.
-use Rattle.std.proofs.Common.{◌≡◌, ℕ, Bool, true, false, cond, List, [], ◌∷◌, Option, Some, None, refl, sym, ◌∙◌, ap, subst}
-use Rattle.std.specs.Bool.{MatchBool}
-use Rattle.std.specs.Prelude.{◌==◌, not, nat_lt, is_some, is_none, length}
+use Rattle.mtapi_machine.proofs.Names.{◌≡◌, ℕ, Bool, true, false, cond, List, [], ◌∷◌, Option, Some, None, refl, sym, ◌∙◌, ap, subst, MatchBool, ◌==◌, not, nat_lt, is_some, is_none, length, MtapiStatus, MrapiStatus, TaskHandle, GroupHandle, QueueHandle, live_object, live_of, any_listed, first_handle, Task, TaskState, Scheduled, Running, is_unended, end_of, runs_as, runs_on, task_look_refusals, Adds, tally_args, Group, Ending, endings, first_fault, is_unended_member, Queue, opened, is_in, Cancelled, mutex_delete_refusals, mutex_look_refusals, mutex_busy, mutex_unlock_refusals, sem_delete_refusals, sem_busy, sem_unlock_refusals, rwl_delete_refusals, rwl_look_refusals, rwl_busy, rwl_unlock_refusals, shmem_delete_refusals, attach_refusals, detach_refusals, cell_refusals, Op, Reply, State, workers, is_past_open, is_stop, Move, Sort, Queues, Mutexes, Sems, Rwls, Segments, Fields, all_of, alters, ends_waiting, frees_members, Row, unless, gives, never, says, not_yet, Allows, only, live, handle_of, moves_of, row, found, looks_at, cancels, verdict, gives_end, gives_first, picks, is_ready, can_take, gives_up, takes_both, locks}
 use Rattle.mtapi_values.specs.declared.kinds.Kind.TheVariants as kinds
-use Rattle.mtapi_values.specs.declared.statuses.MtapiStatus.{MtapiStatus}
 use Rattle.mtapi_values.specs.declared.statuses.MtapiStatus.TheVariants as m
-use Rattle.mtapi_values.specs.declared.statuses.MrapiStatus.{MrapiStatus}
 use Rattle.mtapi_values.specs.declared.statuses.MrapiStatus.TheVariants as c
-use Rattle.mtapi_values.specs.declared.handles.TaskHandle.{TaskHandle}
-use Rattle.mtapi_values.specs.declared.handles.GroupHandle.{GroupHandle}
-use Rattle.mtapi_values.specs.declared.handles.QueueHandle.{QueueHandle}
-use Rattle.handle_pool.specs.Issued.{live_object, live_of, any_listed, first_handle}
-use Rattle.mtapi_objects.specs.Tasks.{Task, TaskState, Scheduled, Running, Ended, is_unended, end_of, runs_as, runs_on, task_look_refusals, Adds, tally_args}
-use Rattle.mtapi_objects.specs.Groups.{Group, Ending, endings, first_fault, is_unended_member}
-use Rattle.mtapi_objects.specs.Queues.{Queue, opened, is_in}
-use Rattle.mtapi_values.specs.declared.ends.TaskEnd.TheVariants.{Cancelled}
-use Rattle.mtapi_objects.specs.Mutexes.{mutex_delete_refusals, mutex_look_refusals, mutex_busy, mutex_unlock_refusals}
-use Rattle.mtapi_objects.specs.Sems.{sem_delete_refusals, sem_busy, sem_unlock_refusals}
-use Rattle.mtapi_objects.specs.Rwls.{rwl_delete_refusals, rwl_look_refusals, rwl_busy, rwl_unlock_refusals}
-use Rattle.mtapi_objects.specs.Segments.{shmem_delete_refusals, attach_refusals, detach_refusals, cell_refusals}
-use Rattle.mtapi_machine.specs.declared.ops.Op.{Op}
+use Rattle.mtapi_objects.specs.Tasks.{Ended}
 use Rattle.mtapi_machine.specs.declared.ops.Op.TheVariants as op
-use Rattle.mtapi_machine.specs.declared.replies.Reply.{Reply}
 use Rattle.mtapi_machine.specs.declared.replies.Reply.TheVariants as reply
-use Rattle.mtapi_machine.specs.State.{State, workers, is_past_open, is_stop}
-use Rattle.mtapi_machine.specs.Moves.{Move, Sort, Queues, Mutexes, Sems, Rwls, Segments, Fields, all_of, alters, ends_waiting, frees_members}
-use Rattle.mtapi_machine.specs.Row.{Row, unless, gives, never, says, not_yet, Allows, only, live, handle_of, moves_of}
-use Rattle.mtapi_machine.specs.Rows.{row}
-use Rattle.mtapi_machine.specs.KeyedRows.{found}
-use Rattle.mtapi_machine.specs.TaskRows.{looks_at, cancels}
-use Rattle.mtapi_machine.specs.GroupRows.{verdict, gives_end, gives_first}
-use Rattle.mtapi_machine.specs.WorkRows.{picks, is_ready, can_take}
-use Rattle.mtapi_machine.specs.TallyRows.{gives_up, takes_both, locks}
 use Rattle.mtapi_machine.proofs.Made.{fst_true, snd_true, not_true, not_false}
 use Rattle.mtapi_machine.specs.Answers.{AreUnmet, Starts, HasTask, HasObject, HasBoth, refuses_with, Answers}
 use Rattle.mtapi_machine.specs.Answers as is

@@ -1,7 +1,5 @@
 -- What a change of one listed object leaves.
-use Rattle.std.proofs.Common.{◌≡◌, ℕ, Bool, true, false, cond, List, [], ◌∷◌, Some, refl, sym, ◌∙◌, ap}
-use Rattle.std.specs.Prelude.{◌==◌, ◌&&◌}
-use Rattle.handle_pool.specs.Issued.{Listed, live_of, lookup, live_object, change, update, with_fields}
+use Rattle.mtapi_machine.proofs.Names.{◌≡◌, ℕ, Bool, true, false, cond, List, [], ◌∷◌, Some, refl, sym, ◌∙◌, ap, ◌==◌, ◌&&◌, Listed, live_of, lookup, live_object, change, update, with_fields}
 
 pub some_same : {T : Type 0} {a b : T} → Some a ≡ Some b → a ≡ b
 some_same h = cc

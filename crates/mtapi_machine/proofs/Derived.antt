@@ -1,12 +1,8 @@
 -- What a derived `==` of an enum says, where `==` of each field decides whether the two are equal.
-use Rattle.std.proofs.Common.{◌≡◌, Bool, true, false, ◌&&◌, List, [], ◌∷◌, Option, Some, None, refl, ap}
-use Rattle.std.specs.Bool.{Decides}
+use Rattle.mtapi_machine.proofs.Names.{◌≡◌, Bool, true, false, ◌&&◌, List, [], ◌∷◌, Option, Some, None, refl, ap, Decides, ◌⊎◌, inl, inr, Bare, sameb, same_true, true_same, Record, Declared, Choice, values_one}
 use Rattle.std.specs.Option.{option_eq}
-use mathlib.Core.Logic.{◌⊎◌, inl, inr}
 use denote.Struct.Field.{Field}
 use denote.Struct.Values.{Values}
-use denote.Enum.Bare.{Bare, sameb, same_true, true_same}
-use denote.Enum.Declared.{Record, Declared, Choice, values_one}
 use denote.Enum.Compared.{Each, by}
 
 -- a test of one fact is a test of another that says the same

@@ -1,27 +1,10 @@
 -- A legal list without its dropped entries is legal, and leads to the same state.
-use Rattle.std.proofs.Common.{◌≡◌, ℕ, Bool, true, false, cond, List, [], ◌∷◌, Option, Some, None, ◌⊎◌, inl, inr, refl, sym, ◌∙◌, ap, subst, arith}
-use Rattle.std.specs.Prelude.{◌==◌}
-use Rattle.std.proofs.lemmas.Bool.Decides.{nat_tests}
+use Rattle.mtapi_machine.proofs.Names.{◌≡◌, ℕ, Bool, true, false, cond, List, [], ◌∷◌, Option, Some, None, ◌⊎◌, inl, inr, refl, sym, ◌∙◌, ap, subst, arith, ◌==◌, nat_tests, TaskHandle, Reply, Ok, Handle, Number, Given, Pending, Picked, Idle, Stop, Asked, Mtapi, Mrapi, Op, live_object, update, holds, Task, TaskState, Scheduled, Running, with_notes, with_waiter, task_look_refusals, State, Row, unless, says, gives, never, Allows, after_row, mtapi_unless, live, after_moves, row, looks_at, entry, NodeEntry, IsNext, next, LegalFrom, after_from, pends_alike, drops, is_dropped, kept, DropsRightly}
 use Rattle.mtapi_values.specs.declared.statuses.MtapiStatus.TheVariants as m
-use Rattle.mtapi_values.specs.declared.handles.TaskHandle.{TaskHandle}
-use Rattle.mtapi_machine.specs.declared.replies.Reply.{Reply}
-use Rattle.mtapi_machine.specs.declared.replies.Reply.TheVariants.{Ok, Handle, Number, Given, Pending, Picked, Idle, Stop, Asked, Mtapi, Mrapi}
 use Rattle.mtapi_machine.specs.declared.replies.Reply.TheVariants as reply
-use Rattle.mtapi_machine.specs.declared.ops.Op.{Op}
 use Rattle.mtapi_machine.specs.declared.ops.Op.TheVariants as op
-use Rattle.handle_pool.specs.Issued.{live_object, update}
-use Rattle.mtapi_values.specs.Conditions.{holds}
 use Rattle.mtapi_values.specs.Seats.{is_seat}
-use Rattle.mtapi_objects.specs.Tasks.{Task, TaskState, Scheduled, Running, Ended, with_notes, with_waiter, task_look_refusals}
-use Rattle.mtapi_machine.specs.State.{State}
-use Rattle.mtapi_machine.specs.Row.{Row, unless, says, gives, never, Allows, after_row, mtapi_unless, live}
-use Rattle.mtapi_machine.specs.Moves.{after_moves}
-use Rattle.mtapi_machine.specs.Rows.{row}
-use Rattle.mtapi_machine.specs.TaskRows.{looks_at}
-use Rattle.history.specs.Histories.{entry}
-use Rattle.mtapi_machine.specs.Legal.{NodeEntry, IsNext, next, LegalFrom, after_from}
-use Rattle.mtapi_machine.specs.Kept.{pends_alike, drops, is_dropped, kept}
-use Rattle.mtapi_machine.specs.Laws.{DropsRightly}
+use Rattle.mtapi_objects.specs.Tasks.{Ended}
 use Rattle.mtapi_machine.proofs.Refusals.{entry_stays, idle_stays}
 use Rattle.mtapi_machine.proofs.Changes.{some_same, update-same, at-update}
 

@@ -1,14 +1,9 @@
 -- What is shown of the list of one kind, said of each kind.
-use Rattle.std.proofs.Common.{◌≡◌, ℕ, Bool, List, [], refl}
+use Rattle.mtapi_machine.proofs.Names.{◌≡◌, ℕ, Bool, List, [], refl, Listed, Action, Task, Terms, State, Objects, FieldsOf, objects_of, opening, Sort, Groups, Queues, Mutexes, Sems, Rwls, Segments, Fields, all_of}
 use Rattle.mtapi_values.specs.declared.handles.ObjectKind.{ObjectKind}
 use Rattle.mtapi_values.specs.declared.handles.ObjectKind.TheVariants as kind
-use Rattle.handle_pool.specs.Issued.{Listed}
-use Rattle.mtapi_objects.specs.Actions.{Action}
-use Rattle.mtapi_objects.specs.Tasks.{Task}
 use Rattle.mtapi_machine.specs.declared.terms.Phase.{Phase}
-use Rattle.mtapi_machine.specs.declared.terms.Terms.{Terms}
-use Rattle.mtapi_machine.specs.State.{State, Objects, FieldsOf, objects_of, opening, actions, tasks}
-use Rattle.mtapi_machine.specs.Moves.{Sort, Groups, Queues, Mutexes, Sems, Rwls, Segments, Fields, all_of}
+use Rattle.mtapi_machine.specs.State.{actions, tasks}
 
 pub own_kind : (k : ObjectKind) → (objects_of k).kind ≡ k
 own_kind kind.Action = refl

@@ -1,35 +1,21 @@
 -- `==` of ops and of replies says whether the two are equal.
-use Rattle.std.proofs.Common.{◌≡◌, ℕ, Bool, List, ℤ, refl, sym, subst, ap, ◌==◌}
-use Rattle.std.specs.Bool.{Decides, beq}
+use Rattle.mtapi_machine.proofs.Names.{◌≡◌, ℕ, Bool, List, ℤ, refl, sym, subst, ap, ◌==◌, Decides, beq, Decides-eqb, Decides-int_eq, sameb, Choice, TaskHandle, GroupHandle, QueueHandle, Mask, Kind, MtapiStatus, MrapiStatus, TaskEnd, Op, Reply}
 use Rattle.std.specs.Ordering.{int_eq}
 use Rattle.std.specs.Cmp.{booleans_Decides}
 use Rattle.std.specs.Cmp.Lexicographic.{pointwise}
-use Rattle.std.proofs.lemmas.Bool.Decides.{Decides-eqb, Decides-int_eq}
 use Rattle.std.proofs.lemmas.Slice.Eq.{slice_eq-Decides}
-use denote.Enum.Bare.{sameb}
-use denote.Enum.Declared.{Choice}
 use Rattle.mtapi_values.specs.declared.handles.ActionHandle.{ActionHandle}
-use Rattle.mtapi_values.specs.declared.handles.TaskHandle.{TaskHandle}
-use Rattle.mtapi_values.specs.declared.handles.GroupHandle.{GroupHandle}
-use Rattle.mtapi_values.specs.declared.handles.QueueHandle.{QueueHandle}
 use Rattle.mtapi_values.specs.declared.handles.MutexHandle.{MutexHandle}
 use Rattle.mtapi_values.specs.declared.handles.SemHandle.{SemHandle}
 use Rattle.mtapi_values.specs.declared.handles.RwlHandle.{RwlHandle}
 use Rattle.mtapi_values.specs.declared.handles.ShmemHandle.{ShmemHandle}
-use Rattle.mtapi_values.specs.declared.masks.Mask.{Mask}
-use Rattle.mtapi_values.specs.declared.kinds.Kind.{Kind}
 use Rattle.mtapi_values.specs.contracts.kinds.Kind as kind
-use Rattle.mtapi_values.specs.declared.statuses.MtapiStatus.{MtapiStatus}
 use Rattle.mtapi_values.specs.contracts.statuses.MtapiStatus as mtapi
-use Rattle.mtapi_values.specs.declared.statuses.MrapiStatus.{MrapiStatus}
 use Rattle.mtapi_values.specs.contracts.statuses.MrapiStatus as mrapi
-use Rattle.mtapi_values.specs.declared.ends.TaskEnd.{TaskEnd}
 use Rattle.mtapi_values.specs.contracts.ends.TaskEnd as end
 use Rattle.mtapi_values.specs.contracts.ends.TaskEndPartialEq.TheImpl as end_eq
 use Rattle.action_fn.specs.declared.finished.Finished.{Finished}
-use Rattle.mtapi_machine.specs.declared.ops.Op.{Op}
 use Rattle.mtapi_machine.specs.declared.ops.Op.TheVariants as ops
-use Rattle.mtapi_machine.specs.declared.replies.Reply.{Reply}
 use Rattle.mtapi_machine.specs.contracts.ops.Op as op
 use Rattle.mtapi_machine.specs.contracts.ops.OpPartialEq.TheImpl as op_eq
 use Rattle.mtapi_machine.specs.contracts.replies.Reply as reply

@@ -1,3 +1,4 @@
+mod Names
 pub mod Changes
 pub mod Made
 pub mod Moves

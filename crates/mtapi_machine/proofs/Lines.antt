@@ -1,22 +1,8 @@
 -- A table of worked lines is decided by computing: its replay is the history that it tells, and at each line the machine's own reply
 -- differs from the wrong ones.
-use Rattle.std.proofs.Common.{◌≡◌, ℕ, ◌≤◌, Bool, true, false, List, [], ◌∷◌, ◌++◌, Option, Some, None, refl, sym, ◌∙◌, ap, arith, ℤ, pos, negsuc}
-use Rattle.std.specs.Prelude.{◌&&◌, ◌==◌, if◌then◌else◌}
-use Rattle.std.proofs.lemmas.Bool.Decides.{nat_tests}
+use Rattle.mtapi_machine.proofs.Names.{◌≡◌, ℕ, ◌≤◌, Bool, true, false, List, [], ◌∷◌, ◌++◌, Option, Some, None, refl, sym, ◌∙◌, ap, arith, ℤ, pos, negsuc, ◌&&◌, ◌==◌, if◌then◌else◌, nat_tests, TaskEnd, Completed, Cancelled, Failed, kind_number, entry, Terms, Reply, Ok, Handle, Number, Given, Pending, Picked, Idle, Stop, Asked, Mtapi, Mrapi, State, opening, NodeEntry, IsNext, Fits, row_of, next, LegalFrom, after_from, Legal, answer, replay, Line, reported, NoneIsLegal, WrongIsIllegal, Works, node_of, small, one_generation, single}
 use Rattle.mtapi_values.specs.Statuses.{mtapi_number, mrapi_number}
-use Rattle.mtapi_values.specs.declared.ends.TaskEnd.{TaskEnd}
-use Rattle.mtapi_values.specs.declared.ends.TaskEnd.TheVariants.{Completed, Cancelled, Failed}
-use Rattle.mtapi_objects.specs.Tasks.{kind_number}
-use Rattle.history.specs.Histories.{entry}
-use Rattle.mtapi_machine.specs.declared.terms.Terms.{Terms}
-use Rattle.mtapi_machine.specs.declared.replies.Reply.{Reply}
-use Rattle.mtapi_machine.specs.declared.replies.Reply.TheVariants.{Ok, Handle, Number, Ended, Given, Pending, Picked, Idle, Stop, Asked, Mtapi, Mrapi}
-use Rattle.mtapi_machine.specs.State.{State, opening}
-use Rattle.mtapi_machine.specs.Legal.{NodeEntry, IsNext, Fits, row_of, next, LegalFrom, after_from, Legal}
-use Rattle.mtapi_machine.specs.Replay.{answer, replay}
-use Rattle.mtapi_machine.specs.Tables.{Line, reported, NoneIsLegal, WrongIsIllegal, Works, node_of, small}
-use Rattle.mtapi_machine.specs.WorkedTasks.{one_generation}
-use Rattle.mtapi_machine.specs.WorkedLayouts.{single}
+use Rattle.mtapi_machine.specs.declared.replies.Reply.TheVariants.{Ended}
 use Rattle.mtapi_machine.proofs.Replays.{answer-allowed, legal_if}
 use Rattle.mtapi_machine.proofs.Lists.{Legal-rest, after-one}
 

@@ -1,17 +1,5 @@
 -- A list is legal exactly where its replay is the list itself.
-use Rattle.std.proofs.Common.{◌≡◌, ℕ, ◌<◌, ◌≤◌, Bool, true, false, cond, List, [], ◌∷◌, Option, Some, None, refl, sym, ◌∙◌, ap, arith}
-use Rattle.std.specs.Prelude.{nat_lt, nat_le, ◌&&◌}
-use Rattle.std.proofs.lemmas.Bool.Decides.{nat_tests}
-use Rattle.mtapi_machine.specs.declared.ops.Op.{Op}
-use Rattle.mtapi_machine.specs.declared.ops.Op.TheVariants.{Finish}
-use Rattle.mtapi_machine.specs.declared.replies.Reply.{Reply}
-use Rattle.mtapi_values.specs.declared.handles.TaskHandle.{TaskHandle}
-use Rattle.action_fn.specs.Answers.{Answered}
-use Rattle.mtapi_machine.specs.State.{State, seats}
-use Rattle.mtapi_machine.specs.Row.{Row, unless, gives, never, Allows}
-use Rattle.history.specs.Histories.{entry}
-use Rattle.mtapi_machine.specs.Legal.{NodeEntry, IsHonest, IsNext, row_of, next, LegalFrom}
-use Rattle.mtapi_machine.specs.Replay.{answer, is_sound, corrected, said_with, retold, put, replay}
+use Rattle.mtapi_machine.proofs.Names.{◌≡◌, ℕ, ◌<◌, ◌≤◌, Bool, true, false, cond, List, [], ◌∷◌, Option, Some, None, refl, sym, ◌∙◌, ap, arith, nat_lt, nat_le, ◌&&◌, nat_tests, Op, Finish, Reply, TaskHandle, Answered, State, seats, Row, unless, gives, never, Allows, entry, NodeEntry, IsHonest, IsNext, row_of, next, LegalFrom, answer, is_sound, corrected, said_with, retold, put, replay}
 
 -- the reply that a row gives is the one that it allows
 Allows-answer : (w : Row) (r : Reply) → answer w ≡ Some r → Allows w r

@@ -1,12 +1,5 @@
 -- The two whole runs, by computing.
-use Rattle.std.proofs.Common.{refl, arith}
-use Rattle.action_fn.specs.Answers.{fits, answer_of}
-use Rattle.handle_pool.specs.Issued.{live_of, issue, change, listed, issued_at, retired, is_full, may_issue}
-use Rattle.mtapi_objects.specs.Actions.{has_worker}
-use Rattle.mtapi_objects.specs.Tasks.{end_each}
-use Rattle.mtapi_machine.specs.WorkRows.{is_ready, can_take, has_better}
-use Rattle.mtapi_machine.specs.Legal.{Fits, Legal}
-use Rattle.mtapi_machine.specs.Replay.{replay}
+use Rattle.mtapi_machine.proofs.Names.{refl, arith, fits, answer_of, live_of, issue, change, listed, issued_at, retired, is_full, may_issue, has_worker, end_each, is_ready, can_take, has_better, Fits, Legal, replay}
 use Rattle.mtapi_machine.specs.Worked.{usual, nothing_asked, one_task}
 use Rattle.mtapi_machine.proofs.Replays.{legal_if}
 

@@ -1,12 +1,4 @@
-use Rattle.std.proofs.Common.{refl, arith}
-use Rattle.action_fn.specs.Answers.{fits, answer_of}
-use Rattle.handle_pool.specs.Issued.{live_of, issue, change, change_all, listed, issued_at, retired, is_full, may_issue}
-use Rattle.mtapi_objects.specs.Actions.{has_worker}
-use Rattle.mtapi_objects.specs.Tasks.{end_each}
-use Rattle.mtapi_objects.specs.Groups.{endings}
-use Rattle.mtapi_machine.specs.WorkRows.{is_ready, can_take, has_better}
-use Rattle.mtapi_machine.specs.Replay.{replay}
-use Rattle.mtapi_machine.specs.Tables.{Works, node_of, small}
+use Rattle.mtapi_machine.proofs.Names.{refl, arith, fits, answer_of, live_of, issue, change, change_all, listed, issued_at, retired, is_full, may_issue, has_worker, end_each, endings, is_ready, can_take, has_better, replay, Works, node_of, small}
 use Rattle.mtapi_machine.specs.WorkedGroups.{groups_made, order_of_ends, whole_group, group_deleted, ordered_members, WorkedGroups}
 use Rattle.mtapi_machine.proofs.Lines.{fits_of, fits_small, works_if, wrong_differ}
 

@@ -1,13 +1,4 @@
-use Rattle.std.proofs.Common.{refl}
-use Rattle.action_fn.specs.Answers.{fits, answer_of}
-use Rattle.handle_pool.specs.Issued.{live_of, issue, change, change_all, listed, issued_at, retired, is_full, may_issue}
-use Rattle.mtapi_objects.specs.Actions.{has_worker}
-use Rattle.mtapi_objects.specs.Tasks.{end_each}
-use Rattle.mtapi_objects.specs.Groups.{endings}
-use Rattle.mtapi_machine.specs.WorkRows.{is_ready, can_take, has_better}
-use Rattle.mtapi_machine.specs.Replay.{replay}
-use Rattle.mtapi_machine.specs.Tables.{Works}
-use Rattle.mtapi_machine.specs.WorkedLayouts.{kinds_named, kinds_again, other_kinds, single, WorkedLayouts}
+use Rattle.mtapi_machine.proofs.Names.{refl, fits, answer_of, live_of, issue, change, change_all, listed, issued_at, retired, is_full, may_issue, has_worker, end_each, endings, is_ready, can_take, has_better, replay, Works, kinds_named, kinds_again, other_kinds, single, WorkedLayouts}
 use Rattle.mtapi_machine.proofs.Lines.{fits_single, works_if, wrong_differ}
 
 kinds_named_works : Works single kinds_named

@@ -1,12 +1,4 @@
-use Rattle.std.proofs.Common.{refl}
-use Rattle.action_fn.specs.Answers.{fits, answer_of}
-use Rattle.handle_pool.specs.Issued.{live_of, issue, change, change_all, listed, issued_at, retired, is_full, may_issue}
-use Rattle.mtapi_objects.specs.Actions.{has_worker}
-use Rattle.mtapi_objects.specs.Tasks.{end_each}
-use Rattle.mtapi_objects.specs.Groups.{endings}
-use Rattle.mtapi_machine.specs.WorkRows.{is_ready, can_take, has_better}
-use Rattle.mtapi_machine.specs.Replay.{replay}
-use Rattle.mtapi_machine.specs.Tables.{Works, small}
+use Rattle.mtapi_machine.proofs.Names.{refl, fits, answer_of, live_of, issue, change, change_all, listed, issued_at, retired, is_full, may_issue, has_worker, end_each, endings, is_ready, can_take, has_better, replay, Works, small}
 use Rattle.mtapi_machine.specs.WorkedPhases.{in_new, in_closing, in_closed, WorkedPhases}
 use Rattle.mtapi_machine.proofs.Lines.{fits_small, works_if, wrong_differ}
 

@@ -1,13 +1,4 @@
-use Rattle.std.proofs.Common.{refl, arith}
-use Rattle.action_fn.specs.Answers.{fits, answer_of}
-use Rattle.handle_pool.specs.Issued.{live_of, issue, change, change_all, listed, issued_at, retired, is_full, may_issue}
-use Rattle.mtapi_objects.specs.Actions.{has_worker}
-use Rattle.mtapi_objects.specs.Tasks.{end_each}
-use Rattle.mtapi_objects.specs.Groups.{endings}
-use Rattle.mtapi_machine.specs.WorkRows.{is_ready, can_take, has_better}
-use Rattle.mtapi_machine.specs.Replay.{replay}
-use Rattle.mtapi_machine.specs.Tables.{Works, node_of, small}
-use Rattle.mtapi_machine.specs.WorkedTasks.{starts_refused, looks_refused, one_waiter, cancelled, place_retires, no_core, one_generation, WorkedTasks}
+use Rattle.mtapi_machine.proofs.Names.{refl, arith, fits, answer_of, live_of, issue, change, change_all, listed, issued_at, retired, is_full, may_issue, has_worker, end_each, endings, is_ready, can_take, has_better, replay, Works, node_of, small, starts_refused, looks_refused, one_waiter, cancelled, place_retires, no_core, one_generation, WorkedTasks}
 use Rattle.mtapi_machine.proofs.Lines.{fits_of, fits_one_generation, fits_small, works_if, wrong_differ}
 
 starts_refused_works : Works small starts_refused

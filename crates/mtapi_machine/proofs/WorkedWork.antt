@@ -1,18 +1,8 @@
-use Rattle.std.proofs.Common.{◌≡◌, ◌<◌, refl, arith, [], ◌∷◌, ◌++◌, pos}
-use Rattle.action_fn.specs.Answers.{fits, answer_of}
-use Rattle.handle_pool.specs.Issued.{live_of, issue, change, change_all, listed, issued_at, retired, is_full, may_issue}
-use Rattle.mtapi_objects.specs.Actions.{has_worker}
-use Rattle.mtapi_objects.specs.Tasks.{end_each}
-use Rattle.mtapi_objects.specs.Groups.{endings}
-use Rattle.mtapi_machine.specs.WorkRows.{is_ready, can_take, has_better}
-use Rattle.mtapi_machine.specs.Replay.{replay}
+use Rattle.mtapi_machine.proofs.Names.{◌≡◌, ◌<◌, refl, arith, [], ◌∷◌, ◌++◌, pos, fits, answer_of, live_of, issue, change, change_all, listed, issued_at, retired, is_full, may_issue, has_worker, end_each, endings, is_ready, can_take, has_better, replay, entry, Legal, after_from, Works, reported, h1, finish, node_of, small}
 use Rattle.mtapi_values.specs.declared.kinds.Kind.TheVariants as kind
 use Rattle.action_fn.specs.declared.finished.ActEnd.TheVariants.{Done}
-use Rattle.history.specs.Histories.{entry}
 use Rattle.mtapi_machine.specs.declared.ops.Op.TheVariants as op
 use Rattle.mtapi_machine.specs.declared.replies.Reply.TheVariants as reply
-use Rattle.mtapi_machine.specs.Legal.{Legal, after_from}
-use Rattle.mtapi_machine.specs.Tables.{Works, reported, h1, finish, node_of, small}
 use Rattle.mtapi_machine.specs.WorkedWork.{picking, two_workers, finishing, stopped_watch, whole_watch, bad_watches, running, WorkedWork}
 use Rattle.mtapi_machine.proofs.Lines.{fits_of, fits_small, works_if, last_is_next, wrong_differ}
 

@@ -1,5 +1,4 @@
-use Rattle.mtapi_machine.specs.State.{opening}
-use Rattle.mtapi_machine.specs.Legal.{after}
+use Rattle.mtapi_machine.proofs.Names.{opening, after}
 use Rattle.mtapi_machine.proofs.Served.{served, after_served}
 use Rattle.mtapi_machine.proofs.laws.law_served.Goals as goal
 

@@ -1,7 +1,4 @@
-use Rattle.std.proofs.Common.{[], ◌∷◌}
-use Rattle.mtapi_machine.specs.State.{opening}
-use Rattle.mtapi_machine.specs.Laws.{start_numbers}
-use Rattle.mtapi_machine.specs.Legal.{after}
+use Rattle.mtapi_machine.proofs.Names.{[], ◌∷◌, opening, start_numbers, after}
 use Rattle.mtapi_machine.proofs.StartOrder.{after_numbered, rises-front}
 use Rattle.mtapi_machine.proofs.laws.law_start_order.Goals as goal
 

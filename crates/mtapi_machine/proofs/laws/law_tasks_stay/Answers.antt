@@ -1,7 +1,4 @@
-use Rattle.std.proofs.Common.{subst, sym}
-use Rattle.mtapi_machine.specs.State.{State}
-use Rattle.mtapi_machine.specs.Laws.{Grows}
-use Rattle.mtapi_machine.specs.Legal.{after}
+use Rattle.mtapi_machine.proofs.Names.{subst, sym, State, Grows, after}
 use Rattle.mtapi_machine.proofs.Lists.{after-append}
 use Rattle.mtapi_machine.proofs.Ends.{after_grows}
 use Rattle.mtapi_machine.proofs.laws.law_tasks_stay.Goals as goal
