@@ -1,11 +1,10 @@
 -- Every task that was accepted ends once.
-use Rattle.history_law.proofs.Names.{◌≡◌, ℕ, ◌≤◌, true, false, List, [], ◌∷◌, ◌++◌, Option, Some, None, refl, sym, ◌∙◌, ap, subst, arith, IsSome, append-nil, TaskEnd, all_marked, Terms, Op, Reply, Ok, Handle, entry, listed, State, opening, workers, Move, starts_task, after_moves, Allows, after_row, row, asked_for, asked_of, NodeEntry, IsNext, next, LegalFrom, Legal, after_from, after, Legal-rest, after-append, after_grows, end_at, accepted_by, accepted, TasksEndOnce, some_same}
+use Rattle.history_law.proofs.Names.{◌≡◌, ℕ, ◌≤◌, true, false, List, [], ◌∷◌, ◌++◌, Option, Some, None, refl, sym, ◌∙◌, ap, subst, arith, IsSome, append-nil, TaskEnd, all_marked, Terms, Op, Reply, Ok, Handle, entry, listed, State, opening, workers, Move, starts_task, after_moves, Allows, after_row, row, asked_for, asked_of, NodeEntry, IsNext, next, LegalFrom, Legal, after_from, after, Legal-rest, after-append, after_grows, end_at, accepted_by, accepted, TasksEndOnce, some_same, Answers}
 use Rattle.mtapi_machine.specs.declared.ops.Op.TheVariants as op
 use Rattle.history_law.proofs.Held.{AllEnded, all_first}
 use Rattle.history_law.proofs.Moves.{Stands, after_stands, Stopped, after_stopped, none_listed}
 use Rattle.history_law.proofs.Ends.{grows_listed, all_end, end_later}
 use Rattle.history_law.proofs.lists.Handles.{some_issued}
-use Rattle.mtapi_machine.specs.Answers.{Answers}
 use Rattle.mtapi_machine.specs.Answers as is
 use Rattle.mtapi_machine.proofs.Answered.{answered}
 

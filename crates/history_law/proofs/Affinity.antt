@@ -1,5 +1,5 @@
 -- Who picks a task is in the mask of the task, and in that of the action.
-use Rattle.history_law.proofs.Names.{◌≡◌, ℕ, sym, Bool, true, false, cond, List, [], ◌∷◌, ◌++◌, Option, Some, None, refl, ◌∙◌, ap, subst, ◌==◌, ◌&&◌, is_some, ℤ, nat_lt, not, Kind, TaskHandle, ActionHandle, in_mask, entry, Terms, Op, Reply, Handle, Idle, Stop, Picked, Mtapi, live_object, any_listed, listed, Action, new_action, is_eligible, has_enabled_job, Task, NewTask, runs_on, new_task, State, opening, workers, is_new, is_stop, Move, stops, runs_task, after_moves, Row, unless, gives, never, Allows, only, live, handle_of, moves_of, asked_for, asked_of, row, is_ready, has_better, picks, NodeEntry, IsNext, next, LegalFrom, Legal, after_from, after, StartsTask, Legal-front, AllGives, given, on_only, on_live, fst_true, snd_true, is_handle, issues, task_mask, action_mask, ObeysMasks, some_same}
+use Rattle.history_law.proofs.Names.{nat_tests, arith, ◌≡◌, ℕ, sym, Bool, true, false, cond, List, [], ◌∷◌, ◌++◌, Option, Some, None, refl, ◌∙◌, ap, subst, ◌==◌, ◌&&◌, is_some, ℤ, nat_lt, not, Kind, TaskHandle, ActionHandle, in_mask, entry, Terms, Op, Reply, Handle, Idle, Stop, Picked, Mtapi, live_object, any_listed, listed, Action, new_action, is_eligible, has_enabled_job, Task, NewTask, runs_on, new_task, State, opening, workers, is_new, is_stop, Move, stops, runs_task, after_moves, Row, unless, gives, never, Allows, only, live, handle_of, moves_of, asked_for, asked_of, row, is_ready, has_better, picks, NodeEntry, IsNext, next, LegalFrom, Legal, after_from, after, StartsTask, Legal-front, AllGives, given, on_only, on_live, fst_true, snd_true, is_handle, issues, task_mask, action_mask, ObeysMasks, some_same}
 use Rattle.mtapi_values.specs.declared.handles.ObjectKind.TheVariants as kind
 use Rattle.mtapi_machine.specs.declared.ops.Op.TheVariants as op
 use Rattle.mtapi_values.specs.declared.statuses.MtapiStatus.TheVariants as m
@@ -66,9 +66,7 @@ in_masks s w t a x =
 
 -- the mask of the entry is that of the task that it asks for
 asked_mask : (n : NewTask) (o : Op) (mask : ℕ) → StartsTask n o → task_mask o ≡ Some mask → n.cores ≡ mask
-asked_mask n (op.TaskStart job args priority cores detached group) mask b e = ap (λ (x : NewTask). x.cores) b ∙ some_same e
-asked_mask n (op.TaskEnqueue q args cores detached group) mask b e = ap (λ (x : NewTask). x.cores) b.1 ∙ some_same e
-asked_mask n _ mask b e = absurd b
+asked_mask n o mask e1 e2 = grind (arith, nat_tests)
 
 made_mask : (o : Op) (h mask : ℕ) (s : State) (a : Action) → MadeAs o h s → action_mask o ≡ Some mask → live_object s.actions h ≡ Some a → a.cores ≡ mask
 made_mask (op.ActionCreate job k cores) h mask s a v e f = (under_at h _ s.actions a v.under f).cores ∙ some_same e

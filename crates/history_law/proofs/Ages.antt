@@ -1,5 +1,5 @@
 -- What each move does to the objects of one kind: they stay listed, none comes back to life, and a new one has a new handle.
-use Rattle.history_law.proofs.Names.{◌≡◌, ℕ, ◌+◌, ◌≤◌, Bool, true, false, cond, List, [], ◌∷◌, Some, refl, sym, ◌∙◌, ap, subst, arith, ◌==◌, ◌&&◌, is_some, cond_both, ObjectKind, TaskEnd, Failed, Op, Listed, live_of, live_object, listed, change, change_all, issue, with_fields, gone, Action, with_enabled, Queue, opened, Task, Notes, TaskState, Ended, Running, with_state, with_notes, ended, end_each, new_task, NewTask, is_member, freed, let_go, State, FieldsOf, objects_of, is_open, Sort, Fields, all_of, Move, Groups, Queues, Mutexes, Sems, Rwls, Segments, makes_action, enables, withdraws, starts_task, runs_task, ends_task, ends_waiting, notes, leaves, frees_members, lets_members_go, is_fresh, apply, IsMade, WithdrawsAction, AltersObject, MakesAction, StartsTask, makes_kind, snd_true, rest_keeps, some_same, and_left}
+use Rattle.history_law.proofs.Names.{nat_tests, ◌≡◌, ℕ, ◌+◌, ◌≤◌, Bool, true, false, cond, List, [], ◌∷◌, Some, refl, sym, ◌∙◌, ap, subst, arith, ◌==◌, ◌&&◌, is_some, cond_both, ObjectKind, TaskEnd, Failed, Op, Listed, live_of, live_object, listed, change, change_all, issue, with_fields, gone, Action, with_enabled, Queue, opened, Task, Notes, TaskState, Ended, Running, with_state, with_notes, ended, end_each, new_task, NewTask, is_member, freed, let_go, State, FieldsOf, objects_of, is_open, Sort, Fields, all_of, Move, Groups, Queues, Mutexes, Sems, Rwls, Segments, makes_action, enables, withdraws, starts_task, runs_task, ends_task, ends_waiting, notes, leaves, frees_members, lets_members_go, is_fresh, apply, IsMade, WithdrawsAction, AltersObject, MakesAction, StartsTask, makes_kind, snd_true, rest_keeps, some_same, and_left}
 use Rattle.mtapi_values.specs.declared.handles.ObjectKind.TheVariants as kind
 use Rattle.mtapi_machine.specs.declared.ops.Op.TheVariants as op
 use Rattle.history_law.specs.Words.{makes as makes_object}
@@ -136,13 +136,10 @@ sort_ages k K same s o alter Q new old m e v =
 -- an op whose move makes an object is one that makes it
 
 makes_task : (t : NewTask) (o : Op) → StartsTask t o → makes_object kind.Task o ≡ true
-makes_task t (op.TaskStart job args priority cores detached group) b = refl
-makes_task t (op.TaskEnqueue q args cores detached group) b = refl
-makes_task t _ b = absurd b
+makes_task t o e1 = grind (arith, nat_tests)
 
 makes_this : (a : Action) (o : Op) → MakesAction a o → makes_object kind.Action o ≡ true
-makes_this a (op.ActionCreate job x cores) b = refl
-makes_this a _ b = absurd b
+makes_this a o e1 = grind (arith, nat_tests)
 
 abbrev kind_of : Sort → ObjectKind
 kind_of Groups = kind.Group
@@ -153,13 +150,7 @@ kind_of Rwls = kind.Rwl
 kind_of Segments = kind.Shmem
 
 makes_sort : (k : Sort) (o : Op) → makes_kind k o ≡ true → makes_object (kind_of k) o ≡ true
-makes_sort Groups op.GroupCreate b = refl
-makes_sort Queues (op.QueueCreate id job priority limit ordered retain) b = refl
-makes_sort Mutexes (op.MutexCreate id recursive) b = refl
-makes_sort Sems (op.SemCreate id limit) b = refl
-makes_sort Rwls (op.RwlCreate id limit) b = refl
-makes_sort Segments (op.ShmemCreate id cells) b = refl
-makes_sort _ _ b = true_false b refl
+makes_sort k o e1 = grind (arith, nat_tests)
 
 -- what a new object, by an op that makes it, and ageing keep, each move keeps
 pub kind_move : (k : ObjectKind) (s : State) (o : Op) (Q : List (Listed (FieldsOf k)) → Type 0)
@@ -201,10 +192,7 @@ module _ {T : Type 0} (K : T → T → Type 0) where
   listed_ages h [] [] a = refl
   listed_ages h [] (q ∷ qs) a = absurd a
   listed_ages h (r ∷ rs) [] a = absurd a
-  listed_ages h (r ∷ rs) (q ∷ qs) a =
-      let k : listed h qs ≡ listed h rs = listed_ages h rs qs a.1 in
-      let d : cond {A = ℕ} (q.handle == h) 1 0 ≡ cond {A = ℕ} (r.handle == h) 1 0 = ap (λ (n : ℕ). cond {A = ℕ} (n == h) 1 0) a.0.handle in
-      omega arith
+  listed_ages h (r ∷ rs) (q ∷ qs) a = grind (arith, nat_tests, listed_ages h rs qs a.1)
 
   pub dead_ages : (h : ℕ) (l m : List (Listed T)) → AgesEach K l m → Dead h l → Dead h m
   dead_ages h [] [] a d = tt

@@ -1,5 +1,5 @@
 -- What holds after an entry whose reply passes a test.
-use Rattle.history_law.proofs.Names.{◌≡◌, Bool, true, false, cond, List, [], Option, Some, None, refl, sym, ◌∙◌, ap, subst, ◌||◌, Reply, Move, Row, unless, gives, never, Allows, live, moves_of, AllGives}
+use Rattle.history_law.proofs.Names.{nat_tests, arith, ◌≡◌, Bool, true, false, cond, List, [], Option, Some, None, refl, sym, ◌∙◌, ap, subst, ◌||◌, Reply, Move, Row, unless, gives, never, Allows, live, moves_of, AllGives}
 
 pub true_false : {A : Type 0} {b : Bool} → b ≡ true → b ≡ false → A
 true_false e f = absurd (cc)
@@ -19,12 +19,10 @@ none_some e = absurd (cc)
 
 -- where an alternative isn't met, neither part is
 pub first_false : (a b : Bool) → (a || b) ≡ false → a ≡ false
-first_false true b e = e
-first_false false b e = refl
+first_false a b e1 = grind (arith, nat_tests)
 
 pub second_false : (a b : Bool) → (a || b) ≡ false → b ≡ false
-second_false true b e = true_false refl e
-second_false false b e = e
+second_false a b e1 = grind (arith, nat_tests)
 
 pub none_first : (a b : Bool) → cond a true b ≡ false → (a ≡ false) × (b ≡ false)
 none_first true b e = true_false refl e

@@ -1,5 +1,5 @@
 -- What an Ok `enter` and an Ok `final` stand behind.
-use Rattle.history_law.proofs.Names.{◌≡◌, ℕ, zero, suc, ◌<◌, Bool, true, false, cond, List, [], ◌∷◌, ◌++◌, refl, ◌∙◌, ap, arith, ◌==◌, ◌&&◌, not, slice_set, replicate, MatchBool, eq-eqb, true_from_ne_false, nat_tests, marked, all_marked, entry, Terms, Op, Reply, Ok, Stop, Idle, Pending, Picked, Mtapi, State, opening, workers, is_open, is_past_open, is_stop, Move, released, stops, runs_task, apply, after_moves, Row, unless, gives, Allows, after_row, row, can_take, picks, live_object, any_listed, IsMade, is_pick, NodeEntry, IsNext, next, LegalFrom, Legal, after_from, after, Legal-front, AllGives, given, on_live, on_only, fst_true, snd_true, rest_keeps, some_entry, is_release, says_ok, says_stop, is_released, is_stop_of}
+use Rattle.history_law.proofs.Names.{◌≡◌, ℕ, zero, suc, ◌<◌, Bool, true, false, List, [], ◌∷◌, ◌++◌, refl, ◌∙◌, ap, arith, ◌==◌, ◌&&◌, not, slice_set, replicate, MatchBool, eq-eqb, true_from_ne_false, nat_tests, marked, all_marked, entry, Terms, Op, Reply, Ok, Pending, Mtapi, State, opening, workers, is_past_open, Move, released, stops, apply, Allows, after_row, row, IsMade, is_pick, NodeEntry, IsNext, next, LegalFrom, Legal, after_from, after, Legal-front, fst_true, snd_true, rest_keeps, some_entry, is_release, says_ok, says_stop, is_released, is_stop_of}
 use Rattle.mtapi_values.specs.declared.statuses.MtapiStatus.TheVariants as m
 use Rattle.mtapi_machine.specs.declared.ops.Op.TheVariants as op
 use Rattle.mtapi_machine.proofs.Moves.{by_moves as made_moves}
@@ -11,27 +11,14 @@ use Rattle.history_law.proofs.lists.Objects.{cut_from}
 -- Release
 
 enter_reads : (a b : Bool) (X : Type 0) → MatchBool a (Ok ≡ Mtapi m.ErrNodeNotinit) (MatchBool (not b) (Ok ≡ Pending) X) → b ≡ true
-enter_reads false true X k = refl
-enter_reads true b X k = absurd (not_status k)
-  where
-    not_status : Ok ≡ Mtapi m.ErrNodeNotinit → ⊥
-    not_status e = cc
-enter_reads false false X k = absurd (not_pending k)
-  where
-    not_pending : Ok ≡ Pending → ⊥
-    not_pending e = cc
+enter_reads a b X e1 = grind (arith, nat_tests)
 
 other_release : (o : Op) (s : State) (who : ℕ) (v : Bool) (x : Move) → is_release o ≡ false → May s who o x → s.released ≡ v → (apply x s).released ≡ v
 other_release o s who v released n k e = true_false k n
 other_release o s who v x n k e = rest_keeps (λ t. t.released ≡ v) (λ t g q m c r y p. p) x s e
 
-refused_release : (s : State) (b : Bool) (r : Reply) → says_ok r ≡ false → Allows (unless b (Mtapi m.ErrNodeNotinit) (gives Ok (released ∷ []))) r → (after_row s (unless b (Mtapi m.ErrNodeNotinit) (gives Ok (released ∷ [])))).released ≡ s.released
-refused_release s true r n a = refl
-refused_release s false r n a = true_false (ap says_ok a) n
-
 row_release : (s : State) (who : ℕ) (o : Op) (r : Reply) → is_release o ≡ true → says_ok r ≡ false → Allows (row s who o r) r → (after_row s (row s who o r)).released ≡ s.released
-row_release s who op.Release r i n a = refused_release s (not (is_open s.phase)) r n a
-row_release s who _ r i n a = true_false i refl
+row_release s who o r e1 e2 e3 = grind (arith, nat_tests)
 
 next_released : (s : State) (e : NodeEntry) → IsNext s e → is_released e ≡ false → (next s e).released ≡ s.released
 next_released s e n i = on_test (λ b. (b && says_ok e.reply) ≡ false → (next s e).released ≡ s.released) (is_release e.op)
@@ -72,22 +59,8 @@ no_pick : (o : Op) (s : State) (w : ℕ) (v : Bool) (x : Move) → is_pick o ≡
 no_pick o s w v (stops y) n k e = true_false k.by n
 no_pick o s w v x n k e = rest_keeps (λ t. marked w t.stopped ≡ v) (λ t g q m c r y p. p) x s e
 
--- a pick with another reply than Stop stops nobody
-abbrev StopsNone : State → ℕ → Reply → List Move → Type 0
-StopsNone s w r ms = says_stop r ≡ false → marked w (after_moves ms s).stopped ≡ marked w s.stopped
-
-picks_none : (s : State) (w who : ℕ) (r : Reply) → AllGives (StopsNone s w) (picks s who r)
-picks_none s w who (Picked t a k args) =
-    on_live _ (live_object s.tasks t.0) _ _ tt (λ x e. on_live _ (live_object s.actions a.0) _ _ tt (λ y d. on_only (StopsNone s w) _ (Picked t a y.kind x.args) (runs_task t.0 who y.kind ∷ []) (λ m i. refl)))
-picks_none s w who _ = on_only (StopsNone s w) (not (any_listed (can_take s who) s.tasks)) Idle [] (λ m i. refl)
-
-stop_none : (b : Bool) (s : State) (w who : ℕ) (v : Row) → AllGives (StopsNone s w) v → AllGives (StopsNone s w) (cond b (gives Stop (stops who ∷ [])) v)
-stop_none true s w who v h = λ i. true_false refl i
-stop_none false s w who v h = h
-
 row_stops : (s : State) (w who : ℕ) (o : Op) (r : Reply) → is_pick o ≡ true → says_stop r ≡ false → Allows (row s who o r) r → marked w (after_row s (row s who o r)).stopped ≡ marked w s.stopped
-row_stops s w who op.Pick r i n a = given (StopsNone s w) (row s who op.Pick r) r (λ x k. refl) (λ c0 c1 c2. stop_none (is_stop s) s w who (picks s who r) (picks_none s w who r)) a n
-row_stops s w who _ r i n a = true_false i refl
+row_stops s w who o r e1 e2 e3 = grind (arith, nat_tests)
 
 next_stops : (s : State) (e : NodeEntry) (w : ℕ) → IsNext s e → is_stop_of w e ≡ false → marked w (next s e).stopped ≡ marked w s.stopped
 next_stops s e w n i = on_test (λ b. (b && says_stop e.reply) ≡ false → marked w (next s e).stopped ≡ marked w s.stopped) (e.who == w)

@@ -1,5 +1,5 @@
 -- What holds after every legal list of the tasks, the phase and the marks of stopped workers, and the changes that keep it.
-use Rattle.history_law.proofs.Names.{◌≡◌, ℕ, zero, suc, ◌+◌, ◌≤◌, Bool, true, false, cond, List, [], ◌∷◌, ◌++◌, Some, refl, ◌∙◌, ap, arith, ◌==◌, ◌&&◌, is_none, slice_set, cond_both, TaskEnd, all_marked, Phase, New, Listed, live_of, live_object, any_listed, any_live, change, issue, listed, with_fields, gone, Task, TaskState, end_of, is_unended, ended, end_each, is_new, is_open, is_past_open, fst_true, snd_true}
+use Rattle.history_law.proofs.Names.{nat_tests, ◌≡◌, ℕ, ◌+◌, ◌≤◌, Bool, true, false, cond, List, [], ◌∷◌, ◌++◌, Some, refl, ◌∙◌, ap, arith, ◌==◌, ◌&&◌, is_none, slice_set, cond_both, TaskEnd, all_marked, Phase, Listed, live_of, live_object, any_listed, any_live, change, issue, listed, with_fields, gone, Task, TaskState, end_of, is_unended, ended, end_each, is_new, is_open, is_past_open, fst_true, snd_true}
 use Rattle.history_law.proofs.lists.Found.{at_here, at_past}
 use Rattle.history_law.proofs.lists.Handles.{once_more}
 use Rattle.history_law.proofs.Answered.{true_false, none_first}
@@ -117,12 +117,10 @@ held_late p q m l k t v g = record {
 }
 
 new_late : (p : Phase) → is_new p ≡ true → is_past_open p ≡ true → ⊥
-new_late New a b = cc
-new_late p a b = cc
+new_late p e1 e2 = grind (arith, nat_tests)
 
 open_late : (p : Phase) → is_open p ≡ true → is_past_open p ≡ true → ⊥
-open_late New a b = cc
-open_late p a b = cc
+open_late p e1 e2 = grind (arith, nat_tests)
 
 -- the node opens
 pub held_open : (p q : Phase) (m : List Bool) (l : List (Listed Task)) → is_new p ≡ true → Held p m l → Held q m l
@@ -158,7 +156,4 @@ held_stop p m w l t n v = record { dead = v.dead; stopped = λ f. (t, all_ended 
 
 -- where each worker has stopped, of one or more, the first has
 pub all_first : (w : ℕ) (m : List Bool) → 1 ≤ w → all_marked w m ≡ true → first_mark m ≡ true
-all_first zero m l e = absurd (omega arith)
-all_first (suc n) [] l e = absurd (cc)
-all_first (suc n) (true ∷ bs) l e = refl
-all_first (suc n) (false ∷ bs) l e = absurd (cc)
+all_first w m e1 e2 = grind (arith, nat_tests)

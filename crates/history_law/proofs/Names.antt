@@ -57,7 +57,7 @@ pub use Rattle.mtapi_machine.specs.TaskRows.{asked_for, asked_of, cancels, looks
 pub use Rattle.mtapi_machine.specs.WorkRows.{picks, task_end}
 pub use Rattle.mtapi_machine.specs.Worked.{add_task, every_core, finishes_first, first_handle, main, next_handle, picks_first, task, the_action, usual, worker}
 pub use Rattle.mtapi_machine.specs.declared.ops.Op.{Op}
-pub use Rattle.mtapi_machine.specs.declared.ops.Op.TheVariants.{Close, Final, Initialize}
+pub use Rattle.mtapi_machine.specs.declared.ops.Op.TheVariants.{Close, Final, Initialize, TallyEnd}
 pub use Rattle.mtapi_machine.specs.declared.replies.Reply.{Reply}
 pub use Rattle.mtapi_machine.specs.declared.replies.Reply.TheVariants.{Given, Handle, Idle, Mrapi, Mtapi, Number, Ok, Pending, Picked, Stop}
 pub use Rattle.mtapi_machine.specs.declared.terms.Phase.{Phase}
@@ -86,7 +86,7 @@ pub use Rattle.mtapi_values.specs.declared.handles.TaskHandle.{TaskHandle}
 pub use Rattle.mtapi_values.specs.declared.kinds.Kind.{Kind}
 pub use Rattle.mtapi_values.specs.declared.statuses.MrapiStatus.{MrapiStatus}
 pub use Rattle.mtapi_values.specs.declared.statuses.MtapiStatus.{MtapiStatus}
-pub use Rattle.mtapi_values.specs.declared.statuses.MtapiStatus.TheVariants.{ErrTaskInvalid, Timeout}
+pub use Rattle.mtapi_values.specs.declared.statuses.MtapiStatus.TheVariants.{ErrActionFailed, ErrTaskInvalid, Timeout}
 unfoldable pub use Rattle.action_fn.specs.Answers.{answer_of, fits}
 unfoldable pub use Rattle.handle_pool.specs.Issued.{change, change_all, is_full, issue, issued_at, listed, live_of, may_issue, retired}
 unfoldable pub use Rattle.history_law.specs.Order.{number_at}
@@ -104,3 +104,4 @@ unfoldable pub use Rattle.mtapi_machine.specs.Worked.{one_task}
 unfoldable pub use Rattle.mtapi_objects.specs.Actions.{has_worker}
 unfoldable pub use Rattle.mtapi_objects.specs.Groups.{endings}
 unfoldable pub use Rattle.mtapi_objects.specs.Tasks.{end_each}
+pub use Rattle.mtapi_machine.specs.Answers.{Answers, gives_up_with, tally_verdict}

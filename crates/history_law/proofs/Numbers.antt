@@ -16,18 +16,12 @@ has_number n l = how_many (λ r. is_number n r.fields.state) l
 change_number : (n d h : ℕ) (f : Listed Task → Listed Task) (l : List (Listed Task)) → ((r : Listed Task) → bit (is_number n (f r).fields.state) ≤ bit (is_number n r.fields.state) + d) → has_number n (change h f l) ≤ has_number n l + d
 unfolding change
 change_number n d h f [] k = omega arith
-change_number n d h f (r ∷ rs) k =
-    let e : has_number n (change h f rs) ≤ has_number n rs + d = change_number n d h f rs k in
-    let m : bit (is_number n (f r).fields.state) ≤ bit (is_number n r.fields.state) + d = k r in
-    cond_both (r.live && (r.handle == h)) (f r ∷ rs) (r ∷ change h f rs) (λ q. has_number n q ≤ has_number n (r ∷ rs) + d) (λ c. omega arith) (λ c. omega arith)
+change_number n d h f (r ∷ rs) k = grind (arith, nat_tests, change_number n d h f rs k)
 
 all_number : (n : ℕ) (p : Task → Bool) (f : Listed Task → Listed Task) (l : List (Listed Task)) → ((r : Listed Task) → bit (is_number n (f r).fields.state) ≡ bit (is_number n r.fields.state)) → has_number n (change_all p f l) ≤ has_number n l
 unfolding change_all
 all_number n p f [] k = omega arith
-all_number n p f (r ∷ rs) k =
-    let e : has_number n (change_all p f rs) ≤ has_number n rs = all_number n p f rs k in
-    let m : bit (is_number n (f r).fields.state) ≡ bit (is_number n r.fields.state) = k r in
-    cond_both (r.live && p r.fields) (f r) r (λ q. has_number n (q ∷ change_all p f rs) ≤ has_number n (r ∷ rs)) (λ c. omega arith) (λ c. omega arith)
+all_number n p f (r ∷ rs) k = grind (arith, nat_tests, all_number n p f rs k)
 
 issue_number : (n h : ℕ) (x : Task) (l : List (Listed Task)) → is_number n x.state ≡ false → has_number n (issue h x l) ≡ has_number n l
 unfolding issue
@@ -37,22 +31,14 @@ issue_number n h x (r ∷ rs) e = ap (λ (k : ℕ). bit (is_number n r.fields.st
 other_number : (k n : ℕ) → k < n → (k == n) ≡ false
 other_number k n l = grind (arith, nat_tests)
 
-lower_number : (k n : ℕ) → n < k → (k == n) ≡ false
-lower_number k n l = grind (arith, nat_tests)
-
 at_most_one : (b : Bool) → bit b ≤ 1
-at_most_one true = omega arith
-at_most_one false = omega arith
+at_most_one b = grind (arith, nat_tests)
 
 -- numbers below the first one that is given are given to no further task
 ends_low : (n : ℕ) (p : Task → Bool) (e : TaskEnd) (k : ℕ) (l : List (Listed Task)) → n < k → has_number n (end_each p e k l) ≤ has_number n l
 unfolding end_each
 ends_low n p e k [] i = omega arith
-ends_low n p e k (r ∷ rs) i =
-    let x : has_number n (end_each p e k rs) ≤ has_number n rs = ends_low n p e k rs i in
-    let y : has_number n (end_each p e (k + 1) rs) ≤ has_number n rs = ends_low n p e (k + 1) rs (omega arith) in
-    let z : bit (k == n) ≡ 0 = ap bit (lower_number k n i) in
-    cond_both (r.live && p r.fields) (ended e k r ∷ end_each p e (k + 1) rs) (r ∷ end_each p e k rs) (λ q. has_number n q ≤ has_number n (r ∷ rs)) (λ c. omega arith) (λ c. omega arith)
+ends_low n p e k (r ∷ rs) i = grind (arith, nat_tests, ends_low n p e k rs i, ends_low n p e (k + 1) rs (omega arith))
 
 -- a number that none had is given at most once
 ends_high : (n : ℕ) (p : Task → Bool) (e : TaskEnd) (k : ℕ) (l : List (Listed Task)) → has_number n l ≡ 0 → has_number n (end_each p e k l) ≤ 1

@@ -1,5 +1,5 @@
 -- A group gives its members in the order of their ends.
-use Rattle.history_law.proofs.Names.{◌≡◌, ℕ, ◌+◌, ◌≤◌, ◌<◌, Bool, true, false, cond, List, [], ◌∷◌, ◌++◌, Option, Some, None, ◌⊎◌, inl, inr, refl, sym, ◌∙◌, ap, subst, arith, ◌==◌, ◌&&◌, nat_lt, is_some, eqb-true, eq-eqb, cond_both, nat_tests, holds, TaskEnd, Failed, Listed, live_of, live_object, listed, change, change_all, issue, with_fields, gone, Task, Notes, TaskState, Scheduled, Running, Ended, end_of, with_state, with_notes, ended, end_each, new_task, is_member, Ending, insert, insert_ended, endings, in_no_group, freed, let_go, Terms, Op, Reply, State, opening, Move, starts_task, runs_task, ends_task, ends_waiting, withdraws, notes, leaves, frees_members, lets_members_go, apply, after_moves, moves_of, row, NodeEntry, IsNext, next, LegalFrom, Legal, after_from, after, Grows, Legal-front, Legal-rest, after-append, fst_true, snd_true, rest_keeps, after_grows, looks_for_any, is_given, number_at, EndedBefore, GivenInOrder, some_same}
+use Rattle.history_law.proofs.Names.{◌≡◌, ℕ, ◌+◌, ◌≤◌, ◌<◌, Bool, true, false, cond, List, [], ◌∷◌, ◌++◌, Option, Some, None, ◌⊎◌, inl, inr, refl, sym, ◌∙◌, ap, subst, arith, ◌==◌, ◌&&◌, nat_lt, is_some, eqb-true, cond_both, nat_tests, holds, TaskEnd, Failed, Listed, live_of, live_object, listed, change, change_all, issue, with_fields, gone, Task, Notes, TaskState, Scheduled, Running, Ended, end_of, with_state, with_notes, ended, end_each, new_task, is_member, Ending, insert, insert_ended, endings, in_no_group, freed, let_go, Terms, Op, Reply, State, opening, Move, starts_task, runs_task, ends_task, ends_waiting, withdraws, notes, leaves, frees_members, lets_members_go, apply, after_moves, moves_of, row, NodeEntry, IsNext, next, LegalFrom, Legal, after_from, after, Grows, Legal-front, Legal-rest, after-append, fst_true, snd_true, rest_keeps, after_grows, looks_for_any, is_given, number_at, EndedBefore, GivenInOrder, some_same, Answers}
 use Rattle.mtapi_values.specs.declared.handles.ObjectKind.TheVariants as kind
 use Rattle.history_law.specs.Order.{gives as gives_task, number_in}
 use Rattle.history_law.proofs.Moves.{once_from}
@@ -12,7 +12,6 @@ use Rattle.history_law.proofs.Ages.{dead_none, none_dead, live_listed}
 use Rattle.history_law.proofs.lists.AtHandles.{at_retired}
 use Rattle.history_law.proofs.Reuse.{Gone, stays_gone}
 use Rattle.history_law.proofs.Answered.{true_false, none_some, on_test}
-use Rattle.mtapi_machine.specs.Answers.{Answers}
 use Rattle.mtapi_machine.specs.Answers as is
 use Rattle.mtapi_machine.proofs.Answered.{answered}
 use Rattle.history_law.proofs.lists.Found.{at_head, at_here, at_past}
@@ -209,18 +208,12 @@ grows_number h n (r ∷ rs) (q ∷ qs) g i = by_handle q.handle g.0.handle (r.ha
     by_handle a s false t rest k = ap (λ (x : ℕ). cond (x == h) (number_in q.fields.state) (number_at qs h)) s ∙ ap (λ (b : Bool). cond b (number_in q.fields.state) (number_at qs h)) t ∙ rest k
 
 own_bit : (n : ℕ) (x : TaskState) → number_in x ≡ Some n → bit (is_number n x) ≡ 1
-own_bit n Scheduled i = absurd (cc)
-own_bit n (Running w k) i = absurd (cc)
-own_bit n (Ended z a) i = ap bit (eq-eqb a n (some_same i))
+own_bit n x e1 = grind (arith, nat_tests)
 
 number_counts : (l : List (Listed Task)) (h n : ℕ) → number_at l h ≡ Some n → 1 ≤ has_number n l
 unfolding number_at
 number_counts [] h n e = absurd (cc)
-number_counts (r ∷ rs) h n e = by_hand (r.handle == h) e (number_counts rs h n)
-  where
-    by_hand : (b : Bool) → cond b (number_in r.fields.state) (number_at rs h) ≡ Some n → (number_at rs h ≡ Some n → 1 ≤ has_number n rs) → 1 ≤ has_number n (r ∷ rs)
-    by_hand true i k = let z : bit (is_number n r.fields.state) ≡ 1 = own_bit n r.fields.state i in omega arith
-    by_hand false i k = let z : 1 ≤ has_number n rs = k i in omega arith
+number_counts (r ∷ rs) h n e = grind (arith, nat_tests, number_counts rs h n)
 
 -- two tasks of one number are one
 same_task : (l : List (Listed Task)) (a b n : ℕ) → has_number n l ≤ 1 → number_at l a ≡ Some n → number_at l b ≡ Some n → a ≡ b

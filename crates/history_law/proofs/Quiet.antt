@@ -1,5 +1,5 @@
 -- In a quiet history a task ends as the kind of an action of its job answers.
-use Rattle.history_law.proofs.Names.{◌≡◌, ℕ, Bool, true, false, cond, List, [], ◌∷◌, Option, Some, None, refl, sym, ◌∙◌, ap, subst, ◌==◌, ◌&&◌, not, nat_lt, int_eq, pointwise, eqb-true, Decides-int_eq, slice_eq-Decides, holds, in_mask, Kind, TaskEnd, Cancelled, is_pure, answer_of, Answered, IsAnswered, Listed, live_object, any_listed, issue, change, with_fields, gone, Action, with_enabled, has_enabled_job, is_eligible, Task, TaskState, Scheduled, Running, Ended, runner, runs_as, kind_number, is_unstarted, with_state, with_notes, ended, is_member, freed, let_go, Queue, is_shut_in, Op, Reply, Ok, Picked, Stop, Terms, State, opening, workers, is_stop, Move, Queues, stops, makes_action, enables, withdraws, starts_task, runs_task, ends_task, ends_waiting, notes, leaves, frees_members, lets_members_go, makes, alters, removes, apply, after_moves, Row, gives, row, is_ready, can_take, picks, task_end, NodeEntry, IsNext, IsHonest, row_of, next, LegalFrom, after_from, IsMade, MakesAction, WithdrawsAction, EndsTask, AltersObject, is_pick, ends_many, makes_kind, end_in, some_same, AllGives, moves_given, on_only, on_live, fst_true, snd_true, not_false, by_moves, is_quiet, AreQuiet, HasPure, task_at, IsPlain, QuietTasksEndPlainly, ℤ}
+use Rattle.history_law.proofs.Names.{nat_tests, arith, ◌≡◌, ℕ, Bool, true, false, cond, List, [], ◌∷◌, Option, Some, None, refl, sym, ◌∙◌, ap, subst, ◌==◌, ◌&&◌, not, nat_lt, int_eq, pointwise, eqb-true, Decides-int_eq, slice_eq-Decides, holds, in_mask, Kind, TaskEnd, Cancelled, is_pure, answer_of, Answered, IsAnswered, Listed, live_object, any_listed, issue, change, with_fields, gone, Action, with_enabled, has_enabled_job, is_eligible, Task, TaskState, Scheduled, Running, Ended, runner, runs_as, kind_number, is_unstarted, with_state, with_notes, ended, is_member, freed, let_go, Queue, is_shut_in, Op, Reply, Ok, Picked, Stop, Terms, State, opening, workers, is_stop, Move, Queues, stops, makes_action, enables, withdraws, starts_task, runs_task, ends_task, ends_waiting, notes, leaves, frees_members, lets_members_go, makes, alters, removes, apply, after_moves, Row, gives, row, is_ready, can_take, picks, task_end, NodeEntry, IsNext, IsHonest, row_of, next, LegalFrom, after_from, IsMade, MakesAction, WithdrawsAction, EndsTask, AltersObject, is_pick, ends_many, makes_kind, end_in, some_same, AllGives, moves_given, on_only, on_live, fst_true, snd_true, not_false, by_moves, is_quiet, AreQuiet, HasPure, task_at, IsPlain, QuietTasksEndPlainly, ℤ}
 use Rattle.mtapi_values.specs.declared.kinds.Kind.TheVariants as kind
 use Rattle.mtapi_machine.specs.declared.ops.Op.TheVariants as op
 use Rattle.history_law.proofs.Answered.{true_false, whether}
@@ -66,39 +66,25 @@ is_special (op.QueueCreate id job priority limit ordered retain) = true
 is_special _ = false
 
 made_pure : (a : Action) (o : Op) → is_quiet o ≡ true → MakesAction a o → is_pure a.kind ≡ true
-made_pure a (op.ActionCreate job kind cores) q b = ap (λ (x : Action). is_pure x.kind) b ∙ q
-made_pure a _ q b = absurd b
+made_pure a o e1 e2 = grind (arith, nat_tests)
 
 pub none_withdrawn : (h : ℕ) (f : Listed Action → Listed Action) (o : Op) → is_quiet o ≡ true → WithdrawsAction h f o → ⊥
-none_withdrawn h f (op.ActionDelete a) q b = true_false q refl
-none_withdrawn h f (op.ActionDisable a) q b = true_false q refl
-none_withdrawn h f _ q b = b
+none_withdrawn h f o e1 e2 = grind (arith, nat_tests)
 
 pick_special : (o : Op) → is_pick o ≡ true → is_special o ≡ true
-pick_special op.Pick e = refl
-pick_special _ e = true_false e refl
+pick_special o e1 = grind (arith, nat_tests)
 
 end_special : (h : ℕ) (o : Op) → is_quiet o ≡ true → EndsTask h o → is_special o ≡ true
-end_special h (op.TaskCancel t) q e = true_false q refl
-end_special h (op.Finish t done) q e = refl
-end_special h (op.WatchEnd t) q e = refl
-end_special h (op.TallyEnd t) q e = refl
-end_special h _ q e = absurd e
+end_special h o e1 e2 = grind (arith, nat_tests)
 
 many_special : (o : Op) → is_quiet o ≡ true → ends_many o ≡ true → is_special o ≡ true
-many_special op.Close q e = refl
-many_special (op.QueueDisable x) q e = true_false q refl
-many_special (op.QueueDelete x) q e = true_false q refl
-many_special _ q e = true_false e refl
+many_special o e1 e2 = grind (arith, nat_tests)
 
 queue_special : (o : Op) → makes_kind Queues o ≡ true → is_special o ≡ true
-queue_special (op.QueueCreate id job priority limit ordered retain) e = refl
-queue_special _ e = true_false e refl
+queue_special o e1 = grind (arith, nat_tests)
 
 queue_opened : (h : ℕ) (f : Queue → Queue) (o : Op) → is_quiet o ≡ true → AltersObject Queues h f o → (x : Queue) → (f x).enabled ≡ true
-queue_opened h f (op.QueueEnable q) c e x = ap (λ (g : Queue → Queue). (g x).enabled) e.1
-queue_opened h f (op.QueueDisable q) c e x = true_false c refl
-queue_opened h f _ c e x = absurd e
+queue_opened h f o e1 e2 x = grind (arith, nat_tests)
 
 calm_move : (o : Op) → is_quiet o ≡ true → is_special o ≡ false → (s : State) (m : Move) → IsMade s o m → IsCalm s → IsCalm (apply m s)
 calm_move o q n s (makes_action h a) e v =

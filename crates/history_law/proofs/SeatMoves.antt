@@ -1,10 +1,9 @@
 -- What the seat and the op of an entry had to know, for each move that they make. A law on what seats leave to one another is shown for each move once.
-use Rattle.history_law.proofs.Names.{◌≡◌, ℕ, ◌+◌, Bool, true, false, cond, List, [], ◌∷◌, Option, Some, None, ◌⊎◌, inl, inr, refl, ◌∙◌, ap, ◌==◌, ◌&&◌, not, is_none, length, ℤ, eqb-true, eq-eqb, Kind, MtapiStatus, Cancelled, Completed, Failed, is_other, is_pure, answer_of, number_end, Answered, IsAnswered, Reply, Op, live_object, any_listed, holds, Task, Notes, TallyNotes, TaskState, Scheduled, Running, Ended, scheduled, end_of, runner, runs_as, runs_on, kind_number, is_unstarted, is_unended, with_notes, with_waiter, asked_once, watch_end, looks_of, tally_args, cell_in, added, with_tally, tally_failed, tally_has, tally_read, tally_written, in_no_group, Mutex, Segment, cell_of, State, Move, Mutexes, Segments, phase_is, released, stops, makes_action, withdraws, starts_task, runs_task, ends_task, ends_waiting, notes, leaves, makes, alters, apply, after_moves, moves_of, is_ready, task_end, NodeEntry, IsNext, IsHonest, row_of, next, IsMade, AreMade, fst_true, snd_true, not_false, row_made, at-update, moves_phase, is_release, is_late_end, is_tally_end, cond_both, and-false, enables, frees_members, lets_members_go, removes}
+use Rattle.history_law.proofs.Names.{nat_tests, arith, ◌≡◌, ℕ, ◌+◌, Bool, true, false, cond, List, [], ◌∷◌, Option, Some, None, ◌⊎◌, inl, inr, refl, ◌∙◌, ap, ◌==◌, ◌&&◌, is_none, ℤ, eq-eqb, Kind, MtapiStatus, Completed, Failed, is_other, is_pure, answer_of, Answered, IsAnswered, Reply, Op, live_object, any_listed, holds, Task, Notes, TallyNotes, TaskState, scheduled, end_of, runner, runs_as, runs_on, kind_number, is_unstarted, is_unended, with_notes, with_waiter, asked_once, watch_end, tally_args, cell_in, added, with_tally, tally_failed, tally_has, tally_read, tally_written, in_no_group, Mutex, Segment, cell_of, State, Move, Mutexes, Segments, phase_is, released, stops, makes_action, withdraws, starts_task, runs_task, ends_task, ends_waiting, notes, leaves, makes, alters, apply, after_moves, moves_of, is_ready, task_end, NodeEntry, IsNext, IsHonest, row_of, next, IsMade, AreMade, fst_true, snd_true, not_false, row_made, at-update, moves_phase, is_release, is_late_end, is_tally_end, cond_both, enables, frees_members, lets_members_go, removes, Answers, gives_up_with}
 use Rattle.mtapi_values.specs.declared.kinds.Kind.TheVariants as kind
 use Rattle.mtapi_values.specs.declared.statuses.MtapiStatus.TheVariants as m
 use Rattle.mtapi_machine.specs.declared.ops.Op.TheVariants as op
 use Rattle.history_law.proofs.Answered.{first_false, true_false}
-use Rattle.mtapi_machine.specs.Answers.{Answers, gives_up_with}
 use Rattle.mtapi_machine.specs.Answers as is
 use Rattle.mtapi_machine.proofs.Answered.{answered}
 
@@ -88,9 +87,7 @@ unfolding is_ready
 ready_unstarted s t h = fst_true (is_unstarted t) _ h
 
 as_on : (w : ℕ) (k : Kind) (x : TaskState) → holds (λ r. (r.0 == w) && (kind_number r.1 == kind_number k)) (runner x) ≡ true → holds (λ r. r.0 == w) (runner x) ≡ true
-as_on w k Scheduled h = absurd (cc)
-as_on w k (Running v j) h = fst_true (v == w) _ h
-as_on w k (Ended e n) h = absurd (cc)
+as_on w k x e1 = grind (arith, nat_tests)
 
 -- Looking and cancelling
 
@@ -99,31 +96,15 @@ waits s who o h w t e n = (t, e, record { waiter = inl n; work = inr (record { l
 
 -- no action and no watch ends a task with TIMEOUT
 
-number_late : (o : Option _) → is_late_end (task_end (number_end o)) ≡ false
-number_late None = refl
-number_late (Some z) = refl
-
 answer_late : (k : Kind) (args : List _) → is_late_end (task_end (answer_of k args)) ≡ false
 unfolding answer_of
-answer_late kind.Add args = number_late _
-answer_late kind.Mul args = number_late _
-answer_late kind.Max [] = refl
-answer_late kind.Div (x ∷ y ∷ []) = number_late _
-answer_late kind.Gcd (x ∷ y ∷ []) = number_late _
-answer_late kind.Triangle (x ∷ []) = number_late _
-answer_late k args = refl
+answer_late k args = grind (arith, nat_tests)
 
 done_late : (f : Answered) → IsAnswered f → is_late_end (task_end f.end) ≡ false
 done_late f a = ap (λ e. is_late_end (task_end e)) a.answer ∙ answer_late f.kind f.args
 
 watch_late : (t : Task) → is_late_end (watch_end t) ≡ false
-watch_late t = by_tests (not (length t.args == 1)) (is_none (looks_of t.args)) t.notes.seen
-  where
-    by_tests : (a b c : Bool) → is_late_end (cond a (Failed m.ErrArgSize) (cond b (Failed m.ErrActionFailed) (cond c Cancelled (Completed t.args)))) ≡ false
-    by_tests true b c = refl
-    by_tests false true c = refl
-    by_tests false false true = refl
-    by_tests false false false = refl
+watch_late t = grind (arith, nat_tests)
 
 -- Watches and tallies
 
@@ -143,33 +124,21 @@ asked_tally o t = stays (cond_both t.notes.requested (record t.notes { seen = tr
 
 -- a task that runs with another kind is no tally
 another_kind : (who w : ℕ) (k : Kind) (t : Task) → (kind_number k == 10) ≡ false → runs_as who k t ≡ true → runs_as w kind.Tally t ≡ false
-another_kind who w k t n = by_state t.state
-  where
-    by_state : (x : TaskState) → holds (λ r. (r.0 == who) && (kind_number r.1 == kind_number k)) (runner x) ≡ true → holds (λ r. (r.0 == w) && (kind_number r.1 == 10)) (runner x) ≡ false
-    by_state Scheduled e = refl
-    by_state (Running v j) e =
-        let same : kind_number j ≡ kind_number k = eqb-true (kind_number j) (kind_number k) (snd_true (v == who) _ e) in
-        ap (λ (c : Bool). (v == w) && c) (ap (λ (i : ℕ). i == 10) same ∙ n) ∙ and-false (v == w)
-    by_state (Ended e n) i = refl
+another_kind who w k t e1 e2 = grind (arith, nat_tests)
 
 pure_number : (k : Kind) → is_pure k ≡ true → (kind_number k == 10) ≡ false
-pure_number kind.Watch e = absurd (cc)
-pure_number kind.Tally e = absurd (cc)
-pure_number k e = refl
+pure_number k e1 = grind (arith, nat_tests)
 
 -- what a tally does notes nothing else
 does : (who : ℕ) (f : TallyNotes → TallyNotes) (t : Task) → runs_on who t ≡ true → (is_late_end t.notes.tally.verdict ≡ false → is_late_end (f t.notes.tally).verdict ≡ false) → Noted who (with_tally f) t
 does who f t k v = record { waiter = inr refl; work = inl k; detached = refl; group = inl refl; verdict = v }
 
 status_late : (c : MtapiStatus) → gives_up_with c ≡ true → is_late_end (Failed c) ≡ false
-status_late m.ErrActionFailed e = refl
-status_late m.ErrArgSize e = refl
-status_late _ e = absurd (cc)
+status_late c e1 = grind (arith, nat_tests)
 
 -- how a tally ends that gives both back
 back_late : (b : Bool) (z : ℤ) → is_late_end (cond b (Failed m.ErrActionFailed) (Completed (z ∷ []))) ≡ false
-back_late true z = refl
-back_late false z = refl
+back_late b z = grind (arith, nat_tests)
 
 -- of these moves nothing is to be known
 abbrev is_free : Move → Bool

@@ -1,5 +1,4 @@
-use Rattle.std.proofs.Common.{subst}
-use Rattle.mtapi_machine.specs.Legal.{Legal}
+use Rattle.history_law.proofs.Names.{subst, Legal}
 use Rattle.history_law.proofs.Behind.{enter_behind, final_behind}
 use Rattle.history_law.proofs.law_behind.Goals as goal
 

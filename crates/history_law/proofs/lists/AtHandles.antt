@@ -4,10 +4,6 @@ use Rattle.history_law.proofs.lists.Found.{at_skip, at_here}
 use Rattle.history_law.proofs.lists.Handles.{OnceIn, head_apart}
 
 module _ {T : Type 0} where
-  pub head_alike : (h : ℕ) (r : Listed T) (k l : List (Listed T)) → live_object k h ≡ live_object l h → live_object (r ∷ k) h ≡ live_object (r ∷ l) h
-  unfolding live_of
-  head_alike h r k l e = grind arith
-
   pub at_change_other : (x h : ℕ) (f : Listed T → Listed T) (l : List (Listed T)) → ((r : Listed T) → (f r).handle ≡ r.handle) → (x == h) ≡ false → live_object (change x f l) h ≡ live_object l h
   unfolding change live_of
   at_change_other x h f [] k n = refl

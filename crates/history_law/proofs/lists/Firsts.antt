@@ -1,5 +1,5 @@
 -- What is known of the first live object that passes, and of two live ones where at most one passes.
-use Rattle.history_law.proofs.Names.{◌≡◌, ℕ, ◌+◌, ◌≤◌, Bool, true, false, cond, List, [], ◌∷◌, Some, refl, sym, ◌∙◌, ap, subst, arith, ◌==◌, ◌&&◌, is_some, eq-eqb, Listed, live_of, live_object, listed, count_listed, some_same}
+use Rattle.history_law.proofs.Names.{nat_tests, ◌≡◌, ℕ, ◌+◌, ◌≤◌, Bool, true, false, cond, List, [], ◌∷◌, Some, refl, sym, ◌∙◌, ap, subst, arith, ◌==◌, ◌&&◌, is_some, eq-eqb, Listed, live_of, live_object, listed, count_listed, some_same}
 use Rattle.handle_pool.specs.Issued.{first_handle}
 use Rattle.history_law.proofs.Answered.{true_false, whether, on_test}
 use Rattle.history_law.proofs.lists.Handles.{OnceIn, once_rest}
@@ -19,16 +19,7 @@ module _ {T : Type 0} where
   first_there : (p : T → Bool) (l : List (Listed T)) (h : ℕ) → first_handle p (live_of l) ≡ Some h → is_some (live_object l h) ≡ true
   unfolding live_of
   first_there p [] h f = absurd (cc)
-  first_there p (r ∷ rs) h f = on_test (λ b. first_handle p (cond b ((r.handle, r.fields) ∷ live_of rs) (live_of rs)) ≡ Some h → is_some (live_object (r ∷ rs) h) ≡ true) r.live
-      (λ a f. by_pass a (p r.fields) f (first_there p rs h))
-      (λ a f. ap is_some (at_dead r rs h a) ∙ (first_there p rs h) f) f
-    where
-      later : is_some (live_object rs h) ≡ true → is_some (live_object (r ∷ rs) h) ≡ true
-      later k = at_head r h (λ a b. ap is_some (at_here r rs h a b)) (λ c. ap is_some (at_past r rs h c) ∙ k)
-
-      by_pass : r.live ≡ true → (b : Bool) → cond b (Some r.handle) (first_handle p (live_of rs)) ≡ Some h → (first_handle p (live_of rs) ≡ Some h → is_some (live_object rs h) ≡ true) → is_some (live_object (r ∷ rs) h) ≡ true
-      by_pass a true f k = ap is_some (at_here r rs h a (eq-eqb r.handle h (some_same f)))
-      by_pass a false f k = later (k f)
+  first_there p (r ∷ rs) h f = grind (arith, nat_tests, first_there p rs h)
 
   -- the first live object that passes is the one of its handle
   pub first_at : (p : T → Bool) (l : List (Listed T)) (h : ℕ) (x : T) → OnceIn l → first_handle p (live_of l) ≡ Some h → live_object l h ≡ Some x → p x ≡ true

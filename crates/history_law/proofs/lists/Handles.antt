@@ -2,10 +2,6 @@
 use Rattle.history_law.proofs.Names.{◌≡◌, ℕ, ◌+◌, ◌≤◌, Bool, false, cond, List, [], ◌∷◌, refl, sym, ap, subst, arith, ◌==◌, eq-eqb, Listed, change, change_all, issue, listed, TaskEnd, Task, end_each, listed-issue, nat_tests}
 
 module _ {T : Type 0} where
-  head_listed : (j : ℕ) (q r : Listed T) (qs rs : List (Listed T)) → q.handle ≡ r.handle → listed j qs ≡ listed j rs → listed j (q ∷ qs) ≡ listed j (r ∷ rs)
-  unfolding listed
-  head_listed j q r qs rs e k = grind arith
-
   pub listed_change : (j h : ℕ) (f : Listed T → Listed T) (l : List (Listed T)) → ((r : Listed T) → (f r).handle ≡ r.handle) → listed j (change h f l) ≡ listed j l
   unfolding change listed
   listed_change j h f [] k = refl

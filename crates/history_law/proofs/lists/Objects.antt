@@ -1,9 +1,8 @@
 -- What an entry says of a new object, its record keeps.
-use Rattle.history_law.proofs.Names.{◌≡◌, ℕ, ◌≤◌, true, List, [], ◌∷◌, ◌++◌, refl, sym, ◌∙◌, subst, ObjectKind, Op, Handle, Listed, listed, issue, Action, new_action, Task, NewTask, new_task, Queue, State, FieldsOf, objects_of, Move, starts_task, is_fresh, apply, after_moves, new_queue, NodeEntry, IsNext, next, LegalFrom, after_from, IsMade, StartsTask, Legal-rest, after-append, along, issues, ◌+◌}
+use Rattle.history_law.proofs.Names.{◌≡◌, ℕ, ◌≤◌, true, List, [], ◌∷◌, ◌++◌, refl, sym, ◌∙◌, subst, ObjectKind, Op, Handle, Listed, listed, issue, Action, new_action, Task, NewTask, new_task, State, FieldsOf, objects_of, Move, starts_task, is_fresh, apply, after_moves, new_queue, NodeEntry, IsNext, next, LegalFrom, after_from, IsMade, StartsTask, Legal-rest, after-append, along, issues, ◌+◌, Answers}
 use Rattle.mtapi_values.specs.declared.handles.ObjectKind.TheVariants as kind
 use Rattle.mtapi_machine.specs.declared.ops.Op.TheVariants as op
 use Rattle.history_law.specs.Words.{makes as makes_kind}
-use Rattle.mtapi_machine.specs.Answers.{Answers}
 use Rattle.mtapi_machine.specs.Answers as is
 use Rattle.mtapi_machine.proofs.Answered.{answered}
 use Rattle.history_law.proofs.Ages.{SameFields, SameAction, SameTask, SameQueue, kind_move, listed_ages, Under, under_issue, under_none, under_ages, same_task}
@@ -69,9 +68,6 @@ pub made_as : (s : State) (e : NodeEntry) (h : ℕ) → IsNext s e → issues ki
 made_as s e h n i = issued_as kind.Action h s (λ o t. MadeAs o h t) (λ who o k a. make_by s who o h _ k (answered s who o (Handle h) a)) e n i
 
 -- Queues
-
-pub queue_then : (a : Queue) (x y : Queue) → SameQueue x y → SameQueue a x → SameQueue a y
-queue_then a x y s t = record { job = s.job ∙ t.job; priority = s.priority ∙ t.priority; ordered = s.ordered ∙ t.ordered }
 
 abbrev pub QueueAs : Op → ℕ → State → Type 0
 QueueAs (op.QueueCreate id job priority limit ordered retain) h t = HasObject kind.Queue h (SameQueue (new_queue id job priority limit ordered retain)) t

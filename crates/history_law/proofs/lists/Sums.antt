@@ -1,5 +1,5 @@
 -- Sums over listed tasks, and the records of handles, after a change of the list.
-use Rattle.history_law.proofs.Names.{◌≡◌, ℕ, ◌+◌, suc, zero, Bool, true, false, cond, List, [], ◌∷◌, Option, Some, None, refl, sym, ◌∙◌, ap, ◌==◌, ◌&&◌, is_some, ℤ, pos, ◌+ℤ◌, slice_index_or, replicate, option_map, eqb-true, eq-eqb, cond_both, +ℤ_comm, +ℤ_assoc, TaskEnd, Listed, live_of, live_object, listed, change, change_all, issue, update, with_fields, Task, Ended, with_state, ended, end_each, some_same, at-update, record_of, sum_of, fst_true, snd_true}
+use Rattle.history_law.proofs.Names.{nat_tests, arith, ◌≡◌, ℕ, ◌+◌, suc, zero, Bool, false, cond, List, [], ◌∷◌, Option, Some, None, refl, sym, ◌∙◌, ap, ◌==◌, ◌&&◌, is_some, ℤ, pos, ◌+ℤ◌, slice_index_or, replicate, option_map, eqb-true, eq-eqb, cond_both, +ℤ_comm, +ℤ_assoc, TaskEnd, Listed, live_of, live_object, listed, change, change_all, issue, update, with_fields, Task, Ended, with_state, end_each, some_same, at-update, record_of, sum_of, fst_true, snd_true}
 use Rattle.history_law.proofs.lists.Handles.{OnceIn, once_rest, listed_change, once_same, head_apart}
 use Rattle.history_law.proofs.lists.Every.{Every}
 use Rattle.history_law.proofs.lists.Found.{at_here, at_head, at_past}
@@ -32,15 +32,12 @@ sum_change f j g (r ∷ rs) k = cond_both (r.live && (r.handle == j)) (g r ∷ r
 pub sum_all : (f : Task → ℤ) (p : Task → Bool) (g : Listed Task → Listed Task) (l : List (Listed Task)) → ((r : Listed Task) → f (g r).fields ≡ f r.fields) → sum_of f (change_all p g l) ≡ sum_of f l
 unfolding change_all
 sum_all f p g [] k = refl
-sum_all f p g (r ∷ rs) k =
-    cond_both (r.live && p r.fields) (g r) r (λ q. f q.fields +ℤ sum_of f (change_all p g rs) ≡ f r.fields +ℤ sum_of f (change_all p g rs)) (λ c. ap (λ (z : ℤ). z +ℤ sum_of f (change_all p g rs)) (k r)) (λ c. refl)
-    ∙ ap (λ (z : ℤ). f r.fields +ℤ z) (sum_all f p g rs k)
+sum_all f p g (r ∷ rs) k = grind (arith, nat_tests, sum_all f p g rs k)
 
 pub sum_ends : (f : Task → ℤ) (p : Task → Bool) (e : TaskEnd) (n : ℕ) (l : List (Listed Task)) → ((t : Task) (k : ℕ) → f (with_state (Ended e k) t) ≡ f t) → sum_of f (end_each p e n l) ≡ sum_of f l
 unfolding end_each
 sum_ends f p e n [] k = refl
-sum_ends f p e n (r ∷ rs) k = cond_both (r.live && p r.fields) (ended e n r ∷ end_each p e (n + 1) rs) (r ∷ end_each p e n rs) (λ m. sum_of f m ≡ f r.fields +ℤ sum_of f rs)
-    (λ c. ap (λ (z : ℤ). z +ℤ sum_of f (end_each p e (n + 1) rs)) (k r.fields n) ∙ ap (λ (z : ℤ). f r.fields +ℤ z) (sum_ends f p e (n + 1) rs k)) (λ c. ap (λ (z : ℤ). f r.fields +ℤ z) (sum_ends f p e n rs k))
+sum_ends f p e n (r ∷ rs) k = grind (arith, nat_tests, sum_ends f p e (n + 1) rs k, sum_ends f p e n rs k)
 
 pub sum_none : (f : Task → ℤ) (l : List (Listed Task)) → Every (λ t. f t ≡ pos 0) l → sum_of f l ≡ pos 0
 sum_none f [] a = refl
@@ -96,12 +93,10 @@ module _ {T : Type 0} where
       (λ c. ap (λ (z : ℕ). option_map V (cond (z == h) (Some (f r).fields) (record_of rs h))) (k r) ∙ by_head (r.handle == h)) (λ c. by_hand (r.handle == h) (record_view V j h f rs k v))
     where
       by_hand : (b : Bool) → option_map V (record_of (change j f rs) h) ≡ option_map V (record_of rs h) → option_map V (cond b (Some r.fields) (record_of (change j f rs) h)) ≡ option_map V (cond b (Some r.fields) (record_of rs h))
-      by_hand true e = refl
-      by_hand false e = e
+      by_hand b e1 = grind (arith, nat_tests)
 
       by_head : (b : Bool) → option_map V (cond b (Some (f r).fields) (record_of rs h)) ≡ option_map V (cond b (Some r.fields) (record_of rs h))
-      by_head true = ap Some (v r)
-      by_head false = refl
+      by_head b = grind (arith, nat_tests)
 
 -- Cells
 

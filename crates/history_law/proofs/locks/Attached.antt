@@ -1,5 +1,5 @@
 -- What an entry does to the segment of one handle, and what that leaves of the seats that are attached.
-use Rattle.history_law.proofs.Names.{◌≡◌, ℕ, zero, suc, ◌<◌, Bool, true, false, cond, List, [], ◌∷◌, Option, Some, None, ◌⊎◌, inl, inr, refl, sym, ◌∙◌, ap, subst, arith, ◌==◌, not, nat_lt, is_some, ℤ, slice_set, eqb-true, eq-eqb, marked, any_mark, Op, Reply, Listed, live_object, listed, change, issue, with_fields, gone, Adds, tally_args, Segment, new_segment, with_attached, with_cell, State, workers, Move, Segments, makes, alters, removes, apply, after_moves, after_row, row, takes_both, locks, IsMade, AltersObject, RemovesObject, makes_kind, AllGives, moves_given, on_live, on_only, at-update, IsAttached, cond_both, lt-ltb, length}
+use Rattle.history_law.proofs.Names.{nat_tests, ◌≡◌, ℕ, zero, suc, ◌<◌, Bool, true, false, cond, List, [], ◌∷◌, Option, Some, None, ◌⊎◌, inl, inr, refl, sym, ◌∙◌, ap, subst, arith, ◌==◌, not, nat_lt, is_some, ℤ, slice_set, eqb-true, eq-eqb, marked, any_mark, Op, Reply, Listed, live_object, listed, change, issue, with_fields, gone, Adds, tally_args, Segment, new_segment, with_attached, with_cell, State, workers, Move, Segments, makes, alters, removes, apply, after_moves, after_row, row, takes_both, locks, IsMade, AltersObject, RemovesObject, makes_kind, AllGives, moves_given, on_live, on_only, at-update, IsAttached, cond_both, lt-ltb, length}
 use Rattle.mtapi_values.specs.declared.handles.ObjectKind.TheVariants as kind
 use Rattle.mtapi_machine.specs.declared.ops.Op.TheVariants as op
 use Rattle.mtapi_machine.proofs.Moves.{by_moves as made_moves}
@@ -97,23 +97,15 @@ changes_segments _ = false
 
 no_make : (o : Op) → changes_segments o ≡ false → makes_kind Segments o ≡ true → ⊥
 unfolding changes_segments
-no_make (op.ShmemCreate id cells) n w = true_false refl n
-no_make _ n w = true_false w refl
+no_make o e1 e2 = grind (arith, nat_tests)
 
 no_alter : (o : Op) (j : ℕ) (f : Segment → Segment) → changes_segments o ≡ false → AltersObject Segments j f o → ⊥
 unfolding changes_segments
-no_alter (op.ShmemAttach x) j f n w = true_false refl n
-no_alter (op.ShmemDetach x) j f n w = true_false refl n
-no_alter (op.ShmemWrite x cell value) j f n w = true_false refl n
-no_alter (op.TallyLock t) j f n w = true_false refl n
-no_alter (op.TallyWrite t value) j f n w = true_false refl n
-no_alter (op.TallyEnd t) j f n w = true_false refl n
-no_alter _ j f n w = absurd w
+no_alter o j f e1 e2 = grind (arith, nat_tests)
 
 no_remove : (o : Op) (j : ℕ) → changes_segments o ≡ false → RemovesObject Segments j o → ⊥
 unfolding changes_segments
-no_remove (op.ShmemDelete x) j n w = true_false refl n
-no_remove _ j n w = absurd w
+no_remove o j e1 e2 = grind (arith, nat_tests)
 
 same_move : (l : List (Listed Segment)) (o : Op) → changes_segments o ≡ false → (t : State) (x : Move) → IsMade t o x → t.segments ≡ l → (apply x t).segments ≡ l
 same_move l o n t (makes Segments j x) e v = absurd (no_make o n e.by)

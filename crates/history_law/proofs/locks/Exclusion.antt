@@ -95,14 +95,12 @@ left top who x n =
     record { fit = tt; all = λ m. omega arith; each = λ m w. let y : slice_index x.holdings w ≡ 0 = total_none x.holdings w z in omega arith }
 
 in_bounds : (top : ℕ) (o : Option Sem) → FitIn (sem_lock top) o → count_in (sem_lock top) tt o ≤ top
-in_bounds top None f = omega arith
-in_bounds top (Some x) f = f.most
+in_bounds top o e1 = grind (arith, nat_tests)
 
 -- The ops on semaphores
 
 one_mode : (b c : Bool) → ((b && true) && c) ≡ (b && c)
-one_mode true c = refl
-one_mode false c = refl
+one_mode b c = grind (arith, nat_tests)
 
 sem_step : (top h : ℕ) (s : State) (who : ℕ) (o : Op) (r : Reply) → Allows (row s who o r) r → who < 25 → OnceIn s.sems → 1 ≤ listed h s.sems → FitIn (sem_lock top) (live_object s.sems h)
     → LockStep (sem_lock top) who (live_object s.sems h) (live_object (after_row s (row s who o r)).sems h) (λ m. looks_at_sem h o && says_ok r) (λ m. unlocks_sem h o && says_ok r)

@@ -1,5 +1,5 @@
 -- At most one seat holds a mutex.
-use Rattle.history_law.proofs.Names.{◌≡◌, ℕ, ◌+◌, ◌<◌, ◌≤◌, Bool, true, false, cond, List, [], ◌∷◌, ◌++◌, Option, Some, None, ◌⊎◌, inl, inr, refl, sym, ◌∙◌, ap, subst, arith, ◌==◌, ◌&&◌, not, nat_lt, is_some, length, ℤ, TaskHandle, MtapiStatus, Terms, Op, Reply, Listed, live_of, live_object, count_listed, change, with_fields, eqb-true, nat_tests, holds, Task, TaskState, Scheduled, Running, Ended, runner, is_unstarted, Adds, tally_args, runs_on, runs_as, with_notes, with_tally, tally_failed, tally_has, ended, Mutex, locked_by, with_attached, State, opening, workers, Move, Mutexes, Segments, alters, notes, after_moves, Allows, moves_of, after_row, row, takes_both, locks, NodeEntry, IsNext, next, LegalFrom, Legal, after_from, after, Legal-front, Legal-rest, after-append, after-one, AllGives, given, moves_given, on_live, not_false, at-update, some_same, some_entry, entries_that, by_seat, gets_mutex, gives_mutex, says_end, is_tally_end, ends_tally, HasMutex, tally_got, HoldsByLooks, HoldsByTally, HoldsMutex, MutexesKeepTo, mutex_in, and-false}
+use Rattle.history_law.proofs.Names.{◌≡◌, ℕ, ◌+◌, ◌<◌, ◌≤◌, Bool, true, false, cond, List, [], ◌∷◌, ◌++◌, Option, Some, None, ◌⊎◌, inl, inr, refl, sym, ◌∙◌, ap, subst, arith, ◌==◌, ◌&&◌, not, nat_lt, is_some, length, ℤ, TaskHandle, MtapiStatus, Terms, Op, Reply, Listed, live_of, live_object, count_listed, change, with_fields, eqb-true, nat_tests, Task, is_unstarted, Adds, tally_args, runs_on, runs_as, with_notes, with_tally, tally_failed, tally_has, ended, Mutex, locked_by, with_attached, State, opening, workers, Move, Mutexes, Segments, alters, notes, after_moves, Allows, moves_of, after_row, row, takes_both, locks, NodeEntry, IsNext, next, LegalFrom, Legal, after_from, after, Legal-front, Legal-rest, after-append, after-one, AllGives, given, moves_given, on_live, not_false, at-update, some_same, some_entry, entries_that, by_seat, gets_mutex, gives_mutex, says_end, is_tally_end, ends_tally, HasMutex, tally_got, HoldsByLooks, HoldsByTally, HoldsMutex, MutexesKeepTo, mutex_in, and-false}
 use Rattle.mtapi_values.specs.declared.kinds.Kind.TheVariants as kinds
 use Rattle.mtapi_values.specs.declared.handles.ObjectKind.TheVariants as kind
 use Rattle.mtapi_values.specs.declared.statuses.MtapiStatus.TheVariants as m
@@ -66,12 +66,7 @@ end_count s who t r one i a =
         omega arith
 
 pub one_runner : (v w : ℕ) (t : Task) → runs_on v t ≡ true → runs_on w t ≡ true → v ≡ w
-one_runner v w t = by_state t.state
-  where
-    by_state : (x : TaskState) → holds (λ r. r.0 == v) (runner x) ≡ true → holds (λ r. r.0 == w) (runner x) ≡ true → v ≡ w
-    by_state Scheduled a b = true_false a refl
-    by_state (Running u k) a b = sym (eqb-true u v a) ∙ eqb-true u w b
-    by_state (Ended e k) a b = true_false a refl
+one_runner v w t e1 e2 = grind (arith, nat_tests)
 
 pub less_of : (w n : ℕ) → nat_lt w n ≡ true → w < n
 less_of w n e = grind (arith, nat_tests)
@@ -305,9 +300,7 @@ holder terms h w L l (inl k) = by_looks terms h w L l k
 holder terms h w L l (inr k) = by_tally terms h w L l k
 
 one_owner : (s : State) (h v w : ℕ) → OwnedBy s h v → OwnedBy s h w → v ≡ w
-one_owner s h v w a b =
-    let same : a.0 ≡ b.0 = some_same (sym a.1 ∙ b.1) in
-    some_same (sym a.2 ∙ (ap (λ (x : Mutex). x.owner) same ∙ b.2))
+one_owner s h v w e1 e2 = grind (arith, nat_tests)
 
 pub mutexes_keep_to : (terms : Terms) (es : List NodeEntry) → Legal terms es → MutexesKeepTo terms es
 mutexes_keep_to terms es legal L R h cut =

@@ -1,5 +1,5 @@
 -- Locks that seats get and give back: what each entry does to one, and so every list of entries. A kind of lock says what is counted of it.
-use Rattle.history_law.proofs.Names.{◌≡◌, ℕ, ◌+◌, ◌<◌, ◌≤◌, Bool, true, false, List, [], ◌∷◌, ◌++◌, Option, Some, None, refl, sym, ◌∙◌, ap, subst, arith, zero, suc, ◌==◌, ◌&&◌, eqb-true, false_from_ne_true, MrapiStatus, Listed, live_object, listed, issue, change, with_fields, gone, Reply, Ok, Handle, Pending, Mrapi, Terms, State, FieldsOf, objects_of, opening, seats, Move, Sort, Fields, all_of, is_fresh, makes, alters, removes, after_moves, Row, Allows, after_row, handle_of, Keyed, mrapi, mrapi_open, mrapi_unless, creates_keyed, alters_one, looks_one, deletes, NodeEntry, IsNext, next, LegalFrom, Legal, after_from, after, Legal-front, Legal-rest, at-update, entries_that, some_entry, is_handle, issues, says_ok, by_seat, limit_of, MadeWith, ObjectKind, Op, row, fst_true, along, sort_at}
+use Rattle.history_law.proofs.Names.{nat_tests, ◌≡◌, ℕ, ◌+◌, ◌<◌, ◌≤◌, Bool, true, false, List, [], ◌∷◌, ◌++◌, Option, Some, None, refl, sym, ◌∙◌, ap, subst, arith, zero, suc, ◌==◌, ◌&&◌, eqb-true, MrapiStatus, Listed, live_object, listed, issue, change, with_fields, gone, Reply, Ok, Handle, Pending, Mrapi, Terms, State, FieldsOf, objects_of, opening, seats, Move, Sort, Fields, all_of, is_fresh, makes, alters, removes, after_moves, Row, Allows, after_row, handle_of, Keyed, mrapi, mrapi_open, mrapi_unless, creates_keyed, alters_one, looks_one, deletes, NodeEntry, IsNext, next, LegalFrom, Legal, after_from, after, Legal-front, Legal-rest, at-update, entries_that, some_entry, is_handle, issues, says_ok, by_seat, limit_of, MadeWith, ObjectKind, Op, row, fst_true, along, sort_at}
 use Rattle.mtapi_values.specs.declared.statuses.MrapiStatus.TheVariants as c
 use Rattle.history_law.specs.Words.{makes as makes_object}
 use Rattle.history_law.proofs.Accepted.{stands_after}
@@ -8,7 +8,7 @@ use Rattle.history_law.proofs.lists.Counts.{one_if, counts_along, counts_behind,
 use Rattle.history_law.proofs.lists.Handles.{OnceIn, some_issued}
 use Rattle.history_law.proofs.Reuse.{terms_next, unlisted_if, Listed1, listed_move, listed_new, none_times, fresh_unlisted, issues_fresh, issued_as, ListsIssued, none_listed}
 use Rattle.history_law.proofs.RowReplies.{said, Unmet, says_only, says_unless, says_look, says_alter, says_delete}
-use Rattle.history_law.proofs.Answered.{none_some, whether, on_test}
+use Rattle.history_law.proofs.Answered.{whether, on_test}
 use Rattle.history_law.proofs.OnceIssued.{once_move, once_next, listed_next}
 
 -- what always holds of a lock, how often it is held in a mode, and how often by one seat
@@ -48,12 +48,10 @@ module _ {M T : Type 0} (K : Lock M T) where
   step_same who o p e f = subst (λ (q : Option T). LockStep who o q (λ m. false) (λ m. false)) (sym e) (record { fit = f; all = λ m. refl; each = λ m w. refl })
 
 off : (b c : Bool) → c ≡ false → false ≡ (b && c)
-off true c e = sym e
-off false c e = refl
+off b c e1 = grind (arith, nat_tests)
 
 never_so : (b c : Bool) → ((b && false) && c) ≡ false
-never_so true c = refl
-never_so false c = refl
+never_so b c = grind (arith, nat_tests)
 
 -- There are at most 25 seats
 
@@ -170,26 +168,15 @@ create_lists k key s who h causes x r n a =
 -- No look gets a lock that isn't there, and nothing gives it back
 
 module _ (k : Sort) (s : State) (who h : ℕ) (invalid : says_ok (all_of k).invalid ≡ false) (none : live_object ((all_of k).list s) h ≡ None) where
-  apart : (j : ℕ) (v : Fields k) → live_object ((all_of k).list s) j ≡ Some v → (j == h) ≡ false
-  apart j v e = false_from_ne_true (j == h) (λ i. none_some (sym none ∙ (ap (live_object ((all_of k).list s)) (sym (eqb-true j h i)) ∙ e)))
-
-  abbrev Missed : ℕ → Reply → List Move → Type 0
-  Missed j r ms = ((j == h) && says_ok r) ≡ false
-
   pub look_misses : (j : ℕ) (last : Bool) (causes : Fields k → List (Bool × MrapiStatus)) (busy : Fields k → Bool) (f : Fields k → Fields k) (r : Reply) → Allows (mrapi s who (looks_one k s j last causes busy (λ v. Ok) f)) r → ((j == h) && says_ok r) ≡ false
-  look_misses j last causes busy f r a =
-      said (Missed j) (mrapi s who (looks_one k s j last causes busy (λ v. Ok) f)) r
-      (says_look (Missed j) (λ z. sym (off (j == h) _ refl)) k s who j last causes busy (λ v. Ok) f (sym (off (j == h) _ invalid)) (sym (off (j == h) _ refl)) (λ v b e u n. ap (λ (c : Bool). c && true) (apart j v e))) a
+  look_misses j last causes busy f r e1 = grind (arith, nat_tests)
 
   pub unlock_misses : (j : ℕ) (causes : Fields k → List (Bool × MrapiStatus)) (f : Fields k → Fields k) (r : Reply) → Allows (mrapi s who (alters_one k s j causes (λ v. Ok) f)) r → ((j == h) && says_ok r) ≡ false
-  unlock_misses j causes f r a =
-      said (Missed j) (mrapi s who (alters_one k s j causes (λ v. Ok) f)) r (says_alter (Missed j) (λ z. sym (off (j == h) _ refl)) k s who j causes (λ v. Ok) f (sym (off (j == h) _ invalid)) (λ v b e u. ap (λ (c : Bool). c && true) (apart j v e))) a
+  unlock_misses j causes f r e1 = grind (arith, nat_tests)
 
 -- in a mode it is missed too
 pub missed_in : (a b c : Bool) → (a && c) ≡ false → ((a && b) && c) ≡ false
-missed_in true true c e = e
-missed_in true false c e = refl
-missed_in false b c e = refl
+missed_in a b c e1 = grind (arith, nat_tests)
 
 -- Along the entries
 

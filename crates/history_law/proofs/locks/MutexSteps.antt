@@ -7,7 +7,7 @@ use Rattle.mtapi_machine.specs.declared.replies.Reply.TheVariants as reply
 use Rattle.history_law.proofs.Reuse.{fresh_unlisted}
 use Rattle.history_law.proofs.lists.Handles.{OnceIn}
 use Rattle.history_law.proofs.lists.Every.{every_at}
-use Rattle.history_law.proofs.Answered.{true_false, first_false, second_false, gives_cond, Quiet, whether, on_test}
+use Rattle.history_law.proofs.Answered.{true_false, gives_cond, Quiet, whether, on_test}
 use Rattle.history_law.proofs.lists.AtHandles.{at_change_other, at_issue_other, at_issue_here, at_unlisted, at_retired}
 use Rattle.history_law.proofs.RowReplies.{said, says_look, says_alter}
 use Rattle.history_law.proofs.Unmoved.{list_stays}
@@ -65,14 +65,10 @@ module _ (n who j : ℕ) (s : State) where
   locks_step t args (Some x) l = takes_step t x.cell _ _ l
 
 off : (b : Bool) (c : Bool) → c ≡ false → false ≡ (b && c)
-off true c i = sym i
-off false c i = refl
+off b c e1 = grind (arith, nat_tests)
 
 deep : (key depth : ℕ) → ((key == 0) || nat_lt depth key) ≡ false → 1 ≤ depth
-deep key depth e =
-    let a : (key == 0) ≡ false = first_false (key == 0) (nat_lt depth key) e in
-    let b : nat_lt depth key ≡ false = second_false (key == 0) (nat_lt depth key) e in
-    grind (arith, nat_tests)
+deep key depth e1 = grind (arith, nat_tests)
 
 pub end_quiet : (s : State) (who : ℕ) (t : TaskHandle) (r : Reply) → AllGives (Quiet says_end) (row s who (op.TallyEnd t) r)
 end_quiet s who t r =
@@ -81,10 +77,7 @@ end_quiet s who t r =
 
 -- at an end a tally that hasn't failed has both
 ending_has : (k : ℕ) (b : Bool) → (nat_lt k 2 || b) ≡ false → (k == 4) ≡ false → (not (k == 0) && not (k == 4)) ≡ true
-ending_has k b e d =
-    let a : nat_lt k 2 ≡ false = first_false (nat_lt k 2) b e in
-    let z : (k == 0) ≡ false = grind (arith, nat_tests) in
-    (λ i. not (z i) && not (d i))
+ending_has k b e1 e2 = grind (arith, nat_tests)
 
 pub mutex_step : (n : ℕ) (s : State) (who : ℕ) (o : Op) (r : Reply) (j : ℕ) → workers s ≡ n → OnceIn s.mutexes → Ties n s.mutexes s → Allows (row s who o r) r
     → Step who n (is_ending o) (live_object s.mutexes j) (live_object (after_row s (row s who o r)).mutexes j) (looks_at_mutex j o && says_number r) (unlocks_mutex j o && says_ok r)

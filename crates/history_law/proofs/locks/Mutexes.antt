@@ -1,5 +1,5 @@
 -- What an entry does to the mutex of one handle, and what that leaves of its owner.
-use Rattle.history_law.proofs.Names.{◌≡◌, ℕ, ◌+◌, ◌<◌, ◌≤◌, Bool, true, false, cond, Option, Some, None, ◌⊎◌, inl, inr, refl, sym, ◌∙◌, ap, subst, arith, ◌==◌, ◌&&◌, ◌-◌, not, nat_lt, is_some, eqb-true, eq-eqb, nat_tests, is_seat, is_other, Mutex, new_mutex, locked_by, unlocked, some_same, cond_both, lt-ltb}
+use Rattle.history_law.proofs.Names.{◌≡◌, ℕ, ◌+◌, ◌<◌, ◌≤◌, Bool, true, false, cond, Option, Some, None, ◌⊎◌, inl, inr, refl, sym, ◌∙◌, ap, subst, arith, ◌==◌, ◌&&◌, not, nat_lt, is_some, eqb-true, eq-eqb, nat_tests, is_seat, is_other, Mutex, new_mutex, locked_by, unlocked, some_same, lt-ltb}
 use Rattle.history_law.proofs.Answered.{true_false, on_test}
 use Rattle.history_law.proofs.lists.Counts.{one_if}
 use Rattle.history_law.proofs.tallies.Ties.{Owns}
@@ -20,15 +20,8 @@ abbrev pub Free : Option Mutex → Type 0
 Free None = Unit {0}
 Free (Some m) = is_some m.owner ≡ false → m.depth ≡ 0
 
-some_none : {A : Type 0} {x : A} → Some x ≡ None → ⊥
-some_none e = cc
-
 unlocked_free : (m : Mutex) → (is_some m.owner ≡ false → m.depth ≡ 0) → is_some (unlocked m).owner ≡ false → (unlocked m).depth ≡ 0
-unlocked_free m f = by_depth (m.depth == 1) refl
-  where
-    by_depth : (b : Bool) → (m.depth == 1) ≡ b → is_some (cond b None m.owner) ≡ false → m.depth - 1 ≡ 0
-    by_depth true e i = let k : m.depth ≡ 1 = eqb-true m.depth 1 e in omega arith
-    by_depth false e i = let k : m.depth ≡ 0 = f i in omega arith
+unlocked_free m e1 e2 = grind (arith, nat_tests)
 
 pub free_step : (who n : ℕ) (b : Bool) (o p : Option Mutex) (x y : Bool) → Step who n b o p x y → Free o → Free p
 free_step who n b o p _ _ (stays e) f = subst Free (sym e) f
@@ -74,83 +67,17 @@ abbrev pub share : ℕ → ℕ → Option Mutex → ℕ
 share n w None = 0
 share n w (Some m) = share_of n w m
 
-unowned_share : (n w : ℕ) (m : Mutex) → is_some m.owner ≡ false → share_of n w m ≡ 0
-unowned_share n w m e = by_owner m.owner e
-  where
-    by_owner : (q : Option ℕ) → is_some q ≡ false → cond (is_seat w q && not (nat_lt w n)) m.depth 0 ≡ 0
-    by_owner None i = refl
-    by_owner (Some v) i = true_false refl i
-
--- by a mutex that this seat owns
-owned_share : (n w v : ℕ) (m : Mutex) → m.owner ≡ Some v → share_of n w m ≡ cond ((v == w) && not (nat_lt w n)) m.depth 0
-owned_share n w v m e = ap (λ (q : Option ℕ). cond (is_seat w q && not (nat_lt w n)) m.depth 0) e
-
-worker_share : (n w v k : ℕ) → nat_lt v n ≡ true → cond ((v == w) && not (nat_lt w n)) k 0 ≡ 0
-worker_share n w v k l = on_test (λ b. cond (b && not (nat_lt w n)) k 0 ≡ 0) (v == w) (λ e. ap (λ (c : Bool). cond (not c) k 0) (subst (λ (z : ℕ). nat_lt z n ≡ true) (eqb-true v w e) l)) (λ e. refl)
-
-caller_share : (n w v k : ℕ) → nat_lt v n ≡ false → cond ((v == w) && not (nat_lt w n)) k 0 ≡ cond (v == w) k 0
-caller_share n w v k l = on_test (λ b. cond (b && not (nat_lt w n)) k 0 ≡ cond b k 0) (v == w) (λ e. ap (λ (c : Bool). cond (not c) k 0) (subst (λ (z : ℕ). nat_lt z n ≡ false) (eqb-true v w e) l)) (λ e. refl)
-
-zeros : (b : Bool) (k : ℕ) → k ≡ 0 → 0 ≡ cond b k 0
-zeros b k e = cond_both b k 0 (λ m. 0 ≡ m) (λ c. sym e) (λ c. refl)
-
--- what a caller sees before it gets the mutex
-taken_share : (who n w : ℕ) (m : Mutex) → (is_some m.owner ≡ false → m.depth ≡ 0) → is_other who m.owner ≡ false → nat_lt who n ≡ false → share_of n w m ≡ cond (who == w) m.depth 0
-taken_share who n w m f c l = by_owner m.owner refl
-  where
-    by_owner : (q : Option ℕ) → m.owner ≡ q → share_of n w m ≡ cond (who == w) m.depth 0
-    by_owner None e = unowned_share n w m (ap is_some e) ∙ zeros (who == w) m.depth (f (ap is_some e))
-    by_owner (Some v) e =
-        let other : not (v == who) ≡ false = sym (ap (is_other who) e) ∙ c in
-        let same : v ≡ who = grind (arith, nat_tests) in
-        owned_share n w v m e ∙ (ap (λ (z : ℕ). cond ((z == w) && not (nat_lt w n)) m.depth 0) same ∙ caller_share n w who m.depth l)
-
-given_share : (n w who : ℕ) (m : Mutex) → m.owner ≡ Some who → 1 ≤ m.depth → nat_lt who n ≡ false → share_of n w (unlocked m) ≡ cond (who == w) (m.depth - 1) 0
-given_share n w who m e k l = cond_both (m.depth == 1) None m.owner (λ q. cond (is_seat w q && not (nat_lt w n)) (m.depth - 1) 0 ≡ cond (who == w) (m.depth - 1) 0)
-    (λ d. zeros (who == w) (m.depth - 1) (let z : m.depth ≡ 1 = eqb-true m.depth 1 d in omega arith))
-    (λ d. ap (λ (q : Option ℕ). cond (is_seat w q && not (nat_lt w n)) (m.depth - 1) 0) e ∙ caller_share n w who (m.depth - 1) l)
-
-back_share : (n w : ℕ) (m : Mutex) → m.depth ≡ 1 → share_of n w (unlocked m) ≡ 0
-back_share n w m e = ap (λ (b : Bool). cond (is_seat w (cond b None m.owner) && not (nat_lt w n)) (m.depth - 1) 0) (eq-eqb m.depth 1 e)
-
 seat_owner : (who : ℕ) (q : Option ℕ) → is_seat who q ≡ true → q ≡ Some who
-seat_owner who None e = true_false e refl
-seat_owner who (Some v) e = ap Some (eqb-true v who e)
-
-more : (c : Bool) (d : ℕ) → cond c (d + 1) 0 + one_if (c && false) ≡ cond c d 0 + one_if (c && true)
-more true d = omega arith
-more false d = refl
-
-less : (c : Bool) (d : ℕ) → 1 ≤ d → cond c (d - 1) 0 + one_if (c && true) ≡ cond c d 0 + one_if (c && false)
-less true d k = omega arith
-less false d k = refl
+seat_owner who q e1 = grind (arith, nat_tests)
 
 pub share_step : (who n w : ℕ) (b : Bool) (o p : Option Mutex) (x y : Bool) → Free o → Step who n b o p x y → share n w p + one_if ((who == w) && y) ≡ share n w o + one_if ((who == w) && x)
 share_step who n w b o p _ _ f (stays e) = ap (λ (q : Option Mutex). share n w q + one_if ((who == w) && false)) e
 share_step who n w b o p _ _ f (made id r e d) = ap (λ (q : Option Mutex). share n w q + one_if ((who == w) && false)) d ∙ ap (λ (q : Option Mutex). share n w q + one_if ((who == w) && false)) (sym e)
-share_step who n w b o p _ _ f (taken m e c l d) =
-    let before : share n w o ≡ cond (who == w) m.depth 0 = ap (share n w) e ∙ taken_share who n w m (subst Free e f) c l in
-    let now : share n w p ≡ cond (who == w) (m.depth + 1) 0 = ap (share n w) d ∙ (owned_share n w who (locked_by who m) refl ∙ caller_share n w who (m.depth + 1) l) in
-    let k = more (who == w) m.depth in
-    omega arith
-share_step who n w b o p _ _ f (given m e c h l d) =
-    let owner : m.owner ≡ Some who = seat_owner who m.owner c in
-    let before : share n w o ≡ cond (who == w) m.depth 0 = ap (share n w) e ∙ (owned_share n w who m owner ∙ caller_share n w who m.depth l) in
-    let now : share n w p ≡ cond (who == w) (m.depth - 1) 0 = ap (share n w) d ∙ given_share n w who m owner h l in
-    let k = less (who == w) m.depth h in
-    omega arith
-share_step who n w b o p _ _ f (gone m e c d) =
-    let before : share n w o ≡ 0 = ap (share n w) e ∙ unowned_share n w m c in
-    let now : share n w p ≡ 0 = ap (share n w) d in
-    omega arith
-share_step who n w b o p _ _ f (got m e c l d) =
-    let before : share n w o ≡ 0 = ap (share n w) e ∙ unowned_share n w m c in
-    let now : share n w p ≡ 0 = ap (share n w) d ∙ (owned_share n w who (locked_by who m) refl ∙ worker_share n w who (m.depth + 1) l) in
-    omega arith
-share_step who n w b o p _ _ f (back m t e c k l d) =
-    let before : share n w o ≡ 0 = ap (share n w) e ∙ (owned_share n w who m c ∙ worker_share n w who m.depth l) in
-    let now : share n w p ≡ 0 = ap (share n w) d ∙ back_share n w m k in
-    omega arith
+share_step who n w b o p _ _ f (taken m e c l d) = grind (arith, nat_tests)
+share_step who n w b o p _ _ f (given m e c h l d) = grind (arith, nat_tests)
+share_step who n w b o p _ _ f (gone m e c d) = grind (arith, nat_tests)
+share_step who n w b o p _ _ f (got m e c l d) = grind (arith, nat_tests)
+share_step who n w b o p _ _ f (back m t e c k l d) = grind (arith, nat_tests)
 
 -- a seat with a share owns it
 pub share_owner : (n w : ℕ) (o : Option Mutex) → 1 ≤ share n w o → (m : Mutex) × (o ≡ Some m) × (m.owner ≡ Some w)

@@ -1,5 +1,5 @@
 -- What each entry does to a reader-writer lock, and so every list of entries.
-use Rattle.history_law.proofs.Names.{◌≡◌, ℕ, ◌+◌, ◌<◌, ◌≤◌, Bool, true, false, List, Option, Some, None, ◌⊎◌, inl, inr, refl, sym, ◌∙◌, ap, subst, arith, ◌&&◌, is_some, ◌==◌, is_seat, marked, Terms, Op, Reply, Handle, live_object, listed, Rwl, new_rwl, rwl_create_refusals, rwl_delete_refusals, rwl_look_refusals, rwl_unlock_refusals, rwl_busy, rwl_taken, rwl_given, State, Rwls, Allows, after_row, row, keyed_rwls, NodeEntry, Legal, not_false, some_same, entries_that, is_handle, says_ok, by_seat, looks_at_rwl, unlocks_rwl, gets_rwl, gives_rwl, OneWriter, ReadersAlone, RwlsKeepTo, limit_of, Legal-prefix}
+use Rattle.history_law.proofs.Names.{nat_tests, ◌≡◌, ℕ, ◌+◌, ◌<◌, ◌≤◌, Bool, true, false, List, Option, Some, None, ◌⊎◌, inl, inr, refl, sym, ◌∙◌, ap, subst, arith, ◌&&◌, is_some, ◌==◌, Terms, Op, Reply, Handle, live_object, listed, Rwl, new_rwl, rwl_create_refusals, rwl_delete_refusals, rwl_look_refusals, rwl_unlock_refusals, rwl_busy, rwl_taken, rwl_given, State, Rwls, Allows, after_row, row, keyed_rwls, NodeEntry, Legal, not_false, some_same, entries_that, is_handle, says_ok, by_seat, looks_at_rwl, unlocks_rwl, gets_rwl, gives_rwl, OneWriter, ReadersAlone, RwlsKeepTo, limit_of, Legal-prefix}
 use Rattle.mtapi_values.specs.declared.handles.ObjectKind.TheVariants as kind
 use Rattle.mtapi_machine.specs.declared.ops.Op.TheVariants as op
 use Rattle.history_law.specs.Words.{makes as makes_object}
@@ -55,14 +55,8 @@ rwl_kind h = record {
   limited = rwl_limited;
 }
 
-one_most : (b : Bool) → one_if b ≤ 1
-one_most true = omega arith
-one_most false = omega arith
-
 at_most_one : (top : ℕ) (m : Bool) (w : ℕ) (o : Option Rwl) → has_in (rwl_lock top) m w o ≤ 1
-at_most_one top m w None = omega arith
-at_most_one top true w (Some x) = one_most (is_seat w x.writer)
-at_most_one top false w (Some x) = one_most (marked w x.readers)
+at_most_one top m w o = grind (arith, nat_tests)
 
 -- one writer or readers alone, by what the lock has at the end
 by_lock : (top h : ℕ) (B : List NodeEntry) (o : Option Rwl) → FitIn (rwl_lock top) o → ((m : Bool) → entries_that (gives_rwl h m) B + count_in (rwl_lock top) m o ≡ entries_that (gets_rwl h m) B) → OneWriter B h ⊎ ReadersAlone B h top

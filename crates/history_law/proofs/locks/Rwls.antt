@@ -39,16 +39,13 @@ unmarked (false ∷ bs) zero e = refl
 unmarked (b ∷ bs) (suc w) e = unmarked bs w (omega arith)
 
 none_seat : (w : ℕ) (o : Option ℕ) → is_some o ≡ false → is_seat w o ≡ false
-none_seat w None e = refl
-none_seat w (Some x) e = true_false refl e
+none_seat w o e1 = grind (arith, nat_tests)
 
 seat_some : (w : ℕ) (o : Option ℕ) → is_seat w o ≡ true → is_some o ≡ true
-seat_some w None e = true_false e refl
-seat_some w (Some x) e = refl
+seat_some w o e1 = grind (arith, nat_tests)
 
 seat_is : (v w : ℕ) (o : Option ℕ) → is_seat v o ≡ true → is_seat w o ≡ (v == w)
-seat_is v w None e = true_false e refl
-seat_is v w (Some x) e = ap (λ (z : ℕ). z == w) (eqb-true x v e)
+seat_is v w o e1 = grind (arith, nat_tests)
 
 -- How many hold the lock in a mode, and whether a seat does
 
@@ -76,12 +73,10 @@ abbrev pub no_mode : Bool → Bool
 no_mode m = false
 
 none_here : (c : Bool) → one_if (c && false) ≡ 0
-none_here true = refl
-none_here false = refl
+none_here c = grind (arith, nat_tests)
 
 all_here : (c : Bool) → one_if (c && true) ≡ one_if c
-all_here true = refl
-all_here false = refl
+all_here c = grind (arith, nat_tests)
 
 one_apart : (b : Bool) → b ≡ false → one_if b ≡ 0
 one_apart b e = ap one_if e

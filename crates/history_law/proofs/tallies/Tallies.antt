@@ -1,5 +1,5 @@
 -- The sum that a cell holds after tallies.
-use Rattle.history_law.proofs.Names.{◌≡◌, ℕ, ◌+◌, ◌<◌, ◌≤◌, Bool, true, false, cond, List, [], ◌∷◌, Option, Some, None, refl, sym, ◌∙◌, ap, subst, arith, ◌==◌, ◌&&◌, not, nat_lt, is_some, is_none, length, ℤ, pos, slice_set, slice_index_or, replicate, option_map, eqb-true, eq-eqb, cond_both, false_from_ne_true, true_from_ne_false, holds, TaskHandle, MtapiStatus, Op, Reply, Listed, live_of, live_object, count_listed, listed, change, issue, update, with_fields, gone, Task, TaskState, Scheduled, Running, Ended, runner, end_of, scheduled, Adds, tally_args, runs_on, is_unstarted, is_unended, with_notes, with_tally, tally_failed, tally_has, Mutex, Segment, with_cell, State, Move, Mutexes, makes, alters, removes, notes, apply, after_moves, Allows, moves_of, row, takes_both, locks, IsMade, AllGives, given, on_live, fst_true, snd_true, at-update, some_same, record_of, adds_to, sum_of, length-set}
+use Rattle.history_law.proofs.Names.{nat_tests, ◌≡◌, ℕ, ◌+◌, ◌<◌, ◌≤◌, Bool, true, false, cond, List, [], ◌∷◌, Option, Some, None, refl, sym, ◌∙◌, ap, subst, arith, ◌==◌, ◌&&◌, not, nat_lt, is_some, is_none, length, ℤ, pos, slice_set, slice_index_or, replicate, option_map, eqb-true, eq-eqb, cond_both, false_from_ne_true, true_from_ne_false, holds, TaskHandle, MtapiStatus, Op, Reply, Listed, live_of, live_object, count_listed, listed, change, issue, update, with_fields, gone, Task, TaskState, Scheduled, Running, Ended, runner, end_of, scheduled, Adds, tally_args, runs_on, is_unstarted, is_unended, with_notes, with_tally, tally_failed, tally_has, Mutex, Segment, with_cell, State, Move, Mutexes, makes, alters, removes, notes, apply, after_moves, Allows, moves_of, row, takes_both, locks, IsMade, AllGives, given, on_live, fst_true, snd_true, at-update, some_same, record_of, adds_to, sum_of, length-set}
 use Rattle.mtapi_values.specs.declared.statuses.MtapiStatus.TheVariants as m
 use Rattle.mtapi_machine.specs.declared.ops.Op.TheVariants as op
 use Rattle.mtapi_machine.specs.declared.replies.Reply.TheVariants as reply
@@ -92,8 +92,7 @@ ids_move i who o s (removes Mutexes j) e k v =
 ids_move i who o s _ e k v = v
 
 pub asked_true : (r : Reply) → says_asked r ≡ true → r ≡ reply.Asked true
-asked_true (reply.Asked b) e = ap reply.Asked e
-asked_true _ e = true_false e refl
+asked_true r e1 = grind (arith, nat_tests)
 
 module _ (S C : ℕ) where
   -- What a `tally_lock` leaves of each task that adds to the cell

@@ -1,5 +1,5 @@
 -- What each entry leaves of the sum that a cell holds, and so every list of entries.
-use Rattle.history_law.proofs.Names.{◌≡◌, ℕ, ◌<◌, ◌≤◌, Bool, true, false, cond, List, [], ◌∷◌, ◌++◌, Option, Some, None, refl, sym, ◌∙◌, ap, subst, arith, ◌==◌, ◌&&◌, ◌||◌, not, nat_lt, is_some, length, ℤ, pos, ◌+ℤ◌, slice_set, slice_index_or, option_map, eqb-true, false_from_ne_true, nat_tests, Decides-int_eq, append_assoc, +ℤ_idl, TaskHandle, TaskEnd, Failed, Completed, entry, Terms, Op, Reply, Listed, live_object, count_listed, listed, change, update, with_fields, Task, tally_args, cell_in, number_in, added, runs_on, is_unended, with_notes, with_tally, tally_read, tally_written, ended, Segment, new_segment, cell_of, with_cell, State, opening, Move, notes, after_moves, handle_of, after_row, row, NodeEntry, IsNext, next, LegalFrom, Legal, after_from, after, after-one, AllGives, given, moves_given, on_live, on_only, not_false, fst_true, snd_true, some_same, some_entry, says_ok, tally_got, record_of, mutex_in, adds_to, completed_in, is_completed, number_added, sum_of, writes_to, NamesOneMutex, HoldsTheSum, length-set, get_or-set_same, cond_both}
+use Rattle.history_law.proofs.Names.{◌≡◌, ℕ, ◌<◌, ◌≤◌, Bool, true, false, cond, List, [], ◌∷◌, ◌++◌, Option, Some, None, refl, sym, ◌∙◌, ap, subst, arith, ◌==◌, ◌&&◌, ◌||◌, not, nat_lt, is_some, length, ℤ, pos, ◌+ℤ◌, slice_set, slice_index_or, option_map, eqb-true, false_from_ne_true, nat_tests, Decides-int_eq, append_assoc, +ℤ_idl, TaskHandle, TaskEnd, Failed, Completed, entry, Terms, Op, Reply, Listed, live_object, count_listed, listed, change, update, with_fields, Task, tally_args, cell_in, number_in, added, runs_on, is_unended, with_notes, with_tally, tally_read, tally_written, ended, Segment, new_segment, cell_of, with_cell, State, opening, Move, notes, after_moves, handle_of, after_row, row, NodeEntry, IsNext, next, LegalFrom, Legal, after_from, after, after-one, AllGives, given, moves_given, on_live, on_only, not_false, fst_true, snd_true, some_same, some_entry, says_ok, tally_got, record_of, mutex_in, adds_to, completed_in, number_added, sum_of, writes_to, NamesOneMutex, HoldsTheSum, length-set, get_or-set_same}
 use Rattle.mtapi_values.specs.declared.handles.ObjectKind.TheVariants as kind
 use Rattle.mtapi_values.specs.declared.statuses.MtapiStatus.TheVariants as m
 use Rattle.mtapi_machine.specs.declared.ops.Op.TheVariants as op
@@ -11,7 +11,7 @@ use Rattle.history_law.proofs.Held.{HasEnded, AllEnded}
 use Rattle.history_law.proofs.lists.Every.{Every, every_change, every_map, every_at, always}
 use Rattle.history_law.proofs.SeatMoves.{by_moves, by_made_moves}
 use Rattle.history_law.proofs.OnceIssued.{once_none, once_next, listed_next}
-use Rattle.history_law.proofs.Answered.{true_false, first_false, second_false, none_first, answered, no_live, gives_cond, Quiet, whether, on_test}
+use Rattle.history_law.proofs.Answered.{true_false, first_false, second_false, none_first, answered, no_live, gives_cond, Quiet, whether}
 use Rattle.history_law.proofs.tallies.Ties.{has_both, Owns, Tied, as_on}
 use Rattle.history_law.proofs.locks.Exclusive.{Good, good_next, good_opening}
 use Rattle.history_law.proofs.lists.Sums.{sum_more, sum_change, sum_same, record_at, record_updated}
@@ -62,20 +62,10 @@ module _ (S C id n : ℕ) where
         subst (λ (z : Task). past_read S C z.notes.tally ≡ completed_in e) same (k (subst (λ (z : Task). adds S C z.notes.tally z.args ≡ true) (sym same) b))) v.right
 
     failed_adds : (x : Task) → (x.notes.tally.stage == 4) ≡ true → adds S C x.notes.tally x.args ≡ true → ⊥
-    failed_adds x d a =
-        let none : has_both x.notes.tally ≡ false = ap (λ (k : ℕ). not (k == 0) && not (k == 4)) (eqb-true x.notes.tally.stage 4 d) in
-        true_false (both_of S C x.notes.tally x.args a) none
+    failed_adds x e1 e2 = grind (arith, nat_tests)
 
     back_right : (x : Task) (z : ℤ) (c : Bool) → (nat_lt x.notes.tally.stage 2 || c) ≡ false → past_read S C x.notes.tally ≡ completed_in (cond (x.notes.tally.stage == 2) (Failed m.ErrActionFailed) (Completed (z ∷ [])))
-    back_right x z c e = cond_both (x.notes.tally.stage == 2) (Failed m.ErrActionFailed) (Completed (z ∷ [])) (λ q. (not (x.notes.tally.stage == 1) && not (x.notes.tally.stage == 2)) ≡ completed_in q)
-        (λ d. (λ i. not (not_one i) && not (d i)))
-        (λ d. (λ i. not (not_one i) && not (d i)))
-      where
-        late : nat_lt x.notes.tally.stage 2 ≡ false
-        late = first_false (nat_lt x.notes.tally.stage 2) c e
-
-        not_one : (x.notes.tally.stage == 1) ≡ false
-        not_one = let l : nat_lt x.notes.tally.stage 2 ≡ false = late in grind (arith, nat_tests)
+    back_right x z c e1 = grind (arith, nat_tests)
 
     right_row : (o : Op) (r : Reply) → IsNext s (entry who o r) → Every (EndsRight S C) (after_row s (row s who o r)).tasks
     right_row (op.TallyEnd t) r i =
@@ -298,9 +288,7 @@ module _ (S C id n : ℕ) where
 
   -- after the end of a task, what it has written is what it adds where it has completed
   same_number : (t : Task) → HasEnded t → EndsRight S C t → weight S C t ≡ number_added S C t
-  same_number t e k = on_test (λ b. cond (b && past_read S C t.notes.tally) (number_in (tally_args t.args)) (pos 0) ≡ cond (b && is_completed t.state) (number_in (tally_args t.args)) (pos 0)) (adds S C t.notes.tally t.args)
-      (λ a. ap (λ (b : Bool). cond b (number_in (tally_args t.args)) (pos 0)) (k e a))
-      (λ a. refl)
+  same_number t e1 e2 = grind (arith, nat_tests)
 
 no_cells : (S C : ℕ) → cells_of S C [] ≡ None
 unfolding record_of

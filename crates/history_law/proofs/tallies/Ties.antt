@@ -1,5 +1,5 @@
 -- A running tally that has its mutex owns it, and at most one task runs on a worker.
-use Rattle.history_law.proofs.Names.{◌≡◌, ℕ, ◌+◌, ◌<◌, ◌≤◌, Bool, true, false, cond, List, [], ◌∷◌, Option, Some, None, inl, inr, refl, sym, ◌∙◌, ap, subst, arith, ◌==◌, ◌&&◌, not, ℤ, eqb-true, false_from_ne_true, Kind, TaskEnd, Failed, holds, Op, Listed, live_of, live_object, any_listed, any_live, count_listed, with_fields, gone, is_member, freed, let_go, Mutex, tally_args, Task, Notes, TallyNotes, TaskState, Scheduled, Running, Ended, scheduled, runner, runs_on, runs_as, kind_number, is_unstarted, is_unended, with_state, with_notes, ended, new_task, State, Move, starts_task, runs_task, ends_task, ends_waiting, withdraws, notes, leaves, frees_members, lets_members_go, apply, fst_true, snd_true, both_true, not_true, rest_keeps, is_tally_end, mutex_in, and-false}
+use Rattle.history_law.proofs.Names.{nat_tests, ◌≡◌, ℕ, ◌+◌, ◌<◌, ◌≤◌, Bool, true, false, cond, List, [], ◌∷◌, Option, Some, None, inl, inr, refl, sym, ◌∙◌, ap, subst, arith, ◌==◌, ◌&&◌, not, ℤ, eqb-true, false_from_ne_true, Kind, TaskEnd, Failed, holds, Op, Listed, live_of, live_object, any_listed, count_listed, with_fields, gone, is_member, freed, let_go, Mutex, tally_args, Task, Notes, TallyNotes, TaskState, Running, Ended, scheduled, runner, runs_on, runs_as, kind_number, is_unstarted, is_unended, with_state, with_notes, ended, new_task, State, Move, starts_task, runs_task, ends_task, ends_waiting, withdraws, notes, leaves, frees_members, lets_members_go, apply, fst_true, snd_true, both_true, not_true, rest_keeps, is_tally_end, mutex_in, and-false}
 use Rattle.mtapi_values.specs.declared.kinds.Kind.TheVariants as kind
 use Rattle.history_law.proofs.Answered.{true_false, whether}
 use Rattle.history_law.proofs.lists.Every.{Every, every_issue, every_change, every_all, every_ends}
@@ -110,19 +110,7 @@ module _ (n : ℕ) (ms : List (Listed Mutex)) where
 pub none_count : {T : Type 0} (p : T → Bool) (l : List (Listed T)) → any_listed p l ≡ false → count_listed p l ≡ 0
 unfolding live_of
 none_count p [] e = refl
-none_count p (r ∷ rs) e = by_live r.live (none_count p rs) e
-  where
-    by_test : (b : Bool) → (any_listed p rs ≡ false → count_listed p rs ≡ 0) → cond b true (any_listed p rs) ≡ false → cond {A = ℕ} b 1 0 + count_listed p rs ≡ 0
-    by_test true k i = true_false refl i
-    by_test false k i = let n : count_listed p rs ≡ 0 = k i in omega arith
-
-    by_live : (a : Bool) → (any_listed p rs ≡ false → count_listed p rs ≡ 0) → any_live p (cond a ((r.handle, r.fields) ∷ live_of rs) (live_of rs)) ≡ false → cond {A = ℕ} (a && p r.fields) 1 0 + count_listed p rs ≡ 0
-    by_live true k i = by_test (p r.fields) k i
-    by_live false k i = let n : count_listed p rs ≡ 0 = k i in omega arith
-
-one_bit : (b : Bool) → cond {A = ℕ} b 1 0 ≤ 1
-one_bit true = omega arith
-one_bit false = omega arith
+none_count p (r ∷ rs) e = grind (arith, nat_tests, none_count p rs)
 
 abbrev pub AtMostOne : ℕ → State → Type 0
 AtMostOne w s = count_listed (runs_on w) s.tasks ≤ 1
@@ -169,9 +157,7 @@ pub record On (w h : ℕ) (t : Task) : Type 0 where
   pub mutex : t.notes.tally.mutex ≡ h
 
 pub as_on : (w : ℕ) (x : TaskState) → holds (λ r. (r.0 == w) && (kind_number r.1 == 10)) (runner x) ≡ true → holds (λ r. r.0 == w) (runner x) ≡ true
-as_on w Scheduled h = true_false h refl
-as_on w (Running v j) h = fst_true (v == w) _ h
-as_on w (Ended e n) h = true_false h refl
+as_on w x e1 = grind (arith, nat_tests)
 
 pub on_runs : (w h : ℕ) (t : Task) → On w h t → runs_on w t ≡ true
 on_runs w h t i = as_on w t.state i.runs
