@@ -1,35 +1,176 @@
 -- What parse says, and lists of numbers as loops read them.
-use Rattle.std.proofs.Common.{◌≡◌, ℕ, ℤ, ◌+◌, ◌^◌, ◌<◌, ◌≤◌, List, [], ◌∷◌, ◌++◌, Bool, true, false, cond, length, get_or, drop, Option, Some, None, Result, Ok, Err, refl, sym, ap, ◌∙◌, arith, append_assoc, inl, inr, ltb, leb, pos, neg_ℤ, ◌-◌, nat_le, ◌*◌, ◌%◌, lit<, add-one}
+use Rattle.std.proofs.Common.{◌≡◌, ℕ, ℤ, ◌+◌, ◌^◌, ◌<◌, ◌≤◌, List, [], ◌∷◌, ◌++◌, Bool, true, false, cond, ◌&&◌, ◌||◌, not, ◌==◌, ◌⊎◌, length, get_or, drop, Option, Some, None, refl, sym, ap, ◌∙◌, arith, append_assoc, inl, inr, ltb, leb, pos, negsuc, neg_ℤ, ◌-ℤ◌, ◌-◌, nat_le, nat_lt, ◌*◌, ◌%◌, lit<, add-one, zero, suc, drop-cons}
 use Rattle.std.specs.List.{list_all}
-use Rattle.std.specs.Char.{is_ascii_digit}
-use Rattle.std.specs.Result.{OkIff, result_ok}
-use Rattle.std.specs.Str.{IsUtf8}
-use Rattle.std.specs.Str.Parse.{digits_value, ParsesUnsigned, ParsesSigned}
-use Rattle.std.proofs.lemmas.Str.Parse.{IsNumeralModel, numerals_by_value, parse_digits, parse_signed_digits, parse_signed_minus}
-use Rattle.std.proofs.lemmas.Str.{IsUtf8-from_ascii}
-use Rattle.std.specs.Prelude.{IsTrue}
+use Rattle.std.specs.Char.{is_ascii_digit, digit_value}
+use Rattle.std.specs.Str.Parse.{digits_value, digits_value_after}
+use Rattle.std.proofs.lemmas.Str.Parse.{IsNumeralModel, numerals_by_value}
+use Rattle.std.proofs.lemmas.Str.{digit_value_digit}
+use Rattle.std.specs.Prelude.{IsTrue, SomeIff, FitsSigned, slice_index}
 use Rattle.std.specs.Bool.{OnTrue}
-use Rattle.std.proofs.lemmas.List.{length_push, append-nil, length-drop, get_or-drop}
-use Rattle.std.proofs.lemmas.Bool.{ltb-true, lt-ltb, leb-true, le-leb, cases_eq}
+use Rattle.std.proofs.lemmas.List.{length_push, append-nil, drop_all}
+use Rattle.std.proofs.lemmas.Bool.{ltb-false, lt-ltb, le-ltb, leb-true, le-leb, lt-leb, and_parts, cases_Bool}
 use Rattle.std.specs.Int.{w64}
 use Rattle.std.proofs.lemmas.Nat.{one_shl}
 use Rattle.std.proofs.Math.Nat.{pow-le-pow_right}
-use Rattle.std.proofs.lemmas.Fmt.{IsAscii-from_digits}
 use Rattle.std.proofs.Common.{rules}
-use Rattle.number_text.specs.Numbers.{whole, number_within}
+use Rattle.number_text.specs.Numbers.{is_decimal, number, whole, number_within}
 use Rattle.number_text.specs.Lists.{◌>>=◌, between, list_of, wholes}
 use Rattle.number_text.specs.Cores.{bits_from}
+
+pub some_cond : {A : Type 0} (b : Bool) (x y : A) → cond b (Some x) None ≡ Some y → (b ≡ true) × (x ≡ y)
+some_cond true x y e = (refl, cc)
+some_cond false x y e = absurd cc
 
 pub own : IsNumeralModel (λ ds. list_all is_ascii_digit ds ≡ true) (digits_value 10)
 own = numerals_by_value _ (search rules)
 
-pub utf8_digits : (ds : List ℕ) → list_all is_ascii_digit ds ≡ true → IsUtf8 ds
-utf8_digits ds h = IsUtf8-from_ascii ds (IsAscii-from_digits ds (own.to ds h))
+-- ---- digits behind a number
 
-pub ok_iff_option : {T E : Type 0} (r : Result T E) (P : Type 0) (v : T) (b : Bool) → OkIff r P v → (b ≡ true → P) → (P → b ≡ true) → result_ok r ≡ cond b (Some v) None
-ok_iff_option (Ok x) P v b h to from = rw (from h.0, h.1) refl
-ok_iff_option (Err e) P v true h to from = absurd (h (to refl))
-ok_iff_option (Err e) P v false h to from = refl
+-- the number that digits write behind those of n, where it is below 2 ^ 64
+abbrev pub read_from : ℕ → List ℕ → Option ℕ
+read_from n ds = cond (list_all is_ascii_digit ds && ltb (digits_value_after 10 n ds) (2 ^ 64)) (Some (digits_value_after 10 n ds)) None
+
+abbrev nothing : Option ℕ
+nothing = None
+
+grows : (n : ℕ) (ds : List ℕ) → n ≤ digits_value_after 10 n ds
+grows n [] = omega arith
+grows n (c ∷ cs) = omega (arith, grows (n * 10 + digit_value c) cs)
+
+more : (n c : ℕ) (cs : List ℕ) → is_ascii_digit c ≡ true → read_from n (c ∷ cs) ≡ read_from (n * 10 + (c - 48)) cs
+more n c cs h =
+    let b = and_parts (nat_le 48 c) (nat_le c 57) h in
+    let low : 48 ≤ c = leb-true _ _ b.0 in
+    let high : c ≤ 57 = leb-true _ _ b.1 in
+    let e : digit_value c ≡ c - 48 = omega (arith, digit_value_digit c (low, high)) in
+    rw (b.0, b.1, e) refl
+
+large : (n : ℕ) (ds : List ℕ) → 2 ^ 64 ≤ n → read_from n ds ≡ None
+large n ds le =
+    let over : ltb (digits_value_after 10 n ds) (2 ^ 64) ≡ false = le-ltb _ _ (omega (arith, grows n ds)) in
+    rw over (elim (list_all is_ascii_digit ds) as (λ b. cond (b && false) (Some (digits_value_after 10 n ds)) None ≡ nothing) [ true ↦ refl | false ↦ refl ])
+
+pub read_more : (n i : ℕ) (text : List ℕ) (o : Option ℕ) → i < length text → is_ascii_digit (get_or text i 0) ≡ true → read_from n (drop i text) ≡ o → read_from (n * 10 + (get_or text i 0 - 48)) (drop (i + 1) text) ≡ o
+read_more n i text o lt h e =
+    let k = rw (drop-cons text i 0 lt) at e in
+    rw (add-one i) (sym (more n (get_or text i 0) (drop (suc i) text) h) ∙ k)
+
+pub read_stop : (n i : ℕ) (text : List ℕ) (o : Option ℕ) → i < length text → is_ascii_digit (get_or text i 0) ≡ false → read_from n (drop i text) ≡ o → None ≡ o
+read_stop n i text o lt h e =
+    let k = rw (drop-cons text i 0 lt) at e in
+    rw h at k
+
+pub read_over : (n i : ℕ) (text : List ℕ) (o : Option ℕ) → i < length text → is_ascii_digit (get_or text i 0) ≡ true → 2 ^ 64 ≤ n * 10 + (get_or text i 0 - 48) → read_from n (drop i text) ≡ o → None ≡ o
+read_over n i text o lt h le e = sym (large _ (drop (i + 1) text) le) ∙ read_more n i text o lt h e
+
+pub read_done : (n i : ℕ) (text : List ℕ) (o : Option ℕ) → length text ≤ i → n < 2 ^ 64 → read_from n (drop i text) ≡ o → Some n ≡ o
+read_done n i text o le lt e =
+    let k = rw (drop_all i text le) at e in
+    rw (lt-ltb n (2 ^ 64) lt) at k
+
+-- ---- numbers
+
+not_begun : {X : Type 0} (a l c t : Bool) (x : X) → (a && c) ≡ false → None ≡ cond ((a && l && c) && t) (Some x) None
+not_begun true true true t x h = absurd cc
+not_begun true true false t x h = refl
+not_begun true false c t x h = refl
+not_begun false l c t x h = refl
+
+begun : {X : Type 0} (a l c t : Bool) (x : X) (o : Option X) → (a && c) ≡ true → o ≡ cond (l && t) (Some x) None → o ≡ cond ((a && l && c) && t) (Some x) None
+begun true true true t x o h e = e
+begun true false true t x o h e = e
+begun true l false t x o h e = absurd cc
+begun false l c t x o h e = absurd cc
+
+pub number_begun : (text : List ℕ) (o : Option ℕ) → (nat_lt 0 (length text) && ((length text == 1) || not (slice_index text 0 == 48))) ≡ true → o ≡ read_from 0 text → o ≡ number text
+unfolding number
+number_begun text o h e = begun _ (list_all is_ascii_digit text) _ _ _ o h e
+
+pub number_unbegun : (text : List ℕ) → (nat_lt 0 (length text) && ((length text == 1) || not (slice_index text 0 == 48))) ≡ false → None ≡ number text
+unfolding number
+number_unbegun text h = not_begun _ (list_all is_ascii_digit text) _ _ _ h
+
+-- ---- numbers of i64
+
+abbrev none_at : Option ℤ
+none_at = None
+
+below : (d : Bool) (v n : ℕ) → Some n ≡ cond (d && ltb v (2 ^ 64)) (Some v) None → (d ≡ true) × (v ≡ n)
+below d v n e = let g = some_cond (d && ltb v (2 ^ 64)) v n (sym e) in ((and_parts d (ltb v (2 ^ 64)) g.0).0, g.1)
+
+above : (d : Bool) (v : ℕ) → None ≡ cond (d && ltb v (2 ^ 64)) (Some v) None → (d ≡ false) ⊎ (2 ^ 64 ≤ v)
+above false v e = inl refl
+above true v e = elim (cases_Bool (ltb v (2 ^ 64))) [ inl t ↦ absurd (let f = rw t at e in cc) | inr f ↦ inr (ltb-false v (2 ^ 64) f) ]
+
+pub plain_small : (text : List ℕ) (n : ℕ) → Some n ≡ number text → n < 2 ^ 63 → Some (pos n) ≡ cond (is_decimal text && ltb (digits_value 10 text) (2 ^ 63)) (Some (pos (digits_value 10 text))) None
+unfolding number
+plain_small text n e lt =
+    let g = below (is_decimal text) (digits_value 10 text) n e in
+    let fits : ltb (digits_value 10 text) (2 ^ 63) ≡ true = rw g.1 (lt-ltb n (2 ^ 63) lt) in
+    rw (g.0, fits) (ap (λ (m : ℕ). Some (pos m)) (sym g.1))
+
+pub plain_large : (text : List ℕ) (n : ℕ) → Some n ≡ number text → 2 ^ 63 ≤ n → none_at ≡ cond (is_decimal text && ltb (digits_value 10 text) (2 ^ 63)) (Some (pos (digits_value 10 text))) None
+unfolding number
+plain_large text n e le =
+    let g = below (is_decimal text) (digits_value 10 text) n e in
+    let over : ltb (digits_value 10 text) (2 ^ 63) ≡ false = rw g.1 (le-ltb n (2 ^ 63) le) in
+    rw (g.0, over) refl
+
+pub plain_none : (text : List ℕ) → None ≡ number text → none_at ≡ cond (is_decimal text && ltb (digits_value 10 text) (2 ^ 63)) (Some (pos (digits_value 10 text))) None
+unfolding number
+plain_none text e = elim (above (is_decimal text) (digits_value 10 text) e) [
+  | inl f ↦ rw f refl
+  | inr le ↦
+      let over : ltb (digits_value 10 text) (2 ^ 63) ≡ false = le-ltb _ (2 ^ 63) (omega arith) in
+      rw over (elim (is_decimal text) as (λ b. none_at ≡ cond (b && false) (Some (pos (digits_value 10 text))) None) [ true ↦ refl | false ↦ refl ])
+]
+
+negative_fits : (n : ℕ) → n ≤ 2 ^ 63 → FitsSigned w64 (neg_ℤ (pos n))
+negative_fits zero h = record { sfits = omega arith }
+negative_fits (suc n) h = record { sfits = h }
+
+fits_negative : (n : ℕ) → FitsSigned w64 (neg_ℤ (pos n)) → n ≤ 2 ^ 63
+fits_negative zero h = omega arith
+fits_negative (suc n) h = h.sfits
+
+zero_minus : (n : ℕ) → pos 0 -ℤ pos n ≡ neg_ℤ (pos n)
+zero_minus zero = refl
+zero_minus (suc n) = let t : ltb 0 (suc n) ≡ true = lt-ltb 0 (suc n) (omega arith) in rw t (ap negsuc (omega arith))
+
+negated : (n : ℕ) (r : Option ℤ) → SomeIff r (FitsSigned w64 (pos 0 -ℤ pos n)) (pos 0 -ℤ pos n) → r ≡ cond (leb n (2 ^ 63)) (Some (neg_ℤ (pos n))) None
+negated n (Some z) h = rw (h.1, zero_minus n, le-leb n (2 ^ 63) (fits_negative n (rw (zero_minus n) at h.0))) refl
+negated n None h = elim (cases_Bool (leb n (2 ^ 63))) [
+  | inl t ↦ absurd (h (rw (zero_minus n) (negative_fits n (leb-true n (2 ^ 63) t))))
+  | inr f ↦ rw f refl
+]
+
+-- what a minus with these digits is
+abbrev pub negative_of : List ℕ → Option ℤ
+negative_of ds = cond (is_decimal ds && not (slice_index ds 0 == 48) && leb (digits_value 10 ds) (2 ^ 63)) (Some (neg_ℤ (pos (digits_value 10 ds)))) None
+
+no_fit : (d z : Bool) (x : ℤ) → none_at ≡ cond (d && z && false) (Some x) None
+no_fit true true x = refl
+no_fit true false x = refl
+no_fit false z x = refl
+
+no_case : (d t : Bool) (x : ℤ) → none_at ≡ cond (d && false && t) (Some x) None
+no_case true t x = refl
+no_case false t x = refl
+
+pub negative_some : (ds : List ℕ) (n : ℕ) (r : Option ℤ) → (slice_index ds 0 == 48) ≡ false → Some n ≡ number ds → SomeIff r (FitsSigned w64 (pos 0 -ℤ pos n)) (pos 0 -ℤ pos n) → r ≡ negative_of ds
+unfolding number
+negative_some ds n r first e h =
+    let g = below (is_decimal ds) (digits_value 10 ds) n e in
+    rw (g.0, first, g.1) (negated n r h)
+
+pub negative_none : (ds : List ℕ) → None ≡ number ds → None ≡ negative_of ds
+unfolding number
+negative_none ds e = elim (above (is_decimal ds) (digits_value 10 ds) e) [
+  | inl f ↦ rw f refl
+  | inr le ↦
+      let over : leb (digits_value 10 ds) (2 ^ 63) ≡ false = lt-leb _ (2 ^ 63) (omega arith) in
+      rw over (no_fit (is_decimal ds) (not (slice_index ds 0 == 48)) (neg_ℤ (pos (digits_value 10 ds))))
+]
 
 abbrev pub with_front : List ℤ → Option (List ℤ) → Option (List ℤ)
 with_front prefix rest = rest >>= λ zs. Some (prefix ++ zs)
@@ -68,18 +209,6 @@ cores_end mask low part rest total e h = sym (rw (← e) at h)
 pub cores_done : (mask low : ℕ) (total : Option ℕ) → add_bits mask (bits_from low []) ≡ total → total ≡ Some mask
 unfolding bits_from
 cores_done mask low total h = sym h ∙ ap Some (omega arith)
-
-pub parsed_is : {E : Type 0} (bs : List ℕ) (r : Result ℕ E) → ParsesUnsigned 64 10 bs r → list_all is_ascii_digit bs ≡ true → 0 < length bs → result_ok r ≡ cond (ltb (digits_value 10 bs) (2 ^ 64)) (Some (digits_value 10 bs)) None
-parsed_is bs r h digits some = ok_iff_option r _ (digits_value 10 bs) _ (parse_digits own 64 bs r h digits) (λ b. (some, ltb-true _ _ b)) (λ p. lt-ltb _ _ p.1)
-
-pub positive_is : {E : Type 0} (bs : List ℕ) (r : Result ℤ E) → ParsesSigned w64 10 bs r → list_all is_ascii_digit bs ≡ true → 0 < length bs → result_ok r ≡ cond (ltb (digits_value 10 bs) (2 ^ 63)) (Some (pos (digits_value 10 bs))) None
-positive_is bs r h digits some = ok_iff_option r _ (pos (digits_value 10 bs)) _ (parse_signed_digits own w64 bs r h digits) (λ b. (some, ltb-true _ _ b)) (λ p. lt-ltb _ _ p.1)
-
-pub negative_is : {E : Type 0} (bs : List ℕ) (r : Result ℤ E) → ParsesSigned w64 10 bs r → get_or bs 0 0 ≡ 45 → list_all is_ascii_digit (drop 1 bs) ≡ true → 1 < length bs → result_ok r ≡ cond (leb (digits_value 10 (drop 1 bs)) (2 ^ 63)) (Some (neg_ℤ (pos (digits_value 10 (drop 1 bs))))) None
-negative_is bs r h minus digits some = ok_iff_option r _ (neg_ℤ (pos (digits_value 10 (drop 1 bs)))) _ (parse_signed_minus own w64 bs r h minus) (λ b. (digits, omega (arith, length-drop 1 bs), leb-true _ _ b)) (λ p. le-leb _ _ p.2)
-
-pub utf8_minus : (bs : List ℕ) → get_or bs 0 0 ≡ 45 → list_all is_ascii_digit (drop 1 bs) ≡ true → IsUtf8 bs
-utf8_minus bs minus digits = IsUtf8-from_ascii bs (λ i. elim (cases_eq i 0) [ inl e ↦ rw e (omega (arith, minus)) | inr n ↦ let k : i ≡ 1 + (i - 1) = omega arith in rw k (rw get_or-drop at (IsAscii-from_digits (drop 1 bs) (own.to (drop 1 bs) digits) (i - 1))) ])
 
 abbrev no : Option (List ℤ)
 no = None

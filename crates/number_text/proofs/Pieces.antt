@@ -2,7 +2,9 @@
 use Rattle.std.proofs.Common.{◌≡◌, ℕ, ◌+◌, ◌<◌, ◌≤◌, List, [], ◌∷◌, ◌++◌, Bool, eqb, length, take, drop, Option, Some, None, refl, sym, ◌∙◌, arith, inl, inr, append_assoc}
 use Rattle.std.specs.Prelude.{IfSome, position, nat_lt}
 use Rattle.std.specs.List.{position_or_len, slice_split}
-use Rattle.std.proofs.lemmas.Bool.{ltb-true, ltb-false, cases_Bool}
+use Rattle.std.proofs.lemmas.Bool.{ltb-true, ltb-false, lt-ltb, le-ltb, false_from_ne_true, cases_Bool}
+use Rattle.std.proofs.lemmas.List.Sums.{position_or_len_is}
+use Rattle.memchr.specs.Find.{IsFirstByte, is_byte}
 use Rattle.std.proofs.lemmas.List.Splits.{slice_split_first}
 use Rattle.number_text.specs.Lists.{between}
 use denote.Ref.{Bor}
@@ -37,6 +39,15 @@ place_none p xs e =
       | inl t ↦ let e2 : position p xs ≡ Some (position_or_len p xs) = rw t refl in absurd (cc)
       | inr f ↦ ltb-false _ _ f
     ]
+
+-- the first place that a search by vectors gives
+pub first_place : (byte : ℕ) (text : List ℕ) (r : Option ℕ) → IsFirstByte (is_byte byte) text r → r ≡ position (is_byte byte) text
+first_place byte text (Some i) h =
+    let e = position_or_len_is (is_byte byte) text i 0 (omega (arith, h.0.high)) (λ k lt. false_from_ne_true _ (h.0.before k (omega arith) lt)) (λ _. h.1) in
+    rw (e, lt-ltb i (length text) h.0.high) refl
+first_place byte text None h =
+    let e = position_or_len_is (is_byte byte) text (length text) 0 (omega arith) (λ k lt. false_from_ne_true _ (h k (omega arith) lt)) (λ lt. absurd (omega (arith, lt))) in
+    rw (e, le-ltb (length text) (length text) (omega arith)) refl
 
 pub between_some : (byte : ℕ) (text : List ℕ) (i : ℕ) → position (λ b. eqb b byte) text ≡ Some i → between byte text ≡ take i text ∷ between byte (drop (i + 1) text)
 between_some byte text i e =

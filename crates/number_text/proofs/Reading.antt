@@ -7,6 +7,7 @@ use Rattle.std.specs.Str.Parse.{digits_value}
 use Rattle.std.proofs.lemmas.Bool.{and_parts, leb-true, ltb-true, cases_Bool}
 use Rattle.std.proofs.lemmas.List.Splits.{length-slice_split}
 use Rattle.std.proofs.Math.Nat.{pow-le-pow_right}
+use Rattle.number_text.proofs.Parsing.{some_cond}
 use Rattle.number_text.specs.Numbers.{is_decimal, number, number_within, whole}
 use Rattle.number_text.specs.Lists.{◌>>=◌, between, wholes, list_of}
 use Rattle.number_text.specs.Cores.{bits_from, cores_of}
@@ -16,10 +17,6 @@ use Rattle.number_text.specs.Cores.{bits_from, cores_of}
 pub bind_some : {A B : Type 0} (o : Option A) (f : A → Option B) (y : B) → (o >>= f) ≡ Some y → (x : A) × (o ≡ Some x) × (f x ≡ Some y)
 bind_some (Some x) f y e = (x, refl, e)
 bind_some None f y e = absurd cc
-
-pub some_cond : {A : Type 0} (b : Bool) (x y : A) → cond b (Some x) None ≡ Some y → (b ≡ true) × (x ≡ y)
-some_cond true x y e = (refl, cc)
-some_cond false x y e = absurd cc
 
 abbrev just : {A : Type 0} → A → Option A
 just x = Some x

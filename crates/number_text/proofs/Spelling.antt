@@ -14,9 +14,9 @@ use Rattle.mtapi_values.specs.Masks.{in_mask}
 use Rattle.number_text.specs.Numbers.{is_decimal, number, number_within, whole}
 use Rattle.number_text.specs.Lists.{between, wholes, list_of, listed}
 use Rattle.number_text.specs.Cores.{bits_from, cores_of, cores_below, cores_text}
-use Rattle.number_text.proofs.Parsing.{own}
+use Rattle.number_text.proofs.Parsing.{own, some_cond}
 use Rattle.number_text.proofs.CoreSteps.{cores_none, cores_next}
-use Rattle.number_text.proofs.Reading.{bind_some, just_is, some_cond, list_cond, within_is, pow_double}
+use Rattle.number_text.proofs.Reading.{bind_some, just_is, list_cond, within_is, pow_double}
 
 -- ---- numbers
 

@@ -3,11 +3,21 @@ ghost use Rattle.std.specs.Prelude.{◌≡◌, ◌==◌, ◌<◌, ◌∷◌, [],
 ghost use Rattle.std.specs.List.{before_first, after_first};
 ghost use Rattle.number_text.specs.Lists.{between, pieces_of};
 
+use memchr::memchr;
+
+/// Below so many bytes a search by vectors costs more than a look at each byte.
+const FEW: usize = 64;
+
 /// The first place of a byte.
+#[tactic(auto, using(crate::proofs::Pieces::first_place))]
 fn place_of(text: &[u8], byte: u8) -> Option<usize>
     ensures { result ≡ position (λ b. b == byte) text.now }
 {
-    text.iter().position(|b| *b == byte)
+    if text.len() < FEW {
+        text.iter().position(|b| *b == byte)
+    } else {
+        memchr(byte, text)
+    }
 }
 
 /// The text before the first such byte, and the text after it where it stands.

@@ -1,5 +1,5 @@
 //! Numbers.
-ghost use Rattle.std.specs.Prelude.{◌≡◌, ◌≤◌, ◌<◌, ◌^◌, ◌++◌, OnOk, nat_le, nat_lt, length, FitsSigned, drop, slice_index, pos, neg_ℤ, true, Some, None, IfSome, IfOk, string_bytes, if◌then◌else◌};
+ghost use Rattle.std.specs.Prelude.{◌≡◌, ◌==◌, ◌&&◌, ◌||◌, not, ◌≤◌, ◌<◌, ◌^◌, ◌++◌, OnOk, nat_le, nat_lt, length, FitsSigned, drop, slice_index, pos, neg_ℤ, true, Some, None, IfSome, IfOk, string_bytes, if◌then◌else◌};
 ghost use Rattle.std.specs.List.{list_all};
 ghost use Rattle.std.specs.Int.{w64};
 ghost use Rattle.std.specs.Char.{is_ascii_digit};
@@ -9,31 +9,32 @@ ghost use Rattle.number_text.specs.Numbers.{is_decimal, number, number_within, w
 
 use itoa::Buffer;
 use std::alloc::{AllocError, Global};
-use std::str;
 
-fn all_digits(text: &[u8]) -> bool
-    ensures { result ≡ list_all is_ascii_digit text.now }
+/// Whether a number may begin so: there is a byte, and a zero stands alone.
+fn begins_number(text: &[u8]) -> bool
+    ensures { result ≡ (nat_lt 0 (length text.now) && ((length text.now == 1) || not (slice_index text.now 0 == 48))) }
 {
-    text.iter().all(|b| b.is_ascii_digit())
+    !text.is_empty() && (text.len() == 1 || text[0] != b'0')
 }
 
-fn is_decimal(text: &[u8]) -> bool
-    ensures value { result ≡ is_decimal text.now }
-    ensures digits { result ≡ true → list_all is_ascii_digit text.now ≡ true }
-    ensures some { result ≡ true → 0 < length text.now }
+/// The number that digits write, where it is below 2^64: each byte is looked at once.
+fn digits_number(text: &[u8]) -> Option<u64>
+    ensures { result ≡ (if list_all is_ascii_digit text.now && nat_lt (digits_value 10 text.now) (2 ^ 64) then Some (digits_value 10 text.now) else None) }
 {
-    !text.is_empty() && all_digits(text) && (text.len() == 1 || text[0] != b'0')
-}
-
-fn parsed(text: &[u8]) -> Option<u64>
-    requires digits { list_all is_ascii_digit text.now ≡ true }
-    requires some { 0 < length text.now }
-    ensures { result ≡ (if nat_lt (digits_value 10 text.now) (2 ^ 64) then Some (digits_value 10 text.now) else None) }
-{
-    match str::from_utf8(text) {
-        Ok(digits) => digits.parse::<u64>().ok(),
-        Err(_) => None,
+    let mut number = 0u64;
+    for byte in text {
+        if !byte.is_ascii_digit() {
+            return None;
+        }
+        let Some(tens) = number.checked_mul(10) else {
+            return None;
+        };
+        let Some(next) = tens.checked_add(u64::from(*byte - b'0')) else {
+            return None;
+        };
+        number = next;
     }
+    Some(number)
 }
 
 /// The number that a text is.
@@ -45,10 +46,11 @@ fn parsed(text: &[u8]) -> Option<u64>
 pub fn number(text: &[u8]) -> Option<u64>
     ensures { result ≡ number text.now }
 {
-    if !is_decimal(text) {
-        return None;
+    if begins_number(text) {
+        digits_number(text)
+    } else {
+        None
     }
-    parsed(text)
 }
 
 /// The number from `low` to `high` that a text is.
@@ -67,26 +69,26 @@ pub fn number_within(low: u64, high: u64, text: &[u8]) -> Option<u64>
     }
 }
 
-fn negative(text: &[u8]) -> Option<i64>
-    requires minus { slice_index text.now 0 ≡ 45 }
-    requires digits { list_all is_ascii_digit (drop 1 text.now) ≡ true }
-    requires some { 1 < length text.now }
-    ensures { result ≡ (if nat_le (digits_value 10 (drop 1 text.now)) (2 ^ 63) then Some (neg_ℤ (pos (digits_value 10 (drop 1 text.now)))) else None) }
+/// The number of i64 that a text without a minus is.
+fn plain(text: &[u8]) -> Option<i64>
+    ensures { result ≡ (if is_decimal text.now && nat_lt (digits_value 10 text.now) (2 ^ 63) then Some (pos (digits_value 10 text.now)) else None) }
 {
-    match str::from_utf8(text) {
-        Ok(digits) => digits.parse::<i64>().ok(),
-        Err(_) => None,
+    match number(text) {
+        Some(n) => { if n < 1 << 63 { Some(n as i64) } else { None } }
+        None => None,
     }
 }
 
-fn positive(text: &[u8]) -> Option<i64>
-    requires digits { list_all is_ascii_digit text.now ≡ true }
-    requires some { 0 < length text.now }
-    ensures { result ≡ (if nat_lt (digits_value 10 text.now) (2 ^ 63) then Some (pos (digits_value 10 text.now)) else None) }
+/// The number of i64 that a minus with these digits is.
+fn negative(digits: &[u8]) -> Option<i64>
+    ensures { result ≡ (if is_decimal digits.now && not (slice_index digits.now 0 == 48) && nat_le (digits_value 10 digits.now) (2 ^ 63) then Some (neg_ℤ (pos (digits_value 10 digits.now))) else None) }
 {
-    match str::from_utf8(text) {
-        Ok(digits) => digits.parse::<i64>().ok(),
-        Err(_) => None,
+    if digits.is_empty() || digits[0] == b'0' {
+        return None;
+    }
+    match number(digits) {
+        Some(n) => 0i64.checked_sub_unsigned(n),
+        None => None,
     }
 }
 
@@ -101,18 +103,8 @@ pub fn whole(text: &[u8]) -> Option<i64>
     ensures fits { IfSome result (λ z. FitsSigned w64 z) }
 {
     match text {
-        [b'-', digits @ ..] => {
-            if !is_decimal(digits) || digits[0] == b'0' {
-                return None;
-            }
-            negative(text)
-        }
-        _ => {
-            if !is_decimal(text) {
-                return None;
-            }
-            positive(text)
-        }
+        [b'-', digits @ ..] => negative(digits),
+        _ => plain(text),
     }
 }
 

@@ -186,7 +186,12 @@ fn is_comment(first: &[u8]) -> bool
 fn all_printable(text: &[u8]) -> bool
     ensures { result ≡ list_all is_printable text.now }
 {
-    text.iter().all(|b| 32 <= *b && *b <= 126)
+    // Each byte is looked at, whatever those before it are, so that vectors serve.
+    let mut printable = true;
+    for b in text {
+        printable &= 32 <= *b && *b <= 126;
+    }
+    printable
 }
 
 /// The workload so far with a line, or the first cause that the line meets.

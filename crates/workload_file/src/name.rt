@@ -66,9 +66,7 @@ impl Name {
             return None;
         }
         let mut name = ArrayVec::new();
-        for b in text {
-            name.push(*b);
-        }
+        let _ = name.try_extend_from_slice(text);
         Some(Name { text: name })
     }
 

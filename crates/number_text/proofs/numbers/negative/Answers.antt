@@ -1,8 +1,9 @@
-use Rattle.number_text.proofs.Parsing.{negative_is, utf8_minus}
+use Rattle.std.proofs.lemmas.Bool.{ne_eqb}
+use Rattle.number_text.proofs.Parsing.{negative_some, negative_none}
 use Rattle.number_text.proofs.numbers.negative.Goals as goal
 
-pub returns-in-Ok : goal.returns-in-Ok
-returns-in-Ok c = rw c.ok.ensures.value (negative_is c.args.text.now c.parse.result (rw c.in-Ok.ensures.cases.0 at c.parse.ensures.value.0) c.requires.minus c.requires.digits c.requires.some)
+pub returns-in-Some : goal.returns-in-Some
+returns-in-Some c = negative_some c.args.digits.now c.in-Some.n _ (ne_eqb _ _ c.if-digits-eq48.false) c.in-Some.ensures c.checked_sub_unsigned.ensures
 
-pub returns-in-Err : goal.returns-in-Err
-returns-in-Err c = absurd (c.in-Err.ensures.cases.0 (utf8_minus c.args.text.now c.requires.minus c.requires.digits))
+pub returns-in-None : goal.returns-in-None
+returns-in-None c = negative_none c.args.digits.now c.in-None.ensures
