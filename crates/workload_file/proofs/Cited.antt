@@ -15,7 +15,7 @@ pub use Rattle.number_text.specs.Cores.{cores_text}
 pub use Rattle.number_text.specs.Lists.{between, led, list_of, pieces_of}
 pub use Rattle.number_text.specs.Numbers.{whole}
 pub use Rattle.std.proofs.Math.ListN.{drop_of_length-le}
-pub use Rattle.std.proofs.lemmas.Bool.{and_from, and_parts, cases_Bool, cases_eq, eq-eqb, eqb-true, le-leb, le-ltb, leb-false, leb-true, lt-ltb, ltb-false, ne_eqb, not-false, not-true, or_cases, or_from, or_left, or_parts, or_right}
+pub use Rattle.std.proofs.lemmas.Bool.{and_from, and_parts, cases_Bool, cases_eq, eq-eqb, eqb-true, le-leb, le-ltb, leb-false, leb-true, lt-ltb, ltb-false, ltb-true, ne_eqb, not-false, not-true, or_cases, or_from, or_left, or_parts, or_right}
 pub use Rattle.std.proofs.lemmas.List.{length-replicate, append-nil, length-map, length_push, map-append, replicate_more, take_all, take_more}
 pub use Rattle.std.proofs.lemmas.List.Elements.{filter-append, All-from_recursion}
 pub use Rattle.std.proofs.lemmas.List.Folds.{position_or_len_push}

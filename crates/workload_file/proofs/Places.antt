@@ -1,5 +1,5 @@
 -- The index of a part's names, and the places at which the names are bound.
-use Rattle.workload_file.proofs.Cited.{◌≡◌, ℕ, ◌+◌, ◌<◌, ◌≤◌, List, [], ◌∷◌, ◌++◌, Bool, true, false, cond, eqb, length, Option, Some, None, refl, ap, arith, inl, inr, pow_mono, pow-add, ◌*◌, ◌-◌, ◌^◌, get_or, take, drop, take_all, ◌&&◌, ◌||◌, sym, ◌∙◌, nat_lt, nat_le, length_push, position_or_len, list_all, bytes_eq, bytes_eq-Decides, position_or_len_push, cases_Bool, lt-ltb, le-ltb, eq-eqb, ne_eqb, cases_eq, leb-true, and_parts, or_cases, eqb-true, Statement, bound_at, is_called, first_of_two, nat_cmp, is_eq, unsigned_tied, is_name, is_name_byte, is_letter, begins_with_letter}
+use Rattle.workload_file.proofs.Cited.{◌≡◌, ℕ, ◌+◌, ◌<◌, ◌≤◌, List, [], ◌∷◌, ◌++◌, Bool, true, false, cond, eqb, length, Option, Some, None, refl, ap, arith, inl, inr, pow_mono, pow-add, ◌*◌, ◌-◌, ◌^◌, get_or, take, drop, take_all, ◌&&◌, ◌||◌, sym, ◌∙◌, nat_lt, nat_le, length_push, position_or_len, list_all, bytes_eq, bytes_eq-Decides, position_or_len_push, cases_Bool, lt-ltb, le-ltb, ltb-true, ltb-false, eq-eqb, ne_eqb, cases_eq, leb-true, and_parts, or_cases, eqb-true, Statement, bound_at, is_called, first_of_two, nat_cmp, is_eq, unsigned_tied, is_name, is_name_byte, is_letter, begins_with_letter}
 use Rattle.workload_file.specs.Indexed.{key_of}
 
 pub bytes_are : (xs ys : List ℕ) → bytes_eq xs ys ≡ true → xs ≡ ys
@@ -124,6 +124,23 @@ keys_apart xs ys h k apart =
       | inl t ↦ absurd (let same = names_same xs ys h k (cmp_eq (key_of xs) (key_of ys) t) in let yes : bytes_eq xs ys ≡ true = rw same (bytes_same ys) in cc)
       | inr f ↦ f
     ]
+
+-- ---- numbers of 64 bits and longer ones, each in a map of its own
+
+apart : (key k : ℕ) → (key ≡ k → ⊥) → is_eq (nat_cmp key k) ≡ false
+apart key k differ = elim (cases_Bool (is_eq (nat_cmp key k))) [ inl t ↦ absurd (differ (cmp_eq key k t)) | inr f ↦ f ]
+
+pub put_short : (key k place : ℕ) (new old long : Option ℕ) → key < 2 ^ 64 → new ≡ cond (is_eq (nat_cmp key k)) (Some place) old → cond (nat_lt k (2 ^ 64)) new long ≡ cond (is_eq (nat_cmp key k)) (Some place) (cond (nat_lt k (2 ^ 64)) old long)
+put_short key k place new old long low e = elim (cases_Bool (nat_lt k (2 ^ 64))) [
+  | inl t ↦ rw t e
+  | inr f ↦ let high : 2 ^ 64 ≤ k = ltb-false k (2 ^ 64) f in rw (f, apart key k (λ (same : key ≡ k). omega (arith, same, low, high))) refl
+]
+
+pub put_long : (key k place : ℕ) (new old short : Option ℕ) → 2 ^ 64 ≤ key → new ≡ cond (is_eq (nat_cmp key k)) (Some place) old → cond (nat_lt k (2 ^ 64)) short new ≡ cond (is_eq (nat_cmp key k)) (Some place) (cond (nat_lt k (2 ^ 64)) short old)
+put_long key k place new old short high e = elim (cases_Bool (nat_lt k (2 ^ 64))) [
+  | inl t ↦ let low : k < 2 ^ 64 = ltb-true k (2 ^ 64) t in rw (t, apart key k (λ (same : key ≡ k). omega (arith, same, low, high))) refl
+  | inr f ↦ rw f e
+]
 
 alone : (x : Option ℕ) → x ≡ first_of_two x None
 alone None = refl

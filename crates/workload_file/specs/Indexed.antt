@@ -1,5 +1,5 @@
 -- What the reader keeps beside the workload so far.
-use Rattle.std.specs.Prelude.{◌≡◌, ℕ, ◌+◌, ◌*◌, ◌≤◌, List, [], ◌∷◌, length, Option, Some, None, Result, Ok, Err, if◌then◌else◌}
+use Rattle.std.specs.Prelude.{◌≡◌, ℕ, ◌+◌, ◌*◌, ◌^◌, ◌≤◌, nat_lt, List, [], ◌∷◌, length, Option, Some, None, Result, Ok, Err, if◌then◌else◌}
 use Rattle.workload_file.specs.declared.reading.Reader.{Reader}
 use Rattle.workload_file.specs.declared.reading.Reading.{Reading}
 use Rattle.workload_file.specs.declared.index.NameIndex.{NameIndex}
@@ -18,9 +18,13 @@ unfoldable pub key_of : List ℕ → ℕ
 key_of [] = 0
 key_of (b ∷ bs) = b + 256 * key_of bs
 
+-- the place that the index has at a number: those of 64 bits stand apart
+abbrev pub place_at : NameIndex → ℕ → Option ℕ
+place_at index key = if nat_lt key (2 ^ 64) then get_by (nat_cmp key) index.short else get_by (nat_cmp key) index.long
+
 -- the place at which the index has a name; it has no other text
 abbrev pub found : NameIndex → List ℕ → Option ℕ
-found index name = if is_name name then get_by (nat_cmp (key_of name)) index.places else None
+found index name = if is_name name then place_at index (key_of name) else None
 
 -- few enough statements, and the index has each name of this part at the place that bound it
 pub record IsReader (r : Reader) : Type 0 where
