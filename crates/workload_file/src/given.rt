@@ -1,10 +1,12 @@
 //! What the options of a statement give.
-ghost use Rattle.std.specs.Prelude.{◌≡◌, ◌++◌, map, OnOk, if◌then◌else◌};
+ghost use Rattle.std.specs.Prelude.{◌≡◌, ◌≢◌, ◌++◌, ◌∷◌, [], map, OnOk, if◌then◌else◌};
 ghost use Rattle.std.specs.Option.{option_copied};
+ghost use Rattle.number_text.specs.Lists.{list_of};
+ghost use Rattle.workload_file.specs.declared.table.Shape.TheVariants as shapes;
 ghost use Rattle.workload_file.specs.declared.values.Value.TheVariants as given;
 ghost use Rattle.workload_file.specs.Values.{is_name};
 ghost use Rattle.workload_file.specs.Names.{place_of};
-ghost use Rattle.workload_file.specs.Changes.{or_unbound, value_given, value_absent, value_at};
+ghost use Rattle.workload_file.specs.Changes.{or_bad, or_unbound, value_given, value_absent, value_at};
 ghost use Rattle.workload_file.specs.Steps.{values_of};
 ghost use Rattle.workload_file.specs.Indexed.{IsReader};
 
@@ -32,10 +34,21 @@ fn named(r: &Reader, sort: Sort, text: &[u8]) -> Value
     }
 }
 
-/// What a text gives, by the shape of its option.
+/// What a text of numbers gives. It stands apart, since no other value is as large: those are moved in few steps.
+fn numbers_given(text: &[u8]) -> Value
+    ensures { result ≡ or_bad given.Args (list_of text.now) }
+{
+    match list_of(text) {
+        Some(args) => Value::Args(args),
+        None => Value::Bad,
+    }
+}
+
+/// What a text gives, by the shape of its option, where it isn't one of numbers.
 #[tactic(auto, unfolding(crate::specs::Changes::value_given))]
 fn value_given(r: &Reader, shape: Shape, text: &[u8]) -> Value
-    requires { IsReader r.now }
+    requires reader { IsReader r.now }
+    requires other { shape ≢ shapes.Args }
     ensures { result ≡ value_given r.now.said.current.statements shape text.now }
 {
     match shape {
@@ -43,10 +56,7 @@ fn value_given(r: &Reader, shape: Shape, text: &[u8]) -> Value
             number_within(low, high, text).map_or(Value::Bad, Value::Number)
         }
         Shape::Whole => whole(text).map_or(Value::Bad, Value::Whole),
-        Shape::Args => match list_of(text) {
-            Some(args) => Value::Args(args),
-            None => Value::Bad,
-        },
+        Shape::Args => unreachable!(),
         Shape::Cores => cores_of(text).map_or(Value::Bad, Value::Cores),
         Shape::Kind => kind_of(text).map_or(Value::Bad, Value::Kind),
         Shape::Flag => flag_of(text).map_or(Value::Bad, Value::Flag),
@@ -75,14 +85,24 @@ fn value_absent(absent: Absent, shape: Shape) -> Value
     }
 }
 
-fn value_at(r: &Reader, field: Field, text: Option<&[u8]>) -> Value
+#[tactic(auto, unfolding(crate::specs::Changes::value_given))]
+fn push_value(
+    values: &mut Vec<Value>,
+    r: &Reader,
+    field: Field,
+    text: Option<&[u8]>,
+) -> Result<(), AllocError>
     requires { IsReader r.now }
-    ensures { result ≡ value_at r.now.said.current.statements field (option_copied text.entry) }
+    ensures { OnOk result (values.new.items ≡ values.old.items ++ value_at r.now.said.current.statements field (option_copied text.entry) ∷ []) }
 {
     match text {
-        Some(text) => value_given(r, field.shape, text),
-        None => value_absent(field.absent, field.shape),
+        Some(text) => match field.shape {
+            Shape::Args => values.push(numbers_given(text))?,
+            shape => values.push(value_given(r, shape, text))?,
+        },
+        None => values.push(value_absent(field.absent, field.shape))?,
     }
+    Ok(())
 }
 
 fn add_values(
@@ -99,7 +119,7 @@ fn add_values(
         [field, fields @ ..] => match given {
             [] => Ok(()),
             [text, given @ ..] => {
-                values.push(value_at(r, *field, *text))?;
+                push_value(values, r, *field, *text)?;
                 add_values(values, r, fields, given)
             }
         },
