@@ -7,6 +7,7 @@ use Rattle.workload_file.specs.declared.values.Value.TheVariants as given
 use Rattle.workload_file.specs.declared.reading.Change.TheVariants as change
 use Rattle.workload_file.specs.declared.table.Key.TheVariants as key
 use Rattle.workload_file.specs.declared.table.Naming.TheVariants as rule
+use Rattle.workload_file.specs.Indexed.{name_of}
 use Rattle.workload_file.proofs.Finds.{find_all}
 use Rattle.workload_file.proofs.Facts.{here}
 use Rattle.workload_file.proofs.Places.{bytes_same, apart_sym}
@@ -62,6 +63,13 @@ said r line _ name options = says_deed refl refl
 
 pub says : (r : Reading) (line : ℕ) (w : Word) (name : List ℕ) (options : List (List ℕ)) (c : Change) → change_of r line w name options ≡ c → Says r line w name options c
 says r line w name options c e = subst (Says r line w name options) e (said r line w name options)
+
+-- the name that a statement binds
+pub name_changed : (line : ℕ) (w : Word) (name : List ℕ) (place : Option ℕ) (vs : List Value) → name_of (change_with line w name place vs) ≡ bound_name (naming w) name
+unfolding change_with row
+name_changed line word.Node name place vs = refl
+name_changed line word.Caller name place vs = refl
+name_changed line _ name place vs = refl
 
 -- ---- the fields of a statement
 

@@ -1,5 +1,5 @@
 -- The index of a part's names, and the places at which the names are bound.
-use Rattle.workload_file.proofs.Cited.{◌≡◌, ℕ, ◌+◌, ◌<◌, ◌≤◌, List, [], ◌∷◌, ◌++◌, Bool, true, false, cond, eqb, length, Option, Some, None, refl, ap, arith, inl, inr, pow_mono, pow-add, ◌*◌, ◌-◌, ◌^◌, get_or, take, drop, take_all, ◌&&◌, ◌||◌, sym, ◌∙◌, nat_lt, nat_le, length_push, position_or_len, list_all, bytes_eq, bytes_eq-Decides, position_or_len_push, cases_Bool, lt-ltb, le-ltb, ltb-true, ltb-false, eq-eqb, ne_eqb, cases_eq, leb-true, and_parts, or_cases, eqb-true, Statement, bound_at, is_called, first_of_two, nat_cmp, is_eq, unsigned_tied, is_name, is_name_byte, is_letter, begins_with_letter}
+use Rattle.workload_file.proofs.Cited.{◌≡◌, ℕ, ◌+◌, ◌<◌, ◌≤◌, List, [], ◌∷◌, ◌++◌, Bool, true, false, cond, eqb, length, Option, Some, None, is_some, not, refl, ap, arith, inl, inr, pow_mono, pow-add, ◌*◌, ◌-◌, ◌^◌, get_or, take, drop, take_all, ◌&&◌, ◌||◌, sym, ◌∙◌, nat_lt, nat_le, length_push, position_or_len, list_all, bytes_eq, bytes_eq-Decides, position_or_len_push, cases_Bool, lt-ltb, le-ltb, ltb-true, ltb-false, eq-eqb, ne_eqb, cases_eq, leb-true, and_parts, or_cases, eqb-true, Statement, bound_at, is_called, first_of_two, nat_cmp, is_eq, unsigned_tied, is_name, is_name_byte, is_letter, begins_with_letter}
 use Rattle.workload_file.specs.Indexed.{key_of}
 
 pub bytes_are : (xs ys : List ℕ) → bytes_eq xs ys ≡ true → xs ≡ ys
@@ -142,7 +142,11 @@ put_long key k place new old short high e = elim (cases_Bool (nat_lt k (2 ^ 64))
   | inr f ↦ rw f e
 ]
 
-alone : (x : Option ℕ) → x ≡ first_of_two x None
+pub none_is : (x : Option ℕ) (none : Bool) → is_some x ≡ not none → none ≡ true → x ≡ None
+none_is None none e h = refl
+none_is (Some y) none e h = absurd (let f = rw h at e in cc)
+
+pub alone : (x : Option ℕ) → x ≡ first_of_two x None
 alone None = refl
 alone (Some y) = refl
 

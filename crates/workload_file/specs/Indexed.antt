@@ -2,6 +2,8 @@
 use Rattle.std.specs.Prelude.{◌≡◌, ℕ, ◌+◌, ◌*◌, ◌^◌, ◌≤◌, nat_lt, List, [], ◌∷◌, length, Option, Some, None, Result, Ok, Err, if◌then◌else◌}
 use Rattle.workload_file.specs.declared.reading.Reader.{Reader}
 use Rattle.workload_file.specs.declared.reading.Reading.{Reading}
+use Rattle.workload_file.specs.declared.reading.Change.{Change}
+use Rattle.workload_file.specs.declared.reading.Change.TheVariants as change
 use Rattle.workload_file.specs.declared.index.NameIndex.{NameIndex}
 use Rattle.std.specs.BTreeMap.{get_by}
 use Rattle.std.specs.Ordering.{nat_cmp}
@@ -35,6 +37,18 @@ pub record IsReader (r : Reader) : Type 0 where
 -- the index with one more name, where there is one: the first place of a name stays
 abbrev pub with_name : Option (List ℕ) → ℕ → (List ℕ → Option ℕ) → List ℕ → Option ℕ
 with_name name place names other = first_of_two (names other) (if is_called other name then Some place else None)
+
+-- the name that a change binds
+abbrev pub name_of : Change → Option (List ℕ)
+name_of (change.Node s) = None
+name_of (change.Caller n) = None
+name_of (change.Statement s) = s.name
+
+-- the same, but that the index has this name already, at the place of the next statement
+pub record IsNamed (r : Reader) (name : Option (List ℕ)) : Type 0 where
+  pub statements : length r.said.current.statements ≤ r.said.count
+  pub count : r.said.count ≤ 20000
+  pub names : (other : List ℕ) → found r.names other ≡ with_name name (length r.said.current.statements) (λ n. bound_at n r.said.current.statements) other
 
 -- the answer, seen without the index
 abbrev pub said_of : {E : Type 0} → Result Reader E → Result Reading E

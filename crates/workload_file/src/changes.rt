@@ -1,7 +1,7 @@
 //! The workload so far, with what a line adds.
-ghost use Rattle.std.specs.Prelude.{◌≡◌, ◌<◌, ◌++◌, ◌∷◌, [], List, ℕ, Some, IfOk, OnOk, IsSome, length};
+ghost use Rattle.std.specs.Prelude.{◌≡◌, ◌<◌, ◌++◌, ◌∷◌, [], Some, None, OnOk, length};
 ghost use Rattle.workload_file.specs.Reading.{with_change};
-ghost use Rattle.workload_file.specs.Indexed.{IsReader, found, with_name};
+ghost use Rattle.workload_file.specs.Indexed.{IsReader, IsNamed, name_of};
 ghost use Rattle.workload_file.specs.declared.reading.Change.TheVariants as change;
 
 use crate::index::NameIndex;
@@ -12,9 +12,9 @@ use mtapi_values::NodeAttr;
 use std::alloc::{AllocError, Global};
 use std::mem;
 
-#[tactic(auto, unfolding(crate::specs::Reading::with_change))]
+#[tactic(auto, unfolding(crate::specs::Reading::with_change), using(crate::proofs::Places::alone))]
 fn with_node(r: &mut Reader, line: u64, settings: NodeAttr)
-    requires reader { IsReader r.old }
+    requires named { IsNamed r.old None }
     requires few { r.old.said.count < 20000 }
     ensures value { r.new.said ≡ with_change r.old.said line (Some (change.Node settings)) }
     ensures reader { IsReader r.new }
@@ -26,7 +26,7 @@ fn with_node(r: &mut Reader, line: u64, settings: NodeAttr)
 
 #[tactic(auto, unfolding(crate::specs::Reading::with_change))]
 fn with_caller(alloc: Global, r: &mut Reader, line: u64, name: Name) -> Result<(), AllocError>
-    requires reader { IsReader r.old }
+    requires named { IsNamed r.old None }
     requires few { r.old.said.count < 20000 }
     ensures value { OnOk result (r.new.said ≡ with_change r.old.said line (Some (change.Caller name))) }
     ensures reader { OnOk result (IsReader r.new) }
@@ -42,24 +42,13 @@ fn with_caller(alloc: Global, r: &mut Reader, line: u64, name: Name) -> Result<(
     Ok(())
 }
 
-fn add_name(names: &mut NameIndex, name: &Option<Name>, place: u32) -> Result<(), AllocError>
-    ensures { OnOk result ((other : List ℕ) → found names.new other ≡ with_name name.now place (found names.old) other) }
-{
-    match name {
-        Some(name) => names.add(name, place),
-        None => Ok(()),
-    }
-}
-
 #[tactic(auto, unfolding(crate::specs::Reading::with_change))]
 fn with_statement(r: &mut Reader, line: u64, statement: Statement) -> Result<(), AllocError>
-    requires reader { IsReader r.old }
+    requires named { IsNamed r.old statement.name }
     requires few { r.old.said.count < 20000 }
     ensures value { OnOk result (r.new.said ≡ with_change r.old.said line (Some (change.Statement statement))) }
     ensures reader { OnOk result (IsReader r.new) }
 {
-    let place = r.said.current.statements.as_slice().len() as u32;
-    add_name(&mut r.names, &statement.name, place)?;
     r.said.current.statements.push(statement)?;
     r.said.count += 1;
     Ok(())
@@ -72,7 +61,7 @@ pub fn with_change(
     line: u64,
     change: Change,
 ) -> Result<(), AllocError>
-    requires reader { IsReader r.old }
+    requires named { IsNamed r.old (name_of change) }
     requires few { r.old.said.count < 20000 }
     ensures value { OnOk result (r.new.said ≡ with_change r.old.said line (Some change)) }
     ensures reader { OnOk result (IsReader r.new) }

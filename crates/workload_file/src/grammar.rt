@@ -1,5 +1,5 @@
 //! What a line adds, or the first cause that it meets.
-ghost use Rattle.std.specs.Prelude.{◌≡◌, ◌<◌, ◌∷◌, ◌&&◌, not, false, Some, None, IfOk, OnOk};
+ghost use Rattle.std.specs.Prelude.{◌≡◌, ◌<◌, ◌∷◌, ◌&&◌, not, false, List, ℕ, length, Some, None, IfOk, OnOk};
 ghost use Rattle.std.specs.List.{list_any, list_all, find};
 ghost use Rattle.workload_file.specs.Texts.{texts};
 ghost use Rattle.workload_file.specs.Values.{is_name};
@@ -9,7 +9,7 @@ ghost use Rattle.workload_file.specs.Changes.{is_bad, is_missing, names_nothing,
 ghost use Rattle.workload_file.specs.Faulty.{is_printable, is_comment, is_faulty, statement_causes, word_causes, words_meet};
 ghost use Rattle.workload_file.specs.Reading.{words_say, line_adds, Gives};
 ghost use Rattle.workload_file.specs.Steps.{late_causes, unless_met};
-ghost use Rattle.workload_file.specs.Indexed.{IsReader, said_then};
+ghost use Rattle.workload_file.specs.Indexed.{IsReader, found, said_then, with_name};
 
 use crate::changes::with_change;
 use crate::cut::words_of;
@@ -18,7 +18,7 @@ use crate::faults::{Cause, Fault, LineError};
 use crate::given::read_values;
 use crate::name::{Name, is_name};
 use crate::names::{
-    has_second, is_misplaced, is_ninth_caller, is_taken, name_in, options_in, use_in,
+    has_second, is_misplaced, is_ninth_caller, name_in, options_in, take_name, use_in,
 };
 use crate::options::place_texts;
 use crate::reading::{Change, Lists, Reader};
@@ -51,43 +51,47 @@ fn is_unbound(naming: Naming, place: Option<u32>) -> bool
     matches!(naming, Naming::Uses(_)) && place.is_none()
 }
 
-/// The first of the causes that a statement meets by its values and its names.
-#[rattlefmt::skip]
-#[tactic(auto, unfolding(crate::specs::Faulty::is_faulty))]
-fn late_met(r: &Reader, word: Word, name: &[u8], options: &[&[u8]], place: Option<u32>, values: &[Value]) -> Option<Cause>
-    requires reader { IsReader r.now }
-    requires place { place ≡ use_in r.now.said.current.statements (naming word) name.now }
-    requires values { values.now ≡ values_in r.now.said.current.statements (texts options.now) (fields word) }
-    ensures { result ≡ find (is_faulty r.now.said word name.now (texts options.now)) late_causes }
-{
-    if any_bad(values) { return Some(Cause::BadValue); }
-    if any_missing(values) { return Some(Cause::OptionMissing); }
-    if is_taken(r, word.naming(), name) { return Some(Cause::NameTaken); }
-    if is_unbound(word.naming(), place) || any_unbound(values) { return Some(Cause::NameUnknown); }
-    None
-}
-
 macro_rules! met {
     ($($test:expr => $cause:ident),*) => {$(if $test { return Ok(Some(Cause::$cause)); })*};
 }
 
-/// The first of the causes of a statement that it meets. With none, the list has what its options give.
+/// The first of the causes that a statement meets by its values and its names. With none, the name that it binds is bound.
 #[rattlefmt::skip]
 #[tactic(auto, unfolding(crate::specs::Faulty::is_faulty))]
-fn first_met<'a>(r: &Reader, given: &mut Vec<Option<&'a [u8]>>, values: &mut Vec<Value>, word: Word, name: &[u8], options: &[&'a [u8]], place: Option<u32>) -> Result<Option<Cause>, AllocError>
-    requires reader { IsReader r.now }
-    requires place { place ≡ use_in r.now.said.current.statements (naming word) name.now }
-    ensures value { IfOk result (λ met. met ≡ find (is_faulty r.now.said word name.now (texts options.now)) statement_causes) }
-    ensures few { IfOk result (λ met. met ≡ None → r.now.said.count < 20000) }
+fn late_met(r: &mut Reader, word: Word, name: &[u8], options: &[&[u8]], place: Option<u32>, values: &[Value]) -> Result<Option<Cause>, AllocError>
+    requires reader { IsReader r.old }
+    requires place { place ≡ use_in r.old.said.current.statements (naming word) name.now }
+    requires values { values.now ≡ values_in r.old.said.current.statements (texts options.now) (fields word) }
+    requires named { (has_second (naming word) && not (is_name name.now)) ≡ false }
+    ensures value { IfOk result (λ met. met ≡ find (is_faulty r.old.said word name.now (texts options.now)) late_causes) }
+    ensures said { OnOk result (r.new.said ≡ r.old.said) }
+    ensures bound { IfOk result (λ met. met ≡ None → (other : List ℕ) → found r.new.names other ≡ with_name (bound_name (naming word) name.now) (length r.old.said.current.statements) (found r.old.names) other) }
+{
+    met!(any_bad(values) => BadValue, any_missing(values) => OptionMissing);
+    let free = take_name(r, word.naming(), name)?;
+    met!(!free => NameTaken, is_unbound(word.naming(), place) || any_unbound(values) => NameUnknown);
+    Ok(None)
+}
+
+/// The first of the causes of a statement that it meets. With none, the list has what its options give, and its name is bound.
+#[rattlefmt::skip]
+#[tactic(auto, unfolding(crate::specs::Faulty::is_faulty))]
+fn first_met<'a>(r: &mut Reader, given: &mut Vec<Option<&'a [u8]>>, values: &mut Vec<Value>, word: Word, name: &[u8], options: &[&'a [u8]], place: Option<u32>) -> Result<Option<Cause>, AllocError>
+    requires reader { IsReader r.old }
+    requires place { place ≡ use_in r.old.said.current.statements (naming word) name.now }
+    ensures value { IfOk result (λ met. met ≡ find (is_faulty r.old.said word name.now (texts options.now)) statement_causes) }
+    ensures few { IfOk result (λ met. met ≡ None → r.old.said.count < 20000) }
     ensures named { IfOk result (λ met. met ≡ None → (has_second (naming word) && not (is_name name.now)) ≡ false) }
-    ensures values { IfOk result (λ met. met ≡ None → values.new.items ≡ values_in r.now.said.current.statements (texts options.now) (fields word)) }
+    ensures values { IfOk result (λ met. met ≡ None → values.new.items ≡ values_in r.old.said.current.statements (texts options.now) (fields word)) }
+    ensures said { OnOk result (r.new.said ≡ r.old.said) }
+    ensures bound { IfOk result (λ met. met ≡ None → (other : List ℕ) → found r.new.names other ≡ with_name (bound_name (naming word) name.now) (length r.old.said.current.statements) (found r.old.names) other) }
 {
     met!(20_000 <= r.said.count => TooManyStatements, is_ninth_caller(r, word) => TooManyCallers, is_misplaced(r, word) => Misplaced);
     met!(has_second(word.naming()) && !is_name(name) => BadName);
     let placed = place_texts(given, word, options)?;
     met!(!placed.known => UnknownOption, placed.twice => OptionTwice);
     read_values(values, r, word.fields(), given)?;
-    Ok(late_met(r, word, name, options, place, values))
+    late_met(r, word, name, options, place, values)
 }
 
 fn bound_name(naming: Naming, name: &[u8]) -> Option<Name>

@@ -1,9 +1,10 @@
 //! The places at which names are bound.
-ghost use Rattle.std.specs.Prelude.{◌≡◌, ◌≤◌, ◌<◌, ◌^◌, ◌*◌, ℕ, List, None, Some, OnOk, IfOk, length, if◌then◌else◌};
+ghost use Rattle.std.specs.Prelude.{◌≡◌, ◌≤◌, ◌<◌, ◌^◌, ◌*◌, ℕ, List, None, Some, OnOk, IfOk, IsTrue, is_none, true, length, if◌then◌else◌};
 ghost use Rattle.std.specs.Ordering.{nat_cmp, is_eq};
+ghost use Rattle.workload_file.specs.Values.{is_name};
 ghost use Rattle.workload_file.specs.Indexed.{found, key_of, place_at, with_name};
 
-use crate::name::{Name, is_name};
+use crate::name::is_name;
 use std::alloc::{AllocError, Global};
 use std::collections::BTreeMap;
 
@@ -77,15 +78,14 @@ impl NameIndex {
         }
     }
 
-    /// Puts a name at a place, where it has none yet.
-    pub fn add(&mut self, name: &Name, place: u32) -> Result<(), AllocError>
-        ensures { OnOk result ((other : List ℕ) → found self.new other ≡ with_name (Some name.now) place (found self.old) other) }
+    /// Puts a name at a place, and answers whether it had none.
+    pub fn add(&mut self, name: &[u8], place: u32) -> Result<bool, AllocError>
+        requires name { IsTrue (is_name name.now) }
+        ensures fresh { IfOk result (λ fresh. fresh ≡ is_none (found self.old name.now)) }
+        ensures names { IfOk result (λ fresh. fresh ≡ true → (other : List ℕ) → found self.new other ≡ with_name (Some name.now) place (found self.old) other) }
     {
-        let key = key_of(name.as_slice());
-        if let Some(before) = self.put(key, place)? {
-            // It had a place, which is put back.
-            self.put(key, before)?;
-        }
-        Ok(())
+        let key = key_of(name);
+        let before = self.put(key, place)?;
+        Ok(before.is_none())
     }
 }

@@ -1,15 +1,18 @@
 //! The names of a part, and what they are bound to.
-ghost use Rattle.std.specs.Prelude.{◌≡◌, ◌<◌, ◌≤◌, Bool, Some, None, IfSome, slice_get};
+ghost use Rattle.std.specs.Prelude.{◌≡◌, ◌<◌, ◌≤◌, ◌&&◌, not, true, false, Bool, ℕ, List, Some, None, IfSome, IfOk, OnOk, length, slice_get};
 ghost use Rattle.std.specs.List.{list_any};
 ghost use Rattle.std.specs.Str.{bytes_eq};
 ghost use Rattle.workload_file.specs.Texts.{texts};
 ghost use Rattle.workload_file.specs.Deeds.{binds, is_begin};
 ghost use Rattle.workload_file.specs.Names.{is_binding, place_of, use_in, has_second, name_in, options_in, is_taken, is_misplaced, is_ninth_caller};
-ghost use Rattle.workload_file.specs.Indexed.{IsReader};
+ghost use Rattle.workload_file.specs.Values.{is_name};
+ghost use Rattle.workload_file.specs.Changes.{bound_name};
+ghost use Rattle.workload_file.specs.Indexed.{IsReader, found, with_name};
 
 use crate::reading::Reader;
 use crate::table::{Naming, Sort, Word};
 use crate::workload::{Deed, Part, Statement};
+use std::alloc::AllocError;
 
 #[tactic(auto, unfolding(crate::specs::Deeds::binds))]
 fn binds(sort: Sort, deed: &Deed) -> bool
@@ -90,18 +93,26 @@ pub fn has_begin(statements: &[Statement]) -> bool
     statements.iter().any(|s| is_begin(&s.deed))
 }
 
-/// Whether a name that is to be bound is bound already: in the part, or by another part.
-#[tactic(auto, unfolding(crate::specs::Names::is_taken))]
-pub fn is_taken(r: &Reader, naming: Naming, name: &[u8]) -> bool
-    requires { IsReader r.now }
-    ensures { result ≡ is_taken r.now.said naming name.now }
+/// Binds the name that is to be bound, unless it is bound already: in the part, or by another part.
+#[tactic(auto, unfolding(crate::specs::Names::is_taken), using(crate::proofs::Places::alone))]
+pub fn take_name(r: &mut Reader, naming: Naming, name: &[u8]) -> Result<bool, AllocError>
+    requires reader { IsReader r.old }
+    requires named { (has_second naming && not (is_name name.now)) ≡ false }
+    ensures free { IfOk result (λ free. free ≡ not (is_taken r.old.said naming name.now)) }
+    ensures said { OnOk result (r.new.said ≡ r.old.said) }
+    ensures bound { IfOk result (λ free. free ≡ true → (other : List ℕ) → found r.new.names other ≡ with_name (bound_name naming name.now) (length r.old.said.current.statements) (found r.old.names) other) }
 {
     match naming {
-        Naming::Binds(_) => r.names.find(name).is_some(),
-        Naming::Caller => {
-            r.said.current.name.as_slice() == name || any_part(r.said.before.as_slice(), name)
+        Naming::Binds(_) => {
+            let place = r.said.current.statements.as_slice().len() as u32;
+            r.names.add(name, place)
         }
-        Naming::Bare | Naming::Uses(_) => false,
+        Naming::Caller => {
+            let taken = r.said.current.name.as_slice() == name
+                || any_part(r.said.before.as_slice(), name);
+            Ok(!taken)
+        }
+        Naming::Bare | Naming::Uses(_) => Ok(true),
     }
 }
 

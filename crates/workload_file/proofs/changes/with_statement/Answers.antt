@@ -7,7 +7,7 @@ returns-clause-reader c =
     let pushed = c.in_ok-push.ensures.ok in
     let more = length_push c.args.r.now.said.current.statements c.args.statement in
     record {
-      statements = rw pushed (omega (arith, more, c.requires.reader.statements));
+      statements = rw pushed (omega (arith, more, c.requires.named.statements));
       count = omega (arith, c.requires.few);
-      names = λ name. rw (pushed, c.in_ok-add_name.ensures name, c.requires.reader.names name, c.as_slice.ensures) (bound_push name c.args.r.now.said.current.statements c.args.statement);
+      names = λ name. rw (pushed, c.requires.named.names name) (bound_push name c.args.r.now.said.current.statements c.args.statement);
     }
