@@ -30,15 +30,15 @@ fn binding(line: u64, name: Name, deed: Deed) -> Statement
     }
 }
 
-/// The name of a task: t and its number.
-fn task_name(alloc: Global, i: u32) -> Result<Name, AllocError>
+/// The name of a task: t and its number. The list that the text is put into keeps its memory from task to task.
+fn task_name(alloc: Global, text: &mut Vec<u8>, i: u32) -> Result<Name, AllocError>
     requires { i < 19000 }
     ensures { IfOk result (λ name. name ≡ task_name i) }
 {
-    let mut text = Vec::new(alloc);
+    text.clear();
     text.push(b't')?;
-    push_number(alloc, &mut text, u64::from(i))?;
-    Ok(named(&text))
+    push_number(alloc, text, u64::from(i))?;
+    Ok(named(text))
 }
 
 /// A task of this job in the group.
@@ -85,11 +85,11 @@ fn task_deed(i: u32) -> Deed
 }
 
 /// A task, by its number from 0.
-fn task_statement(alloc: Global, i: u32) -> Result<Statement, AllocError>
+fn task_statement(alloc: Global, text: &mut Vec<u8>, i: u32) -> Result<Statement, AllocError>
     requires { i < 19000 }
     ensures { IfOk result (λ s. s ≡ task_statement i) }
 {
-    let name = task_name(alloc, i)?;
+    let name = task_name(alloc, text, i)?;
     Ok(binding(u64::from(i) + 5, name, task_deed(i)))
 }
 
@@ -120,9 +120,10 @@ fn push_tasks(alloc: Global, list: &mut StatementList, n: u32) -> Result<(), All
     requires { n ≤ 19000 }
     ensures { OnOk result (list.new ≡ list.old ++ tasks n) }
 {
+    let mut text = Vec::new(alloc);
     let mut i = 0u32;
     while i < n {
-        list.push(task_statement(alloc, i)?)?;
+        list.push(task_statement(alloc, &mut text, i)?)?;
         i += 1;
     }
     Ok(())
