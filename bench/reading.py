@@ -3,20 +3,25 @@
 reading is all that is done.
 
 Prints a line for each text, and fails where one takes longer than its limit, or where twice the bytes take more than
-2.2 times the time. The command has to be built: run `./mtapi prove` before.
+2.2 times the time. Where `valgrind` is installed it also prints how many instructions a line of a task takes. The command
+has to be built: run `./mtapi prove` before.
 """
 
+import re
+import shutil
 import subprocess
 import sys
 import time
 
 from common import COMMAND, need_command
+from generated import workload
 
 LIMIT = 0.1  # seconds for the largest text of a kind
 RATIO = 2.2  # of the times, at twice the bytes
 LAST = b"faulty\n"  # no word of a statement
 FLOOR = 0.002  # seconds below which times say nothing of a ratio
 TRIES = 9
+FEW, MANY = 1_000, 4_000  # tasks whose instructions are counted
 
 
 def names(count):
@@ -58,6 +63,14 @@ def seconds(text):
     return best
 
 
+def instructions(tasks):
+    """What the command executes to read so many generated tasks."""
+    text = "".join(f"{line}\n" for line in workload(tasks, 1)).encode() + LAST
+    words = ["valgrind", "--tool=callgrind", "--callgrind-out-file=/dev/null", COMMAND, "run"]
+    told = subprocess.run(words, input=text, capture_output=True).stderr.decode()
+    return int(re.search(r"Collected : (\d+)", told)[1])
+
+
 def main():
     need_command()
     start = seconds(LAST)
@@ -73,6 +86,8 @@ def main():
         bad = large > LIMIT or ratio > RATIO
         failed = failed or bad
         print(f"{name}: {len(half)} bytes {small:.4f} s, {len(whole)} bytes {large:.4f} s, ratio {ratio:.2f}{'  TOO SLOW' if bad else ''}")
+    if shutil.which("valgrind"):
+        print(f"a line of a task: {(instructions(MANY) - instructions(FEW)) / (MANY - FEW):.0f} instructions")
     sys.exit(1 if failed else 0)
 
 
