@@ -6,7 +6,8 @@ test_memory=1500000     # kB that one of them may take
 tests_passed=0 tests_failed=0
 declare -A test_of begun_at
 
-# Each crate with tests as NAME:tests and each program as NAME:program, the one with the most code to compile first.
+# Each crate with tests as NAME:tests, each program as NAME:program, and as NAME:cases one that has further inputs in a folder
+# cases/; the one with the most code to compile first.
 test_runs() {
     (cd "$top/crates" && find . -path '*/src/*' -name '*.rt' -printf '%P %s\n') |
         awk '
@@ -24,6 +25,7 @@ test_runs() {
         sort -k 1,1nr -k 2 | while read -r _ name; do
         if grep -qrs --include='*.rt' '#\[test\]' "$top/crates/$name/src"; then echo "$name:tests"; fi
         if [ -e "$top/crates/$name/src/main.rt" ]; then echo "$name:program"; fi
+        if [ -d "$top/crates/$name/cases" ]; then echo "$name:cases"; fi
     done
 }
 
@@ -46,9 +48,15 @@ begin_program() {
     cd "$top" || return
 }
 
+begin_cases() {
+    (cd "$top/crates/$1" && exec setsid rt try --steps 1 --seconds "$test_seconds" --cases cases) \
+        </dev/null >"$scratch/$1:cases.out" 2>"$scratch/$1:cases.err" &
+}
+
 begin_run() {
     case $1 in
     *:tests) begin_tests_of "${1%:*}" ;;
+    *:cases) begin_cases "${1%:*}" ;;
     *) begin_program "${1%:*}" ;;
     esac
     processes+=("$!")
@@ -104,6 +112,20 @@ end_program() {
     show_run "$1"
 }
 
+# How each input of the folder cases/ ends stands in the file cases.wanted beside it; its output is compared where cases/ has it.
+end_cases() {
+    local name=${1%:*} failed passed
+    failed=$(grep -ah '^case=' "$scratch/$1.out" "$scratch/$1.err" | sed 's/ runners=.*//' |
+        diff "$top/crates/$name/cases.wanted" - | grep -c '^[<>]')
+    passed=$(wc -l <"$top/crates/$name/cases.wanted")
+    if [ "$failed" -eq 0 ]; then
+        count_run "$1" "$2" "$passed" 0
+        return
+    fi
+    count_run "$1" "$2" 0 "$failed" 'other ends than in its file cases.wanted'
+    grep -ah '^case=' "$scratch/$1.out" "$scratch/$1.err" | sed 's/^/    /'
+}
+
 # Tells of each run that has ended since the last look.
 look_at_ended() {
     local pid left=()
@@ -114,6 +136,7 @@ look_at_ended() {
         fi
         case ${test_of[$pid]} in
         *:tests) end_tests "${test_of[$pid]}" $((SECONDS - begun_at[$pid])) ;;
+        *:cases) end_cases "${test_of[$pid]}" $((SECONDS - begun_at[$pid])) ;;
         *) end_program "${test_of[$pid]}" $((SECONDS - begun_at[$pid])) ;;
         esac
     done

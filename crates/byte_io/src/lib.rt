@@ -13,7 +13,7 @@ pub use standard::{StdSink, StdSource};
 use thiserror::Error;
 pub use traits::{Sink, Source};
 pub use whole::{ReadAllError, read_all};
-pub use written::write_all;
+pub use written::{say, write_all};
 
 /// A read or a write failed. The count of faults of its source or sink tells that it did.
 #[derive(Clone, Copy, Debug, PartialEq, Eq, Error)]

@@ -1,7 +1,8 @@
 -- How the program ends, and what each end says of the input.
-use Rattle.std.specs.Prelude.{◌≡◌, ℕ, ◌+◌, ◌≤◌, ◌<◌, List, length, min, Option, Result, Ok, Err}
+use Rattle.std.specs.Prelude.{◌≡◌, ℕ, ◌+◌, ◌≤◌, ◌<◌, Bool, true, false, List, [], ◌∷◌, ◌++◌, length, codes, min, Option, Result, Ok, Err}
+use Rattle.std.specs.Fmt.{decimal}
 use Rattle.std.specs.Io.KnownBytes.{Appends}
-use Rattle.byte_io.specs.Causes.{AppendsFront}
+use Rattle.byte_io.specs.Causes.{AppendsFront, Says}
 use Rattle.node_journals.specs.declared.entries.Journal.{Journal}
 use Rattle.journal_text.specs.declared.faults.TextError.TheVariants as errors
 use Rattle.journal_text.specs.Journals.{journal_of}
@@ -71,3 +72,28 @@ abbrev pub Writes : End → Type 0
 Writes end.Done = Unit {0}
 Writes end.WriteFault = Unit {0}
 Writes _ = ⊥
+
+-- the input isn't too long, and what stands in it from its first journal line on is a journal
+abbrev pub HasJournal : List ℕ → Type 0
+HasJournal bytes = (length bytes ≤ 67108864) × OfParts bytes (λ front rest. (j : Journal) × (journal_of rest ≡ Ok j))
+
+-- what is said on the error output
+unfoldable pub message : End → List ℕ
+message end.Done = []
+message end.Usage = codes "usage: mtapi picture" ++ 10 ∷ []
+message end.TooLong = codes "mtapi: input too long" ++ 10 ∷ []
+message (end.BadLine line) = codes "mtapi: journal line " ++ (decimal line ++ 10 ∷ [])
+message end.CutShort = codes "mtapi: journal cut short" ++ 10 ∷ []
+message end.ReadFault = codes "mtapi: read fault" ++ 10 ∷ []
+message end.WriteFault = codes "mtapi: write fault" ++ 10 ∷ []
+message end.Memory = codes "mtapi: out of memory" ++ 10 ∷ []
+
+-- the message names a line
+abbrev pub has_line : End → Bool
+has_line (end.BadLine line) = true
+has_line _ = false
+
+-- the end is told by its status, and by its message on the error output
+pub record IsTold (e : End) (before now : ℕ) (old new : Option (List ℕ)) (status : ℕ) : Type 0 where
+  pub answered : status ≡ status_of e
+  pub said : Says before now old new (message e)

@@ -1,10 +1,10 @@
 //! What the program does, over any source and sinks.
-ghost use Rattle.std.specs.Prelude.{◌≡◌, ◌⊎◌, ◌≤◌, length, IfOk, IfErr, IfSome, string_bytes};
+ghost use Rattle.std.specs.Prelude.{◌≡◌, ◌⊎◌, ◌≤◌, true, false, length, IfOk, IfErr, IfSome, string_bytes};
 ghost use Rattle.byte_io.specs.Causes.{Rose};
-ghost use Rattle.mtapi_picture.specs.Ends.{RestGives, RestFails, IsDrawing, HasDrawing, Draws, Writes, status_of};
+ghost use Rattle.mtapi_picture.specs.Ends.{RestGives, RestFails, IsDrawing, HasDrawing, HasJournal, Draws, Writes, IsTold, status_of, message, has_line};
 ghost use Rattle.mtapi_picture.specs.declared.command.End.TheVariants as end;
 
-use byte_io::{ReadAllError, Sink, Source, read_all, write_all};
+use byte_io::{ReadAllError, Sink, Source, read_all, say, write_all};
 use journal_text::{InputPart, JournalError, parts_of, read_journal};
 use node_journals::Journal;
 use run_picture::{picture_of, svg_of};
@@ -76,11 +76,14 @@ fn picture_in(alloc: Global, rest: &[u8]) -> Result<String, End>
 }
 
 /// Reads a journal, and writes the picture of its run.
+#[tactic(auto, using(crate::proofs::Complete::completes))]
 pub fn draw<S: Source, W: Sink>(alloc: Global, src: &mut S, out: &mut W) -> End
     ensures drawn { IfSome (S.left src.old) (λ bytes. Draws (W.held out.old) (W.held out.new) bytes result) }
     ensures silent { Writes result ⊎ ((W.held out.new ≡ W.held out.old) × (W.faults out.new ≡ W.faults out.old)) }
     ensures read { result ≡ end.ReadFault → Rose (S.faults src.old) (S.faults src.new) }
     ensures written { result ≡ end.WriteFault → Rose (W.faults out.old) (W.faults out.new) }
+    ensures complete { (Rose (S.faults src.old) (S.faults src.new) → ⊥) → (Rose (W.faults out.old) (W.faults out.new) → ⊥)
+        → IfSome (S.left src.old) (λ bytes. HasJournal bytes → (result ≡ end.Done) ⊎ (result ≡ end.Memory)) }
 {
     let bytes = match read_all(alloc, src, 67_108_864) {
         Ok(bytes) => bytes,
@@ -113,36 +116,48 @@ fn status_of(end: End) -> u8
 }
 
 /// The message of an end that names no line.
-fn plain_text(end: End) -> &'static str {
+#[tactic(auto, unfolding(crate::specs::Ends::message))]
+fn plain_text(end: End) -> &'static [u8]
+    requires { has_line end ≡ false }
+    ensures { result.now ≡ message end }
+{
     match end {
-        End::Done | End::BadLine(_) => "",
-        End::Usage => "usage: mtapi picture\n",
-        End::TooLong => "mtapi: input too long\n",
-        End::CutShort => "mtapi: journal cut short\n",
-        End::ReadFault => "mtapi: read fault\n",
-        End::WriteFault => "mtapi: write fault\n",
-        End::Memory => "mtapi: out of memory\n",
+        End::Done | End::BadLine(_) => b"",
+        End::Usage => b"usage: mtapi picture\n",
+        End::TooLong => b"mtapi: input too long\n",
+        End::CutShort => b"mtapi: journal cut short\n",
+        End::ReadFault => b"mtapi: read fault\n",
+        End::WriteFault => b"mtapi: write fault\n",
+        End::Memory => b"mtapi: out of memory\n",
     }
 }
 
-/// Says on `err` how it ended, and answers the status: 6 where there is no memory for the text. A fault of `err` changes nothing else.
-pub fn tell<E: Sink>(alloc: Global, end: End, err: &mut E) -> u8
-    ensures { (result ≡ status_of end) ⊎ (result ≡ 6) }
+/// The message for a line of a journal that is outside the grammar.
+#[tactic(auto, unfolding(crate::specs::Ends::message))]
+fn line_text(alloc: Global, line: u64) -> Result<String, AllocError>
+    ensures { IfOk result (λ text. string_bytes text ≡ message (end.BadLine line)) }
 {
-    match end {
-        End::BadLine(line) => match format!(in alloc; "mtapi: journal line {line}\n") {
+    format!(in alloc; "mtapi: journal line {line}\n")
+}
+
+/// Says on `err` how it ended, and answers the status. Where there is no memory for a message that names a line, that is said instead, and
+/// the status is 6. A fault of `err` changes nothing else.
+pub fn tell<E: Sink>(alloc: Global, end: End, err: &mut E) -> u8
+    ensures told { IsTold end (E.faults err.old) (E.faults err.new) (E.held err.old) (E.held err.new) result
+        ⊎ ((has_line end ≡ true) × IsTold end.Memory (E.faults err.old) (E.faults err.new) (E.held err.old) (E.held err.new) result) }
+{
+    if let End::BadLine(line) = end {
+        return match line_text(alloc, line) {
             Ok(text) => {
-                let _ = write_all(err, text.as_bytes());
+                say(err, text.as_bytes());
                 status_of(end)
             }
             Err(_) => {
-                let _ = write_all(err, plain_text(End::Memory).as_bytes());
+                say(err, plain_text(End::Memory));
                 status_of(End::Memory)
             }
-        },
-        _ => {
-            let _ = write_all(err, plain_text(end).as_bytes());
-            status_of(end)
-        }
+        };
     }
+    say(err, plain_text(end));
+    status_of(end)
 }

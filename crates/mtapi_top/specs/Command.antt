@@ -2,7 +2,7 @@
 use Rattle.std.specs.Prelude.{◌≡◌, ◌⊎◌, ℕ, ◌≤◌, ◌<◌, ◌^◌, List, [], ◌∷◌, ◌++◌, length, codes, Bool, true, false, Option, Some, None, IfSome, is_some, Ok, Err}
 use Rattle.std.specs.Fmt.{decimal}
 use Rattle.std.specs.Io.KnownBytes.{Appends}
-use Rattle.byte_io.specs.Causes.{Rose, AppendsFront}
+use Rattle.byte_io.specs.Causes.{Rose, AppendsFront, Says}
 use Rattle.workload_file.specs.declared.workload.Workload.{Workload}
 use Rattle.workload_file.specs.declared.faults.Fault.{Fault}
 use Rattle.workload_file.specs.declared.faults.LoadError.{LoadError}
@@ -63,12 +63,6 @@ Ends words bytes a b (end.VerdictFault v) = ⊥
 Ends words bytes a b end.InputTooLong = ⊥
 Ends words bytes a b (end.JournalLine line) = ⊥
 Ends words bytes a b end.JournalCut = ⊥
-
--- a text was written, or a prefix of it where writing failed
-pub record Says (before now : ℕ) (old new : Option (List ℕ)) (text : List ℕ) : Type 0 where
-  pub later : before ≤ now
-  pub prefix : AppendsFront old new text
-  pub whole : (Rose before now → ⊥) → Appends old new text
 
 -- the status for a verdict
 abbrev pub verdict_status : Verdict → ℕ

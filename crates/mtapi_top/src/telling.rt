@@ -1,14 +1,15 @@
 //! What the command says of its end.
 ghost use Rattle.std.specs.Prelude.{◌≡◌, ◌⊎◌, true, false, Some, None, IfOk, string_bytes};
-ghost use Rattle.mtapi_top.specs.Command.{Says, verdict_status, status_of, journal_of, spent_of, message, has_line, IsTold};
+ghost use Rattle.mtapi_top.specs.Command.{verdict_status, status_of, journal_of, spent_of, message, has_line, IsTold};
 ghost use Rattle.mtapi_top.specs.declared.ends.End.{End};
 
 use crate::ends::{End, Outcome};
+use byte_io::{Sink, say};
 use journal_check::Verdict;
 use node_core::RunJournal;
 use number_text::decimal_text;
 use std::alloc::{AllocError, Global};
-use workload_file::{Cause, Sink, write_all};
+use workload_file::Cause;
 
 /// The message for a faulty line.
 #[tactic(auto, unfolding(crate::specs::Command::message))]
@@ -26,13 +27,6 @@ fn journal_fault_text(alloc: Global, line: u64) -> Result<String, AllocError>
     ensures { IfOk result (λ text. string_bytes text ≡ message (End.JournalLine line)) }
 {
     format!(in alloc; "mtapi: journal line {line}\n")
-}
-
-/// Writes a text. A fault of the sink changes nothing else.
-fn say<E: Sink>(err: &mut E, text: &[u8])
-    ensures { Says (E.faults err.old) (E.faults err.new) (E.held err.old) (E.held err.new) text.now }
-{
-    let _ = write_all(err, text);
 }
 
 /// The message of an end that names no line.
