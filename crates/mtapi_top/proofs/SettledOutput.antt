@@ -12,6 +12,9 @@ use Rattle.mtapi_machine.specs.Legal.{Legal}
 use Rattle.node_journals.specs.declared.entries.Journal.{Journal}
 use Rattle.journal_text.specs.Journals.{journal_text}
 use Rattle.mtapi_machine.specs.State.{terms_with}
+use Rattle.mtapi_machine.specs.declared.terms.Terms.{Terms}
+use Rattle.run_report.specs.Report.{report}
+use Rattle.journal_check.specs.Verdicts.{IsLegal, IsRun as IsRunOf}
 use Rattle.settled_runs.specs.Plain.{plain_report}
 use Rattle.settled_runs.specs.PlainSummary.{plain_summary}
 use Rattle.settled_runs.specs.RunGranted.{SettledRun}
@@ -40,6 +43,17 @@ settled_run load j f r e = record {
   same = r.beside;
   run = r.run;
 }
+
+-- the report of a journal that is judged to be a run of a settled workload
+pub settled_report : (load : Workload) (j : Journal) → WellFormed load → length j.entries.skipped ≡ length j.entries.entries → IsLegal j → IsRunOf load j → is_settled load ≡ true
+    → report j.layout load j.entries.entries ≡ plain_report load
+settled_report load j f b l r s = settled_reports_are_plain j.layout load j.entries.entries j.entries.skipped (record {
+  settled = s;
+  formed = f;
+  legal = subst (λ (t : Terms). Legal t j.entries.entries) (λ i. terms_with j.layout (r.settings i) (r.callers i)) l;
+  same = sym b;
+  run = r.run;
+})
 
 -- the summary of generated tasks names no workers
 one_summary : (n w : ℕ) → plain_summary (generated n w) ≡ generated_summary n

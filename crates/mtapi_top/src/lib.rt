@@ -8,13 +8,14 @@ mod ends;
 mod input;
 pub mod laws;
 mod pieces;
+mod report;
 mod telling;
 mod words;
 
 pub use carry::command;
 pub use ends::{End, Outcome};
 pub use generated_workload::generated;
-pub use run_report::report_of;
+pub use report::report_of;
 pub use sched_workers::{Beside, FewThreads, Threads, run_node};
 pub use telling::tell;
 pub use words::Asked;
