@@ -6,7 +6,8 @@ pub enum Verdict {
     /// A legal history of the one-thread machine, with the workload's settings and callers, and a run of it.
     Yes,
     /// No legal history by its own layout, settings and callers: this is the least number, from 1,
-    /// such that so many first entries aren't legal.
+    /// such that so many first entries aren't legal. With no caller or more than nine it is 1, even
+    /// of an empty journal, as no node has such terms.
     Illegal {
         /// The number of the entry.
         entry: u64,

@@ -8,6 +8,7 @@ pub mod node;
 pub mod run_journals;
 mod worked;
 
+pub use history::Object;
 pub use journaled::{Journaled, JournaledTerms};
 pub use mtapi_machine::{Entry, Op, Phase, Reply, Terms};
 pub use node::Node;

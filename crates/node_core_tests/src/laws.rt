@@ -1,86 +1,41 @@
-//! The laws of a list, called on a journal that a node kept.
+//! All laws of one list.
 
-mod asked;
-mod each_law;
+ghost use Rattle.node_core_tests.specs.Journals.{IsLegal};
 
-use crate::laws::asked::Asked;
-use crate::laws::each_law::each_law;
-use crate::tests::asking::TASK;
-use action_fn::{Finished, act_add};
-use mtapi_machine::{Op, Reply};
-use mtapi_values::{Args, Kind, Mask, NodeAttr, SemHandle, TaskHandle};
-use std::test::Fail;
+use crate::tests::asking::{GROUP, QUEUE, SHMEM, TASK};
+use history_law::{
+    law_affinity, law_drop, law_end_after_close, law_end_has_its_cause, law_exclusion,
+    law_group_order, law_kind, law_no_reuse, law_one_end, law_ordered, law_tally,
+};
+use mtapi_values::{GroupHandle, ObjectKind, QueueHandle, ShmemHandle, TaskHandle};
+use node_core::Journal;
 
-// Two numbers to add.
-fn two_and_three() -> Args {
-    let mut args = Args::new();
-    let _ = args.push(2);
-    let _ = args.push(3);
-    args
-}
-
-// The first task, which adds two numbers, is started, taken, ended and looked at.
-fn one_task(node: &mut Asked) -> Option<()> {
-    let task = TaskHandle(TASK);
-    node.ask(
-        1,
-        Op::ActionCreate {
-            job: 1,
-            kind: Kind::Add,
-            cores: Mask(1),
-        },
-    )?;
-    node.ask(
-        1,
-        Op::TaskStart {
-            job: 1,
-            args: two_and_three(),
-            priority: 0,
-            cores: Mask(1),
-            detached: false,
-            group: None,
-        },
-    )?;
-    node.ask(0, Op::Pick)?;
-    let args = two_and_three();
-    let end = act_add(&args);
-    let done = Finished::new(Kind::Add, args, end);
-    node.ask(0, Op::Finish { task, done })?;
-    node.ask(1, Op::TaskLook { task, last: false })?;
-    Some(())
-}
-
-// A semaphore is made, got and given back.
-fn one_semaphore(node: &mut Asked) -> Option<()> {
-    let Reply::Handle(handle) = node.ask(1, Op::SemCreate { id: 1, limit: 1 })? else {
-        return None;
-    };
-    let sem = SemHandle(handle);
-    node.ask(2, Op::SemLook { sem, last: false })?;
-    node.ask(2, Op::SemUnlock { sem })?;
-    Some(())
-}
-
-// The node opens, does this, and ends. The last reply.
-fn whole_life(node: &mut Asked) -> Option<Reply> {
-    node.ask(1, Op::Initialize)?;
-    node.ask(1, Op::Release)?;
-    one_task(node)?;
-    one_semaphore(node)?;
-    node.ask(1, Op::Close)?;
-    node.ask(0, Op::Pick)?;
-    node.ask(1, Op::Final)
-}
-
-#[test]
-fn laws_of_what_a_node_made(rt: HostRuntime) -> Result<(), Fail> {
-    let mut node = Asked::new(rt.alloc(), NodeAttr::new())?;
-    let last = whole_life(&mut node);
-    assert!(rt; matches!(last, Some(Reply::Ok)));
-    let journal = node.into_journal().ok_or("no journal")?;
-    let entries = journal.entries.as_slice();
-    assert_eq!(rt; entries.len(), 13);
+/// Each law of the entries of a journal: of the first object of its kind, and of the entry at place 4.
+pub(crate) fn each_law(journal: &Journal)
+    requires { IsLegal journal.now }
+{
+    let layout = journal.layout;
     let settings = &journal.settings;
-    each_law(journal.layout, settings, journal.callers, entries, TASK, 4);
-    Ok(())
+    let callers = journal.callers;
+    let entries = journal.entries.as_slice();
+    let task = TaskHandle(TASK);
+    law_one_end(layout, settings, callers, entries, task);
+    law_end_after_close(layout, settings, callers, entries, task);
+    law_end_has_its_cause(layout, settings, callers, entries, task);
+    law_ordered(layout, settings, callers, entries, QueueHandle(QUEUE));
+    law_affinity(layout, settings, callers, entries, 4);
+    law_no_reuse(layout, settings, callers, entries, ObjectKind::Shmem, SHMEM);
+    law_group_order(layout, settings, callers, entries, GroupHandle(GROUP));
+    law_exclusion(layout, settings, callers, entries);
+    law_drop(layout, settings, callers, entries);
+    law_kind(
+        layout,
+        settings,
+        callers,
+        entries,
+        ObjectKind::Action,
+        ObjectKind::Task,
+        TASK,
+    );
+    law_tally(layout, settings, callers, entries, ShmemHandle(SHMEM), 0);
 }

@@ -1,4 +1,4 @@
-//! Two tasks in one slot, one after the other.
+//! Tasks in one slot, one after the other.
 
 ghost use Rattle.std.specs.Prelude.{◌≡◌, [], ◌∷◌, IfOk, IfSome, replicate};
 ghost use Rattle.turn_cell.specs.Seats.{fresh_seat as fresh_cell_seat, fresh_seats};
@@ -159,6 +159,15 @@ fn look<R: Wait>(rt: &R, caller: &mut Peeker, task: TaskHandle) -> Option<TaskEn
     }
 }
 
+// A task that was started and then cancelled, before a worker took it.
+fn cancelled<R: Wait>(rt: &R, caller: &mut Peeker) -> TaskHandle
+    ensures { SamePeeker caller.old caller.new }
+{
+    let task = TaskHandle(made(rt, caller, start()));
+    let _ = caller.call(rt, Op::TaskCancel { task });
+    task
+}
+
 // What a peek shows before the end of the task is posted, and what it shows behind.
 fn before_and_after<R: Wait>(rt: &R, caller: &mut Peeker, task: TaskHandle) -> Option<(Peek, Peek)>
     ensures same { SamePeeker caller.old caller.new }
@@ -173,7 +182,7 @@ fn before_and_after<R: Wait>(rt: &R, caller: &mut Peeker, task: TaskHandle) -> O
 }
 
 #[test]
-fn two_tasks_in_one_slot(rt: HostRuntime) -> Result<(), Fail> {
+fn tasks_in_one_slot(rt: HostRuntime) -> Result<(), Fail> {
     let alloc = rt.alloc();
     let Ok(settings) = settings() else {
         return Err(Fail::from("the settings were refused"));
@@ -203,6 +212,11 @@ fn two_tasks_in_one_slot(rt: HostRuntime) -> Result<(), Fail> {
     assert_eq!(rt;
         (worker.peek(first), worker.peek(second)),
         (Peek::Gone, ended)
+    );
+    let third = cancelled(&rt, &mut caller);
+    assert_eq!(rt;
+        before_and_after(&rt, &mut caller, third),
+        Some((Peek::NotYet, Peek::Ended(EndClass::Cancelled)))
     );
     let group = TaskHandle(made(&rt, &mut caller, Op::GroupCreate));
     assert_eq!(rt; (group.0 != 0, caller.peek(group)), (true, Peek::Foreign));

@@ -26,10 +26,10 @@ fn one_slot_of_two_generations(rt: HostRuntime) -> Result<(), Fail> {
 
 #[test]
 fn a_used_place_has_another_handle(rt: HostRuntime) -> Result<(), Fail> {
-    let mut pool = Pool::new(rt.alloc(), 3, 2)?;
+    let mut pool = Pool::new(rt.alloc(), 2, 2)?;
     assert!(rt; pool.insert(1).is_ok() == true);
     let second = pool.insert(2).ok().ok_or("full")?;
-    assert!(rt; pool.insert(3).is_ok() == true);
+    assert!(rt; pool.insert(3) == Err(3) && pool.live() == 2 && pool.retired() == 0);
     assert!(rt; pool.remove(second) == Some(2));
     assert!(rt; pool.insert(4).ok().map(u128::from) == Some(u128::from(second) + u128::from(SPAN)));
     assert!(rt; pool.get(second).copied() == None);

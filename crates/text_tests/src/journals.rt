@@ -25,6 +25,14 @@ fn is_again(alloc: Global, text: &str) -> Result<bool, AllocError> {
     }
 }
 
+/// How many entries a text has, 0 where it is refused.
+fn entries_in(alloc: Global, text: &str) -> Result<usize, AllocError> {
+    match read_journal(alloc, &mut source(alloc, text)?) {
+        Ok(journal) => Ok(journal.entries.as_slice().len()),
+        Err(_) => Ok(0),
+    }
+}
+
 /// The line at which a text is refused, 0 where it only ends without a line feed, and 999 where it is read.
 fn refused(alloc: Global, text: &str) -> Result<u64, AllocError> {
     match read_journal(alloc, &mut source(alloc, text)?) {
@@ -47,6 +55,7 @@ fn the_empty_workload(rt: HostRuntime) -> Result<(), Fail> {
         assert!(rt; is_again(alloc, text)?);
         let twice = format!(in alloc; "{text}c0 final -> ok\n")?;
         assert!(rt; is_again(alloc, &twice)?);
+        assert!(rt; entries_in(alloc, &twice)? == 6);
     }
     Ok(())
 }

@@ -1,6 +1,7 @@
 //! How the tests ask a node: rows of a seat, what it asks, and the reply.
 
-ghost use Rattle.std.specs.Prelude.{◌≡◌, ◌≤◌, true};
+ghost use Rattle.std.specs.Prelude.{IfSome};
+ghost use Rattle.node_core_tests.specs.Journals.{IsLegal};
 
 use action_fn::{Finished, act_add, act_echo};
 use history::Object;
@@ -9,8 +10,7 @@ use mtapi_values::{
     ActionHandle, Args, GroupHandle, Kind, Mask, MrapiStatus, MtapiStatus, MutexHandle, NodeAttr,
     QueueHandle, RwlHandle, SemHandle, ShmemHandle, TaskEnd, TaskHandle,
 };
-use node_core::journaled::Journaled;
-use node_core::node::Node;
+use node_core::{Journal, Journaled, Node};
 use std::alloc::Global;
 use std::marker::Model;
 use std::test::Fail;
@@ -369,7 +369,7 @@ pub(crate) const SMALL: Size = Size {
 /// A node with a journal, and a bound on how often it was asked.
 #[derive(Drop)]
 pub(crate) struct Called {
-    pub(crate) node: Journaled,
+    node: Journaled,
     calls: u64,
 }
 
@@ -443,9 +443,14 @@ impl Called {
         }
         None
     }
-}
 
-/// The first row, on a new node of this size, that is answered otherwise.
-pub(crate) fn first_other(alloc: Global, size: Size, rows: &[Row]) -> Result<Option<usize>, Fail> {
-    Ok(Called::new(alloc, size)?.first_other(rows))
+    /// Gives the journal, which is a legal history. None where it was lost for lack of memory.
+    pub(crate) fn into_journal(self) -> Option<Journal>
+        ensures { IfSome result IsLegal }
+    {
+        match self.node.into_journal() {
+            Ok(journal) => journal,
+            Err(_) => None,
+        }
+    }
 }

@@ -30,7 +30,7 @@ fn looks_until_the_last(rt: HostRuntime) -> Result<(), Fail> {
         (1, Look(TASK, false), Cancelled),
     ];
     assert_eq!(rt; node.first_other(&rows), None);
-    let journal = node.node.into_journal()?.ok_or("no journal")?;
+    let journal = node.into_journal().ok_or("no journal")?;
     assert_eq!(rt;
         journal.entries.skipped(),
         [0, 0, 0, 0, 0, 0, 2, 0, 0].as_slice()
@@ -48,7 +48,7 @@ fn many_calls_are_kept(rt: HostRuntime) -> Result<(), Fail> {
     for job in 0..MANY {
         assert!(rt; matches!(called.call(1, Op::JobGet { job }), Some(Reply::Mtapi(_))));
     }
-    let journal = called.node.into_journal()?.ok_or("no journal")?;
+    let journal = called.into_journal().ok_or("no journal")?;
     assert_eq!(rt; journal.entries.as_slice().len(), 70_000);
     let mut next = 0u32;
     for entry in journal.entries.as_slice() {
