@@ -83,7 +83,8 @@ impl Source for MemSource {
         ensures count { self.new.faults ≡ faults_after self.old.faults result }
         ensures exact { result ≡ (if names_call self.old.fails (one_more self.old.calls) then Err failed
             else Ok (min (min (length buf.old) self.old.most) (length self.old.left))) }
-        ensures stays { (self.new.most ≡ self.old.most) × (self.new.fails ≡ self.old.fails) × (self.new.calls ≡ one_more self.old.calls) }
+        ensures stays { (self.new.most ≡ self.old.most) × (self.new.fails ≡ self.old.fails)
+            × (self.new.calls ≡ one_more self.old.calls) }
     {
         self.calls = self.calls.saturating_add(1);
         if is_named(&self.fails, self.calls) {
@@ -127,7 +128,8 @@ impl MemSink {
     /// - `AllocError`: there is no memory for the room.
     pub fn new(alloc: Global, room: usize, most: usize, fails: Vec<u64>) -> Result<Self, AllocError>
         requires { 0 < most }
-        ensures { IfOk result (λ s. s ≡ record { bytes = []; room = room; most = most; fails = fails.items; calls = 0; faults = 0 }) }
+        ensures { IfOk result (λ s.
+            s ≡ record { bytes = []; room = room; most = most; fails = fails.items; calls = 0; faults = 0 }) }
     {
         Ok(MemSink {
             bytes: Vec::with_capacity(alloc, room)?,
@@ -162,7 +164,8 @@ impl Sink for MemSink {
         ensures exact { result ≡ (if names_call self.old.fails (one_more self.old.calls)
             || (nat_lt 0 (length piece.now) && nat_le self.old.room (length self.old.bytes)) then Err failed
             else Ok (min (min (length piece.now) self.old.most) (self.old.room - length self.old.bytes))) }
-        ensures stays { (self.new.room ≡ self.old.room) × (self.new.most ≡ self.old.most) × (self.new.fails ≡ self.old.fails) × (self.new.calls ≡ one_more self.old.calls) }
+        ensures stays { (self.new.room ≡ self.old.room) × (self.new.most ≡ self.old.most)
+            × (self.new.fails ≡ self.old.fails) × (self.new.calls ≡ one_more self.old.calls) }
     {
         self.calls = self.calls.saturating_add(1);
         let full = !piece.is_empty() && self.room <= self.bytes.len();

@@ -72,7 +72,8 @@ impl<X> Row<X> {
     // Writes one item more at the end.
     pub(crate) fn push(&mut self, place: usize, item: X)
         requires { (place ≡ length self.old.items) × (place < self.old.room) }
-        ensures { (self.new.items ≡ self.old.items ++ item ∷ []) × (self.new.room ≡ self.old.room) × (self.new.at ≡ self.old.at) }
+        ensures { (self.new.items ≡ self.old.items ++ item ∷ []) × (self.new.room ≡ self.old.room)
+            × (self.new.at ≡ self.old.at) }
     {
         let at = self.at;
         unsafe { at.add(place).write(item) }

@@ -42,7 +42,8 @@ pub trait Object: Drop {
         requires seat { who < seat_count (terms self.old) }
         requires room { (l : List (Entry Self.Op Self.Reply)) × stands self.old l × (length l < 2 ^ 62) }
         ensures terms { terms self.new ≡ terms self.old }
-        ensures stands { (l : List (Entry Self.Op Self.Reply)) → stands self.old l → stands self.new (l ++ entry who op result ∷ []) };
+        ensures stands { (l : List (Entry Self.Op Self.Reply)) → stands self.old l
+            → stands self.new (l ++ entry who op result ∷ []) };
 
     // Every prefix of a legal list is legal.
     ghost prefix_legal: { (t : Self.Terms) (l more : List (Entry Self.Op Self.Reply)) → legal t (l ++ more) → legal t l };

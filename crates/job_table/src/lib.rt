@@ -210,8 +210,10 @@ impl Actions {
     /// the handle names no such action.
     pub fn kind_for(&self, a: ActionHandle, job: u32, worker: u32) -> Option<Kind>
         requires { worker < 64 }
-        ensures some { IfSome result (λ kind. (x : Action) × (slot_value self.now a.0 ≡ Some x) × (x.kind ≡ kind) × (runs_job_on job worker x ≡ true)) }
-        ensures none { IfNone result ((x : Action) → slot_value self.now a.0 ≡ Some x → runs_job_on job worker x ≡ true → ⊥) }
+        ensures some { IfSome result (λ kind. (x : Action) × (slot_value self.now a.0 ≡ Some x) × (x.kind ≡ kind)
+            × (runs_job_on job worker x ≡ true)) }
+        ensures none { IfNone result ((x : Action) → slot_value self.now a.0 ≡ Some x → runs_job_on job worker x ≡ true
+            → ⊥) }
     {
         runs_at(&self.pool, job, worker, a.0)
     }
@@ -238,7 +240,8 @@ fn set_enabled_in(
 // The cover of the actions before a handle of the list, with the action of this handle.
 fn cover_at(pool: &Pool<StoredAction>, cover: Cover, job: u32, handle: u64) -> Cover
     requires { IsSome (slot_value pool.now handle) }
-    ensures { (hs : List ℕ) (index : ℕ) → slice_get hs index ≡ Some handle → CoversBefore pool.now hs index job cover → CoversBefore pool.now hs (index + 1) job result }
+    ensures { (hs : List ℕ) (index : ℕ) → slice_get hs index ≡ Some handle → CoversBefore pool.now hs index job cover
+        → CoversBefore pool.now hs (index + 1) job result }
 {
     match pool.get(handle) {
         Some(action) if action.has_job(job) => cover.with(action),
@@ -249,8 +252,10 @@ fn cover_at(pool: &Pool<StoredAction>, cover: Cover, job: u32, handle: u64) -> C
 // The kind of the live action of this handle, if it is enabled, has this job, and its mask has the worker.
 fn runs_at(pool: &Pool<StoredAction>, job: u32, worker: u32, handle: u64) -> Option<Kind>
     requires { worker < 64 }
-    ensures some { IfSome result (λ kind. (a : Action) × (slot_value pool.now handle ≡ Some a) × (a.kind ≡ kind) × (runs_job_on job worker a ≡ true)) }
-    ensures none { IfNone result ((a : Action) → slot_value pool.now handle ≡ Some a → runs_job_on job worker a ≡ true → ⊥) }
+    ensures some { IfSome result (λ kind. (a : Action) × (slot_value pool.now handle ≡ Some a) × (a.kind ≡ kind)
+        × (runs_job_on job worker a ≡ true)) }
+    ensures none { IfNone result ((a : Action) → slot_value pool.now handle ≡ Some a → runs_job_on job worker a ≡ true
+        → ⊥) }
 {
     match pool.get(handle) {
         Some(action) if action.runs_job_on(job, worker) => Some(action.kind()),

@@ -86,7 +86,8 @@ fn answer(node: &mut Node, who: u32, op: Op, wanted: &Reply) -> Reply
     requires room { (L : List NodeEntry) × Stands node.old L × (length L < 4294967295) }
     ensures terms { terms_of node.new ≡ terms_of node.old }
     ensures stands { (L : List NodeEntry) → Stands node.old L → Stands node.new (L ++ entry who op result ∷ []) }
-    ensures toward { (L : List NodeEntry) → Stands node.old L → takes_task op wanted.now ≡ true → Allows (row (after (terms_of node.old) L) who op wanted.now) wanted.now → result ≡ wanted.now }
+    ensures toward { (L : List NodeEntry) → Stands node.old L → takes_task op wanted.now ≡ true
+        → Allows (row (after (terms_of node.old) L) who op wanted.now) wanted.now → result ≡ wanted.now }
 {
     match (&op, wanted) {
         (Op::Pick, Reply::Picked { task, action, .. }) => node.pick_toward(who, *task, *action),
@@ -170,8 +171,10 @@ impl Following {
         requires seat { entry.now.who < seat_count (terms_of self.old.node) }
         requires makes { made_kind entry.now.op ≡ Some kind }
         requires room { (L : List NodeEntry) × HasFollowed self.old L × (length L < 4294967295) }
-        requires accepted { (L : List NodeEntry) → HasFollowed self.old L → refusal_of (after self.old.terms L) entry.now.who entry.now.op ≡ None }
-        requires more { (L : List NodeEntry) → HasFollowed self.old L → is_full_of kind (after self.old.terms L) ≡ false }
+        requires accepted { (L : List NodeEntry) → HasFollowed self.old L
+            → refusal_of (after self.old.terms L) entry.now.who entry.now.op ≡ None }
+        requires more { (L : List NodeEntry) → HasFollowed self.old L
+            → is_full_of kind (after self.old.terms L) ≡ false }
         ensures { IfOk result (λ passes. Judges self.old entry.now passes self.new) }
     {
         laws();
@@ -196,7 +199,8 @@ impl Following {
         requires seat { entry.now.who < seat_count (terms_of self.old.node) }
         requires makes { made_kind entry.now.op ≡ Some kind }
         requires room { (L : List NodeEntry) × HasFollowed self.old L × (length L < 4294967295) }
-        requires accepted { (L : List NodeEntry) → HasFollowed self.old L → refusal_of (after self.old.terms L) entry.now.who entry.now.op ≡ None }
+        requires accepted { (L : List NodeEntry) → HasFollowed self.old L
+            → refusal_of (after self.old.terms L) entry.now.who entry.now.op ≡ None }
         ensures { IfOk result (λ passes. Judges self.old entry.now passes self.new) }
     {
         laws();

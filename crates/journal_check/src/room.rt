@@ -64,7 +64,8 @@ fn names_kind(layout: Layout, kind: ObjectKind, handle: u64) -> bool
 // How many of these handles of the journal don't name a live object of a kind any more.
 fn gone_of(node: &Node, names: &OtherHandles, kind: ObjectKind, handles: &[u64]) -> u64
     ensures few { result ≤ length handles.now }
-    ensures told { (terms : Terms) (s : State) (count : ℕ) → Mirrors node.now (renaming_of names.now) terms s count → Follows (renaming_of names.now) s → gone_of kind s handles.now ≡ result }
+    ensures told { (terms : Terms) (s : State) (count : ℕ) → Mirrors node.now (renaming_of names.now) terms s count
+        → Follows (renaming_of names.now) s → gone_of kind s handles.now ≡ result }
 {
     laws();
     let mut gone = 0;
@@ -81,7 +82,8 @@ impl Following {
     /// the kind doesn't tell it, this walks over the handles of the last generation, and keeps what it finds.
     pub(crate) fn is_full(&mut self, kind: ObjectKind) -> bool
         requires followed { (L : List NodeEntry) × HasFollowed self.old L × (length L < 4294967295) }
-        ensures full { (L : List NodeEntry) → HasFollowed self.old L → is_full_of kind (after self.old.terms L) ≡ result }
+        ensures full { (L : List NodeEntry) → HasFollowed self.old L
+            → is_full_of kind (after self.old.terms L) ≡ result }
         ensures same { Same self.old self.new }
     {
         laws();
@@ -110,7 +112,8 @@ impl Following {
 
     /// Whether a handle of the journal names a live object of a kind.
     pub(crate) fn is_live(&self, kind: ObjectKind, handle: u64) -> bool
-        ensures { (L : List NodeEntry) → HasFollowed self.now L → is_live_of kind (after self.now.terms L) handle ≡ result }
+        ensures { (L : List NodeEntry) → HasFollowed self.now L
+            → is_live_of kind (after self.now.terms L) handle ≡ result }
     {
         laws();
         self.node.is_live(kind, self.names.other(kind, handle))
@@ -118,7 +121,8 @@ impl Following {
 
     /// Whether a handle may be given to a new object of a kind under the journal's settings.
     pub(crate) fn is_next(&self, kind: ObjectKind, handle: u64) -> bool
-        ensures { (L : List NodeEntry) → HasFollowed self.now L → is_next_of kind (after self.now.terms L) handle ≡ result }
+        ensures { (L : List NodeEntry) → HasFollowed self.now L
+            → is_next_of kind (after self.now.terms L) handle ≡ result }
     {
         laws();
         let generation = generation_of(handle);

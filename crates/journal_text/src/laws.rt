@@ -18,7 +18,8 @@ pub fn law_written()
 
 /// Each line that can be written is read as its entry, and the number beside it.
 pub fn law_lines()
-    ensures { (head : Head) (e : NodeEntry) (n : ℕ) → HeadFits head → EntryFits head e n → entry_of head (entry_text head e n) ≡ Some (e, n) }
+    ensures { (head : Head) (e : NodeEntry) (n : ℕ) → HeadFits head → EntryFits head e n
+        → entry_of head (entry_text head e n) ≡ Some (e, n) }
 {}
 
 /// The word and the values by which an op or a reply is written give the same one back.

@@ -327,7 +327,10 @@ pub fn values_onto<'a>(
     shapes: &[Shape],
     left: Option<&'a [u8]>,
 ) -> Result<(Vec<Value>, Option<&'a [u8]>), LineError>
-    ensures { Gives (λ x. (x.0.items, pieces_of 32 x.1)) result (values_onto prefix.items shapes.now (pieces_of 32 left.entry)) }
+    ensures { Gives (λ x. (
+      x.0.items,
+      pieces_of 32 x.1,
+    )) result (values_onto prefix.items shapes.now (pieces_of 32 left.entry)) }
 {
     let mut prefix = prefix;
     match shapes {

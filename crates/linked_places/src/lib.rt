@@ -137,7 +137,8 @@ impl LinkedLists {
     /// The handle after this one in its list; none exactly where this one is the last.
     pub fn next(&self, handle: u64) -> Option<u64>
         requires { (list : ℕ) × (has_handle handle (list_at self.now.lists list) ≡ true) }
-        ensures { (list i : ℕ) → slice_get (list_at self.now.lists list) i ≡ Some handle → result ≡ slice_get (list_at self.now.lists list) (i + 1) }
+        ensures { (list i : ℕ) → slice_get (list_at self.now.lists list) i ≡ Some handle
+            → result ≡ slice_get (list_at self.now.lists list) (i + 1) }
     {
         match self.links[(handle % SPAN) as usize].next {
             Some(after) => Some(self.links[after as usize].handle),

@@ -78,7 +78,9 @@ impl Rwls {
     /// Tells why such a create is refused, whether there is room or not: `ErrParameter` where the limit isn't 1 to 32, and
     /// then `ErrRwlExists` where a live lock has the id, else None.
     pub fn create_refusal(&self, id: u32, limit: u32) -> Option<MrapiStatus>
-        ensures refused { IfSome result (λ c. (first (rwl_create_refusals limit) ≡ Some c) ⊎ ((first (rwl_create_refusals limit) ≡ None) × (c ≡ ErrRwlExists) × SomeLive (slot_value self.now) (HasId id))) }
+        ensures refused { IfSome result (λ c. (first (rwl_create_refusals limit) ≡ Some c)
+            ⊎ ((first (rwl_create_refusals limit) ≡ None) × (c ≡ ErrRwlExists)
+            × SomeLive (slot_value self.now) (HasId id))) }
         ensures in_range { IsNone result → first (rwl_create_refusals limit) ≡ None }
         ensures new_id { IsNone result → NoneLive (slot_value self.now) (HasId id) }
     {

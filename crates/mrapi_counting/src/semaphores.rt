@@ -78,7 +78,9 @@ impl Sems {
     /// Tells why such a create is refused, whether there is room or not: `ErrParameter` where the limit isn't 1 to 65,535, and
     /// then `ErrSemExists` where a live semaphore has the id, else None.
     pub fn create_refusal(&self, id: u32, limit: u32) -> Option<MrapiStatus>
-        ensures refused { IfSome result (λ c. (first (sem_create_refusals limit) ≡ Some c) ⊎ ((first (sem_create_refusals limit) ≡ None) × (c ≡ ErrSemExists) × SomeLive (slot_value self.now) (HasId id))) }
+        ensures refused { IfSome result (λ c. (first (sem_create_refusals limit) ≡ Some c)
+            ⊎ ((first (sem_create_refusals limit) ≡ None) × (c ≡ ErrSemExists)
+            × SomeLive (slot_value self.now) (HasId id))) }
         ensures in_range { IsNone result → first (sem_create_refusals limit) ≡ None }
         ensures new_id { IsNone result → NoneLive (slot_value self.now) (HasId id) }
     {

@@ -96,7 +96,9 @@ impl Segments {
     /// Tells why such a create is refused, whether there is room or not: `ErrParameter` where the cells aren't 1 to 4,096, and
     /// then `ErrShmExists` where a live segment has the id, else None.
     pub fn create_refusal(&self, id: u32, cells: u32) -> Option<MrapiStatus>
-        ensures refused { IfSome result (λ c. (first (shmem_create_refusals cells) ≡ Some c) ⊎ ((first (shmem_create_refusals cells) ≡ None) × (c ≡ ErrShmExists) × SomeLive (slot_value self.now) (HasId id))) }
+        ensures refused { IfSome result (λ c. (first (shmem_create_refusals cells) ≡ Some c)
+            ⊎ ((first (shmem_create_refusals cells) ≡ None) × (c ≡ ErrShmExists)
+            × SomeLive (slot_value self.now) (HasId id))) }
         ensures in_range { IsNone result → first (shmem_create_refusals cells) ≡ None }
         ensures new_id { IsNone result → NoneLive (slot_value self.now) (HasId id) }
     {

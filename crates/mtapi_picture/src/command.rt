@@ -82,7 +82,8 @@ pub fn draw<S: Source, W: Sink>(alloc: Global, src: &mut S, out: &mut W) -> End
     ensures silent { Writes result ⊎ ((W.held out.new ≡ W.held out.old) × (W.faults out.new ≡ W.faults out.old)) }
     ensures read { result ≡ end.ReadFault → Rose (S.faults src.old) (S.faults src.new) }
     ensures written { result ≡ end.WriteFault → Rose (W.faults out.old) (W.faults out.new) }
-    ensures complete { (Rose (S.faults src.old) (S.faults src.new) → ⊥) → (Rose (W.faults out.old) (W.faults out.new) → ⊥)
+    ensures complete { (Rose (S.faults src.old) (S.faults src.new) → ⊥)
+        → (Rose (W.faults out.old) (W.faults out.new) → ⊥)
         → IfSome (S.left src.old) (λ bytes. HasJournal bytes → (result ≡ end.Done) ⊎ (result ≡ end.Memory)) }
 {
     let bytes = match read_all(alloc, src, 67_108_864) {

@@ -57,15 +57,21 @@ pub fn run_words<R: StartsThreads + Wait + Sync, S: Source, W: Sink, E: Sink, B:
 ) -> Outcome
     // The headline of the command: where a run finished, the journal is that of a run of the workload that was asked for, and what was
     // written is the whole output of that journal with 0, and a prefix of it with 5.
-    ensures headline { result.status ≡ 0 → IfSome result.journal (λ journal. Ran (asked_of (texts words.now)) (S.left src.old) journal (Appends (W.held out.old) (W.held out.new))) }
-    ensures headline_cut { result.status ≡ 5 → IfSome result.journal (λ journal. Ran (asked_of (texts words.now)) (S.left src.old) journal (AppendsFront (W.held out.old) (W.held out.new))) }
+    ensures headline { result.status ≡ 0
+        → IfSome result.journal (λ journal.
+        Ran (asked_of (texts words.now)) (S.left src.old) journal (Appends (W.held out.old) (W.held out.new))) }
+    ensures headline_cut { result.status ≡ 5
+        → IfSome result.journal (λ journal.
+        Ran (asked_of (texts words.now)) (S.left src.old) journal (AppendsFront (W.held out.old) (W.held out.new))) }
 
     // A workload, without a fault and with a thread for everyone, ends with 0, with 6 when out of memory, or with spent tickets; and an
     // input that is judged, without a fault, with 0, 3, 6 or 9.
-    ensures complete { reads (asked_of (texts words.now)) ≡ true → (Rose (S.faults src.old) (S.faults src.new) → ⊥) → (Rose (W.faults out.old) (W.faults out.new) → ⊥)
+    ensures complete { reads (asked_of (texts words.now)) ≡ true → (Rose (S.faults src.old) (S.faults src.new) → ⊥)
+        → (Rose (W.faults out.old) (W.faults out.new) → ⊥)
         → (Rose (B.refusals beside.old) (B.refusals beside.new) → ⊥)
         → IfSome (S.left src.old) (λ bytes. IsWorkload bytes → (result.status ≡ 0) ⊎ (result.status ≡ 6) ⊎ (result.status ≡ 8)) }
-    ensures check_complete { judges (asked_of (texts words.now)) ≡ true → (Rose (S.faults src.old) (S.faults src.new) → ⊥)
+    ensures check_complete { judges (asked_of (texts words.now)) ≡ true
+        → (Rose (S.faults src.old) (S.faults src.new) → ⊥)
         → (Rose (W.faults out.old) (W.faults out.new) → ⊥)
         → (result.status ≡ 0) ⊎ (result.status ≡ 3) ⊎ (result.status ≡ 6) ⊎ (result.status ≡ 9) }
 

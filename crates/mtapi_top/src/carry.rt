@@ -54,9 +54,12 @@ fn load_for<S: Source>(alloc: Global, asked: &Asked, src: &mut S) -> Result<Work
     ensures formed { IfOk result WellFormed }
     ensures workload { IfOk result (λ load. HasRead (Some asked.now) (S.left src.old)) }
     ensures none { IfErr result (HasNone (Some asked.now) (S.left src.old) (S.faults src.old) (S.faults src.new)) }
-    ensures clean { reads (Some asked.now) ≡ true → HoldsBut (ReadsClean (S.faults src.old) (S.faults src.new) (S.left src.old) (S.left src.new)) result }
-    ensures whole { reads (Some asked.now) ≡ true → IfOk result (λ load. IfSome (S.left src.old) (λ bytes. IsAtEnd (S.left src.new))) }
-    ensures unread { reads (Some asked.now) ≡ false → (S.left src.new ≡ S.left src.old) × (S.faults src.new ≡ S.faults src.old) }
+    ensures clean { reads (Some asked.now) ≡ true
+        → HoldsBut (ReadsClean (S.faults src.old) (S.faults src.new) (S.left src.old) (S.left src.new)) result }
+    ensures whole { reads (Some asked.now) ≡ true
+        → IfOk result (λ load. IfSome (S.left src.old) (λ bytes. IsAtEnd (S.left src.new))) }
+    ensures unread { reads (Some asked.now) ≡ false
+        → (S.left src.new ≡ S.left src.old) × (S.faults src.new ≡ S.faults src.old) }
     ensures taken { reads (Some asked.now) ≡ true → TakesAtMost 1048577 (S.left src.old) (S.left src.new) }
     ensures faultless { (IsErrOf result LoadError.Read → ⊥) → S.faults src.new ≡ S.faults src.old }
     ensures later { S.faults src.old ≤ S.faults src.new }
@@ -86,7 +89,8 @@ fn carry_out<R: Threads + Wait + Sync, S: Source, W: Sink, A: ActionSource, B: B
         → ReadsClean (S.faults src.old) (S.faults src.new) (S.left src.old) (S.left src.new) }
     ensures whole { reads (asked_of (texts words.now)) ≡ true
         → IfSome (journal_of result) (λ journal. IfSome (S.left src.old) (λ bytes. IsAtEnd (S.left src.new))) }
-    ensures unread { reads (asked_of (texts words.now)) ≡ false → (S.left src.new ≡ S.left src.old) × (S.faults src.new ≡ S.faults src.old) }
+    ensures unread { reads (asked_of (texts words.now)) ≡ false
+        → (S.left src.new ≡ S.left src.old) × (S.faults src.new ≡ S.faults src.old) }
     ensures taken { reads (asked_of (texts words.now)) ≡ true → TakesAtMost 1048577 (S.left src.old) (S.left src.new) }
     ensures faultless { (status_of result ≡ 4 → ⊥) → S.faults src.new ≡ S.faults src.old }
     ensures idle { StartsNothing (status_of result) → (acts.new ≡ acts.old) × (beside.new ≡ beside.old) }
@@ -155,22 +159,32 @@ pub fn command<R: Threads + Wait + Sync, S: Source, W: Sink, E: Sink, A: ActionS
     // The headline. Where a run finished, the journal is that of a run of the workload that was asked for, which is the one that the
     // bytes read are, or the generated one; and what was written is the output defined for that journal: all of it with the status 0,
     // and a prefix of it with 5.
-    ensures headline { result.status ≡ 0 → IfSome result.journal (λ journal. Ran (asked_of (texts words.now)) (S.left src.old) journal (Appends (W.held out.old) (W.held out.new))) }
-    ensures headline_cut { result.status ≡ 5 → IfSome result.journal (λ journal. Ran (asked_of (texts words.now)) (S.left src.old) journal (AppendsFront (W.held out.old) (W.held out.new))) }
+    ensures headline { result.status ≡ 0
+        → IfSome result.journal (λ journal.
+        Ran (asked_of (texts words.now)) (S.left src.old) journal (Appends (W.held out.old) (W.held out.new))) }
+    ensures headline_cut { result.status ≡ 5
+        → IfSome result.journal (λ journal.
+        Ran (asked_of (texts words.now)) (S.left src.old) journal (AppendsFront (W.held out.old) (W.held out.new))) }
 
     // The journal of a run is written as text 2.
     ensures text_two { IfSome result.journal (λ journal. IsTextTwo (journal_text journal)) }
 
     // Of a settled workload the statements alone tell what is written, for every number of workers: its plain report; and of the generated
     // ones, which are settled, a summary that is the same for every number of workers.
-    ensures settled { result.status ≡ 0 → IfSome result.journal (λ journal. IsPlainOutput (asked_of (texts words.now)) (S.left src.old) journal (Appends (W.held out.old) (W.held out.new))) }
-    ensures settled_cut { result.status ≡ 5 → IfSome result.journal (λ journal. IsPlainOutput (asked_of (texts words.now)) (S.left src.old) journal (AppendsFront (W.held out.old) (W.held out.new))) }
-    ensures journal { IsSome result.journal ↔ ((judges (asked_of (texts words.now)) ≡ false) × ((result.status ≡ 0) ⊎ (result.status ≡ 5))) }
+    ensures settled { result.status ≡ 0
+        → IfSome result.journal (λ journal.
+        IsPlainOutput (asked_of (texts words.now)) (S.left src.old) journal (Appends (W.held out.old) (W.held out.new))) }
+    ensures settled_cut { result.status ≡ 5
+        → IfSome result.journal (λ journal.
+        IsPlainOutput (asked_of (texts words.now)) (S.left src.old) journal (AppendsFront (W.held out.old) (W.held out.new))) }
+    ensures journal { IsSome result.journal
+        ↔ ((judges (asked_of (texts words.now)) ≡ false) × ((result.status ≡ 0) ⊎ (result.status ≡ 5))) }
     ensures spent { IsSome result.spent ↔ (result.status ≡ 8) }
 
     // Each status has its cause.
     ensures usage { (result.status ≡ 2) ↔ (asked_of (texts words.now) ≡ None) }
-    ensures refused { judges (asked_of (texts words.now)) ≡ false → result.status ≡ 3 → IfSome (S.left src.old) IsRefused }
+    ensures refused { judges (asked_of (texts words.now)) ≡ false → result.status ≡ 3
+        → IfSome (S.left src.old) IsRefused }
     ensures refused_where { reads (asked_of (texts words.now)) ≡ true → (Rose (S.faults src.old) (S.faults src.new) → ⊥)
         → IfSome (S.left src.old) (λ bytes. IsRefused bytes → (result.status ≡ 3) ⊎ (result.status ≡ 6)) }
     ensures reading { (result.status ≡ 3) ⊎ (result.status ≡ 4)
@@ -182,13 +196,16 @@ pub fn command<R: Threads + Wait + Sync, S: Source, W: Sink, E: Sink, A: ActionS
     ensures turns_spent { IfSome result.spent (λ shown. 2 ^ 62 ≤ shown) }
 
     // Nothing is written with another status.
-    ensures nothing { (result.status ≡ 0 → ⊥) → (result.status ≡ 5 → ⊥) → (result.status ≡ 9 → ⊥) → W.held out.new ≡ W.held out.old }
+    ensures nothing { (result.status ≡ 0 → ⊥) → (result.status ≡ 5 → ⊥) → (result.status ≡ 9 → ⊥)
+        → W.held out.new ≡ W.held out.old }
 
     // A workload, without a fault and with a thread for everyone, ends with 0, with 6 when out of memory, or with spent tickets.
-    ensures complete { reads (asked_of (texts words.now)) ≡ true → (Rose (S.faults src.old) (S.faults src.new) → ⊥) → (Rose (W.faults out.old) (W.faults out.new) → ⊥)
+    ensures complete { reads (asked_of (texts words.now)) ≡ true → (Rose (S.faults src.old) (S.faults src.new) → ⊥)
+        → (Rose (W.faults out.old) (W.faults out.new) → ⊥)
         → (Rose (B.refusals beside.old) (B.refusals beside.new) → ⊥)
         → IfSome (S.left src.old) (λ bytes. IsWorkload bytes → (result.status ≡ 0) ⊎ (result.status ≡ 6) ⊎ (result.status ≡ 8)) }
-    ensures complete_generated { is_some (asked_of (texts words.now)) ≡ true → reads (asked_of (texts words.now)) ≡ false
+    ensures complete_generated { is_some (asked_of (texts words.now)) ≡ true
+        → reads (asked_of (texts words.now)) ≡ false
         → judges (asked_of (texts words.now)) ≡ false → (Rose (W.faults out.old) (W.faults out.new) → ⊥) → (Rose (B.refusals beside.old) (B.refusals beside.new) → ⊥)
         → (result.status ≡ 0) ⊎ (result.status ≡ 6) ⊎ (result.status ≡ 8) }
 
@@ -202,15 +219,19 @@ pub fn command<R: Threads + Wait + Sync, S: Source, W: Sink, E: Sink, A: ActionS
     ensures check_nine { result.status ≡ 9 → judges (asked_of (texts words.now)) ≡ true }
 
     // What is refused in place of being judged.
-    ensures check_refused { judges (asked_of (texts words.now)) ≡ true → result.status ≡ 3 → IfSome (S.left src.old) IsRefusedInput }
-    ensures check_refused_where { judges (asked_of (texts words.now)) ≡ true → (Rose (S.faults src.old) (S.faults src.new) → ⊥)
+    ensures check_refused { judges (asked_of (texts words.now)) ≡ true → result.status ≡ 3
+        → IfSome (S.left src.old) IsRefusedInput }
+    ensures check_refused_where { judges (asked_of (texts words.now)) ≡ true
+        → (Rose (S.faults src.old) (S.faults src.new) → ⊥)
         → IfSome (S.left src.old) (λ bytes. IsRefusedInput bytes → (result.status ≡ 3) ⊎ (result.status ≡ 6)) }
 
     // Without a fault it ends with 0, with 9, with 3, or with 6 when out of memory; and but for 6 the input alone tells with which.
-    ensures check_complete { judges (asked_of (texts words.now)) ≡ true → (Rose (S.faults src.old) (S.faults src.new) → ⊥)
+    ensures check_complete { judges (asked_of (texts words.now)) ≡ true
+        → (Rose (S.faults src.old) (S.faults src.new) → ⊥)
         → (Rose (W.faults out.old) (W.faults out.new) → ⊥)
         → (result.status ≡ 0) ⊎ (result.status ≡ 3) ⊎ (result.status ≡ 6) ⊎ (result.status ≡ 9) }
-    ensures check_decides { judges (asked_of (texts words.now)) ≡ true → (Rose (S.faults src.old) (S.faults src.new) → ⊥)
+    ensures check_decides { judges (asked_of (texts words.now)) ≡ true
+        → (Rose (S.faults src.old) (S.faults src.new) → ⊥)
         → (Rose (W.faults out.old) (W.faults out.new) → ⊥)
         → IfSome (S.left src.old) (λ bytes. (load : Workload) (j : Journal) (v : Verdict) → IsInput bytes load j → IsVerdict load j v
         → (result.status ≡ verdict_status v) ⊎ (result.status ≡ 6)) }
@@ -223,8 +244,10 @@ pub fn command<R: Threads + Wait + Sync, S: Source, W: Sink, E: Sink, A: ActionS
     ensures read { IsReadFor (asked_of (texts words.now)) (S.left src.old) (S.left src.new) (S.faults src.old) (S.faults src.new) result.status result.journal }
 
     // Where no run is made, no thread is asked for, and no action.
-    ensures idle { (judges (asked_of (texts words.now)) ≡ true) ⊎ StartsNothing result.status → (acts.new ≡ acts.old) × (beside.new ≡ beside.old) }
-    ensures later { (S.faults src.old ≤ S.faults src.new) × (W.faults out.old ≤ W.faults out.new) × (E.faults err.old ≤ E.faults err.new) }
+    ensures idle { (judges (asked_of (texts words.now)) ≡ true) ⊎ StartsNothing result.status
+        → (acts.new ≡ acts.old) × (beside.new ≡ beside.old) }
+    ensures later { (S.faults src.old ≤ S.faults src.new) × (W.faults out.old ≤ W.faults out.new)
+        × (E.faults err.old ≤ E.faults err.new) }
 {
     if judges(words) {
         let verdict = check_input(alloc, src, out);

@@ -23,7 +23,8 @@ pub fn law_generated_settled()
 /// Each input of `check` has a part before the journal and a rest, and they are the only ones.
 pub fn law_split()
     ensures some { (bytes : List ℕ) → OfParts bytes (λ front rest. Unit {0}) }
-    ensures one { (bytes front rest front' rest' : List ℕ) → IsSplit bytes front rest → IsSplit bytes front' rest' → (front ≡ front') × (rest ≡ rest') }
+    ensures one { (bytes front rest front' rest' : List ℕ) → IsSplit bytes front rest → IsSplit bytes front' rest'
+        → (front ≡ front') × (rest ≡ rest') }
 {}
 
 /// The verdict on the journal of a run, beside the workload of the run, is `yes`, and the journal is one that is read again as it was
@@ -31,6 +32,7 @@ pub fn law_split()
 pub fn law_run_is_yes()
     ensures verdict { (load : Workload) (j : Journal) → IsRun load j → IsVerdict load j Yes }
     ensures writable { (load : Workload) (j : Journal) → WellFormed load → IsRun load j → IsWritable j }
-    ensures input { (bytes front : List ℕ) (load : Workload) (j : Journal) → length bytes ≤ 67108864 → IsSplit bytes front (journal_text j)
+    ensures input { (bytes front : List ℕ) (load : Workload) (j : Journal) → length bytes ≤ 67108864
+        → IsSplit bytes front (journal_text j)
         → length front ≤ 1048576 → workload_of front ≡ Ok load → journal_of (journal_text j) ≡ Ok j → IsInput bytes load j }
 {}

@@ -40,7 +40,8 @@ fn no_thread(main: TurnSeat<Journaled>) -> NoRun
 
 // The reason without the seat of main, which tells nothing more of the command.
 fn without_seat(error: RunError) -> NoRun
-    ensures { (before after : ℕ) → Causes before after error → Counts (is_refused (Err error)) before after → HasReason before after result }
+    ensures { (before after : ℕ) → Causes before after error → Counts (is_refused (Err error)) before after
+        → HasReason before after result }
 {
     match error {
         RunError::Refused(main) => no_thread(main),

@@ -236,7 +236,8 @@ impl Queues {
     /// Finds the unended task that was put next after this one of the same live queue. None exactly where this one was put last.
     pub fn next(&self, t: TaskHandle) -> Option<TaskHandle>
         requires { (q : ℕ) × IsUnendedTask t.0 (slot_value self.now.pool q) }
-        ensures { (q i : ℕ) → slice_get (tasks_of (slot_value self.now.pool q)) i ≡ Some t.0 → option_map (λ (t : TaskHandle). t.0) result ≡ slice_get (tasks_of (slot_value self.now.pool q)) (i + 1) }
+        ensures { (q i : ℕ) → slice_get (tasks_of (slot_value self.now.pool q)) i ≡ Some t.0
+            → option_map (λ (t : TaskHandle). t.0) result ≡ slice_get (tasks_of (slot_value self.now.pool q)) (i + 1) }
     {
         match self.tasks.next(t.0) {
             Some(task) => Some(TaskHandle(task)),

@@ -50,7 +50,8 @@ impl Bitmap {
     /// Puts a number into the set.
     pub fn insert(&mut self, number: u32)
         requires { number < 64 * length self.old }
-        ensures bits { (other : ℕ) → has_bit self.new other ≡ (if other == number then true else has_bit self.old other) }
+        ensures bits { (other : ℕ)
+            → has_bit self.new other ≡ (if other == number then true else has_bit self.old other) }
         ensures room { length self.new ≡ length self.old }
     {
         self.bits.set(number);
@@ -61,7 +62,8 @@ impl Bitmap {
     /// Takes a number out of the set.
     pub fn remove(&mut self, number: u32)
         requires { number < 64 * length self.old }
-        ensures bits { (other : ℕ) → has_bit self.new other ≡ (if other == number then false else has_bit self.old other) }
+        ensures bits { (other : ℕ)
+            → has_bit self.new other ≡ (if other == number then false else has_bit self.old other) }
         ensures room { length self.new ≡ length self.old }
     {
         if !self.bits.clear(number) {

@@ -49,7 +49,8 @@ impl ReadyIndex {
         requires max { (1 ≤ max) × (max ≤ 65536) }
         requires workers { (1 ≤ workers) × (workers ≤ 16) }
         requires priorities { (1 ≤ priorities) × (priorities ≤ 8) }
-        ensures { IfOk result (λ i. i ≡ record { workers = workers; priorities = priorities; marks = replicate max None }) }
+        ensures { IfOk result (λ i.
+            i ≡ record { workers = workers; priorities = priorities; marks = replicate max None }) }
     {
         Ok(ReadyIndex {
             marks: vec![in alloc; None; max as usize]?,
@@ -132,7 +133,8 @@ fn new_sets(
     priorities: u32,
 ) -> Result<Vec<WorkerSets>, AllocError>
     requires { max ≤ 65536 }
-    ensures empty { IfOk result (λ v. (worker priority slot : ℕ) → has_slot (sets_of v.items worker) priority slot ≡ false) }
+    ensures empty { IfOk result (λ v. (worker priority slot : ℕ)
+        → has_slot (sets_of v.items worker) priority slot ≡ false) }
     ensures len { IfOk result (λ v. length v.items ≡ workers) }
     ensures room { IfOk result (λ v. HaveRoom max v.items priorities) }
 {
@@ -147,8 +149,10 @@ fn new_sets(
 fn put_all(workers: &mut [WorkerSets], mark: Mark, slot: u32, ready: bool)
     requires few { length workers.old ≤ 16 }
     requires known { (worker : ℕ) → worker < length workers.old → mark.priority < length (sets_of workers.old worker) }
-    requires room { (worker : ℕ) → worker < length workers.old → slot < 64 * length (set_of (sets_of workers.old worker) mark.priority) }
-    ensures slots { (worker : ℕ) → worker < length workers.old → PutsSlot mark worker slot ready (sets_of workers.old worker) (sets_of workers.new worker) }
+    requires room { (worker : ℕ) → worker < length workers.old
+        → slot < 64 * length (set_of (sets_of workers.old worker) mark.priority) }
+    ensures slots { (worker : ℕ) → worker < length workers.old
+        → PutsSlot mark worker slot ready (sets_of workers.old worker) (sets_of workers.new worker) }
     ensures same { (worker : ℕ) → SameRoom (sets_of workers.old worker) (sets_of workers.new worker) }
     ensures len { length workers.new ≡ length workers.old }
 {

@@ -72,7 +72,8 @@ impl Words {
     pub fn set(&mut self, bit: u32)
         requires { bit / 64 < length self.old }
         ensures bits { (other : ℕ) → has_bit self.new other ≡ (if other == bit then true else has_bit self.old other) }
-        ensures words { (word : ℕ) → is_empty_word self.new word ≡ (if word == bit / 64 then false else is_empty_word self.old word) }
+        ensures words { (word : ℕ)
+            → is_empty_word self.new word ≡ (if word == bit / 64 then false else is_empty_word self.old word) }
         ensures len { length self.new ≡ length self.old }
     {
         let word = (bit / BITS) as usize;

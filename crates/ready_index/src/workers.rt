@@ -32,7 +32,8 @@ impl WorkerSets {
     pub fn new(alloc: Global, max: u32, priorities: u32) -> Result<WorkerSets, AllocError>
         requires { max ≤ 65536 }
         ensures empty { IfOk result (λ w. (priority slot : ℕ) → has_slot w priority slot ≡ false) }
-        ensures room { IfOk result (λ w. (priority : ℕ) → priority < priorities → max ≤ 64 * length (set_of w priority)) }
+        ensures room { IfOk result (λ w. (priority : ℕ) → priority < priorities
+            → max ≤ 64 * length (set_of w priority)) }
         ensures len { IfOk result (λ w. length w ≡ priorities) }
     {
         let mut by_priority = Vec::new(alloc);
@@ -46,7 +47,8 @@ impl WorkerSets {
     pub fn insert(&mut self, priority: u32, slot: u32)
         requires known { priority < length self.old }
         requires room { slot < 64 * length (set_of self.old priority) }
-        ensures slots { (p s : ℕ) → has_slot self.new p s ≡ (if p == priority && s == slot then true else has_slot self.old p s) }
+        ensures slots { (p s : ℕ)
+            → has_slot self.new p s ≡ (if p == priority && s == slot then true else has_slot self.old p s) }
         ensures room { (p : ℕ) → length (set_of self.new p) ≡ length (set_of self.old p) }
         ensures len { length self.new ≡ length self.old }
     {
@@ -57,7 +59,8 @@ impl WorkerSets {
     pub fn remove(&mut self, priority: u32, slot: u32)
         requires known { priority < length self.old }
         requires room { slot < 64 * length (set_of self.old priority) }
-        ensures slots { (p s : ℕ) → has_slot self.new p s ≡ (if p == priority && s == slot then false else has_slot self.old p s) }
+        ensures slots { (p s : ℕ)
+            → has_slot self.new p s ≡ (if p == priority && s == slot then false else has_slot self.old p s) }
         ensures room { (p : ℕ) → length (set_of self.new p) ≡ length (set_of self.old p) }
         ensures len { length self.new ≡ length self.old }
     {

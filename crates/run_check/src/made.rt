@@ -109,8 +109,10 @@ fn decides(wanted: Wanted, timeout: Timeout, before: u128, line: &Line) -> bool
 // The lines of a call that looks.
 fn looking(wanted: Wanted, timeout: Timeout, lines: &[Line]) -> Option<(&Reply, &[Line])>
     requires timed { IsTimed wanted }
-    ensures some { IfSome result (λ m. Takes (Looking (waits wanted) (op_of wanted) timeout) lines.now m.1.now m.0.now) }
-    ensures none { IfNone result ((rest : List Line) (r : Reply) → Takes (Looking (waits wanted) (op_of wanted) timeout) lines.now rest r → ⊥) }
+    ensures some { IfSome result (λ m.
+        Takes (Looking (waits wanted) (op_of wanted) timeout) lines.now m.1.now m.0.now) }
+    ensures none { IfNone result ((rest : List Line) (r : Reply)
+        → Takes (Looking (waits wanted) (op_of wanted) timeout) lines.now rest r → ⊥) }
 {
     let [line, rest @ ..] = lines else {
         return None;
@@ -149,8 +151,10 @@ fn made<'a>(call: &Call, lines: &'a [Line]) -> Option<(&'a Reply, &'a [Line])>
 
 // The lines of one statement from the front, and the handle that it binds.
 fn stated<'a>(statement: &Statement, bound: &[u64], lines: &'a [Line]) -> Option<(u64, &'a [Line])>
-    ensures some { IfSome result (λ m. (r : Reply) × Takes (call_of bound.now statement.now.deed) lines.now m.1.now r × (m.0 ≡ handle_of r)) }
-    ensures none { IfNone result ((rest : List Line) (r : Reply) → Takes (call_of bound.now statement.now.deed) lines.now rest r → ⊥) }
+    ensures some { IfSome result (λ m. (r : Reply) × Takes (call_of bound.now statement.now.deed) lines.now m.1.now r
+        × (m.0 ≡ handle_of r)) }
+    ensures none { IfNone result ((rest : List Line) (r : Reply)
+        → Takes (call_of bound.now statement.now.deed) lines.now rest r → ⊥) }
 {
     match made(&call_of(&statement.deed, bound), lines) {
         Some((reply, rest)) => Some((handle_of(reply), rest)),

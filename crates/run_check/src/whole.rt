@@ -70,7 +70,8 @@ fn caller_made(
     part: &Part,
 ) -> Result<bool, AllocError>
     requires beside { length skipped.now ≡ length entries.now }
-    ensures { IfOk result (λ b. IsTrue b ↔ ((rs : List Reply) × CallerRan in_lines part.now.statements (lines_of who entries.now skipped.now) rs)) }
+    ensures { IfOk result (λ b. IsTrue b
+        ↔ ((rs : List Reply) × CallerRan in_lines part.now.statements (lines_of who entries.now skipped.now) rs)) }
 {
     let lines = lines_of(alloc, who, entries, skipped)?;
     caller_ran(alloc, part.statements.as_slice(), &lines)
@@ -85,7 +86,8 @@ fn main_made(
     part: &Part,
 ) -> Result<bool, AllocError>
     requires beside { length skipped.now ≡ length entries.now }
-    ensures { IfOk result (λ b. IsTrue b ↔ ((rs : List Reply) × MainRan in_lines part.now.statements (lines_of main entries.now skipped.now) rs)) }
+    ensures { IfOk result (λ b. IsTrue b
+        ↔ ((rs : List Reply) × MainRan in_lines part.now.statements (lines_of main entries.now skipped.now) rs)) }
 {
     let lines = lines_of(alloc, main, entries, skipped)?;
     main_ran(alloc, part.statements.as_slice(), &lines)
@@ -101,7 +103,9 @@ fn callers_ran(
 ) -> Result<bool, AllocError>
     requires beside { length skipped.now ≡ length entries.now }
     requires few { who + length parts.now < 4294967296 }
-    ensures { IfOk result (λ b. IsTrue b ↔ ((rss : List (List Reply)) × CallersRan in_lines (λ w. lines_of w entries.now skipped.now) who parts.now rss)) }
+    ensures { IfOk result (λ b. IsTrue b
+        ↔ ((rss : List (List Reply))
+        × CallersRan in_lines (λ w. lines_of w entries.now skipped.now) who parts.now rss)) }
 {
     let [part, rest @ ..] = parts else {
         return Ok(true);
@@ -123,7 +127,9 @@ fn parts_ran(
 ) -> Result<bool, AllocError>
     requires beside { length skipped.now ≡ length entries.now }
     requires few { main + length parts.now < 4294967296 }
-    ensures { IfOk result (λ b. IsTrue b ↔ ((rss : List (List Reply)) × PartsRan in_lines (λ w. lines_of w entries.now skipped.now) main parts.now rss)) }
+    ensures { IfOk result (λ b. IsTrue b
+        ↔ ((rss : List (List Reply))
+        × PartsRan in_lines (λ w. lines_of w entries.now skipped.now) main parts.now rss)) }
 {
     let [part, rest @ ..] = parts else {
         return Ok(false);

@@ -150,7 +150,9 @@ fn no_course(alloc: Global, seats: u32) -> Result<Course, AllocError>
 
 /// Follows entries, with the numbers beside them.
 fn follow(course: &mut Course, entries: &[Entry], skipped: &[u64]) -> Result<(), AllocError>
-    ensures { OnOk result ((seats : ℕ) (all : List NodeEntry) (ns : List ℕ) → LeadsTo seats all ns 0 course.old entries.now skipped.now → LeadsTo seats all ns (length entries.now) course.new [] []) }
+    ensures { OnOk result ((seats : ℕ) (all : List NodeEntry) (ns : List ℕ)
+        → LeadsTo seats all ns 0 course.old entries.now skipped.now
+        → LeadsTo seats all ns (length entries.now) course.new [] []) }
 {
     let mut skipped = skipped;
     for (place, entry) in entries.iter().enumerate() {

@@ -37,7 +37,8 @@ fn push_part(
     stroke: Stroke,
 ) -> Result<(), AllocError>
     ensures parts { OnOk result (parts.new.items ≡ parts.old.items ++ part_behind (or_none (get nat_eq columns.old stroke.row)) stroke) }
-    ensures columns { OnOk result ((row : ℕ) → or_none (get nat_eq columns.new row) ≡ reached_with stroke (λ r. or_none (get nat_eq columns.old r)) row) }
+    ensures columns { OnOk result ((row : ℕ)
+        → or_none (get nat_eq columns.new row) ≡ reached_with stroke (λ r. or_none (get nat_eq columns.old r)) row) }
 {
     let at = reached(columns, stroke.row);
     if at < stroke.to {

@@ -249,7 +249,8 @@ pub fn note_waits(
     place: usize,
     entry: &Entry,
 ) -> Result<(), AllocError>
-    ensures waiting { OnOk result ((h : ℕ) → get nat_eq waiting.new h ≡ waiting_by (get nat_eq waiting.old) lanes.old.items (wait_of entry.now.op entry.now.reply) h) }
+    ensures waiting { OnOk result ((h : ℕ)
+        → get nat_eq waiting.new h ≡ waiting_by (get nat_eq waiting.old) lanes.old.items (wait_of entry.now.op entry.now.reply) h) }
     ensures lanes { OnOk result (lanes.new.items ≡ lanes_by (get nat_eq waiting.old) (wait_of entry.now.op entry.now.reply) lanes.old.items) }
     ensures levels { OnOk result (levels.new.items ≡ levels.old.items ++ levels_by place (get nat_eq waiting.old) (wait_of entry.now.op entry.now.reply) lanes.old.items) }
 {

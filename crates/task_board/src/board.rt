@@ -127,7 +127,8 @@ fn new_places(
 ) -> Result<(ReadyIndex, WaitingTasks, Groups), AllocError>
     ensures few { attr.workers ≤ 16 }
     ensures some { 1 ≤ attr.actions }
-    ensures ready { IfOk result (λ t. t.0 ≡ record { workers = attr.workers; priorities = attr.priorities; marks = replicate attr.tasks None }) }
+    ensures ready { IfOk result (λ t.
+        t.0 ≡ record { workers = attr.workers; priorities = attr.priorities; marks = replicate attr.tasks None }) }
     ensures places { IfOk result (λ t. t.1.places ≡ attr.tasks) }
     ensures lists { IfOk result (λ t. t.1.lists ≡ replicate 1 []) }
     ensures by_job { IfOk result (λ t. t.1.by_job ≡ replicate attr.actions []) }
@@ -296,7 +297,8 @@ impl Board {
     // The task after this one of a walk.
     pub(crate) fn next_walked(&self, walk: Walk, task: u64) -> Option<u64>
         requires { has_handle task (walked walk self.now.waiting self.now.queues.pool) ≡ true }
-        ensures { (i : ℕ) → slice_get (walked walk self.now.waiting self.now.queues.pool) i ≡ Some task → result ≡ slice_get (walked walk self.now.waiting self.now.queues.pool) (i + 1) }
+        ensures { (i : ℕ) → slice_get (walked walk self.now.waiting self.now.queues.pool) i ≡ Some task
+            → result ≡ slice_get (walked walk self.now.waiting self.now.queues.pool) (i + 1) }
     {
         next_in(&self.waiting, &self.queues, walk, task)
     }
@@ -391,7 +393,8 @@ impl Board {
 
     /// The cores that the enabled actions of an action's job cover, and none where the action isn't live.
     pub fn covered(&self, a: ActionHandle) -> Mask
-        ensures live { (x : Action) → slot_value self.now.actions a.0 ≡ Some x → IsUnion self.now.actions x.job result.0 }
+        ensures live { (x : Action) → slot_value self.now.actions a.0 ≡ Some x
+            → IsUnion self.now.actions x.job result.0 }
         ensures gone { slot_value self.now.actions a.0 ≡ None → result.0 ≡ 0 }
     {
         cores_beside(&self.actions, a)
@@ -575,7 +578,8 @@ impl Board {
         requires worker { worker < self.old.settings.workers }
         requires free { NoneLive (slot_value self.old.tasks.pool) (Passes (runs_on worker)) }
         requires choice { IsChoice self.old.actions self.old.tasks.pool self.old.queues.pool worker choice }
-        ensures args { option_map (λ (task : Task). task.args) (slot_value self.old.tasks.pool choice.task.0) ≡ Some result }
+        ensures args { option_map (λ (task : Task).
+            task.args) (slot_value self.old.tasks.pool choice.task.0) ≡ Some result }
         ensures new { Becomes self.old self.new self.old.actions (record self.old.tasks { pool = changed self.old.tasks.pool choice.task.0 (with_state (Running worker choice.kind)) }) }
     {
         let _ = self.settings.workers();
@@ -635,7 +639,8 @@ impl Board {
 
     /// Tells why a create of a queue of this id is refused, as `Queues::create_refusal` says it.
     pub fn queue_refusal(&self, id: u32) -> Option<MtapiStatus>
-        ensures exists { IfSome result (λ c. (c ≡ ErrQueueExists) × SomeLive (slot_value self.now.queues.pool) (HasId id)) }
+        ensures exists { IfSome result (λ c. (c ≡ ErrQueueExists)
+            × SomeLive (slot_value self.now.queues.pool) (HasId id)) }
         ensures new_id { IsNone result → NoneLive (slot_value self.now.queues.pool) (HasId id) }
     {
         self.queues.create_refusal(id)

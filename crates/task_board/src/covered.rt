@@ -147,8 +147,10 @@ impl CoveredActions {
     // The kind of an action that the worker may run, as `Actions::kind_for` says it.
     pub(crate) fn kind_for(&self, a: ActionHandle, job: u32, worker: u32) -> Option<Kind>
         requires { worker < 64 }
-        ensures some { IfSome result (λ kind. (x : Action) × (slot_value self.now a.0 ≡ Some x) × (x.kind ≡ kind) × (runs_job_on job worker x ≡ true)) }
-        ensures none { IfNone result ((x : Action) → slot_value self.now a.0 ≡ Some x → runs_job_on job worker x ≡ true → ⊥) }
+        ensures some { IfSome result (λ kind. (x : Action) × (slot_value self.now a.0 ≡ Some x) × (x.kind ≡ kind)
+            × (runs_job_on job worker x ≡ true)) }
+        ensures none { IfNone result ((x : Action) → slot_value self.now a.0 ≡ Some x → runs_job_on job worker x ≡ true
+            → ⊥) }
     {
         self.actions.kind_for(a, job, worker)
     }

@@ -144,7 +144,8 @@ impl Board {
     /// covered the cores `before`, each of its tasks had a worker: where they still do, no task is visited.
     pub fn end_unserved(&mut self, job: u32, before: Mask, status: MtapiStatus)
         ensures new { Becomes self.old self.new self.old.actions self.new.tasks }
-        ensures ends { AreServed self.old.settings.workers job before.0 self.old.tasks.pool → EndsUnserved self.old.settings.workers self.old.actions job (Failed status) self.old.tasks self.new.tasks }
+        ensures ends { AreServed self.old.settings.workers job before.0 self.old.tasks.pool
+            → EndsUnserved self.old.settings.workers self.old.actions job (Failed status) self.old.tasks self.new.tasks }
         ensures unless { EndsUnless self.old.settings.workers self.old.actions job before.0 (Failed status) self.old.tasks self.new.tasks }
     {
         self.is_kept();
@@ -171,7 +172,8 @@ impl Board {
     /// Cancels the tasks of disabled queues that haven't begun, in the order of their starts.
     pub fn end_shut(&mut self)
         ensures new { Becomes self.old self.new self.old.actions self.new.tasks }
-        ensures ends { EndsWaiting (λ t. is_shut (records_of self.old.queues.pool) t.queue) Cancelled self.old.tasks self.new.tasks }
+        ensures ends { EndsWaiting (λ t.
+            is_shut (records_of self.old.queues.pool) t.queue) Cancelled self.old.tasks self.new.tasks }
     {
         self.end_waiting(WaitingTest::Shut, &TaskEnd::Cancelled);
     }

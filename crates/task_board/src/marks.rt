@@ -97,7 +97,9 @@ fn both(a: Mask, b: Mask) -> Mask
 
 // The mark of a task that hasn't begun and may, by what the actions of its job cover.
 fn mark_of(cover: Cover, found: &TaskRecord) -> Option<Mark>
-    ensures right { (actions : Slots Action) (lets : Option ℕ → Bool) → is_unstarted found.now ≡ true → lets found.now.queue ≡ true → Covers actions found.now.job cover → IsMarkOf actions lets (seen (Some found.now)) result }
+    ensures right { (actions : Slots Action) (lets : Option ℕ → Bool) → is_unstarted found.now ≡ true
+        → lets found.now.queue ≡ true → Covers actions found.now.job cover
+        → IsMarkOf actions lets (seen (Some found.now)) result }
     ensures priority { IfSome result (λ m. m.priority ≡ found.now.priority) }
 {
     match cover {
@@ -111,7 +113,8 @@ fn mark_of(cover: Cover, found: &TaskRecord) -> Option<Mark>
 
 // The mark that is right for a task, by what the actions of its job cover.
 fn mark_by(cover: Cover, queues: &Queues, task: TaskHandle, found: &TaskRecord) -> Option<Mark>
-    ensures right { (actions : Slots Action) → Covers actions found.now.job cover → IsMarkOf actions (begins_in queues.now.pool task.0) (seen (Some found.now)) result }
+    ensures right { (actions : Slots Action) → Covers actions found.now.job cover
+        → IsMarkOf actions (begins_in queues.now.pool task.0) (seen (Some found.now)) result }
     ensures unstarted { IfSome result (λ m. is_unstarted found.now ≡ true) }
     ensures priority { IfSome result (λ m. m.priority ≡ found.now.priority) }
 {
@@ -168,8 +171,11 @@ pub(crate) fn leave_queue(
     queue: Option<QueueHandle>,
     task: TaskHandle,
 )
-    requires member { (q : ℕ) (x : HeldQueue) → queue_number queue ≡ Some q → slot_value queues.old.pool q ≡ Some x → has_handle task.0 x.tasks ≡ true }
-    requires place { (h : ℕ) → head_of (left_queue queues.old.pool (queue_number queue) task.0) (queue_number queue) ≡ Some h → slot_of h < length ready.old.marks }
+    requires member { (q : ℕ) (x : HeldQueue) → queue_number queue ≡ Some q → slot_value queues.old.pool q ≡ Some x
+        → has_handle task.0 x.tasks ≡ true }
+    requires place { (h : ℕ)
+        → head_of (left_queue queues.old.pool (queue_number queue) task.0) (queue_number queue) ≡ Some h
+        → slot_of h < length ready.old.marks }
     requires ranked { AreRanked (seen_in tasks.now.pool) ready.old.priorities }
     ensures left { queues.new ≡ record queues.old { pool = left_queue queues.old.pool (queue_number queue) task.0 } }
     ensures marks { IsFreshAt actions.now (begins_in queues.new.pool) (seen_in tasks.now.pool) (head_of queues.new.pool (queue_number queue)) ready.old ready.new }
@@ -197,7 +203,8 @@ fn refresh_for(
 )
     requires place { slot_of task.0 < length ready.old.marks }
     requires ranked { AreRanked (seen_in tasks.now.pool) ready.old.priorities }
-    ensures { (actions : Slots Action) → Covers actions job cover → IsFreshFor actions (begins_in queues.now.pool) (seen_in tasks.now.pool) job task.0 ready.old ready.new }
+    ensures { (actions : Slots Action) → Covers actions job cover
+        → IsFreshFor actions (begins_in queues.now.pool) (seen_in tasks.now.pool) job task.0 ready.old ready.new }
 {
     match tasks.get(task) {
         Some(record) if record.job() == job => {

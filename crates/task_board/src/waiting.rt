@@ -76,7 +76,8 @@ impl WaitingTasks {
     // The one after this of all.
     pub(crate) fn next(&self, task: u64) -> Option<u64>
         requires { has_handle task (list_at self.now.lists 0) ≡ true }
-        ensures { (i : ℕ) → slice_get (list_at self.now.lists 0) i ≡ Some task → result ≡ slice_get (list_at self.now.lists 0) (i + 1) }
+        ensures { (i : ℕ) → slice_get (list_at self.now.lists 0) i ≡ Some task
+            → result ≡ slice_get (list_at self.now.lists 0) (i + 1) }
     {
         self.all.next(task)
     }
@@ -98,7 +99,8 @@ impl WaitingTasks {
     // The one after this of the list that has those of a job.
     pub(crate) fn next_of_job(&self, job: u32, task: u64) -> Option<u64>
         requires { has_handle task (job_list self.now job) ≡ true }
-        ensures { (i : ℕ) → slice_get (job_list self.now job) i ≡ Some task → result ≡ slice_get (job_list self.now job) (i + 1) }
+        ensures { (i : ℕ) → slice_get (job_list self.now job) i ≡ Some task
+            → result ≡ slice_get (job_list self.now job) (i + 1) }
     {
         self.by_job.next(task)
     }

@@ -34,7 +34,8 @@ pub(crate) fn first_in(waiting: &WaitingTasks, queues: &Queues, walk: Walk) -> O
 // The task after this one of a walk.
 pub(crate) fn next_in(waiting: &WaitingTasks, queues: &Queues, walk: Walk, task: u64) -> Option<u64>
     requires { has_handle task (walked walk waiting.now queues.now.pool) ≡ true }
-    ensures { (i : ℕ) → slice_get (walked walk waiting.now queues.now.pool) i ≡ Some task → result ≡ slice_get (walked walk waiting.now queues.now.pool) (i + 1) }
+    ensures { (i : ℕ) → slice_get (walked walk waiting.now queues.now.pool) i ≡ Some task
+        → result ≡ slice_get (walked walk waiting.now queues.now.pool) (i + 1) }
 {
     match walk {
         Walk::Waiting => waiting.next(task),

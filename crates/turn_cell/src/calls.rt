@@ -49,10 +49,15 @@ impl<O: Object> TurnCell<O> {
     // then served in its order. After a try that another seat was quicker at it pauses, longer each time.
     fn draw<R: Wait>(&self, rt: &R, token: &mut Token<O>, shown: u64) -> Result<u64, u64>
         requires own { token.old.table_id ≡ self.now.id }
-        requires idle { (p : Part O.Terms O.Op O.Reply) × (token.old.me ≡ (p ∷ [], [])) × (p.stage ≡ Idle) × (p.shown ≡ shown) }
+        requires idle { (p : Part O.Terms O.Op O.Reply) × (token.old.me ≡ (p ∷ [], [])) × (p.stage ≡ Idle)
+            × (p.shown ≡ shown) }
         ensures own { token.new.table_id ≡ token.old.table_id }
-        ensures drawn { IfOk result (λ k. (k < 2 ^ 62) × ((p : Part O.Terms O.Op O.Reply) → token.old.me ≡ (p ∷ [], []) → token.new.me ≡ (after_draw p k true ∷ [], []))) }
-        ensures spent { IfErr result (λ n. (2 ^ 62 ≤ n) × ((p : Part O.Terms O.Op O.Reply) → token.old.me ≡ (p ∷ [], []) → token.new.me ≡ (after_draw p n false ∷ [], []))) }
+        ensures drawn { IfOk result (λ k. (k < 2 ^ 62)
+            × ((p : Part O.Terms O.Op O.Reply) → token.old.me ≡ (p ∷ [], [])
+            → token.new.me ≡ (after_draw p k true ∷ [], []))) }
+        ensures spent { IfErr result (λ n. (2 ^ 62 ≤ n)
+            × ((p : Part O.Terms O.Op O.Reply) → token.old.me ≡ (p ∷ [], [])
+            → token.new.me ≡ (after_draw p n false ∷ [], []))) }
     {
         let backoff = Backoff::new();
         let tries = Backoff::new();
@@ -82,7 +87,8 @@ impl<O: Object> TurnCell<O> {
         requires own { token.old.table_id ≡ self.now.id }
         requires waits { (p : Part O.Terms O.Op O.Reply) × (token.old.me ≡ (p ∷ [], [])) × (p.stage ≡ Waits ticket) }
         ensures own { token.new.table_id ≡ token.old.table_id }
-        ensures took { (p : Part O.Terms O.Op O.Reply) → token.old.me ≡ (p ∷ [], []) → p.stage ≡ Waits ticket → Took (boxed_terms O.terms) O.seat_count O.legal (boxed_stands O.stands) p ticket result None token.new.me }
+        ensures took { (p : Part O.Terms O.Op O.Reply) → token.old.me ≡ (p ∷ [], []) → p.stage ≡ Waits ticket
+            → Took (boxed_terms O.terms) O.seat_count O.legal (boxed_stands O.stands) p ticket result None token.new.me }
     {
         let mut waiting = Waiting::new(self.line.bell(ticket));
         for _ in rt.forever() {
@@ -98,9 +104,12 @@ impl<O: Object> TurnCell<O> {
     // Takes the object out of the slot, which the look gave to the seat.
     fn take(&self, token: &mut Token<O>, ticket: u64) -> Box<O>
         requires own { token.old.table_id ≡ self.now.id }
-        requires took { (p : Part O.Terms O.Op O.Reply) × (o : Box O Global) × Took (boxed_terms O.terms) O.seat_count O.legal (boxed_stands O.stands) p ticket o (Some o) token.old.me }
+        requires took { (p : Part O.Terms O.Op O.Reply) × (o : Box O Global)
+            × Took (boxed_terms O.terms) O.seat_count O.legal (boxed_stands O.stands) p ticket o (Some o) token.old.me }
         ensures own { token.new.table_id ≡ token.old.table_id }
-        ensures took { (p : Part O.Terms O.Op O.Reply) (o : Box O Global) → Took (boxed_terms O.terms) O.seat_count O.legal (boxed_stands O.stands) p ticket o (Some o) token.old.me → Took (boxed_terms O.terms) O.seat_count O.legal (boxed_stands O.stands) p ticket result None token.new.me }
+        ensures took { (p : Part O.Terms O.Op O.Reply) (o : Box O Global)
+            → Took (boxed_terms O.terms) O.seat_count O.legal (boxed_stands O.stands) p ticket o (Some o) token.old.me
+            → Took (boxed_terms O.terms) O.seat_count O.legal (boxed_stands O.stands) p ticket result None token.new.me }
     {
         match self.table.shared.exchange(token, 0, None) {
             Some(object) => object,
@@ -116,9 +125,13 @@ impl<O: Object> TurnCell<O> {
         reply: &O::Reply,
     )
         requires own { token.old.table_id ≡ self.now.id }
-        requires holds { (p : Part O.Terms O.Op O.Reply) × (k : ℕ) × (op : O.Op) × (token.old.me ≡ (p ∷ [], (0, None) ∷ [])) × (p.stage ≡ Holds k) × (O.terms object.value ≡ p.terms) × O.stands object.value (p.seen ++ part_entry p op reply.now ∷ []) × (B.argument ≡ op ∷ []) × (C.argument ≡ reply.now ∷ []) }
+        requires holds { (p : Part O.Terms O.Op O.Reply) × (k : ℕ) × (op : O.Op)
+            × (token.old.me ≡ (p ∷ [], (0, None) ∷ [])) × (p.stage ≡ Holds k) × (O.terms object.value ≡ p.terms)
+            × O.stands object.value (p.seen ++ part_entry p op reply.now ∷ []) × (B.argument ≡ op ∷ [])
+            × (C.argument ≡ reply.now ∷ []) }
         ensures own { token.new.table_id ≡ token.old.table_id }
-        ensures passed { (p : Part O.Terms O.Op O.Reply) (op : O.Op) → token.old.me ≡ (p ∷ [], (0, None) ∷ []) → B.argument ≡ op ∷ [] → token.new.me ≡ (after_pass p (part_entry p op reply.now) ∷ [], []) }
+        ensures passed { (p : Part O.Terms O.Op O.Reply) (op : O.Op) → token.old.me ≡ (p ∷ [], (0, None) ∷ [])
+            → B.argument ≡ op ∷ [] → token.new.me ≡ (after_pass p (part_entry p op reply.now) ∷ [], []) }
     {
         let _ = reply;
         let _none = self.table.shared.exchange(token, 0, Some(object));
@@ -135,10 +148,14 @@ impl<O: Object> TurnCell<O> {
     ) -> O::Reply
         requires own { token.old.table_id ≡ self.now.id }
         requires argument { B.argument ≡ op ∷ [] }
-        requires holds { (p : Part O.Terms O.Op O.Reply) × (k : ℕ) × (token.old.me ≡ (p ∷ [], (0, None) ∷ [])) × (p.stage ≡ Holds k) × (p.number ≡ number) × (O.terms object.value ≡ p.terms) × O.stands object.value p.seen × (length p.seen < 2 ^ 62) × (p.number < O.seat_count p.terms) }
+        requires holds { (p : Part O.Terms O.Op O.Reply) × (k : ℕ) × (token.old.me ≡ (p ∷ [], (0, None) ∷ []))
+            × (p.stage ≡ Holds k) × (p.number ≡ number) × (O.terms object.value ≡ p.terms)
+            × O.stands object.value p.seen × (length p.seen < 2 ^ 62) × (p.number < O.seat_count p.terms) }
         ensures own { token.new.table_id ≡ token.old.table_id }
-        ensures passed { (p : Part O.Terms O.Op O.Reply) → token.old.me ≡ (p ∷ [], (0, None) ∷ []) → token.new.me ≡ (after_pass p (part_entry p op result) ∷ [], []) }
-        ensures legal { (p : Part O.Terms O.Op O.Reply) → token.old.me ≡ (p ∷ [], (0, None) ∷ []) → O.legal p.terms (p.seen ++ part_entry p op result ∷ []) }
+        ensures passed { (p : Part O.Terms O.Op O.Reply) → token.old.me ≡ (p ∷ [], (0, None) ∷ [])
+            → token.new.me ≡ (after_pass p (part_entry p op result) ∷ [], []) }
+        ensures legal { (p : Part O.Terms O.Op O.Reply) → token.old.me ≡ (p ∷ [], (0, None) ∷ [])
+            → O.legal p.terms (p.seen ++ part_entry p op result ∷ []) }
     {
         let reply = object.apply(number, op);
         self.pass::<B, Brand>(token, object, &reply);

@@ -52,7 +52,8 @@ impl<O: Object> TurnCell<O> {
         requires seats { 0 < O.seat_count (O.terms object) }
         requires stands { O.stands object [] }
         ensures terms { IfOk result (λ r. r.0.terms ≡ O.terms object) }
-        ensures seats { IfOk result (λ r. r.1.items ≡ fresh_seats (O.terms object) r.0.id 0 (O.seat_count (O.terms object))) }
+        ensures seats { IfOk result (λ r.
+            r.1.items ≡ fresh_seats (O.terms object) r.0.id 0 (O.seat_count (O.terms object))) }
     {
         let count = object.seats();
         let terms = object.told_terms();

@@ -45,7 +45,8 @@ impl<O: Object> TurnCell<O> {
         requires own { all_of (λ s. s.cell ≡ self.id) seats.items }
         requires complete { IsComplete (O.seat_count self.terms) seats.items }
         ensures terms { O.terms result ≡ self.terms }
-        ensures history { (h : List (Entry O.Op O.Reply)) × O.legal self.terms h × O.stands result h × all_of (IsSeatOf self.terms h) seats.items }
+        ensures history { (h : List (Entry O.Op O.Reply)) × O.legal self.terms h × O.stands result h
+            × all_of (IsSeatOf self.terms h) seats.items }
     {
         let token = self.gather(seats);
         let TurnCell {

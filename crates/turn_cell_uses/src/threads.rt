@@ -49,14 +49,16 @@ pub fn count_together<R: Threads + Wait + Sync>(
         rt,
         move || -> Result<(TurnSeat<Counter>, Vec<u64>), AllocError>
             requires { a.cell ≡ shared.now.id }
-            ensures { IfOk result (λ r. (r.0.cell ≡ a.cell) × (r.0.number ≡ a.number) × (r.0.mine ≡ a.mine ++ calls a.number r.1.items)) }
+            ensures { IfOk result (λ r. (r.0.cell ≡ a.cell) × (r.0.number ≡ a.number)
+                × (r.0.mine ≡ a.mine ++ calls a.number r.1.items)) }
         {
             start.wait(rt);
             count_up(rt, alloc, shared, a, times)
         },
         move || -> Result<(TurnSeat<Counter>, Vec<u64>), AllocError>
             requires { b.cell ≡ shared.now.id }
-            ensures { IfOk result (λ r. (r.0.cell ≡ b.cell) × (r.0.number ≡ b.number) × (r.0.mine ≡ b.mine ++ calls b.number r.1.items)) }
+            ensures { IfOk result (λ r. (r.0.cell ≡ b.cell) × (r.0.number ≡ b.number)
+                × (r.0.mine ≡ b.mine ++ calls b.number r.1.items)) }
         {
             start.wait(rt);
             count_up(rt, alloc, shared, b, times)

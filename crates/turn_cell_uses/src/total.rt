@@ -91,7 +91,8 @@ fn longer(
     log: Option<Vec<Entry<Change, u64>>>,
     entry: Entry<Change, u64>,
 ) -> Option<Vec<Entry<Change, u64>>>
-    ensures { (l : List (Entry Change ℕ)) → IfSome log (λ v. v.items ≡ l) → IfSome result (λ v. v.items ≡ l ++ entry ∷ []) }
+    ensures { (l : List (Entry Change ℕ)) → IfSome log (λ v. v.items ≡ l)
+        → IfSome result (λ v. v.items ≡ l ++ entry ∷ []) }
 {
     let mut all = log?;
     match all.push(entry) {
