@@ -41,26 +41,15 @@ enum Kept {
     Entries(EntryList),
 }
 
-// Adds an entry and its number where a journal is kept. False where memory was short.
-fn push_to(kept: &mut Kept, who: u32, op: Op, reply: &Reply, number: u64) -> bool
-    ensures pushed { OnTrue result (AddsTo kept.old (entry who op reply.now) number kept.new) }
-    ensures short { OnFalse result (keeps kept.old ≡ true) }
-{
-    match kept {
-        Kept::Nothing => true,
-        Kept::Lost => true,
-        Kept::Entries(entries) => {
-            let reply = reply.again();
-            entries.push(Entry { who, op, reply }, number).is_ok()
-        }
-    }
-}
-
-// The same; the entries are lost where memory was short.
+// Adds an entry and its number where a journal is kept. The entries are lost where memory was short.
 fn add_to(kept: &mut Kept, who: u32, op: Op, reply: &Reply, number: u64)
     ensures { AddsTo kept.old (entry who op reply.now) number kept.new }
 {
-    if !push_to(kept, who, op, reply, number) {
+    let Kept::Entries(entries) = kept else {
+        return;
+    };
+    let reply = reply.again();
+    if entries.push(Entry { who, op, reply }, number).is_err() {
         *kept = Kept::Lost;
     }
 }

@@ -9,7 +9,7 @@ ghost use Rattle.node_core.specs.Stands.{Stands, terms_of, seat_count};
 ghost use Rattle.node_core.specs.Parts.{Agrees};
 
 use history::Object;
-use mtapi_layouts::{answered_kind, inward_op, turn_outward};
+use mtapi_layouts::{answered_kind, inward_task, turn_outward};
 use mtapi_machine::{Op, Reply, Terms};
 use mtapi_values::{Layout, NodeAttr};
 use std::alloc::{AllocError, Global};
@@ -125,9 +125,8 @@ impl Node {
     {
         match op {
             Op::TaskLook { task, last } => {
-                let (task, last) = (*task, *last);
-                self.inner
-                    .pends_alike(who, &inward_op(Op::TaskLook { task, last }))
+                let (task, last) = (inward_task(*task), *last);
+                self.inner.pends_alike(who, &Op::TaskLook { task, last })
             }
             _ => true,
         }

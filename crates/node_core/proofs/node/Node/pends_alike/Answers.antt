@@ -1,8 +1,12 @@
 use Rattle.std.proofs.Common.{◌∙◌, ap, sym}
+use Rattle.mtapi_values.specs.declared.handles.TaskHandle.{TaskHandle}
+use Rattle.mtapi_machine.specs.declared.ops.Op.TheVariants.{TaskLook}
 use Rattle.mtapi_layouts.specs.Ops.{inward_op}
 use Rattle.node_core.proofs.NodeLemmas.{pends_alike_so}
 use Rattle.node_core.proofs.node.Node.pends_alike.Goals as goal
 
 pub returns-in-TaskLook : goal.returns-in-TaskLook
 returns-in-TaskLook c L st =
-    pends_alike_so c.args.self.now L c.args.who c.args.op.now c.inward_op.result c.pends_alike.result st (c.inward_op.ensures ∙ ap inward_op (sym c.in-TaskLook.is)) c.pends_alike.ensures
+    let inside = TaskLook c.inward_task-task.result c.in-TaskLook.last in
+    let turned = ap (λ (t : TaskHandle). TaskLook t c.in-TaskLook.last) c.inward_task-task.ensures ∙ ap inward_op (sym c.in-TaskLook.is) in
+    pends_alike_so c.args.self.now L c.args.who c.args.op.now inside c.pends_alike.result st turned c.pends_alike.ensures
