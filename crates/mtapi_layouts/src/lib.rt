@@ -6,6 +6,4 @@ mod laws;
 mod ops;
 
 pub use laws::law_layouts;
-pub use ops::{
-    answered_kind, inward_member, inward_op, inward_queue, inward_task, outward_reply, turn_outward,
-};
+pub use ops::{Inwards, answered_kind, turn_outward};

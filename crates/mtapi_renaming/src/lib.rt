@@ -12,4 +12,7 @@ pub use laws::{
     law_counts, law_gone, law_lasts, law_refusals, law_renaming, law_verdicts, worked_renaming,
 };
 pub use maps::OtherHandles;
-pub use ops::{Rename, renamed_answer, renamed_op};
+pub use ops::{
+    Rename, other_action, other_group, other_member, other_mutex, other_queue, other_rwl,
+    other_sem, other_shmem, other_task, renamed_answer, renamed_op,
+};

@@ -23,55 +23,64 @@ pub trait Rename {
         ensures { result ≡ renaming self.now kind handle };
 }
 
-fn other_action<R: Rename>(names: &R, action: ActionHandle) -> ActionHandle
+/// The other handle of an action.
+pub fn other_action<R: Rename>(names: &R, action: ActionHandle) -> ActionHandle
     ensures { result ≡ other_action (R.renaming names.now) action }
 {
     ActionHandle(names.other(ObjectKind::Action, action.0))
 }
 
-fn other_task<R: Rename>(names: &R, task: TaskHandle) -> TaskHandle
+/// The other handle of a task.
+pub fn other_task<R: Rename>(names: &R, task: TaskHandle) -> TaskHandle
     ensures { result ≡ other_task (R.renaming names.now) task }
 {
     TaskHandle(names.other(ObjectKind::Task, task.0))
 }
 
-fn other_group<R: Rename>(names: &R, group: GroupHandle) -> GroupHandle
+/// The other handle of a group.
+pub fn other_group<R: Rename>(names: &R, group: GroupHandle) -> GroupHandle
     ensures { result ≡ other_group (R.renaming names.now) group }
 {
     GroupHandle(names.other(ObjectKind::Group, group.0))
 }
 
-fn other_queue<R: Rename>(names: &R, queue: QueueHandle) -> QueueHandle
+/// The other handle of a queue.
+pub fn other_queue<R: Rename>(names: &R, queue: QueueHandle) -> QueueHandle
     ensures { result ≡ other_queue (R.renaming names.now) queue }
 {
     QueueHandle(names.other(ObjectKind::Queue, queue.0))
 }
 
-fn other_mutex<R: Rename>(names: &R, mutex: MutexHandle) -> MutexHandle
+/// The other handle of a mutex.
+pub fn other_mutex<R: Rename>(names: &R, mutex: MutexHandle) -> MutexHandle
     ensures { result ≡ other_mutex (R.renaming names.now) mutex }
 {
     MutexHandle(names.other(ObjectKind::Mutex, mutex.0))
 }
 
-fn other_sem<R: Rename>(names: &R, sem: SemHandle) -> SemHandle
+/// The other handle of a semaphore.
+pub fn other_sem<R: Rename>(names: &R, sem: SemHandle) -> SemHandle
     ensures { result ≡ other_sem (R.renaming names.now) sem }
 {
     SemHandle(names.other(ObjectKind::Sem, sem.0))
 }
 
-fn other_rwl<R: Rename>(names: &R, rwl: RwlHandle) -> RwlHandle
+/// The other handle of a reader-writer lock.
+pub fn other_rwl<R: Rename>(names: &R, rwl: RwlHandle) -> RwlHandle
     ensures { result ≡ other_rwl (R.renaming names.now) rwl }
 {
     RwlHandle(names.other(ObjectKind::Rwl, rwl.0))
 }
 
-fn other_shmem<R: Rename>(names: &R, shmem: ShmemHandle) -> ShmemHandle
+/// The other handle of a segment.
+pub fn other_shmem<R: Rename>(names: &R, shmem: ShmemHandle) -> ShmemHandle
     ensures { result ≡ other_shmem (R.renaming names.now) shmem }
 {
     ShmemHandle(names.other(ObjectKind::Shmem, shmem.0))
 }
 
-fn other_member<R: Rename>(names: &R, group: Option<GroupHandle>) -> Option<GroupHandle>
+/// The other handle of a group, where there is one.
+pub fn other_member<R: Rename>(names: &R, group: Option<GroupHandle>) -> Option<GroupHandle>
     ensures { result ≡ option_map (other_group (R.renaming names.now)) group }
 {
     match group {

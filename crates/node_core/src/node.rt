@@ -9,8 +9,9 @@ ghost use Rattle.node_core.specs.Stands.{Stands, terms_of, seat_count};
 ghost use Rattle.node_core.specs.Parts.{Agrees};
 
 use history::Object;
-use mtapi_layouts::{answered_kind, inward_task, turn_outward};
+use mtapi_layouts::{Inwards, answered_kind, turn_outward};
 use mtapi_machine::{Op, Reply, Terms};
+use mtapi_renaming::other_task;
 use mtapi_values::{Layout, NodeAttr};
 use std::alloc::{AllocError, Global};
 
@@ -125,7 +126,7 @@ impl Node {
     {
         match op {
             Op::TaskLook { task, last } => {
-                let (task, last) = (inward_task(*task), *last);
+                let (task, last) = (other_task(&Inwards, *task), *last);
                 self.inner.pends_alike(who, &Op::TaskLook { task, last })
             }
             _ => true,

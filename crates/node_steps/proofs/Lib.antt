@@ -22,4 +22,5 @@ pub mod RefusedSteps
 pub mod GroupLists
 pub mod GroupSteps
 pub mod NewHandles
+pub mod SameOps
 pub mod TallySteps

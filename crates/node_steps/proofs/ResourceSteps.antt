@@ -8,6 +8,8 @@ use Rattle.mtapi_machine.specs.State.{State}
 use Rattle.mtapi_machine.specs.Row.{after_row}
 use Rattle.mtapi_machine.specs.Rows.{row}
 use Rattle.mtapi_machine.specs.Legal.{IsHonest}
+use Rattle.mtapi_renaming.specs.Renaming.{Renaming}
+use Rattle.mtapi_renaming.specs.Ops.{renamed_op}
 use Rattle.node_resources.specs.declared.gate.Gate.{Gate}
 use Rattle.node_resources.specs.Holds.{ResourceTable, HoldsAll, resource_lists}
 use Rattle.node_resources.specs.Steps.{Does, IsAt, Steps as ResourceSteps, is_resource_op}
@@ -18,6 +20,11 @@ use Rattle.node_steps.specs.Stands.{Lists, Live, Steps, state_of}
 honest : (o : Op) → is_resource_op o ≡ true → IsHonest o
 honest (op.Finish task done) e = absurd (cc)
 honest _ e = tt
+
+-- with other handles it is still such an op
+pub stays : (g : Renaming) (o : Op) → is_resource_op (renamed_op g o) ≡ is_resource_op o
+stays g (op.Finish task done) = refl
+stays g _ = refl
 
 -- the gate that the node tells is that of its state
 pub is_at : (n : Node) (l : Lists) (g : Gate) → g.phase ≡ n.core.phase → g.workers ≡ n.board.settings.workers → IsAt (state_of n l) g

@@ -3,10 +3,12 @@
 ghost use Rattle.std.specs.Prelude.{◌≡◌, ◌^◌, ◌<◌, ◌≤◌, [], IfOk};
 ghost use Rattle.mtapi_values.specs.Attributes.{AreNodeSettings};
 ghost use Rattle.mtapi_values.specs.declared.handles.Layout.TheVariants.{One};
+ghost use Rattle.mtapi_renaming.specs.Ops.{renamed_op};
 ghost use Rattle.node_steps.specs.Stands.{Lists, Live, Steps, Stands, state_of, terms_of};
 ghost use Rattle.node_steps.specs.Sound.{Sound};
 
 use mtapi_machine::{Op, Phase, Reply};
+use mtapi_renaming::{Rename, other_action, other_group, other_member, other_queue, other_task};
 use mtapi_values::NodeAttr;
 use node_resources::Resources;
 use std::alloc::{AllocError, Global};
@@ -78,11 +80,11 @@ impl Node {
         self.board.settings()
     }
 
-    // One op, by its own method.
-    pub(crate) fn dispatch(&mut self, who: u32, op: Op) -> Reply
+    // One op, by its own method. The pools have other handles for those that it names.
+    pub(crate) fn dispatch<R: Rename>(&mut self, names: &R, who: u32, op: &Op) -> Reply
         requires few_starts { self.old.board.tasks.starts < 2 ^ 63 }
         requires seat { who < 25 }
-        ensures { (l : Lists) → Live self.old l → Sound (state_of self.old l) → Steps self.old l who op result self.new }
+        ensures { (l : Lists) → Live self.old l → Sound (state_of self.old l) → Steps self.old l who (renamed_op (R.renaming names.now) op.now) result self.new }
     {
         match op {
             Op::Initialize => self.initialize(),
@@ -90,11 +92,11 @@ impl Node {
             Op::Enter => self.enter(),
             Op::Close => self.close(),
             Op::Final => self.finalize(),
-            Op::JobGet { job } => self.job_get(job),
-            Op::ActionCreate { job, kind, cores } => self.action_create(job, kind, cores),
-            Op::ActionDelete { action } => self.action_delete(action),
-            Op::ActionDisable { action } => self.action_disable(action),
-            Op::ActionEnable { action } => self.action_enable(action),
+            Op::JobGet { job } => self.job_get(*job),
+            Op::ActionCreate { job, kind, cores } => self.action_create(*job, *kind, *cores),
+            Op::ActionDelete { action } => self.action_delete(other_action(names, *action)),
+            Op::ActionDisable { action } => self.action_disable(other_action(names, *action)),
+            Op::ActionEnable { action } => self.action_enable(other_action(names, *action)),
             Op::TaskStart {
                 job,
                 args,
@@ -102,20 +104,33 @@ impl Node {
                 cores,
                 detached,
                 group,
-            } => self.task_start(job, &args, priority, cores, detached, group),
+            } => self.task_start(
+                *job,
+                args,
+                *priority,
+                *cores,
+                *detached,
+                other_member(names, *group),
+            ),
             Op::TaskEnqueue {
                 queue,
                 args,
                 cores,
                 detached,
                 group,
-            } => self.task_enqueue(queue, &args, cores, detached, group),
-            Op::TaskLook { task, last } => self.task_look(who, task, last),
-            Op::TaskCancel { task } => self.task_cancel(task),
+            } => self.task_enqueue(
+                other_queue(names, *queue),
+                args,
+                *cores,
+                *detached,
+                other_member(names, *group),
+            ),
+            Op::TaskLook { task, last } => self.task_look(who, other_task(names, *task), *last),
+            Op::TaskCancel { task } => self.task_cancel(other_task(names, *task)),
             Op::GroupCreate => self.group_create(),
-            Op::GroupDelete { group } => self.group_delete(group),
-            Op::AllLook { group, last } => self.all_look(group, last),
-            Op::AnyLook { group, last } => self.any_look(group, last),
+            Op::GroupDelete { group } => self.group_delete(other_group(names, *group)),
+            Op::AllLook { group, last } => self.all_look(other_group(names, *group), *last),
+            Op::AnyLook { group, last } => self.any_look(other_group(names, *group), *last),
             Op::QueueCreate {
                 id,
                 job,
@@ -123,20 +138,24 @@ impl Node {
                 limit,
                 ordered,
                 retain,
-            } => self.queue_create(id, job, priority, limit, ordered, retain),
-            Op::QueueGet { id } => self.queue_get(id),
-            Op::QueueEnable { queue } => self.queue_enable(queue),
-            Op::QueueDisable { queue } => self.queue_disable(queue),
-            Op::QueueDelete { queue } => self.queue_delete(queue),
-            Op::Pick => self.pick(who),
-            Op::Finish { task, done } => self.finish(who, task, &done),
-            Op::Asked { task } => self.asked(who, task),
-            Op::WatchEnd { task } => self.watch_end(who, task),
-            Op::TallyLock { task } => self.tally_lock(who, task),
-            Op::TallyRead { task } => self.tally_read(who, task),
-            Op::TallyWrite { task, value } => self.tally_write(who, task, value),
-            Op::TallyEnd { task } => self.tally_end(who, task),
-            op => self.resource_op(who, op),
+            } => self.queue_create(*id, *job, *priority, *limit, *ordered, *retain),
+            Op::QueueGet { id } => self.queue_get(*id),
+            Op::QueueEnable { queue } => self.queue_enable(other_queue(names, *queue)),
+            Op::QueueDisable { queue } => self.queue_disable(other_queue(names, *queue)),
+            Op::QueueDelete { queue } => self.queue_delete(other_queue(names, *queue)),
+            Op::Pick => self.pick_wanted(who, None),
+            Op::Finish { task, done } => self.finish(who, other_task(names, *task), done),
+            Op::Asked { task } => self.asked(who, other_task(names, *task)),
+            Op::WatchEnd { task } => self.watch_end(who, other_task(names, *task)),
+            Op::TallyLock { task } => self.tally_lock(who, other_task(names, *task)),
+            Op::TallyRead { task } => self.tally_read(who, other_task(names, *task)),
+            Op::TallyWrite { task, value } => self.tally_write(
+                who,
+                other_task(names, *task),
+                *value,
+            ),
+            Op::TallyEnd { task } => self.tally_end(who, other_task(names, *task)),
+            _ => self.resource_op(names, who, op),
         }
     }
 }

@@ -2,12 +2,14 @@
 
 ghost use Rattle.std.specs.Prelude.{◌≡◌, ◌<◌, true};
 ghost use Rattle.node_resources.specs.Steps.{is_resource_op};
+ghost use Rattle.mtapi_renaming.specs.Ops.{renamed_op};
 ghost use Rattle.mtapi_values.specs.Conditions.{first};
 ghost use Rattle.node_resources.specs.Refusals.{mutex_refusals, sem_refusals, rwl_refusals, shmem_refusals};
 ghost use Rattle.node_steps.specs.Stands.{Lists, Live, Steps, state_of};
 
 use crate::node::Node;
 use mtapi_machine::{Op, Reply};
+use mtapi_renaming::Rename;
 use mtapi_values::MrapiStatus;
 use node_resources::Gate;
 
@@ -23,14 +25,14 @@ impl Node {
         }
     }
 
-    // One op on resources, by a seat below 25.
-    pub(crate) fn resource_op(&mut self, who: u32, op: Op) -> Reply
+    // One op on resources, by a seat below 25. The pools have other handles for those that it names.
+    pub(crate) fn resource_op<R: Rename>(&mut self, names: &R, who: u32, op: &Op) -> Reply
         requires seat { who < 25 }
-        requires resource { is_resource_op op ≡ true }
-        ensures { (l : Lists) → Live self.old l → Steps self.old l who op result self.new }
+        requires resource { is_resource_op op.now ≡ true }
+        ensures { (l : Lists) → Live self.old l → Steps self.old l who (renamed_op (R.renaming names.now) op.now) result self.new }
     {
         let gate = self.gate();
-        self.resources.execute(gate, who, op)
+        self.resources.execute(names, gate, who, op)
     }
 
     // Why a create of a resource is refused, whether there is room or not.

@@ -10,9 +10,22 @@ ghost use Rattle.node_steps.specs.Sound.{Sound};
 
 use crate::node::Node;
 use crate::walks::is_seat;
-use mtapi_layouts::{inward_member, inward_op, inward_queue, inward_task};
+use mtapi_layouts::Inwards;
 use mtapi_machine::{Op, Reply, Terms};
-use mtapi_values::Layout;
+use mtapi_renaming::Rename;
+use mtapi_values::{Layout, ObjectKind};
+
+// Each handle stands for itself.
+struct Same;
+
+impl Rename for Same {
+    ghost renaming = { λ s kind handle. handle };
+
+    /// The handle itself.
+    fn other(&self, _kind: ObjectKind, handle: u64) -> u64 {
+        handle
+    }
+}
 
 impl Node {
     /// Tells the number of seats, 2 to 25, which are numbered from 0: first the workers, then main,
@@ -43,7 +56,7 @@ impl Node {
         ensures stands { (L : List NodeEntry) → Stands self.old L → Stands self.new (L ++ entry who op result ∷ []) }
         ensures small { IssuesSmall op result }
     {
-        let reply = self.dispatch(who, op);
+        let reply = self.dispatch(&Same, who, &op);
         self.board.is_kept();
         reply
     }
@@ -57,51 +70,9 @@ impl Node {
         ensures stands { (L : List NodeEntry) → Stands self.old L → Stands self.new (L ++ entry who (inward_op op.now) result ∷ []) }
         ensures small { IssuesSmall (inward_op op.now) result }
     {
-        let reply = self.dispatch_inward(who, op);
+        let reply = self.dispatch(&Inwards, who, op);
         self.board.is_kept();
         reply
-    }
-
-    // The same, by its own method. What is asked for most is done without a copy of the op.
-    fn dispatch_inward(&mut self, who: u32, op: &Op) -> Reply
-        requires few_starts { self.old.board.tasks.starts < 2 ^ 63 }
-        requires seat { who < 25 }
-        ensures { (l : Lists) → Live self.old l → Sound (state_of self.old l) → Steps self.old l who (inward_op op.now) result self.new }
-    {
-        match op {
-            Op::TaskStart {
-                job,
-                args,
-                priority,
-                cores,
-                detached,
-                group,
-            } => self.task_start(
-                *job,
-                args,
-                *priority,
-                *cores,
-                *detached,
-                inward_member(*group),
-            ),
-            Op::TaskEnqueue {
-                queue,
-                args,
-                cores,
-                detached,
-                group,
-            } => self.task_enqueue(
-                inward_queue(*queue),
-                args,
-                *cores,
-                *detached,
-                inward_member(*group),
-            ),
-            Op::TaskLook { task, last } => self.task_look(who, inward_task(*task), *last),
-            Op::Pick => self.pick(who),
-            Op::Finish { task, done } => self.finish(who, inward_task(*task), done),
-            _ => self.dispatch(who, inward_op(op.again())),
-        }
     }
 
     /// Tells whether the state would stay as it is, were this op answered Pending.

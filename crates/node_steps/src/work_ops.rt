@@ -70,13 +70,7 @@ impl Node {
         }
     }
 
-    pub(crate) fn pick(&mut self, who: u32) -> Reply
-        ensures { (l : Lists) → Live self.old l → Steps self.old l who op.Pick result self.new }
-    {
-        self.pick_wanted(who, None)
-    }
-
-    // The same, by a worker that takes this task by this action wherever it may.
+    // A worker asks for a task. Where one is wanted, it takes this task by this action wherever it may.
     pub(crate) fn pick_wanted(
         &mut self,
         who: u32,

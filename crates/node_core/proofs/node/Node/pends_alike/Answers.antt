@@ -7,6 +7,6 @@ use Rattle.node_core.proofs.node.Node.pends_alike.Goals as goal
 
 pub returns-in-TaskLook : goal.returns-in-TaskLook
 returns-in-TaskLook c L st =
-    let inside = TaskLook c.inward_task-task.result c.in-TaskLook.last in
-    let turned = ap (λ (t : TaskHandle). TaskLook t c.in-TaskLook.last) c.inward_task-task.ensures ∙ ap inward_op (sym c.in-TaskLook.is) in
+    let inside = TaskLook c.other_task-task.result c.in-TaskLook.last in
+    let turned = ap (λ (t : TaskHandle). TaskLook t c.in-TaskLook.last) c.other_task-task.ensures ∙ ap inward_op (sym c.in-TaskLook.is) in
     pends_alike_so c.args.self.now L c.args.who c.args.op.now inside c.pends_alike.result st turned c.pends_alike.ensures

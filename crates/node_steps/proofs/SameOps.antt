@@ -1,0 +1,21 @@
+-- An op of which each handle stands for itself.
+use Rattle.std.proofs.Common.{◌≡◌, ℕ, refl, subst}
+use Rattle.std.specs.Prelude.{Option, Some, None}
+use Rattle.mtapi_machine.specs.declared.ops.Op.{Op}
+use Rattle.mtapi_machine.specs.declared.ops.Op.TheVariants as op
+use Rattle.mtapi_machine.specs.declared.replies.Reply.{Reply}
+use Rattle.mtapi_renaming.specs.Ops.{renamed_op}
+use Rattle.node_steps.specs.declared.node.Node.{Node}
+use Rattle.node_steps.specs.Stands.{Lists, Live, Steps, state_of}
+use Rattle.node_steps.specs.Sound.{Sound}
+
+same : (o : Op) → renamed_op (λ kind handle. handle) o ≡ o
+same (op.TaskStart job args priority cores detached None) = refl
+same (op.TaskStart job args priority cores detached (Some x)) = refl
+same (op.TaskEnqueue q args cores detached None) = refl
+same (op.TaskEnqueue q args cores detached (Some x)) = refl
+same _ = refl
+
+-- what a node does with it is what it does with the op
+pub does : (n m : Node) (who : ℕ) (o : Op) (r : Reply) → ((l : Lists) → Live n l → Sound (state_of n l) → Steps n l who (renamed_op (λ kind handle. handle) o) r m) → (l : Lists) → Live n l → Sound (state_of n l) → Steps n l who o r m
+does n m who o r f l v k = subst (λ (p : Op). Steps n l who p r m) (same o) (f l v k)
