@@ -1,13 +1,5 @@
 -- What is asked of a list of issued objects, answered from the slots that stand for it.
-use Rattle.std.proofs.Common.{◌≡◌, ◌↔◌, ℕ, zero, suc, ◌+◌, ◌*◌, ◌^◌, ◌<◌, ◌≤◌, Bool, true, false, ◌&&◌, cond, List, [], ◌∷◌, length, Option, Some, None, count_by, slice_get, refl, sym, ap, ◌∙◌, inl, inr, arith}
-use Rattle.std.specs.Prelude.{◌==◌}
-use Rattle.std.proofs.lemmas.Bool.{cases_Bool}
-use Rattle.std.proofs.lemmas.Bool.Decides.{nat_tests}
-use Rattle.std.proofs.lemmas.List.Sums.{sum_by-cons}
-use Rattle.handle_pool.specs.Slots.{Slot, Slots, slot_of, generation_of, value_at, slot_value}
-use Rattle.handle_pool.specs.Walks.{value_passes, count_in, SomeLive, NoneLive}
-use Rattle.handle_pool.specs.Issued.{Listed, how_many, live_of, lookup, live_object, any_listed, any_live, first_handle, count_listed, change, change_all}
-use Rattle.handle_pool.specs.Stands.{Distinct, Stands}
+use Rattle.handle_pool.proofs.Names.{◌≡◌, ℕ, zero, suc, ◌+◌, ◌*◌, ◌^◌, ◌<◌, ◌≤◌, Bool, true, false, ◌&&◌, cond, List, [], ◌∷◌, length, Option, Some, None, count_by, slice_get, refl, sym, ap, ◌∙◌, inl, inr, arith, ◌==◌, cases_Bool, nat_tests, sum_by-cons, Slot, Slots, slot_of, generation_of, value_at, slot_value, value_passes, count_in, SomeLive, NoneLive, Listed, how_many, live_of, lookup, any_listed, any_live, first_handle, count_listed, change_all, Distinct, Stands}
 use Rattle.handle_pool.proofs.LiveLemmas.{passing, any_live-at, first_live-passes, first_live-any, first_live-none, how_many-same}
 use Rattle.handle_pool.proofs.StandsLemmas.{value_at-none}
 
@@ -43,22 +35,12 @@ module _ {T : Type 0} where
         | inr off ↦ off
       ]
 
-  -- some object of the list passes exactly where a live handle has one
-  pub any-exactly : (p : Slots T) (l : List (Listed T)) (q : T → Bool) → Stands p l → (any_listed q l ≡ true) ↔ SomeLive (slot_value p) (λ v. q v ≡ true)
-  any-exactly p l q stands = (any-some p l q stands, λ some. any-live p l q some.0 some.1 stands some.2 some.3)
-
   -- the only live handle with an object that passes is the first
   pub first_live-only : (p : Slots T) (l : List (Listed T)) (q : T → Bool) (h : ℕ) (v : T) → Stands p l → slot_value p h ≡ Some v → q v ≡ true → ((k : ℕ) (w : T) → slot_value p k ≡ Some w → q w ≡ true → k ≡ h) → first_handle q (live_of l) ≡ Some h
   first_live-only p l q h v stands found holds only =
       let first = first_live-any q (live_of l) (any-live p l q h v stands found holds) in
       let passes = first_live-passes q (live_of l) first.0 stands.distinct first.1 in
       first.1 ∙ ap Some (only first.0 passes.0 (stands.found first.0 ∙ passes.1) passes.2)
-
-  -- the first that passes is live, and passes
-  pub first_live-found : (p : Slots T) (l : List (Listed T)) (q : T → Bool) (h : ℕ) → Stands p l → first_handle q (live_of l) ≡ Some h → (v : T) × (slot_value p h ≡ Some v) × (q v ≡ true)
-  first_live-found p l q h stands first =
-      let passes = first_live-passes q (live_of l) h stands.distinct first in
-      (passes.0, stands.found h ∙ passes.1, passes.2)
 
   pub first_live-absent : (p : Slots T) (l : List (Listed T)) (q : T → Bool) → Stands p l → NoneLive (slot_value p) (λ v. q v ≡ true) → first_handle q (live_of l) ≡ None
   first_live-absent p l q stands none = first_live-none q (live_of l) (any-none p l q stands none)
@@ -75,11 +57,7 @@ module _ {T : Type 0} where
 
   lookup-used_before : (slots : List (Slot T)) (place h : ℕ) → slot_of h < place → place + length slots ≤ 65536 → lookup (used_from place slots) h ≡ None
   lookup-used_before [] place h below few = refl
-  lookup-used_before (s ∷ slots) place h below few = pick s.value (lookup-used_before slots (place + 1) h (omega arith) (omega arith))
-    where
-      pick : (o : Option T) → lookup (used_from (place + 1) slots) h ≡ None → lookup (in_front (handle_at s.generation place) o (used_from (place + 1) slots)) h ≡ None
-      pick None more = more
-      pick (Some v) more = ap (λ b. cond b (Some v) (lookup (used_from (place + 1) slots) h)) (other_slot s.generation place h (omega arith) (λ is. omega arith)) ∙ more
+  lookup-used_before (s ∷ slots) place h below few = grind (arith, nat_tests, lookup-used_before slots (place + 1) h (omega arith) (omega arith))
 
   lookup-used : (slots : List (Slot T)) (place i h : ℕ) → slot_of h ≡ place + i → place + length slots ≤ 65536 → lookup (used_from place slots) h ≡ value_at (slice_get slots i) (generation_of h)
   lookup-used [] place i h is few = refl
@@ -118,11 +96,7 @@ module _ {T : Type 0} where
   how_many-live : (q : T → Bool) (l : List (Listed T)) → count_listed q l ≡ how_many (λ e. q e.1) (live_of l)
   unfolding live_of
   how_many-live q [] = refl
-  how_many-live q (r ∷ rs) = pick r.live (how_many-live q rs)
-    where
-      pick : (b : Bool) → count_listed q rs ≡ how_many (λ e. q e.1) (live_of rs) → cond (b && q r.fields) 1 0 + count_listed q rs ≡ how_many (λ e. q e.1) (cond b ((r.handle, r.fields) ∷ live_of rs) (live_of rs))
-      pick true more = ap (λ n. cond (q r.fields) 1 0 + n) more
-      pick false more = omega arith
+  how_many-live q (r ∷ rs) = grind (arith, nat_tests, how_many-live q rs)
 
   -- as many live objects pass as slots in use have a value that passes
   pub count-slots : (p : Slots T) (l : List (Listed T)) (q : T → Bool) → Stands p l → count_listed q l ≡ count_in q p
@@ -144,29 +118,3 @@ module _ {T : Type 0} where
       pick q f n true v true rs is none more = let some = ap (λ b. cond b true (any_live q (live_of rs))) is in absurd (cc)
       pick q f n true v false rs is none more = ap (λ l. record { handle = n; live = true; fields = v } ∷ l) (more (sym (ap (λ b. cond b true (any_live q (live_of rs))) is) ∙ none))
       pick q f n false v b rs is none more = ap (λ l. record { handle = n; live = false; fields = v } ∷ l) (more none)
-
-  -- the change leaves an object that doesn't pass, or isn't live
-  abbrev pub Spends : (T → Bool) → (Listed T → Listed T) → Type 0
-  Spends q f = (r : Listed T) → r.live ≡ true → q r.fields ≡ true → ((f r).live && q (f r).fields) ≡ false
-
-  step_one : (q : T → Bool) (f : Listed T → Listed T) (h n : ℕ) (live : Bool) (w v : T) (b c : Bool) (rs : List (Listed T)) → (n == h) ≡ b → q w ≡ c → Spends q f → q v ≡ true → lookup (cond live ((n, w) ∷ live_of rs) (live_of rs)) h ≡ Some v → (lookup (live_of rs) h ≡ Some v → change_all q f (change h f rs) ≡ change_all q f rs) → change_all q f (cond (live && b) (f (record { handle = n; live = live; fields = w }) ∷ rs) (record { handle = n; live = live; fields = w } ∷ change h f rs)) ≡ cond (live && c) (f (record { handle = n; live = live; fields = w })) (record { handle = n; live = live; fields = w }) ∷ change_all q f rs
-  unfolding change_all
-  step_one q f h n true w v true true rs at is spends holds found more =
-      let r : Listed T = record { handle = n; live = true; fields = w } in
-      ap (λ d. cond d (f (f r)) (f r) ∷ change_all q f rs) (spends r refl is)
-  step_one q f h n true w v true false rs at is spends holds found more =
-      let same = sym (ap (λ d. cond d (Some w) (lookup (live_of rs) h)) at) ∙ found in
-      let value : w ≡ v = cc in
-      let passes = ap q value ∙ holds in
-      absurd (cc)
-  step_one q f h n true w v false c rs at is spends holds found more =
-      let r : Listed T = record { handle = n; live = true; fields = w } in
-      let rest = more (sym (ap (λ d. cond d (Some w) (lookup (live_of rs) h)) at) ∙ found) in
-      ap (λ l. cond (q w) (f r) r ∷ l) rest ∙ ap (λ d. cond d (f r) r ∷ change_all q f rs) is
-  step_one q f h n false w v b c rs at is spends holds found more = ap (λ l. record { handle = n; live = false; fields = w } ∷ l) (more found)
-
-  -- one that passes, changed before the others, changes nothing in the whole
-  pub change_all-step : (q : T → Bool) (f : Listed T → Listed T) (h : ℕ) (v : T) (l : List (Listed T)) → Spends q f → live_object l h ≡ Some v → q v ≡ true → change_all q f (change h f l) ≡ change_all q f l
-  unfolding live_of change_all change
-  change_all-step q f h v [] spends found holds = absurd (cc)
-  change_all-step q f h v (r ∷ rs) spends found holds = step_one q f h r.handle r.live r.fields v (r.handle == h) (q r.fields) rs refl refl spends holds found (λ more. change_all-step q f h v rs spends more holds)

@@ -1,11 +1,5 @@
 -- Any calls of a pool are moves of the list of issued objects.
-use Rattle.std.proofs.Common.{◌≡◌, ◌≢◌, ℕ, ◌+◌, ◌≤◌, true, ◌&&◌, cond, List, [], ◌∷◌, refl, sym, ap, ◌∙◌, arith, length-set}
-use Rattle.std.specs.Prelude.{◌==◌, nat_le}
-use Rattle.std.proofs.lemmas.Bool.{eqb-true, eq-eqb, and_parts}
-use Rattle.std.proofs.lemmas.List.{length-replicate}
-use Rattle.handle_pool.specs.Slots.{Slots, slot_of, generation_of, used_slot, slot_after, free_slot, max_of}
-use Rattle.handle_pool.specs.Issued.{Listed, listed, issued_at, with_fields, gone, issue, update, retire, may_issue}
-use Rattle.handle_pool.specs.Stands.{Stands}
+use Rattle.handle_pool.proofs.Names.{nat_tests, ◌≡◌, ◌≢◌, ℕ, ◌+◌, ◌≤◌, true, cond, List, [], ◌∷◌, refl, sym, ap, ◌∙◌, arith, length-set, eq-eqb, length-replicate, Slots, slot_of, generation_of, used_slot, slot_after, free_slot, max_of, Listed, listed, with_fields, gone, issue, update, retire, may_issue, Stands}
 use Rattle.handle_pool.specs.Calls.{Call, SlotsStep, SlotsRun, MayAnswer, list_after, list_after_all, ListRun, NeverGives, NoneTwice, new_slots, PoolLaw}
 use Rattle.handle_pool.specs.Calls.Call.{Inserted, Refused, Removed, NotThere, Wrote}
 use Rattle.handle_pool.proofs.ListedLemmas.{listed-issue, listed-change}
@@ -56,8 +50,7 @@ module _ {T : Type 0} where
   -- a handle that may be issued was never issued
   unlisted : (last h : ℕ) (l : List (Listed T)) → may_issue last h l ≡ true → listed h l ≡ 0
   unfolding may_issue
-  unlisted last h l may = let both = and_parts ((listed h l == 0) && nat_le (generation_of h) last) (generation_of h == issued_at h l + 1) may in
-      eqb-true (listed h l) 0 (and_parts (listed h l == 0) (nat_le (generation_of h) last) both.0).0
+  unlisted last h l e1 = grind (arith, nat_tests)
 
   -- a listed handle is never given again
   never : (max generations : ℕ) (l : List (Listed T)) (h : ℕ) (calls : List (Call T)) → 1 ≤ listed h l → ListRun max generations l calls → NeverGives h calls

@@ -1,14 +1,9 @@
 -- How many slots are in use after each change, and how many there are.
-use Rattle.std.proofs.Common.{◌≡◌, ℕ, ◌+◌, Bool, Some, cond, replicate, refl, inl, inr, arith, length-set}
-use Rattle.std.proofs.lemmas.Bool.Decides.{eqb_tells}
-use Rattle.std.proofs.lemmas.List.{length-replicate}
-use Rattle.std.proofs.lemmas.List.Folds.{sum_by-replicate}
-use Rattle.handle_pool.specs.Slots.{Slot, Slots, slot_of, generation_of, free_slot, used_slot, slot_after, slot_value, is_live, live_count, max_of, Inserts, with_value, without}
+use Rattle.handle_pool.proofs.Names.{nat_tests, ◌≡◌, ℕ, ◌+◌, Bool, Some, cond, replicate, refl, arith, length-set, length-replicate, sum_by-replicate, Slot, Slots, slot_of, generation_of, free_slot, used_slot, slot_after, slot_value, is_live, live_count, max_of, Inserts, with_value, without}
 use Rattle.handle_pool.proofs.StandsLemmas.{used_at_live, count_by-set}
 
 not_live : (T : Type 0) (generations generation : ℕ) → ◌≡◌ {A = ℕ} (cond (is_live (slot_after {T = T} generations generation)) 1 0) 0
-not_live T generations generation =
-    elim (eqb_tells generation generations) [ inl last ↦ rw last.0 refl | inr before ↦ rw before.0 refl ]
+not_live T generations generation = grind (arith, nat_tests)
 
 module _ {T : Type 0} where
   pub live_count-new : (p : Slots T) (max : ℕ) → p.slots ≡ replicate max (free_slot 1) → live_count p ≡ 0

@@ -1,12 +1,6 @@
 -- Places that were never used, behind those that were.
-use Rattle.std.proofs.Common.{◌≡◌, ℕ, zero, suc, ◌+◌, ◌-◌, ◌<◌, ◌≤◌, List, [], ◌∷◌, ◌++◌, map, length, replicate, set, Some, slice_get, refl, sym, ap, subst, ◌∙◌, arith}
-use Rattle.std.proofs.lemmas.List.{length-append, append_assoc, append-nil, set-append_left}
-use Rattle.std.proofs.lemmas.Option.{slice_get_within}
+use Rattle.handle_pool.proofs.Names.{nat_tests, ◌≡◌, ℕ, zero, suc, ◌+◌, ◌-◌, ◌<◌, ◌≤◌, List, [], ◌∷◌, ◌++◌, map, length, replicate, set, Some, slice_get, refl, sym, ap, subst, ◌∙◌, arith, length-append, append_assoc, append-nil, set-append_left, slice_get_within, Place, Free, Live, Retired, free_slot, slot_in, used_in, with_value_at, with_value_in, fresh, IsFree, HasValue, value_in}
 use Rattle.std.proofs.Math.Seq.{set-append_seam}
-use Rattle.handle_pool.specs.declared.places.Place.{Place}
-use Rattle.handle_pool.specs.declared.places.Place.TheVariants.{Free, Live, Retired}
-use Rattle.handle_pool.specs.Slots.{free_slot}
-use Rattle.handle_pool.specs.Place.{slot_in, used_in, with_value_at, with_value_in, fresh, IsFree, HasValue, value_in}
 
 pub fresh-length : (T : Type 0) (from n : ℕ) → length (fresh {T = T} from n) ≡ n
 unfolding fresh
@@ -18,13 +12,8 @@ module _ {T : Type 0} where
   pub fresh-split : (from k n rest : ℕ) → k ≡ n + suc rest → fresh {T = T} from k ≡ fresh from n ++ Free 1 (from + n + 1) ∷ fresh (from + n + 1) rest
   unfolding fresh
   fresh-split from zero n rest all = absurd (omega arith)
-  fresh-split from (suc k) zero rest all =
-      let same : k ≡ rest = omega arith in
-      let here : from ≡ from + 0 = omega arith in
-      subst (λ i. Free 1 (from + 1) ∷ fresh {T = T} (from + 1) k ≡ Free 1 (i + 1) ∷ fresh (i + 1) rest) here (ap (λ m. Free 1 (from + 1) ∷ fresh (from + 1) m) same)
-  fresh-split from (suc k) (suc n) rest all =
-      let one : from + 1 + n ≡ from + suc n = omega arith in
-      ap (λ es. Free 1 (from + 1) ∷ es) (subst (λ i. fresh {T = T} (from + 1) k ≡ fresh (from + 1) n ++ Free 1 (i + 1) ∷ fresh (i + 1) rest) one (fresh-split (from + 1) k n rest (omega arith)))
+  fresh-split from (suc k) zero rest all = grind (arith, nat_tests)
+  fresh-split from (suc k) (suc n) rest all = grind (arith, nat_tests, fresh-split (from + 1) k n rest (omega arith))
 
   -- one more at the end
   pub fresh-push : (from k n : ℕ) → k ≡ n + 1 → fresh {T = T} from k ≡ fresh from n ++ Free 1 (from + n + 1) ∷ []

@@ -1,8 +1,5 @@
 -- What is live after each change of the slots.
-use Rattle.std.proofs.Common.{◌≡◌, ◌≢◌, ℕ, ◌+◌, true, Some, None, slice_get, refl, sym, ◌∙◌, inl, inr}
-use Rattle.std.proofs.lemmas.Bool.{cases_eq}
-use Rattle.std.proofs.lemmas.Bool.Decides.{eqb_tells}
-use Rattle.handle_pool.specs.Slots.{Slots, slot_of, generation_of, value_at, free_slot, used_slot, slot_after, slot_value, Inserts, with_value, without}
+use Rattle.handle_pool.proofs.Names.{nat_tests, arith, ◌≡◌, ◌≢◌, ℕ, Some, None, slice_get, refl, sym, ◌∙◌, inl, inr, cases_eq, Slots, slot_of, generation_of, value_at, free_slot, used_slot, slot_after, slot_value, Inserts, with_value, without}
 use Rattle.handle_pool.proofs.ListReads.{slice_get-set_same, slice_get-set_other}
 use Rattle.handle_pool.proofs.StandsLemmas.{used_at_live, same_handle, value_at-used_same, value_at-used_other, value_at-none, value_at-turned}
 
@@ -42,11 +39,7 @@ module _ {T : Type 0} where
       ])
 
   empty_after : (generations generation other : ℕ) → value_at (Some (slot_after {T = T} generations generation)) other ≡ None
-  empty_after generations generation other =
-      elim (eqb_tells generation generations) [
-        | inl last ↦ rw last.0 (value_at-none (record { generation = generation; value = None; retired = true }) other refl)
-        | inr before ↦ rw before.0 (value_at-none (free_slot (generation + 1)) other refl)
-      ]
+  empty_after generations generation other = grind (arith, nat_tests)
 
   pub get-without_same : (p : Slots T) (h : ℕ) (old : T) → slot_value p h ≡ Some old → slot_value (without p h) h ≡ None
   get-without_same p h old found =

@@ -1,11 +1,5 @@
 -- Live values by a key: what a list of issued objects answers for one, from the slots that stand for it.
-use Rattle.std.proofs.Common.{◌≡◌, ℕ, true, false, List, Some, None, sym, ◌∙◌}
-use Rattle.std.specs.Prelude.{◌==◌}
-use Rattle.std.proofs.lemmas.Bool.{eqb-true, eq-eqb}
-use Rattle.handle_pool.specs.Slots.{Slots, slot_value}
-use Rattle.handle_pool.specs.Walks.{SomeLive, NoneLive, HasLive, OneEach}
-use Rattle.handle_pool.specs.Issued.{Listed, live_of, any_listed, first_handle}
-use Rattle.handle_pool.specs.Stands.{Stands}
+use Rattle.handle_pool.proofs.Names.{◌≡◌, ℕ, true, false, List, Some, None, sym, ◌∙◌, ◌==◌, eqb-true, eq-eqb, Slots, slot_value, SomeLive, NoneLive, HasLive, OneEach, Listed, live_of, any_listed, first_handle, Stands}
 use Rattle.handle_pool.proofs.AnswerLemmas.{any-live, any-none, first_live-only, first_live-absent}
 
 module _ {T : Type 0} (key : T → ℕ) where

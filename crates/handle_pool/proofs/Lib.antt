@@ -1,3 +1,4 @@
+mod Names
 pub mod ListReads
 mod FreshLemmas
 mod PlaceLemmas

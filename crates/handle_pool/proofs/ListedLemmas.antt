@@ -1,19 +1,6 @@
 -- What each move of the list of issued objects does to the live ones and to the counts.
-use Rattle.std.proofs.Common.{◌≡◌, ℕ, ◌+◌, Bool, true, false, not, ◌&&◌, cond, List, [], ◌∷◌, ◌++◌, length, Option, Some, None, refl, sym, ◌∙◌, ap, arith}
-use Rattle.std.specs.Prelude.{◌==◌}
-use Rattle.std.proofs.lemmas.Bool.{eqb-true}
-use Rattle.handle_pool.specs.Slots.{slot_of, generation_of}
-use Rattle.handle_pool.specs.Issued.{Listed, how_many, live_of, lookup, live_object, issue, change, with_fields, update, retire, listed, issued_at, retired}
-use Rattle.handle_pool.specs.Stands.{Distinct}
+use Rattle.handle_pool.proofs.Names.{nat_tests, ◌≡◌, ℕ, ◌+◌, Bool, true, false, not, ◌&&◌, cond, List, [], ◌∷◌, ◌++◌, length, Some, None, refl, sym, ◌∙◌, ap, arith, ◌==◌, slot_of, generation_of, Listed, how_many, live_of, lookup, live_object, issue, change, with_fields, update, retire, listed, issued_at, retired, Distinct}
 use Rattle.handle_pool.proofs.LiveLemmas.{pairs_changed, pairs_without, lookup-changed, lookup-without, lookup-append, Distinct-append, Distinct-changed, Distinct-without, length-changed, how_many-without}
-
-some_same : {T : Type 0} (b : Bool) (v w : T) (o : Option T) → b ≡ true → cond b (Some v) o ≡ Some w → v ≡ w
-some_same true v w o e at = cc
-some_same false v w o e at = absurd (cc)
-
-some_later : {T : Type 0} (b : Bool) (v w : T) (o : Option T) → b ≡ false → cond b (Some v) o ≡ Some w → o ≡ Some w
-some_later true v w o e at = absurd (cc)
-some_later false v w o e at = at
 
 -- the handle's slot, as a handle, names itself
 slot_of-slot : (h : ℕ) → slot_of (slot_of h) ≡ slot_of h
@@ -27,8 +14,7 @@ module _ {T : Type 0} where
   -- the live objects after each move
 
   cond_append : (b : Bool) (a : ℕ × T) (xs ys zs : List (ℕ × T)) → xs ≡ ys ++ zs → cond b (a ∷ xs) xs ≡ cond b (a ∷ ys) ys ++ zs
-  cond_append true a xs ys zs e = ap (λ l. a ∷ l) e
-  cond_append false a xs ys zs e = e
+  cond_append b a xs ys zs e1 = grind (arith, nat_tests)
 
   pub live_of-issue : (h : ℕ) (v : T) (l : List (Listed T)) → live_of (issue h v l) ≡ live_of l ++ (h, v) ∷ []
   unfolding live_of issue
@@ -40,10 +26,7 @@ module _ {T : Type 0} where
 
   update_one : (h : ℕ) (f : T → T) (b : Bool) (n : ℕ) (live : Bool) (v : T) (xs rs : List (Listed T)) → (n == h) ≡ b → live_of xs ≡ pairs_changed h f (live_of rs) → live_of (cond (live && b) (record { handle = n; live = live; fields = f v } ∷ rs) (record { handle = n; live = live; fields = v } ∷ xs)) ≡ pairs_changed h f (prefix (record { handle = n; live = live; fields = v }) (live_of rs))
   unfolding live_of
-  update_one h f true n true v xs rs e i = ap (λ c. cond c ((n, f v) ∷ live_of rs) ((n, v) ∷ pairs_changed h f (live_of rs))) (sym e)
-  update_one h f false n true v xs rs e i = ap (λ l. (n, v) ∷ l) i ∙ ap (λ c. cond c ((n, f v) ∷ live_of rs) ((n, v) ∷ pairs_changed h f (live_of rs))) (sym e)
-  update_one h f true n false v xs rs e i = i
-  update_one h f false n false v xs rs e i = i
+  update_one h f b n live v xs rs e1 e2 = grind (arith, nat_tests)
 
   pub live_of-update : (h : ℕ) (f : T → T) (l : List (Listed T)) → live_of (update h f l) ≡ pairs_changed h f (live_of l)
   unfolding live_of change
@@ -52,10 +35,7 @@ module _ {T : Type 0} where
 
   retire_one : (h : ℕ) (b : Bool) (n : ℕ) (live : Bool) (v : T) (xs rs : List (Listed T)) → (n == h) ≡ b → live_of xs ≡ pairs_without h (live_of rs) → live_of (cond (live && b) (record { handle = n; live = false; fields = v } ∷ rs) (record { handle = n; live = live; fields = v } ∷ xs)) ≡ pairs_without h (prefix (record { handle = n; live = live; fields = v }) (live_of rs))
   unfolding live_of
-  retire_one h true n true v xs rs e i = ap (λ c. cond c (live_of rs) ((n, v) ∷ pairs_without h (live_of rs))) (sym e)
-  retire_one h false n true v xs rs e i = ap (λ l. (n, v) ∷ l) i ∙ ap (λ c. cond c (live_of rs) ((n, v) ∷ pairs_without h (live_of rs))) (sym e)
-  retire_one h true n false v xs rs e i = i
-  retire_one h false n false v xs rs e i = i
+  retire_one h b n live v xs rs e1 e2 = grind (arith, nat_tests)
 
   pub live_of-retire : (h : ℕ) (l : List (Listed T)) → live_of (retire h l) ≡ pairs_without h (live_of l)
   unfolding live_of change
@@ -108,11 +88,7 @@ module _ {T : Type 0} where
   pub how_many-change : (q : Listed T → Bool) (h : ℕ) (f : Listed T → Listed T) → ((r : Listed T) → q (f r) ≡ q r) → (l : List (Listed T)) → how_many q (change h f l) ≡ how_many q l
   unfolding change
   how_many-change q h f keeps [] = refl
-  how_many-change q h f keeps (r ∷ rs) = pick (r.live && (r.handle == h)) (how_many-change q h f keeps rs)
-    where
-      pick : (b : Bool) → how_many q (change h f rs) ≡ how_many q rs → how_many q (cond b (f r ∷ rs) (r ∷ change h f rs)) ≡ how_many q (r ∷ rs)
-      pick true more = ap (λ b. cond b 1 0 + how_many q rs) (keeps r)
-      pick false more = ap (λ n. cond (q r) 1 0 + n) more
+  how_many-change q h f keeps (r ∷ rs) = grind (arith, nat_tests, how_many-change q h f keeps rs)
 
   pub listed-change : (k h : ℕ) (f : Listed T → Listed T) → ((r : Listed T) → (f r).handle ≡ r.handle) → (l : List (Listed T)) → listed k (change h f l) ≡ listed k l
   unfolding listed
@@ -144,12 +120,7 @@ module _ {T : Type 0} where
 
   retired_one : (last h : ℕ) (b : Bool) (n : ℕ) (live : Bool) (v w : T) (xs rs : List (Listed T)) → (n == h) ≡ b → lookup (prefix (record { handle = n; live = live; fields = v }) (live_of rs)) h ≡ Some w → (lookup (live_of rs) h ≡ Some w → retired last xs ≡ retired last rs + cond (generation_of h == last) 1 0) → retired last (cond (live && b) (record { handle = n; live = false; fields = v } ∷ rs) (record { handle = n; live = live; fields = v } ∷ xs)) ≡ retired last (record { handle = n; live = live; fields = v } ∷ rs) + cond (generation_of h == last) 1 0
   unfolding retired
-  retired_one last h true n true v w xs rs e is more =
-      let same : retired last (record { handle = n; live = false; fields = v } ∷ rs) ≡ cond (generation_of h == last) 1 0 + retired last rs = ap (λ k. cond (generation_of k == last) 1 0 + retired last rs) (eqb-true n h e) in
-      omega (arith, same)
-  retired_one last h false n true v w xs rs e is more = let rest = more (some_later (n == h) v w (lookup (live_of rs) h) e is) in omega (arith, rest)
-  retired_one last h true n false v w xs rs e is more = let rest = more is in omega (arith, rest)
-  retired_one last h false n false v w xs rs e is more = let rest = more is in omega (arith, rest)
+  retired_one last h b n live v w xs rs e1 e2 e3 = grind (arith, nat_tests)
 
   pub retired-retire : (last h : ℕ) (v : T) (l : List (Listed T)) → live_object l h ≡ Some v → retired last (retire h l) ≡ retired last l + cond (generation_of h == last) 1 0
   unfolding live_of change

@@ -1,10 +1,5 @@
 -- Live objects, each with its handle: what stands at each handle after a change, and what is asked of them.
-use Rattle.std.proofs.Common.{◌≡◌, ℕ, suc, ◌+◌, Bool, true, false, cond, List, [], ◌∷◌, ◌++◌, length, Option, Some, None, refl, sym, ◌∙◌, ap, arith}
-use Rattle.std.specs.Prelude.{◌==◌}
-use Rattle.std.proofs.lemmas.Bool.{eqb-true, eq-eqb}
-use Rattle.std.proofs.lemmas.Bool.Decides.{nat_tests}
-use Rattle.handle_pool.specs.Issued.{how_many, lookup, any_live, first_handle}
-use Rattle.handle_pool.specs.Stands.{Distinct}
+use Rattle.handle_pool.proofs.Names.{◌≡◌, ℕ, suc, ◌+◌, Bool, true, false, cond, List, [], ◌∷◌, ◌++◌, length, Option, Some, None, refl, sym, ◌∙◌, ap, arith, ◌==◌, eqb-true, eq-eqb, nat_tests, how_many, lookup, any_live, first_handle, Distinct}
 
 -- three handles can't be so
 apart : (x h k : ℕ) → (x == h) ≡ true → (x == k) ≡ true → (h == k) ≡ false → ⊥

@@ -1,9 +1,7 @@
 -- Live values with a key of their own each go on to have one.
-use Rattle.std.proofs.Common.{◌≡◌, ℕ, Option, Some, None, replicate, refl, sym, ap, ◌∙◌, inl, inr, Result, Ok, Err}
+use Rattle.handle_pool.proofs.Names.{◌≡◌, ℕ, Some, None, replicate, refl, sym, ap, ◌∙◌, inl, inr, Result, cases_eq, Slots, slot_of, generation_of, free_slot, slot_value, Inserts, with_value, without, NoneLive, OneEach}
+use Rattle.std.proofs.Common.{Ok, Err}
 use Rattle.std.specs.Result.{IfOk, OnErr}
-use Rattle.std.proofs.lemmas.Bool.{cases_eq}
-use Rattle.handle_pool.specs.Slots.{Slots, slot_of, generation_of, free_slot, slot_value, Inserts, with_value, without, changed}
-use Rattle.handle_pool.specs.Walks.{NoneLive, OneEach}
 use Rattle.handle_pool.proofs.StandsLemmas.{get-fresh}
 use Rattle.handle_pool.proofs.GetLemmas.{get-insert_same, get-insert_other, get-with_value_same, get-with_value_other, get-without_same, get-without_other}
 
@@ -62,13 +60,6 @@ module _ {T : Type 0} (key : T → ℕ) where
         let b = was_with p handle old new k w live keeps other in
         each.only h k a.value b.value a.found b.found (a.same ∙ same ∙ sym b.same);
   }
-
-  pub OneEach-changed : (p : Slots T) (handle : ℕ) (f : T → T) → OneEach key p → ((v : T) → key (f v) ≡ key v) → OneEach key (changed p handle f)
-  OneEach-changed p handle f each keeps = by_value (slot_value p handle) refl
-    where
-      by_value : (o : Option T) → slot_value p handle ≡ o → OneEach key (changed p handle f)
-      by_value None is = rw is each
-      by_value (Some value) is = rw is (OneEach-with_value p handle value (f value) each is (keeps value))
 
   pub OneEach-without : (p : Slots T) (handle : ℕ) (old : T) → OneEach key p → slot_value p handle ≡ Some old → OneEach key (without p handle)
   OneEach-without p handle old each live = record {

@@ -1,15 +1,5 @@
 -- How each change of the places keeps the counts and the list of free places.
-use Rattle.std.proofs.Common.{◌≡◌, ◌≢◌, ℕ, true, zero, suc, ◌+◌, ◌-◌, ◌*◌, ◌<◌, ◌≤◌, ◌^◌, Bool, List, [], ◌∷◌, ◌++◌, map, length, get_or, set, Option, Some, None, count_by, cond, slice_get, IsSome, refl, sym, ap, subst, ◌∙◌, arith, length-set}
-use Rattle.std.proofs.lemmas.List.{map-set, map_push, length-map, length_push, get_or-map}
-use Rattle.std.proofs.lemmas.List.Sums.{sum_by-set, sum_by_push}
-use Rattle.std.proofs.lemmas.Option.{slice_get_within, get_or_from_slice_get}
-use Rattle.handle_pool.specs.declared.places.Place.{Place}
-use Rattle.handle_pool.specs.declared.places.Place.TheVariants.{Free, Live, Retired}
-use Rattle.handle_pool.specs.Slots.{Slot, is_live, is_retired, value_at, slot_of, generation_of, free_slot, slot_after, used_slot, with_value, Inserts}
-use Rattle.std.proofs.lemmas.Option.{slice_get-map}
-use Rattle.std.specs.Option.{option_map}
-use Rattle.std.proofs.lemmas.Bool.Decides.{nat_tests}
-use Rattle.handle_pool.specs.Place.{slot_in, value_in, with_value_in, with_value_at, fresh, IsFreeList, HasGeneration, HasValue, IsSound}
+use Rattle.handle_pool.proofs.Names.{◌≡◌, ◌≢◌, ℕ, true, zero, suc, ◌+◌, ◌-◌, ◌*◌, ◌<◌, ◌≤◌, ◌^◌, Bool, List, [], ◌∷◌, ◌++◌, map, length, get_or, set, Option, Some, None, count_by, cond, slice_get, IsSome, refl, sym, ap, subst, ◌∙◌, arith, length-set, map-set, map_push, length-map, length_push, get_or-map, sum_by-set, sum_by_push, slice_get_within, get_or_from_slice_get, Place, Free, Live, Retired, Slot, is_live, is_retired, value_at, slot_of, generation_of, free_slot, slot_after, used_slot, with_value, Inserts, slice_get-map, option_map, nat_tests, slot_in, fresh, IsFreeList, HasGeneration, HasValue, IsSound}
 use Rattle.handle_pool.proofs.FreshLemmas.{fresh-length, fresh-push}
 use Rattle.handle_pool.proofs.ListReads.{slice_get-set_same, slice_get-set_other, slice_get-push_old, slice_get-push_last, slice_get-push_cases, slice_get-set_cases, set-same}
 
@@ -91,14 +81,6 @@ module _ {T : Type 0} where
       get_or-map (slot_in generations) es place old d within ∙ ap (slot_in generations) (get_or_from_slice_get es place old old found) in
       let counted = sum_by-set (λ s. cond (p s) 1 0) (map (slot_in generations) es) place (slot_in generations new) d (omega (arith, length-map es (slot_in generations))) in
       rw (map-set (slot_in generations) es place new) (rw read at counted)
-
-  -- the first free place, or the end
-  pub next_cases : (es : List (Place T)) (generations live retired next : ℕ) {P : Type 0} → IsSound es generations live retired next → (next ≡ length es → live + retired ≡ length es → P) → ((generation after : ℕ) → slice_get es next ≡ Some (Free generation after) → live + retired < length es → P) → P
-  next_cases es generations live retired next {P} sound full found = by_count sound.free sound.total sound.linked
-    where
-      by_count : (n : ℕ) → live + retired + n ≡ length es → IsFreeList es n next → P
-      by_count zero total linked = full linked (omega arith)
-      by_count (suc n) total linked = found linked.0 linked.1 linked.2 (omega arith)
 
   -- a value goes into the first free place: the rest of the list is shorter, so it doesn't come back to it
   pub IsSound-fill : (es : List (Place T)) (generations live retired next generation after : ℕ) (value : T) → IsSound es generations live retired next → slice_get es next ≡ Some (Free generation after) → IsSound (set es next (Live generation value)) generations (live + 1) retired after
@@ -187,19 +169,9 @@ module _ {T : Type 0} where
       by_place (Some (Live g value)) is some = grind (arith, nat_tests)
       by_place (Some Retired) is some = grind (arith, nat_tests)
 
-  -- with another value in one of them the places are as many
-  pub length-with_value_at : (es : List (Place T)) (place : ℕ) (w : T) → length (with_value_at es place w) ≡ length es
-  length-with_value_at es place w = by_place (slice_get es place) refl
-    where
-      by_place : (o : Option (Place T)) → slice_get es place ≡ o → length (with_value_at es place w) ≡ length es
-      by_place None is = rw is refl
-      by_place (Some e) is = rw is (length-set es place (with_value_in e w))
-
   -- one place has one value
   pub same_value : (es : List (Place T)) (place g k : ℕ) (v w : T) → slice_get es place ≡ Some (Live g v) → slice_get es place ≡ Some (Live k w) → Some v ≡ Some w
-  same_value es place g k v w first second =
-      let same : Live g v ≡ Live k w = cc in
-      ap value_in same
+  same_value es place g k v w e1 e2 = grind (arith, nat_tests)
 
   -- what `get` reads of a live place
   pub get-live : (es : List (Place T)) (generations place generation : ℕ) (value : T) → slice_get es place ≡ Some (Live generation value) → value_at (slice_get (map (slot_in generations) es) place) generation ≡ Some value

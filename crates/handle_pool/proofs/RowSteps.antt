@@ -1,30 +1,8 @@
 -- What a row owns is taken apart and made, and a `&mut` to a row is opened. Assumes `Logic`.
-use Rattle.std.proofs.Common.{◌≡◌, ℕ, ◌+◌, ◌-◌, ◌*◌, ◌<◌, ◌^◌, List, [], ◌∷◌, length, refl, sym, ap, ◌∙◌}
-use base.Fml.{Fml, fsep, Lft, GName, Share, fauth, fbor, flft, fobor, fobs, froom}
-use base.Fraction.{full_share}
-use base.Logic.{id⊢}
-use denote.Array.{Array}
-use denote.Laws.{Is, Typed, shows}
-use denote.Memory.{cell_at, mem, part_at}
-use denote.Param.{layout, param}
-use denote.Param.Laws.{Laws, param_laws}
-use denote.RattleType.{RattleType}
-use denote.RawPtr.{Ptr, block_ptr, in_a_block, lies_at, room_for, ◌+ₚ◌}
-use denote.Steps.{opens, peeks}
-use denote.Struct.Owning.{shape}
-use denote.Struct.Struct.{Struct}
+use Rattle.handle_pool.proofs.Names.{◌≡◌, ℕ, ◌+◌, ◌-◌, ◌*◌, ◌<◌, ◌^◌, List, [], ◌∷◌, length, refl, sym, ap, ◌∙◌, Fml, fsep, Lft, GName, Share, fauth, fbor, flft, fobor, fobs, froom, full_share, id⊢, Array, Is, Typed, shows, cell_at, mem, part_at, layout, param, Laws, param_laws, RattleType, Ptr, block_ptr, in_a_block, lies_at, room_for, ◌+ₚ◌, opens, peeks, shape, Struct, Ty, ty_array, T, Val, WT, has_ty, size, Ura, Goal, Item, Seq, Soaks, Step, step, ‵, ◌$◌, flt_i, flt_l, fjoin, fsplit, move, rewrite, Logic, chunk, Row}
 use mir.Raw.{raw as bare}
-use mir.Syntax.{Ty, ty_array}
-use lib.Dec.{T}
-use mir.Val.{Val, WT, has_ty}
-use prog.Memory.{size}
-use seplogic.Ra.Ura.{Ura}
-use types.Kit.{Goal, Item, Seq, Soaks, Step, step, ‵, ◌$◌, flt_i, flt_l, fjoin, fsplit, move, rewrite}
-use types.Logic.{Logic}
 use types.SemTy.{Body}
-use Rattle.handle_pool.specs.RowOwns.{chunk}
 use Rattle.handle_pool.specs.contracts.row.Row as C
-use Rattle.handle_pool.specs.declared.row.Row.{Row}
 use Rattle.handle_pool.proofs.row.Row.TheLaws.{lowers}
 
 module _ (X : RattleType) where

@@ -1,15 +1,5 @@
 -- Each call of a pool is a move of the list of issued objects.
-use Rattle.std.proofs.Common.{◌≡◌, ◌≢◌, ◌⊎◌, ◌↔◌, ℕ, zero, suc, ◌+◌, ◌<◌, ◌≤◌, Bool, true, false, ◌&&◌, List, [], ◌∷◌, length, Option, Some, None, count_by, cond, set, slice_get, replicate, refl, sym, ap, ◌∙◌, inl, inr, arith, length-set}
-use Rattle.std.specs.Prelude.{◌==◌, nat_le}
-use Rattle.std.proofs.lemmas.Bool.{eq-eqb, ne_eqb, eqb-true, cases_eq, cases_lt}
-use Rattle.std.proofs.lemmas.Bool.Decides.{eqb_tells, nat_tests}
-use Rattle.std.proofs.lemmas.List.{length-replicate}
-use Rattle.std.proofs.lemmas.List.Sums.{sum_by-set}
-use Rattle.std.proofs.lemmas.List.Folds.{sum_by-replicate}
-use Rattle.std.proofs.lemmas.Option.{slice_get_within, get_or_from_slice_get}
-use Rattle.handle_pool.specs.Slots.{Slot, Slots, slot_of, generation_of, free_slot, used_slot, slot_after, value_at, slot_value, is_live, is_retired, live_count, retired_count, max_of, IsFull, Inserts, without, with_value, changed}
-use Rattle.handle_pool.specs.Issued.{Listed, live_of, lookup, live_object, issue, with_fields, gone, update, retire, listed, issued_at, retired, is_full, may_issue}
-use Rattle.handle_pool.specs.Stands.{Distinct, SlotStands, HadTurn, Stands}
+use Rattle.handle_pool.proofs.Names.{◌≡◌, ◌≢◌, ◌↔◌, ℕ, zero, suc, ◌+◌, ◌<◌, ◌≤◌, Bool, true, false, ◌&&◌, List, [], ◌∷◌, length, Option, Some, None, count_by, cond, set, slice_get, replicate, refl, sym, ap, ◌∙◌, inl, inr, arith, length-set, ◌==◌, nat_le, eq-eqb, ne_eqb, eqb-true, cases_eq, cases_lt, eqb_tells, nat_tests, length-replicate, sum_by-set, sum_by-replicate, slice_get_within, get_or_from_slice_get, Slot, Slots, slot_of, generation_of, free_slot, used_slot, slot_after, value_at, slot_value, is_live, is_retired, live_count, retired_count, max_of, IsFull, Inserts, without, with_value, changed, Listed, live_of, lookup, live_object, issue, with_fields, gone, update, retire, listed, issued_at, retired, is_full, may_issue, Distinct, SlotStands, Stands}
 use Rattle.handle_pool.proofs.ListReads.{slice_get-set_same, slice_get-set_other}
 use Rattle.handle_pool.proofs.ListedLemmas.{at-issue, at-update, at-retire, Distinct-issue, Distinct-update, Distinct-retire, length-issue, length-update, length-retire, listed-change, issued_at-change, retired-update, listed-issue, issued_at-issue, retired-issue, issued_at-slot, retired-retire, change-none}
 
@@ -35,17 +25,14 @@ module _ {T : Type 0} where
   value_at-used_same generation value = rw (eq-eqb generation generation refl) refl
 
   pub value_at-used_other : (generation other : ℕ) (value : T) → other ≢ generation → value_at (Some (used_slot generation value)) other ≡ None
-  value_at-used_other generation other value differs =
-      elim (eqb_tells generation other) [ inl same ↦ absurd (differs (sym same.1)) | inr apart ↦ rw apart.0 refl ]
+  value_at-used_other generation other value e1 = grind (arith, nat_tests)
 
   pub value_at-none : (slot : Slot T) (generation : ℕ) → slot.value ≡ None → value_at (Some slot) generation ≡ None
-  value_at-none slot generation none =
-      elim (eqb_tells slot.generation generation) [ inl same ↦ rw (same.0, none) refl | inr apart ↦ rw apart.0 refl ]
+  value_at-none slot generation e1 = grind (arith, nat_tests)
 
   -- a slot of another generation has no value for this one
   pub value_at-turned : (slot : Slot T) (generation : ℕ) → generation ≢ slot.generation → value_at (Some slot) generation ≡ None
-  value_at-turned slot generation differs =
-      elim (eqb_tells slot.generation generation) [ inl same ↦ absurd (differs (sym same.1)) | inr apart ↦ rw apart.0 refl ]
+  value_at-turned slot generation e1 = grind (arith, nat_tests)
 
   -- where a value was found, the slot is in use at this generation
   pub used_at_live : (o : Option (Slot T)) (generation : ℕ) (value : T) → value_at o generation ≡ Some value → (slot : Slot T) × (o ≡ Some slot) × (slot.generation ≡ generation) × (slot.value ≡ Some value)
@@ -94,8 +81,7 @@ module _ {T : Type 0} where
       ]
 
   off : (p : Slots T) (l : List (Listed T)) (h : ℕ) (value : T) (new : Slots T) → Stands p l → Inserts p new h value → live_object l h ≡ None
-  off p l h value new stands inserts =
-      sym (stands.found h) ∙ rw inserts.was_free (value_at-none (free_slot (generation_of h)) (generation_of h) refl)
+  off p l h value new e1 e2 = grind (arith, nat_tests)
 
   -- the handle of an insert is one that may be issued
   pub may_issue-insert : (p new : Slots T) (l : List (Listed T)) (h : ℕ) (value : T) → Stands p l → Inserts p new h value → may_issue p.generations h l ≡ true
@@ -163,11 +149,7 @@ module _ {T : Type 0} where
       }
 
   not_retired : (slot : Slot T) (generations turns : ℕ) (value : T) → SlotStands generations turns slot → slot.value ≡ Some value → slot.retired ≡ false
-  not_retired slot generations turns value stands used = by_case slot.retired refl
-    where
-      by_case : (b : Bool) → slot.retired ≡ b → slot.retired ≡ false
-      by_case true is = let none = (stands.retired is).1 in absurd (cc)
-      by_case false is = is
+  not_retired slot generations turns value e1 e2 = grind (arith, nat_tests)
 
   -- what the slot of a live handle is
   record AtLive (p : Slots T) (l : List (Listed T)) (h : ℕ) (value : T) : Type 0 where
@@ -318,24 +300,3 @@ module _ {T : Type 0} where
 
   pub IsFull-room : (p : Slots T) (l : List (Listed T)) → Stands p l → (IsFull p → ⊥) → is_full p.generations (max_of p) l ≡ false
   IsFull-room p l stands room = is_full-same p l stands ∙ ne_eqb (live_count p + retired_count p) (max_of p) room
-
-  -- a listed handle that isn't live has a generation below that of its slot, or its slot has retired
-  pub gone_below : (p : Slots T) (l : List (Listed T)) (h : ℕ) (slot : Slot T) → Stands p l → 1 ≤ listed h l → live_object l h ≡ None → slice_get p.slots (slot_of h) ≡ Some slot → (generation_of h < slot.generation) ⊎ ((slot.retired ≡ true) × (generation_of h ≡ p.generations))
-  gone_below p l h slot stands some off read = by_case slot.value refl slot.retired refl (stands.slots (slot_of h) slot read) (stands.turns h some)
-    where
-      by_case : (o : Option T) → slot.value ≡ o → (b : Bool) → slot.retired ≡ b → SlotStands p.generations (issued_at (slot_of h) l) slot → HadTurn (max_of p) (generation_of h) (issued_at h l) (slot_of h) → (generation_of h < slot.generation) ⊎ ((slot.retired ≡ true) × (generation_of h ≡ p.generations))
-      by_case None has true is was had =
-          let level = rw (has, is, issued_at-slot h l) at was.generation in
-          let last = (was.retired is).0 in
-          elim (cases_lt (generation_of h) slot.generation) [ inl below ↦ inl below | inr not_below ↦ inr (is, omega (arith, had.at_most)) ]
-      by_case None has false is was had = let level = rw (has, is, issued_at-slot h l) at was.generation in inl (omega (arith, had.at_most))
-      by_case (Some value) has b is was had =
-          let level = rw (has, issued_at-slot h l) at was.generation in
-          elim (cases_lt (generation_of h) slot.generation) [
-            | inl below ↦ inl below
-            | inr not_below ↦
-                let same : slot.generation ≡ generation_of h = omega (arith, had.at_most) in
-                let found : slot_value p h ≡ Some value = rw (read, same, eq-eqb (generation_of h) (generation_of h) refl) has in
-                let clash = sym found ∙ stands.found h ∙ off in
-                absurd (cc)
-          ]

@@ -1,5 +1,4 @@
-use Rattle.std.proofs.Common.{refl, ◌∙◌, ◌%◌, ◌/◌}
-use Rattle.std.proofs.lemmas.List.{map-set}
+use Rattle.handle_pool.proofs.Names.{refl, ◌∙◌, ◌%◌, ◌/◌, map-set}
 use Rattle.handle_pool.proofs.PlaceLemmas.{live_at, get-live, IsSound-rewrite, with_value-same, same_value}
 use Rattle.handle_pool.proofs.Pool.value_mut.Goals as goal
 

@@ -1,5 +1,4 @@
-use Rattle.std.proofs.Common.{◌≡◌, ◌-◌, ◌++◌}
-use Rattle.handle_pool.specs.Place.{fresh}
+use Rattle.handle_pool.proofs.Names.{◌≡◌, ◌-◌, ◌++◌, fresh}
 use Rattle.handle_pool.proofs.places.make.Given as goal
 
 abbrev pub invariant-loop-at : goal.invariant-loop-at

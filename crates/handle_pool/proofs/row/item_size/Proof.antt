@@ -1,23 +1,5 @@
 -- `item_size` gives the size of a type parameter as a word. Assumes `Logic`.
-use Rattle.std.proofs.Common.{[], ◌∷◌, refl}
-use Rattle.std.proofs.raw_atomic.Walks.{proved}
-use base.Fml.{flft, ftrue}
-use contract.BorrowLft.{◌⊑◌}
-use contract.Monad.{fact}
-use denote.Builtin.{usize}
-use denote.Param.{layout, layouts}
-use denote.Plain.{uint_Makes}
-use denote.RattleType.{RattleType}
-use denote.Steps.{nothing, owned}
-use denote.Triple.Walked.{Stays, walk_of, says, ends_at}
-use mir.MapTy.{inst_fn}
-use mir.Syntax.{Fn, a_type, w64}
-use mir.Val.{vint}
-use prog.Capped.{capped_fits}
-use prog.Memory.{capped, size}
-use types.ByLocal.{alloc_all, pass_all, free_all, look_at, sets}
-use types.Kit.{‵, raw, ◌⊛◌, ◌$◌, ◌∵◌, !, qed, done, move, keep, split, join, suffices}
-use types.Run.{enter, of_opd, returns, size_word}
+use Rattle.handle_pool.proofs.Names.{[], ◌∷◌, refl, proved, flft, ftrue, ◌⊑◌, fact, usize, layout, layouts, uint_Makes, RattleType, nothing, owned, Stays, walk_of, says, ends_at, inst_fn, Fn, a_type, w64, vint, capped_fits, capped, size, alloc_all, pass_all, free_all, look_at, sets, ‵, raw, ◌⊛◌, ◌$◌, ◌∵◌, !, qed, done, move, keep, split, join, suffices, enter, of_opd, returns, size_word}
 use Rattle.handle_pool.specs.contracts.row.item_size as f
 use Rattle.handle_pool.proofs.row.item_size.Statement.{statement}
 use Rattle.handle_pool.proofs.row.item_size.Code as code

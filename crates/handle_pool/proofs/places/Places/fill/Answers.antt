@@ -1,7 +1,5 @@
-use Rattle.std.proofs.Common.{sym, ap, length, ◌∙◌, ◌<◌, arith}
-use Rattle.std.proofs.lemmas.List.{set-append_left, length_push}
+use Rattle.handle_pool.proofs.Names.{sym, ap, length, ◌∙◌, ◌<◌, arith, set-append_left, length_push, Live}
 use Rattle.handle_pool.proofs.FreshLemmas.{free_below, get-fresh, set-fresh, length-made}
-use Rattle.handle_pool.specs.declared.places.Place.TheVariants.{Live}
 use Rattle.handle_pool.proofs.places.Places.fill.Goals as goal
 
 pub returns-then-place-self-clause-now : goal.returns-then-place-self-clause-now

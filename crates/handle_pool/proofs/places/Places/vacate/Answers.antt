@@ -1,5 +1,4 @@
-use Rattle.std.proofs.Common.{sym, ◌-◌}
-use Rattle.std.proofs.lemmas.List.{set-append_left}
+use Rattle.handle_pool.proofs.Names.{sym, ◌-◌, set-append_left}
 use Rattle.handle_pool.proofs.FreshLemmas.{value_below}
 use Rattle.handle_pool.proofs.places.Places.vacate.Goals as goal
 

@@ -1,23 +1,12 @@
 -- A `&` to a row lends the bound on its size and its items, and not the room after them. Assumes `Logic`.
-use Rattle.std.proofs.Common.{ℕ, ◌-◌, ◌*◌, List, [], ◌++◌, length, sym, subst}
-use Rattle.std.specs.Mem.{type_size}
-use Rattle.std.specs.Allocator.{array_of}
-use base.Fraction.{full_share}
-use base.Fml.{Fml, Incl-trans, fsep}
-use contract.BorrowLft.{meet_⊑_left}
-use denote.Array.{Array, Array-row_laws}
+use Rattle.handle_pool.proofs.Names.{ℕ, ◌-◌, ◌*◌, List, [], ◌++◌, length, sym, subst, type_size, array_of, full_share, Fml, Incl-trans, fsep, meet_⊑_left, Array, Array-row_laws, Laws, RattleType, Ptr, ◌+ₚ◌, lies_at, room_for, lent_at, lent_at_shr_laws, Lends-lies, Lends-said, Lends-first, Lends-both, of_Lends, bounds, chunk}
 use denote.ArrayMemory.{Single}
-use denote.Param.Laws.{Laws}
 use denote.Param.Shared.{copy_shared}
-use denote.RattleType.{RattleType}
-use denote.RawPtr.{Ptr, ◌+ₚ◌, lies_at, room_for}
 use denote.Sharing.{said}
 use denote.SharingLaws.{said_shr_laws, beside_shr_laws}
 use denote.Shares.{Shares-less, Shares-Array}
 use denote.Struct.Field.{RawPtr-field}
 use denote.Struct.Laws.{RawPtr-copy}
-use denote.Struct.Lending.{lent_at, lent_at_shr_laws, Lends-lies, Lends-said, Lends-first, Lends-both, of_Lends}
-use Rattle.handle_pool.specs.RowOwns.{bounds, chunk}
 use Rattle.handle_pool.specs.contracts.row.Row as C
 use Rattle.handle_pool.proofs.row.Row.TheLaw.Statement.{statement}
 

@@ -1,20 +1,7 @@
 -- A row may go to another thread where its items may: its block is owned by it alone, and any thread may give it back.
-use Rattle.std.proofs.Common.{◌-◌, ◌*◌, length}
+use Rattle.handle_pool.proofs.Names.{◌-◌, ◌*◌, length, array_of, type_size, Keyless, Array, IsSend, AllSend, Quiet, array_send, owning_send, part_keyless, struct_send, sendable, Exit, unchanged, leaves, hidden, under, full_share, RattleType, Ptr, block_ptr, null_ptr, lies_at, room_for, ◌+ₚ◌, shape, fields, to, exits_of, Ty, the_row}
 use Rattle.std.proofs.Crossing.{frees}
-use Rattle.std.specs.Allocator.{array_of}
-use Rattle.std.specs.Mem.{type_size}
-use base.Shift.{Keyless}
-use denote.Array.{Array}
-use denote.Param.Send.{IsSend, AllSend, Quiet, array_send, owning_send, part_keyless, struct_send, sendable}
-use denote.Exit.{Exit, unchanged, leaves, hidden, under}
-use base.Fraction.{full_share}
-use denote.RattleType.{RattleType}
-use denote.RawPtr.{Ptr, block_ptr, null_ptr, lies_at, room_for, ◌+ₚ◌}
-use denote.Struct.Owning.{shape, fields, to}
-use denote.Struct.Struct.{exits_of}
-use mir.Syntax.{Ty}
 use Rattle.handle_pool.specs.contracts.row.Row as C
-use Rattle.handle_pool.specs.contracts.row.Row.{the_row}
 
 -- where a row goes, it leaves nothing behind that a reference could still show
 exits_keep_none : {D X : Type 0} (view : D → X) (e : Exit X) → Quiet e → Quiet (hidden (under view e))

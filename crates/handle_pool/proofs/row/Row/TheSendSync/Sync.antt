@@ -1,15 +1,6 @@
 -- A row may be shared by threads where its items may: a `&` to it only reads the items and the bounds.
-use Rattle.std.proofs.Common.{length}
-use base.Fml.{ftrue}
-use base.Shift.{Keyless}
-use denote.Array.{Array}
-use denote.Param.Send.{IsSync, Common, array_sync, struct_sync, sendable}
-use denote.RattleType.{RattleType}
-use denote.RawPtr.{Ptr, block_ptr, null_ptr, block_of, count_of, in_block}
-use denote.Struct.Lending.{lent_at}
-use denote.Struct.Owning.{shape, to}
+use Rattle.handle_pool.proofs.Names.{length, ftrue, Keyless, Array, IsSync, Common, array_sync, struct_sync, sendable, RattleType, Ptr, block_ptr, null_ptr, block_of, count_of, in_block, lent_at, shape, to, the_row}
 use Rattle.handle_pool.specs.contracts.row.Row as C
-use Rattle.handle_pool.specs.contracts.row.Row.{the_row}
 
 -- where items lie is known to every thread
 place_is_known : (at : Ptr) → Keyless (in_block at ftrue)

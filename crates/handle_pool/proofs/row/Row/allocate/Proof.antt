@@ -1,60 +1,21 @@
 -- `allocate` asks the heap for a block, and makes a row of no items of it. Assumes `Logic`.
-use Rattle.std.proofs.Common.{◌≡◌, ℕ, ◌+◌, ◌-◌, ◌*◌, ◌<◌, ◌^◌, Bool, true, false, List, [], ◌∷◌, ◌++◌, refl, ap, ◌∙◌, arith}
+use Rattle.handle_pool.proofs.Names.{◌≡◌, ℕ, ◌+◌, ◌-◌, ◌*◌, ◌<◌, ◌^◌, Bool, true, false, List, [], ◌∷◌, ◌++◌, refl, ap, ◌∙◌, arith, after, head, arm_body, one_below, proved, block_if_ok, flft, froom, fsep, ftrue, ent, ex, fst∗, guard, never, sep, emp, id⊢, ◌⊑◌, fact, fact_i, tables, RefOf, usize, yes, Is, layout, layouts, uint_vals, uint_Tells, RattleType, Valss, Ptr, block_ptr, in_a_block, null_ptr, ptr_val, room_for, ShrRef, shr_vals, shr_Tells, plain, nothing, heard, only, owned, shape, Struct, Struct-Makes, within, calls_at, triple_of, framed, Stays, walk_of, stay_dropped, Goes-dropped, says, ends_at, lit<, inst_fn, Fn, Ty, named, w64, a_type, ty_array, Val, of_list, vint, vptr, vstruct, vcons, vnil, capped_is, capped_fits, size, align, capped, size-raw, align-raw, Env, Wp, after_seq, at_return, Ura, alloc_all, pass_all, free_all, look_at, get, get_in, get_tag, lands_as, sets, sets_last, env, Goal, Item, Seq, any_q, ‵, raw, ◌⊛◌, some, later, given, ◌$◌, ◌∵◌, !, at_ret, qed, check, show, done, move, keep, drop, use0, use1, use2, feq_i, feq_l, flt_i, fpack, fpick, split, split3, join, fsplit, fjoin, await, pick, learn, rewrite, suffices, Logic, sem, agg, whole, enter, of_opd, stop, fld, bin, lit, size_lit, align_word, and_then, no_more, first, exec, returns, switches_on, chunk, Row}
 use Rattle.std.proofs.ResultValues.{ok_of, err_of}
-use Rattle.std.proofs.VecSteps.Shapes.{after, head, arm_body}
 use Rattle.std.proofs.alloc.Calls.{Answer, answer_val, got, Answer-typed}
-use Rattle.std.proofs.ptr.Rows.{one_below}
 use Rattle.std.proofs.ptr.Rows as rows
-use Rattle.std.proofs.raw_atomic.Walks.{proved}
-use Rattle.std.specs.Allocator.{block_if_ok}
 use Rattle.std.specs.contracts.alloc.AllocError as AE
 use Rattle.std.specs.contracts.alloc.Global as G
 use Rattle.std.specs.contracts.impls.GlobalAllocator.allocate as g
 use Rattle.std.specs.contracts.result.Result as RS
 use Rattle.std.specs.declared.result.Result.TheVariants.{Ok, Err}
 use Rattle.std.proofs.impls.GlobalAllocator.allocate.Met.{met}
-use base.Fml.{flft, froom, fsep, ftrue}
-use base.Logic.{ent, ex, fst∗, guard, never, sep, emp, id⊢}
-use contract.BorrowLft.{◌⊑◌}
-use contract.Monad.{fact, fact_i}
-use contract.Running.{tables}
-use denote.Builtin.{RefOf, usize}
-use denote.Exit.{yes}
-use denote.Laws.{Is}
-use denote.Param.{layout, layouts}
-use denote.Plain.{uint_vals, uint_Tells}
-use denote.RattleType.{RattleType, Valss}
-use denote.RawPtr.{Ptr, block_ptr, in_a_block, null_ptr, ptr_val, room_for}
-use denote.Ref.{ShrRef, shr_vals, shr_Tells}
-use denote.Signature.{plain}
-use denote.Steps.{nothing, heard, only, owned}
 use denote.Struct.Declared as Declared
-use denote.Struct.Owning.{shape}
-use denote.Struct.Struct.{Struct, Struct-Makes, within}
-use denote.Triple.Call.{calls_at}
-use denote.Triple.Spec.{triple_of}
-use denote.Triple.Table.{framed}
-use denote.Triple.Walked.{Stays, walk_of, stay_dropped, Goes-dropped, says, ends_at}
-use lib.Dec.{lit<}
-use mir.MapTy.{inst_fn}
 use mir.Raw.{raw as bare}
-use mir.Syntax.{Body, Fn, Ty, named, w64, a_type, ty_array}
-use mir.Val.{Val, of_list, vint, vptr, vstruct, vcons, vnil}
-use prog.Capped.{capped_is, capped_fits}
-use prog.Memory.{size, align, capped}
-use prog.RawLaws.{size-raw, align-raw}
-use prog.Wp.{Env, Wp, after_seq, at_return}
-use seplogic.Ra.Ura.{Ura}
-use types.ByLocal.{alloc_all, pass_all, free_all, look_at, get, get_in, get_tag, lands_as, sets, sets_last, env}
-use types.Kit.{Goal, Item, Seq, Post as After, any_q, ‵, raw, ◌⊛◌, some, later, given, ◌$◌, ◌∵◌, !, at_ret, qed, check, show, done, move, keep, drop, use0, use1, use2, feq_i, feq_l, flt_i, fpack, fpick, split, split3, join, fsplit, fjoin, await, pick, learn, rewrite, suffices}
-use types.Logic.{Logic, sem}
+use mir.Syntax.{Body}
+use types.Kit.{Post as After}
 use types.Match.{live, vrt, in_variant}
-use types.Part.{agg, whole}
-use types.Run.{enter, of_opd, stop, fld, bin, lit, size_lit, align_word, and_then, no_more, first, exec, returns, switches_on}
-use Rattle.handle_pool.specs.RowOwns.{chunk}
 use Rattle.handle_pool.specs.contracts.row.Row as C
 use Rattle.handle_pool.specs.contracts.row.Row.allocate as f
-use Rattle.handle_pool.specs.declared.row.Row.{Row}
 use Rattle.handle_pool.proofs.RowSteps.{R, RowOf, sz, Items, row_made}
 use Rattle.handle_pool.proofs.row.Row.allocate.Statement.{statement}
 use Rattle.handle_pool.proofs.row.Row.allocate.Code as code

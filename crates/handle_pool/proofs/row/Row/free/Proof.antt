@@ -1,47 +1,11 @@
 -- `free` makes the items room again, and gives the block back. Assumes `Logic`.
-use Rattle.std.proofs.Common.{◌≡◌, ℕ, ◌+◌, ◌-◌, ◌*◌, ◌<◌, ◌^◌, List, [], ◌∷◌, ◌++◌, length, refl, sym, ap, subst, ◌∙◌, arith}
-use Rattle.std.proofs.RawLayout.{as_raw, as_written}
+use Rattle.handle_pool.proofs.Names.{◌≡◌, ℕ, ◌+◌, ◌-◌, ◌*◌, ◌<◌, ◌^◌, List, [], ◌∷◌, ◌++◌, length, refl, sym, ap, subst, ◌∙◌, arith, as_raw, as_written, after, one_below, proved, flft, froom, fsep, ftrue, emp, id⊢, ◌⊑◌, fact, fact_i, tables, RefOf, unit, usize, yes, no, layout, layouts, param_laws, uint_vals, uint_Tells, RattleType, Ptr, block_ptr, ptr_val, ShrRef, shr_vals, shr_Tells, plain, nothing, heard, only, T, calls_at_last, triple_of, framed, Stays, walk_of, stay_dropped, Goes-dropped, ends_at, inst_fn, Fn, named, w64, a_type, ty_array, ty_unit, Val, WT, has_ty, vint, vptr, vunit, vstruct, vcons, vnil, capped_is, capped_fits, size, align, capped, size-raw, align-raw, WpFn, lands_last, alloc_all, pass_all, free_all, look_at, get, get_in, sets, env, ‵, raw, ◌⊛◌, prop, some, later, ◌$◌, ◌∵◌, !, at_ret, qed, done, move, keep, drop, use0, use1, use2, feq_i, feq_l, flt_i, split, split3, join, fsplit, fjoin, await, pick, regoal, rewrite, suffices, whole, sub, enter, of_opd, stop, fld, bin, size_lit, align_word, and_then, no_more, unit_lit, first, blocks, exec, returns, chunk}
 use Rattle.std.proofs.VecSteps.El.{no_al}
 use Rattle.std.proofs.VecSteps.Rows.{all_room}
-use Rattle.std.proofs.VecSteps.Shapes.{after}
-use Rattle.std.proofs.ptr.Rows.{one_below}
-use Rattle.std.proofs.raw_atomic.Walks.{proved}
 use Rattle.std.specs.contracts.alloc.Global as G
 use Rattle.std.specs.contracts.impls.GlobalAllocator.deallocate as g
 use Rattle.std.proofs.impls.GlobalAllocator.deallocate.Met.{met}
-use base.Fml.{flft, froom, fsep, ftrue}
-use base.Logic.{emp, id⊢}
-use contract.BorrowLft.{◌⊑◌}
-use contract.Monad.{fact, fact_i}
-use contract.Running.{tables}
-use denote.Builtin.{RefOf, unit, usize}
-use denote.Exit.{yes, no}
-use denote.Param.{layout, layouts}
-use denote.Param.Laws.{param_laws}
-use denote.Plain.{uint_vals, uint_Tells}
-use denote.RattleType.{RattleType}
-use denote.RawPtr.{Ptr, block_ptr, ptr_val}
-use denote.Ref.{ShrRef, shr_vals, shr_Tells}
-use denote.Signature.{plain}
-use denote.Steps.{nothing, heard, only}
-use lib.Dec.{T}
-use denote.Triple.Call.{calls_at_last}
-use denote.Triple.Spec.{triple_of}
-use denote.Triple.Table.{framed}
-use denote.Triple.Walked.{Stays, walk_of, stay_dropped, Goes-dropped, ends_at}
-use mir.MapTy.{inst_fn}
 use mir.Raw.{raw as bare}
-use mir.Syntax.{Fn, named, w64, a_type, ty_array, ty_unit}
-use mir.Val.{Val, WT, has_ty, vint, vptr, vunit, vstruct, vcons, vnil}
-use prog.Capped.{capped_is, capped_fits}
-use prog.Memory.{size, align, capped}
-use prog.RawLaws.{size-raw, align-raw}
-use prog.Wp.{WpFn}
-use types.ByLocal.{lands_last, alloc_all, pass_all, free_all, look_at, get, get_in, sets, env}
-use types.Kit.{‵, raw, ◌⊛◌, prop, some, later, ◌$◌, ◌∵◌, !, at_ret, qed, done, move, keep, drop, use0, use1, use2, feq_i, feq_l, flt_i, split, split3, join, fsplit, fjoin, await, pick, regoal, rewrite, suffices}
-use types.Part.{whole, sub}
-use types.Run.{enter, of_opd, stop, fld, bin, size_lit, align_word, and_then, no_more, unit_lit, first, blocks, exec, returns}
-use Rattle.handle_pool.specs.RowOwns.{chunk}
 use Rattle.handle_pool.specs.contracts.row.Row.free as f
 use Rattle.handle_pool.proofs.RowSteps.{R, RowOf, sz, row_had}
 use Rattle.handle_pool.proofs.row.Row.TheLaws.{lowers}

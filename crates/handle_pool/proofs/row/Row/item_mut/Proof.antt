@@ -1,42 +1,8 @@
 -- `item_mut` lends one item, and the row follows it. Assumes `Logic`.
-use Rattle.std.proofs.Common.{◌≡◌, ℕ, ◌+◌, ◌*◌, ◌<◌, ◌^◌, zero, suc, List, [], ◌∷◌, length, get_or, set, Some, slice_get, refl, sym, subst, arith, length-set, MutBor}
-use Rattle.std.proofs.VecSteps.Shapes.{after}
-use Rattle.std.proofs.ptr.Rows.{apart, one_below, times_below}
+use Rattle.handle_pool.proofs.Names.{◌≡◌, ℕ, ◌+◌, ◌*◌, ◌<◌, ◌^◌, zero, suc, List, [], ◌∷◌, length, get_or, set, Some, slice_get, refl, sym, subst, arith, length-set, MutBor, after, apart, one_below, times_below, proved, Fml, GName, flft, fsep, ftrue, full_share, ent, sep, id⊢, ◌⊑◌, fact, tables, usize, yes, no, follows, Part, lends_Part, row, others, takes, puts, place_is, cell_at, mem, part_at, part_of, shares, layouts, Laws, uint_vals, uint_Tells, RattleType, block_ptr, MutRef, mut_vals, mut_Tells, plain, nothing, heard, Stays, walk_of, stay_dropped, Goes-dropped, Goes-spent_ref, says, ends_at, inst_fn, Fn, named, w64, a_type, Val, vptr, Ura, alloc_all, pass_all, free_all, look_at, get, through, sets, sets_last, env, ‵, raw, ◌⊛◌, some, later, given, ◌$◌, ◌∵◌, !, at_ret, qed, done, move, keep, drop, use1, split, split3, join, fsplit, fsplit3, fjoin, fpack, frame, group, await, use2, pick, learn, rewrite, suffices, Logic, sem, whole, sub, look_in, addr, bin, size_lit, enter, of_opd, load, stop, fld, first, blocks, exec, returns, with_item, Row}
 use Rattle.std.proofs.ptr.Rows as rows
-use Rattle.std.proofs.raw_atomic.Walks.{proved}
-use base.Fml.{Fml, GName, flft, fsep, ftrue}
-use base.Fraction.{full_share}
-use base.Logic.{ent, sep, id⊢}
-use contract.BorrowLft.{◌⊑◌}
-use contract.Monad.{fact}
-use contract.Running.{tables}
-use denote.Builtin.{usize}
-use denote.Exit.{yes, no}
-use denote.Follow.{follows}
-use denote.Follow.{Part, lends_Part}
-use denote.Index.{row, others, takes, puts, place_is, place as nth}
-use denote.Memory.{cell_at, mem, part_at, part_of, shares}
-use denote.Param.{layouts}
-use denote.Param.Laws.{Laws}
-use denote.Plain.{uint_vals, uint_Tells}
-use denote.RattleType.{RattleType}
-use denote.RawPtr.{block_ptr}
-use denote.Ref.{MutRef, mut_vals, mut_Tells}
-use denote.Signature.{plain}
-use denote.Steps.{nothing, heard}
-use denote.Triple.Walked.{Stays, walk_of, stay_dropped, Goes-dropped, Goes-spent_ref, says, ends_at}
-use mir.MapTy.{inst_fn}
-use mir.Syntax.{Fn, named, w64, a_type}
-use mir.Val.{Val, vptr}
-use seplogic.Ra.Ura.{Ura}
-use types.ByLocal.{alloc_all, pass_all, free_all, look_at, get, through, sets, sets_last, env}
-use types.Kit.{‵, raw, ◌⊛◌, some, later, given, ◌$◌, ◌∵◌, !, at_ret, qed, done, move, keep, drop, use1, split, split3, join, fsplit, fsplit3, fjoin, fpack, frame, group, await, use2, pick, learn, rewrite, suffices}
-use types.Logic.{Logic, sem}
-use types.Part.{whole, sub, look_in}
-use types.Run.{addr, bin, size_lit, enter, of_opd, load, stop, fld, first, blocks, exec, returns}
-use Rattle.handle_pool.specs.RowLends.{with_item}
+use denote.Index.{place as nth}
 use Rattle.handle_pool.specs.contracts.row.Row.item_mut as f
-use Rattle.handle_pool.specs.declared.row.Row.{Row}
 use Rattle.handle_pool.proofs.RowSteps.{R, RowOf, Held, sz, Items, Spare, row_made, row_opens}
 use Rattle.handle_pool.proofs.row.Row.item_mut.Statement.{statement}
 use Rattle.handle_pool.proofs.row.Row.item_mut.Code as code

@@ -1,39 +1,7 @@
 -- `items` reads the block's address through a `&`, and lends the items. Assumes `Logic`.
-use Rattle.std.proofs.Common.{◌≡◌, ℕ, ◌+◌, ◌*◌, ◌<◌, ◌^◌, List, [], ◌∷◌, length, refl, ap, subst, arith}
-use Rattle.std.proofs.ptr.Rows.{times_below}
-use Rattle.std.proofs.VecSteps.Shapes.{after}
+use Rattle.handle_pool.proofs.Names.{◌≡◌, ℕ, ◌+◌, ◌*◌, ◌<◌, ◌^◌, List, [], ◌∷◌, length, refl, ap, subst, arith, times_below, after, proved, Fml, Lft, fhide, flft, ftrue, ent, sep, ◌⊑◌, fact, tables, RefOf, usize, yes, hidden_shr, mem, layouts, param, uint_vals, uint_Tells, RattleType, Ptr, RawPtr, InBlock, block_of, count_of, ptr_row_laws, ShrRef, shr_vals, shr_Tells, plain, slice_val, nothing, heard, in_block_says, lent_out, shape, Struct, Struct-row_laws, Stays, walk_of, stay_dropped, Goes-dropped, says, ends_at, inst_fn, Fn, named, w64, a_type, Val, Ura, alloc_all, pass_all, free_all, look_at, get, through, sets, sets_last, env, ‵, raw, ◌⊛◌, ◌$◌, ◌∵◌, !, at_ret, qed, done, move, keep, drop, use1, split, split3, join, fsplit, fjoin, feq_i, flt_l, flt_i, suffices, Logic, sem, agg, enter, of_opd, load, look, stop, fld, no_more, and_then, first, blocks, exec, returns}
 use Rattle.std.proofs.Words.{pointer_in, pointer_out}
-use Rattle.std.proofs.raw_atomic.Walks.{proved}
-use base.Fml.{Fml, Lft, fhide, flft, ftrue}
-use base.Logic.{ent, sep}
-use contract.BorrowLft.{◌⊑◌}
-use contract.Monad.{fact}
-use contract.Running.{tables}
-use denote.Builtin.{RefOf, usize}
-use denote.Exit.{yes}
-use denote.Memory.{hidden_shr, mem}
 use denote.Opens.{shr_dup, unhide, hide}
-use denote.Param.{layouts, param}
-use denote.Plain.{uint_vals, uint_Tells}
-use denote.RattleType.{RattleType}
-use denote.RawPtr.{Ptr, RawPtr, InBlock, block_of, count_of, ptr_row_laws}
-use denote.Ref.{ShrRef, shr_vals, shr_Tells}
-use denote.Signature.{plain}
-use denote.Slice.{slice_val}
-use denote.Steps.{nothing, heard}
-use denote.Struct.Lending.{in_block_says, lent_out}
-use denote.Struct.Owning.{shape}
-use denote.Struct.Struct.{Struct, Struct-row_laws}
-use denote.Triple.Walked.{Stays, walk_of, stay_dropped, Goes-dropped, says, ends_at}
-use mir.MapTy.{inst_fn}
-use mir.Syntax.{Fn, named, w64, a_type}
-use mir.Val.{Val}
-use seplogic.Ra.Ura.{Ura}
-use types.ByLocal.{alloc_all, pass_all, free_all, look_at, get, through, sets, sets_last, env}
-use types.Kit.{‵, raw, ◌⊛◌, ◌$◌, ◌∵◌, !, at_ret, qed, done, move, keep, drop, use1, split, split3, join, fsplit, fjoin, feq_i, flt_l, flt_i, suffices}
-use types.Logic.{Logic, sem}
-use types.Part.{agg}
-use types.Run.{enter, of_opd, load, look, stop, fld, no_more, and_then, first, blocks, exec, returns}
 use Rattle.handle_pool.specs.contracts.row.Row as C
 use Rattle.handle_pool.specs.contracts.row.Row.items as f
 use Rattle.handle_pool.proofs.row.Row.items.Statement.{statement}

@@ -1,45 +1,9 @@
 -- `items_mut` lends the items, and the row follows them. Assumes `Logic`.
-use Rattle.std.proofs.Common.{◌≡◌, ℕ, ◌+◌, ◌*◌, ◌<◌, ◌^◌, List, [], ◌∷◌, length, refl, sym, subst, arith}
-use Rattle.std.proofs.VecSteps.Shapes.{after}
-use Rattle.std.proofs.ptr.Rows.{apart, times_below}
+use Rattle.handle_pool.proofs.Names.{◌≡◌, ℕ, ◌+◌, ◌*◌, ◌<◌, ◌^◌, List, [], ◌∷◌, length, refl, sym, subst, arith, after, apart, times_below, proved, Fml, GName, flft, fsep, ftrue, full_share, ent, sep, id⊢, ◌⊑◌, fact, tables, Array, usize, yes, no, follows, row, whole_in, whole_out, cell_at, mem, part_of, layouts, Laws, uint_vals, uint_Tells, RattleType, block_ptr, MutRef, mut_vals, mut_Tells, plain, MutSlice, slice_val, nothing, heard, Stays, walk_of, stay_dropped, Goes-dropped, Goes-spent_ref, says, ends_at, inst_fn, Fn, named, w64, a_type, Val, Ura, alloc_all, pass_all, free_all, look_at, get, through, sets, sets_last, env, ‵, raw, ◌⊛◌, some, later, given, ◌$◌, ◌∵◌, !, at_ret, qed, done, move, keep, drop, use1, split, split3, join, fsplit3, fjoin, fpack, frame, group, await, pick, learn, rewrite, suffices, Logic, sem, agg, whole, sub, look_in, enter, of_opd, load, stop, fld, no_more, and_then, first, blocks, exec, returns, with_items, Row}
 use Rattle.std.proofs.ptr.Rows as rows
-use Rattle.std.proofs.raw_atomic.Walks.{proved}
-use base.Fml.{Fml, GName, flft, fsep, ftrue}
-use base.Fraction.{full_share}
-use base.Logic.{ent, sep, id⊢}
-use contract.BorrowLft.{◌⊑◌}
-use contract.Monad.{fact}
-use contract.Running.{tables}
-use denote.Array.{Array}
-use denote.Builtin.{usize}
-use denote.Exit.{yes, no}
-use denote.Follow.{follows}
 use denote.FollowSlice.{Elements, lends_Elements}
-use denote.Index.{row, whole_in, whole_out}
-use denote.Memory.{cell_at, mem, part_of}
-use denote.Param.{layouts}
-use denote.Param.Laws.{Laws}
-use denote.Plain.{uint_vals, uint_Tells}
-use denote.RattleType.{RattleType}
-use denote.RawPtr.{block_ptr}
-use denote.Ref.{MutRef, mut_vals, mut_Tells}
-use denote.Signature.{plain}
-use denote.Slice.{MutSlice, slice_val}
-use denote.Steps.{nothing, heard}
-use denote.Triple.Walked.{Stays, walk_of, stay_dropped, Goes-dropped, Goes-spent_ref, says, ends_at}
-use mir.MapTy.{inst_fn}
-use mir.Syntax.{Fn, named, w64, a_type}
-use mir.Val.{Val}
-use seplogic.Ra.Ura.{Ura}
-use types.ByLocal.{alloc_all, pass_all, free_all, look_at, get, through, sets, sets_last, env}
-use types.Kit.{‵, raw, ◌⊛◌, some, later, given, ◌$◌, ◌∵◌, !, at_ret, qed, done, move, keep, drop, use1, split, split3, join, fsplit3, fjoin, fpack, frame, group, await, pick, learn, rewrite, suffices}
-use types.Logic.{Logic, sem}
-use types.Part.{agg, whole, sub, look_in}
-use types.Run.{enter, of_opd, load, stop, fld, no_more, and_then, first, blocks, exec, returns}
 use types.SemTy.{cells}
-use Rattle.handle_pool.specs.RowLends.{with_items}
 use Rattle.handle_pool.specs.contracts.row.Row.items_mut as f
-use Rattle.handle_pool.specs.declared.row.Row.{Row}
 use Rattle.handle_pool.proofs.RowSteps.{R, RowOf, Held, sz, Items, Spare, row_made, row_opens}
 use Rattle.handle_pool.proofs.row.Row.items_mut.Statement.{statement}
 use Rattle.handle_pool.proofs.row.Row.items_mut.Code as code

@@ -1,38 +1,7 @@
 -- `push` writes one item more into the room after the items. Assumes `Logic`.
-use Rattle.std.proofs.Common.{◌≡◌, ℕ, ◌+◌, ◌-◌, ◌*◌, ◌<◌, ◌^◌, List, [], ◌∷◌, ◌++◌, length, refl, sym, subst, arith}
-use Rattle.std.proofs.VecSteps.Shapes.{after}
-use Rattle.std.proofs.lemmas.List.{length_push}
-use Rattle.std.proofs.ptr.Rows.{times_below, one_below}
+use Rattle.handle_pool.proofs.Names.{◌≡◌, ℕ, ◌+◌, ◌-◌, ◌*◌, ◌<◌, ◌^◌, List, [], ◌∷◌, ◌++◌, length, refl, sym, subst, arith, after, length_push, times_below, one_below, flft, froom, ftrue, full_share, ent, sep, ◌⊑◌, fact, tables, usize, yes, no, cell_at, part_at, layout, layouts, param_laws, uint_vals, RattleType, MutRef, mut_vals, plain, closes, nothing, heard, Stays, walk_of, stay_dropped, stay_ref, Goes-dropped, Goes-ref, says, ends_at, inst_fn, Fn, named, w64, a_type, ty_array, Val, vunit, WpFn, Array, as_raw, as_written, alloc_all, pass_all, free_all, look_at, get, through, sets, env, ‵, raw, ◌⊛◌, ◌$◌, ◌∵◌, !, at_ret, qed, done, move, keep, drop, use1, use2, feq_i, split, split3, join, fsplit3, frame, group, rewrite, suffices, whole, sub, look_in, enter, of_opd, load, stop, fld, bin, size_lit, unit_lit, init, assigns_last, first, blocks, exec, returns, proved_at}
 use Rattle.std.proofs.ptr.Rows as rows
-use base.Fml.{flft, froom, ftrue}
-use base.Fraction.{full_share}
-use base.Logic.{ent, sep}
-use contract.BorrowLft.{◌⊑◌}
-use contract.Monad.{fact}
-use contract.Running.{tables}
-use denote.Builtin.{usize}
-use denote.Exit.{yes, no}
-use denote.Memory.{cell_at, part_at}
-use denote.Param.{layout, layouts}
-use denote.Param.Laws.{param_laws}
-use denote.Plain.{uint_vals}
-use denote.RattleType.{RattleType}
-use denote.Ref.{MutRef, mut_vals}
-use denote.Signature.{plain}
-use denote.Steps.{closes, nothing, heard}
-use denote.Triple.Walked.{Stays, walk_of, stay_dropped, stay_ref, Goes-dropped, Goes-ref, says, ends_at}
-use mir.MapTy.{inst_fn}
-use mir.Syntax.{Fn, named, w64, a_type, ty_array}
-use mir.Val.{Val, vunit}
-use prog.Wp.{WpFn}
-use denote.Array.{Array}
 use denote.Triple.Entry.{on_entry}
-use Rattle.std.proofs.RawLayout.{as_raw, as_written}
-use types.ByLocal.{alloc_all, pass_all, free_all, look_at, get, through, sets, env}
-use types.Kit.{‵, raw, ◌⊛◌, ◌$◌, ◌∵◌, !, at_ret, qed, done, move, keep, drop, use1, use2, feq_i, split, split3, join, fsplit3, frame, group, rewrite, suffices}
-use types.Part.{whole, sub, look_in}
-use types.Run.{enter, of_opd, load, stop, fld, bin, size_lit, unit_lit, init, assigns_last, first, blocks, exec, returns}
-use Rattle.std.proofs.raw_atomic.Walks.{proved_at}
 use Rattle.handle_pool.specs.contracts.row.Row.push as f
 use Rattle.handle_pool.proofs.RowSteps.{one_value, R, RowOf, sz, Spare, row_made, row_opens}
 use Rattle.handle_pool.proofs.row.Row.push.Statement.{statement}
