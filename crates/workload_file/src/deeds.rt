@@ -121,14 +121,15 @@ macro_rules! held {
     (Named Usual $value:ident) => { place_in($value) };
 }
 
+// Each arm returns, so that none has a deed of its own to move.
 macro_rules! built {
     (($self:ident $at:ident $values:ident $else:expr) { $($word:ident $text:literal $naming:ident$(($sort:ident))? [$($place:ident)?] { $($field:ident: $key:ident $shape:ident$(($($bound:tt)*))? $absent:ident$(($usual:literal))?),* })* }) => {
         match $self {
             $(Word::$word => match $values {
-                [$($field),*] => Deed::$word { $($place: $at,)? $($field: held!($shape $absent $field)),* },
-                _ => $else,
+                [$($field),*] => return Deed::$word { $($place: $at,)? $($field: held!($shape $absent $field)),* },
+                _ => return $else,
             },)*
-            _ => $else,
+            _ => return $else,
         }
     };
 }
