@@ -27,7 +27,8 @@ pub struct OtherHandles {
 
 // Puts a number beside a handle.
 fn put(map: &mut BTreeMap<u64, u64>, handle: u64, other: u64) -> Result<(), AllocError>
-    ensures ok { OnOk result ((h : ℕ) → get nat_cmp map.new h ≡ (if h == handle then Some other else get nat_cmp map.old h)) }
+    ensures ok { OnOk result ((h : ℕ)
+        → get nat_cmp map.new h ≡ (if h == handle then Some other else get nat_cmp map.old h)) }
     ensures err { OnErr result ((h : ℕ) → get nat_cmp map.new h ≡ get nat_cmp map.old h) }
 {
     map.insert(handle, other)?;

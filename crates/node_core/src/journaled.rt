@@ -179,7 +179,8 @@ impl Journaled {
         ensures none { (result ≡ Ok None) ↔ ((journal_terms self).keeps ≡ false) }
         ensures lost { IsErr result ↔ (is_lost self ≡ true) }
         ensures terms { IfOk result (λ o. IfSome o (HasTerms (journal_terms self).node)) }
-        ensures kept { (L : List NodeEntry) → StandsKept self L → IfOk result (λ o. IfSome o (λ j. KeptAs (journal_terms self).node j L)) }
+        ensures kept { (L : List NodeEntry) → StandsKept self L
+            → IfOk result (λ o. IfSome o (λ j. KeptAs (journal_terms self).node j L)) }
     {
         let Journaled { node, log } = self;
         let Log { kept, counts: _ } = log;

@@ -106,7 +106,8 @@ impl Node {
         requires seat { who < seat_count (terms_of self.old) }
         requires room { (L : List NodeEntry) × Stands self.old L × (length L < 2 ^ 62 + 16) }
         ensures terms { terms_of self.new ≡ terms_of self.old }
-        ensures stands { (L : List NodeEntry) → Stands self.old L → Stands self.new (L ++ entry who op.now result ∷ []) }
+        ensures stands { (L : List NodeEntry) → Stands self.old L
+            → Stands self.new (L ++ entry who op.now result ∷ []) }
     {
         let kind = answered_kind(op);
         let mut reply = self.inner.step_inward(who, op);
@@ -122,7 +123,8 @@ impl Node {
 
     // Where this op is answered Pending, does the state stay as it was?
     pub(crate) fn pends_alike(&self, who: u32, op: &Op) -> bool
-        ensures { (L : List NodeEntry) → Stands self.now L → pends_alike (after (terms_of self.now) L) who op.now ≡ result }
+        ensures { (L : List NodeEntry) → Stands self.now L
+            → pends_alike (after (terms_of self.now) L) who op.now ≡ result }
     {
         match op {
             Op::TaskLook { task, last } => {

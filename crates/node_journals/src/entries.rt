@@ -38,7 +38,8 @@ impl EntryList {
 
     /// Adds an entry and its number at the end. Where memory is short, the list stays as it was.
     pub fn push(&mut self, entry: Entry, skipped: u64) -> Result<(), AllocError>
-        ensures pushed { IfOk result (λ _. self.new ≡ record { entries = self.old.entries ++ entry ∷ []; skipped = self.old.skipped ++ skipped ∷ [] }) }
+        ensures pushed { IfOk result (λ _.
+            self.new ≡ record { entries = self.old.entries ++ entry ∷ []; skipped = self.old.skipped ++ skipped ∷ [] }) }
         ensures short { IsErr result → self.new ≡ self.old }
     {
         self.entries.reserve(1)?;

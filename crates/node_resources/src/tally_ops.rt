@@ -81,7 +81,8 @@ impl Resources {
 
     // Whether a live segment has the cell.
     fn has_cell(&self, segment: ShmemHandle, cell: u64) -> bool
-        ensures { (y : Segment) → slot_value self.now.segments segment.0 ≡ Some y → nat_lt cell (length y.cells) ≡ result }
+        ensures { (y : Segment) → slot_value self.now.segments segment.0 ≡ Some y
+            → nat_lt cell (length y.cells) ≡ result }
     {
         match self.segments.cell_count(segment) {
             Some(count) => cell < count as u64,
@@ -113,7 +114,8 @@ impl Resources {
     pub fn tally_read(&self, segment: ShmemHandle, cell: u64) -> i64
         ensures live { (y : Segment) → slot_value self.now.segments segment.0 ≡ Some y → result ≡ cell_of cell y }
         ensures gone { slot_value self.now.segments segment.0 ≡ None → result ≡ pos 0 }
-        ensures reads { (s : State) (y : Segment) → Stands s self.now → live_object s.segments segment.0 ≡ Some y → result ≡ cell_of cell y }
+        ensures reads { (s : State) (y : Segment) → Stands s self.now → live_object s.segments segment.0 ≡ Some y
+            → result ≡ cell_of cell y }
     {
         match self.segments.number(segment, cell) {
             Some(number) => number,
@@ -123,7 +125,8 @@ impl Resources {
 
     /// Puts a number into a cell of a tally's segment.
     pub fn tally_write(&mut self, segment: ShmemHandle, cell: u64, value: i64)
-        ensures { (s : State) → Stands s self.old → Stands (after_moves (alters Segments segment.0 (with_cell cell value) ∷ []) s) self.new }
+        ensures { (s : State) → Stands s self.old
+            → Stands (after_moves (alters Segments segment.0 (with_cell cell value) ∷ []) s) self.new }
     {
         self.segments.set_number(segment, cell, value);
     }
@@ -133,7 +136,9 @@ impl Resources {
     pub fn tally_end(&mut self, who: u32, mutex: MutexHandle, segment: ShmemHandle)
         requires seat { who < 25 }
         ensures new { self.new ≡ record self.old { mutexes = changed self.old.mutexes mutex.0 (after_unlock who 1); segments = changed self.old.segments segment.0 (after_detach who) } }
-        ensures ends { (s : State) (x : Mutex) → Stands s self.old → live_object s.mutexes mutex.0 ≡ Some x → x.owner ≡ Some who → x.depth ≡ 1 → Stands (after_moves (alters Segments segment.0 (with_attached who false) ∷ alters Mutexes mutex.0 unlocked ∷ []) s) self.new }
+        ensures ends { (s : State) (x : Mutex) → Stands s self.old → live_object s.mutexes mutex.0 ≡ Some x
+            → x.owner ≡ Some who → x.depth ≡ 1
+            → Stands (after_moves (alters Segments segment.0 (with_attached who false) ∷ alters Mutexes mutex.0 unlocked ∷ []) s) self.new }
     {
         let _ = self.segments.detach(segment, who);
         let _ = self.mutexes.unlock(mutex, who, 1);

@@ -49,7 +49,8 @@ impl Node {
     }
 
     pub(crate) fn action_create(&mut self, job: u32, kind: Kind, cores: Mask) -> Reply
-        ensures { (l : Lists) (who : ℕ) → Live self.old l → Steps self.old l who (op.ActionCreate job kind cores) result self.new }
+        ensures { (l : Lists) (who : ℕ) → Live self.old l
+            → Steps self.old l who (op.ActionCreate job kind cores) result self.new }
     {
         if let Some(status) = self.action_refusal(job) {
             return Reply::Mtapi(status);
@@ -61,7 +62,8 @@ impl Node {
     }
 
     pub(crate) fn action_enable(&mut self, action: ActionHandle) -> Reply
-        ensures { (l : Lists) (who : ℕ) → Live self.old l → Steps self.old l who (op.ActionEnable action) result self.new }
+        ensures { (l : Lists) (who : ℕ) → Live self.old l
+            → Steps self.old l who (op.ActionEnable action) result self.new }
     {
         if !is_open(self.core.phase) {
             return Reply::Mtapi(MtapiStatus::ErrNodeNotinit);
@@ -74,7 +76,8 @@ impl Node {
 
     // The action goes on, and the tasks that no worker can take any more fail.
     pub(crate) fn action_disable(&mut self, action: ActionHandle) -> Reply
-        ensures { (l : Lists) (who : ℕ) → Live self.old l → Sound (state_of self.old l) → Steps self.old l who (op.ActionDisable action) result self.new }
+        ensures { (l : Lists) (who : ℕ) → Live self.old l → Sound (state_of self.old l)
+            → Steps self.old l who (op.ActionDisable action) result self.new }
     {
         if !is_open(self.core.phase) {
             return Reply::Mtapi(MtapiStatus::ErrNodeNotinit);
@@ -92,7 +95,8 @@ impl Node {
 
     // The action is given up, and the tasks that no worker can take any more fail.
     pub(crate) fn action_delete(&mut self, action: ActionHandle) -> Reply
-        ensures { (l : Lists) (who : ℕ) → Live self.old l → Sound (state_of self.old l) → Steps self.old l who (op.ActionDelete action) result self.new }
+        ensures { (l : Lists) (who : ℕ) → Live self.old l → Sound (state_of self.old l)
+            → Steps self.old l who (op.ActionDelete action) result self.new }
     {
         if !is_open(self.core.phase) {
             return Reply::Mtapi(MtapiStatus::ErrNodeNotinit);

@@ -58,7 +58,8 @@ impl Node {
 
     /// Whether a handle names a live object of a kind.
     pub fn is_live(&self, kind: ObjectKind, handle: u64) -> bool
-        ensures { (L : List NodeEntry) → Stands self.now L → is_live_of kind (after (terms_of self.now) L) handle ≡ result }
+        ensures { (L : List NodeEntry) → Stands self.now L
+            → is_live_of kind (after (terms_of self.now) L) handle ≡ result }
     {
         match kind {
             ObjectKind::Action => self.board.is_action(ActionHandle(handle)),
@@ -76,7 +77,8 @@ impl Node {
     /// only want of room can refuse it.
     pub fn refusal(&self, who: u32, op: &Op) -> Option<Reply>
         requires makes { IsSome (made_kind op.now) }
-        ensures { (L : List NodeEntry) → Stands self.now L → refusal_of (after (terms_of self.now) L) who op.now ≡ result }
+        ensures { (L : List NodeEntry) → Stands self.now L
+            → refusal_of (after (terms_of self.now) L) who op.now ≡ result }
     {
         self.create_refusal(who, op)
     }
@@ -126,8 +128,11 @@ impl Node {
         requires seat { who < seat_count (terms_of self.old) }
         requires room { (L : List NodeEntry) × Stands self.old L × (length L < 2 ^ 62 + 16) }
         ensures terms { terms_of self.new ≡ terms_of self.old }
-        ensures stands { (L : List NodeEntry) → Stands self.old L → Stands self.new (L ++ entry who op.Pick result ∷ []) }
-        ensures toward { (L : List NodeEntry) (kind : Kind) (args : List ℤ) → Stands self.old L → Allows (row (after (terms_of self.old) L) who op.Pick (reply.Picked task action kind args)) (reply.Picked task action kind args) → result ≡ reply.Picked task action kind args }
+        ensures stands { (L : List NodeEntry) → Stands self.old L
+            → Stands self.new (L ++ entry who op.Pick result ∷ []) }
+        ensures toward { (L : List NodeEntry) (kind : Kind) (args : List ℤ) → Stands self.old L
+            → Allows (row (after (terms_of self.old) L) who op.Pick (reply.Picked task action kind args)) (reply.Picked task action kind args)
+            → result ≡ reply.Picked task action kind args }
     {
         let reply = self.pick_wanted(who, Some((task, action)));
         self.board.is_kept();

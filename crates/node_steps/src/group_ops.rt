@@ -61,7 +61,8 @@ impl Node {
     }
 
     pub(crate) fn group_delete(&mut self, group: GroupHandle) -> Reply
-        ensures { (l : Lists) (who : ℕ) → Live self.old l → Steps self.old l who (op.GroupDelete group) result self.new }
+        ensures { (l : Lists) (who : ℕ) → Live self.old l
+            → Steps self.old l who (op.GroupDelete group) result self.new }
     {
         if !is_open(self.core.phase) {
             return Reply::Mtapi(MtapiStatus::ErrNodeNotinit);
@@ -75,7 +76,8 @@ impl Node {
     }
 
     pub(crate) fn all_look(&mut self, group: GroupHandle, last: bool) -> Reply
-        ensures { (l : Lists) (who : ℕ) → Live self.old l → Steps self.old l who (op.AllLook group last) result self.new }
+        ensures { (l : Lists) (who : ℕ) → Live self.old l
+            → Steps self.old l who (op.AllLook group last) result self.new }
     {
         if !is_up(self.core.phase) {
             return Reply::Mtapi(MtapiStatus::ErrNodeNotinit);
@@ -91,7 +93,8 @@ impl Node {
     }
 
     pub(crate) fn any_look(&mut self, group: GroupHandle, last: bool) -> Reply
-        ensures { (l : Lists) (who : ℕ) → Live self.old l → Steps self.old l who (op.AnyLook group last) result self.new }
+        ensures { (l : Lists) (who : ℕ) → Live self.old l
+            → Steps self.old l who (op.AnyLook group last) result self.new }
     {
         if !is_up(self.core.phase) {
             return Reply::Mtapi(MtapiStatus::ErrNodeNotinit);

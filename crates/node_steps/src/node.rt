@@ -84,7 +84,8 @@ impl Node {
     pub(crate) fn dispatch<R: Rename>(&mut self, names: &R, who: u32, op: &Op) -> Reply
         requires few_starts { self.old.board.tasks.starts < 2 ^ 63 }
         requires seat { who < 25 }
-        ensures { (l : Lists) → Live self.old l → Sound (state_of self.old l) → Steps self.old l who (renamed_op (R.renaming names.now) op.now) result self.new }
+        ensures { (l : Lists) → Live self.old l → Sound (state_of self.old l)
+            → Steps self.old l who (renamed_op (R.renaming names.now) op.now) result self.new }
     {
         match op {
             Op::Initialize => self.initialize(),

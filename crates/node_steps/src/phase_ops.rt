@@ -89,7 +89,8 @@ impl Node {
 
     // The tasks of disabled queues that haven't begun are cancelled.
     pub(crate) fn close(&mut self) -> Reply
-        ensures { (l : Lists) (who : ℕ) → Live self.old l → Sound (state_of self.old l) → Steps self.old l who op.Close result self.new }
+        ensures { (l : Lists) (who : ℕ) → Live self.old l → Sound (state_of self.old l)
+            → Steps self.old l who op.Close result self.new }
     {
         if is_past_open(self.core.phase) {
             return Reply::Mtapi(MtapiStatus::ErrNodeNotinit);

@@ -62,7 +62,8 @@ fn attributes(priority: u32, limit: u32, ordered: bool, retain: bool) -> QueueAt
 impl Node {
     // Why no queue of this job and these numbers is made, but for its id and for want of room.
     fn queue_cause(&self, job: u32, priority: u32, limit: u32) -> Option<MtapiStatus>
-        ensures first { (l : Lists) → Live self.now l → first (queue_causes (state_of self.now l) job priority limit) ≡ result }
+        ensures first { (l : Lists) → Live self.now l
+            → first (queue_causes (state_of self.now l) job priority limit) ≡ result }
         ensures known { IfNone result (priority < self.now.board.settings.priorities) }
         ensures priority { IfNone result (priority ≤ 7) }
         ensures some { IfNone result (1 ≤ limit) }
@@ -88,7 +89,8 @@ impl Node {
         priority: u32,
         limit: u32,
     ) -> Option<MtapiStatus>
-        ensures { (l : Lists) → Live self.now l → first (queue_refusals (state_of self.now l) id job priority limit) ≡ result }
+        ensures { (l : Lists) → Live self.now l
+            → first (queue_refusals (state_of self.now l) id job priority limit) ≡ result }
     {
         if let Some(status) = self.queue_cause(job, priority, limit) {
             return Some(status);
@@ -105,7 +107,8 @@ impl Node {
         ordered: bool,
         retain: bool,
     ) -> Reply
-        ensures { (l : Lists) (who : ℕ) → Live self.old l → Steps self.old l who (op.QueueCreate id job priority limit ordered retain) result self.new }
+        ensures { (l : Lists) (who : ℕ) → Live self.old l
+            → Steps self.old l who (op.QueueCreate id job priority limit ordered retain) result self.new }
     {
         if let Some(status) = self.queue_cause(job, priority, limit) {
             return Reply::Mtapi(status);
@@ -130,7 +133,8 @@ impl Node {
     }
 
     pub(crate) fn queue_enable(&mut self, queue: QueueHandle) -> Reply
-        ensures { (l : Lists) (who : ℕ) → Live self.old l → Steps self.old l who (op.QueueEnable queue) result self.new }
+        ensures { (l : Lists) (who : ℕ) → Live self.old l
+            → Steps self.old l who (op.QueueEnable queue) result self.new }
     {
         if !is_open(self.core.phase) {
             return Reply::Mtapi(MtapiStatus::ErrNodeNotinit);
@@ -143,7 +147,8 @@ impl Node {
 
     // Where the queue doesn't retain its tasks, those that haven't begun are cancelled.
     pub(crate) fn queue_disable(&mut self, queue: QueueHandle) -> Reply
-        ensures { (l : Lists) (who : ℕ) → Live self.old l → Sound (state_of self.old l) → Steps self.old l who (op.QueueDisable queue) result self.new }
+        ensures { (l : Lists) (who : ℕ) → Live self.old l → Sound (state_of self.old l)
+            → Steps self.old l who (op.QueueDisable queue) result self.new }
     {
         if !is_open(self.core.phase) {
             return Reply::Mtapi(MtapiStatus::ErrNodeNotinit);
@@ -161,7 +166,8 @@ impl Node {
 
     // The tasks of the queue that haven't begun fail.
     pub(crate) fn queue_delete(&mut self, queue: QueueHandle) -> Reply
-        ensures { (l : Lists) (who : ℕ) → Live self.old l → Sound (state_of self.old l) → Steps self.old l who (op.QueueDelete queue) result self.new }
+        ensures { (l : Lists) (who : ℕ) → Live self.old l → Sound (state_of self.old l)
+            → Steps self.old l who (op.QueueDelete queue) result self.new }
     {
         if !is_open(self.core.phase) {
             return Reply::Mtapi(MtapiStatus::ErrNodeNotinit);
@@ -182,7 +188,11 @@ impl Node {
         cores: Mask,
         group: Option<GroupHandle>,
     ) -> Option<MtapiStatus>
-        ensures refused { (l : Lists) (args : List ℤ) (priority : ℕ) (detached : Bool) → Live self.now l → first ((not facts.enabled && not facts.retain, status.ErrQueueDisabled) ∷ start_refusals (state_of self.now l) (asked_for facts.job args priority cores detached group) ++ (facts.unended == facts.limit, status.ErrQueueLimit) ∷ []) ≡ result }
+        ensures refused { (l : Lists) (args : List ℤ) (priority : ℕ) (detached : Bool) → Live self.now l
+            → first ((
+              not facts.enabled && not facts.retain,
+              status.ErrQueueDisabled,
+            ) ∷ start_refusals (state_of self.now l) (asked_for facts.job args priority cores detached group) ++ (facts.unended == facts.limit, status.ErrQueueLimit) ∷ []) ≡ result }
         ensures takes { result ≡ None → (not facts.enabled && not facts.retain) ≡ false }
         ensures room { result ≡ None → (facts.unended == facts.limit) ≡ false }
         ensures group { result ≡ None → names_dead self.now.board.groups.pool (number_of group) ≡ false }
@@ -208,7 +218,8 @@ impl Node {
         group: Option<GroupHandle>,
     ) -> Result<QueueFacts, MtapiStatus>
         ensures may { IfOk result (λ f. MayPut self.now queue.0 cores detached group f) }
-        ensures refused { IfErr result (λ c. (l : Lists) (who : ℕ) (args : List ℤ) → Live self.now l → refusal_of (state_of self.now l) who (op.TaskEnqueue queue args cores detached group) ≡ Some (reply.Mtapi c)) }
+        ensures refused { IfErr result (λ c. (l : Lists) (who : ℕ) (args : List ℤ) → Live self.now l
+            → refusal_of (state_of self.now l) who (op.TaskEnqueue queue args cores detached group) ≡ Some (reply.Mtapi c)) }
     {
         if !is_open(self.core.phase) {
             return Err(MtapiStatus::ErrNodeNotinit);
@@ -234,7 +245,8 @@ impl Node {
         detached: bool,
         group: Option<GroupHandle>,
     ) -> Option<MtapiStatus>
-        ensures { (l : Lists) (who : ℕ) (args : List ℤ) → Live self.now l → refusal_of (state_of self.now l) who (op.TaskEnqueue queue args cores detached group) ≡ option_map reply.Mtapi result }
+        ensures { (l : Lists) (who : ℕ) (args : List ℤ) → Live self.now l
+            → refusal_of (state_of self.now l) who (op.TaskEnqueue queue args cores detached group) ≡ option_map reply.Mtapi result }
     {
         self.board.is_kept();
         match self.enqueue_facts(queue, cores, detached, group) {
@@ -252,7 +264,8 @@ impl Node {
         group: Option<GroupHandle>,
     ) -> Reply
         requires { self.old.board.tasks.starts < 2 ^ 63 }
-        ensures { (l : Lists) (who : ℕ) → Live self.old l → Steps self.old l who (op.TaskEnqueue queue args.now cores detached group) result self.new }
+        ensures { (l : Lists) (who : ℕ) → Live self.old l
+            → Steps self.old l who (op.TaskEnqueue queue args.now cores detached group) result self.new }
     {
         self.board.is_kept();
         let facts = match self.enqueue_facts(queue, cores, detached, group) {

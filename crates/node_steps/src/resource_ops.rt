@@ -29,7 +29,8 @@ impl Node {
     pub(crate) fn resource_op<R: Rename>(&mut self, names: &R, who: u32, op: &Op) -> Reply
         requires seat { who < 25 }
         requires resource { is_resource_op op.now ≡ true }
-        ensures { (l : Lists) → Live self.old l → Steps self.old l who (renamed_op (R.renaming names.now) op.now) result self.new }
+        ensures { (l : Lists) → Live self.old l
+            → Steps self.old l who (renamed_op (R.renaming names.now) op.now) result self.new }
     {
         let gate = self.gate();
         self.resources.execute(names, gate, who, op)

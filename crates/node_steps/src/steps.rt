@@ -67,7 +67,8 @@ impl Node {
         requires seat { who < seat_count (terms_of self.old) }
         requires room { (L : List NodeEntry) × Stands self.old L × (length L < 2 ^ 62 + 16) }
         ensures terms { terms_of self.new ≡ terms_of self.old }
-        ensures stands { (L : List NodeEntry) → Stands self.old L → Stands self.new (L ++ entry who (inward_op op.now) result ∷ []) }
+        ensures stands { (L : List NodeEntry) → Stands self.old L
+            → Stands self.new (L ++ entry who (inward_op op.now) result ∷ []) }
         ensures small { IssuesSmall (inward_op op.now) result }
     {
         let reply = self.dispatch(&Inwards, who, op);
@@ -77,7 +78,8 @@ impl Node {
 
     /// Tells whether the state would stay as it is, were this op answered Pending.
     pub fn pends_alike(&self, who: u32, op: &Op) -> bool
-        ensures { (L : List NodeEntry) → Stands self.now L → pends_alike (after (terms_of self.now) L) who op.now ≡ result }
+        ensures { (L : List NodeEntry) → Stands self.now L
+            → pends_alike (after (terms_of self.now) L) who op.now ≡ result }
     {
         self.looks_alike(who, op)
     }

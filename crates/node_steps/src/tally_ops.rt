@@ -168,7 +168,8 @@ impl Node {
 
     // It reads its cell.
     pub(crate) fn tally_read(&mut self, who: u32, task: TaskHandle) -> Reply
-        ensures { (l : Lists) → Live self.old l → Sound (state_of self.old l) → Steps self.old l who (op.TallyRead task) result self.new }
+        ensures { (l : Lists) → Live self.old l → Sound (state_of self.old l)
+            → Steps self.old l who (op.TallyRead task) result self.new }
     {
         match self.running_tally(who, task) {
             Ok(tally) => self.read_cell(who, task, tally),
@@ -178,7 +179,8 @@ impl Node {
 
     fn read_cell(&mut self, who: u32, task: TaskHandle, tally: RunningTally) -> Reply
         requires tally { RunsTally self.old who task.0 tally }
-        ensures { (l : Lists) → Live self.old l → Sound (state_of self.old l) → Steps self.old l who (op.TallyRead task) result self.new }
+        ensures { (l : Lists) → Live self.old l → Sound (state_of self.old l)
+            → Steps self.old l who (op.TallyRead task) result self.new }
     {
         let TallyState::Locked { mutex, segment } = tally.state else {
             return Reply::Mtapi(MtapiStatus::ErrParameter);
@@ -197,7 +199,8 @@ impl Node {
 
     // It writes the sum of what it read and what it adds, and nothing else.
     pub(crate) fn tally_write(&mut self, who: u32, task: TaskHandle, value: i64) -> Reply
-        ensures { (l : Lists) → Live self.old l → Sound (state_of self.old l) → Steps self.old l who (op.TallyWrite task value) result self.new }
+        ensures { (l : Lists) → Live self.old l → Sound (state_of self.old l)
+            → Steps self.old l who (op.TallyWrite task value) result self.new }
     {
         match self.running_tally(who, task) {
             Ok(tally) => self.write_cell(who, task, tally, value),
@@ -207,7 +210,8 @@ impl Node {
 
     fn write_cell(&mut self, who: u32, task: TaskHandle, tally: RunningTally, value: i64) -> Reply
         requires tally { RunsTally self.old who task.0 tally }
-        ensures { (l : Lists) → Live self.old l → Sound (state_of self.old l) → Steps self.old l who (op.TallyWrite task value) result self.new }
+        ensures { (l : Lists) → Live self.old l → Sound (state_of self.old l)
+            → Steps self.old l who (op.TallyWrite task value) result self.new }
     {
         let TallyState::Read {
             mutex,
@@ -235,7 +239,8 @@ impl Node {
     // It gives back what it has, and ends.
     pub(crate) fn tally_end(&mut self, who: u32, task: TaskHandle) -> Reply
         requires seat { who < 25 }
-        ensures { (l : Lists) → Live self.old l → Sound (state_of self.old l) → Steps self.old l who (op.TallyEnd task) result self.new }
+        ensures { (l : Lists) → Live self.old l → Sound (state_of self.old l)
+            → Steps self.old l who (op.TallyEnd task) result self.new }
     {
         match self.running_tally(who, task) {
             Ok(tally) => self.end_tally(who, task, tally),
@@ -246,7 +251,8 @@ impl Node {
     fn end_tally(&mut self, who: u32, task: TaskHandle, tally: RunningTally) -> Reply
         requires seat { who < 25 }
         requires tally { RunsTally self.old who task.0 tally }
-        ensures { (l : Lists) → Live self.old l → Sound (state_of self.old l) → Steps self.old l who (op.TallyEnd task) result self.new }
+        ensures { (l : Lists) → Live self.old l → Sound (state_of self.old l)
+            → Steps self.old l who (op.TallyEnd task) result self.new }
     {
         match tally.state {
             TallyState::Begun | TallyState::Locked { .. } => {

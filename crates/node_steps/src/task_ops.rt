@@ -43,7 +43,8 @@ impl Node {
         cores: Mask,
         group: Option<GroupHandle>,
     ) -> Option<MtapiStatus>
-        ensures first { (l : Lists) (args : List ℤ) (priority : ℕ) (detached : Bool) → Live self.now l → first (start_refusals (state_of self.now l) (asked_for job args priority cores detached group)) ≡ result }
+        ensures first { (l : Lists) (args : List ℤ) (priority : ℕ) (detached : Bool) → Live self.now l
+            → first (start_refusals (state_of self.now l) (asked_for job args priority cores detached group)) ≡ result }
         ensures group { IfNone result (names_dead self.now.board.groups.pool (number_of group) ≡ false) }
     {
         let dead = self.names_dead(group);
@@ -75,7 +76,8 @@ impl Node {
         detached: bool,
         group: Option<GroupHandle>,
     ) -> Option<MtapiStatus>
-        ensures first { (l : Lists) (args : List ℤ) → Live self.now l → first (task_refusals (state_of self.now l) job args priority cores detached group) ≡ result }
+        ensures first { (l : Lists) (args : List ℤ) → Live self.now l
+            → first (task_refusals (state_of self.now l) job args priority cores detached group) ≡ result }
         ensures right { IfNone result ((not (nat_lt priority self.now.board.settings.priorities) || is_detached_member detached group) ≡ false) }
         ensures group { IfNone result (names_dead self.now.board.groups.pool (number_of group) ≡ false) }
     {
@@ -98,7 +100,8 @@ impl Node {
         group: Option<GroupHandle>,
     ) -> Reply
         requires { self.old.board.tasks.starts < 2 ^ 63 }
-        ensures { (l : Lists) (who : ℕ) → Live self.old l → Steps self.old l who (op.TaskStart job args.now priority cores detached group) result self.new }
+        ensures { (l : Lists) (who : ℕ) → Live self.old l
+            → Steps self.old l who (op.TaskStart job args.now priority cores detached group) result self.new }
     {
         if let Some(status) = self.task_refusal(job, priority, cores, detached, group) {
             return Reply::Mtapi(status);

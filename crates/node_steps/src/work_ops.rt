@@ -56,7 +56,8 @@ impl Node {
     fn chosen(&self, who: u32, wanted: Option<(TaskHandle, ActionHandle)>) -> Option<Choice>
         requires { who < self.now.board.settings.workers }
         ensures best { IsBest self.now.board.actions self.now.board.tasks.pool self.now.board.queues.pool who result }
-        ensures toward { (task : TaskHandle) (action : ActionHandle) → wanted ≡ Some (task, action) → IsToward self.now who task action result }
+        ensures toward { (task : TaskHandle) (action : ActionHandle) → wanted ≡ Some (task, action)
+            → IsToward self.now who task action result }
     {
         let Some(best) = self.board.best(who) else {
             return None;
@@ -77,7 +78,9 @@ impl Node {
         wanted: Option<(TaskHandle, ActionHandle)>,
     ) -> Reply
         ensures steps { (l : Lists) → Live self.old l → Steps self.old l who op.Pick result self.new }
-        ensures toward { (task : TaskHandle) (action : ActionHandle) (l : Lists) (kind : Kind) (args : List ℤ) → wanted ≡ Some (task, action) → Live self.old l → MayPick (state_of self.old l) who task action kind args → result ≡ reply.Picked task action kind args }
+        ensures toward { (task : TaskHandle) (action : ActionHandle) (l : Lists) (kind : Kind) (args : List ℤ)
+            → wanted ≡ Some (task, action) → Live self.old l → MayPick (state_of self.old l) who task action kind args
+            → result ≡ reply.Picked task action kind args }
     {
         if who >= self.board.workers() || self.runs_any(who) {
             return Reply::Mtapi(MtapiStatus::ErrParameter);

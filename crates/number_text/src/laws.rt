@@ -23,9 +23,11 @@ pub fn law_whole()
 
 /// The same of lists of 1 to 16 numbers.
 pub fn law_list()
-    ensures written { (zs : List ℤ) → 1 ≤ length zs → length zs ≤ 16 → AllByRecursion (FitsSigned w64) zs → list_of (list_text zs) ≡ Some zs }
+    ensures written { (zs : List ℤ) → 1 ≤ length zs → length zs ≤ 16 → AllByRecursion (FitsSigned w64) zs
+        → list_of (list_text zs) ≡ Some zs }
     ensures read { (text : List ℕ) (zs : List ℤ) → list_of text ≡ Some zs → list_text zs ≡ text }
-    ensures range { (text : List ℕ) (zs : List ℤ) → list_of text ≡ Some zs → (1 ≤ length zs) × (length zs ≤ 16) × AllByRecursion (FitsSigned w64) zs }
+    ensures range { (text : List ℕ) (zs : List ℤ) → list_of text ≡ Some zs
+        → (1 ≤ length zs) × (length zs ≤ 16) × AllByRecursion (FitsSigned w64) zs }
 {}
 
 /// The same of sets of cores that aren't empty.

@@ -43,7 +43,8 @@ fn note_named_ends(
     entries: &[Entry],
 ) -> Result<bool, AllocError>
     requires { (h : ℕ) → get nat_eq ended.old h ≡ None }
-    ensures { IfOk result (λ all. IsTrue all → (workers : ℕ) → AreEnds (get nat_eq ended.new) (seen_from workers nothing_seen entries.now)) }
+    ensures { IfOk result (λ all. IsTrue all → (workers : ℕ)
+        → AreEnds (get nat_eq ended.new) (seen_from workers nothing_seen entries.now)) }
 {
     for entry in entries {
         let change = change_of(entry);

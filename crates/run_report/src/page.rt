@@ -118,7 +118,8 @@ pub fn text_by_entries(
 ) -> Result<Vec<u8>, AllocError>
     requires seats { load.now.settings.workers + length load.now.parts < 2 ^ 32 }
     requires workers { load.now.settings.workers ≤ 64 }
-    ensures { IfOk result (λ text. text.items ≡ report_by (seen_from load.now.settings.workers nothing_seen entries.now).ends (parts_told load.now entries.now)) }
+    ensures { IfOk result (λ text.
+        text.items ≡ report_by (seen_from load.now.settings.workers nothing_seen entries.now).ends (parts_told load.now entries.now)) }
 {
     let workers = load.settings.workers();
     let ended = ends_of(alloc, workers, entries)?;

@@ -28,7 +28,8 @@ fn note(
     place: usize,
     found: Option<u64>,
 ) -> Result<(), AllocError>
-    ensures { OnOk result ((h : ℕ) → get nat_eq places.new h ≡ first_of_two (get nat_eq places.old h) (place_if place h found)) }
+    ensures { OnOk result ((h : ℕ)
+        → get nat_eq places.new h ≡ first_of_two (get nat_eq places.old h) (place_if place h found)) }
 {
     let Some(handle) = found else {
         return Ok(());

@@ -34,7 +34,8 @@ fn with_part(
 ) -> Result<Totals, AllocError>
     requires totals { AreTotals totals.tasks totals }
     requires few { totals.tasks + length part.now.statements ≤ 20000 }
-    ensures value { IfOk result (λ t. t ≡ with_tasks (get nat_eq ended.now) totals part.now.statements (reported who before entries.now part.now).replies) }
+    ensures value { IfOk result (λ t.
+        t ≡ with_tasks (get nat_eq ended.now) totals part.now.statements (reported who before entries.now part.now).replies) }
     ensures totals { IfOk result (λ t. AreTotals t.tasks t) }
     ensures tasks { IfOk result (λ t. t.tasks ≤ totals.tasks + length part.now.statements) }
 {
@@ -107,7 +108,8 @@ fn totals_by_entries(
     requires seats { load.now.settings.workers + length load.now.parts < 2 ^ 32 }
     requires workers { load.now.settings.workers ≤ 64 }
     requires few { statements_in load.now.parts ≤ 20000 }
-    ensures { IfOk result (λ t. t ≡ with_parts (seen_from load.now.settings.workers nothing_seen entries.now).ends no_totals (parts_told load.now entries.now)) }
+    ensures { IfOk result (λ t.
+        t ≡ with_parts (seen_from load.now.settings.workers nothing_seen entries.now).ends no_totals (parts_told load.now entries.now)) }
 {
     let workers = load.settings.workers();
     let ended = ends_of(alloc, workers, entries)?;

@@ -232,7 +232,8 @@ impl Tasks {
 
     /// The handle and the record of the task at a place, if there is one.
     pub fn slot_at(&self, place: u32) -> Option<(TaskHandle, &TaskRecord)>
-        ensures { option_map (λ found. (found.0.0, found.1.now)) result ≡ used_at place (slice_get self.now.pool.slots place) }
+        ensures { option_map (λ found.
+            (found.0.0, found.1.now)) result ≡ used_at place (slice_get self.now.pool.slots place) }
     {
         match self.pool.slot_at(place) {
             Some((handle, record)) => Some((TaskHandle(handle), record)),

@@ -63,9 +63,11 @@ fn late_met(r: &mut Reader, word: Word, name: &[u8], options: &[&[u8]], place: O
     requires place { place ≡ use_in r.old.said.current.statements (naming word) name.now }
     requires values { values.now ≡ values_in r.old.said.current.statements (texts options.now) (fields word) }
     requires named { (has_second (naming word) && not (is_name name.now)) ≡ false }
-    ensures value { IfOk result (λ met. met ≡ find (is_faulty r.old.said word name.now (texts options.now)) late_causes) }
+    ensures value { IfOk result (λ met.
+        met ≡ find (is_faulty r.old.said word name.now (texts options.now)) late_causes) }
     ensures said { OnOk result (r.new.said ≡ r.old.said) }
-    ensures bound { IfOk result (λ met. met ≡ None → (other : List ℕ) → found r.new.names other ≡ with_name (bound_name (naming word) name.now) (length r.old.said.current.statements) (found r.old.names) other) }
+    ensures bound { IfOk result (λ met. met ≡ None → (other : List ℕ)
+        → found r.new.names other ≡ with_name (bound_name (naming word) name.now) (length r.old.said.current.statements) (found r.old.names) other) }
 {
     met!(any_bad(values) => BadValue, any_missing(values) => OptionMissing);
     let free = take_name(r, word.naming(), name)?;
@@ -79,12 +81,15 @@ fn late_met(r: &mut Reader, word: Word, name: &[u8], options: &[&[u8]], place: O
 fn first_met<'a>(r: &mut Reader, given: &mut Vec<Option<&'a [u8]>>, values: &mut Vec<Value>, word: Word, name: &[u8], options: &[&'a [u8]], place: Option<u32>) -> Result<Option<Cause>, AllocError>
     requires reader { IsReader r.old }
     requires place { place ≡ use_in r.old.said.current.statements (naming word) name.now }
-    ensures value { IfOk result (λ met. met ≡ find (is_faulty r.old.said word name.now (texts options.now)) statement_causes) }
+    ensures value { IfOk result (λ met.
+        met ≡ find (is_faulty r.old.said word name.now (texts options.now)) statement_causes) }
     ensures few { IfOk result (λ met. met ≡ None → r.old.said.count < 20000) }
     ensures named { IfOk result (λ met. met ≡ None → (has_second (naming word) && not (is_name name.now)) ≡ false) }
-    ensures values { IfOk result (λ met. met ≡ None → values.new.items ≡ values_in r.old.said.current.statements (texts options.now) (fields word)) }
+    ensures values { IfOk result (λ met. met ≡ None
+        → values.new.items ≡ values_in r.old.said.current.statements (texts options.now) (fields word)) }
     ensures said { OnOk result (r.new.said ≡ r.old.said) }
-    ensures bound { IfOk result (λ met. met ≡ None → (other : List ℕ) → found r.new.names other ≡ with_name (bound_name (naming word) name.now) (length r.old.said.current.statements) (found r.old.names) other) }
+    ensures bound { IfOk result (λ met. met ≡ None → (other : List ℕ)
+        → found r.new.names other ≡ with_name (bound_name (naming word) name.now) (length r.old.said.current.statements) (found r.old.names) other) }
 {
     met!(20_000 <= r.said.count => TooManyStatements, is_ninth_caller(r, word) => TooManyCallers, is_misplaced(r, word) => Misplaced);
     met!(has_second(word.naming()) && !is_name(name) => BadName);

@@ -58,7 +58,8 @@ impl NameIndex {
     #[tactic(auto, using(crate::proofs::Places::put_short, crate::proofs::Places::put_long))]
     fn put(&mut self, key: u128, place: u32) -> Result<Option<u32>, AllocError>
         ensures before { IfOk result (λ before. before ≡ place_at self.old key) }
-        ensures updates { OnOk result ((k : ℕ) → place_at self.new k ≡ (if is_eq (nat_cmp key k) then Some place else place_at self.old k)) }
+        ensures updates { OnOk result ((k : ℕ)
+            → place_at self.new k ≡ (if is_eq (nat_cmp key k) then Some place else place_at self.old k)) }
     {
         if key < LONG {
             Ok(self.short.insert(key as u64, place)?)
@@ -82,7 +83,8 @@ impl NameIndex {
     pub fn add(&mut self, name: &[u8], place: u32) -> Result<bool, AllocError>
         requires name { IsTrue (is_name name.now) }
         ensures fresh { IfOk result (λ fresh. fresh ≡ is_none (found self.old name.now)) }
-        ensures names { IfOk result (λ fresh. fresh ≡ true → (other : List ℕ) → found self.new other ≡ with_name (Some name.now) place (found self.old) other) }
+        ensures names { IfOk result (λ fresh. fresh ≡ true → (other : List ℕ)
+            → found self.new other ≡ with_name (Some name.now) place (found self.old) other) }
     {
         let key = key_of(name);
         let before = self.put(key, place)?;

@@ -25,8 +25,10 @@ pub fn law_formed()
 
 /// The canonical text of what a text gives is no longer than the text, and gives the same.
 pub fn law_again()
-    ensures same { (bytes : List ℕ) (load : Workload) → workload_of bytes ≡ Ok load → workload_of (canonical load) ≡ Ok load }
-    ensures short { (bytes : List ℕ) (load : Workload) → workload_of bytes ≡ Ok load → length (canonical load) ≤ length bytes }
+    ensures same { (bytes : List ℕ) (load : Workload) → workload_of bytes ≡ Ok load
+        → workload_of (canonical load) ≡ Ok load }
+    ensures short { (bytes : List ℕ) (load : Workload) → workload_of bytes ≡ Ok load
+        → length (canonical load) ≤ length bytes }
 {}
 
 /// A line is refused for the first of the causes that it meets, and for none exactly where it meets none. A text is refused exactly where it has such a line, at the first one.
@@ -39,16 +41,22 @@ pub fn law_causes()
 /// Comments, spaces, the order of options and written-out defaults leave what a line adds, and so the workload.
 pub fn law_lexing()
     ensures blank { (r : Reading) (line n : ℕ) → n ≤ 512 → line_adds r line (replicate n 32) ≡ Ok r }
-    ensures comment { (r : Reading) (line n : ℕ) (text : List ℕ) → IsPlain (replicate n 32 ++ 35 ∷ text) → line_adds r line (replicate n 32 ++ 35 ∷ text) ≡ Ok r }
-    ensures between { (r : Reading) (line : ℕ) (a b : List ℕ) → length (a ++ 32 ∷ 32 ∷ b) ≤ 512 → line_adds r line (a ++ 32 ∷ 32 ∷ b) ≡ line_adds r line (a ++ 32 ∷ b) }
-    ensures first { (r : Reading) (line : ℕ) (a : List ℕ) → length (32 ∷ a) ≤ 512 → line_adds r line (32 ∷ a) ≡ line_adds r line a }
-    ensures last { (r : Reading) (line : ℕ) (a : List ℕ) → length (a ++ 32 ∷ []) ≤ 512 → line_adds r line (a ++ 32 ∷ []) ≡ line_adds r line a }
+    ensures comment { (r : Reading) (line n : ℕ) (text : List ℕ) → IsPlain (replicate n 32 ++ 35 ∷ text)
+        → line_adds r line (replicate n 32 ++ 35 ∷ text) ≡ Ok r }
+    ensures between { (r : Reading) (line : ℕ) (a b : List ℕ) → length (a ++ 32 ∷ 32 ∷ b) ≤ 512
+        → line_adds r line (a ++ 32 ∷ 32 ∷ b) ≡ line_adds r line (a ++ 32 ∷ b) }
+    ensures first { (r : Reading) (line : ℕ) (a : List ℕ) → length (32 ∷ a) ≤ 512
+        → line_adds r line (32 ∷ a) ≡ line_adds r line a }
+    ensures last { (r : Reading) (line : ℕ) (a : List ℕ) → length (a ++ 32 ∷ []) ≤ 512
+        → line_adds r line (a ++ 32 ∷ []) ≡ line_adds r line a }
     ensures order { (text other : List ℕ) → IsSwapped text other → IsPlain other → AddsAlike text other }
     ensures default { (text other : List ℕ) → IsWrittenOut text other → IsPlain other → AddsAlike text other }
-    ensures whole { (bytes others text other : List ℕ) (load : Workload) → DifferAt bytes others text other → AddsAlike text other → workload_of bytes ≡ Ok load → workload_of others ≡ Ok load }
+    ensures whole { (bytes others text other : List ℕ) (load : Workload) → DifferAt bytes others text other
+        → AddsAlike text other → workload_of bytes ≡ Ok load → workload_of others ≡ Ok load }
 {}
 
 /// A further line that adds nothing, as a comment, leaves the workload but for the numbers of the lines behind it.
 pub fn law_inserted()
-    ensures { (bytes others text : List ℕ) (load : Workload) → IsInserted bytes others text → AddsNothing text → workload_of bytes ≡ Ok load → GivesStill others load }
+    ensures { (bytes others text : List ℕ) (load : Workload) → IsInserted bytes others text → AddsNothing text
+        → workload_of bytes ≡ Ok load → GivesStill others load }
 {}

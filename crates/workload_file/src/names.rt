@@ -100,7 +100,8 @@ pub fn take_name(r: &mut Reader, naming: Naming, name: &[u8]) -> Result<bool, Al
     requires named { (has_second naming && not (is_name name.now)) ≡ false }
     ensures free { IfOk result (λ free. free ≡ not (is_taken r.old.said naming name.now)) }
     ensures said { OnOk result (r.new.said ≡ r.old.said) }
-    ensures bound { IfOk result (λ free. free ≡ true → (other : List ℕ) → found r.new.names other ≡ with_name (bound_name naming name.now) (length r.old.said.current.statements) (found r.old.names) other) }
+    ensures bound { IfOk result (λ free. free ≡ true → (other : List ℕ)
+        → found r.new.names other ≡ with_name (bound_name naming name.now) (length r.old.said.current.statements) (found r.old.names) other) }
 {
     match naming {
         Naming::Binds(_) => {

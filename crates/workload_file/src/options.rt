@@ -85,7 +85,8 @@ pub fn place_texts<'a>(
 ) -> Result<Placed, AllocError>
     ensures known { IfOk result (λ placed. placed.known ≡ list_all (is_known (fields word)) (texts words.now)) }
     ensures twice { IfOk result (λ placed. placed.known ≡ true → placed.twice ≡ has_twice (texts words.now)) }
-    ensures given { IfOk result (λ placed. placed.known ≡ true → map option_copied given.new.items ≡ texts_in (fields word) (texts words.now)) }
+    ensures given { IfOk result (λ placed. placed.known ≡ true
+        → map option_copied given.new.items ≡ texts_in (fields word) (texts words.now)) }
 {
     given.clear();
     given.resize(word.fields().len(), None)?;

@@ -165,8 +165,10 @@ fn lay_parts(alloc: Global, page: &mut Page, parts: &[Part]) -> Result<(), Alloc
 pub fn text_of(alloc: Global, load: &Workload) -> Result<Vec<u8>, AllocError>
     ensures canonical { IfOk result (λ text. text.items ≡ canonical load.now) }
     // For a workload that was read, reading this text gives the same workload, and it is no longer than what was read.
-    ensures again { (bytes : List ℕ) → workload_of bytes ≡ Ok load.now → IfOk result (λ text. workload_of text.items ≡ Ok load.now) }
-    ensures short { (bytes : List ℕ) → workload_of bytes ≡ Ok load.now → IfOk result (λ text. length text.items ≤ length bytes) }
+    ensures again { (bytes : List ℕ) → workload_of bytes ≡ Ok load.now
+        → IfOk result (λ text. workload_of text.items ≡ Ok load.now) }
+    ensures short { (bytes : List ℕ) → workload_of bytes ≡ Ok load.now
+        → IfOk result (λ text. length text.items ≤ length bytes) }
 {
     let mut page = Page {
         text: Vec::new(alloc),
