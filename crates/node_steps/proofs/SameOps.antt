@@ -1,6 +1,6 @@
 -- An op of which each handle stands for itself.
 use Rattle.std.proofs.Common.{◌≡◌, ℕ, refl, subst}
-use Rattle.std.specs.Prelude.{Option, Some, None}
+use Rattle.std.specs.Prelude.{Some, None}
 use Rattle.mtapi_machine.specs.declared.ops.Op.{Op}
 use Rattle.mtapi_machine.specs.declared.ops.Op.TheVariants as op
 use Rattle.mtapi_machine.specs.declared.replies.Reply.{Reply}

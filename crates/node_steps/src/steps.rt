@@ -5,8 +5,7 @@ ghost use Rattle.history.specs.Histories.{entry};
 ghost use Rattle.mtapi_machine.specs.Legal.{NodeEntry, after};
 ghost use Rattle.mtapi_machine.specs.Kept.{pends_alike};
 ghost use Rattle.mtapi_layouts.specs.Ops.{IssuesSmall, inward_op};
-ghost use Rattle.node_steps.specs.Stands.{Lists, Live, Stands, Steps, state_of, terms_of, seat_count};
-ghost use Rattle.node_steps.specs.Sound.{Sound};
+ghost use Rattle.node_steps.specs.Stands.{Lists, Live, Stands, state_of, terms_of, seat_count};
 
 use crate::node::Node;
 use crate::walks::is_seat;
