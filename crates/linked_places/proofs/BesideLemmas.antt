@@ -1,15 +1,7 @@
 -- What each move of the slots, and of the lists beside them, is for the two together.
-use Rattle.std.proofs.Common.{◌≡◌, ◌↔◌, ℕ, zero, suc, ◌+◌, ◌*◌, ◌^◌, ◌<◌, ◌≤◌, Bool, true, false, List, [], ◌∷◌, length, replicate, Option, Some, None, count_by, fold, cond, set, slice_get, refl, sym, ap, subst, ◌∙◌, inl, inr, arith, length-set}
-use Rattle.std.specs.Prelude.{◌==◌, if◌then◌else◌, is_some}
-use Rattle.std.specs.Option.{option_map}
-use Rattle.std.proofs.lemmas.Bool.{cases_eq}
-use Rattle.std.proofs.lemmas.List.{length-replicate, get_or_past}
-use Rattle.std.proofs.lemmas.Option.{slice_get_within}
-use Rattle.handle_pool.specs.Slots.{Slot, Slots, slot_of, generation_of, free_slot, used_slot, slot_after, value_at, slot_value, is_live, is_retired, used_at, IsFull, Inserts, with_value, without}
-use Rattle.handle_pool.proofs.ListReads.{slice_get-set_other, slice_get-set_cases}
+use Rattle.linked_places.proofs.Names.{nat_tests, ◌≡◌, ◌↔◌, ℕ, zero, suc, ◌+◌, ◌*◌, ◌^◌, ◌<◌, ◌≤◌, Bool, true, false, List, [], ◌∷◌, length, replicate, Option, Some, None, count_by, fold, cond, set, slice_get, refl, sym, ap, subst, ◌∙◌, inl, inr, arith, length-set, ◌==◌, if◌then◌else◌, option_map, cases_eq, length-replicate, get_or_past, slice_get_within, Slot, Slots, slot_of, generation_of, free_slot, used_slot, slot_after, value_at, slot_value, is_live, is_retired, used_at, IsFull, Inserts, with_value, without, slice_get-set_other, slice_get-set_cases, list_at, stands_at, NowhereAt}
 use Rattle.handle_pool.proofs.StandsLemmas.{used_at_live}
 use Rattle.handle_pool.proofs.WalkLemmas.{live-used_at, slot_of-live}
-use Rattle.linked_places.specs.Lists.{list_at, stands_at, NowhereAt}
 use Rattle.linked_places.specs.Beside.{slot_beside, beside, pool_beside, AreBeside}
 use Rattle.linked_places.proofs.HandleLemmas.{list_at-set_same, list_at-set_other}
 
@@ -44,9 +36,7 @@ module _ {A C : Type 0} (f : A → List ℕ → C) where
   pub beside-list_at : (slots : List (Slot A)) (lists : List (List ℕ)) (place : ℕ) (s : Slot A) (list : List ℕ) → slice_get slots place ≡ Some s → place < length lists → beside f slots (set lists place list) ≡ set (beside f slots lists) place (slot_beside f s list)
   beside-list_at [] lists place s list found within = absurd (cc)
   beside-list_at (t ∷ ss) [] place s list found within = absurd (omega arith)
-  beside-list_at (t ∷ ss) (l ∷ ls) zero s list found within =
-      let is : t ≡ s = cc in
-      ap (λ (u : Slot A). slot_beside f u list ∷ beside f ss ls) is
+  beside-list_at (t ∷ ss) (l ∷ ls) zero s list found within = grind (arith, nat_tests)
   beside-list_at (t ∷ ss) (l ∷ ls) (suc place) s list found within = ap (λ (xs : List (Slot C)). slot_beside f t l ∷ xs) (beside-list_at ss ls place s list found (omega arith))
 
   -- a count of slots, and the same of those with lists beside them
@@ -56,11 +46,7 @@ module _ {A C : Type 0} (f : A → List ℕ → C) where
   fold-beside t u same (s ∷ ss) (l ∷ ls) n = ap (λ (b : Bool). fold (λ a x. a + cond (t x) 1 0) (n + cond b 1 0) (beside f ss ls)) (same s l) ∙ fold-beside t u same ss ls (n + cond (u s) 1 0)
 
   is_live-beside : (s : Slot A) (list : List ℕ) → is_live (slot_beside f s list) ≡ is_live s
-  is_live-beside s list = by_value s.value
-    where
-      by_value : (o : Option A) → is_some (option_map (λ v. f v list) o) ≡ is_some o
-      by_value None = refl
-      by_value (Some v) = refl
+  is_live-beside s list = grind (arith, nat_tests)
 
   -- new slots beside new lists are new slots
   pub beside-fresh : (count : ℕ) → beside f (replicate count (free_slot 1)) (replicate count []) ≡ replicate count (free_slot 1)

@@ -1,22 +1,13 @@
 -- Lists of handles, and which places stand in them.
-use Rattle.std.proofs.Common.{◌≡◌, ◌≢◌, ◌⊎◌, ℕ, ◌<◌, ◌≤◌, Bool, true, false, List, [], ◌∷◌, ◌++◌, length, map, Some, set, slice_get, refl, sym, ap, subst, ◌∙◌, inl, inr, eqb}
-use Rattle.std.specs.Prelude.{◌||◌, ◌==◌}
+use Rattle.linked_places.proofs.Names.{nat_tests, arith, ◌≡◌, ◌≢◌, ◌⊎◌, ℕ, ◌<◌, ◌≤◌, Bool, true, false, List, [], ◌∷◌, ◌++◌, length, map, Some, set, slice_get, refl, sym, ap, subst, ◌∙◌, inl, inr, eqb, ◌||◌, ◌==◌, false≢true, eqb_tells, get_or-set_same, get_or-set_other, length-map, slot_of, list_at, stands_at, has_handle, without_handle, AreApart}
 use Rattle.std.specs.List.{IsDistinct, AllByRecursion, list_any}
-use Rattle.std.proofs.lemmas.Bool.{false≢true}
-use Rattle.std.proofs.lemmas.Bool.Decides.{eqb_tells}
-use Rattle.std.proofs.lemmas.List.{get_or-set_same, get_or-set_other, length-map}
 use Rattle.std.proofs.lemmas.Map.Steps.{length-le_from_distinct_below}
-use Rattle.handle_pool.specs.Slots.{slot_of}
-use Rattle.linked_places.specs.Lists.{list_at, stands_at, has_handle, without_handle}
-use Rattle.linked_places.specs.Links.{AreApart}
 
 or_false_left : (a b : Bool) → (a || b) ≡ false → a ≡ false
-or_false_left true b h = h
-or_false_left false b h = refl
+or_false_left a b e1 = grind (arith, nat_tests)
 
 or_false_right : (a b : Bool) → (a || b) ≡ false → b ≡ false
-or_false_right true b h = absurd (false≢true (sym h))
-or_false_right false b h = h
+or_false_right a b e1 = grind (arith, nat_tests)
 
 pub list_at-set_same : (lists : List (List ℕ)) (number : ℕ) (list : List ℕ) → number < length lists → list_at (set lists number list) number ≡ list
 list_at-set_same lists number list within = get_or-set_same lists number list [] within
@@ -26,11 +17,7 @@ list_at-set_other lists number other list differs = get_or-set_other lists numbe
 
 pub stands_at-append : (place : ℕ) (xs ys : List ℕ) → stands_at place (xs ++ ys) ≡ (stands_at place xs || stands_at place ys)
 stands_at-append place [] ys = refl
-stands_at-append place (x ∷ xs) ys = by_head (slot_of x == place) (stands_at-append place xs ys)
-  where
-    by_head : (b : Bool) → stands_at place (xs ++ ys) ≡ (stands_at place xs || stands_at place ys) → (b || stands_at place (xs ++ ys)) ≡ ((b || stands_at place xs) || stands_at place ys)
-    by_head true tail = refl
-    by_head false tail = tail
+stands_at-append place (x ∷ xs) ys = grind (arith, nat_tests, stands_at-append place xs ys)
 
 -- the head of a list in which a place doesn't stand has another place
 pub absent-head : (place x : ℕ) (xs : List ℕ) → stands_at place (x ∷ xs) ≡ false → slot_of x ≢ place
@@ -71,15 +58,10 @@ stands-right place xs ys right = stands_at-append place xs ys ∙ by_left (stand
     by_left false = right
 
 pub stands-head : (x : ℕ) (xs : List ℕ) → stands_at (slot_of x) (x ∷ xs) ≡ true
-stands-head x xs =
-    elim (eqb_tells (slot_of x) (slot_of x)) [ inl is ↦ rw is.0 refl | inr apart ↦ absurd (apart.1 refl) ]
+stands-head x xs = grind (arith, nat_tests)
 
 pub stands-tail : (place x : ℕ) (xs : List ℕ) → stands_at place xs ≡ true → stands_at place (x ∷ xs) ≡ true
-stands-tail place x xs tail = by_head (slot_of x == place)
-  where
-    by_head : (b : Bool) → (b || stands_at place xs) ≡ true
-    by_head true = refl
-    by_head false = tail
+stands-tail place x xs e1 = grind (arith, nat_tests)
 
 -- what stands in one place of two parts
 pub stands-either : (place : ℕ) (xs ys : List ℕ) → stands_at place (xs ++ ys) ≡ true → (stands_at place xs ≡ true) ⊎ (stands_at place ys ≡ true)
@@ -139,10 +121,7 @@ AreApart-without (x ∷ xs) h ys apart =
 -- a place that doesn't stand in a list is none of its places
 others_of : (place : ℕ) (hs : List ℕ) → stands_at place hs ≡ false → AllByRecursion (λ other. eqb place other ≡ false) (map slot_of hs)
 others_of place [] absent = tt
-others_of place (h ∷ hs) absent = (other (absent-head place h hs absent), others_of place hs (absent-tail place h hs absent))
-  where
-    other : slot_of h ≢ place → eqb place (slot_of h) ≡ false
-    other differs = elim (eqb_tells place (slot_of h)) [ inl is ↦ absurd (differs (sym is.1)) | inr apart ↦ apart.0 ]
+others_of place (h ∷ hs) absent = grind (arith, nat_tests, others_of place hs (absent-tail place h hs absent))
 
 distinct_of : (hs : List ℕ) → AreApart hs → IsDistinct eqb (map slot_of hs)
 unfolding IsDistinct
@@ -175,6 +154,4 @@ stands-has h (x ∷ hs) has =
 -- the first handle of a list is in it
 pub has-first : (h : ℕ) (hs : List ℕ) → slice_get hs 0 ≡ Some h → has_handle h hs ≡ true
 has-first h [] first = absurd (cc)
-has-first h (x ∷ hs) first =
-    let is : x ≡ h = cc in
-    elim (eqb_tells x h) [ inl same ↦ rw same.0 refl | inr apart ↦ absurd (apart.1 is) ]
+has-first h (x ∷ hs) first = grind (arith, nat_tests)

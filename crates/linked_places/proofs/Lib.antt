@@ -1,3 +1,4 @@
+mod Names
 pub mod HandleLemmas
 pub mod RunLemmas
 pub mod LinkedLemmas

@@ -1,17 +1,5 @@
 -- Links and ends that stand for lists, and what each move leaves of that.
-use Rattle.std.proofs.Common.{◌≡◌, ◌≢◌, ◌⊎◌, ℕ, zero, suc, ◌<◌, ◌≤◌, true, false, List, [], ◌∷◌, ◌++◌, length, map, replicate, Option, Some, None, is_none, set, slice_get, get_or, refl, sym, ap, subst, ◌∙◌, inl, inr, arith, length-set, length-append}
-use Rattle.std.specs.Prelude.{if◌then◌else◌}
-use Rattle.std.specs.Option.{option_or}
-use Rattle.std.proofs.lemmas.Bool.{false≢true, cases_eq}
-use Rattle.std.proofs.lemmas.Bool.Decides.{eqb_tells}
-use Rattle.std.proofs.lemmas.List.{length-replicate, length-map}
-use Rattle.std.proofs.lemmas.Option.{slice_get_within, slice_get_read}
-use Rattle.handle_pool.specs.Slots.{slot_of}
-use Rattle.handle_pool.proofs.ListReads.{slice_get-set_other}
-use Rattle.linked_places.specs.Lists.{HandleLists, list_at, stands_at, has_handle, without_handle, NowhereAt, with_list}
-use Rattle.linked_places.specs.Links.{link_of, handles_of, first_of, last_of, IsRun, AreApart, IsList, IsLinked, links_followed, links_with, ends_with, links_without, ends_without, IsBelow}
-use Rattle.linked_places.specs.declared.Link.{Link}
-use Rattle.linked_places.specs.declared.Ends.{Ends}
+use Rattle.linked_places.proofs.Names.{nat_tests, ◌≡◌, ◌≢◌, ◌⊎◌, ℕ, zero, suc, ◌<◌, ◌≤◌, true, false, List, [], ◌∷◌, ◌++◌, length, map, replicate, Option, Some, None, is_none, set, slice_get, get_or, refl, sym, ap, subst, ◌∙◌, inl, inr, arith, length-set, length-append, if◌then◌else◌, option_or, false≢true, cases_eq, length-replicate, length-map, slice_get_within, slice_get_read, slot_of, slice_get-set_other, HandleLists, list_at, stands_at, has_handle, without_handle, NowhereAt, with_list, link_of, handles_of, first_of, last_of, IsRun, AreApart, IsList, IsLinked, links_followed, links_with, ends_with, links_without, ends_without, IsBelow, Link, Ends}
 use Rattle.linked_places.proofs.HandleLemmas.{list_at-set_same, list_at-set_other, absent-append, stands_cases, stands-left, stands-right, stands-head, stands-tail, stands-either, Split, split, AreApart-right, AreApart-across, AreApart-push, AreApart-without, length-apart}
 use Rattle.linked_places.proofs.RunLemmas.{slice_get-set_in, last, Avoids, StandsIn, last_of-append, first_of-stands, last_of-stands, IsRun-within, IsRun-set, IsRun-followed, IsRun-following, length-followed, length-following, IsRun-push, IsRun-remove, IsRun-link, walk-run}
 
@@ -128,8 +116,7 @@ pub count-within : (links : List Link) (e : Ends) (hs : List ℕ) → IsList lin
 count-within links e hs list = rw list.count (length-apart hs (length links) list.apart (λ place stands. IsRun-within links None hs None place list.run stands))
 
 first_of-push : (hs : List ℕ) (h : ℕ) → option_or (first_of hs None) (Some (slot_of h)) ≡ first_of (hs ++ h ∷ []) None
-first_of-push [] h = refl
-first_of-push (x ∷ hs) h = refl
+first_of-push hs h = grind (arith, nat_tests)
 
 pub IsList-push : (links : List Link) (e : Ends) (hs : List ℕ) (h : ℕ) → IsList links e hs → stands_at (slot_of h) hs ≡ false → slot_of h < length links → IsList (links_with links e.last h) (ends_with e (slot_of h)) (hs ++ h ∷ [])
 IsList-push links e hs h list absent within =
@@ -144,11 +131,7 @@ IsList-push links e hs h list absent within =
 
 -- the one place of a list of one handle
 pub alone : (place h : ℕ) → stands_at place (h ∷ []) ≡ true → place ≡ slot_of h
-alone place h stands =
-    elim (eqb_tells (slot_of h) place) [
-      | inl is ↦ sym is.1
-      | inr apart ↦ absurd (false≢true (rw apart.0 at stands))
-    ]
+alone place h e1 = grind (arith, nat_tests)
 
 pub IsLinked-push : (links : List Link) (ends : List Ends) (lists : List (List ℕ)) (number : ℕ) (e : Ends) (h : ℕ) → IsLinked links ends lists → slice_get ends number ≡ Some e → slot_of h < length links → NowhereAt (slot_of h) lists → IsLinked (links_with links e.last h) (set ends number (ends_with e (slot_of h))) (set lists number (list_at lists number ++ h ∷ []))
 IsLinked-push links ends lists number e h linked at within nowhere =
@@ -398,15 +381,4 @@ removed_gone links ends old number h is linked has =
 -- what stands in a list without a handle stood in it before
 pub stands-without : (place h : ℕ) (hs : List ℕ) → stands_at place (without_handle h hs) ≡ true → stands_at place hs ≡ true
 stands-without place h [] stands = stands
-stands-without place h (x ∷ hs) stands =
-    elim (eqb_tells x h) [
-      | inl is ↦ stands-tail place x hs (rw is.0 at stands)
-      | inr apart ↦ kept (rw apart.0 at stands) (stands-without place h hs)
-    ]
-  where
-    kept : stands_at place (x ∷ without_handle h hs) ≡ true → (stands_at place (without_handle h hs) ≡ true → stands_at place hs ≡ true) → stands_at place (x ∷ hs) ≡ true
-    kept whole tail =
-        elim (eqb_tells (slot_of x) place) [
-          | inl is ↦ rw is.0 refl
-          | inr apart ↦ stands-tail place x hs (tail (rw apart.0 at whole))
-        ]
+stands-without place h (x ∷ hs) stands = grind (arith, nat_tests, stands-without place h hs)

@@ -1,14 +1,5 @@
 -- What follows a handle in its list.
-use Rattle.std.proofs.Common.{◌≡◌, ℕ, zero, suc, ◌+◌, ◌<◌, Bool, true, false, List, [], ◌∷◌, map, Option, Some, None, slice_get, length, refl, sym, ap, ◌∙◌, subst, arith, add-one}
-use Rattle.std.specs.Prelude.{◌==◌, ◌||◌}
-use Rattle.std.proofs.lemmas.Bool.{false≢true}
-use Rattle.std.proofs.lemmas.Bool.Decides.{nat_tests}
-use Rattle.std.proofs.lemmas.Option.{slice_get_within}
-use Rattle.handle_pool.specs.Slots.{slot_of}
-use Rattle.linked_places.specs.declared.Link.{Link}
-use Rattle.linked_places.specs.declared.Ends.{Ends}
-use Rattle.linked_places.specs.Lists.{HandleLists, list_at, has_handle}
-use Rattle.linked_places.specs.Links.{handles_of, first_of, IsRun, IsLinked}
+use Rattle.linked_places.proofs.Names.{◌≡◌, ℕ, zero, suc, ◌+◌, ◌<◌, Bool, true, false, List, [], ◌∷◌, map, Option, Some, None, slice_get, length, refl, sym, ap, subst, arith, add-one, ◌==◌, ◌||◌, false≢true, nat_tests, slice_get_within, slot_of, Link, Ends, HandleLists, list_at, has_handle, handles_of, first_of, IsRun, IsLinked}
 use Rattle.linked_places.proofs.LinkedLemmas.{list_at-past}
 
 -- the place after a link, if there is one, has the handle that comes next
@@ -45,11 +36,7 @@ has-index h (x ∷ hs) has = by_test (x == h) refl has (has-index h hs)
 pub index-has : (h i : ℕ) (hs : List ℕ) → slice_get hs i ≡ Some h → has_handle h hs ≡ true
 index-has h i [] at = absurd (cc)
 index-has h zero (x ∷ hs) at = let same : (x == h) ≡ true = let is : x ≡ h = some_same at in grind (arith, nat_tests) in rw same refl
-index-has h (suc i) (x ∷ hs) at = by_test (x == h) (index-has h i hs at)
-  where
-    by_test : (b : Bool) → has_handle h hs ≡ true → (b || has_handle h hs) ≡ true
-    by_test true more = refl
-    by_test false more = more
+index-has h (suc i) (x ∷ hs) at = grind (arith, nat_tests, index-has h i hs at)
 
 -- what the links say of a handle of a list
 pub followed : (links : List Link) (ends : List Ends) (old : HandleLists) (h list i : ℕ) → record { places = length links; lists = map (handles_of links) ends } ≡ old → IsLinked links ends (map (handles_of links) ends) → slice_get (list_at old.lists list) i ≡ Some h → Follows links h (slice_get (list_at old.lists list) (i + 1))
@@ -88,17 +75,7 @@ within-next links h o place f e = by_next f.link.next f.next e
     by_next (Some p) k e = subst (λ (q : ℕ). q < length links) (some_same e) (slice_get_within links p k.0 k.1)
 
 pub next-none : (links : List Link) (h : ℕ) (o : Option ℕ) (f : Follows links h o) → f.link.next ≡ None → None ≡ o
-next-none links h o f e = by_next f.link.next f.next e
-  where
-    by_next : (n : Option ℕ) → NextIs links n o → n ≡ None → None ≡ o
-    by_next None k e = sym k
-    by_next (Some p) k e = absurd (cc)
+next-none links h o f e1 = grind (arith, nat_tests)
 
 pub next-some : (links : List Link) (h : ℕ) (o : Option ℕ) (place : ℕ) (l : Link) (f : Follows links h o) → f.link.next ≡ Some place → slice_get links place ≡ Some l → Some l.handle ≡ o
-next-some links h o place l f e at = by_next f.link.next f.next e
-  where
-    by_next : (n : Option ℕ) → NextIs links n o → n ≡ Some place → Some l.handle ≡ o
-    by_next None k e = absurd (cc)
-    by_next (Some p) k e =
-        let same : k.0 ≡ l = some_same (sym (subst (λ (q : ℕ). slice_get links q ≡ Some k.0) (some_same e) k.1) ∙ at) in
-        ap (λ (x : Link). Some x.handle) (sym same) ∙ sym k.2
+next-some links h o place l f e1 e2 = grind (arith, nat_tests)

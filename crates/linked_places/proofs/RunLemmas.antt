@@ -1,13 +1,5 @@
 -- Runs of links, and what writes leave of them.
-use Rattle.std.proofs.Common.{◌≡◌, ◌≢◌, ℕ, zero, suc, ◌<◌, Bool, true, false, List, [], ◌∷◌, ◌++◌, length, Option, Some, None, set, slice_get, refl, sym, ap, subst, ◌∙◌, inl, inr, arith, length-set}
-use Rattle.std.proofs.lemmas.Bool.{false≢true}
-use Rattle.std.proofs.lemmas.Bool.Decides.{eqb_tells}
-use Rattle.std.proofs.lemmas.Option.{slice_get_within}
-use Rattle.handle_pool.specs.Slots.{slot_of}
-use Rattle.handle_pool.proofs.ListReads.{slice_get-set_same, slice_get-set_other}
-use Rattle.linked_places.specs.Lists.{stands_at}
-use Rattle.linked_places.specs.Links.{link_of, walk, first_of, last_of, IsRun, AreApart, followed_at, links_followed, following_at, links_following, links_with, links_without}
-use Rattle.linked_places.specs.declared.Link.{Link}
+use Rattle.linked_places.proofs.Names.{nat_tests, ◌≡◌, ◌≢◌, ℕ, zero, suc, ◌<◌, Bool, true, false, List, [], ◌∷◌, ◌++◌, length, Option, Some, None, set, slice_get, refl, sym, ap, subst, ◌∙◌, inl, inr, arith, length-set, false≢true, eqb_tells, slice_get_within, slot_of, slice_get-set_same, slice_get-set_other, stands_at, link_of, walk, first_of, last_of, IsRun, AreApart, followed_at, links_followed, following_at, links_following, links_with, links_without, Link}
 use Rattle.linked_places.proofs.HandleLemmas.{absent-head, absent-tail, stands-head, stands-tail, AreApart-left, AreApart-right, AreApart-across}
 
 pub slice_get-set_in : {X : Type 0} (xs : List X) (i : ℕ) (y : X) → i < length xs → slice_get (set xs i y) i ≡ Some y
@@ -26,8 +18,7 @@ StandsIn None hs = Unit {0}
 StandsIn (Some place) hs = stands_at place hs ≡ true
 
 first_of-append : (xs ys : List ℕ) (next : Option ℕ) → first_of (xs ++ ys) next ≡ first_of xs (first_of ys next)
-first_of-append [] ys next = refl
-first_of-append (x ∷ xs) ys next = refl
+first_of-append xs ys next = grind (arith, nat_tests)
 
 pub last_of-append : (previous : Option ℕ) (xs ys : List ℕ) → last_of previous (xs ++ ys) ≡ last_of (last_of previous xs) ys
 last_of-append previous [] ys = refl

@@ -1,5 +1,4 @@
-use Rattle.std.proofs.Common.{◌≡◌, ◌≤◌, replicate, vec_len, vec_capacity}
-use Rattle.linked_places.specs.declared.TheConstants.{NO_ENDS}
+use Rattle.linked_places.proofs.Names.{◌≡◌, ◌≤◌, replicate, vec_len, vec_capacity, NO_ENDS}
 use Rattle.linked_places.proofs.no_ends.Given as goal
 
 abbrev pub invariant-loop-list : goal.invariant-loop-list

@@ -1,5 +1,4 @@
-use Rattle.std.proofs.Common.{◌≡◌, ◌≤◌, replicate, vec_len, vec_capacity}
-use Rattle.linked_places.specs.declared.TheConstants.{NO_LINK}
+use Rattle.linked_places.proofs.Names.{◌≡◌, ◌≤◌, replicate, vec_len, vec_capacity, NO_LINK}
 use Rattle.linked_places.proofs.no_links.Given as goal
 
 abbrev pub invariant-loop-place : goal.invariant-loop-place

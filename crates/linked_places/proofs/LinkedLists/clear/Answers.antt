@@ -1,6 +1,4 @@
-use Rattle.std.proofs.Common.{◌<◌, length, map, set, [], refl, sym, subst}
-use Rattle.linked_places.specs.Lists.{HandleLists}
-use Rattle.linked_places.specs.Links.{handles_of}
+use Rattle.linked_places.proofs.Names.{◌<◌, length, map, set, [], refl, sym, subst, HandleLists, handles_of}
 use Rattle.linked_places.proofs.LinkedLemmas.{no_ends, IsLinked-clear, IsLinked-view, view-with_list}
 use Rattle.linked_places.proofs.LinkedLists.clear.Goals as goal
 

@@ -1,6 +1,4 @@
-use Rattle.std.proofs.Common.{◌≤◌, map, subst}
-use Rattle.linked_places.specs.Lists.{HandleLists, list_at}
-use Rattle.linked_places.specs.Links.{handles_of}
+use Rattle.linked_places.proofs.Names.{◌≤◌, map, subst, HandleLists, list_at, handles_of}
 use Rattle.linked_places.proofs.LinkedLemmas.{count-within, read_ends}
 use Rattle.linked_places.proofs.LinkedLists.len.Goals as goal
 

@@ -1,6 +1,4 @@
-use Rattle.std.proofs.Common.{◌≤◌, [], length, replicate, arith}
-use Rattle.std.proofs.lemmas.List.{length-replicate}
-use Rattle.linked_places.specs.declared.TheConstants.{NO_LINK}
+use Rattle.linked_places.proofs.Names.{◌≤◌, [], length, replicate, arith, length-replicate, NO_LINK}
 use Rattle.linked_places.proofs.LinkedLemmas.{no_ends, IsLinked-new, IsLinked-view, lists-view}
 use Rattle.linked_places.proofs.LinkedLists.new.Goals as goal
 

@@ -1,8 +1,4 @@
-use Rattle.std.proofs.Common.{◌≡◌, refl, sym, ap, ◌∙◌, arith}
-use Rattle.std.proofs.lemmas.Option.{get_or_from_slice_get, slice_get_read}
-use Rattle.std.specs.Prelude.{length, Some, slice_get}
-use Rattle.handle_pool.specs.Slots.{slot_of}
-use Rattle.linked_places.specs.declared.Link.{Link}
+use Rattle.linked_places.proofs.Names.{◌≡◌, refl, sym, ap, ◌∙◌, arith, get_or_from_slice_get, slice_get_read, length, Some, slice_get, slot_of, Link}
 use Rattle.linked_places.proofs.NextLemmas.{followed, followed-in, within-link, within-next, next-none, next-some}
 use Rattle.linked_places.proofs.LinkedLists.next.Goals as goal
 

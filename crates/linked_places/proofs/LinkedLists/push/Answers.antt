@@ -1,7 +1,4 @@
-use Rattle.std.proofs.Common.{◌≡◌, ◌++◌, ◌∷◌, [], length, map, set, None, Some, ◌∙◌, arith, length-set}
-use Rattle.handle_pool.specs.Slots.{slot_of}
-use Rattle.linked_places.specs.Lists.{HandleLists, list_at}
-use Rattle.linked_places.specs.Links.{handles_of, link_of, links_followed, links_with, ends_with}
+use Rattle.linked_places.proofs.Names.{◌≡◌, ◌++◌, ◌∷◌, [], length, map, set, None, Some, ◌∙◌, arith, length-set, slot_of, HandleLists, list_at, handles_of, link_of, links_followed, links_with, ends_with}
 use Rattle.linked_places.proofs.RunLemmas.{length-followed}
 use Rattle.linked_places.proofs.LinkedLemmas.{last-within, count-within, IsLinked-view, view-with_list, read_ends, pushed}
 use Rattle.linked_places.proofs.LinkedLists.push.Goals as goal

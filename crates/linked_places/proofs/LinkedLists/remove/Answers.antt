@@ -1,8 +1,4 @@
-use Rattle.std.proofs.Common.{◌≡◌, ◌<◌, length, map, set, sym, subst, ◌∙◌, arith}
-use Rattle.std.proofs.lemmas.Option.{get_or_from_slice_get}
-use Rattle.handle_pool.specs.Slots.{slot_of}
-use Rattle.linked_places.specs.Lists.{HandleLists, list_at, without_handle, NowhereAt}
-use Rattle.linked_places.specs.Links.{handles_of, links_followed, links_without, ends_without}
+use Rattle.linked_places.proofs.Names.{◌≡◌, ◌<◌, length, map, set, sym, subst, ◌∙◌, arith, get_or_from_slice_get, slot_of, HandleLists, list_at, without_handle, NowhereAt, handles_of, links_followed, links_without, ends_without}
 use Rattle.linked_places.proofs.RunLemmas.{length-followed, length-following}
 use Rattle.linked_places.proofs.LinkedLemmas.{IsLinked-view, view-with_list, removed, removed_gone}
 use Rattle.linked_places.proofs.LinkedLists.remove.Goals as goal
