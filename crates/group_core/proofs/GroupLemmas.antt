@@ -1,17 +1,11 @@
 -- What each move of the slots and the lists is for the groups that they are seen as.
-use Rattle.std.proofs.Common.{◌≡◌, ◌↔◌, ℕ, zero, suc, ◌<◌, ◌≤◌, Bool, true, false, List, [], ◌∷◌, ◌++◌, length, replicate, Option, Some, None, set, slice_get, refl, sym, ap, subst, ◌∙◌, inl, inr, IsTrue, IsSome}
+use Rattle.group_core.proofs.Names.{◌≡◌, ◌↔◌, ℕ, zero, suc, ◌<◌, ◌≤◌, Bool, true, false, List, [], ◌∷◌, ◌++◌, length, replicate, Option, Some, None, set, slice_get, refl, sym, ap, subst, ◌∙◌, inl, inr, IsTrue, IsSome, false≢true, cases_eq, Slot, Slots, slot_of, generation_of, used_slot, free_slot, slot_value, live_count, IsFull, Inserts, with_value, without, changed, HandleLists, list_at, stands_at, has_handle, without_handle, NowhereAt, with_list, list_at-set_same, list_at-set_other, stands-either, stands_cases, alone, Members, GroupTable, no_members, with_ended, rest_of, NoMemberAt, IsUnendedMember, LiveAreUsed, of_unended, and_ended, members_in, table_of, AreGroups}
 use Rattle.std.specs.Option.{option_map}
-use Rattle.std.proofs.lemmas.Bool.{false≢true, cases_eq}
 use Rattle.std.proofs.lemmas.Bool.Decides.{eqb_tells}
-use Rattle.handle_pool.specs.Slots.{Slot, Slots, slot_of, generation_of, used_slot, free_slot, slot_value, live_count, IsFull, Inserts, with_value, without, changed}
 use Rattle.handle_pool.proofs.StandsLemmas.{used_at_live}
 use Rattle.handle_pool.proofs.WalkLemmas.{slot_of-live}
-use Rattle.linked_places.specs.Lists.{HandleLists, list_at, stands_at, has_handle, without_handle, NowhereAt, with_list}
 use Rattle.linked_places.specs.Beside.{slot_beside, beside, pool_beside, AreBeside}
-use Rattle.linked_places.proofs.HandleLemmas.{list_at-set_same, list_at-set_other, stands-either, stands_cases}
-use Rattle.linked_places.proofs.LinkedLemmas.{alone}
 use Rattle.linked_places.proofs.BesideLemmas.{length-beside, slice_get-beside, get-beside, live_count-beside, IsFull-beside, Inserts-beside, with_value-beside, list-beside, without-beside, AreBeside-new, AreBeside-insert, AreBeside-value, AreBeside-list, AreBeside-remove, NowhereAt-beside, beside-fresh, list_at-none}
-use Rattle.group_core.specs.Members.{Members, GroupTable, no_members, with_ended, rest_of, NoMemberAt, IsUnendedMember, LiveAreUsed, of_unended, and_ended, members_in, table_of, AreGroups}
 
 -- a live handle of groups, and one that is none
 pub live_tells : (b : Bool) (o : Option (Unit {0})) → IsTrue b ↔ IsSome o → b ≡ true → o ≡ Some tt

@@ -1,18 +1,8 @@
 -- How a cover grows with each place of the walk.
-use Rattle.std.proofs.Common.{◌≡◌, ℕ, ◌+◌, Bool, true, false, bit_or, List, length, Some, slice_get, refl, sym, ap, ◌∙◌, inl, inr, arith}
+use Rattle.job_table.proofs.Names.{◌≡◌, ℕ, ◌+◌, Bool, true, false, bit_or, List, length, Some, slice_get, refl, sym, ap, ◌∙◌, inl, inr, arith, nat_tests, false≢true, cases_eq, ◌&&◌, ◌==◌, Slots, slot_value, max_of, SomeLive, NoneLive, HandleLists, list_at, has_handle, has-index, Action, has_job, has_enabled_job, Passes, runs_job_on, Covers, mask_of, cover_with, NoneBefore, IsUnionBefore, CoversBefore, list_of, AreListed}
 use Rattle.std.proofs.lemmas.Option.{slice_get_within}
 use Rattle.std.proofs.lemmas.Nat.Bits.{bit_at_or, bit_at-lt, bit_at-zero}
-use Rattle.std.proofs.lemmas.Bool.Decides.{nat_tests}
-use Rattle.std.proofs.lemmas.Bool.{false≢true, cases_eq}
-use Rattle.std.specs.Prelude.{◌&&◌, ◌==◌}
-use Rattle.handle_pool.specs.Slots.{Slots, slot_value, max_of}
-use Rattle.handle_pool.specs.Walks.{SomeLive, NoneLive}
-use Rattle.linked_places.specs.Lists.{HandleLists, list_at, has_handle}
-use Rattle.linked_places.proofs.NextLemmas.{has-index}
 use Rattle.mtapi_values.specs.Masks.{in_mask}
-use Rattle.mtapi_objects.specs.Actions.{Action, has_job, has_enabled_job}
-use Rattle.job_table.specs.Answers.{Passes, runs_job_on, Covers}
-use Rattle.job_table.specs.Cover.{mask_of, cover_with, NoneBefore, IsUnionBefore, CoversBefore, list_of, AreListed}
 use Rattle.job_table.specs.declared.cover.Cover.{Cover}
 use Rattle.job_table.specs.declared.cover.Cover.TheVariants.{NoAction, AllDisabled, Cores}
 

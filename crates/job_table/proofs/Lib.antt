@@ -1,2 +1,3 @@
+mod Names
 pub mod CoverLemmas
 pub mod ListedLemmas

@@ -1,20 +1,12 @@
 -- The lists of actions by their jobs, and what each move keeps of them.
-use Rattle.std.proofs.Common.{◌≡◌, ◌≢◌, ◌≤◌, ◌<◌, ◌%◌, ℕ, zero, suc, Bool, true, false, List, [], ◌∷◌, ◌++◌, length, length-set, replicate, Option, Some, None, slice_get, refl, sym, ap, subst, ◌∙◌, inl, inr, arith, cond}
-use Rattle.std.specs.Prelude.{◌==◌, ◌||◌, IsSome}
+use Rattle.job_table.proofs.Names.{◌≡◌, ◌≢◌, ◌≤◌, ◌<◌, ◌%◌, ℕ, zero, suc, Bool, true, false, List, [], ◌∷◌, ◌++◌, length, length-set, replicate, Option, Some, None, slice_get, refl, sym, ap, subst, ◌∙◌, inl, inr, arith, cond, ◌==◌, ◌||◌, IsSome, false≢true, cases_eq, cases_Bool, nat_tests, Slot, Slots, slot_of, generation_of, free_slot, used_slot, slot_after, value_at, slot_value, max_of, Inserts, without, changed, put, with_value, HandleLists, list_at, has_handle, without_handle, stands_at, NowhereAt, with_list, index-has, Action, with_enabled, AreListed, list_of}
 use Rattle.std.specs.Option.{option_map}
-use Rattle.std.proofs.lemmas.Bool.{false≢true, cases_eq, cases_Bool}
-use Rattle.std.proofs.lemmas.Bool.Decides.{nat_tests}
 use Rattle.std.proofs.lemmas.List.{length-replicate}
-use Rattle.handle_pool.specs.Slots.{Slot, Slots, slot_of, generation_of, free_slot, used_slot, slot_after, value_at, slot_value, max_of, Inserts, without, changed, put, with_value}
 use Rattle.handle_pool.proofs.StandsLemmas.{get-fresh, value_at-none}
 use Rattle.handle_pool.proofs.GetLemmas.{get-insert_same, get-insert_other, get-without_same, get-without_other, get-with_value_same, get-with_value_other}
 use Rattle.handle_pool.proofs.WalkLemmas.{slot_of-live}
-use Rattle.linked_places.specs.Lists.{HandleLists, list_at, has_handle, without_handle, stands_at, NowhereAt, with_list}
 use Rattle.linked_places.proofs.HandleLemmas.{list_at-set_same, list_at-set_other, stands-has}
 use Rattle.linked_places.proofs.BesideLemmas.{list_at-none}
-use Rattle.linked_places.proofs.NextLemmas.{index-has}
-use Rattle.mtapi_objects.specs.Actions.{Action, with_enabled}
-use Rattle.job_table.specs.Cover.{AreListed, list_of}
 
 pub some_same : {A : Type 0} {a b : A} → Some a ≡ Some b → a ≡ b
 some_same h = cc

@@ -1,27 +1,7 @@
 -- A follower before the first entry; and what an entry needs beside that its row allows its reply.
-use Rattle.std.proofs.Common.{◌≡◌, ℕ, ◌+◌, ◌≤◌, ◌<◌, Bool, false, List, [], refl, sym, ◌∙◌, ap, subst, arith}
-use Rattle.mtapi_values.specs.declared.handles.ObjectKind.{ObjectKind}
+use Rattle.journal_check.proofs.Names.{◌≡◌, ℕ, ◌+◌, ◌≤◌, ◌<◌, Bool, false, List, [], refl, sym, ◌∙◌, ap, subst, arith, ObjectKind, slot_of, issued_at, Terms, opening, seats, NodeEntry, IsHonest, after_from, after, Node, Stands, seat_count, OtherHandles, Renaming, nothing, terms_in, renamed, Follows, made_in, made_at, lasts_in, lasts_of, taken_in, renaming_of, Following, Made, count_in, last_handles, made_count, gone_count, freed_count, of_kind, Laws, room_of, HasFollowed, Judges, JudgesNext}
 use Rattle.mtapi_values.specs.declared.handles.ObjectKind.TheVariants as kind
-use Rattle.handle_pool.specs.Slots.{slot_of}
-use Rattle.handle_pool.specs.Issued.{issued_at}
-use Rattle.mtapi_machine.specs.declared.terms.Terms.{Terms}
-use Rattle.mtapi_machine.specs.State.{opening, seats}
-use Rattle.mtapi_machine.specs.Legal.{NodeEntry, IsHonest, after_from, after}
-use Rattle.node_steps.specs.declared.node.Node.{Node}
-use Rattle.node_steps.specs.Stands.{Stands, terms_of, seat_count}
-use Rattle.mtapi_renaming.specs.declared.maps.OtherHandles.{OtherHandles}
-use Rattle.mtapi_renaming.specs.Renaming.{Renaming, nothing}
-use Rattle.mtapi_renaming.specs.Renamed.{terms_in, renamed}
-use Rattle.mtapi_renaming.specs.Follows.{Follows}
-use Rattle.mtapi_renaming.specs.Counts.{made_in, made_at}
-use Rattle.mtapi_renaming.specs.Lasts.{lasts_in, lasts_of}
-use Rattle.mtapi_renaming.specs.Gone.{taken_in}
-use Rattle.mtapi_renaming.specs.Maps.{renaming_of}
-use Rattle.journal_check.specs.declared.following.Following.{Following}
-use Rattle.journal_check.specs.declared.made.Made.{Made}
-use Rattle.journal_check.specs.Made.{count_in, last_handles, made_count, gone_count, freed_count, of_kind}
-use Rattle.journal_check.specs.Laws.{Laws}
-use Rattle.journal_check.specs.Follow.{room_of, HasFollowed, Judges, JudgesNext}
+use Rattle.node_steps.specs.Stands.{terms_of}
 
 none_made : (k : ObjectKind) (terms : Terms) (h : ℕ) → made_at k (opening terms) h ≡ 0
 unfolding issued_at

@@ -1,29 +1,8 @@
 -- An entry whose op makes an object, where it is refused, and where there is no room.
-use Rattle.std.proofs.Common.{◌≡◌, ◌↔◌, ◌+◌, ◌≤◌, Bool, true, false, List, [], ◌∷◌, ◌++◌, Option, Some, None, refl, sym, ◌∙◌, ap, subst, arith, length, Decides, IsTrue, MatchBool, IsSome, length-append}
-use Rattle.mtapi_values.specs.declared.handles.ObjectKind.{ObjectKind}
+use Rattle.journal_check.proofs.Names.{◌≡◌, ◌↔◌, ◌+◌, ◌≤◌, Bool, true, false, List, [], ◌∷◌, ◌++◌, Option, Some, None, refl, sym, ◌∙◌, ap, subst, arith, length, Decides, IsTrue, MatchBool, IsSome, length-append, ObjectKind, Terms, Op, Reply, Handle, State, opening, Allows, handle_of, NodeEntry, row_of, next, after, after-one, Stands, Renaming, renamed, renamed_op, made_kind, limit_of, is_full_of, is_fresh_of, is_handle, made_in, Follows, refusal_of, CanAnswer, renaming_of, Following, Tells, Laws, room_of, HasFollowed, Same, Judges}
 use Rattle.mtapi_values.specs.declared.handles.ObjectKind.TheVariants as kind
-use Rattle.mtapi_machine.specs.declared.terms.Terms.{Terms}
-use Rattle.mtapi_machine.specs.declared.ops.Op.{Op}
 use Rattle.mtapi_machine.specs.declared.ops.Op.TheVariants as op
-use Rattle.mtapi_machine.specs.declared.replies.Reply.{Reply}
-use Rattle.mtapi_machine.specs.declared.replies.Reply.TheVariants.{Handle}
-use Rattle.mtapi_machine.specs.State.{State, opening}
-use Rattle.mtapi_machine.specs.Row.{Allows, handle_of}
-use Rattle.mtapi_machine.specs.Legal.{NodeEntry, row_of, next, after}
-use Rattle.mtapi_machine.proofs.Lists.{after-one}
-use Rattle.node_steps.specs.Stands.{Stands, terms_of}
-use Rattle.mtapi_renaming.specs.Renaming.{Renaming}
-use Rattle.mtapi_renaming.specs.Renamed.{renamed}
-use Rattle.mtapi_renaming.specs.Ops.{renamed_op}
-use Rattle.mtapi_renaming.specs.Kinds.{made_kind, limit_of, is_full_of, is_fresh_of, is_handle}
-use Rattle.mtapi_renaming.specs.Counts.{made_in}
-use Rattle.mtapi_renaming.specs.Follows.{Follows}
-use Rattle.mtapi_renaming.specs.Refusals.{refusal_of, CanAnswer}
-use Rattle.mtapi_renaming.specs.Maps.{renaming_of}
-use Rattle.journal_check.specs.declared.following.Following.{Following}
-use Rattle.journal_check.specs.Made.{Tells}
-use Rattle.journal_check.specs.Laws.{Laws}
-use Rattle.journal_check.specs.Follow.{room_of, HasFollowed, Same, Judges}
+use Rattle.node_steps.specs.Stands.{terms_of}
 
 -- the renamed op makes an object of the same kind
 pub renamed_kind : (g : Renaming) (o : Op) → made_kind (renamed_op g o) ≡ made_kind o

@@ -1,17 +1,7 @@
 -- What holds of one kind and of all others holds of each kind; and what a renaming and other limits leave of each kind.
-use Rattle.std.proofs.Common.{◌≡◌, ℕ, Bool, true, false, cond, List, [], ◌∷◌, length, refl, sym, ◌∙◌, ap, subst, arith, eqb-true, eq-eqb}
-use Rattle.std.specs.Prelude.{◌==◌}
-use Rattle.mtapi_values.specs.declared.handles.ObjectKind.{ObjectKind}
+use Rattle.journal_check.proofs.Names.{◌≡◌, ℕ, Bool, true, false, cond, List, [], ◌∷◌, length, refl, sym, ◌∙◌, ap, subst, arith, eqb-true, eq-eqb, ◌==◌, ObjectKind, object_number, Listed, Terms, State, Renaming, Room, renamed, made_in, most_of, room_of}
 use Rattle.mtapi_values.specs.declared.handles.ObjectKind.TheVariants as kind
-use Rattle.mtapi_values.specs.Layouts.{object_number}
-use Rattle.handle_pool.specs.Issued.{Listed}
 use Rattle.handle_pool.specs.Inside.{inside}
-use Rattle.mtapi_machine.specs.declared.terms.Terms.{Terms}
-use Rattle.mtapi_machine.specs.State.{State}
-use Rattle.mtapi_renaming.specs.Renaming.{Renaming}
-use Rattle.mtapi_renaming.specs.Renamed.{Room, renamed}
-use Rattle.mtapi_renaming.specs.Counts.{made_in, most_of}
-use Rattle.journal_check.specs.Follow.{room_of}
 
 -- a kind is told by its number
 abbrev object_of : ℕ → ObjectKind

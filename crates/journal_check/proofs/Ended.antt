@@ -1,20 +1,5 @@
 -- An entry that ends the object that it names.
-use Rattle.std.proofs.Common.{◌≡◌, ℕ, ◌+◌, ◌≤◌, true, false, cond, List, [], ◌∷◌, ◌++◌, sym, ◌∙◌, ap, subst}
-use Rattle.std.specs.Prelude.{◌==◌}
-use Rattle.mtapi_values.specs.declared.handles.ObjectKind.{ObjectKind}
-use Rattle.handle_pool.specs.Slots.{generation_of}
-use Rattle.mtapi_machine.specs.declared.terms.Terms.{Terms}
-use Rattle.mtapi_machine.specs.State.{State, opening}
-use Rattle.mtapi_machine.specs.Legal.{NodeEntry, next, after}
-use Rattle.mtapi_machine.proofs.Lists.{after-one}
-use Rattle.mtapi_renaming.specs.Kinds.{is_live_of}
-use Rattle.mtapi_renaming.specs.Counts.{made_in}
-use Rattle.mtapi_renaming.specs.Gone.{gone_in, taken_in, AreGone}
-use Rattle.journal_check.specs.declared.following.Following.{Following}
-use Rattle.journal_check.specs.declared.made.Made.{Made}
-use Rattle.journal_check.specs.Made.{gone_count, freed_count, of_kind, EndsOne}
-use Rattle.journal_check.specs.Laws.{Laws}
-use Rattle.journal_check.specs.Follow.{HasFollowed, Judges}
+use Rattle.journal_check.proofs.Names.{◌≡◌, ℕ, ◌+◌, ◌≤◌, true, false, cond, List, [], ◌∷◌, ◌++◌, sym, ◌∙◌, ap, subst, ◌==◌, ObjectKind, generation_of, Terms, State, opening, NodeEntry, next, after, after-one, is_live_of, made_in, gone_in, taken_in, AreGone, Following, Made, gone_count, freed_count, of_kind, EndsOne, Laws, HasFollowed, Judges}
 use Rattle.journal_check.proofs.Ends.{gone_more, freed_more, told_more}
 
 module _ (w : Laws) (f g : Following) (e : NodeEntry) (k : ObjectKind) (h last : ℕ) (made : Made) (judges : Judges f e true g) (same : g.made ≡ f.made) (is_last : last ≡ f.terms.settings.generations)

@@ -1,13 +1,5 @@
 -- What was noted of objects that aren't live any more, over an entry and where more is known of them.
-use Rattle.std.proofs.Common.{◌≡◌, ℕ, ◌+◌, ◌≤◌, refl, sym, ◌∙◌, ap, subst, arith}
-use Rattle.mtapi_values.specs.declared.handles.ObjectKind.{ObjectKind}
-use Rattle.handle_pool.specs.Slots.{slot_of}
-use Rattle.mtapi_machine.specs.State.{State}
-use Rattle.mtapi_renaming.specs.Counts.{made_in}
-use Rattle.mtapi_renaming.specs.Gone.{gone_in, taken_in, AreGone}
-use Rattle.journal_check.specs.declared.made.Made.{Made}
-use Rattle.journal_check.specs.declared.made.MadeOfKind.{MadeOfKind}
-use Rattle.journal_check.specs.Made.{count_in, last_handles, made_count, gone_count, freed_count, with_ended, of_kind, Ends, Tells}
+use Rattle.journal_check.proofs.Names.{◌≡◌, ℕ, ◌+◌, ◌≤◌, refl, sym, ◌∙◌, ap, subst, arith, ObjectKind, slot_of, State, made_in, gone_in, taken_in, AreGone, Made, MadeOfKind, count_in, last_handles, made_count, gone_count, freed_count, with_ended, of_kind, Ends, Tells}
 use Rattle.journal_check.proofs.EachKind.{by_kind}
 
 -- in the next state no fewer are gone, and so many more

@@ -1,29 +1,7 @@
 -- An entry whose op makes nothing.
-use Rattle.std.proofs.Common.{◌≡◌, ℕ, ◌≤◌, Bool, true, false, List, [], ◌∷◌, ◌++◌, Option, None, length, refl, sym, ◌∙◌, subst, arith, Decides}
-use Rattle.mtapi_values.specs.declared.handles.ObjectKind.{ObjectKind}
-use Rattle.history.specs.Histories.{entry}
-use Rattle.mtapi_machine.specs.declared.ops.Op.{Op}
+use Rattle.journal_check.proofs.Names.{◌≡◌, ℕ, ◌≤◌, Bool, true, false, List, [], ◌∷◌, ◌++◌, Option, None, length, refl, sym, ◌∙◌, subst, arith, Decides, ObjectKind, entry, Op, Reply, Picked, State, Allows, after_row, row, NodeEntry, row_of, next, after, Node, Stands, Renaming, renamed, renamed_op, renamed_answer, renamed_reply, made_kind, takes_task, StepRenames, made_in, MakesNone, AreGone, renaming_of, Following, gone_count, freed_count, of_kind, Tells, Laws, room_of, HasFollowed, Judges}
 use Rattle.mtapi_machine.specs.declared.ops.Op.TheVariants.{Pick}
-use Rattle.mtapi_machine.specs.declared.replies.Reply.{Reply}
-use Rattle.mtapi_machine.specs.declared.replies.Reply.TheVariants.{Picked}
-use Rattle.mtapi_machine.specs.State.{State}
-use Rattle.mtapi_machine.specs.Row.{Allows, after_row}
-use Rattle.mtapi_machine.specs.Rows.{row}
-use Rattle.mtapi_machine.specs.Legal.{NodeEntry, row_of, next, after}
-use Rattle.node_steps.specs.declared.node.Node.{Node}
-use Rattle.node_steps.specs.Stands.{Stands, terms_of}
-use Rattle.mtapi_renaming.specs.Renaming.{Renaming}
-use Rattle.mtapi_renaming.specs.Renamed.{renamed}
-use Rattle.mtapi_renaming.specs.Ops.{renamed_op, renamed_answer, renamed_reply}
-use Rattle.mtapi_renaming.specs.Kinds.{made_kind, takes_task}
-use Rattle.mtapi_renaming.specs.Laws.{StepRenames}
-use Rattle.mtapi_renaming.specs.Counts.{made_in, MakesNone}
-use Rattle.mtapi_renaming.specs.Gone.{AreGone}
-use Rattle.mtapi_renaming.specs.Maps.{renaming_of}
-use Rattle.journal_check.specs.declared.following.Following.{Following}
-use Rattle.journal_check.specs.Made.{gone_count, freed_count, of_kind, Tells}
-use Rattle.journal_check.specs.Laws.{Laws}
-use Rattle.journal_check.specs.Follow.{room_of, HasFollowed, Judges}
+use Rattle.node_steps.specs.Stands.{terms_of}
 use Rattle.journal_check.proofs.Goes.{node_allows, mirrors_on, followed_on}
 use Rattle.journal_check.proofs.Ends.{gone_on, freed_on}
 

@@ -1,26 +1,6 @@
 -- What an entry of the follower's node says, and how a follower comes one entry further.
-use Rattle.std.proofs.Common.{◌≡◌, ℕ, ◌+◌, ◌≤◌, List, [], ◌∷◌, ◌++◌, length, sym, ◌∙◌, ap, subst, arith, length-append}
-use Rattle.mtapi_values.specs.declared.handles.ObjectKind.{ObjectKind}
-use Rattle.history.specs.Histories.{entry}
-use Rattle.mtapi_machine.specs.declared.terms.Terms.{Terms}
-use Rattle.mtapi_machine.specs.declared.ops.Op.{Op}
-use Rattle.mtapi_machine.specs.declared.replies.Reply.{Reply}
-use Rattle.mtapi_machine.specs.State.{State, opening}
-use Rattle.mtapi_machine.specs.Row.{Allows, after_row}
-use Rattle.mtapi_machine.specs.Rows.{row}
-use Rattle.mtapi_machine.specs.Legal.{NodeEntry, LegalFrom, next, after}
-use Rattle.mtapi_machine.proofs.Lists.{Legal-rest, after-one}
-use Rattle.node_steps.specs.declared.node.Node.{Node}
-use Rattle.node_steps.specs.Stands.{Stands, terms_of}
-use Rattle.mtapi_renaming.specs.Renaming.{Renaming}
-use Rattle.mtapi_renaming.specs.Renamed.{terms_in, renamed}
-use Rattle.mtapi_renaming.specs.Follows.{Follows}
-use Rattle.mtapi_renaming.specs.Counts.{made_in}
-use Rattle.mtapi_renaming.specs.Maps.{renaming_of}
-use Rattle.mtapi_renaming.specs.declared.maps.OtherHandles.{OtherHandles}
-use Rattle.journal_check.specs.declared.made.Made.{Made}
-use Rattle.journal_check.specs.Made.{Tells}
-use Rattle.journal_check.specs.Follow.{room_of, Mirrors, HasFollowed}
+use Rattle.journal_check.proofs.Names.{◌≡◌, ℕ, ◌+◌, ◌≤◌, List, [], ◌∷◌, ◌++◌, length, sym, ◌∙◌, ap, subst, arith, length-append, ObjectKind, entry, Terms, Op, Reply, State, opening, Allows, after_row, row, NodeEntry, LegalFrom, next, after, Legal-rest, after-one, Node, Stands, Renaming, terms_in, renamed, Follows, made_in, renaming_of, OtherHandles, Made, Tells, room_of, Mirrors, HasFollowed}
+use Rattle.node_steps.specs.Stands.{terms_of}
 
 module _ (n m : Node) (own : List NodeEntry) (who : ℕ) (o : Op) (given : Reply) (t : terms_of m ≡ terms_of n) where
   -- the node's row allows what it answered

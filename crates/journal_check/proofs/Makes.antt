@@ -1,40 +1,7 @@
 -- An entry whose op makes an object.
-use Rattle.std.proofs.Common.{◌≡◌, ◌↔◌, ℕ, ◌+◌, ◌≤◌, ◌<◌, Bool, true, false, cond, List, [], ◌∷◌, ◌++◌, Option, Some, None, refl, sym, ◌∙◌, ap, subst, arith, length, MatchBool, eqb-true, eq-eqb}
-use Rattle.std.specs.Prelude.{◌==◌, ◌&&◌, nat_le}
-use Rattle.std.proofs.lemmas.Bool.Decides.{nat_tests}
-use Rattle.mtapi_values.specs.declared.handles.ObjectKind.{ObjectKind}
-use Rattle.mtapi_values.specs.Layouts.{names_kind}
-use Rattle.handle_pool.specs.Slots.{slot_of, generation_of}
-use Rattle.history.specs.Histories.{entry}
-use Rattle.mtapi_machine.specs.declared.terms.Terms.{Terms}
-use Rattle.mtapi_machine.specs.declared.ops.Op.{Op}
-use Rattle.mtapi_machine.specs.declared.replies.Reply.{Reply}
-use Rattle.mtapi_machine.specs.declared.replies.Reply.TheVariants.{Handle}
-use Rattle.mtapi_machine.specs.State.{State}
-use Rattle.mtapi_machine.specs.Row.{Allows, after_row, handle_of}
-use Rattle.mtapi_machine.specs.Rows.{row}
-use Rattle.mtapi_machine.specs.Legal.{NodeEntry, row_of, next, after}
+use Rattle.journal_check.proofs.Names.{◌≡◌, ◌↔◌, ℕ, ◌+◌, ◌≤◌, ◌<◌, Bool, true, false, cond, List, [], ◌∷◌, ◌++◌, Option, Some, None, refl, sym, ◌∙◌, ap, subst, arith, length, MatchBool, eqb-true, eq-eqb, ◌==◌, ◌&&◌, nat_le, nat_tests, ObjectKind, names_kind, slot_of, generation_of, entry, Terms, Op, Reply, Handle, State, Allows, after_row, handle_of, row, NodeEntry, row_of, next, after, Node, Stands, OtherHandles, Renaming, with_pair, renamed, Follows, renamed_op, made_kind, limit_of, CanBe, live_in, is_full_of, is_fresh_of, CreateRenames, made_in, made_at, most_of, is_next_of, MakesOne, refusal_of, CanAnswer, lasts_of, gone_of, with_last, MakesLast, gone_in, taken_in, AreGone, renaming_of, Following, Made, MadeOfKind, count_in, last_handles, made_count, gone_count, freed_count, of_kind, Notes, Tells, Laws, last_generation, room_of, HasFollowed, Judges}
 use Rattle.mtapi_machine.proofs.Made.{snd_true}
-use Rattle.node_steps.specs.declared.node.Node.{Node}
-use Rattle.node_steps.specs.Stands.{Stands, terms_of}
-use Rattle.mtapi_renaming.specs.declared.maps.OtherHandles.{OtherHandles}
-use Rattle.mtapi_renaming.specs.Renaming.{Renaming, with_pair}
-use Rattle.mtapi_renaming.specs.Renamed.{renamed}
-use Rattle.mtapi_renaming.specs.Follows.{Follows}
-use Rattle.mtapi_renaming.specs.Ops.{renamed_op}
-use Rattle.mtapi_renaming.specs.Kinds.{made_kind, limit_of, CanBe, live_in, is_full_of, is_fresh_of}
-use Rattle.mtapi_renaming.specs.Laws.{CreateRenames}
-use Rattle.mtapi_renaming.specs.Counts.{made_in, made_at, most_of, is_next_of, MakesOne}
-use Rattle.mtapi_renaming.specs.Refusals.{refusal_of, CanAnswer}
-use Rattle.mtapi_renaming.specs.Lasts.{lasts_of, gone_of, with_last, MakesLast}
-use Rattle.mtapi_renaming.specs.Gone.{gone_in, taken_in, AreGone}
-use Rattle.mtapi_renaming.specs.Maps.{renaming_of}
-use Rattle.journal_check.specs.declared.following.Following.{Following}
-use Rattle.journal_check.specs.declared.made.Made.{Made}
-use Rattle.journal_check.specs.declared.made.MadeOfKind.{MadeOfKind}
-use Rattle.journal_check.specs.Made.{count_in, last_handles, made_count, gone_count, freed_count, of_kind, Notes, Tells}
-use Rattle.journal_check.specs.Laws.{Laws}
-use Rattle.journal_check.specs.Follow.{last_generation, room_of, HasFollowed, Judges}
+use Rattle.node_steps.specs.Stands.{terms_of}
 use Rattle.journal_check.proofs.Goes.{node_allows, mirrors_on, followed_on}
 use Rattle.journal_check.proofs.Creates.{renamed_kind, by_room}
 use Rattle.journal_check.proofs.EachKind.{by_kind, made-renamed, most-renamed}

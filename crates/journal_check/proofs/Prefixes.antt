@@ -1,11 +1,6 @@
 -- Prefixes of a list of entries, one entry more, and the first one that isn't legal.
-use Rattle.std.proofs.Common.{◌≡◌, ℕ, ◌+◌, ◌≤◌, ◌<◌, List, [], ◌∷◌, ◌++◌, zero, suc, length, take, drop, get_or, sym, ◌∙◌, ap, subst, arith, take-append-drop, take-take}
+use Rattle.journal_check.proofs.Names.{◌≡◌, ℕ, ◌+◌, ◌≤◌, ◌<◌, List, [], ◌∷◌, ◌++◌, zero, suc, length, take, drop, get_or, sym, ◌∙◌, ap, subst, arith, take-append-drop, take-take, Terms, opening, NodeEntry, IsNext, LegalFrom, Fits, Legal, after, Legal-rest, Legal-append, Legal-one, Legal-prefix, IsFirstIllegal}
 use Rattle.std.proofs.lemmas.Grind.{take_at_read}
-use Rattle.mtapi_machine.specs.declared.terms.Terms.{Terms}
-use Rattle.mtapi_machine.specs.State.{opening}
-use Rattle.mtapi_machine.specs.Legal.{NodeEntry, IsNext, LegalFrom, Fits, Legal, after}
-use Rattle.mtapi_machine.proofs.Lists.{Legal-rest, Legal-append, Legal-one, Legal-prefix}
-use Rattle.journal_check.specs.Verdicts.{IsFirstIllegal}
 
 -- terms that no node has: no list is legal
 pub none_legal : (terms : Terms) (L : List NodeEntry) → (Fits terms → ⊥) → IsFirstIllegal terms L 1

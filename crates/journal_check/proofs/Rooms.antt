@@ -1,26 +1,6 @@
 -- How many of a kind are live, and how many of its last handles aren't, as the node tells it.
-use Rattle.std.proofs.Common.{◌≡◌, ℕ, ◌+◌, ◌≤◌, ◌<◌, Bool, true, false, cond, List, length, refl, sym, ◌∙◌, ap, arith}
-use Rattle.std.specs.Prelude.{◌==◌, ◌-◌, not, take, get_or}
-use Rattle.std.proofs.lemmas.Bool.Decides.{nat_tests}
-use Rattle.mtapi_values.specs.declared.handles.ObjectKind.{ObjectKind}
-use Rattle.mtapi_machine.specs.declared.terms.Terms.{Terms}
-use Rattle.mtapi_machine.specs.State.{State}
-use Rattle.mtapi_machine.specs.Legal.{NodeEntry, after}
-use Rattle.node_steps.specs.declared.node.Node.{Node}
-use Rattle.node_steps.specs.Stands.{Stands, terms_of}
-use Rattle.mtapi_renaming.specs.Renaming.{Renaming}
-use Rattle.mtapi_renaming.specs.Renamed.{renamed}
-use Rattle.mtapi_renaming.specs.Follows.{Follows}
-use Rattle.mtapi_renaming.specs.Kinds.{live_in, is_live_of, is_full_of}
-use Rattle.mtapi_renaming.specs.Counts.{made_in, most_of}
-use Rattle.mtapi_renaming.specs.Lasts.{lasts_of, gone_of}
-use Rattle.mtapi_renaming.specs.Gone.{gone_in, taken_in}
-use Rattle.mtapi_renaming.specs.Maps.{renaming_of}
-use Rattle.journal_check.specs.declared.following.Following.{Following}
-use Rattle.journal_check.specs.declared.made.Made.{Made}
-use Rattle.journal_check.specs.Made.{of_kind, last_handles, made_count, gone_count, freed_count, Ends}
-use Rattle.journal_check.specs.Laws.{Laws}
-use Rattle.journal_check.specs.Follow.{room_of, Mirrors, HasFollowed, Same}
+use Rattle.journal_check.proofs.Names.{◌≡◌, ℕ, ◌+◌, ◌≤◌, ◌<◌, Bool, true, false, cond, List, length, refl, sym, ◌∙◌, ap, arith, ◌==◌, ◌-◌, not, take, get_or, nat_tests, ObjectKind, Terms, State, NodeEntry, after, Node, Stands, Renaming, renamed, Follows, live_in, is_live_of, is_full_of, made_in, most_of, lasts_of, gone_of, gone_in, taken_in, renaming_of, Following, Made, of_kind, last_handles, made_count, gone_count, freed_count, Ends, Laws, room_of, Mirrors, HasFollowed, Same}
+use Rattle.node_steps.specs.Stands.{terms_of}
 use Rattle.journal_check.proofs.Lists.{how_many-next}
 use Rattle.journal_check.proofs.Ends.{told_more, told_less}
 

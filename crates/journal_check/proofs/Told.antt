@@ -1,11 +1,9 @@
 -- The verdict of what was told.
-use Rattle.std.proofs.Common.{◌≡◌, ℕ, ◌<◌, List, refl, ap, subst, arith}
+use Rattle.journal_check.proofs.Names.{◌≡◌, ℕ, ◌<◌, List, refl, ap, subst, arith, Terms, NodeEntry, Legal, IsLegal, IsFirstIllegal, IsRun, IsVerdict}
 use Rattle.workload_file.specs.declared.workload.Workload.{Workload}
-use Rattle.mtapi_machine.specs.declared.terms.Terms.{Terms}
-use Rattle.mtapi_machine.specs.Legal.{NodeEntry, Legal}
 use Rattle.node_journals.specs.declared.entries.Journal.{Journal}
 use Rattle.journal_check.specs.declared.verdicts.Verdict.TheVariants.{Yes, Illegal, NotRun}
-use Rattle.journal_check.specs.Verdicts.{terms_of, IsLegal, IsFirstIllegal, IsRun, IsVerdict}
+use Rattle.journal_check.specs.Verdicts.{terms_of}
 use Rattle.journal_check.proofs.Prefixes.{legal_front}
 
 -- a legal list has no first entry that isn't

@@ -1,37 +1,14 @@
 -- The rows of the ops that make objects, seen from inside.
-use Rattle.std.proofs.Common.{◌≡◌, ℕ, ◌≤◌, true, ◌&&◌, List, [], ◌∷◌, Option, Some, inl, refl, sym, ◌∙◌, ap, subst, arith}
-use Rattle.std.specs.Prelude.{◌==◌, not}
-use Rattle.std.specs.Option.{IfSome}
-use Rattle.mtapi_values.specs.declared.handles.ObjectKind.{ObjectKind}
+use Rattle.mtapi_layouts.proofs.Names.{◌≡◌, ℕ, ◌≤◌, true, ◌&&◌, List, [], ◌∷◌, Option, Some, inl, refl, sym, ◌∙◌, ap, subst, arith, ◌==◌, not, IfSome, ObjectKind, Two, names_kind, generation_of, Listed, is_full, may_issue, same_tests, has_job, has_enabled_job, Reply, Handle, State, Objects, actions, tasks, queues, Move, Queues, Sort, Fields, all_of, makes_action, starts_task, makes, is_fresh, Row, unless, gives, only, mtapi_unless, handle_of, on, creates, Keyed, creates_keyed, start_refusals, renamed_task, HasTask, NoHandle, HasEach, Fits, renamed_answer, found-has, has-issue, is_plain, Alike, gives_renamed, says_alike, unless_then, unless_alike, only_alike, live_alike, sort-found, sort-any, action-any, served, group_missing, inward, Names, turned_list, room_one, turned}
 use Rattle.mtapi_values.specs.declared.handles.ObjectKind.TheVariants as kind
 use Rattle.mtapi_values.specs.declared.handles.Layout.{Layout}
-use Rattle.mtapi_values.specs.declared.handles.Layout.TheVariants.{Two}
-use Rattle.mtapi_values.specs.Layouts.{names_kind}
-use Rattle.handle_pool.specs.Slots.{generation_of}
-use Rattle.handle_pool.specs.Issued.{Listed, is_full, may_issue}
-use Rattle.handle_pool.proofs.LiveLemmas.{same_tests}
-use Rattle.mtapi_objects.specs.Actions.{Action, has_job, has_enabled_job}
+use Rattle.mtapi_objects.specs.Actions.{Action}
 use Rattle.mtapi_objects.specs.Tasks.{NewTask, new_task}
 use Rattle.mtapi_objects.specs.Queues.{Queue}
-use Rattle.mtapi_machine.specs.declared.replies.Reply.{Reply}
-use Rattle.mtapi_machine.specs.declared.replies.Reply.TheVariants.{Handle}
-use Rattle.mtapi_machine.specs.State.{State, Objects, actions, tasks, queues}
-use Rattle.mtapi_machine.specs.Moves.{Move, Queues, Sort, Fields, all_of, makes_action, starts_task, makes, is_fresh}
-use Rattle.mtapi_machine.specs.Row.{Row, unless, gives, only, mtapi_unless, handle_of, on, creates}
-use Rattle.mtapi_machine.specs.KeyedRows.{Keyed, creates_keyed}
-use Rattle.mtapi_machine.specs.TaskRows.{start_refusals}
 use Rattle.mtapi_machine.proofs.Made.{fst_true, snd_true}
 use Rattle.mtapi_renaming.specs.Renaming.{Has}
-use Rattle.mtapi_renaming.specs.Renamed.{renamed_task}
-use Rattle.mtapi_renaming.specs.Follows.{HasTask, NoHandle, HasEach, Fits}
-use Rattle.mtapi_renaming.specs.Ops.{renamed_answer}
-use Rattle.mtapi_renaming.proofs.Lists.{found-has, has-issue}
 use Rattle.mtapi_renaming.proofs.Moves.{MovesRename, one_move, renamed_new, sort-list, sort-has, has-with, has-so, makes_action-renames, starts_task-renames, makes-renames}
-use Rattle.mtapi_renaming.proofs.Rows.{is_plain, Alike, gives_renamed, says_alike, unless_then, unless_alike, only_alike, live_alike, sort-found, sort-any}
-use Rattle.mtapi_renaming.proofs.TaskRows.{action-any, served, group_missing}
 use Rattle.mtapi_renaming.proofs.Creates.{group_has, limit_plain}
-use Rattle.mtapi_layouts.specs.Inward.{inward, Names}
-use Rattle.mtapi_layouts.specs.Turned.{turned_list, room_one, turned}
 use Rattle.mtapi_layouts.proofs.Handles.{names-of, named-kind, inward-zero}
 use Rattle.mtapi_layouts.proofs.Lists.{may_issue-generation, same_full, same_may_issue}
 

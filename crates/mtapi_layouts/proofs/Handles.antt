@@ -1,12 +1,6 @@
 -- Handles of layout two as the pools have them, and back.
-use Rattle.std.proofs.Common.{◌≡◌, ℕ, ◌+◌, ◌-◌, ◌*◌, ◌/◌, ◌%◌, ◌^◌, ◌<◌, ◌≤◌, Bool, true, false, cond, Some, None, refl, sym, arith}
-use Rattle.std.specs.Prelude.{◌==◌}
-use Rattle.std.proofs.lemmas.Bool.{eqb-true, eq-eqb}
-use Rattle.mtapi_values.specs.declared.handles.ObjectKind.{ObjectKind}
+use Rattle.mtapi_layouts.proofs.Names.{◌≡◌, ℕ, ◌+◌, ◌-◌, ◌*◌, ◌/◌, ◌%◌, ◌^◌, ◌<◌, ◌≤◌, Bool, true, false, cond, Some, None, refl, sym, arith, ◌==◌, eqb-true, eq-eqb, ObjectKind, object_number, named_kind, outer, slot_of, generation_of, or_zero, inward, Names, HasRoom}
 use Rattle.mtapi_values.specs.declared.handles.ObjectKind.TheVariants.{Action, Task, Group, Queue, Mutex, Sem, Rwl, Shmem}
-use Rattle.mtapi_values.specs.Layouts.{object_number, named_kind, outer}
-use Rattle.handle_pool.specs.Slots.{slot_of, generation_of}
-use Rattle.mtapi_layouts.specs.Inward.{or_zero, inward, Names, HasRoom}
 
 record NamesKind (k : ObjectKind) (h : ℕ) : Type 0 where
   names : (named_kind h == object_number k) ≡ true

@@ -1,31 +1,14 @@
 -- Every step of layout two, seen from inside, and histories of such steps.
-use Rattle.std.proofs.Common.{◌≡◌, ℕ, List, [], ◌∷◌, Option, Some, None, refl, sym, ◌∙◌, ap, subst}
-use Rattle.std.specs.Option.{option_map}
+use Rattle.mtapi_layouts.proofs.Names.{◌≡◌, ℕ, List, [], ◌∷◌, Option, Some, None, refl, sym, ◌∙◌, ap, subst, option_map, Two, inside, live_object, Op, Reply, State, opening, Move, apply, after_moves, Allows, moves_of, after_row, row, renamed, Fits, answered_kind, renamed_reply, inward, turned_task, in_layout_one, room_one, turned, TaskIsNamed, Named, inward_op, outward_reply, IssuesSmall, IsSmall}
 use Rattle.mtapi_values.specs.Conditions.{holds}
 use Rattle.mtapi_values.specs.Seats.{is_seat}
 use Rattle.mtapi_values.specs.declared.handles.ObjectKind.TheVariants as kind
-use Rattle.mtapi_values.specs.declared.handles.Layout.TheVariants.{Two}
-use Rattle.handle_pool.specs.Inside.{inside}
-use Rattle.handle_pool.specs.Issued.{live_object}
 use Rattle.mtapi_objects.specs.Tasks.{Task}
 use Rattle.mtapi_machine.specs.declared.terms.Terms.{Terms}
-use Rattle.mtapi_machine.specs.declared.ops.Op.{Op}
 use Rattle.mtapi_machine.specs.declared.ops.Op.TheVariants as op
-use Rattle.mtapi_machine.specs.declared.replies.Reply.{Reply}
-use Rattle.mtapi_machine.specs.State.{State, opening}
-use Rattle.mtapi_machine.specs.Moves.{Move, apply, after_moves}
-use Rattle.mtapi_machine.specs.Row.{Allows, moves_of, after_row}
-use Rattle.mtapi_machine.specs.Rows.{row}
 use Rattle.mtapi_machine.specs.Kept.{pends_alike}
 use Rattle.mtapi_machine.specs.Legal.{NodeEntry, IsHonest, next, LegalFrom, after_from, Legal}
-use Rattle.mtapi_renaming.specs.Renamed.{renamed}
-use Rattle.mtapi_renaming.specs.Follows.{Fits}
-use Rattle.mtapi_renaming.specs.Ops.{answered_kind, renamed_reply}
 use Rattle.mtapi_renaming.proofs.LastMoves.{terms_stay}
-use Rattle.mtapi_layouts.specs.Inward.{inward}
-use Rattle.mtapi_layouts.specs.Turned.{turned_task, in_layout_one, room_one, turned}
-use Rattle.mtapi_layouts.specs.Named.{TaskIsNamed, Named}
-use Rattle.mtapi_layouts.specs.Ops.{inward_op, outward_reply, IssuesSmall, IsSmall}
 use Rattle.mtapi_layouts.specs.Turns.{StepTurns, inner_entries, outer_entries, AllIssueSmall, HistoryTurns, StartTurns}
 use Rattle.mtapi_layouts.proofs.Handles.{inward-one, inward-zero}
 use Rattle.mtapi_layouts.proofs.Lists.{found-turned}

@@ -1,3 +1,4 @@
+mod Names
 pub mod Handles
 pub mod Lists
 pub mod Creates

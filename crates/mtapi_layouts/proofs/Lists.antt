@@ -1,22 +1,9 @@
 -- What a list of objects of layout two answers once its handles are turned.
-use Rattle.std.proofs.Common.{◌≡◌, ℕ, ◌+◌, ◌*◌, ◌^◌, ◌≤◌, true, ◌&&◌, List, [], ◌∷◌, Some, refl, sym, ap, subst, arith}
-use Rattle.std.specs.Prelude.{◌==◌, not}
-use Rattle.std.specs.Option.{option_map}
-use Rattle.std.proofs.lemmas.Bool.{eqb-true, eq-eqb}
+use Rattle.mtapi_layouts.proofs.Names.{◌≡◌, ℕ, ◌+◌, ◌*◌, ◌^◌, ◌≤◌, true, ◌&&◌, List, [], ◌∷◌, Some, refl, sym, ap, subst, arith, ◌==◌, not, option_map, eqb-true, eq-eqb, ObjectKind, object_number, slot_of, generation_of, Listed, live_object, issued_at, retired, is_full, may_issue, Agree, same_tests, IsOther, found-renamed, found-has, found-other, inward, Names, HasRoom, turned_list, AreNamed}
 use Rattle.std.proofs.lemmas.Bool.Decides.{nat_tests}
-use Rattle.mtapi_values.specs.declared.handles.ObjectKind.{ObjectKind}
-use Rattle.mtapi_values.specs.Layouts.{object_number}
-use Rattle.handle_pool.specs.Slots.{slot_of, generation_of}
-use Rattle.handle_pool.specs.Issued.{Listed, live_object, issued_at, retired, is_full, may_issue}
-use Rattle.handle_pool.specs.Inside.{Agree}
 use Rattle.handle_pool.proofs.InsideLemmas.{count-inside}
-use Rattle.handle_pool.proofs.LiveLemmas.{same_tests}
-use Rattle.mtapi_renaming.proofs.Lists.{IsOther, found-renamed, found-has, found-other}
 use Rattle.mtapi_renaming.proofs.Pairs.{listed-renamed}
 use Rattle.mtapi_renaming.proofs.Steps.{same_length}
-use Rattle.mtapi_layouts.specs.Inward.{inward, Names, HasRoom}
-use Rattle.mtapi_layouts.specs.Turned.{turned_list}
-use Rattle.mtapi_layouts.specs.Named.{AreNamed}
 use Rattle.mtapi_layouts.proofs.Handles.{inward-one, inward-parts, inward-room}
 
 -- a handle that may be issued has a generation

@@ -1,38 +1,18 @@
 -- Every row of layout two, seen from inside, and the handles in the replies inside.
-use Rattle.std.proofs.Common.{◌≡◌, ℕ, Bool, Option, Some, None, refl, sym, ◌∙◌, ap, subst}
-use Rattle.std.specs.Prelude.{◌==◌, not}
-use Rattle.mtapi_values.specs.declared.handles.ObjectKind.{ObjectKind}
+use Rattle.mtapi_layouts.proofs.Names.{◌≡◌, ℕ, Bool, Option, Some, None, refl, sym, ◌∙◌, ap, subst, ◌==◌, not, ObjectKind, Two, new_action, has_job, Op, Reply, Ok, Handle, Given, Picked, State, Groups, Row, Allows, handle_of, keyed_queues, keyed_mutexes, keyed_sems, keyed_rwls, keyed_segments, asked_for, asked_of, row, Fits, answered_kind, renamed_answer, renamed_reply, HasAnswer, IsRenamed, Alike, unless_alike, mrapi_alike, action-any, count-in, inward, room_one, turned, inward_op, outward, HandleIsSmall, IssuesSmall, IsSmall}
 use Rattle.mtapi_values.specs.declared.handles.ObjectKind.TheVariants as kind
 use Rattle.mtapi_values.specs.declared.handles.GroupHandle.{GroupHandle}
 use Rattle.mtapi_values.specs.declared.handles.QueueHandle.{QueueHandle}
-use Rattle.mtapi_values.specs.declared.handles.Layout.TheVariants.{Two}
-use Rattle.mtapi_objects.specs.Actions.{new_action, has_job}
 use Rattle.mtapi_objects.specs.Groups.{new_group}
 use Rattle.mtapi_objects.specs.Mutexes.{new_mutex}
 use Rattle.mtapi_objects.specs.Sems.{new_sem, sem_create_refusals}
 use Rattle.mtapi_objects.specs.Rwls.{new_rwl, rwl_create_refusals}
 use Rattle.mtapi_objects.specs.Segments.{new_segment, shmem_create_refusals}
-use Rattle.mtapi_machine.specs.declared.ops.Op.{Op}
 use Rattle.mtapi_machine.specs.declared.ops.Op.TheVariants as op
-use Rattle.mtapi_machine.specs.declared.replies.Reply.{Reply}
-use Rattle.mtapi_machine.specs.declared.replies.Reply.TheVariants.{Ok, Handle, Given, Picked}
-use Rattle.mtapi_machine.specs.State.{State}
-use Rattle.mtapi_machine.specs.Moves.{Groups}
-use Rattle.mtapi_machine.specs.Row.{Row, Allows, handle_of}
-use Rattle.mtapi_machine.specs.KeyedRows.{keyed_queues, keyed_mutexes, keyed_sems, keyed_rwls, keyed_segments}
-use Rattle.mtapi_machine.specs.TaskRows.{asked_for, asked_of}
 use Rattle.mtapi_machine.specs.QueueRows.{new_queue}
-use Rattle.mtapi_machine.specs.Rows.{row}
-use Rattle.mtapi_renaming.specs.Follows.{Fits}
-use Rattle.mtapi_renaming.specs.Ops.{answered_kind, renamed_answer, renamed_reply}
 use Rattle.mtapi_renaming.specs.Kinds.{made_kind}
-use Rattle.mtapi_renaming.proofs.Rows.{HasAnswer, IsRenamed, Alike, unless_alike, mrapi_alike}
-use Rattle.mtapi_renaming.proofs.TaskRows.{action-any, count-in}
 use Rattle.mtapi_renaming.proofs.Table.{row_alike}
 use Rattle.mtapi_renaming.proofs.Comes.{reply_comes}
-use Rattle.mtapi_layouts.specs.Inward.{inward}
-use Rattle.mtapi_layouts.specs.Turned.{room_one, turned}
-use Rattle.mtapi_layouts.specs.Ops.{inward_op, outward, HandleIsSmall, IssuesSmall, IsSmall}
 use Rattle.mtapi_layouts.proofs.Handles.{inward-room, inward-outer}
 use Rattle.mtapi_layouts.proofs.Creates.{creates_action, creates_task, creates_sort, keyed_creates, starts_alike, on_queue}
 

@@ -1,19 +1,6 @@
 -- What the runs of workloads need, and what is known of their journals.
-use Rattle.std.proofs.Common.{◌≡◌, ◌≤◌, ℕ, List, [], ◌∷◌, ◌++◌, length, sym, ap, subst, arith}
-use Rattle.std.specs.Prelude.{codes}
-use Rattle.std.specs.List.{join_with_byte}
-use Rattle.mtapi_values.specs.declared.handles.Layout.{Layout}
-use Rattle.mtapi_values.specs.declared.handles.Layout.TheVariants.{Two}
-use Rattle.workload_file.specs.declared.workload.Part.{Part}
-use Rattle.workload_file.specs.declared.workload.Workload.{Workload}
-use Rattle.workload_file.specs.Formed.{WellFormed, MainFirst}
-use Rattle.mtapi_machine.specs.State.{terms_with}
-use Rattle.mtapi_machine.specs.Legal.{Legal}
-use Rattle.node_journals.specs.declared.entries.Journal.{Journal}
+use Rattle.mtapi_top.proofs.Names.{◌≡◌, ◌≤◌, ℕ, List, [], ◌∷◌, ◌++◌, length, sym, ap, subst, arith, codes, join_with_byte, Layout, Two, Part, Workload, WellFormed, MainFirst, terms_with, Legal, Journal, journal_text, head_for, entry_lines, lines_text, IsRun, IsTextTwo}
 use Rattle.journal_text.specs.Heads.{head_text, version, first_texts, last_texts}
-use Rattle.journal_text.specs.Journals.{journal_text, head_for, entry_lines, lines_text}
-use Rattle.sched_workers.specs.Runs.{IsRun}
-use Rattle.mtapi_top.specs.Headline.{IsTextTwo}
 
 some_part : (ps : List Part) → MainFirst ps → 1 ≤ length ps
 some_part [] f = absurd f

@@ -1,17 +1,7 @@
 -- What the ends of `check` say of the outcome.
-use Rattle.std.proofs.Common.{◌≡◌, ◌⊎◌, ℕ, List, Option, Some, None, refl, sym, ap, subst, inl, inr}
-use Rattle.std.specs.Prelude.{IfSome}
-use Rattle.byte_io.specs.Causes.{Rose}
-use Rattle.workload_file.specs.declared.workload.Workload.{Workload}
-use Rattle.node_journals.specs.declared.entries.Journal.{Journal}
-use Rattle.journal_check.specs.declared.verdicts.Verdict.{Verdict}
+use Rattle.mtapi_top.proofs.Names.{◌≡◌, ◌⊎◌, ℕ, List, Option, Some, None, refl, sym, ap, subst, inl, inr, IfSome, Rose, Workload, Journal, Verdict, IsVerdict, End, Outcome, status_of, verdict_status, Channels, Checks, IsInput, IsRefusedInput}
 use Rattle.journal_check.specs.declared.verdicts.Verdict.TheVariants as verdict
-use Rattle.journal_check.specs.Verdicts.{IsVerdict}
-use Rattle.mtapi_top.specs.declared.ends.End.{End}
 use Rattle.mtapi_top.specs.declared.ends.End.TheVariants as end
-use Rattle.mtapi_top.specs.declared.ends.Outcome.{Outcome}
-use Rattle.mtapi_top.specs.Command.{status_of, verdict_status}
-use Rattle.mtapi_top.specs.Check.{Channels, Checks, IsInput, IsRefusedInput}
 use Rattle.mtapi_top.proofs.Refused.{Told, told_status}
 use Rattle.mtapi_top.proofs.Judged.{input_not_refused, same_load, same_journal, same_verdict, unjudged_refused}
 

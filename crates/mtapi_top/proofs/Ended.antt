@@ -1,21 +1,9 @@
 -- What was told of an end is how the command ended, and what was read for it.
-use Rattle.std.proofs.Common.{◌≡◌, ◌⊎◌, ℕ, true, false, List, Option, Some, None, refl, sym, subst, ◌∙◌, inl, inr}
-use Rattle.std.specs.Prelude.{IfSome, is_some}
-use Rattle.std.specs.Io.KnownBytes.{IsAtEnd}
-use Rattle.byte_io.specs.Causes.{TakesAtMost}
-use Rattle.workload_file.specs.Loading.{ReadsClean}
-use Rattle.journal_text.specs.Journals.{ReadsClean as ReadsInput, journal_text}
-use Rattle.node_journals.specs.declared.entries.Journal.{Journal}
-use Rattle.mtapi_top.specs.declared.words.Asked.{Asked}
+use Rattle.mtapi_top.proofs.Names.{◌≡◌, ◌⊎◌, ℕ, true, false, List, Option, Some, None, refl, sym, subst, ◌∙◌, inl, inr, IfSome, is_some, IsAtEnd, TakesAtMost, ReadsClean, journal_text, Journal, Asked, End, Outcome, reads, judges, IsTextTwo, Outside, Ends, status_of, has_line, Channels, Checks, Streams, outside, channels, HasEnded, IsPastReading, IsReadFor, StartsNothing}
+use Rattle.journal_text.specs.Journals.{ReadsClean as ReadsInput}
 use Rattle.mtapi_top.specs.declared.words.Asked.TheVariants as asks
-use Rattle.mtapi_top.specs.declared.ends.End.{End}
 use Rattle.mtapi_top.specs.declared.ends.End.TheVariants as end
-use Rattle.mtapi_top.specs.declared.ends.Outcome.{Outcome}
-use Rattle.mtapi_top.specs.Words.{reads, judges}
-use Rattle.mtapi_top.specs.Headline.{IsTextTwo}
-use Rattle.mtapi_top.specs.Command.{Outside, Ends, status_of, journal_of, has_line}
-use Rattle.mtapi_top.specs.Check.{Channels, Checks}
-use Rattle.mtapi_top.specs.Ended.{Streams, outside, channels, HasEnded, IsPastReading, IsReadFor, StartsNothing}
+use Rattle.mtapi_top.specs.Command.{journal_of}
 use Rattle.mtapi_top.proofs.Carried.{text_two}
 use Rattle.mtapi_top.proofs.Refused.{Told, told_status, told_journal}
 

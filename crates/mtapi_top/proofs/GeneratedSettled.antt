@@ -1,7 +1,5 @@
 -- The generated workload is settled.
-use Rattle.std.proofs.Common.{◌≡◌, ℕ, zero, suc, pos, ◌+◌, ◌%◌, ◌≤◌, ◌<◌, Bool, true, false, cond, List, [], ◌∷◌, ◌++◌, Some, None, length, refl, ap, ◌∙◌, arith}
-use Rattle.std.specs.Prelude.{◌==◌, ◌&&◌, ◌||◌, not, nat_lt, nat_le, is_some, ◌+ℤ◌, ◌*◌, ◌/◌, option_and_then}
-use Rattle.std.specs.List.{list_any, flat_map}
+use Rattle.mtapi_top.proofs.Names.{◌≡◌, ℕ, zero, suc, pos, ◌+◌, ◌%◌, ◌≤◌, ◌<◌, Bool, true, false, cond, List, [], ◌∷◌, ◌++◌, Some, None, length, refl, ap, ◌∙◌, arith, ◌==◌, ◌&&◌, ◌||◌, not, nat_lt, nat_le, is_some, ◌+ℤ◌, ◌*◌, ◌/◌, option_and_then, list_any, flat_map, action_in, actions_in, queue_in, task_in, plain_end, plain_fault, serves, is_settled_deed, are_settled, has_one_kind_a_job, has_new_id, has_different_ids, has_room, puts_into, keep_limits, both, fault_in, have_one_fault_a_group, makes_action, makes_group, makes_task, is_settled, all_cores, first_statements, start, task_deed, task_statement, tasks, last_statement, generated_settings, generated, GeneratedIsSettled}
 use Rattle.std.proofs.lemmas.Bool.Decides.{nat_tests}
 use Rattle.std.proofs.lemmas.List.{append-nil}
 use Rattle.mtapi_values.specs.Attributes.{NodeSettings}
@@ -14,11 +12,7 @@ use Rattle.mtapi_objects.specs.Groups.{fault_of}
 use Rattle.mtapi_machine.specs.WorkRows.{task_end}
 use Rattle.workload_file.specs.declared.workload.Deed.{Deed}
 use Rattle.workload_file.specs.declared.workload.Statement.{Statement}
-use Rattle.settled_runs.specs.Plain.{action_in, actions_in, queue_in, task_in, plain_end, plain_fault}
-use Rattle.settled_runs.specs.Settled.{serves, is_settled_deed, are_settled, has_one_kind_a_job, has_new_id, has_different_ids, has_room, puts_into, keep_limits, both, fault_in, have_one_fault_a_group, makes_action, makes_group, makes_task, is_settled}
 use Rattle.settled_runs.proofs.Granted.{below_found}
-use Rattle.generated_workload.specs.Generated.{all_cores, first_statements, start, task_deed, task_statement, tasks, last_statement, generated_settings, generated}
-use Rattle.mtapi_top.specs.Settled.{GeneratedIsSettled}
 
 -- What a task's statement asks for
 

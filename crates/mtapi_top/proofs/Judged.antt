@@ -1,21 +1,11 @@
 -- What is refused is not judged, and what is judged has one verdict.
-use Rattle.std.proofs.Common.{◌≡◌, ◌⊎◌, ◌≤◌, ℕ, List, length, refl, sym, ap, subst, ◌∙◌, inl, inr, arith}
-use Rattle.std.specs.Prelude.{Result, Ok, Err}
-use Rattle.workload_file.specs.declared.workload.Workload.{Workload}
-use Rattle.workload_file.specs.Reading.{workload_of}
-use Rattle.node_journals.specs.declared.entries.Journal.{Journal}
+use Rattle.mtapi_top.proofs.Names.{◌≡◌, ◌⊎◌, ◌≤◌, ℕ, List, length, refl, sym, ap, subst, ◌∙◌, inl, inr, arith, Result, Ok, Err, Workload, workload_of, Journal, Verdict, IsVerdict, End, IsWorkload, IsRefused, status_of, IsInput, IsRefusedInput, IsUnjudged, FrontFails, RestFails, same_split}
 use Rattle.journal_text.specs.declared.faults.TextError.{TextError}
 use Rattle.journal_text.specs.declared.faults.TextError.TheVariants as errors
 use Rattle.journal_text.specs.Journals.{journal_of}
-use Rattle.journal_check.specs.declared.verdicts.Verdict.{Verdict}
 use Rattle.journal_check.specs.declared.verdicts.Verdict.TheVariants as verdict
-use Rattle.journal_check.specs.Verdicts.{IsVerdict}
-use Rattle.mtapi_top.specs.declared.ends.End.{End}
 use Rattle.mtapi_top.specs.declared.ends.End.TheVariants as end
-use Rattle.mtapi_top.specs.Command.{IsWorkload, IsRefused, status_of}
-use Rattle.mtapi_top.specs.Check.{IsInput, IsRefusedInput, IsUnjudged, FrontFails, RestFails}
 use Rattle.mtapi_top.proofs.Refused.{not_workload}
-use Rattle.journal_text.proofs.Splits.{same_split}
 
 pub one_value : {A E : Type 0} (r : Result A E) (x y : A) → r ≡ Ok x → r ≡ Ok y → x ≡ y
 one_value r x y i k = let both = sym i ∙ k in cc

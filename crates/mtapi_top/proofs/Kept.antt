@@ -1,27 +1,14 @@
 -- The journal of a run can be written, and is judged yes.
-use Rattle.std.proofs.Common.{◌≡◌, ℕ, ◌≤◌, ◌+◌, List, [], ◌∷◌, length, refl, sym, ap, subst, arith}
-use Rattle.std.specs.Prelude.{Ok}
-use Rattle.std.specs.List.{AllByRecursion}
-use Rattle.mtapi_values.specs.declared.handles.Layout.{Layout}
-use Rattle.mtapi_values.specs.declared.handles.Layout.TheVariants.{Two}
-use Rattle.workload_file.specs.declared.workload.Workload.{Workload}
-use Rattle.workload_file.specs.Formed.{WellFormed}
-use Rattle.workload_file.specs.Reading.{workload_of}
-use Rattle.mtapi_machine.specs.State.{opening}
-use Rattle.mtapi_machine.specs.Legal.{NodeEntry}
+use Rattle.mtapi_top.proofs.Names.{◌≡◌, ℕ, ◌≤◌, ◌+◌, List, [], ◌∷◌, length, refl, sym, ap, subst, arith, Ok, AllByRecursion, Layout, Two, Workload, WellFormed, workload_of, opening, NodeEntry, Journal, journal_text, head_for, IsVerdict, IsLegal, terms_of, IsRun, terms_for, IsInput}
 use Rattle.history_law.specs.Seats.{BySeats}
 use Rattle.history_law.proofs.Bounds.{by_seats}
-use Rattle.node_journals.specs.declared.entries.Journal.{Journal}
 use Rattle.journal_text.specs.declared.heads.Head.{Head}
 use Rattle.journal_text.specs.Fits.{HasPlace, IsWritable}
 use Rattle.journal_text.specs.Lines.{has_words}
-use Rattle.journal_text.specs.Journals.{journal_text, journal_of, head_for}
+use Rattle.journal_text.specs.Journals.{journal_of}
 use Rattle.journal_check.specs.declared.verdicts.Verdict.TheVariants.{Yes, Illegal, NotRun}
-use Rattle.journal_check.specs.Verdicts.{IsVerdict, IsLegal, terms_of}
 use Rattle.journal_check.proofs.Prefixes.{legal_front}
-use Rattle.sched_workers.specs.Runs.{IsRun, terms_for}
 use Rattle.journal_text.specs.Splits.{IsSplit}
-use Rattle.mtapi_top.specs.Check.{IsInput}
 use Rattle.mtapi_top.proofs.Carried.{has_part, told_legal}
 
 pub judged_yes : (load : Workload) (j : Journal) → IsRun load j → IsVerdict load j Yes

@@ -1,3 +1,4 @@
+mod Names
 mod Refused
 mod Carried
 mod GeneratedSettled

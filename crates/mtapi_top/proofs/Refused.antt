@@ -1,19 +1,9 @@
 -- A status of 3 is a refusal, and what is refused has it.
-use Rattle.std.proofs.Common.{◌≡◌, ◌⊎◌, ℕ, true, List, Option, Some, None, refl, sym, ap, subst, ◌∙◌, inl, inr, arith}
-use Rattle.std.specs.Prelude.{IfSome, IfOk, Result, Ok, Err}
-use Rattle.byte_io.specs.Causes.{Rose}
+use Rattle.mtapi_top.proofs.Names.{◌≡◌, ◌⊎◌, ℕ, true, List, Option, Some, None, refl, sym, ap, subst, ◌∙◌, inl, inr, arith, IfSome, IfOk, Result, Ok, Err, Rose, Workload, Loads, Journal, Asked, End, Outcome, reads, Ran, IsRead, IsLoadOf, Outside, Ends, HasRead, IsWorkload, IsRefused, status_of, has_line, IsTold}
 use Rattle.workload_file.specs.declared.faults.LoadError.{LoadError}
-use Rattle.workload_file.specs.declared.workload.Workload.{Workload}
-use Rattle.workload_file.specs.Loading.{Loads}
-use Rattle.node_journals.specs.declared.entries.Journal.{Journal}
-use Rattle.mtapi_top.specs.declared.words.Asked.{Asked}
 use Rattle.mtapi_top.specs.declared.words.Asked.TheVariants as asks
-use Rattle.mtapi_top.specs.declared.ends.End.{End}
 use Rattle.mtapi_top.specs.declared.ends.End.TheVariants as end
-use Rattle.mtapi_top.specs.declared.ends.Outcome.{Outcome}
-use Rattle.mtapi_top.specs.Words.{reads}
-use Rattle.mtapi_top.specs.Headline.{Ran, IsRead, IsLoadOf}
-use Rattle.mtapi_top.specs.Command.{Outside, Ends, HasRead, IsWorkload, IsRefused, status_of, journal_of, has_line, IsTold}
+use Rattle.mtapi_top.specs.Command.{journal_of}
 
 -- what was told of an end
 abbrev pub Told : End → ℕ → ℕ → Option (List ℕ) → Option (List ℕ) → Outcome → Type 0

@@ -1,37 +1,16 @@
 -- What the command writes of a settled workload is told by the workload's statements alone.
-use Rattle.std.proofs.Common.{◌≡◌, ℕ, true, List, length, ◌++◌, Option, Some, None, refl, sym, ◌∙◌, ap, subst, inl, inr}
-use Rattle.std.specs.Prelude.{IfSome, Result, Ok}
-use Rattle.std.specs.Io.KnownBytes.{Appends}
-use Rattle.byte_io.specs.Causes.{AppendsFront}
-use Rattle.mtapi_values.specs.declared.handles.Layout.{Layout}
+use Rattle.mtapi_top.proofs.Names.{◌≡◌, ℕ, true, List, length, ◌++◌, Option, Some, None, refl, sym, ◌∙◌, ap, subst, inl, inr, IfSome, Result, Ok, Appends, AppendsFront, Layout, Workload, workload_of, WellFormed, Legal, Journal, journal_text, terms_with, IsLegal, plain_report, is_settled, Asked, End, Outcome, InRange, generated, IsRun, Ran, IsLoadOf, output, generated_summary, IsPlainOutput, Outside, Ends, status_of}
 use Rattle.workload_file.specs.declared.faults.Fault.{Fault}
-use Rattle.workload_file.specs.declared.workload.Workload.{Workload}
-use Rattle.workload_file.specs.Reading.{workload_of}
-use Rattle.workload_file.specs.Formed.{WellFormed}
-use Rattle.mtapi_machine.specs.Legal.{Legal}
-use Rattle.node_journals.specs.declared.entries.Journal.{Journal}
-use Rattle.journal_text.specs.Journals.{journal_text}
-use Rattle.mtapi_machine.specs.State.{terms_with}
 use Rattle.mtapi_machine.specs.declared.terms.Terms.{Terms}
 use Rattle.run_report.specs.Report.{report}
-use Rattle.journal_check.specs.Verdicts.{IsLegal, IsRun as IsRunOf}
-use Rattle.settled_runs.specs.Plain.{plain_report}
+use Rattle.journal_check.specs.Verdicts.{IsRun as IsRunOf}
 use Rattle.settled_runs.specs.PlainSummary.{plain_summary}
 use Rattle.settled_runs.specs.RunGranted.{SettledRun}
-use Rattle.settled_runs.specs.Settled.{is_settled}
 use Rattle.settled_runs.proofs.RunReport.{settled_reports_are_plain}
 use Rattle.settled_runs.proofs.PlainSummary.{settled_summaries_are_plain}
-use Rattle.mtapi_top.specs.declared.words.Asked.{Asked}
 use Rattle.mtapi_top.specs.declared.words.Asked.TheVariants as asks
-use Rattle.mtapi_top.specs.declared.ends.End.{End}
 use Rattle.mtapi_top.specs.declared.ends.End.TheVariants as end
-use Rattle.mtapi_top.specs.declared.ends.Outcome.{Outcome}
-use Rattle.mtapi_top.specs.Words.{InRange}
-use Rattle.generated_workload.specs.Generated.{generated}
-use Rattle.sched_workers.specs.Runs.{IsRun}
-use Rattle.mtapi_top.specs.Headline.{Ran, IsLoadOf, output}
-use Rattle.mtapi_top.specs.Settled.{generated_summary, IsPlainOutput}
-use Rattle.mtapi_top.specs.Command.{Outside, Ends, status_of, journal_of}
+use Rattle.mtapi_top.specs.Command.{journal_of}
 use Rattle.mtapi_top.proofs.GeneratedSettled.{generated_settled}
 use Rattle.mtapi_top.proofs.Refused.{Told}
 

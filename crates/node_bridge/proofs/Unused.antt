@@ -1,18 +1,8 @@
 -- A worker's seat that has made no entry is at rest.
-use Rattle.std.proofs.Common.{◌≡◌, ℕ, ◌<◌, ◌==◌, Bool, true, false, cond, List, [], ◌∷◌, ◌++◌, refl, ◌∙◌, ap, arith}
-use Rattle.std.proofs.lemmas.Bool.Decides.{nat_tests}
-use Rattle.history.specs.Histories.{entry, entries_of}
-use Rattle.mtapi_values.specs.declared.kinds.Kind.{Kind}
-use Rattle.mtapi_values.specs.declared.handles.ActionHandle.{ActionHandle}
+use Rattle.node_bridge.proofs.Names.{◌≡◌, ℕ, ◌<◌, ◌==◌, Bool, true, false, cond, List, [], ◌∷◌, ◌++◌, refl, ◌∙◌, ap, arith, nat_tests, entry, entries_of, Kind, ActionHandle, opening, NodeEntry, work_stays, entries-append, job_of, pure_kinds, all_cores, images, opening_entries, image, UnusedWorkersRest}
 use Rattle.mtapi_machine.specs.declared.ops.Op.TheVariants as op
 use Rattle.mtapi_machine.specs.declared.replies.Reply.TheVariants as reply
-use Rattle.mtapi_machine.specs.State.{opening}
-use Rattle.mtapi_machine.specs.Legal.{NodeEntry}
-use Rattle.history_law.proofs.Others.{work_stays}
-use Rattle.turn_looks.proofs.OwnEntries.{entries-append}
-use Rattle.node_bridge.specs.Jobs.{job_of, pure_kinds, all_cores}
-use Rattle.node_bridge.specs.Image.{images, creates, opening_entries, image}
-use Rattle.node_bridge.specs.Rounds.{UnusedWorkersRest}
+use Rattle.node_bridge.specs.Image.{creates}
 use Rattle.node_bridge.proofs.Images.{images_own}
 
 apart : (w who : ℕ) → w < who → (who == w) ≡ false

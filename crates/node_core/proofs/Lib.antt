@@ -1,3 +1,4 @@
+mod Names
 pub mod KeptLemmas
 pub mod LogLemmas
 pub mod TwoSeats

@@ -1,23 +1,11 @@
 -- The log of a list, with one more entry.
-use Rattle.std.proofs.Common.{◌≡◌, ℕ, ◌<◌, ◌^◌, Bool, true, false, List, [], ◌∷◌, ◌++◌, length, refl, sym, ◌∙◌, ap, subst, arith}
-use Rattle.std.specs.Prelude.{slice_index, Option, None, Result, Ok, IfOk, IfSome, IsErr, ◌↔◌}
+use Rattle.node_core.proofs.Names.{◌≡◌, ℕ, ◌<◌, ◌^◌, Bool, true, false, List, [], ◌∷◌, ◌++◌, length, refl, sym, ◌∙◌, ap, subst, arith, slice_index, Option, None, Result, Ok, IfOk, IfSome, IsErr, ◌↔◌, entry, Op, Reply, Terms, State, opening, NodeEntry, Legal, after_from, after, pends_alike, drops, is_dropped, is_pending, kept, skipped, counted, counts_after, no_counts, Node, KeptEntries, kept_of, skipped_of, Stands, terms_of, seat_count, history_of, keeps, lost, AddsTo, Logs, KeepsOf, LoggedFrom, HasTerms, KeptAs, IsJournal}
 use Rattle.std.specs.declared.alloc.AllocError.{AllocError}
 use Rattle.node_journals.specs.declared.entries.Journal.{Journal}
-use Rattle.history.specs.Histories.{entry}
-use Rattle.mtapi_machine.specs.declared.ops.Op.{Op}
-use Rattle.mtapi_machine.specs.declared.replies.Reply.{Reply}
-use Rattle.mtapi_machine.specs.declared.terms.Terms.{Terms}
-use Rattle.mtapi_machine.specs.State.{State, opening}
-use Rattle.mtapi_machine.specs.Legal.{NodeEntry, Legal, after_from, after}
-use Rattle.mtapi_machine.specs.Kept.{pends_alike, drops, is_dropped, is_pending, kept, skipped, counted, counts_after, no_counts}
 use Rattle.mtapi_machine.proofs.Drops.{Kept-legal, after-kept}
 use Rattle.node_core.specs.declared.journaled.Kept.{Kept}
 use Rattle.node_core.specs.declared.journaled.Kept.TheVariants.{Nothing, Lost, Entries}
 use Rattle.node_core.specs.declared.journaled.Log.{Log}
-use Rattle.node_core.specs.declared.node.Node.{Node}
-use Rattle.node_journals.specs.Journals.{KeptEntries, kept_of, skipped_of}
-use Rattle.node_core.specs.Stands.{Stands, terms_of, seat_count, history_of}
-use Rattle.node_core.specs.Logs.{keeps, lost, AddsTo, Logs, KeepsOf, LoggedFrom, HasTerms, KeptAs, IsJournal}
 use Rattle.node_core.proofs.KeptLemmas.{kept-append, skipped-append, counts-append, number_le}
 
 -- what is kept of a list is kept of the longer one, with what the entry adds

@@ -1,19 +1,6 @@
 -- A node goes on with the list that its callers see, as the node inside goes on with what it saw.
-use Rattle.std.proofs.Common.{◌≡◌, ℕ, ◌<◌, Bool, List, [], ◌∷◌, ◌++◌, length, Option, refl, sym, ◌∙◌, ap, subst, arith}
-use Rattle.history.specs.Histories.{entry}
-use Rattle.mtapi_values.specs.Attributes.{NodeSettings}
-use Rattle.mtapi_values.specs.declared.handles.Layout.TheVariants.{One, Two}
-use Rattle.mtapi_machine.specs.declared.terms.Terms.{Terms}
-use Rattle.mtapi_machine.specs.declared.ops.Op.{Op}
-use Rattle.mtapi_machine.specs.declared.replies.Reply.{Reply}
-use Rattle.mtapi_machine.specs.Legal.{NodeEntry, Legal, after}
-use Rattle.mtapi_machine.specs.Kept.{pends_alike}
-use Rattle.mtapi_values.specs.declared.handles.ObjectKind.{ObjectKind}
-use Rattle.mtapi_layouts.specs.Ops.{inward_op, answered_kind, outward, outward_reply, IssuesSmall, IsSmall}
-use Rattle.mtapi_layouts.specs.Turns.{inner_entries}
+use Rattle.node_core.proofs.Names.{◌≡◌, ℕ, ◌<◌, Bool, List, [], ◌∷◌, ◌++◌, length, Option, refl, sym, ◌∙◌, ap, subst, arith, entry, NodeSettings, One, Two, Terms, Op, Reply, NodeEntry, Legal, after, pends_alike, ObjectKind, inward_op, answered_kind, outward, outward_reply, IssuesSmall, IsSmall, inner_entries, Node, Stands, terms_of}
 use Rattle.node_steps.specs.Stands.{Stands as StandsInside, terms_of as terms_inside}
-use Rattle.node_core.specs.declared.node.Node.{Node}
-use Rattle.node_core.specs.Stands.{Stands, terms_of}
 use Rattle.node_core.proofs.Outside.{inner_append, outer_append, small_append, same_length, small_outside, reply_small, pends_outside}
 
 pub new_node : (n : Node) → StandsInside n.inner [] → Stands n []

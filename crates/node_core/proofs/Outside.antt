@@ -1,22 +1,9 @@
 -- A history as the callers of a node see it, and as the node inside saw it.
-use Rattle.std.proofs.Common.{◌≡◌, ℕ, suc, Bool, List, [], ◌∷◌, ◌++◌, length, refl, sym, ◌∙◌, ap, subst}
-use Rattle.mtapi_values.specs.declared.handles.Layout.TheVariants.{Two}
-use Rattle.history.specs.Histories.{entry}
-use Rattle.mtapi_machine.specs.declared.terms.Terms.{Terms}
-use Rattle.mtapi_machine.specs.declared.ops.Op.{Op}
+use Rattle.node_core.proofs.Names.{◌≡◌, ℕ, suc, Bool, List, [], ◌∷◌, ◌++◌, length, refl, sym, ◌∙◌, ap, subst, Two, entry, Terms, Op, Reply, State, opening, NodeEntry, IsNext, next, LegalFrom, Legal, after_from, after, pends_alike, in_layout_one, turned, Named, inward_op, outward_reply, IssuesSmall, IsSmall, inner_entries, outer_entries, AllIssueSmall, all_stay, step_turns, opening_turns, history_turns, history_named, pends_turned}
 use Rattle.mtapi_machine.specs.declared.ops.Op.TheVariants as op
-use Rattle.mtapi_machine.specs.declared.replies.Reply.{Reply}
-use Rattle.mtapi_machine.specs.State.{State, opening}
 use Rattle.mtapi_machine.specs.Row.{Allows, moves_of}
 use Rattle.mtapi_machine.specs.Rows.{row}
-use Rattle.mtapi_machine.specs.Legal.{NodeEntry, IsNext, next, LegalFrom, Legal, after_from, after}
-use Rattle.mtapi_machine.specs.Kept.{pends_alike}
 use Rattle.mtapi_machine.proofs.Lists.{Legal-rest}
-use Rattle.mtapi_layouts.specs.Turned.{in_layout_one, turned}
-use Rattle.mtapi_layouts.specs.Named.{Named}
-use Rattle.mtapi_layouts.specs.Ops.{inward_op, outward_reply, IssuesSmall, IsSmall}
-use Rattle.mtapi_layouts.specs.Turns.{inner_entries, outer_entries, AllIssueSmall}
-use Rattle.mtapi_layouts.proofs.Histories.{all_stay, step_turns, opening_turns, history_turns, history_named, pends_turned}
 
 -- Lists of entries
 

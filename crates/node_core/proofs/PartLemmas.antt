@@ -1,31 +1,18 @@
 -- A node that stands for a list agrees with its state, part by part.
-use Rattle.std.proofs.Common.{◌≡◌, inl, inr, ℕ, zero, suc, ◌+◌, ◌<◌, ◌≤◌, Bool, true, false, cond, List, Option, Some, None, refl, sym, ◌∙◌, ap, subst, arith}
+use Rattle.node_core.proofs.Names.{◌≡◌, inl, inr, ℕ, zero, suc, ◌+◌, ◌<◌, ◌≤◌, Bool, true, false, cond, List, Option, Some, None, refl, sym, ◌∙◌, ap, subst, arith, NodeSettings, ObjectKind, Slot, Slots, slot_of, generation_of, value_at, Listed, live_object, issued_at, retired, State, NodeEntry, after, AreNamed, NoHandle, TaskIsNamed, Named, turned, turned_list, turned_task, inner_entries, history_turns, Node, Stands, terms_of, IsPast, AgreesIn, same_fields, lists_in, Agrees}
 use Rattle.std.specs.Option.{option_map}
 use Rattle.std.proofs.lemmas.Bool.Decides.{eqb_tells}
-use Rattle.mtapi_values.specs.Attributes.{NodeSettings}
 use Rattle.mtapi_values.specs.Layouts.{outer}
-use Rattle.mtapi_values.specs.declared.handles.ObjectKind.{ObjectKind}
 use Rattle.mtapi_values.specs.declared.handles.ObjectKind.TheVariants as kind
-use Rattle.handle_pool.specs.Slots.{Slot, Slots, slot_of, generation_of, value_at}
-use Rattle.handle_pool.specs.Issued.{Listed, live_object, issued_at, retired}
 use Rattle.handle_pool.specs.Stands.{generation_after, SlotStands}
 use Rattle.handle_pool.proofs.ListedLemmas.{issued_at-slot}
-use Rattle.mtapi_machine.specs.State.{State}
-use Rattle.mtapi_machine.specs.Legal.{NodeEntry, after}
 use Rattle.mtapi_layouts.specs.Inward.{inward}
-use Rattle.mtapi_layouts.specs.Named.{AreNamed, NoHandle, TaskIsNamed, Named}
-use Rattle.mtapi_layouts.specs.Turned.{turned, turned_list, turned_task}
-use Rattle.mtapi_layouts.specs.Turns.{inner_entries}
 use Rattle.mtapi_layouts.proofs.Handles.{outer-inward, inward-outer}
-use Rattle.mtapi_layouts.proofs.Histories.{history_turns}
 use Rattle.mtapi_layouts.proofs.Lists.{found-turned, found-named, found-room}
 use Rattle.task_board.specs.Board.{records_of, group_slots}
 use Rattle.node_resources.specs.Holds.{Holds}
 use Rattle.node_steps.specs.Stands.{Lists, Pools, state_of, terms_of as terms_inside}
 use Rattle.node_steps.specs.Keeps.{Keeps}
-use Rattle.node_core.specs.declared.node.Node.{Node}
-use Rattle.node_core.specs.Stands.{Stands, terms_of}
-use Rattle.node_core.specs.Parts.{IsPast, AgreesIn, same_fields, lists_in, Agrees}
 use Rattle.node_core.proofs.Outside.{named}
 
 none_some : {A : Type 0} {P : Type 0} {x : A} → None ≡ Some x → P

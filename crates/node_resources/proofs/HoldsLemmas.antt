@@ -1,14 +1,8 @@
 -- What a list answers, and each move of it, by the pool that stands for it.
-use Rattle.std.proofs.Common.{◌≡◌, ℕ, ◌≤◌, true, false, List, [], Option, Some, None, replicate, refl, sym, ◌∙◌, ap, subst}
-use Rattle.std.specs.Prelude.{◌==◌}
-use Rattle.std.specs.Option.{option_map}
-use Rattle.handle_pool.specs.Slots.{Slots, free_slot, slot_value, max_of, IsFull, Inserts, without, put, changed}
-use Rattle.handle_pool.specs.Walks.{SomeLive, NoneLive, HasLive, OneEach}
-use Rattle.handle_pool.specs.Issued.{Listed, live_of, live_object, any_listed, first_handle, is_full, may_issue, issue, update, retire}
+use Rattle.node_resources.proofs.Names.{◌≡◌, ℕ, ◌≤◌, true, false, List, [], Option, Some, None, replicate, refl, sym, ◌∙◌, ap, subst, ◌==◌, option_map, Slots, free_slot, slot_value, max_of, IsFull, Inserts, without, put, changed, SomeLive, NoneLive, HasLive, OneEach, Listed, live_of, live_object, any_listed, first_handle, is_full, may_issue, issue, update, retire, Holds}
 use Rattle.handle_pool.proofs.StandsLemmas.{Stands-new, IsFull-limit, IsFull-room, may_issue-insert, Stands-insert, Stands-changed, Stands-remove}
 use Rattle.handle_pool.proofs.CountLemmas.{max_of-new, max_of-insert, max_of-without, max_of-with_value}
 use Rattle.handle_pool.proofs.KeyLemmas.{any-key, any-no_key, first_live-key, first_live-no_key}
-use Rattle.node_resources.specs.Holds.{Holds}
 
 module _ {T : Type 0} where
   max_of-put : (p : Slots T) (h : ℕ) (o : Option T) → max_of (put p h o) ≡ max_of p

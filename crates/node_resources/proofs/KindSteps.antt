@@ -1,20 +1,7 @@
 -- A step of one kind is a step of all four.
-use Rattle.std.proofs.Common.{◌≡◌, ℕ, List, None, refl, sym, subst, ◌∙◌}
-use Rattle.mtapi_values.specs.Conditions.{first}
-use Rattle.mtapi_values.specs.declared.statuses.MrapiStatus.{MrapiStatus}
-use Rattle.handle_pool.specs.Issued.{Listed}
-use Rattle.handle_pool.specs.Slots.{Slots, slot_value}
-use Rattle.handle_pool.specs.Walks.{NoneLive, HasLive, OneEach}
-use Rattle.mtapi_machine.specs.declared.ops.Op.{Op}
-use Rattle.mtapi_machine.specs.declared.replies.Reply.{Reply}
+use Rattle.node_resources.proofs.Names.{◌≡◌, ℕ, List, None, refl, sym, subst, ◌∙◌, first, MrapiStatus, Listed, Slots, slot_value, NoneLive, HasLive, OneEach, Op, Reply, Keyed, mrapi, gets, State, is_up, Sort, Groups, Queues, Mutexes, Sems, Rwls, Segments, Fields, all_of, Gate, ResourceTable, HoldsList, Stands, Does, IsAt, gate_refusals, with_lists_of}
 use Rattle.mtapi_machine.specs.declared.replies.Reply.TheVariants as reply
-use Rattle.mtapi_machine.specs.KeyedRows.{Keyed, mrapi, gets}
-use Rattle.mtapi_machine.specs.State.{State, is_up}
-use Rattle.mtapi_machine.specs.Moves.{Sort, Groups, Queues, Mutexes, Sems, Rwls, Segments, Fields, all_of}
 use Rattle.mtapi_machine.specs.Rows.{row}
-use Rattle.node_resources.specs.declared.gate.Gate.{Gate}
-use Rattle.node_resources.specs.Holds.{ResourceTable, HoldsList, Stands}
-use Rattle.node_resources.specs.Steps.{Does, IsAt, gate_refusals, with_lists_of}
 use Rattle.node_resources.proofs.RowLemmas.{Leads, past_up, gets_does, gets_none}
 
 abbrev IsResource : Sort → Type 0

@@ -1,3 +1,4 @@
+mod Names
 pub mod HoldsLemmas
 pub mod RowLemmas
 pub mod KindSteps

@@ -1,17 +1,6 @@
 -- What a create of a resource is refused for, by what the gate and the pool tell.
-use Rattle.std.proofs.Common.{◌≡◌, ◌⊎◌, inl, inr, ℕ, Bool, true, false, cond, List, [], ◌∷◌, ◌++◌, Option, Some, None, refl, sym, ◌∙◌, ap}
-use Rattle.std.specs.Prelude.{◌==◌, IsNone}
-use Rattle.std.specs.Option.{IfSome}
-use Rattle.mtapi_values.specs.declared.statuses.MrapiStatus.{MrapiStatus}
-use Rattle.mtapi_values.specs.Conditions.{first}
-use Rattle.handle_pool.specs.Slots.{Slots, slot_value}
-use Rattle.handle_pool.specs.Walks.{SomeLive, NoneLive}
-use Rattle.handle_pool.specs.Issued.{Listed, any_listed}
-use Rattle.mtapi_machine.specs.State.{State, workers, is_open}
-use Rattle.node_resources.specs.declared.gate.Gate.{Gate}
-use Rattle.node_resources.specs.Holds.{Holds}
+use Rattle.node_resources.proofs.Names.{◌≡◌, ◌⊎◌, inl, inr, ℕ, Bool, true, false, cond, List, [], ◌∷◌, ◌++◌, Option, Some, None, refl, sym, ◌∙◌, ap, ◌==◌, IsNone, IfSome, MrapiStatus, first, Slots, slot_value, SomeLive, NoneLive, Listed, any_listed, State, workers, is_open, Gate, Holds, IsAt, gate_refusals}
 use Rattle.node_resources.specs.Refusals.{open_refusals}
-use Rattle.node_resources.specs.Steps.{IsAt, gate_refusals}
 use Rattle.node_resources.proofs.HoldsLemmas.{has_id, no_id}
 
 -- a condition of the first list is met, and none is

@@ -1,30 +1,14 @@
 -- What the rows of resources do, one lemma a shape of row, for every kind.
-use Rattle.std.proofs.Common.{◌≡◌, ◌⊎◌, inl, inr, ℕ, Bool, true, false, ◌&&◌, cond, List, [], ◌∷◌, Option, Some, None, Result, Ok, Err, refl, sym, ◌∙◌, ap, subst}
-use Rattle.std.specs.Prelude.{OnErr, OnOk, is_none, ◌==◌}
-use Rattle.std.specs.Option.{option_map}
+use Rattle.node_resources.proofs.Names.{◌≡◌, ◌⊎◌, inl, inr, ℕ, Bool, true, false, ◌&&◌, cond, List, [], ◌∷◌, Option, Some, None, Result, Ok, Err, refl, sym, ◌∙◌, ap, subst, OnErr, OnOk, is_none, ◌==◌, option_map, MrapiStatus, Timeout, first, answer, is_got, Slots, slot_value, put, changed, without, Inserts, IsFull, SomeLive, NoneLive, HasLive, OneEach, Listed, live_object, update, retire, issue, any_listed, Reply, State, workers, is_open, is_up, Sort, Groups, Queues, Mutexes, Sems, Rwls, Segments, Fields, all_of, makes, alters, removes, is_fresh, Row, unless, gives, says, not_yet, only, Allows, after_row, live, on, creates, Keyed, mrapi, mrapi_open, mrapi_unless, creates_keyed, gets, alters_one, looks_one, deletes, Gate, HoldsList, IsAt, gate_refusals}
 use Rattle.std.specs.Result.{result_err}
 use Rattle.mtapi_values.specs.declared.looks.Look.{Look}
 use Rattle.mtapi_values.specs.declared.looks.Look.TheVariants.{Refused}
 use Rattle.mtapi_values.specs.declared.handles.Layout.TheVariants.{One}
 use Rattle.mtapi_values.specs.declared.handles.ObjectKind.{ObjectKind}
-use Rattle.mtapi_values.specs.declared.statuses.MrapiStatus.{MrapiStatus}
-use Rattle.mtapi_values.specs.declared.statuses.MrapiStatus.TheVariants.{Timeout}
-use Rattle.mtapi_values.specs.Conditions.{first}
 use Rattle.mtapi_values.specs.Layouts.{names_kind}
-use Rattle.mtapi_values.specs.Looks.{answer, is_got}
-use Rattle.handle_pool.specs.Slots.{Slots, slot_value, put, changed, without, Inserts, IsFull}
-use Rattle.handle_pool.specs.Walks.{SomeLive, NoneLive, HasLive, OneEach}
-use Rattle.handle_pool.specs.Issued.{Listed, live_object, update, retire, issue, any_listed}
-use Rattle.mtapi_machine.specs.declared.replies.Reply.{Reply}
 use Rattle.mtapi_machine.specs.declared.replies.Reply.TheVariants as reply
-use Rattle.mtapi_machine.specs.State.{State, workers, is_open, is_up}
-use Rattle.mtapi_machine.specs.Moves.{Sort, Groups, Queues, Mutexes, Sems, Rwls, Segments, Fields, all_of, makes, alters, removes, is_fresh}
-use Rattle.mtapi_machine.specs.Row.{Row, unless, gives, says, not_yet, only, Allows, after_row, live, on, creates}
-use Rattle.mtapi_machine.specs.KeyedRows.{Keyed, mrapi, mrapi_open, mrapi_unless, found as found_row, creates_keyed, gets, alters_one, looks_one, deletes}
-use Rattle.node_resources.specs.declared.gate.Gate.{Gate}
-use Rattle.node_resources.specs.Holds.{HoldsList}
+use Rattle.mtapi_machine.specs.KeyedRows.{found as found_row}
 use Rattle.node_resources.specs.Replies.{done_reply, waits_reply, look_reply}
-use Rattle.node_resources.specs.Steps.{IsAt, gate_refusals}
 use Rattle.node_resources.proofs.HoldsLemmas.{found, full_list, room_in, may_be, holds_insert, holds_changed, holds_remove, has_id, no_id, id_absent, id_found}
 
 -- the row allows the reply, and leads to a list of the kind for which these slots stand

@@ -1,31 +1,12 @@
 -- A tally's steps on mutexes and segments, by the pools that stand for the lists.
-use Rattle.std.proofs.Common.{◌≡◌, ℕ, zero, suc, ◌+◌, Bool, true, false, not, cond, List, [], ◌∷◌, Option, Some, None, refl, sym, ◌∙◌, ap, subst}
-use Rattle.std.specs.Prelude.{◌==◌, ◌&&◌, ◌||◌, is_some, is_none, nat_lt, length, ℤ, slice_set}
-use Rattle.std.specs.Option.{option_map}
+use Rattle.node_resources.proofs.Names.{◌≡◌, ℕ, zero, suc, ◌+◌, Bool, true, false, not, cond, List, [], ◌∷◌, Option, Some, None, refl, sym, ◌∙◌, ap, subst, ◌==◌, ◌&&◌, ◌||◌, is_some, is_none, nat_lt, length, ℤ, slice_set, option_map, MutexHandle, ShmemHandle, first, answer, is_got, Slots, slot_value, put, changed, NoneLive, HasLive, OneEach, live_of, live_object, first_handle, Mutex, locked_by, unlocked, Segment, with_attached, with_cell, after_look, after_unlock, after_attach, after_detach, State, Mutexes, Segments, alters, notes, after_moves, Row, gives, says, live, ResourceTable, Stands, Both, Owned, Absent, both_row, Locks}
 use Rattle.std.proofs.lemmas.Bool.{eq-eqb}
 use Rattle.mtapi_values.specs.declared.statuses.MtapiStatus.TheVariants as m
 use Rattle.mtapi_values.specs.declared.statuses.MrapiStatus.TheVariants as c
-use Rattle.mtapi_values.specs.declared.handles.MutexHandle.{MutexHandle}
-use Rattle.mtapi_values.specs.declared.handles.ShmemHandle.{ShmemHandle}
-use Rattle.mtapi_values.specs.Conditions.{first}
-use Rattle.mtapi_values.specs.Looks.{answer, is_got}
 use Rattle.mtapi_values.specs.Seats.{is_seat, is_other, marked}
-use Rattle.handle_pool.specs.Slots.{Slots, slot_value, put, changed}
-use Rattle.handle_pool.specs.Walks.{NoneLive, HasLive, OneEach}
-use Rattle.handle_pool.specs.Issued.{live_of, live_object, first_handle}
 use Rattle.mtapi_objects.specs.Tasks.{with_tally, tally_has}
-use Rattle.mtapi_objects.specs.Mutexes.{Mutex, locked_by, unlocked}
-use Rattle.mtapi_objects.specs.Segments.{Segment, with_attached, with_cell}
-use Rattle.mrapi_mutex.specs.Calls.{after_look, after_unlock}
-use Rattle.mrapi_shmem.specs.Calls.{after_attach, after_detach}
 use Rattle.mtapi_machine.specs.declared.replies.Reply.TheVariants.{Asked, Pending}
-use Rattle.mtapi_machine.specs.State.{State}
-use Rattle.mtapi_machine.specs.Moves.{Mutexes, Segments, alters, notes, after_moves}
-use Rattle.mtapi_machine.specs.Row.{Row, gives, says, live}
 use Rattle.mtapi_machine.specs.TallyRows.{gives_up, takes_both}
-use Rattle.node_resources.specs.Holds.{ResourceTable, Stands}
-use Rattle.node_resources.specs.declared.tally_ops.TallyLock.TheVariants.{Both, Owned, Absent}
-use Rattle.node_resources.specs.Tallies.{both_row, Locks}
 use Rattle.node_resources.proofs.HoldsLemmas.{found, holds_changed, id_absent, id_found}
 
 -- The changes that calls make, and those of the rows

@@ -1,29 +1,9 @@
 -- The ops on actions are steps of the machine.
-use Rattle.std.proofs.Common.{◌≡◌, ◌⊎◌, inl, inr, ℕ, Bool, true, false, not, List, Option, Some, None, Result, Ok, Err, refl, sym, ◌∙◌, ap, subst, arith}
-use Rattle.std.specs.Prelude.{◌&&◌}
-use Rattle.mtapi_values.specs.declared.kinds.Kind.{Kind}
-use Rattle.mtapi_values.specs.declared.masks.Mask.{Mask}
-use Rattle.mtapi_values.specs.declared.handles.ActionHandle.{ActionHandle}
-use Rattle.mtapi_values.specs.declared.statuses.MtapiStatus.{MtapiStatus}
+use Rattle.node_steps.proofs.Names.{◌≡◌, ◌⊎◌, inl, inr, ℕ, Bool, true, false, not, List, Option, Some, None, Result, Ok, Err, refl, sym, ◌∙◌, ap, subst, arith, ◌&&◌, Kind, Mask, ActionHandle, MtapiStatus, first, Slots, slot_value, IsFull, Inserts, changed, Listed, live_object, any_listed, issue, update, any-none, any-live, Action, new_action, action_create_refusals, has_job, has_enabled_job, with_enabled, Covers, job_of, Cover, NoAction, AllDisabled, Cores, Op, Reply, is_open, row, IsHonest, unchanged, Node, Lists, Holds, Live, Steps, state_of}
 use Rattle.mtapi_values.specs.declared.statuses.MtapiStatus.TheVariants as m
-use Rattle.mtapi_values.specs.Conditions.{first}
-use Rattle.handle_pool.specs.Slots.{Slots, slot_value, IsFull, Inserts, changed}
-use Rattle.handle_pool.specs.Issued.{Listed, live_object, any_listed, issue, update}
-use Rattle.handle_pool.proofs.AnswerLemmas.{any-none, any-live}
-use Rattle.mtapi_objects.specs.Actions.{Action, new_action, action_create_refusals, has_job, has_enabled_job, with_enabled}
-use Rattle.job_table.specs.Answers.{Creates, Covers, job_of}
-use Rattle.job_table.specs.declared.cover.Cover.{Cover}
-use Rattle.job_table.specs.declared.cover.Cover.TheVariants.{NoAction, AllDisabled, Cores}
-use Rattle.mtapi_machine.specs.declared.ops.Op.{Op}
+use Rattle.job_table.specs.Answers.{Creates}
 use Rattle.mtapi_machine.specs.declared.ops.Op.TheVariants as op
-use Rattle.mtapi_machine.specs.declared.replies.Reply.{Reply}
 use Rattle.mtapi_machine.specs.declared.replies.Reply.TheVariants as reply
-use Rattle.mtapi_machine.specs.State.{is_open}
-use Rattle.mtapi_machine.specs.Rows.{row}
-use Rattle.mtapi_machine.specs.Legal.{IsHonest}
-use Rattle.task_board.proofs.BoardLemmas.{unchanged}
-use Rattle.node_steps.specs.declared.node.Node.{Node}
-use Rattle.node_steps.specs.Stands.{Lists, Holds, Live, Steps, state_of}
 use Rattle.node_steps.proofs.Gives.{Gives, allows, gives_this, met, past, met_in, past_all, at_some, steps, stays}
 use Rattle.node_steps.proofs.Moves.{found, full_list, room_in, may_be, holds_insert, holds_changed}
 

@@ -1,12 +1,5 @@
 -- Changes of a list of issued objects that come to the same.
-use Rattle.std.proofs.Common.{◌≡◌, ℕ, Bool, true, false, not, cond, List, [], ◌∷◌, Some, refl, sym, ◌∙◌, ap}
-use Rattle.std.specs.Prelude.{◌==◌, ◌&&◌}
-use Rattle.mtapi_values.specs.declared.ends.TaskEnd.{TaskEnd}
-use Rattle.handle_pool.specs.Slots.{Slots, slot_value, with_value, without}
-use Rattle.handle_pool.specs.Issued.{Listed, live_of, lookup, live_object, change, with_fields, gone, update, retire}
-use Rattle.mtapi_objects.specs.Tasks.{Task, Ended, with_state, ended}
-use Rattle.task_core.specs.Table.{ended_in}
-use Rattle.node_steps.specs.Stands.{Holds}
+use Rattle.node_steps.proofs.Names.{◌≡◌, ℕ, Bool, true, false, not, cond, List, [], ◌∷◌, Some, refl, sym, ◌∙◌, ap, ◌==◌, ◌&&◌, TaskEnd, Slots, slot_value, with_value, without, Listed, live_of, lookup, live_object, change, with_fields, gone, update, retire, Task, Ended, with_state, ended, ended_in, Holds}
 use Rattle.node_steps.proofs.Moves.{found, holds_update, holds_change_and_remove}
 
 some_same : {A : Type 0} {a b : A} → Some a ≡ Some b → a ≡ b

@@ -1,28 +1,5 @@
 -- What a row gives: a reply that it allows, and the state after it. One word for each part of a row.
-use Rattle.std.proofs.Common.{◌≡◌, ℕ, ◌+◌, ◌≤◌, Bool, true, false, List, [], ◌∷◌, Option, Some, None, refl, sym, ◌∙◌, ap, subst, arith, cond}
-use Rattle.mtapi_values.specs.declared.statuses.MtapiStatus.{MtapiStatus}
-use Rattle.mtapi_values.specs.Conditions.{first}
-use Rattle.mtapi_values.specs.declared.handles.Layout.TheVariants.{One}
-use Rattle.mtapi_machine.specs.declared.ops.Op.{Op}
-use Rattle.mtapi_machine.specs.declared.replies.Reply.{Reply}
-use Rattle.mtapi_machine.specs.declared.replies.Reply.TheVariants.{Mtapi}
-use Rattle.mtapi_machine.specs.State.{State}
-use Rattle.mtapi_machine.specs.Moves.{Move, after_moves}
-use Rattle.mtapi_machine.specs.Row.{Row, unless, says, gives, only, Allows, after_row, mtapi_unless, live}
-use Rattle.mtapi_machine.specs.Rows.{row}
-use Rattle.mtapi_machine.specs.Legal.{IsHonest}
-use Rattle.handle_pool.specs.Slots.{Slots}
-use Rattle.mtapi_objects.specs.Actions.{Action}
-use Rattle.task_core.specs.Table.{TaskTable}
-use Rattle.mtapi_objects.specs.Queues.{Queue}
-use Rattle.queue_core.specs.Held.{HeldQueue, QueueTable}
-use Rattle.task_board.specs.Board.{BoardTable, Becomes, BecomesWith, records_of, group_slots}
-use Rattle.mtapi_objects.specs.Groups.{Group}
-use Rattle.group_core.specs.Members.{GroupTable}
-use Rattle.task_board.specs.Members.{without_members}
-use Rattle.task_board.specs.GroupMoves.{Regroups}
-use Rattle.node_steps.specs.declared.node.Node.{Node}
-use Rattle.node_steps.specs.Stands.{Lists, Pools, Live, Steps, state_of, terms_of}
+use Rattle.node_steps.proofs.Names.{◌≡◌, ℕ, ◌+◌, ◌≤◌, Bool, true, false, List, [], ◌∷◌, Option, Some, None, refl, sym, ◌∙◌, ap, subst, arith, cond, MtapiStatus, first, One, Op, Reply, Mtapi, State, Move, after_moves, Row, unless, says, gives, only, Allows, after_row, mtapi_unless, live, row, IsHonest, Slots, Action, TaskTable, Queue, HeldQueue, QueueTable, BoardTable, Becomes, BecomesWith, records_of, group_slots, Group, GroupTable, without_members, Regroups, Node, Lists, Pools, Live, Steps, state_of, terms_of}
 
 -- from the state s the row w gives the reply r and leads to t
 pub record Gives (s : State) (w : Row) (r : Reply) (t : State) : Type 0 where

@@ -1,30 +1,10 @@
 -- The members of a group in the machine's words, and moves of all of them.
-use Rattle.std.proofs.Common.{◌≡◌, ◌≢◌, ℕ, ◌<◌, Bool, true, false, cond, List, [], ◌∷◌, Option, Some, None, refl, sym, ◌∙◌, ap, subst, inl, inr, arith}
-use Rattle.std.specs.Prelude.{◌==◌, ◌&&◌, ◌||◌, nat_lt}
+use Rattle.node_steps.proofs.Names.{◌≡◌, ◌≢◌, ℕ, ◌<◌, Bool, true, false, cond, List, [], ◌∷◌, Option, Some, None, refl, sym, ◌∙◌, ap, subst, inl, inr, arith, ◌==◌, ◌&&◌, ◌||◌, nat_lt, eqb_tells, nat_tests, TaskEnd, holds, Slots, slot_value, with_value, without, NoneLive, Listed, live_of, lookup, live_object, any_live, any_listed, change, change_all, with_fields, gone, Distinct, any-none, any-live, has_handle, without_handle, Task, end_of, is_unended, with_notes, Ending, is_member, is_unended_member, insert, insert_ended, endings, freed, let_go, in_no_group, without_group, Members, no_members, RisesBy, AreKeyed, member_as, membership, members_in, end_in, BoardTable, IsBoard, is_ended_member, end_at, ending_of, endings_of, Each, frees, lets_go, has-self, or-right, unended-so, unended-member, ended-member, Holds}
 use Rattle.std.proofs.lemmas.Bool.{false≢true}
-use Rattle.std.proofs.lemmas.Bool.Decides.{eqb_tells, nat_tests}
-use Rattle.mtapi_values.specs.declared.ends.TaskEnd.{TaskEnd}
-use Rattle.mtapi_values.specs.Conditions.{holds}
-use Rattle.handle_pool.specs.Slots.{Slots, slot_value, with_value, without}
-use Rattle.handle_pool.specs.Walks.{NoneLive}
-use Rattle.handle_pool.specs.Issued.{Listed, live_of, lookup, live_object, any_live, any_listed, change, change_all, with_fields, gone}
-use Rattle.handle_pool.specs.Stands.{Distinct, Stands as SlotsStand}
-use Rattle.handle_pool.proofs.AnswerLemmas.{any-none, any-live}
-use Rattle.linked_places.specs.Lists.{has_handle, without_handle}
-use Rattle.mtapi_objects.specs.Tasks.{Task, end_of, is_unended, with_notes}
-use Rattle.mtapi_objects.specs.Groups.{Ending, is_member, is_unended_member, insert, insert_ended, endings, freed, let_go, in_no_group}
-use Rattle.task_core.specs.Answers.{without_group}
+use Rattle.handle_pool.specs.Stands.{Stands as SlotsStand}
 use Rattle.task_core.specs.Records.{number_in}
-use Rattle.group_core.specs.Members.{Members, no_members}
-use Rattle.task_board.specs.Keyed.{RisesBy, AreKeyed}
-use Rattle.task_board.specs.Members.{member_as, membership, members_in, end_in}
-use Rattle.task_board.specs.Board.{BoardTable, IsBoard}
-use Rattle.task_board.specs.GroupMoves.{is_ended_member, end_at, ending_of, endings_of, Each, frees, lets_go}
-use Rattle.task_board.proofs.MoveLemmas.{has-self, or-right}
 use Rattle.task_board.proofs.KeyedLemmas.{keyed-same, keyed-leave}
-use Rattle.task_board.proofs.PartLemmas.{unended-so, unended-member, ended-member}
 use Rattle.task_board.proofs.EachLemmas.{none-unended-left, none-left-in}
-use Rattle.node_steps.specs.Stands.{Holds}
 use Rattle.node_steps.proofs.Moves.{found, holds_update, holds_change_and_remove}
 use Rattle.node_steps.proofs.Changes.{change-as, retire-update}
 

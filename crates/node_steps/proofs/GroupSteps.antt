@@ -1,29 +1,11 @@
 -- The ops on groups are steps of the machine.
-use Rattle.std.proofs.Common.{◌≡◌, ℕ, ◌+◌, ◌<◌, Bool, true, not, cond, List, [], ◌∷◌, length, Option, Some, None, Result, Ok, Err, refl, sym, ◌∙◌, ap, subst, arith}
-use Rattle.std.specs.Option.{option_map}
-use Rattle.mtapi_values.specs.declared.ends.TaskEnd.{TaskEnd}
-use Rattle.mtapi_values.specs.declared.handles.GroupHandle.{GroupHandle}
-use Rattle.mtapi_values.specs.declared.statuses.MtapiStatus.{MtapiStatus}
+use Rattle.node_steps.proofs.Names.{◌≡◌, ℕ, ◌+◌, ◌<◌, Bool, true, not, cond, List, [], ◌∷◌, length, Option, Some, None, Result, Ok, Err, refl, sym, ◌∙◌, ap, subst, arith, option_map, TaskEnd, GroupHandle, MtapiStatus, Slots, slot_value, without, NoneLive, live_of, live_object, change_all, issue, update, retire, TaskState, end_of, with_notes, Group, Ending, new_group, is_member, endings, first_fault, freed, let_go, in_no_group, Members, no_members, counts_of, Reply, State, is_open, is_up, row, QueueTable, BoardTable, group_slots, records_of, IsBoard, without_members, is_ended_member, end_at, ending_of, endings_of, Regroups, NoneTaken, FreesAll, LetsAllGo, value-mapped, mapped-insert, mapped-without, IsFull-mapped, Node, Lists, Holds, Live, Steps, state_of}
 use Rattle.mtapi_values.specs.declared.statuses.MtapiStatus.TheVariants as m
-use Rattle.handle_pool.specs.Slots.{Slots, slot_value, without}
-use Rattle.handle_pool.specs.Walks.{NoneLive}
-use Rattle.handle_pool.specs.Issued.{live_of, live_object, change_all, issue, update, retire}
-use Rattle.mtapi_objects.specs.Tasks.{TaskState, end_of, with_notes}
-use Rattle.mtapi_objects.specs.Groups.{Group, Ending, new_group, is_member, endings, first_fault, freed, let_go, in_no_group}
-use Rattle.group_core.specs.Members.{Members, no_members, counts_of, Creates}
+use Rattle.group_core.specs.Members.{Creates}
 use Rattle.mtapi_machine.specs.declared.ops.Op.TheVariants as op
-use Rattle.mtapi_machine.specs.declared.replies.Reply.{Reply}
 use Rattle.mtapi_machine.specs.declared.replies.Reply.TheVariants as reply
-use Rattle.mtapi_machine.specs.State.{State, is_open, is_up}
-use Rattle.mtapi_machine.specs.Rows.{row}
 use Rattle.mtapi_machine.specs.GroupRows.{verdict, gives_end, gives_first}
-use Rattle.queue_core.specs.Held.{QueueTable}
-use Rattle.task_board.specs.Board.{BoardTable, group_slots, records_of, IsBoard}
-use Rattle.task_board.specs.Members.{without_members}
-use Rattle.task_board.specs.GroupMoves.{is_ended_member, end_at, ending_of, endings_of, Regroups, Takes, NoneTaken, FreesAll, LetsAllGo}
-use Rattle.task_board.proofs.MappedLemmas.{value-mapped, mapped-insert, mapped-without, IsFull-mapped}
-use Rattle.node_steps.specs.declared.node.Node.{Node}
-use Rattle.node_steps.specs.Stands.{Lists, Holds, Live, Steps, state_of}
+use Rattle.task_board.specs.GroupMoves.{Takes}
 use Rattle.node_steps.proofs.Gives.{Gives, allows, gives_this, says_this, met, past, at_some, at_none, then_row, else_row, steps, stays, lands, lands_to, regroups_to}
 use Rattle.node_steps.proofs.Moves.{found, full_list, room_in, may_be, holds_insert, holds_remove, holds_change_and_remove}
 use Rattle.node_steps.proofs.ActionSteps.{not_true}

@@ -1,30 +1,13 @@
 -- A new node stands for the empty list, and each step goes on with the list.
-use Rattle.std.proofs.Common.{◌≡◌, ℕ, ◌+◌, ◌<◌, ◌≤◌, false, List, [], ◌∷◌, ◌++◌, ◌^◌, length, length-append, refl, sym, ◌∙◌, ap, subst, arith, map, replicate}
-use Rattle.mtapi_values.specs.Attributes.{NodeSettings, AreNodeSettings}
-use Rattle.handle_pool.specs.Slots.{Slot, Slots, free_slot}
-use Rattle.mtapi_values.specs.Seats.{no_marks}
-use Rattle.queue_core.specs.Held.{HeldQueue}
-use Rattle.task_board.specs.Mapped.{mapped_slot}
-use Rattle.task_board.proofs.MappedLemmas.{mapped-new}
-use Rattle.task_board.specs.Board.{BoardTable, IsBoard, records_of, group_slots}
-use Rattle.node_steps.specs.Keeps.{Keeps}
+use Rattle.node_steps.proofs.Names.{◌≡◌, ℕ, ◌+◌, ◌<◌, ◌≤◌, false, List, [], ◌∷◌, ◌++◌, ◌^◌, length, length-append, refl, sym, ◌∙◌, ap, subst, arith, map, replicate, NodeSettings, AreNodeSettings, Slot, Slots, free_slot, no_marks, HeldQueue, mapped_slot, mapped-new, BoardTable, IsBoard, records_of, group_slots, Keeps, Op, Reply, New, State, opening, start_numbers, Sound, NodeEntry, IsNext, next, LegalFrom, Legal, after_from, after, ResourceTable, HoldsAll, Node, Lists, Holds, Pools, Live, Steps, state_of, terms_of, seat_count}
 use Rattle.node_steps.proofs.KeepLemmas.{keeps-board}
 use Rattle.history.specs.Histories.{entry}
-use Rattle.mtapi_machine.specs.declared.ops.Op.{Op}
-use Rattle.mtapi_machine.specs.declared.replies.Reply.{Reply}
 use Rattle.mtapi_machine.specs.declared.terms.Terms.{Terms}
-use Rattle.mtapi_machine.specs.declared.terms.Phase.TheVariants.{New}
-use Rattle.mtapi_machine.specs.State.{State, opening}
-use Rattle.mtapi_machine.specs.Laws.{start_numbers}
 use Rattle.mtapi_machine.proofs.Served.{served, after_served}
 use Rattle.mtapi_machine.proofs.StartOrder.{after_numbered, rises-front}
 use Rattle.history_law.proofs.tallies.Attends.{tallies_hold}
-use Rattle.node_steps.specs.Sound.{Sound}
-use Rattle.mtapi_machine.specs.Legal.{NodeEntry, IsNext, next, LegalFrom, Legal, after_from, after}
 use Rattle.mtapi_machine.proofs.Lists.{Legal-append, Legal-one, after-one}
-use Rattle.node_resources.specs.Holds.{ResourceTable, HoldsAll}
-use Rattle.node_steps.specs.declared.node.Node.{Node}
-use Rattle.node_steps.specs.Stands.{Lists, Holds, Pools, Live, Steps, Stands, state_of, terms_of, seat_count}
+use Rattle.node_steps.specs.Stands.{Stands}
 
 -- new queues have no records
 pub records_new : (p : Slots HeldQueue) (size : ℕ) → p.slots ≡ replicate size (free_slot 1) → (records_of p).slots ≡ replicate size (free_slot 1)

@@ -1,39 +1,13 @@
 -- What a board keeps is what the machine's state says.
-use Rattle.std.proofs.Common.{◌≡◌, ◌↔◌, ℕ, zero, suc, ◌+◌, ◌*◌, ◌^◌, ◌<◌, Bool, true, List, [], ◌∷◌, Option, Some, None, slice_get, refl, sym, ◌∙◌, ap, subst, arith}
-use Rattle.std.specs.Prelude.{◌&&◌, ◌==◌, is_none, map}
+use Rattle.node_steps.proofs.Names.{◌≡◌, ◌↔◌, ℕ, zero, suc, ◌+◌, ◌*◌, ◌^◌, ◌<◌, Bool, true, List, [], ◌∷◌, Option, Some, None, slice_get, refl, sym, ◌∙◌, ap, subst, arith, ◌&&◌, ◌==◌, is_none, map, holds, TaskHandle, TaskEnd, Slot, slot_of, slot_value, used_at, live_of, live_object, same_tests, list_at, has_handle, Task, TaskState, Scheduled, Running, Ended, end_of, is_unstarted, is_unended, runs_on, Ending, is_member, is_unended_member, endings, is_unended_in, HeldQueue, Members, RisesBy, Membership, member_as, membership, members_in, start_in, end_at, ending_of, endings_of, Seen, seen, seen_in, InOrder, begins_in, BoardTable, IsBoard, running_on, some_same, seen-as, unstarted-seen, seen-live, takes-from, takes-to, has-self, or-right, order-index, Member, member-from, ended-so, unended-so, can_take, Node, Lists, Live, state_of, ListsByStart, Keeps}
 use Rattle.std.proofs.lemmas.Option.{slice_get_within}
-use Rattle.mtapi_values.specs.Conditions.{holds}
-use Rattle.mtapi_values.specs.declared.handles.TaskHandle.{TaskHandle}
-use Rattle.mtapi_values.specs.declared.ends.TaskEnd.{TaskEnd}
-use Rattle.handle_pool.specs.Slots.{Slot, slot_of, slot_value, used_at}
-use Rattle.handle_pool.specs.Issued.{live_of, live_object}
-use Rattle.handle_pool.proofs.LiveLemmas.{same_tests}
 use Rattle.handle_pool.proofs.WalkLemmas.{used_at-live, live-used_at}
-use Rattle.linked_places.specs.Lists.{list_at, has_handle}
 use Rattle.linked_places.proofs.NextLemmas.{index-has}
 use Rattle.ready_index.specs.Marks.{mark_at, is_for_at}
-use Rattle.mtapi_objects.specs.Tasks.{Task, TaskState, Scheduled, Running, Ended, end_of, is_unstarted, is_unended, runs_on}
-use Rattle.mtapi_objects.specs.Groups.{Ending, is_member, is_unended_member, endings}
-use Rattle.mtapi_objects.specs.Queues.{is_unended_in}
 use Rattle.task_core.specs.Records.{number_in}
-use Rattle.queue_core.specs.Held.{HeldQueue}
-use Rattle.group_core.specs.Members.{Members}
-use Rattle.task_board.specs.Keyed.{RisesBy}
-use Rattle.task_board.specs.Members.{Membership, member_as, membership, members_in, start_in}
-use Rattle.task_board.specs.GroupMoves.{end_at, ending_of, endings_of}
-use Rattle.task_board.specs.Seen.{Seen, seen, seen_in}
-use Rattle.task_board.specs.Queued.{InOrder, begins_in}
-use Rattle.task_board.specs.Board.{BoardTable, IsBoard, running_on}
-use Rattle.task_board.proofs.SeenLemmas.{some_same, seen-as, unstarted-seen, seen-live, takes-from, takes-to}
 use Rattle.task_board.proofs.MarkLemmas.{same-number, number-same}
 use Rattle.task_board.proofs.RunningLemmas.{runs-seen, self}
-use Rattle.task_board.proofs.MoveLemmas.{has-self, or-right, order-index}
 use Rattle.task_board.proofs.MemberLemmas.{start-here, start-tells, end-tells}
-use Rattle.task_board.proofs.PartLemmas.{Member, member-from, ended-so, unended-so}
-use Rattle.mtapi_machine.specs.WorkRows.{can_take}
-use Rattle.node_steps.specs.declared.node.Node.{Node}
-use Rattle.node_steps.specs.Stands.{Lists, Live, state_of}
-use Rattle.node_steps.specs.Keeps.{ListsByStart, Keeps}
 use Rattle.node_steps.proofs.Moves.{found}
 use Rattle.node_steps.proofs.StartSteps.{and_true, and_left, and_right, false≢true}
 use Rattle.node_steps.proofs.PickSteps.{takes_if, takeable}

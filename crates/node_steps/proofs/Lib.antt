@@ -1,3 +1,4 @@
+mod Names
 pub mod Marks
 pub mod Gives
 pub mod Moves

@@ -1,14 +1,6 @@
 -- Many tasks of a list that end at once end as they would one after the other.
-use Rattle.std.proofs.Common.{◌≡◌, ℕ, ◌+◌, Bool, true, false, cond, List, [], ◌∷◌, Option, Some, None, refl, sym, ◌∙◌, ap, arith}
-use Rattle.std.specs.Prelude.{◌==◌, ◌&&◌, ◌||◌, if◌then◌else◌}
+use Rattle.node_steps.proofs.Names.{◌≡◌, ℕ, ◌+◌, Bool, true, false, cond, List, [], ◌∷◌, Option, Some, None, refl, sym, ◌∙◌, ap, arith, ◌==◌, ◌&&◌, ◌||◌, if◌then◌else◌, nat_tests, TaskEnd, holds, Listed, live_of, lookup, live_object, handles_of, count_listed, change, Distinct, has_handle, Task, is_unstarted, ended, end_each}
 use Rattle.std.proofs.lemmas.Bool.{false≢true}
-use Rattle.std.proofs.lemmas.Bool.Decides.{nat_tests}
-use Rattle.mtapi_values.specs.declared.ends.TaskEnd.{TaskEnd}
-use Rattle.mtapi_values.specs.Conditions.{holds}
-use Rattle.handle_pool.specs.Issued.{Listed, live_of, lookup, live_object, handles_of, count_listed, change}
-use Rattle.handle_pool.specs.Stands.{Distinct}
-use Rattle.linked_places.specs.Lists.{has_handle}
-use Rattle.mtapi_objects.specs.Tasks.{Task, is_unstarted, ended, end_each}
 
 some_same : {A : Type 0} {a b : A} → Some a ≡ Some b → a ≡ b
 some_same h = cc

@@ -1,10 +1,7 @@
 -- Each move of a pool is a move of the list that it stands for.
-use Rattle.std.proofs.Common.{◌≡◌, ℕ, List, Some, ◌∙◌}
-use Rattle.handle_pool.specs.Slots.{Slots, slot_value, with_value, without}
-use Rattle.handle_pool.specs.Issued.{Listed, update, retire}
+use Rattle.node_steps.proofs.Names.{◌≡◌, ℕ, List, Some, ◌∙◌, Slots, slot_value, with_value, without, Listed, update, retire, Holds}
 use Rattle.handle_pool.proofs.StandsLemmas.{Stands-update, Stands-change_and_remove}
 use Rattle.handle_pool.proofs.CountLemmas.{max_of-without, max_of-with_value}
-use Rattle.node_resources.specs.Holds.{Holds}
 pub use Rattle.node_resources.proofs.HoldsLemmas.{found, full_list, room_in, may_be, holds_new, holds_insert, holds_changed, holds_remove}
 
 module _ {T : Type 0} where

@@ -1,30 +1,9 @@
 -- The handle of a new object names a slot of its pool, so it is small.
-use Rattle.std.proofs.Common.{◌≡◌, ℕ, ◌+◌, ◌≤◌, Bool, true, false, cond, List, [], ◌∷◌, Option, Some, None, refl, sym, ◌∙◌, ap, subst, arith}
-use Rattle.std.proofs.lemmas.Bool.{eq-eqb}
-use Rattle.handle_pool.specs.Slots.{Slots}
-use Rattle.handle_pool.specs.Issued.{Listed, live_object, listed, issue}
+use Rattle.node_steps.proofs.Names.{◌≡◌, ℕ, ◌+◌, ◌≤◌, Bool, true, false, cond, List, [], ◌∷◌, Option, Some, None, refl, sym, ◌∙◌, ap, subst, arith, eq-eqb, Slots, Listed, live_object, listed, issue, Op, Reply, Handle, State, Objects, actions, tasks, groups, queues, mutexes, sems, rwls, segments, new_action, new_task, new_group, new_mutex, new_sem, new_rwl, new_segment, Move, Groups, Queues, Mutexes, Sems, Rwls, Segments, makes_action, starts_task, makes, is_fresh, apply, after_moves, asked_for, new_queue, Row, unless, gives, never, only, live, handle_of, Allows, after_row, row, HandleIsSmall, IssuesSmall, Node, Lists, Holds, Steps, state_of}
 use Rattle.handle_pool.proofs.ListedLemmas.{listed-issue}
-use Rattle.mtapi_machine.specs.declared.ops.Op.{Op}
 use Rattle.mtapi_machine.specs.declared.ops.Op.TheVariants as op
-use Rattle.mtapi_machine.specs.declared.replies.Reply.{Reply}
-use Rattle.mtapi_machine.specs.declared.replies.Reply.TheVariants.{Handle}
-use Rattle.mtapi_machine.specs.State.{State, Objects, actions, tasks, groups, queues, mutexes, sems, rwls, segments}
-use Rattle.mtapi_objects.specs.Actions.{new_action}
-use Rattle.mtapi_objects.specs.Tasks.{new_task}
-use Rattle.mtapi_objects.specs.Groups.{new_group}
-use Rattle.mtapi_objects.specs.Mutexes.{new_mutex}
-use Rattle.mtapi_objects.specs.Sems.{new_sem}
-use Rattle.mtapi_objects.specs.Rwls.{new_rwl}
-use Rattle.mtapi_objects.specs.Segments.{new_segment}
-use Rattle.mtapi_machine.specs.Moves.{Move, Groups, Queues, Mutexes, Sems, Rwls, Segments, makes_action, starts_task, makes, is_fresh, apply, after_moves}
-use Rattle.mtapi_machine.specs.TaskRows.{asked_for, asked_of}
-use Rattle.mtapi_machine.specs.QueueRows.{new_queue}
-use Rattle.mtapi_machine.specs.Row.{Row, unless, gives, never, only, live, handle_of, Allows, after_row}
-use Rattle.mtapi_machine.specs.Rows.{row}
+use Rattle.mtapi_machine.specs.TaskRows.{asked_of}
 use Rattle.mtapi_layouts.specs.Inward.{HasRoom}
-use Rattle.mtapi_layouts.specs.Ops.{HandleIsSmall, IssuesSmall}
-use Rattle.node_steps.specs.declared.node.Node.{Node}
-use Rattle.node_steps.specs.Stands.{Lists, Holds, Steps, state_of}
 
 -- P of the handle that the reply gives, if it gives one, and of the state then
 abbrev OfHandle : (ℕ → State → Type 0) → Reply → State → Type 0

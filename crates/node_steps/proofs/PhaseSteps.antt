@@ -1,20 +1,7 @@
 -- The ops on phases are steps of the machine.
-use Rattle.std.proofs.Common.{◌≡◌, ℕ, Bool, false, not, refl, sym, subst, arith}
-use Rattle.std.specs.Prelude.{◌&&◌}
-use Rattle.mtapi_values.specs.declared.ends.TaskEnd.TheVariants.{Cancelled}
-use Rattle.mtapi_values.specs.Conditions.{holds}
+use Rattle.node_steps.proofs.Names.{◌≡◌, ℕ, Bool, false, not, refl, sym, subst, arith, ◌&&◌, Cancelled, holds, Closing, is_past_open, end_tasks, Task, is_unstarted, end_each, is_shut_in, TaskTable, records_of, is_shut, EndsWaiting, Node, Lists, Live, Steps, state_of, Sound}
 use Rattle.mtapi_machine.specs.declared.ops.Op.TheVariants as op
 use Rattle.mtapi_machine.specs.declared.replies.Reply.TheVariants as reply
-use Rattle.mtapi_machine.specs.declared.terms.Phase.TheVariants.{Closing}
-use Rattle.mtapi_machine.specs.State.{is_past_open, end_tasks}
-use Rattle.mtapi_objects.specs.Tasks.{Task, is_unstarted, end_each}
-use Rattle.mtapi_objects.specs.Queues.{is_shut_in}
-use Rattle.task_core.specs.Table.{TaskTable}
-use Rattle.task_board.specs.Board.{records_of}
-use Rattle.task_board.specs.Ends.{is_shut, EndsWaiting}
-use Rattle.node_steps.specs.declared.node.Node.{Node}
-use Rattle.node_steps.specs.Stands.{Lists, Live, Steps, state_of}
-use Rattle.node_steps.specs.Sound.{Sound}
 use Rattle.node_steps.proofs.Gives.{past, steps}
 use Rattle.node_steps.proofs.WaitingEnds.{AtOnce, ends-at-once}
 

@@ -1,31 +1,10 @@
 -- A pick is a step of the machine.
-use Rattle.std.proofs.Common.{◌≡◌, ℕ, ◌<◌, Bool, true, false, not, cond, [], ◌∷◌, Option, Some, None, refl, sym, ◌∙◌, ap, subst, arith}
-use Rattle.std.specs.Prelude.{◌&&◌, not, nat_lt, is_none}
+use Rattle.node_steps.proofs.Names.{◌≡◌, ℕ, ◌<◌, Bool, true, false, not, cond, [], ◌∷◌, Option, Some, None, refl, sym, ◌∙◌, ap, subst, arith, ◌&&◌, nat_lt, is_none, nat_tests, in_mask, slot_value, changed, SomeLive, NoneLive, any_listed, update, any-none, any-live, any-some, Action, has_enabled_job, is_eligible, Passes, Task, TaskState, Scheduled, Running, Ended, scheduled, end_of, is_unstarted, is_unended, runs_on, with_state, Reply, State, workers, is_new, is_stop, Row, says, gives, is_ready, can_take, has_better, picks, Kind, Node, Choice, Lists, Live, Steps, state_of, begins_in, IsBoard, RunsBy, Takeable, NoneTakeable, NoneBetter, IsChoice, IsBest}
 use Rattle.std.specs.Bool.{OnTrue, OnFalse}
 use Rattle.std.proofs.lemmas.Bool.{false≢true}
-use Rattle.std.proofs.lemmas.Bool.Decides.{nat_tests}
-use Rattle.mtapi_values.specs.Masks.{in_mask}
-use Rattle.handle_pool.specs.Slots.{slot_value, changed}
-use Rattle.handle_pool.specs.Walks.{SomeLive, NoneLive}
-use Rattle.handle_pool.specs.Issued.{any_listed, update}
-use Rattle.handle_pool.proofs.AnswerLemmas.{any-none, any-live, any-some}
-use Rattle.mtapi_objects.specs.Actions.{Action, has_enabled_job, is_eligible}
-use Rattle.job_table.specs.Answers.{Passes}
-use Rattle.mtapi_objects.specs.Tasks.{Task, TaskState, Scheduled, Running, Ended, scheduled, end_of, is_unstarted, is_unended, runs_on, with_state}
 use Rattle.mtapi_machine.specs.declared.ops.Op.TheVariants as op
-use Rattle.mtapi_machine.specs.declared.replies.Reply.{Reply}
 use Rattle.mtapi_machine.specs.declared.replies.Reply.TheVariants as reply
-use Rattle.mtapi_machine.specs.State.{State, workers, is_new, is_stop}
-use Rattle.mtapi_machine.specs.Row.{Row, says, gives}
 use Rattle.mtapi_machine.specs.Moves.{runs_task as runs_task}
-use Rattle.mtapi_machine.specs.WorkRows.{is_ready, can_take, has_better, picks}
-use Rattle.mtapi_values.specs.declared.kinds.Kind.{Kind}
-use Rattle.node_steps.specs.declared.node.Node.{Node}
-use Rattle.task_board.specs.declared.board.Choice.{Choice}
-use Rattle.node_steps.specs.Stands.{Lists, Live, Steps, state_of}
-use Rattle.task_board.specs.Queued.{begins_in}
-use Rattle.task_board.specs.Board.{IsBoard}
-use Rattle.task_board.specs.Picks.{RunsBy, Takeable, NoneTakeable, NoneBetter, IsChoice, IsBest}
 use Rattle.node_steps.specs.Picks.{Takes}
 use Rattle.node_steps.proofs.Gives.{Gives, gives_this, says_this, past, allows, at_some, stays, lands}
 use Rattle.node_steps.proofs.Moves.{found, holds_changed}

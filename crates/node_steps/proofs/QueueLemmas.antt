@@ -1,26 +1,6 @@
 -- The queues of a board as the machine's list says them.
-use Rattle.std.proofs.Common.{◌≡◌, ℕ, ◌+◌, ◌<◌, Bool, true, false, not, cond, List, [], ◌∷◌, length, Option, Some, None, refl, sym, ◌∙◌, ap, subst, arith}
-use Rattle.std.specs.Prelude.{◌&&◌, ◌||◌, ◌==◌, nat_lt, is_none}
-use Rattle.std.specs.Option.{option_map}
-use Rattle.std.proofs.lemmas.Bool.Decides.{nat_tests}
-use Rattle.mtapi_values.specs.Conditions.{holds}
-use Rattle.handle_pool.specs.Slots.{Slots, slot_value}
-use Rattle.handle_pool.specs.Issued.{Listed, live_of, lookup, live_object, count_listed, how_many, any_live}
-use Rattle.handle_pool.specs.Stands.{Distinct}
-use Rattle.handle_pool.proofs.AnswerLemmas.{any-none, any-live}
-use Rattle.handle_pool.proofs.LiveLemmas.{same_tests, pairs_without, lookup-without, Distinct-without, how_many-without, passing}
-use Rattle.linked_places.specs.Lists.{has_handle}
-use Rattle.mtapi_objects.specs.Tasks.{Task, TaskState, Scheduled, Running, Ended, end_of, is_unended}
-use Rattle.mtapi_objects.specs.Queues.{Queue, is_in, is_unended_in, is_head, lets}
-use Rattle.queue_core.specs.Held.{HeldQueue}
+use Rattle.node_steps.proofs.Names.{◌≡◌, ℕ, ◌+◌, ◌<◌, Bool, true, false, not, cond, List, [], ◌∷◌, length, Option, Some, None, refl, sym, ◌∙◌, ap, subst, arith, ◌&&◌, ◌||◌, ◌==◌, nat_lt, is_none, option_map, nat_tests, holds, Slots, slot_value, Listed, live_of, lookup, live_object, count_listed, how_many, any_live, Distinct, any-none, any-live, same_tests, pairs_without, lookup-without, Distinct-without, how_many-without, passing, has_handle, Task, TaskState, Scheduled, Running, Ended, end_of, is_unended, Queue, is_in, is_unended_in, is_head, lets, HeldQueue, Seen, seen_as, seen, seen_in, InOrder, begins_in, IsBoard, records_of, some_same, seen-as, seen-live, value-mapped, Node, Lists, Live}
 use Rattle.queue_ready.specs.Ready.{is_first, may_begin}
-use Rattle.task_board.specs.Seen.{Seen, seen_as, seen, seen_in}
-use Rattle.task_board.specs.Queued.{InOrder, begins_in}
-use Rattle.task_board.specs.Board.{IsBoard, records_of}
-use Rattle.task_board.proofs.SeenLemmas.{some_same, seen-as, seen-live}
-use Rattle.task_board.proofs.MappedLemmas.{value-mapped}
-use Rattle.node_steps.specs.declared.node.Node.{Node}
-use Rattle.node_steps.specs.Stands.{Lists, Live}
 use Rattle.node_steps.proofs.StartSteps.{and_true, and_left, and_right, false≢true}
 
 none_some : {A : Type 0} {P : Type 0} {a : A} → None ≡ Some a → P

@@ -1,48 +1,14 @@
 -- The ops on queues are steps of the machine.
-use Rattle.std.proofs.Common.{◌≡◌, ℕ, ◌+◌, ◌<◌, ◌≤◌, Bool, true, false, not, cond, List, [], ◌∷◌, ◌++◌, Option, Some, None, Result, Ok, Err, refl, sym, ◌∙◌, ap, subst, arith}
-use Rattle.std.specs.Prelude.{◌&&◌, ◌||◌, ◌==◌, nat_lt, nat_le, ℤ}
-use Rattle.std.specs.Option.{option_map}
-use Rattle.std.proofs.lemmas.Bool.Decides.{nat_tests}
-use Rattle.mtapi_values.specs.declared.ends.TaskEnd.{TaskEnd}
-use Rattle.mtapi_values.specs.declared.ends.TaskEnd.TheVariants.{Cancelled, Failed}
-use Rattle.mtapi_values.specs.declared.masks.Mask.{Mask}
-use Rattle.mtapi_values.specs.declared.handles.GroupHandle.{GroupHandle}
-use Rattle.mtapi_values.specs.declared.handles.QueueHandle.{QueueHandle}
-use Rattle.mtapi_values.specs.declared.handles.TaskHandle.{TaskHandle}
-use Rattle.mtapi_values.specs.declared.statuses.MtapiStatus.{MtapiStatus}
+use Rattle.node_steps.proofs.Names.{◌≡◌, ℕ, ◌+◌, ◌<◌, ◌≤◌, Bool, true, false, not, cond, List, [], ◌∷◌, ◌++◌, Option, Some, None, Result, Ok, Err, refl, sym, ◌∙◌, ap, subst, arith, ◌&&◌, ◌||◌, ◌==◌, nat_lt, nat_le, ℤ, option_map, nat_tests, TaskEnd, Cancelled, Mask, GroupHandle, QueueHandle, TaskHandle, MtapiStatus, first, Slots, slot_value, IsFull, Inserts, without, changed, SomeLive, NoneLive, Listed, live_of, any_listed, count_listed, first_handle, issue, update, retire, any-none, any-live, first_live-only, first_live-absent, has_job, Task, NewTask, new_task, is_unstarted, end_each, Queue, opened, is_in, is_unended_in, put_refusals, TaskTable, HeldQueue, QueueTable, held, HasId, Finds, live_reply, facts_of, with_opened, QueueFacts, BoardTable, IsBoard, Becomes, BecomesWith, records_of, GroupTable, without_members, EndsWaiting, mapped-insert, mapped-without, mapped-changed, IsFull-mapped, Op, Reply, State, is_open, is_up, end_tasks, Move, Queues, alters, ends_waiting, gives, row, new_queue, start_refusals, is_detached_member, IsHonest, Node, Lists, Holds, Live, Steps, state_of, Sound}
+use Rattle.mtapi_values.specs.declared.ends.TaskEnd.TheVariants.{Failed}
 use Rattle.mtapi_values.specs.declared.statuses.MtapiStatus.TheVariants as m
-use Rattle.mtapi_values.specs.Conditions.{first}
-use Rattle.handle_pool.specs.Slots.{Slots, slot_value, IsFull, Inserts, without, changed}
-use Rattle.handle_pool.specs.Walks.{SomeLive, NoneLive}
-use Rattle.handle_pool.specs.Issued.{Listed, live_of, any_listed, count_listed, first_handle, issue, update, retire}
-use Rattle.handle_pool.proofs.AnswerLemmas.{any-none, any-live, first_live-only, first_live-absent}
-use Rattle.mtapi_objects.specs.Actions.{has_job}
-use Rattle.mtapi_objects.specs.Tasks.{Task, NewTask, new_task, is_unstarted, end_each}
-use Rattle.mtapi_objects.specs.Queues.{Queue, opened, is_in, is_unended_in, put_refusals}
-use Rattle.task_core.specs.Table.{TaskTable, Adds}
-use Rattle.queue_core.specs.Held.{HeldQueue, QueueTable, held, HasId, Creates as CreatesQueue, Finds, live_reply, facts_of, with_opened}
-use Rattle.queue_core.specs.declared.facts.QueueFacts.{QueueFacts}
-use Rattle.task_board.specs.Board.{BoardTable, IsBoard, Becomes, BecomesWith, records_of}
-use Rattle.group_core.specs.Members.{GroupTable}
-use Rattle.task_board.specs.Members.{without_members}
-use Rattle.task_board.specs.Ends.{EndsWaiting}
-use Rattle.task_board.proofs.MappedLemmas.{mapped-insert, mapped-without, mapped-changed, IsFull-mapped}
+use Rattle.task_core.specs.Table.{Adds}
+use Rattle.queue_core.specs.Held.{Creates as CreatesQueue}
 use Rattle.task_board.proofs.GivenLemmas.{dead-queue}
-use Rattle.mtapi_machine.specs.declared.ops.Op.{Op}
 use Rattle.mtapi_machine.specs.declared.ops.Op.TheVariants as op
-use Rattle.mtapi_machine.specs.declared.replies.Reply.{Reply}
 use Rattle.mtapi_machine.specs.declared.replies.Reply.TheVariants as reply
-use Rattle.mtapi_machine.specs.State.{State, is_open, is_up, end_tasks}
-use Rattle.mtapi_machine.specs.Moves.{Move, Queues, alters, ends_waiting}
-use Rattle.mtapi_machine.specs.Row.{gives}
-use Rattle.mtapi_machine.specs.Rows.{row}
-use Rattle.mtapi_machine.specs.QueueRows.{new_queue}
 use Rattle.mtapi_machine.specs.KeyedRows.{found as found_row}
-use Rattle.mtapi_machine.specs.TaskRows.{asked_of, start_refusals, is_detached_member}
-use Rattle.mtapi_machine.specs.Legal.{IsHonest}
-use Rattle.node_steps.specs.declared.node.Node.{Node}
-use Rattle.node_steps.specs.Stands.{Lists, Holds, Live, Steps, state_of}
-use Rattle.node_steps.specs.Sound.{Sound}
+use Rattle.mtapi_machine.specs.TaskRows.{asked_of}
 use Rattle.node_steps.proofs.Gives.{Gives, gives_this, says_this, allows, met, past, met_in, past_all, at_some, at_none, steps, stays, lands_to}
 use Rattle.node_steps.proofs.Moves.{found, full_list, room_in, may_be, holds_insert, holds_changed, holds_remove}
 use Rattle.node_steps.proofs.ActionSteps.{not_true}

@@ -1,49 +1,16 @@
 -- Why an op that makes an object is refused before it is asked whether there is room, by the conditions of its row.
-use Rattle.std.proofs.Common.{◌≡◌, ℕ, Bool, true, false, not, cond, List, [], ◌∷◌, ◌++◌, Option, Some, None, refl, sym, ◌∙◌, ap, subst}
-use Rattle.std.specs.Prelude.{◌&&◌, ◌||◌, ◌==◌, nat_lt, nat_le, ℤ, IsNone}
-use Rattle.std.specs.Option.{option_map, IfSome}
-use Rattle.mtapi_values.specs.Conditions.{first}
-use Rattle.mtapi_values.specs.declared.handles.GroupHandle.{GroupHandle}
+use Rattle.node_steps.proofs.Names.{◌≡◌, ℕ, Bool, true, false, not, cond, List, [], ◌∷◌, ◌++◌, Option, Some, None, refl, sym, ◌∙◌, ap, subst, ◌&&◌, ◌||◌, ◌==◌, nat_lt, nat_le, ℤ, IsNone, option_map, IfSome, first, GroupHandle, QueueHandle, Kind, Mask, MtapiStatus, slot_value, SomeLive, NoneLive, any_listed, live_object, count_listed, any-none, any-live, new_action, has_job, action_create_refusals, new_group, Queue, is_unended_in, put_refusals, new_mutex, new_sem, new_rwl, new_segment, Op, Reply, State, is_open, actions, tasks, groups, queues, mutexes, sems, rwls, segments, Move, Groups, Queues, Mutexes, Sems, Rwls, Segments, makes_action, starts_task, makes, Row, says, live, creates, mtapi_unless, Allows, row, new_queue, asked_for, start_refusals, is_detached_member, IsHonest, makes_or_not, refusal_in, refusal_of, CanAnswer, HeldQueue, HasId, facts_of, QueueFacts, IsBoard, records_of, Node, Lists, Live, Steps, state_of}
 use Rattle.mtapi_values.specs.declared.handles.ObjectKind.{ObjectKind}
-use Rattle.mtapi_values.specs.declared.handles.QueueHandle.{QueueHandle}
-use Rattle.mtapi_values.specs.declared.kinds.Kind.{Kind}
-use Rattle.mtapi_values.specs.declared.masks.Mask.{Mask}
-use Rattle.mtapi_values.specs.declared.statuses.MtapiStatus.{MtapiStatus}
 use Rattle.mtapi_values.specs.declared.statuses.MtapiStatus.TheVariants as m
 use Rattle.mtapi_values.specs.declared.statuses.MrapiStatus.{MrapiStatus}
-use Rattle.handle_pool.specs.Slots.{slot_value}
-use Rattle.handle_pool.specs.Walks.{SomeLive, NoneLive}
-use Rattle.handle_pool.specs.Issued.{any_listed, live_object, count_listed}
-use Rattle.handle_pool.proofs.AnswerLemmas.{any-none, any-live}
-use Rattle.mtapi_objects.specs.Actions.{new_action, has_job, action_create_refusals}
-use Rattle.mtapi_objects.specs.Groups.{new_group}
-use Rattle.mtapi_objects.specs.Queues.{Queue, is_unended_in, put_refusals}
-use Rattle.mtapi_objects.specs.Mutexes.{new_mutex}
-use Rattle.mtapi_objects.specs.Sems.{new_sem}
-use Rattle.mtapi_objects.specs.Rwls.{new_rwl}
-use Rattle.mtapi_objects.specs.Segments.{new_segment}
-use Rattle.mtapi_machine.specs.declared.ops.Op.{Op}
 use Rattle.mtapi_machine.specs.declared.ops.Op.TheVariants as op
-use Rattle.mtapi_machine.specs.declared.replies.Reply.{Reply}
 use Rattle.mtapi_machine.specs.declared.replies.Reply.TheVariants as reply
-use Rattle.mtapi_machine.specs.State.{State, is_open, actions, tasks, groups, queues, mutexes, sems, rwls, segments}
-use Rattle.mtapi_machine.specs.Moves.{Move, Groups, Queues, Mutexes, Sems, Rwls, Segments, makes_action, starts_task, makes}
-use Rattle.mtapi_machine.specs.Row.{Row, says, live, creates, mtapi_unless, Allows}
-use Rattle.mtapi_machine.specs.Rows.{row}
 use Rattle.mtapi_machine.specs.KeyedRows.{mrapi_unless}
-use Rattle.mtapi_machine.specs.QueueRows.{new_queue}
-use Rattle.mtapi_machine.specs.TaskRows.{asked_for, asked_of, start_refusals, is_detached_member}
-use Rattle.mtapi_machine.specs.Legal.{IsHonest}
+use Rattle.mtapi_machine.specs.TaskRows.{asked_of}
 use Rattle.mtapi_renaming.specs.Kinds.{made_kind}
-use Rattle.mtapi_renaming.specs.Refusals.{makes_or_not, refusal_in, refusal_of, CanAnswer}
 use Rattle.mtapi_renaming.proofs.Refusals.{creates_none, refusals_stay}
 use Rattle.mtapi_renaming.proofs.Tells.{refusals_tell}
-use Rattle.queue_core.specs.Held.{HeldQueue, HasId, facts_of}
-use Rattle.queue_core.specs.declared.facts.QueueFacts.{QueueFacts}
 use Rattle.node_resources.specs.Refusals.{mutex_refusals, sem_refusals, rwl_refusals, shmem_refusals}
-use Rattle.task_board.specs.Board.{IsBoard, records_of}
-use Rattle.node_steps.specs.declared.node.Node.{Node}
-use Rattle.node_steps.specs.Stands.{Lists, Live, Steps, state_of}
 use Rattle.node_steps.specs.Refusals.{open_refusals, task_refusals, queue_causes, queue_refusals, MayPut}
 use Rattle.node_steps.proofs.Gives.{stays}
 use Rattle.node_steps.proofs.Moves.{found}

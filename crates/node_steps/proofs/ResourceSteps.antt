@@ -1,20 +1,9 @@
 -- The ops on resources are steps of the machine.
-use Rattle.std.proofs.Common.{◌≡◌, ℕ, true, refl, sym, ap, subst, arith}
-use Rattle.mtapi_values.specs.Attributes.{NodeSettings}
-use Rattle.mtapi_machine.specs.declared.ops.Op.{Op}
+use Rattle.node_steps.proofs.Names.{◌≡◌, ℕ, true, refl, sym, ap, subst, arith, NodeSettings, Op, Reply, State, after_row, row, IsHonest, renamed_op, ResourceTable, HoldsAll, resource_lists, Does, IsAt, is_resource_op, Node, Lists, Live, Steps, state_of}
 use Rattle.mtapi_machine.specs.declared.ops.Op.TheVariants as op
-use Rattle.mtapi_machine.specs.declared.replies.Reply.{Reply}
-use Rattle.mtapi_machine.specs.State.{State}
-use Rattle.mtapi_machine.specs.Row.{after_row}
-use Rattle.mtapi_machine.specs.Rows.{row}
-use Rattle.mtapi_machine.specs.Legal.{IsHonest}
 use Rattle.mtapi_renaming.specs.Renaming.{Renaming}
-use Rattle.mtapi_renaming.specs.Ops.{renamed_op}
 use Rattle.node_resources.specs.declared.gate.Gate.{Gate}
-use Rattle.node_resources.specs.Holds.{ResourceTable, HoldsAll, resource_lists}
-use Rattle.node_resources.specs.Steps.{Does, IsAt, Steps as ResourceSteps, is_resource_op}
-use Rattle.node_steps.specs.declared.node.Node.{Node}
-use Rattle.node_steps.specs.Stands.{Lists, Live, Steps, state_of}
+use Rattle.node_resources.specs.Steps.{Steps as ResourceSteps}
 
 -- a seat tells nothing with such an op that it could not know
 honest : (o : Op) → is_resource_op o ≡ true → IsHonest o

@@ -1,13 +1,6 @@
 -- An op of which each handle stands for itself.
-use Rattle.std.proofs.Common.{◌≡◌, ℕ, refl, subst}
-use Rattle.std.specs.Prelude.{Some, None}
-use Rattle.mtapi_machine.specs.declared.ops.Op.{Op}
+use Rattle.node_steps.proofs.Names.{◌≡◌, ℕ, refl, subst, Some, None, Op, Reply, renamed_op, Node, Lists, Live, Steps, state_of, Sound}
 use Rattle.mtapi_machine.specs.declared.ops.Op.TheVariants as op
-use Rattle.mtapi_machine.specs.declared.replies.Reply.{Reply}
-use Rattle.mtapi_renaming.specs.Ops.{renamed_op}
-use Rattle.node_steps.specs.declared.node.Node.{Node}
-use Rattle.node_steps.specs.Stands.{Lists, Live, Steps, state_of}
-use Rattle.node_steps.specs.Sound.{Sound}
 
 same : (o : Op) → renamed_op (λ kind handle. handle) o ≡ o
 same (op.TaskStart job args priority cores detached None) = refl

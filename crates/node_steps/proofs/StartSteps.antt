@@ -1,28 +1,6 @@
 -- Why a new task is refused, from what the actions of its job cover.
-use Rattle.std.proofs.Common.{◌≡◌, ℕ, zero, suc, ◌<◌, Bool, true, false, not, cond, List, [], ◌∷◌, Option, Some, None, refl, sym, ◌∙◌, arith, ap}
-use Rattle.std.specs.Prelude.{◌&&◌, nat_lt, is_none, ℤ, ◌||◌, IsSome}
-use Rattle.std.specs.Option.{option_map}
-use Rattle.std.proofs.lemmas.Bool.Decides.{nat_tests}
-use Rattle.mtapi_values.specs.declared.masks.Mask.{Mask}
-use Rattle.mtapi_values.specs.declared.handles.GroupHandle.{GroupHandle}
-use Rattle.mtapi_values.specs.declared.statuses.MtapiStatus.{MtapiStatus}
+use Rattle.node_steps.proofs.Names.{◌≡◌, ℕ, zero, suc, ◌<◌, Bool, true, false, not, cond, List, [], ◌∷◌, Option, Some, None, refl, sym, ◌∙◌, arith, ap, ◌&&◌, nat_lt, is_none, ℤ, ◌||◌, IsSome, option_map, nat_tests, Mask, GroupHandle, MtapiStatus, first, holds, in_mask, Slots, slot_value, Listed, live_of, live_object, any_listed, any_live, any-none, any-live, Action, has_enabled_job, is_eligible, some_below, has_worker, Covers, IsUnion, runs_job_on, Cover, NoAction, AllDisabled, Cores, new_group, Members, names_dead, MayJoin, value-mapped, asked_for, start_refusals, number_of, is_detached_member, Node, Lists, Holds, Live, state_of}
 use Rattle.mtapi_values.specs.declared.statuses.MtapiStatus.TheVariants as m
-use Rattle.mtapi_values.specs.Conditions.{first, holds}
-use Rattle.mtapi_values.specs.Masks.{in_mask}
-use Rattle.handle_pool.specs.Slots.{Slots, slot_value}
-use Rattle.handle_pool.specs.Issued.{Listed, live_of, live_object, any_listed, any_live}
-use Rattle.handle_pool.proofs.AnswerLemmas.{any-none, any-live}
-use Rattle.mtapi_objects.specs.Actions.{Action, has_enabled_job, is_eligible, some_below, has_worker}
-use Rattle.job_table.specs.Answers.{Covers, IsUnion, runs_job_on}
-use Rattle.job_table.specs.declared.cover.Cover.{Cover}
-use Rattle.job_table.specs.declared.cover.Cover.TheVariants.{NoAction, AllDisabled, Cores}
-use Rattle.mtapi_objects.specs.Groups.{new_group}
-use Rattle.group_core.specs.Members.{Members}
-use Rattle.task_board.specs.Members.{names_dead, MayJoin}
-use Rattle.task_board.proofs.MappedLemmas.{value-mapped}
-use Rattle.mtapi_machine.specs.TaskRows.{asked_for, start_refusals, number_of, is_detached_member}
-use Rattle.node_steps.specs.declared.node.Node.{Node}
-use Rattle.node_steps.specs.Stands.{Lists, Holds, Live, state_of}
 use Rattle.node_steps.proofs.ActionSteps.{covers_none, covers_some, enabled_none, enabled_some}
 
 pub false≢true : {P : Type 0} → false ≡ true → P

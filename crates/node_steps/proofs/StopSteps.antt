@@ -1,15 +1,5 @@
 -- Whether a task hasn't ended, by their number.
-use Rattle.std.proofs.Common.{◌≡◌, ℕ, ◌+◌, Bool, true, false, not, cond, List, [], ◌∷◌, refl, sym, ◌∙◌, ap, arith}
-use Rattle.std.specs.Prelude.{◌&&◌, ◌==◌}
-use Rattle.std.proofs.lemmas.Bool.Decides.{nat_tests}
-use Rattle.handle_pool.specs.Issued.{Listed, live_of, any_listed, any_live, count_listed}
-use Rattle.handle_pool.proofs.AnswerLemmas.{count-slots}
-use Rattle.mtapi_objects.specs.Tasks.{is_unended}
-use Rattle.task_core.specs.Table.{unended_count}
-use Rattle.mtapi_machine.specs.State.{is_past_open}
-use Rattle.mtapi_machine.specs.State.{is_stop}
-use Rattle.node_steps.specs.declared.node.Node.{Node}
-use Rattle.node_steps.specs.Stands.{Lists, Live, state_of}
+use Rattle.node_steps.proofs.Names.{◌≡◌, ℕ, ◌+◌, Bool, true, false, not, cond, List, [], ◌∷◌, refl, sym, ◌∙◌, ap, arith, ◌&&◌, ◌==◌, nat_tests, Listed, live_of, any_listed, any_live, count_listed, count-slots, is_unended, unended_count, is_past_open, is_stop, Node, Lists, Live, state_of}
 
 -- some object passes exactly where they are more than none
 any-count : {T : Type 0} (q : T → Bool) (l : List (Listed T)) → any_listed q l ≡ not (count_listed q l == 0)

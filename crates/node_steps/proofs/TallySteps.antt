@@ -1,52 +1,25 @@
 -- The ops of tallies are steps of the machine.
-use Rattle.std.proofs.Common.{◌≡◌, inl, inr, ℕ, ◌+◌, ◌≤◌, Bool, true, false, not, cond, List, [], ◌∷◌, Option, Some, None, refl, sym, ◌∙◌, ap, subst, arith, length}
-use Rattle.std.specs.Prelude.{◌&&◌, ◌||◌, ◌==◌, nat_lt, ℤ, ◌+ℤ◌, ◌-ℤ◌}
-use Rattle.std.specs.Ordering.{int_eq}
-use Rattle.std.specs.Option.{option_map}
-use Rattle.std.proofs.lemmas.Bool.Decides.{nat_tests, Decides-int_eq}
+use Rattle.node_steps.proofs.Names.{◌≡◌, inl, inr, ℕ, ◌+◌, ◌≤◌, Bool, true, false, not, cond, List, [], ◌∷◌, Option, Some, None, refl, sym, ◌∙◌, ap, subst, arith, length, ◌&&◌, ◌||◌, ◌==◌, nat_lt, ℤ, ◌+ℤ◌, ◌-ℤ◌, int_eq, option_map, nat_tests, Decides-int_eq, holds, TaskHandle, MtapiStatus, TaskEnd, Completed, fits, fitting, Slots, slot_value, changed, live_object, update, change, Task, TaskState, Scheduled, Running, runner, TallyNotes, no_tally, is_unended, runs_as, kind_number, ended, with_notes, with_tally, tally_args, cell_in, added, tally_failed, tally_has, tally_read, tally_written, Mutex, locked_by, unlocked, Segment, cell_of, with_attached, with_cell, adds_of, notes_of, tallied, IsLiveAnd, Begun, Locked, Read, Written, BoardTable, Becomes, Op, Reply, State, Mutexes, Segments, alters, notes, ends_task, after_moves, Row, never, gives, says, unless, live, row, IsHonest, ResourceTable, HoldsAll, resource_lists, Node, Lists, Holds, Live, Steps, state_of, Sound, RunsTally, NoTally, GivesBack}
 use Rattle.std.proofs.Math.IntN.{+ℤ-neg_ℤ_cancel, -ℤ-+ℤ_cancel}
-use Rattle.mtapi_values.specs.Conditions.{holds}
 use Rattle.mtapi_values.specs.declared.kinds.Kind.TheVariants as kinds
-use Rattle.mtapi_values.specs.declared.handles.TaskHandle.{TaskHandle}
 use Rattle.mtapi_values.specs.declared.handles.MutexHandle.{MutexHandle}
 use Rattle.mtapi_values.specs.declared.handles.ShmemHandle.{ShmemHandle}
-use Rattle.mtapi_values.specs.declared.statuses.MtapiStatus.{MtapiStatus}
 use Rattle.mtapi_values.specs.declared.statuses.MtapiStatus.TheVariants as m
-use Rattle.mtapi_values.specs.declared.ends.TaskEnd.{TaskEnd}
-use Rattle.mtapi_values.specs.declared.ends.TaskEnd.TheVariants.{Completed, Failed as EndFailed}
-use Rattle.action_fn.specs.Answers.{fits, fitting}
-use Rattle.handle_pool.specs.Slots.{Slots, slot_value, changed}
-use Rattle.handle_pool.specs.Issued.{live_object, update, change}
-use Rattle.mtapi_objects.specs.Tasks.{Task, TaskState, Scheduled, Running, Ended as EndedState, runner, TallyNotes, no_tally, is_unended, runs_as, kind_number, ended, with_notes, with_tally, Adds, tally_args, cell_in, number_in, added, tally_failed, tally_has, tally_read, tally_written}
-use Rattle.mtapi_objects.specs.Mutexes.{Mutex, locked_by, unlocked}
-use Rattle.mtapi_objects.specs.Segments.{Segment, cell_of, with_attached, with_cell}
-use Rattle.task_core.specs.Tallies.{adds_of, notes_of, tallied}
-use Rattle.task_core.specs.Table.{IsLiveAnd}
+use Rattle.mtapi_values.specs.declared.ends.TaskEnd.TheVariants.{Failed as EndFailed}
+use Rattle.mtapi_objects.specs.Tasks.{Ended as EndedState, Adds, number_in}
 use Rattle.task_core.specs.declared.tallies.TallyArgs.{TallyArgs}
 use Rattle.task_core.specs.declared.tallies.TallyState.{TallyState}
-use Rattle.task_core.specs.declared.tallies.TallyState.TheVariants.{Begun, Locked, Read, Written, Failed}
-use Rattle.task_board.specs.Board.{BoardTable, Becomes}
-use Rattle.mtapi_machine.specs.declared.ops.Op.{Op}
+use Rattle.task_core.specs.declared.tallies.TallyState.TheVariants.{Failed}
 use Rattle.mtapi_machine.specs.declared.ops.Op.TheVariants as op
-use Rattle.mtapi_machine.specs.declared.replies.Reply.{Reply}
 use Rattle.mtapi_machine.specs.declared.replies.Reply.TheVariants as reply
-use Rattle.mtapi_machine.specs.State.{State}
-use Rattle.mtapi_machine.specs.Moves.{Mutexes, Segments, alters, notes, ends_task, after_moves}
-use Rattle.mtapi_machine.specs.Row.{Row, never, gives, says, unless, live}
-use Rattle.mtapi_machine.specs.Rows.{row}
 use Rattle.mtapi_machine.specs.TallyRows.{on_tally, locks}
-use Rattle.mtapi_machine.specs.Legal.{IsHonest}
 use Rattle.mtapi_machine.proofs.Made.{fst_true}
 use Rattle.history_law.specs.TallyHolds.{got_both, IsOwned, IsAttached, HoldsBoth}
-use Rattle.node_resources.specs.Holds.{ResourceTable, HoldsAll, resource_lists, Stands}
+use Rattle.node_resources.specs.Holds.{Stands}
 use Rattle.node_resources.specs.Tallies.{after_lock, Locks}
 use Rattle.node_resources.specs.declared.tally_ops.TallyLock.TheVariants.{Both, Owned, Absent}
 use Rattle.node_resources.proofs.TallyLemmas.{changed_as}
-use Rattle.node_steps.specs.declared.node.Node.{Node}
 use Rattle.node_steps.specs.declared.tally_ops.RunningTally.{RunningTally}
-use Rattle.node_steps.specs.Stands.{Lists, Holds, Live, Steps, state_of}
-use Rattle.node_steps.specs.Sound.{Sound}
-use Rattle.node_steps.specs.Tallies.{RunsTally, NoTally, GivesBack}
 use Rattle.node_steps.proofs.Gives.{Gives, gives_this, met, past, at_some, at_none, then_row, else_row, steps, stays, lands_to}
 use Rattle.node_steps.proofs.Moves.{found, holds_changed}
 use Rattle.node_steps.proofs.Changes.{holds_ended}

@@ -1,36 +1,14 @@
 -- The ops on tasks are steps of the machine.
-use Rattle.std.proofs.Common.{◌≡◌, ℕ, ◌+◌, ◌≤◌, Bool, true, false, not, cond, List, Option, Some, None, Result, Ok, Err, refl, sym, ◌∙◌, ap, subst, arith}
-use Rattle.std.specs.Prelude.{◌||◌, nat_lt, is_some, is_none, ℤ}
-use Rattle.std.specs.Option.{option_map}
-use Rattle.mtapi_values.specs.declared.kinds.Kind.{Kind}
-use Rattle.mtapi_values.specs.declared.masks.Mask.{Mask}
-use Rattle.mtapi_values.specs.declared.handles.TaskHandle.{TaskHandle}
-use Rattle.mtapi_values.specs.declared.handles.GroupHandle.{GroupHandle}
-use Rattle.mtapi_values.specs.declared.statuses.MtapiStatus.{MtapiStatus}
+use Rattle.node_steps.proofs.Names.{◌≡◌, ℕ, ◌+◌, ◌≤◌, Bool, true, false, not, cond, List, Option, Some, None, Result, Ok, Err, refl, sym, ◌∙◌, ap, subst, arith, ◌||◌, nat_lt, is_some, is_none, ℤ, option_map, Kind, Mask, TaskHandle, GroupHandle, MtapiStatus, TaskEnd, Cancelled, first, Slots, slot_value, IsFull, Inserts, with_value, without, changed, Listed, change, issue, update, retire, Task, TaskState, Scheduled, Running, Ended, NewTask, new_task, end_of, ended, with_notes, cancel_requested, with_waiter, task_look_refusals, look_reply, look_at_end, look_unless, waiter_after, TaskTable, ended_in, looked_in, Op, Reply, State, is_open, is_up, row, asked_for, start_refusals, is_detached_member, looks_at, cancels, IsHonest, Node, Lists, Holds, Live, Steps, state_of}
 use Rattle.mtapi_values.specs.declared.statuses.MtapiStatus.TheVariants as m
-use Rattle.mtapi_values.specs.declared.ends.TaskEnd.{TaskEnd}
-use Rattle.mtapi_values.specs.declared.ends.TaskEnd.TheVariants.{Cancelled}
-use Rattle.mtapi_values.specs.Conditions.{first}
-use Rattle.handle_pool.specs.Slots.{Slots, slot_value, IsFull, Inserts, with_value, without, changed}
-use Rattle.handle_pool.specs.Issued.{Listed, change, issue, update, retire}
-use Rattle.mtapi_objects.specs.Tasks.{Task, TaskState, Scheduled, Running, Ended, NewTask, new_task, end_of, ended, with_notes, cancel_requested, with_waiter, task_look_refusals}
 use Rattle.task_core.specs.Records.{shown_state}
-use Rattle.task_core.specs.Answers.{look_reply, look_at_end, look_unless, waiter_after}
-use Rattle.task_core.specs.Table.{TaskTable, Adds, ended_in, looked_in}
+use Rattle.task_core.specs.Table.{Adds}
 use Rattle.task_core.specs.declared.states.TaskLook.{TaskLook}
 use Rattle.task_core.specs.declared.states.TaskLook.TheVariants as look
 use Rattle.task_core.specs.declared.states.TaskState.{TaskState as ShownState}
 use Rattle.task_core.specs.declared.states.TaskState.TheVariants as shown
-use Rattle.mtapi_machine.specs.declared.ops.Op.{Op}
 use Rattle.mtapi_machine.specs.declared.ops.Op.TheVariants as op
-use Rattle.mtapi_machine.specs.declared.replies.Reply.{Reply}
 use Rattle.mtapi_machine.specs.declared.replies.Reply.TheVariants as reply
-use Rattle.mtapi_machine.specs.State.{State, is_open, is_up}
-use Rattle.mtapi_machine.specs.Rows.{row}
-use Rattle.mtapi_machine.specs.TaskRows.{asked_for, start_refusals, is_detached_member, looks_at, cancels}
-use Rattle.mtapi_machine.specs.Legal.{IsHonest}
-use Rattle.node_steps.specs.declared.node.Node.{Node}
-use Rattle.node_steps.specs.Stands.{Lists, Holds, Live, Steps, state_of}
 use Rattle.node_steps.proofs.Gives.{Gives, gives_this, allows, met, past, met_in, past_all, at_some, at_none, steps, stays}
 use Rattle.node_steps.proofs.Moves.{found, full_list, room_in, may_be, holds_insert, holds_changed, holds_update, holds_remove}
 use Rattle.node_steps.proofs.Changes.{holds_ended}

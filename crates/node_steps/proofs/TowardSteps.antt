@@ -1,26 +1,9 @@
 -- A worker that wants one task and one action takes these wherever it may.
-use Rattle.std.proofs.Common.{◌≡◌, ℕ, ◌<◌, Bool, true, false, not, cond, List, [], ◌∷◌, Option, Some, None, refl, sym, ◌∙◌, ap, subst, arith}
-use Rattle.std.specs.Prelude.{◌&&◌, nat_lt, ℤ}
-use Rattle.mtapi_values.specs.declared.handles.ActionHandle.{ActionHandle}
-use Rattle.mtapi_values.specs.declared.handles.TaskHandle.{TaskHandle}
-use Rattle.mtapi_values.specs.declared.kinds.Kind.{Kind}
+use Rattle.node_steps.proofs.Names.{◌≡◌, ℕ, ◌<◌, Bool, true, false, not, cond, List, [], ◌∷◌, Option, Some, None, refl, sym, ◌∙◌, ap, subst, arith, ◌&&◌, nat_lt, ℤ, ActionHandle, TaskHandle, Kind, slot_value, live_object, any_listed, Action, is_eligible, Task, runs_on, Reply, State, workers, is_new, is_stop, actions, stops, Row, unless, gives, never, only, live, chosen, Allows, is_ready, has_better, picks, IsBoard, Choice, NoneBetter, IsChoice, IsBest, Node, MayPick, IsToward, Lists, Live, state_of}
 use Rattle.mtapi_values.specs.declared.statuses.MtapiStatus.TheVariants as m
-use Rattle.handle_pool.specs.Slots.{slot_value}
-use Rattle.handle_pool.specs.Issued.{live_object, any_listed}
-use Rattle.mtapi_objects.specs.Actions.{Action, is_eligible}
-use Rattle.mtapi_objects.specs.Tasks.{Task, runs_on}
-use Rattle.mtapi_machine.specs.declared.replies.Reply.{Reply}
 use Rattle.mtapi_machine.specs.declared.replies.Reply.TheVariants as reply
-use Rattle.mtapi_machine.specs.State.{State, workers, is_new, is_stop, actions}
-use Rattle.mtapi_machine.specs.Moves.{stops, runs_task as begins_task}
-use Rattle.mtapi_machine.specs.Row.{Row, unless, gives, never, only, live, chosen, Allows}
-use Rattle.mtapi_machine.specs.WorkRows.{is_ready, has_better, picks}
-use Rattle.task_board.specs.Board.{IsBoard}
-use Rattle.task_board.specs.declared.board.Choice.{Choice}
-use Rattle.task_board.specs.Picks.{NoneBetter, IsChoice, IsBest}
-use Rattle.node_steps.specs.declared.node.Node.{Node}
-use Rattle.node_steps.specs.Picks.{Takes, MayPick, IsToward}
-use Rattle.node_steps.specs.Stands.{Lists, Live, state_of}
+use Rattle.mtapi_machine.specs.Moves.{runs_task as begins_task}
+use Rattle.node_steps.specs.Picks.{Takes}
 use Rattle.node_steps.proofs.PickSteps.{better_if, choice_if}
 use Rattle.node_steps.proofs.StartSteps.{and_left, and_right}
 

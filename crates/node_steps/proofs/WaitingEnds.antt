@@ -1,21 +1,6 @@
 -- The waiting tasks that pass end in the pool as they end at once in the list.
-use Rattle.std.proofs.Common.{◌≡◌, ℕ, ◌+◌, ◌<◌, Bool, true, false, cond, List, [], ◌∷◌, Option, Some, None, refl, sym, ◌∙◌, ap, subst, arith}
-use Rattle.std.specs.Prelude.{◌==◌}
-use Rattle.mtapi_values.specs.declared.ends.TaskEnd.{TaskEnd}
-use Rattle.mtapi_values.specs.Conditions.{holds}
-use Rattle.handle_pool.specs.Slots.{Slots, slot_value}
-use Rattle.handle_pool.specs.Issued.{Listed, live_of, lookup, live_object, handles_of, count_listed, change}
-use Rattle.handle_pool.specs.Stands.{Distinct}
-use Rattle.mtapi_objects.specs.Tasks.{Task, is_unstarted, ended, end_each}
-use Rattle.task_core.specs.Table.{TaskTable, ended_in}
-use Rattle.task_board.specs.Seen.{Seen, seen, seen_in}
-use Rattle.task_board.specs.Queued.{InOrder}
-use Rattle.task_board.specs.Board.{AreWaiting}
-use Rattle.task_board.specs.Ends.{ended_if, ended_each, EndsWaiting}
-use Rattle.task_board.proofs.SeenLemmas.{some_same, seen-as, seen-live, unstarted-seen}
+use Rattle.node_steps.proofs.Names.{◌≡◌, ℕ, ◌+◌, ◌<◌, Bool, true, false, cond, List, [], ◌∷◌, Option, Some, None, refl, sym, ◌∙◌, ap, subst, arith, ◌==◌, TaskEnd, holds, Slots, slot_value, Listed, live_of, lookup, live_object, handles_of, count_listed, change, Distinct, Task, is_unstarted, ended, end_each, TaskTable, ended_in, Seen, seen, seen_in, InOrder, AreWaiting, ended_if, ended_each, EndsWaiting, some_same, seen-as, seen-live, unstarted-seen, start_numbers, AreAbove, Rises, Holds}
 use Rattle.task_board.proofs.OrderLemmas.{waiting-once}
-use Rattle.mtapi_machine.specs.Laws.{start_numbers, AreAbove, Rises}
-use Rattle.node_steps.specs.Stands.{Holds}
 use Rattle.node_steps.proofs.Changes.{holds_ended}
 use Rattle.node_steps.proofs.ListedEnds.{passes-listed, listed-passes, step_listed, each_listed, both_pass, at-once}
 

@@ -1,37 +1,10 @@
 -- An action that goes ends the tasks that no worker can take any more.
-use Rattle.std.proofs.Common.{◌≡◌, ℕ, ◌+◌, Bool, true, false, not, cond, List, [], ◌∷◌, Some, None, Ok, refl, sym, ◌∙◌, ap, subst, arith}
-use Rattle.std.specs.Prelude.{◌==◌, ◌&&◌}
-use Rattle.mtapi_values.specs.declared.ends.TaskEnd.{TaskEnd}
+use Rattle.node_steps.proofs.Names.{◌≡◌, ℕ, ◌+◌, Bool, true, false, not, cond, List, [], ◌∷◌, Some, None, Ok, refl, sym, ◌∙◌, ap, subst, arith, ◌==◌, ◌&&◌, TaskEnd, ActionHandle, Mask, NodeSettings, MtapiStatus, in_mask, Slots, slot_value, without, changed, Listed, live_of, lookup, live_object, any_listed, count_listed, change, with_fields, gone, Distinct, any-live, any-some, same_tests, Action, with_enabled, is_eligible, has_worker, some_below, Task, is_unstarted, ended, end_each, job_of, IsUnion, TaskTable, BoardTable, Becomes, is_unserved, AreServed, EndsUnserved, job-found, Op, State, is_open, withdraws, apply, row, IsHonest, Node, Lists, Holds, Live, Steps, state_of, Sound}
 use Rattle.mtapi_values.specs.declared.ends.TaskEnd.TheVariants.{Failed}
-use Rattle.mtapi_values.specs.declared.handles.ActionHandle.{ActionHandle}
-use Rattle.mtapi_values.specs.declared.masks.Mask.{Mask}
-use Rattle.mtapi_values.specs.Attributes.{NodeSettings}
-use Rattle.mtapi_values.specs.declared.statuses.MtapiStatus.{MtapiStatus}
 use Rattle.mtapi_values.specs.declared.statuses.MtapiStatus.TheVariants as m
-use Rattle.mtapi_values.specs.Masks.{in_mask}
-use Rattle.handle_pool.specs.Slots.{Slots, slot_value, without, changed}
-use Rattle.handle_pool.specs.Issued.{Listed, live_of, lookup, live_object, any_listed, count_listed, change, with_fields, gone}
-use Rattle.handle_pool.specs.Stands.{Distinct}
-use Rattle.handle_pool.proofs.AnswerLemmas.{any-live, any-some}
-use Rattle.handle_pool.proofs.LiveLemmas.{same_tests}
-use Rattle.mtapi_objects.specs.Actions.{Action, with_enabled, is_eligible, has_worker, some_below}
-use Rattle.mtapi_objects.specs.Tasks.{Task, is_unstarted, ended, end_each}
-use Rattle.job_table.specs.Answers.{job_of, IsUnion}
-use Rattle.task_core.specs.Table.{TaskTable}
-use Rattle.task_board.specs.Board.{BoardTable, Becomes}
-use Rattle.task_board.specs.Ends.{is_unserved, AreServed, EndsUnserved}
 use Rattle.task_board.proofs.RemarkLemmas.{SameBut, same-changed, same-without}
-use Rattle.task_board.proofs.BoardLemmas.{job-found}
-use Rattle.mtapi_machine.specs.declared.ops.Op.{Op}
 use Rattle.mtapi_machine.specs.declared.ops.Op.TheVariants as op
 use Rattle.mtapi_machine.specs.declared.replies.Reply.TheVariants as reply
-use Rattle.mtapi_machine.specs.State.{State, is_open}
-use Rattle.mtapi_machine.specs.Moves.{withdraws, apply}
-use Rattle.mtapi_machine.specs.Rows.{row}
-use Rattle.mtapi_machine.specs.Legal.{IsHonest}
-use Rattle.node_steps.specs.declared.node.Node.{Node}
-use Rattle.node_steps.specs.Stands.{Lists, Holds, Live, Steps, state_of}
-use Rattle.node_steps.specs.Sound.{Sound}
 use Rattle.node_steps.proofs.Gives.{Gives, gives_this, past, at_some, steps}
 use Rattle.node_steps.proofs.Moves.{found, holds_changed, holds_remove}
 use Rattle.node_steps.proofs.ActionSteps.{not_true}

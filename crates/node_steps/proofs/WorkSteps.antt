@@ -1,29 +1,11 @@
 -- The ops of workers are steps of the machine.
-use Rattle.std.proofs.Common.{◌≡◌, ℕ, ◌<◌, Bool, true, false, not, cond, List, Option, Some, None, Result, Ok, Err, refl, sym, ◌∙◌, ap, subst, arith}
-use Rattle.std.specs.Prelude.{◌&&◌, nat_lt, is_none}
-use Rattle.std.specs.Ordering.{int_eq}
+use Rattle.node_steps.proofs.Names.{◌≡◌, ℕ, ◌<◌, Bool, true, false, not, cond, List, Option, Some, None, Result, Ok, Err, refl, sym, ◌∙◌, ap, subst, arith, ◌&&◌, nat_lt, is_none, int_eq, nat_tests, TaskHandle, MtapiStatus, TaskEnd, first, Answered, IsAnswered, slot_value, with_value, put, changed, Listed, update, Task, with_notes, runs_as, finish_refusals, asked_refusals, asked_once, watch_end_refusals, watch_end, after_asked, watch_end_of, unless_refused, TaskTable, Op, Reply, task_end, option_map, Node, Lists, Holds, Live, Steps}
 use Rattle.std.specs.Cmp.Lexicographic.{pointwise}
-use Rattle.std.proofs.lemmas.Bool.Decides.{nat_tests}
-use Rattle.mtapi_values.specs.declared.handles.TaskHandle.{TaskHandle}
-use Rattle.mtapi_values.specs.declared.statuses.MtapiStatus.{MtapiStatus}
 use Rattle.mtapi_values.specs.declared.statuses.MtapiStatus.TheVariants as m
-use Rattle.mtapi_values.specs.declared.ends.TaskEnd.{TaskEnd}
-use Rattle.mtapi_values.specs.Conditions.{first}
-use Rattle.action_fn.specs.Answers.{Answered, IsAnswered}
-use Rattle.handle_pool.specs.Slots.{slot_value, with_value, put, changed}
-use Rattle.handle_pool.specs.Issued.{Listed, update}
-use Rattle.mtapi_objects.specs.Tasks.{Task, with_notes, runs_as, finish_refusals, asked_refusals, asked_once, watch_end_refusals, watch_end}
-use Rattle.task_core.specs.Answers.{asked_of, after_asked, watch_end_of, unless_refused}
-use Rattle.task_core.specs.Table.{TaskTable}
-use Rattle.mtapi_machine.specs.declared.ops.Op.{Op}
+use Rattle.task_core.specs.Answers.{asked_of}
 use Rattle.mtapi_machine.specs.declared.ops.Op.TheVariants as op
-use Rattle.mtapi_machine.specs.declared.replies.Reply.{Reply}
 use Rattle.mtapi_machine.specs.declared.replies.Reply.TheVariants as reply
-use Rattle.mtapi_machine.specs.WorkRows.{task_end}
-use Rattle.std.specs.Option.{option_map}
 use Rattle.mtapi_machine.proofs.Changes.{update-same}
-use Rattle.node_steps.specs.declared.node.Node.{Node}
-use Rattle.node_steps.specs.Stands.{Lists, Holds, Live, Steps}
 use Rattle.node_steps.proofs.Gives.{gives_this, past, met_in, past_all, at_some, at_none, stays}
 use Rattle.node_steps.proofs.Moves.{found, holds_changed}
 use Rattle.node_steps.proofs.TaskSteps.{task_steps, with_pool, reported, ended_tasks, end_steps}

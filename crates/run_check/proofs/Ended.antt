@@ -1,16 +1,9 @@
 -- Whether main has closed, and nobody else has an entry behind that, one entry on.
-use Rattle.std.proofs.Common.{◌≡◌, ℕ, ◌+◌, ◌-◌, ◌<◌, ◌≤◌, Bool, true, false, cond, List, [], ◌∷◌, ◌++◌, ◌⊎◌, inl, inr, append_assoc, refl, sym, ◌∙◌, ap, subst, length, get_or, take, arith}
-use Rattle.std.specs.Prelude.{◌==◌, ◌↔◌, IsTrue}
-use Rattle.std.proofs.lemmas.Grind.{take_at_read}
-use Rattle.std.proofs.Math.Seq.{take-length}
-use Rattle.std.proofs.lemmas.Bool.Decides.{Decides-eqb}
+use Rattle.run_check.proofs.Names.{◌≡◌, ℕ, ◌+◌, ◌-◌, ◌<◌, ◌≤◌, Bool, true, false, cond, List, [], ◌∷◌, ◌++◌, ◌⊎◌, inl, inr, append_assoc, refl, sym, ◌∙◌, ap, subst, length, get_or, take, arith, ◌==◌, ◌↔◌, IsTrue, take_at_read, take-length, Decides-eqb, NodeEntry, ClosesAtEnd, StaysClosed, Closes}
 use Rattle.history.specs.Histories.{entry, entries_of}
 use Rattle.mtapi_machine.specs.declared.ops.Op.TheVariants as ops
 use Rattle.mtapi_machine.specs.declared.replies.Reply.TheVariants as replies
-use Rattle.mtapi_machine.specs.Legal.{NodeEntry}
-use Rattle.workload_runs.specs.RunOf.{ClosesAtEnd}
 use Rattle.std.proofs.lemmas.Bool.{false_from_ne_true, cases_lt}
-use Rattle.run_check.specs.Ends.{StaysClosed, Closes}
 
 module _ {E : Type 0} where
   no_middle : (l r : List E) (c : E) → [] ≡ l ++ c ∷ r → ⊥

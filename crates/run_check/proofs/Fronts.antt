@@ -1,18 +1,10 @@
 -- Which calls the front of a list of lines is made by.
-use Rattle.std.proofs.Common.{◌≡◌, ℕ, suc, ◌+◌, ◌-◌, ◌≤◌, Bool, true, false, List, [], ◌∷◌, ◌++◌, Option, Some, None, arith, refl, sym, ◌∙◌, ap, subst, length, take, drop, get_or}
-use Rattle.std.proofs.Math.Seq.{take-length}
+use Rattle.run_check.proofs.Names.{◌≡◌, ℕ, suc, ◌+◌, ◌-◌, ◌≤◌, Bool, true, false, List, [], ◌∷◌, ◌++◌, Option, None, arith, refl, sym, ◌∙◌, ap, subst, length, take, drop, get_or, take-length, Op, Reply, is_pending, Wanted, Task, Entrance, AllMembers, FirstMember, Mutex, Sem, Rwl, Looking, op_of, waits, IsTimed, Line, line, before_it, looks_before, Takes, DecidesAs}
+use Rattle.std.proofs.Common.{Some}
 use Rattle.mtapi_values.specs.declared.timeouts.Timeout.{Timeout}
-use Rattle.mtapi_machine.specs.declared.ops.Op.{Op}
 use Rattle.mtapi_machine.specs.declared.ops.Op.TheVariants.{TaskLook, AllLook, AnyLook, MutexLook, SemLook, RwlLook}
-use Rattle.mtapi_machine.specs.declared.replies.Reply.{Reply}
 use Rattle.mtapi_machine.specs.declared.replies.Reply.TheVariants as reply
-use Rattle.mtapi_machine.specs.Kept.{is_pending}
-use Rattle.workload_runs.specs.declared.calls.Wanted.{Wanted}
-use Rattle.workload_runs.specs.declared.calls.Wanted.TheVariants.{Task, Entrance, AllMembers, FirstMember, Mutex, Sem, Rwl}
-use Rattle.workload_runs.specs.Calls.{Looking}
-use Rattle.workload_runs.specs.Wants.{op_of, waits, IsTimed}
-use Rattle.workload_runs.specs.Lines.{Line, line, before_it, looks_before}
-use Rattle.run_check.specs.Takes.{Takes, DecidesAs, Decides}
+use Rattle.run_check.specs.Takes.{Decides}
 
 -- whether a look is the last one
 abbrev pub last_in : Op → Bool

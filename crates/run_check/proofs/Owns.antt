@@ -1,10 +1,5 @@
 -- The lines of a seat, one more entry on.
-use Rattle.std.proofs.Common.{◌≡◌, ℕ, ◌+◌, ◌<◌, Bool, true, false, cond, List, [], ◌∷◌, ◌++◌, refl, sym, ◌∙◌, ap, length, get_or, take, arith}
-use Rattle.std.specs.Prelude.{◌==◌}
-use Rattle.std.proofs.lemmas.List.{length-take-le}
-use Rattle.std.proofs.lemmas.Grind.{take_at_read}
-use Rattle.mtapi_machine.specs.Legal.{NodeEntry}
-use Rattle.workload_runs.specs.Lines.{Line, line, lines_of}
+use Rattle.run_check.proofs.Names.{◌≡◌, ℕ, ◌+◌, ◌<◌, Bool, true, false, cond, List, [], ◌∷◌, ◌++◌, refl, sym, ◌∙◌, ap, length, get_or, take, arith, ◌==◌, length-take-le, take_at_read, NodeEntry, Line, line, lines_of}
 
 pub own_none : (who : ℕ) → [] ≡ lines_of who [] []
 unfolding lines_of

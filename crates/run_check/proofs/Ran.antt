@@ -1,18 +1,8 @@
 -- The lines of a part, from what its statements leave behind.
-use Rattle.std.proofs.Common.{◌≡◌, ℕ, ◌+◌, ◌<◌, ◌≤◌, Bool, true, false, List, [], ◌∷◌, ◌++◌, refl, sym, ◌∙◌, ap, subst, length, get_or, drop, Option, Some, None, arith, append_assoc, length-drop}
-use Rattle.std.specs.Prelude.{◌&&◌, ◌==◌, ◌↔◌, IsTrue, IfSome, IfNone}
-use Rattle.std.proofs.lemmas.List.{append-nil, nil_from_length, drop_more}
-use Rattle.std.proofs.lemmas.Bool.Decides.{Decides-eqb}
-use Rattle.workload_file.specs.declared.workload.Statement.{Statement}
-use Rattle.mtapi_machine.specs.declared.replies.Reply.{Reply}
+use Rattle.run_check.proofs.Names.{◌≡◌, ℕ, ◌+◌, ◌<◌, ◌≤◌, Bool, true, false, List, [], ◌∷◌, ◌++◌, refl, sym, ◌∙◌, ap, subst, length, get_or, drop, Option, None, arith, append_assoc, length-drop, ◌&&◌, ◌==◌, ◌↔◌, IsTrue, IfSome, IfNone, append-nil, nil_from_length, drop_more, Decides-eqb, Statement, Reply, handle_of, call_of, Carried, MainRan, CallerRan, has_begin, Line, line, Made, head_of, tail_of_main, in_lines, is_work, all_work, CarriedTo}
+use Rattle.std.proofs.Common.{Some}
 use Rattle.mtapi_machine.specs.declared.replies.Reply.TheVariants as replies
 use Rattle.mtapi_machine.specs.declared.ops.Op.TheVariants as ops
-use Rattle.mtapi_machine.specs.Row.{handle_of}
-use Rattle.workload_runs.specs.Calls.{call_of}
-use Rattle.workload_runs.specs.Parts.{Carried, MainRan, CallerRan, has_begin}
-use Rattle.workload_runs.specs.Lines.{Line, line, Made, head_of, tail_of_main, in_lines}
-use Rattle.workload_runs.specs.RunOf.{is_work, all_work}
-use Rattle.run_check.specs.Takes.{CarriedTo}
 use Rattle.run_check.specs.Starts.{Enters}
 use Rattle.run_check.proofs.Same.{takes_same}
 

@@ -1,12 +1,5 @@
 -- The statements of a part, as far as they were followed.
-use Rattle.std.proofs.Common.{◌≡◌, ℕ, ◌+◌, ◌<◌, ◌≤◌, List, [], ◌∷◌, ◌++◌, refl, sym, ◌∙◌, ap, subst, length, get_or, drop, arith, length-drop}
-use Rattle.std.proofs.lemmas.List.{drop_more, nil_from_length}
-use Rattle.workload_file.specs.declared.workload.Statement.{Statement}
-use Rattle.mtapi_machine.specs.declared.replies.Reply.{Reply}
-use Rattle.mtapi_machine.specs.Row.{handle_of}
-use Rattle.workload_runs.specs.Calls.{call_of}
-use Rattle.workload_runs.specs.Lines.{Line}
-use Rattle.run_check.specs.Takes.{Takes, CarriedTo}
+use Rattle.run_check.proofs.Names.{◌≡◌, ℕ, ◌+◌, ◌<◌, ◌≤◌, List, [], ◌∷◌, ◌++◌, refl, sym, ◌∙◌, ap, subst, length, get_or, drop, arith, length-drop, drop_more, nil_from_length, Statement, Reply, handle_of, call_of, Line, Takes, CarriedTo}
 use Rattle.run_check.proofs.Same.{takes_same}
 
 -- what is left behind all statements is what is left behind those that are to come

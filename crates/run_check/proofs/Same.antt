@@ -1,12 +1,7 @@
 -- A call takes the same front of the lines, and comes to the same reply, however it is read.
-use Rattle.std.proofs.Common.{◌≡◌, ℕ, Bool, true, false, List, [], ◌∷◌, ◌++◌, Option, Some, None, sym, ◌∙◌, ap}
-use Rattle.mtapi_machine.specs.declared.ops.Op.{Op}
-use Rattle.mtapi_machine.specs.declared.replies.Reply.{Reply}
+use Rattle.run_check.proofs.Names.{◌≡◌, ℕ, Bool, true, false, List, [], ◌∷◌, ◌++◌, Option, None, sym, ◌∙◌, ap, Op, Reply, is_pending, Call, Once, Looking, Line, line, before_it, Takes}
+use Rattle.std.proofs.Common.{Some}
 use Rattle.mtapi_machine.specs.declared.replies.Reply.TheVariants as reply
-use Rattle.mtapi_machine.specs.Kept.{is_pending}
-use Rattle.workload_runs.specs.Calls.{Call, Once, Looking}
-use Rattle.workload_runs.specs.Lines.{Line, line, before_it}
-use Rattle.run_check.specs.Takes.{Takes}
 
 -- the same is left, and the reply is the same
 abbrev pub Agree : List Line → Reply → List Line → Reply → Type 0

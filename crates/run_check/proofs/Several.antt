@@ -1,10 +1,5 @@
 -- Several parts, one after another.
-use Rattle.std.proofs.Common.{◌≡◌, ℕ, suc, ◌+◌, Bool, List, [], ◌∷◌, sym, ◌∙◌, subst, arith}
-use Rattle.std.specs.Prelude.{◌↔◌, IsTrue}
-use Rattle.workload_file.specs.declared.workload.Part.{Part}
-use Rattle.mtapi_machine.specs.declared.replies.Reply.{Reply}
-use Rattle.workload_runs.specs.Parts.{CallerRan, CallersRan, MainRan, PartsRan}
-use Rattle.workload_runs.specs.Lines.{Line, in_lines}
+use Rattle.run_check.proofs.Names.{◌≡◌, ℕ, suc, ◌+◌, Bool, List, [], ◌∷◌, sym, ◌∙◌, subst, arith, ◌↔◌, IsTrue, Part, Reply, CallerRan, CallersRan, MainRan, PartsRan, Line, in_lines}
 
 module _ (made : ℕ → List Line) where
   abbrev pub Some : ℕ → List Part → Type 0

@@ -1,12 +1,6 @@
 -- Which ops statements ask for.
-use Rattle.mtapi_machine.specs.declared.ops.Op.{Op}
+use Rattle.run_check.proofs.Names.{Op, Wanted, Task, Entrance, AllMembers, FirstMember, Mutex, Sem, Rwl, IsOnce, op_of, IsTimed, Bool, IsStated}
 use Rattle.mtapi_machine.specs.declared.ops.Op.TheVariants as ops
-use Rattle.workload_runs.specs.declared.calls.Wanted.{Wanted}
-use Rattle.workload_runs.specs.declared.calls.Wanted.TheVariants.{Task, Entrance, AllMembers, FirstMember, Mutex, Sem, Rwl}
-use Rattle.workload_runs.specs.Calls.{IsOnce}
-use Rattle.workload_runs.specs.Wants.{op_of, IsTimed}
-use Rattle.std.proofs.Common.{Bool}
-use Rattle.run_check.specs.Same.{IsStated}
 
 pub once_is_stated : (o : Op) → IsOnce o → IsStated o
 once_is_stated ops.Initialize i = elim i [ ]

@@ -1,18 +1,8 @@
 -- Every task that hasn't begun and passes ends, one handle after another.
-use Rattle.std.proofs.Common.{◌≡◌, ℕ, ◌+◌, ◌<◌, ◌≤◌, length, get_or, take, Bool, true, false, ◌&&◌, cond, List, [], ◌∷◌, ◌++◌, Option, Some, None, refl, sym, ◌∙◌, ap, arith}
-use Rattle.std.specs.Prelude.{◌==◌, ◌||◌, is_some, nat_eq}
-use Rattle.std.specs.List.{list_any}
-use Rattle.std.proofs.lemmas.Grind.{take_at_read}
-use Rattle.std.proofs.lemmas.List.{take_all}
+use Rattle.run_report.proofs.Names.{◌≡◌, ℕ, ◌+◌, ◌<◌, ◌≤◌, length, get_or, take, Bool, true, false, ◌&&◌, cond, List, [], ◌∷◌, ◌++◌, Option, Some, None, refl, sym, ◌∙◌, ap, arith, ◌==◌, ◌||◌, is_some, nat_eq, list_any, take_at_read, take_all, nat_tests, TaskEnd, holds, Unstarted, Seen, ends_where, with_end, SameAs, passes}
 use Rattle.std.specs.Map.{lookup, keys_of}
-use Rattle.std.proofs.lemmas.Bool.Decides.{nat_tests}
-use Rattle.mtapi_values.specs.declared.ends.TaskEnd.{TaskEnd}
-use Rattle.mtapi_values.specs.Conditions.{holds}
-use Rattle.run_report.specs.declared.changes.Unstarted.{Unstarted}
 use Rattle.run_report.specs.declared.standings.Passing.{Passing}
 use Rattle.run_report.specs.declared.standings.Passing.TheVariants.{Left, Of, Shut}
-use Rattle.run_report.specs.Seen.{Seen, ends_where, with_end}
-use Rattle.run_report.specs.Standings.{SameAs, passes}
 use Rattle.run_report.proofs.History.{same_path, path_same}
 
 -- the handle is among these

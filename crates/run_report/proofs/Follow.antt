@@ -1,23 +1,8 @@
 -- What each move changes in what decides how tasks end.
-use Rattle.std.proofs.Common.{◌≡◌, ℕ, ◌+◌, ◌≤◌, Bool, true, false, ◌&&◌, cond, List, [], ◌∷◌, ◌++◌, Option, Some, None, refl, sym, ◌∙◌, ap, arith}
-use Rattle.std.specs.Prelude.{◌==◌, not, option_map, is_none}
-use Rattle.mtapi_values.specs.declared.ends.TaskEnd.{TaskEnd}
-use Rattle.mtapi_values.specs.Conditions.{holds}
-use Rattle.handle_pool.specs.Issued.{Listed, live_of, live_object, change_all, update, retire, issue, with_fields, gone, listed}
-use Rattle.handle_pool.specs.Stands.{Distinct}
+use Rattle.run_report.proofs.Names.{◌≡◌, ℕ, ◌+◌, ◌≤◌, Bool, true, false, ◌&&◌, cond, List, [], ◌∷◌, ◌++◌, Option, Some, None, refl, sym, ◌∙◌, ap, arith, ◌==◌, not, option_map, is_none, TaskEnd, holds, Listed, live_of, live_object, change_all, update, retire, issue, with_fields, gone, listed, Distinct, live_of-issue, live_of-update, live_of-retire, at-issue, at-update, at-retire, Action, Queue, Task, TaskState, Scheduled, Running, Ended, NewTask, new_task, Notes, end_of, scheduled, is_unstarted, is_unended, with_state, with_notes, ended, is_member, freed, let_go, State, end_task, end_tasks, end_in, end_at, Unstarted, LiveQueue, Seen, Follows, unstarted_of, unstarted_in, unstarted_at, queue_of, queue_at, put, with_action, without_action, ends_where, with_end, opened}
 use Rattle.handle_pool.proofs.LiveLemmas.{pairs_changed, pairs_without}
-use Rattle.handle_pool.proofs.ListedLemmas.{live_of-issue, live_of-update, live_of-retire, at-issue, at-update, at-retire}
-use Rattle.mtapi_objects.specs.Actions.{Action}
-use Rattle.mtapi_objects.specs.Queues.{Queue}
 use Rattle.mtapi_objects.specs.Queues as queues
-use Rattle.mtapi_objects.specs.Tasks.{Task, TaskState, Scheduled, Running, Ended, NewTask, new_task, Notes, end_of, scheduled, is_unstarted, is_unended, with_state, with_notes, ended}
 use Rattle.mtapi_values.specs.declared.kinds.Kind.{Kind}
-use Rattle.mtapi_objects.specs.Groups.{is_member, freed, let_go}
-use Rattle.mtapi_machine.specs.State.{State, end_task, end_tasks}
-use Rattle.mtapi_machine.specs.Ends.{end_in, end_at}
-use Rattle.run_report.specs.declared.changes.Unstarted.{Unstarted}
-use Rattle.run_report.specs.declared.changes.LiveQueue.{LiveQueue}
-use Rattle.run_report.specs.Seen.{Seen, Follows, unstarted_of, unstarted_in, unstarted_at, queue_of, queue_at, put, with_action, without_action, ends_where, with_end, opened}
 use Rattle.run_report.proofs.Listed.{first_at, end_read, ends_first, unstarted_first, unlisted, entry_of, first-set, first-kept, first-none, first-issued, first-all, first-ends, same_number}
 
 -- What is seen of a state

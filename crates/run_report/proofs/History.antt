@@ -1,14 +1,6 @@
 -- After a legal history the ends that are seen by the entries are those in the records of the last state.
-use Rattle.std.proofs.Common.{◌≡◌, ℕ, ◌+◌, ◌<◌, length, get_or, take, List, [], ◌∷◌, ◌++◌, refl, sym, ◌∙◌, ap, arith}
-use Rattle.std.proofs.lemmas.Grind.{take_at_read}
-use Rattle.handle_pool.specs.Issued.{listed, live_of}
+use Rattle.run_report.proofs.Names.{◌≡◌, ℕ, ◌+◌, ◌<◌, length, get_or, take, List, [], ◌∷◌, ◌++◌, refl, sym, ◌∙◌, ap, arith, take_at_read, listed, live_of, State, opening, end_at, NodeEntry, next, LegalFrom, Legal, after_from, after, change_of, Seen, Follows, unstarted_at, with_change, nothing_seen, seen_from, SameAs}
 use Rattle.mtapi_machine.specs.declared.terms.Terms.{Terms}
-use Rattle.mtapi_machine.specs.State.{State, opening}
-use Rattle.mtapi_machine.specs.Ends.{end_at}
-use Rattle.mtapi_machine.specs.Legal.{NodeEntry, next, LegalFrom, Legal, after_from, after}
-use Rattle.run_report.specs.Changes.{change_of}
-use Rattle.run_report.specs.Seen.{Seen, Follows, unstarted_at, with_change, nothing_seen, seen_from}
-use Rattle.run_report.specs.Standings.{SameAs}
 use Rattle.run_report.proofs.Sound.{Sound, sound_next}
 use Rattle.run_report.proofs.Rows.{follows_next}
 

@@ -1,14 +1,6 @@
 -- What each change of a list of tasks does to what is read of the task of a handle.
-use Rattle.std.proofs.Common.{◌≡◌, ℕ, ◌+◌, ◌≤◌, Bool, true, false, ◌&&◌, cond, List, [], ◌∷◌, Option, Some, None, refl, sym, ◌∙◌, ap, arith}
-use Rattle.std.specs.Prelude.{◌==◌}
-use Rattle.std.proofs.lemmas.Bool.Decides.{nat_tests}
-use Rattle.mtapi_values.specs.declared.ends.TaskEnd.{TaskEnd}
-use Rattle.mtapi_values.specs.Conditions.{holds}
-use Rattle.handle_pool.specs.Issued.{Listed, live_of, lookup, live_object, issue, change, change_all, listed}
-use Rattle.mtapi_objects.specs.Tasks.{Task, is_unstarted, ended, end_each}
-use Rattle.mtapi_machine.specs.Ends.{end_in, end_at}
-use Rattle.run_report.specs.declared.changes.Unstarted.{Unstarted}
-use Rattle.run_report.specs.Seen.{unstarted_of, unstarted_in, unstarted_at}
+use Rattle.run_report.proofs.Names.{◌≡◌, ℕ, ◌+◌, ◌≤◌, Bool, true, false, ◌&&◌, cond, List, [], ◌∷◌, Option, Some, None, refl, sym, ◌∙◌, ap, arith, ◌==◌, nat_tests, TaskEnd, holds, Listed, live_of, live_object, issue, change, change_all, listed, Task, is_unstarted, ended, end_each, end_in, end_at, Unstarted, unstarted_of, unstarted_in, unstarted_at}
+use Rattle.handle_pool.specs.Issued.{lookup}
 
 -- what is read of the first task that is listed under this handle
 unfoldable pub first_at : {X : Type 0} → (Listed Task → Option X) → List (Listed Task) → ℕ → Option X

@@ -1,15 +1,6 @@
 -- Live actions by their places, and the workers that can take a task.
-use Rattle.std.proofs.Common.{◌≡◌, ℕ, zero, suc, ◌+◌, ◌<◌, ◌≤◌, ◌⊎◌, inl, inr, Bool, true, false, cond, List, [], ◌∷◌, ◌++◌, length, get_or, set, drop, length-drop, Option, Some, None, refl, sym, ◌∙◌, ap, arith}
-use Rattle.std.specs.Prelude.{◌==◌, ◌&&◌, ◌||◌, nat_lt, option_map}
-use Rattle.std.specs.List.{list_any, remove}
-use Rattle.std.proofs.lemmas.Bool.Decides.{nat_tests}
-use Rattle.std.proofs.lemmas.List.{drop_more, nil_from_length}
-use Rattle.mtapi_values.specs.Masks.{in_mask}
-use Rattle.handle_pool.specs.Issued.{any_live}
-use Rattle.mtapi_objects.specs.Actions.{Action, has_enabled_job, is_eligible, some_below, has_worker}
+use Rattle.run_report.proofs.Names.{◌≡◌, ℕ, zero, suc, ◌+◌, ◌<◌, ◌≤◌, ◌⊎◌, inl, inr, Bool, true, false, cond, List, [], ◌∷◌, ◌++◌, length, get_or, set, drop, length-drop, Option, Some, None, refl, sym, ◌∙◌, ap, arith, ◌==◌, ◌&&◌, ◌||◌, nat_lt, option_map, list_any, remove, nat_tests, drop_more, nil_from_length, in_mask, any_live, Action, has_enabled_job, is_eligible, some_below, has_worker, action_of, pairs, with_action, without_action, can_run, place_of}
 use Rattle.run_report.specs.declared.changes.LiveAction.{LiveAction}
-use Rattle.run_report.specs.Seen.{action_of, pairs, with_action, without_action}
-use Rattle.run_report.specs.Standings.{can_run, place_of}
 
 -- Workers
 

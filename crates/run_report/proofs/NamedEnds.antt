@@ -1,17 +1,6 @@
 -- Where each change names the task that it ends, the ends that are seen are those that were named.
-use Rattle.std.proofs.Common.{◌≡◌, ℕ, ◌+◌, ◌<◌, length, get_or, take, Bool, true, false, not, cond, List, [], ◌∷◌, ◌++◌, Option, Some, None, refl, sym, ◌∙◌, ap, subst}
-use Rattle.std.specs.Prelude.{◌==◌, option_map}
-use Rattle.std.proofs.lemmas.Grind.{take_at_read}
-use Rattle.mtapi_values.specs.Conditions.{holds}
-use Rattle.mtapi_values.specs.declared.ends.TaskEnd.{TaskEnd}
-use Rattle.mtapi_values.specs.declared.ends.TaskEnd.TheVariants.{Cancelled}
-use Rattle.mtapi_machine.specs.Legal.{NodeEntry}
-use Rattle.run_report.specs.declared.changes.Unstarted.{Unstarted}
-use Rattle.run_report.specs.declared.changes.LiveQueue.{LiveQueue}
-use Rattle.run_report.specs.declared.changes.Change.{Change}
-use Rattle.run_report.specs.declared.changes.Change.TheVariants.{Nothing, MakesAction, EnablesAction, DisablesAction, DeletesAction, StartsTask, EnqueuesTask, BeginsTask, EndsTask, CancelsTask, MakesQueue, EnablesQueue, DisablesQueue, DeletesQueue, Closes}
-use Rattle.run_report.specs.Changes.{change_of}
-use Rattle.run_report.specs.Seen.{Seen, put, opened, is_shut, enqueued, with_change, nothing_seen, seen_from}
+use Rattle.run_report.proofs.Names.{◌≡◌, ℕ, ◌+◌, ◌<◌, length, get_or, take, Bool, true, false, not, cond, List, [], ◌∷◌, ◌++◌, Option, Some, None, refl, sym, ◌∙◌, ap, subst, ◌==◌, option_map, take_at_read, holds, TaskEnd, Cancelled, NodeEntry, Unstarted, LiveQueue, Change, Nothing, DisablesAction, DeletesAction, EnqueuesTask, BeginsTask, CancelsTask, MakesQueue, EnablesQueue, DisablesQueue, DeletesQueue, Closes, change_of, Seen, put, opened, is_shut, enqueued, with_change, nothing_seen, seen_from}
+use Rattle.run_report.specs.declared.changes.Change.TheVariants.{MakesAction, EnablesAction, StartsTask, EndsTask}
 use Rattle.run_report.specs.Ends.{names_each_end, with_named_end}
 use Rattle.run_report.proofs.History.{seen_more}
 

@@ -1,22 +1,9 @@
 -- The lines of the parts, one part after another.
-use Rattle.std.proofs.Common.{◌≡◌, ℕ, ◌+◌, ◌-◌, ◌≤◌, List, [], ◌∷◌, ◌++◌, Result, Ok, Err, refl, sym, ◌∙◌, ap, subst, arith, length, get_or, take, drop, append_assoc}
-use Rattle.std.specs.Prelude.{IfOk, Option}
+use Rattle.run_report.proofs.Names.{◌≡◌, ℕ, ◌+◌, ◌-◌, ◌≤◌, List, [], ◌∷◌, ◌++◌, Result, Err, refl, sym, ◌∙◌, ap, subst, arith, length, get_or, take, drop, append_assoc, IfOk, Option, flat_map, take_all, TaskEnd, Part, NodeEntry, Legal, Workload, task_lines, call_lines, Seen, nothing_seen, seen_from, Layout, terms_with, run_terms, parts_told, report_by, report, Told, reported, further_told, all_told, calls_before}
+use Rattle.std.proofs.Common.{Ok}
 use Rattle.std.specs.Global.{Vec}
-use Rattle.std.specs.List.{flat_map}
-use Rattle.std.proofs.lemmas.List.{take_all}
 use Rattle.mtapi_values.specs.Attributes.{NodeSettings}
-use Rattle.mtapi_values.specs.declared.ends.TaskEnd.{TaskEnd}
-use Rattle.workload_file.specs.declared.workload.Part.{Part}
-use Rattle.mtapi_machine.specs.Legal.{NodeEntry}
-use Rattle.mtapi_machine.specs.Legal.{Legal}
-use Rattle.workload_file.specs.declared.workload.Workload.{Workload}
-use Rattle.run_report.specs.Calls.{task_lines, call_lines}
-use Rattle.run_report.specs.Seen.{Seen, nothing_seen, seen_from}
-use Rattle.mtapi_values.specs.declared.handles.Layout.{Layout}
-use Rattle.mtapi_machine.specs.State.{terms_with}
-use Rattle.run_report.specs.Report.{run_terms, parts_told, report_by, report}
 use Rattle.run_report.proofs.History.{ends_by_entries}
-use Rattle.run_report.specs.Replies.{Told, reported, further_told, all_told, calls_before}
 
 abbrev pub rest_of : {X : Type 0} → List X → List X
 rest_of xs = take (length xs - 1) (drop 1 xs)

@@ -1,39 +1,19 @@
 -- After each entry that may come next, what is seen is what stands in the state.
-use Rattle.std.proofs.Common.{◌≡◌, ℕ, ℤ, ◌≤◌, Bool, true, false, ◌&&◌, cond, List, [], ◌∷◌, Option, Some, None, refl, sym, ◌∙◌, ap, subst}
-use Rattle.std.specs.Prelude.{◌==◌, not, option_map, is_some}
-use Rattle.mtapi_values.specs.declared.ends.TaskEnd.{TaskEnd}
-use Rattle.mtapi_values.specs.declared.ends.TaskEnd.TheVariants.{Cancelled, Failed}
+use Rattle.run_report.proofs.Names.{◌≡◌, ℕ, ℤ, ◌≤◌, Bool, true, false, ◌&&◌, cond, List, [], ◌∷◌, Option, Some, None, refl, sym, ◌∙◌, ap, subst, ◌==◌, not, option_map, is_some, TaskEnd, Cancelled, Failed, holds, Listed, live_of, live_object, change, with_fields, gone, any_listed, listed, Action, new_action, with_enabled, Queue, is_shut_in, is_in, Task, NewTask, TaskState, Scheduled, Running, Ended, is_unstarted, is_unended, scheduled, watch_end, cancel_requested, Op, Reply, State, workers, is_open, is_stop, end_tasks, Move, Groups, Queues, Mutexes, Sems, Rwls, Segments, phase_is, released, stops, makes_action, enables, withdraws, starts_task, runs_task, ends_task, ends_waiting, notes, leaves, frees_members, lets_members_go, alters, removes, is_fresh, apply, after_moves, Row, unless, gives, never, Allows, after_row, only, live, handle_of, is_ready, can_take, picks, task_end, NodeEntry, IsNext, row_of, next, fst_true, snd_true, IsKeptBy, by_moves, Change, Nothing, change_of, Seen, Follows, unstarted_of, unstarted_in, unstarted_at, queue_of, queue_at, ends_where, with_end, withdrawn, is_left, is_of, is_shut, enqueued, with_open, with_change}
 use Rattle.mtapi_values.specs.declared.statuses.MtapiStatus.{MtapiStatus}
 use Rattle.mtapi_values.specs.declared.statuses.MtapiStatus.TheVariants as m
 use Rattle.mtapi_values.specs.declared.handles.TaskHandle.{TaskHandle}
 use Rattle.mtapi_values.specs.declared.handles.QueueHandle.{QueueHandle}
 use Rattle.mtapi_values.specs.declared.handles.GroupHandle.{GroupHandle}
 use Rattle.mtapi_values.specs.declared.masks.Mask.{Mask}
-use Rattle.mtapi_values.specs.Conditions.{holds}
-use Rattle.handle_pool.specs.Issued.{Listed, live_of, live_object, change, with_fields, gone, any_listed, listed}
-use Rattle.mtapi_objects.specs.Actions.{Action, new_action, with_enabled}
-use Rattle.mtapi_objects.specs.Queues.{Queue, is_shut_in, is_in}
 use Rattle.mtapi_objects.specs.Queues as queues
-use Rattle.mtapi_objects.specs.Tasks.{Task, NewTask, TaskState, Scheduled, Running, Ended, is_unstarted, is_unended, scheduled, watch_end, cancel_requested}
-use Rattle.mtapi_machine.specs.declared.ops.Op.{Op}
 use Rattle.mtapi_machine.specs.declared.ops.Op.TheVariants as op
-use Rattle.mtapi_machine.specs.declared.replies.Reply.{Reply}
 use Rattle.mtapi_machine.specs.declared.replies.Reply.TheVariants.{Ok, Handle, Picked, Idle, Stop}
-use Rattle.mtapi_machine.specs.State.{State, workers, is_open, is_stop, end_tasks}
 use Rattle.mtapi_machine.specs.State as kinds
-use Rattle.mtapi_machine.specs.Moves.{Move, Groups, Queues, Mutexes, Sems, Rwls, Segments, phase_is, released, stops, makes_action, enables, withdraws, starts_task, runs_task, ends_task, ends_waiting, notes, leaves, frees_members, lets_members_go, makes, alters, removes, is_fresh, apply, after_moves}
-use Rattle.mtapi_machine.specs.Row.{Row, unless, gives, never, Allows, after_row, only, live, handle_of}
+use Rattle.mtapi_machine.specs.Moves.{makes}
 use Rattle.mtapi_machine.specs.TaskRows.{asked_for, asked_of, cancels}
-use Rattle.mtapi_machine.specs.WorkRows.{is_ready, can_take, picks, task_end}
 use Rattle.mtapi_machine.specs.Rows.{row}
 use Rattle.mtapi_machine.specs.Laws.{IsMade, is_pick, MakesAction, EnablesAction, WithdrawsAction, StartsTask, EndsTask, ends_many, makes_kind, AltersObject, RemovesObject}
-use Rattle.mtapi_machine.specs.Legal.{NodeEntry, IsNext, row_of, next}
-use Rattle.mtapi_machine.proofs.Made.{fst_true, snd_true}
-use Rattle.mtapi_machine.proofs.Moves.{IsKeptBy, by_moves}
-use Rattle.run_report.specs.declared.changes.Change.{Change}
-use Rattle.run_report.specs.declared.changes.Change.TheVariants.{Nothing}
-use Rattle.run_report.specs.Changes.{change_of}
-use Rattle.run_report.specs.Seen.{Seen, Follows, unstarted_of, unstarted_in, unstarted_at, queue_of, queue_at, ends_where, with_end, withdrawn, is_left, is_of, is_shut, enqueued, with_open, with_change}
 use Rattle.run_report.proofs.Listed.{unstarted_first, first-found}
 use Rattle.run_report.proofs.Sound.{Sound, none_listed, sound_move}
 use Rattle.run_report.proofs.Follow.{seen_of, follows_self, follows_path, follows_same, follows_notes, follows_leaves, follows_frees, follows_lets_go, follows_starts, follows_runs, follows_end, follows_ends, follows_actions, action_changed, action_gone, action_made, follows_queue_made, follows_queue_changed, follows_queue_gone}

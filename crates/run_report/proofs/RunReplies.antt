@@ -1,18 +1,8 @@
 -- The report of a run reads for each statement the reply to which its own call came.
-use Rattle.std.proofs.Common.{◌≡◌, ℕ, suc, ◌+◌, Bool, true, false, not, cond, List, [], ◌∷◌, ◌++◌, length, Option, Some, None, refl, sym, ◌∙◌, ap, arith, take, drop}
-use Rattle.std.specs.Prelude.{◌==◌, ◌&&◌, map}
-use Rattle.std.proofs.lemmas.List.{append-nil}
-use Rattle.workload_file.specs.declared.workload.Statement.{Statement}
-use Rattle.workload_file.specs.declared.workload.Part.{Part}
-use Rattle.mtapi_machine.specs.declared.ops.Op.{Op}
-use Rattle.mtapi_machine.specs.declared.replies.Reply.{Reply}
-use Rattle.mtapi_machine.specs.Row.{handle_of}
-use Rattle.mtapi_machine.specs.Legal.{NodeEntry}
+use Rattle.run_report.proofs.Names.{◌≡◌, ℕ, suc, ◌+◌, Bool, true, false, not, cond, List, [], ◌∷◌, ◌++◌, length, Option, Some, None, refl, sym, ◌∙◌, ap, arith, take, drop, ◌==◌, ◌&&◌, map, append-nil, Statement, Part, Op, Reply, handle_of, NodeEntry, has_begin, Carried, MainRan, CallerRan, CallersRan, PartsRan, Told, decided, calls_before, further_told, all_told}
 use Rattle.mtapi_machine.specs.Kept.{is_pending}
 use Rattle.workload_runs.specs.Calls.{Call, Once, Looking, call_of}
 use Rattle.workload_runs.specs.Lines.{Line, line, lines_of, before_it, Made, head_of, tail_of_main, in_lines}
-use Rattle.workload_runs.specs.Parts.{has_begin, Carried, MainRan, CallerRan, CallersRan, PartsRan}
-use Rattle.run_report.specs.Replies.{Told, decided, calls_before, further_told, all_told}
 use Rattle.run_report.specs.RunReplies.{ReadsTheRun}
 
 -- the replies of these lines that decide

@@ -1,9 +1,5 @@
 -- The replies of a seat, one more entry on.
-use Rattle.std.proofs.Common.{◌≡◌, ℕ, ◌+◌, ◌<◌, Bool, true, false, cond, List, [], ◌∷◌, ◌++◌, refl, sym, ◌∙◌, ap, length, get_or, take}
-use Rattle.std.proofs.lemmas.Grind.{take_at_read}
-use Rattle.mtapi_machine.specs.declared.replies.Reply.{Reply}
-use Rattle.mtapi_machine.specs.Legal.{NodeEntry}
-use Rattle.run_report.specs.Replies.{decides, decided}
+use Rattle.run_report.proofs.Names.{◌≡◌, ℕ, ◌+◌, ◌<◌, Bool, true, false, cond, List, [], ◌∷◌, ◌++◌, refl, sym, ◌∙◌, ap, length, get_or, take, take_at_read, Reply, NodeEntry, decides, decided}
 
 pub decided_none : (who : ℕ) → [] ≡ decided who []
 unfolding decided

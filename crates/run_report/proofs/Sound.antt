@@ -1,18 +1,6 @@
 -- What holds after every history: no task's handle is listed twice, no live queue stands twice, and the workers are so many.
-use Rattle.std.proofs.Common.{◌≡◌, ℕ, ◌+◌, ◌≤◌, Bool, true, false, ◌&&◌, cond, List, [], ◌∷◌, refl, sym, ◌∙◌, ap, subst, arith}
-use Rattle.std.specs.Prelude.{◌==◌}
-use Rattle.std.proofs.lemmas.Bool.{eqb-true}
-use Rattle.mtapi_values.specs.declared.ends.TaskEnd.{TaskEnd}
-use Rattle.handle_pool.specs.Issued.{Listed, live_of, change, change_all, issue, with_fields, gone, listed, may_issue}
-use Rattle.handle_pool.specs.Stands.{Distinct}
-use Rattle.handle_pool.proofs.ListedLemmas.{listed-change, listed-issue, Distinct-issue, Distinct-update, Distinct-retire}
-use Rattle.mtapi_objects.specs.Tasks.{Task, Running, with_state, with_notes, ended, end_each}
-use Rattle.mtapi_objects.specs.Groups.{freed, let_go}
-use Rattle.mtapi_machine.specs.State.{State, workers, is_open}
-use Rattle.mtapi_machine.specs.Moves.{Queues, starts_task, runs_task, ends_task, ends_waiting, withdraws, notes, leaves, frees_members, lets_members_go, makes, alters, removes, makes_action, enables, phase_is, released, stops, Groups, Mutexes, Sems, Rwls, Segments}
-use Rattle.mtapi_machine.specs.Legal.{NodeEntry, next}
-use Rattle.mtapi_machine.proofs.Made.{fst_true, snd_true}
-use Rattle.mtapi_machine.proofs.Moves.{IsKept, by_moves}
+use Rattle.run_report.proofs.Names.{◌≡◌, ℕ, ◌+◌, ◌≤◌, Bool, true, false, ◌&&◌, cond, List, [], ◌∷◌, refl, sym, ◌∙◌, ap, subst, arith, ◌==◌, eqb-true, TaskEnd, Listed, live_of, change, change_all, issue, with_fields, gone, listed, may_issue, Distinct, listed-change, listed-issue, Distinct-issue, Distinct-update, Distinct-retire, Task, Running, with_state, with_notes, ended, end_each, freed, let_go, State, workers, is_open, Queues, starts_task, runs_task, ends_task, ends_waiting, withdraws, notes, leaves, frees_members, lets_members_go, alters, removes, makes_action, enables, phase_is, released, stops, Groups, Mutexes, Sems, Rwls, Segments, NodeEntry, next, fst_true, snd_true, IsKept, by_moves}
+use Rattle.mtapi_machine.specs.Moves.{makes}
 use Rattle.run_report.proofs.Listed.{unlisted, same_number}
 
 pub record Sound (n : ℕ) (s : State) : Type 0 where

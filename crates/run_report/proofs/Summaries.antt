@@ -1,26 +1,9 @@
 -- The totals of the parts, one part after another.
-use Rattle.std.proofs.Common.{◌≡◌, ℕ, ◌+◌, ◌≤◌, List, [], ◌∷◌, ◌++◌, append_assoc, length, map, Result, Ok, Err, sym, ◌∙◌, ap, arith, get_or}
-use Rattle.std.specs.Prelude.{IfOk, Option, codes}
-use Rattle.std.specs.Fmt.{signed_decimal}
+use Rattle.run_report.proofs.Names.{◌≡◌, ℕ, ◌+◌, ◌≤◌, List, [], ◌∷◌, ◌++◌, append_assoc, length, map, Result, Err, sym, ◌∙◌, ap, arith, get_or, IfOk, Option, codes, signed_decimal, TaskEnd, NodeEntry, flat_map, length-append, length-map, Layout, Reply, Legal, Statement, Part, Workload, Seen, nothing_seen, seen_from, SameAs, run_terms, parts_told, Totals, reported, further_told, all_told, calls_before, no_totals, with_tasks, with_parts, totals, counted, totals_text, statements_in}
+use Rattle.std.proofs.Common.{Ok}
 use Rattle.std.specs.declared.alloc.AllocError.{AllocError}
-use Rattle.mtapi_values.specs.declared.ends.TaskEnd.{TaskEnd}
-use Rattle.mtapi_machine.specs.Legal.{NodeEntry}
-use Rattle.std.specs.List.{flat_map}
-use Rattle.std.proofs.lemmas.List.{length-append, length-map}
-use Rattle.mtapi_values.specs.declared.handles.Layout.{Layout}
-use Rattle.mtapi_machine.specs.declared.replies.Reply.{Reply}
-use Rattle.mtapi_machine.specs.Legal.{Legal}
-use Rattle.workload_file.specs.declared.workload.Statement.{Statement}
-use Rattle.workload_file.specs.declared.workload.Part.{Part}
-use Rattle.workload_file.specs.declared.workload.Workload.{Workload}
 use Rattle.workload_file.specs.Formed.{WellFormed, part_lines, line_if_any}
-use Rattle.run_report.specs.Seen.{Seen, nothing_seen, seen_from}
-use Rattle.run_report.specs.Standings.{SameAs}
-use Rattle.run_report.specs.Report.{run_terms, parts_told}
 use Rattle.run_report.proofs.History.{ends_by_entries}
-use Rattle.run_report.specs.declared.totals.Totals.{Totals}
-use Rattle.run_report.specs.Replies.{reported, further_told, all_told, calls_before}
-use Rattle.run_report.specs.Summary.{no_totals, with_tasks, with_parts, totals, counted, totals_text, statements_in}
 use Rattle.run_report.proofs.Parts.{rest_of, first_with}
 
 -- the first part's statements, and those of the others

@@ -1,7 +1,5 @@
 -- Totals, one number after another.
-use Rattle.std.proofs.Common.{◌≡◌, ℤ, sym, ◌∙◌, ap}
-use Rattle.run_report.specs.declared.totals.Totals.{Totals}
-use Rattle.run_report.specs.Summary.{with_number}
+use Rattle.run_report.proofs.Names.{◌≡◌, ℤ, sym, ◌∙◌, ap, Totals, with_number}
 
 abbrev with_sum : Totals → ℤ → Totals
 with_sum t s = record t { sum = s }

@@ -1,19 +1,11 @@
 -- Statements with their replies, one after another.
-use Rattle.std.proofs.Common.{zero, suc, Some, None, Result, Ok, Err, ◌≡◌, ℕ, ◌+◌, ◌<◌, ◌≤◌, Bool, true, false, cond, List, [], ◌∷◌, ◌++◌, Option, refl, sym, ◌∙◌, ap, arith, length, get_or, take, drop, append_assoc, length-drop}
+use Rattle.run_report.proofs.Names.{zero, suc, Some, None, Result, Err, ◌≡◌, ℕ, ◌+◌, ◌<◌, ◌≤◌, Bool, true, false, cond, List, [], ◌∷◌, ◌++◌, Option, refl, sym, ◌∙◌, ap, arith, length, get_or, take, drop, append_assoc, length-drop, nows, map-append, length-map, get_or-map, drop-map, drop_more, append-nil, nil_from_length, drop-drop, ◌==◌, slice_get, OnOk, TaskEnd, Statement, Reply, list_any, take-map, or_parts, first_of_two, place_if, is_found, place_from, name_of, name_at, names_by, is_given, shows_given, ShowsNames, shown_of, is_task, task_line, task_lines_of, task_name, call_line, call_lines_of}
+use Rattle.std.proofs.Common.{Ok}
 use denote.Ref.{Bor}
-use Rattle.run_report.specs.Replies.{nows}
-use Rattle.std.proofs.lemmas.List.{map-append, length-map, get_or-map, drop-map, drop_more, append-nil, nil_from_length, drop-drop}
-use Rattle.std.specs.Prelude.{◌==◌, slice_get, OnOk}
-use Rattle.mtapi_values.specs.declared.ends.TaskEnd.{TaskEnd}
-use Rattle.workload_file.specs.declared.workload.Statement.{Statement}
 use Rattle.workload_file.specs.Reading.{name_text}
-use Rattle.mtapi_machine.specs.declared.replies.Reply.{Reply}
-use Rattle.std.specs.List.{list_any, take-map}
-use Rattle.std.proofs.lemmas.Bool.{or_parts}
 use Rattle.run_report.specs.declared.sorts.Shown.{Shown}
 use Rattle.run_report.specs.declared.sorts.Shown.TheVariants as shows
-use Rattle.run_report.specs.Places.{first_of_two, place_if, is_found, place_from, name_of, name_at, names_by, is_given, shows_given, ShowsNames}
-use Rattle.run_report.specs.Calls.{makes, shown_of, is_task, task_line, task_lines_of, task_name, call_line, call_lines_of}
+use Rattle.run_report.specs.Calls.{makes}
 
 -- the replies behind references, one by one
 pub nows_push : (replies : List (Bor Reply)) (r : Bor Reply) → nows (replies ++ r ∷ []) ≡ nows replies ++ r.now ∷ []

@@ -1,5 +1,4 @@
-use Rattle.std.proofs.Common.{◌≡◌, true, sym, ◌∙◌}
-use Rattle.mtapi_objects.specs.Actions.{has_job}
+use Rattle.job_table.proofs.Names.{◌≡◌, true, sym, ◌∙◌, has_job}
 use Rattle.job_table.proofs.CoverLemmas.{CoversBefore-with}
 use Rattle.job_table.proofs.cover_at.Goals as goal
 

@@ -1,7 +1,4 @@
-use Rattle.std.proofs.Common.{◌≡◌, refl, sym, ap, subst}
-use Rattle.std.proofs.lemmas.Bool.{false≢true}
-use Rattle.handle_pool.specs.Slots.{Slots, IsFull, Inserts}
-use Rattle.group_core.specs.Members.{GroupTable, AreGroups, members_in, no_members, table_of}
+use Rattle.group_core.proofs.Names.{◌≡◌, refl, sym, ap, subst, false≢true, Slots, IsFull, Inserts, GroupTable, AreGroups, members_in, no_members, table_of}
 use Rattle.group_core.proofs.GroupLemmas.{AreGroups-create, Inserts-members, IsFull-members}
 use Rattle.group_core.proofs.Groups.create.Goals as goal
 

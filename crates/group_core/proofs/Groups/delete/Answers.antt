@@ -1,7 +1,4 @@
-use Rattle.std.proofs.Common.{◌≡◌, [], Some, refl, subst, ◌∙◌}
-use Rattle.handle_pool.specs.Slots.{slot_of, slot_value, without}
-use Rattle.linked_places.specs.Lists.{with_list}
-use Rattle.group_core.specs.Members.{GroupTable, table_of}
+use Rattle.group_core.proofs.Names.{◌≡◌, [], Some, refl, subst, ◌∙◌, slot_of, slot_value, without, with_list, GroupTable, table_of}
 use Rattle.group_core.proofs.GroupLemmas.{live_tells, dead_tells, get-live, get-dead, within_unended, within_ended, AreGroups-delete, members-delete}
 use Rattle.group_core.proofs.Groups.delete.Goals as goal
 

@@ -1,9 +1,4 @@
-use Rattle.std.proofs.Common.{◌≡◌, ◌++◌, ◌∷◌, [], refl, subst}
-use Rattle.handle_pool.specs.Slots.{slot_of}
-use Rattle.linked_places.specs.Lists.{HandleLists, list_at, without_handle, with_list, NowhereAt}
-use Rattle.group_core.specs.Members.{with_ended}
-use Rattle.linked_places.proofs.HandleLemmas.{stands-has}
-use Rattle.linked_places.proofs.LinkedLemmas.{stands-without}
+use Rattle.group_core.proofs.Names.{◌≡◌, ◌++◌, ◌∷◌, [], refl, subst, slot_of, HandleLists, list_at, without_handle, with_list, NowhereAt, with_ended, stands-has, stands-without}
 use Rattle.group_core.proofs.GroupLemmas.{member_from, within_ended, view_changed, moved, AreGroups-fewer, AreGroups-ended}
 use Rattle.group_core.proofs.Groups.ended.Goals as goal
 

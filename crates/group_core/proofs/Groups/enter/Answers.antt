@@ -1,7 +1,4 @@
-use Rattle.std.proofs.Common.{◌++◌, ◌∷◌, [], refl}
-use Rattle.handle_pool.specs.Slots.{slot_of}
-use Rattle.linked_places.specs.Lists.{list_at, with_list}
-use Rattle.group_core.specs.Members.{with_member}
+use Rattle.group_core.proofs.Names.{◌++◌, ◌∷◌, [], refl, slot_of, list_at, with_list, with_member}
 use Rattle.group_core.proofs.GroupLemmas.{live_from, within_unended, unended-changed, view_changed, AreGroups-enter, nowhere_unended, nowhere_ended}
 use Rattle.group_core.proofs.Groups.enter.Goals as goal
 

@@ -1,5 +1,4 @@
-use Rattle.std.proofs.Common.{subst}
-use Rattle.group_core.specs.Members.{GroupTable, LiveAreUsed}
+use Rattle.group_core.proofs.Names.{subst, GroupTable, LiveAreUsed}
 use Rattle.group_core.proofs.GroupLemmas.{live-used}
 use Rattle.group_core.proofs.Groups.is_kept.Goals as goal
 

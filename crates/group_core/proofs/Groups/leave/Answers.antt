@@ -1,9 +1,4 @@
-use Rattle.std.proofs.Common.{◌≡◌, ℕ, List, None, Some, slice_get, refl, sym, subst, ◌∙◌}
-use Rattle.handle_pool.specs.Slots.{slot_of, slot_value, with_value}
-use Rattle.linked_places.specs.Lists.{list_at, without_handle, with_list}
-use Rattle.group_core.specs.Members.{without_first_unended, members_in}
-use Rattle.linked_places.proofs.HandleLemmas.{has-first}
-use Rattle.linked_places.proofs.LinkedLemmas.{stands-without}
+use Rattle.group_core.proofs.Names.{◌≡◌, ℕ, List, None, Some, slice_get, refl, sym, subst, ◌∙◌, slot_of, slot_value, with_value, list_at, without_handle, with_list, without_first_unended, members_in, has-first, stands-without}
 use Rattle.group_core.proofs.GroupLemmas.{live_tells, dead_tells, get-live, get-dead, within_unended, view_changed, unended-changed, without-first, AreGroups-fewer}
 use Rattle.group_core.proofs.Groups.leave.Goals as goal
 

@@ -1,5 +1,4 @@
-use Rattle.std.proofs.Common.{refl}
-use Rattle.handle_pool.specs.Slots.{slot_value}
+use Rattle.group_core.proofs.Names.{refl, slot_value}
 use Rattle.group_core.proofs.GroupLemmas.{live_tells, dead_tells, get-live, get-dead, within_unended, within_ended}
 use Rattle.group_core.proofs.Groups.left.Goals as goal
 

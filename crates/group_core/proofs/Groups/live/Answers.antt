@@ -1,6 +1,4 @@
-use Rattle.std.proofs.Common.{ap, sym, ◌∙◌}
-use Rattle.handle_pool.specs.Slots.{live_count}
-use Rattle.group_core.specs.Members.{GroupTable}
+use Rattle.group_core.proofs.Names.{ap, sym, ◌∙◌, live_count, GroupTable}
 use Rattle.group_core.proofs.GroupLemmas.{live_count-members}
 use Rattle.group_core.proofs.Groups.live.Goals as goal
 

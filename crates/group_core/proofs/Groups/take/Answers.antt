@@ -1,9 +1,4 @@
-use Rattle.std.proofs.Common.{◌≡◌, ℕ, List, None, Some, slice_get, refl, sym, subst, ◌∙◌}
-use Rattle.handle_pool.specs.Slots.{slot_of, slot_value, with_value}
-use Rattle.linked_places.specs.Lists.{list_at, without_handle, with_list}
-use Rattle.group_core.specs.Members.{without_first, members_in}
-use Rattle.linked_places.proofs.HandleLemmas.{has-first}
-use Rattle.linked_places.proofs.LinkedLemmas.{stands-without}
+use Rattle.group_core.proofs.Names.{◌≡◌, ℕ, List, None, Some, slice_get, refl, sym, subst, ◌∙◌, slot_of, slot_value, with_value, list_at, without_handle, with_list, without_first, members_in, has-first, stands-without}
 use Rattle.group_core.proofs.GroupLemmas.{live_tells, dead_tells, get-live, get-dead, within_ended, view_changed, ended-changed, without-first, AreGroups-taken}
 use Rattle.group_core.proofs.Groups.take.Goals as goal
 

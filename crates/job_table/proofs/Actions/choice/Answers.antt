@@ -1,11 +1,4 @@
-use Rattle.std.proofs.Common.{◌≡◌, ◌%◌, ℕ, length, sym, subst, ◌∙◌, arith}
-use Rattle.handle_pool.specs.Slots.{Slots, slot_value}
-use Rattle.handle_pool.specs.Walks.{NoneLive}
-use Rattle.linked_places.specs.Lists.{list_at}
-use Rattle.linked_places.proofs.NextLemmas.{index-has}
-use Rattle.mtapi_objects.specs.Actions.{Action}
-use Rattle.job_table.specs.Answers.{Passes, runs_job_on}
-use Rattle.job_table.specs.Cover.{NoneBefore}
+use Rattle.job_table.proofs.Names.{◌≡◌, ◌%◌, ℕ, length, sym, subst, ◌∙◌, arith, Slots, slot_value, NoneLive, list_at, index-has, Action, Passes, runs_job_on, NoneBefore}
 use Rattle.job_table.proofs.CoverLemmas.{NoneBefore-zero, NoneBefore-one, none-of, runs-job}
 use Rattle.job_table.proofs.ListedLemmas.{past-none, live-at}
 use Rattle.job_table.proofs.Actions.choice.Goals as goal

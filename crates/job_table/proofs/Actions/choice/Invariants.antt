@@ -1,7 +1,4 @@
-use Rattle.std.proofs.Common.{◌≡◌, slice_get}
-use Rattle.linked_places.specs.Lists.{list_at}
-use Rattle.job_table.specs.Answers.{Passes, runs_job_on}
-use Rattle.job_table.specs.Cover.{NoneBefore}
+use Rattle.job_table.proofs.Names.{◌≡◌, slice_get, list_at, Passes, runs_job_on, NoneBefore}
 use Rattle.job_table.proofs.Actions.choice.Given as goal
 
 abbrev pub invariant-loop-index : goal.invariant-loop-index

@@ -1,10 +1,4 @@
-use Rattle.std.proofs.Common.{◌≡◌, ◌%◌, ℕ, length, sym, subst, ◌∙◌, arith}
-use Rattle.handle_pool.specs.Slots.{Slots}
-use Rattle.linked_places.specs.Lists.{list_at}
-use Rattle.linked_places.proofs.NextLemmas.{index-has}
-use Rattle.mtapi_objects.specs.Actions.{Action}
-use Rattle.job_table.specs.Answers.{Covers}
-use Rattle.job_table.specs.Cover.{CoversBefore}
+use Rattle.job_table.proofs.Names.{◌≡◌, ◌%◌, ℕ, length, sym, subst, ◌∙◌, arith, Slots, list_at, index-has, Action, Covers, CoversBefore}
 use Rattle.job_table.proofs.CoverLemmas.{CoversBefore-zero, Covers-all}
 use Rattle.job_table.proofs.ListedLemmas.{past-none, live-at, some-is}
 use Rattle.job_table.proofs.Actions.cover.Goals as goal

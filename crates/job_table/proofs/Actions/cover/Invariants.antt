@@ -1,6 +1,4 @@
-use Rattle.std.proofs.Common.{◌≡◌, slice_get}
-use Rattle.linked_places.specs.Lists.{list_at}
-use Rattle.job_table.specs.Cover.{CoversBefore}
+use Rattle.job_table.proofs.Names.{◌≡◌, slice_get, list_at, CoversBefore}
 use Rattle.job_table.proofs.Actions.cover.Given as goal
 
 abbrev pub invariant-loop-index : goal.invariant-loop-index

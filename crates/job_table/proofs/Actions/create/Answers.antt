@@ -1,7 +1,4 @@
-use Rattle.std.proofs.Common.{◌<◌, ◌%◌, ℕ, sym, ap, subst, ◌∙◌}
-use Rattle.std.specs.Prelude.{length}
-use Rattle.handle_pool.specs.Slots.{max_of}
-use Rattle.mtapi_objects.specs.Actions.{Action}
+use Rattle.job_table.proofs.Names.{◌<◌, ◌%◌, ℕ, sym, ap, subst, ◌∙◌, length, max_of, Action}
 use Rattle.job_table.proofs.ListedLemmas.{nowhere, list-below, listed-insert}
 use Rattle.job_table.proofs.Actions.create.Goals as goal
 

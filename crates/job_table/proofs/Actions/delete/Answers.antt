@@ -1,6 +1,4 @@
-use Rattle.std.proofs.Common.{◌<◌, ◌%◌, ℕ, sym, ap, subst, ◌∙◌}
-use Rattle.std.specs.Prelude.{length}
-use Rattle.handle_pool.specs.Slots.{max_of}
+use Rattle.job_table.proofs.Names.{◌<◌, ◌%◌, ℕ, sym, ap, subst, ◌∙◌, length, max_of}
 use Rattle.job_table.proofs.ListedLemmas.{listed-without, list-below}
 use Rattle.job_table.proofs.Actions.delete.Goals as goal
 

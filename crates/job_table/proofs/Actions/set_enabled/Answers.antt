@@ -1,7 +1,4 @@
-use Rattle.std.proofs.Common.{sym, subst}
-use Rattle.handle_pool.specs.Slots.{Slots}
-use Rattle.mtapi_objects.specs.Actions.{Action}
-use Rattle.job_table.specs.Cover.{AreListed}
+use Rattle.job_table.proofs.Names.{sym, subst, Slots, Action, AreListed}
 use Rattle.job_table.proofs.ListedLemmas.{listed-changed}
 use Rattle.job_table.proofs.Actions.set_enabled.Goals as goal
 

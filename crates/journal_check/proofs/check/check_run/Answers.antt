@@ -1,5 +1,4 @@
-use Rattle.std.proofs.Common.{List, subst}
-use Rattle.mtapi_machine.specs.Legal.{NodeEntry}
+use Rattle.journal_check.proofs.Names.{List, subst, NodeEntry}
 use Rattle.journal_check.specs.Judged.{IsLegalOr}
 use Rattle.journal_check.specs.Verdicts.{terms_of}
 use Rattle.journal_check.proofs.Told.{illegal_verdict, yes_verdict, not_run_verdict}

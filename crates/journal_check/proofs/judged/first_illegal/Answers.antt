@@ -1,7 +1,4 @@
-use Rattle.std.proofs.Common.{[], sym, subst}
-use Rattle.mtapi_machine.specs.declared.terms.Terms.{Terms}
-use Rattle.mtapi_machine.specs.State.{terms_with}
-use Rattle.mtapi_machine.specs.Legal.{Legal}
+use Rattle.journal_check.proofs.Names.{[], sym, subst, Terms, terms_with, Legal}
 use Rattle.journal_check.proofs.Prefixes.{empty_legal}
 use Rattle.journal_check.proofs.judged.first_illegal.Goals as goal
 

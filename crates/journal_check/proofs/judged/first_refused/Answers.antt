@@ -1,8 +1,4 @@
-use Rattle.std.proofs.Common.{◌≡◌, ◌+◌, ◌<◌, ℕ, true, false, [], ◌∷◌, ◌++◌, take, length, refl, sym, subst, ap, arith, ◌∙◌}
-use Rattle.mtapi_machine.specs.declared.terms.Terms.{Terms}
-use Rattle.mtapi_machine.specs.Legal.{IsNext, Legal, after}
-use Rattle.journal_check.specs.Follow.{HasFollowed}
-use Rattle.journal_check.specs.Verdicts.{IsFirstIllegal}
+use Rattle.journal_check.proofs.Names.{◌≡◌, ◌+◌, ◌<◌, ℕ, true, false, [], ◌∷◌, ◌++◌, take, length, refl, sym, subst, ap, arith, ◌∙◌, Terms, IsNext, Legal, after, HasFollowed, IsFirstIllegal}
 use Rattle.journal_check.proofs.Prefixes.{take_next, legal_more, first_here, short_take}
 use Rattle.journal_check.proofs.judged.first_refused.Goals as goal
 

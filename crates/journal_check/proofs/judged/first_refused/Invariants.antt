@@ -1,6 +1,4 @@
-use Rattle.std.specs.Prelude.{◌≡◌, take}
-use Rattle.mtapi_machine.specs.Legal.{Legal}
-use Rattle.journal_check.specs.Follow.{HasFollowed}
+use Rattle.journal_check.proofs.Names.{◌≡◌, take, Legal, HasFollowed}
 use Rattle.journal_check.proofs.judged.first_refused.Given as goal
 
 abbrev pub invariant-loop-entry : goal.invariant-loop-entry

@@ -1,9 +1,5 @@
-use Rattle.std.proofs.Common.{◌≡◌, ◌+◌, ◌≤◌, ℕ, true, false, List, get_or, sym, subst, ap, arith, ◌∙◌, take_all}
-use Rattle.mtapi_machine.specs.Legal.{NodeEntry, after}
-use Rattle.node_steps.specs.Stands.{Stands, terms_of}
-use Rattle.mtapi_renaming.specs.Kinds.{is_live_of}
-use Rattle.mtapi_renaming.specs.Lasts.{gone_of}
-use Rattle.mtapi_renaming.specs.Maps.{renaming_of}
+use Rattle.journal_check.proofs.Names.{◌≡◌, ◌+◌, ◌≤◌, ℕ, true, false, List, get_or, sym, subst, ap, arith, ◌∙◌, take_all, NodeEntry, after, Stands, is_live_of, gone_of, renaming_of}
+use Rattle.node_steps.specs.Stands.{terms_of}
 use Rattle.journal_check.proofs.Rooms.{live_here, gone_next}
 use Rattle.journal_check.proofs.room.gone_of.Goals as goal
 use Rattle.journal_check.proofs.room.gone_of.Goals.{then-not-is_live, else-not-is_live}

@@ -1,10 +1,4 @@
-use Rattle.std.specs.Prelude.{◌≡◌, ◌≤◌, ℕ, take}
-use Rattle.mtapi_machine.specs.declared.terms.Terms.{Terms}
-use Rattle.mtapi_machine.specs.State.{State}
-use Rattle.mtapi_renaming.specs.Lasts.{gone_of}
-use Rattle.mtapi_renaming.specs.Follows.{Follows}
-use Rattle.mtapi_renaming.specs.Maps.{renaming_of}
-use Rattle.journal_check.specs.Follow.{Mirrors}
+use Rattle.journal_check.proofs.Names.{◌≡◌, ◌≤◌, ℕ, take, Terms, State, gone_of, Follows, renaming_of, Mirrors}
 use Rattle.journal_check.proofs.room.gone_of.Given as goal
 
 abbrev pub invariant-loop-handle : goal.invariant-loop-handle

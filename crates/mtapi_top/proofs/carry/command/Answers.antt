@@ -1,7 +1,4 @@
-use Rattle.mtapi_top.specs.Words.{texts, asked_of}
-use Rattle.mtapi_top.specs.Command.{Outside}
-use Rattle.mtapi_top.specs.Check.{Channels}
-use Rattle.mtapi_top.specs.Ended.{Streams}
+use Rattle.mtapi_top.proofs.Names.{texts, asked_of, Outside, Channels, Streams}
 use Rattle.mtapi_top.proofs.Ended.{run_ended, check_ended, run_read, check_read, idle_told, told_but, not_both, run_text_two, check_text_two}
 use Rattle.mtapi_top.proofs.Refused.{refused_told, refused_has}
 use Rattle.mtapi_top.proofs.CheckTold.{refused_told as input_refused, refused_where as input_refused_where, check_decides}

@@ -1,5 +1,4 @@
-use Rattle.std.proofs.Common.{List, length, ap, arith}
-use Rattle.workload_file.specs.declared.workload.Part.{Part}
+use Rattle.mtapi_top.proofs.Names.{List, length, ap, arith, Part}
 use Rattle.mtapi_top.proofs.Carried.{has_part}
 use Rattle.mtapi_top.proofs.pieces.callers_of.Goals as goal
 

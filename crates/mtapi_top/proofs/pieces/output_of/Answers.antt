@@ -1,8 +1,5 @@
-use Rattle.std.proofs.Common.{◌≡◌, ℕ, List, sym, subst}
-use Rattle.std.specs.Prelude.{Ok}
+use Rattle.mtapi_top.proofs.Names.{◌≡◌, ℕ, List, sym, subst, Ok, Asked, IsReadAgain}
 use Rattle.journal_text.specs.Journals.{journal_of}
-use Rattle.mtapi_top.specs.declared.words.Asked.{Asked}
-use Rattle.mtapi_top.specs.Headline.{IsReadAgain}
 use Rattle.mtapi_top.proofs.Kept.{writable}
 use Rattle.mtapi_top.proofs.pieces.output_of.Goals as goal
 

@@ -1,9 +1,6 @@
-use Rattle.std.proofs.Common.{◌≡◌, ◌+◌, ℕ, refl, arith}
+use Rattle.node_core.proofs.Names.{◌≡◌, ◌+◌, ℕ, refl, arith, free_slot, issued_at, retired, AgreesIn, same_fields}
 use Rattle.mtapi_values.specs.declared.handles.ObjectKind.TheVariants as kind
-use Rattle.handle_pool.specs.Slots.{free_slot}
-use Rattle.handle_pool.specs.Issued.{issued_at, retired}
 use Rattle.handle_pool.specs.Inside.{inside}
-use Rattle.node_core.specs.Parts.{AgreesIn, same_fields}
 use Rattle.node_core.specs.Worked.{one_gone, one_live, same_turn, none_retired}
 use Rattle.node_core.proofs.worked.worked_agreement.Goals as goal
 

@@ -1,14 +1,8 @@
-use Rattle.std.proofs.Common.{sym, subst, FitsSigned, w64, rules}
-use Rattle.std.specs.Prelude.{ℤ}
-use Rattle.std.proofs.lemmas.Int.{to_z-of_z}
-use Rattle.mtapi_values.specs.declared.handles.MutexHandle.{MutexHandle}
+use Rattle.node_resources.proofs.Names.{sym, subst, FitsSigned, w64, rules, ℤ, to_z-of_z, MutexHandle, ShmemHandle, Op, Steps}
 use Rattle.mtapi_values.specs.declared.handles.SemHandle.{SemHandle}
 use Rattle.mtapi_values.specs.declared.handles.RwlHandle.{RwlHandle}
-use Rattle.mtapi_values.specs.declared.handles.ShmemHandle.{ShmemHandle}
-use Rattle.mtapi_machine.specs.declared.ops.Op.{Op}
 use Rattle.mtapi_machine.specs.declared.ops.Op.TheVariants as op
 use Rattle.mtapi_renaming.specs.Ops.{renamed_op}
-use Rattle.node_resources.specs.Steps.{Steps}
 use Rattle.node_resources.proofs.Resources.execute.Goals as goal
 
 pub returns-in-MutexCreate : goal.returns-in-MutexCreate

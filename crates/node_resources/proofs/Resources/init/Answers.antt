@@ -1,7 +1,5 @@
-use Rattle.std.proofs.Common.{◌≡◌, ℕ, ◌≤◌, [], replicate, sym, ◌∙◌, ap, arith}
+use Rattle.node_resources.proofs.Names.{◌≡◌, ℕ, ◌≤◌, [], replicate, sym, ◌∙◌, ap, arith, Slots, free_slot, Holds}
 use Rattle.mtapi_values.specs.Attributes.{NodeSettings}
-use Rattle.handle_pool.specs.Slots.{Slots, free_slot}
-use Rattle.node_resources.specs.Holds.{Holds}
 use Rattle.node_resources.proofs.HoldsLemmas.{holds_new}
 use Rattle.node_resources.proofs.Resources.init.Goals as goal
 

@@ -1,11 +1,5 @@
-use Rattle.std.proofs.Common.{refl, sym, ◌∙◌, subst}
-use Rattle.mtapi_values.specs.declared.statuses.MrapiStatus.TheVariants.{ErrMutexExists, ErrMutexLimit}
-use Rattle.mtapi_objects.specs.Mutexes.{new_mutex}
-use Rattle.mtapi_machine.specs.KeyedRows.{keyed_mutexes}
-use Rattle.mtapi_machine.specs.Moves.{Mutexes}
+use Rattle.node_resources.proofs.Names.{refl, sym, ◌∙◌, subst, ErrMutexExists, ErrMutexLimit, new_mutex, keyed_mutexes, Mutexes, ResourceTable, Stands, the_view}
 use Rattle.mtapi_machine.specs.declared.ops.Op.TheVariants as op
-use Rattle.node_resources.specs.Holds.{ResourceTable, Stands}
-use Rattle.node_resources.specs.contracts.Resources.{the_view}
 use Rattle.node_resources.proofs.KindSteps.{kind_does}
 use Rattle.node_resources.proofs.RowLemmas.{as_was, past_open, creates_does, refuses_does}
 use Rattle.node_resources.proofs.Resources.mutex_create.Goals as goal

@@ -1,9 +1,5 @@
-use Rattle.std.proofs.Common.{refl, sym, ◌∙◌}
-use Rattle.mtapi_values.specs.declared.statuses.MrapiStatus.TheVariants.{ErrMutexIdInvalid}
-use Rattle.mtapi_machine.specs.KeyedRows.{keyed_mutexes}
-use Rattle.mtapi_machine.specs.Moves.{Mutexes}
+use Rattle.node_resources.proofs.Names.{refl, sym, ◌∙◌, ErrMutexIdInvalid, keyed_mutexes, Mutexes, the_view}
 use Rattle.mtapi_machine.specs.declared.ops.Op.TheVariants as op
-use Rattle.node_resources.specs.contracts.Resources.{the_view}
 use Rattle.node_resources.proofs.KindSteps.{got, got_none}
 use Rattle.node_resources.proofs.Resources.mutex_get.Goals as goal
 

@@ -1,12 +1,6 @@
-use Rattle.std.proofs.Common.{Bool, cond, ◌+◌, refl, sym, ◌∙◌, ap, subst, pos}
-use Rattle.mtapi_values.specs.declared.statuses.MrapiStatus.TheVariants.{ErrMutexInvalid}
-use Rattle.mtapi_objects.specs.Mutexes.{mutex_look_refusals, mutex_busy, locked_by}
-use Rattle.mrapi_mutex.specs.Calls.{after_look}
+use Rattle.node_resources.proofs.Names.{Bool, cond, ◌+◌, refl, sym, ◌∙◌, ap, subst, pos, ErrMutexInvalid, mutex_look_refusals, mutex_busy, locked_by, after_look, Mutexes, ResourceTable, Stands, the_view}
 use Rattle.mtapi_machine.specs.declared.replies.Reply.TheVariants as reply
-use Rattle.mtapi_machine.specs.Moves.{Mutexes}
 use Rattle.mtapi_machine.specs.declared.ops.Op.TheVariants as op
-use Rattle.node_resources.specs.Holds.{ResourceTable, Stands}
-use Rattle.node_resources.specs.contracts.Resources.{the_view}
 use Rattle.node_resources.proofs.KindSteps.{kind_does}
 use Rattle.node_resources.proofs.RowLemmas.{past_up, looks_does}
 use Rattle.node_resources.proofs.Resources.mutex_look.Goals as goal

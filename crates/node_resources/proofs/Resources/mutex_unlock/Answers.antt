@@ -1,10 +1,5 @@
-use Rattle.std.proofs.Common.{refl, sym, ◌∙◌, subst}
-use Rattle.mtapi_values.specs.declared.statuses.MrapiStatus.TheVariants.{ErrMutexInvalid}
-use Rattle.mtapi_objects.specs.Mutexes.{mutex_unlock_refusals, unlocked}
-use Rattle.mtapi_machine.specs.Moves.{Mutexes}
+use Rattle.node_resources.proofs.Names.{refl, sym, ◌∙◌, subst, ErrMutexInvalid, mutex_unlock_refusals, unlocked, Mutexes, ResourceTable, Stands, the_view}
 use Rattle.mtapi_machine.specs.declared.ops.Op.TheVariants as op
-use Rattle.node_resources.specs.Holds.{ResourceTable, Stands}
-use Rattle.node_resources.specs.contracts.Resources.{the_view}
 use Rattle.node_resources.proofs.KindSteps.{kind_does}
 use Rattle.node_resources.proofs.RowLemmas.{past_up, alters_does}
 use Rattle.node_resources.proofs.Resources.mutex_unlock.Goals as goal

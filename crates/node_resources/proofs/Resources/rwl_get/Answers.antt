@@ -1,9 +1,5 @@
-use Rattle.std.proofs.Common.{refl, sym, ◌∙◌}
-use Rattle.mtapi_values.specs.declared.statuses.MrapiStatus.TheVariants.{ErrRwlIdInvalid}
-use Rattle.mtapi_machine.specs.KeyedRows.{keyed_rwls}
-use Rattle.mtapi_machine.specs.Moves.{Rwls}
+use Rattle.node_resources.proofs.Names.{refl, sym, ◌∙◌, ErrRwlIdInvalid, keyed_rwls, Rwls, the_view}
 use Rattle.mtapi_machine.specs.declared.ops.Op.TheVariants as op
-use Rattle.node_resources.specs.contracts.Resources.{the_view}
 use Rattle.node_resources.proofs.KindSteps.{got, got_none}
 use Rattle.node_resources.proofs.Resources.rwl_get.Goals as goal
 

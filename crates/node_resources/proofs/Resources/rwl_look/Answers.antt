@@ -1,12 +1,7 @@
-use Rattle.std.proofs.Common.{Bool, cond, refl, sym, ◌∙◌, ap, subst}
-use Rattle.mtapi_values.specs.declared.statuses.MrapiStatus.TheVariants.{ErrRwlInvalid}
-use Rattle.mtapi_objects.specs.Rwls.{rwl_look_refusals, rwl_busy, rwl_taken}
+use Rattle.node_resources.proofs.Names.{Bool, cond, refl, sym, ◌∙◌, ap, subst, ErrRwlInvalid, rwl_look_refusals, rwl_busy, rwl_taken, Rwls, ResourceTable, Stands, the_view}
 use Rattle.mrapi_counting.specs.RwlCalls.{rwl_after_look}
 use Rattle.mtapi_machine.specs.declared.replies.Reply.TheVariants as reply
-use Rattle.mtapi_machine.specs.Moves.{Rwls}
 use Rattle.mtapi_machine.specs.declared.ops.Op.TheVariants as op
-use Rattle.node_resources.specs.Holds.{ResourceTable, Stands}
-use Rattle.node_resources.specs.contracts.Resources.{the_view}
 use Rattle.node_resources.proofs.KindSteps.{kind_does}
 use Rattle.node_resources.proofs.RowLemmas.{past_up, looks_does}
 use Rattle.node_resources.proofs.Resources.rwl_look.Goals as goal

@@ -1,10 +1,5 @@
-use Rattle.std.proofs.Common.{refl, sym, ◌∙◌, subst}
-use Rattle.mtapi_values.specs.declared.statuses.MrapiStatus.TheVariants.{ErrRwlInvalid}
-use Rattle.mtapi_objects.specs.Rwls.{rwl_unlock_refusals, rwl_given}
-use Rattle.mtapi_machine.specs.Moves.{Rwls}
+use Rattle.node_resources.proofs.Names.{refl, sym, ◌∙◌, subst, ErrRwlInvalid, rwl_unlock_refusals, rwl_given, Rwls, ResourceTable, Stands, the_view}
 use Rattle.mtapi_machine.specs.declared.ops.Op.TheVariants as op
-use Rattle.node_resources.specs.Holds.{ResourceTable, Stands}
-use Rattle.node_resources.specs.contracts.Resources.{the_view}
 use Rattle.node_resources.proofs.KindSteps.{kind_does}
 use Rattle.node_resources.proofs.RowLemmas.{past_up, alters_does}
 use Rattle.node_resources.proofs.Resources.rwl_unlock.Goals as goal

@@ -1,11 +1,5 @@
-use Rattle.std.proofs.Common.{refl, sym, ◌∙◌, subst}
-use Rattle.mtapi_values.specs.declared.statuses.MrapiStatus.TheVariants.{ErrSemExists, ErrSemLimit}
-use Rattle.mtapi_objects.specs.Sems.{new_sem, sem_create_refusals}
-use Rattle.mtapi_machine.specs.KeyedRows.{keyed_sems}
-use Rattle.mtapi_machine.specs.Moves.{Sems}
+use Rattle.node_resources.proofs.Names.{refl, sym, ◌∙◌, subst, ErrSemExists, ErrSemLimit, new_sem, sem_create_refusals, keyed_sems, Sems, ResourceTable, Stands, the_view}
 use Rattle.mtapi_machine.specs.declared.ops.Op.TheVariants as op
-use Rattle.node_resources.specs.Holds.{ResourceTable, Stands}
-use Rattle.node_resources.specs.contracts.Resources.{the_view}
 use Rattle.node_resources.proofs.KindSteps.{kind_does}
 use Rattle.node_resources.proofs.RowLemmas.{as_was, past, past_open, creates_does, refuses_within}
 use Rattle.node_resources.proofs.Resources.sem_create.Goals as goal

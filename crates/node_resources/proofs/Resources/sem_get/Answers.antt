@@ -1,9 +1,5 @@
-use Rattle.std.proofs.Common.{refl, sym, ◌∙◌}
-use Rattle.mtapi_values.specs.declared.statuses.MrapiStatus.TheVariants.{ErrSemIdInvalid}
-use Rattle.mtapi_machine.specs.KeyedRows.{keyed_sems}
-use Rattle.mtapi_machine.specs.Moves.{Sems}
+use Rattle.node_resources.proofs.Names.{refl, sym, ◌∙◌, ErrSemIdInvalid, keyed_sems, Sems, the_view}
 use Rattle.mtapi_machine.specs.declared.ops.Op.TheVariants as op
-use Rattle.node_resources.specs.contracts.Resources.{the_view}
 use Rattle.node_resources.proofs.KindSteps.{got, got_none}
 use Rattle.node_resources.proofs.Resources.sem_get.Goals as goal
 

@@ -1,17 +1,10 @@
-use Rattle.std.proofs.Common.{◌≡◌, Bool, true, false, cond, refl, sym, ◌∙◌, subst, [], None}
-use Rattle.mtapi_values.specs.declared.statuses.MrapiStatus.TheVariants.{ErrSemInvalid}
-use Rattle.mtapi_objects.specs.Sems.{Sem, sem_busy, sem_taken}
+use Rattle.node_resources.proofs.Names.{◌≡◌, Bool, true, false, cond, refl, sym, ◌∙◌, subst, [], None, ErrSemInvalid, Sem, sem_busy, sem_taken, Sems, ResourceTable, Stands, the_view, answer, is_got, ℕ}
 use Rattle.mrapi_counting.specs.SemCalls.{sem_after_look}
 use Rattle.mtapi_machine.specs.declared.replies.Reply.TheVariants as reply
-use Rattle.mtapi_machine.specs.Moves.{Sems}
 use Rattle.mtapi_machine.specs.declared.ops.Op.TheVariants as op
-use Rattle.node_resources.specs.Holds.{ResourceTable, Stands}
-use Rattle.node_resources.specs.contracts.Resources.{the_view}
 use Rattle.node_resources.proofs.KindSteps.{kind_does}
 use Rattle.node_resources.proofs.RowLemmas.{past_up, looks_does}
 use Rattle.node_resources.proofs.Resources.sem_look.Goals as goal
-use Rattle.mtapi_values.specs.Looks.{answer, is_got}
-use Rattle.std.specs.Prelude.{ℕ}
 
 takes : (who : ℕ) (x : Sem) (b : Bool) → is_got (answer None b (tt {0})) ≡ true → cond b x (sem_taken who x) ≡ sem_taken who x
 takes who x true e = absurd (cc)

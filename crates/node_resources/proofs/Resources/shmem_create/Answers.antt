@@ -1,11 +1,5 @@
-use Rattle.std.proofs.Common.{refl, sym, ◌∙◌, subst}
-use Rattle.mtapi_values.specs.declared.statuses.MrapiStatus.TheVariants.{ErrShmExists, ErrShmLimit}
-use Rattle.mtapi_objects.specs.Segments.{new_segment, shmem_create_refusals}
-use Rattle.mtapi_machine.specs.KeyedRows.{keyed_segments}
-use Rattle.mtapi_machine.specs.Moves.{Segments}
+use Rattle.node_resources.proofs.Names.{refl, sym, ◌∙◌, subst, ErrShmExists, ErrShmLimit, new_segment, shmem_create_refusals, keyed_segments, Segments, ResourceTable, Stands, the_view}
 use Rattle.mtapi_machine.specs.declared.ops.Op.TheVariants as op
-use Rattle.node_resources.specs.Holds.{ResourceTable, Stands}
-use Rattle.node_resources.specs.contracts.Resources.{the_view}
 use Rattle.node_resources.proofs.KindSteps.{kind_does}
 use Rattle.node_resources.proofs.RowLemmas.{as_was, past, past_open, creates_does, refuses_within}
 use Rattle.node_resources.proofs.Resources.shmem_create.Goals as goal

@@ -1,10 +1,5 @@
-use Rattle.std.proofs.Common.{refl, sym, ◌∙◌, subst}
-use Rattle.mtapi_values.specs.declared.statuses.MrapiStatus.TheVariants.{ErrShmInvalid}
-use Rattle.mtapi_objects.specs.Segments.{shmem_delete_refusals}
-use Rattle.mtapi_machine.specs.Moves.{Segments}
+use Rattle.node_resources.proofs.Names.{refl, sym, ◌∙◌, subst, ErrShmInvalid, shmem_delete_refusals, Segments, ResourceTable, Stands, the_view}
 use Rattle.mtapi_machine.specs.declared.ops.Op.TheVariants as op
-use Rattle.node_resources.specs.Holds.{ResourceTable, Stands}
-use Rattle.node_resources.specs.contracts.Resources.{the_view}
 use Rattle.node_resources.proofs.KindSteps.{kind_does}
 use Rattle.node_resources.proofs.RowLemmas.{past_open, deletes_does}
 use Rattle.node_resources.proofs.Resources.shmem_delete.Goals as goal

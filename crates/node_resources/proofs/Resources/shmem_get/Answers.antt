@@ -1,9 +1,5 @@
-use Rattle.std.proofs.Common.{refl, sym, ◌∙◌}
-use Rattle.mtapi_values.specs.declared.statuses.MrapiStatus.TheVariants.{ErrShmIdInvalid}
-use Rattle.mtapi_machine.specs.KeyedRows.{keyed_segments}
-use Rattle.mtapi_machine.specs.Moves.{Segments}
+use Rattle.node_resources.proofs.Names.{refl, sym, ◌∙◌, ErrShmIdInvalid, keyed_segments, Segments, the_view}
 use Rattle.mtapi_machine.specs.declared.ops.Op.TheVariants as op
-use Rattle.node_resources.specs.contracts.Resources.{the_view}
 use Rattle.node_resources.proofs.KindSteps.{got, got_none}
 use Rattle.node_resources.proofs.Resources.shmem_get.Goals as goal
 

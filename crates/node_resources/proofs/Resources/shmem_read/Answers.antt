@@ -1,13 +1,7 @@
-use Rattle.std.proofs.Common.{refl, sym, ◌∙◌, subst}
-use Rattle.mtapi_values.specs.declared.statuses.MrapiStatus.TheVariants.{ErrShmInvalid}
-use Rattle.mtapi_objects.specs.Segments.{cell_refusals, cell_of}
+use Rattle.node_resources.proofs.Names.{refl, sym, ◌∙◌, subst, ErrShmInvalid, cell_refusals, cell_of, Segments, ResourceTable, Stands, the_view, Does}
 use Rattle.mtapi_machine.specs.declared.replies.Reply.TheVariants as reply
-use Rattle.mtapi_machine.specs.Moves.{Segments}
 use Rattle.mtapi_machine.specs.declared.ops.Op.TheVariants as op
-use Rattle.node_resources.specs.Holds.{ResourceTable, Stands}
-use Rattle.node_resources.specs.contracts.Resources.{the_view}
 use Rattle.node_resources.proofs.KindSteps.{kind_does}
-use Rattle.node_resources.specs.Steps.{Does}
 use Rattle.node_resources.proofs.RowLemmas.{past_up, reads_does}
 use Rattle.node_resources.proofs.Resources.shmem_read.Goals as goal
 

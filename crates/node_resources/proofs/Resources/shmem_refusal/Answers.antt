@@ -1,10 +1,4 @@
-use Rattle.std.proofs.Common.{[], ◌∷◌, ◌++◌, sym, ◌∙◌, subst}
-use Rattle.std.specs.Prelude.{◌==◌}
-use Rattle.handle_pool.specs.Issued.{any_listed}
-use Rattle.mtapi_values.specs.declared.statuses.MrapiStatus.TheVariants.{ErrShmExists}
-use Rattle.mtapi_objects.specs.Segments.{shmem_create_refusals}
-use Rattle.node_resources.specs.Holds.{ResourceTable, Stands}
-use Rattle.node_resources.specs.contracts.Resources.{the_view}
+use Rattle.node_resources.proofs.Names.{[], ◌∷◌, ◌++◌, sym, ◌∙◌, subst, ◌==◌, any_listed, ErrShmExists, shmem_create_refusals, ResourceTable, Stands, the_view}
 use Rattle.node_resources.proofs.RefusalLemmas.{gate_met, gate_past, told_after}
 use Rattle.node_resources.proofs.Resources.shmem_refusal.Goals as goal
 

@@ -1,14 +1,5 @@
-use Rattle.std.proofs.Common.{◌≡◌, ℤ, refl, sym, ◌∙◌, subst}
-use Rattle.mtapi_values.specs.declared.statuses.MrapiStatus.TheVariants.{ErrShmInvalid}
-use Rattle.mtapi_objects.specs.Segments.{cell_refusals, with_cell}
-use mir.Syntax.{w64}
-use Rattle.std.proofs.lemmas.Int.{to_z-of_z}
-use Rattle.handle_pool.specs.Slots.{changed}
-use Rattle.mrapi_shmem.specs.Calls.{after_write}
-use Rattle.mtapi_machine.specs.Moves.{Segments}
+use Rattle.node_resources.proofs.Names.{◌≡◌, ℤ, refl, sym, ◌∙◌, subst, ErrShmInvalid, cell_refusals, with_cell, w64, to_z-of_z, changed, after_write, Segments, ResourceTable, Stands, the_view}
 use Rattle.mtapi_machine.specs.declared.ops.Op.TheVariants as op
-use Rattle.node_resources.specs.Holds.{ResourceTable, Stands}
-use Rattle.node_resources.specs.contracts.Resources.{the_view}
 use Rattle.node_resources.proofs.KindSteps.{kind_does}
 use Rattle.node_resources.proofs.RowLemmas.{past_up, alters_does}
 use Rattle.node_resources.proofs.Resources.shmem_write.Goals as goal

@@ -1,12 +1,4 @@
-use Rattle.std.proofs.Common.{◌≡◌, false, Some, sym, ◌∙◌, subst}
-use Rattle.std.specs.Prelude.{is_some, true}
-use Rattle.handle_pool.specs.Slots.{slot_value, changed}
-use Rattle.mtapi_objects.specs.Mutexes.{Mutex, locked_by}
-use Rattle.mtapi_objects.specs.Segments.{with_attached}
-use Rattle.mrapi_mutex.specs.Calls.{after_look}
-use Rattle.mrapi_shmem.specs.Calls.{after_attach}
-use Rattle.node_resources.specs.Holds.{ResourceTable}
-use Rattle.node_resources.specs.contracts.Resources.{the_view}
+use Rattle.node_resources.proofs.Names.{◌≡◌, false, Some, sym, ◌∙◌, subst, is_some, true, slot_value, changed, Mutex, locked_by, with_attached, after_look, after_attach, ResourceTable, the_view}
 use Rattle.node_resources.proofs.TallyLemmas.{changed_as, look_locks, attach_marks}
 use Rattle.node_resources.proofs.Resources.take.Goals as goal
 

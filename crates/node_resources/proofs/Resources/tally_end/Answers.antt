@@ -1,13 +1,4 @@
-use Rattle.std.proofs.Common.{◌≡◌, sym, subst}
-use Rattle.std.specs.Prelude.{[], ◌∷◌, false}
-use Rattle.handle_pool.specs.Slots.{changed}
-use Rattle.mtapi_objects.specs.Mutexes.{unlocked}
-use Rattle.mtapi_objects.specs.Segments.{with_attached}
-use Rattle.mrapi_mutex.specs.Calls.{after_unlock}
-use Rattle.mrapi_shmem.specs.Calls.{after_detach}
-use Rattle.mtapi_machine.specs.Moves.{Mutexes, Segments, alters, after_moves}
-use Rattle.node_resources.specs.Holds.{ResourceTable, Stands}
-use Rattle.node_resources.specs.contracts.Resources.{the_view}
+use Rattle.node_resources.proofs.Names.{◌≡◌, sym, subst, [], ◌∷◌, false, changed, unlocked, with_attached, after_unlock, after_detach, Mutexes, Segments, alters, after_moves, ResourceTable, Stands, the_view}
 use Rattle.node_resources.proofs.TallyLemmas.{gives_stand}
 use Rattle.node_resources.proofs.Resources.tally_end.Goals as goal
 

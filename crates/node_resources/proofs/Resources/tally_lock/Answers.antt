@@ -1,12 +1,4 @@
-use Rattle.std.proofs.Common.{◌≡◌, Some, refl, sym, ◌∙◌, subst}
-use Rattle.std.specs.Prelude.{true}
-use Rattle.handle_pool.specs.Slots.{slot_value, changed}
-use Rattle.handle_pool.specs.Walks.{NoneLive, HasLive, OneEach}
-use Rattle.mtapi_objects.specs.Mutexes.{locked_by}
-use Rattle.mtapi_objects.specs.Segments.{with_attached}
-use Rattle.node_resources.specs.declared.tally_ops.TallyLock.TheVariants.{Both, Owned, Absent}
-use Rattle.node_resources.specs.Holds.{ResourceTable}
-use Rattle.node_resources.specs.Tallies.{Locks}
+use Rattle.node_resources.proofs.Names.{◌≡◌, Some, refl, sym, ◌∙◌, subst, true, slot_value, changed, NoneLive, HasLive, OneEach, locked_by, with_attached, Both, Owned, Absent, ResourceTable, Locks}
 use Rattle.node_resources.proofs.TallyLemmas.{no_mutex, no_segment, no_cell, owned, both}
 use Rattle.node_resources.proofs.Resources.tally_lock.Goals as goal
 

@@ -1,12 +1,4 @@
-use Rattle.std.proofs.Common.{◌≡◌, ℤ, sym, subst}
-use mir.Syntax.{w64}
-use Rattle.std.proofs.lemmas.Int.{to_z-of_z}
-use Rattle.handle_pool.specs.Slots.{Slots, changed}
-use Rattle.mtapi_objects.specs.Segments.{Segment, with_cell}
-use Rattle.mtapi_machine.specs.Moves.{Segments, alters, after_moves}
-use Rattle.std.specs.Prelude.{[], ◌∷◌}
-use Rattle.node_resources.specs.Holds.{ResourceTable, Stands}
-use Rattle.node_resources.specs.contracts.Resources.{the_view}
+use Rattle.node_resources.proofs.Names.{◌≡◌, ℤ, sym, subst, w64, to_z-of_z, Slots, changed, Segment, with_cell, Segments, alters, after_moves, [], ◌∷◌, ResourceTable, Stands, the_view}
 use Rattle.node_resources.proofs.TallyLemmas.{writes_stand}
 use Rattle.node_resources.proofs.Resources.tally_write.Goals as goal
 

@@ -1,5 +1,4 @@
-use Rattle.std.proofs.Common.{◌≡◌, drop}
-use Rattle.mtapi_values.specs.Seats.{all_marked}
+use Rattle.node_steps.proofs.Names.{◌≡◌, drop, all_marked}
 use Rattle.node_steps.proofs.phase_ops.all_marked.Given as goal
 
 abbrev pub invariant-loop-mark : goal.invariant-loop-mark

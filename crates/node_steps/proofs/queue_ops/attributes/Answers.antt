@@ -1,5 +1,4 @@
-use Rattle.std.proofs.Common.{◌≡◌, ℕ, Bool, true, false, cond, refl, ap, ◌∙◌}
-use Rattle.mtapi_values.specs.Attributes.{QueueAttributes}
+use Rattle.node_steps.proofs.Names.{◌≡◌, ℕ, Bool, true, false, cond, refl, ap, ◌∙◌, QueueAttributes}
 use Rattle.mtapi_values.specs.AttributeTables.{after_set, queue_attributes}
 use Rattle.node_steps.proofs.queue_ops.attributes.Goals as goal
 

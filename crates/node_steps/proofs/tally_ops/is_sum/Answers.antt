@@ -1,8 +1,4 @@
-use Rattle.std.proofs.Common.{◌≡◌, true, subst, FitsSigned, w64}
-use Rattle.std.specs.Prelude.{ℤ, ◌+ℤ◌}
-use Rattle.std.proofs.lemmas.Int.{to_z-of_z}
-use Rattle.action_fn.specs.Answers.{fits}
-use Rattle.action_fn.proofs.Numbers.{fits_from}
+use Rattle.node_steps.proofs.Names.{◌≡◌, true, subst, FitsSigned, w64, ℤ, ◌+ℤ◌, to_z-of_z, fits, fits_from}
 use Rattle.node_steps.proofs.TallySteps.{none_fits}
 use Rattle.node_steps.proofs.tally_ops.is_sum.Goals as goal
 

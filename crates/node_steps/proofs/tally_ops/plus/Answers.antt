@@ -1,6 +1,4 @@
-use Rattle.std.proofs.Common.{FitsSigned, w64}
-use Rattle.std.proofs.lemmas.Int.{to_z-of_z}
-use Rattle.action_fn.proofs.Numbers.{fitting_from}
+use Rattle.node_steps.proofs.Names.{FitsSigned, w64, to_z-of_z, fitting_from}
 use Rattle.node_steps.proofs.tally_ops.plus.Goals as goal
 
 pub returns : goal.returns

@@ -1,5 +1,4 @@
-use Rattle.std.proofs.Common.{◌≡◌, take}
-use Rattle.workload_runs.specs.Lines.{lines_of}
+use Rattle.run_check.proofs.Names.{◌≡◌, take, lines_of}
 use Rattle.run_check.proofs.lines.lines_of.Given as goal
 
 abbrev pub invariant-loop-i : goal.invariant-loop-i

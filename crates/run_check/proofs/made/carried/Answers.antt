@@ -1,8 +1,4 @@
-use Rattle.std.proofs.Common.{subst, ℕ, List}
-use Rattle.mtapi_machine.specs.declared.replies.Reply.{Reply}
-use Rattle.workload_runs.specs.Calls.{call_of}
-use Rattle.workload_runs.specs.Lines.{Line}
-use Rattle.run_check.specs.Takes.{Takes}
+use Rattle.run_check.proofs.Names.{subst, ℕ, List, Reply, call_of, Line, Takes}
 use Rattle.run_check.proofs.Reached.{one_more, none_more, at_end}
 use Rattle.run_check.proofs.made.carried.Goals as goal
 

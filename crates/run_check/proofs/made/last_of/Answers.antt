@@ -1,5 +1,4 @@
-use Rattle.std.proofs.Common.{◌∙◌, sym, subst, true, false}
-use Rattle.run_check.specs.Same.{IsStated}
+use Rattle.run_check.proofs.Names.{◌∙◌, sym, subst, true, false, IsStated}
 use Rattle.run_check.proofs.Stated.{look_is_stated}
 use Rattle.run_check.proofs.Fronts.{no_look}
 use Rattle.run_check.proofs.made.last_of.Goals as goal

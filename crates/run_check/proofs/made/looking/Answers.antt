@@ -1,10 +1,5 @@
-use Rattle.std.proofs.Common.{◌≡◌, ◌∙◌, ◌+◌, ◌-◌, true, false, List, ◌∷◌, refl, sym, ap, subst, length, take, drop, ℕ}
-use Rattle.mtapi_machine.specs.declared.replies.Reply.{Reply}
-use Rattle.mtapi_machine.specs.Kept.{is_pending}
-use Rattle.workload_runs.specs.Calls.{Looking}
-use Rattle.workload_runs.specs.Wants.{op_of, waits}
-use Rattle.workload_runs.specs.Lines.{Line}
-use Rattle.run_check.specs.Takes.{Takes, Decides}
+use Rattle.run_check.proofs.Names.{◌≡◌, ◌∙◌, ◌+◌, ◌-◌, true, false, List, ◌∷◌, refl, sym, ap, subst, length, take, drop, ℕ, Reply, is_pending, Looking, op_of, waits, Line, Takes}
+use Rattle.run_check.specs.Takes.{Decides}
 use Rattle.run_check.proofs.Fronts.{alone, behind_kept, no_front, at_front}
 use Rattle.run_check.proofs.made.looking.Goals as goal
 

@@ -1,10 +1,5 @@
-use Rattle.std.proofs.Common.{sym, subst, List}
-use Rattle.std.specs.Prelude.{IfNone}
-use Rattle.mtapi_machine.specs.declared.replies.Reply.{Reply}
+use Rattle.run_check.proofs.Names.{sym, subst, List, IfNone, Reply, Line, shape, Stated, Takes}
 use Rattle.workload_runs.specs.declared.calls.Call.{Call as StatementCall}
-use Rattle.workload_runs.specs.Lines.{Line}
-use Rattle.workload_runs.specs.Wants.{shape, Stated}
-use Rattle.run_check.specs.Takes.{Takes}
 use Rattle.run_check.proofs.Stated.{once_is_stated}
 use Rattle.run_check.proofs.made.made.Goals as goal
 

@@ -1,6 +1,4 @@
-use Rattle.std.proofs.Common.{sym, subst}
-use Rattle.workload_runs.specs.Calls.{Call}
-use Rattle.run_check.specs.Takes.{Takes}
+use Rattle.run_check.proofs.Names.{sym, subst, Call, Takes}
 use Rattle.run_check.proofs.made.stated.Goals as goal
 
 pub returns-in-None-clause-none : goal.returns-in-None-clause-none

@@ -1,5 +1,4 @@
-use Rattle.std.proofs.Common.{◌∙◌, ◌+◌, sym, ap, drop}
-use Rattle.workload_runs.specs.RunOf.{is_work, all_work}
+use Rattle.run_check.proofs.Names.{◌∙◌, ◌+◌, sym, ap, drop, is_work, all_work}
 use Rattle.run_check.proofs.Ran.{work_more, work_none, and_false, and_true}
 use Rattle.run_check.proofs.parts.all_work.Goals as goal
 

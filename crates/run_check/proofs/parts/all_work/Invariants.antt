@@ -1,5 +1,4 @@
-use Rattle.std.proofs.Common.{◌≡◌, drop}
-use Rattle.workload_runs.specs.RunOf.{all_work}
+use Rattle.run_check.proofs.Names.{◌≡◌, drop, all_work}
 use Rattle.run_check.proofs.parts.all_work.Given as goal
 
 abbrev pub invariant-loop-line : goal.invariant-loop-line

@@ -1,5 +1,4 @@
-use Rattle.std.proofs.Common.{◌≡◌, ◌++◌, Bool, subst}
-use Rattle.workload_runs.specs.Lines.{head_of}
+use Rattle.run_check.proofs.Names.{◌≡◌, ◌++◌, Bool, subst, head_of}
 use Rattle.run_check.proofs.Ran.{main_some, main_none, some_of, none_of}
 use Rattle.run_check.proofs.parts.main_ran.Goals as goal
 

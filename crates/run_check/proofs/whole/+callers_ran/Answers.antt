@@ -1,8 +1,4 @@
-use Rattle.std.proofs.Common.{◌≡◌, ◌+◌, ◌-◌, ℕ, List, [], refl, sym, subst, length, take, drop, arith}
-use Rattle.std.specs.Prelude.{IsTrue, ◌↔◌}
-use Rattle.std.proofs.lemmas.List.{nil_from_length}
-use Rattle.workload_file.specs.declared.workload.Part.{Part}
-use Rattle.workload_runs.specs.Lines.{Line, lines_of}
+use Rattle.run_check.proofs.Names.{◌≡◌, ◌+◌, ◌-◌, ℕ, List, [], refl, sym, subst, length, take, drop, arith, IsTrue, ◌↔◌, nil_from_length, Part, Line, lines_of}
 use Rattle.run_check.proofs.Fronts.{at_front}
 use Rattle.run_check.proofs.Several.{Some, no_callers, not_first, and_rest}
 use Rattle.run_check.proofs.whole.+callers_ran.Goals as goal

@@ -1,6 +1,4 @@
-use Rattle.std.proofs.Common.{take}
-use Rattle.std.specs.Prelude.{◌↔◌, IsTrue}
-use Rattle.run_check.specs.Ends.{Closes}
+use Rattle.run_check.proofs.Names.{take, ◌↔◌, IsTrue, Closes}
 use Rattle.run_check.proofs.whole.has_closed.Given as goal
 
 abbrev pub invariant-loop-e : goal.invariant-loop-e

@@ -1,7 +1,4 @@
-use Rattle.std.proofs.Common.{◌+◌, ◌-◌, ℕ, List, refl, sym, subst, length, take, drop}
-use Rattle.std.specs.Prelude.{IsTrue, ◌↔◌}
-use Rattle.workload_file.specs.declared.workload.Part.{Part}
-use Rattle.workload_runs.specs.Lines.{Line, lines_of}
+use Rattle.run_check.proofs.Names.{◌+◌, ◌-◌, ℕ, List, refl, sym, subst, length, take, drop, IsTrue, ◌↔◌, Part, Line, lines_of}
 use Rattle.run_check.proofs.Fronts.{at_front}
 use Rattle.run_check.proofs.Several.{All, and_callers}
 use Rattle.run_check.proofs.whole.parts_ran.Goals as goal

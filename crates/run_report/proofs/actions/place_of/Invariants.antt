@@ -1,5 +1,4 @@
-use Rattle.std.proofs.Common.{◌≡◌, drop}
-use Rattle.run_report.specs.Standings.{place_of}
+use Rattle.run_report.proofs.Names.{◌≡◌, drop, place_of}
 use Rattle.run_report.proofs.LiveActions.{further}
 use Rattle.run_report.proofs.actions.place_of.Given as goal
 

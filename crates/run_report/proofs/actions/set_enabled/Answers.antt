@@ -1,7 +1,4 @@
-use Rattle.std.proofs.Common.{ℕ, ◌<◌, sym, ap, subst, ◌∙◌}
-use Rattle.mtapi_objects.specs.Actions.{with_enabled}
-use Rattle.run_report.specs.Seen.{action_of}
-use Rattle.run_report.specs.Standings.{place_of}
+use Rattle.run_report.proofs.Names.{ℕ, ◌<◌, sym, ap, subst, ◌∙◌, with_enabled, action_of, place_of}
 use Rattle.run_report.proofs.LiveActions.{place_below, place_set, place_none_set}
 use Rattle.run_report.proofs.actions.set_enabled.Goals as goal
 

@@ -1,7 +1,4 @@
-use Rattle.std.proofs.Common.{◌≡◌, false}
-use Rattle.std.specs.Prelude.{◌&&◌}
-use Rattle.mtapi_values.specs.Masks.{in_mask}
-use Rattle.mtapi_objects.specs.Actions.{some_below}
+use Rattle.run_report.proofs.Names.{◌≡◌, false, ◌&&◌, in_mask, some_below}
 use Rattle.run_report.proofs.actions.share_core.Given as goal
 
 abbrev pub invariant-loop-core : goal.invariant-loop-core

@@ -1,6 +1,4 @@
-use Rattle.std.proofs.Common.{ℕ, ◌<◌, sym, ap, subst, ◌∙◌}
-use Rattle.run_report.specs.Seen.{pairs}
-use Rattle.run_report.specs.Standings.{place_of}
+use Rattle.run_report.proofs.Names.{ℕ, ◌<◌, sym, ap, subst, ◌∙◌, pairs, place_of}
 use Rattle.run_report.proofs.LiveActions.{place_below, place_out, place_none_out}
 use Rattle.run_report.proofs.actions.take_out.Goals as goal
 

@@ -1,7 +1,4 @@
-use Rattle.std.specs.Prelude.{nat_eq}
-use Rattle.std.specs.HashMap.{get}
-use Rattle.run_report.specs.Places.{names_by}
-use Rattle.run_report.specs.Replies.{nows}
+use Rattle.run_report.proofs.Names.{nat_eq, get, names_by, nows}
 use Rattle.run_report.proofs.Zips.{nows_past, nows_room, nows_at, call_lines-next, call_lines-past_replies, call_lines-past}
 use Rattle.run_report.proofs.call_lines.push_calls.Goals as goal
 

@@ -1,9 +1,4 @@
-use Rattle.std.specs.Prelude.{nat_eq}
-use Rattle.std.proofs.Common.{◌≡◌, ◌++◌, drop}
-use Rattle.std.specs.HashMap.{get}
-use Rattle.run_report.specs.Replies.{nows}
-use Rattle.run_report.specs.Calls.{call_lines_of}
-use Rattle.run_report.specs.Places.{names_by}
+use Rattle.run_report.proofs.Names.{nat_eq, ◌≡◌, ◌++◌, drop, get, nows, call_lines_of, names_by}
 use Rattle.run_report.proofs.call_lines.push_calls.Given as goal
 
 abbrev pub invariant-loop-i : goal.invariant-loop-i

@@ -1,5 +1,4 @@
-use Rattle.std.proofs.Common.{◌∙◌, ap}
-use Rattle.run_report.specs.Replies.{nows}
+use Rattle.run_report.proofs.Names.{◌∙◌, ap, nows}
 use Rattle.run_report.proofs.Seats.{decided_none, decided_next}
 use Rattle.run_report.proofs.deciding.decided.Goals as goal
 

@@ -1,5 +1,4 @@
-use Rattle.std.proofs.Common.{◌≡◌, take}
-use Rattle.run_report.specs.Replies.{nows, decided}
+use Rattle.run_report.proofs.Names.{◌≡◌, take, nows, decided}
 use Rattle.run_report.proofs.deciding.decided.Given as goal
 
 abbrev pub invariant-loop-entry : goal.invariant-loop-entry

@@ -1,5 +1,4 @@
-use Rattle.std.proofs.Common.{sym, ◌∙◌, nat_eq}
-use Rattle.std.specs.HashMap.{get}
+use Rattle.run_report.proofs.Names.{sym, ◌∙◌, nat_eq, get}
 use Rattle.run_report.proofs.NamedEnds.{named_none, named_next}
 use Rattle.run_report.proofs.ends.note_named_ends.Goals as goal
 

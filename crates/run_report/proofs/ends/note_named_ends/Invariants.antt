@@ -1,6 +1,4 @@
-use Rattle.std.proofs.Common.{ℕ, take, nat_eq}
-use Rattle.std.specs.HashMap.{get}
-use Rattle.run_report.specs.Seen.{nothing_seen, seen_from}
+use Rattle.run_report.proofs.Names.{ℕ, take, nat_eq, get, nothing_seen, seen_from}
 use Rattle.run_report.proofs.NamedEnds.{Named}
 use Rattle.run_report.proofs.ends.note_named_ends.Given as goal
 

@@ -1,9 +1,4 @@
-use Rattle.std.specs.Prelude.{nat_eq}
-use Rattle.std.proofs.Common.{◌+◌}
-use Rattle.std.specs.List.{flat_map}
-use Rattle.std.specs.HashMap.{get}
-use Rattle.run_report.specs.Replies.{reported, further_told}
-use Rattle.run_report.specs.Calls.{task_lines, call_lines}
+use Rattle.run_report.proofs.Names.{nat_eq, ◌+◌, flat_map, get, reported, further_told, task_lines, call_lines}
 use Rattle.run_report.proofs.Zips.{on_ok}
 use Rattle.run_report.proofs.Parts.{rest_of, two_pieces, further_more}
 use Rattle.run_report.proofs.page.+push_further.Goals as goal

@@ -1,5 +1,4 @@
-use Rattle.std.proofs.Common.{nat_eq}
-use Rattle.std.specs.HashMap.{get}
+use Rattle.run_report.proofs.Names.{nat_eq, get}
 use Rattle.run_report.proofs.Parts.{if_ok, text_is}
 use Rattle.run_report.proofs.page.text_by_entries.Goals as goal
 

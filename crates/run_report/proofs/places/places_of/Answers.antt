@@ -1,9 +1,5 @@
-use Rattle.std.specs.Prelude.{nat_eq}
-use Rattle.std.proofs.Common.{ap, List, ℕ}
-use Rattle.std.specs.HashMap.{get}
+use Rattle.run_report.proofs.Names.{nat_eq, ap, List, ℕ, get, first_of_two, place_from, nows}
 use Rattle.std.specs.Map.{lookup}
-use Rattle.run_report.specs.Places.{first_of_two, place_from}
-use Rattle.run_report.specs.Replies.{nows}
 use Rattle.run_report.proofs.Zips.{nows_past, nows_room, nows_at, place-next, place-past_replies, place-past}
 use Rattle.run_report.proofs.places.places_of.Goals as goal
 

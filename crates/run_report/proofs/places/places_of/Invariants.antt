@@ -1,8 +1,4 @@
-use Rattle.std.specs.Prelude.{nat_eq}
-use Rattle.std.proofs.Common.{◌≡◌, ℕ, drop}
-use Rattle.std.specs.HashMap.{get}
-use Rattle.run_report.specs.Replies.{nows}
-use Rattle.run_report.specs.Places.{first_of_two, place_from}
+use Rattle.run_report.proofs.Names.{nat_eq, ◌≡◌, ℕ, drop, get, nows, first_of_two, place_from}
 use Rattle.run_report.proofs.places.places_of.Given as goal
 
 abbrev pub invariant-loop-i : goal.invariant-loop-i

@@ -1,5 +1,4 @@
-use Rattle.std.proofs.Common.{refl, ◌∙◌}
-use Rattle.run_report.specs.Standings.{seen_in, passes}
+use Rattle.run_report.proofs.Names.{refl, ◌∙◌, seen_in, passes}
 use Rattle.run_report.proofs.EndLoop.{ends_none, ends_next, ends_keys}
 use Rattle.run_report.proofs.standings.end_where.Goals as goal
 

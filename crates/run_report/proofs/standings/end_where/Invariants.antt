@@ -1,5 +1,4 @@
-use Rattle.std.proofs.Common.{take}
-use Rattle.run_report.specs.Standings.{seen_in, SameAs, passes}
+use Rattle.run_report.proofs.Names.{take, seen_in, SameAs, passes}
 use Rattle.run_report.proofs.EndLoop.{ends_among}
 use Rattle.run_report.proofs.standings.end_where.Given as goal
 

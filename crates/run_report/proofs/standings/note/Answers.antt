@@ -1,7 +1,4 @@
-use Rattle.std.proofs.Common.{refl, sym, ap, subst, ◌∙◌}
-use Rattle.run_report.specs.declared.changes.Change.{Change}
-use Rattle.run_report.specs.Seen.{pairs, with_change}
-use Rattle.run_report.specs.Standings.{seen_in, SameAs}
+use Rattle.run_report.proofs.Names.{refl, sym, ap, subst, ◌∙◌, Change, pairs, with_change, seen_in, SameAs}
 use Rattle.run_report.proofs.LiveActions.{pairs_more}
 use Rattle.run_report.proofs.standings.note.Goals as goal
 

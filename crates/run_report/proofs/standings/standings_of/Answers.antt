@@ -1,7 +1,4 @@
-use Rattle.std.proofs.Common.{subst}
-use Rattle.run_report.specs.declared.changes.Change.{Change}
-use Rattle.run_report.specs.Seen.{with_change}
-use Rattle.run_report.specs.Standings.{seen_in, SameAs}
+use Rattle.run_report.proofs.Names.{subst, Change, with_change, seen_in, SameAs}
 use Rattle.run_report.proofs.History.{seen_none, seen_next}
 use Rattle.run_report.proofs.standings.standings_of.Goals as goal
 

@@ -1,6 +1,4 @@
-use Rattle.std.proofs.Common.{take}
-use Rattle.run_report.specs.Seen.{nothing_seen, seen_from}
-use Rattle.run_report.specs.Standings.{seen_in, SameAs}
+use Rattle.run_report.proofs.Names.{take, nothing_seen, seen_from, seen_in, SameAs}
 use Rattle.run_report.proofs.standings.standings_of.Given as goal
 
 abbrev pub invariant-loop-entry : goal.invariant-loop-entry

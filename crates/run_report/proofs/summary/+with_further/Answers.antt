@@ -1,5 +1,4 @@
-use Rattle.std.specs.Prelude.{nat_eq}
-use Rattle.std.specs.HashMap.{get}
+use Rattle.run_report.proofs.Names.{nat_eq, get}
 use Rattle.run_report.proofs.Summaries.{further_with, if_totals}
 use Rattle.run_report.proofs.summary.+with_further.Goals as goal
 

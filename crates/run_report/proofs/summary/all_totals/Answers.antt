@@ -1,6 +1,4 @@
-use Rattle.std.specs.Prelude.{nat_eq}
-use Rattle.std.specs.HashMap.{get}
-use Rattle.run_report.specs.Summary.{no_totals}
+use Rattle.run_report.proofs.Names.{nat_eq, get, no_totals}
 use Rattle.run_report.proofs.Summaries.{all_with, if_totals, part_is}
 use Rattle.run_report.proofs.summary.all_totals.Goals as goal
 

@@ -1,5 +1,4 @@
-use Rattle.std.proofs.Common.{ap, arith, ◌∙◌}
-use Rattle.run_report.specs.Summary.{totals, totals_text}
+use Rattle.run_report.proofs.Names.{ap, arith, ◌∙◌, totals, totals_text}
 use Rattle.run_report.proofs.Parts.{if_ok, legal_same}
 use Rattle.run_report.proofs.Summaries.{few_statements, summary_is}
 use Rattle.run_report.proofs.summary.summary_of.Goals as goal

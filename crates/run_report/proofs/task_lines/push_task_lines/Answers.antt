@@ -1,6 +1,4 @@
-use Rattle.std.specs.Prelude.{nat_eq}
-use Rattle.std.specs.HashMap.{get}
-use Rattle.run_report.specs.Replies.{nows}
+use Rattle.run_report.proofs.Names.{nat_eq, get, nows}
 use Rattle.run_report.proofs.Zips.{nows_past, nows_room, nows_at, task_lines-next, task_lines-past_replies, task_lines-past}
 use Rattle.run_report.proofs.task_lines.push_task_lines.Goals as goal
 

@@ -1,8 +1,4 @@
-use Rattle.std.specs.Prelude.{nat_eq}
-use Rattle.std.proofs.Common.{◌≡◌, ◌++◌, drop}
-use Rattle.run_report.specs.Calls.{task_lines_of}
-use Rattle.std.specs.HashMap.{get}
-use Rattle.run_report.specs.Replies.{nows}
+use Rattle.run_report.proofs.Names.{nat_eq, ◌≡◌, ◌++◌, drop, task_lines_of, get, nows}
 use Rattle.run_report.proofs.task_lines.push_task_lines.Given as goal
 
 abbrev pub invariant-loop-i : goal.invariant-loop-i

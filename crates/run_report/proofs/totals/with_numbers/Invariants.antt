@@ -1,5 +1,4 @@
-use Rattle.std.proofs.Common.{◌≡◌, ◌≤◌, length, take}
-use Rattle.run_report.specs.Summary.{with_numbers, IsNear}
+use Rattle.run_report.proofs.Names.{◌≡◌, ◌≤◌, length, take, with_numbers, IsNear}
 use Rattle.run_report.proofs.totals.with_numbers.Given as goal
 
 abbrev pub invariant-loop-number : goal.invariant-loop-number

@@ -1,8 +1,4 @@
-use Rattle.std.specs.Prelude.{nat_eq}
-use Rattle.std.proofs.Common.{◌≡◌, ◌≤◌, ◌+◌, length}
-use Rattle.std.specs.HashMap.{get}
-use Rattle.run_report.specs.Replies.{nows}
-use Rattle.run_report.specs.Summary.{with_tasks, AreTotals}
+use Rattle.run_report.proofs.Names.{nat_eq, ◌≡◌, ◌≤◌, ◌+◌, length, get, nows, with_tasks, AreTotals}
 use Rattle.run_report.proofs.totals.with_tasks.Given as goal
 
 abbrev pub invariant-statements : goal.invariant-statements

@@ -1,5 +1,4 @@
-use Rattle.std.proofs.Common.{ap}
-use Rattle.run_report.specs.Report.{report}
+use Rattle.run_report.proofs.Names.{ap, report}
 use Rattle.run_report.proofs.Parts.{if_ok, legal_same}
 use Rattle.run_report.proofs.whole.report_of.Goals as goal
 

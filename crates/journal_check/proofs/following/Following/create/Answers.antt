@@ -1,12 +1,5 @@
-use Rattle.std.proofs.Common.{◌≡◌, List, Some, None, subst}
-use Rattle.std.specs.Prelude.{IsSome}
-use Rattle.mtapi_machine.specs.declared.ops.Op.{Op}
-use Rattle.mtapi_machine.specs.Legal.{NodeEntry, after}
-use Rattle.node_steps.specs.Stands.{Stands, terms_of}
-use Rattle.mtapi_renaming.specs.Kinds.{made_kind}
-use Rattle.mtapi_renaming.specs.Refusals.{refusal_of}
-use Rattle.mtapi_renaming.specs.Maps.{renaming_of}
-use Rattle.mtapi_renaming.specs.Ops.{renamed_op}
+use Rattle.journal_check.proofs.Names.{◌≡◌, List, Some, None, subst, IsSome, Op, NodeEntry, after, Stands, made_kind, refusal_of, renaming_of, renamed_op}
+use Rattle.node_steps.specs.Stands.{terms_of}
 use Rattle.journal_check.proofs.Creates.{makes_some, refusal_here, judged_refused}
 use Rattle.journal_check.proofs.following.Following.create.Goals as goal
 

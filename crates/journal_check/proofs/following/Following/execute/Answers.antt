@@ -1,14 +1,5 @@
-use Rattle.std.proofs.Common.{◌≡◌, List, [], ◌∷◌, ◌++◌, true, Decides, subst}
-use Rattle.history.specs.Histories.{entry}
-use Rattle.mtapi_machine.specs.declared.ops.Op.{Op}
-use Rattle.mtapi_machine.specs.declared.replies.Reply.{Reply}
-use Rattle.mtapi_machine.specs.Row.{Allows}
-use Rattle.mtapi_machine.specs.Rows.{row}
-use Rattle.mtapi_machine.specs.Legal.{NodeEntry, after}
-use Rattle.node_steps.specs.Stands.{Stands, terms_of}
-use Rattle.mtapi_renaming.specs.Maps.{renaming_of}
-use Rattle.mtapi_renaming.specs.Ops.{renamed_op, renamed_reply}
-use Rattle.mtapi_renaming.specs.Kinds.{takes_task}
+use Rattle.journal_check.proofs.Names.{◌≡◌, List, [], ◌∷◌, ◌++◌, true, Decides, subst, entry, Op, Reply, Allows, row, NodeEntry, after, Stands, renaming_of, renamed_op, renamed_reply, takes_task}
+use Rattle.node_steps.specs.Stands.{terms_of}
 use Rattle.journal_check.proofs.Executes.{executed}
 use Rattle.journal_check.proofs.following.Following.execute.Goals as goal
 

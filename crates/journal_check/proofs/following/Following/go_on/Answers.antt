@@ -1,5 +1,4 @@
-use Rattle.std.proofs.Common.{◌≡◌, ◌∙◌, ap}
-use Rattle.mtapi_machine.specs.declared.terms.Terms.{Terms}
+use Rattle.journal_check.proofs.Names.{◌≡◌, ◌∙◌, ap, Terms}
 use Rattle.journal_check.proofs.Ended.{judged_ended}
 use Rattle.journal_check.proofs.following.Following.go_on.Goals as goal
 

@@ -1,8 +1,4 @@
-use Rattle.std.proofs.Common.{◌≡◌, ◌+◌, ◌≤◌, ℕ, List, length, sym, ap, subst, ◌∙◌, arith}
-use Rattle.std.specs.Prelude.{◌==◌, ◌-◌}
-use Rattle.mtapi_machine.specs.Legal.{after}
-use Rattle.mtapi_renaming.specs.Lasts.{gone_of}
-use Rattle.journal_check.specs.Made.{of_kind, last_handles, made_count, gone_count, Ends}
+use Rattle.journal_check.proofs.Names.{◌≡◌, ◌+◌, ◌≤◌, ℕ, List, length, sym, ap, subst, ◌∙◌, arith, ◌==◌, ◌-◌, after, gone_of, of_kind, last_handles, made_count, gone_count, Ends}
 use Rattle.journal_check.proofs.Rooms.{alive_here, full_here, all_taken, all_made, same_gone}
 use Rattle.journal_check.proofs.following.Following.is_full.Goals as goal
 

@@ -1,8 +1,5 @@
-use Rattle.std.proofs.Common.{◌≡◌, ℕ, List, length, subst}
-use Rattle.mtapi_machine.specs.Legal.{NodeEntry, after}
-use Rattle.node_steps.specs.Stands.{Stands, terms_of}
-use Rattle.mtapi_renaming.specs.Kinds.{is_live_of}
-use Rattle.mtapi_renaming.specs.Maps.{renaming_of}
+use Rattle.journal_check.proofs.Names.{◌≡◌, ℕ, List, length, subst, NodeEntry, after, Stands, is_live_of, renaming_of}
+use Rattle.node_steps.specs.Stands.{terms_of}
 use Rattle.journal_check.proofs.Rooms.{live_here}
 use Rattle.journal_check.proofs.following.Following.is_live.Goals as goal
 

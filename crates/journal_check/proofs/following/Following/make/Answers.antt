@@ -1,12 +1,4 @@
-use Rattle.std.proofs.Common.{◌≡◌, ℕ, List, [], ◌∷◌, ◌++◌, subst}
-use Rattle.history.specs.Histories.{entry}
-use Rattle.mtapi_machine.specs.declared.ops.Op.{Op}
-use Rattle.mtapi_machine.specs.declared.replies.Reply.TheVariants.{Handle}
-use Rattle.mtapi_machine.specs.Legal.{NodeEntry}
-use Rattle.node_steps.specs.Stands.{Stands}
-use Rattle.mtapi_renaming.specs.Maps.{renaming_of}
-use Rattle.mtapi_renaming.specs.Ops.{renamed_op}
-use Rattle.journal_check.specs.Made.{Notes}
+use Rattle.journal_check.proofs.Names.{◌≡◌, ℕ, List, [], ◌∷◌, ◌++◌, subst, entry, Op, Handle, NodeEntry, Stands, renaming_of, renamed_op, Notes}
 use Rattle.journal_check.proofs.Makes.{judged_other, judged_stale, judged_idle, judged_made}
 use Rattle.journal_check.proofs.following.Following.make.Goals as goal
 

@@ -1,11 +1,7 @@
-use Rattle.std.proofs.Common.{◌≡◌, ◌∙◌, ap}
+use Rattle.journal_check.proofs.Names.{◌≡◌, ◌∙◌, ap, Terms, terms_with, terms_in, room_of}
 use Rattle.mtapi_values.specs.Attributes.{NodeSettings}
 use Rattle.mtapi_values.specs.declared.handles.Layout.TheVariants.{One}
-use Rattle.mtapi_machine.specs.declared.terms.Terms.{Terms}
-use Rattle.mtapi_machine.specs.State.{terms_with}
 use Rattle.node_steps.specs.Stands.{terms_of}
-use Rattle.mtapi_renaming.specs.Renamed.{terms_in}
-use Rattle.journal_check.specs.Follow.{room_of}
 use Rattle.journal_check.proofs.Begins.{begun}
 use Rattle.journal_check.proofs.following.Following.new.Goals as goal
 

@@ -1,13 +1,6 @@
-use Rattle.std.proofs.Common.{◌≡◌, ◌<◌, Bool, false, None, Decides, subst, sym, ◌∙◌}
+use Rattle.journal_check.proofs.Names.{◌≡◌, ◌<◌, Bool, false, None, Decides, subst, sym, ◌∙◌, Reply, Terms, after, Node, seat_count, is_full_of, refusal_of, Judges}
 use Rattle.std.proofs.lemmas.Result.{IfOk-weaker}
-use Rattle.mtapi_machine.specs.declared.replies.Reply.{Reply}
-use Rattle.mtapi_machine.specs.declared.terms.Terms.{Terms}
-use Rattle.mtapi_machine.specs.Legal.{after}
-use Rattle.node_steps.specs.declared.node.Node.{Node}
-use Rattle.node_steps.specs.Stands.{terms_of, seat_count}
-use Rattle.mtapi_renaming.specs.Kinds.{is_full_of}
-use Rattle.mtapi_renaming.specs.Refusals.{refusal_of}
-use Rattle.journal_check.specs.Follow.{Judges}
+use Rattle.node_steps.specs.Stands.{terms_of}
 use Rattle.journal_check.proofs.Creates.{judged_full, judges_same, judges_from}
 use Rattle.journal_check.proofs.following.Following.place.Goals as goal
 

@@ -1,7 +1,4 @@
-use Rattle.std.proofs.Common.{subst}
-use Rattle.mtapi_machine.specs.declared.terms.Terms.{Terms}
-use Rattle.node_core.specs.Logs.{IsJournal}
-use Rattle.node_core.specs.Stands.{terms_of, history_of}
+use Rattle.node_core.proofs.Names.{subst, Terms, IsJournal, terms_of, history_of}
 use Rattle.node_core.proofs.LogLemmas.{journal_none, journal_has, journal_lost, journal_kept}
 use Rattle.node_core.proofs.journaled.Journaled.into_journal.Goals as goal
 

@@ -1,6 +1,4 @@
-use Rattle.std.proofs.Common.{refl}
-use Rattle.mtapi_machine.specs.State.{opening}
-use Rattle.node_core.specs.Stands.{terms_of}
+use Rattle.node_core.proofs.Names.{refl, opening, terms_of}
 use Rattle.node_core.proofs.LogLemmas.{logged_none}
 use Rattle.node_core.proofs.journaled.Journaled.without.Goals as goal
 

@@ -1,7 +1,5 @@
-use Rattle.std.proofs.Common.{refl}
-use Rattle.node_core.specs.declared.node.Node.{Node}
+use Rattle.node_core.proofs.Names.{refl, Node, inward_op}
 use Rattle.node_core.proofs.NodeLemmas.{room_inside, same_terms, goes_on}
-use Rattle.mtapi_layouts.specs.Ops.{inward_op}
 use Rattle.node_core.proofs.node.Node.execute.Goals as goal
 
 pub step_inward-reply-requires-clause-room : goal.step_inward-reply-requires-clause-room

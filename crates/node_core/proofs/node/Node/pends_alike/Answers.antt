@@ -1,7 +1,6 @@
-use Rattle.std.proofs.Common.{◌∙◌, ap, sym}
+use Rattle.node_core.proofs.Names.{◌∙◌, ap, sym, inward_op}
 use Rattle.mtapi_values.specs.declared.handles.TaskHandle.{TaskHandle}
 use Rattle.mtapi_machine.specs.declared.ops.Op.TheVariants.{TaskLook}
-use Rattle.mtapi_layouts.specs.Ops.{inward_op}
 use Rattle.node_core.proofs.NodeLemmas.{pends_alike_so}
 use Rattle.node_core.proofs.node.Node.pends_alike.Goals as goal
 

@@ -1,13 +1,8 @@
-use Rattle.std.proofs.Common.{Ok, Err, refl, sym, ap, subst, ◌∙◌}
-use Rattle.std.specs.Option.{option_map}
-use Rattle.std.specs.Prelude.{Result}
-use Rattle.mtapi_values.specs.declared.handles.ActionHandle.{ActionHandle}
-use Rattle.mtapi_values.specs.declared.statuses.MtapiStatus.{MtapiStatus}
+use Rattle.node_steps.proofs.Names.{Ok, Err, refl, sym, ap, subst, ◌∙◌, option_map, Result, ActionHandle, MtapiStatus, action_create_refusals}
 use Rattle.job_table.specs.Answers.{Creates}
 use Rattle.node_steps.proofs.ActionSteps.{create_steps}
 use Rattle.mtapi_values.specs.declared.statuses.MtapiStatus.TheVariants as m
 use Rattle.mtapi_values.specs.declared.handles.ObjectKind.TheVariants as kind
-use Rattle.mtapi_objects.specs.Actions.{action_create_refusals}
 use Rattle.mtapi_machine.specs.declared.ops.Op.TheVariants as op
 use Rattle.mtapi_machine.specs.declared.replies.Reply.TheVariants as reply
 use Rattle.node_steps.proofs.Gives.{lands}

@@ -1,5 +1,4 @@
-use Rattle.std.proofs.Common.{false, sym, ◌∙◌}
-use Rattle.mtapi_objects.specs.Actions.{with_enabled}
+use Rattle.node_steps.proofs.Names.{false, sym, ◌∙◌, with_enabled}
 use Rattle.mtapi_machine.specs.declared.ops.Op.TheVariants as op
 use Rattle.node_steps.proofs.ActionSteps.{not_true, action_absent}
 use Rattle.node_steps.proofs.Gives.{lands, past, at_none}

@@ -1,8 +1,5 @@
-use Rattle.std.proofs.Common.{sym, subst, arith}
-use Rattle.handle_pool.specs.Slots.{slot_value}
+use Rattle.node_steps.proofs.Names.{sym, subst, arith, slot_value, Reply, Steps}
 use Rattle.mtapi_machine.specs.declared.ops.Op.TheVariants as op
-use Rattle.mtapi_machine.specs.declared.replies.Reply.{Reply}
-use Rattle.node_steps.specs.Stands.{Steps}
 use Rattle.node_steps.proofs.GroupSteps.{counted, all_look_early, all_look_freed}
 use Rattle.node_steps.proofs.node.Node.all_look.Goals as goal
 

@@ -1,9 +1,5 @@
-use Rattle.std.proofs.Common.{refl, sym, subst, arith}
-use Rattle.handle_pool.specs.Slots.{slot_value}
+use Rattle.node_steps.proofs.Names.{refl, sym, subst, arith, slot_value, Reply, BoardTable, Steps}
 use Rattle.mtapi_machine.specs.declared.ops.Op.TheVariants as op
-use Rattle.mtapi_machine.specs.declared.replies.Reply.{Reply}
-use Rattle.task_board.specs.Board.{BoardTable}
-use Rattle.node_steps.specs.Stands.{Steps}
 use Rattle.node_steps.proofs.GroupSteps.{early, counted, any_look_done, any_look_early, any_look_taken}
 use Rattle.node_steps.proofs.node.Node.any_look.Goals as goal
 

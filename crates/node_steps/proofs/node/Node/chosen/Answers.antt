@@ -1,7 +1,4 @@
-use Rattle.std.proofs.Common.{sym, ◌∙◌, subst}
-use Rattle.std.specs.Prelude.{Option}
-use Rattle.task_board.specs.declared.board.Choice.{Choice}
-use Rattle.task_board.specs.Picks.{IsBest, IsChoiceOf}
+use Rattle.node_steps.proofs.Names.{sym, ◌∙◌, subst, Option, Choice, IsBest, IsChoiceOf}
 use Rattle.node_steps.proofs.TowardSteps.{wanted_task, wanted_action, one_priority, same_priority}
 use Rattle.node_steps.proofs.node.Node.chosen.Goals as goal
 

@@ -1,8 +1,5 @@
-use Rattle.std.proofs.Common.{sym, ap, ◌∙◌}
-use Rattle.std.specs.Option.{option_map}
+use Rattle.node_steps.proofs.Names.{sym, ap, ◌∙◌, option_map, refusal_of, state_of}
 use Rattle.mtapi_machine.specs.declared.replies.Reply.TheVariants as reply
-use Rattle.mtapi_renaming.specs.Refusals.{refusal_of}
-use Rattle.node_steps.specs.Stands.{state_of}
 use Rattle.node_steps.proofs.RefusedSteps.{action_told, group_told, task_told, queue_told, mutex_told, sem_told, rwl_told, shmem_told}
 use Rattle.node_steps.proofs.node.Node.create_refusal.Goals as goal
 

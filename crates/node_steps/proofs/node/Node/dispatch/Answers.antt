@@ -1,15 +1,5 @@
-use Rattle.std.proofs.Common.{◌≡◌, true, refl, sym, subst, FitsSigned, w64, rules}
-use Rattle.std.specs.Prelude.{ℤ, Option}
-use Rattle.std.proofs.lemmas.Int.{to_z-of_z}
-use Rattle.mtapi_values.specs.declared.handles.ActionHandle.{ActionHandle}
-use Rattle.mtapi_values.specs.declared.handles.GroupHandle.{GroupHandle}
-use Rattle.mtapi_values.specs.declared.handles.QueueHandle.{QueueHandle}
-use Rattle.mtapi_values.specs.declared.handles.TaskHandle.{TaskHandle}
-use Rattle.mtapi_machine.specs.declared.ops.Op.{Op}
+use Rattle.node_steps.proofs.Names.{◌≡◌, true, refl, sym, subst, FitsSigned, w64, rules, ℤ, Option, to_z-of_z, ActionHandle, GroupHandle, QueueHandle, TaskHandle, Op, renamed_op, other_queue, is_resource_op, Steps}
 use Rattle.mtapi_machine.specs.declared.ops.Op.TheVariants as op
-use Rattle.mtapi_renaming.specs.Ops.{renamed_op, other_queue}
-use Rattle.node_resources.specs.Steps.{is_resource_op}
-use Rattle.node_steps.specs.Stands.{Steps}
 use Rattle.node_steps.proofs.node.Node.dispatch.Goals as goal
 
 pub returns-in-Initialize : goal.returns-in-Initialize

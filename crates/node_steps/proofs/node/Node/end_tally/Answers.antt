@@ -1,8 +1,4 @@
-use Rattle.std.proofs.Common.{◌≡◌, sym, ◌∙◌, ap, subst, List, ℤ, FitsSigned, w64}
-use Rattle.std.proofs.lemmas.Int.{to_z-of_z}
-use Rattle.mtapi_values.specs.declared.ends.TaskEnd.TheVariants.{Completed}
-use Rattle.task_core.specs.declared.tallies.TallyState.TheVariants.{Read, Written}
-use Rattle.node_steps.specs.Tallies.{GivesBack, noted_in}
+use Rattle.node_steps.proofs.Names.{◌≡◌, sym, ◌∙◌, ap, subst, List, ℤ, FitsSigned, w64, to_z-of_z, Completed, Read, Written, GivesBack, noted_in}
 use Rattle.node_steps.proofs.TallySteps.{end_too_large, end_written, end_failed}
 use Rattle.node_steps.proofs.node.Node.end_tally.Goals as goal
 

@@ -1,5 +1,4 @@
-use Rattle.std.proofs.Common.{Some, sym, ◌∙◌}
-use Rattle.handle_pool.specs.Slots.{slot_value}
+use Rattle.node_steps.proofs.Names.{Some, sym, ◌∙◌, slot_value}
 use Rattle.node_steps.proofs.RefusedSteps.{none_found, enqueue_closed, enqueue_member, enqueue_dead, enqueue_put}
 use Rattle.node_steps.proofs.node.Node.enqueue_facts.Goals as goal
 

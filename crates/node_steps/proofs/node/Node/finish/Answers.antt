@@ -1,12 +1,9 @@
-use Rattle.std.proofs.Common.{refl, sym, ◌∙◌, ap, subst, arith}
-use Rattle.mtapi_machine.specs.WorkRows.{task_end}
+use Rattle.node_steps.proofs.Names.{refl, sym, ◌∙◌, ap, subst, arith, task_end, Node, Steps}
 use Rattle.action_fn.specs.declared.finished.ActEnd.{ActEnd}
 use Rattle.node_steps.proofs.WorkSteps.{finish_steps, finish_absent, finish_other}
 use Rattle.mtapi_values.specs.declared.statuses.MtapiStatus.TheVariants as m
 use Rattle.mtapi_machine.specs.declared.ops.Op.TheVariants as op
 use Rattle.mtapi_machine.specs.declared.replies.Reply.TheVariants as reply
-use Rattle.node_steps.specs.declared.node.Node.{Node}
-use Rattle.node_steps.specs.Stands.{Steps}
 use Rattle.node_steps.proofs.Gives.{lands}
 use Rattle.node_steps.proofs.node.Node.finish.Goals as goal
 use Rattle.node_steps.proofs.node.Node.finish.Goals.{in_default-via-in-Some+else-runs_so, in_default-via-in_default}

@@ -1,5 +1,4 @@
-use Rattle.std.proofs.Common.{[], Ok, Err, refl, sym, ap, ◌∙◌}
-use Rattle.std.specs.Option.{option_map}
+use Rattle.node_steps.proofs.Names.{[], Ok, Err, refl, sym, ap, ◌∙◌, option_map}
 use Rattle.mtapi_values.specs.declared.statuses.MtapiStatus.TheVariants as m
 use Rattle.mtapi_values.specs.declared.handles.ObjectKind.TheVariants as kind
 use Rattle.mtapi_machine.specs.declared.ops.Op.TheVariants as op

@@ -1,5 +1,4 @@
-use Rattle.std.proofs.Common.{sym}
-use Rattle.handle_pool.specs.Slots.{slot_value}
+use Rattle.node_steps.proofs.Names.{sym, slot_value}
 use Rattle.node_steps.proofs.GroupSteps.{counted, group_delete_steps}
 use Rattle.node_steps.proofs.node.Node.group_delete.Goals as goal
 

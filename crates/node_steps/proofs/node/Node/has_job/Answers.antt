@@ -1,6 +1,4 @@
-use Rattle.std.proofs.Common.{subst}
-use Rattle.job_table.specs.Answers.{Covers}
-use Rattle.job_table.specs.declared.cover.Cover.{Cover}
+use Rattle.node_steps.proofs.Names.{subst, Covers, Cover}
 use Rattle.node_steps.proofs.ActionSteps.{covers_none, covers_some, some_cover}
 use Rattle.node_steps.proofs.node.Node.has_job.Goals as goal
 

@@ -1,13 +1,6 @@
-use Rattle.std.proofs.Common.{refl, arith, List, map, ap, ◌∙◌}
-use Rattle.mtapi_values.specs.declared.handles.Layout.TheVariants.{One}
+use Rattle.node_steps.proofs.Names.{refl, arith, List, map, ap, ◌∙◌, One, records_of, group_slots, Slot, new_group, Members, mapped_slot, mapped-new}
 use Rattle.node_steps.proofs.InitSteps.{new_node, records_new}
 use Rattle.node_steps.proofs.Moves.{holds_new}
-use Rattle.task_board.specs.Board.{records_of, group_slots}
-use Rattle.handle_pool.specs.Slots.{Slot}
-use Rattle.mtapi_objects.specs.Groups.{new_group}
-use Rattle.group_core.specs.Members.{Members}
-use Rattle.task_board.specs.Mapped.{mapped_slot}
-use Rattle.task_board.proofs.MappedLemmas.{mapped-new}
 use Rattle.node_steps.proofs.node.Node.init.Goals as goal
 
 pub returns-clause-stands : goal.returns-clause-stands

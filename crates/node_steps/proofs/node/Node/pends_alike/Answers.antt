@@ -1,5 +1,4 @@
-use Rattle.std.proofs.Common.{◌∙◌, ap}
-use Rattle.mtapi_machine.specs.State.{State}
+use Rattle.node_steps.proofs.Names.{◌∙◌, ap, State}
 use Rattle.mtapi_machine.specs.Kept.{pends_alike}
 use Rattle.node_steps.proofs.node.Node.pends_alike.Goals as goal
 

@@ -1,7 +1,5 @@
-use Rattle.std.proofs.Common.{refl, subst}
+use Rattle.node_steps.proofs.Names.{refl, subst, State, MayPick}
 use Rattle.mtapi_machine.specs.declared.ops.Op.TheVariants.{Pick}
-use Rattle.mtapi_machine.specs.State.{State}
-use Rattle.node_steps.specs.Picks.{MayPick}
 use Rattle.node_steps.proofs.InitSteps.{goes_on, same_terms}
 use Rattle.node_steps.proofs.node.Node.pick_toward.Goals as goal
 

@@ -1,10 +1,5 @@
-use Rattle.std.proofs.Common.{sym, subst, ◌∙◌, arith}
-use Rattle.std.specs.Prelude.{Option}
-use Rattle.task_board.specs.declared.board.Choice.{Choice}
-use Rattle.task_board.specs.Picks.{IsBest}
+use Rattle.node_steps.proofs.Names.{sym, subst, ◌∙◌, arith, Option, Choice, IsBest, IsToward, state_of}
 use Rattle.node_steps.proofs.PickSteps.{pick_idle, pick_takes}
-use Rattle.node_steps.specs.Picks.{IsToward}
-use Rattle.node_steps.specs.Stands.{state_of}
 use Rattle.node_steps.proofs.TowardSteps.{can_pick, is_found, is_taken}
 use Rattle.node_steps.proofs.node.Node.pick_wanted.Goals as goal
 

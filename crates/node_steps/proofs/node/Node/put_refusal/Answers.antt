@@ -1,11 +1,5 @@
-use Rattle.std.proofs.Common.{Bool, cond, List, [], ◌∷◌, ◌++◌, Some, None, sym, ap, ◌∙◌}
-use Rattle.std.specs.Prelude.{◌==◌}
-use Rattle.std.proofs.lemmas.Bool.{eq-eqb, ne_eqb}
-use Rattle.mtapi_values.specs.Conditions.{first}
-use Rattle.mtapi_values.specs.declared.statuses.MtapiStatus.{MtapiStatus}
+use Rattle.node_steps.proofs.Names.{Bool, cond, List, [], ◌∷◌, ◌++◌, Some, None, sym, ap, ◌∙◌, ◌==◌, eq-eqb, ne_eqb, first, MtapiStatus, asked_for, start_refusals, state_of}
 use Rattle.mtapi_values.specs.declared.statuses.MtapiStatus.TheVariants as m
-use Rattle.mtapi_machine.specs.TaskRows.{asked_for, start_refusals}
-use Rattle.node_steps.specs.Stands.{state_of}
 use Rattle.node_steps.proofs.QueueSteps.{first_some, first_none}
 use Rattle.node_steps.proofs.node.Node.put_refusal.Goals as goal
 

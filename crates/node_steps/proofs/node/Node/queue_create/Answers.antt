@@ -1,11 +1,7 @@
-use Rattle.std.proofs.Common.{◌≡◌, Ok, Err, Result, true, refl, ap, subst, ◌∙◌}
-use Rattle.mtapi_values.specs.declared.handles.QueueHandle.{QueueHandle}
-use Rattle.mtapi_values.specs.declared.statuses.MtapiStatus.{MtapiStatus}
+use Rattle.node_steps.proofs.Names.{◌≡◌, Ok, Err, Result, true, refl, ap, subst, ◌∙◌, QueueHandle, MtapiStatus, new_queue, option_map}
 use Rattle.queue_core.specs.Held.{Creates}
 use Rattle.queue_core.specs.Held as HeldNew
-use Rattle.mtapi_machine.specs.QueueRows.{new_queue}
 use Rattle.node_steps.proofs.Gives.{lands_with}
-use Rattle.std.specs.Option.{option_map}
 use Rattle.mtapi_values.specs.declared.handles.ObjectKind.TheVariants as kind
 use Rattle.mtapi_machine.specs.declared.ops.Op.TheVariants as op
 use Rattle.mtapi_machine.specs.declared.replies.Reply.TheVariants as reply

@@ -1,9 +1,5 @@
-use Rattle.std.proofs.Common.{Result, sym, ap, subst, ◌∙◌}
+use Rattle.node_steps.proofs.Names.{Result, sym, ap, subst, ◌∙◌, MtapiStatus, slot_value, without, live_reply, BecomesWith}
 use Rattle.std.specs.Result.{OnOk}
-use Rattle.mtapi_values.specs.declared.statuses.MtapiStatus.{MtapiStatus}
-use Rattle.handle_pool.specs.Slots.{slot_value, without}
-use Rattle.queue_core.specs.Held.{live_reply}
-use Rattle.task_board.specs.Board.{BecomesWith}
 use Rattle.task_board.proofs.EndLemmas.{none-left}
 use Rattle.node_steps.proofs.QueueSteps.{facts_found, live_after, delete_ended, delete_lands}
 use Rattle.node_steps.proofs.node.Node.queue_delete.Goals as goal

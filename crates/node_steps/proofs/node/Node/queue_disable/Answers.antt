@@ -1,6 +1,4 @@
-use Rattle.std.proofs.Common.{sym, ap, ◌∙◌}
-use Rattle.queue_core.specs.declared.facts.QueueFacts.{QueueFacts}
-use Rattle.handle_pool.specs.Slots.{slot_value}
+use Rattle.node_steps.proofs.Names.{sym, ap, ◌∙◌, QueueFacts, slot_value}
 use Rattle.node_steps.proofs.Gives.{lands_with}
 use Rattle.node_steps.proofs.QueueSteps.{facts_found, disable_retained, disable_ended, disable_lands, ends_before}
 use Rattle.node_steps.proofs.node.Node.queue_disable.Goals as goal

@@ -1,7 +1,4 @@
-use Rattle.std.proofs.Common.{Ok, Err, Result, sym, subst}
-use Rattle.mtapi_values.specs.declared.handles.QueueHandle.{QueueHandle}
-use Rattle.mtapi_values.specs.declared.statuses.MtapiStatus.{MtapiStatus}
-use Rattle.queue_core.specs.Held.{Finds}
+use Rattle.node_steps.proofs.Names.{Ok, Err, Result, sym, subst, QueueHandle, MtapiStatus, Finds}
 use Rattle.node_steps.proofs.QueueSteps.{get_steps}
 use Rattle.node_steps.proofs.node.Node.queue_get.Goals as goal
 

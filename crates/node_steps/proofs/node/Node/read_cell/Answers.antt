@@ -1,13 +1,6 @@
-use Rattle.std.proofs.Common.{sym, subst, FitsSigned, w64}
-use Rattle.std.specs.Prelude.{ℤ}
-use Rattle.std.proofs.lemmas.Int.{to_z-of_z}
-use Rattle.handle_pool.specs.Slots.{changed}
-use Rattle.task_core.specs.Tallies.{tallied}
-use Rattle.task_core.specs.declared.tallies.TallyState.TheVariants.{Read}
-use Rattle.task_board.specs.Board.{Becomes}
+use Rattle.node_steps.proofs.Names.{sym, subst, FitsSigned, w64, ℤ, to_z-of_z, changed, tallied, Read, Becomes, Steps, state_of}
 use Rattle.mtapi_machine.specs.declared.ops.Op.TheVariants as op
 use Rattle.mtapi_machine.specs.declared.replies.Reply.TheVariants as reply
-use Rattle.node_steps.specs.Stands.{Steps, state_of}
 use Rattle.node_steps.proofs.TallySteps.{reads}
 use Rattle.node_steps.proofs.node.Node.read_cell.Goals as goal
 

@@ -1,6 +1,4 @@
-use Rattle.std.proofs.Common.{◌∙◌, ap}
-use Rattle.mtapi_machine.specs.State.{State}
-use Rattle.mtapi_renaming.specs.Refusals.{refusal_of}
+use Rattle.node_steps.proofs.Names.{◌∙◌, ap, State, refusal_of}
 use Rattle.node_steps.proofs.node.Node.refusal.Goals as goal
 
 pub returns : goal.returns

@@ -1,5 +1,4 @@
-use Rattle.std.proofs.Common.{◌∙◌}
-use Rattle.mtapi_renaming.specs.Ops.{renamed_op}
+use Rattle.node_steps.proofs.Names.{◌∙◌, renamed_op}
 use Rattle.node_steps.proofs.ResourceSteps.{carries, stays}
 use Rattle.node_steps.proofs.node.Node.resource_op.Goals as goal
 

@@ -1,10 +1,4 @@
-use Rattle.std.proofs.Common.{sym, subst, ◌∙◌, ap}
-use Rattle.std.specs.Prelude.{◌&&◌, ℕ}
-use Rattle.mtapi_values.specs.Masks.{in_mask}
-use Rattle.mtapi_objects.specs.Actions.{some_below}
-use Rattle.job_table.specs.Answers.{Covers}
-use Rattle.job_table.specs.declared.cover.Cover.{Cover}
-use Rattle.job_table.specs.declared.cover.Cover.TheVariants.{AllDisabled, Cores}
+use Rattle.node_steps.proofs.Names.{sym, subst, ◌∙◌, ap, ◌&&◌, ℕ, in_mask, some_below, Covers, Cover, AllDisabled, Cores}
 use Rattle.node_steps.proofs.StartSteps.{refused_job, refused_group, refused_disabled, refused_core, refused_none, disabled_not_none, cores_not_none}
 use Rattle.node_steps.proofs.node.Node.start_refusal.Goals as goal
 

@@ -1,5 +1,4 @@
-use Rattle.std.proofs.Common.{arith}
-use Rattle.mtapi_layouts.specs.Ops.{inward_op}
+use Rattle.node_steps.proofs.Names.{arith, inward_op}
 use Rattle.node_steps.proofs.InitSteps.{goes_on, few_starts, few_seats, same_terms, sound}
 use Rattle.node_steps.proofs.NewHandles.{issues_small}
 use Rattle.node_steps.proofs.node.Node.step_inward.Goals as goal

@@ -1,5 +1,4 @@
-use Rattle.std.proofs.Common.{Bool, sym, ap, ◌∙◌}
-use Rattle.std.specs.Prelude.{◌&&◌, ◌==◌}
+use Rattle.node_steps.proofs.Names.{Bool, sym, ap, ◌∙◌, ◌&&◌, ◌==◌}
 use Rattle.node_steps.proofs.StopSteps.{stop_told}
 use Rattle.node_steps.proofs.node.Node.stops.Goals as goal
 

@@ -1,9 +1,5 @@
-use Rattle.std.proofs.Common.{subst}
-use Rattle.std.specs.Prelude.{ℤ}
-use mir.Syntax.{w64}
-use Rattle.std.proofs.lemmas.Int.{to_z-of_z}
+use Rattle.node_steps.proofs.Names.{subst, ℤ, w64, to_z-of_z, Steps}
 use Rattle.mtapi_machine.specs.declared.ops.Op.TheVariants as op
-use Rattle.node_steps.specs.Stands.{Steps}
 use Rattle.node_steps.proofs.node.Node.tally_write.Goals as goal
 
 pub returns-in-Ok : goal.returns-in-Ok

@@ -1,12 +1,8 @@
-use Rattle.std.proofs.Common.{◌≡◌, ℤ, List, Result, Ok, Err, Some, None, refl, subst}
-use Rattle.mtapi_values.specs.declared.handles.TaskHandle.{TaskHandle}
+use Rattle.node_steps.proofs.Names.{◌≡◌, ℤ, List, Result, Ok, Err, Some, None, refl, subst, TaskHandle, MtapiStatus, slot_value, NewTask, number_of}
 use Rattle.mtapi_values.specs.declared.handles.ObjectKind.TheVariants as kind
-use Rattle.mtapi_values.specs.declared.statuses.MtapiStatus.{MtapiStatus}
-use Rattle.handle_pool.specs.Slots.{slot_value}
-use Rattle.mtapi_objects.specs.Tasks.{NewTask}
 use Rattle.task_core.specs.Table.{Adds}
 use Rattle.mtapi_machine.specs.declared.ops.Op.TheVariants as op
-use Rattle.mtapi_machine.specs.TaskRows.{asked_of, number_of}
+use Rattle.mtapi_machine.specs.TaskRows.{asked_of}
 use Rattle.node_steps.proofs.Gives.{lands}
 use Rattle.node_steps.proofs.QueueSteps.{facts_found, causes_are, enqueue_steps}
 use Rattle.node_steps.proofs.RefusedSteps.{refused}

@@ -1,12 +1,5 @@
-use Rattle.std.proofs.Common.{Ok, Err, refl, ap, subst, ◌∙◌}
-use Rattle.std.specs.Option.{option_map}
-use Rattle.std.specs.Prelude.{Result, ◌≡◌, ℕ, ℤ, Bool, List, Option}
-use Rattle.mtapi_values.specs.declared.handles.GroupHandle.{GroupHandle}
-use Rattle.mtapi_values.specs.declared.masks.Mask.{Mask}
-use Rattle.mtapi_values.specs.declared.handles.TaskHandle.{TaskHandle}
-use Rattle.mtapi_values.specs.declared.statuses.MtapiStatus.{MtapiStatus}
-use Rattle.task_core.specs.Table.{Adds, TaskTable}
-use Rattle.mtapi_machine.specs.TaskRows.{asked_for}
+use Rattle.node_steps.proofs.Names.{Ok, Err, refl, ap, subst, ◌∙◌, option_map, Result, ◌≡◌, ℕ, ℤ, Bool, List, Option, GroupHandle, Mask, TaskHandle, MtapiStatus, TaskTable, asked_for}
+use Rattle.task_core.specs.Table.{Adds}
 use Rattle.mtapi_values.specs.declared.handles.ObjectKind.TheVariants as kind
 use Rattle.mtapi_machine.specs.declared.ops.Op.TheVariants as op
 use Rattle.mtapi_machine.specs.declared.replies.Reply.TheVariants as reply

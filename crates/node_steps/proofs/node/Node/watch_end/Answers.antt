@@ -1,9 +1,6 @@
-use Rattle.std.proofs.Common.{sym, ◌∙◌, subst, refl, arith}
-use Rattle.mtapi_values.specs.declared.ends.TaskEnd.{TaskEnd}
+use Rattle.node_steps.proofs.Names.{sym, ◌∙◌, subst, refl, arith, TaskEnd, slot_value, Steps}
 use Rattle.mtapi_machine.specs.declared.ops.Op.TheVariants as op
 use Rattle.mtapi_machine.specs.declared.replies.Reply.TheVariants as reply
-use Rattle.handle_pool.specs.Slots.{slot_value}
-use Rattle.node_steps.specs.Stands.{Steps}
 use Rattle.node_steps.proofs.WorkSteps.{watch_failed, watch_ended}
 use Rattle.node_steps.proofs.Gives.{lands}
 use Rattle.node_steps.proofs.node.Node.watch_end.Goals as goal

@@ -1,12 +1,4 @@
-use Rattle.std.proofs.Common.{◌≡◌, sym, ◌∙◌, ap, subst, FitsSigned, w64}
-use Rattle.std.specs.Prelude.{ℤ}
-use Rattle.std.proofs.lemmas.Int.{to_z-of_z}
-use Rattle.handle_pool.specs.Slots.{changed}
-use Rattle.task_core.specs.Tallies.{tallied}
-use Rattle.task_core.specs.declared.tallies.TallyState.TheVariants.{Read, Written}
-use Rattle.task_board.specs.Board.{Becomes}
-use Rattle.node_steps.specs.Stands.{state_of}
-use Rattle.node_steps.specs.Tallies.{noted_in}
+use Rattle.node_steps.proofs.Names.{◌≡◌, sym, ◌∙◌, ap, subst, FitsSigned, w64, ℤ, to_z-of_z, changed, tallied, Read, Written, Becomes, state_of, noted_in}
 use Rattle.node_steps.proofs.TallySteps.{write_other, writes}
 use Rattle.node_steps.proofs.node.Node.write_cell.Goals as goal
 

@@ -1,7 +1,4 @@
-use Rattle.std.proofs.Common.{sym, ap, ◌∙◌, subst}
-use Rattle.atomic_table.specs.Seated.{TableId}
-use Rattle.peek_board.specs.Numbers.{OnBoard}
-use Rattle.peek_board.specs.Rule.{Has}
+use Rattle.peek_board.proofs.Names.{sym, ap, ◌∙◌, subst, TableId, OnBoard, Has}
 use Rattle.peek_board.proofs.words.Words.peek.Goals as goal
 
 pub returns-then-not-has-clause-own : goal.returns-then-not-has-clause-own

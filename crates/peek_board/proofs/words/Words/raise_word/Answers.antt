@@ -1,6 +1,4 @@
-use Rattle.std.proofs.Common.{sym, ap, ◌∙◌, subst, arith}
-use Rattle.peek_board.specs.Numbers.{OnBoard}
-use Rattle.atomic_table.specs.Seated.{TableId}
+use Rattle.peek_board.proofs.Names.{sym, ap, ◌∙◌, subst, arith, OnBoard, TableId}
 use Rattle.peek_board.proofs.Keeps.{posts_as}
 use Rattle.peek_board.proofs.Lists.{boards_more}
 use Rattle.peek_board.proofs.words.Words.raise_word.Goals as goal
