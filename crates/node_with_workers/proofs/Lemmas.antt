@@ -1,37 +1,40 @@
 -- The seats of a node from its start to its end, and what its client's calls add.
-use Rattle.std.proofs.Common.{◌≡◌, ℕ, zero, suc, ◌+◌, ◌≤◌, true, List, length, [], ◌∷◌, ◌++◌, Result, inl, inr, refl, sym, ◌∙◌, ap, subst, append_assoc, arith, vec_len}
-use Rattle.std.specs.Prelude.{All, IfOk}
+use Rattle.std.proofs.Common.{◌≡◌, ℕ, zero, suc, ◌+◌, ◌≤◌, true, List, length, [], ◌∷◌, ◌++◌, Result, Ok, Err, drop, ◌<◌, ◌^◌, inl, inr, refl, sym, ◌∙◌, ap, subst, arith, vec_len}
+use Rattle.std.specs.Prelude.{All, IfOk, IfErr}
 use Rattle.std.specs.List.{AllZip}
-use Rattle.std.proofs.lemmas.Result.{IfOk-weaker, IfOk-at_ok}
-use Rattle.std.proofs.lemmas.List.{append-nil, same_from_push}
+use Rattle.std.proofs.lemmas.Result.{IfOk-at_ok, IfErr-at_err}
+use Rattle.std.proofs.lemmas.List.{append-nil, same_from_push, take-append-drop}
 use Rattle.std.proofs.lemmas.List.Elements.{All-nil, All-cons, AllZip-push}
 use Rattle.history.specs.Histories.{StartsWith, entry, entries_of}
+use Rattle.history.proofs.Growth.{entries_append}
 use Rattle.turn_cell.specs.Lists.{all_of}
 use Rattle.turn_cell.specs.Seats.{fresh_seat, fresh_seats, IsComplete, IsSeatOf}
 use Rattle.turn_cell.proofs.Complete.{numbers, complete_alike, complete_fresh, all_has, has_back}
 use Rattle.mtapi_values.specs.Attributes.{NodeSettings}
 use Rattle.mtapi_values.specs.declared.statuses.MtapiStatus.{MtapiStatus}
 use Rattle.mtapi_machine.specs.declared.ops.Op.{Op}
-use Rattle.mtapi_machine.specs.declared.ops.Op.TheVariants.{Initialize, Close}
+use Rattle.mtapi_machine.specs.declared.ops.Op.TheVariants.{Initialize, Close, Final}
+use Rattle.mtapi_machine.specs.declared.replies.Reply.{Reply}
 use Rattle.mtapi_machine.specs.declared.replies.Reply.TheVariants as reply
 use Rattle.mtapi_machine.specs.declared.terms.Terms.{Terms}
 use Rattle.mtapi_machine.specs.Legal.{NodeEntry, Legal}
 use Rattle.node_core.specs.declared.journaled.JournaledTerms.{JournaledTerms}
 use Rattle.node_core.specs.Logs.{journal_seats, KeptAs}
 use Rattle.sched_workers.specs.Turns.{Seat, SameSeat}
-use Rattle.sched_workers.specs.Answers.{Called}
+use Rattle.sched_workers.specs.Answers.{Answers, Called}
 use Rattle.sched_workers.specs.Replies.{mtapi, done}
 use Rattle.sched_workers.specs.Crews.{Cell, IsIdle, GaveUp}
 use Rattle.sched_workers.proofs.Starts.{new_at_rest}
 use Rattle.node_with_workers.specs.declared.crew.Crew.{Crew}
 use Rattle.node_with_workers.specs.declared.crew.Hands.{Hands}
+use Rattle.node_with_workers.specs.declared.failure.Failure.{Failure}
+use Rattle.node_with_workers.specs.declared.failure.Failure.TheVariants as failure
 use Rattle.node_with_workers.specs.declared.jobs.Over.{Over}
 use Rattle.node_with_workers.specs.declared.run.Done.{Done}
-use Rattle.node_with_workers.specs.Told.{WentOn}
-use Rattle.node_with_workers.specs.Clients.{Opened, HasCalled}
+use Rattle.node_with_workers.specs.Clients.{GoesOn, MadeOne, MainOpens, HasCalled, IfRefused, IsRefused, IsNoRefusal, SaysOf}
 use Rattle.node_with_workers.specs.Crews.{AreReady, IsJoined, CameBack}
-use Rattle.node_with_workers.specs.Runs.{terms_for, IsRun, HasAllSeats, HasEnded}
-use Rattle.node_with_workers.proofs.Told.{done_went}
+use Rattle.node_with_workers.specs.Runs.{terms_for, IsRun, Refuses, HasAllSeats, HasEnded, HasFailed}
+use Rattle.node_with_workers.proofs.Told.{read_done}
 
 pub same_then : (a b c : Seat) → SameSeat a b → SameSeat b c → SameSeat a c
 same_then a b c x y = record { cell = y.cell ∙ x.cell; number = y.number ∙ x.number; terms = y.terms ∙ x.terms }
@@ -49,23 +52,75 @@ gave_same : (old new : Seat) → GaveUp old new → SameSeat old new
 gave_same old new (inl c) = c.1.same
 gave_same old new (inr u) = u.same
 
--- the caller is made of the seat, the client calls, and the seat begins the end
-pub has_called : {C T : Type 0} (promise : C → Seat → Seat → T → Type 0) (client : C) (seat start worked given back : Seat) (r : Result T MtapiStatus)
-    → start ≡ seat → SameSeat start worked → IfOk r (λ t. (before : Seat) × Opened start before × promise client before worked t) → given ≡ worked → GaveUp given back
-    → SameSeat seat back × IfOk r (HasCalled promise client seat back)
-has_called {C} {T} promise client seat start worked given back r first same told is closes =
-    let gave : GaveUp worked back = subst (λ (s : Seat). GaveUp s back) is closes in
-    subst (λ (s : Seat). SameSeat s back × IfOk r (HasCalled promise client s back)) first (
-      same_then start worked back same (gave_same worked back gave),
-      IfOk-weaker r _ _ (λ t x. record {
-        before = x.0;
-        opened = x.1;
+-- the seat's entries begin with those that it had
+pub goes_on : (old new : Seat) → GoesOn old new → StartsWith new.mine old.mine
+goes_on old new g =
+    (drop (length old.mine) new.mine, sym (take-append-drop (length old.mine) new.mine) ∙ ap (λ (l : List NodeEntry). l ++ drop (length old.mine) new.mine) g)
+
+-- a call that was done, and one that was refused
+pub made_one : (o : Op) (old new : Seat) (x : Result (Unit {0}) MtapiStatus) (u : Unit {0}) → Called mtapi done o old new x → x ≡ Ok u → MadeOne o old new
+made_one o old new (Ok v) u (inl c) is = record { same = c.1.same; mine = c.1.mine ∙ ap (λ (r : Reply). old.mine ++ entry old.number o r ∷ []) (read_done c.0 v c.2) }
+made_one o old new (Ok v) u (inr c) is = absurd (cc)
+made_one o old new (Err e) u c is = absurd (cc)
+
+read_refusal : (r : Reply) (e : MtapiStatus) → Answers mtapi done r (Err e) → r ≡ reply.Mtapi e
+read_refusal reply.Ok e a = absurd (cc)
+read_refusal (reply.Mtapi c) e a = let same = a.0 in cc
+read_refusal _ e a = absurd a
+
+is_refused : (o : Op) (old new : Seat) (x : Result (Unit {0}) MtapiStatus) (status : MtapiStatus) → Called mtapi done o old new x → x ≡ Err status → new.shown < 2 ^ 62 → IsRefused old.terms.node old.number old.mine o status
+is_refused o old new (Ok v) status c is few = absurd (cc)
+is_refused o old new (Err e) status (inr c) is few = let shown = c.0.shown in absurd (omega arith)
+is_refused o old new (Err e) status (inl c) is few =
+    let says : c.0 ≡ reply.Mtapi status = read_refusal c.0 e c.2 ∙ cc in
+    let turn = c.1 in
+    record {
+      history = old.seen ++ turn.between;
+      own = entries_append old.number old.seen turn.between ∙ (ap (λ (l : List NodeEntry). entries_of old.number old.seen ++ l) turn.others ∙ (append-nil _ ∙ turn.before));
+      legal =
+          subst (λ (t : JournaledTerms). Legal t.node ((old.seen ++ turn.between) ++ entry old.number o (reply.Mtapi status) ∷ [])) turn.same.terms
+          (subst (λ (r : Reply). Legal new.terms.node ((old.seen ++ turn.between) ++ entry old.number o r ∷ [])) says
+          (subst (Legal new.terms.node) turn.seen turn.legal));
+    }
+
+-- the same of a caller that is made of the seat and gives it back
+pub says_of : (o : Op) (seat start tried given : Seat) (x : Result (Unit {0}) MtapiStatus) (status : MtapiStatus) (f : Failure)
+    → start ≡ seat → Called mtapi done o start tried x → x ≡ Err status → given ≡ tried → SaysOf given status f → IfRefused f (IsRefused seat.terms.node seat.number seat.mine o)
+says_of o seat start tried given x status (failure.Refused s) first called is back says =
+    subst (IsRefused seat.terms.node seat.number seat.mine o) (sym says.0)
+    (subst (λ (q : Seat). IsRefused q.terms.node q.number q.mine o status) first (is_refused o start tried x status called is (subst (λ (q : Seat). q.shown < 2 ^ 62) back says.1)))
+says_of o seat start tried given x status failure.Memory first called is back says = tt
+says_of o seat start tried given x status (failure.NoThread n) first called is back says = tt
+says_of o seat start tried given x status (failure.Spent n) first called is back says = tt
+
+-- and where the seat had made no call
+pub not_opened : (o : Op) (seat : Seat) (f : Failure) → seat.mine ≡ [] → IfRefused f (IsRefused seat.terms.node seat.number seat.mine o) → IfRefused f (IsRefused seat.terms.node seat.number [] o)
+not_opened o seat f new r = subst (λ (l : List NodeEntry). IfRefused f (IsRefused seat.terms.node seat.number l o)) new r
+
+pub made_last : (o : Op) (seat start new last : Seat) (x : Result (Unit {0}) MtapiStatus) (u : Unit {0}) → start ≡ seat → Called mtapi done o start new x → x ≡ Ok u → last ≡ new → MadeOne o seat last
+made_last o seat start new last x u first called is back =
+    subst (λ (s : Seat). MadeOne o s last) first (subst (MadeOne o start) (sym back) (made_one o start new x u called is))
+
+-- the caller is made of the seat, main opens, the client calls, and the seat begins the end
+pub has_called : {C T : Type 0} (promise : C → Seat → Seat → T → Type 0) (client : C) (told : T) (seat start before worked given back : Seat) (x : Result (Unit {0}) MtapiStatus) (u : Unit {0})
+    → seat.mine ≡ [] → start ≡ seat → Called mtapi done Initialize start before x → x ≡ Ok u → SameSeat before worked → GoesOn before worked → promise client before worked told
+    → given ≡ worked → GaveUp given back
+    → SameSeat seat back × HasCalled MainOpens promise client seat.terms.node seat.number told back.mine
+has_called promise client told seat start before worked given back x u new first called is same goes promised kept closes =
+    let one : MadeOne Initialize seat before = subst (λ (s : Seat). MadeOne Initialize s before) first (made_one Initialize start before x u called is) in
+    let gave : GaveUp worked back = subst (λ (s : Seat). GaveUp s back) kept closes in (
+      same_then seat before back one.same (same_then before worked back same (gave_same worked back gave)),
+      record {
+        before = before;
+        number = one.same.number;
+        terms = ap (λ (t : JournaledTerms). t.node) one.same.terms;
+        opened = one.mine ∙ ap (λ (l : List NodeEntry). l ++ entry seat.number Initialize reply.Ok ∷ []) new;
         after = worked;
-        same = same_behind start x.0 worked x.1.same same;
-        promised = x.2;
-        more = (gave_more worked back gave).0;
-        mine = (gave_more worked back gave).1;
-      }) told,
+        same = same;
+        goes_on = goes_on before worked goes;
+        promised = promised;
+        begins = gave_more worked back gave;
+      },
     )
 
 -- The seats that a cell begins with
@@ -121,6 +176,7 @@ are_ready {C} {A} z h d = record {
       let n = ap (λ (s : Seat). s.number) d.main_is in
       let m = ap (λ (s : Seat). s.terms.node.settings.workers) d.main_is in
       omega arith;
+  new = ap (λ (s : Seat). s.mine) d.main_is;
 }
 
 -- The workers' threads
@@ -135,9 +191,12 @@ came_joined {C} {T} {A} promise h h' s c c' over items len sets main client same
   sets = (let n = j.sets in let m = b.sets in let k = ap vec_len sets in omega arith);
   main = subst (λ (x : _). SameSeat h.main x.seat) (sym j.main) (subst (λ (x : Seat). SameSeat x c.main.seat) main b.main);
   told =
-      subst (λ (x : _). IfOk x.told (HasCalled promise h.client h.main x.seat)) (sym j.main)
-      (subst (λ (y : C). IfOk c.main.told (HasCalled promise y h.main c.main.seat)) client
-      (subst (λ (x : Seat). IfOk c.main.told (HasCalled promise h'.client x c.main.seat)) main b.told));
+      subst (λ (x : _). IfOk x.told (λ t. HasCalled MainOpens promise h.client h.main.terms.node h.main.number t x.seat.mine)) (sym j.main)
+      (subst (λ (y : C). IfOk c.main.told (λ t. HasCalled MainOpens promise y h.main.terms.node h.main.number t c.main.seat.mine)) client
+      (subst (λ (x : Seat). IfOk c.main.told (λ t. HasCalled MainOpens promise h'.client x.terms.node x.number t c.main.seat.mine)) main b.told));
+  refused =
+      subst (λ (x : _). IfErr x.told (λ e. IfRefused e (IsRefused h.main.terms.node h.main.number [] Initialize))) (sym j.main)
+      (subst (λ (x : Seat). IfErr c.main.told (λ e. IfRefused e (IsRefused x.terms.node x.number [] Initialize))) main b.refused);
 }
 
 -- The close
@@ -174,16 +233,22 @@ module _ {T A : Type 0} (z : Cell) (c : Crew T A) (last : Seat) where
       let count : suc w ≡ journal_seats z.terms = omega arith in
       subst (λ (n : ℕ). IsComplete n whole) count (complete_alike (suc w) (fresh_seats z.terms z.id 0 (suc w)) whole (zip_numbers (fresh_seats z.terms z.id 0 (suc w)) whole (all_same h s)) (complete_fresh _ _ _ z.terms z.id (suc w)))
 
-  pub main_begins : (history : List NodeEntry) → HasAllSeats z c → SameSeat c.main.seat last → (more : List NodeEntry) → last.mine ≡ c.main.seat.mine ++ more → all_of (IsSeatOf z.terms history) whole
-      → StartsWith (entries_of z.terms.node.settings.workers history) c.main.seat.mine
-  main_begins history h s more mine seats =
+  pub main_ended : (history : List NodeEntry) → HasAllSeats z c → MadeOne Final c.main.seat last → all_of (IsSeatOf z.terms history) whole
+      → entries_of z.terms.node.settings.workers history ≡ c.main.seat.mine ++ entry z.terms.node.settings.workers Final reply.Ok ∷ []
+  main_ended history h one seats =
       let own = (all_has (IsSeatOf z.terms history) whole last seats (has_back c.workers.items (last ∷ []) last (inl refl))).mine in
-      let number : last.number ≡ z.terms.node.settings.workers = s.number ∙ h.main.number in
-      (more, ap (λ (n : ℕ). entries_of n history) (sym number) ∙ (own ∙ mine))
+      let number : c.main.seat.number ≡ z.terms.node.settings.workers = h.main.number in
+      ap (λ (n : ℕ). entries_of n history) (sym (one.same.number ∙ number)) ∙ (own ∙ (one.mine ∙ ap (λ (n : ℕ). c.main.seat.mine ++ entry n Final reply.Ok ∷ []) number))
 
--- main's last call, made of the seat that came back
-pub last_call : (o : Op) (seat start new last : Seat) (x : Result (Unit {0}) MtapiStatus) → start ≡ seat → Called mtapi done o start new x → last ≡ new → WentOn [] seat last
-last_call o seat start new last x first called is = subst (λ (s : Seat). WentOn [] s last) first (subst (WentOn [] start) (sym is) (done_went o start new x called))
+-- what main's seat is refused, said of the cell's terms
+pub not_ended : {T A : Type 0} (z : Cell) (c : Crew T A) (told : T) (f : Failure) → HasAllSeats z c → c.main.told ≡ Ok told
+    → IfRefused f (IsRefused c.main.seat.terms.node c.main.seat.number c.main.seat.mine Final) → HasFailed z c f
+not_ended z c told (failure.Refused s) h is r =
+    let same : c.main.seat.terms ≡ z.terms = h.main.terms in
+    inr (told, is, subst (λ (n : ℕ). IsRefused z.terms.node n c.main.seat.mine Final s) h.main.number (subst (λ (t : JournaledTerms). IsRefused t.node c.main.seat.number c.main.seat.mine Final s) same r))
+not_ended z c told failure.Memory h is r = inr tt
+not_ended z c told (failure.NoThread n) h is r = inr tt
+not_ended z c told (failure.Spent n) h is r = inr tt
 
 -- All of it
 
@@ -201,28 +266,56 @@ sets_are {C} {T} {A} promise n z h c d dealt came ended none few =
     let workers : length h.workers.items ≡ z.terms.node.settings.workers = ap (λ (xs : List Seat). length xs) dealt.workers_are ∙ fresh_length z 0 z.terms.node.settings.workers in
     omega arith
 
+-- the client's calls, with main's seat
+called_for : {C T A : Type 0} (promise : C → Seat → Seat → T → Type 0) (client : C) (settings : NodeSettings) (z : Cell) (h : Hands C A) (c : Crew T A) (told : T)
+    → z.terms.node ≡ terms_for settings → h.client ≡ client → Dealt z h.workers.items h.main → CameBack promise h c → c.main.told ≡ Ok told
+    → HasCalled MainOpens promise client (terms_for settings) settings.workers told c.main.seat.mine
+called_for {C} promise client settings z h c told terms same dealt came is =
+    subst (λ (y : C). HasCalled MainOpens promise y (terms_for settings) settings.workers told c.main.seat.mine) same
+    (subst (λ (u : Terms). HasCalled MainOpens promise h.client u u.settings.workers told c.main.seat.mine) terms
+    (subst (λ (s : Seat). HasCalled MainOpens promise h.client s.terms.node s.number told c.main.seat.mine) dealt.main_is
+    (IfOk-at_ok (λ t. HasCalled MainOpens promise h.client h.main.terms.node h.main.number t c.main.seat.mine) is came.told)))
+
 pub run_is : {C T A : Type 0} (promise : C → Seat → Seat → T → Type 0) (client : C) (settings : NodeSettings) (z : Cell) (h : Hands C A) (c : Crew T A) (d : Done T A)
     → z.terms.node ≡ terms_for settings → h.client ≡ client → Dealt z h.workers.items h.main → CameBack promise h c → HasEnded z c d
     → IsRun promise client settings d.told d.journal
-run_is {C} {T} {A} promise client settings z h c d terms same dealt came ended =
-    let w = z.terms.node.settings.workers in
-    let few : w ≡ settings.workers = ap (λ (u : Terms). u.settings.workers) terms in
-    let called : HasCalled promise client (fresh_seat z.terms z.id w) c.main.seat d.told =
-    subst (λ (y : C). HasCalled promise y (fresh_seat z.terms z.id w) c.main.seat d.told) same
-    (subst (λ (s : Seat). HasCalled promise h.client s c.main.seat d.told) dealt.main_is (IfOk-at_ok (HasCalled promise h.client h.main c.main.seat) ended.told came.told)) in
-    record {
-      history = ended.history;
-      legal = subst (λ (u : Terms). Legal u ended.history) terms ended.legal;
-      kept = subst (λ (u : Terms). KeptAs u d.journal ended.history) terms ended.kept;
-      before = called.before;
-      number = called.opened.same.number ∙ few;
-      opened = called.opened.mine ∙ ap (λ (n : ℕ). entry n Initialize reply.Ok ∷ []) few;
-      after = called.after;
-      same = called.same;
-      promised = called.promised;
-      begins = (
-        called.more ++ ended.begins.0,
-        ap (λ (n : ℕ). entries_of n ended.history) (sym few)
-            ∙ (ended.begins.1 ∙ (ap (λ (l : List NodeEntry). l ++ ended.begins.0) called.mine ∙ append_assoc called.after.mine called.more ended.begins.0)),
-      );
-    }
+run_is promise client settings z h c d terms same dealt came ended = record {
+  history = ended.history;
+  legal = subst (λ (u : Terms). Legal u ended.history) terms ended.legal;
+  kept = subst (λ (u : Terms). KeptAs u d.journal ended.history) terms ended.kept;
+  mine = c.main.seat.mine;
+  called = called_for promise client settings z h c d.told terms same dealt came ended.told;
+  ended = subst (λ (u : Terms). entries_of u.settings.workers ended.history ≡ c.main.seat.mine ++ entry u.settings.workers Final reply.Ok ∷ []) terms ended.ended;
+}
+
+-- Why it gave nothing back
+
+unopened : {C T A : Type 0} (promise : C → Seat → Seat → T → Type 0) (settings : NodeSettings) (z : Cell) (h : Hands C A) (c : Crew T A) (f : Failure)
+    → z.terms.node ≡ terms_for settings → Dealt z h.workers.items h.main → CameBack promise h c → c.main.told ≡ Err f
+    → IfRefused f (IsRefused (terms_for settings) settings.workers [] Initialize)
+unopened promise settings z h c f terms dealt came is =
+    subst (λ (u : Terms). IfRefused f (IsRefused u u.settings.workers [] Initialize)) terms
+    (subst (λ (s : Seat). IfRefused f (IsRefused s.terms.node s.number [] Initialize)) dealt.main_is
+    (IfErr-at_err (λ e. IfRefused e (IsRefused h.main.terms.node h.main.number [] Initialize)) is came.refused))
+
+pub causes_are : {C T A : Type 0} (promise : C → Seat → Seat → T → Type 0) (client : C) (settings : NodeSettings) (z : Cell) (h : Hands C A) (c : Crew T A) (f : Failure)
+    → z.terms.node ≡ terms_for settings → h.client ≡ client → Dealt z h.workers.items h.main → CameBack promise h c → HasFailed z c f
+    → IfRefused f (Refuses promise client settings)
+causes_are promise client settings z h c (failure.Refused s) terms same dealt came (inl is) = inl (unopened promise settings z h c (failure.Refused s) terms dealt came is)
+causes_are promise client settings z h c (failure.Refused s) terms same dealt came (inr e) =
+    inr (
+      e.0,
+      c.main.seat.mine,
+      called_for promise client settings z h c e.0 terms same dealt came e.1,
+      subst (λ (u : Terms). IsRefused u u.settings.workers c.main.seat.mine Final s) terms e.2,
+    )
+causes_are promise client settings z h c failure.Memory terms same dealt came failed = tt
+causes_are promise client settings z h c (failure.NoThread n) terms same dealt came failed = tt
+causes_are promise client settings z h c (failure.Spent n) terms same dealt came failed = tt
+
+-- where a thread or memory is refused, the node refused nothing
+pub no_refusal : (P : MtapiStatus → Type 0) (f : Failure) → IsNoRefusal f → IfRefused f P
+no_refusal P (failure.Refused s) none = absurd none
+no_refusal P failure.Memory none = tt
+no_refusal P (failure.NoThread n) none = tt
+no_refusal P (failure.Spent n) none = tt

@@ -8,7 +8,7 @@ use Rattle.mtapi_values.specs.declared.ends.TaskEnd.{TaskEnd}
 use Rattle.mtapi_values.specs.declared.handles.TaskHandle.{TaskHandle}
 use Rattle.mtapi_values.specs.declared.statuses.MtapiStatus.{MtapiStatus}
 use Rattle.mtapi_machine.specs.declared.ops.Op.{Op}
-use Rattle.mtapi_machine.specs.declared.ops.Op.TheVariants.{TaskLook}
+use Rattle.mtapi_machine.specs.declared.ops.Op.TheVariants.{TaskLook, Final}
 use Rattle.mtapi_machine.specs.declared.replies.Reply.{Reply}
 use Rattle.mtapi_machine.specs.declared.replies.Reply.TheVariants as reply
 use Rattle.mtapi_machine.specs.Legal.{NodeEntry}
@@ -191,14 +191,18 @@ told_by calls given t a b w = record { given = given; asked = among_mine (calls 
 pub tells : {C H T E : Type 0} (calls : ℕ → H → T → List NodeEntry) (client : C) (settings : NodeSettings) (workers : ℕ) (r : Result T E) (t : T) (j : Journal)
     → IsRun (λ (c : C) (old new : Seat) (told : Result T E). IfOk told (λ x. IsTold calls old.number x new.mine)) client settings r j → settings.workers ≡ workers → r ≡ Ok t → Tells calls workers t j
 tells {T = T} {E = E} calls client settings workers r t j run many is =
-    let mine : IsTold calls run.before.number t run.after.mine = subst (λ (x : Result T E). IfOk x (λ y. IsTold calls run.before.number y run.after.mine)) is run.promised in
-    let main : IsTold calls settings.workers t run.after.mine = subst (λ (n : ℕ). IsTold calls n t run.after.mine) run.number mine in
-    let all : IsTold calls settings.workers t (run.after.mine ++ run.begins.0) = record { given = main.given; asked = in_order_front (calls settings.workers main.given t) run.after.mine run.begins.0 main.asked } in
+    let c = run.called in
+    let w = settings.workers in
+    let mine : IsTold calls c.before.number t c.after.mine = subst (λ (x : Result T E). IfOk x (λ y. IsTold calls c.before.number y c.after.mine)) is c.promised in
+    let main : IsTold calls w t c.after.mine = subst (λ (n : ℕ). IsTold calls n t c.after.mine) c.number mine in
+    let more = c.begins.0 ++ entry w Final reply.Ok ∷ [] in
+    let all : entries_of w run.history ≡ c.after.mine ++ more = run.ended ∙ (ap (λ (l : List NodeEntry). l ++ entry w Final reply.Ok ∷ []) c.begins.1 ∙ append_assoc c.after.mine c.begins.0 (entry w Final reply.Ok ∷ [])) in
+    let told : IsTold calls w t (c.after.mine ++ more) = record { given = main.given; asked = in_order_front (calls w main.given t) c.after.mine more main.asked } in
     record {
       settings = settings;
       number = many;
       history = run.history;
       legal = run.legal;
       kept = run.kept;
-      told = subst (λ (n : ℕ). IsTold calls n t (entries_of n run.history)) many (subst (IsTold calls settings.workers t) (sym run.begins.1) all);
+      told = subst (λ (n : ℕ). IsTold calls n t (entries_of n run.history)) many (subst (IsTold calls w t) (sym all) told);
     }

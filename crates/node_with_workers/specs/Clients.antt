@@ -1,22 +1,56 @@
--- What main's seat does: it opens the node, has the client call, and begins the end.
-use Rattle.std.specs.Prelude.{◌≡◌, List, [], ◌∷◌, ◌++◌}
-use Rattle.history.specs.Histories.{entry}
+-- What a caller's seat does: it opens the node, has its client call, and makes further calls.
+use Rattle.std.specs.Prelude.{◌≡◌, ◌<◌, ◌^◌, ℕ, List, [], ◌∷◌, ◌++◌, take, length}
+use Rattle.history.specs.Histories.{StartsWith, entry, entries_of}
+use Rattle.mtapi_values.specs.declared.statuses.MtapiStatus.{MtapiStatus}
+use Rattle.mtapi_machine.specs.declared.ops.Op.{Op}
 use Rattle.mtapi_machine.specs.declared.ops.Op.TheVariants.{Initialize}
 use Rattle.mtapi_machine.specs.declared.replies.Reply.TheVariants as reply
-use Rattle.mtapi_machine.specs.Legal.{NodeEntry}
+use Rattle.mtapi_machine.specs.declared.terms.Terms.{Terms}
+use Rattle.mtapi_machine.specs.Legal.{NodeEntry, Legal}
 use Rattle.sched_workers.specs.Turns.{Seat, SameSeat}
+use Rattle.node_with_workers.specs.declared.failure.Failure.{Failure}
+use Rattle.node_with_workers.specs.declared.failure.Failure.TheVariants as failure
 
--- the seat made one more call, which opened the node
-pub record Opened (old new : Seat) : Type 0 where
+-- the seat's entries begin with those that it had
+abbrev pub GoesOn : Seat → Seat → Type 0
+GoesOn old new = take (length old.mine) new.mine ≡ old.mine
+
+-- the seat made one more call, which was done
+pub record MadeOne (o : Op) (old new : Seat) : Type 0 where
   pub same : SameSeat old new
-  pub mine : new.mine ≡ old.mine ++ entry old.number Initialize reply.Ok ∷ []
+  pub mine : new.mine ≡ old.mine ++ entry old.number o reply.Ok ∷ []
 
--- the seat opened the node, then the client made its calls and was told this, and then the seat made others
-pub record HasCalled {C T : Type 0} (promise : C → Seat → Seat → T → Type 0) (client : C) (old new : Seat) (told : T) : Type 0 where
+-- main opened the node, and made no other call
+abbrev pub MainOpens : ℕ → List NodeEntry → Type 0
+MainOpens who es = es ≡ entry who Initialize reply.Ok ∷ []
+
+-- These are the entries of a caller of a node with these terms. By the first of them its seat came in; then the client's promise holds of the
+-- seat before its calls and after them, and of what it was told; and then come others.
+pub record HasCalled {C T : Type 0} (opens : ℕ → List NodeEntry → Type 0) (promise : C → Seat → Seat → T → Type 0) (client : C) (t : Terms) (who : ℕ) (told : T) (es : List NodeEntry) : Type 0 where
   pub before : Seat
-  pub opened : Opened old before
+  pub number : before.number ≡ who
+  pub terms : before.terms.node ≡ t
+  pub opened : opens who before.mine
   pub after : Seat
   pub same : SameSeat before after
+  pub goes_on : StartsWith after.mine before.mine
   pub promised : promise client before after told
-  pub more : List NodeEntry
-  pub mine : new.mine ≡ after.mine ++ more
+  pub begins : StartsWith es after.mine
+
+-- a caller that has made these calls asked this and was answered the status, in a legal history of a node with these terms
+pub record IsRefused (t : Terms) (who : ℕ) (es : List NodeEntry) (o : Op) (status : MtapiStatus) : Type 0 where
+  pub history : List NodeEntry
+  pub own : entries_of who history ≡ es
+  pub legal : Legal t (history ++ entry who o (reply.Mtapi status) ∷ [])
+
+-- this holds of the status of a refusal
+abbrev pub IfRefused : Failure → (MtapiStatus → Type 0) → Type 0
+IfRefused (failure.Refused status) P = P status
+IfRefused _ P = Unit {0}
+
+abbrev pub IsNoRefusal : Failure → Type 0
+IsNoRefusal f = IfRefused f (λ _. ⊥)
+
+-- where the failure is a refusal it has this status, and the tickets shown to the seat hadn't run out
+abbrev pub SaysOf : Seat → MtapiStatus → Failure → Type 0
+SaysOf seat status f = IfRefused f (λ s. (s ≡ status) × (seat.shown < 2 ^ 62))

@@ -1,10 +1,12 @@
 //! The caller of the node.
 
-ghost use Rattle.std.specs.Prelude.{◌≡◌, ◌≤◌, IfOk};
+ghost use Rattle.std.specs.Prelude.{◌≡◌, ◌≤◌, [], IfOk, IfErr};
+ghost use Rattle.mtapi_machine.specs.declared.ops.Op.TheVariants.{Initialize, Final};
 ghost use Rattle.sched_workers.specs.Turns.{Seat, SameSeat};
 ghost use Rattle.sched_workers.specs.Crews.{GaveUp};
-ghost use Rattle.node_with_workers.specs.Clients.{Opened, HasCalled};
+ghost use Rattle.node_with_workers.specs.Clients.{GoesOn, MainOpens, MadeOne, HasCalled, IfRefused, IsRefused, SaysOf};
 
+use crate::failure::Failure;
 use mtapi_values::MtapiStatus;
 use node_core::Journaled;
 use sched_workers::Caller;
@@ -22,6 +24,7 @@ pub trait Client: Drop {
     /// Calls the node, which is open. It may leave tasks that haven't ended, and needn't end the node.
     fn call<R: Wait>(self, rt: &R, caller: &mut Caller) -> Self::Told
         ensures same { SameSeat caller.old caller.new }
+        ensures goes_on { GoesOn caller.old caller.new }
         ensures kept { promise self caller.old caller.new result };
 }
 
@@ -30,21 +33,18 @@ pub trait Client: Drop {
 pub struct Called<T: Drop> {
     /// The seat.
     pub seat: TurnSeat<Journaled>,
-    /// What the client was told, or the status that refused to open the node.
-    pub told: Result<T, MtapiStatus>,
+    /// What the client was told, or why the node wasn't opened.
+    pub told: Result<T, Failure>,
 }
 
-// Opens the node, and has the client call it.
-fn opened<R: Wait, C: Client>(
-    rt: &R,
-    caller: &mut Caller,
-    client: C,
-) -> Result<C::Told, MtapiStatus>
-    ensures same { SameSeat caller.old caller.new }
-    ensures told { IfOk result (λ t. (before : Seat) × Opened caller.old before × C.promise client before caller.new t) }
+/// Why a call of this seat answered a status: the tickets of the cell have run out, or the node refused it.
+pub(crate) fn failure_of(seat: &TurnSeat<Journaled>, status: MtapiStatus) -> Failure
+    ensures { SaysOf seat.now status result }
 {
-    caller.initialize(rt)?;
-    Ok(client.call(rt, caller))
+    match seat.spent() {
+        Some(spent) => Failure::Spent(spent),
+        None => Failure::Refused(status),
+    }
 }
 
 /// Opens the node, has the client call it, and begins its end whatever came of that: the workers stop once it has begun.
@@ -56,14 +56,28 @@ pub(crate) fn call<R: Wait, C: Client>(
 ) -> Called<C::Told>
     requires cell { seat.cell ≡ cell.now.id }
     requires caller { seat.terms.node.settings.workers ≤ seat.number }
+    requires new { seat.mine ≡ [] }
     ensures same { SameSeat seat result.seat }
-    ensures told { IfOk result.told (HasCalled C.promise client seat result.seat) }
+    ensures told { IfOk result.told (λ t. HasCalled MainOpens C.promise client seat.terms.node seat.number t result.seat.mine) }
+    ensures refused { IfErr result.told (λ e. IfRefused e (IsRefused seat.terms.node seat.number [] Initialize)) }
 {
     let mut caller = Caller::new(cell, seat);
-    let told = opened(rt, &mut caller, client);
-    Called {
-        seat: closed(rt, cell, caller.into_seat()),
-        told,
+    match caller.initialize(rt) {
+        Ok(()) => {
+            let told = client.call(rt, &mut caller);
+            Called {
+                seat: closed(rt, cell, caller.into_seat()),
+                told: Ok(told),
+            }
+        }
+        Err(status) => {
+            let seat = caller.into_seat();
+            let failure = failure_of(&seat, status);
+            Called {
+                seat: closed(rt, cell, seat),
+                told: Err(failure),
+            }
+        }
     }
 }
 
@@ -81,4 +95,25 @@ pub(crate) fn closed<R: Wait>(
     let _ = caller.finalize_begin(rt);
     cell.work().ring_all();
     caller.into_seat()
+}
+
+/// Ends the node.
+pub(crate) fn ended<R: Wait>(
+    rt: &R,
+    cell: &TurnCell<Journaled>,
+    seat: TurnSeat<Journaled>,
+) -> Result<TurnSeat<Journaled>, Failure>
+    requires cell { seat.cell ≡ cell.now.id }
+    requires caller { seat.terms.node.settings.workers ≤ seat.number }
+    ensures ended { IfOk result (MadeOne Final seat) }
+    ensures refused { IfErr result (λ e. IfRefused e (IsRefused seat.terms.node seat.number seat.mine Final)) }
+{
+    let mut caller = Caller::new(cell, seat);
+    match caller.finalize_end(rt) {
+        Ok(()) => Ok(caller.into_seat()),
+        Err(status) => {
+            let seat = caller.into_seat();
+            Err(failure_of(&seat, status))
+        }
+    }
 }

@@ -1,16 +1,19 @@
 //! The threads of the workers, and the caller beside them.
 
-ghost use Rattle.std.specs.Prelude.{◌≡◌, IfOk, vec_len};
+ghost use Rattle.std.specs.Prelude.{◌≡◌, IfOk, IfErr, vec_len};
 ghost use Rattle.std.specs.Thread.{IsSync};
+ghost use Rattle.node_with_workers.specs.Clients.{IsNoRefusal};
 ghost use Rattle.node_with_workers.specs.Crews.{AreReady, CameBack, IsJoined};
 
 use crate::client::{Called, Client, call, closed};
 use crate::failure::Failure;
 use crate::jobs::{Over, Waiting};
+use crate::refusals::NoThread;
 use action_fn::ActionSource;
 use node_core::Journaled;
 use sched_workers::{Threads, pair};
 use std::alloc::AllocError;
+use std::mem;
 use std::sync::Wait;
 use std::thread::Threads as StartsThreads;
 use turn_cell::{TurnCell, TurnSeat};
@@ -52,7 +55,8 @@ pub(crate) fn start_workers<S: ActionSource, C: Client, R: StartsThreads + Wait 
     hands: Hands<C, S::Set>,
 ) -> Result<Crew<C::Told, S::Set>, Failure>
     requires { AreReady cell.now hands }
-    ensures { IfOk result (CameBack C.promise hands) }
+    ensures back { IfOk result (CameBack C.promise hands) }
+    ensures failed { IfErr result IsNoRefusal }
 {
     let mut hands = hands;
     let Some(seat) = hands.workers.pop() else {
@@ -81,14 +85,16 @@ pub(crate) fn start_workers<S: ActionSource, C: Client, R: StartsThreads + Wait 
         hands,
         |beside: &mut Threads, hands: Hands<C, S::Set>| -> Result<Crew<C::Told, S::Set>, Failure>
             requires { AreReady cell.now hands × IsSync R.row }
-            ensures { IfOk result (CameBack C.promise hands) }
+            ensures back { IfOk result (CameBack C.promise hands) }
+            ensures failed { IfErr result IsNoRefusal }
         { start_workers(rt, cell, acts, beside, hands) },
     );
     match outcome {
         Ok((over, crew)) => Ok(joined(crew?, over)?),
         Err((hands, _)) => {
             let _ = closed(rt, cell, hands.main);
-            Err(Failure::NoThread)
+            let refused = mem::replace(beside, Threads::new());
+            Err(Failure::NoThread(NoThread::shown_by(refused)))
         }
     }
 }

@@ -1,8 +1,10 @@
 //! Why a node gave nothing back.
 
+use crate::refusals::NoThread;
 use mtapi_values::MtapiStatus;
 use std::alloc::AllocError;
 use thiserror::Error;
+use turn_cell::Spent;
 
 /// Why a node gave nothing back.
 #[derive(Debug, Drop, Error)]
@@ -12,13 +14,21 @@ pub enum Failure {
     Memory,
     /// A thread was refused.
     #[error("a thread was refused")]
-    NoThread,
-    /// The node refused to open or to end, or the tickets of its cell ran out (`ErrSpent`).
+    NoThread(NoThread),
+    /// The node refused to open or to end.
     #[error("refused with {0}")]
     Refused(MtapiStatus),
+    /// The tickets of its cell ran out.
+    #[error("the tickets ran out")]
+    Spent(Spent),
 }
 
 impl From<AllocError> for Failure {
+    ghost use Rattle.std.specs.Prelude.{◌≡◌};
+    ghost use Rattle.node_with_workers.specs.declared.failure.Failure.TheVariants.{Memory};
+
+    ghost from_gives = { λ _ failure. failure ≡ Memory };
+
     fn from(_error: AllocError) -> Failure {
         Failure::Memory
     }

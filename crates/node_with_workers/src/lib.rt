@@ -8,8 +8,10 @@ pub mod client;
 pub mod crew;
 pub mod failure;
 pub mod jobs;
+pub mod refusals;
 pub mod run;
 
 pub use client::Client;
 pub use failure::Failure;
+pub use refusals::NoThread;
 pub use run::{Done, with_workers};

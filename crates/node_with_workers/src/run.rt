@@ -1,15 +1,16 @@
 //! The node, from its start to its journal.
 
-ghost use Rattle.std.specs.Prelude.{◌≡◌, true, IfOk, vec_len};
-ghost use Rattle.node_with_workers.specs.Runs.{IsRun, HasAllSeats, HasEnded};
+ghost use Rattle.std.specs.Prelude.{◌≡◌, true, IfOk, IfErr, vec_len};
+ghost use Rattle.node_with_workers.specs.Clients.{IfRefused};
+ghost use Rattle.node_with_workers.specs.Runs.{IsRun, Refuses, HasAllSeats, HasEnded, HasFailed};
 
-use crate::client::{Called, Client};
+use crate::client::{Called, Client, ended};
 use crate::crew::{Crew, Hands, start_workers};
 use crate::failure::Failure;
 use action_fn::ActionSource;
 use mtapi_values::NodeAttr;
 use node_core::{Journaled, Node, RunJournal, journal_of};
-use sched_workers::{Caller, Threads};
+use sched_workers::Threads;
 use std::alloc::Global;
 use std::sync::Wait;
 use std::thread::Threads as StartsThreads;
@@ -36,7 +37,8 @@ fn end<R: Wait, T: Drop, A: Drop>(
     requires keeps { cell.terms.keeps ≡ true }
     requires callers { cell.terms.node.callers ≡ 1 }
     requires seats { HasAllSeats cell crew }
-    ensures { IfOk result (HasEnded cell crew) }
+    ensures ended { IfOk result (HasEnded cell crew) }
+    ensures failed { IfErr result (HasFailed cell crew) }
 {
     let Crew {
         mut workers,
@@ -45,9 +47,8 @@ fn end<R: Wait, T: Drop, A: Drop>(
     } = crew;
     let Called { seat, told } = main;
     let told = told?;
-    let mut caller = Caller::new(&cell, seat);
-    caller.finalize_end(rt)?;
-    let Ok(()) = workers.push(caller.into_seat()) else {
+    let seat = ended(rt, &cell, seat)?;
+    let Ok(()) = workers.push(seat) else {
         return Err(Failure::Memory);
     };
     let journal = journal_of(cell.close(workers))?;
@@ -65,7 +66,8 @@ fn end<R: Wait, T: Drop, A: Drop>(
 ///
 /// - `Memory`: there was no memory for the node, for its cell or for the journal.
 /// - `NoThread`: a thread was refused. The client made no call, and the workers that were started have ended.
-/// - `Refused`: the tickets of the cell ran out, or the client ended the node.
+/// - `Spent`: the tickets of the cell ran out.
+/// - `Refused`: the client ended the node.
 pub fn with_workers<R: StartsThreads + Wait + Sync, S: ActionSource, C: Client>(
     rt: &R,
     alloc: Global,
@@ -74,6 +76,7 @@ pub fn with_workers<R: StartsThreads + Wait + Sync, S: ActionSource, C: Client>(
     client: C,
 ) -> Result<Done<C::Told, S::Set>, Failure>
     ensures run { IfOk result (λ d. IsRun C.promise client settings d.told d.journal) }
+    ensures causes { IfErr result (λ e. IfRefused e (Refuses C.promise client settings)) }
     ensures sets { IfOk result (λ d. vec_len d.sets ≡ settings.workers) }
 {
     let node = Node::init(alloc, settings, 1)?;

@@ -5,8 +5,8 @@ use Rattle.node_with_workers.specs.Crews.{CameBack}
 use Rattle.node_with_workers.proofs.Lemmas.{came_joined}
 use Rattle.node_with_workers.proofs.crew.+fn-start_workers-pair+start_workers.Goals as goal
 
-pub returns-in_ok-joined-in-Ok : goal.returns-in_ok-joined-in-Ok
-returns-in_ok-joined-in-Ok g t c =
+pub returns-in_ok-joined-in-Ok-clause-back : goal.returns-in_ok-joined-in-Ok-clause-back
+returns-in_ok-joined-in-Ok-clause-back g t c =
     let given : Hands _ _ = record { workers = c.pop.new.self; main = c.args.hands.main; client = c.args.hands.client; sets = c.args.hands.sets } in
     came_joined g.C.Client.promise c.args.hands given c.in-Some.seat c.in_ok-crew-in-Ok.field-0 c.in_ok-joined-in-Ok.field-0 c.in-Ok.over c.in-Some.ensures.items c.in-Some.ensures.len refl refl refl
-    c.in-Ok.ensures.done c.in_ok-joined-in-Ok.ensures (IfOk-at_ok (CameBack g.C.Client.promise given) c.in_ok-crew-in-Ok.was c.in-Ok.ensures.ran.met)
+    c.in-Ok.ensures.done c.in_ok-joined-in-Ok.ensures (IfOk-at_ok (CameBack g.C.Client.promise given) c.in_ok-crew-in-Ok.was c.in-Ok.ensures.ran.met.0)

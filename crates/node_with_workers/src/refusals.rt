@@ -1,0 +1,30 @@
+//! That the system had no thread.
+
+ghost use Rattle.std.specs.Prelude.{◌<◌};
+
+use sched_workers::Threads;
+use sched_workers::beside::Beside;
+use std::fmt;
+
+/// That the system had no thread. It holds a count of refused threads, which a refusal alone raises.
+#[derive(Drop)]
+pub struct NoThread {
+    threads: Threads,
+    ghost refused: { 0 < ⟦<Threads as Beside>⟧.refusals threads },
+}
+
+impl NoThread {
+    /// Shows it by a count of refused threads.
+    pub fn shown_by(threads: Threads) -> NoThread
+        requires { 0 < ⟦<Threads as Beside>⟧.refusals threads }
+    {
+        NoThread { threads }
+    }
+}
+
+impl fmt::Debug for NoThread {
+    fn fmt<W: fmt::Write>(&self, f: &mut fmt::Formatter<W>) -> fmt::Result {
+        let _ = &self.threads;
+        f.write_str("NoThread")
+    }
+}
