@@ -7,4 +7,12 @@ use Rattle.typed_pieces.specs.Runs.{HasRun}
 
 pub has_run : {C T : Type 0} (promise : C → Seat → Seat → T → Type 0) (client : C) (settings : NodeSettings) (told : T) (j : Journal) → IsRun promise client settings told j → HasRun settings j
 has_run promise client settings told j r =
-    record { history = r.history; legal = r.legal; kept = r.kept; before = r.before; number = r.number; opened = r.opened; after = r.after; same = r.same; promised = tt; begins = r.begins }
+    let c = r.called in
+    record {
+      history = r.history;
+      legal = r.legal;
+      kept = r.kept;
+      mine = r.mine;
+      called = record { before = c.before; number = c.number; terms = c.terms; opened = c.opened; after = c.after; same = c.same; goes_on = c.goes_on; promised = tt; begins = c.begins };
+      ended = r.ended;
+    }

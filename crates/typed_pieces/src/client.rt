@@ -2,6 +2,7 @@
 
 ghost use Rattle.std.specs.Prelude.{List};
 ghost use Rattle.sched_workers.specs.Turns.{Seat, SameSeat};
+ghost use Rattle.node_with_workers.specs.Clients.{GoesOn};
 
 use crate::piece::Piece;
 use crate::pieces::Pieces;
@@ -27,6 +28,7 @@ pub trait PieceClient<J: Piece>: Drop {
         pieces: &Pieces<L, J>,
     ) -> Self::Told
         ensures same { SameSeat caller.old caller.new }
+        ensures goes_on { GoesOn caller.old caller.new }
         ensures kept { promise self L.pieces caller.old caller.new result };
 }
 
