@@ -130,6 +130,77 @@ fn segments<R: Wait>(rt: &R, caller: &mut Caller) -> Result<bool, MrapiStatus> {
     Ok(right)
 }
 
+// What a start or an enqueue asks for beside its arguments: the node has priorities up to 3 and core 0 alone.
+fn task_attributes(number: u32, value: u64) -> Result<TaskAttr, MtapiStatus> {
+    let mut attr = TaskAttr::new();
+    attr.set(number, value)?;
+    Ok(attr)
+}
+
+// Each attribute that isn't the usual one reaches the node: by it a call is answered otherwise than without it.
+fn attributes_of_tasks<R: Wait>(rt: &R, caller: &mut Caller) -> Result<bool, MtapiStatus> {
+    let mut away = ActionAttr::new();
+    away.set(ActionAttr::AFFINITY, 2)?;
+    let action = caller.action_create(rt, 1, Kind::Add, away)?;
+    let nowhere = caller.task_start(rt, 1, &Args::new(), TaskAttr::new(), None);
+    let mut right = nowhere == Err(MtapiStatus::ErrNoCore);
+    caller.action_delete(rt, action)?;
+    let action = caller.action_create(rt, 1, Kind::Add, ActionAttr::new())?;
+    let elsewhere = task_attributes(TaskAttr::AFFINITY, 2)?;
+    let refused = caller.task_start(rt, 1, &Args::new(), elsewhere, None);
+    right = right && refused == Err(MtapiStatus::ErrNoCore);
+    let late = task_attributes(TaskAttr::PRIORITY, 7)?;
+    let refused = caller.task_start(rt, 1, &Args::new(), late, None);
+    right = right && refused == Err(MtapiStatus::ErrParameter);
+    let alone = task_attributes(TaskAttr::DETACHED, 1)?;
+    let task = caller.task_start(rt, 1, &Args::new(), alone, None)?;
+    caller.task_cancel(rt, task)?;
+    right = right && caller.task_cancel(rt, task) == Err(MtapiStatus::ErrTaskInvalid);
+    caller.action_delete(rt, action)?;
+    Ok(right)
+}
+
+fn attributes_of_queues<R: Wait>(rt: &R, caller: &mut Caller) -> Result<bool, MtapiStatus> {
+    let action = caller.action_create(rt, 1, Kind::Add, ActionAttr::new())?;
+    let mut late = QueueAttr::new();
+    late.set(QueueAttr::PRIORITY, 7)?;
+    let refused = caller.queue_create(rt, 7, 1, late);
+    let mut right = refused == Err(MtapiStatus::ErrParameter);
+    let mut short = QueueAttr::new();
+    short.set(QueueAttr::LIMIT, 1)?;
+    short.set(QueueAttr::RETAIN, 1)?;
+    let queue = caller.queue_create(rt, 7, 1, short)?;
+    let elsewhere = task_attributes(TaskAttr::AFFINITY, 2)?;
+    let refused = caller.task_enqueue(rt, queue, &Args::new(), elsewhere, None);
+    right = right && refused == Err(MtapiStatus::ErrNoCore);
+    let alone = task_attributes(TaskAttr::DETACHED, 1)?;
+    let task = caller.task_enqueue(rt, queue, &Args::new(), alone, None)?;
+    let full = caller.task_enqueue(rt, queue, &Args::new(), alone, None);
+    right = right && full == Err(MtapiStatus::ErrQueueLimit);
+    // Nobody may wait for a detached task.
+    let waited = caller.task_wait(rt, task, Timeout::NoWait);
+    right = right && matches!(waited, Err(MtapiStatus::ErrParameter));
+    // The queue retains it, and it is gone once it has ended.
+    caller.queue_disable(rt, queue)?;
+    caller.task_cancel(rt, task)?;
+    right = right && caller.task_cancel(rt, task) == Err(MtapiStatus::ErrTaskInvalid);
+    caller.queue_delete(rt, queue)?;
+    caller.action_delete(rt, action)?;
+    Ok(right)
+}
+
+fn recursive_mutex<R: Wait>(rt: &R, caller: &mut Caller) -> Result<bool, MrapiStatus> {
+    let mut attr = MutexAttr::new();
+    let _ = attr.set(MutexAttr::RECURSIVE, 1);
+    let mutex = caller.mutex_create(rt, 1, attr)?;
+    let mut right = caller.mutex_lock(rt, mutex, Timeout::NoWait) == Ok(1);
+    right = right && caller.mutex_trylock(rt, mutex) == Ok(2);
+    caller.mutex_unlock(rt, mutex, 2)?;
+    caller.mutex_unlock(rt, mutex, 1)?;
+    caller.mutex_delete(rt, mutex)?;
+    Ok(right)
+}
+
 #[test]
 fn each_call_of_a_caller(rt: HostRuntime) -> Result<(), Fail> {
     let alloc = rt.alloc();
@@ -147,6 +218,9 @@ fn each_call_of_a_caller(rt: HostRuntime) -> Result<(), Fail> {
     assert_eq!(rt; mutexes(&rt, &mut caller), Ok(true));
     assert_eq!(rt; semaphores_and_locks(&rt, &mut caller), Ok(true));
     assert_eq!(rt; segments(&rt, &mut caller), Ok(true));
+    assert_eq!(rt; attributes_of_tasks(&rt, &mut caller), Ok(true));
+    assert_eq!(rt; attributes_of_queues(&rt, &mut caller), Ok(true));
+    assert_eq!(rt; recursive_mutex(&rt, &mut caller), Ok(true));
     assert_eq!(rt; caller.finalize_begin(&rt), Ok(()));
     // The worker hasn't stopped.
     assert_eq!(rt;
