@@ -1,10 +1,14 @@
 -- A node goes on with the list that its callers see, as the node inside goes on with what it saw.
-use Rattle.node_core.proofs.Names.{◌≡◌, ℕ, ◌<◌, Bool, List, [], ◌∷◌, ◌++◌, length, Option, refl, sym, ◌∙◌, ap, subst, arith, entry, NodeSettings, One, Two, Terms, Op, Reply, NodeEntry, Legal, after, pends_alike, ObjectKind, inward_op, answered_kind, outward, outward_reply, IssuesSmall, IsSmall, inner_entries, Node, Stands, terms_of}
+use Rattle.node_core.proofs.Names.{◌≡◌, ℕ, ◌<◌, Bool, List, [], ◌∷◌, ◌++◌, length, Option, refl, sym, ◌∙◌, ap, subst, arith, entry, NodeSettings, One, Two, Terms, Op, Reply, NodeEntry, Legal, after, pends_alike, ObjectKind, inward_op, answered_kind, outward, outward_reply, IssuesSmall, IsSmall, inner_entries, outer_entries, AllIssueSmall, history_turns, Node, Stands, terms_of}
 use Rattle.node_steps.specs.Stands.{Stands as StandsInside, terms_of as terms_inside}
 use Rattle.node_core.proofs.Outside.{inner_append, outer_append, small_append, same_length, small_outside, reply_small, pends_outside}
 
+-- what callers see of a history of the node inside is legal
+seen_legal : (n : Node) (L entries : List NodeEntry) → outer_entries entries ≡ L → AllIssueSmall entries → StandsInside n.inner (inner_entries entries) → Legal (terms_of n) L
+seen_legal n L entries seen small inside = subst (Legal (terms_of n)) seen (history_turns (terms_of n) entries refl small inside.legal).legal
+
 pub new_node : (n : Node) → StandsInside n.inner [] → Stands n []
-new_node n s = record { entries = []; seen = refl; small = tt; inside = s }
+new_node n s = record { entries = []; seen = refl; small = tt; inside = s; legal = seen_legal n [] [] refl tt s }
 
 pub new_terms : (n : Node) (settings : NodeSettings) (callers : ℕ) → terms_inside n.inner ≡ record { layout = One; settings = settings; callers = callers } → terms_of n ≡ record { layout = Two; settings = settings; callers = callers }
 new_terms n settings callers e = ap (λ (t : Terms). record t { layout = Two }) e
@@ -22,12 +26,16 @@ room_inside n k x =
 module _ (n m : Node) (L : List NodeEntry) (who : ℕ) (o p : Op) (k : Option ObjectKind) (r out : Reply) (st : Stands n L) (inward : p ≡ inward_op o) (kind : k ≡ answered_kind o) where
   pub goes_on : terms_of m ≡ terms_of n → ((K : List NodeEntry) → StandsInside n.inner K → StandsInside m.inner (K ++ entry who p r ∷ [])) → IssuesSmall p r → (IsSmall r → out ≡ outward k r) → Stands m (L ++ entry who o out ∷ [])
   goes_on same goes small is = record {
-    entries = st.entries ++ entry who o r ∷ [];
-    seen = outer_append st.entries (entry who o r ∷ []) ∙ (λ i. st.seen i ++ entry who o (sym turned i) ∷ []);
-    small = small_append st.entries (entry who o r ∷ []) st.small (new, tt);
-    inside = subst (StandsInside m.inner) (sym (inner_append st.entries (entry who o r ∷ []))) inside;
+    entries = entries;
+    seen = seen;
+    small = all_small;
+    inside = stands;
+    legal = seen_legal m (L ++ entry who o out ∷ []) entries seen all_small stands;
   }
     where
+      entries : List NodeEntry
+      entries = st.entries ++ entry who o r ∷ []
+
       new : IssuesSmall o r
       new = small_outside o r (subst (λ (x : Op). IssuesSmall x r) inward small)
 
@@ -39,6 +47,15 @@ module _ (n m : Node) (L : List NodeEntry) (who : ℕ) (o p : Op) (k : Option Ob
 
       turned : out ≡ outward_reply o r
       turned = is (reply_small (terms_of n) st.entries who o r refl st.small new legal st.inside.legal) ∙ ap (λ (x : Option ObjectKind). outward x r) kind
+
+      seen : outer_entries entries ≡ L ++ entry who o out ∷ []
+      seen = outer_append st.entries (entry who o r ∷ []) ∙ (λ i. st.seen i ++ entry who o (sym turned i) ∷ [])
+
+      all_small : AllIssueSmall entries
+      all_small = small_append st.entries (entry who o r ∷ []) st.small (new, tt)
+
+      stands : StandsInside m.inner (inner_entries entries)
+      stands = subst (StandsInside m.inner) (sym (inner_append st.entries (entry who o r ∷ []))) inside
 
 -- a Pending reply leaves the state as it was, where it does so inside
 pub pends_alike_so : (n : Node) (L : List NodeEntry) (who : ℕ) (o p : Op) (b : Bool) → Stands n L → p ≡ inward_op o → ((K : List NodeEntry) → StandsInside n.inner K → pends_alike (after (terms_inside n.inner) K) who p ≡ b) → pends_alike (after (terms_of n) L) who o ≡ b

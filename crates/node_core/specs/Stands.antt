@@ -1,13 +1,11 @@
 -- What it means that a node stands for a history.
-use Rattle.std.specs.Prelude.{◌≡◌, List, refl}
-use Rattle.std.proofs.Common.{subst}
+use Rattle.std.specs.Prelude.{◌≡◌, List}
 use Rattle.mtapi_values.specs.declared.handles.Layout.TheVariants.{Two}
 use Rattle.mtapi_machine.specs.declared.terms.Terms.{Terms}
 use Rattle.mtapi_machine.specs.Legal.{NodeEntry, Legal}
 use Rattle.mtapi_layouts.specs.Turns.{inner_entries, outer_entries, AllIssueSmall}
 use Rattle.node_steps.specs.Stands.{Stands as StandsInside, terms_of as terms_inside}
 pub use Rattle.node_steps.specs.Stands.{seat_count}
-use Rattle.mtapi_layouts.proofs.Histories.{history_turns}
 use Rattle.node_core.specs.declared.node.Node.{Node}
 
 -- what no op changes; handles are those of layout two
@@ -22,10 +20,12 @@ pub record Stands (n : Node) (L : List NodeEntry) : Type 0 where
   pub seen : outer_entries entries ≡ L
   pub small : AllIssueSmall entries
   pub inside : StandsInside n.inner (inner_entries entries)
+  -- the list is legal under the node's terms
+  pub legal : Legal (terms_of n) L
 
 -- a node stands for legal histories alone
 abbrev pub history_of : (n : Node) (L : List NodeEntry) → Stands n L → Legal (terms_of n) L
-history_of n L s = subst (Legal (terms_of n)) s.seen (history_turns (terms_of n) s.entries refl s.small s.inside.legal).legal
+history_of n L s = s.legal
 
 -- terms of a node: the usual settings, and main alone
 abbrev pub some_terms : Terms

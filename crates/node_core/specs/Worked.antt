@@ -1,5 +1,5 @@
 -- Worked pools that agree with no list, though each differs from one that does in one number.
-use Rattle.std.specs.Prelude.{ℕ, true, false, List, [], ◌∷◌, None, Some}
+use Rattle.std.specs.Prelude.{ℕ, true, false, List, [], ◌∷◌}
 use Rattle.mtapi_values.specs.declared.handles.ObjectKind.TheVariants as kind
 use Rattle.handle_pool.specs.Slots.{Slots, free_slot, used_slot}
 use Rattle.handle_pool.specs.Issued.{Listed}

@@ -73,6 +73,7 @@ impl Node {
     ///
     /// Stands for the arguments of `mtapi_initialize` and `mrapi_initialize`; the op `Initialize`
     /// opens the node.
+    #[tactic(auto, using(crate::proofs::NodeLemmas::new_node))]
     pub fn init(alloc: Global, attr: NodeAttr, callers: u32) -> Result<Node, AllocError>
         requires some_caller { 1 ≤ callers }
         requires few_callers { callers ≤ 9 }
