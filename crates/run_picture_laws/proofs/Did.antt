@@ -60,7 +60,7 @@ pub data Did (n : ℕ) (s : State) (who : ℕ) (x : Lock) (l : List (Listed Mute
 abbrev pub Names : State → ℕ → Option ℕ → Type 0
 Names s who named = (h : ℕ) (t : Task) → live_object s.tasks h ≡ Some t → runs_as who kinds.Tally t ≡ true → mutex_named t.args ≡ named
 
-args_named : (args : List ℤ) (a : Adds) → tally_args args ≡ Some a → mutex_named args ≡ Some a.mutex
+pub args_named : (args : List ℤ) (a : Adds) → tally_args args ≡ Some a → mutex_named args ≡ Some a.mutex
 args_named (pos m ∷ pos s ∷ pos cell ∷ v ∷ []) a e = ap (λ (o : Option Adds). mutex_of o) e
   where
     mutex_of : Option Adds → Option ℕ
@@ -72,13 +72,13 @@ abbrev says_asked : Reply → Bool
 says_asked (reply.Asked b) = b
 says_asked _ = false
 
-asks_nothing : (named : Option ℕ) (t : TaskHandle) (r : Reply) → says_asked r ≡ false → lock_of named (op.TallyLock t) r ≡ lock.Nothing
+pub asks_nothing : (named : Option ℕ) (t : TaskHandle) (r : Reply) → says_asked r ≡ false → lock_of named (op.TallyLock t) r ≡ lock.Nothing
 asks_nothing None t r e = refl
 asks_nothing (Some id) t (reply.Asked true) e = true_false refl e
 asks_nothing (Some id) t (reply.Asked false) e = refl
 asks_nothing (Some id) t _ e = refl
 
-ends_all : (named : Option ℕ) (t : TaskHandle) (e : _) → lock_of named (op.TallyEnd t) (reply.Ended e) ≡ lock.TallyFrees
+pub ends_all : (named : Option ℕ) (t : TaskHandle) (e : _) → lock_of named (op.TallyEnd t) (reply.Ended e) ≡ lock.TallyFrees
 ends_all None t e = refl
 ends_all (Some id) t e = refl
 
@@ -86,7 +86,7 @@ abbrev says_end : Reply → Bool
 says_end (reply.Ended e) = true
 says_end _ = false
 
-ends_nothing : (named : Option ℕ) (t : TaskHandle) (r : Reply) → says_end r ≡ false → lock_of named (op.TallyEnd t) r ≡ lock.Nothing
+pub ends_nothing : (named : Option ℕ) (t : TaskHandle) (r : Reply) → says_end r ≡ false → lock_of named (op.TallyEnd t) r ≡ lock.Nothing
 ends_nothing named t (reply.Ended e) f = true_false refl f
 ends_nothing None t _ f = refl
 ends_nothing (Some id) t _ f = refl

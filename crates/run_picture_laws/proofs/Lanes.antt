@@ -88,7 +88,7 @@ tallies_stay s who o r named i w h j c v = by_moves (OnAt w h j) s (record { who
 
 -- What holds behind every legal list
 
-record Stands (n : ℕ) (s : State) : Type 0 where
+pub record Stands (n : ℕ) (s : State) : Type 0 where
   pub good : Good n s
   pub ids : (i : ℕ) → count_listed (HasId i) s.mutexes ≤ 1
   pub held : Each (IsHeld n s.tasks) s.mutexes
@@ -123,7 +123,7 @@ names_of s w m (Some r) v h t e k =
 
 -- Lanes
 
-abbrev Seen : State → List MutexLane → Type 0
+abbrev pub Seen : State → List MutexLane → Type 0
 Seen s lanes = map lane_seen lanes ≡ take most_lanes (map mutex_seen s.mutexes)
 
 map_steps : (who at looks : ℕ) (x : Lock) (ls : List MutexLane) → map lane_seen (map (lane_after who at looks x) ls) ≡ map (seen_after who x) (map lane_seen ls)
@@ -170,7 +170,7 @@ unfoldable pub known_after : ℕ → Locks → List NodeEntry → List ℕ → L
 known_after at t [] ns = t
 known_after at t (e ∷ es) ns = known_after (at + 1) (locks_after at e (first_of ns) t) es (rest_of ns)
 
-lanes_known : (at : ℕ) (t : Locks) (es : List NodeEntry) (ns : List ℕ) → mutex_lanes_from at t es ns ≡ (known_after at t es ns).lanes
+pub lanes_known : (at : ℕ) (t : Locks) (es : List NodeEntry) (ns : List ℕ) → mutex_lanes_from at t es ns ≡ (known_after at t es ns).lanes
 unfolding mutex_lanes_from known_after
 lanes_known at t [] ns = refl
 lanes_known at t (e ∷ es) ns = lanes_known (at + 1) (locks_after at e (first_of ns) t) es (rest_of ns)
@@ -180,29 +180,50 @@ unfolding named_after
 named_more named [] e = refl
 named_more named (x ∷ P) e = named_more (named_by x.who x.op x.reply named) P e
 
--- along the entries behind a legal list
-lanes_along : (terms : Terms) (P es : List NodeEntry) (at : ℕ) (t : Locks) (ns : List ℕ) → Legal terms (P ++ es) → t.named ≡ named_after (replicate (seats_of terms) None) P → Stands terms.settings.workers (after terms P) → Seen (after terms P) t.lanes
-    → Seen (after terms (P ++ es)) (known_after at t es ns).lanes
-unfolding known_after LegalFrom
-lanes_along terms P [] at t ns h d g v = subst (λ (L : List NodeEntry). Seen (after terms L) t.lanes) (sym (append-nil P)) v
-lanes_along terms P (e ∷ es) at t ns h d g v =
-    let same : (P ++ e ∷ []) ++ es ≡ P ++ e ∷ es = append_assoc P (e ∷ []) es in
+-- what the picture knows behind a legal list is so in the machine
+pub record Along (terms : Terms) (P : List NodeEntry) (t : Locks) : Type 0 where
+  pub named : t.named ≡ named_after (replicate (seats_of terms) None) P
+  pub stands : Stands terms.settings.workers (after terms P)
+  pub seen : Seen (after terms P) t.lanes
+
+pub along_opening : (terms : Terms) → Along terms [] (no_locks (seats_of terms))
+unfolding named_after after_from
+along_opening terms = record { named = refl; stands = stands_opening terms; seen = refl }
+
+pub names_at : (terms : Terms) (P es : List NodeEntry) (e : NodeEntry) (t : Locks) → Legal terms (P ++ e ∷ es) → Along terms P t → Names (after terms P) e.who (get_or t.named e.who None)
+unfolding LegalFrom
+names_at terms P es e t h a =
     let now : LegalFrom (after terms P) (e ∷ es) = Legal-rest (opening terms) P (e ∷ es) h.from in
     let front : Legal terms P = Legal-prefix terms P (e ∷ es) h in
     let there : e.who < seats_of terms = subst (λ (z : Terms). e.who < seats_of z) (terms_stay (opening terms) P front.from) now.0.seat in
     let known : List (Option ℕ) = named_after (replicate (seats_of terms) None) P in
-    let names : Names (after terms P) e.who (get_or t.named e.who None) =
-    subst (λ (z : List (Option ℕ)). Names (after terms P) e.who (get_or z e.who None)) (sym d) (names_of (after terms P) e.who (get_or known e.who None) _ (rows_after terms (seats_of terms) P e.who front there)) in
+    subst (λ (z : List (Option ℕ)). Names (after terms P) e.who (get_or z e.who None)) (sym a.named) (names_of (after terms P) e.who (get_or known e.who None) _ (rows_after terms (seats_of terms) P e.who front there))
+
+pub along_next : (terms : Terms) (P es : List NodeEntry) (e : NodeEntry) (at looks : ℕ) (t : Locks) → Legal terms (P ++ e ∷ es) → Along terms P t → Along terms (P ++ e ∷ []) (locks_after at e looks t)
+unfolding LegalFrom
+along_next terms P es e at looks t h a =
+    let now : LegalFrom (after terms P) (e ∷ es) = Legal-rest (opening terms) P (e ∷ es) h.from in
+    let names = names_at terms P es e t h a in
     let one : after terms (P ++ e ∷ []) ≡ next (after terms P) e = after-one (opening terms) P e in
+    record {
+      named = ap (λ (z : List (Option ℕ)). named_by e.who e.op e.reply z) a.named ∙ sym (named_more (replicate (seats_of terms) None) P e);
+      stands = subst (Stands terms.settings.workers) (sym one) (stands_next terms.settings.workers (after terms P) e (get_or t.named e.who None) now.0 names a.stands);
+      seen =
+          subst (λ (z : State). Seen z (lanes_after e.who at looks (lock_by t.named e) t.lanes)) (sym one)
+          (seen_next terms.settings.workers at looks (after terms P) e (get_or t.named e.who None) t.lanes now.0 names a.stands a.seen);
+    }
+
+-- along the entries behind a legal list
+lanes_along : (terms : Terms) (P es : List NodeEntry) (at : ℕ) (t : Locks) (ns : List ℕ) → Legal terms (P ++ es) → Along terms P t → Seen (after terms (P ++ es)) (known_after at t es ns).lanes
+unfolding known_after
+lanes_along terms P [] at t ns h a = subst (λ (L : List NodeEntry). Seen (after terms L) t.lanes) (sym (append-nil P)) a.seen
+lanes_along terms P (e ∷ es) at t ns h a =
+    let same : (P ++ e ∷ []) ++ es ≡ P ++ e ∷ es = append_assoc P (e ∷ []) es in
     subst (λ (L : List NodeEntry). Seen (after terms L) (known_after (at + 1) (locks_after at e (first_of ns) t) es (rest_of ns)).lanes) same
-    (lanes_along terms (P ++ e ∷ []) es (at + 1) (locks_after at e (first_of ns) t) (rest_of ns) (subst (λ (L : List NodeEntry). Legal terms L) (sym same) h)
-    (ap (λ (z : List (Option ℕ)). named_by e.who e.op e.reply z) d ∙ sym (named_more (replicate (seats_of terms) None) P e))
-    (subst (Stands terms.settings.workers) (sym one) (stands_next terms.settings.workers (after terms P) e (get_or t.named e.who None) now.0 names g))
-    (subst (λ (z : State). Seen z (lanes_after e.who at (first_of ns) (lock_by t.named e) t.lanes)) (sym one) (seen_next terms.settings.workers at (first_of ns) (after terms P) e (get_or t.named e.who None) t.lanes now.0 names g v)))
+    (lanes_along terms (P ++ e ∷ []) es (at + 1) (locks_after at e (first_of ns) t) (rest_of ns) (subst (λ (L : List NodeEntry). Legal terms L) (sym same) h) (along_next terms P es e at (first_of ns) t h a))
 
 pub lanes_seen : (terms : Terms) (L : List NodeEntry) (ns : List ℕ) → Legal terms L → Seen (after terms L) (known_after 0 (no_locks (seats_of terms)) L ns).lanes
-unfolding named_after after_from
-lanes_seen terms L ns h = lanes_along terms [] L 0 (no_locks (seats_of terms)) ns h refl (stands_opening terms) refl
+lanes_seen terms L ns h = lanes_along terms [] L 0 (no_locks (seats_of terms)) ns h (along_opening terms)
 
 pub pictures_show_mutexes : (terms : Terms) (L : List NodeEntry) (ns : List ℕ) (p : Picture) → Legal terms L → IsPicture (seats_of terms) L ns p → LanesAreMutexes terms L p.mutexes.items
 pictures_show_mutexes terms L ns p h i = ap (map lane_seen) (i.mutexes ∙ lanes_known 0 (no_locks (seats_of terms)) L ns) ∙ lanes_seen terms L ns h

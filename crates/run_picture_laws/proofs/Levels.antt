@@ -36,7 +36,7 @@ abbrev lane_count : Option QueueLane → ℕ
 lane_count None = 0
 lane_count (Some l) = l.count
 
-abbrev Numbered : ℕ → List QueueLane → Type 0
+abbrev pub Numbered : ℕ → List QueueLane → Type 0
 Numbered k [] = Unit {0}
 Numbered k (l ∷ ls) = (l.lane ≡ k) × Numbered (k + 1) ls
 
@@ -54,7 +54,7 @@ after_lane c l = by_test (is_changed c l)
     by_test true = by_change c
     by_test false = refl
 
-numbered_map : (k : ℕ) (c : Change) (ls : List QueueLane) → Numbered k ls → Numbered k (map (lane_after c) ls)
+pub numbered_map : (k : ℕ) (c : Change) (ls : List QueueLane) → Numbered k ls → Numbered k (map (lane_after c) ls)
 numbered_map k c [] a = tt
 numbered_map k c (l ∷ ls) a = (after_lane c l ∙ a.0, numbered_map (k + 1) c ls a.1)
 
@@ -62,7 +62,7 @@ numbered_more : (k n q id : ℕ) (retain : Bool) (ls : List QueueLane) → n ≡
 numbered_more k n q id retain [] e a = (omega arith, tt)
 numbered_more k n q id retain (l ∷ ls) e a = (a.0, numbered_more (k + 1) n q id retain ls (omega arith) a.1)
 
-numbered_with : (x : Wait) (ls : List QueueLane) → Numbered 0 ls → Numbered 0 (lanes_with x ls)
+pub numbered_with : (x : Wait) (ls : List QueueLane) → Numbered 0 ls → Numbered 0 (lanes_with x ls)
 numbered_with (wait.Makes q id retain) ls a = by_room (nat_lt (length ls) most_lanes)
   where
     by_room : (b : Bool) → Numbered 0 (cond b (ls ++ new_lane (length ls) q id retain ∷ []) ls)

@@ -12,3 +12,6 @@ pub mod Queues
 pub mod Levels
 pub mod Ends
 pub mod Numbers
+pub mod Greatest
+pub mod Longest
+pub mod Asks

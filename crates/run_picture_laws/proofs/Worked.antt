@@ -1,5 +1,6 @@
 -- The worked pictures, by computing.
-use Rattle.std.proofs.Common.{◌≡◌, [], take, drop, Bool, true, false, Option, Some, None, refl, ap, ◌∙◌, arith}
+use Rattle.std.proofs.Common.{◌≡◌, ℕ, zero, suc, ◌<◌, ◌≤◌, get_or, ◌⊎◌, inl, inr, [], ◌∷◌, take, drop, Bool, true, false, Option, Some, None, refl, ap, ◌∙◌, arith}
+use Rattle.std.specs.List.{Contains}
 use Rattle.handle_pool.specs.Issued.{live_of, issue, change, listed, issued_at, retired, is_full, may_issue}
 use Rattle.mtapi_objects.specs.Actions.{has_worker}
 use Rattle.mtapi_objects.specs.Tasks.{Task, TaskState, Ended, end_each}
@@ -11,7 +12,8 @@ use Rattle.run_picture.specs.Rows.{bars_from, bars_left}
 use Rattle.run_picture.specs.Locks.{spans_from}
 use Rattle.run_picture.specs.Waits.{lane_after, level_by, levels_from}
 use Rattle.run_picture_laws.specs.Bars.{run_end}
-use Rattle.run_picture_laws.specs.Worked.{OneTaskIsDrawn, TalliesAreDrawn, one_waits, OneWaitIsDrawn}
+use Rattle.run_picture_laws.specs.Greatest.{waits_for}
+use Rattle.run_picture_laws.specs.Worked.{OneTaskIsDrawn, TalliesAreDrawn, one_waits, OneWaitIsDrawn, looks, NumbersAreShown}
 
 over : TaskState → Bool
 over (Ended e n) = true
@@ -45,3 +47,34 @@ one_wait_is_drawn = record {
   none = λ h. let n = (h one_waits [] 0 _ refl (omega arith) refl).least in absurd (omega arith);
   two = λ h. let n : 2 ≡ 1 = (h one_waits [] 0 _ refl (omega arith) refl).exact refl in absurd (omega arith);
 }
+
+-- two numbers are one
+abbrev is : ℕ → ℕ → Type 0
+is a b = a ≡ b
+
+not_two : (k : ℕ) → k < 1 → is (get_or (1 ∷ []) k 2) 2 → ⊥
+not_two zero l e = absurd (omega arith)
+not_two (suc k) l e = absurd (omega arith)
+
+not_seven : (k : ℕ) → k < 2 → is (get_or (2 ∷ 5 ∷ []) k 7) 7 → ⊥
+not_seven zero l e = absurd (omega arith)
+not_seven (suc zero) l e = absurd (omega arith)
+not_seven (suc (suc k)) l e = absurd (omega arith)
+
+pub numbers_are_shown : NumbersAreShown
+unfolding one_waits two_tallies looks waits_for levels_from level_by lane_after live_of issue change listed issued_at retired is_full may_issue has_worker end_each is_ready can_take has_better
+numbers_are_shown = record {
+  counts = refl;
+  two = λ h. by_two h.met;
+  waits = refl;
+  short = λ h. let n : 5 ≤ 2 = h.most 1 0 (omega arith) in absurd (omega arith);
+  long = λ h. by_seven h.met;
+}
+  where
+    by_two : is 2 0 ⊎ Contains {X = ℕ} (1 ∷ []) 2 → ⊥
+    by_two (inl e) = absurd (omega arith)
+    by_two (inr c) = not_two c.0 c.1 c.2
+
+    by_seven : is 7 0 ⊎ Contains {X = ℕ} (2 ∷ 5 ∷ []) 7 → ⊥
+    by_seven (inl e) = absurd (omega arith)
+    by_seven (inr c) = not_seven c.0 c.1 c.2

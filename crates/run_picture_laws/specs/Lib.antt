@@ -3,3 +3,4 @@ pub mod Mutexes
 pub mod Queues
 pub mod Worked
 pub mod Numbers
+pub mod Greatest

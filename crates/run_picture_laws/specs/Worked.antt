@@ -1,9 +1,10 @@
 -- Three worked journals: what is drawn of them, and lists that the laws refuse.
-use Rattle.std.specs.Prelude.{◌≡◌, ℕ, true, false, List, [], ◌∷◌, None}
+use Rattle.std.specs.Prelude.{◌≡◌, ℕ, true, false, List, [], ◌∷◌, ◌++◌, replicate, None}
 use Rattle.mtapi_values.specs.declared.kinds.Kind.TheVariants as kind
 use Rattle.mtapi_machine.specs.Worked.{usual, main, every_core, first_handle, one_task}
 use Rattle.mtapi_machine.specs.declared.ops.Op.TheVariants as op
 use Rattle.mtapi_machine.specs.declared.replies.Reply.TheVariants as reply
+use Rattle.mtapi_machine.specs.State.{opening}
 use Rattle.mtapi_machine.specs.Legal.{NodeEntry}
 use Rattle.history_law.specs.WorkedSum.{two_workers, two_tallies}
 use Rattle.run_picture.specs.declared.shapes.Bar.{Bar}
@@ -17,6 +18,7 @@ use Rattle.run_picture.specs.Pictures.{none_running, no_locks, none_waits}
 use Rattle.run_picture_laws.specs.Bars.{seats_of, EachRunHasOneBar, RowsShowRuns}
 use Rattle.run_picture_laws.specs.Mutexes.{LanesShowOwners}
 use Rattle.run_picture_laws.specs.Queues.{LevelsCount}
+use Rattle.run_picture_laws.specs.Greatest.{IsGreatest, counts_of, waits_for}
 
 -- the bar of the one task that worker 0 ran, from the entry 4 to this one
 abbrev pub bar_until : ℕ → Bar
@@ -59,3 +61,15 @@ pub record OneWaitIsDrawn : Type 0 where
   pub drawn : levels_from 0 none_waits [] one_waits ≡ level 1 ∷ []
   pub none : LevelsCount usual one_waits [] → ⊥
   pub two : LevelsCount usual one_waits (level 2 ∷ []) → ⊥
+
+-- so many looks were left out before the locks of the two tallies, at the entries 8 and 13
+unfoldable pub looks : List ℕ
+looks = replicate 8 0 ++ 2 ∷ replicate 4 0 ++ 5 ∷ []
+
+-- one task waits in the queue at once, and not two. The tallies waited for their mutex, the longest wait has 5 looks, and neither 2 nor 7
+pub record NumbersAreShown : Type 0 where
+  pub counts : counts_of 0 (levels_from 0 none_waits [] one_waits) ≡ 1 ∷ []
+  pub two : IsGreatest 2 (1 ∷ []) → ⊥
+  pub waits : waits_for 0 (opening two_workers) two_tallies looks ≡ 2 ∷ 5 ∷ []
+  pub short : IsGreatest 2 (2 ∷ 5 ∷ []) → ⊥
+  pub long : IsGreatest 7 (2 ∷ 5 ∷ []) → ⊥

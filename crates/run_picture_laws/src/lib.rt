@@ -1,9 +1,10 @@
 //! Laws of pictures: what a picture of a legal journal shows is the machine's. Each function does nothing: its contract is the law.
 #![tactic(auto)]
 
-ghost use Rattle.run_picture_laws.specs.Worked.{OneTaskIsDrawn, TalliesAreDrawn, OneWaitIsDrawn};
+ghost use Rattle.run_picture_laws.specs.Worked.{OneTaskIsDrawn, TalliesAreDrawn, OneWaitIsDrawn, NumbersAreShown};
 ghost use Rattle.run_picture_laws.specs.Queues.{PicturesShowQueues, PicturesShowLevels};
 ghost use Rattle.run_picture_laws.specs.Mutexes.{PicturesShowMutexes, PicturesShowOwners};
+ghost use Rattle.run_picture_laws.specs.Greatest.{PicturesShowLongest, PicturesShowWaits};
 ghost use Rattle.run_picture_laws.specs.Numbers.{PicturesMarkEntries, PicturesNumberTurns, PicturesShareTurns};
 ghost use Rattle.run_picture_laws.specs.Bars.{RunsHaveBars, PicturesShowRuns, PicturesDontOverlap, PicturesShowEnds};
 
@@ -23,10 +24,12 @@ pub fn law_rows()
 {}
 
 /// In a picture of a legal journal the lanes of mutexes are the first mutexes that the machine made, in their order, as they stand in its
-/// state at the end; and behind each entry each lane shows the seat that owns its mutex in the machine's state there, or nobody.
+/// state at the end; and behind each entry each lane shows the seat that owns its mutex in the machine's state there, or nobody. The longest
+/// wait of a lane is the greatest number of looks left out before an entry that asks for its mutex.
 pub fn law_lanes()
     ensures mutexes { PicturesShowMutexes }
     ensures owners { PicturesShowOwners }
+    ensures waits { PicturesShowWaits }
 {}
 
 /// In a picture of a legal journal the lanes of queues are the first queues that the machine made, in their order. At the end, and behind
@@ -39,16 +42,18 @@ pub fn law_queues()
 
 /// In a picture of any list of entries each start, enqueue, give and refusal has its tick, at its place and on the row of its seat, and no
 /// other tick is drawn. The turn of an entry is the number of all entries and left-out looks up to it, and the share of a seat that of its
-/// own ones, as far as 64 bits go.
+/// own ones, as far as 64 bits go. The longest of a lane of a queue is the greatest of its levels.
 pub fn law_numbers()
     ensures ticks { PicturesMarkEntries }
     ensures turns { PicturesNumberTurns }
     ensures shares { PicturesShareTurns }
+    ensures longest { PicturesShowLongest }
 {}
 
-/// Three worked journals: what is drawn of them, and lists of bars, spans and levels that the laws refuse, so that none of them says nothing.
+/// Three worked journals: what is drawn of them, and bars, spans, levels and numbers that the laws refuse, so that none of them says nothing.
 pub fn worked_pictures()
     ensures bars { OneTaskIsDrawn }
     ensures spans { TalliesAreDrawn }
     ensures levels { OneWaitIsDrawn }
+    ensures numbers { NumbersAreShown }
 {}

@@ -2,6 +2,7 @@ use Rattle.std.proofs.Common.{◌≡◌, ℕ, ◌+◌, ◌-◌, ◌^◌, ◌<◌
 use Rattle.std.proofs.lemmas.List.{length-replicate, get_or-replicate}
 use Rattle.run_picture_laws.specs.Numbers.{turns_taken, turns_by}
 use Rattle.run_picture_laws.proofs.Numbers.{marked, numbered, shared, from_none}
+use Rattle.run_picture_laws.proofs.Longest.{longest_shown}
 use Rattle.run_picture_laws.proofs.law_numbers.Goals as goal
 
 pub returns-clause-ticks : goal.returns-clause-ticks
@@ -17,3 +18,6 @@ returns-clause-shares c seats es ns p is who within =
     let room : who < length (replicate seats 0) = omega (arith, length-replicate {A = ℕ} seats 0) in
     ap (λ z. get_or z who 0) is.shares ∙ shared who (replicate seats 0) es ns room (omega (arith, none))
     ∙ ap (λ z. min (z + turns_by who es ns) (2 ^ 64 - 1)) none ∙ from_none (turns_by who es ns)
+
+pub returns-clause-longest : goal.returns-clause-longest
+returns-clause-longest c seats es ns p is i l e = longest_shown seats es ns p is i l e

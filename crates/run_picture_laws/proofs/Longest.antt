@@ -1,0 +1,98 @@
+-- The number of a lane of a queue is the greatest of its levels.
+use Rattle.std.proofs.Common.{◌≡◌, ℕ, zero, suc, ◌+◌, ◌<◌, Bool, true, false, cond, List, [], ◌∷◌, ◌++◌, length, map, arith, Option, Some, None, option_map, refl, sym, ap, subst, ◌∙◌}
+use Rattle.std.specs.Prelude.{◌==◌, nat_lt, slice_get}
+use Rattle.std.specs.List.{filter, flat_map}
+use Rattle.std.proofs.lemmas.List.{append-nil, map-append}
+use Rattle.std.proofs.lemmas.List.Elements.{filter-append}
+use Rattle.std.proofs.lemmas.Bool.{eq-eqb, ne_eqb}
+use Rattle.std.proofs.lemmas.Option.{slice_get-map}
+use Rattle.mtapi_machine.specs.Legal.{NodeEntry}
+use Rattle.run_picture.specs.declared.shapes.QueueLane.{QueueLane}
+use Rattle.run_picture.specs.declared.shapes.Level.{Level}
+use Rattle.run_picture.specs.declared.pictures.Picture.{Picture}
+use Rattle.run_picture.specs.declared.waits.Wait.{Wait}
+use Rattle.run_picture.specs.declared.waits.Wait.TheVariants as wait
+use Rattle.run_picture.specs.declared.waits.Change.{Change}
+use Rattle.run_picture.specs.declared.waits.Change.TheVariants as change
+use Rattle.run_picture.specs.Locks.{most_lanes}
+use Rattle.run_picture.specs.Waits.{wait_of, Waiting, change_by, waiting_by, is_changed, changed, lane_after, level_by, new_lane, lanes_with, lanes_by, levels_by, queue_lanes_from, levels_from}
+use Rattle.run_picture.specs.Pictures.{IsPicture, none_waits}
+use Rattle.run_picture_laws.specs.Greatest.{IsGreatest, counts_of}
+use Rattle.run_picture_laws.proofs.Levels.{Numbered, numbered_map, numbered_with}
+use Rattle.run_picture_laws.proofs.Greatest.{top, top-append, top_greatest, with_lane}
+
+-- the number of a lane, and the count of the level that a change makes in it
+abbrev longest_in : Option QueueLane → ℕ
+longest_in None = 0
+longest_in (Some l) = l.longest
+
+abbrev count_in : Change → Option QueueLane → List ℕ
+count_in c None = []
+count_in c (Some l) = cond (is_changed c l) ((changed c l).count ∷ []) []
+
+changed_most : (c : Change) (l : QueueLane) (b : Bool) → is_changed c l ≡ b → top l.longest (cond b ((changed c l).count ∷ []) []) ≡ (cond b (changed c l) l).longest
+changed_most c l false e = refl
+changed_most (change.Longer q) l true e = refl
+changed_most (change.Shorter p) l true e = refl
+changed_most (change.Empties q d) l true e = omega arith
+changed_most change.Nothing l true e = absurd (cc)
+
+lane_most : (c : Change) (o : Option QueueLane) → top (longest_in o) (count_in c o) ≡ longest_in (option_map (lane_after c) o)
+unfolding lane_after
+lane_most c None = refl
+lane_most c (Some l) = changed_most c l (is_changed c l) refl
+
+longest_with : (i : ℕ) (x : Wait) (ls : List QueueLane) → longest_in (slice_get (lanes_with x ls) i) ≡ longest_in (slice_get ls i)
+longest_with i (wait.Makes q id retain) ls = with_lane longest_in i ls (new_lane (length ls) q id retain) (nat_lt (length ls) most_lanes) refl
+longest_with i _ ls = refl
+
+module _ (i : ℕ) where
+  counts-append : (xs ys : List Level) → counts_of i (xs ++ ys) ≡ counts_of i xs ++ counts_of i ys
+  counts-append xs ys = ap (map (λ x. x.count)) (filter-append (λ x. x.lane == i) xs ys) ∙ map-append (λ x. x.count) (filter (λ x. x.lane == i) xs) (filter (λ x. x.lane == i) ys)
+
+  level_count : (at : ℕ) (c : Change) (l : QueueLane) (b : Bool) → (l.lane == i) ≡ b → counts_of i (level_by at c l) ≡ cond b (count_in c (Some l)) []
+  unfolding level_by
+  level_count at c l b e = by_change (is_changed c l) b e
+    where
+      by_change : (a b : Bool) → (l.lane == i) ≡ b → counts_of i (cond a (record { lane = l.lane; at = at; count = (changed c l).count } ∷ []) []) ≡ cond b (cond a ((changed c l).count ∷ []) []) []
+      by_change false true e = refl
+      by_change false false e = refl
+      by_change true true e = ap (λ z. map (λ (x : Level). x.count) (cond z (record { lane = l.lane; at = at; count = (changed c l).count } ∷ []) [])) e
+      by_change true false e = ap (λ z. map (λ (x : Level). x.count) (cond z (record { lane = l.lane; at = at; count = (changed c l).count } ∷ []) [])) e
+
+  past_counts : (at k : ℕ) (c : Change) (ls : List QueueLane) → i < k → Numbered k ls → counts_of i (flat_map (level_by at c) ls) ≡ []
+  past_counts at k c [] m a = refl
+  past_counts at k c (l ∷ ls) m a =
+      counts-append (level_by at c l) (flat_map (level_by at c) ls)
+      ∙ (λ y. level_count at c l false (ne_eqb l.lane i (λ e. let o = a.0 in omega arith)) y ++ past_counts at (k + 1) c ls (omega arith) a.1 y)
+
+  -- the counts that an entry adds are those of the lane of this number
+  entry_counts : (at k j : ℕ) (c : Change) (ls : List QueueLane) → i ≡ k + j → Numbered k ls → counts_of i (flat_map (level_by at c) ls) ≡ count_in c (slice_get ls j)
+  entry_counts at k j c [] e a = refl
+  entry_counts at k zero c (l ∷ ls) e a =
+      counts-append (level_by at c l) (flat_map (level_by at c) ls)
+      ∙ ((λ y. level_count at c l true (eq-eqb l.lane i (let o = a.0 in omega arith)) y ++ past_counts at (k + 1) c ls (omega arith) a.1 y) ∙ append-nil (count_in c (Some l)))
+  entry_counts at k (suc j) c (l ∷ ls) e a =
+      counts-append (level_by at c l) (flat_map (level_by at c) ls)
+      ∙ (λ y. level_count at c l false (ne_eqb l.lane i (λ d. let o = a.0 in omega arith)) y ++ entry_counts at (k + 1) j c ls (omega arith) a.1 y)
+
+  longest_along : (at : ℕ) (w : Waiting) (ls : List QueueLane) (es : List NodeEntry) → Numbered 0 ls
+      → longest_in (slice_get (queue_lanes_from w ls es) i) ≡ top (longest_in (slice_get ls i)) (counts_of i (levels_from at w ls es))
+  unfolding queue_lanes_from levels_from
+  longest_along at w ls [] a = refl
+  longest_along at w ls (e ∷ es) a =
+      let x : Wait = wait_of e.op e.reply in
+      let c : Change = change_by w x in
+      let n : ℕ = longest_in (slice_get ls i) in
+      let later : List Level = levels_from (at + 1) (waiting_by w ls x) (lanes_by w x ls) es in
+      let here : longest_in (slice_get (lanes_by w x ls) i) ≡ top n (counts_of i (levels_by at w x ls)) =
+      longest_with i x (map (lane_after c) ls) ∙ (ap longest_in (slice_get-map (lane_after c) ls i) ∙ (sym (lane_most c (slice_get ls i)) ∙ ap (top n) (sym (entry_counts at 0 i c ls (omega arith) a)))) in
+      longest_along (at + 1) (waiting_by w ls x) (lanes_by w x ls) es (numbered_with x (map (lane_after c) ls) (numbered_map 0 c ls a))
+      ∙ (ap (λ z. top z (counts_of i later)) here
+      ∙ (sym (top-append n (counts_of i (levels_by at w x ls)) (counts_of i later)) ∙ ap (top n) (sym (counts-append (levels_by at w x ls) later))))
+
+pub longest_shown : (seats : ℕ) (es : List NodeEntry) (ns : List ℕ) (p : Picture) → IsPicture seats es ns p → (i : ℕ) (l : QueueLane) → slice_get p.queues.items i ≡ Some l → IsGreatest l.longest (counts_of i p.levels.items)
+longest_shown seats es ns p h i l e =
+    let same : l.longest ≡ top 0 (counts_of i p.levels.items) =
+    ap longest_in (sym e ∙ ap (λ z. slice_get z i) h.queues) ∙ (longest_along i 0 none_waits [] es tt ∙ ap (λ z. top 0 (counts_of i z)) (sym h.levels)) in
+    subst (λ n. IsGreatest n (counts_of i p.levels.items)) (sym same) (top_greatest (counts_of i p.levels.items))
