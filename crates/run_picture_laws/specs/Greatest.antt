@@ -28,7 +28,7 @@ pub record IsGreatest (n : ℕ) (ns : List ℕ) : Type 0 where
 abbrev pub counts_of : ℕ → List Level → List ℕ
 counts_of i levels = map (λ x. x.count) (filter (λ x. x.lane == i) levels)
 
--- the number of each lane of a queue is the greatest count that the lane shows
+-- `longest` of the lane of each queue is the greatest count that the lane shows
 abbrev pub PicturesShowLongest : Type 0
 PicturesShowLongest = (seats : ℕ) (es : List NodeEntry) (ns : List ℕ) (p : Picture) → IsPicture seats es ns p
     → (i : ℕ) (l : QueueLane) → slice_get p.queues.items i ≡ Some l → IsGreatest l.longest (counts_of i p.levels.items)
@@ -45,7 +45,7 @@ unfoldable pub waits_for : ℕ → State → List NodeEntry → List ℕ → Lis
 waits_for i s [] ns = []
 waits_for i s (e ∷ es) ns = (if holds (λ r. asks_for s r e.op e.reply) (slice_get s.mutexes i) then first_of ns ∷ [] else []) ++ waits_for i (next s e) es (rest_of ns)
 
--- the number of each lane of a mutex is the greatest wait for its mutex
+-- `longest_wait` of the lane of each mutex is the greatest wait for that mutex
 abbrev pub PicturesShowWaits : Type 0
 PicturesShowWaits = (terms : Terms) (L : List NodeEntry) (ns : List ℕ) (p : Picture) → Legal terms L → IsPicture (seats_of terms) L ns p
     → (i : ℕ) (l : MutexLane) → slice_get p.mutexes.items i ≡ Some l → IsGreatest l.longest_wait (waits_for i (opening terms) L ns)

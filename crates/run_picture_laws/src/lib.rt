@@ -24,8 +24,8 @@ pub fn law_rows()
 {}
 
 /// In a picture of a legal journal the lanes of mutexes are the first mutexes that the machine made, in their order, as they stand in its
-/// state at the end; and behind each entry each lane shows the seat that owns its mutex in the machine's state there, or nobody. The longest
-/// wait of a lane is the greatest number of looks left out before an entry that asks for its mutex.
+/// state at the end; and behind each entry each lane shows the seat that owns its mutex in the machine's state there, or nobody.
+/// `longest_wait` of a lane is the greatest number of looks that were left out before an entry that asks for its mutex.
 pub fn law_lanes()
     ensures mutexes { PicturesShowMutexes }
     ensures owners { PicturesShowOwners }
@@ -42,7 +42,7 @@ pub fn law_queues()
 
 /// In a picture of any list of entries each start, enqueue, give and refusal has its tick, at its place and on the row of its seat, and no
 /// other tick is drawn. The turn of an entry is the number of all entries and left-out looks up to it, and the share of a seat that of its
-/// own ones, as far as 64 bits go. The longest of a lane of a queue is the greatest of its levels.
+/// own ones, as far as 64 bits go. `longest` of the lane of a queue is the greatest of its levels.
 pub fn law_numbers()
     ensures ticks { PicturesMarkEntries }
     ensures turns { PicturesNumberTurns }
