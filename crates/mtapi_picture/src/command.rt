@@ -2,6 +2,7 @@
 ghost use Rattle.std.specs.Prelude.{◌≡◌, ◌⊎◌, ◌≤◌, true, false, length, IfOk, IfErr, IfSome, string_bytes};
 ghost use Rattle.byte_io.specs.Causes.{Rose};
 ghost use Rattle.mtapi_picture.specs.Ends.{RestGives, RestFails, IsDrawing, HasDrawing, HasJournal, Draws, Writes, IsTold, status_of, message, has_line};
+ghost use Rattle.mtapi_picture.specs.declared.command.End.{End};
 ghost use Rattle.mtapi_picture.specs.declared.command.End.TheVariants as end;
 
 use byte_io::{ReadAllError, Sink, Source, read_all, say, write_all};
@@ -145,7 +146,7 @@ fn line_text(alloc: Global, line: u64) -> Result<String, AllocError>
 /// the status is 6. A fault of `err` changes nothing else.
 pub fn tell<E: Sink>(alloc: Global, end: End, err: &mut E) -> u8
     ensures told { IsTold end (E.faults err.old) (E.faults err.new) (E.held err.old) (E.held err.new) result
-        ⊎ ((has_line end ≡ true) × IsTold end.Memory (E.faults err.old) (E.faults err.new) (E.held err.old) (E.held err.new) result) }
+        ⊎ ((has_line end ≡ true) × IsTold End.Memory (E.faults err.old) (E.faults err.new) (E.held err.old) (E.held err.new) result) }
 {
     if let End::BadLine(line) = end {
         return match line_text(alloc, line) {

@@ -4,7 +4,10 @@ ghost use Rattle.std.specs.Prelude.{◌≡◌, ◌<◌, true};
 ghost use Rattle.node_resources.specs.Steps.{is_resource_op};
 
 use mtapi_machine::{Op, Phase, Reply};
-use mtapi_values::{MrapiStatus, MutexHandle, NodeAttr, RwlHandle, SemHandle, ShmemHandle};
+use mtapi_renaming::Rename;
+use mtapi_values::{
+    MrapiStatus, MutexHandle, NodeAttr, ObjectKind, RwlHandle, SemHandle, ShmemHandle,
+};
 use node_resources::*;
 use std::test::Fail;
 
@@ -58,10 +61,22 @@ fn numbered(op: u32, handle: u64) -> Op
     }
 }
 
+// Handles stand for themselves.
+struct Same;
+
+impl Rename for Same {
+    ghost renaming = { λ _ _ handle. handle };
+
+    fn other(&self, kind: ObjectKind, handle: u64) -> u64 {
+        let _ = kind;
+        handle
+    }
+}
+
 fn ask(resources: &mut Resources, gate: Gate, who: u32, op: u32, handle: u64) -> Reply
     requires { who < 25 }
 {
-    resources.execute(gate, who, numbered(op, handle))
+    resources.execute(&Same, gate, who, &numbered(op, handle))
 }
 
 fn is_status(reply: &Reply, wanted: MrapiStatus) -> bool {

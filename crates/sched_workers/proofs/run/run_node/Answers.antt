@@ -71,3 +71,6 @@ pub returns-clause-unbegun : goal.returns-clause-unbegun
 returns-clause-unbegun g c =
     gives_main c.in-Ok.cell c.workers-workers.result (vec_len c.in-Ok.seats - c.workers-workers.result - 1) c.args.load.now.settings.workers c.as_slice-parts.result.now c.as_slice-statements.result.now c.in-Ok-deal.all c.start_workers-crew.result c.end_with-crew.result c.journal_after.result
     c.workers-workers.ensures.value c.in-Ok-deal.ensures c.start_workers-crew.ensures.crew c.end_with-crew.ensures.untouched c.end_with-crew.ensures.ended.refused c.journal_after.ensures.refused
+
+pub new-requires-clause-stands : goal.new-requires-clause-stands
+new-requires-clause-stands g c = c.with-object.ensures.stands c.requires.new
