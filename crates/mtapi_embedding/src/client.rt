@@ -42,6 +42,7 @@ impl Client for Summing {
 
     ghost promise = { λ _ old new told. IfOk told (λ t. IsTold calls old.number t new.mine) };
 
+    #[tactic(auto, using(node_with_workers::proofs::Calls::further_calls))]
     fn call<R: Wait>(self, rt: &R, caller: &mut Caller) -> Result<Told, MtapiStatus> {
         // An action, and a queue, which takes and keeps tasks while it is disabled.
         caller.action_create(rt, JOB, Kind::Add, ActionAttr::new())?;

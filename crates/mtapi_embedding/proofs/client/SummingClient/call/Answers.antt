@@ -1,10 +1,6 @@
-use Rattle.std.proofs.Common.{[], arith}
-use Rattle.std.proofs.lemmas.Grind.{common_steps}
 use Rattle.mtapi_values.specs.declared.handles.{ActionHandle.ActionHandle, QueueHandle.QueueHandle, TaskHandle.TaskHandle}
 use Rattle.sched_workers.specs.Turns.{Seat}
-use Rattle.node_with_workers.specs.Clients.{GoesOn}
-use Rattle.node_with_workers.specs.Told.{WentOn}
-use Rattle.node_with_workers.proofs.Told.{done_went, made_went, waited_went, went_then, told_by, then_done, then_given, then_looked, then_waited, went_none}
+use Rattle.node_with_workers.proofs.Told.{told_by, then_done, then_given, then_looked, then_waited, went_none}
 use Rattle.mtapi_embedding.specs.Told.{calls}
 use Rattle.mtapi_embedding.proofs.client.SummingClient.call.Goals as goal
 
@@ -20,87 +16,3 @@ returns-clause-kept g c =
     let w = then_done _ _ a _ _ _ _ w c.task_cancel.ensures c.in_ok-task_cancel.was in
     let w = then_looked _ _ a _ _ _ _ w c.task_wait-2.ensures c.in_ok-late.was in
     told_by calls (c.in_ok-action_create.field-0, c.in_ok-queue.queue, c.in_ok-first.first, c.in_ok-second.second) _ a _ w
-
--- Each call goes on with what its seat had done
-
-goes_of : (a b : Seat) → WentOn [] a b → GoesOn a b
-goes_of a b w = let mine = w.mine in grind (arith, common_steps)
-
-then_quiet : (a b c : Seat) → WentOn [] a b → WentOn [] b c → WentOn [] a c
-then_quiet a b c x y = went_then [] [] a b c x y
-
-pub returns-in_err-first-clause-goes_on : goal.returns-in_err-first-clause-goes_on
-returns-in_err-first-clause-goes_on g c =
-    let a : Seat = c.args.caller.now in
-    let w = made_went _ _ _ _ c.action_create.ensures in
-    let w = then_quiet a _ _ w (made_went _ _ _ _ c.queue_create.ensures) in
-    let w = then_quiet a _ _ w (made_went _ _ _ _ c.task_enqueue.ensures) in
-    goes_of a _ w
-
-pub returns-in_err-sum-clause-goes_on : goal.returns-in_err-sum-clause-goes_on
-returns-in_err-sum-clause-goes_on g c =
-    let a : Seat = c.args.caller.now in
-    let w = made_went _ _ _ _ c.action_create.ensures in
-    let w = then_quiet a _ _ w (made_went _ _ _ _ c.queue_create.ensures) in
-    let w = then_quiet a _ _ w (made_went _ _ _ _ c.task_enqueue.ensures) in
-    let w = then_quiet a _ _ w (waited_went _ _ _ _ _ c.task_wait.ensures) in
-    goes_of a _ w
-
-pub returns-in_err-queue_disable-clause-goes_on : goal.returns-in_err-queue_disable-clause-goes_on
-returns-in_err-queue_disable-clause-goes_on g c =
-    let a : Seat = c.args.caller.now in
-    let w = made_went _ _ _ _ c.action_create.ensures in
-    let w = then_quiet a _ _ w (made_went _ _ _ _ c.queue_create.ensures) in
-    let w = then_quiet a _ _ w (made_went _ _ _ _ c.task_enqueue.ensures) in
-    let w = then_quiet a _ _ w (waited_went _ _ _ _ _ c.task_wait.ensures) in
-    let w = then_quiet a _ _ w (done_went _ _ _ _ c.queue_disable.ensures) in
-    goes_of a _ w
-
-pub returns-in_err-second-clause-goes_on : goal.returns-in_err-second-clause-goes_on
-returns-in_err-second-clause-goes_on g c =
-    let a : Seat = c.args.caller.now in
-    let w = made_went _ _ _ _ c.action_create.ensures in
-    let w = then_quiet a _ _ w (made_went _ _ _ _ c.queue_create.ensures) in
-    let w = then_quiet a _ _ w (made_went _ _ _ _ c.task_enqueue.ensures) in
-    let w = then_quiet a _ _ w (waited_went _ _ _ _ _ c.task_wait.ensures) in
-    let w = then_quiet a _ _ w (done_went _ _ _ _ c.queue_disable.ensures) in
-    let w = then_quiet a _ _ w (made_went _ _ _ _ c.task_enqueue-2.ensures) in
-    goes_of a _ w
-
-pub returns-in_err-task_cancel-clause-goes_on : goal.returns-in_err-task_cancel-clause-goes_on
-returns-in_err-task_cancel-clause-goes_on g c =
-    let a : Seat = c.args.caller.now in
-    let w = made_went _ _ _ _ c.action_create.ensures in
-    let w = then_quiet a _ _ w (made_went _ _ _ _ c.queue_create.ensures) in
-    let w = then_quiet a _ _ w (made_went _ _ _ _ c.task_enqueue.ensures) in
-    let w = then_quiet a _ _ w (waited_went _ _ _ _ _ c.task_wait.ensures) in
-    let w = then_quiet a _ _ w (done_went _ _ _ _ c.queue_disable.ensures) in
-    let w = then_quiet a _ _ w (made_went _ _ _ _ c.task_enqueue-2.ensures) in
-    let w = then_quiet a _ _ w (done_went _ _ _ _ c.task_cancel.ensures) in
-    goes_of a _ w
-
-pub returns-in_err-late-clause-goes_on : goal.returns-in_err-late-clause-goes_on
-returns-in_err-late-clause-goes_on g c =
-    let a : Seat = c.args.caller.now in
-    let w = made_went _ _ _ _ c.action_create.ensures in
-    let w = then_quiet a _ _ w (made_went _ _ _ _ c.queue_create.ensures) in
-    let w = then_quiet a _ _ w (made_went _ _ _ _ c.task_enqueue.ensures) in
-    let w = then_quiet a _ _ w (waited_went _ _ _ _ _ c.task_wait.ensures) in
-    let w = then_quiet a _ _ w (done_went _ _ _ _ c.queue_disable.ensures) in
-    let w = then_quiet a _ _ w (made_went _ _ _ _ c.task_enqueue-2.ensures) in
-    let w = then_quiet a _ _ w (done_went _ _ _ _ c.task_cancel.ensures) in
-    let w = then_quiet a _ _ w (waited_went _ _ _ _ _ c.task_wait-2.ensures) in
-    goes_of a _ w
-
-pub returns-clause-goes_on : goal.returns-clause-goes_on
-returns-clause-goes_on g c =
-    let a : Seat = c.args.caller.now in
-    let w = made_went _ _ _ _ c.action_create.ensures in
-    let w = then_quiet a _ _ w (made_went _ _ _ _ c.queue_create.ensures) in
-    let w = then_quiet a _ _ w (made_went _ _ _ _ c.task_enqueue.ensures) in
-    let w = then_quiet a _ _ w (waited_went _ _ _ _ _ c.task_wait.ensures) in
-    let w = then_quiet a _ _ w (done_went _ _ _ _ c.queue_disable.ensures) in
-    let w = then_quiet a _ _ w (made_went _ _ _ _ c.task_enqueue-2.ensures) in
-    let w = then_quiet a _ _ w (done_went _ _ _ _ c.task_cancel.ensures) in
-    let w = then_quiet a _ _ w (waited_went _ _ _ _ _ c.task_wait-2.ensures) in
-    goes_of a _ w
