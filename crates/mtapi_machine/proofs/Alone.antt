@@ -1,6 +1,6 @@
 -- Where a row allows a status, it allows no other reply of the same entry: a reply is read only for what it chooses, and whether a
 -- status answers doesn't hang on that.
-use Rattle.mtapi_machine.proofs.Names.{◌≡◌, ℕ, Bool, true, false, List, Option, Some, None, refl, sym, ◌∙◌, ap, if◌then◌else◌, live_object, Op, ActionCreate, TaskStart, TaskEnqueue, GroupCreate, QueueCreate, Pick, MutexCreate, SemCreate, RwlCreate, ShmemCreate, Reply, Handle, Picked, Idle, State, is_stop, Move, Row, unless, gives, never, Allows, only, live, picks, row, is_status}
+use Rattle.mtapi_machine.proofs.Names.{arith, nat_tests, ◌≡◌, ℕ, Bool, true, false, List, Option, refl, sym, ◌∙◌, if◌then◌else◌, live_object, Op, ActionCreate, TaskStart, TaskEnqueue, GroupCreate, QueueCreate, Pick, MutexCreate, SemCreate, RwlCreate, ShmemCreate, Reply, Handle, State, is_stop, Move, Row, unless, gives, never, Allows, only, live, picks, row, is_status}
 
 -- where the first row allows a status, the second one allows nothing else
 record Alone (v w : Row) (x y : Reply) : Type 0 where
@@ -30,22 +30,16 @@ unless_alone {c} {z} {v} {w} {x} {y} h = record { alone = by c }
     by false a s b = h.alone a s b
 
 gives_silent : (z : Reply) {ms : List Move} {x : Reply} → is_status z ≡ false → Silent (gives z ms) x
-gives_silent z h = record { silent = λ a s. false_true (sym h ∙ ap is_status (sym a) ∙ s) }
-  where
-    false_true : false ≡ true → ⊥
-    false_true k = cc
+gives_silent z e1 = grind (arith, nat_tests)
 
 only_silent : (c : Bool) {v : Row} {x : Reply} → Silent v x → Silent (only c v) x
-only_silent true h = h
-only_silent false h = record { silent = λ a s. a }
+only_silent c e1 = grind (arith, nat_tests)
 
 live_silent : {T : Type 0} (o : Option T) (f : T → Row) (x : Reply) → ((t : T) → Silent (f t) x) → Silent (live o never f) x
-live_silent None f x h = record { silent = λ a s. a }
-live_silent (Some t) f x h = h t
+live_silent o f x e1 = grind (arith, nat_tests)
 
 live_alone : {T : Type 0} (o : Option T) (n : Row) (f g : T → Row) (x y : Reply) → ((t : T) → Alone (f t) (g t) x y) → Alone (live o n f) (live o n g) x y
-live_alone None n f g x y h = same_alone
-live_alone (Some t) n f g x y h = h t
+live_alone o n f g x y e1 = grind (arith, nat_tests, same_alone)
 
 -- what makes an object gives a handle, where it may be issued
 made_alone : (p q : Bool) (h k : ℕ) (ms ns : List Move) {x y : Reply} → Alone (only p (gives (Handle h) ms)) (only q (gives (Handle k) ns)) x y
@@ -53,13 +47,10 @@ made_alone p q h k ms ns = silent_alone (only_silent p (gives_silent (Handle h) 
 
 -- a worker takes a task or is idle
 picks_silent : (s : State) (w : ℕ) (r x : Reply) → Silent (picks s w r) x
-picks_silent s w (Picked t a k args) x =
-    live_silent (live_object s.tasks t.0) _ x (λ u. live_silent (live_object s.actions a.0) _ x (λ b. only_silent _ (gives_silent (Picked t a b.kind u.args) refl)))
-picks_silent s w _ x = only_silent _ (gives_silent Idle refl)
+picks_silent s w r x = grind (arith, nat_tests)
 
 picks_alone : (c : Bool) (s : State) (w : ℕ) (v : Row) (q r x y : Reply) → Alone (if c then v else picks s w q) (if c then v else picks s w r) x y
-picks_alone true s w v q r x y = same_alone
-picks_alone false s w v q r x y = silent_alone (picks_silent s w q x)
+picks_alone c s w v q r x y = grind (arith, nat_tests, same_alone, silent_alone, picks_silent)
 
 -- the rows of the ops that make objects, and of pick, read the reply; those of all others don't
 rows_alone : (s : State) (who : ℕ) (op : Op) (x y : Reply) → Alone (row s who op x) (row s who op y) x y

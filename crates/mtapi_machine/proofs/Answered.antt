@@ -1,5 +1,5 @@
 -- The rows of the machine, walked over once: a reply that a row allows is one of its answers.
-use Rattle.mtapi_machine.proofs.Names.{◌≡◌, ℕ, Bool, true, false, cond, List, [], ◌∷◌, Option, Some, None, refl, sym, ◌∙◌, ap, subst, MatchBool, ◌==◌, not, nat_lt, is_some, is_none, length, MtapiStatus, MrapiStatus, TaskHandle, GroupHandle, QueueHandle, live_object, live_of, any_listed, first_handle, Task, TaskState, Scheduled, Running, is_unended, end_of, runs_as, runs_on, task_look_refusals, Adds, tally_args, Group, Ending, endings, first_fault, is_unended_member, Queue, opened, is_in, Cancelled, mutex_delete_refusals, mutex_look_refusals, mutex_busy, mutex_unlock_refusals, sem_delete_refusals, sem_busy, sem_unlock_refusals, rwl_delete_refusals, rwl_look_refusals, rwl_busy, rwl_unlock_refusals, shmem_delete_refusals, attach_refusals, detach_refusals, cell_refusals, Op, Reply, State, workers, is_past_open, is_stop, Move, Sort, Queues, Mutexes, Sems, Rwls, Segments, Fields, all_of, alters, ends_waiting, frees_members, Row, unless, gives, never, says, not_yet, Allows, only, live, handle_of, moves_of, row, found, looks_at, cancels, verdict, gives_end, gives_first, picks, is_ready, can_take, gives_up, takes_both, locks}
+use Rattle.mtapi_machine.proofs.Names.{arith, nat_tests, ◌≡◌, ℕ, Bool, true, false, cond, List, ◌∷◌, Option, Some, None, refl, sym, ◌∙◌, ap, subst, MatchBool, ◌==◌, not, nat_lt, is_some, is_none, length, MtapiStatus, MrapiStatus, TaskHandle, GroupHandle, QueueHandle, live_object, live_of, any_listed, first_handle, Task, TaskState, Scheduled, Running, is_unended, end_of, runs_as, runs_on, task_look_refusals, Adds, tally_args, Group, Ending, endings, first_fault, is_unended_member, Queue, opened, is_in, Cancelled, mutex_delete_refusals, mutex_look_refusals, mutex_busy, mutex_unlock_refusals, sem_delete_refusals, sem_busy, sem_unlock_refusals, rwl_delete_refusals, rwl_look_refusals, rwl_busy, rwl_unlock_refusals, shmem_delete_refusals, attach_refusals, detach_refusals, cell_refusals, Op, Reply, State, workers, is_past_open, is_stop, Move, Sort, Queues, Mutexes, Sems, Rwls, Segments, Fields, all_of, alters, ends_waiting, frees_members, Row, unless, gives, never, says, not_yet, Allows, only, live, handle_of, moves_of, row, found, looks_at, cancels, verdict, gives_end, gives_first, picks, is_ready, can_take, gives_up, takes_both, locks, []}
 use Rattle.mtapi_values.specs.declared.kinds.Kind.TheVariants as kinds
 use Rattle.mtapi_values.specs.declared.statuses.MtapiStatus.TheVariants as m
 use Rattle.mtapi_values.specs.declared.statuses.MrapiStatus.TheVariants as c
@@ -7,7 +7,7 @@ use Rattle.mtapi_objects.specs.Tasks.{Ended}
 use Rattle.mtapi_machine.specs.declared.ops.Op.TheVariants as op
 use Rattle.mtapi_machine.specs.declared.replies.Reply.TheVariants as reply
 use Rattle.mtapi_machine.proofs.Made.{fst_true, snd_true, not_true, not_false}
-use Rattle.mtapi_machine.specs.Answers.{AreUnmet, Starts, HasTask, HasObject, HasBoth, refuses_with, Answers}
+use Rattle.mtapi_machine.specs.Answers.{AreUnmet, HasTask, HasObject, refuses_with, Answers}
 use Rattle.mtapi_machine.specs.Answers as is
 
 -- Q of what the row gives where the conditions before it aren't met, and of each reply before it that is no refusal
@@ -18,8 +18,7 @@ Leads p Q never = Unit {0}
 
 module _ (p : Reply → Bool) (Q : Reply → List Move → Type 0) (no : (x : Reply) → p x ≡ true → Q x []) where
   past : (c b : Bool) (x : Reply) (W : Type 0) → p x ≡ c → MatchBool c (b ≡ false → W) ((b ≡ true → Q x []) × (b ≡ false → W)) → (b ≡ true → Q x []) × (b ≡ false → W)
-  past true b x W e g = ((λ i. no x e), g)
-  past false b x W e g = g
+  past c b x W e1 e2 = grind (arith, nat_tests)
 
   led : (w : Row) (r : Reply) → Leads p Q w → Allows w r → Q r (moves_of w)
   led (unless true x w) r g a = subst (λ (y : Reply). Q y []) (sym a) ((past (p x) true x (Leads p Q w) refl g).0 refl)
@@ -38,20 +37,16 @@ module _ (s : State) (who : ℕ) where
   Walks o w = Leads (refuses_with o) (Is o) w
 
   on_only : (o : Op) (b : Bool) (x : Reply) (ms : List Move) → (b ≡ true → Is o x ms) → Walks o (only b (gives x ms))
-  on_only o true x ms q = q refl
-  on_only o false x ms q = tt
+  on_only o b x ms e1 = grind (arith, nat_tests)
 
   on_live : (o : Op) {T : Type 0} (x : Option T) (v : Row) (w : T → Row) → Walks o v → ((t : T) → x ≡ Some t → Walks o (w t)) → Walks o (live x v w)
-  on_live o None v w g h = g
-  on_live o (Some t) v w g h = h t refl
+  on_live o x v w e1 e2 = grind (arith, nat_tests)
 
   on_cond : (o : Op) (b : Bool) (v w : Row) → (b ≡ true → Walks o v) → (b ≡ false → Walks o w) → Walks o (cond b v w)
-  on_cond o true v w g h = g refl
-  on_cond o false v w g h = h refl
+  on_cond o b v w e1 e2 = grind (arith, nat_tests)
 
   on_found : (o : Op) (h : Option ℕ) (absent : Reply) → Is o absent [] → ((x : ℕ) → h ≡ Some x → Is o (reply.Handle x) []) → Walks o (found h absent)
-  on_found o None absent n g = n
-  on_found o (Some h) absent n g = g h refl
+  on_found o h absent e1 e2 = grind (arith, nat_tests)
 
   -- an op on the object of a handle, what finds one by its id, and what makes one
   on_object : (o : Op) (k : Sort) (h : ℕ) (cs : Fields k → List (Bool × MrapiStatus)) (w : Fields k → Row) → nat_lt who (workers s) ≡ false → Is o (all_of k).invalid []
@@ -60,8 +55,7 @@ module _ (s : State) (who : ℕ) where
 
   -- a look that finds it busy
   early : (o : Bool → Op) (last : Bool) (late : Reply) → Is (o false) reply.Pending [] → Is (o true) late [] → Walks (o last) (not_yet last late)
-  early o true late p q = q
-  early o false late p q = p
+  early o last late e1 e2 = grind (arith, nat_tests)
 
   -- Tasks
 

@@ -1,5 +1,5 @@
 -- What a change of one listed object leaves.
-use Rattle.mtapi_machine.proofs.Names.{◌≡◌, ℕ, Bool, true, false, cond, List, [], ◌∷◌, Some, refl, sym, ◌∙◌, ap, ◌==◌, ◌&&◌, Listed, live_of, lookup, live_object, change, update, with_fields}
+use Rattle.mtapi_machine.proofs.Names.{◌≡◌, ℕ, Bool, true, false, cond, List, ◌∷◌, Some, refl, sym, ◌∙◌, ap, ◌==◌, ◌&&◌, Listed, live_of, lookup, live_object, change, update, with_fields, []}
 
 pub some_same : {T : Type 0} {a b : T} → Some a ≡ Some b → a ≡ b
 some_same h = cc

@@ -1,5 +1,5 @@
 -- What a derived `==` of an enum says, where `==` of each field decides whether the two are equal.
-use Rattle.mtapi_machine.proofs.Names.{◌≡◌, Bool, true, false, ◌&&◌, List, [], ◌∷◌, Option, Some, None, refl, ap, Decides, ◌⊎◌, inl, inr, Bare, sameb, same_true, true_same, Record, Declared, Choice, values_one}
+use Rattle.mtapi_machine.proofs.Names.{arith, nat_tests, ◌≡◌, Bool, true, false, ◌&&◌, List, ◌∷◌, Option, refl, ap, Decides, inl, inr, Bare, sameb, same_true, true_same, Record, Declared, Choice, values_one, []}
 use Rattle.std.specs.Option.{option_eq}
 use denote.Struct.Field.{Field}
 use denote.Struct.Values.{Values}
@@ -11,16 +11,11 @@ decides_so a to back d = (λ i. to (d.0 i), λ q. d.1 (back q))
 
 -- both of two tests
 pub both_decide : {P Q : Type 0} (a b : Bool) → Decides a P → Decides b Q → Decides (a && b) (P × Q)
-both_decide true true d e = (λ i. (d.0 refl, e.0 refl), λ i. refl)
-both_decide true false d e = (λ i. absurd (cc), λ i. e.1 i.1)
-both_decide false b d e = (λ i. absurd (cc), λ i. d.1 i.0)
+both_decide a b e1 e2 = grind (arith, nat_tests)
 
 -- the test of an optional value
 pub option_decides : {A : Type 0} {E : A → A → Bool} → ((a b : A) → Decides (E a b) (a ≡ b)) → (a b : Option A) → Decides (option_eq E a b) (a ≡ b)
-option_decides d None None = (λ i. refl, λ i. refl)
-option_decides d None (Some b) = (λ i. absurd (cc), λ i. absurd (cc))
-option_decides d (Some a) None = (λ i. absurd (cc), λ i. absurd (cc))
-option_decides {E = E} d (Some a) (Some b) = decides_so (E a b) (λ e. ap Some e) (λ e. cc) (d a b)
+option_decides e1 a b = grind (arith, nat_tests)
 
 -- the test of an enum with no fields
 pub bare_decides : (D : Declared) → Bare D.parts → (a b : D.D) → Decides (sameb D a b) (a ≡ b)
@@ -34,8 +29,7 @@ pub one_decides : {A : Type 0} {E : A → A → Bool} → ((a b : A) → Decides
 one_decides {A = A} {E = E} d x y = decides_so (E x.0 y.0) (λ e i. (e i, tt)) (λ e. ap (λ (z : A × Unit {0}). z.0) e) (d x.0 y.0)
 
 pub more_decide : {A B : Type 0} {E : A → A → Bool} {F : B → B → Bool} → ((a b : A) → Decides (E a b) (a ≡ b)) → ((a b : B) → Decides (F a b) (a ≡ b)) → (x y : A × B) → Decides (E x.0 y.0 && F x.1 y.1) (x ≡ y)
-more_decide {A = A} {B = B} {E = E} {F = F} d f x y =
-    decides_so (E x.0 y.0 && F x.1 y.1) (λ e i. (e.0 i, e.1 i)) (λ e. (ap (λ (z : A × B). z.0) e, ap (λ (z : A × B). z.1) e)) (both_decide (E x.0 y.0) (F x.1 y.1) (d x.0 y.0) (f x.1 y.1))
+more_decide e1 e2 x y = grind (arith, nat_tests)
 
 -- the tests of each variant decide, where the second value is one of these
 abbrev pub EachDecides : (Fss : List (List Field)) → (Choice Fss → Type 0) → Each Bool Fss → Type 0

@@ -1,5 +1,5 @@
 -- What is shown of the list of one kind, said of each kind.
-use Rattle.mtapi_machine.proofs.Names.{◌≡◌, ℕ, Bool, List, [], refl, Listed, Action, Task, Terms, State, Objects, FieldsOf, objects_of, opening, Sort, Groups, Queues, Mutexes, Sems, Rwls, Segments, Fields, all_of}
+use Rattle.mtapi_machine.proofs.Names.{◌≡◌, ℕ, Bool, List, refl, Listed, Action, Task, Terms, State, Objects, FieldsOf, objects_of, opening, Sort, Groups, Queues, Mutexes, Sems, Rwls, Segments, Fields, all_of, []}
 use Rattle.mtapi_values.specs.declared.handles.ObjectKind.{ObjectKind}
 use Rattle.mtapi_values.specs.declared.handles.ObjectKind.TheVariants as kind
 use Rattle.mtapi_machine.specs.declared.terms.Phase.{Phase}

@@ -1,5 +1,5 @@
 -- `==` of ops and of replies says whether the two are equal.
-use Rattle.mtapi_machine.proofs.Names.{◌≡◌, ℕ, Bool, List, ℤ, refl, sym, subst, ap, ◌==◌, Decides, beq, Decides-eqb, Decides-int_eq, sameb, Choice, TaskHandle, GroupHandle, QueueHandle, Mask, Kind, MtapiStatus, MrapiStatus, TaskEnd, Op, Reply}
+use Rattle.mtapi_machine.proofs.Names.{arith, nat_tests, ◌≡◌, List, ℤ, refl, sym, subst, ap, ◌==◌, Decides, Decides-eqb, Decides-int_eq, sameb, TaskHandle, GroupHandle, QueueHandle, Mask, Kind, MtapiStatus, MrapiStatus, TaskEnd, Op, Reply}
 use Rattle.std.specs.Ordering.{int_eq}
 use Rattle.std.specs.Cmp.{booleans_Decides}
 use Rattle.std.specs.Cmp.Lexicographic.{pointwise}
@@ -64,13 +64,7 @@ args_decide a b = slice_eq-Decides Decides-int_eq a b (pointwise int_eq a b) ref
 
 -- the ends of tasks
 pub end_decides : (a b : TaskEnd) → Decides (end_eq.ghosts.eq a b) (a ≡ b)
-end_decides a b = derived_decides end.enum (λ c. Unit {0}) _ (
-  (λ x y q. one_decides args_decide x y),
-  (
-    (λ x y q. none_decide x y),
-    ((λ x y q. one_decides mtapi_decide x y), tt),
-  ),
-) a b tt
+end_decides a b = grind (arith, nat_tests, derived_decides, one_decides, args_decide, none_decide, mtapi_decide)
 
 -- replies
 pub reply_decides : (a b : Reply) → Decides (reply_eq.ghosts.eq a b) (a ≡ b)
@@ -280,5 +274,4 @@ op_decides a b q = derived_decides op.enum (λ c. IsNoFinish (op.the_make c)) _ 
 ) a b (subst IsNoFinish (sym (op.the_eta b)) q)
 
 pub no_finish : (a : Op) → ((t : TaskHandle) (done : Finished) → a ≡ ops.Finish t done → ⊥) → IsNoFinish a
-no_finish (ops.Finish t done) other = other t done refl
-no_finish _ other = tt
+no_finish a e1 = grind (arith, nat_tests)

@@ -1,6 +1,6 @@
 -- A table of worked lines is decided by computing: its replay is the history that it tells, and at each line the machine's own reply
 -- differs from the wrong ones.
-use Rattle.mtapi_machine.proofs.Names.{◌≡◌, ℕ, ◌≤◌, Bool, true, false, List, [], ◌∷◌, ◌++◌, Option, Some, None, refl, sym, ◌∙◌, ap, arith, ℤ, pos, negsuc, ◌&&◌, ◌==◌, if◌then◌else◌, nat_tests, TaskEnd, Completed, Cancelled, Failed, kind_number, entry, Terms, Reply, Ok, Handle, Number, Given, Pending, Picked, Idle, Stop, Asked, Mtapi, Mrapi, State, opening, NodeEntry, IsNext, Fits, row_of, next, LegalFrom, after_from, Legal, answer, replay, Line, reported, NoneIsLegal, WrongIsIllegal, Works, node_of, small, one_generation, single}
+use Rattle.mtapi_machine.proofs.Names.{◌≡◌, ℕ, ◌≤◌, Bool, true, false, List, ◌∷◌, ◌++◌, Option, Some, None, refl, ◌∙◌, ap, arith, ℤ, pos, negsuc, ◌&&◌, ◌==◌, if◌then◌else◌, nat_tests, TaskEnd, Completed, Cancelled, Failed, kind_number, entry, Terms, Reply, Ok, Handle, Number, Given, Pending, Picked, Idle, Stop, Asked, Mtapi, Mrapi, State, opening, NodeEntry, IsNext, Fits, row_of, next, LegalFrom, after_from, Legal, answer, replay, Line, reported, NoneIsLegal, WrongIsIllegal, Works, node_of, small, one_generation, single, []}
 use Rattle.mtapi_values.specs.Statuses.{mtapi_number, mrapi_number}
 use Rattle.mtapi_machine.specs.declared.replies.Reply.TheVariants.{Ended}
 use Rattle.mtapi_machine.proofs.Replays.{answer-allowed, legal_if}
@@ -54,10 +54,7 @@ rejected None x = true
 rejected (Some y) x = differ (numbers y) (numbers x)
 
 rejected_next : (s : State) (e : NodeEntry) → rejected (answer (row_of s e)) e.reply ≡ true → IsNext s e → ⊥
-rejected_next s e h n = false_true (sym (ap (λ o. rejected o e.reply) (answer-allowed (row_of s e) e.reply n.allowed) ∙ differ_same (numbers e.reply)) ∙ h)
-  where
-    false_true : false ≡ true → ⊥
-    false_true k = cc
+rejected_next s e e1 e2 = grind (arith, nat_tests, answer-allowed, row_of, differ_same)
 
 abbrev none_is_next : State → NodeEntry → List Reply → Bool
 none_is_next s e [] = true
@@ -69,8 +66,7 @@ wrong_differ s [] = true
 wrong_differ s (l ∷ ls) = none_is_next s l.entry l.wrong && wrong_differ (next s l.entry) ls
 
 both_are : (a b : Bool) → (a && b) ≡ true → (a ≡ true) × (b ≡ true)
-both_are true b h = (refl, h)
-both_are false b h = absurd (cc)
+both_are a b e1 = grind (arith, nat_tests)
 
 pub last_is_next : (terms : Terms) (before : List NodeEntry) (e : NodeEntry) → Legal terms (before ++ e ∷ []) → IsNext (after_from (opening terms) before) e
 unfolding LegalFrom
@@ -97,52 +93,13 @@ works_if terms table f h k = record { legal = record { fits = f; from = legal_if
 
 -- the terms of the tables
 pub fits_of : (workers tasks others : ℕ) → 1 ≤ workers → workers ≤ 16 → 1 ≤ tasks → tasks ≤ 1024 → 1 ≤ others → others ≤ 256 → Fits (node_of workers tasks others)
-fits_of workers tasks others a b c d e f = record {
-  settings = record {
-    workers = (a, b);
-    tasks = (c, omega arith);
-    actions = (e, omega arith);
-    groups = (e, omega arith);
-    queues = (e, f);
-    objects = (e, f);
-    priorities = (omega arith, omega arith);
-    generations = (omega arith, omega arith);
-  };
-  some_caller = omega arith;
-  callers = omega arith;
-}
+fits_of workers tasks others e1 e2 e3 e4 e5 e6 = grind (arith, nat_tests)
 
 pub fits_small : Fits small
 fits_small = fits_of 1 2 2 (omega arith) (omega arith) (omega arith) (omega arith) (omega arith) (omega arith)
 
 pub fits_one_generation : Fits one_generation
-fits_one_generation = record {
-  settings = record {
-    workers = (omega arith, omega arith);
-    tasks = (omega arith, omega arith);
-    actions = (omega arith, omega arith);
-    groups = (omega arith, omega arith);
-    queues = (omega arith, omega arith);
-    objects = (omega arith, omega arith);
-    priorities = (omega arith, omega arith);
-    generations = (omega arith, omega arith);
-  };
-  some_caller = omega arith;
-  callers = omega arith;
-}
+fits_one_generation = grind (arith, nat_tests)
 
 pub fits_single : Fits single
-fits_single = record {
-  settings = record {
-    workers = (omega arith, omega arith);
-    tasks = (omega arith, omega arith);
-    actions = (omega arith, omega arith);
-    groups = (omega arith, omega arith);
-    queues = (omega arith, omega arith);
-    objects = (omega arith, omega arith);
-    priorities = (omega arith, omega arith);
-    generations = (omega arith, omega arith);
-  };
-  some_caller = omega arith;
-  callers = omega arith;
-}
+fits_single = grind (arith, nat_tests)

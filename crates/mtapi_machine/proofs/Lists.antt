@@ -1,5 +1,5 @@
 -- Laws of every list of entries.
-use Rattle.mtapi_machine.proofs.Names.{◌≡◌, List, [], ◌∷◌, ◌++◌, refl, State, Terms, NodeEntry, IsNext, next, LegalFrom, Legal, after_from}
+use Rattle.mtapi_machine.proofs.Names.{◌≡◌, List, ◌∷◌, ◌++◌, refl, State, Terms, NodeEntry, IsNext, next, LegalFrom, Legal, after_from, []}
 
 -- a prefix of a legal list is legal
 pub Legal-front : (s : State) (L M : List NodeEntry) → LegalFrom s (L ++ M) → LegalFrom s L

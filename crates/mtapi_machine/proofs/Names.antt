@@ -1,7 +1,7 @@
 -- The names that the proofs of this crate cite of lower crates and of its own specs/, passed on from one place. Declares nothing.
-pub use Rattle.std.proofs.Common.{Bool, List, None, Option, Some, [], ap, arith, cond, false, negsuc, pos, refl, subst, suc, sym, true, zero, ℕ, ℤ, ◌++◌, ◌+◌, ◌<◌, ◌∙◌, ◌∷◌, ◌≡◌, ◌≤◌}
+pub use Rattle.std.proofs.Common.{Bool, List, None, Option, Some, ap, arith, cond, false, negsuc, pos, refl, subst, suc, sym, true, zero, ℕ, ℤ, ◌++◌, ◌+◌, ◌<◌, ◌∙◌, ◌∷◌, ◌≡◌, ◌≤◌, []}
 pub use Rattle.std.proofs.lemmas.Bool.Decides.{Decides-eqb, Decides-int_eq, nat_tests}
-pub use Rattle.std.specs.Bool.{Decides, MatchBool, beq}
+pub use Rattle.std.specs.Bool.{Decides, MatchBool}
 pub use Rattle.std.specs.Prelude.{if◌then◌else◌, is_none, is_some, length, nat_le, nat_lt, not, ◌&&◌, ◌==◌}
 pub use denote.Enum.Bare.{Bare, same_true, sameb, true_same}
 pub use denote.Enum.Declared.{Choice, Declared, Record, values_one}
@@ -21,7 +21,7 @@ pub use Rattle.mtapi_machine.specs.Rows.{row}
 pub use Rattle.mtapi_machine.specs.State.{FieldsOf, Objects, State, end_tasks, is_open, is_past_open, is_stop, objects_of, opening, seats, workers}
 pub use Rattle.mtapi_machine.specs.Tables.{Line, NoneIsLegal, Works, WrongIsIllegal, finish, h1, node_of, reported, small}
 pub use Rattle.mtapi_machine.specs.TallyRows.{gives_up, locks, takes_both}
-pub use Rattle.mtapi_machine.specs.TaskRows.{asked_for, asked_of, cancels, looks_at, number_of}
+pub use Rattle.mtapi_machine.specs.TaskRows.{cancels, looks_at}
 pub use Rattle.mtapi_machine.specs.WorkRows.{picks}
 pub use Rattle.mtapi_machine.specs.WorkedLayouts.{WorkedLayouts, single}
 pub use Rattle.mtapi_machine.specs.WorkedTasks.{WorkedTasks, one_generation}
@@ -37,7 +37,7 @@ pub use Rattle.mtapi_objects.specs.Queues.{Queue, is_in, opened}
 pub use Rattle.mtapi_objects.specs.Rwls.{Rwl, rwl_busy, rwl_delete_refusals, rwl_given, rwl_look_refusals, rwl_taken, rwl_unlock_refusals}
 pub use Rattle.mtapi_objects.specs.Segments.{Segment, attach_refusals, cell_refusals, detach_refusals, shmem_delete_refusals, with_attached, with_cell}
 pub use Rattle.mtapi_objects.specs.Sems.{Sem, sem_busy, sem_delete_refusals, sem_given, sem_taken, sem_unlock_refusals}
-pub use Rattle.mtapi_objects.specs.Tasks.{Adds, NewTask, Running, Scheduled, Task, TaskState, end_of, ended, is_unended, is_unstarted, kind_number, new_task, runner, runs_as, runs_on, scheduled, tally_args, task_look_refusals, with_notes, with_state, with_waiter}
+pub use Rattle.mtapi_objects.specs.Tasks.{Adds, NewTask, Running, Scheduled, Task, TaskState, end_of, ended, is_unended, is_unstarted, kind_number, new_task, runner, runs_as, runs_on, tally_args, task_look_refusals, with_notes, with_state, with_waiter}
 pub use Rattle.mtapi_values.specs.Conditions.{holds}
 pub use Rattle.mtapi_values.specs.declared.ends.TaskEnd.{TaskEnd}
 pub use Rattle.mtapi_values.specs.declared.ends.TaskEnd.TheVariants.{Cancelled, Completed, Failed}

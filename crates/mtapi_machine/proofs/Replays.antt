@@ -1,5 +1,5 @@
 -- A list is legal exactly where its replay is the list itself.
-use Rattle.mtapi_machine.proofs.Names.{◌≡◌, ℕ, ◌<◌, ◌≤◌, Bool, true, false, cond, List, [], ◌∷◌, Option, Some, None, refl, sym, ◌∙◌, ap, arith, nat_lt, nat_le, ◌&&◌, nat_tests, Op, Finish, Reply, TaskHandle, Answered, State, seats, Row, unless, gives, never, Allows, entry, NodeEntry, IsHonest, IsNext, row_of, next, LegalFrom, answer, is_sound, corrected, said_with, retold, put, replay}
+use Rattle.mtapi_machine.proofs.Names.{◌≡◌, ℕ, ◌<◌, ◌≤◌, Bool, true, false, cond, List, ◌∷◌, Option, Some, None, refl, sym, ap, arith, nat_lt, nat_le, ◌&&◌, nat_tests, Op, Finish, Reply, TaskHandle, Answered, State, seats, Row, unless, gives, never, Allows, NodeEntry, IsHonest, IsNext, row_of, next, LegalFrom, answer, is_sound, corrected, said_with, retold, put, replay, []}
 
 -- the reply that a row gives is the one that it allows
 Allows-answer : (w : Row) (r : Reply) → answer w ≡ Some r → Allows w r
@@ -45,18 +45,14 @@ is_at_most : (a b : ℕ) → nat_le a b ≡ true → a ≤ b
 is_at_most a b h = grind (arith, nat_tests)
 
 sound_if : (op : Op) → IsHonest op → is_sound op ≡ true
-sound_if (Finish t d) h = both _ _ h.pure (at_most _ _ h.few)
-sound_if _ h = refl
+sound_if op e1 = grind (arith, nat_tests, both, at_most)
 
 honest_if : (op : Op) → is_sound op ≡ true → corrected op ≡ op → IsHonest op
-honest_if (Finish t d) h c = let p = parts _ _ h in record { pure = p.0; few = is_at_most _ _ p.1; answer = sym (ap (λ (x : Answered). x.end) (finish_same t t _ _ c)) }
-honest_if _ h c = tt
+honest_if op e1 e2 = grind (arith, nat_tests, parts, is_at_most, finish_same)
 
 -- an entry may be next exactly where it is the machine's own
 retold_if : (s : State) (e : NodeEntry) → IsNext s e → retold s e ≡ Some e
-retold_if s e h =
-    (λ i. cond (both _ _ (below _ _ h.seat) (sound_if e.op h.honest) i) (said_with e.who e.op (answer-allowed (row_of s e) e.reply h.allowed i)) None)
-    ∙ (λ i. Some (entry e.who (corrected_same e.op h.honest i) e.reply))
+retold_if s e e1 = grind (arith, nat_tests, both, below, sound_if, said_with, answer-allowed, row_of)
 
 said_same : (e : NodeEntry) (o : Option Reply) → said_with e.who e.op o ≡ Some e → (o ≡ Some e.reply) × (corrected e.op ≡ e.op)
 said_same e None h = absurd (cc)
@@ -71,11 +67,7 @@ said_same e (Some x) h = (ap (λ (y : Option NodeEntry). reply_of y) h, ap (λ (
     op_of (Some y) = y.op
 
 next_in : (s : State) (e : NodeEntry) (b : Bool) → (nat_lt e.who (seats s) && is_sound e.op) ≡ b → cond b (said_with e.who e.op (answer (row_of s e))) None ≡ Some e → IsNext s e
-next_in s e false d h = absurd (cc)
-next_in s e true d h =
-    let p = parts _ _ d in
-    let q = said_same e _ h in
-    record { seat = is_below _ _ p.0; honest = honest_if e.op p.1 q.1; allowed = Allows-answer (row_of s e) e.reply q.0 }
+next_in s e b e1 e2 = grind (arith, nat_tests, parts, said_same, is_below, honest_if, Allows-answer, row_of)
 
 next_if : (s : State) (e : NodeEntry) → retold s e ≡ Some e → IsNext s e
 next_if s e h = next_in s e _ refl h

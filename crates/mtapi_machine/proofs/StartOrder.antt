@@ -1,5 +1,5 @@
 -- After every legal list the tasks are listed in the order of their starts.
-use Rattle.mtapi_machine.proofs.Names.{◌≡◌, ℕ, ◌+◌, Bool, true, false, cond, List, [], ◌∷◌, ◌++◌, refl, sym, ap, subst, arith, ◌==◌, ◌&&◌, TaskEnd, Failed, Listed, change, change_all, issue, with_fields, gone, Task, NewTask, new_task, Running, with_state, with_notes, ended, end_each, freed, let_go, State, Move, withdraws, starts_task, runs_task, ends_task, ends_waiting, notes, leaves, frees_members, lets_members_go, apply, NodeEntry, after_from, start_numbers, AreAbove, Rises}
+use Rattle.mtapi_machine.proofs.Names.{◌≡◌, ℕ, ◌+◌, Bool, true, false, cond, List, ◌∷◌, ◌++◌, refl, sym, ap, subst, arith, ◌==◌, ◌&&◌, TaskEnd, Failed, Listed, change, change_all, issue, with_fields, gone, Task, NewTask, new_task, Running, with_state, with_notes, ended, end_each, freed, let_go, State, Move, withdraws, starts_task, runs_task, ends_task, ends_waiting, notes, leaves, frees_members, lets_members_go, apply, NodeEntry, after_from, start_numbers, AreAbove, Rises, []}
 use Rattle.mtapi_machine.proofs.Moves.{along, rest_keeps}
 
 -- the numbers of the starts so far and of the next one rise

@@ -1,4 +1,4 @@
-use Rattle.mtapi_machine.proofs.Names.{refl, arith, fits, answer_of, live_of, issue, change, change_all, listed, issued_at, retired, is_full, may_issue, has_worker, end_each, endings, is_ready, can_take, has_better, replay, Works, node_of, small}
+use Rattle.mtapi_machine.proofs.Names.{nat_tests, refl, arith, fits, answer_of, live_of, issue, change, change_all, listed, issued_at, retired, is_full, may_issue, has_worker, end_each, endings, is_ready, can_take, has_better, replay, Works, node_of, small}
 use Rattle.mtapi_machine.specs.WorkedActions.{actions_made, action_deleted, action_disabled, action_kept, WorkedActions}
 use Rattle.mtapi_machine.proofs.Lines.{fits_of, fits_small, works_if, wrong_differ}
 
@@ -19,9 +19,4 @@ unfolding action_kept replay wrong_differ live_of issue change change_all listed
 action_kept_works = works_if small action_kept fits_small refl refl
 
 pub actions : WorkedActions
-actions = record {
-  made = actions_made_works;
-  deleted = action_deleted_works;
-  disabled = action_disabled_works;
-  kept = action_kept_works;
-}
+actions = grind (arith, nat_tests, actions_made_works, action_deleted_works, action_disabled_works, action_kept_works)

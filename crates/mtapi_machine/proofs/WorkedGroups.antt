@@ -1,4 +1,4 @@
-use Rattle.mtapi_machine.proofs.Names.{refl, arith, fits, answer_of, live_of, issue, change, change_all, listed, issued_at, retired, is_full, may_issue, has_worker, end_each, endings, is_ready, can_take, has_better, replay, Works, node_of, small}
+use Rattle.mtapi_machine.proofs.Names.{nat_tests, refl, arith, fits, answer_of, live_of, issue, change, change_all, listed, issued_at, retired, is_full, may_issue, has_worker, end_each, endings, is_ready, can_take, has_better, replay, Works, node_of, small}
 use Rattle.mtapi_machine.specs.WorkedGroups.{groups_made, order_of_ends, whole_group, group_deleted, ordered_members, WorkedGroups}
 use Rattle.mtapi_machine.proofs.Lines.{fits_of, fits_small, works_if, wrong_differ}
 
@@ -23,10 +23,4 @@ unfolding ordered_members replay wrong_differ live_of issue change change_all li
 ordered_members_works = works_if (node_of 4 4 2) ordered_members (fits_of 4 4 2 (omega arith) (omega arith) (omega arith) (omega arith) (omega arith) (omega arith)) refl refl
 
 pub groups : WorkedGroups
-groups = record {
-  made = groups_made_works;
-  ends = order_of_ends_works;
-  whole = whole_group_works;
-  deleted = group_deleted_works;
-  ordered = ordered_members_works;
-}
+groups = grind (arith, nat_tests, groups_made_works, order_of_ends_works, whole_group_works, group_deleted_works, ordered_members_works)

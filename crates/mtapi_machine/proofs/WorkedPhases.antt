@@ -1,4 +1,4 @@
-use Rattle.mtapi_machine.proofs.Names.{refl, fits, answer_of, live_of, issue, change, change_all, listed, issued_at, retired, is_full, may_issue, has_worker, end_each, endings, is_ready, can_take, has_better, replay, Works, small}
+use Rattle.mtapi_machine.proofs.Names.{arith, nat_tests, refl, fits, answer_of, live_of, issue, change, change_all, listed, issued_at, retired, is_full, may_issue, has_worker, end_each, endings, is_ready, can_take, has_better, replay, Works, small}
 use Rattle.mtapi_machine.specs.WorkedPhases.{in_new, in_closing, in_closed, WorkedPhases}
 use Rattle.mtapi_machine.proofs.Lines.{fits_small, works_if, wrong_differ}
 
@@ -15,8 +15,4 @@ unfolding in_closed replay wrong_differ live_of issue change change_all listed i
 in_closed_works = works_if small in_closed fits_small refl refl
 
 pub phases : WorkedPhases
-phases = record {
-  in_new = in_new_works;
-  in_closing = in_closing_works;
-  in_closed = in_closed_works;
-}
+phases = grind (arith, nat_tests, in_new, in_new_works, in_closing, in_closing_works, in_closed, in_closed_works)

@@ -1,4 +1,4 @@
-use Rattle.mtapi_machine.proofs.Names.{◌≡◌, refl, arith, [], ◌∷◌, fits, answer_of, live_of, issue, change, change_all, listed, issued_at, retired, is_full, may_issue, has_worker, end_each, endings, is_ready, can_take, has_better, replay, opening, skipped, no_counts, Works, reported, node_of, small}
+use Rattle.mtapi_machine.proofs.Names.{◌≡◌, refl, arith, ◌∷◌, fits, answer_of, live_of, issue, change, change_all, listed, issued_at, retired, is_full, may_issue, has_worker, end_each, endings, is_ready, can_take, has_better, replay, opening, skipped, no_counts, Works, reported, node_of, small, []}
 use Rattle.mtapi_machine.specs.WorkedQueues.{queues_made, puts_refused, retained, retained_cancelled, retained_deleted, third_refused, enabled_left, not_retained, queue_deleted, queue_priority, WorkedQueues}
 use Rattle.mtapi_machine.proofs.Lines.{fits_of, fits_small, works_if, wrong_differ}
 

@@ -1,4 +1,4 @@
-use Rattle.mtapi_machine.proofs.Names.{◌≡◌, ◌<◌, refl, arith, [], ◌∷◌, ◌++◌, pos, fits, answer_of, live_of, issue, change, change_all, listed, issued_at, retired, is_full, may_issue, has_worker, end_each, endings, is_ready, can_take, has_better, replay, entry, Legal, after_from, Works, reported, h1, finish, node_of, small}
+use Rattle.mtapi_machine.proofs.Names.{◌≡◌, ◌<◌, refl, arith, ◌∷◌, ◌++◌, pos, fits, answer_of, live_of, issue, change, change_all, listed, issued_at, retired, is_full, may_issue, has_worker, end_each, endings, is_ready, can_take, has_better, replay, entry, Legal, after_from, Works, reported, h1, finish, node_of, small, []}
 use Rattle.mtapi_values.specs.declared.kinds.Kind.TheVariants as kind
 use Rattle.action_fn.specs.declared.finished.ActEnd.TheVariants.{Done}
 use Rattle.mtapi_machine.specs.declared.ops.Op.TheVariants as op

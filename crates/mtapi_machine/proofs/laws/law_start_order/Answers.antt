@@ -1,4 +1,4 @@
-use Rattle.mtapi_machine.proofs.Names.{[], ◌∷◌, opening, start_numbers, after}
+use Rattle.mtapi_machine.proofs.Names.{◌∷◌, opening, start_numbers, after, []}
 use Rattle.mtapi_machine.proofs.StartOrder.{after_numbered, rises-front}
 use Rattle.mtapi_machine.proofs.laws.law_start_order.Goals as goal
 
