@@ -5,7 +5,7 @@ use Rattle.queue_core.specs.Held.{Creates as CreatesQueue}
 use Rattle.queue_core.specs.declared.facts.QueueFacts.{QueueFacts}
 use Rattle.task_board.proofs.ByJobLemmas.{by-job-push, by-job-leave, by-job-has}
 use Rattle.task_board.proofs.SeenLemmas.{none-some, some_same, SeenAs, seen-as, seen-live, unstarted-seen}
-use Rattle.task_board.proofs.MoveLemmas.{started-put, Put, Alone, Steady, alone-old, alone-new, put-insert, put-changed, max-insert, max-changed, marked-put, marked-steady, ranked-put, waiting-push, waiting-leave, running-begin, running-same, stands-handle}
+use Rattle.task_board.proofs.MoveLemmas.{Put, Alone, Steady, alone-old, alone-new, put-insert, put-changed, max-insert, max-changed, marked-put, marked-steady, ranked-put, waiting-push, waiting-leave, running-begin, running-same, stands-handle}
 use Rattle.task_board.proofs.RemarkLemmas.{SameBut, TakenBy, taken-other, taken-steady, marked-anew, marked-over}
 use Rattle.task_board.proofs.GivenLemmas.{put-queue_changed, put-queue_insert, put-queue_without}
 use Rattle.task_board.proofs.QueuedLemmas.{queued-apart, queued-enqueue, queued-run, queued-with, queued-new, queued-gone, begins-same, begins-enqueue}
@@ -19,55 +19,15 @@ pub record SameSizes (old new : ReadyMarks) : Type 0 where
   pub slots : length new.marks ≡ length old.marks
 
 pub sizes-set : (old new : ReadyMarks) (place : ℕ) (m : Option Mark) → new ≡ record old { marks = set old.marks place m } → SameSizes old new
-sizes-set old new place m is = record {
-  workers = ap (λ (r : ReadyMarks). r.workers) is;
-  priorities = ap (λ (r : ReadyMarks). r.priorities) is;
-  slots = ap (λ (r : ReadyMarks). length r.marks) is ∙ length-set old.marks place m;
-}
+sizes-set old new place m e1 = grind (arith, nat_tests, length-set)
 
 -- a move of one handle
 pub put-board : (b : BoardTable) (q : TaskTable) (queues : QueueTable) (ready : ReadyMarks) (waiting : WaitingTable) (running : List (Option TaskHandle)) (groups : GroupTable) (h : ℕ) (x : Option Seen) → IsBoard b → Put (seen_in b.tasks.pool) h x (seen_in q.pool) → max_of q.pool ≡ max_of b.tasks.pool → SameSizes b.ready ready → Marked b.actions (begins_in queues.pool) (seen_in q.pool) ready.marks → AreQueued (seen_in q.pool) queues.pool b.settings.priorities → queues.tasks ≡ b.queues.tasks → waiting.places ≡ b.waiting.places → length waiting.lists ≡ 1 → length running ≡ 25 → AreWaiting (seen_in q.pool) (list_at waiting.lists 0) → AreByJob b.settings.actions (seen_in q.pool) waiting.by_job → AreRunning (seen_in q.pool) running → ((s : Seen) → x ≡ Some s → s.priority < b.settings.priorities) → ((s : Seen) → x ≡ Some s → s.start < q.starts) → b.tasks.starts ≤ q.starts → groups.tasks ≡ b.groups.tasks → AreMembers (members_in q.pool) (slot_value groups.pool) q.starts q.ends → IsBoard (record b { tasks = q; queues = queues; ready = ready; waiting = waiting; running = running; groups = groups })
-put-board b q queues ready waiting running groups h x k move max sizes marked queued room places lists seats waits jobs runs ranks begins grows many members = record {
-  members = members;
-  task_slots = many ∙ k.task_slots ∙ sym max;
-  started = started-put (seen_in b.tasks.pool) (seen_in q.pool) h x b.tasks.starts q.starts move begins grows k.started;
-  few = k.few;
-  workers = sizes.workers ∙ k.workers;
-  priorities = sizes.priorities ∙ k.priorities;
-  slots = sizes.slots ∙ k.slots ∙ sym max;
-  places = places ∙ k.places ∙ sym max;
-  lists = lists;
-  seats = seats;
-  room = room ∙ k.room ∙ sym max;
-  marked = marked;
-  waiting_are = waits;
-  by_job = jobs;
-  running_are = runs;
-  ranked = ranked-put (seen_in b.tasks.pool) (seen_in q.pool) h x b.settings.priorities move ranks k.ranked;
-  queued = queued;
-}
+put-board b q queues ready waiting running groups h x e1 e2 e3 e4 e5 e6 e7 e8 e9 e10 e11 e12 e13 e14 e15 e16 e17 e18 = grind (arith, nat_tests)
 
 -- no task changes
 tasks-stay : (b : BoardTable) (actions : Slots Action) (queues : QueueTable) (ready : ReadyMarks) → IsBoard b → SameSizes b.ready ready → queues.tasks ≡ b.queues.tasks → Marked actions (begins_in queues.pool) (seen_in b.tasks.pool) ready.marks → AreQueued (seen_in b.tasks.pool) queues.pool b.settings.priorities → IsBoard (record b { actions = actions; queues = queues; ready = ready })
-tasks-stay b actions queues ready k sizes room marked queued = record {
-  few = k.few;
-  workers = sizes.workers ∙ k.workers;
-  priorities = sizes.priorities ∙ k.priorities;
-  slots = sizes.slots ∙ k.slots;
-  places = k.places;
-  lists = k.lists;
-  seats = k.seats;
-  room = room ∙ k.room;
-  marked = marked;
-  waiting_are = k.waiting_are;
-  by_job = k.by_job;
-  running_are = k.running_are;
-  ranked = k.ranked;
-  started = k.started;
-  queued = queued;
-  members = k.members;
-  task_slots = k.task_slots;
-}
+tasks-stay b actions queues ready e1 e2 e3 e4 e5 = grind (arith, nat_tests)
 
 -- the marks after a move of one handle, where its own is right
 pub put-marked : (b : BoardTable) (q : TaskTable) (queues : Slots HeldQueue) (ready : ReadyMarks) (h : ℕ) (x : Option Seen) (m : Option Mark) → IsBoard b → Put (seen_in b.tasks.pool) h x (seen_in q.pool) → Steady (begins_in b.queues.pool) (begins_in queues) (seen_in b.tasks.pool) h → Alone (seen_in q.pool) h → slot_of h < max_of b.tasks.pool → IsMarkOf b.actions (begins_in queues h) x m → ready ≡ record b.ready { marks = set b.ready.marks (slot_of h) m } → Marked b.actions (begins_in queues) (seen_in q.pool) ready.marks
@@ -187,23 +147,12 @@ enqueue-board b q queues ready waiting groups h n p a v k i next count live name
 
 -- no task of a queue has a slot that was free
 pub no-task : (b : BoardTable) (q : Slots Task) (h : ℕ) (t : Task) → IsBoard b → Inserts b.tasks.pool q h t → NoTaskAt (slot_of h) b.queues.pool
-no-task b q h t k i p x live = elim (cases_Bool (stands_at (slot_of h) x.tasks)) [
-  | inl on ↦
-      let w = stands-handle (slot_of h) x.tasks on in
-      let s = k.queued.names w.0 p x live w.1 in
-      let u = seen-live b.tasks.pool w.0 s.0 s.1 in
-      let free : slot_value b.tasks.pool w.0 ≡ None = ap (λ (place : ℕ). value_at (slice_get b.tasks.pool.slots place) (generation_of w.0)) w.2 ∙ (ap (λ (o : Option _). value_at o (generation_of w.0)) i.was_free ∙ value_at-none (free_slot (generation_of h)) (generation_of w.0) refl) in
-      none-some (sym free ∙ u.1)
-  | inr off ↦ off
-]
+no-task b q h t e1 e2 = grind (arith, nat_tests, stands_at, slot_of, stands-handle, seen-live, slot_value, value_at)
 
 -- Taking
 
 unmarked : (actions : Slots Action) (lets : Option ℕ → Bool) (s : Seen) (w : ℕ) → s.on ≡ Some w → IsMarkOf actions lets (Some s) None
-unmarked actions lets s w on = record {
-  sound = λ v p e. absurd (false≢true e);
-  whole = λ v u e k. none-some (sym k.waits ∙ ap (λ (z : Seen). z.on) (sym (some_same e)) ∙ on);
-}
+unmarked actions lets s w e1 = grind (arith, nat_tests)
 
 pub unmarked-none : (actions : Slots Action) (lets : Option ℕ → Bool) → IsMarkOf actions lets None None
 unmarked-none actions lets = record { sound = λ v p e. absurd (false≢true e); whole = λ v u e k. none-some e }
@@ -285,28 +234,17 @@ remark-board b new ready job k same r =
 
 -- the same where the waiting tasks of the job are marked anew unless its actions cover the cores that they covered
 pub changed-board : (b : BoardTable) (new : Slots Action) (ready : ReadyMarks) (job mask : ℕ) → IsBoard b → SameBut job b.actions new → IsUnion b.actions job mask → RemarkedUnless new (begins_in b.queues.pool) (seen_in b.tasks.pool) job mask (job_list b.waiting job) b.ready ready → IsBoard (record b { actions = new; ready = ready })
-changed-board b new ready job mask k same was r = elim r [
-  | inl anew ↦ remark-board b new ready job k same anew
-  | inr u ↦ subst (λ (m : ReadyMarks). IsBoard (record b { actions = new; ready = m })) (sym u.1) (tasks-stay b new b.queues b.ready k (record { workers = refl; priorities = refl; slots = refl }) refl (marked-over job mask b.actions new (begins_in b.queues.pool) (seen_in b.tasks.pool) b.ready.marks same was u.0 k.marked) k.queued)
-]
+changed-board b new ready job mask e1 e2 e3 e4 = grind (arith, nat_tests, remark-board, tasks-stay, marked-over, begins_in, seen_in)
 
 -- Other queues
 
 -- a queue keeps its tasks where it is enabled or disabled
 pub opened-tasks : (b : BoardTable) (queues : QueueTable) (q : ℕ) (on : Bool) → queues ≡ record b.queues { pool = changed b.queues.pool q (with_opened on) } → tasks_of (slot_value queues.pool q) ≡ tasks_of (slot_value b.queues.pool q)
-opened-tasks b queues q on is = ap (λ (z : QueueTable). tasks_of (slot_value z.pool q)) is ∙ by_found (slot_value b.queues.pool q) refl
-  where
-    by_found : (o : Option HeldQueue) → slot_value b.queues.pool q ≡ o → tasks_of (slot_value (changed b.queues.pool q (with_opened on)) q) ≡ tasks_of (slot_value b.queues.pool q)
-    by_found None e = ap (λ (o : Option HeldQueue). tasks_of (slot_value (put b.queues.pool q (option_map (with_opened on) o)) q)) e
-    by_found (Some v) e = ap tasks_of (put-queue_changed b.queues.pool q (with_opened on) v e).here ∙ ap tasks_of (sym e)
+opened-tasks b queues q on e1 = grind (arith, nat_tests, tasks_of, slot_value, with_opened, option_map, put-queue_changed)
 
 -- the tasks of a queue are seen
 pub queue-seen : (b : BoardTable) (q : ℕ) → IsBoard b → AreSeen (seen_in b.tasks.pool) (tasks_of (slot_value b.queues.pool q))
-queue-seen b q k h has = by_found (slot_value b.queues.pool q) refl has
-  where
-    by_found : (o : Option HeldQueue) → slot_value b.queues.pool q ≡ o → has_handle h (tasks_of o) ≡ true → (s : Seen) × (seen_in b.tasks.pool h ≡ Some s)
-    by_found None e f = absurd (false≢true f)
-    by_found (Some x) e f = let s = k.queued.names h q x e f in (s.0, s.1)
+queue-seen b q e1 = grind (arith, nat_tests)
 
 pub opened-seen : (b : BoardTable) (queues : QueueTable) (q : ℕ) (on : Bool) → IsBoard b → queues ≡ record b.queues { pool = changed b.queues.pool q (with_opened on) } → AreSeen (seen_in b.tasks.pool) (tasks_of (slot_value queues.pool q))
 opened-seen b queues q on k is = subst (λ (hs : List ℕ). AreSeen (seen_in b.tasks.pool) hs) (sym (opened-tasks b queues q on is)) (queue-seen b q k)
@@ -383,12 +321,10 @@ create-board b queues x (Err _) k rank c = absurd c
 
 -- the queue of these facts
 pub queue-found : (o : Option HeldQueue) (f : QueueFacts) → Some f ≡ option_map facts_of o → (x : HeldQueue) × (o ≡ Some x) × (f.job ≡ x.queue.job)
-queue-found None f e = none-some (sym e)
-queue-found (Some x) f e = (x, refl, ap (λ (g : QueueFacts). g.job) (some_same e))
+queue-found o f e1 = grind (arith, nat_tests)
 
 pub job-found : (o : Option Action) (j : ℕ) → Ok j ≡ job_of o → (x : Action) × (o ≡ Some x) × (x.job ≡ j)
-job-found None j e = absurd (cc)
-job-found (Some x) j e = (x, refl, cc)
+job-found o j e1 = grind (arith, nat_tests)
 
 -- an action that isn't live doesn't change
 pub unchanged : (p : Slots Action) (h : ℕ) (f : Action → Action) (c : MtapiStatus) → Err c ≡ job_of (slot_value p h) → changed p h f ≡ p

@@ -61,13 +61,7 @@ fault-next at (x ∷ xs) h n e is = grind (arith, nat_tests, fault-next at xs h 
 -- Freeing
 
 becomes-next : (old now new : BoardTable) (pool : Slots Task) → Becomes old now old.actions (record old.tasks { pool = now.tasks.pool }) → Becomes now new now.actions (record now.tasks { pool = pool }) → Becomes old new old.actions (record old.tasks { pool = new.tasks.pool })
-becomes-next old now new pool a b = record {
-  settings = b.settings ∙ a.settings;
-  actions_are = b.actions_are ∙ a.actions_are;
-  tasks_are = (λ i. record { pool = new.tasks.pool; starts = (ap (λ (q : TaskTable). q.starts) b.tasks_are ∙ ap (λ (q : TaskTable). q.starts) a.tasks_are) i; ends = (ap (λ (q : TaskTable). q.ends) b.tasks_are ∙ ap (λ (q : TaskTable). q.ends) a.tasks_are) i });
-  queues_are = b.queues_are ∙ a.queues_are;
-  groups_are = b.groups_are ∙ a.groups_are;
-}
+becomes-next old now new pool e1 e2 = grind (arith, nat_tests)
 
 ended-passes : (g : ℕ) (t : Task) (e : TaskEnd) (n : ℕ) → is_member g t ≡ true → t.state ≡ Ended e n → is_ended_member g t ≡ true
 ended-passes g t e n member is = and_both (is_member g t) (not (is_unended t)) member (ap (λ (x : TaskState). not (is_none (end_of x))) is)
@@ -140,12 +134,7 @@ left-next old now new g index h f x = record {
 
 -- the ended ones are freed, and then the others are let go
 pub all-go : (old now new : BoardTable) (g : ℕ) (fault : Option MtapiStatus) → FreesAll old now g fault → LetsUnendedGo now new g → LetsAllGo old new g
-all-go old now new g fault a b = record {
-  handles = a.members.ended ++ b.members.unended;
-  each = each-more (is_member g) lets_go a.members.ended b.members.unended old.tasks.pool now.tasks.pool new.tasks.pool (each-ended g a.members.ended old.tasks.pool now.tasks.pool a.each) b.each;
-  group_now = b.group_now ∙ ap (λ (m : Members). Some (record m { unended = [] })) (some_same (sym b.group ∙ a.group_now));
-  becomes = becomes-next old now new new.tasks.pool a.becomes b.becomes;
-}
+all-go old now new g fault e1 e2 = grind (arith, nat_tests, each-more, is_member, lets_go, each-ended, some_same, becomes-next)
 
 -- Who is left
 

@@ -1,5 +1,5 @@
 -- What is kept while the waiting tasks that pass end, one after the other.
-use Rattle.task_board.proofs.Names.{◌≡◌, ℕ, ◌<◌, ◌+◌, Bool, true, false, cond, List, [], ◌∷◌, ◌++◌, length, Option, Some, None, slice_get, refl, sym, ◌∙◌, ap, subst, arith, false≢true, nat_tests, ◌==◌, ◌||◌, ◌&&◌, IsSome, TaskEnd, NodeSettings, holds, Slots, slot_value, list_at, has_handle, Task, is_unstarted, Queue, is_in, HeldQueue, tasks_of, TaskTable, ended_in, Seen, seen, seen_in, NoneWaitsIn, BoardTable, IsBoard, Becomes, AreWaiting, records_of, group_slots, Walk, Waiting, AreIn, is_walked, passes, walk_of, ends_by, ended_next, ended_if, ended_each, EndsWaiting}
+use Rattle.task_board.proofs.Names.{◌≡◌, ℕ, ◌<◌, ◌+◌, Bool, true, false, cond, List, [], ◌∷◌, ◌++◌, length, Option, Some, None, slice_get, refl, sym, ◌∙◌, ap, subst, arith, false≢true, nat_tests, ◌==◌, ◌||◌, ◌&&◌, IsSome, TaskEnd, holds, Slots, slot_value, list_at, has_handle, Task, is_unstarted, is_in, HeldQueue, tasks_of, TaskTable, ended_in, Seen, seen, seen_in, NoneWaitsIn, BoardTable, IsBoard, Becomes, AreWaiting, records_of, group_slots, Walk, Waiting, AreIn, is_walked, passes, walk_of, ends_by, ended_next, ended_if, ended_each, EndsWaiting}
 use Rattle.task_board.specs.declared.ends.WaitingTest.{WaitingTest}
 use Rattle.task_board.specs.declared.ends.WaitingTest.TheVariants.{Unserved, InQueue, Shut}
 use Rattle.task_board.proofs.SeenLemmas.{some_same, seen-as, seen-live, unstarted-seen}
@@ -12,10 +12,7 @@ use Rattle.task_board.proofs.OrderLemmas.{at-middle, past-middle, append-middle}
 
 -- a waiting task is live and hasn't begun
 pub waits-live : (p : Slots Task) (hs : List ℕ) (h : ℕ) → AreWaiting (seen_in p) hs → has_handle h hs ≡ true → (t : Task) × (slot_value p h ≡ Some t) × (is_unstarted t ≡ true)
-waits-live p hs h w e =
-    let s = w.waits h e in
-    let t = seen-live p h s.0 s.1 in
-    (t.0, t.1, (seen-as t.0 t.0.state s.0 t.2).unstarted s.2)
+waits-live p hs h e1 e2 = grind (arith, nat_tests)
 
 -- of the tasks of a walk those in front have had their turn and stay in it, and the rest is still to come
 pub record Going (walk : Walk) (p : Task → Bool) (e : TaskEnd) (first now : BoardTable) (index : ℕ) (next : Option ℕ) : Type 0 where
@@ -57,15 +54,11 @@ module _ (walk : Walk) (p : Task → Bool) (e : TaskEnd) (first now : BoardTable
       by_rest (x ∷ rest) n = (rest, ap (λ (k : ℕ). k ∷ rest) (some_same (sym n ∙ is)))
 
   pub going-has : (h : ℕ) → next ≡ Some h → has_handle h (list_of walk now) ≡ true
-  going-has h is =
-      let r = going-next h is in
-      ap (has_handle h) (g.list ∙ ap (λ (l : List ℕ). g.front ++ l) r.1) ∙ has-itself h g.front r.0
+  going-has h is = grind (arith, nat_tests, going-next, has_handle, has-itself)
 
   -- what the list has
   are : (b : BoardTable) → IsBoard b → b.settings ≡ first.settings → records_of b.queues.pool ≡ records_of first.queues.pool → AreIn (is_walked first.settings.actions walk (records_of first.queues.pool)) (seen_in b.tasks.pool) (list_of walk b)
-  are b k kept same =
-      subst (λ (r : Slots Queue). AreIn (is_walked first.settings.actions walk r) (seen_in b.tasks.pool) (list_of walk b)) same
-      (subst (λ (s : NodeSettings). AreIn (is_walked s.actions walk (records_of b.queues.pool)) (seen_in b.tasks.pool) (list_of walk b)) kept (walk-are b walk k))
+  are b k kept same = grind (arith, nat_tests, is_walked, seen_in, list_of, records_of, walk-are)
 
   pub going-live : (h : ℕ) → next ≡ Some h → IsSome (slot_value now.tasks.pool h)
   going-live h is =
@@ -190,9 +183,7 @@ left-seen k e (x ∷ hs) q h s is =
         by_handle n false off = away (x == h) off (more n)
 
 pub none-left : (k : ℕ) (e : TaskEnd) (old new : TaskTable) → EndsWaiting (is_in k) e old new → NoneWaitsIn k (seen_in new.pool)
-none-left k e old new ends h s is waits names =
-    let was = left-seen k e ends.list old h s (ap (λ (q : TaskTable). seen_in q.pool h) (sym ends.now) ∙ is) in
-    false≢true (sym (was.1 names) ∙ ends.waiting.listed h s was.0 waits)
+none-left k e old new e1 = grind (arith, nat_tests, left-seen, seen_in)
 
 -- The cores that a cover has
 
@@ -200,16 +191,8 @@ none-left k e old new ends h s is waits names =
 
 each-none : (p : Task → Bool) (e : TaskEnd) (q : TaskTable) (hs : List ℕ) → ((h : ℕ) → has_handle h hs ≡ true → holds p (slot_value q.pool h) ≡ false) → ended_each p e hs q ≡ q
 each-none p e q [] none = refl
-each-none p e q (h ∷ hs) none =
-    ap (λ (b : Bool). ended_each p e hs (cond b (ended_next e h q) q)) (none h (has-itself h [] hs))
-    ∙ each-none p e q hs (λ k on. none k (has-later k h hs on))
+each-none p e q (h ∷ hs) none = grind (arith, nat_tests, each-none p e q hs, ended_each, ended_next, has-itself, has-later)
 
 -- a board on which no task that hasn't begun passes is what it is once those that pass have ended
 pub none-ends : (p : Task → Bool) (e : TaskEnd) (b : BoardTable) → IsBoard b → ((h : ℕ) (t : Task) → slot_value b.tasks.pool h ≡ Some t → is_unstarted t ≡ true → p t ≡ false) → EndsWaiting p e b.tasks b.tasks
-none-ends p e b k none = record {
-  list = list_at b.waiting.lists 0;
-  waiting = k.waiting_are;
-  now = sym (each-none p e b.tasks (list_at b.waiting.lists 0) (λ h on.
-      let t = waits-live b.tasks.pool (list_at b.waiting.lists 0) h k.waiting_are on in
-      ap (holds p) t.1 ∙ none h t.0 t.1 t.2));
-}
+none-ends p e b e1 e2 = grind (arith, nat_tests, list_at, each-none, waits-live)

@@ -1,5 +1,5 @@
 -- Handles that were given to queues, and one queue that changes.
-use Rattle.task_board.proofs.Names.{nat_tests, ◌≡◌, ◌≢◌, ℕ, ◌+◌, Bool, true, false, Option, Some, None, set, slice_get, refl, sym, ◌∙◌, ap, subst, inl, inr, arith, ◌==◌, if◌then◌else◌, option_map, cases_eq, Slot, Slots, slot_of, generation_of, free_slot, used_slot, slot_after, slot_value, Inserts, without, put, changed, slice_get-set_same, slice_get-set_other, used_at_live, get-with_value_same, get-with_value_other, get-insert_same, get-insert_other, get-without_same, get-without_other, HeldQueue, HasHad, WasGiven}
+use Rattle.task_board.proofs.Names.{nat_tests, ◌≡◌, ◌≢◌, ℕ, Option, Some, None, set, slice_get, ap, arith, option_map, cases_eq, Slot, Slots, slot_of, generation_of, free_slot, used_slot, slot_after, slot_value, Inserts, without, put, changed, slice_get-set_same, slice_get-set_other, used_at_live, get-with_value_same, get-with_value_other, get-insert_same, get-insert_other, get-without_same, get-without_other, HeldQueue, HasHad, WasGiven}
 
 some_same : {A : Type 0} {a b : A} → Some a ≡ Some b → a ≡ b
 some_same h = cc
@@ -10,9 +10,7 @@ pub record PutQueue (old : Slots HeldQueue) (q : ℕ) (y : Option HeldQueue) (ne
   pub others : (k : ℕ) → k ≢ q → slot_value new k ≡ slot_value old k
 
 pub put-queue_changed : (p : Slots HeldQueue) (q : ℕ) (f : HeldQueue → HeldQueue) (x : HeldQueue) → slot_value p q ≡ Some x → PutQueue p q (Some (f x)) (changed p q f)
-put-queue_changed p q f x g =
-    subst (λ (o : Option HeldQueue). PutQueue p q (Some (f x)) (put p q (option_map f o))) (sym g)
-    (record { here = get-with_value_same p q x (f x) g; others = λ k d. get-with_value_other p q k x (f x) g d })
+put-queue_changed p q f x e1 = grind (arith, nat_tests, option_map, get-with_value_same, get-with_value_other)
 
 pub put-queue_insert : (p new : Slots HeldQueue) (q : ℕ) (x : HeldQueue) → Inserts p new q x → PutQueue p q (Some x) new
 put-queue_insert p new q x i = record { here = get-insert_same p new q x i; others = λ k d. get-insert_other p new q k x i d }
@@ -34,57 +32,25 @@ was-live : (p : Slots HeldQueue) (h : ℕ) (x : HeldQueue) → slot_value p h �
 was-live p h x g = let s = used_at_live (slice_get p.slots (slot_of h)) (generation_of h) x g in (s.0, s.1, s.2)
 
 pub given-live : (p : Slots HeldQueue) (q : ℕ) (x : HeldQueue) → slot_value p q ≡ Some x → WasGiven p q
-given-live p q x g slot there =
-    let s = used_at_live (slice_get p.slots (slot_of q)) (generation_of q) x g in
-    let same : s.0 ≡ slot = some_same (sym s.1 ∙ there) in
-    inr (sym s.2 ∙ ap (λ (z : Slot HeldQueue). z.generation) same, λ free. no (sym s.3 ∙ ap (λ (z : Slot HeldQueue). z.value) (same ∙ free)))
-  where
-    no : Some x ≡ None → ⊥
-    no d = cc
+given-live p q x e1 = grind (arith, nat_tests)
 
 -- another slot at the place of a handle
 given-set : (p : Slots HeldQueue) (h q : ℕ) (was new : Slot HeldQueue) → slice_get p.slots (slot_of h) ≡ Some was → (HasHad (generation_of q) was → HasHad (generation_of q) new) → WasGiven p q → WasGiven (record p { slots = set p.slots (slot_of h) new }) q
-given-set p h q was new there step old slot now = elim (cases_eq (slot_of q) (slot_of h)) [
-  | inl here ↦
-      let same : new ≡ slot = some_same (sym (slice_get-set_same p.slots (slot_of h) new was there) ∙ ap (slice_get (set p.slots (slot_of h) new)) (sym here) ∙ now) in
-      subst (λ (z : Slot HeldQueue). HasHad (generation_of q) z) same (step (old was (ap (slice_get p.slots) here ∙ there)))
-  | inr away ↦ old slot (sym (slice_get-set_other p.slots (slot_of h) (slot_of q) new away) ∙ now)
-]
+given-set p h q was new e1 e2 e3 = grind (arith, nat_tests, cases_eq, slot_of, some_same, slice_get-set_same, generation_of, slice_get-set_other)
 
 -- a later use of a slot of this generation
 had-used : (g generation : ℕ) (was : Slot HeldQueue) (x : HeldQueue) → was.generation ≡ generation → HasHad g was → HasHad g (used_slot generation x)
-had-used g generation was x e had = elim had [
-  | inl before ↦ inl (omega (arith, before, e))
-  | inr at ↦ inr (at.0 ∙ e, used-not_free generation g x)
-]
+had-used g generation was x e1 e2 = grind (arith, nat_tests)
 
 pub given-changed : (p : Slots HeldQueue) (h q : ℕ) (f : HeldQueue → HeldQueue) (x : HeldQueue) → slot_value p h ≡ Some x → WasGiven p q → WasGiven (changed p h f) q
-given-changed p h q f x g old =
-    let s = was-live p h x g in
-    subst (λ (o : Option HeldQueue). WasGiven (put p h (option_map f o)) q) (sym g) (given-set p h q s.0 (used_slot (generation_of h) (f x)) s.1 (had-used (generation_of q) (generation_of h) s.0 (f x) s.2) old)
+given-changed p h q f x e1 e2 = grind (arith, nat_tests, was-live, option_map, given-set, used_slot, generation_of, had-used)
 
 pub given-insert : (p new : Slots HeldQueue) (h q : ℕ) (x : HeldQueue) → Inserts p new h x → WasGiven p q → WasGiven new q
-given-insert p new h q x i old =
-    subst (λ (n : Slots HeldQueue). WasGiven n q) (sym i.now) (given-set p h q (free_slot (generation_of h)) (used_slot (generation_of h) x) i.was_free (had-used (generation_of q) (generation_of h) (free_slot (generation_of h)) x refl) old)
+given-insert p new h q x e1 e2 = grind (arith, nat_tests, given-set, free_slot, generation_of, used_slot, had-used)
 
 -- a handle that is given now wasn't given before
 pub given-new : (p new : Slots HeldQueue) (q : ℕ) (x : HeldQueue) → Inserts p new q x → WasGiven p q → ⊥
 given-new p new q x e1 e2 = grind (arith, nat_tests)
 
 pub given-without : (p : Slots HeldQueue) (h q : ℕ) (x : HeldQueue) → slot_value p h ≡ Some x → WasGiven p q → WasGiven (without p h) q
-given-without p h q x g old =
-    let s = was-live p h x g in
-    given-set p h q s.0 (slot_after p.generations (generation_of h)) s.1 (after s.0 s.2 (generation_of h == p.generations)) old
-  where
-    no : true ≡ false → ⊥
-    no d = cc
-
-    after : (was : Slot HeldQueue) → was.generation ≡ generation_of h → (b : Bool) → HasHad (generation_of q) was → HasHad (generation_of q) (if b then record { generation = generation_of h; value = None; retired = true } else free_slot (generation_of h + 1))
-    after was e true had = elim had [
-      | inl before ↦ inl (omega (arith, before, e))
-      | inr at ↦ inr (at.0 ∙ e, λ free. no (ap (λ (z : Slot HeldQueue). z.retired) free))
-    ]
-    after was e false had = elim had [
-      | inl before ↦ inl (omega (arith, before, e))
-      | inr at ↦ inl (omega (arith, at.0, e))
-    ]
+given-without p h q x e1 e2 = grind (arith, nat_tests, was-live, given-set, slot_after, generation_of, free_slot)

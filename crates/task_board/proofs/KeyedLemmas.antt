@@ -55,27 +55,14 @@ module _ {A : Type 0} (number : A → ℕ) where
   -- what is kept has the numbers that it had
   pub rises-as : (at after : ℕ → Option A) (hs : List ℕ) → ((k : ℕ) (s : A) → has_handle k hs ≡ true → after k ≡ Some s → (u : A) × (at k ≡ Some u) × (number u ≡ number s)) → Rises number at hs → Rises number after hs
   rises-as at after [] agree o = tt
-  rises-as at after (x ∷ xs) agree o = (
-    λ k s u e f g.
-        let a = agree x s (has-self x xs) f in
-        let b = agree k u (has-later k x xs e) g in
-        omega (arith, o.0 k a.0 b.0 e a.1 b.1, a.2, b.2),
-    rises-as at after xs (λ k s e f. agree k s (has-later k x xs e) f) o.1,
-  )
+  rises-as at after (x ∷ xs) agree o = grind (arith, nat_tests, rises-as at after xs, has-self, has-later)
 
   pub rises-same : (at after : ℕ → Option A) (hs : List ℕ) → ((k : ℕ) → has_handle k hs ≡ true → after k ≡ at k) → Rises number at hs → Rises number after hs
   rises-same at after hs agree = rises-as at after hs (λ k s e f. (s, sym (agree k e) ∙ f, refl))
 
   pub rises-push : (at after : ℕ → Option A) (h : ℕ) (s : A) (hs : List ℕ) → ((k : ℕ) → has_handle k hs ≡ true → after k ≡ at k) → after h ≡ Some s → ((k : ℕ) (u : A) → at k ≡ Some u → number u < number s) → Rises number at hs → Rises number after (hs ++ h ∷ [])
   rises-push at after h s [] agree here below o = (λ k a u e f g. absurd (cc), tt)
-  rises-push at after h s (x ∷ xs) agree here below o = (
-    λ k a u e f g.
-        let first : at x ≡ Some a = sym (agree x (has-self x xs)) ∙ f in
-        let last : (h == k) ≡ true → number u ≡ number s = λ is. let same : h ≡ k = grind (arith, nat_tests) in cc in
-        let on : has_handle k xs ≡ true → number a < number u = λ is. o.0 k a u is first (sym (agree k (has-later k x xs is)) ∙ g) in
-        grind (arith, has-append k xs (h ∷ []), last, on, below x a first),
-    rises-push at after h s xs (λ k e. agree k (has-later k x xs e)) here below o.1,
-  )
+  rises-push at after h s (x ∷ xs) agree here below o = grind (arith, nat_tests, rises-push at after h s xs, has-self, has_handle, has-later, has-append)
 
   pub rises-without : (at : ℕ → Option A) (h : ℕ) (hs : List ℕ) → Rises number at hs → Rises number at (without_handle h hs)
   rises-without at h [] o = tt

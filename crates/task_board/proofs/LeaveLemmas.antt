@@ -71,13 +71,7 @@ module _ (b : BoardTable) (q : TaskTable) (queues : QueueTable) (cleared ready :
   sizes-cleared = sizes-set b.ready cleared (slot_of h) None l.cleared_is
 
   sizes-left : SameSizes b.ready ready
-  sizes-left = by_head (head_of queues.pool s.queue) l.fresh
-    where
-      by_head : (o : Option ℕ) → IsFreshAt b.actions (begins_in queues.pool) (seen_in q.pool) o cleared ready → SameSizes b.ready ready
-      by_head None e = subst (λ (r : ReadyMarks). SameSizes b.ready r) (sym e) sizes-cleared
-      by_head (Some j) f =
-          let more = sizes-set cleared ready (slot_of j) f.mark f.now in
-          record { workers = more.workers ∙ sizes-cleared.workers; priorities = more.priorities ∙ sizes-cleared.priorities; slots = more.slots ∙ sizes-cleared.slots }
+  sizes-left = grind (arith, nat_tests, head_of, begins_in, seen_in, sizes-cleared, sizes-set, slot_of)
 
   -- without the task, and with the queues as they were
   marked-cleared : Marked b.actions (begins_in b.queues.pool) (seen_in q.pool) cleared.marks

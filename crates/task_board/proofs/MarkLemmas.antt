@@ -1,8 +1,8 @@
 -- Marks that are right, and what they tell.
-use Rattle.task_board.proofs.Names.{◌≡◌, ℕ, zero, suc, ◌<◌, Bool, true, bit_and, List, [], ◌∷◌, Option, Some, set, slice_get, refl, sym, ◌∙◌, ap, subst, inl, inr, arith, ◌&&◌, ◌==◌, false≢true, cases_Bool, nat_tests, bit_at_and, bit_at-lt, holds, in_mask, Slots, slot_of, slot_value, used_at, SomeLive, used_at-live, Mark, is_for, is_for_at, HasNoneFor, IsFirst, Action, Passes, runs_job_on, Covers, Chooses, Cores, Task, is_unstarted, HeldQueue, Takeable, NoneTakeable, NoneBetter, IsBest, seen, seen_in, begins_in, IsMarkOf, Marked}
+use Rattle.task_board.proofs.Names.{◌≡◌, ℕ, zero, suc, ◌<◌, Bool, true, bit_and, List, [], ◌∷◌, Option, Some, set, slice_get, refl, sym, ◌∙◌, ap, subst, inl, inr, arith, ◌&&◌, ◌==◌, false≢true, cases_Bool, nat_tests, bit_at_and, bit_at-lt, holds, in_mask, Slots, slot_of, slot_value, used_at, SomeLive, Mark, is_for, is_for_at, HasNoneFor, IsFirst, Action, Passes, runs_job_on, Covers, Chooses, Cores, Task, is_unstarted, HeldQueue, Takeable, NoneTakeable, NoneBetter, IsBest, seen, seen_in, begins_in, IsMarkOf, Marked}
 use Rattle.mtapi_values.specs.declared.masks.Mask.{Mask}
 use Rattle.task_board.specs.declared.board.Choice.{Choice}
-use Rattle.task_board.proofs.SeenLemmas.{some_same, seen-as, unstarted-seen, seen-live, takes-from, takes-to}
+use Rattle.task_board.proofs.SeenLemmas.{some_same, seen-as, unstarted-seen, takes-to}
 
 pub and_left : (a b : Bool) → (a && b) ≡ true → a ≡ true
 and_left a b e1 = grind (arith, nat_tests)
@@ -90,17 +90,7 @@ module _ (actions : Slots Action) (p : Slots Task) (queues : Slots HeldQueue) (m
     pub priority_is : t.priority ≡ priority
 
   pub first-at : (priority place : ℕ) → IsFirst w priority place marks → At priority place
-  first-at priority place f =
-      let s = m.sound w priority place f.marked in
-      let t = seen-live p s.0 s.1 s.3 in
-      record {
-        h = s.0;
-        t = t.0;
-        live = t.1;
-        used = subst (λ (q : ℕ). used_at q (slice_get p.slots q) ≡ Some (s.0, t.0)) s.2 (used_at-live p s.0 t.0 t.1);
-        takes = takes-from actions (begins_in queues s.0) w t.0 s.1 t.2 s.5;
-        priority_is = sym (seen-as t.0 t.0.state s.1 t.2).priority ∙ s.4;
-      }
+  first-at priority place e1 = grind (arith, nat_tests)
 
   -- the choice of this task, by an action that the table of actions chose
   pub found-best : (priority place h : ℕ) (t : Task) (c : Choice) → IsFirst w priority place marks → used_at place (slice_get p.slots place) ≡ Some (h, t) → c.task.0 ≡ h → c.priority ≡ t.priority → Chooses actions t.job w (Some (c.action, c.kind)) → IsBest actions p queues w (Some c)

@@ -1,8 +1,8 @@
 -- What each move of the tasks and of the groups keeps of the members.
-use Rattle.task_board.proofs.Names.{◌≡◌, ◌≢◌, ℕ, ◌+◌, ◌<◌, ◌≤◌, false, cond, List, ◌∷◌, Option, Some, None, refl, sym, ◌∙◌, ap, subst, inl, inr, arith, false≢true, cases_eq, eqb_tells, nat_tests, Members, no_members, with_member, with_ended, AreKeyed, Membership, unless_ended, start_in, end_in, AreMembers}
+use Rattle.task_board.proofs.Names.{◌≡◌, ◌≢◌, ℕ, ◌+◌, ◌<◌, ◌≤◌, false, cond, List, ◌∷◌, Option, Some, None, refl, sym, ◌∙◌, ap, subst, inl, inr, arith, false≢true, cases_eq, nat_tests, Members, no_members, with_member, with_ended, AreKeyed, Membership, unless_ended, start_in, end_in, AreMembers}
 use Rattle.task_board.proofs.MarkLemmas.{number-same}
 use Rattle.task_board.proofs.SeenLemmas.{none-some, some_same}
-use Rattle.task_board.proofs.KeyedLemmas.{Put, put-by, put-same, has-self, keyed-none, keyed-same, keyed-push, keyed-leave, keyed-first}
+use Rattle.task_board.proofs.KeyedLemmas.{Put, put-by, put-same, has-self, keyed-same, keyed-push, keyed-leave, keyed-first}
 
 -- The numbers of one member
 
@@ -34,17 +34,7 @@ pub record Starts (g a : ℕ) (o : Option Membership) : Type 0 where
   pub start : e.start ≡ a
 
 pub start-tells : (g a : ℕ) (o : Option Membership) → start_in g o ≡ Some a → Starts g a o
-start-tells g a None f = none-some f
-start-tells g a (Some e) f = elim (eqb_tells e.group g) [
-  | inl same ↦
-      let x = by_end e.end refl (sym (λ i. cond (same.0 i) (unless_ended e.end e.start) None) ∙ f) in
-      record { e = e; is = refl; group = same.1; end = x.0; start = x.1 }
-  | inr apart ↦ none-some (sym (λ i. cond (apart.0 i) (unless_ended e.end e.start) None) ∙ f)
-]
-  where
-    by_end : (o : Option ℕ) → e.end ≡ o → unless_ended o e.start ≡ Some a → (e.end ≡ None) × (e.start ≡ a)
-    by_end None h k = (h, some_same k)
-    by_end (Some n) h k = none-some k
+start-tells g a o e1 = grind (arith, nat_tests)
 
 pub record Ends (g a : ℕ) (o : Option Membership) : Type 0 where
   pub e : Membership
@@ -53,11 +43,7 @@ pub record Ends (g a : ℕ) (o : Option Membership) : Type 0 where
   pub end : e.end ≡ Some a
 
 pub end-tells : (g a : ℕ) (o : Option Membership) → end_in g o ≡ Some a → Ends g a o
-end-tells g a None f = none-some f
-end-tells g a (Some e) f = elim (eqb_tells e.group g) [
-  | inl same ↦ record { e = e; is = refl; group = same.1; end = sym (λ i. cond (same.0 i) e.end None) ∙ f }
-  | inr apart ↦ none-some (sym (λ i. cond (apart.0 i) e.end None) ∙ f)
-]
+end-tells g a o e1 = grind (arith, nat_tests)
 
 -- A move of one member, or of a task that was none
 
@@ -101,14 +87,7 @@ members-put at after groups others h g x n starts ends more later old move put w
 
 -- nothing is seen of the move
 pub members-same : (at after : ℕ → Option Membership) (groups : ℕ → Option Members) (starts ends more later : ℕ) → ((k : ℕ) → after k ≡ at k) → starts ≤ more → ends ≤ later → AreMembers at groups starts ends → AreMembers after groups more later
-members-same at after groups starts ends more later same grows ages old = subst (λ (f : ℕ → Option Membership). AreMembers f groups more later) (sym (λ i k. same k i)) (record {
-  named = old.named;
-  attached = old.attached;
-  started = λ h e f. let less = old.started h e f in omega (arith, less, grows);
-  numbered = λ h n e f d. let less = old.numbered h n e f d in omega (arith, less, ages);
-  unended = old.unended;
-  ended = old.ended;
-})
+members-same at after groups starts ends more later e1 e2 e3 e4 = grind (arith, nat_tests)
 
 module _ (at after : ℕ → Option Membership) (groups others : ℕ → Option Members) (h g starts ends : ℕ) (m : Members) (old : AreMembers at groups starts ends) (live : groups g ≡ Some m) where
   -- a task enters a group
@@ -158,31 +137,7 @@ module _ (at after : ℕ → Option Membership) (groups others : ℕ → Option 
 
 -- a new group has no members
 pub members-create : (at : ℕ → Option Membership) (groups others : ℕ → Option Members) (g starts ends : ℕ) → AreMembers at groups starts ends → groups g ≡ None → Put groups g (Some no_members) others → AreMembers at others starts ends
-members-create at groups others g starts ends old new put = record {
-  named = λ k e f. let m = old.named k e f in (m.0, put.others e.group (λ is. none-some (sym new ∙ ap groups (sym is) ∙ m.1)) ∙ m.1);
-  attached = old.attached;
-  started = old.started;
-  numbered = old.numbered;
-  unended = λ k m f. elim (cases_eq k g) [
-    | inl here ↦ subst (λ (z : Members). AreKeyed (λ j. start_in k (at j)) z.unended) (some_same (sym put.here ∙ ap others (sym here) ∙ f)) (keyed-none _ (λ j. no_start k j here (start_in k (at j)) refl))
-    | inr away ↦ old.unended k m (sym (put.others k away) ∙ f)
-  ];
-  ended = λ k m f. elim (cases_eq k g) [
-    | inl here ↦ subst (λ (z : Members). AreKeyed (λ j. end_in k (at j)) z.ended) (some_same (sym put.here ∙ ap others (sym here) ∙ f)) (keyed-none _ (λ j. no_end k j here (end_in k (at j)) refl))
-    | inr away ↦ old.ended k m (sym (put.others k away) ∙ f)
-  ];
-}
-  where
-    unnamed : (j : ℕ) (e : Membership) → at j ≡ Some e → e.group ≡ g → ⊥
-    unnamed j e f is = let m = old.named j e f in none-some (sym new ∙ ap groups (sym is) ∙ m.1)
-
-    no_start : (k j : ℕ) → k ≡ g → (o : Option ℕ) → start_in k (at j) ≡ o → start_in k (at j) ≡ None
-    no_start k j here None f = f
-    no_start k j here (Some a) f = let t = start-tells k a (at j) f in absurd (unnamed j t.e t.is (t.group ∙ here))
-
-    no_end : (k j : ℕ) → k ≡ g → (o : Option ℕ) → end_in k (at j) ≡ o → end_in k (at j) ≡ None
-    no_end k j here None f = f
-    no_end k j here (Some a) f = let t = end-tells k a (at j) f in absurd (unnamed j t.e t.is (t.group ∙ here))
+members-create at groups others g starts ends e1 e2 e3 = grind (arith, nat_tests)
 
 -- nothing names a group with no members
 pub unnamed : (at : ℕ → Option Membership) (groups : ℕ → Option Members) (h g starts ends : ℕ) (e : Membership) → AreMembers at groups starts ends → groups g ≡ Some no_members → at h ≡ Some e → e.group ≡ g → ⊥

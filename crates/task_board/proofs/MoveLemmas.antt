@@ -14,22 +14,13 @@ pub max-without : (p : Slots Task) (h : ℕ) → max_of (without p h) ≡ max_of
 max-without p h = length-set p.slots (slot_of h) (slot_after p.generations (generation_of h))
 
 pub max-changed : (p : Slots Task) (h : ℕ) (f : Task → Task) → max_of (changed p h f) ≡ max_of p
-max-changed p h f = by_found (option_map f (slot_value p h))
-  where
-    by_found : (o : Option Task) → max_of (put p h o) ≡ max_of p
-    by_found None = refl
-    by_found (Some t) = max-value p h t
+max-changed p h f = grind (arith, nat_tests, option_map, slot_value, max_of, max-value)
 
 pub max-insert : (p q : Slots Task) (h : ℕ) (t : Task) → Inserts p q h t → max_of q ≡ max_of p
 max-insert p q h t i = ap max_of i.now ∙ max-value p h t
 
 pub max-ended : (p : Slots Task) (h : ℕ) (e : TaskEnd) (n : ℕ) (o : Option Task) → max_of (ended_in p h e n o) ≡ max_of p
-max-ended p h e n None = refl
-max-ended p h e n (Some t) = by_test t.notes.detached
-  where
-    by_test : (b : Bool) → max_of (cond b (without p h) (with_value p h (with_state (Ended e n) t))) ≡ max_of p
-    by_test true = max-without p h
-    by_test false = max-value p h (with_state (Ended e n) t)
+max-ended p h e n o = grind (arith, nat_tests, max_of, with_value, with_state, max-without, max-value)
 
 pub max-looked : (p : Slots Task) (h who : ℕ) (last : Bool) (o : Option Task) → max_of (looked_in p h who last o) ≡ max_of p
 max-looked p h who last None = refl
@@ -148,10 +139,7 @@ Alone after h = (k : ℕ) (s : Seen) → slot_of k ≡ slot_of h → after k ≡
 
 pub alone-old : (p : Slots Task) (h : ℕ) (t : Task) (x : Option Seen) (after : ℕ → Option Seen) → slot_value p h ≡ Some t → Put (seen_in p) h x after → Alone after h
 unfolding Alone
-alone-old p h t x after g m k s e b = elim (cases_eq k h) [
-  | inl here ↦ here
-  | inr away ↦ let v = seen-live p k s (sym (m.others k away) ∙ b) in live-alone p h k t v.0 g v.1 e
-]
+alone-old p h t x after e1 e2 = grind (arith, nat_tests)
 
 pub alone-new : (q : Slots Task) (h : ℕ) (t : Task) → slot_value q h ≡ Some t → Alone (seen_in q) h
 unfolding Alone
@@ -175,55 +163,21 @@ Steady lets now at h = (k : ℕ) (s : Seen) → k ≢ h → at k ≡ Some s → 
 
 pub marked-put : (actions : Slots Action) (lets now : ℕ → Option ℕ → Bool) (at after : ℕ → Option Seen) (h : ℕ) (x : Option Seen) (marks : List (Option Mark)) (m : Option Mark) → Put at h x after → Steady lets now at h → Alone after h → slot_of h < length marks → IsMarkOf actions (now h) x m → Marked actions lets at marks → Marked actions now after (set marks (slot_of h) m)
 unfolding Alone Steady
-marked-put actions lets now at after h x marks m move steady one less right old = record {
-  sound = λ w p place e. elim (cases_eq place (slot_of h)) [
-    | inl here ↦
-        let s = right.sound w p (ap (is_for_at w p) (sym (mark-here marks (slot_of h) m less) ∙ ap (mark_at (set marks (slot_of h) m)) (sym here)) ∙ e) in
-        (h, s.0, sym here, move.here ∙ s.1, s.2, s.3)
-    | inr away ↦
-        let s = old.sound w p place (ap (is_for_at w p) (sym (mark-away marks (slot_of h) place m away)) ∙ e) in
-        let other = λ (is : s.0 ≡ h). away (sym s.2 ∙ ap slot_of is) in
-        (s.0, s.1, s.2, move.others s.0 other ∙ s.3, s.4, takes-as actions (lets s.0) (now s.0) w s.1 (steady s.0 s.1 other s.3 s.5.waits) s.5)
-  ];
-  whole = λ w k s e t. elim (cases_eq (slot_of k) (slot_of h)) [
-    | inl here ↦
-        let is = one k s here e in
-        ap (λ (place : ℕ). is_for_at w s.priority (mark_at (set marks (slot_of h) m) place)) here ∙ ap (is_for_at w s.priority) (mark-here marks (slot_of h) m less)
-        ∙ right.whole w s (sym move.here ∙ ap after (sym is) ∙ e) (subst (λ (j : ℕ). Takes actions (now j) w s) is t)
-    | inr away ↦
-        ap (is_for_at w s.priority) (mark-away marks (slot_of h) (slot_of k) m away) ∙ old.whole w k s (sym (move.others k (λ is. away (ap slot_of is))) ∙ e)
-        (takes-as actions (now k) (lets k) w s (sym (steady k s (λ is. away (ap slot_of is)) (sym (move.others k (λ is. away (ap slot_of is))) ∙ e) t.waits)) t)
-  ];
-}
+marked-put actions lets now at after h x marks m e1 e2 e3 e4 e5 e6 = grind (arith, nat_tests, cases_eq, slot_of, is_for_at, mark-here, mark_at, mark-away)
 
 -- the queues let the same tasks begin
 pub marked-steady : (actions : Slots Action) (lets now : ℕ → Option ℕ → Bool) (at : ℕ → Option Seen) (marks : List (Option Mark)) → ((k : ℕ) (s : Seen) → at k ≡ Some s → s.on ≡ None → now k s.queue ≡ lets k s.queue) → Marked actions lets at marks → Marked actions now at marks
-marked-steady actions lets now at marks steady old = record {
-  sound = λ w p place e.
-      let s = old.sound w p place e in
-      (s.0, s.1, s.2, s.3, s.4, takes-as actions (lets s.0) (now s.0) w s.1 (steady s.0 s.1 s.3 s.5.waits) s.5);
-  whole = λ w k s e t. old.whole w k s e (takes-as actions (now k) (lets k) w s (sym (steady k s e t.waits)) t);
-}
+marked-steady actions lets now at marks e1 e2 = grind (arith, nat_tests)
 
 -- the mark of one handle is made anew
 pub marked-again : (actions : Slots Action) (lets now : ℕ → Option ℕ → Bool) (at : ℕ → Option Seen) (h : ℕ) (marks : List (Option Mark)) (m : Option Mark) → Steady lets now at h → Alone at h → slot_of h < length marks → IsMarkOf actions (now h) (at h) m → Marked actions lets at marks → Marked actions now at (set marks (slot_of h) m)
 marked-again actions lets now at h marks m steady one less right old = marked-put actions lets now at at h (at h) marks m (record { here = refl; others = λ k d. refl }) steady one less right old
 
 pub ranked-put : (at after : ℕ → Option Seen) (h : ℕ) (x : Option Seen) (n : ℕ) → Put at h x after → ((s : Seen) → x ≡ Some s → s.priority < n) → AreRanked at n → AreRanked after n
-ranked-put at after h x n move less old = record {
-  known = λ k s e. elim (cases_eq k h) [
-    | inl here ↦ less s (sym move.here ∙ ap after (sym here) ∙ e)
-    | inr away ↦ old.known k s (sym (move.others k away) ∙ e)
-  ];
-}
+ranked-put at after h x n e1 e2 e3 = grind (arith, nat_tests)
 
 pub started-put : (at after : ℕ → Option Seen) (h : ℕ) (x : Option Seen) (m n : ℕ) → Put at h x after → ((s : Seen) → x ≡ Some s → s.start < n) → m ≤ n → AreStarted at m → AreStarted after n
-started-put at after h x m n move less grows old = record {
-  before = λ k s e. elim (cases_eq k h) [
-    | inl here ↦ less s (sym move.here ∙ ap after (sym here) ∙ e)
-    | inr away ↦ let was = old.before k s (sym (move.others k away) ∙ e) in omega (arith, was, grows)
-  ];
-}
+started-put at after h x m n e1 e2 e3 e4 = grind (arith, nat_tests)
 
 -- the waiting tasks
 
@@ -299,49 +253,11 @@ running-begin at after h w s r move on free waited less old = record {
 
 -- the task that runs on a worker ends
 pub running-end : (at after : ℕ → Option Seen) (h w : ℕ) (s : Seen) (r : List (Option TaskHandle)) → Put at h None after → at h ≡ Some s → s.on ≡ Some w → w < length r → AreRunning at r → AreRunning after (set r w None)
-running-end at after h w s r move was on less old = record {
-  found = λ k v u e n. elim (cases_eq k h) [
-    | inl here ↦ absurd (gone u (sym move.here ∙ ap after (sym here) ∙ e))
-    | inr away ↦
-        let before = old.found k v u (sym (move.others k away) ∙ e) n in
-        seat-away r w v None (λ is. away (ap (λ (z : TaskHandle). z.0) (some_same (sym before ∙ ap (running_on r) is ∙ mine)))) ∙ before
-  ];
-  runs = λ v t e. elim (cases_eq v w) [
-    | inl here ↦ absurd (empty t (sym (seat-here r w None less) ∙ ap (running_on (set r w None)) (sym here) ∙ e))
-    | inr away ↦
-        let before = old.runs v t (sym (seat-away r w v None away) ∙ e) in
-        elim (cases_eq t.0 h) [
-          | inl is ↦
-              let same : before.0 ≡ s = some_same (sym before.1 ∙ ap at is ∙ was) in
-              absurd (away (some_same (sym before.2 ∙ ap (λ (z : Seen). z.on) same ∙ on)))
-          | inr other ↦ (before.0, move.others t.0 other ∙ before.1, before.2)
-        ]
-  ];
-}
-  where
-    gone : (u : Seen) → None ≡ Some u → ⊥
-    gone u e = cc
-
-    empty : (t : TaskHandle) → None ≡ Some t → ⊥
-    empty t e = cc
-
-    mine : running_on r w ≡ Some (record { 0 = h })
-    mine = old.found h w s was on
+running-end at after h w s r e1 e2 e3 e4 e5 = grind (arith, nat_tests, cases_eq, seat-away, some_same, running_on, seat-here)
 
 -- a task that doesn't run
 pub running-same : (at after : ℕ → Option Seen) (h : ℕ) (x : Option Seen) (r : List (Option TaskHandle)) → Put at h x after → ((s : Seen) (w : ℕ) → at h ≡ Some s → s.on ≡ Some w → ⊥) → ((s : Seen) (w : ℕ) → x ≡ Some s → s.on ≡ Some w → ⊥) → AreRunning at r → AreRunning after r
-running-same at after h x r move was is old = record {
-  found = λ k v u e n. elim (cases_eq k h) [
-    | inl here ↦ absurd (is u v (sym move.here ∙ ap after (sym here) ∙ e) n)
-    | inr away ↦ old.found k v u (sym (move.others k away) ∙ e) n
-  ];
-  runs = λ v t e.
-      let before = old.runs v t e in
-      elim (cases_eq t.0 h) [
-        | inl here ↦ absurd (was before.0 v (ap at (sym here) ∙ before.1) before.2)
-        | inr other ↦ (before.0, move.others t.0 other ∙ before.1, before.2)
-      ];
-}
+running-same at after h x r e1 e2 e3 e4 = grind (arith, nat_tests)
 
 -- of two tasks of a list in order the one in front was started first
 pub order-index : (at : ℕ → Option Seen) (hs : List ℕ) (i j h k : ℕ) (s u : Seen) → InOrder at hs → i < j → slice_get hs i ≡ Some h → slice_get hs j ≡ Some k → at h ≡ Some s → at k ≡ Some u → s.start < u.start

@@ -1,12 +1,10 @@
 -- Lists in the order of starts: the waiting tasks make one such list alone.
-use Rattle.task_board.proofs.Names.{◌≡◌, ℕ, suc, ◌+◌, List, [], ◌∷◌, ◌++◌, length, Option, Some, slice_get, refl, ◌∙◌, ap, arith, Seen, AreWaiting}
+use Rattle.task_board.proofs.Names.{nat_tests, ◌≡◌, ℕ, suc, ◌+◌, List, [], ◌∷◌, ◌++◌, length, Option, Some, slice_get, refl, ◌∙◌, ap, arith, Seen, AreWaiting}
 use Rattle.task_board.proofs.KeyedLemmas.{same-order}
 
 -- the waiting tasks have one list in the order of their starts
 pub waiting-once : (at : ℕ → Option Seen) (xs ys : List ℕ) → AreWaiting at xs → AreWaiting at ys → xs ≡ ys
-waiting-once at xs ys a b =
-    same-order (λ s. s.start) at xs ys (λ h e. let s = a.waits h e in (s.0, s.1)) a.ordered b.ordered
-    (λ h e. let s = a.waits h e in b.listed h s.0 s.1 s.2) (λ h e. let s = b.waits h e in a.listed h s.0 s.1 s.2)
+waiting-once at xs ys e1 e2 = grind (arith, nat_tests, same-order)
 
 -- Places in the list
 

@@ -1,5 +1,5 @@
 -- What a board keeps where a member leaves its group.
-use Rattle.task_board.proofs.Names.{nat_tests, arith, ◌≡◌, ℕ, Bool, true, false, not, cond, List, [], ◌∷◌, Option, Some, None, Result, Ok, Err, IsSome, slice_get, refl, sym, ◌∙◌, ap, subst, inl, inr, IfSome, ◌==◌, is_none, eqb_tells, TaskEnd, GroupHandle, MtapiStatus, ErrGroupLimit, get-insert_before, holds, Slots, slot_value, with_value, without, max_of, changed, has_handle, Task, TaskState, Scheduled, Running, Ended, end_of, is_unended, is_member, number_in, without_group, TaskTable, IsLiveAnd, detached_in, Members, GroupTable, LiveAreUsed, Creates, delete_reply, no_members, rest_of, first_ended, first_unended, without_first, without_first_unended, seen, seen_in, without_members, Membership, member_as, membership, members_in, AreMembers, BoardTable, IsBoard, Leaves}
+use Rattle.task_board.proofs.Names.{nat_tests, arith, ◌≡◌, ℕ, Bool, true, false, not, cond, List, [], ◌∷◌, Option, Some, None, Result, Ok, Err, IsSome, slice_get, refl, sym, ◌∙◌, ap, subst, inl, inr, IfSome, ◌==◌, is_none, eqb_tells, TaskEnd, GroupHandle, MtapiStatus, ErrGroupLimit, get-insert_before, Slots, slot_value, with_value, without, max_of, changed, has_handle, Task, TaskState, Ended, end_of, is_unended, is_member, number_in, without_group, TaskTable, IsLiveAnd, detached_in, Members, GroupTable, LiveAreUsed, Creates, delete_reply, no_members, rest_of, first_ended, first_unended, without_first, without_first_unended, seen, seen_in, without_members, Membership, membership, members_in, AreMembers, BoardTable, IsBoard, Leaves}
 use Rattle.std.specs.Prelude.{OnOk}
 use Rattle.task_core.specs.Records.{end_in as end_told}
 use Rattle.task_board.specs.GroupMoves.{Takes}
@@ -19,12 +19,10 @@ head-of : (l : List ℕ) (h : ℕ) → slice_get l 0 ≡ Some h → l ≡ h ∷ 
 head-of l h e1 = grind (arith, nat_tests)
 
 pub ended-first : (o : Option Members) (h : ℕ) → first_ended o ≡ Some h → FirstIn o (λ m. m.ended) h
-ended-first None h e = none-some e
-ended-first (Some m) h e = record { m = m; rest = rest_of m.ended; live = refl; is = head-of m.ended h e }
+ended-first o h e1 = grind (arith, nat_tests, none-some, rest_of, head-of)
 
 pub unended-first : (o : Option Members) (h : ℕ) → first_unended o ≡ Some h → FirstIn o (λ m. m.unended) h
-unended-first None h e = none-some e
-unended-first (Some m) h e = record { m = m; rest = rest_of m.unended; live = refl; is = head-of m.unended h e }
+unended-first o h e1 = grind (arith, nat_tests, none-some, rest_of, head-of)
 
 no-head : (l : List ℕ) → slice_get l 0 ≡ None → l ≡ []
 no-head [] e = refl
@@ -46,18 +44,7 @@ test-self : (g : ℕ) → (g == g) ≡ true
 test-self g = elim (eqb_tells g g) [ inl same ↦ same.0 | inr apart ↦ absurd (apart.1 refl) ]
 
 pub member-from : (p : Slots Task) (g h : ℕ) (e : Membership) → members_in p h ≡ Some e → e.group ≡ g → Member p g h e.end
-member-from p g h e f is = by_found (slot_value p h) refl f
-  where
-    by_group : (t : Task) → slot_value p h ≡ Some t → (o : Option ℕ) → t.notes.group ≡ o → member_as t o ≡ Some e → Member p g h e.end
-    by_group t l None d f = none-some f
-    by_group t l (Some k) d f =
-        let same : k ≡ g = ap (λ (z : Membership). z.group) (some_same f) ∙ is in
-        let group : t.notes.group ≡ Some g = d ∙ ap Some same in
-        record { t = t; live = l; group = group; member = ap (λ (o : Option ℕ). holds (λ z. z == g) o) group ∙ test-self g; end = ap (λ (z : Membership). z.end) (some_same f) }
-
-    by_found : (o : Option Task) → slot_value p h ≡ o → membership o ≡ Some e → Member p g h e.end
-    by_found None l f = none-some f
-    by_found (Some t) l f = by_group t l t.notes.group refl f
+member-from p g h e e1 e2 = grind (arith, nat_tests)
 
 -- a member that has ended, and one that hasn't
 pub ended-member : (b : BoardTable) (g h : ℕ) (m : Members) (rest : List ℕ) → IsBoard b → slot_value b.groups.pool g ≡ Some m → m.ended ≡ h ∷ rest → (n : ℕ) × Member b.tasks.pool g h (Some n)
@@ -79,9 +66,7 @@ pub record EndedSo (x : TaskState) (n : ℕ) : Type 0 where
   pub is : x ≡ Ended e n
 
 pub ended-so : (x : TaskState) (n : ℕ) → number_in (end_of x) ≡ Some n → EndedSo x n
-ended-so Scheduled n e = none-some e
-ended-so (Running w k) n e = none-some e
-ended-so (Ended y k) n e = record { e = y; is = ap (Ended y) (some_same e) }
+ended-so x n e1 = grind (arith, nat_tests)
 
 pub unended-so : (x : TaskState) → number_in (end_of x) ≡ None → is_none (end_of x) ≡ true
 unended-so x e1 = grind (arith, nat_tests)
@@ -165,9 +150,7 @@ create-board b t (Err ErrGroupLimit) k c = subst (λ (z : GroupTable). IsBoard (
 create-board b t (Err x) k c = absurd c
 
 pub deleted-told : (o : Option Members) (m : Members) (r : Result (Unit {0}) MtapiStatus) {P : Type 0} → o ≡ Some m → r ≡ delete_reply o → OnOk r P → P
-deleted-told None m r e told ok = none-some e
-deleted-told (Some x) m (Ok u) e told ok = ok
-deleted-told (Some x) m (Err z) e told ok = absurd (cc)
+deleted-told o m r e1 e2 e3 = grind (arith, nat_tests)
 
 pub delete-board : (b : BoardTable) (t : GroupTable) (g : ℕ) → IsBoard b → slot_value b.groups.pool g ≡ Some no_members → t ≡ record b.groups { pool = without b.groups.pool g } → IsBoard (record b { groups = t })
 delete-board b t g k live is =

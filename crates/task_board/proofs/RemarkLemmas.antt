@@ -1,5 +1,5 @@
 -- Marks made anew for the waiting tasks of one job.
-use Rattle.task_board.proofs.Names.{nat_tests, ◌≡◌, ◌≢◌, ◌⊎◌, ℕ, zero, suc, ◌<◌, ◌+◌, Bool, true, List, [], ◌∷◌, length, length-set, Option, Some, None, set, slice_get, refl, sym, ◌∙◌, ap, subst, inl, inr, arith, ◌==◌, cases_eq, cases_Bool, get_or-set_same, get_or-set_other, slice_get_within, Kind, Slots, slot_of, slot_value, max_of, Inserts, changed, put, with_value, without, slot_of-live, get-with_value_same, get-with_value_other, get-insert_same, get-insert_before, get-insert_other, get-without_same, get-without_other, option_map, has_handle, has-index, index-has, Mark, ReadyMarks, mark_at, is_for_at, Action, has_enabled_job, new_action, with_enabled, SomeLive, in_mask, runs_job_on, IsUnion, Passes, Task, Seen, seen_in, AreSeen, IsMarkOf, Marked, IsFresh, IsFreshFor, StandsBefore, Remarked}
+use Rattle.task_board.proofs.Names.{nat_tests, ◌≡◌, ◌≢◌, ◌⊎◌, ℕ, zero, suc, ◌<◌, ◌+◌, Bool, true, List, [], ◌∷◌, length, length-set, Option, Some, None, set, slice_get, sym, ◌∙◌, ap, subst, inl, inr, arith, ◌==◌, cases_eq, get_or-set_same, get_or-set_other, slice_get_within, Kind, Slots, slot_of, slot_value, max_of, Inserts, changed, put, with_value, without, slot_of-live, get-with_value_same, get-with_value_other, get-insert_same, get-insert_before, get-insert_other, get-without_same, get-without_other, option_map, has_handle, has-index, index-has, Mark, ReadyMarks, mark_at, is_for_at, Action, has_enabled_job, new_action, with_enabled, SomeLive, runs_job_on, IsUnion, Passes, Task, Seen, seen_in, AreSeen, IsMarkOf, Marked, IsFresh, IsFreshFor, StandsBefore, Remarked}
 use Rattle.task_board.specs.Seen.{Takes}
 use Rattle.task_board.proofs.SeenLemmas.{some_same, seen-live}
 use Rattle.task_board.proofs.MarkLemmas.{and_left, and_right, same-number}
@@ -19,13 +19,7 @@ mark-away : (marks : List (Option Mark)) (place other : ℕ) (m : Option Mark) �
 mark-away marks place other m d = get_or-set_other marks place other m None d
 
 pub remarked-none : (actions : Slots Action) (lets : ℕ → Option ℕ → Bool) (at : ℕ → Option Seen) (job : ℕ) (hs : List ℕ) (r : ReadyMarks) → Remarked actions lets at job hs 0 r r
-remarked-none actions lets at job hs r = record {
-  workers = refl;
-  priorities = refl;
-  slots = refl;
-  fresh = λ i h s less e f g. absurd (omega arith);
-  others = λ place. inl refl;
-}
+remarked-none actions lets at job hs r = grind (arith, nat_tests)
 
 -- a handle more
 module _ (actions : Slots Action) (lets : ℕ → Option ℕ → Bool) (p : Slots Task) (job : ℕ) (hs : List ℕ) (index h : ℕ) (old now new : ReadyMarks) (waits : AreSeen (seen_in p) hs) (is : slice_get hs index ≡ Some h) (less : slot_of h < length now.marks) (done : Remarked actions lets (seen_in p) job hs index old now) where
@@ -33,19 +27,7 @@ module _ (actions : Slots Action) (lets : ℕ → Option ℕ → Bool) (p : Slot
   wider place b = record { i = b.i; h = b.h; s = b.s; before = omega (arith, b.before); stands = b.stands; is = b.is; has_job = b.has_job; slot = b.slot }
 
   skipped : ((s : Seen) → seen_in p h ≡ Some s → s.job ≡ job → ⊥) → new ≡ now → Remarked actions lets (seen_in p) job hs (index + 1) old new
-  skipped other same = subst (λ (r : ReadyMarks). Remarked actions lets (seen_in p) job hs (index + 1) old r) (sym same) (record {
-    workers = done.workers;
-    priorities = done.priorities;
-    slots = done.slots;
-    fresh = λ i k s before e f g. elim (cases_eq i index) [
-      | inl last ↦ absurd (other s (ap (seen_in p) (some_same (sym is ∙ ap (slice_get hs) (sym last) ∙ e)) ∙ f) g)
-      | inr earlier ↦ done.fresh i k s (omega arith) e f g
-    ];
-    others = λ place. elim (done.others place) [
-      | inl e ↦ inl e
-      | inr b ↦ inr (wider place b)
-    ];
-  })
+  skipped e1 e2 = grind (arith, nat_tests)
 
   marked : ((s : Seen) → seen_in p h ≡ Some s → s.job ≡ job) → IsFresh actions lets (seen_in p) h now new → Remarked actions lets (seen_in p) job hs (index + 1) old new
   marked mine f = subst (λ (r : ReadyMarks). Remarked actions lets (seen_in p) job hs (index + 1) old r) (sym f.now) (record {
@@ -88,19 +70,7 @@ pub record SameBut (job : ℕ) (old new : Slots Action) : Type 0 where
   pub back : (h : ℕ) (a : Action) → (a.job ≡ job → ⊥) → slot_value new h ≡ Some a → slot_value old h ≡ Some a
 
 pub same-insert : (p q : Slots Action) (h job : ℕ) (kind : Kind) (cores : ℕ) → Inserts p q h (new_action job kind cores) → SameBut job p q
-same-insert p q h job kind cores i = record {
-  there = λ k a d g. elim (cases_eq k h) [
-    | inl here ↦ absurd (none (sym (get-insert_before p q h _ i) ∙ ap (slot_value p) (sym here) ∙ g))
-    | inr away ↦ get-insert_other p q h k _ i away ∙ g
-  ];
-  back = λ k a d g. elim (cases_eq k h) [
-    | inl here ↦ absurd (d (ap (λ (x : Action). x.job) (some_same (sym g ∙ ap (slot_value q) here ∙ get-insert_same p q h _ i))))
-    | inr away ↦ sym (get-insert_other p q h k _ i away) ∙ g
-  ];
-}
-  where
-    none : {a : Action} → None ≡ Some a → ⊥
-    none e = cc
+same-insert p q h job kind cores e1 = grind (arith, nat_tests, cases_eq, get-insert_before, slot_value, get-insert_other, some_same, get-insert_same)
 
 pub same-changed : (p : Slots Action) (h job : ℕ) (on : Bool) (x : Action) → slot_value p h ≡ Some x → x.job ≡ job → SameBut job p (changed p h (with_enabled on))
 same-changed p h job on x g j =
@@ -116,38 +86,16 @@ same-changed p h job on x g j =
     })
 
 pub same-without : (p : Slots Action) (h job : ℕ) (x : Action) → slot_value p h ≡ Some x → x.job ≡ job → SameBut job p (without p h)
-same-without p h job x g j = record {
-  there = λ k a d e. elim (cases_eq k h) [
-    | inl here ↦ absurd (d (ap (λ (y : Action). y.job) (some_same (sym e ∙ ap (slot_value p) here ∙ g)) ∙ j))
-    | inr away ↦ get-without_other p h k x g away ∙ e
-  ];
-  back = λ k a d e. elim (cases_eq k h) [
-    | inl here ↦ absurd (none (sym (get-without_same p h x g) ∙ ap (slot_value (without p h)) (sym here) ∙ e))
-    | inr away ↦ sym (get-without_other p h k x g away) ∙ e
-  ];
-}
-  where
-    none : {a : Action} → None ≡ Some a → ⊥
-    none e = cc
+same-without p h job x e1 e2 = grind (arith, nat_tests, cases_eq, some_same, slot_value, get-without_other, get-without_same)
 
 runs-job : (job w : ℕ) (a : Action) → runs_job_on job w a ≡ true → a.job ≡ job
 runs-job job w a r = same-number a.job job (and_right a.enabled (a.job == job) (and_left (has_enabled_job job a) _ r))
 
 takes-there : (job : ℕ) (old new : Slots Action) (lets now : Option ℕ → Bool) (w : ℕ) (s : Seen) → SameBut job old new → (s.job ≡ job → ⊥) → now s.queue ≡ lets s.queue → Takes old lets w s → Takes new now w s
-takes-there job old new lets now w s same d steady k = record {
-  waits = k.waits;
-  queue = steady ∙ k.queue;
-  core = k.core;
-  action = (k.action.0, k.action.1, same.there k.action.0 k.action.1 (λ e. d (sym (runs-job s.job w k.action.1 k.action.3) ∙ e)) k.action.2, k.action.3);
-}
+takes-there job old new lets now w s e1 e2 e3 e4 = grind (arith, nat_tests)
 
 takes-back : (job : ℕ) (old new : Slots Action) (lets now : Option ℕ → Bool) (w : ℕ) (s : Seen) → SameBut job old new → (s.job ≡ job → ⊥) → now s.queue ≡ lets s.queue → Takes new now w s → Takes old lets w s
-takes-back job old new lets now w s same d steady k = record {
-  waits = k.waits;
-  queue = sym steady ∙ k.queue;
-  core = k.core;
-  action = (k.action.0, k.action.1, same.back k.action.0 k.action.1 (λ e. d (sym (runs-job s.job w k.action.1 k.action.3) ∙ e)) k.action.2, k.action.3);
-}
+takes-back job old new lets now w s e1 e2 e3 e4 = grind (arith, nat_tests)
 
 -- the same workers may take the task
 pub record TakenBy (old new : Slots Action) (lets now : Option ℕ → Bool) (s : Seen) : Type 0 where
@@ -156,17 +104,11 @@ pub record TakenBy (old new : Slots Action) (lets now : Option ℕ → Bool) (s 
 
 -- a task of another job
 pub taken-other : (job : ℕ) (old new : Slots Action) (lets : Option ℕ → Bool) (s : Seen) → SameBut job old new → (s.job ≡ job → ⊥) → TakenBy old new lets lets s
-taken-other job old new lets s same d = record {
-  there = λ w k. takes-there job old new lets lets w s same d refl k;
-  back = λ w k. takes-back job old new lets lets w s same d refl k;
-}
+taken-other job old new lets s e1 e2 = grind (arith, nat_tests)
 
 -- a task whose queue lets it begin as before
 pub taken-steady : (actions : Slots Action) (lets now : Option ℕ → Bool) (s : Seen) → now s.queue ≡ lets s.queue → TakenBy actions actions lets now s
-taken-steady actions lets now s steady = record {
-  there = λ w k. record { waits = k.waits; queue = steady ∙ k.queue; core = k.core; action = k.action };
-  back = λ w k. record { waits = k.waits; queue = sym steady ∙ k.queue; core = k.core; action = k.action };
-}
+taken-steady actions lets now s e1 = grind (arith, nat_tests)
 
 -- the marks are right for the other actions and queues once the tasks of the job in this list are marked anew, where all others may be
 -- taken as before
@@ -208,22 +150,10 @@ marked-anew old new lets now p job hs was after others done m = record {
 
 -- a worker that had an action of the job has one, where the actions cover the cores that they covered
 runs-over : (job mask w : ℕ) (old new : Slots Action) → IsUnion old job mask → IsUnion new job mask → SomeLive (slot_value old) (Passes (runs_job_on job w)) → SomeLive (slot_value new) (Passes (runs_job_on job w))
-runs-over job mask w old new was now a = elim (cases_Bool (in_mask w mask)) [
-  | inl on ↦ now.covered w on
-  | inr off ↦ absurd (was.uncovered w off a.0 a.1 a.2 a.3)
-]
+runs-over job mask w old new e1 e2 e3 = grind (arith, nat_tests)
 
 takes-over : (job mask : ℕ) (old new : Slots Action) (lets : Option ℕ → Bool) (w : ℕ) (s : Seen) → SameBut job old new → IsUnion old job mask → IsUnion new job mask → Takes old lets w s → Takes new lets w s
-takes-over job mask old new lets w s same was now k = elim (cases_eq s.job job) [
-  | inl mine ↦ record {
-    waits = k.waits;
-    queue = k.queue;
-    core = k.core;
-    action = subst (λ (j : ℕ). SomeLive (slot_value new) (Passes (runs_job_on j w))) (sym mine)
-        (runs-over job mask w old new was now (subst (λ (j : ℕ). SomeLive (slot_value old) (Passes (runs_job_on j w))) mine k.action));
-  }
-  | inr other ↦ takes-there job old new lets lets w s same other refl k
-]
+takes-over job mask old new lets w s e1 e2 e3 e4 = grind (arith, nat_tests)
 
 -- the marks are right for the other actions as they are, where those of the job cover the cores that they covered
 pub marked-over : (job mask : ℕ) (old new : Slots Action) (lets : ℕ → Option ℕ → Bool) (at : ℕ → Option Seen) (marks : List (Option Mark)) → SameBut job old new → IsUnion old job mask → IsUnion new job mask → Marked old lets at marks → Marked new lets at marks

@@ -1,6 +1,5 @@
 -- The running tasks, as their slots show them.
 use Rattle.task_board.proofs.Names.{◌≡◌, ℕ, Bool, true, false, Option, Some, None, refl, sym, ◌∙◌, ap, arith, ◌==◌, is_some, OnTrue, OnFalse, false≢true, nat_tests, TaskHandle, slot_value, SomeLive, NoneLive, Passes, Task, TaskState, Scheduled, Running, Ended, runs_on, with_state, Seen, seen_as, seen, BoardTable, IsBoard, running_on}
-use Rattle.task_board.proofs.SeenLemmas.{seen-as, seen-live}
 
 pub self : (w : ℕ) → (w == w) ≡ true
 self w = grind (arith, nat_tests)
@@ -15,10 +14,7 @@ runs-seen t w (Running v k) e r =
 runs-seen t w (Ended y n) e r = absurd (false≢true (ap (λ (z : TaskState). runs_on w (with_state z t)) (sym e) ∙ r))
 
 pub some-runs : (b : BoardTable) (w : ℕ) (t : TaskHandle) → IsBoard b → running_on b.running w ≡ Some t → SomeLive (slot_value b.tasks.pool) (Passes (runs_on w))
-some-runs b w t k e =
-    let s = k.running_are.runs w t e in
-    let x = seen-live b.tasks.pool t.0 s.0 s.1 in
-    (t.0, x.0, x.1, (seen-as x.0 x.0.state s.0 x.2).on w s.2 ∙ self w)
+some-runs b w t e1 e2 = grind (arith, nat_tests)
 
 pub none-runs : (b : BoardTable) (w : ℕ) → IsBoard b → running_on b.running w ≡ None → NoneLive (slot_value b.tasks.pool) (Passes (runs_on w))
 none-runs b w k e h t g r =
@@ -29,24 +25,16 @@ none-runs b w k e h t g r =
     no d = cc
 
 pub not-running : (b : BoardTable) (w : ℕ) → IsBoard b → NoneLive (slot_value b.tasks.pool) (Passes (runs_on w)) → is_some (running_on b.running w) ≡ false
-not-running b w k none = by_seat (running_on b.running w) refl
-  where
-    by_seat : (o : Option TaskHandle) → running_on b.running w ≡ o → is_some o ≡ false
-    by_seat None e = refl
-    by_seat (Some t) e = let x = some-runs b w t k e in absurd (none x.0 x.1 x.2 x.3)
+not-running b w e1 e2 = grind (arith, nat_tests, running_on, some-runs)
 
 pub running-tells : (b : BoardTable) (w : ℕ) (o : Option TaskHandle) → IsBoard b → running_on b.running w ≡ o → is_some o ≡ true → SomeLive (slot_value b.tasks.pool) (Passes (runs_on w))
-running-tells b w None k e s = absurd (false≢true s)
-running-tells b w (Some t) k e s = some-runs b w t k e
+running-tells b w o e1 e2 e3 = grind (arith, nat_tests)
 
 pub running-denies : (b : BoardTable) (w : ℕ) (o : Option TaskHandle) → IsBoard b → running_on b.running w ≡ o → is_some o ≡ false → NoneLive (slot_value b.tasks.pool) (Passes (runs_on w))
-running-denies b w None k e s = none-runs b w k e
-running-denies b w (Some t) k e s = absurd (false≢true (sym s))
+running-denies b w o e1 e2 e3 = grind (arith, nat_tests, none-runs)
 
 pub on-true : {P : Type 0} (b : Bool) → (b ≡ true → P) → OnTrue b P
-on-true true f = f refl
-on-true false f = tt
+on-true b e1 = grind (arith, nat_tests)
 
 pub on-false : {P : Type 0} (b : Bool) → (b ≡ false → P) → OnFalse b P
-on-false true f = tt
-on-false false f = f refl
+on-false b e1 = grind (arith, nat_tests)

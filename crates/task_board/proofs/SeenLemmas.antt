@@ -1,5 +1,5 @@
 -- What is seen of a task, and which tasks a worker may take.
-use Rattle.task_board.proofs.Names.{◌≡◌, ℕ, Bool, true, Option, Some, None, refl, sym, ◌∙◌, ap, subst, false≢true, in_mask, holds, ◌==◌, ◌<◌, IfSome, Mark, AreRanked, Slots, slot_value, Action, runs_job_on, Task, TaskState, Scheduled, Running, Ended, scheduled, runner, is_unstarted, Takeable, Seen, seen_as, seen, seen_in}
+use Rattle.task_board.proofs.Names.{arith, nat_tests, ◌≡◌, ℕ, Bool, true, Option, Some, None, refl, sym, ◌∙◌, ap, subst, false≢true, in_mask, holds, ◌==◌, ◌<◌, IfSome, Mark, AreRanked, Slots, slot_value, Action, runs_job_on, Task, TaskState, Scheduled, Running, Ended, scheduled, runner, is_unstarted, Takeable, Seen, seen_as, seen, seen_in}
 use Rattle.task_board.specs.Seen.{Takes}
 
 pub some_same : {A : Type 0} {a b : A} → Some a ≡ Some b → a ≡ b
@@ -19,13 +19,7 @@ pub record SeenAs (t : Task) (x : TaskState) (s : Seen) : Type 0 where
   pub on : (w : ℕ) → s.on ≡ Some w → holds (λ r. r.0 == w) (runner x) ≡ (w == w)
 
 pub seen-as : (t : Task) (x : TaskState) (s : Seen) → seen_as t x ≡ Some s → SeenAs t x s
-seen-as t Scheduled s e =
-    subst (λ (r : Seen). SeenAs t Scheduled r) (some_same e)
-    (record { job = refl; priority = refl; cores = refl; queue = refl; start = refl; unstarted = λ n. refl; on = λ w n. absurd (cc) })
-seen-as t (Running w k) s e =
-    subst (λ (r : Seen). SeenAs t (Running w k) r) (some_same e)
-    (record { job = refl; priority = refl; cores = refl; queue = refl; start = refl; unstarted = λ n. absurd (cc); on = λ v n. ap (λ (z : ℕ). z == v) (some_same n) })
-seen-as t (Ended y n) s e = absurd (cc)
+seen-as t x s e1 = grind (arith, nat_tests)
 
 -- a scheduled task is seen
 pub unstarted-seen : (t : Task) (x : TaskState) → scheduled x ≡ true → (s : Seen) × (seen_as t x ≡ Some s) × (s.on ≡ None)
@@ -35,26 +29,11 @@ unstarted-seen t (Ended y n) e = absurd (false≢true e)
 
 -- what is seen is live
 pub seen-live : (p : Slots Task) (h : ℕ) (s : Seen) → seen_in p h ≡ Some s → (t : Task) × (slot_value p h ≡ Some t) × (seen (Some t) ≡ Some s)
-seen-live p h s e = by_found (slot_value p h) refl e
-  where
-    by_found : (o : Option Task) → slot_value p h ≡ o → seen o ≡ Some s → (t : Task) × (slot_value p h ≡ Some t) × (seen (Some t) ≡ Some s)
-    by_found None g e = absurd (cc)
-    by_found (Some t) g e = (t, g, e)
+seen-live p h s e1 = grind (arith, nat_tests)
 
 -- a worker may take what it sees exactly where it may take the task
 pub takes-from : (actions : Slots Action) (lets : Option ℕ → Bool) (w : ℕ) (t : Task) (s : Seen) → seen (Some t) ≡ Some s → Takes actions lets w s → Takeable actions lets w t
-takes-from actions lets w t s e k =
-    let a = seen-as t t.state s e in (
-      k.action.0,
-      k.action.1,
-      k.action.2,
-      record {
-        unstarted = a.unstarted k.waits;
-        queue = ap lets (sym a.queue) ∙ k.queue;
-        core = ap (in_mask w) (sym a.cores) ∙ k.core;
-        action = ap (λ (j : ℕ). runs_job_on j w k.action.1) (sym a.job) ∙ k.action.3;
-      },
-    )
+takes-from actions lets w t s e1 e2 = grind (arith, nat_tests)
 
 pub record TakenAs (actions : Slots Action) (lets : Option ℕ → Bool) (w : ℕ) (t : Task) : Type 0 where
   pub s : Seen
@@ -87,5 +66,4 @@ mark-known p h t n (Some m) g r u e =
 
 -- what holds anyway
 pub if_some-any : {A P : Type 0} (o : Option A) → P → IfSome o (λ x. P)
-if_some-any None p = tt
-if_some-any (Some x) p = p
+if_some-any o e1 = grind (arith, nat_tests)

@@ -24,15 +24,7 @@ pub member-tallied : (p : Slots Task) (h k : ℕ) (y : TallyState) → members_i
 member-tallied p h k y = member-changed p h (tallied y) (λ t. member-noted (with_tally (λ n. notes_of t.args y)) t refl refl) k
 
 pub member-asked : (p : Slots Task) (h w k : ℕ) → members_in (changed p h (after_asked w)) k ≡ members_in p k
-member-asked p h w k = member-changed p h (after_asked w) (λ t. by_refusal t (is_none (first (asked_refusals w t)))) k
-  where
-    once : (n : Notes) (b : Bool) → ((cond b (record n { seen = true }) (record n { looks = n.looks + 1 })).group ≡ n.group) × ((cond b (record n { seen = true }) (record n { looks = n.looks + 1 })).detached ≡ n.detached)
-    once n true = (refl, refl)
-    once n false = (refl, refl)
-
-    by_refusal : (t : Task) (b : Bool) → membership (Some (cond b (with_notes asked_once t) t)) ≡ membership (Some t)
-    by_refusal t true = let o = once t.notes t.notes.requested in member-noted asked_once t o.0 o.1
-    by_refusal t false = refl
+member-asked p h w k = grind (arith, nat_tests, member-changed, after_asked, asked_refusals, with_notes, asked_once, member-noted)
 
 not-member : (who : ℕ) (t : Task) (g : Option ℕ) → t.notes.group ≡ g → first (task_look_refusals who t) ≡ None → g ≡ None
 not-member who t g e1 e2 = grind (arith, nat_tests)
@@ -68,12 +60,10 @@ no-member p q h t groups starts ends old i g m live = (
     ]
 
 pub may-join : (groups : Slots Members) (detached : Bool) (g : Option GroupHandle) → MayJoin groups detached (group_number g) → IfSome g (λ k. IsSome (slot_value groups k.0))
-may-join groups detached None may = tt
-may-join groups detached (Some g) may = may.0
+may-join groups detached g e1 = grind (arith, nat_tests)
 
 some-live : {A : Type 0} (o : Option A) → IsSome o → (x : A) × (o ≡ Some x)
-some-live None e = absurd (false≢true e)
-some-live (Some x) e = (x, refl)
+some-live o e1 = grind (arith, nat_tests)
 
 -- a task is added, and enters the group that it names
 pub members-add : (p q : Slots Task) (h : ℕ) (a : NewTask) (t : GroupTable) (starts ends more later : ℕ) → AreMembers (members_in p) (slot_value t.pool) starts ends → Inserts p q h (new_task a starts) → more ≡ starts + 1 → later ≡ ends → MayJoin t.pool a.detached a.group → AreMembers (members_in q) (slot_value (joined t a.group h).pool) more later
