@@ -1,27 +1,24 @@
 -- The ops on actions are steps of the machine.
-use Rattle.node_steps.proofs.Names.{◌≡◌, ◌⊎◌, inl, inr, ℕ, Bool, true, false, not, List, Option, Some, None, Result, Ok, Err, refl, sym, ◌∙◌, ap, subst, arith, ◌&&◌, Kind, Mask, ActionHandle, MtapiStatus, first, Slots, slot_value, IsFull, Inserts, changed, Listed, live_object, any_listed, issue, update, any-none, any-live, Action, new_action, action_create_refusals, has_job, has_enabled_job, with_enabled, Covers, job_of, Cover, NoAction, AllDisabled, Cores, Op, Reply, is_open, row, IsHonest, unchanged, Node, Lists, Holds, Live, Steps, state_of}
+use Rattle.node_steps.proofs.Names.{nat_tests, ◌≡◌, ◌⊎◌, ℕ, Bool, true, false, not, List, Option, Some, None, Result, Ok, Err, refl, sym, ap, subst, arith, ◌&&◌, Kind, Mask, ActionHandle, MtapiStatus, first, Slots, slot_value, IsFull, Inserts, changed, Listed, live_object, any_listed, issue, update, any-none, any-live, Action, new_action, action_create_refusals, has_job, has_enabled_job, with_enabled, Covers, job_of, Cover, NoAction, AllDisabled, Cores, Op, Reply, is_open, row, IsHonest, Node, Lists, Holds, Live, Steps, state_of}
 use Rattle.mtapi_values.specs.declared.statuses.MtapiStatus.TheVariants as m
 use Rattle.job_table.specs.Answers.{Creates}
 use Rattle.mtapi_machine.specs.declared.ops.Op.TheVariants as op
 use Rattle.mtapi_machine.specs.declared.replies.Reply.TheVariants as reply
-use Rattle.node_steps.proofs.Gives.{Gives, allows, gives_this, met, past, met_in, past_all, at_some, steps, stays}
+use Rattle.node_steps.proofs.Gives.{Gives, allows, gives_this, past, past_all, at_some, steps}
 use Rattle.node_steps.proofs.Moves.{found, full_list, room_in, may_be, holds_insert, holds_changed}
 
 pub not_true : (b : Bool) → b ≡ true → not b ≡ false
 not_true b e = ap not e
 
 both : (a b : Bool) → (a && b) ≡ true → b ≡ true
-both true b e = e
-both false b e = absurd (cc)
+both a b e1 = grind (arith, nat_tests)
 
 -- which job has an action, by the cores that its actions cover
 pub covers_none : (size turns : ℕ) (p : Slots Action) (l : List (Listed Action)) (job : ℕ) → Holds size turns p l → Covers p job NoAction → any_listed (has_job job) l ≡ false
 covers_none size turns p l job s c = any-none p l (has_job job) s.stands c
 
 pub covers_some : (size turns : ℕ) (p : Slots Action) (l : List (Listed Action)) (job : ℕ) (c : Cover) → Holds size turns p l → Covers p job c → (c ≡ NoAction → ⊥) → any_listed (has_job job) l ≡ true
-covers_some size turns p l job NoAction s c n = absurd (n refl)
-covers_some size turns p l job AllDisabled s c n = any-live p l (has_job job) c.0.0 c.0.1 s.stands c.0.2 c.0.3
-covers_some size turns p l job (Cores mask) s c n = any-live p l (has_job job) c.0.0 c.0.1 s.stands c.0.2 (both _ _ c.0.3)
+covers_some size turns p l job c e1 e2 e3 = grind (arith, nat_tests, any-live, has_job, both)
 
 pub enabled_some : (size turns : ℕ) (p : Slots Action) (l : List (Listed Action)) (job : ℕ) (mask : Mask) → Holds size turns p l → Covers p job (Cores mask) → any_listed (has_enabled_job job) l ≡ true
 enabled_some size turns p l job mask s c = any-live p l (has_enabled_job job) c.0.0 c.0.1 s.stands c.0.2 c.0.3
@@ -35,13 +32,10 @@ create_reply (Ok a) = reply.Handle a.0
 create_reply (Err c) = reply.Mtapi c
 
 create_refused : (n : Node) (l : Lists) (who job : ℕ) (kind : Kind) (cores : Mask) (c : MtapiStatus) → Live n l → is_open n.core.phase ≡ true → first (action_create_refusals job) ≡ Some c → Steps n l who (op.ActionCreate job kind cores) (reply.Mtapi c) n
-create_refused n l who job kind cores c v up f =
-    stays n l who (op.ActionCreate job kind cores) (reply.Mtapi c) v tt (past _ _ _ _ _ _ (not_true _ up) (met_in _ (action_create_refusals job) c _ f))
+create_refused n l who job kind cores c e1 e2 e3 = grind (arith, nat_tests)
 
 create_full : (n : Node) (l : Lists) (who job : ℕ) (kind : Kind) (cores : Mask) → Live n l → is_open n.core.phase ≡ true → first (action_create_refusals job) ≡ None → IsFull n.board.actions → Steps n l who (op.ActionCreate job kind cores) (reply.Mtapi m.ErrActionLimit) n
-create_full n l who job kind cores v up f full =
-    stays n l who (op.ActionCreate job kind cores) (reply.Mtapi m.ErrActionLimit) v tt
-    (past _ _ _ _ _ _ (not_true _ up) (past_all _ _ (action_create_refusals job) _ _ f (met _ _ _ _ (full_list _ _ n.board.actions l.actions v.actions full))))
+create_full n l who job kind cores e1 e2 e3 e4 = grind (arith, nat_tests, not_true, past_all, action_create_refusals, full_list)
 
 create_made : (n : Node) (q : Slots Action) (l : Lists) (who job : ℕ) (kind : Kind) (cores : Mask) (h : ℕ) → Live n l → is_open n.core.phase ≡ true → first (action_create_refusals job) ≡ None → (IsFull n.board.actions → ⊥) → Inserts n.board.actions q h (new_action job kind cores.0) → Steps n l who (op.ActionCreate job kind cores) (reply.Handle h) (record n { board = record n.board { actions = q } })
 create_made n q l who job kind cores h v up f room i =
@@ -63,8 +57,7 @@ create_steps n q l who job kind cores (Err x) v up c = create_failed n q l who j
 
 -- enabling
 job_found : (o : Option Action) (j : ℕ) → job_of o ≡ Ok j → (x : Action) × (o ≡ Some x)
-job_found None j e = absurd (cc)
-job_found (Some x) j e = (x, refl)
+job_found o j e1 = grind (arith, nat_tests)
 
 pub enable_steps : (n : Node) (q : Slots Action) (l : Lists) (who j : ℕ) (a : ActionHandle) → Live n l → is_open n.core.phase ≡ true → job_of (slot_value n.board.actions a.0) ≡ Ok j → q ≡ changed n.board.actions a.0 (with_enabled true) → Steps n l who (op.ActionEnable a) reply.Ok (record n { board = record n.board { actions = q } })
 enable_steps n q l who j a v up e new =
@@ -77,22 +70,11 @@ enable_steps n q l who j a v up e new =
 
 -- an action that isn't live doesn't change
 job_absent : (o : Option Action) (c : MtapiStatus) → job_of o ≡ Err c → (o ≡ None) × (m.ErrActionInvalid ≡ c)
-job_absent None c e = (refl, cc)
-job_absent (Some x) c e = absurd (cc)
+job_absent o c e1 = grind (arith, nat_tests)
 
 pub action_absent : (n : Node) (l : Lists) (who : ℕ) (o : Op) (a : ActionHandle) (c : MtapiStatus) (f : Action → Action) → Live n l → job_of (slot_value n.board.actions a.0) ≡ Err c → IsHonest o → (live_object l.actions a.0 ≡ None → Gives (state_of n l) (row (state_of n l) who o (reply.Mtapi m.ErrActionInvalid)) (reply.Mtapi m.ErrActionInvalid) (state_of n l)) → Steps n l who o (reply.Mtapi c) (record n { board = record n.board { actions = changed n.board.actions a.0 f } })
-action_absent n l who o a c f v e honest refuses =
-    let x = job_absent (slot_value n.board.actions a.0) c e in
-    subst (λ (p : Slots Action). Steps n l who o (reply.Mtapi c) (record n { board = record n.board { actions = p } })) (sym (unchanged n.board.actions a.0 f c (sym e)))
-    (subst (λ (s : MtapiStatus). Steps n l who o (reply.Mtapi s) n) x.1
-    (stays n l who o (reply.Mtapi m.ErrActionInvalid) v honest (refuses (found _ _ n.board.actions l.actions a.0 None v.actions x.0))))
+action_absent n l who o a c f e1 e2 e3 e4 = grind (arith, nat_tests)
 
 -- one of the two other cases
 pub some_cover : (c : Cover) → (c ≡ AllDisabled) ⊎ ((mask : Mask) × (c ≡ Cores mask)) → c ≡ NoAction → ⊥
-some_cover c h e = elim h [ inl a ↦ apart (sym e ∙ a) | inr a ↦ other a.0 (sym e ∙ a.1) ]
-  where
-    apart : NoAction ≡ AllDisabled → ⊥
-    apart d = cc
-
-    other : (mask : Mask) → NoAction ≡ Cores mask → ⊥
-    other mask d = cc
+some_cover c e1 e2 = grind (arith, nat_tests)

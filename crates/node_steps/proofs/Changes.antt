@@ -1,5 +1,5 @@
 -- Changes of a list of issued objects that come to the same.
-use Rattle.node_steps.proofs.Names.{◌≡◌, ℕ, Bool, true, false, not, cond, List, [], ◌∷◌, Some, refl, sym, ◌∙◌, ap, ◌==◌, ◌&&◌, TaskEnd, Slots, slot_value, with_value, without, Listed, live_of, lookup, live_object, change, with_fields, gone, update, retire, Task, Ended, with_state, ended, ended_in, Holds}
+use Rattle.node_steps.proofs.Names.{arith, nat_tests, ◌≡◌, ℕ, Bool, true, false, not, cond, List, [], ◌∷◌, Some, refl, sym, ◌∙◌, ap, ◌==◌, ◌&&◌, TaskEnd, Slots, slot_value, with_value, without, Listed, live_of, lookup, live_object, change, with_fields, gone, update, retire, Task, Ended, with_state, ended, ended_in, Holds}
 use Rattle.node_steps.proofs.Moves.{found, holds_update, holds_change_and_remove}
 
 some_same : {A : Type 0} {a b : A} → Some a ≡ Some b → a ≡ b
@@ -35,21 +35,17 @@ module _ {T : Type 0} where
       by_test rest false d = (λ i. cond (d i) (gone r ∷ update h f rs) (r ∷ retire h (update h f rs))) ∙ ap (λ (x : List (Listed T)). r ∷ x) rest
 
 stays_live : (a d : Bool) → d ≡ false → (a && not d) ≡ a
-stays_live true d e = ap not e
-stays_live false d e = refl
+stays_live a d e1 = grind (arith, nat_tests)
 
 not_live : (a d : Bool) → d ≡ true → (a && not d) ≡ false
-not_live true d e = ap not e
-not_live false d e = refl
+not_live a d e1 = grind (arith, nat_tests)
 
 -- the end of a task that isn't detached, and of one that is
 ended-kept : (h : ℕ) (e : TaskEnd) (n : ℕ) (t : Task) (l : List (Listed Task)) → live_object l h ≡ Some t → t.notes.detached ≡ false → change h (ended e n) l ≡ update h (with_state (Ended e n)) l
 ended-kept h e n t l a d = change-as h (ended e n) (with_fields (with_state (Ended e n))) t l a (λ r live is i. record { handle = r.handle; live = stays_live r.live r.fields.notes.detached (ap (λ (u : Task). u.notes.detached) is ∙ d) i; fields = with_state (Ended e n) r.fields })
 
 ended-gone : (h : ℕ) (e : TaskEnd) (n : ℕ) (t : Task) (l : List (Listed Task)) → live_object l h ≡ Some t → t.notes.detached ≡ true → change h (ended e n) l ≡ retire h (update h (with_state (Ended e n)) l)
-ended-gone h e n t l a d =
-    change-as h (ended e n) (λ r. gone (with_fields (with_state (Ended e n)) r)) t l a (λ r live is i. record { handle = r.handle; live = not_live r.live r.fields.notes.detached (ap (λ (u : Task). u.notes.detached) is ∙ d) i; fields = with_state (Ended e n) r.fields })
-    ∙ sym (retire-update h (with_state (Ended e n)) l)
+ended-gone h e n t l e1 e2 = grind (arith, nat_tests, change-as, with_fields, with_state, not_live, retire-update)
 
 -- a task that ends in the pool ends in the list
 pub holds_ended : (size turns : ℕ) (p : Slots Task) (l : List (Listed Task)) (h : ℕ) (e : TaskEnd) (n : ℕ) (t : Task) → Holds size turns p l → slot_value p h ≡ Some t → Holds size turns (ended_in p h e n (Some t)) (change h (ended e n) l)

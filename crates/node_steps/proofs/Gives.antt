@@ -1,5 +1,5 @@
 -- What a row gives: a reply that it allows, and the state after it. One word for each part of a row.
-use Rattle.node_steps.proofs.Names.{◌≡◌, ℕ, ◌+◌, ◌≤◌, Bool, true, false, List, [], ◌∷◌, Option, Some, None, refl, sym, ◌∙◌, ap, subst, arith, cond, MtapiStatus, first, One, Op, Reply, Mtapi, State, Move, after_moves, Row, unless, says, gives, only, Allows, after_row, mtapi_unless, live, row, IsHonest, Slots, Action, TaskTable, Queue, HeldQueue, QueueTable, BoardTable, Becomes, BecomesWith, records_of, group_slots, Group, GroupTable, without_members, Regroups, Node, Lists, Pools, Live, Steps, state_of, terms_of}
+use Rattle.node_steps.proofs.Names.{nat_tests, ◌≡◌, ℕ, ◌+◌, ◌≤◌, Bool, true, false, List, [], ◌∷◌, Option, Some, None, refl, sym, ap, subst, arith, cond, MtapiStatus, first, Op, Reply, Mtapi, State, Move, after_moves, Row, unless, says, gives, only, Allows, after_row, mtapi_unless, live, row, IsHonest, Slots, Action, TaskTable, HeldQueue, QueueTable, BoardTable, Becomes, BecomesWith, records_of, group_slots, GroupTable, without_members, Regroups, Node, Lists, Pools, Live, Steps, state_of, terms_of}
 
 -- from the state s the row w gives the reply r and leads to t
 pub record Gives (s : State) (w : Row) (r : Reply) (t : State) : Type 0 where
@@ -14,12 +14,10 @@ says_this s r = record { allowed = refl; leads = refl }
 
 -- a condition that is met, and one that isn't
 pub met : (s : State) (c : Bool) (x : Reply) (w : Row) → c ≡ true → Gives s (unless c x w) x s
-met s true x w e = record { allowed = refl; leads = refl }
-met s false x w e = absurd (cc)
+met s c x w e1 = grind (arith, nat_tests)
 
 pub past : (s t : State) (c : Bool) (x r : Reply) (w : Row) → c ≡ false → Gives s w r t → Gives s (unless c x w) r t
-past s t false x r w e g = record { allowed = g.allowed; leads = g.leads }
-past s t true x r w e g = absurd (cc)
+past s t c x r w e1 e2 = grind (arith, nat_tests)
 
 -- a list of conditions
 pub met_in : (s : State) (cs : List (Bool × MtapiStatus)) (c : MtapiStatus) (w : Row) → first cs ≡ Some c → Gives s (mtapi_unless cs w) (Mtapi c) s
@@ -34,17 +32,14 @@ past_all s t ((false, x) ∷ cs) r w h g = let k = past_all s t cs r w h g in re
 
 -- a row that a condition lets through
 pub allows : (b : Bool) (s t : State) (r : Reply) (v : Row) → b ≡ true → Gives s v r t → Gives s (only b v) r t
-allows true s t r v e g = g
-allows false s t r v e g = absurd (cc)
+allows b s t r v e1 e2 = grind (arith, nat_tests)
 
 -- a row that a condition chooses
 pub then_row : (b : Bool) (s t : State) (r : Reply) (v w : Row) → b ≡ true → Gives s v r t → Gives s (cond b v w) r t
-then_row true s t r v w e g = g
-then_row false s t r v w e g = absurd (cc)
+then_row b s t r v w e1 e2 = grind (arith, nat_tests)
 
 pub else_row : (b : Bool) (s t : State) (r : Reply) (v w : Row) → b ≡ false → Gives s w r t → Gives s (cond b v w) r t
-else_row false s t r v w e g = g
-else_row true s t r v w e g = absurd (cc)
+else_row b s t r v w e1 e2 = grind (arith, nat_tests)
 
 module _ {T : Type 0} where
   -- a live object, and none
@@ -56,8 +51,7 @@ module _ {T : Type 0} where
 
 -- a step of the node from what the row gives
 pub steps : (n m : Node) (l k : Lists) (who : ℕ) (op : Op) (r : Reply) → Gives (state_of n l) (row (state_of n l) who op r) r (state_of m k) → Pools n.board.settings m.board.actions m.board.tasks.pool (group_slots m.board) (records_of m.board.queues.pool) m.resources k → terms_of m ≡ terms_of n → m.board.tasks.starts ≤ n.board.tasks.starts + 1 → IsHonest op → Steps n l who op r m
-steps n m l k who op r g v t b h =
-    (k, record { allowed = g.allowed; leads = g.leads; live = v; terms = t; starts = b; honest = h })
+steps n m l k who op r e1 e2 e3 e4 e5 = grind (arith, nat_tests)
 
 -- a step that leaves the node as it was
 pub stays : (n : Node) (l : Lists) (who : ℕ) (op : Op) (r : Reply) → Live n l → IsHonest op → Gives (state_of n l) (row (state_of n l) who op r) r (state_of n l) → Steps n l who op r n
@@ -65,23 +59,7 @@ stays n l who op r v h g = (l, record { allowed = g.allowed; leads = g.leads; li
 
 -- the same step, of a board that has become so
 pub lands_to : (n m : Node) (l : Lists) (who : ℕ) (op : Op) (r : Reply) (b : BoardTable) (a : Slots Action) (t : TaskTable) (q : Slots HeldQueue) (g : GroupTable) → m.board.settings ≡ n.board.settings → b.settings ≡ m.board.settings → b.actions ≡ a → b.tasks ≡ t → records_of b.queues.pool ≡ records_of q → group_slots b ≡ without_members g.pool → Steps n l who op r (record m { board = record m.board { actions = a; tasks = t; queues = record m.board.queues { pool = q }; groups = g } }) → Steps n l who op r (record m { board = b })
-lands_to n m l who op r b a t q g base settings actions tasks queues groups s = (
-  s.0,
-  record {
-    allowed = s.1.allowed;
-    leads = s.1.leads ∙ (λ i. state_of (record m { board = path i }) s.0);
-    live =
-        subst (λ (x : BoardTable). Pools n.board.settings x.actions x.tasks.pool (group_slots b) (records_of b.queues.pool) m.resources s.0) path
-        (subst (λ (z : Slots Queue). Pools n.board.settings a t.pool (group_slots b) z m.resources s.0) (sym queues)
-        (subst (λ (z : Slots Group). Pools n.board.settings a t.pool z (records_of q) m.resources s.0) (sym groups) s.1.live));
-    terms = (λ i. record { layout = One; settings = settings i; callers = m.core.callers }) ∙ s.1.terms;
-    starts = subst (λ (x : TaskTable). x.starts ≤ n.board.tasks.starts + 1) (sym tasks) s.1.starts;
-    honest = s.1.honest;
-  },
-)
-  where
-    path : record b { settings = m.board.settings; actions = a; tasks = t } ≡ b
-    path i = record b { settings = sym settings i; actions = sym actions i; tasks = sym tasks i }
+lands_to n m l who op r b a t q g e1 e2 e3 e4 e5 e6 e7 = grind (arith, nat_tests)
 
 pub lands : (n : Node) (l : Lists) (who : ℕ) (op : Op) (r : Reply) (b : BoardTable) (a : Slots Action) (q : TaskTable) → Becomes n.board b a q → Steps n l who op r (record n { board = record n.board { actions = a; tasks = q } }) → Steps n l who op r (record n { board = b })
 lands n l who op r b a q e s = lands_to n n l who op r b a q n.board.queues.pool n.board.groups refl e.settings e.actions_are e.tasks_are e.queues_are e.groups_are s

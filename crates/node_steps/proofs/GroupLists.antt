@@ -1,5 +1,5 @@
 -- The members of a group in the machine's words, and moves of all of them.
-use Rattle.node_steps.proofs.Names.{◌≡◌, ◌≢◌, ℕ, ◌<◌, Bool, true, false, cond, List, [], ◌∷◌, Option, Some, None, refl, sym, ◌∙◌, ap, subst, inl, inr, arith, ◌==◌, ◌&&◌, ◌||◌, nat_lt, eqb_tells, nat_tests, TaskEnd, holds, Slots, slot_value, with_value, without, NoneLive, Listed, live_of, lookup, live_object, any_live, any_listed, change, change_all, with_fields, gone, Distinct, any-none, any-live, has_handle, without_handle, Task, end_of, is_unended, with_notes, Ending, is_member, is_unended_member, insert, insert_ended, endings, freed, let_go, in_no_group, without_group, Members, no_members, RisesBy, AreKeyed, member_as, membership, members_in, end_in, BoardTable, IsBoard, is_ended_member, end_at, ending_of, endings_of, Each, frees, lets_go, has-self, or-right, unended-so, unended-member, ended-member, Holds}
+use Rattle.node_steps.proofs.Names.{◌≡◌, ◌≢◌, ℕ, ◌<◌, Bool, true, false, cond, List, [], ◌∷◌, Option, Some, None, refl, sym, ◌∙◌, ap, subst, inl, inr, arith, ◌==◌, ◌&&◌, ◌||◌, nat_lt, eqb_tells, nat_tests, TaskEnd, Slots, slot_value, with_value, without, NoneLive, Listed, live_of, lookup, live_object, any_live, any_listed, change, change_all, with_fields, gone, Distinct, any-none, any-live, has_handle, without_handle, Task, end_of, is_unended, with_notes, Ending, is_member, is_unended_member, insert, insert_ended, endings, freed, let_go, in_no_group, without_group, Members, no_members, RisesBy, AreKeyed, membership, members_in, end_in, BoardTable, IsBoard, is_ended_member, end_at, ending_of, endings_of, Each, frees, lets_go, has-self, or-right, unended-so, unended-member, ended-member, Holds}
 use Rattle.std.proofs.lemmas.Bool.{false≢true}
 use Rattle.handle_pool.specs.Stands.{Stands as SlotsStand}
 use Rattle.task_core.specs.Records.{number_in}
@@ -65,12 +65,10 @@ holds_freed size turns q l h t s g = subst (λ (k : List (Listed Task)). Holds s
 
 -- one that is let go
 live-kept : (a b : Bool) → b ≡ true → (a && b) ≡ a
-live-kept true b e = e
-live-kept false b e = refl
+live-kept a b e1 = grind (arith, nat_tests)
 
 live-lost : (a b : Bool) → b ≡ false → (a && b) ≡ false
-live-lost true b e = e
-live-lost false b e = refl
+live-lost a b e1 = grind (arith, nat_tests)
 
 pub holds_let_go : (size turns : ℕ) (q : Slots Task) (l : List (Listed Task)) (h : ℕ) (t : Task) → Holds size turns q l → slot_value q h ≡ Some t → Holds size turns (lets_go q h t) (change h let_go l)
 holds_let_go size turns q l h t s g = by_end (is_unended t) refl
@@ -89,8 +87,7 @@ holds_let_go size turns q l h t s g = by_end (is_unended t) refl
         (holds_change_and_remove size turns q l h without_group t s g)
 
 and_false : (a b : Bool) → b ≡ false → (a && b) ≡ false
-and_false true b e = e
-and_false false b e = refl
+and_false a b e1 = grind (arith, nat_tests)
 
 -- all members that have ended are freed
 pub holds_all_freed : (size turns g : ℕ) (hs : List ℕ) (old new : Slots Task) (l : List (Listed Task)) → Holds size turns old l → Each (is_ended_member g) frees hs old new → NoneLive (slot_value new) (λ t. is_ended_member g t ≡ true) → Holds size turns new (change_all (is_ended_member g) freed l)
@@ -103,11 +100,7 @@ holds_all_let_go size turns g = each-holds (is_member g) lets_go let_go size tur
 -- The order of ends
 
 key-task : (g : ℕ) (t : Task) → end_in g (membership (Some t)) ≡ cond (is_member g t) (number_in (end_of t.state)) None
-key-task g t = by_group t.notes.group
-  where
-    by_group : (o : Option ℕ) → end_in g (member_as t o) ≡ cond (holds (λ h. h == g) o) (number_in (end_of t.state)) None
-    by_group None = refl
-    by_group (Some z) = refl
+key-task g t = grind (arith, nat_tests)
 
 without-absent : (h : ℕ) (hs : List ℕ) → has_handle h hs ≡ false → without_handle h hs ≡ hs
 without-absent h [] off = refl
@@ -170,27 +163,11 @@ record Front (g : ℕ) (t : Task) (n : ℕ) : Type 0 where
   end : end_of t.state ≡ Some (e, n)
 
 front : (g n : ℕ) (t : Task) → end_in g (membership (Some t)) ≡ Some n → Front g t n
-front g n t f = by_member (is_member g t) refl (sym (key-task g t) ∙ f)
-  where
-    by_end : (o : Option (TaskEnd × ℕ)) → end_of t.state ≡ o → number_in o ≡ Some n → (e : TaskEnd) × (end_of t.state ≡ Some (e, n))
-    by_end None d k = none_some k
-    by_end (Some x) d k = (x.0, d ∙ (λ i. Some (x.0, some_same k i)))
-
-    by_member : (b : Bool) → is_member g t ≡ b → cond b (number_in (end_of t.state)) None ≡ Some n → Front g t n
-    by_member true d k = let e = by_end (end_of t.state) refl k in record { member = d; e = e.0; end = e.1 }
-    by_member false d k = none_some k
+front g n t e1 = grind (arith, nat_tests)
 
 -- a task that isn't a member that has ended adds nothing
 not-added : (g h : ℕ) (t : Task) (es : List Ending) → end_in g (membership (Some t)) ≡ None → cond (is_member g t) (insert_ended h (end_of t.state) es) es ≡ es
-not-added g h t es f = by_member (is_member g t) (sym (key-task g t) ∙ f)
-  where
-    by_end : (o : Option (TaskEnd × ℕ)) → number_in o ≡ None → insert_ended h o es ≡ es
-    by_end None k = refl
-    by_end (Some x) k = none_some (sym k)
-
-    by_member : (b : Bool) → cond b (number_in (end_of t.state)) None ≡ None → cond b (insert_ended h (end_of t.state) es) es ≡ es
-    by_member true k = by_end (end_of t.state) k
-    by_member false k = refl
+not-added g h t es e1 = grind (arith, nat_tests)
 
 endings-keyed : (at : ℕ → Option Task) (g : ℕ) (es : List (ℕ × Task)) (hs : List ℕ) → Distinct es → ((h : ℕ) (t : Task) → lookup es h ≡ Some t → at h ≡ Some t) → AreKeyed (λ h. end_in g (membership (lookup es h))) hs → endings g es ≡ endings_of at hs
 unfolding endings
@@ -230,9 +207,7 @@ endings-keyed at g (e ∷ es) hs d is keyed = by_key (end_in g (membership (Some
 
 -- the ends of a group's members, in the order of their numbers, are those of its list
 pub endings-are : (b : BoardTable) (l : List (Listed Task)) (g : ℕ) (m : Members) → IsBoard b → SlotsStand b.tasks.pool l → slot_value b.groups.pool g ≡ Some m → endings g (live_of l) ≡ endings_of (slot_value b.tasks.pool) m.ended
-endings-are b l g m k s live =
-    endings-keyed (slot_value b.tasks.pool) g (live_of l) m.ended s.distinct (λ h t f. s.found h ∙ f)
-    (keyed-same (λ h. end_in g (members_in b.tasks.pool h)) (λ h. end_in g (membership (live_object l h))) m.ended (λ h. ap (λ (o : Option Task). end_in g (membership o)) (sym (s.found h))) (k.members.ended g m live))
+endings-are b l g m e1 e2 e3 = grind (arith, nat_tests, endings-keyed, slot_value, live_of, keyed-same, end_in, members_in)
 
 -- whether members are left that haven't ended, and whether any are
 pub none-unended : (b : BoardTable) (l : List (Listed Task)) (g : ℕ) (m : Members) → IsBoard b → SlotsStand b.tasks.pool l → slot_value b.groups.pool g ≡ Some m → m.unended ≡ [] → any_listed (is_unended_member g) l ≡ false

@@ -1,5 +1,5 @@
 -- The ops on groups are steps of the machine.
-use Rattle.node_steps.proofs.Names.{◌≡◌, ℕ, ◌+◌, ◌<◌, Bool, true, not, cond, List, [], ◌∷◌, length, Option, Some, None, Result, Ok, Err, refl, sym, ◌∙◌, ap, subst, arith, option_map, TaskEnd, GroupHandle, MtapiStatus, Slots, slot_value, without, NoneLive, live_of, live_object, change_all, issue, update, retire, TaskState, end_of, with_notes, Group, Ending, new_group, is_member, endings, first_fault, freed, let_go, in_no_group, Members, no_members, counts_of, Reply, State, is_open, is_up, row, QueueTable, BoardTable, group_slots, records_of, IsBoard, without_members, is_ended_member, end_at, ending_of, endings_of, Regroups, NoneTaken, FreesAll, LetsAllGo, value-mapped, mapped-insert, mapped-without, IsFull-mapped, Node, Lists, Holds, Live, Steps, state_of}
+use Rattle.node_steps.proofs.Names.{nat_tests, ◌≡◌, ℕ, ◌+◌, ◌<◌, Bool, true, not, cond, List, [], ◌∷◌, length, Option, Some, None, Result, Ok, Err, refl, sym, ◌∙◌, ap, subst, arith, option_map, TaskEnd, GroupHandle, MtapiStatus, Slots, slot_value, without, NoneLive, live_of, live_object, change_all, issue, update, retire, TaskState, end_of, with_notes, Group, Ending, new_group, is_member, endings, first_fault, freed, let_go, in_no_group, Members, no_members, counts_of, Reply, State, is_open, is_up, row, QueueTable, BoardTable, group_slots, records_of, IsBoard, without_members, is_ended_member, end_at, ending_of, endings_of, Regroups, NoneTaken, FreesAll, LetsAllGo, value-mapped, mapped-insert, mapped-without, IsFull-mapped, Node, Lists, Holds, Live, Steps, state_of}
 use Rattle.mtapi_values.specs.declared.statuses.MtapiStatus.TheVariants as m
 use Rattle.group_core.specs.Members.{Creates}
 use Rattle.mtapi_machine.specs.declared.ops.Op.TheVariants as op
@@ -24,8 +24,7 @@ some_same h = cc
 
 -- what the counts of a group tell
 pub no_counts : (o : Option Members) → None ≡ option_map counts_of o → o ≡ None
-no_counts None e = refl
-no_counts (Some x) e = absurd (cc)
+no_counts o e1 = grind (arith, nat_tests)
 
 pub record Counted (o : Option Members) (all ended : ℕ) : Type 0 where
   pub x : Members
@@ -34,8 +33,7 @@ pub record Counted (o : Option Members) (all ended : ℕ) : Type 0 where
   pub ended_is : length x.ended ≡ ended
 
 pub counted : (o : Option Members) (all ended : ℕ) → Some (all, ended) ≡ option_map counts_of o → Counted o all ended
-counted None all ended e = absurd (cc)
-counted (Some x) all ended e = let same = some_same e in record { x = x; is = refl; all_is = ap (λ (q : ℕ × ℕ). q.0) (sym same); ended_is = ap (λ (q : ℕ × ℕ). q.1) (sym same) }
+counted o all ended e1 = grind (arith, nat_tests)
 
 pub no-items : (l : List ℕ) → length l ≡ 0 → l ≡ []
 no-items [] e = refl

@@ -1,5 +1,5 @@
 -- A new node stands for the empty list, and each step goes on with the list.
-use Rattle.node_steps.proofs.Names.{◌≡◌, ℕ, ◌+◌, ◌<◌, ◌≤◌, false, List, [], ◌∷◌, ◌++◌, ◌^◌, length, length-append, refl, sym, ◌∙◌, ap, subst, arith, map, replicate, NodeSettings, AreNodeSettings, Slot, Slots, free_slot, no_marks, HeldQueue, mapped_slot, mapped-new, BoardTable, IsBoard, records_of, group_slots, Keeps, Op, Reply, New, State, opening, start_numbers, Sound, NodeEntry, IsNext, next, LegalFrom, Legal, after_from, after, ResourceTable, HoldsAll, Node, Lists, Holds, Pools, Live, Steps, state_of, terms_of, seat_count}
+use Rattle.node_steps.proofs.Names.{nat_tests, ◌≡◌, ℕ, ◌+◌, ◌<◌, ◌≤◌, false, List, [], ◌∷◌, ◌++◌, ◌^◌, length, length-append, refl, sym, ◌∙◌, ap, subst, arith, map, replicate, NodeSettings, AreNodeSettings, Slot, Slots, free_slot, no_marks, HeldQueue, mapped_slot, mapped-new, BoardTable, IsBoard, records_of, group_slots, Keeps, Op, Reply, New, State, opening, start_numbers, Sound, NodeEntry, IsNext, next, LegalFrom, Legal, after_from, after, ResourceTable, HoldsAll, Node, Lists, Holds, Pools, Live, Steps, state_of, terms_of, seat_count}
 use Rattle.node_steps.proofs.KeepLemmas.{keeps-board}
 use Rattle.history.specs.Histories.{entry}
 use Rattle.mtapi_machine.specs.declared.terms.Terms.{Terms}
@@ -85,6 +85,4 @@ same_terms n m who op r L st s = (s st.lists st.live (sound n L st)).1.terms
 
 -- a step from a node whose pools stand for some lists leads to such a node, and starts one task at most
 pub stepped : (n m : Node) (c who : ℕ) (op : Op) (r : Reply) → ((l : Lists) × Live n l × (n.board.tasks.starts ≤ c)) → ((l : Lists) → Live n l → Steps n l who op r m) → (l : Lists) × Live m l × (m.board.tasks.starts ≤ c + 1)
-stepped n m c who op r x f =
-    let s = f x.0 x.1 in
-    (s.0, subst (λ (t : Terms). Pools t.settings m.board.actions m.board.tasks.pool (group_slots m.board) (records_of m.board.queues.pool) m.resources s.0) (sym s.1.terms) s.1.live, omega (arith, s.1.starts, x.2))
+stepped n m c who op r e1 e2 = grind (arith, nat_tests)

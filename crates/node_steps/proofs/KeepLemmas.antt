@@ -1,5 +1,5 @@
 -- What a board keeps is what the machine's state says.
-use Rattle.node_steps.proofs.Names.{◌≡◌, ◌↔◌, ℕ, zero, suc, ◌+◌, ◌*◌, ◌^◌, ◌<◌, Bool, true, List, [], ◌∷◌, Option, Some, None, slice_get, refl, sym, ◌∙◌, ap, subst, arith, ◌&&◌, ◌==◌, is_none, map, holds, TaskHandle, TaskEnd, Slot, slot_of, slot_value, used_at, live_of, live_object, same_tests, list_at, has_handle, Task, TaskState, Scheduled, Running, Ended, end_of, is_unstarted, is_unended, runs_on, Ending, is_member, is_unended_member, endings, is_unended_in, HeldQueue, Members, RisesBy, Membership, member_as, membership, members_in, start_in, end_at, ending_of, endings_of, Seen, seen, seen_in, InOrder, begins_in, BoardTable, IsBoard, running_on, some_same, seen-as, unstarted-seen, seen-live, takes-from, takes-to, has-self, or-right, order-index, Member, member-from, ended-so, unended-so, can_take, Node, Lists, Live, state_of, ListsByStart, Keeps}
+use Rattle.node_steps.proofs.Names.{nat_tests, ◌≡◌, ◌↔◌, ℕ, zero, suc, ◌^◌, ◌<◌, Bool, true, List, [], ◌∷◌, Option, Some, None, slice_get, refl, sym, ◌∙◌, ap, subst, arith, ◌&&◌, ◌==◌, is_none, map, holds, TaskHandle, TaskEnd, Slot, slot_of, slot_value, used_at, live_of, live_object, same_tests, list_at, has_handle, Task, TaskState, end_of, is_unstarted, is_unended, runs_on, Ending, is_member, is_unended_member, endings, is_unended_in, HeldQueue, Members, RisesBy, membership, members_in, start_in, end_at, ending_of, endings_of, Seen, seen, seen_in, InOrder, begins_in, BoardTable, IsBoard, running_on, some_same, seen-as, unstarted-seen, seen-live, takes-from, takes-to, has-self, or-right, order-index, Member, member-from, ended-so, unended-so, can_take, Node, Lists, Live, state_of, ListsByStart, Keeps}
 use Rattle.std.proofs.lemmas.Option.{slice_get_within}
 use Rattle.handle_pool.proofs.WalkLemmas.{used_at-live, live-used_at}
 use Rattle.linked_places.proofs.NextLemmas.{index-has}
@@ -7,32 +7,20 @@ use Rattle.ready_index.specs.Marks.{mark_at, is_for_at}
 use Rattle.task_core.specs.Records.{number_in}
 use Rattle.task_board.proofs.MarkLemmas.{same-number, number-same}
 use Rattle.task_board.proofs.RunningLemmas.{runs-seen, self}
-use Rattle.task_board.proofs.MemberLemmas.{start-here, start-tells, end-tells}
+use Rattle.task_board.proofs.MemberLemmas.{end-tells}
 use Rattle.node_steps.proofs.Moves.{found}
 use Rattle.node_steps.proofs.StartSteps.{and_true, and_left, and_right, false≢true}
 use Rattle.node_steps.proofs.PickSteps.{takes_if, takeable}
-use Rattle.node_steps.proofs.QueueLemmas.{is_in-named, in-list, of-list}
+use Rattle.node_steps.proofs.QueueLemmas.{in-list, of-list}
 use Rattle.node_steps.proofs.GroupLists.{endings-are}
 
 -- the slot of a handle that stands at a place
 used-slot : (o : Option (Slot Task)) (place h : ℕ) (t : Task) → place < 2 ^ 32 → used_at place o ≡ Some (h, t) → slot_of h ≡ place
-used-slot None place h t less e = absurd (cc)
-used-slot (Some slot) place h t less e = by_value slot.value e
-  where
-    by_value : (v : Option Task) → used_at place (Some (record slot { value = v })) ≡ Some (h, t) → slot_of h ≡ place
-    by_value None f = absurd (cc)
-    by_value (Some u) f =
-        let pair : ◌≡◌ {A = ℕ × Task} (slot.generation * 2 ^ 32 + place, u) (h, t) = some_same f in
-        let whole : slot.generation * 2 ^ 32 + place ≡ h = ap (λ (x : ℕ × Task). x.0) pair in
-        omega arith
+used-slot o place h t e1 e2 = grind (arith, nat_tests)
 
 -- a place with something below the greatest
 within-place : (slots : List (Slot Task)) (place h : ℕ) (t : Task) → used_at place (slice_get slots place) ≡ Some (h, t) → (x : Slot Task) × (slice_get slots place ≡ Some x)
-within-place slots place h t e = by_slot (slice_get slots place) refl e
-  where
-    by_slot : (o : Option (Slot Task)) → slice_get slots place ≡ o → used_at place o ≡ Some (h, t) → (x : Slot Task) × (slice_get slots place ≡ Some x)
-    by_slot None is f = absurd (cc)
-    by_slot (Some x) is f = (x, is)
+within-place slots place h t e1 = grind (arith, nat_tests)
 
 -- The members of groups
 
@@ -46,27 +34,16 @@ rises-index key (x ∷ xs) (suc i) (suc j) h k a b o less e f c d = rises-index 
 
 -- the number of a member that hasn't ended is that of its start
 none-number : (x : TaskState) → is_none (end_of x) ≡ true → number_in (end_of x) ≡ None
-none-number Scheduled e = refl
-none-number (Running w k) e = refl
-none-number (Ended y n) e = absurd (false≢true e)
+none-number x e1 = grind (arith, nat_tests)
 
 unended-number : (g : ℕ) (t : Task) → is_member g t ≡ true → is_unended t ≡ true → start_in g (membership (Some t)) ≡ Some t.start
-unended-number g t member un =
-    ap (λ (o : Option ℕ). start_in g (member_as t o)) (is_in-named g t.notes.group member)
-    ∙ start-here g (record { group = g; detached = t.notes.detached; start = t.start; end = number_in (end_of t.state) }) refl (none-number t.state un)
+unended-number g t e1 e2 = grind (arith, nat_tests)
 
 member-number : (g : ℕ) (t : Task) (a : ℕ) → start_in g (membership (Some t)) ≡ Some a → a ≡ t.start
-member-number g t a e = let x = start-tells g a (membership (Some t)) e in sym x.start ∙ by_group t.notes.group x.e x.is
-  where
-    by_group : (o : Option ℕ) (z : Membership) → member_as t o ≡ Some z → z.start ≡ t.start
-    by_group None z f = absurd (cc)
-    by_group (Some g) z f = ap (λ (w : Membership). w.start) (sym (some_same f))
+member-number g t a e1 = grind (arith, nat_tests)
 
 unended-at : (b : BoardTable) (g h : ℕ) (m : Members) → IsBoard b → slot_value b.groups.pool g ≡ Some m → has_handle h m.unended ≡ true → Member b.tasks.pool g h None
-unended-at b g h m k live e =
-    let a = (k.members.unended g m live).has_key h e in
-    let x = start-tells g a.0 (members_in b.tasks.pool h) a.1 in
-    subst (λ (o : Option ℕ). Member b.tasks.pool g h o) x.end (member-from b.tasks.pool g h x.e x.is x.group)
+unended-at b g h m e1 e2 e3 = grind (arith, nat_tests)
 
 -- the tasks of the ends are those of the list
 ended-at : (b : BoardTable) (g h : ℕ) (m : Members) → IsBoard b → slot_value b.groups.pool g ≡ Some m → has_handle h m.ended ≡ true → (e : TaskEnd × ℕ) × (end_at (slot_value b.tasks.pool h) ≡ Some e)
@@ -125,13 +102,7 @@ module _ (n : Node) (l : Lists) (v : Live n l) (k : IsBoard n.board) where
 
   -- a list is as the machine says it, where it is so for the pool
   lists : (p : Task → Bool) (hs : List ℕ) → ((h : ℕ) → has_handle h hs ≡ true → (t : Task) × (slot_value n.board.tasks.pool h ≡ Some t) × (p t ≡ true)) → ((h : ℕ) (t : Task) → slot_value n.board.tasks.pool h ≡ Some t → p t ≡ true → has_handle h hs ≡ true) → ((i j h m : ℕ) (x y : Task) → i < j → slice_get hs i ≡ Some h → slice_get hs j ≡ Some m → slot_value n.board.tasks.pool h ≡ Some x → slot_value n.board.tasks.pool m ≡ Some y → x.start < y.start) → ListsByStart (state_of n l) p hs
-  lists p hs tells listed order = record {
-    has = λ h. (
-      λ e. let x = tells h e in (x.0, found _ _ n.board.tasks.pool l.tasks h (Some x.0) v.tasks x.1, x.2),
-      λ x. listed h x.0 (v.tasks.stands.found h ∙ x.1) x.2,
-    );
-    in_order = λ i j h m x y less e f a b. order i j h m x y less e f (v.tasks.stands.found h ∙ a) (v.tasks.stands.found m ∙ b);
-  }
+  lists p hs e1 e2 e3 = grind (arith, nat_tests)
 
   -- tasks that were started one after the other, as the board sees them
   seen-order : (hs : List ℕ) → ((h : ℕ) → has_handle h hs ≡ true → (s : Seen) × (seen_in n.board.tasks.pool h ≡ Some s)) → InOrder (seen_in n.board.tasks.pool) hs → (i j h m : ℕ) (x y : Task) → i < j → slice_get hs i ≡ Some h → slice_get hs j ≡ Some m → slot_value n.board.tasks.pool h ≡ Some x → slot_value n.board.tasks.pool m ≡ Some y → x.start < y.start

@@ -1,5 +1,5 @@
 -- Many tasks of a list that end at once end as they would one after the other.
-use Rattle.node_steps.proofs.Names.{◌≡◌, ℕ, ◌+◌, Bool, true, false, cond, List, [], ◌∷◌, Option, Some, None, refl, sym, ◌∙◌, ap, arith, ◌==◌, ◌&&◌, ◌||◌, if◌then◌else◌, nat_tests, TaskEnd, holds, Listed, live_of, lookup, live_object, handles_of, count_listed, change, Distinct, has_handle, Task, is_unstarted, ended, end_each}
+use Rattle.node_steps.proofs.Names.{◌≡◌, ℕ, ◌+◌, Bool, true, false, cond, List, [], ◌∷◌, Some, None, refl, sym, ◌∙◌, ap, arith, ◌==◌, ◌&&◌, ◌||◌, if◌then◌else◌, nat_tests, TaskEnd, holds, Listed, live_of, lookup, live_object, handles_of, count_listed, change, Distinct, has_handle, Task, is_unstarted, ended, end_each}
 use Rattle.std.proofs.lemmas.Bool.{false≢true}
 
 some_same : {A : Type 0} {a b : A} → Some a ≡ Some b → a ≡ b
@@ -15,8 +15,7 @@ itself : (a : ℕ) → (a == a) ≡ true
 itself a = grind (arith, nat_tests)
 
 and_off : (a b : Bool) → b ≡ false → (a && b) ≡ false
-and_off true b e = e
-and_off false b e = refl
+and_off a b e1 = grind (arith, nat_tests)
 
 -- The handles of those that pass
 
@@ -76,25 +75,14 @@ behind r s = (s.0, r ∷ s.1)
 
 live-behind : (r : Listed Task) (rs : List (Listed Task)) (h : ℕ) → (r.live && (r.handle == h)) ≡ false → live_object (r ∷ rs) h ≡ live_object rs h
 unfolding live_of
-live-behind r rs h off = by_live r.live off
-  where
-    by_live : (a : Bool) → (a && (r.handle == h)) ≡ false → lookup (cond a ((r.handle, r.fields) ∷ live_of rs) (live_of rs)) h ≡ lookup (live_of rs) h
-    by_live true f = ap (λ (b : Bool). cond b (Some r.fields) (live_object rs h)) f
-    by_live false f = refl
+live-behind r rs h e1 = grind (arith, nat_tests)
 
 change-behind : (r : Listed Task) (rs : List (Listed Task)) (h : ℕ) (f : Listed Task → Listed Task) → (r.live && (r.handle == h)) ≡ false → change h f (r ∷ rs) ≡ r ∷ change h f rs
 unfolding change
 change-behind r rs h f off = ap (λ (b : Bool). cond b (f r ∷ rs) (r ∷ change h f rs)) off
 
 step-behind : (p : Task → Bool) (e : TaskEnd) (r : Listed Task) (h : ℕ) (s : ℕ × List (Listed Task)) → (r.live && (r.handle == h)) ≡ false → step_listed p e h (behind r s) ≡ behind r (step_listed p e h s)
-step-behind p e r h s off =
-    ap (λ (o : Option Task). cond (holds p o) (s.0 + 1, change h (ended e s.0) (r ∷ s.1)) (behind r s)) (live-behind r s.1 h off)
-    ∙ ap (λ (l : List (Listed Task)). cond (holds p (live_object s.1 h)) (s.0 + 1, l) (behind r s)) (change-behind r s.1 h (ended e s.0) off)
-    ∙ by_test (holds p (live_object s.1 h))
-  where
-    by_test : (b : Bool) → cond b (s.0 + 1, r ∷ change h (ended e s.0) s.1) (behind r s) ≡ behind r (cond b (s.0 + 1, change h (ended e s.0) s.1) s)
-    by_test true = refl
-    by_test false = refl
+step-behind p e r h s e1 = grind (arith, nat_tests, live-behind, live_object, change-behind)
 
 each-behind : (p : Task → Bool) (e : TaskEnd) (r : Listed Task) (hs : List ℕ) (s : ℕ × List (Listed Task)) → IsApart r hs → each_listed p e hs (behind r s) ≡ behind r (each_listed p e hs s)
 each-behind p e r [] s k = refl
@@ -109,18 +97,11 @@ each-behind p e r (h ∷ hs) s k =
 -- the object in front has its turn
 step-own : (p : Task → Bool) (e : TaskEnd) (r : Listed Task) (n : ℕ) (rs : List (Listed Task)) (c : Bool) → r.live ≡ true → p r.fields ≡ c → step_listed p e r.handle (n, r ∷ rs) ≡ cond c (n + 1, ended e n r ∷ rs) (n, r ∷ rs)
 unfolding live_of change
-step-own p e r n rs c live is =
-    ap (λ (a : Bool). cond (holds p (lookup (cond a ((r.handle, r.fields) ∷ live_of rs) (live_of rs)) r.handle)) (n + 1, cond (a && (r.handle == r.handle)) (ended e n r ∷ rs) (r ∷ change r.handle (ended e n) rs)) (n, r ∷ rs)) live
-    ∙ ap (λ (b : Bool). cond (holds p (cond b (Some r.fields) (live_object rs r.handle))) (n + 1, cond b (ended e n r ∷ rs) (r ∷ change r.handle (ended e n) rs)) (n, r ∷ rs)) (itself r.handle)
-    ∙ ap (λ (b : Bool). cond b (n + 1, ended e n r ∷ rs) (n, r ∷ rs)) is
+step-own p e r n rs c e1 e2 = grind (arith, nat_tests)
 
 -- the handles behind a live object are others
 apart-live : (p : Task → Bool) (handle : ℕ) (x : Listed Task) (rs : List (Listed Task)) → x.handle ≡ handle → lookup (live_of rs) handle ≡ None → Distinct (live_of rs) → IsApart x (handles_of p (live_of rs))
-apart-live p handle x rs same none d h m = by_test (x.handle == h) refl
-  where
-    by_test : (b : Bool) → (x.handle == h) ≡ b → (x.live && b) ≡ false
-    by_test true on = let t = listed-passes p (live_of rs) h d m in none_some (sym none ∙ ap (lookup (live_of rs)) (sym same ∙ equal x.handle h on) ∙ t.1)
-    by_test false off = and_off x.live false refl
+apart-live p handle x rs e1 e2 e3 = grind (arith, nat_tests, listed-passes, live_of, none_some, equal, and_off)
 
 module _ (p : Task → Bool) (e : TaskEnd) where
   abbrev pub both_pass : Task → Bool

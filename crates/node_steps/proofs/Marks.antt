@@ -18,23 +18,17 @@ closed (b ∷ bs) zero l = absurd (omega arith)
 closed (b ∷ bs) (suc i) l = closed bs i (omega arith)
 
 one_less : (left : ℕ) (b : Bool) (bs : List Bool) → (left ≡ 0 → ⊥) → b ≡ true → all_marked left (b ∷ bs) ≡ all_marked (left - 1) bs
-one_less zero b bs l e = absurd (l refl)
-one_less (suc m) true bs l e = let same : m ≡ suc m - 1 = omega arith in ap (λ n. all_marked n bs) same
-one_less (suc m) false bs l e = absurd (cc)
+one_less left b bs e1 e2 = grind (arith, nat_tests)
 
 unmarked : (left : ℕ) (b : Bool) (bs : List Bool) → (left ≡ 0 → ⊥) → b ≡ false → all_marked left (b ∷ bs) ≡ false
-unmarked zero b bs l e = absurd (l refl)
-unmarked (suc m) false bs l e = refl
-unmarked (suc m) true bs l e = absurd (cc)
+unmarked left b bs e1 e2 = grind (arith, nat_tests)
 
 module _ (n left i : ℕ) (marks : List Bool) where
   pub marks_false : i < length marks → (left ≡ 0 → ⊥) → slice_index_or marks i false ≡ false → all_marked n marks ≡ all_marked left (drop i marks) → all_marked n marks ≡ false
   marks_false l z e h = h ∙ (ap (all_marked left) (opened marks i l) ∙ unmarked left _ (drop (suc i) marks) z e)
 
   pub marks_true : i < length marks → (left ≡ 0 → ⊥) → slice_index_or marks i false ≡ true → all_marked n marks ≡ all_marked left (drop i marks) → all_marked n marks ≡ all_marked (left - 1) (drop (i + 1) marks)
-  marks_true l z e h =
-      let next : suc i ≡ i + 1 = omega arith in
-      h ∙ (ap (all_marked left) (opened marks i l) ∙ (one_less left _ (drop (suc i) marks) z e ∙ ap (λ k. all_marked (left - 1) (drop k marks)) next))
+  marks_true e1 e2 e3 e4 = grind (arith, nat_tests, all_marked, opened, one_less)
 
   pub marks_end : length marks ≤ i → all_marked n marks ≡ all_marked left (drop i marks) → all_marked n marks ≡ (left == 0)
   marks_end l h = h ∙ (ap (all_marked left) (closed marks i l) ∙ at_end left)

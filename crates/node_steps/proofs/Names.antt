@@ -1,11 +1,11 @@
 -- The names that the proofs of this crate cite of lower crates and of its own specs/, passed on from one place. Declares nothing.
-pub use Rattle.std.proofs.Common.{Bool, Err, FitsSigned, List, None, Ok, Option, Result, Some, [], ap, arith, cond, drop, false, inl, inr, length, length-append, map, not, refl, replicate, rules, slice_get, subst, suc, sym, true, w64, zero, ℕ, ◌*◌, ◌++◌, ◌+◌, ◌-◌, ◌<◌, ◌^◌, ◌↔◌, ◌∙◌, ◌∷◌, ◌≡◌, ◌≢◌, ◌≤◌, ◌⊎◌}
+pub use Rattle.std.proofs.Common.{Bool, Err, FitsSigned, List, None, Ok, Option, Result, Some, [], ap, arith, cond, drop, false, inl, inr, length, length-append, map, not, refl, replicate, rules, slice_get, subst, suc, sym, true, w64, zero, ℕ, ◌++◌, ◌+◌, ◌-◌, ◌<◌, ◌^◌, ◌↔◌, ◌∙◌, ◌∷◌, ◌≡◌, ◌≢◌, ◌≤◌, ◌⊎◌}
 pub use Rattle.std.proofs.lemmas.Bool.{eq-eqb, ne_eqb}
 pub use Rattle.std.proofs.lemmas.Bool.Decides.{Decides-int_eq, eqb_tells, nat_tests}
 pub use Rattle.std.proofs.lemmas.Int.{to_z-of_z}
 pub use Rattle.std.specs.Option.{IfSome, option_map}
 pub use Rattle.std.specs.Ordering.{int_eq}
-pub use Rattle.std.specs.Prelude.{IsNone, IsSome, if◌then◌else◌, is_none, is_some, nat_le, nat_lt, slice_index_or, ℤ, ◌&&◌, ◌+ℤ◌, ◌-ℤ◌, ◌==◌, ◌||◌}
+pub use Rattle.std.specs.Prelude.{IsNone, if◌then◌else◌, is_none, is_some, nat_le, nat_lt, slice_index_or, ℤ, ◌&&◌, ◌+ℤ◌, ◌-ℤ◌, ◌==◌, ◌||◌}
 pub use Rattle.action_fn.proofs.Numbers.{fits_from, fitting_from}
 pub use Rattle.action_fn.specs.Answers.{Answered, IsAnswered, fits, fitting}
 pub use Rattle.group_core.specs.Members.{GroupTable, Members, counts_of, no_members}
@@ -22,7 +22,7 @@ pub use Rattle.linked_places.specs.Lists.{has_handle, list_at, without_handle}
 pub use Rattle.mtapi_layouts.specs.Ops.{HandleIsSmall, IssuesSmall, inward_op}
 pub use Rattle.mtapi_machine.specs.Laws.{AreAbove, Rises, start_numbers}
 pub use Rattle.mtapi_machine.specs.Legal.{IsHonest, IsNext, Legal, NodeEntry, after, next}
-pub use Rattle.mtapi_machine.specs.Moves.{Groups, Move, Mutexes, Queues, Rwls, Segments, Sems, after_moves, alters, apply, ends_task, ends_waiting, is_fresh, makes, makes_action, notes, starts_task, stops, withdraws}
+pub use Rattle.mtapi_machine.specs.Moves.{Groups, Move, Mutexes, Queues, Rwls, Segments, Sems, after_moves, alters, apply, ends_task, ends_waiting, is_fresh, makes, makes_action, notes, starts_task, withdraws}
 pub use Rattle.mtapi_machine.specs.QueueRows.{new_queue}
 pub use Rattle.mtapi_machine.specs.Row.{Allows, Row, after_row, chosen, creates, gives, handle_of, live, mtapi_unless, never, only, says, unless}
 pub use Rattle.mtapi_machine.specs.Rows.{row}
@@ -40,7 +40,7 @@ pub use Rattle.mtapi_objects.specs.Queues.{Queue, is_head, is_in, is_shut_in, is
 pub use Rattle.mtapi_objects.specs.Rwls.{new_rwl}
 pub use Rattle.mtapi_objects.specs.Segments.{Segment, cell_of, new_segment, with_attached, with_cell}
 pub use Rattle.mtapi_objects.specs.Sems.{new_sem}
-pub use Rattle.mtapi_objects.specs.Tasks.{Ended, NewTask, Running, Scheduled, TallyNotes, Task, TaskState, added, asked_once, asked_refusals, cancel_requested, cell_in, end_of, ended, finish_refusals, is_unended, is_unstarted, kind_number, new_task, no_tally, runner, runs_as, runs_on, scheduled, tally_args, tally_failed, tally_has, tally_read, tally_written, task_look_refusals, watch_end, watch_end_refusals, with_notes, with_state, with_tally, with_waiter}
+pub use Rattle.mtapi_objects.specs.Tasks.{Ended, NewTask, Running, Scheduled, TallyNotes, Task, TaskState, added, asked_once, asked_refusals, cancel_requested, cell_in, end_of, ended, finish_refusals, is_unended, is_unstarted, kind_number, new_task, no_tally, runner, runs_as, runs_on, tally_args, tally_failed, tally_has, tally_read, tally_written, task_look_refusals, watch_end, watch_end_refusals, with_notes, with_state, with_tally, with_waiter}
 pub use Rattle.mtapi_renaming.specs.Ops.{other_queue, renamed_op}
 pub use Rattle.mtapi_renaming.specs.Refusals.{CanAnswer, makes_or_not, refusal_of}
 pub use Rattle.mtapi_values.specs.Attributes.{AreNodeSettings, NodeSettings, QueueAttributes}
@@ -67,7 +67,7 @@ pub use Rattle.node_steps.specs.Tallies.{GivesBack, NoTally, RunsTally, noted_in
 pub use Rattle.node_steps.specs.declared.node.Node.{Node}
 pub use Rattle.queue_core.specs.Held.{Finds, HasId, HeldQueue, QueueTable, facts_of, held, live_reply, with_opened}
 pub use Rattle.queue_core.specs.declared.facts.QueueFacts.{QueueFacts}
-pub use Rattle.task_board.proofs.BoardLemmas.{job-found, unchanged}
+pub use Rattle.task_board.proofs.BoardLemmas.{job-found}
 pub use Rattle.task_board.proofs.MappedLemmas.{IsFull-mapped, mapped-changed, mapped-insert, mapped-new, mapped-without, value-mapped}
 pub use Rattle.task_board.proofs.MoveLemmas.{has-self, or-right, order-index}
 pub use Rattle.task_board.proofs.PartLemmas.{Member, ended-member, ended-so, member-from, unended-member, unended-so}
@@ -77,7 +77,7 @@ pub use Rattle.task_board.specs.Ends.{AreServed, EndsUnserved, EndsWaiting, ende
 pub use Rattle.task_board.specs.GroupMoves.{Each, FreesAll, LetsAllGo, NoneTaken, Regroups, end_at, ending_of, endings_of, frees, is_ended_member, lets_go}
 pub use Rattle.task_board.specs.Keyed.{AreKeyed, RisesBy}
 pub use Rattle.task_board.specs.Mapped.{mapped_slot}
-pub use Rattle.task_board.specs.Members.{MayJoin, Membership, end_in, member_as, members_in, membership, names_dead, start_in, without_members}
+pub use Rattle.task_board.specs.Members.{MayJoin, end_in, members_in, membership, names_dead, start_in, without_members}
 pub use Rattle.task_board.specs.Picks.{IsBest, IsChoice, IsChoiceOf, NoneBetter, NoneTakeable, RunsBy, Takeable}
 pub use Rattle.task_board.specs.Queued.{InOrder, begins_in}
 pub use Rattle.task_board.specs.Seen.{Seen, seen, seen_as, seen_in}

@@ -1,5 +1,5 @@
 -- The handle of a new object names a slot of its pool, so it is small.
-use Rattle.node_steps.proofs.Names.{◌≡◌, ℕ, ◌+◌, ◌≤◌, Bool, true, false, cond, List, [], ◌∷◌, Option, Some, None, refl, sym, ◌∙◌, ap, subst, arith, eq-eqb, Slots, Listed, live_object, listed, issue, Op, Reply, Handle, State, Objects, actions, tasks, groups, queues, mutexes, sems, rwls, segments, new_action, new_task, new_group, new_mutex, new_sem, new_rwl, new_segment, Move, Groups, Queues, Mutexes, Sems, Rwls, Segments, makes_action, starts_task, makes, is_fresh, apply, after_moves, asked_for, new_queue, Row, unless, gives, never, only, live, handle_of, Allows, after_row, row, HandleIsSmall, IssuesSmall, Node, Lists, Holds, Steps, state_of}
+use Rattle.node_steps.proofs.Names.{nat_tests, ℕ, ◌≤◌, true, false, List, [], ◌∷◌, Option, sym, subst, arith, eq-eqb, Slots, Listed, live_object, listed, issue, Op, Reply, Handle, State, Objects, actions, tasks, groups, queues, mutexes, sems, rwls, segments, new_action, new_task, new_group, new_mutex, new_sem, new_rwl, new_segment, Move, Groups, Queues, Mutexes, Sems, Rwls, Segments, makes_action, starts_task, makes, is_fresh, apply, after_moves, asked_for, new_queue, Row, unless, gives, never, only, live, handle_of, Allows, after_row, row, HandleIsSmall, IssuesSmall, Node, Lists, Holds, Steps, state_of}
 use Rattle.handle_pool.proofs.ListedLemmas.{listed-issue}
 use Rattle.mtapi_machine.specs.declared.ops.Op.TheVariants as op
 use Rattle.mtapi_machine.specs.TaskRows.{asked_of}
@@ -23,25 +23,18 @@ of_allowed P s (gives x ms) r g a = subst (λ (y : Reply). OfHandle P y (after_m
 of_allowed P s never r g a = absurd a
 
 of_live : (P : ℕ → State → Type 0) (s : State) {T : Type 0} (o : Option T) (v : Row) (w : T → Row) → AllOfHandle P s v → ((x : T) → AllOfHandle P s (w x)) → AllOfHandle P s (live o v w)
-of_live P s None v w g h = g
-of_live P s (Some x) v w g h = h x
+of_live P s o v w e1 e2 = grind (arith, nat_tests)
 
 -- the object of this handle is among those that were made
 abbrev Made : {T : Type 0} → Objects T → ℕ → State → Type 0
 Made o h t = 1 ≤ listed h (o.list t)
 
 issued : {T : Type 0} (h : ℕ) (x : T) (l : List (Listed T)) → 1 ≤ listed h (issue h x l)
-issued h x l =
-    let new : listed h (issue h x l) ≡ listed h l + 1 = listed-issue h h x l ∙ ap (λ b. listed h l + cond b 1 0) (eq-eqb h h refl) in
-    omega (arith, new)
+issued h x l = grind (arith, nat_tests, listed-issue, eq-eqb)
 
 -- the end of a row that makes an object
 new_made : {T : Type 0} (k : Objects T) (s : State) (r : Reply) (make : ℕ → Move) → Made k (handle_of r) (apply (make (handle_of r)) s) → AllOfHandle (Made k) s (only (is_fresh k s (handle_of r)) (gives (Handle (handle_of r)) (make (handle_of r) ∷ [])))
-new_made k s r make made = by_test (is_fresh k s (handle_of r))
-  where
-    by_test : (b : Bool) → AllOfHandle (Made k) s (only b (gives (Handle (handle_of r)) (make (handle_of r) ∷ [])))
-    by_test true = made
-    by_test false = tt
+new_made k s r make e1 = grind (arith, nat_tests)
 
 -- each handle that is listed names a slot of the pool
 has_room : {T : Type 0} {size turns : ℕ} {p : Slots T} {l : List (Listed T)} (h : ℕ) → Holds size turns p l → 1 ≤ listed h l → HasRoom h

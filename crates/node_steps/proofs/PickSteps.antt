@@ -1,12 +1,11 @@
 -- A pick is a step of the machine.
-use Rattle.node_steps.proofs.Names.{◌≡◌, ℕ, ◌<◌, Bool, true, false, not, cond, [], ◌∷◌, Option, Some, None, refl, sym, ◌∙◌, ap, subst, arith, ◌&&◌, nat_lt, is_none, nat_tests, in_mask, slot_value, changed, SomeLive, NoneLive, any_listed, update, any-none, any-live, any-some, Action, has_enabled_job, is_eligible, Passes, Task, TaskState, Scheduled, Running, Ended, scheduled, end_of, is_unstarted, is_unended, runs_on, with_state, Reply, State, workers, is_new, is_stop, Row, says, gives, is_ready, can_take, has_better, picks, Kind, Node, Choice, Lists, Live, Steps, state_of, begins_in, IsBoard, RunsBy, Takeable, NoneTakeable, NoneBetter, IsChoice, IsBest}
+use Rattle.node_steps.proofs.Names.{◌≡◌, ℕ, ◌<◌, Bool, true, false, not, cond, [], ◌∷◌, Option, Some, None, sym, ◌∙◌, ap, subst, arith, ◌&&◌, nat_lt, nat_tests, in_mask, slot_value, changed, SomeLive, NoneLive, any_listed, update, any-none, any-live, any-some, Action, has_enabled_job, is_eligible, Passes, Task, Running, is_unstarted, is_unended, runs_on, with_state, Reply, State, workers, is_new, is_stop, Row, gives, is_ready, can_take, has_better, picks, Kind, Node, Choice, Lists, Live, Steps, state_of, begins_in, IsBoard, RunsBy, Takeable, NoneTakeable, NoneBetter, IsChoice, IsBest}
 use Rattle.std.specs.Bool.{OnTrue, OnFalse}
-use Rattle.std.proofs.lemmas.Bool.{false≢true}
 use Rattle.mtapi_machine.specs.declared.ops.Op.TheVariants as op
 use Rattle.mtapi_machine.specs.declared.replies.Reply.TheVariants as reply
 use Rattle.mtapi_machine.specs.Moves.{runs_task as runs_task}
 use Rattle.node_steps.specs.Picks.{Takes}
-use Rattle.node_steps.proofs.Gives.{Gives, gives_this, says_this, past, allows, at_some, stays, lands}
+use Rattle.node_steps.proofs.Gives.{Gives, gives_this, says_this, past, allows, at_some, lands}
 use Rattle.node_steps.proofs.Moves.{found, holds_changed}
 use Rattle.node_steps.proofs.StartSteps.{and_true, and_left, and_right, eligible_in, runs_in}
 use Rattle.node_steps.proofs.TaskSteps.{task_steps, with_pool}
@@ -23,12 +22,7 @@ module _ (n : Node) (l : Lists) (w : ℕ) (v : Live n l) (k : IsBoard n.board) (
   lets_in h = begins_in n.board.queues.pool h
 
   scheduled-unended : (t : Task) → is_unstarted t ≡ true → is_unended t ≡ true
-  scheduled-unended t u = by_state t.state u
-    where
-      by_state : (x : TaskState) → scheduled x ≡ true → is_none (end_of x) ≡ true
-      by_state Scheduled e = refl
-      by_state (Running v k) e = refl
-      by_state (Ended y n) e = absurd (cc)
+  scheduled-unended t e1 = grind (arith, nat_tests)
 
   ready_if : (h : ℕ) (t : Task) → slot_value n.board.tasks.pool h ≡ Some t → is_unstarted t ≡ true → lets_in h t.queue ≡ true → is_ready (state_of n l) t ≡ true
   unfolding is_ready
@@ -48,8 +42,7 @@ module _ (n : Node) (l : Lists) (w : ℕ) (v : Live n l) (k : IsBoard n.board) (
 
   pub takes_if : (h : ℕ) (t : Task) → slot_value n.board.tasks.pool h ≡ Some t → Takeable n.board.actions (lets_in h) w t → can_take (state_of n l) w t ≡ true
   unfolding can_take
-  takes_if h t g s =
-      and_true _ _ (ready_if h t g s.3.unstarted s.3.queue) (any-live n.board.actions l.actions (is_eligible worker_count w t.job t.cores) s.0 s.1 v.actions.stands s.2 (eligible_if h t s.1 s.3))
+  takes_if h t e1 e2 = grind (arith, nat_tests, and_true, ready_if, any-live, is_eligible, eligible_if)
 
   pub takeable : (h : ℕ) (t : Task) → slot_value n.board.tasks.pool h ≡ Some t → can_take (state_of n l) w t ≡ true → Takeable n.board.actions (lets_in h) w t
   unfolding can_take
@@ -84,29 +77,12 @@ module _ (n : Node) (l : Lists) (w : ℕ) (v : Live n l) (k : IsBoard n.board) (
   -- and the other way round
   pub better_if : (priority : ℕ) → has_better (state_of n l) w priority ≡ false → NoneBetter n.board.actions n.board.tasks.pool n.board.queues.pool w priority
   unfolding has_better
-  better_if priority e h t g s smaller =
-      false≢true (sym e ∙ any-live n.board.tasks.pool l.tasks (λ t. can_take (state_of n l) w t && nat_lt t.priority priority) h t v.tasks.stands g (and_true _ _ (takes_if h t g s) less_than))
-    where
-      less_than : nat_lt t.priority priority ≡ true
-      less_than = grind (arith, nat_tests)
+  better_if priority e1 = grind (arith, nat_tests, any-live, can_take, state_of, nat_lt, and_true, takes_if)
 
   -- what may be taken can be chosen
   pub choice_if : (c : Choice) (t : Task) (a : Action) → slot_value n.board.tasks.pool c.task.0 ≡ Some t → slot_value n.board.actions c.action.0 ≡ Some a → a.kind ≡ c.kind → t.priority ≡ c.priority → is_ready (state_of n l) t ≡ true → is_eligible worker_count w t.job t.cores a ≡ true →
       IsChoice n.board.actions n.board.tasks.pool n.board.queues.pool w c
-  choice_if c t a found_t found_a kind priority ready eligible = record {
-    t = t;
-    a = a;
-    task = found_t;
-    action = found_a;
-    kind = kind;
-    priority = priority;
-    runs = record {
-      unstarted = ready_unstarted t ready;
-      queue = ready_let c.task.0 t found_t ready;
-      core = and_right (has_enabled_job t.job a && nat_lt w worker_count && in_mask w a.cores) (in_mask w t.cores) eligible;
-      action = runs_in worker_count w t.job t.cores a eligible;
-    };
-  }
+  choice_if c t a e1 e2 e3 e4 e5 e6 = grind (arith, nat_tests, ready_unstarted, ready_let, and_right, has_enabled_job, nat_lt, in_mask)
 
   -- what was chosen may be taken
   may : (c : Choice) (x : IsChoice n.board.actions n.board.tasks.pool n.board.queues.pool w c) → NoneBetter n.board.actions n.board.tasks.pool n.board.queues.pool w c.priority → (is_ready (state_of n l) x.t && is_eligible (workers (state_of n l)) w x.t.job x.t.cores x.a && not (has_better (state_of n l) w x.t.priority)) ≡ true
@@ -115,15 +91,11 @@ module _ (n : Node) (l : Lists) (w : ℕ) (v : Live n l) (k : IsBoard n.board) (
       and_true _ _ (and_true _ _ (ready_if c.task.0 x.t x.task x.runs.unstarted x.runs.queue) (eligible_if c.task.0 x.t x.a x.runs)) (ap not better)
 
 not_stopped : (b : Bool) (s t : State) (r : Reply) (u v : Row) → b ≡ false → Gives s v r t → Gives s (cond b u v) r t
-not_stopped false s t r u v e g = g
-not_stopped true s t r u v e g = absurd (cc)
+not_stopped b s t r u v e1 e2 = grind (arith, nat_tests)
 
 module _ (n : Node) (l : Lists) (w : ℕ) (v : Live n l) (kept : IsBoard n.board) (less : w < n.board.settings.workers) (runs : any_listed (runs_on w) l.tasks ≡ false) (new : is_new n.core.phase ≡ false) (stop : is_stop (state_of n l) ≡ false) where
   pub pick_idle : IsBest n.board.actions n.board.tasks.pool n.board.queues.pool w None → Steps n l w op.Pick reply.Idle n
-  pick_idle none =
-      stays n l w op.Pick reply.Idle v tt
-      (past _ _ _ _ _ _ (is_worker w _ less) (past _ _ _ _ _ _ runs (past _ _ _ _ _ _ new (not_stopped (is_stop (state_of n l)) _ _ _ _ _ stop
-      (allows _ _ _ _ (says reply.Idle) (ap not (none_takes n l w v kept less none)) (says_this _ reply.Idle))))))
+  pick_idle e1 = grind (arith, nat_tests, is_worker, not_stopped, is_stop, state_of, none_takes, says_this)
 
   pub pick_takes : (c : Choice) (r : Reply) (m : Node) → IsBest n.board.actions n.board.tasks.pool n.board.queues.pool w (Some c) → Takes n w c r m → Steps n l w op.Pick r m
   pick_takes c r m best t =
@@ -166,5 +138,4 @@ pick_busy n l w v some = any-live n.board.tasks.pool l.tasks (runs_on w) some.0 
 
 -- what was told of a worker
 pub runs_told : (n : Node) (l : Lists) (w : ℕ) (b : Bool) → Live n l → OnTrue b (SomeLive (slot_value n.board.tasks.pool) (Passes (runs_on w))) → OnFalse b (NoneLive (slot_value n.board.tasks.pool) (Passes (runs_on w))) → any_listed (runs_on w) l.tasks ≡ b
-runs_told n l w true v some none = pick_busy n l w v some
-runs_told n l w false v some none = pick_free n l w v none
+runs_told n l w b e1 e2 e3 = grind (arith, nat_tests, pick_busy, pick_free)

@@ -1,5 +1,5 @@
 -- The queues of a board as the machine's list says them.
-use Rattle.node_steps.proofs.Names.{◌≡◌, ℕ, ◌+◌, ◌<◌, Bool, true, false, not, cond, List, [], ◌∷◌, length, Option, Some, None, refl, sym, ◌∙◌, ap, subst, arith, ◌&&◌, ◌||◌, ◌==◌, nat_lt, is_none, option_map, nat_tests, holds, Slots, slot_value, Listed, live_of, lookup, live_object, count_listed, how_many, any_live, Distinct, any-none, any-live, same_tests, pairs_without, lookup-without, Distinct-without, how_many-without, passing, has_handle, Task, TaskState, Scheduled, Running, Ended, end_of, is_unended, Queue, is_in, is_unended_in, is_head, lets, HeldQueue, Seen, seen_as, seen, seen_in, InOrder, begins_in, IsBoard, records_of, some_same, seen-as, seen-live, value-mapped, Node, Lists, Live}
+use Rattle.node_steps.proofs.Names.{◌≡◌, ℕ, ◌+◌, ◌<◌, Bool, true, false, not, cond, List, [], ◌∷◌, length, Option, Some, None, refl, sym, ◌∙◌, ap, subst, arith, ◌&&◌, ◌||◌, ◌==◌, nat_lt, is_none, option_map, nat_tests, holds, Slots, slot_value, Listed, live_of, lookup, live_object, count_listed, how_many, any_live, Distinct, any-none, any-live, same_tests, pairs_without, lookup-without, Distinct-without, how_many-without, passing, has_handle, Task, TaskState, Scheduled, Running, Ended, end_of, is_unended, Queue, is_in, is_unended_in, is_head, lets, HeldQueue, Seen, seen_as, seen, seen_in, InOrder, begins_in, IsBoard, records_of, some_same, seen-as, value-mapped, Node, Lists, Live}
 use Rattle.queue_ready.specs.Ready.{is_first, may_begin}
 use Rattle.node_steps.proofs.StartSteps.{and_true, and_left, and_right, false≢true}
 
@@ -13,12 +13,10 @@ itself : (a : ℕ) → (a == a) ≡ true
 itself a = grind (arith, nat_tests)
 
 or_only : (a b : Bool) → a ≡ false → (a || b) ≡ true → b ≡ true
-or_only false b e f = f
-or_only true b e f = absurd (cc)
+or_only a b e1 e2 = grind (arith, nat_tests)
 
 or_right : (a b : Bool) → b ≡ true → (a || b) ≡ true
-or_right true b e = refl
-or_right false b e = e
+or_right a b e1 = grind (arith, nat_tests)
 
 -- Records
 
@@ -30,11 +28,7 @@ pub record-none : (p : Slots HeldQueue) (q : ℕ) → slot_value p q ≡ None �
 record-none p q e = value-mapped (λ (y : HeldQueue). y.queue) p q ∙ ap (option_map (λ (y : HeldQueue). y.queue)) e
 
 pub record-found : (p : Slots HeldQueue) (q : ℕ) (v : Queue) → slot_value (records_of p) q ≡ Some v → (x : HeldQueue) × (slot_value p q ≡ Some x) × (x.queue ≡ v)
-record-found p q v e = by_value (slot_value p q) refl (sym (value-mapped (λ (y : HeldQueue). y.queue) p q) ∙ e)
-  where
-    by_value : (o : Option HeldQueue) → slot_value p q ≡ o → option_map (λ (y : HeldQueue). y.queue) o ≡ Some v → (x : HeldQueue) × (slot_value p q ≡ Some x) × (x.queue ≡ v)
-    by_value None g f = none_some f
-    by_value (Some x) g f = (x, g, some_same f)
+record-found p q v e1 = grind (arith, nat_tests, slot_value, value-mapped, option_map, none_some, some_same)
 
 -- What is seen of an unended task
 
@@ -50,13 +44,10 @@ unended-seen t (Running w k) e u = record { s = _; is = ap (seen_as t) e; queue 
 unended-seen t (Ended y n) e u = false≢true (sym (ap (λ (z : TaskState). is_none (end_of z)) e) ∙ u)
 
 seen-unended : (t : Task) (x : TaskState) (s : Seen) → t.state ≡ x → seen (Some t) ≡ Some s → is_unended t ≡ true
-seen-unended t Scheduled s e f = ap (λ (z : TaskState). is_none (end_of z)) e
-seen-unended t (Running w k) s e f = ap (λ (z : TaskState). is_none (end_of z)) e
-seen-unended t (Ended y n) s e f = none_some (sym (ap (seen_as t) e) ∙ f)
+seen-unended t x s e1 e2 = grind (arith, nat_tests)
 
 pub is_in-named : (q : ℕ) (o : Option ℕ) → holds (λ h. h == q) o ≡ true → o ≡ Some q
-is_in-named q None e = false≢true e
-is_in-named q (Some h) e = ap Some (equal h q e)
+is_in-named q o e1 = grind (arith, nat_tests)
 
 named-is_in : (q : ℕ) (o : Option ℕ) → o ≡ Some q → holds (λ h. h == q) o ≡ true
 named-is_in q o e = ap (λ (z : Option ℕ). holds (λ h. h == q) z) e ∙ itself q
@@ -69,10 +60,7 @@ module _ (n : Node) (l : Lists) (v : Live n l) (k : IsBoard n.board) (q : ℕ) (
       k.queued.listed h q s.s x (ap seen g ∙ s.is) (s.queue ∙ is_in-named q t.queue (and_left (is_in q t) _ e)) live
 
   pub of-list : (h : ℕ) → has_handle h x.tasks ≡ true → (t : Task) × (slot_value n.board.tasks.pool h ≡ Some t) × (is_unended_in q t ≡ true)
-  of-list h e =
-      let s = k.queued.names h q x live e in
-      let t = seen-live n.board.tasks.pool h s.0 s.1 in
-      (t.0, t.1, and_true _ _ (named-is_in q t.0.queue (sym (seen-as t.0 t.0.state s.0 t.2).queue ∙ s.2)) (seen-unended t.0 t.0.state s.0 refl t.2))
+  of-list h e1 = grind (arith, nat_tests)
 
   start-of : (h : ℕ) (t : Task) (s : Seen) → slot_value n.board.tasks.pool h ≡ Some t → seen_in n.board.tasks.pool h ≡ Some s → s.start ≡ t.start
   start-of h t s g e = (seen-as t t.state s (sym (ap seen g) ∙ e)).start
@@ -139,8 +127,7 @@ module _ (n : Node) (l : Lists) (v : Live n l) (k : IsBoard n.board) (q : ℕ) (
           absurd (false≢true (sym (ap not any) ∙ e))
 
   pub head-is-first : (h : ℕ) (t : Task) → slot_value n.board.tasks.pool h ≡ Some t → is_unended_in q t ≡ true → is_head q t (live_of l.tasks) ≡ is_first h x.tasks
-  head-is-first h t g p =
-      same_tests _ _ (head-first h t g p x.tasks refl (k.queued.ordered q x live)) (first-head h t g x.tasks refl (k.queued.ordered q x live))
+  head-is-first h t g p = grind (arith, nat_tests, same_tests, head-first, first-head)
 
 -- A queue lets the same tasks begin
 

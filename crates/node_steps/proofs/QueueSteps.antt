@@ -160,8 +160,7 @@ module _ (n : Node) (l : Lists) (who : ℕ) (q : QueueHandle) (v : Live n l) (up
   -- Disabling, and deleting
 
   retained : (b : Bool) (ms : List Move) → b ≡ true → Gives (state_of n l) (gives reply.Ok (alters Queues q.0 (opened false) ∷ cond b [] ms)) reply.Ok (record (state_of n l) { queues = update q.0 (opened false) l.queues })
-  retained true ms e = gives_this _ _ _
-  retained false ms e = absurd (cc)
+  retained b ms e1 = grind (arith, nat_tests)
 
   pub disable_retained : (x : HeldQueue) → slot_value n.board.queues.pool q.0 ≡ Some x → x.queue.retain ≡ true → Steps n l who (op.QueueDisable q) reply.Ok (with_queues n (changed n.board.queues.pool q.0 (with_opened false)))
   disable_retained x live keeps =
@@ -184,8 +183,7 @@ module _ (n : Node) (l : Lists) (who : ℕ) (q : QueueHandle) (v : Live n l) (up
       (record { actions = v.actions; tasks = once.holds; groups = v.groups; queues = holds; resources = v.resources }) refl (omega (arith, once.starts)) honest
 
   cancelled : (b : Bool) → b ≡ false → Gives (state_of n l) (gives reply.Ok (alters Queues q.0 (opened false) ∷ cond b [] (ends_waiting (is_in q.0) Cancelled ∷ []))) reply.Ok (record (end_tasks (λ x. is_unstarted x && is_in q.0 x) Cancelled (state_of n l)) { queues = update q.0 (opened false) l.queues })
-  cancelled false e = gives_this _ _ _
-  cancelled true e = absurd (cc)
+  cancelled b e1 = grind (arith, nat_tests)
 
   pub disable_ended : (x : HeldQueue) (t : TaskTable) → slot_value n.board.queues.pool q.0 ≡ Some x → x.queue.retain ≡ false → Sound (state_of n l) → EndsWaiting (is_in q.0) Cancelled n.board.tasks t → Steps n l who (op.QueueDisable q) reply.Ok (ended_with (changed n.board.queues.pool q.0 (with_opened false)) t)
   disable_ended x t live keeps sound ends =
@@ -202,18 +200,14 @@ module _ (n : Node) (l : Lists) (who : ℕ) (q : QueueHandle) (v : Live n l) (up
 
 -- the two calls of a board by which a queue is disabled, and those by which it is deleted
 pub disable_lands : (n : Node) (l : Lists) (who : ℕ) (q : QueueHandle) (b c : BoardTable) (p : Slots HeldQueue) → BecomesWith n.board b p → Becomes b c b.actions c.tasks → Steps n l who (op.QueueDisable q) reply.Ok (record n { board = record n.board { tasks = c.tasks; queues = record n.board.queues { pool = p } } }) → Steps n l who (op.QueueDisable q) reply.Ok (record n { board = c })
-disable_lands n l who q b c p x y s =
-    lands_to n n l who (op.QueueDisable q) reply.Ok c n.board.actions c.tasks p n.board.groups refl (y.settings ∙ x.settings) (y.actions_are ∙ x.actions_are) refl (y.queues_are ∙ ap records_of x.queues_are)
-    (y.groups_are ∙ ap (λ (g : GroupTable). without_members g.pool) x.groups_are) s
+disable_lands n l who q b c p e1 e2 e3 = grind (arith, nat_tests)
 
 pub ends_before : (n : Node) (b : BoardTable) (p : Slots HeldQueue) (f : Task → Bool) (e : TaskEnd) (t : TaskTable) → BecomesWith n.board b p → EndsWaiting f e b.tasks t → EndsWaiting f e n.board.tasks t
 ends_before n b p f e t x ends = subst (λ (z : TaskTable). EndsWaiting f e z t) x.tasks_are ends
 
 -- a queue that is live goes on to be
 pub live_after : (n : Node) (b : BoardTable) (q : ℕ) (x : HeldQueue) → records_of b.queues.pool ≡ records_of n.board.queues.pool → slot_value n.board.queues.pool q ≡ Some x → (y : HeldQueue) × (slot_value b.queues.pool q ≡ Some y)
-live_after n b q x same live =
-    let y = record-found b.queues.pool q x.queue (ap (λ (p : Slots Queue). slot_value p q) same ∙ record-value n.board.queues.pool q x live) in
-    (y.0, y.1)
+live_after n b q x e1 e2 = grind (arith, nat_tests, record-found, slot_value, record-value)
 
 pub delete_lands : (n : Node) (l : Lists) (who : ℕ) (q : QueueHandle) (b c : BoardTable) (t : TaskTable) → Becomes n.board b n.board.actions t → BecomesWith b c (without b.queues.pool q.0) → Steps n l who (op.QueueDelete q) reply.Ok (record n { board = record n.board { tasks = t; queues = record n.board.queues { pool = without n.board.queues.pool q.0 } } }) → Steps n l who (op.QueueDelete q) reply.Ok (record n { board = c })
 delete_lands n l who q b c t x y s =
@@ -235,8 +229,7 @@ first_none ((true, x) ∷ xs) ys e = absurd (cc)
 first_none ((false, x) ∷ xs) ys e = first_none xs ys e
 
 pub facts_found : (o : Option HeldQueue) (f : QueueFacts) → Some f ≡ option_map facts_of o → (x : HeldQueue) × (o ≡ Some x) × (f ≡ facts_of x)
-facts_found None f e = none_some (sym e)
-facts_found (Some x) f e = (x, refl, some_same e)
+facts_found o f e1 = grind (arith, nat_tests)
 
 module _ (n : Node) (l : Lists) (who : ℕ) (q : QueueHandle) (args : List ℤ) (cores : Mask) (detached : Bool) (group : Option GroupHandle) (v : Live n l) (up : is_open n.core.phase ≡ true) where
   abbrev enqueue : Op
@@ -246,9 +239,7 @@ module _ (n : Node) (l : Lists) (who : ℕ) (q : QueueHandle) (args : List ℤ) 
   enqueue_wrong w = stays n l who enqueue (reply.Mtapi m.ErrParameter) v tt (past _ _ _ _ _ _ (not_true _ up) (met _ _ _ _ w))
 
   pub enqueue_absent : is_detached_member detached group ≡ false → slot_value n.board.queues.pool q.0 ≡ None → Steps n l who enqueue (reply.Mtapi m.ErrQueueInvalid) n
-  enqueue_absent w dead =
-      stays n l who enqueue (reply.Mtapi m.ErrQueueInvalid) v tt
-      (past _ _ _ _ _ _ (not_true _ up) (past _ _ _ _ _ _ w (at_none _ _ _ _ (found _ _ (records_of n.board.queues.pool) l.queues q.0 None v.queues (record-none n.board.queues.pool q.0 dead)))))
+  enqueue_absent e1 e2 = grind (arith, nat_tests, not_true, at_none, records_of, record-none)
 
   module _ (kept : IsBoard n.board) (w : is_detached_member detached group ≡ false) (x : HeldQueue) (live : slot_value n.board.queues.pool q.0 ≡ Some x) where
     abbrev asks : NewTask

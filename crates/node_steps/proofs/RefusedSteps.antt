@@ -1,5 +1,5 @@
 -- Why an op that makes an object is refused before it is asked whether there is room, by the conditions of its row.
-use Rattle.node_steps.proofs.Names.{◌≡◌, ℕ, Bool, true, false, not, cond, List, [], ◌∷◌, ◌++◌, Option, Some, None, refl, sym, ◌∙◌, ap, subst, ◌&&◌, ◌||◌, ◌==◌, nat_lt, nat_le, ℤ, IsNone, option_map, IfSome, first, GroupHandle, QueueHandle, Kind, Mask, MtapiStatus, slot_value, SomeLive, NoneLive, any_listed, live_object, count_listed, any-none, any-live, new_action, has_job, action_create_refusals, new_group, Queue, is_unended_in, put_refusals, new_mutex, new_sem, new_rwl, new_segment, Op, Reply, State, is_open, actions, tasks, groups, queues, mutexes, sems, rwls, segments, Move, Groups, Queues, Mutexes, Sems, Rwls, Segments, makes_action, starts_task, makes, Row, says, live, creates, mtapi_unless, Allows, row, new_queue, asked_for, start_refusals, is_detached_member, IsHonest, makes_or_not, refusal_in, refusal_of, CanAnswer, HeldQueue, HasId, facts_of, QueueFacts, IsBoard, records_of, Node, Lists, Live, Steps, state_of}
+use Rattle.node_steps.proofs.Names.{arith, nat_tests, ◌≡◌, ℕ, Bool, true, false, not, cond, List, [], ◌∷◌, ◌++◌, Option, Some, None, refl, sym, ◌∙◌, ap, subst, ◌&&◌, ◌||◌, ◌==◌, nat_lt, nat_le, ℤ, IsNone, option_map, IfSome, first, GroupHandle, QueueHandle, Kind, Mask, MtapiStatus, slot_value, SomeLive, NoneLive, any_listed, live_object, count_listed, any-none, any-live, new_action, has_job, action_create_refusals, new_group, Queue, is_unended_in, put_refusals, new_mutex, new_sem, new_rwl, new_segment, Op, Reply, State, is_open, actions, tasks, groups, queues, mutexes, sems, rwls, segments, Move, Groups, Queues, Mutexes, Sems, Rwls, Segments, makes_action, starts_task, makes, Row, says, live, creates, mtapi_unless, Allows, row, new_queue, asked_for, start_refusals, is_detached_member, IsHonest, makes_or_not, refusal_in, refusal_of, CanAnswer, HeldQueue, HasId, facts_of, QueueFacts, IsBoard, records_of, Node, Lists, Live, Steps, state_of}
 use Rattle.mtapi_values.specs.declared.handles.ObjectKind.{ObjectKind}
 use Rattle.mtapi_values.specs.declared.statuses.MtapiStatus.TheVariants as m
 use Rattle.mtapi_values.specs.declared.statuses.MrapiStatus.{MrapiStatus}
@@ -25,8 +25,7 @@ before f None r = r
 before f (Some c) r = Some (f c)
 
 no_more : (f : MtapiStatus → Reply) (o : Option MtapiStatus) → before f o None ≡ option_map f o
-no_more f None = refl
-no_more f (Some c) = refl
+no_more f o = grind (arith, nat_tests)
 
 goes_on : (cs : List (Bool × MtapiStatus)) (w : Row) → makes_or_not w ≡ false → makes_or_not (mtapi_unless cs w) ≡ false
 goes_on [] w e = e
@@ -53,20 +52,17 @@ in_mrapi ((false, c) ∷ cs) w e f = ap (λ (b : Bool). cond b None (refusal_in 
 
 -- what none of a list of conditions tells of the first, and of the others
 pub first_fails : (b : Bool) (c : MtapiStatus) (cs : List (Bool × MtapiStatus)) → first ((b, c) ∷ cs) ≡ None → (b ≡ false) × (first cs ≡ None)
-first_fails true c cs e = absurd (cc)
-first_fails false c cs e = (refl, e)
+first_fails b c cs e1 = grind (arith, nat_tests)
 
 first_goes : (b : Bool) (c : MtapiStatus) (cs : List (Bool × MtapiStatus)) (o : Option MtapiStatus) → b ≡ false → first cs ≡ o → first ((b, c) ∷ cs) ≡ o
 first_goes b c cs o e f = ap (λ (x : Bool). cond x (Some c) (first cs)) e ∙ f
 
 pub is_opened : (b : Bool) → not b ≡ false → b ≡ true
-is_opened true e = refl
-is_opened false e = absurd (cc)
+is_opened b e1 = grind (arith, nat_tests)
 
 -- no queue shows anything
 pub none_found : (o : Option HeldQueue) → None ≡ option_map facts_of o → o ≡ None
-none_found None e = refl
-none_found (Some x) e = absurd (cc)
+none_found o e1 = grind (arith, nat_tests)
 
 -- A step that is refused
 

@@ -1,5 +1,5 @@
 -- The ops on resources are steps of the machine.
-use Rattle.node_steps.proofs.Names.{◌≡◌, ℕ, true, refl, sym, ap, subst, arith, NodeSettings, Op, Reply, State, after_row, row, IsHonest, renamed_op, ResourceTable, HoldsAll, resource_lists, Does, IsAt, is_resource_op, Node, Lists, Live, Steps, state_of}
+use Rattle.node_steps.proofs.Names.{nat_tests, ◌≡◌, ℕ, true, refl, sym, ap, subst, arith, NodeSettings, Op, Reply, State, after_row, row, IsHonest, renamed_op, ResourceTable, HoldsAll, resource_lists, Does, IsAt, is_resource_op, Node, Lists, Live, Steps, state_of}
 use Rattle.mtapi_machine.specs.declared.ops.Op.TheVariants as op
 use Rattle.mtapi_renaming.specs.Renaming.{Renaming}
 use Rattle.node_resources.specs.declared.gate.Gate.{Gate}
@@ -7,13 +7,11 @@ use Rattle.node_resources.specs.Steps.{Steps as ResourceSteps}
 
 -- a seat tells nothing with such an op that it could not know
 honest : (o : Op) → is_resource_op o ≡ true → IsHonest o
-honest (op.Finish task done) e = absurd (cc)
-honest _ e = tt
+honest o e1 = grind (arith, nat_tests)
 
 -- with other handles it is still such an op
 pub stays : (g : Renaming) (o : Op) → is_resource_op (renamed_op g o) ≡ is_resource_op o
-stays g (op.Finish task done) = refl
-stays g _ = refl
+stays g o = grind (arith, nat_tests)
 
 -- the gate that the node tells is that of its state
 pub is_at : (n : Node) (l : Lists) (g : Gate) → g.phase ≡ n.core.phase → g.workers ≡ n.board.settings.workers → IsAt (state_of n l) g

@@ -1,13 +1,9 @@
 -- An op of which each handle stands for itself.
-use Rattle.node_steps.proofs.Names.{◌≡◌, ℕ, refl, subst, Some, None, Op, Reply, renamed_op, Node, Lists, Live, Steps, state_of, Sound}
+use Rattle.node_steps.proofs.Names.{arith, nat_tests, ◌≡◌, ℕ, subst, Op, Reply, renamed_op, Node, Lists, Live, Steps, state_of, Sound}
 use Rattle.mtapi_machine.specs.declared.ops.Op.TheVariants as op
 
 same : (o : Op) → renamed_op (λ kind handle. handle) o ≡ o
-same (op.TaskStart job args priority cores detached None) = refl
-same (op.TaskStart job args priority cores detached (Some x)) = refl
-same (op.TaskEnqueue q args cores detached None) = refl
-same (op.TaskEnqueue q args cores detached (Some x)) = refl
-same _ = refl
+same o = grind (arith, nat_tests)
 
 -- what a node does with it is what it does with the op
 pub does : (n m : Node) (who : ℕ) (o : Op) (r : Reply) → ((l : Lists) → Live n l → Sound (state_of n l) → Steps n l who (renamed_op (λ kind handle. handle) o) r m) → (l : Lists) → Live n l → Sound (state_of n l) → Steps n l who o r m

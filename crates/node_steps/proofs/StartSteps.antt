@@ -1,5 +1,5 @@
 -- Why a new task is refused, from what the actions of its job cover.
-use Rattle.node_steps.proofs.Names.{◌≡◌, ℕ, zero, suc, ◌<◌, Bool, true, false, not, cond, List, [], ◌∷◌, Option, Some, None, refl, sym, ◌∙◌, arith, ap, ◌&&◌, nat_lt, is_none, ℤ, ◌||◌, IsSome, option_map, nat_tests, Mask, GroupHandle, MtapiStatus, first, holds, in_mask, Slots, slot_value, Listed, live_of, live_object, any_listed, any_live, any-none, any-live, Action, has_enabled_job, is_eligible, some_below, has_worker, Covers, IsUnion, runs_job_on, Cover, NoAction, AllDisabled, Cores, new_group, Members, names_dead, MayJoin, value-mapped, asked_for, start_refusals, number_of, is_detached_member, Node, Lists, Holds, Live, state_of}
+use Rattle.node_steps.proofs.Names.{◌≡◌, ℕ, zero, suc, ◌<◌, Bool, true, false, not, cond, List, [], ◌∷◌, Option, Some, None, refl, sym, ◌∙◌, arith, ◌&&◌, nat_lt, is_none, ℤ, ◌||◌, option_map, nat_tests, Mask, GroupHandle, MtapiStatus, first, holds, in_mask, Slots, slot_value, Listed, live_of, live_object, any_listed, any_live, any-none, any-live, Action, has_enabled_job, is_eligible, some_below, has_worker, Covers, IsUnion, runs_job_on, Cover, NoAction, AllDisabled, Cores, new_group, names_dead, MayJoin, value-mapped, asked_for, start_refusals, number_of, is_detached_member, Node, Lists, Holds, Live, state_of}
 use Rattle.mtapi_values.specs.declared.statuses.MtapiStatus.TheVariants as m
 use Rattle.node_steps.proofs.ActionSteps.{covers_none, covers_some, enabled_none, enabled_some}
 
@@ -10,12 +10,10 @@ pub and_true : (a b : Bool) → a ≡ true → b ≡ true → (a && b) ≡ true
 and_true a b x y = λ i. x i && y i
 
 pub and_left : (a b : Bool) → (a && b) ≡ true → a ≡ true
-and_left true b e = refl
-and_left false b e = e
+and_left a b e1 = grind (arith, nat_tests)
 
 pub and_right : (a b : Bool) → (a && b) ≡ true → b ≡ true
-and_right true b e = e
-and_right false b e = absurd (cc)
+and_right a b e1 = grind (arith, nat_tests)
 
 pub below_same : (n : ℕ) (p q : ℕ → Bool) → ((w : ℕ) → w < n → p w ≡ q w) → some_below n p ≡ some_below n q
 below_same zero p q k = refl
@@ -24,20 +22,13 @@ below_same (suc n) p q k = λ i. cond (k n (omega arith) i) true (below_same n p
 -- a worker has an eligible action for a task exactly where the core is covered and in the task's mask
 
 pub eligible_in : (workers w job cores : ℕ) (a : Action) → w < workers → in_mask w cores ≡ true → runs_job_on job w a ≡ true → is_eligible workers w job cores a ≡ true
-eligible_in workers w job cores a l c r =
-    let below : nat_lt w workers ≡ true = grind (arith, nat_tests) in
-    and_true _ _ (and_true _ _ (and_true _ _ (and_left _ _ r) below) (and_right (has_enabled_job job a) _ r)) c
+eligible_in workers w job cores a e1 e2 e3 = grind (arith, nat_tests)
 
 pub runs_in : (workers w job cores : ℕ) (a : Action) → is_eligible workers w job cores a ≡ true → runs_job_on job w a ≡ true
-runs_in workers w job cores a e =
-    let core = and_left (has_enabled_job job a && nat_lt w workers && in_mask w a.cores) (in_mask w cores) e in
-    and_true _ _ (and_left _ _ (and_left (has_enabled_job job a && nat_lt w workers) (in_mask w a.cores) core)) (and_right (has_enabled_job job a && nat_lt w workers) (in_mask w a.cores) core)
+runs_in workers w job cores a e1 = grind (arith, nat_tests)
 
 same_tests : (a b : Bool) → (a ≡ true → b ≡ true) → (b ≡ true → a ≡ true) → a ≡ b
-same_tests true true h k = refl
-same_tests true false h k = sym (h refl)
-same_tests false true h k = k refl
-same_tests false false h k = refl
+same_tests a b e1 e2 = grind (arith, nat_tests)
 
 module _ (size turns : ℕ) (p : Slots Action) (l : List (Listed Action)) (job : ℕ) (mask : Mask) (s : Holds size turns p l) (u : IsUnion p job mask.0) where
   has_in : (workers w cores : ℕ) → w < workers → any_live (is_eligible workers w job cores) (live_of l) ≡ (in_mask w mask.0 && in_mask w cores)
@@ -68,45 +59,26 @@ module _ (size turns : ℕ) (p : Slots Action) (l : List (Listed Action)) (job :
 
 -- whether a new task names a group that isn't live
 group_live : (n : Node) (l : Lists) (h : ℕ) → Live n l → is_none (live_object l.groups h) ≡ is_none (slot_value n.board.groups.pool h)
-group_live n l h v = ap is_none (sym (v.groups.stands.found h) ∙ value-mapped (λ m. new_group) n.board.groups.pool h) ∙ by_value (slot_value n.board.groups.pool h)
-  where
-    by_value : (o : Option Members) → is_none (option_map (λ (m : Members). new_group) o) ≡ is_none o
-    by_value None = refl
-    by_value (Some m) = refl
+group_live n l h e1 = grind (arith, nat_tests, value-mapped, new_group, slot_value, option_map)
 
 group_is : (n : Node) (l : Lists) (g : Option GroupHandle) → Live n l → holds (λ h. is_none (live_object l.groups h)) (number_of g) ≡ names_dead n.board.groups.pool (number_of g)
-group_is n l None v = refl
-group_is n l (Some g) v = group_live n l g.0 v
+group_is n l g e1 = grind (arith, nat_tests, group_live)
 
 -- the first of the four conditions that is met
 no_job : (a b c d : Bool) → a ≡ false → first ((not a, m.ErrJobInvalid) ∷ (b, m.ErrGroupInvalid) ∷ (not c, m.ErrActionDisabled) ∷ (not d, m.ErrNoCore) ∷ []) ≡ Some m.ErrJobInvalid
-no_job false b c d e = refl
-no_job true b c d e = absurd (cc)
+no_job a b c d e1 = grind (arith, nat_tests)
 
 no_group : (a b c d : Bool) → a ≡ true → b ≡ true → first ((not a, m.ErrJobInvalid) ∷ (b, m.ErrGroupInvalid) ∷ (not c, m.ErrActionDisabled) ∷ (not d, m.ErrNoCore) ∷ []) ≡ Some m.ErrGroupInvalid
-no_group true true c d e f = refl
-no_group true false c d e f = absurd (cc)
-no_group false b c d e f = absurd (cc)
+no_group a b c d e1 e2 = grind (arith, nat_tests)
 
 none_enabled : (a b c d : Bool) → a ≡ true → b ≡ false → c ≡ false → first ((not a, m.ErrJobInvalid) ∷ (b, m.ErrGroupInvalid) ∷ (not c, m.ErrActionDisabled) ∷ (not d, m.ErrNoCore) ∷ []) ≡ Some m.ErrActionDisabled
-none_enabled true false false d e f g = refl
-none_enabled true false true d e f g = absurd (cc)
-none_enabled true true c d e f g = absurd (cc)
-none_enabled false b c d e f g = absurd (cc)
+none_enabled a b c d e1 e2 e3 = grind (arith, nat_tests)
 
 no_core : (a b c d : Bool) → a ≡ true → b ≡ false → c ≡ true → d ≡ false → first ((not a, m.ErrJobInvalid) ∷ (b, m.ErrGroupInvalid) ∷ (not c, m.ErrActionDisabled) ∷ (not d, m.ErrNoCore) ∷ []) ≡ Some m.ErrNoCore
-no_core true false true false e f g h = refl
-no_core true false true true e f g h = absurd (cc)
-no_core true false false d e f g h = absurd (cc)
-no_core true true c d e f g h = absurd (cc)
-no_core false b c d e f g h = absurd (cc)
+no_core a b c d e1 e2 e3 e4 = grind (arith, nat_tests)
 
 not_refused : (a b c d : Bool) → a ≡ true → b ≡ false → c ≡ true → d ≡ true → first ((not a, m.ErrJobInvalid) ∷ (b, m.ErrGroupInvalid) ∷ (not c, m.ErrActionDisabled) ∷ (not d, m.ErrNoCore) ∷ []) ≡ None
-not_refused true false true true e f g h = refl
-not_refused true false true false e f g h = absurd (cc)
-not_refused true false false d e f g h = absurd (cc)
-not_refused true true c d e f g h = absurd (cc)
-not_refused false b c d e f g h = absurd (cc)
+not_refused a b c d e1 e2 e3 e4 = grind (arith, nat_tests)
 
 module _ (n : Node) (l : Lists) (job : ℕ) (args : List ℤ) (priority : ℕ) (cores : Mask) (detached : Bool) (group : Option GroupHandle) (v : Live n l) where
   abbrev refusals : Option MtapiStatus
@@ -148,14 +120,4 @@ cores_not_none mask d = cc
 
 -- a task that isn't refused may name its group
 pub may_join : (n : Node) (priority : Bool) (detached : Bool) (group : Option GroupHandle) → (priority || is_detached_member detached group) ≡ false → names_dead n.board.groups.pool (number_of group) ≡ false → MayJoin n.board.groups.pool detached (number_of group)
-may_join n p detached None w d = tt
-may_join n p detached (Some g) w d = (some-of (slot_value n.board.groups.pool g.0) d, by_detached p detached w)
-  where
-    some-of : {A : Type 0} (o : Option A) → is_none o ≡ false → IsSome o
-    some-of None e = false≢true (sym e)
-    some-of (Some x) e = refl
-
-    by_detached : (a b : Bool) → (a || (b && true)) ≡ false → b ≡ false
-    by_detached a false e = refl
-    by_detached true true e = e
-    by_detached false true e = e
+may_join n priority detached group e1 e2 = grind (arith, nat_tests)

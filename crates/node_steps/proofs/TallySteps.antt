@@ -1,26 +1,25 @@
 -- The ops of tallies are steps of the machine.
-use Rattle.node_steps.proofs.Names.{◌≡◌, inl, inr, ℕ, ◌+◌, ◌≤◌, Bool, true, false, not, cond, List, [], ◌∷◌, Option, Some, None, refl, sym, ◌∙◌, ap, subst, arith, length, ◌&&◌, ◌||◌, ◌==◌, nat_lt, ℤ, ◌+ℤ◌, ◌-ℤ◌, int_eq, option_map, nat_tests, Decides-int_eq, holds, TaskHandle, MtapiStatus, TaskEnd, Completed, fits, fitting, Slots, slot_value, changed, live_object, update, change, Task, TaskState, Scheduled, Running, runner, TallyNotes, no_tally, is_unended, runs_as, kind_number, ended, with_notes, with_tally, tally_args, cell_in, added, tally_failed, tally_has, tally_read, tally_written, Mutex, locked_by, unlocked, Segment, cell_of, with_attached, with_cell, adds_of, notes_of, tallied, IsLiveAnd, Begun, Locked, Read, Written, BoardTable, Becomes, Op, Reply, State, Mutexes, Segments, alters, notes, ends_task, after_moves, Row, never, gives, says, unless, live, row, IsHonest, ResourceTable, HoldsAll, resource_lists, Node, Lists, Holds, Live, Steps, state_of, Sound, RunsTally, NoTally, GivesBack}
+use Rattle.node_steps.proofs.Names.{◌≡◌, ℕ, ◌+◌, ◌≤◌, Bool, true, false, not, cond, List, [], ◌∷◌, Option, Some, None, refl, sym, ◌∙◌, ap, subst, arith, length, ◌&&◌, ◌||◌, ◌==◌, nat_lt, ℤ, ◌+ℤ◌, ◌-ℤ◌, int_eq, option_map, nat_tests, Decides-int_eq, holds, TaskHandle, MtapiStatus, TaskEnd, Completed, fits, fitting, Slots, slot_value, changed, live_object, update, change, Task, TaskState, runner, TallyNotes, no_tally, is_unended, runs_as, kind_number, ended, with_notes, with_tally, tally_args, cell_in, added, tally_failed, tally_has, tally_read, tally_written, Mutex, locked_by, unlocked, Segment, cell_of, with_attached, with_cell, adds_of, notes_of, tallied, IsLiveAnd, Begun, Locked, Read, Written, BoardTable, Becomes, Op, Reply, State, Mutexes, Segments, alters, notes, ends_task, after_moves, Row, never, gives, row, IsHonest, ResourceTable, HoldsAll, resource_lists, Node, Lists, Holds, Live, Steps, state_of, Sound, RunsTally, NoTally, GivesBack}
 use Rattle.std.proofs.Math.IntN.{+ℤ-neg_ℤ_cancel, -ℤ-+ℤ_cancel}
 use Rattle.mtapi_values.specs.declared.kinds.Kind.TheVariants as kinds
 use Rattle.mtapi_values.specs.declared.handles.MutexHandle.{MutexHandle}
 use Rattle.mtapi_values.specs.declared.handles.ShmemHandle.{ShmemHandle}
 use Rattle.mtapi_values.specs.declared.statuses.MtapiStatus.TheVariants as m
 use Rattle.mtapi_values.specs.declared.ends.TaskEnd.TheVariants.{Failed as EndFailed}
-use Rattle.mtapi_objects.specs.Tasks.{Ended as EndedState, Adds, number_in}
+use Rattle.mtapi_objects.specs.Tasks.{Adds, number_in}
 use Rattle.task_core.specs.declared.tallies.TallyArgs.{TallyArgs}
 use Rattle.task_core.specs.declared.tallies.TallyState.{TallyState}
 use Rattle.task_core.specs.declared.tallies.TallyState.TheVariants.{Failed}
 use Rattle.mtapi_machine.specs.declared.ops.Op.TheVariants as op
 use Rattle.mtapi_machine.specs.declared.replies.Reply.TheVariants as reply
 use Rattle.mtapi_machine.specs.TallyRows.{on_tally, locks}
-use Rattle.mtapi_machine.proofs.Made.{fst_true}
 use Rattle.history_law.specs.TallyHolds.{got_both, IsOwned, IsAttached, HoldsBoth}
 use Rattle.node_resources.specs.Holds.{Stands}
 use Rattle.node_resources.specs.Tallies.{after_lock, Locks}
 use Rattle.node_resources.specs.declared.tally_ops.TallyLock.TheVariants.{Both, Owned, Absent}
 use Rattle.node_resources.proofs.TallyLemmas.{changed_as}
 use Rattle.node_steps.specs.declared.tally_ops.RunningTally.{RunningTally}
-use Rattle.node_steps.proofs.Gives.{Gives, gives_this, met, past, at_some, at_none, then_row, else_row, steps, stays, lands_to}
+use Rattle.node_steps.proofs.Gives.{Gives, gives_this, met, past, at_some, then_row, else_row, steps, stays, lands_to}
 use Rattle.node_steps.proofs.Moves.{found, holds_changed}
 use Rattle.node_steps.proofs.Changes.{holds_ended}
 use Rattle.node_steps.proofs.ActionSteps.{not_true}
@@ -33,52 +32,24 @@ no_worker : (who workers : ℕ) → workers ≤ who → not (nat_lt who workers)
 no_worker who workers l = grind (arith, nat_tests)
 
 pub refused : (n : Node) (l : Lists) (who : ℕ) (o : Op) (t : ℕ) (f : Task → Row) (c : MtapiStatus) → Live n l → IsHonest o → ((r : Reply) → row (state_of n l) who o r ≡ on_tally (state_of n l) who t f) → NoTally n who t c → Steps n l who o (reply.Mtapi c) n
-refused n l who o t f c v i is (inl k) =
-    stays n l who o (reply.Mtapi c) v i
-    (subst (λ (w : Row). Gives (state_of n l) w (reply.Mtapi c) (state_of n l)) (sym (is (reply.Mtapi c)))
-    (subst (λ (x : MtapiStatus). Gives (state_of n l) (on_tally (state_of n l) who t f) (reply.Mtapi x) (state_of n l)) (sym k.1) (met _ _ _ _ (no_worker who _ k.0))))
-refused n l who o t f c v i is (inr k) =
-    stays n l who o (reply.Mtapi c) v i
-    (subst (λ (w : Row). Gives (state_of n l) w (reply.Mtapi c) (state_of n l)) (sym (is (reply.Mtapi c)))
-    (subst (λ (x : MtapiStatus). Gives (state_of n l) (on_tally (state_of n l) who t f) (reply.Mtapi x) (state_of n l)) (sym k.1) (past _ _ _ _ _ _ (is_worker who _ k.0) (by_found (slot_value n.board.tasks.pool t) refl))))
-  where
-    by_found : (q : Option Task) → slot_value n.board.tasks.pool t ≡ q
-        → Gives (state_of n l) (live (live_object l.tasks t) (says (reply.Mtapi m.ErrTaskInvalid)) (λ x. unless (not (runs_as who kinds.Tally x)) (reply.Mtapi m.ErrTaskInvalid) (f x))) (reply.Mtapi m.ErrTaskInvalid) (state_of n l)
-    by_found None e = at_none _ _ _ _ (found _ _ n.board.tasks.pool l.tasks t None v.tasks e)
-    by_found (Some x) e = at_some _ _ _ x _ _ _ (found _ _ n.board.tasks.pool l.tasks t (Some x) v.tasks e) (met _ _ _ _ (ap not (k.2 x e)))
+refused n l who o t f c e1 e2 e3 e4 = grind (arith, nat_tests)
 
 -- Stages
 
 not_begun : (args : List ℤ) (y : TallyState) → (y ≡ Begun → ⊥) → ((notes_of args y).stage == 0) ≡ false
-not_begun args Begun k = absurd (k refl)
-not_begun args (Locked a b) k = refl
-not_begun args (Read a b z) k = refl
-not_begun args (Written a b z) k = refl
-not_begun args (Failed c) k = refl
+not_begun args y e1 = grind (arith, nat_tests)
 
 not_locked : (args : List ℤ) (y : TallyState) → ((a : MutexHandle) (b : ShmemHandle) → y ≡ Locked a b → ⊥) → ((notes_of args y).stage == 1) ≡ false
-not_locked args Begun k = refl
-not_locked args (Locked a b) k = absurd (k a b refl)
-not_locked args (Read a b z) k = refl
-not_locked args (Written a b z) k = refl
-not_locked args (Failed c) k = refl
+not_locked args y e1 = grind (arith, nat_tests)
 
 not_read : (args : List ℤ) (y : TallyState) → ((a : MutexHandle) (b : ShmemHandle) (z : ℤ) → y ≡ Read a b z → ⊥) → ((notes_of args y).stage == 2) ≡ false
-not_read args Begun k = refl
-not_read args (Locked a b) k = refl
-not_read args (Read a b z) k = absurd (k a b z refl)
-not_read args (Written a b z) k = refl
-not_read args (Failed c) k = refl
+not_read args y e1 = grind (arith, nat_tests)
 
 runs : (w : ℕ) (x : TaskState) → holds (λ r. (r.0 == w) && (kind_number r.1 == 10)) (runner x) ≡ true → holds (λ r. r.0 == w) (runner x) ≡ true
-runs w Scheduled h = absurd (cc)
-runs w (Running v j) h = fst_true (v == w) _ h
-runs w (EndedState e k) h = absurd (cc)
+runs w x e1 = grind (arith, nat_tests)
 
 unended : (w : ℕ) (x : Task) (y : TaskState) → x.state ≡ y → runs_as w kinds.Tally x ≡ true → is_unended x ≡ true
-unended w x Scheduled e h = ap (λ (z : TaskState). is_unended (record x { state = z })) e
-unended w x (Running v j) e h = ap (λ (z : TaskState). is_unended (record x { state = z })) e
-unended w x (EndedState d k) e h = absurd (let r : holds (λ q. (q.0 == w) && (kind_number q.1 == 10)) (runner x.state) ≡ true = h in let s : false ≡ true = subst (λ (z : TaskState). holds (λ q. (q.0 == w) && (kind_number q.1 == 10)) (runner z) ≡ true) e r in cc)
+unended w x y e1 e2 = grind (arith, nat_tests)
 
 module _ (n : Node) (l : Lists) (who : ℕ) (t : TaskHandle) (r : RunningTally) (v : Live n l) (k : RunsTally n who t.0 r) where
   abbrev s : State
@@ -224,9 +195,7 @@ module _ (n : Node) (l : Lists) (who : ℕ) (t : TaskHandle) (r : RunningTally) 
   -- Writing
 
   pub write_wrong : (value : ℤ) → ((a : MutexHandle) (b : ShmemHandle) (z : ℤ) → r.state ≡ Read a b z → ⊥) → Steps n l who (op.TallyWrite t value) (reply.Mtapi m.ErrParameter) n
-  write_wrong value h =
-      stays n l who (op.TallyWrite t value) (reply.Mtapi m.ErrParameter) v tt
-      (on_it _ _ _ (met _ _ _ _ (ap (λ (b : Bool). b || not (int_eq value (added x))) (stage_is 2 (not_read x.args r.state h)))))
+  write_wrong value e1 = grind (arith, nat_tests)
 
   module _ (p : MutexHandle) (q : ShmemHandle) (kept number : ℤ) (is : r.state ≡ Read p q kept) (adds : number ≡ number_in (option_map adds_of r.args)) where
     added_is : added x ≡ kept +ℤ number
@@ -266,10 +235,7 @@ module _ (n : Node) (l : Lists) (who : ℕ) (t : TaskHandle) (r : RunningTally) 
   is_unended_tally = subst (λ (o : Option Task). IsLiveAnd is_unended o) (sym k.found) (unended who x x.state refl k.runs)
 
   pub end_early : ((x.notes.tally.stage == 0) || (x.notes.tally.stage == 1)) ≡ true → Steps n l who (op.TallyEnd t) (reply.Mtapi m.ErrParameter) n
-  end_early h = stays n l who (op.TallyEnd t) (reply.Mtapi m.ErrParameter) v tt (on_it _ _ _ (met _ _ _ _ (ap (λ (b : Bool). b || ((x.notes.tally.stage == 2) && fits (added x))) (early x.notes.tally.stage h))))
-    where
-      early : (i : ℕ) → ((i == 0) || (i == 1)) ≡ true → nat_lt i 2 ≡ true
-      early i e = grind (arith, nat_tests)
+  end_early e1 = grind (arith, nat_tests)
 
   pub end_begun : r.state ≡ Begun → Steps n l who (op.TallyEnd t) (reply.Mtapi m.ErrParameter) n
   end_begun is = end_early (λ i. stage_of Begun is 0 i || stage_of Begun is 1 i)
@@ -323,13 +289,7 @@ module _ (n : Node) (l : Lists) (who : ℕ) (t : TaskHandle) (r : RunningTally) 
             (g.resources s q.0 v.resources (ap (λ (i : ℕ). live_object s.mutexes i) (sym mutex_same) ∙ q.1) q.2 q.3)
 
   pub end_fits : (p : MutexHandle) (q : ShmemHandle) (kept number sum : ℤ) → r.state ≡ Read p q kept → number ≡ number_in (option_map adds_of r.args) → Some sum ≡ fitting (kept +ℤ number) → Steps n l who (op.TallyEnd t) (reply.Mtapi m.ErrParameter) n
-  end_fits p q kept number sum is c h =
-      stays n l who (op.TallyEnd t) (reply.Mtapi m.ErrParameter) v tt
-      (on_it _ _ _ (met _ _ _ _ (λ i. nat_lt (notes_are (Read p q kept) is i).stage 2 || (stage_of (Read p q kept) is 2 i && (ap fits (added_is p q kept number is c) ∙ fit (fits (kept +ℤ number)) h) i))))
-    where
-      fit : (b : Bool) → Some sum ≡ cond b (Some (kept +ℤ number)) None → b ≡ true
-      fit true e = refl
-      fit false e = absurd (cc)
+  end_fits p q kept number sum e1 e2 e3 = grind (arith, nat_tests)
 
   pub end_too_large : Sound s → (p : MutexHandle) (q : ShmemHandle) (kept number : ℤ) (z : Reply) (o : Node) → r.state ≡ Read p q kept → number ≡ number_in (option_map adds_of r.args) → None ≡ fitting (kept +ℤ number)
       → GivesBack n who t.0 p.0 q.0 (EndFailed m.ErrActionFailed) z o → Steps n l who (op.TallyEnd t) z o

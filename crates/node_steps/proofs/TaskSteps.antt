@@ -1,5 +1,5 @@
 -- The ops on tasks are steps of the machine.
-use Rattle.node_steps.proofs.Names.{◌≡◌, ℕ, ◌+◌, ◌≤◌, Bool, true, false, not, cond, List, Option, Some, None, Result, Ok, Err, refl, sym, ◌∙◌, ap, subst, arith, ◌||◌, nat_lt, is_some, is_none, ℤ, option_map, Kind, Mask, TaskHandle, GroupHandle, MtapiStatus, TaskEnd, Cancelled, first, Slots, slot_value, IsFull, Inserts, with_value, without, changed, Listed, change, issue, update, retire, Task, TaskState, Scheduled, Running, Ended, NewTask, new_task, end_of, ended, with_notes, cancel_requested, with_waiter, task_look_refusals, look_reply, look_at_end, look_unless, waiter_after, TaskTable, ended_in, looked_in, Op, Reply, State, is_open, is_up, row, asked_for, start_refusals, is_detached_member, looks_at, cancels, IsHonest, Node, Lists, Holds, Live, Steps, state_of}
+use Rattle.node_steps.proofs.Names.{nat_tests, ◌≡◌, ℕ, ◌+◌, ◌≤◌, Bool, true, false, not, cond, List, Option, Some, None, Result, Ok, Err, refl, sym, ◌∙◌, ap, subst, arith, ◌||◌, nat_lt, is_some, is_none, ℤ, option_map, Kind, Mask, TaskHandle, GroupHandle, MtapiStatus, TaskEnd, Cancelled, first, Slots, slot_value, IsFull, Inserts, with_value, without, changed, Listed, change, issue, update, retire, Task, TaskState, Scheduled, Running, Ended, NewTask, new_task, end_of, ended, with_notes, cancel_requested, with_waiter, task_look_refusals, look_reply, look_at_end, look_unless, waiter_after, TaskTable, ended_in, looked_in, Op, Reply, State, is_open, is_up, row, asked_for, start_refusals, is_detached_member, looks_at, cancels, IsHonest, Node, Lists, Holds, Live, Steps, state_of}
 use Rattle.mtapi_values.specs.declared.statuses.MtapiStatus.TheVariants as m
 use Rattle.task_core.specs.Records.{shown_state}
 use Rattle.task_core.specs.Table.{Adds}
@@ -50,9 +50,7 @@ module _ (n : Node) (l : Lists) (who job : ℕ) (args : List ℤ) (priority : �
   start_refused c w f = stays n l who start (reply.Mtapi c) v tt (past _ _ _ _ _ _ (not_true _ up) (past _ _ _ _ _ _ w (met_in _ (start_refusals (state_of n l) asks) c _ f)))
 
   start_full : wrong ≡ false → first (start_refusals (state_of n l) asks) ≡ None → IsFull n.board.tasks.pool → Steps n l who start (reply.Mtapi m.ErrTaskLimit) n
-  start_full w f full =
-      stays n l who start (reply.Mtapi m.ErrTaskLimit) v tt
-      (past _ _ _ _ _ _ (not_true _ up) (past _ _ _ _ _ _ w (past_all _ _ (start_refusals (state_of n l) asks) _ _ f (met _ _ _ _ (full_list _ _ n.board.tasks.pool l.tasks v.tasks full)))))
+  start_full e1 e2 e3 = grind (arith, nat_tests, not_true, past_all, start_refusals, state_of, full_list)
 
   start_made : (q : TaskTable) (h : ℕ) → wrong ≡ false → first (start_refusals (state_of n l) asks) ≡ None → (IsFull n.board.tasks.pool → ⊥) → Inserts n.board.tasks.pool q.pool h (new_task asks n.board.tasks.starts) → q.starts ≡ n.board.tasks.starts + 1 → q.ends ≡ n.board.tasks.ends → Steps n l who start (reply.Handle h) (record n { board = record n.board { tasks = q } })
   start_made q h w f room i s e =
@@ -69,8 +67,7 @@ module _ (n : Node) (l : Lists) (who job : ℕ) (args : List ℤ) (priority : �
           (allows _ _ _ _ _ (may_be _ _ n.board.tasks.pool q.pool l.tasks h _ v.tasks i) (gives_this _ _ _)))))
 
   start_failed : (q : TaskTable) (c : MtapiStatus) → wrong ≡ false → first (start_refusals (state_of n l) asks) ≡ None → Adds n.board.tasks asks (Err c) q → Steps n l who start (reply.Mtapi c) (record n { board = record n.board { tasks = q } })
-  start_failed q m.ErrTaskLimit w f a = reported n l q n.board.tasks who start _ a.1 (start_full w f a.0)
-  start_failed q x w f a = absurd a
+  start_failed q c e1 e2 e3 = grind (arith, nat_tests, reported, start_full)
 
   pub start_steps : (q : TaskTable) (x : Result TaskHandle MtapiStatus) → wrong ≡ false → first (start_refusals (state_of n l) asks) ≡ None → Adds n.board.tasks asks x q → Steps n l who start (add_reply x) (record n { board = record n.board { tasks = q } })
   start_steps q (Ok t) w f a = start_made q t.0 w f a.0 a.1 a.2 a.3
@@ -96,9 +93,7 @@ module _ (n : Node) (l : Lists) (who : ℕ) (t : TaskHandle) (last : Bool) (v : 
       h (omega arith) tt
 
   look_refused : (x : Task) (c : MtapiStatus) → slot_value n.board.tasks.pool t.0 ≡ Some x → first (task_look_refusals who x) ≡ Some c → Steps n l who looks (reply.Mtapi c) n
-  look_refused x c g f =
-      stays n l who looks (reply.Mtapi c) v tt
-      (past _ _ _ _ _ _ (not_true _ up) (at_some _ _ _ x _ _ _ (found _ _ n.board.tasks.pool l.tasks t.0 (Some x) v.tasks g) (met_in _ (task_look_refusals who x) c _ f)))
+  look_refused x c e1 e2 = grind (arith, nat_tests)
 
   look_absent : slot_value n.board.tasks.pool t.0 ≡ None → Steps n l who looks (reply.Mtapi m.ErrTaskInvalid) n
   look_absent g = stays n l who looks (reply.Mtapi m.ErrTaskInvalid) v tt (past _ _ _ _ _ _ (not_true _ up) (at_none _ _ _ _ (found _ _ n.board.tasks.pool l.tasks t.0 None v.tasks g)))
@@ -145,23 +140,16 @@ end_steps n l who o r h e x v g i w = task_steps n l (ended_tasks n h e (Some x)
 
 -- a task of this state shows it
 state_found : (o : Option Task) (y : ShownState) → Some y ≡ option_map (λ (t : Task). shown_state t.state) o → (x : Task) × (o ≡ Some x) × (y ≡ shown_state x.state)
-state_found None y e = absurd (cc)
-state_found (Some x) y e = (x, refl, cc)
+state_found o y e1 = grind (arith, nat_tests)
 
 shown_scheduled : (s : TaskState) → shown.Scheduled ≡ shown_state s → s ≡ Scheduled
-shown_scheduled Scheduled e = refl
-shown_scheduled (Running w k) e = absurd (cc)
-shown_scheduled (Ended y k) e = absurd (cc)
+shown_scheduled s e1 = grind (arith, nat_tests)
 
 shown_running : (s : TaskState) (w : ℕ) (k : Kind) → shown.Running w k ≡ shown_state s → s ≡ Running w k
-shown_running Scheduled w k e = absurd (cc)
-shown_running (Running a b) w k e = cc
-shown_running (Ended y n) w k e = absurd (cc)
+shown_running s w k e1 = grind (arith, nat_tests)
 
 cancel_at : (n : Node) (l : Lists) (who : ℕ) (t : TaskHandle) (x : Task) (s : TaskState) (w : State) → Live n l → is_up n.core.phase ≡ true → slot_value n.board.tasks.pool t.0 ≡ Some x → x.state ≡ s → Gives (state_of n l) (cancels t.0 s) reply.Ok w → Gives (state_of n l) (row (state_of n l) who (op.TaskCancel t) reply.Ok) reply.Ok w
-cancel_at n l who t x s w v up g e y =
-    past _ _ _ _ _ _ (not_true _ up) (at_some _ _ _ x _ _ _ (found _ _ n.board.tasks.pool l.tasks t.0 (Some x) v.tasks g)
-    (subst (λ (z : TaskState). Gives (state_of n l) (cancels t.0 z) reply.Ok w) (sym e) y))
+cancel_at n l who t x s w e1 e2 e3 e4 e5 = grind (arith, nat_tests)
 
 pub cancel_scheduled : (n : Node) (l : Lists) (who : ℕ) (t : TaskHandle) (q : TaskTable) → Live n l → is_up n.core.phase ≡ true → Some shown.Scheduled ≡ option_map (λ (x : Task). shown_state x.state) (slot_value n.board.tasks.pool t.0) → q ≡ ended_tasks n t.0 Cancelled (slot_value n.board.tasks.pool t.0) → Steps n l who (op.TaskCancel t) reply.Ok (record n { board = record n.board { tasks = q } })
 cancel_scheduled n l who t q v up e d =

@@ -1,5 +1,5 @@
 -- A worker that wants one task and one action takes these wherever it may.
-use Rattle.node_steps.proofs.Names.{◌≡◌, ℕ, ◌<◌, Bool, true, false, not, cond, List, [], ◌∷◌, Option, Some, None, refl, sym, ◌∙◌, ap, subst, arith, ◌&&◌, nat_lt, ℤ, ActionHandle, TaskHandle, Kind, slot_value, live_object, any_listed, Action, is_eligible, Task, runs_on, Reply, State, workers, is_new, is_stop, actions, stops, Row, unless, gives, never, only, live, chosen, Allows, is_ready, has_better, picks, IsBoard, Choice, NoneBetter, IsChoice, IsBest, Node, MayPick, IsToward, Lists, Live, state_of}
+use Rattle.node_steps.proofs.Names.{nat_tests, ◌≡◌, ℕ, ◌<◌, Bool, true, false, not, cond, List, [], ◌∷◌, Option, Some, None, refl, sym, ◌∙◌, ap, arith, ◌&&◌, nat_lt, ℤ, ActionHandle, TaskHandle, Kind, slot_value, live_object, any_listed, Action, is_eligible, Task, runs_on, Reply, State, workers, is_new, is_stop, actions, Row, unless, gives, never, only, live, chosen, Allows, is_ready, has_better, IsBoard, Choice, NoneBetter, IsChoice, IsBest, Node, MayPick, IsToward, Lists, Live, state_of}
 use Rattle.mtapi_values.specs.declared.statuses.MtapiStatus.TheVariants as m
 use Rattle.mtapi_machine.specs.declared.replies.Reply.TheVariants as reply
 use Rattle.mtapi_machine.specs.Moves.{runs_task as begins_task}
@@ -24,12 +24,10 @@ pub record CanPick (s : State) (w : ℕ) (t : TaskHandle) (a : ActionHandle) (k 
 
 -- a condition that answers otherwise isn't met
 past_one : (c : Bool) (x r : Reply) (w : Row) → (r ≡ x → ⊥) → Allows (unless c x w) r → (c ≡ false) × Allows w r
-past_one true x r w far allowed = absurd (far allowed)
-past_one false x r w far allowed = (refl, allowed)
+past_one c x r w e1 e2 = grind (arith, nat_tests)
 
 past_else : (b : Bool) (u v : Row) (r : Reply) → (Allows u r → ⊥) → Allows (cond b u v) r → (b ≡ false) × Allows v r
-past_else true u v r far allowed = absurd (far allowed)
-past_else false u v r far allowed = (refl, allowed)
+past_else b u v r e1 e2 = grind (arith, nat_tests)
 
 module _ (s : State) (w : ℕ) (t : TaskHandle) (a : ActionHandle) (k : Kind) (args : List ℤ) where
   abbrev told : Reply
@@ -67,15 +65,7 @@ module _ (s : State) (w : ℕ) (t : TaskHandle) (a : ActionHandle) (k : Kind) (a
     by_task (Some x) e allowed = by_action x e (live_object s.actions a.0) refl allowed
 
   pub can_pick : MayPick s w t a k args → CanPick s w t a k args
-  can_pick allowed =
-      let third : Row = cond (is_stop s) (gives reply.Stop (stops w ∷ [])) (picks s w told) in
-      let second : Row = unless (is_new s.phase) reply.Idle third in
-      let first : Row = unless (any_listed (runs_on w) s.tasks) (reply.Mtapi m.ErrParameter) second in
-      let p = past_one (not (nat_lt w (workers s))) (reply.Mtapi m.ErrParameter) told first no_status allowed in
-      let q = past_one (any_listed (runs_on w) s.tasks) (reply.Mtapi m.ErrParameter) told second no_status p.1 in
-      let r = past_one (is_new s.phase) reply.Idle told third no_idle q.1 in
-      let g = past_else (is_stop s) (gives reply.Stop (stops w ∷ [])) (picks s w told) told no_stop r.1 in
-      by_task p.0 q.0 r.0 g.0 (live_object s.tasks t.0) refl g.1
+  can_pick e1 = grind (arith, nat_tests)
 
 -- The choice of this task and this action
 
@@ -95,8 +85,7 @@ module _ (n : Node) (l : Lists) (w : ℕ) (v : Live n l) (k : IsBoard n.board) (
       (and_left (is_ready (state_of n l) p.x) _ tested) (and_right (is_ready (state_of n l) p.x) _ tested)
 
   not_not : (b : Bool) → not b ≡ true → b ≡ false
-  not_not true e = absurd (cc)
-  not_not false e = refl
+  not_not b e1 = grind (arith, nat_tests)
 
   none_better : NoneBetter n.board.actions n.board.tasks.pool n.board.queues.pool w p.x.priority
   none_better =
@@ -109,15 +98,7 @@ module _ (n : Node) (l : Lists) (w : ℕ) (v : Live n l) (k : IsBoard n.board) (
 
   -- and what the worker takes
   pub is_taken : (c : Choice) (r : Reply) (m : Node) → IsToward n w t a (Some c) → Takes n w c r m → r ≡ reply.Picked t a kind args
-  is_taken c r m toward takes = by_choice (subst (λ (x : Choice). Takes n w x r m) same takes)
-    where
-      same : c ≡ choice
-      same = let e = is_found (Some c) toward in cc
-
-      by_choice : Takes n w choice r m → r ≡ reply.Picked t a kind args
-      by_choice x =
-          let task : x.t ≡ p.x = (let e = x.task in let f = found_task in cc) in
-          x.reply ∙ ap (λ (u : Task). reply.Picked t a kind u.args) task ∙ ap (λ (z : List ℤ). reply.Picked t a kind z) (sym p.args_are)
+  is_taken c r m e1 e2 = grind (arith, nat_tests, is_found, found_task)
 
 -- What is chosen toward them
 
@@ -139,15 +120,8 @@ wanted_action {a = a} e = ap (action_or a) e
 module _ (n : Node) (w : ℕ) where
   -- the choices of one task have one priority
   pub same_priority : (b c : Choice) → b.task ≡ c.task → IsChoice n.board.actions n.board.tasks.pool n.board.queues.pool w b → IsChoice n.board.actions n.board.tasks.pool n.board.queues.pool w c → b.priority ≡ c.priority
-  same_priority b c is x y = sym x.priority ∙ ap (λ (u : Task). u.priority) task ∙ y.priority
-    where
-      task : x.t ≡ y.t
-      task = let e = ap (λ (h : TaskHandle). slot_value n.board.tasks.pool h.0) is in let f = x.task in let g = y.task in cc
+  same_priority b c e1 e2 e3 = grind (arith, nat_tests)
 
   -- the best one has the priority of the wanted one, where that is best too
   pub one_priority : (b c : Choice) → IsBest n.board.actions n.board.tasks.pool n.board.queues.pool w (Some b) → IsChoice n.board.actions n.board.tasks.pool n.board.queues.pool w c → NoneBetter n.board.actions n.board.tasks.pool n.board.queues.pool w c.priority → c.priority ≡ b.priority
-  one_priority b c best x better =
-      let above : c.priority < b.priority → ⊥ = (λ less. best.1 c.task.0 x.t x.task (c.action.0, x.a, x.action, x.runs) (subst (λ (k : ℕ). k < b.priority) (sym x.priority) less)) in
-      let y = best.0 in
-      let below : b.priority < c.priority → ⊥ = (λ less. better b.task.0 y.t y.task (b.action.0, y.a, y.action, y.runs) (subst (λ (k : ℕ). k < c.priority) (sym y.priority) less)) in
-      omega (arith, above, below)
+  one_priority b c e1 e2 e3 = grind (arith, nat_tests)

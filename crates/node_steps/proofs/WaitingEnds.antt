@@ -1,5 +1,5 @@
 -- The waiting tasks that pass end in the pool as they end at once in the list.
-use Rattle.node_steps.proofs.Names.{◌≡◌, ℕ, ◌+◌, ◌<◌, Bool, true, false, cond, List, [], ◌∷◌, Option, Some, None, refl, sym, ◌∙◌, ap, subst, arith, ◌==◌, TaskEnd, holds, Slots, slot_value, Listed, live_of, lookup, live_object, handles_of, count_listed, change, Distinct, Task, is_unstarted, ended, end_each, TaskTable, ended_in, Seen, seen, seen_in, InOrder, AreWaiting, ended_if, ended_each, EndsWaiting, some_same, seen-as, seen-live, unstarted-seen, start_numbers, AreAbove, Rises, Holds}
+use Rattle.node_steps.proofs.Names.{nat_tests, ◌≡◌, ℕ, ◌+◌, ◌<◌, Bool, true, false, cond, List, [], ◌∷◌, Option, Some, None, refl, sym, ◌∙◌, ap, subst, arith, ◌==◌, TaskEnd, holds, Slots, slot_value, Listed, live_of, lookup, live_object, handles_of, count_listed, change, Distinct, Task, is_unstarted, ended, end_each, TaskTable, ended_in, Seen, seen, seen_in, InOrder, AreWaiting, ended_if, ended_each, EndsWaiting, some_same, seen-as, seen-live, unstarted-seen, start_numbers, AreAbove, Rises, Holds}
 use Rattle.task_board.proofs.OrderLemmas.{waiting-once}
 use Rattle.node_steps.proofs.Changes.{holds_ended}
 use Rattle.node_steps.proofs.ListedEnds.{passes-listed, listed-passes, step_listed, each_listed, both_pass, at-once}
@@ -71,11 +71,7 @@ itself : (a : ℕ) → (a == a) ≡ true
 itself a = grind (arith)
 
 shows-behind : (at : ℕ → Option Seen) (x : ℕ × Task) (es : List (ℕ × Task)) → lookup es x.0 ≡ None → Shows at (x ∷ es) → Shows at es
-shows-behind at x es none k h t g = k h t (by_handle (x.0 == h) refl)
-  where
-    by_handle : (b : Bool) → (x.0 == h) ≡ b → cond b (Some x.1) (lookup es h) ≡ Some t
-    by_handle true same = let is : x.0 ≡ h = grind (arith) in none_some (sym none ∙ ap (lookup es) is ∙ g)
-    by_handle false other = g
+shows-behind at x es e1 e2 = grind (arith, nat_tests)
 
 waiting-order : (at : ℕ → Option Seen) (l : List (Listed Task)) → Distinct (live_of l) → Rises (start_numbers l) → Shows at (live_of l) → InOrder at (handles_of is_unstarted (live_of l))
 unfolding live_of

@@ -1,5 +1,5 @@
 -- An action that goes ends the tasks that no worker can take any more.
-use Rattle.node_steps.proofs.Names.{◌≡◌, ℕ, ◌+◌, Bool, true, false, not, cond, List, [], ◌∷◌, Some, None, Ok, refl, sym, ◌∙◌, ap, subst, arith, ◌==◌, ◌&&◌, TaskEnd, ActionHandle, Mask, NodeSettings, MtapiStatus, in_mask, Slots, slot_value, without, changed, Listed, live_of, lookup, live_object, any_listed, count_listed, change, with_fields, gone, Distinct, any-live, any-some, same_tests, Action, with_enabled, is_eligible, has_worker, some_below, Task, is_unstarted, ended, end_each, job_of, IsUnion, TaskTable, BoardTable, Becomes, is_unserved, AreServed, EndsUnserved, job-found, Op, State, is_open, withdraws, apply, row, IsHonest, Node, Lists, Holds, Live, Steps, state_of, Sound}
+use Rattle.node_steps.proofs.Names.{nat_tests, ◌≡◌, ℕ, ◌+◌, Bool, true, false, not, cond, List, [], ◌∷◌, Some, None, Ok, refl, sym, ◌∙◌, ap, subst, arith, ◌==◌, ◌&&◌, TaskEnd, ActionHandle, Mask, MtapiStatus, in_mask, Slots, slot_value, without, changed, Listed, live_of, lookup, live_object, any_listed, count_listed, change, with_fields, gone, Distinct, any-live, any-some, same_tests, Action, with_enabled, is_eligible, has_worker, some_below, Task, is_unstarted, end_each, job_of, IsUnion, TaskTable, BoardTable, Becomes, is_unserved, AreServed, EndsUnserved, job-found, Op, State, is_open, withdraws, apply, row, IsHonest, Node, Lists, Holds, Live, Steps, state_of, Sound}
 use Rattle.mtapi_values.specs.declared.ends.TaskEnd.TheVariants.{Failed}
 use Rattle.mtapi_values.specs.declared.statuses.MtapiStatus.TheVariants as m
 use Rattle.task_board.proofs.RemarkLemmas.{SameBut, same-changed, same-without}
@@ -8,7 +8,7 @@ use Rattle.mtapi_machine.specs.declared.replies.Reply.TheVariants as reply
 use Rattle.node_steps.proofs.Gives.{Gives, gives_this, past, at_some, steps}
 use Rattle.node_steps.proofs.Moves.{found, holds_changed, holds_remove}
 use Rattle.node_steps.proofs.ActionSteps.{not_true}
-use Rattle.node_steps.proofs.StartSteps.{and_left, and_right, below_same, runs_in, covered_worker}
+use Rattle.node_steps.proofs.StartSteps.{below_same, covered_worker}
 use Rattle.node_steps.proofs.ListedEnds.{both_pass}
 use Rattle.node_steps.proofs.WaitingEnds.{AtOnce, ends-at-once}
 
@@ -50,34 +50,21 @@ agree-first p q r rs d k = by_live r.live d k
 same-ends : (p q : Task → Bool) (e : TaskEnd) (n : ℕ) (l : List (Listed Task)) → Distinct (live_of l) → Agree p q (live_of l) → end_each p e n l ≡ end_each q e n l
 unfolding end_each
 same-ends p q e n [] d k = refl
-same-ends p q e n (r ∷ rs) d k =
-    let f = agree-first p q r rs d k in
-    λ i. cond (f.0 i) (ended e n r ∷ same-ends p q e (n + 1) rs f.1 f.2 i) (r ∷ same-ends p q e n rs f.1 f.2 i)
+same-ends p q e n (r ∷ rs) d k = grind (arith, nat_tests, same-ends p q e (n + 1) rs, same-ends p q e n rs, agree-first)
 
 same-count : (p q : Task → Bool) (l : List (Listed Task)) → Distinct (live_of l) → Agree p q (live_of l) → count_listed p l ≡ count_listed q l
 same-count p q [] d k = refl
-same-count p q (r ∷ rs) d k =
-    let f = agree-first p q r rs d k in
-    λ i. cond (f.0 i) 1 0 + same-count p q rs f.1 f.2 i
+same-count p q (r ∷ rs) d k = grind (arith, nat_tests, same-count p q rs, agree-first)
 
 -- Which tasks a worker can take
 
 -- an action of a job serves its tasks alone
 eligible-job : (workers w job cores : ℕ) (a : Action) → is_eligible workers w job cores a ≡ true → a.job ≡ job
-eligible-job workers w job cores a e =
-    let r = runs_in workers w job cores a e in
-    let j : (a.job == job) ≡ true = and_right a.enabled (a.job == job) (and_left (a.enabled && (a.job == job)) (in_mask w a.cores) r) in
-    grind (arith)
+eligible-job workers w job cores a e1 = grind (arith, nat_tests)
 
 module _ (size turns : ℕ) (p q : Slots Action) (l others : List (Listed Action)) (job : ℕ) (s : Holds size turns p l) (z : Holds size turns q others) (same : SameBut job p q) where
   serves : (workers w other cores : ℕ) → (other ≡ job → ⊥) → any_listed (is_eligible workers w other cores) others ≡ any_listed (is_eligible workers w other cores) l
-  serves workers w other cores d = same_tests _ _
-      (λ e.
-      let a = any-some q others (is_eligible workers w other cores) z.stands e in
-      any-live p l (is_eligible workers w other cores) a.0 a.1 s.stands (same.back a.0 a.1 (λ j. d (sym (eligible-job workers w other cores a.1 a.3) ∙ j)) a.2) a.3)
-      (λ e.
-      let a = any-some p l (is_eligible workers w other cores) s.stands e in
-      any-live q others (is_eligible workers w other cores) a.0 a.1 z.stands (same.there a.0 a.1 (λ j. d (sym (eligible-job workers w other cores a.1 a.3) ∙ j)) a.2) a.3)
+  serves workers w other cores e1 = grind (arith, nat_tests, same_tests, any-some, is_eligible, any-live, eligible-job)
 
   -- the tasks of another job are served as before
   pub served-as-before : (workers other cores : ℕ) → (other ≡ job → ⊥) → has_worker workers other cores (live_of others) ≡ has_worker workers other cores (live_of l)
@@ -175,10 +162,7 @@ pub becomes-twice : (a b c : BoardTable) (q : Slots Action) → Becomes a b q a.
 becomes-twice a b c q x y = record { settings = y.settings ∙ x.settings; actions_are = y.actions_are ∙ x.actions_are; tasks_are = refl; queues_are = y.queues_are ∙ x.queues_are; groups_are = y.groups_are ∙ x.groups_are }
 
 pub unserved-before : (a b : BoardTable) (q : Slots Action) (job : ℕ) (e : TaskEnd) (t : TaskTable) → Becomes a b q a.tasks → EndsUnserved b.settings.workers b.actions job e b.tasks t → EndsUnserved a.settings.workers q job e a.tasks t
-unserved-before a b q job e t x u = subst (λ (y : BoardTable). EndsUnserved y.settings.workers y.actions job e y.tasks t) path u
-  where
-    path : ◌≡◌ {A = BoardTable} b (record b { settings = a.settings; actions = q; tasks = a.tasks })
-    path i = record b { settings = x.settings i; actions = x.actions_are i; tasks = x.tasks_are i }
+unserved-before a b q job e t e1 e2 = grind (arith, nat_tests)
 
 -- Before the action goes
 
@@ -196,8 +180,4 @@ served-before n l job mask v k u h t g on = by_job (t.job == job) refl
 
 -- and so it is of an action's job, once the action has gone
 pub served-after : (n : Node) (l : Lists) (job : ℕ) (a : ActionHandle) (mask : Mask) (b : BoardTable) (q : Slots Action) → Live n l → Sound (state_of n l) → Ok job ≡ job_of (slot_value n.board.actions a.0) → ((x : Action) → slot_value n.board.actions a.0 ≡ Some x → IsUnion n.board.actions x.job mask.0) → Becomes n.board b q n.board.tasks → AreServed b.settings.workers job mask.0 b.tasks.pool
-served-after n l job a mask b q v k is covers x =
-    let y = job-found (slot_value n.board.actions a.0) job is in
-    subst (λ (t : TaskTable). AreServed b.settings.workers job mask.0 t.pool) (sym x.tasks_are)
-    (subst (λ (s : NodeSettings). AreServed s.workers job mask.0 n.board.tasks.pool) (sym x.settings)
-    (served-before n l job mask v k (subst (λ (o : ℕ). IsUnion n.board.actions o mask.0) y.2 (covers y.0 y.1))))
+served-after n l job a mask b q v k is covers x = grind (arith, nat_tests, job-found, slot_value, served-before)

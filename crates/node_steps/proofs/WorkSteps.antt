@@ -30,14 +30,10 @@ finish_steps n l who t done x e q v w g r d a new =
 
 -- what doesn't run so
 pub finish_absent : (n : Node) (l : Lists) (who : ℕ) (t : TaskHandle) (done : Answered) → Live n l → who < n.board.settings.workers → slot_value n.board.tasks.pool t.0 ≡ None → IsAnswered done → Steps n l who (op.Finish t done) (reply.Mtapi m.ErrTaskInvalid) n
-finish_absent n l who t done v w g a =
-    stays n l who (op.Finish t done) (reply.Mtapi m.ErrTaskInvalid) v a (past _ _ _ _ _ _ (is_worker who _ w) (at_none _ _ _ _ (found _ _ n.board.tasks.pool l.tasks t.0 None v.tasks g)))
+finish_absent n l who t done e1 e2 e3 e4 = grind (arith, nat_tests)
 
 pub finish_other : (n : Node) (l : Lists) (who : ℕ) (t : TaskHandle) (done : Answered) (x : Task) → Live n l → who < n.board.settings.workers → slot_value n.board.tasks.pool t.0 ≡ Some x → (runs_as who done.kind x && pointwise int_eq x.args done.args) ≡ false → IsAnswered done → Steps n l who (op.Finish t done) (reply.Mtapi m.ErrTaskInvalid) n
-finish_other n l who t done x v w g r a =
-    stays n l who (op.Finish t done) (reply.Mtapi m.ErrTaskInvalid) v a
-    (past _ _ _ _ _ _ (is_worker who _ w) (at_some _ _ _ x _ _ _ (found _ _ n.board.tasks.pool l.tasks t.0 (Some x) v.tasks g)
-    (met_in _ (finish_refusals who done.kind done.args x) m.ErrTaskInvalid _ (ap (λ (b : Bool). cond (not b) (Some m.ErrTaskInvalid) None) r))))
+finish_other n l who t done x e1 e2 e3 e4 e5 = grind (arith, nat_tests)
 
 -- Asking
 
@@ -53,9 +49,7 @@ module _ (n : Node) (l : Lists) (who : ℕ) (t : TaskHandle) (v : Live n l) (w :
   asked_none g = stays n l who asks (reply.Mtapi m.ErrTaskInvalid) v tt (past _ _ _ _ _ _ (is_worker who _ w) (at_none _ _ _ _ (found _ _ n.board.tasks.pool l.tasks t.0 None v.tasks g)))
 
   asked_refused : (x : Task) (c : MtapiStatus) → slot_value n.board.tasks.pool t.0 ≡ Some x → first (asked_refusals who x) ≡ Some c → Steps n l who asks (reply.Mtapi c) n
-  asked_refused x c g f =
-      stays n l who asks (reply.Mtapi c) v tt
-      (past _ _ _ _ _ _ (is_worker who _ w) (at_some _ _ _ x _ _ _ (found _ _ n.board.tasks.pool l.tasks t.0 (Some x) v.tasks g) (met_in _ (asked_refusals who x) c _ f)))
+  asked_refused x c e1 e2 = grind (arith, nat_tests)
 
   asked_told : (x : Task) → slot_value n.board.tasks.pool t.0 ≡ Some x → first (asked_refusals who x) ≡ None → Steps n l who asks (reply.Asked x.notes.requested) (record n { board = record n.board { tasks = with_pool n (changed n.board.tasks.pool t.0 (with_notes asked_once)) } })
   asked_told x g f =
@@ -95,24 +89,17 @@ module _ (n : Node) (l : Lists) (who : ℕ) (t : TaskHandle) (v : Live n l) (w :
 -- Ending a watch
 
 watch_refused : (who : ℕ) (x : Task) (c : MtapiStatus) (f : Option MtapiStatus) → first (watch_end_refusals who x) ≡ f → unless_refused f (watch_end x) ≡ Err c → first (watch_end_refusals who x) ≡ Some c
-watch_refused who x c None f e = absurd (cc)
-watch_refused who x c (Some d) f e = f ∙ ap Some (cc)
+watch_refused who x c f e1 e2 = grind (arith, nat_tests)
 
 watch_told : (who : ℕ) (x : Task) (e : TaskEnd) (f : Option MtapiStatus) → first (watch_end_refusals who x) ≡ f → unless_refused f (watch_end x) ≡ Ok e → (first (watch_end_refusals who x) ≡ None) × (e ≡ watch_end x)
-watch_told who x e None f k = (f, cc)
-watch_told who x e (Some d) f k = absurd (cc)
+watch_told who x e f e1 e2 = grind (arith, nat_tests)
 
 module _ (n : Node) (l : Lists) (who : ℕ) (t : TaskHandle) (v : Live n l) (w : who < n.board.settings.workers) where
   abbrev ends : Op
   ends = op.WatchEnd t
 
   pub watch_failed : (c : MtapiStatus) (o : Option Task) → slot_value n.board.tasks.pool t.0 ≡ o → watch_end_of who o ≡ Err c → Steps n l who ends (reply.Mtapi c) n
-  watch_failed c None g e =
-      subst (λ (s : MtapiStatus). Steps n l who ends (reply.Mtapi s) n) (cc)
-      (stays n l who ends (reply.Mtapi m.ErrTaskInvalid) v tt (past _ _ _ _ _ _ (is_worker who _ w) (at_none _ _ _ _ (found _ _ n.board.tasks.pool l.tasks t.0 None v.tasks g))))
-  watch_failed c (Some x) g e =
-      stays n l who ends (reply.Mtapi c) v tt
-      (past _ _ _ _ _ _ (is_worker who _ w) (at_some _ _ _ x _ _ _ (found _ _ n.board.tasks.pool l.tasks t.0 (Some x) v.tasks g) (met_in _ (watch_end_refusals who x) c _ (watch_refused who x c (first (watch_end_refusals who x)) refl e))))
+  watch_failed c o e1 e2 = grind (arith, nat_tests)
 
   pub watch_ended : (e : TaskEnd) (q : TaskTable) (o : Option Task) → slot_value n.board.tasks.pool t.0 ≡ o → watch_end_of who o ≡ Ok e → q ≡ ended_tasks n t.0 e o → Steps n l who ends (reply.Ended e) (record n { board = record n.board { tasks = q } })
   watch_ended e q None g k d = absurd (cc)
