@@ -1,27 +1,15 @@
 -- The generated workload is well formed.
-use Rattle.std.proofs.Common.{◌≡◌, ℕ, ℤ, zero, suc, pos, ◌+◌, ◌%◌, ◌^◌, ◌≤◌, ◌<◌, Bool, true, false, cond, ◌||◌, eqb, List, [], ◌∷◌, ◌++◌, length, map, append_assoc, Result, Ok, Err, refl, sym, ap, subst, ◌∙◌, arith, rules, inl, inr}
+use Rattle.generated_workload.proofs.Names.{◌≡◌, ℕ, ℤ, zero, suc, pos, ◌+◌, ◌%◌, ◌^◌, ◌≤◌, ◌<◌, Bool, true, false, cond, ◌||◌, eqb, List, [], ◌∷◌, ◌++◌, length, map, append_assoc, Result, Ok, Err, refl, sym, ap, subst, ◌∙◌, arith, rules, inl, inr, IfOk, FitsSigned, AllByRecursion, list_all, list_any, is_ascii_digit, decimal, le-leb, and_parts, and_from, cases_Bool, decimal_injective, length-decimal-le, digits_decimal, append-nil, map-append, length-map, length-append, own, Statement, is_called, IsBoundAt, IsNew, IsStatement, AreStatements, begins, statement_lines, Rise, WellFormed, push_statement, begins_push, any_push, Below, below_push, rise_push, binding, first_statements, task_deed, task_name, task_statement, last_statement}
 use Rattle.std.specs.declared.alloc.AllocError.{AllocError}
-use Rattle.std.specs.Prelude.{IfOk, FitsSigned}
-use Rattle.std.specs.List.{AllByRecursion, list_all, list_any}
 use Rattle.std.specs.Int.{w64}
-use Rattle.std.specs.Char.{is_ascii_digit}
-use Rattle.std.specs.Fmt.{decimal}
 use Rattle.std.specs.Str.{bytes_eq}
-use Rattle.std.proofs.lemmas.Bool.{le-leb, and_parts, and_from, cases_Bool}
 use Rattle.std.proofs.lemmas.Slice.Eq.{bytes_eq-Decides}
-use Rattle.std.proofs.lemmas.Fmt.{decimal_injective, length-decimal-le, digits_decimal}
-use Rattle.std.proofs.lemmas.List.{append-nil, map-append, length-map, length-append}
-use Rattle.number_text.proofs.Parsing.{own}
 use Rattle.workload_file.specs.declared.table.Sort.TheVariants as sort
-use Rattle.workload_file.specs.declared.workload.Statement.{Statement}
 use Rattle.workload_file.specs.declared.workload.Workload.{Workload}
 use Rattle.workload_file.specs.Deeds.{is_begin, deed_spelled, binds}
 use Rattle.workload_file.specs.Table.{row}
 use Rattle.workload_file.specs.Values.{is_name, is_name_byte, is_letter}
-use Rattle.workload_file.specs.Names.{is_called}
-use Rattle.workload_file.specs.Formed.{IsBoundAt, IsNew, IsStatement, AreStatements, begins, statement_lines, Rise, WellFormed}
-use Rattle.workload_file.proofs.Invariant.{push_statement, begins_push, any_push, Below, below_push, rise_push}
-use Rattle.generated_workload.specs.Generated.{binding, first_statements, start, task_deed, task_name, task_statement, tasks, last_statement, generated}
+use Rattle.generated_workload.specs.Generated.{start, tasks, generated}
 
 -- ---- names
 

@@ -1,37 +1,21 @@
 -- The lines of the generated text before its first task.
-use Rattle.std.proofs.Common.{◌≡◌, ℕ, ◌≤◌, List, [], ◌∷◌, ◌++◌, true, Some, Ok, refl, ◌∙◌, ap, arith}
-use Rattle.std.specs.Prelude.{codes}
-use Rattle.std.specs.List.{list_all}
-use Rattle.std.specs.Fmt.{decimal}
-use Rattle.std.proofs.lemmas.Bool.{and_from}
-use Rattle.std.proofs.lemmas.Fmt.{length-decimal-le}
+use Rattle.generated_workload.proofs.Names.{◌≡◌, ℕ, ◌≤◌, List, [], ◌∷◌, ◌++◌, true, Some, Ok, refl, ◌∙◌, ap, arith, codes, list_all, decimal, and_from, length-decimal-le, Reading, Statement, fields, values_in, change_of, settings_by, line_text, AllFit, IsRead, node_settings, is_word, binding, all_cores, first_statements, generated_settings, node_words, first_lines, Change, Value}
 use Rattle.mtapi_values.specs.declared.kinds.Kind.TheVariants as kind
 use Rattle.mtapi_values.specs.Kinds.{kind_named}
 use Rattle.workload_file.specs.declared.table.Word.TheVariants as word
-use Rattle.workload_file.specs.declared.reading.Reading.{Reading}
 use Rattle.workload_file.specs.declared.reading.Change.TheVariants as change
-use Rattle.workload_file.specs.declared.workload.Statement.{Statement}
 use Rattle.workload_file.specs.declared.workload.Deed.TheVariants as deed
 use Rattle.workload_file.specs.Cuts.{words_of}
-use Rattle.workload_file.specs.Table.{row, fields, key_text, word_of}
+use Rattle.workload_file.specs.Table.{row, key_text, word_of}
 use Rattle.number_text.specs.Numbers.{number_within as wide_within, number as wide_number}
 use Rattle.workload_file.specs.Values.{is_name, number_within, number}
 use Rattle.workload_file.specs.Options.{has_twice, text_of}
 use Rattle.workload_file.specs.Names.{is_taken, is_misplaced, is_ninth_caller}
 use Rattle.workload_file.specs.Deeds.{setting_values, deed_with, number_in, kind_in, cores_in}
-use Rattle.workload_file.specs.Changes.{values_in, value_given, value_absent, change_with, change_of, settings_by}
-use Rattle.workload_file.specs.Written.{line_text}
-use Rattle.workload_file.specs.Formed.{AllFit}
+use Rattle.workload_file.specs.Changes.{value_given, value_absent, change_with}
 use Rattle.workload_file.specs.Reading.{line_gives, with_change, line_adds, lines_add, start}
-use Rattle.workload_file.proofs.Facts.{IsRead}
-use Rattle.workload_file.proofs.Invariant.{node_settings}
-use Rattle.workload_file.proofs.Phrases.{is_word}
-use Rattle.generated_workload.specs.Generated.{binding, all_cores, first_statements, generated_settings}
-use Rattle.generated_workload.specs.Text.{node_words, first_lines}
 use Rattle.generated_workload.proofs.Lines.{decimal_inner, inner_word, within_decimal, total, words_add, more, one}
 use Rattle.workload_file.specs.Faulty.{is_faulty}
-use Rattle.workload_file.specs.declared.reading.Change.{Change}
-use Rattle.workload_file.specs.declared.values.Value.{Value}
 
 -- what was read behind the node's line: these statements, and how many lines were statements
 abbrev pub state : ℕ → ℕ → List Statement → ℕ → Reading

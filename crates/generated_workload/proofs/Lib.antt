@@ -1,3 +1,4 @@
+pub mod Names
 mod Formed
 mod Lines
 mod Heads

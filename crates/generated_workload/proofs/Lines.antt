@@ -1,20 +1,8 @@
 -- Lines of words: that they are read, and how long they are.
-use Rattle.std.proofs.Common.{◌≡◌, ℕ, ◌+◌, ◌^◌, ◌≤◌, ◌<◌, List, [], ◌∷◌, ◌++◌, length, true, Some, Ok, refl, sym, subst, ◌∙◌, arith, length-append}
-use Rattle.std.specs.List.{list_all, join_with_byte}
-use Rattle.std.specs.Char.{is_ascii_digit}
-use Rattle.std.specs.Fmt.{decimal}
-use Rattle.std.proofs.lemmas.Bool.{and_parts, and_from, le-leb, leb-true, lt-ltb, ne_eqb}
-use Rattle.std.proofs.lemmas.Fmt.{digits_decimal}
-use Rattle.number_text.specs.Lists.{led}
-use Rattle.number_text.proofs.Parsing.{own}
-use Rattle.number_text.proofs.Writing.{within_written}
-use Rattle.workload_file.specs.declared.reading.Reading.{Reading}
+use Rattle.generated_workload.proofs.Names.{◌≡◌, ℕ, ◌+◌, ◌^◌, ◌≤◌, ◌<◌, List, [], ◌∷◌, ◌++◌, length, true, Some, Ok, refl, sym, subst, ◌∙◌, arith, list_all, join_with_byte, is_ascii_digit, decimal, and_parts, and_from, le-leb, leb-true, lt-ltb, ne_eqb, digits_decimal, led, own, within_written, Reading, line_text, bind_ok, ok_is, IsRead, states, is_inner, is_word, words_again, line_printable, led_length, change_of}
+use Rattle.std.proofs.Common.{length-append}
 use Rattle.workload_file.specs.Reading.{with_change, line_adds, lines_add}
-use Rattle.workload_file.specs.Written.{line_text}
 use Rattle.workload_file.specs.Values.{number, number_within}
-use Rattle.workload_file.proofs.Facts.{bind_ok, ok_is, IsRead, states}
-use Rattle.workload_file.proofs.Phrases.{is_inner, is_word, words_again, line_printable, led_length}
-use Rattle.workload_file.specs.Changes.{change_of}
 use Rattle.workload_file.specs.Alike.{IsPlain}
 use Rattle.workload_file.specs.declared.table.Word.{Word}
 

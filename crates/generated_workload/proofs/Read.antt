@@ -1,19 +1,10 @@
 -- The generated text is read as the generated workload.
-use Rattle.std.proofs.Common.{◌≡◌, ℕ, zero, suc, ◌+◌, ◌*◌, ◌≤◌, true, eqb, List, [], ◌∷◌, ◌++◌, length, Some, Ok, refl, ap, ◌∙◌, arith}
-use Rattle.std.specs.Prelude.{codes, drop}
-use Rattle.std.specs.List.{list_all, join_with_byte}
-use Rattle.std.proofs.lemmas.Bool.{and_parts, and_from, eq-eqb}
-use Rattle.std.proofs.lemmas.Fmt.{decimal_digit}
-use Rattle.std.proofs.lemmas.List.{length-append}
+use Rattle.generated_workload.proofs.Names.{◌≡◌, ℕ, zero, suc, ◌+◌, ◌*◌, ◌≤◌, true, eqb, List, [], ◌∷◌, ◌++◌, length, Some, Ok, refl, ap, ◌∙◌, arith, codes, drop, list_all, join_with_byte, and_parts, and_from, eq-eqb, decimal_digit, length-append, between, Reading, line_text, line_printable, printable_lacks, all_append, first_statements, last_statement, node_words, task_words, first_lines, last_line, generated_text}
 use Rattle.std.proofs.lemmas.List.Splits.{slice_split_at, slice_split_none}
-use Rattle.number_text.specs.Lists.{between}
-use Rattle.workload_file.specs.declared.reading.Reading.{Reading}
 use Rattle.workload_file.specs.declared.reading.Change.TheVariants as change
-use Rattle.workload_file.specs.Written.{line_text}
 use Rattle.workload_file.specs.Reading.{with_change, lines_add, start, finished, workload_of}
-use Rattle.workload_file.proofs.Phrases.{line_printable, printable_lacks, all_append}
-use Rattle.generated_workload.specs.Generated.{first_statements, tasks, last_statement, generated}
-use Rattle.generated_workload.specs.Text.{node_words, task_words, task_lines, first_lines, last_line, generated_text}
+use Rattle.generated_workload.specs.Generated.{tasks, generated}
+use Rattle.generated_workload.specs.Text.{task_lines}
 use Rattle.generated_workload.proofs.Lines.{total, total_append, joined_total, push}
 use Rattle.generated_workload.proofs.Heads.{Good, state, node_good, first_add}
 use Rattle.generated_workload.proofs.Starts.{task_good, task_adds, last_adds}

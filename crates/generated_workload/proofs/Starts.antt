@@ -1,36 +1,22 @@
 -- The lines of the generated text that start a task, and the wait for all of them.
-use Rattle.std.proofs.Common.{◌≡◌, ℕ, ℤ, suc, pos, ◌+◌, ◌%◌, ◌^◌, ◌≤◌, ◌<◌, Bool, true, false, cond, eqb, List, [], ◌∷◌, ◌++◌, length, Some, None, Ok, refl, ap, ◌∙◌, arith, length-append}
-use Rattle.std.specs.Prelude.{codes, nat_le, position, Option}
-use Rattle.std.specs.List.{list_all, list_any, position_or_len}
-use Rattle.std.specs.Fmt.{decimal}
-use Rattle.std.proofs.lemmas.Bool.{and_from, or_parts, lt-ltb, le-ltb, lt-leb}
-use Rattle.std.proofs.lemmas.Fmt.{length-decimal-le}
-use Rattle.number_text.specs.Lists.{list_of, list_text}
-use Rattle.number_text.proofs.Writing.{list_written}
+use Rattle.generated_workload.proofs.Names.{◌≡◌, ℕ, ℤ, suc, pos, ◌+◌, ◌%◌, ◌^◌, ◌≤◌, ◌<◌, Bool, true, false, cond, eqb, List, [], ◌∷◌, ◌++◌, length, Some, None, Ok, refl, ap, ◌∙◌, arith, codes, nat_le, position, Option, list_all, list_any, position_or_len, decimal, and_from, or_parts, lt-ltb, le-ltb, lt-leb, length-decimal-le, list_of, list_text, list_written, Value, Reading, Statement, fields, naming, bound_at, is_called, use_in, values_in, change_of, line_text, IsRead, is_inner, is_word, all_append, binding, all_cores, first_statements, task_name, task_statement, last_statement, start_words, task_words, last_line, Change}
+use Rattle.std.proofs.Common.{length-append}
 use Rattle.mtapi_values.specs.declared.timeouts.Timeout.TheVariants as timeout
 use Rattle.workload_file.specs.declared.table.Word.TheVariants as word
 use Rattle.workload_file.specs.declared.table.Sort.TheVariants as sort
-use Rattle.workload_file.specs.declared.values.Value.{Value}
 use Rattle.workload_file.specs.declared.values.Value.TheVariants as given
-use Rattle.workload_file.specs.declared.reading.Reading.{Reading}
 use Rattle.workload_file.specs.declared.reading.Change.TheVariants as change
-use Rattle.workload_file.specs.declared.workload.Statement.{Statement}
-use Rattle.workload_file.specs.Table.{row, fields, key_text, word_of, naming}
+use Rattle.workload_file.specs.Table.{row, key_text, word_of}
 use Rattle.workload_file.specs.Values.{is_name, timeout_of}
 use Rattle.workload_file.specs.Options.{has_twice, text_of}
-use Rattle.workload_file.specs.Names.{place_of, bound_at, is_called, is_taken, is_misplaced, is_ninth_caller, use_in}
+use Rattle.workload_file.specs.Names.{place_of, is_taken, is_misplaced, is_ninth_caller}
 use Rattle.workload_file.specs.Deeds.{deed_with, binds, number_in, args_in, cores_in, flag_in, place_in, timeout_in}
-use Rattle.workload_file.specs.Changes.{values_in, value_given, value_absent, change_of, change_with}
-use Rattle.workload_file.specs.Written.{line_text}
+use Rattle.workload_file.specs.Changes.{value_given, value_absent, change_with}
 use Rattle.workload_file.specs.Reading.{with_change, line_adds}
-use Rattle.workload_file.proofs.Facts.{IsRead}
-use Rattle.workload_file.proofs.Phrases.{is_inner, is_word, all_append}
-use Rattle.generated_workload.specs.Generated.{binding, all_cores, first_statements, start, task_name, task_statement, tasks, last_statement}
-use Rattle.generated_workload.specs.Text.{start_words, task_words, last_line}
+use Rattle.generated_workload.specs.Generated.{start, tasks}
 use Rattle.generated_workload.proofs.Formed.{is_task_name, is_new, fits}
 use Rattle.generated_workload.proofs.Lines.{decimal_inner, inner_word, within_decimal, total, words_add}
 use Rattle.generated_workload.proofs.Heads.{Good, state}
-use Rattle.workload_file.specs.declared.reading.Change.{Change}
 
 -- ---- names
 

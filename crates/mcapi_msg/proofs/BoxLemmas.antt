@@ -1,17 +1,7 @@
 -- What is kept of the live endpoints and the rings in reserve, after each change.
-use Rattle.std.specs.Prelude.{◌==◌}
-use Rattle.std.proofs.Common.{Bool, true, false, cond, ◌≡◌, ℕ, ◌<◌, ◌≤◌, List, [], ◌∷◌, ◌++◌, length, Some, None, replicate, refl, sym, ap, subst, ◌∙◌, inl, inr, arith, length-append}
-use Rattle.std.proofs.lemmas.Bool.{cases_eq}
-use Rattle.handle_pool.specs.Slots.{Slots, slot_of, generation_of, free_slot, slot_value, Inserts, with_value, without, IsFull}
-use Rattle.handle_pool.specs.Walks.{NoneLive}
-use Rattle.handle_pool.proofs.StandsLemmas.{get-fresh}
+use Rattle.mcapi_msg.proofs.Names.{◌==◌, Bool, true, false, cond, ◌≡◌, ℕ, ◌<◌, ◌≤◌, List, [], ◌∷◌, ◌++◌, length, Some, None, replicate, refl, sym, ap, subst, ◌∙◌, inl, inr, arith, length-append, cases_eq, Slots, slot_of, generation_of, free_slot, slot_value, Inserts, with_value, without, IsFull, NoneLive, get-fresh, live_count-new, max_of-new, live_count-insert, max_of-insert, live_count-with_value, max_of-with_value, live_count-without, max_of-without, Mailbox, Waiting, RingTable, empty_rings, with_last, without_front, AreEmpty, HasFree, IsKept}
 use Rattle.handle_pool.proofs.GetLemmas.{get-insert_same, get-insert_other, get-with_value_same, get-with_value_other, get-without_same, get-without_other}
 use Rattle.handle_pool.proofs.OneEachLemmas.{OneEach-new, OneEach-insert, OneEach-with_value, OneEach-without}
-use Rattle.handle_pool.proofs.CountLemmas.{live_count-new, max_of-new, live_count-insert, max_of-insert, live_count-with_value, max_of-with_value, live_count-without, max_of-without}
-use Rattle.mcapi_msg.specs.declared.boxes.Mailbox.{Mailbox}
-use Rattle.mcapi_msg.specs.declared.messages.Waiting.{Waiting}
-use Rattle.mcapi_msg.specs.Rings.{RingTable, empty_rings, with_last, without_front}
-use Rattle.mcapi_msg.specs.Boxes.{AreEmpty, HasFree, IsKept}
 
 pub empty_split : (limit : ℕ) (xs ys : List RingTable) → AreEmpty limit (xs ++ ys) → AreEmpty limit xs × AreEmpty limit ys
 empty_split limit [] ys e = (tt, e)

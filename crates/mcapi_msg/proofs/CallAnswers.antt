@@ -1,25 +1,12 @@
 -- What the calls of a mailer answer follows from the rows of their ops.
-use Rattle.std.proofs.Common.{◌≡◌, ◌≢◌, ◌⊎◌, ℕ, ◌+◌, ◌<◌, Bool, true, false, List, [], ◌∷◌, ◌++◌, Option, Some, None, Result, Ok, Err, inl, inr, refl, sym, ◌∙◌, ap, subst, arith}
-use Rattle.std.specs.Prelude.{IfOk, OnErr, MatchOption, ◌==◌}
-use Rattle.std.proofs.lemmas.Bool.Decides.{nat_tests}
+use Rattle.mcapi_msg.proofs.Names.{◌≡◌, ◌≢◌, ◌⊎◌, ℕ, ◌+◌, ◌<◌, Bool, true, false, List, [], ◌∷◌, ◌++◌, Option, Some, None, Result, Ok, Err, inl, inr, refl, sym, ◌∙◌, ap, subst, arith, IfOk, OnErr, MatchOption, ◌==◌, nat_tests, entry, live_object, first_handle, pends, Looked, EndpointHandle, Waiting, MsgOp, MsgReply, MsgStatus, last_generation, new_endpoint, has_port, next_of, State, opening, Row, unless, gives, never, says, only, given, opens, handle_of, Allows, row, names, nothing, MsgEntry, IsNext, Legal, Seat, is_spent, Done, Names, Hands, state_at, IsAnswer, AnsweredBy, Called, look_for, Looks, RanOut, Received, TimedOut}
 use Rattle.std.proofs.lemmas.Result.{IfOk-weaker}
-use Rattle.history.specs.Histories.{entry}
-use Rattle.handle_pool.specs.Issued.{live_of, live_object, first_handle, may_issue}
+use Rattle.handle_pool.specs.Issued.{live_of, may_issue}
 use Rattle.turn_looks.specs.Turns.{SameSeat, Turned, Unturned}
-use Rattle.turn_looks.specs.Looks.{pends, Looked}
-use Rattle.mcapi_msg.specs.declared.messages.EndpointHandle.{EndpointHandle}
-use Rattle.mcapi_msg.specs.declared.messages.Waiting.{Waiting}
-use Rattle.mcapi_msg.specs.declared.ops.MsgOp.{MsgOp}
 use Rattle.mcapi_msg.specs.declared.ops.MsgOp.TheVariants as op
-use Rattle.mcapi_msg.specs.declared.ops.MsgReply.{MsgReply}
 use Rattle.mcapi_msg.specs.declared.ops.MsgReply.TheVariants as reply
-use Rattle.mcapi_msg.specs.declared.statuses.MsgStatus.{MsgStatus}
 use Rattle.mcapi_msg.specs.declared.statuses.MsgStatus.TheVariants as status
-use Rattle.mcapi_msg.specs.Endpoints.{last_generation, new_endpoint, has_port, next_of}
-use Rattle.mcapi_msg.specs.Row.{State, opening, Row, unless, gives, never, says, only, given, opens, handle_of, Allows}
-use Rattle.mcapi_msg.specs.Rows.{row, names, nothing}
-use Rattle.mcapi_msg.specs.Legal.{MsgEntry, IsNext, LegalFrom, Legal}
-use Rattle.mcapi_msg.specs.Answers.{Seat, is_spent, Done, Names, Hands, state_at, IsAnswer, AnsweredBy, Called, look_for, Looks, RanOut, Received, TimedOut}
+use Rattle.mcapi_msg.specs.Legal.{LegalFrom}
 use Rattle.mcapi_msg.proofs.Histories.{Legal-rest, first-legal}
 
 -- each reply of the row is so

@@ -1,23 +1,10 @@
 -- What waits at an endpoint of one sender with one priority is what was sent and not yet received.
-use Rattle.std.proofs.Common.{◌≡◌, ℕ, ◌+◌, Bool, true, false, cond, ◌&&◌, List, [], ◌∷◌, ◌++◌, Option, Some, None, refl, sym, ap, subst, ◌∙◌, arith, append_assoc}
-use Rattle.std.specs.Prelude.{◌==◌, nat_le}
-use Rattle.std.proofs.lemmas.List.{append-nil}
-use Rattle.std.proofs.lemmas.Bool.{eqb-true}
-use Rattle.history.specs.Histories.{StartsWith}
-use Rattle.handle_pool.specs.Slots.{generation_of}
-use Rattle.handle_pool.specs.Issued.{Listed, how_many, live_of, lookup, live_object, first_handle, listed, issued_at, may_issue, issue, update, retire, with_fields, gone}
+use Rattle.mcapi_msg.proofs.Names.{◌≡◌, ℕ, ◌+◌, Bool, true, false, cond, ◌&&◌, List, [], ◌∷◌, ◌++◌, Option, Some, None, refl, sym, ap, subst, ◌∙◌, arith, append_assoc, ◌==◌, nat_le, append-nil, eqb-true, StartsWith, generation_of, Listed, how_many, lookup, live_object, first_handle, update, retire, with_fields, gone, EndpointHandle, Waiting, MsgOp, MsgReply, PostTerms, last_generation, Endpoint, new_endpoint, has_port, message, next_of, without_first, of_priority, with_message, with_first_gone, State, opening, Move, after_moves, Row, unless, gives, never, says, only, given, Allows, moves_of, handle_of, opens, row, names, nothing, MsgEntry, IsNext, row_of, next, Legal}
+use Rattle.handle_pool.specs.Issued.{live_of, listed, issued_at, may_issue, issue}
 use Rattle.handle_pool.specs.Stands.{Distinct}
 use Rattle.handle_pool.proofs.ListedLemmas.{at-issue, at-update, at-retire, Distinct-issue, Distinct-update, Distinct-retire, listed-issue, listed-change}
-use Rattle.mcapi_msg.specs.declared.messages.EndpointHandle.{EndpointHandle}
-use Rattle.mcapi_msg.specs.declared.messages.Waiting.{Waiting}
-use Rattle.mcapi_msg.specs.declared.ops.MsgOp.{MsgOp}
 use Rattle.mcapi_msg.specs.declared.ops.MsgOp.TheVariants as op
-use Rattle.mcapi_msg.specs.declared.ops.MsgReply.{MsgReply}
-use Rattle.mcapi_msg.specs.declared.post.PostTerms.{PostTerms}
-use Rattle.mcapi_msg.specs.Endpoints.{last_generation, Endpoint, new_endpoint, has_port, message, next_of, without_first, of_priority, with_message, with_first_gone}
-use Rattle.mcapi_msg.specs.Row.{State, opening, Move, after_moves, Row, unless, gives, never, says, only, given, Allows, moves_of, handle_of, opens}
-use Rattle.mcapi_msg.specs.Rows.{row, names, nothing}
-use Rattle.mcapi_msg.specs.Legal.{MsgEntry, IsNext, row_of, next, LegalFrom, Legal}
+use Rattle.mcapi_msg.specs.Legal.{LegalFrom}
 use Rattle.mcapi_msg.specs.Fifo.{put_by, got_by, sent_to, received_at}
 use Rattle.mcapi_msg.proofs.RingLemmas.{IsFirst, first-is, of-more, of-without, dropped}
 

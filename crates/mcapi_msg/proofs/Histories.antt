@@ -1,8 +1,6 @@
 -- Lists of entries, one after the other.
-use Rattle.std.proofs.Common.{◌≡◌, List, [], ◌∷◌, ◌++◌, refl, ◌∙◌}
-use Rattle.mcapi_msg.specs.Row.{State, Move, after_moves}
-use Rattle.mcapi_msg.specs.Legal.{MsgEntry, IsNext, row_of, next, LegalFrom, after_from}
-use Rattle.mcapi_msg.specs.Row.{moves_of}
+use Rattle.mcapi_msg.proofs.Names.{◌≡◌, List, [], ◌∷◌, ◌++◌, refl, ◌∙◌, State, Move, after_moves, MsgEntry, IsNext, row_of, next, moves_of}
+use Rattle.mcapi_msg.specs.Legal.{LegalFrom, after_from}
 
 pub after-one : (s : State) (L : List MsgEntry) (e : MsgEntry) → after_from s (L ++ e ∷ []) ≡ next (after_from s L) e
 unfolding after_from

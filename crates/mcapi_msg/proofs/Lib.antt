@@ -1,3 +1,4 @@
+pub mod Names
 mod Replays
 mod Worked
 mod BoxLemmas

@@ -1,19 +1,7 @@
 -- A new post stands for the empty list, and each step goes on with the list.
-use Rattle.std.proofs.Common.{◌≡◌, ℕ, ◌<◌, ◌≤◌, List, [], ◌∷◌, ◌++◌, length, replicate, sym, ◌∙◌, ap, subst, arith}
-use Rattle.std.proofs.lemmas.List.{length-replicate}
-use Rattle.history.specs.Histories.{entry}
-use Rattle.handle_pool.specs.Slots.{free_slot}
-use Rattle.handle_pool.specs.Issued.{Listed}
-use Rattle.handle_pool.proofs.StandsLemmas.{Stands-new}
-use Rattle.mcapi_msg.specs.declared.ops.MsgOp.{MsgOp}
-use Rattle.mcapi_msg.specs.declared.ops.MsgReply.{MsgReply}
-use Rattle.mcapi_msg.specs.declared.post.Post.{Post}
-use Rattle.mcapi_msg.specs.declared.post.PostTerms.{PostTerms}
-use Rattle.mcapi_msg.specs.Endpoints.{last_generation, Endpoint}
-use Rattle.mcapi_msg.specs.Boxes.{BoxTable}
-use Rattle.mcapi_msg.specs.Row.{State, opening}
-use Rattle.mcapi_msg.specs.Legal.{MsgEntry, IsNext, LegalFrom, Legal, next, after_from, after}
-use Rattle.mcapi_msg.specs.Stands.{relisted, terms_of, Holds, Steps, state_of, Stands}
+use Rattle.mcapi_msg.proofs.Names.{◌≡◌, ℕ, ◌<◌, ◌≤◌, List, [], ◌∷◌, ◌++◌, length, replicate, sym, ◌∙◌, ap, subst, arith, length-replicate, entry, free_slot, Listed, Stands-new, MsgOp, MsgReply, Post, PostTerms, last_generation, Endpoint, BoxTable, State, opening, MsgEntry, IsNext, Legal, next, after, terms_of, Holds, Steps, state_of, Stands}
+use Rattle.mcapi_msg.specs.Legal.{LegalFrom, after_from}
+use Rattle.mcapi_msg.specs.Stands.{relisted}
 use Rattle.mcapi_msg.proofs.Histories.{Legal-one, after-one, after-terms}
 
 pub new_post : (seats endpoints limit : ℕ) (b : BoxTable) → 1 ≤ seats → seats ≤ 25 → 1 ≤ endpoints → endpoints ≤ 64 → 1 ≤ limit → limit ≤ 256 → b.limit ≡ limit → b.pool.generations ≡ last_generation → b.pool.slots ≡ replicate endpoints (free_slot 1) → Stands (record { seats = seats; boxes = b }) []

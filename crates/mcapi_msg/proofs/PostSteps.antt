@@ -1,31 +1,13 @@
 -- Each op of a post is a step of the machine.
-use Rattle.std.proofs.Common.{◌≡◌, ◌⊎◌, ℕ, ◌<◌, ◌≤◌, Bool, true, false, not, cond, List, [], ◌∷◌, length, Option, Some, None, refl, sym, ap, subst, ◌∙◌, inl, inr, arith}
-use Rattle.std.specs.Prelude.{◌==◌, ◌&&◌, nat_lt}
-use Rattle.std.proofs.lemmas.Bool.{eqb-true, eq-eqb}
-use Rattle.std.proofs.lemmas.Bool.Decides.{nat_tests}
-use Rattle.handle_pool.specs.Slots.{Slots, slot_value, max_of, IsFull, Inserts, with_value, without}
-use Rattle.handle_pool.specs.Walks.{NoneLive, HasLive, OneEach}
-use Rattle.handle_pool.specs.Issued.{Listed, live_of, lookup, live_object, any_listed, issue, change, with_fields, gone, update, retire, is_full, may_issue}
+use Rattle.mcapi_msg.proofs.Names.{◌≡◌, ◌⊎◌, ℕ, ◌<◌, ◌≤◌, Bool, true, false, not, cond, List, [], ◌∷◌, length, Option, Some, None, refl, sym, ap, subst, ◌∙◌, inl, inr, arith, ◌==◌, nat_lt, eqb-true, eq-eqb, nat_tests, Slots, slot_value, max_of, IsFull, Inserts, with_value, without, NoneLive, HasLive, OneEach, Listed, lookup, live_object, any_listed, with_fields, gone, update, retire, IsFull-limit, IsFull-room, may_issue-insert, Stands-insert, Stands-update, Stands-remove, max_of-insert, max_of-with_value, max_of-without, EndpointHandle, Waiting, Mailbox, MsgOp, MsgReply, Got, Refused, MsgStatus, Post, last_generation, Endpoint, new_endpoint, has_port, message, next_of, with_message, with_first_gone, State, Move, Row, unless, gives, says, only, given, Allows, moves_of, after_moves, row, names, nothing, count_in, with_last, first_in, without_front, BoxTable, HasPort, HasFree, HasSpace, new_mailbox, with_rings, owner_refusal, rings_of, kept_as, InRange, AreInRange, Holds, state_of, Steps}
+use Rattle.std.specs.Prelude.{◌&&◌}
+use Rattle.handle_pool.specs.Issued.{live_of, issue, change, is_full, may_issue}
 use Rattle.handle_pool.specs.Stands.{Stands as SlotsStand}
-use Rattle.handle_pool.proofs.StandsLemmas.{IsFull-limit, IsFull-room, may_issue-insert, Stands-insert, Stands-update, Stands-remove}
 use Rattle.handle_pool.proofs.AnswerLemmas.{any-live, any-none, first_live-only, first_live-absent}
-use Rattle.handle_pool.proofs.CountLemmas.{max_of-insert, max_of-with_value, max_of-without}
-use Rattle.mcapi_msg.specs.declared.messages.EndpointHandle.{EndpointHandle}
-use Rattle.mcapi_msg.specs.declared.messages.Waiting.{Waiting}
-use Rattle.mcapi_msg.specs.declared.boxes.Mailbox.{Mailbox}
-use Rattle.mcapi_msg.specs.declared.ops.MsgOp.{MsgOp}
 use Rattle.mcapi_msg.specs.declared.ops.MsgOp.TheVariants as op
-use Rattle.mcapi_msg.specs.declared.ops.MsgReply.{MsgReply}
-use Rattle.mcapi_msg.specs.declared.ops.MsgReply.TheVariants.{Ok, Got, Refused}
-use Rattle.mcapi_msg.specs.declared.statuses.MsgStatus.{MsgStatus}
+use Rattle.mcapi_msg.specs.declared.ops.MsgReply.TheVariants.{Ok}
 use Rattle.mcapi_msg.specs.declared.statuses.MsgStatus.TheVariants.{PortTaken, EndpointLimit, EndpointInvalid, PortUnknown, PriorityRange, Full, NotOwner}
-use Rattle.mcapi_msg.specs.declared.post.Post.{Post}
-use Rattle.mcapi_msg.specs.Endpoints.{last_generation, Endpoint, new_endpoint, has_port, message, next_of, with_message, with_first_gone}
-use Rattle.mcapi_msg.specs.Row.{State, Move, Row, unless, gives, says, only, given, Allows, moves_of, after_moves}
-use Rattle.mcapi_msg.specs.Rows.{row, names, nothing}
-use Rattle.mcapi_msg.specs.Rings.{count_in, with_last, first_in, without_front}
-use Rattle.mcapi_msg.specs.Boxes.{BoxTable, HasPort, HasFree, HasSpace, new_mailbox, with_rings, owner_refusal}
-use Rattle.mcapi_msg.specs.Stands.{rings_of, kept_as, relisted, InRange, AreInRange, Holds, state_of, Steps}
+use Rattle.mcapi_msg.specs.Stands.{relisted}
 use Rattle.mcapi_msg.proofs.RingLemmas.{rings-more, count-rings, range-more, range-without, rings-take, take-none}
 use Rattle.mcapi_msg.proofs.Relisted.{any-relisted, first-relisted, at-back, at-none, is_full-relisted, may_issue-relisted, issue-relisted, retire-relisted, update-relisted}
 

@@ -1,8 +1,6 @@
 -- A list of issued objects with other fields: each question has the same answer, and each move comes to the same.
-use Rattle.std.proofs.Common.{◌≡◌, ℕ, suc, ◌+◌, Bool, true, false, not, ◌&&◌, cond, List, [], ◌∷◌, length, Option, Some, None, refl, sym, ap, ◌∙◌}
-use Rattle.std.specs.Prelude.{◌==◌, nat_le}
-use Rattle.handle_pool.specs.Slots.{slot_of, generation_of}
-use Rattle.handle_pool.specs.Issued.{Listed, live_of, lookup, live_object, any_listed, any_live, first_handle, issue, change, gone, update, retire, listed, issued_at, retired, is_full, may_issue}
+use Rattle.mcapi_msg.proofs.Names.{◌≡◌, ℕ, suc, ◌+◌, Bool, true, false, not, ◌&&◌, cond, List, [], ◌∷◌, length, Option, Some, None, refl, sym, ap, ◌∙◌, ◌==◌, nat_le, slot_of, generation_of, Listed, lookup, live_object, any_listed, any_live, first_handle, gone, update, retire}
+use Rattle.handle_pool.specs.Issued.{live_of, issue, change, listed, issued_at, retired, is_full, may_issue}
 use Rattle.mcapi_msg.specs.Stands.{relisted}
 
 module _ {A B : Type 0} (f : A → B) where

@@ -1,12 +1,6 @@
 -- A list is legal exactly where its replay, in which the machine gives each reply, is the list itself.
-use Rattle.std.proofs.Common.{◌≡◌, ℕ, ◌<◌, Bool, true, false, cond, List, [], ◌∷◌, Option, Some, None, refl, sym, ap, arith}
-use Rattle.std.specs.Prelude.{nat_lt}
-use Rattle.std.proofs.lemmas.Bool.Decides.{nat_tests}
-use Rattle.history.specs.Histories.{entry}
-use Rattle.mcapi_msg.specs.declared.ops.MsgOp.{MsgOp}
-use Rattle.mcapi_msg.specs.declared.ops.MsgReply.{MsgReply}
-use Rattle.mcapi_msg.specs.Row.{State, Row, unless, gives, never, Allows}
-use Rattle.mcapi_msg.specs.Legal.{MsgEntry, IsNext, row_of, next, LegalFrom}
+use Rattle.mcapi_msg.proofs.Names.{◌≡◌, ℕ, ◌<◌, Bool, true, false, cond, List, [], ◌∷◌, Option, Some, None, refl, sym, ap, arith, nat_lt, nat_tests, entry, MsgOp, MsgReply, State, Row, unless, gives, never, Allows, MsgEntry, IsNext, row_of, next}
+use Rattle.mcapi_msg.specs.Legal.{LegalFrom}
 
 -- the reply that a row gives
 abbrev pub answer : Row → Option MsgReply

@@ -1,12 +1,5 @@
 -- What the rings of an endpoint say of the messages that wait there.
-use Rattle.std.proofs.Common.{◌≡◌, ℕ, zero, suc, ◌+◌, ◌<◌, ◌≤◌, Bool, true, false, cond, List, [], ◌∷◌, ◌++◌, length, Option, Some, None, refl, sym, ap, subst, ◌∙◌, arith}
-use Rattle.std.specs.Prelude.{◌==◌, nat_lt}
-use Rattle.std.proofs.lemmas.Bool.{eq-eqb}
-use Rattle.std.proofs.lemmas.Bool.Decides.{nat_tests}
-use Rattle.mcapi_msg.specs.declared.messages.Waiting.{Waiting}
-use Rattle.mcapi_msg.specs.Endpoints.{sooner, next_of, without_first, of_priority}
-use Rattle.mcapi_msg.specs.Rings.{RingTable, count_in, with_last, first_in, without_front}
-use Rattle.mcapi_msg.specs.Stands.{rings_of, InRange}
+use Rattle.mcapi_msg.proofs.Names.{◌≡◌, ℕ, zero, suc, ◌+◌, ◌<◌, ◌≤◌, Bool, true, false, cond, List, [], ◌∷◌, ◌++◌, length, Option, Some, None, refl, sym, ap, subst, ◌∙◌, arith, ◌==◌, nat_lt, eq-eqb, nat_tests, Waiting, sooner, next_of, without_first, of_priority, RingTable, count_in, with_last, first_in, without_front, rings_of, InRange}
 
 -- a message more at the end, and at the front
 abbrev with_behind : Bool → Waiting → List Waiting → List Waiting

@@ -1,13 +1,8 @@
 -- The worked histories, computed.
-use Rattle.std.proofs.Common.{◌≡◌, List, [], ◌∷◌, refl, ap, arith}
+use Rattle.mcapi_msg.proofs.Names.{◌≡◌, List, [], ◌∷◌, refl, ap, arith, MsgReply, Refused, opening, Allows, row, MsgEntry, Fits, Legal}
 use Rattle.handle_pool.specs.Issued.{live_of, issue, change, listed, issued_at, retired, is_full, may_issue}
-use Rattle.mcapi_msg.specs.declared.ops.MsgReply.{MsgReply}
-use Rattle.mcapi_msg.specs.declared.ops.MsgReply.TheVariants.{Refused}
 use Rattle.mcapi_msg.specs.declared.ops.MsgOp.TheVariants.{Open}
 use Rattle.mcapi_msg.specs.declared.statuses.MsgStatus.TheVariants as status
-use Rattle.mcapi_msg.specs.Row.{opening, Allows}
-use Rattle.mcapi_msg.specs.Rows.{row}
-use Rattle.mcapi_msg.specs.Legal.{MsgEntry, Fits, Legal}
 use Rattle.mcapi_msg.specs.Worked.{usual, exchange, used_again, in_order, urgent_left, newest_first, handed_twice, full_early, stranger_served, timeout_early, never_decides, issued_twice, no_seat, used_up}
 use Rattle.mcapi_msg.proofs.Replays.{replay, legal_if, replay_if}
 

@@ -1,11 +1,6 @@
 -- When a list of seats has all of a cell's, for who closes it.
-use Rattle.std.proofs.Common.{◌≡◌, ℕ, zero, suc, ◌+◌, ◌-◌, ◌<◌, ◌≤◌, ◌==◌, ◌⊎◌, inl, inr, List, [], ◌∷◌, ◌++◌, map, take, drop, refl, ap, ◌∙◌, subst, arith}
+use Rattle.turn_cell.proofs.Names.{◌≡◌, ℕ, zero, suc, ◌+◌, ◌-◌, ◌<◌, ◌≤◌, ◌==◌, ◌⊎◌, inl, inr, List, [], ◌∷◌, ◌++◌, map, take, drop, refl, ap, ◌∙◌, subst, arith, dite, ℕ_discrete, TableId, total, one_if, all_of, SeatView, fresh_seat, fresh_seats, numbered, IsComplete}
 use Rattle.std.specs.List.{AllZip}
-use mathlib.Core.Logic.{dite}
-use native.Mathlib.Decide.{ℕ_discrete}
-use Rattle.atomic_table.specs.Seated.{TableId}
-use Rattle.turn_cell.specs.Lists.{total, one_if, all_of}
-use Rattle.turn_cell.specs.Seats.{SeatView, fresh_seat, fresh_seats, numbered, IsComplete}
 use Rattle.turn_cell.proofs.Counting.{one_same, total-append}
 
 module _ {T P Q : Type 0} where

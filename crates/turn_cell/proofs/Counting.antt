@@ -1,8 +1,5 @@
 -- Totals over the views.
-use Rattle.std.proofs.Common.{◌≡◌, ◌≢◌, ℕ, zero, suc, ◌+◌, ◌≤◌, ◌==◌, List, [], ◌∷◌, ◌++◌, set, sym, refl, ap, arith, eq-eqb, ne_eqb}
-use mathlib.Core.Option.{some, some-injective, some-ne-none}
-use lib.ListN.{get_elem?}
-use Rattle.turn_cell.specs.Lists.{total, all_of, one_if}
+use Rattle.turn_cell.proofs.Names.{◌≡◌, ◌≢◌, ℕ, zero, suc, ◌+◌, ◌≤◌, ◌==◌, List, [], ◌∷◌, ◌++◌, set, sym, refl, ap, arith, eq-eqb, ne_eqb, some, some-injective, some-ne-none, get_elem?, total, all_of, one_if}
 
 pub one_same : (a b : ℕ) → a ≡ b → one_if (a == b) ≡ 1
 one_same a b e = ap one_if (eq-eqb a b e)

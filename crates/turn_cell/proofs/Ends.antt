@@ -1,19 +1,6 @@
 -- All seats in one, and what the table then holds.
-use Rattle.std.proofs.Common.{◌≡◌, ◌≢◌, ℕ, suc, ◌<◌, ◌==◌, inl, inr, ⊎_elim, List, [], ◌∷◌, ◌++◌, length, set, sym, refl, ap, ◌∙◌, subst, arith, Option, Some}
-use mathlib.Core.Logic.{dite}
-use native.Mathlib.Decide.{ℕ_discrete}
-use mathlib.Core.Option.{Option as Maybe, none, some, some-injective}
-use lib.ListN.{get_elem?}
-use Rattle.atomic_table.specs.Table.{State, Me, Final, Seen}
-use Rattle.atomic_table.specs.Seated.{TableId}
-use Rattle.atomic_table.proofs.Lists.{at_set}
-use Rattle.history.specs.declared.entries.Entry.{Entry}
-use Rattle.turn_cell.specs.declared.parts.Part.{Part}
-use Rattle.history.specs.Histories.{StartsWith, entries_of}
-use Rattle.turn_cell.specs.Lists.{total, all_of, one_if}
-use Rattle.turn_cell.specs.Seats.{SeatView, IsComplete, IsSeatOf}
-use Rattle.turn_cell.specs.Views.{view_of, IsPartOf, within, is_idle, Gathers}
-use Rattle.turn_cell.specs.Turns.{holds_turn, has_number, has_turn, count, Fits, Invariant}
+use Rattle.turn_cell.proofs.Names.{◌≡◌, ◌≢◌, ℕ, suc, ◌<◌, ◌==◌, inl, inr, ⊎_elim, List, [], ◌∷◌, ◌++◌, length, set, sym, refl, ap, ◌∙◌, subst, arith, Option, Some, dite, ℕ_discrete, none, some, some-injective, get_elem?, State, Me, Final, Seen, TableId, at_set, Entry, Part, StartsWith, entries_of, total, all_of, one_if, SeatView, IsComplete, IsSeatOf, view_of, IsPartOf, within, is_idle, Gathers, holds_turn, has_number, has_turn, count, Fits, Invariant}
+use mathlib.Core.Option.{Option as Maybe}
 use Rattle.turn_cell.proofs.Counting.{one_same, total-set, total-append, two_of_total}
 
 module _ {A : Type 0} where

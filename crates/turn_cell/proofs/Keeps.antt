@@ -1,21 +1,9 @@
 -- Each step keeps the rule.
-use Rattle.std.proofs.Common.{◌≡◌, ◌≢◌, ℕ, ◌+◌, ◌%◌, ◌^◌, ◌<◌, ◌≤◌, ◌==◌, inl, inr, ⊎_elim, Bool, true, false, List, [], ◌∷◌, ◌++◌, length, set, get_or, sym, refl, ap, ◌∙◌, subst, arith, Option, Some, length-append}
+use Rattle.turn_cell.proofs.Names.{◌≡◌, ◌≢◌, ℕ, ◌+◌, ◌%◌, ◌^◌, ◌<◌, ◌≤◌, ◌==◌, inl, inr, ⊎_elim, Bool, true, false, List, [], ◌∷◌, ◌++◌, length, set, get_or, sym, refl, ap, ◌∙◌, subst, arith, Option, Some, length-append, dite, ℕ_discrete, none, some, get_elem?, State, Me, Act, keeps, takes, gives, step, Valid, homes_after, carried_after, Allows, at_set, set_again, Entry, Part, Idle, Waits, Holds, StartsWith, starts_self, starts_longer, own_more, other_more, total, all_of, one_if, waits_or_holds, holds_turn, has_number, has_ticket, has_turn, count, after_draw, after_take, after_pass, part_entry, Fits, Invariant, drew, Took, looked, passed}
 use Rattle.std.proofs.lemmas.Bool.{eqb-true}
-use mathlib.Core.Logic.{dite}
-use native.Mathlib.Decide.{ℕ_discrete}
-use mathlib.Core.Option.{Option as Maybe, none, some}
+use mathlib.Core.Option.{Option as Maybe}
 use prog.Atomic.{either}
-use lib.ListN.{get_elem?}
-use Rattle.atomic_table.specs.Table.{State, Me, Act, keeps, takes, gives, step, Valid, homes_after, carried_after, Allows}
-use Rattle.atomic_table.proofs.Lists.{at_set, set_again}
-use Rattle.history.specs.declared.entries.Entry.{Entry}
-use Rattle.turn_cell.specs.declared.parts.Part.{Part}
 use Rattle.turn_cell.specs.declared.parts.Stage.{Stage}
-use Rattle.turn_cell.specs.declared.parts.Stage.TheVariants.{Idle, Waits, Holds}
-use Rattle.history.specs.Histories.{StartsWith}
-use Rattle.history.proofs.Growth.{starts_self, starts_longer, own_more, other_more}
-use Rattle.turn_cell.specs.Lists.{total, all_of, one_if}
-use Rattle.turn_cell.specs.Turns.{waits_or_holds, holds_turn, has_number, has_ticket, has_turn, count, after_draw, after_take, after_pass, part_entry, Fits, Invariant, drew, Took, looked, passed}
 use Rattle.turn_cell.proofs.Counting.{one_same, one_other, other_if, total-set, part_of_total, two_of_total, total-le, all_zero, all_both}
 use Rattle.turn_cell.proofs.OnePart.{one_part}
 

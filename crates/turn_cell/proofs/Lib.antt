@@ -1,3 +1,4 @@
+pub mod Names
 pub mod Complete
 pub mod Counting
 pub mod Ends

@@ -1,12 +1,5 @@
 -- What one part becomes.
-use Rattle.std.proofs.Common.{◌≡◌, ◌≢◌, ℕ, ◌==◌, true, false, List, [], ◌∷◌, ◌++◌, sym, refl, ap, ◌∙◌, subst, eq-eqb, ne_eqb}
-use Rattle.atomic_table.specs.Table.{Me, rest}
-use Rattle.atomic_table.specs.Seated.{TableId}
-use Rattle.turn_cell.specs.Seats.{SeatView}
-use Rattle.turn_cell.specs.Views.{view_of, first_or}
-use Rattle.turn_cell.specs.Turns.{after_draw, first_of, rest_of}
-use Rattle.turn_cell.specs.declared.parts.Part.{Part}
-use Rattle.turn_cell.specs.declared.parts.Stage.TheVariants.{Idle}
+use Rattle.turn_cell.proofs.Names.{◌≡◌, ◌≢◌, ℕ, ◌==◌, true, false, List, [], ◌∷◌, ◌++◌, sym, refl, ap, ◌∙◌, subst, eq-eqb, ne_eqb, Me, rest, TableId, SeatView, view_of, first_or, after_draw, first_of, rest_of, Part, Idle}
 
 pub one_slot : {S : Type 0} (c : List (ℕ × S)) (k : ℕ) (y : S) → c ≡ (k, y) ∷ [] → c ≡ (k, y) ∷ rest c
 one_slot {S} c k y e = subst (λ (c : List (ℕ × S)). c ≡ (k, y) ∷ rest c) (sym e) refl

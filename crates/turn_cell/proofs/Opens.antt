@@ -1,17 +1,5 @@
 -- The table at the start, and the seats that it is cut into.
-use Rattle.std.proofs.Common.{◌≡◌, ℕ, zero, suc, ◌+◌, ◌-◌, ◌<◌, ◌≤◌, inl, List, [], ◌∷◌, ◌++◌, sym, refl, ap, ◌∙◌, subst, arith, Some}
-use mathlib.Core.Logic.{dite}
-use native.Mathlib.Decide.{ℕ_discrete}
-use mathlib.Core.Option.{some, some-injective, some-ne-none}
-use lib.ListN.{get_elem?}
-use Rattle.atomic_table.specs.Table.{Me, opening}
-use Rattle.atomic_table.specs.Seated.{TableId}
-use Rattle.history.specs.declared.entries.Entry.{Entry}
-use Rattle.turn_cell.specs.declared.parts.Part.{Part}
-use Rattle.turn_cell.specs.Lists.{total, all_of}
-use Rattle.turn_cell.specs.Seats.{SeatView, fresh_seat, fresh_seats}
-use Rattle.turn_cell.specs.Views.{view_of}
-use Rattle.turn_cell.specs.Turns.{has_number, has_ticket, fresh_part, fresh_parts, first_of, rest_of, Fits, Invariant}
+use Rattle.turn_cell.proofs.Names.{◌≡◌, ℕ, zero, suc, ◌+◌, ◌-◌, ◌<◌, ◌≤◌, inl, List, [], ◌∷◌, ◌++◌, sym, refl, ap, ◌∙◌, subst, arith, Some, dite, ℕ_discrete, some, some-injective, some-ne-none, get_elem?, Me, opening, TableId, Entry, Part, total, all_of, SeatView, fresh_seat, fresh_seats, view_of, has_number, has_ticket, fresh_part, fresh_parts, first_of, rest_of, Fits, Invariant}
 use Rattle.turn_cell.proofs.Counting.{one_same, one_other}
 
 module _ {T P Q : Type 0} where

@@ -1,14 +1,5 @@
 -- Steps that change which seat has a part, and the one where each part sees the history.
-use Rattle.std.proofs.Common.{◌≡◌, ◌≢◌, ℕ, ◌+◌, ◌<◌, inl, inr, ⊎_elim, List, [], ◌∷◌, ◌++◌, map, length, set, get_or, sym, refl, ap, ◌∙◌, subst, arith, Option, Some}
-use mathlib.Core.Option.{none, some}
-use lib.ListN.{get_elem?}
-use Rattle.atomic_table.specs.Table.{State, Me, Act, keeps, step, Valid, homes_after, carried_after, Allows, Splits, Joins}
-use Rattle.atomic_table.proofs.Lists.{at_set, at_snoc, set_else}
-use Rattle.history.specs.declared.entries.Entry.{Entry}
-use Rattle.turn_cell.specs.declared.parts.Part.{Part}
-use Rattle.history.proofs.Growth.{starts_self}
-use Rattle.turn_cell.specs.Lists.{total, all_of}
-use Rattle.turn_cell.specs.Turns.{has_number, has_ticket, has_turn, count, first_of, rest_of, having_seen, Fits, Invariant, Knows, observed}
+use Rattle.turn_cell.proofs.Names.{◌≡◌, ◌≢◌, ℕ, ◌+◌, ◌<◌, inl, inr, ⊎_elim, List, [], ◌∷◌, ◌++◌, map, length, set, get_or, sym, refl, ap, ◌∙◌, subst, arith, Option, Some, none, some, get_elem?, State, Me, Act, keeps, step, Valid, homes_after, carried_after, Allows, Splits, Joins, at_set, at_snoc, set_else, Entry, Part, starts_self, total, all_of, has_number, has_ticket, has_turn, count, first_of, rest_of, having_seen, Fits, Invariant, Knows, observed}
 use Rattle.turn_cell.proofs.Counting.{total-set, total-append}
 
 module _ {O T P Q : Type 0} (terms_of : O → T) (seat_count : T → ℕ) (legal : T → List (Entry P Q) → Type 0) (stands : O → List (Entry P Q) → Type 0) where

@@ -1,13 +1,6 @@
 -- One look more.
-use Rattle.std.proofs.Common.{◌≡◌, ◌≢◌, ℕ, ◌+◌, ◌<◌, Bool, true, false, List, [], ◌∷◌, ◌++◌, Option, refl, sym, ◌∙◌, ap, subst, arith, append_assoc}
-use Rattle.std.specs.Prelude.{◌==◌, MatchOption}
+use Rattle.turn_looks.proofs.Names.{◌≡◌, ◌≢◌, ℕ, ◌+◌, ◌<◌, Bool, true, false, List, [], ◌∷◌, ◌++◌, Option, refl, sym, ◌∙◌, ap, subst, arith, append_assoc, ◌==◌, MatchOption, nat_tests, Entry, entry, SeatView, SameSeat, Turned, Unturned, pends, Pended, Looked, StillLooking}
 use Rattle.std.proofs.lemmas.List.{replicate_more, append-nil}
-use Rattle.std.proofs.lemmas.Bool.Decides.{nat_tests}
-use Rattle.history.specs.declared.entries.Entry.{Entry}
-use Rattle.history.specs.Histories.{entry}
-use Rattle.turn_cell.specs.Seats.{SeatView}
-use Rattle.turn_looks.specs.Turns.{SameSeat, Turned, Unturned}
-use Rattle.turn_looks.specs.Looks.{pends, Pended, Looked, StillLooking}
 
 module _ {T P Q : Type 0} (legal : T → List (Entry P Q) → Type 0) (op_of : Bool → P) (waits : Q) where
   pub same_then : (a b c : SeatView T P Q) → SameSeat a b → SameSeat b c → SameSeat a c

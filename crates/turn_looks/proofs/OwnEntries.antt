@@ -1,11 +1,5 @@
 -- A seat's entries in what it has seen.
-use Rattle.std.proofs.Common.{◌≡◌, ℕ, Bool, true, false, cond, List, [], ◌∷◌, ◌++◌, Result, Ok, Err, length, length-append, refl, sym, ◌∙◌, ap, subst, arith}
-use Rattle.std.specs.Prelude.{◌==◌, ◌≤◌, ◌^◌, IfOk, IfErr, OnErr}
-use Rattle.std.proofs.lemmas.Bool.Decides.{nat_tests}
-use Rattle.history.specs.declared.entries.Entry.{Entry}
-use Rattle.history.specs.Histories.{entry, entries_of, Extends}
-use Rattle.turn_cell.specs.Seats.{SeatView}
-use Rattle.turn_looks.specs.Turns.{SameSeat, Turned, Unturned}
+use Rattle.turn_looks.proofs.Names.{◌≡◌, ℕ, Bool, true, false, cond, List, [], ◌∷◌, ◌++◌, Result, Ok, Err, length, length-append, refl, sym, ◌∙◌, ap, subst, arith, ◌==◌, ◌≤◌, ◌^◌, IfOk, IfErr, OnErr, nat_tests, Entry, entry, entries_of, Extends, SeatView, SameSeat, Turned, Unturned}
 
 pub self_is : (w : ℕ) → (w == w) ≡ true
 self_is w = grind (arith, nat_tests)

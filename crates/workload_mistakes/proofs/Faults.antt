@@ -1,11 +1,6 @@
 -- Faulty lines, one after the other.
-use Rattle.std.proofs.Common.{◌≡◌, ℕ, ◌≤◌, ◌<◌, Bool, true, false, ◌||◌, List, [], ◌∷◌, ◌++◌, length, Ok, Err, refl, sym, ap, ◌∙◌, arith}
-use Rattle.std.specs.Prelude.{◌↔◌}
-use Rattle.workload_file.specs.declared.faults.Cause.{Cause}
+use Rattle.workload_mistakes.proofs.Names.{◌≡◌, ℕ, ◌≤◌, ◌<◌, Bool, true, false, ◌||◌, List, [], ◌∷◌, ◌++◌, length, Ok, Err, refl, sym, ap, ◌∙◌, arith, ◌↔◌, Cause, Mistake, mended, after, IsWorkload, AreFaulty, fault_of, ends, has_end}
 use Rattle.workload_file.specs.Reading.{workload_of}
-use Rattle.workload_mistakes.specs.declared.mistakes.Mistake.{Mistake}
-use Rattle.workload_mistakes.specs.Mending.{mended, after}
-use Rattle.workload_mistakes.specs.Told.{IsWorkload, AreFaulty, fault_of, ends, has_end}
 
 -- the text with one line more mended
 pub after_one : (ms : List Mistake) (m : Mistake) (text : List ℕ) → after (ms ++ m ∷ []) text ≡ mended m (after ms text)

@@ -1,10 +1,7 @@
 -- Lines that are written one after the other.
-use Rattle.std.proofs.Common.{◌≡◌, ℕ, ◌+◌, ◌≤◌, List, [], ◌∷◌, ◌++◌, Bool, length, Option, Some, None, refl, ◌∙◌, arith, append_assoc}
-use Rattle.std.specs.Prelude.{◌==◌, is_some, if◌then◌else◌}
-use Rattle.std.specs.List.{join_with_byte}
+use Rattle.workload_mistakes.proofs.Names.{◌≡◌, ℕ, ◌+◌, ◌≤◌, List, [], ◌∷◌, ◌++◌, Bool, length, Option, Some, None, refl, ◌∙◌, arith, append_assoc, ◌==◌, is_some, if◌then◌else◌, join_with_byte, between, pieces_of}
 use Rattle.std.proofs.lemmas.List.{append-nil}
 use Rattle.std.proofs.lemmas.List.Splits.{length-slice_split}
-use Rattle.number_text.specs.Lists.{between, pieces_of}
 use Rattle.workload_mistakes.specs.Mending.{with_line}
 use denote.Ref.{Bor}
 

@@ -1,12 +1,7 @@
 -- From one form to another: what a seat makes, told in the one, is told in the other.
-use Rattle.std.proofs.Common.{◌≡◌, ℕ, Bool, List, [], ◌∷◌, ◌++◌, refl, sym, ◌∙◌, ap, subst, append_assoc}
+use Rattle.workload_runs.proofs.Names.{◌≡◌, ℕ, Bool, List, [], ◌∷◌, ◌++◌, refl, sym, ◌∙◌, ap, subst, append_assoc, Deed, Statement, Reply, handle_of, call_of, has_begin, Form, MainRan, CallerRan}
 use Rattle.std.proofs.lemmas.List.{append-nil}
-use Rattle.workload_file.specs.declared.workload.Deed.{Deed}
-use Rattle.workload_file.specs.declared.workload.Statement.{Statement}
-use Rattle.mtapi_machine.specs.declared.replies.Reply.{Reply}
-use Rattle.mtapi_machine.specs.Row.{handle_of}
-use Rattle.workload_runs.specs.Calls.{call_of}
-use Rattle.workload_runs.specs.Parts.{has_begin, Carried, Form, MainRan, CallerRan}
+use Rattle.workload_runs.specs.Parts.{Carried}
 
 -- Places in what the one form tells: at each of them these are left of the one form, and all this of the other
 module _ {E F K : Type 0} (left : K → List E → Type 0) (whole : K → List F) where

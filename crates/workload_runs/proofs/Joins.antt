@@ -1,25 +1,18 @@
 -- From a run in a whole history to the run in its journal.
-use Rattle.std.proofs.Common.{◌≡◌, ℕ, suc, ◌+◌, ◌≤◌, Bool, true, false, cond, List, [], ◌∷◌, ◌++◌, length, Some, None, refl, sym, ◌∙◌, ap, subst, arith, append_assoc}
-use Rattle.std.specs.Prelude.{◌==◌, ◌&&◌}
+use Rattle.workload_runs.proofs.Names.{◌≡◌, ℕ, suc, ◌+◌, ◌≤◌, Bool, true, false, cond, List, [], ◌∷◌, ◌++◌, length, Some, None, refl, sym, ◌∙◌, ap, subst, arith, append_assoc, ◌==◌, ◌&&◌, Statement, Op, Reply, Terms, State, opening, NodeEntry, next, is_dropped, is_pending, no_counts, Call, Once, Looking, call_of, Line, line, KeepsTimeout, is_timeout, Made, head_of, tail_of_main, Entered, in_lines, MainRan, CallerRan, PartsRan, is_work, WorkerRan, ClosesAtEnd, RunOf, Turn, stayed}
 use Rattle.history.specs.Histories.{entry, entries_of}
 use Rattle.mtapi_values.specs.declared.timeouts.Timeout.{Timeout}
 use Rattle.mtapi_values.specs.Timeouts.{looks_of}
-use Rattle.workload_file.specs.declared.workload.Statement.{Statement}
 use Rattle.workload_file.specs.declared.workload.Part.{Part}
 use Rattle.workload_file.specs.declared.workload.Workload.{Workload}
-use Rattle.mtapi_machine.specs.declared.ops.Op.{Op}
 use Rattle.mtapi_machine.specs.declared.ops.Op.TheVariants as op
-use Rattle.mtapi_machine.specs.declared.replies.Reply.{Reply}
 use Rattle.mtapi_machine.specs.declared.replies.Reply.TheVariants as reply
-use Rattle.mtapi_machine.specs.declared.terms.Terms.{Terms}
-use Rattle.mtapi_machine.specs.State.{State, opening}
-use Rattle.mtapi_machine.specs.Legal.{NodeEntry, next, after_from}
-use Rattle.mtapi_machine.specs.Kept.{is_dropped, is_pending, kept, skipped, no_counts}
-use Rattle.workload_runs.specs.Calls.{Call, Once, Looking, call_of}
-use Rattle.workload_runs.specs.Lines.{Line, line, lines_of, KeepsTimeout, is_timeout, Made, head_of, tail_of_main, Entered, in_lines}
-use Rattle.workload_runs.specs.Parts.{MainRan, CallerRan, CallersRan, PartsRan}
-use Rattle.workload_runs.specs.RunOf.{is_work, all_work, WorkerRan, ClosesAtEnd, RunOf}
-use Rattle.workload_runs.specs.Turns.{Turn, stayed, turns_of, lines_left}
+use Rattle.mtapi_machine.specs.Legal.{after_from}
+use Rattle.mtapi_machine.specs.Kept.{kept, skipped}
+use Rattle.workload_runs.specs.Lines.{lines_of}
+use Rattle.workload_runs.specs.Parts.{CallersRan}
+use Rattle.workload_runs.specs.RunOf.{all_work}
+use Rattle.workload_runs.specs.Turns.{turns_of, lines_left}
 use Rattle.workload_runs.specs.Whole.{none_of, first_alone, pended, MadeBy, head_turns, tail_turns, EnteredBy, in_turns, all_worked, WorkerBy, RunBy, HasSeats, JournalIsRun}
 use Rattle.workload_runs.proofs.Left.{journal_lines}
 use Rattle.workload_runs.proofs.Forms.{Told, Tells, main_told, caller_told}

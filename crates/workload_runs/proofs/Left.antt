@@ -1,13 +1,9 @@
 -- What a journal shows of one seat's turns.
-use Rattle.std.proofs.Common.{◌≡◌, ℕ, zero, suc, ◌+◌, ◌<◌, Bool, true, false, not, cond, List, [], ◌∷◌, length, get_or, set, refl, sym, ◌∙◌, ap, subst, arith}
-use Rattle.std.specs.Prelude.{◌==◌, replicate}
+use Rattle.workload_runs.proofs.Names.{◌≡◌, ℕ, zero, suc, ◌+◌, ◌<◌, Bool, true, false, not, cond, List, [], ◌∷◌, length, get_or, set, refl, sym, ◌∙◌, ap, subst, arith, ◌==◌, replicate, Terms, State, opening, NodeEntry, next, is_dropped, is_pending, counted, counts_next, no_counts, line, Turn}
 use Rattle.std.proofs.lemmas.Bool.Decides.{nat_tests}
-use Rattle.mtapi_machine.specs.declared.terms.Terms.{Terms}
-use Rattle.mtapi_machine.specs.State.{State, opening}
-use Rattle.mtapi_machine.specs.Legal.{NodeEntry, next}
-use Rattle.mtapi_machine.specs.Kept.{is_dropped, is_pending, kept, skipped, counted, counts_next, no_counts}
-use Rattle.workload_runs.specs.Lines.{line, lines_of}
-use Rattle.workload_runs.specs.Turns.{Turn, turns_of, lines_left}
+use Rattle.mtapi_machine.specs.Kept.{kept, skipped}
+use Rattle.workload_runs.specs.Lines.{lines_of}
+use Rattle.workload_runs.specs.Turns.{turns_of, lines_left}
 
 set_here : (xs : List ℕ) (w v : ℕ) → w < length xs → get_or (set xs w v) w 0 ≡ v
 set_here [] w v h = absurd (omega (arith, h))

@@ -1,3 +1,4 @@
+pub mod Names
 pub mod Shapes
 pub mod Rows
 pub mod TurnLists

@@ -1,17 +1,11 @@
 -- Which replies end a call of one entry.
-use Rattle.std.proofs.Common.{◌≡◌, ℕ, Bool, false, List, refl}
-use Rattle.mtapi_machine.specs.declared.replies.Reply.{Reply}
+use Rattle.workload_runs.proofs.Names.{◌≡◌, ℕ, Bool, false, List, refl, Reply, Op, State, Allows, is_pending, drops, IsOnce}
 use Rattle.mtapi_machine.specs.declared.replies.Reply.TheVariants as reply
-use Rattle.mtapi_machine.specs.declared.ops.Op.{Op}
-use Rattle.mtapi_machine.specs.State.{State}
 use Rattle.mtapi_machine.specs.Moves.{Move}
-use Rattle.mtapi_machine.specs.Row.{Allows}
 use Rattle.mtapi_machine.specs.Rows.{row}
-use Rattle.mtapi_machine.specs.Kept.{is_pending, drops}
 use Rattle.mtapi_machine.specs.Answers.{Answers}
 use Rattle.mtapi_machine.specs.Answers as is
 use Rattle.mtapi_machine.proofs.Answered.{answered}
-use Rattle.workload_runs.specs.Calls.{IsOnce}
 
 -- the reply is kept by every journal, and decides
 pub record Settles (r : Reply) : Type 0 where

@@ -1,8 +1,6 @@
 -- The calls that statements make: one entry of an op, or looks for something wanted.
-use Rattle.std.proofs.Common.{◌≡◌, ℕ, List, refl}
-use Rattle.workload_file.specs.declared.workload.Deed.{Deed}
+use Rattle.workload_runs.proofs.Names.{◌≡◌, ℕ, List, refl, Deed, Call, Once, Looking, call_of, handle_at, IsOnce}
 use Rattle.workload_file.specs.declared.workload.Deed.TheVariants as deed
-use Rattle.workload_runs.specs.Calls.{Call, Once, Looking, call_of, handle_at, IsOnce}
 use Rattle.workload_runs.specs.declared.calls.Wanted.{Wanted}
 use Rattle.workload_runs.specs.declared.calls.Wanted.TheVariants as wanted
 use Rattle.workload_runs.specs.Wants.{op_of, waits, IsTimed}

@@ -1,10 +1,7 @@
 -- The turns of a seat over one list of entries and then another.
-use Rattle.std.proofs.Common.{◌≡◌, ℕ, Bool, true, false, cond, List, [], ◌∷◌, ◌++◌, refl, ap}
-use Rattle.std.specs.Prelude.{◌==◌, ◌&&◌}
-use Rattle.mtapi_machine.specs.State.{State}
-use Rattle.mtapi_machine.specs.Legal.{NodeEntry, next, after_from}
-use Rattle.workload_runs.specs.RunOf.{is_work}
-use Rattle.workload_runs.specs.Turns.{Turn, turn_of, turns_of}
+use Rattle.workload_runs.proofs.Names.{◌≡◌, ℕ, Bool, true, false, cond, List, [], ◌∷◌, ◌++◌, refl, ap, ◌==◌, ◌&&◌, State, NodeEntry, next, is_work, Turn, turn_of}
+use Rattle.mtapi_machine.specs.Legal.{after_from}
+use Rattle.workload_runs.specs.Turns.{turns_of}
 use Rattle.workload_runs.specs.Whole.{all_worked}
 
 pub turns_append : (who : ℕ) (s : State) (L M : List NodeEntry) → turns_of who s (L ++ M) ≡ turns_of who s L ++ turns_of who (after_from s L) M

@@ -1,5 +1,4 @@
-use Rattle.std.proofs.Common.{sym, rules, arith}
-use Rattle.std.proofs.lemmas.List.{append-nil}
+use Rattle.generated_workload.proofs.Names.{sym, rules, arith, append-nil}
 use Rattle.generated_workload.specs.Generated.{tasks}
 use Rattle.generated_workload.proofs.Formed.{one_more}
 use Rattle.generated_workload.proofs.generator.push_tasks.Goals as goal

@@ -1,5 +1,4 @@
-use Rattle.std.proofs.Common.{subst, sym, rules, List, ℕ}
-use Rattle.std.specs.Prelude.{IsTrue}
+use Rattle.generated_workload.proofs.Names.{subst, sym, rules, List, ℕ, IsTrue}
 use Rattle.workload_file.specs.Values.{is_name}
 use Rattle.generated_workload.proofs.Formed.{is_task_name}
 use Rattle.generated_workload.proofs.generator.task_name.Goals as goal

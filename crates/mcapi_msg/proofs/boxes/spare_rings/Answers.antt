@@ -1,6 +1,4 @@
-use Rattle.std.proofs.Common.{◌∷◌, ap, sym, subst, arith, length, length-append, List, []}
-use Rattle.mcapi_msg.specs.Rings.{RingTable}
-use Rattle.mcapi_msg.specs.Boxes.{AreEmpty}
+use Rattle.mcapi_msg.proofs.Names.{◌∷◌, ap, sym, subst, arith, length, length-append, List, [], RingTable, AreEmpty}
 use Rattle.mcapi_msg.proofs.BoxLemmas.{empty_joined}
 use Rattle.mcapi_msg.proofs.boxes.spare_rings.Goals as goal
 

@@ -1,5 +1,4 @@
-use Rattle.std.proofs.Common.{◌≡◌, ◌≤◌, length, vec_capacity}
-use Rattle.mcapi_msg.specs.Boxes.{AreEmpty}
+use Rattle.mcapi_msg.proofs.Names.{◌≡◌, ◌≤◌, length, vec_capacity, AreEmpty}
 use Rattle.mcapi_msg.proofs.boxes.spare_rings.Given as goal
 
 abbrev pub invariant-loop-index : goal.invariant-loop-index

@@ -1,5 +1,4 @@
-use Rattle.std.proofs.Common.{ℕ}
-use Rattle.turn_looks.specs.Looks.{Pended}
+use Rattle.turn_looks.proofs.Names.{ℕ, Pended}
 use Rattle.turn_looks.proofs.looks.look_on.Given as goal
 
 abbrev pub invariant-loop : goal.invariant-loop

@@ -1,5 +1,4 @@
-use Rattle.std.proofs.Common.{◌+◌, Some, refl}
-use Rattle.std.specs.Prelude.{◌==◌}
+use Rattle.turn_looks.proofs.Names.{◌+◌, Some, refl, ◌==◌}
 use Rattle.turn_looks.proofs.LookLemmas.{looked, unequal, not_so}
 use Rattle.turn_looks.proofs.looks.look_within.Goals as goal
 

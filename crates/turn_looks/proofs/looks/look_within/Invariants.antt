@@ -1,5 +1,4 @@
-use Rattle.std.proofs.Common.{◌<◌}
-use Rattle.turn_looks.specs.Looks.{Pended}
+use Rattle.turn_looks.proofs.Names.{◌<◌, Pended}
 use Rattle.turn_looks.proofs.looks.look_within.Given as goal
 
 abbrev pub invariant-loop-i : goal.invariant-loop-i

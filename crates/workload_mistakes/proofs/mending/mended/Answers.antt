@@ -1,6 +1,4 @@
-use Rattle.std.proofs.Common.{length, arith}
-use Rattle.number_text.proofs.Pieces.{after_len}
-use Rattle.workload_mistakes.specs.Mending.{stand_in}
+use Rattle.workload_mistakes.proofs.Names.{length, arith, after_len, stand_in}
 use Rattle.workload_mistakes.proofs.Lines.{line_written, lines_written}
 use Rattle.workload_mistakes.proofs.mending.mended.Goals as goal
 

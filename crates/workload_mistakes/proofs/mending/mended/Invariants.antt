@@ -1,8 +1,5 @@
-use Rattle.std.proofs.Common.{◌≡◌, ◌+◌, ◌≤◌, ◌++◌, length}
-use Rattle.std.specs.List.{join_with_byte}
-use Rattle.number_text.specs.Lists.{between, pieces_of}
-use Rattle.number_text.proofs.Pieces.{left_len}
-use Rattle.workload_mistakes.specs.Mending.{with_line, stand_in}
+use Rattle.workload_mistakes.proofs.Names.{◌≡◌, ◌+◌, ◌≤◌, ◌++◌, length, join_with_byte, between, pieces_of, left_len, stand_in}
+use Rattle.workload_mistakes.specs.Mending.{with_line}
 use Rattle.workload_mistakes.proofs.mending.mended.Given as goal
 
 abbrev pub invariant-lines : goal.invariant-lines

@@ -1,7 +1,4 @@
-use Rattle.std.proofs.Common.{List, ℕ, arith, sym, ap, ◌∙◌, inl, inr}
-use Rattle.workload_file.specs.declared.faults.Cause.{Cause}
-use Rattle.workload_mistakes.specs.Mending.{mended}
-use Rattle.workload_mistakes.specs.Told.{ends}
+use Rattle.workload_mistakes.proofs.Names.{List, ℕ, arith, sym, ap, ◌∙◌, inl, inr, Cause, mended, ends}
 use Rattle.workload_mistakes.proofs.Faults.{after_one, one_told, none_of_some, none_left, none_too_long, ended_by}
 use Rattle.workload_mistakes.proofs.search.mistakes_of.Goals as goal
 

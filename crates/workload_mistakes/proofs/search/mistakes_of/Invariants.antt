@@ -1,6 +1,4 @@
-use Rattle.std.proofs.Common.{◌≡◌, ◌-◌, length}
-use Rattle.workload_mistakes.specs.Mending.{after}
-use Rattle.workload_mistakes.specs.Told.{AreFaulty}
+use Rattle.workload_mistakes.proofs.Names.{◌≡◌, ◌-◌, length, after, AreFaulty}
 use Rattle.workload_mistakes.proofs.search.mistakes_of.Given as goal
 
 abbrev pub invariant-reading : goal.invariant-reading

@@ -1,5 +1,4 @@
-use Rattle.handle_pool.specs.Walks.{NoneBelow}
-use Rattle.mcapi_msg.specs.Boxes.{HasPort}
+use Rattle.mcapi_msg.proofs.Names.{NoneBelow, HasPort}
 use Rattle.mcapi_msg.proofs.boxes.Boxes.find.Given as goal
 
 abbrev pub invariant-loop-place : goal.invariant-loop-place

@@ -1,9 +1,4 @@
-use Rattle.std.proofs.Common.{◌≡◌, length, vec_len, refl, sym, ap, subst, rules}
-use Rattle.handle_pool.specs.Slots.{Slots, slot_value, Inserts}
-use Rattle.handle_pool.specs.Walks.{NoneLive}
-use Rattle.mcapi_msg.specs.declared.boxes.Mailbox.{Mailbox}
-use Rattle.mcapi_msg.specs.Rings.{RingTable, empty_rings}
-use Rattle.mcapi_msg.specs.Boxes.{BoxTable, HasPort, HasFree, new_mailbox}
+use Rattle.mcapi_msg.proofs.Names.{◌≡◌, length, vec_len, refl, sym, ap, subst, rules, Slots, slot_value, Inserts, NoneLive, Mailbox, RingTable, empty_rings, BoxTable, HasPort, HasFree, new_mailbox}
 use Rattle.mcapi_msg.proofs.BoxLemmas.{kept-insert, reserve_has, popped_empty}
 use Rattle.mcapi_msg.proofs.boxes.Boxes.insert.Goals as goal
 

@@ -1,6 +1,4 @@
-use Rattle.std.proofs.Common.{refl, sym, ap, ◌∙◌}
-use Rattle.std.specs.Option.{option_copied_mut}
-use Rattle.mcapi_msg.specs.Rings.{RingTable}
+use Rattle.mcapi_msg.proofs.Names.{refl, sym, ap, ◌∙◌, option_copied_mut, RingTable}
 use Rattle.mcapi_msg.proofs.BoxLemmas.{kept-with_value, with_last-limit}
 use Rattle.mcapi_msg.proofs.boxes.Boxes.put.Goals as goal
 

@@ -1,10 +1,5 @@
-use Rattle.std.proofs.Common.{subst}
-use Rattle.std.specs.Prelude.{IfOk, OnErr}
+use Rattle.mcapi_msg.proofs.Names.{subst, IfOk, OnErr, Looked, Pending, Legal, Seat, Received, RanOut, look_for}
 use Rattle.mtapi_values.specs.Timeouts.{looks_of}
-use Rattle.turn_looks.specs.Looks.{Looked}
-use Rattle.mcapi_msg.specs.declared.ops.MsgReply.TheVariants.{Pending}
-use Rattle.mcapi_msg.specs.Legal.{Legal}
-use Rattle.mcapi_msg.specs.Answers.{Seat, Received, RanOut, look_for}
 use Rattle.mcapi_msg.proofs.CallAnswers.{look_answer, received, received_same, timeout_of, spent_of}
 use Rattle.mcapi_msg.proofs.mailer.Mailer.recv.Goals as goal
 

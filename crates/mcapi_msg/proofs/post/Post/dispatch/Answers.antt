@@ -1,6 +1,4 @@
-use Rattle.std.proofs.Common.{sym, subst}
-use Rattle.mcapi_msg.specs.declared.ops.MsgOp.{MsgOp}
-use Rattle.mcapi_msg.specs.Stands.{Steps}
+use Rattle.mcapi_msg.proofs.Names.{sym, subst, MsgOp, Steps}
 use Rattle.mcapi_msg.proofs.post.Post.dispatch.Goals as goal
 
 pub returns-in-Open : goal.returns-in-Open

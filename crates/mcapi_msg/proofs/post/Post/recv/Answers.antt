@@ -1,5 +1,4 @@
-use Rattle.std.proofs.Common.{true, false, refl, sym, ◌∙◌}
-use Rattle.handle_pool.specs.Slots.{slot_value}
+use Rattle.mcapi_msg.proofs.Names.{true, false, refl, sym, ◌∙◌, slot_value}
 use Rattle.mcapi_msg.proofs.PostSteps.{recv_refused, owner_found, recv_got, recv_left}
 use Rattle.mcapi_msg.proofs.post.Post.recv.Goals as goal
 

@@ -1,5 +1,4 @@
-use Rattle.std.proofs.Common.{sym, ap, ◌∙◌}
-use Rattle.std.specs.Prelude.{option_copied}
+use Rattle.mcapi_msg.proofs.Names.{sym, ap, ◌∙◌, option_copied}
 use Rattle.mcapi_msg.proofs.PostSteps.{send_invalid, send_range, send_full, send_put, has_space}
 use Rattle.mcapi_msg.proofs.post.Post.send.Goals as goal
 

@@ -1,5 +1,4 @@
-use Rattle.std.proofs.Common.{refl, sym, ◌∙◌}
-use Rattle.handle_pool.specs.Slots.{slot_value}
+use Rattle.mcapi_msg.proofs.Names.{refl, sym, ◌∙◌, slot_value}
 use Rattle.mcapi_msg.proofs.PostSteps.{shut_refused, owner_found, shut_done}
 use Rattle.mcapi_msg.proofs.post.Post.shut.Goals as goal
 

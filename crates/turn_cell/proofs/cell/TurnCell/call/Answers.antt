@@ -1,7 +1,4 @@
-use Rattle.std.proofs.Common.{◌≡◌, ◌^◌, ◌<◌, ◌≤◌, true, false, [], ◌∷◌, ◌++◌, refl, ap, ◌∙◌}
-use Rattle.history.specs.Histories.{entries_of, Extends, entry}
-use Rattle.history.proofs.Growth.{own_more}
-use Rattle.turn_cell.specs.Turns.{after_draw, after_take, after_pass, part_entry}
+use Rattle.turn_cell.proofs.Names.{◌≡◌, ◌^◌, ◌<◌, ◌≤◌, true, false, [], ◌∷◌, ◌++◌, refl, ap, ◌∙◌, entries_of, Extends, entry, own_more, after_draw, after_take, after_pass, part_entry}
 use Rattle.turn_cell.proofs.OnePart.{carried}
 use Rattle.turn_cell.proofs.cell.TurnCell.call.Goals as goal
 

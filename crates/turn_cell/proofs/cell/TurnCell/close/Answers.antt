@@ -1,8 +1,4 @@
-use Rattle.std.proofs.Common.{◌≡◌, ℕ, ◌<◌, List, [], ◌∷◌, length, Option, Some, None, sym, ap, subst, arith}
-use Rattle.history.specs.declared.entries.Entry.{Entry}
-use Rattle.turn_cell.specs.Lists.{all_of}
-use Rattle.turn_cell.specs.Seats.{SeatView, IsComplete, IsSeatOf}
-use Rattle.turn_cell.specs.Turns.{boxed_terms, boxed_stands}
+use Rattle.turn_cell.proofs.Names.{◌≡◌, ℕ, ◌<◌, List, [], ◌∷◌, length, Option, Some, None, sym, ap, subst, arith, Entry, all_of, SeatView, IsComplete, IsSeatOf, boxed_terms, boxed_stands}
 use Rattle.turn_cell.proofs.Ends.{Ended, ends}
 use Rattle.turn_cell.proofs.cell.TurnCell.close.Goals as goal
 

@@ -1,6 +1,4 @@
-use Rattle.std.proofs.Common.{◌≡◌, ◌+◌, ◌-◌, sym, ap, ◌∙◌, refl, arith}
-use Rattle.turn_cell.specs.Seats.{fresh_seats}
-use Rattle.turn_cell.specs.Turns.{fresh_part}
+use Rattle.turn_cell.proofs.Names.{◌≡◌, ◌+◌, ◌-◌, sym, ap, ◌∙◌, refl, arith, fresh_seats, fresh_part}
 use Rattle.turn_cell.proofs.Opens.{first_part, other_parts, last_part, one_more}
 use Rattle.turn_cell.proofs.OnePart.{first_rest}
 use Rattle.turn_cell.proofs.Shares.{cuts}

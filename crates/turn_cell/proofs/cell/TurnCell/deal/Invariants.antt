@@ -1,6 +1,4 @@
-use Rattle.std.proofs.Common.{◌≡◌, ◌-◌, ◌<◌, []}
-use Rattle.turn_cell.specs.Seats.{fresh_seats}
-use Rattle.turn_cell.specs.Turns.{fresh_parts}
+use Rattle.turn_cell.proofs.Names.{◌≡◌, ◌-◌, ◌<◌, [], fresh_seats, fresh_parts}
 use Rattle.turn_cell.proofs.cell.TurnCell.deal.Given as goal
 
 abbrev pub invariant-loop-number : goal.invariant-loop-number

@@ -1,10 +1,6 @@
-use Rattle.std.proofs.Common.{arith, ◌≡◌, ◌^◌, ◌<◌, ℕ, false, List, [], ◌∷◌, Option, refl, sym, ap, ◌∙◌, subst}
+use Rattle.turn_cell.proofs.Names.{arith, ◌≡◌, ◌^◌, ◌<◌, ℕ, false, List, [], ◌∷◌, Option, refl, sym, ap, ◌∙◌, subst, Me, Part, Idle, after_draw}
 use Rattle.std.specs.Prelude.{min}
 use Rattle.std.proofs.Math.Nat.{min-le_right}
-use Rattle.atomic_table.specs.Table.{Me}
-use Rattle.turn_cell.specs.declared.parts.Part.{Part}
-use Rattle.turn_cell.specs.declared.parts.Stage.TheVariants.{Idle}
-use Rattle.turn_cell.specs.Turns.{after_draw}
 use Rattle.turn_cell.proofs.OnePart.{one_part, drawn_start, drawn_hit, drawn_miss}
 use Rattle.turn_cell.proofs.Keeps.{draws}
 use Rattle.turn_cell.proofs.cell.TurnCell.draw.Goals as goal

@@ -1,6 +1,4 @@
-use Rattle.std.proofs.Common.{◌≡◌, false, [], ◌∷◌}
-use Rattle.turn_cell.specs.declared.parts.Part.{Part}
-use Rattle.turn_cell.specs.Turns.{after_draw}
+use Rattle.turn_cell.proofs.Names.{◌≡◌, false, [], ◌∷◌, Part, after_draw}
 use Rattle.turn_cell.proofs.cell.TurnCell.draw.Given as goal
 
 -- the seat is as a draw that was shown the word `shown` left it

@@ -1,5 +1,4 @@
-use Rattle.std.proofs.Common.{◌≡◌, [], ◌∷◌, ◌++◌, sym, ap, ◌∙◌, subst, arith, append_assoc}
-use Rattle.turn_cell.specs.Lists.{all_of}
+use Rattle.turn_cell.proofs.Names.{◌≡◌, [], ◌∷◌, ◌++◌, sym, ap, ◌∙◌, subst, arith, append_assoc, all_of}
 use Rattle.turn_cell.proofs.Ends.{all_before, all_after, gathers_more}
 use Rattle.turn_cell.proofs.Shares.{glues}
 use Rattle.turn_cell.proofs.cell.TurnCell.gather.Goals as goal

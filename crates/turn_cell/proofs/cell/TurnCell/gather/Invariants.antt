@@ -1,7 +1,4 @@
-use Rattle.std.proofs.Common.{◌≡◌, List, [], ◌++◌, vec_len}
-use Rattle.turn_cell.specs.Lists.{all_of}
-use Rattle.turn_cell.specs.Seats.{SeatView}
-use Rattle.turn_cell.specs.Views.{Gathers}
+use Rattle.turn_cell.proofs.Names.{◌≡◌, List, [], ◌++◌, vec_len, all_of, SeatView, Gathers}
 use Rattle.turn_cell.proofs.cell.TurnCell.gather.Given as goal
 
 abbrev pub invariant-loop-next : goal.invariant-loop-next

@@ -1,7 +1,4 @@
-use Rattle.std.proofs.Common.{arith, ◌≡◌, refl, sym, ap, ◌∙◌}
-use Rattle.history.specs.Histories.{entries_of}
-use Rattle.turn_cell.specs.Seats.{HasSeenMore}
-use Rattle.turn_cell.specs.Turns.{having_seen, boxed_terms, boxed_stands}
+use Rattle.turn_cell.proofs.Names.{arith, ◌≡◌, refl, sym, ap, ◌∙◌, entries_of, HasSeenMore, having_seen, boxed_terms, boxed_stands}
 use Rattle.turn_cell.proofs.OnePart.{carried, first_rest, seen_of}
 use Rattle.turn_cell.proofs.Shares.{cuts, glues, gathers, meets}
 use Rattle.turn_cell.proofs.cell.TurnCell.meet.Goals as goal

@@ -1,6 +1,4 @@
-use Rattle.std.proofs.Common.{[], ◌∷◌, ◌++◌, Some, sym, ap, ◌∙◌, subst}
-use Rattle.atomic_table.specs.Table.{opening}
-use Rattle.turn_cell.specs.Turns.{Invariant, fresh_parts, boxed_terms, boxed_stands}
+use Rattle.turn_cell.proofs.Names.{[], ◌∷◌, ◌++◌, Some, sym, ap, ◌∙◌, subst, opening, Invariant, fresh_parts, boxed_terms, boxed_stands}
 use Rattle.turn_cell.proofs.Opens.{opens}
 use Rattle.turn_cell.proofs.cell.TurnCell.new.Goals as goal
 

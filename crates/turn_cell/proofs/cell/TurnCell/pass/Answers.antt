@@ -1,6 +1,5 @@
-use Rattle.std.proofs.Common.{arith, sym, ap, ◌≡◌, [], ◌∷◌, Option, None, Some, ◌∙◌}
+use Rattle.turn_cell.proofs.Names.{arith, sym, ap, ◌≡◌, [], ◌∷◌, Option, None, Some, ◌∙◌, Me, rest}
 use Rattle.std.specs.Box.{box_value}
-use Rattle.atomic_table.specs.Table.{Me, rest}
 use Rattle.turn_cell.proofs.Keeps.{passes}
 use Rattle.turn_cell.proofs.cell.TurnCell.pass.Goals as goal
 

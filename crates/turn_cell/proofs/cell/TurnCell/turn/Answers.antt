@@ -1,8 +1,4 @@
-use Rattle.std.proofs.Common.{◌≡◌, ℕ, List, [], ◌∷◌, ◌++◌, sym, subst, refl, ◌∙◌, ap}
-use Rattle.atomic_table.specs.Table.{Me}
-use Rattle.history.specs.declared.entries.Entry.{Entry}
-use Rattle.turn_cell.specs.declared.parts.Part.{Part}
-use Rattle.turn_cell.specs.Turns.{part_entry}
+use Rattle.turn_cell.proofs.Names.{◌≡◌, ℕ, List, [], ◌∷◌, ◌++◌, sym, subst, refl, ◌∙◌, ap, Me, Entry, Part, part_entry}
 use Rattle.turn_cell.proofs.OnePart.{one_part}
 use Rattle.turn_cell.proofs.cell.TurnCell.turn.Goals as goal
 

@@ -1,5 +1,4 @@
-use Rattle.std.proofs.Common.{◌≡◌}
-use Rattle.history.specs.Histories.{entries_of}
+use Rattle.turn_cell.proofs.Names.{◌≡◌, entries_of}
 use Rattle.turn_cell.proofs.OnePart.{carried}
 use Rattle.turn_cell.proofs.seats.TurnSeat.known.Goals as goal
 
