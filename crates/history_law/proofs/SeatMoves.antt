@@ -1,5 +1,5 @@
 -- What the seat and the op of an entry had to know, for each move that they make. A law on what seats leave to one another is shown for each move once.
-use Rattle.history_law.proofs.Names.{nat_tests, arith, ◌≡◌, ℕ, ◌+◌, Bool, true, false, cond, List, [], ◌∷◌, Option, Some, None, ◌⊎◌, inl, inr, refl, ◌∙◌, ap, ◌==◌, ◌&&◌, is_none, ℤ, eq-eqb, Kind, MtapiStatus, Completed, Failed, is_other, is_pure, answer_of, Answered, IsAnswered, Reply, Op, live_object, any_listed, holds, Task, Notes, TallyNotes, TaskState, scheduled, end_of, runner, runs_as, runs_on, kind_number, is_unstarted, is_unended, with_notes, with_waiter, asked_once, watch_end, tally_args, cell_in, added, with_tally, tally_failed, tally_has, tally_read, tally_written, in_no_group, Mutex, Segment, cell_of, State, Move, Mutexes, Segments, phase_is, released, stops, makes_action, withdraws, starts_task, runs_task, ends_task, ends_waiting, notes, leaves, makes, alters, apply, after_moves, moves_of, is_ready, task_end, NodeEntry, IsNext, IsHonest, row_of, next, IsMade, AreMade, fst_true, snd_true, not_false, row_made, at-update, moves_phase, is_release, is_late_end, is_tally_end, cond_both, enables, frees_members, lets_members_go, removes, Answers, gives_up_with}
+use Rattle.history_law.proofs.Names.{nat_tests, arith, ◌≡◌, ℕ, ◌+◌, Bool, true, false, cond, List, [], ◌∷◌, Option, Some, None, ◌⊎◌, inl, inr, refl, ◌∙◌, ap, ◌==◌, ◌&&◌, is_none, ℤ, eq-eqb, Kind, MtapiStatus, Completed, Failed, is_other, is_pure, answer_of, Answered, IsAnswered, Reply, Op, live_object, any_listed, holds, Task, Notes, TallyNotes, TaskState, scheduled, end_of, runner, runs_as, runs_on, kind_number, is_unstarted, is_unended, with_notes, with_waiter, asked_once, watch_end, tally_args, cell_in, added, with_tally, tally_failed, tally_has, tally_read, tally_written, in_no_group, Mutex, Segment, cell_of, State, Move, Mutexes, Segments, phase_is, released, stops, makes_action, withdraws, starts_task, runs_task, ends_task, ends_waiting, notes, leaves, makes, alters, apply, after_moves, moves_of, is_ready, task_end, NodeEntry, IsNext, IsHonest, row_of, next, IsMade, AreMade, fst_true, snd_true, not_false, row_made, at-update, moves_phase, is_release, is_late_end, is_tally_end, cond_both, enables, frees_members, lets_members_go, removes, Answers, gives_up_with, LegalFrom, after_from}
 use Rattle.mtapi_values.specs.declared.kinds.Kind.TheVariants as kind
 use Rattle.mtapi_values.specs.declared.statuses.MtapiStatus.TheVariants as m
 use Rattle.mtapi_machine.specs.declared.ops.Op.TheVariants as op
@@ -217,8 +217,12 @@ by_answer s who _ _ _ i (is.detaches h x k) = (inr (λ y. refl), tt)
 by_answer s who _ _ _ i (is.writes_cell h cell value x k) = (inl refl, tt)
 by_answer s who o _ ms i _ = all_may s who o ms refl
 
+-- the answer that a next entry has
+pub answer : (s : State) (e : NodeEntry) → IsNext s e → Answers s e.who e.op e.reply (moves_of (row_of s e))
+answer s e n = answered s e.who e.op e.reply n.allowed
+
 row_by : (s : State) (e : NodeEntry) → IsNext s e → AreBy s e.who e.op (moves_of (row_of s e))
-row_by s e n = by_answer s e.who e.op e.reply _ n.honest (answered s e.who e.op e.reply n.allowed)
+row_by s e n = by_answer s e.who e.op e.reply _ n.honest (answer s e n)
 
 -- the tool: what each move of an entry keeps, the entry keeps
 moves_keep : (who : ℕ) (o : Op) (P : State → Type 0) → ((s : State) (m : Move) → May s who o m → P s → P (apply m s)) → (ms : List Move) (s : State) → AreBy s who o ms → P s → P (after_moves ms s)
@@ -237,3 +241,9 @@ made_keep who o P k (m ∷ ms) s i a p = made_keep who o P k ms (apply m s) i.1 
 pub by_made_moves : (P : State → Type 0) (s : State) (e : NodeEntry) → IsNext s e → ((t : State) (m : Move) → IsMade t e.op m → May t e.who e.op m → P t → P (apply m t)) → P s → P (next s e)
 by_made_moves P s e i k p =
     made_keep e.who e.op P k (moves_of (row_of s e)) s (row_made s e.who e.op e.reply) (row_by s e i) p
+
+-- what each next entry keeps, a legal list keeps
+pub kept_along : (P : State → Type 0) → ((s : State) (e : NodeEntry) → IsNext s e → P s → P (next s e)) → (s : State) (L : List NodeEntry) → LegalFrom s L → P s → P (after_from s L)
+unfolding LegalFrom after_from
+kept_along P k s [] l p = p
+kept_along P k s (e ∷ es) l p = kept_along P k (next s e) es l.1 (k s e l.0 p)

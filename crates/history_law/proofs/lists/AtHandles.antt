@@ -1,5 +1,6 @@
 -- The live object of a handle, after a change of the list.
-use Rattle.history_law.proofs.Names.{◌≡◌, ℕ, true, false, List, [], ◌∷◌, Some, None, refl, ◌∙◌, arith, ◌==◌, eq-eqb, Listed, live_of, live_object, listed, change, issue, gone, nat_tests}
+use Rattle.history_law.proofs.Names.{◌≡◌, ℕ, Bool, true, false, List, [], ◌∷◌, Option, Some, None, refl, sym, ◌∙◌, subst, arith, ◌==◌, eq-eqb, eqb-true, Listed, live_of, live_object, listed, change, issue, gone, with_fields, at-update, nat_tests}
+use Rattle.history_law.proofs.Answered.{on_test}
 use Rattle.history_law.proofs.lists.Found.{at_skip, at_here}
 use Rattle.history_law.proofs.lists.Handles.{OnceIn, head_apart}
 
@@ -28,3 +29,19 @@ module _ {T : Type 0} where
   unfolding change listed live_of
   at_retired h [] o = refl
   at_retired h (r ∷ rs) o = grind (arith, o h, at_unlisted h rs, at_retired h rs)
+
+  -- P of the object of the handle j before and after a change of that of the handle h, and of whether it is the same one
+  module _ (P : Bool → Option T → Option T → Type 0) (h j : ℕ) (l : List (Listed T)) (stays : (o : Option T) → P false o o) where
+    where_same : (m : List (Listed T)) (o p : Option T) → live_object l h ≡ o → live_object m h ≡ p → P true o p → ((h == j) ≡ false → live_object m j ≡ live_object l j) → P (h == j) (live_object l j) (live_object m j)
+    where_same m o p a b x k = on_test (λ c. P c (live_object l j) (live_object m j)) (h == j)
+        (λ i. subst (λ (z : ℕ). P true (live_object l z) (live_object m z)) (eqb-true h j i) (subst (λ (q : Option T). P true q (live_object m h)) (sym a) (subst (P true o) (sym b) x)))
+        (λ i. subst (P false (live_object l j)) (sym (k i)) (stays (live_object l j)))
+
+    pub where_changed : (f : T → T) (v : T) → live_object l h ≡ Some v → P true (Some v) (Some (f v)) → P (h == j) (live_object l j) (live_object (change h (with_fields f) l) j)
+    where_changed f v e x = where_same _ (Some v) (Some (f v)) e (at-update h f v l e) x (at_change_other h j (with_fields f) l (λ r. refl))
+
+    pub where_retired : (v : T) → OnceIn l → live_object l h ≡ Some v → P true (Some v) None → P (h == j) (live_object l j) (live_object (change h gone l) j)
+    where_retired v o e x = where_same _ (Some v) None e (at_retired h l o) x (at_change_other h j gone l (λ r. refl))
+
+    pub where_issued : (v : T) → listed h l ≡ 0 → P true None (Some v) → P (h == j) (live_object l j) (live_object (issue h v l) j)
+    where_issued v e x = where_same _ None (Some v) (at_unlisted h l e) (at_issue_here h v l e) x (at_issue_other h j v l)

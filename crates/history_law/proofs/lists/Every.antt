@@ -1,5 +1,5 @@
 -- What holds of every task that was ever issued, after a change of the list.
-use Rattle.history_law.proofs.Names.{◌≡◌, ℕ, ◌+◌, Bool, true, List, [], ◌∷◌, Some, sym, ◌∙◌, subst, ◌==◌, ◌&&◌, cond_both, Listed, live_of, live_object, change, change_all, issue, TaskEnd, Task, Ended, with_state, ended, end_each, some_same, fst_true, snd_true}
+use Rattle.history_law.proofs.Names.{◌≡◌, ℕ, ◌+◌, Bool, true, false, List, [], ◌∷◌, Some, refl, sym, ◌∙◌, subst, ◌==◌, ◌&&◌, cond_both, Listed, live_of, live_object, change, change_all, issue, TaskEnd, Task, Ended, with_state, ended, end_each, some_same, fst_true, snd_true}
 use Rattle.history_law.proofs.lists.Found.{at_head, at_here, at_past}
 
 module _ {T : Type 0} where
@@ -50,3 +50,8 @@ every_passing P p e n l g a = every_both (λ t. Unit {0}) P p e n l (λ t k q u 
 
 pub every_ends : (P : Task → Type 0) (p : Task → Bool) (e : TaskEnd) (n : ℕ) (l : List (Listed Task)) → ((t : Task) (k : ℕ) → P t → P (with_state (Ended e k) t)) → Every P l → Every P (end_each p e n l)
 every_ends P p e n l g a = every_passing P p e n l (λ t k q i. g t k i) a
+
+-- of each, where a test holds
+pub every_if : {T : Type 0} (b : Bool) (P : T → Type 0) (l : List (Listed T)) → (b ≡ true → Every P l) → Every (λ (t : T). (b ≡ true) → P t) l
+every_if true P l f = every_map P (λ t. Unit {0}) (λ t. (true ≡ true) → P t) l (λ t a u e. a) (f refl) (always l)
+every_if false P l f = every_map (λ t. Unit {0}) (λ t. Unit {0}) (λ t. (false ≡ true) → P t) l (λ t a u e. absurd (cc)) (always l) (always l)

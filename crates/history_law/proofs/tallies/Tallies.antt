@@ -13,7 +13,6 @@ use Rattle.history_law.proofs.Others.{runs_over}
 use Rattle.history_law.proofs.Answered.{true_false, gives_cond, whether, on_test}
 use Rattle.history_law.proofs.lists.Firsts.{found_count, one_passes}
 use Rattle.history_law.proofs.tallies.Ties.{Owns, none_count, none_runs}
-use Rattle.history_law.proofs.locks.Exclusive.{says_asked}
 use Rattle.history_law.proofs.lists.Sums.{sum_none, record_new, record_beside, record_other, record_at, record_updated, cell_new}
 use Rattle.history_law.proofs.tallies.TallyMoves.{adds, weight, weigh_off, Each, HasRead, cells_of}
 use Rattle.history_law.proofs.lists.Slots.{set_apart}
@@ -90,6 +89,10 @@ ids_move i who o s (removes Mutexes j) e k v =
     let m : count_listed (HasId i) s.mutexes ≤ 1 = v in
     omega arith
 ids_move i who o s _ e k v = v
+
+abbrev says_asked : Reply → Bool
+says_asked (reply.Asked b) = b
+says_asked _ = false
 
 pub asked_true : (r : Reply) → says_asked r ≡ true → r ≡ reply.Asked true
 asked_true r e1 = grind (arith, nat_tests)

@@ -126,10 +126,10 @@ module _ (S C : ℕ) where
   EndsRight t = is_unended t ≡ false → adds t.notes.tally t.args ≡ true → past_read t.notes.tally ≡ is_completed t.state
 
   -- a task that an op other than its `tally_end` ends adds nothing
-  adds_nothing : (n : ℕ) (ms : List (Listed Mutex)) (who h : ℕ) (o : Op) (t : Task) → is_tally_end h o ≡ false → Tied n ms t → MayEnd who t → EndsTally h o t → adds t.notes.tally t.args ≡ true → ⊥
-  adds_nothing n ms who h o t f i (inl u) e a = true_false (both_of t.notes.tally t.args a) (i.early u)
-  adds_nothing n ms who h o t f i (inr u) (inl e) a = true_false e f
-  adds_nothing n ms who h o t f i (inr u) (inr e) a = true_false (i.kind who u (both_of t.notes.tally t.args a)) (e who)
+  adds_nothing : (n : ℕ) (ms : List (Listed Mutex)) (ss : List (Listed Segment)) (who h : ℕ) (o : Op) (t : Task) → is_tally_end h o ≡ false → Tied n ms ss t → MayEnd who t → EndsTally h o t → adds t.notes.tally t.args ≡ true → ⊥
+  adds_nothing n ms ss who h o t f i (inl u) e a = true_false (both_of t.notes.tally t.args a) (i.early u)
+  adds_nothing n ms ss who h o t f i (inr u) (inl e) a = true_false e f
+  adds_nothing n ms ss who h o t f i (inr u) (inr e) a = true_false (i.kind who u (both_of t.notes.tally t.args a)) (e who)
 
   -- where some `tally_end` is no end of this list's tasks
   abbrev pub NoTallyEnd : Op → Type 0
@@ -142,15 +142,15 @@ module _ (S C : ℕ) where
       by_work (inl r) = true_false r (runs_over who t u)
       by_work (inr w) = ap (λ (z : TallyNotes). past_read z) w.tally ∙ i u (ap (λ (z : TallyNotes). adds z t.args) (sym w.tally) ∙ a)
 
-  module _ (n : ℕ) (ms : List (Listed Mutex)) where
+  module _ (n : ℕ) (ms : List (Listed Mutex)) (ss : List (Listed Segment)) where
     -- with the ties, where the op is no `tally_lock`
     abbrev pub RightTies : Op → State → Type 0
-    RightTies o s = (is_tally_lock o ≡ false → Ties n ms s) × Every EndsRight s.tasks
+    RightTies o s = (is_tally_lock o ≡ false → Ties n ms ss s) × Every EndsRight s.tasks
 
     over_ends : (who : ℕ) (o : Op) → NoTallyEnd o → (s : State) (j : ℕ) (e : TaskEnd) → IsMade s o (ends_task j e) → May s who o (ends_task j e) → RightTies o s → Every EndsRight (change j (ended e s.ends) s.tasks)
     over_ends who o f s j e i k v = whether (is_tally_lock o)
         (λ l. absurd (no_end o l i.by))
-        (λ l. every_change EndsRight j (ended e s.ends) s.tasks (λ r a q u b. let same : k.0 ≡ r.fields = same_found s j j refl k.0 r.fields k.1 a in absurd (adds_nothing n ms who j o k.0 (f j) (every_at (Tied n ms) s.tasks j k.0 (v.0 l) k.1) k.2 k.4 (subst (λ (t : Task). adds t.notes.tally t.args ≡ true) (sym same) b))) v.1)
+        (λ l. every_change EndsRight j (ended e s.ends) s.tasks (λ r a q u b. let same : k.0 ≡ r.fields = same_found s j j refl k.0 r.fields k.1 a in absurd (adds_nothing n ms ss who j o k.0 (f j) (every_at (Tied n ms ss) s.tasks j k.0 (v.0 l) k.1) k.2 k.4 (subst (λ (t : Task). adds t.notes.tally t.args ≡ true) (sym same) b))) v.1)
       where
         no_end : (o : Op) → is_tally_lock o ≡ true → EndsTask j o → ⊥
         no_end (op.TallyLock t) l b = b
@@ -162,14 +162,14 @@ module _ (S C : ℕ) where
     right_each who o f s (ends_task j e) i k v = over_ends who o f s j e i k v
     right_each who o f s (ends_waiting p e) i k v = whether (is_tally_lock o)
         (λ l. absurd (no_many o l i.by))
-        (λ l. every_both (Tied n ms) EndsRight (λ t. is_unstarted t && p t) e s.ends s.tasks (λ t m q z r u a. true_false (both_of t.notes.tally t.args a) (z.early (fst_true _ _ q))) (v.0 l) v.1)
+        (λ l. every_both (Tied n ms ss) EndsRight (λ t. is_unstarted t && p t) e s.ends s.tasks (λ t m q z r u a. true_false (both_of t.notes.tally t.args a) (z.early (fst_true _ _ q))) (v.0 l) v.1)
       where
         no_many : (o : Op) → is_tally_lock o ≡ true → ends_many o ≡ true → ⊥
         no_many (op.TallyLock t) l b = true_false b refl
         no_many _ l b = true_false l refl
     right_each who o f s (withdraws j g c) i k v = whether (is_tally_lock o)
         (λ l. absurd (no_withdraw o l i.by))
-        (λ l. every_both (Tied n ms) EndsRight (λ t. is_unstarted t && not (has_worker (workers s) t.job t.cores (live_of (change j g s.actions)))) (Failed c) s.ends s.tasks (λ t m q z r u a. true_false (both_of t.notes.tally t.args a) (z.early (fst_true _ _ q))) (v.0 l) v.1)
+        (λ l. every_both (Tied n ms ss) EndsRight (λ t. is_unstarted t && not (has_worker (workers s) t.job t.cores (live_of (change j g s.actions)))) (Failed c) s.ends s.tasks (λ t m q z r u a. true_false (both_of t.notes.tally t.args a) (z.early (fst_true _ _ q))) (v.0 l) v.1)
       where
         no_withdraw : (o : Op) → is_tally_lock o ≡ true → WithdrawsAction j g o → ⊥
         no_withdraw (op.TallyLock t) l b = b
@@ -182,7 +182,7 @@ module _ (S C : ℕ) where
     right_each who o f s x i k v = rest_keeps (λ t. Every EndsRight t.tasks) (λ t g q m c r y p. p) x s v.1
 
     pub right_move : (who : ℕ) (o : Op) → NoTallyEnd o → (s : State) (x : Move) → IsMade s o x → May s who o x → RightTies o s → RightTies o (apply x s)
-    right_move who o f s x i k v = ((λ l. ties_move n ms who o l s x k (v.0 l)), right_each who o f s x i k v)
+    right_move who o f s x i k v = ((λ l. ties_move n ms ss who o l s x k (v.0 l)), right_each who o f s x i k v)
 
   -- The cells of the segment
 

@@ -5,12 +5,11 @@ use Rattle.mtapi_values.specs.declared.statuses.MtapiStatus.TheVariants as m
 use Rattle.mtapi_machine.specs.declared.ops.Op.TheVariants as op
 use Rattle.history_law.proofs.Accepted.{all_after}
 use Rattle.history_law.proofs.Reuse.{fresh_unlisted}
-use Rattle.history_law.proofs.lists.Handles.{OnceIn}
 use Rattle.history_law.proofs.Ages.{live_listed}
 use Rattle.history_law.proofs.Held.{HasEnded, AllEnded}
 use Rattle.history_law.proofs.lists.Every.{Every, every_change, every_map, every_at, always}
 use Rattle.history_law.proofs.SeatMoves.{by_moves, by_made_moves}
-use Rattle.history_law.proofs.OnceIssued.{once_none, once_next, listed_next}
+use Rattle.history_law.proofs.OnceIssued.{listed_next}
 use Rattle.history_law.proofs.Answered.{true_false, first_false, second_false, none_first, answered, no_live, gives_cond, Quiet, whether}
 use Rattle.history_law.proofs.tallies.Ties.{has_both, Owns, Tied, as_on}
 use Rattle.history_law.proofs.locks.Exclusive.{Good, good_next, good_opening}
@@ -23,7 +22,6 @@ module _ (S C id n : ℕ) where
   pub record SumHolds (s : State) : Type 0 where
     pub good : Good n s
     pub ids : (i : ℕ) → count_listed (HasId i) s.mutexes ≤ 1
-    pub once : OnceIn s.segments
     pub known : Every (Each S C (λ a. 1 ≤ listed S s.segments)) s.tasks
     pub named : Every (Each S C (λ a. mutex_in (tally_args a) ≡ id)) s.tasks
     pub right : Every (EndsRight S C) s.tasks
@@ -73,7 +71,7 @@ module _ (S C id n : ℕ) where
         (λ c. on_live _ (live_object s.tasks t.0) _ _ v.right (λ x e b d. gives_cond _ (x.notes.tally.stage == 4) _ _ (λ f. ends_right t.0 x x.notes.tally.verdict e (λ a. absurd (failed_adds x f a)))
         (λ f. on_live _ (live_object s.segments x.notes.tally.segment) _ _ tt (λ y g. on_live _ (live_object s.mutexes x.notes.tally.mutex) _ _ tt
         (λ z h. ends_right t.0 x _ e (λ a. back_right x (added x) _ d))))))
-    right_row o r i = (by_made_moves (RightTies S C n s.mutexes o) s (entry who o r) i (right_move S C n s.mutexes who o (λ h. refl)) ((λ l. v.good.ties), v.right)).1
+    right_row o r i = (by_made_moves (RightTies S C n s.mutexes s.segments o) s (entry who o r) i (right_move S C n s.mutexes s.segments who o (λ h. refl)) ((λ l. v.good.ties), v.right)).1
 
     -- the sum
 
@@ -90,7 +88,7 @@ module _ (S C id n : ℕ) where
     cells_here : (x : Task) (y : Segment) → adds S C x.notes.tally x.args ≡ true → live_object s.segments x.notes.tally.segment ≡ Some y → cells_of S C s.segments ≡ Some y.cells
     cells_here x y a e =
         ap (λ (q : Option Segment). option_map (λ (z : Segment). z.cells) q)
-        (subst (λ (j : ℕ). record_of s.segments j ≡ Some y) (seg_same x a) (record_at x.notes.tally.segment y s.segments v.once e))
+        (subst (λ (j : ℕ). record_of s.segments j ≡ Some y) (seg_same x a) (record_at x.notes.tally.segment y s.segments v.good.once_segments e))
 
     -- a tally reads the cell
     read_sum : (t : ℕ) (x : Task) (y : Segment) → live_object s.tasks t ≡ Some x → (x.notes.tally.stage == 1) ≡ true → live_object s.segments x.notes.tally.segment ≡ Some y
@@ -135,7 +133,7 @@ module _ (S C id n : ℕ) where
     write_other t value x y e d f a =
         sum_keep S C _ s.tasks (change t (with_fields (with_notes (with_tally tally_written))) s.tasks) same_sum
         (λ h. every_change (HasRead S C (sum_of (weight S C) s.tasks)) t (with_fields (with_notes (with_tally tally_written))) s.tasks (λ r i k b g p. true_false g refl) h)
-        (other_cell S C s x.notes.tally.segment (cell_in (tally_args x.args)) value y s.tasks v.once f a v.sum)
+        (other_cell S C s x.notes.tally.segment (cell_in (tally_args x.args)) value y s.tasks v.good.once_segments f a v.sum)
       where
         same_sum : sum_of (weight S C) (change t (with_fields (with_notes (with_tally tally_written))) s.tasks) ≡ sum_of (weight S C) s.tasks
         same_sum =
@@ -146,8 +144,8 @@ module _ (S C id n : ℕ) where
             ∙ sym (weigh_early S C r.fields.notes.tally r.fields.args 2 (subst (λ (u : Task). (u.notes.tally.stage == 2) ≡ true) same d) refl))
 
     -- no other task that adds to the cell has read and not written: it would own the same mutex
-    alone : (x u : Task) → adds S C x.notes.tally x.args ≡ true → runs_on who x ≡ true → Tied n s.mutexes x → mutex_in (tally_args x.args) ≡ id
-        → runs_on who u ≡ false → Tied n s.mutexes u × Each S C (λ a. mutex_in (tally_args a) ≡ id) u → adds S C u.notes.tally u.args ≡ true → is_unended u ≡ true → ⊥
+    alone : (x u : Task) → adds S C x.notes.tally x.args ≡ true → runs_on who x ≡ true → Tied n s.mutexes s.segments x → mutex_in (tally_args x.args) ≡ id
+        → runs_on who u ≡ false → Tied n s.mutexes s.segments u × Each S C (λ a. mutex_in (tally_args a) ≡ id) u → adds S C u.notes.tally u.args ≡ true → is_unended u ≡ true → ⊥
     alone x u a k i p q r b c =
         let both : has_both u.notes.tally ≡ true = both_of S C u.notes.tally u.args b in
         let begun = false_from_ne_true _ (λ e. true_false both (r.0.early e)) in
@@ -172,7 +170,7 @@ module _ (S C id n : ℕ) where
         cells_now =
             ap (λ (q : Option Segment). option_map (λ (z : Segment). z.cells) q)
             (subst (λ (j : ℕ). record_of (update x.notes.tally.segment (with_cell (cell_in (tally_args x.args)) value) s.segments) j ≡ Some (with_cell (cell_in (tally_args x.args)) value y)) (seg_same x a)
-            (record_updated x.notes.tally.segment (with_cell (cell_in (tally_args x.args)) value) y s.segments v.once f))
+            (record_updated x.notes.tally.segment (with_cell (cell_in (tally_args x.args)) value) y s.segments v.good.once_segments f))
 
         inside : C < length (slice_set y.cells (cell_in (tally_args x.args)) value) → C < length y.cells
         inside i = subst (λ (j : ℕ). C < j) (length-set y.cells (cell_in (tally_args x.args)) value) i
@@ -190,8 +188,8 @@ module _ (S C id n : ℕ) where
         more : sum_of (weight S C) now ≡ sum_of (weight S C) s.tasks +ℤ number
         more = sum_more (weight S C) number t (with_fields (with_notes (with_tally tally_written))) s.tasks x e heavier
 
-        tie : Tied n s.mutexes x
-        tie = every_at (Tied n s.mutexes) s.tasks t x v.good.ties e
+        tie : Tied n s.mutexes s.segments x
+        tie = every_at (Tied n s.mutexes s.segments) s.tasks t x v.good.ties e
 
         name : mutex_in (tally_args x.args) ≡ id
         name = every_at (Each S C (λ b. mutex_in (tally_args b) ≡ id)) s.tasks t x v.named e a
@@ -203,9 +201,9 @@ module _ (S C id n : ℕ) where
             let sums : value ≡ sum_of (weight S C) now = w ∙ (ap (λ (q : ℤ). q +ℤ number) kept ∙ sym more) in
             let cell : cell_value S C (slice_set y.cells (cell_in (tally_args x.args)) value) ≡ value = subst (λ (j : ℕ). cell_value S C (slice_set y.cells j value) ≡ value) (sym (cell_same x a)) (get_or-set_same y.cells C value (pos 0) z.0) in (
               cell ∙ sums,
-              every_alone (λ u. Tied n s.mutexes u × Each S C (λ b. mutex_in (tally_args b) ≡ id) u) (HasRead S C (sum_of (weight S C) now)) who t (with_fields (with_notes (with_tally tally_written))) s.tasks x e k (v.good.one who) v.good.held.dead
+              every_alone (λ u. Tied n s.mutexes s.segments u × Each S C (λ b. mutex_in (tally_args b) ≡ id) u) (HasRead S C (sum_of (weight S C) now)) who t (with_fields (with_notes (with_tally tally_written))) s.tasks x e k (v.good.one who) v.good.held.dead
                   (λ u q r b g p. absurd (alone x u a k tie name q r b p)) (λ r same q b g p. true_false g refl)
-                  (every_map (Tied n s.mutexes) (Each S C (λ b. mutex_in (tally_args b) ≡ id)) (λ u. Tied n s.mutexes u × Each S C (λ b. mutex_in (tally_args b) ≡ id) u) s.tasks (λ u b c. (b, c)) v.good.ties v.named),
+                  (every_map (Tied n s.mutexes s.segments) (Each S C (λ b. mutex_in (tally_args b) ≡ id)) (λ u. Tied n s.mutexes s.segments u × Each S C (λ b. mutex_in (tally_args b) ≡ id) u) s.tasks (λ u b c. (b, c)) v.good.ties v.named),
             )
 
     write_sum : (t : ℕ) (value : ℤ) (x : Task) (y : Segment) → live_object s.tasks t ≡ Some x → runs_on who x ≡ true → (x.notes.tally.stage == 2) ≡ true → value ≡ added x → live_object s.segments x.notes.tally.segment ≡ Some y
@@ -233,7 +231,7 @@ module _ (S C id n : ℕ) where
             answered says_ok SumAfter (row s who (op.ShmemWrite x c value) r) r k
             (refl, (refl, no_live says_ok (live_object s.segments x.0) _ _ tt (λ y. (refl, (refl, tt)))))
             (λ p q. on_live _ (live_object s.segments x.0) _ _ (λ j. true_false j refl) (λ y g b d j.
-            other_cell S C s x.0 c value y s.tasks v.once g (other ((λ z. ((x.0 == S) && (c == C)) && sym k z) ∙ f.write)) v.sum)) i.allowed
+            other_cell S C s x.0 c value y s.tasks v.good.once_segments g (other ((λ z. ((x.0 == S) && (c == C)) && sym k z) ∙ f.write)) v.sum)) i.allowed
     sum_row (op.TallyRead t) r i f =
         moves_given SumAfter (row s who (op.TallyRead t) r) v.sum
         (λ c. on_live _ (live_object s.tasks t.0) _ _ v.sum (λ x e a b. on_live _ (live_object s.segments x.notes.tally.segment) _ _ tt (λ y g. read_sum t.0 x y e (not_false _ b) g)))
@@ -251,7 +249,6 @@ module _ (S C id n : ℕ) where
   holds_next s e i f v = record {
     good = good_next n s e i v.good;
     ids = λ j. by_made_moves (λ t. count_listed (HasId j) t.mutexes ≤ 1) s e i (ids_move j e.who e.op) (v.ids j);
-    once = once_next kind.Shmem s e v.once;
     known =
         every_map (Each S C (λ a. 1 ≤ listed S s.segments)) (λ t. Unit {0}) (Each S C (λ a. 1 ≤ listed S (next s e).segments)) (next s e).tasks
         (λ t a u b. listed_next kind.Shmem s e S (a b)) (known_row s e.who v e.op e.reply i) (always (next s e).tasks);
@@ -294,11 +291,10 @@ no_cells : (S C : ℕ) → cells_of S C [] ≡ None
 unfolding record_of
 no_cells S C = refl
 
-holds_opening : (S C id : ℕ) (terms : Terms) → SumHolds S C id terms.settings.workers (opening terms)
-holds_opening S C id terms = record {
-  good = good_opening terms;
+holds_opening : (S C id : ℕ) (terms : Terms) → terms.settings.workers ≤ 16 → SumHolds S C id terms.settings.workers (opening terms)
+holds_opening S C id terms few = record {
+  good = good_opening terms few;
   ids = λ i. omega arith;
-  once = once_none Segment;
   known = tt;
   named = tt;
   right = tt;
@@ -308,7 +304,7 @@ holds_opening S C id terms = record {
 pub holds_the_sum : (terms : Terms) (es : List NodeEntry) (S C : ℕ) → Legal terms es → HoldsTheSum terms es S C
 unfolding after_from
 holds_the_sum terms es S C legal A B main id x cut found inside w k =
-    let v : SumHolds S C id terms.settings.workers (after terms es) = holds_along S C id terms.settings.workers (opening terms) es legal.from (premises_from S C id terms.settings.workers terms es [] es refl w k) (holds_opening S C id terms) in
+    let v : SumHolds S C id terms.settings.workers (after terms es) = holds_along S C id terms.settings.workers (opening terms) es legal.from (premises_from S C id terms.settings.workers terms es [] es refl w k) (holds_opening S C id terms legal.fits.settings.workers.1) in
     let all : AllEnded (after terms es).tasks = subst (λ (L : List NodeEntry). AllEnded (after terms L).tasks) (sym cut) (all_after terms A B main (subst (λ (L : List NodeEntry). Legal terms L) cut legal)) in
     let cells : cells_of S C (after terms es).segments ≡ Some x.cells = ap (λ (q : Option Segment). option_map (λ (z : Segment). z.cells) q) found in
     let sum : Sum S C (Some x.cells) (after terms es).tasks = sum_cells S C (after terms es) _ _ (after terms es).tasks cells v.sum in

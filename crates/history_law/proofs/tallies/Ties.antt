@@ -1,5 +1,5 @@
 -- A running tally that has its mutex owns it, and at most one task runs on a worker.
-use Rattle.history_law.proofs.Names.{nat_tests, ◌≡◌, ℕ, ◌+◌, ◌<◌, ◌≤◌, Bool, true, false, cond, List, [], ◌∷◌, Option, Some, None, inl, inr, refl, sym, ◌∙◌, ap, subst, arith, ◌==◌, ◌&&◌, not, ℤ, eqb-true, false_from_ne_true, Kind, TaskEnd, Failed, holds, Op, Listed, live_of, live_object, any_listed, count_listed, with_fields, gone, is_member, freed, let_go, Mutex, tally_args, Task, Notes, TallyNotes, TaskState, Running, Ended, scheduled, runner, runs_on, runs_as, kind_number, is_unstarted, is_unended, with_state, with_notes, ended, new_task, State, Move, starts_task, runs_task, ends_task, ends_waiting, withdraws, notes, leaves, frees_members, lets_members_go, apply, fst_true, snd_true, both_true, not_true, rest_keeps, is_tally_end, mutex_in, and-false}
+use Rattle.history_law.proofs.Names.{nat_tests, ◌≡◌, ℕ, ◌+◌, ◌<◌, ◌≤◌, Bool, true, false, cond, List, [], ◌∷◌, Option, Some, None, inl, inr, refl, sym, ◌∙◌, ap, subst, arith, ◌==◌, ◌&&◌, not, eqb-true, false_from_ne_true, Kind, TaskEnd, Failed, holds, Op, Listed, live_of, live_object, any_listed, count_listed, with_fields, gone, is_member, freed, let_go, Mutex, tally_args, Task, Notes, TallyNotes, TaskState, Running, Ended, runner, runs_on, runs_as, kind_number, is_unstarted, is_unended, with_state, with_notes, ended, new_task, State, Move, starts_task, runs_task, ends_task, ends_waiting, withdraws, notes, leaves, frees_members, lets_members_go, apply, fst_true, snd_true, both_true, not_true, rest_keeps, is_tally_end, mutex_in, and-false, IsAttached, Segment}
 use Rattle.mtapi_values.specs.declared.kinds.Kind.TheVariants as kind
 use Rattle.history_law.proofs.Answered.{true_false, whether}
 use Rattle.history_law.proofs.lists.Every.{Every, every_issue, every_change, every_all, every_ends}
@@ -21,10 +21,12 @@ Owns w id (Some m) = (m.owner ≡ Some w) × (m.depth ≡ 1) × (m.id ≡ id)
 abbrev pub id_in : Task → ℕ
 id_in t = mutex_in (tally_args t.args)
 
--- a task that hasn't begun has nothing; a running one that has its mutex is a tally, and runs on a worker that owns it
-pub record Tied (n : ℕ) (ms : List (Listed Mutex)) (t : Task) : Type 0 where
+-- a task that hasn't begun has nothing; a running one that has its mutex is a tally, and runs on a worker that owns it and is attached to
+-- its segment
+pub record Tied (n : ℕ) (ms : List (Listed Mutex)) (ss : List (Listed Segment)) (t : Task) : Type 0 where
   pub early : is_unstarted t ≡ true → has_both t.notes.tally ≡ false
   pub tied : (w : ℕ) → runs_on w t ≡ true → has_both t.notes.tally ≡ true → (w < n) × Owns w (id_in t) (live_object ms t.notes.tally.mutex)
+  pub attends : (w : ℕ) → runs_on w t ≡ true → has_both t.notes.tally ≡ true → IsAttached w (live_object ss t.notes.tally.segment)
   pub kind : (w : ℕ) → runs_on w t ≡ true → has_both t.notes.tally ≡ true → runs_as w kind.Tally t ≡ true
 
 pub stage_none : (x : TallyNotes) → (x.stage == 0) ≡ true → has_both x ≡ false
@@ -37,13 +39,14 @@ stage_some x k e n = ap (λ (j : ℕ). not (j == 0) && not (j == 4)) (eqb-true x
 pub record Follows (x y : TallyNotes) : Type 0 where
   pub before : has_both y ≡ true → has_both x ≡ true
   pub mutex : has_both y ≡ true → y.mutex ≡ x.mutex
+  pub segment : has_both y ≡ true → y.segment ≡ x.segment
 
 pub does_follow : (o : Op) (x y : TallyNotes) → is_tally_lock o ≡ false → Does o x y → Follows x y
-does_follow o x y n (stays e) = record { before = λ b. ap has_both (sym e) ∙ b; mutex = λ b. ap (λ (z : TallyNotes). z.mutex) e }
-does_follow o x y n (fails c z e) = record { before = λ b. true_false b (ap has_both e); mutex = λ b. true_false b (ap has_both e) }
+does_follow o x y n (stays e) = record { before = λ b. ap has_both (sym e) ∙ b; mutex = λ b. ap (λ (z : TallyNotes). z.mutex) e; segment = λ b. ap (λ (z : TallyNotes). z.segment) e }
+does_follow o x y n (fails c z e) = record { before = λ b. true_false b (ap has_both e); mutex = λ b. true_false b (ap has_both e); segment = λ b. true_false b (ap has_both e) }
 does_follow o x y n (has a b l z e) = true_false l n
-does_follow o x y n (reads v l z e) = record { before = λ b. stage_some x 1 z refl; mutex = λ b. ap (λ (t : TallyNotes). t.mutex) e }
-does_follow o x y n (writes l z e) = record { before = λ b. stage_some x 2 z refl; mutex = λ b. ap (λ (t : TallyNotes). t.mutex) e }
+does_follow o x y n (reads v l z e) = record { before = λ b. stage_some x 1 z refl; mutex = λ b. ap (λ (t : TallyNotes). t.mutex) e; segment = λ b. ap (λ (t : TallyNotes). t.segment) e }
+does_follow o x y n (writes l z e) = record { before = λ b. stage_some x 2 z refl; mutex = λ b. ap (λ (t : TallyNotes). t.mutex) e; segment = λ b. ap (λ (t : TallyNotes). t.segment) e }
 
 -- a tally that has both goes on having them, with any step
 pub record GoesOn (x y : TallyNotes) : Type 0 where
@@ -57,52 +60,46 @@ goes_on o x y b (has c d l z e) = true_false b (stage_none x z)
 goes_on o x y b (reads v l z e) = record { both = ap has_both e; mutex = ap (λ (t : TallyNotes). t.mutex) e }
 goes_on o x y b (writes l z e) = record { both = ap has_both e; mutex = ap (λ (t : TallyNotes). t.mutex) e }
 
-module _ (n : ℕ) (ms : List (Listed Mutex)) where
+module _ (n : ℕ) (ms : List (Listed Mutex)) (ss : List (Listed Segment)) where
   -- a task that runs nowhere
-  idle_tied : (t : Task) → (is_unstarted t ≡ true → has_both t.notes.tally ≡ false) → ((w : ℕ) → runs_on w t ≡ false) → Tied n ms t
-  idle_tied t e f = record { early = e; tied = λ w r b. true_false r (f w); kind = λ w r b. true_false r (f w) }
+  idle_tied : (t : Task) → (is_unstarted t ≡ true → has_both t.notes.tally ≡ false) → ((w : ℕ) → runs_on w t ≡ false) → Tied n ms ss t
+  idle_tied t e f = record { early = e; tied = λ w r b. true_false r (f w); attends = λ w r b. true_false r (f w); kind = λ w r b. true_false r (f w) }
 
-  over_tied : (e : TaskEnd) (k : ℕ) (t : Task) → Tied n ms (with_state (Ended e k) t)
+  over_tied : (e : TaskEnd) (k : ℕ) (t : Task) → Tied n ms ss (with_state (Ended e k) t)
   over_tied e k t = idle_tied (with_state (Ended e k) t) (λ i. true_false i refl) (λ w. refl)
 
-  runs_tied : (v : ℕ) (k : Kind) (t : Task) → is_unstarted t ≡ true → Tied n ms t → Tied n ms (with_state (Running v k) t)
-  runs_tied v k t u i = record { early = λ e. true_false e refl; tied = λ w r b. true_false b (i.early u); kind = λ w r b. true_false b (i.early u) }
+  runs_tied : (v : ℕ) (k : Kind) (t : Task) → is_unstarted t ≡ true → Tied n ms ss t → Tied n ms ss (with_state (Running v k) t)
+  runs_tied v k t u i = record { early = λ e. true_false e refl; tied = λ w r b. true_false b (i.early u); attends = λ w r b. true_false b (i.early u); kind = λ w r b. true_false b (i.early u) }
 
-  pub noted_tied : (f : Notes → Notes) (t : Task) → Follows t.notes.tally (f t.notes).tally → Tied n ms t → Tied n ms (with_notes f t)
+  pub noted_tied : (f : Notes → Notes) (t : Task) → Follows t.notes.tally (f t.notes).tally → Tied n ms ss t → Tied n ms ss (with_notes f t)
   noted_tied f t k i = record {
     early = λ u. false_from_ne_true (has_both (f t.notes).tally) (λ e. true_false (k.before e) (i.early u));
     tied = λ w r b. let x = i.tied w r (k.before b) in (x.0, subst (λ (h : ℕ). Owns w (id_in t) (live_object ms h)) (sym (k.mutex b)) x.1);
+    attends = λ w r b. subst (λ (h : ℕ). IsAttached w (live_object ss h)) (sym (k.segment b)) (i.attends w r (k.before b));
     kind = λ w r b. i.kind w r (k.before b);
   }
 
-  same_notes : (t : Task) (f : Task → Task) → (f t).state ≡ t.state → (f t).notes.tally ≡ t.notes.tally → (f t).args ≡ t.args → Tied n ms t → Tied n ms (f t)
-  same_notes t f s e a i = record {
-    early = λ u. ap has_both e ∙ i.early (ap scheduled (sym s) ∙ u);
-    tied = λ w r b.
-        let x = i.tied w (ap (λ (z : TaskState). holds (λ y. y.0 == w) (runner z)) (sym s) ∙ r) (ap has_both (sym e) ∙ b) in
-        (x.0, subst (λ (z : List ℤ). Owns w (mutex_in (tally_args z)) (live_object ms (f t).notes.tally.mutex)) (sym a) (subst (λ (h : ℕ). Owns w (id_in t) (live_object ms h)) (ap (λ (z : TallyNotes). z.mutex) (sym e)) x.1));
-    kind = λ w r b.
-        ap (λ (z : TaskState). holds (λ y. (y.0 == w) && (kind_number y.1 == 10)) (runner z)) s
-        ∙ i.kind w (ap (λ (z : TaskState). holds (λ y. y.0 == w) (runner z)) (sym s) ∙ r) (ap has_both (sym e) ∙ b);
-  }
+  -- the group, and whether the task is detached, are of no matter
+  group_tied : (t : Task) (d : Bool) (g : Option ℕ) → Tied n ms ss t → Tied n ms ss (with_notes (λ n. record n { detached = d; group = g }) t)
+  group_tied t d g i = record { early = i.early; tied = i.tied; attends = i.attends; kind = i.kind }
 
   abbrev pub Ties : State → Type 0
-  Ties s = Every (Tied n ms) s.tasks
+  Ties s = Every (Tied n ms ss) s.tasks
 
   pub ties_move : (who : ℕ) (o : Op) → is_tally_lock o ≡ false → (s : State) (x : Move) → May s who o x → Ties s → Ties (apply x s)
-  ties_move who o l s (starts_task j t) k v = every_issue (Tied n ms) j (new_task t s.starts) s.tasks (idle_tied (new_task t s.starts) (λ i. refl) (λ w. refl)) v
+  ties_move who o l s (starts_task j t) k v = every_issue (Tied n ms ss) j (new_task t s.starts) s.tasks (idle_tied (new_task t s.starts) (λ i. refl) (λ w. refl)) v
   ties_move who o l s (runs_task j y z) k v =
-      every_change (Tied n ms) j (with_fields (with_state (Running y z))) s.tasks
+      every_change (Tied n ms ss) j (with_fields (with_state (Running y z))) s.tasks
       (λ r a i. runs_tied y z r.fields (subst (λ (t : Task). is_unstarted t ≡ true) (same_found s j j refl k.0 r.fields k.1 a) k.2) i) v
-  ties_move who o l s (ends_task j e) k v = every_change (Tied n ms) j (ended e s.ends) s.tasks (λ r a i. over_tied e s.ends r.fields) v
-  ties_move who o l s (ends_waiting p e) k v = every_ends (Tied n ms) _ e s.ends s.tasks (λ t m i. over_tied e m t) v
-  ties_move who o l s (withdraws j f c) k v = every_ends (Tied n ms) _ (Failed c) s.ends s.tasks (λ t m i. over_tied (Failed c) m t) v
+  ties_move who o l s (ends_task j e) k v = every_change (Tied n ms ss) j (ended e s.ends) s.tasks (λ r a i. over_tied e s.ends r.fields) v
+  ties_move who o l s (ends_waiting p e) k v = every_ends (Tied n ms ss) _ e s.ends s.tasks (λ t m i. over_tied e m t) v
+  ties_move who o l s (withdraws j f c) k v = every_ends (Tied n ms ss) _ (Failed c) s.ends s.tasks (λ t m i. over_tied (Failed c) m t) v
   ties_move who o l s (notes j f) k v =
-      every_change (Tied n ms) j (with_fields (with_notes f)) s.tasks
+      every_change (Tied n ms ss) j (with_fields (with_notes f)) s.tasks
       (λ r a i. noted_tied f r.fields (does_follow o _ _ l (subst (λ (t : Task). Does o t.notes.tally (f t.notes).tally) (same_found s j j refl k.0 r.fields k.1 a) k.3)) i) v
-  ties_move who o l s (leaves j) k v = every_change (Tied n ms) j gone s.tasks (λ r a i. i) v
-  ties_move who o l s (frees_members g) k v = every_all (Tied n ms) _ freed s.tasks (λ r i. same_notes r.fields (λ t. (freed (record { handle = r.handle; live = r.live; fields = t })).fields) refl refl refl i) v
-  ties_move who o l s (lets_members_go g) k v = every_all (Tied n ms) (is_member g) let_go s.tasks (λ r i. same_notes r.fields (λ t. (let_go (record { handle = r.handle; live = r.live; fields = t })).fields) refl refl refl i) v
+  ties_move who o l s (leaves j) k v = every_change (Tied n ms ss) j gone s.tasks (λ r a i. i) v
+  ties_move who o l s (frees_members g) k v = every_all (Tied n ms ss) _ freed s.tasks (λ r i. group_tied r.fields r.fields.notes.detached None i) v
+  ties_move who o l s (lets_members_go g) k v = every_all (Tied n ms ss) (is_member g) let_go s.tasks (λ r i. group_tied r.fields true None i) v
   ties_move who o l s x k v = rest_keeps Ties (λ t g q m c r y p. p) x s v
 
 -- At most one task runs on a worker
