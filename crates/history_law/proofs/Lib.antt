@@ -20,12 +20,10 @@ pub mod Behind
 pub mod Answered
 pub mod OnceIssued
 pub mod locks
-pub mod RowReplies
 pub mod tallies
 pub mod Told
 pub mod Served
 pub mod Sorts
-pub mod Unmoved
 pub mod Quiet
 pub mod RowRest
 pub mod WorkerTurns

@@ -1,5 +1,5 @@
 -- The runs of an ordered queue.
-use Rattle.history_law.proofs.Names.{◌≡◌, ℕ, ◌+◌, ◌≤◌, ◌<◌, Bool, true, false, cond, List, [], ◌∷◌, ◌++◌, Option, Some, None, refl, sym, ◌∙◌, ap, subst, arith, ◌==◌, ◌&&◌, ◌||◌, not, nat_lt, is_none, IsSome, eqb-true, eq-eqb, false_from_ne_true, nat_tests, holds, TaskEnd, Listed, live_of, live_object, any_live, listed, Task, NewTask, TaskState, Scheduled, Running, Ended, scheduled, end_of, is_unstarted, is_unended, new_task, Queue, is_in, is_unended_in, is_head, lets, Terms, Op, Reply, Picked, State, opening, Move, starts_task, apply, Allows, row, is_ready, has_better, NodeEntry, IsNext, next, LegalFrom, Legal, after_from, after, StartsTask, end_in, end_at, Legal-front, Legal-rest, after-append, fst_true, snd_true, not_true, along, rest_keeps, after_grows, some_entry, is_handle, issues, asks_ordered, makes_ordered, puts_into, puts, is_picked, RunsInOrder, some_same}
+use Rattle.history_law.proofs.Names.{◌≡◌, ℕ, ◌+◌, ◌≤◌, ◌<◌, Bool, true, false, cond, List, [], ◌∷◌, ◌++◌, Option, Some, None, refl, sym, ◌∙◌, ap, subst, arith, ◌==◌, ◌&&◌, ◌||◌, not, nat_lt, is_none, IsSome, eqb-true, eq-eqb, false_from_ne_true, nat_tests, holds, TaskEnd, Listed, live_of, live_object, any_live, listed, Task, NewTask, TaskState, Scheduled, Running, Ended, scheduled, end_of, is_unstarted, is_unended, new_task, Queue, is_in, is_unended_in, is_head, lets, Terms, Op, Reply, Picked, State, opening, Move, starts_task, apply, is_ready, NodeEntry, IsNext, next, LegalFrom, Legal, after_from, after, StartsTask, end_in, end_at, Legal-front, Legal-rest, after-append, fst_true, snd_true, not_true, along, rest_keeps, after_grows, some_entry, is_handle, issues, asks_ordered, makes_ordered, puts_into, puts, is_picked, RunsInOrder, some_same, Answers}
 use Rattle.mtapi_values.specs.declared.handles.ObjectKind.TheVariants as kind
 use Rattle.mtapi_machine.specs.declared.ops.Op.TheVariants as op
 use Rattle.history_law.specs.Words.{makes as makes_kind}
@@ -12,7 +12,8 @@ use Rattle.history_law.proofs.lists.Records.{read_found}
 use Rattle.history_law.proofs.Ends.{grows_end}
 use Rattle.history_law.proofs.Ages.{SameTask, SameQueue, Under, under_at}
 use Rattle.history_law.proofs.lists.Objects.{HasObject, QueueAs, started_as, queued_as, task_then, has_along}
-use Rattle.history_law.proofs.Affinity.{Took, row_took}
+use Rattle.history_law.proofs.Affinity.{Took, took}
+use Rattle.history_law.proofs.SeatMoves.{answer}
 use Rattle.history_law.proofs.Answered.{true_false, none_some, on_test}
 use Rattle.history_law.proofs.SeatMoves.{ready_unstarted}
 
@@ -27,16 +28,12 @@ starts_along k s L v = along (λ t. k ≤ t.starts) (λ o t m e w. starts_move k
 
 -- Who picked
 
-took_as : (s : State) (w : ℕ) (o : Op) (r : Reply) (h : ℕ) → is_pick o ≡ true → is_picked h r ≡ true → Allows (row s w o r) r → (a : ℕ) × Took s w h a
-took_as s w op.Pick (Picked t a k args) h i j n = (a.0, subst (λ (x : ℕ). Took s w x a.0) (eqb-true t.0 h j) (row_took s w t a k args n))
-took_as s w op.Pick _ h i j n = true_false j refl
-took_as s w _ r h i j n = true_false i refl
+took_as : (s : State) (w : ℕ) (o : Op) (r : Reply) (h : ℕ) (ms : List Move) → is_picked h r ≡ true → Answers s w o r ms → (a : ℕ) × Took s w h a
+took_as s w o (Picked t a k args) h ms j n = (a.0, subst (λ (x : ℕ). Took s w x a.0) (eqb-true t.0 h j) (took s w o t a k args ms n))
+took_as s w o _ h ms j n = true_false j refl
 
 picks_took : (s : State) (e : NodeEntry) (h : ℕ) → IsNext s e → picks h e ≡ true → (a : ℕ) × Took s e.who h a
-picks_took s e h n i = took_as s e.who e.op e.reply h (fst_true (is_pick e.op) _ i) (snd_true (is_pick e.op) _ i) n.allowed
-
-took_ready : (s : State) (w h a : ℕ) (x : Took s w h a) → is_ready s x.task ≡ true
-took_ready s w h a x = fst_true (is_ready s x.task) _ (fst_true _ (not (has_better s w x.task.priority)) x.may)
+picks_took s e h n i = took_as s e.who e.op e.reply h _ (snd_true (is_pick e.op) _ i) (answer s e n)
 
 -- a ready task of a queue is let begin by it
 ready_let : (s : State) (t : Task) (q : ℕ) → t.queue ≡ Some q → is_ready s t ≡ true → holds (lets q t (live_of s.tasks)) (live_object s.queues q) ≡ true
@@ -98,7 +95,7 @@ unstarted_none t h = by_state t.state h
 not_picked : (s : State) (z : NodeEntry) (h : ℕ) (e : TaskEnd) → OnceIn s.tasks → end_at s.tasks h ≡ Some e → IsNext s z → picks h z ≡ false
 not_picked s z h e o i n = false_from_ne_true (picks h z) (λ j.
     let t = picks_took s z h n j in
-    let u : is_unstarted t.1.task ≡ true = ready_unstarted s t.1.task (took_ready s z.who h t.0 t.1) in
+    let u : is_unstarted t.1.task ≡ true = ready_unstarted s t.1.task t.1.ready in
     none_some (sym (unstarted_none t.1.task u) ∙ (sym (end_found s.tasks h t.1.task o t.1.task_found) ∙ i)))
 
 never_picked : (s : State) (L : List NodeEntry) (h : ℕ) (e : TaskEnd) → LegalFrom s L → OnceIn s.tasks → end_at s.tasks h ≡ Some e → some_entry (picks h) L ≡ false
@@ -212,7 +209,7 @@ first_ended : (terms : Terms) (q a b : ℕ) (s : State) (z : NodeEntry) → Stan
 first_ended terms q a b s z stands v n p =
     let t = picks_took s z b n p in
     let same : SameTask (new_task v.k v.j) t.1.task = under_at b _ s.tasks t.1.task v.second.under t.1.task_found in
-    let let_go : holds (lets q t.1.task (live_of s.tasks)) (live_object s.queues q) ≡ true = ready_let s t.1.task q (same.queue ∙ v.second_in) (took_ready s z.who b t.0 t.1) in
+    let let_go : holds (lets q t.1.task (live_of s.tasks)) (live_object s.queues q) ≡ true = ready_let s t.1.task q (same.queue ∙ v.second_in) t.1.ready in
     let head : is_head q t.1.task (live_of s.tasks) ≡ true = ordered_head q t.1.task (live_of s.tasks) (live_object s.queues q) (λ x e. under_at q IsOrdered s.queues x v.queue.under e) let_go in
     ended_before a (SameTask (new_task v.n v.i)) (λ u. is_unended_in q u && nat_lt u.start t.1.task.start) s.tasks (λ u f m. passes u f m same) v.first.under stands.1.dead (not_true _ head) v.first.some
   where

@@ -1,5 +1,5 @@
 -- No handle is used again, and in layout two none names objects of two kinds.
-use Rattle.history_law.proofs.Names.{nat_tests, ◌≡◌, ℕ, ◌+◌, ◌≤◌, Bool, true, false, cond, List, [], ◌∷◌, ◌++◌, refl, sym, ◌∙◌, ap, subst, arith, ◌==◌, eqb-true, eq-eqb, false_from_ne_true, true_from_ne_false, ObjectKind, Layout, Two, object_number, named_kind, names_kind, Terms, Op, Reply, Handle, Listed, listed, may_issue, issue, Objects, FieldsOf, objects_of, State, opening, Move, is_fresh, apply, Allows, live, after_row, row, NodeEntry, IsNext, next, LegalFrom, Legal, after_from, after, IsMade, Legal-front, Legal-rest, after-append, fst_true, snd_true, own_kind, at_opening, along, by_moves, rest_keeps, some_entry, times, is_live, is_handle, issues, NeverAgain, NotInBoth, released, Answers}
+use Rattle.history_law.proofs.Names.{nat_tests, ◌≡◌, ℕ, ◌+◌, ◌≤◌, Bool, true, false, cond, List, [], ◌∷◌, ◌++◌, refl, sym, ◌∙◌, ap, subst, arith, ◌==◌, eqb-true, eq-eqb, false_from_ne_true, true_from_ne_false, ObjectKind, Layout, Two, object_number, named_kind, names_kind, Terms, Op, Reply, Handle, Listed, listed, may_issue, issue, Objects, FieldsOf, objects_of, State, opening, Move, is_fresh, apply, Allows, live, after_row, row, NodeEntry, IsNext, next, LegalFrom, Legal, after_from, after, IsMade, Legal-front, Legal-rest, after-append, fst_true, snd_true, own_kind, at_opening, along, by_moves, rest_keeps, some_entry, times, is_live, is_handle, issues, NeverAgain, NotInBoth, released, Answers, after_moves, ◌&&◌}
 use Rattle.mtapi_values.specs.declared.handles.ObjectKind.TheVariants as kind
 use Rattle.history_law.specs.Words.{makes as makes_kind}
 use Rattle.mtapi_machine.specs.Answers as is
@@ -79,6 +79,11 @@ issues_fresh k s e h n i = issued_as k h s (λ o t. is_fresh (objects_of k) s h 
 not_issued : (k : ObjectKind) (s : State) (e : NodeEntry) (h : ℕ) → IsNext s e → 1 ≤ times k h s → issues k h e ≡ false
 not_issued k s e h n l = false_from_ne_true (issues k h e) (λ i. let none : times k h s ≡ 0 = fresh_unlisted k s h (issues_fresh k s e h n i) in omega arith)
 
+pub listed_new : {T : Type 0} (h j : ℕ) (x : T) (l : List (Listed T)) → (j == h) ≡ false → listed h (issue j x l) ≡ listed h l
+unfolding listed issue
+listed_new h j x [] e = ap (λ (b : Bool). cond {A = ℕ} b 1 0 + 0) e
+listed_new h j x (r ∷ rs) e = ap (λ (n : ℕ). cond {A = ℕ} (r.handle == h) 1 0 + n) (listed_new h j x rs e)
+
 -- What is listed was issued by an entry
 
 pub none_times : (k : ObjectKind) (h : ℕ) (terms : Terms) → times k h (opening terms) ≡ 0
@@ -86,24 +91,41 @@ unfolding listed
 none_times k h terms = at_opening (λ T l. listed h l ≡ 0) (λ T. refl) terms k
 
 -- an entry whose op makes no object of the kind lists none
-pub listed_same : (k : ObjectKind) (h : ℕ) (s : State) (e : NodeEntry) → makes_kind k e.op ≡ false → times k h (next s e) ≡ times k h s
+listed_same : (k : ObjectKind) (h : ℕ) (s : State) (e : NodeEntry) → makes_kind k e.op ≡ false → times k h (next s e) ≡ times k h s
 listed_same k h s e z =
     by_moves (λ t. times k h t ≡ times k h s) s e
     (λ t m y w. kind_move k t e.op (λ l. listed h l ≡ times k h s) (λ j x b i u. true_false b z) (λ l a u. listed_ages (SameFields k) h _ l a ∙ u) m y w) refl
 
--- no entry of a kind lists the handle but the one that issues it
-abbrev pub ListsIssued : ObjectKind → ℕ → Type 0
-ListsIssued k h = (s : State) (e : NodeEntry) → IsNext s e → issues k h e ≡ false → times k h (next s e) ≡ times k h s
+-- nor does one that answers with another handle, or with none
+beside_issue : (k : ObjectKind) (h : ℕ) (s : State) (who : ℕ) (o : Op) (r : Reply) (ms : List Move) → makes_kind k o ≡ true → is_handle h r ≡ false → Answers s who o r ms → times k h (after_moves ms s) ≡ times k h s
+beside_issue kind.Action h s who _ _ _ e n (is.creates_action job x cores j f) = listed_new h j _ s.actions n
+beside_issue kind.Task h s who _ _ _ e n (is.starts job args priority cores detached group j f) = listed_new h j _ s.tasks n
+beside_issue kind.Task h s who _ _ _ e n (is.enqueues q args cores detached group j x d p f m) = listed_new h j _ s.tasks n
+beside_issue kind.Group h s who _ _ _ e n (is.creates_group j f) = listed_new h j _ s.groups n
+beside_issue kind.Queue h s who _ _ _ e n (is.creates_queue id job priority limit ordered retain j m f) = listed_new h j _ s.queues n
+beside_issue kind.Mutex h s who _ _ _ e n (is.creates_mutex id recursive j m f) = listed_new h j _ s.mutexes n
+beside_issue kind.Sem h s who _ _ _ e n (is.creates_sem id limit j m f) = listed_new h j _ s.sems n
+beside_issue kind.Rwl h s who _ _ _ e n (is.creates_rwl id limit j m f) = listed_new h j _ s.rwls n
+beside_issue kind.Shmem h s who _ _ _ e n (is.creates_segment id cells j m f) = listed_new h j _ s.segments n
+beside_issue _ h s who _ _ _ e n (is.refuses o x y) = refl
+beside_issue _ h s who _ _ _ e n (is.refuses_caller o x y) = refl
+beside_issue _ h s who _ _ _ e n _ = true_false e refl
 
-pub none_listed : (k : ObjectKind) (h : ℕ) → ListsIssued k h → (s : State) (L : List NodeEntry) → LegalFrom s L → times k h s ≡ 0 → some_entry (issues k h) L ≡ false → times k h (after_from s L) ≡ 0
+-- so no entry lists the handle but the one that issues it
+unissued : (k : ObjectKind) (h : ℕ) (s : State) (e : NodeEntry) → IsNext s e → issues k h e ≡ false → times k h (next s e) ≡ times k h s
+unissued k h s e i n = on_test (λ b. (b && is_handle h e.reply) ≡ false → times k h (next s e) ≡ times k h s) (makes_kind k e.op)
+    (λ m j. beside_issue k h s e.who e.op e.reply _ m j (answered s e.who e.op e.reply i.allowed))
+    (λ m j. listed_same k h s e m) n
+
+pub none_listed : (k : ObjectKind) (h : ℕ) (s : State) (L : List NodeEntry) → LegalFrom s L → times k h s ≡ 0 → some_entry (issues k h) L ≡ false → times k h (after_from s L) ≡ 0
 unfolding LegalFrom after_from
-none_listed k h c s [] legal z n = z
-none_listed k h c s (e ∷ es) legal z n =
+none_listed k h s [] legal z n = z
+none_listed k h s (e ∷ es) legal z n =
     let both : (issues k h e ≡ false) × (some_entry (issues k h) es ≡ false) = none_first (issues k h e) _ n in
-    none_listed k h c (next s e) es legal.1 (c s e legal.0 both.0 ∙ z) both.1
+    none_listed k h (next s e) es legal.1 (unissued k h s e legal.0 both.0 ∙ z) both.1
 
-pub was_issued : (k : ObjectKind) (h : ℕ) → ListsIssued k h → (terms : Terms) (L : List NodeEntry) → LegalFrom (opening terms) L → 1 ≤ times k h (after terms L) → some_entry (issues k h) L ≡ true
-was_issued k h c terms L legal n = true_from_ne_false (some_entry (issues k h) L) (λ i. let z : times k h (after terms L) ≡ 0 = none_listed k h c (opening terms) L legal (none_times k h terms) i in omega arith)
+pub was_issued : (k : ObjectKind) (h : ℕ) (terms : Terms) (L : List NodeEntry) → LegalFrom (opening terms) L → 1 ≤ times k h (after terms L) → some_entry (issues k h) L ≡ true
+was_issued k h terms L legal n = true_from_ne_false (some_entry (issues k h) L) (λ i. let z : times k h (after terms L) ≡ 0 = none_listed k h (opening terms) L legal (none_times k h terms) i in omega arith)
 
 -- The law
 
@@ -135,11 +157,6 @@ record Named (T : Terms) (k : ObjectKind) (h : ℕ) (s : State) : Type 0 where
 terms_move : (T : Terms) (s : State) (m : Move) → s.terms ≡ T → (apply m s).terms ≡ T
 terms_move T s released v = v
 terms_move T s x v = rest_keeps (λ t. t.terms ≡ T) (λ t g q m c r y p. p) x s v
-
-pub listed_new : {T : Type 0} (h j : ℕ) (x : T) (l : List (Listed T)) → (j == h) ≡ false → listed h (issue j x l) ≡ listed h l
-unfolding listed issue
-listed_new h j x [] e = ap (λ (b : Bool). cond {A = ℕ} b 1 0 + 0) e
-listed_new h j x (r ∷ rs) e = ap (λ (n : ℕ). cond {A = ℕ} (r.handle == h) 1 0 + n) (listed_new h j x rs e)
 
 named_move : (T : Terms) (k : ObjectKind) (h : ℕ) (s : State) (o : Op) (m : Move) → IsMade s o m → Named T k h s → Named T k h (apply m s)
 named_move T k h s o m e v = record {

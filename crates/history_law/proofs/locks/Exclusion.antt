@@ -1,15 +1,16 @@
 -- Semaphores are held within their limits.
-use Rattle.history_law.proofs.Names.{◌≡◌, ℕ, zero, suc, ◌+◌, ◌<◌, ◌≤◌, Bool, true, false, List, [], ◌∷◌, Option, Some, None, refl, sym, ◌∙◌, ap, subst, arith, ◌==◌, ◌-◌, ◌&&◌, nat_lt, length, replicate, slice_index, slice_set, eqb-true, nat_tests, length-set, get_or-set_same, Terms, Op, Reply, Handle, live_object, listed, Sem, new_sem, total, sem_create_refusals, sem_delete_refusals, sem_unlock_refusals, sem_busy, sem_taken, sem_given, State, Sems, Allows, after_row, row, keyed_sems, NodeEntry, Legal, some_same, entries_that, is_handle, says_ok, looks_at_sem, unlocks_sem, gets_sem, gives_sem, by_seat, SemsKeepTo, limit_of, Legal-prefix}
+use Rattle.history_law.proofs.Names.{◌≡◌, ℕ, zero, suc, ◌+◌, ◌<◌, ◌≤◌, Bool, true, false, List, [], ◌∷◌, Option, Some, None, refl, sym, ◌∙◌, ap, subst, arith, ◌==◌, ◌-◌, ◌&&◌, nat_lt, length, replicate, slice_index, slice_set, eqb-true, nat_tests, length-set, get_or-set_same, Terms, Op, Reply, Handle, live_object, listed, Sem, new_sem, total, sem_busy, sem_taken, sem_given, State, NodeEntry, Legal, some_same, entries_that, says_ok, looks_at_sem, unlocks_sem, gets_sem, gives_sem, by_seat, SemsKeepTo, limit_of, Legal-prefix, Answers, Move, after_moves, and-false}
 use Rattle.mtapi_values.specs.declared.handles.ObjectKind.TheVariants as kind
 use Rattle.mtapi_machine.specs.declared.ops.Op.TheVariants as op
 use Rattle.history_law.specs.Words.{makes as makes_object}
 use Rattle.history_law.proofs.Answered.{true_false}
 use Rattle.history_law.proofs.lists.Counts.{one_if}
 use Rattle.history_law.proofs.lists.Handles.{OnceIn}
-use Rattle.history_law.proofs.locks.Locks.{Lock, LockStep, FitIn, count_in, has_in, as_step, step_same, on_look, on_unlock, on_delete, on_create, New, Kind, create_lists, look_misses, unlock_misses, none_got, counts_with, counts_any}
+use Rattle.history_law.proofs.locks.Locks.{Lock, LockStep, FitIn, count_in, has_in, as_step, step_same, step_quiet, step_gets, step_gives, step_leaves, step_beside, missed, New, new_lock, Kind, none_got, counts_with, counts_any}
+use Rattle.mtapi_machine.specs.Answers as is
+use Rattle.history_law.proofs.SeatMoves.{answer}
 use Rattle.history_law.proofs.lists.Slots.{set_apart}
-use Rattle.history_law.proofs.Unmoved.{live_stays}
-use Rattle.history_law.proofs.Reuse.{listed_same}
+use Rattle.history_law.proofs.Reuse.{fresh_unlisted, fresh_apart}
 
 -- Numbers in a list
 
@@ -97,37 +98,39 @@ left top who x n =
 in_bounds : (top : ℕ) (o : Option Sem) → FitIn (sem_lock top) o → count_in (sem_lock top) tt o ≤ top
 in_bounds top o e1 = grind (arith, nat_tests)
 
--- The ops on semaphores
+one_mode : (b : Bool) → ((b && true) && true) ≡ (b && true)
+one_mode b = grind (arith, nat_tests)
 
-one_mode : (b c : Bool) → ((b && true) && c) ≡ (b && c)
-one_mode b c = grind (arith, nat_tests)
+-- The answers on semaphores
 
-sem_step : (top h : ℕ) (s : State) (who : ℕ) (o : Op) (r : Reply) → Allows (row s who o r) r → who < 25 → OnceIn s.sems → 1 ≤ listed h s.sems → FitIn (sem_lock top) (live_object s.sems h)
-    → LockStep (sem_lock top) who (live_object s.sems h) (live_object (after_row s (row s who o r)).sems h) (λ m. looks_at_sem h o && says_ok r) (λ m. unlocks_sem h o && says_ok r)
-sem_step top h s who (op.SemLook x last) r a k o l fit =
-    as_step (sem_lock top) who _ _ _ _ _ _ (λ m. one_mode (x.0 == h) (says_ok r)) (λ m. refl) (on_look Sems (sem_lock top) s who h fit refl (λ m. true) x.0 last (λ v. []) sem_busy (sem_taken who) (λ v t u b. taken top who v k b t) r a)
-sem_step top h s who (op.SemUnlock x) r a k o l fit =
-    as_step (sem_lock top) who _ _ _ _ _ _ (λ m. refl) (λ m. one_mode (x.0 == h) (says_ok r)) (on_unlock Sems (sem_lock top) s who h fit refl (λ m. true) x.0 (sem_unlock_refusals who) (sem_given who) (λ v t u. given_back top who v k u.0 t) r a)
-sem_step top h s who (op.SemDelete x) r a k o l fit = on_delete Sems (sem_lock top) s who h fit refl x.0 sem_delete_refusals o (λ v u. left top who v u.0) r a
-sem_step top h s who q r a k o l fit = step_same (sem_lock top) who _ _ (live_stays Sems s (record { who = who; op = q; reply = r }) h (λ j f w. w) (λ j w. w) l) fit
+module _ (top h : ℕ) (s : State) (who : ℕ) (k : who < 25) (o : OnceIn s.sems) (l : 1 ≤ listed h s.sems) (fit : FitIn (sem_lock top) (live_object s.sems h)) where
+  sem_step : (p : Op) (r : Reply) (ms : List Move) → Answers s who p r ms
+      → LockStep (sem_lock top) who (live_object s.sems h) (live_object (after_moves ms s).sems h) (λ m. looks_at_sem h p && says_ok r) (λ m. unlocks_sem h p && says_ok r)
+  sem_step _ _ _ (is.refuses p x e) = step_quiet (sem_lock top) who _ (λ m. looks_at_sem h p) (λ m. unlocks_sem h p) fit
+  sem_step _ _ _ (is.refuses_caller p x e) = step_quiet (sem_lock top) who _ (λ m. looks_at_sem h p) (λ m. unlocks_sem h p) fit
+  sem_step _ _ _ (is.creates_sem id limit j e f) = step_beside (sem_lock top) who h j s.sems (new_sem id limit) (fresh_apart kind.Sem s h j l f) fit
+  sem_step _ _ _ (is.deletes_sem x v c) = step_leaves (sem_lock top) who h x.0 s.sems v c.found fit o (left top who v c.unmet.0)
+  sem_step _ _ _ (is.sem_early x v c b) = step_quiet (sem_lock top) who _ (λ m. x.0 == h) (λ m. false) fit
+  sem_step _ _ _ (is.sem_late x) = step_quiet (sem_lock top) who _ (λ m. x.0 == h) (λ m. false) fit
+  sem_step _ _ _ (is.takes_sem x last v c b) =
+      as_step (sem_lock top) who _ _ _ _ _ _ (λ m. one_mode (x.0 == h)) (λ m. refl) (step_gets (sem_lock top) who h x.0 s.sems v c.found fit (λ m. true) (sem_taken who) (taken top who v k b))
+  sem_step _ _ _ (is.gives_sem x v c) =
+      as_step (sem_lock top) who _ _ _ _ _ _ (λ m. refl) (λ m. one_mode (x.0 == h)) (step_gives (sem_lock top) who h x.0 s.sems v c.found fit (λ m. true) (sem_given who) (given_back top who v k c.unmet.0))
+  sem_step _ _ _ _ = step_same (sem_lock top) who _ fit
 
-sem_misses : (h : ℕ) (s : State) (who : ℕ) (o : Op) (r : Reply) → Allows (row s who o r) r → live_object s.sems h ≡ None → ((looks_at_sem h o && says_ok r) ≡ false) × ((unlocks_sem h o && says_ok r) ≡ false)
-sem_misses h s who (op.SemLook x last) r a n = (look_misses Sems s who h refl n x.0 last (λ v. []) sem_busy (sem_taken who) r a, refl)
-sem_misses h s who (op.SemUnlock x) r a n = (refl, unlock_misses Sems s who h refl n x.0 (sem_unlock_refusals who) (sem_given who) r a)
-sem_misses h s who _ r a n = (refl, refl)
+sem_misses : (h : ℕ) (s : State) (who : ℕ) (o : Op) (r : Reply) (ms : List Move) → live_object s.sems h ≡ None → Answers s who o r ms → ((looks_at_sem h o && says_ok r) ≡ false) × ((unlocks_sem h o && says_ok r) ≡ false)
+sem_misses h s who _ _ _ n (is.refuses o x e) = (and-false _, and-false _)
+sem_misses h s who _ _ _ n (is.refuses_caller o x e) = (and-false _, and-false _)
+sem_misses h s who _ _ _ n (is.sem_early x v c b) = (and-false _, refl)
+sem_misses h s who _ _ _ n (is.sem_late x) = (and-false _, refl)
+sem_misses h s who _ _ _ n (is.takes_sem x last v c b) = (ap (λ (b : Bool). b && true) (missed s.sems h x.0 v n c.found), refl)
+sem_misses h s who _ _ _ n (is.gives_sem x v c) = (refl, ap (λ (b : Bool). b && true) (missed s.sems h x.0 v n c.found))
+sem_misses h s who _ _ _ n _ = (refl, refl)
 
-make_sem : (top h : ℕ) (s : State) (who : ℕ) (o : Op) → makes_object kind.Sem o ≡ true → Allows (row s who o (Handle h)) (Handle h) → limit_of o ≡ Some top → New (sem_lock top) h (after_row s (row s who o (Handle h))).sems
-make_sem top h s who (op.SemCreate id limit) e a i = let v = on_create Sems keyed_sems s who h (sem_create_refusals limit) (new_sem id limit) (λ j. absurd (cc)) (λ j. absurd (cc)) a in record {
-  some = v.1;
-  fit = subst (FitIn (sem_lock top)) (sym v.0) (record { limit = some_same i; size = refl; most = omega arith });
-  none = λ m. ap (λ (p : Option Sem). count_in (sem_lock top) m p) v.0;
-  free = λ m w. ap (λ (p : Option Sem). has_in (sem_lock top) m w p) v.0 ∙ none_held 25 w;
-}
-make_sem top h s who _ e a i = true_false e refl
-
-unissued_sem : (h : ℕ) (s : State) (who : ℕ) (o : Op) (r : Reply) → Allows (row s who o r) r → (makes_object kind.Sem o && is_handle h r) ≡ false → listed h (after_row s (row s who o r)).sems ≡ listed h s.sems
-unissued_sem h s who (op.SemCreate id limit) r a n = create_lists Sems keyed_sems s who h (sem_create_refusals limit) (new_sem id limit) r n a
-unissued_sem h s who o r a n = listed_same kind.Sem h s (record { who = who; op = o; reply = r }) refl
+make_sem : (top h : ℕ) (s : State) (who : ℕ) (o : Op) (ms : List Move) → makes_object kind.Sem o ≡ true → Answers s who o (Handle h) ms → limit_of o ≡ Some top → New (sem_lock top) h (after_moves ms s).sems
+make_sem top h s who _ _ e (is.creates_sem id limit j n f) i =
+    new_lock (sem_lock top) h (new_sem id limit) s.sems (fresh_unlisted kind.Sem s h f) (record { limit = some_same i; size = refl; most = omega arith }) (λ m. refl) (λ m w. none_held 25 w)
+make_sem top h s who _ _ e _ i = true_false e refl
 
 sem_limited : (o : Op) → makes_object kind.Sem o ≡ true → (n : ℕ) × (limit_of o ≡ Some n)
 sem_limited (op.SemCreate id limit) e = (limit, refl)
@@ -137,10 +140,9 @@ sem_limited _ e = true_false e refl
 
 sem_kind : (h : ℕ) → Kind kind.Sem sem_lock (λ m. gets_sem h) (λ m. gives_sem h) h
 sem_kind h = record {
-  step = λ top s e i. sem_step top h s e.who e.op e.reply i.allowed;
+  step = λ top s e i k o l fit. sem_step top h s e.who k o l fit e.op e.reply _ (answer s e i);
   make = λ top. make_sem top h;
-  quiet = λ s e i n m. sem_misses h s e.who e.op e.reply i.allowed n;
-  unissued = λ s e i n. unissued_sem h s e.who e.op e.reply i.allowed n;
+  quiet = λ s e i n m. sem_misses h s e.who e.op e.reply _ n (answer s e i);
   limited = sem_limited;
 }
 

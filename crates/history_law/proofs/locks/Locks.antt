@@ -1,14 +1,12 @@
 -- Locks that seats get and give back: what each entry does to one, and so every list of entries. A kind of lock says what is counted of it.
-use Rattle.history_law.proofs.Names.{nat_tests, ◌≡◌, ℕ, ◌+◌, ◌<◌, ◌≤◌, Bool, true, false, List, [], ◌∷◌, ◌++◌, Option, Some, None, refl, sym, ◌∙◌, ap, subst, arith, zero, suc, ◌==◌, ◌&&◌, eqb-true, MrapiStatus, Listed, live_object, listed, issue, change, with_fields, gone, Reply, Ok, Handle, Pending, Mrapi, Terms, State, FieldsOf, objects_of, opening, seats, Move, Sort, Fields, all_of, is_fresh, makes, alters, removes, after_moves, Row, Allows, after_row, handle_of, Keyed, mrapi, mrapi_open, mrapi_unless, creates_keyed, alters_one, looks_one, deletes, NodeEntry, IsNext, next, LegalFrom, Legal, after_from, after, Legal-front, Legal-rest, at-update, entries_that, some_entry, is_handle, issues, says_ok, by_seat, limit_of, MadeWith, ObjectKind, Op, row, fst_true, along, sort_at}
-use Rattle.mtapi_values.specs.declared.statuses.MrapiStatus.TheVariants as c
+use Rattle.history_law.proofs.Names.{nat_tests, ◌≡◌, ℕ, ◌+◌, ◌<◌, ◌≤◌, Bool, true, false, List, [], ◌∷◌, ◌++◌, Option, Some, None, refl, sym, ◌∙◌, ap, subst, arith, zero, suc, ◌==◌, ◌&&◌, Listed, live_object, listed, issue, change, with_fields, gone, Handle, Terms, State, FieldsOf, objects_of, opening, seats, Move, after_moves, NodeEntry, IsNext, next, LegalFrom, Legal, after_from, after, Legal-front, Legal-rest, entries_that, some_entry, issues, by_seat, limit_of, MadeWith, ObjectKind, Op, fst_true, along, Answers, and-false}
 use Rattle.history_law.specs.Words.{makes as makes_object}
 use Rattle.history_law.proofs.Accepted.{stands_after}
-use Rattle.history_law.proofs.lists.AtHandles.{at_change_other, at_issue_here, at_retired, at_unlisted}
+use Rattle.history_law.proofs.lists.AtHandles.{at_unlisted, at_issue_here, at_issue_other, where_changed, where_retired}
 use Rattle.history_law.proofs.lists.Counts.{one_if, counts_along, counts_behind, passes}
 use Rattle.history_law.proofs.lists.Handles.{OnceIn, some_issued}
-use Rattle.history_law.proofs.Reuse.{terms_next, unlisted_if, Listed1, listed_move, listed_new, none_times, fresh_unlisted, issues_fresh, issued_as, ListsIssued, none_listed}
-use Rattle.history_law.proofs.RowReplies.{said, Unmet, says_only, says_unless, says_look, says_alter, says_delete}
-use Rattle.history_law.proofs.Answered.{whether, on_test}
+use Rattle.history_law.proofs.Reuse.{terms_next, Listed1, listed_move, none_times, fresh_unlisted, issues_fresh, issued_as, none_listed}
+use Rattle.mtapi_machine.proofs.Answered.{answered}
 use Rattle.history_law.proofs.OnceIssued.{once_move, once_next, listed_next}
 
 -- what always holds of a lock, how often it is held in a mode, and how often by one seat
@@ -16,6 +14,10 @@ pub record Lock (M T : Type 0) : Type 1 where
   pub Fit : T → Type 0
   pub count : M → T → ℕ
   pub has : M → ℕ → T → ℕ
+
+pub and-true : (b : Bool) → (b && true) ≡ b
+and-true true = refl
+and-true false = refl
 
 module _ {M T : Type 0} (K : Lock M T) where
   abbrev pub FitIn : Option T → Type 0
@@ -44,14 +46,37 @@ module _ {M T : Type 0} (K : Lock M T) where
         (subst (λ (b : Bool). has_in m z p + one_if ((who == z) && b) ≡ has_in m z o + one_if ((who == z) && v m)) (j m) (t.each m z));
   }
 
-  pub step_same : (who : ℕ) (o p : Option T) → p ≡ o → FitIn o → LockStep who o p (λ m. false) (λ m. false)
-  step_same who o p e f = subst (λ (q : Option T). LockStep who o q (λ m. false) (λ m. false)) (sym e) (record { fit = f; all = λ m. refl; each = λ m w. refl })
+  pub step_same : (who : ℕ) (o : Option T) → FitIn o → LockStep who o o (λ m. false) (λ m. false)
+  step_same who o f = record { fit = f; all = λ m. refl; each = λ m w. refl }
+
+  pub step_quiet : (who : ℕ) (o : Option T) (x y : M → Bool) → FitIn o → LockStep who o o (λ m. x m && false) (λ m. y m && false)
+  step_quiet who o x y f = as_step who o o _ _ (λ m. false) (λ m. false) (λ m. sym (and-false (x m))) (λ m. sym (and-false (y m))) (step_same who o f)
+
+  -- the lock of the handle j changes, where it was v, or leaves: another one stays
+  module _ (who h j : ℕ) (l : List (Listed T)) (v : T) (e : live_object l j ≡ Some v) (fit : FitIn (live_object l h)) where
+    pub step_gets : (x : M → Bool) (f : T → T) → (K.Fit v → LockStep who (Some v) (Some (f v)) x (λ m. false)) → LockStep who (live_object l h) (live_object (change j (with_fields f) l) h) (λ m. ((j == h) && x m) && true) (λ m. false)
+    step_gets x f g =
+        where_changed (λ c o p. FitIn o → LockStep who o p (λ m. (c && x m) && true) (λ m. false)) j h l (step_same who) f v e
+        (λ t. as_step who _ _ _ _ x (λ m. false) (λ m. sym (and-true (x m))) (λ m. refl) (g t)) fit
+
+    pub step_gives : (y : M → Bool) (f : T → T) → (K.Fit v → LockStep who (Some v) (Some (f v)) (λ m. false) y) → LockStep who (live_object l h) (live_object (change j (with_fields f) l) h) (λ m. false) (λ m. ((j == h) && y m) && true)
+    step_gives y f g =
+        where_changed (λ c o p. FitIn o → LockStep who o p (λ m. false) (λ m. (c && y m) && true)) j h l (step_same who) f v e
+        (λ t. as_step who _ _ _ _ (λ m. false) y (λ m. refl) (λ m. sym (and-true (y m))) (g t)) fit
+
+    pub step_leaves : OnceIn l → LockStep who (Some v) None (λ m. false) (λ m. false) → LockStep who (live_object l h) (live_object (change j gone l) h) (λ m. false) (λ m. false)
+    step_leaves o g = where_retired (λ c o p. FitIn o → LockStep who o p (λ m. false) (λ m. false)) j h l (step_same who) v o e (λ t. g) fit
+
+  -- a new lock beside it
+  pub step_beside : (who h j : ℕ) (l : List (Listed T)) (v : T) → (j == h) ≡ false → FitIn (live_object l h) → LockStep who (live_object l h) (live_object (issue j v l) h) (λ m. false) (λ m. false)
+  step_beside who h j l v n f = subst (λ (q : Option T). LockStep who (live_object l h) q (λ m. false) (λ m. false)) (sym (at_issue_other j h v l n)) (step_same who (live_object l h) f)
 
 off : (b c : Bool) → c ≡ false → false ≡ (b && c)
 off b c e1 = grind (arith, nat_tests)
 
-never_so : (b c : Bool) → ((b && false) && c) ≡ false
-never_so b c = grind (arith, nat_tests)
+-- no look gets a lock that isn't there, and nothing gives it back
+pub missed : {T : Type 0} (l : List (Listed T)) (h j : ℕ) (v : T) → live_object l h ≡ None → live_object l j ≡ Some v → (j == h) ≡ false
+missed l h j v e1 e2 = grind (arith, nat_tests)
 
 -- There are at most 25 seats
 
@@ -65,118 +90,6 @@ seats_after terms L l =
     let d : terms.callers ≤ 9 = l.fits.callers in
     let n : terms.settings.workers + terms.callers ≤ 25 = omega arith in
     subst (λ (t : Terms). t.settings.workers + t.callers ≤ 25) (sym same) n
-
--- The rows of a kind of lock
-
-module _ (k : Sort) {M : Type 0} (K : Lock M (Fields k)) (s : State) (who h : ℕ) (fit : FitIn K (live_object ((all_of k).list s) h)) (invalid : says_ok (all_of k).invalid ≡ false) where
-  abbrev Step : List (Listed (Fields k)) → (M → Bool) → (M → Bool) → Type 0
-  Step l x y = LockStep K who (live_object ((all_of k).list s) h) (live_object l h) x y
-
-  abbrev After : (M → Bool) → (M → Bool) → Reply → List Move → Type 0
-  After x y r ms = Step ((all_of k).list (after_moves ms s)) (λ m. x m && says_ok r) (λ m. y m && says_ok r)
-
-  refused : (x y : M → Bool) (r : Reply) → says_ok r ≡ false → After x y r []
-  refused x y r e = as_step K who _ _ _ _ (λ m. false) (λ m. false) (λ m. off (x m) (says_ok r) e) (λ m. off (y m) (says_ok r) e) (step_same K who _ _ refl fit)
-
-  -- the lock of the handle j changes, where it was v; another one stays
-  hit : (x y : M → Bool) (j : ℕ) (f : Fields k → Fields k) (v : Fields k) → live_object ((all_of k).list s) j ≡ Some v → (K.Fit v → LockStep K who (Some v) (Some (f v)) x y) → After (λ m. (j == h) && x m) (λ m. (j == h) && y m) Ok (alters k j f ∷ [])
-  hit x y j f v e g = subst (λ (l : List (Listed (Fields k))). Step l (λ m. ((j == h) && x m) && true) (λ m. ((j == h) && y m) && true)) (sym (sort_at k _ s)) (on_test (λ b. Step (change j (with_fields f) ((all_of k).list s)) (λ m. (b && x m) && true) (λ m. (b && y m) && true)) (j == h)
-      (λ i.
-      let same : j ≡ h = eqb-true j h i in
-      let was : live_object ((all_of k).list s) h ≡ Some v = ap (live_object ((all_of k).list s)) (sym same) ∙ e in
-      let now : live_object (change j (with_fields f) ((all_of k).list s)) h ≡ Some (f v) = ap (live_object (change j (with_fields f) ((all_of k).list s))) (sym same) ∙ at-update j f v ((all_of k).list s) e in
-      subst (λ (q : Option (Fields k)). LockStep K who q (live_object (change j (with_fields f) ((all_of k).list s)) h) (λ m. x m && true) (λ m. y m && true)) (sym was) (subst (λ (q : Option (Fields k)). LockStep K who (Some v) q (λ m. x m && true) (λ m. y m && true)) (sym now) (as_step K who _ _ _ _ x y (λ m. last (x m)) (λ m. last (y m)) (g (subst (FitIn K) was fit)))))
-      (λ i. step_same K who _ _ (at_change_other j h (with_fields f) ((all_of k).list s) (λ r. refl) i) fit))
-    where
-      last : (b : Bool) → b ≡ (b && true)
-      last true = refl
-      last false = refl
-
-  left : (j : ℕ) (v : Fields k) → OnceIn ((all_of k).list s) → live_object ((all_of k).list s) j ≡ Some v → LockStep K who (Some v) None (λ m. false) (λ m. false) → After (λ m. false) (λ m. false) Ok (removes k j ∷ [])
-  left j v o e g = subst (λ (l : List (Listed (Fields k))). Step l (λ m. false) (λ m. false)) (sym (sort_at k _ s)) (whether (j == h)
-      (λ i.
-      let same : j ≡ h = eqb-true j h i in
-      subst (λ (q : Option (Fields k)). LockStep K who q (live_object (change j gone ((all_of k).list s)) h) (λ m. false) (λ m. false)) (sym (ap (live_object ((all_of k).list s)) (sym same) ∙ e)) (subst (λ (q : Option (Fields k)). LockStep K who (Some v) q (λ m. false) (λ m. false)) (sym (ap (live_object (change j gone ((all_of k).list s))) (sym same) ∙ at_retired j ((all_of k).list s) o)) g))
-      (λ i. step_same K who _ _ (at_change_other j h gone ((all_of k).list s) (λ r. refl) i) fit))
-
-  abbrev Does : Row → (Reply → M → Bool) → (Reply → M → Bool) → Type 0
-  Does w x y = (r : Reply) → Allows w r → Step ((all_of k).list (after_row s w)) (x r) (y r)
-
-  pub on_look : (x : M → Bool) (j : ℕ) (last : Bool) (causes : Fields k → List (Bool × MrapiStatus)) (busy : Fields k → Bool) (f : Fields k → Fields k)
-      → ((v : Fields k) → K.Fit v → Unmet (causes v) → busy v ≡ false → LockStep K who (Some v) (Some (f v)) x (λ m. false))
-      → Does (mrapi s who (looks_one k s j last causes busy (λ v. Ok) f)) (λ r m. ((j == h) && x m) && says_ok r) (λ r m. false)
-  on_look x j last causes busy f g r a =
-      let Q : Reply → List Move → Type 0 = After (λ m. (j == h) && x m) (λ m. (j == h) && false) in
-      let no : (z : Reply) → says_ok z ≡ false → Q z [] = refused (λ m. (j == h) && x m) (λ m. (j == h) && false) in
-      as_step K who _ _ _ _ (λ m. ((j == h) && x m) && says_ok r) (λ m. ((j == h) && false) && says_ok r) (λ m. refl) (λ m. never_so (j == h) (says_ok r))
-      (said Q (mrapi s who (looks_one k s j last causes busy (λ v. Ok) f)) r
-      (says_look Q (λ z. no (Mrapi z) refl) k s who j last causes busy (λ v. Ok) f (no (all_of k).invalid invalid) (no Pending refl) (λ v b e u n. hit x (λ m. false) j f v e (λ t. g v t u n))) a)
-
-  pub on_unlock : (y : M → Bool) (j : ℕ) (causes : Fields k → List (Bool × MrapiStatus)) (f : Fields k → Fields k) → ((v : Fields k) → K.Fit v → Unmet (causes v) → LockStep K who (Some v) (Some (f v)) (λ m. false) y)
-      → Does (mrapi s who (alters_one k s j causes (λ v. Ok) f)) (λ r m. false) (λ r m. ((j == h) && y m) && says_ok r)
-  on_unlock y j causes f g r a =
-      let Q : Reply → List Move → Type 0 = After (λ m. (j == h) && false) (λ m. (j == h) && y m) in
-      let no : (z : Reply) → says_ok z ≡ false → Q z [] = refused (λ m. (j == h) && false) (λ m. (j == h) && y m) in
-      as_step K who _ _ _ _ (λ m. ((j == h) && false) && says_ok r) (λ m. ((j == h) && y m) && says_ok r) (λ m. never_so (j == h) (says_ok r)) (λ m. refl)
-      (said Q (mrapi s who (alters_one k s j causes (λ v. Ok) f)) r
-      (says_alter Q (λ z. no (Mrapi z) refl) k s who j causes (λ v. Ok) f (no (all_of k).invalid invalid) (λ v b e u. hit (λ m. false) y j f v e (λ t. g v t u))) a)
-
-  pub on_delete : (j : ℕ) (causes : Fields k → List (Bool × MrapiStatus)) → OnceIn ((all_of k).list s) → ((v : Fields k) → Unmet (causes v) → LockStep K who (Some v) None (λ m. false) (λ m. false))
-      → Does (mrapi_open s who (deletes k s j causes)) (λ r m. false) (λ r m. false)
-  on_delete j causes o g r a =
-      let Q : Reply → List Move → Type 0 = After (λ m. false) (λ m. false) in
-      let no : (z : Reply) → says_ok z ≡ false → Q z [] = refused (λ m. false) (λ m. false) in
-      said Q (mrapi_open s who (deletes k s j causes)) r (says_delete Q (λ z. no (Mrapi z) refl) k s who j causes (no (all_of k).invalid invalid) (λ v e u. left j v o e (g v u))) a
-
--- A new lock
-
-abbrev Made : (k : Sort) → ℕ → Fields k → State → Type 0
-Made k h x t = (live_object ((all_of k).list t) h ≡ Some x) × (1 ≤ listed h ((all_of k).list t))
-
--- a create that answers with a handle has made it
-pub on_create : (k : Sort) (key : Keyed k) (s : State) (who h : ℕ) (causes : List (Bool × MrapiStatus)) (x : Fields k) → (key.exists ≡ Handle h → ⊥) → ((all_of k).limit ≡ Handle h → ⊥)
-    → Allows (mrapi_open s who (mrapi_unless causes (creates_keyed key s (Handle h) x))) (Handle h) → Made k h x (after_row s (mrapi_open s who (mrapi_unless causes (creates_keyed key s (Handle h) x))))
-on_create k key s who h causes x a b l =
-    let Q : Reply → List Move → Type 0 = λ r ms. r ≡ Handle h → Made k h x (after_moves ms s) in
-    let no : (z : MrapiStatus) → Q (Mrapi z) [] = λ z e. absurd (cc) in
-    let made : is_fresh (all_of k) s h ≡ true → Q (Handle h) (makes k h x ∷ []) = λ e i.
-    subst (λ (l : List (Listed (Fields k))). (live_object l h ≡ Some x) × (1 ≤ listed h l)) (sym (sort_at k (issue h x ((all_of k).list s)) s))
-    (at_issue_here h x ((all_of k).list s) (unlisted_if (all_of k) s h e), some_issued h x ((all_of k).list s)) in
-    said Q (mrapi_open s who (mrapi_unless causes (creates_keyed key s (Handle h) x))) (Handle h) (
-      no c.ErrNodeNotinit,
-      λ d. (
-        no c.ErrParameter,
-        λ e. says_unless Q no causes (creates_keyed key s (Handle h) x) (λ u.
-            ((λ i. absurd (a i)), λ f. ((λ i. absurd (b i)), λ g. says_only Q (is_fresh (all_of k) s h) (Handle h) (makes k h x ∷ []) made))),
-      ),
-    ) l refl
-
--- a create lists no handle but the one that it answers with
-pub create_lists : (k : Sort) (key : Keyed k) (s : State) (who h : ℕ) (causes : List (Bool × MrapiStatus)) (x : Fields k) (r : Reply) → is_handle h r ≡ false → Allows (mrapi_open s who (mrapi_unless causes (creates_keyed key s r x))) r
-    → listed h ((all_of k).list (after_row s (mrapi_open s who (mrapi_unless causes (creates_keyed key s r x))))) ≡ listed h ((all_of k).list s)
-create_lists k key s who h causes x r n a =
-    let Q : Reply → List Move → Type 0 = λ z ms. is_handle h z ≡ false → listed h ((all_of k).list (after_moves ms s)) ≡ listed h ((all_of k).list s) in
-    said Q (mrapi_open s who (mrapi_unless causes (creates_keyed key s r x))) r (
-      (λ i. refl),
-      λ c. (
-        (λ i. refl),
-        λ d. says_unless Q (λ z i. refl) causes (creates_keyed key s r x) (λ u.
-            ((λ i. refl), λ e. ((λ i. refl), λ f. says_only Q (is_fresh (all_of k) s (handle_of r)) (Handle (handle_of r)) (makes k (handle_of r) x ∷ []) (λ g i. ap (listed h) (sort_at k _ s) ∙ listed_new h (handle_of r) x _ i)))),
-      ),
-    ) a n
-
--- No look gets a lock that isn't there, and nothing gives it back
-
-module _ (k : Sort) (s : State) (who h : ℕ) (invalid : says_ok (all_of k).invalid ≡ false) (none : live_object ((all_of k).list s) h ≡ None) where
-  pub look_misses : (j : ℕ) (last : Bool) (causes : Fields k → List (Bool × MrapiStatus)) (busy : Fields k → Bool) (f : Fields k → Fields k) (r : Reply) → Allows (mrapi s who (looks_one k s j last causes busy (λ v. Ok) f)) r → ((j == h) && says_ok r) ≡ false
-  look_misses j last causes busy f r e1 = grind (arith, nat_tests)
-
-  pub unlock_misses : (j : ℕ) (causes : Fields k → List (Bool × MrapiStatus)) (f : Fields k → Fields k) (r : Reply) → Allows (mrapi s who (alters_one k s j causes (λ v. Ok) f)) r → ((j == h) && says_ok r) ≡ false
-  unlock_misses j causes f r e1 = grind (arith, nat_tests)
-
--- in a mode it is missed too
-pub missed_in : (a b c : Bool) → (a && c) ≡ false → ((a && b) && c) ≡ false
-missed_in a b c e1 = grind (arith, nat_tests)
 
 -- Along the entries
 
@@ -193,6 +106,15 @@ module _ {M T : Type 0} (K : Lock M T) where
     pub all : (m : M) → entries_that (gives m) L + count_in K m p ≡ entries_that (gets m) L
     pub each : (m : M) (w : ℕ) → entries_that (by_seat w (gives m)) L + has_in K m w p ≡ entries_that (by_seat w (gets m)) L
 
+  -- under a handle that was fresh
+  pub new_lock : (h : ℕ) (x : T) (l : List (Listed T)) → listed h l ≡ 0 → K.Fit x → ((m : M) → K.count m x ≡ 0) → ((m : M) (w : ℕ) → K.has m w x ≡ 0) → New h (issue h x l)
+  new_lock h x l u f n z = let e : live_object (issue h x l) h ≡ Some x = at_issue_here h x l u in record {
+    some = some_issued h x l;
+    fit = subst (FitIn K) (sym e) f;
+    none = λ m. ap (count_in K m) e ∙ n m;
+    free = λ m w. ap (has_in K m w) e ∙ z m w;
+  }
+
 module _ (k : ObjectKind) {M : Type 0} (K : ℕ → Lock M (FieldsOf k)) (gets gives : M → NodeEntry → Bool) (h : ℕ) where
   abbrev l : State → List (Listed (FieldsOf k))
   l s = (objects_of k).list s
@@ -201,9 +123,8 @@ module _ (k : ObjectKind) {M : Type 0} (K : ℕ → Lock M (FieldsOf k)) (gets g
   pub record Kind : Type 0 where
     pub step : (top : ℕ) (s : State) (e : NodeEntry) → IsNext s e → e.who < 25 → OnceIn (l s) → 1 ≤ listed h (l s) → FitIn (K top) (live_object (l s) h)
         → LockStep (K top) e.who (live_object (l s) h) (live_object (l (next s e)) h) (λ m. gets m e) (λ m. gives m e)
-    pub make : (top : ℕ) (s : State) (who : ℕ) (o : Op) → makes_object k o ≡ true → Allows (row s who o (Handle h)) (Handle h) → limit_of o ≡ Some top → New (K top) h (l (after_row s (row s who o (Handle h))))
+    pub make : (top : ℕ) (s : State) (who : ℕ) (o : Op) (ms : List Move) → makes_object k o ≡ true → Answers s who o (Handle h) ms → limit_of o ≡ Some top → New (K top) h (l (after_moves ms s))
     pub quiet : (s : State) (e : NodeEntry) → IsNext s e → live_object (l s) h ≡ None → (m : M) → (gets m e ≡ false) × (gives m e ≡ false)
-    pub unissued : ListsIssued k h
     pub limited : (o : Op) → makes_object k o ≡ true → (n : ℕ) × (limit_of o ≡ Some n)
 
   module _ (c : Kind) where
@@ -242,7 +163,7 @@ module _ (k : ObjectKind) {M : Type 0} (K : ℕ → Lock M (FieldsOf k)) (gets g
         unlisted (suc n) i = let some : 1 ≤ listed h (l (after_from (next s e) es)) = stays (omega arith) in absurd (omega arith)
 
     unmade : (terms : Terms) (L : List NodeEntry) → Legal terms L → some_entry (issues k h) L ≡ false → (p : NodeEntry → Bool) → Needs p → entries_that p L ≡ 0
-    unmade terms L legal n p q = none_counted p q (opening terms) L legal.from (none_listed k h c.unissued (opening terms) L legal.from (none_times k h terms) n)
+    unmade terms L legal n p q = none_counted p q (opening terms) L legal.from (none_listed k h (opening terms) L legal.from (none_times k h terms) n)
 
     pub none_got : (terms : Terms) (L : List NodeEntry) → Legal terms L → some_entry (issues k h) L ≡ false → (m : M) → entries_that (gets m) L ≡ 0
     none_got terms L legal n m = unmade terms L legal n (gets m) (λ s e i v. (c.quiet s e i v m).0)
@@ -253,7 +174,7 @@ module _ (k : ObjectKind) {M : Type 0} (K : ℕ → Lock M (FieldsOf k)) (gets g
     counts_made terms A B e top legal i limit =
         let rest : LegalFrom (after terms A) (e ∷ B) = Legal-rest (opening terms) A (e ∷ B) legal.from in
         let now : State = next (after terms A) e in
-        let made : New (K top) h (l now) = issued_as k h (after terms A) (λ o t. limit_of o ≡ Some top → New (K top) h (l t)) (λ who o y a z. c.make top (after terms A) who o y a z) e rest.0 i limit in
+        let made : New (K top) h (l now) = issued_as k h (after terms A) (λ o t. limit_of o ≡ Some top → New (K top) h (l t)) (λ who o y a. c.make top (after terms A) who o _ y (answered (after terms A) who o (Handle h) a)) e rest.0 i limit in
         let front : LegalFrom (opening terms) A = Legal-front (opening terms) A (e ∷ B) legal.from in
         let zero_there : listed h (l (after terms A)) ≡ 0 = fresh_unlisted k (after terms A) h (issues_fresh k (after terms A) e h rest.0 i) in
         let once : OnceIn (l (after terms A)) = along (λ t. OnceIn (l t)) (once_move k) (opening terms) A (λ j. let z : listed j (l (opening terms)) ≡ 0 = none_times k j terms in omega arith) in

@@ -12,11 +12,12 @@ use Rattle.history_law.proofs.locks.Mutexes.{Step, stays, made, taken, given as 
 
 -- The ops on mutexes, and the two of tallies
 
-abbrev is_end_op : Op → Bool
+-- the op ends a tally
+abbrev pub is_end_op : Op → Bool
 is_end_op (op.TallyEnd t) = true
 is_end_op _ = false
 
--- the entry ends a tally
+-- it is answered with an end
 abbrev pub is_ending : Op → Reply → Bool
 is_ending o r = says_end r && is_end_op o
 

@@ -1,44 +1,45 @@
 -- What each entry does to a reader-writer lock, and so every list of entries.
-use Rattle.history_law.proofs.Names.{nat_tests, ◌≡◌, ℕ, ◌+◌, ◌<◌, ◌≤◌, Bool, true, false, List, Option, Some, None, ◌⊎◌, inl, inr, refl, sym, ◌∙◌, ap, subst, arith, ◌&&◌, is_some, ◌==◌, Terms, Op, Reply, Handle, live_object, listed, Rwl, new_rwl, rwl_create_refusals, rwl_delete_refusals, rwl_look_refusals, rwl_unlock_refusals, rwl_busy, rwl_taken, rwl_given, State, Rwls, Allows, after_row, row, keyed_rwls, NodeEntry, Legal, not_false, some_same, entries_that, is_handle, says_ok, by_seat, looks_at_rwl, unlocks_rwl, gets_rwl, gives_rwl, OneWriter, ReadersAlone, RwlsKeepTo, limit_of, Legal-prefix}
+use Rattle.history_law.proofs.Names.{nat_tests, ◌≡◌, ℕ, ◌+◌, ◌<◌, ◌≤◌, Bool, true, false, List, Option, Some, None, ◌⊎◌, inl, inr, refl, ap, subst, arith, ◌&&◌, is_some, ◌==◌, Terms, Op, Reply, Handle, live_object, listed, Rwl, new_rwl, rwl_taken, rwl_given, State, NodeEntry, Legal, not_false, some_same, entries_that, says_ok, by_seat, looks_at_rwl, unlocks_rwl, gets_rwl, gives_rwl, OneWriter, ReadersAlone, RwlsKeepTo, limit_of, Legal-prefix, Answers, Move, after_moves, and-false}
 use Rattle.mtapi_values.specs.declared.handles.ObjectKind.TheVariants as kind
 use Rattle.mtapi_machine.specs.declared.ops.Op.TheVariants as op
 use Rattle.history_law.specs.Words.{makes as makes_object}
 use Rattle.history_law.proofs.Answered.{true_false, whether}
 use Rattle.history_law.proofs.lists.Counts.{one_if}
 use Rattle.history_law.proofs.lists.Handles.{OnceIn}
-use Rattle.history_law.proofs.locks.Locks.{LockStep, FitIn, count_in, has_in, step_same, on_look, on_unlock, on_delete, on_create, New, Counts, Kind, create_lists, look_misses, unlock_misses, none_got, counts_with, counts_any, missed_in}
+use Rattle.history_law.proofs.locks.Locks.{LockStep, FitIn, count_in, has_in, step_same, step_quiet, step_gets, step_gives, step_leaves, step_beside, missed, New, new_lock, Counts, Kind, none_got, counts_with, counts_any}
+use Rattle.mtapi_machine.specs.Answers as is
+use Rattle.history_law.proofs.SeatMoves.{answer}
 use Rattle.history_law.proofs.locks.Rwls.{Fit, rwl_lock, in_mode, get_step, give_step, leave_step, new_fit, new_free}
-use Rattle.history_law.proofs.Unmoved.{live_stays}
-use Rattle.history_law.proofs.Reuse.{listed_same}
+use Rattle.history_law.proofs.Reuse.{fresh_unlisted, fresh_apart}
 
--- The ops on reader-writer locks
+-- The answers on reader-writer locks
 
-rwl_step : (top h : ℕ) (s : State) (who : ℕ) (o : Op) (r : Reply) → Allows (row s who o r) r → who < 25 → OnceIn s.rwls → 1 ≤ listed h s.rwls → FitIn (rwl_lock top) (live_object s.rwls h)
-    → LockStep (rwl_lock top) who (live_object s.rwls h) (live_object (after_row s (row s who o r)).rwls h) (λ m. looks_at_rwl h m o && says_ok r) (λ m. unlocks_rwl h m o && says_ok r)
-rwl_step top h s who (op.RwlLook x writer last) r a k o l fit =
-    on_look Rwls (rwl_lock top) s who h fit refl (λ m. in_mode m writer) x.0 last (rwl_look_refusals who) (rwl_busy writer) (rwl_taken who writer) (λ v t u b. get_step top who writer v t k u.0 b) r a
-rwl_step top h s who (op.RwlUnlock x writer) r a k o l fit =
-    on_unlock Rwls (rwl_lock top) s who h fit refl (λ m. in_mode m writer) x.0 (rwl_unlock_refusals who writer) (rwl_given who writer) (λ v t u. give_step top who writer v t (not_false _ u.0)) r a
-rwl_step top h s who (op.RwlDelete x) r a k o l fit = on_delete Rwls (rwl_lock top) s who h fit refl x.0 rwl_delete_refusals o (λ v u. leave_step top who v u.0) r a
-rwl_step top h s who q r a k o l fit = step_same (rwl_lock top) who _ _ (live_stays Rwls s (record { who = who; op = q; reply = r }) h (λ j f w. w) (λ j w. w) l) fit
+module _ (top h : ℕ) (s : State) (who : ℕ) (k : who < 25) (o : OnceIn s.rwls) (l : 1 ≤ listed h s.rwls) (fit : FitIn (rwl_lock top) (live_object s.rwls h)) where
+  rwl_step : (p : Op) (r : Reply) (ms : List Move) → Answers s who p r ms
+      → LockStep (rwl_lock top) who (live_object s.rwls h) (live_object (after_moves ms s).rwls h) (λ m. looks_at_rwl h m p && says_ok r) (λ m. unlocks_rwl h m p && says_ok r)
+  rwl_step _ _ _ (is.refuses p x e) = step_quiet (rwl_lock top) who _ (λ m. looks_at_rwl h m p) (λ m. unlocks_rwl h m p) fit
+  rwl_step _ _ _ (is.refuses_caller p x e) = step_quiet (rwl_lock top) who _ (λ m. looks_at_rwl h m p) (λ m. unlocks_rwl h m p) fit
+  rwl_step _ _ _ (is.creates_rwl id limit j e f) = step_beside (rwl_lock top) who h j s.rwls (new_rwl id limit) (fresh_apart kind.Rwl s h j l f) fit
+  rwl_step _ _ _ (is.deletes_rwl x v c) = step_leaves (rwl_lock top) who h x.0 s.rwls v c.found fit o (leave_step top who v c.unmet.0)
+  rwl_step _ _ _ (is.rwl_early x writer v c b) = step_quiet (rwl_lock top) who _ (λ m. (x.0 == h) && in_mode m writer) (λ m. false) fit
+  rwl_step _ _ _ (is.rwl_late x writer) = step_quiet (rwl_lock top) who _ (λ m. (x.0 == h) && in_mode m writer) (λ m. false) fit
+  rwl_step _ _ _ (is.takes_rwl x writer last v c b) = step_gets (rwl_lock top) who h x.0 s.rwls v c.found fit (λ m. in_mode m writer) (rwl_taken who writer) (λ t. get_step top who writer v t k c.unmet.0 b)
+  rwl_step _ _ _ (is.gives_rwl x writer v c) = step_gives (rwl_lock top) who h x.0 s.rwls v c.found fit (λ m. in_mode m writer) (rwl_given who writer) (λ t. give_step top who writer v t (not_false _ c.unmet.0))
+  rwl_step _ _ _ _ = step_same (rwl_lock top) who _ fit
 
-rwl_misses : (h : ℕ) (m : Bool) (s : State) (who : ℕ) (o : Op) (r : Reply) → Allows (row s who o r) r → live_object s.rwls h ≡ None → ((looks_at_rwl h m o && says_ok r) ≡ false) × ((unlocks_rwl h m o && says_ok r) ≡ false)
-rwl_misses h m s who (op.RwlLook x writer last) r a n = (missed_in (x.0 == h) _ _ (look_misses Rwls s who h refl n x.0 last (rwl_look_refusals who) (rwl_busy writer) (rwl_taken who writer) r a), refl)
-rwl_misses h m s who (op.RwlUnlock x writer) r a n = (refl, missed_in (x.0 == h) _ _ (unlock_misses Rwls s who h refl n x.0 (rwl_unlock_refusals who writer) (rwl_given who writer) r a))
-rwl_misses h m s who _ r a n = (refl, refl)
+rwl_misses : (h : ℕ) (m : Bool) (s : State) (who : ℕ) (o : Op) (r : Reply) (ms : List Move) → live_object s.rwls h ≡ None → Answers s who o r ms → ((looks_at_rwl h m o && says_ok r) ≡ false) × ((unlocks_rwl h m o && says_ok r) ≡ false)
+rwl_misses h m s who _ _ _ n (is.refuses o x e) = (and-false _, and-false _)
+rwl_misses h m s who _ _ _ n (is.refuses_caller o x e) = (and-false _, and-false _)
+rwl_misses h m s who _ _ _ n (is.rwl_early x writer v c b) = (and-false _, refl)
+rwl_misses h m s who _ _ _ n (is.rwl_late x writer) = (and-false _, refl)
+rwl_misses h m s who _ _ _ n (is.takes_rwl x writer last v c b) = (ap (λ (b : Bool). (b && in_mode m writer) && true) (missed s.rwls h x.0 v n c.found), refl)
+rwl_misses h m s who _ _ _ n (is.gives_rwl x writer v c) = (refl, ap (λ (b : Bool). (b && in_mode m writer) && true) (missed s.rwls h x.0 v n c.found))
+rwl_misses h m s who _ _ _ n _ = (refl, refl)
 
-make_rwl : (top h : ℕ) (s : State) (who : ℕ) (o : Op) → makes_object kind.Rwl o ≡ true → Allows (row s who o (Handle h)) (Handle h) → limit_of o ≡ Some top → New (rwl_lock top) h (after_row s (row s who o (Handle h))).rwls
-make_rwl top h s who (op.RwlCreate id limit) e a i = let v = on_create Rwls keyed_rwls s who h (rwl_create_refusals limit) (new_rwl id limit) (λ j. absurd (cc)) (λ j. absurd (cc)) a in record {
-  some = v.1;
-  fit = subst (FitIn (rwl_lock top)) (sym v.0) (subst (λ (n : ℕ). Fit n (new_rwl id limit)) (some_same i) (new_fit id limit));
-  none = λ m. ap (λ (p : Option Rwl). count_in (rwl_lock top) m p) v.0 ∙ (new_free m 0 id limit).0;
-  free = λ m w. ap (λ (p : Option Rwl). has_in (rwl_lock top) m w p) v.0 ∙ (new_free m w id limit).1;
-}
-make_rwl top h s who _ e a i = true_false e refl
-
-unissued_rwl : (h : ℕ) (s : State) (who : ℕ) (o : Op) (r : Reply) → Allows (row s who o r) r → (makes_object kind.Rwl o && is_handle h r) ≡ false → listed h (after_row s (row s who o r)).rwls ≡ listed h s.rwls
-unissued_rwl h s who (op.RwlCreate id limit) r a n = create_lists Rwls keyed_rwls s who h (rwl_create_refusals limit) (new_rwl id limit) r n a
-unissued_rwl h s who o r a n = listed_same kind.Rwl h s (record { who = who; op = o; reply = r }) refl
+make_rwl : (top h : ℕ) (s : State) (who : ℕ) (o : Op) (ms : List Move) → makes_object kind.Rwl o ≡ true → Answers s who o (Handle h) ms → limit_of o ≡ Some top → New (rwl_lock top) h (after_moves ms s).rwls
+make_rwl top h s who _ _ e (is.creates_rwl id limit j n f) i =
+    new_lock (rwl_lock top) h (new_rwl id limit) s.rwls (fresh_unlisted kind.Rwl s h f) (subst (λ (n : ℕ). Fit n (new_rwl id limit)) (some_same i) (new_fit id limit)) (λ m. (new_free m 0 id limit).0) (λ m w. (new_free m w id limit).1)
+make_rwl top h s who _ _ e _ i = true_false e refl
 
 rwl_limited : (o : Op) → makes_object kind.Rwl o ≡ true → (n : ℕ) × (limit_of o ≡ Some n)
 rwl_limited (op.RwlCreate id limit) e = (limit, refl)
@@ -48,10 +49,9 @@ rwl_limited _ e = true_false e refl
 
 rwl_kind : (h : ℕ) → Kind kind.Rwl rwl_lock (gets_rwl h) (gives_rwl h) h
 rwl_kind h = record {
-  step = λ top s e i. rwl_step top h s e.who e.op e.reply i.allowed;
+  step = λ top s e i k o l fit. rwl_step top h s e.who k o l fit e.op e.reply _ (answer s e i);
   make = λ top. make_rwl top h;
-  quiet = λ s e i n m. rwl_misses h m s e.who e.op e.reply i.allowed n;
-  unissued = λ s e i n. unissued_rwl h s e.who e.op e.reply i.allowed n;
+  quiet = λ s e i n m. rwl_misses h m s e.who e.op e.reply _ n (answer s e i);
   limited = rwl_limited;
 }
 

@@ -1,6 +1,5 @@
 -- The sum that a cell holds after tallies.
-use Rattle.history_law.proofs.Names.{nat_tests, ◌≡◌, ℕ, ◌+◌, ◌<◌, ◌≤◌, Bool, true, false, cond, List, [], ◌∷◌, Option, Some, None, refl, sym, ◌∙◌, ap, subst, arith, ◌==◌, ◌&&◌, not, nat_lt, is_some, is_none, length, ℤ, pos, slice_set, slice_index_or, replicate, option_map, eqb-true, eq-eqb, cond_both, false_from_ne_true, true_from_ne_false, holds, TaskHandle, MtapiStatus, Op, Reply, Listed, live_of, live_object, count_listed, listed, change, issue, update, with_fields, gone, Task, TaskState, Scheduled, Running, Ended, runner, end_of, scheduled, Adds, tally_args, runs_on, is_unstarted, is_unended, with_notes, with_tally, tally_failed, tally_has, Mutex, Segment, with_cell, State, Move, Mutexes, makes, alters, removes, notes, apply, after_moves, Allows, moves_of, row, takes_both, locks, IsMade, AllGives, given, on_live, fst_true, snd_true, at-update, some_same, record_of, adds_to, sum_of, length-set}
-use Rattle.mtapi_values.specs.declared.statuses.MtapiStatus.TheVariants as m
+use Rattle.history_law.proofs.Names.{◌≡◌, ℕ, ◌+◌, ◌<◌, ◌≤◌, Bool, true, false, cond, List, [], ◌∷◌, Option, Some, None, refl, sym, ◌∙◌, ap, subst, arith, ◌==◌, ◌&&◌, is_none, length, ℤ, pos, slice_set, slice_index_or, replicate, option_map, eqb-true, eq-eqb, cond_both, false_from_ne_true, true_from_ne_false, holds, TaskHandle, Op, Reply, Listed, live_of, live_object, count_listed, listed, change, issue, update, with_fields, gone, Task, TaskState, Scheduled, Running, Ended, runner, end_of, scheduled, runs_on, is_unstarted, is_unended, with_notes, with_tally, tally_failed, tally_has, Mutex, Segment, with_cell, State, Move, Mutexes, makes, alters, removes, apply, after_moves, IsMade, fst_true, snd_true, at-update, some_same, record_of, adds_to, sum_of, length-set, Answers}
 use Rattle.mtapi_machine.specs.declared.ops.Op.TheVariants as op
 use Rattle.mtapi_machine.specs.declared.replies.Reply.TheVariants as reply
 use Rattle.history_law.proofs.Accepted.{shown}
@@ -8,9 +7,10 @@ use Rattle.history_law.proofs.lists.Handles.{OnceIn}
 use Rattle.history_law.proofs.lists.Found.{at_here, count_changed, count_issued, at_past}
 use Rattle.history_law.proofs.Held.{DeadEnded}
 use Rattle.history_law.proofs.lists.Every.{Every, every_change, every_map, always}
-use Rattle.history_law.proofs.SeatMoves.{May}
+use Rattle.history_law.proofs.SeatMoves.{May, is_tally_lock}
+use Rattle.mtapi_machine.specs.Answers as is
 use Rattle.history_law.proofs.Others.{runs_over}
-use Rattle.history_law.proofs.Answered.{true_false, gives_cond, whether, on_test}
+use Rattle.history_law.proofs.Answered.{true_false, whether, on_test}
 use Rattle.history_law.proofs.lists.Firsts.{found_count, one_passes}
 use Rattle.history_law.proofs.tallies.Ties.{Owns, none_count, none_runs}
 use Rattle.history_law.proofs.lists.Sums.{sum_none, record_new, record_beside, record_other, record_at, record_updated, cell_new}
@@ -90,43 +90,21 @@ ids_move i who o s (removes Mutexes j) e k v =
     omega arith
 ids_move i who o s _ e k v = v
 
-abbrev says_asked : Reply → Bool
-says_asked (reply.Asked b) = b
-says_asked _ = false
-
-pub asked_true : (r : Reply) → says_asked r ≡ true → r ≡ reply.Asked true
-asked_true r e1 = grind (arith, nat_tests)
-
 module _ (S C : ℕ) where
   -- What a `tally_lock` leaves of each task that adds to the cell
 
-  abbrev pub Took : (List ℤ → Type 0) → State → ℕ → Reply → List Move → Type 0
-  Took R s t x ms =
-      (says_asked x ≡ true → (u : Task) (v : Segment) → live_object (after_moves ms s).tasks t ≡ Some u → live_object s.segments u.notes.tally.segment ≡ Some v → adds_to S C u ≡ true → R u.args) → Every (Each S C R) (after_moves ms s).tasks
-
-  module _ (R : List ℤ → Type 0) (s : State) (who : ℕ) (base : Every (Each S C R) s.tasks) where
-    gives_up_each : (t : ℕ) (status : MtapiStatus) → Took R s t (reply.Asked false) (notes t (with_tally (tally_failed status)) ∷ [])
-    gives_up_each t status = λ h. every_change (Each S C R) t (with_fields (with_notes (with_tally (tally_failed status)))) s.tasks (λ r a i q. true_false q refl) base
-
-    takes_each : (t cell : ℕ) (x : Task) (a b : Option ℕ) → live_object s.tasks t ≡ Some x → AllGives (Took R s t) (takes_both s who t cell a b)
-    takes_each t cell x None b e = gives_up_each t m.ErrActionFailed
-    takes_each t cell x (Some a) None e = gives_up_each t m.ErrActionFailed
-    takes_each t cell x (Some a) (Some b) e =
-        on_live (Took R s t) (live_object s.mutexes a) _ _ (gives_up_each t m.ErrActionFailed) (λ y d. on_live (Took R s t) (live_object s.segments b) _ _ (gives_up_each t m.ErrActionFailed) (λ v f.
-        gives_cond (Took R s t) (not (nat_lt cell (length v.cells))) _ _ (λ i. gives_up_each t m.ErrActionFailed)
-        (λ i. gives_cond (Took R s t) (is_some y.owner) _ _ (λ j h. base)
-        (λ j h. every_change (Each S C R) t (with_fields (with_notes (with_tally (tally_has a b)))) s.tasks
-        (λ r c z q. let same : x ≡ r.fields = some_same (sym e ∙ c) in
-        subst (λ (u : Task). R u.args) same (h refl (with_notes (with_tally (tally_has a b)) x) v (at-update t (with_notes (with_tally (tally_has a b))) x s.tasks e) f (subst (λ (u : Task). adds S C (tally_has a b u.notes.tally) u.args ≡ true) (sym same) q))) base))))
-
-    locks_each : (t : ℕ) (x : Task) (args : List ℤ) (a : Option Adds) → live_object s.tasks t ≡ Some x → AllGives (Took R s t) (locks s who t args a)
-    locks_each t x args None e = gives_up_each t _
-    locks_each t x args (Some a) e = takes_each t a.cell x _ _ e
-
-    pub lock_each : (t : TaskHandle) (r : Reply) → Allows (row s who (op.TallyLock t) r) r → Took R s t.0 r (moves_of (row s who (op.TallyLock t) r))
-    lock_each t r a =
-        given (Took R s t.0) (row s who (op.TallyLock t) r) r (λ x h. base)
-        (λ c. on_live (Took R s t.0) (live_object s.tasks t.0) _ _ (λ h. base) (λ x e b d. locks_each t.0 x x.args (tally_args x.args) e)) a
+  pub lock_each : (R : List ℤ → Type 0) (s : State) (who : ℕ) (o : Op) (r : Reply) (ms : List Move) → Every (Each S C R) s.tasks → is_tally_lock o ≡ true
+      → ((t : TaskHandle) (u : Task) (v : Segment) → o ≡ op.TallyLock t → r ≡ reply.Asked true → live_object (after_moves ms s).tasks t.0 ≡ Some u → live_object s.segments u.notes.tally.segment ≡ Some v → adds_to S C u ≡ true → R u.args)
+      → Answers s who o r ms → Every (Each S C R) (after_moves ms s).tasks
+  lock_each R s who _ _ _ base l h (is.refuses o x e) = base
+  lock_each R s who _ _ _ base l h (is.refuses_caller o x e) = base
+  lock_each R s who _ _ _ base l h (is.lock_early t x k z) = base
+  lock_each R s who _ _ _ base l h (is.lock_fails t x c k z v) = every_change (Each S C R) t.0 (with_fields (with_notes (with_tally (tally_failed c)))) s.tasks (λ r a i q. true_false q refl) base
+  lock_each R s who _ _ _ base l h (is.lock_got t x y a b k z g) =
+      every_change (Each S C R) t.0 (with_fields (with_notes (with_tally (tally_has a b)))) s.tasks
+      (λ r c i q. let same : x ≡ r.fields = some_same (sym k.found ∙ c) in
+      subst (λ (u : Task). R u.args) same (h t (with_notes (with_tally (tally_has a b)) x) g.segment refl refl (at-update t.0 (with_notes (with_tally (tally_has a b))) x s.tasks k.found) g.found_segment (subst (λ (u : Task). adds S C (tally_has a b u.notes.tally) u.args ≡ true) (sym same) q))) base
+  lock_each R s who _ _ _ base l h _ = true_false l refl
 
   -- What a cell holds: what the tallies of it have written; and what one has read and hasn't written yet is that, too
 

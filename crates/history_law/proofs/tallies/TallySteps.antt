@@ -1,5 +1,5 @@
 -- What each entry leaves of the sum that a cell holds, and so every list of entries.
-use Rattle.history_law.proofs.Names.{◌≡◌, ℕ, ◌<◌, ◌≤◌, Bool, true, false, cond, List, [], ◌∷◌, ◌++◌, Option, Some, None, refl, sym, ◌∙◌, ap, subst, arith, ◌==◌, ◌&&◌, ◌||◌, not, nat_lt, is_some, length, ℤ, pos, ◌+ℤ◌, slice_set, slice_index_or, option_map, eqb-true, false_from_ne_true, nat_tests, Decides-int_eq, append_assoc, +ℤ_idl, TaskHandle, TaskEnd, Failed, Completed, entry, Terms, Op, Reply, Listed, live_object, count_listed, listed, change, update, with_fields, Task, tally_args, cell_in, number_in, added, runs_on, is_unended, with_notes, with_tally, tally_read, tally_written, ended, Segment, new_segment, cell_of, with_cell, State, opening, Move, notes, after_moves, handle_of, after_row, row, NodeEntry, IsNext, next, LegalFrom, Legal, after_from, after, after-one, AllGives, given, moves_given, on_live, on_only, not_false, fst_true, snd_true, some_same, some_entry, says_ok, tally_got, record_of, mutex_in, adds_to, completed_in, number_added, sum_of, writes_to, NamesOneMutex, HoldsTheSum, length-set, get_or-set_same}
+use Rattle.history_law.proofs.Names.{◌≡◌, ℕ, ◌<◌, ◌≤◌, Bool, true, false, cond, List, [], ◌∷◌, ◌++◌, Option, Some, None, refl, sym, ◌∙◌, ap, subst, arith, ◌==◌, ◌&&◌, ◌||◌, not, nat_lt, is_some, length, ℤ, pos, ◌+ℤ◌, slice_set, slice_index_or, option_map, eqb-true, false_from_ne_true, nat_tests, Decides-int_eq, append_assoc, +ℤ_idl, TaskHandle, TaskEnd, Failed, Completed, entry, Terms, Op, Reply, Listed, live_object, count_listed, listed, change, update, with_fields, Task, tally_args, cell_in, number_in, added, runs_on, is_unended, with_notes, with_tally, tally_read, tally_written, ended, Segment, new_segment, cell_of, with_cell, State, opening, Move, notes, after_moves, after_row, row, NodeEntry, IsNext, next, LegalFrom, Legal, after_from, after, after-one, not_false, fst_true, snd_true, some_same, some_entry, tally_got, record_of, mutex_in, adds_to, completed_in, number_added, sum_of, writes_to, NamesOneMutex, HoldsTheSum, length-set, get_or-set_same, Answers}
 use Rattle.mtapi_values.specs.declared.handles.ObjectKind.TheVariants as kind
 use Rattle.mtapi_values.specs.declared.statuses.MtapiStatus.TheVariants as m
 use Rattle.mtapi_machine.specs.declared.ops.Op.TheVariants as op
@@ -8,14 +8,18 @@ use Rattle.history_law.proofs.Reuse.{fresh_unlisted}
 use Rattle.history_law.proofs.Ages.{live_listed}
 use Rattle.history_law.proofs.Held.{HasEnded, AllEnded}
 use Rattle.history_law.proofs.lists.Every.{Every, every_change, every_map, every_at, always}
-use Rattle.history_law.proofs.SeatMoves.{by_moves, by_made_moves}
+use Rattle.history_law.proofs.SeatMoves.{by_moves, by_made_moves, answer, is_tally_lock}
+use Rattle.mtapi_machine.specs.Answers as is
+use Rattle.mtapi_machine.specs.declared.replies.Reply.TheVariants as reply
+use Rattle.history_law.proofs.locks.MutexSteps.{is_end_op}
+use Rattle.history_law.proofs.locks.Locks.{and-true}
 use Rattle.history_law.proofs.OnceIssued.{listed_next}
-use Rattle.history_law.proofs.Answered.{true_false, first_false, second_false, none_first, answered, no_live, gives_cond, Quiet, whether}
+use Rattle.history_law.proofs.Answered.{true_false, first_false, second_false, none_first, whether}
 use Rattle.history_law.proofs.tallies.Ties.{has_both, Owns, Tied, as_on}
 use Rattle.history_law.proofs.locks.Exclusive.{Good, good_next, good_opening}
 use Rattle.history_law.proofs.lists.Sums.{sum_more, sum_change, sum_same, record_at, record_updated}
 use Rattle.history_law.proofs.tallies.TallyMoves.{adds, past_read, weight, written, both_of, weigh_off, weigh_early, written_move, Each, each_move, HasRead, read_move, EndsRight, right_move, RightTies, cells_of, cells_move}
-use Rattle.history_law.proofs.tallies.Tallies.{every_alone, some_worker, runs_unended, HasId, one_owner, ids_move, asked_true, lock_each, cell_value, Sum, sum_keep, sum_cells, create_sum, other_cell}
+use Rattle.history_law.proofs.tallies.Tallies.{every_alone, some_worker, runs_unended, HasId, one_owner, ids_move, lock_each, cell_value, Sum, sum_keep, sum_cells, create_sum, other_cell}
 
 module _ (S C id n : ℕ) where
   -- What holds after every list that the law speaks of
@@ -40,15 +44,11 @@ module _ (S C id n : ℕ) where
         let same : u.notes.tally.segment ≡ S = eqb-true u.notes.tally.segment S (fst_true (u.notes.tally.segment == S) _ (snd_true (has_both u.notes.tally) _ a)) in
         live_listed S s.segments (ap is_some (subst (λ (j : ℕ). live_object s.segments j ≡ Some y) same e))
 
-    known_row : (o : Op) (r : Reply) → IsNext s (entry who o r) → Every (Each S C (λ a. 1 ≤ listed S s.segments)) (after_row s (row s who o r)).tasks
-    known_row (op.TallyLock t) r i = lock_each S C (λ a. 1 ≤ listed S s.segments) s who v.known t r i.allowed (λ a u y e f b. live_known u y f b)
-    known_row o r i = by_moves (λ t. Every (Each S C (λ a. 1 ≤ listed S s.segments)) t.tasks) s (entry who o r) i (each_move S C (λ a. 1 ≤ listed S s.segments) who o refl) v.known
-
-    named_row : (o : Op) (r : Reply) → IsNext s (entry who o r) → KeepsPremises s (entry who o r) → Every (Each S C (λ a. mutex_in (tally_args a) ≡ id)) (after_row s (row s who o r)).tasks
-    named_row (op.TallyLock t) r i f =
-        lock_each S C (λ a. mutex_in (tally_args a) ≡ id) s who v.named t r i.allowed
-        (λ a u y e g b. f.lock who t u (ap (λ (z : Reply). entry who (op.TallyLock t) z) (asked_true r a)) e b)
-    named_row o r i f = by_moves (λ t. Every (Each S C (λ a. mutex_in (tally_args a) ≡ id)) t.tasks) s (entry who o r) i (each_move S C (λ a. mutex_in (tally_args a) ≡ id) who o refl) v.named
+    -- what holds of their arguments
+    each_next : (R : List ℤ → Type 0) (o : Op) (r : Reply) → IsNext s (entry who o r) → Every (Each S C R) s.tasks
+        → ((t : TaskHandle) (u : Task) (v : Segment) → o ≡ op.TallyLock t → r ≡ reply.Asked true → live_object (after_row s (row s who o r)).tasks t.0 ≡ Some u → live_object s.segments u.notes.tally.segment ≡ Some v → adds_to S C u ≡ true → R u.args)
+        → Every (Each S C R) (after_row s (row s who o r)).tasks
+    each_next R o r i base h = whether (is_tally_lock o) (λ l. lock_each S C R s who o r _ base l h (answer s (entry who o r) i)) (λ l. by_moves (λ t. Every (Each S C R) t.tasks) s (entry who o r) i (each_move S C R who o l) base)
 
     -- how tallies end
 
@@ -65,12 +65,15 @@ module _ (S C id n : ℕ) where
     back_right : (x : Task) (z : ℤ) (c : Bool) → (nat_lt x.notes.tally.stage 2 || c) ≡ false → past_read S C x.notes.tally ≡ completed_in (cond (x.notes.tally.stage == 2) (Failed m.ErrActionFailed) (Completed (z ∷ [])))
     back_right x z c e1 = grind (arith, nat_tests)
 
+    right_by : (o : Op) (r : Reply) (ms : List Move) → is_end_op o ≡ true → Answers s who o r ms → Every (EndsRight S C) (after_moves ms s).tasks
+    right_by _ _ _ l (is.refuses o x e) = v.right
+    right_by _ _ _ l (is.refuses_caller o x e) = v.right
+    right_by _ _ _ l (is.tally_ends_failed t x k f) = ends_right t.0 x x.notes.tally.verdict k.found (λ a. absurd (failed_adds x f a))
+    right_by _ _ _ l (is.tally_ends t x y z k d f g h) = ends_right t.0 x _ k.found (λ a. back_right x (added x) _ d)
+    right_by _ _ _ l _ = true_false l refl
+
     right_row : (o : Op) (r : Reply) → IsNext s (entry who o r) → Every (EndsRight S C) (after_row s (row s who o r)).tasks
-    right_row (op.TallyEnd t) r i =
-        moves_given (λ ms. Every (EndsRight S C) (after_moves ms s).tasks) (row s who (op.TallyEnd t) r) v.right
-        (λ c. on_live _ (live_object s.tasks t.0) _ _ v.right (λ x e b d. gives_cond _ (x.notes.tally.stage == 4) _ _ (λ f. ends_right t.0 x x.notes.tally.verdict e (λ a. absurd (failed_adds x f a)))
-        (λ f. on_live _ (live_object s.segments x.notes.tally.segment) _ _ tt (λ y g. on_live _ (live_object s.mutexes x.notes.tally.mutex) _ _ tt
-        (λ z h. ends_right t.0 x _ e (λ a. back_right x (added x) _ d))))))
+    right_row (op.TallyEnd t) r i = right_by (op.TallyEnd t) r _ refl (answer s (entry who (op.TallyEnd t) r) i)
     right_row o r i = (by_made_moves (RightTies S C n s.mutexes s.segments o) s (entry who o r) i (right_move S C n s.mutexes s.segments who o (λ h. refl)) ((λ l. v.good.ties), v.right)).1
 
     -- the sum
@@ -213,32 +216,28 @@ module _ (S C id n : ℕ) where
         both : has_both x.notes.tally ≡ true
         both = ap (λ (j : ℕ). not (j == 0) && not (j == 4)) (eqb-true x.notes.tally.stage 2 d)
 
-    write_quiet : (x : _) (c : ℕ) (value : ℤ) (r : Reply) → AllGives (Quiet says_ok) (row s who (op.ShmemWrite x c value) r)
-    write_quiet x c value r = λ p q. on_live (Quiet says_ok) (live_object s.segments x.0) _ _ (λ i. refl) (λ y f b d i. true_false refl i)
+    abbrev moves_sum : Op → Bool
+    moves_sum (op.ShmemCreate i2 cells) = true
+    moves_sum (op.ShmemWrite x c value) = true
+    moves_sum (op.TallyRead t) = true
+    moves_sum (op.TallyWrite t value) = true
+    moves_sum _ = false
+
+    sum_by : (o : Op) (r : Reply) (ms : List Move) → moves_sum o ≡ true → writes_to S C (entry who o r) ≡ false → Answers s who o r ms → SumAfter ms
+    sum_by _ _ _ l f (is.refuses o x e) = v.sum
+    sum_by _ _ _ l f (is.refuses_caller o x e) = v.sum
+    sum_by _ _ _ l f (is.creates_segment i2 cells h e j) = create_sum S C s h (new_segment i2 cells) cells refl (fresh_unlisted kind.Shmem s h j) v.known v.sum
+    sum_by _ _ _ l f (is.writes_cell h c value x k) = other_cell S C s h.0 c value x s.tasks v.good.once_segments k.found (sym (and-true ((h.0 == S) && (c == C))) ∙ f) v.sum
+    sum_by _ _ _ l f (is.tally_reads t x y k z e) = read_sum t.0 x y k.found z e
+    sum_by _ _ _ l f (is.tally_writes t value x y k z e) =
+        write_sum t.0 value x y k.found (as_on who x.state k.runs) (not_false _ (first_false _ _ z)) ((Decides-int_eq value (added x)).0 (not_false _ (second_false _ _ z))) e
+    sum_by _ _ _ l f _ = true_false l refl
 
     sum_row : (o : Op) (r : Reply) → IsNext s (entry who o r) → KeepsPremises s (entry who o r) → Sum S C (cells_of S C (after_row s (row s who o r)).segments) (after_row s (row s who o r)).tasks
-    sum_row (op.ShmemCreate i2 cells) r i f =
-        moves_given SumAfter (row s who (op.ShmemCreate i2 cells) r) v.sum
-        (λ c d e g h. on_only (λ x ms. SumAfter ms) _ _ _ (λ j. create_sum S C s (handle_of r) (new_segment i2 cells) cells refl (fresh_unlisted kind.Shmem s (handle_of r) j) v.known v.sum))
-    sum_row (op.ShmemWrite x c value) r i f = by_ok (says_ok r) refl
-      where
-        other : ((x.0 == S) && (c == C)) && true ≡ false → ((x.0 == S) && (c == C)) ≡ false
-        other e = false_from_ne_true _ (λ b. true_false (λ j. b j && true) e)
-
-        by_ok : (b : Bool) → says_ok r ≡ b → Sum S C (cells_of S C (after_row s (row s who (op.ShmemWrite x c value) r)).segments) (after_row s (row s who (op.ShmemWrite x c value) r)).tasks
-        by_ok false k = subst SumAfter (sym (given (Quiet says_ok) (row s who (op.ShmemWrite x c value) r) r (λ z j. refl) (write_quiet x c value r) i.allowed k)) v.sum
-        by_ok true k =
-            answered says_ok SumAfter (row s who (op.ShmemWrite x c value) r) r k
-            (refl, (refl, no_live says_ok (live_object s.segments x.0) _ _ tt (λ y. (refl, (refl, tt)))))
-            (λ p q. on_live _ (live_object s.segments x.0) _ _ (λ j. true_false j refl) (λ y g b d j.
-            other_cell S C s x.0 c value y s.tasks v.good.once_segments g (other ((λ z. ((x.0 == S) && (c == C)) && sym k z) ∙ f.write)) v.sum)) i.allowed
-    sum_row (op.TallyRead t) r i f =
-        moves_given SumAfter (row s who (op.TallyRead t) r) v.sum
-        (λ c. on_live _ (live_object s.tasks t.0) _ _ v.sum (λ x e a b. on_live _ (live_object s.segments x.notes.tally.segment) _ _ tt (λ y g. read_sum t.0 x y e (not_false _ b) g)))
-    sum_row (op.TallyWrite t value) r i f =
-        moves_given SumAfter (row s who (op.TallyWrite t value) r) v.sum
-        (λ c. on_live _ (live_object s.tasks t.0) _ _ v.sum (λ x e a b. on_live _ (live_object s.segments x.notes.tally.segment) _ _ tt
-        (λ y g. write_sum t.0 value x y e (as_on who x.state (not_false _ a)) (not_false _ (first_false _ _ b)) ((Decides-int_eq value (added x)).0 (not_false _ (second_false _ _ b))) g)))
+    sum_row (op.ShmemCreate i2 cells) r i f = sum_by (op.ShmemCreate i2 cells) r _ refl f.write (answer s (entry who (op.ShmemCreate i2 cells) r) i)
+    sum_row (op.ShmemWrite x c value) r i f = sum_by (op.ShmemWrite x c value) r _ refl f.write (answer s (entry who (op.ShmemWrite x c value) r) i)
+    sum_row (op.TallyRead t) r i f = sum_by (op.TallyRead t) r _ refl f.write (answer s (entry who (op.TallyRead t) r) i)
+    sum_row (op.TallyWrite t value) r i f = sum_by (op.TallyWrite t value) r _ refl f.write (answer s (entry who (op.TallyWrite t value) r) i)
     sum_row o r i f =
         sum_cells S C s _ _ (after_row s (row s who o r)).tasks (sym (by_made_moves (λ t. cells_of S C t.segments ≡ cells_of S C s.segments) s (entry who o r) i (cells_move S C (cells_of S C s.segments) who o refl refl) refl))
         (sum_keep S C (cells_of S C s.segments) s.tasks (after_row s (row s who o r)).tasks
@@ -251,8 +250,8 @@ module _ (S C id n : ℕ) where
     ids = λ j. by_made_moves (λ t. count_listed (HasId j) t.mutexes ≤ 1) s e i (ids_move j e.who e.op) (v.ids j);
     known =
         every_map (Each S C (λ a. 1 ≤ listed S s.segments)) (λ t. Unit {0}) (Each S C (λ a. 1 ≤ listed S (next s e).segments)) (next s e).tasks
-        (λ t a u b. listed_next kind.Shmem s e S (a b)) (known_row s e.who v e.op e.reply i) (always (next s e).tasks);
-    named = named_row s e.who v e.op e.reply i f;
+        (λ t a u b. listed_next kind.Shmem s e S (a b)) (each_next s e.who v (λ a. 1 ≤ listed S s.segments) e.op e.reply i v.known (λ t u y a b c d g. live_known s e.who v u y d g)) (always (next s e).tasks);
+    named = each_next s e.who v (λ a. mutex_in (tally_args a) ≡ id) e.op e.reply i v.named (λ t u y a b c d g. f.lock e.who t u (ap (λ (o : Op). entry e.who o e.reply) a ∙ ap (λ (z : Reply). entry e.who (op.TallyLock t) z) b) c g);
     right = right_row s e.who v e.op e.reply i;
     sum = sum_row s e.who v e.op e.reply i f;
   }
