@@ -25,6 +25,5 @@ pub mod Told
 pub mod Served
 pub mod Sorts
 pub mod Quiet
-pub mod RowRest
 pub mod WorkerTurns
 pub mod Causes

@@ -1,8 +1,8 @@
 -- What the entries of other seats leave to a seat.
-use Rattle.history_law.proofs.Names.{◌≡◌, ◌≢◌, ℕ, zero, suc, Bool, true, false, cond, List, [], ◌∷◌, Option, Some, None, ◌⊎◌, inl, inr, refl, sym, ◌∙◌, ap, subst, arith, ◌==◌, ◌&&◌, not, is_none, slice_set, nat_tests, TaskEnd, is_seat, is_other, marked, holds, Op, Reply, Failed, Terms, Listed, live_of, live_object, count_listed, change, with_fields, gone, is_member, Ending, endings, in_no_group, freed, let_go, Task, Notes, with_notes, TaskState, Scheduled, Running, Ended, end_of, runner, runs_on, is_unstarted, is_unended, with_state, ended, new_task, entries_of, State, opening, NodeEntry, next, LegalFrom, Legal, after_from, after, end_in, end_at, moves_phase, is_release, is_late_end, IsWaiter, Waits, OnceListed, Work, RunsWith, IsUntouched, Others, WorkerKeeps, NoPhase, NoRelease, Move, phase_is, released, stops, starts_task, runs_task, ends_task, ends_waiting, withdraws, notes, leaves, frees_members, lets_members_go, apply, after_moves, after_row, row, gives_end, gives_first, AllGives, moves_given, on_live, fst_true, snd_true, both_true, not_true, rest_keeps, some_same, and-false, eq-eqb}
+use Rattle.history_law.proofs.Names.{◌≡◌, ◌≢◌, ℕ, zero, suc, Bool, true, false, cond, List, [], ◌∷◌, Option, Some, None, ◌⊎◌, inl, inr, refl, sym, ◌∙◌, ap, subst, arith, ◌==◌, ◌&&◌, not, is_none, slice_set, nat_tests, TaskEnd, is_seat, is_other, marked, holds, Op, Reply, Failed, Terms, Listed, live_object, count_listed, change, with_fields, gone, is_member, in_no_group, freed, let_go, Task, Notes, with_notes, TaskState, Scheduled, Running, Ended, end_of, runner, runs_on, is_unstarted, is_unended, with_state, ended, new_task, entries_of, State, opening, NodeEntry, next, LegalFrom, Legal, after_from, after, end_in, end_at, moves_phase, is_release, is_late_end, IsWaiter, Waits, OnceListed, Work, RunsWith, IsUntouched, Others, WorkerKeeps, NoPhase, NoRelease, Move, phase_is, released, stops, starts_task, runs_task, ends_task, ends_waiting, withdraws, notes, leaves, frees_members, lets_members_go, apply, after_moves, fst_true, snd_true, both_true, not_true, rest_keeps, some_same, and-false, eq-eqb, Answers}
 use Rattle.history_law.proofs.Reuse.{terms_next}
-use Rattle.mtapi_machine.specs.declared.ops.Op.TheVariants as op
-use Rattle.history_law.proofs.SeatMoves.{SameWork, Noted, May, MayEnd, is_any_look, by_moves}
+use Rattle.history_law.proofs.SeatMoves.{SameWork, Noted, May, MayEnd, is_any_look, by_moves, answer}
+use Rattle.mtapi_machine.specs.Answers as is
 use Rattle.history_law.proofs.Moves.{once_along, once_from}
 use Rattle.history_law.proofs.lists.Members.{AllOf, IsEnding, all_endings}
 use Rattle.history_law.proofs.lists.Every.{Every, every_issue, every_change, every_all, every_at, every_ends}
@@ -179,26 +179,23 @@ other_head w e es = by_seat (e.who == w) refl
     by_seat true d i = absurd (cc)
     by_seat false d i = (apart d, i)
 
--- a look at a group gives a member, and no seat waits for one
-any_gives : (w h : ℕ) (s : State) (g j : ℕ) (x : Task) (y : TaskState) → live_object s.tasks j ≡ Some x → is_member g x ≡ true → Waits s w h → AllGives (λ r ms. Waits (after_moves ms s) w h) (gives_end j y)
-any_gives w h s g j x Scheduled e m v = tt
-any_gives w h s g j x (Running z k) e m v = tt
-any_gives w h s g j x (Ended z n) e m v =
+-- a member that leaves its group and goes isn't the task of a waiter
+left_apart : (w h : ℕ) (s : State) (g j : ℕ) (x : Task) → live_object s.tasks j ≡ Some x → is_member g x ≡ true → Waits s w h → Waits (after_moves (notes j in_no_group ∷ leaves j ∷ []) s) w h
+left_apart w h s g j x e m v =
     let u = found_changed (IsWaiter w) j h (with_fields (with_notes in_no_group)) (λ r. refl) s.tasks v.0 v.1 v.2 (λ r i a f. absurd (apart i)) in
     found_changed (IsWaiter w) j h gone (λ r. refl) _ u.0 u.1 u.2 (λ r i a f. absurd (apart i))
   where
     apart : j ≡ h → ⊥
     apart i = true_false m (no_member g x (ap (λ (t : Task). t.notes.group) (same_found s j h i x v.0 e v.1) ∙ v.2.alone))
 
-any_first : (w h : ℕ) (s : State) (g : ℕ) (last : Bool) (es : List Ending) → AllOf (IsEnding g s.tasks) es → Waits s w h → AllGives (λ r ms. Waits (after_moves ms s) w h) (gives_first s last es)
-any_first w h s g last [] a v = v
-any_first w h s g last (e ∷ es) a v = on_live _ (live_object s.tasks e.task) _ _ tt (λ x i. any_gives w h s g e.task x x.state i (a.0.member x i) v)
-
-waits_any : (w h : ℕ) (s : State) (who : ℕ) (o : Op) (r : Reply) → is_any_look o ≡ true → OnceListed s → Waits s w h → Waits (after_row s (row s who o r)) w h
-waits_any w h s who (op.AnyLook g last) r b o v =
-    moves_given (λ ms. Waits (after_moves ms s) w h) (row s who (op.AnyLook g last) r) v
-    (λ c. on_live _ (live_object s.groups g.0) _ _ v (λ x e d. any_first w h s g.0 last (endings g.0 (live_of s.tasks)) (all_endings g.0 s.tasks o) v))
-waits_any w h s who _ r b o v = true_false b refl
+-- a look at a group gives a member, and no seat waits for one
+any_by : (w h : ℕ) (s : State) (who : ℕ) (o : Op) (r : Reply) (ms : List Move) → is_any_look o ≡ true → OnceListed s → Waits s w h → Answers s who o r ms → Waits (after_moves ms s) w h
+any_by w h s who _ _ _ b o v (is.refuses p x e) = v
+any_by w h s who _ _ _ b o v (is.refuses_caller p x e) = v
+any_by w h s who _ _ _ b o v (is.any_early g x e d) = v
+any_by w h s who _ _ _ b o v (is.any_late g) = v
+any_by w h s who _ _ _ b o v (is.any_given g last x y ys t z n e d f i) = left_apart w h s g.0 y.task t f ((subst (AllOf (IsEnding g.0 s.tasks)) d (all_endings g.0 s.tasks o)).0.member t f) v
+any_by w h s who _ _ _ b o v _ = true_false b refl
 
 pub once_stays : (s : State) (L : List NodeEntry) → OnceListed s → OnceListed (after_from s L)
 once_stays s L o = once_along s L o
@@ -214,7 +211,7 @@ waiter_stays s (e ∷ es) w h n l o v =
     waiter_stays (next s e) es w h (once_stays s (e ∷ []) n) l.1 q.1 (by_look q.0 (is_any_look e.op) refl)
   where
     by_look : e.who ≢ w → (b : Bool) → is_any_look e.op ≡ b → Waits (next s e) w h
-    by_look a true b = waits_any w h s e.who e.op e.reply b n v
+    by_look a true b = any_by w h s e.who e.op e.reply _ b n v (answer s e l.0)
     by_look a false b = by_moves (λ t. Waits t w h) s e l.0 (λ t x k y. waits_move w h e.who e.op a b t x k y) v
 
 pub count_stays : (s : State) (L : List NodeEntry) (w : ℕ) → LegalFrom s L → Others w L → count_listed (runs_on w) (after_from s L).tasks ≡ count_listed (runs_on w) s.tasks

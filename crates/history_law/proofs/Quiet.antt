@@ -1,8 +1,11 @@
 -- In a quiet history a task ends as the kind of an action of its job answers.
-use Rattle.history_law.proofs.Names.{nat_tests, arith, ◌≡◌, ℕ, Bool, true, false, cond, List, [], ◌∷◌, Option, Some, None, refl, sym, ◌∙◌, ap, subst, ◌==◌, ◌&&◌, not, nat_lt, int_eq, pointwise, eqb-true, Decides-int_eq, slice_eq-Decides, holds, in_mask, Kind, TaskEnd, Cancelled, is_pure, answer_of, Answered, IsAnswered, Listed, live_object, any_listed, issue, change, with_fields, gone, Action, with_enabled, has_enabled_job, is_eligible, Task, TaskState, Scheduled, Running, Ended, runner, runs_as, kind_number, is_unstarted, with_state, with_notes, ended, is_member, freed, let_go, Queue, is_shut_in, Op, Reply, Ok, Picked, Stop, Terms, State, opening, workers, is_stop, Move, Queues, stops, makes_action, enables, withdraws, starts_task, runs_task, ends_task, ends_waiting, notes, leaves, frees_members, lets_members_go, makes, alters, removes, apply, after_moves, Row, gives, row, is_ready, can_take, picks, task_end, NodeEntry, IsNext, IsHonest, row_of, next, LegalFrom, after_from, IsMade, MakesAction, WithdrawsAction, EndsTask, AltersObject, is_pick, ends_many, makes_kind, end_in, some_same, AllGives, moves_given, on_only, on_live, fst_true, snd_true, not_false, by_moves, is_quiet, AreQuiet, HasPure, task_at, IsPlain, QuietTasksEndPlainly, ℤ}
+use Rattle.history_law.proofs.Names.{nat_tests, arith, ◌≡◌, ℕ, Bool, true, false, cond, List, [], ◌∷◌, Option, Some, None, refl, sym, ◌∙◌, ap, subst, ◌==◌, ◌&&◌, not, nat_lt, int_eq, pointwise, eqb-true, Decides-int_eq, slice_eq-Decides, holds, in_mask, Kind, TaskEnd, Cancelled, is_pure, answer_of, Answered, IsAnswered, Listed, live_object, issue, change, with_fields, gone, Action, with_enabled, has_enabled_job, is_eligible, Task, TaskState, Scheduled, Running, Ended, runner, runs_as, kind_number, is_unstarted, with_state, with_notes, ended, is_member, freed, let_go, Queue, is_shut_in, Op, Reply, Terms, State, opening, workers, Move, Queues, makes_action, enables, withdraws, starts_task, runs_task, ends_task, ends_waiting, notes, leaves, frees_members, lets_members_go, makes, alters, removes, apply, after_moves, task_end, NodeEntry, IsNext, IsHonest, next, LegalFrom, after_from, IsMade, MakesAction, WithdrawsAction, EndsTask, AltersObject, is_pick, ends_many, makes_kind, end_in, some_same, fst_true, snd_true, not_false, by_moves, is_quiet, AreQuiet, HasPure, task_at, IsPlain, QuietTasksEndPlainly, ℤ, Answers}
 use Rattle.mtapi_values.specs.declared.kinds.Kind.TheVariants as kind
 use Rattle.mtapi_machine.specs.declared.ops.Op.TheVariants as op
 use Rattle.history_law.proofs.Answered.{true_false, whether}
+use Rattle.history_law.proofs.SeatMoves.{answer}
+use Rattle.mtapi_machine.specs.Answers as is
+use Rattle.mtapi_machine.specs.Answers.{HasTask}
 use Rattle.history_law.proofs.lists.Every.{Every, every_issue, every_change, every_all, every_map, every_at, every_passing, always}
 use Rattle.history_law.proofs.lists.Found.{found_changed, found_issued}
 use Rattle.history_law.proofs.lists.KindNumbers.{same_kind}
@@ -105,10 +108,7 @@ calm_move o q n s (alters Queues h f) e v = record { pure = v.pure; on = every_c
 calm_move o q n s (removes Queues h) e v = record { pure = v.pure; on = every_change IsOn h gone s.queues (λ r d p. p) v.on; goes = v.goes }
 calm_move o q n s _ e v = v
 
--- The other ops, by their rows
-
-abbrev Then : State → Reply → List Move → Type 0
-Then s x ms = IsCalm (after_moves ms s)
+-- The other ops, by their answers
 
 -- a task that is taken
 takes : (s : State) (w t a : ℕ) (x : Task) (y : Action) → IsCalm s → live_object s.tasks t ≡ Some x → live_object s.actions a ≡ Some y → is_eligible (workers s) w x.job x.cores y ≡ true → IsCalm (apply (runs_task t w y.kind) s)
@@ -123,16 +123,6 @@ takes s w t a x y v e d m = record {
 
     runs : (r : Listed Task) → x ≡ r.fields → HasPure s.actions r.fields.job y.kind
     runs r i = record { handle = a; action = y; found = d; of_job = job ∙ ap (λ (z : Task). z.job) i; of_kind = refl; pure = every_at IsPure s.actions a y v.pure d }
-
-on_picks : (s : State) (w : ℕ) (r : Reply) → IsCalm s → AllGives (Then s) (picks s w r)
-on_picks s w (Picked t a k args) v =
-    on_live (Then s) (live_object s.tasks t.0) _ _ tt (λ x e. on_live (Then s) (live_object s.actions a.0) _ _ tt (λ y d. on_only (Then s) _ _ _ (λ m.
-    takes s w t.0 a.0 x y v e d (snd_true (is_ready s x) _ (fst_true (is_ready s x && is_eligible (workers s) w x.job x.cores y) _ m)))))
-on_picks s w _ v = on_only (Then s) (not (any_listed (can_take s w) s.tasks)) _ [] (λ m. v)
-
-on_stops : (b : Bool) (s : State) (w : ℕ) (z : Row) → IsCalm s → AllGives (Then s) z → AllGives (Then s) (cond b (gives Stop (stops w ∷ [])) z)
-on_stops true s w z v h = v
-on_stops false s w z v h = h
 
 -- a task that runs as this kind has the kind of an action of its job
 running : (actions : List (Listed Action)) (w : ℕ) (k : Kind) (t : Task) → Goes actions t → runs_as w k t ≡ true → HasPure actions t.job k
@@ -157,13 +147,9 @@ ends s t x d v e p same i = record {
 same_args : (xs ys : List ℤ) → pointwise int_eq xs ys ≡ true → xs ≡ ys
 same_args xs ys e = (slice_eq-Decides Decides-int_eq xs ys (pointwise int_eq xs ys) refl).0 e
 
-on_finish : (s : State) (who t : ℕ) (d : Answered) (x : Task) → IsCalm s → IsAnswered d → live_object s.tasks t ≡ Some x → (runs_as who d.kind x && pointwise int_eq x.args d.args) ≡ true → Then s Ok (ends_task t (task_end d.end) ∷ [])
-on_finish s who t d x v i e m =
-    ends s t x d v e (running s.actions who d.kind x (every_at (Goes s.actions) s.tasks t x v.goes e) (fst_true (runs_as who d.kind x) _ m)) (same_args x.args d.args (snd_true (runs_as who d.kind x) _ m)) i
-
--- no task runs as a watch or a tally
-pub none_impure : (s : State) (who t : ℕ) (k : Kind) (x : Task) → IsCalm s → is_pure k ≡ false → live_object s.tasks t ≡ Some x → not (runs_as who k x) ≡ false → ⊥
-none_impure s who t k x v n e m = true_false (running s.actions who k x (every_at (Goes s.actions) s.tasks t x v.goes e) (not_false _ m)).pure n
+-- no task runs as another kind
+none_impure : (s : State) (who t : ℕ) (k : Kind) (x : Task) → IsCalm s → is_pure k ≡ false → HasTask s who t x k → ⊥
+none_impure s who t k x v n h = true_false (running s.actions who k x (every_at (Goes s.actions) s.tasks t x v.goes h.found) h.runs).pure n
 
 none_shut : (queues : List (Listed Queue)) (t : Task) → Every IsOn queues → is_shut_in queues t ≡ false
 none_shut queues t v = by_queue t.queue
@@ -183,17 +169,24 @@ on_close s v = record {
   goes = every_passing (Goes s.actions) (λ t. is_unstarted t && is_shut_in s.queues t) Cancelled s.ends s.tasks (λ t k p g. true_false (snd_true (is_unstarted t) _ p) (none_shut s.queues t v.on)) v.goes;
 }
 
-row_calm : (s : State) (who : ℕ) (o : Op) (r : Reply) → IsHonest o → IsCalm s → is_special o ≡ true → AllGives (Then s) (row s who o r)
-row_calm s who op.Pick r i v n = λ a b c. on_stops (is_stop s) s who _ v (on_picks s who r v)
-row_calm s who (op.Finish t d) r i v n = λ c. on_live (Then s) (live_object s.tasks t.0) _ _ v (λ x e a. on_finish s who t.0 d x v i e (not_false _ a))
-row_calm s who (op.WatchEnd t) r i v n = λ c. on_live (Then s) (live_object s.tasks t.0) _ _ v (λ x e a. absurd (none_impure s who t.0 kind.Watch x v refl e a))
-row_calm s who (op.TallyEnd t) r i v n = λ c. on_live (Then s) (live_object s.tasks t.0) _ _ v (λ x e a. absurd (none_impure s who t.0 kind.Tally x v refl e a))
-row_calm s who op.Close r i v n = λ c. on_close s v
-row_calm s who (op.QueueCreate id job priority limit ordered retain) r i v n = λ a b c d e. on_only (Then s) _ _ _ (λ m. record { pure = v.pure; on = every_issue IsOn _ _ s.queues refl v.on; goes = v.goes })
-row_calm s who _ r i v n = true_false n refl
+by_answer : (s : State) (who : ℕ) (o : Op) (r : Reply) (ms : List Move) → IsHonest o → IsCalm s → is_special o ≡ true → Answers s who o r ms → IsCalm (after_moves ms s)
+by_answer s who _ _ _ i v n (is.refuses o x e) = v
+by_answer s who _ _ _ i v n (is.refuses_caller o x e) = v
+by_answer s who _ _ _ i v n (is.closes_node a) = on_close s v
+by_answer s who _ _ _ i v n (is.creates_queue id job priority limit ordered retain h a f) = record { pure = v.pure; on = every_issue IsOn _ _ s.queues refl v.on; goes = v.goes }
+by_answer s who _ _ _ i v n (is.idles_in_new a) = v
+by_answer s who _ _ _ i v n (is.idles a) = v
+by_answer s who _ _ _ i v n (is.stops_worker a b c) = v
+by_answer s who _ _ _ i v n (is.picks t a x y b c e d j k l) = takes s who t.0 a.0 x y v e d k
+by_answer s who _ _ _ i v n (is.finishes t d x k u) =
+    ends s t.0 x d v k.found (running s.actions who d.kind x (every_at (Goes s.actions) s.tasks t.0 x v.goes k.found) k.runs) (same_args x.args d.args (snd_true (runs_as who d.kind x) _ (not_false _ u.0))) i
+by_answer s who _ _ _ i v n (is.ends_watch t x k u) = absurd (none_impure s who t.0 kind.Watch x v refl k)
+by_answer s who _ _ _ i v n (is.tally_ends_failed t x k f) = absurd (none_impure s who t.0 kind.Tally x v refl k)
+by_answer s who _ _ _ i v n (is.tally_ends t x y z k f d a b) = absurd (none_impure s who t.0 kind.Tally x v refl k)
+by_answer s who _ _ _ i v n _ = true_false n refl
 
-pub calm_next : (s : State) (e : NodeEntry) → IsNext s e → is_quiet e.op ≡ true → IsCalm s → IsCalm (next s e)
-calm_next s e i q v = whether (is_special e.op) (λ n. moves_given (λ ms. IsCalm (after_moves ms s)) (row_of s e) v (row_calm s e.who e.op e.reply i.honest v n)) (λ n. by_moves IsCalm s e (λ t m a c. calm_move e.op q n t m a c) v)
+calm_next : (s : State) (e : NodeEntry) → IsNext s e → is_quiet e.op ≡ true → IsCalm s → IsCalm (next s e)
+calm_next s e i q v = whether (is_special e.op) (λ n. by_answer s e.who e.op e.reply _ i.honest v n (answer s e i)) (λ n. by_moves IsCalm s e (λ t m a c. calm_move e.op q n t m a c) v)
 
 pub calm_along : (s : State) (L : List NodeEntry) → LegalFrom s L → AreQuiet L → IsCalm s → IsCalm (after_from s L)
 unfolding LegalFrom after_from
