@@ -1,7 +1,7 @@
 -- Every task that was accepted ends once.
-use Rattle.history_law.proofs.Names.{◌≡◌, ℕ, ◌≤◌, true, false, List, [], ◌∷◌, ◌++◌, Option, Some, None, refl, sym, ◌∙◌, ap, subst, arith, IsSome, append-nil, TaskEnd, all_marked, Terms, Op, Reply, Ok, Handle, entry, listed, State, opening, workers, Move, starts_task, after_moves, Allows, after_row, row, asked_for, asked_of, NodeEntry, IsNext, next, LegalFrom, Legal, after_from, after, Legal-rest, after-append, after_grows, end_at, accepted_by, accepted, TasksEndOnce, some_same, Answers}
+use Rattle.history_law.proofs.Names.{nat_tests, ◌≡◌, ℕ, ◌≤◌, true, false, List, [], ◌∷◌, ◌++◌, Option, Some, None, refl, sym, ◌∙◌, ap, subst, arith, IsSome, append-nil, TaskEnd, all_marked, Terms, Op, Reply, Ok, Handle, entry, listed, State, opening, workers, Move, starts_task, after_moves, Allows, after_row, row, asked_for, asked_of, NodeEntry, IsNext, next, LegalFrom, Legal, after_from, after, Legal-rest, after-append, after_grows, end_at, accepted_by, accepted, TasksEndOnce, some_same, Answers}
 use Rattle.mtapi_machine.specs.declared.ops.Op.TheVariants as op
-use Rattle.history_law.proofs.Held.{AllEnded, all_first}
+use Rattle.history_law.proofs.Held.{AllEnded}
 use Rattle.history_law.proofs.Moves.{Stands, after_stands, Stopped, after_stopped, none_listed}
 use Rattle.history_law.proofs.Ends.{grows_listed, all_end, end_later}
 use Rattle.history_law.proofs.lists.Handles.{some_issued}
@@ -35,9 +35,7 @@ pub final_marked : (s : State) (main : ℕ) → IsNext s (entry main op.Final Ok
 final_marked s main n = marked_by s main _ (answered s main op.Final Ok n.allowed)
 
 final_stopped : (terms : Terms) (s : State) (main : ℕ) → 1 ≤ terms.settings.workers → s.terms ≡ terms → IsNext s (entry main op.Final Ok) → Stopped s
-final_stopped terms s main w same n =
-    let e : workers s ≡ terms.settings.workers = ap (λ (t : Terms). t.settings.workers) same in
-    all_first (workers s) s.stopped (omega arith) (final_marked s main n)
+final_stopped terms s main e1 e2 e3 = grind (arith, nat_tests)
 
 pub opening_stands : (terms : Terms) → Stands terms (opening terms)
 opening_stands terms = (refl, record { dead = tt; stopped = λ f. absurd (cc); once = none_listed })

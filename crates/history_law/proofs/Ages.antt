@@ -1,7 +1,6 @@
 -- What each move does to the objects of one kind: they stay listed, none comes back to life, and a new one has a new handle.
 use Rattle.history_law.proofs.Names.{nat_tests, ◌≡◌, ℕ, ◌+◌, ◌≤◌, Bool, true, false, cond, List, [], ◌∷◌, Some, refl, sym, ◌∙◌, ap, subst, arith, ◌==◌, ◌&&◌, is_some, cond_both, ObjectKind, TaskEnd, Failed, Op, Listed, live_of, live_object, listed, change, change_all, issue, with_fields, gone, Action, with_enabled, Queue, opened, Task, Notes, TaskState, Ended, Running, with_state, with_notes, ended, end_each, new_task, NewTask, is_member, freed, let_go, State, FieldsOf, objects_of, is_open, Sort, Fields, all_of, Move, Groups, Queues, Mutexes, Sems, Rwls, Segments, makes_action, enables, withdraws, starts_task, runs_task, ends_task, ends_waiting, notes, leaves, frees_members, lets_members_go, is_fresh, apply, IsMade, WithdrawsAction, AltersObject, MakesAction, StartsTask, makes_kind, snd_true, rest_keeps, some_same, and_left}
 use Rattle.mtapi_values.specs.declared.handles.ObjectKind.TheVariants as kind
-use Rattle.mtapi_machine.specs.declared.ops.Op.TheVariants as op
 use Rattle.history_law.specs.Words.{makes as makes_object}
 use Rattle.history_law.proofs.Moves.{opens_fresh}
 use Rattle.history_law.proofs.Sorts.{sort_move}
@@ -99,9 +98,7 @@ ended_ages e n r = record { handle = refl; dead = and_left r.live _; fields = st
 each_ends : (p : Task → Bool) (e : TaskEnd) (n : ℕ) (l : List (Listed Task)) → AgesEach SameTask l (end_each p e n l)
 unfolding end_each
 each_ends p e n [] = tt
-each_ends p e n (r ∷ rs) = cond_both (r.live && p r.fields) (ended e n r ∷ end_each p e (n + 1) rs) (r ∷ end_each p e n rs) (AgesEach SameTask (r ∷ rs))
-    (λ c. (ended_ages e n r, each_ends p e (n + 1) rs))
-    (λ c. (ages_same SameTask same_task r, each_ends p e n rs))
+each_ends p e n (r ∷ rs) = grind (arith, nat_tests, each_ends p e (n + 1) rs, each_ends p e n rs, cond_both, end_each, ended_ages, same_task)
 
 freed_ages : (r : Listed Task) → Ages SameTask r (freed r)
 freed_ages r = record { handle = refl; dead = λ d. refl; fields = record { job = refl; args = refl; priority = refl; cores = refl; queue = refl; start = refl } }
@@ -113,17 +110,13 @@ enabled_same : (b : Bool) (x : Action) → SameAction x (with_enabled b x)
 enabled_same b x = record { job = refl; kind = refl; cores = refl }
 
 withdrawn_ages : (h : ℕ) (f : Listed Action → Listed Action) (o : Op) → WithdrawsAction h f o → (r : Listed Action) → Ages SameAction r (f r)
-withdrawn_ages h f (op.ActionDelete a) w r = subst (λ g. Ages SameAction r (g r)) (sym w.1) (gone_ages SameAction same_action r)
-withdrawn_ages h f (op.ActionDisable a) w r = subst (λ g. Ages SameAction r (g r)) (sym w.1) (fields_age SameAction (with_enabled false) (enabled_same false) r)
-withdrawn_ages h f _ w r = absurd w
+withdrawn_ages h f o e1 r = grind (arith, nat_tests)
 
 opened_same : (b : Bool) (x : Queue) → SameQueue x (opened b x)
 opened_same b x = record { job = refl; priority = refl; ordered = refl }
 
 altered_same : (h : ℕ) (f : Queue → Queue) (o : Op) → AltersObject Queues h f o → (x : Queue) → SameQueue x (f x)
-altered_same h f (op.QueueEnable q) w x = subst (λ g. SameQueue x (g x)) (sym w.1) (opened_same true x)
-altered_same h f (op.QueueDisable q) w x = subst (λ g. SameQueue x (g x)) (sym w.1) (opened_same false x)
-altered_same h f _ w x = absurd w
+altered_same h f o e1 x = grind (arith, nat_tests)
 
 -- so it is of the kinds that no rule of tasks speaks of
 sort_ages : (k : Sort) (K : Fields k → Fields k → Type 0) → ((x : Fields k) → K x x) → (s : State) (o : Op) → ((j : ℕ) (f : Fields k → Fields k) → AltersObject k j f o → (x : Fields k) → K x (f x)) → (Q : List (Listed (Fields k)) → Type 0)

@@ -3,9 +3,9 @@ use Rattle.history_law.proofs.Names.{◌≡◌, ℕ, zero, suc, ◌<◌, Bool, t
 use Rattle.mtapi_values.specs.declared.statuses.MtapiStatus.TheVariants as m
 use Rattle.mtapi_machine.specs.declared.ops.Op.TheVariants as op
 use Rattle.mtapi_machine.proofs.Moves.{by_moves as made_moves}
-use Rattle.history_law.proofs.Answered.{true_false, none_first, whether, on_test}
+use Rattle.history_law.proofs.Answered.{true_false, whether, on_test}
 use Rattle.history_law.proofs.Accepted.{stands_after, final_marked}
-use Rattle.history_law.proofs.SeatMoves.{May, by_moves}
+use Rattle.history_law.proofs.SeatMoves.{May, by_moves, kept_without}
 use Rattle.history_law.proofs.lists.Objects.{cut_from}
 
 -- Release
@@ -26,11 +26,7 @@ next_released s e n i = on_test (λ b. (b && says_ok e.reply) ≡ false → (nex
     (λ j k. by_moves (λ t. t.released ≡ s.released) s e n (λ t x y z. other_release e.op t e.who s.released x j y z) refl) i
 
 unreleased : (s : State) (L : List NodeEntry) → LegalFrom s L → some_entry is_released L ≡ false → (after_from s L).released ≡ s.released
-unfolding LegalFrom after_from
-unreleased s [] l n = refl
-unreleased s (e ∷ es) l n =
-    let both = none_first (is_released e) (some_entry is_released es) n in
-    unreleased (next s e) es l.1 both.1 ∙ next_released s e l.0 both.0
+unreleased s L l n = kept_without is_released (λ t. t.released ≡ s.released) (λ t e i m v. next_released t e i m ∙ v) s L l n refl
 
 pub enter_behind : (terms : Terms) (A B : List NodeEntry) (who : ℕ) → Legal terms (A ++ entry who op.Enter Ok ∷ B) → some_entry is_released A ≡ true
 enter_behind terms A B who l = true_from_ne_false (some_entry is_released A) (λ i.
@@ -68,11 +64,7 @@ next_stops s e w n i = on_test (λ b. (b && says_stop e.reply) ≡ false → mar
     (λ j k. by_moves (λ t. marked w t.stopped ≡ marked w s.stopped) s e n (λ t x y z. other_stops e.op t e.who w (marked w s.stopped) x j y z) refl) i
 
 unstopped : (s : State) (L : List NodeEntry) (w : ℕ) → LegalFrom s L → some_entry (is_stop_of w) L ≡ false → marked w (after_from s L).stopped ≡ marked w s.stopped
-unfolding LegalFrom after_from
-unstopped s [] w l n = refl
-unstopped s (e ∷ es) w l n =
-    let both = none_first (is_stop_of w e) (some_entry (is_stop_of w) es) n in
-    unstopped (next s e) es w l.1 both.1 ∙ next_stops s e w l.0 both.0
+unstopped s L w l n = kept_without (is_stop_of w) (λ t. marked w t.stopped ≡ marked w s.stopped) (λ t e i m v. next_stops t e w i m ∙ v) s L l n refl
 
 each_marked : (n w : ℕ) (l : List Bool) → all_marked n l ≡ true → w < n → marked w l ≡ true
 each_marked zero w l e i = absurd (omega arith)

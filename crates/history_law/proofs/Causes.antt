@@ -1,5 +1,5 @@
 -- A task that has ended was ended by an entry that may end it.
-use Rattle.history_law.proofs.Names.{◌≡◌, ℕ, ◌+◌, Bool, true, false, cond, List, [], ◌∷◌, Option, Some, None, refl, sym, ◌∙◌, ap, subst, ◌==◌, ◌&&◌, ◌||◌, not, nat_lt, eqb-true, cond_both, TaskEnd, Completed, Cancelled, Failed, TaskHandle, Kind, Listed, live_of, live_object, change, change_all, issue, with_fields, gone, Action, with_enabled, has_worker, Task, NewTask, Running, scheduled, new_task, ended, end_each, with_state, with_notes, is_member, freed, let_go, is_unended, is_unstarted, added, fits, Op, Reply, State, Terms, opening, workers, Move, Groups, Queues, Mutexes, Sems, Rwls, Segments, phase_is, released, stops, makes_action, enables, withdraws, starts_task, runs_task, ends_task, ends_waiting, notes, leaves, frees_members, lets_members_go, makes, alters, removes, apply, after_moves, NodeEntry, next, LegalFrom, Legal, after_from, end_in, end_at, after_grows, some_same, fst_true, snd_true, not_true, task_at, ErrActionFailed, TallyEnd, Answers, tally_verdict}
+use Rattle.history_law.proofs.Names.{arith, nat_tests, ◌≡◌, ℕ, ◌+◌, Bool, true, false, cond, List, [], ◌∷◌, Option, Some, None, refl, sym, ◌∙◌, ap, subst, ◌==◌, ◌&&◌, ◌||◌, not, nat_lt, eqb-true, cond_both, TaskEnd, Cancelled, TaskHandle, Kind, Listed, live_of, live_object, change, change_all, issue, with_fields, gone, Action, with_enabled, has_worker, Task, NewTask, Running, scheduled, new_task, ended, end_each, with_state, with_notes, is_member, freed, let_go, is_unended, is_unstarted, added, fits, Op, Reply, State, Terms, opening, workers, Move, Groups, Queues, Mutexes, Sems, Rwls, Segments, phase_is, released, stops, makes_action, enables, withdraws, starts_task, runs_task, ends_task, ends_waiting, notes, leaves, frees_members, lets_members_go, makes, alters, removes, apply, after_moves, NodeEntry, next, LegalFrom, Legal, after_from, end_in, end_at, after_grows, some_same, fst_true, snd_true, not_true, task_at, TallyEnd, Answers, tally_verdict}
 use Rattle.mtapi_machine.specs.Answers as is
 use Rattle.mtapi_machine.proofs.Answered.{answered}
 use Rattle.history_law.specs.Causes.{IsLeft, Cause, by_cancel, by_disabled_queue, by_close, by_deleted_queue, by_deleted_action, by_disabled_action, by_answer, by_watch, by_failed_tally, by_sum, by_tally, HasCause, EndHasItsCause}
@@ -145,8 +145,7 @@ module _ (h : ℕ) where
 
   -- a tally that ends with both
   ends_tally : (s : State) (t : TaskHandle) (x : Task) → t.0 ≡ h → (nat_lt x.notes.tally.stage 2 || ((x.notes.tally.stage == 2) && fits (added x))) ≡ false → Cause s h x (TallyEnd t) (tally_verdict x)
-  ends_tally s t x i f = on_test (λ b. (b && fits (added x)) ≡ false → Cause s h x (TallyEnd t) (cond b (Failed ErrActionFailed) (Completed (added x ∷ [])))) (x.notes.tally.stage == 2)
-      (λ a c. by_sum t i a c) (λ a c. by_tally t i a) (second_false _ _ f)
+  ends_tally s t x i f = grind (arith, nat_tests, on_test, by_sum, by_tally, second_false)
 
   left : (s : State) (t : Task) (l : List (Listed Action)) → (is_unstarted t && not (has_worker (workers s) t.job t.cores (live_of l))) ≡ true → IsLeft s t l
   left s t l i = record { unstarted = fst_true (is_unstarted t) _ i; left = not_true _ (snd_true (is_unstarted t) _ i) }

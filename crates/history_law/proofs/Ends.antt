@@ -1,5 +1,5 @@
 -- The end of a task, by its handle: it stays, and where all have ended it is there.
-use Rattle.history_law.proofs.Names.{◌≡◌, ℕ, ◌≤◌, Bool, true, false, cond, List, [], ◌∷◌, ◌++◌, Option, Some, None, refl, sym, ◌∙◌, ap, subst, arith, ◌==◌, is_none, TaskEnd, Listed, listed, Task, TaskState, Scheduled, Running, Ended, end_of, State, Grows, NodeEntry, after_from, after_grows, after-append, end_in, end_at, cond_both}
+use Rattle.history_law.proofs.Names.{nat_tests, ◌≡◌, ℕ, ◌≤◌, Bool, true, false, cond, List, [], ◌∷◌, ◌++◌, Option, Some, None, refl, sym, ◌∙◌, ap, subst, arith, ◌==◌, is_none, TaskEnd, Listed, listed, Task, TaskState, Scheduled, Running, Ended, end_of, State, Grows, NodeEntry, after_from, after_grows, after-append, end_in, end_at, cond_both}
 use Rattle.history_law.proofs.Held.{HasEnded, AllEnded}
 
 -- an end stays an end
@@ -48,8 +48,7 @@ ended_end t h = by_state t.state h
 pub all_end : (h : ℕ) (l : List (Listed Task)) → AllEnded l → 1 ≤ listed h l → (e : TaskEnd) × (end_at l h ≡ Some e)
 unfolding end_at listed
 all_end h [] a i = absurd (omega arith)
-all_end h (r ∷ rs) a i = cond_both (r.handle == h) (end_in r.fields.state) (end_at rs h) (λ o. (e : TaskEnd) × (o ≡ Some e)) (λ c. ended_end r.fields a.0)
-    (λ c. let z : cond {A = ℕ} (r.handle == h) 1 0 ≡ 0 = ap (λ (b : Bool). cond {A = ℕ} b 1 0) c in all_end h rs a.1 (omega arith))
+all_end h (r ∷ rs) a i = grind (arith, nat_tests, all_end h rs a.1, cond_both, end_in, end_at, ended_end)
 
 -- between two prefixes of a list the tasks have grown
 pub fronts_grow : (s : State) (P M : List NodeEntry) → Grows (after_from s P).tasks (after_from s (P ++ M)).tasks

@@ -1,5 +1,5 @@
 -- What holds after every legal list of the tasks, the phase and the marks of stopped workers, and the changes that keep it.
-use Rattle.history_law.proofs.Names.{nat_tests, ◌≡◌, ℕ, ◌+◌, ◌≤◌, Bool, true, false, cond, List, [], ◌∷◌, ◌++◌, Some, refl, ◌∙◌, ap, arith, ◌==◌, ◌&&◌, is_none, slice_set, cond_both, TaskEnd, all_marked, Phase, Listed, live_of, live_object, any_listed, any_live, change, issue, listed, with_fields, gone, Task, TaskState, end_of, is_unended, ended, end_each, is_new, is_open, is_past_open, fst_true, snd_true}
+use Rattle.history_law.proofs.Names.{nat_tests, ◌≡◌, ℕ, ◌+◌, ◌≤◌, Bool, true, false, cond, List, [], ◌∷◌, ◌++◌, Some, refl, ◌∙◌, ap, arith, ◌==◌, ◌&&◌, slice_set, cond_both, TaskEnd, all_marked, Phase, Listed, live_of, live_object, any_listed, any_live, change, issue, listed, with_fields, gone, Task, is_unended, ended, end_each, is_new, is_open, is_past_open, fst_true, snd_true}
 use Rattle.history_law.proofs.lists.Found.{at_here, at_past}
 use Rattle.history_law.proofs.lists.Handles.{once_more}
 use Rattle.history_law.proofs.Answered.{true_false, none_first}
@@ -50,8 +50,7 @@ pub ends : (e : TaskEnd) (n : ℕ) (r : Listed Task) → Keeps r (ended e n r)
 ends e n r = record { handle = refl; over = λ h. refl; dead = λ d h. refl }
 
 pub alters : (f : Task → Task) (r : Listed Task) → (f r.fields).state ≡ r.fields.state → Keeps r (with_fields f r)
-alters f r e = let k : is_unended (f r.fields) ≡ is_unended r.fields = ap (λ (x : TaskState). is_none (end_of x)) e in
-    record { handle = refl; over = λ h. k ∙ h; dead = λ d h. k ∙ d h }
+alters f r e1 = grind (arith, nat_tests)
 
 pub goes : (r : Listed Task) → HasEnded r.fields → Keeps r (gone r)
 goes r e = record { handle = refl; over = λ h. h; dead = λ d h. e }
@@ -102,19 +101,11 @@ once_each l k g o h = let e = listed_each h l k g in let u : listed h l ≤ 1 = 
 
 -- the phase stays, and the tasks change so
 pub held_keeps : (p : Phase) (m : List Bool) (l k : List (Listed Task)) → Held p m l → KeepsEach l k → Held p m k
-held_keeps p m l k v g = record {
-  dead = dead_each l k g v.dead;
-  stopped = λ f. ((v.stopped f).0, ended_each l k g (v.stopped f).1);
-  once = once_each l k g v.once;
-}
+held_keeps p m l k v g = grind (arith, nat_tests, dead_each, ended_each, once_each)
 
 -- the phase is late then
 pub held_late : (p q : Phase) (m : List Bool) (l k : List (Listed Task)) → is_past_open q ≡ true → Held p m l → KeepsEach l k → Held q m k
-held_late p q m l k t v g = record {
-  dead = dead_each l k g v.dead;
-  stopped = λ f. (t, ended_each l k g (v.stopped f).1);
-  once = once_each l k g v.once;
-}
+held_late p q m l k t v g = grind (arith, nat_tests, dead_each, ended_each, once_each)
 
 new_late : (p : Phase) → is_new p ≡ true → is_past_open p ≡ true → ⊥
 new_late p e1 e2 = grind (arith, nat_tests)
@@ -134,11 +125,7 @@ dead_issue h t (r ∷ rs) d = (d.0, dead_issue h t rs d.1)
 
 pub held_issue : (p : Phase) (m : List Bool) (h : ℕ) (t : Task) (l : List (Listed Task)) → is_open p ≡ true → listed h l ≡ 0 → Held p m l → Held p m (issue h t l)
 unfolding issue
-held_issue p m h t l o n v = record {
-  dead = dead_issue h t l v.dead;
-  stopped = λ f. absurd (open_late p o (v.stopped f).0);
-  once = once_more h t l n v.once;
-}
+held_issue p m h t l o n v = grind (arith, nat_tests, dead_issue, open_late, once_more)
 
 -- a worker stops
 

@@ -59,12 +59,7 @@ ends_high n p e k (r ∷ rs) z =
 ends_above : (n : ℕ) (p : Task → Bool) (e : TaskEnd) (k : ℕ) (l : List (Listed Task)) → k + count_listed p l ≤ n → has_number n l ≡ 0 → has_number n (end_each p e k l) ≡ 0
 unfolding end_each
 ends_above n p e k [] i z = refl
-ends_above n p e k (r ∷ rs) i z = cond_both (r.live && p r.fields) (ended e k r ∷ end_each p e (k + 1) rs) (r ∷ end_each p e k rs) (λ q. has_number n q ≡ 0)
-    (λ c.
-    let d : bit (r.live && p r.fields) ≡ 1 = ap bit c in
-    let o : bit (k == n) ≡ 0 = ap bit (other_number k n (omega arith)) in
-    let u : has_number n (end_each p e (k + 1) rs) ≡ 0 = ends_above n p e (k + 1) rs (omega arith) (omega arith) in
-    omega arith) (λ c. let u : has_number n (end_each p e k rs) ≡ 0 = ends_above n p e k rs (omega arith) (omega arith) in omega arith)
+ends_above n p e k (r ∷ rs) i z = grind (arith, nat_tests, ends_above n p e (k + 1) rs, ends_above n p e k rs, cond_both, end_each, other_number)
 
 -- no two ends have one number, and each number is below the next one
 pub record Numbered (s : State) : Type 0 where
@@ -73,10 +68,7 @@ pub record Numbered (s : State) : Type 0 where
 
 -- where the next number stays
 kept_numbers : (s t : State) → Numbered s → t.ends ≡ s.ends → ((n : ℕ) → has_number n t.tasks ≤ has_number n s.tasks) → Numbered t
-kept_numbers s t v e f = record {
-  once = λ n. let a : has_number n t.tasks ≤ has_number n s.tasks = f n in let b : has_number n s.tasks ≤ 1 = v.once n in omega arith;
-  above = λ n i. let a : has_number n t.tasks ≤ has_number n s.tasks = f n in let b : has_number n s.tasks ≡ 0 = v.above n (omega arith) in omega arith;
-}
+kept_numbers s t v e f = grind (arith, nat_tests)
 
 many_numbers : (s : State) (l : List (Listed Task)) (p : Task → Bool) (e : TaskEnd) → Numbered s → Numbered (record s { tasks = end_each p e s.ends s.tasks; ends = s.ends + count_listed p s.tasks })
 many_numbers s l p e v = record {

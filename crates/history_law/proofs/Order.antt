@@ -31,9 +31,7 @@ from_lower m n (e ∷ es) l a = (let k : n ≤ e.number = a.0 in omega arith, fr
 
 sorted_insert : (e : Ending) (es : List Ending) → Sorted es → Sorted (insert e es)
 sorted_insert e [] s = (tt, tt)
-sorted_insert e (f ∷ fs) s = cond_both (nat_lt e.number f.number) (e ∷ f ∷ fs) (f ∷ insert e fs) Sorted
-    (λ i. let less : e.number < f.number = grind (arith, nat_tests) in let l : e.number ≤ f.number = omega arith in ((l, from_lower e.number f.number fs l s.0), s))
-    (λ i. let l : f.number ≤ e.number = grind (arith, nat_tests) in (all_insert (FromNumber f.number) e fs l s.0, sorted_insert e fs s.1))
+sorted_insert e (f ∷ fs) s = grind (arith, nat_tests, sorted_insert e fs s.1, cond_both, nat_lt, from_lower, all_insert)
 
 sorted_endings : (g : ℕ) (l : List (ℕ × Task)) → Sorted (endings g l)
 unfolding endings
@@ -124,8 +122,7 @@ over_from g n k e r l = λ i j p q. let s : k ≡ p.1 = ap (number_told k) q in 
 from_ends : (g n : ℕ) (p : Task → Bool) (e : TaskEnd) (k : ℕ) (l : List (Listed Task)) → n ≤ k → AllFrom g n l → AllFrom g n (end_each p e k l)
 unfolding end_each
 from_ends g n p e k [] i a = tt
-from_ends g n p e k (r ∷ rs) i a = cond_both (r.live && p r.fields) (ended e k r ∷ end_each p e (k + 1) rs) (r ∷ end_each p e k rs) (AllFrom g n)
-    (λ c. (over_from g n k e r i, from_ends g n p e (k + 1) rs (omega arith) a.1)) (λ c. (a.0, from_ends g n p e k rs i a.1))
+from_ends g n p e k (r ∷ rs) i a = grind (arith, nat_tests, from_ends g n p e (k + 1) rs, from_ends g n p e k rs i a.1, cond_both, end_each, over_from)
 
 -- the next number, and the members
 record Left (g n : ℕ) (s : State) : Type 0 where
@@ -176,8 +173,7 @@ from_endings g n (r ∷ rs) a = on_test (λ b. AllOf (FromNumber n) (endings g (
 from_at : (g n : ℕ) (l : List (Listed Task)) (h : ℕ) (t : Task) → AllFrom g n l → live_object l h ≡ Some t → is_member g t ≡ true → (p : TaskEnd × ℕ) → end_of t.state ≡ Some p → n ≤ p.1
 unfolding live_of
 from_at g n [] h t a e m p q = absurd (cc)
-from_at g n (r ∷ rs) h t a e m p q = at_head r h (λ i j. let s : r.fields ≡ t = some_same (sym (at_here r rs h i j) ∙ e) in a.0 i (ap (is_member g) s ∙ m) p (ap (λ (x : Task). end_of x.state) s ∙ q))
-    (λ c. from_at g n rs h t a.1 (sym (at_past r rs h c) ∙ e) m p q)
+from_at g n (r ∷ rs) h t a e m p q = grind (arith, nat_tests, from_at g n rs h t a.1, at_head, some_same, at_here, is_member, end_of)
 
 -- The numbers in the records
 

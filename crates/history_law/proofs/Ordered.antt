@@ -112,9 +112,7 @@ put_issues q h (op.TaskEnqueue x args cores detached group) e = refl
 put_issues q h _ e = true_false e refl
 
 puts_issues : (q h : ℕ) (e : NodeEntry) → puts q h e ≡ true → issues kind.Task h e ≡ true
-puts_issues q h e i =
-    let a : makes_kind kind.Task e.op ≡ true = put_issues q h e.op (fst_true (puts_into q e.op) _ i) in
-    ap (λ (b : Bool). b && is_handle h e.reply) a ∙ snd_true (puts_into q e.op) _ i
+puts_issues q h e i = grind (arith, nat_tests, makes_kind, put_issues, fst_true, puts_into, is_handle)
 
 put_queue : (q : ℕ) (n : NewTask) (o : Op) → puts_into q o ≡ true → StartsTask n o → n.queue ≡ Some q
 put_queue q n (op.TaskEnqueue x args cores detached group) e b = ap (λ (y : NewTask). y.queue) b.1 ∙ ap Some (eqb-true x.0 q e)

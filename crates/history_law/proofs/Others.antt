@@ -1,13 +1,14 @@
 -- What the entries of other seats leave to a seat.
-use Rattle.history_law.proofs.Names.{◌≡◌, ◌≢◌, ℕ, zero, suc, Bool, true, false, cond, List, [], ◌∷◌, Option, Some, None, ◌⊎◌, inl, inr, refl, sym, ◌∙◌, ap, subst, arith, ◌==◌, ◌&&◌, not, is_none, slice_set, nat_tests, TaskEnd, is_seat, is_other, marked, holds, Op, Reply, Failed, Terms, Listed, live_object, count_listed, change, with_fields, gone, is_member, in_no_group, freed, let_go, Task, Notes, with_notes, TaskState, Scheduled, Running, Ended, end_of, runner, runs_on, is_unstarted, is_unended, with_state, ended, new_task, entries_of, State, opening, NodeEntry, next, LegalFrom, Legal, after_from, after, end_in, end_at, moves_phase, is_release, is_late_end, IsWaiter, Waits, OnceListed, Work, RunsWith, IsUntouched, Others, WorkerKeeps, NoPhase, NoRelease, Move, phase_is, released, stops, starts_task, runs_task, ends_task, ends_waiting, withdraws, notes, leaves, frees_members, lets_members_go, apply, after_moves, fst_true, snd_true, both_true, not_true, rest_keeps, some_same, and-false, eq-eqb, Answers}
+use Rattle.history_law.proofs.Names.{◌≡◌, ◌≢◌, ℕ, zero, suc, Bool, true, false, cond, List, [], ◌∷◌, Option, Some, None, ◌⊎◌, inl, inr, refl, sym, ◌∙◌, ap, subst, arith, ◌==◌, ◌&&◌, not, is_none, slice_set, nat_tests, TaskEnd, is_seat, is_other, marked, holds, Op, Reply, Failed, Terms, Listed, live_object, count_listed, change, with_fields, gone, is_member, in_no_group, freed, let_go, Task, Notes, with_notes, TaskState, Scheduled, Running, Ended, end_of, runner, runs_on, is_unstarted, is_unended, with_state, ended, new_task, entries_of, State, opening, NodeEntry, next, LegalFrom, Legal, after_from, after, end_in, end_at, moves_phase, is_release, is_late_end, IsWaiter, Waits, OnceListed, Work, RunsWith, IsUntouched, Others, WorkerKeeps, NoPhase, NoRelease, Move, phase_is, released, stops, starts_task, runs_task, ends_task, ends_waiting, withdraws, notes, leaves, frees_members, lets_members_go, apply, after_moves, fst_true, snd_true, both_true, not_true, rest_keeps, some_same, and-false, eq-eqb, Answers, IsNext}
 use Rattle.history_law.proofs.Reuse.{terms_next}
-use Rattle.history_law.proofs.SeatMoves.{SameWork, Noted, May, MayEnd, is_any_look, by_moves, answer}
+use Rattle.history_law.proofs.SeatMoves.{SameWork, Noted, May, MayEnd, is_any_look, by_moves, answer, kept_along}
+use Rattle.history_law.proofs.TaskMoves.{IsKept, every_moved, StaysLive, found_moved, same_found}
 use Rattle.mtapi_machine.specs.Answers as is
 use Rattle.history_law.proofs.Moves.{once_along, once_from}
 use Rattle.history_law.proofs.lists.Members.{AllOf, IsEnding, all_endings}
-use Rattle.history_law.proofs.lists.Every.{Every, every_issue, every_change, every_all, every_at, every_ends}
-use Rattle.history_law.proofs.lists.Found.{FoundAs, found_changed, found_issued, count_changed, count_issued, found_ends, count_ends, found_all, count_all, both}
-use Rattle.history_law.proofs.Answered.{true_false}
+use Rattle.history_law.proofs.lists.Every.{Every, every_at}
+use Rattle.history_law.proofs.lists.Found.{FoundAs, found_changed, count_changed, count_issued, count_ends, count_all, both}
+use Rattle.history_law.proofs.Answered.{whether, true_false}
 
 -- The mark of a waiter
 
@@ -16,21 +17,6 @@ waiter_other w who o e1 e2 e3 = grind (arith, nat_tests)
 
 ended_live : (r : Listed Task) (e : TaskEnd) (n : ℕ) → r.live ≡ true → r.fields.notes.detached ≡ false → (ended e n r).live ≡ true
 ended_live r e n a d = (λ i. a i && not (d i))
-
-waits_ended : (w : ℕ) (t : Task) (e : TaskEnd) (n : ℕ) (r : Listed Task) → IsWaiter w t → r.live ≡ true → r.fields ≡ t → ((ended e n r).live ≡ true) × IsWaiter w (ended e n r).fields
-waits_ended w t e n r i a s = (
-  ended_live r e n a (ap (λ (u : Task). u.notes.detached) s ∙ i.kept),
-  record { mark = ap (λ (u : Task). is_seat w u.notes.waiter) s ∙ i.mark; kept = ap (λ (u : Task). u.notes.detached) s ∙ i.kept; alone = ap (λ (u : Task). u.notes.group) s ∙ i.alone },
-)
-
-waits_set : (w : ℕ) (f : Task → Task) (t : Task) (r : Listed Task) → IsWaiter w (f t) → r.live ≡ true → r.fields ≡ t → ((with_fields f r).live ≡ true) × IsWaiter w (with_fields f r).fields
-waits_set w f t r i a s = (a, subst (λ (u : Task). IsWaiter w (f u)) (sym s) i)
-
-pub same_found : (s : State) (j h : ℕ) → j ≡ h → (t u : Task) → live_object s.tasks j ≡ Some t → live_object s.tasks h ≡ Some u → t ≡ u
-same_found s j h e1 t u e2 e3 = grind (arith, nat_tests)
-
-same_other : (s : State) (who j h : ℕ) → j ≡ h → (t u : Task) → live_object s.tasks j ≡ Some t → live_object s.tasks h ≡ Some u → is_other who t.notes.waiter ≡ false → is_other who u.notes.waiter ≡ false
-same_other s who j h e t u a b n = ap (λ (x : Task). is_other who x.notes.waiter) (sym (same_found s j h e t u a b)) ∙ n
 
 -- what another seat notes of a task leaves the waiter's mark
 noted_waits : (w who : ℕ) (f : Notes → Notes) (t : Task) → who ≢ w → Noted who f t → IsWaiter w t → IsWaiter w (with_notes f t)
@@ -48,26 +34,19 @@ noted_waits w who f t n x i = by_waiter x.waiter
 no_member : (g : ℕ) (t : Task) → t.notes.group ≡ None → is_member g t ≡ false
 no_member g t e = ap (holds (λ h. h == g)) e
 
-waits_move : (w h who : ℕ) (o : Op) → who ≢ w → is_any_look o ≡ false → (s : State) (x : Move) → May s who o x → Waits s w h → Waits (apply x s) w h
-waits_move w h who o n b s (starts_task j t) k v = found_issued (IsWaiter w) j h (new_task t s.starts) s.tasks v.0 v.1 v.2
-waits_move w h who o n b s (runs_task j y z) k v = found_changed (IsWaiter w) j h (with_fields (with_state (Running y z))) (λ r. refl) s.tasks v.0 v.1 v.2 (λ r e a f. waits_set w (with_state (Running y z)) v.0 r (record { mark = v.2.mark; kept = v.2.kept; alone = v.2.alone }) a f)
-waits_move w h who o n b s (notes j f) k v =
-    found_changed (IsWaiter w) j h (with_fields (with_notes f)) (λ r. refl) s.tasks v.0 v.1 v.2
-    (λ r e a d. waits_set w (with_notes f) v.0 r (noted_waits w who f v.0 n (subst (λ (t : Task). Noted who f t) (same_found s j h e k.0 v.0 k.1 v.1) k.2) v.2) a d)
-waits_move w h who o n b s (leaves j) k v =
-    found_changed (IsWaiter w) j h gone (λ r. refl) s.tasks v.0 v.1 v.2
-    (λ r e a f. absurd (by_look e k.3))
+waits_stay : (w h who : ℕ) (o : Op) → who ≢ w → is_any_look o ≡ false → StaysLive (IsWaiter w) who h o
+waits_stay w h who o n b = record {
+  takes = λ y z t u i. record { mark = i.mark; kept = i.kept; alone = i.alone };
+  ends = λ e m r c d a i. (ended_live r e m a i.kept, record { mark = i.mark; kept = i.kept; alone = i.alone });
+  notes = λ f t x d i. noted_waits w who f t n x i;
+  leaves = λ t u k i. by_look t i k;
+  frees = λ g t m u i. true_false m (no_member g t i.alone);
+  lets_go = λ g r m a i. true_false m (no_member g r.fields i.alone);
+}
   where
-    by_look : j ≡ h → (is_any_look o ≡ true) ⊎ (is_other who k.0.notes.waiter ≡ false) → ⊥
-    by_look e (inl i) = true_false i b
-    by_look e (inr i) = (waiter_other w who v.0.notes.waiter n v.2.mark (same_other s who j h e k.0 v.0 k.1 v.1 i))
-waits_move w h who o n b s (ends_task j e) k v = found_changed (IsWaiter w) j h (ended e s.ends) (λ r. refl) s.tasks v.0 v.1 v.2 (λ r d a f. waits_ended w v.0 e s.ends r v.2 a f)
-waits_move w h who o n b s (ends_waiting p e) k v = found_ends (IsWaiter w) (λ t. is_unstarted t && p t) e s.ends h s.tasks v.0 v.1 v.2 (λ r m a f d. waits_ended w v.0 e m r v.2 a f)
-waits_move w h who o n b s (withdraws j f c) k v = found_ends (IsWaiter w) _ (Failed c) s.ends h s.tasks v.0 v.1 v.2 (λ r m a i d. waits_ended w v.0 (Failed c) m r v.2 a i)
-waits_move w h who o n b s (frees_members g) k v =
-    found_all (IsWaiter w) _ freed h (λ r. refl) s.tasks v.0 v.1 v.2 (λ r a i d. true_false (fst_true (is_member g v.0) _ d) (no_member g v.0 v.2.alone))
-waits_move w h who o n b s (lets_members_go g) k v = found_all (IsWaiter w) _ let_go h (λ r. refl) s.tasks v.0 v.1 v.2 (λ r a i d. true_false d (no_member g v.0 v.2.alone))
-waits_move w h who o n b s x k v = rest_keeps (λ t. Waits t w h) (λ t g q m c r y p. p) x s v
+    by_look : (t : Task) → IsWaiter w t → (is_any_look o ≡ true) ⊎ (is_other who t.notes.waiter ≡ false) → ⊥
+    by_look t i (inl j) = true_false j b
+    by_look t i (inr j) = waiter_other w who t.notes.waiter n i.mark j
 
 -- The work of a worker
 
@@ -122,15 +101,8 @@ work_count w who o n s (runs_task j y z) k =
 work_count w who o n s (ends_task j e) k = count_alike w j (ended e s.ends) s.tasks k.0 k.1 (λ r a f. and-false _ ∙ sym (may_end_apart w who k.0 n k.2))
 work_count w who o n s x k = other_count w who o s x refl k
 
--- the task of the handle goes on as it is
-runs_set : (w : ℕ) (q : Work) (f : Task → Task) (t : Task) (r : Listed Task) → RunsWith w q (f t) → r.live ≡ true → r.fields ≡ t → ((with_fields f r).live ≡ true) × RunsWith w q (with_fields f r).fields
-runs_set w q f t r i a s = (a, subst (λ (u : Task). RunsWith w q (f u)) (sym s) i)
-
 runs_here : (w : ℕ) (q : Work) (t : Task) → RunsWith w q t → runs_on w t ≡ true
 runs_here w q t i = ap (λ (x : TaskState). holds (λ r. r.0 == w) (runner x)) i.state ∙ eq-eqb w w refl
-
-runs_as_they_are : (s : State) (w j h : ℕ) (q : Work) → j ≡ h → (t u : Task) → live_object s.tasks j ≡ Some t → live_object s.tasks h ≡ Some u → RunsWith w q u → runs_on w t ≡ false → ⊥
-runs_as_they_are s w j h q e t u a b i n = true_false (runs_here w q u i) (ap (runs_on w) (sym (same_found s j h e t u a b)) ∙ n)
 
 noted_runs : (w who : ℕ) (q : Work) (f : Notes → Notes) (t : Task) → who ≢ w → Noted who f t → RunsWith w q t → RunsWith w q (with_notes f t)
 noted_runs w who q f t n x i = by_work x.work
@@ -139,33 +111,18 @@ noted_runs w who q f t n x i = by_work x.work
     by_work (inl a) = true_false (runs_here w q t i) (runs_apart w who t n a)
     by_work (inr e) = record { state = i.state; arguments = i.arguments; looked = e.looks ∙ i.looked; reported = e.seen ∙ i.reported; did = e.tally ∙ i.did }
 
--- a member that is let go of and runs stays live, and runs on
-goes_on : (w : ℕ) (q : Work) (t : Task) (r : Listed Task) → RunsWith w q t → r.live ≡ true → r.fields ≡ t → ((let_go r).live ≡ true) × RunsWith w q (let_go r).fields
-goes_on w q t r i a s =
-    let j : RunsWith w q r.fields = subst (RunsWith w q) (sym s) i in
-    (both_true r.live (is_unended r.fields) a (ap (λ (x : TaskState). is_none (end_of x)) j.state), record { state = j.state; arguments = j.arguments; looked = j.looked; reported = j.reported; did = j.did })
-
-runs_move : (w h : ℕ) (q : Work) (who : ℕ) (o : Op) → who ≢ w → (s : State) (x : Move) → May s who o x → FoundAs (RunsWith w q) s.tasks h → FoundAs (RunsWith w q) (apply x s).tasks h
-runs_move w h q who o n s (starts_task j t) k v = found_issued (RunsWith w q) j h (new_task t s.starts) s.tasks v.0 v.1 v.2
-runs_move w h q who o n s (runs_task j y z) k v =
-    found_changed (RunsWith w q) j h (with_fields (with_state (Running y z))) (λ r. refl) s.tasks v.0 v.1 v.2
-    (λ r e a f. absurd (runs_as_they_are s w j h q e k.0 v.0 k.1 v.1 v.2 (runs_scheduled w k.0 k.2)))
-runs_move w h q who o n s (notes j f) k v =
-    found_changed (RunsWith w q) j h (with_fields (with_notes f)) (λ r. refl) s.tasks v.0 v.1 v.2
-    (λ r e a d. runs_set w q (with_notes f) v.0 r (noted_runs w who q f v.0 n (subst (λ (t : Task). Noted who f t) (same_found s j h e k.0 v.0 k.1 v.1) k.2) v.2) a d)
-runs_move w h q who o n s (leaves j) k v =
-    found_changed (RunsWith w q) j h gone (λ r. refl) s.tasks v.0 v.1 v.2 (λ r e a f. absurd (runs_as_they_are s w j h q e k.0 v.0 k.1 v.1 v.2 (runs_over w k.0 k.2)))
-runs_move w h q who o n s (ends_task j e) k v =
-    found_changed (RunsWith w q) j h (ended e s.ends) (λ r. refl) s.tasks v.0 v.1 v.2
-    (λ r d a f. absurd (runs_as_they_are s w j h q d k.0 v.0 k.1 v.1 v.2 (may_end_apart w who k.0 n k.2)))
-runs_move w h q who o n s (ends_waiting p e) k v =
-    found_ends (RunsWith w q) (λ t. is_unstarted t && p t) e s.ends h s.tasks v.0 v.1 v.2 (λ r m a f d. absurd (true_false (runs_here w q v.0 v.2) (runs_scheduled w v.0 (fst_true _ _ d))))
-runs_move w h q who o n s (withdraws j f c) k v =
-    found_ends (RunsWith w q) _ (Failed c) s.ends h s.tasks v.0 v.1 v.2 (λ r m a i d. absurd (true_false (runs_here w q v.0 v.2) (runs_scheduled w v.0 (fst_true _ _ d))))
-runs_move w h q who o n s (frees_members g) k v =
-    found_all (RunsWith w q) _ freed h (λ r. refl) s.tasks v.0 v.1 v.2 (λ r a i d. true_false (runs_here w q v.0 v.2) (runs_over w v.0 (not_true _ (snd_true (is_member g v.0) _ d))))
-runs_move w h q who o n s (lets_members_go g) k v = found_all (RunsWith w q) (is_member g) let_go h (λ r. refl) s.tasks v.0 v.1 v.2 (λ r a i d. goes_on w q v.0 r v.2 a i)
-runs_move w h q who o n s x k v = rest_keeps (λ t. FoundAs (RunsWith w q) t.tasks h) (λ t g q m c r y p. p) x s v
+runs_stay_live : (w h : ℕ) (q : Work) (who : ℕ) (o : Op) → who ≢ w → StaysLive (RunsWith w q) who h o
+runs_stay_live w h q who o n = record {
+  takes = λ y z t u i. true_false (runs_here w q t i) (runs_scheduled w t u);
+  ends = λ e m r c d a i. true_false (runs_here w q r.fields i) (may_end_apart w who r.fields n c);
+  notes = λ f t x d i. noted_runs w who q f t n x i;
+  leaves = λ t u k i. true_false (runs_here w q t i) (runs_over w t u);
+  frees = λ g t m u i. true_false (runs_here w q t i) (runs_over w t u);
+  lets_go = λ g r m a i. (
+    both_true r.live (is_unended r.fields) a (ap (λ (x : TaskState). is_none (end_of x)) i.state),
+    record { state = i.state; arguments = i.arguments; looked = i.looked; reported = i.reported; did = i.did },
+  );
+}
 
 -- Lists of entries by other seats
 
@@ -203,30 +160,28 @@ once_stays s L o = once_along s L o
 pub once_after : (terms : Terms) (L : List NodeEntry) → Legal terms L → OnceListed (after terms L)
 once_after terms L l = once_from terms L
 
+-- what each entry of another seat keeps, a list of them keeps
+by_others : (w : ℕ) (P : State → Type 0) → ((s : State) (e : NodeEntry) → IsNext s e → e.who ≢ w → P s → P (next s e)) → (s : State) (L : List NodeEntry) → LegalFrom s L → Others w L → P s → P (after_from s L)
+unfolding LegalFrom after_from
+by_others w P k s [] l o v = v
+by_others w P k s (e ∷ es) l o v = let q = other_head w e es o in by_others w P k (next s e) es l.1 q.1 (k s e l.0 q.0 v)
+
+once_then : (s : State) (e : NodeEntry) → OnceListed s → OnceListed (next s e)
+unfolding after_from
+once_then s e o = once_stays s (e ∷ []) o
+
 pub waiter_stays : (s : State) (L : List NodeEntry) (w h : ℕ) → OnceListed s → LegalFrom s L → Others w L → Waits s w h → Waits (after_from s L) w h
-unfolding LegalFrom after_from
-waiter_stays s [] w h n l o v = v
-waiter_stays s (e ∷ es) w h n l o v =
-    let q = other_head w e es o in
-    waiter_stays (next s e) es w h (once_stays s (e ∷ []) n) l.1 q.1 (by_look q.0 (is_any_look e.op) refl)
-  where
-    by_look : e.who ≢ w → (b : Bool) → is_any_look e.op ≡ b → Waits (next s e) w h
-    by_look a true b = any_by w h s e.who e.op e.reply _ b n v (answer s e l.0)
-    by_look a false b = by_moves (λ t. Waits t w h) s e l.0 (λ t x k y. waits_move w h e.who e.op a b t x k y) v
+waiter_stays s L w h n l o v =
+    (by_others w (λ t. OnceListed t × Waits t w h)
+    (λ t e i a x. (once_then t e x.0, whether (is_any_look e.op) (λ b. any_by w h t e.who e.op e.reply _ b x.0 x.1 (answer t e i)) (λ b. by_moves (λ u. Waits u w h) t e i (found_moved (IsWaiter w) e.who h e.op (waits_stay w h e.who e.op a b)) x.1))) s L l o (n, v)).1
 
-pub count_stays : (s : State) (L : List NodeEntry) (w : ℕ) → LegalFrom s L → Others w L → count_listed (runs_on w) (after_from s L).tasks ≡ count_listed (runs_on w) s.tasks
-unfolding LegalFrom after_from
-count_stays s [] w l o = refl
-count_stays s (e ∷ es) w l o =
-    let q = other_head w e es o in
-    count_stays (next s e) es w l.1 q.1 ∙ by_moves (λ t. count_listed (runs_on w) t.tasks ≡ count_listed (runs_on w) s.tasks) s e l.0 (λ t x k y. work_count w e.who e.op q.0 t x k ∙ y) refl
+count_stays : (s : State) (L : List NodeEntry) (w : ℕ) → LegalFrom s L → Others w L → count_listed (runs_on w) (after_from s L).tasks ≡ count_listed (runs_on w) s.tasks
+count_stays s L w l o =
+    by_others w (λ t. count_listed (runs_on w) t.tasks ≡ count_listed (runs_on w) s.tasks) (λ t e i a v. by_moves (λ u. count_listed (runs_on w) u.tasks ≡ count_listed (runs_on w) s.tasks) t e i (λ u x k y. work_count w e.who e.op a u x k ∙ y) v) s L l o refl
 
-pub runs_stay : (s : State) (L : List NodeEntry) (w h : ℕ) (q : Work) → LegalFrom s L → Others w L → FoundAs (RunsWith w q) s.tasks h → FoundAs (RunsWith w q) (after_from s L).tasks h
-unfolding LegalFrom after_from
-runs_stay s [] w h q l o v = v
-runs_stay s (e ∷ es) w h q l o v =
-    let p = other_head w e es o in
-    runs_stay (next s e) es w h q l.1 p.1 (by_moves (λ t. FoundAs (RunsWith w q) t.tasks h) s e l.0 (λ t x k y. runs_move w h q e.who e.op p.0 t x k y) v)
+runs_stay : (s : State) (L : List NodeEntry) (w h : ℕ) (q : Work) → LegalFrom s L → Others w L → FoundAs (RunsWith w q) s.tasks h → FoundAs (RunsWith w q) (after_from s L).tasks h
+runs_stay s L w h q l o v =
+    by_others w (λ t. FoundAs (RunsWith w q) t.tasks h) (λ t e i a x. by_moves (λ u. FoundAs (RunsWith w q) u.tasks h) t e i (found_moved (RunsWith w q) e.who h e.op (runs_stay_live w h q e.who e.op a)) x) s L l o v
 
 pub work_stays : (s : State) (L : List NodeEntry) (w : ℕ) → LegalFrom s L → Others w L → WorkerKeeps s (after_from s L) w
 work_stays s L w l o = record {
@@ -268,33 +223,21 @@ pub record InTime (t : Task) : Type 0 where
   pub state : in_time t.state ≡ true
   pub verdict : is_late_end t.notes.tally.verdict ≡ false
 
-ended_in_time : (e : TaskEnd) (n : ℕ) (t : Task) → is_late_end e ≡ false → InTime t → InTime (with_state (Ended e n) t)
-ended_in_time e n t k i = record { state = ap not k; verdict = i.verdict }
-
-noted_in_time : (who : ℕ) (f : Notes → Notes) (t : Task) → Noted who f t → InTime t → InTime (with_notes f t)
-noted_in_time who f t x i = record { state = i.state; verdict = x.verdict i.verdict }
-
-time_move : (who : ℕ) (o : Op) (s : State) (x : Move) → May s who o x → Every InTime s.tasks → Every InTime (apply x s).tasks
-time_move who o s (starts_task j y) k v = every_issue InTime j (new_task y s.starts) s.tasks (record { state = refl; verdict = refl }) v
-time_move who o s (runs_task j y z) k v = every_change InTime j (with_fields (with_state (Running y z))) s.tasks (λ r e i. record { state = refl; verdict = i.verdict }) v
-time_move who o s (notes j f) k v =
-    every_change InTime j (with_fields (with_notes f)) s.tasks (λ r e i. noted_in_time who f r.fields (subst (λ (t : Task). Noted who f t) (some_same (sym k.1 ∙ e)) k.2) i) v
-time_move who o s (leaves j) k v = every_change InTime j gone s.tasks (λ r e i. i) v
-time_move who o s (ends_task j e) k v = every_change InTime j (ended e s.ends) s.tasks (λ r d i. ended_in_time e s.ends r.fields (by_end r.fields d i k.3) i) v
+time_kept : (who : ℕ) (o : Op) → IsKept InTime who o
+time_kept who o = record {
+  new = λ t n. record { state = refl; verdict = refl };
+  takes = λ w k t u i. record { state = refl; verdict = i.verdict };
+  ends = λ e n t k i. record { state = ap not (by_end e t i k); verdict = i.verdict };
+  notes = λ f t x d i. record { state = i.state; verdict = x.verdict i.verdict };
+  groups = λ d g t i. record { state = i.state; verdict = i.verdict };
+}
   where
-    by_end : (t : Task) → live_object s.tasks j ≡ Some t → InTime t → (is_late_end e ≡ false) ⊎ (e ≡ k.0.notes.tally.verdict) → is_late_end e ≡ false
-    by_end t d i (inl y) = y
-    by_end t d i (inr y) = ap is_late_end (y ∙ ap (λ (u : Task). u.notes.tally.verdict) (some_same (sym k.1 ∙ d))) ∙ i.verdict
-time_move who o s (ends_waiting p e) k v = every_ends InTime (λ t. is_unstarted t && p t) e s.ends s.tasks (λ t n i. ended_in_time e n t k i) v
-time_move who o s (withdraws j f c) k v = every_ends InTime _ (Failed c) s.ends s.tasks (λ t n i. ended_in_time (Failed c) n t k i) v
-time_move who o s (frees_members g) k v = every_all InTime _ freed s.tasks (λ r i. record { state = i.state; verdict = i.verdict }) v
-time_move who o s (lets_members_go g) k v = every_all InTime (is_member g) let_go s.tasks (λ r i. record { state = i.state; verdict = i.verdict }) v
-time_move who o s x k v = rest_keeps (λ t. Every InTime t.tasks) (λ t g q m c r y p. p) x s v
+    by_end : (e : TaskEnd) (t : Task) → InTime t → (is_late_end e ≡ false) ⊎ (e ≡ t.notes.tally.verdict) → is_late_end e ≡ false
+    by_end e t i (inl y) = y
+    by_end e t i (inr y) = ap is_late_end y ∙ i.verdict
 
-pub time_after : (s : State) (L : List NodeEntry) → LegalFrom s L → Every InTime s.tasks → Every InTime (after_from s L).tasks
-unfolding LegalFrom after_from
-time_after s [] l v = v
-time_after s (e ∷ es) l v = time_after (next s e) es l.1 (by_moves (λ t. Every InTime t.tasks) s e l.0 (time_move e.who e.op) v)
+time_after : (s : State) (L : List NodeEntry) → LegalFrom s L → Every InTime s.tasks → Every InTime (after_from s L).tasks
+time_after s L l v = kept_along (λ t. Every InTime t.tasks) (λ t e i. by_moves (λ u. Every InTime u.tasks) t e i (every_moved InTime e.who e.op (time_kept e.who e.op))) s L l v
 
 -- so does the end in the first record under a handle
 ended_late : (h : ℕ) (e : TaskEnd) (l : List (Listed Task)) → Every InTime l → end_at l h ≡ Some e → is_late_end e ≡ false
@@ -330,27 +273,17 @@ noted_clean who f t x i u = by_work x.work (i u)
     by_work (inl a) y = absurd (runs_begun who t a u)
     by_work (inr e) y = record { looks = e.looks ∙ y.looks; seen = e.seen ∙ y.seen; tally = e.tally ∙ y.tally }
 
--- other notes of a group, or whether it is detached, leave that
-group_clean : (t : Task) (d : Bool) (g : Option ℕ) → Clean t → Clean (with_notes (λ n. record n { detached = d; group = g }) t)
-group_clean t d g i u = let y = i u in record { looks = y.looks; seen = y.seen; tally = y.tally }
-
-clean_move : (who : ℕ) (o : Op) (s : State) (x : Move) → May s who o x → Every Clean s.tasks → Every Clean (apply x s).tasks
-clean_move who o s (starts_task j y) k v = every_issue Clean j (new_task y s.starts) s.tasks (λ u. record { looks = refl; seen = refl; tally = refl }) v
-clean_move who o s (runs_task j y z) k v = every_change Clean j (with_fields (with_state (Running y z))) s.tasks (λ r e i u. true_false u refl) v
-clean_move who o s (notes j f) k v =
-    every_change Clean j (with_fields (with_notes f)) s.tasks (λ r e i. noted_clean who f r.fields (subst (λ (t : Task). Noted who f t) (some_same (sym k.1 ∙ e)) k.2) i) v
-clean_move who o s (leaves j) k v = every_change Clean j gone s.tasks (λ r e i. i) v
-clean_move who o s (ends_task j e) k v = every_change Clean j (ended e s.ends) s.tasks (λ r d i u. true_false u refl) v
-clean_move who o s (ends_waiting p e) k v = every_ends Clean (λ t. is_unstarted t && p t) e s.ends s.tasks (λ t n i u. true_false u refl) v
-clean_move who o s (withdraws j f c) k v = every_ends Clean _ (Failed c) s.ends s.tasks (λ t n i u. true_false u refl) v
-clean_move who o s (frees_members g) k v = every_all Clean _ freed s.tasks (λ r i. group_clean r.fields r.fields.notes.detached None i) v
-clean_move who o s (lets_members_go g) k v = every_all Clean (is_member g) let_go s.tasks (λ r i. group_clean r.fields true None i) v
-clean_move who o s x k v = rest_keeps (λ t. Every Clean t.tasks) (λ t g q m c r y p. p) x s v
+clean_kept : (who : ℕ) (o : Op) → IsKept Clean who o
+clean_kept who o = record {
+  new = λ t n u. record { looks = refl; seen = refl; tally = refl };
+  takes = λ w k t b i u. true_false u refl;
+  ends = λ e n t k i u. true_false u refl;
+  notes = λ f t x d i. noted_clean who f t x i;
+  groups = λ d g t i u. let y = i u in record { looks = y.looks; seen = y.seen; tally = y.tally };
+}
 
 clean_after : (s : State) (L : List NodeEntry) → LegalFrom s L → Every Clean s.tasks → Every Clean (after_from s L).tasks
-unfolding LegalFrom after_from
-clean_after s [] l v = v
-clean_after s (e ∷ es) l v = clean_after (next s e) es l.1 (by_moves (λ t. Every Clean t.tasks) s e l.0 (clean_move e.who e.op) v)
+clean_after s L l v = kept_along (λ t. Every Clean t.tasks) (λ t e i. by_moves (λ u. Every Clean u.tasks) t e i (every_moved Clean e.who e.op (clean_kept e.who e.op))) s L l v
 
 pub unstarted_untouched : (terms : Terms) (L : List NodeEntry) (h : ℕ) (t : Task) → Legal terms L → live_object (after terms L).tasks h ≡ Some t → is_unstarted t ≡ true → IsUntouched t
 unstarted_untouched terms L h t l a i = every_at Clean (after terms L).tasks h t (clean_after (opening terms) L l.from tt) a i
@@ -358,9 +291,7 @@ unstarted_untouched terms L h t l a i = every_at Clean (after terms L).tasks h t
 -- The terms stay
 
 pub terms_stay : (s : State) (L : List NodeEntry) → LegalFrom s L → (after_from s L).terms ≡ s.terms
-unfolding LegalFrom after_from
-terms_stay s [] l = refl
-terms_stay s (e ∷ es) l = terms_stay (next s e) es l.1 ∙ terms_next s.terms s e refl
+terms_stay s L l = kept_along (λ t. t.terms ≡ s.terms) (λ t e i v. terms_next s.terms t e v) s L l refl
 
 -- The marks of stopped workers stay
 
@@ -376,6 +307,4 @@ stopped_move w who o s (stops y) k v = set_keeps s.stopped w y v
 stopped_move w who o s x k v = rest_keeps (λ t. marked w t.stopped ≡ true) (λ t g q m c r y p. p) x s v
 
 pub stopped_stays : (s : State) (L : List NodeEntry) (w : ℕ) → LegalFrom s L → marked w s.stopped ≡ true → marked w (after_from s L).stopped ≡ true
-unfolding LegalFrom after_from
-stopped_stays s [] w l v = v
-stopped_stays s (e ∷ es) w l v = stopped_stays (next s e) es w l.1 (by_moves (λ t. marked w t.stopped ≡ true) s e l.0 (stopped_move w e.who e.op) v)
+stopped_stays s L w l v = kept_along (λ t. marked w t.stopped ≡ true) (λ t e i. by_moves (λ u. marked w u.stopped ≡ true) t e i (stopped_move w e.who e.op)) s L l v

@@ -14,8 +14,7 @@ unfolding may_issue
 unlisted_if o s h e = eqb-true (listed h (o.list s)) 0 (fst_true _ _ (fst_true _ _ (snd_true (names_kind s.terms.layout o.kind h) _ e)))
 
 pub apart_if : {T : Type 0} (o : Objects T) (s : State) (h j : ℕ) → 1 ≤ listed h (o.list s) → is_fresh o s j ≡ true → (j == h) ≡ false
-apart_if o s h j l e =
-    false_from_ne_true (j == h) (λ i. let here : listed h (o.list s) ≡ 0 = subst (λ (n : ℕ). listed n (o.list s) ≡ 0) (eqb-true j h i) (unlisted_if o s j e) in omega arith)
+apart_if o s h j l e = grind (arith, nat_tests, false_from_ne_true, eqb-true, unlisted_if)
 
 pub fresh_unlisted : (k : ObjectKind) (s : State) (h : ℕ) → is_fresh (objects_of k) s h ≡ true → times k h s ≡ 0
 fresh_unlisted k s h e = unlisted_if (objects_of k) s h e
@@ -69,9 +68,7 @@ is_this h r e1 = grind (arith, nat_tests)
 
 -- an entry that issues a handle has the row of this reply, so what holds after that row holds after the entry
 pub issued_as : (k : ObjectKind) (h : ℕ) (s : State) (P : Op → State → Type 0) → ((who : ℕ) (o : Op) → makes_kind k o ≡ true → Allows (row s who o (Handle h)) (Handle h) → P o (after_row s (row s who o (Handle h)))) → (e : NodeEntry) → IsNext s e → issues k h e ≡ true → P e.op (next s e)
-issued_as k h s P make e n i =
-    let r : e.reply ≡ Handle h = is_this h e.reply (snd_true (makes_kind k e.op) _ i) in
-    subst (λ (x : Reply). P e.op (after_row s (row s e.who e.op x))) (sym r) (make e.who e.op (fst_true (makes_kind k e.op) _ i) (subst (λ (x : Reply). Allows (row s e.who e.op x) x) r n.allowed))
+issued_as k h s P e1 e e2 e3 = grind (arith, nat_tests)
 
 pub issues_fresh : (k : ObjectKind) (s : State) (e : NodeEntry) (h : ℕ) → IsNext s e → issues k h e ≡ true → is_fresh (objects_of k) s h ≡ true
 issues_fresh k s e h n i = issued_as k h s (λ o t. is_fresh (objects_of k) s h ≡ true) (λ who o. issue_fresh k s who o h) e n i
@@ -179,10 +176,7 @@ named_after terms es k h two l =
     eqb-true (named_kind h) (object_number k) n
 
 names_two : (T : Terms) (k : ObjectKind) (h : ℕ) (s : State) → s.terms ≡ T → T.layout ≡ Two → is_fresh (objects_of k) s h ≡ true → named_kind h ≡ object_number k
-names_two T k h s same two e =
-    let n : names_kind s.terms.layout (objects_of k).kind h ≡ true = fst_true _ (may_issue s.terms.settings.generations h ((objects_of k).list s)) e in
-    let m : names_kind Two k h ≡ true = subst (λ (x : ObjectKind). names_kind Two x h ≡ true) (own_kind k) (subst (λ (x : Layout). names_kind x (objects_of k).kind h ≡ true) (ap (λ (t : Terms). t.layout) same ∙ two) n) in
-    eqb-true (named_kind h) (object_number k) m
+names_two T k h s same two e = grind (arith, nat_tests, names_kind, objects_of, fst_true, may_issue, own_kind)
 
 pub terms_next : (T : Terms) (s : State) (e : NodeEntry) → s.terms ≡ T → (next s e).terms ≡ T
 terms_next T s e v = by_moves (λ t. t.terms ≡ T) s e (λ t m y w. terms_move T t m w) v

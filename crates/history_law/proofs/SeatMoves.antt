@@ -1,9 +1,9 @@
 -- What the seat and the op of an entry had to know, for each move that they make. A law on what seats leave to one another is shown for each move once.
-use Rattle.history_law.proofs.Names.{nat_tests, arith, ◌≡◌, ℕ, ◌+◌, Bool, true, false, cond, List, [], ◌∷◌, Option, Some, None, ◌⊎◌, inl, inr, refl, ◌∙◌, ap, ◌==◌, ◌&&◌, is_none, ℤ, eq-eqb, Kind, MtapiStatus, Completed, Failed, is_other, is_pure, answer_of, Answered, IsAnswered, Reply, Op, live_object, any_listed, holds, Task, Notes, TallyNotes, TaskState, scheduled, end_of, runner, runs_as, runs_on, kind_number, is_unstarted, is_unended, with_notes, with_waiter, asked_once, watch_end, tally_args, cell_in, added, with_tally, tally_failed, tally_has, tally_read, tally_written, in_no_group, Mutex, Segment, cell_of, State, Move, Mutexes, Segments, phase_is, released, stops, makes_action, withdraws, starts_task, runs_task, ends_task, ends_waiting, notes, leaves, makes, alters, apply, after_moves, moves_of, is_ready, task_end, NodeEntry, IsNext, IsHonest, row_of, next, IsMade, AreMade, fst_true, snd_true, not_false, row_made, at-update, moves_phase, is_release, is_late_end, is_tally_end, cond_both, enables, frees_members, lets_members_go, removes, Answers, gives_up_with, LegalFrom, after_from}
+use Rattle.history_law.proofs.Names.{nat_tests, arith, ◌≡◌, ℕ, ◌+◌, Bool, true, false, cond, List, [], ◌∷◌, Option, Some, None, ◌⊎◌, inl, inr, refl, ◌∙◌, ap, ◌==◌, ◌&&◌, is_none, ℤ, eq-eqb, Kind, MtapiStatus, Completed, Failed, is_other, is_pure, answer_of, Answered, IsAnswered, Reply, Op, live_object, any_listed, holds, Task, Notes, TallyNotes, TaskState, scheduled, end_of, runner, runs_as, runs_on, kind_number, is_unstarted, is_unended, with_notes, with_waiter, asked_once, watch_end, tally_args, cell_in, added, with_tally, tally_failed, tally_has, tally_read, tally_written, in_no_group, Mutex, Segment, cell_of, State, Move, Mutexes, Segments, phase_is, released, stops, makes_action, withdraws, starts_task, runs_task, ends_task, ends_waiting, notes, leaves, makes, alters, apply, after_moves, moves_of, is_ready, task_end, NodeEntry, IsNext, IsHonest, row_of, next, IsMade, AreMade, fst_true, snd_true, not_false, row_made, at-update, moves_phase, is_release, is_late_end, is_tally_end, cond_both, enables, frees_members, lets_members_go, removes, Answers, gives_up_with, LegalFrom, after_from, some_entry}
 use Rattle.mtapi_values.specs.declared.kinds.Kind.TheVariants as kind
 use Rattle.mtapi_values.specs.declared.statuses.MtapiStatus.TheVariants as m
 use Rattle.mtapi_machine.specs.declared.ops.Op.TheVariants as op
-use Rattle.history_law.proofs.Answered.{first_false, true_false}
+use Rattle.history_law.proofs.Answered.{none_first, first_false, true_false}
 use Rattle.mtapi_machine.specs.Answers as is
 use Rattle.mtapi_machine.proofs.Answered.{answered}
 
@@ -247,3 +247,9 @@ pub kept_along : (P : State → Type 0) → ((s : State) (e : NodeEntry) → IsN
 unfolding LegalFrom after_from
 kept_along P k s [] l p = p
 kept_along P k s (e ∷ es) l p = kept_along P k (next s e) es l.1 (k s e l.0 p)
+
+-- and what each next entry keeps that doesn't pass, a list of such entries
+pub kept_without : (p : NodeEntry → Bool) (P : State → Type 0) → ((s : State) (e : NodeEntry) → IsNext s e → p e ≡ false → P s → P (next s e)) → (s : State) (L : List NodeEntry) → LegalFrom s L → some_entry p L ≡ false → P s → P (after_from s L)
+unfolding LegalFrom after_from
+kept_without p P k s [] l n v = v
+kept_without p P k s (e ∷ es) l n v = let both = none_first (p e) (some_entry p es) n in kept_without p P k (next s e) es l.1 both.1 (k s e l.0 both.0 v)

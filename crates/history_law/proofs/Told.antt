@@ -1,6 +1,5 @@
 -- An entry tells the end that the record has.
-use Rattle.history_law.proofs.Names.{◌≡◌, ℕ, cond, List, [], ◌∷◌, Option, Some, None, refl, ◌∙◌, ap, subst, ◌==◌, eqb-true, MtapiStatus, MrapiStatus, Mtapi, Mrapi, ends_task, notes, with_waiter, TaskEnd, live_object, change, Task, ended, watch_end, Terms, Op, Reply, State, opening, Move, after_moves, task_end, NodeEntry, IsNext, next, LegalFrom, Legal, after_from, after, end_in, end_at, after-append, after_grows, told_by, TellsItsEnd, Answers, tally_verdict}
-use Rattle.mtapi_machine.specs.declared.ops.Op.TheVariants as op
+use Rattle.history_law.proofs.Names.{arith, nat_tests, ◌≡◌, ℕ, cond, List, [], ◌∷◌, Option, Some, None, refl, ◌∙◌, ap, subst, ◌==◌, eqb-true, MtapiStatus, MrapiStatus, Mtapi, Mrapi, ends_task, notes, with_waiter, TaskEnd, live_object, change, Task, ended, watch_end, Terms, Op, Reply, State, opening, Move, after_moves, task_end, NodeEntry, IsNext, next, LegalFrom, Legal, after_from, after, end_in, end_at, after-append, after_grows, told_by, TellsItsEnd, Answers, tally_verdict}
 use Rattle.history_law.proofs.Moves.{once_from}
 use Rattle.history_law.proofs.lists.Handles.{OnceIn}
 use Rattle.history_law.proofs.Ends.{grows_end}
@@ -29,18 +28,10 @@ module _ (s : State) (o : OnceIn s.tasks) where
 
   -- no refusal tells an end
   refused_none : {A : Type 0} (h : ℕ) (p : Op) (c : MtapiStatus) (e : TaskEnd) → told_by h p (Mtapi c) ≡ Some e → A
-  refused_none {A = A} h (op.TaskLook t last) c e i = of_this t.0 h None e (λ j. A) i none_some
-  refused_none {A = A} h (op.Finish t done) c e i = of_this t.0 h None e (λ j. A) i none_some
-  refused_none {A = A} h (op.WatchEnd t) c e i = of_this t.0 h None e (λ j. A) i none_some
-  refused_none {A = A} h (op.TallyEnd t) c e i = of_this t.0 h None e (λ j. A) i none_some
-  refused_none h _ c e i = none_some i
+  refused_none h p c e e1 = grind (arith, nat_tests)
 
   caller_none : {A : Type 0} (h : ℕ) (p : Op) (c : MrapiStatus) (e : TaskEnd) → told_by h p (Mrapi c) ≡ Some e → A
-  caller_none {A = A} h (op.TaskLook t last) c e i = of_this t.0 h None e (λ j. A) i none_some
-  caller_none {A = A} h (op.Finish t done) c e i = of_this t.0 h None e (λ j. A) i none_some
-  caller_none {A = A} h (op.WatchEnd t) c e i = of_this t.0 h None e (λ j. A) i none_some
-  caller_none {A = A} h (op.TallyEnd t) c e i = of_this t.0 h None e (λ j. A) i none_some
-  caller_none h _ c e i = none_some i
+  caller_none h p c e e1 = grind (arith, nat_tests)
 
   -- a task with this end was looked at, and a worker's task ended so
   by : (who h : ℕ) (e : TaskEnd) (p : Op) (r : Reply) (ms : List Move) → told_by h p r ≡ Some e → Answers s who p r ms → (Before h e → Then h e ms) → Then h e ms

@@ -1,5 +1,5 @@
 -- What holds of every task that was ever issued, after a change of the list.
-use Rattle.history_law.proofs.Names.{◌≡◌, ℕ, ◌+◌, Bool, true, false, List, [], ◌∷◌, Some, refl, sym, ◌∙◌, subst, ◌==◌, ◌&&◌, cond_both, Listed, live_of, live_object, change, change_all, issue, TaskEnd, Task, Ended, with_state, ended, end_each, some_same, fst_true, snd_true}
+use Rattle.history_law.proofs.Names.{arith, nat_tests, ◌≡◌, ℕ, ◌+◌, Bool, true, false, List, [], ◌∷◌, Some, refl, sym, ◌∙◌, subst, ◌&&◌, cond_both, Listed, live_of, live_object, change, change_all, issue, TaskEnd, Task, Ended, with_state, end_each, some_same, fst_true, snd_true}
 use Rattle.history_law.proofs.lists.Found.{at_head, at_here, at_past}
 
 module _ {T : Type 0} where
@@ -16,8 +16,7 @@ module _ {T : Type 0} where
   pub every_change : (P : T → Type 0) (j : ℕ) (f : Listed T → Listed T) (l : List (Listed T)) → ((r : Listed T) → live_object l j ≡ Some r.fields → P r.fields → P (f r).fields) → Every P l → Every P (change j f l)
   unfolding change
   every_change P j f [] g a = tt
-  every_change P j f (r ∷ rs) g a = cond_both (r.live && (r.handle == j)) (f r ∷ rs) (r ∷ change j f rs) (Every P)
-      (λ e. (g r (at_here r rs j (fst_true r.live _ e) (snd_true r.live _ e)) a.0, a.1)) (λ e. (a.0, every_change P j f rs (λ q i. g q (at_past r rs j e ∙ i)) a.1))
+  every_change P j f (r ∷ rs) g a = grind (arith, nat_tests, every_change P j f rs, cond_both, at_here, fst_true, snd_true, at_past)
 
   pub every_all : (P : T → Type 0) (p : T → Bool) (f : Listed T → Listed T) (l : List (Listed T)) → ((r : Listed T) → P r.fields → P (f r).fields) → Every P l → Every P (change_all p f l)
   unfolding change_all
@@ -38,8 +37,7 @@ module _ {T : Type 0} where
 pub every_both : (R P : Task → Type 0) (p : Task → Bool) (e : TaskEnd) (n : ℕ) (l : List (Listed Task)) → ((t : Task) (k : ℕ) → p t ≡ true → R t → P t → P (with_state (Ended e k) t)) → Every R l → Every P l → Every P (end_each p e n l)
 unfolding end_each
 every_both R P p e n [] g b a = tt
-every_both R P p e n (r ∷ rs) g b a = cond_both (r.live && p r.fields) (ended e n r ∷ end_each p e (n + 1) rs) (r ∷ end_each p e n rs) (Every P)
-    (λ c. (g r.fields n (snd_true r.live _ c) b.0 a.0, every_both R P p e (n + 1) rs g b.1 a.1)) (λ c. (a.0, every_both R P p e n rs g b.1 a.1))
+every_both R P p e n (r ∷ rs) g b a = grind (arith, nat_tests, every_both R P p e (n + 1) rs g b.1 a.1, every_both R P p e n rs g b.1 a.1, cond_both, end_each, snd_true)
 
 pub always : {T : Type 0} (l : List (Listed T)) → Every (λ (t : T). Unit {0}) l
 always [] = tt

@@ -1,5 +1,5 @@
 -- What is known of the first live object that passes, and of two live ones where at most one passes.
-use Rattle.history_law.proofs.Names.{nat_tests, ◌≡◌, ℕ, ◌+◌, ◌≤◌, Bool, true, false, cond, List, [], ◌∷◌, Some, refl, sym, ◌∙◌, ap, subst, arith, ◌==◌, ◌&&◌, is_some, eq-eqb, Listed, live_of, live_object, listed, count_listed, some_same}
+use Rattle.history_law.proofs.Names.{nat_tests, ◌≡◌, ℕ, ◌+◌, ◌≤◌, Bool, true, false, cond, List, [], ◌∷◌, Some, refl, sym, ◌∙◌, subst, arith, ◌==◌, ◌&&◌, is_some, eq-eqb, Listed, live_of, live_object, listed, count_listed, some_same}
 use Rattle.handle_pool.specs.Issued.{first_handle}
 use Rattle.history_law.proofs.Answered.{true_false, whether, on_test}
 use Rattle.history_law.proofs.lists.Handles.{OnceIn, once_rest}
@@ -39,12 +39,7 @@ module _ {T : Type 0} where
   pub found_count : (p : T → Bool) (l : List (Listed T)) (h : ℕ) (x : T) → live_object l h ≡ Some x → p x ≡ true → 1 ≤ count_listed p l
   unfolding live_of
   found_count p [] h x e i = absurd (cc)
-  found_count p (r ∷ rs) h x e i = at_head r h
-      (λ a j.
-      let same : r.fields ≡ x = some_same (sym (at_here r rs h a j) ∙ e) in
-      let pass : (r.live && p r.fields) ≡ true = (λ z. a z && p (same z)) ∙ i in
-      let n : cond {A = ℕ} (r.live && p r.fields) 1 0 ≡ 1 = ap (λ (c : Bool). cond {A = ℕ} c 1 0) pass in
-      omega arith) (λ c. let k = found_count p rs h x (sym (at_past r rs h c) ∙ e) i in omega arith)
+  found_count p (r ∷ rs) h x e i = grind (arith, nat_tests, found_count p rs h x, at_head, some_same, at_here, at_past)
 
   -- where at most one passes, two that do are one
   pub one_passes : (p : T → Bool) (l : List (Listed T)) (h k : ℕ) (x y : T) → count_listed p l ≤ 1 → live_object l h ≡ Some x → live_object l k ≡ Some y → p x ≡ true → p y ≡ true → x ≡ y

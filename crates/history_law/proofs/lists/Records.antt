@@ -1,5 +1,5 @@
 -- The record of a live object, where no handle is listed twice.
-use Rattle.history_law.proofs.Names.{◌≡◌, ℕ, ◌+◌, ◌≤◌, Bool, true, cond, List, [], ◌∷◌, Some, sym, ◌∙◌, ap, arith, ◌==◌, ◌&&◌, is_some, Listed, live_of, live_object, listed, change, snd_true, some_same, false_from_ne_true}
+use Rattle.history_law.proofs.Names.{nat_tests, ◌≡◌, ℕ, Bool, true, cond, List, [], ◌∷◌, Some, sym, ◌∙◌, ap, arith, ◌==◌, ◌&&◌, Listed, live_of, live_object, listed, change, snd_true, some_same, false_from_ne_true}
 use Rattle.history_law.proofs.Answered.{whether}
 use Rattle.history_law.proofs.Ages.{live_listed}
 use Rattle.history_law.proofs.lists.Found.{at_here, change_here, change_past, at_head, at_past}
@@ -9,11 +9,7 @@ module _ {T A : Type 0} (h : ℕ) (at : List (Listed T) → A) (of : T → A) (n
   -- a record that isn't live isn't the one of a live object
   no_dead : (r : Listed T) (rs : List (Listed T)) (t : T) → OnceIn (r ∷ rs) → live_object rs h ≡ Some t → (r.handle == h) ≡ true → ⊥
   unfolding listed
-  no_dead r rs t o e i =
-      let k : cond {A = ℕ} (r.handle == h) 1 0 + listed h rs ≤ 1 = o h in
-      let c : cond {A = ℕ} (r.handle == h) 1 0 ≡ 1 = ap (λ (b : Bool). cond {A = ℕ} b 1 0) i in
-      let l : 1 ≤ listed h rs = live_listed h rs (ap is_some e) in
-      absurd (omega arith)
+  no_dead r rs t o e i = grind (arith, nat_tests, live_listed)
 
   -- what is read of the first record under the handle is what is read of the live object
   pub read_found : (l : List (Listed T)) (t : T) → OnceIn l → live_object l h ≡ Some t → at l ≡ of t

@@ -19,9 +19,7 @@ head_more a b d s e = ap (λ (z : ℤ). z +ℤ s) e ∙ (+ℤ_assoc b d s ∙ (a
 pub sum_more : (f : Task → ℤ) (d : ℤ) (j : ℕ) (g : Listed Task → Listed Task) (l : List (Listed Task)) (x : Task) → live_object l j ≡ Some x → ((r : Listed Task) → r.fields ≡ x → f (g r).fields ≡ f r.fields +ℤ d) → sum_of f (change j g l) ≡ sum_of f l +ℤ d
 unfolding live_of change
 sum_more f d j g [] x e k = absurd (cc)
-sum_more f d j g (r ∷ rs) x e k = cond_both (r.live && (r.handle == j)) (g r ∷ rs) (r ∷ change j g rs) (λ m. sum_of f m ≡ (f r.fields +ℤ sum_of f rs) +ℤ d)
-    (λ c. head_more _ (f r.fields) d (sum_of f rs) (k r (some_same (sym (at_here r rs j (fst_true r.live _ c) (snd_true r.live _ c)) ∙ e))))
-    (λ c. ap (λ (z : ℤ). f r.fields +ℤ z) (sum_more f d j g rs x (sym (at_past r rs j c) ∙ e) k) ∙ sym (+ℤ_assoc (f r.fields) (sum_of f rs) d))
+sum_more f d j g (r ∷ rs) x e k = grind (arith, nat_tests, sum_more f d j g rs x, cond_both, sum_of, head_more, some_same, at_here)
 
 pub sum_change : (f : Task → ℤ) (j : ℕ) (g : Listed Task → Listed Task) (l : List (Listed Task)) → ((r : Listed Task) → live_object l j ≡ Some r.fields → f (g r).fields ≡ f r.fields) → sum_of f (change j g l) ≡ sum_of f l
 unfolding live_of change
@@ -69,11 +67,7 @@ module _ {T : Type 0} where
   pub record_other : (j h : ℕ) (f : Listed T → Listed T) (l : List (Listed T)) → ((r : Listed T) → (f r).handle ≡ r.handle) → (j == h) ≡ false → record_of (change j f l) h ≡ record_of l h
   unfolding record_of change
   record_other j h f [] k n = refl
-  record_other j h f (r ∷ rs) k n = cond_both (r.live && (r.handle == j)) (f r ∷ rs) (r ∷ change j f rs) (λ m. record_of m h ≡ record_of (r ∷ rs) h)
-      (λ c.
-      let a : (r.handle == h) ≡ false = ap (λ (z : ℕ). z == h) (eqb-true r.handle j (snd_true r.live _ c)) ∙ n in
-      ap (λ (b : Bool). cond b (Some (f r).fields) (record_of rs h)) (ap (λ (z : ℕ). z == h) (k r) ∙ a) ∙ sym (ap (λ (b : Bool). cond b (Some r.fields) (record_of rs h)) a))
-      (λ c. ap (λ (o : Option T). cond (r.handle == h) (Some r.fields) o) (record_other j h f rs k n))
+  record_other j h f (r ∷ rs) k n = grind (arith, nat_tests, record_other j h f rs k n, cond_both, record_of, eqb-true, snd_true)
 
   pub record_at : (h : ℕ) (x : T) (l : List (Listed T)) → OnceIn l → live_object l h ≡ Some x → record_of l h ≡ Some x
   unfolding record_of live_of

@@ -1,5 +1,5 @@
 -- What an entry does to the segment of one handle, and what that leaves of the seats that are attached.
-use Rattle.history_law.proofs.Names.{◌≡◌, ℕ, zero, suc, ◌<◌, Bool, true, false, cond, List, [], ◌∷◌, Option, Some, None, ◌⊎◌, inl, inr, refl, sym, ◌∙◌, ap, subst, arith, ◌==◌, nat_lt, ℤ, slice_set, eqb-true, eq-eqb, marked, any_mark, Op, Reply, live_object, Segment, new_segment, with_attached, with_cell, State, workers, Move, after_moves, IsAttached, cond_both, lt-ltb, length, Answers, change, with_fields}
+use Rattle.history_law.proofs.Names.{nat_tests, ◌≡◌, ℕ, zero, suc, ◌<◌, Bool, true, false, cond, List, [], ◌∷◌, Option, Some, None, ◌⊎◌, inl, inr, refl, sym, ◌∙◌, ap, subst, arith, ◌==◌, nat_lt, ℤ, slice_set, eqb-true, eq-eqb, marked, any_mark, Op, Reply, live_object, Segment, new_segment, with_attached, with_cell, State, workers, Move, after_moves, IsAttached, cond_both, lt-ltb, length, Answers, change, with_fields}
 use Rattle.mtapi_values.specs.declared.handles.ObjectKind.TheVariants as kind
 use Rattle.mtapi_machine.specs.Answers as is
 use Rattle.history_law.proofs.Reuse.{fresh_unlisted}
@@ -73,9 +73,7 @@ apart {i} {j} a e = true_false (eq-eqb i j e) a
 pub attached_step : (who n w : ℕ) (b : Bool) (o p : Option Segment) → Step who n b o p → w < n → IsAttached w o → IsAttached w p ⊎ ((b ≡ true) × (w ≡ who))
 attached_step who n w b _ _ (stays o) l i = inl i
 attached_step who n w b _ _ (made id cells) l i = absurd i
-attached_step who n w b _ _ (turned c y k) l i = whether (who == w)
-    (λ a. absurd (true_false (lt-ltb w n l) (subst (λ (z : ℕ). nat_lt z n ≡ false) (eqb-true who w a) k)))
-    (λ a. inl (other_mark y.attached who w c (apart a) ∙ i))
+attached_step who n w b _ _ (turned c y k) l i = grind (arith, nat_tests, true_false, lt-ltb, nat_lt, eqb-true, other_mark)
 attached_step who n w b _ _ (written cell value y) l i = inl i
 attached_step who n w b _ _ (gone y f) l i = absurd (true_false (some_mark y.attached w i) f)
 attached_step who n w b _ _ (got y) l i = inl (more_marks y.attached who w i)

@@ -91,9 +91,7 @@ given_back top who x l n v =
     at_seat w false i = ap (λ (z : ℕ). z + 0) (set_apart x.holdings who w _ 0 i)
 
 left : (top who : ℕ) (x : Sem) → nat_lt 0 (total x.holdings) ≡ false → LockStep (sem_lock top) who (Some x) None (λ m. false) (λ m. false)
-left top who x n =
-    let z : total x.holdings ≡ 0 = grind (arith, nat_tests) in
-    record { fit = tt; all = λ m. omega arith; each = λ m w. let y : slice_index x.holdings w ≡ 0 = total_none x.holdings w z in omega arith }
+left top who x n = grind (arith, nat_tests, total_none)
 
 in_bounds : (top : ℕ) (o : Option Sem) → FitIn (sem_lock top) o → count_in (sem_lock top) tt o ≤ top
 in_bounds top o e1 = grind (arith, nat_tests)

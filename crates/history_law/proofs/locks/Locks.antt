@@ -1,5 +1,5 @@
 -- Locks that seats get and give back: what each entry does to one, and so every list of entries. A kind of lock says what is counted of it.
-use Rattle.history_law.proofs.Names.{nat_tests, ◌≡◌, ℕ, ◌+◌, ◌<◌, ◌≤◌, Bool, true, false, List, [], ◌∷◌, ◌++◌, Option, Some, None, refl, sym, ◌∙◌, ap, subst, arith, zero, suc, ◌==◌, ◌&&◌, Listed, live_object, listed, issue, change, with_fields, gone, Handle, Terms, State, FieldsOf, objects_of, opening, seats, Move, after_moves, NodeEntry, IsNext, next, LegalFrom, Legal, after_from, after, Legal-front, Legal-rest, entries_that, some_entry, issues, by_seat, limit_of, MadeWith, ObjectKind, Op, fst_true, along, Answers, and-false}
+use Rattle.history_law.proofs.Names.{nat_tests, ◌≡◌, ℕ, ◌+◌, ◌<◌, ◌≤◌, Bool, true, false, List, [], ◌∷◌, ◌++◌, Option, Some, None, refl, sym, ap, subst, arith, zero, suc, ◌==◌, ◌&&◌, Listed, live_object, listed, issue, change, with_fields, gone, Handle, Terms, State, FieldsOf, objects_of, opening, seats, Move, after_moves, NodeEntry, IsNext, next, LegalFrom, Legal, after_from, after, Legal-front, Legal-rest, entries_that, some_entry, issues, by_seat, limit_of, MadeWith, ObjectKind, Op, fst_true, along, Answers, and-false}
 use Rattle.history_law.specs.Words.{makes as makes_object}
 use Rattle.history_law.proofs.Accepted.{stands_after}
 use Rattle.history_law.proofs.lists.AtHandles.{at_unlisted, at_issue_here, at_issue_other, where_changed, where_retired}
@@ -16,8 +16,7 @@ pub record Lock (M T : Type 0) : Type 1 where
   pub has : M → ℕ → T → ℕ
 
 pub and-true : (b : Bool) → (b && true) ≡ b
-and-true true = refl
-and-true false = refl
+and-true b = grind (arith, nat_tests)
 
 module _ {M T : Type 0} (K : Lock M T) where
   abbrev pub FitIn : Option T → Type 0
@@ -39,12 +38,7 @@ module _ {M T : Type 0} (K : Lock M T) where
     pub each : (m : M) (w : ℕ) → has_in m w p + one_if ((who == w) && y m) ≡ has_in m w o + one_if ((who == w) && x m)
 
   pub as_step : (who : ℕ) (o p : Option T) (x y v w : M → Bool) → ((m : M) → v m ≡ x m) → ((m : M) → w m ≡ y m) → LockStep who o p v w → LockStep who o p x y
-  as_step who o p x y v w i j t = record {
-    fit = t.fit;
-    all = λ m. subst (λ (b : Bool). count_in m p + one_if (y m) ≡ count_in m o + one_if b) (i m) (subst (λ (b : Bool). count_in m p + one_if b ≡ count_in m o + one_if (v m)) (j m) (t.all m));
-    each = λ m z. subst (λ (b : Bool). has_in m z p + one_if ((who == z) && y m) ≡ has_in m z o + one_if ((who == z) && b)) (i m)
-        (subst (λ (b : Bool). has_in m z p + one_if ((who == z) && b) ≡ has_in m z o + one_if ((who == z) && v m)) (j m) (t.each m z));
-  }
+  as_step who o p x y v w i j t = grind (arith, nat_tests, one_if)
 
   pub step_same : (who : ℕ) (o : Option T) → FitIn o → LockStep who o o (λ m. false) (λ m. false)
   step_same who o f = record { fit = f; all = λ m. refl; each = λ m w. refl }
@@ -108,12 +102,7 @@ module _ {M T : Type 0} (K : Lock M T) where
 
   -- under a handle that was fresh
   pub new_lock : (h : ℕ) (x : T) (l : List (Listed T)) → listed h l ≡ 0 → K.Fit x → ((m : M) → K.count m x ≡ 0) → ((m : M) (w : ℕ) → K.has m w x ≡ 0) → New h (issue h x l)
-  new_lock h x l u f n z = let e : live_object (issue h x l) h ≡ Some x = at_issue_here h x l u in record {
-    some = some_issued h x l;
-    fit = subst (FitIn K) (sym e) f;
-    none = λ m. ap (count_in K m) e ∙ n m;
-    free = λ m w. ap (has_in K m w) e ∙ z m w;
-  }
+  new_lock h x l u f n z = grind (arith, nat_tests, live_object, at_issue_here, some_issued)
 
 module _ (k : ObjectKind) {M : Type 0} (K : ℕ → Lock M (FieldsOf k)) (gets gives : M → NodeEntry → Bool) (h : ℕ) where
   abbrev l : State → List (Listed (FieldsOf k))

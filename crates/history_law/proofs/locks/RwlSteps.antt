@@ -1,9 +1,9 @@
 -- What each entry does to a reader-writer lock, and so every list of entries.
-use Rattle.history_law.proofs.Names.{nat_tests, ◌≡◌, ℕ, ◌+◌, ◌<◌, ◌≤◌, Bool, true, false, List, Option, Some, None, ◌⊎◌, inl, inr, refl, ap, subst, arith, ◌&&◌, is_some, ◌==◌, Terms, Op, Reply, Handle, live_object, listed, Rwl, new_rwl, rwl_taken, rwl_given, State, NodeEntry, Legal, not_false, some_same, entries_that, says_ok, by_seat, looks_at_rwl, unlocks_rwl, gets_rwl, gives_rwl, OneWriter, ReadersAlone, RwlsKeepTo, limit_of, Legal-prefix, Answers, Move, after_moves, and-false}
+use Rattle.history_law.proofs.Names.{nat_tests, ◌≡◌, ℕ, ◌+◌, ◌<◌, ◌≤◌, Bool, true, false, List, Option, Some, None, ◌⊎◌, inr, refl, ap, subst, arith, ◌&&◌, ◌==◌, Terms, Op, Reply, Handle, live_object, listed, Rwl, new_rwl, rwl_taken, rwl_given, State, NodeEntry, Legal, not_false, some_same, entries_that, says_ok, by_seat, looks_at_rwl, unlocks_rwl, gets_rwl, gives_rwl, OneWriter, ReadersAlone, RwlsKeepTo, limit_of, Legal-prefix, Answers, Move, after_moves, and-false}
 use Rattle.mtapi_values.specs.declared.handles.ObjectKind.TheVariants as kind
 use Rattle.mtapi_machine.specs.declared.ops.Op.TheVariants as op
 use Rattle.history_law.specs.Words.{makes as makes_object}
-use Rattle.history_law.proofs.Answered.{true_false, whether}
+use Rattle.history_law.proofs.Answered.{true_false}
 use Rattle.history_law.proofs.lists.Counts.{one_if}
 use Rattle.history_law.proofs.lists.Handles.{OnceIn}
 use Rattle.history_law.proofs.locks.Locks.{LockStep, FitIn, count_in, has_in, step_same, step_quiet, step_gets, step_gives, step_leaves, step_beside, missed, New, new_lock, Counts, Kind, none_got, counts_with, counts_any}
@@ -61,15 +61,7 @@ at_most_one top m w o = grind (arith, nat_tests)
 -- one writer or readers alone, by what the lock has at the end
 by_lock : (top h : ℕ) (B : List NodeEntry) (o : Option Rwl) → FitIn (rwl_lock top) o → ((m : Bool) → entries_that (gives_rwl h m) B + count_in (rwl_lock top) m o ≡ entries_that (gets_rwl h m) B) → OneWriter B h ⊎ ReadersAlone B h top
 by_lock top h B None f k = inr (record { writer = let e = k true in omega arith; readers = let e = k false in omega arith })
-by_lock top h B (Some x) f k = whether (is_some x.writer)
-    (λ i.
-    let n : one_if (is_some x.writer) ≡ 1 = ap one_if i in
-    let z : count_in (rwl_lock top) false (Some x) ≡ 0 = f.alone i in
-    inl (record { writer = let e : entries_that (gives_rwl h true) B + one_if (is_some x.writer) ≡ entries_that (gets_rwl h true) B = k true in omega arith; readers = let e = k false in omega arith }))
-    (λ i.
-    let n : one_if (is_some x.writer) ≡ 0 = ap one_if i in
-    let z : count_in (rwl_lock top) false (Some x) ≤ top = f.most in
-    inr (record { writer = let e : entries_that (gives_rwl h true) B + one_if (is_some x.writer) ≡ entries_that (gets_rwl h true) B = k true in omega arith; readers = let e = k false in omega arith }))
+by_lock top h B (Some x) f k = grind (arith, nat_tests, one_if, count_in, rwl_lock, entries_that, gives_rwl)
 
 pub rwls_keep_to : (terms : Terms) (es : List NodeEntry) → Legal terms es → RwlsKeepTo es
 rwls_keep_to terms es legal L R h cut = record {

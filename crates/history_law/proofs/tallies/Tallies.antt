@@ -1,5 +1,5 @@
 -- The sum that a cell holds after tallies.
-use Rattle.history_law.proofs.Names.{◌≡◌, ℕ, ◌+◌, ◌<◌, ◌≤◌, Bool, true, false, cond, List, [], ◌∷◌, Option, Some, None, refl, sym, ◌∙◌, ap, subst, arith, ◌==◌, ◌&&◌, is_none, length, ℤ, pos, slice_set, slice_index_or, replicate, option_map, eqb-true, eq-eqb, cond_both, false_from_ne_true, true_from_ne_false, holds, TaskHandle, Op, Reply, Listed, live_of, live_object, count_listed, listed, change, issue, update, with_fields, gone, Task, TaskState, Scheduled, Running, Ended, runner, end_of, scheduled, runs_on, is_unstarted, is_unended, with_notes, with_tally, tally_failed, tally_has, Mutex, Segment, with_cell, State, Move, Mutexes, makes, alters, removes, apply, after_moves, IsMade, fst_true, snd_true, at-update, some_same, record_of, adds_to, sum_of, length-set, Answers}
+use Rattle.history_law.proofs.Names.{nat_tests, ◌≡◌, ℕ, ◌+◌, ◌<◌, ◌≤◌, Bool, true, false, cond, List, [], ◌∷◌, Option, Some, None, refl, sym, ◌∙◌, ap, subst, arith, ◌==◌, ◌&&◌, is_none, length, ℤ, pos, slice_set, slice_index_or, replicate, option_map, eqb-true, eq-eqb, cond_both, false_from_ne_true, true_from_ne_false, holds, TaskHandle, Op, Reply, Listed, live_of, live_object, count_listed, listed, change, issue, update, with_fields, gone, Task, TaskState, Scheduled, Running, Ended, runner, end_of, scheduled, runs_on, is_unstarted, is_unended, with_notes, with_tally, tally_failed, tally_has, Mutex, Segment, with_cell, State, Move, Mutexes, makes, alters, removes, apply, after_moves, IsMade, fst_true, snd_true, at-update, some_same, record_of, adds_to, sum_of, length-set, Answers}
 use Rattle.mtapi_machine.specs.declared.ops.Op.TheVariants as op
 use Rattle.mtapi_machine.specs.declared.replies.Reply.TheVariants as reply
 use Rattle.history_law.proofs.Accepted.{shown}
@@ -116,8 +116,7 @@ module _ (S C : ℕ) where
   Sum (Some c) l = C < length c → (cell_value c ≡ sum_of (weight S C) l) × Every (HasRead S C (sum_of (weight S C) l)) l
 
   pub sum_keep : (o : Option (List ℤ)) (l k : List (Listed Task)) → sum_of (weight S C) k ≡ sum_of (weight S C) l → (Every (HasRead S C (sum_of (weight S C) l)) l → Every (HasRead S C (sum_of (weight S C) l)) k) → Sum o l → Sum o k
-  sum_keep None l k e f v = tt
-  sum_keep (Some c) l k e f v = λ i. let x = v i in (x.0 ∙ sym e, subst (λ (w : ℤ). Every (HasRead S C w) k) (sym e) (f x.1))
+  sum_keep o l k e1 e2 e3 = grind (arith, nat_tests)
 
   pub sum_cells : (s : State) (o p : Option (List ℤ)) (l : List (Listed Task)) → o ≡ p → Sum o l → Sum p l
   sum_cells s o p l e v = subst (λ (q : Option (List ℤ)). Sum q l) e v

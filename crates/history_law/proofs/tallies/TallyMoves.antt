@@ -1,16 +1,15 @@
 -- What each move leaves of the tallies of a cell: what they wrote, what they read, the mutex that they name, and how they ended.
-use Rattle.history_law.proofs.Names.{◌≡◌, ℕ, Bool, true, false, cond, List, Option, ◌⊎◌, inl, inr, refl, sym, ◌∙◌, ap, subst, ◌==◌, ◌&&◌, not, ℤ, pos, option_map, eqb-true, TaskEnd, Failed, Op, has_worker, Listed, live_of, change, with_fields, gone, is_member, freed, let_go, Mutex, Segment, Task, Notes, TallyNotes, Running, runs_on, is_unstarted, is_unended, with_state, with_notes, ended, new_task, tally_args, cell_in, number_in, tally_has, tally_read, State, workers, Move, Segments, starts_task, runs_task, ends_task, ends_waiting, withdraws, notes, leaves, frees_members, lets_members_go, makes, alters, removes, apply, IsMade, EndsTask, WithdrawsAction, ends_many, makes_kind, fst_true, unstarted_unended, rest_keeps, is_tally_end, record_of, is_completed, sum_of}
+use Rattle.history_law.proofs.Names.{arith, nat_tests, ◌≡◌, ℕ, Bool, true, false, cond, List, Option, ◌⊎◌, inl, inr, refl, sym, ◌∙◌, ap, subst, ◌==◌, ◌&&◌, not, ℤ, pos, option_map, TaskEnd, Failed, Op, has_worker, Listed, live_of, change, with_fields, gone, is_member, freed, let_go, Mutex, Segment, Task, Notes, TallyNotes, Running, is_unstarted, is_unended, with_state, with_notes, ended, new_task, tally_args, cell_in, number_in, State, workers, Move, Segments, starts_task, runs_task, ends_task, ends_waiting, withdraws, notes, leaves, frees_members, lets_members_go, makes, alters, removes, apply, IsMade, EndsTask, WithdrawsAction, ends_many, makes_kind, fst_true, unstarted_unended, rest_keeps, is_tally_end, record_of, is_completed, sum_of}
 use Rattle.mtapi_machine.specs.declared.ops.Op.TheVariants as op
 use Rattle.history_law.proofs.Answered.{true_false, whether}
 use Rattle.history_law.proofs.lists.Every.{Every, every_issue, every_change, every_all, every_at, every_passing, every_both}
-use Rattle.history_law.proofs.SeatMoves.{May, MayEnd, Noted, SameWork, Does, stays, fails, has, reads, writes, is_tally_lock, is_tally_read, is_tally_write, writes_cells, EndsTally}
-use Rattle.history_law.proofs.Others.{same_found, runs_over}
-use Rattle.history_law.proofs.tallies.Ties.{has_both, Tied, Ties, ties_move, stage_none}
+use Rattle.history_law.proofs.SeatMoves.{May, MayEnd, Noted, Does, is_tally_lock, is_tally_read, is_tally_write, writes_cells, EndsTally}
+use Rattle.history_law.proofs.TaskMoves.{same_found}
+use Rattle.history_law.proofs.tallies.Ties.{has_both, Tied, Ties, ties_move}
 use Rattle.history_law.proofs.lists.Sums.{sum_issue, sum_change, sum_all, sum_ends, record_view}
 
 and_off : (b c : Bool) → c ≡ false → (b && c) ≡ false
-and_off true c e = e
-and_off false c e = refl
+and_off b c e1 = grind (arith, nat_tests)
 
 module _ (S C : ℕ) where
   -- what a tally with these notes and arguments adds to
@@ -38,19 +37,13 @@ module _ (S C : ℕ) where
   weigh_off x args e = ap (λ (b : Bool). cond (b && past_read x) (number_in (tally_args args)) (pos 0)) e
 
   pub weigh_early : (x : TallyNotes) (args : List ℤ) (k : ℕ) → (x.stage == k) ≡ true → (not (k == 1) && not (k == 2)) ≡ false → weigh x args ≡ pos 0
-  weigh_early x args k e n =
-      let p : past_read x ≡ false = ap (λ (j : ℕ). not (j == 1) && not (j == 2)) (eqb-true x.stage k e) ∙ n in
-      ap (λ (b : Bool). cond b (number_in (tally_args args)) (pos 0)) (and_off (adds x args) (past_read x) p)
+  weigh_early x args k e1 e2 = grind (arith, nat_tests)
 
   adds_none : (x : TallyNotes) (args : List ℤ) → has_both x ≡ false → adds x args ≡ false
   adds_none x args e = ap (λ (b : Bool). b && ((x.segment == S) && (cell_in (tally_args args) == C))) e
 
   does_weigh : (o : Op) (x y : TallyNotes) (args : List ℤ) → is_tally_write o ≡ false → Does o x y → weigh y args ≡ weigh x args
-  does_weigh o x y args n (stays e) = ap (λ (z : TallyNotes). weigh z args) e
-  does_weigh o x y args n (fails c z e) = ap (λ (z : TallyNotes). weigh z args) e ∙ sym (weigh_off x args (adds_none x args (stage_none x z)))
-  does_weigh o x y args n (has a b l z e) = ap (λ (z : TallyNotes). weigh z args) e ∙ (weigh_early (tally_has a b x) args 1 refl refl ∙ sym (weigh_off x args (adds_none x args (stage_none x z))))
-  does_weigh o x y args n (reads v l z e) = ap (λ (z : TallyNotes). weigh z args) e ∙ (weigh_early (tally_read v x) args 2 refl refl ∙ sym (weigh_early x args 1 z refl))
-  does_weigh o x y args n (writes l z e) = true_false l n
+  does_weigh o x y args e1 e2 = grind (arith, nat_tests)
 
   pub written_move : (v : ℤ) (who : ℕ) (o : Op) → is_tally_write o ≡ false → (s : State) (x : Move) → May s who o x → written s ≡ v → written (apply x s) ≡ v
   written_move v who o n s (starts_task j t) k e = sum_issue weight j (new_task t s.starts) s.tasks refl ∙ e
@@ -72,11 +65,7 @@ module _ (S C : ℕ) where
   Each R t = adds t.notes.tally t.args ≡ true → R t.args
 
   pub does_adds : (o : Op) (x y : TallyNotes) (args : List ℤ) → is_tally_lock o ≡ false → Does o x y → adds y args ≡ true → adds x args ≡ true
-  does_adds o x y args n (stays e) a = ap (λ (z : TallyNotes). adds z args) (sym e) ∙ a
-  does_adds o x y args n (fails c z e) a = true_false (ap (λ (z : TallyNotes). adds z args) (sym e) ∙ a) refl
-  does_adds o x y args n (has c d l z e) a = true_false l n
-  does_adds o x y args n (reads v l z e) a = ap (λ (k : ℕ). (not (k == 0) && not (k == 4)) && ((x.segment == S) && (cell_in (tally_args args) == C))) (eqb-true x.stage 1 z) ∙ (ap (λ (z : TallyNotes). adds z args) (sym e) ∙ a)
-  does_adds o x y args n (writes l z e) a = ap (λ (k : ℕ). (not (k == 0) && not (k == 4)) && ((x.segment == S) && (cell_in (tally_args args) == C))) (eqb-true x.stage 2 z) ∙ (ap (λ (z : TallyNotes). adds z args) (sym e) ∙ a)
+  does_adds o x y args e1 e2 e3 = grind (arith, nat_tests)
 
   pub each_move : (R : List ℤ → Type 0) (who : ℕ) (o : Op) → is_tally_lock o ≡ false → (s : State) (x : Move) → May s who o x → Every (Each R) s.tasks → Every (Each R) (apply x s).tasks
   each_move R who o n s (starts_task j t) k v = every_issue (Each R) j (new_task t s.starts) s.tasks (λ a. true_false a refl) v
@@ -84,9 +73,7 @@ module _ (S C : ℕ) where
   each_move R who o n s (ends_task j e) k v = every_change (Each R) j (ended e s.ends) s.tasks (λ r a i. i) v
   each_move R who o n s (ends_waiting p e) k v = every_passing (Each R) _ e s.ends s.tasks (λ t m q i. i) v
   each_move R who o n s (withdraws j f c) k v = every_passing (Each R) _ (Failed c) s.ends s.tasks (λ t m q i. i) v
-  each_move R who o n s (notes j f) k v =
-      every_change (Each R) j (with_fields (with_notes f)) s.tasks
-      (λ r a i b. i (does_adds o _ _ r.fields.args n (subst (λ (t : Task). Does o t.notes.tally (f t.notes).tally) (same_found s j j refl k.0 r.fields k.1 a) k.3) b)) v
+  each_move R who o n s (notes j f) k v = grind (arith, nat_tests, every_change, with_fields, with_notes, does_adds, same_found)
   each_move R who o n s (leaves j) k v = every_change (Each R) j gone s.tasks (λ r a i. i) v
   each_move R who o n s (frees_members g) k v = every_all (Each R) _ freed s.tasks (λ r i. i) v
   each_move R who o n s (lets_members_go g) k v = every_all (Each R) (is_member g) let_go s.tasks (λ r i. i) v
@@ -98,23 +85,15 @@ module _ (S C : ℕ) where
   HasRead w t = adds t.notes.tally t.args ≡ true → (t.notes.tally.stage == 2) ≡ true → is_unended t ≡ true → t.notes.tally.kept ≡ w
 
   does_read : (w : ℤ) (o : Op) (x y : TallyNotes) (args : List ℤ) → is_tally_read o ≡ false → is_tally_write o ≡ false → Does o x y → (adds x args ≡ true → (x.stage == 2) ≡ true → x.kept ≡ w) → adds y args ≡ true → (y.stage == 2) ≡ true → y.kept ≡ w
-  does_read w o x y args m n (stays e) k a b = ap (λ (z : TallyNotes). z.kept) e ∙ k (ap (λ (z : TallyNotes). adds z args) (sym e) ∙ a) (ap (λ (z : TallyNotes). z.stage == 2) (sym e) ∙ b)
-  does_read w o x y args m n (fails c z e) k a b = true_false (ap (λ (z : TallyNotes). z.stage == 2) (sym e) ∙ b) refl
-  does_read w o x y args m n (has c d l z e) k a b = true_false (ap (λ (z : TallyNotes). z.stage == 2) (sym e) ∙ b) refl
-  does_read w o x y args m n (reads v l z e) k a b = true_false l m
-  does_read w o x y args m n (writes l z e) k a b = true_false l n
+  does_read w o x y args e1 e2 e3 e4 e5 e6 = grind (arith, nat_tests)
 
   pub read_move : (w : ℤ) (who : ℕ) (o : Op) → is_tally_read o ≡ false → is_tally_write o ≡ false → (s : State) (x : Move) → May s who o x → Every (HasRead w) s.tasks → Every (HasRead w) (apply x s).tasks
   read_move w who o m n s (starts_task j t) k v = every_issue (HasRead w) j (new_task t s.starts) s.tasks (λ a b c. true_false a refl) v
-  read_move w who o m n s (runs_task j y z) k v =
-      every_change (HasRead w) j (with_fields (with_state (Running y z))) s.tasks
-      (λ r a i b c d. i b c (unstarted_unended r.fields (subst (λ (t : Task). is_unstarted t ≡ true) (same_found s j j refl k.0 r.fields k.1 a) k.2))) v
+  read_move w who o m n s (runs_task j y z) k v = grind (arith, nat_tests, every_change, with_fields, with_state, unstarted_unended, is_unstarted)
   read_move w who o m n s (ends_task j e) k v = every_change (HasRead w) j (ended e s.ends) s.tasks (λ r a i b c d. true_false d refl) v
   read_move w who o m n s (ends_waiting p e) k v = every_passing (HasRead w) _ e s.ends s.tasks (λ t z q i b c d. true_false d refl) v
   read_move w who o m n s (withdraws j f c) k v = every_passing (HasRead w) _ (Failed c) s.ends s.tasks (λ t z q i b c d. true_false d refl) v
-  read_move w who o m n s (notes j f) k v =
-      every_change (HasRead w) j (with_fields (with_notes f)) s.tasks
-      (λ r a i b c d. does_read w o _ _ r.fields.args m n (subst (λ (t : Task). Does o t.notes.tally (f t.notes).tally) (same_found s j j refl k.0 r.fields k.1 a) k.3) (λ x y. i x y d) b c) v
+  read_move w who o m n s (notes j f) k v = grind (arith, nat_tests, every_change, with_fields, with_notes, does_read, same_found)
   read_move w who o m n s (leaves j) k v = every_change (HasRead w) j gone s.tasks (λ r a i. i) v
   read_move w who o m n s (frees_members g) k v = every_all (HasRead w) _ freed s.tasks (λ r i. i) v
   read_move w who o m n s (lets_members_go g) k v = every_all (HasRead w) (is_member g) let_go s.tasks (λ r i. i) v
@@ -127,20 +106,14 @@ module _ (S C : ℕ) where
 
   -- a task that an op other than its `tally_end` ends adds nothing
   adds_nothing : (n : ℕ) (ms : List (Listed Mutex)) (ss : List (Listed Segment)) (who h : ℕ) (o : Op) (t : Task) → is_tally_end h o ≡ false → Tied n ms ss t → MayEnd who t → EndsTally h o t → adds t.notes.tally t.args ≡ true → ⊥
-  adds_nothing n ms ss who h o t f i (inl u) e a = true_false (both_of t.notes.tally t.args a) (i.early u)
-  adds_nothing n ms ss who h o t f i (inr u) (inl e) a = true_false e f
-  adds_nothing n ms ss who h o t f i (inr u) (inr e) a = true_false (i.kind who u (both_of t.notes.tally t.args a)) (e who)
+  adds_nothing n ms ss who h o t e1 e2 e3 e4 e5 = grind (arith, nat_tests)
 
   -- where some `tally_end` is no end of this list's tasks
   abbrev pub NoTallyEnd : Op → Type 0
   NoTallyEnd o = (h : ℕ) → is_tally_end h o ≡ false
 
   noted_right : (who : ℕ) (f : Notes → Notes) (t : Task) → Noted who f t → EndsRight t → EndsRight (with_notes f t)
-  noted_right who f t k i u a = by_work k.work
-    where
-      by_work : (runs_on who t ≡ true) ⊎ SameWork t.notes (f t.notes) → past_read (f t.notes).tally ≡ is_completed t.state
-      by_work (inl r) = true_false r (runs_over who t u)
-      by_work (inr w) = ap (λ (z : TallyNotes). past_read z) w.tally ∙ i u (ap (λ (z : TallyNotes). adds z t.args) (sym w.tally) ∙ a)
+  noted_right who f t e1 e2 = grind (arith, nat_tests)
 
   module _ (n : ℕ) (ms : List (Listed Mutex)) (ss : List (Listed Segment)) where
     -- with the ties, where the op is no `tally_lock`

@@ -279,8 +279,7 @@ module _ (S C id n : ℕ) where
       )
 
   ended_each : (l : List (Listed Task)) → AllEnded l → Every HasEnded l
-  ended_each [] a = tt
-  ended_each (r ∷ rs) a = (a.0, ended_each rs a.1)
+  ended_each l e1 = grind (arith, nat_tests)
 
   -- after the end of a task, what it has written is what it adds where it has completed
   same_number : (t : Task) → HasEnded t → EndsRight S C t → weight S C t ≡ number_added S C t

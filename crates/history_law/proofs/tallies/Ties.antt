@@ -6,7 +6,8 @@ use Rattle.history_law.proofs.lists.Every.{Every, every_issue, every_change, eve
 use Rattle.history_law.proofs.lists.Found.{FoundAs, found_changed, found_issued, count_changed, found_ends, found_all}
 use Rattle.history_law.proofs.Held.{DeadEnded}
 use Rattle.history_law.proofs.SeatMoves.{May, Does, stays, fails, has, reads, writes, is_tally_lock, EndsTally}
-use Rattle.history_law.proofs.Others.{other_count, runs_scheduled, runs_over, same_found}
+use Rattle.history_law.proofs.Others.{other_count, runs_scheduled, runs_over}
+use Rattle.history_law.proofs.TaskMoves.{same_found}
 
 -- the tally has its mutex and its segment: it has begun and hasn't failed
 abbrev pub has_both : TallyNotes → Bool

@@ -1,5 +1,5 @@
 -- The worked history of two tallies, by computing.
-use Rattle.history_law.proofs.Names.{◌≡◌, false, List, [], ◌∷◌, ◌++◌, Some, refl, sym, ◌∙◌, subst, arith, ℤ, pos, append_assoc, no_marks, Failed, fits, answer_of, live_of, issue, change, change_all, listed, issued_at, retired, is_full, may_issue, with_fields, gone, has_worker, is_member, freed, let_go, NewTask, Running, tally_args, new_task, with_state, with_notes, ended, end_each, Segment, Op, is_ready, can_take, has_better, State, opening, Move, starts_task, runs_task, ends_task, ends_waiting, withdraws, notes, leaves, frees_members, lets_members_go, apply, NodeEntry, next, Legal, after_from, after, replay, IsMade, StartsTask, h1, fits_of, by_moves, rest_keeps, legal_if, some_entry, tally_got, record_of, mutex_in, sum_of, number_added, writes_to, NamesOneMutex, two_workers, two_tallies, TalliesAddUp}
+use Rattle.history_law.proofs.Names.{nat_tests, ◌≡◌, false, List, [], ◌∷◌, ◌++◌, Some, refl, sym, ◌∙◌, subst, arith, ℤ, pos, append_assoc, no_marks, Failed, fits, answer_of, live_of, issue, change, change_all, listed, issued_at, retired, is_full, may_issue, with_fields, gone, has_worker, is_member, freed, let_go, NewTask, Running, tally_args, new_task, with_state, with_notes, ended, end_each, Segment, Op, is_ready, can_take, has_better, State, opening, Move, starts_task, runs_task, ends_task, ends_waiting, withdraws, notes, leaves, frees_members, lets_members_go, apply, NodeEntry, next, Legal, after_from, after, replay, IsMade, StartsTask, h1, fits_of, by_moves, rest_keeps, legal_if, some_entry, tally_got, record_of, mutex_in, sum_of, number_added, writes_to, NamesOneMutex, two_workers, two_tallies, TalliesAddUp}
 use Rattle.mtapi_machine.specs.declared.ops.Op.TheVariants as op
 use Rattle.history_law.proofs.lists.Every.{Every, every_issue, every_change, every_all, every_at, every_ends}
 
@@ -13,9 +13,7 @@ module _ (R : List ℤ → Type 0) where
 
   started : (o : Op) (t : NewTask) → StartsWith o → StartsTask t o → R t.args
   unfolding StartsWith
-  started (op.TaskStart job args priority cores detached group) t k b = subst (λ (u : NewTask). R u.args) (sym b) k
-  started (op.TaskEnqueue q args cores detached group) t k b = subst (λ (u : NewTask). R u.args) (sym b.1) k
-  started _ t k b = absurd b
+  started o t e1 e2 = grind (arith, nat_tests)
 
   args_move : (o : Op) → StartsWith o → (s : State) (x : Move) → IsMade s o x → Every (λ u. R u.args) s.tasks → Every (λ u. R u.args) (apply x s).tasks
   args_move o k s (starts_task j t) e v = every_issue (λ u. R u.args) j (new_task t s.starts) s.tasks (started o t k e.by) v
