@@ -227,7 +227,7 @@ time_kept : (who : ℕ) (o : Op) → IsKept InTime who o
 time_kept who o = record {
   new = λ t n. record { state = refl; verdict = refl };
   takes = λ w k t u i. record { state = refl; verdict = i.verdict };
-  ends = λ e n t k i. record { state = ap not (by_end e t i k); verdict = i.verdict };
+  ends = λ e n t h m c k i. record { state = ap not (by_end e t i k); verdict = i.verdict };
   notes = λ f t x d i. record { state = i.state; verdict = x.verdict i.verdict };
   groups = λ d g t i. record { state = i.state; verdict = i.verdict };
 }
@@ -277,7 +277,7 @@ clean_kept : (who : ℕ) (o : Op) → IsKept Clean who o
 clean_kept who o = record {
   new = λ t n u. record { looks = refl; seen = refl; tally = refl };
   takes = λ w k t b i u. true_false u refl;
-  ends = λ e n t k i u. true_false u refl;
+  ends = λ e n t h m c k i u. true_false u refl;
   notes = λ f t x d i. noted_clean who f t x i;
   groups = λ d g t i u. let y = i u in record { looks = y.looks; seen = y.seen; tally = y.tally };
 }

@@ -2,7 +2,7 @@
 use Rattle.history_law.proofs.Names.{nat_tests, arith, ◌≡◌, ℕ, Bool, true, false, Option, Some, None, ◌⊎◌, inl, inr, refl, sym, ◌∙◌, ap, subst, ◌&&◌, Kind, TaskEnd, Failed, is_other, Op, Listed, live_object, with_fields, gone, is_member, freed, let_go, Task, NewTask, Notes, Running, Ended, runs_as, is_unstarted, is_unended, with_state, with_notes, ended, new_task, State, Move, starts_task, runs_task, ends_task, ends_waiting, withdraws, notes, leaves, frees_members, lets_members_go, apply, fst_true, snd_true, not_true, rest_keeps, is_late_end, some_same}
 use Rattle.mtapi_values.specs.declared.kinds.Kind.TheVariants as kind
 use Rattle.history_law.proofs.SeatMoves.{May, MayEnd, Noted, Does, EndsTally, is_any_look}
-use Rattle.history_law.proofs.lists.Every.{Every, every_issue, every_change, every_all, every_ends}
+use Rattle.history_law.proofs.lists.Every.{Every, every_issue, every_change, every_all, every_passing}
 use Rattle.history_law.proofs.lists.Found.{FoundAs, found_changed, found_issued, found_ends, found_all}
 
 -- Every task
@@ -11,18 +11,23 @@ use Rattle.history_law.proofs.lists.Found.{FoundAs, found_changed, found_issued,
 pub record IsKept (P : Task → Type 0) (who : ℕ) (o : Op) : Type 0 where
   pub new : (t : NewTask) (n : ℕ) → P (new_task t n)
   pub takes : (w : ℕ) (k : Kind) (t : Task) → is_unstarted t ≡ true → P t → P (with_state (Running w k) t)
-  pub ends : (e : TaskEnd) (n : ℕ) (t : Task) → (is_late_end e ≡ false) ⊎ (e ≡ t.notes.tally.verdict) → P t → P (with_state (Ended e n) t)
+  pub ends : (e : TaskEnd) (n : ℕ) (t : Task) (h : ℕ) → MayEnd who t → EndsTally h o t → (is_late_end e ≡ false) ⊎ (e ≡ t.notes.tally.verdict) → P t → P (with_state (Ended e n) t)
   pub notes : (f : Notes → Notes) (t : Task) → Noted who f t → Does o t.notes.tally (f t.notes).tally → P t → P (with_notes f t)
   pub groups : (d : Bool) (g : Option ℕ) (t : Task) → P t → P (with_notes (λ n. record n { detached = d; group = g }) t)
+
+not_begun : (w : ℕ) (t : Task) → is_unstarted t ≡ true → runs_as w kind.Tally t ≡ false
+not_begun w t e1 = grind (arith, nat_tests)
 
 pub every_moved : (P : Task → Type 0) (who : ℕ) (o : Op) → IsKept P who o → (s : State) (x : Move) → May s who o x → Every P s.tasks → Every P (apply x s).tasks
 every_moved P who o c s (starts_task j t) k v = every_issue P j (new_task t s.starts) s.tasks (c.new t s.starts) v
 every_moved P who o c s (runs_task j y z) k v =
     every_change P j (with_fields (with_state (Running y z))) s.tasks (λ r a i. c.takes y z r.fields (subst (λ (t : Task). is_unstarted t ≡ true) (some_same (sym k.1 ∙ a)) k.2) i) v
 every_moved P who o c s (ends_task j e) k v =
-    every_change P j (ended e s.ends) s.tasks (λ r a i. c.ends e s.ends r.fields (subst (λ (t : Task). (is_late_end e ≡ false) ⊎ (e ≡ t.notes.tally.verdict)) (some_same (sym k.1 ∙ a)) k.3) i) v
-every_moved P who o c s (ends_waiting p e) k v = every_ends P (λ t. is_unstarted t && p t) e s.ends s.tasks (λ t n i. c.ends e n t (inl k) i) v
-every_moved P who o c s (withdraws j f q) k v = every_ends P _ (Failed q) s.ends s.tasks (λ t n i. c.ends (Failed q) n t (inl k) i) v
+    every_change P j (ended e s.ends) s.tasks
+    (λ r a i. let same : k.0 ≡ r.fields = some_same (sym k.1 ∙ a) in
+    c.ends e s.ends r.fields j (subst (MayEnd who) same k.2) (subst (EndsTally j o) same k.4) (subst (λ (t : Task). (is_late_end e ≡ false) ⊎ (e ≡ t.notes.tally.verdict)) same k.3) i) v
+every_moved P who o c s (ends_waiting p e) k v = every_passing P (λ t. is_unstarted t && p t) e s.ends s.tasks (λ t n u i. c.ends e n t 0 (inl (fst_true _ _ u)) (inr (λ w. not_begun w t (fst_true _ _ u))) (inl k) i) v
+every_moved P who o c s (withdraws j f q) k v = every_passing P _ (Failed q) s.ends s.tasks (λ t n u i. c.ends (Failed q) n t 0 (inl (fst_true _ _ u)) (inr (λ w. not_begun w t (fst_true _ _ u))) (inl k) i) v
 every_moved P who o c s (notes j f) k v =
     every_change P j (with_fields (with_notes f)) s.tasks
     (λ r a i. let same : k.0 ≡ r.fields = some_same (sym k.1 ∙ a) in c.notes f r.fields (subst (Noted who f) same k.2) (subst (λ (t : Task). Does o t.notes.tally (f t.notes).tally) same k.3) i) v
@@ -35,9 +40,6 @@ every_moved P who o c s x k v = rest_keeps (λ t. Every P t.tasks) (λ t g q m c
 
 pub same_found : (s : State) (j h : ℕ) → j ≡ h → (t u : Task) → live_object s.tasks j ≡ Some t → live_object s.tasks h ≡ Some u → t ≡ u
 same_found s j h e1 t u e2 e3 = grind (arith, nat_tests)
-
-not_begun : (w : ℕ) (t : Task) → is_unstarted t ≡ true → runs_as w kind.Tally t ≡ false
-not_begun w t e1 = grind (arith, nat_tests)
 
 -- what this seat may do by the op to the live task of the handle, of which Q holds, leaves it live, with Q
 pub record StaysLive (Q : Task → Type 0) (who h : ℕ) (o : Op) : Type 0 where

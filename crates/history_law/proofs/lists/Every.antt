@@ -49,6 +49,10 @@ every_passing P p e n l g a = every_both (λ t. Unit {0}) P p e n l (λ t k q u 
 pub every_ends : (P : Task → Type 0) (p : Task → Bool) (e : TaskEnd) (n : ℕ) (l : List (Listed Task)) → ((t : Task) (k : ℕ) → P t → P (with_state (Ended e k) t)) → Every P l → Every P (end_each p e n l)
 every_ends P p e n l g a = every_passing P p e n l (λ t k q i. g t k i) a
 
+-- what follows of each
+pub every_part : {T : Type 0} (P Q : T → Type 0) (l : List (Listed T)) → ((t : T) → P t → Q t) → Every P l → Every Q l
+every_part P Q l g a = every_map P (λ t. Unit {0}) Q l (λ t x u. g t x) a (always l)
+
 -- of each, where a test holds
 pub every_if : {T : Type 0} (b : Bool) (P : T → Type 0) (l : List (Listed T)) → (b ≡ true → Every P l) → Every (λ (t : T). (b ≡ true) → P t) l
 every_if true P l f = every_map P (λ t. Unit {0}) (λ t. (true ≡ true) → P t) l (λ t a u e. a) (f refl) (always l)

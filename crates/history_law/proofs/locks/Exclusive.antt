@@ -17,7 +17,8 @@ use Rattle.history_law.proofs.OnceIssued.{once_none, once_next}
 use Rattle.history_law.proofs.Answered.{true_false, none_first, whether, on_test}
 use Rattle.history_law.proofs.lists.Counts.{one_if, counts_along}
 use Rattle.history_law.proofs.lists.Firsts.{first_at}
-use Rattle.history_law.proofs.tallies.Ties.{Owns, id_in, Tied, does_follow, noted_tied, Ties, ties_move, AtMostOne, one_move, none_runs, OnAt, on_move, on_runs, as_on}
+use Rattle.history_law.proofs.TaskMoves.{every_moved, found_moved}
+use Rattle.history_law.proofs.tallies.Ties.{Owns, id_in, Tied, does_follow, noted_tied, Ties, ties_kept, AtMostOne, one_move, none_runs, On, OnAt, on_stays, on_runs, as_on}
 use Rattle.history_law.proofs.locks.Mutexes.{Step, Free, free_step, owns_step, share, share_step, share_owner}
 use Rattle.history_law.proofs.locks.MutexSteps.{is_ending, mutex_by}
 use Rattle.history_law.proofs.locks.Attached.{Step as SegmentStep, HasMarks, marks_step, attached_step, mark_here, segment_by}
@@ -144,7 +145,7 @@ ties_next : (n : ℕ) (s : State) (e : NodeEntry) → IsNext s e → Good n s �
 ties_next n s e i g = whether (is_tally_lock e.op) (λ l. lock_ties n s e.who g e.op e.reply _ l (answer s e i))
     (λ l. every_map (Tied n s.mutexes s.segments) (λ t. (is_ending e.op e.reply ≡ true) → runs_on e.who t ≡ false) (Tied n (next s e).mutexes (next s e).segments) (next s e).tasks
     (λ t v a. tied_step n e.who (is_ending e.op e.reply) _ _ _ _ (λ j. gets_mutex j e) (λ j. gives_mutex j e) (λ j. step_next n s e j i g) (λ j. segment_next n s e j i g) t a v)
-    (by_moves (Ties n s.mutexes s.segments) s e i (ties_move n s.mutexes s.segments e.who e.op l) g.ties)
+    (by_moves (Ties n s.mutexes s.segments) s e i (every_moved (Tied n s.mutexes s.segments) e.who e.op (ties_kept n s.mutexes s.segments e.who e.op l)) g.ties)
     (every_if (is_ending e.op e.reply) (λ t. runs_on e.who t ≡ false) (next s e).tasks (λ k. none_runs e.who (next s e).tasks (held_next s e g.held).dead (end_count s e.who e.op e.reply _ (g.one e.who) k (answer s e i)))))
 
 pub good_next : (n : ℕ) (s : State) (e : NodeEntry) → IsNext s e → Good n s → Good n (next s e)
@@ -212,7 +213,7 @@ unended w h i s who _ _ _ d k v _ = true_false d refl
 stays_on : (w h i : ℕ) (s : State) (e : NodeEntry) → IsNext s e → ends_tally i e ≡ false → OnAt w h i s → OnAt w h i (next s e)
 stays_on w h i s e n f v = on_test (λ b. (b && says_end e.reply) ≡ false → OnAt w h i (next s e)) (is_tally_end i e.op)
     (λ d k. unended w h i s e.who e.op e.reply _ d k v (answer s e n))
-    (λ d k. by_moves (OnAt w h i) s e n (on_move w h i e.who e.op d) v) f
+    (λ d k. by_moves (OnAt w h i) s e n (found_moved (On w h) e.who i e.op (on_stays w h i e.who e.op d)) v) f
 
 on_along : (w h i : ℕ) (s : State) (L : List NodeEntry) → LegalFrom s L → some_entry (ends_tally i) L ≡ false → OnAt w h i s → OnAt w h i (after_from s L)
 unfolding LegalFrom after_from

@@ -1,11 +1,9 @@
 -- What each move leaves of the tallies of a cell: what they wrote, what they read, the mutex that they name, and how they ended.
-use Rattle.history_law.proofs.Names.{arith, nat_tests, ◌≡◌, ℕ, Bool, true, false, cond, List, Option, ◌⊎◌, inl, inr, refl, sym, ◌∙◌, ap, subst, ◌==◌, ◌&&◌, not, ℤ, pos, option_map, TaskEnd, Failed, Op, has_worker, Listed, live_of, change, with_fields, gone, is_member, freed, let_go, Mutex, Segment, Task, Notes, TallyNotes, Running, is_unstarted, is_unended, with_state, with_notes, ended, new_task, tally_args, cell_in, number_in, State, workers, Move, Segments, starts_task, runs_task, ends_task, ends_waiting, withdraws, notes, leaves, frees_members, lets_members_go, makes, alters, removes, apply, IsMade, EndsTask, WithdrawsAction, ends_many, makes_kind, fst_true, unstarted_unended, rest_keeps, is_tally_end, record_of, is_completed, sum_of}
-use Rattle.mtapi_machine.specs.declared.ops.Op.TheVariants as op
-use Rattle.history_law.proofs.Answered.{true_false, whether}
-use Rattle.history_law.proofs.lists.Every.{Every, every_issue, every_change, every_all, every_at, every_passing, every_both}
+use Rattle.history_law.proofs.Names.{arith, nat_tests, ◌≡◌, ℕ, Bool, true, false, cond, List, Option, ◌⊎◌, inl, inr, refl, ◌∙◌, ap, subst, ◌==◌, ◌&&◌, not, ℤ, pos, option_map, Failed, Op, Listed, with_fields, gone, is_member, freed, let_go, Mutex, Segment, Task, Notes, TallyNotes, Running, is_unended, with_state, with_notes, ended, new_task, tally_args, cell_in, number_in, State, Move, Segments, starts_task, runs_task, ends_task, ends_waiting, withdraws, notes, leaves, frees_members, lets_members_go, makes, alters, removes, apply, IsMade, makes_kind, fst_true, unstarted_unended, rest_keeps, is_tally_end, record_of, is_completed, sum_of}
+use Rattle.history_law.proofs.Answered.{true_false}
 use Rattle.history_law.proofs.SeatMoves.{May, MayEnd, Noted, Does, is_tally_lock, is_tally_read, is_tally_write, writes_cells, EndsTally}
-use Rattle.history_law.proofs.TaskMoves.{same_found}
-use Rattle.history_law.proofs.tallies.Ties.{has_both, Tied, Ties, ties_move}
+use Rattle.history_law.proofs.TaskMoves.{IsKept, same_found}
+use Rattle.history_law.proofs.tallies.Ties.{has_both, Tied, ties_kept}
 use Rattle.history_law.proofs.lists.Sums.{sum_issue, sum_change, sum_all, sum_ends, record_view}
 
 and_off : (b c : Bool) → c ≡ false → (b && c) ≡ false
@@ -67,17 +65,14 @@ module _ (S C : ℕ) where
   pub does_adds : (o : Op) (x y : TallyNotes) (args : List ℤ) → is_tally_lock o ≡ false → Does o x y → adds y args ≡ true → adds x args ≡ true
   does_adds o x y args e1 e2 e3 = grind (arith, nat_tests)
 
-  pub each_move : (R : List ℤ → Type 0) (who : ℕ) (o : Op) → is_tally_lock o ≡ false → (s : State) (x : Move) → May s who o x → Every (Each R) s.tasks → Every (Each R) (apply x s).tasks
-  each_move R who o n s (starts_task j t) k v = every_issue (Each R) j (new_task t s.starts) s.tasks (λ a. true_false a refl) v
-  each_move R who o n s (runs_task j y z) k v = every_change (Each R) j (with_fields (with_state (Running y z))) s.tasks (λ r a i. i) v
-  each_move R who o n s (ends_task j e) k v = every_change (Each R) j (ended e s.ends) s.tasks (λ r a i. i) v
-  each_move R who o n s (ends_waiting p e) k v = every_passing (Each R) _ e s.ends s.tasks (λ t m q i. i) v
-  each_move R who o n s (withdraws j f c) k v = every_passing (Each R) _ (Failed c) s.ends s.tasks (λ t m q i. i) v
-  each_move R who o n s (notes j f) k v = grind (arith, nat_tests, every_change, with_fields, with_notes, does_adds, same_found)
-  each_move R who o n s (leaves j) k v = every_change (Each R) j gone s.tasks (λ r a i. i) v
-  each_move R who o n s (frees_members g) k v = every_all (Each R) _ freed s.tasks (λ r i. i) v
-  each_move R who o n s (lets_members_go g) k v = every_all (Each R) (is_member g) let_go s.tasks (λ r i. i) v
-  each_move R who o n s x k v = rest_keeps (λ t. Every (Each R) t.tasks) (λ t g q m c r y p. p) x s v
+  pub each_kept : (R : List ℤ → Type 0) (who : ℕ) (o : Op) → is_tally_lock o ≡ false → IsKept (Each R) who o
+  each_kept R who o n = record {
+    new = λ t k a. true_false a refl;
+    takes = λ w k t u i. i;
+    ends = λ e k t h m c d i. i;
+    notes = λ f t x d i a. i (does_adds o _ _ t.args n d a);
+    groups = λ d g t i. i;
+  }
 
   -- What a tally read that hasn't written yet
 
@@ -87,17 +82,14 @@ module _ (S C : ℕ) where
   does_read : (w : ℤ) (o : Op) (x y : TallyNotes) (args : List ℤ) → is_tally_read o ≡ false → is_tally_write o ≡ false → Does o x y → (adds x args ≡ true → (x.stage == 2) ≡ true → x.kept ≡ w) → adds y args ≡ true → (y.stage == 2) ≡ true → y.kept ≡ w
   does_read w o x y args e1 e2 e3 e4 e5 e6 = grind (arith, nat_tests)
 
-  pub read_move : (w : ℤ) (who : ℕ) (o : Op) → is_tally_read o ≡ false → is_tally_write o ≡ false → (s : State) (x : Move) → May s who o x → Every (HasRead w) s.tasks → Every (HasRead w) (apply x s).tasks
-  read_move w who o m n s (starts_task j t) k v = every_issue (HasRead w) j (new_task t s.starts) s.tasks (λ a b c. true_false a refl) v
-  read_move w who o m n s (runs_task j y z) k v = grind (arith, nat_tests, every_change, with_fields, with_state, unstarted_unended, is_unstarted)
-  read_move w who o m n s (ends_task j e) k v = every_change (HasRead w) j (ended e s.ends) s.tasks (λ r a i b c d. true_false d refl) v
-  read_move w who o m n s (ends_waiting p e) k v = every_passing (HasRead w) _ e s.ends s.tasks (λ t z q i b c d. true_false d refl) v
-  read_move w who o m n s (withdraws j f c) k v = every_passing (HasRead w) _ (Failed c) s.ends s.tasks (λ t z q i b c d. true_false d refl) v
-  read_move w who o m n s (notes j f) k v = grind (arith, nat_tests, every_change, with_fields, with_notes, does_read, same_found)
-  read_move w who o m n s (leaves j) k v = every_change (HasRead w) j gone s.tasks (λ r a i. i) v
-  read_move w who o m n s (frees_members g) k v = every_all (HasRead w) _ freed s.tasks (λ r i. i) v
-  read_move w who o m n s (lets_members_go g) k v = every_all (HasRead w) (is_member g) let_go s.tasks (λ r i. i) v
-  read_move w who o m n s x k v = rest_keeps (λ t. Every (HasRead w) t.tasks) (λ t g q m c r y p. p) x s v
+  pub read_kept : (w : ℤ) (who : ℕ) (o : Op) → is_tally_read o ≡ false → is_tally_write o ≡ false → IsKept (HasRead w) who o
+  read_kept w who o m n = record {
+    new = λ t k a b c. true_false a refl;
+    takes = λ y z t u i a b c. i a b (unstarted_unended t u);
+    ends = λ e k t h l c d i a b u. true_false u refl;
+    notes = λ f t x d i a b c. does_read w o _ _ t.args m n d (λ y z. i y z c) a b;
+    groups = λ d g t i. i;
+  }
 
   -- How it ends: completed exactly where it has written
 
@@ -115,47 +107,18 @@ module _ (S C : ℕ) where
   noted_right : (who : ℕ) (f : Notes → Notes) (t : Task) → Noted who f t → EndsRight t → EndsRight (with_notes f t)
   noted_right who f t e1 e2 = grind (arith, nat_tests)
 
-  module _ (n : ℕ) (ms : List (Listed Mutex)) (ss : List (Listed Segment)) where
-    -- with the ties, where the op is no `tally_lock`
-    abbrev pub RightTies : Op → State → Type 0
-    RightTies o s = (is_tally_lock o ≡ false → Ties n ms ss s) × Every EndsRight s.tasks
+  -- with the ties
+  abbrev pub RightTied : (n : ℕ) (ms : List (Listed Mutex)) (ss : List (Listed Segment)) → Task → Type 0
+  RightTied n ms ss t = Tied n ms ss t × EndsRight t
 
-    over_ends : (who : ℕ) (o : Op) → NoTallyEnd o → (s : State) (j : ℕ) (e : TaskEnd) → IsMade s o (ends_task j e) → May s who o (ends_task j e) → RightTies o s → Every EndsRight (change j (ended e s.ends) s.tasks)
-    over_ends who o f s j e i k v = whether (is_tally_lock o)
-        (λ l. absurd (no_end o l i.by))
-        (λ l. every_change EndsRight j (ended e s.ends) s.tasks (λ r a q u b. let same : k.0 ≡ r.fields = same_found s j j refl k.0 r.fields k.1 a in absurd (adds_nothing n ms ss who j o k.0 (f j) (every_at (Tied n ms ss) s.tasks j k.0 (v.0 l) k.1) k.2 k.4 (subst (λ (t : Task). adds t.notes.tally t.args ≡ true) (sym same) b))) v.1)
-      where
-        no_end : (o : Op) → is_tally_lock o ≡ true → EndsTask j o → ⊥
-        no_end (op.TallyLock t) l b = b
-        no_end _ l b = true_false l refl
-
-    right_each : (who : ℕ) (o : Op) → NoTallyEnd o → (s : State) (x : Move) → IsMade s o x → May s who o x → RightTies o s → Every EndsRight (apply x s).tasks
-    right_each who o f s (starts_task j t) i k v = every_issue EndsRight j (new_task t s.starts) s.tasks (λ u a. true_false refl u) v.1
-    right_each who o f s (runs_task j y z) i k v = every_change EndsRight j (with_fields (with_state (Running y z))) s.tasks (λ r a q u b. true_false refl u) v.1
-    right_each who o f s (ends_task j e) i k v = over_ends who o f s j e i k v
-    right_each who o f s (ends_waiting p e) i k v = whether (is_tally_lock o)
-        (λ l. absurd (no_many o l i.by))
-        (λ l. every_both (Tied n ms ss) EndsRight (λ t. is_unstarted t && p t) e s.ends s.tasks (λ t m q z r u a. true_false (both_of t.notes.tally t.args a) (z.early (fst_true _ _ q))) (v.0 l) v.1)
-      where
-        no_many : (o : Op) → is_tally_lock o ≡ true → ends_many o ≡ true → ⊥
-        no_many (op.TallyLock t) l b = true_false b refl
-        no_many _ l b = true_false l refl
-    right_each who o f s (withdraws j g c) i k v = whether (is_tally_lock o)
-        (λ l. absurd (no_withdraw o l i.by))
-        (λ l. every_both (Tied n ms ss) EndsRight (λ t. is_unstarted t && not (has_worker (workers s) t.job t.cores (live_of (change j g s.actions)))) (Failed c) s.ends s.tasks (λ t m q z r u a. true_false (both_of t.notes.tally t.args a) (z.early (fst_true _ _ q))) (v.0 l) v.1)
-      where
-        no_withdraw : (o : Op) → is_tally_lock o ≡ true → WithdrawsAction j g o → ⊥
-        no_withdraw (op.TallyLock t) l b = b
-        no_withdraw _ l b = true_false l refl
-    right_each who o f s (notes j g) i k v =
-        every_change EndsRight j (with_fields (with_notes g)) s.tasks (λ r a q. noted_right who g r.fields (subst (λ (t : Task). Noted who g t) (same_found s j j refl k.0 r.fields k.1 a) k.2) q) v.1
-    right_each who o f s (leaves j) i k v = every_change EndsRight j gone s.tasks (λ r a q. q) v.1
-    right_each who o f s (frees_members g) i k v = every_all EndsRight _ freed s.tasks (λ r q. q) v.1
-    right_each who o f s (lets_members_go g) i k v = every_all EndsRight (is_member g) let_go s.tasks (λ r q. q) v.1
-    right_each who o f s x i k v = rest_keeps (λ t. Every EndsRight t.tasks) (λ t g q m c r y p. p) x s v.1
-
-    pub right_move : (who : ℕ) (o : Op) → NoTallyEnd o → (s : State) (x : Move) → IsMade s o x → May s who o x → RightTies o s → RightTies o (apply x s)
-    right_move who o f s x i k v = ((λ l. ties_move n ms ss who o l s x k (v.0 l)), right_each who o f s x i k v)
+  pub right_kept : (n : ℕ) (ms : List (Listed Mutex)) (ss : List (Listed Segment)) (who : ℕ) (o : Op) → NoTallyEnd o → is_tally_lock o ≡ false → IsKept (RightTied n ms ss) who o
+  right_kept n ms ss who o f l = let tied : IsKept (Tied n ms ss) who o = ties_kept n ms ss who o l in record {
+    new = λ t k. (tied.new t k, λ u a. true_false refl u);
+    takes = λ w k t u i. (tied.takes w k t u i.0, λ a b. true_false refl a);
+    ends = λ e k t h m c d i. (tied.ends e k t h m c d i.0, λ u a. absurd (adds_nothing n ms ss who h o t (f h) i.0 m c a));
+    notes = λ g t x d i. (tied.notes g t x d i.0, noted_right who g t x i.1);
+    groups = λ d g t i. (tied.groups d g t i.0, i.1);
+  }
 
   -- The cells of the segment
 

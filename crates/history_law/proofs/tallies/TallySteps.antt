@@ -1,5 +1,5 @@
 -- What each entry leaves of the sum that a cell holds, and so every list of entries.
-use Rattle.history_law.proofs.Names.{◌≡◌, ℕ, ◌<◌, ◌≤◌, Bool, true, false, cond, List, [], ◌∷◌, ◌++◌, Option, Some, None, refl, sym, ◌∙◌, ap, subst, arith, ◌==◌, ◌&&◌, ◌||◌, not, nat_lt, is_some, length, ℤ, pos, ◌+ℤ◌, slice_set, slice_index_or, option_map, eqb-true, false_from_ne_true, nat_tests, Decides-int_eq, append_assoc, +ℤ_idl, TaskHandle, TaskEnd, Failed, Completed, entry, Terms, Op, Reply, Listed, live_object, count_listed, listed, change, update, with_fields, Task, tally_args, cell_in, number_in, added, runs_on, is_unended, with_notes, with_tally, tally_read, tally_written, ended, Segment, new_segment, cell_of, with_cell, State, opening, Move, notes, after_moves, after_row, row, NodeEntry, IsNext, next, LegalFrom, Legal, after_from, after, after-one, not_false, fst_true, snd_true, some_same, some_entry, tally_got, record_of, mutex_in, adds_to, completed_in, number_added, sum_of, writes_to, NamesOneMutex, HoldsTheSum, length-set, get_or-set_same, Answers}
+use Rattle.history_law.proofs.Names.{◌≡◌, ℕ, ◌<◌, ◌≤◌, Bool, true, false, cond, List, [], ◌∷◌, ◌++◌, Option, Some, None, refl, sym, ◌∙◌, ap, subst, arith, ◌==◌, ◌&&◌, ◌||◌, not, nat_lt, is_some, length, ℤ, pos, ◌+ℤ◌, slice_set, slice_index_or, option_map, eqb-true, false_from_ne_true, nat_tests, Decides-int_eq, append_assoc, +ℤ_idl, TaskHandle, TaskEnd, Failed, Completed, entry, Terms, Op, Reply, Listed, live_object, count_listed, listed, change, update, with_fields, Task, tally_args, cell_in, number_in, added, runs_on, is_unended, with_notes, with_tally, tally_read, tally_written, ended, Segment, new_segment, cell_of, with_cell, State, opening, Move, notes, after_moves, after_row, row, NodeEntry, IsNext, next, LegalFrom, Legal, after_from, after, after-one, not_false, fst_true, snd_true, some_same, some_entry, tally_got, record_of, mutex_in, adds_to, completed_in, number_added, sum_of, writes_to, NamesOneMutex, HoldsTheSum, length-set, get_or-set_same, Answers, Notes, tally_failed, tally_has}
 use Rattle.mtapi_values.specs.declared.handles.ObjectKind.TheVariants as kind
 use Rattle.mtapi_values.specs.declared.statuses.MtapiStatus.TheVariants as m
 use Rattle.mtapi_machine.specs.declared.ops.Op.TheVariants as op
@@ -11,6 +11,11 @@ use Rattle.history_law.proofs.lists.Every.{Every, every_change, every_map, every
 use Rattle.history_law.proofs.SeatMoves.{by_moves, by_made_moves, answer, is_tally_lock}
 use Rattle.mtapi_machine.specs.Answers as is
 use Rattle.mtapi_machine.specs.declared.replies.Reply.TheVariants as reply
+use Rattle.history_law.proofs.TaskMoves.{every_moved}
+use Rattle.history_law.proofs.Others.{runs_over}
+use Rattle.mtapi_machine.specs.Answers.{HasTask}
+use Rattle.mtapi_values.specs.declared.kinds.Kind.TheVariants as kinds
+use Rattle.history_law.proofs.lists.Every.{every_part}
 use Rattle.history_law.proofs.locks.MutexSteps.{is_end_op}
 use Rattle.history_law.proofs.locks.Locks.{and-true}
 use Rattle.history_law.proofs.OnceIssued.{listed_next}
@@ -18,7 +23,7 @@ use Rattle.history_law.proofs.Answered.{true_false, first_false, second_false, n
 use Rattle.history_law.proofs.tallies.Ties.{has_both, Owns, Tied, as_on}
 use Rattle.history_law.proofs.locks.Exclusive.{Good, good_next, good_opening}
 use Rattle.history_law.proofs.lists.Sums.{sum_more, sum_change, sum_same, record_at, record_updated}
-use Rattle.history_law.proofs.tallies.TallyMoves.{adds, past_read, weight, written, both_of, weigh_off, weigh_early, written_move, Each, each_move, HasRead, read_move, EndsRight, right_move, RightTies, cells_of, cells_move}
+use Rattle.history_law.proofs.tallies.TallyMoves.{adds, past_read, weight, written, both_of, weigh_off, weigh_early, written_move, Each, each_kept, HasRead, read_kept, EndsRight, RightTied, right_kept, cells_of, cells_move}
 use Rattle.history_law.proofs.tallies.Tallies.{every_alone, some_worker, runs_unended, HasId, one_owner, ids_move, lock_each, cell_value, Sum, sum_keep, sum_cells, create_sum, other_cell}
 
 module _ (S C id n : ℕ) where
@@ -48,7 +53,7 @@ module _ (S C id n : ℕ) where
     each_next : (R : List ℤ → Type 0) (o : Op) (r : Reply) → IsNext s (entry who o r) → Every (Each S C R) s.tasks
         → ((t : TaskHandle) (u : Task) (v : Segment) → o ≡ op.TallyLock t → r ≡ reply.Asked true → live_object (after_row s (row s who o r)).tasks t.0 ≡ Some u → live_object s.segments u.notes.tally.segment ≡ Some v → adds_to S C u ≡ true → R u.args)
         → Every (Each S C R) (after_row s (row s who o r)).tasks
-    each_next R o r i base h = whether (is_tally_lock o) (λ l. lock_each S C R s who o r _ base l h (answer s (entry who o r) i)) (λ l. by_moves (λ t. Every (Each S C R) t.tasks) s (entry who o r) i (each_move S C R who o l) base)
+    each_next R o r i base h = whether (is_tally_lock o) (λ l. lock_each S C R s who o r _ base l h (answer s (entry who o r) i)) (λ l. by_moves (λ t. Every (Each S C R) t.tasks) s (entry who o r) i (every_moved (Each S C R) who o (each_kept S C R who o l)) base)
 
     -- how tallies end
 
@@ -65,16 +70,27 @@ module _ (S C id n : ℕ) where
     back_right : (x : Task) (z : ℤ) (c : Bool) → (nat_lt x.notes.tally.stage 2 || c) ≡ false → past_read S C x.notes.tally ≡ completed_in (cond (x.notes.tally.stage == 2) (Failed m.ErrActionFailed) (Completed (z ∷ [])))
     back_right x z c e1 = grind (arith, nat_tests)
 
-    right_by : (o : Op) (r : Reply) (ms : List Move) → is_end_op o ≡ true → Answers s who o r ms → Every (EndsRight S C) (after_moves ms s).tasks
+    noted_runs : (t : ℕ) (x : Task) (f : Notes → Notes) → HasTask s who t x kinds.Tally → Every (EndsRight S C) (change t (with_fields (with_notes f)) s.tasks)
+    noted_runs t x f k =
+        every_change (EndsRight S C) t (with_fields (with_notes f)) s.tasks
+        (λ r a q u b. true_false (subst (λ (z : Task). runs_on who z ≡ true) (some_same (sym k.found ∙ a)) (as_on who x.state k.runs)) (runs_over who r.fields u)) v.right
+
+    right_by : (o : Op) (r : Reply) (ms : List Move) → is_end_op o || is_tally_lock o ≡ true → Answers s who o r ms → Every (EndsRight S C) (after_moves ms s).tasks
     right_by _ _ _ l (is.refuses o x e) = v.right
     right_by _ _ _ l (is.refuses_caller o x e) = v.right
+    right_by _ _ _ l (is.lock_early t x k z) = v.right
+    right_by _ _ _ l (is.lock_fails t x c k z d) = noted_runs t.0 x (with_tally (tally_failed c)) k
+    right_by _ _ _ l (is.lock_got t x y a b k z h) = noted_runs t.0 x (with_tally (tally_has a b)) k
     right_by _ _ _ l (is.tally_ends_failed t x k f) = ends_right t.0 x x.notes.tally.verdict k.found (λ a. absurd (failed_adds x f a))
     right_by _ _ _ l (is.tally_ends t x y z k d f g h) = ends_right t.0 x _ k.found (λ a. back_right x (added x) _ d)
     right_by _ _ _ l _ = true_false l refl
 
     right_row : (o : Op) (r : Reply) → IsNext s (entry who o r) → Every (EndsRight S C) (after_row s (row s who o r)).tasks
     right_row (op.TallyEnd t) r i = right_by (op.TallyEnd t) r _ refl (answer s (entry who (op.TallyEnd t) r) i)
-    right_row o r i = (by_made_moves (RightTies S C n s.mutexes s.segments o) s (entry who o r) i (right_move S C n s.mutexes s.segments who o (λ h. refl)) ((λ l. v.good.ties), v.right)).1
+    right_row (op.TallyLock t) r i = right_by (op.TallyLock t) r _ refl (answer s (entry who (op.TallyLock t) r) i)
+    right_row o r i = every_part (RightTied S C n s.mutexes s.segments) (EndsRight S C) _ (λ t x. x.1)
+        (by_moves (λ t. Every (RightTied S C n s.mutexes s.segments) t.tasks) s (entry who o r) i (every_moved (RightTied S C n s.mutexes s.segments) who o (right_kept S C n s.mutexes s.segments who o (λ h. refl) refl))
+        (every_map (Tied n s.mutexes s.segments) (EndsRight S C) (RightTied S C n s.mutexes s.segments) s.tasks (λ t a b. (a, b)) v.good.ties v.right))
 
     -- the sum
 
@@ -242,7 +258,7 @@ module _ (S C id n : ℕ) where
         sum_cells S C s _ _ (after_row s (row s who o r)).tasks (sym (by_made_moves (λ t. cells_of S C t.segments ≡ cells_of S C s.segments) s (entry who o r) i (cells_move S C (cells_of S C s.segments) who o refl refl) refl))
         (sum_keep S C (cells_of S C s.segments) s.tasks (after_row s (row s who o r)).tasks
         (by_moves (λ t. written S C t ≡ written S C s) s (entry who o r) i (written_move S C (written S C s) who o refl) refl)
-        (λ h. by_moves (λ t. Every (HasRead S C (written S C s)) t.tasks) s (entry who o r) i (read_move S C (written S C s) who o refl refl) h) v.sum)
+        (λ h. by_moves (λ t. Every (HasRead S C (written S C s)) t.tasks) s (entry who o r) i (every_moved (HasRead S C (written S C s)) who o (read_kept S C (written S C s) who o refl refl)) h) v.sum)
 
   holds_next : (s : State) (e : NodeEntry) → IsNext s e → KeepsPremises s e → SumHolds s → SumHolds (next s e)
   holds_next s e i f v = record {

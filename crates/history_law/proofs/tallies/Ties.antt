@@ -1,13 +1,13 @@
 -- A running tally that has its mutex owns it, and at most one task runs on a worker.
-use Rattle.history_law.proofs.Names.{nat_tests, ◌≡◌, ℕ, ◌+◌, ◌<◌, ◌≤◌, Bool, true, false, cond, List, [], ◌∷◌, Option, Some, None, inl, inr, refl, sym, ◌∙◌, ap, subst, arith, ◌==◌, ◌&&◌, not, eqb-true, false_from_ne_true, Kind, TaskEnd, Failed, holds, Op, Listed, live_of, live_object, any_listed, count_listed, with_fields, gone, is_member, freed, let_go, Mutex, tally_args, Task, Notes, TallyNotes, TaskState, Running, Ended, runner, runs_on, runs_as, kind_number, is_unstarted, is_unended, with_state, with_notes, ended, new_task, State, Move, starts_task, runs_task, ends_task, ends_waiting, withdraws, notes, leaves, frees_members, lets_members_go, apply, fst_true, snd_true, both_true, not_true, rest_keeps, is_tally_end, mutex_in, and-false, IsAttached, Segment}
+use Rattle.history_law.proofs.Names.{nat_tests, ◌≡◌, ℕ, ◌+◌, ◌<◌, ◌≤◌, Bool, true, false, cond, List, [], ◌∷◌, Option, Some, None, inl, inr, refl, sym, ◌∙◌, ap, subst, arith, ◌==◌, ◌&&◌, not, eqb-true, false_from_ne_true, Kind, TaskEnd, holds, Op, Listed, live_of, live_object, any_listed, count_listed, with_fields, Mutex, tally_args, Task, Notes, TallyNotes, TaskState, Running, Ended, runner, runs_on, runs_as, kind_number, is_unstarted, is_unended, with_state, with_notes, ended, new_task, State, Move, runs_task, ends_task, apply, both_true, is_tally_end, mutex_in, and-false, IsAttached, Segment, true_from_ne_false}
 use Rattle.mtapi_values.specs.declared.kinds.Kind.TheVariants as kind
 use Rattle.history_law.proofs.Answered.{true_false, whether}
-use Rattle.history_law.proofs.lists.Every.{Every, every_issue, every_change, every_all, every_ends}
-use Rattle.history_law.proofs.lists.Found.{FoundAs, found_changed, found_issued, count_changed, found_ends, found_all}
+use Rattle.history_law.proofs.lists.Every.{Every}
+use Rattle.history_law.proofs.lists.Found.{FoundAs, count_changed}
 use Rattle.history_law.proofs.Held.{DeadEnded}
 use Rattle.history_law.proofs.SeatMoves.{May, Does, stays, fails, has, reads, writes, is_tally_lock, EndsTally}
 use Rattle.history_law.proofs.Others.{other_count, runs_scheduled, runs_over}
-use Rattle.history_law.proofs.TaskMoves.{same_found}
+use Rattle.history_law.proofs.TaskMoves.{IsKept, StaysLive}
 
 -- the tally has its mutex and its segment: it has begun and hasn't failed
 abbrev pub has_both : TallyNotes → Bool
@@ -80,28 +80,17 @@ module _ (n : ℕ) (ms : List (Listed Mutex)) (ss : List (Listed Segment)) where
     kind = λ w r b. i.kind w r (k.before b);
   }
 
-  -- the group, and whether the task is detached, are of no matter
-  group_tied : (t : Task) (d : Bool) (g : Option ℕ) → Tied n ms ss t → Tied n ms ss (with_notes (λ n. record n { detached = d; group = g }) t)
-  group_tied t d g i = record { early = i.early; tied = i.tied; attends = i.attends; kind = i.kind }
-
   abbrev pub Ties : State → Type 0
   Ties s = Every (Tied n ms ss) s.tasks
 
-  pub ties_move : (who : ℕ) (o : Op) → is_tally_lock o ≡ false → (s : State) (x : Move) → May s who o x → Ties s → Ties (apply x s)
-  ties_move who o l s (starts_task j t) k v = every_issue (Tied n ms ss) j (new_task t s.starts) s.tasks (idle_tied (new_task t s.starts) (λ i. refl) (λ w. refl)) v
-  ties_move who o l s (runs_task j y z) k v =
-      every_change (Tied n ms ss) j (with_fields (with_state (Running y z))) s.tasks
-      (λ r a i. runs_tied y z r.fields (subst (λ (t : Task). is_unstarted t ≡ true) (same_found s j j refl k.0 r.fields k.1 a) k.2) i) v
-  ties_move who o l s (ends_task j e) k v = every_change (Tied n ms ss) j (ended e s.ends) s.tasks (λ r a i. over_tied e s.ends r.fields) v
-  ties_move who o l s (ends_waiting p e) k v = every_ends (Tied n ms ss) _ e s.ends s.tasks (λ t m i. over_tied e m t) v
-  ties_move who o l s (withdraws j f c) k v = every_ends (Tied n ms ss) _ (Failed c) s.ends s.tasks (λ t m i. over_tied (Failed c) m t) v
-  ties_move who o l s (notes j f) k v =
-      every_change (Tied n ms ss) j (with_fields (with_notes f)) s.tasks
-      (λ r a i. noted_tied f r.fields (does_follow o _ _ l (subst (λ (t : Task). Does o t.notes.tally (f t.notes).tally) (same_found s j j refl k.0 r.fields k.1 a) k.3)) i) v
-  ties_move who o l s (leaves j) k v = every_change (Tied n ms ss) j gone s.tasks (λ r a i. i) v
-  ties_move who o l s (frees_members g) k v = every_all (Tied n ms ss) _ freed s.tasks (λ r i. group_tied r.fields r.fields.notes.detached None i) v
-  ties_move who o l s (lets_members_go g) k v = every_all (Tied n ms ss) (is_member g) let_go s.tasks (λ r i. group_tied r.fields true None i) v
-  ties_move who o l s x k v = rest_keeps Ties (λ t g q m c r y p. p) x s v
+  pub ties_kept : (who : ℕ) (o : Op) → is_tally_lock o ≡ false → IsKept (Tied n ms ss) who o
+  ties_kept who o l = record {
+    new = λ t k. idle_tied (new_task t k) (λ i. refl) (λ w. refl);
+    takes = λ v z t u i. runs_tied v z t u i;
+    ends = λ e k t h m c d i. over_tied e k t;
+    notes = λ f t x d i. noted_tied f t (does_follow o _ _ l d) i;
+    groups = λ d g t i. record { early = i.early; tied = i.tied; attends = i.attends; kind = i.kind };
+  }
 
 -- At most one task runs on a worker
 
@@ -160,49 +149,25 @@ as_on w x e1 = grind (arith, nat_tests)
 pub on_runs : (w h : ℕ) (t : Task) → On w h t → runs_on w t ≡ true
 on_runs w h t i = as_on w t.state i.runs
 
-on_set : (w h : ℕ) (f : Task → Task) (t : Task) (r : Listed Task) → On w h (f t) → r.live ≡ true → r.fields ≡ t → ((with_fields f r).live ≡ true) × On w h (with_fields f r).fields
-on_set w h f t r i a s = (a, subst (λ (u : Task). On w h (f u)) (sym s) i)
-
 not_over : (w h : ℕ) (t : Task) → On w h t → is_unended t ≡ false → ⊥
 not_over w h t i e = true_false (on_runs w h t i) (runs_over w t e)
 
 not_early : (w h : ℕ) (t : Task) → On w h t → is_unstarted t ≡ true → ⊥
 not_early w h t i e = true_false (on_runs w h t i) (runs_scheduled w t e)
 
-on_goes : (w h : ℕ) (t : Task) (r : Listed Task) → On w h t → r.live ≡ true → r.fields ≡ t → ((let_go r).live ≡ true) × On w h (let_go r).fields
-on_goes w h t r i a s =
-    let j : On w h r.fields = subst (On w h) (sym s) i in
-    (both_true r.live (is_unended r.fields) a (unended (is_unended r.fields) refl j), record { runs = j.runs; both = j.both; mutex = j.mutex })
-  where
-    unended : (b : Bool) → is_unended r.fields ≡ b → On w h r.fields → b ≡ true
-    unended true e j = refl
-    unended false e j = absurd (not_over w h r.fields j e)
-
 abbrev pub OnAt : ℕ → ℕ → ℕ → State → Type 0
 OnAt w h j s = FoundAs (On w h) s.tasks j
 
-pub on_move : (w h i who : ℕ) (o : Op) → is_tally_end i o ≡ false → (s : State) (x : Move) → May s who o x → OnAt w h i s → OnAt w h i (apply x s)
-on_move w h i who o n s (starts_task j t) k v = found_issued (On w h) j i (new_task t s.starts) s.tasks v.0 v.1 v.2
-on_move w h i who o n s (runs_task j y z) k v =
-    found_changed (On w h) j i (with_fields (with_state (Running y z))) (λ r. refl) s.tasks v.0 v.1 v.2
-    (λ r e a f. absurd (not_early w h v.0 v.2 (subst (λ (t : Task). is_unstarted t ≡ true) (same_found s j i e k.0 v.0 k.1 v.1) k.2)))
-on_move w h i who o n s (notes j f) k v =
-    found_changed (On w h) j i (with_fields (with_notes f)) (λ r. refl) s.tasks v.0 v.1 v.2
-    (λ r e a d.
-    let g : GoesOn v.0.notes.tally (f v.0.notes).tally = goes_on o _ _ v.2.both (subst (λ (t : Task). Does o t.notes.tally (f t.notes).tally) (same_found s j i e k.0 v.0 k.1 v.1) k.3) in
-    on_set w h (with_notes f) v.0 r (record { runs = v.2.runs; both = g.both; mutex = g.mutex ∙ v.2.mutex }) a d)
-on_move w h i who o n s (leaves j) k v =
-    found_changed (On w h) j i gone (λ r. refl) s.tasks v.0 v.1 v.2 (λ r e a f. absurd (not_over w h v.0 v.2 (subst (λ (t : Task). is_unended t ≡ false) (same_found s j i e k.0 v.0 k.1 v.1) k.2)))
-on_move w h i who o n s (ends_task j e) k v = found_changed (On w h) j i (ended e s.ends) (λ r. refl) s.tasks v.0 v.1 v.2 (λ r d a f. absurd (by_end d k.4))
+pub on_stays : (w h i who : ℕ) (o : Op) → is_tally_end i o ≡ false → StaysLive (On w h) who i o
+on_stays w h i who o n = record {
+  takes = λ y z t u v. absurd (not_early w h t v u);
+  ends = λ e m r b c a v. absurd (by_end r.fields v c);
+  notes = λ f t x d v. let g : GoesOn t.notes.tally (f t.notes).tally = goes_on o _ _ v.both d in record { runs = v.runs; both = g.both; mutex = g.mutex ∙ v.mutex };
+  leaves = λ t u k v. not_over w h t v u;
+  frees = λ g t m u v. not_over w h t v u;
+  lets_go = λ g r m a v. (both_true r.live (is_unended r.fields) a (true_from_ne_false (is_unended r.fields) (not_over w h r.fields v)), record { runs = v.runs; both = v.both; mutex = v.mutex });
+}
   where
-    by_end : j ≡ i → EndsTally j o k.0 → ⊥
-    by_end d (inl y) = true_false (subst (λ (z : ℕ). is_tally_end z o ≡ true) d y) n
-    by_end d (inr y) = true_false v.2.runs (subst (λ (t : Task). runs_as w kind.Tally t ≡ false) (same_found s j i d k.0 v.0 k.1 v.1) (y w))
-on_move w h i who o n s (ends_waiting p e) k v =
-    found_ends (On w h) (λ t. is_unstarted t && p t) e s.ends i s.tasks v.0 v.1 v.2 (λ r m a f d. absurd (not_early w h v.0 v.2 (fst_true _ _ d)))
-on_move w h i who o n s (withdraws j f c) k v =
-    found_ends (On w h) _ (Failed c) s.ends i s.tasks v.0 v.1 v.2 (λ r m a y d. absurd (not_early w h v.0 v.2 (fst_true _ _ d)))
-on_move w h i who o n s (frees_members g) k v =
-    found_all (On w h) _ freed i (λ r. refl) s.tasks v.0 v.1 v.2 (λ r a y d. absurd (not_over w h v.0 v.2 (not_true _ (snd_true (is_member g v.0) _ d))))
-on_move w h i who o n s (lets_members_go g) k v = found_all (On w h) (is_member g) let_go i (λ r. refl) s.tasks v.0 v.1 v.2 (λ r a y d. on_goes w h v.0 r v.2 a y)
-on_move w h i who o n s x k v = rest_keeps (OnAt w h i) (λ t g q m c r y p. p) x s v
+    by_end : (t : Task) → On w h t → EndsTally i o t → ⊥
+    by_end t v (inl y) = true_false y n
+    by_end t v (inr y) = true_false v.runs (y w)
