@@ -2,7 +2,7 @@
 use Rattle.history_law.proofs.Names.{nat_tests, ◌≡◌, ℕ, ◌≤◌, true, false, List, [], ◌∷◌, ◌++◌, Option, Some, None, refl, sym, ◌∙◌, ap, subst, arith, IsSome, append-nil, TaskEnd, all_marked, Terms, Op, Reply, Ok, Handle, entry, listed, State, opening, workers, Move, starts_task, after_moves, Allows, after_row, row, asked_for, asked_of, NodeEntry, IsNext, next, LegalFrom, Legal, after_from, after, Legal-rest, after-append, after_grows, end_at, accepted_by, accepted, TasksEndOnce, some_same, Answers}
 use Rattle.mtapi_machine.specs.declared.ops.Op.TheVariants as op
 use Rattle.history_law.proofs.Held.{AllEnded}
-use Rattle.history_law.proofs.Moves.{Stands, after_stands, Stopped, after_stopped, none_listed}
+use Rattle.history_law.proofs.Moves.{Stands, after_stands, Stopped, after_stopped, once_from}
 use Rattle.history_law.proofs.Ends.{grows_listed, all_end, end_later}
 use Rattle.history_law.proofs.lists.Handles.{some_issued}
 use Rattle.mtapi_machine.specs.Answers as is
@@ -38,7 +38,7 @@ final_stopped : (terms : Terms) (s : State) (main : ℕ) → 1 ≤ terms.setting
 final_stopped terms s main e1 e2 e3 = grind (arith, nat_tests)
 
 pub opening_stands : (terms : Terms) → Stands terms (opening terms)
-opening_stands terms = (refl, record { dead = tt; stopped = λ f. absurd (cc); once = none_listed })
+opening_stands terms = (refl, record { dead = tt; stopped = λ f. absurd (cc) })
 
 pub stands_after : (terms : Terms) (L : List NodeEntry) → Stands terms (after terms L)
 stands_after terms L = after_stands terms (opening terms) L (opening_stands terms)
@@ -68,7 +68,7 @@ shown None i = let n : false ≡ true = i in absurd (cc)
 
 -- a handle is listed at most once
 pub listed_once : (terms : Terms) (es : List NodeEntry) (h : ℕ) → Legal terms es → listed h (after terms es).tasks ≤ 1
-listed_once terms es h legal = (stands_after terms es).1.once h
+listed_once terms es h legal = once_from terms es h
 
 -- an end that a prefix shows stays over every longer prefix
 pub front_stays : (terms : Terms) (es A M B : List NodeEntry) (h : ℕ) (e : TaskEnd) → Legal terms es → es ≡ A ++ (M ++ B) → end_at (after terms A).tasks h ≡ Some e → end_at (after terms (A ++ M)).tasks h ≡ Some e

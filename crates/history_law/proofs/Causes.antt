@@ -1,5 +1,5 @@
 -- A task that has ended was ended by an entry that may end it.
-use Rattle.history_law.proofs.Names.{arith, nat_tests, ◌≡◌, ℕ, ◌+◌, Bool, true, false, cond, List, [], ◌∷◌, Option, Some, None, refl, sym, ◌∙◌, ap, subst, ◌==◌, ◌&&◌, ◌||◌, not, nat_lt, eqb-true, cond_both, TaskEnd, Cancelled, TaskHandle, Kind, Listed, live_of, live_object, change, change_all, issue, with_fields, gone, Action, with_enabled, has_worker, Task, NewTask, Running, scheduled, new_task, ended, end_each, with_state, with_notes, is_member, freed, let_go, is_unended, is_unstarted, added, fits, Op, Reply, State, Terms, opening, workers, Move, Groups, Queues, Mutexes, Sems, Rwls, Segments, phase_is, released, stops, makes_action, enables, withdraws, starts_task, runs_task, ends_task, ends_waiting, notes, leaves, frees_members, lets_members_go, makes, alters, removes, apply, after_moves, NodeEntry, next, LegalFrom, Legal, after_from, end_in, end_at, after_grows, some_same, fst_true, snd_true, not_true, task_at, TallyEnd, Answers, tally_verdict}
+use Rattle.history_law.proofs.Names.{rest_keeps, arith, nat_tests, ◌≡◌, ℕ, ◌+◌, Bool, true, false, cond, List, [], ◌∷◌, Option, Some, None, refl, sym, ◌∙◌, ap, subst, ◌==◌, ◌&&◌, ◌||◌, not, nat_lt, eqb-true, cond_both, TaskEnd, Cancelled, TaskHandle, Kind, Listed, live_of, live_object, change, change_all, issue, with_fields, gone, Action, with_enabled, has_worker, Task, NewTask, Running, scheduled, new_task, ended, end_each, with_state, with_notes, is_member, freed, let_go, is_unended, is_unstarted, added, fits, Op, Reply, State, Terms, opening, workers, Move, withdraws, starts_task, runs_task, ends_task, ends_waiting, notes, leaves, frees_members, lets_members_go, apply, after_moves, NodeEntry, next, LegalFrom, Legal, after_from, end_in, end_at, after_grows, some_same, fst_true, snd_true, not_true, task_at, TallyEnd, Answers, tally_verdict}
 use Rattle.mtapi_machine.specs.Answers as is
 use Rattle.mtapi_machine.proofs.Answered.{answered}
 use Rattle.history_law.specs.Causes.{IsLeft, Cause, by_cancel, by_disabled_queue, by_close, by_deleted_queue, by_deleted_action, by_disabled_action, by_answer, by_watch, by_failed_tally, by_sum, by_tally, HasCause, EndHasItsCause}
@@ -107,29 +107,7 @@ module _ (h : ℕ) where
   calm_move s (leaves j) b = alike_change j gone s.tasks (λ r i. (refl, refl))
   calm_move s (frees_members g) b = alike_all (λ t. is_member g t && not (is_unended t)) freed s.tasks (λ r. (refl, refl))
   calm_move s (lets_members_go g) b = alike_all (is_member g) let_go s.tasks (λ r. (refl, refl))
-  calm_move s (phase_is p) b = refl
-  calm_move s released b = refl
-  calm_move s (stops w) b = refl
-  calm_move s (makes_action j a) b = refl
-  calm_move s (enables j) b = refl
-  calm_move s (makes Groups j x) b = refl
-  calm_move s (makes Queues j x) b = refl
-  calm_move s (makes Mutexes j x) b = refl
-  calm_move s (makes Sems j x) b = refl
-  calm_move s (makes Rwls j x) b = refl
-  calm_move s (makes Segments j x) b = refl
-  calm_move s (alters Groups j f) b = refl
-  calm_move s (alters Queues j f) b = refl
-  calm_move s (alters Mutexes j f) b = refl
-  calm_move s (alters Sems j f) b = refl
-  calm_move s (alters Rwls j f) b = refl
-  calm_move s (alters Segments j f) b = refl
-  calm_move s (removes Groups j) b = refl
-  calm_move s (removes Queues j) b = refl
-  calm_move s (removes Mutexes j) b = refl
-  calm_move s (removes Sems j) b = refl
-  calm_move s (removes Rwls j) b = refl
-  calm_move s (removes Segments j) b = refl
+  calm_move s x b = rest_keeps (Same s) (λ t g q m c r y p. p) x s refl
 
   calm_moves : (s : State) (ms : List Move) → are_calm ms ≡ true → Same s (after_moves ms s)
   calm_moves s [] b = refl

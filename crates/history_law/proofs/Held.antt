@@ -1,7 +1,6 @@
 -- What holds after every legal list of the tasks, the phase and the marks of stopped workers, and the changes that keep it.
-use Rattle.history_law.proofs.Names.{nat_tests, ◌≡◌, ℕ, ◌+◌, ◌≤◌, Bool, true, false, cond, List, [], ◌∷◌, ◌++◌, Some, refl, ◌∙◌, ap, arith, ◌==◌, ◌&&◌, slice_set, cond_both, TaskEnd, all_marked, Phase, Listed, live_of, live_object, any_listed, any_live, change, issue, listed, with_fields, gone, Task, is_unended, ended, end_each, is_new, is_open, is_past_open, fst_true, snd_true}
+use Rattle.history_law.proofs.Names.{nat_tests, ◌≡◌, ℕ, ◌+◌, ◌≤◌, Bool, true, false, cond, List, [], ◌∷◌, ◌++◌, Some, refl, ◌∙◌, arith, ◌==◌, ◌&&◌, slice_set, cond_both, TaskEnd, all_marked, Phase, Listed, live_of, live_object, any_listed, any_live, change, issue, with_fields, gone, Task, is_unended, ended, end_each, is_new, is_open, is_past_open, fst_true, snd_true}
 use Rattle.history_law.proofs.lists.Found.{at_here, at_past}
-use Rattle.history_law.proofs.lists.Handles.{once_more}
 use Rattle.history_law.proofs.Answered.{true_false, none_first}
 
 -- the task has ended
@@ -23,15 +22,13 @@ abbrev pub first_mark : List Bool → Bool
 first_mark [] = false
 first_mark (b ∷ bs) = b
 
--- once the first worker has stopped the phase is late and every task has ended; no handle is listed twice
+-- once the first worker has stopped the phase is late and every task has ended
 pub record Held (p : Phase) (m : List Bool) (l : List (Listed Task)) : Type 0 where
   pub dead : DeadEnded l
   pub stopped : first_mark m ≡ true → (is_past_open p ≡ true) × AllEnded l
-  pub once : (h : ℕ) → listed h l ≤ 1
 
--- what a change keeps of a listed task: its handle, that it has ended, and that it has ended where it isn't live
+-- what a change keeps of a listed task: that it has ended, and that it has ended where it isn't live
 pub record Keeps (r q : Listed Task) : Type 0 where
-  pub handle : q.handle ≡ r.handle
   pub over : HasEnded r.fields → HasEnded q.fields
   pub dead : (r.live ≡ false → HasEnded r.fields) → q.live ≡ false → HasEnded q.fields
 
@@ -44,19 +41,19 @@ KeepsEach (r ∷ rs) (q ∷ qs) = Keeps r q × KeepsEach rs qs
 -- Changes of one task
 
 pub same : (r : Listed Task) → Keeps r r
-same r = record { handle = refl; over = λ e. e; dead = λ d. d }
+same r = record { over = λ e. e; dead = λ d. d }
 
 pub ends : (e : TaskEnd) (n : ℕ) (r : Listed Task) → Keeps r (ended e n r)
-ends e n r = record { handle = refl; over = λ h. refl; dead = λ d h. refl }
+ends e n r = record { over = λ h. refl; dead = λ d h. refl }
 
 pub alters : (f : Task → Task) (r : Listed Task) → (f r.fields).state ≡ r.fields.state → Keeps r (with_fields f r)
 alters f r e1 = grind (arith, nat_tests)
 
 pub goes : (r : Listed Task) → HasEnded r.fields → Keeps r (gone r)
-goes r e = record { handle = refl; over = λ h. h; dead = λ d h. e }
+goes r e = record { over = λ h. h; dead = λ d h. e }
 
 pub begins : (f : Task → Task) (r : Listed Task) → is_unended r.fields ≡ true → Keeps r (with_fields f r)
-begins f r e = record { handle = refl; over = λ h. absurd (true_false e h); dead = λ d h. absurd (true_false e (d h)) }
+begins f r e = record { over = λ h. absurd (true_false e h); dead = λ d h. absurd (true_false e (d h)) }
 
 -- Changes of the list
 
@@ -89,23 +86,13 @@ ended_each [] (q ∷ qs) g d = absurd g
 ended_each (r ∷ rs) [] g d = absurd g
 ended_each (r ∷ rs) (q ∷ qs) g d = (g.0.over d.0, ended_each rs qs g.1 d.1)
 
-listed_each : (h : ℕ) (l k : List (Listed Task)) → KeepsEach l k → listed h k ≡ listed h l
-unfolding listed
-listed_each h [] [] g = refl
-listed_each h [] (q ∷ qs) g = absurd g
-listed_each h (r ∷ rs) [] g = absurd g
-listed_each h (r ∷ rs) (q ∷ qs) g = let k = listed_each h rs qs g.1 in let d : cond {A = ℕ} (q.handle == h) 1 0 ≡ cond (r.handle == h) 1 0 = ap (λ (n : ℕ). cond {A = ℕ} (n == h) 1 0) g.0.handle in omega arith
-
-once_each : (l k : List (Listed Task)) → KeepsEach l k → ((h : ℕ) → listed h l ≤ 1) → (h : ℕ) → listed h k ≤ 1
-once_each l k g o h = let e = listed_each h l k g in let u : listed h l ≤ 1 = o h in omega arith
-
 -- the phase stays, and the tasks change so
 pub held_keeps : (p : Phase) (m : List Bool) (l k : List (Listed Task)) → Held p m l → KeepsEach l k → Held p m k
-held_keeps p m l k v g = grind (arith, nat_tests, dead_each, ended_each, once_each)
+held_keeps p m l k v g = grind (arith, nat_tests, dead_each, ended_each)
 
 -- the phase is late then
 pub held_late : (p q : Phase) (m : List Bool) (l k : List (Listed Task)) → is_past_open q ≡ true → Held p m l → KeepsEach l k → Held q m k
-held_late p q m l k t v g = grind (arith, nat_tests, dead_each, ended_each, once_each)
+held_late p q m l k t v g = grind (arith, nat_tests, dead_each, ended_each)
 
 new_late : (p : Phase) → is_new p ≡ true → is_past_open p ≡ true → ⊥
 new_late p e1 e2 = grind (arith, nat_tests)
@@ -115,7 +102,7 @@ open_late p e1 e2 = grind (arith, nat_tests)
 
 -- the node opens
 pub held_open : (p q : Phase) (m : List Bool) (l : List (Listed Task)) → is_new p ≡ true → Held p m l → Held q m l
-held_open p q m l n v = record { dead = v.dead; stopped = λ f. absurd (new_late p n (v.stopped f).0); once = v.once }
+held_open p q m l n v = record { dead = v.dead; stopped = λ f. absurd (new_late p n (v.stopped f).0) }
 
 -- a new task
 
@@ -123,9 +110,9 @@ dead_issue : (h : ℕ) (t : Task) (l : List (Listed Task)) → DeadEnded l → D
 dead_issue h t [] d = ((λ e. absurd (true_false refl e)), tt)
 dead_issue h t (r ∷ rs) d = (d.0, dead_issue h t rs d.1)
 
-pub held_issue : (p : Phase) (m : List Bool) (h : ℕ) (t : Task) (l : List (Listed Task)) → is_open p ≡ true → listed h l ≡ 0 → Held p m l → Held p m (issue h t l)
+pub held_issue : (p : Phase) (m : List Bool) (h : ℕ) (t : Task) (l : List (Listed Task)) → is_open p ≡ true → Held p m l → Held p m (issue h t l)
 unfolding issue
-held_issue p m h t l o n v = grind (arith, nat_tests, dead_issue, open_late, once_more)
+held_issue p m h t l o v = grind (arith, nat_tests, dead_issue, open_late)
 
 -- a worker stops
 
@@ -139,7 +126,7 @@ all_ended (r ∷ rs) e d = by_live r.live e d.0 (λ q. all_ended rs q d.1)
     by_live false q k rest = (k refl, rest q)
 
 pub held_stop : (p : Phase) (m : List Bool) (w : ℕ) (l : List (Listed Task)) → is_past_open p ≡ true → any_listed is_unended l ≡ false → Held p m l → Held p (slice_set m w true) l
-held_stop p m w l t n v = record { dead = v.dead; stopped = λ f. (t, all_ended l n v.dead); once = v.once }
+held_stop p m w l t n v = record { dead = v.dead; stopped = λ f. (t, all_ended l n v.dead) }
 
 -- where each worker has stopped, of one or more, the first has
 pub all_first : (w : ℕ) (m : List Bool) → 1 ≤ w → all_marked w m ≡ true → first_mark m ≡ true

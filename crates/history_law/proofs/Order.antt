@@ -7,7 +7,7 @@ use Rattle.history_law.proofs.lists.Handles.{OnceIn, once_same, listed_change}
 use Rattle.history_law.proofs.lists.Records.{read_found}
 use Rattle.history_law.proofs.lists.Members.{AllOf, IsEnding, all_endings, all_insert}
 use Rattle.history_law.proofs.Numbers.{is_number, bit, has_number, Numbered, numbered_after}
-use Rattle.history_law.proofs.SeatMoves.{Noted, May, by_moves}
+use Rattle.history_law.proofs.SeatMoves.{Noted, May, by_moves, kept_along}
 use Rattle.history_law.proofs.Ages.{dead_none, none_dead, live_listed}
 use Rattle.history_law.proofs.lists.AtHandles.{at_retired}
 use Rattle.history_law.proofs.Reuse.{Gone, stays_gone}
@@ -152,9 +152,7 @@ left_move g n who o s (lets_members_go z) k v = record { next = v.next; all = fr
 left_move g n who o s x k v = rest_keeps (Left g n) (λ t g q m c r y p. record { next = p.next; all = p.all }) x s (record { next = v.next; all = v.all })
 
 left_along : (g n : ℕ) (s : State) (L : List NodeEntry) → LegalFrom s L → Left g n s → Left g n (after_from s L)
-unfolding LegalFrom after_from
-left_along g n s [] l v = v
-left_along g n s (e ∷ es) l v = left_along g n (next s e) es l.1 (by_moves (Left g n) s e l.0 (λ t x k y. left_move g n e.who e.op t x k y) v)
+left_along g n s L l v = kept_along (Left g n) (λ t e i. by_moves (Left g n) t e i (left_move g n e.who e.op)) s L l v
 
 -- the endings of a list, seen at its records
 from_endings : (g n : ℕ) (l : List (Listed Task)) → AllOf (FromNumber n) (endings g (live_of l)) → AllFrom g n l

@@ -4,8 +4,9 @@ use Rattle.mtapi_values.specs.declared.handles.ObjectKind.TheVariants as kind
 use Rattle.history_law.specs.Words.{makes as makes_kind}
 use Rattle.mtapi_machine.specs.Answers as is
 use Rattle.mtapi_machine.proofs.Answered.{answered}
+use Rattle.history_law.proofs.SeatMoves.{kept_without}
 use Rattle.history_law.proofs.Ages.{SameFields, kind_move, listed_ages, Dead, dead_ages, dead_issue, dead_none, none_dead, live_listed}
-use Rattle.history_law.proofs.Answered.{true_false, none_first, on_test}
+use Rattle.history_law.proofs.Answered.{true_false, on_test}
 
 -- A fresh handle is listed nowhere
 
@@ -115,11 +116,7 @@ unissued k h s e i n = on_test (λ b. (b && is_handle h e.reply) ≡ false → t
     (λ m j. listed_same k h s e m) n
 
 pub none_listed : (k : ObjectKind) (h : ℕ) (s : State) (L : List NodeEntry) → LegalFrom s L → times k h s ≡ 0 → some_entry (issues k h) L ≡ false → times k h (after_from s L) ≡ 0
-unfolding LegalFrom after_from
-none_listed k h s [] legal z n = z
-none_listed k h s (e ∷ es) legal z n =
-    let both : (issues k h e ≡ false) × (some_entry (issues k h) es ≡ false) = none_first (issues k h e) _ n in
-    none_listed k h (next s e) es legal.1 (unissued k h s e legal.0 both.0 ∙ z) both.1
+none_listed k h s L legal z n = kept_without (issues k h) (λ t. times k h t ≡ 0) (λ t e i m v. unissued k h t e i m ∙ v) s L legal n z
 
 pub was_issued : (k : ObjectKind) (h : ℕ) (terms : Terms) (L : List NodeEntry) → LegalFrom (opening terms) L → 1 ≤ times k h (after terms L) → some_entry (issues k h) L ≡ true
 was_issued k h terms L legal n = true_from_ne_false (some_entry (issues k h) L) (λ i. let z : times k h (after terms L) ≡ 0 = none_listed k h (opening terms) L legal (none_times k h terms) i in omega arith)

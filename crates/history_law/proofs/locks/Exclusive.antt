@@ -1,5 +1,5 @@
 -- At most one seat holds a mutex.
-use Rattle.history_law.proofs.Names.{◌≡◌, ℕ, ◌+◌, ◌<◌, ◌≤◌, Bool, true, false, cond, List, [], ◌∷◌, ◌++◌, Option, Some, None, ◌⊎◌, inl, inr, refl, sym, ◌∙◌, ap, subst, arith, ◌==◌, ◌&&◌, nat_lt, length, TaskHandle, Terms, Op, Reply, Listed, live_of, live_object, count_listed, change, with_fields, eqb-true, nat_tests, Task, Adds, runs_on, runs_as, with_notes, with_tally, tally_failed, tally_has, ended, Mutex, locked_by, with_attached, State, opening, workers, Move, Mutexes, Segments, alters, notes, after_moves, NodeEntry, IsNext, next, LegalFrom, Legal, after_from, after, Legal-rest, after-append, after-one, at-update, some_same, some_entry, entries_that, by_seat, gets_mutex, gives_mutex, says_end, is_tally_end, ends_tally, HasMutex, tally_got, HoldsByLooks, HoldsByTally, HoldsMutex, MutexesKeepTo, mutex_in, and-false, Answers, IsAttached, Legal-prefix, Segment, TaskEnd}
+use Rattle.history_law.proofs.Names.{◌≡◌, ℕ, ◌+◌, ◌<◌, ◌≤◌, Bool, true, false, cond, List, [], ◌∷◌, ◌++◌, Option, Some, None, ◌⊎◌, inl, inr, refl, sym, ◌∙◌, ap, subst, arith, ◌==◌, ◌&&◌, nat_lt, length, TaskHandle, Terms, Op, Reply, Listed, live_of, live_object, count_listed, change, with_fields, eqb-true, nat_tests, Task, Adds, runs_on, runs_as, with_notes, with_tally, tally_failed, tally_has, ended, Mutex, locked_by, with_attached, State, opening, workers, Move, Mutexes, Segments, alters, notes, after_moves, NodeEntry, IsNext, next, LegalFrom, Legal, after_from, after, Legal-rest, after-append, after-one, at-update, some_same, entries_that, by_seat, gets_mutex, gives_mutex, says_end, is_tally_end, ends_tally, HasMutex, tally_got, HoldsByLooks, HoldsByTally, HoldsMutex, MutexesKeepTo, mutex_in, and-false, Answers, IsAttached, Legal-prefix, Segment, TaskEnd}
 use Rattle.mtapi_values.specs.declared.kinds.Kind.TheVariants as kinds
 use Rattle.mtapi_values.specs.declared.handles.ObjectKind.TheVariants as kind
 use Rattle.mtapi_machine.specs.declared.ops.Op.TheVariants as op
@@ -14,7 +14,7 @@ use Rattle.history_law.proofs.lists.Every.{every_change, every_map, every_at, al
 use Rattle.history_law.proofs.SeatMoves.{fails, is_tally_lock, by_moves}
 use Rattle.history_law.proofs.Others.{runs_scheduled}
 use Rattle.history_law.proofs.OnceIssued.{once_none, once_next}
-use Rattle.history_law.proofs.Answered.{true_false, none_first, whether, on_test}
+use Rattle.history_law.proofs.Answered.{true_false, whether, on_test}
 use Rattle.history_law.proofs.lists.Counts.{one_if, counts_along}
 use Rattle.history_law.proofs.lists.Firsts.{first_at}
 use Rattle.history_law.proofs.TaskMoves.{every_moved, found_moved}
@@ -24,7 +24,7 @@ use Rattle.history_law.proofs.locks.MutexSteps.{is_ending, mutex_by}
 use Rattle.history_law.proofs.locks.Attached.{Step as SegmentStep, HasMarks, marks_step, attached_step, mark_here, segment_by}
 use Rattle.mtapi_machine.specs.Answers as is
 use Rattle.mtapi_machine.specs.Answers.{HasTask, HasBoth}
-use Rattle.history_law.proofs.SeatMoves.{answer, kept_along}
+use Rattle.history_law.proofs.SeatMoves.{answer, kept_along, kept_without}
 use Rattle.history_law.proofs.lists.Every.{every_if}
 
 -- What holds after every legal list of a node with n workers
@@ -215,13 +215,6 @@ stays_on w h i s e n f v = on_test (λ b. (b && says_end e.reply) ≡ false → 
     (λ d k. unended w h i s e.who e.op e.reply _ d k v (answer s e n))
     (λ d k. by_moves (OnAt w h i) s e n (found_moved (On w h) e.who i e.op (on_stays w h i e.who e.op d)) v) f
 
-on_along : (w h i : ℕ) (s : State) (L : List NodeEntry) → LegalFrom s L → some_entry (ends_tally i) L ≡ false → OnAt w h i s → OnAt w h i (after_from s L)
-unfolding LegalFrom after_from
-on_along w h i s [] l n v = v
-on_along w h i s (e ∷ es) l n v =
-    let both = none_first (ends_tally i e) (some_entry (ends_tally i) es) n in
-    on_along w h i (next s e) es l.1 both.1 (stays_on w h i s e l.0 both.0 v)
-
 owned : (n w h i : ℕ) (s : State) → Good n s → OnAt w h i s → OwnedBy s h w
 owned n w h i s g v =
     let t : Tied n s.mutexes s.segments v.0 = every_at (Tied n s.mutexes s.segments) s.tasks i v.0 g.ties v.1 in
@@ -243,7 +236,7 @@ by_tally terms h w L l k =
     let rest : LegalFrom (after terms k.before) (tally_got w k.task ∷ k.since) = Legal-rest (opening terms) k.before (tally_got w k.task ∷ k.since) here in
     let now : after terms (k.before ++ tally_got w k.task ∷ []) ≡ next (after terms k.before) (tally_got w k.task) = after-one (opening terms) k.before (tally_got w k.task) in
     let on : OnAt w h k.task.0 (next (after terms k.before) (tally_got w k.task)) = same_mutex (next (after terms k.before) (tally_got w k.task)) w k.task.0 h (subst (λ (z : State). HasMutex z k.task.0 h) now k.got) (lock_got (after terms k.before) w k.task _ (answer (after terms k.before) (tally_got w k.task) rest.0)) in
-    let later : OnAt w h k.task.0 (after_from (after terms k.before) (tally_got w k.task ∷ k.since)) = on_along w h k.task.0 (next (after terms k.before) (tally_got w k.task)) k.since rest.1 k.unended on in
+    let later : OnAt w h k.task.0 (after_from (after terms k.before) (tally_got w k.task ∷ k.since)) = kept_without (ends_tally k.task.0) (OnAt w h k.task.0) (stays_on w h k.task.0) (next (after terms k.before) (tally_got w k.task)) k.since rest.1 k.unended on in
     let same : after terms L ≡ after_from (after terms k.before) (tally_got w k.task ∷ k.since) = ap (λ (z : List NodeEntry). after terms z) k.cut ∙ after-append (opening terms) k.before (tally_got w k.task ∷ k.since) in
     owned terms.settings.workers w h k.task.0 (after terms L) (good_after terms L l) (subst (OnAt w h k.task.0) (sym same) later)
 
