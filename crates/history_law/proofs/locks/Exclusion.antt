@@ -9,7 +9,7 @@ use Rattle.history_law.proofs.lists.Handles.{OnceIn}
 use Rattle.history_law.proofs.locks.Locks.{Lock, LockStep, FitIn, count_in, has_in, as_step, step_same, step_quiet, step_gets, step_gives, step_leaves, step_beside, missed, New, new_lock, Kind, none_got, counts_with, counts_any}
 use Rattle.mtapi_machine.specs.Answers as is
 use Rattle.history_law.proofs.SeatMoves.{answer}
-use Rattle.history_law.proofs.lists.Slots.{set_apart}
+use Rattle.history_law.proofs.lists.Slots.{set_read}
 use Rattle.history_law.proofs.Reuse.{fresh_unlisted, fresh_apart}
 
 -- Numbers in a list
@@ -45,7 +45,7 @@ abbrev sem_lock : ℕ → Lock (Unit {0}) Sem
 sem_lock top = record { Fit = Fit top; count = λ m x. total x.holdings; has = λ m w x. slice_index x.holdings w }
 
 taken : (top who : ℕ) (x : Sem) → who < 25 → sem_busy x ≡ false → Fit top x → LockStep (sem_lock top) who (Some x) (Some (sem_taken who x)) (λ m. true) (λ m. false)
-taken top who x l n v = record { fit = record { limit = v.limit; size = length-set x.holdings who _ ∙ v.size; most = room }; all = λ m. let e = more in omega arith; each = λ m w. at_seat w (who == w) refl }
+taken top who x l n v = record { fit = record { limit = v.limit; size = length-set x.holdings who _ ∙ v.size; most = room }; all = λ m. let e = more in omega arith; each = λ m w. grind (arith, nat_tests, set_read x.holdings who w (slice_index x.holdings who + 1) 0 inside) }
   where
     inside : who < length x.holdings
     inside = let s : length x.holdings ≡ 25 = v.size in omega arith
@@ -61,16 +61,9 @@ taken top who x l n v = record { fit = record { limit = v.limit; size = length-s
         let less : total x.holdings < top = grind (arith, nat_tests) in
         omega arith
 
-    at_seat : (w : ℕ) (c : Bool) → (who == w) ≡ c → slice_index (slice_set x.holdings who (slice_index x.holdings who + 1)) w + one_if (c && false) ≡ slice_index x.holdings w + one_if (c && true)
-    at_seat w true i =
-        let h : slice_index (slice_set x.holdings who (slice_index x.holdings who + 1)) who ≡ slice_index x.holdings who + 1 = get_or-set_same x.holdings who _ 0 inside in
-        let k : slice_index (slice_set x.holdings who (slice_index x.holdings who + 1)) w ≡ slice_index x.holdings w + 1 = subst (λ (z : ℕ). slice_index (slice_set x.holdings who (slice_index x.holdings who + 1)) z ≡ slice_index x.holdings z + 1) (eqb-true who w i) h in
-        omega arith
-    at_seat w false i = ap (λ (z : ℕ). z + 0) (set_apart x.holdings who w _ 0 i)
-
 given_back : (top who : ℕ) (x : Sem) → who < 25 → (slice_index x.holdings who == 0) ≡ false → Fit top x → LockStep (sem_lock top) who (Some x) (Some (sem_given who x)) (λ m. false) (λ m. true)
 given_back top who x l n v =
-    record { fit = record { limit = v.limit; size = length-set x.holdings who _ ∙ v.size; most = let m : total x.holdings ≤ top = v.most in let e = less in omega arith }; all = λ m. let e = less in omega arith; each = λ m w. at_seat w (who == w) refl }
+    record { fit = record { limit = v.limit; size = length-set x.holdings who _ ∙ v.size; most = let m : total x.holdings ≤ top = v.most in let e = less in omega arith }; all = λ m. let e = less in omega arith; each = λ m w. grind (arith, nat_tests, some, set_read x.holdings who w (slice_index x.holdings who - 1) 0 inside) }
   where
     some : 1 ≤ slice_index x.holdings who
     some = grind (arith, nat_tests)
@@ -80,15 +73,6 @@ given_back top who x l n v =
 
     less : total (slice_set x.holdings who (slice_index x.holdings who - 1)) + 1 ≡ total x.holdings
     less = total_less x.holdings who inside some
-
-    at_seat : (w : ℕ) (c : Bool) → (who == w) ≡ c → slice_index (slice_set x.holdings who (slice_index x.holdings who - 1)) w + one_if (c && true) ≡ slice_index x.holdings w + one_if (c && false)
-    at_seat w true i =
-        let same : who ≡ w = eqb-true who w i in
-        let p : 1 ≤ slice_index x.holdings w = subst (λ (z : ℕ). 1 ≤ slice_index x.holdings z) same some in
-        let h : slice_index (slice_set x.holdings who (slice_index x.holdings who - 1)) who ≡ slice_index x.holdings who - 1 = get_or-set_same x.holdings who _ 0 inside in
-        let k : slice_index (slice_set x.holdings who (slice_index x.holdings who - 1)) w ≡ slice_index x.holdings w - 1 = subst (λ (z : ℕ). slice_index (slice_set x.holdings who (slice_index x.holdings who - 1)) z ≡ slice_index x.holdings z - 1) same h in
-        omega arith
-    at_seat w false i = ap (λ (z : ℕ). z + 0) (set_apart x.holdings who w _ 0 i)
 
 left : (top who : ℕ) (x : Sem) → nat_lt 0 (total x.holdings) ≡ false → LockStep (sem_lock top) who (Some x) None (λ m. false) (λ m. false)
 left top who x n = grind (arith, nat_tests, total_none)

@@ -3,7 +3,7 @@ use Rattle.history_law.proofs.Names.{◌≡◌, ℕ, zero, suc, ◌+◌, ◌<◌
 use Rattle.history_law.proofs.Answered.{true_false, first_false, second_false}
 use Rattle.history_law.proofs.lists.Counts.{one_if}
 use Rattle.history_law.proofs.locks.Locks.{Lock, LockStep}
-use Rattle.history_law.proofs.lists.Slots.{set_apart}
+use Rattle.history_law.proofs.lists.Slots.{set_read}
 
 -- Marks of seats
 
@@ -22,10 +22,12 @@ marks_less (true ∷ bs) zero e = omega arith
 marks_less (false ∷ bs) zero e = true_false e refl
 marks_less (b ∷ bs) (suc i) e = let r : marks (slice_set bs i false) + 1 ≡ marks bs = marks_less bs i e in omega arith
 
-mark_unset : (l : List Bool) (i : ℕ) → marked i (slice_set l i false) ≡ false
-mark_unset [] i = refl
-mark_unset (c ∷ cs) zero = refl
-mark_unset (c ∷ cs) (suc i) = mark_unset cs i
+unset_read : (l : List Bool) (i w : ℕ) → marked w (slice_set l i false) ≡ cond (i == w) false (marked w l)
+unset_read [] i w = grind (arith, nat_tests)
+unset_read (c ∷ cs) zero zero = grind (arith, nat_tests)
+unset_read (c ∷ cs) zero (suc w) = grind (arith, nat_tests)
+unset_read (c ∷ cs) (suc i) zero = grind (arith, nat_tests)
+unset_read (c ∷ cs) (suc i) (suc w) = grind (arith, nat_tests, unset_read cs i w)
 
 no_mark : (l : List Bool) → any_mark l ≡ false → marks l ≡ 0
 no_mark [] e = refl
@@ -37,15 +39,6 @@ unmarked [] w e = refl
 unmarked (true ∷ bs) zero e = absurd (omega arith)
 unmarked (false ∷ bs) zero e = refl
 unmarked (b ∷ bs) (suc w) e = unmarked bs w (omega arith)
-
-none_seat : (w : ℕ) (o : Option ℕ) → is_some o ≡ false → is_seat w o ≡ false
-none_seat w o e1 = grind (arith, nat_tests)
-
-seat_some : (w : ℕ) (o : Option ℕ) → is_seat w o ≡ true → is_some o ≡ true
-seat_some w o e1 = grind (arith, nat_tests)
-
-seat_is : (v w : ℕ) (o : Option ℕ) → is_seat v o ≡ true → is_seat w o ≡ (v == w)
-seat_is v w o e1 = grind (arith, nat_tests)
 
 -- How many hold the lock in a mode, and whether a seat does
 
@@ -72,37 +65,13 @@ in_mode m mode = cond m mode (not mode)
 abbrev pub no_mode : Bool → Bool
 no_mode m = false
 
-none_here : (c : Bool) → one_if (c && false) ≡ 0
-none_here c = grind (arith, nat_tests)
-
-all_here : (c : Bool) → one_if (c && true) ≡ one_if c
-all_here c = grind (arith, nat_tests)
-
-one_apart : (b : Bool) → b ≡ false → one_if b ≡ 0
-one_apart b e = ap one_if e
-
-one_here : (b : Bool) → b ≡ true → one_if b ≡ 1
-one_here b e = ap one_if e
-
 -- a writer gets it
 write_step : (top who : ℕ) (x : Rwl) → Fit top x → rwl_held x ≡ false → LockStep (rwl_lock top) who (Some x) (Some (rwl_taken who true x)) (λ m. in_mode m true) no_mode
 write_step top who x f b = record {
   fit = record { limit = f.limit; size = f.size; most = f.most; alone = λ e. no_mark x.readers (second_false (is_some x.writer) _ b) };
-  all = all;
-  each = each;
+  all = λ m. grind (arith, nat_tests);
+  each = λ m w. grind (arith, nat_tests);
 }
-  where
-    all : (m : Bool) → count m (rwl_taken who true x) + one_if false ≡ count m x + one_if (in_mode m true)
-    all true = let e : one_if (is_some x.writer) ≡ 0 = one_apart _ (first_false (is_some x.writer) _ b) in omega arith
-    all false = refl
-
-    each : (m : Bool) (w : ℕ) → has m w (rwl_taken who true x) + one_if ((who == w) && false) ≡ has m w x + one_if ((who == w) && in_mode m true)
-    each true w =
-        let e : one_if (is_seat w x.writer) ≡ 0 = one_apart _ (none_seat w x.writer (first_false (is_some x.writer) _ b)) in
-        let k : one_if ((who == w) && false) ≡ 0 = none_here (who == w) in
-        let l : one_if ((who == w) && true) ≡ one_if (who == w) = all_here (who == w) in
-        omega arith
-    each false w = refl
 
 -- a reader gets it
 read_step : (top who : ℕ) (x : Rwl) → Fit top x → who < 25 → marked who x.readers ≡ false → rwl_busy false x ≡ false → LockStep (rwl_lock top) who (Some x) (Some (rwl_taken who false x)) (λ m. in_mode m false) no_mode
@@ -113,8 +82,8 @@ read_step top who x f l n b = record {
     most = room;
     alone = λ e. true_false e (first_false (is_some x.writer) _ b);
   };
-  all = all;
-  each = each;
+  all = λ m. grind (arith, nat_tests, more);
+  each = λ m w. grind (arith, nat_tests, set_read x.readers who w true false inside);
 }
   where
     inside : who < length x.readers
@@ -131,22 +100,6 @@ read_step top who x f l n b = record {
         let less : marks x.readers < top = grind (arith, nat_tests) in
         omega arith
 
-    all : (m : Bool) → count m (rwl_taken who false x) + one_if false ≡ count m x + one_if (in_mode m false)
-    all true = refl
-    all false = let e : marks (slice_set x.readers who true) ≡ marks x.readers + 1 = more in omega arith
-
-    by_seat : (w : ℕ) (c : Bool) → (who == w) ≡ c → one_if (marked w (slice_set x.readers who true)) + one_if (c && false) ≡ one_if (marked w x.readers) + one_if (c && true)
-    by_seat w true i =
-        let same : who ≡ w = eqb-true who w i in
-        let a : one_if (marked w x.readers) ≡ 0 = one_apart _ (subst (λ (z : ℕ). marked z x.readers ≡ false) same n) in
-        let c : one_if (marked w (slice_set x.readers who true)) ≡ 1 = one_here _ (subst (λ (z : ℕ). marked z (slice_set x.readers who true) ≡ true) same (get_or-set_same x.readers who true false inside)) in
-        omega arith
-    by_seat w false i = ap (λ (c : Bool). one_if c + 0) (set_apart x.readers who w true false i)
-
-    each : (m : Bool) (w : ℕ) → has m w (rwl_taken who false x) + one_if ((who == w) && false) ≡ has m w x + one_if ((who == w) && in_mode m false)
-    each true w = refl
-    each false w = by_seat w (who == w) refl
-
 pub get_step : (top who : ℕ) (writer : Bool) (x : Rwl) → Fit top x → who < 25 → (is_seat who x.writer || marked who x.readers) ≡ false → rwl_busy writer x ≡ false
     → LockStep (rwl_lock top) who (Some x) (Some (rwl_taken who writer x)) (λ m. in_mode m writer) no_mode
 get_step top who true x f l n b = write_step top who x f b
@@ -156,62 +109,29 @@ get_step top who false x f l n b = read_step top who x f l (second_false (is_sea
 pub give_step : (top who : ℕ) (writer : Bool) (x : Rwl) → Fit top x → cond writer (is_seat who x.writer) (marked who x.readers) ≡ true → LockStep (rwl_lock top) who (Some x) (Some (rwl_given who writer x)) no_mode (λ m. in_mode m writer)
 give_step top who true x f n = record {
   fit = record { limit = f.limit; size = f.size; most = f.most; alone = λ e. absurd (true_false e refl) };
-  all = all;
-  each = each;
+  all = λ m. grind (arith, nat_tests);
+  each = λ m w. grind (arith, nat_tests);
 }
-  where
-    all : (m : Bool) → count m (rwl_given who true x) + one_if (in_mode m true) ≡ count m x + one_if false
-    all true = let e : one_if (is_some x.writer) ≡ 1 = one_here _ (seat_some who x.writer n) in omega arith
-    all false = refl
-
-    each : (m : Bool) (w : ℕ) → has m w (rwl_given who true x) + one_if ((who == w) && in_mode m true) ≡ has m w x + one_if ((who == w) && false)
-    each true w =
-        let e : one_if (is_seat w x.writer) ≡ one_if (who == w) = ap one_if (seat_is who w x.writer n) in
-        let k : one_if ((who == w) && false) ≡ 0 = none_here (who == w) in
-        let l : one_if ((who == w) && true) ≡ one_if (who == w) = all_here (who == w) in
-        omega arith
-    each false w = refl
 give_step top who false x f n = record {
   fit = record {
     limit = f.limit;
     size = length-set x.readers who false ∙ f.size;
-    most = let e : marks (slice_set x.readers who false) + 1 ≡ marks x.readers = marks_less x.readers who n in let m : marks x.readers ≤ top = f.most in omega arith;
-    alone = λ e. let z : marks x.readers ≡ 0 = f.alone e in let k : marks (slice_set x.readers who false) + 1 ≡ marks x.readers = marks_less x.readers who n in omega arith;
+    most = let m : marks x.readers ≤ top = f.most in let e = less in omega arith;
+    alone = λ e. let z : marks x.readers ≡ 0 = f.alone e in let k = less in omega arith;
   };
-  all = all;
-  each = each;
+  all = λ m. grind (arith, nat_tests, less);
+  each = λ m w. grind (arith, nat_tests, unset_read x.readers who w);
 }
   where
-    all : (m : Bool) → count m (rwl_given who false x) + one_if (in_mode m false) ≡ count m x + one_if false
-    all true = refl
-    all false = let e : marks (slice_set x.readers who false) + 1 ≡ marks x.readers = marks_less x.readers who n in omega arith
-
-    by_seat : (w : ℕ) (c : Bool) → (who == w) ≡ c → one_if (marked w (slice_set x.readers who false)) + one_if (c && true) ≡ one_if (marked w x.readers) + one_if (c && false)
-    by_seat w true i =
-        let same : who ≡ w = eqb-true who w i in
-        let a : one_if (marked w x.readers) ≡ 1 = one_here _ (subst (λ (z : ℕ). marked z x.readers ≡ true) same n) in
-        let c : one_if (marked w (slice_set x.readers who false)) ≡ 0 = one_apart _ (subst (λ (z : ℕ). marked z (slice_set x.readers who false) ≡ false) same (mark_unset x.readers who)) in
-        omega arith
-    by_seat w false i = ap (λ (c : Bool). one_if c + 0) (set_apart x.readers who w false false i)
-
-    each : (m : Bool) (w : ℕ) → has m w (rwl_given who false x) + one_if ((who == w) && in_mode m false) ≡ has m w x + one_if ((who == w) && false)
-    each true w = refl
-    each false w = by_seat w (who == w) refl
+    less : marks (slice_set x.readers who false) + 1 ≡ marks x.readers
+    less = marks_less x.readers who n
 
 -- it stops being live
 pub leave_step : (top who : ℕ) (x : Rwl) → rwl_held x ≡ false → LockStep (rwl_lock top) who (Some x) None no_mode no_mode
-leave_step top who x n = record { fit = tt; all = all; each = each }
+leave_step top who x n = record { fit = tt; all = λ m. grind (arith, nat_tests, none); each = λ m w. grind (arith, nat_tests, unmarked x.readers w none) }
   where
     none : marks x.readers ≡ 0
     none = no_mark x.readers (second_false (is_some x.writer) _ n)
-
-    all : (m : Bool) → 0 + one_if false ≡ count m x + one_if false
-    all true = let e : one_if (is_some x.writer) ≡ 0 = one_apart _ (first_false (is_some x.writer) _ n) in omega arith
-    all false = let e : marks x.readers ≡ 0 = none in omega arith
-
-    each : (m : Bool) (w : ℕ) → one_if false + one_if ((who == w) && false) ≡ has m w x + one_if ((who == w) && false)
-    each true w = let e : one_if (is_seat w x.writer) ≡ 0 = one_apart _ (none_seat w x.writer (first_false (is_some x.writer) _ n)) in omega arith
-    each false w = let e : one_if (marked w x.readers) ≡ 0 = one_apart _ (unmarked x.readers w none) in omega arith
 
 -- a new lock is held by nobody
 new_marks : (n w : ℕ) → slice_index_or (replicate n false) w false ≡ false
@@ -224,4 +144,4 @@ new_fit id limit = record { limit = refl; size = refl; most = omega arith; alone
 
 pub new_free : (m : Bool) (w id limit : ℕ) → (count m (new_rwl id limit) ≡ 0) × (has m w (new_rwl id limit) ≡ 0)
 new_free true w id limit = (refl, refl)
-new_free false w id limit = (refl, one_apart _ (new_marks 25 w))
+new_free false w id limit = (refl, ap one_if (new_marks 25 w))
