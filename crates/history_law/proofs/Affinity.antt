@@ -1,5 +1,5 @@
 -- Who picks a task is in the mask of the task, and in that of the action.
-use Rattle.history_law.proofs.Names.{nat_tests, arith, ◌≡◌, ℕ, true, List, ◌∷◌, ◌++◌, Some, ◌∙◌, ap, subst, ◌&&◌, is_some, ℤ, nat_lt, Kind, TaskHandle, ActionHandle, in_mask, entry, Terms, Op, Picked, live_object, Action, new_action, is_eligible, has_enabled_job, Task, NewTask, new_task, State, opening, workers, Move, is_ready, NodeEntry, next, LegalFrom, Legal, after_from, after, StartsTask, Legal-front, fst_true, snd_true, issues, task_mask, action_mask, ObeysMasks, some_same, Answers}
+use Rattle.history_law.proofs.Names.{nat_tests, arith, ◌≡◌, ℕ, true, List, ◌∷◌, ◌++◌, Some, ◌∙◌, ap, subst, is_some, ℤ, Kind, TaskHandle, ActionHandle, in_mask, entry, Terms, Op, Picked, live_object, Action, new_action, is_eligible, Task, NewTask, new_task, State, opening, workers, Move, is_ready, NodeEntry, next, LegalFrom, Legal, after_from, after, StartsTask, Legal-front, issues, task_mask, action_mask, ObeysMasks, some_same, Answers}
 use Rattle.mtapi_values.specs.declared.handles.ObjectKind.TheVariants as kind
 use Rattle.mtapi_machine.specs.declared.ops.Op.TheVariants as op
 use Rattle.mtapi_machine.specs.Answers as is
@@ -23,18 +23,14 @@ took s w _ _ _ _ _ _ (is.picks t a x y b n e d j l p) = record { task = x; actio
 
 -- the worker is in both masks of the records
 in_masks : (s : State) (w t a : ℕ) (x : Took s w t a) → (in_mask w x.task.cores ≡ true) × (in_mask w x.action.cores ≡ true)
-in_masks s w t a x = (
-  snd_true (has_enabled_job x.task.job x.action && nat_lt w (workers s) && in_mask w x.action.cores) (in_mask w x.task.cores) x.eligible,
-  snd_true (has_enabled_job x.task.job x.action && nat_lt w (workers s)) (in_mask w x.action.cores) (fst_true _ (in_mask w x.task.cores) x.eligible),
-)
+in_masks s w t a x = grind (arith, nat_tests)
 
 -- the mask of the entry is that of the task that it asks for
 asked_mask : (n : NewTask) (o : Op) (mask : ℕ) → StartsTask n o → task_mask o ≡ Some mask → n.cores ≡ mask
 asked_mask n o mask e1 e2 = grind (arith, nat_tests)
 
 made_mask : (o : Op) (h mask : ℕ) (s : State) (a : Action) → MadeAs o h s → action_mask o ≡ Some mask → live_object s.actions h ≡ Some a → a.cores ≡ mask
-made_mask (op.ActionCreate job k cores) h mask s a v e f = (under_at h _ s.actions a v.under f).cores ∙ some_same e
-made_mask _ h mask s a v e f = absurd v
+made_mask o h mask s a e1 e2 e3 = grind (arith, nat_tests, under_at, some_same)
 
 made_behind : (o : Op) (h : ℕ) (s : State) (A B : List NodeEntry) (e : NodeEntry) → MadeAs o h (next (after_from s A) e) → MadeAs o h (after_from s (A ++ e ∷ B))
 made_behind (op.ActionCreate job k cores) h s A B e v = has_behind kind.Action h (SameAction (new_action job k cores.0)) (action_then (new_action job k cores.0)) s A B e v

@@ -1,5 +1,5 @@
 -- What the entries of other seats leave to a seat.
-use Rattle.history_law.proofs.Names.{◌≡◌, ◌≢◌, ℕ, zero, suc, Bool, true, false, cond, List, [], ◌∷◌, Option, Some, None, ◌⊎◌, inl, inr, refl, sym, ◌∙◌, ap, subst, arith, ◌==◌, ◌&&◌, not, is_none, slice_set, nat_tests, TaskEnd, is_seat, is_other, marked, holds, Op, Reply, Failed, Terms, Listed, live_object, count_listed, change, with_fields, gone, is_member, in_no_group, freed, let_go, Task, Notes, with_notes, TaskState, Scheduled, Running, Ended, end_of, runner, runs_on, is_unstarted, is_unended, with_state, ended, new_task, entries_of, State, opening, NodeEntry, next, LegalFrom, Legal, after_from, after, end_in, end_at, moves_phase, is_release, is_late_end, IsWaiter, Waits, OnceListed, Work, RunsWith, IsUntouched, Others, WorkerKeeps, NoPhase, NoRelease, Move, phase_is, released, stops, starts_task, runs_task, ends_task, ends_waiting, withdraws, notes, leaves, frees_members, lets_members_go, apply, after_moves, fst_true, snd_true, both_true, not_true, rest_keeps, some_same, and-false, eq-eqb, Answers, IsNext}
+use Rattle.history_law.proofs.Names.{◌≡◌, ◌≢◌, ℕ, zero, suc, Bool, true, false, cond, List, [], ◌∷◌, Option, Some, None, ◌⊎◌, inl, inr, refl, sym, ◌∙◌, ap, subst, arith, ◌==◌, ◌&&◌, not, slice_set, nat_tests, TaskEnd, is_seat, is_other, marked, holds, Op, Reply, Failed, Terms, Listed, live_object, count_listed, change, with_fields, gone, is_member, in_no_group, freed, let_go, Task, Notes, with_notes, TaskState, Scheduled, Running, Ended, runner, runs_on, is_unstarted, is_unended, with_state, ended, new_task, entries_of, State, opening, NodeEntry, next, LegalFrom, Legal, after_from, after, end_in, end_at, moves_phase, is_release, is_late_end, IsWaiter, Waits, OnceListed, Work, RunsWith, IsUntouched, Others, WorkerKeeps, NoPhase, NoRelease, Move, phase_is, released, stops, starts_task, runs_task, ends_task, ends_waiting, withdraws, notes, leaves, frees_members, lets_members_go, apply, after_moves, fst_true, snd_true, not_true, rest_keeps, some_same, and-false, eq-eqb, Answers, IsNext}
 use Rattle.history_law.proofs.Reuse.{terms_next}
 use Rattle.history_law.proofs.SeatMoves.{SameWork, Noted, May, MayEnd, is_any_look, by_moves, answer, kept_along}
 use Rattle.history_law.proofs.TaskMoves.{IsKept, every_moved, StaysLive, found_moved, same_found}
@@ -96,8 +96,7 @@ other_count w who o s (lets_members_go g) n k = count_all (runs_on w) (is_member
 other_count w who o s x n k = rest_keeps (λ t. count_listed (runs_on w) t.tasks ≡ count_listed (runs_on w) s.tasks) (λ t g q m c r y p. p) x s refl
 
 work_count : (w who : ℕ) (o : Op) → who ≢ w → (s : State) (x : Move) → May s who o x → count_listed (runs_on w) (apply x s).tasks ≡ count_listed (runs_on w) s.tasks
-work_count w who o n s (runs_task j y z) k =
-    count_alike w j (with_fields (with_state (Running y z))) s.tasks k.0 k.1 (λ r a f. both r.live _ a ∙ (apart_seats y who w k.3 n ∙ sym (runs_scheduled w k.0 k.2)))
+work_count w who o n s (runs_task j y z) k = grind (arith, nat_tests, count_alike, with_fields, with_state, apart_seats, runs_scheduled)
 work_count w who o n s (ends_task j e) k = count_alike w j (ended e s.ends) s.tasks k.0 k.1 (λ r a f. and-false _ ∙ sym (may_end_apart w who k.0 n k.2))
 work_count w who o n s x k = other_count w who o s x refl k
 
@@ -112,17 +111,7 @@ noted_runs w who q f t n x i = by_work x.work
     by_work (inr e) = record { state = i.state; arguments = i.arguments; looked = e.looks ∙ i.looked; reported = e.seen ∙ i.reported; did = e.tally ∙ i.did }
 
 runs_stay_live : (w h : ℕ) (q : Work) (who : ℕ) (o : Op) → who ≢ w → StaysLive (RunsWith w q) who h o
-runs_stay_live w h q who o n = record {
-  takes = λ y z t u i. true_false (runs_here w q t i) (runs_scheduled w t u);
-  ends = λ e m r c d a i. true_false (runs_here w q r.fields i) (may_end_apart w who r.fields n c);
-  notes = λ f t x d i. noted_runs w who q f t n x i;
-  leaves = λ t u k i. true_false (runs_here w q t i) (runs_over w t u);
-  frees = λ g t m u i. true_false (runs_here w q t i) (runs_over w t u);
-  lets_go = λ g r m a i. (
-    both_true r.live (is_unended r.fields) a (ap (λ (x : TaskState). is_none (end_of x)) i.state),
-    record { state = i.state; arguments = i.arguments; looked = i.looked; reported = i.reported; did = i.did },
-  );
-}
+runs_stay_live w h q who o n = grind (arith, nat_tests, true_false, runs_here, runs_scheduled, may_end_apart, noted_runs)
 
 -- Lists of entries by other seats
 
@@ -274,13 +263,7 @@ noted_clean who f t x i u = by_work x.work (i u)
     by_work (inr e) y = record { looks = e.looks ∙ y.looks; seen = e.seen ∙ y.seen; tally = e.tally ∙ y.tally }
 
 clean_kept : (who : ℕ) (o : Op) → IsKept Clean who o
-clean_kept who o = record {
-  new = λ t n u. record { looks = refl; seen = refl; tally = refl };
-  takes = λ w k t b i u. true_false u refl;
-  ends = λ e n t h m c k i u. true_false u refl;
-  notes = λ f t x d i. noted_clean who f t x i;
-  groups = λ d g t i u. let y = i u in record { looks = y.looks; seen = y.seen; tally = y.tally };
-}
+clean_kept who o = grind (arith, nat_tests, true_false, noted_clean)
 
 clean_after : (s : State) (L : List NodeEntry) → LegalFrom s L → Every Clean s.tasks → Every Clean (after_from s L).tasks
 clean_after s L l v = kept_along (λ t. Every Clean t.tasks) (λ t e i. by_moves (λ u. Every Clean u.tasks) t e i (every_moved Clean e.who e.op (clean_kept e.who e.op))) s L l v

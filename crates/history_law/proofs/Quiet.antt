@@ -1,5 +1,5 @@
 -- In a quiet history a task ends as the kind of an action of its job answers.
-use Rattle.history_law.proofs.Names.{nat_tests, arith, ◌≡◌, ℕ, Bool, true, false, cond, List, [], ◌∷◌, Option, Some, None, refl, sym, ◌∙◌, ap, subst, ◌==◌, ◌&&◌, not, nat_lt, int_eq, pointwise, eqb-true, Decides-int_eq, slice_eq-Decides, holds, in_mask, Kind, TaskEnd, Cancelled, is_pure, answer_of, Answered, IsAnswered, Listed, live_object, issue, change, with_fields, gone, Action, with_enabled, has_enabled_job, is_eligible, Task, TaskState, Scheduled, Running, Ended, runner, runs_as, kind_number, is_unstarted, with_state, with_notes, ended, is_member, freed, let_go, Queue, is_shut_in, Op, Reply, Terms, State, opening, workers, Move, Queues, makes_action, enables, withdraws, starts_task, runs_task, ends_task, ends_waiting, notes, leaves, frees_members, lets_members_go, makes, alters, removes, apply, after_moves, task_end, NodeEntry, IsNext, IsHonest, next, LegalFrom, after_from, IsMade, MakesAction, WithdrawsAction, EndsTask, AltersObject, is_pick, ends_many, makes_kind, end_in, some_same, fst_true, snd_true, not_false, by_moves, is_quiet, AreQuiet, HasPure, task_at, IsPlain, QuietTasksEndPlainly, ℤ, Answers}
+use Rattle.history_law.proofs.Names.{nat_tests, arith, ◌≡◌, ℕ, Bool, true, false, cond, List, [], ◌∷◌, Some, refl, sym, ◌∙◌, ap, subst, ◌==◌, ◌&&◌, nat_lt, int_eq, pointwise, eqb-true, Decides-int_eq, slice_eq-Decides, holds, in_mask, Kind, TaskEnd, Cancelled, is_pure, answer_of, Answered, IsAnswered, Listed, live_object, issue, change, with_fields, gone, Action, with_enabled, has_enabled_job, is_eligible, Task, TaskState, Scheduled, Running, Ended, runner, runs_as, kind_number, is_unstarted, with_state, with_notes, ended, is_member, freed, let_go, Queue, is_shut_in, Op, Reply, Terms, State, opening, workers, Move, Queues, makes_action, enables, withdraws, starts_task, runs_task, ends_task, ends_waiting, notes, leaves, frees_members, lets_members_go, makes, alters, removes, apply, after_moves, task_end, NodeEntry, IsNext, IsHonest, next, LegalFrom, after_from, IsMade, MakesAction, WithdrawsAction, EndsTask, AltersObject, is_pick, ends_many, makes_kind, end_in, some_same, fst_true, snd_true, by_moves, is_quiet, AreQuiet, HasPure, task_at, IsPlain, QuietTasksEndPlainly, ℤ, Answers}
 use Rattle.mtapi_values.specs.declared.kinds.Kind.TheVariants as kind
 use Rattle.mtapi_machine.specs.declared.ops.Op.TheVariants as op
 use Rattle.history_law.proofs.Answered.{true_false, whether}
@@ -50,9 +50,7 @@ pure_enabled h l job k p =
     record { handle = p.handle; action = x.0; found = x.1; of_job = x.2.0; of_kind = x.2.1; pure = p.pure }
 
 goes_in : (l m : List (Listed Action)) (job : ℕ) (args : List ℤ) → ((k : Kind) → HasPure l job k → HasPure m job k) → (x : TaskState) → GoesIn l job args x → GoesIn m job args x
-goes_in l m job args f Scheduled g = tt
-goes_in l m job args f (Running w k) g = f k g
-goes_in l m job args f (Ended e n) g = (g.0, f g.0 g.1, g.2)
+goes_in l m job args e1 x e2 = grind (arith, nat_tests)
 
 goes_all : (l m : List (Listed Action)) (tasks : List (Listed Task)) → ((job : ℕ) (k : Kind) → HasPure l job k → HasPure m job k) → Every (Goes l) tasks → Every (Goes m) tasks
 goes_all l m tasks f g = every_map (Goes l) (λ t. Unit {0}) (Goes m) tasks (λ t x u. goes_in l m t.job t.args (f t.job) t.state x) g (always tasks)
@@ -152,22 +150,10 @@ none_impure : (s : State) (who t : ℕ) (k : Kind) (x : Task) → IsCalm s → i
 none_impure s who t k x v n h = true_false (running s.actions who k x (every_at (Goes s.actions) s.tasks t x v.goes h.found) h.runs).pure n
 
 none_shut : (queues : List (Listed Queue)) (t : Task) → Every IsOn queues → is_shut_in queues t ≡ false
-none_shut queues t v = by_queue t.queue
-  where
-    by_found : (h : ℕ) (o : Option Queue) → live_object queues h ≡ o → holds (λ (q : Queue). not q.enabled) o ≡ false
-    by_found h None e = refl
-    by_found h (Some q) e = ap not (every_at IsOn queues h q v e)
-
-    by_queue : (o : Option ℕ) → holds (λ h. holds (λ (q : Queue). not q.enabled) (live_object queues h)) o ≡ false
-    by_queue None = refl
-    by_queue (Some h) = by_found h (live_object queues h) refl
+none_shut queues t e1 = grind (arith, nat_tests, live_object, every_at)
 
 on_close : (s : State) → IsCalm s → IsCalm (apply (ends_waiting (is_shut_in s.queues) Cancelled) s)
-on_close s v = record {
-  pure = v.pure;
-  on = v.on;
-  goes = every_passing (Goes s.actions) (λ t. is_unstarted t && is_shut_in s.queues t) Cancelled s.ends s.tasks (λ t k p g. true_false (snd_true (is_unstarted t) _ p) (none_shut s.queues t v.on)) v.goes;
-}
+on_close s e1 = grind (arith, nat_tests, every_passing, is_unstarted, is_shut_in, true_false, snd_true, none_shut)
 
 by_answer : (s : State) (who : ℕ) (o : Op) (r : Reply) (ms : List Move) → IsHonest o → IsCalm s → is_special o ≡ true → Answers s who o r ms → IsCalm (after_moves ms s)
 by_answer s who _ _ _ i v n (is.refuses o x e) = v
@@ -178,8 +164,7 @@ by_answer s who _ _ _ i v n (is.idles_in_new a) = v
 by_answer s who _ _ _ i v n (is.idles a) = v
 by_answer s who _ _ _ i v n (is.stops_worker a b c) = v
 by_answer s who _ _ _ i v n (is.picks t a x y b c e d j k l) = takes s who t.0 a.0 x y v e d k
-by_answer s who _ _ _ i v n (is.finishes t d x k u) =
-    ends s t.0 x d v k.found (running s.actions who d.kind x (every_at (Goes s.actions) s.tasks t.0 x v.goes k.found) k.runs) (same_args x.args d.args (snd_true (runs_as who d.kind x) _ (not_false _ u.0))) i
+by_answer s who _ _ _ i v n (is.finishes t d x k u) = grind (arith, nat_tests, ends, running, every_at, same_args, snd_true)
 by_answer s who _ _ _ i v n (is.ends_watch t x k u) = absurd (none_impure s who t.0 kind.Watch x v refl k)
 by_answer s who _ _ _ i v n (is.tally_ends_failed t x k f) = absurd (none_impure s who t.0 kind.Tally x v refl k)
 by_answer s who _ _ _ i v n (is.tally_ends t x y z k f d a b) = absurd (none_impure s who t.0 kind.Tally x v refl k)
@@ -208,11 +193,7 @@ every_task P (r ∷ rs) h t v e = by_handle (r.handle == h) (every_task P rs h t
     by_handle false rest d = rest d
 
 plain_end : (actions : List (Listed Action)) (job : ℕ) (args : List ℤ) (x : TaskState) (e : TaskEnd) → GoesIn actions job args x → end_in x ≡ Some e → IsPlain actions job args e
-plain_end actions job args Scheduled e g i = absurd (cc)
-plain_end actions job args (Running w k) e g i = absurd (cc)
-plain_end actions job args (Ended d n) e g i = subst (IsPlain actions job args) (some_same i) g
+plain_end actions job args x e e1 e2 = grind (arith, nat_tests)
 
 pub quiet_tasks_end_plainly : QuietTasksEndPlainly
-quiet_tasks_end_plainly terms L h legal quiet t e found over =
-    let v : IsCalm (after_from (opening terms) L) = calm_along (opening terms) L legal.from quiet (calm_opening terms) in
-    plain_end (after_from (opening terms) L).actions t.job t.args t.state e (every_task (Goes (after_from (opening terms) L).actions) (after_from (opening terms) L).tasks h t v.goes found) over
+quiet_tasks_end_plainly = grind (arith, nat_tests, after_from, calm_along, calm_opening, plain_end, every_task)

@@ -109,15 +109,7 @@ watch_late t = grind (arith, nat_tests)
 -- Watches and tallies
 
 asked_notes : (who : ℕ) (t : Task) → runs_on who t ≡ true → Noted who asked_once t
-asked_notes who t k = record {
-  waiter = inr (cond_both t.notes.requested (record t.notes { seen = true }) (record t.notes { looks = t.notes.looks + 1 }) (λ q. q.waiter ≡ t.notes.waiter)
-      (λ e. refl)
-      (λ e. refl));
-  work = inl k;
-  detached = (cond_both t.notes.requested (record t.notes { seen = true }) (record t.notes { looks = t.notes.looks + 1 }) (λ q. q.detached ≡ t.notes.detached) (λ e. refl) (λ e. refl));
-  group = inl (cond_both t.notes.requested (record t.notes { seen = true }) (record t.notes { looks = t.notes.looks + 1 }) (λ q. q.group ≡ t.notes.group) (λ e. refl) (λ e. refl));
-  verdict = λ v. (cond_both t.notes.requested (record t.notes { seen = true }) (record t.notes { looks = t.notes.looks + 1 }) (λ q. is_late_end q.tally.verdict ≡ is_late_end t.notes.tally.verdict) (λ e. refl) (λ e. refl)) ∙ v;
-}
+asked_notes who t k = grind (arith, nat_tests, cond_both, is_late_end)
 
 asked_tally : (o : Op) (t : Task) → Does o t.notes.tally (asked_once t.notes).tally
 asked_tally o t = stays (cond_both t.notes.requested (record t.notes { seen = true }) (record t.notes { looks = t.notes.looks + 1 }) (λ q. q.tally ≡ t.notes.tally) (λ e. refl) (λ e. refl))
@@ -189,8 +181,7 @@ by_answer s who o _ _ i (is.looks_over t last x y n e u d) = ((x, e, ap (λ (z :
 by_answer s who o _ _ i (is.looks_early t x e u d) = (waits s who o t.0 (Some who) x e u.1.0, tt)
 by_answer s who o _ _ i (is.looks_last t x e u d) = (waits s who o t.0 None x e u.1.0, tt)
 by_answer s who _ _ _ i (is.cancels_waiting t x e d) = ((x, e, inl (ap scheduled d), inl refl, inr (λ w. ap (λ (z : TaskState). holds (λ r. (r.0 == w) && (kind_number r.1 == 10)) (runner z)) d)), tt)
-by_answer s who _ _ _ i (is.cancels_running t x w k e d) =
-    ((x, e, record { waiter = inr refl; work = inr (record { looks = refl; seen = refl; tally = refl }); detached = refl; group = inl refl; verdict = λ v. v }, stays refl), tt)
+by_answer s who _ _ _ i (is.cancels_running t x w k e d) = grind (arith, nat_tests)
 -- a member that has left its group has still ended
 by_answer s who _ _ _ i (is.any_given g last v y ys t z n a b e d) = (
   (t, e, record { waiter = inr refl; work = inr (record { looks = refl; seen = refl; tally = refl }); detached = refl; group = inr refl; verdict = λ v. v }, stays refl),

@@ -11,14 +11,14 @@ use Rattle.history_law.proofs.Held.{Held}
 use Rattle.history_law.proofs.Moves.{after_stands}
 use Rattle.history_law.proofs.Accepted.{opening_stands}
 use Rattle.history_law.proofs.lists.Every.{every_change, every_map, every_at, always}
-use Rattle.history_law.proofs.SeatMoves.{fails, is_tally_lock, by_moves}
+use Rattle.history_law.proofs.SeatMoves.{is_tally_lock, by_moves}
 use Rattle.history_law.proofs.Others.{runs_scheduled}
 use Rattle.history_law.proofs.OnceIssued.{once_none, once_next}
 use Rattle.history_law.proofs.Answered.{true_false, whether, on_test}
 use Rattle.history_law.proofs.lists.Counts.{one_if, counts_along}
 use Rattle.history_law.proofs.lists.Firsts.{first_at}
 use Rattle.history_law.proofs.TaskMoves.{every_moved, found_moved}
-use Rattle.history_law.proofs.tallies.Ties.{Owns, id_in, Tied, does_follow, noted_tied, Ties, ties_kept, AtMostOne, one_move, none_runs, On, OnAt, on_stays, on_runs, as_on}
+use Rattle.history_law.proofs.tallies.Ties.{Owns, id_in, Tied, Ties, ties_kept, AtMostOne, one_move, none_runs, On, OnAt, on_stays, on_runs, as_on}
 use Rattle.history_law.proofs.locks.Mutexes.{Step, Free, free_step, owns_step, share, share_step, share_owner}
 use Rattle.history_law.proofs.locks.MutexSteps.{is_ending, mutex_by}
 use Rattle.history_law.proofs.locks.Attached.{Step as SegmentStep, HasMarks, marks_step, attached_step, mark_here, segment_by}
@@ -123,9 +123,7 @@ module _ (n : ℕ) (s : State) (who : ℕ) (g : Good n s) where
   lock_ties _ _ _ l (is.refuses o x e) = g.ties
   lock_ties _ _ _ l (is.refuses_caller o x e) = g.ties
   lock_ties _ _ _ l (is.lock_early t x k z) = g.ties
-  lock_ties _ _ _ l (is.lock_fails t x c k z v) =
-      every_change (Tied n s.mutexes s.segments) t.0 (with_fields (with_notes (with_tally (tally_failed c)))) s.tasks
-      (λ r a i. noted_tied n s.mutexes s.segments (with_tally (tally_failed c)) r.fields (does_follow op.Pick _ _ refl (fails c (subst (λ (u : Task). (u.notes.tally.stage == 0) ≡ true) (some_same (sym k.found ∙ a)) z) refl)) i) g.ties
+  lock_ties _ _ _ l (is.lock_fails t x c k z v) = grind (arith, nat_tests, every_change, with_fields, with_notes, with_tally, tally_failed)
   lock_ties _ _ _ l (is.lock_got t x y a b k z h) = got_ties t x y a b k z h
   lock_ties _ _ _ l _ = true_false l refl
 
@@ -166,17 +164,7 @@ unfolding live_of
 none_at h = refl
 
 pub good_opening : (terms : Terms) → terms.settings.workers ≤ 16 → Good terms.settings.workers (opening terms)
-good_opening terms few = record {
-  workers = refl;
-  few = few;
-  held = (opening_stands terms).1;
-  one = λ w. omega arith;
-  once = once_none Mutex;
-  once_segments = once_none Segment;
-  free = λ j. subst Free (sym (none_at j)) tt;
-  marks = λ j. subst HasMarks (sym (none_at j)) tt;
-  ties = tt;
-}
+good_opening terms few = grind (arith, nat_tests, opening_stands, once_none, none_at)
 
 pub good_after : (terms : Terms) (L : List NodeEntry) → Legal terms L → Good terms.settings.workers (after terms L)
 good_after terms L l = kept_along (Good terms.settings.workers) (good_next terms.settings.workers) (opening terms) L l.from (good_opening terms l.fits.settings.workers.1)
@@ -225,9 +213,7 @@ owned n w h i s g v =
     by_mutex id (Some x) e k = (x, e, k.0)
 
 same_mutex : (s : State) (w t h : ℕ) → HasMutex s t h → (a : ℕ) × OnAt w a t s → OnAt w h t s
-same_mutex s w t h m o =
-    let same : o.1.0 ≡ m.0 = some_same (sym o.1.1 ∙ m.1) in
-    (o.1.0, o.1.1, record { runs = o.1.2.runs; both = o.1.2.both; mutex = ap (λ (x : Task). x.notes.tally.mutex) same ∙ m.2 })
+same_mutex s w t h m o = grind (arith, nat_tests, some_same)
 
 by_tally : (terms : Terms) (h w : ℕ) (L : List NodeEntry) → Legal terms L → HoldsByTally terms L h w → OwnedBy (after terms L) h w
 unfolding LegalFrom after_from
