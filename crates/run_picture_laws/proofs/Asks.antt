@@ -1,35 +1,10 @@
 -- The number of a lane of a mutex is the greatest wait of the entries that ask for the mutex.
-use Rattle.std.proofs.Common.{◌≡◌, ℕ, zero, suc, ◌+◌, ◌<◌, ◌≤◌, Bool, true, false, cond, List, [], ◌∷◌, ◌++◌, length, map, take, get_or, max, arith, Option, Some, None, option_map, refl, sym, ap, subst, ◌∙◌}
-use Rattle.std.specs.Prelude.{◌==◌, ◌&&◌, nat_lt, slice_get}
-use Rattle.std.proofs.lemmas.List.{append_assoc, length-map}
-use Rattle.std.proofs.lemmas.Option.{slice_get-map, slice_get_within}
-use Rattle.mtapi_values.specs.declared.statuses.MrapiStatus.{MrapiStatus}
-use Rattle.mtapi_values.specs.declared.statuses.MtapiStatus.{MtapiStatus}
-use Rattle.mtapi_values.specs.Conditions.{holds}
-use Rattle.handle_pool.specs.Issued.{Listed, live_object}
-use Rattle.mtapi_objects.specs.Tasks.{Task}
-use Rattle.mtapi_objects.specs.Mutexes.{Mutex}
-use Rattle.mtapi_machine.specs.declared.terms.Terms.{Terms}
-use Rattle.mtapi_machine.specs.declared.ops.Op.{Op}
+use Rattle.run_picture_laws.proofs.Names.{Answers, Bool, IsGreatest, IsNext, IsPicture, Legal, Legal-rest, LegalFrom, List, Listed, Lock, Locks, Move, MrapiStatus, MtapiStatus, Mutex, MutexLane, MutexSeen, NodeEntry, None, Op, Option, Picture, Reply, Some, State, Task, Terms, [], after, after-one, after_from, answered, ap, append_assoc, arith, asks_for, cond, false, first_of, get_or, holds, is_owner, lane_seen, lanes_after, lanes_with, length, length-map, live_object, lock_of, locks_after, map, max, most_lanes, mutex_named, mutex_seen, nat_lt, new_lane, next, no_locks, opening, option_map, refl, rest_of, seats_of, slice_get, slice_get-map, slice_get_within, subst, suc, sym, take, taken, tally_verdict, true, waited, waits_for, zero, ℕ, ◌&&◌, ◌++◌, ◌+◌, ◌<◌, ◌==◌, ◌∙◌, ◌∷◌, ◌≡◌, ◌≤◌}
 use Rattle.mtapi_machine.specs.declared.ops.Op.TheVariants as op
-use Rattle.mtapi_machine.specs.declared.replies.Reply.{Reply}
 use Rattle.mtapi_machine.specs.declared.replies.Reply.TheVariants as reply
-use Rattle.mtapi_machine.specs.State.{State, opening}
-use Rattle.mtapi_machine.specs.Moves.{Move}
-use Rattle.mtapi_machine.specs.Legal.{NodeEntry, IsNext, next, LegalFrom, Legal, after_from, after}
-use Rattle.mtapi_machine.specs.Answers.{Answers, tally_verdict}
 use Rattle.mtapi_machine.specs.Answers as is
-use Rattle.mtapi_machine.proofs.Answered.{answered}
-use Rattle.mtapi_machine.proofs.Lists.{Legal-rest, after-one}
-use Rattle.run_picture.specs.declared.locks.Lock.{Lock}
 use Rattle.run_picture.specs.declared.locks.Lock.TheVariants as lock
-use Rattle.run_picture.specs.declared.shapes.MutexLane.{MutexLane}
-use Rattle.run_picture.specs.declared.pictures.Picture.{Picture}
-use Rattle.run_picture.specs.Locks.{most_lanes, mutex_named, lock_of, new_lane, lanes_with, lane_after, lanes_after, is_owner, taken, waited, Locks, locks_after, first_of, rest_of}
-use Rattle.run_picture.specs.Pictures.{IsPicture, no_locks}
-use Rattle.run_picture_laws.specs.Bars.{seats_of}
-use Rattle.run_picture_laws.specs.Mutexes.{MutexSeen, lane_seen, mutex_seen}
-use Rattle.run_picture_laws.specs.Greatest.{IsGreatest, asks_for, waits_for}
+use Rattle.run_picture.specs.Locks.{lane_after}
 use Rattle.run_picture_laws.proofs.Did.{Names, args_named, asks_nothing, ends_all, ends_nothing}
 use Rattle.run_picture_laws.proofs.Lanes.{Seen, known_after, lanes_known, lanes_seen, Along, names_at, along_next, along_opening}
 use Rattle.run_picture_laws.proofs.Greatest.{top, top-append, top_greatest, with_lane}

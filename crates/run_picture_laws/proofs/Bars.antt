@@ -1,21 +1,7 @@
 -- What a row has at one place of the journal.
-use Rattle.std.proofs.Common.{◌≡◌, ℕ, zero, suc, ◌+◌, ◌<◌, ◌≤◌, Bool, true, false, cond, List, [], ◌∷◌, ◌++◌, length, replicate, get_or, arith, Option, Some, None, ◌⊎◌, inl, inr, refl, sym, ap, subst, ◌∙◌}
-use Rattle.std.specs.Prelude.{◌==◌, ◌&&◌, slice_set}
-use Rattle.std.specs.List.{filter}
-use Rattle.std.proofs.lemmas.List.{append_assoc, append-nil, length-set, length-replicate, get_or-set_same, get_or-set_other, get_or_past, get_or-replicate}
-use Rattle.std.proofs.lemmas.List.Elements.{filter-append}
-use Rattle.std.proofs.lemmas.Bool.{eqb-true, eqb-false, eq-eqb, ne_eqb, cases_eq, cases_lt}
-use Rattle.mtapi_machine.specs.Legal.{NodeEntry}
-use Rattle.run_picture.specs.declared.shapes.Bar.{Bar}
-use Rattle.run_picture.specs.declared.shapes.BarEnd.{BarEnd}
+use Rattle.run_picture_laws.proofs.Names.{Bar, BarEnd, Bool, EachRunHasOneBar, IsPicture, List, NodeEntry, None, Option, Picture, Running, Some, Work, [], ap, append-nil, append_assoc, arith, bar_by, bar_of, bar_of_run, bar_to, bars_from, bars_left, begins_at, begun_by, cases_eq, cases_lt, cond, end_by, eq-eqb, eqb-false, eqb-true, false, filter, filter-append, get_or, get_or-replicate, get_or-set_other, get_or-set_same, get_or_past, inl, inr, length, length-replicate, length-set, ne_eqb, none_running, refl, replicate, run_end, running_by, slice_set, subst, suc, sym, true, work_of, zero, ℕ, ◌&&◌, ◌++◌, ◌+◌, ◌<◌, ◌==◌, ◌∙◌, ◌∷◌, ◌≡◌, ◌≤◌, ◌⊎◌}
 use Rattle.run_picture.specs.declared.shapes.BarEnd.TheVariants as barend
-use Rattle.run_picture.specs.declared.shapes.Running.{Running}
-use Rattle.run_picture.specs.declared.rows.Work.{Work}
 use Rattle.run_picture.specs.declared.rows.Work.TheVariants as work
-use Rattle.run_picture.specs.declared.pictures.Picture.{Picture}
-use Rattle.run_picture.specs.Rows.{work_of, bar_to, bar_of, bar_by, running_by, bars_left, bars_from}
-use Rattle.run_picture.specs.Pictures.{IsPicture, none_running}
-use Rattle.run_picture_laws.specs.Bars.{end_by, run_end, bar_of_run, begun_by, begins_at, EachRunHasOneBar}
 
 -- what another seat runs is left; what a seat runs after its own work
 pub other_runs : (w who at : ℕ) (x : Work) (rs : List (Option Running)) → (w ≡ who → ⊥) → get_or (running_by who at x rs) w None ≡ get_or rs w None

@@ -1,40 +1,11 @@
 -- What an entry does to the mutexes, beside what the picture reads in it.
-use Rattle.std.proofs.Common.{◌≡◌, ℕ, Bool, true, false, cond, List, [], ◌∷◌, arith, Option, Some, None, refl, sym, ap, subst, ◌∙◌, ℤ}
-use Rattle.std.specs.Prelude.{◌==◌, ◌&&◌, ◌||◌, not, nat_lt, is_some, pos}
-use Rattle.std.proofs.lemmas.Bool.{eqb-true}
-use Rattle.std.proofs.lemmas.Bool.Decides.{nat_tests}
-use Rattle.mtapi_values.specs.Seats.{is_seat, is_other}
+use Rattle.run_picture_laws.proofs.Names.{Adds, Allows, Answers, AtMostOne, Bool, FoundAs, List, Listed, Lock, Move, MrapiStatus, MtapiStatus, Mutex, None, On, OnceIn, Op, Option, Owns, Reply, Some, State, Task, TaskHandle, Tied, Ties, [], after_moves, after_row, answered, ap, arith, as_on, at-update, change, cond, eqb-true, every_at, false, first_at, first_false, fresh_unlisted, gone, has_both, id_in, is_other, is_seat, is_some, issue, listed, live_object, lock_of, locked_by, mutex_named, nat_lt, nat_tests, new_mutex, not, not_false, one_passes, pos, refl, row, runs_as, runs_on, second_false, subst, sym, tally_args, tally_has, tally_verdict, true, true_false, unlocked, with_fields, with_notes, with_tally, workers, ℕ, ℤ, ◌&&◌, ◌==◌, ◌||◌, ◌∙◌, ◌∷◌, ◌≡◌}
 use Rattle.mtapi_values.specs.declared.kinds.Kind.TheVariants as kinds
 use Rattle.mtapi_values.specs.declared.handles.ObjectKind.TheVariants as kind
-use Rattle.mtapi_values.specs.declared.handles.TaskHandle.{TaskHandle}
-use Rattle.mtapi_values.specs.declared.statuses.MtapiStatus.{MtapiStatus}
-use Rattle.mtapi_values.specs.declared.statuses.MrapiStatus.{MrapiStatus}
-use Rattle.mtapi_machine.specs.declared.ops.Op.{Op}
 use Rattle.mtapi_machine.specs.declared.ops.Op.TheVariants as op
-use Rattle.mtapi_machine.specs.declared.replies.Reply.{Reply}
 use Rattle.mtapi_machine.specs.declared.replies.Reply.TheVariants as reply
-use Rattle.handle_pool.specs.Issued.{Listed, live_object, listed, change, issue, with_fields, gone}
-use Rattle.mtapi_objects.specs.Tasks.{Task, Adds, tally_args, runs_on, runs_as, with_notes, with_tally, tally_has}
-use Rattle.mtapi_objects.specs.Mutexes.{Mutex, new_mutex, locked_by, unlocked}
-use Rattle.mtapi_machine.specs.State.{State, workers}
-use Rattle.mtapi_machine.specs.Moves.{Move, after_moves}
-use Rattle.mtapi_machine.specs.Row.{Allows, after_row}
-use Rattle.mtapi_machine.specs.Rows.{row}
-use Rattle.mtapi_machine.proofs.Made.{not_false}
-use Rattle.mtapi_machine.proofs.Changes.{at-update}
-use Rattle.history_law.proofs.Answered.{true_false, first_false, second_false}
-use Rattle.history_law.proofs.lists.Every.{every_at}
-use Rattle.history_law.proofs.lists.Firsts.{first_at, one_passes}
-use Rattle.history_law.proofs.lists.Found.{FoundAs}
-use Rattle.history_law.proofs.lists.Handles.{OnceIn}
-use Rattle.history_law.proofs.Reuse.{fresh_unlisted}
-use Rattle.mtapi_machine.specs.Answers.{Answers, tally_verdict}
 use Rattle.mtapi_machine.specs.Answers as is
-use Rattle.mtapi_machine.proofs.Answered.{answered}
-use Rattle.history_law.proofs.tallies.Ties.{has_both, Owns, id_in, Tied, Ties, AtMostOne, On, as_on}
-use Rattle.run_picture.specs.declared.locks.Lock.{Lock}
 use Rattle.run_picture.specs.declared.locks.Lock.TheVariants as lock
-use Rattle.run_picture.specs.Locks.{mutex_named, lock_of}
 
 -- the picture reads nothing that changes a lane
 abbrev pub is_quiet : Lock → Bool

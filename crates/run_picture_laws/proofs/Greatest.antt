@@ -1,9 +1,5 @@
 -- The greatest of some numbers.
-use Rattle.std.proofs.Common.{◌≡◌, ℕ, zero, suc, ◌≤◌, ◌<◌, Bool, true, false, cond, List, [], ◌∷◌, ◌++◌, max, arith, Option, Some, None, ◌⊎◌, inl, inr, refl}
-use Rattle.std.specs.Prelude.{All, slice_get}
-use Rattle.std.specs.List.{Contains}
-use Rattle.std.proofs.lemmas.Bool.{cases_lt}
-use Rattle.run_picture_laws.specs.Greatest.{IsGreatest}
+use Rattle.run_picture_laws.proofs.Names.{All, Bool, Contains, IsGreatest, List, None, Option, Some, [], arith, cases_lt, cond, false, inl, inr, max, refl, slice_get, suc, true, zero, ℕ, ◌++◌, ◌<◌, ◌∷◌, ◌≡◌, ◌≤◌, ◌⊎◌}
 
 -- the greatest of a number and of these
 abbrev pub top : ℕ → List ℕ → ℕ

@@ -1,90 +1,35 @@
 -- The lanes of mutexes show the machine's mutexes, along every legal list.
-use Rattle.std.proofs.Common.{◌≡◌, ℕ, ◌+◌, ◌<◌, ◌≤◌, Bool, true, false, cond, List, [], ◌∷◌, ◌++◌, length, map, take, replicate, get_or, arith, Option, Some, None, ◌⊎◌, inl, inr, refl, sym, ap, subst, ◌∙◌}
-use Rattle.std.specs.Prelude.{◌==◌, ◌&&◌, nat_lt}
-use Rattle.std.proofs.lemmas.List.{append_assoc, append-nil, map-append, length-map, take-map, take_all, take-append-le, length-take-le}
-use Rattle.std.proofs.lemmas.Bool.{eqb-true, lt-ltb, le-ltb, ltb-true, ltb-false, cases_lt}
-use Rattle.mtapi_values.specs.declared.kinds.Kind.{Kind}
+use Rattle.run_picture_laws.proofs.Names.{Answers, FoundAs, Good, HasId, HasTask, IsNext, IsPicture, Kind, LanesAreMutexes, Legal, Legal-prefix, Legal-rest, LegalFrom, List, Lock, Locks, Move, MutexLane, MutexSeen, NodeEntry, None, On, OnAt, Op, Option, Picture, Reply, Running, Some, State, Task, TaskEnd, TaskHandle, TaskState, Terms, [], after, after-one, after_from, after_moves, answered, ap, append-nil, append_assoc, arith, as_on, by_made_moves, cases_lt, cond, count_listed, eq-eqb, eqb-true, false, first_of, found_count, get_or, good_next, good_opening, holds, ids_move, inl, inr, is_tally_end, kind_number, lane_seen, lanes_after, lanes_with, le-ltb, length, length-map, length-take-le, lock_by, lock_of, locks_after, lt-ltb, map, map-append, most_lanes, mutex_lanes_from, mutex_named, mutex_seen, named_by, nat_lt, new_lane, next, no_locks, on_move, one_passes, one_runner, opening, refl, replicate, rest_of, runner, runs_as, runs_on, same_found, same_kind, seats_of, snd_true, subst, sym, take, take-append-le, take-map, take_all, tally_mutex, tally_verdict, terms_stay, true, whether, ℕ, ◌&&◌, ◌++◌, ◌+◌, ◌<◌, ◌==◌, ◌∙◌, ◌∷◌, ◌≡◌, ◌≤◌, ◌⊎◌}
 use Rattle.mtapi_values.specs.declared.kinds.Kind.TheVariants as kinds
-use Rattle.mtapi_values.specs.declared.handles.TaskHandle.{TaskHandle}
-use Rattle.mtapi_values.specs.Conditions.{holds}
-use Rattle.handle_pool.specs.Issued.{live_object, count_listed}
-use Rattle.mtapi_objects.specs.Tasks.{Task, TaskState, runner, runs_on, runs_as, kind_number}
-use Rattle.mtapi_machine.specs.declared.terms.Terms.{Terms}
-use Rattle.mtapi_machine.specs.declared.ops.Op.{Op}
 use Rattle.mtapi_machine.specs.declared.ops.Op.TheVariants as op
-use Rattle.mtapi_machine.specs.declared.replies.Reply.{Reply}
 use Rattle.mtapi_machine.specs.declared.replies.Reply.TheVariants as reply
-use Rattle.mtapi_machine.specs.State.{State, opening}
-use Rattle.mtapi_machine.specs.Row.{Allows}
-use Rattle.mtapi_machine.specs.Rows.{row}
-use Rattle.mtapi_machine.specs.Legal.{NodeEntry, IsNext, next, LegalFrom, Legal, after_from, after}
-use Rattle.mtapi_machine.proofs.Lists.{Legal-prefix, Legal-rest, after-one}
-use Rattle.mtapi_machine.proofs.Made.{on_live, snd_true, not_false}
-use Rattle.mtapi_machine.proofs.Changes.{some_same}
-use Rattle.history_law.specs.Exclusion.{says_end}
-use Rattle.history_law.proofs.Answered.{true_false, gives_cond, answered, no_live, no_cond}
-use Rattle.history_law.proofs.locks.Exclusive.{Good, good_next, good_opening, one_runner, quiet_end}
-use Rattle.history_law.proofs.lists.Firsts.{found_count, one_passes}
-use Rattle.history_law.proofs.lists.Found.{FoundAs}
-use Rattle.history_law.proofs.lists.KindNumbers.{same_kind}
-use Rattle.history_law.proofs.Others.{terms_stay}
-use Rattle.history_law.proofs.SeatMoves.{by_moves, by_made_moves}
-use Rattle.history_law.proofs.tallies.Tallies.{HasId, ids_move}
-use Rattle.history_law.proofs.tallies.Ties.{On, OnAt, on_move, as_on}
-use Rattle.run_picture.specs.declared.locks.Lock.{Lock}
+use Rattle.mtapi_machine.specs.Answers as is
+use Rattle.history_law.proofs.SeatMoves.{by_moves}
 use Rattle.run_picture.specs.declared.locks.Lock.TheVariants as lock
-use Rattle.run_picture.specs.declared.shapes.Running.{Running}
-use Rattle.run_picture.specs.declared.shapes.MutexLane.{MutexLane}
-use Rattle.run_picture.specs.declared.pictures.Picture.{Picture}
-use Rattle.run_picture.specs.Locks.{most_lanes, mutex_named, tally_mutex, lock_of, new_lane, lanes_with, lane_after, Locks, named_by, lock_by, lanes_after, locks_after, first_of, rest_of, mutex_lanes_from}
-use Rattle.run_picture.specs.Pictures.{IsPicture, no_locks}
-use Rattle.run_picture_laws.specs.Bars.{seats_of}
-use Rattle.run_picture_laws.specs.Mutexes.{MutexSeen, lane_seen, mutex_seen, LanesAreMutexes}
+use Rattle.run_picture.specs.Locks.{lane_after}
 use Rattle.run_picture_laws.proofs.Runs.{RowIs, named_after, rows_after}
-use Rattle.run_picture_laws.proofs.Did.{Did, Names, mutex_did}
+use Rattle.run_picture_laws.proofs.Did.{Did, Names, ends_all, mutex_did}
 use Rattle.run_picture_laws.proofs.Seen.{seen_after, seen_made, lane_step, Each, IsHeld, TalliesStay, held_did, seen_did}
 
 -- What tallies have, after an entry
 
--- what ends a tally runs on the seat
-pub end_runs : (s : State) (who : ℕ) (t : TaskHandle) (r : Reply) → says_end r ≡ true → Allows (row s who (op.TallyEnd t) r) r → (x : Task) × (live_object s.tasks t.0 ≡ Some x) × (runs_as who kinds.Tally x ≡ true)
-end_runs s who t r i a =
-    answered says_end (λ ms. (x : Task) × (live_object s.tasks t.0 ≡ Some x) × (runs_as who kinds.Tally x ≡ true)) (row s who (op.TallyEnd t) r) r i (
-      refl,
-      no_live says_end (live_object s.tasks t.0) _ _ tt (λ x. (
-        refl,
-        (
-          refl,
-          no_cond says_end (x.notes.tally.stage == 4) _ _ tt
-              (no_live says_end (live_object s.segments x.notes.tally.segment) _ _ tt (λ y. no_live says_end (live_object s.mutexes x.notes.tally.mutex) _ _ tt (λ z. tt))),
-        ),
-      )),
-    )
-    (λ c. on_live _ (live_object s.tasks t.0) _ _ (λ j. true_false j refl) (λ x e b d. gives_cond _ (x.notes.tally.stage == 4) _ _ (λ f j. (x, e, not_false _ b))
-    (λ f. on_live _ (live_object s.segments x.notes.tally.segment) _ _ tt (λ y g. on_live _ (live_object s.mutexes x.notes.tally.mutex) _ _ tt (λ z h j. (x, e, not_false _ b)))))) a
+module _ (s : State) (who w h j : ℕ) (named : Option ℕ) (v : FoundAs (On w h) s.tasks j) where
+  -- what ends a tally runs on the seat
+  ends_apart : (t : TaskHandle) (x : Task) (e : TaskEnd) {A : Type 0} → HasTask s who t.0 x kinds.Tally → (lock_of named (op.TallyEnd t) (reply.Ended e) ≡ lock.TallyFrees → w ≡ who → ⊥) → ((t.0 == j) ≡ false → A) → A
+  ends_apart t x e k c f = whether (t.0 == j)
+      (λ i.
+      let same : x ≡ v.0 = same_found s t.0 j (eqb-true t.0 j i) x v.0 k.found v.1 in
+      absurd (c (ends_all named t e) (one_runner w who v.0 (as_on w v.0.state v.2.runs) (subst (λ (z : Task). runs_on who z ≡ true) same (as_on who x.state k.runs))))) f
 
-ends_frees : (named : Option ℕ) (t : TaskHandle) (r : Reply) → says_end r ≡ true → lock_of named (op.TallyEnd t) r ≡ lock.TallyFrees
-ends_frees None t (reply.Ended e) i = refl
-ends_frees (Some id) t (reply.Ended e) i = refl
-ends_frees named t _ i = true_false i refl
+  stays_on : (o : Op) (r : Reply) (ms : List Move) → Answers s who o r ms → (lock_of named o r ≡ lock.TallyFrees → w ≡ who → ⊥) → (is_tally_end j o ≡ false → FoundAs (On w h) (after_moves ms s).tasks j) → FoundAs (On w h) (after_moves ms s).tasks j
+  stays_on _ _ _ (is.refuses o x e) c f = v
+  stays_on _ _ _ (is.refuses_caller o x e) c f = v
+  stays_on _ _ _ (is.tally_ends_failed t x k e) c f = ends_apart t x x.notes.tally.verdict k c f
+  stays_on _ _ _ (is.tally_ends t x y z k e d a b) c f = ends_apart t x (tally_verdict x) k c f
+  stays_on _ _ _ _ c f = f refl
 
 tallies_stay : (s : State) (who : ℕ) (o : Op) (r : Reply) (named : Option ℕ) → IsNext s (record { who = who; op = o; reply = r }) → TalliesStay who (lock_of named o r) s.tasks (next s (record { who = who; op = o; reply = r })).tasks
-tallies_stay s who (op.TallyEnd t) r named i w h j c v = by_end (says_end r) refl
-  where
-    e : NodeEntry
-    e = record { who = who; op = op.TallyEnd t; reply = r }
-
-    by_task : (b : Bool) → (t.0 == j) ≡ b → says_end r ≡ true → FoundAs (On w h) (next s e).tasks j
-    by_task true f k =
-        let x = end_runs s who t r k i.allowed in
-        let same : x.0 ≡ v.0 = some_same (sym x.1 ∙ (ap (λ (z : ℕ). live_object s.tasks z) (eqb-true t.0 j f) ∙ v.1)) in
-        absurd (c (ends_frees named t r k) (one_runner w who v.0 (as_on w v.0.state v.2.runs) (subst (λ (z : Task). runs_on who z ≡ true) same (as_on who x.0.state x.2))))
-    by_task false f k = by_moves (OnAt w h j) s e i (on_move w h j who (op.TallyEnd t) f) v
-
-    by_end : (b : Bool) → says_end r ≡ b → FoundAs (On w h) (next s e).tasks j
-    by_end true k = by_task (t.0 == j) refl k
-    by_end false k = subst (λ (z : State). FoundAs (On w h) z.tasks j) (sym (quiet_end s who t r k i.allowed)) v
-tallies_stay s who o r named i w h j c v = by_moves (OnAt w h j) s (record { who = who; op = o; reply = r }) i (on_move w h j who o refl) v
+tallies_stay s who o r named i w h j c v = stays_on s who w h j named v o r _ (answered s who o r i.allowed) c (λ f. by_moves (OnAt w h j) s (record { who = who; op = o; reply = r }) i (on_move w h j who o f) v)
 
 -- What holds behind every legal list
 
@@ -119,7 +64,7 @@ names_of s w m (Some r) v h t e k =
     ap (λ (z : Task). mutex_named z.args) same ∙ (sym (ap (λ (z : Kind). tally_mutex z v.0.0.args) kind) ∙ v.0.2.1)
   where
     on_own : (w == w) ≡ true
-    on_own = Rattle.std.proofs.lemmas.Bool.eq-eqb w w refl
+    on_own = eq-eqb w w refl
 
 -- Lanes
 

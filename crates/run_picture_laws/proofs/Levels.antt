@@ -1,29 +1,9 @@
 -- The level over a place is the count of the lane there.
-use Rattle.std.proofs.Common.{◌≡◌, ℕ, zero, suc, ◌+◌, ◌<◌, ◌≤◌, ◌^◌, Bool, true, false, cond, List, [], ◌∷◌, ◌++◌, length, map, take, arith, Option, Some, None, option_map, refl, sym, ap, subst, ◌∙◌}
-use Rattle.std.specs.Prelude.{◌==◌, ◌&&◌, nat_lt}
-use Rattle.std.specs.List.{filter, flat_map}
-use Rattle.std.proofs.lemmas.List.{append-nil}
-use Rattle.std.proofs.lemmas.List.Elements.{filter-append}
-use Rattle.std.proofs.lemmas.Bool.{eq-eqb, ne_eqb, lt-ltb, le-ltb}
-use Rattle.handle_pool.specs.Issued.{Listed}
-use Rattle.mtapi_objects.specs.Queues.{Queue}
-use Rattle.mtapi_machine.specs.declared.terms.Terms.{Terms}
-use Rattle.mtapi_machine.specs.State.{State}
-use Rattle.mtapi_machine.specs.Legal.{NodeEntry, Legal, after}
-use Rattle.mtapi_machine.proofs.Lists.{Legal-prefix}
-use Rattle.history_law.specs.Words.{some_entry}
-use Rattle.run_picture.specs.declared.shapes.QueueLane.{QueueLane}
-use Rattle.run_picture.specs.declared.shapes.Level.{Level}
-use Rattle.run_picture.specs.declared.pictures.Picture.{Picture}
-use Rattle.run_picture.specs.declared.waits.Wait.{Wait}
+use Rattle.run_picture_laws.proofs.Names.{Bool, Change, Counts, EachCounts, IsPicture, Legal, Legal-prefix, Level, LevelsCount, List, Listed, NodeEntry, None, Option, Picture, Queue, QueueLane, QueueSeen, Some, State, Terms, Wait, Waiting, [], after, ap, append-nil, arith, change_by, changed, cond, ends_unnamed, eq-eqb, false, filter, filter-append, flat_map, is_changed, lane_after, lanes_by, last_count, le-ltb, length, level_by, level_over, levels_by, levels_from, lt-ltb, map, most_lanes, nat_lt, ne_eqb, none_waits, option_map, queue_lanes_from, queue_nth, queue_seen, refl, seats_of, some_entry, subst, suc, sym, take, true, wait_of, waiting_by, zero, ℕ, ◌&&◌, ◌++◌, ◌+◌, ◌<◌, ◌==◌, ◌^◌, ◌∙◌, ◌∷◌, ◌≡◌, ◌≤◌}
 use Rattle.run_picture.specs.declared.waits.Wait.TheVariants as wait
-use Rattle.run_picture.specs.declared.waits.Change.{Change}
 use Rattle.run_picture.specs.declared.waits.Change.TheVariants as change
-use Rattle.run_picture.specs.Locks.{most_lanes}
-use Rattle.run_picture.specs.Waits.{Waiting, wait_of, change_by, waiting_by, is_changed, changed, lane_after, level_by, new_lane, lanes_with, lanes_by, levels_by, queue_lanes_from, levels_from}
-use Rattle.run_picture.specs.Pictures.{IsPicture, none_waits}
-use Rattle.run_picture_laws.specs.Bars.{seats_of}
-use Rattle.run_picture_laws.specs.Queues.{lane_seen, queue_seen, QueueSeen, ends_unnamed, Counts, EachCounts, last_count, level_over, queue_nth, LevelsCount}
+use Rattle.run_picture.specs.Waits.{new_lane, lanes_with}
+use Rattle.run_picture_laws.specs.Queues.{lane_seen}
 use Rattle.run_picture_laws.proofs.Queues.{queues_behind}
 
 -- the lane of this number, and its count

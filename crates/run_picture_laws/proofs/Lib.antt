@@ -1,3 +1,4 @@
+mod Names
 pub mod Bars
 pub mod Runs
 pub mod Did

@@ -1,23 +1,8 @@
 -- The number of a lane of a queue is the greatest of its levels.
-use Rattle.std.proofs.Common.{◌≡◌, ℕ, zero, suc, ◌+◌, ◌<◌, Bool, true, false, cond, List, [], ◌∷◌, ◌++◌, length, map, arith, Option, Some, None, option_map, refl, sym, ap, subst, ◌∙◌}
-use Rattle.std.specs.Prelude.{◌==◌, nat_lt, slice_get}
-use Rattle.std.specs.List.{filter, flat_map}
-use Rattle.std.proofs.lemmas.List.{append-nil, map-append}
-use Rattle.std.proofs.lemmas.List.Elements.{filter-append}
-use Rattle.std.proofs.lemmas.Bool.{eq-eqb, ne_eqb}
-use Rattle.std.proofs.lemmas.Option.{slice_get-map}
-use Rattle.mtapi_machine.specs.Legal.{NodeEntry}
-use Rattle.run_picture.specs.declared.shapes.QueueLane.{QueueLane}
-use Rattle.run_picture.specs.declared.shapes.Level.{Level}
-use Rattle.run_picture.specs.declared.pictures.Picture.{Picture}
-use Rattle.run_picture.specs.declared.waits.Wait.{Wait}
+use Rattle.run_picture_laws.proofs.Names.{Bool, Change, IsGreatest, IsPicture, Level, List, NodeEntry, None, Option, Picture, QueueLane, Some, Wait, Waiting, [], ap, append-nil, arith, change_by, changed, cond, counts_of, eq-eqb, false, filter, filter-append, flat_map, is_changed, lane_after, lanes_by, length, level_by, levels_by, levels_from, map, map-append, most_lanes, nat_lt, ne_eqb, none_waits, option_map, queue_lanes_from, refl, slice_get, slice_get-map, subst, suc, sym, true, wait_of, waiting_by, zero, ℕ, ◌++◌, ◌+◌, ◌<◌, ◌==◌, ◌∙◌, ◌∷◌, ◌≡◌}
 use Rattle.run_picture.specs.declared.waits.Wait.TheVariants as wait
-use Rattle.run_picture.specs.declared.waits.Change.{Change}
 use Rattle.run_picture.specs.declared.waits.Change.TheVariants as change
-use Rattle.run_picture.specs.Locks.{most_lanes}
-use Rattle.run_picture.specs.Waits.{wait_of, Waiting, change_by, waiting_by, is_changed, changed, lane_after, level_by, new_lane, lanes_with, lanes_by, levels_by, queue_lanes_from, levels_from}
-use Rattle.run_picture.specs.Pictures.{IsPicture, none_waits}
-use Rattle.run_picture_laws.specs.Greatest.{IsGreatest, counts_of}
+use Rattle.run_picture.specs.Waits.{new_lane, lanes_with}
 use Rattle.run_picture_laws.proofs.Levels.{Numbered, numbered_map, numbered_with}
 use Rattle.run_picture_laws.proofs.Greatest.{top, top-append, top_greatest, with_lane}
 

@@ -1,17 +1,5 @@
 -- The ticks, turns and shares of a list of entries, from any place on.
-use Rattle.std.proofs.Common.{◌≡◌, ℕ, zero, suc, ◌+◌, ◌-◌, ◌^◌, ◌<◌, ◌≤◌, Bool, false, cond, eqb, List, [], ◌∷◌, ◌++◌, length, get_or, take, min, arith, Option, Some, None, ◌⊎◌, inl, inr, refl, sym, ap, subst, ◌∙◌}
-use Rattle.std.specs.Prelude.{◌==◌, slice_set}
-use Rattle.std.specs.List.{filter}
-use Rattle.std.proofs.lemmas.List.{append-nil, length-set, get_or-set_same, get_or-set_other}
-use Rattle.std.proofs.lemmas.List.Elements.{filter-append}
-use Rattle.std.proofs.lemmas.Bool.{eq-eqb, ne_eqb, cases_eq}
-use Rattle.mtapi_machine.specs.Legal.{NodeEntry}
-use Rattle.run_picture.specs.declared.shapes.Tick.{Tick}
-use Rattle.run_picture.specs.declared.shapes.TickSort.{TickSort}
-use Rattle.run_picture.specs.Rows.{tick_of, sort_of, ticks_from}
-use Rattle.run_picture.specs.Locks.{first_of, rest_of}
-use Rattle.run_picture.specs.Turns.{turned, turns_from, shares_from}
-use Rattle.run_picture_laws.specs.Numbers.{TicksMarkEntries, turns_taken, turns_by}
+use Rattle.run_picture_laws.proofs.Names.{Bool, List, NodeEntry, None, Option, Some, Tick, TickSort, TicksMarkEntries, [], ap, append-nil, arith, cases_eq, cond, eq-eqb, eqb, false, filter, filter-append, first_of, get_or, get_or-set_other, get_or-set_same, inl, inr, length, length-set, min, ne_eqb, refl, rest_of, shares_from, slice_set, sort_of, subst, suc, sym, take, tick_of, ticks_from, turned, turns_by, turns_from, turns_taken, zero, ℕ, ◌++◌, ◌+◌, ◌-◌, ◌<◌, ◌==◌, ◌^◌, ◌∙◌, ◌∷◌, ◌≡◌, ◌≤◌, ◌⊎◌}
 
 -- ---- ticks
 

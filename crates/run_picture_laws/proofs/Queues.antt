@@ -1,49 +1,13 @@
 -- The lanes of queues count the tasks that wait, along every legal list.
-use Rattle.std.proofs.Common.{◌≡◌, ℕ, zero, suc, ◌+◌, ◌<◌, ◌≤◌, ◌^◌, Bool, true, false, cond, List, [], ◌∷◌, ◌++◌, length, map, take, arith, Option, Some, None, ◌⊎◌, inl, inr, refl, sym, ap, subst, ◌∙◌}
-use Rattle.std.specs.Prelude.{◌==◌, ◌&&◌, nat_lt}
-use Rattle.std.proofs.lemmas.List.{append-nil, map-append, length-map, take_all, take-append-le, length-take-le}
-use Rattle.std.proofs.lemmas.Bool.{eqb-true, eq-eqb, ne_eqb, lt-ltb, le-ltb, cases_lt}
-use Rattle.mtapi_values.specs.Conditions.{holds}
-use Rattle.mtapi_values.specs.declared.handles.ObjectKind.TheVariants as kind
-use Rattle.handle_pool.specs.Issued.{Listed, listed, change, issue, with_fields, gone, how_many}
-use Rattle.mtapi_objects.specs.Tasks.{Task}
-use Rattle.mtapi_objects.specs.Queues.{Queue}
-use Rattle.mtapi_machine.specs.declared.terms.Terms.{Terms}
-use Rattle.mtapi_machine.specs.declared.ops.Op.{Op}
+use Rattle.run_picture_laws.proofs.Names.{Answers, Bool, Change, EachCounts, IsPicture, LanesAreQueues, Legal, LegalFrom, List, Listed, Move, MrapiStatus, MtapiStatus, NodeEntry, None, OnceIn, Op, Option, Picture, Place, Queue, QueueLane, QueueSeen, Queues, Reply, Some, State, Task, Terms, Wait, Waiting, [], after, after_from, after_moves, all_of, answered, ap, append-nil, arith, cases_lt, change, change_by, changed, cond, ends_unnamed, ends_unseen, eq-eqb, eqb-true, false, fresh_unlisted, gone, head_apart, holds, how_many, inl, inr, is_changed, is_fresh, issue, lane_after, lane_place, lanes_by, le-ltb, length, length-map, length-take-le, listed, listed_next, lt-ltb, map, map-append, most_lanes, nat_lt, ne_eqb, new_queue, next, none_first, none_waits, once_next, once_none, opened, opening, queue_lanes_from, queue_seen, record_of, refl, seats_of, snd_true, some_entry, subst, suc, sym, take, take-append-le, take_all, true, true_false, wait_of, waiting_by, with_fields, zero, ℕ, ◌&&◌, ◌++◌, ◌+◌, ◌<◌, ◌==◌, ◌^◌, ◌∙◌, ◌∷◌, ◌≡◌, ◌≤◌, ◌⊎◌}
 use Rattle.mtapi_machine.specs.declared.ops.Op.TheVariants as op
-use Rattle.mtapi_machine.specs.declared.replies.Reply.{Reply}
+use Rattle.mtapi_values.specs.declared.handles.ObjectKind.TheVariants as kind
 use Rattle.mtapi_machine.specs.declared.replies.Reply.TheVariants as reply
-use Rattle.mtapi_machine.specs.State.{State, opening}
-use Rattle.mtapi_values.specs.declared.statuses.MtapiStatus.{MtapiStatus}
-use Rattle.mtapi_values.specs.declared.statuses.MtapiStatus.TheVariants as m
-use Rattle.mtapi_machine.specs.Moves.{Queues, after_moves}
-use Rattle.mtapi_machine.specs.Row.{handle_of}
-use Rattle.mtapi_machine.specs.Rows.{row}
-use Rattle.mtapi_machine.specs.QueueRows.{new_queue}
-use Rattle.mtapi_machine.specs.Laws.{makes_kind, AltersObject}
-use Rattle.mtapi_machine.proofs.Made.{snd_true}
-use Rattle.mtapi_machine.proofs.Moves.{by_moves}
-use Rattle.history_law.proofs.RowReplies.{said, says_only}
-use Rattle.history_law.proofs.Sorts.{sort_move}
-use Rattle.mtapi_machine.specs.Legal.{NodeEntry, IsNext, next, LegalFrom, Legal, after_from, after}
-use Rattle.history_law.specs.Tally.{record_of}
-use Rattle.history_law.specs.Words.{some_entry, issues}
-use Rattle.history_law.proofs.Reuse.{fresh_unlisted, issues_fresh}
-use Rattle.history_law.proofs.Answered.{true_false, none_first}
-use Rattle.history_law.proofs.lists.Handles.{OnceIn, head_apart}
-use Rattle.history_law.proofs.OnceIssued.{once_none, once_next, listed_next}
-use Rattle.run_picture.specs.declared.shapes.QueueLane.{QueueLane}
-use Rattle.run_picture.specs.declared.pictures.Picture.{Picture}
-use Rattle.run_picture.specs.declared.waits.Wait.{Wait}
+use Rattle.mtapi_machine.specs.Answers as is
 use Rattle.run_picture.specs.declared.waits.Wait.TheVariants as wait
-use Rattle.run_picture.specs.declared.waits.Place.{Place}
-use Rattle.run_picture.specs.declared.waits.Change.{Change}
 use Rattle.run_picture.specs.declared.waits.Change.TheVariants as change
-use Rattle.run_picture.specs.Locks.{most_lanes}
-use Rattle.run_picture.specs.Waits.{Waiting, lane_place, wait_of, change_by, waiting_by, is_changed, changed, lane_after, new_lane, lanes_with, lanes_by, queue_lanes_from}
-use Rattle.run_picture.specs.Pictures.{IsPicture, none_waits}
-use Rattle.run_picture_laws.specs.Bars.{seats_of}
-use Rattle.run_picture_laws.specs.Queues.{QueueSeen, lane_seen, queue_seen, ends_unseen, ends_unnamed, EachCounts, LanesAreQueues}
+use Rattle.run_picture.specs.Waits.{new_lane, lanes_with}
+use Rattle.run_picture_laws.specs.Queues.{lane_seen}
 use Rattle.run_picture_laws.proofs.Tasks.{Goes, Beside, Each, waits}
 use Rattle.run_picture_laws.proofs.Steps.{retains, touches, IsIssued, moved}
 use Rattle.run_picture_laws.proofs.Waits.{held, Right, LaneRight, NewOff, Placed, each_after, count_off, same_lane, left_lane, emptied_lane, joined_lane, counts_right}
@@ -69,67 +33,41 @@ unfolding issue
 seen_issue h y [] = refl
 seen_issue h y (r ∷ rs) = ap (λ z. queue_seen r ∷ z) (seen_issue h y rs)
 
-abbrev SeenGoes : State → Wait → State → Type 0
-SeenGoes s x t = map queue_seen t.queues ≡ map queue_seen s.queues ++ seen_made x
+-- an entry, as far as it makes a queue: what is seen behind it, and that the queue has a new handle
+record SeenGoes (s : State) (x : Wait) (l : List (Listed Queue)) : Type 0 where
+  seen : map queue_seen l ≡ map queue_seen s.queues ++ seen_made x
+  fresh : (q id : ℕ) (retain : Bool) → x ≡ wait.Makes q id retain → listed q s.queues ≡ 0
 
-kept_seen : (s : State) (e : NodeEntry) → (makes_kind Queues e.op ≡ true → ⊥) → map queue_seen (next s e).queues ≡ map queue_seen s.queues
-kept_seen s e f =
-    by_moves (λ t. map queue_seen t.queues ≡ map queue_seen s.queues) s e
-    (λ t m y w. sort_move Queues t e.op (λ l. map queue_seen l ≡ map queue_seen s.queues) (λ j x z u. absurd (f z.by))
-    (λ j g z u. seen_same j (with_fields g) t.queues (λ r. altered e.op g j z r) ∙ u) (λ j z u. seen_same j gone t.queues (λ r. refl) ∙ u) m y w) refl
+abbrev makes_none : Wait → Bool
+makes_none (wait.Makes q id retain) = false
+makes_none _ = true
+
+none_made : (s : State) (x : Wait) (l : List (Listed Queue)) → makes_none x ≡ true → map queue_seen l ≡ map queue_seen s.queues → SeenGoes s x l
+none_made s (wait.Makes q id retain) l n e = true_false n refl
+none_made s _ l n e = record { seen = e ∙ sym (append-nil (map queue_seen s.queues)); fresh = λ q id retain d. absurd (cc) }
+
+refused_none : (o : Op) (c : MtapiStatus) → makes_none (wait_of o (reply.Mtapi c)) ≡ true
+refused_none op.Pick c = refl
+refused_none _ c = refl
+
+caller_none : (o : Op) (c : MrapiStatus) → makes_none (wait_of o (reply.Mrapi c)) ≡ true
+caller_none op.Pick c = refl
+caller_none _ c = refl
+
+seen_goes : (s : State) (who : ℕ) (o : Op) (r : Reply) (ms : List Move) → Answers s who o r ms → SeenGoes s (wait_of o r) (after_moves ms s).queues
+seen_goes s who _ _ _ (is.refuses o c e) = none_made s _ s.queues (refused_none o c) refl
+seen_goes s who _ _ _ (is.refuses_caller o c e) = none_made s _ s.queues (caller_none o c) refl
+seen_goes s who _ _ _ (is.creates_queue id job priority limit ordered retain h e f) =
+    record { seen = seen_issue h (new_queue id job priority limit ordered retain) s.queues; fresh = λ q d k i. fresh_unlisted kind.Queue s q (subst (λ (z : ℕ). is_fresh (all_of Queues) s z ≡ true) (ap handle_in i) f) }
   where
-    altered : (o : Op) (g : Queue → Queue) (j : ℕ) → AltersObject Queues j g o → (r : Listed Queue) → queue_seen (with_fields g r) ≡ queue_seen r
-    altered (op.QueueEnable q) g j z r = ap (λ (k : Queue → Queue). queue_seen (with_fields k r)) z.1
-    altered (op.QueueDisable q) g j z r = ap (λ (k : Queue → Queue). queue_seen (with_fields k r)) z.1
-    altered _ g j z r = absurd z
-
--- by an op that makes no queue the picture reads of none
-none_made : (o : Op) (r : Reply) → makes_kind Queues o ≡ false → seen_made (wait_of o r) ≡ []
-none_made (op.QueueCreate id job priority limit ordered retain) r e = true_false refl e
-none_made (op.QueueDisable q) reply.Ok e = refl
-none_made (op.QueueDisable q) _ e = refl
-none_made (op.QueueDelete q) reply.Ok e = refl
-none_made (op.QueueDelete q) _ e = refl
-none_made (op.TaskEnqueue q args cores detached group) (reply.Handle h) e = refl
-none_made (op.TaskEnqueue q args cores detached group) _ e = refl
-none_made op.Pick (reply.Picked t a k args) e = refl
-none_made op.Pick _ e = refl
-none_made (op.TaskCancel t) reply.Ok e = refl
-none_made (op.TaskCancel t) _ e = refl
-none_made (op.TaskLook t last) (reply.Ended z) e = refl
-none_made (op.TaskLook t last) _ e = refl
-none_made (op.AnyLook g last) (reply.Given t z) e = refl
-none_made (op.AnyLook g last) _ e = refl
-none_made _ r e = refl
-
-seen_other : (s : State) (e : NodeEntry) → makes_kind Queues e.op ≡ false → SeenGoes s (wait_of e.op e.reply) (next s e)
-seen_other s e f =
-    kept_seen s e (λ w. true_false w f) ∙ (sym (append-nil (map queue_seen s.queues)) ∙ ap (λ z. map queue_seen s.queues ++ z) (sym (none_made e.op e.reply f)))
-
-seen_goes : (s : State) (who : ℕ) (o : Op) (r : Reply) → IsNext s (record { who = who; op = o; reply = r }) → SeenGoes s (wait_of o r) (next s (record { who = who; op = o; reply = r }))
-seen_goes s who (op.QueueCreate id job priority limit ordered retain) r i =
-    let o : Op = op.QueueCreate id job priority limit ordered retain in
-    said (λ x ms. SeenGoes s (wait_of o x) (after_moves ms s)) (row s who o r) r (
-      no m.ErrNodeNotinit,
-      λ a. (
-        no m.ErrParameter,
-        λ b. (
-          no m.ErrJobInvalid,
-          λ c. (
-            no m.ErrQueueExists,
-            λ d. (
-              no m.ErrQueueLimit,
-              λ e.
-                  says_only (λ x ms. SeenGoes s (wait_of o x) (after_moves ms s)) _ _ _ (λ f. seen_issue (handle_of r) (new_queue id job priority limit ordered retain) s.queues),
-            ),
-          ),
-        ),
-      ),
-    ) i.allowed
-  where
-    no : (x : MtapiStatus) → map queue_seen s.queues ≡ map queue_seen s.queues ++ []
-    no x = sym (append-nil (map queue_seen s.queues))
-seen_goes s who o r i = seen_other s (record { who = who; op = o; reply = r }) refl
+    handle_in : Wait → ℕ
+    handle_in (wait.Makes q id retain) = q
+    handle_in _ = 0
+seen_goes s who _ _ _ (is.enables_queue q x e) = none_made s _ _ refl (seen_same q.0 (with_fields (opened true)) s.queues (λ r. refl))
+seen_goes s who _ _ _ (is.retains_queue q x e k) = none_made s _ _ refl (seen_same q.0 (with_fields (opened false)) s.queues (λ r. refl))
+seen_goes s who _ _ _ (is.disables_queue q x e k) = none_made s _ _ refl (seen_same q.0 (with_fields (opened false)) s.queues (λ r. refl))
+seen_goes s who _ _ _ (is.deletes_queue q x e) = none_made s _ _ refl (seen_same q.0 gone s.queues (λ r. refl))
+seen_goes s who _ _ _ _ = none_made s _ s.queues refl refl
 
 -- Lists of lanes
 
@@ -518,33 +456,6 @@ module _ (s t : State) (calm now g : Type 0) (from : now → calm) (by : now →
           subst (λ (c : Bool). Then x (cond c (ls ++ new_lane (length ls) q id retain ∷ []) ls) × SeenAs most_lanes (cond c (ls ++ new_lane (length ls) q id retain ∷ []) ls) t.queues) (sym room)
           (stays x a b more n c, same ∙ (sym (take-append-le most_lanes vs (seen_made x) l) ∙ ap (take most_lanes) (sym e)))
 
--- a new queue has a new handle
-makes_fresh : (s : State) (who : ℕ) (o : Op) (r : Reply) → IsNext s (record { who = who; op = o; reply = r }) → (q id : ℕ) (retain : Bool) → wait_of o r ≡ wait.Makes q id retain → listed q s.queues ≡ 0
-makes_fresh s who o r i q id retain e = fresh_unlisted kind.Queue s q (issues_fresh kind.Queue s (record { who = who; op = o; reply = r }) q i (by_op o r e))
-  where
-    handle_in : Wait → ℕ
-    handle_in (wait.Makes q id retain) = q
-    handle_in _ = 0
-
-    is_made : Wait → Bool
-    is_made (wait.Makes q id retain) = true
-    is_made _ = false
-
-    no_make : (x : Wait) → is_made x ≡ false → x ≡ wait.Makes q id retain → ⊥
-    no_make x n z = true_false (ap is_made z) n
-
-    none : (o : Op) (r : Reply) → makes_kind Queues o ≡ false → is_made (wait_of o r) ≡ false
-    none o r n = made_off (wait_of o r) (none_made o r n)
-      where
-        made_off : (x : Wait) → seen_made x ≡ [] → is_made x ≡ false
-        made_off (wait.Makes q id retain) n = absurd (cc)
-        made_off _ n = refl
-
-    by_op : (o : Op) (r : Reply) → wait_of o r ≡ wait.Makes q id retain → issues kind.Queue q (record { who = who; op = o; reply = r }) ≡ true
-    by_op (op.QueueCreate d job priority limit ordered keep) (reply.Handle h) f = eq-eqb h q (ap handle_in f)
-    by_op (op.QueueCreate d job priority limit ordered keep) _ f = absurd (no_make wait.Nothing refl f)
-    by_op o r f = absurd (no_make (wait_of o r) (none o r refl) f)
-
 counts_map : (s : State) (C D : Type 0) (ls : List QueueLane) → (D → C) → EachCounts s C ls → EachCounts s D ls
 counts_map s C D [] f a = tt
 counts_map s C D (l ∷ ls) f a = (record { least = a.0.least; exact = λ d. a.0.exact (f d) }, counts_map s C D ls f a.1)
@@ -564,9 +475,10 @@ queues_along s (e ∷ es) calm k w lanes h v seen small =
     let x : Wait = wait_of e.op e.reply in
     let now : Type 0 = calm × (ends_unseen e.op ≡ false) in
     let mv = moved s e.who e.op e.reply v.once_tasks v.once h.0 in
+    let sg = seen_goes s e.who e.op e.reply _ (answered s e.who e.op e.reply h.0.allowed) in
     let next_known =
-    known_then s (next s e) calm now (ends_unseen e.op ≡ false) (λ d. d.0) (λ d. d.1) k w lanes mv.new v seen (omega arith) x (makes_fresh s e.who e.op e.reply h.0) (once_next kind.Task s e v.once_tasks) (once_next kind.Queue s e v.once)
-    (λ q m. listed_next kind.Queue s e q m) mv.issued mv.goes (seen_goes s e.who e.op e.reply h.0) in
+    known_then s (next s e) calm now (ends_unseen e.op ≡ false) (λ d. d.0) (λ d. d.1) k w lanes mv.new v seen (omega arith) x sg.fresh (once_next kind.Task s e v.once_tasks) (once_next kind.Queue s e v.once)
+    (λ q m. listed_next kind.Queue s e q m) mv.issued mv.goes sg.seen in
     let rest = queues_along (next s e) es now (k + 1) (waiting_by w lanes x) (lanes_by w x lanes) h.1 next_known.0 next_known.1 (omega arith) in (
       counts_map (after_from (next s e) es) (now × (some_entry ends_unnamed es ≡ false)) (calm × (cond (ends_unseen e.op) true (some_entry ends_unnamed es) ≡ false)) (queue_lanes_from (waiting_by w lanes x) (lanes_by w x lanes) es)
           (λ d. let b = none_first (ends_unseen e.op) (some_entry ends_unnamed es) d.1 in ((d.0, b.0), b.1)) rest.0,

@@ -1,26 +1,7 @@
 -- What is seen of the mutexes changes in the machine as it does in the lanes.
-use Rattle.std.proofs.Common.{◌≡◌, ◌≢◌, ℕ, ◌+◌, ◌≤◌, Bool, true, false, cond, List, [], ◌∷◌, ◌++◌, map, arith, Option, Some, None, ◌⊎◌, inl, inr, refl, sym, ap, subst, ◌∙◌}
-use Rattle.std.specs.Prelude.{◌==◌, ◌&&◌, nat_lt, is_some}
-use Rattle.std.proofs.lemmas.List.{append-nil}
-use Rattle.std.proofs.lemmas.Bool.{eqb-true, eq-eqb, cases_eq, cond_both, false_from_ne_true}
-use Rattle.mtapi_values.specs.Seats.{is_seat, is_other}
-use Rattle.handle_pool.specs.Issued.{Listed, live_of, live_object, count_listed, listed, change, issue, with_fields, gone}
-use Rattle.mtapi_objects.specs.Tasks.{Task, runs_on}
-use Rattle.mtapi_objects.specs.Mutexes.{Mutex, new_mutex, locked_by, unlocked}
-use Rattle.mtapi_machine.specs.State.{State}
-use Rattle.mtapi_machine.proofs.Made.{fst_true, snd_true, not_false}
-use Rattle.mtapi_machine.proofs.Changes.{some_same}
-use Rattle.history_law.proofs.Answered.{true_false}
-use Rattle.history_law.proofs.lists.Firsts.{head_alone, found_count, one_passes}
-use Rattle.history_law.proofs.lists.Found.{FoundAs, at_here, at_past}
-use Rattle.history_law.proofs.lists.Handles.{OnceIn, once_rest, head_apart}
-use Rattle.history_law.proofs.tallies.Tallies.{HasId}
-use Rattle.history_law.proofs.tallies.Ties.{AtMostOne, On, on_runs}
-use Rattle.run_picture.specs.declared.locks.Lock.{Lock}
+use Rattle.run_picture_laws.proofs.Names.{AtMostOne, Bool, FoundAs, HasId, List, Listed, Lock, Mutex, MutexLane, MutexSeen, None, On, OnceIn, Option, Some, State, Task, [], ap, append-nil, arith, at_here, at_past, cases_eq, change, cond, cond_both, count_listed, eq-eqb, eqb-true, false, false_from_ne_true, found_count, fst_true, gone, head_alone, head_apart, inl, inr, is_other, is_seat, is_some, issue, lane_seen, listed, live_object, live_of, locked_by, map, mutex_seen, nat_lt, new_mutex, not_false, on_runs, once_rest, one_passes, refl, runs_on, snd_true, some_same, subst, sym, taken, true, true_false, unlocked, waited, with_fields, ℕ, ◌&&◌, ◌++◌, ◌+◌, ◌==◌, ◌∙◌, ◌∷◌, ◌≡◌, ◌≢◌, ◌≤◌, ◌⊎◌}
 use Rattle.run_picture.specs.declared.locks.Lock.TheVariants as lock
-use Rattle.run_picture.specs.declared.shapes.MutexLane.{MutexLane}
-use Rattle.run_picture.specs.Locks.{lane_after, taken, waited}
-use Rattle.run_picture_laws.specs.Mutexes.{MutexSeen, lane_seen, mutex_seen}
+use Rattle.run_picture.specs.Locks.{lane_after}
 use Rattle.run_picture_laws.proofs.Did.{is_quiet, Did, still, makes, deletes, takes, frees, tally_takes, tally_frees, tally_failed}
 
 -- the owner after a seat got it

@@ -1,24 +1,7 @@
 -- The spans over a place are those of the owners there.
-use Rattle.std.proofs.Common.{◌≡◌, ℕ, zero, suc, ◌+◌, ◌<◌, ◌≤◌, Bool, true, false, cond, List, [], ◌∷◌, ◌++◌, length, map, take, arith, Option, Some, None, option_map, refl, sym, ap, subst, ◌∙◌}
-use Rattle.std.specs.Prelude.{◌==◌, ◌&&◌, nat_lt, nat_le}
-use Rattle.std.specs.List.{filter, flat_map}
-use Rattle.std.proofs.lemmas.List.{append_assoc, append-nil}
-use Rattle.std.proofs.lemmas.List.Elements.{filter-append}
-use Rattle.std.proofs.lemmas.Bool.{eq-eqb, ne_eqb, lt-ltb, le-ltb, lt-leb, le-leb}
-use Rattle.handle_pool.specs.Issued.{Listed}
-use Rattle.mtapi_objects.specs.Mutexes.{Mutex}
-use Rattle.mtapi_machine.specs.declared.terms.Terms.{Terms}
-use Rattle.mtapi_machine.specs.Legal.{NodeEntry, Legal, after}
-use Rattle.mtapi_machine.proofs.Lists.{Legal-prefix}
-use Rattle.run_picture.specs.declared.locks.Lock.{Lock}
+use Rattle.run_picture_laws.proofs.Names.{Bool, IsPicture, LanesShowOwners, Legal, Legal-prefix, List, Listed, Lock, Locks, Mutex, MutexLane, MutexSeen, NodeEntry, None, Option, Picture, Some, Span, Terms, [], after, ap, append-nil, append_assoc, arith, cond, eq-eqb, false, filter, filter-append, first_of, flat_map, is_owner, is_within, lane_seen, lanes_with, le-leb, le-ltb, length, lock_by, locks_after, lt-leb, lt-ltb, map, most_lanes, mutex_seen, nat_le, nat_lt, ne_eqb, new_lane, no_locks, option_map, owned_from, owner_in, owner_of, refl, rest_of, seats_of, span_by, span_of, spans_by, spans_from, subst, suc, sym, take, taken, true, waited, zero, ℕ, ◌&&◌, ◌++◌, ◌+◌, ◌<◌, ◌==◌, ◌∙◌, ◌∷◌, ◌≡◌, ◌≤◌}
 use Rattle.run_picture.specs.declared.locks.Lock.TheVariants as lock
-use Rattle.run_picture.specs.declared.shapes.MutexLane.{MutexLane}
-use Rattle.run_picture.specs.declared.shapes.Span.{Span}
-use Rattle.run_picture.specs.declared.pictures.Picture.{Picture}
-use Rattle.run_picture.specs.Locks.{most_lanes, is_owner, owned_from, taken, waited, lane_after, span_of, span_by, spans_by, new_lane, lanes_with, Locks, lock_by, locks_after, first_of, rest_of, spans_from}
-use Rattle.run_picture.specs.Pictures.{IsPicture, no_locks}
-use Rattle.run_picture_laws.specs.Bars.{seats_of}
-use Rattle.run_picture_laws.specs.Mutexes.{MutexSeen, lane_seen, mutex_seen, is_within, owner_in, owner_of, LanesShowOwners}
+use Rattle.run_picture.specs.Locks.{lane_after}
 use Rattle.run_picture_laws.proofs.Lanes.{known_after, lanes_seen}
 
 -- the lane of this number, and its owner, and from where on

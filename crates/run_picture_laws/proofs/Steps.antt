@@ -1,42 +1,14 @@
 -- What each entry does to the tasks that wait, beside what the picture reads in it.
-use Rattle.std.proofs.Common.{◌≡◌, ℕ, ◌≤◌, Bool, true, false, List, [], ◌∷◌, Some, None, ◌⊎◌, inl, inr, refl, sym, ap, subst, ◌∙◌}
-use Rattle.std.specs.Prelude.{◌==◌, ◌&&◌, not, is_some}
-use Rattle.mtapi_values.specs.Conditions.{holds}
-use Rattle.mtapi_values.specs.declared.kinds.Kind.{Kind}
+use Rattle.run_picture_laws.proofs.Names.{Answers, Bool, Ended, IsNext, Kind, List, Listed, Move, MrapiStatus, MtapiStatus, NewTask, None, Notes, OnceIn, Op, Queue, QueueHandle, Reply, Scheduled, Some, State, Task, TaskEnd, TaskState, Wait, [], after_moves, answered, ap, asked_for, asked_of, at-update, cancel_requested, end_each, ended, ends_task, ends_unseen, false, fresh_unlisted, gone, holds, in_no_group, inl, inr, is_fresh, is_in, is_some, is_unstarted, issue, kind_number, listed, live_listed, live_object, new_task, next, not, notes, record_at, record_of, refl, runner, runs_as, scheduled, some_same, starts_task, subst, sym, tasks, true, true_false, wait_of, with_fields, with_notes, with_state, ℕ, ◌&&◌, ◌==◌, ◌∙◌, ◌∷◌, ◌≡◌, ◌≤◌, ◌⊎◌}
 use Rattle.mtapi_values.specs.declared.kinds.Kind.TheVariants as kinds
-use Rattle.mtapi_values.specs.declared.ends.TaskEnd.{TaskEnd}
 use Rattle.mtapi_values.specs.declared.ends.TaskEnd.TheVariants as ends
-use Rattle.mtapi_values.specs.declared.statuses.MtapiStatus.{MtapiStatus}
 use Rattle.mtapi_values.specs.declared.statuses.MtapiStatus.TheVariants as m
-use Rattle.mtapi_values.specs.declared.statuses.MrapiStatus.{MrapiStatus}
 use Rattle.mtapi_values.specs.declared.handles.ObjectKind.TheVariants as kind
-use Rattle.mtapi_values.specs.declared.handles.QueueHandle.{QueueHandle}
-use Rattle.handle_pool.specs.Issued.{Listed, live_object, listed, issue, with_fields, gone}
-use Rattle.mtapi_objects.specs.Tasks.{Task, TaskState, Scheduled, Running, Ended, Notes, NewTask, scheduled, runner, runs_as, kind_number, is_unstarted, with_state, with_notes, cancel_requested, ended, end_each, new_task}
-use Rattle.mtapi_objects.specs.Groups.{in_no_group}
-use Rattle.mtapi_objects.specs.Queues.{Queue, is_in}
-use Rattle.mtapi_machine.specs.declared.ops.Op.{Op}
+use Rattle.mtapi_objects.specs.Tasks.{Running}
 use Rattle.mtapi_machine.specs.declared.ops.Op.TheVariants as op
-use Rattle.mtapi_machine.specs.declared.replies.Reply.{Reply}
 use Rattle.mtapi_machine.specs.declared.replies.Reply.TheVariants as reply
-use Rattle.mtapi_machine.specs.State.{State, tasks}
-use Rattle.mtapi_machine.specs.Moves.{Move, starts_task, ends_task, notes, is_fresh, after_moves}
-use Rattle.mtapi_machine.specs.TaskRows.{asked_for, asked_of}
-use Rattle.mtapi_machine.specs.Legal.{IsNext, next}
-use Rattle.mtapi_machine.proofs.Changes.{at-update, some_same}
-use Rattle.history_law.proofs.Answered.{true_false}
-use Rattle.history_law.proofs.lists.Handles.{OnceIn}
-use Rattle.history_law.specs.Tally.{record_of}
-use Rattle.history_law.proofs.Ages.{live_listed}
-use Rattle.history_law.proofs.Reuse.{fresh_unlisted}
-use Rattle.mtapi_machine.specs.Answers.{Answers}
 use Rattle.mtapi_machine.specs.Answers as is
-use Rattle.mtapi_machine.proofs.Answered.{answered}
-use Rattle.history_law.proofs.lists.Sums.{record_at}
-use Rattle.run_picture.specs.declared.waits.Wait.{Wait}
 use Rattle.run_picture.specs.declared.waits.Wait.TheVariants as wait
-use Rattle.run_picture.specs.Waits.{wait_of}
-use Rattle.run_picture_laws.specs.Queues.{ends_unseen}
 use Rattle.run_picture_laws.proofs.Tasks.{waits, Goes, Beside, beside_map, Each, SameEach, same_each, same_then, change_same, and_off, noted_same, gone_same, ended_same, plain_same, untouched, untouched_goes, no_touch, apart, Plain, left_goes, ends_goes, least_goes, issue_goes}
 
 -- the queue keeps its tasks while it is disabled

@@ -1,23 +1,6 @@
 -- Which tasks wait behind an entry.
-use Rattle.std.proofs.Common.{◌≡◌, ℕ, ◌+◌, ◌≤◌, Bool, true, false, cond, List, [], ◌∷◌, arith, Some, refl, sym, ap, subst, ◌∙◌}
-use Rattle.std.specs.Prelude.{◌==◌, ◌&&◌, not, is_none}
-use Rattle.std.proofs.lemmas.Bool.{cond_both}
-use Rattle.mtapi_values.specs.declared.ends.TaskEnd.{TaskEnd}
-use Rattle.handle_pool.specs.Issued.{Listed, live_of, live_object, listed, change, change_all, issue, with_fields, gone}
-use Rattle.mtapi_objects.specs.Tasks.{Task, TaskState, Scheduled, Running, Ended, Notes, scheduled, end_of, NewTask, is_unstarted, is_unended, with_notes, ended, end_each}
-use Rattle.mtapi_objects.specs.Groups.{is_member, freed, let_go}
-use Rattle.mtapi_machine.specs.declared.ops.Op.{Op}
-use Rattle.mtapi_machine.specs.State.{State}
-use Rattle.mtapi_machine.specs.Moves.{Move, starts_task, runs_task, ends_task, ends_waiting, withdraws, notes, leaves, frees_members, lets_members_go, makes, alters, removes, apply}
-use Rattle.mtapi_machine.specs.Laws.{IsMade, StartsTask, EndsTask, is_pick, ends_many, WithdrawsAction}
-use Rattle.mtapi_objects.specs.Actions.{Action}
-use Rattle.mtapi_machine.specs.Legal.{NodeEntry, next}
-use Rattle.mtapi_machine.proofs.Made.{fst_true, snd_true, not_true, found_holds}
-use Rattle.mtapi_machine.proofs.Moves.{by_moves, sorts_keep}
-use Rattle.mtapi_machine.proofs.Changes.{some_same}
-use Rattle.history_law.proofs.Answered.{true_false}
-use Rattle.history_law.proofs.lists.Found.{at_here, at_past, at_head}
-use Rattle.history_law.proofs.lists.Handles.{OnceIn, once_rest, head_apart}
+use Rattle.run_picture_laws.proofs.Names.{Action, Bool, Ended, EndsTask, IsMade, List, Listed, Move, NewTask, NodeEntry, Notes, OnceIn, Op, Scheduled, Some, StartsTask, State, Task, TaskEnd, TaskState, WithdrawsAction, [], alters, ap, apply, arith, at_head, at_here, at_past, by_moves, change, change_all, cond, cond_both, end_each, end_of, ended, ends_many, ends_task, ends_waiting, false, found_holds, freed, frees_members, fst_true, gone, head_apart, is_member, is_none, is_pick, is_unended, is_unstarted, issue, leaves, let_go, lets_members_go, listed, live_object, live_of, makes, next, not, not_true, notes, once_rest, refl, removes, runs_task, scheduled, snd_true, some_same, sorts_keep, starts_task, subst, sym, true, true_false, with_fields, with_notes, withdraws, ℕ, ◌&&◌, ◌+◌, ◌==◌, ◌∙◌, ◌∷◌, ◌≡◌, ◌≤◌}
+use Rattle.mtapi_objects.specs.Tasks.{Running}
 
 -- the task is live and hasn't begun
 abbrev pub waits : Listed Task → Bool

@@ -1,21 +1,7 @@
 -- A lane counts the tasks that wait in its queue.
-use Rattle.std.proofs.Common.{◌≡◌, ℕ, zero, ◌+◌, ◌-◌, ◌<◌, ◌≤◌, ◌^◌, Bool, true, false, cond, List, [], ◌∷◌, arith, Option, Some, None, ◌⊎◌, inl, inr, refl, sym, ap, subst, ◌∙◌}
-use Rattle.std.specs.Prelude.{◌==◌, ◌&&◌, not, max}
-use Rattle.std.proofs.lemmas.Bool.{eqb-true, eq-eqb, ne_eqb, cases_eq}
-use Rattle.mtapi_values.specs.Conditions.{holds}
-use Rattle.byte_io.specs.Causes.{one_more}
-use Rattle.handle_pool.specs.Issued.{Listed, how_many, count_listed, listed}
-use Rattle.mtapi_objects.specs.Tasks.{Task, is_unstarted}
-use Rattle.mtapi_objects.specs.Queues.{is_in, is_waiting_in}
-use Rattle.mtapi_machine.specs.State.{State}
-use Rattle.mtapi_machine.proofs.Made.{fst_true, snd_true, both_true, not_true}
-use Rattle.history_law.proofs.Answered.{true_false}
-use Rattle.history_law.proofs.lists.Handles.{OnceIn, head_apart}
-use Rattle.run_picture.specs.declared.shapes.QueueLane.{QueueLane}
+use Rattle.run_picture_laws.proofs.Names.{Bool, List, Listed, None, OnceIn, Option, Place, QueueLane, Some, State, Task, Waiting, [], ap, arith, both_true, cases_eq, cond, count_listed, eq-eqb, eqb-true, false, fst_true, head_apart, holds, how_many, inl, inr, is_at, is_in, is_unstarted, is_waiting_in, lane_after, lane_place, left_at, listed, max, ne_eqb, not, not_true, one_more, refl, snd_true, subst, sym, true, true_false, waiting_by, zero, ℕ, ◌&&◌, ◌+◌, ◌-◌, ◌<◌, ◌==◌, ◌^◌, ◌∙◌, ◌∷◌, ◌≡◌, ◌≤◌, ◌⊎◌}
 use Rattle.run_picture.specs.declared.waits.Wait.TheVariants as wait
-use Rattle.run_picture.specs.declared.waits.Place.{Place}
 use Rattle.run_picture.specs.declared.waits.Change.TheVariants as change
-use Rattle.run_picture.specs.Waits.{Waiting, lane_place, left_at, waiting_by, is_at, lane_after}
 use Rattle.run_picture_laws.proofs.Tasks.{waits, Goes, Beside, Each, and_off}
 
 -- the picture holds a task with this place in this lane

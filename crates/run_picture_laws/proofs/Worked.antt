@@ -1,19 +1,5 @@
 -- The worked pictures, by computing.
-use Rattle.std.proofs.Common.{◌≡◌, ℕ, zero, suc, ◌<◌, ◌≤◌, get_or, ◌⊎◌, inl, inr, [], ◌∷◌, take, drop, Bool, true, false, Option, Some, None, refl, ap, ◌∙◌, arith}
-use Rattle.std.specs.List.{Contains}
-use Rattle.handle_pool.specs.Issued.{live_of, issue, change, listed, issued_at, retired, is_full, may_issue}
-use Rattle.mtapi_objects.specs.Actions.{has_worker}
-use Rattle.mtapi_objects.specs.Tasks.{Task, TaskState, Ended, end_each}
-use Rattle.mtapi_machine.specs.WorkRows.{is_ready, can_take, has_better}
-use Rattle.mtapi_machine.specs.Legal.{after_from}
-use Rattle.mtapi_machine.specs.Worked.{one_task}
-use Rattle.history_law.specs.WorkedSum.{two_tallies}
-use Rattle.run_picture.specs.Rows.{bars_from, bars_left}
-use Rattle.run_picture.specs.Locks.{spans_from}
-use Rattle.run_picture.specs.Waits.{lane_after, level_by, levels_from}
-use Rattle.run_picture_laws.specs.Bars.{run_end}
-use Rattle.run_picture_laws.specs.Greatest.{waits_for}
-use Rattle.run_picture_laws.specs.Worked.{OneTaskIsDrawn, TalliesAreDrawn, one_waits, OneWaitIsDrawn, looks, NumbersAreShown}
+use Rattle.run_picture_laws.proofs.Names.{Bool, Contains, Ended, None, NumbersAreShown, OneTaskIsDrawn, OneWaitIsDrawn, Option, Some, TalliesAreDrawn, Task, TaskState, [], after_from, ap, arith, bars_from, bars_left, can_take, change, drop, end_each, false, get_or, has_better, has_worker, inl, inr, is_full, is_ready, issue, issued_at, lane_after, level_by, levels_from, listed, live_of, looks, may_issue, one_task, one_waits, refl, retired, run_end, spans_from, suc, take, true, two_tallies, waits_for, zero, ℕ, ◌<◌, ◌∙◌, ◌∷◌, ◌≡◌, ◌≤◌, ◌⊎◌}
 
 over : TaskState → Bool
 over (Ended e n) = true

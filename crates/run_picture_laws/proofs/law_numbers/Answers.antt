@@ -1,6 +1,4 @@
-use Rattle.std.proofs.Common.{◌≡◌, ℕ, ◌+◌, ◌-◌, ◌^◌, ◌<◌, get_or, length, replicate, take, suc, min, arith, ap, ◌∙◌}
-use Rattle.std.proofs.lemmas.List.{length-replicate, get_or-replicate}
-use Rattle.run_picture_laws.specs.Numbers.{turns_taken, turns_by}
+use Rattle.run_picture_laws.proofs.Names.{ap, arith, get_or, get_or-replicate, length, length-replicate, min, replicate, suc, take, turns_by, turns_taken, ℕ, ◌+◌, ◌-◌, ◌<◌, ◌^◌, ◌∙◌, ◌≡◌}
 use Rattle.run_picture_laws.proofs.Numbers.{marked, numbered, shared, from_none}
 use Rattle.run_picture_laws.proofs.Longest.{longest_shown}
 use Rattle.run_picture_laws.proofs.law_numbers.Goals as goal
