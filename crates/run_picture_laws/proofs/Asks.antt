@@ -1,5 +1,5 @@
 -- The number of a lane of a mutex is the greatest wait of the entries that ask for the mutex.
-use Rattle.run_picture_laws.proofs.Names.{Answers, Bool, IsGreatest, IsNext, IsPicture, Legal, Legal-rest, LegalFrom, List, Listed, Lock, Locks, Move, MrapiStatus, MtapiStatus, Mutex, MutexLane, MutexSeen, NodeEntry, None, Op, Option, Picture, Reply, Some, State, Task, Terms, [], after, after-one, after_from, answered, ap, append_assoc, arith, asks_for, cond, false, first_of, get_or, holds, is_owner, lane_seen, lanes_after, lanes_with, length, length-map, live_object, lock_of, locks_after, map, max, most_lanes, mutex_named, mutex_seen, nat_lt, new_lane, next, no_locks, opening, option_map, refl, rest_of, seats_of, slice_get, slice_get-map, slice_get_within, subst, suc, sym, take, taken, tally_verdict, true, waited, waits_for, zero, ℕ, ◌&&◌, ◌++◌, ◌+◌, ◌<◌, ◌==◌, ◌∙◌, ◌∷◌, ◌≡◌, ◌≤◌}
+use Rattle.run_picture_laws.proofs.Names.{Answers, Bool, IsGreatest, IsNext, IsPicture, Legal, Legal-rest, LegalFrom, List, Listed, Lock, Locks, Move, MrapiStatus, MtapiStatus, Mutex, MutexLane, MutexSeen, NodeEntry, None, Op, Option, Picture, Reply, Some, State, Task, Terms, [], after, after-one, after_from, answered, ap, append_assoc, arith, asks_for, cond, false, first_of, get_or, holds, is_owner, lane_seen, lanes_after, lanes_with, length, length-map, live_object, lock_of, locks_after, map, max, most_lanes, mutex_named, mutex_seen, nat_lt, nat_tests, new_lane, next, no_locks, opening, option_map, refl, rest_of, seats_of, slice_get, slice_get-map, slice_get_within, subst, suc, sym, take, taken, tally_verdict, true, waited, waits_for, zero, ℕ, ◌&&◌, ◌++◌, ◌+◌, ◌<◌, ◌==◌, ◌∙◌, ◌∷◌, ◌≡◌, ◌≤◌}
 use Rattle.mtapi_machine.specs.declared.ops.Op.TheVariants as op
 use Rattle.mtapi_machine.specs.declared.replies.Reply.TheVariants as reply
 use Rattle.mtapi_machine.specs.Answers as is
@@ -44,10 +44,7 @@ module _ (s : State) (who : ℕ) (named : Option ℕ) (r : Listed Mutex) where
   agree _ _ _ k (is.unlocks_mutex h key x g) = freed h.0 (key == 1)
   agree _ _ _ k (is.lock_early t x g z) = ap (λ x. calls x (mutex_seen r)) (asks_nothing named t reply.Pending refl)
   agree _ _ _ k (is.lock_fails t x c g z f) = ap (λ x. calls x (mutex_seen r)) (asks_nothing named t (reply.Asked false) refl)
-  agree _ _ _ k (is.lock_got t x y a b g z f) =
-      let id : mutex_named x.args ≡ Some y.mutex = args_named x.args y f.names in
-      ap (λ z. calls (lock_of z (op.TallyLock t) (reply.Asked true)) (mutex_seen r)) (sym (k t.0 x g.found g.runs) ∙ id)
-      ∙ ap (λ z. r.live && z) (tally_agrees t.0 x y.mutex g.found id)
+  agree _ _ _ k (is.lock_got t x y a b g z f) = grind (arith, nat_tests, mutex_named, args_named, lock_of, mutex_seen, tally_agrees)
   agree _ _ _ k (is.tally_ends_failed t x g e) = ap (λ x. calls x (mutex_seen r)) (ends_all named t x.notes.tally.verdict)
   agree _ _ _ k (is.tally_ends t x y z g e d f h) = ap (λ x. calls x (mutex_seen r)) (ends_all named t (tally_verdict x))
   agree _ _ _ k _ = refl

@@ -1,5 +1,5 @@
 -- What a row has at one place of the journal.
-use Rattle.run_picture_laws.proofs.Names.{Bar, BarEnd, Bool, EachRunHasOneBar, IsPicture, List, NodeEntry, None, Option, Picture, Running, Some, Work, [], ap, append-nil, append_assoc, arith, bar_by, bar_of, bar_of_run, bar_to, bars_from, bars_left, begins_at, begun_by, cases_eq, cases_lt, cond, end_by, eq-eqb, eqb-false, eqb-true, false, filter, filter-append, get_or, get_or-replicate, get_or-set_other, get_or-set_same, get_or_past, inl, inr, length, length-replicate, length-set, ne_eqb, none_running, refl, replicate, run_end, running_by, slice_set, subst, suc, sym, true, work_of, zero, ℕ, ◌&&◌, ◌++◌, ◌+◌, ◌<◌, ◌==◌, ◌∙◌, ◌∷◌, ◌≡◌, ◌≤◌, ◌⊎◌}
+use Rattle.run_picture_laws.proofs.Names.{Bar, BarEnd, Bool, EachRunHasOneBar, IsPicture, List, NodeEntry, None, Option, Picture, Running, Some, Work, [], ap, append-nil, append_assoc, arith, bar_by, bar_of, bar_of_run, bar_to, bars_from, bars_left, begins_at, begun_by, cases_eq, cases_lt, cond, end_by, eq-eqb, eqb-false, eqb-true, false, filter, filter-append, get_or, get_or-replicate, get_or-set_other, get_or-set_same, get_or_past, inl, inr, length, length-replicate, length-set, nat_tests, ne_eqb, none_running, refl, replicate, run_end, running_by, slice_set, subst, suc, sym, true, work_of, zero, ℕ, ◌&&◌, ◌++◌, ◌+◌, ◌<◌, ◌==◌, ◌∙◌, ◌∷◌, ◌≡◌, ◌≤◌, ◌⊎◌}
 use Rattle.run_picture.specs.declared.shapes.BarEnd.TheVariants as barend
 use Rattle.run_picture.specs.declared.rows.Work.TheVariants as work
 
@@ -17,11 +17,7 @@ length_by who at work.Nothing rs = refl
 
 -- what a set leaves at its place: the new one, or nothing where there is no such place
 pub set_at : (P : Option Running → Type 0) (rs : List (Option Running)) (w : ℕ) (o : Option Running) → (w < length rs → P o) → P None → P (get_or (slice_set rs w o) w None)
-set_at P rs w o f g = by_room (cases_lt w (length rs))
-  where
-    by_room : (w < length rs) ⊎ (length rs ≤ w) → P (get_or (slice_set rs w o) w None)
-    by_room (inl l) = subst P (sym (get_or-set_same rs w o None l)) (f l)
-    by_room (inr l) = let m = length-set rs w o in subst P (sym (get_or_past (slice_set rs w o) w None (omega arith))) g
+set_at P rs w o e1 e2 = grind (arith, nat_tests, cases_lt, get_or-set_same, length-set, get_or_past)
 
 -- the bars of one row that pass a test, which tells from a run whether its bar passes, where it ends at n or later; a run that begins at n or later doesn't pass
 module _ (w seats : ℕ) (test : Running → Bool) (t : Bar → Bool) (n : ℕ) (fits : (to : ℕ) (end : BarEnd) (r : Running) → n ≤ to → t (bar_to w to end r) ≡ test r) (late : (r : Running) → w < seats → n ≤ r.from → test r ≡ false) where
@@ -44,26 +40,16 @@ module _ (w seats : ℕ) (test : Running → Bool) (t : Bar → Bool) (n : ℕ) 
   past : (v at : ℕ) (rs : List (Option Running)) → w < v → filter passes (bars_left v at rs) ≡ []
   unfolding bars_left
   past v at [] l = refl
-  past v at (r ∷ rs) l =
-      filter-append passes (bar_of v at barend.Open r) (bars_left (v + 1) at rs)
-      ∙ (λ i. other v at barend.Open r (ne_eqb v w (λ e. omega arith)) i ++ past (v + 1) at rs (omega arith) i)
+  past v at (r ∷ rs) l = grind (arith, nat_tests, past (v + 1) at rs, filter-append, bar_of, bars_left, other, ne_eqb)
 
   left : (k v at : ℕ) (rs : List (Option Running)) → w ≡ v + k → n ≤ at → filter passes (bars_left v at rs) ≡ shown at barend.Open (get_or rs k None)
   unfolding bars_left
   left k v at [] e l = refl
-  left zero v at (r ∷ rs) e l =
-      let same : v ≡ w = omega arith in
-      filter-append passes (bar_of v at barend.Open r) (bars_left (v + 1) at rs)
-      ∙ ((λ i. filter passes (bar_of (same i) at barend.Open r) ++ past (v + 1) at rs (omega arith) i)
-      ∙ (append-nil (filter passes (bar_of w at barend.Open r)) ∙ own at barend.Open r l))
-  left (suc k) v at (r ∷ rs) e l =
-      filter-append passes (bar_of v at barend.Open r) (bars_left (v + 1) at rs)
-      ∙ (λ i. other v at barend.Open r (ne_eqb v w (λ d. omega arith)) i ++ left k (v + 1) at rs (omega arith) l i)
+  left zero v at (r ∷ rs) e l = grind (arith, nat_tests, filter-append, bar_of, bars_left, past, append-nil)
+  left (suc k) v at (r ∷ rs) e l = grind (arith, nat_tests, left k (v + 1) at rs, filter-append, bar_of, bars_left, other, ne_eqb)
 
   other_by : (who at : ℕ) (x : Work) (o : Option Running) → (who == w) ≡ false → filter passes (bar_by who at x o) ≡ []
-  other_by who at (work.Begins t k) o e = other who at barend.Open o e
-  other_by who at (work.Ends end) o e = other who at end o e
-  other_by who at work.Nothing o e = refl
+  other_by who at x o e1 = grind (arith, nat_tests)
 
   abbrev Rest : ℕ × BarEnd → ℕ → List NodeEntry → Type 0
   Rest later at es = (rs : List (Option Running)) → length rs ≤ seats → filter passes (bars_from at rs es) ≡ shown later.0 later.1 (get_or rs w None)
@@ -73,13 +59,8 @@ module _ (w seats : ℕ) (test : Running → Bool) (t : Bar → Bool) (n : ℕ) 
 
   by_work : (later : ℕ × BarEnd) (at : ℕ) (rs : List (Option Running)) (es : List NodeEntry) → length rs ≤ seats → n ≤ at → Rest later (at + 1) es → (x : Work) →
       filter passes (bar_by w at x (get_or rs w None)) ++ filter passes (bars_from (at + 1) (running_by w at x rs) es) ≡ shown (end_by at x later).0 (end_by at x later).1 (get_or rs w None)
-  by_work later at rs es m l rest (work.Begins h k) =
-      let new : Running = record { from = at; task = h; kind = k } in
-      let size = length-set rs w (Some new) in
-      (λ i. own at barend.Open (get_or rs w None) l i ++ (rest (slice_set rs w (Some new)) (omega arith) ∙ gone later rs (Some new) (λ j. ap (λ c. cond c (bar_to w later.0 later.1 new ∷ []) []) (late new (omega arith) l))) i) ∙ append-nil _
-  by_work later at rs es m l rest (work.Ends end) =
-      let size = length-set rs w None in
-      (λ i. own at end (get_or rs w None) l i ++ (rest (slice_set rs w None) (omega arith) ∙ gone later rs None (λ j. refl)) i) ∙ append-nil _
+  by_work later at rs es m l rest (work.Begins h k) = grind (arith, nat_tests, length-set, own, rest, gone, bar_to)
+  by_work later at rs es m l rest (work.Ends end) = grind (arith, nat_tests, length-set, own, rest, gone, append-nil)
   by_work later at rs es m l rest work.Nothing = rest rs m
 
   by_seat : (later : ℕ × BarEnd) (at : ℕ) (rs : List (Option Running)) (es : List NodeEntry) → length rs ≤ seats → n ≤ at → Rest later (at + 1) es → (who : ℕ) (x : Work) (b : Bool) → (who == w) ≡ b →
@@ -136,11 +117,7 @@ began_more : (at : ℕ) (rs : List (Option Running)) → Began at rs → Began (
 began_more at rs b v r e = let l = b v r e in omega arith
 
 from_some : (at h : ℕ) (k : _) (r : Running) → Some (record { from = at; task = h; kind = k }) ≡ Some r → r.from < at + 1
-from_some at h k r e = let same : at ≡ r.from = ap (λ (o : Option Running). from_of o) e in omega arith
-  where
-    from_of : Option Running → ℕ
-    from_of None = 0
-    from_of (Some r) = r.from
+from_some at h k r e1 = grind (arith, nat_tests)
 
 pub began_by : (who at : ℕ) (x : Work) (rs : List (Option Running)) → Began at rs → Began (at + 1) (running_by who at x rs)
 began_by who at (work.Begins t k) rs b = began_set (at + 1) who _ rs (λ r e. from_some at t k r e) (began_more at rs b)
@@ -204,30 +181,19 @@ module _ (w n seats : ℕ) where
   here = shown w seats test t (n + 1) (λ to end r l. refl) begun_late
 
   old_shown : (to : ℕ) (end : BarEnd) (o : Option Running) → ((r : Running) → o ≡ Some r → r.from < n) → here to end o ≡ []
-  old_shown to end None b = refl
-  old_shown to end (Some r) b = ap (λ c. cond c (bar_to w to end r ∷ []) []) (ne_eqb r.from n (λ e. let l = b r refl in omega arith))
+  old_shown to end o e1 = grind (arith, nat_tests)
 
   old_of : (who to : ℕ) (end : BarEnd) (o : Option Running) → ((r : Running) → o ≡ Some r → r.from < n) → filter (begins_at w n) (bar_of who to end o) ≡ []
-  old_of who to end None b = refl
-  old_of who to end (Some r) b = by_row (who == w)
-    where
-      by_row : (c : Bool) → cond (c && (r.from == n)) (bar_to who to end r ∷ []) [] ≡ []
-      by_row true = ap (λ c. cond c (bar_to who to end r ∷ []) []) (ne_eqb r.from n (λ e. let l = b r refl in omega arith))
-      by_row false = refl
+  old_of who to end o e1 = grind (arith, nat_tests)
 
   old_by : (who at : ℕ) (x : Work) (o : Option Running) → ((r : Running) → o ≡ Some r → r.from < n) → filter (begins_at w n) (bar_by who at x o) ≡ []
-  old_by who at (work.Begins h k) o b = old_of who at barend.Open o b
-  old_by who at (work.Ends end) o b = old_of who at end o b
-  old_by who at work.Nothing o b = refl
+  old_by who at x o e1 = grind (arith, nat_tests)
 
   rest : (rs : List (Option Running)) (B : List NodeEntry) → length rs ≤ seats → filter (begins_at w n) (bars_from (n + 1) rs B) ≡ here (run_end w (n + 1) B).0 (run_end w (n + 1) B).1 (get_or rs w None)
   rest rs B m = from_here w seats test t (n + 1) (λ to end r l. refl) begun_late (n + 1) rs B m (omega arith)
 
   new_shown : (rs : List (Option Running)) (x : Work) (B : List NodeEntry) → w < length rs → Began n rs → here (run_end w (n + 1) B).0 (run_end w (n + 1) B).1 (get_or (running_by w n x rs) w None) ≡ bar_of_run w n x B
-  new_shown rs (work.Begins h k) B l b =
-      ap (here (run_end w (n + 1) B).0 (run_end w (n + 1) B).1) (get_or-set_same rs w _ None l) ∙ ap (λ c. cond c (bar_to w (run_end w (n + 1) B).0 (run_end w (n + 1) B).1 (record { from = n; task = h; kind = k }) ∷ []) []) (eq-eqb n n refl)
-  new_shown rs (work.Ends end) B l b = ap (here (run_end w (n + 1) B).0 (run_end w (n + 1) B).1) (get_or-set_same rs w _ None l)
-  new_shown rs work.Nothing B l b = old_shown _ _ (get_or rs w None) (b w)
+  new_shown rs x B e1 e2 = grind (arith, nat_tests, run_end, get_or-set_same, bar_to, eq-eqb, old_shown)
 
   at_entry : (rs : List (Option Running)) (e : NodeEntry) (B : List NodeEntry) → length rs ≤ seats → w < length rs → Began n rs → filter (begins_at w n) (bars_from n rs (e ∷ B)) ≡ begun_by w n e B
   unfolding bars_from
@@ -246,11 +212,7 @@ module _ (w n seats : ℕ) where
           ∙ old_shown _ _ (get_or rs w None) (b w)
 
   ended_early : (who to : ℕ) (end : BarEnd) (r : Running) → to < n + 1 → r.from < to → begins_at w n (bar_to who to end r) ≡ false
-  ended_early who to end r l m = by_row (who == w)
-    where
-      by_row : (c : Bool) → (c && (r.from == n)) ≡ false
-      by_row true = ne_eqb r.from n (λ e. omega arith)
-      by_row false = refl
+  ended_early who to end r e1 e2 = grind (arith, nat_tests)
 
 pub size_after : (at : ℕ) (rs : List (Option Running)) (A : List NodeEntry) → length (running_after at rs A) ≡ length rs
 unfolding running_after

@@ -1,5 +1,5 @@
 -- What an entry does to the mutexes, beside what the picture reads in it.
-use Rattle.run_picture_laws.proofs.Names.{Adds, Allows, Answers, AtMostOne, Bool, FoundAs, List, Listed, Lock, Move, MrapiStatus, MtapiStatus, Mutex, None, On, OnceIn, Op, Option, Owns, Reply, Some, State, Task, TaskHandle, Tied, Ties, [], after_moves, after_row, answered, ap, arith, as_on, at-update, change, cond, eqb-true, every_at, false, first_at, first_false, fresh_unlisted, gone, has_both, id_in, is_other, is_seat, is_some, issue, listed, live_object, lock_of, locked_by, mutex_named, nat_lt, nat_tests, new_mutex, not, not_false, one_passes, pos, refl, row, runs_as, runs_on, second_false, subst, sym, tally_args, tally_has, tally_verdict, true, true_false, unlocked, with_fields, with_notes, with_tally, workers, ℕ, ℤ, ◌&&◌, ◌==◌, ◌||◌, ◌∙◌, ◌∷◌, ◌≡◌}
+use Rattle.run_picture_laws.proofs.Names.{Adds, Allows, Answers, AtMostOne, Bool, FoundAs, List, Listed, Lock, Move, MrapiStatus, MtapiStatus, Mutex, None, On, OnceIn, Op, Option, Owns, Reply, Some, State, Task, TaskHandle, Tied, Ties, [], after_moves, after_row, answered, ap, arith, as_on, at-update, change, cond, eqb-true, every_at, false, first_at, fresh_unlisted, gone, has_both, id_in, is_other, is_seat, is_some, issue, listed, live_object, lock_of, locked_by, mutex_named, nat_lt, nat_tests, new_mutex, not, not_false, one_passes, pos, refl, row, runs_as, runs_on, second_false, subst, sym, tally_args, tally_has, tally_verdict, true, true_false, unlocked, with_fields, with_notes, with_tally, workers, ℕ, ℤ, ◌&&◌, ◌==◌, ◌||◌, ◌∙◌, ◌∷◌, ◌≡◌}
 use Rattle.mtapi_values.specs.declared.kinds.Kind.TheVariants as kinds
 use Rattle.mtapi_values.specs.declared.handles.ObjectKind.TheVariants as kind
 use Rattle.mtapi_machine.specs.declared.ops.Op.TheVariants as op
@@ -64,10 +64,7 @@ ends_nothing (Some id) t _ f = refl
 
 -- at an end a tally that hasn't failed has both
 ending_has : (k : ℕ) (b : Bool) → (nat_lt k 2 || b) ≡ false → (k == 4) ≡ false → (not (k == 0) && not (k == 4)) ≡ true
-ending_has k b e d =
-    let a : nat_lt k 2 ≡ false = first_false (nat_lt k 2) b e in
-    let z : (k == 0) ≡ false = grind (arith, nat_tests) in
-    (λ i. not (z i) && not (d i))
+ending_has k b e1 e2 = grind (arith, nat_tests)
 
 exact : (key depth : ℕ) → ((key == 0) || nat_lt depth key) ≡ false → nat_lt key depth ≡ false → depth ≡ key
 exact key depth e f = let b : nat_lt depth key ≡ false = second_false (key == 0) (nat_lt depth key) e in grind (arith, nat_tests)
@@ -78,26 +75,17 @@ module _ (n who : ℕ) (s : State) (named : Option ℕ) where
 
   -- a refusal tells of no mutex
   refused_quiet : (o : Op) (c : MtapiStatus) → is_quiet (lock_of named o (reply.Mtapi c)) ≡ true
-  refused_quiet (op.TallyLock t) c = ap is_quiet (asks_nothing named t (reply.Mtapi c) refl)
-  refused_quiet (op.TallyEnd t) c = ap is_quiet (ends_nothing named t (reply.Mtapi c) refl)
-  refused_quiet _ c = refl
+  refused_quiet o c = grind (arith, nat_tests)
 
   caller_quiet : (o : Op) (c : MrapiStatus) → is_quiet (lock_of named o (reply.Mrapi c)) ≡ true
-  caller_quiet (op.TallyLock t) c = ap is_quiet (asks_nothing named t (reply.Mrapi c) refl)
-  caller_quiet (op.TallyEnd t) c = ap is_quiet (ends_nothing named t (reply.Mrapi c) refl)
-  caller_quiet _ c = refl
+  caller_quiet o c = grind (arith, nat_tests)
 
   locks_named : (t : TaskHandle) (id : ℕ) → named ≡ Some id → lock_of named (op.TallyLock t) (reply.Asked true) ≡ lock.TallyTakes id
   locks_named t id e = ap (λ o. lock_of o (op.TallyLock t) (reply.Asked true)) e
 
   -- a tally that has failed has none
   none_has : (t : TaskHandle) (x : Task) → AtMostOne who s → live_object s.tasks t.0 ≡ Some x → runs_as who kinds.Tally x ≡ true → (x.notes.tally.stage == 4) ≡ true → (h i : ℕ) → FoundAs (On who h) s.tasks i → ⊥
-  none_has t x one e k f h i u =
-      let same : u.0 ≡ x = one_passes (runs_on who) s.tasks i t.0 u.0 x one u.1 e (as_on who u.0.state u.2.runs) (as_on who x.state k) in
-      true_false (ap (λ (z : Task). has_both z.notes.tally) (sym same) ∙ u.2.both) (fails x.notes.tally.stage f)
-    where
-      fails : (j : ℕ) → (j == 4) ≡ true → (not (j == 0) && not (j == 4)) ≡ false
-      fails j e = ap (λ (z : ℕ). not (z == 0) && not (z == 4)) (eqb-true j 4 e)
+  none_has t x e1 e2 e3 e4 h i e5 = grind (arith, nat_tests, one_passes, runs_on, as_on, true_false, has_both, eqb-true)
 
   module _ (w : workers s ≡ n) where
     inside : nat_lt who (workers s) ≡ true → nat_lt who n ≡ true

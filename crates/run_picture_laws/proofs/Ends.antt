@@ -1,10 +1,9 @@
 -- A bar shows how its task ended.
-use Rattle.run_picture_laws.proofs.Names.{ActEnd, Answers, Bar, BarEnd, BarsShowEnds, Bool, EndsSo, IsNext, IsPicture, Legal, Legal-prefix, Legal-rest, LegalFrom, List, Listed, Move, MrapiStatus, MtapiStatus, NodeEntry, None, Op, Option, Picture, Reply, Running, Some, State, Task, TaskEnd, TaskState, Terms, Work, [], after, answer_shown, answered, any_listed, ap, append_assoc, arith, bar_to, bars_from, bars_over, cond, count_listed, end_at, end_by, end_shown, eq-eqb, false, found_count, get_or, holds, length, live_object, live_of, nat_tests, none_count, none_running, opening, picks, refl, run_end, runner, runs_on, seats_of, subst, sym, task_end, tells, tells_its_end, terms_stay, true, work_of, ℕ, ◌++◌, ◌+◌, ◌<◌, ◌==◌, ◌∙◌, ◌∷◌, ◌≡◌, ◌≤◌}
+use Rattle.run_picture_laws.proofs.Names.{ActEnd, Answers, Bar, BarEnd, BarsShowEnds, Bool, EndsSo, IsNext, IsPicture, Legal, Legal-prefix, Legal-rest, LegalFrom, List, Listed, Move, MrapiStatus, MtapiStatus, NodeEntry, None, Op, Option, Picture, Reply, Running, Some, State, Task, TaskEnd, TaskState, Terms, Work, [], after, answer_shown, answered, any_listed, ap, append_assoc, arith, bar_to, bars_from, bars_over, cond, count_listed, end_at, end_by, end_shown, eq-eqb, false, found_count, get_or, holds, length, live_object, live_of, nat_tests, none_count, none_running, opening, refl, run_end, runner, runs_on, seats_of, subst, sym, task_end, tells, tells_its_end, terms_stay, true, work_of, ℕ, ◌++◌, ◌+◌, ◌<◌, ◌==◌, ◌∙◌, ◌∷◌, ◌≡◌, ◌≤◌}
 use Rattle.mtapi_machine.specs.declared.ops.Op.TheVariants as op
 use Rattle.mtapi_values.specs.declared.kinds.Kind.TheVariants as kinds
 use Rattle.action_fn.specs.declared.finished.ActEnd.TheVariants as act
 use Rattle.mtapi_machine.specs.Answers as is
-use Rattle.mtapi_objects.specs.Tasks.{Running as runs}
 use Rattle.mtapi_machine.specs.declared.replies.Reply.TheVariants as reply
 use Rattle.run_picture.specs.declared.rows.Work.TheVariants as work
 use Rattle.run_picture_laws.proofs.Bars.{running_after}

@@ -1,5 +1,5 @@
 -- The lanes of mutexes show the machine's mutexes, along every legal list.
-use Rattle.run_picture_laws.proofs.Names.{Answers, FoundAs, Good, HasId, HasTask, IsNext, IsPicture, Kind, LanesAreMutexes, Legal, Legal-prefix, Legal-rest, LegalFrom, List, Lock, Locks, Move, MutexLane, MutexSeen, NodeEntry, None, On, OnAt, Op, Option, Picture, Reply, Running, Some, State, Task, TaskEnd, TaskHandle, TaskState, Terms, [], after, after-one, after_from, after_moves, answered, ap, append-nil, append_assoc, arith, as_on, by_made_moves, cases_lt, cond, count_listed, eq-eqb, eqb-true, false, first_of, found_count, get_or, good_next, good_opening, holds, ids_move, inl, inr, is_tally_end, kind_number, lane_seen, lanes_after, lanes_with, le-ltb, length, length-map, length-take-le, lock_by, lock_of, locks_after, lt-ltb, map, map-append, most_lanes, mutex_lanes_from, mutex_named, mutex_seen, named_by, nat_lt, new_lane, next, no_locks, on_move, one_passes, one_runner, opening, refl, replicate, rest_of, runner, runs_as, runs_on, same_found, same_kind, seats_of, snd_true, subst, sym, take, take-append-le, take-map, take_all, tally_mutex, tally_verdict, terms_stay, true, whether, ℕ, ◌&&◌, ◌++◌, ◌+◌, ◌<◌, ◌==◌, ◌∙◌, ◌∷◌, ◌≡◌, ◌≤◌, ◌⊎◌}
+use Rattle.run_picture_laws.proofs.Names.{Answers, FoundAs, Good, HasId, HasTask, IsNext, IsPicture, Kind, LanesAreMutexes, Legal, Legal-prefix, Legal-rest, LegalFrom, List, Lock, Locks, Move, MutexLane, MutexSeen, NodeEntry, None, On, OnAt, Op, Option, Picture, Reply, Running, Some, State, Task, TaskEnd, TaskHandle, TaskState, Terms, [], after, after-one, after_from, after_moves, answered, ap, append-nil, append_assoc, arith, as_on, by_made_moves, cases_lt, cond, count_listed, eq-eqb, eqb-true, false, first_of, found_count, get_or, good_next, good_opening, holds, ids_move, inl, inr, is_tally_end, kind_number, lane_seen, lanes_after, lanes_with, le-ltb, length, length-map, length-take-le, lock_by, lock_of, locks_after, lt-ltb, map, map-append, most_lanes, mutex_lanes_from, mutex_named, mutex_seen, named_by, nat_lt, nat_tests, new_lane, next, no_locks, on_move, one_passes, one_runner, opening, refl, replicate, rest_of, runner, runs_as, runs_on, same_found, same_kind, seats_of, snd_true, subst, sym, take, take-append-le, take-map, take_all, tally_mutex, tally_verdict, terms_stay, true, ℕ, ◌&&◌, ◌++◌, ◌+◌, ◌<◌, ◌==◌, ◌∙◌, ◌∷◌, ◌≡◌, ◌≤◌, ◌⊎◌}
 use Rattle.mtapi_values.specs.declared.kinds.Kind.TheVariants as kinds
 use Rattle.mtapi_machine.specs.declared.ops.Op.TheVariants as op
 use Rattle.mtapi_machine.specs.declared.replies.Reply.TheVariants as reply
@@ -16,10 +16,7 @@ use Rattle.run_picture_laws.proofs.Seen.{seen_after, seen_made, lane_step, Each,
 module _ (s : State) (who w h j : ℕ) (named : Option ℕ) (v : FoundAs (On w h) s.tasks j) where
   -- what ends a tally runs on the seat
   ends_apart : (t : TaskHandle) (x : Task) (e : TaskEnd) {A : Type 0} → HasTask s who t.0 x kinds.Tally → (lock_of named (op.TallyEnd t) (reply.Ended e) ≡ lock.TallyFrees → w ≡ who → ⊥) → ((t.0 == j) ≡ false → A) → A
-  ends_apart t x e k c f = whether (t.0 == j)
-      (λ i.
-      let same : x ≡ v.0 = same_found s t.0 j (eqb-true t.0 j i) x v.0 k.found v.1 in
-      absurd (c (ends_all named t e) (one_runner w who v.0 (as_on w v.0.state v.2.runs) (subst (λ (z : Task). runs_on who z ≡ true) same (as_on who x.state k.runs))))) f
+  ends_apart t x e k c f = grind (arith, nat_tests, same_found, eqb-true, ends_all, one_runner, as_on)
 
   stays_on : (o : Op) (r : Reply) (ms : List Move) → Answers s who o r ms → (lock_of named o r ≡ lock.TallyFrees → w ≡ who → ⊥) → (is_tally_end j o ≡ false → FoundAs (On w h) (after_moves ms s).tasks j) → FoundAs (On w h) (after_moves ms s).tasks j
   stays_on _ _ _ (is.refuses o x e) c f = v

@@ -1,5 +1,5 @@
 -- The level over a place is the count of the lane there.
-use Rattle.run_picture_laws.proofs.Names.{Bool, Change, Counts, EachCounts, IsPicture, Legal, Legal-prefix, Level, LevelsCount, List, Listed, NodeEntry, None, Option, Picture, Queue, QueueLane, QueueSeen, Some, State, Terms, Wait, Waiting, [], after, ap, append-nil, arith, change_by, changed, cond, ends_unnamed, eq-eqb, false, filter, filter-append, flat_map, is_changed, lane_after, lanes_by, last_count, le-ltb, length, level_by, level_over, levels_by, levels_from, lt-ltb, map, most_lanes, nat_lt, ne_eqb, none_waits, option_map, queue_lanes_from, queue_nth, queue_seen, refl, seats_of, some_entry, subst, suc, sym, take, true, wait_of, waiting_by, zero, ℕ, ◌&&◌, ◌++◌, ◌+◌, ◌<◌, ◌==◌, ◌^◌, ◌∙◌, ◌∷◌, ◌≡◌, ◌≤◌}
+use Rattle.run_picture_laws.proofs.Names.{Bool, Change, Counts, EachCounts, IsPicture, Legal, Legal-prefix, Level, LevelsCount, List, Listed, NodeEntry, None, Option, Picture, Queue, QueueLane, QueueSeen, Some, State, Terms, Wait, Waiting, [], after, ap, append-nil, arith, change_by, changed, cond, ends_unnamed, eq-eqb, false, filter, filter-append, flat_map, is_changed, lane_after, lanes_by, last_count, le-ltb, length, level_by, level_over, levels_by, levels_from, lt-ltb, map, most_lanes, nat_lt, nat_tests, ne_eqb, none_waits, option_map, queue_lanes_from, queue_nth, queue_seen, refl, seats_of, some_entry, subst, suc, sym, take, true, wait_of, waiting_by, zero, ℕ, ◌&&◌, ◌++◌, ◌+◌, ◌<◌, ◌==◌, ◌^◌, ◌∙◌, ◌∷◌, ◌≡◌, ◌≤◌}
 use Rattle.run_picture.specs.declared.waits.Wait.TheVariants as wait
 use Rattle.run_picture.specs.declared.waits.Change.TheVariants as change
 use Rattle.run_picture.specs.Waits.{new_lane, lanes_with}
@@ -109,9 +109,7 @@ module _ (i n : ℕ) where
 
   past_levels : (at k : ℕ) (c : Change) (ls : List QueueLane) → i < k → Numbered k ls → filter passes (flat_map (level_by at c) ls) ≡ []
   past_levels at k c [] m a = refl
-  past_levels at k c (l ∷ ls) m a =
-      filter-append passes (level_by at c l) (flat_map (level_by at c) ls)
-      ∙ (λ j. other_level at c l (ap (λ (z : Bool). z && nat_lt at n) (ne_eqb l.lane i (λ e. let o = a.0 in omega arith))) j ++ past_levels at (k + 1) c ls (omega arith) a.1 j)
+  past_levels at k c (l ∷ ls) m a = grind (arith, nat_tests, past_levels at (k + 1) c ls, filter-append, level_by, flat_map, other_level, nat_lt)
 
   -- the levels of an entry
   entry_levels : (at k j : ℕ) (c : Change) (ls : List QueueLane) → i ≡ k + j → at < n → Numbered k ls → last_count (lane_count (lane_nth j ls)) (filter passes (flat_map (level_by at c) ls)) ≡ lane_count (option_map (lane_after c) (lane_nth j ls))

@@ -1,7 +1,6 @@
 -- The number of a lane of a queue is the greatest of its levels.
-use Rattle.run_picture_laws.proofs.Names.{Bool, Change, IsGreatest, IsPicture, Level, List, NodeEntry, None, Option, Picture, QueueLane, Some, Wait, Waiting, [], ap, append-nil, arith, change_by, changed, cond, counts_of, eq-eqb, false, filter, filter-append, flat_map, is_changed, lane_after, lanes_by, length, level_by, levels_by, levels_from, map, map-append, most_lanes, nat_lt, ne_eqb, none_waits, option_map, queue_lanes_from, refl, slice_get, slice_get-map, subst, suc, sym, true, wait_of, waiting_by, zero, ℕ, ◌++◌, ◌+◌, ◌<◌, ◌==◌, ◌∙◌, ◌∷◌, ◌≡◌}
+use Rattle.run_picture_laws.proofs.Names.{Bool, Change, IsGreatest, IsPicture, Level, List, NodeEntry, None, Option, Picture, QueueLane, Some, Wait, Waiting, [], ap, append-nil, arith, change_by, changed, cond, counts_of, eq-eqb, false, filter, filter-append, flat_map, is_changed, lane_after, lanes_by, length, level_by, levels_by, levels_from, map, map-append, most_lanes, nat_lt, nat_tests, ne_eqb, none_waits, option_map, queue_lanes_from, refl, slice_get, slice_get-map, subst, suc, sym, true, wait_of, waiting_by, zero, ℕ, ◌++◌, ◌+◌, ◌<◌, ◌==◌, ◌∙◌, ◌∷◌, ◌≡◌}
 use Rattle.run_picture.specs.declared.waits.Wait.TheVariants as wait
-use Rattle.run_picture.specs.declared.waits.Change.TheVariants as change
 use Rattle.run_picture.specs.Waits.{new_lane, lanes_with}
 use Rattle.run_picture_laws.proofs.Levels.{Numbered, numbered_map, numbered_with}
 use Rattle.run_picture_laws.proofs.Greatest.{top, top-append, top_greatest, with_lane}
@@ -16,16 +15,11 @@ count_in c None = []
 count_in c (Some l) = cond (is_changed c l) ((changed c l).count ∷ []) []
 
 changed_most : (c : Change) (l : QueueLane) (b : Bool) → is_changed c l ≡ b → top l.longest (cond b ((changed c l).count ∷ []) []) ≡ (cond b (changed c l) l).longest
-changed_most c l false e = refl
-changed_most (change.Longer q) l true e = refl
-changed_most (change.Shorter p) l true e = refl
-changed_most (change.Empties q d) l true e = omega arith
-changed_most change.Nothing l true e = absurd (cc)
+changed_most c l b e1 = grind (arith, nat_tests)
 
 lane_most : (c : Change) (o : Option QueueLane) → top (longest_in o) (count_in c o) ≡ longest_in (option_map (lane_after c) o)
 unfolding lane_after
-lane_most c None = refl
-lane_most c (Some l) = changed_most c l (is_changed c l) refl
+lane_most c o = grind (arith, nat_tests)
 
 longest_with : (i : ℕ) (x : Wait) (ls : List QueueLane) → longest_in (slice_get (lanes_with x ls) i) ≡ longest_in (slice_get ls i)
 longest_with i (wait.Makes q id retain) ls = with_lane longest_in i ls (new_lane (length ls) q id retain) (nat_lt (length ls) most_lanes) refl
@@ -37,19 +31,11 @@ module _ (i : ℕ) where
 
   level_count : (at : ℕ) (c : Change) (l : QueueLane) (b : Bool) → (l.lane == i) ≡ b → counts_of i (level_by at c l) ≡ cond b (count_in c (Some l)) []
   unfolding level_by
-  level_count at c l b e = by_change (is_changed c l) b e
-    where
-      by_change : (a b : Bool) → (l.lane == i) ≡ b → counts_of i (cond a (record { lane = l.lane; at = at; count = (changed c l).count } ∷ []) []) ≡ cond b (cond a ((changed c l).count ∷ []) []) []
-      by_change false true e = refl
-      by_change false false e = refl
-      by_change true true e = ap (λ z. map (λ (x : Level). x.count) (cond z (record { lane = l.lane; at = at; count = (changed c l).count } ∷ []) [])) e
-      by_change true false e = ap (λ z. map (λ (x : Level). x.count) (cond z (record { lane = l.lane; at = at; count = (changed c l).count } ∷ []) [])) e
+  level_count at c l b e1 = grind (arith, nat_tests)
 
   past_counts : (at k : ℕ) (c : Change) (ls : List QueueLane) → i < k → Numbered k ls → counts_of i (flat_map (level_by at c) ls) ≡ []
   past_counts at k c [] m a = refl
-  past_counts at k c (l ∷ ls) m a =
-      counts-append (level_by at c l) (flat_map (level_by at c) ls)
-      ∙ (λ y. level_count at c l false (ne_eqb l.lane i (λ e. let o = a.0 in omega arith)) y ++ past_counts at (k + 1) c ls (omega arith) a.1 y)
+  past_counts at k c (l ∷ ls) m a = grind (arith, nat_tests, past_counts at (k + 1) c ls, counts-append, level_by, flat_map, level_count, ne_eqb)
 
   -- the counts that an entry adds are those of the lane of this number
   entry_counts : (at k j : ℕ) (c : Change) (ls : List QueueLane) → i ≡ k + j → Numbered k ls → counts_of i (flat_map (level_by at c) ls) ≡ count_in c (slice_get ls j)

@@ -11,7 +11,7 @@ pub use Rattle.action_fn.specs.declared.finished.ActEnd.{ActEnd}
 pub use Rattle.byte_io.specs.Causes.{one_more}
 pub use Rattle.handle_pool.specs.Issued.{Listed, any_listed, count_listed, gone, how_many, live_object, with_fields}
 pub use Rattle.history_law.proofs.Ages.{live_listed}
-pub use Rattle.history_law.proofs.Answered.{first_false, none_first, second_false, true_false, whether}
+pub use Rattle.history_law.proofs.Answered.{none_first, second_false, true_false}
 pub use Rattle.history_law.proofs.OnceIssued.{listed_next, once_next, once_none}
 pub use Rattle.history_law.proofs.Others.{other_count, runs_over, runs_scheduled, same_found, terms_stay, work_stays}
 pub use Rattle.history_law.proofs.Reuse.{fresh_unlisted}
@@ -32,7 +32,7 @@ pub use Rattle.history_law.specs.Words.{some_entry}
 pub use Rattle.mtapi_machine.proofs.Answered.{answered}
 pub use Rattle.mtapi_machine.proofs.Changes.{at-update, some_same}
 pub use Rattle.mtapi_machine.proofs.Lists.{Legal-one, Legal-prefix, Legal-rest, after-one}
-pub use Rattle.mtapi_machine.proofs.Made.{both_true, found_holds, fst_true, not_false, not_true, snd_true}
+pub use Rattle.mtapi_machine.proofs.Made.{both_true, fst_true, not_false, not_true, snd_true}
 pub use Rattle.mtapi_machine.proofs.Moves.{by_moves, rest_keeps, sorts_keep}
 pub use Rattle.mtapi_machine.specs.Answers.{Answers, HasTask, tally_verdict}
 pub use Rattle.mtapi_machine.specs.Ends.{end_at}
@@ -52,7 +52,7 @@ pub use Rattle.mtapi_objects.specs.Actions.{Action}
 pub use Rattle.mtapi_objects.specs.Groups.{freed, in_no_group, is_member, let_go}
 pub use Rattle.mtapi_objects.specs.Mutexes.{Mutex, locked_by, new_mutex, unlocked}
 pub use Rattle.mtapi_objects.specs.Queues.{Queue, is_in, is_waiting_in, opened}
-pub use Rattle.mtapi_objects.specs.Tasks.{Adds, Ended, NewTask, Notes, Scheduled, Task, TaskState, cancel_requested, end_of, ended, is_unended, is_unstarted, kind_number, new_task, runner, runs_as, runs_on, scheduled, tally_args, tally_has, with_notes, with_state, with_tally}
+pub use Rattle.mtapi_objects.specs.Tasks.{Adds, Ended, NewTask, Notes, Task, TaskState, cancel_requested, end_of, ended, is_unended, is_unstarted, kind_number, new_task, runner, runs_as, runs_on, scheduled, tally_args, tally_has, with_notes, with_state, with_tally}
 pub use Rattle.mtapi_values.specs.Conditions.{holds}
 pub use Rattle.mtapi_values.specs.Seats.{is_other, is_seat}
 pub use Rattle.mtapi_values.specs.declared.ends.TaskEnd.{TaskEnd}

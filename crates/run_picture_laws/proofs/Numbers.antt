@@ -1,5 +1,5 @@
 -- The ticks, turns and shares of a list of entries, from any place on.
-use Rattle.run_picture_laws.proofs.Names.{Bool, List, NodeEntry, None, Option, Some, Tick, TickSort, TicksMarkEntries, [], ap, append-nil, arith, cases_eq, cond, eq-eqb, eqb, false, filter, filter-append, first_of, get_or, get_or-set_other, get_or-set_same, inl, inr, length, length-set, min, ne_eqb, refl, rest_of, shares_from, slice_set, sort_of, subst, suc, sym, take, tick_of, ticks_from, turned, turns_by, turns_from, turns_taken, zero, ℕ, ◌++◌, ◌+◌, ◌-◌, ◌<◌, ◌==◌, ◌^◌, ◌∙◌, ◌∷◌, ◌≡◌, ◌≤◌, ◌⊎◌}
+use Rattle.run_picture_laws.proofs.Names.{Bool, List, NodeEntry, None, Option, Some, Tick, TickSort, TicksMarkEntries, [], ap, append-nil, arith, cases_eq, cond, eq-eqb, eqb, false, filter, filter-append, first_of, get_or, get_or-set_other, get_or-set_same, inl, inr, length, length-set, min, nat_tests, ne_eqb, refl, rest_of, shares_from, slice_set, sort_of, subst, suc, sym, take, tick_of, ticks_from, turned, turns_by, turns_from, turns_taken, zero, ℕ, ◌++◌, ◌+◌, ◌-◌, ◌<◌, ◌==◌, ◌^◌, ◌∙◌, ◌∷◌, ◌≡◌, ◌≤◌, ◌⊎◌}
 
 -- ---- ticks
 
@@ -7,8 +7,7 @@ abbrev stands : ℕ → Tick → Bool
 stands k t = t.at == k
 
 elsewhere : (k who n : ℕ) (s : Option TickSort) → (n == k) ≡ false → filter (stands k) (tick_of who n s) ≡ []
-elsewhere k who n None h = refl
-elsewhere k who n (Some s) h = ap (λ c. cond c (record { row = who; at = n; sort = s } ∷ []) []) h
+elsewhere k who n s e1 = grind (arith, nat_tests)
 
 there : (k who n : ℕ) (s : Option TickSort) → n ≡ k → filter (stands k) (tick_of who n s) ≡ tick_of who k s
 there k who n None h = refl
@@ -78,9 +77,7 @@ module _ (who : ℕ) where
   next : (other n later : ℕ) (shares : List ℕ) → who < length shares → (other ≡ who) ⊎ (other ≡ who → ⊥)
       → min (get_or (slice_set shares other (turned (get_or shares other 0) n)) who 0 + later) (2 ^ 64 - 1)
       ≡ min (get_or shares who 0 + (cond (eqb other who) (n + 1) 0 + later)) (2 ^ 64 - 1)
-  next other n later shares l (inl h) =
-      ap (λ z. min (z + later) (2 ^ 64 - 1)) (own other n shares l h) ∙ counted (get_or shares who 0) n later
-      ∙ ap (λ c. min (get_or shares who 0 + (cond c (n + 1) 0 + later)) (2 ^ 64 - 1)) (sym (eq-eqb other who h))
+  next other n later shares l (inl h) = grind (arith, nat_tests, own, counted, eq-eqb)
   next other n later shares l (inr h) =
       ap (λ z. min (z + later) (2 ^ 64 - 1)) (foreign other n shares h) ∙ left_out (get_or shares who 0)
       ∙ ap (λ c. min (get_or shares who 0 + (cond c (n + 1) 0 + later)) (2 ^ 64 - 1)) (sym (ne_eqb other who h))

@@ -1,5 +1,5 @@
 -- The lanes of queues count the tasks that wait, along every legal list.
-use Rattle.run_picture_laws.proofs.Names.{Answers, Bool, Change, EachCounts, IsPicture, LanesAreQueues, Legal, LegalFrom, List, Listed, Move, MrapiStatus, MtapiStatus, NodeEntry, None, OnceIn, Op, Option, Picture, Place, Queue, QueueLane, QueueSeen, Queues, Reply, Some, State, Task, Terms, Wait, Waiting, [], after, after_from, after_moves, all_of, answered, ap, append-nil, arith, cases_lt, change, change_by, changed, cond, ends_unnamed, ends_unseen, eq-eqb, eqb-true, false, fresh_unlisted, gone, head_apart, holds, how_many, inl, inr, is_changed, is_fresh, issue, lane_after, lane_place, lanes_by, le-ltb, length, length-map, length-take-le, listed, listed_next, lt-ltb, map, map-append, most_lanes, nat_lt, ne_eqb, new_queue, next, none_first, none_waits, once_next, once_none, opened, opening, queue_lanes_from, queue_seen, record_of, refl, seats_of, snd_true, some_entry, subst, suc, sym, take, take-append-le, take_all, true, true_false, wait_of, waiting_by, with_fields, zero, ℕ, ◌&&◌, ◌++◌, ◌+◌, ◌<◌, ◌==◌, ◌^◌, ◌∙◌, ◌∷◌, ◌≡◌, ◌≤◌, ◌⊎◌}
+use Rattle.run_picture_laws.proofs.Names.{Answers, Bool, Change, EachCounts, IsPicture, LanesAreQueues, Legal, LegalFrom, List, Listed, Move, MrapiStatus, MtapiStatus, NodeEntry, None, OnceIn, Op, Option, Picture, Place, Queue, QueueLane, QueueSeen, Queues, Reply, Some, State, Task, Terms, Wait, Waiting, [], after, after_from, after_moves, all_of, answered, ap, append-nil, arith, cases_lt, change, change_by, changed, cond, ends_unnamed, ends_unseen, eq-eqb, eqb-true, false, fresh_unlisted, gone, head_apart, holds, how_many, inl, inr, is_changed, is_fresh, issue, lane_after, lane_place, lanes_by, le-ltb, length, length-map, length-take-le, listed, listed_next, lt-ltb, map, map-append, most_lanes, nat_lt, nat_tests, ne_eqb, new_queue, next, none_first, none_waits, once_next, once_none, opened, opening, queue_lanes_from, queue_seen, record_of, refl, seats_of, snd_true, some_entry, subst, suc, sym, take, take-append-le, take_all, true, true_false, wait_of, waiting_by, with_fields, zero, ℕ, ◌&&◌, ◌++◌, ◌+◌, ◌<◌, ◌==◌, ◌^◌, ◌∙◌, ◌∷◌, ◌≡◌, ◌≤◌, ◌⊎◌}
 use Rattle.mtapi_machine.specs.declared.ops.Op.TheVariants as op
 use Rattle.mtapi_values.specs.declared.handles.ObjectKind.TheVariants as kind
 use Rattle.mtapi_machine.specs.declared.replies.Reply.TheVariants as reply
@@ -122,9 +122,7 @@ after_stays c l = by_test (is_changed c l)
 
 apart_map : (c : Change) (ls : List QueueLane) → Apart ls → Apart (map (lane_after c) ls)
 apart_map c [] a = tt
-apart_map c (l ∷ ls) a =
-    let s = after_stays c l in
-    (lanes_over _ (lane_after c) ls (lanes_map _ _ ls (λ m d. let t = after_stays c m in ((λ i. s.queue i == t.queue i) ∙ d.0, (λ i. s.lane i == t.lane i) ∙ d.1)) a.0), apart_map c ls a.1)
+apart_map c (l ∷ ls) a = grind (arith, nat_tests, apart_map c ls a.1, after_stays, lanes_over, lane_after, lanes_map)
 
 seen_map : (c : Change) (ls : List QueueLane) → map lane_seen (map (lane_after c) ls) ≡ map lane_seen ls
 seen_map c [] = refl
@@ -211,11 +209,7 @@ retained : (ls : List QueueLane) (qs : List (Listed Queue)) → Beneath (λ l r.
 unfolding record_of
 retained [] qs a b = tt
 retained (l ∷ ls) [] a b = absurd a
-retained (l ∷ ls) (r ∷ rs) a b = (
-  ap (λ (c : Bool). holds (λ (y : Queue). y.retain) (cond c (Some r.fields) (record_of rs l.queue))) (eq-eqb r.handle l.queue (ap (λ (v : QueueSeen). v.handle) (sym a.0))) ∙ ap (λ (v : QueueSeen). v.retain) (sym a.0),
-  lanes_both (λ m. ((l.queue == m.queue) ≡ false) × ((l.lane == m.lane) ≡ false)) _ _ ls
-      (λ m d e. ap (λ (c : Bool). holds (λ (y : Queue). y.retain) (cond c (Some r.fields) (record_of rs m.queue))) (ap (λ (v : QueueSeen). v.handle == m.queue) (sym a.0) ∙ d.0) ∙ e) b.0 (retained ls rs a.1 b.1),
-)
+retained (l ∷ ls) (r ∷ rs) a b = grind (arith, nat_tests, retained ls rs a.1 b.1, record_of, eq-eqb, lanes_both)
 
 -- What is known behind k entries
 
@@ -255,10 +249,7 @@ listed_then : (g : Type 0) (T : Listed Task → Bool) (h : ℕ) (l new m : List 
 unfolding listed
 listed_then g T h [] new m a = let n : how_many (λ r. r.handle == h) m ≡ how_many (λ r. r.handle == h) new = ap (how_many (λ r. r.handle == h)) a in omega arith
 listed_then g T h (r ∷ rs) new [] a = absurd a
-listed_then g T h (r ∷ rs) new (q ∷ qs) a =
-    let n = listed_then g T h rs new qs a.1 in
-    let d : cond {A = ℕ} (q.handle == h) 1 0 ≡ cond {A = ℕ} (r.handle == h) 1 0 = ap (λ (z : ℕ). cond {A = ℕ} (z == h) 1 0) a.0.handle in
-    omega arith
+listed_then g T h (r ∷ rs) new (q ∷ qs) a = grind (arith, nat_tests, listed_then g T h rs new qs a.1)
 
 listed_one : (t : ℕ) (x : Task) → listed t (record { handle = t; live = true; fields = x } ∷ []) ≡ 1
 unfolding listed

@@ -1,5 +1,5 @@
 -- What the picture follows of each seat is what the machine runs on it.
-use Rattle.run_picture_laws.proofs.Names.{Answers, Bar, BarEnd, Bool, EndsTask, FoundAs, IsMade, IsNext, IsPicture, Kind, Legal, Legal-one, Legal-prefix, Legal-rest, LegalFrom, List, Listed, May, Move, MrapiStatus, MtapiStatus, NodeEntry, None, NoneOverlap, Op, Option, Picture, Reply, RowsShowRuns, Running, ShowsRun, Some, State, Task, TaskEnd, TaskState, Terms, Watch, Work, [], after, after-one, after_from, after_moves, answered, ap, append-nil, append_assoc, apply, arith, at-update, bar_to, bars_from, bars_over, both_true, by_made_moves, cancel_requested, cases_eq, change, cond, count_changed, count_listed, count_none, end_of, ended, ends_task, ends_waiting, eq-eqb, false, filter, filter-append, found_all, found_changed, found_ends, found_issued, freed, frees_members, fst_true, get_or, get_or-replicate, get_or-set_other, get_or-set_same, gone, holds, inl, inr, is_member, is_none, is_over, is_pick, is_ready, is_unended, is_unstarted, le-leb, le-ltb, leaves, length, length-replicate, length-set, let_go, lets_members_go, live_object, lt-leb, lt-ltb, named_by, nat_le, nat_lt, nat_tests, ne_eqb, new_task, next, none_count, none_running, not_true, notes, opening, other_count, picks, refl, replicate, rest_keeps, row, run_end, runner, running_by, runs_as, runs_on, runs_over, runs_scheduled, runs_task, same_found, scheduled, seats_of, snd_true, some_same, starts_task, subst, sym, tally_mutex, true, true_false, with_fields, with_notes, with_state, withdraws, work_of, work_stays, ℕ, ◌&&◌, ◌++◌, ◌+◌, ◌<◌, ◌==◌, ◌∙◌, ◌∷◌, ◌≡◌, ◌≢◌, ◌≤◌, ◌⊎◌}
+use Rattle.run_picture_laws.proofs.Names.{Answers, Bar, BarEnd, Bool, EndsTask, FoundAs, IsMade, IsNext, IsPicture, Kind, Legal, Legal-one, Legal-prefix, Legal-rest, LegalFrom, List, Listed, May, Move, MrapiStatus, MtapiStatus, NodeEntry, None, NoneOverlap, Op, Option, Picture, Reply, RowsShowRuns, Running, ShowsRun, Some, State, Task, TaskEnd, TaskState, Terms, Watch, Work, [], after, after-one, after_from, after_moves, answered, ap, append-nil, append_assoc, apply, arith, at-update, bar_to, bars_from, bars_over, both_true, by_made_moves, cancel_requested, cases_eq, change, cond, count_changed, count_listed, count_none, end_of, ended, ends_task, ends_waiting, eq-eqb, false, filter, filter-append, found_all, found_changed, found_ends, found_issued, freed, frees_members, fst_true, get_or, get_or-replicate, get_or-set_other, get_or-set_same, gone, holds, inl, inr, is_member, is_none, is_over, is_pick, is_ready, is_unended, is_unstarted, le-leb, le-ltb, leaves, length, length-replicate, length-set, let_go, lets_members_go, live_object, lt-leb, lt-ltb, named_by, nat_le, nat_lt, nat_tests, ne_eqb, new_task, next, none_count, none_running, not_true, notes, opening, other_count, refl, replicate, rest_keeps, run_end, runner, running_by, runs_as, runs_on, runs_over, runs_scheduled, runs_task, same_found, scheduled, seats_of, snd_true, some_same, starts_task, subst, sym, tally_mutex, true, true_false, with_fields, with_notes, with_state, withdraws, work_of, work_stays, ℕ, ◌&&◌, ◌++◌, ◌+◌, ◌<◌, ◌==◌, ◌∙◌, ◌∷◌, ◌≡◌, ◌≢◌, ◌≤◌, ◌⊎◌}
 use Rattle.mtapi_values.specs.declared.ends.TaskEnd.TheVariants as ends
 use Rattle.mtapi_machine.specs.declared.ops.Op.TheVariants as op
 use Rattle.mtapi_machine.specs.declared.replies.Reply.TheVariants as reply

@@ -1,5 +1,5 @@
 -- What is seen of the mutexes changes in the machine as it does in the lanes.
-use Rattle.run_picture_laws.proofs.Names.{AtMostOne, Bool, FoundAs, HasId, List, Listed, Lock, Mutex, MutexLane, MutexSeen, None, On, OnceIn, Option, Some, State, Task, [], ap, append-nil, arith, at_here, at_past, cases_eq, change, cond, cond_both, count_listed, eq-eqb, eqb-true, false, false_from_ne_true, found_count, fst_true, gone, head_alone, head_apart, inl, inr, is_other, is_seat, is_some, issue, lane_seen, listed, live_object, live_of, locked_by, map, mutex_seen, nat_lt, new_mutex, not_false, on_runs, once_rest, one_passes, refl, runs_on, snd_true, some_same, subst, sym, taken, true, true_false, unlocked, waited, with_fields, ℕ, ◌&&◌, ◌++◌, ◌+◌, ◌==◌, ◌∙◌, ◌∷◌, ◌≡◌, ◌≢◌, ◌≤◌, ◌⊎◌}
+use Rattle.run_picture_laws.proofs.Names.{AtMostOne, Bool, FoundAs, HasId, List, Listed, Lock, Mutex, MutexLane, MutexSeen, None, On, OnceIn, Option, Some, State, Task, [], ap, append-nil, arith, at_here, at_past, cases_eq, change, cond, cond_both, count_listed, eq-eqb, eqb-true, false, false_from_ne_true, found_count, fst_true, gone, head_alone, head_apart, inl, inr, is_other, is_seat, is_some, issue, lane_seen, listed, live_object, live_of, locked_by, map, mutex_seen, nat_lt, nat_tests, new_mutex, not_false, on_runs, once_rest, one_passes, refl, runs_on, snd_true, some_same, subst, sym, taken, true, true_false, unlocked, waited, with_fields, ℕ, ◌&&◌, ◌++◌, ◌==◌, ◌∙◌, ◌∷◌, ◌≡◌, ◌≢◌, ◌≤◌, ◌⊎◌}
 use Rattle.run_picture.specs.declared.locks.Lock.TheVariants as lock
 use Rattle.run_picture.specs.Locks.{lane_after}
 use Rattle.run_picture_laws.proofs.Did.{is_quiet, Did, still, makes, deletes, takes, frees, tally_takes, tally_frees, tally_failed}
@@ -30,11 +30,7 @@ on_cond true x y = refl
 on_cond false x y = refl
 
 taken_seen : (who at looks : ℕ) (l : MutexLane) → lane_seen (taken who at looks l) ≡ record (lane_seen l) { owner = owned who (lane_seen l).owner }
-taken_seen who at looks l = by_owner l.owner
-  where
-    by_owner : (o : Option (ℕ × ℕ)) → lane_seen (taken who at looks (record l { owner = o })) ≡ record (lane_seen (record l { owner = o })) { owner = owned who (lane_seen (record l { owner = o })).owner }
-    by_owner None = refl
-    by_owner (Some o) = refl
+taken_seen who at looks l = grind (arith, nat_tests, lane_seen)
 
 pub lane_step : (who at looks : ℕ) (x : Lock) (l : MutexLane) → lane_seen (lane_after who at looks x l) ≡ seen_after who x (lane_seen l)
 lane_step who at looks (lock.Makes h id) l = refl
@@ -73,10 +69,7 @@ each_issue P Q h y (r ∷ rs) n f a = (f r a.0, each_issue P Q h y rs n f a.1)
 -- behind the one of a handle there is no other
 none_behind : (r : Listed Mutex) (rs : List (Listed Mutex)) (h : ℕ) → OnceIn (r ∷ rs) → (r.handle == h) ≡ true → listed h rs ≡ 0
 unfolding listed
-none_behind r rs h o e =
-    let k : cond {A = ℕ} (r.handle == h) 1 0 + listed h rs ≤ 1 = o h in
-    let c : cond {A = ℕ} (r.handle == h) 1 0 ≡ 1 = ap (λ (b : Bool). cond {A = ℕ} b 1 0) e in
-    omega arith
+none_behind r rs h o e = grind (arith, nat_tests)
 
 and_off : (a b : Bool) → b ≡ false → (a && b) ≡ false
 and_off true b e = e
@@ -111,8 +104,7 @@ some_none : {A : Type 0} {y : ℕ} → None ≡ Some y → A
 some_none e = absurd (cc)
 
 seat_owner : (who : ℕ) (q : Option ℕ) (w : ℕ) → is_seat who q ≡ true → q ≡ Some w → who ≡ w
-seat_owner who None w e f = true_false e refl
-seat_owner who (Some v) w e f = sym (eqb-true v who e) ∙ some_same f
+seat_owner who q w e1 e2 = grind (arith, nat_tests, true_false, eqb-true, some_same)
 
 abbrev is_frees : Lock → Bool
 is_frees lock.TallyFrees = true
@@ -120,10 +112,7 @@ is_frees _ = false
 
 -- a worker whose tally has a mutex owns no other one
 its_mutex : (n : ℕ) (s : State) (who h t : ℕ) → AtMostOne who s → nat_lt who n ≡ true → FoundAs (On who h) s.tasks t → (r : Listed Mutex) → IsHeld n s.tasks r → r.fields.owner ≡ Some who → r.handle ≡ h
-its_mutex n s who h t one m k r b c =
-    let u = (b who c).1 m in
-    let same : u.1.0 ≡ k.0 = one_passes (runs_on who) s.tasks u.0 t u.1.0 k.0 one u.1.1 k.1 (on_runs who r.handle u.1.0 u.1.2) (on_runs who h k.0 k.2) in
-    sym u.1.2.mutex ∙ (ap (λ (q : Task). q.notes.tally.mutex) same ∙ k.2.mutex)
+its_mutex n s who h t e1 e2 e3 r e4 e5 = grind (arith, nat_tests, one_passes, runs_on, on_runs)
 
 module _ (n : ℕ) (s : State) (who : ℕ) (x : Lock) (us : List (Listed Task)) (keep : TalliesStay who x s.tasks us) where
   abbrev P : Listed Mutex → Type 0
@@ -145,8 +134,7 @@ module _ (n : ℕ) (s : State) (who : ℕ) (x : Lock) (us : List (Listed Task)) 
       by_seat (inr i) = let k = a w e in (k.0, λ l. let y = k.1 l in (y.0, keep w r.handle y.0 (λ j. i) y.1))
 
   freed_owner : (b : Bool) (q : Option ℕ) (w : ℕ) → cond b None q ≡ Some w → q ≡ Some w
-  freed_owner true q w e = some_none e
-  freed_owner false q w e = e
+  freed_owner b q w e1 = grind (arith, nat_tests, some_none)
 
   depth_one : (y : Mutex) (w : ℕ) → y.depth ≡ 1 → (unlocked y).owner ≡ Some w → ⊥
   depth_one y w d e = some_none (sym (ap (λ (b : Bool). cond b None y.owner) (eq-eqb y.depth 1 d)) ∙ e)
@@ -191,9 +179,7 @@ G T F v = cond (T v) (F v) v
 -- none passes
 none_pass : (h : ℕ) (T : MutexSeen → Bool) (F : MutexSeen → MutexSeen) (l : List (Listed Mutex)) → listed h l ≡ 0 → Each (λ r. T (mutex_seen r) ≡ true → (r.handle == h) ≡ true) l → map (G T F) (map mutex_seen l) ≡ map mutex_seen l
 none_pass h T F [] n a = refl
-none_pass h T F (r ∷ rs) n a =
-    let k = head_apart h r rs n in
-    (λ i. cond (false_from_ne_true (T (mutex_seen r)) (λ e. true_false (a.0 e) k.0) i) (F (mutex_seen r)) (mutex_seen r) ∷ none_pass h T F rs k.1 a.1 i)
+none_pass h T F (r ∷ rs) n a = grind (arith, nat_tests, none_pass h T F rs, head_apart, false_from_ne_true, mutex_seen, true_false)
 
 changed_seen : (h : ℕ) (f : Listed Mutex → Listed Mutex) (T : MutexSeen → Bool) (F : MutexSeen → MutexSeen) (y : Mutex) (l : List (Listed Mutex)) → OnceIn l → live_object l h ≡ Some y
     → ((r : Listed Mutex) → r.live ≡ true → r.handle ≡ h → r.fields ≡ y → (T (mutex_seen r) ≡ true) × (mutex_seen (f r) ≡ F (mutex_seen r)))
@@ -251,13 +237,10 @@ map_same F [] f = refl
 map_same F (v ∷ vs) f = (λ i. f v i ∷ map_same F vs f i)
 
 quiet_seen : (who : ℕ) (x : Lock) (v : MutexSeen) → is_quiet x ≡ true → seen_after who x v ≡ v
-quiet_seen who lock.Nothing v q = refl
-quiet_seen who (lock.Waits h) v q = refl
-quiet_seen who _ v q = true_false q refl
+quiet_seen who x v e1 = grind (arith, nat_tests, true_false)
 
 quiet_made : (x : Lock) → is_quiet x ≡ true → seen_made x ≡ []
-quiet_made (lock.Makes h id) q = true_false q refl
-quiet_made _ q = refl
+quiet_made x e1 = grind (arith, nat_tests, true_false)
 
 seen_issue : (h : ℕ) (y : Mutex) (l : List (Listed Mutex)) → map mutex_seen (issue h y l) ≡ map mutex_seen l ++ record { handle = h; id = y.id; live = true; owner = y.owner } ∷ []
 unfolding issue
@@ -265,16 +248,13 @@ seen_issue h y [] = refl
 seen_issue h y (r ∷ rs) = ap (λ z. mutex_seen r ∷ z) (seen_issue h y rs)
 
 owned_same : (who : ℕ) (q : Option ℕ) → is_other who q ≡ false → Some who ≡ owned who q
-owned_same who None e = refl
-owned_same who (Some v) e = ap Some (sym (eqb-true v who (not_false (v == who) e)))
+owned_same who q e1 = grind (arith, nat_tests, eqb-true, not_false)
 
 no_other : (who : ℕ) (q : Option ℕ) → is_some q ≡ false → is_other who q ≡ false
-no_other who None e = refl
-no_other who (Some v) e = true_false refl e
+no_other who q e1 = grind (arith, nat_tests, true_false)
 
 seat_is : (who : ℕ) (q : Option ℕ) → is_seat who q ≡ true → q ≡ Some who
-seat_is who None e = true_false e refl
-seat_is who (Some v) e = ap Some (eqb-true v who e)
+seat_is who q e1 = grind (arith, nat_tests, true_false, eqb-true)
 
 unowned : (who : ℕ) (l : List (Listed Mutex)) → Each (λ r. is_seat who r.fields.owner ≡ false) l → map (seen_after who lock.TallyFrees) (map mutex_seen l) ≡ map mutex_seen l
 unowned who [] a = refl

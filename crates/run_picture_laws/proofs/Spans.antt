@@ -1,5 +1,5 @@
 -- The spans over a place are those of the owners there.
-use Rattle.run_picture_laws.proofs.Names.{Bool, IsPicture, LanesShowOwners, Legal, Legal-prefix, List, Listed, Lock, Locks, Mutex, MutexLane, MutexSeen, NodeEntry, None, Option, Picture, Some, Span, Terms, [], after, ap, append-nil, append_assoc, arith, cond, eq-eqb, false, filter, filter-append, first_of, flat_map, is_owner, is_within, lane_seen, lanes_with, le-leb, le-ltb, length, lock_by, locks_after, lt-leb, lt-ltb, map, most_lanes, mutex_seen, nat_le, nat_lt, ne_eqb, new_lane, no_locks, option_map, owned_from, owner_in, owner_of, refl, rest_of, seats_of, span_by, span_of, spans_by, spans_from, subst, suc, sym, take, taken, true, waited, zero, ℕ, ◌&&◌, ◌++◌, ◌+◌, ◌<◌, ◌==◌, ◌∙◌, ◌∷◌, ◌≡◌, ◌≤◌}
+use Rattle.run_picture_laws.proofs.Names.{Bool, IsPicture, LanesShowOwners, Legal, Legal-prefix, List, Listed, Lock, Locks, Mutex, MutexLane, MutexSeen, NodeEntry, None, Option, Picture, Some, Span, Terms, [], after, ap, append-nil, append_assoc, arith, cond, eq-eqb, false, filter, filter-append, first_of, flat_map, is_owner, is_within, lane_seen, lanes_with, le-leb, le-ltb, length, lock_by, locks_after, lt-leb, lt-ltb, map, most_lanes, mutex_seen, nat_le, nat_lt, nat_tests, ne_eqb, new_lane, no_locks, option_map, owned_from, owner_in, owner_of, refl, rest_of, seats_of, span_by, span_of, spans_by, spans_from, subst, suc, sym, take, taken, true, waited, zero, ℕ, ◌&&◌, ◌++◌, ◌+◌, ◌<◌, ◌==◌, ◌∙◌, ◌∷◌, ◌≡◌, ◌≤◌}
 use Rattle.run_picture.specs.declared.locks.Lock.TheVariants as lock
 use Rattle.run_picture.specs.Locks.{lane_after}
 use Rattle.run_picture_laws.proofs.Lanes.{known_after, lanes_seen}
@@ -47,8 +47,7 @@ takes_owner who at (Some o) = stays refl
 
 -- by a test of the lane
 tested : (who at looks : ℕ) (x : Lock) (l m : MutexLane) (b : Bool) → lane_after who at looks x l ≡ cond b m l → m.lane ≡ l.lane → span_by who at x l ≡ [] → Moves at l.owner m.owner false → Step who at looks x l
-tested who at looks x l m true e a s v =
-    record { frees = false; lane = ap (λ (z : MutexLane). z.lane) e ∙ a; span = s; owner = subst (λ (z : Option (ℕ × ℕ)). Moves at l.owner z false) (sym (ap (λ (z : MutexLane). z.owner) e)) v }
+tested who at looks x l m true e a s v = grind (arith, nat_tests)
 tested who at looks x l m false e a s v = record { frees = false; lane = ap (λ (z : MutexLane). z.lane) e; span = s; owner = stays (ap (λ (z : MutexLane). z.owner) e) }
 
 frees_tested : (who at looks : ℕ) (x : Lock) (l : MutexLane) (b : Bool) → lane_after who at looks x l ≡ cond b (record l { owner = None }) l → span_by who at x l ≡ span_if b l.lane at l.owner → Step who at looks x l

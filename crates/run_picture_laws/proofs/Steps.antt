@@ -1,5 +1,5 @@
 -- What each entry does to the tasks that wait, beside what the picture reads in it.
-use Rattle.run_picture_laws.proofs.Names.{Answers, Bool, Ended, IsNext, Kind, List, Listed, Move, MrapiStatus, MtapiStatus, NewTask, None, Notes, OnceIn, Op, Queue, QueueHandle, Reply, Scheduled, Some, State, Task, TaskEnd, TaskState, Wait, [], after_moves, answered, ap, asked_for, asked_of, at-update, cancel_requested, end_each, ended, ends_task, ends_unseen, false, fresh_unlisted, gone, holds, in_no_group, inl, inr, is_fresh, is_in, is_some, is_unstarted, issue, kind_number, listed, live_listed, live_object, new_task, next, not, notes, record_at, record_of, refl, runner, runs_as, scheduled, some_same, starts_task, subst, sym, tasks, true, true_false, wait_of, with_fields, with_notes, with_state, ℕ, ◌&&◌, ◌==◌, ◌∙◌, ◌∷◌, ◌≡◌, ◌≤◌, ◌⊎◌}
+use Rattle.run_picture_laws.proofs.Names.{Answers, Bool, IsNext, Kind, List, Listed, Move, MrapiStatus, MtapiStatus, NewTask, None, Notes, OnceIn, Op, Queue, QueueHandle, Reply, Some, State, Task, TaskEnd, TaskState, Wait, [], after_moves, answered, ap, arith, asked_for, asked_of, at-update, cancel_requested, end_each, ended, ends_task, ends_unseen, false, fresh_unlisted, gone, holds, in_no_group, inl, inr, is_fresh, is_in, is_some, is_unstarted, issue, listed, live_listed, live_object, nat_tests, new_task, next, not, notes, record_at, record_of, refl, runs_as, scheduled, some_same, starts_task, subst, sym, tasks, true, true_false, wait_of, with_fields, with_notes, with_state, ℕ, ◌&&◌, ◌==◌, ◌∙◌, ◌∷◌, ◌≡◌, ◌≤◌, ◌⊎◌}
 use Rattle.mtapi_values.specs.declared.kinds.Kind.TheVariants as kinds
 use Rattle.mtapi_values.specs.declared.ends.TaskEnd.TheVariants as ends
 use Rattle.mtapi_values.specs.declared.statuses.MtapiStatus.TheVariants as m
@@ -75,12 +75,7 @@ module _ (s : State) (who : ℕ) (once : OnceIn s.tasks) where
   ends_running o h y e f u = quiet o wait.Nothing _ refl (change_same h (ended e s.ends) s.tasks (λ r a d. ended_same e s.ends r (ap is_unstarted (some_same (sym d ∙ f)) ∙ u)))
 
   runs_idle : (w : ℕ) (k : Kind) (y : Task) → runs_as w k y ≡ true → is_unstarted y ≡ false
-  runs_idle w k y e = by_state y.state e
-    where
-      by_state : (x : TaskState) → holds (λ r. (r.0 == w) && (kind_number r.1 == kind_number k)) (runner x) ≡ true → scheduled x ≡ false
-      by_state Scheduled i = true_false i refl
-      by_state (Running v j) i = refl
-      by_state (Ended z n) i = refl
+  runs_idle w k y e1 = grind (arith, nat_tests)
 
   -- the tasks of a queue end
   queue_ends : (o : Op) (q : ℕ) (e : TaskEnd) → Beside (λ r u. Goes (ends_unseen o ≡ false) (is_in q r.fields) r u) s.tasks [] (end_each (λ t. is_unstarted t && is_in q t) e s.ends s.tasks)
@@ -109,12 +104,10 @@ module _ (s : State) (who : ℕ) (once : OnceIn s.tasks) where
 
   -- a refusal tells of no task
   refused_quiet : (o : Op) (c : MtapiStatus) → is_quiet (wait_of o (reply.Mtapi c)) ≡ true
-  refused_quiet op.Pick c = refl
-  refused_quiet _ c = refl
+  refused_quiet o c = grind (arith, nat_tests)
 
   caller_quiet : (o : Op) (c : MrapiStatus) → is_quiet (wait_of o (reply.Mrapi c)) ≡ true
-  caller_quiet op.Pick c = refl
-  caller_quiet _ c = refl
+  caller_quiet o c = grind (arith, nat_tests)
 
   by : (o : Op) (r : Reply) (ms : List Move) → OnceIn s.queues → Answers s who o r ms → (Plain o → SameEach s.tasks (after_moves ms s).tasks) → Q o r ms
   by _ _ _ u (is.refuses o c z) f = nothing o (reply.Mtapi c) (refused_quiet o c)

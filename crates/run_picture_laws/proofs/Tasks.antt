@@ -1,6 +1,5 @@
 -- Which tasks wait behind an entry.
-use Rattle.run_picture_laws.proofs.Names.{Action, Bool, Ended, EndsTask, IsMade, List, Listed, Move, NewTask, NodeEntry, Notes, OnceIn, Op, Scheduled, Some, StartsTask, State, Task, TaskEnd, TaskState, WithdrawsAction, [], alters, ap, apply, arith, at_head, at_here, at_past, by_moves, change, change_all, cond, cond_both, end_each, end_of, ended, ends_many, ends_task, ends_waiting, false, found_holds, freed, frees_members, fst_true, gone, head_apart, is_member, is_none, is_pick, is_unended, is_unstarted, issue, leaves, let_go, lets_members_go, listed, live_object, live_of, makes, next, not, not_true, notes, once_rest, refl, removes, runs_task, scheduled, snd_true, some_same, sorts_keep, starts_task, subst, sym, true, true_false, with_fields, with_notes, withdraws, ℕ, ◌&&◌, ◌+◌, ◌==◌, ◌∙◌, ◌∷◌, ◌≡◌, ◌≤◌}
-use Rattle.mtapi_objects.specs.Tasks.{Running}
+use Rattle.run_picture_laws.proofs.Names.{Action, Bool, EndsTask, IsMade, List, Listed, Move, NewTask, NodeEntry, Notes, OnceIn, Op, Some, StartsTask, State, Task, TaskEnd, WithdrawsAction, [], alters, ap, apply, arith, at_head, at_here, at_past, by_moves, change, change_all, cond_both, end_each, end_of, ended, ends_many, ends_task, ends_waiting, false, frees_members, fst_true, gone, head_apart, is_member, is_pick, is_unended, is_unstarted, issue, leaves, let_go, lets_members_go, listed, live_object, live_of, makes, nat_tests, next, not, not_true, notes, once_rest, refl, removes, runs_task, snd_true, some_same, sorts_keep, starts_task, subst, sym, true, true_false, with_fields, with_notes, withdraws, ℕ, ◌&&◌, ◌+◌, ◌==◌, ◌∙◌, ◌∷◌, ◌≡◌}
 
 -- the task is live and hasn't begun
 abbrev pub waits : Listed Task → Bool
@@ -55,17 +54,14 @@ pub same_then : (k l m : List (Listed Task)) → SameEach k l → SameEach l m �
 same_then [] l m a b = subst (λ (z : List (Listed Task)). SameEach z m) a b
 same_then (r ∷ rs) [] m a b = absurd a
 same_then (r ∷ rs) (q ∷ qs) [] a b = absurd b
-same_then (r ∷ rs) (q ∷ qs) (p ∷ ps) a b =
-    (record { handle = b.0.handle ∙ a.0.handle; queue = b.0.queue ∙ a.0.queue; waits = b.0.waits ∙ a.0.waits }, same_then rs qs ps a.1 b.1)
+same_then (r ∷ rs) (q ∷ qs) (p ∷ ps) a b = grind (arith, nat_tests, same_then rs qs ps a.1 b.1)
 
 -- changes that leave which tasks wait
 
 pub change_same : (h : ℕ) (f : Listed Task → Listed Task) (l : List (Listed Task)) → ((r : Listed Task) → r.live ≡ true → live_object l h ≡ Some r.fields → Same r (f r)) → SameEach l (change h f l)
 unfolding change live_of
 change_same h f [] g = refl
-change_same h f (r ∷ rs) g = cond_both (r.live && (r.handle == h)) (f r ∷ rs) (r ∷ change h f rs) (SameEach (r ∷ rs))
-    (λ c. let a : r.live ≡ true = fst_true r.live _ c in (g r a (at_here r rs h a (snd_true r.live _ c)), same_each rs))
-    (λ c. (same_one r, change_same h f rs (λ q a e. g q a (at_past r rs h c ∙ e))))
+change_same h f (r ∷ rs) g = grind (arith, nat_tests, change_same h f rs, cond_both, fst_true, at_here, snd_true, same_each)
 
 all_same : (p : Task → Bool) (f : Listed Task → Listed Task) (l : List (Listed Task)) → ((r : Listed Task) → r.live ≡ true → p r.fields ≡ true → Same r (f r)) → SameEach l (change_all p f l)
 unfolding change_all
@@ -78,12 +74,7 @@ and_off false b e = refl
 
 -- an unended task waits or runs; one that has ended doesn't wait
 over_waits : (t : Task) → is_unended t ≡ false → is_unstarted t ≡ false
-over_waits t = by_state t.state
-  where
-    by_state : (x : TaskState) → is_none (end_of x) ≡ false → scheduled x ≡ false
-    by_state Scheduled e = true_false refl e
-    by_state (Running w k) e = refl
-    by_state (Ended e n) i = refl
+over_waits t e1 = grind (arith, nat_tests, end_of, true_false)
 
 pub noted_same : (f : Notes → Notes) (r : Listed Task) → Same r (with_fields (with_notes f) r)
 noted_same f r = record { handle = refl; queue = refl; waits = refl }
@@ -95,13 +86,7 @@ pub ended_same : (e : TaskEnd) (n : ℕ) (r : Listed Task) → is_unstarted r.fi
 ended_same e n r u = record { handle = refl; queue = refl; waits = and_off _ false refl ∙ sym (and_off r.live _ u) }
 
 let_go_same : (r : Listed Task) → Same r (let_go r)
-let_go_same r = record { handle = refl; queue = refl; waits = by_state r.live r.fields.state }
-  where
-    by_state : (b : Bool) (x : TaskState) → ((b && is_none (end_of x)) && scheduled x) ≡ (b && scheduled x)
-    by_state true Scheduled = refl
-    by_state true (Running w k) = refl
-    by_state true (Ended e n) = refl
-    by_state false x = refl
+let_go_same r = grind (arith, nat_tests, end_of)
 
 -- the op neither starts, takes nor ends a task
 abbrev pub Plain : Op → Type 0
@@ -117,10 +102,8 @@ plain_move o n s t (ends_task h e) i v = absurd (n.2 h i.by)
 plain_move o n s t (ends_waiting p e) i v = absurd (n.3 i.by)
 plain_move o n s t (withdraws h f c) i v = absurd (n.4 h f i.by)
 plain_move o n s t (notes h f) i v = same_then s.tasks t.tasks _ v (change_same h (with_fields (with_notes f)) t.tasks (λ r a e. noted_same f r))
-plain_move o n s t (leaves h) i v =
-    same_then s.tasks t.tasks _ v (change_same h gone t.tasks (λ r a e. gone_same r (over_waits r.fields (not_true _ (found_holds (λ x. not (is_unended x)) (live_object t.tasks h) r.fields i.may e)))))
-plain_move o n s t (frees_members g) i v =
-    same_then s.tasks t.tasks _ v (all_same _ freed t.tasks (λ r a p. record { handle = refl; queue = refl; waits = sym (and_off r.live _ (over_waits r.fields (not_true _ (snd_true (is_member g r.fields) _ p)))) }))
+plain_move o n s t (leaves h) i v = grind (arith, nat_tests, same_then, change_same, gone_same, over_waits, not_true)
+plain_move o n s t (frees_members g) i v = grind (arith, nat_tests, same_then, all_same, and_off, over_waits, not_true)
 plain_move o n s t (lets_members_go g) i v = same_then s.tasks t.tasks _ v (all_same (is_member g) let_go t.tasks (λ r a p. let_go_same r))
 plain_move o n s t (makes k h x) i v = sorts_keep (Kept s) (λ t g q m c r y p. p) k _ t v
 plain_move o n s t (alters k h x) i v = sorts_keep (Kept s) (λ t g q m c r y p. p) k _ t v
@@ -137,11 +120,7 @@ untouched true = refl
 untouched false = refl
 
 same_goes : (calm : Type 0) (t : Bool) (r q : Listed Task) → (waits r ≡ true → t ≡ false) → Same r q → Goes calm t r q
-same_goes calm t r q f a = record { handle = a.handle; queue = a.queue; least = λ w. by_waits (waits r) refl (sym a.waits ∙ w); exact = λ c w. a.waits ∙ fst_true (waits r) _ w }
-  where
-    by_waits : (b : Bool) → waits r ≡ b → b ≡ true → (b && not t) ≡ true
-    by_waits true e i = ap not (f e)
-    by_waits false e i = true_false i refl
+same_goes calm t r q e1 e2 = grind (arith, nat_tests, fst_true, true_false)
 
 pub untouched_goes : (calm : Type 0) (T : Listed Task → Bool) (l new m : List (Listed Task)) → Each (λ r. waits r ≡ true → T r ≡ false) l → Beside Same l new m → Beside (λ r q. Goes calm (T r) r q) l new m
 untouched_goes calm T l new m f a = beside_both (λ r. waits r ≡ true → T r ≡ false) Same _ l new m (λ r q g b. same_goes calm (T r) r q g b) f a
@@ -153,10 +132,7 @@ no_touch (r ∷ rs) = ((λ e. refl), no_touch rs)
 -- behind the one of a handle there is no other
 none_behind : (r : Listed Task) (rs : List (Listed Task)) (h : ℕ) → OnceIn (r ∷ rs) → (r.handle == h) ≡ true → listed h rs ≡ 0
 unfolding listed
-none_behind r rs h o e =
-    let k : cond {A = ℕ} (r.handle == h) 1 0 + listed h rs ≤ 1 = o h in
-    let c : cond {A = ℕ} (r.handle == h) 1 0 ≡ 1 = ap (λ (b : Bool). cond {A = ℕ} b 1 0) e in
-    omega arith
+none_behind r rs h o e = grind (arith, nat_tests)
 
 -- a task of this handle that doesn't wait is no other one of the list
 pub apart : (h : ℕ) (x : Task) (l : List (Listed Task)) → OnceIn l → live_object l h ≡ Some x → is_unstarted x ≡ false → Each (λ r. waits r ≡ true → (r.handle == h) ≡ false) l
@@ -182,11 +158,7 @@ off_goes : (calm : Type 0) (t : Bool) (r q : Listed Task) → q.handle ≡ r.han
 off_goes calm t r q h k a b = record { handle = h; queue = k; least = λ w. true_false w b; exact = λ c w. true_false w (and_off (waits r) _ (ap not a)) }
 
 other_goes : (calm : Type 0) (h : ℕ) (r : Listed Task) → (r.live && (r.handle == h)) ≡ false → Goes calm (r.handle == h) r r
-other_goes calm h r n = same_goes calm (r.handle == h) r r (λ w. by_live r.live (fst_true r.live _ w) n) (same_one r)
-  where
-    by_live : (b : Bool) → b ≡ true → (b && (r.handle == h)) ≡ false → (r.handle == h) ≡ false
-    by_live true a n = n
-    by_live false a n = true_false a refl
+other_goes calm h r e1 = grind (arith, nat_tests, same_goes, fst_true, same_one, true_false)
 
 pub left_goes : (calm : Type 0) (h : ℕ) (f : Listed Task → Listed Task) (l : List (Listed Task)) → OnceIn l → ((r : Listed Task) → (f r).handle ≡ r.handle) → ((r : Listed Task) → (f r).fields.queue ≡ r.fields.queue) → ((r : Listed Task) → waits (f r) ≡ false)
     → Beside (λ r q. Goes calm (r.handle == h) r q) l [] (change h f l)
@@ -220,10 +192,7 @@ ends_goes calm p e n (r ∷ rs) =
 pub least_goes : (p : Task → Bool) (e : TaskEnd) (n : ℕ) (l : List (Listed Task)) → Beside (λ r q. Goes ⊥ false r q) l [] (end_each p e n l)
 unfolding end_each
 least_goes p e n [] = refl
-least_goes p e n (r ∷ rs) =
-    cond_both (r.live && p r.fields) (ended e n r ∷ end_each p e (n + 1) rs) (r ∷ end_each p e n rs) (Beside (λ r q. Goes ⊥ false r q) (r ∷ rs) [])
-    (λ d. (record { handle = refl; queue = refl; least = λ w. true_false w (and_off _ false refl); exact = λ c w. absurd c }, least_goes p e (n + 1) rs))
-    (λ d. (same_goes ⊥ false r r (λ w. refl) (same_one r), least_goes p e n rs))
+least_goes p e n (r ∷ rs) = grind (arith, nat_tests, least_goes p e (n + 1) rs, least_goes p e n rs, cond_both, end_each, true_false, and_off, same_goes)
 
 -- a new task
 pub issue_goes : (calm : Type 0) (h : ℕ) (x : Task) (l : List (Listed Task)) → Beside (λ r q. Goes calm false r q) l (record { handle = h; live = true; fields = x } ∷ []) (issue h x l)

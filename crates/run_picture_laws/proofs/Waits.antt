@@ -1,5 +1,5 @@
 -- A lane counts the tasks that wait in its queue.
-use Rattle.run_picture_laws.proofs.Names.{Bool, List, Listed, None, OnceIn, Option, Place, QueueLane, Some, State, Task, Waiting, [], ap, arith, both_true, cases_eq, cond, count_listed, eq-eqb, eqb-true, false, fst_true, head_apart, holds, how_many, inl, inr, is_at, is_in, is_unstarted, is_waiting_in, lane_after, lane_place, left_at, listed, max, ne_eqb, not, not_true, one_more, refl, snd_true, subst, sym, true, true_false, waiting_by, zero, ℕ, ◌&&◌, ◌+◌, ◌-◌, ◌<◌, ◌==◌, ◌^◌, ◌∙◌, ◌∷◌, ◌≡◌, ◌≤◌, ◌⊎◌}
+use Rattle.run_picture_laws.proofs.Names.{Bool, List, Listed, None, OnceIn, Option, Place, QueueLane, Some, State, Task, Waiting, [], ap, arith, both_true, cases_eq, cond, count_listed, eq-eqb, eqb-true, false, fst_true, head_apart, holds, how_many, inl, inr, is_at, is_in, is_unstarted, is_waiting_in, lane_after, lane_place, left_at, listed, max, nat_tests, ne_eqb, not, not_true, one_more, refl, snd_true, subst, sym, true, true_false, waiting_by, zero, ℕ, ◌&&◌, ◌+◌, ◌-◌, ◌<◌, ◌==◌, ◌^◌, ◌∙◌, ◌∷◌, ◌≡◌, ◌≤◌, ◌⊎◌}
 use Rattle.run_picture.specs.declared.waits.Wait.TheVariants as wait
 use Rattle.run_picture.specs.declared.waits.Change.TheVariants as change
 use Rattle.run_picture_laws.proofs.Tasks.{waits, Goes, Beside, Each, and_off}
@@ -33,10 +33,7 @@ pub count_after : (P : Listed Task → Type 0) (S : Listed Task → Listed Task 
     → how_many g m ≡ how_many f l + how_many g new
 count_after P S f g [] new m e a b = let n : how_many g m ≡ how_many g new = ap (how_many g) b in omega arith
 count_after P S f g (r ∷ rs) new [] e a b = absurd b
-count_after P S f g (r ∷ rs) new (q ∷ qs) e a b =
-    let n = count_after P S f g rs new qs e a.1 b.1 in
-    let d : cond {A = ℕ} (g q) 1 0 ≡ cond {A = ℕ} (f r) 1 0 = ap (λ (c : Bool). cond {A = ℕ} c 1 0) (e r q a.0 b.0) in
-    omega arith
+count_after P S f g (r ∷ rs) new (q ∷ qs) e a b = grind (arith, nat_tests, count_after P S f g rs new qs e a.1 b.1)
 
 count_same : (f g : Listed Task → Bool) (l : List (Listed Task)) → ((r : Listed Task) → g r ≡ f r) → how_many g l ≡ how_many f l
 count_same f g [] e = refl
@@ -116,20 +113,11 @@ NewOff ts new = (new ≡ []) ⊎ ((t : ℕ) × (x : Task) × (new ≡ record { h
 
 new_right : (now : Type 0) (u : Waiting) (m : QueueLane) (ts new : List (Listed Task)) → ((t : ℕ) → listed t ts ≡ 0 → held m (u t) ≡ false) → NewOff ts new → Each (Right now u m) new
 new_right now u m ts new off (inl e) = subst (Each (Right now u m)) (sym e) tt
-new_right now u m ts new off (inr n) =
-    subst (Each (Right now u m)) (sym n.2) (
-      record {
-        least = λ e. true_false (snd_true (is_unstarted n.1) _ e) (ap (holds (λ h. h == m.queue)) n.3);
-        exact = λ c e. true_false e (off n.0 n.4);
-      },
-      tt,
-    )
+new_right now u m ts new off (inr n) = grind (arith, nat_tests, true_false, snd_true, is_unstarted)
 
 new_count : (u : Waiting) (m : QueueLane) (ts new : List (Listed Task)) → ((t : ℕ) → listed t ts ≡ 0 → held m (u t) ≡ false) → NewOff ts new → how_many (λ r. held m (u r.handle)) new ≡ 0
 new_count u m ts new off (inl e) = ap (how_many (λ r. held m (u r.handle))) e
-new_count u m ts new off (inr n) =
-    let d : cond {A = ℕ} (held m (u n.0)) 1 0 ≡ 0 = ap (λ (c : Bool). cond {A = ℕ} c 1 0) (off n.0 n.4) in
-    ap (how_many (λ r. held m (u r.handle))) n.2 ∙ omega arith
+new_count u m ts new off (inr n) = grind (arith, nat_tests, how_many)
 
 -- what is held was issued
 abbrev pub Placed : Waiting → List (Listed Task) → Type 0
