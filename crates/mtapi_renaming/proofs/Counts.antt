@@ -38,22 +38,11 @@ module _ {T : Type 0} where
   -- a handle may be issued exactly where it is the next of its slot
   pub fresh-next : (last h : ℕ) (l : List (Listed T)) → InTurn l → may_issue last h l ≡ (nat_le (generation_of h) last && (generation_of h == issued_at h l + 1))
   unfolding may_issue
-  fresh-next last h l t = same_tests _ _ (λ e. grind (arith, nat_tests)) (λ e. by_turn (listed h l) refl e)
-    where
-      by_turn : (m : ℕ) → listed h l ≡ m → (nat_le (generation_of h) last && (generation_of h == issued_at h l + 1)) ≡ true → ((listed h l == 0) && nat_le (generation_of h) last && (generation_of h == issued_at h l + 1)) ≡ true
-      by_turn zero d e = grind (arith, nat_tests)
-      by_turn (suc m) d e =
-          let old : generation_of h ≤ issued_at h l = t h (omega (arith, d)) in
-          let next : generation_of h ≡ issued_at h l + 1 = grind (arith, nat_tests) in
-          absurd (omega (arith, old, next))
+  fresh-next last h l t = same_tests _ _ (λ e. grind (arith, nat_tests)) (λ e. grind (arith, nat_tests, t h))
 
   few : (p : Listed T → Bool) (l : List (Listed T)) → how_many p l ≤ length l
   few p [] = omega arith
-  few p (r ∷ rs) = by_test (p r) (few p rs)
-    where
-      by_test : (b : Bool) → how_many p rs ≤ length rs → cond {A = ℕ} b 1 0 + how_many p rs ≤ suc (length rs)
-      by_test true e = omega (arith, e)
-      by_test false e = omega (arith, e)
+  few p (r ∷ rs) = grind (arith, few p rs)
 
   -- each handle of a list is listed there
   none_last : (last : ℕ) (full l : List (Listed T)) → ((h : ℕ) → listed h l ≤ listed h full) → InTurn full → length full < last → how_many (λ r. not r.live && (generation_of r.handle == last)) l ≡ 0

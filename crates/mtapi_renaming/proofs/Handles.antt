@@ -1,5 +1,5 @@
 -- Lists of the same handles, in the same order: what is read of the handles alone is the same.
-use Rattle.mtapi_renaming.proofs.Names.{◌≡◌, ℕ, suc, ◌+◌, Bool, true, false, ◌&&◌, cond, List, [], ◌∷◌, length, refl, ap, ◌==◌, not, TaskEnd, slot_of, Listed, how_many, change, change_all, with_fields, gone, listed, issued_at, Task, is_unended, end_each, ended, freed, let_go}
+use Rattle.mtapi_renaming.proofs.Names.{◌≡◌, ℕ, suc, ◌+◌, Bool, true, false, ◌&&◌, cond, List, [], ◌∷◌, length, refl, ap, ◌==◌, not, TaskEnd, slot_of, Listed, how_many, change, change_all, with_fields, gone, listed, issued_at, Task, is_unended, end_each, ended, freed, let_go, arith}
 
 module _ {T : Type 0} where
   -- an object keeps its handle, and isn't live again
@@ -31,11 +31,7 @@ module _ {T : Type 0} where
   pub handles-change : (h : ℕ) (F : Listed T → Listed T) → ((r : Listed T) → KeepsHandle r (F r)) → (l : List (Listed T)) → SameHandles l (change h F l)
   unfolding change
   handles-change h F same [] = tt
-  handles-change h F same (r ∷ rs) = by_test (r.live && (r.handle == h)) (handles-change h F same rs)
-    where
-      by_test : (b : Bool) → SameHandles rs (change h F rs) → SameHandles (r ∷ rs) (cond b (F r ∷ rs) (r ∷ change h F rs))
-      by_test true v = (same r, handles-same rs)
-      by_test false v = (keeps_itself r, v)
+  handles-change h F same (r ∷ rs) = grind (arith, same r, keeps_itself r, handles-same rs, handles-change h F same rs)
 
   pub handles-change_all : (p : T → Bool) (F : Listed T → Listed T) → ((r : Listed T) → KeepsHandle r (F r)) → (l : List (Listed T)) → SameHandles l (change_all p F l)
   unfolding change_all

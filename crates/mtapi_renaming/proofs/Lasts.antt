@@ -13,14 +13,7 @@ module _ {T : Type 0} where
   pub lasts-issue : (last h : ℕ) (v : T) (l : List (Listed T)) → lasts_in last (issue h v l) ≡ with_last last h (lasts_in last l)
   unfolding lasts_in issue
   lasts-issue last h v [] = refl
-  lasts-issue last h v (r ∷ rs) = by_tests (generation_of r.handle == last) (generation_of h == last) (lasts-issue last h v rs)
-    where
-      by_tests : (b c : Bool) → lasts_in last (issue h v rs) ≡ cond c (lasts_in last rs ++ h ∷ []) (lasts_in last rs) →
-          cond b (r.handle ∷ lasts_in last (issue h v rs)) (lasts_in last (issue h v rs)) ≡ cond c (cond b (r.handle ∷ lasts_in last rs) (lasts_in last rs) ++ h ∷ []) (cond b (r.handle ∷ lasts_in last rs) (lasts_in last rs))
-      by_tests true true e = ap (λ (hs : List ℕ). r.handle ∷ hs) e
-      by_tests true false e = ap (λ (hs : List ℕ). r.handle ∷ hs) e
-      by_tests false true e = e
-      by_tests false false e = e
+  lasts-issue last h v (r ∷ rs) = grind (arith, lasts-issue last h v rs)
 
   -- no handle stands twice in the list
   abbrev pub OnceEach : List (Listed T) → Type 0
@@ -34,17 +27,7 @@ module _ {T : Type 0} where
   unlisted last h l e = grind (arith, nat_tests)
 
   pub once-issue : (last h : ℕ) (v : T) (l : List (Listed T)) → may_issue last h l ≡ true → OnceEach l → OnceEach (issue h v l)
-  once-issue last h v l may w j = by_handle (h == j) refl
-    where
-      by_handle : (b : Bool) → (h == j) ≡ b → listed j (issue h v l) ≤ 1
-      by_handle true e =
-          let none : listed j l ≡ 0 = ap (λ (i : ℕ). listed i l) (sym (eqb-true h j e)) ∙ unlisted last h l may in
-          let more : listed j (issue h v l) ≡ listed j l + 1 = listed-issue j h v l ∙ ap (λ (b : Bool). listed j l + cond b 1 0) e in
-          omega (arith, none, more)
-      by_handle false e =
-          let old : listed j l ≤ 1 = w j in
-          let same : listed j (issue h v l) ≡ listed j l + 0 = listed-issue j h v l ∙ ap (λ (b : Bool). listed j l + cond b 1 0) e in
-          omega (arith, old, same)
+  once-issue last h v l may w j = grind (arith, nat_tests, w j, listed-issue j h v l, unlisted last h l may)
 
   once-rest : (r : Listed T) (rs : List (Listed T)) → OnceEach (r ∷ rs) → OnceEach rs
   unfolding listed
@@ -52,54 +35,29 @@ module _ {T : Type 0} where
 
   none_behind : (r : Listed T) (rs : List (Listed T)) → OnceEach (r ∷ rs) → listed r.handle rs ≡ 0
   unfolding listed
-  none_behind r rs w =
-      let e : cond {A = ℕ} (r.handle == r.handle) 1 0 + listed r.handle rs ≤ 1 = w r.handle in
-      let d : cond {A = ℕ} (r.handle == r.handle) 1 0 ≡ 1 = ap (λ (b : Bool). cond {A = ℕ} b 1 0) (eq-eqb r.handle r.handle refl) in omega (arith, e, d)
+  none_behind r rs w = grind (arith, nat_tests, w r.handle)
 
   -- a handle that isn't listed names no live object
   unlisted_gone : (h : ℕ) (l : List (Listed T)) → listed h l ≡ 0 → live_object l h ≡ None
   unfolding listed live_of
   unlisted_gone h [] e = refl
-  unlisted_gone h (r ∷ rs) e = by_live r.live (r.handle == h) refl (unlisted_gone h rs (omega (arith, e)))
-    where
-      by_live : (b c : Bool) → (r.handle == h) ≡ c → live_object rs h ≡ None → lookup (cond b ((r.handle, r.fields) ∷ live_of rs) (live_of rs)) h ≡ None
-      by_live true true d off = let one : cond {A = ℕ} (r.handle == h) 1 0 ≡ 1 = ap (λ (t : Bool). cond {A = ℕ} t 1 0) d in absurd (omega (arith, e, one))
-      by_live true false d off = ap (λ (t : Bool). cond t (Some r.fields) (lookup (live_of rs) h)) d ∙ off
-      by_live false c d off = off
+  unlisted_gone h (r ∷ rs) e = grind (arith, unlisted_gone h rs)
 
   -- where no handle stands twice, an object is live exactly where its handle names a live one
   live_named : (r : Listed T) (rs : List (Listed T)) → listed r.handle rs ≡ 0 → is_some (live_object (r ∷ rs) r.handle) ≡ r.live
   unfolding live_of
-  live_named r rs none = by_live r.live
-    where
-      by_live : (b : Bool) → is_some (lookup (cond b ((r.handle, r.fields) ∷ live_of rs) (live_of rs)) r.handle) ≡ b
-      by_live true = ap (λ (t : Bool). is_some (cond t (Some r.fields) (lookup (live_of rs) r.handle))) (eq-eqb r.handle r.handle refl)
-      by_live false = ap is_some (unlisted_gone r.handle rs none)
+  live_named r rs none = grind (arith, nat_tests, unlisted_gone r.handle rs none)
 
   -- what another handle names doesn't depend on the first object
   other_named : (r : Listed T) (rs : List (Listed T)) (h : ℕ) → (r.handle == h) ≡ false → live_object (r ∷ rs) h ≡ live_object rs h
   unfolding live_of
-  other_named r rs h e = by_live r.live
-    where
-      by_live : (b : Bool) → lookup (cond b ((r.handle, r.fields) ∷ live_of rs) (live_of rs)) h ≡ lookup (live_of rs) h
-      by_live true = ap (λ (t : Bool). cond t (Some r.fields) (lookup (live_of rs) h)) e
-      by_live false = refl
+  other_named r rs h e = grind arith
 
   -- tests that agree but at a handle that isn't listed count as many
   counted_same : (last a : ℕ) (p q : ℕ → Bool) → ((h : ℕ) → (a == h) ≡ false → p h ≡ q h) → (l : List (Listed T)) → listed a l ≡ 0 → how_many p (lasts_in last l) ≡ how_many q (lasts_in last l)
   unfolding listed lasts_in
   counted_same last a p q same [] none = refl
-  counted_same last a p q same (r ∷ rs) none = by_test (generation_of r.handle == last) (counted_same last a p q same rs (omega (arith, none)))
-    where
-      other : (b : Bool) → (a == r.handle) ≡ b → p r.handle ≡ q r.handle
-      other true e =
-          let d : (r.handle == a) ≡ true = eq-eqb r.handle a (sym (eqb-true a r.handle e)) in
-          let one : cond {A = ℕ} (r.handle == a) 1 0 ≡ 1 = ap (λ (t : Bool). cond {A = ℕ} t 1 0) d in absurd (omega (arith, none, one))
-      other false e = same r.handle e
-
-      by_test : (b : Bool) → how_many p (lasts_in last rs) ≡ how_many q (lasts_in last rs) → how_many p (cond b (r.handle ∷ lasts_in last rs) (lasts_in last rs)) ≡ how_many q (cond b (r.handle ∷ lasts_in last rs) (lasts_in last rs))
-      by_test true e = λ i. cond {A = ℕ} (other (a == r.handle) refl i) 1 0 + e i
-      by_test false e = e
+  counted_same last a p q same (r ∷ rs) none = grind (arith, nat_tests, same r.handle, counted_same last a p q same rs)
 
   -- so as many have retired as there are handles of the last generation that name no live object
   pub retired-gone : (last : ℕ) (l : List (Listed T)) → OnceEach l → retired last l ≡ how_many (λ h. not (is_some (live_object l h))) (lasts_in last l)

@@ -1,5 +1,5 @@
 -- What a list of objects answers once its handles are others, and what its changes leave of the renaming.
-use Rattle.mtapi_renaming.proofs.Names.{◌≡◌, ℕ, Bool, true, false, ◌&&◌, cond, List, [], ◌∷◌, Some, refl, sym, ◌∙◌, ap, subst, ◌==◌, option_map, eqb-true, eq-eqb, ObjectKind, Listed, live_of, lookup, live_object, any_live, any_listed, first_handle, count_listed, issue, change, change_all, inside, Apart, Agree, at-inside, count-inside, same_tests, Renaming, Has, IsOneToOne, renamed_list, HasEach}
+use Rattle.mtapi_renaming.proofs.Names.{◌≡◌, ℕ, Bool, true, false, ◌&&◌, cond, List, [], ◌∷◌, Some, refl, sym, ◌∙◌, ap, subst, ◌==◌, option_map, eqb-true, eq-eqb, ObjectKind, Listed, live_of, lookup, live_object, any_live, any_listed, first_handle, count_listed, issue, change, change_all, inside, Apart, Agree, at-inside, count-inside, same_tests, Renaming, Has, IsOneToOne, renamed_list, HasEach, arith, nat_tests}
 use Rattle.handle_pool.specs.Inside.{turned as turned_one}
 
 -- two handles are told apart by their other ones, where the first has another
@@ -21,27 +21,12 @@ module _ {T : Type 0} (g : Renaming) (one : IsOneToOne g) (k : ObjectKind) (f : 
     pub same_any : (l : List (Listed T)) → HasEach g k P l → any_listed q (renamed_list (g k) f l) ≡ any_listed m l
     unfolding live_of inside
     same_any [] n = refl
-    same_any (r ∷ rs) n = by_live r.live (same_any rs n.1)
-      where
-        by_live : (b : Bool) → any_listed q (renamed_list (g k) f rs) ≡ any_listed m rs →
-            any_live q (cond b ((g k r.handle, f r.fields) ∷ live_of (renamed_list (g k) f rs)) (live_of (renamed_list (g k) f rs))) ≡ any_live m (cond b ((r.handle, r.fields) ∷ live_of rs) (live_of rs))
-        by_live true e = λ i. cond (same r.fields n.0.1 i) true (e i)
-        by_live false e = e
+    same_any (r ∷ rs) n = grind (arith, same r.fields n.0.1, same_any rs n.1)
 
     pub same_first : (l : List (Listed T)) → HasEach g k P l → first_handle q (live_of (renamed_list (g k) f l)) ≡ option_map (g k) (first_handle m (live_of l))
     unfolding live_of inside
     same_first [] n = refl
-    same_first (r ∷ rs) n = by_live r.live (same_first rs n.1)
-      where
-        by_pass : (b : Bool) → first_handle q (live_of (renamed_list (g k) f rs)) ≡ option_map (g k) (first_handle m (live_of rs)) →
-            cond b (Some (g k r.handle)) (first_handle q (live_of (renamed_list (g k) f rs))) ≡ option_map (g k) (cond b (Some r.handle) (first_handle m (live_of rs)))
-        by_pass true e = refl
-        by_pass false e = e
-
-        by_live : (b : Bool) → first_handle q (live_of (renamed_list (g k) f rs)) ≡ option_map (g k) (first_handle m (live_of rs)) →
-            first_handle q (cond b ((g k r.handle, f r.fields) ∷ live_of (renamed_list (g k) f rs)) (live_of (renamed_list (g k) f rs))) ≡ option_map (g k) (first_handle m (cond b ((r.handle, r.fields) ∷ live_of rs) (live_of rs)))
-        by_live true e = ap (λ (b : Bool). cond b (Some (g k r.handle)) (first_handle q (live_of (renamed_list (g k) f rs)))) (same r.fields n.0.1) ∙ by_pass (m r.fields) e
-        by_live false e = e
+    same_first (r ∷ rs) n = grind (arith, same r.fields n.0.1, same_first rs n.1)
 
     pub same_count : (l : List (Listed T)) → HasEach g k P l → count_listed q (renamed_list (g k) f l) ≡ count_listed m l
     same_count l n = count-inside (g k) (λ i x. f x) (λ r. r.live && q r.fields) (λ r. r.live && m r.fields) l (agree l n)
@@ -89,40 +74,20 @@ module _ {T : Type 0} (g : Renaming) (k : ObjectKind) (P : T → Type 0) where
   pub found-has : (h : ℕ) (x : T) (l : List (Listed T)) → HasEach g k P l → live_object l h ≡ Some x → Has g k h × P x
   unfolding live_of
   found-has h x [] n e = absurd (cc)
-  found-has h x (r ∷ rs) n e = by_live r.live (λ d. found-has h x rs n.1 d) e
-    where
-      by_handle : (b : Bool) → (r.handle == h) ≡ b → (live_object rs h ≡ Some x → Has g k h × P x) → cond b (Some r.fields) (live_object rs h) ≡ Some x → Has g k h × P x
-      by_handle true i rest d = (subst (λ (y : ℕ). Has g k y) (eqb-true r.handle h i) n.0.0, let is : r.fields ≡ x = cc in subst P is n.0.1)
-      by_handle false i rest d = rest d
-
-      by_live : (b : Bool) → (live_object rs h ≡ Some x → Has g k h × P x) → lookup (cond b ((r.handle, r.fields) ∷ live_of rs) (live_of rs)) h ≡ Some x → Has g k h × P x
-      by_live true rest d = by_handle (r.handle == h) refl rest d
-      by_live false rest d = rest d
+  found-has h x (r ∷ rs) n e = grind (arith, nat_tests, n.0.0, n.0.1, found-has h x rs n.1)
 
   -- the handle of the first live object that passes
   pub first-has : (m : T → Bool) (l : List (Listed T)) (h : ℕ) → HasEach g k P l → first_handle m (live_of l) ≡ Some h → Has g k h
   unfolding live_of
   first-has m [] h n e = absurd (cc)
-  first-has m (r ∷ rs) h n e = by_live r.live (λ d. first-has m rs h n.1 d) e
-    where
-      by_pass : (b : Bool) → (first_handle m (live_of rs) ≡ Some h → Has g k h) → cond b (Some r.handle) (first_handle m (live_of rs)) ≡ Some h → Has g k h
-      by_pass true rest d = let is : r.handle ≡ h = cc in subst (λ (x : ℕ). Has g k x) is n.0.0
-      by_pass false rest d = rest d
-
-      by_live : (b : Bool) → (first_handle m (live_of rs) ≡ Some h → Has g k h) → first_handle m (cond b ((r.handle, r.fields) ∷ live_of rs) (live_of rs)) ≡ Some h → Has g k h
-      by_live true rest d = by_pass (m r.fields) rest d
-      by_live false rest d = rest d
+  first-has m (r ∷ rs) h n e = grind (arith, n.0.0, first-has m rs h n.1)
 
   -- what the changes of a list leave of the renaming
 
   pub has-change : (h : ℕ) (F : Listed T → Listed T) → ((r : Listed T) → (F r).handle ≡ r.handle) → ((r : Listed T) → P r.fields → P (F r).fields) → (l : List (Listed T)) → HasEach g k P l → HasEach g k P (change h F l)
   unfolding change
   has-change h F same keeps [] n = tt
-  has-change h F same keeps (r ∷ rs) n = by_test (r.live && (r.handle == h)) (has-change h F same keeps rs n.1)
-    where
-      by_test : (b : Bool) → HasEach g k P (change h F rs) → HasEach g k P (cond b (F r ∷ rs) (r ∷ change h F rs))
-      by_test true rest = ((subst (λ (x : ℕ). Has g k x) (sym (same r)) n.0.0, keeps r n.0.1), n.1)
-      by_test false rest = (n.0, rest)
+  has-change h F same keeps (r ∷ rs) n = grind (arith, same r, keeps r n.0.1, n.0, n.1, has-change h F same keeps rs n.1)
 
   pub has-change_all : (p : T → Bool) (F : Listed T → Listed T) → ((r : Listed T) → (F r).handle ≡ r.handle) → ((r : Listed T) → P r.fields → P (F r).fields) → (l : List (Listed T)) → HasEach g k P l → HasEach g k P (change_all p F l)
   unfolding change_all

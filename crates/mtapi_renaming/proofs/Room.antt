@@ -18,18 +18,7 @@ module _ {T : Type 0} where
   taken-same last [] [] v = omega arith
   taken-same last [] (q ∷ qs) v = absurd v
   taken-same last (r ∷ rs) [] v = absurd v
-  taken-same last (r ∷ rs) (q ∷ qs) v =
-      subst (λ (n : ℕ). length (cond q.live ((q.handle, q.fields) ∷ live_of qs) (live_of qs)) + (cond (not q.live && (generation_of n == last)) 1 0 + retired last qs) ≤ taken last (r ∷ rs)) (sym v.0.handle)
-      (by_live r.live q.live (generation_of r.handle == last) v.0.dead (taken-same last rs qs v.1))
-    where
-      by_live : (a b c : Bool) → (a ≡ false → b ≡ false) → taken last qs ≤ taken last rs →
-          length (cond b ((q.handle, q.fields) ∷ live_of qs) (live_of qs)) + (cond {A = ℕ} (not b && c) 1 0 + retired last qs) ≤ length (cond a ((r.handle, r.fields) ∷ live_of rs) (live_of rs)) + (cond {A = ℕ} (not a && c) 1 0 + retired last rs)
-      by_live true true c d e = omega (arith, e)
-      by_live true false true d e = omega (arith, e)
-      by_live true false false d e = omega (arith, e)
-      by_live false true c d e = let off : true ≡ false = d refl in absurd (cc)
-      by_live false false true d e = omega (arith, e)
-      by_live false false false d e = omega (arith, e)
+  taken-same last (r ∷ rs) (q ∷ qs) v = grind (arith, v.0.handle, v.0.dead, taken-same last rs qs v.1)
 
   pub within-same : (last max : ℕ) (l m : List (Listed T)) → SameHandles l m → IsWithin last max l → IsWithin last max m
   within-same last max l m v w = let less : taken last m ≤ taken last l = taken-same last l m v in omega (arith, less, w)

@@ -35,11 +35,7 @@ answers_decide g x s who o given r n i p q a = decides g x s who o given r n i (
 pub same_length : {T : Type 0} (f : ℕ → ℕ) (c : T → T) (l : List (Listed T)) → length (live_of (renamed_list f c l)) ≡ length (live_of l)
 unfolding live_of inside
 same_length f c [] = refl
-same_length f c (r ∷ rs) = by_live r.live (same_length f c rs)
-  where
-    by_live : (b : Bool) → length (live_of (renamed_list f c rs)) ≡ length (live_of rs) → length (cond b ((f r.handle, c r.fields) ∷ live_of (renamed_list f c rs)) (live_of (renamed_list f c rs))) ≡ length (cond b ((r.handle, r.fields) ∷ live_of rs) (live_of rs))
-    by_live true e = ap suc e
-    by_live false e = e
+same_length f c (r ∷ rs) = grind (arith, same_length f c rs)
 
 as_many_live : (g : Renaming) (x : Room) (s : State) (k : ObjectKind) → live_in k (renamed g x s) ≡ live_in k s
 as_many_live g x s kind.Action = same_length (g kind.Action) (λ y. y) s.actions
